@@ -1,0 +1,3 @@
+pub mod BagLaws
+pub mod CountLaws
+pub mod RecLaws

@@ -1,0 +1,10 @@
+//! Bags of recs in ascending order, and the selections that nodes apply to single recs.
+#![tactic(auto)]
+
+mod bag;
+mod rec;
+mod select;
+
+pub use bag::Bag;
+pub use rec::Rec;
+pub use select::{Assignment, Comparison, Condition, Field, NewValue, Selection, Term};

@@ -1,0 +1,153 @@
+ghost use Rattle.std.specs.Prelude.{◌≡◌};
+ghost use Rattle.fw_bag.specs.Select.{field_of, term_of, compares, holds, new_value, assigned, selected};
+
+use crate::Rec;
+
+/// One of the two numbers of a rec.
+#[derive(Clone, Copy, Debug, PartialEq, Eq)]
+pub enum Field {
+    Key,
+    Value,
+}
+
+/// How a condition compares a field with its term.
+#[derive(Clone, Copy, Debug, PartialEq, Eq)]
+pub enum Comparison {
+    Equal,
+    NotEqual,
+    Less,
+    LessOrEqual,
+    Greater,
+    GreaterOrEqual,
+}
+
+/// What a field is compared with: a number, or a field of the same rec.
+#[derive(Clone, Copy, Debug, PartialEq, Eq)]
+pub enum Term {
+    Number(u64),
+    Field(Field),
+}
+
+/// A comparison of a field with a term, both of the rec as it came.
+#[derive(Clone, Copy, Debug, PartialEq, Eq)]
+pub struct Condition {
+    pub field: Field,
+    pub comparison: Comparison,
+    pub term: Term,
+}
+
+/// What is assigned to a field, of the rec as it came. Sums are modulo 2^64.
+#[derive(Clone, Copy, Debug, PartialEq, Eq)]
+pub enum NewValue {
+    Number(u64),
+    Field(Field),
+    FieldPlus(Field, u64),
+}
+
+/// An assignment to one field of a rec.
+#[derive(Clone, Copy, Debug, PartialEq, Eq)]
+pub struct Assignment {
+    pub field: Field,
+    pub value: NewValue,
+}
+
+/// What a node does to a rec: it sends the rec on if the condition holds, after the assignment if there is one.
+#[derive(Clone, Copy, Debug, PartialEq, Eq)]
+pub struct Selection {
+    pub condition: Condition,
+    pub assignment: Option<Assignment>,
+}
+
+impl Field {
+    /// The field's number in a rec.
+    pub fn of(self, rec: Rec) -> u64
+        ensures { result ≡ field_of self rec }
+    {
+        match self {
+            Field::Key => rec.key,
+            Field::Value => rec.value,
+        }
+    }
+}
+
+impl Comparison {
+    /// Whether the comparison holds between `left`, on its left, and `right`.
+    pub fn compares(self, left: u64, right: u64) -> bool
+        ensures { result ≡ compares self left right }
+    {
+        match self {
+            Comparison::Equal => left == right,
+            Comparison::NotEqual => left != right,
+            Comparison::Less => left < right,
+            Comparison::LessOrEqual => left <= right,
+            Comparison::Greater => left > right,
+            Comparison::GreaterOrEqual => left >= right,
+        }
+    }
+}
+
+impl Term {
+    /// The term's number at a rec.
+    pub fn of(self, rec: Rec) -> u64
+        ensures { result ≡ term_of self rec }
+    {
+        match self {
+            Term::Number(number) => number,
+            Term::Field(field) => field.of(rec),
+        }
+    }
+}
+
+impl Condition {
+    /// Whether the condition holds of a rec.
+    pub fn holds(&self, rec: Rec) -> bool
+        ensures { result ≡ holds self.now rec }
+    {
+        self.comparison
+            .compares(self.field.of(rec), self.term.of(rec))
+    }
+}
+
+impl NewValue {
+    /// The new number at a rec.
+    pub fn of(self, rec: Rec) -> u64
+        ensures { result ≡ new_value self rec }
+    {
+        match self {
+            NewValue::Number(number) => number,
+            NewValue::Field(field) => field.of(rec),
+            NewValue::FieldPlus(field, number) => field.of(rec).wrapping_add(number),
+        }
+    }
+}
+
+impl Assignment {
+    /// The rec with the new number in the field.
+    pub fn apply(&self, rec: Rec) -> Rec
+        ensures { result ≡ assigned self.now rec }
+    {
+        let number = self.value.of(rec);
+        match self.field {
+            Field::Key => Rec { key: number, ..rec },
+            Field::Value => Rec {
+                value: number,
+                ..rec
+            },
+        }
+    }
+}
+
+impl Selection {
+    /// The rec that is sent on for this one, or `None` where the condition does not hold of it.
+    pub fn apply(&self, rec: Rec) -> Option<Rec>
+        ensures { result ≡ selected self.now rec }
+    {
+        if !self.condition.holds(rec) {
+            return None;
+        }
+        match &self.assignment {
+            None => Some(rec),
+            Some(assignment) => Some(assignment.apply(rec)),
+        }
+    }
+}

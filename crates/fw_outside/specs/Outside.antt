@@ -1,0 +1,23 @@
+-- What the calls of a folder, a store and a sink promise.
+use Rattle.std.specs.Prelude.{◌≡◌, ◌⊎◌, ℕ, ◌+◌, ◌-◌, ◌^◌, ◌<◌, ◌≤◌, Option, List, ◌++◌, length, take, IfSome, IsSomeAnd, option_map}
+
+-- a count of faults rose, or stands at the end of its type, where it stays
+abbrev pub Rose : ℕ → ℕ → Type 0
+Rose before after = (before < after) ⊎ (before ≡ 2 ^ 64 - 1)
+
+-- these bytes are the text under a name, where the folder tells its texts
+abbrev pub IsText : Option (List ℕ → Option (List ℕ)) → List ℕ → List ℕ → Type 0
+IsText texts name bytes = IfSome texts (λ text. text name ≡ Option.Some bytes)
+
+-- the text under a name has more bytes than the limit, and begins with these, where the folder tells its texts
+abbrev pub IsCutText : Option (List ℕ → Option (List ℕ)) → List ℕ → ℕ → List ℕ → Type 0
+IsCutText texts name limit bytes =
+    IfSome texts (λ text. IsSomeAnd (text name) (λ whole. (limit < length whole) × (bytes ≡ take (limit + 1) whole)))
+
+-- a sink has taken this piece after what it had taken, where it tells that
+abbrev pub Takes : Option (List ℕ) → List ℕ → Option (List ℕ) → Type 0
+Takes before piece after = after ≡ option_map (λ taken. taken ++ piece) before
+
+-- a sink has taken some first bytes of a piece, none of them or all perhaps
+abbrev pub TakesPrefix : Option (List ℕ) → List ℕ → Option (List ℕ) → Type 0
+TakesPrefix before piece after = (n : ℕ) × (n ≤ length piece) × Takes before (take n piece) after

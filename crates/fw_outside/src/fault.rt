@@ -1,0 +1,96 @@
+//! What a call to the outside answers when it is refused, and the list of calls that are to fail.
+ghost use Rattle.std.specs.Prelude.{◌≡◌, ◌+◌, ◌-◌, ◌^◌, ◌≤◌, ◌↔◌, min, IsTrue, Contains};
+ghost use Rattle.fw_outside.specs.Outside.{Rose};
+ghost use Rattle.fw_outside.specs.declared.fault.FetchFault.TheVariants.{NoMemory as FetchNoMemory};
+ghost use Rattle.fw_outside.specs.declared.fault.OutFault.TheVariants.{NoMemory as OutNoMemory};
+
+use std::alloc::{AllocError, AllocFailed};
+
+/// Why a text was not fetched.
+#[derive(Clone, Copy, Debug, PartialEq, Eq)]
+pub enum FetchFault {
+    /// The folder failed; its count of faults rose.
+    Failed,
+    /// The text has more bytes than the limit.
+    TooLarge,
+    /// There was no memory for the text.
+    NoMemory,
+}
+
+impl From<AllocError> for FetchFault {
+    ghost from_gives = { λ _ e. e ≡ FetchNoMemory };
+
+    fn from(_: AllocError) -> Self {
+        FetchFault::NoMemory
+    }
+}
+
+/// Why a store or a sink refused a call.
+#[derive(Clone, Copy, Debug, PartialEq, Eq)]
+pub enum OutFault {
+    /// The store or the sink failed; its count of faults rose.
+    Failed,
+    /// There was no memory for the call.
+    NoMemory,
+}
+
+impl From<AllocError> for OutFault {
+    ghost from_gives = { λ _ e. e ≡ OutNoMemory };
+
+    fn from(_: AllocError) -> Self {
+        OutFault::NoMemory
+    }
+}
+
+impl<T: Drop> From<AllocFailed<T>> for OutFault {
+    ghost from_gives = { λ _ e. e ≡ OutNoMemory };
+
+    fn from(_: AllocFailed<T>) -> Self {
+        OutFault::NoMemory
+    }
+}
+
+/// One more fault; a count at the end of its type stays there.
+pub(crate) fn raised(faults: u64) -> u64
+    ensures rose { Rose faults result }
+    ensures later { faults ≤ result }
+{
+    faults.saturating_add(1)
+}
+
+/// Which calls of an object in memory are to fail, by number from 0, and how many did.
+#[derive(Debug, Drop)]
+pub(crate) struct FaultPlan {
+    failing: Vec<u64>,
+    calls: u64,
+    pub(crate) faults: u64,
+}
+
+impl FaultPlan {
+    /// The calls of these numbers are to fail.
+    pub(crate) fn new(failing: Vec<u64>) -> Self
+        ensures { result ≡ record { failing = failing; calls = 0; faults = 0 } }
+    {
+        FaultPlan {
+            failing,
+            calls: 0,
+            faults: 0,
+        }
+    }
+
+    /// Counts a call, and says whether it is to fail.
+    pub(crate) fn next_fails(&mut self) -> bool
+        ensures failing { IsTrue result ↔ Contains self.old.failing.items self.old.calls }
+        ensures rose { IsTrue result → Rose self.old.faults self.new.faults }
+        ensures later { self.old.faults ≤ self.new.faults }
+        ensures counted { self.new.calls ≡ min (self.old.calls + 1) (2 ^ 64 - 1) }
+        ensures failing_stays { self.new.failing.items ≡ self.old.failing.items }
+    {
+        let fails = self.failing.contains(&self.calls);
+        self.calls = self.calls.saturating_add(1);
+        if fails {
+            self.faults = raised(self.faults);
+        }
+        fails
+    }
+}

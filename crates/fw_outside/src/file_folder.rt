@@ -1,0 +1,57 @@
+//! A folder of real files.
+ghost use Rattle.std.specs.Prelude.{◌≡◌, None};
+
+use crate::fault::raised;
+use crate::{FetchFault, Folder};
+use std::io::{ErrorKind, Read};
+use std::rt::Files;
+use std::{fs, io};
+
+/// The files of the system, a name being a path. It does not tell what they hold.
+#[derive(Drop)]
+pub struct FileFolder<'a, R: Files> {
+    files: &'a R,
+    faults: u64,
+}
+
+impl<'a, R: Files> FileFolder<'a, R> {
+    /// The files that this runtime reaches.
+    pub fn new(files: &'a R) -> Self
+        ensures { ⟦<FileFolder<'a, R> as Folder>⟧.fault_count result ≡ 0 }
+    {
+        FileFolder { files, faults: 0 }
+    }
+}
+
+// Adds the first bytes of a file, at most so many.
+fn read_first<R: Files>(files: &R, path: &str, most: u64, into: &mut Vec<u8>) -> io::Result<()> {
+    fs::open(files, path)?.take(most).read_to_end(into)?;
+    Ok(())
+}
+
+impl<R: Files> Folder for FileFolder<'_, R> {
+    ghost texts = { λ _. None };
+
+    ghost fault_count = { λ folder. folder.faults };
+
+    fn fetch(&mut self, name: &str, limit: usize, into: &mut Vec<u8>) -> Result<(), FetchFault> {
+        into.clear();
+        if let Err(error) = read_first(self.files, name, limit as u64 + 1, into) {
+            self.faults = raised(self.faults);
+            into.clear();
+            return Err(match error.kind() {
+                ErrorKind::OutOfMemory => FetchFault::NoMemory,
+                _ => FetchFault::Failed,
+            });
+        }
+        if into.len() > limit {
+            into.truncate(limit + 1);
+            return Err(FetchFault::TooLarge);
+        }
+        Ok(())
+    }
+
+    fn faults(&self) -> u64 {
+        self.faults
+    }
+}

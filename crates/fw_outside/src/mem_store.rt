@@ -1,0 +1,129 @@
+//! Stores in memory.
+ghost use Rattle.std.specs.Prelude.{◌≡◌, Some, None, option_map};
+ghost use Rattle.std.specs.FinMap as map;
+ghost use Rattle.fw_outside.specs.Memory.{records_of};
+
+use crate::fault::FaultPlan;
+use crate::{OutFault, Store};
+use std::alloc::Global;
+use std::collections::BTreeMap;
+
+/// The last record that a store gave.
+#[derive(Debug, Drop)]
+struct Given {
+    id: u64,
+    bytes: Vec<u8>,
+}
+
+/// A store in memory that tells its records and never fails; want of memory aside it does each call.
+#[derive(Debug, Drop)]
+pub struct FaultlessStore {
+    alloc: Global,
+    records: BTreeMap<u64, Vec<u8>>,
+    given: Option<Given>,
+}
+
+impl FaultlessStore {
+    /// A store with no record.
+    pub fn new(alloc: Global) -> Self
+        ensures records { ⟦<FaultlessStore as Store>⟧.records result ≡ Some map.empty }
+        ensures given { ⟦<FaultlessStore as Store>⟧.given result ≡ None }
+    {
+        FaultlessStore {
+            alloc,
+            records: BTreeMap::new(alloc),
+            given: None,
+        }
+    }
+}
+
+impl Store for FaultlessStore {
+    ghost records = { λ store. Some (records_of store.records.entries) };
+
+    ghost given = { λ store. option_map (λ given. (given.id, given.bytes.items)) store.given };
+
+    ghost fault_count = { λ _. 0 };
+
+    fn put(&mut self, id: u64, bytes: &[u8]) -> Result<(), OutFault> {
+        let copy = bytes.to_vec(self.alloc)?;
+        match self.records.insert(id, copy) {
+            Ok(_) => Ok(()),
+            Err(_) => Err(OutFault::NoMemory),
+        }
+    }
+
+    fn get(&mut self, id: u64, into: &mut Vec<u8>) -> Result<(), OutFault> {
+        into.clear();
+        let Some(bytes) = self.records.get(&id) else {
+            unreachable!()
+        };
+        let copy = bytes.as_slice().to_vec(self.alloc)?;
+        into.extend_from_slice(bytes)?;
+        self.given = Some(Given { id, bytes: copy });
+        Ok(())
+    }
+
+    fn remove(&mut self, id: u64) -> Result<(), OutFault> {
+        self.records.remove(&id);
+        Ok(())
+    }
+
+    fn faults(&self) -> u64 {
+        0
+    }
+}
+
+/// A store in memory that tells its records and has a list of calls that are to fail, which change nothing.
+#[derive(Debug, Drop)]
+pub struct MemStore {
+    store: FaultlessStore,
+    plan: FaultPlan,
+}
+
+impl MemStore {
+    /// A store with no record, whose calls of these numbers are to fail, all its calls counted together.
+    pub fn new(alloc: Global, failing: Vec<u64>) -> Self
+        ensures records { ⟦<MemStore as Store>⟧.records result ≡ Some map.empty }
+        ensures given { ⟦<MemStore as Store>⟧.given result ≡ None }
+        ensures faultless { ⟦<MemStore as Store>⟧.fault_count result ≡ 0 }
+    {
+        MemStore {
+            store: FaultlessStore::new(alloc),
+            plan: FaultPlan::new(failing),
+        }
+    }
+}
+
+impl Store for MemStore {
+    ghost records = { λ store. Some (records_of store.store.records.entries) };
+
+    ghost given = { λ store. option_map (λ given. (given.id, given.bytes.items)) store.store.given };
+
+    ghost fault_count = { λ store. store.plan.faults };
+
+    fn put(&mut self, id: u64, bytes: &[u8]) -> Result<(), OutFault> {
+        if self.plan.next_fails() {
+            return Err(OutFault::Failed);
+        }
+        self.store.put(id, bytes)
+    }
+
+    fn get(&mut self, id: u64, into: &mut Vec<u8>) -> Result<(), OutFault> {
+        if self.plan.next_fails() {
+            into.clear();
+            return Err(OutFault::Failed);
+        }
+        self.store.get(id, into)
+    }
+
+    fn remove(&mut self, id: u64) -> Result<(), OutFault> {
+        if self.plan.next_fails() {
+            return Err(OutFault::Failed);
+        }
+        self.store.remove(id)
+    }
+
+    fn faults(&self) -> u64 {
+        self.plan.faults
+    }
+}

@@ -1,0 +1,53 @@
+//! Where records are kept.
+ghost use Rattle.std.specs.Prelude.{◌≡◌, ◌≤◌, [], ℕ, List, Option, Some, None, OnOk, OnErr, IfSome, IsSome, IsErrOf, option_map};
+ghost use Rattle.std.specs.Option.{ForSome};
+ghost use Rattle.std.specs.Ordering.{nat_cmp};
+ghost use Rattle.std.specs.FinMap as map;
+ghost use Rattle.fw_outside.specs.Outside.{Rose};
+
+use crate::OutFault;
+
+/// A store of records, each under an id.
+pub trait Store {
+    /// The bytes of each id; or nothing, where the store does not tell.
+    ghost records: { Self → Option (map.FinMap nat_cmp (List ℕ)) };
+
+    /// The id and the bytes of the last `get` that was Ok, if there was one.
+    ghost given: { Self → Option (ℕ × List ℕ) };
+
+    /// How often the store failed.
+    ghost fault_count: { Self → ℕ };
+
+    /// Adds a record under a new id.
+    fn put(&mut self, id: u64, bytes: &[u8]) -> Result<(), OutFault>
+        requires { ForSome (records self.old) (λ held. map.get held id ≡ None) }
+        ensures added { OnOk result (records self.new ≡ option_map (λ held. map.insert held id bytes.now) (records self.old)) }
+        ensures refused { OnErr result (records self.new ≡ records self.old) }
+        ensures given_stays { given self.new ≡ given self.old }
+        ensures failed { IsErrOf result OutFault.Failed → Rose (fault_count self.old) (fault_count self.new) }
+        ensures never_falls { fault_count self.old ≤ fault_count self.new };
+
+    /// Puts the bytes of a record into `into`, in place of what was there; after a refusal `into` is empty.
+    fn get(&mut self, id: u64, into: &mut Vec<u8>) -> Result<(), OutFault>
+        requires { ForSome (records self.old) (λ held. IsSome (map.get held id)) }
+        ensures bytes { OnOk result (IfSome (records self.old) (λ held. map.get held id ≡ Some into.new.items)) }
+        ensures given { OnOk result (given self.new ≡ Some (id, into.new.items)) }
+        ensures refused { OnErr result (given self.new ≡ given self.old) }
+        ensures empty { OnErr result (into.new.items ≡ []) }
+        ensures records_stay { records self.new ≡ records self.old }
+        ensures failed { IsErrOf result OutFault.Failed → Rose (fault_count self.old) (fault_count self.new) }
+        ensures never_falls { fault_count self.old ≤ fault_count self.new };
+
+    /// Takes a record out.
+    fn remove(&mut self, id: u64) -> Result<(), OutFault>
+        requires { ForSome (records self.old) (λ held. IsSome (map.get held id)) }
+        ensures removed { OnOk result (records self.new ≡ option_map (λ held. map.remove held id) (records self.old)) }
+        ensures refused { OnErr result (records self.new ≡ records self.old) }
+        ensures given_stays { given self.new ≡ given self.old }
+        ensures failed { IsErrOf result OutFault.Failed → Rose (fault_count self.old) (fault_count self.new) }
+        ensures never_falls { fault_count self.old ≤ fault_count self.new };
+
+    /// How often the store failed; a count of 2^64 - 1 stands for more.
+    fn faults(&self) -> u64
+        ensures { result ≡ fault_count self.now };
+}

@@ -1,0 +1,48 @@
+//! A sink over a real stream.
+ghost use Rattle.std.specs.Prelude.{◌≡◌, None, nat_lt};
+
+use crate::fault::raised;
+use crate::{OutFault, Sink};
+use std::io;
+use std::io::Write;
+
+/// A stream, as standard output, that is flushed after each piece. It does not tell what it has taken.
+#[derive(Drop)]
+pub struct StreamSink<W: Write> {
+    stream: W,
+    faults: u64,
+}
+
+impl<W: Write> StreamSink<W> {
+    /// A sink over this stream.
+    pub fn new(stream: W) -> Self
+        ensures { ⟦<StreamSink<W> as Sink>⟧.fault_count result ≡ 0 }
+    {
+        StreamSink { stream, faults: 0 }
+    }
+}
+
+fn write_and_flush<W: Write>(stream: &mut W, piece: &[u8]) -> io::Result<()> {
+    stream.write_all(piece)?;
+    stream.flush()
+}
+
+impl<W: Write> Sink for StreamSink<W> {
+    ghost taken = { λ _. None };
+
+    ghost has_refused = { λ sink. nat_lt 0 sink.faults };
+
+    ghost fault_count = { λ sink. sink.faults };
+
+    fn write(&mut self, piece: &[u8]) -> Result<(), OutFault> {
+        if write_and_flush(&mut self.stream, piece).is_err() {
+            self.faults = raised(self.faults);
+            return Err(OutFault::Failed);
+        }
+        Ok(())
+    }
+
+    fn faults(&self) -> u64 {
+        self.faults
+    }
+}

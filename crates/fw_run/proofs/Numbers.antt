@@ -1,0 +1,23 @@
+-- Each status has one of the numbers of a status.
+use Rattle.std.proofs.Common.{refl, lit<, Contains}
+use Rattle.fw_run.specs.declared.refusal.Code.{Code}
+use Rattle.fw_run.specs.declared.refusal.Code.TheVariants.{F1, F11, I1, I5, S1, S4}
+use Rattle.fw_run.specs.declared.status.Status.{Status}
+use Rattle.fw_run.specs.declared.status.Status.TheVariants.{Done, BadWords, Refused, ReadFault, WriteFault, NoMemory}
+use Rattle.fw_run.specs.Status.{refusal_number, number_of, status_numbers}
+
+Contains-refusal_number : (code : Code) → Contains status_numbers (refusal_number code)
+Contains-refusal_number F1 = (2, lit< tt, refl)
+Contains-refusal_number F11 = (2, lit< tt, refl)
+Contains-refusal_number I1 = (3, lit< tt, refl)
+Contains-refusal_number I5 = (3, lit< tt, refl)
+Contains-refusal_number S1 = (4, lit< tt, refl)
+Contains-refusal_number S4 = (4, lit< tt, refl)
+
+pub Contains-number_of : (status : Status) → Contains status_numbers (number_of status)
+Contains-number_of Done = (0, lit< tt, refl)
+Contains-number_of BadWords = (1, lit< tt, refl)
+Contains-number_of (Refused refusal) = Contains-refusal_number refusal.code
+Contains-number_of ReadFault = (5, lit< tt, refl)
+Contains-number_of WriteFault = (6, lit< tt, refl)
+Contains-number_of NoMemory = (7, lit< tt, refl)

@@ -1,0 +1,4 @@
+pub mod Reading
+pub mod Refusal
+pub mod Status
+pub mod Words

@@ -1,0 +1,49 @@
+-- The status of a command, and the line that stands for it.
+use Rattle.std.specs.Prelude.{◌≡◌, ◌⊎◌, ℕ, Bool, true, Option, List, [], ◌∷◌, ◌++◌, codes}
+use Rattle.std.specs.Fmt.{decimal}
+use Rattle.fw_outside.specs.Outside.{Takes, TakesPrefix}
+use Rattle.fw_run.specs.declared.refusal.Code.{Code}
+use Rattle.fw_run.specs.declared.refusal.Code.TheVariants.{F1, F11, I1, I5, S1, S4}
+use Rattle.fw_run.specs.declared.refusal.Refusal.{Refusal}
+use Rattle.fw_run.specs.declared.status.Status.{Status}
+use Rattle.fw_run.specs.declared.status.Status.TheVariants.{Done, BadWords, Refused, ReadFault, WriteFault, NoMemory}
+use Rattle.fw_run.specs.Refusal.{code_text}
+
+-- 3 for a flow that is refused, 4 for inputs, 5 for a schedule
+abbrev pub refusal_number : Code → ℕ
+refusal_number F1 = 3
+refusal_number F11 = 3
+refusal_number I1 = 4
+refusal_number I5 = 4
+refusal_number S1 = 5
+refusal_number S4 = 5
+
+-- the number of a status
+abbrev pub number_of : Status → ℕ
+number_of Done = 0
+number_of BadWords = 2
+number_of (Refused refusal) = refusal_number refusal.code
+number_of ReadFault = 6
+number_of WriteFault = 7
+number_of NoMemory = 10
+
+-- the line on the notes, ended by a line feed; none where all went well
+abbrev pub note_of : Status → List ℕ
+note_of Done = []
+note_of BadWords = codes "bad words\n"
+note_of (Refused refusal) = codes "refused " ++ (code_text refusal.code ++ (codes " line " ++ (decimal refusal.line ++ codes "\n")))
+note_of ReadFault = codes "read fault\n"
+note_of WriteFault = codes "write fault\n"
+note_of NoMemory = codes "no memory\n"
+
+-- a sink has taken the whole line, or first bytes of it and has refused a write
+abbrev pub IsTold : List ℕ → Option (List ℕ) → Option (List ℕ) → Bool → Type 0
+IsTold line before after has_refused = Takes before line after ⊎ (TakesPrefix before line after × (has_refused ≡ true))
+
+-- the numbers that a status may have
+abbrev pub status_numbers : List ℕ
+status_numbers = 0 ∷ 2 ∷ 3 ∷ 4 ∷ 5 ∷ 6 ∷ 7 ∷ 10 ∷ []
+
+-- a text was refused
+abbrev pub IsRefused : Status → Type 0
+IsRefused status = (refusal : Refusal) × (status ≡ Refused refusal)

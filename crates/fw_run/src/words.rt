@@ -1,0 +1,38 @@
+//! The words of a command.
+ghost use Rattle.std.specs.Prelude.{◌≡◌, is_some, map};
+ghost use Rattle.fw_run.specs.Words.{is_operand, are_run_words};
+
+/// The names of the three texts of a run.
+#[derive(Clone, Copy, Debug)]
+pub(crate) struct RunWords<'a> {
+    pub flow: &'a str,
+    pub inputs: &'a str,
+    pub schedule: &'a str,
+}
+
+fn is_operand(word: &str) -> bool
+    ensures { result ≡ is_operand word.now }
+{
+    match word.as_bytes() {
+        [] => false,
+        [first, ..] => *first != b'-',
+    }
+}
+
+/// What the words ask for, if they are `run` and three operands.
+pub(crate) fn parse<'a>(words: &[&'a str]) -> Option<RunWords<'a>>
+    ensures { is_some result ≡ are_run_words (map (λ word. word.now) words.now) }
+{
+    let [command, flow, inputs, schedule] = words else {
+        return None;
+    };
+    if *command == "run" && is_operand(flow) && is_operand(inputs) && is_operand(schedule) {
+        Some(RunWords {
+            flow: *flow,
+            inputs: *inputs,
+            schedule: *schedule,
+        })
+    } else {
+        None
+    }
+}

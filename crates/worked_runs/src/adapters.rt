@@ -1,0 +1,39 @@
+//! The adapters over real files and streams.
+use fw_outside::{FetchFault, FileFolder, Folder, Sink, StreamSink};
+use std::fs;
+use std::test::Fail;
+
+#[test]
+fn files_are_fetched_by_path(rt: HostRuntime) -> Result<(), Fail> {
+    let path = "falkirk_file_folder_test.txt";
+    fs::write(&rt, path, "12345")?;
+    let mut folder = FileFolder::new(&rt);
+    let mut into = Vec::new(rt.alloc());
+    let whole = folder.fetch(path, 5, &mut into);
+    assert_eq!(rt; whole, Ok(()));
+    assert_eq!(rt; into.as_slice(), b"12345".as_slice());
+    let cut = folder.fetch(path, 3, &mut into);
+    assert_eq!(rt; cut, Err(FetchFault::TooLarge));
+    assert_eq!(rt; into.as_slice(), b"1234".as_slice());
+    assert_eq!(rt; folder.faults(), 0);
+    fs::remove_file(&rt, path)?;
+    let missing = folder.fetch(path, 5, &mut into);
+    assert_eq!(rt; missing, Err(FetchFault::Failed));
+    assert_eq!(rt; into.len(), 0);
+    assert_eq!(rt; folder.faults(), 1);
+    Ok(())
+}
+
+#[test]
+fn streams_take_pieces(rt: HostRuntime) -> Result<(), Fail> {
+    let mut out = StreamSink::new(rt.stdout());
+    assert_eq!(rt; out.write(b"to standard output\n"), Ok(()));
+    let mut notes = StreamSink::new(rt.stderr());
+    assert_eq!(rt; notes.write(b"to standard error\n"), Ok(()));
+    // a buffer that takes three bytes and then nothing
+    let mut room = [0u8; 3];
+    let mut short = StreamSink::new(room.as_mut_slice());
+    assert!(rt; short.write(b"12345").is_err());
+    assert_eq!(rt; short.faults(), 1);
+    Ok(())
+}

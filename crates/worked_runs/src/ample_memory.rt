@@ -1,0 +1,45 @@
+//! Each call that may answer want of memory, with ample memory.
+use fw_bag::{Bag, Rec};
+use fw_outside::{FaultlessFolder, FaultlessSink, FaultlessStore, Folder, MemText, Sink, Store};
+use std::test::Fail;
+
+#[test]
+fn bags(rt: HostRuntime) -> Result<(), Fail> {
+    let mut bag = Bag::new(rt.alloc());
+    bag.add(Rec { key: 2, value: 7 })?;
+    bag.add(Rec { key: 1, value: 9 })?;
+    bag.add(Rec { key: 2, value: 7 })?;
+    let mut other = Bag::new(rt.alloc());
+    other.add(Rec { key: 1, value: 9 })?;
+    bag.union(&other)?;
+    assert_eq!(rt; bag.len(), 4);
+    assert_eq!(rt; bag.count(Rec { key: 2, value: 7 }), 2);
+    assert_eq!(rt; bag.take(Rec { key: 2, value: 8 }), false);
+    assert_eq!(rt; bag.take(Rec { key: 2, value: 7 }), true);
+    assert_eq!(rt; bag.take_least(), Some(Rec { key: 1, value: 9 }));
+    assert_eq!(rt; bag.len(), 2);
+    Ok(())
+}
+
+#[test]
+fn the_outside(rt: HostRuntime) -> Result<(), Fail> {
+    let alloc = rt.alloc();
+    let texts = vec![in alloc; MemText::new(alloc, "a", b"text")?]?;
+    let mut folder = FaultlessFolder::new(texts);
+    let mut into = Vec::new(alloc);
+    assert_eq!(rt; folder.fetch("a", 4, &mut into), Ok(()));
+    assert_eq!(rt; into.as_slice(), b"text".as_slice());
+    assert_eq!(rt; folder.fetch("b", 4, &mut into), Ok(()));
+    assert_eq!(rt; into.len(), 0);
+
+    let mut store = FaultlessStore::new(alloc);
+    assert_eq!(rt; store.put(3, b"record"), Ok(()));
+    assert_eq!(rt; store.get(3, &mut into), Ok(()));
+    assert_eq!(rt; into.as_slice(), b"record".as_slice());
+    assert_eq!(rt; store.remove(3), Ok(()));
+
+    let mut sink = FaultlessSink::new(alloc);
+    assert_eq!(rt; sink.write(b"piece"), Ok(()));
+    assert_eq!(rt; sink.taken(), b"piece".as_slice());
+    Ok(())
+}

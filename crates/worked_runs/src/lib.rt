@@ -1,0 +1,13 @@
+//! Runs of the whole program over memory, and one call of each kind over real files, streams and ample memory.
+#![tactic(auto)]
+
+#[cfg(test)]
+mod adapters;
+#[cfg(test)]
+mod ample_memory;
+#[cfg(test)]
+mod one_select;
+#[cfg(test)]
+mod refusals;
+#[cfg(test)]
+mod runs;

@@ -1,0 +1,20 @@
+-- At which stamp a node sends, from the stamp of its event: a partial map for each kind.
+use Rattle.std.specs.Prelude.{ℕ, ◌+◌, ◌/◌, nat_lt, if◌then◌else◌, List, [], ◌∷◌, Option, Some, None}
+use Rattle.fw_time.specs.Stamp.{Stamp, nest, outer, counter}
+
+-- where a loop is entered: counter 0
+abbrev pub entered : Stamp → Option Stamp
+entered t = Some (nest t 0)
+
+-- where a loop is fed back: the next counter, nothing past the last one
+abbrev pub fed_back : ℕ → Stamp → Option Stamp
+fed_back max t = if nat_lt (counter t) max then Some (nest (outer t) (counter t + 1)) else None
+
+-- where a loop is left: without the counter
+abbrev pub left : Stamp → Option Stamp
+left t = Some (outer t)
+
+-- where numbers are regrouped into epochs of n
+abbrev pub regrouped : ℕ → Stamp → Option Stamp
+regrouped n [] = None
+regrouped n (s ∷ t) = Some ((s / n) ∷ [])

@@ -1,0 +1,55 @@
+-- Logical times as stamps: their order, their domains, and the places of a loop's stamps.
+use Rattle.std.specs.Prelude.{ℕ, Bool, true, false, not, ◌&&◌, nat_le, if◌then◌else◌, List, [], ◌∷◌, ◌++◌}
+use Rattle.std.specs.declared.cmp.Ordering.{Ordering}
+use Rattle.std.specs.Ordering.{nat_cmp}
+use Rattle.std.specs.Cmp.Lexicographic.{slice_cmp}
+use Rattle.fw_time.specs.declared.stamp.Bounds.{Bounds}
+
+-- a logical time: the list of its coordinates, outermost first
+abbrev pub Stamp : Type 0
+Stamp = List ℕ
+
+-- whether each coordinate of the first stamp is at most that of the second; stamps of unequal length are not comparable
+abbrev pub leq : Stamp → Stamp → Bool
+leq [] [] = true
+leq [] (y ∷ t) = false
+leq (x ∷ s) [] = false
+leq (x ∷ s) (y ∷ t) = nat_le x y && leq s t
+
+-- whether the first stamp is lesser: at most the second, and not the same
+abbrev pub lesser : Stamp → Stamp → Bool
+lesser s t = leq s t && not (leq t s)
+
+-- whether two stamps are one
+abbrev pub same : Stamp → Stamp → Bool
+same s t = leq s t && leq t s
+
+-- the greater coordinate at each place
+abbrev pub lub : Stamp → Stamp → Stamp
+lub [] t = t
+lub (x ∷ s) [] = x ∷ s
+lub (x ∷ s) (y ∷ t) = (if nat_le x y then y else x) ∷ lub s t
+
+-- the order in which a least one is wanted: by the coordinates from the outermost
+abbrev pub stamp_cmp : Stamp → Stamp → Ordering
+stamp_cmp = slice_cmp nat_cmp
+
+-- whether a list is a stamp of the domain
+abbrev pub in_domain : Bounds → Stamp → Bool
+in_domain bounds s = leq s bounds.greatest
+
+-- a stamp of the outer domain with a loop counter
+abbrev pub nest : Stamp → ℕ → Stamp
+nest s c = s ++ c ∷ []
+
+-- a loop's stamp without its counter
+abbrev pub outer : Stamp → Stamp
+outer [] = []
+outer (x ∷ []) = []
+outer (x ∷ y ∷ s) = x ∷ outer (y ∷ s)
+
+-- the loop counter of a loop's stamp
+abbrev pub counter : Stamp → ℕ
+counter [] = 0
+counter (x ∷ []) = x
+counter (x ∷ y ∷ s) = counter (y ∷ s)

@@ -1,3 +1,4 @@
 pub mod Bag
 pub mod Rec
 pub mod Select
+pub mod Keyed

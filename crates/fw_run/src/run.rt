@@ -51,11 +51,7 @@ fn fetch<F: Folder>(
 }
 
 /// Reads the three texts, each before the next one is fetched.
-fn read_job<F: Folder>(
-    alloc: Global,
-    words: &RunWords,
-    folder: &mut F,
-) -> Result<Job, ReadFault>
+fn read_job<F: Folder>(alloc: Global, words: &RunWords, folder: &mut F) -> Result<Job, ReadFault>
     ensures failed { IsErrOf result ReadFault.Failed → Rose (F.fault_count folder.old) (F.fault_count folder.new) }
     ensures never_falls { F.fault_count folder.old ≤ F.fault_count folder.new }
 {

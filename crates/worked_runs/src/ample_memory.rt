@@ -33,10 +33,10 @@ fn the_outside(rt: HostRuntime) -> Result<(), Fail> {
     assert_eq!(rt; into.len(), 0);
 
     let mut store = FaultlessStore::new(alloc);
-    assert_eq!(rt; store.put(3, b"record"), Ok(()));
-    assert_eq!(rt; store.get(3, &mut into), Ok(()));
+    store.put(3, b"record")?;
+    store.get(3, &mut into)?;
     assert_eq!(rt; into.as_slice(), b"record".as_slice());
-    assert_eq!(rt; store.remove(3), Ok(()));
+    store.remove(3)?;
 
     let mut sink = FaultlessSink::new(alloc);
     assert_eq!(rt; sink.write(b"piece"), Ok(()));

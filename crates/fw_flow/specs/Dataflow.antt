@@ -1,0 +1,179 @@
+-- A dataflow as its lists of loops, nodes and edges, its batches, and how these are looked up.
+use Rattle.std.specs.Prelude.{ℕ, ◌+◌, ◌-◌, ◌^◌, Bool, true, false, ◌==◌, ◌||◌, if◌then◌else◌, List, [], ◌∷◌, ◌++◌, length, Option, Some, None, slice_index_or}
+use Rattle.fw_time.specs.Stamp.{Stamp, nest}
+use Rattle.fw_time.specs.declared.stamp.Bounds.{Bounds}
+use Rattle.fw_time.specs.Sending.{entered, fed_back, left, regrouped}
+use Rattle.fw_bag.specs.declared.rec.Rec.{Rec}
+use Rattle.fw_flow.specs.declared.kind.Domain.{Domain}
+use Rattle.fw_flow.specs.declared.kind.Domain.TheVariants.{Epoch, Number, Loop as InLoop}
+use Rattle.fw_flow.specs.declared.kind.Kind.{Kind}
+use Rattle.fw_flow.specs.declared.kind.Kind.TheVariants.{Input, OutputEpoch, OutputNumber, Select, Concat, Distinct, Join, Sum, Enter, Feedback, Leave, Total, Sequence, Ledger, Regroup}
+use Rattle.fw_flow.specs.declared.kind.Policy.{Policy}
+use Rattle.fw_flow.specs.declared.kind.Policy.TheVariants as policy
+use Rattle.fw_flow.specs.declared.node.Loop.{Loop}
+use Rattle.fw_flow.specs.declared.node.Node.{Node}
+use Rattle.fw_flow.specs.declared.node.Edge.{Edge}
+
+-- a dataflow: its loops, nodes and edges, each by its place in the order of lines
+pub record Dataflow : Type 0 where
+  pub loops : List Loop
+  pub nodes : List Node
+  pub edges : List Edge
+
+-- a dataflow with the batches of each node, by epoch; none where the node is no input
+pub record System : Type 0 where
+  pub flow : Dataflow
+  pub batches : List (List (List Rec))
+
+-- what stands past the last node: an idle output
+abbrev pub idle_node : Node
+idle_node = record { name = []; kind = OutputEpoch; policy = policy.None }
+
+-- the node at a place
+unfoldable pub node_at : Dataflow → ℕ → Node
+node_at flow p = slice_index_or flow.nodes p idle_node
+
+-- its kind
+unfoldable pub kind_of : Dataflow → ℕ → Kind
+kind_of flow p = (slice_index_or flow.nodes p idle_node).kind
+
+-- its policy
+unfoldable pub policy_of : Dataflow → ℕ → Policy
+policy_of flow p = (slice_index_or flow.nodes p idle_node).policy
+
+-- the sender of the edge at a place; past the last edge stand edges between idle outputs
+unfoldable pub sender : Dataflow → ℕ → ℕ
+sender flow e = (slice_index_or flow.edges e (record { name = []; sender = length flow.nodes; receiver = length flow.nodes })).sender
+
+-- its receiver
+unfoldable pub receiver : Dataflow → ℕ → ℕ
+receiver flow e = (slice_index_or flow.edges e (record { name = []; sender = length flow.nodes; receiver = length flow.nodes })).receiver
+
+-- the places, counted from n, of the edges with this receiver
+abbrev pub edges_into : ℕ → List Edge → ℕ → List ℕ
+edges_into n [] p = []
+edges_into n (e ∷ es) p = if e.receiver == p then n ∷ edges_into (n + 1) es p else edges_into (n + 1) es p
+
+-- the places, counted from n, of the edges with this sender
+abbrev pub edges_from : ℕ → List Edge → ℕ → List ℕ
+edges_from n [] p = []
+edges_from n (e ∷ es) p = if e.sender == p then n ∷ edges_from (n + 1) es p else edges_from (n + 1) es p
+
+-- the in-edges of a node, in order
+unfoldable pub in_edges : Dataflow → ℕ → List ℕ
+in_edges flow p = edges_into 0 flow.edges p
+
+-- the out-edges of a node, in order
+unfoldable pub out_edges : Dataflow → ℕ → List ℕ
+out_edges flow p = edges_from 0 flow.edges p
+
+-- the greatest coordinate of epochs and numbers
+abbrev pub greatest_number : ℕ
+greatest_number = 2 ^ 32 - 1
+
+-- the greatest counter of a loop
+unfoldable pub max_of : Dataflow → ℕ → ℕ
+max_of flow l = (slice_index_or flow.loops l (record { name = []; max = 0 })).max
+
+-- the parent domain of a loop
+abbrev pub parent_of : Dataflow → ℕ → Domain
+parent_of flow l = Epoch
+
+-- the domain of a node that stands outside loops or within one
+abbrev pub domain_within : Option ℕ → Domain
+domain_within None = Epoch
+domain_within (Some l) = InLoop l
+
+-- the domain of a kind: at which times its events are
+abbrev pub domain_of_kind : Dataflow → Kind → Domain
+domain_of_kind flow Input = Epoch
+domain_of_kind flow OutputEpoch = Epoch
+domain_of_kind flow OutputNumber = Number
+domain_of_kind flow (Select selection within) = domain_within within
+domain_of_kind flow (Concat within) = domain_within within
+domain_of_kind flow (Distinct within) = domain_within within
+domain_of_kind flow (Join within) = domain_within within
+domain_of_kind flow (Sum within) = domain_within within
+domain_of_kind flow (Enter l) = parent_of flow l
+domain_of_kind flow (Feedback l) = InLoop l
+domain_of_kind flow (Leave l) = InLoop l
+domain_of_kind flow Total = Epoch
+domain_of_kind flow Sequence = Epoch
+domain_of_kind flow Ledger = Number
+domain_of_kind flow (Regroup n) = Number
+
+-- the out domain of a kind: at which times its messages are
+abbrev pub out_domain_of_kind : Dataflow → Kind → Domain
+out_domain_of_kind flow (Enter l) = InLoop l
+out_domain_of_kind flow (Leave l) = parent_of flow l
+out_domain_of_kind flow Sequence = Number
+out_domain_of_kind flow (Regroup n) = Epoch
+out_domain_of_kind flow kind = domain_of_kind flow kind
+
+-- the domain of a node
+abbrev pub domain_of : Dataflow → ℕ → Domain
+domain_of flow p = domain_of_kind flow (kind_of flow p)
+
+-- the out domain of a node
+abbrev pub out_domain_of : Dataflow → ℕ → Domain
+out_domain_of flow p = out_domain_of_kind flow (kind_of flow p)
+
+-- the greatest stamp of a domain
+abbrev pub greatest_of : Dataflow → Domain → Stamp
+greatest_of flow Epoch = greatest_number ∷ []
+greatest_of flow Number = greatest_number ∷ []
+greatest_of flow (InLoop l) = nest (greatest_number ∷ []) (max_of flow l)
+
+-- the bounds of a domain
+abbrev pub bounds_of_domain : Dataflow → Domain → Bounds
+bounds_of_domain flow domain = record { greatest = greatest_of flow domain }
+
+-- the bounds of a node's domain: which lists are stamps of its events
+unfoldable pub bounds_of : Dataflow → ℕ → Bounds
+bounds_of flow p = bounds_of_domain flow (domain_of flow p)
+
+-- the stamp at which an event at t sends, for every kind but a sequence; none where it sends nothing
+abbrev pub send_stamp_of_kind : Dataflow → Kind → Stamp → Option Stamp
+send_stamp_of_kind flow OutputEpoch t = None
+send_stamp_of_kind flow OutputNumber t = None
+send_stamp_of_kind flow (Enter l) t = entered t
+send_stamp_of_kind flow (Feedback l) t = fed_back (max_of flow l) t
+send_stamp_of_kind flow (Leave l) t = left t
+send_stamp_of_kind flow (Regroup n) t = regrouped n t
+send_stamp_of_kind flow kind t = Some t
+
+-- the same for a node
+abbrev pub send_stamp : Dataflow → ℕ → Stamp → Option Stamp
+send_stamp flow p t = send_stamp_of_kind flow (kind_of flow p) t
+
+-- whether a node of the kind is notified: it waits for a time to be complete
+abbrev pub is_notified_kind : Kind → Bool
+is_notified_kind (Sum within) = true
+is_notified_kind Total = true
+is_notified_kind Sequence = true
+is_notified_kind kind = false
+
+-- whether the node is an input
+abbrev pub is_input_kind : Kind → Bool
+is_input_kind Input = true
+is_input_kind kind = false
+
+-- whether the node is an output
+abbrev pub is_output_kind : Kind → Bool
+is_output_kind OutputEpoch = true
+is_output_kind OutputNumber = true
+is_output_kind kind = false
+
+-- whether an edge carries numbers
+abbrev pub is_number : Domain → Bool
+is_number Epoch = false
+is_number Number = true
+is_number (InLoop l) = false
+
+-- whether each number stands at most once, in order and without a gap, on an edge
+abbrev pub is_numbered : Dataflow → ℕ → Bool
+is_numbered flow e = is_number (domain_of flow (receiver flow e))
+
+-- the batches of a node, by epoch
+unfoldable pub batches_of : System → ℕ → List (List Rec)
+batches_of sys s = slice_index_or sys.batches s []

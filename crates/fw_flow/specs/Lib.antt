@@ -1,0 +1,5 @@
+pub mod Dataflow
+pub mod NodeFunction
+pub mod Projection
+pub mod WellFormed
+pub mod WholeBags

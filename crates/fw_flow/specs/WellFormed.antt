@@ -1,0 +1,104 @@
+-- Which dataflows are well formed.
+use Rattle.std.specs.Prelude.{◌≡◌, ◌⊎◌, ℕ, ◌^◌, ◌<◌, ◌≤◌, Bool, true, false, List, [], ◌∷◌, length, Option, Some, None}
+use Rattle.fw_flow.specs.declared.kind.Kind.{Kind}
+use Rattle.fw_flow.specs.declared.kind.Kind.TheVariants.{Input, OutputEpoch, OutputNumber, Select, Concat, Distinct, Join, Sum, Enter, Feedback, Leave, Total, Sequence, Ledger, Regroup}
+use Rattle.fw_flow.specs.declared.kind.Policy.{Policy}
+use Rattle.fw_flow.specs.declared.kind.Policy.TheVariants as policy
+use Rattle.fw_flow.specs.Dataflow.{Dataflow, kind_of, policy_of, sender, receiver, in_edges, out_edges, domain_of, out_domain_of, max_of, is_input_kind, is_output_kind}
+
+-- the loop of a kind is declared, if it has one
+abbrev pub IsLoopDeclared : Dataflow → Kind → Type 0
+IsLoopDeclared flow (Select selection (Some l)) = l < length flow.loops
+IsLoopDeclared flow (Concat (Some l)) = l < length flow.loops
+IsLoopDeclared flow (Distinct (Some l)) = l < length flow.loops
+IsLoopDeclared flow (Join (Some l)) = l < length flow.loops
+IsLoopDeclared flow (Sum (Some l)) = l < length flow.loops
+IsLoopDeclared flow (Enter l) = l < length flow.loops
+IsLoopDeclared flow (Feedback l) = l < length flow.loops
+IsLoopDeclared flow (Leave l) = l < length flow.loops
+IsLoopDeclared flow kind = Unit {0}
+
+-- a node of the kind may have so many in-edges
+abbrev pub IsInDegree : Kind → ℕ → Type 0
+IsInDegree Input n = n ≡ 0
+IsInDegree (Concat within) n = 2 ≤ n
+IsInDegree (Join within) n = n ≡ 2
+IsInDegree kind n = n ≡ 1
+
+-- a node of the kind may have so many out-edges: an output has none
+abbrev pub IsOutDegree : Kind → ℕ → Type 0
+IsOutDegree OutputEpoch n = n ≡ 0
+IsOutDegree OutputNumber n = n ≡ 0
+IsOutDegree kind n = Unit {0}
+
+-- whether a node of the kind may keep nothing
+abbrev pub may_keep_nothing : Kind → Bool
+may_keep_nothing Total = false
+may_keep_nothing Sequence = false
+may_keep_nothing Ledger = false
+may_keep_nothing kind = true
+
+-- the policy is allowed for the kind: inputs and outputs have none, and some kinds keep something
+abbrev pub IsPolicyAllowed : Kind → Policy → Type 0
+IsPolicyAllowed Input p = p ≡ policy.None
+IsPolicyAllowed OutputEpoch p = p ≡ policy.None
+IsPolicyAllowed OutputNumber p = p ≡ policy.None
+IsPolicyAllowed kind policy.None = may_keep_nothing kind ≡ true
+IsPolicyAllowed kind policy.Lazy = Unit {0}
+IsPolicyAllowed kind policy.Logged = Unit {0}
+IsPolicyAllowed kind policy.Eager = Unit {0}
+IsPolicyAllowed kind policy.Full = Unit {0}
+
+-- edges that follow each other from p to q
+abbrev pub IsWalk : Dataflow → ℕ → List ℕ → ℕ → Type 0
+IsWalk flow p [] q = p ≡ q
+IsWalk flow p (e ∷ es) q = (e < length flow.edges) × (sender flow e ≡ p) × IsWalk flow (receiver flow e) es q
+
+-- a walk of some edges that comes back to where it began
+pub record IsClosedWalk (flow : Dataflow) (p : ℕ) (es : List ℕ) : Type 0 where
+  pub some : 0 < length es
+  pub walk : IsWalk flow p es p
+
+-- whether the kind leads to a loop's next counter
+abbrev pub is_feedback_kind : Kind → Bool
+is_feedback_kind (Feedback l) = true
+is_feedback_kind kind = false
+
+-- whether the kind leads into a loop
+abbrev pub is_enter_kind : Kind → Bool
+is_enter_kind (Enter l) = true
+is_enter_kind kind = false
+
+-- a walk leaves a node of a kind of this sort
+abbrev pub Passes : Dataflow → (Kind → Bool) → List ℕ → Type 0
+Passes flow sort [] = ⊥
+Passes flow sort (e ∷ es) = (sort (kind_of flow (sender flow e)) ≡ true) ⊎ Passes flow sort es
+
+-- so many epochs may be regrouped from
+abbrev pub IsGroupSize : Kind → Type 0
+IsGroupSize (Regroup n) = (1 ≤ n) × (n < 2 ^ 32)
+IsGroupSize kind = Unit {0}
+
+-- the sizes are within the limits
+pub record IsWithinLimits (flow : Dataflow) : Type 0 where
+  pub nodes : length flow.nodes ≤ 256
+  pub edges : length flow.edges ≤ 512
+  pub loops : length flow.loops ≤ 64
+  pub counters : (l : ℕ) → l < length flow.loops → (1 ≤ max_of flow l) × (max_of flow l ≤ 1024)
+  pub groups : (p : ℕ) → p < length flow.nodes → IsGroupSize (kind_of flow p)
+
+-- The dataflow is well formed: what its parts name is there, edges join equal domains, and each closed walk passes a
+-- feedback and none an enter.
+pub record IsWellFormed (flow : Dataflow) : Type 0 where
+  pub loops_declared : (p : ℕ) → p < length flow.nodes → IsLoopDeclared flow (kind_of flow p)
+  pub senders_declared : (e : ℕ) → e < length flow.edges → sender flow e < length flow.nodes
+  pub receivers_declared : (e : ℕ) → e < length flow.edges → receiver flow e < length flow.nodes
+  pub in_degrees : (p : ℕ) → p < length flow.nodes → IsInDegree (kind_of flow p) (length (in_edges flow p))
+  pub out_degrees : (p : ℕ) → p < length flow.nodes → IsOutDegree (kind_of flow p) (length (out_edges flow p))
+  pub domains : (e : ℕ) → e < length flow.edges → out_domain_of flow (sender flow e) ≡ domain_of flow (receiver flow e)
+  pub feedback : (p : ℕ) (es : List ℕ) → IsClosedWalk flow p es → Passes flow is_feedback_kind es
+  pub no_enter : (p : ℕ) (es : List ℕ) → IsClosedWalk flow p es → Passes flow is_enter_kind es → ⊥
+  pub policies : (p : ℕ) → p < length flow.nodes → IsPolicyAllowed (kind_of flow p) (policy_of flow p)
+  pub limits : IsWithinLimits flow
+  pub input : (p : ℕ) × (p < length flow.nodes) × (is_input_kind (kind_of flow p) ≡ true)
+  pub output : (p : ℕ) × (p < length flow.nodes) × (is_output_kind (kind_of flow p) ≡ true)

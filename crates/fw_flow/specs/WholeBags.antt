@@ -1,0 +1,136 @@
+-- What a node sends in all, from the whole bags on its in-edges.
+use Rattle.std.specs.Prelude.{ℕ, ◌+◌, Bool, true, false, ◌&&◌, ◌||◌, ◌==◌, nat_le, if◌then◌else◌, List, [], ◌∷◌, ◌++◌, map, Option, Some, None, option_to_list}
+use Rattle.std.specs.Ordering.{is_eq, is_le, ordering_then}
+use Rattle.std.specs.declared.cmp.Ordering.{Ordering}
+use Rattle.fw_time.specs.Stamp.{Stamp, leq, same, stamp_cmp}
+use Rattle.fw_bag.specs.declared.rec.Rec.{Rec}
+use Rattle.fw_bag.specs.Rec.{rec_cmp}
+use Rattle.fw_bag.specs.Select.{selected}
+use Rattle.fw_bag.specs.Keyed.{joined, value_sum, distinct_keys, sums_of}
+use Rattle.fw_flow.specs.declared.kind.Kind.{Kind}
+use Rattle.fw_flow.specs.declared.kind.Kind.TheVariants.{Input, OutputEpoch, OutputNumber, Select, Concat, Distinct, Join, Sum, Enter, Feedback, Leave, Total, Sequence, Ledger, Regroup}
+use Rattle.fw_flow.specs.Dataflow.{System, Dataflow, kind_of, in_edges, batches_of, greatest_number, send_stamp_of_kind}
+
+-- a rec at a stamp
+pub record Timed : Type 0 where
+  pub at : Stamp
+  pub rec : Rec
+
+-- timed recs are ordered by stamp, and then by rec
+abbrev pub timed_cmp : Timed → Timed → Ordering
+timed_cmp x y = ordering_then (stamp_cmp x.at y.at) (rec_cmp x.rec y.rec)
+
+-- the list with one more in its place
+abbrev pub with_timed : Timed → List Timed → List Timed
+with_timed r [] = r ∷ []
+with_timed r (x ∷ xs) = if is_le (timed_cmp r x) then r ∷ x ∷ xs else x ∷ with_timed r xs
+
+-- the timed recs in ascending order: the one list of a bag
+abbrev pub in_order : List Timed → List Timed
+in_order [] = []
+in_order (r ∷ rs) = with_timed r (in_order rs)
+
+-- the recs whose stamp passes a test
+abbrev pub recs_where : (Stamp → Bool) → List Timed → List Rec
+recs_where test [] = []
+recs_where test (r ∷ rs) = if test r.at then r.rec ∷ recs_where test rs else recs_where test rs
+
+-- these recs at one stamp
+abbrev pub timed : Stamp → List Rec → List Timed
+timed at [] = []
+timed at (r ∷ rs) = record { at = at; rec = r } ∷ timed at rs
+
+-- these recs at a stamp, if there is one
+abbrev pub timed_at_some : Option Stamp → List Rec → List Timed
+timed_at_some None rs = []
+timed_at_some (Some at) rs = timed at rs
+
+-- the batches at their epochs, counted from x
+abbrev pub timed_batches : ℕ → List (List Rec) → List Timed
+timed_batches x [] = []
+timed_batches x (batch ∷ batches) = timed (x ∷ []) batch ++ timed_batches (x + 1) batches
+
+-- the recs that a node of the kind sends for one rec alone
+abbrev pub recs_for_one : Kind → Rec → List Rec
+recs_for_one (Select selection within) r = option_to_list (selected selection r)
+recs_for_one kind r = r ∷ []
+
+-- each rec alone, at the stamp at which the kind sends it
+abbrev pub one_by_one : Dataflow → Kind → List Timed → List Timed
+one_by_one flow kind [] = []
+one_by_one flow kind (r ∷ rs) = timed_at_some (send_stamp_of_kind flow kind r.at) (recs_for_one kind r.rec) ++ one_by_one flow kind rs
+
+-- whether the same rec is there at the same stamp
+abbrev pub is_among_timed : Timed → List Timed → Bool
+is_among_timed r [] = false
+is_among_timed r (x ∷ xs) = is_eq (timed_cmp r x) || is_among_timed r xs
+
+-- each rec once at each stamp
+abbrev pub distinct_timed : List Timed → List Timed
+distinct_timed [] = []
+distinct_timed (r ∷ rs) = if is_among_timed r rs then distinct_timed rs else r ∷ distinct_timed rs
+
+-- each rec of the first bag with each of the second of its stamp and key
+abbrev pub joined_timed : List Timed → List Timed → List Timed
+joined_timed [] ys = []
+joined_timed (r ∷ rs) ys = timed r.at (joined r.rec (recs_where (same r.at) ys)) ++ joined_timed rs ys
+
+-- the joins of the bags of two in-edges
+abbrev pub joined_bags : List (List Timed) → List Timed
+joined_bags (xs ∷ ys ∷ rest) = joined_timed xs ys
+joined_bags bags = []
+
+-- whether the stamp is among those of the recs
+abbrev pub has_stamp : Stamp → List Timed → Bool
+has_stamp t [] = false
+has_stamp t (r ∷ rs) = same r.at t || has_stamp t rs
+
+-- the stamps of the recs, each once
+abbrev pub distinct_stamps : List Timed → List Stamp
+distinct_stamps [] = []
+distinct_stamps (r ∷ rs) = if has_stamp r.at rs then distinct_stamps rs else r.at ∷ distinct_stamps rs
+
+-- at each of these stamps the sum of the values of each key that is there
+abbrev pub sums_at : List Stamp → List Timed → List Timed
+sums_at [] rs = []
+sums_at (t ∷ ts) rs = timed t (sums_of (distinct_keys (recs_where (same t) rs)) (recs_where (same t) rs)) ++ sums_at ts rs
+
+-- at each of these stamps, for each key that is there, the sum of its values up to it
+abbrev pub totals_at : List Stamp → List Timed → List Timed
+totals_at [] rs = []
+totals_at (t ∷ ts) rs =
+    timed t (sums_of (distinct_keys (recs_where (same t) rs)) (recs_where (λ s. leq s t) rs)) ++ totals_at ts rs
+
+-- the recs at the numbers from n on, none past the greatest number
+abbrev pub numbered : ℕ → List Timed → List Timed
+numbered n [] = []
+numbered n (r ∷ rs) = if nat_le n greatest_number then record { at = n ∷ []; rec = r.rec } ∷ numbered (n + 1) rs else []
+
+-- for each of these recs the running total of its key among all of them
+abbrev pub running_totals : List Timed → List Timed → List Timed
+running_totals [] all = []
+running_totals (r ∷ rs) all =
+    record { at = r.at; rec = record { key = r.rec.key; value = value_sum r.rec.key (recs_where (λ s. leq s r.at) all) } } ∷ running_totals rs all
+
+-- the bags one after another
+abbrev pub together : List (List Timed) → List Timed
+together [] = []
+together (xs ∷ bags) = xs ++ together bags
+
+-- what a node of the kind sends in all, from the whole bags on its in-edges
+abbrev pub outputs_of_kind : Dataflow → Kind → List (List Rec) → List (List Timed) → List Timed
+outputs_of_kind flow Input batches bags = timed_batches 0 batches
+outputs_of_kind flow OutputEpoch batches bags = []
+outputs_of_kind flow OutputNumber batches bags = []
+outputs_of_kind flow (Distinct within) batches bags = distinct_timed (together bags)
+outputs_of_kind flow (Join within) batches bags = joined_bags bags
+outputs_of_kind flow (Sum within) batches bags = sums_at (distinct_stamps (together bags)) (together bags)
+outputs_of_kind flow Total batches bags = totals_at (distinct_stamps (together bags)) (together bags)
+outputs_of_kind flow Sequence batches bags = numbered 0 (in_order (together bags))
+outputs_of_kind flow Ledger batches bags = running_totals (together bags) (together bags)
+outputs_of_kind flow kind batches bags = one_by_one flow kind (together bags)
+
+-- what node p sends in all, as a bag in order, where these are the whole bags on the edges
+abbrev pub outputs_of : System → (ℕ → List Timed) → ℕ → List Timed
+outputs_of sys bags p =
+    in_order (outputs_of_kind sys.flow (kind_of sys.flow p) (batches_of sys p) (map bags (in_edges sys.flow p)))

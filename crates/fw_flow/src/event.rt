@@ -1,0 +1,40 @@
+//! What happens in a run, and what is sent.
+use crate::{EdgeId, NodeId};
+use fw_bag::Rec;
+use fw_time::Stamp;
+use std::marker::Model;
+
+/// The stamps of the events that a message comes from. Contracts see their list.
+#[derive(Debug, Drop)]
+pub struct Causes {
+    stamps: Vec<Stamp>,
+}
+
+impl Model for Causes {
+    ghost use Rattle.std.specs.Prelude.{ℕ, List};
+
+    ghost Value = { List (List ℕ) };
+
+    ghost view = { λ causes. causes.stamps.items };
+}
+
+/// A message on an edge.
+#[derive(Debug, Drop)]
+pub struct Message {
+    /// Its stamp, in the receiver's domain.
+    pub at: Stamp,
+    pub rec: Rec,
+    /// The stamps of the sender's events that it comes from.
+    pub causes: Causes,
+}
+
+/// An event of a run.
+#[derive(Debug, Drop)]
+pub enum Event {
+    /// The input sent its batch of the epoch.
+    Inject { source: NodeId, epoch: u32 },
+    /// The message was delivered on the edge.
+    Deliver { edge: EdgeId, message: Message },
+    /// The node was notified of the stamp.
+    Notify { node: NodeId, at: Stamp },
+}

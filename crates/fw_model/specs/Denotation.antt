@@ -1,0 +1,23 @@
+-- The denotation: the one family of bags, one for each edge, that solves the equations of the nodes.
+use Rattle.std.specs.Prelude.{◌≡◌, ℕ, zero, suc, List, []}
+use Rattle.fw_time.specs.Stamp.{Stamp, same}
+use Rattle.fw_bag.specs.declared.rec.Rec.{Rec}
+use Rattle.fw_flow.specs.Dataflow.{System, sender}
+use Rattle.fw_flow.specs.WholeBags.{Timed, outputs_of, recs_where}
+
+-- a bag of timed recs for each edge
+abbrev pub Family : Type 0
+Family = ℕ → List Timed
+
+-- Each source sends its batches at their epochs, and each other node sends what it makes of the bags on its in-edges.
+abbrev pub IsDenotation : System → Family → Type 0
+IsDenotation sys family = (e : ℕ) → family e ≡ outputs_of sys family (sender sys.flow e)
+
+-- the family after so many rounds of all equations, from empty bags
+abbrev pub rounds : System → ℕ → Family
+rounds sys zero e = []
+rounds sys (suc n) e = outputs_of sys (rounds sys n) (sender sys.flow e)
+
+-- the bag of a family on an edge at a stamp, ascending
+abbrev pub bag_at : Family → ℕ → Stamp → List Rec
+bag_at family e t = recs_where (same t) (family e)

@@ -1,0 +1,137 @@
+-- The machine without failures: a history of events, the latest first, and which event may come next.
+use Rattle.std.specs.Prelude.{◌≡◌, ℕ, ◌+◌, ◌<◌, Bool, true, false, not, ◌&&◌, ◌||◌, ◌==◌, nat_lt, if◌then◌else◌, List, [], ◌∷◌, length}
+use Rattle.std.specs.Ordering.{is_eq, ordering_then}
+use Rattle.std.specs.Cmp.Lexicographic.{slice_cmp}
+use Rattle.std.specs.declared.cmp.Ordering.{Ordering}
+use Rattle.fw_time.specs.Stamp.{Stamp, leq, lesser, same, stamp_cmp, in_domain}
+use Rattle.fw_bag.specs.Rec.{rec_cmp}
+use Rattle.fw_frontier.specs.Frontier.{Frontier, IsFrontier, Within}
+use Rattle.fw_flow.specs.declared.event.Event.{Event}
+use Rattle.fw_flow.specs.declared.event.Event.TheVariants.{Inject, Deliver, Notify}
+use Rattle.fw_flow.specs.declared.event.Message.{Message}
+use Rattle.fw_flow.specs.Dataflow.{System, Dataflow, kind_of, sender, receiver, bounds_of, is_notified_kind, is_input_kind, is_numbered, batches_of}
+use Rattle.fw_flow.specs.NodeFunction.{place, sent_by}
+use Rattle.fw_flow.specs.Projection.{events_at, phi, number_of}
+
+-- messages are ordered by stamp, rec and causes
+abbrev pub message_cmp : Message → Message → Ordering
+message_cmp a b = ordering_then (stamp_cmp a.at b.at) (ordering_then (rec_cmp a.rec b.rec) (slice_cmp stamp_cmp a.causes b.causes))
+
+-- whether the message is among these
+abbrev pub is_among : Message → List Message → Bool
+is_among m [] = false
+is_among m (x ∷ xs) = is_eq (message_cmp m x) || is_among m xs
+
+-- the messages without the first that is this one
+abbrev pub without : Message → List Message → List Message
+without m [] = []
+without m (x ∷ xs) = if is_eq (message_cmp m x) then xs else x ∷ without m xs
+
+-- the messages less those of the second list, each as often as it stands there
+abbrev pub less : List Message → List Message → List Message
+less ms [] = ms
+less ms (d ∷ ds) = without d (less ms ds)
+
+-- whether one of the messages is at a stamp that passes the test
+abbrev pub some_at : (Stamp → Bool) → List Message → Bool
+some_at test [] = false
+some_at test (m ∷ ms) = test m.at || some_at test ms
+
+-- what the events of a history sent on an edge
+abbrev pub sent : System → List Event → ℕ → List Message
+sent sys h e = sent_by sys (sender sys.flow e) (events_at sys.flow (sender sys.flow e) h)
+
+-- what was delivered on an edge
+abbrev pub delivered : List Event → ℕ → List Message
+delivered [] e = []
+delivered (Inject s x ∷ h) e = delivered h e
+delivered (Deliver d m ∷ h) e = if d == e then m ∷ delivered h e else delivered h e
+delivered (Notify p t ∷ h) e = delivered h e
+
+-- what is pending on an edge: what was sent less what was delivered
+abbrev pub pending : System → List Event → ℕ → List Message
+pending sys h e = less (sent sys h e) (delivered h e)
+
+-- whether a message was delivered to node p at stamp t
+abbrev pub was_delivered_to : Dataflow → ℕ → Stamp → List Event → Bool
+was_delivered_to flow p t [] = false
+was_delivered_to flow p t (Inject s x ∷ h) = was_delivered_to flow p t h
+was_delivered_to flow p t (Deliver e m ∷ h) = (receiver flow e == p && same m.at t) || was_delivered_to flow p t h
+was_delivered_to flow p t (Notify q s ∷ h) = was_delivered_to flow p t h
+
+-- whether node p was notified of stamp t
+abbrev pub was_notified : ℕ → Stamp → List Event → Bool
+was_notified p t [] = false
+was_notified p t (Inject s x ∷ h) = was_notified p t h
+was_notified p t (Deliver e m ∷ h) = was_notified p t h
+was_notified p t (Notify q s ∷ h) = (q == p && same s t) || was_notified p t h
+
+-- whether node p is owed a notification of stamp t: its kind waits for it, a message came at t, and it was not notified
+abbrev pub owed : System → List Event → ℕ → Stamp → Bool
+owed sys h p t =
+    is_notified_kind (kind_of sys.flow p) && was_delivered_to sys.flow p t h && not (was_notified p t h)
+
+-- how many batches of source s were injected
+abbrev pub injected_count : ℕ → List Event → ℕ
+injected_count s [] = 0
+injected_count s (Inject q x ∷ h) = if q == s then injected_count s h + 1 else injected_count s h
+injected_count s (Deliver e m ∷ h) = injected_count s h
+injected_count s (Notify p t ∷ h) = injected_count s h
+
+-- whether each batch of source s was injected
+abbrev pub is_exhausted : System → List Event → ℕ → Bool
+is_exhausted sys h s = injected_count s h == length (batches_of sys s)
+
+-- the epochs that source s injected; all once it is exhausted
+abbrev pub injected_epochs : System → List Event → ℕ → Frontier
+injected_epochs sys h s t =
+    in_domain (bounds_of sys.flow s) t && (is_exhausted sys h s || nat_lt (number_of t) (injected_count s h))
+
+-- nothing is pending for node p at stamp t
+abbrev pub IsQuiet : System → List Event → ℕ → Stamp → Type 0
+IsQuiet sys h p t = (e : ℕ) → receiver sys.flow e ≡ p → some_at (same t) (pending sys h e) ≡ false
+
+-- A family of frontiers, one for each node, inside which all has come: nothing is pending, nothing is owed, and what may
+-- still come is outside.
+pub record IsAdmissible (sys : System) (h : List Event) (done : ℕ → Frontier) : Type 0 where
+  pub frontier : (p : ℕ) → IsFrontier (bounds_of sys.flow p) (done p)
+  pub quiet : (p : ℕ) (t : Stamp) → done p t ≡ true → IsQuiet sys h p t
+  pub paid : (p : ℕ) (t : Stamp) → done p t ≡ true → owed sys h p t ≡ false
+  pub follows : (e : ℕ) → Within (done (receiver sys.flow e)) (phi sys h e (done (sender sys.flow e)))
+  pub source : (s : ℕ) → is_input_kind (kind_of sys.flow s) ≡ true → Within (done s) (injected_epochs sys h s)
+
+-- the complete frontiers: the largest admissible family
+pub record IsComplete (sys : System) (h : List Event) (done : ℕ → Frontier) : Type 0 where
+  pub admissible : IsAdmissible sys h done
+  pub largest : (other : ℕ → Frontier) → IsAdmissible sys h other → (p : ℕ) → Within (other p) (done p)
+
+-- source s may inject its batch x: it is its next one
+pub record IsNextBatch (sys : System) (h : List Event) (s x : ℕ) : Type 0 where
+  pub input : is_input_kind (kind_of sys.flow s) ≡ true
+  pub next : x ≡ injected_count s h
+  pub there : x < length (batches_of sys s)
+
+-- a message may be delivered on edge e: it is pending, and on a numbered edge it is the next number
+pub record IsDeliverable (sys : System) (h : List Event) (e : ℕ) (m : Message) : Type 0 where
+  pub is_pending : is_among m (pending sys h e) ≡ true
+  pub numbered : is_numbered sys.flow e ≡ true → m.at ≡ length (delivered h e) ∷ []
+
+-- Node p may be notified of stamp t: it is owed there and at no lesser stamp, nothing is pending for it up to t, and t is
+-- complete before it.
+pub record IsNotifiable (sys : System) (h : List Event) (p : ℕ) (t : Stamp) : Type 0 where
+  pub is_owed : owed sys h p t ≡ true
+  pub none_lesser : (s : Stamp) → lesser s t ≡ true → owed sys h p s ≡ false
+  pub quiet : (s : Stamp) → leq s t ≡ true → IsQuiet sys h p s
+  pub complete : (done : ℕ → Frontier) × IsAdmissible sys h done
+      × ((d : ℕ) → receiver sys.flow d ≡ p → phi sys h d (done (sender sys.flow d)) t ≡ true)
+
+-- the event may come next
+abbrev pub IsEnabled : System → List Event → Event → Type 0
+IsEnabled sys h (Inject s x) = IsNextBatch sys h s x
+IsEnabled sys h (Deliver e m) = IsDeliverable sys h e m
+IsEnabled sys h (Notify p t) = IsNotifiable sys h p t
+
+-- each event was enabled after those before it
+abbrev pub IsLegal : System → List Event → Type 0
+IsLegal sys [] = Unit {0}
+IsLegal sys (v ∷ h) = IsEnabled sys h v × IsLegal sys h

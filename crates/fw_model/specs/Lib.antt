@@ -1,0 +1,5 @@
+pub mod Choice
+pub mod Denotation
+pub mod History
+pub mod Machine
+pub mod Steps

@@ -1,0 +1,78 @@
+-- The state of the event-list machine.
+use Rattle.std.specs.Prelude.{ℕ, Bool, false, List, [], ◌∷◌, map, length, slice_index_or}
+use Rattle.std.specs.List.{range_with_len}
+use Rattle.fw_time.specs.Stamp.{Stamp}
+use Rattle.fw_time.specs.declared.stamp.Bounds.{Bounds}
+use Rattle.fw_frontier.specs.Front.{Front}
+use Rattle.fw_flow.specs.declared.event.Event.{Event}
+use Rattle.fw_flow.specs.Dataflow.{System, Dataflow, bounds_of}
+
+-- an event with its serial number, which no other event ever has
+pub record Numbered : Type 0 where
+  pub serial : ℕ
+  pub event : Event
+
+-- what a write holds: what a node's events in a frontier made, kept with the low watermark of that moment; or one event
+pub data Written : Type 0 where
+  checkpoint : Front → List Front → Written
+  logged_event : ℕ → Written
+
+-- how far a write is
+pub data Progress : Type 0 where
+  in_flight : Progress
+  acknowledged : Progress
+  collected : Progress
+
+-- a write of a node
+pub record Write : Type 0 where
+  pub node : ℕ
+  pub written : Written
+  pub progress : Progress
+
+-- A state: the history, the latest event first, with the next serial; for each node what is settled, whether it failed,
+-- how many stamps it acknowledged, and the low watermark; and the writes in order of asking.
+pub record Machine : Type 0 where
+  pub history : List Numbered
+  pub next : ℕ
+  pub settled : List Front
+  pub writes : List Write
+  pub failed : List Bool
+  pub bounds : List ℕ
+  pub low : List Front
+
+-- the events of a history without their serials
+abbrev pub events : List Numbered → List Event
+events [] = []
+events (v ∷ h) = v.event ∷ events h
+
+-- the frontier of a domain with no stamp: its least stamp is outside
+abbrev pub no_stamps : Bounds → Front
+no_stamps bounds = map (λ c. 0) bounds.greatest ∷ []
+
+-- the places of the nodes, in order
+abbrev pub places : Dataflow → List ℕ
+places flow = range_with_len 0 (length flow.nodes)
+
+-- the first state: nothing has happened
+abbrev pub first_state : System → Machine
+first_state sys = record {
+  history = [];
+  next = 0;
+  settled = map (λ p. no_stamps (bounds_of sys.flow p)) (places sys.flow);
+  writes = [];
+  failed = map (λ p. false) (places sys.flow);
+  bounds = map (λ p. 0) (places sys.flow);
+  low = map (λ p. no_stamps (bounds_of sys.flow p)) (places sys.flow);
+}
+
+-- the frontier of node p in a list of one for each node
+abbrev pub front_of : List Front → ℕ → Front
+front_of fronts p = slice_index_or fronts p []
+
+-- whether node p is failed
+abbrev pub is_failed : Machine → ℕ → Bool
+is_failed state p = slice_index_or state.failed p false
+
+-- how many stamps output o acknowledged
+abbrev pub bound_of : Machine → ℕ → ℕ
+bound_of state o = slice_index_or state.bounds o 0

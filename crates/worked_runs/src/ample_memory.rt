@@ -1,6 +1,13 @@
 //! Each call that may answer want of memory, with ample memory.
+ghost use Rattle.std.specs.Prelude.{◌≡◌, None};
+ghost use Rattle.std.specs.Option.{ForSome};
+ghost use Rattle.std.specs.FinMap as map;
+
 use fw_bag::{Bag, Rec};
-use fw_outside::{FaultlessFolder, FaultlessSink, FaultlessStore, Folder, MemText, Sink, Store};
+use fw_outside::{
+    FaultlessFolder, FaultlessSink, FaultlessStore, Folder, MemStore, MemText, OutFault, Sink,
+    Store,
+};
 use std::test::Fail;
 
 #[test]
@@ -21,6 +28,15 @@ fn bags(rt: HostRuntime) -> Result<(), Fail> {
     Ok(())
 }
 
+// Puts a record, gets it and takes it out.
+fn keep_a_record<K: Store>(store: &mut K, into: &mut Vec<u8>) -> Result<(), OutFault>
+    requires { ForSome (K.records store.old) (λ held. map.get held 3 ≡ None) }
+{
+    store.put(3, b"record")?;
+    store.get(3, into)?;
+    store.remove(3)
+}
+
 #[test]
 fn the_outside(rt: HostRuntime) -> Result<(), Fail> {
     let alloc = rt.alloc();
@@ -32,11 +48,10 @@ fn the_outside(rt: HostRuntime) -> Result<(), Fail> {
     assert_eq!(rt; folder.fetch("b", 4, &mut into), Ok(()));
     assert_eq!(rt; into.len(), 0);
 
-    let mut store = FaultlessStore::new(alloc);
-    store.put(3, b"record")?;
-    store.get(3, &mut into)?;
+    keep_a_record(&mut FaultlessStore::new(alloc), &mut into)?;
     assert_eq!(rt; into.as_slice(), b"record".as_slice());
-    store.remove(3)?;
+    keep_a_record(&mut MemStore::new(alloc, Vec::new(alloc)), &mut into)?;
+    assert_eq!(rt; into.as_slice(), b"record".as_slice());
 
     let mut sink = FaultlessSink::new(alloc);
     assert_eq!(rt; sink.write(b"piece"), Ok(()));

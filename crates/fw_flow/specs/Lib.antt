@@ -1,3 +1,4 @@
+pub mod Counting
 pub mod Dataflow
 pub mod NodeFunction
 pub mod Projection

@@ -1,18 +1,16 @@
 -- What a node sends: event by event, and in all from the whole bags on its in-edges.
-use Rattle.std.specs.Prelude.{ℕ, ◌+◌, ◌-◌, ◌*◌, ◌/◌, Bool, true, false, not, ◌&&◌, ◌||◌, ◌==◌, nat_le, nat_lt, if◌then◌else◌, List, [], ◌∷◌, ◌++◌, length, Option, Some, None, option_to_list, slice_index_or}
-use Rattle.std.specs.Ordering.{is_eq, is_le, ordering_then}
-use Rattle.std.specs.declared.cmp.Ordering.{Ordering}
-use Rattle.fw_time.specs.Stamp.{Stamp, leq, lesser, same, stamp_cmp, nest, outer, counter}
+use Rattle.std.specs.Prelude.{ℕ, ◌+◌, ◌-◌, Bool, true, not, ◌&&◌, ◌==◌, nat_le, if◌then◌else◌, List, [], ◌∷◌, ◌++◌, length, Option, Some, None, option_to_list, slice_index_or, map}
+use Rattle.std.specs.List.{flat_map}
+use Rattle.fw_time.specs.Stamp.{Stamp, leq, same}
 use Rattle.fw_bag.specs.declared.rec.Rec.{Rec}
-use Rattle.fw_bag.specs.Rec.{rec_cmp}
 use Rattle.fw_bag.specs.Select.{selected}
-use Rattle.fw_bag.specs.Keyed.{plus, sorted, is_among, joined, all_joined, distinct, value_sum, distinct_keys, sums_of}
+use Rattle.fw_bag.specs.Keyed.{plus, sorted, is_among, joined, value_sum, distinct_keys, sums_of}
 use Rattle.fw_flow.specs.declared.event.Event.{Event}
 use Rattle.fw_flow.specs.declared.event.Event.TheVariants.{Inject, Deliver, Notify}
 use Rattle.fw_flow.specs.declared.event.Message.{Message}
 use Rattle.fw_flow.specs.declared.kind.Kind.{Kind}
-use Rattle.fw_flow.specs.declared.kind.Kind.TheVariants.{Input, OutputEpoch, OutputNumber, Select, Concat, Distinct, Join, Sum, Enter, Feedback, Leave, Total, Sequence, Ledger, Regroup}
-use Rattle.fw_flow.specs.Dataflow.{System, Dataflow, kind_of, receiver, in_edges, batches_of, greatest_number, send_stamp_of_kind}
+use Rattle.fw_flow.specs.declared.kind.Kind.TheVariants.{Select, Concat, Distinct, Join, Sum, Enter, Feedback, Leave, Total, Sequence, Ledger, Regroup}
+use Rattle.fw_flow.specs.Dataflow.{System, Dataflow, kind_of, receiver, batches_of, greatest_number, is_input_kind, send_stamp_of_kind}
 
 -- the node of an event
 abbrev pub place : Dataflow → Event → ℕ
@@ -34,8 +32,7 @@ rec_of_delivery test (Notify p t) = []
 
 -- the recs of the deliveries among these events that pass a test on their edge and stamp
 abbrev pub delivered_recs : (ℕ → Stamp → Bool) → List Event → List Rec
-delivered_recs test [] = []
-delivered_recs test (v ∷ vs) = rec_of_delivery test v ++ delivered_recs test vs
+delivered_recs test vs = flat_map (rec_of_delivery test) vs
 
 -- the recs that a delivery makes a node of the kind send, where these are its earlier events
 abbrev pub recs_on_delivery : Kind → List Event → ℕ → Stamp → Rec → List Rec
@@ -62,14 +59,13 @@ recs_on_notification kind before t = []
 
 -- the recs that an event makes its node send, where these are the node's earlier events
 abbrev pub recs_on : System → Kind → List Event → Event → List Rec
-recs_on sys kind before (Inject s x) = slice_index_or (batches_of sys s) x []
+recs_on sys kind before (Inject s x) = if is_input_kind kind then slice_index_or (batches_of sys s) x [] else []
 recs_on sys kind before (Deliver e m) = recs_on_delivery kind before e m.at m.rec
 recs_on sys kind before (Notify p t) = recs_on_notification kind before t
 
 -- the recs as messages at one stamp, of one cause
 abbrev pub messages_at : Stamp → Stamp → List Rec → List Message
-messages_at at cause [] = []
-messages_at at cause (r ∷ rs) = record { at = at; rec = r; causes = cause ∷ [] } ∷ messages_at at cause rs
+messages_at at cause rs = map (λ r. record { at = at; rec = r; causes = cause ∷ [] }) rs
 
 -- the recs as messages at the numbers from n on, none past the greatest number
 abbrev pub numbered_messages : ℕ → Stamp → List Rec → List Message
@@ -77,7 +73,7 @@ numbered_messages n cause [] = []
 numbered_messages n cause (r ∷ rs) =
     if nat_le n greatest_number then record { at = n ∷ []; rec = r; causes = cause ∷ [] } ∷ numbered_messages (n + 1) cause rs else []
 
--- the messages that a sequence sent in all, after these events, the latest first
+-- the messages that a sequence sent in all, after these events, of which the latest comes first
 abbrev pub sequence_sent : List Event → List Message
 sequence_sent [] = []
 sequence_sent (v ∷ before) =
@@ -104,7 +100,7 @@ sends_of_kind sys kind before v =
 unfoldable pub sends : System → ℕ → List Event → Event → List Message
 sends sys p before v = sends_of_kind sys (kind_of sys.flow p) before v
 
--- what the events of node p send in all, the latest first
+-- what these events of node p send in all, where the latest event comes first
 abbrev pub sent_by : System → ℕ → List Event → List Message
 sent_by sys p [] = []
 sent_by sys p (v ∷ before) = sends sys p before v ++ sent_by sys p before

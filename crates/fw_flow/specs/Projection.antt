@@ -1,29 +1,28 @@
 -- Projections: what of an edge comes from a frontier of its sender, and where a frontier of its sender can send.
-use Rattle.std.specs.Prelude.{ℕ, suc, zero, ◌+◌, ◌-◌, ◌*◌, Bool, true, false, ◌&&◌, ◌||◌, ◌==◌, nat_lt, nat_le, if◌then◌else◌, List, [], ◌∷◌, length, min}
+use Rattle.std.specs.Prelude.{ℕ, suc, zero, ◌+◌, ◌-◌, ◌*◌, Bool, ◌&&◌, ◌||◌, ◌==◌, nat_lt, if◌then◌else◌, List, [], ◌∷◌, min, filter}
+use Rattle.fw_flow.specs.Counting.{how_many}
+use Rattle.std.specs.List.{list_all}
 use Rattle.fw_time.specs.Stamp.{Stamp, nest, outer, counter}
 use Rattle.fw_frontier.specs.Frontier.{Frontier, nothing}
 use Rattle.fw_flow.specs.declared.event.Event.{Event}
 use Rattle.fw_flow.specs.declared.event.Message.{Message}
 use Rattle.fw_flow.specs.declared.kind.Kind.{Kind}
-use Rattle.fw_flow.specs.declared.kind.Kind.TheVariants.{Input, OutputEpoch, OutputNumber, Select, Concat, Distinct, Join, Sum, Enter, Feedback, Leave, Total, Sequence, Ledger, Regroup}
+use Rattle.fw_flow.specs.declared.kind.Kind.TheVariants.{Enter, Feedback, Leave, Sequence, Regroup}
 use Rattle.fw_flow.specs.Dataflow.{System, Dataflow, kind_of, sender, max_of, greatest_number, out_domain_of_kind, bounds_of_domain}
 use Rattle.fw_time.specs.Stamp.{in_domain}
 use Rattle.fw_flow.specs.NodeFunction.{place, sent_by}
 
 -- the events of node p in a history, the latest first
 abbrev pub events_at : Dataflow → ℕ → List Event → List Event
-events_at flow p [] = []
-events_at flow p (v ∷ h) = if place flow v == p then v ∷ events_at flow p h else events_at flow p h
+events_at flow p h = filter (λ v. place flow v == p) h
 
 -- whether all causes are inside
 abbrev pub all_inside : Frontier → List Stamp → Bool
-all_inside f [] = true
-all_inside f (c ∷ cs) = f c && all_inside f cs
+all_inside f cs = list_all f cs
 
 -- how many of the messages have all their causes inside
 abbrev pub count_from : Frontier → List Message → ℕ
-count_from f [] = 0
-count_from f (m ∷ ms) = if all_inside f m.causes then count_from f ms + 1 else count_from f ms
+count_from f ms = how_many (λ m. all_inside f m.causes) ms
 
 -- how many messages the events of node p inside f sent
 abbrev pub sent_count : System → List Event → ℕ → Frontier → ℕ
@@ -47,7 +46,7 @@ some_counter f x (suc c) = f (nest x (suc c)) || some_counter f x c
 -- The messages at which stamps come from events inside f, by the kind of the sender:
 -- entering, at each counter of a stamp inside; feeding back, at counter 0 and at the next counter of a stamp inside;
 -- leaving, at a stamp all of whose counters are inside; from a sequence, the numbers below the count of messages that
--- the events inside sent, and all for all; regrouped, at an epoch all of whose numbers are inside.
+-- the events inside sent, and all for all; regrouped, at an epoch up to whose last number all are inside.
 abbrev pub phi_of_kind : System → Kind → ℕ → Frontier → Frontier
 phi_of_kind sys (Enter l) count f u = f (outer u)
 phi_of_kind sys (Feedback l) count f u = counter u == 0 || f (nest (outer u) (counter u - 1))
@@ -70,7 +69,7 @@ psi_of_kind sys (Leave l) f u = some_counter f u (max_of sys.flow l)
 psi_of_kind sys (Regroup n) f u = f ((number_of u * n) ∷ [])
 psi_of_kind sys kind f u = f u
 
--- the cover of the stamps at which an event of the sender of e inside f can send on e
+-- the cover of the stamps at which an event of the sender of e inside f can send on e, for a kind that may keep nothing
 unfoldable pub psi : System → ℕ → Frontier → Frontier
 psi sys e f u =
     in_domain (bounds_of_domain sys.flow (out_domain_of_kind sys.flow (kind_of sys.flow (sender sys.flow e)))) u

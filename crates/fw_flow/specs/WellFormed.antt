@@ -1,10 +1,13 @@
 -- Which dataflows are well formed.
-use Rattle.std.specs.Prelude.{◌≡◌, ◌⊎◌, ℕ, ◌^◌, ◌<◌, ◌≤◌, Bool, true, false, List, [], ◌∷◌, length, Option, Some, None}
+use Rattle.std.specs.Prelude.{◌≡◌, ◌⊎◌, ℕ, ◌^◌, ◌<◌, ◌≤◌, Bool, true, false, List, [], ◌∷◌, length, Some, None}
 use Rattle.fw_flow.specs.declared.kind.Kind.{Kind}
 use Rattle.fw_flow.specs.declared.kind.Kind.TheVariants.{Input, OutputEpoch, OutputNumber, Select, Concat, Distinct, Join, Sum, Enter, Feedback, Leave, Total, Sequence, Ledger, Regroup}
 use Rattle.fw_flow.specs.declared.kind.Policy.{Policy}
 use Rattle.fw_flow.specs.declared.kind.Policy.TheVariants as policy
-use Rattle.fw_flow.specs.Dataflow.{Dataflow, kind_of, policy_of, sender, receiver, in_edges, out_edges, domain_of, out_domain_of, max_of, is_input_kind, is_output_kind}
+use Rattle.fw_bag.specs.declared.rec.Rec.{Rec}
+use Rattle.fw_bag.specs.Rec.{IsAscending}
+use Rattle.std.specs.List.{AllByRecursion}
+use Rattle.fw_flow.specs.Dataflow.{System, batches_of, Dataflow, kind_of, policy_of, sender, receiver, in_edges, out_edges, domain_of, out_domain_of, max_of, is_input_kind, is_output_kind}
 
 -- the loop of a kind is declared, if it has one
 abbrev pub IsLoopDeclared : Dataflow → Kind → Type 0
@@ -102,3 +105,21 @@ pub record IsWellFormed (flow : Dataflow) : Type 0 where
   pub limits : IsWithinLimits flow
   pub input : (p : ℕ) × (p < length flow.nodes) × (is_input_kind (kind_of flow p) ≡ true)
   pub output : (p : ℕ) × (p < length flow.nodes) × (is_output_kind (kind_of flow p) ≡ true)
+
+-- the key and the value of a rec are numbers of 64 bits
+pub record IsRec (r : Rec) : Type 0 where
+  pub key : r.key < 2 ^ 64
+  pub value : r.value < 2 ^ 64
+
+-- a batch is a bag as its ascending list
+pub record IsBatch (batch : List Rec) : Type 0 where
+  pub recs : AllByRecursion IsRec batch
+  pub ascending : IsAscending batch
+
+-- The system is well formed: its dataflow is, and the inputs alone have batches, at most 2^20 each.
+pub record IsWellFormedSystem (sys : System) : Type 0 where
+  pub flow : IsWellFormed sys.flow
+  pub one_each : length sys.batches ≡ length sys.flow.nodes
+  pub of_inputs : (p : ℕ) → is_input_kind (kind_of sys.flow p) ≡ false → batches_of sys p ≡ []
+  pub few : (p : ℕ) → length (batches_of sys p) ≤ 2 ^ 20
+  pub batches : (p : ℕ) → AllByRecursion IsBatch (batches_of sys p)

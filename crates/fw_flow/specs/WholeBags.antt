@@ -1,5 +1,6 @@
 -- What a node sends in all, from the whole bags on its in-edges.
-use Rattle.std.specs.Prelude.{ℕ, ◌+◌, Bool, true, false, ◌&&◌, ◌||◌, ◌==◌, nat_le, if◌then◌else◌, List, [], ◌∷◌, ◌++◌, map, Option, Some, None, option_to_list}
+use Rattle.std.specs.Prelude.{ℕ, ◌+◌, Bool, nat_le, if◌then◌else◌, List, [], ◌∷◌, ◌++◌, map, Option, Some, None, option_to_list, filter}
+use Rattle.std.specs.List.{flat_map, list_any}
 use Rattle.std.specs.Ordering.{is_eq, is_le, ordering_then}
 use Rattle.std.specs.declared.cmp.Ordering.{Ordering}
 use Rattle.fw_time.specs.Stamp.{Stamp, leq, same, stamp_cmp}
@@ -8,7 +9,7 @@ use Rattle.fw_bag.specs.Rec.{rec_cmp}
 use Rattle.fw_bag.specs.Select.{selected}
 use Rattle.fw_bag.specs.Keyed.{joined, value_sum, distinct_keys, sums_of}
 use Rattle.fw_flow.specs.declared.kind.Kind.{Kind}
-use Rattle.fw_flow.specs.declared.kind.Kind.TheVariants.{Input, OutputEpoch, OutputNumber, Select, Concat, Distinct, Join, Sum, Enter, Feedback, Leave, Total, Sequence, Ledger, Regroup}
+use Rattle.fw_flow.specs.declared.kind.Kind.TheVariants.{Input, OutputEpoch, OutputNumber, Select, Distinct, Join, Sum, Total, Sequence, Ledger}
 use Rattle.fw_flow.specs.Dataflow.{System, Dataflow, kind_of, in_edges, batches_of, greatest_number, send_stamp_of_kind}
 
 -- a rec at a stamp
@@ -32,13 +33,11 @@ in_order (r ∷ rs) = with_timed r (in_order rs)
 
 -- the recs whose stamp passes a test
 abbrev pub recs_where : (Stamp → Bool) → List Timed → List Rec
-recs_where test [] = []
-recs_where test (r ∷ rs) = if test r.at then r.rec ∷ recs_where test rs else recs_where test rs
+recs_where test rs = map (λ r. r.rec) (filter (λ r. test r.at) rs)
 
 -- these recs at one stamp
 abbrev pub timed : Stamp → List Rec → List Timed
-timed at [] = []
-timed at (r ∷ rs) = record { at = at; rec = r } ∷ timed at rs
+timed at rs = map (λ r. record { at = at; rec = r }) rs
 
 -- these recs at a stamp, if there is one
 abbrev pub timed_at_some : Option Stamp → List Rec → List Timed
@@ -57,13 +56,12 @@ recs_for_one kind r = r ∷ []
 
 -- each rec alone, at the stamp at which the kind sends it
 abbrev pub one_by_one : Dataflow → Kind → List Timed → List Timed
-one_by_one flow kind [] = []
-one_by_one flow kind (r ∷ rs) = timed_at_some (send_stamp_of_kind flow kind r.at) (recs_for_one kind r.rec) ++ one_by_one flow kind rs
+one_by_one flow kind rs =
+    flat_map (λ r. timed_at_some (send_stamp_of_kind flow kind r.at) (recs_for_one kind r.rec)) rs
 
 -- whether the same rec is there at the same stamp
 abbrev pub is_among_timed : Timed → List Timed → Bool
-is_among_timed r [] = false
-is_among_timed r (x ∷ xs) = is_eq (timed_cmp r x) || is_among_timed r xs
+is_among_timed r xs = list_any (λ x. is_eq (timed_cmp r x)) xs
 
 -- each rec once at each stamp
 abbrev pub distinct_timed : List Timed → List Timed
@@ -72,8 +70,7 @@ distinct_timed (r ∷ rs) = if is_among_timed r rs then distinct_timed rs else r
 
 -- each rec of the first bag with each of the second of its stamp and key
 abbrev pub joined_timed : List Timed → List Timed → List Timed
-joined_timed [] ys = []
-joined_timed (r ∷ rs) ys = timed r.at (joined r.rec (recs_where (same r.at) ys)) ++ joined_timed rs ys
+joined_timed xs ys = flat_map (λ r. timed r.at (joined r.rec (recs_where (same r.at) ys))) xs
 
 -- the joins of the bags of two in-edges
 abbrev pub joined_bags : List (List Timed) → List Timed
@@ -82,8 +79,7 @@ joined_bags bags = []
 
 -- whether the stamp is among those of the recs
 abbrev pub has_stamp : Stamp → List Timed → Bool
-has_stamp t [] = false
-has_stamp t (r ∷ rs) = same r.at t || has_stamp t rs
+has_stamp t rs = list_any (λ r. same r.at t) rs
 
 -- the stamps of the recs, each once
 abbrev pub distinct_stamps : List Timed → List Stamp
@@ -92,30 +88,26 @@ distinct_stamps (r ∷ rs) = if has_stamp r.at rs then distinct_stamps rs else r
 
 -- at each of these stamps the sum of the values of each key that is there
 abbrev pub sums_at : List Stamp → List Timed → List Timed
-sums_at [] rs = []
-sums_at (t ∷ ts) rs = timed t (sums_of (distinct_keys (recs_where (same t) rs)) (recs_where (same t) rs)) ++ sums_at ts rs
+sums_at ts rs = flat_map (λ t. timed t (sums_of (distinct_keys (recs_where (same t) rs)) (recs_where (same t) rs))) ts
 
 -- at each of these stamps, for each key that is there, the sum of its values up to it
 abbrev pub totals_at : List Stamp → List Timed → List Timed
-totals_at [] rs = []
-totals_at (t ∷ ts) rs =
-    timed t (sums_of (distinct_keys (recs_where (same t) rs)) (recs_where (λ s. leq s t) rs)) ++ totals_at ts rs
+totals_at ts rs =
+    flat_map (λ t. timed t (sums_of (distinct_keys (recs_where (same t) rs)) (recs_where (λ s. leq s t) rs))) ts
 
 -- the recs at the numbers from n on, none past the greatest number
 abbrev pub numbered : ℕ → List Timed → List Timed
 numbered n [] = []
 numbered n (r ∷ rs) = if nat_le n greatest_number then record { at = n ∷ []; rec = r.rec } ∷ numbered (n + 1) rs else []
 
--- for each of these recs the running total of its key among all of them
-abbrev pub running_totals : List Timed → List Timed → List Timed
-running_totals [] all = []
-running_totals (r ∷ rs) all =
-    record { at = r.at; rec = record { key = r.rec.key; value = value_sum r.rec.key (recs_where (λ s. leq s r.at) all) } } ∷ running_totals rs all
+-- for each of the recs the running total of its key
+abbrev pub running_totals : List Timed → List Timed
+running_totals rs =
+    map (λ r. record { at = r.at; rec = record { key = r.rec.key; value = value_sum r.rec.key (recs_where (λ s. leq s r.at) rs) } }) rs
 
 -- the bags one after another
 abbrev pub together : List (List Timed) → List Timed
-together [] = []
-together (xs ∷ bags) = xs ++ together bags
+together bags = flat_map (λ xs. xs) bags
 
 -- what a node of the kind sends in all, from the whole bags on its in-edges
 abbrev pub outputs_of_kind : Dataflow → Kind → List (List Rec) → List (List Timed) → List Timed
@@ -127,7 +119,7 @@ outputs_of_kind flow (Join within) batches bags = joined_bags bags
 outputs_of_kind flow (Sum within) batches bags = sums_at (distinct_stamps (together bags)) (together bags)
 outputs_of_kind flow Total batches bags = totals_at (distinct_stamps (together bags)) (together bags)
 outputs_of_kind flow Sequence batches bags = numbered 0 (in_order (together bags))
-outputs_of_kind flow Ledger batches bags = running_totals (together bags) (together bags)
+outputs_of_kind flow Ledger batches bags = running_totals (together bags)
 outputs_of_kind flow kind batches bags = one_by_one flow kind (together bags)
 
 -- what node p sends in all, as a bag in order, where these are the whole bags on the edges

@@ -1,5 +1,6 @@
 -- Restore candidates, and which choice of them is consistent and which is largest.
-use Rattle.std.specs.Prelude.{◌≡◌, ◌⊎◌, ℕ, ◌<◌, ◌≤◌, Bool, true, false, not, ◌&&◌, ◌||◌, ◌==◌, if◌then◌else◌, List, [], ◌∷◌, ◌++◌, length, slice_index_or}
+use Rattle.std.specs.Prelude.{◌≡◌, ◌⊎◌, ℕ, ◌<◌, ◌≤◌, Bool, true, false, not, ◌==◌, if◌then◌else◌, List, [], ◌∷◌, length, slice_index_or, map, filter, None}
+use Rattle.std.specs.List.{flat_map}
 use Rattle.fw_time.specs.Stamp.{Stamp}
 use Rattle.fw_frontier.specs.Frontier.{Frontier, Within, nothing, everything, cover}
 use Rattle.fw_frontier.specs.Front.{Front, inside, frontier_of, IsCanonical}
@@ -12,9 +13,9 @@ use Rattle.fw_flow.specs.declared.kind.Kind.{Kind}
 use Rattle.fw_flow.specs.declared.kind.Kind.TheVariants.{Input, OutputEpoch, OutputNumber}
 use Rattle.fw_flow.specs.declared.kind.Policy.{Policy}
 use Rattle.fw_flow.specs.declared.kind.Policy.TheVariants as policy
-use Rattle.fw_flow.specs.Dataflow.{System, Dataflow, kind_of, policy_of, sender, receiver, bounds_of, is_notified_kind}
-use Rattle.fw_flow.specs.NodeFunction.{place, stamp, sent_by}
-use Rattle.fw_flow.specs.Projection.{events_at, all_inside, phi, psi}
+use Rattle.fw_flow.specs.Dataflow.{System, kind_of, policy_of, sender, receiver, bounds_of, is_notified_kind}
+use Rattle.fw_flow.specs.NodeFunction.{place, stamp}
+use Rattle.fw_flow.specs.Projection.{all_inside, phi, psi}
 use Rattle.fw_model.specs.History.{delivered, sent, injected_count, is_exhausted}
 use Rattle.fw_model.specs.Machine.{Machine, Numbered, Write, Written, checkpoint, logged_event, Progress, in_flight, acknowledged, collected, events, no_stamps, front_of, bound_of}
 
@@ -121,20 +122,21 @@ IsCandidate sys state lost view p (At f) =
 
 -- the stamps of these messages that are inside
 abbrev pub stamps_inside : Frontier → List Message → List Stamp
-stamps_inside f [] = []
-stamps_inside f (m ∷ ms) = if f m.at then m.at ∷ stamps_inside f ms else stamps_inside f ms
+stamps_inside f ms = filter f (map (λ m. m.at) ms)
 
 -- the stamps of the messages all of whose causes are inside
 abbrev pub stamps_from : Frontier → List Message → List Stamp
-stamps_from f [] = []
-stamps_from f (m ∷ ms) = if all_inside f m.causes then m.at ∷ stamps_from f ms else stamps_from f ms
+stamps_from f ms = map (λ m. m.at) (filter (λ m. all_inside f m.causes) ms)
+
+-- the stamp of which an event notified node p, if it did
+abbrev pub stamp_of_notice : ℕ → Event → List Stamp
+stamp_of_notice p (Inject s x) = []
+stamp_of_notice p (Deliver e m) = []
+stamp_of_notice p (Notify q t) = if q == p then t ∷ [] else []
 
 -- the stamps inside of which node p was notified
 abbrev pub notified_inside : ℕ → Frontier → List Event → List Stamp
-notified_inside p f [] = []
-notified_inside p f (Inject s x ∷ h) = notified_inside p f h
-notified_inside p f (Deliver e m ∷ h) = notified_inside p f h
-notified_inside p f (Notify q t ∷ h) = if q == p && f t then t ∷ notified_inside p f h else notified_inside p f h
+notified_inside p f h = filter f (flat_map (stamp_of_notice p) h)
 
 -- the set of a cut: all where the node stays as it is
 abbrev pub set_of : System → ℕ → Cut → Frontier
@@ -205,8 +207,9 @@ note_of sys choice p = frontier_of (bounds_of sys.flow p) (front_of choice.notes
 abbrev pub kept_of : System → Choice → ℕ → Frontier
 kept_of sys choice p = set_of sys p (cut_of choice p)
 
--- A choice from what is offered is consistent: on each edge the sender keeps what the receiver has from it, and the
--- receiver keeps what the sender cannot send again; and what stood before a notification that is kept stays.
+-- A choice from what is offered is consistent. On each edge what was delivered inside the receiver's cut comes from what
+-- the sender keeps, and what the sender cannot send again lies in what the receiver keeps. What a node was notified of
+-- inside its cut lies in its notification frontier, which lies in what it keeps and comes from the sender's.
 pub record IsConsistent (sys : System) (state : Machine) (offers : ℕ → Cut → Type 0) (choice : Choice) : Type 0 where
   pub one_cut_each : length choice.cuts ≡ length sys.flow.nodes
   pub one_note_each : length choice.notes ≡ length sys.flow.nodes
@@ -239,6 +242,12 @@ pub record IsLargest (sys : System) (state : Machine) (offers : ℕ → Cut → 
 
 -- the history without the events outside the cut of their node
 abbrev pub filtered : System → Choice → List Numbered → List Numbered
-filtered sys choice [] = []
-filtered sys choice (v ∷ h) =
-    if kept_of sys choice (place sys.flow v.event) (stamp v.event) then v ∷ filtered sys choice h else filtered sys choice h
+filtered sys choice h = filter (λ v. kept_of sys choice (place sys.flow v.event) (stamp v.event)) h
+
+-- what is offered where every node counts as failed: what acknowledged writes alone carry
+abbrev pub offers_of_writes : System → Machine → ℕ → Cut → Type 0
+offers_of_writes sys state = IsCandidate sys state (λ p. true) kept
+
+-- the low watermark: the largest choice where every node counts as failed
+abbrev pub IsWatermark : System → Machine → Choice → Type 0
+IsWatermark sys state choice = IsLargest sys state (offers_of_writes sys state) choice

@@ -1,5 +1,7 @@
 -- The machine without failures: a history of events, the latest first, and which event may come next.
-use Rattle.std.specs.Prelude.{◌≡◌, ℕ, ◌+◌, ◌<◌, Bool, true, false, not, ◌&&◌, ◌||◌, ◌==◌, nat_lt, if◌then◌else◌, List, [], ◌∷◌, length}
+use Rattle.std.specs.Prelude.{◌≡◌, ℕ, ◌<◌, Bool, true, false, not, ◌&&◌, ◌||◌, ◌==◌, nat_lt, if◌then◌else◌, List, [], ◌∷◌, length}
+use Rattle.fw_flow.specs.Counting.{how_many}
+use Rattle.std.specs.List.{flat_map, list_any}
 use Rattle.std.specs.Ordering.{is_eq, ordering_then}
 use Rattle.std.specs.Cmp.Lexicographic.{slice_cmp}
 use Rattle.std.specs.declared.cmp.Ordering.{Ordering}
@@ -10,7 +12,7 @@ use Rattle.fw_flow.specs.declared.event.Event.{Event}
 use Rattle.fw_flow.specs.declared.event.Event.TheVariants.{Inject, Deliver, Notify}
 use Rattle.fw_flow.specs.declared.event.Message.{Message}
 use Rattle.fw_flow.specs.Dataflow.{System, Dataflow, kind_of, sender, receiver, bounds_of, is_notified_kind, is_input_kind, is_numbered, batches_of}
-use Rattle.fw_flow.specs.NodeFunction.{place, sent_by}
+use Rattle.fw_flow.specs.NodeFunction.{sent_by}
 use Rattle.fw_flow.specs.Projection.{events_at, phi, number_of}
 
 -- messages are ordered by stamp, rec and causes
@@ -19,8 +21,7 @@ message_cmp a b = ordering_then (stamp_cmp a.at b.at) (ordering_then (rec_cmp a.
 
 -- whether the message is among these
 abbrev pub is_among : Message → List Message → Bool
-is_among m [] = false
-is_among m (x ∷ xs) = is_eq (message_cmp m x) || is_among m xs
+is_among m xs = list_any (λ x. is_eq (message_cmp m x)) xs
 
 -- the messages without the first that is this one
 abbrev pub without : Message → List Message → List Message
@@ -34,49 +35,60 @@ less ms (d ∷ ds) = without d (less ms ds)
 
 -- whether one of the messages is at a stamp that passes the test
 abbrev pub some_at : (Stamp → Bool) → List Message → Bool
-some_at test [] = false
-some_at test (m ∷ ms) = test m.at || some_at test ms
+some_at test ms = list_any (λ m. test m.at) ms
 
 -- what the events of a history sent on an edge
 abbrev pub sent : System → List Event → ℕ → List Message
 sent sys h e = sent_by sys (sender sys.flow e) (events_at sys.flow (sender sys.flow e) h)
 
+-- the message that an event delivered on edge e, if it did
+abbrev pub message_on : ℕ → Event → List Message
+message_on e (Inject s x) = []
+message_on e (Deliver d m) = if d == e then m ∷ [] else []
+message_on e (Notify p t) = []
+
 -- what was delivered on an edge
 abbrev pub delivered : List Event → ℕ → List Message
-delivered [] e = []
-delivered (Inject s x ∷ h) e = delivered h e
-delivered (Deliver d m ∷ h) e = if d == e then m ∷ delivered h e else delivered h e
-delivered (Notify p t ∷ h) e = delivered h e
+delivered h e = flat_map (message_on e) h
 
 -- what is pending on an edge: what was sent less what was delivered
 abbrev pub pending : System → List Event → ℕ → List Message
 pending sys h e = less (sent sys h e) (delivered h e)
 
+-- whether an event is a delivery to node p at stamp t
+abbrev pub is_delivery_to : Dataflow → ℕ → Stamp → Event → Bool
+is_delivery_to flow p t (Inject s x) = false
+is_delivery_to flow p t (Deliver e m) = receiver flow e == p && same m.at t
+is_delivery_to flow p t (Notify q s) = false
+
+-- whether an event is a notification of node p of stamp t
+abbrev pub is_notification : ℕ → Stamp → Event → Bool
+is_notification p t (Inject s x) = false
+is_notification p t (Deliver e m) = false
+is_notification p t (Notify q s) = q == p && same s t
+
 -- whether a message was delivered to node p at stamp t
 abbrev pub was_delivered_to : Dataflow → ℕ → Stamp → List Event → Bool
-was_delivered_to flow p t [] = false
-was_delivered_to flow p t (Inject s x ∷ h) = was_delivered_to flow p t h
-was_delivered_to flow p t (Deliver e m ∷ h) = (receiver flow e == p && same m.at t) || was_delivered_to flow p t h
-was_delivered_to flow p t (Notify q s ∷ h) = was_delivered_to flow p t h
+was_delivered_to flow p t h = list_any (is_delivery_to flow p t) h
 
 -- whether node p was notified of stamp t
 abbrev pub was_notified : ℕ → Stamp → List Event → Bool
-was_notified p t [] = false
-was_notified p t (Inject s x ∷ h) = was_notified p t h
-was_notified p t (Deliver e m ∷ h) = was_notified p t h
-was_notified p t (Notify q s ∷ h) = (q == p && same s t) || was_notified p t h
+was_notified p t h = list_any (is_notification p t) h
 
 -- whether node p is owed a notification of stamp t: its kind waits for it, a message came at t, and it was not notified
 abbrev pub owed : System → List Event → ℕ → Stamp → Bool
 owed sys h p t =
     is_notified_kind (kind_of sys.flow p) && was_delivered_to sys.flow p t h && not (was_notified p t h)
 
+-- whether an event is an injection of source s
+abbrev pub is_injection : ℕ → Event → Bool
+is_injection s (Inject q x) = q == s
+is_injection s (Deliver e m) = false
+is_injection s (Notify p t) = false
+
 -- how many batches of source s were injected
 abbrev pub injected_count : ℕ → List Event → ℕ
-injected_count s [] = 0
-injected_count s (Inject q x ∷ h) = if q == s then injected_count s h + 1 else injected_count s h
-injected_count s (Deliver e m ∷ h) = injected_count s h
-injected_count s (Notify p t ∷ h) = injected_count s h
+injected_count s h = how_many (is_injection s) h
 
 -- whether each batch of source s was injected
 abbrev pub is_exhausted : System → List Event → ℕ → Bool

@@ -1,7 +1,6 @@
 -- The state of the event-list machine.
 use Rattle.std.specs.Prelude.{ℕ, Bool, false, List, [], ◌∷◌, map, length, slice_index_or}
 use Rattle.std.specs.List.{range_with_len}
-use Rattle.fw_time.specs.Stamp.{Stamp}
 use Rattle.fw_time.specs.declared.stamp.Bounds.{Bounds}
 use Rattle.fw_frontier.specs.Front.{Front}
 use Rattle.fw_flow.specs.declared.event.Event.{Event}

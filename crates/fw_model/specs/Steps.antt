@@ -1,5 +1,6 @@
 -- The steps of the event-list machine: when each is enabled, to which state it leads, and what it shows.
-use Rattle.std.specs.Prelude.{◌≡◌, ◌≢◌, ◌⊎◌, ℕ, ◌+◌, ◌<◌, Bool, true, false, not, ◌&&◌, ◌||◌, ◌==◌, nat_lt, nat_le, if◌then◌else◌, List, [], ◌∷◌, ◌++◌, map, length, Option, Some, None, slice_index_or, slice_set}
+use Rattle.std.specs.Prelude.{◌≡◌, ◌≢◌, ◌⊎◌, ℕ, ◌+◌, ◌<◌, Bool, true, false, not, ◌&&◌, ◌||◌, ◌==◌, if◌then◌else◌, List, [], ◌∷◌, ◌++◌, map, length, Option, Some, None, slice_set, filter}
+use Rattle.std.specs.List.{list_any, list_all, flat_map, range_with_len}
 use Rattle.std.specs.Ordering.{is_gt, is_eq}
 use Rattle.std.specs.Cmp.Lexicographic.{slice_cmp}
 use Rattle.fw_time.specs.Stamp.{Stamp, leq, same, stamp_cmp}
@@ -13,17 +14,17 @@ use Rattle.fw_flow.specs.declared.event.Event.{Event}
 use Rattle.fw_flow.specs.declared.event.Event.TheVariants.{Inject as Injected, Deliver as Delivered, Notify as Notified}
 use Rattle.fw_flow.specs.declared.event.Message.{Message}
 use Rattle.fw_flow.specs.declared.kind.Kind.{Kind}
-use Rattle.fw_flow.specs.declared.kind.Kind.TheVariants.{OutputEpoch, OutputNumber}
+use Rattle.fw_flow.specs.declared.kind.Kind.TheVariants.{OutputNumber}
 use Rattle.fw_flow.specs.declared.kind.Policy.{Policy}
 use Rattle.fw_flow.specs.declared.kind.Policy.TheVariants as policy
 use Rattle.fw_flow.specs.declared.step.Step.{Step}
 use Rattle.fw_flow.specs.declared.step.Step.TheVariants.{Inject, Deliver, Notify, Progress as ProgressStep, Checkpoint, Persist, Fail, Recover, Collect, Ack}
-use Rattle.fw_flow.specs.Dataflow.{System, Dataflow, kind_of, policy_of, sender, receiver, out_edges, bounds_of, send_stamp, is_output_kind, batches_of}
+use Rattle.fw_flow.specs.Dataflow.{System, kind_of, policy_of, receiver, out_edges, bounds_of, send_stamp, is_output_kind}
 use Rattle.fw_flow.specs.WellFormed.{may_keep_nothing}
 use Rattle.fw_flow.specs.NodeFunction.{place, stamp, delivered_recs}
-use Rattle.fw_model.specs.History.{IsEnabled, IsComplete, message_cmp, injected_count}
+use Rattle.fw_model.specs.History.{IsEnabled, IsComplete, message_cmp}
 use Rattle.fw_model.specs.Machine.{Machine, Numbered, Write, Written, checkpoint, logged_event, Progress, in_flight, acknowledged, collected, events, no_stamps, places, front_of, is_failed, bound_of}
-use Rattle.fw_model.specs.Choice.{Choice, View, kept, cut_of, set_of, filtered, IsCandidate, IsLargest}
+use Rattle.fw_model.specs.Choice.{Choice, kept, cut_of, filtered, IsCandidate, IsLargest, IsWatermark}
 
 -- what a step shows
 pub data Effect : Type 0 where
@@ -68,14 +69,13 @@ pub record IsNextNotice (sys : System) (h : List Event) (p : ℕ) (at : Option S
   pub asked : IsAsked at t
   pub least : (other : Stamp) → IsEnabled sys h (Notified p other) → IsAsked at other → is_gt (stamp_cmp t other) ≡ false
 
--- whether the frontiers have one list of outside stamps
+-- whether the frontiers have one list of outside stamps: for canonical fronts of one domain, whether they are one
 abbrev pub same_front : Front → Front → Bool
 same_front f g = is_eq (slice_cmp stamp_cmp f g)
 
--- whether each outside stamp of f is outside g, so that g lies within f
+-- whether each outside stamp of f is outside g: for canonical fronts of one domain, whether g lies within f
 abbrev pub is_within : Front → Front → Bool
-is_within g [] = true
-is_within g (o ∷ os) = not (inside g o) && is_within g os
+is_within g f = list_all (λ o. not (inside g o)) f
 
 -- the checkpoint that node p asks of f
 abbrev pub checkpoint_of : Machine → ℕ → Front → Write
@@ -88,11 +88,9 @@ is_eager other = false
 
 -- the checkpoints that the eager ones of these nodes ask as they grow to what is settled now
 abbrev pub eager_writes : System → Machine → List Front → List ℕ → List Write
-eager_writes sys state settled [] = []
-eager_writes sys state settled (p ∷ ps) =
-    if is_eager (policy_of sys.flow p) && not (same_front (front_of state.settled p) (front_of settled p))
-    then checkpoint_of state p (front_of settled p) ∷ eager_writes sys state settled ps
-    else eager_writes sys state settled ps
+eager_writes sys state settled ps =
+    map (λ p. checkpoint_of state p (front_of settled p))
+    (filter (λ p. is_eager (policy_of sys.flow p) && not (same_front (front_of state.settled p) (front_of settled p))) ps)
 
 -- Settled grows to what is complete at each node that is not failed, and grows somewhere.
 pub record GrowsTo (sys : System) (state : Machine) (done : ℕ → Frontier) (settled : List Front) : Type 0 where
@@ -110,56 +108,54 @@ is_asked_for_checkpoints policy.Lazy = true
 is_asked_for_checkpoints policy.Logged = true
 is_asked_for_checkpoints other = false
 
--- the frontier of the newest checkpoint of node p among these writes, which come in order of asking; else the given one
+-- the frontier that a write holds, if it is a checkpoint
+abbrev pub checkpoint_front : Written → List Front
+checkpoint_front (checkpoint f low) = f ∷ []
+checkpoint_front (logged_event serial) = []
+
+-- the frontiers of node p's checkpoints, in order of asking
+abbrev pub checkpoints_of : ℕ → List Write → List Front
+checkpoints_of p writes = flat_map (λ write. if write.node == p then checkpoint_front write.written else []) writes
+
+-- the last of these, or the given one where there is none
+abbrev pub last_or : Front → List Front → Front
+last_or f [] = f
+last_or f (g ∷ gs) = last_or g gs
+
+-- the frontier of the newest checkpoint of node p, or the given one where it has none
 abbrev pub newest_checkpoint : ℕ → Front → List Write → Front
-newest_checkpoint p f [] = f
-newest_checkpoint p f (write ∷ writes) = newest_checkpoint p (newer write.written) writes
-  where
-    newer : Written → Front
-    newer (checkpoint g low) = if write.node == p then g else f
-    newer (logged_event serial) = f
-
--- the writes with one more before them, if there are some
-abbrev pub with_first : Write → Option (List Write) → Option (List Write)
-with_first write None = None
-with_first write (Some writes) = Some (write ∷ writes)
-
--- the first write acknowledged, if it is in flight, and else the later ones as given
-abbrev pub acknowledge_first : Write → List Write → Progress → Option (List Write) → Option (List Write)
-acknowledge_first write writes in_flight later = Some (record write { progress = acknowledged } ∷ writes)
-acknowledge_first write writes acknowledged later = with_first write later
-acknowledge_first write writes collected later = with_first write later
-
--- the writes after the oldest that is in flight is acknowledged; none where none is in flight
-abbrev pub oldest_acknowledged : List Write → Option (List Write)
-oldest_acknowledged [] = None
-oldest_acknowledged (write ∷ writes) = acknowledge_first write writes write.progress (oldest_acknowledged writes)
-
--- whether the place is among these
-abbrev pub is_one_of : ℕ → List ℕ → Bool
-is_one_of p [] = false
-is_one_of p (q ∷ qs) = p == q || is_one_of p qs
+newest_checkpoint p f writes = last_or f (checkpoints_of p writes)
 
 -- whether a write is in flight
 abbrev pub is_in_flight : Progress → Bool
 is_in_flight in_flight = true
 is_in_flight other = false
 
+-- The oldest write in flight is acknowledged: those before it are not in flight, and all else stays.
+pub record AcknowledgesOldest (writes next : List Write) : Type 0 where
+  pub earlier : List Write
+  pub oldest : Write
+  pub later : List Write
+  pub before : writes ≡ earlier ++ oldest ∷ later
+  pub in_flight : is_in_flight oldest.progress ≡ true
+  pub none_earlier : list_any (λ write. is_in_flight write.progress) earlier ≡ false
+  pub after : next ≡ earlier ++ record oldest { progress = acknowledged } ∷ later
+
+-- whether the place is among these
+abbrev pub is_one_of : ℕ → List ℕ → Bool
+is_one_of p qs = list_any (λ q. p == q) qs
+
 -- the writes without those in flight of these nodes
 abbrev pub without_lost : List ℕ → List Write → List Write
-without_lost ps [] = []
-without_lost ps (write ∷ writes) =
-    if is_one_of write.node ps && is_in_flight write.progress then without_lost ps writes else write ∷ without_lost ps writes
+without_lost ps writes = filter (λ write. not (is_one_of write.node ps && is_in_flight write.progress)) writes
 
--- the failed nodes, from the place n on, and these
-abbrev pub with_failed : ℕ → List ℕ → List Bool → List Bool
-with_failed n ps [] = []
-with_failed n ps (b ∷ bs) = (b || is_one_of n ps) ∷ with_failed (n + 1) ps bs
+-- for each node whether it is failed once these are
+abbrev pub with_failed : System → Machine → List ℕ → List Bool
+with_failed sys state ps = map (λ p. is_failed state p || is_one_of p ps) (places sys.flow)
 
 -- whether an event of this serial is in the history
 abbrev pub has_serial : ℕ → List Numbered → Bool
-has_serial serial [] = false
-has_serial serial (v ∷ h) = v.serial == serial || has_serial serial h
+has_serial serial h = list_any (λ v. v.serial == serial) h
 
 -- whether a write lies within the cut of its node, where this is the filtered history
 abbrev pub is_kept_write : Cut → Written → List Numbered → Bool
@@ -169,9 +165,7 @@ is_kept_write (At f) (logged_event serial) h = has_serial serial h
 
 -- the writes that lie within the cuts of their nodes
 abbrev pub kept_writes : Choice → List Numbered → List Write → List Write
-kept_writes choice h [] = []
-kept_writes choice h (write ∷ writes) =
-    if is_kept_write (cut_of choice write.node) write.written h then write ∷ kept_writes choice h writes else kept_writes choice h writes
+kept_writes choice h writes = filter (λ write. is_kept_write (cut_of choice write.node) write.written h) writes
 
 -- Settled is cut at each node to its cut.
 abbrev pub IsSettledCut : System → ℕ → Cut → Front → Front → Type 0
@@ -198,14 +192,15 @@ abbrev pub front_of_cut : Cut → Front
 front_of_cut Present = []
 front_of_cut (At f) = f
 
--- whether each stamp at which an event at t sends lies inside the receiver's frontier
+-- whether the stamp is inside, if there is one
+abbrev pub inside_if_some : Frontier → Option Stamp → Bool
+inside_if_some f None = true
+inside_if_some f (Some u) = f u
+
+-- whether the stamp at which an event at t sends, if there is one, lies inside the frontier of each edge's receiver
 abbrev pub sends_inside : System → List Front → ℕ → Stamp → List ℕ → Bool
-sends_inside sys low p t [] = true
-sends_inside sys low p t (e ∷ es) = inside_if_some (send_stamp sys.flow p t) && sends_inside sys low p t es
-  where
-    inside_if_some : Option Stamp → Bool
-    inside_if_some None = true
-    inside_if_some (Some u) = frontier_of (bounds_of sys.flow (receiver sys.flow e)) (front_of low (receiver sys.flow e)) u
+sends_inside sys low p t es =
+    list_all (λ e. inside_if_some (frontier_of (bounds_of sys.flow (receiver sys.flow e)) (front_of low (receiver sys.flow e))) (send_stamp sys.flow p t)) es
 
 -- Whether the logged events of node p at stamp t are given up: its kind may keep nothing, the stamp lies below the node's
 -- watermark, and what it sends from there lies below the receivers'.
@@ -216,9 +211,8 @@ is_given_up sys low p t =
 
 -- whether an event of this serial in the history is given up
 abbrev pub is_serial_given_up : System → List Front → ℕ → List Numbered → Bool
-is_serial_given_up sys low serial [] = false
-is_serial_given_up sys low serial (v ∷ h) =
-    (v.serial == serial && is_given_up sys low (place sys.flow v.event) (stamp v.event)) || is_serial_given_up sys low serial h
+is_serial_given_up sys low serial h =
+    list_any (λ v. v.serial == serial && is_given_up sys low (place sys.flow v.event) (stamp v.event)) h
 
 -- whether what a write of node p holds lies below the watermark, so that it is not needed again
 abbrev pub is_below : System → List Front → List Numbered → ℕ → Written → Bool
@@ -233,9 +227,8 @@ after_collection below collected = collected
 
 -- the writes with those below the watermark collected
 abbrev pub collected_writes : System → List Front → List Numbered → List Write → List Write
-collected_writes sys low h [] = []
-collected_writes sys low h (write ∷ writes) =
-    record write { progress = after_collection (is_below sys low h write.node write.written) write.progress } ∷ collected_writes sys low h writes
+collected_writes sys low h writes =
+    map (λ (write : Write). record write { progress = after_collection (is_below sys low h write.node write.written) write.progress }) writes
 
 -- some number of batches of a source is above x
 abbrev pub HasEpoch : List (List (List Rec)) → ℕ → Type 0
@@ -254,6 +247,7 @@ IsThere sys h kind o x = HasEpoch sys.batches x ⊎ HasDelivery sys h o (leq (x 
 
 -- output o may acknowledge x: it is not failed, x is its next stamp and settled, and there is something
 pub record MayAcknowledge (sys : System) (state : Machine) (o x : ℕ) : Type 0 where
+  pub declared : o < length sys.flow.nodes
   pub output : is_output_kind (kind_of sys.flow o) ≡ true
   pub live : is_failed state o ≡ false
   pub next : x ≡ bound_of state o
@@ -268,10 +262,6 @@ recs_at_output sys state o x =
 -- what the machine offers in a recovery
 abbrev pub offers : System → Machine → ℕ → Cut → Type 0
 offers sys state = IsCandidate sys state (is_failed state) kept
-
--- what it offers where every node counts as failed: what a collection rests on
-abbrev pub offers_of_writes : System → Machine → ℕ → Cut → Type 0
-offers_of_writes sys state = IsCandidate sys state (λ p. true) kept
 
 -- From a state the step is enabled and leads to the next state with this effect.
 abbrev pub Takes : System → Machine → Step → Machine → Effect → Type 0
@@ -292,17 +282,17 @@ Takes sys state (Checkpoint p) next effect =
     × (front_of state.settled p ≢ newest_checkpoint p (no_stamps (bounds_of sys.flow p)) state.writes)
     × (next ≡ record state { writes = state.writes ++ checkpoint_of state p (front_of state.settled p) ∷ [] }) × (effect ≡ quiet)
 Takes sys state Persist next effect =
-    (writes : List Write) × (oldest_acknowledged state.writes ≡ Some writes)
+    (writes : List Write) × AcknowledgesOldest state.writes writes
     × (next ≡ record state { writes = writes }) × (effect ≡ quiet)
 Takes sys state (Fail ps) next effect =
     (p : ℕ) × (p < length sys.flow.nodes) × (is_one_of p ps ≡ true) × (is_failed state p ≡ false)
-    × (next ≡ record state { failed = with_failed 0 ps state.failed; writes = without_lost ps state.writes }) × (effect ≡ quiet)
+    × (next ≡ record state { failed = with_failed sys state ps; writes = without_lost ps state.writes }) × (effect ≡ quiet)
 Takes sys state Recover next effect =
     (p : ℕ) × (choice : Choice) × (settled : List Front) × (p < length sys.flow.nodes) × (is_failed state p ≡ true)
     × IsLargest sys state (offers sys state) choice × CutsTo sys state choice settled
     × (next ≡ recovered sys state choice settled) × (effect ≡ cuts choice)
 Takes sys state Collect next effect =
-    (choice : Choice) × IsLargest sys state (offers_of_writes sys state) choice
+    (choice : Choice) × IsWatermark sys state choice
     × (map front_of_cut choice.cuts ≢ state.low)
     × (next ≡ record state {
       low = map front_of_cut choice.cuts;
@@ -326,3 +316,16 @@ Run sys state [] (outcome ∷ outcomes) last = ⊥
 Run sys state (step ∷ steps) [] last = ⊥
 Run sys state (step ∷ steps) (outcome ∷ outcomes) last =
     (next : Machine) × Steps sys state step next outcome × Run sys next steps outcomes last
+
+-- the steps of which `auto` takes the first that is enabled, in this order
+abbrev pub auto_steps : System → List Step
+auto_steps sys =
+    Persist ∷ map (λ e. Deliver e None) (range_with_len 0 (length sys.flow.edges)) ++ map (λ p. Notify p None) (places sys.flow)
+    ++ ProgressStep ∷ map Ack (places sys.flow) ++ map Inject (places sys.flow)
+
+-- One step of `auto`: the first of these that is enabled, those before it being idle; idle where none is enabled.
+abbrev pub TakesFirst : System → Machine → List Step → Machine → Outcome → Type 0
+TakesFirst sys state [] next outcome = (outcome ≡ idle) × (next ≡ state)
+TakesFirst sys state (step ∷ steps) next outcome =
+    ((effect : Effect) × Takes sys state step next effect × (outcome ≡ did effect))
+    ⊎ (Steps sys state step state idle × TakesFirst sys state steps next outcome)

@@ -1,0 +1,5 @@
+//! Theorems that show by worked examples that the definitions of dataflows, histories and choices mean what they should.
+#![tactic(auto)]
+
+mod loop_counts_up;
+mod projections;

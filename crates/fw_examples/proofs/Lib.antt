@@ -1,1 +1,3 @@
 pub mod Projecting
+pub mod Rounds
+pub mod Walks

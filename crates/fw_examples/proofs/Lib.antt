@@ -1,3 +1,4 @@
+pub mod Legal
 pub mod Projecting
 pub mod Rounds
 pub mod Walks

@@ -1,3 +1,4 @@
 pub mod Flows
 pub mod LoopCountsUp
 pub mod Projections
+pub mod UnderWay

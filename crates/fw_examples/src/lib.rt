@@ -3,3 +3,4 @@
 
 mod loop_counts_up;
 mod projections;
+mod under_way;

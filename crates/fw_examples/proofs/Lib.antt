@@ -1,4 +1,6 @@
+pub mod Complete
 pub mod Legal
+pub mod Orders
 pub mod Projecting
 pub mod Rounds
 pub mod Walks

@@ -5,7 +5,7 @@ use Rattle.fw_time.specs.Stamp.{Stamp, in_domain}
 use Rattle.fw_frontier.specs.Front.{IsLeastBefore, IsCanonical}
 use Rattle.fw_flow.specs.Dataflow.{kind_of, sender, receiver, bounds_of, max_of}
 use Rattle.fw_flow.specs.Projection.{phi, psi}
-use Rattle.fw_examples.specs.Flows.{one_batch, no_batches}
+use Rattle.fw_examples.specs.Flows.{two_batches, no_batches}
 use Rattle.fw_examples.specs.Projections.{PhiTakes, PsiTakes, fed_back_edge, entered_edge, left_edge, regrouped_edge}
 
 -- two tests behind a domain of two coordinates are one where they are one at its stamps
@@ -25,126 +25,126 @@ in_one m f g h [] = refl
 in_one m f g h (x ∷ []) = grind (arith, nat_tests, h x)
 in_one m f g h (x ∷ y ∷ t) = grind (arith, nat_tests)
 
-pub feedback_phi_of_some : PhiTakes one_batch fed_back_edge ((0 ∷ 2 ∷ []) ∷ (1 ∷ 0 ∷ []) ∷ []) ((0 ∷ 3 ∷ []) ∷ (1 ∷ 1 ∷ []) ∷ [])
+pub feedback_phi_of_some : PhiTakes two_batches fed_back_edge ((0 ∷ 2 ∷ []) ∷ (1 ∷ 0 ∷ []) ∷ []) ((0 ∷ 3 ∷ []) ∷ (1 ∷ 1 ∷ []) ∷ [])
 unfolding phi kind_of sender receiver bounds_of max_of
 feedback_phi_of_some h = record {
   canonical = (record { in_the_domain = refl; ascending = (refl, tt); incomparable = (refl, tt) }, (record { in_the_domain = refl; ascending = tt; incomparable = tt }, tt));
   same = in_two 4294967295 3 _ _ (λ x y hx hy. grind (arith, nat_tests));
 }
 
-pub feedback_phi_of_all : PhiTakes one_batch fed_back_edge [] []
+pub feedback_phi_of_all : PhiTakes two_batches fed_back_edge [] []
 unfolding phi kind_of sender receiver bounds_of max_of
 feedback_phi_of_all h = record {
   canonical = tt;
   same = in_two 4294967295 3 _ _ (λ x y hx hy. grind (arith, nat_tests));
 }
 
-pub feedback_phi_of_nothing : PhiTakes one_batch fed_back_edge ((0 ∷ 0 ∷ []) ∷ []) ((0 ∷ 1 ∷ []) ∷ [])
+pub feedback_phi_of_nothing : PhiTakes two_batches fed_back_edge ((0 ∷ 0 ∷ []) ∷ []) ((0 ∷ 1 ∷ []) ∷ [])
 unfolding phi kind_of sender receiver bounds_of max_of
 feedback_phi_of_nothing h = record {
   canonical = (record { in_the_domain = refl; ascending = tt; incomparable = tt }, tt);
   same = in_two 4294967295 3 _ _ (λ x y hx hy. grind (arith, nat_tests));
 }
 
-pub feedback_psi_of_some : PsiTakes one_batch fed_back_edge ((0 ∷ 2 ∷ []) ∷ (1 ∷ 0 ∷ []) ∷ []) ((0 ∷ 3 ∷ []) ∷ (1 ∷ 0 ∷ []) ∷ [])
+pub feedback_psi_of_some : PsiTakes two_batches fed_back_edge ((0 ∷ 2 ∷ []) ∷ (1 ∷ 0 ∷ []) ∷ []) ((0 ∷ 3 ∷ []) ∷ (1 ∷ 0 ∷ []) ∷ [])
 unfolding psi kind_of sender receiver bounds_of max_of
 feedback_psi_of_some = record {
   canonical = (record { in_the_domain = refl; ascending = (refl, tt); incomparable = (refl, tt) }, (record { in_the_domain = refl; ascending = tt; incomparable = tt }, tt));
   same = in_two 4294967295 3 _ _ (λ x y hx hy. grind (arith, nat_tests));
 }
 
-pub feedback_psi_of_all : PsiTakes one_batch fed_back_edge [] []
+pub feedback_psi_of_all : PsiTakes two_batches fed_back_edge [] []
 unfolding psi kind_of sender receiver bounds_of max_of
 feedback_psi_of_all = record {
   canonical = tt;
   same = in_two 4294967295 3 _ _ (λ x y hx hy. grind (arith, nat_tests));
 }
 
-pub feedback_psi_of_nothing : PsiTakes one_batch fed_back_edge ((0 ∷ 0 ∷ []) ∷ []) ((0 ∷ 0 ∷ []) ∷ [])
+pub feedback_psi_of_nothing : PsiTakes two_batches fed_back_edge ((0 ∷ 0 ∷ []) ∷ []) ((0 ∷ 0 ∷ []) ∷ [])
 unfolding psi kind_of sender receiver bounds_of max_of
 feedback_psi_of_nothing = record {
   canonical = (record { in_the_domain = refl; ascending = tt; incomparable = tt }, tt);
   same = in_two 4294967295 3 _ _ (λ x y hx hy. grind (arith, nat_tests));
 }
 
-pub enter_phi_of_some : PhiTakes one_batch entered_edge ((2 ∷ []) ∷ []) ((2 ∷ 0 ∷ []) ∷ [])
+pub enter_phi_of_some : PhiTakes two_batches entered_edge ((2 ∷ []) ∷ []) ((2 ∷ 0 ∷ []) ∷ [])
 unfolding phi kind_of sender receiver bounds_of max_of
 enter_phi_of_some h = record {
   canonical = (record { in_the_domain = refl; ascending = tt; incomparable = tt }, tt);
   same = in_two 4294967295 3 _ _ (λ x y hx hy. grind (arith, nat_tests));
 }
 
-pub enter_phi_of_all : PhiTakes one_batch entered_edge [] []
+pub enter_phi_of_all : PhiTakes two_batches entered_edge [] []
 unfolding phi kind_of sender receiver bounds_of max_of
 enter_phi_of_all h = record {
   canonical = tt;
   same = in_two 4294967295 3 _ _ (λ x y hx hy. grind (arith, nat_tests));
 }
 
-pub enter_phi_of_nothing : PhiTakes one_batch entered_edge ((0 ∷ []) ∷ []) ((0 ∷ 0 ∷ []) ∷ [])
+pub enter_phi_of_nothing : PhiTakes two_batches entered_edge ((0 ∷ []) ∷ []) ((0 ∷ 0 ∷ []) ∷ [])
 unfolding phi kind_of sender receiver bounds_of max_of
 enter_phi_of_nothing h = record {
   canonical = (record { in_the_domain = refl; ascending = tt; incomparable = tt }, tt);
   same = in_two 4294967295 3 _ _ (λ x y hx hy. grind (arith, nat_tests));
 }
 
-pub enter_psi_of_some : PsiTakes one_batch entered_edge ((2 ∷ []) ∷ []) ((0 ∷ 1 ∷ []) ∷ (2 ∷ 0 ∷ []) ∷ [])
+pub enter_psi_of_some : PsiTakes two_batches entered_edge ((2 ∷ []) ∷ []) ((0 ∷ 1 ∷ []) ∷ (2 ∷ 0 ∷ []) ∷ [])
 unfolding psi kind_of sender receiver bounds_of max_of
 enter_psi_of_some = record {
   canonical = (record { in_the_domain = refl; ascending = (refl, tt); incomparable = (refl, tt) }, (record { in_the_domain = refl; ascending = tt; incomparable = tt }, tt));
   same = in_two 4294967295 3 _ _ (λ x y hx hy. grind (arith, nat_tests));
 }
 
-pub enter_psi_of_all : PsiTakes one_batch entered_edge [] ((0 ∷ 1 ∷ []) ∷ [])
+pub enter_psi_of_all : PsiTakes two_batches entered_edge [] ((0 ∷ 1 ∷ []) ∷ [])
 unfolding psi kind_of sender receiver bounds_of max_of
 enter_psi_of_all = record {
   canonical = (record { in_the_domain = refl; ascending = tt; incomparable = tt }, tt);
   same = in_two 4294967295 3 _ _ (λ x y hx hy. grind (arith, nat_tests));
 }
 
-pub enter_psi_of_nothing : PsiTakes one_batch entered_edge ((0 ∷ []) ∷ []) ((0 ∷ 0 ∷ []) ∷ [])
+pub enter_psi_of_nothing : PsiTakes two_batches entered_edge ((0 ∷ []) ∷ []) ((0 ∷ 0 ∷ []) ∷ [])
 unfolding psi kind_of sender receiver bounds_of max_of
 enter_psi_of_nothing = record {
   canonical = (record { in_the_domain = refl; ascending = tt; incomparable = tt }, tt);
   same = in_two 4294967295 3 _ _ (λ x y hx hy. grind (arith, nat_tests));
 }
 
-pub leave_phi_of_some : PhiTakes one_batch left_edge ((0 ∷ 3 ∷ []) ∷ (1 ∷ 0 ∷ []) ∷ []) ((0 ∷ []) ∷ [])
+pub leave_phi_of_some : PhiTakes two_batches left_edge ((0 ∷ 3 ∷ []) ∷ (1 ∷ 0 ∷ []) ∷ []) ((0 ∷ []) ∷ [])
 unfolding phi kind_of sender receiver bounds_of max_of
 leave_phi_of_some h = record {
   canonical = (record { in_the_domain = refl; ascending = tt; incomparable = tt }, tt);
   same = in_one 4294967295 _ _ (λ x hx. grind (arith, nat_tests));
 }
 
-pub leave_phi_of_all : PhiTakes one_batch left_edge [] []
+pub leave_phi_of_all : PhiTakes two_batches left_edge [] []
 unfolding phi kind_of sender receiver bounds_of max_of
 leave_phi_of_all h = record {
   canonical = tt;
   same = in_one 4294967295 _ _ (λ x hx. grind (arith, nat_tests));
 }
 
-pub leave_phi_of_nothing : PhiTakes one_batch left_edge ((0 ∷ 0 ∷ []) ∷ []) ((0 ∷ []) ∷ [])
+pub leave_phi_of_nothing : PhiTakes two_batches left_edge ((0 ∷ 0 ∷ []) ∷ []) ((0 ∷ []) ∷ [])
 unfolding phi kind_of sender receiver bounds_of max_of
 leave_phi_of_nothing h = record {
   canonical = (record { in_the_domain = refl; ascending = tt; incomparable = tt }, tt);
   same = in_one 4294967295 _ _ (λ x hx. grind (arith, nat_tests));
 }
 
-pub leave_psi_of_some : PsiTakes one_batch left_edge ((0 ∷ 3 ∷ []) ∷ (1 ∷ 0 ∷ []) ∷ []) ((1 ∷ []) ∷ [])
+pub leave_psi_of_some : PsiTakes two_batches left_edge ((0 ∷ 3 ∷ []) ∷ (1 ∷ 0 ∷ []) ∷ []) ((1 ∷ []) ∷ [])
 unfolding psi kind_of sender receiver bounds_of max_of
 leave_psi_of_some = record {
   canonical = (record { in_the_domain = refl; ascending = tt; incomparable = tt }, tt);
   same = in_one 4294967295 _ _ (λ x hx. grind (arith, nat_tests));
 }
 
-pub leave_psi_of_all : PsiTakes one_batch left_edge [] []
+pub leave_psi_of_all : PsiTakes two_batches left_edge [] []
 unfolding psi kind_of sender receiver bounds_of max_of
 leave_psi_of_all = record {
   canonical = tt;
   same = in_one 4294967295 _ _ (λ x hx. grind (arith, nat_tests));
 }
 
-pub leave_psi_of_nothing : PsiTakes one_batch left_edge ((0 ∷ 0 ∷ []) ∷ []) ((0 ∷ []) ∷ [])
+pub leave_psi_of_nothing : PsiTakes two_batches left_edge ((0 ∷ 0 ∷ []) ∷ []) ((0 ∷ []) ∷ [])
 unfolding psi kind_of sender receiver bounds_of max_of
 leave_psi_of_nothing = record {
   canonical = (record { in_the_domain = refl; ascending = tt; incomparable = tt }, tt);

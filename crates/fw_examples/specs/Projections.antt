@@ -4,7 +4,7 @@ use Rattle.fw_frontier.specs.Front.{Front, frontier_of, Names}
 use Rattle.fw_flow.specs.declared.event.Event.{Event}
 use Rattle.fw_flow.specs.Dataflow.{System, sender, receiver, bounds_of}
 use Rattle.fw_flow.specs.Projection.{phi, psi}
-use Rattle.fw_examples.specs.Flows.{one_batch, no_batches}
+use Rattle.fw_examples.specs.Flows.{two_batches, no_batches}
 
 -- after each history, phi of the edge takes the frontier of its sender with these outside stamps to that of its
 -- receiver with those
@@ -25,12 +25,12 @@ fed_back_edge = 4
 
 -- feeding back moves each stamp to its next counter, and lets each counter 0 come from nothing
 pub record FeedbackProjects : Type 0 where
-  pub phi_of_some : PhiTakes one_batch fed_back_edge ((0 ∷ 2 ∷ []) ∷ (1 ∷ 0 ∷ []) ∷ []) ((0 ∷ 3 ∷ []) ∷ (1 ∷ 1 ∷ []) ∷ [])
-  pub phi_of_all : PhiTakes one_batch fed_back_edge [] []
-  pub phi_of_nothing : PhiTakes one_batch fed_back_edge ((0 ∷ 0 ∷ []) ∷ []) ((0 ∷ 1 ∷ []) ∷ [])
-  pub psi_of_some : PsiTakes one_batch fed_back_edge ((0 ∷ 2 ∷ []) ∷ (1 ∷ 0 ∷ []) ∷ []) ((0 ∷ 3 ∷ []) ∷ (1 ∷ 0 ∷ []) ∷ [])
-  pub psi_of_all : PsiTakes one_batch fed_back_edge [] []
-  pub psi_of_nothing : PsiTakes one_batch fed_back_edge ((0 ∷ 0 ∷ []) ∷ []) ((0 ∷ 0 ∷ []) ∷ [])
+  pub phi_of_some : PhiTakes two_batches fed_back_edge ((0 ∷ 2 ∷ []) ∷ (1 ∷ 0 ∷ []) ∷ []) ((0 ∷ 3 ∷ []) ∷ (1 ∷ 1 ∷ []) ∷ [])
+  pub phi_of_all : PhiTakes two_batches fed_back_edge [] []
+  pub phi_of_nothing : PhiTakes two_batches fed_back_edge ((0 ∷ 0 ∷ []) ∷ []) ((0 ∷ 1 ∷ []) ∷ [])
+  pub psi_of_some : PsiTakes two_batches fed_back_edge ((0 ∷ 2 ∷ []) ∷ (1 ∷ 0 ∷ []) ∷ []) ((0 ∷ 3 ∷ []) ∷ (1 ∷ 0 ∷ []) ∷ [])
+  pub psi_of_all : PsiTakes two_batches fed_back_edge [] []
+  pub psi_of_nothing : PsiTakes two_batches fed_back_edge ((0 ∷ 0 ∷ []) ∷ []) ((0 ∷ 0 ∷ []) ∷ [])
 
 -- the edge out of the enter
 abbrev pub entered_edge : ℕ
@@ -38,12 +38,12 @@ entered_edge = 1
 
 -- entering gives each epoch all of its counters, and sends at counter 0 alone
 pub record EnterProjects : Type 0 where
-  pub phi_of_some : PhiTakes one_batch entered_edge ((2 ∷ []) ∷ []) ((2 ∷ 0 ∷ []) ∷ [])
-  pub phi_of_all : PhiTakes one_batch entered_edge [] []
-  pub phi_of_nothing : PhiTakes one_batch entered_edge ((0 ∷ []) ∷ []) ((0 ∷ 0 ∷ []) ∷ [])
-  pub psi_of_some : PsiTakes one_batch entered_edge ((2 ∷ []) ∷ []) ((0 ∷ 1 ∷ []) ∷ (2 ∷ 0 ∷ []) ∷ [])
-  pub psi_of_all : PsiTakes one_batch entered_edge [] ((0 ∷ 1 ∷ []) ∷ [])
-  pub psi_of_nothing : PsiTakes one_batch entered_edge ((0 ∷ []) ∷ []) ((0 ∷ 0 ∷ []) ∷ [])
+  pub phi_of_some : PhiTakes two_batches entered_edge ((2 ∷ []) ∷ []) ((2 ∷ 0 ∷ []) ∷ [])
+  pub phi_of_all : PhiTakes two_batches entered_edge [] []
+  pub phi_of_nothing : PhiTakes two_batches entered_edge ((0 ∷ []) ∷ []) ((0 ∷ 0 ∷ []) ∷ [])
+  pub psi_of_some : PsiTakes two_batches entered_edge ((2 ∷ []) ∷ []) ((0 ∷ 1 ∷ []) ∷ (2 ∷ 0 ∷ []) ∷ [])
+  pub psi_of_all : PsiTakes two_batches entered_edge [] ((0 ∷ 1 ∷ []) ∷ [])
+  pub psi_of_nothing : PsiTakes two_batches entered_edge ((0 ∷ []) ∷ []) ((0 ∷ 0 ∷ []) ∷ [])
 
 -- the edge out of the leave
 abbrev pub left_edge : ℕ
@@ -51,12 +51,12 @@ left_edge = 6
 
 -- leaving wants all counters of an epoch, and may send from each one of them
 pub record LeaveProjects : Type 0 where
-  pub phi_of_some : PhiTakes one_batch left_edge ((0 ∷ 3 ∷ []) ∷ (1 ∷ 0 ∷ []) ∷ []) ((0 ∷ []) ∷ [])
-  pub phi_of_all : PhiTakes one_batch left_edge [] []
-  pub phi_of_nothing : PhiTakes one_batch left_edge ((0 ∷ 0 ∷ []) ∷ []) ((0 ∷ []) ∷ [])
-  pub psi_of_some : PsiTakes one_batch left_edge ((0 ∷ 3 ∷ []) ∷ (1 ∷ 0 ∷ []) ∷ []) ((1 ∷ []) ∷ [])
-  pub psi_of_all : PsiTakes one_batch left_edge [] []
-  pub psi_of_nothing : PsiTakes one_batch left_edge ((0 ∷ 0 ∷ []) ∷ []) ((0 ∷ []) ∷ [])
+  pub phi_of_some : PhiTakes two_batches left_edge ((0 ∷ 3 ∷ []) ∷ (1 ∷ 0 ∷ []) ∷ []) ((0 ∷ []) ∷ [])
+  pub phi_of_all : PhiTakes two_batches left_edge [] []
+  pub phi_of_nothing : PhiTakes two_batches left_edge ((0 ∷ 0 ∷ []) ∷ []) ((0 ∷ []) ∷ [])
+  pub psi_of_some : PsiTakes two_batches left_edge ((0 ∷ 3 ∷ []) ∷ (1 ∷ 0 ∷ []) ∷ []) ((1 ∷ []) ∷ [])
+  pub psi_of_all : PsiTakes two_batches left_edge [] []
+  pub psi_of_nothing : PsiTakes two_batches left_edge ((0 ∷ 0 ∷ []) ∷ []) ((0 ∷ []) ∷ [])
 
 -- the edge out of the regroup
 abbrev pub regrouped_edge : ℕ

@@ -2,16 +2,18 @@
 use Rattle.std.specs.Prelude.{◌≡◌, ℕ, List, [], ◌∷◌, length, slice_index_or}
 use Rattle.fw_time.specs.Stamp.{Stamp}
 use Rattle.fw_bag.specs.declared.rec.Rec.{Rec}
-use Rattle.fw_frontier.specs.Front.{Front}
+use Rattle.fw_frontier.specs.Frontier.{Frontier}
+use Rattle.fw_frontier.specs.Front.{Front, frontier_of}
 use Rattle.fw_flow.specs.declared.choice.Cut.{Cut}
 use Rattle.fw_flow.specs.declared.choice.Cut.TheVariants.{Present, At}
 use Rattle.fw_flow.specs.declared.event.Event.{Event}
 use Rattle.fw_flow.specs.declared.event.Event.TheVariants.{Inject, Deliver}
 use Rattle.fw_flow.specs.declared.event.Message.{Message}
-use Rattle.fw_model.specs.History.{IsLegal, pending}
-use Rattle.fw_model.specs.Machine.{Numbered, events}
+use Rattle.fw_flow.specs.Dataflow.{bounds_of}
+use Rattle.fw_model.specs.History.{IsLegal, IsComplete, pending}
+use Rattle.fw_model.specs.Machine.{Numbered, events, front_of}
 use Rattle.fw_model.specs.Choice.{Choice, filtered}
-use Rattle.fw_examples.specs.Flows.{two_batches, pair}
+use Rattle.fw_examples.specs.Flows.{loop_counts_up, two_batches, pair}
 
 -- a message of one cause
 abbrev pub message : Stamp → Rec → Stamp → Message
@@ -112,6 +114,27 @@ restored = record {
 pub record IsUnderWay : Type 0 where
   pub legal : IsLegal two_batches under_way
   pub pending : (e : ℕ) → pending two_batches under_way e ≡ slice_index_or still_pending e []
+
+-- The complete frontiers by node: all before the loop; back from what is pending, at the feedback up to what waits for
+-- it, at the node where rounds meet one counter further, at the node that counts up less than that by what waits there;
+-- and nothing behind the loop.
+abbrev pub complete_fronts : List Front
+complete_fronts =
+  [] ∷ []
+  ∷ (round 0 3 ∷ round 1 1 ∷ [])
+  ∷ counted_rounds
+  ∷ (round 0 2 ∷ round 1 0 ∷ [])
+  ∷ (round 0 0 ∷ [])
+  ∷ ((0 ∷ []) ∷ [])
+  ∷ []
+
+-- the complete frontier of a node
+abbrev pub complete_at : ℕ → Frontier
+complete_at p = frontier_of (bounds_of loop_counts_up p) (front_of complete_fronts p)
+
+-- the largest family inside which all has come
+abbrev pub IsCompleteUnderWay : Type 0
+IsCompleteUnderWay = IsComplete two_batches under_way complete_at
 
 -- the recovery strikes one delivery alone, the rest is legal, and the struck message is pending again
 pub record IsRestored : Type 0 where

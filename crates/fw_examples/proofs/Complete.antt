@@ -100,7 +100,8 @@ most_feedback other adm t h =
       (and_from _ _ (above (0 ∷ 2 ∷ []) refl (kept_out other adm 3 (0 ∷ 2 ∷ []) refl))
         (and_from _ _ (above (1 ∷ 0 ∷ []) refl (kept_out other adm 3 (1 ∷ 0 ∷ []) refl)) refl))
 
-feeds_more : (f g : Frontier) → Within f g → (t : Stamp) → phi two_batches under_way 4 f t ≡ true → phi two_batches under_way 4 g t ≡ true
+-- phi of the feedback grows with its frontier
+pub feeds_more : (f g : Frontier) → Within f g → (t : Stamp) → phi two_batches under_way 4 f t ≡ true → phi two_batches under_way 4 g t ≡ true
 unfolding phi kind_of sender receiver bounds_of max_of
 feeds_more f g w t h = and_more _ _ _ (or_more _ _ _ (w (nest (outer t) (counter t - 1)))) h
 
@@ -126,7 +127,8 @@ most_leaving other adm t h =
     and_from _ _ ((adm.frontier 5).inside_domain t h)
       (and_from _ _ (not_above (bounds_of loop_counts_up 5) (other 5) (adm.frontier 5) (0 ∷ 0 ∷ []) refl (kept_out other adm 5 (0 ∷ 0 ∷ []) refl) t h) refl)
 
-leaves_more : (f g : Frontier) → Within f g → (t : Stamp) → phi two_batches under_way 6 f t ≡ true → phi two_batches under_way 6 g t ≡ true
+-- phi of the leave grows with its frontier
+pub leaves_more : (f g : Frontier) → Within f g → (t : Stamp) → phi two_batches under_way 6 f t ≡ true → phi two_batches under_way 6 g t ≡ true
 unfolding phi kind_of sender receiver bounds_of max_of
 leaves_more f g w t h =
     and_more _ _ _

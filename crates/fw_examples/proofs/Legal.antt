@@ -7,7 +7,8 @@ use Rattle.fw_model.specs.History.{IsLegal, pending, less, without, delivered}
 use Rattle.fw_model.specs.Machine.{events}
 use Rattle.fw_model.specs.Choice.{filtered}
 use Rattle.fw_examples.specs.Flows.{two_batches}
-use Rattle.fw_examples.specs.UnderWay.{under_way, without_the_second, with_serials, still_pending, pending_again, restored}
+use Rattle.fw_examples.specs.UnderWay.{under_way, still_pending}
+use Rattle.fw_examples.specs.Recovery.{without_the_second, with_serials, pending_again, restored}
 
 -- nothing less some messages is nothing
 less-nothing : (ds : List Message) → less [] ds ≡ []

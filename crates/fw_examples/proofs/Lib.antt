@@ -1,4 +1,5 @@
 pub mod Complete
+pub mod Largest
 pub mod Legal
 pub mod Orders
 pub mod Projecting

@@ -1,18 +1,15 @@
--- A run of the loop that counts up, with both batches under way, and its recovery after the node that counts up failed.
-use Rattle.std.specs.Prelude.{◌≡◌, ℕ, List, [], ◌∷◌, length, slice_index_or}
+-- A run of the loop that counts up, with both batches under way.
+use Rattle.std.specs.Prelude.{◌≡◌, ℕ, List, [], ◌∷◌, slice_index_or}
 use Rattle.fw_time.specs.Stamp.{Stamp}
 use Rattle.fw_bag.specs.declared.rec.Rec.{Rec}
 use Rattle.fw_frontier.specs.Frontier.{Frontier}
 use Rattle.fw_frontier.specs.Front.{Front, frontier_of}
-use Rattle.fw_flow.specs.declared.choice.Cut.{Cut}
-use Rattle.fw_flow.specs.declared.choice.Cut.TheVariants.{Present, At}
 use Rattle.fw_flow.specs.declared.event.Event.{Event}
 use Rattle.fw_flow.specs.declared.event.Event.TheVariants.{Inject, Deliver}
 use Rattle.fw_flow.specs.declared.event.Message.{Message}
 use Rattle.fw_flow.specs.Dataflow.{bounds_of}
 use Rattle.fw_model.specs.History.{IsLegal, IsComplete, pending}
-use Rattle.fw_model.specs.Machine.{Numbered, events, front_of}
-use Rattle.fw_model.specs.Choice.{Choice, filtered}
+use Rattle.fw_model.specs.Machine.{front_of}
 use Rattle.fw_examples.specs.Flows.{loop_counts_up, two_batches, pair}
 
 -- a message of one cause
@@ -45,31 +42,6 @@ under_way =
   ∷ Inject 0 0
   ∷ []
 
--- the same without the delivery of the rec of the second batch that was counted up
-abbrev pub without_the_second : List Event
-without_the_second =
-  Deliver 2 (message (round 0 2) (pair 1 2) (round 0 2))
-  ∷ Deliver 4 (message (round 0 2) (pair 1 2) (round 0 1))
-  ∷ Deliver 3 (message (round 0 1) (pair 1 2) (round 0 1))
-  ∷ Deliver 2 (message (round 0 1) (pair 1 1) (round 0 1))
-  ∷ Deliver 4 (message (round 0 1) (pair 1 1) (round 0 0))
-  ∷ Deliver 3 (message (round 0 0) (pair 1 1) (round 0 0))
-  ∷ Deliver 2 (message (round 0 0) (pair 1 0) (round 0 0))
-  ∷ Deliver 1 (message (round 1 0) (pair 3 0) (1 ∷ []))
-  ∷ Deliver 1 (message (round 1 0) (pair 2 0) (1 ∷ []))
-  ∷ Deliver 0 (message (1 ∷ []) (pair 3 0) (1 ∷ []))
-  ∷ Deliver 0 (message (1 ∷ []) (pair 2 0) (1 ∷ []))
-  ∷ Inject 0 1
-  ∷ Deliver 1 (message (round 0 0) (pair 1 0) (0 ∷ []))
-  ∷ Deliver 0 (message (0 ∷ []) (pair 1 0) (0 ∷ []))
-  ∷ Inject 0 0
-  ∷ []
-
--- the events with their serials, from 0 on
-abbrev pub with_serials : List Event → List Numbered
-with_serials [] = []
-with_serials (v ∷ h) = record { serial = length h; event = v } ∷ with_serials h
-
 -- what is pending on each edge
 abbrev pub still_pending : List (List Message)
 still_pending =
@@ -85,30 +57,9 @@ still_pending =
   ∷ []
   ∷ []
 
--- what is pending on each edge after the recovery
-abbrev pub pending_again : List (List Message)
-pending_again =
-  [] ∷ []
-  ∷ (message (round 1 0) (pair 3 0) (round 1 0) ∷ message (round 1 0) (pair 2 0) (round 1 0) ∷ [])
-  ∷ (message (round 0 2) (pair 1 3) (round 0 2) ∷ [])
-  ∷ []
-  ∷ (message (round 0 2) (pair 1 3) (round 0 2)
-     ∷ message (round 0 1) (pair 1 2) (round 0 1)
-     ∷ message (round 0 0) (pair 1 1) (round 0 0)
-     ∷ [])
-  ∷ []
-  ∷ []
-
 -- up to which stamps the node that counts up is complete
 abbrev pub counted_rounds : Front
 counted_rounds = round 0 3 ∷ round 1 0 ∷ []
-
--- the node that counts up is cut to what is complete of it, and all others stay as they are
-abbrev pub restored : Choice
-restored = record {
-  cuts = Present ∷ Present ∷ Present ∷ At counted_rounds ∷ Present ∷ Present ∷ Present ∷ [];
-  notes = [] ∷ [] ∷ (round 1 1 ∷ []) ∷ counted_rounds ∷ counted_rounds ∷ counted_rounds ∷ ((0 ∷ []) ∷ []) ∷ [];
-}
 
 -- each event was enabled, and just these messages are pending
 pub record IsUnderWay : Type 0 where
@@ -135,9 +86,3 @@ complete_at p = frontier_of (bounds_of loop_counts_up p) (front_of complete_fron
 -- the largest family inside which all has come
 abbrev pub IsCompleteUnderWay : Type 0
 IsCompleteUnderWay = IsComplete two_batches under_way complete_at
-
--- the recovery strikes one delivery alone, the rest is legal, and the struck message is pending again
-pub record IsRestored : Type 0 where
-  pub struck : events (filtered two_batches restored (with_serials under_way)) ≡ without_the_second
-  pub legal : IsLegal two_batches without_the_second
-  pub pending : (e : ℕ) → pending two_batches without_the_second e ≡ slice_index_or pending_again e []

@@ -3,4 +3,5 @@
 
 mod loop_counts_up;
 mod projections;
+mod recovery;
 mod under_way;

@@ -1,0 +1,14 @@
+//! A recovery of the loop that counts up, after the node that counts up failed with both batches under way.
+ghost use Rattle.fw_examples.specs.Recovery.{IsRestored, IsRestoredChoice};
+
+/// The failed node is cut to what is settled of it, and all others stay as they are.
+pub fn is_restored_choice()
+    ensures { IsRestoredChoice }
+{
+}
+
+/// A recovery strikes the one event outside the cut of its node.
+pub fn is_restored()
+    ensures { IsRestored }
+{
+}

@@ -1,7 +1,9 @@
 pub mod Complete
+pub mod First
 pub mod Largest
 pub mod Legal
 pub mod Orders
 pub mod Projecting
 pub mod Rounds
+pub mod Running
 pub mod Walks

@@ -1,13 +1,15 @@
 -- A recovery of the loop that counts up, after the node that counts up failed with both batches under way.
-use Rattle.std.specs.Prelude.{◌≡◌, ℕ, true, false, List, [], ◌∷◌, length, slice_index_or}
+use Rattle.std.specs.Prelude.{◌≡◌, ℕ, true, false, List, [], ◌∷◌, ◌++◌, length, replicate, Some, None, slice_index_or}
 use Rattle.fw_flow.specs.declared.choice.Cut.TheVariants.{Present, At}
 use Rattle.fw_flow.specs.declared.event.Event.{Event}
 use Rattle.fw_flow.specs.declared.event.Event.TheVariants.{Inject, Deliver}
 use Rattle.fw_flow.specs.declared.event.Message.{Message}
+use Rattle.fw_flow.specs.declared.step.Step.{Step}
+use Rattle.fw_flow.specs.declared.step.Step.TheVariants as step
 use Rattle.fw_model.specs.History.{IsLegal, pending}
 use Rattle.fw_model.specs.Machine.{Machine, Numbered, events, first_state}
 use Rattle.fw_model.specs.Choice.{Choice, filtered, IsLargest}
-use Rattle.fw_model.specs.Steps.{CutsTo, offers}
+use Rattle.fw_model.specs.Steps.{Outcome, did, quiet, cuts, CutsTo, Run, offers, recovered}
 use Rattle.fw_examples.specs.Flows.{two_batches, pair}
 use Rattle.fw_examples.specs.UnderWay.{message, round, under_way, counted_rounds, complete_fronts}
 
@@ -76,3 +78,36 @@ pub record IsRestored : Type 0 where
   pub struck : events (filtered two_batches restored (with_serials under_way)) ≡ without_the_second
   pub legal : IsLegal two_batches without_the_second
   pub pending : (e : ℕ) → pending two_batches without_the_second e ≡ slice_index_or pending_again e []
+
+-- the steps up to the recovery: the sixteen events, what is complete becomes settled, and the node that counts up fails
+abbrev pub steps_taken : List Step
+steps_taken =
+  step.Inject 0
+  ∷ step.Deliver 0 None
+  ∷ step.Deliver 1 None
+  ∷ step.Inject 0
+  ∷ step.Deliver 0 None
+  ∷ step.Deliver 0 None
+  ∷ step.Deliver 1 (Some (round 1 0))
+  ∷ step.Deliver 1 (Some (round 1 0))
+  ∷ step.Deliver 2 (Some (round 1 0))
+  ∷ step.Deliver 2 (Some (round 0 0))
+  ∷ step.Deliver 3 (Some (round 0 0))
+  ∷ step.Deliver 4 None
+  ∷ step.Deliver 2 (Some (round 0 1))
+  ∷ step.Deliver 3 (Some (round 0 1))
+  ∷ step.Deliver 4 None
+  ∷ step.Deliver 2 (Some (round 0 2))
+  ∷ step.Progress
+  ∷ step.Fail (3 ∷ [])
+  ∷ step.Recover
+  ∷ []
+
+-- none of them shows something but the recovery, which shows its choice
+abbrev pub outcomes_shown : List Outcome
+outcomes_shown = replicate 18 (did quiet) ++ did (cuts restored) ∷ []
+
+-- from its first state the machine takes these steps, with these outcomes, to the recovered state
+abbrev pub RunsToRecovery : Type 0
+RunsToRecovery =
+    Run two_batches (first_state two_batches) steps_taken outcomes_shown (recovered two_batches counting_failed restored complete_fronts)

@@ -1,5 +1,5 @@
 //! A recovery of the loop that counts up, after the node that counts up failed with both batches under way.
-ghost use Rattle.fw_examples.specs.Recovery.{IsRestored, IsRestoredChoice};
+ghost use Rattle.fw_examples.specs.Recovery.{IsRestored, IsRestoredChoice, RunsToRecovery};
 
 /// The failed node is cut to what is settled of it, and all others stay as they are.
 pub fn is_restored_choice()
@@ -10,5 +10,11 @@ pub fn is_restored_choice()
 /// A recovery strikes the one event outside the cut of its node.
 pub fn is_restored()
     ensures { IsRestored }
+{
+}
+
+/// The machine takes the steps up to the recovery.
+pub fn runs_to_recovery()
+    ensures { RunsToRecovery }
 {
 }

@@ -1,13 +1,12 @@
 -- The complete frontiers of the loop with both batches under way.
-use Rattle.std.proofs.Common.{◌≡◌, ℕ, zero, suc, Bool, true, false, not, ◌&&◌, ◌||◌, List, [], ◌∷◌, refl, sym, ap, ◌∙◌, subst, arith, get_or}
-use Rattle.std.specs.Prelude.{nat_le, ◌==◌, ◌-◌}
-use Rattle.std.proofs.lemmas.Bool.{both_ways, and_parts, and_from, or_cases, or_left, or_right}
+use Rattle.std.proofs.Common.{◌≡◌, ℕ, zero, suc, true, false, not, [], ◌∷◌, refl, sym, ap, ◌∙◌, subst, arith, get_or}
+use Rattle.std.specs.Prelude.{◌-◌}
+use Rattle.std.proofs.lemmas.Bool.{both_ways, and_parts, and_from}
 use Rattle.std.proofs.lemmas.Bool.Decides.{nat_tests}
 use Rattle.fw_time.specs.Stamp.{Stamp, leq, same, in_domain, nest, outer, counter}
-use Rattle.fw_frontier.specs.Frontier.{Frontier, IsFrontier, Within}
-use Rattle.fw_frontier.specs.Front.{inside, frontier_of}
+use Rattle.fw_frontier.specs.Frontier.{Frontier, Within}
+use Rattle.fw_frontier.specs.Front.{inside}
 use Rattle.fw_flow.specs.Dataflow.{kind_of, sender, receiver, bounds_of, batches_of, max_of, is_input_kind}
-use Rattle.fw_flow.specs.NodeFunction.{sends}
 use Rattle.fw_flow.specs.Projection.{phi}
 use Rattle.fw_model.specs.History.{IsAdmissible, IsComplete, IsQuiet, injected_epochs, owed, pending, some_at}
 use Rattle.fw_examples.specs.Flows.{loop_counts_up, two_batches}
@@ -32,8 +31,8 @@ quiet_edge : (e : ℕ) (t : Stamp) → complete_at (receiver loop_counts_up e) t
 quiet_edge e t h =
     ap (some_at (same t)) (under_way_leaves e)
     ∙ some_at-inside (get_or complete_fronts (receiver loop_counts_up e) []) t
-        (and_parts (in_domain (bounds_of loop_counts_up (receiver loop_counts_up e)) t) (inside (get_or complete_fronts (receiver loop_counts_up e) []) t) h).1
-        (get_or still_pending e []) (outside e)
+    (and_parts (in_domain (bounds_of loop_counts_up (receiver loop_counts_up e)) t) (inside (get_or complete_fronts (receiver loop_counts_up e) []) t) h).1
+    (get_or still_pending e []) (outside e)
 
 quiet : (p : ℕ) (t : Stamp) → complete_at p t ≡ true → IsQuiet two_batches under_way p t
 quiet p t h e q = let P : ℕ → Type 0 = λ r. complete_at r t ≡ true in quiet_edge e t (subst P (sym q) h)
@@ -95,10 +94,10 @@ most_feedback : (other : ℕ → Frontier) → IsAdmissible two_batches under_wa
 unfolding kind_of sender receiver bounds_of max_of
 most_feedback other adm t h =
     let above : (o : Stamp) → in_domain (bounds_of loop_counts_up 4) o ≡ true → (other 4 o ≡ true → ⊥) → not (leq o t) ≡ true =
-      λ o d out. not_above (bounds_of loop_counts_up 4) (other 4) (adm.frontier 4) o d out t h in
+    λ o d out. not_above (bounds_of loop_counts_up 4) (other 4) (adm.frontier 4) o d out t h in
     and_from _ _ ((adm.frontier 4).inside_domain t h)
-      (and_from _ _ (above (0 ∷ 2 ∷ []) refl (kept_out other adm 3 (0 ∷ 2 ∷ []) refl))
-        (and_from _ _ (above (1 ∷ 0 ∷ []) refl (kept_out other adm 3 (1 ∷ 0 ∷ []) refl)) refl))
+    (and_from _ _ (above (0 ∷ 2 ∷ []) refl (kept_out other adm 3 (0 ∷ 2 ∷ []) refl))
+    (and_from _ _ (above (1 ∷ 0 ∷ []) refl (kept_out other adm 3 (1 ∷ 0 ∷ []) refl)) refl))
 
 -- phi of the feedback grows with its frontier
 pub feeds_more : (f g : Frontier) → Within f g → (t : Stamp) → phi two_batches under_way 4 f t ≡ true → phi two_batches under_way 4 g t ≡ true
@@ -114,25 +113,25 @@ most_counting : (other : ℕ → Frontier) → IsAdmissible two_batches under_wa
 unfolding phi kind_of sender receiver bounds_of max_of
 most_counting other adm t h =
     let met : (in_domain (bounds_of loop_counts_up 2) t ≡ true) × (other 2 t ≡ true) =
-      and_parts (in_domain (bounds_of loop_counts_up 2) t) (other 2 t) (adm.follows 2 t h) in
+    and_parts (in_domain (bounds_of loop_counts_up 2) t) (other 2 t) (adm.follows 2 t h) in
     let mixed : (in_domain (bounds_of loop_counts_up 2) t ≡ true) × (inside ((0 ∷ 3 ∷ []) ∷ (1 ∷ 1 ∷ []) ∷ []) t ≡ true) =
-      and_parts (in_domain (bounds_of loop_counts_up 2) t) (inside ((0 ∷ 3 ∷ []) ∷ (1 ∷ 1 ∷ []) ∷ []) t) (most_mixing other adm t met.1) in
+    and_parts (in_domain (bounds_of loop_counts_up 2) t) (inside ((0 ∷ 3 ∷ []) ∷ (1 ∷ 1 ∷ []) ∷ []) t) (most_mixing other adm t met.1) in
     and_from _ _ ((adm.frontier 3).inside_domain t h)
-      (and_from _ _ (and_parts (not (leq (0 ∷ 3 ∷ []) t)) (inside ((1 ∷ 1 ∷ []) ∷ []) t) mixed.1).0
-        (and_from _ _ (not_above (bounds_of loop_counts_up 3) (other 3) (adm.frontier 3) (1 ∷ 0 ∷ []) refl (kept_out other adm 2 (1 ∷ 0 ∷ []) refl) t h) refl))
+    (and_from _ _ (and_parts (not (leq (0 ∷ 3 ∷ []) t)) (inside ((1 ∷ 1 ∷ []) ∷ []) t) mixed.1).0
+    (and_from _ _ (not_above (bounds_of loop_counts_up 3) (other 3) (adm.frontier 3) (1 ∷ 0 ∷ []) refl (kept_out other adm 2 (1 ∷ 0 ∷ []) refl) t h) refl))
 
 most_leaving : (other : ℕ → Frontier) → IsAdmissible two_batches under_way other → Within (other 5) (complete_at 5)
 unfolding kind_of sender receiver bounds_of max_of
 most_leaving other adm t h =
     and_from _ _ ((adm.frontier 5).inside_domain t h)
-      (and_from _ _ (not_above (bounds_of loop_counts_up 5) (other 5) (adm.frontier 5) (0 ∷ 0 ∷ []) refl (kept_out other adm 5 (0 ∷ 0 ∷ []) refl) t h) refl)
+    (and_from _ _ (not_above (bounds_of loop_counts_up 5) (other 5) (adm.frontier 5) (0 ∷ 0 ∷ []) refl (kept_out other adm 5 (0 ∷ 0 ∷ []) refl) t h) refl)
 
 -- phi of the leave grows with its frontier
 pub leaves_more : (f g : Frontier) → Within f g → (t : Stamp) → phi two_batches under_way 6 f t ≡ true → phi two_batches under_way 6 g t ≡ true
 unfolding phi kind_of sender receiver bounds_of max_of
 leaves_more f g w t h =
     and_more _ _ _
-      (both_more _ _ _ _ (w (nest t 3)) (both_more _ _ _ _ (w (nest t 2)) (both_more _ _ _ _ (w (nest t 1)) (w (nest t 0))))) h
+    (both_more _ _ _ _ (w (nest t 3)) (both_more _ _ _ _ (w (nest t 2)) (both_more _ _ _ _ (w (nest t 1)) (w (nest t 0))))) h
 
 most_output : (other : ℕ → Frontier) → IsAdmissible two_batches under_way other → Within (other 6) (complete_at 6)
 unfolding kind_of sender receiver bounds_of max_of

@@ -1,5 +1,5 @@
 -- A message is the next one of its edge where a test over what is pending says so.
-use Rattle.std.proofs.Common.{◌≡◌, ◌⊎◌, inl, inr, ℕ, Bool, true, false, not, ◌&&◌, ◌||◌, Option, Some, None, List, [], ◌∷◌, refl, sym, ap, ◌∙◌, subst, arith}
+use Rattle.std.proofs.Common.{◌≡◌, ◌⊎◌, inl, inr, ℕ, Bool, true, false, not, ◌&&◌, ◌||◌, Option, Some, None, List, [], ◌∷◌, refl, sym, ap, subst, arith}
 use Rattle.std.proofs.lemmas.Bool.{and_parts, or_cases, not-true, both_ways}
 use Rattle.std.proofs.lemmas.Bool.Decides.{nat_tests}
 use Rattle.std.specs.declared.cmp.Ordering.{Ordering}
@@ -7,7 +7,6 @@ use Rattle.std.specs.declared.cmp.Ordering.TheVariants.{Less, Equal, Greater}
 use Rattle.std.specs.Ordering.{nat_cmp, ordering_then, is_eq, is_gt}
 use Rattle.std.specs.Cmp.Lexicographic.{slice_cmp}
 use Rattle.fw_time.specs.Stamp.{Stamp, stamp_cmp}
-use Rattle.fw_bag.specs.declared.rec.Rec.{Rec}
 use Rattle.fw_bag.specs.Rec.{rec_cmp}
 use Rattle.fw_bag.proofs.RecLaws.{rec_cmp-same}
 use Rattle.fw_flow.specs.declared.event.Event.{Event}
@@ -54,9 +53,9 @@ stamp_cmp-refl (x ∷ s) = rw (nat_cmp-refl x) (stamp_cmp-refl s)
 message_cmp-same : (m n : Message) → message_cmp m n ≡ Equal → m ≡ n
 message_cmp-same m n h =
     let parts : (stamp_cmp m.at n.at ≡ Equal) × (ordering_then (rec_cmp m.rec n.rec) (slice_cmp stamp_cmp m.causes n.causes) ≡ Equal) =
-      then_equal (stamp_cmp m.at n.at) (ordering_then (rec_cmp m.rec n.rec) (slice_cmp stamp_cmp m.causes n.causes)) h in
+    then_equal (stamp_cmp m.at n.at) (ordering_then (rec_cmp m.rec n.rec) (slice_cmp stamp_cmp m.causes n.causes)) h in
     let rest : (rec_cmp m.rec n.rec ≡ Equal) × (slice_cmp stamp_cmp m.causes n.causes ≡ Equal) =
-      then_equal (rec_cmp m.rec n.rec) (slice_cmp stamp_cmp m.causes n.causes) parts.1 in
+    then_equal (rec_cmp m.rec n.rec) (slice_cmp stamp_cmp m.causes n.causes) parts.1 in
     let at : m.at ≡ n.at = stamp_cmp-same m.at n.at parts.0 in
     let r : m.rec ≡ n.rec = rec_cmp-same m.rec n.rec rest.0 in
     let causes : m.causes ≡ n.causes = slice_cmp-same stamp_cmp stamp_cmp-same m.causes n.causes rest.1 in
@@ -89,7 +88,7 @@ is_first-least : (at : Option Stamp) (m : Message) (ms : List Message) → is_fi
 is_first-least at m [] h other k a = cc
 is_first-least at m (x ∷ xs) h other k a =
     by_cases (and_parts (not (is_asked at x.at) || not (is_gt (message_cmp m x))) (is_first at m xs) h) (or_cases (is_eq (message_cmp other x)) (is_among other xs) k)
-      (is_first-least at m xs)
+    (is_first-least at m xs)
   where
     by_cases : ((not (is_asked at x.at) || not (is_gt (message_cmp m x))) ≡ true) × (is_first at m xs ≡ true)
         → (is_eq (message_cmp other x) ≡ true) ⊎ (is_among other xs ≡ true)

@@ -1,18 +1,16 @@
 -- The choice of the recovery is the largest.
-use Rattle.std.proofs.Common.{◌≡◌, ℕ, zero, suc, ◌<◌, Bool, true, false, not, ◌&&◌, ◌||◌, List, [], ◌∷◌, refl, sym, ap, ◌∙◌, subst, arith, lit<}
-use Rattle.std.specs.Prelude.{nat_le, ◌==◌, ◌-◌}
-use Rattle.std.proofs.lemmas.Bool.{and_parts, and_from, or_cases}
+use Rattle.std.proofs.Common.{◌≡◌, ℕ, zero, suc, ◌<◌, Bool, true, false, ◌&&◌, refl, sym, arith, lit<}
+use Rattle.std.proofs.lemmas.Bool.{and_parts, and_from}
 use Rattle.std.proofs.lemmas.Bool.Decides.{nat_tests}
-use Rattle.fw_time.specs.Stamp.{Stamp, leq, same, in_domain}
-use Rattle.fw_frontier.specs.Frontier.{Frontier, Within}
-use Rattle.fw_frontier.specs.Front.{inside, frontier_of, IsCanonical}
+use Rattle.fw_time.specs.Stamp.{in_domain}
+use Rattle.fw_frontier.specs.Frontier.{Within}
+use Rattle.fw_frontier.specs.Front.{frontier_of, IsCanonical}
 use Rattle.fw_flow.specs.declared.choice.Cut.{Cut}
 use Rattle.fw_flow.specs.declared.choice.Cut.TheVariants.{Present, At}
 use Rattle.fw_flow.specs.Dataflow.{kind_of, policy_of, sender, receiver, bounds_of, max_of}
-use Rattle.fw_flow.specs.NodeFunction.{sends}
 use Rattle.fw_flow.specs.Projection.{phi, psi}
 use Rattle.fw_model.specs.Machine.{events, front_of}
-use Rattle.fw_model.specs.Choice.{Choice, IsConsistent, IsCutWithin, IsChoiceWithin, IsLargest, set_of, cut_of, note_of, kept_of, delivered_cover, discarded_cover, notified_cover}
+use Rattle.fw_model.specs.Choice.{Choice, IsConsistent, IsCutWithin, IsLargest, set_of, cut_of, note_of, kept_of, delivered_cover, discarded_cover, notified_cover}
 use Rattle.fw_model.specs.Steps.{CutsTo, IsSettledCut, offers}
 use Rattle.fw_examples.specs.Flows.{loop_counts_up, two_batches}
 use Rattle.fw_examples.specs.UnderWay.{under_way, counted_rounds, complete_fronts}

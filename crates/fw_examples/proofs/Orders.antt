@@ -1,5 +1,5 @@
 -- Frontiers by their outside stamps are frontiers, and what is pending outside them is not inside.
-use Rattle.std.proofs.Common.{◌≡◌, ℕ, ◌≤◌, Bool, true, false, not, ◌&&◌, ◌||◌, List, [], ◌∷◌, refl, sym, ap, ◌∙◌, subst, arith}
+use Rattle.std.proofs.Common.{◌≡◌, ℕ, ◌≤◌, Bool, true, false, not, ◌&&◌, ◌||◌, List, [], ◌∷◌, refl, arith}
 use Rattle.std.specs.Prelude.{nat_le}
 use Rattle.std.proofs.lemmas.Bool.{and_parts, and_from, not-true, not_from_false, false_from_ne_true, both_ways}
 use Rattle.std.proofs.lemmas.Bool.Decides.{nat_tests}
@@ -48,7 +48,7 @@ some_at-inside os t h [] k = refl
 some_at-inside os t h (m ∷ ms) k =
     let a : (not (inside os m.at) ≡ true) × (none_inside os ms ≡ true) = and_parts _ _ k in
     let not_same : same t m.at ≡ false =
-      false_from_ne_true _ (λ e. both_ways _ (not-true _ a.0) (inside-down os m.at t (and_parts (leq t m.at) (leq m.at t) e).1 h)) in
+    false_from_ne_true _ (λ e. both_ways _ (not-true _ a.0) (inside-down os m.at t (and_parts (leq t m.at) (leq m.at t) e).1 h)) in
     rw not_same (some_at-inside os t h ms a.1)
 
 -- a frontier with nothing pending inside has no stamp from a pending one on

@@ -1,8 +1,7 @@
 -- What each kind projects a frontier to.
-use Rattle.std.proofs.Common.{◌≡◌, ℕ, ◌≤◌, Bool, true, false, ◌&&◌, List, [], ◌∷◌, refl, arith}
+use Rattle.std.proofs.Common.{◌≡◌, ℕ, ◌≤◌, Bool, ◌&&◌, [], ◌∷◌, refl, arith}
 use Rattle.std.proofs.lemmas.Bool.Decides.{nat_tests}
 use Rattle.fw_time.specs.Stamp.{Stamp, in_domain}
-use Rattle.fw_frontier.specs.Front.{IsLeastBefore, IsCanonical}
 use Rattle.fw_flow.specs.Dataflow.{kind_of, sender, receiver, bounds_of, max_of}
 use Rattle.fw_flow.specs.Projection.{phi, psi}
 use Rattle.fw_examples.specs.Flows.{two_batches, no_batches}
@@ -192,4 +191,3 @@ regroup_psi_of_nothing = record {
   canonical = (record { in_the_domain = refl; ascending = tt; incomparable = tt }, tt);
   same = in_one 4294967295 _ _ (λ x hx. grind (arith, nat_tests));
 }
-

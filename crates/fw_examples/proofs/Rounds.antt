@@ -1,5 +1,5 @@
 -- What the rounds of the loop that counts up come to.
-use Rattle.std.proofs.Common.{◌≡◌, ℕ, zero, suc, false, List, [], ◌∷◌, ◌++◌, refl, ap, ◌∙◌, arith}
+use Rattle.std.proofs.Common.{◌≡◌, zero, suc, false, List, [], ◌∷◌, ◌++◌, refl, ap, ◌∙◌}
 use Rattle.fw_time.specs.Stamp.{Stamp, same}
 use Rattle.fw_bag.specs.declared.rec.Rec.{Rec}
 use Rattle.fw_flow.specs.Dataflow.{kind_of, sender, in_edges, batches_of, max_of}

@@ -1,6 +1,6 @@
 -- The loop that counts up is well formed.
 use Rattle.std.proofs.Common.{◌≡◌, ◌⊎◌, inl, inr, ℕ, zero, suc, ◌+◌, ◌<◌, ◌≤◌, List, [], ◌∷◌, length, true, refl, ap, lit<, lit≤, arith}
-use Rattle.fw_flow.specs.Dataflow.{Dataflow, kind_of, policy_of, sender, receiver, in_edges, out_edges, domain_of, out_domain_of, max_of, is_input_kind, is_output_kind}
+use Rattle.fw_flow.specs.Dataflow.{Dataflow, kind_of, policy_of, sender, receiver, in_edges, out_edges, domain_of, out_domain_of, max_of}
 use Rattle.fw_flow.specs.WellFormed.{IsLoopDeclared, IsInDegree, IsOutDegree, IsPolicyAllowed, IsGroupSize, IsWellFormed, IsWalk, IsClosedWalk, Passes, is_feedback_kind, is_enter_kind}
 use Rattle.fw_examples.specs.Flows.{loop_counts_up}
 

@@ -1,9 +1,7 @@
 -- The dataflows of the examples, with their batches.
-use Rattle.std.specs.Prelude.{ℕ, List, [], ◌∷◌, Option, Some, None, codes}
+use Rattle.std.specs.Prelude.{ℕ, List, [], ◌∷◌, Some, codes}
 use Rattle.fw_bag.specs.declared.rec.Rec.{Rec}
-use Rattle.fw_bag.specs.declared.select.Assignment.{Assignment}
 use Rattle.fw_bag.specs.declared.select.Comparison.TheVariants.{Less}
-use Rattle.fw_bag.specs.declared.select.Condition.{Condition}
 use Rattle.fw_bag.specs.declared.select.Field.TheVariants.{Value}
 use Rattle.fw_bag.specs.declared.select.NewValue.TheVariants as new
 use Rattle.fw_bag.specs.declared.select.Selection.{Selection}
@@ -40,23 +38,23 @@ abbrev pub loop_counts_up : Dataflow
 loop_counts_up = record {
   loops = record { name = codes "lp"; max = 3 } ∷ [];
   nodes =
-    node (codes "src") Input policy.None
-    ∷ node (codes "ent") (Enter 0) policy.None
-    ∷ node (codes "mix") (Concat (Some 0)) policy.Logged
-    ∷ node (codes "inc") (Select counted_up (Some 0)) policy.None
-    ∷ node (codes "fb") (Feedback 0) policy.None
-    ∷ node (codes "lv") (Leave 0) policy.None
-    ∷ node (codes "out") OutputEpoch policy.None
-    ∷ [];
+      node (codes "src") Input policy.None
+      ∷ node (codes "ent") (Enter 0) policy.None
+      ∷ node (codes "mix") (Concat (Some 0)) policy.Logged
+      ∷ node (codes "inc") (Select counted_up (Some 0)) policy.None
+      ∷ node (codes "fb") (Feedback 0) policy.None
+      ∷ node (codes "lv") (Leave 0) policy.None
+      ∷ node (codes "out") OutputEpoch policy.None
+      ∷ [];
   edges =
-    edge (codes "a") 0 1
-    ∷ edge (codes "b") 1 2
-    ∷ edge (codes "c") 2 3
-    ∷ edge (codes "d") 3 4
-    ∷ edge (codes "e") 4 2
-    ∷ edge (codes "f") 3 5
-    ∷ edge (codes "g") 5 6
-    ∷ [];
+      edge (codes "a") 0 1
+      ∷ edge (codes "b") 1 2
+      ∷ edge (codes "c") 2 3
+      ∷ edge (codes "d") 3 4
+      ∷ edge (codes "e") 4 2
+      ∷ edge (codes "f") 3 5
+      ∷ edge (codes "g") 5 6
+      ∷ [];
 }
 
 -- the loop with a batch of one rec
@@ -75,11 +73,11 @@ abbrev pub regroup_by_three : Dataflow
 regroup_by_three = record {
   loops = [];
   nodes =
-    node (codes "src") Input policy.None
-    ∷ node (codes "seq") Sequence policy.Eager
-    ∷ node (codes "grp") (Regroup 3) policy.None
-    ∷ node (codes "out") OutputEpoch policy.None
-    ∷ [];
+      node (codes "src") Input policy.None
+      ∷ node (codes "seq") Sequence policy.Eager
+      ∷ node (codes "grp") (Regroup 3) policy.None
+      ∷ node (codes "out") OutputEpoch policy.None
+      ∷ [];
   edges = edge (codes "a") 0 1 ∷ edge (codes "b") 1 2 ∷ edge (codes "c") 2 3 ∷ [];
 }
 

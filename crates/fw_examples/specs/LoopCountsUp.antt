@@ -1,5 +1,5 @@
 -- What is claimed of the loop that counts up.
-use Rattle.std.specs.Prelude.{◌≡◌, ℕ, false, List, [], ◌∷◌}
+use Rattle.std.specs.Prelude.{◌≡◌, ℕ, false, [], ◌∷◌}
 use Rattle.fw_time.specs.Stamp.{Stamp, same}
 use Rattle.fw_flow.specs.WellFormed.{IsWellFormed}
 use Rattle.fw_model.specs.Denotation.{IsDenotation, rounds, bag_at}

@@ -11,13 +11,13 @@ use Rattle.fw_examples.specs.Flows.{two_batches, no_batches}
 abbrev pub PhiTakes : System → ℕ → Front → Front → Type 0
 PhiTakes sys e before after = (h : List Event)
     → Names (bounds_of sys.flow (receiver sys.flow e)) after
-        (phi sys h e (frontier_of (bounds_of sys.flow (sender sys.flow e)) before))
+    (phi sys h e (frontier_of (bounds_of sys.flow (sender sys.flow e)) before))
 
 -- psi of the edge takes the frontier of its sender with these outside stamps to that of its receiver with those
 abbrev pub PsiTakes : System → ℕ → Front → Front → Type 0
 PsiTakes sys e before after =
     Names (bounds_of sys.flow (receiver sys.flow e)) after
-        (psi sys e (frontier_of (bounds_of sys.flow (sender sys.flow e)) before))
+    (psi sys e (frontier_of (bounds_of sys.flow (sender sys.flow e)) before))
 
 -- the edge out of the feedback
 abbrev pub fed_back_edge : ℕ

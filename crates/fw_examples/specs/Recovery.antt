@@ -42,36 +42,36 @@ pub record IsRestoredChoice : Type 0 where
 -- the same without the delivery of the rec of the second batch that was counted up
 abbrev pub without_the_second : List Event
 without_the_second =
-  Deliver 2 (message (round 0 2) (pair 1 2) (round 0 2))
-  ∷ Deliver 4 (message (round 0 2) (pair 1 2) (round 0 1))
-  ∷ Deliver 3 (message (round 0 1) (pair 1 2) (round 0 1))
-  ∷ Deliver 2 (message (round 0 1) (pair 1 1) (round 0 1))
-  ∷ Deliver 4 (message (round 0 1) (pair 1 1) (round 0 0))
-  ∷ Deliver 3 (message (round 0 0) (pair 1 1) (round 0 0))
-  ∷ Deliver 2 (message (round 0 0) (pair 1 0) (round 0 0))
-  ∷ Deliver 1 (message (round 1 0) (pair 3 0) (1 ∷ []))
-  ∷ Deliver 1 (message (round 1 0) (pair 2 0) (1 ∷ []))
-  ∷ Deliver 0 (message (1 ∷ []) (pair 3 0) (1 ∷ []))
-  ∷ Deliver 0 (message (1 ∷ []) (pair 2 0) (1 ∷ []))
-  ∷ Inject 0 1
-  ∷ Deliver 1 (message (round 0 0) (pair 1 0) (0 ∷ []))
-  ∷ Deliver 0 (message (0 ∷ []) (pair 1 0) (0 ∷ []))
-  ∷ Inject 0 0
-  ∷ []
+    Deliver 2 (message (round 0 2) (pair 1 2) (round 0 2))
+    ∷ Deliver 4 (message (round 0 2) (pair 1 2) (round 0 1))
+    ∷ Deliver 3 (message (round 0 1) (pair 1 2) (round 0 1))
+    ∷ Deliver 2 (message (round 0 1) (pair 1 1) (round 0 1))
+    ∷ Deliver 4 (message (round 0 1) (pair 1 1) (round 0 0))
+    ∷ Deliver 3 (message (round 0 0) (pair 1 1) (round 0 0))
+    ∷ Deliver 2 (message (round 0 0) (pair 1 0) (round 0 0))
+    ∷ Deliver 1 (message (round 1 0) (pair 3 0) (1 ∷ []))
+    ∷ Deliver 1 (message (round 1 0) (pair 2 0) (1 ∷ []))
+    ∷ Deliver 0 (message (1 ∷ []) (pair 3 0) (1 ∷ []))
+    ∷ Deliver 0 (message (1 ∷ []) (pair 2 0) (1 ∷ []))
+    ∷ Inject 0 1
+    ∷ Deliver 1 (message (round 0 0) (pair 1 0) (0 ∷ []))
+    ∷ Deliver 0 (message (0 ∷ []) (pair 1 0) (0 ∷ []))
+    ∷ Inject 0 0
+    ∷ []
 
 -- what is pending on each edge after the recovery
 abbrev pub pending_again : List (List Message)
 pending_again =
-  [] ∷ []
-  ∷ (message (round 1 0) (pair 3 0) (round 1 0) ∷ message (round 1 0) (pair 2 0) (round 1 0) ∷ [])
-  ∷ (message (round 0 2) (pair 1 3) (round 0 2) ∷ [])
-  ∷ []
-  ∷ (message (round 0 2) (pair 1 3) (round 0 2)
-     ∷ message (round 0 1) (pair 1 2) (round 0 1)
-     ∷ message (round 0 0) (pair 1 1) (round 0 0)
-     ∷ [])
-  ∷ []
-  ∷ []
+    [] ∷ []
+    ∷ (message (round 1 0) (pair 3 0) (round 1 0) ∷ message (round 1 0) (pair 2 0) (round 1 0) ∷ [])
+    ∷ (message (round 0 2) (pair 1 3) (round 0 2) ∷ [])
+    ∷ []
+    ∷ (message (round 0 2) (pair 1 3) (round 0 2)
+    ∷ message (round 0 1) (pair 1 2) (round 0 1)
+    ∷ message (round 0 0) (pair 1 1) (round 0 0)
+    ∷ [])
+    ∷ []
+    ∷ []
 
 -- the recovery strikes one delivery alone, the rest is legal, and the struck message is pending again
 pub record IsRestored : Type 0 where
@@ -82,26 +82,26 @@ pub record IsRestored : Type 0 where
 -- the steps up to the recovery: the sixteen events, what is complete becomes settled, and the node that counts up fails
 abbrev pub steps_taken : List Step
 steps_taken =
-  step.Inject 0
-  ∷ step.Deliver 0 None
-  ∷ step.Deliver 1 None
-  ∷ step.Inject 0
-  ∷ step.Deliver 0 None
-  ∷ step.Deliver 0 None
-  ∷ step.Deliver 1 (Some (round 1 0))
-  ∷ step.Deliver 1 (Some (round 1 0))
-  ∷ step.Deliver 2 (Some (round 1 0))
-  ∷ step.Deliver 2 (Some (round 0 0))
-  ∷ step.Deliver 3 (Some (round 0 0))
-  ∷ step.Deliver 4 None
-  ∷ step.Deliver 2 (Some (round 0 1))
-  ∷ step.Deliver 3 (Some (round 0 1))
-  ∷ step.Deliver 4 None
-  ∷ step.Deliver 2 (Some (round 0 2))
-  ∷ step.Progress
-  ∷ step.Fail (3 ∷ [])
-  ∷ step.Recover
-  ∷ []
+    step.Inject 0
+    ∷ step.Deliver 0 None
+    ∷ step.Deliver 1 None
+    ∷ step.Inject 0
+    ∷ step.Deliver 0 None
+    ∷ step.Deliver 0 None
+    ∷ step.Deliver 1 (Some (round 1 0))
+    ∷ step.Deliver 1 (Some (round 1 0))
+    ∷ step.Deliver 2 (Some (round 1 0))
+    ∷ step.Deliver 2 (Some (round 0 0))
+    ∷ step.Deliver 3 (Some (round 0 0))
+    ∷ step.Deliver 4 None
+    ∷ step.Deliver 2 (Some (round 0 1))
+    ∷ step.Deliver 3 (Some (round 0 1))
+    ∷ step.Deliver 4 None
+    ∷ step.Deliver 2 (Some (round 0 2))
+    ∷ step.Progress
+    ∷ step.Fail (3 ∷ [])
+    ∷ step.Recover
+    ∷ []
 
 -- none of them shows something but the recovery, which shows its choice
 abbrev pub outcomes_shown : List Outcome

@@ -24,38 +24,38 @@ round x c = x ∷ c ∷ []
 -- batch one rec was counted up.
 abbrev pub under_way : List Event
 under_way =
-  Deliver 2 (message (round 0 2) (pair 1 2) (round 0 2))
-  ∷ Deliver 4 (message (round 0 2) (pair 1 2) (round 0 1))
-  ∷ Deliver 3 (message (round 0 1) (pair 1 2) (round 0 1))
-  ∷ Deliver 2 (message (round 0 1) (pair 1 1) (round 0 1))
-  ∷ Deliver 4 (message (round 0 1) (pair 1 1) (round 0 0))
-  ∷ Deliver 3 (message (round 0 0) (pair 1 1) (round 0 0))
-  ∷ Deliver 2 (message (round 0 0) (pair 1 0) (round 0 0))
-  ∷ Deliver 2 (message (round 1 0) (pair 2 0) (round 1 0))
-  ∷ Deliver 1 (message (round 1 0) (pair 3 0) (1 ∷ []))
-  ∷ Deliver 1 (message (round 1 0) (pair 2 0) (1 ∷ []))
-  ∷ Deliver 0 (message (1 ∷ []) (pair 3 0) (1 ∷ []))
-  ∷ Deliver 0 (message (1 ∷ []) (pair 2 0) (1 ∷ []))
-  ∷ Inject 0 1
-  ∷ Deliver 1 (message (round 0 0) (pair 1 0) (0 ∷ []))
-  ∷ Deliver 0 (message (0 ∷ []) (pair 1 0) (0 ∷ []))
-  ∷ Inject 0 0
-  ∷ []
+    Deliver 2 (message (round 0 2) (pair 1 2) (round 0 2))
+    ∷ Deliver 4 (message (round 0 2) (pair 1 2) (round 0 1))
+    ∷ Deliver 3 (message (round 0 1) (pair 1 2) (round 0 1))
+    ∷ Deliver 2 (message (round 0 1) (pair 1 1) (round 0 1))
+    ∷ Deliver 4 (message (round 0 1) (pair 1 1) (round 0 0))
+    ∷ Deliver 3 (message (round 0 0) (pair 1 1) (round 0 0))
+    ∷ Deliver 2 (message (round 0 0) (pair 1 0) (round 0 0))
+    ∷ Deliver 2 (message (round 1 0) (pair 2 0) (round 1 0))
+    ∷ Deliver 1 (message (round 1 0) (pair 3 0) (1 ∷ []))
+    ∷ Deliver 1 (message (round 1 0) (pair 2 0) (1 ∷ []))
+    ∷ Deliver 0 (message (1 ∷ []) (pair 3 0) (1 ∷ []))
+    ∷ Deliver 0 (message (1 ∷ []) (pair 2 0) (1 ∷ []))
+    ∷ Inject 0 1
+    ∷ Deliver 1 (message (round 0 0) (pair 1 0) (0 ∷ []))
+    ∷ Deliver 0 (message (0 ∷ []) (pair 1 0) (0 ∷ []))
+    ∷ Inject 0 0
+    ∷ []
 
 -- what is pending on each edge
 abbrev pub still_pending : List (List Message)
 still_pending =
-  [] ∷ []
-  ∷ (message (round 1 0) (pair 3 0) (round 1 0) ∷ [])
-  ∷ (message (round 0 2) (pair 1 3) (round 0 2) ∷ message (round 1 0) (pair 2 1) (round 1 0) ∷ [])
-  ∷ []
-  ∷ (message (round 0 2) (pair 1 3) (round 0 2)
-     ∷ message (round 0 1) (pair 1 2) (round 0 1)
-     ∷ message (round 0 0) (pair 1 1) (round 0 0)
-     ∷ message (round 1 0) (pair 2 1) (round 1 0)
-     ∷ [])
-  ∷ []
-  ∷ []
+    [] ∷ []
+    ∷ (message (round 1 0) (pair 3 0) (round 1 0) ∷ [])
+    ∷ (message (round 0 2) (pair 1 3) (round 0 2) ∷ message (round 1 0) (pair 2 1) (round 1 0) ∷ [])
+    ∷ []
+    ∷ (message (round 0 2) (pair 1 3) (round 0 2)
+    ∷ message (round 0 1) (pair 1 2) (round 0 1)
+    ∷ message (round 0 0) (pair 1 1) (round 0 0)
+    ∷ message (round 1 0) (pair 2 1) (round 1 0)
+    ∷ [])
+    ∷ []
+    ∷ []
 
 -- up to which stamps the node that counts up is complete
 abbrev pub counted_rounds : Front
@@ -71,13 +71,13 @@ pub record IsUnderWay : Type 0 where
 -- and nothing behind the loop.
 abbrev pub complete_fronts : List Front
 complete_fronts =
-  [] ∷ []
-  ∷ (round 0 3 ∷ round 1 1 ∷ [])
-  ∷ counted_rounds
-  ∷ (round 0 2 ∷ round 1 0 ∷ [])
-  ∷ (round 0 0 ∷ [])
-  ∷ ((0 ∷ []) ∷ [])
-  ∷ []
+    [] ∷ []
+    ∷ (round 0 3 ∷ round 1 1 ∷ [])
+    ∷ counted_rounds
+    ∷ (round 0 2 ∷ round 1 0 ∷ [])
+    ∷ (round 0 0 ∷ [])
+    ∷ ((0 ∷ []) ∷ [])
+    ∷ []
 
 -- the complete frontier of a node
 abbrev pub complete_at : ℕ → Frontier

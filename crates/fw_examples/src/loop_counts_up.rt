@@ -4,17 +4,14 @@ ghost use Rattle.fw_examples.specs.LoopCountsUp.{LoopIsWellFormed, OneBatchCount
 /// The dataflow is well formed.
 pub fn loop_is_well_formed()
     ensures { LoopIsWellFormed }
-{
-}
+{}
 
 /// One batch denotes a value for each counter.
 pub fn one_batch_counts_up()
     ensures { OneBatchCountsUp }
-{
-}
+{}
 
 /// Two batches denote a value for each counter and rec, each at its own epoch.
 pub fn two_batches_count_up()
     ensures { TwoBatchesCountUp }
-{
-}
+{}

@@ -4,17 +4,14 @@ ghost use Rattle.fw_examples.specs.Recovery.{IsRestored, IsRestoredChoice, RunsT
 /// The failed node is cut to what is settled of it, and all others stay as they are.
 pub fn is_restored_choice()
     ensures { IsRestoredChoice }
-{
-}
+{}
 
 /// A recovery strikes the one event outside the cut of its node.
 pub fn is_restored()
     ensures { IsRestored }
-{
-}
+{}
 
 /// The machine takes the steps up to the recovery.
 pub fn runs_to_recovery()
     ensures { RunsToRecovery }
-{
-}
+{}

@@ -75,6 +75,11 @@ asked : (at : Option Stamp) (t : Stamp) → IsAsked at t → is_asked at t ≡ t
 asked None t h = refl
 asked (Some s) t h = let P : Stamp → Type 0 = λ u. is_eq (stamp_cmp s u) ≡ true in subst P h (ap is_eq (stamp_cmp-refl s))
 
+-- and back
+pub is_asked-asked : (at : Option Stamp) (t : Stamp) → is_asked at t ≡ true → IsAsked at t
+is_asked-asked None t h = tt
+is_asked-asked (Some s) t h = stamp_cmp-same s t (equal_from_is_eq (stamp_cmp s t) h)
+
 not_greater : (at : Option Stamp) (m x : Message) → IsAsked at x.at → (not (is_asked at x.at) || not (is_gt (message_cmp m x))) ≡ true
     → is_gt (message_cmp m x) ≡ false
 not_greater at m x a h = by_cases (or_cases (not (is_asked at x.at)) (not (is_gt (message_cmp m x))) h)

@@ -11,7 +11,7 @@ use Rattle.fw_examples.specs.UnderWay.{under_way, still_pending}
 use Rattle.fw_examples.specs.Recovery.{without_the_second, with_serials, pending_again, restored}
 
 -- nothing less some messages is nothing
-less-nothing : (ds : List Message) → less [] ds ≡ []
+pub less-nothing : (ds : List Message) → less [] ds ≡ []
 less-nothing [] = refl
 less-nothing (d ∷ ds) = ap (without d) (less-nothing ds)
 

@@ -1,4 +1,6 @@
 pub mod Complete
+pub mod Deliveries
+pub mod Ending
 pub mod First
 pub mod Largest
 pub mod Legal

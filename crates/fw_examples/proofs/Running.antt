@@ -1,19 +1,22 @@
 -- The machine runs to the recovery.
-use Rattle.std.proofs.Common.{◌≡◌, ℕ, zero, suc, ◌<◌, true, Some, None, List, [], ◌∷◌, length, drop, refl, lit<, arith}
+use Rattle.std.proofs.Common.{◌≡◌, ℕ, zero, suc, ◌<◌, true, false, Option, Some, None, List, [], ◌∷◌, length, refl, lit<, arith}
 use Rattle.std.proofs.lemmas.Bool.Decides.{nat_tests}
 use Rattle.fw_time.specs.Stamp.{Stamp}
 use Rattle.fw_frontier.specs.Frontier.{join}
 use Rattle.fw_frontier.specs.Front.{Front, Names, frontier_of}
 use Rattle.fw_flow.specs.declared.event.Event.{Event}
 use Rattle.fw_flow.specs.declared.step.Step.TheVariants as step
+use Rattle.fw_flow.specs.declared.step.Step.{Step}
 use Rattle.fw_flow.specs.Dataflow.{kind_of, policy_of, sender, receiver, bounds_of, batches_of, max_of}
 use Rattle.fw_flow.specs.NodeFunction.{sends}
 use Rattle.fw_model.specs.Machine.{Machine, first_state, front_of, is_failed}
-use Rattle.fw_model.specs.Steps.{Takes, GrowsTo, Run, quiet, cuts, recovered}
+use Rattle.fw_model.specs.Steps.{Outcome, did, Takes, GrowsTo, Run, quiet, cuts, recovered, with_event}
 use Rattle.fw_examples.specs.Flows.{loop_counts_up, two_batches, pair}
 use Rattle.fw_examples.specs.UnderWay.{message, round, under_way, complete_fronts, complete_at}
 use Rattle.fw_examples.specs.Recovery.{with_serials, counting_failed, restored, steps_taken, outcomes_shown}
-use Rattle.fw_examples.proofs.First.{next_message}
+use Rattle.fw_flow.specs.declared.event.Event.TheVariants.{Inject}
+use Rattle.fw_flow.specs.declared.event.Message.{Message}
+use Rattle.fw_examples.proofs.Deliveries.{Delivery, after_all, steps_of, outcomes_of, runs_deliveries}
 use Rattle.fw_examples.proofs.Complete.{under_way_is_complete}
 use Rattle.fw_examples.proofs.Largest.{restored_is_largest, settled_stays}
 
@@ -21,153 +24,45 @@ use Rattle.fw_examples.proofs.Largest.{restored_is_largest, settled_stays}
 abbrev pub after : List Event → Machine
 after h = record (first_state two_batches) { history = with_serials h; next = length h }
 
-takes_0 : Takes two_batches (after (drop 16 under_way)) (step.Inject 0) (after (drop 15 under_way)) quiet
-unfolding kind_of policy_of sender receiver bounds_of batches_of max_of sends
-takes_0 = (0, record { input = refl; next = refl; there = lit< tt }, refl, refl, refl)
+takes_first_batch : Takes two_batches (first_state two_batches) (step.Inject 0) (with_event two_batches (first_state two_batches) (Inject 0 0)) quiet
+unfolding batches_of kind_of
+takes_first_batch = (0, record { input = refl; next = refl; there = lit< tt }, refl, refl, refl)
 
-takes_1 : Takes two_batches (after (drop 15 under_way)) (step.Deliver 0 None) (after (drop 14 under_way)) quiet
-unfolding kind_of policy_of sender receiver bounds_of batches_of max_of sends
-takes_1 = (
-  (message (0 ∷ []) (pair 1 0) (0 ∷ [])),
-  next_message two_batches (drop 15 under_way) 0 None (message (0 ∷ []) (pair 1 0) (0 ∷ [])) (record { is_pending = refl; numbered = λ h. cc }) tt refl,
-  refl,
-  refl,
-  refl,
-)
+-- a delivery
+abbrev delivery : ℕ → Option Stamp → Message → Delivery
+delivery edge asked message = record { edge = edge; asked = asked; message = message }
 
-takes_2 : Takes two_batches (after (drop 14 under_way)) (step.Deliver 1 None) (after (drop 13 under_way)) quiet
-unfolding kind_of policy_of sender receiver bounds_of batches_of max_of sends
-takes_2 = (
-  (message (round 0 0) (pair 1 0) (0 ∷ [])),
-  next_message two_batches (drop 14 under_way) 1 None (message (round 0 0) (pair 1 0) (0 ∷ [])) (record { is_pending = refl; numbered = λ h. cc }) tt refl,
-  refl,
-  refl,
-  refl,
-)
+-- what is delivered between the batches
+abbrev first_deliveries : List Delivery
+first_deliveries =
+  delivery 0 None (message (0 ∷ []) (pair 1 0) (0 ∷ []))
+  ∷ delivery 1 None (message (round 0 0) (pair 1 0) (0 ∷ []))
+  ∷ []
 
-takes_3 : Takes two_batches (after (drop 13 under_way)) (step.Inject 0) (after (drop 12 under_way)) quiet
-unfolding kind_of policy_of sender receiver bounds_of batches_of max_of sends
-takes_3 = (1, record { input = refl; next = refl; there = lit< tt }, refl, refl, refl)
+-- and after them
+abbrev second_deliveries : List Delivery
+second_deliveries =
+  delivery 0 None (message (1 ∷ []) (pair 2 0) (1 ∷ []))
+  ∷ delivery 0 None (message (1 ∷ []) (pair 3 0) (1 ∷ []))
+  ∷ delivery 1 (Some (round 1 0)) (message (round 1 0) (pair 2 0) (1 ∷ []))
+  ∷ delivery 1 (Some (round 1 0)) (message (round 1 0) (pair 3 0) (1 ∷ []))
+  ∷ delivery 2 (Some (round 1 0)) (message (round 1 0) (pair 2 0) (round 1 0))
+  ∷ delivery 2 (Some (round 0 0)) (message (round 0 0) (pair 1 0) (round 0 0))
+  ∷ delivery 3 (Some (round 0 0)) (message (round 0 0) (pair 1 1) (round 0 0))
+  ∷ delivery 4 None (message (round 0 1) (pair 1 1) (round 0 0))
+  ∷ delivery 2 (Some (round 0 1)) (message (round 0 1) (pair 1 1) (round 0 1))
+  ∷ delivery 3 (Some (round 0 1)) (message (round 0 1) (pair 1 2) (round 0 1))
+  ∷ delivery 4 None (message (round 0 2) (pair 1 2) (round 0 1))
+  ∷ delivery 2 (Some (round 0 2)) (message (round 0 2) (pair 1 2) (round 0 2))
+  ∷ []
 
-takes_4 : Takes two_batches (after (drop 12 under_way)) (step.Deliver 0 None) (after (drop 11 under_way)) quiet
-unfolding kind_of policy_of sender receiver bounds_of batches_of max_of sends
-takes_4 = (
-  (message (1 ∷ []) (pair 2 0) (1 ∷ [])),
-  next_message two_batches (drop 12 under_way) 0 None (message (1 ∷ []) (pair 2 0) (1 ∷ [])) (record { is_pending = refl; numbered = λ h. cc }) tt refl,
-  refl,
-  refl,
-  refl,
-)
+-- the state before the second batch
+abbrev one_injected : Machine
+one_injected = after_all two_batches (with_event two_batches (first_state two_batches) (Inject 0 0)) first_deliveries
 
-takes_5 : Takes two_batches (after (drop 11 under_way)) (step.Deliver 0 None) (after (drop 10 under_way)) quiet
+takes_second_batch : Takes two_batches one_injected (step.Inject 0) (with_event two_batches one_injected (Inject 0 1)) quiet
 unfolding kind_of policy_of sender receiver bounds_of batches_of max_of sends
-takes_5 = (
-  (message (1 ∷ []) (pair 3 0) (1 ∷ [])),
-  next_message two_batches (drop 11 under_way) 0 None (message (1 ∷ []) (pair 3 0) (1 ∷ [])) (record { is_pending = refl; numbered = λ h. cc }) tt refl,
-  refl,
-  refl,
-  refl,
-)
-
-takes_6 : Takes two_batches (after (drop 10 under_way)) (step.Deliver 1 (Some (round 1 0))) (after (drop 9 under_way)) quiet
-unfolding kind_of policy_of sender receiver bounds_of batches_of max_of sends
-takes_6 = (
-  (message (round 1 0) (pair 2 0) (1 ∷ [])),
-  next_message two_batches (drop 10 under_way) 1 (Some (round 1 0)) (message (round 1 0) (pair 2 0) (1 ∷ [])) (record { is_pending = refl; numbered = λ h. cc }) refl refl,
-  refl,
-  refl,
-  refl,
-)
-
-takes_7 : Takes two_batches (after (drop 9 under_way)) (step.Deliver 1 (Some (round 1 0))) (after (drop 8 under_way)) quiet
-unfolding kind_of policy_of sender receiver bounds_of batches_of max_of sends
-takes_7 = (
-  (message (round 1 0) (pair 3 0) (1 ∷ [])),
-  next_message two_batches (drop 9 under_way) 1 (Some (round 1 0)) (message (round 1 0) (pair 3 0) (1 ∷ [])) (record { is_pending = refl; numbered = λ h. cc }) refl refl,
-  refl,
-  refl,
-  refl,
-)
-
-takes_8 : Takes two_batches (after (drop 8 under_way)) (step.Deliver 2 (Some (round 1 0))) (after (drop 7 under_way)) quiet
-unfolding kind_of policy_of sender receiver bounds_of batches_of max_of sends
-takes_8 = (
-  (message (round 1 0) (pair 2 0) (round 1 0)),
-  next_message two_batches (drop 8 under_way) 2 (Some (round 1 0)) (message (round 1 0) (pair 2 0) (round 1 0)) (record { is_pending = refl; numbered = λ h. cc }) refl refl,
-  refl,
-  refl,
-  refl,
-)
-
-takes_9 : Takes two_batches (after (drop 7 under_way)) (step.Deliver 2 (Some (round 0 0))) (after (drop 6 under_way)) quiet
-unfolding kind_of policy_of sender receiver bounds_of batches_of max_of sends
-takes_9 = (
-  (message (round 0 0) (pair 1 0) (round 0 0)),
-  next_message two_batches (drop 7 under_way) 2 (Some (round 0 0)) (message (round 0 0) (pair 1 0) (round 0 0)) (record { is_pending = refl; numbered = λ h. cc }) refl refl,
-  refl,
-  refl,
-  refl,
-)
-
-takes_10 : Takes two_batches (after (drop 6 under_way)) (step.Deliver 3 (Some (round 0 0))) (after (drop 5 under_way)) quiet
-unfolding kind_of policy_of sender receiver bounds_of batches_of max_of sends
-takes_10 = (
-  (message (round 0 0) (pair 1 1) (round 0 0)),
-  next_message two_batches (drop 6 under_way) 3 (Some (round 0 0)) (message (round 0 0) (pair 1 1) (round 0 0)) (record { is_pending = refl; numbered = λ h. cc }) refl refl,
-  refl,
-  refl,
-  refl,
-)
-
-takes_11 : Takes two_batches (after (drop 5 under_way)) (step.Deliver 4 None) (after (drop 4 under_way)) quiet
-unfolding kind_of policy_of sender receiver bounds_of batches_of max_of sends
-takes_11 = (
-  (message (round 0 1) (pair 1 1) (round 0 0)),
-  next_message two_batches (drop 5 under_way) 4 None (message (round 0 1) (pair 1 1) (round 0 0)) (record { is_pending = refl; numbered = λ h. cc }) tt refl,
-  refl,
-  refl,
-  refl,
-)
-
-takes_12 : Takes two_batches (after (drop 4 under_way)) (step.Deliver 2 (Some (round 0 1))) (after (drop 3 under_way)) quiet
-unfolding kind_of policy_of sender receiver bounds_of batches_of max_of sends
-takes_12 = (
-  (message (round 0 1) (pair 1 1) (round 0 1)),
-  next_message two_batches (drop 4 under_way) 2 (Some (round 0 1)) (message (round 0 1) (pair 1 1) (round 0 1)) (record { is_pending = refl; numbered = λ h. cc }) refl refl,
-  refl,
-  refl,
-  refl,
-)
-
-takes_13 : Takes two_batches (after (drop 3 under_way)) (step.Deliver 3 (Some (round 0 1))) (after (drop 2 under_way)) quiet
-unfolding kind_of policy_of sender receiver bounds_of batches_of max_of sends
-takes_13 = (
-  (message (round 0 1) (pair 1 2) (round 0 1)),
-  next_message two_batches (drop 3 under_way) 3 (Some (round 0 1)) (message (round 0 1) (pair 1 2) (round 0 1)) (record { is_pending = refl; numbered = λ h. cc }) refl refl,
-  refl,
-  refl,
-  refl,
-)
-
-takes_14 : Takes two_batches (after (drop 2 under_way)) (step.Deliver 4 None) (after (drop 1 under_way)) quiet
-unfolding kind_of policy_of sender receiver bounds_of batches_of max_of sends
-takes_14 = (
-  (message (round 0 2) (pair 1 2) (round 0 1)),
-  next_message two_batches (drop 2 under_way) 4 None (message (round 0 2) (pair 1 2) (round 0 1)) (record { is_pending = refl; numbered = λ h. cc }) tt refl,
-  refl,
-  refl,
-  refl,
-)
-
-takes_15 : Takes two_batches (after (drop 1 under_way)) (step.Deliver 2 (Some (round 0 2))) (after (drop 0 under_way)) quiet
-unfolding kind_of policy_of sender receiver bounds_of batches_of max_of sends
-takes_15 = (
-  (message (round 0 2) (pair 1 2) (round 0 2)),
-  next_message two_batches (drop 1 under_way) 2 (Some (round 0 2)) (message (round 0 2) (pair 1 2) (round 0 2)) (record { is_pending = refl; numbered = λ h. cc }) refl refl,
-  refl,
-  refl,
-  refl,
-)
+takes_second_batch = (1, record { input = refl; next = refl; there = lit< tt }, refl, refl, refl)
 
 -- what is settled at first adds nothing
 nothing_in_one : (m : ℕ) (os : Front) (t : Stamp)
@@ -232,77 +127,37 @@ takes_failure = (3, lit< tt, refl, refl, refl, refl)
 takes_recovery : Takes two_batches counting_failed step.Recover (recovered two_batches counting_failed restored complete_fronts) (cuts restored)
 takes_recovery = (3, restored, complete_fronts, lit< tt, refl, restored_is_largest, settled_stays, refl, refl)
 
+-- what is left after all deliveries
+abbrev last_steps : List Step
+last_steps = step.Progress ∷ step.Fail (3 ∷ []) ∷ step.Recover ∷ []
+
+abbrev last_outcomes : List Outcome
+last_outcomes = did quiet ∷ did quiet ∷ did (cuts restored) ∷ []
+
+takes_last : Run two_batches (after under_way) last_steps last_outcomes (recovered two_batches counting_failed restored complete_fronts)
+takes_last =
+    (all_settled, takes_progress,
+     (counting_failed, takes_failure,
+      (recovered two_batches counting_failed restored complete_fronts, takes_recovery, refl)))
+
+takes_second : Run two_batches (with_event two_batches one_injected (Inject 0 1))
+    (steps_of second_deliveries last_steps) (outcomes_of second_deliveries last_outcomes)
+    (recovered two_batches counting_failed restored complete_fronts)
+unfolding kind_of policy_of sender receiver bounds_of batches_of max_of sends
+takes_second =
+    runs_deliveries two_batches second_deliveries (with_event two_batches one_injected (Inject 0 1)) last_steps last_outcomes
+      (recovered two_batches counting_failed restored complete_fronts) refl takes_last
+
+takes_first : Run two_batches (with_event two_batches (first_state two_batches) (Inject 0 0))
+    (steps_of first_deliveries (step.Inject 0 ∷ steps_of second_deliveries last_steps))
+    (outcomes_of first_deliveries (did quiet ∷ outcomes_of second_deliveries last_outcomes))
+    (recovered two_batches counting_failed restored complete_fronts)
+unfolding kind_of policy_of sender receiver bounds_of batches_of max_of sends
+takes_first =
+    runs_deliveries two_batches first_deliveries (with_event two_batches (first_state two_batches) (Inject 0 0))
+      (step.Inject 0 ∷ steps_of second_deliveries last_steps) (did quiet ∷ outcomes_of second_deliveries last_outcomes)
+      (recovered two_batches counting_failed restored complete_fronts) refl
+      (with_event two_batches one_injected (Inject 0 1), takes_second_batch, takes_second)
+
 pub runs_to_recovery : Run two_batches (first_state two_batches) steps_taken outcomes_shown (recovered two_batches counting_failed restored complete_fronts)
-runs_to_recovery = (
-  after (drop 15 under_way),
-  takes_0,
-  (
-    after (drop 14 under_way),
-    takes_1,
-    (
-      after (drop 13 under_way),
-      takes_2,
-      (
-        after (drop 12 under_way),
-        takes_3,
-        (
-          after (drop 11 under_way),
-          takes_4,
-          (
-            after (drop 10 under_way),
-            takes_5,
-            (
-              after (drop 9 under_way),
-              takes_6,
-              (
-                after (drop 8 under_way),
-                takes_7,
-                (
-                  after (drop 7 under_way),
-                  takes_8,
-                  (
-                    after (drop 6 under_way),
-                    takes_9,
-                    (
-                      after (drop 5 under_way),
-                      takes_10,
-                      (
-                        after (drop 4 under_way),
-                        takes_11,
-                        (
-                          after (drop 3 under_way),
-                          takes_12,
-                          (
-                            after (drop 2 under_way),
-                            takes_13,
-                            (
-                              after (drop 1 under_way),
-                              takes_14,
-                              (
-                                after (drop 0 under_way),
-                                takes_15,
-                                (
-                                  all_settled,
-                                  takes_progress,
-                                  (
-                                    counting_failed,
-                                    takes_failure,
-                                    (recovered two_batches counting_failed restored complete_fronts, takes_recovery, refl),
-                                  ),
-                                ),
-                              ),
-                            ),
-                          ),
-                        ),
-                      ),
-                    ),
-                  ),
-                ),
-              ),
-            ),
-          ),
-        ),
-      ),
-    ),
-  ),
-)
+runs_to_recovery = (with_event two_batches (first_state two_batches) (Inject 0 0), takes_first_batch, takes_first)

@@ -1,5 +1,5 @@
 -- A recovery of the loop that counts up, after the node that counts up failed with both batches under way.
-use Rattle.std.specs.Prelude.{◌≡◌, ℕ, true, false, List, [], ◌∷◌, ◌++◌, length, replicate, Some, None, slice_index_or}
+use Rattle.std.specs.Prelude.{◌≡◌, ℕ, true, false, List, [], ◌∷◌, ◌++◌, length, map, replicate, Some, None, slice_index_or}
 use Rattle.fw_flow.specs.declared.choice.Cut.TheVariants.{Present, At}
 use Rattle.fw_flow.specs.declared.event.Event.{Event}
 use Rattle.fw_flow.specs.declared.event.Event.TheVariants.{Inject, Deliver}
@@ -9,7 +9,7 @@ use Rattle.fw_flow.specs.declared.step.Step.TheVariants as step
 use Rattle.fw_model.specs.History.{IsLegal, pending}
 use Rattle.fw_model.specs.Machine.{Machine, Numbered, events, first_state}
 use Rattle.fw_model.specs.Choice.{Choice, filtered, IsLargest}
-use Rattle.fw_model.specs.Steps.{Outcome, did, quiet, cuts, CutsTo, Run, offers, recovered}
+use Rattle.fw_model.specs.Steps.{Outcome, did, quiet, acked, cuts, CutsTo, Run, offers, recovered}
 use Rattle.fw_examples.specs.Flows.{two_batches, pair}
 use Rattle.fw_examples.specs.UnderWay.{message, round, under_way, counted_rounds, complete_fronts}
 
@@ -111,3 +111,27 @@ outcomes_shown = replicate 18 (did quiet) ++ did (cuts restored) ∷ []
 abbrev pub RunsToRecovery : Type 0
 RunsToRecovery =
     Run two_batches (first_state two_batches) steps_taken outcomes_shown (recovered two_batches counting_failed restored complete_fronts)
+
+-- the edges of the deliveries after the recovery, always the first edge on which something is pending
+abbrev pub edges_delivered : List ℕ
+edges_delivered =
+  2 ∷ 2 ∷ 3 ∷ 3 ∷ 3 ∷ 4 ∷ 2 ∷ 3 ∷ 4 ∷ 2 ∷ 3 ∷ 4 ∷ 2 ∷ 3 ∷ 4 ∷ 2 ∷ 3 ∷ 4 ∷ 2 ∷ 3 ∷ 4 ∷ 2 ∷ 3 ∷ 4 ∷ 2 ∷
+  3 ∷ 5 ∷ 5 ∷ 5 ∷ 5 ∷ 5 ∷ 5 ∷ 5 ∷ 5 ∷ 5 ∷ 5 ∷ 5 ∷ 5 ∷ 6 ∷ 6 ∷ 6 ∷ 6 ∷ 6 ∷ 6 ∷ 6 ∷ 6 ∷ 6 ∷ 6 ∷ 6 ∷ 6 ∷ []
+
+-- the steps after the recovery: the deliveries, what is complete becomes settled, and both epochs are acknowledged
+abbrev pub steps_left : List Step
+steps_left = map (λ e. step.Deliver e None) edges_delivered ++ step.Progress ∷ step.Ack 6 ∷ step.Ack 6 ∷ []
+
+-- none of them shows something but the acknowledgements, which show what the batches denote
+abbrev pub outcomes_left : List Outcome
+outcomes_left =
+  replicate 51 (did quiet)
+  ++ did (acked 6 (0 ∷ []) (pair 1 1 ∷ pair 1 2 ∷ pair 1 3 ∷ pair 1 4 ∷ []))
+  ∷ did (acked 6 (1 ∷ []) (pair 2 1 ∷ pair 2 2 ∷ pair 2 3 ∷ pair 2 4 ∷ pair 3 1 ∷ pair 3 2 ∷ pair 3 3 ∷ pair 3 4 ∷ []))
+  ∷ []
+
+-- from the recovered state the machine takes these steps, with these outcomes
+abbrev pub RunsToTheEnd : Type 0
+RunsToTheEnd =
+    (last : Machine)
+    × Run two_batches (recovered two_batches counting_failed restored complete_fronts) steps_left outcomes_left last

@@ -1,5 +1,5 @@
 -- Deliveries in a row, of which one test tells that the machine takes them.
-use Rattle.std.proofs.Common.{◌≡◌, ℕ, Bool, true, false, not, ◌&&◌, Option, Some, None, List, [], ◌∷◌, refl}
+use Rattle.std.proofs.Common.{◌≡◌, ℕ, Bool, true, false, not, ◌&&◌, Option, List, [], ◌∷◌, refl}
 use Rattle.std.proofs.lemmas.Bool.{and_parts, not-true}
 use Rattle.fw_time.specs.Stamp.{Stamp}
 use Rattle.fw_flow.specs.declared.event.Event.TheVariants.{Deliver}
@@ -63,8 +63,14 @@ runs_deliveries sys (d ∷ ds) state steps outcomes last h run =
     let plain = and_parts (not (is_numbered sys.flow d.edge)) _ among.1 in
     let live = and_parts (not (is_failed state (receiver sys.flow d.edge))) (is_first d.asked d.message (pending sys (events state.history) d.edge)) plain.1 in
     let not_numbered : is_numbered sys.flow d.edge ≡ false = not-true (is_numbered sys.flow d.edge) plain.0 in
-    let deliverable : IsDeliverable sys (events state.history) d.edge d.message = record { is_pending = among.0; numbered = λ n. cc } in
-    (after_one sys state d,
-     (d.message, next_message sys (events state.history) d.edge d.asked d.message deliverable (is_asked-asked d.asked d.message.at asked.0) live.1,
-      not-true (is_failed state (receiver sys.flow d.edge)) live.0, refl, refl),
-     runs_deliveries sys ds (after_one sys state d) steps outcomes last one.1 run)
+    let deliverable : IsDeliverable sys (events state.history) d.edge d.message = record { is_pending = among.0; numbered = λ n. cc } in (
+      after_one sys state d,
+      (
+        d.message,
+        next_message sys (events state.history) d.edge d.asked d.message deliverable (is_asked-asked d.asked d.message.at asked.0) live.1,
+        not-true (is_failed state (receiver sys.flow d.edge)) live.0,
+        refl,
+        refl,
+      ),
+      runs_deliveries sys ds (after_one sys state d) steps outcomes last one.1 run,
+    )

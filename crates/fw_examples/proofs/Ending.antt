@@ -1,23 +1,22 @@
 -- The machine runs from the recovery to the end.
-use Rattle.std.proofs.Common.{◌≡◌, inl, inr, ℕ, zero, suc, ◌+◌, ◌<◌, Bool, true, false, ◌&&◌, ◌||◌, Option, Some, None, List, [], ◌∷◌, length, drop, replicate, refl, sym, ap, ◌∙◌, lit<, arith}
-use Rattle.std.proofs.lemmas.Bool.{and_parts, and_from}
+use Rattle.std.proofs.Common.{◌≡◌, inl, ℕ, zero, suc, ◌<◌, Bool, true, false, ◌&&◌, ◌||◌, None, List, [], ◌∷◌, replicate, refl, ap, lit<, arith}
+use Rattle.std.proofs.lemmas.Bool.{and_from}
 use Rattle.std.proofs.lemmas.Bool.Decides.{nat_tests}
 use Rattle.fw_time.specs.Stamp.{Stamp, same, in_domain}
 use Rattle.fw_frontier.specs.Frontier.{Frontier, Within, join}
-use Rattle.fw_frontier.specs.Front.{Front, Names, inside, frontier_of}
+use Rattle.fw_frontier.specs.Front.{Names, inside, frontier_of}
 use Rattle.fw_flow.specs.declared.event.Event.{Event}
-use Rattle.fw_flow.specs.declared.event.Event.TheVariants.{Deliver}
 use Rattle.fw_flow.specs.declared.step.Step.TheVariants as step
 use Rattle.fw_flow.specs.declared.step.Step.{Step}
 use Rattle.fw_flow.specs.Dataflow.{kind_of, policy_of, sender, receiver, bounds_of, batches_of, max_of, is_input_kind}
 use Rattle.fw_flow.specs.NodeFunction.{sends}
 use Rattle.fw_flow.specs.Projection.{phi}
-use Rattle.fw_model.specs.History.{IsAdmissible, IsComplete, IsQuiet, injected_epochs, owed, delivered, pending, some_at}
-use Rattle.fw_model.specs.Machine.{Machine, Numbered, events, front_of, is_failed}
+use Rattle.fw_model.specs.History.{IsComplete, injected_epochs, owed, delivered, pending, some_at}
+use Rattle.fw_model.specs.Machine.{Machine, events, front_of, is_failed}
 use Rattle.fw_model.specs.Steps.{Outcome, did, Takes, GrowsTo, Run, quiet, acked, recovered}
 use Rattle.fw_examples.specs.Flows.{loop_counts_up, two_batches, pair}
 use Rattle.fw_examples.specs.UnderWay.{message, round, complete_fronts}
-use Rattle.fw_examples.specs.Recovery.{counting_failed, restored, without_the_second, steps_left, outcomes_left, RunsToTheEnd}
+use Rattle.fw_examples.specs.Recovery.{counting_failed, restored, RunsToTheEnd}
 use Rattle.fw_flow.specs.declared.event.Message.{Message}
 use Rattle.fw_examples.proofs.Deliveries.{Delivery, after_all, runs_deliveries}
 use Rattle.fw_examples.proofs.Legal.{less-nothing}
@@ -30,57 +29,57 @@ delivery edge message = record { edge = edge; asked = None; message = message }
 -- the deliveries after the recovery
 abbrev rest : List Delivery
 rest =
-  delivery 2 (message (round 1 0) (pair 2 0) (round 1 0))
-  ∷ delivery 2 (message (round 1 0) (pair 3 0) (round 1 0))
-  ∷ delivery 3 (message (round 0 2) (pair 1 3) (round 0 2))
-  ∷ delivery 3 (message (round 1 0) (pair 2 1) (round 1 0))
-  ∷ delivery 3 (message (round 1 0) (pair 3 1) (round 1 0))
-  ∷ delivery 4 (message (round 0 3) (pair 1 3) (round 0 2))
-  ∷ delivery 2 (message (round 0 3) (pair 1 3) (round 0 3))
-  ∷ delivery 3 (message (round 0 3) (pair 1 4) (round 0 3))
-  ∷ delivery 4 (message (round 1 1) (pair 2 1) (round 1 0))
-  ∷ delivery 2 (message (round 1 1) (pair 2 1) (round 1 1))
-  ∷ delivery 3 (message (round 1 1) (pair 2 2) (round 1 1))
-  ∷ delivery 4 (message (round 1 1) (pair 3 1) (round 1 0))
-  ∷ delivery 2 (message (round 1 1) (pair 3 1) (round 1 1))
-  ∷ delivery 3 (message (round 1 1) (pair 3 2) (round 1 1))
-  ∷ delivery 4 (message (round 1 2) (pair 2 2) (round 1 1))
-  ∷ delivery 2 (message (round 1 2) (pair 2 2) (round 1 2))
-  ∷ delivery 3 (message (round 1 2) (pair 2 3) (round 1 2))
-  ∷ delivery 4 (message (round 1 2) (pair 3 2) (round 1 1))
-  ∷ delivery 2 (message (round 1 2) (pair 3 2) (round 1 2))
-  ∷ delivery 3 (message (round 1 2) (pair 3 3) (round 1 2))
-  ∷ delivery 4 (message (round 1 3) (pair 2 3) (round 1 2))
-  ∷ delivery 2 (message (round 1 3) (pair 2 3) (round 1 3))
-  ∷ delivery 3 (message (round 1 3) (pair 2 4) (round 1 3))
-  ∷ delivery 4 (message (round 1 3) (pair 3 3) (round 1 2))
-  ∷ delivery 2 (message (round 1 3) (pair 3 3) (round 1 3))
-  ∷ delivery 3 (message (round 1 3) (pair 3 4) (round 1 3))
-  ∷ delivery 5 (message (round 0 0) (pair 1 1) (round 0 0))
-  ∷ delivery 5 (message (round 0 1) (pair 1 2) (round 0 1))
-  ∷ delivery 5 (message (round 0 2) (pair 1 3) (round 0 2))
-  ∷ delivery 5 (message (round 0 3) (pair 1 4) (round 0 3))
-  ∷ delivery 5 (message (round 1 0) (pair 2 1) (round 1 0))
-  ∷ delivery 5 (message (round 1 0) (pair 3 1) (round 1 0))
-  ∷ delivery 5 (message (round 1 1) (pair 2 2) (round 1 1))
-  ∷ delivery 5 (message (round 1 1) (pair 3 2) (round 1 1))
-  ∷ delivery 5 (message (round 1 2) (pair 2 3) (round 1 2))
-  ∷ delivery 5 (message (round 1 2) (pair 3 3) (round 1 2))
-  ∷ delivery 5 (message (round 1 3) (pair 2 4) (round 1 3))
-  ∷ delivery 5 (message (round 1 3) (pair 3 4) (round 1 3))
-  ∷ delivery 6 (message (0 ∷ []) (pair 1 1) (round 0 0))
-  ∷ delivery 6 (message (0 ∷ []) (pair 1 2) (round 0 1))
-  ∷ delivery 6 (message (0 ∷ []) (pair 1 3) (round 0 2))
-  ∷ delivery 6 (message (0 ∷ []) (pair 1 4) (round 0 3))
-  ∷ delivery 6 (message (1 ∷ []) (pair 2 1) (round 1 0))
-  ∷ delivery 6 (message (1 ∷ []) (pair 2 2) (round 1 1))
-  ∷ delivery 6 (message (1 ∷ []) (pair 2 3) (round 1 2))
-  ∷ delivery 6 (message (1 ∷ []) (pair 2 4) (round 1 3))
-  ∷ delivery 6 (message (1 ∷ []) (pair 3 1) (round 1 0))
-  ∷ delivery 6 (message (1 ∷ []) (pair 3 2) (round 1 1))
-  ∷ delivery 6 (message (1 ∷ []) (pair 3 3) (round 1 2))
-  ∷ delivery 6 (message (1 ∷ []) (pair 3 4) (round 1 3))
-  ∷ []
+    delivery 2 (message (round 1 0) (pair 2 0) (round 1 0))
+    ∷ delivery 2 (message (round 1 0) (pair 3 0) (round 1 0))
+    ∷ delivery 3 (message (round 0 2) (pair 1 3) (round 0 2))
+    ∷ delivery 3 (message (round 1 0) (pair 2 1) (round 1 0))
+    ∷ delivery 3 (message (round 1 0) (pair 3 1) (round 1 0))
+    ∷ delivery 4 (message (round 0 3) (pair 1 3) (round 0 2))
+    ∷ delivery 2 (message (round 0 3) (pair 1 3) (round 0 3))
+    ∷ delivery 3 (message (round 0 3) (pair 1 4) (round 0 3))
+    ∷ delivery 4 (message (round 1 1) (pair 2 1) (round 1 0))
+    ∷ delivery 2 (message (round 1 1) (pair 2 1) (round 1 1))
+    ∷ delivery 3 (message (round 1 1) (pair 2 2) (round 1 1))
+    ∷ delivery 4 (message (round 1 1) (pair 3 1) (round 1 0))
+    ∷ delivery 2 (message (round 1 1) (pair 3 1) (round 1 1))
+    ∷ delivery 3 (message (round 1 1) (pair 3 2) (round 1 1))
+    ∷ delivery 4 (message (round 1 2) (pair 2 2) (round 1 1))
+    ∷ delivery 2 (message (round 1 2) (pair 2 2) (round 1 2))
+    ∷ delivery 3 (message (round 1 2) (pair 2 3) (round 1 2))
+    ∷ delivery 4 (message (round 1 2) (pair 3 2) (round 1 1))
+    ∷ delivery 2 (message (round 1 2) (pair 3 2) (round 1 2))
+    ∷ delivery 3 (message (round 1 2) (pair 3 3) (round 1 2))
+    ∷ delivery 4 (message (round 1 3) (pair 2 3) (round 1 2))
+    ∷ delivery 2 (message (round 1 3) (pair 2 3) (round 1 3))
+    ∷ delivery 3 (message (round 1 3) (pair 2 4) (round 1 3))
+    ∷ delivery 4 (message (round 1 3) (pair 3 3) (round 1 2))
+    ∷ delivery 2 (message (round 1 3) (pair 3 3) (round 1 3))
+    ∷ delivery 3 (message (round 1 3) (pair 3 4) (round 1 3))
+    ∷ delivery 5 (message (round 0 0) (pair 1 1) (round 0 0))
+    ∷ delivery 5 (message (round 0 1) (pair 1 2) (round 0 1))
+    ∷ delivery 5 (message (round 0 2) (pair 1 3) (round 0 2))
+    ∷ delivery 5 (message (round 0 3) (pair 1 4) (round 0 3))
+    ∷ delivery 5 (message (round 1 0) (pair 2 1) (round 1 0))
+    ∷ delivery 5 (message (round 1 0) (pair 3 1) (round 1 0))
+    ∷ delivery 5 (message (round 1 1) (pair 2 2) (round 1 1))
+    ∷ delivery 5 (message (round 1 1) (pair 3 2) (round 1 1))
+    ∷ delivery 5 (message (round 1 2) (pair 2 3) (round 1 2))
+    ∷ delivery 5 (message (round 1 2) (pair 3 3) (round 1 2))
+    ∷ delivery 5 (message (round 1 3) (pair 2 4) (round 1 3))
+    ∷ delivery 5 (message (round 1 3) (pair 3 4) (round 1 3))
+    ∷ delivery 6 (message (0 ∷ []) (pair 1 1) (round 0 0))
+    ∷ delivery 6 (message (0 ∷ []) (pair 1 2) (round 0 1))
+    ∷ delivery 6 (message (0 ∷ []) (pair 1 3) (round 0 2))
+    ∷ delivery 6 (message (0 ∷ []) (pair 1 4) (round 0 3))
+    ∷ delivery 6 (message (1 ∷ []) (pair 2 1) (round 1 0))
+    ∷ delivery 6 (message (1 ∷ []) (pair 2 2) (round 1 1))
+    ∷ delivery 6 (message (1 ∷ []) (pair 2 3) (round 1 2))
+    ∷ delivery 6 (message (1 ∷ []) (pair 2 4) (round 1 3))
+    ∷ delivery 6 (message (1 ∷ []) (pair 3 1) (round 1 0))
+    ∷ delivery 6 (message (1 ∷ []) (pair 3 2) (round 1 1))
+    ∷ delivery 6 (message (1 ∷ []) (pair 3 3) (round 1 2))
+    ∷ delivery 6 (message (1 ∷ []) (pair 3 4) (round 1 3))
+    ∷ []
 
 -- the state after them
 abbrev all_delivered : Machine
@@ -159,7 +158,7 @@ all_joined false b = refl
 
 settles : (p : ℕ) → p < 7
     → Names (bounds_of loop_counts_up p) (front_of (replicate 7 []) p)
-        (join (frontier_of (bounds_of loop_counts_up p) (front_of all_delivered.settled p)) (all_at p))
+    (join (frontier_of (bounds_of loop_counts_up p) (front_of all_delivered.settled p)) (all_at p))
 unfolding kind_of policy_of receiver bounds_of max_of
 settles zero h = record { canonical = tt; same = λ t. all_joined (in_domain (bounds_of loop_counts_up 0) t) (inside (front_of complete_fronts 0) t) }
 settles (suc zero) h = record { canonical = tt; same = λ t. all_joined (in_domain (bounds_of loop_counts_up 1) t) (inside (front_of complete_fronts 1) t) }
@@ -217,16 +216,17 @@ last_steps = step.Progress ∷ step.Ack 6 ∷ step.Ack 6 ∷ []
 
 abbrev last_outcomes : List Outcome
 last_outcomes =
-  did quiet
-  ∷ did (acked 6 (0 ∷ []) (pair 1 1 ∷ pair 1 2 ∷ pair 1 3 ∷ pair 1 4 ∷ []))
-  ∷ did (acked 6 (1 ∷ []) (pair 2 1 ∷ pair 2 2 ∷ pair 2 3 ∷ pair 2 4 ∷ pair 3 1 ∷ pair 3 2 ∷ pair 3 3 ∷ pair 3 4 ∷ []))
-  ∷ []
+    did quiet
+    ∷ did (acked 6 (0 ∷ []) (pair 1 1 ∷ pair 1 2 ∷ pair 1 3 ∷ pair 1 4 ∷ []))
+    ∷ did (acked 6 (1 ∷ []) (pair 2 1 ∷ pair 2 2 ∷ pair 2 3 ∷ pair 2 4 ∷ pair 3 1 ∷ pair 3 2 ∷ pair 3 3 ∷ pair 3 4 ∷ []))
+    ∷ []
 
 takes_last : Run two_batches all_delivered last_steps last_outcomes (acknowledged 2)
 takes_last = (all_settled, takes_progress, (acknowledged 1, takes_first, (acknowledged 2, takes_second, refl)))
 
 pub runs_to_the_end : RunsToTheEnd
 unfolding kind_of policy_of sender receiver bounds_of batches_of max_of sends
-runs_to_the_end =
-    (acknowledged 2,
-     runs_deliveries two_batches rest (recovered two_batches counting_failed restored complete_fronts) last_steps last_outcomes (acknowledged 2) refl takes_last)
+runs_to_the_end = (
+  acknowledged 2,
+  runs_deliveries two_batches rest (recovered two_batches counting_failed restored complete_fronts) last_steps last_outcomes (acknowledged 2) refl takes_last,
+)

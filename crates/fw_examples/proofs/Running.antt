@@ -1,5 +1,5 @@
 -- The machine runs to the recovery.
-use Rattle.std.proofs.Common.{◌≡◌, ℕ, zero, suc, ◌<◌, true, false, Option, Some, None, List, [], ◌∷◌, length, refl, lit<, arith}
+use Rattle.std.proofs.Common.{◌≡◌, ℕ, zero, suc, ◌<◌, true, Option, Some, None, List, [], ◌∷◌, length, refl, lit<, arith}
 use Rattle.std.proofs.lemmas.Bool.Decides.{nat_tests}
 use Rattle.fw_time.specs.Stamp.{Stamp}
 use Rattle.fw_frontier.specs.Frontier.{join}
@@ -35,26 +35,26 @@ delivery edge asked message = record { edge = edge; asked = asked; message = mes
 -- what is delivered between the batches
 abbrev first_deliveries : List Delivery
 first_deliveries =
-  delivery 0 None (message (0 ∷ []) (pair 1 0) (0 ∷ []))
-  ∷ delivery 1 None (message (round 0 0) (pair 1 0) (0 ∷ []))
-  ∷ []
+    delivery 0 None (message (0 ∷ []) (pair 1 0) (0 ∷ []))
+    ∷ delivery 1 None (message (round 0 0) (pair 1 0) (0 ∷ []))
+    ∷ []
 
 -- and after them
 abbrev second_deliveries : List Delivery
 second_deliveries =
-  delivery 0 None (message (1 ∷ []) (pair 2 0) (1 ∷ []))
-  ∷ delivery 0 None (message (1 ∷ []) (pair 3 0) (1 ∷ []))
-  ∷ delivery 1 (Some (round 1 0)) (message (round 1 0) (pair 2 0) (1 ∷ []))
-  ∷ delivery 1 (Some (round 1 0)) (message (round 1 0) (pair 3 0) (1 ∷ []))
-  ∷ delivery 2 (Some (round 1 0)) (message (round 1 0) (pair 2 0) (round 1 0))
-  ∷ delivery 2 (Some (round 0 0)) (message (round 0 0) (pair 1 0) (round 0 0))
-  ∷ delivery 3 (Some (round 0 0)) (message (round 0 0) (pair 1 1) (round 0 0))
-  ∷ delivery 4 None (message (round 0 1) (pair 1 1) (round 0 0))
-  ∷ delivery 2 (Some (round 0 1)) (message (round 0 1) (pair 1 1) (round 0 1))
-  ∷ delivery 3 (Some (round 0 1)) (message (round 0 1) (pair 1 2) (round 0 1))
-  ∷ delivery 4 None (message (round 0 2) (pair 1 2) (round 0 1))
-  ∷ delivery 2 (Some (round 0 2)) (message (round 0 2) (pair 1 2) (round 0 2))
-  ∷ []
+    delivery 0 None (message (1 ∷ []) (pair 2 0) (1 ∷ []))
+    ∷ delivery 0 None (message (1 ∷ []) (pair 3 0) (1 ∷ []))
+    ∷ delivery 1 (Some (round 1 0)) (message (round 1 0) (pair 2 0) (1 ∷ []))
+    ∷ delivery 1 (Some (round 1 0)) (message (round 1 0) (pair 3 0) (1 ∷ []))
+    ∷ delivery 2 (Some (round 1 0)) (message (round 1 0) (pair 2 0) (round 1 0))
+    ∷ delivery 2 (Some (round 0 0)) (message (round 0 0) (pair 1 0) (round 0 0))
+    ∷ delivery 3 (Some (round 0 0)) (message (round 0 0) (pair 1 1) (round 0 0))
+    ∷ delivery 4 None (message (round 0 1) (pair 1 1) (round 0 0))
+    ∷ delivery 2 (Some (round 0 1)) (message (round 0 1) (pair 1 1) (round 0 1))
+    ∷ delivery 3 (Some (round 0 1)) (message (round 0 1) (pair 1 2) (round 0 1))
+    ∷ delivery 4 None (message (round 0 2) (pair 1 2) (round 0 1))
+    ∷ delivery 2 (Some (round 0 2)) (message (round 0 2) (pair 1 2) (round 0 2))
+    ∷ []
 
 -- the state before the second batch
 abbrev one_injected : Machine
@@ -135,10 +135,15 @@ abbrev last_outcomes : List Outcome
 last_outcomes = did quiet ∷ did quiet ∷ did (cuts restored) ∷ []
 
 takes_last : Run two_batches (after under_way) last_steps last_outcomes (recovered two_batches counting_failed restored complete_fronts)
-takes_last =
-    (all_settled, takes_progress,
-     (counting_failed, takes_failure,
-      (recovered two_batches counting_failed restored complete_fronts, takes_recovery, refl)))
+takes_last = (
+  all_settled,
+  takes_progress,
+  (
+    counting_failed,
+    takes_failure,
+    (recovered two_batches counting_failed restored complete_fronts, takes_recovery, refl),
+  ),
+)
 
 takes_second : Run two_batches (with_event two_batches one_injected (Inject 0 1))
     (steps_of second_deliveries last_steps) (outcomes_of second_deliveries last_outcomes)
@@ -146,7 +151,7 @@ takes_second : Run two_batches (with_event two_batches one_injected (Inject 0 1)
 unfolding kind_of policy_of sender receiver bounds_of batches_of max_of sends
 takes_second =
     runs_deliveries two_batches second_deliveries (with_event two_batches one_injected (Inject 0 1)) last_steps last_outcomes
-      (recovered two_batches counting_failed restored complete_fronts) refl takes_last
+    (recovered two_batches counting_failed restored complete_fronts) refl takes_last
 
 takes_first : Run two_batches (with_event two_batches (first_state two_batches) (Inject 0 0))
     (steps_of first_deliveries (step.Inject 0 ∷ steps_of second_deliveries last_steps))
@@ -155,9 +160,9 @@ takes_first : Run two_batches (with_event two_batches (first_state two_batches) 
 unfolding kind_of policy_of sender receiver bounds_of batches_of max_of sends
 takes_first =
     runs_deliveries two_batches first_deliveries (with_event two_batches (first_state two_batches) (Inject 0 0))
-      (step.Inject 0 ∷ steps_of second_deliveries last_steps) (did quiet ∷ outcomes_of second_deliveries last_outcomes)
-      (recovered two_batches counting_failed restored complete_fronts) refl
-      (with_event two_batches one_injected (Inject 0 1), takes_second_batch, takes_second)
+    (step.Inject 0 ∷ steps_of second_deliveries last_steps) (did quiet ∷ outcomes_of second_deliveries last_outcomes)
+    (recovered two_batches counting_failed restored complete_fronts) refl
+    (with_event two_batches one_injected (Inject 0 1), takes_second_batch, takes_second)
 
 pub runs_to_recovery : Run two_batches (first_state two_batches) steps_taken outcomes_shown (recovered two_batches counting_failed restored complete_fronts)
 runs_to_recovery = (with_event two_batches (first_state two_batches) (Inject 0 0), takes_first_batch, takes_first)

@@ -39,7 +39,7 @@ pub record IsRestoredChoice : Type 0 where
   pub largest : IsLargest two_batches counting_failed (offers two_batches counting_failed) restored
   pub settled : CutsTo two_batches counting_failed restored complete_fronts
 
--- the same without the delivery of the rec of the second batch that was counted up
+-- the events of the run without the delivery of the rec of the second batch that was counted up
 abbrev pub without_the_second : List Event
 without_the_second =
     Deliver 2 (message (round 0 2) (pair 1 2) (round 0 2))
@@ -77,7 +77,7 @@ pending_again =
 pub record IsRestored : Type 0 where
   pub struck : events (filtered two_batches restored (with_serials under_way)) ≡ without_the_second
   pub legal : IsLegal two_batches without_the_second
-  pub pending : (e : ℕ) → pending two_batches without_the_second e ≡ slice_index_or pending_again e []
+  pub waiting : (e : ℕ) → pending two_batches without_the_second e ≡ slice_index_or pending_again e []
 
 -- the steps up to the recovery: the sixteen events, what is complete becomes settled, and the node that counts up fails
 abbrev pub steps_taken : List Step
@@ -115,8 +115,8 @@ RunsToRecovery =
 -- the edges of the deliveries after the recovery, always the first edge on which something is pending
 abbrev pub edges_delivered : List ℕ
 edges_delivered =
-  2 ∷ 2 ∷ 3 ∷ 3 ∷ 3 ∷ 4 ∷ 2 ∷ 3 ∷ 4 ∷ 2 ∷ 3 ∷ 4 ∷ 2 ∷ 3 ∷ 4 ∷ 2 ∷ 3 ∷ 4 ∷ 2 ∷ 3 ∷ 4 ∷ 2 ∷ 3 ∷ 4 ∷ 2 ∷
-  3 ∷ 5 ∷ 5 ∷ 5 ∷ 5 ∷ 5 ∷ 5 ∷ 5 ∷ 5 ∷ 5 ∷ 5 ∷ 5 ∷ 5 ∷ 6 ∷ 6 ∷ 6 ∷ 6 ∷ 6 ∷ 6 ∷ 6 ∷ 6 ∷ 6 ∷ 6 ∷ 6 ∷ 6 ∷ []
+    2 ∷ 2 ∷ 3 ∷ 3 ∷ 3 ∷ 4 ∷ 2 ∷ 3 ∷ 4 ∷ 2 ∷ 3 ∷ 4 ∷ 2 ∷ 3 ∷ 4 ∷ 2 ∷ 3 ∷ 4 ∷ 2 ∷ 3 ∷ 4 ∷ 2 ∷ 3 ∷ 4 ∷ 2 ∷
+    3 ∷ 5 ∷ 5 ∷ 5 ∷ 5 ∷ 5 ∷ 5 ∷ 5 ∷ 5 ∷ 5 ∷ 5 ∷ 5 ∷ 5 ∷ 6 ∷ 6 ∷ 6 ∷ 6 ∷ 6 ∷ 6 ∷ 6 ∷ 6 ∷ 6 ∷ 6 ∷ 6 ∷ 6 ∷ []
 
 -- the steps after the recovery: the deliveries, what is complete becomes settled, and both epochs are acknowledged
 abbrev pub steps_left : List Step
@@ -125,10 +125,10 @@ steps_left = map (λ e. step.Deliver e None) edges_delivered ++ step.Progress �
 -- none of them shows something but the acknowledgements, which show what the batches denote
 abbrev pub outcomes_left : List Outcome
 outcomes_left =
-  replicate 51 (did quiet)
-  ++ did (acked 6 (0 ∷ []) (pair 1 1 ∷ pair 1 2 ∷ pair 1 3 ∷ pair 1 4 ∷ []))
-  ∷ did (acked 6 (1 ∷ []) (pair 2 1 ∷ pair 2 2 ∷ pair 2 3 ∷ pair 2 4 ∷ pair 3 1 ∷ pair 3 2 ∷ pair 3 3 ∷ pair 3 4 ∷ []))
-  ∷ []
+    replicate 51 (did quiet)
+    ++ did (acked 6 (0 ∷ []) (pair 1 1 ∷ pair 1 2 ∷ pair 1 3 ∷ pair 1 4 ∷ []))
+    ∷ did (acked 6 (1 ∷ []) (pair 2 1 ∷ pair 2 2 ∷ pair 2 3 ∷ pair 2 4 ∷ pair 3 1 ∷ pair 3 2 ∷ pair 3 3 ∷ pair 3 4 ∷ []))
+    ∷ []
 
 -- from the recovered state the machine takes these steps, with these outcomes
 abbrev pub RunsToTheEnd : Type 0

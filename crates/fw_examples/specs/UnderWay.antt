@@ -64,7 +64,7 @@ counted_rounds = round 0 3 ∷ round 1 0 ∷ []
 -- each event was enabled, and just these messages are pending
 pub record IsUnderWay : Type 0 where
   pub legal : IsLegal two_batches under_way
-  pub pending : (e : ℕ) → pending two_batches under_way e ≡ slice_index_or still_pending e []
+  pub waiting : (e : ℕ) → pending two_batches under_way e ≡ slice_index_or still_pending e []
 
 -- The complete frontiers by node: all before the loop; back from what is pending, at the feedback up to what waits for
 -- it, at the node where rounds meet one counter further, at the node that counts up less than that by what waits there;

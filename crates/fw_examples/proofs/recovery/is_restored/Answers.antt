@@ -2,4 +2,4 @@ use Rattle.fw_examples.proofs.Legal.{strikes_the_second, restored_is_legal, rest
 use Rattle.fw_examples.proofs.recovery.is_restored.Goals as goal
 
 pub returns : goal.returns
-returns c = record { struck = strikes_the_second; legal = restored_is_legal; pending = restored_leaves }
+returns c = record { struck = strikes_the_second; legal = restored_is_legal; waiting = restored_leaves }

@@ -1,10 +1,11 @@
 -- What phi and psi of each kind make of frontiers, by their outside stamps.
 use Rattle.std.specs.Prelude.{ℕ, List, [], ◌∷◌}
+use Rattle.fw_frontier.specs.Frontier.{Frontier, IsFrontier, Within}
 use Rattle.fw_frontier.specs.Front.{Front, frontier_of, Names}
 use Rattle.fw_flow.specs.declared.event.Event.{Event}
 use Rattle.fw_flow.specs.Dataflow.{System, sender, receiver, bounds_of}
 use Rattle.fw_flow.specs.Projection.{phi, psi}
-use Rattle.fw_examples.specs.Flows.{two_batches, no_batches}
+use Rattle.fw_examples.specs.Flows.{two_batches, no_batches, regroup_by_three}
 
 -- after each history, phi of the edge takes the frontier of its sender with these outside stamps to that of its
 -- receiver with those
@@ -62,7 +63,8 @@ pub record LeaveProjects : Type 0 where
 abbrev pub regrouped_edge : ℕ
 regrouped_edge = 2
 
--- regrouping wants all numbers of an epoch, and may send from each one of them
+-- Regrouping wants all numbers of an epoch, and may send from each one of them; and the first six numbers are the
+-- largest frontier that sends in the first two epochs alone.
 pub record RegroupProjects : Type 0 where
   pub phi_of_some : PhiTakes no_batches regrouped_edge ((7 ∷ []) ∷ []) ((2 ∷ []) ∷ [])
   pub phi_of_all : PhiTakes no_batches regrouped_edge [] []
@@ -70,3 +72,7 @@ pub record RegroupProjects : Type 0 where
   pub psi_of_some : PsiTakes no_batches regrouped_edge ((7 ∷ []) ∷ []) ((3 ∷ []) ∷ [])
   pub psi_of_all : PsiTakes no_batches regrouped_edge [] ((1431655766 ∷ []) ∷ [])
   pub psi_of_nothing : PsiTakes no_batches regrouped_edge ((0 ∷ []) ∷ []) ((0 ∷ []) ∷ [])
+  pub psi_of_whole_epochs : PsiTakes no_batches regrouped_edge ((6 ∷ []) ∷ []) ((2 ∷ []) ∷ [])
+  pub no_larger : (f : Frontier) → IsFrontier (bounds_of regroup_by_three 2) f
+      → Within (psi no_batches regrouped_edge f) (frontier_of (bounds_of regroup_by_three 3) ((2 ∷ []) ∷ []))
+      → Within f (frontier_of (bounds_of regroup_by_three 2) ((6 ∷ []) ∷ []))

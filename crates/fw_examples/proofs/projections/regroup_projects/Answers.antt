@@ -1,4 +1,4 @@
-use Rattle.fw_examples.proofs.Projecting.{regroup_phi_of_some, regroup_phi_of_all, regroup_phi_of_nothing, regroup_psi_of_some, regroup_psi_of_all, regroup_psi_of_nothing}
+use Rattle.fw_examples.proofs.Projecting.{regroup_phi_of_some, regroup_phi_of_all, regroup_phi_of_nothing, regroup_psi_of_some, regroup_psi_of_all, regroup_psi_of_nothing, regroup_psi_of_whole_epochs, regroup_no_larger}
 use Rattle.fw_examples.proofs.projections.regroup_projects.Goals as goal
 
 pub returns : goal.returns
@@ -9,4 +9,6 @@ returns c = record {
   psi_of_some = regroup_psi_of_some;
   psi_of_all = regroup_psi_of_all;
   psi_of_nothing = regroup_psi_of_nothing;
+  psi_of_whole_epochs = regroup_psi_of_whole_epochs;
+  no_larger = regroup_no_larger;
 }

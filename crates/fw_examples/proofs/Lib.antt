@@ -1,0 +1,11 @@
+pub mod Complete
+pub mod Deliveries
+pub mod Ending
+pub mod First
+pub mod Largest
+pub mod Legal
+pub mod Orders
+pub mod Projecting
+pub mod Rounds
+pub mod Running
+pub mod Walks

@@ -1,0 +1,4 @@
+pub mod FrontierFacts
+pub mod StepFacts
+pub mod OneSelectDone
+pub mod OneSelectRuns

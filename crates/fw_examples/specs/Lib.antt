@@ -1,0 +1,2 @@
+pub mod OneSelect
+pub mod OneSelectRuns

@@ -1,0 +1,9 @@
+//! Theorems which show that the definitions of dataflows, histories, choices and runs mean what they should.
+#![tactic(auto)]
+
+mod one_select_runs;
+
+pub use one_select_runs::{
+    acknowledges_what_is_settled, is_idle_without_batches, is_idle_without_steps,
+    waits_for_the_rest,
+};

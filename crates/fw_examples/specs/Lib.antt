@@ -1,2 +1,3 @@
 pub mod OneSelect
 pub mod OneSelectRuns
+pub mod OneRecovery

@@ -1,8 +1,10 @@
 //! Theorems which show that the definitions of dataflows, histories, choices and runs mean what they should.
 #![tactic(auto)]
 
+mod one_recovery;
 mod one_select_runs;
 
+pub use one_recovery::keeps_the_settled_epoch;
 pub use one_select_runs::{
     acknowledges_what_is_settled, is_idle_without_batches, is_idle_without_steps,
     waits_for_the_rest,

@@ -4,3 +4,7 @@ pub mod ChoiceFacts
 pub mod OneSelectDone
 pub mod OneSelectRuns
 pub mod OneRecovery
+pub mod InclusionFacts
+pub mod OneSelectInclusions
+pub mod TwoSourcesRun
+pub mod TwoSourcesInclusions

@@ -1,30 +1,25 @@
 -- Complete frontiers of one select, and the step that settles them.
-use Rattle.std.proofs.Common.{◌≡◌, ℕ, zero, suc, ◌<◌, Bool, true, false, ◌&&◌, ◌||◌, List, [], ◌∷◌, ◌++◌, slice_index_or, refl, sym, ap, ◌∙◌, subst, arith, length}
+use Rattle.std.proofs.Common.{◌≡◌, ℕ, zero, suc, ◌<◌, Bool, true, false, ◌||◌, List, [], ◌∷◌, ◌++◌, slice_index_or, refl, sym, ap, ◌∙◌, subst, arith}
 use Rattle.std.proofs.lemmas.Bool.{false≢true, and_parts, and_from}
 use Rattle.fw_bag.specs.declared.rec.Rec.{Rec}
-use Rattle.fw_time.specs.Stamp.{Stamp, same, in_domain}
+use Rattle.fw_time.specs.Stamp.{Stamp, same}
 use Rattle.fw_frontier.specs.Frontier.{Frontier, IsFrontier, Within, join}
 use Rattle.fw_frontier.specs.Front.{Front, frontier_of, IsCanonical, Names}
 use Rattle.fw_flow.specs.declared.event.Event.{Event}
-use Rattle.fw_flow.specs.declared.event.Message.{Message}
 use Rattle.fw_flow.specs.declared.step.Step.TheVariants.{Progress}
-use Rattle.fw_flow.specs.Dataflow.{System, kind_of, policy_of, sender, receiver, bounds_of, batches_of, is_input_kind}
+use Rattle.fw_flow.specs.Dataflow.{kind_of, policy_of, sender, receiver, bounds_of, is_input_kind}
 use Rattle.fw_flow.specs.NodeFunction.{sends, sent_by}
 use Rattle.fw_flow.specs.Projection.{phi, events_at}
-use Rattle.fw_model.specs.History.{less, some_at, sent, delivered, pending, owed, injected_epochs, IsQuiet, IsAdmissible, IsComplete}
+use Rattle.fw_model.specs.History.{less, some_at, delivered, pending, owed, injected_epochs, IsQuiet, IsAdmissible, IsComplete}
 use Rattle.fw_model.specs.Machine.{Machine, events, front_of, is_failed}
-use Rattle.fw_model.specs.Steps.{Steps, Takes, GrowsTo, did, quiet}
+use Rattle.fw_model.specs.Steps.{Steps, did, quiet}
 use Rattle.fw_examples.specs.OneSelect.{one_select, one_select_flow}
+use Rattle.fw_examples.proofs.StepFacts.{less_none}
 use Rattle.fw_examples.proofs.FrontierFacts.{is_frontier_of, within_all}
 
 -- the family of frontiers that these lists name
 abbrev pub named : List Front → ℕ → Frontier
 named fronts p = frontier_of (bounds_of one_select_flow p) (front_of fronts p)
-
--- of nothing, nothing is pending
-less_none : (ds : List Message) → less [] ds ≡ []
-less_none [] = refl
-less_none (d ∷ ds) = rw (less_none ds) refl
 
 -- past the last node nothing is sent
 sent_past : (batches : List (List Rec)) (vs : List Event) → sent_by (one_select batches) 3 vs ≡ []
@@ -70,10 +65,12 @@ admissible batches h fronts at_big at_out from_src to_big to_out = record {
     quiet_at p t i zero r = at_big t (subst (λ q. named fronts q t ≡ true) (sym r) i)
     quiet_at p t i (suc zero) r = at_out t (subst (λ q. named fronts q t ≡ true) (sym r) i)
     quiet_at p t i (suc (suc e)) r = ap (some_at (same t)) (pending_past batches h e)
+
     follows_on : (e : ℕ) → Within (named fronts (receiver one_select_flow e)) (phi (one_select batches) h e (named fronts (sender one_select_flow e)))
     follows_on zero t i = and_from _ _ ((named_frontier fronts 1).inside_domain t i) (to_big t i)
     follows_on (suc zero) t i = and_from _ _ ((named_frontier fronts 2).inside_domain t i) (to_out t i)
     follows_on (suc (suc e)) t i = and_from _ _ ((named_frontier fronts 3).inside_domain t i) i
+
     from : (s : ℕ) → is_input_kind (kind_of one_select_flow s) ≡ true → Within (named fronts s) (injected_epochs (one_select batches) h s)
     from zero k = from_src
     from (suc zero) k = absurd (false≢true k)
@@ -90,7 +87,7 @@ at_sender batches h other is = (λ t i. (and_parts _ _ (is.follows 0 t i)).1, λ
 pub complete : (batches : List (List Rec)) (h : List Event) (x y z : Front)
     → IsAdmissible (one_select batches) h (named (x ∷ y ∷ z ∷ []))
     → ((other : ℕ → Frontier) → IsAdmissible (one_select batches) h other
-        → Within (other 0) (named (x ∷ y ∷ z ∷ []) 0) × Within (other 1) (named (x ∷ y ∷ z ∷ []) 1) × Within (other 2) (named (x ∷ y ∷ z ∷ []) 2))
+    → Within (other 0) (named (x ∷ y ∷ z ∷ []) 0) × Within (other 1) (named (x ∷ y ∷ z ∷ []) 1) × Within (other 2) (named (x ∷ y ∷ z ∷ []) 2))
     → IsComplete (one_select batches) h (named (x ∷ y ∷ z ∷ []))
 complete batches h x y z is within = record { admissible = is; largest = at }
   where
@@ -107,8 +104,8 @@ pub all_complete : (batches : List (List Rec)) (h : List Event) → pending (one
 unfolding bounds_of kind_of
 all_complete batches h a b from =
     complete batches h [] [] []
-      (admissible batches h ([] ∷ [] ∷ [] ∷ []) (λ t i. ap (some_at (same t)) a) (λ t i. ap (some_at (same t)) b) from (λ t i. i) (λ t i. i))
-      (λ other o. (within_all _ (other 0) (o.frontier 0), within_all _ (other 1) (o.frontier 1), within_all _ (other 2) (o.frontier 2)))
+    (admissible batches h ([] ∷ [] ∷ [] ∷ []) (λ t i. ap (some_at (same t)) a) (λ t i. ap (some_at (same t)) b) from (λ t i. i) (λ t i. i))
+    (λ other o. (within_all _ (other 0) (o.frontier 0), within_all _ (other 1) (o.frontier 1), within_all _ (other 2) (o.frontier 2)))
 
 -- what lies within is no more than what it lies within
 join_within : (f g : Frontier) → Within f g → (t : Stamp) → g t ≡ join f g t
@@ -136,11 +133,13 @@ pub progresses : (batches : List (List Rec)) (state : Machine) (x y z : Front)
     → (p : ℕ) → (t : Stamp) → p < 3 → named (x ∷ y ∷ z ∷ []) p t ≡ true → named state.settled p t ≡ false
     → Steps (one_select batches) state Progress (record state { settled = x ∷ y ∷ z ∷ []; writes = state.writes ++ [] }) (did quiet)
 unfolding policy_of
-progresses batches state x y z is cx cy cz live wx wy wz p t lt new old =
-    ( named (x ∷ y ∷ z ∷ [])
-    , x ∷ y ∷ z ∷ []
-    , record { complete = is; some = (p, t, lt, live p, new, old); one_each = refl; each = each; failed = λ q l f. absurd (false≢true (sym (live q) ∙ f)) }
-    , refl, refl )
+progresses batches state x y z is cx cy cz live wx wy wz p t lt new old = (
+  named (x ∷ y ∷ z ∷ []),
+  x ∷ y ∷ z ∷ [],
+  record { complete = is; some = (p, t, lt, live p, new, old); one_each = refl; each = each; failed = λ q l f. absurd (false≢true (sym (live q) ∙ f)) },
+  refl,
+  refl,
+)
   where
     each : (q : ℕ) → q < 3 → is_failed state q ≡ false
         → Names (bounds_of one_select_flow q) (front_of (x ∷ y ∷ z ∷ []) q) (join (named state.settled q) (named (x ∷ y ∷ z ∷ []) q))

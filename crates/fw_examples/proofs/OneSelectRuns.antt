@@ -1,19 +1,17 @@
 -- The runs of one select, step by step.
-use Rattle.std.proofs.Common.{◌≡◌, ℕ, ◌<◌, ◌⊎◌, true, List, [], ◌∷◌, refl, sym, ap, ◌∙◌, arith, None, lit<, inl}
+use Rattle.std.proofs.Common.{◌≡◌, ℕ, ◌<◌, ◌⊎◌, true, [], ◌∷◌, refl, sym, ap, ◌∙◌, arith, None, lit<, inl}
 use Rattle.std.proofs.lemmas.Bool.{true≢false}
-use Rattle.fw_flow.specs.declared.event.Event.{Event}
 use Rattle.fw_flow.specs.declared.event.Event.TheVariants.{Inject as Injected, Deliver as Delivered}
 use Rattle.fw_flow.specs.declared.event.Message.{Message}
 use Rattle.fw_flow.specs.declared.step.Step.TheVariants.{Inject, Deliver, Progress, Ack}
-use Rattle.fw_flow.specs.Dataflow.{System, kind_of, policy_of, sender, receiver, bounds_of, batches_of}
+use Rattle.fw_flow.specs.Dataflow.{kind_of, policy_of, sender, receiver, bounds_of, batches_of}
 use Rattle.fw_flow.specs.NodeFunction.{sends}
-use Rattle.fw_frontier.specs.Frontier.{Frontier, Within}
 use Rattle.fw_frontier.specs.Front.{Front, frontier_of}
 use Rattle.fw_time.specs.Stamp.{same}
 use Rattle.fw_model.specs.History.{pending, some_at, IsComplete}
 use Rattle.fw_model.specs.Machine.{Machine, first_state, events}
-use Rattle.fw_model.specs.Steps.{Steps, Takes, with_event, did, idle, quiet, acked, Effect, HasEpoch}
-use Rattle.fw_examples.specs.OneSelect.{one_select, one_select_flow, rec_of}
+use Rattle.fw_model.specs.Steps.{Steps, Takes, with_event, did, quiet, acked, Effect, HasEpoch}
+use Rattle.fw_examples.specs.OneSelect.{one_select_flow, rec_of}
 use Rattle.fw_examples.specs.OneSelectRuns.{one_of_two_batches, one_of_two, AcknowledgesWhatIsSettled, nothing_sent, IsIdleWithoutSteps, IsIdleWithoutBatches, two_selected_batches, two_selected, WaitsForTheRest}
 use Rattle.fw_examples.proofs.FrontierFacts.{within_all, within_until, one_not_same}
 use Rattle.fw_examples.proofs.StepFacts.{injects, delivers}
@@ -67,10 +65,10 @@ progressed : Steps one_of_two after_third Progress after_progress (did quiet)
 unfolding kind_of receiver sender sends batches_of bounds_of policy_of
 progressed =
     progresses one_of_two_batches after_third [] [] []
-      (all_complete one_of_two_batches (events after_third.history) refl refl (λ t i. i))
-      tt tt tt none_failed
-      (below_all 0 none) (below_all 1 none) (below_all 2 none)
-      0 (0 ∷ []) (lit< tt) refl refl
+    (all_complete one_of_two_batches (events after_third.history) refl refl (λ t i. i))
+    tt tt tt none_failed
+    (below_all 0 none) (below_all 1 none) (below_all 2 none)
+    0 (0 ∷ []) (lit< tt) refl refl
 
 acknowledged : Steps one_of_two after_progress (Ack 2) after_ack (did (acked 2 (0 ∷ []) (rec_of 2 10 ∷ [])))
 unfolding kind_of receiver bounds_of
@@ -92,10 +90,10 @@ progress_at_nothing : Steps nothing_sent (first_state nothing_sent) Progress pro
 unfolding kind_of receiver sender sends batches_of bounds_of policy_of
 progress_at_nothing =
     progresses [] (first_state nothing_sent) [] [] []
-      (all_complete [] [] refl refl (λ t i. i))
-      tt tt tt none_failed
-      (below_all 0 none) (below_all 1 none) (below_all 2 none)
-      0 (0 ∷ []) (lit< tt) refl refl
+    (all_complete [] [] refl refl (λ t i. i))
+    tt tt tt none_failed
+    (below_all 0 none) (below_all 1 none) (below_all 2 none)
+    0 (0 ∷ []) (lit< tt) refl refl
 
 -- no epoch is there
 no_epoch : (x : ℕ) → HasEpoch ([] ∷ [] ∷ [] ∷ []) x ⊎ (0 < 0) → ⊥
@@ -160,24 +158,25 @@ input_complete : IsComplete two_selected (events one_put_out.history) (named ([]
 unfolding bounds_of kind_of receiver batches_of
 input_complete =
     complete two_selected_batches (events one_put_out.history) [] none none
-      (admissible two_selected_batches (events one_put_out.history) ([] ∷ none ∷ none ∷ [])
-        (λ t i. ap (some_at (same t)) pending_rec ∙ one_not_same _ (0 ∷ []) t i)
-        (λ t i. ap (some_at (same t)) none_pending)
-        (λ t i. i) (below_all 1 none) (λ t i. i))
-      (λ other o.
-        let not_there : other 1 (0 ∷ []) ≡ true → ⊥ = λ i. true≢false (sym (ap (some_at (same (0 ∷ []))) pending_rec) ∙ o.quiet 1 (0 ∷ []) i 0 refl) in
-        ( within_all _ (other 0) (o.frontier 0)
-        , within_until _ (other 1) (0 ∷ []) (o.frontier 1) refl not_there
-        , within_until _ (other 2) (0 ∷ []) (o.frontier 2) refl (λ i. not_there ((at_sender two_selected_batches _ other o).1 (0 ∷ []) i)) ))
+    (admissible two_selected_batches (events one_put_out.history) ([] ∷ none ∷ none ∷ [])
+    (λ t i. ap (some_at (same t)) pending_rec ∙ one_not_same _ (0 ∷ []) t i)
+    (λ t i. ap (some_at (same t)) none_pending)
+    (λ t i. i) (below_all 1 none) (λ t i. i))
+    (λ other o.
+    let not_there : other 1 (0 ∷ []) ≡ true → ⊥ = λ i. true≢false (sym (ap (some_at (same (0 ∷ []))) pending_rec) ∙ o.quiet 1 (0 ∷ []) i 0 refl) in (
+      within_all _ (other 0) (o.frontier 0),
+      within_until _ (other 1) (0 ∷ []) (o.frontier 1) refl not_there,
+      within_until _ (other 2) (0 ∷ []) (o.frontier 2) refl (λ i. not_there ((at_sender two_selected_batches _ other o).1 (0 ∷ []) i)),
+    ))
 
 settles_input : Steps two_selected one_put_out Progress input_settled (did quiet)
 unfolding kind_of receiver sender sends batches_of bounds_of policy_of
 settles_input =
     progresses two_selected_batches one_put_out [] none none input_complete
-      tt (record { in_the_domain = refl; ascending = tt; incomparable = tt }, tt) (record { in_the_domain = refl; ascending = tt; incomparable = tt }, tt)
-      none_failed
-      (below_all 0 none) (λ t i. i) (λ t i. i)
-      0 (0 ∷ []) (lit< tt) refl refl
+    tt (record { in_the_domain = refl; ascending = tt; incomparable = tt }, tt) (record { in_the_domain = refl; ascending = tt; incomparable = tt }, tt)
+    none_failed
+    (below_all 0 none) (λ t i. i) (λ t i. i)
+    0 (0 ∷ []) (lit< tt) refl refl
 
 no_early_ack : (other : Machine) (effect : Effect) → Takes two_selected input_settled (Ack 2) other effect → ⊥
 unfolding bounds_of kind_of
@@ -196,25 +195,50 @@ settles_all : Steps two_selected both_put_out Progress all_settled (did quiet)
 unfolding kind_of receiver sender sends batches_of bounds_of policy_of
 settles_all =
     progresses two_selected_batches both_put_out [] [] []
-      (all_complete two_selected_batches (events both_put_out.history) refl refl (λ t i. i))
-      tt tt tt none_failed
-      (below_all 0 []) (below_all 1 none) (below_all 2 none)
-      1 (0 ∷ []) (lit< tt) refl refl
+    (all_complete two_selected_batches (events both_put_out.history) refl refl (λ t i. i))
+    tt tt tt none_failed
+    (below_all 0 []) (below_all 1 none) (below_all 2 none)
+    1 (0 ∷ []) (lit< tt) refl refl
 
 acknowledges_both : Steps two_selected all_settled (Ack 2) both_acknowledged (did (acked 2 (0 ∷ []) (rec_of 1 20 ∷ rec_of 2 30 ∷ [])))
 unfolding kind_of receiver bounds_of
 acknowledges_both = (0, record { output = refl; live = refl; next = refl; settled = refl; there = inl (inl (lit< tt)) }, refl, refl)
 
 pub waits_for_the_rest : WaitsForTheRest
-waits_for_the_rest =
-    ( both_acknowledged
-    , ( sent_both, sends_both
-      , ( one_selected, selects_one
-        , ( one_put_out, puts_one_out
-          , ( input_settled, settles_input
-            , ( input_settled, (no_early_ack, refl)
-              , ( both_selected, selects_other
-                , ( both_put_out, puts_other_out
-                  , ( all_settled, settles_all
-                    , (both_acknowledged, acknowledges_both, refl) ) ) ) ) ) ) ) )
-    , refl )
+waits_for_the_rest = (
+  both_acknowledged,
+  (
+    sent_both,
+    sends_both,
+    (
+      one_selected,
+      selects_one,
+      (
+        one_put_out,
+        puts_one_out,
+        (
+          input_settled,
+          settles_input,
+          (
+            input_settled,
+            (no_early_ack, refl),
+            (
+              both_selected,
+              selects_other,
+              (
+                both_put_out,
+                puts_other_out,
+                (
+                  all_settled,
+                  settles_all,
+                  (both_acknowledged, acknowledges_both, refl),
+                ),
+              ),
+            ),
+          ),
+        ),
+      ),
+    ),
+  ),
+  refl,
+)

@@ -1,3 +1,5 @@
 pub mod OneSelect
 pub mod OneSelectRuns
 pub mod OneRecovery
+pub mod TwoSources
+pub mod Inclusions

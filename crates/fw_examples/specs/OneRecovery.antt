@@ -8,7 +8,7 @@ use Rattle.fw_flow.specs.Dataflow.{System}
 use Rattle.fw_model.specs.Choice.{Choice}
 use Rattle.fw_model.specs.Machine.{Machine, first_state}
 use Rattle.fw_model.specs.Steps.{Run, did, quiet, cuts}
-use Rattle.fw_examples.specs.OneSelect.{one_select, rec_of, src, big, out, src_to_big}
+use Rattle.fw_examples.specs.OneSelect.{one_select, rec_of, src, big, src_to_big}
 
 -- two batches of a rec that is selected
 abbrev pub two_batches : List (List Rec)
@@ -30,9 +30,9 @@ first_epoch_kept = record {
 abbrev pub first_epoch_alone : Machine
 first_epoch_alone = record {
   history =
-    record { serial = 1; event = Delivered src_to_big (record { at = 0 ∷ []; rec = rec_of 1 20; causes = (0 ∷ []) ∷ [] }) }
-    ∷ record { serial = 0; event = Injected src 0 }
-    ∷ [];
+      record { serial = 1; event = Delivered src_to_big (record { at = 0 ∷ []; rec = rec_of 1 20; causes = (0 ∷ []) ∷ [] }) }
+      ∷ record { serial = 0; event = Injected src 0 }
+      ∷ [];
   next = 3;
   settled = ((1 ∷ []) ∷ []) ∷ ((1 ∷ []) ∷ []) ∷ ((0 ∷ []) ∷ []) ∷ [];
   writes = [];
@@ -45,6 +45,6 @@ first_epoch_alone = record {
 abbrev pub KeepsTheSettledEpoch : Type 0
 KeepsTheSettledEpoch =
     Run two_epochs (first_state two_epochs)
-      (Inject src ∷ Deliver src_to_big None ∷ Progress ∷ Inject src ∷ Fail (big ∷ []) ∷ Recover ∷ [])
-      (did quiet ∷ did quiet ∷ did quiet ∷ did quiet ∷ did quiet ∷ did (cuts first_epoch_kept) ∷ [])
-      first_epoch_alone
+    (Inject src ∷ Deliver src_to_big None ∷ Progress ∷ Inject src ∷ Fail (big ∷ []) ∷ Recover ∷ [])
+    (did quiet ∷ did quiet ∷ did quiet ∷ did quiet ∷ did quiet ∷ did (cuts first_epoch_kept) ∷ [])
+    first_epoch_alone

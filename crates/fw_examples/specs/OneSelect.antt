@@ -37,18 +37,18 @@ abbrev pub one_select_flow : Dataflow
 one_select_flow = record {
   loops = [];
   nodes =
-    record { name = codes "src"; kind = Input; policy = policy.None }
-    ∷ record {
-      name = codes "big";
-      kind = Select (record { condition = record { field = Value; comparison = GreaterOrEqual; term = term.Number 10 }; assignment = None }) None;
-      policy = policy.None;
-    }
-    ∷ record { name = codes "out"; kind = OutputEpoch; policy = policy.None }
-    ∷ [];
+      record { name = codes "src"; kind = Input; policy = policy.None }
+      ∷ record {
+        name = codes "big";
+        kind = Select (record { condition = record { field = Value; comparison = GreaterOrEqual; term = term.Number 10 }; assignment = None }) None;
+        policy = policy.None;
+      }
+      ∷ record { name = codes "out"; kind = OutputEpoch; policy = policy.None }
+      ∷ [];
   edges =
-    record { name = codes "a"; sender = src; receiver = big }
-    ∷ record { name = codes "b"; sender = big; receiver = out }
-    ∷ [];
+      record { name = codes "a"; sender = src; receiver = big }
+      ∷ record { name = codes "b"; sender = big; receiver = out }
+      ∷ [];
 }
 
 -- the dataflow with these batches of its input

@@ -5,7 +5,7 @@ use Rattle.fw_flow.specs.declared.step.Step.TheVariants.{Inject, Deliver, Progre
 use Rattle.fw_flow.specs.Dataflow.{System}
 use Rattle.fw_model.specs.Machine.{Machine, first_state}
 use Rattle.fw_model.specs.Steps.{Run, did, idle, quiet, acked}
-use Rattle.fw_examples.specs.OneSelect.{one_select, rec_of, src, big, out, src_to_big, big_to_out}
+use Rattle.fw_examples.specs.OneSelect.{one_select, rec_of, src, out, src_to_big, big_to_out}
 
 -- one batch of a rec that is not selected and one that is
 abbrev pub one_of_two_batches : List (List Rec)
@@ -21,9 +21,9 @@ abbrev pub AcknowledgesWhatIsSettled : Type 0
 AcknowledgesWhatIsSettled =
     (last : Machine)
     × Run one_of_two (first_state one_of_two)
-      (Inject src ∷ Deliver src_to_big None ∷ Deliver src_to_big None ∷ Deliver big_to_out None ∷ Progress ∷ Ack out ∷ [])
-      (did quiet ∷ did quiet ∷ did quiet ∷ did quiet ∷ did quiet ∷ did (acked out (0 ∷ []) (rec_of 2 10 ∷ [])) ∷ [])
-      last
+    (Inject src ∷ Deliver src_to_big None ∷ Deliver src_to_big None ∷ Deliver big_to_out None ∷ Progress ∷ Ack out ∷ [])
+    (did quiet ∷ did quiet ∷ did quiet ∷ did quiet ∷ did quiet ∷ did (acked out (0 ∷ []) (rec_of 2 10 ∷ [])) ∷ [])
+    last
     × (last.settled ≡ [] ∷ [] ∷ [] ∷ [])
 
 -- without batches
@@ -54,9 +54,9 @@ abbrev pub WaitsForTheRest : Type 0
 WaitsForTheRest =
     (last : Machine)
     × Run two_selected (first_state two_selected)
-      (Inject src ∷ Deliver src_to_big None ∷ Deliver big_to_out None ∷ Progress ∷ Ack out
-        ∷ Deliver src_to_big None ∷ Deliver big_to_out None ∷ Progress ∷ Ack out ∷ [])
-      (did quiet ∷ did quiet ∷ did quiet ∷ did quiet ∷ idle
-        ∷ did quiet ∷ did quiet ∷ did quiet ∷ did (acked out (0 ∷ []) (rec_of 1 20 ∷ rec_of 2 30 ∷ [])) ∷ [])
-      last
+    (Inject src ∷ Deliver src_to_big None ∷ Deliver big_to_out None ∷ Progress ∷ Ack out
+    ∷ Deliver src_to_big None ∷ Deliver big_to_out None ∷ Progress ∷ Ack out ∷ [])
+    (did quiet ∷ did quiet ∷ did quiet ∷ did quiet ∷ idle
+    ∷ did quiet ∷ did quiet ∷ did quiet ∷ did (acked out (0 ∷ []) (rec_of 1 20 ∷ rec_of 2 30 ∷ [])) ∷ [])
+    last
     × (last.settled ≡ [] ∷ [] ∷ [] ∷ [])

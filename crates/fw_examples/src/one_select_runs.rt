@@ -4,23 +4,19 @@ ghost use Rattle.fw_examples.specs.OneSelectRuns.{AcknowledgesWhatIsSettled, IsI
 /// Of a batch of two recs the one that is selected is acknowledged once its epoch is settled.
 pub fn acknowledges_what_is_settled()
     ensures { AcknowledgesWhatIsSettled }
-{
-}
+{}
 
 /// No steps change nothing.
 pub fn is_idle_without_steps()
     ensures { IsIdleWithoutSteps }
-{
-}
+{}
 
 /// Without batches all is complete from the start, and there is nothing to acknowledge.
 pub fn is_idle_without_batches()
     ensures { IsIdleWithoutBatches }
-{
-}
+{}
 
 /// An epoch is not acknowledged before all its recs have come, and then they are acknowledged together.
 pub fn waits_for_the_rest()
     ensures { WaitsForTheRest }
-{
-}
+{}

@@ -11,11 +11,12 @@ use Rattle.fw_flow.specs.declared.step.Step.TheVariants.{Inject, Deliver, Fail}
 use Rattle.fw_flow.specs.Dataflow.{kind_of, policy_of, sender, receiver, bounds_of, batches_of}
 use Rattle.fw_flow.specs.NodeFunction.{sends}
 use Rattle.fw_flow.specs.Projection.{phi, psi}
-use Rattle.fw_model.specs.Choice.{Choice, cut_of, note_of, delivered_cover, discarded_cover, IsConsistent, IsCutWithin, IsChoiceWithin}
-use Rattle.fw_model.specs.Machine.{Machine, first_state}
+use Rattle.fw_model.specs.Choice.{Choice, filtered, cut_of, note_of, delivered_cover, discarded_cover, IsConsistent, IsCutWithin, IsChoiceWithin}
+use Rattle.fw_model.specs.History.{pending}
+use Rattle.fw_model.specs.Machine.{Machine, first_state, events}
 use Rattle.fw_model.specs.Steps.{Steps, with_event, offers, did, quiet}
 use Rattle.fw_examples.specs.OneSelect.{one_select_flow, rec_of}
-use Rattle.fw_examples.specs.Inclusions.{Inclusion, of_delivered, of_discarded, of_notified, of_own, of_notes, Meets, IsConsistentWithout, none, one_selected, nothing_kept, output_kept, input_kept, DeliveredIsNeeded, DiscardedIsNeeded}
+use Rattle.fw_examples.specs.Inclusions.{Inclusion, of_delivered, of_discarded, of_notified, of_own, of_notes, Meets, IsConsistentWithout, LeavesAHistory, none, one_selected, nothing_kept, output_kept, input_kept, DeliveredIsNeeded, DiscardedIsNeeded}
 use Rattle.fw_examples.proofs.FrontierFacts.{is_frontier_of, within_until}
 use Rattle.fw_examples.proofs.StepFacts.{injects, delivers}
 use Rattle.fw_examples.proofs.ChoiceFacts.{nothing_covered, in_all, set_within, canonical, by_three, by_two}
@@ -138,12 +139,21 @@ output_kept_without = record {
   others = output_kept_meets;
 }
 
+nothing_left : LeavesAHistory one_selected failed_late nothing_kept
+unfolding kind_of receiver bounds_of
+nothing_left = tt
+
+-- nobody sent what the output would have
+sent_by_nobody : LeavesAHistory one_selected failed_late output_kept → ⊥
+unfolding kind_of receiver sender sends batches_of bounds_of
+sent_by_nobody is = false≢true is.0.is_pending
+
 pub delivered_is_needed : DeliveredIsNeeded
-delivered_is_needed = (
-  failed_late,
-  (rec_sent, sends_rec, (rec_selected, selects_rec, (rec_put_out, puts_out_rec, (failed_late, fails_late, refl)))),
-  (record { consistent = nothing_consistent; largest = nothing_largest }, output_kept_without, λ w. w.cuts 2 (lit< tt)),
-)
+delivered_is_needed =
+    ( failed_late
+    , (rec_sent, sends_rec, (rec_selected, selects_rec, (rec_put_out, puts_out_rec, (failed_late, fails_late, refl))))
+    , ( (record { consistent = nothing_consistent; largest = nothing_largest }, output_kept_without, λ w. w.cuts 2 (lit< tt))
+      , nothing_left, sent_by_nobody ) )
 
 -- ---- before the rec came
 
@@ -213,9 +223,25 @@ input_kept_without = record {
   others = input_kept_meets;
 }
 
+nothing_sent : LeavesAHistory one_selected failed_early output_kept
+unfolding kind_of receiver bounds_of
+nothing_sent = tt
+
+still_sent : LeavesAHistory one_selected failed_early input_kept
+unfolding kind_of receiver bounds_of batches_of
+still_sent = (record { input = refl; next = refl; there = lit< tt }, tt)
+
+none_on_its_way : pending one_selected (events (filtered one_selected output_kept failed_early.history)) 0 ≡ []
+unfolding kind_of receiver sender sends batches_of bounds_of
+none_on_its_way = refl
+
+on_its_way : pending one_selected (events (filtered one_selected input_kept failed_early.history)) 0 ≡ message ∷ []
+unfolding kind_of receiver sender sends batches_of bounds_of
+on_its_way = refl
+
 pub discarded_is_needed : DiscardedIsNeeded
-discarded_is_needed = (
-  failed_early,
-  (rec_sent, sends_rec, (failed_early, fails_early, refl)),
-  (record { consistent = output_kept_consistent; largest = output_kept_largest }, input_kept_without, λ w. w.cuts 0 (lit< tt)),
-)
+discarded_is_needed =
+    ( failed_early
+    , (rec_sent, sends_rec, (failed_early, fails_early, refl))
+    , (record { consistent = output_kept_consistent; largest = output_kept_largest }, input_kept_without, λ w. w.cuts 0 (lit< tt))
+    , nothing_sent, still_sent, none_on_its_way, on_its_way )

@@ -12,7 +12,7 @@ use Rattle.fw_model.specs.Choice.{Choice, cut_of, note_of, discarded_cover, noti
 use Rattle.fw_model.specs.Machine.{front_of}
 use Rattle.fw_model.specs.Steps.{offers}
 use Rattle.fw_examples.specs.TwoSources.{two_sources_flow}
-use Rattle.fw_examples.specs.Inclusions.{Inclusion, of_delivered, of_discarded, of_notified, of_own, of_notes, Meets, IsConsistentWithout, none, all, one_comes, sum_undone, sum_kept, NotifiedIsNeeded, OwnIsNeeded, NotesAreNeeded}
+use Rattle.fw_examples.specs.Inclusions.{Inclusion, of_delivered, of_discarded, of_notified, of_own, of_notes, Meets, IsConsistentWithout, LeavesAHistory, none, all, one_comes, sum_undone, sum_kept, NotifiedIsNeeded, OwnIsNeeded, NotesAreNeeded}
 use Rattle.fw_examples.proofs.FrontierFacts.{is_frontier_of, within_all, within_until}
 use Rattle.fw_examples.proofs.ChoiceFacts.{nothing_covered, nothing_inside, covered_in_all, set_within, canonical, by_six, by_five}
 use Rattle.fw_examples.proofs.TwoSourcesRun.{select_failed, failed_after_notice}
@@ -222,11 +222,36 @@ notes_left_out = record {
   others = without_notes;
 }
 
+-- ---- what is left
+
+undone_left : LeavesAHistory one_comes select_failed sum_undone
+unfolding kind_of receiver sender sends batches_of bounds_of
+undone_left =
+    ( record { is_pending = refl; numbered = λ n. absurd (false≢true n) }
+    , (record { input = refl; next = refl; there = lit< tt }, tt) )
+
+-- the sum would have been notified of an epoch that is not complete: the second input is still to send it
+notified_too_early : (notes : List Front) → LeavesAHistory one_comes select_failed (sum_kept notes) → ⊥
+unfolding kind_of receiver sender sends batches_of bounds_of phi
+notified_too_early notes is =
+    let done = is.0.complete.0 in
+    let admissible = is.0.complete.1 in
+    let at_mix = is.0.complete.2 3 refl in
+    let at_low : done 2 (0 ∷ []) ≡ true = admissible.follows 2 (0 ∷ []) at_mix in
+    let at_second_source : done 1 (0 ∷ []) ≡ true = admissible.follows 1 (0 ∷ []) at_low in
+    false≢true (admissible.source 1 refl (0 ∷ []) at_second_source)
+
 pub notified_is_needed : NotifiedIsNeeded
-notified_is_needed = (select_failed, failed_after_notice, (undone_is_largest, notified_left_out, λ w. w.cuts 4 (lit< tt)))
+notified_is_needed =
+    ( select_failed, failed_after_notice
+    , ((undone_is_largest, notified_left_out, λ w. w.cuts 4 (lit< tt)), undone_left, notified_too_early (all ∷ none ∷ none ∷ none ∷ none ∷ none ∷ [])) )
 
 pub own_is_needed : OwnIsNeeded
-own_is_needed = (select_failed, failed_after_notice, (undone_is_largest, own_left_out, λ w. w.cuts 4 (lit< tt)))
+own_is_needed =
+    ( select_failed, failed_after_notice
+    , ((undone_is_largest, own_left_out, λ w. w.cuts 4 (lit< tt)), undone_left, notified_too_early (all ∷ all ∷ all ∷ all ∷ all ∷ all ∷ [])) )
 
 pub notes_are_needed : NotesAreNeeded
-notes_are_needed = (select_failed, failed_after_notice, (undone_is_largest, notes_left_out, λ w. w.cuts 4 (lit< tt)))
+notes_are_needed =
+    ( select_failed, failed_after_notice
+    , ((undone_is_largest, notes_left_out, λ w. w.cuts 4 (lit< tt)), undone_left, notified_too_early (all ∷ none ∷ none ∷ none ∷ all ∷ none ∷ [])) )

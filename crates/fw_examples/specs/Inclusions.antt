@@ -7,7 +7,8 @@ use Rattle.fw_flow.specs.declared.choice.Cut.TheVariants.{Present, At}
 use Rattle.fw_flow.specs.declared.step.Step.TheVariants.{Inject, Deliver, Notify, Fail}
 use Rattle.fw_flow.specs.Dataflow.{System, sender, receiver, bounds_of}
 use Rattle.fw_flow.specs.Projection.{phi}
-use Rattle.fw_model.specs.Choice.{Choice, cut_of, note_of, kept_of, delivered_cover, discarded_cover, notified_cover, IsConsistent, IsLargest, IsChoiceWithin}
+use Rattle.fw_model.specs.Choice.{Choice, cut_of, note_of, kept_of, delivered_cover, discarded_cover, notified_cover, filtered, IsConsistent, IsLargest, IsChoiceWithin}
+use Rattle.fw_model.specs.History.{pending, IsLegal}
 use Rattle.fw_model.specs.Machine.{Machine, events, first_state, front_of}
 use Rattle.fw_model.specs.Steps.{Run, offers, did, quiet}
 use Rattle.fw_examples.specs.OneSelect.{one_select, rec_of, src, big, src_to_big, big_to_out}
@@ -54,6 +55,17 @@ IsNeeded left_out sys state choice other =
     × IsConsistentWithout left_out sys state (offers sys state) other
     × (IsChoiceWithin sys other choice → ⊥)
 
+-- the history that a recovery to the choice leaves could have come without a failure
+abbrev pub LeavesAHistory : System → Machine → Choice → Type 0
+LeavesAHistory sys state choice = IsLegal sys (events (filtered sys choice state.history))
+
+-- The inclusion is needed, and the choice that lacks it leaves what could not have come without a failure.
+abbrev pub IsNeededForHistories : Inclusion → System → Machine → Choice → Choice → Type 0
+IsNeededForHistories left_out sys state choice other =
+    IsNeeded left_out sys state choice other
+    × LeavesAHistory sys state choice
+    × (LeavesAHistory sys state other → ⊥)
+
 -- the frontier of no stamp
 abbrev pub none : Front
 none = (0 ∷ []) ∷ []
@@ -87,15 +99,20 @@ DeliveredIsNeeded =
     (Inject src ∷ Deliver src_to_big None ∷ Deliver big_to_out None ∷ Fail (big ∷ []) ∷ [])
     (did quiet ∷ did quiet ∷ did quiet ∷ did quiet ∷ [])
     state
-    × IsNeeded of_delivered one_selected state nothing_kept output_kept
+    × IsNeededForHistories of_delivered one_selected state nothing_kept output_kept
 
 -- A rec is on its way to the select, which failed and keeps nothing: without the second inclusion the input would have sent
--- it, though nobody holds it.
+-- it, and it would be pending though the select lost it and the input cannot send it again. Histories do not show that.
 abbrev pub DiscardedIsNeeded : Type 0
 DiscardedIsNeeded =
     (state : Machine)
     × Run one_selected (first_state one_selected) (Inject src ∷ Fail (big ∷ []) ∷ []) (did quiet ∷ did quiet ∷ []) state
     × IsNeeded of_discarded one_selected state output_kept input_kept
+    × LeavesAHistory one_selected state output_kept
+    × LeavesAHistory one_selected state input_kept
+    × (pending one_selected (events (filtered one_selected output_kept state.history)) src_to_big ≡ [])
+    × (pending one_selected (events (filtered one_selected input_kept state.history)) src_to_big
+      ≡ record { at = 0 ∷ []; rec = rec_of 1 20; causes = (0 ∷ []) ∷ [] } ∷ [])
 
 -- two inputs with one batch each, of a rec that comes to the sum and one that does not
 abbrev pub one_comes : System
@@ -125,16 +142,16 @@ sum_kept notes = record { cuts = Present ∷ At none ∷ At none ∷ Present ∷
 abbrev pub NotifiedIsNeeded : Type 0
 NotifiedIsNeeded =
     (state : Machine) × IsFailedAfterNotice state
-    × IsNeeded of_notified one_comes state sum_undone (sum_kept (all ∷ none ∷ none ∷ none ∷ none ∷ none ∷ []))
+    × IsNeededForHistories of_notified one_comes state sum_undone (sum_kept (all ∷ none ∷ none ∷ none ∷ none ∷ none ∷ []))
 
 -- Without the fourth it would keep it too, with all as the frontier of notifications at nodes that keep nothing.
 abbrev pub OwnIsNeeded : Type 0
 OwnIsNeeded =
     (state : Machine) × IsFailedAfterNotice state
-    × IsNeeded of_own one_comes state sum_undone (sum_kept (all ∷ all ∷ all ∷ all ∷ all ∷ all ∷ []))
+    × IsNeededForHistories of_own one_comes state sum_undone (sum_kept (all ∷ all ∷ all ∷ all ∷ all ∷ all ∷ []))
 
 -- Without the fifth it would keep it too, with all as its own frontier of notifications alone.
 abbrev pub NotesAreNeeded : Type 0
 NotesAreNeeded =
     (state : Machine) × IsFailedAfterNotice state
-    × IsNeeded of_notes one_comes state sum_undone (sum_kept (all ∷ none ∷ none ∷ none ∷ all ∷ none ∷ []))
+    × IsNeededForHistories of_notes one_comes state sum_undone (sum_kept (all ∷ none ∷ none ∷ none ∷ all ∷ none ∷ []))

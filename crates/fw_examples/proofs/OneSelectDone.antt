@@ -122,21 +122,21 @@ names_join : (p : ℕ) (old new : Front) → IsCanonical (bounds_of one_select_f
     → Names (bounds_of one_select_flow p) new (join (frontier_of (bounds_of one_select_flow p) old) (frontier_of (bounds_of one_select_flow p) new))
 names_join p old new c w = record { canonical = c; same = join_within _ _ w }
 
--- progress settles what is complete
-pub progresses : (batches : List (List Rec)) (state : Machine) (x y z : Front)
+-- progress settles what is complete at each node that is not failed
+pub progresses_where_live : (batches : List (List Rec)) (state : Machine) (x y z : Front)
     → IsComplete (one_select batches) (events state.history) (named (x ∷ y ∷ z ∷ []))
     → IsCanonical (bounds_of one_select_flow 0) x → IsCanonical (bounds_of one_select_flow 1) y → IsCanonical (bounds_of one_select_flow 2) z
-    → ((p : ℕ) → is_failed state p ≡ false)
+    → ((p : ℕ) → is_failed state p ≡ true → front_of (x ∷ y ∷ z ∷ []) p ≡ front_of state.settled p)
     → Within (named state.settled 0) (named (x ∷ y ∷ z ∷ []) 0)
     → Within (named state.settled 1) (named (x ∷ y ∷ z ∷ []) 1)
     → Within (named state.settled 2) (named (x ∷ y ∷ z ∷ []) 2)
-    → (p : ℕ) → (t : Stamp) → p < 3 → named (x ∷ y ∷ z ∷ []) p t ≡ true → named state.settled p t ≡ false
+    → (p : ℕ) → (t : Stamp) → p < 3 → is_failed state p ≡ false → named (x ∷ y ∷ z ∷ []) p t ≡ true → named state.settled p t ≡ false
     → Steps (one_select batches) state Progress (record state { settled = x ∷ y ∷ z ∷ []; writes = state.writes ++ [] }) (did quiet)
 unfolding policy_of
-progresses batches state x y z is cx cy cz live wx wy wz p t lt new old = (
+progresses_where_live batches state x y z is cx cy cz unchanged wx wy wz p t lt live new old = (
   named (x ∷ y ∷ z ∷ []),
   x ∷ y ∷ z ∷ [],
-  record { complete = is; some = (p, t, lt, live p, new, old); one_each = refl; each = each; failed = λ q l f. absurd (false≢true (sym (live q) ∙ f)) },
+  record { complete = is; some = (p, t, lt, live, new, old); one_each = refl; each = each; failed = λ q l f. unchanged q f },
   refl,
   refl,
 )
@@ -147,6 +147,19 @@ progresses batches state x y z is cx cy cz live wx wy wz p t lt new old = (
     each (suc zero) l f = names_join 1 (front_of state.settled 1) y cy wy
     each (suc (suc zero)) l f = names_join 2 (front_of state.settled 2) z cz wz
     each (suc (suc (suc q))) l f = absurd (omega arith)
+
+-- the same where none is failed
+pub progresses : (batches : List (List Rec)) (state : Machine) (x y z : Front)
+    → IsComplete (one_select batches) (events state.history) (named (x ∷ y ∷ z ∷ []))
+    → IsCanonical (bounds_of one_select_flow 0) x → IsCanonical (bounds_of one_select_flow 1) y → IsCanonical (bounds_of one_select_flow 2) z
+    → ((p : ℕ) → is_failed state p ≡ false)
+    → Within (named state.settled 0) (named (x ∷ y ∷ z ∷ []) 0)
+    → Within (named state.settled 1) (named (x ∷ y ∷ z ∷ []) 1)
+    → Within (named state.settled 2) (named (x ∷ y ∷ z ∷ []) 2)
+    → (p : ℕ) → (t : Stamp) → p < 3 → named (x ∷ y ∷ z ∷ []) p t ≡ true → named state.settled p t ≡ false
+    → Steps (one_select batches) state Progress (record state { settled = x ∷ y ∷ z ∷ []; writes = state.writes ++ [] }) (did quiet)
+progresses batches state x y z is cx cy cz live wx wy wz p t lt new old =
+    progresses_where_live batches state x y z is cx cy cz (λ q f. absurd (false≢true (sym (live q) ∙ f))) wx wy wz p t lt (live p) new old
 
 -- what was settled lies within all
 pub below_all : (p : ℕ) (os : Front) → Within (frontier_of (bounds_of one_select_flow p) os) (frontier_of (bounds_of one_select_flow p) [])

@@ -149,11 +149,15 @@ unfolding kind_of receiver sender sends batches_of bounds_of
 sent_by_nobody is = false≢true is.0.is_pending
 
 pub delivered_is_needed : DeliveredIsNeeded
-delivered_is_needed =
-    ( failed_late
-    , (rec_sent, sends_rec, (rec_selected, selects_rec, (rec_put_out, puts_out_rec, (failed_late, fails_late, refl))))
-    , ( (record { consistent = nothing_consistent; largest = nothing_largest }, output_kept_without, λ w. w.cuts 2 (lit< tt))
-      , nothing_left, sent_by_nobody ) )
+delivered_is_needed = (
+  failed_late,
+  (rec_sent, sends_rec, (rec_selected, selects_rec, (rec_put_out, puts_out_rec, (failed_late, fails_late, refl)))),
+  (
+    (record { consistent = nothing_consistent; largest = nothing_largest }, output_kept_without, λ w. w.cuts 2 (lit< tt)),
+    nothing_left,
+    sent_by_nobody,
+  ),
+)
 
 -- ---- before the rec came
 
@@ -240,8 +244,12 @@ unfolding kind_of receiver sender sends batches_of bounds_of
 on_its_way = refl
 
 pub discarded_is_needed : DiscardedIsNeeded
-discarded_is_needed =
-    ( failed_early
-    , (rec_sent, sends_rec, (failed_early, fails_early, refl))
-    , (record { consistent = output_kept_consistent; largest = output_kept_largest }, input_kept_without, λ w. w.cuts 0 (lit< tt))
-    , nothing_sent, still_sent, none_on_its_way, on_its_way )
+discarded_is_needed = (
+  failed_early,
+  (rec_sent, sends_rec, (failed_early, fails_early, refl)),
+  (record { consistent = output_kept_consistent; largest = output_kept_largest }, input_kept_without, λ w. w.cuts 0 (lit< tt)),
+  nothing_sent,
+  still_sent,
+  none_on_its_way,
+  on_its_way,
+)

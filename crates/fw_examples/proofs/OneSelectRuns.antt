@@ -3,7 +3,7 @@ use Rattle.std.proofs.Common.{◌≡◌, ℕ, ◌<◌, ◌⊎◌, true, [], ◌�
 use Rattle.std.proofs.lemmas.Bool.{true≢false}
 use Rattle.fw_flow.specs.declared.event.Event.TheVariants.{Inject as Injected, Deliver as Delivered}
 use Rattle.fw_flow.specs.declared.event.Message.{Message}
-use Rattle.fw_flow.specs.declared.step.Step.TheVariants.{Inject, Deliver, Progress, Ack}
+use Rattle.fw_flow.specs.declared.step.Step.TheVariants.{Inject, Deliver, Progress, Recover, Ack}
 use Rattle.fw_flow.specs.Dataflow.{kind_of, policy_of, sender, receiver, bounds_of, batches_of}
 use Rattle.fw_flow.specs.NodeFunction.{sends}
 use Rattle.fw_frontier.specs.Front.{Front, frontier_of}
@@ -12,7 +12,7 @@ use Rattle.fw_model.specs.History.{pending, some_at, IsComplete}
 use Rattle.fw_model.specs.Machine.{Machine, first_state, events}
 use Rattle.fw_model.specs.Steps.{Steps, Takes, with_event, did, quiet, acked, Effect, HasEpoch}
 use Rattle.fw_examples.specs.OneSelect.{one_select_flow, rec_of}
-use Rattle.fw_examples.specs.OneSelectRuns.{one_of_two_batches, one_of_two, AcknowledgesWhatIsSettled, nothing_sent, IsIdleWithoutSteps, IsIdleWithoutBatches, two_selected_batches, two_selected, WaitsForTheRest}
+use Rattle.fw_examples.specs.OneSelectRuns.{one_of_two_batches, one_of_two, AcknowledgesWhatIsSettled, nothing_sent, IsIdleWithoutSteps, IsIdleWithoutBatches, two_selected_batches, two_selected, WaitsForTheRest, one_rec, IsIdleTooEarly}
 use Rattle.fw_examples.proofs.FrontierFacts.{within_all, within_until, one_not_same}
 use Rattle.fw_examples.proofs.StepFacts.{injects, delivers}
 use Rattle.fw_examples.proofs.OneSelectDone.{named, all_complete, admissible, complete, at_sender, below_all, progresses, none_failed}
@@ -241,4 +241,39 @@ waits_for_the_rest = (
     ),
   ),
   refl,
+)
+
+-- ---- too early
+
+abbrev rec_sent : Machine
+rec_sent = with_event one_rec (first_state one_rec) (Injected 0 0)
+
+no_early_recovery : (other : Machine) (effect : Effect) → Takes one_rec (first_state one_rec) Recover other effect → ⊥
+no_early_recovery other effect t = true≢false (sym t.4 ∙ none_failed t.0)
+
+no_early_delivery : (other : Machine) (effect : Effect) → Takes one_rec (first_state one_rec) (Deliver 0 None) other effect → ⊥
+unfolding sender
+no_early_delivery other effect t = true≢false (sym t.1.enabled.is_pending)
+
+sends_rec : Steps one_rec (first_state one_rec) (Inject 0) rec_sent (did quiet)
+unfolding kind_of batches_of
+sends_rec = injects one_rec (first_state one_rec) 0 0 refl refl (lit< tt) refl
+
+not_settled : (other : Machine) (effect : Effect) → Takes one_rec rec_sent (Ack 2) other effect → ⊥
+unfolding bounds_of kind_of
+not_settled other effect t =
+    true≢false (sym t.1.settled ∙ ap (λ x. frontier_of (bounds_of one_select_flow 2) none (x ∷ [])) t.1.next)
+
+pub is_idle_too_early : IsIdleTooEarly
+is_idle_too_early = (
+  rec_sent,
+  (
+    first_state one_rec,
+    (no_early_recovery, refl),
+    (
+      first_state one_rec,
+      (no_early_delivery, refl),
+      (rec_sent, sends_rec, (rec_sent, (not_settled, refl), refl)),
+    ),
+  ),
 )

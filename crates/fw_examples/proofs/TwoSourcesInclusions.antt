@@ -226,9 +226,10 @@ notes_left_out = record {
 
 undone_left : LeavesAHistory one_comes select_failed sum_undone
 unfolding kind_of receiver sender sends batches_of bounds_of
-undone_left =
-    ( record { is_pending = refl; numbered = λ n. absurd (false≢true n) }
-    , (record { input = refl; next = refl; there = lit< tt }, tt) )
+undone_left = (
+  record { is_pending = refl; numbered = λ n. absurd (false≢true n) },
+  (record { input = refl; next = refl; there = lit< tt }, tt),
+)
 
 -- the sum would have been notified of an epoch that is not complete: the second input is still to send it
 notified_too_early : (notes : List Front) → LeavesAHistory one_comes select_failed (sum_kept notes) → ⊥
@@ -242,16 +243,22 @@ notified_too_early notes is =
     false≢true (admissible.source 1 refl (0 ∷ []) at_second_source)
 
 pub notified_is_needed : NotifiedIsNeeded
-notified_is_needed =
-    ( select_failed, failed_after_notice
-    , ((undone_is_largest, notified_left_out, λ w. w.cuts 4 (lit< tt)), undone_left, notified_too_early (all ∷ none ∷ none ∷ none ∷ none ∷ none ∷ [])) )
+notified_is_needed = (
+  select_failed,
+  failed_after_notice,
+  ((undone_is_largest, notified_left_out, λ w. w.cuts 4 (lit< tt)), undone_left, notified_too_early (all ∷ none ∷ none ∷ none ∷ none ∷ none ∷ [])),
+)
 
 pub own_is_needed : OwnIsNeeded
-own_is_needed =
-    ( select_failed, failed_after_notice
-    , ((undone_is_largest, own_left_out, λ w. w.cuts 4 (lit< tt)), undone_left, notified_too_early (all ∷ all ∷ all ∷ all ∷ all ∷ all ∷ [])) )
+own_is_needed = (
+  select_failed,
+  failed_after_notice,
+  ((undone_is_largest, own_left_out, λ w. w.cuts 4 (lit< tt)), undone_left, notified_too_early (all ∷ all ∷ all ∷ all ∷ all ∷ all ∷ [])),
+)
 
 pub notes_are_needed : NotesAreNeeded
-notes_are_needed =
-    ( select_failed, failed_after_notice
-    , ((undone_is_largest, notes_left_out, λ w. w.cuts 4 (lit< tt)), undone_left, notified_too_early (all ∷ none ∷ none ∷ none ∷ all ∷ none ∷ [])) )
+notes_are_needed = (
+  select_failed,
+  failed_after_notice,
+  ((undone_is_largest, notes_left_out, λ w. w.cuts 4 (lit< tt)), undone_left, notified_too_early (all ∷ none ∷ none ∷ none ∷ all ∷ none ∷ [])),
+)

@@ -112,7 +112,7 @@ DiscardedIsNeeded =
     × LeavesAHistory one_selected state input_kept
     × (pending one_selected (events (filtered one_selected output_kept state.history)) src_to_big ≡ [])
     × (pending one_selected (events (filtered one_selected input_kept state.history)) src_to_big
-      ≡ record { at = 0 ∷ []; rec = rec_of 1 20; causes = (0 ∷ []) ∷ [] } ∷ [])
+    ≡ record { at = 0 ∷ []; rec = rec_of 1 20; causes = (0 ∷ []) ∷ [] } ∷ [])
 
 -- two inputs with one batch each, of a rec that comes to the sum and one that does not
 abbrev pub one_comes : System

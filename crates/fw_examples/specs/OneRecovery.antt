@@ -1,14 +1,14 @@
 -- A recovery to a frontier that holds some epochs and not all.
-use Rattle.std.specs.Prelude.{false, List, [], ◌∷◌, None}
+use Rattle.std.specs.Prelude.{◌≡◌, false, List, [], ◌∷◌, None}
 use Rattle.fw_bag.specs.declared.rec.Rec.{Rec}
 use Rattle.fw_flow.specs.declared.choice.Cut.TheVariants.{Present, At}
 use Rattle.fw_flow.specs.declared.event.Event.TheVariants.{Inject as Injected, Deliver as Delivered}
-use Rattle.fw_flow.specs.declared.step.Step.TheVariants.{Inject, Deliver, Progress, Fail, Recover}
+use Rattle.fw_flow.specs.declared.step.Step.TheVariants.{Inject, Deliver, Progress, Fail, Recover, Ack}
 use Rattle.fw_flow.specs.Dataflow.{System}
 use Rattle.fw_model.specs.Choice.{Choice}
 use Rattle.fw_model.specs.Machine.{Machine, first_state}
-use Rattle.fw_model.specs.Steps.{Run, did, quiet, cuts}
-use Rattle.fw_examples.specs.OneSelect.{one_select, rec_of, src, big, src_to_big}
+use Rattle.fw_model.specs.Steps.{Run, did, quiet, cuts, acked}
+use Rattle.fw_examples.specs.OneSelect.{one_select, rec_of, src, big, out, src_to_big, big_to_out}
 
 -- two batches of a rec that is selected
 abbrev pub two_batches : List (List Rec)
@@ -48,3 +48,24 @@ KeepsTheSettledEpoch =
     (Inject src ∷ Deliver src_to_big None ∷ Progress ∷ Inject src ∷ Fail (big ∷ []) ∷ Recover ∷ [])
     (did quiet ∷ did quiet ∷ did quiet ∷ did quiet ∷ did quiet ∷ did (cuts first_epoch_kept) ∷ [])
     first_epoch_alone
+
+-- the input stays as it is, and the select and the output keep epoch 0
+abbrev pub acknowledged_epoch_kept : Choice
+acknowledged_epoch_kept = record {
+  cuts = Present ∷ At ((1 ∷ []) ∷ []) ∷ At ((1 ∷ []) ∷ []) ∷ [];
+  notes = [] ∷ ((1 ∷ []) ∷ []) ∷ ((1 ∷ []) ∷ []) ∷ [];
+}
+
+-- The output acknowledges epoch 0 after the select failed, and fails then: both come back with epoch 0, and epoch 1 follows
+-- as if nothing had failed.
+abbrev pub ResumesAfterBothFailed : Type 0
+ResumesAfterBothFailed =
+    (last : Machine)
+    × Run two_epochs (first_state two_epochs)
+    (Inject src ∷ Deliver src_to_big None ∷ Progress ∷ Fail (big ∷ []) ∷ Deliver big_to_out None ∷ Progress ∷ Ack out ∷ Fail (out ∷ []) ∷ Recover
+    ∷ Inject src ∷ Deliver src_to_big None ∷ Deliver big_to_out None ∷ Progress ∷ Ack out ∷ [])
+    (did quiet ∷ did quiet ∷ did quiet ∷ did quiet ∷ did quiet ∷ did quiet ∷ did (acked out (0 ∷ []) (rec_of 1 20 ∷ [])) ∷ did quiet
+    ∷ did (cuts acknowledged_epoch_kept)
+    ∷ did quiet ∷ did quiet ∷ did quiet ∷ did quiet ∷ did (acked out (1 ∷ []) (rec_of 2 30 ∷ [])) ∷ [])
+    last
+    × (last.settled ≡ [] ∷ [] ∷ [] ∷ [])

@@ -1,7 +1,7 @@
 -- Whole runs of one select, effect by effect.
 use Rattle.std.specs.Prelude.{◌≡◌, List, [], ◌∷◌, None}
 use Rattle.fw_bag.specs.declared.rec.Rec.{Rec}
-use Rattle.fw_flow.specs.declared.step.Step.TheVariants.{Inject, Deliver, Progress, Ack}
+use Rattle.fw_flow.specs.declared.step.Step.TheVariants.{Inject, Deliver, Progress, Recover, Ack}
 use Rattle.fw_flow.specs.Dataflow.{System}
 use Rattle.fw_model.specs.Machine.{Machine, first_state}
 use Rattle.fw_model.specs.Steps.{Run, did, idle, quiet, acked}
@@ -60,3 +60,14 @@ WaitsForTheRest =
     ∷ did quiet ∷ did quiet ∷ did quiet ∷ did (acked out (0 ∷ []) (rec_of 1 20 ∷ rec_of 2 30 ∷ [])) ∷ [])
     last
     × (last.settled ≡ [] ∷ [] ∷ [] ∷ [])
+
+-- one batch of a rec that is selected
+abbrev pub one_rec : System
+one_rec = one_select ((rec_of 1 50 ∷ []) ∷ [])
+
+-- Where nothing failed there is nothing to recover, before the batch is sent nothing to deliver, and before the epoch is
+-- settled nothing to acknowledge.
+abbrev pub IsIdleTooEarly : Type 0
+IsIdleTooEarly =
+    (last : Machine)
+    × Run one_rec (first_state one_rec) (Recover ∷ Deliver src_to_big None ∷ Inject src ∷ Ack out ∷ []) (idle ∷ idle ∷ did quiet ∷ idle ∷ []) last

@@ -1,5 +1,5 @@
 //! Whole runs of a dataflow of an input, a select and an output.
-ghost use Rattle.fw_examples.specs.OneSelectRuns.{AcknowledgesWhatIsSettled, IsIdleWithoutSteps, IsIdleWithoutBatches, WaitsForTheRest};
+ghost use Rattle.fw_examples.specs.OneSelectRuns.{AcknowledgesWhatIsSettled, IsIdleWithoutSteps, IsIdleWithoutBatches, IsIdleTooEarly, WaitsForTheRest};
 
 /// Of a batch of two recs the one that is selected is acknowledged once its epoch is settled.
 pub fn acknowledges_what_is_settled()
@@ -19,4 +19,9 @@ pub fn is_idle_without_batches()
 /// An epoch is not acknowledged before all its recs have come, and then they are acknowledged together.
 pub fn waits_for_the_rest()
     ensures { WaitsForTheRest }
+{}
+
+/// Nothing is recovered, delivered or acknowledged before there is something.
+pub fn is_idle_too_early()
+    ensures { IsIdleTooEarly }
 {}

@@ -8,3 +8,4 @@ pub mod InclusionFacts
 pub mod OneSelectInclusions
 pub mod TwoSourcesRun
 pub mod TwoSourcesInclusions
+pub mod WellFormed

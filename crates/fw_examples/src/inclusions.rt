@@ -1,4 +1,6 @@
 //! Why a consistent choice has to meet each of its five inclusions.
+ghost use Rattle.fw_flow.specs.WellFormed.{IsWellFormed};
+ghost use Rattle.fw_examples.specs.TwoSources.{two_sources_flow};
 ghost use Rattle.fw_examples.specs.Inclusions.{LeavesOutOne, DeliveredIsNeeded, DiscardedIsNeeded, NotifiedIsNeeded, OwnIsNeeded, NotesAreNeeded};
 
 /// Leaving out one inclusion leaves out nothing else.
@@ -14,6 +16,11 @@ pub fn delivered_is_needed()
 /// A receiver has to keep what its sender cannot send again.
 pub fn discarded_is_needed()
     ensures { DiscardedIsNeeded }
+{}
+
+/// The dataflow of the three that follow is well formed.
+pub fn two_sources_is_well_formed()
+    ensures { IsWellFormed two_sources_flow }
 {}
 
 /// A notification has to count in the frontier of notifications.

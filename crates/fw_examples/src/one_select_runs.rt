@@ -1,5 +1,12 @@
 //! Whole runs of a dataflow of an input, a select and an output.
+ghost use Rattle.fw_flow.specs.WellFormed.{IsWellFormed};
+ghost use Rattle.fw_examples.specs.OneSelect.{one_select_flow};
 ghost use Rattle.fw_examples.specs.OneSelectRuns.{AcknowledgesWhatIsSettled, IsIdleWithoutSteps, IsIdleWithoutBatches, IsIdleTooEarly, WaitsForTheRest};
+
+/// The dataflow is well formed.
+pub fn one_select_is_well_formed()
+    ensures { IsWellFormed one_select_flow }
+{}
 
 /// Of a batch of two recs the one that is selected is acknowledged once its epoch is settled.
 pub fn acknowledges_what_is_settled()

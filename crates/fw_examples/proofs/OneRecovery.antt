@@ -9,6 +9,7 @@ use Rattle.fw_flow.specs.declared.choice.Cut.TheVariants.{Present, At}
 use Rattle.fw_flow.specs.declared.event.Event.TheVariants.{Inject as Injected, Deliver as Delivered}
 use Rattle.fw_flow.specs.declared.event.Message.{Message}
 use Rattle.fw_flow.specs.declared.step.Step.TheVariants.{Inject, Deliver, Progress, Fail, Recover, Ack}
+use Rattle.fw_flow.specs.declared.kind.Policy.TheVariants as policy
 use Rattle.fw_flow.specs.Dataflow.{kind_of, policy_of, sender, receiver, bounds_of, batches_of}
 use Rattle.fw_flow.specs.NodeFunction.{sends}
 use Rattle.fw_flow.specs.Projection.{phi, psi}
@@ -66,21 +67,21 @@ pending_rec : pending two_epochs (events first_taken.history) 1 ≡ message ∷ 
 unfolding kind_of receiver sender sends batches_of bounds_of
 pending_rec = refl
 
-first_complete : IsComplete two_epochs (events first_taken.history) (named (first ∷ first ∷ none ∷ []))
+first_complete : IsComplete two_epochs (events first_taken.history) (named policy.None (first ∷ first ∷ none ∷ []))
 unfolding bounds_of kind_of receiver batches_of
 first_complete =
-    complete two_batches (events first_taken.history) first first none
-    (admissible two_batches (events first_taken.history) (first ∷ first ∷ none ∷ [])
+    complete policy.None two_batches (events first_taken.history) first first none
+    (admissible policy.None two_batches (events first_taken.history) (first ∷ first ∷ none ∷ [])
     (λ t i. ap (some_at (same t)) none_pending)
     (λ t i. ap (some_at (same t)) pending_rec ∙ one_not_same _ (0 ∷ []) t i)
     (λ t i. and_from _ _ (and_parts _ _ i).0 (below_epoch _ 1 t i))
     (λ t i. i)
     (within_until _ _ (1 ∷ []) (is_frontier_of _ none) refl false≢true))
     (λ other o.
-    let in_first : Within (other 0) (named (first ∷ first ∷ none ∷ []) 0) =
+    let in_first : Within (other 0) (named policy.None (first ∷ first ∷ none ∷ []) 0) =
     within_until _ (other 0) (1 ∷ []) (o.frontier 0) refl (λ i. false≢true (o.source 0 refl (1 ∷ []) i)) in (
       in_first,
-      (λ t i. in_first t ((at_sender two_batches _ other o).0 t i)),
+      (λ t i. in_first t ((at_sender policy.None two_batches _ other o).0 t i)),
       within_until _ (other 2) (0 ∷ []) (o.frontier 2) refl
           (λ i. true≢false (sym (ap (some_at (same (0 ∷ []))) pending_rec) ∙ o.quiet 2 (0 ∷ []) i 1 refl)),
     ))
@@ -88,7 +89,7 @@ first_complete =
 settles_first : Steps two_epochs first_taken Progress first_settled (did quiet)
 unfolding kind_of receiver sender sends batches_of bounds_of policy_of
 settles_first =
-    progresses two_batches first_taken first first none first_complete
+    progresses policy.None two_batches first_taken first first none first_complete
     (canonical _ (1 ∷ []) refl) (canonical _ (1 ∷ []) refl) (canonical _ (0 ∷ []) refl)
     none_failed
     (within_until _ _ (1 ∷ []) (is_frontier_of _ none) refl false≢true)
@@ -251,20 +252,20 @@ none_left : (e : ℕ) → e < 2 → pending two_epochs (events first_put_out.his
 unfolding kind_of receiver sender sends batches_of bounds_of
 none_left = by_two _ refl refl
 
-output_complete : IsComplete two_epochs (events first_put_out.history) (named (first ∷ first ∷ first ∷ []))
+output_complete : IsComplete two_epochs (events first_put_out.history) (named policy.None (first ∷ first ∷ first ∷ []))
 unfolding bounds_of kind_of receiver batches_of
 output_complete =
-    complete two_batches (events first_put_out.history) first first first
-    (admissible two_batches (events first_put_out.history) (first ∷ first ∷ first ∷ [])
+    complete policy.None two_batches (events first_put_out.history) first first first
+    (admissible policy.None two_batches (events first_put_out.history) (first ∷ first ∷ first ∷ [])
     (λ t i. ap (some_at (same t)) (none_left 0 (lit< tt)))
     (λ t i. ap (some_at (same t)) (none_left 1 (lit< tt)))
     (λ t i. and_from _ _ (and_parts _ _ i).0 (below_epoch _ 1 t i))
     (λ t i. i)
     (λ t i. i))
     (λ other o.
-    let in_first : Within (other 0) (named (first ∷ first ∷ first ∷ []) 0) =
+    let in_first : Within (other 0) (named policy.None (first ∷ first ∷ first ∷ []) 0) =
     within_until _ (other 0) (1 ∷ []) (o.frontier 0) refl (λ i. false≢true (o.source 0 refl (1 ∷ []) i)) in
-    let follows = at_sender two_batches _ other o in
+    let follows = at_sender policy.None two_batches _ other o in
     (in_first, (λ t i. in_first t (follows.0 t i)), (λ t i. in_first t (follows.0 t (follows.1 t i)))))
 
 -- the select alone is failed, and stays as it was settled
@@ -278,7 +279,7 @@ as_settled (suc (suc (suc p))) f = absurd (false≢true f)
 settles_output : Steps two_epochs first_put_out Progress output_settled (did quiet)
 unfolding kind_of receiver sender sends batches_of bounds_of policy_of
 settles_output =
-    progresses_where_live two_batches first_put_out first first first output_complete
+    progresses_where_live policy.None two_batches first_put_out first first first output_complete
     (canonical _ (1 ∷ []) refl) (canonical _ (1 ∷ []) refl) (canonical _ (1 ∷ []) refl)
     as_settled
     (λ t i. i) (λ t i. i)
@@ -377,10 +378,10 @@ puts_later_out = delivers two_epochs later_taken 1 later_message refl refl refl 
 settles_later : Steps two_epochs later_put_out Progress later_settled (did quiet)
 unfolding kind_of receiver sender sends batches_of bounds_of policy_of
 settles_later =
-    progresses two_batches later_put_out [] [] []
-    (all_complete two_batches (events later_put_out.history) refl refl (λ t i. i))
+    progresses policy.None two_batches later_put_out [] [] []
+    (all_complete policy.None two_batches (events later_put_out.history) refl refl (λ t i. i))
     tt tt tt none_failed
-    (below_all 0 first) (below_all 1 first) (below_all 2 first)
+    (below_all policy.None 0 first) (below_all policy.None 1 first) (below_all policy.None 2 first)
     0 (1 ∷ []) (lit< tt) refl refl
 
 acknowledges_later : Steps two_epochs later_settled (Ack 2) both_acknowledged (did (acked 2 (1 ∷ []) (rec_of 2 30 ∷ [])))

@@ -4,6 +4,7 @@ use Rattle.std.proofs.lemmas.Bool.{true≢false}
 use Rattle.fw_flow.specs.declared.event.Event.TheVariants.{Inject as Injected, Deliver as Delivered}
 use Rattle.fw_flow.specs.declared.event.Message.{Message}
 use Rattle.fw_flow.specs.declared.step.Step.TheVariants.{Inject, Deliver, Progress, Recover, Ack}
+use Rattle.fw_flow.specs.declared.kind.Policy.TheVariants as policy
 use Rattle.fw_flow.specs.Dataflow.{kind_of, policy_of, sender, receiver, bounds_of, batches_of}
 use Rattle.fw_flow.specs.NodeFunction.{sends}
 use Rattle.fw_frontier.specs.Front.{Front, frontier_of}
@@ -64,10 +65,10 @@ third = delivers one_of_two after_second 1 (message 0 2 10) refl refl refl refl
 progressed : Steps one_of_two after_third Progress after_progress (did quiet)
 unfolding kind_of receiver sender sends batches_of bounds_of policy_of
 progressed =
-    progresses one_of_two_batches after_third [] [] []
-    (all_complete one_of_two_batches (events after_third.history) refl refl (λ t i. i))
+    progresses policy.None one_of_two_batches after_third [] [] []
+    (all_complete policy.None one_of_two_batches (events after_third.history) refl refl (λ t i. i))
     tt tt tt none_failed
-    (below_all 0 none) (below_all 1 none) (below_all 2 none)
+    (below_all policy.None 0 none) (below_all policy.None 1 none) (below_all policy.None 2 none)
     0 (0 ∷ []) (lit< tt) refl refl
 
 acknowledged : Steps one_of_two after_progress (Ack 2) after_ack (did (acked 2 (0 ∷ []) (rec_of 2 10 ∷ [])))
@@ -89,10 +90,10 @@ progressed_at_nothing = record (first_state nothing_sent) { settled = [] ∷ [] 
 progress_at_nothing : Steps nothing_sent (first_state nothing_sent) Progress progressed_at_nothing (did quiet)
 unfolding kind_of receiver sender sends batches_of bounds_of policy_of
 progress_at_nothing =
-    progresses [] (first_state nothing_sent) [] [] []
-    (all_complete [] [] refl refl (λ t i. i))
+    progresses policy.None [] (first_state nothing_sent) [] [] []
+    (all_complete policy.None [] [] refl refl (λ t i. i))
     tt tt tt none_failed
-    (below_all 0 none) (below_all 1 none) (below_all 2 none)
+    (below_all policy.None 0 none) (below_all policy.None 1 none) (below_all policy.None 2 none)
     0 (0 ∷ []) (lit< tt) refl refl
 
 -- no epoch is there
@@ -154,28 +155,28 @@ none_pending : pending two_selected (events one_put_out.history) 1 ≡ []
 unfolding kind_of receiver sender sends batches_of bounds_of
 none_pending = refl
 
-input_complete : IsComplete two_selected (events one_put_out.history) (named ([] ∷ none ∷ none ∷ []))
+input_complete : IsComplete two_selected (events one_put_out.history) (named policy.None ([] ∷ none ∷ none ∷ []))
 unfolding bounds_of kind_of receiver batches_of
 input_complete =
-    complete two_selected_batches (events one_put_out.history) [] none none
-    (admissible two_selected_batches (events one_put_out.history) ([] ∷ none ∷ none ∷ [])
+    complete policy.None two_selected_batches (events one_put_out.history) [] none none
+    (admissible policy.None two_selected_batches (events one_put_out.history) ([] ∷ none ∷ none ∷ [])
     (λ t i. ap (some_at (same t)) pending_rec ∙ one_not_same _ (0 ∷ []) t i)
     (λ t i. ap (some_at (same t)) none_pending)
-    (λ t i. i) (below_all 1 none) (λ t i. i))
+    (λ t i. i) (below_all policy.None 1 none) (λ t i. i))
     (λ other o.
     let not_there : other 1 (0 ∷ []) ≡ true → ⊥ = λ i. true≢false (sym (ap (some_at (same (0 ∷ []))) pending_rec) ∙ o.quiet 1 (0 ∷ []) i 0 refl) in (
       within_all _ (other 0) (o.frontier 0),
       within_until _ (other 1) (0 ∷ []) (o.frontier 1) refl not_there,
-      within_until _ (other 2) (0 ∷ []) (o.frontier 2) refl (λ i. not_there ((at_sender two_selected_batches _ other o).1 (0 ∷ []) i)),
+      within_until _ (other 2) (0 ∷ []) (o.frontier 2) refl (λ i. not_there ((at_sender policy.None two_selected_batches _ other o).1 (0 ∷ []) i)),
     ))
 
 settles_input : Steps two_selected one_put_out Progress input_settled (did quiet)
 unfolding kind_of receiver sender sends batches_of bounds_of policy_of
 settles_input =
-    progresses two_selected_batches one_put_out [] none none input_complete
+    progresses policy.None two_selected_batches one_put_out [] none none input_complete
     tt (record { in_the_domain = refl; ascending = tt; incomparable = tt }, tt) (record { in_the_domain = refl; ascending = tt; incomparable = tt }, tt)
     none_failed
-    (below_all 0 none) (λ t i. i) (λ t i. i)
+    (below_all policy.None 0 none) (λ t i. i) (λ t i. i)
     0 (0 ∷ []) (lit< tt) refl refl
 
 no_early_ack : (other : Machine) (effect : Effect) → Takes two_selected input_settled (Ack 2) other effect → ⊥
@@ -194,10 +195,10 @@ puts_other_out = delivers two_selected both_selected 1 (message 0 2 30) refl ref
 settles_all : Steps two_selected both_put_out Progress all_settled (did quiet)
 unfolding kind_of receiver sender sends batches_of bounds_of policy_of
 settles_all =
-    progresses two_selected_batches both_put_out [] [] []
-    (all_complete two_selected_batches (events both_put_out.history) refl refl (λ t i. i))
+    progresses policy.None two_selected_batches both_put_out [] [] []
+    (all_complete policy.None two_selected_batches (events both_put_out.history) refl refl (λ t i. i))
     tt tt tt none_failed
-    (below_all 0 []) (below_all 1 none) (below_all 2 none)
+    (below_all policy.None 0 []) (below_all policy.None 1 none) (below_all policy.None 2 none)
     1 (0 ∷ []) (lit< tt) refl refl
 
 acknowledges_both : Steps two_selected all_settled (Ack 2) both_acknowledged (did (acked 2 (0 ∷ []) (rec_of 1 20 ∷ rec_of 2 30 ∷ [])))

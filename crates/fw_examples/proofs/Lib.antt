@@ -9,3 +9,14 @@ pub mod Projecting
 pub mod Rounds
 pub mod Running
 pub mod Walks
+pub mod FrontierFacts
+pub mod StepFacts
+pub mod ChoiceFacts
+pub mod OneSelectDone
+pub mod OneSelectRuns
+pub mod OneRecovery
+pub mod InclusionFacts
+pub mod OneSelectInclusions
+pub mod TwoSourcesRun
+pub mod TwoSourcesInclusions
+pub mod WellFormed

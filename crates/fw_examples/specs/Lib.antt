@@ -3,3 +3,8 @@ pub mod LoopCountsUp
 pub mod Projections
 pub mod Recovery
 pub mod UnderWay
+pub mod OneSelect
+pub mod OneSelectRuns
+pub mod OneRecovery
+pub mod TwoSources
+pub mod Inclusions

@@ -5,3 +5,19 @@ mod loop_counts_up;
 mod projections;
 mod recovery;
 mod under_way;
+//! Theorems which show that the definitions of dataflows, histories, choices and runs mean what they should.
+#![tactic(auto)]
+
+mod inclusions;
+mod one_recovery;
+mod one_select_runs;
+
+pub use inclusions::{
+    delivered_is_needed, discarded_is_needed, leaves_out_one, notes_are_needed, notified_is_needed,
+    own_is_needed, two_sources_is_well_formed,
+};
+pub use one_recovery::{keeps_the_settled_epoch, resumes_after_both_failed};
+pub use one_select_runs::{
+    acknowledges_what_is_settled, is_idle_too_early, is_idle_without_batches,
+    is_idle_without_steps, one_select_is_well_formed, waits_for_the_rest,
+};

@@ -1,0 +1,157 @@
+-- The inclusions of a consistent choice one by one, and the smallest histories at which each makes the largest choice smaller.
+use Rattle.std.specs.Prelude.{◌≡◌, ◌≢◌, ◌↔◌, ℕ, ◌<◌, List, [], ◌∷◌, length, None}
+use Rattle.fw_frontier.specs.Frontier.{Within}
+use Rattle.fw_frontier.specs.Front.{Front, IsCanonical}
+use Rattle.fw_flow.specs.declared.choice.Cut.{Cut}
+use Rattle.fw_flow.specs.declared.choice.Cut.TheVariants.{Present, At}
+use Rattle.fw_flow.specs.declared.step.Step.TheVariants.{Inject, Deliver, Notify, Fail}
+use Rattle.fw_flow.specs.Dataflow.{System, sender, receiver, bounds_of}
+use Rattle.fw_flow.specs.Projection.{phi}
+use Rattle.fw_model.specs.Choice.{Choice, cut_of, note_of, kept_of, delivered_cover, discarded_cover, notified_cover, filtered, IsConsistent, IsLargest, IsChoiceWithin}
+use Rattle.fw_model.specs.History.{pending, IsLegal}
+use Rattle.fw_model.specs.Machine.{Machine, events, first_state, front_of}
+use Rattle.fw_model.specs.Steps.{Run, offers, did, quiet}
+use Rattle.fw_examples.specs.OneSelect.{one_select, rec_of, src, big, src_to_big, big_to_out}
+use Rattle.fw_examples.specs.TwoSources.{two_sources, first_source, second_source, low, tot, first_to_mix, second_to_low, mix_to_tot}
+
+-- the five inclusions of a consistent choice
+pub data Inclusion : Type 0 where
+  of_delivered : Inclusion
+  of_discarded : Inclusion
+  of_notified : Inclusion
+  of_own : Inclusion
+  of_notes : Inclusion
+
+-- the choice meets the inclusion
+abbrev pub Meets : System → Machine → Choice → Inclusion → Type 0
+Meets sys state choice of_delivered = (d : ℕ) → d < length sys.flow.edges
+    → Within (delivered_cover sys state (receiver sys.flow d) d (cut_of choice (receiver sys.flow d))) (phi sys (events state.history) d (kept_of sys choice (sender sys.flow d)))
+Meets sys state choice of_discarded = (e : ℕ) → e < length sys.flow.edges
+    → Within (discarded_cover sys state (sender sys.flow e) e (cut_of choice (sender sys.flow e))) (kept_of sys choice (receiver sys.flow e))
+Meets sys state choice of_notified = (p : ℕ) → p < length sys.flow.nodes → Within (notified_cover sys state p (cut_of choice p)) (note_of sys choice p)
+Meets sys state choice of_own = (p : ℕ) → p < length sys.flow.nodes → Within (note_of sys choice p) (kept_of sys choice p)
+Meets sys state choice of_notes = (d : ℕ) → d < length sys.flow.edges
+    → Within (note_of sys choice (receiver sys.flow d)) (phi sys (events state.history) d (note_of sys choice (sender sys.flow d)))
+
+-- the choice is from what is offered, and meets each inclusion but perhaps this one
+pub record IsConsistentWithout (left_out : Inclusion) (sys : System) (state : Machine) (offers : ℕ → Cut → Type 0) (choice : Choice) : Type 0 where
+  pub one_cut_each : length choice.cuts ≡ length sys.flow.nodes
+  pub one_note_each : length choice.notes ≡ length sys.flow.nodes
+  pub offered : (p : ℕ) → p < length sys.flow.nodes → offers p (cut_of choice p)
+  pub canonical : (p : ℕ) → p < length sys.flow.nodes → IsCanonical (bounds_of sys.flow p) (front_of choice.notes p)
+  pub others : (inclusion : Inclusion) → inclusion ≢ left_out → Meets sys state choice inclusion
+
+-- A choice is consistent where it is so but perhaps for one inclusion, and meets that one too.
+abbrev pub LeavesOutOne : Type 0
+LeavesOutOne =
+    (left_out : Inclusion) (sys : System) (state : Machine) (choice : Choice)
+    → IsConsistent sys state (offers sys state) choice
+    ↔ (IsConsistentWithout left_out sys state (offers sys state) choice × Meets sys state choice left_out)
+
+-- The first choice is the largest, and the second, which is none that lies within it, lacks the inclusion alone.
+abbrev pub IsNeeded : Inclusion → System → Machine → Choice → Choice → Type 0
+IsNeeded left_out sys state choice other =
+    IsLargest sys state (offers sys state) choice
+    × IsConsistentWithout left_out sys state (offers sys state) other
+    × (IsChoiceWithin sys other choice → ⊥)
+
+-- the history that a recovery to the choice leaves could have come without a failure
+abbrev pub LeavesAHistory : System → Machine → Choice → Type 0
+LeavesAHistory sys state choice = IsLegal sys (events (filtered sys choice state.history))
+
+-- The inclusion is needed, and the choice that lacks it leaves what could not have come without a failure.
+abbrev pub IsNeededForHistories : Inclusion → System → Machine → Choice → Choice → Type 0
+IsNeededForHistories left_out sys state choice other =
+    IsNeeded left_out sys state choice other
+    × LeavesAHistory sys state choice
+    × (LeavesAHistory sys state other → ⊥)
+
+-- the frontier of no stamp
+abbrev pub none : Front
+none = (0 ∷ []) ∷ []
+
+-- the frontier of all stamps
+abbrev pub all : Front
+all = []
+
+-- one select with one batch of a rec that is selected
+abbrev pub one_selected : System
+one_selected = one_select ((rec_of 1 20 ∷ []) ∷ [])
+
+-- nothing is kept
+abbrev pub nothing_kept : Choice
+nothing_kept = record { cuts = At none ∷ At none ∷ At none ∷ []; notes = none ∷ none ∷ none ∷ [] }
+
+-- the output alone stays as it is
+abbrev pub output_kept : Choice
+output_kept = record { cuts = At none ∷ At none ∷ Present ∷ []; notes = none ∷ none ∷ none ∷ [] }
+
+-- the input and the output stay as they are
+abbrev pub input_kept : Choice
+input_kept = record { cuts = Present ∷ At none ∷ Present ∷ []; notes = none ∷ none ∷ none ∷ [] }
+
+-- The output has a rec from the select, which failed and keeps nothing: without the first inclusion the output would keep
+-- the rec, though nobody sent it.
+abbrev pub DeliveredIsNeeded : Type 0
+DeliveredIsNeeded =
+    (state : Machine)
+    × Run one_selected (first_state one_selected)
+    (Inject src ∷ Deliver src_to_big None ∷ Deliver big_to_out None ∷ Fail (big ∷ []) ∷ [])
+    (did quiet ∷ did quiet ∷ did quiet ∷ did quiet ∷ [])
+    state
+    × IsNeededForHistories of_delivered one_selected state nothing_kept output_kept
+
+-- A rec is on its way to the select, which failed and keeps nothing: without the second inclusion the input would have sent
+-- it, and it would be pending though the select lost it and the input cannot send it again. Histories do not show that.
+abbrev pub DiscardedIsNeeded : Type 0
+DiscardedIsNeeded =
+    (state : Machine)
+    × Run one_selected (first_state one_selected) (Inject src ∷ Fail (big ∷ []) ∷ []) (did quiet ∷ did quiet ∷ []) state
+    × IsNeeded of_discarded one_selected state output_kept input_kept
+    × LeavesAHistory one_selected state output_kept
+    × LeavesAHistory one_selected state input_kept
+    × (pending one_selected (events (filtered one_selected output_kept state.history)) src_to_big ≡ [])
+    × (pending one_selected (events (filtered one_selected input_kept state.history)) src_to_big
+    ≡ record { at = 0 ∷ []; rec = rec_of 1 20; causes = (0 ∷ []) ∷ [] } ∷ [])
+
+-- two inputs with one batch each, of a rec that comes to the sum and one that does not
+abbrev pub one_comes : System
+one_comes = two_sources ((rec_of 1 5 ∷ []) ∷ []) ((rec_of 2 50 ∷ []) ∷ [])
+
+-- The sum was notified of epoch 0 when both recs had come where they go, and then the select failed.
+abbrev pub IsFailedAfterNotice : Machine → Type 0
+IsFailedAfterNotice state =
+    Run one_comes (first_state one_comes)
+    (Inject first_source ∷ Inject second_source ∷ Deliver first_to_mix None ∷ Deliver second_to_low None ∷ Deliver mix_to_tot None
+    ∷ Notify tot None ∷ Fail (low ∷ []) ∷ [])
+    (did quiet ∷ did quiet ∷ did quiet ∷ did quiet ∷ did quiet ∷ did quiet ∷ did quiet ∷ [])
+    state
+
+-- the second input, the select and the sum keep nothing
+abbrev pub sum_undone : Choice
+sum_undone = record {
+  cuts = Present ∷ At none ∷ At none ∷ Present ∷ At none ∷ Present ∷ [];
+  notes = all ∷ none ∷ none ∷ none ∷ none ∷ none ∷ [];
+}
+
+-- the sum stays as it is, with these frontiers of notifications
+abbrev pub sum_kept : List Front → Choice
+sum_kept notes = record { cuts = Present ∷ At none ∷ At none ∷ Present ∷ Present ∷ Present ∷ []; notes = notes }
+
+-- Without the third inclusion the sum would keep its notification, though the epoch is to be delivered anew.
+abbrev pub NotifiedIsNeeded : Type 0
+NotifiedIsNeeded =
+    (state : Machine) × IsFailedAfterNotice state
+    × IsNeededForHistories of_notified one_comes state sum_undone (sum_kept (all ∷ none ∷ none ∷ none ∷ none ∷ none ∷ []))
+
+-- Without the fourth it would keep it too, with all as the frontier of notifications at nodes that keep nothing.
+abbrev pub OwnIsNeeded : Type 0
+OwnIsNeeded =
+    (state : Machine) × IsFailedAfterNotice state
+    × IsNeededForHistories of_own one_comes state sum_undone (sum_kept (all ∷ all ∷ all ∷ all ∷ all ∷ all ∷ []))
+
+-- Without the fifth it would keep it too, with all as its own frontier of notifications alone.
+abbrev pub NotesAreNeeded : Type 0
+NotesAreNeeded =
+    (state : Machine) × IsFailedAfterNotice state
+    × IsNeededForHistories of_notes one_comes state sum_undone (sum_kept (all ∷ none ∷ none ∷ none ∷ all ∷ none ∷ []))

@@ -203,12 +203,12 @@ acknowledged x = record all_settled { bounds = 0 ∷ 0 ∷ 0 ∷ 0 ∷ 0 ∷ 0 �
 
 takes_first : Takes two_batches all_settled (step.Ack 6) (acknowledged 1) (acked 6 (0 ∷ []) (pair 1 1 ∷ pair 1 2 ∷ pair 1 3 ∷ pair 1 4 ∷ []))
 unfolding kind_of policy_of receiver bounds_of max_of
-takes_first = (0, record { output = refl; live = refl; next = refl; settled = refl; there = inl (inl (lit< tt)) }, refl, refl)
+takes_first = (0, record { declared = lit< tt; output = refl; live = refl; next = refl; settled = refl; there = inl (inl (lit< tt)) }, refl, refl)
 
 takes_second : Takes two_batches (acknowledged 1) (step.Ack 6) (acknowledged 2)
     (acked 6 (1 ∷ []) (pair 2 1 ∷ pair 2 2 ∷ pair 2 3 ∷ pair 2 4 ∷ pair 3 1 ∷ pair 3 2 ∷ pair 3 3 ∷ pair 3 4 ∷ []))
 unfolding kind_of policy_of receiver bounds_of max_of
-takes_second = (1, record { output = refl; live = refl; next = refl; settled = refl; there = inl (inl (lit< tt)) }, refl, refl)
+takes_second = (1, record { declared = lit< tt; output = refl; live = refl; next = refl; settled = refl; there = inl (inl (lit< tt)) }, refl, refl)
 
 -- what is left after all deliveries
 abbrev last_steps : List Step

@@ -288,7 +288,7 @@ settles_output =
 
 acknowledges_first : Steps two_epochs output_settled (Ack 2) first_acknowledged (did (acked 2 (0 ∷ []) (rec_of 1 20 ∷ [])))
 unfolding kind_of receiver bounds_of policy_of
-acknowledges_first = (0, record { output = refl; live = refl; next = refl; settled = refl; there = inl (inl (lit< tt)) }, refl, refl)
+acknowledges_first = (0, record { declared = lit< tt; output = refl; live = refl; next = refl; settled = refl; there = inl (inl (lit< tt)) }, refl, refl)
 
 fails_output : Steps two_epochs first_acknowledged (Fail (2 ∷ [])) both_failed (did quiet)
 unfolding kind_of policy_of receiver bounds_of
@@ -386,7 +386,7 @@ settles_later =
 
 acknowledges_later : Steps two_epochs later_settled (Ack 2) both_acknowledged (did (acked 2 (1 ∷ []) (rec_of 2 30 ∷ [])))
 unfolding kind_of receiver bounds_of policy_of
-acknowledges_later = (1, record { output = refl; live = refl; next = refl; settled = refl; there = inl (inl (lit< tt)) }, refl, refl)
+acknowledges_later = (1, record { declared = lit< tt; output = refl; live = refl; next = refl; settled = refl; there = inl (inl (lit< tt)) }, refl, refl)
 
 pub resumes_after_both_failed : ResumesAfterBothFailed
 resumes_after_both_failed = (

@@ -73,7 +73,7 @@ progressed =
 
 acknowledged : Steps one_of_two after_progress (Ack 2) after_ack (did (acked 2 (0 ∷ []) (rec_of 2 10 ∷ [])))
 unfolding kind_of receiver bounds_of
-acknowledged = (0, record { output = refl; live = refl; next = refl; settled = refl; there = inl (inl (lit< tt)) }, refl, refl)
+acknowledged = (0, record { declared = lit< tt; output = refl; live = refl; next = refl; settled = refl; there = inl (inl (lit< tt)) }, refl, refl)
 
 pub acknowledges_what_is_settled : AcknowledgesWhatIsSettled
 acknowledges_what_is_settled =
@@ -203,7 +203,7 @@ settles_all =
 
 acknowledges_both : Steps two_selected all_settled (Ack 2) both_acknowledged (did (acked 2 (0 ∷ []) (rec_of 1 20 ∷ rec_of 2 30 ∷ [])))
 unfolding kind_of receiver bounds_of
-acknowledges_both = (0, record { output = refl; live = refl; next = refl; settled = refl; there = inl (inl (lit< tt)) }, refl, refl)
+acknowledges_both = (0, record { declared = lit< tt; output = refl; live = refl; next = refl; settled = refl; there = inl (inl (lit< tt)) }, refl, refl)
 
 pub waits_for_the_rest : WaitsForTheRest
 waits_for_the_rest = (

@@ -1,16 +1,14 @@
-//! Theorems that show by worked examples that the definitions of dataflows, histories and choices mean what they should.
-#![tactic(auto)]
-
-mod loop_counts_up;
-mod projections;
-mod recovery;
-mod under_way;
-//! Theorems which show that the definitions of dataflows, histories, choices and runs mean what they should.
+//! Theorems that show by worked examples that the definitions of dataflows, histories, choices and runs mean what they
+//! should.
 #![tactic(auto)]
 
 mod inclusions;
+mod loop_counts_up;
 mod one_recovery;
 mod one_select_runs;
+mod projections;
+mod recovery;
+mod under_way;
 
 pub use inclusions::{
     delivered_is_needed, discarded_is_needed, leaves_out_one, notes_are_needed, notified_is_needed,

@@ -1,5 +1,6 @@
 pub mod Dataflow
 pub mod NodeFunction
 pub mod Projection
+pub mod Walks
 pub mod WellFormed
 pub mod WholeBags

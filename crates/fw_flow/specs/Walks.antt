@@ -1,0 +1,108 @@
+-- Walks over plain links, and the ranks of a dataflow's nodes.
+use Rattle.std.specs.Prelude.{◌≡◌, ℕ, ◌<◌, ◌≤◌, Bool, true, false, not, ◌==◌, List, [], ◌∷◌, length, slice_index_or}
+use Rattle.fw_flow.specs.declared.kind.Domain.{Domain}
+use Rattle.fw_flow.specs.declared.kind.Domain.TheVariants.{Epoch, Number, Loop as InLoop}
+use Rattle.fw_flow.specs.declared.kind.Kind.{Kind}
+use Rattle.fw_flow.specs.declared.node.Edge.{Edge}
+use Rattle.fw_flow.specs.declared.walks.Link.{Link}
+use Rattle.fw_flow.specs.Dataflow.{Dataflow, kind_of, sender, receiver, domain_of, out_domain_of}
+use Rattle.fw_flow.specs.WellFormed.{IsClosedWalk, Passes, IsWellFormed, is_feedback_kind}
+
+-- edges by their places, each from its source to its target, of which only the free ones are passed
+pub record Graph : Type 0 where
+  pub size : ℕ
+  pub source : ℕ → ℕ
+  pub target : ℕ → ℕ
+  pub is_free : ℕ → Bool
+
+-- free edges that follow each other from p to q
+abbrev pub IsPath : Graph → ℕ → List ℕ → ℕ → Type 0
+IsPath g p [] q = p ≡ q
+IsPath g p (e ∷ es) q = (e < g.size) × (g.is_free e ≡ true) × (g.source e ≡ p) × IsPath g (g.target e) es q
+
+-- a path of some edges from p to q
+pub record Path (g : Graph) (p q : ℕ) : Type 0 where
+  pub edges : List ℕ
+  pub some : 0 < length edges
+  pub path : IsPath g p edges q
+
+-- the link of an edge
+abbrev pub link_of : Edge → Link
+link_of edge = record { sender = edge.sender; receiver = edge.receiver }
+
+-- the link at a place; past the last one stand links from the first node to itself
+abbrev pub link_at : List Link → ℕ → Link
+link_at links e = slice_index_or links e (record { sender = 0; receiver = 0 })
+
+-- whether a node is marked; none is past the last mark
+abbrev pub is_marked : List Bool → ℕ → Bool
+is_marked marks p = slice_index_or marks p false
+
+-- the links as a graph, in which the links that leave a marked node are barred
+abbrev pub graph_of : List Link → List Bool → Graph
+graph_of links barred = record {
+  size = length links;
+  source = λ e. (link_at links e).sender;
+  target = λ e. (link_at links e).receiver;
+  is_free = λ e. not (is_marked barred (link_at links e).sender)
+}
+
+-- the links join nodes among so many
+pub record AreWithin (places : ℕ) (links : List Link) : Type 0 where
+  pub senders : (e : ℕ) → e < length links → (link_at links e).sender < places
+  pub receivers : (e : ℕ) → e < length links → (link_at links e).receiver < places
+
+-- each closed walk passes a node of a kind of this sort
+abbrev pub EachClosedWalkPasses : Dataflow → (Kind → Bool) → Type 0
+EachClosedWalkPasses flow sort = (p : ℕ) (es : List ℕ) → IsClosedWalk flow p es → Passes flow sort es
+
+-- no closed walk passes a node of a kind of this sort
+abbrev pub NoClosedWalkPasses : Dataflow → (Kind → Bool) → Type 0
+NoClosedWalkPasses flow sort = (p : ℕ) (es : List ℕ) → IsClosedWalk flow p es → Passes flow sort es → ⊥
+
+-- a closed walk that passes no node of a kind of this sort
+pub record AvoidingWalk (flow : Dataflow) (sort : Kind → Bool) : Type 0 where
+  pub node : ℕ
+  pub edges : List ℕ
+  pub closed : IsClosedWalk flow node edges
+  pub avoids : Passes flow sort edges → ⊥
+
+-- a closed walk that passes a node of a kind of this sort
+pub record PassingWalk (flow : Dataflow) (sort : Kind → Bool) : Type 0 where
+  pub node : ℕ
+  pub edges : List ℕ
+  pub closed : IsClosedWalk flow node edges
+  pub passes : Passes flow sort edges
+
+-- whether both are the same loop's
+abbrev pub is_same_loop : Domain → Domain → Bool
+is_same_loop (InLoop l) (InLoop k) = l == k
+is_same_loop d e = false
+
+-- whether the node is looped: its domain and its out domain are the same loop's
+abbrev pub is_looped : Dataflow → ℕ → Bool
+is_looped flow p = is_same_loop (domain_of flow p) (out_domain_of flow p)
+
+-- a rank below the number of nodes that rises along each edge, but for those from a feedback
+pub record IsRankWithinRounds (flow : Dataflow) (rho : ℕ → ℕ) : Type 0 where
+  pub bound : (p : ℕ) → p < length flow.nodes → rho p < length flow.nodes
+  pub rises : (e : ℕ) → e < length flow.edges → is_feedback_kind (kind_of flow (sender flow e)) ≡ false
+      → rho (sender flow e) < rho (receiver flow e)
+
+-- a rank of at most the number of nodes that falls along no edge, and rises along each edge into a node that is not looped
+pub record IsRankOfLoops (flow : Dataflow) (lambda : ℕ → ℕ) : Type 0 where
+  pub bound : (p : ℕ) → p < length flow.nodes → lambda p ≤ length flow.nodes
+  pub keeps : (e : ℕ) → e < length flow.edges → lambda (sender flow e) ≤ lambda (receiver flow e)
+  pub rises : (e : ℕ) → e < length flow.edges → is_looped flow (receiver flow e) ≡ false
+      → lambda (sender flow e) < lambda (receiver flow e)
+
+-- the ranks of a dataflow's nodes
+pub record Ranks (flow : Dataflow) : Type 0 where
+  pub rho : ℕ → ℕ
+  pub lambda : ℕ → ℕ
+  pub within_rounds : IsRankWithinRounds flow rho
+  pub of_loops : IsRankOfLoops flow lambda
+
+-- each well-formed dataflow has ranks
+abbrev pub RanksExist : Type 0
+RanksExist = (flow : Dataflow) → IsWellFormed flow → Ranks flow

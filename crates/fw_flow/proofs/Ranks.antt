@@ -90,7 +90,7 @@ pub level-bound : (g : Graph) (chosen : ℕ → Bool) (n p : ℕ) → level g ch
 level-bound g chosen n p = count_below-bound (λ q. chosen q && ((q == p) || reach g n q p)) n
 
 -- what is the source of an edge or reaches it reaches its target
-reach-past : (g : Graph) (n e q : ℕ) → e < g.size → g.is_free e ≡ true → g.source e < n → ((q == g.source e) || reach g n q (g.source e)) ≡ true
+pub reach-past : (g : Graph) (n e q : ℕ) → e < g.size → g.is_free e ≡ true → g.source e < n → ((q == g.source e) || reach g n q (g.source e)) ≡ true
     → reach g n q (g.target e) ≡ true
 reach-past g n e q lt free inside h =
     elim (or_cases (q == g.source e) (reach g n q (g.source e)) h) [
@@ -214,7 +214,7 @@ begins_in_loop flow well p (e ∷ es) q h (inr later) no_enter =
 
 -- ---- the ranks of a well-formed dataflow
 
-IsClosedWalk-from_Path : (flow : Dataflow) (sort : Kind → Bool) (p : ℕ) (path : Path (flow_graph flow sort) p p) → IsClosedWalk flow p path.edges
+pub IsClosedWalk-from_Path : (flow : Dataflow) (sort : Kind → Bool) (p : ℕ) (path : Path (flow_graph flow sort) p p) → IsClosedWalk flow p path.edges
 IsClosedWalk-from_Path flow sort p path = record { some = path.some; walk = IsWalk-from_path flow sort p path.edges p path.path; }
 
 acyclic_but_feedback : (flow : Dataflow) → IsWellFormed flow → IsAcyclic (flow_graph flow is_feedback_kind) (length flow.nodes)

@@ -1,11 +1,12 @@
 -- Walks over plain links, and the ranks of a dataflow's nodes.
-use Rattle.std.specs.Prelude.{◌≡◌, ℕ, ◌<◌, ◌≤◌, Bool, true, false, not, ◌==◌, List, [], ◌∷◌, length, slice_index_or}
+use Rattle.std.specs.Prelude.{◌≡◌, ℕ, ◌<◌, ◌≤◌, Bool, true, false, not, ◌==◌, if◌then◌else◌, ◌+◌, List, [], ◌∷◌, length, map, slice_index_or}
 use Rattle.fw_flow.specs.declared.kind.Domain.{Domain}
 use Rattle.fw_flow.specs.declared.kind.Domain.TheVariants.{Epoch, Number, Loop as InLoop}
 use Rattle.fw_flow.specs.declared.kind.Kind.{Kind}
 use Rattle.fw_flow.specs.declared.node.Edge.{Edge}
+use Rattle.fw_flow.specs.declared.node.Node.{Node}
 use Rattle.fw_flow.specs.declared.walks.Link.{Link}
-use Rattle.fw_flow.specs.Dataflow.{Dataflow, kind_of, sender, receiver, domain_of, out_domain_of}
+use Rattle.fw_flow.specs.Dataflow.{Dataflow, idle_node, kind_of, sender, receiver, domain_of, out_domain_of}
 use Rattle.fw_flow.specs.WellFormed.{IsClosedWalk, Passes, IsWellFormed, is_feedback_kind}
 
 -- edges by their places, each from its source to its target, of which only the free ones are passed
@@ -51,6 +52,49 @@ graph_of links barred = record {
 pub record AreWithin (places : ℕ) (links : List Link) : Type 0 where
   pub senders : (e : ℕ) → e < length links → (link_at links e).sender < places
   pub receivers : (e : ℕ) → e < length links → (link_at links e).receiver < places
+
+-- the marked nodes from which free edges among the first m lead, and the marked nodes to which they lead
+pub record IsLedTo (g : Graph) (m : ℕ) (from to : List Bool) : Type 0 where
+  pub each : (e : ℕ) → e < m → g.is_free e ≡ true → is_marked from (g.source e) ≡ true → is_marked to (g.target e) ≡ true
+  pub only : (q : ℕ) → is_marked to q ≡ true → (e : ℕ) × (e < m) × (g.is_free e ≡ true) × (is_marked from (g.source e) ≡ true) × (g.target e ≡ q)
+
+-- how many nodes are not marked
+abbrev pub unmarked_count : List Bool → ℕ
+unmarked_count [] = 0
+unmarked_count (mark ∷ marks) = (if mark then 0 else 1) + unmarked_count marks
+
+-- each marked node is in the set
+abbrev pub IsAmong : List Bool → (ℕ → Bool) → Type 0
+IsAmong marks set = (p : ℕ) → is_marked marks p ≡ true → set p ≡ true
+
+-- the first m links lead from nodes of the set to nodes of the set
+abbrev pub IsClosedUnder : List Link → ℕ → (ℕ → Bool) → Type 0
+IsClosedUnder links m set = (e : ℕ) → e < m → set (link_at links e).sender ≡ true → set (link_at links e).receiver ≡ true
+
+-- the marks grew along links, and stay in each set that holds them and that no link leaves
+pub record IsSpread (links : List Link) (old new : List Bool) : Type 0 where
+  pub len : length new ≡ length old
+  pub kept : (p : ℕ) → is_marked old p ≡ true → is_marked new p ≡ true
+  pub only : (set : ℕ → Bool) → IsClosedUnder links (length links) set → IsAmong old set → IsAmong new set
+
+-- the marked nodes are the least set that holds the node and that no link leaves
+pub record IsReachOf (links : List Link) (node : ℕ) (marks : List Bool) : Type 0 where
+  pub start : is_marked marks node ≡ true
+  pub closed : IsClosedUnder links (length links) (is_marked marks)
+  pub only : (set : ℕ → Bool) → IsClosedUnder links (length links) set → set node ≡ true → IsAmong marks set
+
+-- a link leads from a marked node to the node
+abbrev pub LeadsBack : List Link → List Bool → ℕ → Type 0
+LeadsBack links marks node = (e : ℕ) × (e < length links) × (is_marked marks (link_at links e).sender ≡ true) × ((link_at links e).receiver ≡ node)
+
+-- the kind of the node at a place of the list; past the last one stand idle outputs
+abbrev pub listed_kind : List Node → ℕ → Kind
+listed_kind nodes p = (slice_index_or nodes p idle_node).kind
+
+-- the dataflow has these nodes, and edges with these links
+pub record IsMadeOf (flow : Dataflow) (ns : List Node) (ls : List Link) : Type 0 where
+  pub nodes : flow.nodes ≡ ns
+  pub links : map link_of flow.edges ≡ ls
 
 -- each closed walk passes a node of a kind of this sort
 abbrev pub EachClosedWalkPasses : Dataflow → (Kind → Bool) → Type 0

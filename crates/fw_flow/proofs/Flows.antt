@@ -1,5 +1,5 @@
 -- The closed walks of a dataflow as closed paths over its links.
-use Rattle.std.proofs.Common.{◌≡◌, ℕ, ◌<◌, ◌≤◌, ◌⊎◌, ◌↔◌, inl, inr, Bool, true, false, not, List, [], ◌∷◌, length, map, Result, Ok, Err, IfOk, IsTrue, refl, sym, ap, ◌∙◌, subst, arith}
+use Rattle.std.proofs.Common.{◌≡◌, ℕ, ◌<◌, ◌⊎◌, ◌↔◌, inl, inr, Bool, true, false, not, List, [], ◌∷◌, length, map, Result, Ok, Err, IfOk, IsTrue, refl, sym, ap, ◌∙◌, subst, arith}
 use Rattle.std.proofs.lemmas.Bool.{false≢true}
 use Rattle.std.proofs.lemmas.List.{get_or-map, length-map}
 use Rattle.std.specs.Bool.{OnTrue, OnFalse}
@@ -11,7 +11,7 @@ use Rattle.fw_flow.specs.Dataflow.{Dataflow, idle_node, kind_of, sender, receive
 use Rattle.fw_flow.specs.WellFormed.{IsWalk, IsClosedWalk, Passes}
 use Rattle.fw_flow.specs.Walks.{Graph, IsPath, Path, graph_of, link_of, link_at, is_marked, listed_kind, AreWithin, IsMadeOf, EachClosedWalkPasses, NoClosedWalkPasses, AvoidingWalk, PassingWalk}
 use Rattle.fw_flow.proofs.Reach.{Path-append}
-use Rattle.fw_flow.proofs.Ranks.{flow_graph, no_kind, IsWalk-from_path, IsClosedWalk-from_Path, Passes-not_path, path_or_passes}
+use Rattle.fw_flow.proofs.Ranks.{flow_graph, no_kind, IsClosedWalk-from_Path, Passes-not_path, path_or_passes}
 
 -- ---- graphs with the same edges
 
@@ -31,12 +31,15 @@ SameGraph-turned g h same = record {
 
 IsPath-same : (g h : Graph) → SameGraph g h → (p : ℕ) (es : List ℕ) (q : ℕ) → IsPath g p es q → IsPath h p es q
 IsPath-same g h same p [] q path = path
-IsPath-same g h same p (e ∷ es) q path =
-    (omega (arith, same.size, path.0), sym (same.free e path.0) ∙ path.1, sym (same.source e path.0) ∙ path.2,
-      subst (λ x. IsPath h x es q) (same.target e path.0) (IsPath-same g h same (g.target e) es q path.3))
+IsPath-same g h same p (e ∷ es) q path = (
+  omega (arith, same.size, path.0),
+  sym (same.free e path.0) ∙ path.1,
+  sym (same.source e path.0) ∙ path.2,
+  subst (λ x. IsPath h x es q) (same.target e path.0) (IsPath-same g h same (g.target e) es q path.3),
+)
 
 Path-same : (g h : Graph) → SameGraph g h → (p q : ℕ) → Path g p q → Path h p q
-Path-same g h same p q path = record { edges = path.edges; some = path.some; path = IsPath-same g h same p path.edges q path.path; }
+Path-same g h same p q path = record { edges = path.edges; some = path.some; path = IsPath-same g h same p path.edges q path.path }
 
 Path-from_walk : (flow : Dataflow) (g : Graph) (sort : Kind → Bool) → SameGraph g (flow_graph flow sort) → (p : ℕ) (es : List ℕ) → IsClosedWalk flow p es
     → IsPath (flow_graph flow sort) p es p → Path g p p
@@ -97,17 +100,17 @@ SameGraph-barred flow nodes links sort marks made within e_marks =
       source = edges.senders;
       target = edges.receivers;
       free = λ e lt.
-        let s = (link_at links e).sender in
-        ap not
+          let s = (link_at links e).sender in
+          ap not
           (ap (λ ms. is_marked ms s) e_marks ∙ is_marked-listed sort nodes s (within.senders e lt)
-            ∙ ap sort (sym (kinds_of flow nodes links made s)) ∙ ap (λ x. sort (kind_of flow x)) (edges.senders e lt));
+          ∙ ap sort (sym (kinds_of flow nodes links made s)) ∙ ap (λ x. sort (kind_of flow x)) (edges.senders e lt));
     }
 
 -- with no node barred, all edges are free
 pub SameGraph-free : (flow : Dataflow) (nodes : List Node) (links : List Link) → IsMadeOf flow nodes links → SameGraph (graph_of links []) (flow_graph flow no_kind)
 SameGraph-free flow nodes links made =
     let edges = edges_of flow nodes links made in
-    record { size = edges.count; source = edges.senders; target = edges.receivers; free = λ e lt. refl; }
+    record { size = edges.count; source = edges.senders; target = edges.receivers; free = λ e lt. refl }
 
 -- ---- does each closed walk pass a node of the sort?
 
@@ -123,13 +126,14 @@ AvoidingWalk-from_Path flow sort g same p path =
 
 decides_barred : (flow : Dataflow) (sort : Kind → Bool) (g : Graph) → SameGraph g (flow_graph flow sort) → (b : Bool)
     → OnTrue b ((p : ℕ) → Path g p p → ⊥) → OnFalse b ((p : ℕ) × Path g p p) → IsTrue b ↔ EachClosedWalkPasses flow sort
-decides_barred flow sort g same true none some =
-    (λ _ p es closed.
+decides_barred flow sort g same true none some = (
+  λ _ p es closed.
       elim (path_or_passes flow sort p es p closed.walk) [
-        inl path ↦ absurd (none p (Path-from_walk flow g sort same p es closed path))
-      | inr passes ↦ passes
+        | inl path ↦ absurd (none p (Path-from_walk flow g sort same p es closed path))
+        | inr passes ↦ passes
       ],
-      λ _. refl)
+  λ _. refl,
+)
 decides_barred flow sort g same false none some =
     let walk = AvoidingWalk-from_Path flow sort g same some.0 some.1 in
     (λ e. absurd (false≢true e), λ each. absurd (walk.avoids (each walk.node walk.edges walk.closed)))
@@ -161,7 +165,7 @@ record PassedNode (flow : Dataflow) (sort : Kind → Bool) (p q : ℕ) : Type 0 
 
 edge_path : (flow : Dataflow) (e : ℕ) (es : List ℕ) (q : ℕ) → e < length flow.edges → IsPath (flow_graph flow no_kind) (receiver flow e) es q
     → Path (flow_graph flow no_kind) (sender flow e) q
-edge_path flow e es q lt rest = record { edges = e ∷ es; some = omega arith; path = (lt, refl, refl, rest); }
+edge_path flow e es q lt rest = record { edges = e ∷ es; some = omega arith; path = (lt, refl, refl, rest) }
 
 passed_node : (flow : Dataflow) (sort : Kind → Bool) (p : ℕ) (es : List ℕ) (q : ℕ) → IsPath (flow_graph flow no_kind) p es q → Passes flow sort es → PassedNode flow sort p q
 passed_node flow sort p [] q path passes = absurd passes
@@ -180,9 +184,9 @@ passed_node flow sort p (e ∷ es) q path (inr later) =
       within = rest.within;
       is_sort = rest.is_sort;
       before = elim rest.before [
-          inl same ↦ inr (subst (Path (flow_graph flow no_kind) p) same first)
+        | inl same ↦ inr (subst (Path (flow_graph flow no_kind) p) same first)
         | inr between ↦ inr (Path-append (flow_graph flow no_kind) p (receiver flow e) (sender flow rest.edge) first between)
-        ];
+      ];
       after = rest.after;
     }
 
@@ -202,12 +206,12 @@ NoClosedWalkPasses-from_nodes flow nodes links sort made within none p es closed
     let lt : node.edge < length links = omega (arith, below, node.within) in
     let inside = subst (λ x. x < length nodes) (edges.senders node.edge lt) (within.senders node.edge lt) in
     let again : Path (flow_graph flow no_kind) s s =
-        elim node.before [
-          inl same ↦ subst (Path (flow_graph flow no_kind) s) same node.after
-        | inr before ↦ Path-append (flow_graph flow no_kind) s p s node.after before
-        ] in
+    elim node.before [
+      | inl same ↦ subst (Path (flow_graph flow no_kind) s) same node.after
+      | inr before ↦ Path-append (flow_graph flow no_kind) s p s node.after before
+    ] in
     none s inside (ap sort (sym (kinds_of flow nodes links made s)) ∙ node.is_sort)
-      (Path-same (flow_graph flow no_kind) (graph_of links []) (SameGraph-turned (graph_of links []) (flow_graph flow no_kind) (SameGraph-free flow nodes links made)) s s again)
+    (Path-same (flow_graph flow no_kind) (graph_of links []) (SameGraph-turned (graph_of links []) (flow_graph flow no_kind) (SameGraph-free flow nodes links made)) s s again)
 
 passes_first : (flow : Dataflow) (sort : Kind → Bool) (p : ℕ) (es : List ℕ) (q : ℕ) → 0 < length es → IsWalk flow p es q → sort (kind_of flow p) ≡ true → Passes flow sort es
 passes_first flow sort p [] q some walk h = absurd (omega arith)

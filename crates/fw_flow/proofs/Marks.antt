@@ -1,10 +1,10 @@
 -- Marks that spread along links, and the links that lead back to where they began.
-use Rattle.std.proofs.Common.{◌≡◌, ℕ, zero, suc, ◌+◌, ◌<◌, ◌≤◌, ◌⊎◌, inl, inr, Bool, true, false, not, ◌&&◌, ◌||◌, ◌==◌, cond, List, [], ◌∷◌, ◌++◌, length, set, replicate, take, drop, refl, sym, ap, ◌∙◌, subst, arith, get_or-set_same, get_or-set_other, length-set}
+use Rattle.std.proofs.Common.{◌≡◌, ℕ, zero, suc, ◌+◌, ◌<◌, ◌≤◌, ◌⊎◌, inl, inr, Bool, true, false, ◌||◌, ◌==◌, List, [], ◌∷◌, ◌++◌, length, set, replicate, take, drop, refl, sym, ap, ◌∙◌, subst, arith, get_or-set_same, get_or-set_other, length-set}
 use Rattle.std.proofs.lemmas.List.{length-replicate}
 use Rattle.std.proofs.Math.Seq.{take-append_seam}
 use Rattle.std.proofs.lemmas.Bool.{or_left, or_right, eq-eqb, cases_eq, cases_lt, true≢false, false≢true}
 use Rattle.fw_flow.specs.declared.walks.Link.{Link}
-use Rattle.fw_flow.specs.Walks.{Graph, IsPath, Path, graph_of, link_at, is_marked, unmarked_count, AreWithin, IsAmong, IsClosedUnder, IsSpread, IsReachOf, LeadsBack}
+use Rattle.fw_flow.specs.Walks.{IsPath, Path, graph_of, link_at, is_marked, unmarked_count, AreWithin, IsClosedUnder, IsSpread, IsReachOf, LeadsBack}
 use Rattle.fw_flow.proofs.Reach.{reach, Path-from_reach}
 use Rattle.fw_flow.proofs.Ranks.{reach-past}
 
@@ -26,15 +26,15 @@ unmarked_count-set (mark ∷ marks) (suc p) lt h = omega (arith, unmarked_count-
 is_marked-set : (marks : List Bool) (r p : ℕ) → r < length marks → is_marked marks p ≡ true → is_marked (set marks r true) p ≡ true
 is_marked-set marks r p lt h =
     elim (cases_eq p r) [
-      inl same ↦ subst (λ x. is_marked (set marks r true) x ≡ true) (sym same) (get_or-set_same marks r true false lt)
-    | inr other ↦ get_or-set_other marks r p true false other ∙ h
+      | inl same ↦ subst (λ x. is_marked (set marks r true) x ≡ true) (sym same) (get_or-set_same marks r true false lt)
+      | inr other ↦ get_or-set_other marks r p true false other ∙ h
     ]
 
 marked_before : (marks : List Bool) (r p : ℕ) → is_marked (set marks r true) p ≡ true → (p ≡ r) ⊎ (is_marked marks p ≡ true)
 marked_before marks r p h =
     elim (cases_eq p r) [
-      inl same ↦ inl same
-    | inr other ↦ inr (sym (get_or-set_other marks r p true false other) ∙ h)
+      | inl same ↦ inl same
+      | inr other ↦ inr (sym (get_or-set_other marks r p true false other) ∙ h)
     ]
 
 IsSpread-more : (links : List Link) (old now : List Bool) (e : ℕ) → IsSpread links old now → e < length links
@@ -45,10 +45,10 @@ IsSpread-more links old now e spread lt marked inside =
       len = length-set now r true ∙ spread.len;
       kept = λ p h. is_marked-set now r p inside (spread.kept p h);
       only = λ chosen closed among p h.
-        elim (marked_before now r p h) [
-          inl same ↦ subst (λ x. chosen x ≡ true) (sym same) (closed e lt (spread.only chosen closed among (link_at links e).sender marked))
-        | inr before ↦ spread.only chosen closed among p before
-        ];
+          elim (marked_before now r p h) [
+            | inl same ↦ subst (λ x. chosen x ≡ true) (sym same) (closed e lt (spread.only chosen closed among (link_at links e).sender marked))
+            | inr before ↦ spread.only chosen closed among p before
+          ];
     }
 
 -- a link that marks its receiver
@@ -72,12 +72,12 @@ SpreadsBelow-same links m old now has_grown so_far passed = record {
   count = so_far.count;
   grows = so_far.grows;
   closed = λ h e lt marked.
-    elim (cases_lt e m) [
-      inl below ↦ so_far.closed h e below marked
-    | inr above ↦
-        let same : m ≡ e = omega arith in
-        subst (λ x. is_marked now (link_at links x).receiver ≡ true) same (passed (subst (λ x. is_marked now (link_at links x).sender ≡ true) (sym same) marked))
-    ];
+      elim (cases_lt e m) [
+        | inl below ↦ so_far.closed h e below marked
+        | inr above ↦
+            let same : m ≡ e = omega arith in
+            subst (λ x. is_marked now (link_at links x).receiver ≡ true) same (passed (subst (λ x. is_marked now (link_at links x).sender ≡ true) (sym same) marked))
+      ];
 }
 
 pub IsSpread-join : (links : List Link) (old between now : List Bool) → IsSpread links old between → IsSpread links between now → IsSpread links old now
@@ -101,12 +101,12 @@ IsReachOf-from_spread links places node marks inside spread closed = record {
   start = spread.kept node (get_or-set_same (replicate places false) node true false (omega (arith, length-replicate {A = Bool} places false)));
   closed = closed;
   only = λ chosen kept has_node.
-    spread.only chosen kept
+      spread.only chosen kept
       (λ p h.
-        elim (marked_before (replicate places false) node p h) [
-          inl same ↦ subst (λ x. chosen x ≡ true) (sym same) has_node
+      elim (marked_before (replicate places false) node p h) [
+        | inl same ↦ subst (λ x. chosen x ≡ true) (sym same) has_node
         | inr before ↦ absurd (false≢true (sym (is_marked-none places p) ∙ before))
-        ]);
+      ]);
 }
 
 -- the same in a list's own words, where the marks are lent as a slice and written back
@@ -116,11 +116,11 @@ pub IsReachOf-from_lent : (links : List Link) (places node len : ℕ) (items len
 IsReachOf-from_lent links places node len items lent marks inside e_len e_items e_lent spread closed =
     let start : lent ≡ set (replicate places false) node true = e_lent ∙ ap (λ xs. set xs node true) e_items in
     let same_len : length marks ≡ len =
-        spread.len ∙ ap length start ∙ length-set (replicate places false) node true ∙ length-replicate {A = Bool} places false ∙ sym e_len in
+    spread.len ∙ ap length start ∙ length-set (replicate places false) node true ∙ length-replicate {A = Bool} places false ∙ sym e_len in
     let rest = drop (length marks) (set items node true) in
     subst (IsReachOf links node)
-      (sym (ap (λ n. take n (marks ++ rest)) (sym same_len) ∙ take-append_seam marks rest))
-      (IsReachOf-from_spread links places node marks inside (subst (λ xs. IsSpread links xs marks) start spread) closed)
+    (sym (ap (λ n. take n (marks ++ rest)) (sym same_len) ∙ take-append_seam marks rest))
+    (IsReachOf-from_spread links places node marks inside (subst (λ xs. IsSpread links xs marks) start spread) closed)
 
 -- a link back from a reached node closes a walk
 pub Path-from_back : (links : List Link) (n node : ℕ) (marks : List Bool) → AreWithin n links → node < n → IsReachOf links node marks → LeadsBack links marks node
@@ -128,18 +128,18 @@ pub Path-from_back : (links : List Link) (n node : ℕ) (marks : List Bool) → 
 Path-from_back links n node marks within inside reached back =
     let g = graph_of links [] in
     let source_in = reached.only (λ q. (node == q) || reach g n node q)
-        (λ e lt h. or_right (node == (link_at links e).receiver) (reach g n node (link_at links e).receiver) (reach-past g n e node lt refl (within.senders e lt) h))
-        (or_left (node == node) (reach g n node node) (eq-eqb node node refl))
-        (link_at links back.0).sender back.2 in
+    (λ e lt h. or_right (node == (link_at links e).receiver) (reach g n node (link_at links e).receiver) (reach-past g n e node lt refl (within.senders e lt) h))
+    (or_left (node == node) (reach g n node node) (eq-eqb node node refl))
+    (link_at links back.0).sender back.2 in
     Path-from_reach g n node node
-      (subst (λ x. reach g n node x ≡ true) back.3 (reach-past g n back.0 node back.1 refl (within.senders back.0 back.1) source_in))
+    (subst (λ x. reach g n node x ≡ true) back.3 (reach-past g n back.0 node back.1 refl (within.senders back.0 back.1) source_in))
 
 back_from_path : (links : List Link) (marks : List Bool) → IsClosedUnder links (length links) (is_marked marks)
     → (p e : ℕ) (es : List ℕ) (q : ℕ) → IsPath (graph_of links []) p (e ∷ es) q → is_marked marks p ≡ true → LeadsBack links marks q
 back_from_path links marks closed p e [] q h marked = (e, h.0, subst (λ x. is_marked marks x ≡ true) (sym h.2) marked, h.3)
 back_from_path links marks closed p e (f ∷ fs) q h marked =
     back_from_path links marks closed (link_at links e).receiver f fs q h.3
-      (closed e h.0 (subst (λ x. is_marked marks x ≡ true) (sym h.2) marked))
+    (closed e h.0 (subst (λ x. is_marked marks x ≡ true) (sym h.2) marked))
 
 back_from_list : (links : List Link) (marks : List Bool) → IsClosedUnder links (length links) (is_marked marks)
     → (p : ℕ) (es : List ℕ) (q : ℕ) → 0 < length es → IsPath (graph_of links []) p es q → is_marked marks p ≡ true → LeadsBack links marks q

@@ -1,14 +1,13 @@
 -- Ranks of a graph's nodes by counting the nodes that reach them, and the ranks of a dataflow's nodes.
 use Rattle.std.proofs.Common.{◌≡◌, ℕ, zero, suc, ◌+◌, ◌<◌, ◌≤◌, ◌⊎◌, inl, inr, Bool, true, false, not, ◌&&◌, ◌||◌, ◌==◌, cond, List, [], ◌∷◌, length, Option, Some, None, refl, sym, ap, ◌∙◌, subst, arith}
-use Rattle.std.proofs.lemmas.Bool.{or_cases, or_left, or_right, and_parts, and_from, and_left, eqb-true, eq-eqb, cases_Bool, cases_lt, false_from_ne_true, true≢false, false≢true, not-true, not_from_false}
-use Rattle.fw_flow.specs.declared.kind.Domain.{Domain}
-use Rattle.fw_flow.specs.declared.kind.Domain.TheVariants.{Epoch, Number, Loop as InLoop}
+use Rattle.std.proofs.lemmas.Bool.{or_cases, or_left, or_right, and_parts, and_from, eqb-true, eq-eqb, cases_Bool, cases_lt, false_from_ne_true, true≢false, false≢true, not-true, not_from_false}
+use Rattle.fw_flow.specs.declared.kind.Domain.TheVariants.{Loop as InLoop}
 use Rattle.fw_flow.specs.declared.kind.Kind.{Kind}
 use Rattle.fw_flow.specs.declared.kind.Kind.TheVariants.{Input, OutputEpoch, OutputNumber, Select, Concat, Distinct, Join, Sum, Enter, Feedback, Leave, Total, Sequence, Ledger, Regroup}
-use Rattle.fw_flow.specs.Dataflow.{Dataflow, kind_of, sender, receiver, domain_of, out_domain_of, domain_of_kind, out_domain_of_kind, domain_within}
+use Rattle.fw_flow.specs.Dataflow.{Dataflow, kind_of, sender, receiver, domain_of, domain_of_kind, out_domain_of_kind, domain_within}
 use Rattle.fw_flow.specs.WellFormed.{IsWalk, IsClosedWalk, Passes, IsWellFormed, is_feedback_kind, is_enter_kind}
-use Rattle.fw_flow.specs.Walks.{Graph, IsPath, Path, is_same_loop, is_looped, IsRankWithinRounds, IsRankOfLoops, Ranks, RanksExist}
-use Rattle.fw_flow.proofs.Reach.{reach, reach-join, reach-from_edge, Path-from_reach, LeadsWithin}
+use Rattle.fw_flow.specs.Walks.{Graph, IsPath, Path, is_same_loop, is_looped, RanksExist}
+use Rattle.fw_flow.proofs.Reach.{reach, reach-join, reach-from_edge, Path-from_reach}
 
 -- ---- counts of the numbers below n that pass a test
 
@@ -39,10 +38,10 @@ pub count_below-missing : (test : ℕ → Bool) (n x : ℕ) → x < n → test x
 count_below-missing test zero x lt h = absurd (omega arith)
 count_below-missing test (suc n) x lt h =
     elim (cases_lt x n) [
-      inl below ↦ omega (arith, one_le (test n), count_below-missing test n x below h)
-    | inr above ↦
-        let same : n ≡ x = omega arith in
-        omega (arith, count_below-bound test n, one_strict (test n) true (ap test same ∙ h) refl)
+      | inl below ↦ omega (arith, one_le (test n), count_below-missing test n x below h)
+      | inr above ↦
+          let same : n ≡ x = omega arith in
+          omega (arith, count_below-bound test n, one_strict (test n) true (ap test same ∙ h) refl)
     ]
 
 pub count_below-mono : (test more : ℕ → Bool) (n : ℕ) → ((x : ℕ) → x < n → test x ≡ true → more x ≡ true) → count_below test n ≤ count_below more n
@@ -55,11 +54,11 @@ pub count_below-strict : (test more : ℕ → Bool) (n x : ℕ) → ((y : ℕ) �
 count_below-strict test more zero x h lt a b = absurd (omega arith)
 count_below-strict test more (suc n) x h lt a b =
     elim (cases_lt x n) [
-      inl below ↦
-        omega (arith, one_mono (test n) (more n) (h n (omega arith)), count_below-strict test more n x (λ y l. h y (omega arith)) below a b)
-    | inr above ↦
-        let same : n ≡ x = omega arith in
-        omega (arith, one_strict (test n) (more n) (ap test same ∙ a) (ap more same ∙ b), count_below-mono test more n (λ y l. h y (omega arith)))
+      | inl below ↦
+          omega (arith, one_mono (test n) (more n) (h n (omega arith)), count_below-strict test more n x (λ y l. h y (omega arith)) below a b)
+      | inr above ↦
+          let same : n ≡ x = omega arith in
+          omega (arith, one_strict (test n) (more n) (ap test same ∙ a) (ap more same ∙ b), count_below-mono test more n (λ y l. h y (omega arith)))
     ]
 
 -- ---- ranks in a graph
@@ -79,8 +78,8 @@ pub rank-rises : (g : Graph) (n e : ℕ) → IsAcyclic g n → e < g.size → g.
 rank-rises g n e acyclic lt free inside =
     let edge = reach-from_edge g n e lt free in
     count_below-strict (λ q. reach g n q (g.source e)) (λ q. reach g n q (g.target e)) n (g.source e)
-      (λ q below h. reach-join g n (g.source e) q (g.target e) inside h edge)
-      inside (acyclic (g.source e) inside) edge
+    (λ q below h. reach-join g n (g.source e) q (g.target e) inside h edge)
+    inside (acyclic (g.source e) inside) edge
 
 -- how many chosen nodes are p or reach p
 abbrev pub level : Graph → (ℕ → Bool) → ℕ → ℕ → ℕ
@@ -94,8 +93,8 @@ pub reach-past : (g : Graph) (n e q : ℕ) → e < g.size → g.is_free e ≡ tr
     → reach g n q (g.target e) ≡ true
 reach-past g n e q lt free inside h =
     elim (or_cases (q == g.source e) (reach g n q (g.source e)) h) [
-      inl same ↦ subst (λ x. reach g n x (g.target e) ≡ true) (sym (eqb-true q (g.source e) same)) (reach-from_edge g n e lt free)
-    | inr before ↦ reach-join g n (g.source e) q (g.target e) inside before (reach-from_edge g n e lt free)
+      | inl same ↦ subst (λ x. reach g n x (g.target e) ≡ true) (sym (eqb-true q (g.source e) same)) (reach-from_edge g n e lt free)
+      | inr before ↦ reach-join g n (g.source e) q (g.target e) inside before (reach-from_edge g n e lt free)
     ]
 
 level_step : (g : Graph) (chosen : ℕ → Bool) (n e q : ℕ) → e < g.size → g.is_free e ≡ true → g.source e < n
@@ -103,13 +102,13 @@ level_step : (g : Graph) (chosen : ℕ → Bool) (n e q : ℕ) → e < g.size �
 level_step g chosen n e q lt free inside h =
     let parts = and_parts (chosen q) ((q == g.source e) || reach g n q (g.source e)) h in
     and_from (chosen q) ((q == g.target e) || reach g n q (g.target e)) parts.0
-      (or_right (q == g.target e) (reach g n q (g.target e)) (reach-past g n e q lt free inside parts.1))
+    (or_right (q == g.target e) (reach g n q (g.target e)) (reach-past g n e q lt free inside parts.1))
 
 pub level-keeps : (g : Graph) (chosen : ℕ → Bool) (n e : ℕ) → e < g.size → g.is_free e ≡ true → g.source e < n
     → level g chosen n (g.source e) ≤ level g chosen n (g.target e)
 level-keeps g chosen n e lt free inside =
     count_below-mono (λ q. chosen q && ((q == g.source e) || reach g n q (g.source e))) (λ q. chosen q && ((q == g.target e) || reach g n q (g.target e))) n
-      (λ q below h. level_step g chosen n e q lt free inside h)
+    (λ q below h. level_step g chosen n e q lt free inside h)
 
 pub level-rises : (g : Graph) (chosen : ℕ → Bool) (n e : ℕ) → e < g.size → g.is_free e ≡ true → g.source e < n → g.target e < n
     → chosen (g.target e) ≡ true → reach g n (g.target e) (g.target e) ≡ false
@@ -118,11 +117,11 @@ level-rises g chosen n e lt free inside target_inside is_chosen not_again =
     let t = g.target e in
     let s = g.source e in
     count_below-strict (λ q. chosen q && ((q == s) || reach g n q s)) (λ q. chosen q && ((q == t) || reach g n q t)) n t
-      (λ q below h. level_step g chosen n e q lt free inside h)
-      target_inside
-      (false_from_ne_true (chosen t && ((t == s) || reach g n t s))
-        (λ h. false≢true (sym not_again ∙ reach-past g n e t lt free inside (and_parts (chosen t) ((t == s) || reach g n t s) h).1)))
-      (and_from (chosen t) ((t == t) || reach g n t t) is_chosen (or_left (t == t) (reach g n t t) (eq-eqb t t refl)))
+    (λ q below h. level_step g chosen n e q lt free inside h)
+    target_inside
+    (false_from_ne_true (chosen t && ((t == s) || reach g n t s))
+    (λ h. false≢true (sym not_again ∙ reach-past g n e t lt free inside (and_parts (chosen t) ((t == s) || reach g n t s) h).1)))
+    (and_from (chosen t) ((t == t) || reach g n t t) is_chosen (or_left (t == t) (reach g n t t) (eq-eqb t t refl)))
 
 -- ---- a dataflow's edges as a graph
 
@@ -132,7 +131,7 @@ flow_graph flow sort = record {
   size = length flow.edges;
   source = sender flow;
   target = receiver flow;
-  is_free = λ e. not (sort (kind_of flow (sender flow e)))
+  is_free = λ e. not (sort (kind_of flow (sender flow e)));
 }
 
 -- no kind is of this sort
@@ -155,12 +154,12 @@ pub path_or_passes : (flow : Dataflow) (sort : Kind → Bool) (p : ℕ) (es : Li
 path_or_passes flow sort p [] q h = inl h
 path_or_passes flow sort p (e ∷ es) q h =
     elim (cases_Bool (sort (kind_of flow (sender flow e)))) [
-      inl here ↦ inr (inl here)
-    | inr free ↦
-        elim (path_or_passes flow sort (receiver flow e) es q h.2) [
-          inl rest ↦ inl (h.0, not_from_false (sort (kind_of flow (sender flow e))) free, h.1, rest)
-        | inr later ↦ inr (inr later)
-        ]
+      | inl here ↦ inr (inl here)
+      | inr free ↦
+          elim (path_or_passes flow sort (receiver flow e) es q h.2) [
+            | inl rest ↦ inl (h.0, not_from_false (sort (kind_of flow (sender flow e))) free, h.1, rest)
+            | inr later ↦ inr (inr later)
+          ]
     ]
 
 -- ---- the nodes of closed walks
@@ -196,11 +195,11 @@ feedback_kind flow (Feedback l) h = (l, refl, eq-eqb l l refl)
 feedback_kind flow k h = absurd (false≢true h)
 
 -- the node is looped, in some loop
-abbrev StandsInLoop : Dataflow → ℕ → Type 0
+abbrev pub StandsInLoop : Dataflow → ℕ → Type 0
 StandsInLoop flow p = (l : ℕ) × (domain_of flow p ≡ InLoop l) × (is_looped flow p ≡ true)
 
 -- a walk that passes a feedback and no enter begins in a loop
-begins_in_loop : (flow : Dataflow) → IsWellFormed flow → (p : ℕ) (es : List ℕ) (q : ℕ) → IsWalk flow p es q
+pub begins_in_loop : (flow : Dataflow) → IsWellFormed flow → (p : ℕ) (es : List ℕ) (q : ℕ) → IsWalk flow p es q
     → Passes flow is_feedback_kind es → (Passes flow is_enter_kind es → ⊥) → StandsInLoop flow p
 begins_in_loop flow well p [] q h passes no_enter = absurd passes
 begins_in_loop flow well p (e ∷ es) q h (inl here) no_enter =
@@ -208,21 +207,21 @@ begins_in_loop flow well p (e ∷ es) q h (inl here) no_enter =
 begins_in_loop flow well p (e ∷ es) q h (inr later) no_enter =
     let next = begins_in_loop flow well (receiver flow e) es q h.2 later (λ x. no_enter (inr x)) in
     let here = looped_kind flow (kind_of flow (sender flow e)) next.0
-        (false_from_ne_true (is_enter_kind (kind_of flow (sender flow e))) (λ x. no_enter (inl x)))
-        (well.domains e h.0 ∙ next.1) in
+    (false_from_ne_true (is_enter_kind (kind_of flow (sender flow e))) (λ x. no_enter (inl x)))
+    (well.domains e h.0 ∙ next.1) in
     subst (StandsInLoop flow) h.1 (next.0, here.0, here.1)
 
 -- ---- the ranks of a well-formed dataflow
 
 pub IsClosedWalk-from_Path : (flow : Dataflow) (sort : Kind → Bool) (p : ℕ) (path : Path (flow_graph flow sort) p p) → IsClosedWalk flow p path.edges
-IsClosedWalk-from_Path flow sort p path = record { some = path.some; walk = IsWalk-from_path flow sort p path.edges p path.path; }
+IsClosedWalk-from_Path flow sort p path = record { some = path.some; walk = IsWalk-from_path flow sort p path.edges p path.path }
 
 acyclic_but_feedback : (flow : Dataflow) → IsWellFormed flow → IsAcyclic (flow_graph flow is_feedback_kind) (length flow.nodes)
 acyclic_but_feedback flow well p lt =
     false_from_ne_true (reach (flow_graph flow is_feedback_kind) (length flow.nodes) p p)
-      (λ h.
-        let path = Path-from_reach (flow_graph flow is_feedback_kind) (length flow.nodes) p p h in
-        Passes-not_path flow is_feedback_kind p path.edges p path.path (well.feedback p path.edges (IsClosedWalk-from_Path flow is_feedback_kind p path)))
+    (λ h.
+    let path = Path-from_reach (flow_graph flow is_feedback_kind) (length flow.nodes) p p h in
+    Passes-not_path flow is_feedback_kind p path.edges p path.path (well.feedback p path.edges (IsClosedWalk-from_Path flow is_feedback_kind p path)))
 
 looped_if_again : (flow : Dataflow) → IsWellFormed flow → (p : ℕ) → reach (flow_graph flow no_kind) (length flow.nodes) p p ≡ true → is_looped flow p ≡ true
 looped_if_again flow well p h =
@@ -240,16 +239,16 @@ ranks-exist flow well =
       within_rounds = record {
         bound = λ p lt. rank-bound (flow_graph flow is_feedback_kind) n p (acyclic_but_feedback flow well) lt;
         rises = λ e lt h.
-          rank-rises (flow_graph flow is_feedback_kind) n e (acyclic_but_feedback flow well) lt
+            rank-rises (flow_graph flow is_feedback_kind) n e (acyclic_but_feedback flow well) lt
             (not_from_false (is_feedback_kind (kind_of flow (sender flow e))) h) (well.senders_declared e lt);
       };
       of_loops = record {
         bound = λ p lt. level-bound (flow_graph flow no_kind) (λ q. not (is_looped flow q)) n p;
         keeps = λ e lt. level-keeps (flow_graph flow no_kind) (λ q. not (is_looped flow q)) n e lt refl (well.senders_declared e lt);
         rises = λ e lt h.
-          level-rises (flow_graph flow no_kind) (λ q. not (is_looped flow q)) n e lt refl (well.senders_declared e lt) (well.receivers_declared e lt)
+            level-rises (flow_graph flow no_kind) (λ q. not (is_looped flow q)) n e lt refl (well.senders_declared e lt) (well.receivers_declared e lt)
             (not_from_false (is_looped flow (receiver flow e)) h)
             (false_from_ne_true (reach (flow_graph flow no_kind) n (receiver flow e) (receiver flow e))
-              (λ again. false≢true (sym h ∙ looped_if_again flow well (receiver flow e) again)));
+            (λ again. false≢true (sym h ∙ looped_if_again flow well (receiver flow e) again)));
       };
     }

@@ -1,5 +1,5 @@
 -- Which nodes of a graph reach which, as a test; it holds exactly where a path of some edges leads there.
-use Rattle.std.proofs.Common.{◌≡◌, ℕ, zero, suc, ◌+◌, ◌<◌, ◌≤◌, ◌⊎◌, inl, inr, Bool, true, false, ◌&&◌, ◌||◌, ◌==◌, List, [], ◌∷◌, ◌++◌, length, refl, sym, ap, ◌∙◌, subst, arith, length-append}
+use Rattle.std.proofs.Common.{◌≡◌, ℕ, zero, suc, ◌<◌, ◌≤◌, ◌⊎◌, inl, inr, Bool, true, false, ◌&&◌, ◌||◌, ◌==◌, List, [], ◌∷◌, ◌++◌, length, refl, sym, ap, ◌∙◌, subst, arith, length-append}
 use Rattle.std.proofs.lemmas.Bool.{or_cases, or_left, or_right, and_parts, and_from, eqb-true, eq-eqb, cases_eq}
 use Rattle.fw_flow.specs.Walks.{Graph, IsPath, Path}
 
@@ -28,31 +28,31 @@ Path-append g p q r a b = record {
 
 -- a free edge is a path
 pub Path-of_edge : (g : Graph) (e : ℕ) → e < g.size → g.is_free e ≡ true → Path g (g.source e) (g.target e)
-Path-of_edge g e lt free = record { edges = e ∷ []; some = omega arith; path = (lt, free, refl, refl); }
+Path-of_edge g e lt free = record { edges = e ∷ []; some = omega arith; path = (lt, free, refl, refl) }
 
 Path-from_leads : (g : Graph) (m p q : ℕ) → m ≤ g.size → leads g m p q ≡ true → Path g p q
 Path-from_leads g zero p q le h = absurd (cc)
 Path-from_leads g (suc m) p q le h =
     elim (or_cases (g.is_free m && ((g.source m == p) && (g.target m == q))) (leads g m p q) h) [
-      inl a ↦
-        let parts = and_parts (g.is_free m) ((g.source m == p) && (g.target m == q)) a in
-        let ends = and_parts (g.source m == p) (g.target m == q) parts.1 in
-        record {
-          edges = m ∷ [];
-          some = omega arith;
-          path = (omega arith, parts.0, eqb-true (g.source m) p ends.0, eqb-true (g.target m) q ends.1);
-        }
-    | inr b ↦ Path-from_leads g m p q (omega arith) b
+      | inl a ↦
+          let parts = and_parts (g.is_free m) ((g.source m == p) && (g.target m == q)) a in
+          let ends = and_parts (g.source m == p) (g.target m == q) parts.1 in
+          record {
+            edges = m ∷ [];
+            some = omega arith;
+            path = (omega arith, parts.0, eqb-true (g.source m) p ends.0, eqb-true (g.target m) q ends.1);
+          }
+      | inr b ↦ Path-from_leads g m p q (omega arith) b
     ]
 
 pub Path-from_reach : (g : Graph) (k p q : ℕ) → reach g k p q ≡ true → Path g p q
 Path-from_reach g zero p q h = Path-from_leads g g.size p q (omega arith) h
 Path-from_reach g (suc k) p q h =
     elim (or_cases (reach g k p q) (reach g k p k && reach g k k q) h) [
-      inl a ↦ Path-from_reach g k p q a
-    | inr b ↦
-        let parts = and_parts (reach g k p k) (reach g k k q) b in
-        Path-append g p k q (Path-from_reach g k p k parts.0) (Path-from_reach g k k q parts.1)
+      | inl a ↦ Path-from_reach g k p q a
+      | inr b ↦
+          let parts = and_parts (reach g k p k) (reach g k k q) b in
+          Path-append g p k q (Path-from_reach g k p k parts.0) (Path-from_reach g k k q parts.1)
     ]
 
 -- ---- a true test for each path
@@ -61,13 +61,13 @@ leads-from_edge : (g : Graph) (m e : ℕ) → e < m → g.is_free e ≡ true →
 leads-from_edge g zero e lt free = absurd (omega arith)
 leads-from_edge g (suc m) e lt free =
     elim (cases_eq e m) [
-      inl same ↦
-        let ends = and_from (g.source m == g.source e) (g.target m == g.target e)
-            (eq-eqb (g.source m) (g.source e) (ap g.source (sym same))) (eq-eqb (g.target m) (g.target e) (ap g.target (sym same))) in
-        or_left (g.is_free m && ((g.source m == g.source e) && (g.target m == g.target e))) (leads g m (g.source e) (g.target e))
+      | inl same ↦
+          let ends = and_from (g.source m == g.source e) (g.target m == g.target e)
+          (eq-eqb (g.source m) (g.source e) (ap g.source (sym same))) (eq-eqb (g.target m) (g.target e) (ap g.target (sym same))) in
+          or_left (g.is_free m && ((g.source m == g.source e) && (g.target m == g.target e))) (leads g m (g.source e) (g.target e))
           (and_from (g.is_free m) ((g.source m == g.source e) && (g.target m == g.target e)) (ap g.is_free (sym same) ∙ free) ends)
-    | inr other ↦
-        or_right (g.is_free m && ((g.source m == g.source e) && (g.target m == g.target e))) (leads g m (g.source e) (g.target e))
+      | inr other ↦
+          or_right (g.is_free m && ((g.source m == g.source e) && (g.target m == g.target e))) (leads g m (g.source e) (g.target e))
           (leads-from_edge g m e (omega arith) free)
     ]
 
@@ -83,15 +83,15 @@ reach-from_edge g k e lt free = reach-from_leads g k (g.source e) (g.target e) (
 reach-to_next : (g : Graph) (k p : ℕ) → reach g (suc k) p k ≡ true → reach g k p k ≡ true
 reach-to_next g k p h =
     elim (or_cases (reach g k p k) (reach g k p k && reach g k k k) h) [
-      inl a ↦ a
-    | inr b ↦ (and_parts (reach g k p k) (reach g k k k) b).0
+      | inl a ↦ a
+      | inr b ↦ (and_parts (reach g k p k) (reach g k k k) b).0
     ]
 
 reach-from_next : (g : Graph) (k q : ℕ) → reach g (suc k) k q ≡ true → reach g k k q ≡ true
 reach-from_next g k q h =
     elim (or_cases (reach g k k q) (reach g k k k && reach g k k q) h) [
-      inl a ↦ a
-    | inr b ↦ (and_parts (reach g k k k) (reach g k k q) b).1
+      | inl a ↦ a
+      | inr b ↦ (and_parts (reach g k k k) (reach g k k q) b).1
     ]
 
 reach-through_next : (g : Graph) (k p q : ℕ) → reach g k p k ≡ true → reach g k k q ≡ true → reach g (suc k) p q ≡ true
@@ -105,8 +105,8 @@ Split g k p q = (reach g k p q ≡ true) ⊎ ((reach g k p k ≡ true) × (reach
 split_at : (g : Graph) (k p q : ℕ) → reach g (suc k) p q ≡ true → Split g k p q
 split_at g k p q h =
     elim (or_cases (reach g k p q) (reach g k p k && reach g k k q) h) [
-      inl a ↦ inl a
-    | inr b ↦ inr (and_parts (reach g k p k) (reach g k k q) b)
+      | inl a ↦ inl a
+      | inr b ↦ inr (and_parts (reach g k p k) (reach g k k q) b)
     ]
 
 reach-join_split : (g : Graph) (k m p q : ℕ) → Split g k p m → Split g k m q
@@ -121,12 +121,12 @@ pub reach-join : (g : Graph) (k m p q : ℕ) → m < k → reach g k p m ≡ tru
 reach-join g zero m p q lt a b = absurd (omega arith)
 reach-join g (suc k) m p q lt a b =
     elim (cases_eq m k) [
-      inl same ↦
-        reach-through_next g k p q
+      | inl same ↦
+          reach-through_next g k p q
           (reach-to_next g k p (subst (λ x. reach g (suc k) p x ≡ true) same a))
           (reach-from_next g k q (subst (λ x. reach g (suc k) x q ≡ true) same b))
-    | inr other ↦
-        reach-join_split g k m p q (split_at g k p m a) (split_at g k m q b) (λ x y. reach-join g k m x y (omega arith))
+      | inr other ↦
+          reach-join_split g k m p q (split_at g k p m a) (split_at g k m q b) (λ x y. reach-join g k m x y (omega arith))
     ]
 
 -- all edges lead to nodes among the first n
@@ -139,8 +139,8 @@ reach-from_path g n p e [] q inside h =
     subst (λ x. reach g n x q ≡ true) h.2 (subst (λ x. reach g n (g.source e) x ≡ true) h.3 (reach-from_edge g n e h.0 h.1))
 reach-from_path g n p e (f ∷ fs) q inside h =
     reach-join g n (g.target e) p q (inside e h.0)
-      (subst (λ x. reach g n x (g.target e) ≡ true) h.2 (reach-from_edge g n e h.0 h.1))
-      (reach-from_path g n (g.target e) f fs q inside h.3)
+    (subst (λ x. reach g n x (g.target e) ≡ true) h.2 (reach-from_edge g n e h.0 h.1))
+    (reach-from_path g n (g.target e) f fs q inside h.3)
 
 reach-from_list : (g : Graph) (n p : ℕ) (es : List ℕ) (q : ℕ) → LeadsWithin g n → 0 < length es → IsPath g p es q → reach g n p q ≡ true
 reach-from_list g n p [] q inside some h = absurd (omega arith)
@@ -154,8 +154,8 @@ pub find_below : (test : ℕ → Bool) (n : ℕ) → ((p : ℕ) × (p < n) × (t
 find_below test zero = inr (λ p lt. absurd (omega arith))
 find_below test (suc n) =
     elim (find_below test n) [
-      inl found ↦ inl (found.0, omega (arith, found.1), found.2)
-    | inr none ↦ find_at (test n) refl none
+      | inl found ↦ inl (found.0, omega (arith, found.1), found.2)
+      | inr none ↦ find_at (test n) refl none
     ]
   where
     find_at : (b : Bool) → test n ≡ b → ((p : ℕ) → p < n → test p ≡ false) → ((p : ℕ) × (p < suc n) × (test p ≡ true)) ⊎ ((p : ℕ) → p < suc n → test p ≡ false)

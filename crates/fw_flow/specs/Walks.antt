@@ -1,7 +1,7 @@
 -- Walks over plain links, and the ranks of a dataflow's nodes.
 use Rattle.std.specs.Prelude.{◌≡◌, ℕ, ◌<◌, ◌≤◌, Bool, true, false, not, ◌==◌, if◌then◌else◌, ◌+◌, List, [], ◌∷◌, length, map, slice_index_or}
 use Rattle.fw_flow.specs.declared.kind.Domain.{Domain}
-use Rattle.fw_flow.specs.declared.kind.Domain.TheVariants.{Epoch, Number, Loop as InLoop}
+use Rattle.fw_flow.specs.declared.kind.Domain.TheVariants.{Loop as InLoop}
 use Rattle.fw_flow.specs.declared.kind.Kind.{Kind}
 use Rattle.fw_flow.specs.declared.node.Edge.{Edge}
 use Rattle.fw_flow.specs.declared.node.Node.{Node}
@@ -45,7 +45,7 @@ graph_of links barred = record {
   size = length links;
   source = λ e. (link_at links e).sender;
   target = λ e. (link_at links e).receiver;
-  is_free = λ e. not (is_marked barred (link_at links e).sender)
+  is_free = λ e. not (is_marked barred (link_at links e).sender);
 }
 
 -- the links join nodes among so many

@@ -4,5 +4,4 @@ ghost use Rattle.fw_flow.specs.Walks.{RanksExist};
 /// The nodes of each well-formed dataflow have ranks.
 pub fn ranks_exist()
     ensures { RanksExist }
-{
-}
+{}

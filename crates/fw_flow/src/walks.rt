@@ -16,8 +16,25 @@ pub(crate) struct Link {
     pub(crate) receiver: usize,
 }
 
-/// Whether each closed walk passes a feedback. The links are those of the dataflow's edges, in order.
-pub(crate) fn each_closed_walk_is_fed_back(alloc: Global, nodes: &[Node], links: &[Link]) -> Result<bool, AllocError>
+/// Whether the links join nodes among so many.
+pub(crate) fn are_within(places: usize, links: &[Link]) -> bool
+    ensures { IsTrue result ↔ AreWithin places links.now }
+{
+    for link in links {
+        if link.sender >= places || link.receiver >= places {
+            return false;
+        }
+    }
+    true
+}
+
+/// Whether each closed walk passes a feedback. The links are those of the dataflow's edges, in order; the only error is
+/// want of memory.
+pub(crate) fn each_closed_walk_is_fed_back(
+    alloc: Global,
+    nodes: &[Node],
+    links: &[Link],
+) -> Result<bool, AllocError>
     requires { AreWithin (length nodes.now) links.now }
     ensures fed_back { (flow : Dataflow) → IsMadeOf flow nodes.now links.now
         → IfOk result (λ b. IsTrue b ↔ EachClosedWalkPasses flow is_feedback_kind) }
@@ -28,8 +45,13 @@ pub(crate) fn each_closed_walk_is_fed_back(alloc: Global, nodes: &[Node], links:
     each_closed_walk_is_barred(alloc, links, &feedbacks)
 }
 
-/// Whether no closed walk passes an enter. The links are those of the dataflow's edges, in order.
-pub(crate) fn no_closed_walk_enters(alloc: Global, nodes: &[Node], links: &[Link]) -> Result<bool, AllocError>
+/// Whether no closed walk passes an enter. The links are those of the dataflow's edges, in order; the only error is want
+/// of memory.
+pub(crate) fn no_closed_walk_enters(
+    alloc: Global,
+    nodes: &[Node],
+    links: &[Link],
+) -> Result<bool, AllocError>
     requires { AreWithin (length nodes.now) links.now }
     ensures never_entered { (flow : Dataflow) → IsMadeOf flow nodes.now links.now
         → IfOk result (λ b. IsTrue b ↔ NoClosedWalkPasses flow is_enter_kind) }
@@ -44,12 +66,14 @@ pub(crate) fn no_closed_walk_enters(alloc: Global, nodes: &[Node], links: &[Link
     Ok(true)
 }
 
+/// Whether a node of the kind leads to the next counter of a loop.
 fn is_feedback(kind: Kind) -> bool
     ensures { result ≡ is_feedback_kind kind }
 {
     matches!(kind, Kind::Feedback(_))
 }
 
+/// Whether a node of the kind leads into a loop.
 fn is_enter(kind: Kind) -> bool
     ensures { result ≡ is_enter_kind kind }
 {
@@ -60,12 +84,19 @@ fn is_enter(kind: Kind) -> bool
 fn marks_of_feedbacks(alloc: Global, nodes: &[Node]) -> Result<Vec<bool>, AllocError>
     ensures { IfOk result (λ marks. marks.items ≡ map (λ node. is_feedback_kind node.kind) nodes.now) }
 {
-    nodes.iter().map(|node| is_feedback(node.kind)).collect(alloc)
+    nodes
+        .iter()
+        .map(|node| is_feedback(node.kind))
+        .collect(alloc)
 }
 
-/// Whether each closed walk passes a barred node: nodes are peeled off, round by round, that no link leads to from a
-/// node that is left.
-fn each_closed_walk_is_barred(alloc: Global, links: &[Link], barred: &[bool]) -> Result<bool, AllocError>
+/// Whether each closed walk passes a barred node. Round by round the nodes are peeled off to which no link leads from
+/// one that is left and not barred; as many rounds as there are nodes leave none exactly then.
+fn each_closed_walk_is_barred(
+    alloc: Global,
+    links: &[Link],
+    barred: &[bool],
+) -> Result<bool, AllocError>
     requires { AreWithin (length barred.now) links.now }
     ensures none { IfOk result (λ b. OnTrue b ((p : ℕ) → Path (graph_of links.now barred.now) p p → ⊥)) }
     ensures some { IfOk result (λ b. OnFalse b ((p : ℕ) × Path (graph_of links.now barred.now) p p)) }
@@ -77,6 +108,7 @@ fn each_closed_walk_is_barred(alloc: Global, links: &[Link], barred: &[bool]) ->
     Ok(!is_any_marked(&left))
 }
 
+/// Whether some node is marked.
 fn is_any_marked(marks: &[bool]) -> bool
     ensures { result ≡ list_any (λ mark. mark) marks.now }
 {
@@ -84,7 +116,12 @@ fn is_any_marked(marks: &[bool]) -> bool
 }
 
 /// Marks the receivers of the links that leave a node of the set and no barred one.
-fn receivers(alloc: Global, links: &[Link], barred: &[bool], set: &[bool]) -> Result<Vec<bool>, AllocError>
+fn receivers(
+    alloc: Global,
+    links: &[Link],
+    barred: &[bool],
+    set: &[bool],
+) -> Result<Vec<bool>, AllocError>
     requires within { AreWithin (length barred.now) links.now }
     requires len { length set.now ≡ length barred.now }
     ensures len { IfOk result (λ marks. length marks.items ≡ length barred.now) }
@@ -100,7 +137,12 @@ fn receivers(alloc: Global, links: &[Link], barred: &[bool], set: &[bool]) -> Re
 }
 
 /// Whether a closed walk passes the node.
-fn is_on_closed_walk(alloc: Global, places: usize, links: &[Link], node: usize) -> Result<bool, AllocError>
+fn is_on_closed_walk(
+    alloc: Global,
+    places: usize,
+    links: &[Link],
+    node: usize,
+) -> Result<bool, AllocError>
     requires within { AreWithin places links.now }
     requires node_within { node < places }
     ensures some { IfOk result (λ b. OnTrue b (Path (graph_of links.now []) node node)) }
@@ -125,7 +167,12 @@ fn leads_back(links: &[Link], marks: &[bool], node: usize) -> bool
 }
 
 /// Marks the nodes that walks from the node reach, it among them.
-fn nodes_from(alloc: Global, places: usize, links: &[Link], node: usize) -> Result<Vec<bool>, AllocError>
+fn nodes_from(
+    alloc: Global,
+    places: usize,
+    links: &[Link],
+    node: usize,
+) -> Result<Vec<bool>, AllocError>
     requires within { AreWithin places links.now }
     requires node_within { node < places }
     ensures len { IfOk result (λ marks. length marks.items ≡ places) }
@@ -161,4 +208,44 @@ fn spread(links: &[Link], marks: &mut [bool]) -> bool
         }
     }
     has_grown
+}
+
+#[cfg(test)]
+mod tests {
+    use super::*;
+    use std::test::Fail;
+
+    fn link(sender: usize, receiver: usize) -> Link {
+        Link { sender, receiver }
+    }
+
+    #[test]
+    fn closed_walks_are_barred(rt: HostRuntime) -> Result<(), Fail> {
+        let barred = [false, true, false];
+        let ring = [link(0, 1), link(1, 2), link(2, 0)];
+        assert!(rt; are_within(3, &ring));
+        assert!(rt; each_closed_walk_is_barred(rt.alloc(), &ring, &barred)?);
+        let side_loop = [link(0, 1), link(1, 0), link(0, 2), link(2, 2)];
+        assert!(rt; are_within(3, &side_loop));
+        assert!(rt; !each_closed_walk_is_barred(rt.alloc(), &side_loop, &barred)?);
+        let line = [link(0, 1), link(1, 2)];
+        assert!(rt; are_within(3, &line));
+        assert!(rt; each_closed_walk_is_barred(rt.alloc(), &line, &[false; 3])?);
+        Ok(())
+    }
+
+    #[test]
+    fn finds_the_nodes_of_closed_walks(rt: HostRuntime) -> Result<(), Fail> {
+        let links = [link(3, 2), link(2, 1), link(1, 2), link(0, 1)];
+        assert!(rt; are_within(4, &links));
+        for (node, want) in [(0, false), (1, true), (2, true), (3, false)] {
+            assert!(rt; node < 4);
+            assert_eq!(rt;
+                is_on_closed_walk(rt.alloc(), 4, &links, node)?,
+                want,
+                "at {node}"
+            );
+        }
+        Ok(())
+    }
 }

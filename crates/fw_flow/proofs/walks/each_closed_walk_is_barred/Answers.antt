@@ -1,4 +1,4 @@
-use Rattle.std.proofs.Common.{◌≡◌, Bool, true, false, List, length, sym, ap, ◌∙◌, subst, arith}
+use Rattle.std.proofs.Common.{◌≡◌, Bool, List, length, sym, ap, ◌∙◌, subst, arith}
 use Rattle.std.proofs.lemmas.Bool.{OnTrue_from, OnFalse_from, not-true, not-false}
 use Rattle.std.specs.List.{list_any}
 use Rattle.fw_flow.specs.Walks.{graph_of, IsLedTo}
@@ -20,8 +20,8 @@ pub returns-clause-none : goal.returns-clause-none
 returns-clause-none c =
     let g = graph_of c.args.links.now c.args.barred.now in
     OnTrue_from _ _ (λ e.
-      no_closed_path g (length c.args.barred.now) c.loop.counter c.loop.left.items c.requires.receivers c.loop.invariant.peeled
-        (ap (list_any (λ mark. mark)) (sym c.deref-2.ensures.value) ∙ sym c.is_any_marked.ensures ∙ not-true c.is_any_marked.result e))
+    no_closed_path g (length c.args.barred.now) c.loop.counter c.loop.left.items c.requires.receivers c.loop.invariant.peeled
+    (ap (list_any (λ mark. mark)) (sym c.deref-2.ensures.value) ∙ sym c.is_any_marked.ensures ∙ not-true c.is_any_marked.result e))
 
 pub returns-clause-some : goal.returns-clause-some
 returns-clause-some c =
@@ -29,6 +29,6 @@ returns-clause-some c =
     let n = length c.args.barred.now in
     let rounds : c.loop.counter ≡ n = omega arith in
     OnFalse_from _ _ (λ e.
-      some_closed_path g n c.loop.left.items c.loop.invariant.len
-        (subst (λ k. IsPeeled g n k c.loop.left.items) rounds c.loop.invariant.peeled)
-        (ap (list_any (λ mark. mark)) (sym c.deref-2.ensures.value) ∙ sym c.is_any_marked.ensures ∙ not-false c.is_any_marked.result e))
+    some_closed_path g n c.loop.left.items c.loop.invariant.len
+    (subst (λ k. IsPeeled g n k c.loop.left.items) rounds c.loop.invariant.peeled)
+    (ap (list_any (λ mark. mark)) (sym c.deref-2.ensures.value) ∙ sym c.is_any_marked.ensures ∙ not-false c.is_any_marked.result e))

@@ -1,4 +1,4 @@
-use Rattle.std.proofs.Common.{◌≡◌, true, length, refl, sym, ap, ◌∙◌, arith}
+use Rattle.std.proofs.Common.{◌≡◌, refl, sym, ap, ◌∙◌, arith}
 use Rattle.std.proofs.lemmas.Bool.{OnTrue_at, false≢true}
 use Rattle.std.proofs.lemmas.List.{get_or_default}
 use Rattle.fw_flow.specs.declared.node.Node.{Node}
@@ -14,10 +14,10 @@ entered c flow made =
     let nodes = c.args.nodes.now in
     let p = c.loop-place.place in
     let node : c.index-nodes-place.result.kind ≡ listed_kind nodes p =
-        ap (λ (n : Node). n.kind) (c.index-nodes-place.is ∙ get_or_default nodes p c.index-nodes-place.result idle_node (omega arith)) in
+    ap (λ (n : Node). n.kind) (c.index-nodes-place.is ∙ get_or_default nodes p c.index-nodes-place.result idle_node (omega arith)) in
     PassingWalk-from_node flow nodes c.args.links.now is_enter_kind p made
-      (ap is_enter_kind (sym node) ∙ sym c.if-is_enter.ensures)
-      (OnTrue_at c.if-branch.true c.in_ok-is_on_closed_walk.ensures.some)
+    (ap is_enter_kind (sym node) ∙ sym c.if-is_enter.ensures)
+    (OnTrue_at c.if-branch.true c.in_ok-is_on_closed_walk.ensures.some)
 
 pub returns-then-branch-clause-never_entered : goal.returns-then-branch-clause-never_entered
 returns-then-branch-clause-never_entered c = λ flow made.
@@ -28,6 +28,8 @@ pub returns-then-branch-clause-refused : goal.returns-then-branch-clause-refused
 returns-then-branch-clause-refused c = entered c
 
 pub returns-clause-never_entered : goal.returns-clause-never_entered
-returns-clause-never_entered c = λ flow made.
-    (λ _. NoClosedWalkPasses-from_nodes flow c.args.nodes.now c.args.links.now is_enter_kind made c.requires
-      (λ p lt. c.loop-place.invariant p (omega arith)), λ _. refl)
+returns-clause-never_entered c = λ flow made. (
+  λ _. NoClosedWalkPasses-from_nodes flow c.args.nodes.now c.args.links.now is_enter_kind made c.requires
+      (λ p lt. c.loop-place.invariant p (omega arith)),
+  λ _. refl,
+)

@@ -53,7 +53,7 @@ pub record AreWithin (places : ℕ) (links : List Link) : Type 0 where
   pub senders : (e : ℕ) → e < length links → (link_at links e).sender < places
   pub receivers : (e : ℕ) → e < length links → (link_at links e).receiver < places
 
--- the marked nodes from which free edges among the first m lead, and the marked nodes to which they lead
+-- the free edges among the first m that leave a node marked in `from` lead to exactly the nodes marked in `to`
 pub record IsLedTo (g : Graph) (m : ℕ) (from to : List Bool) : Type 0 where
   pub each : (e : ℕ) → e < m → g.is_free e ≡ true → is_marked from (g.source e) ≡ true → is_marked to (g.target e) ≡ true
   pub only : (q : ℕ) → is_marked to q ≡ true → (e : ℕ) × (e < m) × (g.is_free e ≡ true) × (is_marked from (g.source e) ≡ true) × (g.target e ≡ q)
@@ -67,7 +67,7 @@ unmarked_count (mark ∷ marks) = (if mark then 0 else 1) + unmarked_count marks
 abbrev pub IsAmong : List Bool → (ℕ → Bool) → Type 0
 IsAmong marks set = (p : ℕ) → is_marked marks p ≡ true → set p ≡ true
 
--- the first m links lead from nodes of the set to nodes of the set
+-- of the first m links, those that leave a node of the set lead to a node of it
 abbrev pub IsClosedUnder : List Link → ℕ → (ℕ → Bool) → Type 0
 IsClosedUnder links m set = (e : ℕ) → e < m → set (link_at links e).sender ≡ true → set (link_at links e).receiver ≡ true
 

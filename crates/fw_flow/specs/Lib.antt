@@ -2,5 +2,6 @@ pub mod Counting
 pub mod Dataflow
 pub mod NodeFunction
 pub mod Projection
+pub mod Walks
 pub mod WellFormed
 pub mod WholeBags

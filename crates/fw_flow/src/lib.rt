@@ -5,8 +5,10 @@ mod choice;
 mod event;
 mod ids;
 mod kind;
+pub mod laws;
 mod node;
 mod step;
+mod walks;
 
 pub use choice::Cut;
 pub use event::{Causes, Event, Message};

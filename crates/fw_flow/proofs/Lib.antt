@@ -1,0 +1,5 @@
+pub mod Flows
+pub mod Marks
+pub mod Peel
+pub mod Ranks
+pub mod Reach

@@ -47,6 +47,15 @@ meet_within f g w t = go (f t) (g t) refl refl
     go true true p q = refl
     go true false p q = sym (w t p) ∙ q
 
+-- also the other way round
+pub within_meet : (f g : Frontier) → Within g f → (t : Stamp) → g t ≡ meet f g t
+within_meet f g w t = go (f t) (g t) refl refl
+  where
+    go : (a b : Bool) → f t ≡ a → g t ≡ b → b ≡ (a && b)
+    go true b p q = refl
+    go false false p q = refl
+    go false true p q = sym (sym p ∙ w t q)
+
 -- a cut within a list holds no more than the list
 pub set_within : (sys : System) (p : ℕ) (cut : Cut) (g : Front) → IsCutWithin sys p cut (At g)
     → Within (set_of sys p cut) (frontier_of (bounds_of sys.flow p) g)

@@ -9,3 +9,4 @@ pub mod OneSelectInclusions
 pub mod TwoSourcesRun
 pub mod TwoSourcesInclusions
 pub mod WellFormed
+pub mod LoggedEvents

@@ -3,3 +3,4 @@ pub mod OneSelectRuns
 pub mod OneRecovery
 pub mod TwoSources
 pub mod Inclusions
+pub mod LoggedEvents

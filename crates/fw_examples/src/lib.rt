@@ -2,6 +2,7 @@
 #![tactic(auto)]
 
 mod inclusions;
+mod logged_events;
 mod one_recovery;
 mod one_select_runs;
 
@@ -9,6 +10,7 @@ pub use inclusions::{
     delivered_is_needed, discarded_is_needed, leaves_out_one, notes_are_needed, notified_is_needed,
     own_is_needed, two_sources_is_well_formed,
 };
+pub use logged_events::{loses_an_epoch, restores_an_epoch};
 pub use one_recovery::{keeps_the_settled_epoch, resumes_after_both_failed};
 pub use one_select_runs::{
     acknowledges_what_is_settled, is_idle_too_early, is_idle_without_batches,

@@ -10,3 +10,4 @@ pub mod TwoSourcesRun
 pub mod TwoSourcesInclusions
 pub mod WellFormed
 pub mod LoggedEvents
+pub mod OneCollection

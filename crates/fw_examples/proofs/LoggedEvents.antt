@@ -1,9 +1,9 @@
 -- The runs with a select that writes each event.
-use Rattle.std.proofs.Common.{◌≡◌, ℕ, ◌||◌, ◌⊎◌, true, false, List, [], ◌∷◌, refl, sym, ap, ◌∙◌, None, lit<, lit≤, inl, inr, arith}
+use Rattle.std.proofs.Common.{◌≡◌, ℕ, ◌||◌, true, false, [], ◌∷◌, refl, sym, ap, ◌∙◌, None, lit<, lit≤, inl, inr, arith}
 use Rattle.std.proofs.lemmas.Bool.{false≢true, true≢false, and_parts, and_from}
 use Rattle.fw_time.specs.Stamp.{same}
 use Rattle.fw_frontier.specs.Frontier.{Within}
-use Rattle.fw_frontier.specs.Front.{Front, frontier_of}
+use Rattle.fw_frontier.specs.Front.{frontier_of}
 use Rattle.fw_flow.specs.declared.choice.Cut.{Cut}
 use Rattle.fw_flow.specs.declared.choice.Cut.TheVariants.{Present, At}
 use Rattle.fw_flow.specs.declared.event.Event.TheVariants.{Inject as Injected, Deliver as Delivered}
@@ -22,7 +22,7 @@ use Rattle.fw_examples.specs.LoggedEvents.{two_recs, each_written, none, nothing
 use Rattle.fw_examples.proofs.FrontierFacts.{is_frontier_of, within_all, within_until, not_same}
 use Rattle.fw_examples.proofs.StepFacts.{injects, delivers}
 use Rattle.fw_examples.proofs.ChoiceFacts.{nothing_covered, covered_in_all, meet_within, within_meet, set_within, canonical, by_three, by_two}
-use Rattle.fw_examples.proofs.OneSelectDone.{named, admissible, complete, at_sender, all_complete, below_all, progresses, none_failed}
+use Rattle.fw_examples.proofs.OneSelectDone.{named, admissible, complete, all_complete, below_all, progresses, none_failed}
 
 -- a rec of epoch 0
 abbrev message : ℕ → ℕ → Message

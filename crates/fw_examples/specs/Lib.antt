@@ -4,3 +4,4 @@ pub mod OneRecovery
 pub mod TwoSources
 pub mod Inclusions
 pub mod LoggedEvents
+pub mod OneCollection

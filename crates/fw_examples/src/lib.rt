@@ -3,6 +3,7 @@
 
 mod inclusions;
 mod logged_events;
+mod one_collection;
 mod one_recovery;
 mod one_select_runs;
 
@@ -11,6 +12,7 @@ pub use inclusions::{
     own_is_needed, two_sources_is_well_formed,
 };
 pub use logged_events::{loses_an_epoch, restores_an_epoch};
+pub use one_collection::collects_the_first_epoch;
 pub use one_recovery::{keeps_the_settled_epoch, resumes_after_both_failed};
 pub use one_select_runs::{
     acknowledges_what_is_settled, is_idle_too_early, is_idle_without_batches,

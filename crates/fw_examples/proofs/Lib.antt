@@ -11,3 +11,4 @@ pub mod TwoSourcesInclusions
 pub mod WellFormed
 pub mod LoggedEvents
 pub mod OneCollection
+pub mod OneUndone

@@ -13,7 +13,9 @@ pub use inclusions::{
 };
 pub use logged_events::{loses_an_epoch, restores_an_epoch};
 pub use one_collection::collects_the_first_epoch;
-pub use one_recovery::{keeps_the_settled_epoch, resumes_after_both_failed};
+pub use one_recovery::{
+    acknowledges_what_is_to_come, keeps_the_settled_epoch, resumes_after_both_failed,
+};
 pub use one_select_runs::{
     acknowledges_what_is_settled, is_idle_too_early, is_idle_without_batches,
     is_idle_without_steps, one_select_is_well_formed, waits_for_the_rest,

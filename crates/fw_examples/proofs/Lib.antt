@@ -20,3 +20,6 @@ pub mod OneSelectInclusions
 pub mod TwoSourcesRun
 pub mod TwoSourcesInclusions
 pub mod WellFormed
+pub mod LoggedEvents
+pub mod OneCollection
+pub mod OneUndone

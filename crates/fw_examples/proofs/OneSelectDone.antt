@@ -118,7 +118,7 @@ join_within f g w t = go (f t) (g t) refl refl
     go false b p q = refl
 
 -- a list of outside stamps names the join with what lies within it
-names_join : (keeping : Policy) (p : ℕ) (old new : Front) → IsCanonical (bounds_of (one_select_flow_of keeping) p) new
+pub names_join : (keeping : Policy) (p : ℕ) (old new : Front) → IsCanonical (bounds_of (one_select_flow_of keeping) p) new
     → Within (frontier_of (bounds_of (one_select_flow_of keeping) p) old) (frontier_of (bounds_of (one_select_flow_of keeping) p) new)
     → Names (bounds_of (one_select_flow_of keeping) p) new (join (frontier_of (bounds_of (one_select_flow_of keeping) p) old) (frontier_of (bounds_of (one_select_flow_of keeping) p) new))
 names_join keeping p old new c w = record { canonical = c; same = join_within _ _ w }

@@ -1,5 +1,5 @@
 -- The dataflows of the examples are well formed.
-use Rattle.std.proofs.Common.{◌≡◌, ℕ, ◌+◌, ◌<◌, ◌≤◌, List, [], ◌∷◌, length, refl, arith, lit<, lit≤, subst}
+use Rattle.std.proofs.Common.{ℕ, ◌+◌, ◌<◌, ◌≤◌, List, [], ◌∷◌, length, refl, arith, lit<, lit≤}
 use Rattle.fw_flow.specs.Dataflow.{Dataflow, kind_of, policy_of, sender, receiver, in_edges, out_edges}
 use Rattle.fw_flow.specs.WellFormed.{IsWalk, IsClosedWalk, IsWellFormed}
 use Rattle.fw_examples.specs.OneSelect.{one_select_flow}

@@ -8,3 +8,5 @@ pub mod OneSelectRuns
 pub mod OneRecovery
 pub mod TwoSources
 pub mod Inclusions
+pub mod LoggedEvents
+pub mod OneCollection

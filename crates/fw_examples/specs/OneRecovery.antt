@@ -69,3 +69,26 @@ ResumesAfterBothFailed =
     ∷ did quiet ∷ did quiet ∷ did quiet ∷ did quiet ∷ did (acked out (1 ∷ []) (rec_of 2 30 ∷ [])) ∷ [])
     last
     × (last.settled ≡ [] ∷ [] ∷ [] ∷ [])
+
+-- one batch of a rec that is not selected
+abbrev pub one_dropped : System
+one_dropped = one_select ((rec_of 1 5 ∷ []) ∷ [])
+
+-- the input and the select keep nothing, and the output stays as it is
+abbrev pub output_alone : Choice
+output_alone = record {
+  cuts = At ((0 ∷ []) ∷ []) ∷ At ((0 ∷ []) ∷ []) ∷ Present ∷ [];
+  notes = ((0 ∷ []) ∷ []) ∷ ((0 ∷ []) ∷ []) ∷ ((0 ∷ []) ∷ []) ∷ [];
+}
+
+-- The select takes the rec and fails, and the output settles the epoch, to which nothing will come. A recovery undoes all
+-- that happened, and yet the epoch stays settled at the output: it is acknowledged before its batch is sent anew.
+abbrev pub AcknowledgesWhatIsToCome : Type 0
+AcknowledgesWhatIsToCome =
+    (last : Machine)
+    × Run one_dropped (first_state one_dropped)
+    (Inject src ∷ Deliver src_to_big None ∷ Fail (big ∷ []) ∷ Progress ∷ Recover ∷ Ack out ∷ [])
+    (did quiet ∷ did quiet ∷ did quiet ∷ did quiet ∷ did (cuts output_alone) ∷ did (acked out (0 ∷ []) []) ∷ [])
+    last
+    × (last.history ≡ [])
+    × (last.settled ≡ ((0 ∷ []) ∷ []) ∷ ((0 ∷ []) ∷ []) ∷ [] ∷ [])

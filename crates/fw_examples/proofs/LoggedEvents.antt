@@ -20,7 +20,7 @@ use Rattle.fw_model.specs.Steps.{Steps, CutsTo, with_event, offers, did, quiet, 
 use Rattle.fw_examples.specs.OneSelect.{one_select_flow_of, rec_of}
 use Rattle.fw_examples.specs.LoggedEvents.{two_recs, each_written, none, nothing_restored, nothing_left, LosesAnEpoch, all_restored, RestoresAnEpoch}
 use Rattle.fw_examples.proofs.FrontierFacts.{is_frontier_of, within_all, within_until, not_same}
-use Rattle.fw_examples.proofs.StepFacts.{injects, delivers}
+use Rattle.fw_examples.proofs.StepFacts.{injects, delivers, acknowledges_first_write, acknowledges_second_write}
 use Rattle.fw_examples.proofs.ChoiceFacts.{nothing_covered, covered_in_all, meet_within, within_meet, set_within, canonical, by_three, by_two}
 use Rattle.fw_examples.proofs.OneSelectDone.{named, admissible, complete, all_complete, below_all, progresses, none_failed}
 
@@ -98,7 +98,7 @@ settles_select =
 
 persists_one : Steps each_written select_settled Persist one_persisted (did quiet)
 unfolding policy_of receiver
-persists_one = (one_persisted.writes, refl, refl, refl)
+persists_one = (one_persisted.writes, acknowledges_first_write _ _ refl, refl, refl)
 
 -- ---- one of two events is written
 
@@ -230,7 +230,7 @@ both_acknowledged = record all_settled { bounds = 0 ∷ 0 ∷ 1 ∷ [] }
 
 persists_both : Steps each_written one_persisted Persist both_persisted (did quiet)
 unfolding policy_of receiver
-persists_both = (both_persisted.writes, refl, refl, refl)
+persists_both = (both_persisted.writes, acknowledges_second_write _ _ _ refl refl, refl, refl)
 
 fails_with_both : Steps each_written both_persisted (Fail (1 ∷ [])) failed_with_both (did quiet)
 unfolding kind_of policy_of receiver bounds_of
@@ -308,7 +308,7 @@ settles_all =
 
 acknowledges_both : Steps each_written all_settled (Ack 2) both_acknowledged (did (acked 2 (0 ∷ []) (rec_of 1 20 ∷ rec_of 2 30 ∷ [])))
 unfolding kind_of receiver bounds_of policy_of
-acknowledges_both = (0, record { output = refl; live = refl; next = refl; settled = refl; there = inl (inl (lit< tt)) }, refl, refl)
+acknowledges_both = (0, record { declared = lit< tt; output = refl; live = refl; next = refl; settled = refl; there = inl (inl (lit< tt)) }, refl, refl)
 
 pub restores_an_epoch : RestoresAnEpoch
 restores_an_epoch = (

@@ -13,14 +13,14 @@ use Rattle.fw_flow.specs.declared.step.Step.TheVariants.{Inject, Deliver, Progre
 use Rattle.fw_flow.specs.Dataflow.{kind_of, policy_of, sender, receiver, bounds_of, batches_of}
 use Rattle.fw_flow.specs.NodeFunction.{sends}
 use Rattle.fw_flow.specs.Projection.{phi, psi}
-use Rattle.fw_model.specs.Choice.{Choice, kept, cut_of, IsCandidate, IsConsistent, IsCutWithin, IsChoiceWithin, IsLargest}
+use Rattle.fw_model.specs.Choice.{Choice, kept, cut_of, IsCandidate, IsConsistent, IsCutWithin, IsChoiceWithin, IsLargest, offers_of_writes}
 use Rattle.fw_model.specs.History.{pending, some_at, IsComplete}
 use Rattle.fw_model.specs.Machine.{Machine, first_state, events, front_of, is_failed, checkpoint, acknowledged, in_flight}
-use Rattle.fw_model.specs.Steps.{Steps, Takes, Effect, CutsTo, with_event, offers_of_writes, front_of_cut, did, quiet, cuts, lows, acked}
+use Rattle.fw_model.specs.Steps.{Steps, Takes, Effect, CutsTo, with_event, front_of_cut, did, quiet, cuts, lows, acked}
 use Rattle.fw_examples.specs.OneSelect.{one_select_flow_of, rec_of}
 use Rattle.fw_examples.specs.OneCollection.{two_batches, written_when_asked, first, first_epoch, CollectsTheFirstEpoch}
 use Rattle.fw_examples.proofs.FrontierFacts.{is_frontier_of, within_until}
-use Rattle.fw_examples.proofs.StepFacts.{injects, delivers}
+use Rattle.fw_examples.proofs.StepFacts.{injects, delivers, acknowledges_first_write}
 use Rattle.fw_examples.proofs.ChoiceFacts.{nothing_covered, cover_within, meet_within, set_within, canonical, below_epoch, epoch_named, by_three, by_two}
 use Rattle.fw_examples.proofs.OneSelectDone.{named, admissible, complete, at_sender, progresses, none_failed}
 
@@ -115,11 +115,11 @@ asks = (refl, refl, (λ e. cc), refl, refl)
 
 persists : Steps written_when_asked asked Persist persisted (did quiet)
 unfolding receiver policy_of kind_of bounds_of
-persists = (persisted.writes, refl, refl, refl)
+persists = (persisted.writes, acknowledges_first_write _ _ refl, refl, refl)
 
 acknowledges : Steps written_when_asked persisted (Ack 2) (at_low (none ∷ none ∷ none ∷ []) none_lost) (did (acked 2 (0 ∷ []) (rec_of 1 20 ∷ [])))
 unfolding kind_of receiver bounds_of policy_of
-acknowledges = (0, record { output = refl; live = refl; next = refl; settled = refl; there = inl (inl (lit< tt)) }, refl, refl)
+acknowledges = (0, record { declared = lit< tt; output = refl; live = refl; next = refl; settled = refl; there = inl (inl (lit< tt)) }, refl, refl)
 
 -- ---- the choice is largest, whatever the watermark within epoch 0 and whoever failed
 

@@ -152,7 +152,7 @@ recovers = (
 
 acknowledges : Steps one_dropped undone (Ack 2) acknowledged_early (did (acked 2 (0 ∷ []) []))
 unfolding kind_of receiver bounds_of policy_of
-acknowledges = (0, record { output = refl; live = refl; next = refl; settled = refl; there = inl (inl (lit< tt)) }, refl, refl)
+acknowledges = (0, record { declared = lit< tt; output = refl; live = refl; next = refl; settled = refl; there = inl (inl (lit< tt)) }, refl, refl)
 
 pub acknowledges_what_is_to_come : AcknowledgesWhatIsToCome
 acknowledges_what_is_to_come = (

@@ -1,5 +1,5 @@
 -- How a step of the machine is shown from tests that compute.
-use Rattle.std.proofs.Common.{◌≡◌, ℕ, ◌<◌, Bool, true, false, not, ◌&&◌, List, [], ◌∷◌, refl, sym, ap, ◌∙◌, None, length, ⊎_elim}
+use Rattle.std.proofs.Common.{◌≡◌, ℕ, ◌<◌, Bool, true, false, not, ◌&&◌, ◌||◌, List, [], ◌∷◌, refl, sym, ap, ◌∙◌, None, length, ⊎_elim}
 use Rattle.std.proofs.lemmas.Bool.{false≢true, and_parts, or_cases, not-true}
 use Rattle.std.proofs.lemmas.Cmp.{then_total, on_total, nat_list_cmp_total, lists_total, nat_cmp_total, alike_right}
 use Rattle.std.specs.Cmp.{IsTotalOrder}
@@ -11,8 +11,8 @@ use Rattle.fw_flow.specs.declared.event.Message.{Message}
 use Rattle.fw_flow.specs.declared.step.Step.TheVariants.{Inject, Deliver}
 use Rattle.fw_flow.specs.Dataflow.{System, kind_of, receiver, is_input_kind, is_numbered, batches_of}
 use Rattle.fw_model.specs.History.{message_cmp, is_among, less, pending, injected_count}
-use Rattle.fw_model.specs.Machine.{Machine, events, is_failed}
-use Rattle.fw_model.specs.Steps.{Steps, with_event, did, quiet}
+use Rattle.fw_model.specs.Machine.{Machine, Write, acknowledged, events, is_failed}
+use Rattle.fw_model.specs.Steps.{Steps, with_event, did, quiet, AcknowledgesOldest, is_in_flight}
 
 -- messages are totally ordered
 pub message_order : IsTotalOrder message_cmp
@@ -69,3 +69,11 @@ delivers sys state e m plain among least live = (
   refl,
   refl,
 )
+
+-- the first write is the oldest in flight
+pub acknowledges_first_write : (w : Write) (ws : List Write) → is_in_flight w.progress ≡ true → AcknowledgesOldest (w ∷ ws) (record w { progress = acknowledged } ∷ ws)
+acknowledges_first_write w ws e = record { earlier = []; oldest = w; later = ws; before = refl; in_flight = e; none_earlier = refl; after = refl }
+
+-- the second write is the oldest in flight
+pub acknowledges_second_write : (v w : Write) (ws : List Write) → is_in_flight v.progress ≡ false → is_in_flight w.progress ≡ true → AcknowledgesOldest (v ∷ w ∷ ws) (v ∷ record w { progress = acknowledged } ∷ ws)
+acknowledges_second_write v w ws n e = record { earlier = v ∷ []; oldest = w; later = ws; before = refl; in_flight = e; none_earlier = ap (λ b. b || false) n; after = refl }

@@ -3,8 +3,8 @@
 #![tactic(auto)]
 
 mod inclusions;
-mod loop_counts_up;
 mod logged_events;
+mod loop_counts_up;
 mod one_collection;
 mod one_recovery;
 mod one_select_runs;

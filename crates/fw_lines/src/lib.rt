@@ -1,0 +1,16 @@
+//! What the readers of texts share, and the reader of the inputs.
+#![tactic(auto)]
+
+mod line;
+mod numeral;
+mod refusal;
+mod span;
+mod spelling;
+mod text;
+
+pub use line::{Line, Lines, Place};
+pub use numeral::Number;
+pub use refusal::{Code, Refusal};
+pub use span::{Span, Spans};
+pub use spelling::{is_name, number};
+pub use text::{line_at, lines};

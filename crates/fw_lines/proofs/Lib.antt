@@ -1,3 +1,5 @@
+pub mod BatchLaws
 pub mod NumberLaws
 pub mod PartLaws
+pub mod SourceLaws
 pub mod WordLaws

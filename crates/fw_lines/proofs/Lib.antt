@@ -1,4 +1,6 @@
 pub mod BatchLaws
+pub mod FaultLaws
+pub mod InputLaws
 pub mod NumberLaws
 pub mod PartLaws
 pub mod SourceLaws

@@ -1,4 +1,6 @@
 pub mod Batches
+pub mod Faults
+pub mod Inputs
 pub mod Lines
 pub mod Refusal
 pub mod Sources

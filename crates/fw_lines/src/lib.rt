@@ -2,8 +2,11 @@
 #![tactic(auto)]
 
 mod batches;
+mod fault;
+mod inputs;
 mod line;
 mod numeral;
+mod record;
 mod refusal;
 mod sources;
 mod span;
@@ -11,6 +14,8 @@ mod spelling;
 mod text;
 
 pub use batches::Batches;
+pub use fault::ReadFault;
+pub use inputs::read_batches;
 pub use line::{Line, Lines, Place};
 pub use numeral::Number;
 pub use refusal::{Code, Refusal};

@@ -83,7 +83,7 @@ fn part_end(text: &[u8], span: Span, separator: u8) -> usize
 }
 
 // How many bytes stand before the first separator, or all of them.
-fn front_len(bytes: &[u8], separator: u8) -> usize
+pub(crate) fn front_len(bytes: &[u8], separator: u8) -> usize
     ensures { result ≡ prefix_len (λ b. not (b == separator)) bytes.now }
 {
     bytes
@@ -170,7 +170,7 @@ fn begins_with_hash(word: &[u8]) -> bool
     }
 }
 
-fn all_allowed(line: &[u8]) -> bool
+pub(crate) fn all_allowed(line: &[u8]) -> bool
     ensures { result ≡ list_all is_allowed line.now }
 {
     line.iter().all(|byte| is_allowed(*byte))

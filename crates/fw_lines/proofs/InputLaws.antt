@@ -1,5 +1,5 @@
 -- The rules of a line of inputs.
-use Rattle.std.proofs.Common.{◌≡◌, ℕ, ◌+◌, ◌<◌, ◌≤◌, Bool, true, false, not, cond, ◌||◌, List, [], ◌∷◌, ◌++◌, map, length, take, drop, get_or, Option, Some, None, refl, sym, ◌∙◌, ap, arith, suc}
+use Rattle.std.proofs.Common.{◌≡◌, ℕ, ◌+◌, ◌<◌, ◌≤◌, Bool, true, false, not, cond, ◌||◌, List, [], ◌∷◌, map, length, drop, get_or, Option, Some, None, refl, sym, ◌∙◌, ap, arith, suc}
 use Rattle.std.proofs.lemmas.List.{drop_more}
 use Rattle.std.specs.List.{list_any, prefix_len, filter_map, cons_option}
 use Rattle.std.proofs.lemmas.Bool.Decides.{nat_tests}
@@ -10,11 +10,8 @@ use Rattle.fw_lines.specs.Sources.{node_of}
 use Rattle.fw_bag.specs.Bag.{bag_sum, with_rec}
 use Rattle.fw_bag.specs.declared.rec.Rec.{Rec}
 use Rattle.fw_bag.proofs.BagLaws.{bag_sum-with_rec}
-use Rattle.fw_lines.specs.declared.refusal.Code.{Code}
-use Rattle.fw_lines.specs.declared.record.RecordWord.{RecordWord}
-use Rattle.fw_lines.specs.declared.record.RecordWord.TheVariants.{Sound, Large, Broken}
 use Rattle.fw_lines.specs.declared.span.Span.{Span}
-use Rattle.fw_lines.specs.Inputs.{is_colon, words_fault, broken_rule, record_of, spelled_rec, is_large, value_fault, count_fault, form_fault, fault_in}
+use Rattle.fw_lines.specs.Inputs.{record_of, spelled_rec, is_large, value_fault, count_fault, form_fault, fault_in}
 use Rattle.fw_lines.specs.Lines.{bytes_at}
 
 head-lt : (b c : Bool) (n m : ℕ) → (b || c) ≡ true → (c ≡ true → n < m) → cond (not b) (1 + n) 0 < suc m
@@ -63,7 +60,7 @@ count_sound count h = grind (arith, nat_tests, h)
 -- the rule that a line of two words or more breaks
 pub fault_in-parts : (text : List ℕ) (sources : List (List ℕ × ℕ)) (words records : List Span) (batches : List (ℕ × List (List Rec))) (d : Span) → 2 ≤ length words → records ≡ drop 2 words
     → option_or (form_fault (bytes_at text (get_or words 0 d)) (bytes_at text (get_or words 1 d)) (map (bytes_at text) records)) (value_fault (node_of sources (bytes_at text (get_or words 1 d))) (map (bytes_at text) records) (option_map_or (λ node. length (batches_at batches node)) (node_of sources (bytes_at text (get_or words 1 d))) 0))
-        ≡ fault_in text sources words batches
+    ≡ fault_in text sources words batches
 fault_in-parts text sources [] records batches d h e = absurd (omega arith)
 fault_in-parts text sources (w ∷ []) records batches d h e = absurd (omega arith)
 fault_in-parts text sources (first ∷ name ∷ others) records batches d h e =

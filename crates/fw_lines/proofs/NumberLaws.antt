@@ -1,5 +1,5 @@
 -- The values of digits.
-use Rattle.std.proofs.Common.{◌≡◌, ℕ, ◌+◌, ◌*◌, ◌^◌, ◌<◌, ◌≤◌, nat_lt, Bool, true, false, ◌&&◌, not, ◌==◌, cond, List, [], ◌∷◌, length, take, get_or, Option, Some, None, refl, sym, ◌∙◌, ap, arith}
+use Rattle.std.proofs.Common.{◌≡◌, ℕ, ◌+◌, ◌*◌, ◌^◌, ◌<◌, ◌≤◌, Bool, true, false, ◌&&◌, not, ◌==◌, List, [], ◌∷◌, length, take, get_or, Some, None, refl, sym, ◌∙◌, ap, arith}
 use Rattle.std.proofs.lemmas.Bool.Decides.{nat_tests}
 use Rattle.std.proofs.lemmas.Int.Digits.{digits_value_more}
 use Rattle.std.proofs.lemmas.List.{take_all}
@@ -7,11 +7,7 @@ use Rattle.std.proofs.lemmas.Str.Parse.{digits_value-take-le}
 use Rattle.std.specs.Char.{digit_value, is_ascii_digit}
 use Rattle.std.specs.List.{list_all}
 use Rattle.std.specs.Str.Parse.{digits_value, AllDigits}
-use Rattle.fw_lines.specs.Spelling.{is_numeral}
-
--- the number, if it is below 2^64
-abbrev pub if_small : ℕ → Option ℕ
-if_small n = cond (nat_lt n (2 ^ 64)) (Some n) None
+use Rattle.fw_lines.specs.Spelling.{is_numeral, if_small}
 
 some_small : (n m : ℕ) → Some m ≡ if_small n → (m ≡ n) × (n < 2 ^ 64)
 some_small n m e = (grind (arith, nat_tests, e), grind (arith, nat_tests, e))

@@ -24,7 +24,7 @@ some_word (x ∷ xs) h = refl
 pub is_word_part : (text : List ℕ) (from to : ℕ) → to ≤ length text → is_word (slice_range text from to) ≡ nat_lt from to
 is_word_part text from to h =
     elim (nat_lt from to) as (λ b. nat_lt from to ≡ b → is_word (slice_range text from to) ≡ b) [
-        true ↦ λ e. some_word (slice_range text from to) (grind (arith, nat_tests, e, length-slice_range text from to h))
+      | true ↦ λ e. some_word (slice_range text from to) (grind (arith, nat_tests, e, length-slice_range text from to h))
       | false ↦ λ e. empty_none (slice_range text from to) (grind (arith, nat_tests, e, length-slice_range text from to h))
     ] refl
 

@@ -1,5 +1,5 @@
 -- The grammar of the inputs.
-use Rattle.std.specs.Prelude.{◌≡◌, ℕ, ◌+◌, ◌^◌, ◌<◌, ◌≤◌, ◌==◌, nat_le, Bool, true, false, ◌&&◌, List, [], ◌∷◌, map, length, filter, if◌then◌else◌, Option, Some, None, codes, ◌⊎◌}
+use Rattle.std.specs.Prelude.{◌≡◌, ℕ, ◌^◌, ◌<◌, ◌≤◌, ◌==◌, nat_le, Bool, true, false, ◌&&◌, List, [], ◌∷◌, map, length, filter, if◌then◌else◌, Option, Some, None, codes, ◌⊎◌}
 use Rattle.std.specs.List.{list_any, list_all, before_first, after_first, filter_map}
 use Rattle.std.specs.Option.{option_map_or, option_or}
 use Rattle.std.specs.Str.{bytes_eq}
@@ -13,9 +13,9 @@ use Rattle.fw_lines.specs.declared.refusal.Code.{Code}
 use Rattle.fw_lines.specs.declared.refusal.Code.TheVariants.{I1, I2, I3, I4, I5}
 use Rattle.fw_lines.specs.declared.refusal.Refusal.{Refusal}
 use Rattle.fw_lines.specs.declared.span.Span.{Span}
-use Rattle.fw_lines.specs.Batches.{batches_at}
+use Rattle.fw_lines.specs.Batches.{batches_at, count_at}
 use Rattle.fw_lines.specs.Faults.{IsSound, IsFirstFault, IsOfWhole}
-use Rattle.fw_lines.specs.Lines.{Said, said_lines, is_allowed, bytes_at}
+use Rattle.fw_lines.specs.Lines.{Said, said_lines, is_allowed, words_at}
 use Rattle.fw_lines.specs.Sources.{node_of}
 use Rattle.fw_lines.specs.Spelling.{is_name, number_of}
 
@@ -79,7 +79,8 @@ number_fault records = if list_any (λ word. is_large (record_of word)) records 
 abbrev pub count_fault : ℕ → Option Code
 count_fault count = if nat_le (2 ^ 20) count then Some I5 else None
 
--- the rule that a line of a good form breaks, by the node that it names, if there is one, its record words and how many batches the node has
+-- the rule that a line of a good form breaks: by the node that it names, if there is one, its record words and how many
+-- batches the node has
 abbrev pub value_fault : Option ℕ → List (List ℕ) → ℕ → Option Code
 value_fault source records count = option_or (source_fault source) (option_or (number_fault records) (count_fault count))
 
@@ -125,7 +126,7 @@ line_fault sources before line = fault_of sources (count_of sources before line.
 -- the rule that a line breaks whose words are these parts of a text, after these batches
 abbrev pub fault_in : List ℕ → List (List ℕ × ℕ) → List Span → List (ℕ × List (List Rec)) → Option Code
 fault_in text sources words batches =
-    fault_of sources (option_map_or (λ node. length (batches_at batches node)) (source_of sources (map (bytes_at text) words)) 0) (map (bytes_at text) words)
+    fault_of sources (count_at batches (source_of sources (words_at text words))) (words_at text words)
 
 -- the longest text, in bytes
 abbrev pub size_limit : ℕ
@@ -140,4 +141,5 @@ pub record IsAccepted (text : List ℕ) (sources : List (List ℕ × ℕ)) (batc
 -- the refusal is the first rule that the text breaks: of its size, or of its first line that breaks one
 abbrev pub IsRefused : List ℕ → List (List ℕ × ℕ) → Refusal → Type 0
 IsRefused text sources refusal =
-    ((size_limit < length text) × IsOfWhole I5 refusal) ⊎ ((length text ≤ size_limit) × IsFirstFault (line_fault sources) (said_lines text) refusal)
+    ((size_limit < length text) × IsOfWhole I5 refusal)
+    ⊎ ((length text ≤ size_limit) × IsFirstFault (line_fault sources) (said_lines text) refusal)

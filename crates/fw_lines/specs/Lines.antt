@@ -1,5 +1,5 @@
 -- What the lines of a text say.
-use Rattle.std.specs.Prelude.{ℕ, ◌+◌, ◌≤◌, ◌==◌, nat_le, Bool, true, false, ◌&&◌, List, [], ◌∷◌, map, length, drop, filter, if◌then◌else◌, Option, Some, None, slice_range, IfSome}
+use Rattle.std.specs.Prelude.{ℕ, ◌+◌, ◌≤◌, ◌==◌, nat_le, Bool, true, false, ◌&&◌, List, [], ◌∷◌, map, length, drop, filter, if◌then◌else◌, Option, Some, None, slice_range}
 use Rattle.std.specs.List.{slice_split, list_all}
 use Rattle.fw_lines.specs.declared.line.Line.{Line}
 use Rattle.fw_lines.specs.declared.line.Place.{Place}
@@ -58,9 +58,13 @@ said_lines text = said_from 1 (lines_of text)
 abbrev pub bytes_at : List ℕ → Span → List ℕ
 bytes_at text span = slice_range text span.from span.to
 
+-- the bytes of parts of a text
+abbrev pub words_at : List ℕ → List Span → List (List ℕ)
+words_at text words = map (bytes_at text) words
+
 -- what a line whose words are parts of a text says
 abbrev pub said_in : List ℕ → Line → Said
-said_in text line = record { number = line.number; words = map (bytes_at text) line.words }
+said_in text line = record { number = line.number; words = words_at text line.words }
 
 -- the lines that are left from a place on
 abbrev pub left : List ℕ → Option Place → List Said

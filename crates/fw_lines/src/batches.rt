@@ -1,12 +1,13 @@
-ghost use Rattle.std.specs.Prelude.{◌≡◌, ℕ, ◌==◌, [], ◌∷◌, ◌++◌, length, map, OnOk, OnErr, if◌then◌else◌};
-ghost use Rattle.fw_lines.specs.Batches.{batches_at, batches_of_entries};
+ghost use Rattle.std.specs.Prelude.{◌≡◌, [], length, map, OnOk, OnErr};
+ghost use Rattle.fw_lines.specs.Batches.{batches_at, batches_of_entries, AddsBatch, KeepsBatches};
 
 use fw_bag::Bag;
 use indexmap::IndexMap;
 use std::alloc::{AllocError, Global};
 use std::marker::Model;
 
-/// The batches of the inputs: for each node its batches, of which the x-th, counted from 0, is that of epoch x.
+/// The batches of the inputs: for each node its batches, of which the x-th, counted from 0, is that
+/// of epoch x.
 #[derive(Debug, Drop)]
 pub struct Batches {
     alloc: Global,
@@ -53,9 +54,8 @@ impl Batches {
 
     /// Adds the batch of the next epoch of a node. It fails where memory is refused.
     pub fn push(&mut self, node: u32, batch: Bag) -> Result<(), AllocError>
-        ensures ok { OnOk result ((other : ℕ) → batches_at self.new other
-            ≡ (if node == other then batches_at self.old other ++ batch.recs ∷ [] else batches_at self.old other)) }
-        ensures err { OnErr result ((other : ℕ) → batches_at self.new other ≡ batches_at self.old other) }
+        ensures ok { OnOk result (AddsBatch self.old self.new node batch.recs) }
+        ensures err { OnErr result (KeepsBatches self.old self.new) }
     {
         push_batch(&mut self.of_node, self.alloc, node, batch)
     }
@@ -67,9 +67,10 @@ fn push_batch(
     node: u32,
     batch: Bag,
 ) -> Result<(), AllocError>
-    ensures ok { OnOk result ((other : ℕ) → batches_at (batches_of_entries of_node.new.entries) other
-        ≡ (if node == other then batches_at (batches_of_entries of_node.old.entries) other ++ batch.recs ∷ [] else batches_at (batches_of_entries of_node.old.entries) other)) }
-    ensures err { OnErr result ((other : ℕ) → batches_at (batches_of_entries of_node.new.entries) other ≡ batches_at (batches_of_entries of_node.old.entries) other) }
+    ensures ok { OnOk result (AddsBatch (batches_of_entries of_node.old.entries)
+        (batches_of_entries of_node.new.entries) node batch.recs) }
+    ensures err { OnErr result (KeepsBatches (batches_of_entries of_node.old.entries)
+        (batches_of_entries of_node.new.entries)) }
 {
     match of_node.get_mut(&node) {
         Some(batches) => batches.push(batch)?,

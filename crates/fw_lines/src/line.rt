@@ -44,3 +44,8 @@ pub struct Place {
     /// How many lines stand before it.
     pub passed: u32,
 }
+
+impl Place {
+    /// The first line's place.
+    pub const START: Place = Place { from: 0, passed: 0 };
+}

@@ -46,7 +46,11 @@ pub fn read_record(word: &[u8]) -> RecordWord
 fn rule_without_colon(word: &[u8]) -> Code
     ensures { result ≡ (if list_all is_allowed word.now then Code.I4 else Code.I1) }
 {
-    if all_allowed(word) { Code::I4 } else { Code::I1 }
+    if all_allowed(word) {
+        Code::I4
+    } else {
+        Code::I1
+    }
 }
 
 // How many bytes stand before the first colon.

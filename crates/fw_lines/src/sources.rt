@@ -1,12 +1,12 @@
-ghost use Rattle.std.specs.Prelude.{◌≡◌, [], ◌∷◌, ◌++◌, OnOk, OnErr, IsNone, IfOk};
-ghost use Rattle.indexmap.specs.IndexMap.{IndexMap, keys};
+ghost use Rattle.std.specs.Prelude.{◌≡◌, [], ◌∷◌, ◌++◌, OnOk, OnErr, IsNone};
+ghost use Rattle.indexmap.specs.IndexMap.{IndexMap};
 ghost use Rattle.fw_lines.specs.Sources.{node_of, named};
 
 use indexmap::IndexMap;
 use std::alloc::{AllocError, Global};
 use std::marker::Model;
 
-/// The names of the inputs, each with the number of its node, in the order in which they were added.
+/// The names of the inputs, each with the number of its node, in the order of their adding.
 #[derive(Debug, Drop)]
 pub struct SourceNames {
     alloc: Global,

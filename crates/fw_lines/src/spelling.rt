@@ -1,17 +1,17 @@
-ghost use Rattle.std.specs.Prelude.{◌≡◌, ◌^◌, nat_lt, ◌+◌, ◌*◌, ◌-◌, if◌then◌else◌};
+ghost use Rattle.std.specs.Prelude.{◌≡◌, ◌+◌, ◌*◌};
 ghost use Rattle.std.specs.Char.{is_ascii_digit, digit_value};
 ghost use Rattle.std.specs.Int.{IsInRange};
 ghost use Rattle.std.specs.List.{list_all};
 ghost use Rattle.std.specs.Str.Parse.{digits_value, AllDigits};
 ghost use Rattle.fw_lines.specs.Spelling as spec;
-ghost use Rattle.fw_lines.specs.Spelling.{number_of, is_numeral};
+ghost use Rattle.fw_lines.specs.Spelling.{number_of, if_small};
 
 use crate::numeral::Number;
 
 /// The longest name, in bytes.
 const NAME_LIMIT: usize = 32;
 
-/// Whether a word is a name: 1 to 32 of `a` to `z`, `0` to `9` and `_`, of which the first is a letter.
+/// Whether a word is a name: 1 to 32 of `a` to `z`, `0` to `9` and `_`, the first of them a letter.
 pub fn is_name(word: &[u8]) -> bool
     ensures { result ≡ spec.is_name word.now }
 {
@@ -74,7 +74,7 @@ fn all_digits(word: &[u8]) -> bool
 // The value of digits, if it is below 2^64.
 fn value_of(digits: &[u8]) -> Option<u64>
     requires { AllDigits 10 digits.now }
-    ensures { result ≡ (if nat_lt (digits_value 10 digits.now) (2 ^ 64) then Some (digits_value 10 digits.now) else None) }
+    ensures { result ≡ if_small (digits_value 10 digits.now) }
 {
     let mut value = 0;
     for digit in digits {
@@ -86,9 +86,7 @@ fn value_of(digits: &[u8]) -> Option<u64>
 // The number that has one digit more, if it is below 2^64.
 fn with_digit(value: u64, digit: u8) -> Option<u64>
     requires { IsInRange 48 57 digit }
-    ensures { result ≡ (if nat_lt (value * 10 + digit_value digit) (2 ^ 64) then Some (value * 10 + digit_value digit) else None) }
+    ensures { result ≡ if_small (value * 10 + digit_value digit) }
 {
-    value
-        .checked_mul(10)?
-        .checked_add(u64::from(digit - b'0'))
+    value.checked_mul(10)?.checked_add(u64::from(digit - b'0'))
 }

@@ -21,7 +21,7 @@ pub fn lines(alloc: Global, text: &[u8]) -> Result<Lines, AllocError>
     ensures { IfOk result (λ lines. map (said_in text.now) lines ≡ said_lines text.now) }
 {
     let mut items = Vec::new(alloc);
-    let mut place = Some(Place { from: 0, passed: 0 });
+    let mut place = Some(Place::START);
     while let Some(at) = place {
         let (line, next) = line_at(alloc, text, at)?;
         items.push(line)?;
@@ -43,8 +43,12 @@ pub fn line_at(
     ensures next { IfOk result (λ found. IfSome found.1 (IsPlace text.now)) }
     ensures later { IfOk result (λ found. IfSome found.1 (λ next. place.from < next.from)) }
 {
-    let to = part_end(text, Span { from: place.from, to: text.len() }, LINE_FEED);
-    let words = said_words(alloc, text, Span { from: place.from, to })?;
+    let rest = Span {
+        from: place.from,
+        to: text.len(),
+    };
+    let to = part_end(text, rest, LINE_FEED);
+    let words = said_words(alloc, text, Span { to, ..rest })?;
     let line = Line {
         number: place.passed + 1,
         words: Spans { items: words },
@@ -58,7 +62,8 @@ fn place_after(text: &[u8], place: Place, to: usize) -> Option<Place>
     requires within { to ≤ length text.now }
     requires short { length text.now < 2 ^ 32 - 1 }
     requires passed { place.passed ≤ place.from }
-    ensures { result ≡ (if to == length text.now then None else Some (record { from = to + 1; passed = place.passed + 1 })) }
+    ensures { result ≡ (if to == length text.now then None
+        else Some (record { from = to + 1; passed = place.passed + 1 })) }
 {
     if to == text.len() {
         return None;
@@ -75,9 +80,11 @@ fn part_end(text: &[u8], span: Span, separator: u8) -> usize
     requires within { span.to ≤ length text.now }
     ensures from { span.from ≤ result }
     ensures to { result ≤ span.to }
-    ensures last { result ≡ span.to → slice_split (λ b. b == separator) (bytes_at text.now span) ≡ bytes_at text.now span ∷ [] }
+    ensures last { result ≡ span.to
+        → slice_split (λ b. b == separator) (bytes_at text.now span) ≡ bytes_at text.now span ∷ [] }
     ensures more { result < span.to → slice_split (λ b. b == separator) (bytes_at text.now span)
-        ≡ slice_range text.now span.from result ∷ slice_split (λ b. b == separator) (slice_range text.now (result + 1) span.to) }
+        ≡ slice_range text.now span.from result
+        ∷ slice_split (λ b. b == separator) (slice_range text.now (result + 1) span.to) }
 {
     span.from + front_len(span.of(text), separator)
 }
@@ -86,10 +93,7 @@ fn part_end(text: &[u8], span: Span, separator: u8) -> usize
 pub(crate) fn front_len(bytes: &[u8], separator: u8) -> usize
     ensures { result ≡ prefix_len (λ b. not (b == separator)) bytes.now }
 {
-    bytes
-        .iter()
-        .take_while(|byte| **byte != separator)
-        .count()
+    bytes.iter().take_while(|byte| **byte != separator).count()
 }
 
 // What a line says: its words, none where it is a comment of allowed bytes.
@@ -125,7 +129,14 @@ fn words(alloc: Global, text: &[u8], line: Span) -> Result<Vec<Span>, AllocError
     let mut words = Vec::new(alloc);
     let mut from = Some(line.from);
     while let Some(at) = from {
-        let to = part_end(text, Span { from: at, to: line.to }, SPACE);
+        let to = part_end(
+            text,
+            Span {
+                from: at,
+                to: line.to,
+            },
+            SPACE,
+        );
         push_word(&mut words, Span { from: at, to })?;
         from = after(to, line.to);
     }
@@ -142,8 +153,8 @@ fn after(to: usize, end: usize) -> Option<usize>
 
 // Puts a part at the end, if it is a word.
 fn push_word(words: &mut Vec<Span>, part: Span) -> Result<(), AllocError>
-    ensures { OnOk result
-        (words.new.items ≡ words.old.items ++ (if nat_lt part.from part.to then part ∷ [] else [])) }
+    ensures { OnOk result (words.new.items
+        ≡ words.old.items ++ (if nat_lt part.from part.to then part ∷ [] else [])) }
 {
     if part.from < part.to {
         words.push(part)?;

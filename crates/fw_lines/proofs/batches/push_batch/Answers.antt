@@ -1,4 +1,4 @@
-use Rattle.std.proofs.Common.{ap, sym, ◌∙◌, refl, rules}
+use Rattle.std.proofs.Common.{ap, ◌∙◌}
 use Rattle.fw_lines.specs.Batches.{recs_of}
 use Rattle.fw_lines.proofs.BatchLaws.{recs_found, pushed, kept, recs_of-push, some_found, on_err}
 use Rattle.fw_lines.proofs.batches.push_batch.Goals as goal

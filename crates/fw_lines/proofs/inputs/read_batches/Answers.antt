@@ -1,7 +1,8 @@
-use Rattle.std.proofs.Common.{sym, ◌∙◌, ap, inr, arith}
+use Rattle.std.proofs.Common.{◌∙◌, ap, inr}
 use Rattle.std.proofs.lemmas.Result.{err_from_is_err_and}
 use Rattle.fw_lines.specs.Lines.{left, said_lines}
-use Rattle.fw_lines.proofs.FaultLaws.{read_more, read_broken, if_refused-weaker}
+use Rattle.fw_lines.proofs.FaultLaws.{if_refused-weaker}
+use Rattle.fw_lines.proofs.ReadLaws.{read_more, read_broken}
 use Rattle.fw_lines.proofs.inputs.read_batches.Goals as goal
 
 pub loop-place-preserved : goal.loop-place-preserved

@@ -1,7 +1,7 @@
 use Rattle.std.proofs.Common.{◌+◌, ◌-◌, length, IfSome}
 use Rattle.std.specs.Option.{option_map_or}
 use Rattle.fw_lines.specs.Lines.{left, IsPlace, said_lines}
-use Rattle.fw_lines.proofs.FaultLaws.{IsRead}
+use Rattle.fw_lines.proofs.ReadLaws.{IsRead}
 use Rattle.fw_lines.proofs.inputs.read_batches.Given as goal
 
 abbrev pub invariant-loop-place : goal.invariant-loop-place

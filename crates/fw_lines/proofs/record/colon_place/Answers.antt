@@ -1,4 +1,4 @@
-use Rattle.std.proofs.Common.{◌<◌, length, arith}
+use Rattle.std.proofs.Common.{arith}
 use Rattle.fw_lines.specs.Inputs.{is_colon}
 use Rattle.fw_lines.proofs.InputLaws.{front-lt-length}
 use Rattle.fw_lines.proofs.record.colon_place.Goals as goal

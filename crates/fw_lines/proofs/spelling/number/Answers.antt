@@ -1,4 +1,4 @@
-use Rattle.std.proofs.Common.{sym, ◌∙◌}
+use Rattle.std.proofs.Common.{sym}
 use Rattle.fw_lines.proofs.NumberLaws.{digits_from_numeral}
 use Rattle.fw_lines.proofs.spelling.number.Goals as goal
 

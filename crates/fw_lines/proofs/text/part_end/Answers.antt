@@ -1,4 +1,4 @@
-use Rattle.std.proofs.Common.{◌≡◌, ◌==◌, not, length, arith, ◌+◌, ◌≤◌, ◌<◌, ap, ◌∙◌}
+use Rattle.std.proofs.Common.{◌≡◌, ◌==◌, not, arith, ap, ◌∙◌}
 use Rattle.std.proofs.lemmas.List.Sums.{prefix_len-le-length}
 use Rattle.std.specs.List.{prefix_len}
 use Rattle.fw_lines.specs.Lines.{bytes_at}

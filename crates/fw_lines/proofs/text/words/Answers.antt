@@ -1,4 +1,3 @@
-use Rattle.std.proofs.Common.{refl, ◌∙◌, ap, sym}
 use Rattle.fw_lines.specs.Lines.{words_of, bytes_at}
 use Rattle.fw_lines.proofs.WordLaws.{words_step, next_within}
 use Rattle.fw_lines.proofs.text.words.Goals as goal

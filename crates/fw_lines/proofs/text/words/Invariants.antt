@@ -1,4 +1,4 @@
-use Rattle.std.proofs.Common.{◌≡◌, ◌+◌, ◌-◌, ◌≤◌, ◌++◌, [], map, length, IfSome, Option}
+use Rattle.std.proofs.Common.{◌≡◌, ◌+◌, ◌-◌, ◌≤◌, ◌++◌, map, IfSome}
 use Rattle.std.specs.Option.{option_map_or}
 use Rattle.fw_lines.specs.Lines.{bytes_at, words_of}
 use Rattle.fw_lines.proofs.WordLaws.{words_left}

@@ -1,5 +1,4 @@
-use Rattle.std.proofs.Common.{ap, sym, ◌∙◌}
-use Rattle.fw_lines.proofs.SourceLaws.{node_of-named, named-append, added}
+use Rattle.fw_lines.proofs.SourceLaws.{added}
 use Rattle.fw_lines.proofs.sources.SourceNames.add.Goals as goal
 
 pub returns-clause-ok : goal.returns-clause-ok

@@ -1,4 +1,4 @@
-use Rattle.std.proofs.Common.{ap, sym, ◌∙◌}
+use Rattle.std.proofs.Common.{sym, ◌∙◌}
 use Rattle.fw_lines.proofs.SourceLaws.{node_of-named}
 use Rattle.fw_lines.proofs.sources.SourceNames.node_of.Goals as goal
 

@@ -1,0 +1,72 @@
+-- The lines of inputs, read one after another.
+use Rattle.std.proofs.Common.{◌≡◌, ℕ, List, [], ◌∷◌, ◌++◌, map, length, Option, Some, None, refl, sym, ◌∙◌, ap, subst, arith, inl, inr}
+use Rattle.std.proofs.lemmas.List.{map-append}
+use Rattle.std.proofs.lemmas.List.Elements.{filter-append}
+use Rattle.std.specs.List.{filter}
+use Rattle.std.specs.Option.{option_map_or}
+use Rattle.fw_bag.specs.declared.rec.Rec.{Rec}
+use Rattle.fw_lines.specs.declared.line.Line.{Line}
+use Rattle.fw_lines.specs.declared.refusal.Refusal.{Refusal}
+use Rattle.fw_lines.specs.declared.span.Span.{Span}
+use Rattle.fw_lines.specs.Batches.{batches_at}
+use Rattle.fw_lines.specs.Faults.{IsSound, IsFirstFault}
+use Rattle.fw_lines.specs.Inputs.{line_fault, batches_of, fault_in, source_of, fault_of, batch_of, is_batch_of, IsAccepted, IsRefused}
+use Rattle.fw_lines.specs.Lines.{Said, bytes_at, said_in, said_lines}
+use Rattle.fw_lines.proofs.FaultLaws.{IsSoundSoFar, sound_more, first_fault, none_left, sound_or_first, one_first}
+
+-- what the code's loop knows: some lines are done, none of them breaks a rule, and the batches are theirs
+pub record IsRead (sources : List (List ℕ × ℕ)) (lines left : List Said) (batches : List (ℕ × List (List Rec))) : Type 0 where
+  pub done : List Said
+  pub so_far : IsSoundSoFar (line_fault sources) lines left done
+  pub value : (node : ℕ) → batches_at batches node ≡ batches_of sources done node
+
+-- the batches that are read count as those of the lines that are done
+pub fault_done : (sources : List (List ℕ × ℕ)) (text : List ℕ) (batches : List (ℕ × List (List Rec))) (done : List Said) (words : List Span) (number : ℕ) → ((node : ℕ) → batches_at batches node ≡ batches_of sources done node) → line_fault sources done (record { number = number; words = map (bytes_at text) words }) ≡ fault_in text sources words batches
+fault_done sources text batches done words number h = ap (λ count. fault_of sources count (map (bytes_at text) words)) (counts (source_of sources (map (bytes_at text) words)))
+  where
+    counts : (source : Option ℕ) → option_map_or (λ node. length (batches_of sources done node)) source 0 ≡ option_map_or (λ node. length (batches_at batches node)) source 0
+    counts None = refl
+    counts (Some node) = ap length (sym (h node))
+
+pub batches_of-push : (sources : List (List ℕ × ℕ)) (done : List Said) (line : Said) (node : ℕ) → batches_of sources (done ++ line ∷ []) node ≡ batches_of sources done node ++ batches_of sources (line ∷ []) node
+batches_of-push sources done line node =
+    ap (map (λ (l : Said). batch_of l.words)) (filter-append (is_batch_of sources node) done (line ∷ []))
+    ∙ map-append (λ (l : Said). batch_of l.words) (filter (is_batch_of sources node) done) (filter (is_batch_of sources node) (line ∷ []))
+
+-- one line more is read
+pub read_more : (sources : List (List ℕ × ℕ)) (text : List ℕ) (lines left next : List Said) (line : Line) (batches new : List (ℕ × List (List Rec))) → IsRead sources lines left batches → left ≡ said_in text line ∷ next
+    → fault_in text sources line.words batches ≡ None
+    → ((node : ℕ) → batches_at new node ≡ batches_at batches node ++ batches_of sources (said_in text line ∷ []) node)
+    → IsRead sources lines next new
+read_more sources text lines left next line batches new read e sound value =
+    let so_far = subst (λ ls. IsSoundSoFar (line_fault sources) lines ls read.done) e read.so_far in
+    record {
+      done = read.done ++ said_in text line ∷ [];
+      so_far = sound_more (line_fault sources) lines read.done (said_in text line) next so_far (fault_done sources text batches read.done line.words line.number read.value ∙ sound);
+      value = λ node. value node ∙ ap (λ bs. bs ++ batches_of sources (said_in text line ∷ []) node) (read.value node) ∙ sym (batches_of-push sources read.done (said_in text line) node);
+    }
+
+-- the next line is the first that breaks a rule
+pub read_broken : (sources : List (List ℕ × ℕ)) (text : List ℕ) (lines left next : List Said) (line : Line) (batches : List (ℕ × List (List Rec))) (refusal : Refusal) → IsRead sources lines left batches → left ≡ said_in text line ∷ next
+    → fault_in text sources line.words batches ≡ Some refusal.code → refusal.line ≡ line.number
+    → IsFirstFault (line_fault sources) lines refusal
+read_broken sources text lines left next line batches refusal read e broken number =
+    first_fault (line_fault sources) lines read.done (said_in text line) next refusal (subst (λ ls. IsSoundSoFar (line_fault sources) lines ls read.done) e read.so_far) (fault_done sources text batches read.done line.words line.number read.value ∙ broken) number
+
+-- all lines are read
+pub read_all : (sources : List (List ℕ × ℕ)) (lines : List Said) (batches : List (ℕ × List (List Rec))) → IsRead sources lines [] batches → IsSound (line_fault sources) lines × ((node : ℕ) → batches_at batches node ≡ batches_of sources lines node)
+read_all sources lines batches read =
+    let all = none_left (line_fault sources) lines read.done read.so_far in
+    (all.0, λ node. read.value node ∙ ap (λ ls. batches_of sources ls node) all.1)
+
+-- an accepted text is not refused
+pub accepted_or_refused : (text : List ℕ) (sources : List (List ℕ × ℕ)) (batches : List (ℕ × List (List Rec))) (refusal : Refusal) → IsAccepted text sources batches → IsRefused text sources refusal → ⊥
+accepted_or_refused text sources batches refusal accepted (inl large) = absurd (omega (arith, accepted.size, large.0))
+accepted_or_refused text sources batches refusal accepted (inr first) = sound_or_first (line_fault sources) (said_lines text) refusal accepted.sound first.1
+
+-- a text is refused by one rule at one line
+pub one_refusal : (text : List ℕ) (sources : List (List ℕ × ℕ)) (first second : Refusal) → IsRefused text sources first → IsRefused text sources second → first ≡ second
+one_refusal text sources first second (inl a) (inl b) = a.1 ∙ sym b.1
+one_refusal text sources first second (inl a) (inr b) = absurd (omega (arith, a.0, b.0))
+one_refusal text sources first second (inr a) (inl b) = absurd (omega (arith, a.0, b.0))
+one_refusal text sources first second (inr a) (inr b) = one_first (line_fault sources) (said_lines text) first second a.1 b.1

@@ -1,0 +1,53 @@
+ghost use Rattle.std.specs.Prelude.{◌≡◌, [], ◌∷◌, ◌++◌, OnOk, OnErr, IsNone};
+ghost use Rattle.indexmap.specs.IndexMap.{IndexMap};
+ghost use Rattle.fw_lines.specs.Sources.{node_of, named};
+
+use indexmap::IndexMap;
+use std::alloc::{AllocError, Global};
+use std::marker::Model;
+
+/// The names of the inputs, each with the number of its node, in the order of their adding.
+#[derive(Debug, Drop)]
+pub struct SourceNames {
+    alloc: Global,
+    nodes: IndexMap<Vec<u8>, u32>,
+}
+
+impl Model for SourceNames {
+    ghost use Rattle.std.specs.Prelude.{List, ℕ, ◌≡◌};
+    ghost use Rattle.fw_lines.specs.Sources.{named};
+
+    ghost Value = { List (List ℕ × ℕ) };
+
+    ghost view = { λ s. named s.nodes.entries };
+}
+
+impl SourceNames {
+    /// No names yet, in memory from `alloc`.
+    pub fn new(alloc: Global) -> Self
+        ensures { result ≡ [] }
+    {
+        SourceNames {
+            alloc,
+            nodes: IndexMap::new(alloc),
+        }
+    }
+
+    /// Adds a name that is not there. It fails where memory is refused.
+    pub fn add(&mut self, node: u32, name: &[u8]) -> Result<(), AllocError>
+        requires { IsNone (node_of self.old name.now) }
+        ensures ok { OnOk result (self.new ≡ self.old ++ (name.now, node) ∷ []) }
+        ensures err { OnErr result (self.new ≡ self.old) }
+    {
+        let name = Vec::from_slice(self.alloc, name)?;
+        self.nodes.insert(name, node)?;
+        Ok(())
+    }
+
+    /// The node of a name.
+    pub fn node_of(&self, name: &[u8]) -> Option<u32>
+        ensures { result ≡ node_of self.now name.now }
+    {
+        self.nodes.get(name).copied()
+    }
+}

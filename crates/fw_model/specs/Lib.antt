@@ -1,5 +1,6 @@
 pub mod Choice
 pub mod Denotation
 pub mod History
+pub mod LawsOfProjections
 pub mod Machine
 pub mod Steps

@@ -1,0 +1,2 @@
+pub mod PhiLaws
+pub mod StampLaws

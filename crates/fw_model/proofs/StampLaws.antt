@@ -58,14 +58,26 @@ not_below-nest : (t : Stamp) (d : ℕ) → leq [] (nest t d) ≡ true → ⊥
 not_below-nest [] d p = cc
 not_below-nest (y ∷ t) d p = cc
 
--- a stamp of a loop is an outer stamp with a counter
-pub in_loop : (u b : Stamp) (m : ℕ) → leq u (nest b m) ≡ true → (x : Stamp) × (c : ℕ) × (u ≡ nest x c) × (leq x b ≡ true) × (c ≤ m)
+-- the stamp is one of the loop: a stamp of its outer domain with a counter
+pub record IsInLoop (b : Stamp) (m : ℕ) (u : Stamp) : Type 0 where
+  pub nested : u ≡ nest (outer u) (counter u)
+  pub outside : leq (outer u) b ≡ true
+  pub counted : counter u ≤ m
+
+pub in_loop : (u b : Stamp) (m : ℕ) → leq u (nest b m) ≡ true → IsInLoop b m u
 in_loop [] b m p = absurd (not_below-nest b m p)
 in_loop (x ∷ s) b m p =
     let e = nest-outer x s in
     let q : leq (nest (outer (x ∷ s)) (counter (x ∷ s))) (nest b m) ≡ true = sym (ap (λ t. leq t (nest b m)) e) ∙ p in
     let r = leq-nest (outer (x ∷ s)) b (counter (x ∷ s)) m q in
-    (outer (x ∷ s), counter (x ∷ s), e, r.0, r.1)
+    record { nested = e; outside = r.0; counted = r.1 }
+
+-- the same stamp on the left, and on the right
+pub leq_from : (s t u : Stamp) → s ≡ t → leq s u ≡ true → leq t u ≡ true
+leq_from s t u e l = sym (ap (λ x. leq x u) e) ∙ l
+
+pub leq_to : (s t u : Stamp) → t ≡ u → leq s t ≡ true → leq s u ≡ true
+leq_to s t u e l = sym (ap (λ x. leq s x) e) ∙ l
 
 -- a stamp below one of one coordinate is one of one coordinate
 pub in_line : (u : Stamp) (g : ℕ) → leq u (g ∷ []) ≡ true → (k : ℕ) × (u ≡ k ∷ []) × (k ≤ g)

@@ -66,3 +66,94 @@ PhiOfMeet = (sys : System) (h : List Event) (e : ℕ) (f g : Frontier) → IsSen
 abbrev pub PhiOfEverything : Type 0
 PhiOfEverything = (sys : System) (h : List Event) (e : ℕ) (u : Stamp)
     → phi sys h e (everything (bounds_of sys.flow (sender sys.flow e))) u ≡ everything (bounds_of_edge sys.flow e) u
+
+-- u is inside phi exactly where each stamp of the sender that sends at u or below is inside
+abbrev pub PhiBySendStamps : Type 0
+PhiBySendStamps = (sys : System) (h : List Event) (e : ℕ) (f : Frontier)
+    → SendsByStamp sys.flow (kind_of sys.flow (sender sys.flow e)) → IsSenderFrontier sys.flow e f
+    → (u : Stamp) → in_domain (bounds_of_edge sys.flow e) u ≡ true
+    → (phi sys h e f u ≡ true)
+        ↔ IsSentFrom (bounds_of sys.flow (sender sys.flow e)) (send_stamp sys.flow (sender sys.flow e)) f u
+
+-- u is inside psi exactly where some stamp inside sends at u or above
+abbrev pub PsiBySendStamps : Type 0
+PsiBySendStamps = (sys : System) (e : ℕ) (f : Frontier)
+    → SendsByStamp sys.flow (kind_of sys.flow (sender sys.flow e)) → IsSenderFrontier sys.flow e f
+    → (u : Stamp) → in_domain (bounds_of_edge sys.flow e) u ≡ true
+    → (psi sys e f u ≡ true) ↔ SendsAbove (send_stamp sys.flow (sender sys.flow e)) f u
+
+-- psi is monotone: what is inside a larger frontier can send at more stamps
+abbrev pub PsiIsMonotone : Type 0
+PsiIsMonotone = (sys : System) (e : ℕ) (f g : Frontier) → Within f g → Within (psi sys e f) (psi sys e g)
+
+-- psi of what is inside one of two frontiers is what is inside one of their psis
+abbrev pub PsiOfJoin : Type 0
+PsiOfJoin = (sys : System) (e : ℕ) (f g : Frontier) (u : Stamp)
+    → psi sys e (join f g) u ≡ join (psi sys e f) (psi sys e g) u
+
+-- psi of nothing is nothing
+abbrev pub PsiOfNothing : Type 0
+PsiOfNothing = (sys : System) (e : ℕ) (u : Stamp) → psi sys e nothing u ≡ nothing u
+
+-- what is inside some frontier of a family of frontiers
+pub record IsUnion (family : ℕ → Frontier) (f : Frontier) : Type 0 where
+  pub each_within : (i : ℕ) → Within (family i) f
+  pub from_one : (t : Stamp) → f t ≡ true → (i : ℕ) × (family i t ≡ true)
+
+-- psi of the union of any family is the union of the psis
+abbrev pub PsiOfUnion : Type 0
+PsiOfUnion = (sys : System) (e : ℕ) (family : ℕ → Frontier) (f : Frontier) → IsUnion family f
+    → IsUnion (λ i. psi sys e (family i)) (psi sys e f)
+
+-- Each message that an event makes its node send, outside a sequence, is at the send stamp of the event, its one cause.
+abbrev pub SendsAtSendStamp : Type 0
+SendsAtSendStamp = (sys : System) (p : ℕ) → is_sequence_kind (kind_of sys.flow p) ≡ false
+    → (before : List Event) (v : Event)
+    → AllByRecursion (λ (m : Message). (send_stamp sys.flow p (stamp v) ≡ Some m.at) × (m.causes ≡ stamp v ∷ []))
+        (sends sys p before v)
+
+-- what an event inside a frontier makes its node send is inside psi
+abbrev pub SendsAreInsidePsi : Type 0
+SendsAreInsidePsi = (sys : System) (e : ℕ) (f : Frontier)
+    → SendsByStamp sys.flow (kind_of sys.flow (sender sys.flow e)) → IsSenderFrontier sys.flow e f
+    → (before : List Event) (v : Event) → f (stamp v) ≡ true
+    → AllByRecursion (λ (m : Message). psi sys e f m.at ≡ true) (sends sys (sender sys.flow e) before v)
+
+-- each event of the node is at a stamp of its domain
+abbrev pub AreEventsInDomain : Dataflow → List Event → ℕ → Type 0
+AreEventsInDomain flow h p = AllByRecursion (λ v. in_domain (bounds_of flow p) (stamp v) ≡ true) (events_at flow p h)
+
+-- each message on the edge at a stamp inside phi of the frontier comes from events inside it
+abbrev pub ComesFromInside : System → List Event → ℕ → Frontier → Type 0
+ComesFromInside sys h e f =
+    AllByRecursion (λ (m : Message). phi sys h e f m.at ≡ true → all_inside f m.causes ≡ true) (sent sys h e)
+
+-- each message on an edge at a stamp inside phi comes from events inside, where the sender is no sequence
+abbrev pub InsidePhiComesFromInside : Type 0
+InsidePhiComesFromInside = (sys : System) (h : List Event) (e : ℕ) (f : Frontier)
+    → SendsByStamp sys.flow (kind_of sys.flow (sender sys.flow e)) → IsSenderFrontier sys.flow e f
+    → AreEventsInDomain sys.flow h (sender sys.flow e) → ComesFromInside sys h e f
+
+-- the stamps of the notifications among these events, the latest first
+abbrev pub notified_stamps : List Event → List Stamp
+notified_stamps [] = []
+notified_stamps (Inject s x ∷ vs) = notified_stamps vs
+notified_stamps (Deliver e m ∷ vs) = notified_stamps vs
+notified_stamps (Notify p t ∷ vs) = t ∷ notified_stamps vs
+
+-- each stamp is the same as the stamps that follow it, or greater
+abbrev pub IsDescending : List Stamp → Type 0
+IsDescending [] = Unit {0}
+IsDescending (t ∷ ts) = AllByRecursion (λ s. leq s t ≡ true) ts × IsDescending ts
+
+-- the node injected nothing, and was notified of each stamp after the lesser ones
+pub record IsNotifiedInOrder (flow : Dataflow) (h : List Event) (p : ℕ) : Type 0 where
+  pub injects_nothing : injected_count p h ≡ 0
+  pub in_order : IsDescending (notified_stamps (events_at flow p h))
+
+-- each message on an edge at a stamp inside phi comes from events inside, where the sender is a sequence
+abbrev pub InsidePhiOfSequenceComesFromInside : Type 0
+InsidePhiOfSequenceComesFromInside = (sys : System) (h : List Event) (e : ℕ) (f : Frontier)
+    → kind_of sys.flow (sender sys.flow e) ≡ Sequence → IsSenderFrontier sys.flow e f
+    → AreEventsInDomain sys.flow h (sender sys.flow e) → IsNotifiedInOrder sys.flow h (sender sys.flow e)
+    → ComesFromInside sys h e f

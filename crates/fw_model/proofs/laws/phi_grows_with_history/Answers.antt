@@ -1,4 +1,3 @@
--- The law, by its lemma.
 use Rattle.fw_model.proofs.PhiLaws.{phi-longer}
 use Rattle.fw_model.proofs.laws.phi_grows_with_history.Goals as goal
 

@@ -1,4 +1,3 @@
--- The law, by its lemma.
 use Rattle.fw_model.proofs.PhiLaws.{phi-monotone}
 use Rattle.fw_model.proofs.laws.phi_is_monotone.Goals as goal
 

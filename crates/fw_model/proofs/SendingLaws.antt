@@ -12,7 +12,8 @@ use Rattle.fw_flow.specs.Dataflow.{System, Dataflow, kind_of, sender, max_of, gr
 use Rattle.fw_flow.specs.declared.event.Event.{Event}
 use Rattle.fw_flow.specs.NodeFunction.{sent_by}
 use Rattle.fw_flow.specs.Projection.{events_at, sent_count, number_of, each_counter, some_counter, phi_of_kind, phi, psi_of_kind, psi}
-use Rattle.fw_model.specs.LawsOfProjections.{SendsByStamp, IsSentFrom, SendsAbove, PhiBySendStamps, PsiBySendStamps, bounds_of_edge}
+use Rattle.fw_model.specs.LawsOfProjections.{bounds_of_edge}
+use Rattle.fw_model.specs.LawsOfSending.{SendsByStamp, IsSentFrom, SendsAbove, PhiBySendStamps, PsiBySendStamps}
 use Rattle.fw_model.proofs.StampLaws.{leq-refl, outer-nest, counter-nest, nest-leq, leq-nest, in_loop, leq_from, leq_to, in_line, line-leq, leq-line}
 
 -- the domain with this greatest stamp

@@ -15,7 +15,7 @@ use Rattle.fw_flow.specs.Dataflow.{System, Dataflow, kind_of, sender, receiver, 
 use Rattle.fw_flow.specs.NodeFunction.{place, stamp, recs_on_notification, numbered_messages, sequence_sent, sends_of_kind, sends, sent_by}
 use Rattle.fw_flow.specs.Projection.{events_at, all_inside, count_from, sent_count, number_of, phi_of_kind, phi}
 use Rattle.fw_model.specs.History.{injected_count}
-use Rattle.fw_model.specs.LawsOfProjections.{notified_stamps, IsDescending, InsidePhiOfSequenceComesFromInside}
+use Rattle.fw_model.specs.LawsOfSending.{notified_stamps, IsDescending, InsidePhiOfSequenceComesFromInside}
 use Rattle.fw_model.proofs.EachLaws.{each-weaker, each-both, each-append}
 use Rattle.fw_model.proofs.PhiLaws.{count-append}
 

@@ -2,5 +2,6 @@ pub mod Choice
 pub mod Denotation
 pub mod History
 pub mod LawsOfProjections
+pub mod LawsOfSending
 pub mod Machine
 pub mod Steps

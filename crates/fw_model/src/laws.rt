@@ -1,5 +1,6 @@
 //! The laws of the definitions: each function's `ensures` is one law, and its body is empty.
-ghost use Rattle.fw_model.specs.LawsOfProjections.{InsidePhiComesFromInside, InsidePhiOfSequenceComesFromInside, PhiBySendStamps, PhiGrowsWithHistory, PhiIsMonotone, PhiOfEverything, PhiOfMeet, PsiBySendStamps, PsiIsMonotone, PsiOfJoin, PsiOfNothing, PsiOfUnion, SendsAreInsidePsi, SendsAtSendStamp};
+ghost use Rattle.fw_model.specs.LawsOfProjections.{PhiGrowsWithHistory, PhiIsMonotone, PhiOfEverything, PhiOfMeet, PsiIsMonotone, PsiOfJoin, PsiOfNothing, PsiOfUnion};
+ghost use Rattle.fw_model.specs.LawsOfSending.{InsidePhiComesFromInside, InsidePhiOfSequenceComesFromInside, PhiBySendStamps, PsiBySendStamps, SendsAreInsidePsi, SendsAtSendStamp};
 
 /// Phi is monotone: a larger frontier of the sender covers more of the edge.
 pub fn phi_is_monotone()

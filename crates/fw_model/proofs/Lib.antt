@@ -1,4 +1,5 @@
 pub mod EachLaws
+pub mod FrontierLaws
 pub mod MeetLaws
 pub mod PhiLaws
 pub mod PsiLaws
@@ -6,3 +7,4 @@ pub mod SendingLaws
 pub mod SendsLaws
 pub mod SequenceLaws
 pub mod StampLaws
+pub mod WellFormedLaws

@@ -1,7 +1,7 @@
 -- Phi and psi by the send stamps of the sender, kind by kind.
 use Rattle.std.proofs.Common.{◌≡◌, ◌↔◌, ℕ, zero, suc, ◌+◌, ◌-◌, ◌*◌, ◌/◌, ◌<◌, ◌≤◌, min, Bool, true, false, cond, ◌&&◌, ◌||◌, ◌==◌, nat_lt, List, [], ◌∷◌, Option, Some, None, refl, sym, ap, subst, ◌∙◌, inl, inr, ◌⊎◌, arith}
 use Rattle.std.proofs.lemmas.Bool.{and_parts, and_from, or_cases, or_left, or_right, ltb-true, lt-ltb, eqb-true, eqb-false, eq-eqb, cond-true, cases_Bool}
-use Rattle.std.proofs.Math.Nat.{div-le_self, div-lt_iff_lt-mul, le-div_iff_mul-le, mul-div_left, min-le_left, min-le_right, le-min}
+use Rattle.std.proofs.Math.Nat.{div-le_self, div-mul-le_self, div-lt_iff_lt-mul, le-div_iff_mul-le, mul-div_left, min-le_left, min-le_right, le-min}
 use Rattle.fw_time.specs.declared.stamp.Bounds.{Bounds}
 use Rattle.fw_time.specs.Stamp.{Stamp, leq, nest, outer, counter, in_domain}
 use Rattle.fw_time.specs.Sending.{entered, fed_back, left, regrouped}
@@ -13,8 +13,8 @@ use Rattle.fw_flow.specs.declared.event.Event.{Event}
 use Rattle.fw_flow.specs.NodeFunction.{sent_by}
 use Rattle.fw_flow.specs.Projection.{events_at, sent_count, number_of, each_counter, some_counter, phi_of_kind, phi, psi_of_kind, psi}
 use Rattle.fw_model.specs.LawsOfProjections.{bounds_of_edge}
-use Rattle.fw_model.specs.LawsOfSending.{SendsByStamp, IsSentFrom, SendsAbove, PhiBySendStamps, PsiBySendStamps}
-use Rattle.fw_model.proofs.StampLaws.{leq-refl, outer-nest, counter-nest, nest-leq, leq-nest, in_loop, leq_from, leq_to, in_line, line-leq, leq-line}
+use Rattle.fw_model.specs.LawsOfSending.{SendsByStamp, IsSentFrom, SendsAbove, PhiBySendStamps, PsiBySendStamps, SendStampIsMonotone}
+use Rattle.fw_model.proofs.StampLaws.{leq-refl, leq-trans, IsInLoop, loop-leq, outer-nest, counter-nest, nest-leq, leq-nest, in_loop, leq_from, leq_to, in_line, line-leq, leq-line}
 
 -- the domain with this greatest stamp
 abbrev up_to : Stamp → Bounds
@@ -119,7 +119,7 @@ feedback_psi b m f p fr u i =
 
 -- ---- leaving a loop
 
-each_counter-at : (f : Frontier) (x : Stamp) (m c : ℕ) → c ≤ m → each_counter f x m ≡ true → f (nest x c) ≡ true
+pub each_counter-at : (f : Frontier) (x : Stamp) (m c : ℕ) → c ≤ m → each_counter f x m ≡ true → f (nest x c) ≡ true
 each_counter-at f x zero c h k = let e : zero ≡ c = omega arith in ap (λ d. f (nest x d)) (sym e) ∙ k
 each_counter-at f x (suc m) c h k =
     let a = and_parts (f (nest x (suc m))) (each_counter f x m) k in
@@ -136,14 +136,14 @@ each_counter-from f x zero all = all 0 (omega arith)
 each_counter-from f x (suc m) all =
     and_from (f (nest x (suc m))) (each_counter f x m) (all (suc m) (omega arith)) (each_counter-from f x m (λ c h. all c (omega arith)))
 
-some_counter-at : (f : Frontier) (x : Stamp) (m : ℕ) → some_counter f x m ≡ true → (c : ℕ) × (c ≤ m) × (f (nest x c) ≡ true)
+pub some_counter-at : (f : Frontier) (x : Stamp) (m : ℕ) → some_counter f x m ≡ true → (c : ℕ) × (c ≤ m) × (f (nest x c) ≡ true)
 some_counter-at f x zero k = (0, omega arith, k)
 some_counter-at f x (suc m) k = elim (or_cases (f (nest x (suc m))) (some_counter f x m) k) [
       inl a ↦ (suc m, omega arith, a)
     | inr a ↦ let w = some_counter-at f x m a in let l : w.0 ≤ m = w.1 in (w.0, omega arith, w.2)
     ]
 
-some_counter-from : (f : Frontier) (x : Stamp) (m c : ℕ) → c ≤ m → f (nest x c) ≡ true → some_counter f x m ≡ true
+pub some_counter-from : (f : Frontier) (x : Stamp) (m c : ℕ) → c ≤ m → f (nest x c) ≡ true → some_counter f x m ≡ true
 some_counter-from f x zero c h k = let e : zero ≡ c = omega arith in ap (λ d. f (nest x d)) e ∙ k
 some_counter-from f x (suc m) c h k = elim (cases_last c m h) [
       inl e ↦ or_left (f (nest x (suc m))) (some_counter f x m) (sym (ap (λ d. f (nest x d)) e) ∙ k)
@@ -301,3 +301,50 @@ pub send_stamp-in_domain : (flow : Dataflow) (p : ℕ) (t s : Stamp) → in_doma
     → in_domain (bounds_of_domain flow (out_domain_of_kind flow (kind_of flow p))) s ≡ true
 unfolding bounds_of
 send_stamp-in_domain flow p t s i e = send_stamp_of_kind-in_domain flow (kind_of flow p) t s i e
+
+-- ---- the sending map is monotone
+
+fed_back-loop : (m : ℕ) (b t : Stamp) → IsInLoop b m t → counter t < m → fed_back m t ≡ Some (nest (outer t) (counter t + 1))
+fed_back-loop m b t v h = cond-true (nat_lt (counter t) m) (Some (nest (outer t) (counter t + 1))) None (lt-ltb (counter t) m h)
+
+div-monotone : (n x y : ℕ) → x ≤ y → x / n ≤ y / n
+div-monotone zero x y h = omega arith
+div-monotone (suc n) x y h =
+    (le-div_iff_mul-le {k = suc n} {x = x / suc n} {y = y} (omega arith)).1 (omega (arith, div-mul-le_self x (suc n)))
+
+send_stamp_of_kind-monotone : (flow : Dataflow) (kind : Kind) (s t w : Stamp) → in_domain (bounds_of_domain flow (domain_of_kind flow kind)) t ≡ true
+    → leq s t ≡ true → send_stamp_of_kind flow kind t ≡ Some w
+    → (v : Stamp) × (send_stamp_of_kind flow kind s ≡ Some v) × (leq v w ≡ true)
+send_stamp_of_kind-monotone flow OutputEpoch s t w i l e = absurd (cc)
+send_stamp_of_kind-monotone flow OutputNumber s t w i l e = absurd (cc)
+send_stamp_of_kind-monotone flow (Enter r) s t w i l e =
+    (nest s 0, refl, leq_to (nest s 0) _ w (some_is (nest t 0) w e) (nest-leq s t 0 0 l (omega arith)))
+send_stamp_of_kind-monotone flow (Feedback r) s t w i l e =
+    let m = max_of flow r in
+    let b = greatest_number ∷ [] in
+    let y = in_loop t b m i in
+    let x = in_loop s b m (leq-trans s t (nest b m) l i) in
+    let q = loop-leq b m s t x y l in
+    let a = fed_back-some m t w e in
+    let c = a.0 in
+    let d = q.1 in
+    (nest (outer s) (counter s + 1), fed_back-loop m b s x (omega arith),
+    leq_to _ _ w a.1 (nest-leq (outer s) (outer t) (counter s + 1) (counter t + 1) q.0 (omega arith)))
+send_stamp_of_kind-monotone flow (Leave r) s t w i l e =
+    let m = max_of flow r in
+    let b = greatest_number ∷ [] in
+    let q = loop-leq b m s t (in_loop s b m (leq-trans s t (nest b m) l i)) (in_loop t b m i) l in
+    (outer s, refl, leq_to (outer s) _ w (some_is (outer t) w e) q.0)
+send_stamp_of_kind-monotone flow (Regroup n) s t w i l e =
+    let g = greatest_number in
+    let y = in_line t g i in
+    let x = in_line s g (leq-trans s t (g ∷ []) l i) in
+    let q = leq-line x.0 y.0 (leq_to (x.0 ∷ []) t _ y.1 (leq_from s _ t x.1 l)) in
+    let r : Some ((y.0 / n) ∷ []) ≡ Some w = ap (regrouped n) (sym y.1) ∙ e in
+    ((x.0 / n) ∷ [], ap (regrouped n) x.1,
+    leq_to ((x.0 / n) ∷ []) _ w (some_is ((y.0 / n) ∷ []) w r) (line-leq (x.0 / n) (y.0 / n) (div-monotone n x.0 y.0 q)))
+send_stamp_of_kind-monotone flow kind s t w i l e = (s, refl, leq_to s t w (some_is t w e) l)
+
+pub send_stamp-monotone : SendStampIsMonotone
+unfolding bounds_of
+send_stamp-monotone flow p s t w i l e = send_stamp_of_kind-monotone flow (kind_of flow p) s t w i l e

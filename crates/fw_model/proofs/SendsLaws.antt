@@ -1,7 +1,7 @@
 -- At which stamps events send, and from where the messages inside phi come.
 use Rattle.std.proofs.Common.{◌≡◌, ℕ, Bool, true, false, List, [], ◌∷◌, ◌++◌, Option, Some, None, refl, sym, ap, ◌∙◌}
 use Rattle.std.specs.List.{AllByRecursion}
-use Rattle.std.proofs.lemmas.Bool.{and_from}
+use Rattle.std.proofs.lemmas.Bool.{and_parts, and_from}
 use Rattle.fw_bag.specs.declared.rec.Rec.{Rec}
 use Rattle.fw_time.specs.Stamp.{Stamp, in_domain}
 use Rattle.fw_frontier.specs.Frontier.{Frontier}
@@ -13,7 +13,7 @@ use Rattle.fw_flow.specs.Dataflow.{System, Dataflow, kind_of, sender, bounds_of,
 use Rattle.fw_flow.specs.NodeFunction.{stamp, recs_on, messages_at, messages_at_some, sends_of_kind, sends, sent_by}
 use Rattle.fw_flow.specs.Projection.{events_at, all_inside, phi, psi}
 use Rattle.fw_model.specs.LawsOfProjections.{is_sequence_kind}
-use Rattle.fw_model.specs.LawsOfSending.{SendsByStamp, SendsAtSendStamp, SendsAreInsidePsi, InsidePhiComesFromInside}
+use Rattle.fw_model.specs.LawsOfSending.{SendsByStamp, SendsAtSendStamp, SendsAreInsidePsi, SentFromInsideIsInsidePsi, InsidePhiComesFromInside}
 use Rattle.fw_model.proofs.EachLaws.{each-weaker, each-append}
 use Rattle.fw_model.proofs.StampLaws.{leq-refl}
 use Rattle.fw_model.proofs.SendingLaws.{phi-by_stamp, psi-by_stamp, phi-in_domain, send_stamp-in_domain}
@@ -74,3 +74,26 @@ inside_phi-from_inside sys h e f p fr d =
         let all = (phi-by_stamp sys h e f p fr m.at (phi-in_domain sys h e f m.at k)).0 k in
         ap (all_inside f) w.3 ∙ and_from (f w.0) true (all w.0 m.at w.1 w.2 (leq-refl m.at)) refl)
     (sent_by-each sys q (by_stamp-no_sequence sys.flow (kind_of sys.flow q) p) (events_at sys.flow q h) d)
+
+-- the message is at the send stamp of its one cause
+IsOfCause : Dataflow → ℕ → Message → Type 0
+IsOfCause flow p m = (t : Stamp) × (send_stamp flow p t ≡ Some m.at) × (m.causes ≡ t ∷ [])
+
+sent_by-of_cause : (sys : System) (p : ℕ) → is_sequence_kind (kind_of sys.flow p) ≡ false → (vs : List Event) → AllByRecursion (IsOfCause sys.flow p) (sent_by sys p vs)
+unfolding IsOfCause
+sent_by-of_cause sys p n [] = tt
+sent_by-of_cause sys p n (v ∷ vs) =
+    each-append (IsOfCause sys.flow p) (sends sys p vs v) (sent_by sys p vs)
+    (each-weaker (IsAt (send_stamp sys.flow p (stamp v)) (stamp v)) (IsOfCause sys.flow p) (sends sys p vs v) (λ m a. (stamp v, a.0, a.1)) (sends-each sys p n vs v))
+    (sent_by-of_cause sys p n vs)
+
+pub sent_from_inside-inside_psi : SentFromInsideIsInsidePsi
+unfolding IsOfCause
+sent_from_inside-inside_psi sys h e f p fr =
+    let q = sender sys.flow e in
+    each-weaker (IsOfCause sys.flow q) (λ m. all_inside f m.causes ≡ true → psi sys e f m.at ≡ true) (sent_by sys q (events_at sys.flow q h))
+    (λ m w k.
+        let i = (and_parts (f w.0) true (sym (ap (all_inside f) w.2) ∙ k)).0 in
+        (psi-by_stamp sys e f p fr m.at (send_stamp-in_domain sys.flow q w.0 m.at (fr.inside_domain w.0 i) w.1)).1
+        (w.0, m.at, i, w.1, leq-refl m.at))
+    (sent_by-of_cause sys q (by_stamp-no_sequence sys.flow (kind_of sys.flow q) p) (events_at sys.flow q h))

@@ -79,6 +79,10 @@ leq_from s t u e l = sym (ap (λ x. leq x u) e) ∙ l
 pub leq_to : (s t u : Stamp) → t ≡ u → leq s t ≡ true → leq s u ≡ true
 leq_to s t u e l = sym (ap (λ x. leq s x) e) ∙ l
 
+pub loop-leq : (b : Stamp) (m : ℕ) (s u : Stamp) → IsInLoop b m s → IsInLoop b m u → leq s u ≡ true → (leq (outer s) (outer u) ≡ true) × (counter s ≤ counter u)
+loop-leq b m s u v w l =
+    leq-nest (outer s) (outer u) (counter s) (counter u) (leq_to _ u _ w.nested (leq_from s _ u v.nested l))
+
 -- a stamp below one of one coordinate is one of one coordinate
 pub in_line : (u : Stamp) (g : ℕ) → leq u (g ∷ []) ≡ true → (k : ℕ) × (u ≡ k ∷ []) × (k ≤ g)
 in_line [] g p = absurd (cc)

@@ -1,6 +1,6 @@
 //! The laws of the definitions: each function's `ensures` is one law, and its body is empty.
-ghost use Rattle.fw_model.specs.LawsOfProjections.{PhiGrowsWithHistory, PhiIsMonotone, PhiOfEverything, PhiOfMeet, PsiIsMonotone, PsiOfJoin, PsiOfNothing, PsiOfUnion};
-ghost use Rattle.fw_model.specs.LawsOfSending.{InsidePhiComesFromInside, InsidePhiOfSequenceComesFromInside, PhiBySendStamps, PsiBySendStamps, SendsAreInsidePsi, SendsAtSendStamp};
+ghost use Rattle.fw_model.specs.LawsOfProjections.{PhiGrowsWithHistory, PhiIgnoresHistory, PhiIsFrontier, PhiIsMonotone, PhiOfEverything, PhiOfMeet, PsiIsFrontier, PsiIsMonotone, PsiOfJoin, PsiOfNothing, PsiOfUnion};
+ghost use Rattle.fw_model.specs.LawsOfSending.{InsidePhiComesFromInside, InsidePhiOfSequenceComesFromInside, PhiBySendStamps, PsiBySendStamps, SendStampIsMonotone, SendersOfWellFormed, SendsAreInsidePsi, SendsAtSendStamp, SentFromInsideIsInsidePsi};
 
 /// Phi is monotone: a larger frontier of the sender covers more of the edge.
 pub fn phi_is_monotone()
@@ -83,5 +83,41 @@ pub fn inside_phi_comes_from_inside()
 /// Each message at a stamp inside phi comes from events inside, where the sender is a sequence.
 pub fn inside_phi_of_sequence_comes_from_inside()
     ensures { InsidePhiOfSequenceComesFromInside }
+{
+}
+
+/// Phi of a frontier of the sender is a frontier of the edge.
+pub fn phi_is_frontier()
+    ensures { PhiIsFrontier }
+{
+}
+
+/// Psi of a frontier of the sender is a frontier of the edge.
+pub fn psi_is_frontier()
+    ensures { PsiIsFrontier }
+{
+}
+
+/// Phi is the same after each history, where the sender is no sequence.
+pub fn phi_ignores_history()
+    ensures { PhiIgnoresHistory }
+{
+}
+
+/// A lesser stamp sends where a greater one does, and at the same stamp or a lesser one.
+pub fn send_stamp_is_monotone()
+    ensures { SendStampIsMonotone }
+{
+}
+
+/// Each message that comes from events inside a frontier is at a stamp inside psi.
+pub fn sent_from_inside_is_inside_psi()
+    ensures { SentFromInsideIsInsidePsi }
+{
+}
+
+/// In a well-formed dataflow the sender of each edge is a sequence, or sends at the send stamps of its events.
+pub fn senders_of_well_formed()
+    ensures { SendersOfWellFormed }
 {
 }

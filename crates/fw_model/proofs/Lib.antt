@@ -1,5 +1,6 @@
 pub mod EachLaws
 pub mod FrontierLaws
+pub mod LegalLaws
 pub mod MeetLaws
 pub mod PhiLaws
 pub mod PsiLaws

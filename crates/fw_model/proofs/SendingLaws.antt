@@ -276,7 +276,7 @@ phi-in_domain sys h e f u k =
 
 -- ---- where messages are
 
-send_stamp_of_kind-in_domain : (flow : Dataflow) (kind : Kind) (t s : Stamp) → in_domain (bounds_of_domain flow (domain_of_kind flow kind)) t ≡ true
+pub send_stamp_of_kind-in_domain : (flow : Dataflow) (kind : Kind) (t s : Stamp) → in_domain (bounds_of_domain flow (domain_of_kind flow kind)) t ≡ true
     → send_stamp_of_kind flow kind t ≡ Some s → in_domain (bounds_of_domain flow (out_domain_of_kind flow kind)) s ≡ true
 send_stamp_of_kind-in_domain flow OutputEpoch t s i e = absurd (cc)
 send_stamp_of_kind-in_domain flow OutputNumber t s i e = absurd (cc)

@@ -19,7 +19,7 @@ use Rattle.fw_model.proofs.StampLaws.{leq-refl}
 use Rattle.fw_model.proofs.SendingLaws.{phi-by_stamp, psi-by_stamp, phi-in_domain, send_stamp-in_domain}
 
 -- the message is at this stamp, if there is one, and has one cause
-abbrev IsAt : Option Stamp → Stamp → Message → Type 0
+abbrev pub IsAt : Option Stamp → Stamp → Message → Type 0
 IsAt at cause m = (at ≡ Some m.at) × (m.causes ≡ cause ∷ [])
 
 messages_at-each : (at cause : Stamp) (rs : List Rec) → AllByRecursion (IsAt (Some at) cause) (messages_at at cause rs)
@@ -30,7 +30,7 @@ messages_at_some-each : (at : Option Stamp) (cause : Stamp) (rs : List Rec) → 
 messages_at_some-each None cause rs = tt
 messages_at_some-each (Some at) cause rs = messages_at-each at cause rs
 
-sends_of_kind-each : (sys : System) (kind : Kind) (before : List Event) (v : Event) → is_sequence_kind kind ≡ false
+pub sends_of_kind-each : (sys : System) (kind : Kind) (before : List Event) (v : Event) → is_sequence_kind kind ≡ false
     → AllByRecursion (IsAt (send_stamp_of_kind sys.flow kind (stamp v)) (stamp v)) (sends_of_kind sys kind before v)
 sends_of_kind-each sys Sequence before v p = absurd (cc)
 sends_of_kind-each sys kind before v p =

@@ -1,4 +1,5 @@
 //! The laws of the definitions: each function's `ensures` is one law, and its body is empty.
+ghost use Rattle.fw_model.specs.LawsOfLegalHistories.{LegalEventsAreInDomain, LegalMessagesAreInDomain, OnlyInputsInject};
 ghost use Rattle.fw_model.specs.LawsOfProjections.{PhiGrowsWithHistory, PhiIgnoresHistory, PhiIsFrontier, PhiIsMonotone, PhiOfEverything, PhiOfMeet, PsiIsFrontier, PsiIsMonotone, PsiOfJoin, PsiOfNothing, PsiOfUnion};
 ghost use Rattle.fw_model.specs.LawsOfSending.{InsidePhiComesFromInside, InsidePhiOfSequenceComesFromInside, PhiBySendStamps, PsiBySendStamps, SendStampIsMonotone, SendersOfWellFormed, SendsAreInsidePsi, SendsAtSendStamp, SentFromInsideIsInsidePsi};
 
@@ -119,5 +120,23 @@ pub fn sent_from_inside_is_inside_psi()
 /// In a well-formed dataflow the sender of each edge is a sequence, or sends at the send stamps of its events.
 pub fn senders_of_well_formed()
     ensures { SendersOfWellFormed }
+{
+}
+
+/// In a legal history each event is at a stamp of its node's domain.
+pub fn legal_events_are_in_domain()
+    ensures { LegalEventsAreInDomain }
+{
+}
+
+/// In a legal history each message is at a stamp of its edge.
+pub fn legal_messages_are_in_domain()
+    ensures { LegalMessagesAreInDomain }
+{
+}
+
+/// In a legal history only inputs inject.
+pub fn only_inputs_inject()
+    ensures { OnlyInputsInject }
 {
 }

@@ -1,12 +1,11 @@
 -- Phi and psi of a frontier are frontiers.
-use Rattle.std.proofs.Common.{◌≡◌, ℕ, zero, suc, ◌+◌, ◌-◌, ◌*◌, ◌<◌, ◌≤◌, min, Bool, true, false, ◌&&◌, ◌||◌, ◌==◌, nat_lt, List, [], ◌∷◌, refl, sym, ap, ◌∙◌, inl, inr, ◌⊎◌, arith}
-use Rattle.std.proofs.lemmas.Bool.{and_parts, and_from, or_cases, or_left, or_right, cases_Bool, ltb-true, lt-ltb, eqb-true, eqb-false, eq-eqb}
+use Rattle.std.proofs.Common.{◌≡◌, ℕ, ◌+◌, ◌-◌, ◌*◌, ◌≤◌, min, Bool, true, false, ◌&&◌, ◌||◌, ◌==◌, nat_lt, [], ◌∷◌, refl, ap, inl, inr, arith}
+use Rattle.std.proofs.lemmas.Bool.{and_parts, and_from, or_cases, or_left, or_right, ltb-true, lt-ltb, eqb-true, eq-eqb}
 use Rattle.std.proofs.Math.Nat.{min-le_left, min-le_right, le-min, mul-le-mul_right}
-use Rattle.fw_time.specs.declared.stamp.Bounds.{Bounds}
 use Rattle.fw_time.specs.Stamp.{Stamp, leq, nest, outer, counter, in_domain}
 use Rattle.fw_frontier.specs.Frontier.{Frontier, IsFrontier}
 use Rattle.fw_flow.specs.declared.kind.Kind.{Kind}
-use Rattle.fw_flow.specs.declared.kind.Kind.TheVariants.{Input, OutputEpoch, OutputNumber, Select, Concat, Distinct, Join, Sum, Enter, Feedback, Leave, Total, Sequence, Ledger, Regroup}
+use Rattle.fw_flow.specs.declared.kind.Kind.TheVariants.{Enter, Feedback, Leave, Sequence, Regroup}
 use Rattle.fw_flow.specs.Dataflow.{System, kind_of, sender, max_of, greatest_number, domain_of_kind, out_domain_of_kind, bounds_of, bounds_of_domain}
 use Rattle.fw_flow.specs.Projection.{sent_count, number_of, phi_of_kind, phi, psi_of_kind, psi}
 use Rattle.fw_model.specs.LawsOfProjections.{PhiIsFrontier, PsiIsFrontier, PhiIgnoresHistory, is_sequence_kind, bounds_of_edge}
@@ -58,8 +57,8 @@ phi_of_kind-closed sys (Feedback r) n f fr s u i j l k =
     let m = max_of sys.flow r in
     let q = (loop-leq b m s u (in_loop s b m i) (in_loop u b m j) l).1 in
     elim (or_cases (counter u == 0) (f (nest (outer u) (counter u - 1))) k) [
-      inl z ↦ let y = eqb-true (counter u) 0 z in or_left (counter s == 0) _ (eq-eqb (counter s) 0 (omega arith))
-    | inr z ↦ or_right (counter s == 0) _ (feedback-closed b m f fr s u i j l z)
+      | inl z ↦ let y = eqb-true (counter u) 0 z in or_left (counter s == 0) _ (eq-eqb (counter s) 0 (omega arith))
+      | inr z ↦ or_right (counter s == 0) _ (feedback-closed b m f fr s u i j l z)
     ]
 phi_of_kind-closed sys (Leave r) n f fr s u i j l k =
     let m = max_of sys.flow r in
@@ -111,8 +110,8 @@ phi-frontier sys h e f fr =
     record {
       inside_domain = λ u k. (and_parts _ (phi_of_kind sys kind count f u) k).0;
       closed = λ s u i l k.
-        let a = and_parts (in_domain (bounds_of_edge sys.flow e) u) (phi_of_kind sys kind count f u) k in
-        and_from _ (phi_of_kind sys kind count f s) i (phi_of_kind-closed sys kind count f fr s u i a.0 l a.1)
+          let a = and_parts (in_domain (bounds_of_edge sys.flow e) u) (phi_of_kind sys kind count f u) k in
+          and_from _ (phi_of_kind sys kind count f s) i (phi_of_kind-closed sys kind count f fr s u i a.0 l a.1);
     }
 
 pub psi-frontier : PsiIsFrontier
@@ -122,8 +121,8 @@ psi-frontier sys e f fr =
     record {
       inside_domain = λ u k. (and_parts _ (psi_of_kind sys kind f u) k).0;
       closed = λ s u i l k.
-        let a = and_parts (in_domain (bounds_of_edge sys.flow e) u) (psi_of_kind sys kind f u) k in
-        and_from _ (psi_of_kind sys kind f s) i (psi_of_kind-closed sys kind f fr s u i a.0 l a.1)
+          let a = and_parts (in_domain (bounds_of_edge sys.flow e) u) (psi_of_kind sys kind f u) k in
+          and_from _ (psi_of_kind sys kind f s) i (psi_of_kind-closed sys kind f fr s u i a.0 l a.1);
     }
 
 phi_of_kind-ignores_count : (sys : System) (kind : Kind) (m n : ℕ) (f : Frontier) (u : Stamp) → is_sequence_kind kind ≡ false

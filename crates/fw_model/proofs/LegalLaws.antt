@@ -1,11 +1,10 @@
 -- At which stamps the events and messages of a legal history are.
-use Rattle.std.proofs.Common.{◌≡◌, ℕ, ◌+◌, ◌<◌, ◌≤◌, Bool, true, false, not, cond, ◌==◌, ◌&&◌, ◌||◌, nat_le, List, [], ◌∷◌, ◌++◌, length, get_or, Some, refl, sym, ap, subst, ◌∙◌, inl, inr, ◌⊎◌, arith}
+use Rattle.std.proofs.Common.{◌≡◌, ℕ, ◌+◌, ◌≤◌, Bool, true, false, not, ◌==◌, ◌&&◌, nat_le, List, [], ◌∷◌, length, get_or, refl, sym, ap, subst, ◌∙◌, inl, inr, arith}
 use Rattle.std.specs.declared.cmp.Ordering.{Ordering}
 use Rattle.std.specs.declared.cmp.Ordering.TheVariants.{Less, Equal, Greater}
-use Rattle.std.specs.Ordering.{is_eq, nat_cmp, ordering_then}
-use Rattle.std.specs.Cmp.Lexicographic.{slice_cmp}
+use Rattle.std.specs.Ordering.{is_eq, ordering_then}
 use Rattle.std.specs.List.{AllByRecursion}
-use Rattle.std.proofs.lemmas.Bool.{and_parts, and_from, or_cases, cond_both, eqb-true, eq-eqb, cases_lt}
+use Rattle.std.proofs.lemmas.Bool.{and_parts, and_from, or_cases, cond_both, eqb-true, cases_lt}
 use Rattle.std.proofs.lemmas.List.{get_or_past}
 use Rattle.std.proofs.lemmas.Map.Text.{is_eq-slice_cmp}
 use Rattle.std.proofs.lemmas.Slice.Eq.{bytes_eq-Decides}
@@ -15,12 +14,12 @@ use Rattle.fw_flow.specs.declared.event.Event.{Event}
 use Rattle.fw_flow.specs.declared.event.Event.TheVariants.{Inject, Deliver, Notify}
 use Rattle.fw_flow.specs.declared.event.Message.{Message}
 use Rattle.fw_flow.specs.declared.kind.Kind.{Kind}
-use Rattle.fw_flow.specs.declared.kind.Kind.TheVariants.{Input, OutputEpoch, Sequence}
-use Rattle.fw_flow.specs.Dataflow.{System, Dataflow, idle_node, kind_of, sender, receiver, greatest_number, domain_of, domain_of_kind, out_domain_of, out_domain_of_kind, bounds_of, bounds_of_domain, is_input_kind, is_notified_kind, batches_of, send_stamp_of_kind}
+use Rattle.fw_flow.specs.declared.kind.Kind.TheVariants.{Input, Sequence}
+use Rattle.fw_flow.specs.Dataflow.{System, Dataflow, idle_node, kind_of, sender, receiver, greatest_number, domain_of, domain_of_kind, out_domain_of, out_domain_of_kind, bounds_of, bounds_of_domain, is_input_kind, is_notified_kind, send_stamp_of_kind}
 use Rattle.fw_flow.specs.NodeFunction.{place, stamp, recs_on, numbered_messages, sequence_sent, sends_of_kind, sends, sent_by}
 use Rattle.fw_flow.specs.Projection.{events_at}
 use Rattle.fw_flow.specs.WellFormed.{IsWellFormed}
-use Rattle.fw_model.specs.History.{message_cmp, is_among, without, less, sent, delivered, pending, was_delivered_to, was_notified, owed, injected_count, IsLegal, IsEnabled}
+use Rattle.fw_model.specs.History.{message_cmp, is_among, without, less, sent, delivered, pending, was_delivered_to, was_notified, injected_count, IsLegal, IsEnabled}
 use Rattle.fw_model.specs.LawsOfProjections.{bounds_of_edge, is_sequence_kind}
 use Rattle.fw_model.specs.LawsOfSending.{AreEventsInDomain}
 use Rattle.fw_model.specs.LawsOfLegalHistories.{HasEpochs, LegalEventsAreInDomain, LegalMessagesAreInDomain, OnlyInputsInject}
@@ -89,9 +88,9 @@ message_cmp-at m x e =
 pub is_among-at : (P : Stamp → Type 0) (m : Message) (ms : List Message) → is_among m ms ≡ true → AllByRecursion (λ (x : Message). P x.at) ms → P m.at
 is_among-at P m [] k a = absurd (cc)
 is_among-at P m (x ∷ xs) k a = elim (or_cases (is_eq (message_cmp m x)) (is_among m xs) k) [
-      inl e ↦ subst P (sym (message_cmp-at m x e)) a.0
-    | inr l ↦ is_among-at P m xs l a.1
-    ]
+  | inl e ↦ subst P (sym (message_cmp-at m x e)) a.0
+  | inr l ↦ is_among-at P m xs l a.1
+]
 
 -- ---- edges join equal domains
 
@@ -135,12 +134,12 @@ delivered_to-in_domain flow p t (Inject s x ∷ h) d k = delivered_to-in_domain 
 delivered_to-in_domain flow p t (Notify q s ∷ h) d k = delivered_to-in_domain flow p t h d.1 k
 delivered_to-in_domain flow p t (Deliver e m ∷ h) d k =
     elim (or_cases (receiver flow e == p && same m.at t) (was_delivered_to flow p t h) k) [
-      inl a ↦
-        let b = and_parts (receiver flow e == p) (same m.at t) a in
-        let c = and_parts (leq m.at t) (leq t m.at) b.1 in
-        leq-trans t m.at (bounds_of flow p).greatest c.1
-        (sym (ap (λ q. in_domain (bounds_of flow q) m.at) (eqb-true (receiver flow e) p b.0)) ∙ d.0)
-    | inr a ↦ delivered_to-in_domain flow p t h d.1 a
+      | inl a ↦
+          let b = and_parts (receiver flow e == p) (same m.at t) a in
+          let c = and_parts (leq m.at t) (leq t m.at) b.1 in
+          leq-trans t m.at (bounds_of flow p).greatest c.1
+          (sym (ap (λ q. in_domain (bounds_of flow q) m.at) (eqb-true (receiver flow e) p b.0)) ∙ d.0)
+      | inr a ↦ delivered_to-in_domain flow p t h d.1 a
     ]
 
 is_input : (kind : Kind) → is_input_kind kind ≡ true → kind ≡ Input

@@ -1,12 +1,12 @@
 -- Psi in its frontier.
-use Rattle.std.proofs.Common.{◌≡◌, ℕ, zero, suc, ◌+◌, ◌-◌, ◌*◌, Bool, true, false, ◌&&◌, ◌||◌, ◌==◌, List, [], ◌∷◌, refl, sym, ap, ◌∙◌, inl, inr, ◌⊎◌}
+use Rattle.std.proofs.Common.{◌≡◌, ℕ, zero, suc, Bool, true, false, ◌==◌, refl, sym, inl, inr, ◌⊎◌}
 use Rattle.std.proofs.lemmas.Bool.{and_parts, and_from, and_right, or_cases, or_left, or_right}
 use Rattle.fw_time.specs.Stamp.{Stamp, nest, outer, counter, in_domain}
 use Rattle.fw_frontier.specs.Frontier.{Frontier, Within, nothing, join}
 use Rattle.fw_flow.specs.declared.kind.Kind.{Kind}
-use Rattle.fw_flow.specs.declared.kind.Kind.TheVariants.{Input, OutputEpoch, OutputNumber, Select, Concat, Distinct, Join, Sum, Enter, Feedback, Leave, Total, Sequence, Ledger, Regroup}
+use Rattle.fw_flow.specs.declared.kind.Kind.TheVariants.{Enter, Feedback, Leave, Regroup}
 use Rattle.fw_flow.specs.Dataflow.{System, kind_of, sender, max_of, out_domain_of_kind, bounds_of_domain}
-use Rattle.fw_flow.specs.Projection.{number_of, some_counter, psi_of_kind, psi}
+use Rattle.fw_flow.specs.Projection.{some_counter, psi_of_kind, psi}
 use Rattle.fw_model.specs.LawsOfProjections.{PsiIsMonotone, PsiOfJoin, PsiOfNothing, PsiOfUnion, IsUnion}
 
 pub same_tests : (a b : Bool) → (a ≡ true → b ≡ true) → (b ≡ true → a ≡ true) → a ≡ b
@@ -20,9 +20,9 @@ same_tests false false p q = refl
 some_counter-monotone : (f g : Frontier) → Within f g → (x : Stamp) (m : ℕ) → some_counter f x m ≡ true → some_counter g x m ≡ true
 some_counter-monotone f g w x zero k = w (nest x 0) k
 some_counter-monotone f g w x (suc m) k = elim (or_cases (f (nest x (suc m))) (some_counter f x m) k) [
-      inl a ↦ or_left (g (nest x (suc m))) (some_counter g x m) (w (nest x (suc m)) a)
-    | inr a ↦ or_right (g (nest x (suc m))) (some_counter g x m) (some_counter-monotone f g w x m a)
-    ]
+  | inl a ↦ or_left (g (nest x (suc m))) (some_counter g x m) (w (nest x (suc m)) a)
+  | inr a ↦ or_right (g (nest x (suc m))) (some_counter g x m) (some_counter-monotone f g w x m a)
+]
 
 psi_of_kind-monotone : (sys : System) (kind : Kind) (f g : Frontier) → Within f g → (u : Stamp) → psi_of_kind sys kind f u ≡ true → psi_of_kind sys kind g u ≡ true
 psi_of_kind-monotone sys (Enter l) f g w u k =
@@ -46,9 +46,9 @@ psi-monotone sys e f g w u k =
 some_counter-one : (family : ℕ → Frontier) (f : Frontier) → IsUnion family f → (x : Stamp) (m : ℕ) → some_counter f x m ≡ true → (i : ℕ) × (some_counter (family i) x m ≡ true)
 some_counter-one family f w x zero k = w.from_one (nest x 0) k
 some_counter-one family f w x (suc m) k = elim (or_cases (f (nest x (suc m))) (some_counter f x m) k) [
-      inl a ↦ let y = w.from_one (nest x (suc m)) a in (y.0, or_left (family y.0 (nest x (suc m))) (some_counter (family y.0) x m) y.1)
-    | inr a ↦ let y = some_counter-one family f w x m a in (y.0, or_right (family y.0 (nest x (suc m))) (some_counter (family y.0) x m) y.1)
-    ]
+  | inl a ↦ let y = w.from_one (nest x (suc m)) a in (y.0, or_left (family y.0 (nest x (suc m))) (some_counter (family y.0) x m) y.1)
+  | inr a ↦ let y = some_counter-one family f w x m a in (y.0, or_right (family y.0 (nest x (suc m))) (some_counter (family y.0) x m) y.1)
+]
 
 psi_of_kind-one : (sys : System) (kind : Kind) (family : ℕ → Frontier) (f : Frontier) → IsUnion family f → (u : Stamp)
     → psi_of_kind sys kind f u ≡ true → (i : ℕ) × (psi_of_kind sys kind (family i) u ≡ true)
@@ -66,11 +66,11 @@ unfolding psi
 psi-union sys e family f w = record {
   each_within = λ i. psi-monotone sys e (family i) f (w.each_within i);
   from_one = λ u k.
-    let kind = kind_of sys.flow (sender sys.flow e) in
-    let i = in_domain (bounds_of_domain sys.flow (out_domain_of_kind sys.flow kind)) u in
-    let a = and_parts i (psi_of_kind sys kind f u) k in
-    let y = psi_of_kind-one sys kind family f w u a.1 in
-    (y.0, and_from i (psi_of_kind sys kind (family y.0) u) a.0 y.1)
+      let kind = kind_of sys.flow (sender sys.flow e) in
+      let i = in_domain (bounds_of_domain sys.flow (out_domain_of_kind sys.flow kind)) u in
+      let a = and_parts i (psi_of_kind sys kind f u) k in
+      let y = psi_of_kind-one sys kind family f w u a.1 in
+      (y.0, and_from i (psi_of_kind sys kind (family y.0) u) a.0 y.1);
 }
 
 -- the union of two frontiers is that of a family that has the first at 0, and the second everywhere else
@@ -84,6 +84,7 @@ one_of-join f g = record { each_within = λ i. within i; from_one = λ t k. foun
     within : (i : ℕ) → Within (one_of f g i) (join f g)
     within zero = λ t k. or_left (f t) (g t) k
     within (suc i) = λ t k. or_right (f t) (g t) k
+
     found : (t : Stamp) → (f t ≡ true) ⊎ (g t ≡ true) → (i : ℕ) × (one_of f g i t ≡ true)
     found t (inl k) = (0, k)
     found t (inr k) = (1, k)

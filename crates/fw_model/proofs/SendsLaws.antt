@@ -1,14 +1,13 @@
 -- At which stamps events send, and from where the messages inside phi come.
-use Rattle.std.proofs.Common.{◌≡◌, ℕ, Bool, true, false, List, [], ◌∷◌, ◌++◌, Option, Some, None, refl, sym, ap, ◌∙◌}
+use Rattle.std.proofs.Common.{◌≡◌, ℕ, true, false, List, [], ◌∷◌, Option, Some, None, refl, sym, ap, ◌∙◌}
 use Rattle.std.specs.List.{AllByRecursion}
 use Rattle.std.proofs.lemmas.Bool.{and_parts, and_from}
 use Rattle.fw_bag.specs.declared.rec.Rec.{Rec}
 use Rattle.fw_time.specs.Stamp.{Stamp, in_domain}
-use Rattle.fw_frontier.specs.Frontier.{Frontier}
 use Rattle.fw_flow.specs.declared.event.Event.{Event}
 use Rattle.fw_flow.specs.declared.event.Message.{Message}
 use Rattle.fw_flow.specs.declared.kind.Kind.{Kind}
-use Rattle.fw_flow.specs.declared.kind.Kind.TheVariants.{Input, OutputEpoch, OutputNumber, Select, Concat, Distinct, Join, Sum, Enter, Feedback, Leave, Total, Sequence, Ledger, Regroup}
+use Rattle.fw_flow.specs.declared.kind.Kind.TheVariants.{Sequence}
 use Rattle.fw_flow.specs.Dataflow.{System, Dataflow, kind_of, sender, bounds_of, send_stamp, send_stamp_of_kind}
 use Rattle.fw_flow.specs.NodeFunction.{stamp, recs_on, messages_at, messages_at_some, sends_of_kind, sends, sent_by}
 use Rattle.fw_flow.specs.Projection.{events_at, all_inside, phi, psi}
@@ -49,7 +48,7 @@ sends-inside_psi sys e f p fr before v k =
     let q = sender sys.flow e in
     each-weaker (IsAt (send_stamp sys.flow q (stamp v)) (stamp v)) (λ m. psi sys e f m.at ≡ true) (sends sys q before v)
     (λ m a. (psi-by_stamp sys e f p fr m.at (send_stamp-in_domain sys.flow q (stamp v) m.at (fr.inside_domain (stamp v) k) a.0)).1
-        (stamp v, m.at, k, a.0, leq-refl m.at))
+    (stamp v, m.at, k, a.0, leq-refl m.at))
     (sends-each sys q (by_stamp-no_sequence sys.flow (kind_of sys.flow q) p) before v)
 
 -- the message is at the send stamp of its one cause, which is of the node's domain
@@ -71,8 +70,8 @@ inside_phi-from_inside sys h e f p fr d =
     let q = sender sys.flow e in
     each-weaker (IsFrom sys.flow q) (λ m. phi sys h e f m.at ≡ true → all_inside f m.causes ≡ true) (sent_by sys q (events_at sys.flow q h))
     (λ m w k.
-        let all = (phi-by_stamp sys h e f p fr m.at (phi-in_domain sys h e f m.at k)).0 k in
-        ap (all_inside f) w.3 ∙ and_from (f w.0) true (all w.0 m.at w.1 w.2 (leq-refl m.at)) refl)
+    let all = (phi-by_stamp sys h e f p fr m.at (phi-in_domain sys h e f m.at k)).0 k in
+    ap (all_inside f) w.3 ∙ and_from (f w.0) true (all w.0 m.at w.1 w.2 (leq-refl m.at)) refl)
     (sent_by-each sys q (by_stamp-no_sequence sys.flow (kind_of sys.flow q) p) (events_at sys.flow q h) d)
 
 -- the message is at the send stamp of its one cause
@@ -93,7 +92,7 @@ sent_from_inside-inside_psi sys h e f p fr =
     let q = sender sys.flow e in
     each-weaker (IsOfCause sys.flow q) (λ m. all_inside f m.causes ≡ true → psi sys e f m.at ≡ true) (sent_by sys q (events_at sys.flow q h))
     (λ m w k.
-        let i = (and_parts (f w.0) true (sym (ap (all_inside f) w.2) ∙ k)).0 in
-        (psi-by_stamp sys e f p fr m.at (send_stamp-in_domain sys.flow q w.0 m.at (fr.inside_domain w.0 i) w.1)).1
-        (w.0, m.at, i, w.1, leq-refl m.at))
+    let i = (and_parts (f w.0) true (sym (ap (all_inside f) w.2) ∙ k)).0 in
+    (psi-by_stamp sys e f p fr m.at (send_stamp-in_domain sys.flow q w.0 m.at (fr.inside_domain w.0 i) w.1)).1
+    (w.0, m.at, i, w.1, leq-refl m.at))
     (sent_by-of_cause sys q (by_stamp-no_sequence sys.flow (kind_of sys.flow q) p) (events_at sys.flow q h))

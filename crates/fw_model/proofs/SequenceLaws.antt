@@ -9,10 +9,9 @@ use Rattle.fw_frontier.specs.Frontier.{Frontier, IsFrontier}
 use Rattle.fw_flow.specs.declared.event.Event.{Event}
 use Rattle.fw_flow.specs.declared.event.Event.TheVariants.{Inject, Deliver, Notify}
 use Rattle.fw_flow.specs.declared.event.Message.{Message}
-use Rattle.fw_flow.specs.declared.kind.Kind.{Kind}
 use Rattle.fw_flow.specs.declared.kind.Kind.TheVariants.{Sequence}
 use Rattle.fw_flow.specs.Dataflow.{System, Dataflow, kind_of, sender, receiver, greatest_number, domain_of_kind, bounds_of, bounds_of_domain}
-use Rattle.fw_flow.specs.NodeFunction.{place, stamp, recs_on_notification, numbered_messages, sequence_sent, sends_of_kind, sends, sent_by}
+use Rattle.fw_flow.specs.NodeFunction.{stamp, recs_on_notification, numbered_messages, sequence_sent, sends_of_kind, sends, sent_by}
 use Rattle.fw_flow.specs.Projection.{events_at, all_inside, count_from, sent_count, number_of, phi_of_kind, phi}
 use Rattle.fw_model.specs.History.{injected_count}
 use Rattle.fw_model.specs.LawsOfSending.{notified_stamps, IsDescending, InsidePhiOfSequenceComesFromInside}
@@ -42,9 +41,11 @@ numbered-each n cause [] = tt
 numbered-each n cause (r ∷ rs) =
     cond_both (nat_le n greatest_number) (record { at = n ∷ []; rec = r; causes = cause ∷ [] } ∷ numbered_messages (n + 1) cause rs) []
     (AllByRecursion (IsNumbered n cause))
-    (λ e. ((omega arith, refl),
-        each-weaker (IsNumbered (n + 1) cause) (IsNumbered n cause) (numbered_messages (n + 1) cause rs)
-        (λ m a. let l = a.0 in (omega arith, a.1)) (numbered-each (n + 1) cause rs)))
+    (λ e. (
+      (omega arith, refl),
+      each-weaker (IsNumbered (n + 1) cause) (IsNumbered n cause) (numbered_messages (n + 1) cause rs)
+          (λ m a. let l = a.0 in (omega arith, a.1)) (numbered-each (n + 1) cause rs),
+    ))
     (λ e. tt)
 
 one_inside : (f : Frontier) (t : Stamp) (m : Message) (b : Bool) → f t ≡ b → m.causes ≡ t ∷ [] → all_inside f m.causes ≡ b
@@ -76,22 +77,24 @@ numbers-inside bounds f fr (Notify p t ∷ vs) d o =
     let now = numbered_messages n t rs in
     let all = sequence_sent (Notify p t ∷ vs) in
     elim (cases_Bool (f t)) [
-      inl k ↦
-        each-weaker (λ (m : Message). all_inside f m.causes ≡ true) (λ m. number_of m.at < count_from f all → all_inside f m.causes ≡ true) all (λ m i l. i)
-        (causes-inside f (Notify p t ∷ vs)
-        (k, each-weaker (λ s. (in_domain bounds s ≡ true) × (leq s t ≡ true)) (λ s. f s ≡ true) (notified_stamps vs)
-            (λ s a. fr.closed s t a.0 a.1 k) (each-both _ _ (notified_stamps vs) d.1 o.0)))
-    | inr k ↦
-        let none = count-none f now
-            (each-weaker (IsNumbered n t) (λ m. all_inside f m.causes ≡ false) now (λ m b. one_inside f t m false k b.1) (numbered-each n t rs)) in
-        let same : count_from f all ≡ count_from f (sequence_sent vs) = omega (arith, count-append f now (sequence_sent vs)) in
-        let fewer = count-le_length f (sequence_sent vs) in
-        each-append (λ (m : Message). number_of m.at < count_from f all → all_inside f m.causes ≡ true) now (sequence_sent vs)
-        (each-weaker (IsNumbered n t) (λ m. number_of m.at < count_from f all → all_inside f m.causes ≡ true) now
-            (λ m b l. let c = b.0 in absurd (omega arith)) (numbered-each n t rs))
-        (each-weaker (λ (m : Message). number_of m.at < count_from f (sequence_sent vs) → all_inside f m.causes ≡ true)
-            (λ m. number_of m.at < count_from f all → all_inside f m.causes ≡ true) (sequence_sent vs)
-            (λ m i l. i (omega arith)) (numbers-inside bounds f fr vs d.1 o.1))
+      | inl k ↦
+          each-weaker (λ (m : Message). all_inside f m.causes ≡ true) (λ m. number_of m.at < count_from f all → all_inside f m.causes ≡ true) all (λ m i l. i)
+          (causes-inside f (Notify p t ∷ vs) (
+            k,
+            each-weaker (λ s. (in_domain bounds s ≡ true) × (leq s t ≡ true)) (λ s. f s ≡ true) (notified_stamps vs)
+                (λ s a. fr.closed s t a.0 a.1 k) (each-both _ _ (notified_stamps vs) d.1 o.0),
+          ))
+      | inr k ↦
+          let none = count-none f now
+          (each-weaker (IsNumbered n t) (λ m. all_inside f m.causes ≡ false) now (λ m b. one_inside f t m false k b.1) (numbered-each n t rs)) in
+          let same : count_from f all ≡ count_from f (sequence_sent vs) = omega (arith, count-append f now (sequence_sent vs)) in
+          let fewer = count-le_length f (sequence_sent vs) in
+          each-append (λ (m : Message). number_of m.at < count_from f all → all_inside f m.causes ≡ true) now (sequence_sent vs)
+          (each-weaker (IsNumbered n t) (λ m. number_of m.at < count_from f all → all_inside f m.causes ≡ true) now
+          (λ m b l. let c = b.0 in absurd (omega arith)) (numbered-each n t rs))
+          (each-weaker (λ (m : Message). number_of m.at < count_from f (sequence_sent vs) → all_inside f m.causes ≡ true)
+          (λ m. number_of m.at < count_from f all → all_inside f m.causes ≡ true) (sequence_sent vs)
+          (λ m i l. i (omega arith)) (numbers-inside bounds f fr vs d.1 o.1))
     ]
 
 -- ---- what a sequence sent
@@ -165,17 +168,17 @@ inside_phi_of_sequence-from_inside sys h e f is fr d o =
     let Q : Message → Type 0 = λ m. phi sys h e f m.at ≡ true → all_inside f m.causes ≡ true in
     let P : List Message → Type 0 = λ ms. AllByRecursion Q ms in
     subst P (sym sent_is) (elim (cases_Bool (f top)) [
-      inl k ↦
-        each-weaker (λ (m : Message). all_inside f m.causes ≡ true) Q (sequence_sent vs) (λ m i l. i)
-        (causes-inside f vs (each-weaker (λ s. in_domain bounds s ≡ true) (λ s. f s ≡ true) (notified_stamps vs)
-            (λ s i. fr.closed s top i (sym (ap (λ b. in_domain b s) (bounds-sequence sys.flow p is)) ∙ i) k) notified))
-    | inr k ↦
-        each-weaker (λ (m : Message). number_of m.at < count_from f (sequence_sent vs) → all_inside f m.causes ≡ true) Q (sequence_sent vs)
-        (λ m i l. elim (phi-sequence sys h e f m.at is l) [
-          inl j ↦ absurd (two_ways (f top) j k)
-        | inr j ↦ let same = ap (count_from f) sent_is in i (omega arith)
-        ])
-        (numbers-inside bounds f fr vs notified o.in_order)
+      | inl k ↦
+          each-weaker (λ (m : Message). all_inside f m.causes ≡ true) Q (sequence_sent vs) (λ m i l. i)
+          (causes-inside f vs (each-weaker (λ s. in_domain bounds s ≡ true) (λ s. f s ≡ true) (notified_stamps vs)
+          (λ s i. fr.closed s top i (sym (ap (λ b. in_domain b s) (bounds-sequence sys.flow p is)) ∙ i) k) notified))
+      | inr k ↦
+          each-weaker (λ (m : Message). number_of m.at < count_from f (sequence_sent vs) → all_inside f m.causes ≡ true) Q (sequence_sent vs)
+          (λ m i l. elim (phi-sequence sys h e f m.at is l) [
+            | inl j ↦ absurd (two_ways (f top) j k)
+            | inr j ↦ let same = ap (count_from f) sent_is in i (omega arith)
+          ])
+          (numbers-inside bounds f fr vs notified o.in_order)
     ])
   where
     two_ways : (b : Bool) → b ≡ true → b ≡ false → ⊥

@@ -1,11 +1,11 @@
 -- What senders of a well-formed dataflow are.
-use Rattle.std.proofs.Common.{◌≡◌, ℕ, zero, suc, ◌+◌, ◌<◌, ◌≤◌, Bool, true, false, cond, ◌==◌, List, [], ◌∷◌, length, get_or, refl, sym, ap, ◌∙◌, inl, inr, ◌⊎◌, arith}
+use Rattle.std.proofs.Common.{◌≡◌, ℕ, zero, suc, ◌+◌, ◌<◌, ◌≤◌, ◌==◌, List, [], ◌∷◌, length, get_or, refl, inl, inr, ◌⊎◌, arith}
 use Rattle.std.proofs.lemmas.Bool.{cond_both, eqb-false}
 use Rattle.fw_flow.specs.declared.kind.Kind.{Kind}
-use Rattle.fw_flow.specs.declared.kind.Kind.TheVariants.{Input, OutputEpoch, OutputNumber, Select, Concat, Distinct, Join, Sum, Enter, Feedback, Leave, Total, Sequence, Ledger, Regroup}
+use Rattle.fw_flow.specs.declared.kind.Kind.TheVariants.{OutputEpoch, OutputNumber, Feedback, Sequence, Regroup}
 use Rattle.fw_flow.specs.declared.node.Edge.{Edge}
 use Rattle.fw_flow.specs.Dataflow.{Dataflow, kind_of, sender, max_of, edges_from, out_edges}
-use Rattle.fw_flow.specs.WellFormed.{IsWellFormed, IsLoopDeclared, IsOutDegree, IsGroupSize}
+use Rattle.fw_flow.specs.WellFormed.{IsLoopDeclared, IsOutDegree, IsGroupSize}
 use Rattle.fw_model.specs.LawsOfSending.{SendsByStamp, SendersOfWellFormed}
 
 edges_from-some : (es : List Edge) (n e p : ℕ) (d : Edge) → e < length es → (get_or es e d).sender ≡ p → 1 ≤ length (edges_from n es p)

@@ -7,7 +7,6 @@ use Rattle.fw_flow.specs.declared.event.Event.{Event}
 use Rattle.fw_flow.specs.declared.kind.Kind.{Kind}
 use Rattle.fw_flow.specs.declared.kind.Kind.TheVariants.{Sequence}
 use Rattle.fw_flow.specs.Dataflow.{System, Dataflow, kind_of, sender, bounds_of, bounds_of_domain, out_domain_of}
-use Rattle.fw_flow.specs.NodeFunction.{stamp, sends}
 use Rattle.fw_flow.specs.Projection.{phi, psi}
 
 -- the bounds of an edge: which lists are stamps of its messages

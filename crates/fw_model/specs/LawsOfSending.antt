@@ -3,7 +3,7 @@ use Rattle.std.specs.Prelude.{◌≡◌, ◌↔◌, ◌⊎◌, ℕ, ◌<◌, ◌
 use Rattle.std.specs.List.{AllByRecursion}
 use Rattle.fw_time.specs.Stamp.{Stamp, leq, in_domain}
 use Rattle.fw_time.specs.declared.stamp.Bounds.{Bounds}
-use Rattle.fw_frontier.specs.Frontier.{Frontier, nothing}
+use Rattle.fw_frontier.specs.Frontier.{Frontier}
 use Rattle.fw_flow.specs.declared.event.Event.{Event}
 use Rattle.fw_flow.specs.declared.event.Event.TheVariants.{Inject, Deliver, Notify}
 use Rattle.fw_flow.specs.declared.event.Message.{Message}
@@ -52,7 +52,7 @@ PhiBySendStamps = (sys : System) (h : List Event) (e : ℕ) (f : Frontier)
     → SendsByStamp sys.flow (kind_of sys.flow (sender sys.flow e)) → IsSenderFrontier sys.flow e f
     → (u : Stamp) → in_domain (bounds_of_edge sys.flow e) u ≡ true
     → (phi sys h e f u ≡ true)
-        ↔ IsSentFrom (bounds_of sys.flow (sender sys.flow e)) (send_stamp sys.flow (sender sys.flow e)) f u
+    ↔ IsSentFrom (bounds_of sys.flow (sender sys.flow e)) (send_stamp sys.flow (sender sys.flow e)) f u
 
 -- u is inside psi exactly where some stamp inside sends at u or above
 abbrev pub PsiBySendStamps : Type 0
@@ -66,7 +66,7 @@ abbrev pub SendsAtSendStamp : Type 0
 SendsAtSendStamp = (sys : System) (p : ℕ) → is_sequence_kind (kind_of sys.flow p) ≡ false
     → (before : List Event) (v : Event)
     → AllByRecursion (λ (m : Message). (send_stamp sys.flow p (stamp v) ≡ Some m.at) × (m.causes ≡ stamp v ∷ []))
-        (sends sys p before v)
+    (sends sys p before v)
 
 -- what an event inside a frontier makes its node send is inside psi
 abbrev pub SendsAreInsidePsi : Type 0

@@ -105,7 +105,7 @@ past_edges flow e l =
     ∙ sym (ap (λ n. domain_of_kind flow n.kind) idle)
     ∙ sym (ap (λ d. domain_of_kind flow (get_or flow.nodes d.receiver idle_node).kind) past)
 
-edge_domains : (flow : Dataflow) → IsWellFormed flow → (e : ℕ) → out_domain_of flow (sender flow e) ≡ domain_of flow (receiver flow e)
+pub edge_domains : (flow : Dataflow) → IsWellFormed flow → (e : ℕ) → out_domain_of flow (sender flow e) ≡ domain_of flow (receiver flow e)
 edge_domains flow w e = elim (cases_lt e (length flow.edges)) [ inl l ↦ w.domains e l | inr l ↦ past_edges flow e l ]
 
 edge-receiver : (flow : Dataflow) → IsWellFormed flow → (e : ℕ) (t : Stamp) → in_domain (bounds_of_edge flow e) t ≡ true
@@ -116,7 +116,7 @@ edge-receiver flow w e t i = sym (ap (λ d. in_domain (bounds_of_domain flow d) 
 -- ---- the events
 
 -- each event is at a stamp of its node's domain
-abbrev AreAllInDomain : Dataflow → List Event → Type 0
+abbrev pub AreAllInDomain : Dataflow → List Event → Type 0
 AreAllInDomain flow h = AllByRecursion (λ v. in_domain (bounds_of flow (place flow v)) (stamp v) ≡ true) h
 
 events_at-in_domain : (flow : Dataflow) (p : ℕ) (h : List Event) → AreAllInDomain flow h → AreEventsInDomain flow h p
@@ -151,7 +151,7 @@ unfolding bounds_of
 input-in_domain flow s x k l =
     ap (λ kind. in_domain (bounds_of_domain flow (domain_of_kind flow kind)) (x ∷ [])) (is_input (kind_of flow s) k) ∙ line-leq x greatest_number l
 
-enabled-in_domain : (sys : System) (h : List Event) → IsWellFormed sys.flow → HasEpochs sys → AreAllInDomain sys.flow h → (v : Event) → IsEnabled sys h v
+pub enabled-in_domain : (sys : System) (h : List Event) → IsWellFormed sys.flow → HasEpochs sys → AreAllInDomain sys.flow h → (v : Event) → IsEnabled sys h v
     → in_domain (bounds_of sys.flow (place sys.flow v)) (stamp v) ≡ true
 enabled-in_domain sys h w b d (Inject s x) k =
     let l = k.there in
@@ -167,7 +167,7 @@ enabled-in_domain sys h w b d (Notify p t) k =
     let a = and_parts (is_notified_kind (kind_of sys.flow p) && was_delivered_to sys.flow p t h) (not (was_notified p t h)) k.is_owed in
     delivered_to-in_domain sys.flow p t h d (and_parts (is_notified_kind (kind_of sys.flow p)) (was_delivered_to sys.flow p t h) a.0).1
 
-legal-in_domain : (sys : System) (h : List Event) → IsWellFormed sys.flow → HasEpochs sys → IsLegal sys h → AreAllInDomain sys.flow h
+pub legal-in_domain : (sys : System) (h : List Event) → IsWellFormed sys.flow → HasEpochs sys → IsLegal sys h → AreAllInDomain sys.flow h
 legal-in_domain sys [] w b l = tt
 legal-in_domain sys (v ∷ h) w b l =
     let d = legal-in_domain sys h w b l.1 in

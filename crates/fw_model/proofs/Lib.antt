@@ -1,7 +1,9 @@
+pub mod CompleteLaws
 pub mod EachLaws
 pub mod FrontierLaws
 pub mod LegalLaws
 pub mod MeetLaws
+pub mod PendingLaws
 pub mod PhiLaws
 pub mod PsiLaws
 pub mod SendingLaws

@@ -39,7 +39,7 @@ pub sends-each : SendsAtSendStamp
 unfolding sends
 sends-each sys p n before v = sends_of_kind-each sys (kind_of sys.flow p) before v n
 
-by_stamp-no_sequence : (flow : Dataflow) (kind : Kind) → SendsByStamp flow kind → is_sequence_kind kind ≡ false
+pub by_stamp-no_sequence : (flow : Dataflow) (kind : Kind) → SendsByStamp flow kind → is_sequence_kind kind ≡ false
 by_stamp-no_sequence flow Sequence p = absurd p
 by_stamp-no_sequence flow kind p = refl
 

@@ -20,7 +20,7 @@ use Rattle.fw_model.proofs.PhiLaws.{count-append}
 
 -- ---- counts
 
-count-le_length : (f : Frontier) (ms : List Message) → count_from f ms ≤ length ms
+pub count-le_length : (f : Frontier) (ms : List Message) → count_from f ms ≤ length ms
 count-le_length f [] = omega arith
 count-le_length f (m ∷ ms) =
     let h = count-le_length f ms in
@@ -33,10 +33,10 @@ count-none f (m ∷ ms) a = ap (λ b. cond b (count_from f ms + 1) (count_from f
 -- ---- numbered messages
 
 -- the message has a number from n on, and one cause
-abbrev IsNumbered : ℕ → Stamp → Message → Type 0
+abbrev pub IsNumbered : ℕ → Stamp → Message → Type 0
 IsNumbered n cause m = (n ≤ number_of m.at) × (m.causes ≡ cause ∷ [])
 
-numbered-each : (n : ℕ) (cause : Stamp) (rs : List Rec) → AllByRecursion (IsNumbered n cause) (numbered_messages n cause rs)
+pub numbered-each : (n : ℕ) (cause : Stamp) (rs : List Rec) → AllByRecursion (IsNumbered n cause) (numbered_messages n cause rs)
 numbered-each n cause [] = tt
 numbered-each n cause (r ∷ rs) =
     cond_both (nat_le n greatest_number) (record { at = n ∷ []; rec = r; causes = cause ∷ [] } ∷ numbered_messages (n + 1) cause rs) []
@@ -100,7 +100,7 @@ numbers-inside bounds f fr (Notify p t ∷ vs) d o =
 -- ---- what a sequence sent
 
 -- no event injects
-HasNoInject : List Event → Type 0
+pub HasNoInject : List Event → Type 0
 HasNoInject [] = Unit {0}
 HasNoInject (Inject s x ∷ vs) = ⊥
 HasNoInject (Deliver e m ∷ vs) = HasNoInject vs
@@ -120,14 +120,14 @@ no_inject-injection : (b : Bool) (s x n : ℕ) (vs : List Event) → cond b (n +
 no_inject-injection true s x n vs e k = absurd (omega arith)
 no_inject-injection false s x n vs e k = k e
 
-no_inject : (flow : Dataflow) (p : ℕ) (h : List Event) → injected_count p h ≡ 0 → HasNoInject (events_at flow p h)
+pub no_inject : (flow : Dataflow) (p : ℕ) (h : List Event) → injected_count p h ≡ 0 → HasNoInject (events_at flow p h)
 unfolding HasNoInject
 no_inject flow p [] n = tt
 no_inject flow p (Inject s x ∷ h) n = no_inject-injection (s == p) s x (injected_count p h) (events_at flow p h) n (no_inject flow p h)
 no_inject flow p (Deliver e m ∷ h) n = no_inject-delivery (receiver flow e == p) e m (events_at flow p h) (no_inject flow p h n)
 no_inject flow p (Notify q t ∷ h) n = no_inject-notification (q == p) q t (events_at flow p h) (no_inject flow p h n)
 
-sent_by-sequence : (sys : System) (p : ℕ) → kind_of sys.flow p ≡ Sequence → (vs : List Event) → HasNoInject vs → sent_by sys p vs ≡ sequence_sent vs
+pub sent_by-sequence : (sys : System) (p : ℕ) → kind_of sys.flow p ≡ Sequence → (vs : List Event) → HasNoInject vs → sent_by sys p vs ≡ sequence_sent vs
 unfolding sends HasNoInject
 sent_by-sequence sys p is [] n = refl
 sent_by-sequence sys p is (Inject s x ∷ vs) n = absurd n
@@ -137,18 +137,18 @@ sent_by-sequence sys p is (Notify q t ∷ vs) n =
     ap (λ k. sends_of_kind sys k vs (Notify q t) ++ sent_by sys p vs) is
     ∙ ap (λ ms. numbered_messages (length (sequence_sent vs)) t (recs_on_notification Sequence vs t) ++ ms) (sent_by-sequence sys p is vs n)
 
-notified_in_domain : (bounds : Bounds) (vs : List Event) → AllByRecursion (λ v. in_domain bounds (stamp v) ≡ true) vs
+pub notified_in_domain : (bounds : Bounds) (vs : List Event) → AllByRecursion (λ v. in_domain bounds (stamp v) ≡ true) vs
     → AllByRecursion (λ s. in_domain bounds s ≡ true) (notified_stamps vs)
 notified_in_domain bounds [] d = tt
 notified_in_domain bounds (Inject s x ∷ vs) d = notified_in_domain bounds vs d.1
 notified_in_domain bounds (Deliver e m ∷ vs) d = notified_in_domain bounds vs d.1
 notified_in_domain bounds (Notify p t ∷ vs) d = (d.0, notified_in_domain bounds vs d.1)
 
-bounds-sequence : (flow : Dataflow) (p : ℕ) → kind_of flow p ≡ Sequence → bounds_of flow p ≡ record { greatest = greatest_number ∷ [] }
+pub bounds-sequence : (flow : Dataflow) (p : ℕ) → kind_of flow p ≡ Sequence → bounds_of flow p ≡ record { greatest = greatest_number ∷ [] }
 unfolding bounds_of
 bounds-sequence flow p is = ap (λ k. bounds_of_domain flow (domain_of_kind flow k)) is
 
-phi-sequence : (sys : System) (h : List Event) (e : ℕ) (f : Frontier) (u : Stamp) → kind_of sys.flow (sender sys.flow e) ≡ Sequence → phi sys h e f u ≡ true
+pub phi-sequence : (sys : System) (h : List Event) (e : ℕ) (f : Frontier) (u : Stamp) → kind_of sys.flow (sender sys.flow e) ≡ Sequence → phi sys h e f u ≡ true
     → (f (greatest_number ∷ []) ≡ true) ⊎ (number_of u < sent_count sys h (sender sys.flow e) f)
 unfolding phi
 phi-sequence sys h e f u is k =

@@ -1,4 +1,5 @@
 //! The laws of the definitions: each function's `ensures` is one law, and its body is empty.
+ghost use Rattle.fw_model.specs.LawsOfCompleteFrontiers.{AdmissibleStaysAdmissible, EnabledIsOutside};
 ghost use Rattle.fw_model.specs.LawsOfLegalHistories.{LegalEventsAreInDomain, LegalMessagesAreInDomain, OnlyInputsInject};
 ghost use Rattle.fw_model.specs.LawsOfProjections.{PhiGrowsWithHistory, PhiIgnoresHistory, PhiIsFrontier, PhiIsMonotone, PhiOfEverything, PhiOfMeet, PsiIsFrontier, PsiIsMonotone, PsiOfJoin, PsiOfNothing, PsiOfUnion};
 ghost use Rattle.fw_model.specs.LawsOfSending.{InsidePhiComesFromInside, InsidePhiOfSequenceComesFromInside, PhiBySendStamps, PsiBySendStamps, SendStampIsMonotone, SendersOfWellFormed, SendsAreInsidePsi, SendsAtSendStamp, SentFromInsideIsInsidePsi};
@@ -116,4 +117,14 @@ pub fn legal_messages_are_in_domain()
 /// In a legal history only inputs inject.
 pub fn only_inputs_inject()
     ensures { OnlyInputsInject }
+{}
+
+/// An enabled event is outside each admissible family: nothing comes where all has come.
+pub fn enabled_is_outside()
+    ensures { EnabledIsOutside }
+{}
+
+/// An enabled event leaves each admissible family admissible: it lowers no complete frontier.
+pub fn admissible_stays_admissible()
+    ensures { AdmissibleStaysAdmissible }
 {}

@@ -3,6 +3,7 @@ pub mod EachLaws
 pub mod FrontierLaws
 pub mod LegalLaws
 pub mod MeetLaws
+pub mod OrderLaws
 pub mod PendingLaws
 pub mod PhiLaws
 pub mod PsiLaws

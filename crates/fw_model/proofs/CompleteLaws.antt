@@ -59,7 +59,7 @@ past_edges-idle flow e l =
     ap (λ d. (get_or flow.nodes d.sender idle_node).kind) past ∙ ap (λ n. n.kind) (get_or_past flow.nodes (length flow.nodes) idle_node last)
 
 -- the sender of any edge is a sequence, sends by stamp, or sends nothing
-sender_sorts : (flow : Dataflow) → IsWellFormed flow → (e : ℕ)
+pub sender_sorts : (flow : Dataflow) → IsWellFormed flow → (e : ℕ)
     → ((kind_of flow (sender flow e) ≡ Sequence) ⊎ SendsByStamp flow (kind_of flow (sender flow e))) ⊎ (kind_of flow (sender flow e) ≡ OutputEpoch)
 sender_sorts flow w e = elim (cases_lt e (length flow.edges)) [ inl l ↦ inl (senders_well_formed flow w e l) | inr l ↦ inr (past_edges-idle flow e l) ]
 

@@ -1,5 +1,5 @@
 -- In a legal history a sequence is notified in the order of stamps.
-use Rattle.std.proofs.Common.{◌≡◌, ℕ, ◌+◌, ◌<◌, ◌≤◌, Bool, true, false, not, cond, ◌&&◌, ◌||◌, ◌==◌, List, [], ◌∷◌, length, refl, sym, ap, ◌∙◌, inl, inr, ◌⊎◌, arith}
+use Rattle.std.proofs.Common.{◌≡◌, ℕ, ◌+◌, ◌<◌, ◌≤◌, Bool, true, false, not, cond, ◌&&◌, ◌||◌, ◌==◌, List, [], ◌∷◌, Option, Some, None, length, refl, sym, ap, ◌∙◌, inl, inr, ◌⊎◌, arith}
 use Rattle.std.specs.List.{AllByRecursion}
 use Rattle.std.proofs.lemmas.Bool.{and_parts, and_from, or_cases, or_left, or_right, cond_both, eqb-true, eq-eqb, cases_lt, cases_Bool}
 use Rattle.fw_time.specs.Stamp.{Stamp, leq, lesser, same, in_domain}
@@ -7,28 +7,28 @@ use Rattle.fw_time.specs.declared.stamp.Bounds.{Bounds}
 use Rattle.fw_frontier.specs.Frontier.{Frontier, IsFrontier, Within, join}
 use Rattle.fw_flow.specs.declared.event.Event.{Event}
 use Rattle.fw_flow.specs.declared.event.Event.TheVariants.{Inject, Deliver, Notify}
+use Rattle.fw_flow.specs.declared.event.Message.{Message}
 use Rattle.fw_flow.specs.declared.kind.Domain.{Domain}
 use Rattle.fw_flow.specs.declared.kind.Domain.TheVariants.{Epoch, Number}
 use Rattle.fw_flow.specs.declared.kind.Kind.{Kind}
-use Rattle.fw_flow.specs.declared.kind.Kind.TheVariants.{Sequence}
-use Rattle.fw_flow.specs.Dataflow.{System, Dataflow, kind_of, sender, receiver, greatest_number, domain_of_kind, out_domain_of_kind, bounds_of, is_input_kind, is_notified_kind}
+use Rattle.fw_flow.specs.declared.kind.Kind.TheVariants.{OutputEpoch, Sequence}
+use Rattle.fw_flow.specs.Dataflow.{System, Dataflow, kind_of, sender, receiver, greatest_number, domain_of_kind, out_domain_of_kind, bounds_of, is_input_kind, is_notified_kind, send_stamp_of_kind}
 use Rattle.fw_flow.specs.NodeFunction.{sent_by}
-use Rattle.fw_flow.specs.Projection.{events_at, phi}
+use Rattle.fw_flow.specs.Projection.{events_at, all_inside, phi}
 use Rattle.fw_flow.specs.WellFormed.{IsWellFormed}
 use Rattle.fw_model.specs.History.{less, some_at, delivered, was_delivered_to, was_notified, owed, injected_epochs, IsAdmissible, IsNotifiable, IsEnabled, IsLegal}
-use Rattle.fw_model.specs.LawsOfProjections.{bounds_of_edge, IsSenderFrontier}
-use Rattle.fw_model.specs.LawsOfSending.{notified_stamps, IsDescending, IsNotifiedInOrder, AreEventsInDomain}
+use Rattle.fw_model.specs.LawsOfProjections.{is_sequence_kind, bounds_of_edge, IsSenderFrontier}
+use Rattle.fw_model.specs.LawsOfSending.{ComesFromInside, notified_stamps, IsDescending, IsNotifiedInOrder, AreEventsInDomain}
 use Rattle.fw_model.specs.LawsOfLegalHistories.{HasEpochs}
 use Rattle.fw_model.specs.LawsOfCompleteFrontiers.{SequencesAreNotifiedInOrder, LegalInsidePhiComesFromInside}
 use Rattle.fw_model.proofs.EachLaws.{each-weaker, each-both}
 use Rattle.fw_model.proofs.StampLaws.{leq-refl, leq-trans, in_line, line-leq, leq_from, leq_to}
 use Rattle.fw_model.proofs.PhiLaws.{phi-monotone, phi-longer}
 use Rattle.fw_model.proofs.FrontierLaws.{phi-frontier}
-use Rattle.fw_model.proofs.SendsLaws.{inside_phi-from_inside}
+use Rattle.fw_model.proofs.SendsLaws.{IsOfCause, sent_by-of_cause, inside_phi-from_inside}
 use Rattle.fw_model.proofs.SequenceLaws.{bounds-sequence, notified_in_domain, inside_phi_of_sequence-from_inside}
-use Rattle.fw_model.proofs.WellFormedLaws.{senders_well_formed}
 use Rattle.fw_model.proofs.LegalLaws.{enabled-in_domain, legal-in_domain, legal_events-in_domain, only_inputs_inject, edge_domains}
-use Rattle.fw_model.proofs.CompleteLaws.{admissible-stays}
+use Rattle.fw_model.proofs.CompleteLaws.{admissible-stays, sender_sorts}
 
 two_ways : (b : Bool) → b ≡ true → b ≡ false → ⊥
 two_ways b p q = cc
@@ -62,26 +62,26 @@ raise-frontier : (flow : Dataflow) (done : ℕ → Frontier) (p : ℕ) (t : Stam
 unfolding raise
 raise-frontier flow done p t fr q = record {
   inside_domain = λ s k. elim (or_cases (done q s) (raised flow p t q s) k) [
-      inl i ↦ (fr q).inside_domain s i
+    | inl i ↦ (fr q).inside_domain s i
     | inr i ↦ let r = is_raised flow p t q s i in ap (λ n. in_domain (bounds_of flow n) s) r.node ∙ r.inside
-    ];
+  ];
   closed = λ s u d l k. elim (or_cases (done q u) (raised flow p t q u) k) [
-      inl i ↦ or_left (done q s) (raised flow p t q s) ((fr q).closed s u d l i)
+    | inl i ↦ or_left (done q s) (raised flow p t q s) ((fr q).closed s u d l i)
     | inr i ↦
         let r = is_raised flow p t q u i in
         or_right (done q s) (raised flow p t q s)
         (ap (λ n. raised flow p t n s) r.node
         ∙ raised-from flow p t s (sym (ap (λ n. in_domain (bounds_of flow n) s) r.node) ∙ d) (leq-trans s u t l r.below))
-    ]
+  ];
 }
 
 -- no edge leads from a sequence to itself
 no_loop : (flow : Dataflow) → IsWellFormed flow → (e p : ℕ) → kind_of flow p ≡ Sequence → sender flow e ≡ p → receiver flow e ≡ p → ⊥
 no_loop flow w e p is s r =
     let d : Number ≡ Epoch =
-        sym (ap (λ q. out_domain_of_kind flow (kind_of flow q)) s ∙ ap (λ k. out_domain_of_kind flow k) is)
-        ∙ edge_domains flow w e
-        ∙ ap (λ q. domain_of_kind flow (kind_of flow q)) r ∙ ap (λ k. domain_of_kind flow k) is in
+    sym (ap (λ q. out_domain_of_kind flow (kind_of flow q)) s ∙ ap (λ k. out_domain_of_kind flow k) is)
+    ∙ edge_domains flow w e
+    ∙ ap (λ q. domain_of_kind flow (kind_of flow q)) r ∙ ap (λ k. domain_of_kind flow k) is in
     cc d
 
 not_owed-same : (a b c d : Bool) → c ≡ true → (a && b && not (c || d)) ≡ false
@@ -102,8 +102,8 @@ raised-paid sys h p t s k l =
     let came = was_delivered_to sys.flow p s h in
     let now = p == p && same t s in
     elim (cases_Bool (leq t s)) [
-      inl i ↦ not_owed-same kind came now (was_notified p s h) (and_from (p == p) (same t s) (eq-eqb p p refl) (and_from (leq t s) (leq s t) i l))
-    | inr i ↦ not_owed-more kind came now (was_notified p s h) (k.none_lesser s (and_from (leq s t) (not (leq t s)) l (ap not i)))
+      | inl i ↦ not_owed-same kind came now (was_notified p s h) (and_from (p == p) (same t s) (eq-eqb p p refl) (and_from (leq t s) (leq s t) i l))
+      | inr i ↦ not_owed-more kind came now (was_notified p s h) (k.none_lesser s (and_from (leq s t) (not (leq t s)) l (ap not i)))
     ]
 
 raised-quiet : (sys : System) (h : List Event) → IsWellFormed sys.flow → (p : ℕ) (t s : Stamp) → kind_of sys.flow p ≡ Sequence → IsNotifiable sys h p t
@@ -129,32 +129,32 @@ raise-admissible sys h w b l p t is k done a c =
     record {
       frontier = raise-frontier flow done p t a.frontier;
       quiet = λ q s i e r. elim (or_cases (done q s) (raised flow p t q s) i) [
-          inl j ↦ now.quiet q s j e r
+        | inl j ↦ now.quiet q s j e r
         | inr j ↦ let x = is_raised flow p t q s j in raised-quiet sys h w p t s is k x.below e (r ∙ x.node)
-        ];
+      ];
       paid = λ q s i. elim (or_cases (done q s) (raised flow p t q s) i) [
-          inl j ↦ now.paid q s j
+        | inl j ↦ now.paid q s j
         | inr j ↦ let x = is_raised flow p t q s j in ap (λ n. owed sys (v ∷ h) n s) x.node ∙ raised-paid sys h p t s k x.below
-        ];
+      ];
       follows = λ e u i.
-        let q = sender flow e in
-        let r = receiver flow e in
-        elim (or_cases (done r u) (raised flow p t r u) i) [
-          inl j ↦ phi-monotone sys (v ∷ h) e (done q) (family q) (wider q) u (now.follows e u j)
-        | inr j ↦
-            let x = is_raised flow p t r u j in
-            let fr = phi-frontier sys h e (done q) (a.frontier q) in
-            let top = c e x.node in
-            phi-monotone sys (v ∷ h) e (done q) (family q) (wider q) u
-            (phi-longer sys h (v ∷ []) e (done q) u
-            (fr.closed u t (leq-trans u t (bounds_of_edge flow e).greatest x.below (fr.inside_domain t top)) x.below top))
-        ];
+          let q = sender flow e in
+          let r = receiver flow e in
+          elim (or_cases (done r u) (raised flow p t r u) i) [
+            | inl j ↦ phi-monotone sys (v ∷ h) e (done q) (family q) (wider q) u (now.follows e u j)
+            | inr j ↦
+                let x = is_raised flow p t r u j in
+                let fr = phi-frontier sys h e (done q) (a.frontier q) in
+                let top = c e x.node in
+                phi-monotone sys (v ∷ h) e (done q) (family q) (wider q) u
+                (phi-longer sys h (v ∷ []) e (done q) u
+                (fr.closed u t (leq-trans u t (bounds_of_edge flow e).greatest x.below (fr.inside_domain t top)) x.below top))
+          ];
       source = λ s j u i. elim (or_cases (done s u) (raised flow p t s u) i) [
-          inl y ↦ now.source s j u y
+        | inl y ↦ now.source s j u y
         | inr y ↦
             let x = is_raised flow p t s u y in
             absurd (two_ways (is_input_kind (kind_of flow s)) j (ap (λ n. is_input_kind (kind_of flow n)) x.node ∙ ap is_input_kind is))
-        ]
+      ];
     }
 
 -- ---- notified stamps are inside
@@ -168,9 +168,11 @@ notified-now : (sys : System) (h : List Event) → IsWellFormed sys.flow → Has
 unfolding raise
 notified-now sys h w b l p t is k =
     let c = k.complete in
-    let d = enabled-in_domain sys h w b (legal-in_domain sys h w b l) (Notify p t) k in
-    (raise sys.flow c.0 p t, raise-admissible sys h w b l p t is k c.0 c.1 c.2,
-    or_right (c.0 p t) (raised sys.flow p t p t) (raised-from sys.flow p t t d (leq-refl t)))
+    let d = enabled-in_domain sys h w b (legal-in_domain sys h w b l) (Notify p t) k in (
+      raise sys.flow c.0 p t,
+      raise-admissible sys h w b l p t is k c.0 c.1 c.2,
+      or_right (c.0 p t) (raised sys.flow p t p t) (raised-from sys.flow p t t d (leq-refl t)),
+    )
 
 notified-inside : (sys : System) (h : List Event) → IsWellFormed sys.flow → HasEpochs sys → IsLegal sys h
     → (p : ℕ) → kind_of sys.flow p ≡ Sequence → AllByRecursion (IsInside sys h p) (notified_stamps (events_at sys.flow p h))
@@ -192,9 +194,9 @@ notified-inside sys (v ∷ h) w b l p is =
         let vs = events_at sys.flow p h in
         cond_both (q == p) (Notify q t ∷ vs) vs (λ ws. AllByRecursion (IsInside sys (Notify q t ∷ h) p) (notified_stamps ws))
         (λ e.
-            let here = eqb-true q p e in
-            let x = notified-now sys h w b l.1 q t (ap (kind_of sys.flow) here ∙ is) k in
-            ((x.0, x.1, sym (ap (λ n. x.0 n t) here) ∙ x.2), a))
+        let here = eqb-true q p e in
+        let x = notified-now sys h w b l.1 q t (ap (kind_of sys.flow) here ∙ is) k in
+        ((x.0, x.1, sym (ap (λ n. x.0 n t) here) ∙ x.2), a))
         (λ e. a)
 
 -- ---- in order
@@ -205,18 +207,18 @@ either_way g s t i j =
     let x = in_line s g i in
     let y = in_line t g j in
     elim (cases_lt y.0 x.0) [
-      inl l ↦ inr (leq_to t _ s (sym x.1) (leq_from (y.0 ∷ []) t _ (sym y.1) (line-leq y.0 x.0 (omega arith))))
-    | inr l ↦ inl (leq_to s _ t (sym y.1) (leq_from (x.0 ∷ []) s _ (sym x.1) (line-leq x.0 y.0 l)))
+      | inl l ↦ inr (leq_to t _ s (sym x.1) (leq_from (y.0 ∷ []) t _ (sym y.1) (line-leq y.0 x.0 (omega arith))))
+      | inr l ↦ inl (leq_to s _ t (sym y.1) (leq_from (x.0 ∷ []) s _ (sym x.1) (line-leq x.0 y.0 l)))
     ]
 
 notified-below : (sys : System) (h : List Event) (p : ℕ) (t : Stamp) → kind_of sys.flow p ≡ Sequence → owed sys h p t ≡ true
     → in_domain (bounds_of sys.flow p) t ≡ true → (s : Stamp) → in_domain (bounds_of sys.flow p) s ≡ true → IsInside sys h p s → leq s t ≡ true
 notified-below sys h p t is o i s j x =
     let line : (u : Stamp) → in_domain (bounds_of sys.flow p) u ≡ true → leq u (greatest_number ∷ []) ≡ true =
-        λ u d. sym (ap (λ b. in_domain b u) (bounds-sequence sys.flow p is)) ∙ d in
+    λ u d. sym (ap (λ b. in_domain b u) (bounds-sequence sys.flow p is)) ∙ d in
     elim (either_way greatest_number s t (line s j) (line t i)) [
-      inl l ↦ l
-    | inr l ↦ absurd (two_ways (owed sys h p t) o (x.1.paid p t ((x.1.frontier p).closed t s i l x.2)))
+      | inl l ↦ l
+      | inr l ↦ absurd (two_ways (owed sys h p t) o (x.1.paid p t ((x.1.frontier p).closed t s i l x.2)))
     ]
 
 descending : (sys : System) (h : List Event) → IsWellFormed sys.flow → HasEpochs sys → IsLegal sys h
@@ -237,13 +239,15 @@ descending sys (v ∷ h) w b l p is = after v l.0 (descending sys h w b l.1 p is
         let bounds = bounds_of sys.flow p in
         cond_both (q == p) (Notify q t ∷ vs) vs (λ ws. IsDescending (notified_stamps ws))
         (λ e.
-            let here = eqb-true q p e in
-            let o = sym (ap (λ n. owed sys h n t) here) ∙ k.is_owed in
-            let d = sym (ap (λ n. in_domain (bounds_of sys.flow n) t) here) ∙ enabled-in_domain sys h w b (legal-in_domain sys h w b l.1) (Notify q t) k in
-            (each-weaker (λ s. (in_domain bounds s ≡ true) × IsInside sys h p s) (λ s. leq s t ≡ true) (notified_stamps vs)
-                (λ s x. notified-below sys h p t is o d s x.0 x.1)
-                (each-both (λ s. in_domain bounds s ≡ true) (IsInside sys h p) (notified_stamps vs)
-                (notified_in_domain bounds vs (legal_events-in_domain sys h w b l.1 p)) (notified-inside sys h w b l.1 p is)), a))
+        let here = eqb-true q p e in
+        let o = sym (ap (λ n. owed sys h n t) here) ∙ k.is_owed in
+        let d = sym (ap (λ n. in_domain (bounds_of sys.flow n) t) here) ∙ enabled-in_domain sys h w b (legal-in_domain sys h w b l.1) (Notify q t) k in (
+          each-weaker (λ s. (in_domain bounds s ≡ true) × IsInside sys h p s) (λ s. leq s t ≡ true) (notified_stamps vs)
+              (λ s x. notified-below sys h p t is o d s x.0 x.1)
+              (each-both (λ s. in_domain bounds s ≡ true) (IsInside sys h p) (notified_stamps vs)
+              (notified_in_domain bounds vs (legal_events-in_domain sys h w b l.1 p)) (notified-inside sys h w b l.1 p is)),
+          a,
+        ))
         (λ e. a)
 
 -- ---- the laws
@@ -251,14 +255,24 @@ descending sys (v ∷ h) w b l p is = after v l.0 (descending sys h w b l.1 p is
 pub sequences-in_order : SequencesAreNotifiedInOrder
 sequences-in_order sys h w b l p is = record {
   injects_nothing = only_inputs_inject sys h l p (ap is_input_kind is);
-  in_order = descending sys h w b l p is
+  in_order = descending sys h w b l p is;
 }
 
+-- an output sent nothing
+idle-comes_from_inside : (sys : System) (h : List Event) (e : ℕ) (f : Frontier) → kind_of sys.flow (sender sys.flow e) ≡ OutputEpoch → ComesFromInside sys h e f
+unfolding IsOfCause
+idle-comes_from_inside sys h e f is =
+    let p = sender sys.flow e in
+    each-weaker (IsOfCause sys.flow p) (λ m. phi sys h e f m.at ≡ true → all_inside f m.causes ≡ true) (sent_by sys p (events_at sys.flow p h))
+    (λ m a k. let r : None ≡ Some m.at = sym (ap (λ kind. send_stamp_of_kind sys.flow kind a.0) is) ∙ a.1 in absurd (cc r))
+    (sent_by-of_cause sys p (ap is_sequence_kind is) (events_at sys.flow p h))
+
 pub legal-inside_phi : LegalInsidePhiComesFromInside
-legal-inside_phi sys h w b l e i f fr =
+legal-inside_phi sys h w b l e f fr =
     let p = sender sys.flow e in
     let d = legal_events-in_domain sys h w b l p in
-    elim (senders_well_formed sys.flow w e i) [
-      inl is ↦ inside_phi_of_sequence-from_inside sys h e f is fr d (sequences-in_order sys h w b l p is)
-    | inr by ↦ inside_phi-from_inside sys h e f by fr d
+    elim (sender_sorts sys.flow w e) [
+      | inl (inl is) ↦ inside_phi_of_sequence-from_inside sys h e f is fr d (sequences-in_order sys h w b l p is)
+      | inl (inr by) ↦ inside_phi-from_inside sys h e f by fr d
+      | inr is ↦ idle-comes_from_inside sys h e f is
     ]

@@ -75,10 +75,10 @@ inside_phi-from_inside sys h e f p fr d =
     (sent_by-each sys q (by_stamp-no_sequence sys.flow (kind_of sys.flow q) p) (events_at sys.flow q h) d)
 
 -- the message is at the send stamp of its one cause
-IsOfCause : Dataflow → ℕ → Message → Type 0
+unfoldable pub IsOfCause : Dataflow → ℕ → Message → Type 0
 IsOfCause flow p m = (t : Stamp) × (send_stamp flow p t ≡ Some m.at) × (m.causes ≡ t ∷ [])
 
-sent_by-of_cause : (sys : System) (p : ℕ) → is_sequence_kind (kind_of sys.flow p) ≡ false → (vs : List Event) → AllByRecursion (IsOfCause sys.flow p) (sent_by sys p vs)
+pub sent_by-of_cause : (sys : System) (p : ℕ) → is_sequence_kind (kind_of sys.flow p) ≡ false → (vs : List Event) → AllByRecursion (IsOfCause sys.flow p) (sent_by sys p vs)
 unfolding IsOfCause
 sent_by-of_cause sys p n [] = tt
 sent_by-of_cause sys p n (v ∷ vs) =

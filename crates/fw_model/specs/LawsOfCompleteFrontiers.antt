@@ -1,5 +1,5 @@
 -- Laws of complete frontiers: where all has come nothing more comes, and what follows for sequences.
-use Rattle.std.specs.Prelude.{◌≡◌, ℕ, ◌<◌, false, List, ◌∷◌, length}
+use Rattle.std.specs.Prelude.{◌≡◌, ℕ, false, List, ◌∷◌}
 use Rattle.fw_frontier.specs.Frontier.{Frontier}
 use Rattle.fw_flow.specs.declared.event.Event.{Event}
 use Rattle.fw_flow.specs.declared.kind.Kind.TheVariants.{Sequence}
@@ -26,8 +26,7 @@ abbrev pub SequencesAreNotifiedInOrder : Type 0
 SequencesAreNotifiedInOrder = (sys : System) (h : List Event) → IsWellFormed sys.flow → HasEpochs sys → IsLegal sys h
     → (p : ℕ) → kind_of sys.flow p ≡ Sequence → IsNotifiedInOrder sys.flow h p
 
--- in a legal history each message at a stamp inside phi comes from events inside, for each sender
+-- in a legal history each message on an edge at a stamp inside phi comes from events inside
 abbrev pub LegalInsidePhiComesFromInside : Type 0
 LegalInsidePhiComesFromInside = (sys : System) (h : List Event) → IsWellFormed sys.flow → HasEpochs sys
-    → IsLegal sys h → (e : ℕ) → e < length sys.flow.edges
-    → (f : Frontier) → IsSenderFrontier sys.flow e f → ComesFromInside sys h e f
+    → IsLegal sys h → (e : ℕ) (f : Frontier) → IsSenderFrontier sys.flow e f → ComesFromInside sys h e f

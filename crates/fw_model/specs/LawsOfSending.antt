@@ -16,8 +16,8 @@ use Rattle.fw_flow.specs.WellFormed.{IsWellFormed}
 use Rattle.fw_model.specs.History.{sent, injected_count}
 use Rattle.fw_model.specs.LawsOfProjections.{bounds_of_edge, IsSenderFrontier, is_sequence_kind}
 
--- A node of the kind sends, each message at the send stamp of its event: it is no output and no sequence, a loop that it
--- feeds back has a next counter, and the groups that it makes are not empty.
+-- A node of the kind sends at the send stamps of its events: it is no output and no sequence, a loop that it feeds back
+-- has a next counter, and the groups that it makes are not empty.
 abbrev pub SendsByStamp : Dataflow → Kind → Type 0
 SendsByStamp flow OutputEpoch = ⊥
 SendsByStamp flow OutputNumber = ⊥
@@ -61,7 +61,7 @@ PsiBySendStamps = (sys : System) (e : ℕ) (f : Frontier)
     → (u : Stamp) → in_domain (bounds_of_edge sys.flow e) u ≡ true
     → (psi sys e f u ≡ true) ↔ SendsAbove (send_stamp sys.flow (sender sys.flow e)) f u
 
--- Each message that an event makes its node send, outside a sequence, is at the send stamp of the event, its one cause.
+-- each message that an event makes a node send, but for a sequence, is at the send stamp of the event, its one cause
 abbrev pub SendsAtSendStamp : Type 0
 SendsAtSendStamp = (sys : System) (p : ℕ) → is_sequence_kind (kind_of sys.flow p) ≡ false
     → (before : List Event) (v : Event)
@@ -83,7 +83,8 @@ SentFromInsideIsInsidePsi = (sys : System) (h : List Event) (e : ℕ) (f : Front
 
 -- each event of the node is at a stamp of its domain
 abbrev pub AreEventsInDomain : Dataflow → List Event → ℕ → Type 0
-AreEventsInDomain flow h p = AllByRecursion (λ v. in_domain (bounds_of flow p) (stamp v) ≡ true) (events_at flow p h)
+AreEventsInDomain flow h p =
+    AllByRecursion (λ v. in_domain (bounds_of flow p) (stamp v) ≡ true) (events_at flow p h)
 
 -- each message on the edge at a stamp inside phi of the frontier comes from events inside it
 abbrev pub ComesFromInside : System → List Event → ℕ → Frontier → Type 0

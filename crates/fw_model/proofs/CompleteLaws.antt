@@ -1,33 +1,32 @@
 -- Where all has come nothing more comes.
-use Rattle.std.proofs.Common.{◌≡◌, ℕ, ◌+◌, ◌<◌, ◌≤◌, Bool, true, false, not, cond, ◌&&◌, ◌||◌, ◌==◌, nat_lt, List, [], ◌∷◌, ◌++◌, length, get_or, Option, Some, None, refl, sym, ap, subst, ◌∙◌, inl, inr, ◌⊎◌, arith}
+use Rattle.std.proofs.Common.{◌≡◌, ℕ, ◌+◌, ◌≤◌, Bool, true, false, not, ◌&&◌, ◌||◌, ◌==◌, nat_lt, List, [], ◌∷◌, length, get_or, Some, None, refl, sym, ap, subst, ◌∙◌, inl, inr, ◌⊎◌, arith}
 use Rattle.std.specs.List.{AllByRecursion}
-use Rattle.std.proofs.lemmas.Bool.{and_parts, and_from, or_cases, or_left, or_right, cond_both, eqb-true, eq-eqb, ltb-true, lt-ltb, cases_lt, cases_Bool, false_from_ne_true}
+use Rattle.std.proofs.lemmas.Bool.{and_parts, and_from, or_cases, or_right, cond_both, eqb-true, ltb-true, lt-ltb, cases_lt, false_from_ne_true}
 use Rattle.std.proofs.lemmas.List.{get_or_past}
-use Rattle.fw_time.specs.Stamp.{Stamp, leq, lesser, same, in_domain}
-use Rattle.fw_frontier.specs.Frontier.{Frontier, IsFrontier, Within}
+use Rattle.fw_time.specs.Stamp.{Stamp, leq, same, in_domain}
+use Rattle.fw_frontier.specs.Frontier.{Frontier, Within}
 use Rattle.fw_flow.specs.declared.event.Event.{Event}
 use Rattle.fw_flow.specs.declared.event.Event.TheVariants.{Inject, Deliver, Notify}
 use Rattle.fw_flow.specs.declared.event.Message.{Message}
-use Rattle.fw_flow.specs.declared.kind.Kind.{Kind}
 use Rattle.fw_flow.specs.declared.kind.Kind.TheVariants.{OutputEpoch, Sequence}
-use Rattle.fw_flow.specs.Dataflow.{System, Dataflow, idle_node, kind_of, sender, receiver, greatest_number, domain_of_kind, out_domain_of_kind, bounds_of, is_input_kind, is_notified_kind, batches_of, send_stamp, send_stamp_of_kind}
+use Rattle.fw_flow.specs.Dataflow.{System, Dataflow, idle_node, kind_of, sender, receiver, greatest_number, bounds_of, is_input_kind, is_notified_kind, batches_of, send_stamp, send_stamp_of_kind}
 use Rattle.fw_flow.specs.NodeFunction.{place, stamp, recs_on, numbered_messages, sequence_sent, sends_of_kind, sends, sent_by}
-use Rattle.fw_flow.specs.Projection.{events_at, count_from, sent_count, number_of, phi}
+use Rattle.fw_flow.specs.Projection.{events_at, count_from, number_of, phi}
 use Rattle.fw_flow.specs.WellFormed.{IsWellFormed}
-use Rattle.fw_model.specs.History.{without, less, some_at, sent, delivered, pending, was_delivered_to, was_notified, owed, injected_count, is_exhausted, injected_epochs, IsQuiet, IsAdmissible, IsNotifiable, IsEnabled, IsLegal}
+use Rattle.fw_model.specs.History.{less, some_at, sent, delivered, pending, was_delivered_to, was_notified, owed, injected_count, is_exhausted, injected_epochs, IsAdmissible, IsEnabled, IsLegal}
 use Rattle.fw_model.specs.LawsOfProjections.{bounds_of_edge, is_sequence_kind, IsSenderFrontier}
-use Rattle.fw_model.specs.LawsOfSending.{SendsByStamp, notified_stamps, IsDescending, IsNotifiedInOrder, AreEventsInDomain}
+use Rattle.fw_model.specs.LawsOfSending.{SendsByStamp}
 use Rattle.fw_model.specs.LawsOfLegalHistories.{HasEpochs}
-use Rattle.fw_model.specs.LawsOfCompleteFrontiers.{EnabledIsOutside, AdmissibleStaysAdmissible, SequencesAreNotifiedInOrder, LegalInsidePhiComesFromInside}
-use Rattle.fw_model.proofs.EachLaws.{each-weaker, each-both}
-use Rattle.fw_model.proofs.StampLaws.{leq-refl, leq-trans, in_line, line-leq, leq_from, leq_to}
-use Rattle.fw_model.proofs.PhiLaws.{phi-monotone, phi-longer}
+use Rattle.fw_model.specs.LawsOfCompleteFrontiers.{EnabledIsOutside, AdmissibleStaysAdmissible}
+use Rattle.fw_model.proofs.EachLaws.{each-weaker}
+use Rattle.fw_model.proofs.StampLaws.{leq-refl, leq-trans}
+use Rattle.fw_model.proofs.PhiLaws.{phi-longer}
 use Rattle.fw_model.proofs.FrontierLaws.{phi-frontier}
 use Rattle.fw_model.proofs.SendingLaws.{phi-by_stamp, phi-in_domain}
-use Rattle.fw_model.proofs.SendsLaws.{IsAt, by_stamp-no_sequence, sends-each, inside_phi-from_inside}
-use Rattle.fw_model.proofs.SequenceLaws.{IsNumbered, numbered-each, count-le_length, no_inject, sent_by-sequence, phi-sequence, bounds-sequence, notified_in_domain, inside_phi_of_sequence-from_inside}
+use Rattle.fw_model.proofs.SendsLaws.{IsAt, by_stamp-no_sequence, sends-each}
+use Rattle.fw_model.proofs.SequenceLaws.{IsNumbered, numbered-each, count-le_length, no_inject, sent_by-sequence, phi-sequence, bounds-sequence}
 use Rattle.fw_model.proofs.WellFormedLaws.{senders_well_formed}
-use Rattle.fw_model.proofs.LegalLaws.{AreAllInDomain, enabled-in_domain, legal-in_domain, legal_events-in_domain, only_inputs_inject, edge_domains}
+use Rattle.fw_model.proofs.LegalLaws.{enabled-in_domain, legal-in_domain, only_inputs_inject}
 use Rattle.fw_model.proofs.PendingLaws.{quiet-new, quiet-without, is_among-some_at}
 
 two_ways : (b : Bool) → b ≡ true → b ≡ false → ⊥

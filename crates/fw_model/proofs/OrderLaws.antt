@@ -1,24 +1,20 @@
 -- In a legal history a sequence is notified in the order of stamps.
-use Rattle.std.proofs.Common.{◌≡◌, ℕ, ◌+◌, ◌<◌, ◌≤◌, Bool, true, false, not, cond, ◌&&◌, ◌||◌, ◌==◌, List, [], ◌∷◌, Option, Some, None, length, refl, sym, ap, ◌∙◌, inl, inr, ◌⊎◌, arith}
+use Rattle.std.proofs.Common.{◌≡◌, ℕ, Bool, true, false, not, ◌&&◌, ◌||◌, ◌==◌, List, [], ◌∷◌, Some, None, refl, sym, ap, ◌∙◌, inl, inr, ◌⊎◌, arith}
 use Rattle.std.specs.List.{AllByRecursion}
 use Rattle.std.proofs.lemmas.Bool.{and_parts, and_from, or_cases, or_left, or_right, cond_both, eqb-true, eq-eqb, cases_lt, cases_Bool}
-use Rattle.fw_time.specs.Stamp.{Stamp, leq, lesser, same, in_domain}
-use Rattle.fw_time.specs.declared.stamp.Bounds.{Bounds}
+use Rattle.fw_time.specs.Stamp.{Stamp, leq, same, in_domain}
 use Rattle.fw_frontier.specs.Frontier.{Frontier, IsFrontier, Within, join}
 use Rattle.fw_flow.specs.declared.event.Event.{Event}
 use Rattle.fw_flow.specs.declared.event.Event.TheVariants.{Inject, Deliver, Notify}
-use Rattle.fw_flow.specs.declared.event.Message.{Message}
-use Rattle.fw_flow.specs.declared.kind.Domain.{Domain}
 use Rattle.fw_flow.specs.declared.kind.Domain.TheVariants.{Epoch, Number}
-use Rattle.fw_flow.specs.declared.kind.Kind.{Kind}
 use Rattle.fw_flow.specs.declared.kind.Kind.TheVariants.{OutputEpoch, Sequence}
 use Rattle.fw_flow.specs.Dataflow.{System, Dataflow, kind_of, sender, receiver, greatest_number, domain_of_kind, out_domain_of_kind, bounds_of, is_input_kind, is_notified_kind, send_stamp_of_kind}
 use Rattle.fw_flow.specs.NodeFunction.{sent_by}
 use Rattle.fw_flow.specs.Projection.{events_at, all_inside, phi}
 use Rattle.fw_flow.specs.WellFormed.{IsWellFormed}
-use Rattle.fw_model.specs.History.{less, some_at, delivered, was_delivered_to, was_notified, owed, injected_epochs, IsAdmissible, IsNotifiable, IsEnabled, IsLegal}
-use Rattle.fw_model.specs.LawsOfProjections.{is_sequence_kind, bounds_of_edge, IsSenderFrontier}
-use Rattle.fw_model.specs.LawsOfSending.{ComesFromInside, notified_stamps, IsDescending, IsNotifiedInOrder, AreEventsInDomain}
+use Rattle.fw_model.specs.History.{less, some_at, delivered, was_delivered_to, was_notified, owed, IsAdmissible, IsNotifiable, IsEnabled, IsLegal}
+use Rattle.fw_model.specs.LawsOfProjections.{is_sequence_kind, bounds_of_edge}
+use Rattle.fw_model.specs.LawsOfSending.{ComesFromInside, notified_stamps, IsDescending}
 use Rattle.fw_model.specs.LawsOfLegalHistories.{HasEpochs}
 use Rattle.fw_model.specs.LawsOfCompleteFrontiers.{SequencesAreNotifiedInOrder, LegalInsidePhiComesFromInside}
 use Rattle.fw_model.proofs.EachLaws.{each-weaker, each-both}

@@ -1,0 +1,196 @@
+-- At which stamps the events and messages of a legal history are.
+use Rattle.std.proofs.Common.{◌≡◌, ℕ, ◌+◌, ◌≤◌, Bool, true, false, not, ◌==◌, ◌&&◌, nat_le, List, [], ◌∷◌, length, get_or, refl, sym, ap, subst, ◌∙◌, inl, inr, arith}
+use Rattle.std.specs.declared.cmp.Ordering.{Ordering}
+use Rattle.std.specs.declared.cmp.Ordering.TheVariants.{Less, Equal, Greater}
+use Rattle.std.specs.Ordering.{is_eq, ordering_then}
+use Rattle.std.specs.List.{AllByRecursion}
+use Rattle.std.proofs.lemmas.Bool.{and_parts, and_from, or_cases, cond_both, eqb-true, cases_lt}
+use Rattle.std.proofs.lemmas.List.{get_or_past}
+use Rattle.std.proofs.lemmas.Map.Text.{is_eq-slice_cmp}
+use Rattle.std.proofs.lemmas.Slice.Eq.{bytes_eq-Decides}
+use Rattle.fw_bag.specs.declared.rec.Rec.{Rec}
+use Rattle.fw_time.specs.Stamp.{Stamp, leq, same, stamp_cmp, in_domain}
+use Rattle.fw_flow.specs.declared.event.Event.{Event}
+use Rattle.fw_flow.specs.declared.event.Event.TheVariants.{Inject, Deliver, Notify}
+use Rattle.fw_flow.specs.declared.event.Message.{Message}
+use Rattle.fw_flow.specs.declared.kind.Kind.{Kind}
+use Rattle.fw_flow.specs.declared.kind.Kind.TheVariants.{Input, Sequence}
+use Rattle.fw_flow.specs.Dataflow.{System, Dataflow, idle_node, kind_of, sender, receiver, greatest_number, domain_of, domain_of_kind, out_domain_of, out_domain_of_kind, bounds_of, bounds_of_domain, is_input_kind, is_notified_kind, send_stamp_of_kind}
+use Rattle.fw_flow.specs.NodeFunction.{place, stamp, recs_on, numbered_messages, sequence_sent, sends_of_kind, sends, sent_by}
+use Rattle.fw_flow.specs.Projection.{events_at}
+use Rattle.fw_flow.specs.WellFormed.{IsWellFormed}
+use Rattle.fw_model.specs.History.{message_cmp, is_among, without, less, sent, delivered, pending, was_delivered_to, was_notified, injected_count, IsLegal, IsEnabled}
+use Rattle.fw_model.specs.LawsOfProjections.{bounds_of_edge, is_sequence_kind}
+use Rattle.fw_model.specs.LawsOfSending.{AreEventsInDomain}
+use Rattle.fw_model.specs.LawsOfLegalHistories.{HasEpochs, LegalEventsAreInDomain, LegalMessagesAreInDomain, OnlyInputsInject}
+use Rattle.fw_model.proofs.EachLaws.{each-weaker, each-append}
+use Rattle.fw_model.proofs.StampLaws.{leq-trans, line-leq}
+use Rattle.fw_model.proofs.SendingLaws.{send_stamp_of_kind-in_domain}
+use Rattle.fw_model.proofs.SendsLaws.{IsAt, sends_of_kind-each}
+
+-- ---- what is sent
+
+numbered-in_domain : (n : ℕ) (cause : Stamp) (rs : List Rec)
+    → AllByRecursion (λ (m : Message). leq m.at (greatest_number ∷ []) ≡ true) (numbered_messages n cause rs)
+numbered-in_domain n cause [] = tt
+numbered-in_domain n cause (r ∷ rs) =
+    cond_both (nat_le n greatest_number) (record { at = n ∷ []; rec = r; causes = cause ∷ [] } ∷ numbered_messages (n + 1) cause rs) []
+    (AllByRecursion (λ m. leq m.at (greatest_number ∷ []) ≡ true))
+    (λ e. (and_from (nat_le n greatest_number) true e refl, numbered-in_domain (n + 1) cause rs)) (λ e. tt)
+
+sends_by_stamp-in_domain : (sys : System) (kind : Kind) (before : List Event) (v : Event) → is_sequence_kind kind ≡ false
+    → in_domain (bounds_of_domain sys.flow (domain_of_kind sys.flow kind)) (stamp v) ≡ true
+    → AllByRecursion (λ (m : Message). in_domain (bounds_of_domain sys.flow (out_domain_of_kind sys.flow kind)) m.at ≡ true) (sends_of_kind sys kind before v)
+sends_by_stamp-in_domain sys kind before v n i =
+    each-weaker (IsAt (send_stamp_of_kind sys.flow kind (stamp v)) (stamp v))
+    (λ m. in_domain (bounds_of_domain sys.flow (out_domain_of_kind sys.flow kind)) m.at ≡ true) (sends_of_kind sys kind before v)
+    (λ m a. send_stamp_of_kind-in_domain sys.flow kind (stamp v) m.at i a.0) (sends_of_kind-each sys kind before v n)
+
+sends_of_kind-in_domain : (sys : System) (kind : Kind) (before : List Event) (v : Event)
+    → in_domain (bounds_of_domain sys.flow (domain_of_kind sys.flow kind)) (stamp v) ≡ true
+    → AllByRecursion (λ (m : Message). in_domain (bounds_of_domain sys.flow (out_domain_of_kind sys.flow kind)) m.at ≡ true) (sends_of_kind sys kind before v)
+sends_of_kind-in_domain sys Sequence before v i = numbered-in_domain (length (sequence_sent before)) (stamp v) (recs_on sys Sequence before v)
+sends_of_kind-in_domain sys kind before v i = sends_by_stamp-in_domain sys kind before v refl i
+
+-- what a node sends at
+abbrev out_bounds : Dataflow → ℕ → Stamp → Bool
+out_bounds flow p t = in_domain (bounds_of_domain flow (out_domain_of flow p)) t
+
+sent_by-in_domain : (sys : System) (p : ℕ) (vs : List Event) → AllByRecursion (λ v. in_domain (bounds_of sys.flow p) (stamp v) ≡ true) vs
+    → AllByRecursion (λ (m : Message). out_bounds sys.flow p m.at ≡ true) (sent_by sys p vs)
+unfolding sends bounds_of
+sent_by-in_domain sys p [] d = tt
+sent_by-in_domain sys p (v ∷ vs) d =
+    each-append (λ (m : Message). out_bounds sys.flow p m.at ≡ true) (sends sys p vs v) (sent_by sys p vs)
+    (sends_of_kind-in_domain sys (kind_of sys.flow p) vs v d.0) (sent_by-in_domain sys p vs d.1)
+
+-- ---- what is pending was sent
+
+without-each : (P : Message → Type 0) (m : Message) (ms : List Message) → AllByRecursion P ms → AllByRecursion P (without m ms)
+without-each P m [] a = tt
+without-each P m (x ∷ xs) a =
+    cond_both (is_eq (message_cmp m x)) xs (x ∷ without m xs) (AllByRecursion P) (λ e. a.1) (λ e. (a.0, without-each P m xs a.1))
+
+pub less-each : (P : Message → Type 0) (ms ds : List Message) → AllByRecursion P ms → AllByRecursion P (less ms ds)
+less-each P ms [] a = a
+less-each P ms (d ∷ ds) a = without-each P d (less ms ds) (less-each P ms ds a)
+
+then_eq : (o q : Ordering) → is_eq (ordering_then o q) ≡ true → is_eq o ≡ true
+then_eq Less q e = e
+then_eq Equal q e = refl
+then_eq Greater q e = e
+
+-- messages that the order finds the same are at one stamp
+pub message_cmp-at : (m x : Message) → is_eq (message_cmp m x) ≡ true → m.at ≡ x.at
+message_cmp-at m x e =
+    (bytes_eq-Decides m.at x.at).0 (sym (is_eq-slice_cmp m.at x.at) ∙ then_eq (stamp_cmp m.at x.at) _ e)
+
+pub is_among-at : (P : Stamp → Type 0) (m : Message) (ms : List Message) → is_among m ms ≡ true → AllByRecursion (λ (x : Message). P x.at) ms → P m.at
+is_among-at P m [] k a = absurd (cc)
+is_among-at P m (x ∷ xs) k a = elim (or_cases (is_eq (message_cmp m x)) (is_among m xs) k) [
+  | inl e ↦ subst P (sym (message_cmp-at m x e)) a.0
+  | inr l ↦ is_among-at P m xs l a.1
+]
+
+-- ---- edges join equal domains
+
+past_edges : (flow : Dataflow) (e : ℕ) → length flow.edges ≤ e → out_domain_of flow (sender flow e) ≡ domain_of flow (receiver flow e)
+unfolding sender receiver kind_of
+past_edges flow e l =
+    let past = get_or_past flow.edges e (record { name = []; sender = length flow.nodes; receiver = length flow.nodes }) l in
+    let last : length flow.nodes ≤ length flow.nodes = omega arith in
+    let idle = get_or_past flow.nodes (length flow.nodes) idle_node last in
+    ap (λ d. out_domain_of_kind flow (get_or flow.nodes d.sender idle_node).kind) past
+    ∙ ap (λ n. out_domain_of_kind flow n.kind) idle
+    ∙ sym (ap (λ n. domain_of_kind flow n.kind) idle)
+    ∙ sym (ap (λ d. domain_of_kind flow (get_or flow.nodes d.receiver idle_node).kind) past)
+
+pub edge_domains : (flow : Dataflow) → IsWellFormed flow → (e : ℕ) → out_domain_of flow (sender flow e) ≡ domain_of flow (receiver flow e)
+edge_domains flow w e = elim (cases_lt e (length flow.edges)) [ inl l ↦ w.domains e l | inr l ↦ past_edges flow e l ]
+
+edge-receiver : (flow : Dataflow) → IsWellFormed flow → (e : ℕ) (t : Stamp) → in_domain (bounds_of_edge flow e) t ≡ true
+    → in_domain (bounds_of flow (receiver flow e)) t ≡ true
+unfolding bounds_of
+edge-receiver flow w e t i = sym (ap (λ d. in_domain (bounds_of_domain flow d) t) (edge_domains flow w e)) ∙ i
+
+-- ---- the events
+
+-- each event is at a stamp of its node's domain
+abbrev pub AreAllInDomain : Dataflow → List Event → Type 0
+AreAllInDomain flow h = AllByRecursion (λ v. in_domain (bounds_of flow (place flow v)) (stamp v) ≡ true) h
+
+events_at-in_domain : (flow : Dataflow) (p : ℕ) (h : List Event) → AreAllInDomain flow h → AreEventsInDomain flow h p
+events_at-in_domain flow p [] d = tt
+events_at-in_domain flow p (v ∷ h) d =
+    let vs = events_at flow p h in
+    let rest = events_at-in_domain flow p h d.1 in
+    cond_both (place flow v == p) (v ∷ vs) vs (AllByRecursion (λ w. in_domain (bounds_of flow p) (stamp w) ≡ true))
+    (λ e. (sym (ap (λ q. in_domain (bounds_of flow q) (stamp v)) (eqb-true (place flow v) p e)) ∙ d.0, rest)) (λ e. rest)
+
+delivered_to-in_domain : (flow : Dataflow) (p : ℕ) (t : Stamp) (h : List Event) → AreAllInDomain flow h → was_delivered_to flow p t h ≡ true
+    → in_domain (bounds_of flow p) t ≡ true
+delivered_to-in_domain flow p t [] d k = absurd (cc)
+delivered_to-in_domain flow p t (Inject s x ∷ h) d k = delivered_to-in_domain flow p t h d.1 k
+delivered_to-in_domain flow p t (Notify q s ∷ h) d k = delivered_to-in_domain flow p t h d.1 k
+delivered_to-in_domain flow p t (Deliver e m ∷ h) d k =
+    elim (or_cases (receiver flow e == p && same m.at t) (was_delivered_to flow p t h) k) [
+      | inl a ↦
+          let b = and_parts (receiver flow e == p) (same m.at t) a in
+          let c = and_parts (leq m.at t) (leq t m.at) b.1 in
+          leq-trans t m.at (bounds_of flow p).greatest c.1
+          (sym (ap (λ q. in_domain (bounds_of flow q) m.at) (eqb-true (receiver flow e) p b.0)) ∙ d.0)
+      | inr a ↦ delivered_to-in_domain flow p t h d.1 a
+    ]
+
+is_input : (kind : Kind) → is_input_kind kind ≡ true → kind ≡ Input
+is_input Input k = refl
+is_input kind k = absurd (cc)
+
+input-in_domain : (flow : Dataflow) (s x : ℕ) → is_input_kind (kind_of flow s) ≡ true → x ≤ greatest_number → in_domain (bounds_of flow s) (x ∷ []) ≡ true
+unfolding bounds_of
+input-in_domain flow s x k l =
+    ap (λ kind. in_domain (bounds_of_domain flow (domain_of_kind flow kind)) (x ∷ [])) (is_input (kind_of flow s) k) ∙ line-leq x greatest_number l
+
+pub enabled-in_domain : (sys : System) (h : List Event) → IsWellFormed sys.flow → HasEpochs sys → AreAllInDomain sys.flow h → (v : Event) → IsEnabled sys h v
+    → in_domain (bounds_of sys.flow (place sys.flow v)) (stamp v) ≡ true
+enabled-in_domain sys h w b d (Inject s x) k =
+    let l = k.there in
+    let n = b s in
+    input-in_domain sys.flow s x k.input (omega arith)
+enabled-in_domain sys h w b d (Deliver e m) k =
+    let p = sender sys.flow e in
+    edge-receiver sys.flow w e m.at
+    (is_among-at (λ t. out_bounds sys.flow p t ≡ true) m (pending sys h e) k.is_pending
+    (less-each (λ x. out_bounds sys.flow p x.at ≡ true) (sent sys h e) (delivered h e)
+    (sent_by-in_domain sys p (events_at sys.flow p h) (events_at-in_domain sys.flow p h d))))
+enabled-in_domain sys h w b d (Notify p t) k =
+    let a = and_parts (is_notified_kind (kind_of sys.flow p) && was_delivered_to sys.flow p t h) (not (was_notified p t h)) k.is_owed in
+    delivered_to-in_domain sys.flow p t h d (and_parts (is_notified_kind (kind_of sys.flow p)) (was_delivered_to sys.flow p t h) a.0).1
+
+pub legal-in_domain : (sys : System) (h : List Event) → IsWellFormed sys.flow → HasEpochs sys → IsLegal sys h → AreAllInDomain sys.flow h
+legal-in_domain sys [] w b l = tt
+legal-in_domain sys (v ∷ h) w b l =
+    let d = legal-in_domain sys h w b l.1 in
+    (enabled-in_domain sys h w b d v l.0, d)
+
+-- ---- the laws
+
+pub legal_events-in_domain : LegalEventsAreInDomain
+legal_events-in_domain sys h w b l p = events_at-in_domain sys.flow p h (legal-in_domain sys h w b l)
+
+pub legal_messages-in_domain : LegalMessagesAreInDomain
+legal_messages-in_domain sys h w b l e =
+    let p = sender sys.flow e in
+    sent_by-in_domain sys p (events_at sys.flow p h) (legal_events-in_domain sys h w b l p)
+
+pub only_inputs_inject : OnlyInputsInject
+only_inputs_inject sys [] l p k = refl
+only_inputs_inject sys (Inject s x ∷ h) l p k =
+    cond_both (s == p) (injected_count p h + 1) (injected_count p h) (λ n. n ≡ 0)
+    (λ e. absurd (two_ways _ (sym (ap (λ q. is_input_kind (kind_of sys.flow q)) (eqb-true s p e)) ∙ l.0.input) k))
+    (λ e. only_inputs_inject sys h l.1 p k)
+  where
+    two_ways : (b : Bool) → b ≡ true → b ≡ false → ⊥
+    two_ways b p q = cc
+only_inputs_inject sys (Deliver e m ∷ h) l p k = only_inputs_inject sys h l.1 p k
+only_inputs_inject sys (Notify q t ∷ h) l p k = only_inputs_inject sys h l.1 p k

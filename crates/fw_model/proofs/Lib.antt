@@ -1,0 +1,14 @@
+pub mod CompleteLaws
+pub mod EachLaws
+pub mod FrontierLaws
+pub mod LegalLaws
+pub mod MeetLaws
+pub mod OrderLaws
+pub mod PendingLaws
+pub mod PhiLaws
+pub mod PsiLaws
+pub mod SendingLaws
+pub mod SendsLaws
+pub mod SequenceLaws
+pub mod StampLaws
+pub mod WellFormedLaws

@@ -1,0 +1,98 @@
+-- At which stamps events send, and from where the messages inside phi come.
+use Rattle.std.proofs.Common.{◌≡◌, ℕ, true, false, List, [], ◌∷◌, Option, Some, None, refl, sym, ap, ◌∙◌}
+use Rattle.std.specs.List.{AllByRecursion}
+use Rattle.std.proofs.lemmas.Bool.{and_parts, and_from}
+use Rattle.fw_bag.specs.declared.rec.Rec.{Rec}
+use Rattle.fw_time.specs.Stamp.{Stamp, in_domain}
+use Rattle.fw_flow.specs.declared.event.Event.{Event}
+use Rattle.fw_flow.specs.declared.event.Message.{Message}
+use Rattle.fw_flow.specs.declared.kind.Kind.{Kind}
+use Rattle.fw_flow.specs.declared.kind.Kind.TheVariants.{Sequence}
+use Rattle.fw_flow.specs.Dataflow.{System, Dataflow, kind_of, sender, bounds_of, send_stamp, send_stamp_of_kind}
+use Rattle.fw_flow.specs.NodeFunction.{stamp, recs_on, messages_at, messages_at_some, sends_of_kind, sends, sent_by}
+use Rattle.fw_flow.specs.Projection.{events_at, all_inside, phi, psi}
+use Rattle.fw_model.specs.LawsOfProjections.{is_sequence_kind}
+use Rattle.fw_model.specs.LawsOfSending.{SendsByStamp, SendsAtSendStamp, SendsAreInsidePsi, SentFromInsideIsInsidePsi, InsidePhiComesFromInside}
+use Rattle.fw_model.proofs.EachLaws.{each-weaker, each-append}
+use Rattle.fw_model.proofs.StampLaws.{leq-refl}
+use Rattle.fw_model.proofs.SendingLaws.{phi-by_stamp, psi-by_stamp, phi-in_domain, send_stamp-in_domain}
+
+-- the message is at this stamp, if there is one, and has one cause
+abbrev pub IsAt : Option Stamp → Stamp → Message → Type 0
+IsAt at cause m = (at ≡ Some m.at) × (m.causes ≡ cause ∷ [])
+
+messages_at-each : (at cause : Stamp) (rs : List Rec) → AllByRecursion (IsAt (Some at) cause) (messages_at at cause rs)
+messages_at-each at cause [] = tt
+messages_at-each at cause (r ∷ rs) = ((refl, refl), messages_at-each at cause rs)
+
+messages_at_some-each : (at : Option Stamp) (cause : Stamp) (rs : List Rec) → AllByRecursion (IsAt at cause) (messages_at_some at cause rs)
+messages_at_some-each None cause rs = tt
+messages_at_some-each (Some at) cause rs = messages_at-each at cause rs
+
+pub sends_of_kind-each : (sys : System) (kind : Kind) (before : List Event) (v : Event) → is_sequence_kind kind ≡ false
+    → AllByRecursion (IsAt (send_stamp_of_kind sys.flow kind (stamp v)) (stamp v)) (sends_of_kind sys kind before v)
+sends_of_kind-each sys Sequence before v p = absurd (cc)
+sends_of_kind-each sys kind before v p =
+    messages_at_some-each (send_stamp_of_kind sys.flow kind (stamp v)) (stamp v) (recs_on sys kind before v)
+
+pub sends-each : SendsAtSendStamp
+unfolding sends
+sends-each sys p n before v = sends_of_kind-each sys (kind_of sys.flow p) before v n
+
+pub by_stamp-no_sequence : (flow : Dataflow) (kind : Kind) → SendsByStamp flow kind → is_sequence_kind kind ≡ false
+by_stamp-no_sequence flow Sequence p = absurd p
+by_stamp-no_sequence flow kind p = refl
+
+pub sends-inside_psi : SendsAreInsidePsi
+sends-inside_psi sys e f p fr before v k =
+    let q = sender sys.flow e in
+    each-weaker (IsAt (send_stamp sys.flow q (stamp v)) (stamp v)) (λ m. psi sys e f m.at ≡ true) (sends sys q before v)
+    (λ m a. (psi-by_stamp sys e f p fr m.at (send_stamp-in_domain sys.flow q (stamp v) m.at (fr.inside_domain (stamp v) k) a.0)).1
+    (stamp v, m.at, k, a.0, leq-refl m.at))
+    (sends-each sys q (by_stamp-no_sequence sys.flow (kind_of sys.flow q) p) before v)
+
+-- the message is at the send stamp of its one cause, which is of the node's domain
+IsFrom : Dataflow → ℕ → Message → Type 0
+IsFrom flow p m = (t : Stamp) × (in_domain (bounds_of flow p) t ≡ true) × (send_stamp flow p t ≡ Some m.at) × (m.causes ≡ t ∷ [])
+
+sent_by-each : (sys : System) (p : ℕ) → is_sequence_kind (kind_of sys.flow p) ≡ false → (vs : List Event)
+    → AllByRecursion (λ v. in_domain (bounds_of sys.flow p) (stamp v) ≡ true) vs → AllByRecursion (IsFrom sys.flow p) (sent_by sys p vs)
+unfolding IsFrom
+sent_by-each sys p n [] d = tt
+sent_by-each sys p n (v ∷ vs) d =
+    each-append (IsFrom sys.flow p) (sends sys p vs v) (sent_by sys p vs)
+    (each-weaker (IsAt (send_stamp sys.flow p (stamp v)) (stamp v)) (IsFrom sys.flow p) (sends sys p vs v) (λ m a. (stamp v, d.0, a.0, a.1)) (sends-each sys p n vs v))
+    (sent_by-each sys p n vs d.1)
+
+pub inside_phi-from_inside : InsidePhiComesFromInside
+unfolding IsFrom
+inside_phi-from_inside sys h e f p fr d =
+    let q = sender sys.flow e in
+    each-weaker (IsFrom sys.flow q) (λ m. phi sys h e f m.at ≡ true → all_inside f m.causes ≡ true) (sent_by sys q (events_at sys.flow q h))
+    (λ m w k.
+    let all = (phi-by_stamp sys h e f p fr m.at (phi-in_domain sys h e f m.at k)).0 k in
+    ap (all_inside f) w.3 ∙ and_from (f w.0) true (all w.0 m.at w.1 w.2 (leq-refl m.at)) refl)
+    (sent_by-each sys q (by_stamp-no_sequence sys.flow (kind_of sys.flow q) p) (events_at sys.flow q h) d)
+
+-- the message is at the send stamp of its one cause
+unfoldable pub IsOfCause : Dataflow → ℕ → Message → Type 0
+IsOfCause flow p m = (t : Stamp) × (send_stamp flow p t ≡ Some m.at) × (m.causes ≡ t ∷ [])
+
+pub sent_by-of_cause : (sys : System) (p : ℕ) → is_sequence_kind (kind_of sys.flow p) ≡ false → (vs : List Event) → AllByRecursion (IsOfCause sys.flow p) (sent_by sys p vs)
+unfolding IsOfCause
+sent_by-of_cause sys p n [] = tt
+sent_by-of_cause sys p n (v ∷ vs) =
+    each-append (IsOfCause sys.flow p) (sends sys p vs v) (sent_by sys p vs)
+    (each-weaker (IsAt (send_stamp sys.flow p (stamp v)) (stamp v)) (IsOfCause sys.flow p) (sends sys p vs v) (λ m a. (stamp v, a.0, a.1)) (sends-each sys p n vs v))
+    (sent_by-of_cause sys p n vs)
+
+pub sent_from_inside-inside_psi : SentFromInsideIsInsidePsi
+unfolding IsOfCause
+sent_from_inside-inside_psi sys h e f p fr =
+    let q = sender sys.flow e in
+    each-weaker (IsOfCause sys.flow q) (λ m. all_inside f m.causes ≡ true → psi sys e f m.at ≡ true) (sent_by sys q (events_at sys.flow q h))
+    (λ m w k.
+    let i = (and_parts (f w.0) true (sym (ap (all_inside f) w.2) ∙ k)).0 in
+    (psi-by_stamp sys e f p fr m.at (send_stamp-in_domain sys.flow q w.0 m.at (fr.inside_domain w.0 i) w.1)).1
+    (w.0, m.at, i, w.1, leq-refl m.at))
+    (sent_by-of_cause sys q (by_stamp-no_sequence sys.flow (kind_of sys.flow q) p) (events_at sys.flow q h))

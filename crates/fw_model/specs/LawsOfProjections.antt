@@ -1,0 +1,81 @@
+-- Laws of projections: in its frontier, in the history, and under meets and unions.
+use Rattle.std.specs.Prelude.{◌≡◌, ℕ, Bool, true, false, List, ◌++◌}
+use Rattle.fw_time.specs.Stamp.{Stamp}
+use Rattle.fw_time.specs.declared.stamp.Bounds.{Bounds}
+use Rattle.fw_frontier.specs.Frontier.{Frontier, IsFrontier, Within, nothing, everything, meet, join}
+use Rattle.fw_flow.specs.declared.event.Event.{Event}
+use Rattle.fw_flow.specs.declared.kind.Kind.{Kind}
+use Rattle.fw_flow.specs.declared.kind.Kind.TheVariants.{Sequence}
+use Rattle.fw_flow.specs.Dataflow.{System, Dataflow, kind_of, sender, bounds_of, bounds_of_domain, out_domain_of}
+use Rattle.fw_flow.specs.Projection.{phi, psi}
+
+-- the bounds of an edge: which lists are stamps of its messages
+abbrev pub bounds_of_edge : Dataflow → ℕ → Bounds
+bounds_of_edge flow e = bounds_of_domain flow (out_domain_of flow (sender flow e))
+
+-- the frontier is one of the sender's domain
+abbrev pub IsSenderFrontier : Dataflow → ℕ → Frontier → Type 0
+IsSenderFrontier flow e f = IsFrontier (bounds_of flow (sender flow e)) f
+
+-- whether a node of the kind numbers what it sends
+abbrev pub is_sequence_kind : Kind → Bool
+is_sequence_kind Sequence = true
+is_sequence_kind kind = false
+
+-- phi of a frontier of the sender is a frontier of the edge
+abbrev pub PhiIsFrontier : Type 0
+PhiIsFrontier = (sys : System) (h : List Event) (e : ℕ) (f : Frontier) → IsSenderFrontier sys.flow e f
+    → IsFrontier (bounds_of_edge sys.flow e) (phi sys h e f)
+
+-- phi is monotone: a larger frontier of the sender covers more of the edge
+abbrev pub PhiIsMonotone : Type 0
+PhiIsMonotone = (sys : System) (h : List Event) (e : ℕ) (f g : Frontier) → Within f g
+    → Within (phi sys h e f) (phi sys h e g)
+
+-- phi of a longer history covers at least as much
+abbrev pub PhiGrowsWithHistory : Type 0
+PhiGrowsWithHistory = (sys : System) (h more : List Event) (e : ℕ) (f : Frontier)
+    → Within (phi sys h e f) (phi sys (more ++ h) e f)
+
+-- phi is the same after each history, where the sender is no sequence
+abbrev pub PhiIgnoresHistory : Type 0
+PhiIgnoresHistory = (sys : System) (h other : List Event) (e : ℕ) (f : Frontier) (u : Stamp)
+    → is_sequence_kind (kind_of sys.flow (sender sys.flow e)) ≡ false → phi sys h e f u ≡ phi sys other e f u
+
+-- phi of what is inside both of two frontiers is what is inside both of their phis
+abbrev pub PhiOfMeet : Type 0
+PhiOfMeet = (sys : System) (h : List Event) (e : ℕ) (f g : Frontier) → IsSenderFrontier sys.flow e f
+    → IsSenderFrontier sys.flow e g → (u : Stamp) → phi sys h e (meet f g) u ≡ meet (phi sys h e f) (phi sys h e g) u
+
+-- phi of each stamp of the sender is each stamp of the edge
+abbrev pub PhiOfEverything : Type 0
+PhiOfEverything = (sys : System) (h : List Event) (e : ℕ) (u : Stamp)
+    → phi sys h e (everything (bounds_of sys.flow (sender sys.flow e))) u ≡ everything (bounds_of_edge sys.flow e) u
+
+-- psi of a frontier of the sender is a frontier of the edge
+abbrev pub PsiIsFrontier : Type 0
+PsiIsFrontier = (sys : System) (e : ℕ) (f : Frontier) → IsSenderFrontier sys.flow e f
+    → IsFrontier (bounds_of_edge sys.flow e) (psi sys e f)
+
+-- psi is monotone: what is inside a larger frontier can send at more stamps
+abbrev pub PsiIsMonotone : Type 0
+PsiIsMonotone = (sys : System) (e : ℕ) (f g : Frontier) → Within f g → Within (psi sys e f) (psi sys e g)
+
+-- what is inside some frontier of a family of frontiers
+pub record IsUnion (family : ℕ → Frontier) (f : Frontier) : Type 0 where
+  pub each_within : (i : ℕ) → Within (family i) f
+  pub from_one : (t : Stamp) → f t ≡ true → (i : ℕ) × (family i t ≡ true)
+
+-- psi of the union of any family is the union of the psis
+abbrev pub PsiOfUnion : Type 0
+PsiOfUnion = (sys : System) (e : ℕ) (family : ℕ → Frontier) (f : Frontier) → IsUnion family f
+    → IsUnion (λ i. psi sys e (family i)) (psi sys e f)
+
+-- psi of what is inside one of two frontiers is what is inside one of their psis
+abbrev pub PsiOfJoin : Type 0
+PsiOfJoin = (sys : System) (e : ℕ) (f g : Frontier) (u : Stamp)
+    → psi sys e (join f g) u ≡ join (psi sys e f) (psi sys e g) u
+
+-- psi of nothing is nothing
+abbrev pub PsiOfNothing : Type 0
+PsiOfNothing = (sys : System) (e : ℕ) (u : Stamp) → psi sys e nothing u ≡ nothing u

@@ -1,0 +1,122 @@
+-- Laws of sending: at which stamps events send, and from which events the messages inside a projection come.
+use Rattle.std.specs.Prelude.{◌≡◌, ◌↔◌, ◌⊎◌, ℕ, ◌<◌, ◌≤◌, true, false, List, [], ◌∷◌, length, Option, Some}
+use Rattle.std.specs.List.{AllByRecursion}
+use Rattle.fw_time.specs.Stamp.{Stamp, leq, in_domain}
+use Rattle.fw_time.specs.declared.stamp.Bounds.{Bounds}
+use Rattle.fw_frontier.specs.Frontier.{Frontier}
+use Rattle.fw_flow.specs.declared.event.Event.{Event}
+use Rattle.fw_flow.specs.declared.event.Event.TheVariants.{Inject, Deliver, Notify}
+use Rattle.fw_flow.specs.declared.event.Message.{Message}
+use Rattle.fw_flow.specs.declared.kind.Kind.{Kind}
+use Rattle.fw_flow.specs.declared.kind.Kind.TheVariants.{OutputEpoch, OutputNumber, Feedback, Sequence, Regroup}
+use Rattle.fw_flow.specs.Dataflow.{System, Dataflow, kind_of, sender, max_of, bounds_of, send_stamp}
+use Rattle.fw_flow.specs.NodeFunction.{stamp, sends}
+use Rattle.fw_flow.specs.Projection.{events_at, all_inside, phi, psi}
+use Rattle.fw_flow.specs.WellFormed.{IsWellFormed}
+use Rattle.fw_model.specs.History.{sent, injected_count}
+use Rattle.fw_model.specs.LawsOfProjections.{bounds_of_edge, IsSenderFrontier, is_sequence_kind}
+
+-- A node of the kind sends at the send stamps of its events: it is no output and no sequence, a loop that it feeds back
+-- has a next counter, and the groups that it makes are not empty.
+abbrev pub SendsByStamp : Dataflow → Kind → Type 0
+SendsByStamp flow OutputEpoch = ⊥
+SendsByStamp flow OutputNumber = ⊥
+SendsByStamp flow Sequence = ⊥
+SendsByStamp flow (Feedback l) = 1 ≤ max_of flow l
+SendsByStamp flow (Regroup n) = 1 ≤ n
+SendsByStamp flow kind = Unit {0}
+
+-- in a well-formed dataflow the sender of each edge is a sequence, or sends at the send stamps of its events
+abbrev pub SendersOfWellFormed : Type 0
+SendersOfWellFormed = (flow : Dataflow) → IsWellFormed flow → (e : ℕ) → e < length flow.edges
+    → (kind_of flow (sender flow e) ≡ Sequence) ⊎ SendsByStamp flow (kind_of flow (sender flow e))
+
+-- a lesser stamp sends where a greater one does, and at the same stamp or a lesser one
+abbrev pub SendStampIsMonotone : Type 0
+SendStampIsMonotone = (flow : Dataflow) (p : ℕ) (s t w : Stamp) → in_domain (bounds_of flow p) t ≡ true
+    → leq s t ≡ true → send_stamp flow p t ≡ Some w
+    → (v : Stamp) × (send_stamp flow p s ≡ Some v) × (leq v w ≡ true)
+
+-- each stamp of the domain that sends at u or below is inside
+abbrev pub IsSentFrom : Bounds → (Stamp → Option Stamp) → Frontier → Stamp → Type 0
+IsSentFrom bounds send f u =
+    (t s : Stamp) → in_domain bounds t ≡ true → send t ≡ Some s → leq s u ≡ true → f t ≡ true
+
+-- some stamp inside sends at u or above
+abbrev pub SendsAbove : (Stamp → Option Stamp) → Frontier → Stamp → Type 0
+SendsAbove send f u = (t : Stamp) × (s : Stamp) × (f t ≡ true) × (send t ≡ Some s) × (leq u s ≡ true)
+
+-- u is inside phi exactly where each stamp of the sender that sends at u or below is inside
+abbrev pub PhiBySendStamps : Type 0
+PhiBySendStamps = (sys : System) (h : List Event) (e : ℕ) (f : Frontier)
+    → SendsByStamp sys.flow (kind_of sys.flow (sender sys.flow e)) → IsSenderFrontier sys.flow e f
+    → (u : Stamp) → in_domain (bounds_of_edge sys.flow e) u ≡ true
+    → (phi sys h e f u ≡ true)
+    ↔ IsSentFrom (bounds_of sys.flow (sender sys.flow e)) (send_stamp sys.flow (sender sys.flow e)) f u
+
+-- u is inside psi exactly where some stamp inside sends at u or above
+abbrev pub PsiBySendStamps : Type 0
+PsiBySendStamps = (sys : System) (e : ℕ) (f : Frontier)
+    → SendsByStamp sys.flow (kind_of sys.flow (sender sys.flow e)) → IsSenderFrontier sys.flow e f
+    → (u : Stamp) → in_domain (bounds_of_edge sys.flow e) u ≡ true
+    → (psi sys e f u ≡ true) ↔ SendsAbove (send_stamp sys.flow (sender sys.flow e)) f u
+
+-- each message that an event makes a node send, but for a sequence, is at the send stamp of the event, its one cause
+abbrev pub SendsAtSendStamp : Type 0
+SendsAtSendStamp = (sys : System) (p : ℕ) → is_sequence_kind (kind_of sys.flow p) ≡ false
+    → (before : List Event) (v : Event)
+    → AllByRecursion (λ (m : Message). (send_stamp sys.flow p (stamp v) ≡ Some m.at) × (m.causes ≡ stamp v ∷ []))
+    (sends sys p before v)
+
+-- what an event inside a frontier makes its node send is inside psi
+abbrev pub SendsAreInsidePsi : Type 0
+SendsAreInsidePsi = (sys : System) (e : ℕ) (f : Frontier)
+    → SendsByStamp sys.flow (kind_of sys.flow (sender sys.flow e)) → IsSenderFrontier sys.flow e f
+    → (before : List Event) (v : Event) → f (stamp v) ≡ true
+    → AllByRecursion (λ (m : Message). psi sys e f m.at ≡ true) (sends sys (sender sys.flow e) before v)
+
+-- each message on an edge that comes from events inside a frontier is at a stamp inside psi
+abbrev pub SentFromInsideIsInsidePsi : Type 0
+SentFromInsideIsInsidePsi = (sys : System) (h : List Event) (e : ℕ) (f : Frontier)
+    → SendsByStamp sys.flow (kind_of sys.flow (sender sys.flow e)) → IsSenderFrontier sys.flow e f
+    → AllByRecursion (λ (m : Message). all_inside f m.causes ≡ true → psi sys e f m.at ≡ true) (sent sys h e)
+
+-- each event of the node is at a stamp of its domain
+abbrev pub AreEventsInDomain : Dataflow → List Event → ℕ → Type 0
+AreEventsInDomain flow h p =
+    AllByRecursion (λ v. in_domain (bounds_of flow p) (stamp v) ≡ true) (events_at flow p h)
+
+-- each message on the edge at a stamp inside phi of the frontier comes from events inside it
+abbrev pub ComesFromInside : System → List Event → ℕ → Frontier → Type 0
+ComesFromInside sys h e f =
+    AllByRecursion (λ (m : Message). phi sys h e f m.at ≡ true → all_inside f m.causes ≡ true) (sent sys h e)
+
+-- each message on an edge at a stamp inside phi comes from events inside, where the sender is no sequence
+abbrev pub InsidePhiComesFromInside : Type 0
+InsidePhiComesFromInside = (sys : System) (h : List Event) (e : ℕ) (f : Frontier)
+    → SendsByStamp sys.flow (kind_of sys.flow (sender sys.flow e)) → IsSenderFrontier sys.flow e f
+    → AreEventsInDomain sys.flow h (sender sys.flow e) → ComesFromInside sys h e f
+
+-- the stamps of the notifications among these events, the latest first
+abbrev pub notified_stamps : List Event → List Stamp
+notified_stamps [] = []
+notified_stamps (Inject s x ∷ vs) = notified_stamps vs
+notified_stamps (Deliver e m ∷ vs) = notified_stamps vs
+notified_stamps (Notify p t ∷ vs) = t ∷ notified_stamps vs
+
+-- each stamp is the same as the stamps that follow it, or greater
+abbrev pub IsDescending : List Stamp → Type 0
+IsDescending [] = Unit {0}
+IsDescending (t ∷ ts) = AllByRecursion (λ s. leq s t ≡ true) ts × IsDescending ts
+
+-- the node injected nothing, and was notified of each stamp after the lesser ones
+pub record IsNotifiedInOrder (flow : Dataflow) (h : List Event) (p : ℕ) : Type 0 where
+  pub injects_nothing : injected_count p h ≡ 0
+  pub in_order : IsDescending (notified_stamps (events_at flow p h))
+
+-- each message on an edge at a stamp inside phi comes from events inside, where the sender is a sequence
+abbrev pub InsidePhiOfSequenceComesFromInside : Type 0
+InsidePhiOfSequenceComesFromInside = (sys : System) (h : List Event) (e : ℕ) (f : Frontier)
+    → kind_of sys.flow (sender sys.flow e) ≡ Sequence → IsSenderFrontier sys.flow e f
+    → AreEventsInDomain sys.flow h (sender sys.flow e) → IsNotifiedInOrder sys.flow h (sender sys.flow e)
+    → ComesFromInside sys h e f

@@ -1,0 +1,140 @@
+//! The laws of the definitions: each function's `ensures` is one law, and its body is empty.
+ghost use Rattle.fw_model.specs.LawsOfCompleteFrontiers.{AdmissibleStaysAdmissible, EnabledIsOutside, LegalInsidePhiComesFromInside, SequencesAreNotifiedInOrder};
+ghost use Rattle.fw_model.specs.LawsOfLegalHistories.{LegalEventsAreInDomain, LegalMessagesAreInDomain, OnlyInputsInject};
+ghost use Rattle.fw_model.specs.LawsOfProjections.{PhiGrowsWithHistory, PhiIgnoresHistory, PhiIsFrontier, PhiIsMonotone, PhiOfEverything, PhiOfMeet, PsiIsFrontier, PsiIsMonotone, PsiOfJoin, PsiOfNothing, PsiOfUnion};
+ghost use Rattle.fw_model.specs.LawsOfSending.{InsidePhiComesFromInside, InsidePhiOfSequenceComesFromInside, PhiBySendStamps, PsiBySendStamps, SendStampIsMonotone, SendersOfWellFormed, SendsAreInsidePsi, SendsAtSendStamp, SentFromInsideIsInsidePsi};
+
+/// Phi is monotone: a larger frontier of the sender covers more of the edge.
+pub fn phi_is_monotone()
+    ensures { PhiIsMonotone }
+{}
+
+/// Phi of a longer history covers at least as much.
+pub fn phi_grows_with_history()
+    ensures { PhiGrowsWithHistory }
+{}
+
+/// Phi of the meet of two frontiers is the meet of their phis.
+pub fn phi_of_meet()
+    ensures { PhiOfMeet }
+{}
+
+/// Phi of each stamp of the sender is each stamp of the edge.
+pub fn phi_of_everything()
+    ensures { PhiOfEverything }
+{}
+
+/// A stamp is inside phi exactly where each stamp that sends at it or below it is inside.
+pub fn phi_by_send_stamps()
+    ensures { PhiBySendStamps }
+{}
+
+/// A stamp is inside psi exactly where some stamp inside sends at it or above it.
+pub fn psi_by_send_stamps()
+    ensures { PsiBySendStamps }
+{}
+
+/// Psi is monotone: what is inside a larger frontier can send at more stamps.
+pub fn psi_is_monotone()
+    ensures { PsiIsMonotone }
+{}
+
+/// Psi of the join of two frontiers is the join of their psis.
+pub fn psi_of_join()
+    ensures { PsiOfJoin }
+{}
+
+/// Psi of the union of any family of frontiers is the union of their psis.
+pub fn psi_of_union()
+    ensures { PsiOfUnion }
+{}
+
+/// Psi of nothing is nothing.
+pub fn psi_of_nothing()
+    ensures { PsiOfNothing }
+{}
+
+/// Each message that an event makes its node send, outside a sequence, is at the send stamp of the event, its one cause.
+pub fn sends_at_send_stamp()
+    ensures { SendsAtSendStamp }
+{}
+
+/// What an event inside a frontier makes its node send is inside psi.
+pub fn sends_are_inside_psi()
+    ensures { SendsAreInsidePsi }
+{}
+
+/// Each message at a stamp inside phi comes from events inside, where the sender is no sequence.
+pub fn inside_phi_comes_from_inside()
+    ensures { InsidePhiComesFromInside }
+{}
+
+/// Each message at a stamp inside phi comes from events inside, where the sender is a sequence.
+pub fn inside_phi_of_sequence_comes_from_inside()
+    ensures { InsidePhiOfSequenceComesFromInside }
+{}
+
+/// Phi of a frontier of the sender is a frontier of the edge.
+pub fn phi_is_frontier()
+    ensures { PhiIsFrontier }
+{}
+
+/// Psi of a frontier of the sender is a frontier of the edge.
+pub fn psi_is_frontier()
+    ensures { PsiIsFrontier }
+{}
+
+/// Phi is the same after each history, where the sender is no sequence.
+pub fn phi_ignores_history()
+    ensures { PhiIgnoresHistory }
+{}
+
+/// A lesser stamp sends where a greater one does, and at the same stamp or a lesser one.
+pub fn send_stamp_is_monotone()
+    ensures { SendStampIsMonotone }
+{}
+
+/// Each message that comes from events inside a frontier is at a stamp inside psi.
+pub fn sent_from_inside_is_inside_psi()
+    ensures { SentFromInsideIsInsidePsi }
+{}
+
+/// In a well-formed dataflow the sender of each edge is a sequence, or sends at the send stamps of its events.
+pub fn senders_of_well_formed()
+    ensures { SendersOfWellFormed }
+{}
+
+/// In a legal history each event is at a stamp of its node's domain.
+pub fn legal_events_are_in_domain()
+    ensures { LegalEventsAreInDomain }
+{}
+
+/// In a legal history each message is at a stamp of its edge.
+pub fn legal_messages_are_in_domain()
+    ensures { LegalMessagesAreInDomain }
+{}
+
+/// In a legal history only inputs inject.
+pub fn only_inputs_inject()
+    ensures { OnlyInputsInject }
+{}
+
+/// An enabled event is outside each admissible family: nothing comes where all has come.
+pub fn enabled_is_outside()
+    ensures { EnabledIsOutside }
+{}
+
+/// An enabled event leaves each admissible family admissible: it lowers no complete frontier.
+pub fn admissible_stays_admissible()
+    ensures { AdmissibleStaysAdmissible }
+{}
+
+/// In a legal history each sequence injects nothing and is notified of each stamp after the lesser ones.
+pub fn sequences_are_notified_in_order()
+    ensures { SequencesAreNotifiedInOrder }
+{}
+
+/// In a legal history each message at a stamp inside phi comes from events inside.
+pub fn legal_inside_phi_comes_from_inside()
+    ensures { LegalInsidePhiComesFromInside }
+{}

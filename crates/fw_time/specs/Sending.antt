@@ -1,5 +1,5 @@
 -- At which stamp a node sends, from the stamp of its event: a partial map for each kind.
-use Rattle.std.specs.Prelude.{ℕ, ◌+◌, ◌/◌, nat_lt, if◌then◌else◌, List, [], ◌∷◌, Option, Some, None}
+use Rattle.std.specs.Prelude.{ℕ, ◌+◌, ◌/◌, nat_lt, if◌then◌else◌, [], ◌∷◌, Option, Some, None}
 use Rattle.fw_time.specs.Stamp.{Stamp, nest, outer, counter}
 
 -- where a loop is entered: counter 0

@@ -1,0 +1,212 @@
+-- The order of stamps is a partial order, and `lub` gives least upper bounds.
+use Rattle.std.proofs.Common.{◌≡◌, ℕ, ◌≤◌, Bool, true, false, ◌&&◌, nat_le, cond, List, [], ◌∷◌, length, refl, sym, ap, ◌∙◌, suc, ◌<◌, arith}
+use Rattle.std.proofs.lemmas.Bool.Decides.{nat_tests}
+use Rattle.std.specs.Ordering.{is_lt, nat_cmp, ordering_then}
+use Rattle.std.specs.Cmp.Lexicographic.{slice_cmp}
+use Rattle.std.specs.declared.cmp.Ordering.{Ordering}
+use Rattle.std.specs.declared.cmp.Ordering.TheVariants.{Less, Equal, Greater}
+use Rattle.std.proofs.lemmas.Cmp.{tied_itself, nat_list_cmp_total}
+use Rattle.fw_time.specs.Stamp.{leq, lub, stamp_cmp, nest, outer, counter}
+
+-- both parts of a conjunction
+pub and_left : (b c : Bool) → (b && c) ≡ true → b ≡ true
+and_left true c h = refl
+and_left false c h = h
+
+pub and_right : (b c : Bool) → (b && c) ≡ true → c ≡ true
+and_right true c h = h
+and_right false c h = cc
+
+pub both : (b c : Bool) → b ≡ true → c ≡ true → (b && c) ≡ true
+both b c h k = cc
+
+le-from : (x y : ℕ) → nat_le x y ≡ true → x ≤ y
+le-from x y h = grind (arith, nat_tests)
+
+to_le : (x y : ℕ) → x ≤ y → nat_le x y ≡ true
+to_le x y h = grind (arith, nat_tests)
+
+-- each stamp is at most itself
+pub leq-refl : (s : List ℕ) → leq s s ≡ true
+leq-refl [] = refl
+leq-refl (x ∷ s) = both _ _ (to_le x x (omega arith)) (leq-refl s)
+
+-- what is at most a lesser stamp is at most the greater one
+pub leq-trans : (s t u : List ℕ) → leq s t ≡ true → leq t u ≡ true → leq s u ≡ true
+leq-trans [] [] u h k = k
+leq-trans [] (y ∷ t) u h k = cc
+leq-trans (x ∷ s) [] u h k = cc
+leq-trans (x ∷ s) (y ∷ t) [] h k = cc
+leq-trans (x ∷ s) (y ∷ t) (z ∷ u) h k =
+    let a : x ≤ y = le-from x y (and_left _ _ h) in
+    let b : y ≤ z = le-from y z (and_left _ _ k) in
+    both _ _ (to_le x z (omega arith)) (leq-trans s t u (and_right _ _ h) (and_right _ _ k))
+
+-- stamps each at most the other are one
+pub leq-antisym : (s t : List ℕ) → leq s t ≡ true → leq t s ≡ true → s ≡ t
+leq-antisym [] [] h k = refl
+leq-antisym [] (y ∷ t) h k = cc
+leq-antisym (x ∷ s) [] h k = cc
+leq-antisym (x ∷ s) (y ∷ t) h k =
+    let a : x ≤ y = le-from x y (and_left _ _ h) in
+    let b : y ≤ x = le-from y x (and_left _ _ k) in
+    let e : x ≡ y = omega arith in
+    let f : s ≡ t = leq-antisym s t (and_right _ _ h) (and_right _ _ k) in
+    ap (λ z. z ∷ s) e ∙ ap (λ u. y ∷ u) f
+
+-- only stamps of one length are comparable
+pub leq-length : (s t : List ℕ) → leq s t ≡ true → length s ≡ length t
+leq-length [] [] h = refl
+leq-length [] (y ∷ t) h = cc
+leq-length (x ∷ s) [] h = cc
+leq-length (x ∷ s) (y ∷ t) h = ap suc (leq-length s t (and_right _ _ h))
+
+from_not : (b : Bool) → (b ≡ true → ⊥) → b ≡ false
+from_not true h = absurd (h refl)
+from_not false h = refl
+
+-- stamps of unequal length are not comparable
+pub leq-unequal : (s t : List ℕ) → (length s ≡ length t → ⊥) → leq s t ≡ false
+leq-unequal s t h = from_not (leq s t) (λ e. h (leq-length s t e))
+
+-- the greater coordinates of two stamps of one length
+pub length-lub : (s t : List ℕ) → length s ≡ length t → length (lub s t) ≡ length s
+length-lub [] [] h = refl
+length-lub [] (y ∷ t) h = cc
+length-lub (x ∷ s) [] h = refl
+length-lub (x ∷ s) (y ∷ t) h = ap suc (length-lub s t (omega arith))
+
+-- the least upper bound is at least the first stamp
+pub lub-left : (s t : List ℕ) → length s ≡ length t → leq s (lub s t) ≡ true
+lub-left [] [] h = refl
+lub-left [] (y ∷ t) h = cc
+lub-left (x ∷ s) [] h = leq-refl (x ∷ s)
+lub-left (x ∷ s) (y ∷ t) h =
+    let a : nat_le x (cond (nat_le x y) y x) ≡ true = grind (arith, nat_tests) in
+    both _ _ a (lub-left s t (omega arith))
+
+-- and the second
+pub lub-right : (s t : List ℕ) → length s ≡ length t → leq t (lub s t) ≡ true
+lub-right [] [] h = refl
+lub-right [] (y ∷ t) h = cc
+lub-right (x ∷ s) [] h = cc
+lub-right (x ∷ s) (y ∷ t) h =
+    let a : nat_le y (cond (nat_le x y) y x) ≡ true = grind (arith, nat_tests) in
+    both _ _ a (lub-right s t (omega arith))
+
+-- and at most each stamp that is at least both
+pub lub-least : (s t u : List ℕ) → leq s u ≡ true → leq t u ≡ true → leq (lub s t) u ≡ true
+lub-least [] t u h k = k
+lub-least (x ∷ s) [] u h k = h
+lub-least (x ∷ s) (y ∷ t) [] h k = cc
+lub-least (x ∷ s) (y ∷ t) (z ∷ u) h k =
+    let a : nat_le x z ≡ true = and_left _ _ h in
+    let b : nat_le y z ≡ true = and_left _ _ k in
+    let m : nat_le (cond (nat_le x y) y x) z ≡ true = grind (arith, nat_tests) in
+    both _ _ m (lub-least s t u (and_right _ _ h) (and_right _ _ k))
+
+-- a stamp is at least both where it is at least the least upper bound
+pub leq-lub : (s t u : List ℕ) → length s ≡ length t → leq (lub s t) u ≡ (leq s u && leq t u)
+leq-lub s t u h = by (leq (lub s t) u) (leq s u) (leq t u)
+    (λ e. leq-trans s (lub s t) u (lub-left s t h) e)
+    (λ e. leq-trans t (lub s t) u (lub-right s t h) e)
+    (λ e f. lub-least s t u e f)
+  where
+    by : (b c d : Bool) → (b ≡ true → c ≡ true) → (b ≡ true → d ≡ true) → (c ≡ true → d ≡ true → b ≡ true) → b ≡ (c && d)
+    by true c d p q r = let e = p refl in let f = q refl in cc
+    by false true true p q r = r refl refl
+    by false true false p q r = refl
+    by false false d p q r = refl
+
+-- a stamp that comes before another comes before each that the other is at most
+pub before-leq : (s t u : List ℕ) → is_lt (stamp_cmp s t) ≡ true → leq t u ≡ true → is_lt (stamp_cmp s u) ≡ true
+before-leq [] [] u h k = cc
+before-leq [] (y ∷ t) [] h k = cc
+before-leq [] (y ∷ t) (z ∷ u) h k = refl
+before-leq (x ∷ s) [] u h k = cc
+before-leq (x ∷ s) (y ∷ t) [] h k = cc
+before-leq (x ∷ s) (y ∷ t) (z ∷ u) h k =
+    let b : nat_le y z ≡ true = and_left _ _ k in
+    step x y z (slice_cmp nat_cmp s t) (slice_cmp nat_cmp s u) b h (λ e. before-leq s t u e (and_right _ _ k))
+  where
+    step : (x y z : ℕ) (o p : Ordering) → nat_le y z ≡ true → is_lt (ordering_then (nat_cmp x y) o) ≡ true → (is_lt o ≡ true → is_lt p ≡ true) → is_lt (ordering_then (nat_cmp x z) p) ≡ true
+    step x y z o p b h r = grind (arith, nat_tests)
+
+-- no stamp comes before itself
+pub before-irrefl : (s : List ℕ) → is_lt (stamp_cmp s s) ≡ false
+before-irrefl s = ap is_lt (tied_itself nat_list_cmp_total s)
+
+-- of two stamps of which neither comes before the other, each is the other
+pub before-total : (s t : List ℕ) → is_lt (stamp_cmp s t) ≡ false → is_lt (stamp_cmp t s) ≡ false → s ≡ t
+before-total [] [] h k = refl
+before-total [] (y ∷ t) h k = cc
+before-total (x ∷ s) [] h k = cc
+before-total (x ∷ s) (y ∷ t) h k =
+    let a : x ≡ y = step x y (slice_cmp nat_cmp s t) (slice_cmp nat_cmp t s) h k in
+    let b : s ≡ t = before-total s t (tail x y (slice_cmp nat_cmp s t) a h) (tail y x (slice_cmp nat_cmp t s) (sym a) k) in
+    cc
+  where
+    step : (x y : ℕ) (o p : Ordering) → is_lt (ordering_then (nat_cmp x y) o) ≡ false → is_lt (ordering_then (nat_cmp y x) p) ≡ false → x ≡ y
+    step x y o p h k = grind (arith, nat_tests)
+
+    tail : (x y : ℕ) (o : Ordering) → x ≡ y → is_lt (ordering_then (nat_cmp x y) o) ≡ false → is_lt o ≡ false
+    tail x y o e h = grind (arith, nat_tests)
+
+-- what comes before a stamp that comes before another comes before that one
+pub before-trans : (s t u : List ℕ) → is_lt (stamp_cmp s t) ≡ true → is_lt (stamp_cmp t u) ≡ true → is_lt (stamp_cmp s u) ≡ true
+before-trans s t u h k = ap is_lt (nat_list_cmp_total.trans s t u (less (stamp_cmp s t) h) (less (stamp_cmp t u) k))
+  where
+    less : (o : Ordering) → is_lt o ≡ true → o ≡ Less
+    less Less h = refl
+    less Equal h = cc
+    less Greater h = cc
+
+-- a stamp comes before each other one that it is at most
+pub before-from_leq : (s t : List ℕ) → leq s t ≡ true → leq t s ≡ false → is_lt (stamp_cmp s t) ≡ true
+before-from_leq [] [] h k = cc
+before-from_leq [] (y ∷ t) h k = cc
+before-from_leq (x ∷ s) [] h k = cc
+before-from_leq (x ∷ s) (y ∷ t) h k =
+    step x y (slice_cmp nat_cmp s t) (leq t s) (and_left _ _ h) k (λ e. before-from_leq s t (and_right _ _ h) e)
+  where
+    step : (x y : ℕ) (o : Ordering) (b : Bool) → nat_le x y ≡ true → (nat_le y x && b) ≡ false → (b ≡ false → is_lt o ≡ true) → is_lt (ordering_then (nat_cmp x y) o) ≡ true
+    step x y o b h k r = grind (arith, nat_tests)
+
+-- a loop's stamp, taken apart
+pub outer-nest : (s : List ℕ) (c : ℕ) → outer (nest s c) ≡ s
+outer-nest [] c = refl
+outer-nest (x ∷ []) c = refl
+outer-nest (x ∷ y ∷ s) c = ap (λ u. x ∷ u) (outer-nest (y ∷ s) c)
+
+pub counter-nest : (s : List ℕ) (c : ℕ) → counter (nest s c) ≡ c
+counter-nest [] c = refl
+counter-nest (x ∷ []) c = refl
+counter-nest (x ∷ y ∷ s) c = counter-nest (y ∷ s) c
+
+-- and put together again
+pub nest-outer : (s : List ℕ) → 0 < length s → nest (outer s) (counter s) ≡ s
+nest-outer [] h = absurd (omega arith)
+nest-outer (x ∷ []) h = refl
+nest-outer (x ∷ y ∷ s) h = ap (λ u. x ∷ u) (nest-outer (y ∷ s) (omega arith))
+
+-- stamps of a loop are ordered by the outer stamp and the counter
+pub leq-nest : (s t : List ℕ) (c d : ℕ) → length s ≡ length t → leq (nest s c) (nest t d) ≡ (leq s t && nat_le c d)
+leq-nest [] [] c d h = step (nat_le c d)
+  where
+    step : (b : Bool) → (b && true) ≡ b
+    step true = refl
+    step false = refl
+leq-nest [] (y ∷ t) c d h = cc
+leq-nest (x ∷ s) [] c d h = cc
+leq-nest (x ∷ s) (y ∷ t) c d h = ap (λ b. nat_le x y && b) (leq-nest s t c d (omega arith)) ∙ step (nat_le x y) (leq s t) (nat_le c d)
+  where
+    step : (a b c : Bool) → (a && (b && c)) ≡ ((a && b) && c)
+    step true b c = refl
+    step false b c = refl
+
+-- and so are their greater coordinates
+pub lub-nest : (s t : List ℕ) (c d : ℕ) → length s ≡ length t → lub (nest s c) (nest t d) ≡ nest (lub s t) (cond (nat_le c d) d c)
+lub-nest [] [] c d h = refl
+lub-nest [] (y ∷ t) c d h = cc
+lub-nest (x ∷ s) [] c d h = cc
+lub-nest (x ∷ s) (y ∷ t) c d h = ap (λ u. cond (nat_le x y) y x ∷ u) (lub-nest s t c d (omega arith))

@@ -1,2 +1,4 @@
 pub mod Frontier
 pub mod Front
+pub mod Outside
+pub mod FrontText

@@ -2,5 +2,6 @@
 #![tactic(auto)]
 
 mod front;
+mod outside;
 
 pub use front::Front;

@@ -1,12 +1,12 @@
 -- The order of stamps is a partial order, and `lub` gives least upper bounds.
-use Rattle.std.proofs.Common.{◌≡◌, ℕ, ◌≤◌, Bool, true, false, ◌&&◌, nat_le, cond, List, [], ◌∷◌, length, refl, sym, ap, ◌∙◌, suc, ◌<◌, arith}
+use Rattle.std.proofs.Common.{◌≡◌, ℕ, ◌≤◌, Bool, true, false, ◌&&◌, nat_le, cond, List, [], ◌∷◌, length, refl, sym, ap, ◌∙◌, zero, suc, ◌<◌, nat_lt, ◌+◌, ◌++◌, get_or, arith}
 use Rattle.std.proofs.lemmas.Bool.Decides.{nat_tests}
 use Rattle.std.specs.Ordering.{is_lt, nat_cmp, ordering_then}
 use Rattle.std.specs.Cmp.Lexicographic.{slice_cmp}
 use Rattle.std.specs.declared.cmp.Ordering.{Ordering}
 use Rattle.std.specs.declared.cmp.Ordering.TheVariants.{Less, Equal, Greater}
 use Rattle.std.proofs.lemmas.Cmp.{tied_itself, nat_list_cmp_total}
-use Rattle.fw_time.specs.Stamp.{leq, lub, stamp_cmp, nest, outer, counter}
+use Rattle.fw_time.specs.Stamp.{leq, lub, stamp_cmp, nest, outer, counter, origin, raised}
 
 -- both parts of a conjunction
 pub and_left : (b c : Bool) → (b && c) ≡ true → b ≡ true
@@ -210,3 +210,39 @@ lub-nest [] [] c d h = refl
 lub-nest [] (y ∷ t) c d h = cc
 lub-nest (x ∷ s) [] c d h = cc
 lub-nest (x ∷ s) (y ∷ t) c d h = ap (λ u. cond (nat_le x y) y x ∷ u) (lub-nest s t c d (omega arith))
+
+-- the least stamp of a domain is at most each stamp of it
+pub origin-leq : (s t : List ℕ) → length s ≡ length t → leq (origin s) t ≡ true
+origin-leq [] [] h = refl
+origin-leq [] (y ∷ t) h = cc
+origin-leq (x ∷ s) [] h = cc
+origin-leq (x ∷ s) (y ∷ t) h = both _ _ (to_le 0 y (omega arith)) (origin-leq s t (omega arith))
+
+-- zeros before two stamps change nothing
+pub leq-origin-append : (h s t : List ℕ) → leq (origin h ++ s) (h ++ t) ≡ leq s t
+leq-origin-append [] s t = refl
+leq-origin-append (x ∷ h) s t = cong (nat_le 0 x) (to_le 0 x (omega arith)) (leq-origin-append h s t)
+  where
+    cong : {b c : Bool} (a : Bool) → a ≡ true → b ≡ c → (a && b) ≡ c
+    cong a e k = cc
+
+-- as long a list of zeros
+pub origin-append : (h s : List ℕ) → origin (h ++ s) ≡ origin h ++ origin s
+origin-append [] s = refl
+origin-append (x ∷ h) s = ap (λ u. 0 ∷ u) (origin-append h s)
+
+-- the stamps of a domain with a greater coordinate at a place
+pub leq-raised : (s t : List ℕ) (i : ℕ) → i < length s → length s ≡ length t → leq (raised s i) t ≡ nat_lt (get_or s i 0) (get_or t i 0)
+leq-raised [] t i h k = absurd (omega arith)
+leq-raised (x ∷ s) [] i h k = cc
+leq-raised (x ∷ s) (y ∷ t) zero h k = step (nat_le (x + 1) y) (leq (origin s) t) (origin-leq s t (omega arith)) ∙ same x y
+  where
+    step : (b c : Bool) → c ≡ true → (b && c) ≡ b
+    step true c e = e
+    step false c e = refl
+    same : (x y : ℕ) → nat_le (x + 1) y ≡ nat_lt x y
+    same x y = grind (arith, nat_tests)
+leq-raised (x ∷ s) (y ∷ t) (suc i) h k = step (nat_le 0 y) (to_le 0 y (omega arith)) ∙ leq-raised s t i (omega arith) (omega arith)
+  where
+    step : {c : Bool} (b : Bool) → b ≡ true → (b && c) ≡ c
+    step b e = cc

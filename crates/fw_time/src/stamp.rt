@@ -1,7 +1,7 @@
 //! Stamps and the bounds of their domains.
-ghost use Rattle.std.specs.Prelude.{◌≡◌, ◌≤◌, ◌<◌, ◌↔◌, IsTrue, length, slice_index};
+ghost use Rattle.std.specs.Prelude.{◌≡◌, ◌+◌, ◌^◌, ◌≤◌, ◌<◌, replicate, length, slice_index};
 ghost use Rattle.fw_time.specs.StampText.{stamp_text, dotted};
-ghost use Rattle.fw_time.specs.Stamp.{leq, lub, in_domain, nest, outer, counter, stamp_cmp};
+ghost use Rattle.fw_time.specs.Stamp.{leq, lub, raised, in_domain, nest, outer, counter, stamp_cmp};
 
 use arrayvec::ArrayVec;
 use std::cmp::Ordering;
@@ -70,9 +70,8 @@ impl Stamp {
         at_most(self.coords.as_slice(), other.coords.as_slice())
     }
 
-    /// The greater coordinate at each place, of two stamps of one length.
+    /// The greater coordinate at each place. Of two stamps of one length it is the least that both are at most.
     pub fn lub(&self, other: &Self) -> Self
-        requires { length self.now ≡ length other.now }
         ensures { result ≡ lub self.now other.now }
     {
         Stamp {
@@ -113,6 +112,17 @@ impl Stamp {
         ensures { result ≡ counter self.now }
     {
         self.coords[self.coords.len() - 1]
+    }
+
+    /// The least stamp of as many coordinates that has a greater coordinate at this place.
+    pub fn raised(&self, place: usize) -> Self
+        requires there { place < length self.now }
+        requires fits { slice_index self.now place + 1 < 2 ^ 32 }
+        ensures { result ≡ raised self.now place }
+    {
+        Stamp {
+            coords: raised_at(self.coords.as_slice(), place),
+        }
     }
 
     /// The order by the coordinates from the outermost, in which a least stamp is wanted.
@@ -169,13 +179,34 @@ fn at_most(coords: &[u32], others: &[u32]) -> bool
 
 // The greater coordinate at each place.
 fn greater(coords: &[u32], others: &[u32]) -> ArrayVec<u32, 4>
-    requires same_length { length coords.now ≡ length others.now }
     requires few { length coords.now ≤ 4 }
+    requires few_others { length others.now ≤ 4 }
     ensures { result.items ≡ lub coords.now others.now }
 {
     let mut all = ArrayVec::new();
+    for i in 0..coords.len().max(others.len()) {
+        all.push(at_or_zero(coords, i).max(at_or_zero(others, i)));
+    }
+    all
+}
+
+// The coordinate at a place, and zero where there is none.
+fn at_or_zero(coords: &[u32], i: usize) -> u32
+    ensures { result ≡ slice_index coords.now i }
+{
+    if i < coords.len() { coords[i] } else { 0 }
+}
+
+// Zeros, but for one more than the coordinate at a place.
+fn raised_at(coords: &[u32], place: usize) -> ArrayVec<u32, 4>
+    requires there { place < length coords.now }
+    requires few { length coords.now ≤ 4 }
+    requires fits { slice_index coords.now place + 1 < 2 ^ 32 }
+    ensures { result.items ≡ raised coords.now place }
+{
+    let mut all = ArrayVec::new();
     for i in 0..coords.len() {
-        all.push(coords[i].max(others[i]));
+        all.push(if i == place { coords[i] + 1 } else { 0 });
     }
     all
 }
@@ -184,4 +215,29 @@ fn greater(coords: &[u32], others: &[u32]) -> ArrayVec<u32, 4>
 #[derive(Debug, Drop)]
 pub struct Bounds {
     pub greatest: Stamp,
+}
+
+impl Bounds {
+    ghost use Rattle.fw_time.specs.Stamp.{origin};
+
+    /// The least stamp of the domain: its coordinates are zeros.
+    pub fn origin(&self) -> Stamp
+        ensures { result ≡ origin self.now.greatest }
+    {
+        Stamp {
+            coords: zeros(self.greatest.len()),
+        }
+    }
+}
+
+// This many zeros.
+fn zeros(len: usize) -> ArrayVec<u32, 4>
+    requires { len ≤ 4 }
+    ensures { result.items ≡ replicate len 0 }
+{
+    let mut all = ArrayVec::new();
+    for _ in 0..len {
+        all.push(0);
+    }
+    all
 }

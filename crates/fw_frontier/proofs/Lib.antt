@@ -1,0 +1,4 @@
+pub mod InsideLaws
+pub mod CanonicalLaws
+pub mod NamesLaws
+pub mod TextLaws

@@ -6,6 +6,7 @@ use Rattle.std.specs.Cmp.Lexicographic.{slice_cmp}
 use Rattle.std.specs.declared.cmp.Ordering.{Ordering}
 use Rattle.std.specs.declared.cmp.Ordering.TheVariants.{Less, Equal, Greater}
 use Rattle.std.proofs.lemmas.Cmp.{tied_itself, nat_list_cmp_total}
+pub use Rattle.fw_time.specs.NestLaws.{outer-nest, counter-nest}
 use Rattle.fw_time.specs.Stamp.{leq, lub, stamp_cmp, nest, outer, counter, origin, raised}
 
 -- both parts of a conjunction
@@ -172,18 +173,8 @@ before-from_leq (x ∷ s) (y ∷ t) h k =
     step : (x y : ℕ) (o : Ordering) (b : Bool) → nat_le x y ≡ true → (nat_le y x && b) ≡ false → (b ≡ false → is_lt o ≡ true) → is_lt (ordering_then (nat_cmp x y) o) ≡ true
     step x y o b h k r = grind (arith, nat_tests)
 
--- a loop's stamp, taken apart
-pub outer-nest : (s : List ℕ) (c : ℕ) → outer (nest s c) ≡ s
-outer-nest [] c = refl
-outer-nest (x ∷ []) c = refl
-outer-nest (x ∷ y ∷ s) c = ap (λ u. x ∷ u) (outer-nest (y ∷ s) c)
-
-pub counter-nest : (s : List ℕ) (c : ℕ) → counter (nest s c) ≡ c
-counter-nest [] c = refl
-counter-nest (x ∷ []) c = refl
-counter-nest (x ∷ y ∷ s) c = counter-nest (y ∷ s) c
-
--- and put together again
+-- a loop's stamp, taken apart and
+-- put together again
 pub nest-outer : (s : List ℕ) → 0 < length s → nest (outer s) (counter s) ≡ s
 nest-outer [] h = absurd (omega arith)
 nest-outer (x ∷ []) h = refl
@@ -240,6 +231,7 @@ leq-raised (x ∷ s) (y ∷ t) zero h k = step (nat_le (x + 1) y) (leq (origin s
     step : (b c : Bool) → c ≡ true → (b && c) ≡ b
     step true c e = e
     step false c e = refl
+
     same : (x y : ℕ) → nat_le (x + 1) y ≡ nat_lt x y
     same x y = grind (arith, nat_tests)
 leq-raised (x ∷ s) (y ∷ t) (suc i) h k = step (nat_le 0 y) (to_le 0 y (omega arith)) ∙ leq-raised s t i (omega arith) (omega arith)

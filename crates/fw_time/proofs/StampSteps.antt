@@ -1,10 +1,10 @@
 -- How the loops over coordinates go on by one place.
-use Rattle.std.proofs.Common.{◌≡◌, ℕ, ◌+◌, ◌<◌, ◌&&◌, nat_le, cond, List, [], ◌∷◌, ◌++◌, length, get_or, take, drop, max, refl, ap, zero, suc, arith, add-one, ◌∙◌, sym, length-append, append_assoc, nat_eq, replicate}
+use Rattle.std.proofs.Common.{◌≡◌, ℕ, ◌+◌, ◌<◌, ◌&&◌, nat_le, cond, List, [], ◌∷◌, ◌++◌, length, get_or, take, drop, max, refl, ap, zero, suc, arith, add-one, ◌∙◌, sym, append_assoc, nat_eq, replicate}
 use Rattle.std.proofs.lemmas.Bool.Decides.{nat_tests}
 use Rattle.std.proofs.lemmas.List.{append-nil, take_more}
 use Rattle.std.specs.Fmt.{decimal}
 use Rattle.fw_time.specs.StampText.{dotted}
-use Rattle.fw_time.specs.Stamp.{leq, lub, nest, outer, counter, origin, raised}
+use Rattle.fw_time.specs.Stamp.{leq, lub, outer, counter, origin, raised}
 use Rattle.fw_time.proofs.StampLaws.{outer-nest, counter-nest}
 
 leq_suc : (a b : List ℕ) (i : ℕ) → i < length a → i < length b → leq (drop i a) (drop i b) ≡ (nat_le (get_or a i 0) (get_or b i 0) && leq (drop (suc i) a) (drop (suc i) b))
@@ -85,10 +85,6 @@ raised_more s i k h = take_more (raised s i) k 0 (omega (arith, length-raised s 
 pub origin-replicate : (s : List ℕ) → origin s ≡ replicate (length s) 0
 origin-replicate [] = refl
 origin-replicate (x ∷ s) = ap (λ u. 0 ∷ u) (origin-replicate s)
-
--- a loop's stamp has one coordinate more than the outer one
-pub length-nest : (s : List ℕ) (c : ℕ) → length (nest s c) ≡ length s + 1
-length-nest s c = grind (arith, length-append {A = ℕ})
 
 -- what is left without the last coordinate
 pub outer_front : (s front : List ℕ) (c : ℕ) → s ≡ front ++ c ∷ [] → outer s ≡ front

@@ -1,4 +1,4 @@
-use Rattle.std.proofs.Common.{sym, ap, ◌∙◌, length, replicate}
+use Rattle.std.proofs.Common.{sym, ap, ◌∙◌, replicate}
 use Rattle.fw_time.proofs.StampSteps.{origin-replicate}
 use Rattle.fw_time.proofs.stamp.Bounds.origin.Goals as goal
 

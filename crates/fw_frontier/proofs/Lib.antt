@@ -2,3 +2,5 @@ pub mod InsideLaws
 pub mod CanonicalLaws
 pub mod NamesLaws
 pub mod TextLaws
+pub mod GenericLaws
+pub mod BelowLaws

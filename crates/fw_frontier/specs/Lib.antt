@@ -2,3 +2,5 @@ pub mod Frontier
 pub mod Front
 pub mod Outside
 pub mod FrontText
+pub mod Below
+pub mod BelowLaw

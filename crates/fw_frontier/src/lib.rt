@@ -1,7 +1,11 @@
-//! Frontiers: sets of stamps that hold with a stamp each lesser one.
+//! Frontiers: sets of times that hold with a time each lesser one.
 #![tactic(auto)]
 
+mod below;
 mod front;
+mod frontier;
 mod outside;
 
+pub use below::Below;
 pub use front::Front;
+pub use frontier::{Frontier, Logical};

@@ -6,8 +6,8 @@ use Rattle.std.specs.Cmp.Lexicographic.{slice_cmp}
 use Rattle.std.specs.declared.cmp.Ordering.{Ordering}
 use Rattle.std.specs.declared.cmp.Ordering.TheVariants.{Less, Equal, Greater}
 use Rattle.std.proofs.lemmas.Cmp.{tied_itself, nat_list_cmp_total}
-pub use Rattle.fw_time.specs.NestLaws.{outer-nest, counter-nest}
-use Rattle.fw_time.specs.Stamp.{leq, lub, stamp_cmp, nest, outer, counter, origin, raised}
+pub use Rattle.fw_time.specs.NestLaws.{outer-nest, counter-nest, nest-outer}
+use Rattle.fw_time.specs.Stamp.{leq, lub, glb, stamp_cmp, nest, origin, raised}
 
 -- both parts of a conjunction
 pub and_left : (b c : Bool) → (b && c) ≡ true → b ≡ true
@@ -173,13 +173,6 @@ before-from_leq (x ∷ s) (y ∷ t) h k =
     step : (x y : ℕ) (o : Ordering) (b : Bool) → nat_le x y ≡ true → (nat_le y x && b) ≡ false → (b ≡ false → is_lt o ≡ true) → is_lt (ordering_then (nat_cmp x y) o) ≡ true
     step x y o b h k r = grind (arith, nat_tests)
 
--- a loop's stamp, taken apart and
--- put together again
-pub nest-outer : (s : List ℕ) → 0 < length s → nest (outer s) (counter s) ≡ s
-nest-outer [] h = absurd (omega arith)
-nest-outer (x ∷ []) h = refl
-nest-outer (x ∷ y ∷ s) h = ap (λ u. x ∷ u) (nest-outer (y ∷ s) (omega arith))
-
 -- stamps of a loop are ordered by the outer stamp and the counter
 pub leq-nest : (s t : List ℕ) (c d : ℕ) → length s ≡ length t → leq (nest s c) (nest t d) ≡ (leq s t && nat_le c d)
 leq-nest [] [] c d h = step (nat_le c d)
@@ -238,3 +231,22 @@ leq-raised (x ∷ s) (y ∷ t) (suc i) h k = step (nat_le 0 y) (to_le 0 y (omega
   where
     step : {c : Bool} (b : Bool) → b ≡ true → (b && c) ≡ c
     step b e = cc
+
+-- the greatest lower bound of stamps of one length is at most the second
+pub glb-right : (s t : List ℕ) → length s ≡ length t → leq (glb s t) t ≡ true
+glb-right [] [] h = refl
+glb-right [] (y ∷ t) h = cc
+glb-right (x ∷ s) [] h = cc
+glb-right (x ∷ s) (y ∷ t) h =
+    let a : nat_le (cond (nat_le x y) x y) y ≡ true = grind (arith, nat_tests) in
+    both _ _ a (glb-right s t (omega arith))
+
+-- a stamp below another one is its own lesser part
+pub glb-leq : (s t : List ℕ) → leq s t ≡ true → glb s t ≡ s
+glb-leq [] [] h = refl
+glb-leq [] (y ∷ t) h = cc
+glb-leq (x ∷ s) [] h = cc
+glb-leq (x ∷ s) (y ∷ t) h = λ i. first x y (and_left _ _ h) i ∷ glb-leq s t (and_right _ _ h) i
+  where
+    first : (x y : ℕ) → nat_le x y ≡ true → cond (nat_le x y) x y ≡ x
+    first x y e = grind (arith, nat_tests)

@@ -1,9 +1,8 @@
 -- The laws of times of one coordinate, and of times with a coordinate more.
-use Rattle.std.proofs.Common.{◌≡◌, ℕ, ◌+◌, ◌<◌, Bool, ◌&&◌, nat_le, max, cond, List, [], ◌∷◌, length, true, false, refl, sym, ap, ◌∙◌, arith}
+use Rattle.std.proofs.Common.{◌≡◌, ℕ, ◌<◌, Bool, ◌&&◌, nat_le, max, cond, List, [], ◌∷◌, length, true, false, refl, sym, ap, ◌∙◌, arith}
 use Rattle.std.proofs.lemmas.Bool.Decides.{nat_tests}
 use Rattle.fw_time.specs.Stamp.{leq, lub, nest, outer, counter}
-use Rattle.fw_time.specs.NestLaws.{length-nest}
-use Rattle.fw_time.proofs.StampLaws.{lub-nest, nest-outer}
+use Rattle.fw_time.proofs.StampLaws.{lub-nest}
 
 -- the greater counter
 pub lub-nest_max : (s t : List ℕ) (c d n : ℕ) → length s ≡ n → length t ≡ n → lub (nest s c) (nest t d) ≡ nest (lub s t) (max c d)
@@ -11,13 +10,6 @@ lub-nest_max s t c d n e f = lub-nest s t c d (e ∙ sym f) ∙ ap (nest (lub s 
   where
     greater : (c d : ℕ) → cond (nat_le c d) d c ≡ max c d
     greater c d = grind (arith, nat_tests)
-
-length-outer : (s : List ℕ) → 0 < length s → length (outer s) + 1 ≡ length s
-length-outer s h = sym (length-nest (outer s) (counter s)) ∙ ap length (nest-outer s h)
-
--- the outer stamp has one coordinate less
-pub places-outer : (s : List ℕ) (n : ℕ) → length s ≡ n + 1 → length (outer s) ≡ n
-places-outer s n h = omega (arith, length-outer s (omega arith))
 
 -- a stamp of a loop lies in the domain by its outer stamp and its counter
 pub leq-nest_bound : (s g : List ℕ) (c : ℕ) → 0 < length g → leq (nest s c) g ≡ (leq s (outer g) && nat_le c (counter g))

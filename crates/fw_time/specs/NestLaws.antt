@@ -1,5 +1,5 @@
 -- The laws of times of one coordinate, and of times with a coordinate more.
-use Rattle.std.proofs.Common.{◌≡◌, ℕ, ◌+◌, ◌<◌, List, [], ◌∷◌, length, refl, sym, ap, ◌∙◌, arith, length-append}
+use Rattle.std.proofs.Common.{◌≡◌, ℕ, ◌+◌, ◌<◌, List, [], ◌∷◌, length, refl, sym, ap, ◌∙◌, arith, length-append, slice_index}
 use Rattle.fw_time.specs.Stamp.{nest, outer, counter}
 
 -- a loop's stamp, taken apart
@@ -35,3 +35,26 @@ some-nest s c = omega (arith, length-nest s c)
 -- as many coordinates as the outer time has, and one
 pub places-nest : (s : List ℕ) (c n : ℕ) → length s ≡ n → length (nest s c) ≡ n + 1
 places-nest s c n e = omega (arith, length-nest s c)
+
+-- a loop's stamp, put together again
+pub nest-outer : (s : List ℕ) → 0 < length s → nest (outer s) (counter s) ≡ s
+nest-outer [] h = absurd (omega arith)
+nest-outer (x ∷ []) h = refl
+nest-outer (x ∷ y ∷ s) h = ap (λ u. x ∷ u) (nest-outer (y ∷ s) (omega arith))
+
+length-outer : (s : List ℕ) → 0 < length s → length (outer s) + 1 ≡ length s
+length-outer s h = sym (length-nest (outer s) (counter s)) ∙ ap length (nest-outer s h)
+
+-- the outer stamp has one coordinate less
+pub places-outer : (s : List ℕ) (n : ℕ) → length s ≡ n + 1 → length (outer s) ≡ n
+places-outer s n h = omega (arith, length-outer s (omega arith))
+
+-- one coordinate is the first
+pub one-place : (s : List ℕ) → length s ≡ 1 → slice_index s 0 ∷ [] ≡ s
+one-place [] h = cc
+one-place (x ∷ []) h = refl
+one-place (x ∷ y ∷ s) h = absurd (omega arith)
+
+-- there is a coordinate where there is one more than some
+pub some_place-from : (s : List ℕ) (n : ℕ) → length s ≡ n + 1 → 0 < length s
+some_place-from s n h = omega arith

@@ -30,6 +30,12 @@ lub [] t = t
 lub (x ∷ s) [] = x ∷ s
 lub (x ∷ s) (y ∷ t) = (if nat_le x y then y else x) ∷ lub s t
 
+-- the lesser coordinate at each place
+abbrev pub glb : Stamp → Stamp → Stamp
+glb [] t = []
+glb (x ∷ s) [] = []
+glb (x ∷ s) (y ∷ t) = (if nat_le x y then x else y) ∷ glb s t
+
 -- the order in which a least one is wanted: by the coordinates from the outermost
 abbrev pub stamp_cmp : Stamp → Stamp → Ordering
 stamp_cmp = slice_cmp nat_cmp

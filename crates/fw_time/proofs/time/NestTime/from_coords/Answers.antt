@@ -1,7 +1,7 @@
 use Rattle.std.proofs.Common.{◌∙◌, ap, length, arith}
 use Rattle.fw_time.specs.Stamp.{nest}
 use Rattle.fw_time.proofs.StampLaws.{nest-outer}
-use Rattle.fw_time.proofs.TimeLaws.{places-outer}
+use Rattle.fw_time.specs.NestLaws.{places-outer}
 use Rattle.fw_time.proofs.time.NestTime.from_coords.Goals as goal
 
 pub from_coords-requires : goal.from_coords-requires

@@ -6,7 +6,7 @@ use Rattle.fw_time.specs.declared.stamp.Bounds.{Bounds}
 use Rattle.fw_time.specs.Stamp.{leq, in_domain}
 use Rattle.fw_time.proofs.StampLaws.{leq-length}
 use Rattle.fw_frontier.specs.Below.{is_below}
-use Rattle.fw_frontier.specs.Front.{frontier_of, Names}
+use Rattle.fw_frontier.specs.Front.{inside, frontier_of, Names}
 
 -- not all numbers are below a limit
 pub none-within : (k : ℕ) → ((n : ℕ) → is_below None n ≡ true → is_below (Some k) n ≡ true) → false ≡ true
@@ -84,4 +84,12 @@ names-numbers b os until f h n = names-as b os (λ t. in_domain b t && is_below 
   where
     by : (t : List ℕ) (c : Bool) → in_domain b t ≡ c → (c && is_below until (slice_index t 0)) ≡ (c && is_below until (f t))
     by t true e = ap (is_below until) (sym (h t (leq-length t b.greatest e)))
+    by t false e = refl
+
+-- the frontier that has stamps outside, by a test that agrees with them on the domain
+pub names-by : (b : Bounds) (os ss : List (List ℕ)) (f : List ℕ → Bool) → Names b os (frontier_of b ss) → ((t : List ℕ) → in_domain b t ≡ true → inside ss t ≡ f t) → Names b os (λ t. in_domain b t && f t)
+names-by b os ss f n h = names-as b os (frontier_of b ss) (λ t. in_domain b t && f t) n (λ t. by t (in_domain b t) refl)
+  where
+    by : (t : List ℕ) (c : Bool) → in_domain b t ≡ c → (c && inside ss t) ≡ (c && f t)
+    by t true e = h t e
     by t false e = refl

@@ -4,3 +4,4 @@ pub mod NamesLaws
 pub mod TextLaws
 pub mod GenericLaws
 pub mod BelowLaws
+pub mod StairsLaws

@@ -4,3 +4,5 @@ pub mod Outside
 pub mod FrontText
 pub mod Below
 pub mod BelowLaw
+pub mod Stairs
+pub mod StairsLaw

@@ -5,7 +5,9 @@ mod below;
 mod front;
 mod frontier;
 mod outside;
+mod stairs;
 
 pub use below::Below;
 pub use front::Front;
 pub use frontier::{Frontier, Logical};
+pub use stairs::Stairs;

@@ -1,8 +1,9 @@
 -- The laws of times of one coordinate, and of times with a coordinate more.
-use Rattle.std.proofs.Common.{◌≡◌, ℕ, ◌<◌, Bool, ◌&&◌, nat_le, max, cond, List, [], ◌∷◌, length, true, false, refl, sym, ap, ◌∙◌, arith}
+use Rattle.std.proofs.Common.{◌≡◌, ℕ, ◌+◌, ◌<◌, Bool, true, false, ◌&&◌, nat_le, max, min, cond, List, [], ◌∷◌, length, refl, sym, ap, ◌∙◌, suc, arith}
 use Rattle.std.proofs.lemmas.Bool.Decides.{nat_tests}
-use Rattle.fw_time.specs.Stamp.{leq, lub, nest, outer, counter}
-use Rattle.fw_time.proofs.StampLaws.{lub-nest}
+use Rattle.fw_time.specs.Stamp.{leq, lub, glb, nest, outer, counter}
+use Rattle.fw_time.specs.NestLaws.{places-outer}
+use Rattle.fw_time.proofs.StampLaws.{lub-nest, leq-nest}
 
 -- the greater counter
 pub lub-nest_max : (s t : List ℕ) (c d n : ℕ) → length s ≡ n → length t ≡ n → lub (nest s c) (nest t d) ≡ nest (lub s t) (max c d)
@@ -45,3 +46,25 @@ pub leq-nest_none : (s : List ℕ) (c : ℕ) (g : List ℕ) → length g ≡ 0 �
 leq-nest_none [] c [] h = refl
 leq-nest_none (x ∷ s) c [] h = refl
 leq-nest_none s c (y ∷ g) h = absurd (omega arith)
+
+length-glb : (s t : List ℕ) → length s ≡ length t → length (glb s t) ≡ length s
+length-glb [] t h = refl
+length-glb (x ∷ s) [] h = sym h
+length-glb (x ∷ s) (y ∷ t) h = ap suc (length-glb s t (omega arith))
+
+-- the lesser part of a loop's stamp in a domain, by its outer stamp and its counter
+glb-nest : (s g : List ℕ) (c : ℕ) → length g ≡ length s + 1 → glb (nest s c) g ≡ nest (glb s (outer g)) (min c (counter g))
+glb-nest [] [] c h = absurd (omega arith)
+glb-nest [] (y ∷ []) c h = ap (λ z. z ∷ []) (lesser c y)
+  where
+    lesser : (c y : ℕ) → cond (nat_le c y) c y ≡ min c y
+    lesser c y = grind (arith, nat_tests)
+glb-nest [] (y ∷ z ∷ g) c h = absurd (omega arith)
+glb-nest (x ∷ s) [] c h = absurd (omega arith)
+glb-nest (x ∷ s) (y ∷ []) c h = absurd (omega arith)
+glb-nest (x ∷ s) (y ∷ z ∷ g) c h = ap (λ u. cond (nat_le x y) x y ∷ u) (glb-nest s (z ∷ g) c (omega arith))
+
+-- what of a loop's domain is at most a stamp
+pub leq-glb_nest : (s g t : List ℕ) (c k : ℕ) → length g ≡ length s + 1 → length s ≡ length t → leq (glb (nest s c) g) (nest t k) ≡ (leq (glb s (outer g)) t && nat_le (min c (counter g)) k)
+leq-glb_nest s g t c k h e =
+    ap (λ u. leq u (nest t k)) (glb-nest s g c h) ∙ leq-nest (glb s (outer g)) t (min c (counter g)) k (length-glb s (outer g) (sym (places-outer g (length s) h)) ∙ e)

@@ -99,7 +99,8 @@ impl Stamp {
     /// A loop's stamp without its counter.
     pub fn outer(&self) -> Self
         requires { 0 < length self.now }
-        ensures { result ≡ outer self.now }
+        ensures value { result ≡ outer self.now }
+        ensures few { length result < 4 }
     {
         let mut coords = copied(self.coords.as_slice());
         let _ = coords.pop();

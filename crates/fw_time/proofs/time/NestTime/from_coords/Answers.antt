@@ -5,8 +5,8 @@ use Rattle.fw_time.specs.NestLaws.{places-outer}
 use Rattle.fw_time.proofs.time.NestTime.from_coords.Goals as goal
 
 pub from_coords-requires : goal.from_coords-requires
-from_coords-requires g c = ap length c.outer.ensures ∙ places-outer c.args.stamp.now g.T.Time.places c.requires
+from_coords-requires g c = ap length c.outer.ensures.value ∙ places-outer c.args.stamp.now g.T.Time.places c.requires
 
 pub returns : goal.returns
 returns g c =
-    (λ i. nest ((c.from_coords.ensures ∙ c.outer.ensures) i) (c.counter.ensures i)) ∙ nest-outer c.args.stamp.now (omega (arith, c.requires))
+    (λ i. nest ((c.from_coords.ensures ∙ c.outer.ensures.value) i) (c.counter.ensures i)) ∙ nest-outer c.args.stamp.now (omega (arith, c.requires))

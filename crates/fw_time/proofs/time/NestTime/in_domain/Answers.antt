@@ -10,11 +10,11 @@ returns-then-len-eq0 g c = let t = c.args.self.now in
 pub returns-then-in_domain : goal.returns-then-in_domain
 returns-then-in_domain g c = let t = c.args.self.now in let s = g.T.Time.coords t.outer in let b = c.args.bounds.now.greatest in
     ap (nat_le t.counter) c.counter.ensures
-    ∙ ap (λ d. d && nat_le t.counter (counter b)) (sym c.if-in_domain.true ∙ c.in_domain.ensures ∙ ap (leq s) c.outer.ensures)
+    ∙ ap (λ d. d && nat_le t.counter (counter b)) (sym c.if-in_domain.true ∙ c.in_domain.ensures ∙ ap (leq s) c.outer.ensures.value)
     ∙ sym (leq-nest_bound s b t.counter (omega arith))
 
 pub returns-else-in_domain : goal.returns-else-in_domain
 returns-else-in_domain g c = let t = c.args.self.now in let s = g.T.Time.coords t.outer in let b = c.args.bounds.now.greatest in
     c.if-in_domain.false
-    ∙ ap (λ d. d && nat_le t.counter (counter b)) (sym c.if-in_domain.false ∙ c.in_domain.ensures ∙ ap (leq s) c.outer.ensures)
+    ∙ ap (λ d. d && nat_le t.counter (counter b)) (sym c.if-in_domain.false ∙ c.in_domain.ensures ∙ ap (leq s) c.outer.ensures.value)
     ∙ sym (leq-nest_bound s b t.counter (omega arith))

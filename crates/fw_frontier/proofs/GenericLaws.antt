@@ -44,3 +44,10 @@ pub each-at : (P : List ℕ → Type 0) (os : List (List ℕ)) (i : ℕ) (d : Li
 each-at P [] i d h k = absurd (omega arith)
 each-at P (o ∷ os) zero d h k = k.0
 each-at P (o ∷ os) (suc i) d h k = each-at P os i d (omega arith) k.1
+
+-- what is inside after a time more is covered
+pub covered_more : {A : Type 0} (f : A → List ℕ) (ts : List A) (i : ℕ) (d : A) (u : List ℕ) (before below after : Bool) → i < length ts
+    → after ≡ (before || below) → before ≡ some_above (map f (take i ts)) u → below ≡ leq u (f d) → d ≡ get_or ts i d
+    → after ≡ some_above (map f (take (i + 1) ts)) u
+covered_more f ts i d u before below after h e b l at =
+    e ∙ (λ j. b j || l j) ∙ ap (λ x. some_above (map f (take i ts)) u || leq u (f x)) at ∙ some_above_more f ts i d u h

@@ -5,3 +5,4 @@ pub mod TextLaws
 pub mod GenericLaws
 pub mod BelowLaws
 pub mod StairsLaws
+pub mod DomainLaws

@@ -318,3 +318,18 @@ nested-whole b xs test len n some e down flat each t h =
 pub all-short : (o : Bounds) (os : List (List ℕ)) → length o.greatest < 4 → AllByRecursion (λ u. in_domain o u ≡ true) os → AllByRecursion (λ u. length u < 4) os
 all-short o [] h k = tt
 all-short o (u ∷ os) h k = (omega (arith, leq-length u o.greatest k.0), all-short o os h k.1)
+
+-- ---- a copy of a loop's frontier
+
+pub copied-whole : {F T : Type 0} (test : F → T → Bool) (xs zs : List F) (x z : F) → length zs ≡ length xs
+    → ((c : ℕ) (t : T) (d e : F) → c < length zs → test (get_or zs c d) t ≡ test (get_or xs c e) t)
+    → ((t : T) → test z t ≡ test x t)
+    → (c : ℕ) (t : T) → test (get_or zs c z) t ≡ test (get_or xs c x) t
+copied-whole test xs zs x z long each last c t = elim (cases_lt c (length zs)) [
+  | inl h ↦ each c t z x h
+  | inr h ↦ ap (λ s. test s t) (get_or_past zs c z h) ∙ last t ∙ ap (λ s. test s t) (sym (get_or_past xs c x (omega arith)))
+]
+
+pub descending-copied : {F T : Type 0} (test : F → T → Bool) (xs zs : List F) (x z : F) → IsDescending test xs x
+    → ((c : ℕ) (t : T) → test (get_or zs c z) t ≡ test (get_or xs c x) t) → IsDescending test zs z
+descending-copied test xs zs x z down each c d t h k = each c t ∙ down c d t h (sym (each d t) ∙ k)

@@ -6,3 +6,4 @@ pub mod Below
 pub mod BelowLaw
 pub mod Stairs
 pub mod StairsLaw
+pub mod Domain

@@ -24,10 +24,12 @@ pub trait Frontier<T: Time>: Drop {
 
     /// The frontier without times.
     fn empty(alloc: Global, bounds: &Bounds) -> Result<Self, AllocError>
+        requires { length bounds.now.greatest ≡ T.places }
         ensures { IfOk result (λ f. (t : T) → inside f t ≡ false) };
 
     /// The frontier of all times.
     fn all(alloc: Global, bounds: &Bounds) -> Result<Self, AllocError>
+        requires { length bounds.now.greatest ≡ T.places }
         ensures { IfOk result (λ f. (t : T) → inside f t ≡ true) };
 
     /// The same frontier once more.
@@ -81,9 +83,10 @@ pub trait Frontier<T: Time>: Drop {
         Ok(cover)
     }
 
-    /// What a front has inside, whose stamps have as many coordinates as the times.
+    /// What a front has inside, whose outside stamps are the domain's.
     fn from_front(alloc: Global, front: &Front, bounds: &Bounds) -> Result<Self, AllocError>
-        requires { AllByRecursion (λ o. length o ≡ T.places) front.now }
+        requires shape { length bounds.now.greatest ≡ T.places }
+        requires in_domain { AllByRecursion (λ o. in_domain bounds.now o ≡ true) front.now }
         ensures { IfOk result (λ f. (t : T) → inside f t ≡ inside_front front.now (T.coords t)) }
     {
         let mut kept = Self::all(alloc, bounds)?;

@@ -4,6 +4,7 @@
 mod below;
 mod front;
 mod frontier;
+pub mod laws;
 mod outside;
 mod stairs;
 

@@ -28,7 +28,7 @@ impl<T: Logical> Frontier<Nest<T>> for Stairs<T> {
     ghost inside = { λ f t. T.Frontier.inside (slice_index_or f.steps.items t.counter f.last) t.outer };
 
     fn empty(alloc: Global, bounds: &Bounds) -> Result<Self, AllocError> {
-        let last = T::Frontier::empty(alloc, bounds)?;
+        let last = T::Frontier::empty(alloc, &outer_of(bounds))?;
         Ok(Stairs {
             steps: Vec::new(alloc),
             last,
@@ -36,7 +36,7 @@ impl<T: Logical> Frontier<Nest<T>> for Stairs<T> {
     }
 
     fn all(alloc: Global, bounds: &Bounds) -> Result<Self, AllocError> {
-        let last = T::Frontier::all(alloc, bounds)?;
+        let last = T::Frontier::all(alloc, &outer_of(bounds))?;
         Ok(Stairs {
             steps: Vec::new(alloc),
             last,
@@ -44,13 +44,7 @@ impl<T: Logical> Frontier<Nest<T>> for Stairs<T> {
     }
 
     fn copy(&self) -> Result<Self, AllocError> {
-        let steps = meet_steps::<T>(
-            &self.steps,
-            &self.last,
-            &self.steps,
-            &self.last,
-            *self.steps.allocator(),
-        )?;
+        let steps = copied_steps::<T>(&self.steps, *self.steps.allocator())?;
         let last = self.last.copy()?;
         Ok(Stairs { steps, last })
     }
@@ -128,6 +122,22 @@ fn step<'a, F>(steps: &'a [F], last: &'a F, counter: usize) -> &'a F
     } else {
         last
     }
+}
+
+// The same steps once more.
+fn copied_steps<T: Logical>(
+    steps: &[T::Frontier],
+    alloc: Global,
+) -> Result<Vec<T::Frontier>, AllocError>
+    ensures { IfOk result (λ copy. (length copy.items ≡ length steps.now)
+        × ((c : ℕ) (t : T) (d e : T.Frontier) → c < length copy.items → T.Frontier.inside (slice_index_or copy.items c d) t
+        ≡ T.Frontier.inside (slice_index_or steps.now c e) t)) }
+{
+    let mut copy = Vec::with_capacity(alloc, steps.len())?;
+    for step in steps {
+        copy.push(step.copy()?)?;
+    }
+    Ok(copy)
 }
 
 // The steps of what is inside both, up to those that stand for all later counters.

@@ -250,3 +250,39 @@ glb-leq (x ∷ s) (y ∷ t) h = λ i. first x y (and_left _ _ h) i ∷ glb-leq s
   where
     first : (x y : ℕ) → nat_le x y ≡ true → cond (nat_le x y) x y ≡ x
     first x y e = grind (arith, nat_tests)
+
+-- the greatest lower bound is at most the first stamp too
+pub glb-left : (s t : List ℕ) → length s ≡ length t → leq (glb s t) s ≡ true
+glb-left [] [] h = refl
+glb-left [] (y ∷ t) h = cc
+glb-left (x ∷ s) [] h = cc
+glb-left (x ∷ s) (y ∷ t) h =
+    let a : nat_le (cond (nat_le x y) x y) x ≡ true = grind (arith, nat_tests) in
+    both _ _ a (glb-left s t (omega arith))
+
+-- it has as many coordinates
+pub length-glb : (s t : List ℕ) → length s ≡ length t → length (glb s t) ≡ length s
+length-glb [] t h = refl
+length-glb (x ∷ s) [] h = sym h
+length-glb (x ∷ s) (y ∷ t) h = ap suc (length-glb s t (omega arith))
+
+-- what is at most both is at most the greatest lower bound
+pub glb-greatest : (u s t : List ℕ) → leq u s ≡ true → leq u t ≡ true → leq u (glb s t) ≡ true
+glb-greatest [] [] t h k = refl
+glb-greatest [] (x ∷ s) t h k = cc
+glb-greatest (z ∷ u) [] t h k = cc
+glb-greatest (z ∷ u) (x ∷ s) [] h k = cc
+glb-greatest (z ∷ u) (x ∷ s) (y ∷ t) h k =
+    let a : nat_le z x ≡ true = and_left _ _ h in
+    let b : nat_le z y ≡ true = and_left _ _ k in
+    let m : nat_le z (cond (nat_le x y) x y) ≡ true = grind (arith, nat_tests) in
+    both _ _ m (glb-greatest u s t (and_right _ _ h) (and_right _ _ k))
+
+-- a domain's stamp is at most a stamp where it is at most that stamp's part in the domain
+pub leq-glb : (u s g : List ℕ) → leq u g ≡ true → length s ≡ length g → leq u s ≡ leq u (glb s g)
+leq-glb u s g h e = by (leq u s) (leq u (glb s g)) (λ k. glb-greatest u s g k h) (λ k. leq-trans u (glb s g) s k (glb-left s g e))
+  where
+    by : (b c : Bool) → (b ≡ true → c ≡ true) → (c ≡ true → b ≡ true) → b ≡ c
+    by true c f g = sym (f refl)
+    by false true f g = g refl
+    by false false f g = refl

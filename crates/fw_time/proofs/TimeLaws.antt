@@ -1,9 +1,9 @@
 -- The laws of times of one coordinate, and of times with a coordinate more.
-use Rattle.std.proofs.Common.{◌≡◌, ℕ, ◌+◌, ◌<◌, Bool, true, false, ◌&&◌, nat_le, max, min, cond, List, [], ◌∷◌, length, refl, sym, ap, ◌∙◌, suc, arith}
+use Rattle.std.proofs.Common.{◌≡◌, ℕ, ◌+◌, ◌<◌, Bool, true, false, ◌&&◌, nat_le, max, min, cond, List, [], ◌∷◌, length, refl, sym, ap, ◌∙◌, arith}
 use Rattle.std.proofs.lemmas.Bool.Decides.{nat_tests}
 use Rattle.fw_time.specs.Stamp.{leq, lub, glb, nest, outer, counter}
 use Rattle.fw_time.specs.NestLaws.{places-outer}
-use Rattle.fw_time.proofs.StampLaws.{lub-nest, leq-nest}
+use Rattle.fw_time.proofs.StampLaws.{lub-nest, leq-nest, length-glb}
 
 -- the greater counter
 pub lub-nest_max : (s t : List ℕ) (c d n : ℕ) → length s ≡ n → length t ≡ n → lub (nest s c) (nest t d) ≡ nest (lub s t) (max c d)
@@ -46,11 +46,6 @@ pub leq-nest_none : (s : List ℕ) (c : ℕ) (g : List ℕ) → length g ≡ 0 �
 leq-nest_none [] c [] h = refl
 leq-nest_none (x ∷ s) c [] h = refl
 leq-nest_none s c (y ∷ g) h = absurd (omega arith)
-
-length-glb : (s t : List ℕ) → length s ≡ length t → length (glb s t) ≡ length s
-length-glb [] t h = refl
-length-glb (x ∷ s) [] h = sym h
-length-glb (x ∷ s) (y ∷ t) h = ap suc (length-glb s t (omega arith))
 
 -- the lesser part of a loop's stamp in a domain, by its outer stamp and its counter
 glb-nest : (s g : List ℕ) (c : ℕ) → length g ≡ length s + 1 → glb (nest s c) g ≡ nest (glb s (outer g)) (min c (counter g))

@@ -38,3 +38,6 @@ returns g c = λ t.
     below-whole test n c.in_ok-under.under c.in_ok-steps.steps.items c.in_ok-last.last c.in_ok-steps.ensures.0 c.in_ok-steps.ensures.1 c.in_ok-last.ensures t.counter t.outer
     ∙ (λ i. under i && count i)
     ∙ sym (leq-glb_nest p b q t.counter top.counter (omega (arith, c.requires, g.met.T.Time.same_places t.outer)) (g.met.T.Time.same_places t.outer ∙ sym (g.met.T.Time.same_places top.outer)))
+
+pub empty-requires : goal.empty-requires
+empty-requires g c = ap length c.outer_of-outer.ensures.value ∙ places-outer c.args.bounds.now.greatest g.T.Time.places c.requires

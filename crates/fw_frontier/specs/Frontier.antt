@@ -1,5 +1,5 @@
 -- Frontiers as tests on stamps.
-use Rattle.std.specs.Prelude.{◌≡◌, Bool, true, false, ◌&&◌, ◌||◌, List, [], ◌∷◌}
+use Rattle.std.specs.Prelude.{◌≡◌, Bool, true, false, not, ◌&&◌, ◌||◌, List, [], ◌∷◌}
 use Rattle.fw_time.specs.Stamp.{Stamp, leq, in_domain}
 use Rattle.fw_time.specs.declared.stamp.Bounds.{Bounds}
 
@@ -40,3 +40,7 @@ some_above (s ∷ ss) t = leq t s || some_above ss t
 -- the least frontier that has these stamps: what is at most one of them
 abbrev pub cover : Bounds → List Stamp → Frontier
 cover bounds ss t = in_domain bounds t && some_above ss t
+
+-- what is inside and a stamp is not at most: the largest frontier inside that is without the stamp
+abbrev pub without_above : Stamp → Frontier → Frontier
+without_above s f t = f t && not (leq s t)

@@ -1,12 +1,21 @@
 //! The frontier of any domain, by its least outside stamps.
-ghost use Rattle.std.specs.Prelude.{◌≡◌, []};
+ghost use Rattle.std.specs.Prelude.{◌≡◌, ◌↔◌, true, [], IsTrue, IfOk};
+ghost use Rattle.std.specs.List.{AllByRecursion};
+ghost use Rattle.fw_time.specs.declared.stamp.Bounds.{Bounds as Domain};
+ghost use Rattle.fw_time.specs.Stamp.{in_domain};
+ghost use Rattle.fw_frontier.specs.Frontier.{nothing, meet, join, cover, without_above, Within};
+ghost use Rattle.fw_frontier.specs.Front.{inside, frontier_of, IsCanonical, Names};
 
-use fw_time::Stamp;
-use std::alloc::Global;
+use crate::outside;
+use fw_time::{Bounds, Stamp};
+use std::alloc::{AllocError, Global};
+use std::fmt;
 use std::marker::Model;
 
 /// A frontier of any domain. Contracts see it as the ascending list of its least outside stamps; it has all stamps
 /// where there is none.
+///
+/// The calls that make a frontier need memory for its outside stamps, and fail where memory is refused.
 #[derive(Debug, Drop)]
 pub struct Front {
     outside: Vec<Stamp>,
@@ -28,5 +37,113 @@ impl Front {
         Front {
             outside: Vec::new(alloc),
         }
+    }
+
+    /// The frontier without stamps.
+    pub fn empty(alloc: Global, bounds: &Bounds) -> Result<Self, AllocError>
+        ensures { IfOk result (λ f. Names bounds.now f nothing) }
+    {
+        let mut outside = Vec::new(alloc);
+        outside.push(bounds.origin())?;
+        Ok(Front { outside })
+    }
+
+    /// The frontier that has these stamps of the domain outside, and with each the greater ones.
+    pub fn until(alloc: Global, stamps: &[Stamp]) -> Result<Self, AllocError>
+        ensures { (bounds : Domain) → AllByRecursion (λ s. in_domain bounds s ≡ true) stamps.now
+            → IfOk result (λ f. Names bounds f (frontier_of bounds stamps.now)) }
+    {
+        let mut outside = Vec::new(alloc);
+        outside::exclude_all(&mut outside, stamps)?;
+        Ok(Front { outside })
+    }
+
+    /// What is at most one of these stamps of the domain.
+    pub fn cover_of(alloc: Global, stamps: &[Stamp], bounds: &Bounds) -> Result<Self, AllocError>
+        ensures { AllByRecursion (λ s. in_domain bounds.now s ≡ true) stamps.now
+            → IfOk result (λ f. Names bounds.now f (cover bounds.now stamps.now)) }
+    {
+        let outside = outside::covering(alloc, stamps, bounds)?;
+        Ok(Front { outside })
+    }
+
+    /// The same frontier once more.
+    pub fn copy(&self) -> Result<Self, AllocError>
+        ensures { IfOk result (λ f. f ≡ self.now) }
+    {
+        let outside = outside::copied(*self.outside.allocator(), &self.outside)?;
+        Ok(Front { outside })
+    }
+
+    /// The least stamps outside, in ascending order.
+    pub fn outside(&self) -> &[Stamp]
+        ensures { result.now ≡ self.now }
+    {
+        &self.outside
+    }
+
+    /// Whether a stamp of the domain is inside.
+    pub fn contains(&self, t: &Stamp) -> bool
+        ensures { result ≡ inside self.now t.now }
+    {
+        outside::has_inside(&self.outside, t)
+    }
+
+    /// Whether each stamp inside is inside the other frontier.
+    pub fn subset(&self, other: &Self) -> bool
+        ensures within { IsTrue result ↔ Within (inside self.now) (inside other.now) }
+        ensures domain { (bounds : Domain) → IsCanonical bounds other.now
+            → (IsTrue result ↔ Within (frontier_of bounds self.now) (frontier_of bounds other.now)) }
+    {
+        outside::has_none_inside(&self.outside, &other.outside)
+    }
+
+    /// What is inside both.
+    pub fn meet(&self, other: &Self) -> Result<Self, AllocError>
+        ensures { (bounds : Domain) → IsCanonical bounds self.now → IsCanonical bounds other.now
+            → IfOk result (λ f. Names bounds f
+            (meet (frontier_of bounds self.now) (frontier_of bounds other.now))) }
+    {
+        let mut outside = outside::copied(*self.outside.allocator(), &self.outside)?;
+        outside::exclude_all(&mut outside, &other.outside)?;
+        Ok(Front { outside })
+    }
+
+    /// What is inside one of the two.
+    pub fn join(&self, other: &Self) -> Result<Self, AllocError>
+        ensures { (bounds : Domain) → IsCanonical bounds self.now → IsCanonical bounds other.now
+            → IfOk result (λ f. Names bounds f
+            (join (frontier_of bounds self.now) (frontier_of bounds other.now))) }
+    {
+        let outside = outside::joined(*self.outside.allocator(), &self.outside, &other.outside)?;
+        Ok(Front { outside })
+    }
+
+    /// The largest frontier inside that is without this stamp of the domain.
+    pub fn cut_above(&self, t: &Stamp) -> Result<Self, AllocError>
+        ensures { (bounds : Domain) → IsCanonical bounds self.now → in_domain bounds t.now ≡ true
+            → IfOk result (λ f. Names bounds f (without_above t.now (frontier_of bounds self.now))) }
+    {
+        let mut outside = outside::copied(*self.outside.allocator(), &self.outside)?;
+        outside::exclude(&mut outside, t.copy())?;
+        Ok(Front { outside })
+    }
+}
+
+impl fmt::Display for Front {
+    ghost use Rattle.std.specs.Prelude.{Some};
+    ghost use Rattle.fw_frontier.specs.FrontText.{front_text};
+
+    ghost output = { λ front. Some (front_text front) };
+
+    fn fmt<W: fmt::Write>(&self, f: &mut fmt::Formatter<W>) -> fmt::Result {
+        if self.outside.is_empty() {
+            return write!(f, "all");
+        }
+        write!(f, "until")?;
+        for o in &self.outside {
+            write!(f, " {o}")?;
+        }
+        Ok(())
     }
 }

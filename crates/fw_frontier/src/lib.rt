@@ -1,6 +1,14 @@
-//! Frontiers: sets of stamps that hold with a stamp each lesser one.
+//! Frontiers: sets of times that hold with a time each lesser one.
 #![tactic(auto)]
 
+mod below;
 mod front;
+mod frontier;
+pub mod laws;
+mod outside;
+mod stairs;
 
+pub use below::Below;
 pub use front::Front;
+pub use frontier::{Frontier, Logical};
+pub use stairs::Stairs;

@@ -1,2 +1,4 @@
 pub mod Stamp
+pub mod StampText
 pub mod Sending
+pub mod NestLaws

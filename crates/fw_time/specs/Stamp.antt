@@ -1,5 +1,5 @@
 -- Logical times as stamps: their order, their domains, and the places of a loop's stamps.
-use Rattle.std.specs.Prelude.{ℕ, Bool, true, false, not, ◌&&◌, nat_le, if◌then◌else◌, List, [], ◌∷◌, ◌++◌}
+use Rattle.std.specs.Prelude.{ℕ, zero, suc, ◌+◌, Bool, true, false, not, ◌&&◌, nat_le, if◌then◌else◌, List, [], ◌∷◌, ◌++◌}
 use Rattle.std.specs.declared.cmp.Ordering.{Ordering}
 use Rattle.std.specs.Ordering.{nat_cmp}
 use Rattle.std.specs.Cmp.Lexicographic.{slice_cmp}
@@ -30,6 +30,12 @@ lub [] t = t
 lub (x ∷ s) [] = x ∷ s
 lub (x ∷ s) (y ∷ t) = (if nat_le x y then y else x) ∷ lub s t
 
+-- the lesser coordinate at each place
+abbrev pub glb : Stamp → Stamp → Stamp
+glb [] t = []
+glb (x ∷ s) [] = []
+glb (x ∷ s) (y ∷ t) = (if nat_le x y then x else y) ∷ glb s t
+
 -- the order in which a least one is wanted: by the coordinates from the outermost
 abbrev pub stamp_cmp : Stamp → Stamp → Ordering
 stamp_cmp = slice_cmp nat_cmp
@@ -53,3 +59,14 @@ abbrev pub counter : Stamp → ℕ
 counter [] = 0
 counter (x ∷ []) = x
 counter (x ∷ y ∷ s) = counter (y ∷ s)
+
+-- zeros at as many places
+abbrev pub origin : Stamp → Stamp
+origin [] = []
+origin (x ∷ s) = 0 ∷ origin s
+
+-- the least stamp of as many coordinates that has a greater coordinate at a place
+abbrev pub raised : Stamp → ℕ → Stamp
+raised [] i = []
+raised (x ∷ s) zero = (x + 1) ∷ origin s
+raised (x ∷ s) (suc i) = 0 ∷ raised s i

@@ -1,0 +1,53 @@
+-- How the loops over stamps and times go on by one, whatever the type of the times.
+use Rattle.std.proofs.Common.{◌≡◌, ℕ, ◌+◌, ◌<◌, Bool, true, false, not, ◌&&◌, ◌||◌, List, [], ◌∷◌, length, get_or, take, map, refl, sym, ap, ◌∙◌, zero, suc, arith, add-one}
+use Rattle.std.specs.List.{AllByRecursion}
+use Rattle.fw_time.specs.Stamp.{leq}
+use Rattle.fw_frontier.specs.Front.{inside}
+use Rattle.fw_frontier.specs.Frontier.{some_above}
+
+-- one more stamp outside
+pub inside_more : (os : List (List ℕ)) (i : ℕ) (d t : List ℕ) → i < length os → (inside (take i os) t && not (leq (get_or os i d) t)) ≡ inside (take (i + 1) os) t
+inside_more os i d t h = sym (rw add-one (by os i h))
+  where
+    assoc : (a b c : Bool) → (a && (b && c)) ≡ ((a && b) && c)
+    assoc true b c = refl
+    assoc false b c = refl
+
+    one : (b : Bool) → (b && true) ≡ b
+    one true = refl
+    one false = refl
+
+    by : (os : List (List ℕ)) (i : ℕ) → i < length os → inside (take (suc i) os) t ≡ (inside (take i os) t && not (leq (get_or os i d) t))
+    by [] i h = absurd (omega arith)
+    by (o ∷ os) zero h = one (not (leq o t))
+    by (o ∷ os) (suc i) h = ap (λ b. not (leq o t) && b) (by os i (omega arith)) ∙ assoc (not (leq o t)) (inside (take i os) t) (not (leq (get_or os i d) t))
+
+-- one more time covered
+pub some_above_more : {A : Type 0} (f : A → List ℕ) (ts : List A) (i : ℕ) (d : A) (u : List ℕ) → i < length ts → (some_above (map f (take i ts)) u || leq u (f (get_or ts i d))) ≡ some_above (map f (take (i + 1) ts)) u
+some_above_more {A} f ts i d u h = sym (rw add-one (by ts i h))
+  where
+    assoc : (a b c : Bool) → (a || (b || c)) ≡ ((a || b) || c)
+    assoc true b c = refl
+    assoc false b c = refl
+
+    one : (b : Bool) → (b || false) ≡ b
+    one true = refl
+    one false = refl
+
+    by : (ts : List A) (i : ℕ) → i < length ts → some_above (map f (take (suc i) ts)) u ≡ (some_above (map f (take i ts)) u || leq u (f (get_or ts i d)))
+    by [] i h = absurd (omega arith)
+    by (o ∷ ts) zero h = one (leq u (f o))
+    by (o ∷ ts) (suc i) h = ap (λ b. leq u (f o) || b) (by ts i (omega arith)) ∙ assoc (leq u (f o)) (some_above (map f (take i ts)) u) (leq u (f (get_or ts i d)))
+
+-- a fact on each stamp, at a place
+pub each-at : (P : List ℕ → Type 0) (os : List (List ℕ)) (i : ℕ) (d : List ℕ) → i < length os → AllByRecursion P os → P (get_or os i d)
+each-at P [] i d h k = absurd (omega arith)
+each-at P (o ∷ os) zero d h k = k.0
+each-at P (o ∷ os) (suc i) d h k = each-at P os i d (omega arith) k.1
+
+-- what is inside after a time more is covered
+pub covered_more : {A : Type 0} (f : A → List ℕ) (ts : List A) (i : ℕ) (d : A) (u : List ℕ) (before below after : Bool) → i < length ts
+    → after ≡ (before || below) → before ≡ some_above (map f (take i ts)) u → below ≡ leq u (f d) → d ≡ get_or ts i d
+    → after ≡ some_above (map f (take (i + 1) ts)) u
+covered_more f ts i d u before below after h e b l at =
+    e ∙ (λ j. b j || l j) ∙ ap (λ x. some_above (map f (take i ts)) u || leq u (f x)) at ∙ some_above_more f ts i d u h

@@ -1,0 +1,197 @@
+-- What is inside a list of outside stamps, before and after a change.
+use Rattle.std.proofs.Common.{◌≡◌, ℕ, ◌≤◌, ◌<◌, Bool, true, false, not, ◌&&◌, ◌||◌, nat_le, nat_lt, cond, List, [], ◌∷◌, length, get_or, take, drop, ◌++◌, refl, sym, ap, ◌∙◌, zero, suc, filter, arith}
+use Rattle.std.proofs.lemmas.Bool.Decides.{nat_tests}
+use Rattle.std.specs.List.{AllByRecursion}
+use Rattle.std.specs.Ordering.{is_lt}
+use Rattle.fw_time.specs.Stamp.{leq, lub, stamp_cmp, raised}
+use Rattle.fw_time.proofs.StampLaws.{leq-trans, leq-lub, leq-length, leq-raised, and_left, and_right, both}
+use Rattle.fw_frontier.specs.Front.{inside}
+use Rattle.fw_frontier.specs.Outside.{place, placed, excluding, excluding_all, excluding_lubs, excluding_pairs, below_at}
+
+-- with a stamp each lesser one is inside
+pub inside-closed : (os : List (List ℕ)) (s t : List ℕ) → leq s t ≡ true → inside os t ≡ true → inside os s ≡ true
+inside-closed [] s t h k = refl
+inside-closed (o ∷ os) s t h k =
+    both _ _ (head (leq o s) (leq o t) (λ e. leq-trans o s t e h) (and_left _ _ k)) (inside-closed os s t h (and_right _ _ k))
+  where
+    head : (b c : Bool) → (b ≡ true → c ≡ true) → not c ≡ true → not b ≡ true
+    head true c r h = let e = r refl in cc
+    head false c r h = refl
+
+-- no stamp from an outside one upward is inside
+pub inside-above : (os : List (List ℕ)) (s t : List ℕ) → inside os s ≡ false → leq s t ≡ true → inside os t ≡ false
+inside-above os s t h k = by (inside os t) (λ e. inside-closed os s t k e)
+  where
+    by : (b : Bool) → (b ≡ true → inside os s ≡ true) → b ≡ false
+    by true r = let e = r refl in cc
+    by false r = refl
+
+inside-placed : (s : List ℕ) (os : List (List ℕ)) (t : List ℕ) → inside (placed s os) t ≡ (not (leq s t) && inside os t)
+inside-placed s [] t = refl
+inside-placed s (o ∷ os) t = by (is_lt (stamp_cmp s o)) (inside-placed s os t)
+  where
+    swap : (a b c : Bool) → (a && (b && c)) ≡ (b && (a && c))
+    swap true true c = refl
+    swap true false c = refl
+    swap false true c = refl
+    swap false false c = refl
+
+    by : (b : Bool) → inside (placed s os) t ≡ (not (leq s t) && inside os t) → inside (cond b (s ∷ o ∷ os) (o ∷ placed s os)) t ≡ (not (leq s t) && (not (leq o t) && inside os t))
+    by true e = refl
+    by false e = ap (λ b. not (leq o t) && b) e ∙ swap (not (leq o t)) (not (leq s t)) (inside os t)
+
+inside-filter : (s : List ℕ) (os : List (List ℕ)) (t : List ℕ) → leq s t ≡ false → inside (filter (λ o. not (leq s o)) os) t ≡ inside os t
+inside-filter s [] t h = refl
+inside-filter s (o ∷ os) t h = by (leq s o) refl (inside-filter s os t h)
+  where
+    gone : (b c : Bool) → (c ≡ true → ⊥) → b ≡ (not c && b)
+    gone b true r = absurd (r refl)
+    gone b false r = refl
+
+    by : (b : Bool) → leq s o ≡ b → inside (filter (λ o. not (leq s o)) os) t ≡ inside os t → inside (cond (not b) (o ∷ filter (λ o. not (leq s o)) os) (filter (λ o. not (leq s o)) os)) t ≡ (not (leq o t) && inside os t)
+    by true e r = r ∙ gone (inside os t) (leq o t) (λ f. absurd (no (sym h ∙ leq-trans s o t e f)))
+      where
+        no : false ≡ true → ⊥
+        no e = cc
+    by false e r = ap (λ b. not (leq o t) && b) r
+
+-- a stamp more is outside, with each greater one
+pub inside-excluding : (s : List ℕ) (os : List (List ℕ)) (t : List ℕ) → inside (excluding s os) t ≡ (inside os t && not (leq s t))
+unfolding excluding
+inside-excluding s os t = by (inside os s) refl (leq s t) refl
+  where
+    by : (b : Bool) → inside os s ≡ b → (c : Bool) → leq s t ≡ c → inside (cond b (placed s (filter (λ o. not (leq s o)) os)) os) t ≡ (inside os t && not c)
+    by true e true f = inside-placed s (filter (λ o. not (leq s o)) os) t ∙ ap (λ b. not b && inside (filter (λ o. not (leq s o)) os) t) f ∙ none (inside os t)
+      where
+        none : (b : Bool) → false ≡ (b && false)
+        none true = refl
+        none false = refl
+    by true e false f = inside-placed s (filter (λ o. not (leq s o)) os) t ∙ ap (λ b. not b && inside (filter (λ o. not (leq s o)) os) t) f ∙ inside-filter s os t f ∙ all (inside os t)
+      where
+        all : (b : Bool) → b ≡ (b && true)
+        all true = refl
+        all false = refl
+    by false e true f = inside-above os s t e f ∙ none (inside os t)
+      where
+        none : (b : Bool) → false ≡ (b && false)
+        none true = refl
+        none false = refl
+    by false e false f = all (inside os t)
+      where
+        all : (b : Bool) → b ≡ (b && true)
+        all true = refl
+        all false = refl
+
+-- these stamps more are outside, with each greater one
+pub inside-excluding_all : (ss os : List (List ℕ)) (t : List ℕ) → inside (excluding_all ss os) t ≡ (inside os t && inside ss t)
+inside-excluding_all [] os t = all (inside os t)
+  where
+    all : (b : Bool) → b ≡ (b && true)
+    all true = refl
+    all false = refl
+inside-excluding_all (s ∷ ss) os t =
+    inside-excluding_all ss (excluding s os) t ∙ ap (λ b. b && inside ss t) (inside-excluding s os t) ∙ assoc (inside os t) (not (leq s t)) (inside ss t)
+  where
+    assoc : (a b c : Bool) → ((a && b) && c) ≡ (a && (b && c))
+    assoc true b c = refl
+    assoc false b c = refl
+
+inside-excluding_lubs : (s : List ℕ) (ps os : List (List ℕ)) (t : List ℕ) → AllByRecursion (λ p. length s ≡ length p) ps → inside (excluding_lubs s ps os) t ≡ (inside os t && (not (leq s t) || inside ps t))
+inside-excluding_lubs s [] os t h = by (inside os t) (leq s t)
+  where
+    by : (b c : Bool) → b ≡ (b && (not c || true))
+    by true true = refl
+    by true false = refl
+    by false c = refl
+inside-excluding_lubs s (p ∷ ps) os t h =
+    inside-excluding_lubs s ps (excluding (lub s p) os) t h.1
+    ∙ ap (λ b. b && (not (leq s t) || inside ps t)) (inside-excluding (lub s p) os t ∙ ap (λ b. inside os t && not b) (leq-lub s p t h.0))
+    ∙ by (inside os t) (leq s t) (leq p t) (inside ps t)
+  where
+    by : (a b c d : Bool) → ((a && not (b && c)) && (not b || d)) ≡ (a && (not b || (not c && d)))
+    by true true true d = refl
+    by true true false d = refl
+    by true false c d = refl
+    by false b c d = refl
+
+-- what is at least one of either list is outside too
+pub inside-excluding_pairs : (ss ps os : List (List ℕ)) (t : List ℕ) → AllByRecursion (λ s. AllByRecursion (λ p. length s ≡ length p) ps) ss → inside (excluding_pairs ss ps os) t ≡ (inside os t && (inside ss t || inside ps t))
+inside-excluding_pairs [] ps os t h = all (inside os t)
+  where
+    all : (b : Bool) → b ≡ (b && true)
+    all true = refl
+    all false = refl
+inside-excluding_pairs (s ∷ ss) ps os t h =
+    inside-excluding_pairs ss ps (excluding_lubs s ps os) t h.1
+    ∙ ap (λ b. b && (inside ss t || inside ps t)) (inside-excluding_lubs s ps os t h.0)
+    ∙ by (inside os t) (not (leq s t)) (inside ss t) (inside ps t)
+  where
+    by : (a b c d : Bool) → ((a && (b || d)) && (c || d)) ≡ (a && ((b && c) || d))
+    by true true c true = refl
+    by true true true false = refl
+    by true true false false = refl
+    by true false c true = or c
+      where
+        or : (c : Bool) → (c || true) ≡ true
+        or true = refl
+        or false = refl
+    by true false c false = refl
+    by false b c d = refl
+
+-- one place more compared
+leq_take : (t s : List ℕ) (n : ℕ) → n < length t → n < length s → leq (take (suc n) t) (take (suc n) s) ≡ (leq (take n t) (take n s) && nat_le (get_or t n 0) (get_or s n 0))
+leq_take [] s n h k = absurd (omega arith)
+leq_take (y ∷ t) [] n h k = absurd (omega arith)
+leq_take (y ∷ t) (x ∷ s) zero h k = all (nat_le y x)
+  where
+    all : (b : Bool) → (b && true) ≡ b
+    all true = refl
+    all false = refl
+leq_take (y ∷ t) (x ∷ s) (suc n) h k = ap (λ b. nat_le y x && b) (leq_take t s n (omega arith) (omega arith)) ∙ assoc (nat_le y x) (leq (take n t) (take n s)) (nat_le (get_or t n 0) (get_or s n 0))
+  where
+    assoc : (a b c : Bool) → (a && (b && c)) ≡ ((a && b) && c)
+    assoc true b c = refl
+    assoc false b c = refl
+
+leq-at : (s t : List ℕ) (n : ℕ) → leq s t ≡ true → get_or s n 0 ≤ get_or t n 0
+leq-at [] [] n h = omega arith
+leq-at [] (y ∷ t) n h = cc
+leq-at (x ∷ s) [] n h = cc
+leq-at (x ∷ s) (y ∷ t) zero h = let a : nat_le x y ≡ true = and_left _ _ h in grind (arith, nat_tests)
+leq-at (x ∷ s) (y ∷ t) (suc n) h = leq-at s t n (and_right _ _ h)
+
+-- of the stamps of a domain, those are inside that are at most the stamp at the first places
+pub inside-below_at : (s g t : List ℕ) (n : ℕ) → n ≤ length s → leq s g ≡ true → leq t g ≡ true → inside (below_at s g n) t ≡ leq (take n t) (take n s)
+inside-below_at s g t zero h k l = refl
+inside-below_at s g t (suc n) h k l =
+    by (nat_lt (get_or s n 0) (get_or g n 0)) refl (inside-below_at s g t n (omega arith) k l)
+    ∙ sym (leq_take t s n (omega (arith, leq-length s g k, leq-length t g l)) (omega arith))
+  where
+    all : (a b : Bool) → b ≡ true → a ≡ (a && b)
+    all true b e = sym e
+    all false b e = refl
+
+    free : (x y z : ℕ) → nat_lt x z ≡ false → y ≤ z → nat_le y x ≡ true
+    free x y z h k = grind (arith, nat_tests)
+
+    turned : (x y : ℕ) → not (nat_lt x y) ≡ nat_le y x
+    turned x y = grind (arith, nat_tests)
+
+    by : (b : Bool) → nat_lt (get_or s n 0) (get_or g n 0) ≡ b → inside (below_at s g n) t ≡ leq (take n t) (take n s) → inside (cond b (excluding (raised s n) (below_at s g n)) (below_at s g n)) t ≡ (leq (take n t) (take n s) && nat_le (get_or t n 0) (get_or s n 0))
+    by true e r =
+        inside-excluding (raised s n) (below_at s g n) t
+        ∙ ap (λ b. b && not (leq (raised s n) t)) r
+        ∙ ap (λ b. leq (take n t) (take n s) && not b) (leq-raised s t n (omega arith) (omega (arith, leq-length s g k, leq-length t g l)))
+        ∙ ap (λ b. leq (take n t) (take n s) && b) (turned (get_or s n 0) (get_or t n 0))
+    by false e r =
+        r
+        ∙ all (leq (take n t) (take n s)) (nat_le (get_or t n 0) (get_or s n 0)) (free (get_or s n 0) (get_or t n 0) (get_or g n 0) e (leq-at t g n l))
+
+-- the place of a stamp in the list
+pub insert-place : (s : List ℕ) (os : List (List ℕ)) → take (place s os) os ++ s ∷ drop (place s os) os ≡ placed s os
+insert-place s [] = refl
+insert-place s (o ∷ os) = by (is_lt (stamp_cmp s o)) (insert-place s os)
+  where
+    by : (b : Bool) → take (place s os) os ++ s ∷ drop (place s os) os ≡ placed s os → take (cond b 0 (suc (place s os))) (o ∷ os) ++ s ∷ drop (cond b 0 (suc (place s os))) (o ∷ os) ≡ cond b (s ∷ o ∷ os) (o ∷ placed s os)
+    by true e = refl
+    by false e = ap (λ u. o ∷ u) e

@@ -1,0 +1,298 @@
+-- Which list names a frontier, and that there is only one.
+use Rattle.std.proofs.Common.{◌≡◌, ℕ, Bool, true, false, not, ◌&&◌, ◌||◌, List, [], ◌∷◌, length, take, refl, sym, ap, ◌∙◌, subst, suc, arith}
+use Rattle.std.proofs.lemmas.List.{take_all}
+use Rattle.std.specs.List.{AllByRecursion}
+use Rattle.std.specs.Ordering.{is_lt}
+use Rattle.fw_time.specs.declared.stamp.Bounds.{Bounds}
+use Rattle.fw_time.specs.Stamp.{leq, stamp_cmp, origin, in_domain}
+use Rattle.fw_time.proofs.StampLaws.{leq-refl, leq-antisym, leq-length, origin-leq, before-leq, before-trans, before-irrefl, and_left, and_right, both}
+use Rattle.fw_frontier.specs.Frontier.{nothing, everything, meet, join, cover, some_above, without_above, Within, IsFrontier}
+use Rattle.fw_frontier.specs.Front.{inside, frontier_of, IsCanonical, IsLeastBefore, Names}
+use Rattle.fw_frontier.specs.Outside.{excluding, excluding_all, excluding_pairs, below_at, cover_from, none_inside}
+use Rattle.fw_frontier.proofs.InsideLaws.{inside-closed, inside-excluding, inside-excluding_all, inside-excluding_pairs, inside-below_at}
+use Rattle.fw_frontier.proofs.CanonicalLaws.{canonical-excluding, canonical-excluding_all, canonical-excluding_pairs, canonical-below_at, in_domain-canonical, lengths}
+
+-- the list without stamps names all of the domain
+pub names-all : (b : Bounds) → Names b [] (everything b)
+names-all b = record { canonical = tt; same = λ t. one (in_domain b t) }
+  where
+    one : (c : Bool) → (c && true) ≡ c
+    one true = refl
+    one false = refl
+
+length-origin : (s : List ℕ) → length (origin s) ≡ length s
+length-origin [] = refl
+length-origin (x ∷ s) = ap (λ n. suc n) (length-origin s)
+
+-- the list of the least stamp names the frontier without stamps
+pub names-nothing : (b : Bounds) → Names b (origin b.greatest ∷ []) nothing
+names-nothing b = record {
+  canonical = (record { in_the_domain = origin-leq b.greatest b.greatest refl; ascending = tt; incomparable = tt }, tt);
+  same = λ t. by t (in_domain b t) refl;
+}
+  where
+    by : (t : List ℕ) (c : Bool) → leq t b.greatest ≡ c → (c && (not (leq (origin b.greatest) t) && true)) ≡ false
+    by t true e = none _ (origin-leq b.greatest t (sym (leq-length t b.greatest e)))
+      where
+        none : (c : Bool) → c ≡ true → (not c && true) ≡ false
+        none true e = refl
+        none false e = sym e
+    by t false e = refl
+
+-- the stamps more that are outside are taken away
+pub names-excluding : (b : Bounds) (s : List ℕ) (os : List (List ℕ)) → in_domain b s ≡ true → IsCanonical b os → Names b (excluding s os) (without_above s (frontier_of b os))
+names-excluding b s os h k = record {
+  canonical = canonical-excluding b s os h k;
+  same = λ t. ap (λ c. in_domain b t && c) (inside-excluding s os t) ∙ assoc (in_domain b t) (inside os t) (not (leq s t));
+}
+  where
+    assoc : (a b c : Bool) → (a && (b && c)) ≡ ((a && b) && c)
+    assoc true b c = refl
+    assoc false b c = refl
+
+-- what is inside both
+pub names-excluding_all : (b : Bounds) (ss os : List (List ℕ)) → AllByRecursion (λ s. in_domain b s ≡ true) ss → IsCanonical b os → Names b (excluding_all ss os) (meet (frontier_of b os) (frontier_of b ss))
+names-excluding_all b ss os h k = record {
+  canonical = canonical-excluding_all b ss os h k;
+  same = λ t. ap (λ c. in_domain b t && c) (inside-excluding_all ss os t) ∙ by (in_domain b t) (inside os t) (inside ss t);
+}
+  where
+    by : (a b c : Bool) → (a && (b && c)) ≡ ((a && b) && (a && c))
+    by true b c = refl
+    by false b c = refl
+
+pub names-meet : (b : Bounds) (os ps : List (List ℕ)) → IsCanonical b os → IsCanonical b ps → Names b (excluding_all ps os) (meet (frontier_of b os) (frontier_of b ps))
+names-meet b os ps h k = names-excluding_all b ps os (in_domain-canonical b ps k) h
+
+-- the frontier that has these stamps outside
+pub names-until : (b : Bounds) (ss : List (List ℕ)) → AllByRecursion (λ s. in_domain b s ≡ true) ss → Names b (excluding_all ss []) (frontier_of b ss)
+names-until b ss h = let n = names-excluding_all b ss [] h tt in record {
+  canonical = n.canonical;
+  same = λ t. n.same t ∙ by (in_domain b t) (inside ss t);
+}
+  where
+    by : (a c : Bool) → ((a && true) && (a && c)) ≡ (a && c)
+    by true c = refl
+    by false c = refl
+
+-- what is inside one of the two
+pub names-join : (b : Bounds) (os ps : List (List ℕ)) → IsCanonical b os → IsCanonical b ps → Names b (excluding_pairs os ps []) (join (frontier_of b os) (frontier_of b ps))
+names-join b os ps h k = record {
+  canonical = canonical-excluding_pairs b os ps [] (in_domain-canonical b os h) (in_domain-canonical b ps k) tt;
+  same = λ t. ap (λ c. in_domain b t && c) (inside-excluding_pairs os ps [] t (lengths b os ps (in_domain-canonical b os h) (in_domain-canonical b ps k))) ∙ by (in_domain b t) (inside os t) (inside ps t);
+}
+  where
+    by : (a b c : Bool) → (a && (b || c)) ≡ ((a && b) || (a && c))
+    by true b c = refl
+    by false b c = refl
+
+-- what is at most one stamp
+pub names-below : (b : Bounds) (s : List ℕ) → in_domain b s ≡ true → Names b (below_at s b.greatest (length s)) (cover b (s ∷ []))
+names-below b s h = record {
+  canonical = canonical-below_at b s (length s) h;
+  same = λ t. by t (in_domain b t) refl;
+}
+  where
+    one : (c : Bool) → c ≡ (c || false)
+    one true = refl
+    one false = refl
+
+    by : (t : List ℕ) (c : Bool) → leq t b.greatest ≡ c → (c && inside (below_at s b.greatest (length s)) t) ≡ (c && (leq t s || false))
+    by t true e = inside-below_at s b.greatest t (length s) (omega arith) h e ∙ whole ∙ one (leq t s)
+      where
+        long : length t ≡ length s
+        long = leq-length t b.greatest e ∙ sym (leq-length s b.greatest h)
+
+        whole : leq (take (length s) t) (take (length s) s) ≡ leq t s
+        whole = ap (λ u. leq u (take (length s) s)) (take_all (length s) t (omega (arith, long))) ∙ ap (λ u. leq t u) (take_all (length s) s (omega arith))
+    by t false e = refl
+
+-- what is at most one of some stamps more
+pub names-cover_from : (b : Bounds) (ss os : List (List ℕ)) → AllByRecursion (λ s. in_domain b s ≡ true) ss → IsCanonical b os → Names b (cover_from b.greatest ss os) (join (frontier_of b os) (cover b ss))
+names-cover_from b [] os h k = record { canonical = k; same = λ t. by (in_domain b t) (inside os t) }
+  where
+    by : (a c : Bool) → (a && c) ≡ ((a && c) || (a && false))
+    by true true = refl
+    by true false = refl
+    by false c = refl
+names-cover_from b (s ∷ ss) os h k =
+    let under = names-below b s h.0 in
+    let one = names-join b os (below_at s b.greatest (length s)) k under.canonical in
+    let rest = names-cover_from b ss (excluding_pairs os (below_at s b.greatest (length s)) []) h.1 one.canonical in
+    record {
+      canonical = rest.canonical;
+      same = λ t. rest.same t ∙ ap (λ c. c || (in_domain b t && some_above ss t)) (one.same t ∙ ap (λ c. (in_domain b t && inside os t) || c) (under.same t)) ∙ by (in_domain b t) (inside os t) (leq t s) (some_above ss t);
+    }
+  where
+    by : (a b c d : Bool) → (((a && b) || (a && (c || false))) || (a && d)) ≡ ((a && b) || (a && (c || d)))
+    by true true c d = refl
+    by true false true d = refl
+    by true false false d = refl
+    by false b c d = refl
+
+-- what is at most one of some stamps
+pub names-cover : (b : Bounds) (ss : List (List ℕ)) → AllByRecursion (λ s. in_domain b s ≡ true) ss → Names b (cover_from b.greatest ss (origin b.greatest ∷ [])) (cover b ss)
+names-cover b ss h =
+    let none = names-nothing b in
+    let n = names-cover_from b ss (origin b.greatest ∷ []) h none.canonical in
+    record { canonical = n.canonical; same = λ t. n.same t ∙ ap (λ c. c || (in_domain b t && some_above ss t)) (none.same t) }
+
+-- the stamps before a canonical list are at most none of it
+pub inside-first : (x : List ℕ) (os : List (List ℕ)) (t : List ℕ) → AllByRecursion (λ q. is_lt (stamp_cmp x q) ≡ true) os → inside os t ≡ false → is_lt (stamp_cmp x t) ≡ true
+inside-first x [] t h k = cc
+inside-first x (q ∷ os) t h k = by (leq q t) refl (λ e. before-leq x q t h.0 e) (λ e. inside-first x os t h.1 e) k
+  where
+    by : (c : Bool) → leq q t ≡ c → (leq q t ≡ true → is_lt (stamp_cmp x t) ≡ true) → (inside os t ≡ false → is_lt (stamp_cmp x t) ≡ true) → (not c && inside os t) ≡ false → is_lt (stamp_cmp x t) ≡ true
+    by true e f g k = f e
+    by false e f g k = g k
+
+no : {A : Type 0} → false ≡ true → A
+no e = absurd (lies e)
+  where
+    lies : false ≡ true → ⊥
+    lies e = cc
+
+outside-self : (x : List ℕ) (os : List (List ℕ)) → inside (x ∷ os) x ≡ false
+outside-self x os = by (leq x x) (leq-refl x)
+  where
+    by : (c : Bool) → c ≡ true → (not c && inside os x) ≡ false
+    by true e = refl
+    by false e = no e
+
+-- two first stamps of canonical lists that are each outside the other list are one
+first-same : (b : Bounds) (x y : List ℕ) (xs ys : List (List ℕ)) → IsLeastBefore b x xs → IsLeastBefore b y ys → inside (x ∷ xs) y ≡ false → inside (y ∷ ys) x ≡ false → x ≡ y
+first-same b x y xs ys h k u v = by (leq x y) refl (leq y x) refl u v
+  where
+    lost : is_lt (stamp_cmp x y) ≡ true → is_lt (stamp_cmp y x) ≡ true → x ≡ y
+    lost e f = no (sym (before-irrefl x) ∙ before-trans x y x e f)
+
+    by : (c : Bool) → leq x y ≡ c → (d : Bool) → leq y x ≡ d → (not c && inside xs y) ≡ false → (not d && inside ys x) ≡ false → x ≡ y
+    by true e true f u v = leq-antisym x y e f
+    by true e false f u v =
+        let l = inside-first y ys x k.ascending v in
+        no (sym (before-irrefl y) ∙ before-leq y x y l e)
+    by false e true f u v =
+        let l = inside-first x xs y h.ascending u in
+        no (sym (before-irrefl x) ∙ before-leq x y x l f)
+    by false e false f u v = lost (inside-first x xs y h.ascending u) (inside-first y ys x k.ascending v)
+
+-- the two lists have the same stamps inside, of those of the domain that a third list has inside
+Alike : Bounds → (zs xs ys : List (List ℕ)) → Type 0
+Alike b zs xs ys = (t : List ℕ) → in_domain b t ≡ true → inside zs t ≡ true → inside xs t ≡ inside ys t
+
+alike-tail : (b : Bounds) (zs : List (List ℕ)) (x y : List ℕ) (xs ys : List (List ℕ)) → x ≡ y → Alike b zs (x ∷ xs) (y ∷ ys) → Alike b (x ∷ zs) xs ys
+unfolding Alike
+alike-tail b zs x y xs ys e h t d k =
+    part (leq x t) (leq y t) (inside xs t) (inside ys t) (and_left _ _ k) (ap (λ u. leq u t) e) (h t d (and_right _ _ k))
+  where
+    part : (m n p q : Bool) → not m ≡ true → m ≡ n → (not m && p) ≡ (not n && q) → p ≡ q
+    part true n p q k e h = no k
+    part false true p q k e h = no e
+    part false false p q k e h = h
+
+-- of canonical lists with the same stamps inside there is one
+same-from : (b : Bounds) (zs xs ys : List (List ℕ)) → IsCanonical b xs → IsCanonical b ys → AllByRecursion (λ q. inside zs q ≡ true) xs → AllByRecursion (λ q. inside zs q ≡ true) ys → Alike b zs xs ys → xs ≡ ys
+unfolding Alike
+same-from b zs [] [] h k l m a = refl
+same-from b zs [] (y ∷ ys) h k l m a = no (sym (a y k.0.in_the_domain m.0 ∙ outside-self y ys))
+same-from b zs (x ∷ xs) [] h k l m a = no (sym (outside-self x xs) ∙ a x h.0.in_the_domain l.0)
+same-from b zs (x ∷ xs) (y ∷ ys) h k l m a =
+    let e : x ≡ y = first-same b x y xs ys h.0 k.0 (a y k.0.in_the_domain m.0 ∙ outside-self y ys) (sym (a x h.0.in_the_domain l.0) ∙ outside-self x xs) in
+    let f : xs ≡ ys = same-from b (x ∷ zs) xs ys h.1 k.1 (apart x zs xs h.0.incomparable l.1) (let P : List ℕ → Type 0 = λ u. AllByRecursion (λ q. inside (u ∷ zs) q ≡ true) ys in subst P (sym e) (apart y zs ys k.0.incomparable m.1)) (alike-tail b zs x y xs ys e a) in
+    ap (λ u. u ∷ xs) e ∙ ap (λ us. y ∷ us) f
+  where
+    apart : (x : List ℕ) (zs xs : List (List ℕ)) → AllByRecursion (λ q. (leq x q || leq q x) ≡ false) xs → AllByRecursion (λ q. inside zs q ≡ true) xs → AllByRecursion (λ q. inside (x ∷ zs) q ≡ true) xs
+    apart x zs [] h l = tt
+    apart x zs (q ∷ xs) h l = (by (leq x q) (leq q x) h.0 l.0, apart x zs xs h.1 l.1)
+      where
+        by : (c d : Bool) → (c || d) ≡ false → inside zs q ≡ true → (not c && inside zs q) ≡ true
+        by true d e f = no (sym e)
+        by false d e f = f
+
+-- only one list names a frontier
+pub names-same : (b : Bounds) (xs ys : List (List ℕ)) (f : List ℕ → Bool) → Names b xs f → Names b ys f → xs ≡ ys
+unfolding Alike
+names-same b xs ys f h k = same-from b [] xs ys h.canonical k.canonical (any xs) (any ys) alike
+  where
+    any : (xs : List (List ℕ)) → AllByRecursion (λ q. inside [] q ≡ true) xs
+    any [] = tt
+    any (x ∷ xs) = (refl, any xs)
+
+    alike : Alike b [] xs ys
+    alike t d i = part (in_domain b t) d (h.same t ∙ sym (k.same t))
+      where
+        part : (c : Bool) → c ≡ true → (c && inside xs t) ≡ (c && inside ys t) → inside xs t ≡ inside ys t
+        part true e g = g
+        part false e g = no e
+
+-- none of the second list's stamps is inside the first exactly where the first lies within the second
+pub none_inside-within : (os ps : List (List ℕ)) → none_inside os ps ≡ true → Within (inside os) (inside ps)
+none_inside-within os [] h t k = refl
+none_inside-within os (p ∷ ps) h t k =
+    both (not (leq p t)) (inside ps t) (by (leq p t) (λ e. inside-closed os p t e k) (and_left _ _ h)) (none_inside-within os ps (and_right _ _ h) t k)
+  where
+    by : (c : Bool) → (c ≡ true → inside os p ≡ true) → not (inside os p) ≡ true → not c ≡ true
+    by true f e = let g = f refl in no (sym (ap not g) ∙ e)
+    by false f e = refl
+
+-- the stamps of a list are outside
+all-outside : (ps : List (List ℕ)) → AllByRecursion (λ p. inside ps p ≡ false) ps
+all-outside [] = tt
+all-outside (x ∷ ps) = (outside-self x ps, more x ps ps (all-outside ps))
+  where
+    late : (c d : Bool) → d ≡ false → (not c && d) ≡ false
+    late true d e = refl
+    late false d e = e
+
+    more : (x : List ℕ) (ps qs : List (List ℕ)) → AllByRecursion (λ p. inside ps p ≡ false) qs → AllByRecursion (λ p. inside (x ∷ ps) p ≡ false) qs
+    more x ps [] h = tt
+    more x ps (q ∷ qs) h = (late (leq x q) (inside ps q) h.0, more x ps qs h.1)
+
+none_inside-all : (os ps : List (List ℕ)) → AllByRecursion (λ p. inside os p ≡ false) ps → none_inside os ps ≡ true
+none_inside-all os [] h = refl
+none_inside-all os (p ∷ ps) h = both (not (inside os p)) (none_inside os ps) (ap not h.0) (none_inside-all os ps h.1)
+
+each : (P Q : List ℕ → Type 0) (f : (o : List ℕ) → P o → Q o) (os : List (List ℕ)) → AllByRecursion P os → AllByRecursion Q os
+each P Q f [] h = tt
+each P Q f (o ∷ os) h = (f o h.0, each P Q f os h.1)
+
+kept-out : (c d : Bool) → (c ≡ true → d ≡ true) → d ≡ false → c ≡ false
+kept-out true d f e = no (sym e ∙ f refl)
+kept-out false d f e = refl
+
+-- and where it does, none of them is
+pub within-none_inside : (os ps : List (List ℕ)) → Within (inside os) (inside ps) → none_inside os ps ≡ true
+within-none_inside os ps h = none_inside-all os ps (each (λ p. inside ps p ≡ false) (λ p. inside os p ≡ false) (λ p e. kept-out (inside os p) (inside ps p) (h p) e) ps (all-outside ps))
+
+-- the same of the stamps of a domain
+pub none_inside-within_domain : (b : Bounds) (os ps : List (List ℕ)) → none_inside os ps ≡ true → Within (frontier_of b os) (frontier_of b ps)
+none_inside-within_domain b os ps h t k = both (in_domain b t) (inside ps t) (and_left _ _ k) (none_inside-within os ps h t (and_right _ _ k))
+
+pub within_domain-none_inside : (b : Bounds) (os ps : List (List ℕ)) → IsCanonical b ps → Within (frontier_of b os) (frontier_of b ps) → none_inside os ps ≡ true
+within_domain-none_inside b os ps k h =
+    none_inside-all os ps (join-all ps (all-outside ps) (in_domain-canonical b ps k))
+  where
+    step : (p : List ℕ) → inside ps p ≡ false → in_domain b p ≡ true → inside os p ≡ false
+    step p e d = kept-out (inside os p) (inside ps p) (λ f. and_right (in_domain b p) (inside ps p) (h p (both (in_domain b p) (inside os p) d f))) e
+
+    join-all : (qs : List (List ℕ)) → AllByRecursion (λ p. inside ps p ≡ false) qs → AllByRecursion (λ p. in_domain b p ≡ true) qs → AllByRecursion (λ p. inside os p ≡ false) qs
+    join-all [] e d = tt
+    join-all (q ∷ qs) e d = (step q e.0 d.0, join-all qs e.1 d.1)
+
+-- the stamps outside one canonical list name a frontier, and it is closed
+pub names-self : (b : Bounds) (os : List (List ℕ)) → IsCanonical b os → Names b os (frontier_of b os)
+names-self b os h = record { canonical = h; same = λ t. refl }
+
+pub frontier-closed : (b : Bounds) (os : List (List ℕ)) → IsFrontier b (frontier_of b os)
+frontier-closed b os = record {
+  inside_domain = λ t h. and_left _ _ h;
+  closed = λ s t d l h. both (in_domain b s) (inside os s) d (inside-closed os s t l (and_right _ _ h));
+}
+
+-- the largest frontier inside another that is without a stamp
+pub without_above-largest : (b : Bounds) (s : List ℕ) (f g : List ℕ → Bool) → IsFrontier b g → Within g f → in_domain b s ≡ true → g s ≡ false → Within g (without_above s f)
+without_above-largest b s f g h k d e t l = both (f t) (not (leq s t)) (k t l) (by (leq s t) refl)
+  where
+    by : (c : Bool) → leq s t ≡ c → not c ≡ true
+    by true m = no (sym e ∙ h.closed s t d m l)
+    by false m = refl

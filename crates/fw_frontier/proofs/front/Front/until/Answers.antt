@@ -1,0 +1,5 @@
+use Rattle.fw_frontier.proofs.NamesLaws.{names-until}
+use Rattle.fw_frontier.proofs.front.Front.until.Goals as goal
+
+pub returns : goal.returns
+returns c = λ b h. rw (c.in_ok-exclude_all.ensures, c.new-outside.ensures.items) (names-until b c.args.stamps.now h)

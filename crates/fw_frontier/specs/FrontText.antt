@@ -1,0 +1,14 @@
+-- How a frontier is printed.
+use Rattle.std.specs.Prelude.{ℕ, List, [], ◌∷◌, ◌++◌, codes}
+use Rattle.fw_time.specs.StampText.{stamp_text}
+use Rattle.fw_frontier.specs.Front.{Front}
+
+-- the stamps, each after a space
+abbrev pub spaced : Front → List ℕ
+spaced [] = []
+spaced (o ∷ os) = (32 ∷ stamp_text o) ++ spaced os
+
+-- `all`, or `until` and the least stamps outside in ascending order, each after a space
+abbrev pub front_text : Front → List ℕ
+front_text [] = codes "all"
+front_text (o ∷ os) = codes "until" ++ spaced (o ∷ os)

@@ -1,0 +1,49 @@
+-- What the calls do to a list of outside stamps.
+use Rattle.std.specs.Prelude.{ℕ, zero, suc, Bool, true, not, ◌&&◌, length, if◌then◌else◌, nat_lt, slice_index, List, [], ◌∷◌, filter}
+use Rattle.std.specs.Ordering.{is_lt}
+use Rattle.fw_time.specs.Stamp.{Stamp, leq, lub, raised, stamp_cmp}
+use Rattle.fw_frontier.specs.Front.{Front, inside}
+
+-- the list with a stamp before the first that comes after it
+abbrev pub placed : Stamp → Front → Front
+placed s [] = s ∷ []
+placed s (o ∷ os) = if is_lt (stamp_cmp s o) then s ∷ o ∷ os else (o ∷ placed s os)
+
+-- how many stamps of the list do not come after a stamp, up to the first that does
+abbrev pub place : Stamp → Front → ℕ
+place s [] = 0
+place s (o ∷ os) = if is_lt (stamp_cmp s o) then 0 else suc (place s os)
+
+-- a stamp more is outside: it takes the place of those that it is at most
+unfoldable pub excluding : Stamp → Front → Front
+excluding s os = if inside os s then placed s (filter (λ o. not (leq s o)) os) else os
+
+-- these stamps more are outside
+abbrev pub excluding_all : Front → Front → Front
+excluding_all [] os = os
+excluding_all (s ∷ ss) os = excluding_all ss (excluding s os)
+
+-- what is at least a stamp and one of the list is outside too
+abbrev pub excluding_lubs : Stamp → Front → Front → Front
+excluding_lubs s [] os = os
+excluding_lubs s (p ∷ ps) os = excluding_lubs s ps (excluding (lub s p) os)
+
+-- what is at least one of either list is outside too
+abbrev pub excluding_pairs : Front → Front → Front → Front
+excluding_pairs [] ps os = os
+excluding_pairs (s ∷ ss) ps os = excluding_pairs ss ps (excluding_lubs s ps os)
+
+-- outside is what has a greater coordinate than the stamp at one of the first places, below the domain's greatest
+abbrev pub below_at : Stamp → Stamp → ℕ → Front
+below_at s greatest zero = []
+below_at s greatest (suc i) = if nat_lt (slice_index s i) (slice_index greatest i) then excluding (raised s i) (below_at s greatest i) else below_at s greatest i
+
+-- one of these stamps more is inside, with each lesser stamp of the domain
+abbrev pub cover_from : Stamp → List Stamp → Front → Front
+cover_from greatest [] os = os
+cover_from greatest (s ∷ ss) os = cover_from greatest ss (excluding_pairs os (below_at s greatest (length s)) [])
+
+-- whether none of these stamps is inside
+abbrev pub none_inside : Front → List Stamp → Bool
+none_inside os [] = true
+none_inside os (s ∷ ss) = not (inside os s) && none_inside os ss

@@ -1,0 +1,76 @@
+//! What holds of frontiers, and of the frontiers of every type of times. Each function carries its laws as clauses, and
+//! does nothing.
+ghost use Rattle.std.specs.Prelude.{◌≡◌, ℕ, Bool, true, false, not, ◌&&◌, ◌||◌, List, [], ◌∷◌, length, map};
+ghost use Rattle.std.specs.List.{AllByRecursion};
+ghost use Rattle.fw_time.specs.declared.stamp.Bounds.{Bounds as Domain};
+ghost use Rattle.fw_time.specs.Stamp.{leq, glb, in_domain};
+ghost use Rattle.fw_frontier.specs.Frontier.{IsFrontier, Within, some_above, without_above};
+ghost use Rattle.fw_frontier.specs.Front.{inside, frontier_of, IsCanonical, Names};
+ghost use Rattle.fw_frontier.specs.Domain.{IsOfDomain};
+
+use crate::{Frontier, Logical};
+
+/// Only one list names a frontier.
+pub fn one_list_names_a_frontier()
+    ensures { (bounds : Domain) (xs ys : List (List ℕ)) (f : List ℕ → Bool)
+        → Names bounds xs f → Names bounds ys f → xs ≡ ys }
+{}
+
+/// What a front has inside is a frontier.
+pub fn fronts_are_frontiers()
+    ensures { (bounds : Domain) (os : List (List ℕ)) → IsFrontier bounds (frontier_of bounds os) }
+{}
+
+/// Of the frontiers inside another, `cut_above` gives the largest that is without the stamp.
+pub fn cut_is_largest()
+    ensures { (bounds : Domain) (s : List ℕ) (f g : List ℕ → Bool) → IsFrontier bounds g → Within g f
+        → in_domain bounds s ≡ true → g s ≡ false → Within g (without_above s f) }
+{}
+
+/// A front comes back from a type of times as the same list.
+pub fn round_trip<T: Logical>()
+    ensures { (bounds : Domain) (os ps : List (List ℕ)) (f : T.Frontier) → length bounds.greatest ≡ T.places
+        → IsCanonical bounds os → ((t : T) → T.Frontier.inside f t ≡ inside os (T.coords t))
+        → Names bounds ps (λ t. in_domain bounds t && T.Frontier.inside f (T.of_coords t)) → ps ≡ os }
+{}
+
+/// A frontier without outside times past the domain has another inside where it has the other's times of the domain.
+pub fn domain_decides<T: Logical>()
+    ensures { (bounds : Domain) (f g : T.Frontier) → length bounds.greatest ≡ T.places
+        → IsOfDomain T.coords T.of_coords bounds (T.Frontier.inside g)
+        → ((t : T) → in_domain bounds (T.coords t) ≡ true → T.Frontier.inside f t ≡ true → T.Frontier.inside g t ≡ true)
+        → (t : T) → T.Frontier.inside f t ≡ true → T.Frontier.inside g t ≡ true }
+{}
+
+/// No call makes an outside time past the domain.
+pub fn stays_in_domain<T: Logical>()
+    ensures meet { (bounds : Domain) (a b c : T.Frontier)
+        → IsOfDomain T.coords T.of_coords bounds (T.Frontier.inside a)
+        → IsOfDomain T.coords T.of_coords bounds (T.Frontier.inside b)
+        → ((t : T) → T.Frontier.inside c t ≡ (T.Frontier.inside a t && T.Frontier.inside b t))
+        → IsOfDomain T.coords T.of_coords bounds (T.Frontier.inside c) }
+    ensures join { (bounds : Domain) (a b c : T.Frontier)
+        → IsOfDomain T.coords T.of_coords bounds (T.Frontier.inside a)
+        → IsOfDomain T.coords T.of_coords bounds (T.Frontier.inside b)
+        → ((t : T) → T.Frontier.inside c t ≡ (T.Frontier.inside a t || T.Frontier.inside b t))
+        → IsOfDomain T.coords T.of_coords bounds (T.Frontier.inside c) }
+    ensures cut { (bounds : Domain) (a c : T.Frontier) (s : T) → length bounds.greatest ≡ T.places
+        → in_domain bounds (T.coords s) ≡ true
+        → IsOfDomain T.coords T.of_coords bounds (T.Frontier.inside a)
+        → ((t : T) → T.Frontier.inside c t ≡ (T.Frontier.inside a t && not (leq (T.coords s) (T.coords t))))
+        → IsOfDomain T.coords T.of_coords bounds (T.Frontier.inside c) }
+    ensures cover { (bounds : Domain) (c : T.Frontier) (tops : List T) → length bounds.greatest ≡ T.places
+        → ((t : T) → T.Frontier.inside c t ≡ some_above (map T.coords tops) (glb (T.coords t) bounds.greatest))
+        → IsOfDomain T.coords T.of_coords bounds (T.Frontier.inside c) }
+    ensures front { (bounds : Domain) (c : T.Frontier) (os : List (List ℕ)) → length bounds.greatest ≡ T.places
+        → AllByRecursion (λ o. in_domain bounds o ≡ true) os
+        → ((t : T) → T.Frontier.inside c t ≡ inside os (T.coords t))
+        → IsOfDomain T.coords T.of_coords bounds (T.Frontier.inside c) }
+{}
+
+/// The cover of the greatest time of a domain has all times inside.
+pub fn greatest_covers_all<T: Logical>()
+    ensures { (bounds : Domain) (c : T.Frontier) (top : T) → T.coords top ≡ bounds.greatest
+        → ((t : T) → T.Frontier.inside c t ≡ some_above (T.coords top ∷ []) (glb (T.coords t) bounds.greatest))
+        → (t : T) → T.Frontier.inside c t ≡ true }
+{}

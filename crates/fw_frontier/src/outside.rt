@@ -1,0 +1,161 @@
+//! Lists of outside stamps, and what the calls of frontiers do to them.
+ghost use Rattle.std.specs.Prelude.{◌≡◌, ◌∷◌, [], ◌<◌, ◌≤◌, not, nat_lt, if◌then◌else◌, length, slice_index, filter, IfOk, OnOk};
+ghost use Rattle.fw_time.specs.Stamp.{leq, origin, raised};
+ghost use Rattle.fw_frontier.specs.Front.{inside};
+ghost use Rattle.fw_frontier.specs.Outside.{place, placed, excluding, excluding_all, excluding_lubs, excluding_pairs, below_at, cover_from, none_inside};
+
+use fw_time::{Bounds, Stamp};
+use std::alloc::{AllocError, Global};
+
+// Whether a stamp is inside: no outside stamp is at most it.
+pub fn has_inside(outside: &[Stamp], t: &Stamp) -> bool
+    ensures { result ≡ inside outside.now t.now }
+{
+    for o in outside {
+        if o.leq(t) {
+            return false;
+        }
+    }
+    true
+}
+
+// Whether none of these stamps is inside.
+pub fn has_none_inside(outside: &[Stamp], stamps: &[Stamp]) -> bool
+    ensures { result ≡ none_inside outside.now stamps.now }
+{
+    for s in stamps {
+        if has_inside(outside, s) {
+            return false;
+        }
+    }
+    true
+}
+
+// How many of the stamps stand before the first that comes after `s`.
+fn place_of(outside: &[Stamp], s: &Stamp) -> usize
+    ensures place { result ≡ place s.now outside.now }
+    ensures within { result ≤ length outside.now }
+{
+    for (i, o) in outside.iter().enumerate() {
+        if s.compare(o).is_lt() {
+            return i;
+        }
+    }
+    outside.len()
+}
+
+// Puts a stamp in its place in the ascending list.
+fn insert(outside: &mut Vec<Stamp>, s: Stamp) -> Result<(), AllocError>
+    ensures { OnOk result (outside.new.items ≡ placed s outside.old.items) }
+{
+    let place = place_of(outside, &s);
+    outside.insert(place, s)?;
+    Ok(())
+}
+
+// Takes out the stamps that `s` is at most.
+fn remove_above(outside: &mut Vec<Stamp>, s: &Stamp)
+    ensures { outside.new.items ≡ filter (λ o. not (leq s.now o)) outside.old.items }
+{
+    outside.retain(|o| !s.leq(o));
+}
+
+// Makes a stamp more an outside one. After an error the list is of no use.
+#[tactic(auto, unfolding(crate::specs::Outside::excluding))]
+pub fn exclude(outside: &mut Vec<Stamp>, s: Stamp) -> Result<(), AllocError>
+    ensures { OnOk result (outside.new.items ≡ excluding s outside.old.items) }
+{
+    if !has_inside(outside, &s) {
+        return Ok(());
+    }
+    remove_above(outside, &s);
+    insert(outside, s)
+}
+
+// The same stamps once more.
+pub fn copied(alloc: Global, stamps: &[Stamp]) -> Result<Vec<Stamp>, AllocError>
+    ensures { IfOk result (λ copy. copy.items ≡ stamps.now) }
+{
+    let mut copy = Vec::with_capacity(alloc, stamps.len())?;
+    for s in stamps {
+        copy.push(s.copy())?;
+    }
+    Ok(copy)
+}
+
+// Makes these stamps outside ones.
+pub fn exclude_all(outside: &mut Vec<Stamp>, stamps: &[Stamp]) -> Result<(), AllocError>
+    ensures { OnOk result (outside.new.items ≡ excluding_all stamps.now outside.old.items) }
+{
+    for s in stamps {
+        exclude(outside, s.copy())?;
+    }
+    Ok(())
+}
+
+// Makes what is at least `s` and one of the stamps outside.
+fn exclude_lubs(outside: &mut Vec<Stamp>, s: &Stamp, stamps: &[Stamp]) -> Result<(), AllocError>
+    ensures { OnOk result
+        (outside.new.items ≡ excluding_lubs s.now stamps.now outside.old.items) }
+{
+    for p in stamps {
+        exclude(outside, s.lub(p))?;
+    }
+    Ok(())
+}
+
+// What is inside one of two frontiers.
+pub fn joined(alloc: Global, mine: &[Stamp], others: &[Stamp]) -> Result<Vec<Stamp>, AllocError>
+    ensures { IfOk result (λ both. both.items ≡ excluding_pairs mine.now others.now []) }
+{
+    let mut both = Vec::new(alloc);
+    for s in mine {
+        exclude_lubs(&mut both, s, others)?;
+    }
+    Ok(both)
+}
+
+// Makes outside what has a greater coordinate than `s` at a place, if the domain has such stamps.
+fn exclude_raised(
+    outside: &mut Vec<Stamp>,
+    s: &Stamp,
+    greatest: &Stamp,
+    place: usize,
+) -> Result<(), AllocError>
+    requires { place < length s.now }
+    ensures { OnOk result (outside.new.items
+        ≡ (if nat_lt (slice_index s.now place) (slice_index greatest.now place)
+        then excluding (raised s.now place) outside.old.items
+        else outside.old.items)) }
+{
+    if place < greatest.len() && s.at(place) < greatest.at(place) {
+        return exclude(outside, s.raised(place));
+    }
+    Ok(())
+}
+
+// What of a domain is at most `s`, a stamp of it.
+fn below(alloc: Global, s: &Stamp, greatest: &Stamp) -> Result<Vec<Stamp>, AllocError>
+    ensures { IfOk result
+        (λ outside. outside.items ≡ below_at s.now greatest.now (length s.now)) }
+{
+    let mut outside = Vec::new(alloc);
+    for place in 0..s.len() {
+        exclude_raised(&mut outside, s, greatest, place)?;
+    }
+    Ok(outside)
+}
+
+// What of a domain is at most one of the stamps, which are the domain's.
+pub fn covering(alloc: Global, stamps: &[Stamp], bounds: &Bounds) -> Result<Vec<Stamp>, AllocError>
+    ensures { IfOk result (λ outside. outside.items
+        ≡ cover_from bounds.now.greatest stamps.now (origin bounds.now.greatest ∷ [])) }
+{
+    let mut outside = Vec::new(alloc);
+    outside.push(bounds.origin())?;
+    for s in stamps {
+        let under = below(alloc, s, &bounds.greatest)?;
+        outside = joined(alloc, &outside, &under)?;
+    }
+    Ok(outside)
+}

@@ -1,0 +1,3 @@
+pub mod StampLaws
+pub mod StampSteps
+pub mod TimeLaws

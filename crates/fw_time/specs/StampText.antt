@@ -1,0 +1,13 @@
+-- How a stamp is printed.
+use Rattle.std.specs.Prelude.{ℕ, List, [], ◌∷◌, ◌++◌}
+use Rattle.std.specs.Fmt.{decimal}
+
+-- the coordinates in decimal, each after a dot
+abbrev pub dotted : List ℕ → List ℕ
+dotted [] = []
+dotted (x ∷ s) = (46 ∷ decimal x) ++ dotted s
+
+-- the coordinates in decimal, joined by dots
+abbrev pub stamp_text : List ℕ → List ℕ
+stamp_text [] = []
+stamp_text (x ∷ s) = decimal x ++ dotted s

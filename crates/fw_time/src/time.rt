@@ -1,0 +1,246 @@
+//! Logical times of one type per depth of loops.
+ghost use Rattle.std.specs.Prelude.{◌≡◌, ℕ, ◌+◌, ◌<◌, ◌≤◌, List, [], ◌∷◌, length, slice_index, refl};
+ghost use Rattle.fw_time.specs.Stamp.{leq, lub, in_domain, nest};
+
+use crate::{Bounds, Stamp};
+
+/// A logical time, which contracts see by its coordinates, outermost first.
+///
+/// The order is that of the coordinates at each place, a partial order. `lub` gives the least upper bound. No call
+/// takes memory.
+pub trait Time: Copy {
+    // the coordinates, outermost first
+    ghost coords: { Self → List ℕ };
+
+    // how many coordinates each time of the type has
+    ghost places: { ℕ };
+
+    // the time of these coordinates
+    ghost of_coords: { List ℕ → Self };
+
+    /// Whether each coordinate is at most that of the other time.
+    fn leq(&self, other: &Self) -> bool
+        ensures { result ≡ leq (coords self.now) (coords other.now) };
+
+    /// The least time that both are at most.
+    fn lub(&self, other: &Self) -> Self
+        ensures { coords result ≡ lub (coords self.now) (coords other.now) };
+
+    /// The time as a stamp.
+    fn coords(&self) -> Stamp
+        requires { places ≤ 4 }
+        ensures { result ≡ coords self.now };
+
+    /// Whether it is a time of the domain.
+    fn in_domain(&self, bounds: &Bounds) -> bool
+        ensures { result ≡ in_domain bounds.now (coords self.now) };
+
+    /// The time that has the coordinates of a stamp.
+    fn from_coords(stamp: &Stamp) -> Self
+        requires { length stamp.now ≡ places }
+        ensures { coords result ≡ stamp.now };
+
+    // times with equal coordinates are equal
+    ghost same_coords: { (x y : Self) → coords x ≡ coords y → x ≡ y };
+
+    // each list of as many coordinates is that of a time
+    ghost all_coords: { (s : List ℕ) → length s ≡ places → coords (of_coords s) ≡ s };
+
+    // all times of the type have as many coordinates
+    ghost same_places: { (x : Self) → length (coords x) ≡ places };
+
+    // and at least one
+    ghost some_place: { (x : Self) → 0 < length (coords x) };
+}
+
+/// A time of one coordinate.
+pub trait Number: Time {
+    // the coordinate
+    ghost number: { Self → ℕ };
+
+    /// The coordinate.
+    fn number(&self) -> u32
+        ensures { result ≡ number self.now };
+
+    // it is the only one
+    ghost one_coord: { (x : Self) → Self.coords x ≡ number x ∷ [] };
+
+    // of each time
+    ghost one_place: { Self.places ≡ 1 };
+}
+
+/// An epoch: a time outside of all loops.
+#[derive(Clone, Copy, Debug, PartialEq, Eq, PartialOrd, Ord)]
+pub struct Epoch(pub u32);
+
+impl Time for Epoch {
+    ghost use Rattle.std.proofs.Common.{rules};
+    ghost use Rattle.fw_time.specs.NestLaws.{single, one-place};
+
+    ghost coords = { λ t. t.0 ∷ [] };
+
+    ghost places = { 1 };
+
+    ghost of_coords = { λ s. record { 0 = slice_index s 0 } };
+
+    fn leq(&self, other: &Self) -> bool {
+        self.0 <= other.0
+    }
+
+    fn lub(&self, other: &Self) -> Self {
+        Epoch(self.0.max(other.0))
+    }
+
+    fn coords(&self) -> Stamp {
+        Stamp::new(&[self.0])
+    }
+
+    fn in_domain(&self, bounds: &Bounds) -> bool {
+        bounds.greatest.len() == 1 && self.0 <= bounds.greatest.at(0)
+    }
+
+    fn from_coords(stamp: &Stamp) -> Self {
+        Epoch(stamp.at(0))
+    }
+
+    ghost same_coords = { λ x y e. let h = single x.0 y.0 e in λ i. record { 0 = h i } };
+
+    ghost all_coords = { one-place };
+
+    ghost same_places = { λ x. refl };
+
+    ghost some_place = { λ x. Prim.search rules };
+}
+
+impl Number for Epoch {
+    ghost number = { λ t. t.0 };
+
+    fn number(&self) -> u32 {
+        self.0
+    }
+
+    ghost one_coord = { λ x. refl };
+
+    ghost one_place = { refl };
+}
+
+/// A number of an edge that numbers its messages.
+#[derive(Clone, Copy, Debug, PartialEq, Eq, PartialOrd, Ord)]
+pub struct SeqNo(pub u32);
+
+impl Time for SeqNo {
+    ghost use Rattle.std.proofs.Common.{rules};
+    ghost use Rattle.fw_time.specs.NestLaws.{single, one-place};
+
+    ghost coords = { λ t. t.0 ∷ [] };
+
+    ghost places = { 1 };
+
+    ghost of_coords = { λ s. record { 0 = slice_index s 0 } };
+
+    fn leq(&self, other: &Self) -> bool {
+        self.0 <= other.0
+    }
+
+    fn lub(&self, other: &Self) -> Self {
+        SeqNo(self.0.max(other.0))
+    }
+
+    fn coords(&self) -> Stamp {
+        Stamp::new(&[self.0])
+    }
+
+    fn in_domain(&self, bounds: &Bounds) -> bool {
+        bounds.greatest.len() == 1 && self.0 <= bounds.greatest.at(0)
+    }
+
+    fn from_coords(stamp: &Stamp) -> Self {
+        SeqNo(stamp.at(0))
+    }
+
+    ghost same_coords = { λ x y e. let h = single x.0 y.0 e in λ i. record { 0 = h i } };
+
+    ghost all_coords = { one-place };
+
+    ghost same_places = { λ x. refl };
+
+    ghost some_place = { λ x. Prim.search rules };
+}
+
+impl Number for SeqNo {
+    ghost number = { λ t. t.0 };
+
+    fn number(&self) -> u32 {
+        self.0
+    }
+
+    ghost one_coord = { λ x. refl };
+
+    ghost one_place = { refl };
+}
+
+/// A time of a loop: a time outside of it and the loop's counter.
+#[derive(Clone, Copy, Debug, PartialEq, Eq, PartialOrd, Ord)]
+pub struct Nest<T> {
+    /// The time outside of the loop.
+    pub outer: T,
+    /// How often the loop was fed back.
+    pub counter: u32,
+}
+
+impl<T: Time> Time for Nest<T> {
+    ghost use Rattle.std.proofs.Common.{ap, ◌∙◌};
+    ghost use Rattle.fw_time.specs.Stamp.{outer, counter};
+    ghost use Rattle.fw_time.specs.NestLaws.{outer-same, counter-same, places-nest, some-nest, places-outer, nest-outer, some_place-from};
+
+    ghost coords = { λ t. nest (T.coords t.outer) t.counter };
+
+    ghost places = { T.places + 1 };
+
+    ghost of_coords = { λ s. record { outer = T.of_coords (outer s); counter = counter s } };
+
+    fn leq(&self, other: &Self) -> bool {
+        self.outer.leq(&other.outer) && self.counter <= other.counter
+    }
+
+    fn lub(&self, other: &Self) -> Self {
+        Nest {
+            outer: self.outer.lub(&other.outer),
+            counter: self.counter.max(other.counter),
+        }
+    }
+
+    fn coords(&self) -> Stamp {
+        self.outer.coords().nest(self.counter)
+    }
+
+    fn in_domain(&self, bounds: &Bounds) -> bool {
+        if bounds.greatest.len() == 0 {
+            return false;
+        }
+        let outer = Bounds {
+            greatest: bounds.greatest.outer(),
+        };
+        self.outer.in_domain(&outer) && self.counter <= bounds.greatest.counter()
+    }
+
+    fn from_coords(stamp: &Stamp) -> Self {
+        Nest {
+            outer: T::from_coords(&stamp.outer()),
+            counter: stamp.counter(),
+        }
+    }
+
+    ghost same_coords = { λ x y e.
+        let o = T.same_coords x.outer y.outer (outer-same (T.coords x.outer) (T.coords y.outer) x.counter y.counter e) in
+        let c = counter-same (T.coords x.outer) (T.coords y.outer) x.counter y.counter e in
+        λ i. record { outer = o i; counter = c i } };
+
+    ghost all_coords = { λ s h.
+        ap (λ u. nest u (counter s)) (T.all_coords (outer s) (places-outer s T.places h))
+        ∙ nest-outer s (some_place-from s T.places h) };
+
+    ghost same_places = { λ x. places-nest (T.coords x.outer) x.counter T.places (T.same_places x.outer) };
+
+    ghost some_place = { λ x. some-nest (T.coords x.outer) x.counter };
+}

@@ -39,7 +39,7 @@ record_of word =
     if list_any is_colon word then record_from (number_of (before_first is_colon word)) (number_of (after_first is_colon word))
     else Broken (if list_all is_allowed word then I4 else I1)
 
--- the rule that a record word breaks, numbers of any size
+-- the rule of form that a record word breaks, with numbers of any size
 abbrev pub broken_rule : RecordWord → Option Code
 broken_rule (Sound rec) = None
 broken_rule Large = None
@@ -57,7 +57,7 @@ spelled_rec (Sound rec) = Some rec
 spelled_rec Large = None
 spelled_rec (Broken code) = None
 
--- the first rule, from left to right, that record words break
+-- the rule of form that the first broken record word, from left to right, breaks
 abbrev pub words_fault : List (List ℕ) → Option Code
 words_fault [] = None
 words_fault (word ∷ words) = option_or (broken_rule (record_of word)) (words_fault words)
@@ -66,16 +66,16 @@ words_fault (word ∷ words) = option_or (broken_rule (record_of word)) (words_f
 abbrev pub form_fault : List ℕ → List ℕ → List (List ℕ) → Option Code
 form_fault first name records = if bytes_eq first (codes "batch") && is_name name then words_fault records else Some I1
 
--- the name is that of an input
+-- I2, unless the name is that of an input
 abbrev pub source_fault : Option ℕ → Option Code
 source_fault None = Some I2
 source_fault (Some node) = None
 
--- each number is below 2^64
+-- I3, unless each number is below 2^64
 abbrev pub number_fault : List (List ℕ) → Option Code
 number_fault records = if list_any (λ word. is_large (record_of word)) records then Some I3 else None
 
--- a source that has this many batches takes one more
+-- I5, where the source has 2^20 batches already
 abbrev pub count_fault : ℕ → Option Code
 count_fault count = if nat_le (2 ^ 20) count then Some I5 else None
 

@@ -1,5 +1,5 @@
 -- Where all has come nothing more comes.
-use Rattle.std.proofs.Common.{◌≡◌, ℕ, ◌+◌, ◌≤◌, Bool, true, false, not, ◌&&◌, ◌||◌, ◌==◌, nat_lt, List, [], ◌∷◌, length, get_or, Some, None, refl, sym, ap, subst, ◌∙◌, inl, inr, ◌⊎◌, arith}
+use Rattle.std.proofs.Common.{◌≡◌, ℕ, ◌+◌, ◌≤◌, Bool, true, false, not, ◌&&◌, ◌||◌, ◌==◌, nat_lt, List, [], ◌∷◌, length, get_or, Some, None, refl, sym, ap, subst, ◌∙◌, inl, inr, ◌⊎◌, arith, ◌++◌}
 use Rattle.std.specs.List.{AllByRecursion}
 use Rattle.std.proofs.lemmas.Bool.{and_parts, and_from, or_cases, or_right, cond_both, eqb-true, ltb-true, lt-ltb, cases_lt, false_from_ne_true}
 use Rattle.std.proofs.lemmas.List.{get_or_past}
@@ -151,7 +151,7 @@ quiet-event : (v : Event) (h : List Event) (e : ℕ) (t : Stamp) (ms : List Mess
     → some_at (same t) (less ms (delivered h e)) ≡ false → some_at (same t) (less ms (delivered (v ∷ h) e)) ≡ false
 quiet-event (Inject s x) h e t ms k = k
 quiet-event (Deliver d m) h e t ms k =
-    cond_both (d == e) (m ∷ delivered h e) (delivered h e) (λ ds. some_at (same t) (less ms ds) ≡ false)
+    cond_both (d == e) (m ∷ []) [] (λ ds. some_at (same t) (less ms (ds ++ delivered h e)) ≡ false)
     (λ c. quiet-without t m (less ms (delivered h e)) k) (λ c. k)
 quiet-event (Notify p s) h e t ms k = k
 

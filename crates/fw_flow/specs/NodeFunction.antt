@@ -1,5 +1,5 @@
 -- What a node sends: event by event, and in all from the whole bags on its in-edges.
-use Rattle.std.specs.Prelude.{ℕ, ◌+◌, ◌-◌, Bool, true, not, ◌&&◌, ◌==◌, nat_le, if◌then◌else◌, List, [], ◌∷◌, ◌++◌, length, Option, Some, None, option_to_list, slice_index_or, map}
+use Rattle.std.specs.Prelude.{ℕ, ◌+◌, Bool, true, not, ◌&&◌, ◌==◌, nat_le, if◌then◌else◌, List, [], ◌∷◌, ◌++◌, length, Option, Some, None, option_to_list, slice_index_or, map}
 use Rattle.std.specs.List.{flat_map}
 use Rattle.fw_time.specs.Stamp.{Stamp, leq, same}
 use Rattle.fw_bag.specs.declared.rec.Rec.{Rec}

@@ -1,9 +1,9 @@
 -- Projections: what of an edge comes from a frontier of its sender, and where a frontier of its sender can send.
-use Rattle.std.specs.Prelude.{ℕ, suc, zero, ◌+◌, ◌-◌, ◌*◌, Bool, ◌&&◌, ◌||◌, ◌==◌, nat_lt, if◌then◌else◌, List, [], ◌∷◌, min, filter}
+use Rattle.std.specs.Prelude.{ℕ, suc, zero, ◌+◌, ◌-◌, ◌*◌, Bool, ◌&&◌, ◌||◌, ◌==◌, nat_lt, List, [], ◌∷◌, min, filter}
 use Rattle.fw_flow.specs.Counting.{how_many}
 use Rattle.std.specs.List.{list_all}
 use Rattle.fw_time.specs.Stamp.{Stamp, nest, outer, counter}
-use Rattle.fw_frontier.specs.Frontier.{Frontier, nothing}
+use Rattle.fw_frontier.specs.Frontier.{Frontier}
 use Rattle.fw_flow.specs.declared.event.Event.{Event}
 use Rattle.fw_flow.specs.declared.event.Message.{Message}
 use Rattle.fw_flow.specs.declared.kind.Kind.{Kind}

@@ -1,4 +1,4 @@
--- The inclusions of a consistent choice one by one, and the smallest histories at which each makes the largest choice smaller.
+-- The inclusions of a consistent choice one by one, and for each a short run after which a choice that lacks it alone is wrong.
 use Rattle.std.specs.Prelude.{◌≡◌, ◌≢◌, ◌↔◌, ℕ, ◌<◌, List, [], ◌∷◌, length, None}
 use Rattle.fw_frontier.specs.Frontier.{Within}
 use Rattle.fw_frontier.specs.Front.{Front, IsCanonical}
@@ -48,7 +48,7 @@ LeavesOutOne =
     → IsConsistent sys state (offers sys state) choice
     ↔ (IsConsistentWithout left_out sys state (offers sys state) choice × Meets sys state choice left_out)
 
--- The first choice is the largest, and the second, which is none that lies within it, lacks the inclusion alone.
+-- The first choice is the largest, and the second does not lie within it, though it is consistent but for the inclusion.
 abbrev pub IsNeeded : Inclusion → System → Machine → Choice → Choice → Type 0
 IsNeeded left_out sys state choice other =
     IsLargest sys state (offers sys state) choice

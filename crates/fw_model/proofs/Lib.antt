@@ -1,3 +1,4 @@
+pub mod ChoiceLaws
 pub mod CompleteLaws
 pub mod EachLaws
 pub mod FrontierLaws

@@ -1,6 +1,7 @@
 pub mod Choice
 pub mod Denotation
 pub mod History
+pub mod LawsOfChoices
 pub mod LawsOfCompleteFrontiers
 pub mod LawsOfLegalHistories
 pub mod LawsOfProjections

@@ -1,4 +1,5 @@
 //! The laws of the definitions: each function's `ensures` is one law, and its body is empty.
+ghost use Rattle.fw_model.specs.LawsOfChoices.{LargestChoiceIsOne};
 ghost use Rattle.fw_model.specs.LawsOfCompleteFrontiers.{AdmissibleStaysAdmissible, EnabledIsOutside, LegalInsidePhiComesFromInside, SequencesAreNotifiedInOrder};
 ghost use Rattle.fw_model.specs.LawsOfLegalHistories.{LegalEventsAreInDomain, LegalMessagesAreInDomain, OnlyInputsInject};
 ghost use Rattle.fw_model.specs.LawsOfProjections.{PhiGrowsWithHistory, PhiIgnoresHistory, PhiIsFrontier, PhiIsMonotone, PhiOfEverything, PhiOfMeet, PsiIsFrontier, PsiIsMonotone, PsiOfJoin, PsiOfNothing, PsiOfUnion};
@@ -137,4 +138,9 @@ pub fn sequences_are_notified_in_order()
 /// In a legal history each message at a stamp inside phi comes from events inside.
 pub fn legal_inside_phi_comes_from_inside()
     ensures { LegalInsidePhiComesFromInside }
+{}
+
+/// A largest choice of the restore candidates is the only one.
+pub fn largest_choice_is_one()
+    ensures { LargestChoiceIsOne }
 {}

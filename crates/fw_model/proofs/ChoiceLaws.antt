@@ -1,33 +1,40 @@
--- Choices: the largest one is the only one.
-use Rattle.std.proofs.Common.{◌≡◌, ℕ, zero, suc, ◌<◌, Bool, List, [], ◌∷◌, length, slice_index_or, refl, sym, ap, ◌∙◌, arith}
+-- Choices: the largest one is the only one, and the union of consistent ones is consistent.
+use Rattle.std.proofs.Common.{◌≡◌, ℕ, ◌<◌, Bool, true, false, ◌&&◌, ◌||◌, if◌then◌else◌, List, [], ◌∷◌, length, map, filter, refl, sym, ap, subst, ◌∙◌, inl, inr, ◌⊎◌, arith}
+use Rattle.std.specs.List.{AllByRecursion, flat_map}
+use Rattle.std.proofs.lemmas.Bool.{and_parts, and_from, or_cases, or_left, or_right, cases_Bool, cases_lt}
+use Rattle.std.proofs.lemmas.List.{ext_get_or, get_or_past}
+use Rattle.fw_time.specs.Stamp.{Stamp, leq, in_domain}
 use Rattle.fw_time.specs.declared.stamp.Bounds.{Bounds}
-use Rattle.fw_frontier.specs.Frontier.{Within}
-use Rattle.fw_frontier.specs.Front.{Front, frontier_of, IsCanonical}
-use Rattle.fw_frontier.proofs.NamesLaws.{names-self, names-same}
+use Rattle.fw_frontier.specs.Frontier.{Frontier, IsFrontier, Within, nothing, join, cover, some_above}
+use Rattle.fw_frontier.specs.Front.{Front, inside, frontier_of, IsCanonical, Names}
+use Rattle.fw_frontier.proofs.NamesLaws.{names-self, names-same, frontier-closed}
 use Rattle.fw_flow.specs.declared.choice.Cut.{Cut}
 use Rattle.fw_flow.specs.declared.choice.Cut.TheVariants.{Present, At}
-use Rattle.fw_flow.specs.Dataflow.{System, bounds_of}
-use Rattle.fw_model.specs.Machine.{Machine, front_of}
-use Rattle.fw_model.specs.Choice.{View, Choice, IsCandidate, IsConsistent, IsCutWithin, IsChoiceWithin, IsLargest, cut_of, note_of}
-use Rattle.fw_model.specs.LawsOfChoices.{LargestChoiceIsOne}
-use Rattle.fw_model.proofs.PsiLaws.{same_tests}
+use Rattle.fw_flow.specs.declared.event.Message.{Message}
+use Rattle.fw_flow.specs.declared.kind.Kind.{Kind}
+use Rattle.fw_flow.specs.declared.kind.Kind.TheVariants.{Sequence}
+use Rattle.fw_flow.specs.Dataflow.{System, kind_of, policy_of, sender, receiver, bounds_of, greatest_number}
+use Rattle.fw_flow.specs.Projection.{events_at, all_inside, phi}
+use Rattle.fw_model.specs.History.{delivered, sent}
+use Rattle.fw_model.specs.LawsOfProjections.{is_sequence_kind}
+use Rattle.fw_model.specs.Machine.{Machine, events, front_of}
+use Rattle.fw_model.specs.Choice.{View, Restoring, by_anything, restoring, can_resend, Choice, IsCandidate, IsCutWithin, stamp_of_notice, stamps_from, set_of, takes_its_cut, takes_its_notes, cut_of, note_of, kept_of, delivered_cover, notified_cover, sent_cover, discarded_at, discarded_cover}
+use Rattle.fw_model.specs.LawsOfChoices.{LargestChoiceIsOne, IsUnionOfCuts, IsUnionOfChoices, DeliveredOfUnion, NotifiedOfUnion, DiscardedOfUnion, UnionOfConsistentIsConsistent}
+use Rattle.fw_model.proofs.EachLaws.{each-weaker}
+use Rattle.fw_model.proofs.PhiLaws.{phi-monotone}
+use Rattle.fw_model.proofs.PsiLaws.{same_tests, psi-monotone, psi-join}
+use Rattle.fw_model.proofs.MeetLaws.{one_within}
+use Rattle.fw_model.proofs.SendsLaws.{IsOfCause, sent_by-of_cause}
+use Rattle.fw_model.proofs.SequenceLaws.{bounds-sequence}
 
 -- ---- the largest choice
 
-same_lists : {A : Type 0} (xs ys : List A) (d : A) → length xs ≡ length ys
-    → ((i : ℕ) → i < length xs → slice_index_or xs i d ≡ slice_index_or ys i d) → xs ≡ ys
-same_lists [] [] d e h = refl
-same_lists [] (y ∷ ys) d e h = absurd (omega arith)
-same_lists (x ∷ xs) [] d e h = absurd (omega arith)
-same_lists (x ∷ xs) (y ∷ ys) d e h =
-    let first : x ≡ y = h 0 (omega arith) in
-    let rest = same_lists xs ys d (omega arith) (λ i l. h (suc i) (omega arith)) in
-    λ j. first j ∷ rest j
-
 -- fronts that lie within each other are one list
-same_fronts : (b : Bounds) (f g : Front) → IsCanonical b f → IsCanonical b g → Within (frontier_of b f) (frontier_of b g) → Within (frontier_of b g) (frontier_of b f) → f ≡ g
+same_fronts : (b : Bounds) (f g : Front) → IsCanonical b f → IsCanonical b g → Within (frontier_of b f) (frontier_of b g)
+    → Within (frontier_of b g) (frontier_of b f) → f ≡ g
 same_fronts b f g cf cg v w =
-    names-same b f g (frontier_of b g) (record { canonical = cf; same = λ t. same_tests (frontier_of b f t) (frontier_of b g t) (v t) (w t) }) (names-self b g cg)
+    names-same b f g (frontier_of b g)
+    (record { canonical = cf; same = λ t. same_tests (frontier_of b f t) (frontier_of b g t) (v t) (w t) }) (names-self b g cg)
 
 -- candidates that lie within each other are one cut
 same_cuts : (sys : System) (state : Machine) (lost : ℕ → Bool) (view : View) (p : ℕ) (x y : Cut) → IsCandidate sys state lost view p x
@@ -44,10 +51,286 @@ largest-one sys state lost view one other m n =
     let b = n.consistent in
     let v = n.largest one a in
     let w = m.largest other b in
-    let cuts = same_lists one.cuts other.cuts Present (a.one_cut_each ∙ sym b.one_cut_each) (λ p l.
-      let k : p < length sys.flow.nodes = omega (arith, a.one_cut_each) in
-      same_cuts sys state lost view p (cut_of one p) (cut_of other p) (a.offered p k) (b.offered p k) (v.cuts p k) (w.cuts p k)) in
-    let notes = same_lists one.notes other.notes [] (a.one_note_each ∙ sym b.one_note_each) (λ p l.
-      let k : p < length sys.flow.nodes = omega (arith, a.one_note_each) in
-      same_fronts (bounds_of sys.flow p) (front_of one.notes p) (front_of other.notes p) (a.canonical p k) (b.canonical p k) (v.notes p k) (w.notes p k)) in
+    let cuts = ext_get_or Present one.cuts other.cuts (a.one_cut_each ∙ sym b.one_cut_each) (λ p l.
+    let k : p < length sys.flow.nodes = omega (arith, a.one_cut_each) in
+    same_cuts sys state lost view p (cut_of one p) (cut_of other p) (a.offered p k) (b.offered p k) (v.cuts p k) (w.cuts p k)) in
+    let notes = ext_get_or [] one.notes other.notes (a.one_note_each ∙ sym b.one_note_each) (λ p l.
+    let k : p < length sys.flow.nodes = omega (arith, a.one_note_each) in
+    same_fronts (bounds_of sys.flow p) (front_of one.notes p) (front_of other.notes p) (a.canonical p k) (b.canonical p k) (v.notes p k) (w.notes p k)) in
     λ j. record { cuts = cuts j; notes = notes j }
+
+-- ---- covers of what passes one of two tests
+
+-- whether an element passes the test and is at the stamp or above it
+some_of : {X : Type 0} → (X → Bool) → (X → Stamp) → List X → Stamp → Bool
+some_of test at [] t = false
+some_of test at (x ∷ xs) t = (test x && leq t (at x)) || some_of test at xs t
+
+above-some : (f : Frontier) (ss : List Stamp) (t : Stamp) → some_above (filter f ss) t ≡ some_of f (λ s. s) ss t
+unfolding some_of
+above-some f [] t = refl
+above-some f (s ∷ ss) t = by (f s) (above-some f ss t)
+  where
+    by : (c : Bool) → some_above (filter f ss) t ≡ some_of f (λ s. s) ss t
+        → some_above (if c then s ∷ filter f ss else filter f ss) t ≡ ((c && leq t s) || some_of f (λ s. s) ss t)
+    by true e = ap (λ r. leq t s || r) e
+    by false e = e
+
+sent-some : (test : Message → Bool) (ms : List Message) (t : Stamp) → some_above (map (λ m. m.at) (filter test ms)) t ≡ some_of test (λ m. m.at) ms t
+unfolding some_of
+sent-some test [] t = refl
+sent-some test (m ∷ ms) t = by (test m) (sent-some test ms t)
+  where
+    by : (c : Bool) → some_above (map (λ m. m.at) (filter test ms)) t ≡ some_of test (λ m. m.at) ms t
+        → some_above (map (λ m. m.at) (if c then m ∷ filter test ms else filter test ms)) t ≡ ((c && leq t m.at) || some_of test (λ m. m.at) ms t)
+    by true e = ap (λ r. leq t m.at || r) e
+    by false e = e
+
+-- the element passes one of two tests if it passes the first
+abbrev Divides : {X : Type 0} → (X → Bool) → (X → Bool) → (X → Bool) → X → Type 0
+Divides h f g x = h x ≡ true → (f x ≡ true) ⊎ (g x ≡ true)
+
+some-divides : {X : Type 0} (h f g : X → Bool) (at : X → Stamp) (xs : List X) (t : Stamp) → AllByRecursion (Divides h f g) xs
+    → some_of h at xs t ≡ true → (some_of f at xs t || some_of g at xs t) ≡ true
+unfolding some_of
+some-divides h f g at [] t w k = k
+some-divides h f g at (x ∷ xs) t w k = elim (or_cases (h x && leq t (at x)) (some_of h at xs t) k) [
+  | inl i ↦ let a = and_parts (h x) (leq t (at x)) i in elim (w.0 a.0) [
+    | inl j ↦ or_left (some_of f at (x ∷ xs) t) (some_of g at (x ∷ xs) t) (or_left (f x && leq t (at x)) (some_of f at xs t) (and_from (f x) (leq t (at x)) j a.1))
+    | inr j ↦ or_right (some_of f at (x ∷ xs) t) (some_of g at (x ∷ xs) t) (or_left (g x && leq t (at x)) (some_of g at xs t) (and_from (g x) (leq t (at x)) j a.1))
+  ]
+  | inr i ↦ elim (or_cases (some_of f at xs t) (some_of g at xs t) (some-divides h f g at xs t w.1 i)) [
+    | inl j ↦ or_left (some_of f at (x ∷ xs) t) (some_of g at (x ∷ xs) t) (or_right (f x && leq t (at x)) (some_of f at xs t) j)
+    | inr j ↦ or_right (some_of f at (x ∷ xs) t) (some_of g at (x ∷ xs) t) (or_right (g x && leq t (at x)) (some_of g at xs t) j)
+  ]
+]
+
+each : {A : Type 0} (P : A → Type 0) (xs : List A) → ((x : A) → P x) → AllByRecursion P xs
+each P [] h = tt
+each P (x ∷ xs) h = (h x, each P xs h)
+
+-- tests of a domain divide as their second parts do
+and_divides : (d a b c : Bool) → (a ≡ true → (b || c) ≡ true) → (d && a) ≡ true → ((d && b) || (d && c)) ≡ true
+and_divides true a b c h k = h k
+and_divides false a b c h k = k
+
+cover-divides : (b : Bounds) (h f g : Frontier) (ss : List Stamp) → Within h (join f g) → Within (cover b (filter h ss)) (join (cover b (filter f ss)) (cover b (filter g ss)))
+cover-divides b h f g ss w t k =
+    and_divides (in_domain b t) (some_above (filter h ss) t) (some_above (filter f ss) t) (some_above (filter g ss) t)
+    (λ i. ap (λ c. c || some_above (filter g ss) t) (above-some f ss t) ∙ ap (λ c. some_of f (λ s. s) ss t || c) (above-some g ss t)
+    ∙ some-divides h f g (λ s. s) ss t (each (Divides h f g) ss (λ s j. or_cases (f s) (g s) (w s j))) (sym (above-some h ss t) ∙ i)) k
+
+-- ---- what counts inside the union of two cuts
+
+-- where either of two values divides, so does the one that a flag names
+flag-divides : (c : Bool) (h f g k m n : Frontier) → Within h (join f g) → Within k (join m n)
+    → Within (if c then h else k) (join (if c then f else m) (if c then g else n))
+flag-divides true h f g k m n v w = v
+flag-divides false h f g k m n v w = w
+
+-- what the list of a union has inside
+union-within : (b : Bounds) (u : Front) (f : Frontier) → Names b u f → Within (frontier_of b u) f
+union-within b u f n t k = sym (n.same t) ∙ k
+
+pub delivered-union : DeliveredOfUnion
+delivered-union sys state p d Present y z w t k =
+    or_left (delivered_cover sys state p d Present t) (delivered_cover sys state p d y t) (sym (ap (λ c. delivered_cover sys state p d c t) w) ∙ k)
+delivered-union sys state p d (At f) Present z w t k =
+    or_right (delivered_cover sys state p d (At f) t) (delivered_cover sys state p d Present t) (sym (ap (λ c. delivered_cover sys state p d c t) w) ∙ k)
+delivered-union sys state p d (At f) (At g) Present w t k = absurd w
+delivered-union sys state p d (At f) (At g) (At u) w t k =
+    let b = bounds_of sys.flow p in
+    let ss = map (λ m. m.at) (delivered (events state.history) d) in
+    let v = union-within b u (join (frontier_of b f) (frontier_of b g)) w in
+    flag-divides (takes_its_cut (restoring (kind_of sys.flow p) (policy_of sys.flow p))) (frontier_of b u) (frontier_of b f) (frontier_of b g)
+    (cover b (filter (frontier_of b u) ss)) (cover b (filter (frontier_of b f) ss)) (cover b (filter (frontier_of b g) ss))
+    v (cover-divides b (frontier_of b u) (frontier_of b f) (frontier_of b g) ss v) t k
+
+pub notified-union : NotifiedOfUnion
+notified-union sys state p Present y z w t k =
+    or_left (notified_cover sys state p Present t) (notified_cover sys state p y t) (sym (ap (λ c. notified_cover sys state p c t) w) ∙ k)
+notified-union sys state p (At f) Present z w t k =
+    or_right (notified_cover sys state p (At f) t) (notified_cover sys state p Present t) (sym (ap (λ c. notified_cover sys state p c t) w) ∙ k)
+notified-union sys state p (At f) (At g) Present w t k = absurd w
+notified-union sys state p (At f) (At g) (At u) w t k =
+    let b = bounds_of sys.flow p in
+    let ss = flat_map (stamp_of_notice p) (events state.history) in
+    let v = union-within b u (join (frontier_of b f) (frontier_of b g)) w in
+    flag-divides (takes_its_notes (kind_of sys.flow p) (policy_of sys.flow p)) (frontier_of b u) (frontier_of b f) (frontier_of b g)
+    (cover b (filter (frontier_of b u) ss)) (cover b (filter (frontier_of b f) ss)) (cover b (filter (frontier_of b g) ss))
+    v (cover-divides b (frontier_of b u) (frontier_of b f) (frontier_of b g) ss v) t k
+
+all_inside-monotone : (f g : Frontier) → Within f g → (cs : List Stamp) → all_inside f cs ≡ true → all_inside g cs ≡ true
+all_inside-monotone f g w [] k = refl
+all_inside-monotone f g w (c ∷ cs) k =
+    let a = and_parts (f c) (all_inside f cs) k in
+    and_from (g c) (all_inside g cs) (w c a.0) (all_inside-monotone f g w cs a.1)
+
+is_sequence : (kind : Kind) → is_sequence_kind kind ≡ true → kind ≡ Sequence
+is_sequence Sequence e = refl
+is_sequence kind e = absurd (cc)
+
+within_or : (a b : Bool) → (a ≡ true → b ≡ true) → (a || b) ≡ true → b ≡ true
+within_or true b p k = p refl
+within_or false b p k = k
+
+within_either : (a b : Bool) → (b ≡ true → a ≡ true) → (a || b) ≡ true → a ≡ true
+within_either true b p k = refl
+within_either false b p k = p k
+
+-- the messages on an edge all of whose causes are inside come from inside one of two frontiers, as they come from inside both
+sent-divides : (sys : System) (state : Machine) (e : ℕ) (h f g : Frontier) → IsFrontier (bounds_of sys.flow (sender sys.flow e)) f
+    → IsFrontier (bounds_of sys.flow (sender sys.flow e)) g → Within h (join f g)
+    → AllByRecursion (Divides (λ (m : Message). all_inside h m.causes) (λ m. all_inside f m.causes) (λ m. all_inside g m.causes)) (sent sys (events state.history) e)
+unfolding IsOfCause
+sent-divides sys state e h f g ff fg w =
+    let p = sender sys.flow e in
+    let vs = events_at sys.flow p (events state.history) in
+    let one = Divides (λ (m : Message). all_inside h m.causes) (λ m. all_inside f m.causes) (λ m. all_inside g m.causes) in
+    elim (cases_Bool (is_sequence_kind (kind_of sys.flow p))) [
+      | inr n ↦ each-weaker (IsOfCause sys.flow p) one (sent sys (events state.history) e)
+          (λ m c k.
+          let i = (and_parts (h c.0) true (sym (ap (all_inside h) c.2) ∙ k)).0 in
+          elim (or_cases (f c.0) (g c.0) (w c.0 i)) [
+            | inl j ↦ inl (ap (all_inside f) c.2 ∙ and_from (f c.0) true j refl)
+            | inr j ↦ inr (ap (all_inside g) c.2 ∙ and_from (g c.0) true j refl)
+          ])
+          (sent_by-of_cause sys p n vs)
+      | inl s ↦
+          let bounds = bounds-sequence sys.flow p (is_sequence (kind_of sys.flow p) s) in
+          elim (one_within greatest_number f g (subst (λ b. IsFrontier b f) bounds ff) (subst (λ b. IsFrontier b g) bounds fg)) [
+            | inl v ↦ each one (sent sys (events state.history) e) (λ m k. inr (all_inside-monotone h g (λ t i. within_or (f t) (g t) (v t) (w t i)) m.causes k))
+            | inr v ↦ each one (sent sys (events state.history) e) (λ m k. inl (all_inside-monotone h f (λ t i. within_either (f t) (g t) (v t) (w t i)) m.causes k))
+          ]
+    ]
+
+sent_cover-divides : (sys : System) (state : Machine) (e : ℕ) (h f g : Frontier) → IsFrontier (bounds_of sys.flow (sender sys.flow e)) f
+    → IsFrontier (bounds_of sys.flow (sender sys.flow e)) g → Within h (join f g)
+    → Within (sent_cover sys state (sender sys.flow e) e h) (join (sent_cover sys state (sender sys.flow e) e f) (sent_cover sys state (sender sys.flow e) e g))
+sent_cover-divides sys state e h f g ff fg w t k =
+    let ms = sent sys (events state.history) e in
+    let from : Frontier → Message → Bool = λ x m. all_inside x m.causes in
+    and_divides (in_domain (bounds_of sys.flow (receiver sys.flow e)) t) (some_above (stamps_from h ms) t) (some_above (stamps_from f ms) t) (some_above (stamps_from g ms) t)
+    (λ i. ap (λ c. c || some_above (stamps_from g ms) t) (sent-some (from f) ms t) ∙ ap (λ c. some_of (from f) (λ m. m.at) ms t || c) (sent-some (from g) ms t)
+    ∙ some-divides (from h) (from f) (from g) (λ m. m.at) ms t (sent-divides sys state e h f g ff fg w) (sym (sent-some (from h) ms t) ∙ i)) k
+
+discarded_at-divides : (sys : System) (state : Machine) (e : ℕ) (way : Restoring) (h f g : Frontier) → IsFrontier (bounds_of sys.flow (sender sys.flow e)) f
+    → IsFrontier (bounds_of sys.flow (sender sys.flow e)) g → Within h (join f g)
+    → Within (discarded_at sys state (sender sys.flow e) e way h) (join (discarded_at sys state (sender sys.flow e) e way f) (discarded_at sys state (sender sys.flow e) e way g))
+discarded_at-divides sys state e by_anything h f g ff fg w t k = sym (psi-join sys e f g t) ∙ psi-monotone sys e h (join f g) w t k
+discarded_at-divides sys state e way h f g ff fg w t k = sent_cover-divides sys state e h f g ff fg w t k
+
+pub discarded-union : DiscardedOfUnion
+discarded-union sys state e Present y z w t k =
+    let p = sender sys.flow e in
+    or_left (discarded_cover sys state p e Present t) (discarded_cover sys state p e y t) (sym (ap (λ c. discarded_cover sys state p e c t) w) ∙ k)
+discarded-union sys state e (At f) Present z w t k =
+    let p = sender sys.flow e in
+    or_right (discarded_cover sys state p e (At f) t) (discarded_cover sys state p e Present t) (sym (ap (λ c. discarded_cover sys state p e c t) w) ∙ k)
+discarded-union sys state e (At f) (At g) Present w t k = absurd w
+discarded-union sys state e (At f) (At g) (At u) w t k =
+    let p = sender sys.flow e in
+    let b = bounds_of sys.flow p in
+    let way = restoring (kind_of sys.flow p) (policy_of sys.flow p) in
+    let v = union-within b u (join (frontier_of b f) (frontier_of b g)) w in
+    flag-divides (can_resend (policy_of sys.flow p)) nothing nothing nothing
+    (discarded_at sys state p e way (frontier_of b u)) (discarded_at sys state p e way (frontier_of b f)) (discarded_at sys state p e way (frontier_of b g))
+    (λ s i. i)
+    (discarded_at-divides sys state e way (frontier_of b u) (frontier_of b f) (frontier_of b g) (frontier-closed b f) (frontier-closed b g) v) t k
+
+-- ---- the union of two choices
+
+-- each of two cuts lies within their union
+left-within : (sys : System) (p : ℕ) (x y z : Cut) → IsUnionOfCuts sys p x y z → Within (set_of sys p x) (set_of sys p z)
+left-within sys p Present y z w t k = ap (λ c. set_of sys p c t) w ∙ k
+left-within sys p (At f) Present z w t k =
+    ap (λ c. set_of sys p c t) w ∙ (and_parts (in_domain (bounds_of sys.flow p) t) (inside f t) k).0
+left-within sys p (At f) (At g) Present w t k = absurd w
+left-within sys p (At f) (At g) (At u) w t k =
+    w.same t ∙ or_left (frontier_of (bounds_of sys.flow p) f t) (frontier_of (bounds_of sys.flow p) g t) k
+
+right-within : (sys : System) (p : ℕ) (x y z : Cut) → IsUnionOfCuts sys p x y z → Within (set_of sys p y) (set_of sys p z)
+right-within sys p Present Present z w t k = ap (λ c. set_of sys p c t) w ∙ k
+right-within sys p Present (At g) z w t k =
+    ap (λ c. set_of sys p c t) w ∙ (and_parts (in_domain (bounds_of sys.flow p) t) (inside g t) k).0
+right-within sys p (At f) Present z w t k = ap (λ c. set_of sys p c t) w ∙ k
+right-within sys p (At f) (At g) Present w t k = absurd w
+right-within sys p (At f) (At g) (At u) w t k =
+    w.same t ∙ or_right (frontier_of (bounds_of sys.flow p) f t) (frontier_of (bounds_of sys.flow p) g t) k
+
+past-union : (sys : System) (p : ℕ) (x y z : Cut) → x ≡ Present → y ≡ Present → z ≡ Present → IsUnionOfCuts sys p x y z
+past-union sys p Present y z a b c = c
+past-union sys p (At f) y z a b c = absurd (cc)
+
+-- past the last node too, the cut is the union
+cuts-union : (sys : System) (one other union : Choice) → length one.cuts ≡ length sys.flow.nodes → length other.cuts ≡ length sys.flow.nodes
+    → IsUnionOfChoices sys one other union → (p : ℕ) → IsUnionOfCuts sys p (cut_of one p) (cut_of other p) (cut_of union p)
+cuts-union sys one other union a b w p = elim (cases_lt p (length sys.flow.nodes)) [
+  | inl l ↦ w.cuts p l
+  | inr l ↦ past-union sys p (cut_of one p) (cut_of other p) (cut_of union p)
+      (get_or_past one.cuts p Present (omega arith)) (get_or_past other.cuts p Present (omega arith)) (get_or_past union.cuts p Present (omega (arith, w.one_cut_each)))
+]
+
+same_bits : (a b c : Bool) → b ≡ a → c ≡ a → a ≡ (b || c)
+same_bits true b c p q = sym (or_left b c p)
+same_bits false b c p q = sym (ap (λ x. x || c) p ∙ q)
+
+-- and so are the notification frontiers
+notes-union : (sys : System) (one other union : Choice) → length one.notes ≡ length sys.flow.nodes → length other.notes ≡ length sys.flow.nodes
+    → IsUnionOfChoices sys one other union → (p : ℕ) (t : Stamp) → note_of sys union p t ≡ join (note_of sys one p) (note_of sys other p) t
+notes-union sys one other union a b w p t = elim (cases_lt p (length sys.flow.nodes)) [
+  | inl l ↦ (w.notes p l).same t
+  | inr l ↦
+      let past = frontier_of (bounds_of sys.flow p) [] t in
+      let i : note_of sys one p t ≡ past = ap (λ os. frontier_of (bounds_of sys.flow p) os t) (get_or_past one.notes p [] (omega arith)) in
+      let j : note_of sys other p t ≡ past = ap (λ os. frontier_of (bounds_of sys.flow p) os t) (get_or_past other.notes p [] (omega arith)) in
+      let k : note_of sys union p t ≡ past = ap (λ os. frontier_of (bounds_of sys.flow p) os t) (get_or_past union.notes p [] (omega (arith, w.one_note_each))) in
+      k ∙ same_bits past (note_of sys one p t) (note_of sys other p t) i j
+]
+
+-- what divides into two parts, each within the whole, lies within the whole
+divided : (h f g whole : Frontier) → Within h (join f g) → Within f whole → Within g whole → Within h whole
+divided h f g whole w v u t k = elim (or_cases (f t) (g t) (w t k)) [ inl i ↦ v t i | inr i ↦ u t i ]
+
+-- the union of consistent choices is consistent
+pub union-consistent : UnionOfConsistentIsConsistent
+union-consistent sys state lost view one other union a b w offered =
+    let h = events state.history in
+    let cut = cuts-union sys one other union a.one_cut_each b.one_cut_each w in
+    let note = notes-union sys one other union a.one_note_each b.one_note_each w in
+    let left : (p : ℕ) → Within (kept_of sys one p) (kept_of sys union p) = λ p. left-within sys p (cut_of one p) (cut_of other p) (cut_of union p) (cut p) in
+    let right : (p : ℕ) → Within (kept_of sys other p) (kept_of sys union p) = λ p. right-within sys p (cut_of one p) (cut_of other p) (cut_of union p) (cut p) in
+    let note_left : (p : ℕ) → Within (note_of sys one p) (note_of sys union p) = λ p t k. note p t ∙ or_left (note_of sys one p t) (note_of sys other p t) k in
+    let note_right : (p : ℕ) → Within (note_of sys other p) (note_of sys union p) = λ p t k. note p t ∙ or_right (note_of sys one p t) (note_of sys other p t) k in
+    let note_parts : (p : ℕ) → Within (note_of sys union p) (join (note_of sys one p) (note_of sys other p)) = λ p t k. sym (note p t) ∙ k in
+    record {
+      one_cut_each = w.one_cut_each;
+      one_note_each = w.one_note_each;
+      offered = offered;
+      canonical = λ p l. (w.notes p l).canonical;
+      delivered = λ d l.
+          let p = receiver sys.flow d in
+          let q = sender sys.flow d in
+          divided (delivered_cover sys state p d (cut_of union p)) (delivered_cover sys state p d (cut_of one p)) (delivered_cover sys state p d (cut_of other p)) (phi sys h d (kept_of sys union q))
+          (delivered-union sys state p d (cut_of one p) (cut_of other p) (cut_of union p) (cut p))
+          (λ t i. phi-monotone sys h d (kept_of sys one q) (kept_of sys union q) (left q) t (a.delivered d l t i))
+          (λ t i. phi-monotone sys h d (kept_of sys other q) (kept_of sys union q) (right q) t (b.delivered d l t i));
+      discarded = λ e l.
+          let p = receiver sys.flow e in
+          let q = sender sys.flow e in
+          divided (discarded_cover sys state q e (cut_of union q)) (discarded_cover sys state q e (cut_of one q)) (discarded_cover sys state q e (cut_of other q)) (kept_of sys union p)
+          (discarded-union sys state e (cut_of one q) (cut_of other q) (cut_of union q) (cut q))
+          (λ t i. left p t (a.discarded e l t i)) (λ t i. right p t (b.discarded e l t i));
+      notified = λ p l.
+          divided (notified_cover sys state p (cut_of union p)) (notified_cover sys state p (cut_of one p)) (notified_cover sys state p (cut_of other p)) (note_of sys union p)
+          (notified-union sys state p (cut_of one p) (cut_of other p) (cut_of union p) (cut p))
+          (λ t i. note_left p t (a.notified p l t i)) (λ t i. note_right p t (b.notified p l t i));
+      own = λ p l. divided (note_of sys union p) (note_of sys one p) (note_of sys other p) (kept_of sys union p) (note_parts p)
+          (λ t i. left p t (a.own p l t i)) (λ t i. right p t (b.own p l t i));
+      notes = λ d l.
+          let p = receiver sys.flow d in
+          let q = sender sys.flow d in
+          divided (note_of sys union p) (note_of sys one p) (note_of sys other p) (phi sys h d (note_of sys union q)) (note_parts p)
+          (λ t i. phi-monotone sys h d (note_of sys one q) (note_of sys union q) (note_left q) t (a.notes d l t i))
+          (λ t i. phi-monotone sys h d (note_of sys other q) (note_of sys union q) (note_right q) t (b.notes d l t i));
+    }

@@ -1,11 +1,56 @@
--- Laws of choices: there is one largest choice.
-use Rattle.std.specs.Prelude.{◌≡◌, ℕ, Bool}
-use Rattle.fw_flow.specs.Dataflow.{System}
-use Rattle.fw_model.specs.Machine.{Machine}
-use Rattle.fw_model.specs.Choice.{View, Choice, IsCandidate, IsLargest}
+-- Laws of choices: there is one largest choice, and the union of consistent choices is consistent.
+use Rattle.std.specs.Prelude.{◌≡◌, ℕ, ◌<◌, Bool, length}
+use Rattle.fw_frontier.specs.Frontier.{Within, join}
+use Rattle.fw_frontier.specs.Front.{frontier_of, Names}
+use Rattle.fw_flow.specs.declared.choice.Cut.{Cut}
+use Rattle.fw_flow.specs.declared.choice.Cut.TheVariants.{Present, At}
+use Rattle.fw_flow.specs.Dataflow.{System, sender, bounds_of}
+use Rattle.fw_model.specs.Machine.{Machine, front_of}
+use Rattle.fw_model.specs.Choice.{View, Choice, IsCandidate, IsConsistent, IsLargest, cut_of, note_of, delivered_cover, notified_cover, discarded_cover}
 
 -- a largest choice of the restore candidates is the only one: two of them are the same cuts and the same lists of stamps
 abbrev pub LargestChoiceIsOne : Type 0
 LargestChoiceIsOne = (sys : System) (state : Machine) (lost : ℕ → Bool) (view : View) (one other : Choice)
     → IsLargest sys state (IsCandidate sys state lost view) one → IsLargest sys state (IsCandidate sys state lost view) other
     → one ≡ other
+
+-- a cut of node p is the union of two: its state as it is where one of them is, else what is inside one of them
+abbrev pub IsUnionOfCuts : System → ℕ → Cut → Cut → Cut → Type 0
+IsUnionOfCuts sys p Present other union = union ≡ Present
+IsUnionOfCuts sys p (At f) Present union = union ≡ Present
+IsUnionOfCuts sys p (At f) (At g) Present = ⊥
+IsUnionOfCuts sys p (At f) (At g) (At u) =
+    Names (bounds_of sys.flow p) u (join (frontier_of (bounds_of sys.flow p) f) (frontier_of (bounds_of sys.flow p) g))
+
+-- a choice is the union of two at every node
+pub record IsUnionOfChoices (sys : System) (one other union : Choice) : Type 0 where
+  pub one_cut_each : length union.cuts ≡ length sys.flow.nodes
+  pub one_note_each : length union.notes ≡ length sys.flow.nodes
+  pub cuts : (p : ℕ) → p < length sys.flow.nodes → IsUnionOfCuts sys p (cut_of one p) (cut_of other p) (cut_of union p)
+  pub notes : (p : ℕ) → p < length sys.flow.nodes
+      → Names (bounds_of sys.flow p) (front_of union.notes p) (join (note_of sys one p) (note_of sys other p))
+
+-- what counts as delivered inside the union of two cuts counts as delivered inside one of them
+abbrev pub DeliveredOfUnion : Type 0
+DeliveredOfUnion = (sys : System) (state : Machine) (p d : ℕ) (one other union : Cut) → IsUnionOfCuts sys p one other union
+    → Within (delivered_cover sys state p d union) (join (delivered_cover sys state p d one) (delivered_cover sys state p d other))
+
+-- what counts as notified inside the union of two cuts counts as notified inside one of them
+abbrev pub NotifiedOfUnion : Type 0
+NotifiedOfUnion = (sys : System) (state : Machine) (p : ℕ) (one other union : Cut) → IsUnionOfCuts sys p one other union
+    → Within (notified_cover sys state p union) (join (notified_cover sys state p one) (notified_cover sys state p other))
+
+-- what a node sent inside the union of two cuts and cannot send again, it sent inside one of them
+abbrev pub DiscardedOfUnion : Type 0
+DiscardedOfUnion = (sys : System) (state : Machine) (e : ℕ) (one other union : Cut)
+    → IsUnionOfCuts sys (sender sys.flow e) one other union
+    → Within (discarded_cover sys state (sender sys.flow e) e union)
+    (join (discarded_cover sys state (sender sys.flow e) e one) (discarded_cover sys state (sender sys.flow e) e other))
+
+-- the union of two consistent choices of the restore candidates is consistent, where it is offered
+abbrev pub UnionOfConsistentIsConsistent : Type 0
+UnionOfConsistentIsConsistent = (sys : System) (state : Machine) (lost : ℕ → Bool) (view : View) (one other union : Choice)
+    → IsConsistent sys state (IsCandidate sys state lost view) one
+    → IsConsistent sys state (IsCandidate sys state lost view) other → IsUnionOfChoices sys one other union
+    → ((p : ℕ) → p < length sys.flow.nodes → IsCandidate sys state lost view p (cut_of union p))
+    → IsConsistent sys state (IsCandidate sys state lost view) union

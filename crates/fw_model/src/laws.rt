@@ -1,5 +1,5 @@
 //! The laws of the definitions: each function's `ensures` is one law, and its body is empty.
-ghost use Rattle.fw_model.specs.LawsOfChoices.{LargestChoiceIsOne};
+ghost use Rattle.fw_model.specs.LawsOfChoices.{DeliveredOfUnion, DiscardedOfUnion, LargestChoiceIsOne, NotifiedOfUnion, UnionOfConsistentIsConsistent};
 ghost use Rattle.fw_model.specs.LawsOfCompleteFrontiers.{AdmissibleStaysAdmissible, EnabledIsOutside, LegalInsidePhiComesFromInside, SequencesAreNotifiedInOrder};
 ghost use Rattle.fw_model.specs.LawsOfLegalHistories.{LegalEventsAreInDomain, LegalMessagesAreInDomain, OnlyInputsInject};
 ghost use Rattle.fw_model.specs.LawsOfProjections.{PhiGrowsWithHistory, PhiIgnoresHistory, PhiIsFrontier, PhiIsMonotone, PhiOfEverything, PhiOfMeet, PsiIsFrontier, PsiIsMonotone, PsiOfJoin, PsiOfNothing, PsiOfUnion};
@@ -143,4 +143,24 @@ pub fn legal_inside_phi_comes_from_inside()
 /// A largest choice of the restore candidates is the only one.
 pub fn largest_choice_is_one()
     ensures { LargestChoiceIsOne }
+{}
+
+/// What counts as delivered inside the union of two cuts counts as delivered inside one of them.
+pub fn delivered_of_union()
+    ensures { DeliveredOfUnion }
+{}
+
+/// What counts as notified inside the union of two cuts counts as notified inside one of them.
+pub fn notified_of_union()
+    ensures { NotifiedOfUnion }
+{}
+
+/// What a node sent inside the union of two cuts and cannot send again, it sent inside one of them.
+pub fn discarded_of_union()
+    ensures { DiscardedOfUnion }
+{}
+
+/// The union of two consistent choices of the restore candidates is consistent, where it is offered.
+pub fn union_of_consistent_is_consistent()
+    ensures { UnionOfConsistentIsConsistent }
 {}

@@ -12,14 +12,17 @@ use Rattle.fw_flow.specs.declared.choice.Cut.{Cut}
 use Rattle.fw_flow.specs.declared.choice.Cut.TheVariants.{Present, At}
 use Rattle.fw_flow.specs.declared.event.Message.{Message}
 use Rattle.fw_flow.specs.declared.kind.Kind.{Kind}
-use Rattle.fw_flow.specs.declared.kind.Kind.TheVariants.{Sequence}
-use Rattle.fw_flow.specs.Dataflow.{System, kind_of, policy_of, sender, receiver, bounds_of, greatest_number}
+use Rattle.fw_flow.specs.declared.kind.Kind.TheVariants.{Input, OutputEpoch, OutputNumber, Sequence}
+use Rattle.fw_flow.specs.declared.kind.Policy.{Policy}
+use Rattle.fw_flow.specs.declared.kind.Policy.TheVariants as policy
+use Rattle.fw_flow.specs.Dataflow.{System, Dataflow, kind_of, policy_of, sender, receiver, domain_of_kind, bounds_of, bounds_of_domain, greatest_number}
+use Rattle.fw_flow.specs.NodeFunction.{stamp}
 use Rattle.fw_flow.specs.Projection.{events_at, all_inside, phi}
 use Rattle.fw_model.specs.History.{delivered, sent}
 use Rattle.fw_model.specs.LawsOfProjections.{is_sequence_kind}
-use Rattle.fw_model.specs.Machine.{Machine, events, front_of}
-use Rattle.fw_model.specs.Choice.{View, Restoring, by_anything, restoring, can_resend, Choice, IsCandidate, IsCutWithin, stamp_of_notice, stamps_from, set_of, takes_its_cut, takes_its_notes, cut_of, note_of, kept_of, delivered_cover, notified_cover, sent_cover, discarded_at, discarded_cover}
-use Rattle.fw_model.specs.LawsOfChoices.{LargestChoiceIsOne, IsUnionOfCuts, IsUnionOfChoices, DeliveredOfUnion, NotifiedOfUnion, DiscardedOfUnion, UnionOfConsistentIsConsistent}
+use Rattle.fw_model.specs.Machine.{Machine, Numbered, Write, bound_of, events, front_of}
+use Rattle.fw_model.specs.Choice.{View, kept, ever, Restoring, by_batches, by_bound, by_anything, by_checkpoints, by_events, until, AllLogged, IsRestorable, HoldsLow, restoring_of_policy, restoring, can_resend, Choice, IsCandidate, IsCutWithin, stamp_of_notice, stamps_from, set_of, takes_its_cut, takes_its_notes, cut_of, note_of, kept_of, delivered_cover, notified_cover, sent_cover, discarded_at, discarded_cover}
+use Rattle.fw_model.specs.LawsOfChoices.{LargestChoiceIsOne, IsUnionOfCuts, IsUnionOfChoices, DeliveredOfUnion, NotifiedOfUnion, DiscardedOfUnion, UnionOfCandidatesIsCandidate, UnionOfConsistentIsConsistent}
 use Rattle.fw_model.proofs.EachLaws.{each-weaker}
 use Rattle.fw_model.proofs.PhiLaws.{phi-monotone}
 use Rattle.fw_model.proofs.PsiLaws.{same_tests, psi-monotone, psi-join}
@@ -238,6 +241,110 @@ discarded-union sys state e (At f) (At g) (At u) w t k =
     (λ s i. i)
     (discarded_at-divides sys state e way (frontier_of b u) (frontier_of b f) (frontier_of b g) (frontier-closed b f) (frontier-closed b g) v) t k
 
+-- ---- the union of two candidates
+
+-- what divides into two parts, each within the whole, lies within the whole
+divided : (h f g whole : Frontier) → Within h (join f g) → Within f whole → Within g whole → Within h whole
+divided h f g whole w v u t k = elim (or_cases (f t) (g t) (w t k)) [ inl i ↦ v t i | inr i ↦ u t i ]
+
+-- each event inside the union is logged, as each inside one of the two is
+logged-union : (sys : System) (p : ℕ) (h f g : Frontier) → Within h (join f g) → (writes : List Write) (vs : List Numbered)
+    → AllLogged sys p f writes vs → AllLogged sys p g writes vs → AllLogged sys p h writes vs
+logged-union sys p h f g w writes [] a b = tt
+logged-union sys p h f g w writes (v ∷ vs) a b = (
+  λ e k. elim (or_cases (f (stamp v.event)) (g (stamp v.event)) (w (stamp v.event) k)) [ inl i ↦ a.0 e i | inr i ↦ b.0 e i ],
+  logged-union sys p h f g w writes vs a.1 b.1,
+)
+
+-- of two fronts one of which lies within the other, the union is one
+greater-union : (b : Bounds) (f g u : Front) → IsCanonical b f → IsCanonical b g → Names b u (join (frontier_of b f) (frontier_of b g))
+    → Within (frontier_of b f) (frontier_of b g) ⊎ Within (frontier_of b g) (frontier_of b f) → (u ≡ f) ⊎ (u ≡ g)
+greater-union b f g u cf cg n way = elim way [
+  | inl v ↦ inr (same_fronts b u g n.canonical cg (λ t k. within_or (frontier_of b f t) (frontier_of b g t) (v t) (sym (n.same t) ∙ k))
+      (λ t k. n.same t ∙ or_right (frontier_of b f t) (frontier_of b g t) k))
+  | inr v ↦ inl (same_fronts b u f n.canonical cf (λ t k. within_either (frontier_of b f t) (frontier_of b g t) (v t) (sym (n.same t) ∙ k))
+      (λ t k. n.same t ∙ or_left (frontier_of b f t) (frontier_of b g t) k))
+]
+
+-- one of two fronts lies within the other
+OneWithin : Bounds → Front → Front → Type 0
+OneWithin b f g = Within (frontier_of b f) (frontier_of b g) ⊎ Within (frontier_of b g) (frontier_of b f)
+
+chain-union : (sys : System) (state : Machine) (view : View) (p : ℕ) (way : Restoring) (f g u : Front) → IsCanonical (bounds_of sys.flow p) f
+    → IsCanonical (bounds_of sys.flow p) g → Names (bounds_of sys.flow p) u (join (frontier_of (bounds_of sys.flow p) f) (frontier_of (bounds_of sys.flow p) g))
+    → OneWithin (bounds_of sys.flow p) f g → IsRestorable sys state view p way f → IsRestorable sys state view p way g → IsRestorable sys state view p way u
+unfolding OneWithin
+chain-union sys state view p way f g u cf cg n one a b = elim (greater-union (bounds_of sys.flow p) f g u cf cg n one) [
+  | inl e ↦ subst (λ x. IsRestorable sys state view p way x) (sym e) a
+  | inr e ↦ subst (λ x. IsRestorable sys state view p way x) (sym e) b
+]
+
+restorable-union : (sys : System) (state : Machine) (view : View) (p : ℕ) (way : Restoring) (f g u : Front) → IsCanonical (bounds_of sys.flow p) f
+    → IsCanonical (bounds_of sys.flow p) g → Names (bounds_of sys.flow p) u (join (frontier_of (bounds_of sys.flow p) f) (frontier_of (bounds_of sys.flow p) g))
+    → (way ≡ by_batches → OneWithin (bounds_of sys.flow p) f g) → (way ≡ by_checkpoints → OneWithin (bounds_of sys.flow p) f g)
+    → IsRestorable sys state view p way f → IsRestorable sys state view p way g → IsRestorable sys state view p way u
+restorable-union sys state view p by_batches f g u cf cg n m c a b = chain-union sys state view p by_batches f g u cf cg n (m refl) a b
+restorable-union sys state view p by_bound f g u cf cg n m c a b =
+    let s = bounds_of sys.flow p in
+    let v = union-within s u (join (frontier_of s f) (frontier_of s g)) n in (
+      divided (frontier_of s u) (frontier_of s f) (frontier_of s g) (frontier_of s (front_of state.settled p)) v a.0 b.0,
+      divided (frontier_of s u) (frontier_of s f) (frontier_of s g) (frontier_of s (until (bound_of state p))) v a.1 b.1,
+    )
+restorable-union sys state view p by_anything f g u cf cg n m c a b =
+    let s = bounds_of sys.flow p in
+    divided (frontier_of s u) (frontier_of s f) (frontier_of s g) (frontier_of s (front_of state.settled p))
+    (union-within s u (join (frontier_of s f) (frontier_of s g)) n) a b
+restorable-union sys state view p by_checkpoints f g u cf cg n m c a b = chain-union sys state view p by_checkpoints f g u cf cg n (c refl) a b
+restorable-union sys state view p by_events f g u cf cg n m c a b =
+    let s = bounds_of sys.flow p in
+    let v = union-within s u (join (frontier_of s f) (frontier_of s g)) n in (
+      divided (frontier_of s u) (frontier_of s f) (frontier_of s g) (frontier_of s (front_of state.settled p)) v a.0 b.0,
+      logged-union sys p (frontier_of s u) (frontier_of s f) (frontier_of s g) v state.writes state.history a.1 b.1,
+    )
+
+low-union : (view : View) (low f u : Frontier) → Within f u → HoldsLow view low f → HoldsLow view low u
+low-union kept low f u w h = λ t k. w t (h t k)
+low-union ever low f u w h = tt
+
+-- only an input is restored by its batches
+not_by_batches : (p : Policy) → restoring_of_policy p ≡ by_batches → ⊥
+not_by_batches policy.None e = cc
+not_by_batches policy.Lazy e = cc
+not_by_batches policy.Logged e = cc
+not_by_batches policy.Eager e = cc
+not_by_batches policy.Full e = cc
+
+by_batches-input : (kind : Kind) (p : Policy) → restoring kind p ≡ by_batches → kind ≡ Input
+by_batches-input Input p e = refl
+by_batches-input OutputEpoch p e = absurd (cc)
+by_batches-input OutputNumber p e = absurd (cc)
+by_batches-input kind p e = absurd (not_by_batches p e)
+
+bounds-input : (flow : Dataflow) (p : ℕ) → kind_of flow p ≡ Input → bounds_of flow p ≡ record { greatest = greatest_number ∷ [] }
+unfolding bounds_of
+bounds-input flow p is = ap (λ k. bounds_of_domain flow (domain_of_kind flow k)) is
+
+batches-chain : (sys : System) (p : ℕ) (f g : Front) → restoring (kind_of sys.flow p) (policy_of sys.flow p) ≡ by_batches → OneWithin (bounds_of sys.flow p) f g
+unfolding OneWithin
+batches-chain sys p f g e =
+    let b = bounds_of sys.flow p in
+    let line = bounds-input sys.flow p (by_batches-input (kind_of sys.flow p) (policy_of sys.flow p) e) in
+    one_within greatest_number (frontier_of b f) (frontier_of b g) (subst (λ s. IsFrontier s (frontier_of b f)) line (frontier-closed b f))
+    (subst (λ s. IsFrontier s (frontier_of b g)) line (frontier-closed b g))
+
+pub candidates-union : UnionOfCandidatesIsCandidate
+unfolding OneWithin
+candidates-union sys state lost view p Present y z i j w c = subst (λ x. IsCandidate sys state lost view p x) (sym w) i
+candidates-union sys state lost view p (At f) Present z i j w c = subst (λ x. IsCandidate sys state lost view p x) (sym w) j
+candidates-union sys state lost view p (At f) (At g) Present i j w c = absurd w
+candidates-union sys state lost view p (At f) (At g) (At u) i j w c =
+    let b = bounds_of sys.flow p in (
+      w.canonical,
+      restorable-union sys state view p (restoring (kind_of sys.flow p) (policy_of sys.flow p)) f g u i.0 j.0 w (batches-chain sys p f g) c i.1 j.1,
+      low-union view (frontier_of b (front_of state.low p)) (frontier_of b f) (frontier_of b u)
+          (λ t k. w.same t ∙ or_left (frontier_of b f t) (frontier_of b g t) k) i.2,
+    )
+
 -- ---- the union of two choices
 
 -- each of two cuts lies within their union
@@ -287,10 +394,6 @@ notes-union sys one other union a b w p t = elim (cases_lt p (length sys.flow.no
       let k : note_of sys union p t ≡ past = ap (λ os. frontier_of (bounds_of sys.flow p) os t) (get_or_past union.notes p [] (omega (arith, w.one_note_each))) in
       k ∙ same_bits past (note_of sys one p t) (note_of sys other p t) i j
 ]
-
--- what divides into two parts, each within the whole, lies within the whole
-divided : (h f g whole : Frontier) → Within h (join f g) → Within f whole → Within g whole → Within h whole
-divided h f g whole w v u t k = elim (or_cases (f t) (g t) (w t k)) [ inl i ↦ v t i | inr i ↦ u t i ]
 
 -- the union of consistent choices is consistent
 pub union-consistent : UnionOfConsistentIsConsistent

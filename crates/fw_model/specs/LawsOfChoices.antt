@@ -1,12 +1,12 @@
 -- Laws of choices: there is one largest choice, and the union of consistent choices is consistent.
-use Rattle.std.specs.Prelude.{◌≡◌, ℕ, ◌<◌, Bool, length}
+use Rattle.std.specs.Prelude.{◌≡◌, ◌⊎◌, ℕ, ◌<◌, Bool, length}
 use Rattle.fw_frontier.specs.Frontier.{Within, join}
 use Rattle.fw_frontier.specs.Front.{frontier_of, Names}
 use Rattle.fw_flow.specs.declared.choice.Cut.{Cut}
 use Rattle.fw_flow.specs.declared.choice.Cut.TheVariants.{Present, At}
-use Rattle.fw_flow.specs.Dataflow.{System, sender, bounds_of}
+use Rattle.fw_flow.specs.Dataflow.{System, kind_of, policy_of, sender, bounds_of}
 use Rattle.fw_model.specs.Machine.{Machine, front_of}
-use Rattle.fw_model.specs.Choice.{View, Choice, IsCandidate, IsConsistent, IsLargest, cut_of, note_of, delivered_cover, notified_cover, discarded_cover}
+use Rattle.fw_model.specs.Choice.{View, by_checkpoints, restoring, Choice, IsCandidate, IsConsistent, IsCutWithin, IsLargest, cut_of, note_of, delivered_cover, notified_cover, discarded_cover}
 
 -- a largest choice of the restore candidates is the only one: two of them are the same cuts and the same lists of stamps
 abbrev pub LargestChoiceIsOne : Type 0
@@ -29,6 +29,15 @@ pub record IsUnionOfChoices (sys : System) (one other union : Choice) : Type 0 w
   pub cuts : (p : ℕ) → p < length sys.flow.nodes → IsUnionOfCuts sys p (cut_of one p) (cut_of other p) (cut_of union p)
   pub notes : (p : ℕ) → p < length sys.flow.nodes
       → Names (bounds_of sys.flow p) (front_of union.notes p) (join (note_of sys one p) (note_of sys other p))
+
+-- The union of two candidates of a node is a candidate; where it is restored by its checkpoints, if one of the two lies
+-- within the other.
+abbrev pub UnionOfCandidatesIsCandidate : Type 0
+UnionOfCandidatesIsCandidate = (sys : System) (state : Machine) (lost : ℕ → Bool) (view : View) (p : ℕ) (one other union : Cut)
+    → IsCandidate sys state lost view p one → IsCandidate sys state lost view p other → IsUnionOfCuts sys p one other union
+    → (restoring (kind_of sys.flow p) (policy_of sys.flow p) ≡ by_checkpoints
+    → IsCutWithin sys p one other ⊎ IsCutWithin sys p other one)
+    → IsCandidate sys state lost view p union
 
 -- what counts as delivered inside the union of two cuts counts as delivered inside one of them
 abbrev pub DeliveredOfUnion : Type 0

@@ -1,5 +1,5 @@
 //! The laws of the definitions: each function's `ensures` is one law, and its body is empty.
-ghost use Rattle.fw_model.specs.LawsOfChoices.{DeliveredOfUnion, DiscardedOfUnion, LargestChoiceIsOne, NotifiedOfUnion, UnionOfConsistentIsConsistent};
+ghost use Rattle.fw_model.specs.LawsOfChoices.{DeliveredOfUnion, DiscardedOfUnion, LargestChoiceIsOne, NotifiedOfUnion, UnionOfCandidatesIsCandidate, UnionOfConsistentIsConsistent};
 ghost use Rattle.fw_model.specs.LawsOfCompleteFrontiers.{AdmissibleStaysAdmissible, EnabledIsOutside, LegalInsidePhiComesFromInside, SequencesAreNotifiedInOrder};
 ghost use Rattle.fw_model.specs.LawsOfLegalHistories.{LegalEventsAreInDomain, LegalMessagesAreInDomain, OnlyInputsInject};
 ghost use Rattle.fw_model.specs.LawsOfProjections.{PhiGrowsWithHistory, PhiIgnoresHistory, PhiIsFrontier, PhiIsMonotone, PhiOfEverything, PhiOfMeet, PsiIsFrontier, PsiIsMonotone, PsiOfJoin, PsiOfNothing, PsiOfUnion};
@@ -158,6 +158,11 @@ pub fn notified_of_union()
 /// What a node sent inside the union of two cuts and cannot send again, it sent inside one of them.
 pub fn discarded_of_union()
     ensures { DiscardedOfUnion }
+{}
+
+/// The union of two candidates of a node is a candidate, and of two checkpoints if one lies within the other.
+pub fn union_of_candidates_is_candidate()
+    ensures { UnionOfCandidatesIsCandidate }
 {}
 
 /// The union of two consistent choices of the restore candidates is consistent, where it is offered.

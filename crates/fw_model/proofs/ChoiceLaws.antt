@@ -3,11 +3,14 @@ use Rattle.std.proofs.Common.{◌≡◌, ℕ, ◌<◌, Bool, true, false, ◌&&�
 use Rattle.std.specs.List.{AllByRecursion, flat_map}
 use Rattle.std.proofs.lemmas.Bool.{and_parts, and_from, or_cases, or_left, or_right, cases_Bool, cases_lt}
 use Rattle.std.proofs.lemmas.List.{ext_get_or, get_or_past}
+use Rattle.std.proofs.lemmas.List.FromFn.{get_or-map-range_with_len, length-map-range_with_len}
+use Rattle.std.specs.List.{range_with_len}
+use Rattle.fw_frontier.specs.Outside.{excluding_pairs}
 use Rattle.fw_time.specs.Stamp.{Stamp, leq, in_domain}
 use Rattle.fw_time.specs.declared.stamp.Bounds.{Bounds}
 use Rattle.fw_frontier.specs.Frontier.{Frontier, IsFrontier, Within, nothing, join, cover, some_above}
 use Rattle.fw_frontier.specs.Front.{Front, inside, frontier_of, IsCanonical, Names}
-use Rattle.fw_frontier.proofs.NamesLaws.{names-self, names-same, frontier-closed}
+use Rattle.fw_frontier.proofs.NamesLaws.{names-join, names-self, names-same, frontier-closed}
 use Rattle.fw_flow.specs.declared.choice.Cut.{Cut}
 use Rattle.fw_flow.specs.declared.choice.Cut.TheVariants.{Present, At}
 use Rattle.fw_flow.specs.declared.event.Message.{Message}
@@ -22,7 +25,7 @@ use Rattle.fw_model.specs.History.{delivered, sent}
 use Rattle.fw_model.specs.LawsOfProjections.{is_sequence_kind}
 use Rattle.fw_model.specs.Machine.{Machine, Numbered, Write, bound_of, events, front_of}
 use Rattle.fw_model.specs.Choice.{View, kept, ever, Restoring, by_batches, by_bound, by_anything, by_checkpoints, by_events, until, AllLogged, IsRestorable, HoldsLow, restoring_of_policy, restoring, can_resend, Choice, IsCandidate, IsCutWithin, stamp_of_notice, stamps_from, set_of, takes_its_cut, takes_its_notes, cut_of, note_of, kept_of, delivered_cover, notified_cover, sent_cover, discarded_at, discarded_cover}
-use Rattle.fw_model.specs.LawsOfChoices.{LargestChoiceIsOne, IsUnionOfCuts, IsUnionOfChoices, DeliveredOfUnion, NotifiedOfUnion, DiscardedOfUnion, UnionOfCandidatesIsCandidate, UnionOfConsistentIsConsistent}
+use Rattle.fw_model.specs.LawsOfChoices.{ConsistentChoicesHaveUnion, EachLiesWithinUnion, LargestChoiceIsOne, IsUnionOfCuts, IsUnionOfChoices, DeliveredOfUnion, NotifiedOfUnion, DiscardedOfUnion, UnionOfCandidatesIsCandidate, UnionOfConsistentIsConsistent}
 use Rattle.fw_model.proofs.EachLaws.{each-weaker}
 use Rattle.fw_model.proofs.PhiLaws.{phi-monotone}
 use Rattle.fw_model.proofs.PsiLaws.{same_tests, psi-monotone, psi-join}
@@ -437,3 +440,59 @@ union-consistent sys state lost view one other union a b w offered =
           (λ t i. phi-monotone sys h d (note_of sys one q) (note_of sys union q) (note_left q) t (a.notes d l t i))
           (λ t i. phi-monotone sys h d (note_of sys other q) (note_of sys union q) (note_right q) t (b.notes d l t i));
     }
+
+-- ---- each two choices have a union, which they lie within
+
+union_cut : Cut → Cut → Cut
+union_cut Present y = Present
+union_cut (At f) Present = Present
+union_cut (At f) (At g) = At (excluding_pairs f g [])
+
+union_cut-union : (sys : System) (state : Machine) (lost : ℕ → Bool) (view : View) (p : ℕ) (x y : Cut) → IsCandidate sys state lost view p x
+    → IsCandidate sys state lost view p y → IsUnionOfCuts sys p x y (union_cut x y)
+unfolding union_cut
+union_cut-union sys state lost view p Present y i j = refl
+union_cut-union sys state lost view p (At f) Present i j = refl
+union_cut-union sys state lost view p (At f) (At g) i j = names-join (bounds_of sys.flow p) f g i.0 j.0
+
+pub have-union : ConsistentChoicesHaveUnion
+have-union sys state lost view one other a b =
+    let n = length sys.flow.nodes in
+    let cut : ℕ → Cut = λ p. union_cut (cut_of one p) (cut_of other p) in
+    let note : ℕ → Front = λ p. excluding_pairs (front_of one.notes p) (front_of other.notes p) [] in (
+      record { cuts = map cut (range_with_len 0 n); notes = map note (range_with_len 0 n) },
+      record {
+        one_cut_each = length-map-range_with_len cut 0 n;
+        one_note_each = length-map-range_with_len note 0 n;
+        cuts = λ p l. subst (λ z. IsUnionOfCuts sys p (cut_of one p) (cut_of other p) z) (sym (get_or-map-range_with_len cut 0 n p p Present l (omega arith)))
+            (union_cut-union sys state lost view p (cut_of one p) (cut_of other p) (a.offered p l) (b.offered p l));
+        notes = λ p l. subst (λ os. Names (bounds_of sys.flow p) os (join (note_of sys one p) (note_of sys other p)))
+            (sym (get_or-map-range_with_len note 0 n p p [] l (omega arith)))
+            (names-join (bounds_of sys.flow p) (front_of one.notes p) (front_of other.notes p) (a.canonical p l) (b.canonical p l));
+      },
+    )
+
+left-cut : (sys : System) (p : ℕ) (x y z : Cut) → IsUnionOfCuts sys p x y z → IsCutWithin sys p x z
+left-cut sys p Present y z w = subst (λ c. IsCutWithin sys p Present c) (sym w) tt
+left-cut sys p (At f) Present z w = subst (λ c. IsCutWithin sys p (At f) c) (sym w) tt
+left-cut sys p (At f) (At g) Present w = tt
+left-cut sys p (At f) (At g) (At u) w = left-within sys p (At f) (At g) (At u) w
+
+right-cut : (sys : System) (p : ℕ) (x y z : Cut) → IsUnionOfCuts sys p x y z → IsCutWithin sys p y z
+right-cut sys p Present Present z w = subst (λ c. IsCutWithin sys p Present c) (sym w) tt
+right-cut sys p Present (At g) z w = subst (λ c. IsCutWithin sys p (At g) c) (sym w) tt
+right-cut sys p (At f) Present z w = subst (λ c. IsCutWithin sys p Present c) (sym w) tt
+right-cut sys p (At f) (At g) Present w = tt
+right-cut sys p (At f) (At g) (At u) w = right-within sys p (At f) (At g) (At u) w
+
+pub within-union : EachLiesWithinUnion
+within-union sys one other union w = (
+  record {
+    cuts = λ p l. left-cut sys p (cut_of one p) (cut_of other p) (cut_of union p) (w.cuts p l);
+    notes = λ p l t k. (w.notes p l).same t ∙ or_left (note_of sys one p t) (note_of sys other p t) k;
+  },
+  record {
+    cuts = λ p l. right-cut sys p (cut_of one p) (cut_of other p) (cut_of union p) (w.cuts p l);
+    notes = λ p l t k. (w.notes p l).same t ∙ or_right (note_of sys one p t) (note_of sys other p t) k;
+  },
+)

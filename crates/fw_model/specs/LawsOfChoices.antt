@@ -1,4 +1,4 @@
--- Laws of choices: there is one largest choice, and the union of consistent choices is consistent.
+-- Laws of choices: there is one largest choice, and the union of two consistent choices is consistent where it is offered.
 use Rattle.std.specs.Prelude.{◌≡◌, ◌⊎◌, ℕ, ◌<◌, Bool, length}
 use Rattle.fw_frontier.specs.Frontier.{Within, join}
 use Rattle.fw_frontier.specs.Front.{frontier_of, Names}
@@ -6,7 +6,7 @@ use Rattle.fw_flow.specs.declared.choice.Cut.{Cut}
 use Rattle.fw_flow.specs.declared.choice.Cut.TheVariants.{Present, At}
 use Rattle.fw_flow.specs.Dataflow.{System, kind_of, policy_of, sender, bounds_of}
 use Rattle.fw_model.specs.Machine.{Machine, front_of}
-use Rattle.fw_model.specs.Choice.{View, by_checkpoints, restoring, Choice, IsCandidate, IsConsistent, IsCutWithin, IsLargest, cut_of, note_of, delivered_cover, notified_cover, discarded_cover}
+use Rattle.fw_model.specs.Choice.{View, by_checkpoints, restoring, Choice, IsCandidate, IsConsistent, IsCutWithin, IsChoiceWithin, IsLargest, cut_of, note_of, delivered_cover, notified_cover, discarded_cover}
 
 -- a largest choice of the restore candidates is the only one: two of them are the same cuts and the same lists of stamps
 abbrev pub LargestChoiceIsOne : Type 0
@@ -29,6 +29,18 @@ pub record IsUnionOfChoices (sys : System) (one other union : Choice) : Type 0 w
   pub cuts : (p : ℕ) → p < length sys.flow.nodes → IsUnionOfCuts sys p (cut_of one p) (cut_of other p) (cut_of union p)
   pub notes : (p : ℕ) → p < length sys.flow.nodes
       → Names (bounds_of sys.flow p) (front_of union.notes p) (join (note_of sys one p) (note_of sys other p))
+
+-- two consistent choices of the restore candidates have a union
+abbrev pub ConsistentChoicesHaveUnion : Type 0
+ConsistentChoicesHaveUnion = (sys : System) (state : Machine) (lost : ℕ → Bool) (view : View) (one other : Choice)
+    → IsConsistent sys state (IsCandidate sys state lost view) one
+    → IsConsistent sys state (IsCandidate sys state lost view) other
+    → (union : Choice) × IsUnionOfChoices sys one other union
+
+-- each of two choices lies within their union
+abbrev pub EachLiesWithinUnion : Type 0
+EachLiesWithinUnion = (sys : System) (one other union : Choice) → IsUnionOfChoices sys one other union
+    → IsChoiceWithin sys one union × IsChoiceWithin sys other union
 
 -- The union of two candidates of a node is a candidate; where it is restored by its checkpoints, if one of the two lies
 -- within the other.

@@ -1,5 +1,5 @@
 //! The laws of the definitions: each function's `ensures` is one law, and its body is empty.
-ghost use Rattle.fw_model.specs.LawsOfChoices.{DeliveredOfUnion, DiscardedOfUnion, LargestChoiceIsOne, NotifiedOfUnion, UnionOfCandidatesIsCandidate, UnionOfConsistentIsConsistent};
+ghost use Rattle.fw_model.specs.LawsOfChoices.{ConsistentChoicesHaveUnion, DeliveredOfUnion, DiscardedOfUnion, EachLiesWithinUnion, LargestChoiceIsOne, NotifiedOfUnion, UnionOfCandidatesIsCandidate, UnionOfConsistentIsConsistent};
 ghost use Rattle.fw_model.specs.LawsOfCompleteFrontiers.{AdmissibleStaysAdmissible, EnabledIsOutside, LegalInsidePhiComesFromInside, SequencesAreNotifiedInOrder};
 ghost use Rattle.fw_model.specs.LawsOfLegalHistories.{LegalEventsAreInDomain, LegalMessagesAreInDomain, OnlyInputsInject};
 ghost use Rattle.fw_model.specs.LawsOfProjections.{PhiGrowsWithHistory, PhiIgnoresHistory, PhiIsFrontier, PhiIsMonotone, PhiOfEverything, PhiOfMeet, PsiIsFrontier, PsiIsMonotone, PsiOfJoin, PsiOfNothing, PsiOfUnion};
@@ -143,6 +143,16 @@ pub fn legal_inside_phi_comes_from_inside()
 /// A largest choice of the restore candidates is the only one.
 pub fn largest_choice_is_one()
     ensures { LargestChoiceIsOne }
+{}
+
+/// Two consistent choices of the restore candidates have a union.
+pub fn consistent_choices_have_union()
+    ensures { ConsistentChoicesHaveUnion }
+{}
+
+/// Each of two choices lies within their union.
+pub fn each_lies_within_union()
+    ensures { EachLiesWithinUnion }
 {}
 
 /// What counts as delivered inside the union of two cuts counts as delivered inside one of them.

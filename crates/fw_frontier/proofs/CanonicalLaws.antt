@@ -6,7 +6,7 @@ use Rattle.std.specs.Ordering.{is_lt}
 use Rattle.fw_time.specs.declared.stamp.Bounds.{Bounds}
 use Rattle.fw_time.specs.Stamp.{leq, lub, stamp_cmp, raised, in_domain}
 use Rattle.fw_time.proofs.StampLaws.{leq-refl, leq-length, lub-least, leq-raised, before-trans, before-total, and_left, and_right, both}
-use Rattle.fw_frontier.specs.Front.{inside, IsCanonical}
+use Rattle.fw_frontier.specs.Front.{inside, IsCanonical, all_in_domain}
 use Rattle.fw_frontier.specs.Outside.{placed, excluding, excluding_all, excluding_lubs, excluding_pairs, below_at}
 
 apart : List ℕ → List ℕ → Type 0
@@ -157,3 +157,12 @@ canonical-below_at b s (suc n) h = by (nat_lt (get_or s n 0) (get_or b.greatest 
     by : (c : Bool) → nat_lt (get_or s n 0) (get_or b.greatest n 0) ≡ c → IsCanonical b (below_at s b.greatest n) → IsCanonical b (cond c (excluding (raised s n) (below_at s b.greatest n)) (below_at s b.greatest n))
     by true e r = canonical-excluding b (raised s n) (below_at s b.greatest n) (leq-raised_upto s b.greatest n h e) r
     by false e r = r
+
+-- the test of all stamps, by each
+pub all_in_domain-each : (b : Bounds) (os : List (List ℕ)) → all_in_domain b os ≡ true → AllByRecursion (λ o. in_domain b o ≡ true) os
+all_in_domain-each b [] h = tt
+all_in_domain-each b (o ∷ os) h = (and_left _ _ h, all_in_domain-each b os (and_right _ _ h))
+
+pub each-all_in_domain : (b : Bounds) (os : List (List ℕ)) → AllByRecursion (λ o. in_domain b o ≡ true) os → all_in_domain b os ≡ true
+each-all_in_domain b [] h = refl
+each-all_in_domain b (o ∷ os) h = both (in_domain b o) (all_in_domain b os) h.0 (each-all_in_domain b os h.1)

@@ -19,6 +19,11 @@ inside (o ∷ os) t = not (leq o t) && inside os t
 abbrev pub frontier_of : Bounds → Front → Frontier
 frontier_of bounds os t = in_domain bounds t && inside os t
 
+-- whether all stamps are the domain's
+abbrev pub all_in_domain : Bounds → Front → Bool
+all_in_domain bounds [] = true
+all_in_domain bounds (o ∷ os) = in_domain bounds o && all_in_domain bounds os
+
 -- the stamp is a domain's, comes before each of these in order and is not comparable with one
 pub record IsLeastBefore (bounds : Bounds) (o : Stamp) (os : Front) : Type 0 where
   pub in_the_domain : in_domain bounds o ≡ true

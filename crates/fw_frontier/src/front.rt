@@ -82,6 +82,13 @@ impl Front {
         &self.outside
     }
 
+    /// Whether its outside stamps are the domain's.
+    pub fn is_in_domain(&self, bounds: &Bounds) -> bool
+        ensures { IsTrue result ↔ AllByRecursion (λ o. in_domain bounds.now o ≡ true) self.now }
+    {
+        outside::are_in_domain(&self.outside, bounds)
+    }
+
     /// Whether a stamp of the domain is inside.
     pub fn contains(&self, t: &Stamp) -> bool
         ensures { result ≡ inside self.now t.now }

@@ -1,7 +1,7 @@
 //! Lists of outside stamps, and what the calls of frontiers do to them.
 ghost use Rattle.std.specs.Prelude.{◌≡◌, ◌∷◌, [], ◌<◌, ◌≤◌, not, nat_lt, if◌then◌else◌, length, slice_index, filter, IfOk, OnOk};
 ghost use Rattle.fw_time.specs.Stamp.{leq, origin, raised};
-ghost use Rattle.fw_frontier.specs.Front.{inside};
+ghost use Rattle.fw_frontier.specs.Front.{inside, all_in_domain};
 ghost use Rattle.fw_frontier.specs.Outside.{place, placed, excluding, excluding_all, excluding_lubs, excluding_pairs, below_at, cover_from, none_inside};
 
 use fw_time::{Bounds, Stamp};
@@ -25,6 +25,18 @@ pub fn has_none_inside(outside: &[Stamp], stamps: &[Stamp]) -> bool
 {
     for s in stamps {
         if has_inside(outside, s) {
+            return false;
+        }
+    }
+    true
+}
+
+// Whether all stamps are the domain's.
+pub fn are_in_domain(stamps: &[Stamp], bounds: &Bounds) -> bool
+    ensures { result ≡ all_in_domain bounds.now stamps.now }
+{
+    for s in stamps {
+        if !s.in_domain(bounds) {
             return false;
         }
     }

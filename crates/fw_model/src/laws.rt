@@ -5,6 +5,14 @@ ghost use Rattle.fw_model.specs.LawsOfLegalHistories.{LegalEventsAreInDomain, Le
 ghost use Rattle.fw_model.specs.LawsOfProjections.{PhiGrowsWithHistory, PhiIgnoresHistory, PhiIsFrontier, PhiIsMonotone, PhiOfEverything, PhiOfMeet, PsiIsFrontier, PsiIsMonotone, PsiOfJoin, PsiOfNothing, PsiOfUnion};
 ghost use Rattle.fw_model.specs.LawsOfSending.{InsidePhiComesFromInside, InsidePhiOfSequenceComesFromInside, PhiBySendStamps, PsiBySendStamps, SendStampIsMonotone, SendersOfWellFormed, SendsAreInsidePsi, SendsAtSendStamp, SentFromInsideIsInsidePsi};
 
+// The laws of times and of frontiers, each over every type of times, and that of dataflows.
+pub use fw_flow::laws::ranks_exist;
+pub use fw_frontier::laws::{
+    cut_is_largest, domain_decides, fronts_are_frontiers, greatest_covers_all,
+    one_list_names_a_frontier, round_trip, stays_in_domain,
+};
+pub use fw_time::laws::{least_upper_bound, partial_order};
+
 /// Phi is monotone: a larger frontier of the sender covers more of the edge.
 pub fn phi_is_monotone()
     ensures { PhiIsMonotone }

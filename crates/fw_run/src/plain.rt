@@ -3,6 +3,8 @@ ghost use Rattle.std.specs.Prelude.{◌≡◌, ◌↔◌, false, IsTrue, IsErr};
 
 use crate::forms::{Batches, Edge, Step};
 use fw_bag::{Bag, Condition, Rec, Selection};
+use fw_frontier::{Below, Frontier};
+use fw_time::{Epoch, Time};
 use std::alloc::{AllocError, Global};
 use std::marker::Model;
 
@@ -10,14 +12,14 @@ use std::marker::Model;
 #[derive(Clone, Copy, Debug, PartialEq, Eq)]
 enum Event {
     /// The input sent the batch of the epoch.
-    Inject(u64),
+    Inject(Epoch),
     /// The receiver of the edge took the rec, of the epoch.
-    Deliver(Edge, u64, Rec),
+    Deliver(Edge, Epoch, Rec),
 }
 
 impl Event {
     /// The rec, if this is its delivery on the edge at the epoch.
-    fn delivered(self, edge: Edge, epoch: u64) -> Option<Rec> {
+    fn delivered(self, edge: Edge, epoch: Epoch) -> Option<Rec> {
         match self {
             Event::Deliver(on, at, rec) if on == edge && at == epoch => Some(rec),
             _ => None,
@@ -25,64 +27,61 @@ impl Event {
     }
 
     /// Whether the output took a rec of the epoch or of a later one.
-    fn is_output_from(self, epoch: u64) -> bool {
+    fn is_output_from(self, epoch: Epoch) -> bool {
         match self {
-            Event::Deliver(Edge::IntoOutput, at, _) => epoch <= at,
+            Event::Deliver(Edge::IntoOutput, at, _) => epoch.leq(&at),
             _ => false,
         }
     }
 }
 
-/// A set of epochs that has each epoch below one that it has; the order is that of the sets.
-#[derive(Clone, Copy, Debug, PartialEq, Eq, PartialOrd, Ord)]
-enum Frontier {
-    /// The epochs below this one.
-    Until(u64),
-    /// Every epoch.
-    All,
-}
-
-impl Frontier {
-    /// Whether the epoch lies in the frontier.
-    fn contains(self, epoch: u64) -> bool {
-        match self {
-            Frontier::Until(end) => epoch < end,
-            Frontier::All => true,
-        }
-    }
-}
-
 /// A frontier for each node.
-#[derive(Clone, Copy, Debug, PartialEq, Eq)]
+#[derive(Clone, Copy, Debug)]
 struct Frontiers {
-    source: Frontier,
-    select: Frontier,
-    output: Frontier,
+    source: Below,
+    select: Below,
+    output: Below,
 }
 
 impl Frontiers {
     /// No epoch at any node.
     fn empty() -> Self {
+        let none = Below { until: Some(0) };
         Frontiers {
-            source: Frontier::Until(0),
-            select: Frontier::Until(0),
-            output: Frontier::Until(0),
+            source: none,
+            select: none,
+            output: none,
         }
     }
 
     /// Whether each node's frontier lies within the other's.
-    fn is_within(self, other: Frontiers) -> bool {
-        self.source <= other.source && self.select <= other.select && self.output <= other.output
+    fn is_within(&self, other: &Frontiers) -> bool {
+        is_within(&self.source, &other.source)
+            && is_within(&self.select, &other.select)
+            && is_within(&self.output, &other.output)
     }
 
     /// The union at each node.
-    fn union(self, other: Frontiers) -> Self {
-        Frontiers {
-            source: self.source.max(other.source),
-            select: self.select.max(other.select),
-            output: self.output.max(other.output),
-        }
+    fn union(&self, other: &Frontiers) -> Result<Self, AllocError> {
+        Ok(Frontiers {
+            source: join(&self.source, &other.source)?,
+            select: join(&self.select, &other.select)?,
+            output: join(&self.output, &other.output)?,
+        })
     }
+}
+
+fn is_within(one: &Below, other: &Below) -> bool {
+    Frontier::<Epoch>::subset(one, other)
+}
+
+fn join(one: &Below, other: &Below) -> Result<Below, AllocError> {
+    Frontier::<Epoch>::join(one, other)
+}
+
+/// So many batches as a number of epochs. The reader of the inputs keeps them far below 2^32.
+fn epochs(batches: usize) -> u32 {
+    u32::try_from(batches).unwrap_or(u32::MAX)
 }
 
 /// What a step lets the world see.
@@ -91,7 +90,7 @@ pub enum Effect {
     /// Nothing.
     Quiet,
     /// The output acknowledged the epoch, with all the recs that it took at it.
-    Acked { epoch: u64, recs: Bag },
+    Acked { epoch: Epoch, recs: Bag },
 }
 
 /// What came of a step.
@@ -112,23 +111,23 @@ struct History {
     events: Vec<Event>,
     settled: Frontiers,
     /// The number of epochs that the output acknowledged, which are the first ones.
-    acknowledged: u64,
+    acknowledged: u32,
 }
 
 impl History {
     /// How many batches the input has.
-    fn batch_count(&self) -> u64 {
-        self.batches.of_source.len() as u64
+    fn batch_count(&self) -> u32 {
+        epochs(self.batches.of_source.len())
     }
 
     /// How many batches were injected; they are the first ones.
-    fn injected_count(&self) -> u64 {
+    fn injected_count(&self) -> u32 {
         let is_inject = |event: &&Event| matches!(event, Event::Inject(_));
-        self.events.iter().filter(is_inject).count() as u64
+        epochs(self.events.iter().filter(is_inject).count())
     }
 
     /// What was delivered on the edge at the epoch.
-    fn delivered(&self, edge: Edge, epoch: u64) -> Result<Bag, AllocError> {
+    fn delivered(&self, edge: Edge, epoch: Epoch) -> Result<Bag, AllocError> {
         let mut delivered = Bag::new(self.alloc);
         for event in &self.events {
             if let Some(rec) = event.delivered(edge, epoch) {
@@ -139,7 +138,7 @@ impl History {
     }
 
     /// What was sent on the edge at the epoch.
-    fn sent(&self, edge: Edge, epoch: u64) -> Result<Bag, AllocError> {
+    fn sent(&self, edge: Edge, epoch: Epoch) -> Result<Bag, AllocError> {
         match edge {
             Edge::IntoSelect => self.sent_by_source(epoch),
             Edge::IntoOutput => self.sent_by_select(epoch),
@@ -147,10 +146,10 @@ impl History {
     }
 
     /// The batch of the epoch, if it was injected.
-    fn sent_by_source(&self, epoch: u64) -> Result<Bag, AllocError> {
+    fn sent_by_source(&self, epoch: Epoch) -> Result<Bag, AllocError> {
         let mut sent = Bag::new(self.alloc);
         if self.events.contains(&Event::Inject(epoch))
-            && let Some(batch) = self.batches.of_source.get(epoch as usize)
+            && let Some(batch) = self.batches.of_source.get(epoch.0 as usize)
         {
             sent.union(batch)?;
         }
@@ -158,7 +157,7 @@ impl History {
     }
 
     /// The recs that the select took at the epoch and for which its condition holds.
-    fn sent_by_select(&self, epoch: u64) -> Result<Bag, AllocError> {
+    fn sent_by_select(&self, epoch: Epoch) -> Result<Bag, AllocError> {
         let selection = Selection {
             condition: self.condition,
             assignment: None,
@@ -175,7 +174,7 @@ impl History {
     }
 
     /// What was sent on the edge at the epoch, less what was delivered there.
-    fn pending(&self, edge: Edge, epoch: u64) -> Result<Bag, AllocError> {
+    fn pending(&self, edge: Edge, epoch: Epoch) -> Result<Bag, AllocError> {
         let mut pending = self.sent(edge, epoch)?;
         for event in &self.events {
             if let Some(rec) = event.delivered(edge, epoch) {
@@ -186,8 +185,9 @@ impl History {
     }
 
     /// The least epoch at which something is pending on the edge, and the least rec there.
-    fn least_pending(&self, edge: Edge) -> Result<Option<(u64, Rec)>, AllocError> {
+    fn least_pending(&self, edge: Edge) -> Result<Option<(Epoch, Rec)>, AllocError> {
         for epoch in 0..self.injected_count() {
+            let epoch = Epoch(epoch);
             if let Some(rec) = self.pending(edge, epoch)?.take_least() {
                 return Ok(Some((epoch, rec)));
             }
@@ -196,9 +196,9 @@ impl History {
     }
 
     /// The largest frontier within the sender's in which nothing is pending on the edge.
-    fn complete_behind(&self, edge: Edge, sender: Frontier) -> Result<Frontier, AllocError> {
+    fn complete_behind(&self, edge: Edge, sender: Below) -> Result<Below, AllocError> {
         match self.least_pending(edge)? {
-            Some((epoch, _)) => Ok(sender.min(Frontier::Until(epoch))),
+            Some((epoch, _)) => sender.cut_above(&epoch),
             None => Ok(sender),
         }
     }
@@ -206,10 +206,8 @@ impl History {
     /// The complete frontier of each node.
     fn complete(&self) -> Result<Frontiers, AllocError> {
         let injected = self.injected_count();
-        let source = if injected < self.batch_count() {
-            Frontier::Until(injected)
-        } else {
-            Frontier::All
+        let source = Below {
+            until: (injected < self.batch_count()).then_some(injected),
         };
         let select = self.complete_behind(Edge::IntoSelect, source)?;
         let output = self.complete_behind(Edge::IntoOutput, select)?;
@@ -236,7 +234,7 @@ impl History {
         if epoch >= self.batch_count() {
             return Ok(Stepped::Idle);
         }
-        self.events.push(Event::Inject(epoch))?;
+        self.events.push(Event::Inject(Epoch(epoch)))?;
         Ok(Stepped::Did(Effect::Quiet))
     }
 
@@ -252,19 +250,19 @@ impl History {
     /// Settles what is complete, where some of it is not settled yet.
     fn progress(&mut self) -> Result<Stepped, AllocError> {
         let complete = self.complete()?;
-        if complete.is_within(self.settled) {
+        if complete.is_within(&self.settled) {
             return Ok(Stepped::Idle);
         }
-        self.settled = self.settled.union(complete);
+        self.settled = self.settled.union(&complete)?;
         Ok(Stepped::Did(Effect::Quiet))
     }
 
     /// Whether the output may acknowledge its next epoch: that is settled there, and a batch or
     /// a rec at the output is of it or of a later one.
     fn can_acknowledge(&self) -> bool {
-        let epoch = self.acknowledged;
+        let epoch = Epoch(self.acknowledged);
         let has_output = self.events.iter().any(|event| event.is_output_from(epoch));
-        self.settled.output.contains(epoch) && (epoch < self.batch_count() || has_output)
+        self.settled.output.contains(&epoch) && (epoch.0 < self.batch_count() || has_output)
     }
 
     /// Acknowledges the next epoch, where the output may.
@@ -272,9 +270,9 @@ impl History {
         if !self.can_acknowledge() {
             return Ok(Stepped::Idle);
         }
-        let epoch = self.acknowledged;
+        let epoch = Epoch(self.acknowledged);
         let recs = self.delivered(Edge::IntoOutput, epoch)?;
-        self.acknowledged = epoch.checked_add(1).ok_or(AllocError)?;
+        self.acknowledged = self.acknowledged.checked_add(1).ok_or(AllocError)?;
         Ok(Stepped::Did(Effect::Acked { epoch, recs }))
     }
 }

@@ -6,6 +6,7 @@ ghost use Rattle.fw_run.specs.declared.status.Status.TheVariants as Status;
 
 use crate::Refusal;
 use fw_bag::Bag;
+use fw_time::Epoch;
 use std::alloc::{AllocError, Global};
 use std::fmt::Write;
 
@@ -13,9 +14,10 @@ use std::fmt::Write;
 pub fn ack_line(
     alloc: Global,
     output: &str,
-    epoch: u64,
+    epoch: Epoch,
     mut recs: Bag,
 ) -> Result<String, AllocError> {
+    let epoch = epoch.0;
     let mut line = format!(in alloc; "ack {output} epoch {epoch}")?;
     for _ in 0..recs.len() {
         let Some(rec) = recs.take_least() else {

@@ -11,3 +11,5 @@ mod one_select;
 mod refusals;
 #[cfg(test)]
 mod runs;
+#[cfg(test)]
+mod times;

@@ -1,3 +1,4 @@
+pub mod FlowLaws
 pub mod Flows
 pub mod Marks
 pub mod Peel

@@ -1,7 +1,11 @@
+pub mod Check
 pub mod Counting
 pub mod Dataflow
+pub mod Flow
+pub mod Names
 pub mod NodeFunction
 pub mod Projection
+pub mod Raw
 pub mod Walks
 pub mod WellFormed
 pub mod WholeBags

@@ -1,4 +1,6 @@
 //! Places of nodes, edges and loops in a dataflow.
+ghost use Rattle.std.specs.Prelude.{◌≡◌};
+
 use std::marker::Model;
 
 /// A node, by its place in the order of lines, from 0. Contracts see the place.
@@ -47,4 +49,52 @@ impl Model for LoopId {
     ghost view = { λ id. id.place };
 
     ghost inverse = { λ n. record { place = n } };
+}
+
+impl NodeId {
+    /// The node at a place, from 0.
+    pub const fn at(place: u32) -> Self
+        ensures { result ≡ place }
+    {
+        NodeId { place }
+    }
+
+    /// Its place.
+    pub const fn place(self) -> u32
+        ensures { result ≡ self }
+    {
+        self.place
+    }
+}
+
+impl EdgeId {
+    /// The edge at a place, from 0.
+    pub const fn at(place: u32) -> Self
+        ensures { result ≡ place }
+    {
+        EdgeId { place }
+    }
+
+    /// Its place.
+    pub const fn place(self) -> u32
+        ensures { result ≡ self }
+    {
+        self.place
+    }
+}
+
+impl LoopId {
+    /// The loop at a place, from 0.
+    pub const fn at(place: u32) -> Self
+        ensures { result ≡ place }
+    {
+        LoopId { place }
+    }
+
+    /// Its place.
+    pub const fn place(self) -> u32
+        ensures { result ≡ self }
+    {
+        self.place
+    }
 }

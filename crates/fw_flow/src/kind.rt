@@ -1,4 +1,7 @@
 //! What a node does, at which times, and how it is restored.
+ghost use Rattle.std.specs.Prelude.{◌≡◌};
+ghost use Rattle.fw_flow.specs.Dataflow.{Dataflow, domain_within, domain_of_kind, out_domain_of_kind};
+
 use crate::LoopId;
 use fw_bag::Selection;
 
@@ -57,6 +60,57 @@ pub enum Kind {
     Ledger,
     /// Sends the recs of so many numbers at one epoch.
     Regroup(u32),
+}
+
+impl Kind {
+    /// The domain of its events.
+    pub fn domain(self) -> Domain
+        ensures { (flow : Dataflow) → result ≡ domain_of_kind flow self }
+    {
+        match self {
+            Kind::Input | Kind::OutputEpoch | Kind::Total | Kind::Sequence | Kind::Enter(_) => {
+                Domain::Epoch
+            }
+            Kind::OutputNumber | Kind::Ledger | Kind::Regroup(_) => Domain::Number,
+            Kind::Select { within, .. }
+            | Kind::Concat { within }
+            | Kind::Distinct { within }
+            | Kind::Join { within }
+            | Kind::Sum { within } => Domain::within(within),
+            Kind::Feedback(id) | Kind::Leave(id) => Domain::Loop(id),
+        }
+    }
+
+    /// The domain of its messages.
+    pub fn out_domain(self) -> Domain
+        ensures { (flow : Dataflow) → result ≡ out_domain_of_kind flow self }
+    {
+        match self {
+            Kind::Enter(id) => Domain::Loop(id),
+            Kind::Leave(_) | Kind::Regroup(_) => Domain::Epoch,
+            Kind::Sequence => Domain::Number,
+            Kind::Input | Kind::OutputEpoch | Kind::Total => Domain::Epoch,
+            Kind::OutputNumber | Kind::Ledger => Domain::Number,
+            Kind::Select { within, .. }
+            | Kind::Concat { within }
+            | Kind::Distinct { within }
+            | Kind::Join { within }
+            | Kind::Sum { within } => Domain::within(within),
+            Kind::Feedback(id) => Domain::Loop(id),
+        }
+    }
+}
+
+impl Domain {
+    /// The domain of a node that stands outside loops or within one.
+    fn within(id: Option<LoopId>) -> Domain
+        ensures { result ≡ domain_within id }
+    {
+        match id {
+            Some(id) => Domain::Loop(id),
+            None => Domain::Epoch,
+        }
+    }
 }
 
 /// How a node is restored after a failure.

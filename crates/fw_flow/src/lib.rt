@@ -3,16 +3,22 @@
 
 mod choice;
 mod event;
+mod flow;
 mod ids;
 mod kind;
 pub mod laws;
+mod name;
 mod node;
+mod raw;
 mod step;
 mod walks;
 
 pub use choice::Cut;
 pub use event::{Causes, Event, Message};
+pub use flow::Flow;
 pub use ids::{EdgeId, LoopId, NodeId};
 pub use kind::{Domain, Kind, Policy};
-pub use node::{Edge, Loop, Name, Node};
+pub use name::Name;
+pub use node::{Edge, Loop, Node};
+pub use raw::{Declaration, Declared, RawFlow, RawKind};
 pub use step::{Nodes, Step};

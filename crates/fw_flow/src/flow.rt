@@ -1,0 +1,199 @@
+//! A well-formed dataflow, and what is looked up in it.
+ghost use Rattle.std.specs.Prelude.{◌≡◌, ◌<◌, length, map, MatchResult, IfOk};
+ghost use Rattle.fw_lines.specs.Faults.{IfRefused};
+ghost use Rattle.fw_flow.specs.Dataflow.{kind_of, policy_of, sender, receiver, in_edges, out_edges, domain_of, out_domain_of, bounds_of, max_of, node_at};
+ghost use Rattle.fw_flow.specs.WellFormed.{IsWellFormed};
+ghost use Rattle.fw_flow.specs.Names.{place_of};
+ghost use Rattle.fw_flow.specs.Check.{IsChecked, IsFirstBroken};
+
+use crate::name::Names;
+use crate::{Domain, Edge, EdgeId, Kind, Loop, LoopId, Name, Node, NodeId, Policy, RawFlow};
+use fw_lines::ReadFault;
+use fw_time::{Bounds, Stamp};
+use std::alloc::Global;
+use std::marker::Model;
+
+/// A well-formed dataflow. Contracts see its loops, nodes and edges.
+#[derive(Debug, Drop)]
+pub struct Flow {
+    pub(crate) loops: Vec<Loop>,
+    pub(crate) nodes: Vec<Node>,
+    pub(crate) edges: Vec<Edge>,
+    pub(crate) node_names: Names,
+    pub(crate) edge_names: Names,
+    // For each node its edges, in order.
+    pub(crate) incoming: Vec<Vec<EdgeId>>,
+    pub(crate) outgoing: Vec<Vec<EdgeId>>,
+}
+
+impl Model for Flow {
+    ghost use Rattle.fw_flow.specs.Dataflow.{Dataflow};
+    ghost use Rattle.fw_flow.specs.Flow.{IsIndexed};
+
+    ghost Value = { Dataflow };
+
+    ghost view = { λ flow. record { loops = flow.loops.items; nodes = flow.nodes.items; edges = flow.edges.items } };
+
+    ghost invariant = { λ flow. IsIndexed (record { loops = flow.loops.items; nodes = flow.nodes.items; edges = flow.edges.items })
+        flow.node_names flow.edge_names flow.incoming.items flow.outgoing.items };
+}
+
+impl Flow {
+    /// How many nodes it has.
+    pub fn nodes(&self) -> usize
+        ensures count { result ≡ length self.now.nodes }
+        ensures well_formed { IsWellFormed self.now }
+    {
+        self.nodes.len()
+    }
+
+    /// How many edges it has.
+    pub fn edges(&self) -> usize
+        ensures { result ≡ length self.now.edges }
+    {
+        self.edges.len()
+    }
+
+    /// What a node does. Past the last node stand idle outputs.
+    #[tactic(auto, unfolding(crate::specs::Dataflow::kind_of))]
+    pub fn kind(&self, node: NodeId) -> Kind
+        ensures { result ≡ kind_of self.now node }
+    {
+        match self.nodes.get(node.place() as usize) {
+            Some(node) => node.kind,
+            None => Kind::OutputEpoch,
+        }
+    }
+
+    /// How a node is restored.
+    #[tactic(auto, unfolding(crate::specs::Dataflow::policy_of))]
+    pub fn policy(&self, node: NodeId) -> Policy
+        ensures { result ≡ policy_of self.now node }
+    {
+        match self.nodes.get(node.place() as usize) {
+            Some(node) => node.policy,
+            None => Policy::None,
+        }
+    }
+
+    /// The domain of a node's events, by its word.
+    pub fn domain_word(&self, node: NodeId) -> Domain
+        ensures { result ≡ domain_of self.now node }
+    {
+        self.kind(node).domain()
+    }
+
+    /// The domain of a node's messages, by its word.
+    pub fn out_domain_word(&self, node: NodeId) -> Domain
+        ensures { result ≡ out_domain_of self.now node }
+    {
+        self.kind(node).out_domain()
+    }
+
+    /// The bounds of a node's domain.
+    #[tactic(auto, unfolding(crate::specs::Dataflow::bounds_of))]
+    pub fn domain(&self, node: NodeId) -> Bounds
+        ensures { result ≡ bounds_of self.now node }
+    {
+        let greatest = match self.domain_word(node) {
+            Domain::Epoch | Domain::Number => Stamp::new(&[u32::MAX]),
+            Domain::Loop(id) => Stamp::new(&[u32::MAX, self.max(id)]),
+        };
+        Bounds { greatest }
+    }
+
+    /// The greatest counter of a loop, 0 past the last one.
+    #[tactic(auto, unfolding(crate::specs::Dataflow::max_of))]
+    pub fn max(&self, id: LoopId) -> u32
+        ensures { result ≡ max_of self.now id }
+    {
+        match self.loops.get(id.place() as usize) {
+            Some(a_loop) => a_loop.max,
+            None => 0,
+        }
+    }
+
+    /// The sender of an edge. Past the last edge stand edges between idle outputs.
+    #[tactic(auto, unfolding(crate::specs::Dataflow::sender))]
+    pub fn src(&self, edge: EdgeId) -> NodeId
+        ensures { result ≡ sender self.now edge }
+    {
+        match self.edges.get(edge.place() as usize) {
+            Some(edge) => edge.sender,
+            None => self.past_the_last(),
+        }
+    }
+
+    /// The receiver of an edge.
+    #[tactic(auto, unfolding(crate::specs::Dataflow::receiver))]
+    pub fn dst(&self, edge: EdgeId) -> NodeId
+        ensures { result ≡ receiver self.now edge }
+    {
+        match self.edges.get(edge.place() as usize) {
+            Some(edge) => edge.receiver,
+            None => self.past_the_last(),
+        }
+    }
+
+    fn past_the_last(&self) -> NodeId
+        ensures { result ≡ length self.now.nodes }
+    {
+        NodeId::at(self.nodes.len() as u32)
+    }
+
+    /// The edges to a node, in order.
+    #[tactic(auto, using(crate::proofs::FlowLaws::edges_there, crate::proofs::FlowLaws::edges_past))]
+    pub fn in_edges(&self, node: NodeId) -> &[EdgeId]
+        ensures { result.now ≡ in_edges self.now node }
+    {
+        match self.incoming.get(node.place() as usize) {
+            Some(edges) => edges.as_slice(),
+            None => &[],
+        }
+    }
+
+    /// The edges from a node, in order.
+    #[tactic(auto, using(crate::proofs::FlowLaws::edges_there, crate::proofs::FlowLaws::edges_past))]
+    pub fn out_edges(&self, node: NodeId) -> &[EdgeId]
+        ensures { result.now ≡ out_edges self.now node }
+    {
+        match self.outgoing.get(node.place() as usize) {
+            Some(edges) => edges.as_slice(),
+            None => &[],
+        }
+    }
+
+    /// The name of a node that the flow has.
+    #[tactic(auto, unfolding(crate::specs::Dataflow::node_at))]
+    pub fn node_name(&self, node: NodeId) -> &Name
+        requires { node < length self.now.nodes }
+        ensures { result.now ≡ (node_at self.now node).name }
+    {
+        &self.nodes[node.place() as usize].name
+    }
+
+    /// The node of a name.
+    pub fn node_named(&self, name: &[u8]) -> Option<NodeId>
+        ensures { result ≡ place_of name.now (map (λ node. node.name) self.now.nodes) }
+    {
+        let place = self.node_names.place_of(name)?;
+        Some(NodeId::at(place as u32))
+    }
+
+    /// The edge of a name.
+    pub fn edge_named(&self, name: &[u8]) -> Option<EdgeId>
+        ensures { result ≡ place_of name.now (map (λ edge. edge.name) self.now.edges) }
+    {
+        let place = self.edge_names.place_of(name)?;
+        Some(EdgeId::at(place as u32))
+    }
+
+    /// The flow of these declarations, where no rule is broken; else the first broken rule, in order of their numbers,
+    /// with its line.
+    pub fn check(alloc: Global, raw: RawFlow) -> Result<Flow, ReadFault>
+        ensures checked { MatchResult result (IsChecked raw) (IfRefused (IsFirstBroken raw)) }
+        ensures well_formed { IfOk result IsWellFormed }
+    {
+        Err(ReadFault::NoMemory)
+    }
+}

@@ -1,0 +1,94 @@
+//! Names of loops, nodes and edges.
+ghost use Rattle.std.specs.Prelude.{◌≡◌, true, [], ◌∷◌, ◌++◌, not, Some, None, if◌then◌else◌, IfOk, OnOk, OnErr};
+ghost use Rattle.fw_lines.specs.Spelling as spelling;
+ghost use Rattle.fw_flow.specs.Names.{place_of, has_name};
+
+use fw_lines::is_name;
+use indexmap::IndexSet;
+use std::alloc::{AllocError, Global};
+use std::marker::Model;
+
+/// A name: 1 to 32 of `a` to `z`, `0` to `9` and `_`, the first a letter. Contracts see its bytes.
+#[derive(Debug, Drop)]
+pub struct Name {
+    bytes: Vec<u8>,
+}
+
+impl Model for Name {
+    ghost use Rattle.std.specs.Prelude.{ℕ, List, ◌≡◌, true};
+    ghost use Rattle.fw_lines.specs.Spelling as spelling;
+
+    ghost Value = { List ℕ };
+
+    ghost view = { λ name. name.bytes.items };
+
+    ghost invariant = { λ name. spelling.is_name name.bytes.items ≡ true };
+}
+
+impl Name {
+    /// The name of these bytes, if they are one. The error is want of memory.
+    pub fn new(alloc: Global, word: &[u8]) -> Result<Option<Name>, AllocError>
+        ensures { IfOk result (λ name. name ≡ (if spelling.is_name word.now then Some word.now else None)) }
+    {
+        if !is_name(word) {
+            return Ok(None);
+        }
+        let bytes = Vec::from_slice(alloc, word)?;
+        Ok(Some(Name { bytes }))
+    }
+
+    /// Its bytes.
+    pub fn as_bytes(&self) -> &[u8]
+        ensures bytes { result.now ≡ self.now }
+        ensures name { spelling.is_name self.now ≡ true }
+    {
+        self.bytes.as_slice()
+    }
+}
+
+/// Names in the order of their adding, each once. Contracts see the list of their bytes.
+#[derive(Debug, Drop)]
+pub(crate) struct Names {
+    alloc: Global,
+    names: IndexSet<Vec<u8>>,
+}
+
+impl Model for Names {
+    ghost use Rattle.std.specs.Prelude.{ℕ, List, map};
+    ghost use Rattle.fw_flow.specs.Names.{bytes_of};
+
+    ghost Value = { List (List ℕ) };
+
+    ghost view = { λ names. bytes_of names.names.keys };
+}
+
+impl Names {
+    /// No names yet, in memory from `alloc`.
+    pub(crate) fn new(alloc: Global) -> Self
+        ensures { result ≡ [] }
+    {
+        Names {
+            alloc,
+            names: IndexSet::new(alloc),
+        }
+    }
+
+    /// Adds a name, and says whether it is new. The error is want of memory.
+    #[tactic(auto, using(crate::proofs::FlowLaws::name_among_keys, crate::proofs::FlowLaws::bytes_of_append))]
+    pub(crate) fn add(&mut self, name: &[u8]) -> Result<bool, AllocError>
+        ensures new { IfOk result (λ new. new ≡ not (has_name name.now self.old)) }
+        ensures ok { OnOk result (self.new ≡ (if has_name name.now self.old then self.old else self.old ++ name.now ∷ [])) }
+        ensures err { OnErr result (self.new ≡ self.old) }
+    {
+        let name = Vec::from_slice(self.alloc, name)?;
+        Ok(self.names.insert(name)?)
+    }
+
+    /// The place of a name.
+    #[tactic(auto, using(crate::proofs::FlowLaws::place_among_keys))]
+    pub(crate) fn place_of(&self, name: &[u8]) -> Option<usize>
+        ensures { result ≡ place_of name.now self.now }
+    {
+        self.names.get_index_of(name)
+    }
+}

@@ -1,0 +1,156 @@
+//! What the text of a flow declares, with names as they are written.
+ghost use Rattle.std.specs.Prelude.{◌≡◌, [], ◌∷◌, ◌++◌, if◌then◌else◌, IfOk, OnErr};
+ghost use Rattle.fw_flow.specs.Raw.{names_of, is_new_among, with_name, is_new};
+
+use crate::name::Names;
+use crate::{Name, Policy};
+use fw_bag::Selection;
+use std::alloc::{AllocError, Global};
+use std::marker::Model;
+
+/// How many declarations places of 32 bits can count.
+const LIMIT: usize = 4_294_967_295;
+
+/// What a node does, with loops by their names.
+#[derive(Debug, Drop)]
+pub enum RawKind {
+    Input,
+    OutputEpoch,
+    OutputNumber,
+    Select {
+        selection: Selection,
+        within: Option<Name>,
+    },
+    Concat {
+        within: Option<Name>,
+    },
+    Distinct {
+        within: Option<Name>,
+    },
+    Join {
+        within: Option<Name>,
+    },
+    Sum {
+        within: Option<Name>,
+    },
+    Enter(Name),
+    Feedback(Name),
+    Leave(Name),
+    Total,
+    Sequence,
+    Ledger,
+    Regroup(u64),
+}
+
+/// What one line of a flow declares.
+#[derive(Debug, Drop)]
+pub enum Declaration {
+    /// A loop, with its greatest counter.
+    Loop {
+        name: Name,
+        max: u64,
+    },
+    /// A node.
+    Node {
+        name: Name,
+        kind: RawKind,
+        policy: Policy,
+    },
+    /// An edge, from a node to a node.
+    Edge {
+        name: Name,
+        sender: Name,
+        receiver: Name,
+    },
+}
+
+/// A declaration, with its line.
+#[derive(Debug, Drop)]
+pub struct Declared {
+    /// Lines are counted from 1.
+    pub line: u32,
+    pub declaration: Declaration,
+}
+
+/// The names that are taken, in three name spaces.
+#[derive(Debug, Drop)]
+pub(crate) struct NameSpaces {
+    pub(crate) loops: Names,
+    pub(crate) nodes: Names,
+    pub(crate) edges: Names,
+}
+
+impl NameSpaces {
+    fn new(alloc: Global) -> Self
+        ensures { result ≡ names_of [] }
+    {
+        NameSpaces {
+            loops: Names::new(alloc),
+            nodes: Names::new(alloc),
+            edges: Names::new(alloc),
+        }
+    }
+
+    // Adds the name of a declaration to its name space, and says whether it is new.
+    fn add(&mut self, declaration: &Declaration) -> Result<bool, AllocError>
+        ensures new { IfOk result (λ new. new ≡ is_new_among self.old declaration.now) }
+        ensures ok { IfOk result (λ new. self.new ≡ (if new then with_name self.old declaration.now else self.old)) }
+        ensures err { OnErr result (self.new ≡ self.old) }
+    {
+        match declaration {
+            Declaration::Loop { name, .. } => self.loops.add(name.as_bytes()),
+            Declaration::Node { name, .. } => self.nodes.add(name.as_bytes()),
+            Declaration::Edge { name, .. } => self.edges.add(name.as_bytes()),
+        }
+    }
+}
+
+/// The declarations of a flow, in order, of which no two have one name in a name space: loops, nodes and edges are
+/// three. Contracts see their list.
+#[derive(Debug, Drop)]
+pub struct RawFlow {
+    pub(crate) names: NameSpaces,
+    pub(crate) declared: Vec<Declared>,
+}
+
+impl Model for RawFlow {
+    ghost use Rattle.std.specs.Prelude.{List};
+    ghost use Rattle.fw_flow.specs.declared.raw.Declared.{Declared};
+    ghost use Rattle.fw_flow.specs.Raw.{AreNamed};
+
+    ghost Value = { List Declared };
+
+    ghost view = { λ raw. raw.declared.items };
+
+    ghost invariant = { λ raw. AreNamed raw.names raw.declared.items };
+}
+
+impl RawFlow {
+    /// Nothing declared yet, in memory from `alloc`.
+    pub fn new(alloc: Global) -> Self
+        ensures { result ≡ [] }
+    {
+        RawFlow {
+            names: NameSpaces::new(alloc),
+            declared: Vec::new(alloc),
+        }
+    }
+
+    /// Adds a declaration whose name is new in its name space, and says whether it is. The error is want of memory; more
+    /// than 2^32 - 1 declarations count as that.
+    pub fn declare(&mut self, declared: Declared) -> Result<bool, AllocError>
+        ensures new { IfOk result (λ new. new ≡ is_new self.old declared.declaration) }
+        ensures ok { IfOk result (λ new. self.new ≡ (if new then self.old ++ declared ∷ [] else self.old)) }
+        ensures err { OnErr result (self.new ≡ self.old) }
+    {
+        if self.declared.len() >= LIMIT {
+            return Err(AllocError);
+        }
+        self.declared.reserve(1)?;
+        let new = self.names.add(&declared.declaration)?;
+        if new {
+            self.declared.push(declared)?;
+        }
+        Ok(new)
+    }
+}

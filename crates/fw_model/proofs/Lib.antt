@@ -5,6 +5,7 @@ pub mod FrontierLaws
 pub mod LegalLaws
 pub mod MeetLaws
 pub mod OrderLaws
+pub mod OutputLaws
 pub mod PendingLaws
 pub mod PhiLaws
 pub mod PsiLaws
@@ -12,4 +13,5 @@ pub mod SendingLaws
 pub mod SendsLaws
 pub mod SequenceLaws
 pub mod StampLaws
+pub mod TimedLaws
 pub mod WellFormedLaws

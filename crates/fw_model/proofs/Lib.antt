@@ -1,8 +1,12 @@
 pub mod ChoiceLaws
 pub mod CompleteLaws
+pub mod DenotationDomainLaws
+pub mod DenotationLaws
+pub mod DependenceLaws
 pub mod EachLaws
 pub mod FrontierLaws
 pub mod LegalLaws
+pub mod MeasureLaws
 pub mod MeetLaws
 pub mod OrderLaws
 pub mod OutputLaws

@@ -210,7 +210,8 @@ in_order-twice xs = in_order-ascending (in_order xs) (ascending-in_order xs)
 
 -- ---- what passes a test
 
-how_often-filter_in : (test : Timed → Bool) (q : Timed) (xs : List Timed) → test q ≡ true → how_often_timed q (filter test xs) ≡ how_often_timed q xs
+-- what passes is as often as before
+pub how_often-filter_in : (test : Timed → Bool) (q : Timed) (xs : List Timed) → test q ≡ true → how_often_timed q (filter test xs) ≡ how_often_timed q xs
 how_often-filter_in test q [] k = refl
 how_often-filter_in test q (x ∷ xs) k =
     cond_both (test x) (x ∷ filter test xs) (filter test xs) (λ ys. how_often_timed q ys ≡ how_often_timed q (x ∷ xs))
@@ -221,7 +222,8 @@ how_often-filter_in test q (x ∷ xs) k =
     other true i e = let n = ap test (timed-same q x i) in absurd (cc)
     other false i e = refl
 
-how_often-filter_out : (test : Timed → Bool) (q : Timed) (xs : List Timed) → test q ≡ false → how_often_timed q (filter test xs) ≡ 0
+-- what does not pass is not there
+pub how_often-filter_out : (test : Timed → Bool) (q : Timed) (xs : List Timed) → test q ≡ false → how_often_timed q (filter test xs) ≡ 0
 how_often-filter_out test q [] k = refl
 how_often-filter_out test q (x ∷ xs) k =
     cond_both (test x) (x ∷ filter test xs) (filter test xs) (λ ys. how_often_timed q ys ≡ 0)

@@ -7,13 +7,11 @@ use Rattle.fw_flow.specs.declared.kind.Kind.TheVariants.{OutputEpoch}
 use Rattle.fw_flow.specs.declared.node.Edge.{Edge}
 use Rattle.fw_flow.specs.Dataflow.{System, Dataflow, idle_node, kind_of, sender, receiver, in_edges, batches_of}
 use Rattle.fw_flow.specs.WellFormed.{IsWellFormed}
-use Rattle.fw_flow.specs.Walks.{Ranks}
 use Rattle.fw_flow.specs.WholeBags.{Timed, in_order, outputs_of_kind, outputs_of}
-use Rattle.fw_flow.proofs.Ranks.{ranks-exist}
 use Rattle.fw_model.specs.Denotation.{Family, IsDenotation, rounds}
-use Rattle.fw_model.specs.LawsOfDenotation.{DenotationIsTheOnlyOne, enough_rounds, DenotationExists, UnchangedRoundIsDenotation, LaterRoundsAreTheSame, DenotationIsInOrder}
+use Rattle.fw_model.specs.LawsOfDenotation.{Measure, DenotationIsTheOnlyOne, enough_rounds, DenotationExists, UnchangedRoundIsDenotation, LaterRoundsAreTheSame, DenotationIsInOrder}
 use Rattle.fw_model.proofs.TimedLaws.{IsAscendingTimed, ascending-in_order, how_often_timed, same_from_how_often, in_order-twice}
-use Rattle.fw_model.proofs.MeasureLaws.{measure, measure-below}
+use Rattle.fw_model.proofs.MeasureLaws.{measure-exists}
 use Rattle.fw_model.proofs.DependenceLaws.{AreAscending, map-agree, outputs-agree}
 
 -- ---- past the last edge
@@ -40,23 +38,23 @@ denotation-ascending sys family d e =
     subst IsAscendingTimed (sym (d e))
     (ascending-in_order (outputs_of_kind sys.flow (kind_of sys.flow q) (batches_of sys q) (map family (in_edges sys.flow q))))
 
-solutions-agree : (sys : System) → IsWellFormed sys.flow → (ranks : Ranks sys.flow) (f g : Family) → IsDenotation sys f → IsDenotation sys g
-    → (m e : ℕ) → e < length sys.flow.edges → (x : Timed) → measure sys.flow ranks (receiver sys.flow e) x.at < m
+solutions-agree : (sys : System) → IsWellFormed sys.flow → (by : Measure sys.flow) (f g : Family) → IsDenotation sys f → IsDenotation sys g
+    → (m e : ℕ) → e < length sys.flow.edges → (x : Timed) → by.measure (receiver sys.flow e) x.at < m
     → how_often_timed x (f e) ≡ how_often_timed x (g e)
-solutions-agree sys w ranks f g a b zero e l x h = absurd (omega arith)
-solutions-agree sys w ranks f g a b (suc m) e l x h =
+solutions-agree sys w by f g a b zero e l x h = absurd (omega arith)
+solutions-agree sys w by f g a b (suc m) e l x h =
     ap (how_often_timed x) (a e)
-    ∙ outputs-agree sys w ranks f g (denotation-ascending sys f a) (denotation-ascending sys g b) e l x
-    (λ d i r y k. solutions-agree sys w ranks f g a b m d i y
-    (let s : measure sys.flow ranks (receiver sys.flow d) y.at ≡ measure sys.flow ranks (sender sys.flow e) y.at = ap (λ p. measure sys.flow ranks p y.at) r in omega arith))
+    ∙ outputs-agree sys w by f g (denotation-ascending sys f a) (denotation-ascending sys g b) e l x
+    (λ d i r y k. solutions-agree sys w by f g a b m d i y
+    (let s : by.measure (receiver sys.flow d) y.at ≡ by.measure (sender sys.flow e) y.at = ap (λ p. by.measure p y.at) r in omega arith))
     ∙ sym (ap (how_often_timed x) (b e))
 
 pub denotation-only : DenotationIsTheOnlyOne
 denotation-only sys f g w a b e = elim (cases_lt e (length sys.flow.edges)) [
   | inl l ↦
-      let ranks = ranks-exist sys.flow w in
+      let by = measure-exists sys.flow w in
       same_from_how_often (f e) (g e) (denotation-ascending sys f a e) (denotation-ascending sys g b e)
-      (λ x. solutions-agree sys w ranks f g a b (suc (measure sys.flow ranks (receiver sys.flow e) x.at)) e l x (omega arith))
+      (λ x. solutions-agree sys w by f g a b (suc (by.measure (receiver sys.flow e) x.at)) e l x (omega arith))
   | inr l ↦ a e ∙ past-outputs sys f e l ∙ sym (past-outputs sys g e l) ∙ sym (b e)
 ]
 
@@ -68,30 +66,29 @@ rounds-ascending sys (suc n) e =
     let q = sender sys.flow e in
     ascending-in_order (outputs_of_kind sys.flow (kind_of sys.flow q) (batches_of sys q) (map (rounds sys n) (in_edges sys.flow q)))
 
-rounds-agree : (sys : System) → IsWellFormed sys.flow → (ranks : Ranks sys.flow) (m k : ℕ) → m ≤ k → (e : ℕ) → e < length sys.flow.edges
-    → (x : Timed) → measure sys.flow ranks (receiver sys.flow e) x.at < m
+rounds-agree : (sys : System) → IsWellFormed sys.flow → (by : Measure sys.flow) (m k : ℕ) → m ≤ k → (e : ℕ) → e < length sys.flow.edges
+    → (x : Timed) → by.measure (receiver sys.flow e) x.at < m
     → how_often_timed x (rounds sys k e) ≡ how_often_timed x (rounds sys (suc k) e)
-rounds-agree sys w ranks zero k i e l x h = absurd (omega arith)
-rounds-agree sys w ranks (suc m) zero i e l x h = absurd (omega arith)
-rounds-agree sys w ranks (suc m) (suc k) i e l x h =
-    outputs-agree sys w ranks (rounds sys k) (rounds sys (suc k)) (rounds-ascending sys k) (rounds-ascending sys (suc k)) e l x
-    (λ d j r y v. rounds-agree sys w ranks m k (omega arith) d j y
-    (let s : measure sys.flow ranks (receiver sys.flow d) y.at ≡ measure sys.flow ranks (sender sys.flow e) y.at = ap (λ p. measure sys.flow ranks p y.at) r in omega arith))
+rounds-agree sys w by zero k i e l x h = absurd (omega arith)
+rounds-agree sys w by (suc m) zero i e l x h = absurd (omega arith)
+rounds-agree sys w by (suc m) (suc k) i e l x h =
+    outputs-agree sys w by (rounds sys k) (rounds sys (suc k)) (rounds-ascending sys k) (rounds-ascending sys (suc k)) e l x
+    (λ d j r y v. rounds-agree sys w by m k (omega arith) d j y
+    (let s : by.measure (receiver sys.flow d) y.at ≡ by.measure (sender sys.flow e) y.at = ap (λ p. by.measure p y.at) r in omega arith))
 
 past-rounds : (sys : System) (n e : ℕ) → length sys.flow.edges ≤ e → rounds sys n e ≡ []
 past-rounds sys zero e l = refl
 past-rounds sys (suc n) e l = past-outputs sys (rounds sys n) e l
 
 pub denotation-exists : DenotationExists
-unfolding enough_rounds
 denotation-exists sys w e =
     let flow = sys.flow in
     let n = enough_rounds flow in
     elim (cases_lt e (length flow.edges)) [
       | inl l ↦
-          let ranks = ranks-exist flow w in
+          let by = measure-exists flow w in
           same_from_how_often (rounds sys n e) (rounds sys (suc n) e) (rounds-ascending sys n e) (rounds-ascending sys (suc n) e)
-          (λ x. rounds-agree sys w ranks n n (omega arith) e l x (measure-below flow ranks (receiver flow e) (w.receivers_declared e l) x.at))
+          (λ x. rounds-agree sys w by n n (omega arith) e l x (by.bound (receiver flow e) (w.receivers_declared e l) x.at))
       | inr l ↦ past-rounds sys n e l ∙ sym (past-outputs sys (rounds sys n) e l)
     ]
 

@@ -1,18 +1,20 @@
 -- What an out bag at a stamp depends on: the bags on the sender's in-edges at stamps of lesser measure.
-use Rattle.std.proofs.Common.{◌≡◌, ℕ, suc, ◌+◌, ◌<◌, Bool, true, false, ◌==◌, List, [], ◌∷◌, length, get_or, Option, Some, None, map, refl, sym, ap, ◌∙◌, inl, inr, arith}
+use Rattle.std.proofs.Common.{◌≡◌, ℕ, suc, ◌+◌, ◌<◌, Bool, cond, true, false, ◌==◌, List, [], ◌∷◌, length, get_or, Option, Some, None, map, refl, sym, ap, subst, ◌∙◌, inl, inr, arith}
 use Rattle.std.proofs.lemmas.Bool.{cond_both, cases_Bool, eqb-true}
 use Rattle.std.specs.List.{AllByRecursion}
 use Rattle.fw_time.specs.Stamp.{Stamp, same}
 use Rattle.fw_flow.specs.declared.node.Edge.{Edge}
 use Rattle.fw_flow.specs.Dataflow.{System, Dataflow, kind_of, sender, receiver, edges_into, in_edges, batches_of, send_stamp_of_kind}
 use Rattle.fw_flow.specs.WellFormed.{IsWellFormed}
-use Rattle.fw_flow.specs.Walks.{is_looped, Ranks}
-use Rattle.fw_flow.specs.WholeBags.{Timed, outputs_of_kind, outputs_of}
+use Rattle.fw_flow.specs.Walks.{is_looped}
+use Rattle.fw_flow.specs.WholeBags.{Timed, timed, recs_where, in_order, outputs_of_kind, outputs_of}
 use Rattle.fw_model.specs.Denotation.{Family}
+use Rattle.fw_model.specs.LawsOfDenotation.{Measure, RecsAtStampsDecideBag, OutBagsDependOnLesserMeasure}
+use Rattle.fw_model.proofs.StampLaws.{leq-refl}
 use Rattle.fw_model.proofs.EachLaws.{each-weaker}
-use Rattle.fw_model.proofs.TimedLaws.{IsAscendingTimed, ascending-filter, how_often_timed, how_often-in_order, same_from_how_often, how_often-filter_in, how_often-filter_out}
+use Rattle.fw_model.proofs.TimedLaws.{IsAscendingTimed, ascending-in_order, ascending-filter, how_often_timed, how_often-in_order, same_from_how_often, how_often-filter_in, how_often-filter_out}
 use Rattle.fw_model.proofs.OutputLaws.{same-is, same-refl, part, is_stamp, sends_to, outputs-part}
-use Rattle.fw_model.proofs.MeasureLaws.{measure, measure_falls-unlooped, measure_falls-looped, sends_to_loop, local-from_loop}
+use Rattle.fw_model.proofs.MeasureLaws.{sends_to_loop, local-from_loop}
 
 -- ---- in-edges
 
@@ -52,9 +54,9 @@ abbrev pub AreAscending : Family → Type 0
 AreAscending family = (e : ℕ) → IsAscendingTimed (family e)
 
 -- the families have each timed rec of lesser measure than this equally often, on each edge into the node
-abbrev pub AgreeBelow : (flow : Dataflow) → Ranks flow → Family → Family → ℕ → ℕ → Type 0
-AgreeBelow flow ranks f g p m =
-    (d : ℕ) → d < length flow.edges → receiver flow d ≡ p → (y : Timed) → measure flow ranks p y.at < m → how_often_timed y (f d) ≡ how_often_timed y (g d)
+abbrev pub AgreeBelow : (flow : Dataflow) → Measure flow → Family → Family → ℕ → ℕ → Type 0
+AgreeBelow flow by f g p m =
+    (d : ℕ) → d < length flow.edges → receiver flow d ≡ p → (y : Timed) → by.measure p y.at < m → how_often_timed y (f d) ≡ how_often_timed y (g d)
 
 is_stamp-some : (t : Stamp) (at : Option Stamp) → is_stamp t at ≡ true → at ≡ Some t
 is_stamp-some t None k = absurd (cc)
@@ -77,29 +79,29 @@ how_often-part x xs ys e =
     let test : Timed → Bool = λ r. same x.at r.at in
     sym (how_often-filter_in test x xs (same-refl x.at)) ∙ ap (how_often_timed x) e ∙ how_often-filter_in test x ys (same-refl x.at)
 
-unlooped-agree : (sys : System) → IsWellFormed sys.flow → (ranks : Ranks sys.flow) (f g : Family) → AreAscending f → AreAscending g
+unlooped-agree : (sys : System) → IsWellFormed sys.flow → (by : Measure sys.flow) (f g : Family) → AreAscending f → AreAscending g
     → (e : ℕ) → e < length sys.flow.edges → (x : Timed)
-    → AgreeBelow sys.flow ranks f g (sender sys.flow e) (measure sys.flow ranks (receiver sys.flow e) x.at)
+    → AgreeBelow sys.flow by f g (sender sys.flow e) (by.measure (receiver sys.flow e) x.at)
     → is_looped sys.flow (receiver sys.flow e) ≡ false
     → how_often_timed x (outputs_of sys f (sender sys.flow e)) ≡ how_often_timed x (outputs_of sys g (sender sys.flow e))
-unlooped-agree sys w ranks f g a b e l x h k =
+unlooped-agree sys w by f g a b e l x h k =
     let flow = sys.flow in
     let q = sender flow e in
     let bags = map-agree f g (in_edges flow q)
     (each-weaker (λ d. (d < length flow.edges) × (receiver flow d ≡ q)) (λ d. f d ≡ g d) (in_edges flow q)
-    (λ d i. same_from_how_often (f d) (g d) (a d) (b d) (λ y. h d i.0 i.1 y (measure_falls-unlooped flow w ranks e l k y.at x.at)))
+    (λ d i. same_from_how_often (f d) (g d) (a d) (b d) (λ y. h d i.0 i.1 y (by.into_unlooped e l k y.at x.at)))
     (in_edges-each flow q)) in
     let F : List (List Timed) → List Timed = outputs_of_kind flow (kind_of flow q) (batches_of sys q) in
     how_often-in_order x (F (map f (in_edges flow q)))
     ∙ ap (λ bs. how_often_timed x (F bs)) bags
     ∙ sym (how_often-in_order x (F (map g (in_edges flow q))))
 
-looped-agree : (sys : System) → IsWellFormed sys.flow → (ranks : Ranks sys.flow) (f g : Family) → AreAscending f → AreAscending g
+looped-agree : (sys : System) → IsWellFormed sys.flow → (by : Measure sys.flow) (f g : Family) → AreAscending f → AreAscending g
     → (e : ℕ) → e < length sys.flow.edges → (x : Timed)
-    → AgreeBelow sys.flow ranks f g (sender sys.flow e) (measure sys.flow ranks (receiver sys.flow e) x.at)
+    → AgreeBelow sys.flow by f g (sender sys.flow e) (by.measure (receiver sys.flow e) x.at)
     → is_looped sys.flow (receiver sys.flow e) ≡ true
     → how_often_timed x (outputs_of sys f (sender sys.flow e)) ≡ how_often_timed x (outputs_of sys g (sender sys.flow e))
-looped-agree sys w ranks f g a b e l x h k =
+looped-agree sys w by f g a b e l x h k =
     let flow = sys.flow in
     let q = sender flow e in
     let t = x.at in
@@ -111,7 +113,7 @@ looped-agree sys w ranks f g a b e l x h k =
     let bags = maps-agree (part pass) f g ds
     (each-weaker (λ d. (d < length flow.edges) × (receiver flow d ≡ q)) (λ d. part pass (f d) ≡ part pass (g d)) ds
     (λ d i. parts-agree pass (f d) (g d) (a d) (b d)
-    (λ y j. h d i.0 i.1 y (measure_falls-looped flow w ranks e l k y.at t (is_stamp-some t (send_stamp_of_kind flow kind y.at) j))))
+    (λ y j. h d i.0 i.1 y (by.into_looped e l k y.at t t (is_stamp-some t (send_stamp_of_kind flow kind y.at) j) (leq-refl t))))
     (in_edges-each flow q)) in
     how_often-in_order x (F (map f ds))
     ∙ how_often-part x (F (map f ds)) (F (map g ds))
@@ -122,11 +124,50 @@ looped-agree sys w ranks f g a b e l x h k =
 
 -- Two families that agree on the sender's in-edges at each stamp of lesser measure give each timed rec of the measure
 -- equally often on the edge.
-pub outputs-agree : (sys : System) → IsWellFormed sys.flow → (ranks : Ranks sys.flow) (f g : Family) → AreAscending f → AreAscending g
+pub outputs-agree : (sys : System) → IsWellFormed sys.flow → (by : Measure sys.flow) (f g : Family) → AreAscending f → AreAscending g
     → (e : ℕ) → e < length sys.flow.edges → (x : Timed)
-    → AgreeBelow sys.flow ranks f g (sender sys.flow e) (measure sys.flow ranks (receiver sys.flow e) x.at)
+    → AgreeBelow sys.flow by f g (sender sys.flow e) (by.measure (receiver sys.flow e) x.at)
     → how_often_timed x (outputs_of sys f (sender sys.flow e)) ≡ how_often_timed x (outputs_of sys g (sender sys.flow e))
-outputs-agree sys w ranks f g a b e l x h = elim (cases_Bool (is_looped sys.flow (receiver sys.flow e))) [
-  | inl k ↦ looped-agree sys w ranks f g a b e l x h k
-  | inr k ↦ unlooped-agree sys w ranks f g a b e l x h k
+outputs-agree sys w by f g a b e l x h = elim (cases_Bool (is_looped sys.flow (receiver sys.flow e))) [
+  | inl k ↦ looped-agree sys w by f g a b e l x h k
+  | inr k ↦ unlooped-agree sys w by f g a b e l x h k
 ]
+
+-- ---- the laws, by the recs at stamps
+
+ascending-from_in_order : (xs : List Timed) → in_order xs ≡ xs → IsAscendingTimed xs
+ascending-from_in_order xs e = subst IsAscendingTimed e (ascending-in_order xs)
+
+-- the part at a stamp is its recs at the stamp
+part-recs : (t : Stamp) (xs : List Timed) → part (same t) xs ≡ timed t (recs_where (same t) xs)
+part-recs t [] = refl
+part-recs t (x ∷ xs) = step (part-recs t xs) (same t x.at) refl
+  where
+    step : part (same t) xs ≡ timed t (recs_where (same t) xs) → (b : Bool) → same t x.at ≡ b
+        → cond b (x ∷ part (same t) xs) (part (same t) xs) ≡ timed t (map (λ (r : Timed). r.rec) (cond b (x ∷ part (same t) xs) (part (same t) xs)))
+    step ih true e =
+        let at : Stamp → Timed = λ s. record { at = s; rec = x.rec } in
+        ap (λ y. y ∷ part (same t) xs) (sym (ap at (same-is t x.at e))) ∙ ap (λ ys. at t ∷ ys) ih
+    step ih false e = ih
+
+how_often-at : (t : Stamp) (xs ys : List Timed) → recs_where (same t) xs ≡ recs_where (same t) ys → (y : Timed) → y.at ≡ t → how_often_timed y xs ≡ how_often_timed y ys
+how_often-at t xs ys e y i =
+    let same_recs : recs_where (same y.at) xs ≡ recs_where (same y.at) ys =
+    ap (λ s. recs_where (same s) xs) i ∙ e ∙ sym (ap (λ s. recs_where (same s) ys) i) in
+    how_often-part y xs ys (part-recs y.at xs ∙ ap (timed y.at) same_recs ∙ sym (part-recs y.at ys))
+
+pub recs_decide : RecsAtStampsDecideBag
+recs_decide xs ys a b h =
+    same_from_how_often xs ys (ascending-from_in_order xs a) (ascending-from_in_order ys b) (λ y. how_often-at y.at xs ys (h y.at) y refl)
+
+pub out_bags-depend : OutBagsDependOnLesserMeasure
+out_bags-depend sys f g w by a b e l t h =
+    let flow = sys.flow in
+    let q = sender flow e in
+    let X = outputs_of_kind flow (kind_of flow q) (batches_of sys q) (map f (in_edges flow q)) in
+    let Y = outputs_of_kind flow (kind_of flow q) (batches_of sys q) (map g (in_edges flow q)) in
+    ap (map (λ (r : Timed). r.rec))
+    (parts-agree (same t) (in_order X) (in_order Y) (ascending-in_order X) (ascending-in_order Y)
+    (λ y i. outputs-agree sys w by f g (λ d. ascending-from_in_order (f d) (a d)) (λ d. ascending-from_in_order (g d) (b d)) e l y
+    (λ d j r z k. how_often-at z.at (f d) (g d)
+    (h d j r z.at (let s : by.measure (receiver flow e) t ≡ by.measure (receiver flow e) y.at = ap (by.measure (receiver flow e)) (same-is t y.at i) in omega arith)) z refl)))

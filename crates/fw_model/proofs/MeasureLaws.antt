@@ -1,7 +1,8 @@
--- The measure of a stamp at a node, by the rank of loops, the counter and the rank within rounds: it falls from each bag to those of which it is made.
-use Rattle.std.proofs.Common.{◌≡◌, ◌⊎◌, ℕ, ◌+◌, ◌*◌, ◌<◌, ◌≤◌, min, Bool, true, false, length, Some, refl, sym, ap, ◌∙◌, inl, inr, arith}
+-- The measure of a stamp at a node: by the rank of loops, then the counter, then the rank within rounds.
+use Rattle.std.proofs.Common.{◌≡◌, ◌⊎◌, ℕ, ◌+◌, ◌*◌, ◌<◌, ◌≤◌, min, Bool, nat_le, true, false, [], ◌∷◌, length, Some, refl, sym, ap, ◌∙◌, inl, inr, arith}
+use Rattle.std.proofs.lemmas.Bool.{and_parts}
 use Rattle.std.proofs.Math.Nat.{mul-le-mul_left, min-le_right}
-use Rattle.fw_time.specs.Stamp.{Stamp, nest, outer, counter}
+use Rattle.fw_time.specs.Stamp.{Stamp, leq, nest, outer, counter}
 use Rattle.fw_flow.specs.declared.kind.Domain.{Domain}
 use Rattle.fw_flow.specs.declared.kind.Domain.TheVariants.{Epoch, Number, Loop as InLoop}
 use Rattle.fw_flow.specs.declared.kind.Kind.{Kind}
@@ -9,7 +10,9 @@ use Rattle.fw_flow.specs.declared.kind.Kind.TheVariants.{OutputEpoch, OutputNumb
 use Rattle.fw_flow.specs.Dataflow.{Dataflow, kind_of, sender, receiver, max_of, domain_of, out_domain_of, domain_of_kind, out_domain_of_kind, send_stamp, send_stamp_of_kind}
 use Rattle.fw_flow.specs.WellFormed.{IsWellFormed, IsLoopDeclared, is_feedback_kind}
 use Rattle.fw_flow.specs.Walks.{is_same_loop, is_looped, Ranks}
-use Rattle.fw_model.proofs.StampLaws.{counter-nest}
+use Rattle.fw_flow.proofs.Ranks.{ranks-exist}
+use Rattle.fw_model.specs.LawsOfDenotation.{enough_rounds, MeasureExists}
+use Rattle.fw_model.proofs.StampLaws.{counter-nest, leq-line}
 use Rattle.fw_model.proofs.SendingLaws.{some_is, fed_back-some}
 use Rattle.fw_model.proofs.OutputLaws.{is_local_kind}
 
@@ -22,7 +25,7 @@ counter_in Number t = 0
 counter_in (InLoop l) t = min (counter t) 1024
 
 -- the measure of a stamp at a node
-unfoldable pub measure : (flow : Dataflow) → Ranks flow → ℕ → Stamp → ℕ
+unfoldable measure : (flow : Dataflow) → Ranks flow → ℕ → Stamp → ℕ
 measure flow ranks p t = (ranks.lambda p * 1025 + counter_in (domain_of flow p) t) * length flow.nodes + ranks.rho p
 
 counter_in-most : (d : Domain) (t : Stamp) → counter_in d t ≤ 1024
@@ -85,10 +88,24 @@ raises flow Sequence s t d m k e = absurd (cc)
 raises flow (Regroup n) s t d m k e = absurd (cc)
 raises flow kind s t d m k e = inr (refl, keeps (domain_of_kind flow kind) s t e)
 
+counter-leq : (s t : Stamp) → leq s t ≡ true → counter s ≤ counter t
+counter-leq [] [] p = omega arith
+counter-leq [] (y ∷ t) p = absurd (cc)
+counter-leq (x ∷ s) [] p = absurd (cc)
+counter-leq (x ∷ []) (y ∷ []) p = leq-line x y p
+counter-leq (x ∷ []) (y ∷ w ∷ t) p = let a = and_parts (nat_le x y) false p in absurd (cc)
+counter-leq (x ∷ z ∷ s) (y ∷ []) p = let a = and_parts (nat_le x y) false p in absurd (cc)
+counter-leq (x ∷ z ∷ s) (y ∷ w ∷ t) p = counter-leq (z ∷ s) (w ∷ t) (and_parts (nat_le x y) (leq (z ∷ s) (w ∷ t)) p).1
+
+counter_in-leq : (d : Domain) (s t : Stamp) → leq s t ≡ true → counter_in d s ≤ counter_in d t
+counter_in-leq Epoch s t p = omega arith
+counter_in-leq Number s t p = omega arith
+counter_in-leq (InLoop l) s t p = let a = counter-leq s t p in omega arith
+
 -- ---- the measure falls
 
 -- towards the sender of an edge into a node that is not looped, whatever the stamps
-pub measure_falls-unlooped : (flow : Dataflow) → IsWellFormed flow → (ranks : Ranks flow) (e : ℕ) → e < length flow.edges
+measure_falls-unlooped : (flow : Dataflow) → IsWellFormed flow → (ranks : Ranks flow) (e : ℕ) → e < length flow.edges
     → is_looped flow (receiver flow e) ≡ false → (s t : Stamp)
     → measure flow ranks (sender flow e) s < measure flow ranks (receiver flow e) t
 unfolding measure
@@ -106,19 +123,20 @@ pub sends_to_loop : (flow : Dataflow) → IsWellFormed flow → (e : ℕ) → e 
 sends_to_loop flow w e l k =
     ap is_loop (w.domains e l) ∙ is_loop-same (domain_of flow (receiver flow e)) (out_domain_of flow (receiver flow e)) k
 
--- towards the sender of an edge into a looped node, at a stamp that sends at this one
-pub measure_falls-looped : (flow : Dataflow) → IsWellFormed flow → (ranks : Ranks flow) (e : ℕ) → e < length flow.edges
-    → is_looped flow (receiver flow e) ≡ true → (s t : Stamp) → send_stamp flow (sender flow e) s ≡ Some t
+-- towards the sender of an edge into a looped node, at a stamp that sends at this one or below
+measure_falls-looped : (flow : Dataflow) → IsWellFormed flow → (ranks : Ranks flow) (e : ℕ) → e < length flow.edges
+    → is_looped flow (receiver flow e) ≡ true → (s t u : Stamp) → send_stamp flow (sender flow e) s ≡ Some u → leq u t ≡ true
     → measure flow ranks (sender flow e) s < measure flow ranks (receiver flow e) t
 unfolding measure
-measure_falls-looped flow w ranks e l k s t is =
+measure_falls-looped flow w ranks e l k s t u is below =
     let q = sender flow e in
     let p = receiver flow e in
     let n = length flow.nodes in
     let here = w.senders_declared e l in
     let up : ranks.lambda q ≤ ranks.lambda p = ranks.of_loops.keeps e l in
     let same : counter_in (out_domain_of flow q) t ≡ counter_in (domain_of flow p) t = ap (λ d. counter_in d t) (w.domains e l) in
-    elim (raises flow (kind_of flow q) s t (w.loops_declared q here) (λ r i. (w.limits.counters r i).1) (sends_to_loop flow w e l k) is) [
+    let less = counter_in-leq (out_domain_of flow q) u t below in
+    elim (raises flow (kind_of flow q) s u (w.loops_declared q here) (λ r i. (w.limits.counters r i).1) (sends_to_loop flow w e l k) is) [
       | inl a ↦
           let c = a.1 in
           first_less n (ranks.lambda q * 1025 + counter_in (domain_of flow q) s) (ranks.lambda p * 1025 + counter_in (domain_of flow p) t)
@@ -129,13 +147,23 @@ measure_falls-looped flow w ranks e l k s t is =
           (ranks.rho q) (ranks.rho p) (omega arith) (ranks.within_rounds.rises e l a.0)
     ]
 
--- each measure is below this number
-pub measure-below : (flow : Dataflow) (ranks : Ranks flow) (p : ℕ) → p < length flow.nodes → (t : Stamp)
-    → measure flow ranks p t < (length flow.nodes + 1) * 1025 * length flow.nodes
-unfolding measure
+measure-below : (flow : Dataflow) (ranks : Ranks flow) (p : ℕ) → p < length flow.nodes → (t : Stamp) → measure flow ranks p t < enough_rounds flow
+unfolding measure enough_rounds
 measure-below flow ranks p l t =
     let n = length flow.nodes in
     let c = counter_in-most (domain_of flow p) t in
     let b = ranks.of_loops.bound p l in
     let h = first_less n (ranks.lambda p * 1025 + counter_in (domain_of flow p) t) ((n + 1) * 1025) (ranks.rho p) 0 (omega arith) (ranks.within_rounds.bound p l) in
     omega arith
+
+-- ---- the law
+
+pub measure-exists : MeasureExists
+measure-exists flow w =
+    let ranks = ranks-exist flow w in
+    record {
+      measure = measure flow ranks;
+      bound = measure-below flow ranks;
+      into_unlooped = measure_falls-unlooped flow w ranks;
+      into_looped = measure_falls-looped flow w ranks;
+    }

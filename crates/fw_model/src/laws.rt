@@ -1,7 +1,7 @@
 //! The laws of the definitions: each function's `ensures` is one law, and its body is empty.
 ghost use Rattle.fw_model.specs.LawsOfChoices.{ConsistentChoicesHaveUnion, DeliveredOfUnion, DiscardedOfUnion, EachLiesWithinUnion, LargestChoiceIsOne, NotifiedOfUnion, UnionOfCandidatesIsCandidate, UnionOfConsistentIsConsistent};
 ghost use Rattle.fw_model.specs.LawsOfCompleteFrontiers.{AdmissibleStaysAdmissible, EnabledIsOutside, LegalInsidePhiComesFromInside, SequencesAreNotifiedInOrder};
-ghost use Rattle.fw_model.specs.LawsOfDenotation.{DenotationExists, DenotationIsInDomain, DenotationIsInOrder, DenotationIsTheOnlyOne, LaterRoundsAreTheSame, UnchangedRoundIsDenotation};
+ghost use Rattle.fw_model.specs.LawsOfDenotation.{DenotationExists, DenotationIsInDomain, DenotationIsInOrder, DenotationIsTheOnlyOne, LaterRoundsAreTheSame, MeasureExists, OutBagsDependOnLesserMeasure, RecsAtStampsDecideBag, UnchangedRoundIsDenotation};
 ghost use Rattle.fw_model.specs.LawsOfLegalHistories.{LegalEventsAreInDomain, LegalMessagesAreInDomain, OnlyInputsInject};
 ghost use Rattle.fw_model.specs.LawsOfProjections.{PhiGrowsWithHistory, PhiIgnoresHistory, PhiIsFrontier, PhiIsMonotone, PhiOfEverything, PhiOfMeet, PsiIsFrontier, PsiIsMonotone, PsiOfJoin, PsiOfNothing, PsiOfUnion};
 ghost use Rattle.fw_model.specs.LawsOfSending.{InsidePhiComesFromInside, InsidePhiOfSequenceComesFromInside, PhiBySendStamps, PsiBySendStamps, SendStampIsMonotone, SendersOfWellFormed, SendsAreInsidePsi, SendsAtSendStamp, SentFromInsideIsInsidePsi};
@@ -187,6 +187,21 @@ pub fn union_of_candidates_is_candidate()
 /// The union of two consistent choices of the restore candidates is consistent, where it is offered.
 pub fn union_of_consistent_is_consistent()
     ensures { UnionOfConsistentIsConsistent }
+{}
+
+/// In a well-formed dataflow the stamps of each node have a measure, which falls from what a node is sent to what it is made of.
+pub fn measure_exists()
+    ensures { MeasureExists }
+{}
+
+/// Two bags in order that have the same recs at each stamp are the same.
+pub fn recs_at_stamps_decide_bag()
+    ensures { RecsAtStampsDecideBag }
+{}
+
+/// What a node sends on an edge at a stamp depends on the bags on its in-edges at stamps of lesser measure alone.
+pub fn out_bags_depend_on_lesser_measure()
+    ensures { OutBagsDependOnLesserMeasure }
 {}
 
 /// Two families that solve the equations of a well-formed dataflow are the same on each edge: the denotation is the only one.

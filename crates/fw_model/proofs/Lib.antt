@@ -8,6 +8,7 @@ pub mod FrontierLaws
 pub mod LegalLaws
 pub mod MeasureLaws
 pub mod MeetLaws
+pub mod NumberedLaws
 pub mod OrderLaws
 pub mod OutputLaws
 pub mod PendingLaws

@@ -68,6 +68,14 @@ pub IsAscendingTimed : List Timed → Type 0
 IsAscendingTimed [] = Unit {0}
 IsAscendingTimed (x ∷ xs) = AllByRecursion (λ y. is_gt (timed_cmp x y) ≡ false) xs × IsAscendingTimed xs
 
+pub ascending-nil : IsAscendingTimed []
+unfolding IsAscendingTimed
+ascending-nil = tt
+
+pub ascending-cons : (x : Timed) (xs : List Timed) → AllByRecursion (λ y. is_gt (timed_cmp x y) ≡ false) xs → IsAscendingTimed xs → IsAscendingTimed (x ∷ xs)
+unfolding IsAscendingTimed
+ascending-cons x xs a b = (a, b)
+
 -- what holds of each timed rec and of one more holds of each with that put in
 pub each-with_timed : (P : Timed → Type 0) (r : Timed) (xs : List Timed) → P r → AllByRecursion P xs → AllByRecursion P (with_timed r xs)
 each-with_timed P r [] p a = (p, tt)

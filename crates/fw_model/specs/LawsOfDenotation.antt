@@ -1,9 +1,9 @@
--- Laws of the denotation: what an out bag depends on, that there is exactly one denotation, which rounds reach, and where
--- its recs are.
-use Rattle.std.specs.Prelude.{◌≡◌, ℕ, suc, ◌+◌, ◌*◌, ◌<◌, ◌≤◌, true, false, List, length, Some}
+-- Laws of the denotation: what an out bag depends on, that there is exactly one denotation, which rounds reach, and at
+-- which stamps its recs are.
+use Rattle.std.specs.Prelude.{◌≡◌, ℕ, suc, ◌+◌, ◌*◌, ◌<◌, ◌≤◌, true, false, List, [], ◌∷◌, length, Some}
 use Rattle.std.specs.List.{AllByRecursion}
 use Rattle.fw_time.specs.Stamp.{Stamp, leq, same, in_domain}
-use Rattle.fw_flow.specs.Dataflow.{System, Dataflow, sender, receiver, bounds_of, send_stamp}
+use Rattle.fw_flow.specs.Dataflow.{System, Dataflow, sender, receiver, bounds_of, send_stamp, is_numbered}
 use Rattle.fw_flow.specs.WellFormed.{IsWellFormed}
 use Rattle.fw_flow.specs.Walks.{is_looped}
 use Rattle.fw_flow.specs.WholeBags.{Timed, recs_where, in_order, outputs_of}
@@ -73,3 +73,13 @@ DenotationIsInOrder = (sys : System) (family : Family) → IsDenotation sys fami
 abbrev pub DenotationIsInDomain : Type 0
 DenotationIsInDomain = (sys : System) (family : Family) → IsWellFormed sys.flow → HasEpochs sys → IsDenotation sys family
     → (e : ℕ) → AllByRecursion (λ (r : Timed). in_domain (bounds_of sys.flow (receiver sys.flow e)) r.at ≡ true) (family e)
+
+-- the timed recs are at the numbers from n on, one at each, in order
+abbrev pub AreNumberedFrom : ℕ → List Timed → Type 0
+AreNumberedFrom n [] = Unit {0}
+AreNumberedFrom n (r ∷ rs) = (r.at ≡ n ∷ []) × AreNumberedFrom (n + 1) rs
+
+-- the timed recs of the denotation on a numbered edge are at the numbers from 0 on, one at each, in order
+abbrev pub DenotationIsNumbered : Type 0
+DenotationIsNumbered = (sys : System) (family : Family) → IsWellFormed sys.flow → IsDenotation sys family
+    → (e : ℕ) → is_numbered sys.flow e ≡ true → AreNumberedFrom 0 (family e)

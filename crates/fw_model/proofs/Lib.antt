@@ -1,10 +1,16 @@
 pub mod ChoiceLaws
 pub mod CompleteLaws
+pub mod DenotationDomainLaws
+pub mod DenotationLaws
+pub mod DependenceLaws
 pub mod EachLaws
 pub mod FrontierLaws
 pub mod LegalLaws
+pub mod MeasureLaws
 pub mod MeetLaws
+pub mod NumberedLaws
 pub mod OrderLaws
+pub mod OutputLaws
 pub mod PendingLaws
 pub mod PhiLaws
 pub mod PsiLaws
@@ -12,4 +18,5 @@ pub mod SendingLaws
 pub mod SendsLaws
 pub mod SequenceLaws
 pub mod StampLaws
+pub mod TimedLaws
 pub mod WellFormedLaws

@@ -1,6 +1,7 @@
 //! The laws of the definitions: each function's `ensures` is one law, and its body is empty.
 ghost use Rattle.fw_model.specs.LawsOfChoices.{ConsistentChoicesHaveUnion, DeliveredOfUnion, DiscardedOfUnion, EachLiesWithinUnion, LargestChoiceIsOne, NotifiedOfUnion, UnionOfCandidatesIsCandidate, UnionOfConsistentIsConsistent};
 ghost use Rattle.fw_model.specs.LawsOfCompleteFrontiers.{AdmissibleStaysAdmissible, EnabledIsOutside, LegalInsidePhiComesFromInside, SequencesAreNotifiedInOrder};
+ghost use Rattle.fw_model.specs.LawsOfDenotation.{DenotationExists, DenotationIsInDomain, DenotationIsInOrder, DenotationIsNumbered, DenotationIsTheOnlyOne, LaterRoundsAreTheSame, MeasureExists, OutBagsDependOnLesserMeasure, RecsAtStampsDecideBag, UnchangedRoundIsDenotation};
 ghost use Rattle.fw_model.specs.LawsOfLegalHistories.{LegalEventsAreInDomain, LegalMessagesAreInDomain, OnlyInputsInject};
 ghost use Rattle.fw_model.specs.LawsOfProjections.{PhiGrowsWithHistory, PhiIgnoresHistory, PhiIsFrontier, PhiIsMonotone, PhiOfEverything, PhiOfMeet, PsiIsFrontier, PsiIsMonotone, PsiOfJoin, PsiOfNothing, PsiOfUnion};
 ghost use Rattle.fw_model.specs.LawsOfSending.{InsidePhiComesFromInside, InsidePhiOfSequenceComesFromInside, PhiBySendStamps, PsiBySendStamps, SendStampIsMonotone, SendersOfWellFormed, SendsAreInsidePsi, SendsAtSendStamp, SentFromInsideIsInsidePsi};
@@ -186,4 +187,54 @@ pub fn union_of_candidates_is_candidate()
 /// The union of two consistent choices of the restore candidates is consistent, where it is offered.
 pub fn union_of_consistent_is_consistent()
     ensures { UnionOfConsistentIsConsistent }
+{}
+
+/// In a well-formed dataflow the stamps of each node have a measure, which falls from what a node is sent to what it is made of.
+pub fn measure_exists()
+    ensures { MeasureExists }
+{}
+
+/// Two bags in order that have the same recs at each stamp are the same.
+pub fn recs_at_stamps_decide_bag()
+    ensures { RecsAtStampsDecideBag }
+{}
+
+/// What a node sends on an edge at a stamp depends on the bags on its in-edges at stamps of lesser measure alone.
+pub fn out_bags_depend_on_lesser_measure()
+    ensures { OutBagsDependOnLesserMeasure }
+{}
+
+/// Two families that solve the equations of a well-formed dataflow are the same on each edge: the denotation is the only one.
+pub fn denotation_is_the_only_one()
+    ensures { DenotationIsTheOnlyOne }
+{}
+
+/// In a well-formed dataflow the family after so many rounds solves the equations: the denotation exists.
+pub fn denotation_exists()
+    ensures { DenotationExists }
+{}
+
+/// A family that the next round leaves unchanged solves the equations.
+pub fn unchanged_round_is_denotation()
+    ensures { UnchangedRoundIsDenotation }
+{}
+
+/// Once rounds have reached a solution, each later round is the same.
+pub fn later_rounds_are_the_same()
+    ensures { LaterRoundsAreTheSame }
+{}
+
+/// Each bag of the denotation is in order.
+pub fn denotation_is_in_order()
+    ensures { DenotationIsInOrder }
+{}
+
+/// Each timed rec of the denotation of a well-formed dataflow is at a stamp of the domain of its edge's receiver.
+pub fn denotation_is_in_domain()
+    ensures { DenotationIsInDomain }
+{}
+
+/// The timed recs of the denotation of a well-formed dataflow on a numbered edge are at the numbers from 0 on, one at each.
+pub fn denotation_is_numbered()
+    ensures { DenotationIsNumbered }
 {}

@@ -1,6 +1,9 @@
 pub mod ChoiceLaws
+pub mod CmpLaws
 pub mod CompleteLaws
+pub mod DescentLaws
 pub mod EachLaws
+pub mod FrontLaws
 pub mod FrontierLaws
 pub mod LegalLaws
 pub mod MeetLaws
@@ -11,5 +14,7 @@ pub mod PsiLaws
 pub mod SendingLaws
 pub mod SendsLaws
 pub mod SequenceLaws
+pub mod SettleLaws
 pub mod StampLaws
+pub mod StampLists
 pub mod WellFormedLaws

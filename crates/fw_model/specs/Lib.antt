@@ -8,3 +8,4 @@ pub mod LawsOfProjections
 pub mod LawsOfSending
 pub mod Machine
 pub mod Steps
+pub mod LawsOfExistence

@@ -1,6 +1,7 @@
 //! The laws of the definitions: each function's `ensures` is one law, and its body is empty.
 ghost use Rattle.fw_model.specs.LawsOfChoices.{ConsistentChoicesHaveUnion, DeliveredOfUnion, DiscardedOfUnion, EachLiesWithinUnion, LargestChoiceIsOne, NotifiedOfUnion, UnionOfCandidatesIsCandidate, UnionOfConsistentIsConsistent};
 ghost use Rattle.fw_model.specs.LawsOfCompleteFrontiers.{AdmissibleStaysAdmissible, EnabledIsOutside, LegalInsidePhiComesFromInside, SequencesAreNotifiedInOrder};
+ghost use Rattle.fw_model.specs.LawsOfExistence.{CompleteExists, CompleteIsTheOnlyOne, FrontierHasFront, SettledCanGrow};
 ghost use Rattle.fw_model.specs.LawsOfLegalHistories.{LegalEventsAreInDomain, LegalMessagesAreInDomain, OnlyInputsInject};
 ghost use Rattle.fw_model.specs.LawsOfProjections.{PhiGrowsWithHistory, PhiIgnoresHistory, PhiIsFrontier, PhiIsMonotone, PhiOfEverything, PhiOfMeet, PsiIsFrontier, PsiIsMonotone, PsiOfJoin, PsiOfNothing, PsiOfUnion};
 ghost use Rattle.fw_model.specs.LawsOfSending.{InsidePhiComesFromInside, InsidePhiOfSequenceComesFromInside, PhiBySendStamps, PsiBySendStamps, SendStampIsMonotone, SendersOfWellFormed, SendsAreInsidePsi, SendsAtSendStamp, SentFromInsideIsInsidePsi};
@@ -186,4 +187,24 @@ pub fn union_of_candidates_is_candidate()
 /// The union of two consistent choices of the restore candidates is consistent, where it is offered.
 pub fn union_of_consistent_is_consistent()
     ensures { UnionOfConsistentIsConsistent }
+{}
+
+/// Each frontier of a domain has a list of outside stamps that names it.
+pub fn frontier_has_front()
+    ensures { FrontierHasFront }
+{}
+
+/// After each history of a well-formed flow, legal or not, there are complete frontiers.
+pub fn complete_exists()
+    ensures { CompleteExists }
+{}
+
+/// After each history there is at most one family of complete frontiers.
+pub fn complete_is_the_only_one()
+    ensures { CompleteIsTheOnlyOne }
+{}
+
+/// Settled can grow to what is complete wherever there is more of it.
+pub fn settled_can_grow()
+    ensures { SettledCanGrow }
 {}

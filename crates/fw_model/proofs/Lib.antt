@@ -7,6 +7,7 @@ pub mod FrontLaws
 pub mod FrontierLaws
 pub mod LegalLaws
 pub mod MeetLaws
+pub mod OneNextLaws
 pub mod OrderLaws
 pub mod PendingLaws
 pub mod PhiLaws

@@ -3,9 +3,10 @@ pub mod Denotation
 pub mod History
 pub mod LawsOfChoices
 pub mod LawsOfCompleteFrontiers
+pub mod LawsOfExistence
 pub mod LawsOfLegalHistories
 pub mod LawsOfProjections
 pub mod LawsOfSending
+pub mod LawsOfSteps
 pub mod Machine
 pub mod Steps
-pub mod LawsOfExistence

@@ -5,6 +5,7 @@ ghost use Rattle.fw_model.specs.LawsOfExistence.{CompleteExists, CompleteIsTheOn
 ghost use Rattle.fw_model.specs.LawsOfLegalHistories.{LegalEventsAreInDomain, LegalMessagesAreInDomain, OnlyInputsInject};
 ghost use Rattle.fw_model.specs.LawsOfProjections.{PhiGrowsWithHistory, PhiIgnoresHistory, PhiIsFrontier, PhiIsMonotone, PhiOfEverything, PhiOfMeet, PsiIsFrontier, PsiIsMonotone, PsiOfJoin, PsiOfNothing, PsiOfUnion};
 ghost use Rattle.fw_model.specs.LawsOfSending.{InsidePhiComesFromInside, InsidePhiOfSequenceComesFromInside, PhiBySendStamps, PsiBySendStamps, SendStampIsMonotone, SendersOfWellFormed, SendsAreInsidePsi, SendsAtSendStamp, SentFromInsideIsInsidePsi};
+ghost use Rattle.fw_model.specs.LawsOfSteps.{OneNextState};
 
 // The laws of times and of frontiers, each over every type of times, and that of dataflows.
 pub use fw_flow::laws::ranks_exist;
@@ -207,4 +208,9 @@ pub fn complete_is_the_only_one()
 /// Settled can grow to what is complete wherever there is more of it.
 pub fn settled_can_grow()
     ensures { SettledCanGrow }
+{}
+
+/// From a state a step leads to at most one next state, with one outcome.
+pub fn one_next_state()
+    ensures { OneNextState }
 {}

@@ -1,14 +1,18 @@
 pub mod ChoiceLaws
+pub mod CmpLaws
 pub mod CompleteLaws
 pub mod DenotationDomainLaws
 pub mod DenotationLaws
 pub mod DependenceLaws
+pub mod DescentLaws
 pub mod EachLaws
+pub mod FrontLaws
 pub mod FrontierLaws
 pub mod LegalLaws
 pub mod MeasureLaws
 pub mod MeetLaws
 pub mod NumberedLaws
+pub mod OneNextLaws
 pub mod OrderLaws
 pub mod OutputLaws
 pub mod PendingLaws
@@ -17,6 +21,8 @@ pub mod PsiLaws
 pub mod SendingLaws
 pub mod SendsLaws
 pub mod SequenceLaws
+pub mod SettleLaws
 pub mod StampLaws
 pub mod TimedLaws
+pub mod StampLists
 pub mod WellFormedLaws

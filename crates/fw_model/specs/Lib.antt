@@ -4,8 +4,10 @@ pub mod History
 pub mod LawsOfChoices
 pub mod LawsOfCompleteFrontiers
 pub mod LawsOfDenotation
+pub mod LawsOfExistence
 pub mod LawsOfLegalHistories
 pub mod LawsOfProjections
 pub mod LawsOfSending
+pub mod LawsOfSteps
 pub mod Machine
 pub mod Steps

@@ -2,9 +2,11 @@
 ghost use Rattle.fw_model.specs.LawsOfChoices.{ConsistentChoicesHaveUnion, DeliveredOfUnion, DiscardedOfUnion, EachLiesWithinUnion, LargestChoiceIsOne, NotifiedOfUnion, UnionOfCandidatesIsCandidate, UnionOfConsistentIsConsistent};
 ghost use Rattle.fw_model.specs.LawsOfCompleteFrontiers.{AdmissibleStaysAdmissible, EnabledIsOutside, LegalInsidePhiComesFromInside, SequencesAreNotifiedInOrder};
 ghost use Rattle.fw_model.specs.LawsOfDenotation.{DenotationExists, DenotationIsInDomain, DenotationIsInOrder, DenotationIsNumbered, DenotationIsTheOnlyOne, LaterRoundsAreTheSame, MeasureExists, OutBagsDependOnLesserMeasure, RecsAtStampsDecideBag, UnchangedRoundIsDenotation};
+ghost use Rattle.fw_model.specs.LawsOfExistence.{CompleteExists, CompleteIsTheOnlyOne, FrontierHasFront, SettledCanGrow};
 ghost use Rattle.fw_model.specs.LawsOfLegalHistories.{LegalEventsAreInDomain, LegalMessagesAreInDomain, OnlyInputsInject};
 ghost use Rattle.fw_model.specs.LawsOfProjections.{PhiGrowsWithHistory, PhiIgnoresHistory, PhiIsFrontier, PhiIsMonotone, PhiOfEverything, PhiOfMeet, PsiIsFrontier, PsiIsMonotone, PsiOfJoin, PsiOfNothing, PsiOfUnion};
 ghost use Rattle.fw_model.specs.LawsOfSending.{InsidePhiComesFromInside, InsidePhiOfSequenceComesFromInside, PhiBySendStamps, PsiBySendStamps, SendStampIsMonotone, SendersOfWellFormed, SendsAreInsidePsi, SendsAtSendStamp, SentFromInsideIsInsidePsi};
+ghost use Rattle.fw_model.specs.LawsOfSteps.{OneNextState};
 
 // The laws of times and of frontiers, each over every type of times, and that of dataflows.
 pub use fw_flow::laws::ranks_exist;
@@ -237,4 +239,27 @@ pub fn denotation_is_in_domain()
 /// The timed recs of the denotation of a well-formed dataflow on a numbered edge are at the numbers from 0 on, one at each.
 pub fn denotation_is_numbered()
     ensures { DenotationIsNumbered }
+/// Each frontier of a domain has a list of outside stamps that names it.
+pub fn frontier_has_front()
+    ensures { FrontierHasFront }
+{}
+
+/// After each history of a well-formed flow, legal or not, there are complete frontiers.
+pub fn complete_exists()
+    ensures { CompleteExists }
+{}
+
+/// After each history there is at most one family of complete frontiers.
+pub fn complete_is_the_only_one()
+    ensures { CompleteIsTheOnlyOne }
+{}
+
+/// Settled can grow to what is complete wherever there is more of it.
+pub fn settled_can_grow()
+    ensures { SettledCanGrow }
+{}
+
+/// From a state a step leads to at most one next state, with one outcome.
+pub fn one_next_state()
+    ensures { OneNextState }
 {}

@@ -239,6 +239,8 @@ pub fn denotation_is_in_domain()
 /// The timed recs of the denotation of a well-formed dataflow on a numbered edge are at the numbers from 0 on, one at each.
 pub fn denotation_is_numbered()
     ensures { DenotationIsNumbered }
+{}
+
 /// Each frontier of a domain has a list of outside stamps that names it.
 pub fn frontier_has_front()
     ensures { FrontierHasFront }

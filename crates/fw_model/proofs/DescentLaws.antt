@@ -1,5 +1,5 @@
 -- The largest family of frontiers inside which nothing is missing, found by a descent.
-use Rattle.std.proofs.Common.{◌≡◌, ℕ, zero, suc, ◌+◌, ◌<◌, ◌≤◌, Bool, true, false, not, ◌&&◌, ◌||◌, ◌==◌, cond, List, [], ◌∷◌, ◌++◌, length, get_or, refl, sym, ap, subst, ◌∙◌, inl, inr, ◌⊎◌, arith}
+use Rattle.std.proofs.Common.{◌≡◌, ℕ, zero, suc, ◌+◌, ◌<◌, ◌≤◌, Bool, true, false, not, ◌&&◌, ◌||◌, ◌==◌, cond, List, [], ◌∷◌, ◌++◌, length, refl, sym, ap, subst, ◌∙◌, inl, inr, ◌⊎◌, arith}
 use Rattle.std.specs.List.{AllByRecursion}
 use Rattle.std.proofs.lemmas.Bool.{and_parts, and_from, cases_lt, eqb-true, eq-eqb}
 use Rattle.std.proofs.lemmas.List.{get_or_past}
@@ -10,12 +10,13 @@ use Rattle.fw_flow.specs.declared.event.Event.{Event}
 use Rattle.fw_flow.specs.declared.event.Message.{Message}
 use Rattle.fw_flow.specs.declared.kind.Kind.{Kind}
 use Rattle.fw_flow.specs.declared.kind.Kind.TheVariants.{OutputEpoch}
-use Rattle.fw_flow.specs.Dataflow.{System, Dataflow, idle_node, kind_of, sender, receiver, bounds_of, bounds_of_domain, out_domain_of_kind, domain_of_kind, is_input_kind}
+use Rattle.fw_flow.specs.Dataflow.{System, Dataflow, kind_of, sender, receiver, bounds_of, bounds_of_domain, out_domain_of_kind, domain_of_kind, is_input_kind}
 use Rattle.fw_flow.specs.NodeFunction.{sends_of_kind, sends, sent_by}
 use Rattle.fw_flow.specs.Projection.{events_at, sent_count, phi_of_kind, phi}
 use Rattle.fw_flow.specs.WellFormed.{IsWellFormed}
 use Rattle.fw_model.specs.History.{without, less, some_at, delivered, pending, owed, injected_epochs, IsQuiet, IsAdmissible}
 use Rattle.fw_model.specs.LawsOfExistence.{CompleteExists, CompleteIsTheOnlyOne}
+use Rattle.fw_model.proofs.CompleteLaws.{past_edges-idle}
 use Rattle.fw_model.proofs.PhiLaws.{phi-monotone}
 use Rattle.fw_model.proofs.PsiLaws.{same_tests}
 use Rattle.fw_model.proofs.FrontierLaws.{phi-frontier}
@@ -126,13 +127,6 @@ clear-frontier sys h p = record {
 }
 
 -- past the last edge nothing is sent
-past_edges-idle : (flow : Dataflow) (e : ℕ) → length flow.edges ≤ e → kind_of flow (sender flow e) ≡ OutputEpoch
-unfolding sender kind_of
-past_edges-idle flow e l =
-    let past = get_or_past flow.edges e (record { name = []; sender = length flow.nodes; receiver = length flow.nodes }) l in
-    let last : length flow.nodes ≤ length flow.nodes = omega arith in
-    ap (λ d. (get_or flow.nodes d.sender idle_node).kind) past ∙ ap (λ n. n.kind) (get_or_past flow.nodes (length flow.nodes) idle_node last)
-
 past_edges-joined : (flow : Dataflow) (e : ℕ) → length flow.edges ≤ e → sender flow e ≡ receiver flow e
 unfolding sender receiver
 past_edges-joined flow e l =

@@ -1,18 +1,13 @@
 -- Whether a step without a choice is enabled is decided.
-use Rattle.std.proofs.Common.{◌≡◌, ℕ, zero, suc, ◌+◌, ◌<◌, ◌≤◌, Bool, true, false, not, ◌&&◌, ◌||◌, ◌==◌, List, [], ◌∷◌, ◌++◌, length, Option, Some, None, slice_set, refl, sym, ap, subst, ◌∙◌, inl, inr, ◌⊎◌, arith}
+use Rattle.std.proofs.Common.{◌≡◌, ℕ, ◌+◌, Bool, true, false, not, ◌&&◌, ◌==◌, List, [], ◌∷◌, ◌++◌, length, Option, Some, None, slice_set, refl, sym, ap, subst, ◌∙◌, inl, inr, ◌⊎◌, arith}
 use Rattle.std.specs.List.{AllByRecursion, list_any}
-use Rattle.std.specs.Cmp.{IsTotalOrder}
-use Rattle.std.specs.Cmp.Lexicographic.{slice_cmp}
 use Rattle.std.specs.Ordering.{is_gt}
-use Rattle.std.specs.declared.cmp.Ordering.{Ordering}
-use Rattle.std.specs.declared.cmp.Ordering.TheVariants.{Less, Equal, Greater}
 use Rattle.std.proofs.lemmas.Bool.{and_parts, and_from, or_cases, or_left, or_right, or_from, cases_Bool, cases_lt, false_from_ne_true}
-use Rattle.std.proofs.lemmas.Cmp.{lists_total, tied_itself}
 use Rattle.fw_bag.specs.declared.rec.Rec.{Rec}
 use Rattle.fw_time.specs.Stamp.{Stamp, leq, lesser, same, stamp_cmp}
 use Rattle.fw_time.proofs.StampLaws.{leq-antisym}
 use Rattle.fw_frontier.specs.Frontier.{Frontier}
-use Rattle.fw_frontier.specs.Front.{Front, frontier_of}
+use Rattle.fw_frontier.specs.Front.{frontier_of}
 use Rattle.fw_flow.specs.declared.event.Event.{Event}
 use Rattle.fw_flow.specs.declared.event.Event.TheVariants.{Inject as Injected, Deliver as Delivered, Notify as Notified}
 use Rattle.fw_flow.specs.declared.event.Message.{Message}
@@ -27,60 +22,14 @@ use Rattle.fw_flow.specs.WellFormed.{IsWellFormed}
 use Rattle.fw_model.specs.History.{is_among, pending, delivered, was_delivered_to, was_notified, owed, injected_count, message_cmp, IsAdmissible, IsComplete, IsDeliverable, IsNotifiable}
 use Rattle.fw_model.specs.Machine.{Machine, Write, acknowledged, events, no_stamps, places, front_of, is_failed, bound_of}
 use Rattle.fw_model.specs.Steps.{Effect, quiet, acked, with_event, IsAsked, eager_writes, is_asked_for_checkpoints, newest_checkpoint, checkpoint_of, is_in_flight, AcknowledgesOldest, is_one_of, without_lost, with_failed, HasEpoch, HasDelivery, IsThere, MayAcknowledge, recs_at_output, Takes}
-use Rattle.fw_model.specs.LawsOfExistence.{HasMoreToSettle}
-use Rattle.fw_model.proofs.CmpLaws.{Decided, stamp_cmp-same, stamp_total, fronts_cmp-same, message_total, among-each, IsLeastIn, find_least}
+use Rattle.fw_model.proofs.CmpLaws.{decided-stamp, decided-front, stamp_total, message_total, among-each, find_least}
+use Rattle.fw_model.proofs.Decisions.{two_ways, Decided, decided-test, decided-or, decided-below, find_place}
 use Rattle.fw_model.proofs.DescentLaws.{is_quiet, quiet-at, quiet-from, past_edges-receiver, follows_all, follows_all-at, follows_all-from, complete-exists, complete-one}
 use Rattle.fw_model.proofs.PhiLaws.{phi-monotone}
 use Rattle.fw_model.proofs.SettleLaws.{settled-grows}
 use Rattle.fw_model.proofs.StampLists.{each_up_to, each_up_to-at, each_up_to-from, find_stamp}
 
-two_ways : (b : Bool) → b ≡ true → b ≡ false → ⊥
-two_ways b p q = cc
-
--- ---- decided statements
-
-pub decided-test : (b : Bool) (c : Bool) → Decided (b ≡ c)
-decided-test true true = inl refl
-decided-test true false = inr (λ e. cc)
-decided-test false true = inr (λ e. cc)
-decided-test false false = inl refl
-
-pub decided-or : {A B : Type 0} → Decided A → Decided B → Decided (A ⊎ B)
-decided-or (inl a) q = inl (inl a)
-decided-or (inr n) (inl b) = inl (inr b)
-decided-or (inr n) (inr m) = inr (λ s. elim s [ inl a ↦ n a | inr b ↦ m b ])
-
-pub decided-below : (m n : ℕ) → Decided (m < n)
-decided-below m n = elim (cases_lt m n) [ inl l ↦ inl l | inr l ↦ inr (λ k. omega arith) ]
-
--- elements that an order compares are one, or not
-pub decided-same : {K : Type 0} {R : K → K → Ordering} → IsTotalOrder R → ((x y : K) → R x y ≡ Equal → x ≡ y) → (x y : K) → Decided (x ≡ y)
-decided-same {K} {R} o h x y = by (R x y) refl
-  where
-    differ : (r : Ordering) → R x y ≡ r → (Equal ≡ r → ⊥) → x ≡ y → ⊥
-    differ r e n p = n (sym (tied_itself o x) ∙ ap (R x) p ∙ e)
-
-    by : (r : Ordering) → R x y ≡ r → Decided (x ≡ y)
-    by Less e = inr (differ Less e (λ q. cc))
-    by Equal e = inl (h x y e)
-    by Greater e = inr (differ Greater e (λ q. cc))
-
-pub decided-stamp : (s t : Stamp) → Decided (s ≡ t)
-decided-stamp s t = decided-same stamp_total stamp_cmp-same s t
-
-pub decided-front : (f g : Front) → Decided (f ≡ g)
-decided-front f g = decided-same (lists_total stamp_total) fronts_cmp-same f g
-
--- one of the first n numbers has a decided property, or none has
-pub find_place : (n : ℕ) (P : ℕ → Type 0) → ((p : ℕ) → Decided (P p)) → ((p : ℕ) × (p < n) × P p) ⊎ ((p : ℕ) → p < n → P p → ⊥)
-find_place zero P h = inr (λ p l. absurd (omega arith))
-find_place (suc n) P h = elim (h n) [
-  | inl k ↦ inl (n, omega arith, k)
-  | inr k ↦ elim (find_place n P h) [
-    | inl w ↦ let l = w.1 in inl (w.0, omega arith, w.2)
-    | inr none ↦ inr (λ p l i. elim (cases_lt p n) [ inl m ↦ none p m i | inr m ↦ let e : p ≡ n = omega arith in k (subst P e i) ])
-  ]
-]
+-- ---- which stamps are asked for
 
 decided-asked : (at : Option Stamp) (t : Stamp) → Decided (IsAsked at t)
 decided-asked None t = inl tt
@@ -142,11 +91,21 @@ deliver-decided sys state e at =
         | inl w ↦
             let m = w.0 in
             let l = w.1 in
-            inl (with_event sys state (Delivered e m), quiet, (m, record {
-              enabled = l.has.0;
-              asked = l.has.1;
-              least = λ other i a. among-each (λ y. P y → is_gt (message_cmp m y) ≡ false) other (pending sys h e) i.is_pending l.least (i, a);
-            }, f, refl, refl))
+            inl (
+              with_event sys state (Delivered e m),
+              quiet,
+              (
+                m,
+                record {
+                  enabled = l.has.0;
+                  asked = l.has.1;
+                  least = λ other i a. among-each (λ y. P y → is_gt (message_cmp m y) ≡ false) other (pending sys h e) i.is_pending l.least (i, a);
+                },
+                f,
+                refl,
+                refl,
+              ),
+            )
       ]
     ]
 
@@ -179,11 +138,15 @@ owed-came sys h p t k =
 complete_before : (sys : System) (h : List Event) (done : ℕ → Frontier) → IsComplete sys h done → (p : ℕ) (t : Stamp) → owed sys h p t ≡ true
     → Decided ((family : ℕ → Frontier) × IsAdmissible sys h family × ((d : ℕ) → receiver sys.flow d ≡ p → phi sys h d (family (sender sys.flow d)) t ≡ true))
 complete_before sys h done c p t o = elim (cases_Bool (follows_all sys h done p t)) [
-  | inl k ↦ inl (done, c.admissible, λ d r. elim (cases_lt d (length sys.flow.edges)) [
+  | inl k ↦ inl (
+    done,
+    c.admissible,
+    λ d r. elim (cases_lt d (length sys.flow.edges)) [
       | inl l ↦ follows_all-at sys h done p t k d l r
       | inr l ↦ absurd (two_ways (is_notified_kind (kind_of sys.flow p)) (owed-came sys h p t o).0
           (ap (λ q. is_notified_kind (kind_of sys.flow q)) (sym r) ∙ ap is_notified_kind (past_edges-receiver sys.flow d l)))
-  ])
+    ],
+  )
   | inr k ↦ inr (λ w. two_ways (follows_all sys h done p t)
       (follows_all-from sys h done p t (λ e l r.
       let q = sender sys.flow e in
@@ -202,11 +165,11 @@ notifiable-decided sys h done c p t = elim (cases_Bool (owed sys h p t)) [
       | inl q ↦ elim (complete_before sys h done c p t o) [
         | inr n ↦ inr (λ k. n k.complete)
         | inl w ↦ inl (record {
-            is_owed = o;
-            none_lesser = λ s l. false_from_ne_true (owed sys h p s) (λ i.
-            two_ways (lesser s t && owed sys h p s) (and_from (lesser s t) (owed sys h p s) l i) (none s (and_parts (leq s t) (not (leq t s)) l).0));
-            quiet = λ s l. quiet-at sys h p s (each_up_to-at (is_quiet sys h p) t s q l);
-            complete = w;
+          is_owed = o;
+          none_lesser = λ s l. false_from_ne_true (owed sys h p s) (λ i.
+              two_ways (lesser s t && owed sys h p s) (and_from (lesser s t) (owed sys h p s) l i) (none s (and_parts (leq s t) (not (leq t s)) l).0));
+          quiet = λ s l. quiet-at sys h p s (each_up_to-at (is_quiet sys h p) t s q l);
+          complete = w;
         })
       ]
     ]
@@ -238,11 +201,21 @@ notify-decided sys state wf p at =
         | inl w ↦
             let t = w.0 in
             let l = w.1 in
-            inl (with_event sys state (Notified p t), quiet, (t, record {
-              enabled = l.has.0;
-              asked = l.has.1;
-              least = λ other i a. came-each (λ s. P s → is_gt (stamp_cmp t s) ≡ false) sys.flow p other h (owed-came sys h p other i.is_owed).1 l.least (i, a);
-            }, f, refl, refl))
+            inl (
+              with_event sys state (Notified p t),
+              quiet,
+              (
+                t,
+                record {
+                  enabled = l.has.0;
+                  asked = l.has.1;
+                  least = λ other i a. came-each (λ s. P s → is_gt (stamp_cmp t s) ≡ false) sys.flow p other h (owed-came sys h p other i.is_owed).1 l.least (i, a);
+                },
+                f,
+                refl,
+                refl,
+              ),
+            )
       ]
     ]
 
@@ -303,7 +276,9 @@ any_in_flight writes = list_any (λ write. is_in_flight write.progress) writes
 find_oldest : (writes : List Write) → ((next : List Write) × AcknowledgesOldest writes next) ⊎ (any_in_flight writes ≡ false)
 find_oldest [] = inr refl
 find_oldest (w ∷ ws) = elim (cases_Bool (is_in_flight w.progress)) [
-  | inl f ↦ inl (record w { progress = acknowledged } ∷ ws, record {
+  | inl f ↦ inl (
+    record w { progress = acknowledged } ∷ ws,
+    record {
       earlier = [];
       oldest = w;
       later = ws;
@@ -311,20 +286,24 @@ find_oldest (w ∷ ws) = elim (cases_Bool (is_in_flight w.progress)) [
       in_flight = f;
       none_earlier = refl;
       after = refl;
-  })
+    },
+  )
   | inr f ↦ elim (find_oldest ws) [
     | inr n ↦ inr (or_from (is_in_flight w.progress) (any_in_flight ws) f n)
     | inl g ↦
         let a = g.1 in
-        inl (w ∷ g.0, record {
-          earlier = w ∷ a.earlier;
-          oldest = a.oldest;
-          later = a.later;
-          before = ap (λ xs. w ∷ xs) a.before;
-          in_flight = a.in_flight;
-          none_earlier = or_from (is_in_flight w.progress) (any_in_flight a.earlier) f a.none_earlier;
-          after = ap (λ xs. w ∷ xs) a.after;
-        })
+        inl (
+          w ∷ g.0,
+          record {
+            earlier = w ∷ a.earlier;
+            oldest = a.oldest;
+            later = a.later;
+            before = ap (λ xs. w ∷ xs) a.before;
+            in_flight = a.in_flight;
+            none_earlier = or_from (is_in_flight w.progress) (any_in_flight a.earlier) f a.none_earlier;
+            after = ap (λ xs. w ∷ xs) a.after;
+          },
+        )
   ]
 ]
 

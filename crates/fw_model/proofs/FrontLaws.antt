@@ -10,12 +10,10 @@ use Rattle.fw_frontier.specs.Outside.{excluding_all}
 use Rattle.fw_frontier.proofs.BelowLaws.{names-as}
 use Rattle.fw_frontier.proofs.NamesLaws.{names-until}
 use Rattle.fw_model.specs.LawsOfExistence.{FrontierHasFront}
+use Rattle.fw_model.proofs.Decisions.{two_ways}
 use Rattle.fw_model.proofs.PsiLaws.{same_tests}
 use Rattle.fw_model.proofs.StampLaws.{leq-refl}
 use Rattle.fw_model.proofs.StampLists.{stamps, each_stamp-at, each_stamp-from}
-
-two_ways : (b : Bool) → b ≡ true → b ≡ false → ⊥
-two_ways b p q = cc
 
 pub each-filter : {A : Type 0} (P : A → Type 0) (test : A → Bool) (xs : List A) → AllByRecursion (λ x. test x ≡ true → P x) xs → AllByRecursion P (filter test xs)
 each-filter P test [] a = tt

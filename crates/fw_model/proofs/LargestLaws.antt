@@ -1,8 +1,6 @@
 -- Where some choice is consistent there is a largest one.
-use Rattle.std.proofs.Common.{◌≡◌, ℕ, ◌<◌, Bool, List, [], ◌∷◌, length, map, refl, sym, ◌∙◌, inl, inr, ◌⊎◌, arith}
+use Rattle.std.proofs.Common.{ℕ, ◌<◌, Bool, List, [], ◌∷◌, length, map, refl, inl, inr, arith}
 use Rattle.std.specs.List.{AllByRecursion}
-use Rattle.fw_time.specs.declared.stamp.Bounds.{Bounds}
-use Rattle.fw_frontier.specs.Frontier.{Within}
 use Rattle.fw_frontier.specs.Front.{Front, IsCanonical}
 use Rattle.fw_flow.specs.declared.choice.Cut.{Cut}
 use Rattle.fw_flow.specs.declared.choice.Cut.TheVariants.{Present, At}
@@ -11,7 +9,7 @@ use Rattle.fw_model.specs.Machine.{Machine, front_of}
 use Rattle.fw_model.specs.Choice.{View, IsCandidate, Choice, cut_of, IsConsistent, IsCutWithin, IsChoiceWithin}
 use Rattle.fw_model.specs.LawsOfExistence.{AreCheckpointsChains, LargestChoiceExists}
 use Rattle.fw_model.proofs.ChoiceLaws.{candidates-union, union-consistent, have-union, within-union}
-use Rattle.fw_model.proofs.DecidedLaws.{consistent-decided}
+use Rattle.fw_model.proofs.ConsistentLaws.{consistent-decided}
 use Rattle.fw_model.proofs.ListedLaws.{IsIn, each-in, in-map, pairs_of, in-pairs, lists_of, in-lists, each-of_places, fronts_below, in-fronts_below}
 
 -- ---- choices within choices
@@ -73,12 +71,14 @@ gather sys state lost view chains (c ∷ cs) one a = elim (consistent-decided sy
   | inl k ↦
       let u = both sys state lost view chains one c a k in
       let g = gather sys state lost view chains cs u.0 u.1 in
-      let h = g.1 in
-      (g.0, record {
-        consistent = h.consistent;
-        holds = within-trans sys one u.0 g.0 u.2 h.holds;
-        each = (λ j. within-trans sys c u.0 g.0 u.3 h.holds, h.each);
-      })
+      let h = g.1 in (
+        g.0,
+        record {
+          consistent = h.consistent;
+          holds = within-trans sys one u.0 g.0 u.2 h.holds;
+          each = (λ j. within-trans sys c u.0 g.0 u.3 h.holds, h.each);
+        },
+      )
 ]
 
 -- ---- the choices of a flow

@@ -1,7 +1,8 @@
 pub mod ChoiceLaws
 pub mod CmpLaws
 pub mod CompleteLaws
-pub mod DecidedLaws
+pub mod ConsistentLaws
+pub mod Decisions
 pub mod DenotationDomainLaws
 pub mod DenotationLaws
 pub mod DependenceLaws

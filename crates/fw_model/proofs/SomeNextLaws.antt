@@ -1,5 +1,5 @@
 -- From a state a step leads to some next state, and with what leads to at most one, to exactly one.
-use Rattle.std.proofs.Common.{◌≡◌, ℕ, ◌<◌, Bool, true, List, length, map, sym, ap, ◌∙◌, refl, inl, inr, ◌⊎◌}
+use Rattle.std.proofs.Common.{◌≡◌, ℕ, true, List, length, map, ap, ◌∙◌, refl, inl, inr}
 use Rattle.std.specs.Cmp.Lexicographic.{slice_cmp}
 use Rattle.std.proofs.lemmas.Cmp.{lists_total}
 use Rattle.fw_time.specs.Stamp.{stamp_cmp}
@@ -14,11 +14,12 @@ use Rattle.fw_flow.specs.Dataflow.{System, bounds_of}
 use Rattle.fw_flow.specs.WellFormed.{IsWellFormed}
 use Rattle.fw_model.specs.Machine.{Machine, front_of, is_failed}
 use Rattle.fw_model.specs.Choice.{Choice, kept, cut_of}
-use Rattle.fw_model.specs.Steps.{cuts, lows, Outcome, did, idle, IsSettledCut, CutsTo, recovered, front_of_cut, collected_writes, Steps}
+use Rattle.fw_model.specs.Steps.{cuts, lows, did, idle, IsSettledCut, CutsTo, recovered, front_of_cut, collected_writes}
 use Rattle.fw_model.specs.LawsOfSteps.{CanChoose, HasItsChoice, SomeNextState, ExactlyOneNextState}
 use Rattle.fw_model.proofs.ChoiceLaws.{largest-one}
-use Rattle.fw_model.proofs.CmpLaws.{Decided, slice_cmp-same, stamp_total, fronts_cmp-same}
-use Rattle.fw_model.proofs.EnabledLaws.{DecidedStep, decided-test, decided-same, find_place, inject-decided, deliver-decided, notify-decided, progress-decided, checkpoint-decided, persist-decided, fail-decided, ack-decided}
+use Rattle.fw_model.proofs.CmpLaws.{decided-same, slice_cmp-same, stamp_total, fronts_cmp-same}
+use Rattle.fw_model.proofs.Decisions.{Decided, decided-test, find_place}
+use Rattle.fw_model.proofs.EnabledLaws.{DecidedStep, inject-decided, deliver-decided, notify-decided, progress-decided, checkpoint-decided, persist-decided, fail-decided, ack-decided}
 use Rattle.fw_model.proofs.FrontLaws.{has_front}
 use Rattle.fw_model.proofs.LargestLaws.{largest-exists}
 use Rattle.fw_model.proofs.OneNextLaws.{one_next}
@@ -33,7 +34,7 @@ settled_cut sys p (At f) before =
 settled_cuts : (sys : System) (state : Machine) (choice : Choice) → (settled : List Front) × CutsTo sys state choice settled
 settled_cuts sys state choice =
     let w = fronts-each (length sys.flow.nodes) (λ p os. IsSettledCut sys p (cut_of choice p) (front_of state.settled p) os)
-        (λ p. settled_cut sys p (cut_of choice p) (front_of state.settled p)) in
+    (λ p. settled_cut sys p (cut_of choice p) (front_of state.settled p)) in
     (w.0, record { one_each = w.1; each = w.2 })
 
 recover-decided : (sys : System) (state : Machine) → CanChoose sys state (is_failed state) → DecidedStep sys state Recover

@@ -1,8 +1,8 @@
 -- Whether a choice of restore candidates is consistent is decided.
-use Rattle.std.proofs.Common.{◌≡◌, ℕ, zero, suc, ◌+◌, ◌<◌, ◌≤◌, Bool, true, false, not, ◌&&◌, ◌||◌, if◌then◌else◌, List, [], ◌∷◌, length, refl, sym, ap, subst, ◌∙◌, inl, inr, ◌⊎◌, arith}
+use Rattle.std.proofs.Common.{◌≡◌, ℕ, suc, ◌≤◌, Bool, true, false, not, ◌&&◌, ◌||◌, if◌then◌else◌, List, [], ◌∷◌, length, refl, ap, inl, inr, arith}
 use Rattle.std.specs.List.{AllByRecursion}
 use Rattle.std.specs.Ordering.{is_lt}
-use Rattle.std.proofs.lemmas.Bool.{and_parts, and_from, cases_Bool, cases_lt}
+use Rattle.std.proofs.lemmas.Bool.{and_parts, and_from, cases_Bool}
 use Rattle.fw_time.specs.Stamp.{Stamp, leq, in_domain, stamp_cmp}
 use Rattle.fw_time.specs.declared.stamp.Bounds.{Bounds}
 use Rattle.fw_frontier.specs.Frontier.{Frontier, Within, nothing, everything, cover, some_above}
@@ -16,48 +16,9 @@ use Rattle.fw_model.specs.History.{delivered, sent, injected_count, is_exhausted
 use Rattle.fw_model.specs.LawsOfProjections.{bounds_of_edge}
 use Rattle.fw_model.specs.Machine.{Machine, Numbered, Write, Written, checkpoint, logged_event, Progress, events, no_stamps, front_of, bound_of}
 use Rattle.fw_model.specs.Choice.{View, kept, ever, Restoring, by_batches, by_bound, by_anything, by_checkpoints, by_events, counts, until, HasCheckpoint, IsLogged, AllLogged, IsRestorable, HoldsLow, IsCandidate, restoring, can_resend, Choice, cut_of, note_of, kept_of, takes_its_cut, takes_its_notes, stamps_inside, stamps_from, notified_inside, delivered_cover, notified_cover, sent_cover, discarded_at, discarded_cover, IsConsistent}
-use Rattle.fw_model.proofs.CmpLaws.{Decided}
-use Rattle.fw_model.proofs.EnabledLaws.{decided-test, decided-or, decided-front, find_place}
+use Rattle.fw_model.proofs.CmpLaws.{decided-front}
+use Rattle.fw_model.proofs.Decisions.{two_ways, Decided, decided-test, decided-or, decided-as, decided-and, decided-if, decided-number, decided-places, decided-each, find_place}
 use Rattle.fw_model.proofs.StampLists.{find_stamp}
-
-two_ways : (b : Bool) → b ≡ true → b ≡ false → ⊥
-two_ways b p q = cc
-
--- ---- decided statements
-
-decided-as : {A B : Type 0} → (A → B) → (B → A) → Decided A → Decided B
-decided-as f g (inl a) = inl (f a)
-decided-as f g (inr n) = inr (λ b. n (g b))
-
-decided-and : {A B : Type 0} → Decided A → Decided B → Decided (A × B)
-decided-and (inl a) (inl b) = inl (a, b)
-decided-and (inl a) (inr n) = inr (λ p. n p.1)
-decided-and (inr n) q = inr (λ p. n p.0)
-
-decided-if : {A B : Type 0} → Decided A → Decided B → Decided (A → B)
-decided-if p (inl b) = inl (λ a. b)
-decided-if (inl a) (inr n) = inr (λ f. n (f a))
-decided-if (inr m) (inr n) = inl (λ a. absurd (m a))
-
-decided-number : (m n : ℕ) → Decided (m ≡ n)
-decided-number m n = elim (cases_lt m n) [
-  | inl l ↦ inr (λ e. omega arith)
-  | inr l ↦ elim (cases_lt n m) [ inl k ↦ inr (λ e. omega arith) | inr k ↦ inl (omega arith) ]
-]
-
-decided-places : (n : ℕ) (P : ℕ → Type 0) → ((p : ℕ) → Decided (P p)) → Decided ((p : ℕ) → p < n → P p)
-decided-places zero P h = inl (λ p l. absurd (omega arith))
-decided-places (suc n) P h = elim (h n) [
-  | inr k ↦ inr (λ f. k (f n (omega arith)))
-  | inl k ↦ elim (decided-places n P h) [
-    | inr r ↦ inr (λ f. r (λ p l. f p (omega arith)))
-    | inl r ↦ inl (λ p l. elim (cases_lt p n) [ inl m ↦ r p m | inr m ↦ let e : n ≡ p = omega arith in subst P e k ])
-  ]
-]
-
-decided-each : {A : Type 0} (P : A → Type 0) → ((x : A) → Decided (P x)) → (xs : List A) → Decided (AllByRecursion P xs)
-decided-each P h [] = inl tt
-decided-each P h (x ∷ xs) = decided-and (h x) (decided-each P h xs)
 
 -- ---- within
 
@@ -265,15 +226,15 @@ consistent-decided sys state lost view choice =
           | inl c ↦ elim (decided-places (length sys.flow.edges) (IsCarried sys state choice) (carried-decided sys state choice)) [
             | inr r ↦ inr (λ k. r (λ d l. record { delivered = k.delivered d l; discarded = k.discarded d l; notes = k.notes d l }))
             | inl d ↦ inl (record {
-                one_cut_each = a;
-                one_note_each = b;
-                offered = λ p l. (c p l).offered;
-                canonical = λ p l. (c p l).canonical;
-                delivered = λ e l. (d e l).delivered;
-                discarded = λ e l. (d e l).discarded;
-                notified = λ p l. (c p l).notified;
-                own = λ p l. (c p l).own;
-                notes = λ e l. (d e l).notes;
+              one_cut_each = a;
+              one_note_each = b;
+              offered = λ p l. (c p l).offered;
+              canonical = λ p l. (c p l).canonical;
+              delivered = λ e l. (d e l).delivered;
+              discarded = λ e l. (d e l).discarded;
+              notified = λ p l. (c p l).notified;
+              own = λ p l. (c p l).own;
+              notes = λ e l. (d e l).notes;
             })
           ]
         ]

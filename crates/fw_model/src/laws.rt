@@ -261,14 +261,14 @@ pub fn settled_can_grow()
     ensures { SettledCanGrow }
 {}
 
-/// From a state a step leads to at most one next state, with one outcome.
-pub fn one_next_state()
-    ensures { OneNextState }
-{}
-
 /// Where some choice is consistent and checkpoints are chains, there is a largest choice.
 pub fn largest_choice_exists()
     ensures { LargestChoiceExists }
+{}
+
+/// From a state a step leads to at most one next state, with one outcome.
+pub fn one_next_state()
+    ensures { OneNextState }
 {}
 
 /// From a state of a well-formed flow a step leads to some next state, with some outcome.

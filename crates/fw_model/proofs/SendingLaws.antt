@@ -69,7 +69,7 @@ some_if : (b : Bool) (w s : Stamp) → cond b (Some w) None ≡ Some s → (b �
 some_if true w s e = (refl, some_is w s e)
 some_if false w s e = absurd (cc)
 
-fed_back-some : (m : ℕ) (t s : Stamp) → fed_back m t ≡ Some s → (counter t < m) × (nest (outer t) (counter t + 1) ≡ s)
+pub fed_back-some : (m : ℕ) (t s : Stamp) → fed_back m t ≡ Some s → (counter t < m) × (nest (outer t) (counter t + 1) ≡ s)
 fed_back-some m t s e =
     let a = some_if (nat_lt (counter t) m) (nest (outer t) (counter t + 1)) s e in
     (ltb-true (counter t) m a.0, a.1)

@@ -3,6 +3,7 @@ pub mod Denotation
 pub mod History
 pub mod LawsOfChoices
 pub mod LawsOfCompleteFrontiers
+pub mod LawsOfDeliveries
 pub mod LawsOfLegalHistories
 pub mod LawsOfProjections
 pub mod LawsOfSending

@@ -1,6 +1,7 @@
 //! The laws of the definitions: each function's `ensures` is one law, and its body is empty.
 ghost use Rattle.fw_model.specs.LawsOfChoices.{ConsistentChoicesHaveUnion, DeliveredOfUnion, DiscardedOfUnion, EachLiesWithinUnion, LargestChoiceIsOne, NotifiedOfUnion, UnionOfCandidatesIsCandidate, UnionOfConsistentIsConsistent};
 ghost use Rattle.fw_model.specs.LawsOfCompleteFrontiers.{AdmissibleStaysAdmissible, EnabledIsOutside, LegalInsidePhiComesFromInside, SequencesAreNotifiedInOrder};
+ghost use Rattle.fw_model.specs.LawsOfDeliveries.{ClosedStampsStayClosed, DeliveredInsideCompleteIsDenoted, DeliveredInsideCompleteIsFinal, DeliveredIsSubBagOfDenotation, NotificationsComeLast, NumberedDeliveriesAscend, SentInsidePhiIsDenoted, SentIsSubBagOfDenotation};
 ghost use Rattle.fw_model.specs.LawsOfLegalHistories.{LegalEventsAreInDomain, LegalMessagesAreInDomain, OnlyInputsInject};
 ghost use Rattle.fw_model.specs.LawsOfProjections.{PhiGrowsWithHistory, PhiIgnoresHistory, PhiIsFrontier, PhiIsMonotone, PhiOfEverything, PhiOfMeet, PsiIsFrontier, PsiIsMonotone, PsiOfJoin, PsiOfNothing, PsiOfUnion};
 ghost use Rattle.fw_model.specs.LawsOfSending.{InsidePhiComesFromInside, InsidePhiOfSequenceComesFromInside, PhiBySendStamps, PsiBySendStamps, SendStampIsMonotone, SendersOfWellFormed, SendsAreInsidePsi, SendsAtSendStamp, SentFromInsideIsInsidePsi};
@@ -186,4 +187,44 @@ pub fn union_of_candidates_is_candidate()
 /// The union of two consistent choices of the restore candidates is consistent, where it is offered.
 pub fn union_of_consistent_is_consistent()
     ensures { UnionOfConsistentIsConsistent }
+{}
+
+/// A stamp that is closed for a node stays closed as the history goes on.
+pub fn closed_stamps_stay_closed()
+    ensures { ClosedStampsStayClosed }
+{}
+
+/// After a notification of a node no event of the node is at its stamp or a lesser one.
+pub fn notifications_come_last()
+    ensures { NotificationsComeLast }
+{}
+
+/// In a legal history the deliveries on a numbered edge have the numbers 0, 1, 2 and so on in this order.
+pub fn numbered_deliveries_ascend()
+    ensures { NumberedDeliveriesAscend }
+{}
+
+/// Inside phi of an admissible family, what was sent on an edge is what the denotation has there.
+pub fn sent_inside_phi_is_denoted()
+    ensures { SentInsidePhiIsDenoted }
+{}
+
+/// Inside an admissible family, what was delivered on an edge is what the denotation has there.
+pub fn delivered_inside_complete_is_denoted()
+    ensures { DeliveredInsideCompleteIsDenoted }
+{}
+
+/// What was delivered inside an admissible family stays as it is while the history goes on.
+pub fn delivered_inside_complete_is_final()
+    ensures { DeliveredInsideCompleteIsFinal }
+{}
+
+/// In a legal history each rec was sent on an edge at a stamp at most as often as it is in the denotation there.
+pub fn sent_is_sub_bag_of_denotation()
+    ensures { SentIsSubBagOfDenotation }
+{}
+
+/// In a legal history each rec was delivered on an edge at a stamp at most as often as it is in the denotation there.
+pub fn delivered_is_sub_bag_of_denotation()
+    ensures { DeliveredIsSubBagOfDenotation }
 {}

@@ -5,6 +5,7 @@ pub mod LawsOfChoices
 pub mod LawsOfCompleteFrontiers
 pub mod LawsOfDenotation
 pub mod LawsOfExistence
+pub mod LawsOfDeliveries
 pub mod LawsOfLegalHistories
 pub mod LawsOfProjections
 pub mod LawsOfSending

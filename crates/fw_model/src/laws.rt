@@ -1,6 +1,7 @@
 //! The laws of the definitions: each function's `ensures` is one law, and its body is empty.
 ghost use Rattle.fw_model.specs.LawsOfChoices.{ConsistentChoicesHaveUnion, DeliveredOfUnion, DiscardedOfUnion, EachLiesWithinUnion, LargestChoiceIsOne, NotifiedOfUnion, UnionOfCandidatesIsCandidate, UnionOfConsistentIsConsistent};
 ghost use Rattle.fw_model.specs.LawsOfCompleteFrontiers.{AdmissibleStaysAdmissible, EnabledIsOutside, LegalInsidePhiComesFromInside, SequencesAreNotifiedInOrder};
+ghost use Rattle.fw_model.specs.LawsOfDeliveries.{ClosedStampsStayClosed, DeliveredInsideCompleteIsDenoted, DeliveredInsideCompleteIsFinal, DeliveredIsSubBagOfDenotation, NotificationsComeLast, NumberedDeliveriesAscend, SentInsidePhiIsDenoted, SentIsSubBagOfDenotation};
 ghost use Rattle.fw_model.specs.LawsOfDenotation.{DenotationExists, DenotationIsInDomain, DenotationIsInOrder, DenotationIsNumbered, DenotationIsTheOnlyOne, LaterRoundsAreTheSame, MeasureExists, OutBagsDependOnLesserMeasure, RecsAtStampsDecideBag, UnchangedRoundIsDenotation};
 ghost use Rattle.fw_model.specs.LawsOfExistence.{CompleteExists, CompleteIsTheOnlyOne, FrontierHasFront, LargestChoiceExists, SettledCanGrow};
 ghost use Rattle.fw_model.specs.LawsOfLegalHistories.{LegalEventsAreInDomain, LegalMessagesAreInDomain, OnlyInputsInject};
@@ -279,4 +280,44 @@ pub fn some_next_state()
 /// From a state of a well-formed flow a step leads to exactly one next state, with exactly one outcome.
 pub fn exactly_one_next_state()
     ensures { ExactlyOneNextState }
+{}
+
+/// A stamp that is closed for a node stays closed as the history goes on.
+pub fn closed_stamps_stay_closed()
+    ensures { ClosedStampsStayClosed }
+{}
+
+/// After a notification of a node no event of the node is at its stamp or a lesser one.
+pub fn notifications_come_last()
+    ensures { NotificationsComeLast }
+{}
+
+/// In a legal history the deliveries on a numbered edge have the numbers 0, 1, 2 and so on in this order.
+pub fn numbered_deliveries_ascend()
+    ensures { NumberedDeliveriesAscend }
+{}
+
+/// Inside phi of an admissible family, what was sent on an edge is what the denotation has there.
+pub fn sent_inside_phi_is_denoted()
+    ensures { SentInsidePhiIsDenoted }
+{}
+
+/// Inside an admissible family, what was delivered on an edge is what the denotation has there.
+pub fn delivered_inside_complete_is_denoted()
+    ensures { DeliveredInsideCompleteIsDenoted }
+{}
+
+/// What was delivered inside an admissible family stays as it is while the history goes on.
+pub fn delivered_inside_complete_is_final()
+    ensures { DeliveredInsideCompleteIsFinal }
+{}
+
+/// In a legal history each rec was sent on an edge at a stamp at most as often as it is in the denotation there.
+pub fn sent_is_sub_bag_of_denotation()
+    ensures { SentIsSubBagOfDenotation }
+{}
+
+/// In a legal history each rec was delivered on an edge at a stamp at most as often as it is in the denotation there.
+pub fn delivered_is_sub_bag_of_denotation()
+    ensures { DeliveredIsSubBagOfDenotation }
 {}

@@ -39,7 +39,7 @@ in_edges-receive flow p =
     (λ i l e. let s : i ≡ 0 + i = omega arith in subst P s (l, e))
 
 -- the number at the edge, and 0 at the others
-abbrev at_edge : ℕ → ℕ → ℕ → ℕ
+abbrev pub at_edge : ℕ → ℕ → ℕ → ℕ
 at_edge e n d = cond (e == d) n 0
 
 at_edge-other : (e n d : ℕ) → (e ≡ d → ⊥) → at_edge e n d ≡ 0
@@ -72,7 +72,7 @@ into-once (x ∷ es) z k (suc i) e n p s l =
     (λ ds. weigh (at_edge e n) ds ≡ cond ((get_or es i z).receiver == p) n 0) (λ q. omega arith) (λ q. rest)
 
 -- an edge is once among the in-edges of its receiver, and not among those of other nodes
-in_edges-once : (flow : Dataflow) (p e n : ℕ) → p < length flow.nodes → weigh (at_edge e n) (in_edges flow p) ≡ cond (receiver flow e == p) n 0
+pub in_edges-once : (flow : Dataflow) (p e n : ℕ) → p < length flow.nodes → weigh (at_edge e n) (in_edges flow p) ≡ cond (receiver flow e == p) n 0
 unfolding in_edges receiver
 in_edges-once flow p e n l =
     let z : Edge = record { name = []; sender = length flow.nodes; receiver = length flow.nodes } in

@@ -28,6 +28,7 @@ pub mod OutputLaws
 pub mod PendingLaws
 pub mod PhiLaws
 pub mod PsiLaws
+pub mod RunLaws
 pub mod SendingLaws
 pub mod SendsLaws
 pub mod SentLaws

@@ -3,11 +3,12 @@ pub mod Denotation
 pub mod History
 pub mod LawsOfChoices
 pub mod LawsOfCompleteFrontiers
+pub mod LawsOfDeliveries
 pub mod LawsOfDenotation
 pub mod LawsOfExistence
-pub mod LawsOfDeliveries
 pub mod LawsOfLegalHistories
 pub mod LawsOfProjections
+pub mod LawsOfRuns
 pub mod LawsOfSending
 pub mod LawsOfSteps
 pub mod Machine

@@ -6,6 +6,7 @@ ghost use Rattle.fw_model.specs.LawsOfDenotation.{DenotationExists, DenotationIs
 ghost use Rattle.fw_model.specs.LawsOfExistence.{CompleteExists, CompleteIsTheOnlyOne, FrontierHasFront, LargestChoiceExists, SettledCanGrow};
 ghost use Rattle.fw_model.specs.LawsOfLegalHistories.{LegalEventsAreInDomain, LegalMessagesAreInDomain, OnlyInputsInject};
 ghost use Rattle.fw_model.specs.LawsOfProjections.{PhiGrowsWithHistory, PhiIgnoresHistory, PhiIsFrontier, PhiIsMonotone, PhiOfEverything, PhiOfMeet, PsiIsFrontier, PsiIsMonotone, PsiOfJoin, PsiOfNothing, PsiOfUnion};
+ghost use Rattle.fw_model.specs.LawsOfRuns.{AcknowledgementsAreInOrder, AcknowledgementsShowDenotation, RunsStayLegal};
 ghost use Rattle.fw_model.specs.LawsOfSending.{InsidePhiComesFromInside, InsidePhiOfSequenceComesFromInside, PhiBySendStamps, PsiBySendStamps, SendStampIsMonotone, SendersOfWellFormed, SendsAreInsidePsi, SendsAtSendStamp, SentFromInsideIsInsidePsi};
 ghost use Rattle.fw_model.specs.LawsOfSteps.{ExactlyOneNextState, OneNextState, SomeNextState};
 
@@ -320,4 +321,19 @@ pub fn sent_is_sub_bag_of_denotation()
 /// In a legal history each rec was delivered on an edge at a stamp at most as often as it is in the denotation there.
 pub fn delivered_is_sub_bag_of_denotation()
     ensures { DeliveredIsSubBagOfDenotation }
+{}
+
+/// The history of each state to which steps without a recovery lead from the first one is legal.
+pub fn runs_stay_legal()
+    ensures { RunsStayLegal }
+{}
+
+/// Each acknowledgement of a run without a recovery shows the denotation of the output's in-edge at its stamp.
+pub fn acknowledgements_show_denotation()
+    ensures { AcknowledgementsShowDenotation }
+{}
+
+/// A run acknowledges at each output the stamps below its bound, in order and each once.
+pub fn acknowledgements_are_in_order()
+    ensures { AcknowledgementsAreInOrder }
 {}

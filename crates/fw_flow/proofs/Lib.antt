@@ -1,4 +1,5 @@
 pub mod Flows
+pub mod ProjectionLaws
 pub mod Marks
 pub mod Peel
 pub mod Ranks

@@ -7,6 +7,7 @@ mod ids;
 mod kind;
 pub mod laws;
 mod node;
+mod projection;
 mod step;
 mod walks;
 
@@ -15,4 +16,5 @@ pub use event::{Causes, Event, Message};
 pub use ids::{EdgeId, LoopId, NodeId};
 pub use kind::{Domain, Kind, Policy};
 pub use node::{Edge, Loop, Name, Node};
+pub use projection::SentTable;
 pub use step::{Nodes, Step};

@@ -19,7 +19,7 @@ use Rattle.fw_model.proofs.StampLaws.{leq-refl, leq-trans, IsInLoop, loop-leq, o
 abbrev up_to : Stamp → Bounds
 up_to b = record { greatest = b }
 
-some_is : (s t : Stamp) → Some s ≡ Some t → s ≡ t
+pub some_is : (s t : Stamp) → Some s ≡ Some t → s ≡ t
 some_is s t e = cc
 
 -- ---- a node that sends at its event's stamp
@@ -69,12 +69,12 @@ some_if : (b : Bool) (w s : Stamp) → cond b (Some w) None ≡ Some s → (b �
 some_if true w s e = (refl, some_is w s e)
 some_if false w s e = absurd (cc)
 
-fed_back-some : (m : ℕ) (t s : Stamp) → fed_back m t ≡ Some s → (counter t < m) × (nest (outer t) (counter t + 1) ≡ s)
+pub fed_back-some : (m : ℕ) (t s : Stamp) → fed_back m t ≡ Some s → (counter t < m) × (nest (outer t) (counter t + 1) ≡ s)
 fed_back-some m t s e =
     let a = some_if (nat_lt (counter t) m) (nest (outer t) (counter t + 1)) s e in
     (ltb-true (counter t) m a.0, a.1)
 
-fed_back-nest : (m : ℕ) (x : Stamp) (c : ℕ) → c < m → fed_back m (nest x c) ≡ Some (nest x (c + 1))
+pub fed_back-nest : (m : ℕ) (x : Stamp) (c : ℕ) → c < m → fed_back m (nest x c) ≡ Some (nest x (c + 1))
 fed_back-nest m x c h =
     rw (outer-nest x c, counter-nest x c) (cond-true (nat_lt c m) (Some (nest x (c + 1))) None (lt-ltb c m h))
 
@@ -329,7 +329,7 @@ send_stamp-in_domain flow p t s i e = send_stamp_of_kind-in_domain flow (kind_of
 fed_back-loop : (m : ℕ) (b t : Stamp) → IsInLoop b m t → counter t < m → fed_back m t ≡ Some (nest (outer t) (counter t + 1))
 fed_back-loop m b t v h = cond-true (nat_lt (counter t) m) (Some (nest (outer t) (counter t + 1))) None (lt-ltb (counter t) m h)
 
-div-monotone : (n x y : ℕ) → x ≤ y → x / n ≤ y / n
+pub div-monotone : (n x y : ℕ) → x ≤ y → x / n ≤ y / n
 div-monotone zero x y h = omega arith
 div-monotone (suc n) x y h =
     (le-div_iff_mul-le {k = suc n} {x = x / suc n} {y = y} (omega arith)).1 (omega (arith, div-mul-le_self x (suc n)))

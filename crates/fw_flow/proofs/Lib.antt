@@ -1,6 +1,6 @@
 pub mod Flows
-pub mod ProjectionLaws
 pub mod Marks
 pub mod Peel
+pub mod ProjectionLaws
 pub mod Ranks
 pub mod Reach

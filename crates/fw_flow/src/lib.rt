@@ -1,7 +1,9 @@
 //! Dataflows: nodes, edges, kinds and policies, events and messages, cuts and choices, and the steps of a run.
 #![tactic(auto)]
 
+mod check;
 mod choice;
+mod draft;
 mod event;
 mod flow;
 mod ids;
@@ -9,6 +11,7 @@ mod kind;
 pub mod laws;
 mod name;
 mod node;
+mod parts;
 mod projection;
 mod raw;
 mod step;

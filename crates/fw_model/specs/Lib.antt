@@ -6,6 +6,7 @@ pub mod LawsOfCompleteFrontiers
 pub mod LawsOfDeliveries
 pub mod LawsOfDenotation
 pub mod LawsOfExistence
+pub mod LawsOfFiltering
 pub mod LawsOfLegalHistories
 pub mod LawsOfProjections
 pub mod LawsOfRuns

@@ -4,6 +4,7 @@ ghost use Rattle.fw_model.specs.LawsOfCompleteFrontiers.{AdmissibleStaysAdmissib
 ghost use Rattle.fw_model.specs.LawsOfDeliveries.{ClosedStampsStayClosed, DeliveredInsideCompleteIsDenoted, DeliveredInsideCompleteIsFinal, DeliveredIsSubBagOfDenotation, NotificationsComeLast, NumberedDeliveriesAscend, SentInsidePhiIsDenoted, SentIsSubBagOfDenotation};
 ghost use Rattle.fw_model.specs.LawsOfDenotation.{DenotationExists, DenotationIsInDomain, DenotationIsInOrder, DenotationIsNumbered, DenotationIsTheOnlyOne, LaterRoundsAreTheSame, MeasureExists, OutBagsDependOnLesserMeasure, RecsAtStampsDecideBag, UnchangedRoundIsDenotation};
 ghost use Rattle.fw_model.specs.LawsOfExistence.{CompleteExists, CompleteIsTheOnlyOne, FrontierHasFront, LargestChoiceExists, SettledCanGrow};
+ghost use Rattle.fw_model.specs.LawsOfFiltering.{ConsistentMeetsInclusions, FilteredHistoryIsLegal, KeptDeliveriesHaveKeptCauses, KeptEventsAreLegal, KeptEventsAreLegalWithoutNotices, KeptEventsDeliverTheSame, KeptEventsSendTheSame, NothingPendingWithoutLog, PendingAtKeptStamps, PendingAtOtherStamps, PendingForCut, PendingForPresent, PhiOfKeptEvents};
 ghost use Rattle.fw_model.specs.LawsOfLegalHistories.{LegalEventsAreInDomain, LegalMessagesAreInDomain, OnlyInputsInject};
 ghost use Rattle.fw_model.specs.LawsOfProjections.{PhiGrowsWithHistory, PhiIgnoresHistory, PhiIsFrontier, PhiIsMonotone, PhiOfEverything, PhiOfMeet, PsiIsFrontier, PsiIsMonotone, PsiOfJoin, PsiOfNothing, PsiOfUnion};
 ghost use Rattle.fw_model.specs.LawsOfRuns.{AcknowledgementsAreInOrder, AcknowledgementsShowDenotation, RunsStayLegal};
@@ -276,6 +277,71 @@ pub fn settled_can_grow()
 /// Where some choice is consistent and checkpoints are chains, there is a largest choice.
 pub fn largest_choice_exists()
     ensures { LargestChoiceExists }
+{}
+
+/// In a legal history the kept events alone send what they send among all: the messages whose causes are kept.
+pub fn kept_events_send_the_same()
+    ensures { KeptEventsSendTheSame }
+{}
+
+/// The kept events alone deliver the messages at stamps that the receiver keeps.
+pub fn kept_events_deliver_the_same()
+    ensures { KeptEventsDeliverTheSame }
+{}
+
+/// Phi of what lies within what the sender keeps is the same in the kept events alone.
+pub fn phi_of_kept_events()
+    ensures { PhiOfKeptEvents }
+{}
+
+/// In a legal history what was delivered inside phi of what is kept has kept causes.
+pub fn kept_deliveries_have_kept_causes()
+    ensures { KeptDeliveriesHaveKeptCauses }
+{}
+
+/// Where no node is notified, the kept events of a legal history are a legal history, if what was delivered comes from kept.
+pub fn kept_events_are_legal_without_notices()
+    ensures { KeptEventsAreLegalWithoutNotices }
+{}
+
+/// The consistently kept events of a legal history are a legal history.
+pub fn kept_events_are_legal()
+    ensures { KeptEventsAreLegal }
+{}
+
+/// A consistent choice of the restore candidates meets the inclusions.
+pub fn consistent_meets_inclusions()
+    ensures { ConsistentMeetsInclusions }
+{}
+
+/// A legal history filtered by a choice that meets the inclusions is legal.
+pub fn filtered_history_is_legal()
+    ensures { FilteredHistoryIsLegal }
+{}
+
+/// At the stamps that the receiver keeps, of the kept events that is pending which was pending and has kept causes.
+pub fn pending_at_kept_stamps()
+    ensures { PendingAtKeptStamps }
+{}
+
+/// At other stamps, of the kept events that is pending which was sent and has kept causes.
+pub fn pending_at_other_stamps()
+    ensures { PendingAtOtherStamps }
+{}
+
+/// For a receiver that stays as it is, that is pending in the filtered history which was pending and has kept causes.
+pub fn pending_for_present()
+    ensures { PendingForPresent }
+{}
+
+/// For a receiver cut within what is settled, that is pending which was sent outside its cut and has kept causes.
+pub fn pending_for_cut()
+    ensures { PendingForCut }
+{}
+
+/// For a receiver cut within what is settled nothing is pending from a sender that cannot send again.
+pub fn nothing_pending_without_log()
+    ensures { NothingPendingWithoutLog }
 {}
 
 /// From a state a step leads to at most one next state, with one outcome.

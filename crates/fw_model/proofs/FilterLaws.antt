@@ -28,15 +28,6 @@ filter-in k x xs e = cond-true (k x) (x ∷ filter k xs) (filter k xs) e
 pub filter-out : {X : Type 0} (k : X → Bool) (x : X) (xs : List X) → k x ≡ false → filter k (x ∷ xs) ≡ filter k xs
 filter-out k x xs e = cond-false (k x) (x ∷ filter k xs) (filter k xs) e
 
-pub filter-append : {X : Type 0} (k : X → Bool) (xs ys : List X) → filter k (xs ++ ys) ≡ filter k xs ++ filter k ys
-filter-append k [] ys = refl
-filter-append k (x ∷ xs) ys = by (k x) (filter-append k xs ys)
-  where
-    by : (b : Bool) → filter k (xs ++ ys) ≡ filter k xs ++ filter k ys
-        → cond b (x ∷ filter k (xs ++ ys)) (filter k (xs ++ ys)) ≡ cond b (x ∷ filter k xs) (filter k xs) ++ filter k ys
-    by true e = ap (λ zs. x ∷ zs) e
-    by false e = e
-
 pub filter-all : {X : Type 0} (k : X → Bool) (xs : List X) → AllByRecursion (λ x. k x ≡ true) xs → filter k xs ≡ xs
 filter-all k [] a = refl
 filter-all k (x ∷ xs) a = filter-in k x xs a.0 ∙ ap (λ zs. x ∷ zs) (filter-all k xs a.1)

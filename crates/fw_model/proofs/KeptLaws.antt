@@ -8,24 +8,24 @@ use Rattle.fw_frontier.specs.Frontier.{Frontier}
 use Rattle.fw_flow.specs.declared.event.Event.{Event}
 use Rattle.fw_flow.specs.declared.event.Event.TheVariants.{Inject, Deliver, Notify}
 use Rattle.fw_flow.specs.declared.event.Message.{Message}
-use Rattle.fw_flow.specs.Dataflow.{System, Dataflow, kind_of, sender, receiver, bounds_of, is_notified_kind, is_numbered}
+use Rattle.fw_flow.specs.Dataflow.{System, Dataflow, kind_of, sender, receiver, bounds_of, is_notified_kind}
 use Rattle.fw_flow.specs.NodeFunction.{place, stamp, sends, sent_by}
 use Rattle.fw_flow.specs.Projection.{events_at, all_inside, phi}
 use Rattle.fw_flow.specs.WellFormed.{IsWellFormed}
 use Rattle.fw_model.specs.History.{message_cmp, is_among, less, sent, message_on, delivered, pending, is_delivery_to, is_notification, was_delivered_to, was_notified, owed, is_injection, injected_count, IsQuiet, IsEnabled, IsLegal}
 use Rattle.fw_model.specs.LawsOfLegalHistories.{HasEpochs}
+use Rattle.fw_model.specs.LawsOfDeliveries.{AreNumberedInOrder}
 use Rattle.fw_model.specs.LawsOfFiltering.{AreFrontiers, kept_events, messages_from, messages_inside, HaveKeptCauses, KeptDeliveriesHaveKeptCauses, NotifiesNobody, KeptEventsAreLegalWithoutNotices}
+use Rattle.fw_model.proofs.Decisions.{two_ways}
 use Rattle.fw_model.proofs.EachLaws.{each-weaker, each-both}
 use Rattle.fw_model.proofs.StampLaws.{leq-trans, leq_from, leq_to, line-leq}
 use Rattle.fw_model.proofs.OutputLaws.{same-is}
 use Rattle.fw_model.proofs.CmpLaws.{among-each}
 use Rattle.fw_model.proofs.LegalLaws.{less-each}
 use Rattle.fw_model.proofs.OrderLaws.{legal-inside_phi}
+use Rattle.fw_model.proofs.ClosedLaws.{numbered-ascend}
 use Rattle.fw_model.proofs.FilterLaws.{each-one, filter-all, any-filter, any_filter-none, how_many-filter, pending-kept, message_cmp-equal}
 use Rattle.fw_model.proofs.LocalityLaws.{sends-same, delivers-same}
-
-two_ways : (b : Bool) → b ≡ true → b ≡ false → ⊥
-two_ways b p q = cc
 
 pub each-later : {A : Type 0} (P : A → Type 0) (xs ys : List A) → AllByRecursion P (xs ++ ys) → AllByRecursion P ys
 each-later P [] ys a = a
@@ -202,27 +202,16 @@ inject-enabled sys h keep l fr s x k i =
 
 -- ---- kept deliveries
 
--- the deliveries on a numbered edge are at most at their number
-numbered-below : (sys : System) (h : List Event) → IsLegal sys h → (e : ℕ) → is_numbered sys.flow e ≡ true
-    → AllByRecursion (λ (m : Message). leq m.at (length (delivered h e) ∷ []) ≡ true) (delivered h e)
-numbered-below sys [] l e n = tt
-numbered-below sys (Inject s x ∷ h) l e n = numbered-below sys h l.1 e n
-numbered-below sys (Notify p t ∷ h) l e n = numbered-below sys h l.1 e n
-numbered-below sys (Deliver d m ∷ h) l e n =
-    let c = length (delivered h e) in
-    let rest = numbered-below sys h l.1 e n in
-    let later : leq (c ∷ []) ((c + 1) ∷ []) ≡ true = line-leq c (c + 1) (omega arith) in
-    cond_both (d == e) (m ∷ []) [] (λ ms. AllByRecursion (λ (x : Message). leq x.at (length (ms ++ delivered h e) ∷ []) ≡ true) (ms ++ delivered h e))
-    (λ q.
-    let r = eqb-true d e q in
-    let number : m.at ≡ c ∷ [] = l.0.numbered (ap (is_numbered sys.flow) r ∙ n) ∙ ap (λ k. length (delivered h k) ∷ []) r in
-    let long : c + 1 ≡ length (m ∷ delivered h e) = omega arith in
-    subst (λ k. AllByRecursion (λ (x : Message). leq x.at (k ∷ []) ≡ true) (m ∷ delivered h e)) long (
-      leq_from (c ∷ []) m.at ((c + 1) ∷ []) (sym number) later,
-      each-weaker (λ (x : Message). leq x.at (c ∷ []) ≡ true) (λ x. leq x.at ((c + 1) ∷ []) ≡ true) (delivered h e)
-          (λ x a. leq-trans x.at (c ∷ []) ((c + 1) ∷ []) a later) rest,
-    ))
-    (λ q. rest)
+-- messages with the numbers from 0 on are at most at their count
+numbers-below : (ms : List Message) → AreNumberedInOrder ms → AllByRecursion (λ (m : Message). leq m.at (length ms ∷ []) ≡ true) ms
+numbers-below [] a = tt
+numbers-below (m ∷ ms) a =
+    let n = length ms in
+    let later = line-leq n (length (m ∷ ms)) (omega arith) in (
+      leq_from (n ∷ []) m.at (length (m ∷ ms) ∷ []) (sym a.0) later,
+      each-weaker (λ (x : Message). leq x.at (n ∷ []) ≡ true) (λ x. leq x.at (length (m ∷ ms) ∷ []) ≡ true) ms
+          (λ x b. leq-trans x.at (n ∷ []) (length (m ∷ ms) ∷ []) b later) (numbers-below ms a.1),
+    )
 
 pub deliver-enabled : (sys : System) (h : List Event) (keep : ℕ → Frontier) → IsFiltering sys h keep → (e : ℕ) (m : Message) → IsEnabled sys h (Deliver e m)
     → keep (receiver sys.flow e) m.at ≡ true → all_inside (keep (sender sys.flow e)) m.causes ≡ true
@@ -239,7 +228,7 @@ deliver-enabled sys h keep c e m k i j =
           (λ x a.
           let b = leq_to x.at _ m.at (sym at) a in
           f.closed x.at m.at (leq-trans x.at m.at (bounds_of sys.flow (receiver sys.flow e)).greatest b (f.inside_domain m.at i)) b i)
-          (numbered-below sys h c.legal e n)) in
+          (numbers-below (delivered h e) (numbered-ascend sys h c.legal e n))) in
           at ∙ ap (λ ms. length ms ∷ []) (sym (delivers-same sys.flow h keep e ∙ all));
     }
 

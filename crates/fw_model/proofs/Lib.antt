@@ -33,6 +33,7 @@ pub mod PendingKeptLaws
 pub mod PendingLaws
 pub mod PhiLaws
 pub mod PsiLaws
+pub mod RecoveryLaws
 pub mod RunLaws
 pub mod PsiBackLaws
 pub mod RewritingLaws

@@ -3,6 +3,7 @@ use Rattle.std.proofs.Common.{◌≡◌, ℕ, zero, suc, ◌+◌, ◌<◌, ◌�
 use Rattle.std.specs.List.{AllByRecursion, list_any}
 use Rattle.std.proofs.lemmas.Bool.{and_parts, and_from, and_left, or_cases, or_left, or_right, cond_both, cases_Bool, cases_lt, eqb-true, eq-eqb}
 use Rattle.std.proofs.lemmas.List.{get_or_past}
+use Rattle.std.proofs.lemmas.List.Elements.{filter-append}
 use Rattle.fw_time.specs.Stamp.{Stamp, leq, same, in_domain}
 use Rattle.fw_bag.specs.Keyed.{joined, distinct_keys, sums_of, is_among, sorted}
 use Rattle.fw_frontier.specs.Frontier.{Frontier, IsFrontier, Within}
@@ -20,16 +21,14 @@ use Rattle.fw_model.specs.History.{message_on, delivered, was_delivered_to, was_
 use Rattle.fw_model.specs.LawsOfSending.{notified_stamps, IsDescending}
 use Rattle.fw_model.specs.LawsOfLegalHistories.{HasEpochs}
 use Rattle.fw_model.specs.LawsOfFiltering.{AreFrontiers, kept_events, messages_from, messages_inside, KeptEventsSendTheSame, KeptEventsDeliverTheSame, PhiOfKeptEvents}
+use Rattle.fw_model.proofs.Decisions.{two_ways}
 use Rattle.fw_model.proofs.EachLaws.{each-weaker}
 use Rattle.fw_model.proofs.StampLaws.{leq-trans, leq_from, leq_to, line-leq}
 use Rattle.fw_model.proofs.OutputLaws.{same-is}
-use Rattle.fw_model.proofs.FilterLaws.{filter-in, filter-out, filter-append, filter-all, filter-none, filter-swap, how_many-filter, flat_map-filter, each-one}
+use Rattle.fw_model.proofs.FilterLaws.{filter-in, filter-out, filter-all, filter-none, filter-swap, how_many-filter, flat_map-filter, each-one}
 use Rattle.fw_model.proofs.SendsLaws.{IsAt, sends_of_kind-each}
 use Rattle.fw_model.proofs.SequenceLaws.{IsNumbered, numbered-each}
 use Rattle.fw_model.proofs.OrderLaws.{sequences-in_order}
-
-two_ways : (b : Bool) → b ≡ true → b ≡ false → ⊥
-two_ways b p q = cc
 
 -- the events inside
 abbrev pub events_inside : Frontier → List Event → List Event

@@ -23,6 +23,7 @@ use Rattle.fw_model.specs.LawsOfProjections.{bounds_of_edge}
 use Rattle.fw_model.specs.LawsOfSending.{SendsByStamp}
 use Rattle.fw_model.specs.LawsOfLegalHistories.{HasEpochs}
 use Rattle.fw_model.specs.LawsOfFiltering.{kept_events, messages_from, messages_inside, messages_outside, PendingAtKeptStamps, PendingAtOtherStamps, PendingForPresent, PendingForCut, NothingPendingWithoutLog}
+use Rattle.fw_model.proofs.Decisions.{two_ways}
 use Rattle.fw_model.proofs.EachLaws.{each-weaker, each-both}
 use Rattle.fw_model.proofs.StampLaws.{leq-refl}
 use Rattle.fw_model.proofs.LegalLaws.{less-each, edge_domains, legal_messages-in_domain}
@@ -32,9 +33,6 @@ use Rattle.fw_model.proofs.FilterLaws.{filter-in, filter-out, filter-all, filter
 use Rattle.fw_model.proofs.LocalityLaws.{sends-same, delivers-same}
 use Rattle.fw_model.proofs.KeptLaws.{kept-causes, pending-inside}
 use Rattle.fw_model.proofs.FilteredLaws.{filtered-events, choice-consistent}
-
-two_ways : (b : Bool) → b ≡ true → b ≡ false → ⊥
-two_ways b p q = cc
 
 -- ---- messages inside and outside
 

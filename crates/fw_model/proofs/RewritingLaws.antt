@@ -17,6 +17,7 @@ use Rattle.fw_model.specs.History.{injected_count, injected_epochs, IsAdmissible
 use Rattle.fw_model.specs.Choice.{stamp_of_notice}
 use Rattle.fw_model.specs.LawsOfProjections.{is_sequence_kind}
 use Rattle.fw_model.specs.LawsOfFiltering.{AreFrontiers, kept_events, HaveKeptCauses, KeptEventsAreLegal}
+use Rattle.fw_model.proofs.Decisions.{two_ways}
 use Rattle.fw_model.proofs.EachLaws.{each-weaker}
 use Rattle.fw_model.proofs.StampLaws.{leq-trans, leq_to, in_line, line-leq}
 use Rattle.fw_model.proofs.PhiLaws.{phi-monotone, count-append}
@@ -26,9 +27,6 @@ use Rattle.fw_model.proofs.SequenceLaws.{bounds-sequence, count-none}
 use Rattle.fw_model.proofs.CompleteLaws.{enabled-outside, admissible-stays}
 use Rattle.fw_model.proofs.LocalityLaws.{sends-causes, one_cause, phi-same}
 use Rattle.fw_model.proofs.KeptLaws.{IsFiltering, filtering-before, kept-causes, kept-quiet, kept-owed, inject-enabled, deliver-enabled, causes-now, legal-with, each-later}
-
-two_ways : (b : Bool) → b ≡ true → b ≡ false → ⊥
-two_ways b p q = cc
 
 -- ---- which injections are kept
 

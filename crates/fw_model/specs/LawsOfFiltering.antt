@@ -118,21 +118,22 @@ FilteredHistoryIsLegal = (sys : System) (state : Machine) (choice : Choice) → 
 abbrev pub messages_outside : Frontier → List Message → List Message
 messages_outside f ms = filter (λ m. not (f m.at)) ms
 
--- at the stamps that the receiver keeps, of the kept events that is pending which was pending and has kept causes
+-- at stamps that the receiver keeps, what is pending of the kept events is the part with kept causes of what was pending
 abbrev pub PendingAtKeptStamps : Type 0
 PendingAtKeptStamps = (sys : System) (h : List Event) (keep : ℕ → Frontier) → IsWellFormed sys.flow → HasEpochs sys
     → IsLegal sys h → AreFrontiers sys.flow keep → ComeFromKept sys h keep → (e : ℕ)
     → messages_inside (keep (receiver sys.flow e)) (pending sys (kept_events sys.flow keep h) e)
     ≡ messages_inside (keep (receiver sys.flow e)) (messages_from (keep (sender sys.flow e)) (pending sys h e))
 
--- at other stamps, of the kept events that is pending which was sent and has kept causes
+-- at other stamps, what is pending of the kept events is the part with kept causes of what was sent
 abbrev pub PendingAtOtherStamps : Type 0
 PendingAtOtherStamps = (sys : System) (h : List Event) (keep : ℕ → Frontier) → IsWellFormed sys.flow → HasEpochs sys
     → IsLegal sys h → AreFrontiers sys.flow keep → (e : ℕ)
     → messages_outside (keep (receiver sys.flow e)) (pending sys (kept_events sys.flow keep h) e)
     ≡ messages_outside (keep (receiver sys.flow e)) (messages_from (keep (sender sys.flow e)) (sent sys h e))
 
--- for a receiver that stays as it is, that is pending in the filtered history which was pending and has kept causes
+-- For a receiver that stays as it is, what is pending in the filtered history is the part with kept causes of what was
+-- pending.
 abbrev pub PendingForPresent : Type 0
 PendingForPresent = (sys : System) (state : Machine) (choice : Choice) → IsWellFormed sys.flow → HasEpochs sys
     → IsLegal sys (events state.history) → MeetsInclusions sys state choice → (e : ℕ)
@@ -152,8 +153,8 @@ abbrev pub IsCutWithinSettled : System → Machine → Choice → ℕ → Type 0
 IsCutWithinSettled sys state choice p =
     Within (kept_of sys choice p) (frontier_of (bounds_of sys.flow p) (front_of state.settled p))
 
--- for a receiver that is cut within what is settled, that is pending in the filtered history which was sent outside its cut
--- and has kept causes
+-- For a receiver that is cut within what is settled, what is pending in the filtered history is the part with kept causes
+-- of what was sent outside its cut.
 abbrev pub PendingForCut : Type 0
 PendingForCut = (sys : System) (state : Machine) (choice : Choice) → IsWellFormed sys.flow → HasEpochs sys
     → IsLegal sys (events state.history) → IsFull sys state → MeetsInclusions sys state choice → (e : ℕ)

@@ -9,6 +9,7 @@ pub mod LawsOfExistence
 pub mod LawsOfFiltering
 pub mod LawsOfLegalHistories
 pub mod LawsOfProjections
+pub mod LawsOfRecoveries
 pub mod LawsOfRuns
 pub mod LawsOfSending
 pub mod LawsOfSteps

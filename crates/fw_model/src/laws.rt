@@ -7,6 +7,7 @@ ghost use Rattle.fw_model.specs.LawsOfExistence.{CompleteExists, CompleteIsTheOn
 ghost use Rattle.fw_model.specs.LawsOfFiltering.{ConsistentMeetsInclusions, FilteredHistoryIsLegal, KeptDeliveriesHaveKeptCauses, KeptEventsAreLegal, KeptEventsAreLegalWithoutNotices, KeptEventsDeliverTheSame, KeptEventsSendTheSame, NothingPendingWithoutLog, PendingAtKeptStamps, PendingAtOtherStamps, PendingForCut, PendingForPresent, PhiOfKeptEvents};
 ghost use Rattle.fw_model.specs.LawsOfLegalHistories.{LegalEventsAreInDomain, LegalMessagesAreInDomain, OnlyInputsInject};
 ghost use Rattle.fw_model.specs.LawsOfProjections.{PhiGrowsWithHistory, PhiIgnoresHistory, PhiIsFrontier, PhiIsMonotone, PhiOfEverything, PhiOfMeet, PsiIsFrontier, PsiIsMonotone, PsiOfJoin, PsiOfNothing, PsiOfUnion};
+ghost use Rattle.fw_model.specs.LawsOfRecoveries.{AcknowledgementsShowDenotationThroughRecoveries, DenotedIsFull, RunsStayLegalThroughRecoveries, SettledStaysDenoted, StepsKeepHistoriesLegal};
 ghost use Rattle.fw_model.specs.LawsOfRuns.{AcknowledgementsAreInOrder, AcknowledgementsShowDenotation, RunsStayLegal};
 ghost use Rattle.fw_model.specs.LawsOfSending.{InsidePhiComesFromInside, InsidePhiOfSequenceComesFromInside, PhiBySendStamps, PsiBackBySendStamps, PsiBackIsLargest, PsiBySendStamps, SendStampIsMonotone, SendersOfWellFormed, SendsAreInsidePsi, SendsAtSendStamp, SentFromInsideIsInsidePsi};
 ghost use Rattle.fw_model.specs.LawsOfSteps.{ExactlyOneNextState, OneNextState, SomeNextState};
@@ -319,22 +320,22 @@ pub fn filtered_history_is_legal()
     ensures { FilteredHistoryIsLegal }
 {}
 
-/// At the stamps that the receiver keeps, of the kept events that is pending which was pending and has kept causes.
+/// At stamps that the receiver keeps, what is pending of the kept events is the part with kept causes of what was pending.
 pub fn pending_at_kept_stamps()
     ensures { PendingAtKeptStamps }
 {}
 
-/// At other stamps, of the kept events that is pending which was sent and has kept causes.
+/// At other stamps, what is pending of the kept events is the part with kept causes of what was sent.
 pub fn pending_at_other_stamps()
     ensures { PendingAtOtherStamps }
 {}
 
-/// For a receiver that stays as it is, that is pending in the filtered history which was pending and has kept causes.
+/// For a receiver that stays as it is, what is pending afterwards is the part with kept causes of what was pending.
 pub fn pending_for_present()
     ensures { PendingForPresent }
 {}
 
-/// For a receiver cut within what is settled, that is pending which was sent outside its cut and has kept causes.
+/// For a receiver cut within what is settled, what is pending afterwards is the part with kept causes of what was sent outside.
 pub fn pending_for_cut()
     ensures { PendingForCut }
 {}
@@ -412,4 +413,29 @@ pub fn acknowledgements_show_denotation()
 /// A run acknowledges at each output the stamps below its bound, in order and each once.
 pub fn acknowledgements_are_in_order()
     ensures { AcknowledgementsAreInOrder }
+{}
+
+/// Each step from a state with a legal history leads to one, a recovery too.
+pub fn steps_keep_histories_legal()
+    ensures { StepsKeepHistoriesLegal }
+{}
+
+/// The history of each state to which steps lead from the first one is legal, with recoveries among them.
+pub fn runs_stay_legal_through_recoveries()
+    ensures { RunsStayLegalThroughRecoveries }
+{}
+
+/// In each state to which steps lead from the first one, what is settled is denoted.
+pub fn settled_stays_denoted()
+    ensures { SettledStaysDenoted }
+{}
+
+/// Where what is settled is denoted, nothing more can come there.
+pub fn denoted_is_full()
+    ensures { DenotedIsFull }
+{}
+
+/// Each acknowledgement of a run shows the denotation, with recoveries among its steps.
+pub fn acknowledgements_show_denotation_through_recoveries()
+    ensures { AcknowledgementsShowDenotationThroughRecoveries }
 {}

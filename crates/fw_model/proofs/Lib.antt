@@ -1,4 +1,5 @@
 pub mod ArrivalLaws
+pub mod CheckpointLaws
 pub mod ChoiceLaws
 pub mod ClosedLaws
 pub mod CmpLaws

@@ -17,15 +17,15 @@ use Rattle.fw_flow.specs.Dataflow.{System, Dataflow, idle_node, kind_of, sender,
 use Rattle.fw_flow.specs.NodeFunction.{place, stamp, rec_of_delivery, delivered_recs, recs_on_delivery, recs_on_notification, recs_on, numbered_messages, sequence_sent, messages_at_some, sends_of_kind, sends, sent_by}
 use Rattle.fw_flow.specs.Projection.{events_at, all_inside, count_from, sent_count, phi_of_kind, phi}
 use Rattle.fw_flow.specs.WellFormed.{IsWellFormed, IsInDegree}
-use Rattle.fw_model.specs.History.{message_on, delivered, was_delivered_to, was_notified, IsEnabled, IsLegal}
+use Rattle.fw_model.specs.History.{message_on, sent, delivered, was_delivered_to, was_notified, IsEnabled, IsLegal}
 use Rattle.fw_model.specs.LawsOfSending.{notified_stamps, IsDescending}
 use Rattle.fw_model.specs.LawsOfLegalHistories.{HasEpochs}
-use Rattle.fw_model.specs.LawsOfFiltering.{AreFrontiers, kept_events, messages_from, messages_inside, KeptEventsSendTheSame, KeptEventsDeliverTheSame, PhiOfKeptEvents}
+use Rattle.fw_model.specs.LawsOfFiltering.{AreFrontiers, kept_events, messages_from, messages_inside, KeptEventsSendTheSame, KeptEventsSendTheSameFromWithin, KeptEventsDeliverTheSame, PhiOfKeptEvents}
 use Rattle.fw_model.proofs.Decisions.{two_ways}
 use Rattle.fw_model.proofs.EachLaws.{each-weaker}
 use Rattle.fw_model.proofs.StampLaws.{leq-trans, leq_from, leq_to, line-leq}
 use Rattle.fw_model.proofs.OutputLaws.{same-is}
-use Rattle.fw_model.proofs.FilterLaws.{filter-in, filter-out, filter-all, filter-none, filter-swap, how_many-filter, flat_map-filter, each-one}
+use Rattle.fw_model.proofs.FilterLaws.{filter-in, filter-out, filter-inner, filter-all, filter-none, filter-swap, how_many-filter, flat_map-filter, each-one}
 use Rattle.fw_model.proofs.SendsLaws.{IsAt, sends_of_kind-each}
 use Rattle.fw_model.proofs.SequenceLaws.{IsNumbered, numbered-each}
 use Rattle.fw_model.proofs.OrderLaws.{sequences-in_order}
@@ -343,6 +343,13 @@ all_inside-wider f g w [] k = refl
 all_inside-wider f g w (c ∷ cs) k =
     let a = and_parts (f c) (all_inside f cs) k in
     and_from (g c) (all_inside g cs) (w c a.0) (all_inside-wider f g w cs a.1)
+
+pub sends-same_within : KeptEventsSendTheSameFromWithin
+sends-same_within sys h keep w b l fr e g i =
+    let f = keep (sender sys.flow e) in
+    ap (messages_from g) (sends-same sys h keep w b l fr e)
+    ∙ filter-inner (λ (m : Message). all_inside g m.causes) (λ m. all_inside f m.causes) (sent sys h e)
+    (each-one (λ (m : Message). all_inside g m.causes ≡ true → all_inside f m.causes ≡ true) (sent sys h e) (λ m k. all_inside-wider g f i m.causes k))
 
 pub sent_count-same : (sys : System) (h : List Event) (keep : ℕ → Frontier) → IsWellFormed sys.flow → HasEpochs sys → IsLegal sys h → AreFrontiers sys.flow keep
     → (p : ℕ) (g : Frontier) → Within g (keep p) → sent_count sys (kept_events sys.flow keep h) p g ≡ sent_count sys h p g

@@ -38,6 +38,12 @@ KeptEventsSendTheSame = (sys : System) (h : List Event) (keep : ℕ → Frontier
     → IsLegal sys h → AreFrontiers sys.flow keep → (e : ℕ)
     → sent sys (kept_events sys.flow keep h) e ≡ messages_from (keep (sender sys.flow e)) (sent sys h e)
 
+-- from inside less than the sender keeps, the kept events send the same as all events
+abbrev pub KeptEventsSendTheSameFromWithin : Type 0
+KeptEventsSendTheSameFromWithin = (sys : System) (h : List Event) (keep : ℕ → Frontier) → IsWellFormed sys.flow → HasEpochs sys
+    → IsLegal sys h → AreFrontiers sys.flow keep → (e : ℕ) (g : Frontier) → Within g (keep (sender sys.flow e))
+    → messages_from g (sent sys (kept_events sys.flow keep h) e) ≡ messages_from g (sent sys h e)
+
 -- the kept events alone deliver on each edge the messages at stamps that the receiver keeps
 abbrev pub KeptEventsDeliverTheSame : Type 0
 KeptEventsDeliverTheSame = (flow : Dataflow) (h : List Event) (keep : ℕ → Frontier) (e : ℕ)

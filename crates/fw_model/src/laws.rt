@@ -4,10 +4,10 @@ ghost use Rattle.fw_model.specs.LawsOfCompleteFrontiers.{AdmissibleStaysAdmissib
 ghost use Rattle.fw_model.specs.LawsOfDeliveries.{ClosedStampsStayClosed, DeliveredInsideCompleteIsDenoted, DeliveredInsideCompleteIsFinal, DeliveredIsSubBagOfDenotation, NotificationsComeLast, NumberedDeliveriesAscend, SentInsidePhiIsDenoted, SentIsSubBagOfDenotation};
 ghost use Rattle.fw_model.specs.LawsOfDenotation.{DenotationExists, DenotationIsInDomain, DenotationIsInOrder, DenotationIsNumbered, DenotationIsTheOnlyOne, LaterRoundsAreTheSame, MeasureExists, OutBagsDependOnLesserMeasure, RecsAtStampsDecideBag, UnchangedRoundIsDenotation};
 ghost use Rattle.fw_model.specs.LawsOfExistence.{CompleteExists, CompleteIsTheOnlyOne, FrontierHasFront, LargestChoiceExists, SettledCanGrow};
-ghost use Rattle.fw_model.specs.LawsOfFiltering.{ConsistentMeetsInclusions, FilteredHistoryIsLegal, KeptDeliveriesHaveKeptCauses, KeptEventsAreLegal, KeptEventsAreLegalWithoutNotices, KeptEventsDeliverTheSame, KeptEventsSendTheSame, NothingPendingWithoutLog, PendingAtKeptStamps, PendingAtOtherStamps, PendingForCut, PendingForPresent, PhiOfKeptEvents};
+ghost use Rattle.fw_model.specs.LawsOfFiltering.{ConsistentMeetsInclusions, FilteredHistoryIsLegal, KeptDeliveriesHaveKeptCauses, KeptEventsAreLegal, KeptEventsAreLegalWithoutNotices, KeptEventsDeliverTheSame, KeptEventsSendTheSame, KeptEventsSendTheSameFromWithin, NothingPendingWithoutLog, PendingAtKeptStamps, PendingAtOtherStamps, PendingForCut, PendingForPresent, PhiOfKeptEvents};
 ghost use Rattle.fw_model.specs.LawsOfLegalHistories.{LegalEventsAreInDomain, LegalMessagesAreInDomain, OnlyInputsInject};
 ghost use Rattle.fw_model.specs.LawsOfProjections.{PhiGrowsWithHistory, PhiIgnoresHistory, PhiIsFrontier, PhiIsMonotone, PhiOfEverything, PhiOfMeet, PsiIsFrontier, PsiIsMonotone, PsiOfJoin, PsiOfNothing, PsiOfUnion};
-ghost use Rattle.fw_model.specs.LawsOfRecoveries.{AcknowledgementsShowDenotationThroughRecoveries, DenotedIsFull, RunsStayLegalThroughRecoveries, SettledStaysDenoted, StepsKeepHistoriesLegal};
+ghost use Rattle.fw_model.specs.LawsOfRecoveries.{AcknowledgementsShowDenotationThroughRecoveries, CandidatesLieWithinSettled, DenotedIsFull, RunsStayLegalThroughRecoveries, SettledStaysDenoted, StepsKeepHistoriesLegal};
 ghost use Rattle.fw_model.specs.LawsOfRuns.{AcknowledgementsAreInOrder, AcknowledgementsShowDenotation, RunsStayLegal};
 ghost use Rattle.fw_model.specs.LawsOfSending.{InsidePhiComesFromInside, InsidePhiOfSequenceComesFromInside, PhiBySendStamps, PsiBackBySendStamps, PsiBackIsLargest, PsiBySendStamps, SendStampIsMonotone, SendersOfWellFormed, SendsAreInsidePsi, SendsAtSendStamp, SentFromInsideIsInsidePsi};
 ghost use Rattle.fw_model.specs.LawsOfSteps.{ExactlyOneNextState, OneNextState, SomeNextState};
@@ -285,6 +285,11 @@ pub fn kept_events_send_the_same()
     ensures { KeptEventsSendTheSame }
 {}
 
+/// From inside less than the sender keeps, the kept events send the same as all events.
+pub fn kept_events_send_the_same_from_within()
+    ensures { KeptEventsSendTheSameFromWithin }
+{}
+
 /// The kept events alone deliver the messages at stamps that the receiver keeps.
 pub fn kept_events_deliver_the_same()
     ensures { KeptEventsDeliverTheSame }
@@ -438,4 +443,9 @@ pub fn denoted_is_full()
 /// Each acknowledgement of a run shows the denotation, with recoveries among its steps.
 pub fn acknowledgements_show_denotation_through_recoveries()
     ensures { AcknowledgementsShowDenotationThroughRecoveries }
+{}
+
+/// In each state of a run, a node that is no input can be restored only to frontiers within what is settled at it.
+pub fn candidates_lie_within_settled()
+    ensures { CandidatesLieWithinSettled }
 {}

@@ -28,7 +28,7 @@ then_equal Greater p h = absurd (cc)
 nat_cmp-same : (m n : ℕ) → nat_cmp m n ≡ Equal → m ≡ n
 nat_cmp-same m n h = grind (arith, nat_tests)
 
-equal_from_is_eq : (o : Ordering) → is_eq o ≡ true → o ≡ Equal
+pub equal_from_is_eq : (o : Ordering) → is_eq o ≡ true → o ≡ Equal
 equal_from_is_eq Less h = absurd (cc)
 equal_from_is_eq Equal h = refl
 equal_from_is_eq Greater h = absurd (cc)

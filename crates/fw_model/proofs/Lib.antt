@@ -1,4 +1,5 @@
 pub mod ArrivalLaws
+pub mod CheckpointLaws
 pub mod ChoiceLaws
 pub mod ClosedLaws
 pub mod CmpLaws
@@ -12,12 +13,16 @@ pub mod DependenceLaws
 pub mod DescentLaws
 pub mod EachLaws
 pub mod EnabledLaws
+pub mod FilterLaws
+pub mod FilteredLaws
 pub mod FrontLaws
 pub mod FrontierLaws
 pub mod InputLaws
 pub mod LargestLaws
+pub mod KeptLaws
 pub mod LegalLaws
 pub mod ListedLaws
+pub mod LocalityLaws
 pub mod MeasureLaws
 pub mod MeetLaws
 pub mod NumberedLaws
@@ -25,11 +30,14 @@ pub mod OneByOneLaws
 pub mod OneNextLaws
 pub mod OrderLaws
 pub mod OutputLaws
+pub mod PendingKeptLaws
 pub mod PendingLaws
 pub mod PhiLaws
 pub mod PsiLaws
+pub mod RecoveryLaws
 pub mod RunLaws
 pub mod PsiBackLaws
+pub mod RewritingLaws
 pub mod SendingLaws
 pub mod SendsLaws
 pub mod SentLaws

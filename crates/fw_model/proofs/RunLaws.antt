@@ -39,7 +39,7 @@ use Rattle.fw_model.specs.Steps.{Effect, acked, Outcome, did, idle, Takes, Steps
 -- ---- legal histories
 
 -- a step that is no recovery keeps a legal history legal
-legal-takes : (sys : System) (state : Machine) (step : Step) (next : Machine) (effect : Effect) → is_recovery step ≡ false
+pub legal-takes : (sys : System) (state : Machine) (step : Step) (next : Machine) (effect : Effect) → is_recovery step ≡ false
     → Takes sys state step next effect → IsLegal sys (events state.history) → IsLegal sys (events next.history)
 legal-takes sys state (Inject s) next effect k t l = subst (λ (m : Machine). IsLegal sys (events m.history)) (sym t.3) (t.1, l)
 legal-takes sys state (Deliver e at) next effect k t l = subst (λ (m : Machine). IsLegal sys (events m.history)) (sym t.3) (t.1.enabled, l)
@@ -186,7 +186,7 @@ origin-leq [] (y ∷ g) h = absurd (two_ways true refl (sym h))
 origin-leq (x ∷ t) [] h = absurd (two_ways true refl (sym h))
 origin-leq (x ∷ t) (y ∷ g) h = let a = and_parts (nat_le x y) (leq t g) h in and_from (nat_le 0 x) (leq (map (λ c. 0) g) t) (zero-le x) (origin-leq t g a.1)
 
-none-inside : (bounds : Bounds) (t : Stamp) → frontier_of bounds (no_stamps bounds) t ≡ true → ⊥
+pub none-inside : (bounds : Bounds) (t : Stamp) → frontier_of bounds (no_stamps bounds) t ≡ true → ⊥
 none-inside bounds t h =
     let a = and_parts (in_domain bounds t) (inside (no_stamps bounds) t) h in
     let low : leq (map (λ c. 0) bounds.greatest) t ≡ true = origin-leq t bounds.greatest a.0 in
@@ -296,7 +296,7 @@ recs-append t xs ys =
     ∙ map-append (λ (x : Message). x.rec) (filter (λ (m : Message). same t m.at) xs) (filter (λ (m : Message). same t m.at) ys)
 
 -- the deliveries to a node of one in-edge are those on the edge
-delivered-to : (flow : Dataflow) (o d : ℕ) (t : Stamp) → ((e : ℕ) → (receiver flow e == o) ≡ (e == d)) → (h : List Event)
+pub delivered-to : (flow : Dataflow) (o d : ℕ) (t : Stamp) → ((e : ℕ) → (receiver flow e == o) ≡ (e == d)) → (h : List Event)
     → delivered_recs (λ e s. receiver flow e == o && same s t) h ≡ recs_at t (delivered h d)
 delivered-to flow o d t k [] = refl
 delivered-to flow o d t k (Injected s x ∷ h) = delivered-to flow o d t k h
@@ -310,7 +310,7 @@ delivered-to flow o d t k (Delivered e m ∷ h) =
     ∙ sym (recs-append t (cond (e == d) (m ∷ []) []) (delivered h d))
 delivered-to flow o d t k (Notified p s ∷ h) = delivered-to flow o d t k h
 
-same-test : (flow : Dataflow) → IsWellFormed flow → (o d : ℕ) → o < length flow.nodes → is_output_kind (kind_of flow o) ≡ true
+pub same-test : (flow : Dataflow) → IsWellFormed flow → (o d : ℕ) → o < length flow.nodes → is_output_kind (kind_of flow o) ≡ true
     → receiver flow d ≡ o → (e : ℕ) → (receiver flow e == o) ≡ (e == d)
 same-test flow w o d l k r e = elim (cases_Bool (e == d)) [
   | inl a ↦ eq-eqb (receiver flow e) o (ap (receiver flow) (eqb-true e d a) ∙ r) ∙ sym a
@@ -320,7 +320,7 @@ same-test flow w o d l k r e = elim (cases_Bool (e == d)) [
   ]
 ]
 
-epochs-of : (sys : System) → IsWellFormedSystem sys → HasEpochs sys
+pub epochs-of : (sys : System) → IsWellFormedSystem sys → HasEpochs sys
 epochs-of sys w s = let f = w.few s in omega arith
 
 takes-denoted : (sys : System) (family : Family) → IsWellFormedSystem sys → IsOneByOne sys.flow → IsDenotation sys family

@@ -6,8 +6,10 @@ pub mod LawsOfCompleteFrontiers
 pub mod LawsOfDeliveries
 pub mod LawsOfDenotation
 pub mod LawsOfExistence
+pub mod LawsOfFiltering
 pub mod LawsOfLegalHistories
 pub mod LawsOfProjections
+pub mod LawsOfRecoveries
 pub mod LawsOfRuns
 pub mod LawsOfSending
 pub mod LawsOfSteps

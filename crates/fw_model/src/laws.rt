@@ -4,8 +4,10 @@ ghost use Rattle.fw_model.specs.LawsOfCompleteFrontiers.{AdmissibleStaysAdmissib
 ghost use Rattle.fw_model.specs.LawsOfDeliveries.{ClosedStampsStayClosed, DeliveredInsideCompleteIsDenoted, DeliveredInsideCompleteIsFinal, DeliveredIsSubBagOfDenotation, NotificationsComeLast, NumberedDeliveriesAscend, SentInsidePhiIsDenoted, SentIsSubBagOfDenotation};
 ghost use Rattle.fw_model.specs.LawsOfDenotation.{DenotationExists, DenotationIsInDomain, DenotationIsInOrder, DenotationIsNumbered, DenotationIsTheOnlyOne, LaterRoundsAreTheSame, MeasureExists, OutBagsDependOnLesserMeasure, RecsAtStampsDecideBag, UnchangedRoundIsDenotation};
 ghost use Rattle.fw_model.specs.LawsOfExistence.{CompleteExists, CompleteIsTheOnlyOne, FrontierHasFront, LargestChoiceExists, SettledCanGrow};
+ghost use Rattle.fw_model.specs.LawsOfFiltering.{ConsistentMeetsInclusions, FilteredHistoryIsLegal, KeptDeliveriesHaveKeptCauses, KeptEventsAreLegal, KeptEventsAreLegalWithoutNotices, KeptEventsDeliverTheSame, KeptEventsSendTheSame, KeptEventsSendTheSameFromWithin, NothingPendingWithoutLog, PendingAtKeptStamps, PendingAtOtherStamps, PendingForCut, PendingForPresent, PhiOfKeptEvents};
 ghost use Rattle.fw_model.specs.LawsOfLegalHistories.{LegalEventsAreInDomain, LegalMessagesAreInDomain, OnlyInputsInject};
 ghost use Rattle.fw_model.specs.LawsOfProjections.{PhiGrowsWithHistory, PhiIgnoresHistory, PhiIsFrontier, PhiIsMonotone, PhiOfEverything, PhiOfMeet, PsiIsFrontier, PsiIsMonotone, PsiOfJoin, PsiOfNothing, PsiOfUnion};
+ghost use Rattle.fw_model.specs.LawsOfRecoveries.{AcknowledgementsShowDenotationThroughRecoveries, CandidatesLieWithinSettled, DenotedIsFull, RunsStayLegalThroughRecoveries, SettledStaysDenoted, StepsKeepHistoriesLegal};
 ghost use Rattle.fw_model.specs.LawsOfRuns.{AcknowledgementsAreInOrder, AcknowledgementsShowDenotation, RunsStayLegal};
 ghost use Rattle.fw_model.specs.LawsOfSending.{InsidePhiComesFromInside, InsidePhiOfSequenceComesFromInside, PhiBySendStamps, PsiBackBySendStamps, PsiBackIsLargest, PsiBySendStamps, SendStampIsMonotone, SendersOfWellFormed, SendsAreInsidePsi, SendsAtSendStamp, SentFromInsideIsInsidePsi};
 ghost use Rattle.fw_model.specs.LawsOfSteps.{ExactlyOneNextState, OneNextState, SomeNextState};
@@ -278,6 +280,76 @@ pub fn largest_choice_exists()
     ensures { LargestChoiceExists }
 {}
 
+/// In a legal history the kept events alone send what they send among all: the messages whose causes are kept.
+pub fn kept_events_send_the_same()
+    ensures { KeptEventsSendTheSame }
+{}
+
+/// From inside less than the sender keeps, the kept events send the same as all events.
+pub fn kept_events_send_the_same_from_within()
+    ensures { KeptEventsSendTheSameFromWithin }
+{}
+
+/// The kept events alone deliver the messages at stamps that the receiver keeps.
+pub fn kept_events_deliver_the_same()
+    ensures { KeptEventsDeliverTheSame }
+{}
+
+/// Phi of what lies within what the sender keeps is the same in the kept events alone.
+pub fn phi_of_kept_events()
+    ensures { PhiOfKeptEvents }
+{}
+
+/// In a legal history what was delivered inside phi of what is kept has kept causes.
+pub fn kept_deliveries_have_kept_causes()
+    ensures { KeptDeliveriesHaveKeptCauses }
+{}
+
+/// Where no node is notified, the kept events of a legal history are a legal history, if what was delivered comes from kept.
+pub fn kept_events_are_legal_without_notices()
+    ensures { KeptEventsAreLegalWithoutNotices }
+{}
+
+/// The consistently kept events of a legal history are a legal history.
+pub fn kept_events_are_legal()
+    ensures { KeptEventsAreLegal }
+{}
+
+/// A consistent choice of the restore candidates meets the inclusions.
+pub fn consistent_meets_inclusions()
+    ensures { ConsistentMeetsInclusions }
+{}
+
+/// A legal history filtered by a choice that meets the inclusions is legal.
+pub fn filtered_history_is_legal()
+    ensures { FilteredHistoryIsLegal }
+{}
+
+/// At stamps that the receiver keeps, what is pending of the kept events is the part with kept causes of what was pending.
+pub fn pending_at_kept_stamps()
+    ensures { PendingAtKeptStamps }
+{}
+
+/// At other stamps, what is pending of the kept events is the part with kept causes of what was sent.
+pub fn pending_at_other_stamps()
+    ensures { PendingAtOtherStamps }
+{}
+
+/// For a receiver that stays as it is, what is pending afterwards is the part with kept causes of what was pending.
+pub fn pending_for_present()
+    ensures { PendingForPresent }
+{}
+
+/// For a receiver cut within what is settled, what is pending afterwards is the part with kept causes of what was sent outside.
+pub fn pending_for_cut()
+    ensures { PendingForCut }
+{}
+
+/// For a receiver cut within what is settled nothing is pending from a sender that cannot send again.
+pub fn nothing_pending_without_log()
+    ensures { NothingPendingWithoutLog }
+{}
+
 /// From a state a step leads to at most one next state, with one outcome.
 pub fn one_next_state()
     ensures { OneNextState }
@@ -346,4 +418,34 @@ pub fn acknowledgements_show_denotation()
 /// A run acknowledges at each output the stamps below its bound, in order and each once.
 pub fn acknowledgements_are_in_order()
     ensures { AcknowledgementsAreInOrder }
+{}
+
+/// Each step from a state with a legal history leads to one, a recovery too.
+pub fn steps_keep_histories_legal()
+    ensures { StepsKeepHistoriesLegal }
+{}
+
+/// The history of each state to which steps lead from the first one is legal, with recoveries among them.
+pub fn runs_stay_legal_through_recoveries()
+    ensures { RunsStayLegalThroughRecoveries }
+{}
+
+/// In each state to which steps lead from the first one, what is settled is denoted.
+pub fn settled_stays_denoted()
+    ensures { SettledStaysDenoted }
+{}
+
+/// Where what is settled is denoted, nothing more can come there.
+pub fn denoted_is_full()
+    ensures { DenotedIsFull }
+{}
+
+/// Each acknowledgement of a run shows the denotation, with recoveries among its steps.
+pub fn acknowledgements_show_denotation_through_recoveries()
+    ensures { AcknowledgementsShowDenotationThroughRecoveries }
+{}
+
+/// In each state of a run, a node that is no input can be restored only to frontiers within what is settled at it.
+pub fn candidates_lie_within_settled()
+    ensures { CandidatesLieWithinSettled }
 {}

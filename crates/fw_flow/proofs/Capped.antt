@@ -64,8 +64,7 @@ pub HasAllowedPolicy-capped : (flow : Dataflow) (p : ℕ) → HasAllowedPolicy (
 HasAllowedPolicy-capped flow p =
     let kind = kind_of-capped flow p in
     let policy = policy_of-capped flow p in
-    let P : Kind → Type 0 = λ k. IsPolicyAllowed k (policy_of flow p) in
-    (
+    let P : Kind → Type 0 = λ k. IsPolicyAllowed k (policy_of flow p) in (
       λ h. from_capped P (λ m n x. x) (kind_of flow p) (subst P kind (subst (IsPolicyAllowed (kind_of (capped_flow flow) p)) policy h)),
       λ h. subst (IsPolicyAllowed (kind_of (capped_flow flow) p)) (sym policy) (subst P (sym kind) (to_capped P (λ m n x. x) (kind_of flow p) h)),
     )
@@ -200,8 +199,7 @@ IsWalkWrong-capped flow (inr walk) =
 
 HasNodeOf-capped : (flow : Dataflow) (sort : Kind → Bool) → AreAlike (capped_flow flow) flow sort → HasNodeOf (capped_flow flow) sort ↔ HasNodeOf flow sort
 HasNodeOf-capped flow sort alike =
-    let count = length-map flow.nodes capped_node in
-    (
+    let count = length-map flow.nodes capped_node in (
       λ h. (h.0, omega (arith, h.1, count), sym (alike.sorts h.0) ∙ h.2),
       λ h. (h.0, omega (arith, h.1, count), alike.sorts h.0 ∙ h.2),
     )

@@ -155,8 +155,7 @@ degrees_same draft raw of_draft p =
     let P : Kind → Type 0 = λ k. Degrees k (edges_into 0 flow.edges p) (edges_from 0 flow.edges p) in
     let ins = edges_at draft.incoming.items p in
     let outs = edges_at draft.outgoing.items p in
-    let k = listed_kind draft.parts.nodes.items p in
-    (
+    let k = listed_kind draft.parts.nodes.items p in (
       λ h. from_capped P (λ m n x. x) (kind_of flow p) (subst P kind (subst (λ i. Degrees k i (edges_from 0 flow.edges p)) into (subst (λ o. Degrees k ins o) from h))),
       λ h. subst (λ o. Degrees k ins o) (sym from) (subst (λ i. Degrees k i (edges_from 0 flow.edges p)) (sym into) (subst P (sym kind) (to_capped P (λ m n x. x) (kind_of flow p) h))),
     )

@@ -22,9 +22,13 @@ use fw_lines::{Code, ReadFault, Refusal};
 use std::alloc::{AllocError, Global};
 
 const MAX_LOOPS: usize = 64;
+
 const MAX_NODES: usize = 256;
+
 const MAX_EDGES: usize = 512;
+
 const MAX_COUNTER: u64 = 1024;
+
 const MAX_GROUP: u64 = 4_294_967_295;
 
 /// Refuses with the code where there is a line.
@@ -64,7 +68,9 @@ fn are_names_declared(names: &NameSpaces, declaration: &Declaration) -> bool
             None => true,
         },
         Declaration::Edge {
-            sender, receiver, ..
+            sender,
+            receiver,
+            ..
         } => is_declared(&names.nodes, sender) && is_declared(&names.nodes, receiver),
     }
 }
@@ -307,9 +313,7 @@ fn has_input(nodes: &[Node]) -> bool
 fn has_output(nodes: &[Node]) -> bool
     ensures { result ≡ list_any (λ node. is_output_kind node.kind) nodes.now }
 {
-    nodes
-        .iter()
-        .any(|node| matches!(node.kind, Kind::OutputEpoch | Kind::OutputNumber))
+    nodes.iter().any(|node| matches!(node.kind, Kind::OutputEpoch | Kind::OutputNumber))
 }
 
 /// The links of the edges, in order.

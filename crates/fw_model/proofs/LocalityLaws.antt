@@ -13,7 +13,7 @@ use Rattle.fw_flow.specs.declared.event.Message.{Message}
 use Rattle.fw_flow.specs.declared.kind.Kind.{Kind}
 use Rattle.fw_flow.specs.declared.kind.Kind.TheVariants.{OutputEpoch, Distinct, Join, Sum, Total, Sequence, Ledger}
 use Rattle.fw_flow.specs.declared.node.Edge.{Edge}
-use Rattle.fw_flow.specs.Dataflow.{System, Dataflow, idle_node, kind_of, sender, receiver, edges_into, in_edges, domain_of_kind, bounds_of, bounds_of_domain, is_input_kind, is_notified_kind, is_number, out_domain_of_kind, send_stamp_of_kind}
+use Rattle.fw_flow.specs.Dataflow.{greatest_of_kind, System, Dataflow, idle_node, kind_of, sender, receiver, edges_into, in_edges, domain_of_kind, bounds_of, bounds_of_domain, is_input_kind, is_notified_kind, is_number, out_domain_of_kind, send_stamp_of_kind}
 use Rattle.fw_flow.specs.NodeFunction.{place, stamp, rec_of_delivery, delivered_recs, recs_on_delivery, recs_on_notification, recs_on, numbered_messages, sequence_sent, messages_at_some, sends_of_kind, sends, sent_by}
 use Rattle.fw_flow.specs.Projection.{events_at, all_inside, count_from, sent_count, phi_of_kind, phi}
 use Rattle.fw_flow.specs.WellFormed.{IsWellFormed, IsInDegree}
@@ -364,5 +364,5 @@ unfolding phi
 phi-same sys h keep w b l fr e g i u =
     let p = sender sys.flow e in
     let kind = kind_of sys.flow p in
-    ap (λ n. in_domain (bounds_of_domain sys.flow (out_domain_of_kind sys.flow kind)) u && phi_of_kind sys kind n g u)
+    ap (λ n. in_domain (bounds_of_domain sys.flow (out_domain_of_kind sys.flow kind)) u && phi_of_kind (greatest_of_kind sys.flow kind) kind n g u)
     (sent_count-same sys h keep w b l fr p g i)

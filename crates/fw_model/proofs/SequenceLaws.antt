@@ -10,7 +10,7 @@ use Rattle.fw_flow.specs.declared.event.Event.{Event}
 use Rattle.fw_flow.specs.declared.event.Event.TheVariants.{Inject, Deliver, Notify}
 use Rattle.fw_flow.specs.declared.event.Message.{Message}
 use Rattle.fw_flow.specs.declared.kind.Kind.TheVariants.{Sequence}
-use Rattle.fw_flow.specs.Dataflow.{System, Dataflow, kind_of, sender, receiver, greatest_number, domain_of_kind, bounds_of, bounds_of_domain}
+use Rattle.fw_flow.specs.Dataflow.{greatest_of_kind, System, Dataflow, kind_of, sender, receiver, greatest_number, domain_of_kind, bounds_of, bounds_of_domain}
 use Rattle.fw_flow.specs.NodeFunction.{stamp, recs_on_notification, numbered_messages, sequence_sent, sends_of_kind, sends, sent_by}
 use Rattle.fw_flow.specs.Projection.{events_at, all_inside, count_from, sent_count, number_of, phi_of_kind, phi}
 use Rattle.fw_model.specs.History.{injected_count}
@@ -153,8 +153,8 @@ pub phi-sequence : (sys : System) (h : List Event) (e : ℕ) (f : Frontier) (u :
 unfolding phi
 phi-sequence sys h e f u is k =
     let count = sent_count sys h (sender sys.flow e) f in
-    let a = and_parts _ (phi_of_kind sys (kind_of sys.flow (sender sys.flow e)) count f u) k in
-    let b : phi_of_kind sys Sequence count f u ≡ true = sym (ap (λ kind. phi_of_kind sys kind count f u) is) ∙ a.1 in
+    let a = and_parts _ (phi_of_kind (greatest_of_kind sys.flow (kind_of sys.flow (sender sys.flow e))) (kind_of sys.flow (sender sys.flow e)) count f u) k in
+    let b : phi_of_kind (greatest_of_kind sys.flow Sequence) Sequence count f u ≡ true = sym (ap (λ kind. phi_of_kind (greatest_of_kind sys.flow kind) kind count f u) is) ∙ a.1 in
     elim (or_cases (f (greatest_number ∷ [])) (nat_lt (number_of u) count) b) [ inl i ↦ inl i | inr i ↦ inr (ltb-true (number_of u) count i) ]
 
 pub inside_phi_of_sequence-from_inside : InsidePhiOfSequenceComesFromInside

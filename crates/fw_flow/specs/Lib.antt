@@ -4,6 +4,7 @@ pub mod Dataflow
 pub mod Flow
 pub mod Names
 pub mod NodeFunction
+pub mod ProjectedStamps
 pub mod Projection
 pub mod Raw
 pub mod Walks

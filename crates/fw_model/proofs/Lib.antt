@@ -29,6 +29,7 @@ pub mod PendingLaws
 pub mod PhiLaws
 pub mod PsiLaws
 pub mod RunLaws
+pub mod PsiBackLaws
 pub mod SendingLaws
 pub mod SendsLaws
 pub mod SentLaws

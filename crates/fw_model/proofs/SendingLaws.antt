@@ -74,7 +74,7 @@ fed_back-some m t s e =
     let a = some_if (nat_lt (counter t) m) (nest (outer t) (counter t + 1)) s e in
     (ltb-true (counter t) m a.0, a.1)
 
-fed_back-nest : (m : ℕ) (x : Stamp) (c : ℕ) → c < m → fed_back m (nest x c) ≡ Some (nest x (c + 1))
+pub fed_back-nest : (m : ℕ) (x : Stamp) (c : ℕ) → c < m → fed_back m (nest x c) ≡ Some (nest x (c + 1))
 fed_back-nest m x c h =
     rw (outer-nest x c, counter-nest x c) (cond-true (nat_lt c m) (Some (nest x (c + 1))) None (lt-ltb c m h))
 
@@ -329,7 +329,7 @@ send_stamp-in_domain flow p t s i e = send_stamp_of_kind-in_domain flow (kind_of
 fed_back-loop : (m : ℕ) (b t : Stamp) → IsInLoop b m t → counter t < m → fed_back m t ≡ Some (nest (outer t) (counter t + 1))
 fed_back-loop m b t v h = cond-true (nat_lt (counter t) m) (Some (nest (outer t) (counter t + 1))) None (lt-ltb (counter t) m h)
 
-div-monotone : (n x y : ℕ) → x ≤ y → x / n ≤ y / n
+pub div-monotone : (n x y : ℕ) → x ≤ y → x / n ≤ y / n
 div-monotone zero x y h = omega arith
 div-monotone (suc n) x y h =
     (le-div_iff_mul-le {k = suc n} {x = x / suc n} {y = y} (omega arith)).1 (omega (arith, div-mul-le_self x (suc n)))

@@ -7,7 +7,7 @@ ghost use Rattle.fw_model.specs.LawsOfExistence.{CompleteExists, CompleteIsTheOn
 ghost use Rattle.fw_model.specs.LawsOfLegalHistories.{LegalEventsAreInDomain, LegalMessagesAreInDomain, OnlyInputsInject};
 ghost use Rattle.fw_model.specs.LawsOfProjections.{PhiGrowsWithHistory, PhiIgnoresHistory, PhiIsFrontier, PhiIsMonotone, PhiOfEverything, PhiOfMeet, PsiIsFrontier, PsiIsMonotone, PsiOfJoin, PsiOfNothing, PsiOfUnion};
 ghost use Rattle.fw_model.specs.LawsOfRuns.{AcknowledgementsAreInOrder, AcknowledgementsShowDenotation, RunsStayLegal};
-ghost use Rattle.fw_model.specs.LawsOfSending.{InsidePhiComesFromInside, InsidePhiOfSequenceComesFromInside, PhiBySendStamps, PsiBySendStamps, SendStampIsMonotone, SendersOfWellFormed, SendsAreInsidePsi, SendsAtSendStamp, SentFromInsideIsInsidePsi};
+ghost use Rattle.fw_model.specs.LawsOfSending.{InsidePhiComesFromInside, InsidePhiOfSequenceComesFromInside, PhiBySendStamps, PsiBySendStamps, PsiBackBySendStamps, PsiBackIsLargest, SendStampIsMonotone, SendersOfWellFormed, SendsAreInsidePsi, SendsAtSendStamp, SentFromInsideIsInsidePsi};
 ghost use Rattle.fw_model.specs.LawsOfSteps.{ExactlyOneNextState, OneNextState, SomeNextState};
 
 // The laws of times and of frontiers, each over every type of times, and that of dataflows.
@@ -46,6 +46,16 @@ pub fn phi_by_send_stamps()
 /// A stamp is inside psi exactly where some stamp inside sends at it or above it.
 pub fn psi_by_send_stamps()
     ensures { PsiBySendStamps }
+{}
+
+/// A stamp is inside psi backwards exactly where each stamp at it or below it that sends, sends inside.
+pub fn psi_back_by_send_stamps()
+    ensures { PsiBackBySendStamps }
+{}
+
+/// Psi backwards is the largest frontier of the sender whose psi lies within the given one.
+pub fn psi_back_is_largest()
+    ensures { PsiBackIsLargest }
 {}
 
 /// Psi is monotone: what is inside a larger frontier can send at more stamps.

@@ -1,7 +1,7 @@
 pub mod FlowLaws
 pub mod Flows
-pub mod ProjectionLaws
 pub mod Marks
 pub mod Peel
+pub mod ProjectionLaws
 pub mod Ranks
 pub mod Reach

@@ -198,9 +198,9 @@ fn limit(f: &Front, bounds: &Bounds) -> Option<u32>
     }
 }
 
-/// What of the messages of a node of the kind comes from its events inside `f`: the least frontier of the node's out domain
-/// whose messages may come from other events is not in it. `sender` and `receiver` are the bounds of the node's domain and
-/// out domain. Only a sequence reads `sent`, what it sent so far. The only error is want of memory.
+/// If a node of the kind keeps its events in `f`, each of its messages at a stamp inside the answer comes from one of them.
+/// `sender` and `receiver` are the bounds of the node's domain and out domain. Only a sequence reads `sent`, what it sent so
+/// far. The only error is want of memory.
 pub(crate) fn phi(
     alloc: Global,
     kind: Kind,

@@ -43,4 +43,5 @@ pub mod SubBagLaws
 pub mod TimedCounts
 pub mod TimedLaws
 pub mod WeightLaws
+pub mod TableLaws
 pub mod WellFormedLaws

@@ -26,7 +26,7 @@ count-le_length f (m ∷ ms) =
     let h = count-le_length f ms in
     cond_both (all_inside f m.causes) (count_from f ms + 1) (count_from f ms) (λ n. n ≤ length (m ∷ ms)) (λ e. omega arith) (λ e. omega arith)
 
-count-none : (f : Frontier) (ms : List Message) → AllByRecursion (λ (m : Message). all_inside f m.causes ≡ false) ms → count_from f ms ≡ 0
+pub count-none : (f : Frontier) (ms : List Message) → AllByRecursion (λ (m : Message). all_inside f m.causes ≡ false) ms → count_from f ms ≡ 0
 count-none f [] a = refl
 count-none f (m ∷ ms) a = ap (λ b. cond b (count_from f ms + 1) (count_from f ms)) a.0 ∙ count-none f ms a.1
 
@@ -48,7 +48,7 @@ numbered-each n cause (r ∷ rs) =
     ))
     (λ e. tt)
 
-one_inside : (f : Frontier) (t : Stamp) (m : Message) (b : Bool) → f t ≡ b → m.causes ≡ t ∷ [] → all_inside f m.causes ≡ b
+pub one_inside : (f : Frontier) (t : Stamp) (m : Message) (b : Bool) → f t ≡ b → m.causes ≡ t ∷ [] → all_inside f m.causes ≡ b
 one_inside f t m true k e = ap (all_inside f) e ∙ and_from (f t) true k refl
 one_inside f t m false k e = ap (all_inside f) e ∙ and_left (f t) true k
 

@@ -9,7 +9,7 @@ use Rattle.fw_frontier.specs.Frontier.{Frontier, Within, nothing, everything, co
 use Rattle.fw_frontier.specs.Front.{Front, inside, frontier_of, IsLeastBefore, IsCanonical}
 use Rattle.fw_flow.specs.declared.choice.Cut.{Cut}
 use Rattle.fw_flow.specs.declared.choice.Cut.TheVariants.{Present, At}
-use Rattle.fw_flow.specs.Dataflow.{System, kind_of, policy_of, sender, receiver, bounds_of}
+use Rattle.fw_flow.specs.Dataflow.{greatest_of_kind, System, kind_of, policy_of, sender, receiver, bounds_of}
 use Rattle.fw_flow.specs.NodeFunction.{place, stamp}
 use Rattle.fw_flow.specs.Projection.{phi, psi_of_kind, psi}
 use Rattle.fw_model.specs.History.{delivered, sent, injected_count, is_exhausted}
@@ -150,7 +150,7 @@ psi-decided : (sys : System) (e : ℕ) (f g : Frontier) → Decided (Within (psi
 unfolding psi
 psi-decided sys e f g =
     decided-within (bounds_of_edge sys.flow e) (psi sys e f) g
-    (λ t i. (and_parts (in_domain (bounds_of_edge sys.flow e) t) (psi_of_kind sys (kind_of sys.flow (sender sys.flow e)) f t) i).0)
+    (λ t i. (and_parts (in_domain (bounds_of_edge sys.flow e) t) (psi_of_kind (greatest_of_kind sys.flow (kind_of sys.flow (sender sys.flow e))) (kind_of sys.flow (sender sys.flow e)) f t) i).0)
 
 discarded_at-decided : (sys : System) (state : Machine) (p e : ℕ) (way : Restoring) (f g : Frontier) → Decided (Within (discarded_at sys state p e way f) g)
 discarded_at-decided sys state p e by_anything f g = psi-decided sys e f g

@@ -12,7 +12,7 @@ use Rattle.fw_flow.specs.declared.event.Event.{Event}
 use Rattle.fw_flow.specs.declared.event.Message.{Message}
 use Rattle.fw_flow.specs.declared.kind.Kind.{Kind}
 use Rattle.fw_flow.specs.declared.kind.Kind.TheVariants.{Input, OutputEpoch, OutputNumber}
-use Rattle.fw_flow.specs.Dataflow.{System, Dataflow, kind_of, sender, receiver, in_edges, domain_of, out_domain_of, out_domain_of_kind, greatest_number, bounds_of, bounds_of_domain, batches_of, is_input_kind, is_output_kind, send_stamp}
+use Rattle.fw_flow.specs.Dataflow.{greatest_of_kind, System, Dataflow, kind_of, sender, receiver, in_edges, domain_of, out_domain_of, out_domain_of_kind, greatest_number, bounds_of, bounds_of_domain, batches_of, is_input_kind, is_output_kind, send_stamp}
 use Rattle.fw_flow.specs.NodeFunction.{sends, sends_of_kind, sent_by}
 use Rattle.fw_flow.specs.Projection.{events_at, phi, phi_of_kind, sent_count}
 use Rattle.fw_flow.specs.Walks.{Ranks}
@@ -229,8 +229,8 @@ unfolding phi
 input-phi sys h e f t is k =
     let q = sender sys.flow e in
     let count = sent_count sys h q f in
-    let a = and_parts _ (phi_of_kind sys (kind_of sys.flow q) count f t) k in
-    sym (ap (λ kind. phi_of_kind sys kind count f t) is) ∙ a.1
+    let a = and_parts _ (phi_of_kind (greatest_of_kind sys.flow (kind_of sys.flow q)) (kind_of sys.flow q) count f t) k in
+    sym (ap (λ kind. phi_of_kind (greatest_of_kind sys.flow kind) kind count f t) is) ∙ a.1
 
 one-sends_by_stamp : (sys : System) → IsWellFormed sys.flow → (e : ℕ) → sends_one_by_one (kind_of sys.flow (sender sys.flow e)) ≡ true
     → SendsByStamp sys.flow (kind_of sys.flow (sender sys.flow e))

@@ -10,7 +10,7 @@ use Rattle.fw_flow.specs.declared.event.Event.{Event}
 use Rattle.fw_flow.specs.declared.event.Message.{Message}
 use Rattle.fw_flow.specs.declared.kind.Kind.{Kind}
 use Rattle.fw_flow.specs.declared.kind.Kind.TheVariants.{OutputEpoch}
-use Rattle.fw_flow.specs.Dataflow.{System, Dataflow, kind_of, sender, receiver, bounds_of, bounds_of_domain, out_domain_of_kind, domain_of_kind, is_input_kind}
+use Rattle.fw_flow.specs.Dataflow.{greatest_of_kind, System, Dataflow, kind_of, sender, receiver, bounds_of, bounds_of_domain, out_domain_of_kind, domain_of_kind, is_input_kind}
 use Rattle.fw_flow.specs.NodeFunction.{sends_of_kind, sends, sent_by}
 use Rattle.fw_flow.specs.Projection.{events_at, sent_count, phi_of_kind, phi}
 use Rattle.fw_flow.specs.WellFormed.{IsWellFormed}
@@ -156,7 +156,7 @@ past_edges-phi sys h e f t l d k =
     let is = past_edges-idle sys.flow e l in
     let P : Kind → Type 0 = λ kind.
     in_domain (bounds_of_domain sys.flow (domain_of_kind sys.flow kind)) t ≡ true
-    → (in_domain (bounds_of_domain sys.flow (out_domain_of_kind sys.flow kind)) t && phi_of_kind sys kind (sent_count sys h q f) f t) ≡ true in
+    → (in_domain (bounds_of_domain sys.flow (out_domain_of_kind sys.flow kind)) t && phi_of_kind (greatest_of_kind sys.flow kind) kind (sent_count sys h q f) f t) ≡ true in
     subst P (sym is) (λ j. and_from (in_domain (bounds_of_domain sys.flow (domain_of_kind sys.flow OutputEpoch)) t) (f t) j k) d
 
 pub past_edges-receiver : (flow : Dataflow) (e : ℕ) → length flow.edges ≤ e → kind_of flow (receiver flow e) ≡ OutputEpoch

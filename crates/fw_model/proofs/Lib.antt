@@ -27,9 +27,9 @@ pub mod OrderLaws
 pub mod OutputLaws
 pub mod PendingLaws
 pub mod PhiLaws
+pub mod PsiBackLaws
 pub mod PsiLaws
 pub mod RunLaws
-pub mod PsiBackLaws
 pub mod SendingLaws
 pub mod SendsLaws
 pub mod SentLaws
@@ -40,8 +40,8 @@ pub mod StampLaws
 pub mod StampLists
 pub mod StampMeasures
 pub mod SubBagLaws
+pub mod TableLaws
 pub mod TimedCounts
 pub mod TimedLaws
 pub mod WeightLaws
-pub mod TableLaws
 pub mod WellFormedLaws

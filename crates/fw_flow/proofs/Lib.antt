@@ -1,3 +1,4 @@
+pub mod EdgeLaws
 pub mod FlowLaws
 pub mod Flows
 pub mod Marks

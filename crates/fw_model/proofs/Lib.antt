@@ -18,8 +18,8 @@ pub mod FilteredLaws
 pub mod FrontLaws
 pub mod FrontierLaws
 pub mod InputLaws
-pub mod LargestLaws
 pub mod KeptLaws
+pub mod LargestLaws
 pub mod LegalLaws
 pub mod ListedLaws
 pub mod LocalityLaws
@@ -33,11 +33,11 @@ pub mod OutputLaws
 pub mod PendingKeptLaws
 pub mod PendingLaws
 pub mod PhiLaws
+pub mod PsiBackLaws
 pub mod PsiLaws
 pub mod RecoveryLaws
-pub mod RunLaws
-pub mod PsiBackLaws
 pub mod RewritingLaws
+pub mod RunLaws
 pub mod SendingLaws
 pub mod SendsLaws
 pub mod SentLaws
@@ -48,6 +48,7 @@ pub mod StampLaws
 pub mod StampLists
 pub mod StampMeasures
 pub mod SubBagLaws
+pub mod TableLaws
 pub mod TimedCounts
 pub mod TimedLaws
 pub mod WeightLaws

@@ -1,17 +1,14 @@
 -- Sizes do not matter to the rules but the limits: what holds of a flow with its sizes capped holds of the flow.
-use Rattle.std.proofs.Common.{◌≡◌, ◌⊎◌, inl, inr, ◌↔◌, ℕ, zero, suc, ◌<◌, ◌≤◌, ◌^◌, Bool, true, false, cond, List, [], ◌∷◌, length, map, refl, sym, ap, ◌∙◌, subst, arith, get_or}
+use Rattle.std.proofs.Common.{◌≡◌, inl, inr, ◌↔◌, ℕ, zero, suc, ◌<◌, ◌≤◌, Bool, cond, List, [], ◌∷◌, length, map, refl, sym, ap, ◌∙◌, subst, arith, get_or}
 use Rattle.std.proofs.lemmas.Bool.{le-leb}
 use Rattle.std.proofs.lemmas.List.{length-map}
 use Rattle.fw_flow.specs.declared.kind.Kind.{Kind}
 use Rattle.fw_flow.specs.declared.kind.Kind.TheVariants.{Input, OutputEpoch, OutputNumber, Select, Concat, Distinct, Join, Sum, Enter, Feedback, Leave, Total, Sequence, Ledger, Regroup}
-use Rattle.fw_flow.specs.declared.kind.Domain.{Domain}
 use Rattle.fw_flow.specs.declared.node.Loop.{Loop}
 use Rattle.fw_flow.specs.declared.node.Node.{Node}
-use Rattle.fw_flow.specs.declared.node.Edge.{Edge}
-use Rattle.fw_flow.specs.Check.{HasItsDegrees, JoinsDomains, HasAllowedPolicy, AreWalksRight, IsWalkWrong, HasNodeOf, HasBorders}
+use Rattle.fw_flow.specs.Check.{JoinsDomains, HasAllowedPolicy, AreWalksRight, IsWalkWrong, HasNodeOf, HasBorders}
 use Rattle.fw_flow.specs.Dataflow.{Dataflow, idle_node, kind_of, policy_of, sender, receiver, max_of, domain_of_kind, out_domain_of_kind, is_input_kind, is_output_kind, greatest_number}
 use Rattle.fw_flow.specs.Parts.{capped, capped_kind, capped_loop, capped_node, capped_flow}
-use Rattle.fw_flow.specs.Walks.{AvoidingWalk, PassingWalk}
 use Rattle.fw_flow.specs.WellFormed.{IsWalk, IsClosedWalk, Passes, IsPolicyAllowed, IsWithinLimits, IsGroupSize, is_feedback_kind, is_enter_kind}
 
 -- what is the same for all sizes holds of a kind where it holds of it capped
@@ -64,8 +61,7 @@ pub HasAllowedPolicy-capped : (flow : Dataflow) (p : ℕ) → HasAllowedPolicy (
 HasAllowedPolicy-capped flow p =
     let kind = kind_of-capped flow p in
     let policy = policy_of-capped flow p in
-    let P : Kind → Type 0 = λ k. IsPolicyAllowed k (policy_of flow p) in
-    (
+    let P : Kind → Type 0 = λ k. IsPolicyAllowed k (policy_of flow p) in (
       λ h. from_capped P (λ m n x. x) (kind_of flow p) (subst P kind (subst (IsPolicyAllowed (kind_of (capped_flow flow) p)) policy h)),
       λ h. subst (IsPolicyAllowed (kind_of (capped_flow flow) p)) (sym policy) (subst P (sym kind) (to_capped P (λ m n x. x) (kind_of flow p) h)),
     )
@@ -200,8 +196,7 @@ IsWalkWrong-capped flow (inr walk) =
 
 HasNodeOf-capped : (flow : Dataflow) (sort : Kind → Bool) → AreAlike (capped_flow flow) flow sort → HasNodeOf (capped_flow flow) sort ↔ HasNodeOf flow sort
 HasNodeOf-capped flow sort alike =
-    let count = length-map flow.nodes capped_node in
-    (
+    let count = length-map flow.nodes capped_node in (
       λ h. (h.0, omega (arith, h.1, count), sym (alike.sorts h.0) ∙ h.2),
       λ h. (h.0, omega (arith, h.1, count), alike.sorts h.0 ∙ h.2),
     )

@@ -1,14 +1,14 @@
 -- The tests of the rules, place by place.
-use Rattle.std.proofs.Common.{◌≡◌, ◌↔◌, ℕ, zero, suc, ◌+◌, ◌<◌, Bool, true, false, ◌||◌, List, [], ◌∷◌, length, map, Option, Some, None, refl, sym, ap, ◌∙◌, subst, arith, slice_get, get_or, below_more, inl, inr, IsTrue}
-use Rattle.std.proofs.lemmas.Bool.{or_cases, or_left, or_right, false≢true, and_from, and_parts}
-use Rattle.std.proofs.lemmas.List.{get_or_default, length-map}
+use Rattle.std.proofs.Common.{◌≡◌, ◌↔◌, ℕ, zero, suc, ◌<◌, Bool, true, List, [], ◌∷◌, length, sym, ap, ◌∙◌, subst, arith, get_or, inl, inr}
+use Rattle.std.proofs.lemmas.Bool.{or_cases, or_left, or_right, false≢true}
+use Rattle.std.proofs.lemmas.List.{get_or_default}
 use Rattle.std.proofs.lemmas.Option.{slice_get-get_or}
 use Rattle.std.specs.List.{list_any}
 use Rattle.fw_flow.specs.declared.kind.Kind.{Kind}
 use Rattle.fw_flow.specs.declared.node.Node.{Node}
 use Rattle.fw_flow.specs.declared.walks.Link.{Link}
-use Rattle.fw_flow.specs.Check.{HoldsBelow, IsFirstBreak, JoinsDomains, HasAllowedPolicy, HasNodeOf, HasBorders}
-use Rattle.fw_flow.specs.Dataflow.{Dataflow, idle_node, kind_of, policy_of, sender, receiver, domain_of_kind, out_domain_of_kind, is_input_kind, is_output_kind}
+use Rattle.fw_flow.specs.Check.{HoldsBelow, IsFirstBreak, JoinsDomains, HasAllowedPolicy, HasNodeOf}
+use Rattle.fw_flow.specs.Dataflow.{Dataflow, idle_node, kind_of, policy_of, sender, receiver, domain_of_kind, out_domain_of_kind}
 use Rattle.fw_flow.specs.Walks.{AreWithin, IsMadeOf, link_at, listed_kind}
 use Rattle.fw_flow.specs.WellFormed.{IsInDegree, IsOutDegree, IsPolicyAllowed}
 use Rattle.std.specs.declared.alloc.Global.{Global}
@@ -60,8 +60,7 @@ JoinsDomains-iff_kinds flow nodes links made within e lt d₁ d₂ =
     let from : kind_of flow (sender flow e) ≡ (get_or nodes s d₁).kind =
     ap (kind_of flow) (sym (edges.senders e lt)) ∙ kinds_of flow nodes links made s ∙ ap (λ (n : Node). n.kind) (get_or_default nodes s idle_node d₁ (within.senders e lt)) in
     let to : kind_of flow (receiver flow e) ≡ (get_or nodes r d₂).kind =
-    ap (kind_of flow) (sym (edges.receivers e lt)) ∙ kinds_of flow nodes links made r ∙ ap (λ (n : Node). n.kind) (get_or_default nodes r idle_node d₂ (within.receivers e lt)) in
-    (
+    ap (kind_of flow) (sym (edges.receivers e lt)) ∙ kinds_of flow nodes links made r ∙ ap (λ (n : Node). n.kind) (get_or_default nodes r idle_node d₂ (within.receivers e lt)) in (
       λ h. ap (out_domain_of_kind flow) from ∙ h ∙ ap (domain_of_kind flow) (sym to),
       λ h. ap (out_domain_of_kind flow) (sym from) ∙ h ∙ ap (domain_of_kind flow) to,
     )
@@ -77,8 +76,7 @@ HasDegrees-iff_lists nodes incoming outgoing p node ins outs m n below below_in 
     let kind : node.kind ≡ listed_kind nodes p = ap (λ (x : Node). x.kind) (is_node ∙ get_or_default nodes p node idle_node below) in
     let into : m ≡ length (edges_at incoming p) = count_in ∙ ap length (sym (edges_there incoming p ins below_in is_in)) in
     let out_of : n ≡ length (edges_at outgoing p) = count_out ∙ ap length (sym (edges_there outgoing p outs below_out is_out)) in
-    let Degrees : Kind → ℕ → ℕ → Type 0 = λ k i o. IsInDegree k i × IsOutDegree k o in
-    (
+    let Degrees : Kind → ℕ → ℕ → Type 0 = λ k i o. IsInDegree k i × IsOutDegree k o in (
       λ h. subst (λ k. Degrees k (length (edges_at incoming p)) (length (edges_at outgoing p))) kind
           (subst (λ i. Degrees node.kind i (length (edges_at outgoing p))) into (subst (λ o. Degrees node.kind m o) out_of h)),
       λ h. subst (λ o. Degrees node.kind m o) (sym out_of)

@@ -1,17 +1,14 @@
 -- Sizes do not matter to the rules but the limits: what holds of a flow with its sizes capped holds of the flow.
-use Rattle.std.proofs.Common.{◌≡◌, ◌⊎◌, inl, inr, ◌↔◌, ℕ, zero, suc, ◌<◌, ◌≤◌, ◌^◌, Bool, true, false, cond, List, [], ◌∷◌, length, map, refl, sym, ap, ◌∙◌, subst, arith, get_or}
+use Rattle.std.proofs.Common.{◌≡◌, inl, inr, ◌↔◌, ℕ, zero, suc, ◌<◌, ◌≤◌, Bool, cond, List, [], ◌∷◌, length, map, refl, sym, ap, ◌∙◌, subst, arith, get_or}
 use Rattle.std.proofs.lemmas.Bool.{le-leb}
 use Rattle.std.proofs.lemmas.List.{length-map}
 use Rattle.fw_flow.specs.declared.kind.Kind.{Kind}
 use Rattle.fw_flow.specs.declared.kind.Kind.TheVariants.{Input, OutputEpoch, OutputNumber, Select, Concat, Distinct, Join, Sum, Enter, Feedback, Leave, Total, Sequence, Ledger, Regroup}
-use Rattle.fw_flow.specs.declared.kind.Domain.{Domain}
 use Rattle.fw_flow.specs.declared.node.Loop.{Loop}
 use Rattle.fw_flow.specs.declared.node.Node.{Node}
-use Rattle.fw_flow.specs.declared.node.Edge.{Edge}
-use Rattle.fw_flow.specs.Check.{HasItsDegrees, JoinsDomains, HasAllowedPolicy, AreWalksRight, IsWalkWrong, HasNodeOf, HasBorders}
+use Rattle.fw_flow.specs.Check.{JoinsDomains, HasAllowedPolicy, AreWalksRight, IsWalkWrong, HasNodeOf, HasBorders}
 use Rattle.fw_flow.specs.Dataflow.{Dataflow, idle_node, kind_of, policy_of, sender, receiver, max_of, domain_of_kind, out_domain_of_kind, is_input_kind, is_output_kind, greatest_number}
 use Rattle.fw_flow.specs.Parts.{capped, capped_kind, capped_loop, capped_node, capped_flow}
-use Rattle.fw_flow.specs.Walks.{AvoidingWalk, PassingWalk}
 use Rattle.fw_flow.specs.WellFormed.{IsWalk, IsClosedWalk, Passes, IsPolicyAllowed, IsWithinLimits, IsGroupSize, is_feedback_kind, is_enter_kind}
 
 -- what is the same for all sizes holds of a kind where it holds of it capped

@@ -1,14 +1,13 @@
 -- The rules of `Flow::check` against well-formedness: declarations that break one are not well formed, and those that break none are.
-use Rattle.std.proofs.Common.{◌≡◌, ◌⊎◌, inl, inr, ℕ, zero, suc, ◌+◌, ◌^◌, ◌<◌, ◌≤◌, Bool, true, false, cond, List, [], ◌∷◌, ◌++◌, length, map, take, Option, Some, None, refl, sym, ap, ◌∙◌, subst, arith, slice_get, IfSome, is_some}
-use Rattle.std.proofs.lemmas.Bool.{lt-ltb, ltb-true, and_from, and_parts, false≢true, cases_lt}
+use Rattle.std.proofs.Common.{◌≡◌, ◌⊎◌, inl, inr, ℕ, suc, ◌+◌, ◌<◌, ◌≤◌, Bool, true, false, not, ◌||◌, cond, List, [], ◌∷◌, length, map, take, Option, Some, None, refl, sym, ap, ◌∙◌, subst, arith, slice_get, IfSome}
+use Rattle.std.proofs.lemmas.Bool.{and_from, and_parts, false≢true, cases_lt}
 use Rattle.std.proofs.lemmas.List.{length-map}
-use Rattle.std.proofs.lemmas.Option.{none-some, same_Some, slice_get-map, slice_get_within, get_or_from_slice_get, slice_get-get_or}
+use Rattle.std.proofs.lemmas.Option.{same_Some, slice_get_within, get_or_from_slice_get}
 use Rattle.std.specs.List.{flat_map}
 use Rattle.std.specs.Option.{option_map_or}
 use Rattle.fw_lines.specs.declared.refusal.Code.{Code}
-use Rattle.fw_lines.specs.declared.refusal.Code.TheVariants.{F1, F2, F3, F4, F5, F6, F7, F8, F9, F10, F11, I1, I2, I3, I4, I5, S1, S2, S3, S4}
+use Rattle.fw_lines.specs.declared.refusal.Code.TheVariants.{F3, F4, F5, F6, F7, F8, F9}
 use Rattle.fw_lines.specs.declared.refusal.Refusal.{Refusal}
-use Rattle.fw_flow.specs.declared.kind.Kind.{Kind}
 use Rattle.fw_flow.specs.declared.kind.Policy.{Policy}
 use Rattle.fw_flow.specs.declared.node.Loop.{Loop}
 use Rattle.fw_flow.specs.declared.node.Node.{Node}
@@ -18,11 +17,13 @@ use Rattle.fw_flow.specs.declared.raw.Declaration.TheVariants.{Loop as ALoop, No
 use Rattle.fw_flow.specs.declared.raw.Declared.{Declared}
 use Rattle.fw_flow.specs.declared.raw.RawKind.{RawKind}
 use Rattle.fw_flow.specs.declared.raw.RawKind.TheVariants.{Input, OutputEpoch, OutputNumber, Select, Concat, Distinct, Join, Sum, Enter, Feedback, Leave, Total, Sequence, Ledger, Regroup}
-use Rattle.fw_flow.specs.Check.{is_declared, loop_named, are_names_declared, NamesTheDeclared, HasItsDegrees, JoinsDomains, AreWalksRight, HasAllowedPolicy, IsWithinLimitsAfter, StaysWithinLimits, HasBorders, all_lines, node_lines, edge_lines, HoldsBelow, IsFirstBreak, Holds, IsBroken, rules, IsFirstBrokenOf, IsFirstBroken, IsRawGroupSize, IsChecked}
+use Rattle.fw_flow.specs.Check.{loop_named, are_names_declared, NamesTheDeclared, HasItsDegrees, JoinsDomains, HasAllowedPolicy, IsWithinLimitsAfter, StaysWithinLimits, all_lines, node_lines, edge_lines, HoldsBelow, IsFirstBreak, Holds, IsBroken, rules, IsFirstBrokenOf, IsFirstBroken, IsRawGroupSize, IsChecked}
 use Rattle.fw_flow.specs.Dataflow.{Dataflow, idle_node, kind_of, sender, receiver, max_of}
+use Rattle.std.specs.Str.{bytes_eq}
+use Rattle.fw_flow.specs.Names.{has_name}
 use Rattle.fw_flow.specs.Raw.{names_of, loop_name, node_name, edge_name, loop_names, node_names, edge_names, place_or_end, resolved_kind, loop_in, node_in, edge_in, flow_of}
-use Rattle.fw_flow.specs.WellFormed.{IsWellFormed, IsWithinLimits, IsLoopDeclared, IsGroupSize, is_feedback_kind, is_enter_kind}
-use Rattle.fw_flow.proofs.Givers.{GivesOne, GiverOf, giver_of, slice_get-given, length-given}
+use Rattle.fw_flow.specs.WellFormed.{IsWellFormed, IsWithinLimits, IsLoopDeclared, IsGroupSize}
+use Rattle.fw_flow.proofs.Givers.{GivesOne, giver_of, slice_get-given, length-given}
 
 -- ---- what a declaration gives
 
@@ -91,43 +92,50 @@ length-all_lines raw = length-map raw (λ (d : Declared). d.line)
 
 -- ---- names and places
 
-is_declared-from_below : (names : List (List ℕ)) (name : List ℕ) → place_or_end names name < length names → is_declared names name ≡ true
-is_declared-from_below names name lt =
-    ap (λ b. is_some (cond b (Some (place_or_end names name)) None)) (lt-ltb (place_or_end names name) (length names) lt)
+has_step : (b : Bool) (n m : ℕ) (rest : Bool) → cond (not b) (1 + n) 0 < suc m → (n < m → rest ≡ true) → (b || rest) ≡ true
+has_step true n m rest lt h = refl
+has_step false n m rest lt h = h (omega (arith, lt))
 
-some_below : (b : Bool) (n : ℕ) → is_some (cond b (Some n) None) ≡ true → b ≡ true
-some_below true n h = refl
-some_below false n h = absurd (false≢true h)
+has_name-from_below : (names : List (List ℕ)) (name : List ℕ) → place_or_end names name < length names → has_name name names ≡ true
+has_name-from_below [] name lt = absurd (omega arith)
+has_name-from_below (x ∷ names) name lt =
+    has_step (bytes_eq name x) (place_or_end names name) (length names) (has_name name names) lt (λ h. has_name-from_below names name h)
 
-pub place-below : (names : List (List ℕ)) (name : List ℕ) → is_declared names name ≡ true → place_or_end names name < length names
-place-below names name h = ltb-true (place_or_end names name) (length names) (some_below _ (place_or_end names name) h)
+below_step : (b : Bool) (n m : ℕ) (rest : Bool) → (b || rest) ≡ true → (rest ≡ true → n < m) → cond (not b) (1 + n) 0 < suc m
+below_step true n m rest h below = omega arith
+below_step false n m rest h below = omega (arith, below h)
+
+pub place-below : (names : List (List ℕ)) (name : List ℕ) → has_name name names ≡ true → place_or_end names name < length names
+place-below [] name h = absurd (false≢true h)
+place-below (x ∷ names) name h =
+    below_step (bytes_eq name x) (place_or_end names name) (length names) (has_name name names) h (λ rest. place-below names name rest)
 
 -- the kind's loop is declared exactly where its name is
 loop_name_declared : (flow : Dataflow) (loops : List (List ℕ)) (kind : RawKind) → length flow.loops ≡ length loops
-    → IsLoopDeclared flow (resolved_kind loops kind) → option_map_or (is_declared loops) (loop_named kind) true ≡ true
+    → IsLoopDeclared flow (resolved_kind loops kind) → option_map_or (λ l. has_name l loops) (loop_named kind) true ≡ true
 loop_name_declared flow loops Input e h = refl
 loop_name_declared flow loops OutputEpoch e h = refl
 loop_name_declared flow loops OutputNumber e h = refl
 loop_name_declared flow loops (Select selection None) e h = refl
-loop_name_declared flow loops (Select selection (Some l)) e h = is_declared-from_below loops l (omega (arith, e, h))
+loop_name_declared flow loops (Select selection (Some l)) e h = has_name-from_below loops l (omega (arith, e, h))
 loop_name_declared flow loops (Concat None) e h = refl
-loop_name_declared flow loops (Concat (Some l)) e h = is_declared-from_below loops l (omega (arith, e, h))
+loop_name_declared flow loops (Concat (Some l)) e h = has_name-from_below loops l (omega (arith, e, h))
 loop_name_declared flow loops (Distinct None) e h = refl
-loop_name_declared flow loops (Distinct (Some l)) e h = is_declared-from_below loops l (omega (arith, e, h))
+loop_name_declared flow loops (Distinct (Some l)) e h = has_name-from_below loops l (omega (arith, e, h))
 loop_name_declared flow loops (Join None) e h = refl
-loop_name_declared flow loops (Join (Some l)) e h = is_declared-from_below loops l (omega (arith, e, h))
+loop_name_declared flow loops (Join (Some l)) e h = has_name-from_below loops l (omega (arith, e, h))
 loop_name_declared flow loops (Sum None) e h = refl
-loop_name_declared flow loops (Sum (Some l)) e h = is_declared-from_below loops l (omega (arith, e, h))
-loop_name_declared flow loops (Enter l) e h = is_declared-from_below loops l (omega (arith, e, h))
-loop_name_declared flow loops (Feedback l) e h = is_declared-from_below loops l (omega (arith, e, h))
-loop_name_declared flow loops (Leave l) e h = is_declared-from_below loops l (omega (arith, e, h))
+loop_name_declared flow loops (Sum (Some l)) e h = has_name-from_below loops l (omega (arith, e, h))
+loop_name_declared flow loops (Enter l) e h = has_name-from_below loops l (omega (arith, e, h))
+loop_name_declared flow loops (Feedback l) e h = has_name-from_below loops l (omega (arith, e, h))
+loop_name_declared flow loops (Leave l) e h = has_name-from_below loops l (omega (arith, e, h))
 loop_name_declared flow loops Total e h = refl
 loop_name_declared flow loops Sequence e h = refl
 loop_name_declared flow loops Ledger e h = refl
 loop_name_declared flow loops (Regroup n) e h = refl
 
 loop_declared : (flow : Dataflow) (loops : List (List ℕ)) (kind : RawKind) → length flow.loops ≡ length loops
-    → option_map_or (is_declared loops) (loop_named kind) true ≡ true → IsLoopDeclared flow (resolved_kind loops kind)
+    → option_map_or (λ l. has_name l loops) (loop_named kind) true ≡ true → IsLoopDeclared flow (resolved_kind loops kind)
 loop_declared flow loops Input e h = tt
 loop_declared flow loops OutputEpoch e h = tt
 loop_declared flow loops OutputNumber e h = tt
@@ -240,9 +248,9 @@ names_declared raw wf i line (AnEdge name s r) there =
     let count = length-nodes (loop_names raw) raw in
     let from = wf.senders_declared e at.below in
     let to = wf.receivers_declared e at.below in
-    and_from (is_declared (node_names raw) s) (is_declared (node_names raw) r)
-    (is_declared-from_below (node_names raw) s (omega (arith, count, from, at.is_sender)))
-    (is_declared-from_below (node_names raw) r (omega (arith, count, to, at.is_receiver)))
+    and_from (has_name s (node_names raw)) (has_name r (node_names raw))
+    (has_name-from_below (node_names raw) s (omega (arith, count, from, at.is_sender)))
+    (has_name-from_below (node_names raw) r (omega (arith, count, to, at.is_receiver)))
 
 raw_size : (loops : List (List ℕ)) (kind : RawKind) → IsGroupSize (resolved_kind loops kind) → IsRawGroupSize kind
 raw_size loops Input h = tt
@@ -421,7 +429,7 @@ pub both_declared : (raw : List Declared) → Holds raw F3 → (e : ℕ) → e <
 both_declared raw h e lt =
     let g = edge_giver raw e lt in
     let names = node_names raw in
-    let both = and_parts (is_declared names g.from) (is_declared names g.to) (names_at raw h g.place g.line (AnEdge g.name g.from g.to) g.there) in
+    let both = and_parts (has_name g.from names) (has_name g.to names) (names_at raw h g.place g.line (AnEdge g.name g.from g.to) g.there) in
     let count = length-nodes (loop_names raw) raw in
     let from = place-below names g.from both.0 in
     let to = place-below names g.to both.1 in

@@ -1,10 +1,8 @@
 -- A draft and the flow of its declarations: what the tests of the draft say of the rules.
-use Rattle.std.proofs.Common.{◌≡◌, ◌⊎◌, inl, inr, ◌↔◌, ℕ, ◌<◌, ◌^◌, ◌≤◌, Bool, true, false, List, [], ◌∷◌, length, map, Option, Some, None, Result, Ok, Err, refl, sym, ap, ◌∙◌, subst, arith, get_or, slice_get, is_some, IsNone, IfErr, IfOk}
+use Rattle.std.proofs.Common.{◌≡◌, inr, ◌↔◌, ℕ, ◌<◌, ◌^◌, Bool, true, false, List, [], ◌∷◌, length, map, Option, Some, None, refl, sym, ap, ◌∙◌, subst, arith, get_or, IsNone}
 use Rattle.std.proofs.lemmas.Bool.{false≢true, true≢false}
 use Rattle.std.proofs.lemmas.List.{length-map, get_or-map}
-use Rattle.std.proofs.lemmas.Option.{same_Some, none-some}
 use Rattle.std.specs.Bool.{OnTrue, OnFalse}
-use Rattle.std.specs.List.{flat_map}
 use Rattle.fw_lines.specs.declared.fault.ReadFault.{ReadFault}
 use Rattle.fw_lines.specs.declared.fault.ReadFault.TheVariants.{Refused, NoMemory}
 use Rattle.fw_lines.specs.declared.refusal.Code.{Code}
@@ -24,16 +22,16 @@ use Rattle.fw_flow.specs.declared.raw.Declaration.TheVariants.{Loop as ALoop, No
 use Rattle.fw_flow.specs.declared.raw.Declared.{Declared}
 use Rattle.fw_flow.specs.declared.raw.NameSpaces.{NameSpaces}
 use Rattle.fw_flow.specs.declared.walks.Link.{Link}
-use Rattle.fw_flow.specs.Check.{HoldsBelow, IsFirstBreak, IsFirstBreakIfAny, HasItsDegrees, JoinsDomains, HasAllowedPolicy, AreWalksRight, IsWalkWrong, HasBorders, node_lines, edge_lines, Holds, IsBroken, IsFirstBrokenOf, IsFirstBroken}
+use Rattle.fw_flow.specs.Check.{HoldsBelow, IsFirstBreak, IsFirstBreakIfAny, HasItsDegrees, JoinsDomains, HasAllowedPolicy, AreWalksRight, IsWalkWrong, HasBorders, node_lines, edge_lines, Holds, IsFirstBrokenOf, IsFirstBroken}
 use Rattle.fw_flow.specs.Dataflow.{Dataflow, kind_of, in_edges, out_edges, edges_into, edges_from}
 use Rattle.fw_flow.specs.Draft.{IsDraftOf, AllHold}
 use Rattle.fw_flow.specs.Flow.{edges_at, IsIndexed}
 use Rattle.fw_flow.specs.Parts.{ArePartsOf, capped_kind, capped_node, capped_flow, places_from}
 use Rattle.fw_flow.specs.Raw.{names_of, loop_names, node_names, edge_names, node_name, edge_name, loop_in, node_in, edge_in, flow_of}
-use Rattle.fw_flow.specs.Walks.{AreWithin, IsMadeOf, link_of, link_at, listed_kind}
+use Rattle.fw_flow.specs.Walks.{AreWithin, IsMadeOf, link_of, listed_kind}
 use Rattle.fw_flow.specs.WellFormed.{IsInDegree, IsOutDegree, IsWellFormed}
 use Rattle.fw_flow.proofs.Capped.{from_capped, to_capped, kind_of-capped, JoinsDomains-capped, HasAllowedPolicy-capped, AreWalksRight-capped, IsWalkWrong-capped, HasBorders-capped, loops-capped, nodes-capped}
-use Rattle.fw_flow.proofs.Checks.{GivesOne-loop_in, GivesOne-node_in, GivesOne-edge_in, length-loops, length-nodes, length-edges, length-node_lines, length-edge_lines, both_declared, IsWellFormed-from_rules}
+use Rattle.fw_flow.proofs.Checks.{GivesOne-loop_in, GivesOne-node_in, GivesOne-edge_in, length-loops, length-nodes, length-node_lines, length-edge_lines, both_declared, IsWellFormed-from_rules}
 use Rattle.fw_flow.proofs.Ends.{places_from-receivers, places_from-senders}
 use Rattle.fw_flow.proofs.Flows.{sender-of_link, receiver-of_link, kinds_of}
 use Rattle.fw_flow.proofs.Givers.{length-given_le, map-flat_map}

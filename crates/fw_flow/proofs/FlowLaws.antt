@@ -1,5 +1,5 @@
 -- The names and the edges that a flow keeps for looking them up.
-use Rattle.std.proofs.Common.{◌≡◌, ◌⊎◌, inl, inr, unwrap_or, ◌≤◌, ◌<◌, ℕ, zero, suc, nat_eq, List, [], ◌∷◌, ◌++◌, length, Option, Some, None, refl, sym, ◌∙◌, ap, slice_index_or, cond, position, nat_lt, ◌||◌, ◌+◌, not, arith}
+use Rattle.std.proofs.Common.{◌≡◌, inl, inr, unwrap_or, ◌≤◌, ◌<◌, ℕ, zero, suc, nat_eq, List, [], ◌∷◌, ◌++◌, length, Option, Some, None, refl, sym, ◌∙◌, ap, slice_index_or, cond, position, nat_lt, ◌||◌, ◌+◌, not, arith}
 use Rattle.std.proofs.lemmas.Bool.{cases_lt, lt-ltb, le-ltb, cond-true, cond-false}
 use Rattle.std.proofs.lemmas.List.Sums.{prefix_len-le-length}
 use Rattle.std.specs.List.{list_any, position_or_len}

@@ -1,14 +1,14 @@
 -- The tests of the rules, place by place.
-use Rattle.std.proofs.Common.{◌≡◌, ◌↔◌, ℕ, zero, suc, ◌+◌, ◌<◌, Bool, true, false, ◌||◌, List, [], ◌∷◌, length, map, Option, Some, None, refl, sym, ap, ◌∙◌, subst, arith, slice_get, get_or, below_more, inl, inr, IsTrue}
-use Rattle.std.proofs.lemmas.Bool.{or_cases, or_left, or_right, false≢true, and_from, and_parts}
-use Rattle.std.proofs.lemmas.List.{get_or_default, length-map}
+use Rattle.std.proofs.Common.{◌≡◌, ◌↔◌, ℕ, zero, suc, ◌<◌, Bool, true, List, [], ◌∷◌, length, sym, ap, ◌∙◌, subst, arith, get_or, inl, inr}
+use Rattle.std.proofs.lemmas.Bool.{or_cases, or_left, or_right, false≢true}
+use Rattle.std.proofs.lemmas.List.{get_or_default}
 use Rattle.std.proofs.lemmas.Option.{slice_get-get_or}
 use Rattle.std.specs.List.{list_any}
 use Rattle.fw_flow.specs.declared.kind.Kind.{Kind}
 use Rattle.fw_flow.specs.declared.node.Node.{Node}
 use Rattle.fw_flow.specs.declared.walks.Link.{Link}
-use Rattle.fw_flow.specs.Check.{HoldsBelow, IsFirstBreak, JoinsDomains, HasAllowedPolicy, HasNodeOf, HasBorders}
-use Rattle.fw_flow.specs.Dataflow.{Dataflow, idle_node, kind_of, policy_of, sender, receiver, domain_of_kind, out_domain_of_kind, is_input_kind, is_output_kind}
+use Rattle.fw_flow.specs.Check.{HoldsBelow, IsFirstBreak, JoinsDomains, HasAllowedPolicy, HasNodeOf}
+use Rattle.fw_flow.specs.Dataflow.{Dataflow, idle_node, kind_of, policy_of, sender, receiver, domain_of_kind, out_domain_of_kind}
 use Rattle.fw_flow.specs.Walks.{AreWithin, IsMadeOf, link_at, listed_kind}
 use Rattle.fw_flow.specs.WellFormed.{IsInDegree, IsOutDegree, IsPolicyAllowed}
 use Rattle.std.specs.declared.alloc.Global.{Global}

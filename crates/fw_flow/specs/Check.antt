@@ -1,5 +1,5 @@
 -- Which declarations are a well-formed dataflow, and which rule others break first.
-use Rattle.std.specs.Prelude.{◌≡◌, ◌⊎◌, ℕ, ◌^◌, ◌<◌, ◌≤◌, Bool, true, ◌&&◌, List, [], ◌∷◌, map, length, take, Option, Some, None, is_some, slice_get, IsTrue, IfSome, MatchOption}
+use Rattle.std.specs.Prelude.{◌≡◌, ◌⊎◌, ℕ, ◌^◌, ◌<◌, ◌≤◌, Bool, true, ◌&&◌, List, [], ◌∷◌, map, length, take, Option, Some, None, slice_get, IsTrue, IfSome, MatchOption}
 use Rattle.std.specs.List.{flat_map}
 use Rattle.std.specs.Option.{option_map_or}
 use Rattle.fw_lines.specs.declared.refusal.Code.{Code}
@@ -13,7 +13,7 @@ use Rattle.fw_flow.specs.declared.raw.NameSpaces.{NameSpaces}
 use Rattle.fw_flow.specs.declared.raw.RawKind.{RawKind}
 use Rattle.fw_flow.specs.declared.raw.RawKind.TheVariants.{Select, Concat, Distinct, Join, Sum, Enter, Feedback, Leave, Regroup}
 use Rattle.fw_flow.specs.Dataflow.{Dataflow, kind_of, policy_of, sender, receiver, in_edges, out_edges, domain_of, out_domain_of, is_input_kind, is_output_kind}
-use Rattle.fw_flow.specs.Names.{place_of}
+use Rattle.fw_flow.specs.Names.{has_name}
 use Rattle.fw_flow.specs.Raw.{names_of, loop_names, node_names, edge_names, node_name, edge_name, flow_of}
 use Rattle.fw_flow.specs.Walks.{EachClosedWalkPasses, NoClosedWalkPasses, AvoidingWalk, PassingWalk}
 use Rattle.fw_flow.specs.WellFormed.{IsInDegree, IsOutDegree, IsPolicyAllowed, IsWellFormed, is_feedback_kind, is_enter_kind}
@@ -32,15 +32,11 @@ loop_named (Feedback name) = Some name
 loop_named (Leave name) = Some name
 loop_named kind = None
 
--- whether the name is among these
-abbrev pub is_declared : List (List ℕ) → List ℕ → Bool
-is_declared names name = is_some (place_of name names)
-
 -- whether what the declaration names is declared: the loop of a node's kind, the sender and the receiver of an edge
 abbrev pub are_names_declared : NameSpaces → Declaration → Bool
 are_names_declared names (ALoop name max) = true
-are_names_declared names (ANode name kind policy) = option_map_or (is_declared names.loops) (loop_named kind) true
-are_names_declared names (AnEdge name sender receiver) = is_declared names.nodes sender && is_declared names.nodes receiver
+are_names_declared names (ANode name kind policy) = option_map_or (λ l. has_name l names.loops) (loop_named kind) true
+are_names_declared names (AnEdge name sender receiver) = has_name sender names.nodes && has_name receiver names.nodes
 
 -- so many epochs may be regrouped from
 abbrev pub IsRawGroupSize : RawKind → Type 0

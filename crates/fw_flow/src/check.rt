@@ -6,7 +6,7 @@ ghost use Rattle.std.specs.Option.{option_copied};
 ghost use Rattle.fw_lines.specs.Faults.{IfRefused};
 ghost use Rattle.fw_flow.specs.declared.raw.Declared.{Declared};
 ghost use Rattle.fw_flow.specs.Check as spec;
-ghost use Rattle.fw_flow.specs.Check.{is_declared, loop_named, AreWalksRight, IsWalkWrong, IsRawGroupSize, IsWithinLimitsAfter, HasBorders, all_lines, IsFirstBreakIfAny};
+ghost use Rattle.fw_flow.specs.Check.{loop_named, AreWalksRight, IsWalkWrong, IsRawGroupSize, IsWithinLimitsAfter, HasBorders, all_lines, IsFirstBreakIfAny};
 ghost use Rattle.fw_flow.specs.Dataflow.{Dataflow, domain_of_kind, out_domain_of_kind, is_input_kind, is_output_kind};
 ghost use Rattle.fw_flow.specs.Flow.{edges_at};
 ghost use Rattle.fw_flow.specs.Parts.{AreCountsOf, places_from};
@@ -14,7 +14,6 @@ ghost use Rattle.fw_flow.specs.Raw.{names_of};
 ghost use Rattle.fw_flow.specs.Walks.{AreWithin, IsMadeOf, link_of, listed_kind};
 ghost use Rattle.fw_flow.specs.WellFormed.{IsInDegree, IsOutDegree, IsPolicyAllowed};
 
-use crate::name::Names;
 use crate::raw::NameSpaces;
 use crate::walks::{Link, each_closed_walk_is_fed_back, no_closed_walk_enters};
 use crate::{Declaration, Declared, Edge, EdgeId, Kind, Name, Node, Policy, RawKind};
@@ -64,14 +63,14 @@ fn are_names_declared(names: &NameSpaces, declaration: &Declaration) -> bool
     match declaration {
         Declaration::Loop { .. } => true,
         Declaration::Node { kind, .. } => match loop_named(kind) {
-            Some(name) => is_declared(&names.loops, name),
+            Some(name) => names.loops.has(name.as_bytes()),
             None => true,
         },
         Declaration::Edge {
             sender,
             receiver,
             ..
-        } => is_declared(&names.nodes, sender) && is_declared(&names.nodes, receiver),
+        } => names.nodes.has(sender.as_bytes()) && names.nodes.has(receiver.as_bytes()),
     }
 }
 
@@ -88,13 +87,6 @@ fn loop_named(kind: &RawKind) -> Option<&Name>
         RawKind::Enter(name) | RawKind::Feedback(name) | RawKind::Leave(name) => Some(name),
         _ => None,
     }
-}
-
-// Whether the name is among these.
-fn is_declared(names: &Names, name: &Name) -> bool
-    ensures { result ≡ is_declared names.now name.now }
-{
-    names.place_of(name.as_bytes()).is_some()
 }
 
 /// The line of the first node that has other degrees than its kind wants. These are the edges to

@@ -93,6 +93,14 @@ impl Names {
         self.names.get_index_of(name)
     }
 
+    /// Whether a name is among them.
+    #[tactic(auto, using(crate::proofs::FlowLaws::name_among_keys))]
+    pub(crate) fn has(&self, name: &[u8]) -> bool
+        ensures { result ≡ has_name name.now self.now }
+    {
+        self.names.contains(name)
+    }
+
     /// The place of a name, past the last one where it is not among them.
     pub(crate) fn place_or_end(&self, name: &[u8]) -> usize
         ensures place { result ≡ place_or_end self.now name.now }

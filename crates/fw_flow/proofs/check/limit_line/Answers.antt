@@ -1,4 +1,4 @@
-use Rattle.std.proofs.Common.{Some, refl, sym, ap, ◌∙◌, subst, arith, below_more, take, ◌++◌, ◌∷◌, [], IfSome}
+use Rattle.std.proofs.Common.{refl, sym, ap, ◌∙◌, subst, arith, below_more, take, ◌++◌, ◌∷◌, [], IfSome}
 use Rattle.std.proofs.lemmas.List.{take_more}
 use Rattle.std.proofs.lemmas.Option.{slice_get_read}
 use Rattle.fw_flow.specs.declared.raw.Declared.{Declared}

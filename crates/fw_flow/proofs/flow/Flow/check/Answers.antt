@@ -1,9 +1,8 @@
-use Rattle.std.proofs.Common.{◌≡◌, ◌∷◌, [], sym, ap, ◌∙◌, subst, rules}
-use Rattle.fw_lines.specs.declared.refusal.Code.TheVariants.{F3, F4, F5, F6, F7, F8, F9}
+use Rattle.std.proofs.Common.{sym, subst, rules}
+use Rattle.fw_lines.specs.declared.refusal.Code.TheVariants.{F3}
 use Rattle.fw_lines.specs.Faults.{IfRefused}
-use Rattle.fw_flow.specs.Check.{NamesTheDeclared, StaysWithinLimits, IsFirstBreakIfAny, IsFirstBrokenOf, IsFirstBroken, all_lines, Holds, IsChecked}
+use Rattle.fw_flow.specs.Check.{NamesTheDeclared, StaysWithinLimits, IsFirstBreakIfAny, IsFirstBroken, all_lines, Holds, IsChecked}
 use Rattle.fw_flow.specs.Draft.{AllHold}
-use Rattle.fw_flow.specs.Raw.{flow_of}
 use Rattle.fw_flow.specs.WellFormed.{IsWellFormed}
 use Rattle.fw_flow.proofs.Drafts.{holds_if_none, later_rules, well_formed_draft, flow_of_draft, IsIndexed-from_draft}
 use Rattle.fw_flow.proofs.flow.Flow.check.Goals as goal

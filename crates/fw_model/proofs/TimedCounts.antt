@@ -45,7 +45,7 @@ pub timed_order : IsTotalOrder timed_cmp
 timed_order = then_total (on_total (λ (r : Timed). r.at) nat_list_cmp_total) (on_total (λ (r : Timed). r.rec) rec_order)
 
 -- no timed rec is greater than a later one
-pub IsAscendingTimed : List Timed → Type 0
+unfoldable pub IsAscendingTimed : List Timed → Type 0
 IsAscendingTimed [] = Unit {0}
 IsAscendingTimed (x ∷ xs) = AllByRecursion (λ y. is_gt (timed_cmp x y) ≡ false) xs × IsAscendingTimed xs
 
@@ -121,7 +121,7 @@ bag-ascending sys family d e t =
     let q = sender sys.flow e in
     subst (λ xs. IsAscending (recs_where (same t) xs)) (sym (d e)) (ascending-where t (outputs_of sys family q) (ascending-in_order (outputs_of_kind sys.flow (kind_of sys.flow q) (batches_of sys q) (map family (in_edges sys.flow q)))))
 
-pub recs_at-timed : (t : Stamp) (ms : List Message) → recs_at t ms ≡ recs_where (same t) (timed_of ms)
+recs_at-timed : (t : Stamp) (ms : List Message) → recs_at t ms ≡ recs_where (same t) (timed_of ms)
 recs_at-timed t [] = refl
 recs_at-timed t (m ∷ ms) =
     let h = recs_at-timed t ms in

@@ -30,7 +30,8 @@ use Rattle.fw_model.proofs.CompleteLaws.{sender_sorts}
 use Rattle.fw_model.proofs.OrderLaws.{either_way}
 use Rattle.fw_model.proofs.WeightLaws.{weigh, weigh-append, weigh-same, weigh-none, one}
 use Rattle.fw_model.proofs.SentLaws.{timed_of, quiet-delivered}
-use Rattle.fw_model.proofs.TimedCounts.{in_order-weigh, ascending-in_order, family-weigh}
+use Rattle.fw_model.proofs.TimedLaws.{ascending-in_order}
+use Rattle.fw_model.proofs.TimedCounts.{in_order-weigh, family-weigh}
 use Rattle.fw_model.proofs.StampMeasures.{IsEarlier, earlier-unlooped}
 use Rattle.fw_model.proofs.ArrivalLaws.{deliveries, deliveries-weigh, together-weigh}
 use Rattle.fw_model.proofs.InputLaws.{input-equal}

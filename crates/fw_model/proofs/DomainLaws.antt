@@ -1,7 +1,6 @@
 -- The bags of the denotation, and what was delivered, are in the domains of their edges.
-use Rattle.std.proofs.Common.{◌≡◌, ◌⊎◌, ℕ, zero, suc, ◌<◌, Bool, true, false, ◌&&◌, List, [], ◌∷◌, length, map, Some, refl, sym, ap, subst, ◌∙◌, inl, inr, arith}
+use Rattle.std.proofs.Common.{◌≡◌, ◌⊎◌, ℕ, ◌<◌, Bool, true, false, ◌&&◌, List, [], ◌∷◌, length, Some, refl, sym, ap, subst, ◌∙◌, inl, inr, arith}
 use Rattle.std.specs.List.{AllByRecursion}
-use Rattle.std.specs.Prelude.{slice_index_or}
 use Rattle.std.specs.Ordering.{is_eq}
 use Rattle.std.proofs.lemmas.Bool.{cases_Bool, cases_lt}
 use Rattle.fw_time.specs.Stamp.{Stamp, leq, same, in_domain}
@@ -11,30 +10,26 @@ use Rattle.fw_flow.specs.declared.event.Event.{Event}
 use Rattle.fw_flow.specs.declared.event.Message.{Message}
 use Rattle.fw_flow.specs.declared.kind.Kind.{Kind}
 use Rattle.fw_flow.specs.declared.kind.Kind.TheVariants.{Input, OutputEpoch, OutputNumber, Sequence}
-use Rattle.fw_flow.specs.Dataflow.{System, Dataflow, kind_of, sender, receiver, in_edges, domain_of, out_domain_of, out_domain_of_kind, greatest_number, bounds_of, bounds_of_domain, batches_of, is_output_kind, send_stamp}
+use Rattle.fw_flow.specs.Dataflow.{System, Dataflow, kind_of, sender, receiver, in_edges, domain_of, bounds_of, bounds_of_domain, is_output_kind, send_stamp}
 use Rattle.fw_flow.specs.NodeFunction.{sends, sends_of_kind, sent_by}
 use Rattle.fw_flow.specs.Walks.{Ranks}
 use Rattle.fw_flow.specs.WellFormed.{IsWellFormed, IsWellFormedSystem}
-use Rattle.fw_flow.specs.WholeBags.{Timed, outputs_of_kind, timed_batches, in_order, together}
+use Rattle.fw_flow.specs.WholeBags.{Timed, outputs_of_kind}
 use Rattle.fw_flow.proofs.Ranks.{ranks-exist}
 use Rattle.fw_model.specs.Denotation.{Family, IsDenotation}
 use Rattle.fw_model.specs.History.{sent, delivered, IsLegal}
 use Rattle.fw_model.specs.LawsOfProjections.{bounds_of_edge}
 use Rattle.fw_model.specs.LawsOfLegalHistories.{HasEpochs}
 use Rattle.fw_model.proofs.EachLaws.{each-weaker}
-use Rattle.fw_model.proofs.StampLaws.{leq-refl, line-leq}
-use Rattle.fw_model.proofs.SendingLaws.{send_stamp-in_domain}
 use Rattle.fw_model.proofs.LegalLaws.{edge_domains, legal_messages-in_domain}
 use Rattle.fw_model.proofs.CompleteLaws.{past_edges-idle}
 use Rattle.fw_model.proofs.WeightLaws.{weigh, one, one-out, same-is}
 use Rattle.fw_model.proofs.SentLaws.{timed_of, timed_message, delivered-lighter}
-use Rattle.fw_model.proofs.TimedCounts.{family-weigh}
 use Rattle.fw_model.proofs.StampMeasures.{by_below, counter_in, IsEarlier, earlier-sends}
+use Rattle.fw_model.proofs.DenotationDomainLaws.{denotation-in_domain}
 use Rattle.fw_model.proofs.ArrivalLaws.{in_edges-receive}
-use Rattle.fw_model.proofs.InputLaws.{sum_to, batch_weight, batches-weigh, sent-weigh}
-use Rattle.fw_model.proofs.OneByOneLaws.{timed-at}
-use Rattle.fw_model.proofs.KindLaws.{is_inner, HasNoneFor, outputs-none}
-use Rattle.fw_model.proofs.SequencedLaws.{numbered-inside}
+use Rattle.fw_model.proofs.InputLaws.{sent-weigh}
+use Rattle.fw_model.proofs.KindLaws.{is_inner}
 
 two_ways : (b : Bool) → b ≡ true → b ≡ false → ⊥
 two_ways b p q = cc
@@ -129,64 +124,30 @@ each_in_edge flow p P k = each-weaker (λ d. (d < length flow.edges) × (receive
 abbrev pub HasNoneAt : List Timed → Stamp → Type 0
 HasNoneAt xs t = (q : Rec) → weigh (one t q) xs ≡ 0
 
-sum_to-none : (n : ℕ) (f : ℕ → ℕ) → ((x : ℕ) → x < n → f x ≡ 0) → sum_to n f ≡ 0
-unfolding sum_to
-sum_to-none zero f z = refl
-sum_to-none (suc n) f z = let a = z n (omega arith) in let b = sum_to-none n f (λ x l. z x (omega arith)) in omega arith
-
-positive : (n : ℕ) → (0 < n → ⊥) → n ≡ 0
-positive zero k = refl
-positive (suc n) k = absurd (k (omega arith))
-
-input-in_domain : (sys : System) → IsWellFormedSystem sys → (p : ℕ) → kind_of sys.flow p ≡ Input → (t : Stamp)
-    → in_domain (bounds_of_domain sys.flow (out_domain_of sys.flow p)) t ≡ false → HasNoneAt (timed_batches 0 (batches_of sys p)) t
-input-in_domain sys w p is t o q =
-    let batches = batches_of sys p in
-    let few = w.few p in
-    batches-weigh (one t q) batches
-    ∙ sum_to-none (length batches) (batch_weight (one t q) batches) (λ x l. positive _ (λ i.
-    let at = timed-at t (x ∷ []) q (slice_index_or batches x []) i in
-    two_ways (in_domain (bounds_of_domain sys.flow (out_domain_of sys.flow p)) t)
-    (ap (λ s. in_domain (bounds_of_domain sys.flow (out_domain_of sys.flow p)) s) at
-    ∙ ap (λ k. in_domain (bounds_of_domain sys.flow (out_domain_of_kind sys.flow k)) (x ∷ [])) is ∙ line-leq x greatest_number (omega arith)) o))
-
--- the family has nothing on the edge at the stamp, if that is outside the domain
-abbrev pub IsInDomainAt : System → Family → EdgeStamp → Type 0
-IsInDomainAt sys family x = in_domain (bounds_of_edge sys.flow x.0) x.1 ≡ false → HasNoneAt (family x.0) x.1
-
-denoted-step : (sys : System) (family : Family) → IsWellFormedSystem sys → IsDenotation sys family
-    → (r : Ranks sys.flow) (e : ℕ) (t : Stamp) → ((d : ℕ) (u : Stamp) → IsEarlier sys.flow r (receiver sys.flow d) u (receiver sys.flow e) t → IsInDomainAt sys family (d, u))
-    → IsInDomainAt sys family (e, t)
-denoted-step sys family w d r e t ih o x =
-    let flow = sys.flow in
-    let q = sender flow e in
-    let kind = kind_of flow q in
-    let batches = batches_of sys q in
-    let ds = in_edges flow q in
-    family-weigh sys family d e (one t x) ∙ elim (sort_of kind) [
-      | inl is ↦ ap (λ z. weigh (one t x) (outputs_of_kind flow z batches (map family ds))) is ∙ input-in_domain sys w q is t o x
-      | inr (inl is) ↦ output-outputs flow kind is (one t x) batches (map family ds)
-      | inr (inr (inl is)) ↦
-          ap (λ z. weigh (one t x) (outputs_of_kind flow z batches (map family ds))) is
-          ∙ numbered-inside 0 (in_order (together (map family ds))) t x (sym (ap (λ z. in_domain (bounds_of_domain flow (out_domain_of_kind flow z)) t) is) ∙ o)
-      | inr (inr (inr is)) ↦
-          outputs-none flow kind is t x batches family ds (each_in_edge flow q (λ c. HasNoneFor flow kind t (family c)) (λ c at u s i.
-          elim (cases_Bool (in_domain (bounds_of flow q) u)) [
-            | inl j ↦ absurd (two_ways (in_domain (bounds_of_edge flow e) t) (send_stamp-in_domain flow q u t j i) o)
-            | inr j ↦
-                from_earlier flow w.flow r (IsInDomainAt sys family) e t (inner_edge flow e is) ih c u t at i (leq-refl t)
-                (edge-bounds flow w.flow c u ∙ ap (λ n. in_domain (bounds_of flow n) u) at ∙ j) s
-          ]))
-    ]
-
--- the denotation has nothing outside the domain of an edge
-pub denoted-in_domain : (sys : System) (family : Family) → IsWellFormedSystem sys → IsDenotation sys family → (e : ℕ) (t : Stamp) → IsInDomainAt sys family (e, t)
-denoted-in_domain sys family w d e t = along sys.flow w.flow (IsInDomainAt sys family) (denoted-step sys family w d) e t
-
--- ---- what was delivered
+-- what is in the domain has nothing outside it
+in_domain-none : (flow : Dataflow) (p : ℕ) (t : Stamp) (q : Rec) → in_domain (bounds_of flow p) t ≡ false → (xs : List Timed)
+    → AllByRecursion (λ (r : Timed). in_domain (bounds_of flow p) r.at ≡ true) xs → weigh (one t q) xs ≡ 0
+unfolding weigh
+in_domain-none flow p t q o [] a = refl
+in_domain-none flow p t q o (x ∷ xs) a =
+    let h = in_domain-none flow p t q o xs a.1 in
+    let z = one-out t q x (elim (cases_Bool (same t x.at)) [
+      | inl i ↦ absurd (two_ways (in_domain (bounds_of flow p) t) (ap (in_domain (bounds_of flow p)) (same-is t x.at i) ∙ a.0) o)
+      | inr i ↦ ap (λ b. b && is_eq (rec_cmp q x.rec)) i
+    ]) in
+    omega arith
 
 pub has_epochs : (sys : System) → IsWellFormedSystem sys → HasEpochs sys
 has_epochs sys w p = let a = w.few p in omega arith
+
+-- the denotation has nothing outside the domain of an edge
+pub denoted-in_domain : (sys : System) (family : Family) → IsWellFormedSystem sys → IsDenotation sys family → (e : ℕ) (t : Stamp)
+    → in_domain (bounds_of_edge sys.flow e) t ≡ false → HasNoneAt (family e) t
+denoted-in_domain sys family w d e t o q =
+    in_domain-none sys.flow (receiver sys.flow e) t q (sym (edge-bounds sys.flow w.flow e t) ∙ o) (family e)
+    (denotation-in_domain sys family w.flow (has_epochs sys w) d e)
+
+-- ---- what was delivered
 
 messages-weigh_none : (flow : Dataflow) (e : ℕ) (t : Stamp) (q : Rec) → in_domain (bounds_of_edge flow e) t ≡ false → (ms : List Message)
     → AllByRecursion (λ (m : Message). in_domain (bounds_of_edge flow e) m.at ≡ true) ms → weigh (one t q) (timed_of ms) ≡ 0

@@ -21,7 +21,7 @@ use Rattle.fw_model.specs.History.{was_delivered_to, was_notified, owed, deliver
 use Rattle.fw_model.specs.LawsOfLegalHistories.{HasEpochs}
 use Rattle.fw_model.proofs.EachLaws.{each-weaker}
 use Rattle.fw_model.proofs.StampLaws.{leq-refl}
-use Rattle.fw_model.proofs.WeightLaws.{weigh, weigh-same, weigh-none, weigh-lighter, weigh-equal, how_often-where, one, at_stamp}
+use Rattle.fw_model.proofs.WeightLaws.{weigh, weigh-same, weigh-lighter, weigh-equal, how_often-where, one, at_stamp}
 use Rattle.fw_model.proofs.SentLaws.{timed_of, timed_message}
 use Rattle.fw_model.proofs.ArrivalLaws.{at_edge, in_edges-once, in_edges-receive, deliveries, deliveries-weigh, together-weigh}
 use Rattle.fw_model.proofs.OneByOneLaws.{sends_one_by_one, one_weight, one-sent, one-outputs, one-fewer, IsFewerAt}
@@ -29,7 +29,7 @@ use Rattle.fw_model.proofs.DistinctLaws.{sign, sign-less, passing, distinct-sent
 use Rattle.fw_model.proofs.JoinLaws.{pairs, pairs-fewer, join-outputs, join-sent, two_edges, on_one, delivered_at}
 use Rattle.fw_model.proofs.SumLaws.{AreSameBags, sums-same, sum-outputs, total-outputs, how_often-passing}
 use Rattle.fw_model.proofs.NotifiedLaws.{sends_sums, sums-sent, none_came}
-use Rattle.fw_model.proofs.LedgerLaws.{AreNumbered, numbered-timed, ledger-sent, totals-same, totals-none}
+use Rattle.fw_model.proofs.LedgerLaws.{AreNumbered, numbered-timed, ledger-sent, totals-same}
 use Rattle.fw_model.proofs.ClosedLaws.{numbered-ascend}
 
 two_ways : (b : Bool) → b ≡ true → b ≡ false → ⊥
@@ -91,38 +91,7 @@ outputs-fewer flow (Leave l) is t x batches bag cag ds f = one-outputs_fewer flo
 outputs-fewer flow (Regroup k) is t x batches bag cag ds f = one-outputs_fewer flow (Regroup k) refl t x batches bag cag ds f
 outputs-fewer flow kind is t x batches bag cag ds f = absurd (cc)
 
-no_bags : ℕ → List Timed
-no_bags d = []
-
-nothing_together : (w : Timed → ℕ) (ds : List ℕ) → weigh w (together (map no_bags ds)) ≡ 0
-unfolding weigh no_bags
-nothing_together w [] = refl
-nothing_together w (d ∷ ds) = nothing_together w ds
-
-one-outputs_empty : (flow : Dataflow) (kind : Kind) → sends_one_by_one kind ≡ true → (t : Stamp) (x : Rec) (batches : List (List Rec)) (ds : List ℕ)
-    → weigh (one t x) (outputs_of_kind flow kind batches (map no_bags ds)) ≡ 0
-one-outputs_empty flow kind is t x batches ds = one-outputs flow kind is (one t x) batches (map no_bags ds) ∙ nothing_together (one_weight flow kind (one t x)) ds
-
-outputs-empty : (flow : Dataflow) (kind : Kind) → sends_at_once kind ≡ true → (t : Stamp) (x : Rec) (batches : List (List Rec)) (ds : List ℕ)
-    → weigh (one t x) (outputs_of_kind flow kind batches (map no_bags ds)) ≡ 0
-unfolding weigh sign no_bags
-outputs-empty flow (Distinct n) is t x batches ds = distinct-outputs t x (together (map no_bags ds)) ∙ ap sign (nothing_together (one t x) ds)
-outputs-empty flow (Join n) is t x batches [] = refl
-outputs-empty flow (Join n) is t x batches (a ∷ []) = refl
-outputs-empty flow (Join n) is t x batches (a ∷ b ∷ ds) = refl
-outputs-empty flow (Select s n) is t x batches ds = one-outputs_empty flow (Select s n) refl t x batches ds
-outputs-empty flow (Concat n) is t x batches ds = one-outputs_empty flow (Concat n) refl t x batches ds
-outputs-empty flow (Enter l) is t x batches ds = one-outputs_empty flow (Enter l) refl t x batches ds
-outputs-empty flow (Feedback l) is t x batches ds = one-outputs_empty flow (Feedback l) refl t x batches ds
-outputs-empty flow (Leave l) is t x batches ds = one-outputs_empty flow (Leave l) refl t x batches ds
-outputs-empty flow (Regroup k) is t x batches ds = one-outputs_empty flow (Regroup k) refl t x batches ds
-outputs-empty flow kind is t x batches ds = absurd (cc)
-
 -- ---- bags that agree at what is read
-
--- the bag has nothing at the stamps that send at t
-abbrev pub HasNoneFor : Dataflow → Kind → Stamp → List Timed → Type 0
-HasNoneFor flow kind t xs = (u : Stamp) (r : Rec) → send_stamp_of_kind flow kind u ≡ Some t → weigh (one u r) xs ≡ 0
 
 -- the bags agree at the stamps that send at t or below
 abbrev pub AgreeFor : Dataflow → Kind → Stamp → List Timed → List Timed → Type 0
@@ -158,51 +127,6 @@ agree_together t bag cag ds k =
     ∙ weigh-same (λ d. weigh (one u r) (bag d)) (λ d. weigh (one u r) (cag d)) ds
     (each-weaker (λ d. (u : Stamp) (r : Rec) → leq u t ≡ true → weigh (one u r) (bag d) ≡ weigh (one u r) (cag d)) (λ d. weigh (one u r) (bag d) ≡ weigh (one u r) (cag d)) ds (λ d g. g u r l) k)
     ∙ sym (together-weigh (one u r) cag ds))
-
--- ---- nothing for nothing
-
-none_together : (t : Stamp) (bag : ℕ → List Timed) (ds : List ℕ) → AllByRecursion (λ d. (r : Rec) → weigh (one t r) (bag d) ≡ 0) ds
-    → (q : Rec) → weigh (one t q) (together (map bag ds)) ≡ 0
-none_together t bag ds k q =
-    together-weigh (one t q) bag ds
-    ∙ weigh-none (λ d. weigh (one t q) (bag d)) ds (each-weaker (λ d. (r : Rec) → weigh (one t r) (bag d) ≡ 0) (λ d. weigh (one t q) (bag d) ≡ 0) ds (λ d g. g q) k)
-
-no_sums : (t : Stamp) (x : Rec) (rs : List Timed) (qs : List Rec) → ((q : Rec) → weigh (one t q) rs ≡ 0)
-    → how_often x (sums_of (distinct_keys (recs_where (same t) rs)) qs) ≡ 0
-no_sums t x rs qs z = sums-same x (recs_where (same t) rs) qs [] qs (λ q. how_often-where t q rs ∙ z q) (λ q. refl)
-
-once-none : (flow : Dataflow) (kind : Kind) → sends_at_once kind ≡ true → (t : Stamp) (x : Rec) (batches : List (List Rec)) (bag : ℕ → List Timed) (ds : List ℕ)
-    → AllByRecursion (λ d. HasNoneFor flow kind t (bag d)) ds → weigh (one t x) (outputs_of_kind flow kind batches (map bag ds)) ≡ 0
-unfolding weigh no_bags
-once-none flow kind is t x batches bag ds k =
-    let a = outputs-fewer flow kind is t x batches bag no_bags ds
-    (each-weaker (λ d. HasNoneFor flow kind t (bag d)) (λ d. IsFewerAt flow kind t (bag d) (no_bags d)) ds (λ d g u r i. let z = g u r i in omega arith) k) in
-    let b = outputs-empty flow kind is t x batches ds in
-    omega arith
-
--- a node sends nothing at a stamp where it reads nothing
-pub outputs-none : (flow : Dataflow) (kind : Kind) → is_inner kind ≡ true → (t : Stamp) (x : Rec) (batches : List (List Rec)) (bag : ℕ → List Timed) (ds : List ℕ)
-    → AllByRecursion (λ d. HasNoneFor flow kind t (bag d)) ds → weigh (one t x) (outputs_of_kind flow kind batches (map bag ds)) ≡ 0
-outputs-none flow (Sum n) is t x batches bag ds k =
-    let rs = together (map bag ds) in
-    sum-outputs t x rs ∙ no_sums t x rs (recs_where (same t) rs)
-    (none_together t bag ds (each-weaker (λ d. HasNoneFor flow (Sum n) t (bag d)) (λ d. (r : Rec) → weigh (one t r) (bag d) ≡ 0) ds (λ d g r. g t r refl) k))
-outputs-none flow Total is t x batches bag ds k =
-    let rs = together (map bag ds) in
-    total-outputs t x rs ∙ no_sums t x rs (recs_where (λ s. leq s t) rs)
-    (none_together t bag ds (each-weaker (λ d. HasNoneFor flow Total t (bag d)) (λ d. (r : Rec) → weigh (one t r) (bag d) ≡ 0) ds (λ d g r. g t r refl) k))
-outputs-none flow Ledger is t x batches bag ds k =
-    totals-none t x (together (map bag ds))
-    (none_together t bag ds (each-weaker (λ d. HasNoneFor flow Ledger t (bag d)) (λ d. (r : Rec) → weigh (one t r) (bag d) ≡ 0) ds (λ d g r. g t r refl) k))
-outputs-none flow (Distinct n) is t x batches bag ds k = once-none flow (Distinct n) refl t x batches bag ds k
-outputs-none flow (Join n) is t x batches bag ds k = once-none flow (Join n) refl t x batches bag ds k
-outputs-none flow (Select s n) is t x batches bag ds k = once-none flow (Select s n) refl t x batches bag ds k
-outputs-none flow (Concat n) is t x batches bag ds k = once-none flow (Concat n) refl t x batches bag ds k
-outputs-none flow (Enter l) is t x batches bag ds k = once-none flow (Enter l) refl t x batches bag ds k
-outputs-none flow (Feedback l) is t x batches bag ds k = once-none flow (Feedback l) refl t x batches bag ds k
-outputs-none flow (Leave l) is t x batches bag ds k = once-none flow (Leave l) refl t x batches bag ds k
-outputs-none flow (Regroup m) is t x batches bag ds k = once-none flow (Regroup m) refl t x batches bag ds k
-outputs-none flow kind is t x batches bag ds k = absurd (cc)
 
 -- ---- the same for the same
 
@@ -340,7 +264,7 @@ deliveries-on e (Notify p t ∷ vs) a = deliveries-on e vs a.1
 deliveries-on e (Deliver d m ∷ vs) a =
     ap (λ rs. timed_message m ∷ rs) (deliveries-on e vs a.1) ∙ sym (ap (λ b. timed_of (cond b (m ∷ []) [] ++ delivered vs e)) a.0)
 
-pub one_edge : (ds : List ℕ) → length ds ≡ 1 → (a : ℕ) × (ds ≡ a ∷ [])
+one_edge : (ds : List ℕ) → length ds ≡ 1 → (a : ℕ) × (ds ≡ a ∷ [])
 one_edge [] l = absurd (omega arith)
 one_edge (a ∷ []) l = (a, refl)
 one_edge (a ∷ b ∷ ds) l = absurd (omega arith)
@@ -352,14 +276,28 @@ deliveries-one flow p e l i h =
     let a = subst (AllByRecursion (λ d. (d < length flow.edges) × (receiver flow d ≡ p))) i (in_edges-receive flow p) in
     deliveries-on e (events_at flow p h) (on_edge flow p e l i h) ∙ ap timed_of (delivered_at flow p e a.0.1 h)
 
-pub ledger-numbered : (sys : System) (h : List Event) → IsWellFormed sys.flow → IsLegal sys h → (p : ℕ) → p < length sys.flow.nodes → kind_of sys.flow p ≡ Ledger
-    → AreNumbered (deliveries (events_at sys.flow p h))
-ledger-numbered sys h w l p n is =
-    let flow = sys.flow in
-    let e = one_edge (in_edges flow p) (subst (λ k. IsInDegree k (length (in_edges flow p))) is (w.in_degrees p n)) in
+-- the one in-edge of a ledger
+pub record LedgerEdge (flow : Dataflow) (p : ℕ) : Type 0 where
+  pub edge : ℕ
+  pub only : in_edges flow p ≡ edge ∷ []
+  pub received : receiver flow edge ≡ p
+  pub numbered : is_numbered flow edge ≡ true
+
+pub ledger_edge : (flow : Dataflow) → IsWellFormed flow → (p : ℕ) → p < length flow.nodes → kind_of flow p ≡ Ledger → LedgerEdge flow p
+ledger_edge flow w p l is =
+    let e = one_edge (in_edges flow p) (subst (λ k. IsInDegree k (length (in_edges flow p))) is (w.in_degrees p l)) in
     let a = subst (AllByRecursion (λ d. (d < length flow.edges) × (receiver flow d ≡ p))) e.1 (in_edges-receive flow p) in
-    let number : is_numbered flow e.0 ≡ true = ap (λ q. is_number (domain_of_kind flow (kind_of flow q))) a.0.1 ∙ ap (λ k. is_number (domain_of_kind flow k)) is in
-    subst AreNumbered (sym (deliveries-one flow p e.0 n e.1 h)) (numbered-timed (delivered h e.0) (numbered-ascend sys h l e.0 number))
+    record {
+      edge = e.0;
+      only = e.1;
+      received = a.0.1;
+      numbered = ap (λ q. is_number (domain_of_kind flow (kind_of flow q))) a.0.1 ∙ ap (λ k. is_number (domain_of_kind flow k)) is;
+    }
+
+pub ledger-numbered : (sys : System) (h : List Event) → IsLegal sys h → (p : ℕ) → p < length sys.flow.nodes → (e : LedgerEdge sys.flow p)
+    → AreNumbered (deliveries (events_at sys.flow p h))
+ledger-numbered sys h l p n e =
+    subst AreNumbered (sym (deliveries-one sys.flow p e.edge n e.only h)) (numbered-timed (delivered h e.edge) (numbered-ascend sys h l e.edge e.numbered))
 
 -- ---- all of these kinds
 
@@ -407,7 +345,7 @@ arrives sys h w b l p n Ledger is k batches t x o =
     let xs = deliveries (events_at flow p h) in
     let ys = together (map (delivered_bag h) (in_edges flow p)) in
     let a = agree_up_to t xs ys (λ u r i. deliveries_together flow p n (one u r) h) in
-    ledger-sent sys p is (one t x) (events_at flow p h) (ledger-numbered sys h w l p n is)
+    ledger-sent sys p is (one t x) (events_at flow p h) (ledger-numbered sys h l p n (ledger_edge flow w p n is))
     ∙ totals-same t x xs ys a.same_upto a.now
 arrives sys h w b l p n (Select s m) is k batches t x o = one-arrives sys h p n (ap sends_one_by_one is) (Select s m) is batches t x
 arrives sys h w b l p n (Concat m) is k batches t x o = one-arrives sys h p n (ap sends_one_by_one is) (Concat m) is batches t x

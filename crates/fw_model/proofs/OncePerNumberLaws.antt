@@ -1,30 +1,23 @@
 -- On a numbered edge the denotation has at most one rec at each number, and a numbered list of recs has one.
-use Rattle.std.proofs.Common.{◌≡◌, ◌⊎◌, ℕ, ◌+◌, ◌<◌, ◌≤◌, Bool, true, false, cond, nat_le, List, [], ◌∷◌, length, map, Some, None, refl, sym, ap, subst, ◌∙◌, inl, inr, arith}
-use Rattle.std.specs.List.{AllByRecursion}
+use Rattle.std.proofs.Common.{◌≡◌, ℕ, ◌+◌, ◌<◌, ◌≤◌, Bool, true, false, cond, List, [], ◌∷◌, length, refl, sym, ap, subst, ◌∙◌, inl, inr, arith}
 use Rattle.std.specs.Ordering.{is_eq}
-use Rattle.std.proofs.lemmas.Bool.{and_parts, cond_both, cases_Bool, cases_eq}
+use Rattle.std.proofs.lemmas.Bool.{and_parts, cases_Bool, cases_eq}
 use Rattle.fw_time.specs.Stamp.{Stamp, leq, same}
 use Rattle.fw_bag.specs.declared.rec.Rec.{Rec}
 use Rattle.fw_bag.specs.Rec.{rec_cmp}
 use Rattle.fw_bag.proofs.RecLaws.{rec_cmp-refl, is_eq-same}
-use Rattle.fw_flow.specs.declared.kind.Kind.{Kind}
-use Rattle.fw_flow.specs.declared.kind.Kind.TheVariants.{Input, OutputEpoch, OutputNumber, Select, Concat, Distinct, Join, Sum, Enter, Feedback, Leave, Total, Sequence, Ledger, Regroup}
-use Rattle.fw_flow.specs.Dataflow.{System, Dataflow, kind_of, sender, receiver, in_edges, domain_of, domain_of_kind, out_domain_of, out_domain_of_kind, greatest_number, batches_of, is_number, is_output_kind, send_stamp_of_kind}
+use Rattle.fw_flow.specs.Dataflow.{System, is_numbered}
 use Rattle.fw_flow.specs.Projection.{number_of}
-use Rattle.fw_flow.specs.Walks.{Ranks}
-use Rattle.fw_flow.specs.WellFormed.{IsWellFormed, IsInDegree}
-use Rattle.fw_flow.specs.WholeBags.{Timed, outputs_of_kind, in_order, together, numbered, running_totals}
+use Rattle.fw_flow.specs.WellFormed.{IsWellFormed}
+use Rattle.fw_flow.specs.WholeBags.{Timed}
 use Rattle.fw_model.specs.Denotation.{Family, IsDenotation}
-use Rattle.fw_model.proofs.StampLaws.{leq-refl, in_line}
-use Rattle.fw_model.proofs.LegalLaws.{edge_domains}
-use Rattle.fw_model.proofs.WeightLaws.{weigh, weigh-lighter, weigh-map, one, one-in, one-out, is_at, is_at-is, is_at-self, same-is}
-use Rattle.fw_model.proofs.TimedCounts.{family-weigh}
-use Rattle.fw_model.proofs.StampMeasures.{IsEarlier}
-use Rattle.fw_model.proofs.ArrivalLaws.{weigh-both, in_edges-receive, together-weigh}
+use Rattle.fw_model.specs.LawsOfDenotation.{AreNumberedFrom}
+use Rattle.fw_model.proofs.NumberedLaws.{denotation-numbered}
+use Rattle.fw_model.proofs.StampLaws.{in_line}
+use Rattle.fw_model.proofs.WeightLaws.{weigh, weigh-lighter, one, one-in, one-out, is_at, is_at-is, is_at-self, same-is}
+use Rattle.fw_model.proofs.ArrivalLaws.{weigh-both}
 use Rattle.fw_model.proofs.JoinLaws.{each_elem}
-use Rattle.fw_model.proofs.KindLaws.{is_inner, one_edge}
 use Rattle.fw_model.proofs.LedgerLaws.{AreNumbered}
-use Rattle.fw_model.proofs.DomainLaws.{output-outputs, inner_edge, EdgeStamp, along, from_earlier}
 
 two_ways : (b : Bool) → b ≡ true → b ≡ false → ⊥
 two_ways b p q = cc
@@ -35,117 +28,37 @@ any_at t r = cond (same t r.at) 1 0
 
 -- ---- at most one rec at each number
 
-above-none : (n : ℕ) (xs : List Timed) (t : Stamp) → number_of t < n → weigh (any_at t) (numbered n xs) ≡ 0
+above-none : (n : ℕ) (xs : List Timed) → AreNumberedFrom n xs → (t : Stamp) → number_of t < n → weigh (any_at t) xs ≡ 0
 unfolding weigh
-above-none n [] t l = refl
-above-none n (x ∷ xs) t l =
-    let h = above-none (n + 1) xs t (omega arith) in
-    let head : Timed = record { at = n ∷ []; rec = x.rec } in
-    let o : same t (n ∷ []) ≡ false = elim (cases_Bool (same t (n ∷ []))) [
-      | inl e ↦ let i = ap number_of (same-is t (n ∷ []) e) in absurd (omega arith)
+above-none n [] a t l = refl
+above-none n (x ∷ xs) a t l =
+    let h = above-none (n + 1) xs a.1 t (omega arith) in
+    let o : same t x.at ≡ false = elim (cases_Bool (same t x.at)) [
+      | inl e ↦ let i = ap number_of (same-is t x.at e ∙ a.0) in absurd (omega arith)
       | inr e ↦ e
     ] in
-    let z : any_at t head ≡ 0 = ap (λ b. cond b 1 0) o in
-    cond_both (nat_le n greatest_number) (head ∷ numbered (n + 1) xs) [] (λ ys. weigh (any_at t) ys ≡ 0) (λ e. omega arith) (λ e. refl)
+    let z : any_at t x ≡ 0 = ap (λ b. cond b 1 0) o in
+    omega arith
 
-numbered-once : (n : ℕ) (xs : List Timed) (t : Stamp) → weigh (any_at t) (numbered n xs) ≤ 1
+numbered-once : (n : ℕ) (xs : List Timed) → AreNumberedFrom n xs → (t : Stamp) → weigh (any_at t) xs ≤ 1
 unfolding weigh
-numbered-once n [] t = omega arith
-numbered-once n (x ∷ xs) t =
-    let head : Timed = record { at = n ∷ []; rec = x.rec } in
-    cond_both (nat_le n greatest_number) (head ∷ numbered (n + 1) xs) [] (λ ys. weigh (any_at t) ys ≤ 1)
-    (λ e. elim (cases_Bool (same t (n ∷ []))) [
-      | inl i ↦
-          let at = ap number_of (same-is t (n ∷ []) i) in
-          let here : any_at t head ≡ 1 = ap (λ b. cond b 1 0) i in
-          let later = above-none (n + 1) xs t (omega arith) in
-          omega arith
-      | inr i ↦
-          let here : any_at t head ≡ 0 = ap (λ b. cond b 1 0) i in
-          let later = numbered-once (n + 1) xs t in
-          omega arith
-    ])
-    (λ e. omega arith)
-
-totals-once : (t : Stamp) (rs : List Timed) → weigh (any_at t) (running_totals rs) ≡ weigh (any_at t) rs
-totals-once t rs = weigh-map (any_at t) _ rs
-
--- the kinds that send at numbers
-number_kinds : (flow : Dataflow) (kind : Kind) → is_number (out_domain_of_kind flow kind) ≡ true
-    → (is_output_kind kind ≡ true) ⊎ ((kind ≡ Sequence) ⊎ (kind ≡ Ledger))
-number_kinds flow Input k = absurd (cc)
-number_kinds flow OutputEpoch k = inl refl
-number_kinds flow OutputNumber k = inl refl
-number_kinds flow (Select s None) k = absurd (cc)
-number_kinds flow (Select s (Some l)) k = absurd (cc)
-number_kinds flow (Concat None) k = absurd (cc)
-number_kinds flow (Concat (Some l)) k = absurd (cc)
-number_kinds flow (Distinct None) k = absurd (cc)
-number_kinds flow (Distinct (Some l)) k = absurd (cc)
-number_kinds flow (Join None) k = absurd (cc)
-number_kinds flow (Join (Some l)) k = absurd (cc)
-number_kinds flow (Sum None) k = absurd (cc)
-number_kinds flow (Sum (Some l)) k = absurd (cc)
-number_kinds flow (Enter l) k = absurd (cc)
-number_kinds flow (Feedback l) k = absurd (cc)
-number_kinds flow (Leave l) k = absurd (cc)
-number_kinds flow Total k = absurd (cc)
-number_kinds flow Sequence k = inr (inl refl)
-number_kinds flow Ledger k = inr (inr refl)
-number_kinds flow (Regroup n) k = absurd (cc)
-
--- the family has at most one rec on the edge at the stamp, if the edge carries numbers
-abbrev HasOneAt : System → Family → EdgeStamp → Type 0
-HasOneAt sys family x = is_number (out_domain_of sys.flow (sender sys.flow x.0)) ≡ true → weigh (any_at x.1) (family x.0) ≤ 1
-
--- the in-edge of a ledger
-pub record LedgerEdge (flow : Dataflow) (p : ℕ) : Type 0 where
-  pub edge : ℕ
-  pub only : in_edges flow p ≡ edge ∷ []
-  pub received : receiver flow edge ≡ p
-  pub numbers : is_number (out_domain_of flow (sender flow edge)) ≡ true
-
-pub ledger_edge : (flow : Dataflow) → IsWellFormed flow → (p : ℕ) → p < length flow.nodes → kind_of flow p ≡ Ledger → LedgerEdge flow p
-ledger_edge flow w p l is =
-    let e = one_edge (in_edges flow p) (subst (λ k. IsInDegree k (length (in_edges flow p))) is (w.in_degrees p l)) in
-    let a = subst (AllByRecursion (λ d. (d < length flow.edges) × (receiver flow d ≡ p))) e.1 (in_edges-receive flow p) in
-    record {
-      edge = e.0;
-      only = e.1;
-      received = a.0.1;
-      numbers = ap is_number (edge_domains flow w e.0) ∙ ap (λ q. is_number (domain_of flow q)) a.0.1 ∙ ap (λ k. is_number (domain_of_kind flow k)) is;
-    }
-
-once-step : (sys : System) (family : Family) → IsWellFormed sys.flow → IsDenotation sys family
-    → (r : Ranks sys.flow) (e : ℕ) (t : Stamp) → ((d : ℕ) (u : Stamp) → IsEarlier sys.flow r (receiver sys.flow d) u (receiver sys.flow e) t → HasOneAt sys family (d, u))
-    → HasOneAt sys family (e, t)
-unfolding weigh
-once-step sys family w den r e t ih n =
-    let flow = sys.flow in
-    let p = sender flow e in
-    let kind = kind_of flow p in
-    let bags = map family (in_edges flow p) in
-    let a = family-weigh sys family den e (any_at t) in
-    elim (number_kinds flow kind n) [
-      | inl is ↦ let z = output-outputs flow kind is (any_at t) (batches_of sys p) bags in omega arith
-      | inr (inl is) ↦
-          let b = ap (λ k. weigh (any_at t) (outputs_of_kind flow k (batches_of sys p) bags)) is in
-          let c = numbered-once 0 (in_order (together bags)) t in
-          omega arith
-      | inr (inr is) ↦
-          let real = inner_edge flow e (ap is_inner is) in
-          let d = ledger_edge flow w p (w.senders_declared e real) is in
-          let b = ap (λ k. weigh (any_at t) (outputs_of_kind flow k (batches_of sys p) bags)) is in
-          let c = totals-once t (together bags) in
-          let f = together-weigh (any_at t) family (in_edges flow p) in
-          let g : weigh (λ z. weigh (any_at t) (family z)) (in_edges flow p) ≡ weigh (any_at t) (family d.edge) + 0 = ap (weigh (λ z. weigh (any_at t) (family z))) d.only in
-          let k = from_earlier flow w r (HasOneAt sys family) e t real ih d.edge t t d.received (ap (λ z. send_stamp_of_kind flow z t) is) (leq-refl t) d.numbers in
-          omega arith
-    ]
+numbered-once n [] a t = omega arith
+numbered-once n (x ∷ xs) a t = elim (cases_Bool (same t x.at)) [
+  | inl i ↦
+      let at = ap number_of (same-is t x.at i ∙ a.0) in
+      let here : any_at t x ≡ 1 = ap (λ b. cond b 1 0) i in
+      let later = above-none (n + 1) xs a.1 t (omega arith) in
+      omega arith
+  | inr i ↦
+      let here : any_at t x ≡ 0 = ap (λ b. cond b 1 0) i in
+      let later = numbered-once (n + 1) xs a.1 t in
+      omega arith
+]
 
 -- on a numbered edge the denotation has at most one rec at each stamp
-pub denoted-once : (sys : System) (family : Family) → IsWellFormed sys.flow → IsDenotation sys family → (e : ℕ) (t : Stamp) → HasOneAt sys family (e, t)
-denoted-once sys family w den e t = along sys.flow w (HasOneAt sys family) (once-step sys family w den) e t
+pub denoted-once : (sys : System) (family : Family) → IsWellFormed sys.flow → IsDenotation sys family → (e : ℕ) → is_numbered sys.flow e ≡ true
+    → (t : Stamp) → weigh (any_at t) (family e) ≤ 1
+denoted-once sys family w den e n t = numbered-once 0 (family e) (denotation-numbered sys family w den e n) t
 
 -- ---- a numbered list within such a bag
 

@@ -24,7 +24,8 @@ use Rattle.fw_model.proofs.FrontierLaws.{phi-frontier}
 use Rattle.fw_model.proofs.LegalLaws.{enabled-in_domain, legal-in_domain}
 use Rattle.fw_model.proofs.WeightLaws.{weigh, weigh-append, how_often-where, one, same-is}
 use Rattle.fw_model.proofs.SentLaws.{timed_of, quiet-delivered}
-use Rattle.fw_model.proofs.TimedCounts.{ascending-in_order, bag-ascending, how_often-recs_at, sorted-is}
+use Rattle.fw_model.proofs.TimedLaws.{ascending-in_order}
+use Rattle.fw_model.proofs.TimedCounts.{bag-ascending, how_often-recs_at, sorted-is}
 use Rattle.fw_model.proofs.ArrivalLaws.{deliveries}
 use Rattle.fw_model.proofs.InputLaws.{timed_of-append}
 use Rattle.fw_model.proofs.ClosedLaws.{settled-outside}

@@ -3,9 +3,9 @@ use Rattle.std.proofs.Common.{◌≡◌, ℕ, ◌+◌, ◌<◌, Bool, true, fals
 use Rattle.std.specs.List.{AllByRecursion}
 use Rattle.std.specs.Prelude.{filter}
 use Rattle.std.specs.Ordering.{is_eq, is_gt}
-use Rattle.std.proofs.lemmas.Bool.{cond_both, cond-false, cases_Bool, leb-true, leb-false, lt-leb}
+use Rattle.std.proofs.lemmas.Bool.{cond_both, cond-false, cases_Bool, leb-false, lt-leb}
 use Rattle.std.proofs.lemmas.Cmp.{tied_itself}
-use Rattle.fw_time.specs.Stamp.{Stamp, same, leq}
+use Rattle.fw_time.specs.Stamp.{Stamp, same}
 use Rattle.fw_bag.specs.declared.rec.Rec.{Rec}
 use Rattle.fw_bag.specs.Rec.{rec_cmp}
 use Rattle.fw_bag.specs.Keyed.{sorted}
@@ -16,10 +16,10 @@ use Rattle.fw_flow.specs.Projection.{number_of}
 use Rattle.fw_flow.specs.NodeFunction.{delivered_recs, numbered_messages}
 use Rattle.fw_flow.specs.WholeBags.{Timed, timed_cmp, in_order, recs_where, numbered}
 use Rattle.fw_model.proofs.EachLaws.{each-weaker, each-both}
-use Rattle.fw_model.proofs.StampLaws.{line-leq}
 use Rattle.fw_model.proofs.WeightLaws.{weigh, how_often-where, one, one-in, one-out, is_at-self, same-is}
 use Rattle.fw_model.proofs.SentLaws.{timed_of}
-use Rattle.fw_model.proofs.TimedCounts.{timed_order, IsAscendingTimed, ascending-in_order, ascending-where, in_order-weigh, sorted-is}
+use Rattle.fw_model.proofs.TimedLaws.{timed_order, IsAscendingTimed, ascending-in_order}
+use Rattle.fw_model.proofs.TimedCounts.{ascending-where, in_order-weigh, sorted-is}
 use Rattle.fw_model.proofs.ArrivalLaws.{deliveries}
 use Rattle.fw_model.proofs.DistinctLaws.{how_often-delivered_at}
 
@@ -153,22 +153,6 @@ numbered-from n (x ∷ xs) t q l =
       | inr e ↦ ap (λ b. b && is_eq (rec_cmp q x.rec)) e
     ]) in
     cond_both (nat_le n greatest_number) (head ∷ numbered (n + 1) xs) [] (λ ys. weigh (one t q) ys ≡ 0) (λ e. omega arith) (λ e. refl)
-
--- nothing is numbered outside the domain
-pub numbered-inside : (n : ℕ) (xs : List Timed) (t : Stamp) (q : Rec) → leq t (greatest_number ∷ []) ≡ false → weigh (one t q) (numbered n xs) ≡ 0
-unfolding weigh
-numbered-inside n [] t q o = refl
-numbered-inside n (x ∷ xs) t q o =
-    let h = numbered-inside (n + 1) xs t q o in
-    let head : Timed = record { at = n ∷ []; rec = x.rec } in
-    cond_both (nat_le n greatest_number) (head ∷ numbered (n + 1) xs) [] (λ ys. weigh (one t q) ys ≡ 0)
-    (λ e.
-    let z = one-out t q head (elim (cases_Bool (same t (n ∷ []))) [
-      | inl i ↦ absurd (two_ways (leq t (greatest_number ∷ [])) (ap (λ s. leq s (greatest_number ∷ [])) (same-is t (n ∷ []) i) ∙ line-leq n greatest_number (leb-true n greatest_number e)) o)
-      | inr i ↦ ap (λ b. b && is_eq (rec_cmp q x.rec)) i
-    ]) in
-    omega arith)
-    (λ e. refl)
 
 pub length-weigh : (xs : List Timed) → weigh (λ r. 1) xs ≡ length xs
 unfolding weigh

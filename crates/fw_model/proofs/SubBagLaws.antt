@@ -1,5 +1,5 @@
 -- In a legal history what was sent is a part of the denotation.
-use Rattle.std.proofs.Common.{◌≡◌, ◌⊎◌, ℕ, ◌≤◌, Bool, true, false, cond, not, ◌&&◌, List, [], ◌∷◌, map, Some, refl, sym, ap, subst, ◌∙◌, inl, inr, arith}
+use Rattle.std.proofs.Common.{◌+◌, ◌≡◌, ◌⊎◌, ℕ, ◌≤◌, Bool, true, false, cond, not, ◌&&◌, List, [], ◌∷◌, map, Some, refl, sym, ap, subst, ◌∙◌, inl, inr, arith}
 use Rattle.std.specs.List.{AllByRecursion}
 use Rattle.std.proofs.lemmas.Bool.{cases_Bool, cases_lt}
 use Rattle.fw_time.specs.Stamp.{Stamp, leq}
@@ -12,23 +12,24 @@ use Rattle.fw_flow.specs.Dataflow.{System, kind_of, sender, in_edges, batches_of
 use Rattle.fw_flow.specs.NodeFunction.{recs_on_notification}
 use Rattle.fw_flow.specs.Projection.{events_at}
 use Rattle.fw_flow.specs.WellFormed.{IsWellFormedSystem}
-use Rattle.fw_flow.specs.WholeBags.{outputs_of_kind}
+use Rattle.fw_flow.specs.WholeBags.{outputs_of_kind, together}
 use Rattle.fw_model.specs.Denotation.{Family, IsDenotation}
 use Rattle.fw_model.specs.History.{was_delivered_to, was_notified, owed, sent, delivered, IsLegal}
 use Rattle.fw_model.specs.LawsOfDeliveries.{SentIsSubBagOfDenotation, DeliveredIsSubBagOfDenotation}
 use Rattle.fw_model.proofs.StampLaws.{leq-refl}
 use Rattle.fw_model.proofs.WeightLaws.{weigh, how_often-where, one}
 use Rattle.fw_model.proofs.SentLaws.{timed_of, next_delivered-lighter}
+use Rattle.fw_model.proofs.ArrivalLaws.{together-weigh}
 use Rattle.fw_model.proofs.TimedCounts.{family-weigh, how_often-recs_at}
 use Rattle.fw_model.proofs.InputLaws.{input-lighter}
 use Rattle.fw_model.proofs.OneByOneLaws.{IsFewerAt}
 use Rattle.fw_model.proofs.NotifiedLaws.{sends_sums, sums-sent, notified-settled}
-use Rattle.fw_model.proofs.LedgerLaws.{AreNumbered}
-use Rattle.fw_model.proofs.KindLaws.{sends_at_once, is_inner, AgreeFor, delivered_bag, outputs-fewer, outputs-same, outputs-none, HasNoneFor, arrives, deliveries-one, ledger-numbered}
+use Rattle.fw_model.proofs.LedgerLaws.{AreNumbered, totals-none}
+use Rattle.fw_model.proofs.KindLaws.{sends_at_once, is_inner, AgreeFor, delivered_bag, outputs-fewer, outputs-same, arrives, deliveries-one, ledger_edge, ledger-numbered}
 use Rattle.fw_model.proofs.DomainLaws.{sort_of, inner_edge, output-sent, each_in_edge, has_epochs}
 use Rattle.fw_model.proofs.DenotedLaws.{sequence-fewer}
 use Rattle.fw_model.proofs.PrefixLaws.{closed-denoted, all_denoted, sequenced}
-use Rattle.fw_model.proofs.OncePerNumberLaws.{any_at, one-any, some_at_stamp, ledger_edge, denoted-once, agree-below}
+use Rattle.fw_model.proofs.OncePerNumberLaws.{any_at, one-any, some_at_stamp, denoted-once, agree-below}
 
 two_ways : (b : Bool) → b ≡ true → b ≡ false → ⊥
 two_ways b p q = cc
@@ -147,7 +148,7 @@ ledger-within sys h family k e ledger t q =
     let edge = ledger_edge flow w.flow p node ledger in
     let d = edge.edge in
     let came = delivered_bag h d in
-    let numbered = subst AreNumbered (deliveries-one flow p d node edge.only h) (ledger-numbered sys h w.flow k.legal p node ledger) in
+    let numbered = subst AreNumbered (deliveries-one flow p d node edge.only h) (ledger-numbered sys h k.legal p node edge) in
     let a = sent_for sys h family k e is t q (not_owed sys h p t (ap is_notified_kind ledger)) in
     let c = family-weigh sys family k.denotation e (one t q) in
     elim (cases_lt 0 (weigh (any_at t) came)) [
@@ -158,20 +159,18 @@ ledger-within sys h family k e ledger t q =
             (λ u s x j below.
                 let i : u ≡ s = stamp_is u s (sym (ap (λ z. send_stamp_of_kind flow z u) ledger) ∙ j) in
                 agree-below came (family d) numbered (k.within d)
-                (λ y. denoted-once sys family w.flow k.denotation d y edge.numbers) t r.0 r.1 u x (ap (λ z. leq z t) i ∙ below)),
+                (λ y. denoted-once sys family w.flow k.denotation d edge.numbered y) t r.0 r.1 u x (ap (λ z. leq z t) i ∙ below)),
             tt,
           )) in
           omega arith
       | inr none ↦
-          let b = outputs-none flow kind is t q (batches_of sys p) (delivered_bag h) (in_edges flow p)
-          (subst (AllByRecursion (λ z. HasNoneFor flow kind t (delivered_bag h z))) (sym edge.only) (
-            (λ u x j.
-                let i : u ≡ t = stamp_is u t (sym (ap (λ z. send_stamp_of_kind flow z u) ledger) ∙ j) in
-                let m = one-any t x came in
-                let y = ap (λ s. weigh (one s x) came) i in
-                omega arith),
-            tt,
-          )) in
+          let bags = map (delivered_bag h) (in_edges flow p) in
+          let b = ap (λ z. weigh (one t q) (outputs_of_kind flow z (batches_of sys p) bags)) ledger in
+          let f = totals-none t q (together bags) (λ x.
+          let m = one-any t x came in
+          let y = together-weigh (one t x) (delivered_bag h) (in_edges flow p) in
+          let z : weigh (λ n. weigh (one t x) (delivered_bag h n)) (in_edges flow p) ≡ weigh (one t x) came + 0 = ap (weigh (λ n. weigh (one t x) (delivered_bag h n))) edge.only in
+          omega arith) in
           omega arith
     ]
   where

@@ -11,6 +11,8 @@ pub mod DenotationLaws
 pub mod DenotedLaws
 pub mod DependenceLaws
 pub mod DescentLaws
+pub mod DistinctLaws
+pub mod DomainLaws
 pub mod EachLaws
 pub mod EnabledLaws
 pub mod FilterLaws
@@ -20,12 +22,19 @@ pub mod FrontierLaws
 pub mod InputLaws
 pub mod KeptLaws
 pub mod LargestLaws
+pub mod JoinLaws
+pub mod KeptLaws
+pub mod KindLaws
+pub mod LargestLaws
+pub mod LedgerLaws
 pub mod LegalLaws
 pub mod ListedLaws
 pub mod LocalityLaws
 pub mod MeasureLaws
 pub mod MeetLaws
+pub mod NotifiedLaws
 pub mod NumberedLaws
+pub mod OncePerNumberLaws
 pub mod OneByOneLaws
 pub mod OneNextLaws
 pub mod OrderLaws
@@ -33,6 +42,7 @@ pub mod OutputLaws
 pub mod PendingKeptLaws
 pub mod PendingLaws
 pub mod PhiLaws
+pub mod PrefixLaws
 pub mod PsiBackLaws
 pub mod PsiLaws
 pub mod RecoveryLaws
@@ -42,6 +52,7 @@ pub mod SendingLaws
 pub mod SendsLaws
 pub mod SentLaws
 pub mod SequenceLaws
+pub mod SequencedLaws
 pub mod SettleLaws
 pub mod SomeNextLaws
 pub mod StampLaws
@@ -49,6 +60,7 @@ pub mod StampLists
 pub mod StampMeasures
 pub mod SubBagLaws
 pub mod TableLaws
+pub mod SumLaws
 pub mod TimedCounts
 pub mod TimedLaws
 pub mod WeightLaws

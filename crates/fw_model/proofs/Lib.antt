@@ -20,8 +20,6 @@ pub mod FilteredLaws
 pub mod FrontLaws
 pub mod FrontierLaws
 pub mod InputLaws
-pub mod KeptLaws
-pub mod LargestLaws
 pub mod JoinLaws
 pub mod KeptLaws
 pub mod KindLaws
@@ -59,8 +57,8 @@ pub mod StampLaws
 pub mod StampLists
 pub mod StampMeasures
 pub mod SubBagLaws
-pub mod TableLaws
 pub mod SumLaws
+pub mod TableLaws
 pub mod TimedCounts
 pub mod TimedLaws
 pub mod WeightLaws

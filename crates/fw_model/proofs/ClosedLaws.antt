@@ -2,7 +2,7 @@
 use Rattle.std.proofs.Common.{◌≡◌, ℕ, Bool, true, false, not, ◌&&◌, ◌==◌, List, [], ◌∷◌, ◌++◌, length, map, refl, sym, ap, ◌∙◌}
 use Rattle.std.specs.List.{AllByRecursion}
 use Rattle.std.specs.Prelude.{filter}
-use Rattle.std.proofs.lemmas.Bool.{and_parts, and_from, cond_both, cond-false, eqb-true, false_from_ne_true}
+use Rattle.std.proofs.lemmas.Bool.{eq-eqb, and_parts, and_from, cond_both, cond-false, eqb-true, false_from_ne_true}
 use Rattle.fw_time.specs.Stamp.{Stamp, leq, same}
 use Rattle.fw_frontier.specs.Frontier.{Frontier}
 use Rattle.fw_flow.specs.declared.event.Event.{Event}
@@ -16,7 +16,7 @@ use Rattle.fw_flow.specs.WellFormed.{IsWellFormed}
 use Rattle.fw_model.specs.History.{sent, delivered, pending, was_delivered_to, was_notified, owed, IsAdmissible, IsEnabled, IsLegal, IsNotifiable}
 use Rattle.fw_model.specs.LawsOfProjections.{bounds_of_edge}
 use Rattle.fw_model.specs.LawsOfLegalHistories.{HasEpochs}
-use Rattle.fw_model.specs.LawsOfDeliveries.{IsClosedFor, ClosedStampsStayClosed, NotificationsComeLast, AreNumberedInOrder, NumberedDeliveriesAscend, recs_at, DeliveredInsideCompleteIsFinal}
+use Rattle.fw_model.specs.LawsOfDeliveries.{IsClosedFor, ClosedStampsStayClosed, DeliveredUpToClosedIsFinal, NotificationsComeLast, AreNumberedInOrder, NumberedDeliveriesAscend, recs_at, DeliveredInsideCompleteIsFinal}
 use Rattle.fw_model.proofs.StampLaws.{leq-trans}
 use Rattle.fw_model.proofs.PhiLaws.{phi-longer}
 use Rattle.fw_model.proofs.FrontierLaws.{phi-frontier}
@@ -54,7 +54,7 @@ closed-stays sys h w b p t c [] l = c
 closed-stays sys h w b p t c (v ∷ more) l = closed-step sys (more ++ h) w b l.1 p t (closed-stays sys h w b p t c more l.1) v l.0
 
 -- nothing is delivered up to a closed stamp
-pub closed-no_delivery : (sys : System) (h : List Event) (p : ℕ) (t : Stamp) → IsClosedFor sys h p t → (e : ℕ) (m : Message) → IsEnabled sys h (Deliver e m)
+closed-no_delivery : (sys : System) (h : List Event) (p : ℕ) (t : Stamp) → IsClosedFor sys h p t → (e : ℕ) (m : Message) → IsEnabled sys h (Deliver e m)
     → (receiver sys.flow e == p && leq m.at t) ≡ false
 closed-no_delivery sys h p t c e m k = false_from_ne_true (receiver sys.flow e == p && leq m.at t) (λ i.
     let a = and_parts (receiver sys.flow e == p) (leq m.at t) i in
@@ -63,7 +63,7 @@ closed-no_delivery sys h p t c e m k = false_from_ne_true (receiver sys.flow e =
 -- ---- after a notification
 
 -- the stamp is closed for the node, and the node is owed nothing up to it
-record IsSettled (sys : System) (h : List Event) (p : ℕ) (t : Stamp) : Type 0 where
+pub record IsSettled (sys : System) (h : List Event) (p : ℕ) (t : Stamp) : Type 0 where
   pub closed : IsClosedFor sys h p t
   pub paid : (s : Stamp) → leq s t ≡ true → owed sys h p s ≡ false
 
@@ -71,7 +71,7 @@ no_input : (kind : Kind) → is_notified_kind kind ≡ true → is_input_kind ki
 no_input Input n i = cc
 no_input kind n i = cc
 
-settled-outside : (sys : System) (h : List Event) (p : ℕ) (t : Stamp) → is_notified_kind (kind_of sys.flow p) ≡ true → IsSettled sys h p t → (v : Event) → IsEnabled sys h v
+pub settled-outside : (sys : System) (h : List Event) (p : ℕ) (t : Stamp) → is_notified_kind (kind_of sys.flow p) ≡ true → IsSettled sys h p t → (v : Event) → IsEnabled sys h v
     → (place sys.flow v == p && leq (stamp v) t) ≡ false
 settled-outside sys h p t n s (Inject q x) k = false_from_ne_true (q == p && leq (x ∷ []) t) (λ i.
     let a = and_parts (q == p) (leq (x ∷ []) t) i in
@@ -95,11 +95,11 @@ settled-paid sys h p t c (Deliver e m) k s l =
     (closed-no_delivery sys h p t c.closed e m k)))
     (c.paid s l)
 
-settled-step : (sys : System) (h : List Event) → IsWellFormed sys.flow → HasEpochs sys → IsLegal sys h → (p : ℕ) (t : Stamp) → IsSettled sys h p t
+pub settled-step : (sys : System) (h : List Event) → IsWellFormed sys.flow → HasEpochs sys → IsLegal sys h → (p : ℕ) (t : Stamp) → IsSettled sys h p t
     → (v : Event) → IsEnabled sys h v → IsSettled sys (v ∷ h) p t
 settled-step sys h w b l p t c v k = record { closed = closed-step sys h w b l p t c.closed v k; paid = settled-paid sys h p t c v k }
 
-settled-now : (sys : System) (h : List Event) → IsWellFormed sys.flow → HasEpochs sys → IsLegal sys h → (p : ℕ) (t : Stamp) → IsNotifiable sys h p t
+pub settled-now : (sys : System) (h : List Event) → IsWellFormed sys.flow → HasEpochs sys → IsLegal sys h → (p : ℕ) (t : Stamp) → IsNotifiable sys h p t
     → IsSettled sys (Notify p t ∷ h) p t
 settled-now sys h w b l p t k = record {
   closed = closed-step sys h w b l p t (record { quiet = k.quiet; complete = k.complete }) (Notify p t) k;
@@ -160,3 +160,23 @@ pub delivered-is_final : DeliveredInsideCompleteIsFinal
 delivered-is_final sys h w b done a [] l e t i = refl
 delivered-is_final sys h w b done a (v ∷ more) l e t i =
     final-step sys (more ++ h) done (admissible-later sys h w b done a more l.1) v l.0 e t i ∙ delivered-is_final sys h w b done a more l.1 e t i
+
+-- ---- what was delivered up to a closed stamp is final
+
+closed_final-step : (sys : System) (h : List Event) (p : ℕ) (t : Stamp) → IsClosedFor sys h p t → (v : Event) → IsEnabled sys h v
+    → (e : ℕ) → receiver sys.flow e ≡ p → (s : Stamp) → leq s t ≡ true → recs_at s (delivered (v ∷ h) e) ≡ recs_at s (delivered h e)
+closed_final-step sys h p t c (Inject q x) k e r s below = refl
+closed_final-step sys h p t c (Notify q u) k e r s below = refl
+closed_final-step sys h p t c (Deliver d m) k e r s below =
+    cond_both (d == e) (m ∷ []) [] (λ ms. recs_at s (ms ++ delivered h e) ≡ recs_at s (delivered h e))
+    (λ i. ap (map (λ (x : Message). x.rec)) (cond-false (same s m.at) (m ∷ filter (λ (x : Message). same s x.at) (delivered h e)) (filter (λ (x : Message). same s x.at) (delivered h e))
+    (false_from_ne_true (same s m.at) (λ j.
+    let here = eq-eqb (receiver sys.flow d) p (ap (receiver sys.flow) (eqb-true d e i) ∙ r) in
+    two_ways (receiver sys.flow d == p && leq m.at t) (and_from (receiver sys.flow d == p) (leq m.at t) here (sym (ap (λ u. leq u t) (same-is s m.at j)) ∙ below))
+    (closed-no_delivery sys h p t c d m k)))))
+    (λ i. refl)
+
+pub closed-is_final : DeliveredUpToClosedIsFinal
+closed-is_final sys h w b p t c [] l e r s below = refl
+closed-is_final sys h w b p t c (v ∷ more) l e r s below =
+    closed_final-step sys (more ++ h) p t (closed-stays sys h w b p t c more l.1) v l.0 e r s below ∙ closed-is_final sys h w b p t c more l.1 e r s below

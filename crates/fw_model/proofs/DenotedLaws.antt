@@ -1,228 +1,260 @@
--- Where all has come, what was sent and delivered is the denotation.
-use Rattle.std.proofs.Common.{◌≡◌, ◌⊎◌, ℕ, zero, suc, ◌<◌, Bool, true, false, ◌&&◌, ◌||◌, List, [], ◌∷◌, length, map, Some, refl, sym, ap, subst, ◌∙◌, inl, inr, arith}
-use Rattle.std.specs.List.{AllByRecursion}
-use Rattle.std.specs.Prelude.{slice_index_or}
-use Rattle.std.proofs.lemmas.Bool.{and_parts, or_cases, cases_Bool, cases_lt}
-use Rattle.fw_time.specs.Stamp.{Stamp, leq, same, in_domain}
-use Rattle.std.specs.Ordering.{is_eq}
+-- Where all has come, what was sent is the denotation, if each sequence sent a first part of what it sends in all.
+use Rattle.std.proofs.Common.{◌≡◌, ◌⊎◌, ℕ, ◌+◌, ◌<◌, ◌≤◌, Bool, true, false, not, ◌&&◌, ◌||◌, List, [], ◌∷◌, ◌++◌, length, map, Some, refl, sym, ap, subst, ◌∙◌, inl, inr, arith}
+use Rattle.std.specs.Prelude.{filter}
+use Rattle.std.specs.Ordering.{is_gt, is_lt, ordering_then, ordering_reverse}
+use Rattle.std.specs.declared.cmp.Ordering.{Ordering}
+use Rattle.std.specs.declared.cmp.Ordering.TheVariants.{Less, Equal, Greater}
+use Rattle.std.proofs.lemmas.Bool.{and_parts, cases_Bool}
+use Rattle.std.proofs.lemmas.Cmp.{nat_list_cmp_total}
+use Rattle.fw_time.specs.Stamp.{Stamp, leq, stamp_cmp, in_domain}
+use Rattle.fw_time.proofs.StampLaws.{before-from_leq}
 use Rattle.fw_bag.specs.declared.rec.Rec.{Rec}
-use Rattle.fw_bag.specs.Rec.{rec_cmp}
 use Rattle.fw_frontier.specs.Frontier.{Frontier}
 use Rattle.fw_flow.specs.declared.event.Event.{Event}
-use Rattle.fw_flow.specs.declared.event.Message.{Message}
+use Rattle.fw_flow.specs.declared.kind.Domain.TheVariants.{Number}
 use Rattle.fw_flow.specs.declared.kind.Kind.{Kind}
-use Rattle.fw_flow.specs.declared.kind.Kind.TheVariants.{Input, OutputEpoch, OutputNumber}
-use Rattle.fw_flow.specs.Dataflow.{greatest_of_kind, System, Dataflow, kind_of, sender, receiver, in_edges, domain_of, out_domain_of, out_domain_of_kind, greatest_number, bounds_of, bounds_of_domain, batches_of, is_input_kind, is_output_kind, send_stamp}
-use Rattle.fw_flow.specs.NodeFunction.{sends, sends_of_kind, sent_by}
+use Rattle.fw_flow.specs.declared.kind.Kind.TheVariants.{Input, Sum, Total, Sequence}
+use Rattle.fw_flow.specs.Dataflow.{greatest_of_kind, System, kind_of, sender, receiver, in_edges, domain_of, out_domain_of, out_domain_of_kind, greatest_number, bounds_of, batches_of, is_input_kind, is_notified_kind, send_stamp}
+use Rattle.fw_flow.specs.NodeFunction.{sequence_sent, sent_by}
 use Rattle.fw_flow.specs.Projection.{events_at, phi, phi_of_kind, sent_count}
-use Rattle.fw_flow.specs.Walks.{Ranks}
+use Rattle.fw_flow.specs.Walks.{Ranks, is_same_loop, is_looped}
 use Rattle.fw_flow.specs.WellFormed.{IsWellFormed, IsWellFormedSystem}
-use Rattle.fw_flow.specs.WholeBags.{Timed, outputs_of_kind, timed_batches}
-use Rattle.fw_flow.proofs.Ranks.{ranks-exist}
-use Rattle.fw_model.specs.Denotation.{Family, IsDenotation, bag_at}
-use Rattle.fw_model.specs.History.{sent, delivered, IsAdmissible, IsLegal}
-use Rattle.fw_model.specs.LawsOfProjections.{bounds_of_edge}
+use Rattle.fw_flow.specs.WholeBags.{Timed, timed_cmp, outputs_of_kind, in_order, numbered, together}
+use Rattle.fw_model.specs.Denotation.{Family, IsDenotation}
+use Rattle.fw_model.specs.History.{was_delivered_to, was_notified, owed, sent, delivered, IsAdmissible, IsLegal}
 use Rattle.fw_model.specs.LawsOfSending.{SendsByStamp}
-use Rattle.fw_model.specs.LawsOfLegalHistories.{HasEpochs}
-use Rattle.fw_model.specs.LawsOfDeliveries.{recs_at, sends_one_by_one, IsOneByOne, SentInsidePhiIsDenoted, DeliveredInsideCompleteIsDenoted}
-use Rattle.fw_model.proofs.EachLaws.{each-weaker}
-use Rattle.fw_model.proofs.StampLaws.{leq-refl, line-leq}
-use Rattle.fw_model.proofs.SendingLaws.{phi-by_stamp, phi-in_domain, send_stamp-in_domain}
-use Rattle.fw_model.proofs.LegalLaws.{edge_domains, legal_messages-in_domain}
-use Rattle.fw_model.proofs.CompleteLaws.{past_edges-idle, sender_sorts}
-use Rattle.fw_model.proofs.WeightLaws.{weigh, weigh-same, weigh-none, how_often-where, one, one-out, same-is}
-use Rattle.fw_model.proofs.SentLaws.{timed_of, timed_message, delivered-lighter, quiet-delivered}
-use Rattle.fw_model.proofs.TimedCounts.{family-weigh, bag-ascending, how_often-recs_at, sorted-is}
-use Rattle.fw_model.proofs.StampMeasures.{by_below, counter_in, IsEarlier, earlier-sends}
-use Rattle.fw_model.proofs.ArrivalLaws.{in_edges-receive, deliveries-weigh, together-weigh}
-use Rattle.fw_model.proofs.InputLaws.{sum_to, batch_weight, batches-weigh, input-equal, sent-weigh}
-use Rattle.fw_model.proofs.OneByOneLaws.{one_weight, one-sent, one-outputs, timed-at, one-fewer}
+use Rattle.fw_model.proofs.SendingLaws.{phi-by_stamp, phi-in_domain}
+use Rattle.fw_model.proofs.SequenceLaws.{bounds-sequence, count-le_length, no_inject, sent_by-sequence, phi-sequence}
+use Rattle.fw_model.proofs.LegalLaws.{edge_domains, only_inputs_inject}
+use Rattle.fw_model.proofs.CompleteLaws.{sender_sorts}
+use Rattle.fw_model.proofs.OrderLaws.{either_way}
+use Rattle.fw_model.proofs.WeightLaws.{weigh, weigh-append, weigh-same, weigh-none, one}
+use Rattle.fw_model.proofs.SentLaws.{timed_of, quiet-delivered}
+use Rattle.fw_model.proofs.TimedLaws.{ascending-in_order}
+use Rattle.fw_model.proofs.TimedCounts.{in_order-weigh, family-weigh}
+use Rattle.fw_model.proofs.StampMeasures.{IsEarlier, earlier-unlooped}
+use Rattle.fw_model.proofs.ArrivalLaws.{deliveries, deliveries-weigh, together-weigh}
+use Rattle.fw_model.proofs.InputLaws.{input-equal}
+use Rattle.fw_model.proofs.NotifiedLaws.{none_came}
+use Rattle.fw_model.proofs.KindLaws.{is_inner, AgreeFor, outputs-same, arrives, delivered_bag}
+use Rattle.fw_model.proofs.SequencedLaws.{IsMember, each_member, filter-none, filter-all, filter-parts, Precedes, numbered-append, numbered-from, length-weigh, length-messages}
+use Rattle.fw_model.proofs.DomainLaws.{sort_of, inner_edge, sequence_edge, output-sent, output-outputs, edge-bounds, EdgeStamp, along, from_earlier, each_in_edge, denoted-in_domain, delivered-in_domain, has_epochs}
 
 two_ways : (b : Bool) → b ≡ true → b ≡ false → ⊥
 two_ways b p q = cc
 
--- ---- sorts of kinds
-
--- the kind is an input's, an output's, or sends for each rec alone
-abbrev pub Sort : Kind → Type 0
-Sort kind = (kind ≡ Input) ⊎ ((is_output_kind kind ≡ true) ⊎ (sends_one_by_one kind ≡ true))
-
-input-is : (kind : Kind) → is_input_kind kind ≡ true → kind ≡ Input
-input-is Input k = refl
-input-is kind k = absurd (cc)
-
-pub sort_of : (flow : Dataflow) → IsOneByOne flow → (p : ℕ) → Sort (kind_of flow p)
-sort_of flow k p =
-    let kind = kind_of flow p in
-    elim (or_cases (is_input_kind kind || is_output_kind kind) (sends_one_by_one kind) (k p)) [
-      | inl a ↦ elim (or_cases (is_input_kind kind) (is_output_kind kind) a) [ inl b ↦ inl (input-is kind b) | inr b ↦ inr (inl b) ]
-      | inr a ↦ inr (inr a)
-    ]
-
--- ---- outputs
-
-output-sends : (sys : System) (kind : Kind) → is_output_kind kind ≡ true → (w : Timed → ℕ) (before : List Event) (v : Event) → weigh w (timed_of (sends_of_kind sys kind before v)) ≡ 0
-unfolding weigh
-output-sends sys OutputEpoch k w before v = refl
-output-sends sys OutputNumber k w before v = refl
-output-sends sys kind k w before v = absurd (cc)
-
-pub output-sent : (sys : System) (p : ℕ) → is_output_kind (kind_of sys.flow p) ≡ true → (w : Timed → ℕ) (vs : List Event) → weigh w (timed_of (sent_by sys p vs)) ≡ 0
-unfolding weigh sends
-output-sent sys p k w [] = refl
-output-sent sys p k w (v ∷ vs) =
-    let a = sent-weigh sys p w v vs in
-    let b = output-sends sys (kind_of sys.flow p) k w vs v in
-    let c = output-sent sys p k w vs in
-    omega arith
-
-output-outputs : (flow : Dataflow) (kind : Kind) → is_output_kind kind ≡ true → (w : Timed → ℕ) (batches : List (List Rec)) (bags : List (List Timed))
-    → weigh w (outputs_of_kind flow kind batches bags) ≡ 0
-unfolding weigh
-output-outputs flow OutputEpoch k w batches bags = refl
-output-outputs flow OutputNumber k w batches bags = refl
-output-outputs flow kind k w batches bags = absurd (cc)
-
--- ---- the bags of the denotation are in the domains of their edges
-
-edge-bounds : (flow : Dataflow) → IsWellFormed flow → (d : ℕ) (t : Stamp) → in_domain (bounds_of_edge flow d) t ≡ in_domain (bounds_of flow (receiver flow d)) t
-unfolding bounds_of
-edge-bounds flow w d t = ap (λ x. in_domain (bounds_of_domain flow x) t) (edge_domains flow w d)
-
--- an edge and a stamp on it
-abbrev EdgeStamp : Type 0
-EdgeStamp = ℕ × Stamp
-
--- the induction over edges and stamps
-along : (flow : Dataflow) → IsWellFormed flow → (P : EdgeStamp → Type 0)
-    → ((r : Ranks flow) (e : ℕ) (t : Stamp) → ((d : ℕ) (u : Stamp) → IsEarlier flow r (receiver flow d) u (receiver flow e) t → P (d, u)) → P (e, t))
-    → (e : ℕ) (t : Stamp) → P (e, t)
-along flow w P step e t =
-    let r = ranks-exist flow w in
-    by_below {A = EdgeStamp} (λ x. r.lambda (receiver flow x.0)) (λ x. counter_in (domain_of flow (receiver flow x.0)) x.1) (λ x. r.rho (receiver flow x.0)) P
-    (λ x ih. step r x.0 x.1 (λ d u i. ih (d, u) i)) (e, t)
-
--- the bag has nothing at the stamp
-abbrev pub HasNoneAt : List Timed → Stamp → Type 0
-HasNoneAt xs t = (q : Rec) → weigh (one t q) xs ≡ 0
-
-sum_to-none : (n : ℕ) (f : ℕ → ℕ) → ((x : ℕ) → x < n → f x ≡ 0) → sum_to n f ≡ 0
-unfolding sum_to
-sum_to-none zero f z = refl
-sum_to-none (suc n) f z = let a = z n (omega arith) in let b = sum_to-none n f (λ x l. z x (omega arith)) in omega arith
-
-positive : (n : ℕ) → (0 < n → ⊥) → n ≡ 0
-positive zero k = refl
-positive (suc n) k = absurd (k (omega arith))
-
-input-in_domain : (sys : System) → IsWellFormedSystem sys → (p : ℕ) → kind_of sys.flow p ≡ Input → (t : Stamp)
-    → in_domain (bounds_of_domain sys.flow (out_domain_of sys.flow p)) t ≡ false → HasNoneAt (timed_batches 0 (batches_of sys p)) t
-input-in_domain sys w p is t o q =
-    let batches = batches_of sys p in
-    let few = w.few p in
-    batches-weigh (one t q) batches
-    ∙ sum_to-none (length batches) (batch_weight (one t q) batches) (λ x l. positive _ (λ i.
-    let at = timed-at t (x ∷ []) q (slice_index_or batches x []) i in
-    two_ways (in_domain (bounds_of_domain sys.flow (out_domain_of sys.flow p)) t)
-    (ap (λ s. in_domain (bounds_of_domain sys.flow (out_domain_of sys.flow p)) s) at
-    ∙ ap (λ k. in_domain (bounds_of_domain sys.flow (out_domain_of_kind sys.flow k)) (x ∷ [])) is ∙ line-leq x greatest_number (omega arith)) o))
-
--- what holds of each in-edge
-pub each_in_edge : (flow : Dataflow) (p : ℕ) (P : ℕ → Type 0) → ((d : ℕ) → receiver flow d ≡ p → P d) → AllByRecursion P (in_edges flow p)
-each_in_edge flow p P k = each-weaker (λ d. (d < length flow.edges) × (receiver flow d ≡ p)) P (in_edges flow p) (λ d a. k d a.1) (in_edges-receive flow p)
-
--- an edge whose sender sends for each rec alone is one of the dataflow
-pub real_edge : (flow : Dataflow) (e : ℕ) → sends_one_by_one (kind_of flow (sender flow e)) ≡ true → e < length flow.edges
-real_edge flow e k = elim (cases_lt e (length flow.edges)) [
-  | inl l ↦ l
-  | inr l ↦ absurd (two_ways (sends_one_by_one (kind_of flow (sender flow e))) k (ap sends_one_by_one (past_edges-idle flow e l)))
-]
-
--- the family is in the domain at places below
-abbrev IsInDomainAt : System → Family → EdgeStamp → Type 0
-IsInDomainAt sys family x = in_domain (bounds_of_edge sys.flow x.0) x.1 ≡ false → HasNoneAt (family x.0) x.1
-
-one-in_domain : (sys : System) (family : Family) → IsWellFormed sys.flow → (e : ℕ) (t : Stamp) → sends_one_by_one (kind_of sys.flow (sender sys.flow e)) ≡ true
-    → in_domain (bounds_of_edge sys.flow e) t ≡ false
-    → ((d : ℕ) (u : Stamp) → receiver sys.flow d ≡ sender sys.flow e → send_stamp sys.flow (sender sys.flow e) u ≡ Some t → IsInDomainAt sys family (d, u))
-    → HasNoneAt (outputs_of_kind sys.flow (kind_of sys.flow (sender sys.flow e)) (batches_of sys (sender sys.flow e)) (map family (in_edges sys.flow (sender sys.flow e)))) t
-unfolding weigh
-one-in_domain sys family w e t is o ih x =
-    let flow = sys.flow in
-    let q = sender flow e in
-    let kind = kind_of flow q in
-    let weight = one_weight flow kind (one t x) in
-    one-outputs flow kind is (one t x) (batches_of sys q) (map family (in_edges flow q))
-    ∙ together-weigh weight family (in_edges flow q)
-    ∙ weigh-none (λ c. weigh weight (family c)) (in_edges flow q)
-    (each_in_edge flow q (λ c. weigh weight (family c) ≡ 0) (λ c at.
-    let less = one-fewer flow kind t x (family c) [] (λ u s i.
-    elim (cases_Bool (in_domain (bounds_of flow q) u)) [
-      | inl j ↦ absurd (two_ways (in_domain (bounds_of_edge flow e) t) (send_stamp-in_domain flow q u t j i) o)
-      | inr j ↦
-          let none = ih c u at i (edge-bounds flow w c u ∙ ap (λ n. in_domain (bounds_of flow n) u) at ∙ j) s in
-          omega arith
-    ]) in
-    omega arith))
-
--- the induction's hypothesis at the in-edges of the sender
-from_earlier : (flow : Dataflow) → IsWellFormed flow → (r : Ranks flow) (P : EdgeStamp → Type 0) (e : ℕ) (t : Stamp) → e < length flow.edges
-    → ((d : ℕ) (u : Stamp) → IsEarlier flow r (receiver flow d) u (receiver flow e) t → P (d, u))
-    → (d : ℕ) (u s : Stamp) → receiver flow d ≡ sender flow e → send_stamp flow (sender flow e) u ≡ Some s → leq s t ≡ true → P (d, u)
-from_earlier flow w r P e t l ih d u s at i k =
-    ih d u (subst (λ n. IsEarlier flow r n u (receiver flow e) t) (sym at) (earlier-sends flow w r e l u s t i k))
-
-denoted-step : (sys : System) (family : Family) → IsWellFormedSystem sys → IsOneByOne sys.flow → IsDenotation sys family
-    → (r : Ranks sys.flow) (e : ℕ) (t : Stamp) → ((d : ℕ) (u : Stamp) → IsEarlier sys.flow r (receiver sys.flow d) u (receiver sys.flow e) t → IsInDomainAt sys family (d, u))
-    → IsInDomainAt sys family (e, t)
-denoted-step sys family w k d r e t ih o x =
-    let flow = sys.flow in
-    let q = sender flow e in
-    let kind = kind_of flow q in
-    let batches = batches_of sys q in
-    let bags = map family (in_edges flow q) in
-    family-weigh sys family d e (one t x) ∙ elim (sort_of flow k q) [
-      | inl is ↦ ap (λ z. weigh (one t x) (outputs_of_kind flow z batches bags)) is ∙ input-in_domain sys w q is t o x
-      | inr (inl is) ↦ output-outputs flow kind is (one t x) batches bags
-      | inr (inr is) ↦
-          one-in_domain sys family w.flow e t is o
-          (λ c u at i. from_earlier flow w.flow r (IsInDomainAt sys family) e t (real_edge flow e is) ih c u t at i (leq-refl t)) x
-    ]
-
--- the denotation has nothing outside the domain of an edge
-pub denoted-in_domain : (sys : System) (family : Family) → IsWellFormedSystem sys → IsOneByOne sys.flow → IsDenotation sys family
-    → (e : ℕ) (t : Stamp) → IsInDomainAt sys family (e, t)
-denoted-in_domain sys family w k d e t = along sys.flow w.flow (IsInDomainAt sys family) (denoted-step sys family w k d) e t
-
--- ---- inside phi
-
-has_epochs : (sys : System) → IsWellFormedSystem sys → HasEpochs sys
-has_epochs sys w p = let a = w.few p in omega arith
-
-messages-weigh_none : (flow : Dataflow) (e : ℕ) (t : Stamp) (q : Rec) → in_domain (bounds_of_edge flow e) t ≡ false → (ms : List Message)
-    → AllByRecursion (λ (m : Message). in_domain (bounds_of_edge flow e) m.at ≡ true) ms → weigh (one t q) (timed_of ms) ≡ 0
-unfolding weigh
-messages-weigh_none flow e t q o [] a = refl
-messages-weigh_none flow e t q o (m ∷ ms) a =
-    let h = messages-weigh_none flow e t q o ms a.1 in
-    let z = one-out t q (timed_message m) (elim (cases_Bool (same t m.at)) [
-      | inl i ↦ absurd (two_ways (in_domain (bounds_of_edge flow e) t) (ap (in_domain (bounds_of_edge flow e)) (same-is t m.at i) ∙ a.0) o)
-      | inr i ↦ ap (λ b. b && is_eq (rec_cmp q m.rec)) i
-    ]) in
-    omega arith
-
--- in a legal history nothing was delivered outside the domain of an edge
-pub delivered-in_domain : (sys : System) (h : List Event) → IsWellFormedSystem sys → IsLegal sys h → (e : ℕ) (t : Stamp)
-    → in_domain (bounds_of_edge sys.flow e) t ≡ false → HasNoneAt (timed_of (delivered h e)) t
-delivered-in_domain sys h w l e t o q =
-    let a = delivered-lighter sys h l e (one t q) in
-    let b = messages-weigh_none sys.flow e t q o (sent sys h e) (legal_messages-in_domain sys h w.flow (has_epochs sys w) l e) in
-    omega arith
-
 -- what was sent on the edge at the stamp is what the family has there
-abbrev IsDenotedAt : System → List Event → Family → (ℕ → Frontier) → EdgeStamp → Type 0
+abbrev pub IsDenotedAt : System → List Event → Family → (ℕ → Frontier) → EdgeStamp → Type 0
 IsDenotedAt sys h family done x =
     phi sys h x.0 (done (sender sys.flow x.0)) x.1 ≡ true → (q : Rec) → weigh (one x.1 q) (timed_of (sent sys h x.0)) ≡ weigh (one x.1 q) (family x.0)
+
+-- what was delivered at a stamp inside is what was sent, and so what the family has
+pub delivered-denoted : (sys : System) (h : List Event) (family : Family) → IsLegal sys h → (done : ℕ → Frontier) → IsAdmissible sys h done
+    → (d : ℕ) (u : Stamp) → IsDenotedAt sys h family done (d, u) → done (receiver sys.flow d) u ≡ true
+    → (q : Rec) → weigh (one u q) (timed_of (delivered h d)) ≡ weigh (one u q) (family d)
+delivered-denoted sys h family l done a d u k i q =
+    quiet-delivered sys h l d u (a.quiet (receiver sys.flow d) u i d refl) q ∙ k (a.follows d u i) q
+
+-- ---- a sequence
+
+-- the whole bag that comes to a node
+abbrev pub whole : System → Family → ℕ → List Timed
+whole sys family p = together (map family (in_edges sys.flow p))
+
+-- whether the node was notified of the stamp of a timed rec
+abbrev pub is_numbered_in : List Event → ℕ → Timed → Bool
+is_numbered_in h p r = was_notified p r.at h
+
+-- A sequence numbered a first part of its whole bag in order: the recs at the stamps that it was notified of, below which
+-- no stamp with recs was left out.
+pub record IsSequenced (sys : System) (h : List Event) (family : Family) (p : ℕ) : Type 0 where
+  pub sure : (s u : Stamp) (r : Rec) → was_notified p s h ≡ true → leq u s ≡ true → 0 < weigh (one u r) (whole sys family p) → was_notified p u h ≡ true
+  pub sent : (w : Timed → ℕ) → weigh w (timed_of (sequence_sent (events_at sys.flow p h))) ≡ weigh w (numbered 0 (filter (is_numbered_in h p) (in_order (whole sys family p))))
+
+pub whole-in_domain : (sys : System) (family : Family) → IsWellFormedSystem sys → IsDenotation sys family → (p : ℕ) (u : Stamp) (r : Rec)
+    → 0 < weigh (one u r) (whole sys family p) → in_domain (bounds_of sys.flow p) u ≡ true
+whole-in_domain sys family w den p u r l = elim (cases_Bool (in_domain (bounds_of sys.flow p) u)) [
+  | inl j ↦ j
+  | inr j ↦
+      let z = together-weigh (one u r) family (in_edges sys.flow p)
+      ∙ weigh-none (λ d. weigh (one u r) (family d)) (in_edges sys.flow p)
+      (each_in_edge sys.flow p (λ d. weigh (one u r) (family d) ≡ 0)
+      (λ d at. denoted-in_domain sys family w den d u (edge-bounds sys.flow w.flow d u ∙ ap (λ n. in_domain (bounds_of sys.flow n) u) at ∙ j) r)) in
+      absurd (omega arith)
+]
+
+pub ordered-member : (xs : List Timed) (r : Timed) → IsMember r (in_order xs) → 0 < weigh (one r.at r.rec) xs
+ordered-member xs r l = let a = in_order-weigh (one r.at r.rec) xs in omega arith
+
+-- ---- one stamp after another
+
+gt_then : (o p : Ordering) → is_gt o ≡ true → is_gt (ordering_then o p) ≡ true
+gt_then Less p k = cc
+gt_then Equal p k = cc
+gt_then Greater p k = refl
+
+lt_reverse : (o : Ordering) → is_lt o ≡ true → is_gt (ordering_reverse o) ≡ true
+lt_reverse Less k = refl
+lt_reverse Equal k = cc
+lt_reverse Greater k = cc
+
+-- a timed rec at a greater stamp comes after
+pub comes_after : (r q : Timed) → leq r.at q.at ≡ true → leq q.at r.at ≡ false → is_gt (timed_cmp q r) ≡ true
+comes_after r q l o =
+    gt_then (stamp_cmp q.at r.at) _ (ap is_gt (nat_list_cmp_total.antisymm q.at r.at) ∙ lt_reverse (stamp_cmp r.at q.at) (before-from_leq r.at q.at l o))
+
+-- epochs are comparable
+pub epochs_compare : (sys : System) (p : ℕ) → kind_of sys.flow p ≡ Sequence → (s t : Stamp) → in_domain (bounds_of sys.flow p) s ≡ true
+    → in_domain (bounds_of sys.flow p) t ≡ true → (leq s t ≡ true) ⊎ (leq t s ≡ true)
+epochs_compare sys p is s t i j =
+    let line : (u : Stamp) → in_domain (bounds_of sys.flow p) u ≡ true → leq u (greatest_number ∷ []) ≡ true =
+    λ u d. sym (ap (λ b. in_domain b u) (bounds-sequence sys.flow p is)) ∙ d in
+    either_way greatest_number s t (line s i) (line t j)
+
+-- ---- the first part and the rest
+
+-- whether the node was not notified of it
+not_numbered : List Event → ℕ → Timed → Bool
+not_numbered h p r = not (was_notified p r.at h)
+
+numbered_first : (sys : System) (h : List Event) (family : Family) → IsWellFormedSystem sys → IsDenotation sys family → (p : ℕ) → kind_of sys.flow p ≡ Sequence
+    → IsSequenced sys h family p → Precedes (is_numbered_in h p) (not_numbered h p) (in_order (whole sys family p))
+unfolding not_numbered
+numbered_first sys h family w den p is s r q i j k l =
+    let xs = whole sys family p in
+    let a = ordered-member xs r i in
+    let b = ordered-member xs q j in
+    let o : leq q.at r.at ≡ false = elim (cases_Bool (leq q.at r.at)) [
+      | inl c ↦ absurd (two_ways (was_notified p q.at h) (s.sure r.at q.at q.rec k c b) (not-false (was_notified p q.at h) l))
+      | inr c ↦ c
+    ] in
+    elim (epochs_compare sys p is r.at q.at (whole-in_domain sys family w den p r.at r.rec a) (whole-in_domain sys family w den p q.at q.rec b)) [
+      | inl c ↦ comes_after r q c o
+      | inr c ↦ absurd (two_ways (leq q.at r.at) c o)
+    ]
+  where
+    not-false : (b : Bool) → not b ≡ true → b ≡ false
+    not-false true k = cc
+    not-false false k = refl
+
+either : (b : Bool) → (not b || b) ≡ true
+either true = refl
+either false = refl
+
+numbered_parts : (sys : System) (h : List Event) (family : Family) → IsWellFormedSystem sys → IsDenotation sys family → (p : ℕ) → kind_of sys.flow p ≡ Sequence
+    → IsSequenced sys h family p
+    → let xs = in_order (whole sys family p) in xs ≡ filter (is_numbered_in h p) xs ++ filter (not_numbered h p) xs
+unfolding not_numbered
+numbered_parts sys h family w den p is s =
+    let xs = in_order (whole sys family p) in
+    sym (filter-all (λ r. not_numbered h p r || is_numbered_in h p r) xs (each_member (λ r. (not_numbered h p r || is_numbered_in h p r) ≡ true) xs (λ r i. either (was_notified p r.at h))))
+    ∙ filter-parts (is_numbered_in h p) (not_numbered h p) xs (ascending-in_order (whole sys family p)) (numbered_first sys h family w den p is s)
+
+sequence-sent_by : (sys : System) (h : List Event) → IsLegal sys h → (p : ℕ) → kind_of sys.flow p ≡ Sequence
+    → sent_by sys p (events_at sys.flow p h) ≡ sequence_sent (events_at sys.flow p h)
+sequence-sent_by sys h l p is =
+    sent_by-sequence sys p is (events_at sys.flow p h) (no_inject sys.flow p h (only_inputs_inject sys h l p (ap is_input_kind is)))
+
+-- the recs that a sequence has not numbered yet
+rest_of : System → List Event → Family → ℕ → List Timed
+rest_of sys h family p = filter (not_numbered h p) (in_order (whole sys family p))
+
+-- what the family has on an out-edge of a sequence: what was sent, and the rest at the numbers that follow
+record SequenceParts (sys : System) (h : List Event) (family : Family) (e : ℕ) (w : Timed → ℕ) : Type 0 where
+  pub next : ℕ
+  pub rest : ℕ
+  pub counted : next ≡ length (sent_by sys (sender sys.flow e) (events_at sys.flow (sender sys.flow e) h))
+  pub rested : rest ≡ weigh w (numbered next (rest_of sys h family (sender sys.flow e)))
+  pub parts : weigh w (family e) ≡ weigh w (timed_of (sent sys h e)) + rest
+
+sequence-parts : (sys : System) (h : List Event) (family : Family) → IsWellFormedSystem sys → IsLegal sys h → IsDenotation sys family
+    → (e : ℕ) → kind_of sys.flow (sender sys.flow e) ≡ Sequence → IsSequenced sys h family (sender sys.flow e) → (w : Timed → ℕ) → SequenceParts sys h family e w
+unfolding rest_of not_numbered
+sequence-parts sys h family w l den e is s f =
+    let flow = sys.flow in
+    let p = sender flow e in
+    let xs = in_order (whole sys family p) in
+    let first = filter (is_numbered_in h p) xs in
+    let rest = filter (not_numbered h p) xs in
+    let n = length (numbered 0 first) in
+    let z : 0 + n ≡ n = omega arith in
+    let as_sent = sequence-sent_by sys h l p is in
+    let a = family-weigh sys family den e f
+    ∙ ap (λ k. weigh f (outputs_of_kind flow k (batches_of sys p) (map family (in_edges flow p)))) is
+    ∙ ap (λ ys. weigh f (numbered 0 ys)) (numbered_parts sys h family w den p is s)
+    ∙ ap (weigh f) (numbered-append 0 first rest)
+    ∙ weigh-append f (numbered 0 first) (numbered (0 + n) rest) in
+    let b = ap (λ k. weigh f (numbered k rest)) z in
+    let c = ap (λ ms. weigh f (timed_of ms)) as_sent ∙ s.sent f in
+    let counted : n ≡ length (sent_by sys p (events_at flow p h)) =
+    sym (length-weigh (numbered 0 first)) ∙ sym (s.sent (λ r. 1)) ∙ length-messages (sequence_sent (events_at flow p h)) ∙ sym (ap (λ ms. length ms) as_sent) in
+    record { next = n; rest = weigh f (numbered n rest); counted = counted; rested = refl; parts = omega arith }
+
+-- what a sequence sent is a part of what the family has
+pub sequence-fewer : (sys : System) (h : List Event) (family : Family) → IsWellFormedSystem sys → IsLegal sys h → IsDenotation sys family
+    → (e : ℕ) → kind_of sys.flow (sender sys.flow e) ≡ Sequence → IsSequenced sys h family (sender sys.flow e) → (w : Timed → ℕ)
+    → weigh w (timed_of (sent sys h e)) ≤ weigh w (family e)
+sequence-fewer sys h family w l den e is s f = let a = (sequence-parts sys h family w l den e is s f).parts in omega arith
+
+-- what was delivered to a node, and its whole bag
+pub came_as_denoted : (sys : System) (h : List Event) (family : Family) (p : ℕ) → p < length sys.flow.nodes → (u : Stamp)
+    → ((d : ℕ) → receiver sys.flow d ≡ p → (q : Rec) → weigh (one u q) (timed_of (delivered h d)) ≡ weigh (one u q) (family d))
+    → (q : Rec) → weigh (one u q) (deliveries (events_at sys.flow p h)) ≡ weigh (one u q) (whole sys family p)
+came_as_denoted sys h family p l u k q =
+    let flow = sys.flow in
+    deliveries-weigh flow p l (one u q) h
+    ∙ weigh-same (λ d. weigh (one u q) (timed_of (delivered h d))) (λ d. weigh (one u q) (family d)) (in_edges flow p)
+    (each_in_edge flow p (λ d. weigh (one u q) (timed_of (delivered h d)) ≡ weigh (one u q) (family d)) (λ d at. k d at q))
+    ∙ sym (together-weigh (one u q) family (in_edges flow p))
+
+-- a node that is owed nothing at a stamp where a rec came was notified
+pub paid-notified : (sys : System) (h : List Event) (p : ℕ) (u : Stamp) (q : Rec) → is_notified_kind (kind_of sys.flow p) ≡ true
+    → owed sys h p u ≡ false → 0 < weigh (one u q) (deliveries (events_at sys.flow p h)) → was_notified p u h ≡ true
+paid-notified sys h p u q n o l = elim (cases_Bool (was_delivered_to sys.flow p u h)) [
+  | inl i ↦ cases (is_notified_kind (kind_of sys.flow p)) (was_delivered_to sys.flow p u h) (was_notified p u h) n i o
+  | inr i ↦ let z = none_came sys.flow p u h i q in absurd (omega arith)
+]
+  where
+    cases : (a b c : Bool) → a ≡ true → b ≡ true → (a && b && not c) ≡ false → c ≡ true
+    cases true true true i j k = refl
+    cases true true false i j k = cc
+    cases true false c i j k = cc
+    cases false b c i j k = cc
+
+-- inside phi a sequence sent what the family has
+sequence-step : (sys : System) (h : List Event) (family : Family) → IsWellFormedSystem sys → IsLegal sys h → IsDenotation sys family
+    → (done : ℕ → Frontier) → IsAdmissible sys h done → (e : ℕ) → kind_of sys.flow (sender sys.flow e) ≡ Sequence → IsSequenced sys h family (sender sys.flow e)
+    → ((d : ℕ) (u : Stamp) → receiver sys.flow d ≡ sender sys.flow e → IsDenotedAt sys h family done (d, u))
+    → (t : Stamp) → phi sys h e (done (sender sys.flow e)) t ≡ true
+    → (q : Rec) → weigh (one t q) (timed_of (sent sys h e)) ≡ weigh (one t q) (family e)
+unfolding rest_of not_numbered weigh
+sequence-step sys h family w l den done a e is s ih t i q =
+    let flow = sys.flow in
+    let p = sender flow e in
+    let b = sequence-parts sys h family w l den e is s (one t q) in
+    let bp = b.parts in
+    let br = b.rested in
+    let bc = b.counted in
+    elim (phi-sequence sys h e (done p) t is i) [
+      | inr c ↦
+          let fewer = count-le_length (done p) (sent_by sys p (events_at flow p h)) in
+          let z = numbered-from b.next (rest_of sys h family p) t q (omega arith) in
+          omega arith
+      | inl c ↦
+          let xs = in_order (whole sys family p) in
+          let fr = a.frontier p in
+          let none : rest_of sys h family p ≡ [] = filter-none (not_numbered h p) xs (each_member (λ r. not_numbered h p r ≡ false) xs (λ r m.
+          let there = ordered-member (whole sys family p) r m in
+          let d = whole-in_domain sys family w den p r.at r.rec there in
+          let inside = fr.closed r.at (greatest_number ∷ []) d (sym (ap (λ z. in_domain z r.at) (bounds-sequence flow p is)) ∙ d) c in
+          let came = came_as_denoted sys h family p (w.flow.senders_declared e (sequence_edge flow e is)) r.at
+          (λ k at x. delivered-denoted sys h family l done a k r.at (ih k r.at at) (ap (λ n. done n r.at) at ∙ inside) x) r.rec in
+          ap not (paid-notified sys h p r.at r.rec (ap is_notified_kind is) (a.paid p r.at inside) (omega arith)))) in
+          let z : weigh (one t q) (numbered b.next (rest_of sys h family p)) ≡ 0 = ap (λ ys. weigh (one t q) (numbered b.next ys)) none in
+          omega arith
+    ]
+
+-- ---- inside phi
 
 input-phi : (sys : System) (h : List Event) (e : ℕ) (f : Frontier) (t : Stamp) → kind_of sys.flow (sender sys.flow e) ≡ Input → phi sys h e f t ≡ true → f t ≡ true
 unfolding phi
@@ -232,28 +264,21 @@ input-phi sys h e f t is k =
     let a = and_parts _ (phi_of_kind (greatest_of_kind sys.flow (kind_of sys.flow q)) (kind_of sys.flow q) count f t) k in
     sym (ap (λ kind. phi_of_kind (greatest_of_kind sys.flow kind) kind count f t) is) ∙ a.1
 
-one-sends_by_stamp : (sys : System) → IsWellFormed sys.flow → (e : ℕ) → sends_one_by_one (kind_of sys.flow (sender sys.flow e)) ≡ true
+inner-sends_by_stamp : (sys : System) → IsWellFormed sys.flow → (e : ℕ) → is_inner (kind_of sys.flow (sender sys.flow e)) ≡ true
     → SendsByStamp sys.flow (kind_of sys.flow (sender sys.flow e))
-one-sends_by_stamp sys w e is = elim (sender_sorts sys.flow w e) [
-  | inl (inl s) ↦ absurd (two_ways (sends_one_by_one (kind_of sys.flow (sender sys.flow e))) is (ap sends_one_by_one s))
+inner-sends_by_stamp sys w e is = elim (sender_sorts sys.flow w e) [
+  | inl (inl s) ↦ absurd (two_ways (is_inner (kind_of sys.flow (sender sys.flow e))) is (ap is_inner s))
   | inl (inr s) ↦ s
-  | inr s ↦ absurd (two_ways (sends_one_by_one (kind_of sys.flow (sender sys.flow e))) is (ap sends_one_by_one s))
+  | inr s ↦ absurd (two_ways (is_inner (kind_of sys.flow (sender sys.flow e))) is (ap is_inner s))
 ]
 
--- what was delivered at a stamp inside is what was sent, and so what the family has
-pub delivered-denoted : (sys : System) (h : List Event) (family : Family) → IsLegal sys h → (done : ℕ → Frontier) → IsAdmissible sys h done
-    → (d : ℕ) (u : Stamp) → IsDenotedAt sys h family done (d, u) → done (receiver sys.flow d) u ≡ true
-    → (q : Rec) → weigh (one u q) (timed_of (delivered h d)) ≡ weigh (one u q) (family d)
-delivered-denoted sys h family l done a d u k i q =
-    quiet-delivered sys h l d u (a.quiet (receiver sys.flow d) u i d refl) q ∙ k (a.follows d u i) q
-
 -- what was delivered on an in-edge of the sender is what the family has, at each stamp that sends at t or below
-delivered-read : (sys : System) (h : List Event) (family : Family) → IsWellFormedSystem sys → IsOneByOne sys.flow → IsLegal sys h → IsDenotation sys family
+delivered-read : (sys : System) (h : List Event) (family : Family) → IsWellFormedSystem sys → IsLegal sys h → IsDenotation sys family
     → (done : ℕ → Frontier) → IsAdmissible sys h done → (e : ℕ) (t : Stamp) → SendsByStamp sys.flow (kind_of sys.flow (sender sys.flow e))
     → phi sys h e (done (sender sys.flow e)) t ≡ true
     → (d : ℕ) (u s : Stamp) → IsDenotedAt sys h family done (d, u) → receiver sys.flow d ≡ sender sys.flow e → send_stamp sys.flow (sender sys.flow e) u ≡ Some s → leq s t ≡ true
     → (q : Rec) → weigh (one u q) (timed_of (delivered h d)) ≡ weigh (one u q) (family d)
-delivered-read sys h family w k l den done a e t by i d u s before at sends_at below q =
+delivered-read sys h family w l den done a e t by i d u s before at sends_at below q =
     let flow = sys.flow in
     let p = sender flow e in
     elim (cases_Bool (in_domain (bounds_of flow p) u)) [
@@ -262,65 +287,70 @@ delivered-read sys h family w k l den done a e t by i d u s before at sends_at b
           delivered-denoted sys h family l done a d u before (ap (λ n. done n u) at ∙ inside) q
       | inr j ↦
           let o = edge-bounds flow w.flow d u ∙ ap (λ n. in_domain (bounds_of flow n) u) at ∙ j in
-          delivered-in_domain sys h w l d u o q ∙ sym (denoted-in_domain sys family w k den d u o q)
+          delivered-in_domain sys h w l d u o q ∙ sym (denoted-in_domain sys family w den d u o q)
     ]
 
-one-step : (sys : System) (h : List Event) (family : Family) → IsWellFormed sys.flow → (e : ℕ) (t : Stamp) → e < length sys.flow.edges
-    → sends_one_by_one (kind_of sys.flow (sender sys.flow e)) ≡ true
-    → ((d : ℕ) (u : Stamp) → receiver sys.flow d ≡ sender sys.flow e → send_stamp sys.flow (sender sys.flow e) u ≡ Some t
-    → (q : Rec) → weigh (one u q) (timed_of (delivered h d)) ≡ weigh (one u q) (family d))
-    → (q : Rec) → weigh (one t q) (timed_of (sent sys h e))
-    ≡ weigh (one t q) (outputs_of_kind sys.flow (kind_of sys.flow (sender sys.flow e)) (batches_of sys (sender sys.flow e)) (map family (in_edges sys.flow (sender sys.flow e))))
-one-step sys h family w e t l is ih q =
-    let flow = sys.flow in
-    let p = sender flow e in
-    let kind = kind_of flow p in
-    let weight = one_weight flow kind (one t q) in
-    one-sent sys p is (one t q) (events_at flow p h)
-    ∙ deliveries-weigh flow p (w.senders_declared e l) weight h
-    ∙ weigh-same (λ d. weigh weight (timed_of (delivered h d))) (λ d. weigh weight (family d)) (in_edges flow p)
-    (each_in_edge flow p (λ d. weigh weight (timed_of (delivered h d)) ≡ weigh weight (family d)) (λ d at.
-    let a = one-fewer flow kind t q (timed_of (delivered h d)) (family d) (λ u r i. let b = ih d u at i r in omega arith) in
-    let c = one-fewer flow kind t q (family d) (timed_of (delivered h d)) (λ u r i. let b = ih d u at i r in omega arith) in
-    omega arith))
-    ∙ sym (together-weigh weight family (in_edges flow p))
-    ∙ sym (one-outputs flow kind is (one t q) (batches_of sys p) (map family (in_edges flow p)))
+-- phi of a node that waits for notifications, but for a sequence, is the frontier itself
+notified-phi : (sys : System) (h : List Event) (e : ℕ) (f : Frontier) (t : Stamp) (kind : Kind) → kind_of sys.flow (sender sys.flow e) ≡ kind
+    → is_notified_kind kind ≡ true → is_inner kind ≡ true → phi sys h e f t ≡ true → f t ≡ true
+unfolding phi
+notified-phi sys h e f t kind is n k i =
+    let q = sender sys.flow e in
+    let count = sent_count sys h q f in
+    let a = and_parts _ (phi_of_kind (greatest_of_kind sys.flow (kind_of sys.flow q)) (kind_of sys.flow q) count f t) i in
+    cases kind n k (sym (ap (λ z. phi_of_kind (greatest_of_kind sys.flow z) z count f t) is) ∙ a.1)
+  where
+    cases : (kind : Kind) → is_notified_kind kind ≡ true → is_inner kind ≡ true → phi_of_kind (greatest_of_kind sys.flow kind) kind (sent_count sys h (sender sys.flow e) f) f t ≡ true → f t ≡ true
+    cases (Sum m) n k i = i
+    cases Total n k i = i
+    cases kind n k i = absurd (cc)
 
-sent-step : (sys : System) (h : List Event) (family : Family) → IsWellFormedSystem sys → IsOneByOne sys.flow → IsLegal sys h → IsDenotation sys family
+-- the sender of the edge is owed nothing at a stamp inside phi, where it is no sequence
+inner-paid : (sys : System) (h : List Event) → (done : ℕ → Frontier) → IsAdmissible sys h done → (e : ℕ) (t : Stamp)
+    → is_inner (kind_of sys.flow (sender sys.flow e)) ≡ true → phi sys h e (done (sender sys.flow e)) t ≡ true → owed sys h (sender sys.flow e) t ≡ false
+inner-paid sys h done a e t is i =
+    let p = sender sys.flow e in
+    elim (cases_Bool (is_notified_kind (kind_of sys.flow p))) [
+      | inl n ↦ a.paid p t (notified-phi sys h e (done p) t (kind_of sys.flow p) refl n is i)
+      | inr n ↦ ap (λ b. b && was_delivered_to sys.flow p t h && not (was_notified p t h)) n
+    ]
+
+sent-step : (sys : System) (h : List Event) (family : Family) → IsWellFormedSystem sys → IsLegal sys h → IsDenotation sys family
+    → ((p : ℕ) → kind_of sys.flow p ≡ Sequence → IsSequenced sys h family p)
     → (done : ℕ → Frontier) → IsAdmissible sys h done
     → (r : Ranks sys.flow) (e : ℕ) (t : Stamp) → ((d : ℕ) (u : Stamp) → IsEarlier sys.flow r (receiver sys.flow d) u (receiver sys.flow e) t → IsDenotedAt sys h family done (d, u))
     → IsDenotedAt sys h family done (e, t)
-sent-step sys h family w k l den done a r e t ih i q =
+sent-step sys h family w l den seq done a r e t ih i q =
     let flow = sys.flow in
     let p = sender flow e in
     let kind = kind_of flow p in
     let batches = batches_of sys p in
-    let bags = map family (in_edges flow p) in
-    elim (sort_of flow k p) [
+    let ds = in_edges flow p in
+    elim (sort_of kind) [
       | inl is ↦
           input-equal sys p is h l t (a.source p (ap is_input_kind is) t (input-phi sys h e (done p) t is i)) q
-          ∙ sym (ap (λ z. weigh (one t q) (outputs_of_kind flow z batches bags)) is)
-      | inr (inl is) ↦ output-sent sys p is (one t q) (events_at flow p h) ∙ sym (output-outputs flow kind is (one t q) batches bags)
-      | inr (inr is) ↦
-          let here = real_edge flow e is in
-          one-step sys h family w.flow e t here is
-          (λ d u at s. delivered-read sys h family w k l den done a e t (one-sends_by_stamp sys w.flow e is) i d u t
-          (from_earlier flow w.flow r (IsDenotedAt sys h family done) e t here ih d u t at s (leq-refl t)) at s (leq-refl t)) q
+          ∙ sym (ap (λ z. weigh (one t q) (outputs_of_kind flow z batches (map family ds))) is)
+          ∙ sym (family-weigh sys family den e (one t q))
+      | inr (inl is) ↦
+          output-sent sys p is (one t q) (events_at flow p h) ∙ sym (output-outputs flow kind is (one t q) batches (map family ds))
+          ∙ sym (family-weigh sys family den e (one t q))
+      | inr (inr (inl is)) ↦
+          let real = sequence_edge flow e is in
+          let domain : domain_of flow (receiver flow e) ≡ Number = sym (edge_domains flow w.flow e) ∙ ap (λ k. out_domain_of_kind flow k) is in
+          let unlooped : is_looped flow (receiver flow e) ≡ false = ap (λ d. is_same_loop d (out_domain_of flow (receiver flow e))) domain in
+          sequence-step sys h family w l den done a e is (seq p is)
+          (λ d u at. ih d u (subst (λ n. IsEarlier flow r n u (receiver flow e) t) (sym at) (earlier-unlooped flow r e real unlooped u t))) t i q
+      | inr (inr (inr is)) ↦
+          let real = inner_edge flow e is in
+          let by = inner-sends_by_stamp sys w.flow e is in
+          arrives sys h w.flow (has_epochs sys w) l p (w.flow.senders_declared e real) kind refl is batches t q (inner-paid sys h done a e t is i)
+          ∙ outputs-same flow kind is t q batches (delivered_bag h) family ds (each_in_edge flow p (λ d. AgreeFor flow kind t (delivered_bag h d) (family d))
+          (λ d at u s x sends_at below. delivered-read sys h family w l den done a e t by i d u s
+          (from_earlier flow w.flow r (IsDenotedAt sys h family done) e t real ih d u s at sends_at below) at sends_at below x))
+          ∙ sym (family-weigh sys family den e (one t q))
     ]
-    ∙ sym (family-weigh sys family den e (one t q))
 
-pub sent-denoted : (sys : System) (h : List Event) (family : Family) → IsWellFormedSystem sys → IsOneByOne sys.flow → IsLegal sys h → IsDenotation sys family
+pub sent-denoted : (sys : System) (h : List Event) (family : Family) → IsWellFormedSystem sys → IsLegal sys h → IsDenotation sys family
+    → ((p : ℕ) → kind_of sys.flow p ≡ Sequence → IsSequenced sys h family p)
     → (done : ℕ → Frontier) → IsAdmissible sys h done → (e : ℕ) (t : Stamp) → IsDenotedAt sys h family done (e, t)
-sent-denoted sys h family w k l den done a e t = along sys.flow w.flow (IsDenotedAt sys h family done) (sent-step sys h family w k l den done a) e t
-
-pub sent-is_denoted : SentInsidePhiIsDenoted
-sent-is_denoted sys h family w k l den done a e t i =
-    sorted-is (recs_at t (sent sys h e)) (bag_at family e t) (bag-ascending sys family den e t)
-    (λ q. how_often-recs_at t q (sent sys h e) ∙ sent-denoted sys h family w k l den done a e t i q ∙ sym (how_often-where t q (family e)))
-
-pub delivered-is_denoted : DeliveredInsideCompleteIsDenoted
-delivered-is_denoted sys h family w k l den done a e t i =
-    sorted-is (recs_at t (delivered h e)) (bag_at family e t) (bag-ascending sys family den e t)
-    (λ q. how_often-recs_at t q (delivered h e)
-    ∙ delivered-denoted sys h family l done a e t (sent-denoted sys h family w k l den done a e t) i q
-    ∙ sym (how_often-where t q (family e)))
+sent-denoted sys h family w l den seq done a e t = along sys.flow w.flow (IsDenotedAt sys h family done) (sent-step sys h family w l den seq done a) e t

@@ -26,7 +26,7 @@ unfoldable pub sum_to : ℕ → (ℕ → ℕ) → ℕ
 sum_to zero f = 0
 sum_to (suc n) f = f n + sum_to n f
 
-pub sum_to-more : (m n : ℕ) (f : ℕ → ℕ) → sum_to n f ≤ sum_to (m + n) f
+sum_to-more : (m n : ℕ) (f : ℕ → ℕ) → sum_to n f ≤ sum_to (m + n) f
 unfolding sum_to
 sum_to-more zero n f = let e : zero + n ≡ n = omega arith in let g = ap (λ k. sum_to k f) e in omega arith
 sum_to-more (suc m) n f =
@@ -35,7 +35,7 @@ sum_to-more (suc m) n f =
     let h = sum_to-more m n f in
     omega arith
 
-pub sum_to-same : (m n : ℕ) (f : ℕ → ℕ) → ((x : ℕ) → n ≤ x → f x ≡ 0) → sum_to (m + n) f ≡ sum_to n f
+sum_to-same : (m n : ℕ) (f : ℕ → ℕ) → ((x : ℕ) → n ≤ x → f x ≡ 0) → sum_to (m + n) f ≡ sum_to n f
 unfolding sum_to
 sum_to-same zero n f z = let e : zero + n ≡ n = omega arith in ap (λ k. sum_to k f) e
 sum_to-same (suc m) n f z =
@@ -100,7 +100,7 @@ batches-weigh w batches =
 input-sends : (sys : System) (kind : Kind) (before : List Event) (v : Event) (w : Timed → ℕ) → kind ≡ Input → weigh w (timed_of (sends_of_kind sys kind before v)) ≡ weigh w (timed_of (sends_of_kind sys Input before v))
 input-sends sys kind before v w e = ap (λ k. weigh w (timed_of (sends_of_kind sys k before v))) e
 
-pub injected-few : (sys : System) (h : List Event) → IsLegal sys h → (p : ℕ) → injected_count p h ≤ length (batches_of sys p)
+injected-few : (sys : System) (h : List Event) → IsLegal sys h → (p : ℕ) → injected_count p h ≤ length (batches_of sys p)
 injected-few sys [] l p = omega arith
 injected-few sys (Inject s x ∷ h) l p =
     let r = injected-few sys h l.1 p in
@@ -117,7 +117,7 @@ injected-few sys (Inject s x ∷ h) l p =
 injected-few sys (Deliver e m ∷ h) l p = injected-few sys h l.1 p
 injected-few sys (Notify q t ∷ h) l p = injected-few sys h l.1 p
 
-pub input-weigh : (sys : System) (p : ℕ) → kind_of sys.flow p ≡ Input → (w : Timed → ℕ) (h : List Event) → IsLegal sys h
+input-weigh : (sys : System) (p : ℕ) → kind_of sys.flow p ≡ Input → (w : Timed → ℕ) (h : List Event) → IsLegal sys h
     → weigh w (timed_of (sent_by sys p (events_at sys.flow p h))) ≡ sum_to (injected_count p h) (batch_weight w (batches_of sys p))
 unfolding weigh sum_to sends
 input-weigh sys p is w [] l = refl

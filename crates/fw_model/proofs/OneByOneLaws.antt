@@ -1,5 +1,5 @@
 -- The kinds that send for each rec alone: what they send for what was delivered, in any order, is what they send in all.
-use Rattle.std.proofs.Common.{◌≡◌, ℕ, ◌+◌, ◌<◌, ◌≤◌, true, ◌&&◌, List, [], ◌∷◌, Option, Some, None, refl, sym, ap, ◌∙◌, inl, inr, arith}
+use Rattle.std.proofs.Common.{Bool, false, ◌≡◌, ℕ, ◌+◌, ◌<◌, ◌≤◌, true, ◌&&◌, List, [], ◌∷◌, Option, Some, None, refl, sym, ap, ◌∙◌, inl, inr, arith}
 use Rattle.std.proofs.lemmas.Bool.{cases_Bool}
 use Rattle.fw_time.specs.Stamp.{Stamp, same}
 use Rattle.std.specs.Ordering.{is_eq}
@@ -12,11 +12,20 @@ use Rattle.fw_flow.specs.declared.kind.Kind.TheVariants.{Select, Concat, Enter, 
 use Rattle.fw_flow.specs.Dataflow.{System, Dataflow, kind_of, send_stamp_of_kind}
 use Rattle.fw_flow.specs.NodeFunction.{sends_of_kind, sends, sent_by}
 use Rattle.fw_flow.specs.WholeBags.{Timed, timed, timed_at_some, recs_for_one, outputs_of_kind, together}
-use Rattle.fw_model.specs.LawsOfDeliveries.{sends_one_by_one}
 use Rattle.fw_model.proofs.WeightLaws.{weigh, weigh-flat_map, weigh-less, one, one-out, at_stamp, same-is}
 use Rattle.fw_model.proofs.SentLaws.{timed_of}
 use Rattle.fw_model.proofs.ArrivalLaws.{deliveries}
 use Rattle.fw_model.proofs.InputLaws.{timed_of-messages_at_some, sent-weigh}
+
+-- whether a node of the kind sends for each rec alone, as it comes
+abbrev pub sends_one_by_one : Kind → Bool
+sends_one_by_one (Select selection within) = true
+sends_one_by_one (Concat within) = true
+sends_one_by_one (Enter l) = true
+sends_one_by_one (Feedback l) = true
+sends_one_by_one (Leave l) = true
+sends_one_by_one (Regroup n) = true
+sends_one_by_one kind = false
 
 -- the weight of what is sent for a timed rec
 abbrev pub one_weight : Dataflow → Kind → (Timed → ℕ) → Timed → ℕ
@@ -92,7 +101,7 @@ timed-at t at q (r ∷ rs) l = elim (cases_Bool (same t at)) [
 ]
 
 -- what is sent at a stamp is sent for recs that send at it
-pub one-at : (flow : Dataflow) (kind : Kind) (t : Stamp) (q : Rec) (r : Timed) → 0 < one_weight flow kind (one t q) r → send_stamp_of_kind flow kind r.at ≡ Some t
+one-at : (flow : Dataflow) (kind : Kind) (t : Stamp) (q : Rec) (r : Timed) → 0 < one_weight flow kind (one t q) r → send_stamp_of_kind flow kind r.at ≡ Some t
 unfolding weigh
 one-at flow kind t q r l = cases (send_stamp_of_kind flow kind r.at) l
   where

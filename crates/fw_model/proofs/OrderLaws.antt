@@ -198,7 +198,7 @@ notified-inside sys (v ∷ h) w b l p is =
 -- ---- in order
 
 -- of two stamps of one coordinate, the first is lesser or the second is at most it
-either_way : (g : ℕ) (s t : Stamp) → leq s (g ∷ []) ≡ true → leq t (g ∷ []) ≡ true → (leq s t ≡ true) ⊎ (leq t s ≡ true)
+pub either_way : (g : ℕ) (s t : Stamp) → leq s (g ∷ []) ≡ true → leq t (g ∷ []) ≡ true → (leq s t ≡ true) ⊎ (leq t s ≡ true)
 either_way g s t i j =
     let x = in_line s g i in
     let y = in_line t g j in

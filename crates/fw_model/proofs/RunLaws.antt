@@ -28,10 +28,10 @@ use Rattle.fw_flow.specs.declared.event.Message.{Message}
 use Rattle.fw_bag.specs.Keyed.{sorted}
 use Rattle.std.proofs.lemmas.List.Elements.{filter-append}
 use Rattle.std.proofs.Math.Bool.{and_comm}
-use Rattle.fw_model.proofs.DenotedLaws.{delivered-is_denoted}
+use Rattle.fw_model.proofs.PrefixLaws.{delivered-is_denoted}
 use Rattle.fw_model.specs.LawsOfLegalHistories.{HasEpochs}
 use Rattle.fw_model.specs.LawsOfRuns.{is_recovery, HaveNoRecovery, RunsStayLegal, IsDenotedEffect, IsDenoted, AcknowledgementsShowDenotation, stamp_shown, stamp_acknowledged, stamps_acknowledged, first_stamps, AcknowledgementsAreInOrder}
-use Rattle.fw_model.specs.LawsOfDeliveries.{IsOneByOne, recs_at}
+use Rattle.fw_model.specs.LawsOfDeliveries.{recs_at}
 use Rattle.fw_model.specs.Denotation.{Family, IsDenotation}
 use Rattle.fw_model.specs.Machine.{Machine, Numbered, events, no_stamps, first_state, front_of, bound_of, is_failed, places}
 use Rattle.fw_model.specs.Steps.{Effect, acked, Outcome, did, idle, Takes, Steps, Run, with_event, GrowsTo, recs_at_output}
@@ -323,37 +323,37 @@ same-test flow w o d l k r e = elim (cases_Bool (e == d)) [
 pub epochs-of : (sys : System) → IsWellFormedSystem sys → HasEpochs sys
 epochs-of sys w s = let f = w.few s in omega arith
 
-takes-denoted : (sys : System) (family : Family) → IsWellFormedSystem sys → IsOneByOne sys.flow → IsDenotation sys family
+takes-denoted : (sys : System) (family : Family) → IsWellFormedSystem sys → IsDenotation sys family
     → (state : Machine) (step : Step) (next : Machine) (effect : Effect) → IsFull sys state → Takes sys state step next effect → IsDenotedEffect sys family effect
-takes-denoted sys family w k u state (Inject s) next effect f t = subst (IsDenotedEffect sys family) (sym t.4) tt
-takes-denoted sys family w k u state (Deliver e at) next effect f t = subst (IsDenotedEffect sys family) (sym t.4) tt
-takes-denoted sys family w k u state (Notify p at) next effect f t = subst (IsDenotedEffect sys family) (sym t.4) tt
-takes-denoted sys family w k u state ProgressStep next effect f t = subst (IsDenotedEffect sys family) (sym t.4) tt
-takes-denoted sys family w k u state (Checkpoint p) next effect f t = subst (IsDenotedEffect sys family) (sym t.4) tt
-takes-denoted sys family w k u state Persist next effect f t = subst (IsDenotedEffect sys family) (sym t.3) tt
-takes-denoted sys family w k u state (Fail ps) next effect f t = subst (IsDenotedEffect sys family) (sym t.5) tt
-takes-denoted sys family w k u state Recover next effect f t = subst (IsDenotedEffect sys family) (sym t.8) tt
-takes-denoted sys family w k u state Collect next effect f t = subst (IsDenotedEffect sys family) (sym t.4) tt
-takes-denoted sys family w k u state (Ack o) next effect f t =
+takes-denoted sys family w u state (Inject s) next effect f t = subst (IsDenotedEffect sys family) (sym t.4) tt
+takes-denoted sys family w u state (Deliver e at) next effect f t = subst (IsDenotedEffect sys family) (sym t.4) tt
+takes-denoted sys family w u state (Notify p at) next effect f t = subst (IsDenotedEffect sys family) (sym t.4) tt
+takes-denoted sys family w u state ProgressStep next effect f t = subst (IsDenotedEffect sys family) (sym t.4) tt
+takes-denoted sys family w u state (Checkpoint p) next effect f t = subst (IsDenotedEffect sys family) (sym t.4) tt
+takes-denoted sys family w u state Persist next effect f t = subst (IsDenotedEffect sys family) (sym t.3) tt
+takes-denoted sys family w u state (Fail ps) next effect f t = subst (IsDenotedEffect sys family) (sym t.5) tt
+takes-denoted sys family w u state Recover next effect f t = subst (IsDenotedEffect sys family) (sym t.8) tt
+takes-denoted sys family w u state Collect next effect f t = subst (IsDenotedEffect sys family) (sym t.4) tt
+takes-denoted sys family w u state (Ack o) next effect f t =
     let at : Stamp = t.0 ∷ [] in
     subst (IsDenotedEffect sys family) (sym t.3) (λ d l r.
     let inside : f.done (receiver sys.flow d) at ≡ true = subst (λ p. f.done p at ≡ true) (sym r) (f.within o t.1.declared at t.1.settled) in
     ap sorted (delivered-to sys.flow o d at (same-test sys.flow w.flow o d t.1.declared t.1.output r) (events state.history))
-    ∙ delivered-is_denoted sys (events state.history) family w k f.legal u f.done f.admissible d at inside)
+    ∙ delivered-is_denoted sys (events state.history) family w f.legal u f.done f.admissible d at inside)
 
-run-denoted : (sys : System) (family : Family) → IsWellFormedSystem sys → IsOneByOne sys.flow → IsDenotation sys family
+run-denoted : (sys : System) (family : Family) → IsWellFormedSystem sys → IsDenotation sys family
     → (steps : List Step) (outcomes : List Outcome) (state last : Machine) → HaveNoRecovery steps → IsFull sys state → Run sys state steps outcomes last
     → AllByRecursion (IsDenoted sys family) outcomes
-run-denoted sys family w k u [] [] state last n f r = tt
-run-denoted sys family w k u [] (x ∷ os) state last n f r = absurd r
-run-denoted sys family w k u (s ∷ ss) [] state last n f r = absurd r
-run-denoted sys family w k u (s ∷ ss) (did effect ∷ os) state last n f r = (
-  takes-denoted sys family w k u state s r.0 effect f r.1,
-  run-denoted sys family w k u ss os r.0 last n.1 (takes-full sys state s r.0 effect w.flow (epochs-of sys w) n.0 f r.1) r.2,
+run-denoted sys family w u [] [] state last n f r = tt
+run-denoted sys family w u [] (x ∷ os) state last n f r = absurd r
+run-denoted sys family w u (s ∷ ss) [] state last n f r = absurd r
+run-denoted sys family w u (s ∷ ss) (did effect ∷ os) state last n f r = (
+  takes-denoted sys family w u state s r.0 effect f r.1,
+  run-denoted sys family w u ss os r.0 last n.1 (takes-full sys state s r.0 effect w.flow (epochs-of sys w) n.0 f r.1) r.2,
 )
-run-denoted sys family w k u (s ∷ ss) (idle ∷ os) state last n f r =
-    (tt, run-denoted sys family w k u ss os r.0 last n.1 (subst (IsFull sys) (sym r.1.1) f) r.2)
+run-denoted sys family w u (s ∷ ss) (idle ∷ os) state last n f r =
+    (tt, run-denoted sys family w u ss os r.0 last n.1 (subst (IsFull sys) (sym r.1.1) f) r.2)
 
 pub acknowledgements-denoted : AcknowledgementsShowDenotation
-acknowledgements-denoted sys family w k u steps outcomes last n r =
-    run-denoted sys family w k u steps outcomes (first_state sys) last n (first-full sys w.flow) r
+acknowledgements-denoted sys family w u steps outcomes last n r =
+    run-denoted sys family w u steps outcomes (first_state sys) last n (first-full sys w.flow) r

@@ -29,7 +29,7 @@ both_equal Less p e = cc
 both_equal Equal p e = (refl, e)
 both_equal Greater p e = cc
 
-stamp_cmp-same : (s t : Stamp) → is_eq (stamp_cmp s t) ≡ true → s ≡ t
+pub stamp_cmp-same : (s t : Stamp) → is_eq (stamp_cmp s t) ≡ true → s ≡ t
 stamp_cmp-same s t e = (bytes_eq-Decides s t).0 (sym (is_eq-slice_cmp s t) ∙ e)
 
 causes-same : (cs ds : List Stamp) → is_eq (slice_cmp stamp_cmp cs ds) ≡ true → cs ≡ ds

@@ -64,7 +64,7 @@ not_gt_from_le Greater h = cc
 -- ---- ascending lists
 
 -- no timed rec of the list is greater than a later one
-pub IsAscendingTimed : List Timed → Type 0
+unfoldable pub IsAscendingTimed : List Timed → Type 0
 IsAscendingTimed [] = Unit {0}
 IsAscendingTimed (x ∷ xs) = AllByRecursion (λ y. is_gt (timed_cmp x y) ≡ false) xs × IsAscendingTimed xs
 

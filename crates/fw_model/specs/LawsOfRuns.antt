@@ -8,7 +8,6 @@ use Rattle.fw_flow.specs.Dataflow.{System, receiver}
 use Rattle.fw_flow.specs.WellFormed.{IsWellFormedSystem}
 use Rattle.fw_model.specs.Denotation.{Family, IsDenotation, bag_at}
 use Rattle.fw_model.specs.History.{IsLegal}
-use Rattle.fw_model.specs.LawsOfDeliveries.{IsOneByOne}
 use Rattle.fw_model.specs.Machine.{Machine, events, first_state, bound_of}
 use Rattle.fw_model.specs.Steps.{Effect, quiet, acked, cuts, lows, Outcome, did, idle, Run}
 
@@ -41,7 +40,7 @@ IsDenoted sys family idle = Unit {0}
 
 -- each acknowledgement of a run shows the denotation
 abbrev pub AcknowledgementsShowDenotation : Type 0
-AcknowledgementsShowDenotation = (sys : System) (family : Family) → IsWellFormedSystem sys → IsOneByOne sys.flow
+AcknowledgementsShowDenotation = (sys : System) (family : Family) → IsWellFormedSystem sys
     → IsDenotation sys family → (steps : List Step) (outcomes : List Outcome) (last : Machine) → HaveNoRecovery steps
     → Run sys (first_state sys) steps outcomes last → AllByRecursion (IsDenoted sys family) outcomes
 

@@ -1,7 +1,7 @@
 //! The laws of the definitions: each function's `ensures` is one law, and its body is empty.
 ghost use Rattle.fw_model.specs.LawsOfChoices.{ConsistentChoicesHaveUnion, DeliveredOfUnion, DiscardedOfUnion, EachLiesWithinUnion, LargestChoiceIsOne, NotifiedOfUnion, UnionOfCandidatesIsCandidate, UnionOfConsistentIsConsistent};
 ghost use Rattle.fw_model.specs.LawsOfCompleteFrontiers.{AdmissibleStaysAdmissible, EnabledIsOutside, LegalInsidePhiComesFromInside, SequencesAreNotifiedInOrder};
-ghost use Rattle.fw_model.specs.LawsOfDeliveries.{ClosedStampsStayClosed, DeliveredInsideCompleteIsDenoted, DeliveredInsideCompleteIsFinal, DeliveredIsSubBagOfDenotation, NotificationsComeLast, NumberedDeliveriesAscend, SentInsidePhiIsDenoted, SentIsSubBagOfDenotation};
+ghost use Rattle.fw_model.specs.LawsOfDeliveries.{ClosedStampsStayClosed, DeliveredInsideCompleteIsDenoted, DeliveredInsideCompleteIsFinal, DeliveredIsSubBagOfDenotation, DeliveredUpToClosedIsDenoted, DeliveredUpToClosedIsFinal, NotificationsComeLast, NumberedDeliveriesAscend, SentInsidePhiIsDenoted, SentIsSubBagOfDenotation};
 ghost use Rattle.fw_model.specs.LawsOfDenotation.{DenotationExists, DenotationIsInDomain, DenotationIsInOrder, DenotationIsNumbered, DenotationIsTheOnlyOne, LaterRoundsAreTheSame, MeasureExists, OutBagsDependOnLesserMeasure, RecsAtStampsDecideBag, UnchangedRoundIsDenotation};
 ghost use Rattle.fw_model.specs.LawsOfExistence.{CompleteExists, CompleteIsTheOnlyOne, FrontierHasFront, LargestChoiceExists, SettledCanGrow};
 ghost use Rattle.fw_model.specs.LawsOfFiltering.{ConsistentMeetsInclusions, FilteredHistoryIsLegal, KeptDeliveriesHaveKeptCauses, KeptEventsAreLegal, KeptEventsAreLegalWithoutNotices, KeptEventsDeliverTheSame, KeptEventsSendTheSame, KeptEventsSendTheSameFromWithin, NothingPendingWithoutLog, PendingAtKeptStamps, PendingAtOtherStamps, PendingForCut, PendingForPresent, PhiOfKeptEvents};
@@ -393,6 +393,16 @@ pub fn delivered_inside_complete_is_denoted()
 /// What was delivered inside an admissible family stays as it is while the history goes on.
 pub fn delivered_inside_complete_is_final()
     ensures { DeliveredInsideCompleteIsFinal }
+{}
+
+/// Up to a stamp that is closed for a node, what was delivered to the node stays as it is while the history goes on.
+pub fn delivered_up_to_closed_is_final()
+    ensures { DeliveredUpToClosedIsFinal }
+{}
+
+/// Up to a stamp that is closed for a node, what was delivered to the node is what the denotation has.
+pub fn delivered_up_to_closed_is_denoted()
+    ensures { DeliveredUpToClosedIsDenoted }
 {}
 
 /// In a legal history each rec was sent on an edge at a stamp at most as often as it is in the denotation there.

@@ -1,0 +1,311 @@
+-- Join sends each pair of recs once, in whichever order the recs come.
+use Rattle.std.proofs.Common.{◌≡◌, ℕ, ◌+◌, ◌%◌, ◌^◌, ◌<◌, ◌≤◌, Bool, true, false, cond, not, ◌&&◌, ◌==◌, List, [], ◌∷◌, ◌++◌, length, map, Some, refl, sym, ap, subst, ◌∙◌, inl, inr, arith}
+use Rattle.std.specs.List.{AllByRecursion}
+use Rattle.std.specs.Prelude.{filter}
+use Rattle.std.specs.Ordering.{is_eq}
+use Rattle.std.proofs.Math.Nat.{add_comm}
+use Rattle.std.proofs.lemmas.Bool.{cond_both, cases_Bool, eqb-true, eqb-false, eq-eqb, ne_eqb}
+use Rattle.fw_time.specs.Stamp.{Stamp, same}
+use Rattle.fw_bag.specs.declared.rec.Rec.{Rec}
+use Rattle.fw_bag.specs.Rec.{rec_cmp}
+use Rattle.fw_bag.specs.Bag.{how_often}
+use Rattle.fw_bag.specs.Keyed.{joined, plus}
+use Rattle.fw_flow.specs.declared.event.Event.{Event}
+use Rattle.fw_flow.specs.declared.event.Event.TheVariants.{Inject, Deliver, Notify}
+use Rattle.fw_flow.specs.declared.event.Message.{Message}
+use Rattle.fw_flow.specs.declared.kind.Kind.TheVariants.{Join}
+use Rattle.fw_flow.specs.Dataflow.{System, Dataflow, kind_of, receiver, in_edges}
+use Rattle.fw_flow.specs.NodeFunction.{delivered_recs, recs_on_delivery, sends_of_kind, sends, sent_by}
+use Rattle.fw_flow.specs.Projection.{events_at}
+use Rattle.fw_flow.specs.WholeBags.{Timed, timed, recs_where, joined_timed}
+use Rattle.fw_model.specs.History.{delivered}
+use Rattle.fw_model.proofs.WeightLaws.{weigh, weigh-flat_map, weigh-same, weigh-none, weigh-lighter, weigh-less, one, at_stamp, same-is}
+use Rattle.fw_model.proofs.SentLaws.{timed_of, timed_message}
+use Rattle.fw_model.proofs.ArrivalLaws.{at_edge, in_edges-once}
+use Rattle.fw_model.proofs.InputLaws.{timed_of-messages_at_some, sent-weigh}
+use Rattle.fw_model.proofs.DistinctLaws.{how_often-append, same-swap}
+
+-- ---- pairs
+
+-- how often a rec is among the joins of a rec with one other
+abbrev pub of_pair : Rec → Rec → Rec → ℕ
+of_pair x a b = how_often x (joined a (b ∷ []))
+
+-- the same at a stamp
+abbrev pub pair : Stamp → Rec → Timed → Timed → ℕ
+pair t x a b = cond (same t a.at && same t b.at) (of_pair x a.rec b.rec) 0
+
+-- the weight of the joins of two bags
+abbrev pub pairs : Stamp → Rec → List Timed → List Timed → ℕ
+pairs t x ls bs = weigh (λ a. weigh (pair t x a) bs) ls
+
+joined-cons : (x r y : Rec) (ys : List Rec) → how_often x (joined r (y ∷ ys)) ≡ of_pair x r y + how_often x (joined r ys)
+joined-cons x r y ys = cases (r.key == y.key)
+  where
+    cases : (b : Bool) → how_often x (map (λ (z : Rec). record { key = r.key; value = plus r.value z.value }) (cond b (y ∷ filter (λ z. r.key == z.key) ys) (filter (λ z. r.key == z.key) ys)))
+        ≡ how_often x (map (λ (z : Rec). record { key = r.key; value = plus r.value z.value }) (cond b (y ∷ []) [])) + how_often x (joined r ys)
+    cases true = how_often-append x (record { key = r.key; value = plus r.value y.value } ∷ []) (joined r ys)
+    cases false = omega arith
+
+of_pair-swap : (x a b : Rec) → of_pair x a b ≡ of_pair x b a
+of_pair-swap x a b = elim (cases_Bool (a.key == b.key)) [
+  | inl e ↦
+      let i = eqb-true a.key b.key e in
+      let j = eq-eqb b.key a.key (sym i) in
+      ap (λ c. how_often x (map (λ (z : Rec). record { key = a.key; value = plus a.value z.value }) (cond c (b ∷ []) []))) e
+      ∙ ap (λ k. how_often x (record { key = k; value = plus a.value b.value } ∷ [])) i
+      ∙ ap (λ n. how_often x (record { key = b.key; value = n % 2 ^ 64 } ∷ [])) (add_comm a.value b.value)
+      ∙ sym (ap (λ c. how_often x (map (λ (z : Rec). record { key = b.key; value = plus b.value z.value }) (cond c (a ∷ []) []))) j)
+  | inr e ↦
+      let j = eqb-swap a.key b.key e in
+      ap (λ c. how_often x (map (λ (z : Rec). record { key = a.key; value = plus a.value z.value }) (cond c (b ∷ []) []))) e
+      ∙ sym (ap (λ c. how_often x (map (λ (z : Rec). record { key = b.key; value = plus b.value z.value }) (cond c (a ∷ []) []))) j)
+]
+  where
+    eqb-swap : (m n : ℕ) → (m == n) ≡ false → (n == m) ≡ false
+    eqb-swap m n e = ne_eqb n m (λ i. eqb-false m n e (sym i))
+
+and_swap : (a b : Bool) (n : ℕ) → cond (a && b) n 0 ≡ cond (b && a) n 0
+and_swap true true n = refl
+and_swap true false n = refl
+and_swap false true n = refl
+and_swap false false n = refl
+
+pair-swap : (t : Stamp) (x : Rec) (a b : Timed) → pair t x a b ≡ pair t x b a
+pair-swap t x a b = and_swap (same t a.at) (same t b.at) (of_pair x a.rec b.rec) ∙ ap (λ n. cond (same t b.at && same t a.at) n 0) (of_pair-swap x a.rec b.rec)
+
+joined-where : (x r : Rec) (u : Stamp) (bs : List Timed)
+    → how_often x (joined r (recs_where (same u) bs)) ≡ weigh (λ b. cond (same u b.at) (of_pair x r b.rec) 0) bs
+unfolding weigh
+joined-where x r u [] = refl
+joined-where x r u (b ∷ bs) = cases (same u b.at) (joined-where x r u bs)
+  where
+    cases : (c : Bool) → how_often x (joined r (recs_where (same u) bs)) ≡ weigh (λ b. cond (same u b.at) (of_pair x r b.rec) 0) bs
+        → how_often x (joined r (map (λ z. z.rec) (cond c (b ∷ filter (λ z. same u z.at) bs) (filter (λ z. same u z.at) bs))))
+        ≡ cond c (of_pair x r b.rec) 0 + weigh (λ b. cond (same u b.at) (of_pair x r b.rec) 0) bs
+    cases true h = joined-cons x r b.rec (recs_where (same u) bs) ∙ ap (λ n. of_pair x r b.rec + n) h
+    cases false h = h ∙ omega arith
+
+pub weigh-timed : (t at : Stamp) (x : Rec) (rs : List Rec) → weigh (one t x) (timed at rs) ≡ cond (same t at) (how_often x rs) 0
+unfolding weigh one
+weigh-timed t at x [] = zeros (same t at)
+  where
+    zeros : (b : Bool) → weigh (one t x) [] ≡ cond b 0 0
+    zeros true = refl
+    zeros false = refl
+weigh-timed t at x (r ∷ rs) = cases (same t at) (is_eq (rec_cmp x r)) (weigh-timed t at x rs)
+  where
+    cases : (b c : Bool) → weigh (one t x) (timed at rs) ≡ cond b (how_often x rs) 0
+        → cond (b && c) 1 0 + weigh (one t x) (timed at rs) ≡ cond b (cond c (how_often x rs + 1) (how_often x rs)) 0
+    cases true true h = omega arith
+    cases true false h = omega arith
+    cases false c h = omega arith
+
+weigh-zero : (bs : List Timed) → weigh (λ b. 0) bs ≡ 0
+unfolding weigh
+weigh-zero [] = refl
+weigh-zero (b ∷ bs) = let h = weigh-zero bs in omega arith
+
+-- the joins of a rec with those at its stamp
+join-one : (t : Stamp) (x : Rec) (a : Timed) (bs : List Timed)
+    → weigh (one t x) (timed a.at (joined a.rec (recs_where (same a.at) bs))) ≡ weigh (pair t x a) bs
+join-one t x a bs =
+    weigh-timed t a.at x (joined a.rec (recs_where (same a.at) bs))
+    ∙ elim (cases_Bool (same t a.at)) [
+      | inl e ↦
+          let i = same-is t a.at e in
+          ap (λ b. cond b (how_often x (joined a.rec (recs_where (same a.at) bs))) 0) e
+          ∙ joined-where x a.rec a.at bs
+          ∙ ap (λ u. weigh (λ b. cond (same u b.at) (of_pair x a.rec b.rec) 0) bs) (sym i)
+          ∙ sym (ap (λ c. weigh (λ b. cond (c && same t b.at) (of_pair x a.rec b.rec) 0) bs) e)
+      | inr e ↦
+          ap (λ b. cond b (how_often x (joined a.rec (recs_where (same a.at) bs))) 0) e
+          ∙ sym (ap (λ c. weigh (λ b. cond (c && same t b.at) (of_pair x a.rec b.rec) 0) bs) e ∙ weigh-zero bs)
+    ]
+
+-- ---- what join sends in all
+
+pub each_elem : {A : Type 0} (P : A → Type 0) → ((x : A) → P x) → (xs : List A) → AllByRecursion P xs
+each_elem P k [] = tt
+each_elem P k (x ∷ xs) = (k x, each_elem P k xs)
+
+pub join-outputs : (t : Stamp) (x : Rec) (ls bs : List Timed) → weigh (one t x) (joined_timed ls bs) ≡ pairs t x ls bs
+join-outputs t x ls bs =
+    weigh-flat_map (one t x) (λ r. timed r.at (joined r.rec (recs_where (same r.at) bs))) ls
+    ∙ weigh-same (λ a. weigh (one t x) (timed a.at (joined a.rec (recs_where (same a.at) bs)))) (λ a. weigh (pair t x a) bs) ls
+    (each_elem (λ a. weigh (one t x) (timed a.at (joined a.rec (recs_where (same a.at) bs))) ≡ weigh (pair t x a) bs) (λ a. join-one t x a bs) ls)
+
+-- ---- fewer recs have fewer joins
+
+pair-left : (t : Stamp) (x : Rec) (a b : Timed) → same t a.at ≡ false → pair t x a b ≡ 0
+pair-left t x a b e = ap (λ c. cond (c && same t b.at) (of_pair x a.rec b.rec) 0) e
+
+pair-stamps : (t : Stamp) (x : Rec) (a b : Timed) → 0 < pair t x a b → t ≡ b.at
+pair-stamps t x a b l = elim (cases_Bool (same t b.at)) [
+  | inl e ↦ same-is t b.at e
+  | inr e ↦ let z = pair-swap t x a b ∙ pair-left t x b a e in absurd (omega arith)
+]
+
+pairs-stamps : (t : Stamp) (x : Rec) (a : Timed) (bs : List Timed) → 0 < weigh (pair t x a) bs → t ≡ a.at
+pairs-stamps t x a bs l = elim (cases_Bool (same t a.at)) [
+  | inl e ↦ same-is t a.at e
+  | inr e ↦ let z = weigh-none (pair t x a) bs (each_elem (λ b. pair t x a b ≡ 0) (λ b. pair-left t x a b e) bs) in absurd (omega arith)
+]
+
+pub pairs-fewer : (t : Stamp) (x : Rec) (ls cs bs ds : List Timed) → ((r : Rec) → weigh (one t r) ls ≤ weigh (one t r) cs)
+    → ((r : Rec) → weigh (one t r) bs ≤ weigh (one t r) ds) → pairs t x ls bs ≤ pairs t x cs ds
+pairs-fewer t x ls cs bs ds f g =
+    let inner = weigh-lighter (λ a. weigh (pair t x a) bs) (λ a. weigh (pair t x a) ds) ls
+    (each_elem (λ a. weigh (pair t x a) bs ≤ weigh (pair t x a) ds) (λ a.
+    weigh-less (pair t x a) bs ds (λ u r l. subst (λ s. weigh (one s r) bs ≤ weigh (one s r) ds) (pair-stamps t x a (at_stamp u r) l) (g r))) ls) in
+    let outer = weigh-less (λ a. weigh (pair t x a) ds) ls cs
+    (λ u r l. subst (λ s. weigh (one s r) ls ≤ weigh (one s r) cs) (pairs-stamps t x (at_stamp u r) ds l) (f r)) in
+    omega arith
+
+-- ---- what join sent
+
+-- a delivery is on one of the two edges
+abbrev IsOnOne : ℕ → ℕ → Event → Type 0
+IsOnOne a b (Inject s x) = Unit {0}
+IsOnOne a b (Deliver e m) = (not (e == a) ≡ (e == b)) × (not (e == b) ≡ (e == a))
+IsOnOne a b (Notify p t) = Unit {0}
+
+-- where a delivery is not on the first edge, it is on the second
+abbrev IsOnOther : ℕ → ℕ → Event → Type 0
+IsOnOther c d (Inject s x) = Unit {0}
+IsOnOther c d (Deliver e m) = not (e == c) ≡ (e == d)
+IsOnOther c d (Notify p t) = Unit {0}
+
+-- the deliveries on the other edge
+other-is : (c d : ℕ) (t : Stamp) (vs : List Event) → AllByRecursion (IsOnOther c d) vs
+    → delivered_recs (λ e s. not (e == c) && same s t) vs ≡ recs_where (same t) (timed_of (delivered vs d))
+other-is c d t [] a = refl
+other-is c d t (Inject s x ∷ vs) a = other-is c d t vs a.1
+other-is c d t (Notify p u ∷ vs) a = other-is c d t vs a.1
+other-is c d t (Deliver e m ∷ vs) a =
+    ap (λ b. cond (b && same m.at t) (m.rec ∷ []) [] ++ delivered_recs (λ e s. not (e == c) && same s t) vs) a.0
+    ∙ ap (λ b. cond ((e == d) && b) (m.rec ∷ []) [] ++ delivered_recs (λ e s. not (e == c) && same s t) vs) (same-swap m.at t)
+    ∙ ap (λ rs. cond ((e == d) && same t m.at) (m.rec ∷ []) [] ++ rs) (other-is c d t vs a.1)
+    ∙ cases (e == d) (same t m.at) refl
+  where
+    cases : (b c : Bool) → same t m.at ≡ c → cond (b && c) (m.rec ∷ []) [] ++ recs_where (same t) (timed_of (delivered vs d))
+        ≡ recs_where (same t) (timed_of (cond b (m ∷ []) [] ++ delivered vs d))
+    cases true true k = sym (ap (λ z. map (λ (y : Timed). y.rec) (cond z (timed_message m ∷ filter (λ y. same t y.at) (timed_of (delivered vs d))) (filter (λ y. same t y.at) (timed_of (delivered vs d))))) k)
+    cases true false k = sym (ap (λ z. map (λ (y : Timed). y.rec) (cond z (timed_message m ∷ filter (λ y. same t y.at) (timed_of (delivered vs d))) (filter (λ y. same t y.at) (timed_of (delivered vs d))))) k)
+    cases false c k = refl
+
+on_first : (a b : ℕ) (v : Event) → IsOnOne a b v → IsOnOther a b v
+on_first a b (Inject s x) i = tt
+on_first a b (Deliver e m) i = i.0
+on_first a b (Notify p t) i = tt
+
+on_second : (a b : ℕ) (v : Event) → IsOnOne a b v → IsOnOther b a v
+on_second a b (Inject s x) i = tt
+on_second a b (Deliver e m) i = i.1
+on_second a b (Notify p t) i = tt
+
+-- what a delivery makes join send
+join-sends : (sys : System) (n : _) (t : Stamp) (x : Rec) (e d : ℕ) (m : Message) (vs : List Event) → AllByRecursion (IsOnOther e d) vs
+    → weigh (one t x) (timed_of (sends_of_kind sys (Join n) vs (Deliver e m))) ≡ weigh (pair t x (timed_message m)) (timed_of (delivered vs d))
+join-sends sys n t x e d m vs a =
+    ap (weigh (one t x)) (timed_of-messages_at_some (Some m.at) m.at (recs_on_delivery (Join n) vs e m.at m.rec))
+    ∙ ap (λ rs. weigh (one t x) (timed m.at (joined m.rec rs))) (other-is e d m.at vs a)
+    ∙ join-one t x (timed_message m) (timed_of (delivered vs d))
+
+pairs-right : (t : Stamp) (x : Rec) (b : Timed) (xs ys : List Timed) → pairs t x xs (b ∷ ys) ≡ weigh (pair t x b) xs + pairs t x xs ys
+unfolding weigh
+pairs-right t x b [] ys = refl
+pairs-right t x b (y ∷ xs) ys = let h = pairs-right t x b xs ys in let s = pair-swap t x y b in omega arith
+
+pub join-sent : (sys : System) (p : ℕ) (n : _) → kind_of sys.flow p ≡ Join n → (a b : ℕ) (t : Stamp) (x : Rec) (vs : List Event) → AllByRecursion (IsOnOne a b) vs
+    → weigh (one t x) (timed_of (sent_by sys p vs)) ≡ pairs t x (timed_of (delivered vs a)) (timed_of (delivered vs b))
+unfolding weigh sends
+join-sent sys p n is a b t x [] o = refl
+join-sent sys p n is a b t x (Inject s y ∷ vs) o =
+    let c = sent-weigh sys p (one t x) (Inject s y) vs in
+    let d = ap (λ k. weigh (one t x) (timed_of (sends_of_kind sys k vs (Inject s y)))) is in
+    let h = join-sent sys p n is a b t x vs o.1 in
+    omega arith
+join-sent sys p n is a b t x (Notify q s ∷ vs) o =
+    let c = sent-weigh sys p (one t x) (Notify q s) vs in
+    let d = ap (λ k. weigh (one t x) (timed_of (sends_of_kind sys k vs (Notify q s)))) is in
+    let h = join-sent sys p n is a b t x vs o.1 in
+    omega arith
+join-sent sys p n is a b t x (Deliver e m ∷ vs) o =
+    let c = sent-weigh sys p (one t x) (Deliver e m) vs in
+    let d = ap (λ k. weigh (one t x) (timed_of (sends_of_kind sys k vs (Deliver e m)))) is in
+    let h = join-sent sys p n is a b t x vs o.1 in
+    let ls = timed_of (delivered vs a) in
+    let rs = timed_of (delivered vs b) in
+    let firsts = all_on (IsOnOther a b) (on_first a b) vs o.1 in
+    let seconds = all_on (IsOnOther b a) (on_second a b) vs o.1 in
+    elim (cases_Bool (e == a)) [
+      | inl i ↦
+          let j : (e == b) ≡ false = sym o.0.0 ∙ ap not i in
+          let f = ap (λ k. weigh (one t x) (timed_of (sends_of_kind sys (Join n) vs (Deliver k m)))) (eqb-true e a i) ∙ join-sends sys n t x a b m vs firsts in
+          let g : pairs t x (timed_of (cond (e == a) (m ∷ []) [] ++ delivered vs a)) (timed_of (cond (e == b) (m ∷ []) [] ++ delivered vs b)) ≡ pairs t x (timed_message m ∷ ls) rs =
+          ap (λ k. pairs t x (timed_of (cond k (m ∷ []) [] ++ delivered vs a)) (timed_of (cond (e == b) (m ∷ []) [] ++ delivered vs b))) i
+          ∙ ap (λ k. pairs t x (timed_message m ∷ ls) (timed_of (cond k (m ∷ []) [] ++ delivered vs b))) j in
+          omega arith
+      | inr i ↦
+          let j : (e == b) ≡ true = sym o.0.0 ∙ ap not i in
+          let f = ap (λ k. weigh (one t x) (timed_of (sends_of_kind sys (Join n) vs (Deliver k m)))) (eqb-true e b j) ∙ join-sends sys n t x b a m vs seconds in
+          let g : pairs t x (timed_of (cond (e == a) (m ∷ []) [] ++ delivered vs a)) (timed_of (cond (e == b) (m ∷ []) [] ++ delivered vs b)) ≡ pairs t x ls (timed_message m ∷ rs) =
+          ap (λ k. pairs t x (timed_of (cond k (m ∷ []) [] ++ delivered vs a)) (timed_of (cond (e == b) (m ∷ []) [] ++ delivered vs b))) i
+          ∙ ap (λ k. pairs t x ls (timed_of (cond k (m ∷ []) [] ++ delivered vs b))) j in
+          let r = pairs-right t x (timed_message m) ls rs in
+          omega arith
+    ]
+  where
+    all_on : (P : Event → Type 0) → ((v : Event) → IsOnOne a b v → P v) → (ws : List Event) → AllByRecursion (IsOnOne a b) ws → AllByRecursion P ws
+    all_on P k [] o = tt
+    all_on P k (w ∷ ws) o = (k w o.0, all_on P k ws o.1)
+
+-- ---- the two in-edges
+
+pub two_edges : (ds : List ℕ) → length ds ≡ 2 → (a : ℕ) × (b : ℕ) × (ds ≡ a ∷ b ∷ [])
+two_edges [] l = absurd (omega arith)
+two_edges (a ∷ []) l = absurd (omega arith)
+two_edges (a ∷ b ∷ []) l = (a, b, refl)
+two_edges (a ∷ b ∷ c ∷ ds) l = absurd (omega arith)
+
+on_one-cases : (c d : Bool) → cond c 1 0 + (cond d 1 0 + 0) ≡ 1 → (not c ≡ d) × (not d ≡ c)
+on_one-cases true true k = absurd (omega arith)
+on_one-cases true false k = (refl, refl)
+on_one-cases false true k = (refl, refl)
+on_one-cases false false k = absurd (omega arith)
+
+on_one-event : (flow : Dataflow) (p a b : ℕ) → p < length flow.nodes → in_edges flow p ≡ a ∷ b ∷ [] → (e : ℕ) → (receiver flow e == p) ≡ true
+    → (not (e == a) ≡ (e == b)) × (not (e == b) ≡ (e == a))
+unfolding weigh
+on_one-event flow p a b l i e k =
+    on_one-cases (e == a) (e == b) (sym (ap (weigh (at_edge e 1)) i) ∙ in_edges-once flow p e 1 l ∙ ap (λ c. cond c 1 0) k)
+
+pub on_one : (flow : Dataflow) (p a b : ℕ) → p < length flow.nodes → in_edges flow p ≡ a ∷ b ∷ [] → (h : List Event) → AllByRecursion (IsOnOne a b) (events_at flow p h)
+on_one flow p a b l i [] = tt
+on_one flow p a b l i (Inject s x ∷ h) =
+    let rest = on_one flow p a b l i h in
+    cond_both (s == p) (Inject s x ∷ events_at flow p h) (events_at flow p h) (AllByRecursion (IsOnOne a b)) (λ k. (tt, rest)) (λ k. rest)
+on_one flow p a b l i (Notify q t ∷ h) =
+    let rest = on_one flow p a b l i h in
+    cond_both (q == p) (Notify q t ∷ events_at flow p h) (events_at flow p h) (AllByRecursion (IsOnOne a b)) (λ k. (tt, rest)) (λ k. rest)
+on_one flow p a b l i (Deliver e m ∷ h) =
+    let rest = on_one flow p a b l i h in
+    cond_both (receiver flow e == p) (Deliver e m ∷ events_at flow p h) (events_at flow p h) (AllByRecursion (IsOnOne a b))
+    (λ k. (on_one-event flow p a b l i e k, rest)) (λ k. rest)
+
+-- what was delivered to a node on one of its in-edges was delivered on that edge
+pub delivered_at : (flow : Dataflow) (p d : ℕ) → receiver flow d ≡ p → (h : List Event) → delivered (events_at flow p h) d ≡ delivered h d
+delivered_at flow p d r [] = refl
+delivered_at flow p d r (Inject s x ∷ h) =
+    cond_both (s == p) (Inject s x ∷ events_at flow p h) (events_at flow p h) (λ vs. delivered vs d ≡ delivered h d) (λ k. delivered_at flow p d r h) (λ k. delivered_at flow p d r h)
+delivered_at flow p d r (Notify q t ∷ h) =
+    cond_both (q == p) (Notify q t ∷ events_at flow p h) (events_at flow p h) (λ vs. delivered vs d ≡ delivered h d) (λ k. delivered_at flow p d r h) (λ k. delivered_at flow p d r h)
+delivered_at flow p d r (Deliver e m ∷ h) =
+    let rest = delivered_at flow p d r h in
+    cond_both (receiver flow e == p) (Deliver e m ∷ events_at flow p h) (events_at flow p h) (λ vs. delivered vs d ≡ cond (e == d) (m ∷ []) [] ++ delivered h d)
+    (λ k. ap (λ ms. cond (e == d) (m ∷ []) [] ++ ms) rest)
+    (λ k. elim (cases_Bool (e == d)) [
+      | inl j ↦ absurd (eqb-false (receiver flow e) p k (ap (receiver flow) (eqb-true e d j) ∙ r))
+      | inr j ↦ rest ∙ sym (ap (λ c. cond c (m ∷ []) [] ++ delivered h d) j)
+    ])

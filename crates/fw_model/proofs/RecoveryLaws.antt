@@ -32,7 +32,7 @@ use Rattle.fw_model.specs.Choice.{kept, Choice, set_of, cut_of, kept_of, filtere
 use Rattle.fw_model.specs.Steps.{Effect, Outcome, did, idle, Takes, Steps, Run, with_event, GrowsTo, IsSettledCut, CutsTo, recovered}
 use Rattle.fw_model.specs.LawsOfProjections.{is_sequence_kind}
 use Rattle.fw_model.specs.LawsOfLegalHistories.{HasEpochs}
-use Rattle.fw_model.specs.LawsOfDeliveries.{IsOneByOne, recs_at}
+use Rattle.fw_model.specs.LawsOfDeliveries.{recs_at}
 use Rattle.fw_model.specs.LawsOfFiltering.{messages_inside}
 use Rattle.fw_model.specs.LawsOfRuns.{IsDenotedEffect, IsDenoted}
 use Rattle.fw_model.specs.LawsOfRecoveries.{StepsKeepHistoriesLegal, RunsStayLegalThroughRecoveries, SettledStaysDenoted, DenotedIsFull, AcknowledgementsShowDenotationThroughRecoveries}
@@ -41,7 +41,7 @@ use Rattle.fw_model.proofs.EachLaws.{each-weaker}
 use Rattle.fw_model.proofs.CompleteLaws.{past_edges-idle, not_owed-notified, not_owed-delivered}
 use Rattle.fw_model.proofs.LegalLaws.{less-each}
 use Rattle.fw_model.proofs.SendsLaws.{IsOfCause, sent_by-of_cause}
-use Rattle.fw_model.proofs.DenotedLaws.{delivered-is_denoted}
+use Rattle.fw_model.proofs.PrefixLaws.{delivered-is_denoted}
 use Rattle.fw_model.proofs.SubBagLaws.{sent-is_sub, delivered-is_sub}
 use Rattle.fw_model.proofs.OutputLaws.{same-is}
 use Rattle.fw_model.proofs.FilterLaws.{each-one, filter-inner}
@@ -285,15 +285,15 @@ run-holds sys family w p b [] (o ∷ os) state last f r = absurd r
 run-holds sys family w p b (s ∷ ss) [] state last f r = absurd r
 run-holds sys family w p b (s ∷ ss) (o ∷ os) state last f r = run-holds sys family w p b ss os r.0 last (steps-hold sys family w p b state s r.0 o f r.1) r.2
 
-one_by_one-denotes : (sys : System) (family : Family) → IsWellFormedSystem sys → IsOneByOne sys.flow → IsDenotation sys family → Denotes sys family
-one_by_one-denotes sys family w k u = record {
-  within = λ h l e t r. delivered-is_sub sys h family w k l u e t r;
-  whole = λ h l done a e t i. delivered-is_denoted sys h family w k l u done a e t i;
+all_kinds-denote : (sys : System) (family : Family) → IsWellFormedSystem sys → IsDenotation sys family → Denotes sys family
+all_kinds-denote sys family w u = record {
+  within = λ h l e t r. delivered-is_sub sys h family w l u e t r;
+  whole = λ h l done a e t i. delivered-is_denoted sys h family w l u done a e t i;
 }
 
 pub settled-stays_denoted : SettledStaysDenoted
-settled-stays_denoted sys family w k u steps outcomes last r =
-    let f = run-holds sys family w.flow (epochs-of sys w) (one_by_one-denotes sys family w k u) steps outcomes (first_state sys) last (first-holds sys family w.flow) r in
+settled-stays_denoted sys family w u steps outcomes last r =
+    let f = run-holds sys family w.flow (epochs-of sys w) (all_kinds-denote sys family w u) steps outcomes (first_state sys) last (first-holds sys family w.flow) r in
     record { denoted = f.denoted; paid = f.paid }
 
 -- ---- acknowledgements
@@ -328,8 +328,8 @@ run-denoted sys family w p b (s ∷ ss) (o ∷ os) state last f r =
     shown idle t = tt
 
 pub acknowledged-denoted : AcknowledgementsShowDenotationThroughRecoveries
-acknowledged-denoted sys family w k u steps outcomes last r =
-    run-denoted sys family w.flow (epochs-of sys w) (one_by_one-denotes sys family w k u) steps outcomes (first_state sys) last (first-holds sys family w.flow) r
+acknowledged-denoted sys family w u steps outcomes last r =
+    run-denoted sys family w.flow (epochs-of sys w) (all_kinds-denote sys family w u) steps outcomes (first_state sys) last (first-holds sys family w.flow) r
 
 -- ---- denoted is full
 
@@ -360,11 +360,11 @@ past-nothing sys h e past =
     (sent_by-of_cause sys q (ap is_sequence_kind is) (events_at sys.flow q h))
 
 -- where as much was delivered as can be sent, nothing is pending
-denoted-quiet : (sys : System) (family : Family) (h : List Event) → IsWellFormedSystem sys → IsOneByOne sys.flow → IsDenotation sys family → IsLegal sys h
+denoted-quiet : (sys : System) (family : Family) (h : List Event) → IsWellFormedSystem sys → IsDenotation sys family → IsLegal sys h
     → (e : ℕ) (t : Stamp) → sorted (recs_at t (delivered h e)) ≡ bag_at family e t → some_at (same t) (pending sys h e) ≡ false
-denoted-quiet sys family h w k u l e t all = weightless t (pending sys h e) (λ q.
+denoted-quiet sys family h w u l e t all = weightless t (pending sys h e) (λ q.
     let weight : Message → ℕ = λ m. one t q (timed_message m) in
-    let few = sent-is_sub sys h family w k l u e t q in
+    let few = sent-is_sub sys h family w l u e t q in
     let bag = ap (how_often q) all in
     let in_order = how_often-bag_sum q (recs_at t (delivered h e)) [] in
     let sent_now = how_often-recs_at t q (sent sys h e) in
@@ -380,11 +380,11 @@ past-paid sys h p t past =
     ap (λ (n : Node). is_notified_kind n.kind && was_delivered_to sys.flow p t h && not (was_notified p t h)) (get_or_past sys.flow.nodes p idle_node past)
 
 pub denoted-full : DenotedIsFull
-denoted-full sys family state w k u l f =
+denoted-full sys family state w u l f =
     let h = events state.history in
     record {
       quiet = λ p t i e r. elim (cases_lt e (length sys.flow.edges)) [
-        | inl real ↦ denoted-quiet sys family h w k u l e t (f.denoted e real t (ap (λ n. settled_at sys state.settled n t) r ∙ i))
+        | inl real ↦ denoted-quiet sys family h w u l e t (f.denoted e real t (ap (λ n. settled_at sys state.settled n t) r ∙ i))
         | inr past ↦ none-at (same t) (pending sys h e) (less-each (λ m. ⊥) (sent sys h e) (delivered h e) (past-nothing sys h e past))
       ];
       paid = λ p t i. elim (cases_lt p (length sys.flow.nodes)) [ inl real ↦ f.paid p real t i | inr past ↦ past-paid sys h p t past ];

@@ -15,7 +15,7 @@ use Rattle.fw_model.specs.Machine.{Machine, events, first_state, front_of}
 use Rattle.fw_model.specs.Choice.{View, IsCandidate}
 use Rattle.fw_model.specs.Steps.{Outcome, Steps, Run}
 use Rattle.fw_model.specs.LawsOfLegalHistories.{HasEpochs}
-use Rattle.fw_model.specs.LawsOfDeliveries.{IsOneByOne, recs_at}
+use Rattle.fw_model.specs.LawsOfDeliveries.{recs_at}
 use Rattle.fw_model.specs.LawsOfFiltering.{IsFull}
 use Rattle.fw_model.specs.LawsOfRuns.{IsDenoted}
 
@@ -48,17 +48,17 @@ pub record IsDenotedInside (sys : System) (family : Family) (state : Machine) : 
 
 -- in each state to which steps lead from the first one, what is settled is denoted
 abbrev pub SettledStaysDenoted : Type 0
-SettledStaysDenoted = (sys : System) (family : Family) → IsWellFormedSystem sys → IsOneByOne sys.flow → IsDenotation sys family
+SettledStaysDenoted = (sys : System) (family : Family) → IsWellFormedSystem sys → IsDenotation sys family
     → (steps : List Step) (outcomes : List Outcome) (last : Machine) → Run sys (first_state sys) steps outcomes last
     → IsDenotedInside sys family last
 
 -- where what is settled is denoted, nothing more can come there
 abbrev pub DenotedIsFull : Type 0
-DenotedIsFull = (sys : System) (family : Family) (state : Machine) → IsWellFormedSystem sys → IsOneByOne sys.flow
+DenotedIsFull = (sys : System) (family : Family) (state : Machine) → IsWellFormedSystem sys
     → IsDenotation sys family → IsLegal sys (events state.history) → IsDenotedInside sys family state → IsFull sys state
 
 -- each acknowledgement of a run shows the denotation, with recoveries among its steps
 abbrev pub AcknowledgementsShowDenotationThroughRecoveries : Type 0
-AcknowledgementsShowDenotationThroughRecoveries = (sys : System) (family : Family) → IsWellFormedSystem sys → IsOneByOne sys.flow
+AcknowledgementsShowDenotationThroughRecoveries = (sys : System) (family : Family) → IsWellFormedSystem sys
     → IsDenotation sys family → (steps : List Step) (outcomes : List Outcome) (last : Machine)
     → Run sys (first_state sys) steps outcomes last → AllByRecursion (IsDenoted sys family) outcomes

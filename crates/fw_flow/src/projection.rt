@@ -125,6 +125,7 @@ impl Flow {
         ensures receiver { result.2 ≡ bounds_of self.now (receiver self.now edge) }
         ensures well_formed { IsWellFormed self.now }
     {
+        // Where a field is read, the flow is known to be well formed.
         let _ = &self.edges;
         let src = self.src(edge);
         (

@@ -22,9 +22,9 @@ use Rattle.fw_flow.specs.declared.raw.Declaration.TheVariants.{Loop as ALoop, No
 use Rattle.fw_flow.specs.declared.raw.Declared.{Declared}
 use Rattle.fw_flow.specs.declared.raw.NameSpaces.{NameSpaces}
 use Rattle.fw_flow.specs.declared.walks.Link.{Link}
-use Rattle.fw_flow.specs.Check.{HoldsBelow, IsFirstBreak, IsFirstBreakIfAny, HasItsDegrees, JoinsDomains, HasAllowedPolicy, AreWalksRight, IsWalkWrong, HasBorders, node_lines, edge_lines, Holds, IsFirstBrokenOf, IsFirstBroken}
+use Rattle.fw_flow.specs.Check.{HoldsBelow, IsFirstBreak, IsFirstBreakIfAny, HasItsDegrees, JoinsDomains, HasAllowedPolicy, AreWalksRight, IsWalkWrong, HasBorders, node_lines, edge_lines, Holds, later_rules, IsFirstBrokenOf, IsFirstBroken}
 use Rattle.fw_flow.specs.Dataflow.{Dataflow, kind_of, in_edges, out_edges, edges_into, edges_from}
-use Rattle.fw_flow.specs.Draft.{IsDraftOf, AllHold}
+use Rattle.fw_flow.specs.Draft.{IsDraftOf, LaterRulesHold}
 use Rattle.fw_flow.specs.Flow.{edges_at, IsIndexed}
 use Rattle.fw_flow.specs.Parts.{ArePartsOf, capped_kind, capped_node, capped_flow, places_from}
 use Rattle.fw_flow.specs.Raw.{names_of, loop_names, node_names, edge_names, node_name, edge_name, loop_in, node_in, edge_in, flow_of}
@@ -240,13 +240,13 @@ pub refused_whole : (code : Code) (Q : Refusal → Type 0) (fault : ReadFault) �
 refused_whole code Q fault e h = subst (IfRefused Q) (sym e) h
 
 -- after declared names, the first broken of the rules that follow is the first broken rule
-pub later_rules : (raw : List Declared) (fault : ReadFault) → Holds raw F3 → IfRefused (IsFirstBrokenOf (F4 ∷ F5 ∷ F6 ∷ F7 ∷ F8 ∷ F9 ∷ []) raw) fault → IfRefused (IsFirstBroken raw) fault
-later_rules raw (Refused r) names first = inr (names, first)
-later_rules raw NoMemory names first = tt
+pub IsFirstBroken-from_later : (raw : List Declared) (fault : ReadFault) → Holds raw F3 → IfRefused (IsFirstBrokenOf later_rules raw) fault → IfRefused (IsFirstBroken raw) fault
+IsFirstBroken-from_later raw (Refused r) names first = inr (names, first)
+IsFirstBroken-from_later raw NoMemory names first = tt
 
 -- ---- the flow
 
-pub well_formed_draft : (raw : List Declared) → Holds raw F3 → AllHold raw → IsWellFormed (flow_of raw)
+pub well_formed_draft : (raw : List Declared) → Holds raw F3 → LaterRulesHold raw → IsWellFormed (flow_of raw)
 well_formed_draft raw names all = IsWellFormed-from_rules raw names all.degrees all.domains all.walks all.policies all.limits all.borders
 
 -- the flow that a draft's parts make
@@ -284,7 +284,7 @@ names_of_flow raw = (
 )
 
 -- the flow of a draft that breaks no rule is kept with its names and edges
-pub IsIndexed-from_draft : (draft : Draft) (raw : List Declared) (names : NameSpaces) → names ≡ names_of raw → IsDraftOf draft raw → Holds raw F3 → AllHold raw
+pub IsIndexed-from_draft : (draft : Draft) (raw : List Declared) (names : NameSpaces) → names ≡ names_of raw → IsDraftOf draft raw → Holds raw F3 → LaterRulesHold raw
     → IsIndexed (drafted draft) names.nodes names.edges draft.incoming.items draft.outgoing.items
 unfolding in_edges out_edges
 IsIndexed-from_draft draft raw names taken of_draft names_hold all =

@@ -139,9 +139,13 @@ IsBroken raw F8 line = IsFirstBreak (StaysWithinLimits raw) (all_lines raw) line
 IsBroken raw F9 line = (HasBorders (flow_of raw) → ⊥) × (line ≡ 0)
 IsBroken raw code line = ⊥
 
+-- the rules that are tested once the names are declared, in their order
+abbrev pub later_rules : List Code
+later_rules = F4 ∷ F5 ∷ F6 ∷ F7 ∷ F8 ∷ F9 ∷ []
+
 -- the rules, in the order in which they are tested
 abbrev pub rules : List Code
-rules = F3 ∷ F4 ∷ F5 ∷ F6 ∷ F7 ∷ F8 ∷ F9 ∷ []
+rules = F3 ∷ later_rules
 
 -- the refusal is the first of these rules that is broken, with its line
 abbrev pub IsFirstBrokenOf : List Code → List Declared → Refusal → Type 0

@@ -11,7 +11,7 @@ use Rattle.fw_flow.specs.Raw.{names_of}
 use Rattle.fw_flow.specs.Walks.{AreWithin, link_of}
 
 -- the lists of a draft are as long as each other asks, and its links join its nodes
-pub record Fits (draft : Draft) : Type 0 where
+pub record FitsTogether (draft : Draft) : Type 0 where
   pub within : AreWithin (length draft.parts.nodes.items) draft.links.items
   pub lines_of_nodes : length draft.parts.node_lines.items ≡ length draft.parts.nodes.items
   pub lines_of_edges : length draft.parts.edge_lines.items ≡ length draft.links.items
@@ -25,8 +25,8 @@ pub record IsDraftOf (draft : Draft) (raw : List Declared) : Type 0 where
   pub edges_in : (p : ℕ) → edges_at draft.incoming.items p ≡ edges_into 0 draft.parts.edges.items p
   pub edges_out : (p : ℕ) → edges_at draft.outgoing.items p ≡ edges_from 0 draft.parts.edges.items p
 
--- the rules from F4 on hold
-pub record AllHold (raw : List Declared) : Type 0 where
+-- the rules that are tested once the names are declared hold
+pub record LaterRulesHold (raw : List Declared) : Type 0 where
   pub degrees : Holds raw F4
   pub domains : Holds raw F5
   pub walks : Holds raw F6

@@ -1,12 +1,11 @@
 //! A flow whose parts have their places, and whose rules are not tested yet.
-ghost use Rattle.std.specs.Prelude.{◌≡◌, ◌^◌, ◌<◌, List, [], ◌∷◌, map, length, OnOk, IfOk, IfErr};
+ghost use Rattle.std.specs.Prelude.{◌≡◌, ◌^◌, ◌<◌, List, map, length, OnOk, IfOk, IfErr};
 ghost use Rattle.fw_lines.specs.Faults.{IfRefused};
 ghost use Rattle.fw_lines.specs.declared.refusal.Code.TheVariants as code;
 ghost use Rattle.fw_flow.specs.declared.raw.Declared.{Declared};
-ghost use Rattle.fw_flow.specs.Check.{all_lines, StaysWithinLimits, IsFirstBreakIfAny, Holds, IsFirstBrokenOf};
-ghost use Rattle.fw_flow.specs.Draft.{Fits, IsDraftOf, AllHold};
+ghost use Rattle.fw_flow.specs.Check.{all_lines, StaysWithinLimits, IsFirstBreakIfAny, Holds, later_rules, IsFirstBrokenOf};
+ghost use Rattle.fw_flow.specs.Draft.{FitsTogether, IsDraftOf, LaterRulesHold};
 ghost use Rattle.fw_flow.specs.Raw.{names_of};
-ghost use Rattle.fw_flow.specs.Walks.{AreWithin};
 
 use crate::check::{
     are_walks_right, degree_line, domain_line, edges_by_end, has_borders, links_of, policy_line,
@@ -39,7 +38,7 @@ impl Draft {
         requires named { names.now ≡ names_of declared.items }
         requires few { length declared.items < 2 ^ 32 }
         requires names_declared { Holds declared.items code.F3 }
-        ensures fits { IfOk result Fits }
+        ensures fits { IfOk result FitsTogether }
         ensures draft { IfOk result (λ draft. IsDraftOf draft declared.items) }
     {
         let parts = Parts::of(alloc, names, declared)?;
@@ -57,14 +56,13 @@ impl Draft {
     /// Tests the rules from F4 on, in their order, where this is the line of the first declaration
     /// past the limits.
     pub(crate) fn test(&self, alloc: Global, limit_line: Option<u32>) -> Result<(), ReadFault>
-        requires { Fits self.now }
+        requires { FitsTogether self.now }
         ensures kept { (raw : List Declared) → IsDraftOf self.now raw
             → IsFirstBreakIfAny (StaysWithinLimits raw) (all_lines raw) limit_line
-            → OnOk result (AllHold raw) }
+            → OnOk result (LaterRulesHold raw) }
         ensures broken { (raw : List Declared) → IsDraftOf self.now raw
             → IsFirstBreakIfAny (StaysWithinLimits raw) (all_lines raw) limit_line
-            → IfErr result (IfRefused (IsFirstBrokenOf
-            (code.F4 ∷ code.F5 ∷ code.F6 ∷ code.F7 ∷ code.F8 ∷ code.F9 ∷ []) raw)) }
+            → IfErr result (IfRefused (IsFirstBrokenOf later_rules raw)) }
     {
         let nodes = self.parts.nodes.as_slice();
         let node_lines = self.parts.node_lines.as_slice();

@@ -1,7 +1,6 @@
 //! The parts of a flow by their places, from declarations by names.
-ghost use Rattle.std.specs.Prelude.{◌≡◌, ℕ, ◌^◌, ◌<◌, List, [], ◌∷◌, ◌++◌, map, length, IfOk, OnOk};
+ghost use Rattle.std.specs.Prelude.{◌≡◌, ◌^◌, ◌<◌, [], ◌∷◌, ◌++◌, map, length, IfOk, OnOk};
 ghost use Rattle.std.specs.Option.{option_map};
-ghost use Rattle.fw_flow.specs.declared.raw.Declared.{Declared};
 ghost use Rattle.fw_flow.specs.Check.{node_lines, edge_lines};
 ghost use Rattle.fw_flow.specs.Parts as spec;
 ghost use Rattle.fw_flow.specs.Parts.{ArePartsOf, capped_kind, capped_loop, capped_node};

@@ -1,0 +1,68 @@
+-- The lines of a flow, read one after another.
+use Rattle.std.proofs.Common.{◌≡◌, ℕ, ◌≤◌, List, [], ◌∷◌, ◌++◌, length, map, Some, None, Result, Ok, Err, MatchResult, sym, ◌∙◌, ap, subst, inr, arith}
+use Rattle.std.proofs.lemmas.List.{append-nil}
+use Rattle.std.proofs.lemmas.List.Elements.{filter_map-append}
+use Rattle.fw_lines.specs.declared.fault.ReadFault.{ReadFault}
+use Rattle.fw_lines.specs.declared.fault.ReadFault.TheVariants.{Refused, NoMemory}
+use Rattle.fw_lines.specs.declared.refusal.Refusal.{Refusal}
+use Rattle.fw_lines.specs.Faults.{IsSound, IsFirstFault, IfRefused}
+use Rattle.fw_lines.specs.declared.span.Span.{Span}
+use Rattle.fw_lines.specs.Lines.{Said, said_lines, bytes_at}
+use Rattle.fw_lines.proofs.FaultLaws.{IsSoundSoFar, sound_more, first_fault, none_left}
+use Rattle.fw_flow.specs.declared.raw.Declared.{Declared}
+use Rattle.fw_flow.specs.Check.{IsChecked, IsFirstBroken}
+use Rattle.fw_flow.specs.Dataflow.{Dataflow}
+use Rattle.fw_flow_text.specs.Forms.{declaration_of}
+use Rattle.fw_flow_text.specs.Grammar.{declared_in, declared_by, words_fault, line_fault, IsAccepted, IsRefused}
+
+-- what the code's loop knows: some lines are done, none of them breaks a rule, and the declarations are theirs
+pub record IsRead (lines left : List Said) (raw : List Declared) : Type 0 where
+  pub done : List Said
+  pub so_far : IsSoundSoFar line_fault lines left done
+  pub value : raw ≡ declared_by done
+
+-- the declarations that are read count as those of the lines that are done
+fault_done : (raw : List Declared) (done : List Said) (line : Said) → raw ≡ declared_by done → line_fault done line ≡ words_fault raw line.words
+fault_done raw done line e = ap (λ before. words_fault before line.words) (sym e)
+
+-- one line more is read
+pub read_more : (lines left next : List Said) (line : Said) (raw new : List Declared) → IsRead lines left raw → left ≡ line ∷ next
+    → words_fault raw line.words ≡ None → new ≡ raw ++ declared_by (line ∷ [])
+    → IsRead lines next new
+read_more lines left next line raw new read e sound value =
+    let so_far = subst (λ ls. IsSoundSoFar line_fault lines ls read.done) e read.so_far in
+    record {
+      done = read.done ++ line ∷ [];
+      so_far = sound_more line_fault lines read.done line next so_far (fault_done raw read.done line read.value ∙ sound);
+      value = value ∙ ap (λ ds. ds ++ declared_by (line ∷ [])) read.value ∙ sym (filter_map-append declared_in read.done (line ∷ []));
+    }
+
+-- the next line is the first that breaks a rule
+pub read_broken : (lines left next : List Said) (line : Said) (raw : List Declared) (refusal : Refusal) → IsRead lines left raw → left ≡ line ∷ next
+    → words_fault raw line.words ≡ Some refusal.code → refusal.line ≡ line.number
+    → IsFirstFault line_fault lines refusal
+read_broken lines left next line raw refusal read e broken number =
+    first_fault line_fault lines read.done line next refusal (subst (λ ls. IsSoundSoFar line_fault lines ls read.done) e read.so_far) (fault_done raw read.done line read.value ∙ broken) number
+
+-- all lines are read
+pub read_all : (lines : List Said) (raw : List Declared) → IsRead lines [] raw → IsSound line_fault lines × (raw ≡ declared_by lines)
+read_all lines raw read =
+    let all = none_left line_fault lines read.done read.so_far in
+    (all.0, read.value ∙ ap declared_by all.1)
+
+-- a line without words declares nothing
+pub declared_by-silent : (raw : List Declared) (number : ℕ) (text : List ℕ) (words : List Span) → length words ≡ 0 → raw ++ declared_by (record { number = number; words = map (bytes_at text) words } ∷ []) ≡ raw
+unfolding declaration_of
+declared_by-silent raw number text [] e = append-nil raw
+declared_by-silent raw number text (w ∷ ws) e = absurd (omega arith)
+
+-- what the declarations of all lines give, the text gives
+pub checked_all : (text : List ℕ) (left : List Said) (raw : List Declared) (result : Result Dataflow ReadFault) → length text ≤ 1048576 → IsRead (said_lines text) left raw → left ≡ []
+    → MatchResult result (IsChecked raw) (IfRefused (IsFirstBroken raw)) → MatchResult result (IsAccepted text) (IfRefused (IsRefused text))
+checked_all text left raw (Ok flow) size read e checked =
+    let all = read_all (said_lines text) raw (subst (λ ls. IsRead (said_lines text) ls raw) e read) in
+    record { size = size; sound = all.0; checked = subst (λ ds. IsChecked ds flow) all.1 checked }
+checked_all text left raw (Err (Refused refusal)) size read e broken =
+    let all = read_all (said_lines text) raw (subst (λ ls. IsRead (said_lines text) ls raw) e read) in
+    inr (inr (size, all.0, subst (λ ds. IsFirstBroken ds refusal) all.1 broken))
+checked_all text left raw (Err NoMemory) size read e broken = tt

@@ -1,0 +1,54 @@
+-- What single words of a flow spell. A number of 2^64 or more is marked as too large, and stands as 0.
+use Rattle.std.specs.Prelude.{ℕ, Bool, true, false, List, Option, Some, None, codes, if◌then◌else◌}
+use Rattle.std.specs.Str.{bytes_eq}
+use Rattle.fw_bag.specs.declared.select.Comparison.{Comparison}
+use Rattle.fw_bag.specs.declared.select.Comparison.TheVariants.{Equal, NotEqual, Less, LessOrEqual, Greater, GreaterOrEqual}
+use Rattle.fw_bag.specs.declared.select.Field.{Field}
+use Rattle.fw_bag.specs.declared.select.Field.TheVariants.{Key, Value}
+use Rattle.fw_bag.specs.declared.select.NewValue.{NewValue}
+use Rattle.fw_bag.specs.declared.select.NewValue.TheVariants as new
+use Rattle.fw_bag.specs.declared.select.Term.{Term}
+use Rattle.fw_bag.specs.declared.select.Term.TheVariants as term
+use Rattle.fw_lines.specs.declared.numeral.Number.{Number}
+use Rattle.fw_lines.specs.declared.numeral.Number.TheVariants as number
+use Rattle.fw_lines.specs.Spelling.{number_of}
+
+-- the number, and whether it is too large
+abbrev pub marked : Number → Option (ℕ × Bool)
+marked (number.Value n) = Some (n, false)
+marked number.TooLarge = Some (0, true)
+marked number.NotANumber = None
+
+-- the number that a word spells, and whether it is too large
+unfoldable pub numeral_of : List ℕ → Option (ℕ × Bool)
+numeral_of word = marked (number_of word)
+
+-- the field that a word names
+unfoldable pub field_of : List ℕ → Option Field
+field_of word = if bytes_eq word (codes "key") then Some Key else (if bytes_eq word (codes "value") then Some Value else None)
+
+-- the comparison that a word names
+unfoldable pub comparison_of : List ℕ → Option Comparison
+comparison_of word =
+    if bytes_eq word (codes "=") then Some Equal
+    else (if bytes_eq word (codes "!=") then Some NotEqual
+    else (if bytes_eq word (codes "<") then Some Less
+    else (if bytes_eq word (codes "<=") then Some LessOrEqual
+    else (if bytes_eq word (codes ">") then Some Greater
+    else (if bytes_eq word (codes ">=") then Some GreaterOrEqual
+    else None)))))
+
+-- a field, or else a number, as a term
+abbrev pub term_from : Option Field → Option (ℕ × Bool) → Option (Term × Bool)
+term_from (Some field) numeral = Some (term.Field field, false)
+term_from None (Some (n, large)) = Some (term.Number n, large)
+term_from None None = None
+
+-- the term that a word spells: a number or a field
+unfoldable pub term_of : List ℕ → Option (Term × Bool)
+term_of word = term_from (field_of word) (numeral_of word)
+
+-- a term as a new value
+abbrev pub value_from : Term → NewValue
+value_from (term.Number n) = new.Number n
+value_from (term.Field field) = new.Field field

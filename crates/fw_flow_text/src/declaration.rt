@@ -1,0 +1,82 @@
+ghost use Rattle.std.specs.Prelude.{◌≡◌, IfOk};
+ghost use Rattle.fw_lines.specs.Lines.{words_at};
+ghost use Rattle.fw_flow_text.specs.Forms as spec;
+
+use crate::node::node_form;
+use fw_flow::{Declaration, Name};
+use fw_lines::Span;
+use std::alloc::{AllocError, Global};
+
+// What a line of these words declares, and whether a number in it is 2^64 or more; `None` where the words have no form.
+#[tactic(auto, unfolding(crate::specs::Forms::declaration_of))]
+pub(crate) fn declaration(
+    alloc: Global,
+    text: &[u8],
+    words: &[Span],
+) -> Result<Option<(Declaration, bool)>, AllocError>
+    ensures { IfOk result (λ found. found ≡ spec.declaration_of (words_at text.now words.now)) }
+{
+    let [first, rest @ ..] = words else {
+        return Ok(None);
+    };
+    match first.of(text) {
+        b"node" => node(alloc, text, rest),
+        b"edge" => edge(alloc, text, rest),
+        _ => Ok(None),
+    }
+}
+
+// A node, from its name on.
+#[tactic(auto, unfolding(crate::specs::Forms::node_declaration))]
+fn node(
+    alloc: Global,
+    text: &[u8],
+    words: &[Span],
+) -> Result<Option<(Declaration, bool)>, AllocError>
+    ensures { IfOk result (λ found. found ≡ spec.node_declaration (words_at text.now words.now)) }
+{
+    let [name, kind, rest @ ..] = words else {
+        return Ok(None);
+    };
+    let Some(name) = Name::new(alloc, name.of(text))? else {
+        return Ok(None);
+    };
+    let Some(form) = node_form(text, kind.of(text), rest) else {
+        return Ok(None);
+    };
+    let declaration = Declaration::Node {
+        name,
+        kind: form.kind,
+        policy: form.policy,
+    };
+    Ok(Some((declaration, form.is_large)))
+}
+
+// An edge, from its name on.
+#[tactic(auto, unfolding(crate::specs::Forms::edge_declaration))]
+fn edge(
+    alloc: Global,
+    text: &[u8],
+    words: &[Span],
+) -> Result<Option<(Declaration, bool)>, AllocError>
+    ensures { IfOk result (λ found. found ≡ spec.edge_declaration (words_at text.now words.now)) }
+{
+    let [name, sender, receiver] = words else {
+        return Ok(None);
+    };
+    let Some(name) = Name::new(alloc, name.of(text))? else {
+        return Ok(None);
+    };
+    let Some(sender) = Name::new(alloc, sender.of(text))? else {
+        return Ok(None);
+    };
+    let Some(receiver) = Name::new(alloc, receiver.of(text))? else {
+        return Ok(None);
+    };
+    let declaration = Declaration::Edge {
+        name,
+        sender,
+        receiver,
+    };
+    Ok(Some((declaration, false)))
+}

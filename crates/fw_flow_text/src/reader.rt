@@ -1,0 +1,80 @@
+ghost use Rattle.std.specs.Prelude.{◌≡◌, [], ◌∷◌, ◌++◌, OnOk, IfErr, MatchResult};
+ghost use Rattle.std.specs.Option.{option_map, option_to_list};
+ghost use Rattle.fw_lines.specs.Faults.{IfRefused};
+ghost use Rattle.fw_lines.specs.Lines.{words_at, said_in};
+ghost use Rattle.fw_flow_text.specs.Grammar.{declared_by, words_fault, form_fault, IsAccepted, IsRefused};
+
+use crate::declaration::declaration;
+use fw_flow::{Declaration, Declared, Flow, RawFlow};
+use fw_lines::{Code, Line, Place, ReadFault, Refusal, line_at};
+use std::alloc::Global;
+
+/// The longest text, in bytes.
+const SIZE_LIMIT: usize = 1_048_576;
+
+/// Reads a flow.
+///
+/// It takes the memory of the flow, of its declarations and of the words of one line. Where no memory is refused it
+/// answers `Ok` exactly for the texts of the grammar, with the dataflow that they declare, and else the first rule that
+/// is broken.
+pub fn read_flow(alloc: Global, text: &[u8]) -> Result<Flow, ReadFault>
+    ensures { MatchResult result (IsAccepted text.now) (IfRefused (IsRefused text.now)) }
+{
+    if text.len() > SIZE_LIMIT {
+        return Err(ReadFault::of_whole(Code::F11));
+    }
+    let mut raw = RawFlow::new(alloc);
+    let mut place = Some(Place::START);
+    while let Some(at) = place {
+        let (line, next) = line_at(alloc, text, at)?;
+        read_line(alloc, text, &line, &mut raw)?;
+        place = next;
+    }
+    Flow::check(alloc, raw)
+}
+
+// Adds what a line declares, or tells the rule that it breaks.
+fn read_line(alloc: Global, text: &[u8], line: &Line, raw: &mut RawFlow) -> Result<(), ReadFault>
+    ensures sound { OnOk result (words_fault raw.old (words_at text.now line.now.words) ≡ None) }
+    ensures value { OnOk result (raw.new ≡ raw.old ++ declared_by (said_in text.now line.now ∷ [])) }
+    ensures broken { IfErr result (IfRefused (λ refusal.
+        (words_fault raw.old (words_at text.now line.now.words) ≡ Some refusal.code)
+        × (refusal.line ≡ line.now.number))) }
+{
+    let words = line.words.as_slice();
+    if words.is_empty() {
+        return Ok(());
+    }
+    let found = declaration(alloc, text, words)?;
+    declare(found, line.number, raw)
+}
+
+// Adds what was found on a line with words, or tells the rule that it breaks.
+fn declare(
+    found: Option<(Declaration, bool)>,
+    line: u32,
+    raw: &mut RawFlow,
+) -> Result<(), ReadFault>
+    ensures sound { OnOk result (form_fault raw.old found ≡ None) }
+    ensures value { OnOk result (raw.new ≡ raw.old
+        ++ option_to_list (option_map (λ f. record { line = line; declaration = f.0 }) found)) }
+    ensures broken { IfErr result (IfRefused (λ refusal.
+        (form_fault raw.old found ≡ Some refusal.code) × (refusal.line ≡ line))) }
+{
+    let Some((declaration, is_large)) = found else {
+        return Err(refused(Code::F1, line));
+    };
+    if is_large {
+        return Err(refused(Code::F10, line));
+    }
+    if !raw.declare(Declared { line, declaration })? {
+        return Err(refused(Code::F2, line));
+    }
+    Ok(())
+}
+
+const fn refused(code: Code, line: u32) -> ReadFault
+    ensures { result ≡ ReadFault.Refused (record { code = code; line = line }) }
+{
+    ReadFault::Refused(Refusal { code, line })
+}

@@ -2,6 +2,7 @@
 #![tactic(auto)]
 
 mod declaration;
+pub mod laws;
 mod node;
 mod reader;
 mod select;

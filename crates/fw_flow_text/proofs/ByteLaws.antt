@@ -1,0 +1,319 @@
+-- The bytes of an accepted text. Words are clean where each of their bytes is allowed.
+use Rattle.std.proofs.Common.{◌≡◌, ℕ, ◌+◌, Bool, true, false, ◌&&◌, cond, List, [], ◌∷◌, length, take, Option, Some, None, refl, sym, ◌∙◌, ap, arith, slice_get, unwrap_or, suc, codes, option_map, nat_lt, ◌^◌}
+use Rattle.std.proofs.lemmas.Bool.Decides.{nat_tests}
+use Rattle.std.proofs.lemmas.Option.{slice_get_within, option_and_then_some}
+use Rattle.std.proofs.lemmas.Slice.Eq.{bytes_eq-Decides}
+use Rattle.std.specs.Char.{is_ascii_digit}
+use Rattle.std.specs.List.{list_all, filter, slice_split, onto_first}
+use Rattle.std.specs.Option.{option_and_then}
+use Rattle.std.specs.Str.{bytes_eq}
+use Rattle.std.specs.Str.Parse.{digits_value}
+use Rattle.fw_bag.specs.declared.select.Comparison.{Comparison}
+use Rattle.fw_bag.specs.declared.select.Comparison.TheVariants.{Equal, NotEqual, Less, LessOrEqual, Greater, GreaterOrEqual}
+use Rattle.fw_bag.specs.declared.select.Assignment.{Assignment}
+use Rattle.fw_bag.specs.declared.select.Condition.{Condition}
+use Rattle.fw_bag.specs.declared.select.Field.{Field}
+use Rattle.fw_bag.specs.declared.select.Field.TheVariants.{Key, Value}
+use Rattle.fw_bag.specs.declared.select.NewValue.{NewValue}
+use Rattle.fw_bag.specs.declared.select.Term.{Term}
+use Rattle.fw_lines.specs.declared.numeral.Number.TheVariants as number
+use Rattle.fw_lines.specs.Lines.{is_allowed, is_space, is_line_feed, is_word, words_of, lines_of, is_comment, said_by, said_from, said_lines, Said}
+use Rattle.fw_lines.specs.Spelling.{is_letter, is_in_names, is_name, is_numeral, number_of}
+use Rattle.fw_flow.specs.declared.kind.Policy.{Policy}
+use Rattle.fw_flow.specs.declared.raw.Declaration.{Declaration}
+use Rattle.fw_flow.specs.declared.raw.Declared.{Declared}
+use Rattle.fw_flow.specs.Dataflow.{Dataflow}
+use Rattle.fw_flow_text.specs.declared.node.NodeForm.{NodeForm}
+use Rattle.fw_flow_text.specs.Forms.{name_of, policy_of, policy_at_end, input_form, output_form, select_form, node_form, node_declaration, edge_declaration, declaration_of}
+use Rattle.fw_flow_text.specs.Grammar.{declared_by, form_fault, words_fault, line_fault, IsAccepted}
+use Rattle.fw_flow_text.specs.Laws.{is_in_texts}
+use Rattle.fw_flow_text.specs.Select.{condition_of, sum_value, plain_value, plain_part, value_part, set_part, assignment_part}
+use Rattle.fw_flow_text.specs.Words.{marked, numeral_of, field_of, comparison_of, term_from, term_of}
+
+abbrev pub is_clean : List ℕ → Bool
+is_clean word = list_all is_allowed word
+
+abbrev pub are_clean : List (List ℕ) → Bool
+are_clean words = list_all (λ word. is_clean word) words
+
+both : (a b : Bool) → a ≡ true → b ≡ true → (a && b) ≡ true
+both true b e f = f
+both false b e f = e
+
+first : (a b : Bool) → (a && b) ≡ true → a ≡ true
+first true b e = refl
+first false b e = e
+
+second : (a b : Bool) → (a && b) ≡ true → b ≡ true
+second true b e = e
+second false b e = absurd (cc)
+
+all_weaker : (p q : ℕ → Bool) → ((b : ℕ) → p b ≡ true → q b ≡ true) → (xs : List ℕ) → list_all p xs ≡ true → list_all q xs ≡ true
+all_weaker p q h [] e = refl
+all_weaker p q h (x ∷ xs) e = both (q x) (list_all q xs) (h x (first (p x) (list_all p xs) e)) (all_weaker p q h xs (second (p x) (list_all p xs) e))
+
+-- what a test of a word chose
+chosen : {A : Type 0} (P : Type 0) (word text : List ℕ) (found other : Option A) (y : A) → cond (bytes_eq word text) found other ≡ Some y
+    → (word ≡ text → found ≡ Some y → P) → (other ≡ Some y → P) → P
+chosen P word text found other y e here there = by_test (bytes_eq word text) refl e
+  where
+    by_test : (b : Bool) → bytes_eq word text ≡ b → cond b found other ≡ Some y → P
+    by_test true t r = here ((bytes_eq-Decides word text).0 t) r
+    by_test false t r = there r
+
+digit_allowed : (b : ℕ) → is_ascii_digit b ≡ true → is_allowed b ≡ true
+digit_allowed b e = grind (arith, nat_tests, e)
+
+letter_allowed : (b : ℕ) → is_letter b ≡ true → is_allowed b ≡ true
+letter_allowed b e = grind (arith, nat_tests, e)
+
+in_names_allowed : (b : ℕ) → is_in_names b ≡ true → is_allowed b ≡ true
+in_names_allowed b e = grind (arith, nat_tests, e)
+
+name_clean : (word : List ℕ) → is_name word ≡ true → is_clean word ≡ true
+name_clean [] e = absurd (cc)
+name_clean (b ∷ bs) e =
+    let others = second (is_letter b) (nat_lt (length bs) 32 && list_all is_in_names bs) e in
+    both (is_allowed b) (list_all is_allowed bs) (letter_allowed b (first (is_letter b) (nat_lt (length bs) 32 && list_all is_in_names bs) e))
+    (all_weaker is_in_names is_allowed in_names_allowed bs (second (nat_lt (length bs) 32) (list_all is_in_names bs) others))
+
+digits_clean : (word : List ℕ) → is_numeral word ≡ true → is_clean word ≡ true
+digits_clean [] e = absurd (cc)
+digits_clean (b ∷ []) e = both (is_allowed b) true (digit_allowed b e) refl
+digits_clean (b ∷ c ∷ bs) e = all_weaker is_ascii_digit is_allowed digit_allowed (b ∷ c ∷ bs) (second _ (list_all is_ascii_digit (b ∷ c ∷ bs)) e)
+
+numeral_clean : (word : List ℕ) (found : ℕ × Bool) → numeral_of word ≡ Some found → is_clean word ≡ true
+unfolding numeral_of number_of
+numeral_clean word found e = by_test (is_numeral word) refl e
+  where
+    by_test : (b : Bool) → is_numeral word ≡ b → marked (cond b (cond (nat_lt (digits_value 10 word) (2 ^ 64)) (number.Value (digits_value 10 word)) number.TooLarge) number.NotANumber) ≡ Some found → is_clean word ≡ true
+    by_test true t r = digits_clean word t
+    by_test false t r = absurd (cc)
+
+field_clean : (word : List ℕ) (found : Field) → field_of word ≡ Some found → is_clean word ≡ true
+unfolding field_of
+field_clean word found e =
+    chosen (is_clean word ≡ true) word (codes "key") (Some Key) _ found e (λ w r. ap is_clean w)
+    (λ e₂. chosen (is_clean word ≡ true) word (codes "value") (Some Value) None found e₂ (λ w r. ap is_clean w) (λ r. absurd (cc)))
+
+comparison_clean : (word : List ℕ) (found : Comparison) → comparison_of word ≡ Some found → is_clean word ≡ true
+unfolding comparison_of
+comparison_clean word found e =
+    chosen (is_clean word ≡ true) word (codes "=") (Some Equal) _ found e (λ w r. ap is_clean w)
+    (λ e₂. chosen (is_clean word ≡ true) word (codes "!=") (Some NotEqual) _ found e₂ (λ w r. ap is_clean w)
+    (λ e₃. chosen (is_clean word ≡ true) word (codes "<") (Some Less) _ found e₃ (λ w r. ap is_clean w)
+    (λ e₄. chosen (is_clean word ≡ true) word (codes "<=") (Some LessOrEqual) _ found e₄ (λ w r. ap is_clean w)
+    (λ e₅. chosen (is_clean word ≡ true) word (codes ">") (Some Greater) _ found e₅ (λ w r. ap is_clean w)
+    (λ e₆. chosen (is_clean word ≡ true) word (codes ">=") (Some GreaterOrEqual) None found e₆ (λ w r. ap is_clean w) (λ r. absurd (cc)))))))
+
+term_clean : (word : List ℕ) (found : Term × Bool) → term_of word ≡ Some found → is_clean word ≡ true
+unfolding term_of
+term_clean word found e = by_field (field_of word) refl e
+  where
+    by_numeral : (n : Option (ℕ × Bool)) → numeral_of word ≡ n → term_from None n ≡ Some found → is_clean word ≡ true
+    by_numeral (Some n) t r = numeral_clean word n t
+    by_numeral None t r = absurd (cc)
+
+    by_field : (f : Option Field) → field_of word ≡ f → term_from f (numeral_of word) ≡ Some found → is_clean word ≡ true
+    by_field (Some f) t r = field_clean word f t
+    by_field None t r = by_numeral (numeral_of word) refl r
+
+three_clean : (a b c : List ℕ) (rest : List (List ℕ)) → is_clean a ≡ true → is_clean b ≡ true → is_clean c ≡ true → are_clean rest ≡ true → are_clean (a ∷ b ∷ c ∷ rest) ≡ true
+three_clean a b c rest e f g h =
+    both (is_clean a) (is_clean b && (is_clean c && are_clean rest)) e (both (is_clean b) (is_clean c && are_clean rest) f (both (is_clean c) (are_clean rest) g h))
+
+condition_clean : (left between right : List ℕ) (rest : List (List ℕ)) (found : Condition × Bool) → condition_of left between right ≡ Some found → are_clean rest ≡ true → are_clean (left ∷ between ∷ right ∷ rest) ≡ true
+unfolding condition_of
+condition_clean left between right rest found e h =
+    option_and_then_some _ (field_of left) found e (λ field is_field e₂.
+    option_and_then_some _ (comparison_of between) found e₂ (λ comparison is_comparison e₃.
+    option_and_then_some _ (term_of right) found e₃ (λ term is_term e₄.
+    three_clean left between right rest (field_clean left field is_field) (comparison_clean between comparison is_comparison) (term_clean right term is_term) h)))
+
+-- the words that a part leaves
+rest_is : {A : Type 0} (value : A) (large : Bool) (rest : List (List ℕ)) (found : A × Bool × List (List ℕ)) → Some (value, large, rest) ≡ Some found → found.2 ≡ rest
+rest_is value large rest found e = ap (λ o. unwrap_or (option_map (λ f. f.2) o) []) (sym e)
+
+plain_clean : (word : List ℕ) (rest : List (List ℕ)) (found : NewValue × Bool × List (List ℕ)) → plain_part word rest ≡ Some found → are_clean found.2 ≡ true → are_clean (word ∷ rest) ≡ true
+plain_clean word rest found e h =
+    option_and_then_some _ (plain_value word) found e (λ value is_value e₂.
+    option_and_then_some _ (term_of word) value is_value (λ term is_term e₃.
+    both (is_clean word) (are_clean rest) (term_clean word term is_term) (ap are_clean (sym (rest_is value.0 value.1 rest found e₂)) ∙ h)))
+
+value_clean : (words : List (List ℕ)) (found : NewValue × Bool × List (List ℕ)) → value_part words ≡ Some found → are_clean found.2 ≡ true → are_clean words ≡ true
+unfolding value_part
+value_clean [] found e h = absurd (cc)
+value_clean (word ∷ []) found e h = plain_clean word [] found e h
+value_clean (word ∷ plus ∷ []) found e h = plain_clean word (plus ∷ []) found e h
+value_clean (word ∷ plus ∷ number ∷ rest) found e h =
+    chosen (are_clean (word ∷ plus ∷ number ∷ rest) ≡ true) plus (codes "plus") _ (plain_part word (plus ∷ number ∷ rest)) found e
+    (λ is_plus r.
+    option_and_then_some _ (sum_value word number) found r (λ value is_value e₂.
+    option_and_then_some _ (field_of word) value is_value (λ field is_field e₃.
+    option_and_then_some _ (numeral_of number) value e₃ (λ n is_number e₄.
+    three_clean word plus number rest (field_clean word field is_field) (ap is_clean is_plus) (numeral_clean number n is_number) (ap are_clean (sym (rest_is value.0 value.1 rest found e₂)) ∙ h)))))
+    (λ r. plain_clean word (plus ∷ number ∷ rest) found r h)
+
+assignment_clean : (words : List (List ℕ)) (found : Option Assignment × Bool × List (List ℕ)) → assignment_part words ≡ Some found → are_clean found.2 ≡ true → are_clean words ≡ true
+unfolding assignment_part
+assignment_clean [] found e h = refl
+assignment_clean (word ∷ []) found e h = ap are_clean (sym (rest_is None false (word ∷ []) found e)) ∙ h
+assignment_clean (set ∷ word ∷ rest) found e h =
+    chosen (are_clean (set ∷ word ∷ rest) ≡ true) set (codes "set") (set_part word rest) _ found e
+    (λ is_set r.
+    option_and_then_some _ (field_of word) found r (λ field is_field e₂.
+    option_and_then_some _ (value_part rest) found e₂ (λ value is_value e₃.
+    both (is_clean set) (is_clean word && are_clean rest) (ap is_clean is_set)
+    (both (is_clean word) (are_clean rest) (field_clean word field is_field)
+    (value_clean rest value is_value (ap are_clean (sym (rest_is _ value.1 value.2 found e₃)) ∙ h))))))
+    (λ r. ap are_clean (sym (rest_is None false (set ∷ word ∷ rest) found r)) ∙ h)
+
+policy_clean : (words : List (List ℕ)) (found : Policy) → policy_at_end words ≡ Some found → are_clean words ≡ true
+unfolding policy_at_end policy_of
+policy_clean [] found e = absurd (cc)
+policy_clean (policy ∷ []) found e = absurd (cc)
+policy_clean (policy ∷ word ∷ []) found e =
+    chosen (are_clean (policy ∷ word ∷ []) ≡ true) policy (codes "policy") _ None found e
+    (λ is_policy r. chosen (are_clean (policy ∷ word ∷ []) ≡ true) word (codes "none") _ None found r
+    (λ is_word r₂. both (is_clean policy) (is_clean word && true) (ap is_clean is_policy) (both (is_clean word) true (ap is_clean is_word) refl))
+    (λ r₂. absurd (cc)))
+    (λ r. absurd (cc))
+policy_clean (policy ∷ word ∷ next ∷ rest) found e = absurd (cc)
+
+input_clean : (words : List (List ℕ)) (found : NodeForm) → input_form words ≡ Some found → are_clean words ≡ true
+unfolding input_form
+input_clean [] found e = refl
+input_clean (word ∷ words) found e = absurd (cc)
+
+output_clean : (words : List (List ℕ)) (found : NodeForm) → output_form words ≡ Some found → are_clean words ≡ true
+unfolding output_form
+output_clean [] found e = absurd (cc)
+output_clean (domain ∷ []) found e =
+    chosen (are_clean (domain ∷ []) ≡ true) domain (codes "epoch") _ None found e (λ is_epoch r. both (is_clean domain) true (ap is_clean is_epoch) refl) (λ r. absurd (cc))
+output_clean (domain ∷ word ∷ words) found e = absurd (cc)
+
+select_clean : (words : List (List ℕ)) (found : NodeForm) → select_form words ≡ Some found → are_clean words ≡ true
+unfolding select_form
+select_clean [] found e = absurd (cc)
+select_clean (left ∷ []) found e = absurd (cc)
+select_clean (left ∷ between ∷ []) found e = absurd (cc)
+select_clean (left ∷ between ∷ right ∷ rest) found e =
+    option_and_then_some _ (condition_of left between right) found e (λ condition is_condition e₂.
+    option_and_then_some _ (assignment_part rest) found e₂ (λ assignment is_assignment e₃.
+    option_and_then_some _ (policy_at_end assignment.2) found e₃ (λ policy is_policy e₄.
+    condition_clean left between right rest condition is_condition (assignment_clean rest assignment is_assignment (policy_clean assignment.2 policy is_policy)))))
+
+node_clean : (kind : List ℕ) (rest : List (List ℕ)) (found : NodeForm) → node_form kind rest ≡ Some found → are_clean (kind ∷ rest) ≡ true
+unfolding node_form
+node_clean kind rest found e =
+    let P = are_clean (kind ∷ rest) ≡ true in
+    chosen P kind (codes "input") (input_form rest) _ found e (λ w r. both (is_clean kind) (are_clean rest) (ap is_clean w) (input_clean rest found r))
+    (λ e₂. chosen P kind (codes "output") (output_form rest) _ found e₂ (λ w r. both (is_clean kind) (are_clean rest) (ap is_clean w) (output_clean rest found r))
+    (λ e₃. chosen P kind (codes "select") (select_form rest) None found e₃ (λ w r. both (is_clean kind) (are_clean rest) (ap is_clean w) (select_clean rest found r))
+    (λ r. absurd (cc))))
+
+name_of-clean : (word found : List ℕ) → name_of word ≡ Some found → is_clean word ≡ true
+name_of-clean word found e = by_test (is_name word) refl e
+  where
+    by_test : (b : Bool) → is_name word ≡ b → cond b (Some word) None ≡ Some found → is_clean word ≡ true
+    by_test true t r = name_clean word t
+    by_test false t r = absurd (cc)
+
+node_declaration-clean : (words : List (List ℕ)) (found : Declaration × Bool) → node_declaration words ≡ Some found → are_clean words ≡ true
+unfolding node_declaration
+node_declaration-clean [] found e = absurd (cc)
+node_declaration-clean (word ∷ []) found e = absurd (cc)
+node_declaration-clean (word ∷ kind ∷ rest) found e =
+    option_and_then_some _ (name_of word) found e (λ name is_name e₂.
+    option_and_then_some _ (node_form kind rest) found e₂ (λ form is_form e₃.
+    both (is_clean word) (are_clean (kind ∷ rest)) (name_of-clean word name is_name) (node_clean kind rest form is_form)))
+
+edge_declaration-clean : (words : List (List ℕ)) (found : Declaration × Bool) → edge_declaration words ≡ Some found → are_clean words ≡ true
+unfolding edge_declaration
+edge_declaration-clean [] found e = absurd (cc)
+edge_declaration-clean (a ∷ []) found e = absurd (cc)
+edge_declaration-clean (a ∷ b ∷ []) found e = absurd (cc)
+edge_declaration-clean (a ∷ b ∷ c ∷ []) found e =
+    option_and_then_some _ (name_of a) found e (λ name is_name e₂.
+    option_and_then_some _ (name_of b) found e₂ (λ sender is_sender e₃.
+    option_and_then_some _ (name_of c) found e₃ (λ receiver is_receiver e₄.
+    three_clean a b c [] (name_of-clean a name is_name) (name_of-clean b sender is_sender) (name_of-clean c receiver is_receiver) refl)))
+edge_declaration-clean (a ∷ b ∷ c ∷ d ∷ words) found e = absurd (cc)
+
+-- words that have a form are clean
+declaration_clean : (words : List (List ℕ)) (found : Declaration × Bool) → declaration_of words ≡ Some found → are_clean words ≡ true
+unfolding declaration_of
+declaration_clean [] found e = absurd (cc)
+declaration_clean (word ∷ rest) found e =
+    let P = are_clean (word ∷ rest) ≡ true in
+    chosen P word (codes "node") (node_declaration rest) _ found e (λ w r. both (is_clean word) (are_clean rest) (ap is_clean w) (node_declaration-clean rest found r))
+    (λ e₂. chosen P word (codes "edge") (edge_declaration rest) None found e₂ (λ w r. both (is_clean word) (are_clean rest) (ap is_clean w) (edge_declaration-clean rest found r))
+    (λ r. absurd (cc)))
+
+-- words that break no rule are clean
+words_clean : (before : List Declared) (words : List (List ℕ)) → words_fault before words ≡ None → are_clean words ≡ true
+words_clean before [] e = refl
+words_clean before (word ∷ words) e = by_form (declaration_of (word ∷ words)) refl e
+  where
+    by_form : (found : Option (Declaration × Bool)) → declaration_of (word ∷ words) ≡ found → form_fault before found ≡ None → are_clean (word ∷ words) ≡ true
+    by_form (Some found) t r = declaration_clean (word ∷ words) found t
+    by_form None t r = absurd (cc)
+
+onto_all : (q : ℕ → Bool) (x : ℕ) (parts : List (List ℕ)) → list_all (λ part. list_all q part) (onto_first x parts) ≡ true → (q x ≡ true) × (list_all (λ part. list_all q part) parts ≡ true)
+onto_all q x [] e = (first (q x) true (first (q x && true) true e), refl)
+onto_all q x (part ∷ parts) e =
+    let whole = first (q x && list_all q part) (list_all (λ part. list_all q part) parts) e in
+    (first (q x) (list_all q part) whole, both (list_all q part) (list_all (λ part. list_all q part) parts) (second (q x) (list_all q part) whole) (second (q x && list_all q part) (list_all (λ part. list_all q part) parts) e))
+
+-- where the bytes of the parts pass, and the separators do, all do
+split_all : (s q : ℕ → Bool) → ((b : ℕ) → s b ≡ true → q b ≡ true) → (xs : List ℕ) → list_all (λ part. list_all q part) (slice_split s xs) ≡ true → list_all q xs ≡ true
+split_all s q h [] e = refl
+split_all s q h (x ∷ xs) e = by_test (split_all s q h xs) (s x) refl e
+  where
+    by_test : (list_all (λ part. list_all q part) (slice_split s xs) ≡ true → list_all q xs ≡ true) → (b : Bool) → s x ≡ b → list_all (λ part. list_all q part) (cond b ([] ∷ slice_split s xs) (onto_first x (slice_split s xs))) ≡ true → (q x && list_all q xs) ≡ true
+    by_test rec true t r = both (q x) (list_all q xs) (h x t) (rec r)
+    by_test rec false t r = both (q x) (list_all q xs) (onto_all q x (slice_split s xs) r).0 (rec (onto_all q x (slice_split s xs) r).1)
+
+parts_clean : (parts : List (List ℕ)) → are_clean (filter is_word parts) ≡ true → are_clean parts ≡ true
+parts_clean [] e = refl
+parts_clean ([] ∷ parts) e = parts_clean parts e
+parts_clean ((b ∷ bs) ∷ parts) e =
+    both (is_clean (b ∷ bs)) (are_clean parts) (first (is_clean (b ∷ bs)) (are_clean (filter is_word parts)) e) (parts_clean parts (second (is_clean (b ∷ bs)) (are_clean (filter is_word parts)) e))
+
+space_allowed : (b : ℕ) → is_space b ≡ true → is_allowed b ≡ true
+space_allowed b e = grind (arith, nat_tests, e)
+
+-- where what a line says is clean, the line is
+line_clean : (line : List ℕ) → are_clean (said_by line) ≡ true → is_clean line ≡ true
+unfolding said_by
+line_clean line e = by_test (is_comment (words_of line) && is_clean line) refl e
+  where
+    by_test : (b : Bool) → (is_comment (words_of line) && is_clean line) ≡ b → are_clean (cond b [] (words_of line)) ≡ true → is_clean line ≡ true
+    by_test true t r = second (is_comment (words_of line)) (is_clean line) t
+    by_test false t r = split_all is_space is_allowed space_allowed line (parts_clean (slice_split is_space line) r)
+
+lines_clean : (number : ℕ) (lines : List (List ℕ)) → ((place : ℕ) (line : Said) → slice_get (said_from number lines) place ≡ Some line → are_clean line.words ≡ true) → are_clean lines ≡ true
+lines_clean number [] h = refl
+lines_clean number (line ∷ lines) h =
+    both (is_clean line) (are_clean lines) (line_clean line (h 0 _ refl)) (lines_clean (number + 1) lines (λ place said e. h (suc place) said e))
+
+allowed_in_texts : (b : ℕ) → is_allowed b ≡ true → is_in_texts b ≡ true
+allowed_in_texts b e = grind (arith, nat_tests, e)
+
+lf_in_texts : (b : ℕ) → is_line_feed b ≡ true → is_in_texts b ≡ true
+lf_in_texts b e = grind (arith, nat_tests, e)
+
+lines_in_texts : (lines : List (List ℕ)) → are_clean lines ≡ true → list_all (λ part. list_all is_in_texts part) lines ≡ true
+lines_in_texts [] e = refl
+lines_in_texts (line ∷ lines) e =
+    both (list_all is_in_texts line) (list_all (λ part. list_all is_in_texts part) lines) (all_weaker is_allowed is_in_texts allowed_in_texts line (first (is_clean line) (are_clean lines) e)) (lines_in_texts lines (second (is_clean line) (are_clean lines) e))
+
+-- the bytes of an accepted text are LF and the allowed ones
+pub accepted_text_allowed : (text : List ℕ) (flow : Dataflow) → IsAccepted text flow → list_all is_in_texts text ≡ true
+accepted_text_allowed text flow accepted =
+    split_all is_line_feed is_in_texts lf_in_texts text (lines_in_texts (lines_of text) (lines_clean 1 (lines_of text) each))
+  where
+    each : (place : ℕ) (line : Said) → slice_get (said_lines text) place ≡ Some line → are_clean line.words ≡ true
+    each place line e =
+        let none = accepted.sound place (slice_get_within (said_lines text) place line e) in
+        words_clean (declared_by (take place (said_lines text))) line.words (sym (ap (option_and_then (λ l. line_fault (take place (said_lines text)) l)) e) ∙ none)

@@ -1,0 +1,7 @@
+//! Facts about the grammar of flows, each proved as a function that does nothing.
+ghost use Rattle.fw_flow_text.specs.Laws.{AcceptedTextsHaveAllowedBytes};
+
+/// An accepted text has no byte but LF and those from 32 to 126, in a comment neither.
+pub fn accepted_texts_have_allowed_bytes()
+    ensures { AcceptedTextsHaveAllowedBytes }
+{}

@@ -1,5 +1,5 @@
 -- The lines of a flow, read one after another.
-use Rattle.std.proofs.Common.{◌≡◌, ℕ, ◌≤◌, List, [], ◌∷◌, ◌++◌, length, map, Some, None, Result, Ok, Err, MatchResult, sym, ◌∙◌, ap, subst, inr, arith}
+use Rattle.std.proofs.Common.{◌≡◌, ℕ, ◌≤◌, List, [], ◌∷◌, ◌++◌, length, map, Some, None, Result, Ok, Err, MatchResult, sym, ◌∙◌, ap, subst, inl, inr, arith}
 use Rattle.std.proofs.lemmas.List.{append-nil}
 use Rattle.std.proofs.lemmas.List.Elements.{filter_map-append}
 use Rattle.fw_lines.specs.declared.fault.ReadFault.{ReadFault}
@@ -8,7 +8,8 @@ use Rattle.fw_lines.specs.declared.refusal.Refusal.{Refusal}
 use Rattle.fw_lines.specs.Faults.{IsSound, IsFirstFault, IfRefused}
 use Rattle.fw_lines.specs.declared.span.Span.{Span}
 use Rattle.fw_lines.specs.Lines.{Said, said_lines, bytes_at}
-use Rattle.fw_lines.proofs.FaultLaws.{IsSoundSoFar, sound_more, first_fault, none_left}
+use Rattle.fw_lines.proofs.FaultLaws.{IsSoundSoFar, sound_more, first_fault, none_left, sound_or_first, one_first}
+use Rattle.fw_flow.proofs.Checks.{checked_or_refused, one_refusal as one_broken}
 use Rattle.fw_flow.specs.declared.raw.Declared.{Declared}
 use Rattle.fw_flow.specs.Check.{IsChecked, IsFirstBroken}
 use Rattle.fw_flow.specs.Dataflow.{Dataflow}
@@ -66,3 +67,25 @@ checked_all text left raw (Err (Refused refusal)) size read e broken =
     let all = read_all (said_lines text) raw (subst (λ ls. IsRead (said_lines text) ls raw) e read) in
     inr (inr (size, all.0, subst (λ ds. IsFirstBroken ds refusal) all.1 broken))
 checked_all text left raw (Err NoMemory) size read e broken = tt
+
+-- an accepted text is not refused
+pub accepted_or_refused : (text : List ℕ) (flow : Dataflow) (refusal : Refusal) → IsAccepted text flow → IsRefused text refusal → ⊥
+accepted_or_refused text flow refusal accepted (inl large) = absurd (omega (arith, accepted.size, large.0))
+accepted_or_refused text flow refusal accepted (inr (inl first)) = sound_or_first line_fault (said_lines text) refusal accepted.sound first.1
+accepted_or_refused text flow refusal accepted (inr (inr broken)) = checked_or_refused (declared_by (said_lines text)) flow refusal accepted.checked broken.2
+
+-- an accepted text has one dataflow
+pub one_flow : (text : List ℕ) (first second : Dataflow) → IsAccepted text first → IsAccepted text second → first ≡ second
+one_flow text first second a b = a.checked.value ∙ sym b.checked.value
+
+-- a text is refused by one rule at one line
+pub one_refusal : (text : List ℕ) (first second : Refusal) → IsRefused text first → IsRefused text second → first ≡ second
+one_refusal text first second (inl a) (inl b) = a.1 ∙ sym b.1
+one_refusal text first second (inl a) (inr (inl b)) = absurd (omega (arith, a.0, b.0))
+one_refusal text first second (inl a) (inr (inr b)) = absurd (omega (arith, a.0, b.0))
+one_refusal text first second (inr (inl a)) (inl b) = absurd (omega (arith, a.0, b.0))
+one_refusal text first second (inr (inl a)) (inr (inl b)) = one_first line_fault (said_lines text) first second a.1 b.1
+one_refusal text first second (inr (inl a)) (inr (inr b)) = absurd (sound_or_first line_fault (said_lines text) first b.1 a.1)
+one_refusal text first second (inr (inr a)) (inl b) = absurd (omega (arith, a.0, b.0))
+one_refusal text first second (inr (inr a)) (inr (inl b)) = absurd (sound_or_first line_fault (said_lines text) second a.1 b.1)
+one_refusal text first second (inr (inr a)) (inr (inr b)) = one_broken (declared_by (said_lines text)) first second a.2 b.2

@@ -8,4 +8,4 @@ mod reader;
 mod select;
 mod words;
 
-pub use reader::read_flow;
+pub use reader::{one_answer, read_flow};

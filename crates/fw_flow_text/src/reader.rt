@@ -1,7 +1,9 @@
-ghost use Rattle.std.specs.Prelude.{◌≡◌, [], ◌∷◌, ◌++◌, OnOk, IfErr, MatchResult};
+ghost use Rattle.std.specs.Prelude.{◌≡◌, ℕ, List, [], ◌∷◌, ◌++◌, OnOk, IfErr, MatchResult};
 ghost use Rattle.std.specs.Option.{option_map, option_to_list};
 ghost use Rattle.fw_lines.specs.Faults.{IfRefused};
 ghost use Rattle.fw_lines.specs.Lines.{words_at, said_in};
+ghost use Rattle.fw_lines.specs.declared.refusal.Refusal.{Refusal};
+ghost use Rattle.fw_flow.specs.Dataflow.{Dataflow};
 ghost use Rattle.fw_flow_text.specs.Grammar.{declared_by, words_fault, form_fault, IsAccepted, IsRefused};
 
 use crate::declaration::declaration;
@@ -32,6 +34,17 @@ pub fn read_flow(alloc: Global, text: &[u8]) -> Result<Flow, ReadFault>
     }
     Flow::check(alloc, raw)
 }
+
+/// An accepted text is not refused and has one dataflow, and a text is refused by one rule at one line: so
+/// `read_flow` answers `Ok` exactly for the texts of the grammar, unless memory is refused.
+pub fn one_answer()
+    ensures exclusive { (text : List ℕ) (flow : Dataflow) (refusal : Refusal)
+        → IsAccepted text flow → IsRefused text refusal → ⊥ }
+    ensures one_flow { (text : List ℕ) (first second : Dataflow)
+        → IsAccepted text first → IsAccepted text second → first ≡ second }
+    ensures one_refusal { (text : List ℕ) (first second : Refusal)
+        → IsRefused text first → IsRefused text second → first ≡ second }
+{}
 
 // Adds what a line declares, or tells the rule that it breaks.
 fn read_line(alloc: Global, text: &[u8], line: &Line, raw: &mut RawFlow) -> Result<(), ReadFault>

@@ -40,7 +40,7 @@ causes-same (c ∷ cs) (d ∷ ds) e =
     let a = both_equal (stamp_cmp c d) (slice_cmp stamp_cmp cs ds) e in
     ap (λ x. x ∷ cs) (stamp_cmp-same c d a.0) ∙ ap (λ xs. d ∷ xs) (causes-same cs ds a.1)
 
-message_cmp-same : (m x : Message) → is_eq (message_cmp m x) ≡ true → m ≡ x
+pub message_cmp-same : (m x : Message) → is_eq (message_cmp m x) ≡ true → m ≡ x
 message_cmp-same m x e =
     let a = both_equal (stamp_cmp m.at x.at) (ordering_then (rec_cmp m.rec x.rec) (slice_cmp stamp_cmp m.causes x.causes)) e in
     let b = both_equal (rec_cmp m.rec x.rec) (slice_cmp stamp_cmp m.causes x.causes) a.1 in
@@ -66,7 +66,7 @@ copy m x = cond (is_eq (message_cmp m x)) 1 0
 copy-self : (m : Message) → copy m m ≡ 1
 copy-self m = ap (λ b. cond b 1 0) (message_cmp-self m)
 
-without-weigh : (w : Message → ℕ) (m : Message) (ms : List Message) → 0 < weigh (copy m) ms → weigh w ms ≡ w m + weigh w (without m ms)
+pub without-weigh : (w : Message → ℕ) (m : Message) (ms : List Message) → 0 < weigh (copy m) ms → weigh w ms ≡ w m + weigh w (without m ms)
 unfolding weigh
 without-weigh w m [] l = absurd (omega arith)
 without-weigh w m (x ∷ xs) l =
@@ -74,7 +74,7 @@ without-weigh w m (x ∷ xs) l =
     (λ e. let i = ap w (message_cmp-same m x e) in omega arith)
     (λ e. let z : copy m x ≡ 0 = ap (λ b. cond b 1 0) e in let h = without-weigh w m xs (omega arith) in omega arith)
 
-is_among-copies : (m : Message) (ms : List Message) → is_among m ms ≡ true → 0 < weigh (copy m) ms
+pub is_among-copies : (m : Message) (ms : List Message) → is_among m ms ≡ true → 0 < weigh (copy m) ms
 unfolding weigh
 is_among-copies m [] k = absurd (cc)
 is_among-copies m (x ∷ xs) k = elim (or_cases (is_eq (message_cmp m x)) (is_among m xs) k) [
@@ -87,7 +87,7 @@ abbrev pub IsSub : List Message → List Message → Type 0
 IsSub ds ms = (m : Message) → weigh (copy m) ds ≤ weigh (copy m) ms
 
 -- what is left weighs what is missing
-less-weigh : (w : Message → ℕ) (ms ds : List Message) → IsSub ds ms → weigh w (less ms ds) + weigh w ds ≡ weigh w ms
+pub less-weigh : (w : Message → ℕ) (ms ds : List Message) → IsSub ds ms → weigh w (less ms ds) + weigh w ds ≡ weigh w ms
 unfolding weigh
 less-weigh w ms [] s = omega arith
 less-weigh w ms (d ∷ ds) s =
@@ -101,7 +101,7 @@ less-weigh w ms (d ∷ ds) s =
 
 -- ---- what was sent grows
 
-sent-grows : (sys : System) (h : List Event) (v : Event) (e : ℕ) (w : Message → ℕ) → weigh w (sent sys h e) ≤ weigh w (sent sys (v ∷ h) e)
+pub sent-grows : (sys : System) (h : List Event) (v : Event) (e : ℕ) (w : Message → ℕ) → weigh w (sent sys h e) ≤ weigh w (sent sys (v ∷ h) e)
 sent-grows sys h v e w =
     let q = sender sys.flow e in
     let vs = events_at sys.flow q h in
@@ -147,7 +147,7 @@ timed_message m = record { at = m.at; rec = m.rec }
 abbrev pub timed_of : List Message → List Timed
 timed_of ms = map timed_message ms
 
-timed_of-weigh : (w : Timed → ℕ) (ms : List Message) → weigh w (timed_of ms) ≡ weigh (λ m. w (timed_message m)) ms
+pub timed_of-weigh : (w : Timed → ℕ) (ms : List Message) → weigh w (timed_of ms) ≡ weigh (λ m. w (timed_message m)) ms
 unfolding weigh
 timed_of-weigh w [] = refl
 timed_of-weigh w (m ∷ ms) = ap (λ n. w (timed_message m) + n) (timed_of-weigh w ms)

@@ -1,0 +1,11 @@
+use Rattle.fw_flow_text.proofs.ReadLaws.{accepted_or_refused, one_flow, one_refusal}
+use Rattle.fw_flow_text.proofs.reader.one_answer.Goals as goal
+
+pub returns-clause-exclusive : goal.returns-clause-exclusive
+returns-clause-exclusive c = accepted_or_refused
+
+pub returns-clause-one_flow : goal.returns-clause-one_flow
+returns-clause-one_flow c = one_flow
+
+pub returns-clause-one_refusal : goal.returns-clause-one_refusal
+returns-clause-one_refusal c = one_refusal

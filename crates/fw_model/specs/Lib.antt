@@ -7,4 +7,5 @@ pub mod LawsOfLegalHistories
 pub mod LawsOfProjections
 pub mod LawsOfSending
 pub mod Machine
+pub mod Plain
 pub mod Steps

@@ -8,6 +8,7 @@ pub mod OrderLaws
 pub mod PendingLaws
 pub mod PhiLaws
 pub mod PsiLaws
+pub mod RecSteps
 pub mod SendingLaws
 pub mod SendsLaws
 pub mod SequenceLaws

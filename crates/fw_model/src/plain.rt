@@ -4,6 +4,7 @@
 //! The lists are in the order of the events, the oldest first.
 
 mod complete;
+mod keyed;
 mod next;
 mod outputs;
 mod waiting;

@@ -1,6 +1,7 @@
 pub mod ChoiceLaws
 pub mod CompleteLaws
 pub mod EachLaws
+pub mod EventSteps
 pub mod FrontierLaws
 pub mod LegalLaws
 pub mod MeetLaws
@@ -9,6 +10,7 @@ pub mod PendingLaws
 pub mod PhiLaws
 pub mod PsiLaws
 pub mod RecSteps
+pub mod SendSteps
 pub mod SendingLaws
 pub mod SendsLaws
 pub mod SequenceLaws

@@ -9,3 +9,4 @@ pub mod LawsOfSending
 pub mod Machine
 pub mod Plain
 pub mod Steps
+pub mod Wanted

@@ -15,4 +15,5 @@ pub mod SendingLaws
 pub mod SendsLaws
 pub mod SequenceLaws
 pub mod StampLaws
+pub mod WaitingSteps
 pub mod WellFormedLaws

@@ -10,6 +10,7 @@ use Rattle.fw_flow.specs.declared.event.Event.{Event}
 use Rattle.fw_flow.specs.Dataflow.{Dataflow, batches_of}
 use Rattle.fw_flow.specs.NodeFunction.{place, rec_of_delivery, delivered_recs}
 use Rattle.fw_flow.specs.Projection.{events_at}
+use Rattle.fw_model.specs.History.{is_injection, injected_count}
 use Rattle.fw_model.specs.Plain.{batches_of_nodes, system_of}
 
 -- the history of a list with one more event
@@ -65,3 +66,11 @@ unfolding batches_of batches_of_nodes
 batches_past flow batches p l =
     get_or_past (map (batches_at batches) _) p []
     (omega (arith, length-map-range_with_len (batches_at batches) 0 (length flow.nodes)))
+
+-- ---- injections
+
+-- the count of one event more
+pub injected_more : (s : ℕ) (events : List Event) (i : ℕ) (d : Event) → i < length events
+    → injected_count s (reverse (take (i + 1) events))
+    ≡ cond (is_injection s (get_or events i d)) (injected_count s (reverse (take i events)) + 1) (injected_count s (reverse (take i events)))
+injected_more s events i d l = ap (injected_count s) (history_more events i d l)

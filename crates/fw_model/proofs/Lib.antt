@@ -3,6 +3,7 @@ pub mod CompleteLaws
 pub mod EachLaws
 pub mod EventSteps
 pub mod FrontierLaws
+pub mod LeastSteps
 pub mod LegalLaws
 pub mod MeetLaws
 pub mod OrderLaws

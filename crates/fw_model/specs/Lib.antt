@@ -6,6 +6,7 @@ pub mod LawsOfCompleteFrontiers
 pub mod LawsOfLegalHistories
 pub mod LawsOfProjections
 pub mod LawsOfSending
+pub mod Least
 pub mod Machine
 pub mod Plain
 pub mod Steps

@@ -28,15 +28,12 @@ fn place_among(messages: &[Message], message: &Message) -> Option<usize>
 }
 
 /// Takes the first message away that is this one, if there is one.
-#[tactic(auto, using(crate::proofs::WaitingSteps::without_there, crate::proofs::WaitingSteps::without_nowhere))]
+#[tactic(auto, using(crate::proofs::WaitingSteps::without_there))]
 fn take_away(messages: &mut Vec<Message>, message: &Message)
     ensures { messages.new.items ≡ history.without message.now messages.old.items }
 {
-    match place_among(messages, message) {
-        Some(place) => {
-            messages.remove(place);
-        }
-        None => {}
+    if let Some(place) = place_among(messages, message) {
+        messages.remove(place);
     }
 }
 

@@ -7,9 +7,9 @@ use Rattle.fw_frontier.specs.Front.{frontier_of}
 use Rattle.std.proofs.lemmas.Bool.Decides.{nat_tests}
 use Rattle.fw_time.specs.Stamp.{Stamp, in_domain}
 use Rattle.fw_flow.specs.Dataflow.{kind_of, sender, receiver, bounds_of, max_of}
-use Rattle.fw_flow.specs.Projection.{phi, psi}
+use Rattle.fw_flow.specs.Projection.{phi, psi, psi_back}
 use Rattle.fw_examples.specs.Flows.{two_batches, no_batches, regroup_by_three}
-use Rattle.fw_examples.specs.Projections.{PhiTakes, PsiTakes, fed_back_edge, entered_edge, left_edge, regrouped_edge}
+use Rattle.fw_examples.specs.Projections.{PhiTakes, PsiTakes, PsiBackTakes, fed_back_edge, entered_edge, left_edge, regrouped_edge}
 
 -- two tests behind a domain of two coordinates are one where they are one at its stamps
 pub in_two : (m n : ℕ) (f g : Stamp → Bool)
@@ -231,3 +231,101 @@ regroup_no_larger f is_f h (x ∷ []) k =
     let d : (nat_le x 4294967295 ≡ true) × (true ≡ true) = and_parts (nat_le x 4294967295) true (is_f.inside_domain (x ∷ []) k) in
     let first : f ((x / 3 * 3) ∷ []) ≡ true = is_f.closed ((x / 3 * 3) ∷ []) (x ∷ []) (first_in x d.0) (first_number x) k in
     below_six x d.0 (below_two (x / 3) (h ((x / 3) ∷ []) (and_from _ _ (epoch_in x d.0) first)))
+
+pub feedback_psi_back_of_some : PsiBackTakes two_batches fed_back_edge ((0 ∷ 3 ∷ []) ∷ (1 ∷ 0 ∷ []) ∷ []) ((0 ∷ 2 ∷ []) ∷ (1 ∷ 0 ∷ []) ∷ [])
+unfolding psi_back kind_of sender receiver bounds_of max_of
+feedback_psi_back_of_some = record {
+  canonical = (record { in_the_domain = refl; ascending = (refl, tt); incomparable = (refl, tt) }, (record { in_the_domain = refl; ascending = tt; incomparable = tt }, tt));
+  same = in_two 4294967295 3 _ _ (λ x y hx hy. grind (arith, nat_tests));
+}
+
+pub feedback_psi_back_of_all : PsiBackTakes two_batches fed_back_edge [] []
+unfolding psi_back kind_of sender receiver bounds_of max_of
+feedback_psi_back_of_all = record {
+  canonical = tt;
+  same = in_two 4294967295 3 _ _ (λ x y hx hy. grind (arith, nat_tests));
+}
+
+pub feedback_psi_back_of_nothing : PsiBackTakes two_batches fed_back_edge ((0 ∷ 0 ∷ []) ∷ []) ((0 ∷ 0 ∷ []) ∷ [])
+unfolding psi_back kind_of sender receiver bounds_of max_of
+feedback_psi_back_of_nothing = record {
+  canonical = (record { in_the_domain = refl; ascending = tt; incomparable = tt }, tt);
+  same = in_two 4294967295 3 _ _ (λ x y hx hy. grind (arith, nat_tests));
+}
+
+pub enter_psi_back_of_some : PsiBackTakes two_batches entered_edge ((0 ∷ 1 ∷ []) ∷ (2 ∷ 0 ∷ []) ∷ []) ((2 ∷ []) ∷ [])
+unfolding psi_back kind_of sender receiver bounds_of max_of
+enter_psi_back_of_some = record {
+  canonical = (record { in_the_domain = refl; ascending = tt; incomparable = tt }, tt);
+  same = in_one 4294967295 _ _ (λ x hx. grind (arith, nat_tests));
+}
+
+pub enter_psi_back_of_all : PsiBackTakes two_batches entered_edge [] []
+unfolding psi_back kind_of sender receiver bounds_of max_of
+enter_psi_back_of_all = record {
+  canonical = tt;
+  same = in_one 4294967295 _ _ (λ x hx. grind (arith, nat_tests));
+}
+
+pub enter_psi_back_of_nothing : PsiBackTakes two_batches entered_edge ((0 ∷ 0 ∷ []) ∷ []) ((0 ∷ []) ∷ [])
+unfolding psi_back kind_of sender receiver bounds_of max_of
+enter_psi_back_of_nothing = record {
+  canonical = (record { in_the_domain = refl; ascending = tt; incomparable = tt }, tt);
+  same = in_one 4294967295 _ _ (λ x hx. grind (arith, nat_tests));
+}
+
+pub leave_psi_back_of_some : PsiBackTakes two_batches left_edge ((1 ∷ []) ∷ []) ((1 ∷ 0 ∷ []) ∷ [])
+unfolding psi_back kind_of sender receiver bounds_of max_of
+leave_psi_back_of_some = record {
+  canonical = (record { in_the_domain = refl; ascending = tt; incomparable = tt }, tt);
+  same = in_two 4294967295 3 _ _ (λ x y hx hy. grind (arith, nat_tests));
+}
+
+pub leave_psi_back_of_all : PsiBackTakes two_batches left_edge [] []
+unfolding psi_back kind_of sender receiver bounds_of max_of
+leave_psi_back_of_all = record {
+  canonical = tt;
+  same = in_two 4294967295 3 _ _ (λ x y hx hy. grind (arith, nat_tests));
+}
+
+pub leave_psi_back_of_nothing : PsiBackTakes two_batches left_edge ((0 ∷ []) ∷ []) ((0 ∷ 0 ∷ []) ∷ [])
+unfolding psi_back kind_of sender receiver bounds_of max_of
+leave_psi_back_of_nothing = record {
+  canonical = (record { in_the_domain = refl; ascending = tt; incomparable = tt }, tt);
+  same = in_two 4294967295 3 _ _ (λ x y hx hy. grind (arith, nat_tests));
+}
+
+pub regroup_psi_back_of_some : PsiBackTakes no_batches regrouped_edge ((2 ∷ []) ∷ []) ((6 ∷ []) ∷ [])
+unfolding psi_back kind_of sender receiver bounds_of max_of
+regroup_psi_back_of_some = record {
+  canonical = (record { in_the_domain = refl; ascending = tt; incomparable = tt }, tt);
+  same = in_one 4294967295 _ _ (λ x hx. grind (arith, nat_tests));
+}
+
+pub regroup_psi_back_of_all : PsiBackTakes no_batches regrouped_edge [] []
+unfolding psi_back kind_of sender receiver bounds_of max_of
+regroup_psi_back_of_all = record {
+  canonical = tt;
+  same = in_one 4294967295 _ _ (λ x hx. grind (arith, nat_tests));
+}
+
+pub regroup_psi_back_of_nothing : PsiBackTakes no_batches regrouped_edge ((0 ∷ []) ∷ []) ((0 ∷ []) ∷ [])
+unfolding psi_back kind_of sender receiver bounds_of max_of
+regroup_psi_back_of_nothing = record {
+  canonical = (record { in_the_domain = refl; ascending = tt; incomparable = tt }, tt);
+  same = in_one 4294967295 _ _ (λ x hx. grind (arith, nat_tests));
+}
+
+pub regroup_psi_back_of_last : PsiBackTakes no_batches regrouped_edge ((1431655765 ∷ []) ∷ []) ((4294967295 ∷ []) ∷ [])
+unfolding psi_back kind_of sender receiver bounds_of max_of
+regroup_psi_back_of_last = record {
+  canonical = (record { in_the_domain = refl; ascending = tt; incomparable = tt }, tt);
+  same = in_one 4294967295 _ _ (λ x hx. grind (arith, nat_tests));
+}
+
+pub regroup_psi_back_past_last : PsiBackTakes no_batches regrouped_edge ((1431655766 ∷ []) ∷ []) []
+unfolding psi_back kind_of sender receiver bounds_of max_of
+regroup_psi_back_past_last = record {
+  canonical = tt;
+  same = in_one 4294967295 _ _ (λ x hx. grind (arith, nat_tests));
+}

@@ -1,5 +1,7 @@
 -- The names and the edges that a flow keeps for looking them up.
-use Rattle.std.proofs.Common.{◌≡◌, ◌≤◌, ◌<◌, ℕ, zero, suc, nat_eq, List, [], ◌∷◌, ◌++◌, length, Option, Some, None, refl, sym, ◌∙◌, ap, slice_index_or, cond, position, nat_lt, ◌||◌, ◌+◌, not, arith}
+use Rattle.std.proofs.Common.{◌≡◌, ◌⊎◌, inl, inr, unwrap_or, ◌≤◌, ◌<◌, ℕ, zero, suc, nat_eq, List, [], ◌∷◌, ◌++◌, length, Option, Some, None, refl, sym, ◌∙◌, ap, slice_index_or, cond, position, nat_lt, ◌||◌, ◌+◌, not, arith}
+use Rattle.std.proofs.lemmas.Bool.{cases_lt, lt-ltb, le-ltb, cond-true, cond-false}
+use Rattle.std.proofs.lemmas.List.Sums.{prefix_len-le-length}
 use Rattle.std.specs.List.{list_any, position_or_len}
 use Rattle.std.specs.Cmp.Lexicographic.{pointwise}
 use Rattle.std.specs.Str.{bytes_eq}
@@ -22,7 +24,7 @@ pub name_among_keys : (name : List ℕ) (keys : List (Vec ℕ Global)) → has_n
 name_among_keys name [] = refl
 name_among_keys name (k ∷ ks) = ap (λ b. pointwise nat_eq name k.items || b) (name_among_keys name ks)
 
-length_of_bytes : (keys : List (Vec ℕ Global)) → length (bytes_of keys) ≡ length keys
+pub length_of_bytes : (keys : List (Vec ℕ Global)) → length (bytes_of keys) ≡ length keys
 length_of_bytes [] = refl
 length_of_bytes (k ∷ ks) = ap suc (length_of_bytes ks)
 
@@ -41,3 +43,17 @@ place_among_keys name keys =
 pub bytes_of_append : (xs ys : List (Vec ℕ Global)) → bytes_of (xs ++ ys) ≡ bytes_of xs ++ bytes_of ys
 bytes_of_append [] ys = refl
 bytes_of_append (x ∷ xs) ys = ap (λ zs. x.items ∷ zs) (bytes_of_append xs ys)
+
+-- the place of a name, or else their number, is its place or the end
+pub place_or_end_of : (name : List ℕ) (names : List (List ℕ)) (n : ℕ) → n ≡ length names → unwrap_or (place_of name names) n ≡ position_or_len (bytes_eq name) names
+place_or_end_of name names n e =
+    elim (cases_lt (position_or_len (bytes_eq name) names) (length names)) [
+      | inl lt ↦ ap (λ o. unwrap_or o n) (cond-true _ (Some (position_or_len (bytes_eq name) names)) None (lt-ltb (position_or_len (bytes_eq name) names) (length names) lt))
+      | inr past ↦
+          let within = prefix_len-le-length (λ x. not (bytes_eq name x)) names in
+          ap (λ o. unwrap_or o n) (cond-false _ (Some (position_or_len (bytes_eq name) names)) None (le-ltb (position_or_len (bytes_eq name) names) (length names) past))
+          ∙ omega (arith, within, past)
+    ]
+
+pub place_within : (name : List ℕ) (names : List (List ℕ)) → position_or_len (bytes_eq name) names ≤ length names
+place_within name names = prefix_len-le-length (λ x. not (bytes_eq name x)) names

@@ -51,12 +51,12 @@ Path-from_walk flow g sort same p es closed path = record {
 
 -- ---- the links of a dataflow
 
-sender-of_link : (flow : Dataflow) (e : ℕ) → e < length flow.edges → (link_at (map link_of flow.edges) e).sender ≡ sender flow e
+pub sender-of_link : (flow : Dataflow) (e : ℕ) → e < length flow.edges → (link_at (map link_of flow.edges) e).sender ≡ sender flow e
 unfolding sender
 sender-of_link flow e lt =
     ap (λ (l : Link). l.sender) (get_or-map link_of flow.edges e (record { name = []; sender = length flow.nodes; receiver = length flow.nodes }) (record { sender = 0; receiver = 0 }) lt)
 
-receiver-of_link : (flow : Dataflow) (e : ℕ) → e < length flow.edges → (link_at (map link_of flow.edges) e).receiver ≡ receiver flow e
+pub receiver-of_link : (flow : Dataflow) (e : ℕ) → e < length flow.edges → (link_at (map link_of flow.edges) e).receiver ≡ receiver flow e
 unfolding receiver
 receiver-of_link flow e lt =
     ap (λ (l : Link). l.receiver) (get_or-map link_of flow.edges e (record { name = []; sender = length flow.nodes; receiver = length flow.nodes }) (record { sender = 0; receiver = 0 }) lt)
@@ -69,10 +69,10 @@ is_marked-listed : (sort : Kind → Bool) (nodes : List Node) (p : ℕ) → p < 
 is_marked-listed sort nodes p lt = get_or-map (λ (node : Node). sort node.kind) nodes p idle_node false lt
 
 -- what the links say of each edge
-record AreEdgesOf (flow : Dataflow) (links : List Link) : Type 0 where
-  count : length links ≡ length flow.edges
-  senders : (e : ℕ) → e < length links → (link_at links e).sender ≡ sender flow e
-  receivers : (e : ℕ) → e < length links → (link_at links e).receiver ≡ receiver flow e
+pub record AreEdgesOf (flow : Dataflow) (links : List Link) : Type 0 where
+  pub count : length links ≡ length flow.edges
+  pub senders : (e : ℕ) → e < length links → (link_at links e).sender ≡ sender flow e
+  pub receivers : (e : ℕ) → e < length links → (link_at links e).receiver ≡ receiver flow e
 
 AreEdgesOf-map : (flow : Dataflow) → AreEdgesOf flow (map link_of flow.edges)
 AreEdgesOf-map flow =
@@ -83,10 +83,10 @@ AreEdgesOf-map flow =
       receivers = λ e lt. receiver-of_link flow e (omega (arith, count));
     }
 
-edges_of : (flow : Dataflow) (nodes : List Node) (links : List Link) → IsMadeOf flow nodes links → AreEdgesOf flow links
+pub edges_of : (flow : Dataflow) (nodes : List Node) (links : List Link) → IsMadeOf flow nodes links → AreEdgesOf flow links
 edges_of flow nodes links made = subst (AreEdgesOf flow) made.links (AreEdgesOf-map flow)
 
-kinds_of : (flow : Dataflow) (nodes : List Node) (links : List Link) → IsMadeOf flow nodes links → (p : ℕ) → kind_of flow p ≡ listed_kind nodes p
+pub kinds_of : (flow : Dataflow) (nodes : List Node) (links : List Link) → IsMadeOf flow nodes links → (p : ℕ) → kind_of flow p ≡ listed_kind nodes p
 kinds_of flow nodes links made p = kind_of-listed flow p ∙ ap (λ ns. listed_kind ns p) made.nodes
 
 -- the links with the nodes of a sort barred are the dataflow's graph

@@ -1,6 +1,13 @@
+pub mod Capped
+pub mod Checks
+pub mod Drafts
+pub mod Ends
 pub mod FlowLaws
 pub mod Flows
+pub mod Givers
 pub mod Marks
 pub mod Peel
+pub mod ProjectionLaws
 pub mod Ranks
 pub mod Reach
+pub mod Tests

@@ -1,16 +1,163 @@
 -- Which declarations are a well-formed dataflow, and which rule others break first.
-use Rattle.std.specs.Prelude.{◌≡◌, List}
+use Rattle.std.specs.Prelude.{◌≡◌, ◌⊎◌, ℕ, ◌^◌, ◌<◌, ◌≤◌, Bool, true, ◌&&◌, List, [], ◌∷◌, map, length, take, Option, Some, None, is_some, slice_get, IsTrue, IfSome, MatchOption}
+use Rattle.std.specs.List.{flat_map}
+use Rattle.std.specs.Option.{option_map_or}
+use Rattle.fw_lines.specs.declared.refusal.Code.{Code}
+use Rattle.fw_lines.specs.declared.refusal.Code.TheVariants.{F3, F4, F5, F6, F7, F8, F9}
 use Rattle.fw_lines.specs.declared.refusal.Refusal.{Refusal}
+use Rattle.fw_flow.specs.declared.kind.Kind.{Kind}
+use Rattle.fw_flow.specs.declared.raw.Declaration.{Declaration}
+use Rattle.fw_flow.specs.declared.raw.Declaration.TheVariants.{Loop as ALoop, Node as ANode, Edge as AnEdge}
 use Rattle.fw_flow.specs.declared.raw.Declared.{Declared}
-use Rattle.fw_flow.specs.Dataflow.{Dataflow}
-use Rattle.fw_flow.specs.Raw.{flow_of}
-use Rattle.fw_flow.specs.WellFormed.{IsWellFormed}
+use Rattle.fw_flow.specs.declared.raw.NameSpaces.{NameSpaces}
+use Rattle.fw_flow.specs.declared.raw.RawKind.{RawKind}
+use Rattle.fw_flow.specs.declared.raw.RawKind.TheVariants.{Select, Concat, Distinct, Join, Sum, Enter, Feedback, Leave, Regroup}
+use Rattle.fw_flow.specs.Dataflow.{Dataflow, kind_of, policy_of, sender, receiver, in_edges, out_edges, domain_of, out_domain_of, is_input_kind, is_output_kind}
+use Rattle.fw_flow.specs.Names.{place_of}
+use Rattle.fw_flow.specs.Raw.{names_of, loop_names, node_names, edge_names, node_name, edge_name, flow_of}
+use Rattle.fw_flow.specs.Walks.{EachClosedWalkPasses, NoClosedWalkPasses, AvoidingWalk, PassingWalk}
+use Rattle.fw_flow.specs.WellFormed.{IsInDegree, IsOutDegree, IsPolicyAllowed, IsWellFormed, is_feedback_kind, is_enter_kind}
+
+-- ---- what each rule asks
+
+-- the loop that a kind names, if it names one
+abbrev pub loop_named : RawKind → Option (List ℕ)
+loop_named (Select selection within) = within
+loop_named (Concat within) = within
+loop_named (Distinct within) = within
+loop_named (Join within) = within
+loop_named (Sum within) = within
+loop_named (Enter name) = Some name
+loop_named (Feedback name) = Some name
+loop_named (Leave name) = Some name
+loop_named kind = None
+
+-- whether the name is among these
+abbrev pub is_declared : List (List ℕ) → List ℕ → Bool
+is_declared names name = is_some (place_of name names)
+
+-- whether what the declaration names is declared: the loop of a node's kind, the sender and the receiver of an edge
+abbrev pub are_names_declared : NameSpaces → Declaration → Bool
+are_names_declared names (ALoop name max) = true
+are_names_declared names (ANode name kind policy) = option_map_or (is_declared names.loops) (loop_named kind) true
+are_names_declared names (AnEdge name sender receiver) = is_declared names.nodes sender && is_declared names.nodes receiver
+
+-- so many epochs may be regrouped from
+abbrev pub IsRawGroupSize : RawKind → Type 0
+IsRawGroupSize (Regroup n) = (1 ≤ n) × (n < 2 ^ 32)
+IsRawGroupSize kind = Unit {0}
+
+-- after these declarations there is room for one more, and its numbers are in range
+abbrev pub IsWithinLimitsAfter : List Declared → Declaration → Type 0
+IsWithinLimitsAfter before (ALoop name max) = (length (loop_names before) < 64) × (1 ≤ max) × (max ≤ 1024)
+IsWithinLimitsAfter before (ANode name kind policy) = (length (node_names before) < 256) × IsRawGroupSize kind
+IsWithinLimitsAfter before (AnEdge name sender receiver) = length (edge_names before) < 512
+
+-- F3, of the declaration at a place: what it names is declared
+abbrev pub NamesTheDeclared : List Declared → ℕ → Type 0
+NamesTheDeclared raw i = IfSome (slice_get raw i) (λ d. IsTrue (are_names_declared (names_of raw) d.declaration))
+
+-- F4, of a node: it has as many in-edges as its kind wants, and no out-edge if it is an output
+abbrev pub HasItsDegrees : Dataflow → ℕ → Type 0
+HasItsDegrees flow p = IsInDegree (kind_of flow p) (length (in_edges flow p)) × IsOutDegree (kind_of flow p) (length (out_edges flow p))
+
+-- F5, of an edge: the out domain of its sender is the domain of its receiver
+abbrev pub JoinsDomains : Dataflow → ℕ → Type 0
+JoinsDomains flow e = out_domain_of flow (sender flow e) ≡ domain_of flow (receiver flow e)
+
+-- F6: every closed walk passes a feedback, and none passes an enter
+pub record AreWalksRight (flow : Dataflow) : Type 0 where
+  pub fed_back : EachClosedWalkPasses flow is_feedback_kind
+  pub never_entered : NoClosedWalkPasses flow is_enter_kind
+
+-- a closed walk passes no feedback, or one passes an enter
+abbrev pub IsWalkWrong : Dataflow → Type 0
+IsWalkWrong flow = AvoidingWalk flow is_feedback_kind ⊎ PassingWalk flow is_enter_kind
+
+-- F7, of a node: its policy is allowed for its kind
+abbrev pub HasAllowedPolicy : Dataflow → ℕ → Type 0
+HasAllowedPolicy flow p = IsPolicyAllowed (kind_of flow p) (policy_of flow p)
+
+-- F8, of the declaration at a place: with those before it, it is within the limits
+abbrev pub StaysWithinLimits : List Declared → ℕ → Type 0
+StaysWithinLimits raw i = IfSome (slice_get raw i) (λ d. IsWithinLimitsAfter (take i raw) d.declaration)
+
+-- there is a node of a kind of this sort
+abbrev pub HasNodeOf : Dataflow → (Kind → Bool) → Type 0
+HasNodeOf flow sort = (p : ℕ) × (p < length flow.nodes) × (sort (kind_of flow p) ≡ true)
+
+-- F9: there is an input and an output
+abbrev pub HasBorders : Dataflow → Type 0
+HasBorders flow = HasNodeOf flow is_input_kind × HasNodeOf flow is_output_kind
+
+-- ---- on which line a rule is broken
+
+-- the lines of the declarations
+abbrev pub all_lines : List Declared → List ℕ
+all_lines raw = map (λ d. d.line) raw
+
+-- the lines of the nodes, in order
+abbrev pub node_lines : List Declared → List ℕ
+node_lines raw = flat_map (λ d. map (λ name. d.line) (node_name d)) raw
+
+-- the lines of the edges, in order
+abbrev pub edge_lines : List Declared → List ℕ
+edge_lines raw = flat_map (λ d. map (λ name. d.line) (edge_name d)) raw
+
+-- the rule holds at each place below n
+abbrev pub HoldsBelow : (ℕ → Type 0) → ℕ → Type 0
+HoldsBelow Rule n = (place : ℕ) → place < n → Rule place
+
+-- of the places with these lines, the first at which the rule does not hold is on this line
+pub record IsFirstBreak (Rule : ℕ → Type 0) (lines : List ℕ) (line : ℕ) : Type 0 where
+  pub place : ℕ
+  pub there : slice_get lines place ≡ Some line
+  pub earlier : HoldsBelow Rule place
+  pub broken : Rule place → ⊥
+
+-- the line is the first at which the rule does not hold; with no line it holds at all of them
+abbrev pub IsFirstBreakIfAny : (ℕ → Type 0) → List ℕ → Option ℕ → Type 0
+IsFirstBreakIfAny Rule lines line = MatchOption line (HoldsBelow Rule (length lines)) (IsFirstBreak Rule lines)
+
+-- ---- the first broken rule
+
+-- the rule of this code holds
+abbrev pub Holds : List Declared → Code → Type 0
+Holds raw F3 = HoldsBelow (NamesTheDeclared raw) (length (all_lines raw))
+Holds raw F4 = HoldsBelow (HasItsDegrees (flow_of raw)) (length (node_lines raw))
+Holds raw F5 = HoldsBelow (JoinsDomains (flow_of raw)) (length (edge_lines raw))
+Holds raw F6 = AreWalksRight (flow_of raw)
+Holds raw F7 = HoldsBelow (HasAllowedPolicy (flow_of raw)) (length (node_lines raw))
+Holds raw F8 = HoldsBelow (StaysWithinLimits raw) (length (all_lines raw))
+Holds raw F9 = HasBorders (flow_of raw)
+Holds raw code = Unit {0}
+
+-- the rule of this code is broken, first on this line; line 0 stands for the flow as a whole
+abbrev pub IsBroken : List Declared → Code → ℕ → Type 0
+IsBroken raw F3 line = IsFirstBreak (NamesTheDeclared raw) (all_lines raw) line
+IsBroken raw F4 line = IsFirstBreak (HasItsDegrees (flow_of raw)) (node_lines raw) line
+IsBroken raw F5 line = IsFirstBreak (JoinsDomains (flow_of raw)) (edge_lines raw) line
+IsBroken raw F6 line = IsWalkWrong (flow_of raw) × (line ≡ 0)
+IsBroken raw F7 line = IsFirstBreak (HasAllowedPolicy (flow_of raw)) (node_lines raw) line
+IsBroken raw F8 line = IsFirstBreak (StaysWithinLimits raw) (all_lines raw) line
+IsBroken raw F9 line = (HasBorders (flow_of raw) → ⊥) × (line ≡ 0)
+IsBroken raw code line = ⊥
+
+-- the rules, in the order in which they are tested
+abbrev pub rules : List Code
+rules = F3 ∷ F4 ∷ F5 ∷ F6 ∷ F7 ∷ F8 ∷ F9 ∷ []
+
+-- the refusal is the first of these rules that is broken, with its line
+abbrev pub IsFirstBrokenOf : List Code → List Declared → Refusal → Type 0
+IsFirstBrokenOf [] raw refusal = ⊥
+IsFirstBrokenOf (code ∷ codes) raw refusal =
+    ((refusal.code ≡ code) × IsBroken raw code refusal.line) ⊎ (Holds raw code × IsFirstBrokenOf codes raw refusal)
+
+-- the refusal is the first rule that the declarations break, with its line
+abbrev pub IsFirstBroken : List Declared → Refusal → Type 0
+IsFirstBroken raw refusal = IsFirstBrokenOf rules raw refusal
 
 -- the declarations are those of this dataflow, and it is well formed
 pub record IsChecked (raw : List Declared) (flow : Dataflow) : Type 0 where
   pub well_formed : IsWellFormed (flow_of raw)
   pub value : flow ≡ flow_of raw
-
--- the refusal is the first rule that the declarations break
-abbrev pub IsFirstBroken : List Declared → Refusal → Type 0
-IsFirstBroken raw refusal = IsWellFormed (flow_of raw) → ⊥

@@ -124,6 +124,10 @@ greatest_of flow Epoch = greatest_number ∷ []
 greatest_of flow Number = greatest_number ∷ []
 greatest_of flow (InLoop l) = nest (greatest_number ∷ []) (max_of flow l)
 
+-- the greatest stamp of a kind's domain
+abbrev pub greatest_of_kind : Dataflow → Kind → Stamp
+greatest_of_kind flow kind = greatest_of flow (domain_of_kind flow kind)
+
 -- the bounds of a domain
 abbrev pub bounds_of_domain : Dataflow → Domain → Bounds
 bounds_of_domain flow domain = record { greatest = greatest_of flow domain }

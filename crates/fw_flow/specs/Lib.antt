@@ -1,9 +1,12 @@
 pub mod Check
 pub mod Counting
 pub mod Dataflow
+pub mod Draft
 pub mod Flow
 pub mod Names
 pub mod NodeFunction
+pub mod Parts
+pub mod ProjectedStamps
 pub mod Projection
 pub mod Raw
 pub mod Walks

@@ -6,9 +6,11 @@ ghost use Rattle.fw_flow.specs.WellFormed.{IsWellFormed};
 ghost use Rattle.fw_flow.specs.Names.{place_of};
 ghost use Rattle.fw_flow.specs.Check.{IsChecked, IsFirstBroken};
 
+use crate::check::{limit_line, refuse, undeclared_line};
+use crate::draft::Draft;
 use crate::name::Names;
 use crate::{Domain, Edge, EdgeId, Kind, Loop, LoopId, Name, Node, NodeId, Policy, RawFlow};
-use fw_lines::ReadFault;
+use fw_lines::{Code, ReadFault};
 use fw_time::{Bounds, Stamp};
 use std::alloc::Global;
 use std::marker::Model;
@@ -194,6 +196,25 @@ impl Flow {
         ensures checked { MatchResult result (IsChecked raw) (IfRefused (IsFirstBroken raw)) }
         ensures well_formed { IfOk result IsWellFormed }
     {
-        Err(ReadFault::NoMemory)
+        let RawFlow { names, declared } = raw;
+        refuse(Code::F3, undeclared_line(&names, &declared))?;
+        let limit_line = limit_line(&declared);
+        let draft = Draft::of(alloc, &names, declared)?;
+        draft.test(alloc, limit_line)?;
+        let Draft {
+            parts,
+            incoming,
+            outgoing,
+            ..
+        } = draft;
+        Ok(Flow {
+            loops: parts.loops,
+            nodes: parts.nodes,
+            edges: parts.edges,
+            node_names: names.nodes,
+            edge_names: names.edges,
+            incoming,
+            outgoing,
+        })
     }
 }

@@ -1,7 +1,9 @@
 //! Dataflows: nodes, edges, kinds and policies, events and messages, cuts and choices, and the steps of a run.
 #![tactic(auto)]
 
+mod check;
 mod choice;
+mod draft;
 mod event;
 mod flow;
 mod ids;
@@ -9,6 +11,8 @@ mod kind;
 pub mod laws;
 mod name;
 mod node;
+mod parts;
+mod projection;
 mod raw;
 mod step;
 mod walks;
@@ -20,5 +24,6 @@ pub use ids::{EdgeId, LoopId, NodeId};
 pub use kind::{Domain, Kind, Policy};
 pub use name::Name;
 pub use node::{Edge, Loop, Node};
+pub use projection::SentTable;
 pub use raw::{Declaration, Declared, RawFlow, RawKind};
 pub use step::{Nodes, Step};

@@ -1,7 +1,8 @@
 //! Names of loops, nodes and edges.
-ghost use Rattle.std.specs.Prelude.{◌≡◌, true, [], ◌∷◌, ◌++◌, not, Some, None, if◌then◌else◌, IfOk, OnOk, OnErr};
+ghost use Rattle.std.specs.Prelude.{◌≡◌, ◌≤◌, true, [], ◌∷◌, ◌++◌, length, not, Some, None, if◌then◌else◌, IfOk, OnOk, OnErr};
 ghost use Rattle.fw_lines.specs.Spelling as spelling;
 ghost use Rattle.fw_flow.specs.Names.{place_of, has_name};
+ghost use Rattle.fw_flow.specs.Raw.{place_or_end};
 
 use fw_lines::is_name;
 use indexmap::IndexSet;
@@ -90,5 +91,13 @@ impl Names {
         ensures { result ≡ place_of name.now self.now }
     {
         self.names.get_index_of(name)
+    }
+
+    /// The place of a name, past the last one where it is not among them.
+    pub(crate) fn place_or_end(&self, name: &[u8]) -> usize
+        ensures place { result ≡ place_or_end self.now name.now }
+        ensures within { result ≤ length self.now }
+    {
+        self.place_of(name).unwrap_or(self.names.len())
     }
 }

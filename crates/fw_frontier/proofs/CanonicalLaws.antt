@@ -1,5 +1,5 @@
 -- The calls keep a list of outside stamps canonical.
-use Rattle.std.proofs.Common.{◌≡◌, ℕ, Bool, true, false, not, ◌||◌, cond, List, [], ◌∷◌, length, refl, sym, ◌∙◌, subst, filter, zero, suc, nat_lt, nat_le, get_or, arith}
+use Rattle.std.proofs.Common.{◌≡◌, ℕ, Bool, true, false, not, ◌||◌, cond, List, [], ◌∷◌, length, refl, sym, ◌∙◌, subst, filter, zero, suc, nat_lt, nat_le, ◌<◌, get_or, ap, arith}
 use Rattle.std.proofs.lemmas.Bool.Decides.{nat_tests}
 use Rattle.std.specs.List.{AllByRecursion}
 use Rattle.std.specs.Ordering.{is_lt}
@@ -8,6 +8,7 @@ use Rattle.fw_time.specs.Stamp.{leq, lub, stamp_cmp, raised, in_domain}
 use Rattle.fw_time.proofs.StampLaws.{leq-refl, leq-length, lub-least, leq-raised, before-trans, before-total, and_left, and_right, both}
 use Rattle.fw_frontier.specs.Front.{inside, IsCanonical, all_in_domain}
 use Rattle.fw_frontier.specs.Outside.{placed, excluding, excluding_all, excluding_lubs, excluding_pairs, below_at}
+use Rattle.fw_frontier.proofs.GenericLaws.{each-at}
 
 apart : List ℕ → List ℕ → Type 0
 apart o q = (leq o q || leq q o) ≡ false
@@ -133,6 +134,10 @@ canonical-excluding_pairs b (s ∷ ss) ps os h k l = canonical-excluding_pairs b
 pub in_domain-canonical : (b : Bounds) (os : List (List ℕ)) → IsCanonical b os → AllByRecursion (λ o. in_domain b o ≡ true) os
 in_domain-canonical b [] h = tt
 in_domain-canonical b (o ∷ os) h = (h.0.in_the_domain, in_domain-canonical b os h.1)
+
+-- a stamp at a place of a list of a domain's stamps is the domain's
+pub in_domain-at : (b : Bounds) (ss : List (List ℕ)) (i : ℕ) (s : List ℕ) → i < length ss → s ≡ get_or ss i s → AllByRecursion (λ s. in_domain b s ≡ true) ss → in_domain b s ≡ true
+in_domain-at b ss i s l e h = ap (in_domain b) e ∙ each-at (λ s. in_domain b s ≡ true) ss i s l h
 
 -- stamps of one domain have one length
 pub lengths : (b : Bounds) (ss ps : List (List ℕ)) → AllByRecursion (λ s. in_domain b s ≡ true) ss → AllByRecursion (λ p. in_domain b p ≡ true) ps → AllByRecursion (λ s. AllByRecursion (λ p. length s ≡ length p) ps) ss

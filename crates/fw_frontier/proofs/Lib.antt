@@ -6,3 +6,4 @@ pub mod GenericLaws
 pub mod BelowLaws
 pub mod StairsLaws
 pub mod DomainLaws
+pub mod JoinLaws

@@ -1,5 +1,5 @@
 -- Which list names a frontier, and that there is only one.
-use Rattle.std.proofs.Common.{◌≡◌, ℕ, Bool, true, false, not, ◌&&◌, ◌||◌, List, [], ◌∷◌, length, take, refl, sym, ap, ◌∙◌, subst, suc, arith}
+use Rattle.std.proofs.Common.{◌≡◌, ℕ, Bool, true, false, not, ◌&&◌, ◌||◌, List, [], ◌∷◌, length, get_or, take, map, ◌+◌, ◌<◌, refl, sym, ap, ◌∙◌, subst, suc, arith}
 use Rattle.std.proofs.lemmas.List.{take_all}
 use Rattle.std.specs.List.{AllByRecursion}
 use Rattle.std.specs.Ordering.{is_lt}
@@ -8,9 +8,10 @@ use Rattle.fw_time.specs.Stamp.{leq, stamp_cmp, origin, in_domain}
 use Rattle.fw_time.proofs.StampLaws.{leq-refl, leq-antisym, leq-length, origin-leq, before-leq, before-trans, before-irrefl, and_left, and_right, both}
 use Rattle.fw_frontier.specs.Frontier.{nothing, everything, meet, join, cover, some_above, without_above, Within, IsFrontier}
 use Rattle.fw_frontier.specs.Front.{inside, frontier_of, IsCanonical, IsLeastBefore, Names}
-use Rattle.fw_frontier.specs.Outside.{excluding, excluding_all, excluding_pairs, below_at, cover_from, none_inside}
+use Rattle.fw_frontier.specs.Outside.{excluding, excluding_all, excluding_pairs, below_at, none_inside}
 use Rattle.fw_frontier.proofs.InsideLaws.{inside-closed, inside-excluding, inside-excluding_all, inside-excluding_pairs, inside-below_at}
 use Rattle.fw_frontier.proofs.CanonicalLaws.{canonical-excluding, canonical-excluding_all, canonical-excluding_pairs, canonical-below_at, in_domain-canonical, lengths}
+use Rattle.fw_frontier.proofs.GenericLaws.{some_above_more}
 
 -- the list without stamps names all of the domain
 pub names-all : (b : Bounds) → Names b [] (everything b)
@@ -76,10 +77,10 @@ names-until b ss h = let n = names-excluding_all b ss [] h tt in record {
     by false c = refl
 
 -- what is inside one of the two
-pub names-join : (b : Bounds) (os ps : List (List ℕ)) → IsCanonical b os → IsCanonical b ps → Names b (excluding_pairs os ps []) (join (frontier_of b os) (frontier_of b ps))
+pub names-join : (b : Bounds) (os ps : List (List ℕ)) → AllByRecursion (λ s. in_domain b s ≡ true) os → AllByRecursion (λ p. in_domain b p ≡ true) ps → Names b (excluding_pairs os ps []) (join (frontier_of b os) (frontier_of b ps))
 names-join b os ps h k = record {
-  canonical = canonical-excluding_pairs b os ps [] (in_domain-canonical b os h) (in_domain-canonical b ps k) tt;
-  same = λ t. ap (λ c. in_domain b t && c) (inside-excluding_pairs os ps [] t (lengths b os ps (in_domain-canonical b os h) (in_domain-canonical b ps k))) ∙ by (in_domain b t) (inside os t) (inside ps t);
+  canonical = canonical-excluding_pairs b os ps [] h k tt;
+  same = λ t. ap (λ c. in_domain b t && c) (inside-excluding_pairs os ps [] t (lengths b os ps h k)) ∙ by (in_domain b t) (inside os t) (inside ps t);
 }
   where
     by : (a b c : Bool) → (a && (b || c)) ≡ ((a && b) || (a && c))
@@ -107,35 +108,42 @@ names-below b s h = record {
         whole = ap (λ u. leq u (take (length s) s)) (take_all (length s) t (omega (arith, long))) ∙ ap (λ u. leq t u) (take_all (length s) s (omega arith))
     by t false e = refl
 
--- what is at most one of some stamps more
-pub names-cover_from : (b : Bounds) (ss os : List (List ℕ)) → AllByRecursion (λ s. in_domain b s ≡ true) ss → IsCanonical b os → Names b (cover_from b.greatest ss os) (join (frontier_of b os) (cover b ss))
-names-cover_from b [] os h k = record { canonical = k; same = λ t. by (in_domain b t) (inside os t) }
+-- one stamp more is covered
+pub names-cover_more : (b : Bounds) (both os under : List (List ℕ)) (s : List ℕ) (i : ℕ) (ss : List (List ℕ)) → i < length ss → s ≡ get_or ss i s
+    → Names b os (cover b (take i ss)) → Names b under (cover b (s ∷ [])) → Names b both (join (frontier_of b os) (frontier_of b under)) → Names b both (cover b (take (i + 1) ss))
+names-cover_more b both os under s i ss l e n m h = record {
+  canonical = h.canonical;
+  same = λ t. h.same t ∙ (λ j. n.same t j || m.same t j) ∙ by (in_domain b t) (some_above (take i ss) t) (leq t s)
+      ∙ ap (λ c. in_domain b t && c) (more t);
+}
   where
-    by : (a c : Bool) → (a && c) ≡ ((a && c) || (a && false))
-    by true true = refl
-    by true false = refl
-    by false c = refl
-names-cover_from b (s ∷ ss) os h k =
-    let under = names-below b s h.0 in
-    let one = names-join b os (below_at s b.greatest (length s)) k under.canonical in
-    let rest = names-cover_from b ss (excluding_pairs os (below_at s b.greatest (length s)) []) h.1 one.canonical in
-    record {
-      canonical = rest.canonical;
-      same = λ t. rest.same t ∙ ap (λ c. c || (in_domain b t && some_above ss t)) (one.same t ∙ ap (λ c. (in_domain b t && inside os t) || c) (under.same t)) ∙ by (in_domain b t) (inside os t) (leq t s) (some_above ss t);
-    }
-  where
-    by : (a b c d : Bool) → (((a && b) || (a && (c || false))) || (a && d)) ≡ ((a && b) || (a && (c || d)))
-    by true true c d = refl
-    by true false true d = refl
-    by true false false d = refl
-    by false b c d = refl
+    by : (a b c : Bool) → ((a && b) || (a && (c || false))) ≡ (a && (b || c))
+    by true true true = refl
+    by true true false = refl
+    by true false true = refl
+    by true false false = refl
+    by false b c = refl
 
--- what is at most one of some stamps
-pub names-cover : (b : Bounds) (ss : List (List ℕ)) → AllByRecursion (λ s. in_domain b s ≡ true) ss → Names b (cover_from b.greatest ss (origin b.greatest ∷ [])) (cover b ss)
-names-cover b ss h =
-    let none = names-nothing b in
-    let n = names-cover_from b ss (origin b.greatest ∷ []) h none.canonical in
-    record { canonical = n.canonical; same = λ t. n.same t ∙ ap (λ c. c || (in_domain b t && some_above ss t)) (none.same t) }
+    at : (t : List ℕ) → (some_above (map (λ u. u) (take i ss)) t || leq t s) ≡ some_above (map (λ u. u) (take (i + 1) ss)) t
+    at t = ap (λ u. some_above (map (λ u. u) (take i ss)) t || leq t u) e ∙ some_above_more (λ u. u) ss i s t l
+
+    plain : (us : List (List ℕ)) → map (λ u. u) us ≡ us
+    plain [] = refl
+    plain (u ∷ us) = ap (λ w. u ∷ w) (plain us)
+
+    more : (t : List ℕ) → (some_above (take i ss) t || leq t s) ≡ some_above (take (i + 1) ss) t
+    more t = ap (λ us. some_above us t || leq t s) (sym (plain (take i ss))) ∙ at t ∙ ap (λ us. some_above us t) (plain (take (i + 1) ss))
+
+-- no stamp is at most one of none
+pub names-cover_none : (b : Bounds) (os : List (List ℕ)) → os ≡ origin b.greatest ∷ [] → Names b os (cover b [])
+names-cover_none b os e = record {
+  canonical = subst (IsCanonical b) (sym e) (names-nothing b).canonical;
+  same = λ t. ap (λ u. frontier_of b u t) e ∙ (names-nothing b).same t ∙ by (in_domain b t);
+}
+  where
+    by : (a : Bool) → false ≡ (a && false)
+    by true = refl
+    by false = refl
 
 -- the stamps before a canonical list are at most none of it
 pub inside-first : (x : List ℕ) (os : List (List ℕ)) (t : List ℕ) → AllByRecursion (λ q. is_lt (stamp_cmp x q) ≡ true) os → inside os t ≡ false → is_lt (stamp_cmp x t) ≡ true

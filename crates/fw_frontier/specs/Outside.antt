@@ -1,5 +1,5 @@
 -- What the calls do to a list of outside stamps.
-use Rattle.std.specs.Prelude.{ℕ, zero, suc, Bool, true, not, ◌&&◌, length, if◌then◌else◌, nat_lt, slice_index, List, [], ◌∷◌, filter}
+use Rattle.std.specs.Prelude.{ℕ, zero, suc, Bool, true, not, ◌&&◌, if◌then◌else◌, nat_lt, slice_index, List, [], ◌∷◌, filter}
 use Rattle.std.specs.Ordering.{is_lt}
 use Rattle.fw_time.specs.Stamp.{Stamp, leq, lub, raised, stamp_cmp}
 use Rattle.fw_frontier.specs.Front.{Front, inside}
@@ -33,15 +33,21 @@ abbrev pub excluding_pairs : Front → Front → Front → Front
 excluding_pairs [] ps os = os
 excluding_pairs (s ∷ ss) ps os = excluding_pairs ss ps (excluding_lubs s ps os)
 
+-- the first, in the order of stamps, of a first one found and the least upper bounds of a stamp with these
+abbrev pub first_lub_from : Stamp → Stamp → List Stamp → Stamp
+first_lub_from s first [] = first
+first_lub_from s first (p ∷ ps) = first_lub_from s (if is_lt (stamp_cmp (lub s p) first) then lub s p else first) ps
+
+-- for each stamp of the first list, the first of its least upper bounds with those of the second is outside too
+abbrev pub excluding_first_lubs : Front → Front → Front → Front
+excluding_first_lubs ss [] os = os
+excluding_first_lubs [] (p ∷ ps) os = os
+excluding_first_lubs (s ∷ ss) (p ∷ ps) os = excluding_first_lubs ss (p ∷ ps) (excluding (first_lub_from s (lub s p) ps) os)
+
 -- outside is what has a greater coordinate than the stamp at one of the first places, below the domain's greatest
 abbrev pub below_at : Stamp → Stamp → ℕ → Front
 below_at s greatest zero = []
 below_at s greatest (suc i) = if nat_lt (slice_index s i) (slice_index greatest i) then excluding (raised s i) (below_at s greatest i) else below_at s greatest i
-
--- one of these stamps more is inside, with each lesser stamp of the domain
-abbrev pub cover_from : Stamp → List Stamp → Front → Front
-cover_from greatest [] os = os
-cover_from greatest (s ∷ ss) os = cover_from greatest ss (excluding_pairs os (below_at s greatest (length s)) [])
 
 -- whether none of these stamps is inside
 abbrev pub none_inside : Front → List Stamp → Bool

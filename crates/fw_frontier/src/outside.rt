@@ -1,8 +1,11 @@
 //! Lists of outside stamps, and what the calls of frontiers do to them.
-ghost use Rattle.std.specs.Prelude.{◌≡◌, ◌∷◌, [], ◌<◌, ◌≤◌, not, nat_lt, if◌then◌else◌, length, slice_index, filter, IfOk, OnOk};
-ghost use Rattle.fw_time.specs.Stamp.{leq, origin, raised};
-ghost use Rattle.fw_frontier.specs.Front.{inside, all_in_domain};
-ghost use Rattle.fw_frontier.specs.Outside.{place, placed, excluding, excluding_all, excluding_lubs, excluding_pairs, below_at, cover_from, none_inside};
+ghost use Rattle.std.specs.Prelude.{◌≡◌, true, [], ◌<◌, ◌≤◌, not, nat_lt, if◌then◌else◌, length, slice_index, filter, IfOk, OnOk};
+ghost use Rattle.std.specs.List.{AllByRecursion};
+ghost use Rattle.fw_time.specs.declared.stamp.Bounds.{Bounds as Domain};
+ghost use Rattle.fw_time.specs.Stamp.{leq, lub, raised, in_domain};
+ghost use Rattle.fw_frontier.specs.Front.{inside, all_in_domain, frontier_of, Names};
+ghost use Rattle.fw_frontier.specs.Frontier.{join, cover};
+ghost use Rattle.fw_frontier.specs.Outside.{place, placed, excluding, excluding_all, excluding_lubs, excluding_pairs, first_lub_from, excluding_first_lubs, below_at, none_inside};
 
 use fw_time::{Bounds, Stamp};
 use std::alloc::{AllocError, Global};
@@ -116,8 +119,12 @@ fn exclude_lubs(outside: &mut Vec<Stamp>, s: &Stamp, stamps: &[Stamp]) -> Result
     Ok(())
 }
 
-// What is inside one of two frontiers.
-pub fn joined(alloc: Global, mine: &[Stamp], others: &[Stamp]) -> Result<Vec<Stamp>, AllocError>
+// What is inside one of two frontiers: what is at least one outside stamp of each is outside. All pairs are looked at.
+fn joined_by_pairs(
+    alloc: Global,
+    mine: &[Stamp],
+    others: &[Stamp],
+) -> Result<Vec<Stamp>, AllocError>
     ensures { IfOk result (λ both. both.items ≡ excluding_pairs mine.now others.now []) }
 {
     let mut both = Vec::new(alloc);
@@ -125,6 +132,70 @@ pub fn joined(alloc: Global, mine: &[Stamp], others: &[Stamp]) -> Result<Vec<Sta
         exclude_lubs(&mut both, s, others)?;
     }
     Ok(both)
+}
+
+// The first, in the order of stamps, of the least upper bounds of `s` with `p` and with the other stamps.
+fn first_lub(s: &Stamp, p: &Stamp, others: &[Stamp]) -> Stamp
+    ensures { result ≡ first_lub_from s.now (lub s.now p.now) others.now }
+{
+    let mut first = s.lub(p);
+    for other in others {
+        let lub = s.lub(other);
+        if lub.compare(&first).is_lt() {
+            first = lub;
+        }
+    }
+    first
+}
+
+// Makes outside, for each of the stamps, the first of its least upper bounds with the others.
+fn exclude_first_lubs(
+    outside: &mut Vec<Stamp>,
+    stamps: &[Stamp],
+    others: &[Stamp],
+) -> Result<(), AllocError>
+    ensures { OnOk result
+        (outside.new.items ≡ excluding_first_lubs stamps.now others.now outside.old.items) }
+{
+    let [p, rest @ ..] = others else {
+        return Ok(());
+    };
+    for s in stamps {
+        exclude(outside, first_lub(s, p, rest))?;
+    }
+    Ok(())
+}
+
+// What is inside one of two frontiers of at most two coordinates. A least stamp outside of both has its first coordinate
+// from an outside stamp of one of them, and is the first of that stamp's least upper bounds with those of the other.
+fn joined_by_firsts(
+    alloc: Global,
+    mine: &[Stamp],
+    others: &[Stamp],
+) -> Result<Vec<Stamp>, AllocError>
+    ensures { IfOk result (λ both. both.items
+        ≡ excluding_first_lubs others.now mine.now (excluding_first_lubs mine.now others.now [])) }
+{
+    let mut both = Vec::new(alloc);
+    exclude_first_lubs(&mut both, mine, others)?;
+    exclude_first_lubs(&mut both, others, mine)?;
+    Ok(both)
+}
+
+// What is inside one of two frontiers.
+pub fn joined(alloc: Global, mine: &[Stamp], others: &[Stamp]) -> Result<Vec<Stamp>, AllocError>
+    ensures { (bounds : Domain) → AllByRecursion (λ s. in_domain bounds s ≡ true) mine.now
+        → AllByRecursion (λ s. in_domain bounds s ≡ true) others.now
+        → IfOk result (λ both. Names bounds both.items
+        (join (frontier_of bounds mine.now) (frontier_of bounds others.now))) }
+{
+    let [first, ..] = mine else {
+        return Ok(Vec::new(alloc));
+    };
+    if first.len() <= 2 {
+        return joined_by_firsts(alloc, mine, others);
+    }
+    joined_by_pairs(alloc, mine, others)
 }
 
 // Makes outside what has a greater coordinate than `s` at a place, if the domain has such stamps.
@@ -160,8 +231,8 @@ fn below(alloc: Global, s: &Stamp, greatest: &Stamp) -> Result<Vec<Stamp>, Alloc
 
 // What of a domain is at most one of the stamps, which are the domain's.
 pub fn covering(alloc: Global, stamps: &[Stamp], bounds: &Bounds) -> Result<Vec<Stamp>, AllocError>
-    ensures { IfOk result (λ outside. outside.items
-        ≡ cover_from bounds.now.greatest stamps.now (origin bounds.now.greatest ∷ [])) }
+    ensures { AllByRecursion (λ s. in_domain bounds.now s ≡ true) stamps.now
+        → IfOk result (λ outside. Names bounds.now outside.items (cover bounds.now stamps.now)) }
 {
     let mut outside = Vec::new(alloc);
     outside.push(bounds.origin())?;

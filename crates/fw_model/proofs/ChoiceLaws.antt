@@ -10,6 +10,7 @@ use Rattle.fw_time.specs.Stamp.{Stamp, leq, in_domain}
 use Rattle.fw_time.specs.declared.stamp.Bounds.{Bounds}
 use Rattle.fw_frontier.specs.Frontier.{Frontier, IsFrontier, Within, nothing, join, cover, some_above}
 use Rattle.fw_frontier.specs.Front.{Front, inside, frontier_of, IsCanonical, Names}
+use Rattle.fw_frontier.proofs.CanonicalLaws.{in_domain-canonical}
 use Rattle.fw_frontier.proofs.NamesLaws.{names-join, names-self, names-same, frontier-closed}
 use Rattle.fw_flow.specs.declared.choice.Cut.{Cut}
 use Rattle.fw_flow.specs.declared.choice.Cut.TheVariants.{Present, At}
@@ -453,7 +454,7 @@ union_cut-union : (sys : System) (state : Machine) (lost : ℕ → Bool) (view :
 unfolding union_cut
 union_cut-union sys state lost view p Present y i j = refl
 union_cut-union sys state lost view p (At f) Present i j = refl
-union_cut-union sys state lost view p (At f) (At g) i j = names-join (bounds_of sys.flow p) f g i.0 j.0
+union_cut-union sys state lost view p (At f) (At g) i j = names-join (bounds_of sys.flow p) f g (in_domain-canonical (bounds_of sys.flow p) f i.0) (in_domain-canonical (bounds_of sys.flow p) g j.0)
 
 pub have-union : ConsistentChoicesHaveUnion
 have-union sys state lost view one other a b =
@@ -468,7 +469,9 @@ have-union sys state lost view one other a b =
             (union_cut-union sys state lost view p (cut_of one p) (cut_of other p) (a.offered p l) (b.offered p l));
         notes = λ p l. subst (λ os. Names (bounds_of sys.flow p) os (join (note_of sys one p) (note_of sys other p)))
             (sym (get_or-map-range_with_len note 0 n p p [] l (omega arith)))
-            (names-join (bounds_of sys.flow p) (front_of one.notes p) (front_of other.notes p) (a.canonical p l) (b.canonical p l));
+            (names-join (bounds_of sys.flow p) (front_of one.notes p) (front_of other.notes p)
+            (in_domain-canonical (bounds_of sys.flow p) (front_of one.notes p) (a.canonical p l))
+            (in_domain-canonical (bounds_of sys.flow p) (front_of other.notes p) (b.canonical p l)));
       },
     )
 

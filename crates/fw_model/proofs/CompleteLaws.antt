@@ -50,7 +50,7 @@ enabled-outside sys h done a (Notify p t) k = false_from_ne_true (done p t) (λ 
 
 -- ---- what an event outside sends is outside phi
 
-past_edges-idle : (flow : Dataflow) (e : ℕ) → length flow.edges ≤ e → kind_of flow (sender flow e) ≡ OutputEpoch
+pub past_edges-idle : (flow : Dataflow) (e : ℕ) → length flow.edges ≤ e → kind_of flow (sender flow e) ≡ OutputEpoch
 unfolding sender kind_of
 past_edges-idle flow e l =
     let past = get_or_past flow.edges e (record { name = []; sender = length flow.nodes; receiver = length flow.nodes }) l in
@@ -127,27 +127,26 @@ outside-other sys h e f t fr i ms o =
     let b = and_parts (leq t m.at) (leq m.at t) k in
     a (p.closed m.at t (leq-trans m.at t (bounds_of_edge sys.flow e).greatest b.1 (p.inside_domain t i)) b.1 i))) o
 
-quiet-sent : (sys : System) (h : List Event) → IsWellFormed sys.flow → HasEpochs sys → IsLegal sys h
+pub quiet-sent : (sys : System) (h : List Event) → IsWellFormed sys.flow → HasEpochs sys → IsLegal sys h
     → (done : ℕ → Frontier) → IsAdmissible sys h done → (v : Event) → IsEnabled sys h v
-    → (p : ℕ) (t : Stamp) → done p t ≡ true → (e : ℕ) → receiver sys.flow e ≡ p
+    → (e : ℕ) (t : Stamp) → phi sys h e (done (sender sys.flow e)) t ≡ true → some_at (same t) (pending sys h e) ≡ false
     → some_at (same t) (less (sent sys (v ∷ h) e) (delivered h e)) ≡ false
-quiet-sent sys h w b l done a v k p t i e r =
+quiet-sent sys h w b l done a v k e t i quiet =
     let q = sender sys.flow e in
     let vs = events_at sys.flow q h in
-    let quiet = a.quiet p t i e r in
     cond_both (place sys.flow v == q) (v ∷ vs) vs (λ ws. some_at (same t) (less (sent_by sys q ws) (delivered h e)) ≡ false)
     (λ c.
     let here = eqb-true (place sys.flow v) q c in
     let d = enabled-in_domain sys h w b (legal-in_domain sys h w b l) v k in
     let o = enabled-outside sys h done a v k in
     quiet-new t (sends sys q vs v) (sent_by sys q vs) (delivered h e)
-    (outside-other sys h e (done q) t (a.frontier q) (a.follows e t (ap (λ n. done n t) r ∙ i)) (sends sys q vs v)
+    (outside-other sys h e (done q) t (a.frontier q) i (sends sys q vs v)
     (fresh-outside sys h w l e (done q) v (a.frontier q)
     (sym (ap (λ n. in_domain (bounds_of sys.flow n) (stamp v)) here) ∙ d) (sym (ap (λ n. done n (stamp v)) here) ∙ o)))
     quiet)
     (λ c. quiet)
 
-quiet-event : (v : Event) (h : List Event) (e : ℕ) (t : Stamp) (ms : List Message)
+pub quiet-event : (v : Event) (h : List Event) (e : ℕ) (t : Stamp) (ms : List Message)
     → some_at (same t) (less ms (delivered h e)) ≡ false → some_at (same t) (less ms (delivered (v ∷ h) e)) ≡ false
 quiet-event (Inject s x) h e t ms k = k
 quiet-event (Deliver d m) h e t ms k =
@@ -155,7 +154,7 @@ quiet-event (Deliver d m) h e t ms k =
     (λ c. quiet-without t m (less ms (delivered h e)) k) (λ c. k)
 quiet-event (Notify p s) h e t ms k = k
 
-not_owed-notified : (a b c d : Bool) → (a && b && not d) ≡ false → (a && b && not (c || d)) ≡ false
+pub not_owed-notified : (a b c d : Bool) → (a && b && not d) ≡ false → (a && b && not (c || d)) ≡ false
 not_owed-notified a b true d k = no (a && b)
   where
     no : (x : Bool) → (x && false) ≡ false
@@ -163,7 +162,7 @@ not_owed-notified a b true d k = no (a && b)
     no false = refl
 not_owed-notified a b false d k = k
 
-not_owed-delivered : (a b c d : Bool) → c ≡ false → (a && b && not d) ≡ false → (a && (c || b) && not d) ≡ false
+pub not_owed-delivered : (a b c d : Bool) → c ≡ false → (a && b && not d) ≡ false → (a && (c || b) && not d) ≡ false
 not_owed-delivered a b true d e k = cc
 not_owed-delivered a b false d e k = k
 
@@ -206,7 +205,8 @@ injected-grows sys h (Inject q x) k s = λ t i.
 pub admissible-stays : AdmissibleStaysAdmissible
 admissible-stays sys h w b l done a v k = record {
   frontier = a.frontier;
-  quiet = λ p t i e r. quiet-event v h e t (sent sys (v ∷ h) e) (quiet-sent sys h w b l done a v k p t i e r);
+  quiet = λ p t i e r. quiet-event v h e t (sent sys (v ∷ h) e)
+      (quiet-sent sys h w b l done a v k e t (a.follows e t (ap (λ n. done n t) r ∙ i)) (a.quiet p t i e r));
   paid = λ p t i. paid-event sys h done a v (enabled-outside sys h done a v k) p t i;
   follows = λ e t i. phi-longer sys h (v ∷ []) e (done (sender sys.flow e)) t (a.follows e t i);
   source = λ s j t i. injected-grows sys h v k s t (a.source s j t i);

@@ -6,7 +6,7 @@ use Rattle.fw_time.specs.Stamp.{Stamp, leq, nest, outer, counter, in_domain}
 use Rattle.fw_frontier.specs.Frontier.{Frontier, IsFrontier}
 use Rattle.fw_flow.specs.declared.kind.Kind.{Kind}
 use Rattle.fw_flow.specs.declared.kind.Kind.TheVariants.{Enter, Feedback, Leave, Sequence, Regroup}
-use Rattle.fw_flow.specs.Dataflow.{System, kind_of, sender, max_of, greatest_number, domain_of_kind, out_domain_of_kind, bounds_of, bounds_of_domain}
+use Rattle.fw_flow.specs.Dataflow.{greatest_of_kind, System, kind_of, sender, max_of, greatest_number, domain_of_kind, out_domain_of_kind, bounds_of, bounds_of_domain}
 use Rattle.fw_flow.specs.Projection.{sent_count, number_of, phi_of_kind, phi, psi_of_kind, psi}
 use Rattle.fw_model.specs.LawsOfProjections.{PhiIsFrontier, PsiIsFrontier, PhiIgnoresHistory, is_sequence_kind, bounds_of_edge}
 use Rattle.fw_model.proofs.StampLaws.{nest-leq, in_loop, loop-leq, leq_from, leq_to, in_line, line-leq, leq-line}
@@ -46,7 +46,7 @@ group-monotone m n r g h =
 phi_of_kind-closed : (sys : System) (kind : Kind) (count : ℕ) (f : Frontier) → IsFrontier (bounds_of_domain sys.flow (domain_of_kind sys.flow kind)) f
     → (s u : Stamp) → in_domain (bounds_of_domain sys.flow (out_domain_of_kind sys.flow kind)) s ≡ true
     → in_domain (bounds_of_domain sys.flow (out_domain_of_kind sys.flow kind)) u ≡ true → leq s u ≡ true
-    → phi_of_kind sys kind count f u ≡ true → phi_of_kind sys kind count f s ≡ true
+    → phi_of_kind (greatest_of_kind sys.flow kind) kind count f u ≡ true → phi_of_kind (greatest_of_kind sys.flow kind) kind count f s ≡ true
 phi_of_kind-closed sys (Enter r) n f fr s u i j l k =
     let b = greatest_number ∷ [] in
     let m = max_of sys.flow r in
@@ -76,7 +76,7 @@ phi_of_kind-closed sys kind n f fr s u i j l k = fr.closed s u i l k
 psi_of_kind-closed : (sys : System) (kind : Kind) (f : Frontier) → IsFrontier (bounds_of_domain sys.flow (domain_of_kind sys.flow kind)) f
     → (s u : Stamp) → in_domain (bounds_of_domain sys.flow (out_domain_of_kind sys.flow kind)) s ≡ true
     → in_domain (bounds_of_domain sys.flow (out_domain_of_kind sys.flow kind)) u ≡ true → leq s u ≡ true
-    → psi_of_kind sys kind f u ≡ true → psi_of_kind sys kind f s ≡ true
+    → psi_of_kind (greatest_of_kind sys.flow kind) kind f u ≡ true → psi_of_kind (greatest_of_kind sys.flow kind) kind f s ≡ true
 psi_of_kind-closed sys (Enter r) f fr s u i j l k =
     let b = greatest_number ∷ [] in
     let m = max_of sys.flow r in
@@ -108,10 +108,10 @@ phi-frontier sys h e f fr =
     let kind = kind_of sys.flow (sender sys.flow e) in
     let count = sent_count sys h (sender sys.flow e) f in
     record {
-      inside_domain = λ u k. (and_parts _ (phi_of_kind sys kind count f u) k).0;
+      inside_domain = λ u k. (and_parts _ (phi_of_kind (greatest_of_kind sys.flow kind) kind count f u) k).0;
       closed = λ s u i l k.
-          let a = and_parts (in_domain (bounds_of_edge sys.flow e) u) (phi_of_kind sys kind count f u) k in
-          and_from _ (phi_of_kind sys kind count f s) i (phi_of_kind-closed sys kind count f fr s u i a.0 l a.1);
+          let a = and_parts (in_domain (bounds_of_edge sys.flow e) u) (phi_of_kind (greatest_of_kind sys.flow kind) kind count f u) k in
+          and_from _ (phi_of_kind (greatest_of_kind sys.flow kind) kind count f s) i (phi_of_kind-closed sys kind count f fr s u i a.0 l a.1);
     }
 
 pub psi-frontier : PsiIsFrontier
@@ -119,14 +119,14 @@ unfolding psi bounds_of
 psi-frontier sys e f fr =
     let kind = kind_of sys.flow (sender sys.flow e) in
     record {
-      inside_domain = λ u k. (and_parts _ (psi_of_kind sys kind f u) k).0;
+      inside_domain = λ u k. (and_parts _ (psi_of_kind (greatest_of_kind sys.flow kind) kind f u) k).0;
       closed = λ s u i l k.
-          let a = and_parts (in_domain (bounds_of_edge sys.flow e) u) (psi_of_kind sys kind f u) k in
-          and_from _ (psi_of_kind sys kind f s) i (psi_of_kind-closed sys kind f fr s u i a.0 l a.1);
+          let a = and_parts (in_domain (bounds_of_edge sys.flow e) u) (psi_of_kind (greatest_of_kind sys.flow kind) kind f u) k in
+          and_from _ (psi_of_kind (greatest_of_kind sys.flow kind) kind f s) i (psi_of_kind-closed sys kind f fr s u i a.0 l a.1);
     }
 
 phi_of_kind-ignores_count : (sys : System) (kind : Kind) (m n : ℕ) (f : Frontier) (u : Stamp) → is_sequence_kind kind ≡ false
-    → phi_of_kind sys kind m f u ≡ phi_of_kind sys kind n f u
+    → phi_of_kind (greatest_of_kind sys.flow kind) kind m f u ≡ phi_of_kind (greatest_of_kind sys.flow kind) kind n f u
 phi_of_kind-ignores_count sys (Enter l) m n f u k = refl
 phi_of_kind-ignores_count sys (Feedback l) m n f u k = refl
 phi_of_kind-ignores_count sys (Leave l) m n f u k = refl

@@ -6,7 +6,7 @@ use Rattle.fw_time.specs.Stamp.{Stamp, leq, nest, outer, counter, in_domain}
 use Rattle.fw_frontier.specs.Frontier.{Frontier, IsFrontier, Within, everything, meet}
 use Rattle.fw_flow.specs.declared.kind.Kind.{Kind}
 use Rattle.fw_flow.specs.declared.kind.Kind.TheVariants.{Enter, Feedback, Leave, Sequence, Regroup}
-use Rattle.fw_flow.specs.Dataflow.{System, kind_of, sender, max_of, greatest_number, domain_of_kind, out_domain_of_kind, bounds_of, bounds_of_domain}
+use Rattle.fw_flow.specs.Dataflow.{greatest_of_kind, System, kind_of, sender, max_of, greatest_number, domain_of_kind, out_domain_of_kind, bounds_of, bounds_of_domain}
 use Rattle.fw_flow.specs.NodeFunction.{sent_by}
 use Rattle.fw_flow.specs.Projection.{events_at, sent_count, number_of, each_counter, phi_of_kind, phi}
 use Rattle.fw_model.specs.LawsOfProjections.{PhiOfMeet, PhiOfEverything}
@@ -73,8 +73,8 @@ or_meet false b c p q = and_from b c p q
 phi_of_kind-meet : (sys : System) (kind : Kind) (count : Frontier → ℕ) → ((f g : Frontier) → Within f g → count f ≤ count g)
     → (f g : Frontier) → IsFrontier (bounds_of_domain sys.flow (domain_of_kind sys.flow kind)) f
     → IsFrontier (bounds_of_domain sys.flow (domain_of_kind sys.flow kind)) g
-    → (u : Stamp) → phi_of_kind sys kind (count f) f u ≡ true → phi_of_kind sys kind (count g) g u ≡ true
-    → phi_of_kind sys kind (count (meet f g)) (meet f g) u ≡ true
+    → (u : Stamp) → phi_of_kind (greatest_of_kind sys.flow kind) kind (count f) f u ≡ true → phi_of_kind (greatest_of_kind sys.flow kind) kind (count g) g u ≡ true
+    → phi_of_kind (greatest_of_kind sys.flow kind) kind (count (meet f g)) (meet f g) u ≡ true
 phi_of_kind-meet sys (Enter l) count mono f g ff fg u j k = and_from (f (outer u)) (g (outer u)) j k
 phi_of_kind-meet sys (Feedback l) count mono f g ff fg u j k = or_meet (counter u == 0) _ _ j k
 phi_of_kind-meet sys (Leave l) count mono f g ff fg u j k = each_counter-meet f g u (max_of sys.flow l) j k
@@ -101,15 +101,15 @@ phi-meet sys h e f g ff fg u =
     (phi-monotone sys h e (meet f g) g (λ t j. (and_parts (f t) (g t) j).1) u k))
     (λ k.
     let both = and_parts (phi sys h e f u) (phi sys h e g u) k in
-    let a = and_parts i (phi_of_kind sys kind (sent_count sys h p f) f u) both.0 in
-    let b = and_parts i (phi_of_kind sys kind (sent_count sys h p g) g u) both.1 in
-    and_from i (phi_of_kind sys kind (sent_count sys h p (meet f g)) (meet f g) u) a.0
+    let a = and_parts i (phi_of_kind (greatest_of_kind sys.flow kind) kind (sent_count sys h p f) f u) both.0 in
+    let b = and_parts i (phi_of_kind (greatest_of_kind sys.flow kind) kind (sent_count sys h p g) g u) both.1 in
+    and_from i (phi_of_kind (greatest_of_kind sys.flow kind) kind (sent_count sys h p (meet f g)) (meet f g) u) a.0
     (phi_of_kind-meet sys kind (λ x. sent_count sys h p x) (λ x y w. count-monotone x y w (sent_by sys p (events_at sys.flow p h))) f g ff fg u a.1 b.1))
 
 -- ---- everything
 
 phi_of_kind-everything : (sys : System) (kind : Kind) (count : ℕ) (u : Stamp) → in_domain (bounds_of_domain sys.flow (out_domain_of_kind sys.flow kind)) u ≡ true
-    → phi_of_kind sys kind count (everything (bounds_of_domain sys.flow (domain_of_kind sys.flow kind))) u ≡ true
+    → phi_of_kind (greatest_of_kind sys.flow kind) kind count (everything (bounds_of_domain sys.flow (domain_of_kind sys.flow kind))) u ≡ true
 phi_of_kind-everything sys (Enter l) n u i = (in_loop u (greatest_number ∷ []) (max_of sys.flow l) i).outside
 phi_of_kind-everything sys (Feedback l) n u i =
     let v = in_loop u (greatest_number ∷ []) (max_of sys.flow l) i in
@@ -129,5 +129,5 @@ phi-everything sys h e u =
     let i = in_domain (bounds_of_domain sys.flow (out_domain_of_kind sys.flow kind)) u in
     let all = everything (bounds_of_domain sys.flow (domain_of_kind sys.flow kind)) in
     same_tests (phi sys h e all u) i
-    (λ k. (and_parts i (phi_of_kind sys kind (sent_count sys h p all) all u) k).0)
-    (λ k. and_from i (phi_of_kind sys kind (sent_count sys h p all) all u) k (phi_of_kind-everything sys kind _ u k))
+    (λ k. (and_parts i (phi_of_kind (greatest_of_kind sys.flow kind) kind (sent_count sys h p all) all u) k).0)
+    (λ k. and_from i (phi_of_kind (greatest_of_kind sys.flow kind) kind (sent_count sys h p all) all u) k (phi_of_kind-everything sys kind _ u k))

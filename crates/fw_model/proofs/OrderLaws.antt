@@ -92,7 +92,7 @@ not_owed-more : (a b c d : Bool) → (a && b && not d) ≡ false → (a && b && 
 not_owed-more a b true d k = not_owed-same a b true d refl
 not_owed-more a b false d k = k
 
-raised-paid : (sys : System) (h : List Event) (p : ℕ) (t s : Stamp) → IsNotifiable sys h p t → leq s t ≡ true → owed sys (Notify p t ∷ h) p s ≡ false
+pub raised-paid : (sys : System) (h : List Event) (p : ℕ) (t s : Stamp) → IsNotifiable sys h p t → leq s t ≡ true → owed sys (Notify p t ∷ h) p s ≡ false
 raised-paid sys h p t s k l =
     let kind = is_notified_kind (kind_of sys.flow p) in
     let came = was_delivered_to sys.flow p s h in

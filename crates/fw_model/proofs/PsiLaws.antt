@@ -5,7 +5,7 @@ use Rattle.fw_time.specs.Stamp.{Stamp, nest, outer, counter, in_domain}
 use Rattle.fw_frontier.specs.Frontier.{Frontier, Within, nothing, join}
 use Rattle.fw_flow.specs.declared.kind.Kind.{Kind}
 use Rattle.fw_flow.specs.declared.kind.Kind.TheVariants.{Enter, Feedback, Leave, Regroup}
-use Rattle.fw_flow.specs.Dataflow.{System, kind_of, sender, max_of, out_domain_of_kind, bounds_of_domain}
+use Rattle.fw_flow.specs.Dataflow.{greatest_of_kind, System, kind_of, sender, max_of, out_domain_of_kind, bounds_of_domain}
 use Rattle.fw_flow.specs.Projection.{some_counter, psi_of_kind, psi}
 use Rattle.fw_model.specs.LawsOfProjections.{PsiIsMonotone, PsiOfJoin, PsiOfNothing, PsiOfUnion, IsUnion}
 
@@ -24,7 +24,7 @@ some_counter-monotone f g w x (suc m) k = elim (or_cases (f (nest x (suc m))) (s
   | inr a ↦ or_right (g (nest x (suc m))) (some_counter g x m) (some_counter-monotone f g w x m a)
 ]
 
-psi_of_kind-monotone : (sys : System) (kind : Kind) (f g : Frontier) → Within f g → (u : Stamp) → psi_of_kind sys kind f u ≡ true → psi_of_kind sys kind g u ≡ true
+psi_of_kind-monotone : (sys : System) (kind : Kind) (f g : Frontier) → Within f g → (u : Stamp) → psi_of_kind (greatest_of_kind sys.flow kind) kind f u ≡ true → psi_of_kind (greatest_of_kind sys.flow kind) kind g u ≡ true
 psi_of_kind-monotone sys (Enter l) f g w u k =
     let a = and_parts (counter u == 0) (f (outer u)) k in
     and_from (counter u == 0) (g (outer u)) a.0 (w (outer u) a.1)
@@ -38,8 +38,8 @@ unfolding psi
 psi-monotone sys e f g w u k =
     let kind = kind_of sys.flow (sender sys.flow e) in
     let i = in_domain (bounds_of_domain sys.flow (out_domain_of_kind sys.flow kind)) u in
-    let a = and_parts i (psi_of_kind sys kind f u) k in
-    and_from i (psi_of_kind sys kind g u) a.0 (psi_of_kind-monotone sys kind f g w u a.1)
+    let a = and_parts i (psi_of_kind (greatest_of_kind sys.flow kind) kind f u) k in
+    and_from i (psi_of_kind (greatest_of_kind sys.flow kind) kind g u) a.0 (psi_of_kind-monotone sys kind f g w u a.1)
 
 -- ---- unions
 
@@ -51,7 +51,7 @@ some_counter-one family f w x (suc m) k = elim (or_cases (f (nest x (suc m))) (s
 ]
 
 psi_of_kind-one : (sys : System) (kind : Kind) (family : ℕ → Frontier) (f : Frontier) → IsUnion family f → (u : Stamp)
-    → psi_of_kind sys kind f u ≡ true → (i : ℕ) × (psi_of_kind sys kind (family i) u ≡ true)
+    → psi_of_kind (greatest_of_kind sys.flow kind) kind f u ≡ true → (i : ℕ) × (psi_of_kind (greatest_of_kind sys.flow kind) kind (family i) u ≡ true)
 psi_of_kind-one sys (Enter l) family f w u k =
     let a = and_parts (counter u == 0) (f (outer u)) k in
     let y = w.from_one (outer u) a.1 in
@@ -68,9 +68,9 @@ psi-union sys e family f w = record {
   from_one = λ u k.
       let kind = kind_of sys.flow (sender sys.flow e) in
       let i = in_domain (bounds_of_domain sys.flow (out_domain_of_kind sys.flow kind)) u in
-      let a = and_parts i (psi_of_kind sys kind f u) k in
+      let a = and_parts i (psi_of_kind (greatest_of_kind sys.flow kind) kind f u) k in
       let y = psi_of_kind-one sys kind family f w u a.1 in
-      (y.0, and_from i (psi_of_kind sys kind (family y.0) u) a.0 y.1);
+      (y.0, and_from i (psi_of_kind (greatest_of_kind sys.flow kind) kind (family y.0) u) a.0 y.1);
 }
 
 -- the union of two frontiers is that of a family that has the first at 0, and the second everywhere else
@@ -110,7 +110,7 @@ some_counter-nothing : (x : Stamp) (m : ℕ) → some_counter nothing x m ≡ fa
 some_counter-nothing x zero = refl
 some_counter-nothing x (suc m) = some_counter-nothing x m
 
-psi_of_kind-nothing : (sys : System) (kind : Kind) (u : Stamp) → psi_of_kind sys kind nothing u ≡ false
+psi_of_kind-nothing : (sys : System) (kind : Kind) (u : Stamp) → psi_of_kind (greatest_of_kind sys.flow kind) kind nothing u ≡ false
 psi_of_kind-nothing sys (Enter l) u = and_right (counter u == 0) false refl
 psi_of_kind-nothing sys (Feedback l) u = refl
 psi_of_kind-nothing sys (Leave l) u = some_counter-nothing u (max_of sys.flow l)

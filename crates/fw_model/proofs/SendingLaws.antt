@@ -8,7 +8,7 @@ use Rattle.fw_time.specs.Sending.{entered, fed_back, left, regrouped}
 use Rattle.fw_frontier.specs.Frontier.{Frontier, IsFrontier}
 use Rattle.fw_flow.specs.declared.kind.Kind.{Kind}
 use Rattle.fw_flow.specs.declared.kind.Kind.TheVariants.{OutputEpoch, OutputNumber, Enter, Feedback, Leave, Sequence, Regroup}
-use Rattle.fw_flow.specs.Dataflow.{System, Dataflow, kind_of, sender, max_of, greatest_number, domain_of_kind, out_domain_of_kind, bounds_of, bounds_of_domain, send_stamp, send_stamp_of_kind}
+use Rattle.fw_flow.specs.Dataflow.{greatest_of_kind, System, Dataflow, kind_of, sender, max_of, greatest_number, domain_of_kind, out_domain_of_kind, bounds_of, bounds_of_domain, send_stamp, send_stamp_of_kind}
 use Rattle.fw_flow.specs.declared.event.Event.{Event}
 use Rattle.fw_flow.specs.Projection.{sent_count, each_counter, some_counter, phi_of_kind, phi, psi_of_kind, psi}
 use Rattle.fw_model.specs.LawsOfProjections.{bounds_of_edge}
@@ -19,7 +19,7 @@ use Rattle.fw_model.proofs.StampLaws.{leq-refl, leq-trans, IsInLoop, loop-leq, o
 abbrev up_to : Stamp → Bounds
 up_to b = record { greatest = b }
 
-some_is : (s t : Stamp) → Some s ≡ Some t → s ≡ t
+pub some_is : (s t : Stamp) → Some s ≡ Some t → s ≡ t
 some_is s t e = cc
 
 -- ---- a node that sends at its event's stamp
@@ -69,12 +69,12 @@ some_if : (b : Bool) (w s : Stamp) → cond b (Some w) None ≡ Some s → (b �
 some_if true w s e = (refl, some_is w s e)
 some_if false w s e = absurd (cc)
 
-fed_back-some : (m : ℕ) (t s : Stamp) → fed_back m t ≡ Some s → (counter t < m) × (nest (outer t) (counter t + 1) ≡ s)
+pub fed_back-some : (m : ℕ) (t s : Stamp) → fed_back m t ≡ Some s → (counter t < m) × (nest (outer t) (counter t + 1) ≡ s)
 fed_back-some m t s e =
     let a = some_if (nat_lt (counter t) m) (nest (outer t) (counter t + 1)) s e in
     (ltb-true (counter t) m a.0, a.1)
 
-fed_back-nest : (m : ℕ) (x : Stamp) (c : ℕ) → c < m → fed_back m (nest x c) ≡ Some (nest x (c + 1))
+pub fed_back-nest : (m : ℕ) (x : Stamp) (c : ℕ) → c < m → fed_back m (nest x c) ≡ Some (nest x (c + 1))
 fed_back-nest m x c h =
     rw (outer-nest x c, counter-nest x c) (cond-true (nat_lt c m) (Some (nest x (c + 1))) None (lt-ltb c m h))
 
@@ -241,7 +241,7 @@ regroup_psi g n k f p fr = (
 phi_of_kind-by_stamp : (sys : System) (kind : Kind) (count : ℕ) (f : Frontier) → SendsByStamp sys.flow kind
     → IsFrontier (bounds_of_domain sys.flow (domain_of_kind sys.flow kind)) f
     → (u : Stamp) → in_domain (bounds_of_domain sys.flow (out_domain_of_kind sys.flow kind)) u ≡ true
-    → (phi_of_kind sys kind count f u ≡ true) ↔ IsSentFrom (bounds_of_domain sys.flow (domain_of_kind sys.flow kind)) (send_stamp_of_kind sys.flow kind) f u
+    → (phi_of_kind (greatest_of_kind sys.flow kind) kind count f u ≡ true) ↔ IsSentFrom (bounds_of_domain sys.flow (domain_of_kind sys.flow kind)) (send_stamp_of_kind sys.flow kind) f u
 phi_of_kind-by_stamp sys OutputEpoch n f p fr u i = absurd p
 phi_of_kind-by_stamp sys OutputNumber n f p fr u i = absurd p
 phi_of_kind-by_stamp sys Sequence n f p fr u i = absurd p
@@ -250,14 +250,14 @@ phi_of_kind-by_stamp sys (Feedback l) n f p fr u i = feedback_phi (greatest_numb
 phi_of_kind-by_stamp sys (Leave l) n f p fr u i = leave_phi (greatest_number ∷ []) (max_of sys.flow l) f fr u i
 phi_of_kind-by_stamp sys (Regroup r) n f p fr u i =
     let v = in_line u greatest_number i in
-    let P : Stamp → Type 0 = λ w. (phi_of_kind sys (Regroup r) n f w ≡ true) ↔ IsSentFrom (up_to (greatest_number ∷ [])) (regrouped r) f w in
+    let P : Stamp → Type 0 = λ w. (phi_of_kind (greatest_of_kind sys.flow (Regroup r)) (Regroup r) n f w ≡ true) ↔ IsSentFrom (up_to (greatest_number ∷ [])) (regrouped r) f w in
     subst P (sym v.1) (regroup_phi greatest_number r v.0 f p fr)
 phi_of_kind-by_stamp sys kind n f p fr u i = same_phi _ f fr u i
 
 psi_of_kind-by_stamp : (sys : System) (kind : Kind) (f : Frontier) → SendsByStamp sys.flow kind
     → IsFrontier (bounds_of_domain sys.flow (domain_of_kind sys.flow kind)) f
     → (u : Stamp) → in_domain (bounds_of_domain sys.flow (out_domain_of_kind sys.flow kind)) u ≡ true
-    → (psi_of_kind sys kind f u ≡ true) ↔ SendsAbove (send_stamp_of_kind sys.flow kind) f u
+    → (psi_of_kind (greatest_of_kind sys.flow kind) kind f u ≡ true) ↔ SendsAbove (send_stamp_of_kind sys.flow kind) f u
 psi_of_kind-by_stamp sys OutputEpoch f p fr u i = absurd p
 psi_of_kind-by_stamp sys OutputNumber f p fr u i = absurd p
 psi_of_kind-by_stamp sys Sequence f p fr u i = absurd p
@@ -266,7 +266,7 @@ psi_of_kind-by_stamp sys (Feedback l) f p fr u i = feedback_psi (greatest_number
 psi_of_kind-by_stamp sys (Leave l) f p fr u i = leave_psi (greatest_number ∷ []) (max_of sys.flow l) f fr u i
 psi_of_kind-by_stamp sys (Regroup r) f p fr u i =
     let v = in_line u greatest_number i in
-    let P : Stamp → Type 0 = λ w. (psi_of_kind sys (Regroup r) f w ≡ true) ↔ SendsAbove (regrouped r) f w in
+    let P : Stamp → Type 0 = λ w. (psi_of_kind (greatest_of_kind sys.flow (Regroup r)) (Regroup r) f w ≡ true) ↔ SendsAbove (regrouped r) f w in
     subst P (sym v.1) (regroup_psi greatest_number r v.0 f p fr)
 psi_of_kind-by_stamp sys kind f p fr u i = same_psi _ f fr u i
 
@@ -278,8 +278,8 @@ phi-by_stamp sys h e f p fr u i =
     let kind = kind_of sys.flow (sender sys.flow e) in
     let count = sent_count sys h (sender sys.flow e) f in
     let row = phi_of_kind-by_stamp sys kind count f p fr u i in (
-      λ k. row.0 (and_parts _ (phi_of_kind sys kind count f u) k).1,
-      λ all. and_from _ (phi_of_kind sys kind count f u) i (row.1 all),
+      λ k. row.0 (and_parts _ (phi_of_kind (greatest_of_kind sys.flow kind) kind count f u) k).1,
+      λ all. and_from _ (phi_of_kind (greatest_of_kind sys.flow kind) kind count f u) i (row.1 all),
     )
 
 pub psi-by_stamp : PsiBySendStamps
@@ -287,14 +287,14 @@ unfolding psi bounds_of
 psi-by_stamp sys e f p fr u i =
     let kind = kind_of sys.flow (sender sys.flow e) in
     let row = psi_of_kind-by_stamp sys kind f p fr u i in (
-      λ k. row.0 (and_parts _ (psi_of_kind sys kind f u) k).1,
-      λ w. and_from _ (psi_of_kind sys kind f u) i (row.1 w),
+      λ k. row.0 (and_parts _ (psi_of_kind (greatest_of_kind sys.flow kind) kind f u) k).1,
+      λ w. and_from _ (psi_of_kind (greatest_of_kind sys.flow kind) kind f u) i (row.1 w),
     )
 
 pub phi-in_domain : (sys : System) (h : List Event) (e : ℕ) (f : Frontier) (u : Stamp) → phi sys h e f u ≡ true → in_domain (bounds_of_edge sys.flow e) u ≡ true
 unfolding phi
 phi-in_domain sys h e f u k =
-    (and_parts _ (phi_of_kind sys (kind_of sys.flow (sender sys.flow e)) (sent_count sys h (sender sys.flow e) f) f u) k).0
+    (and_parts _ (phi_of_kind (greatest_of_kind sys.flow (kind_of sys.flow (sender sys.flow e))) (kind_of sys.flow (sender sys.flow e)) (sent_count sys h (sender sys.flow e) f) f u) k).0
 
 -- ---- where messages are
 
@@ -329,7 +329,7 @@ send_stamp-in_domain flow p t s i e = send_stamp_of_kind-in_domain flow (kind_of
 fed_back-loop : (m : ℕ) (b t : Stamp) → IsInLoop b m t → counter t < m → fed_back m t ≡ Some (nest (outer t) (counter t + 1))
 fed_back-loop m b t v h = cond-true (nat_lt (counter t) m) (Some (nest (outer t) (counter t + 1))) None (lt-ltb (counter t) m h)
 
-div-monotone : (n x y : ℕ) → x ≤ y → x / n ≤ y / n
+pub div-monotone : (n x y : ℕ) → x ≤ y → x / n ≤ y / n
 div-monotone zero x y h = omega arith
 div-monotone (suc n) x y h =
     (le-div_iff_mul-le {k = suc n} {x = x / suc n} {y = y} (omega arith)).1 (omega (arith, div-mul-le_self x (suc n)))

@@ -10,7 +10,7 @@ use Rattle.fw_flow.specs.declared.event.Event.{Event}
 use Rattle.fw_flow.specs.declared.event.Event.TheVariants.{Inject, Deliver, Notify}
 use Rattle.fw_flow.specs.declared.event.Message.{Message}
 use Rattle.fw_flow.specs.declared.kind.Kind.TheVariants.{Sequence}
-use Rattle.fw_flow.specs.Dataflow.{System, Dataflow, kind_of, sender, receiver, greatest_number, domain_of_kind, bounds_of, bounds_of_domain}
+use Rattle.fw_flow.specs.Dataflow.{greatest_of_kind, System, Dataflow, kind_of, sender, receiver, greatest_number, domain_of_kind, bounds_of, bounds_of_domain}
 use Rattle.fw_flow.specs.NodeFunction.{stamp, recs_on_notification, numbered_messages, sequence_sent, sends_of_kind, sends, sent_by}
 use Rattle.fw_flow.specs.Projection.{events_at, all_inside, count_from, sent_count, number_of, phi_of_kind, phi}
 use Rattle.fw_model.specs.History.{injected_count}
@@ -26,7 +26,7 @@ count-le_length f (m ∷ ms) =
     let h = count-le_length f ms in
     cond_both (all_inside f m.causes) (count_from f ms + 1) (count_from f ms) (λ n. n ≤ length (m ∷ ms)) (λ e. omega arith) (λ e. omega arith)
 
-count-none : (f : Frontier) (ms : List Message) → AllByRecursion (λ (m : Message). all_inside f m.causes ≡ false) ms → count_from f ms ≡ 0
+pub count-none : (f : Frontier) (ms : List Message) → AllByRecursion (λ (m : Message). all_inside f m.causes ≡ false) ms → count_from f ms ≡ 0
 count-none f [] a = refl
 count-none f (m ∷ ms) a = ap (λ b. cond b (count_from f ms + 1) (count_from f ms)) a.0 ∙ count-none f ms a.1
 
@@ -153,8 +153,8 @@ pub phi-sequence : (sys : System) (h : List Event) (e : ℕ) (f : Frontier) (u :
 unfolding phi
 phi-sequence sys h e f u is k =
     let count = sent_count sys h (sender sys.flow e) f in
-    let a = and_parts _ (phi_of_kind sys (kind_of sys.flow (sender sys.flow e)) count f u) k in
-    let b : phi_of_kind sys Sequence count f u ≡ true = sym (ap (λ kind. phi_of_kind sys kind count f u) is) ∙ a.1 in
+    let a = and_parts _ (phi_of_kind (greatest_of_kind sys.flow (kind_of sys.flow (sender sys.flow e))) (kind_of sys.flow (sender sys.flow e)) count f u) k in
+    let b : phi_of_kind (greatest_of_kind sys.flow Sequence) Sequence count f u ≡ true = sym (ap (λ kind. phi_of_kind (greatest_of_kind sys.flow kind) kind count f u) is) ∙ a.1 in
     elim (or_cases (f (greatest_number ∷ [])) (nat_lt (number_of u) count) b) [ inl i ↦ inl i | inr i ↦ inr (ltb-true (number_of u) count i) ]
 
 pub inside_phi_of_sequence-from_inside : InsidePhiOfSequenceComesFromInside

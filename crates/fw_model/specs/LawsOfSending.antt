@@ -3,7 +3,7 @@ use Rattle.std.specs.Prelude.{◌≡◌, ◌↔◌, ◌⊎◌, ℕ, ◌<◌, ◌
 use Rattle.std.specs.List.{AllByRecursion}
 use Rattle.fw_time.specs.Stamp.{Stamp, leq, in_domain}
 use Rattle.fw_time.specs.declared.stamp.Bounds.{Bounds}
-use Rattle.fw_frontier.specs.Frontier.{Frontier}
+use Rattle.fw_frontier.specs.Frontier.{Frontier, IsFrontier, Within}
 use Rattle.fw_flow.specs.declared.event.Event.{Event}
 use Rattle.fw_flow.specs.declared.event.Event.TheVariants.{Inject, Deliver, Notify}
 use Rattle.fw_flow.specs.declared.event.Message.{Message}
@@ -11,7 +11,7 @@ use Rattle.fw_flow.specs.declared.kind.Kind.{Kind}
 use Rattle.fw_flow.specs.declared.kind.Kind.TheVariants.{OutputEpoch, OutputNumber, Feedback, Sequence, Regroup}
 use Rattle.fw_flow.specs.Dataflow.{System, Dataflow, kind_of, sender, max_of, bounds_of, send_stamp}
 use Rattle.fw_flow.specs.NodeFunction.{stamp, sends}
-use Rattle.fw_flow.specs.Projection.{events_at, all_inside, phi, psi}
+use Rattle.fw_flow.specs.Projection.{events_at, all_inside, phi, psi, psi_back}
 use Rattle.fw_flow.specs.WellFormed.{IsWellFormed}
 use Rattle.fw_model.specs.History.{sent, injected_count}
 use Rattle.fw_model.specs.LawsOfProjections.{bounds_of_edge, IsSenderFrontier, is_sequence_kind}
@@ -60,6 +60,24 @@ PsiBySendStamps = (sys : System) (e : ℕ) (f : Frontier)
     → SendsByStamp sys.flow (kind_of sys.flow (sender sys.flow e)) → IsSenderFrontier sys.flow e f
     → (u : Stamp) → in_domain (bounds_of_edge sys.flow e) u ≡ true
     → (psi sys e f u ≡ true) ↔ SendsAbove (send_stamp sys.flow (sender sys.flow e)) f u
+
+-- each stamp at t or below that sends, sends inside
+abbrev pub SendsWithin : (Stamp → Option Stamp) → Frontier → Stamp → Type 0
+SendsWithin send g t = (s w : Stamp) → leq s t ≡ true → send s ≡ Some w → g w ≡ true
+
+-- t is inside psi_back exactly where each stamp at t or below that sends, sends inside
+abbrev pub PsiBackBySendStamps : Type 0
+PsiBackBySendStamps = (sys : System) (e : ℕ) (g : Frontier)
+    → SendsByStamp sys.flow (kind_of sys.flow (sender sys.flow e)) → IsFrontier (bounds_of_edge sys.flow e) g
+    → (t : Stamp) → in_domain (bounds_of sys.flow (sender sys.flow e)) t ≡ true
+    → (psi_back sys e g t ≡ true) ↔ SendsWithin (send_stamp sys.flow (sender sys.flow e)) g t
+
+-- psi_back of g is a frontier of the sender, and the frontiers within it are those whose psi lies within g
+abbrev pub PsiBackIsLargest : Type 0
+PsiBackIsLargest = (sys : System) (e : ℕ) (g : Frontier)
+    → SendsByStamp sys.flow (kind_of sys.flow (sender sys.flow e)) → IsFrontier (bounds_of_edge sys.flow e) g
+    → IsSenderFrontier sys.flow e (psi_back sys e g)
+    × ((f : Frontier) → IsSenderFrontier sys.flow e f → Within (psi sys e f) g ↔ Within f (psi_back sys e g))
 
 -- each message that an event makes a node send, but for a sequence, is at the send stamp of the event, its one cause
 abbrev pub SendsAtSendStamp : Type 0

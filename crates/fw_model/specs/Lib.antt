@@ -3,10 +3,17 @@ pub mod Denotation
 pub mod History
 pub mod LawsOfChoices
 pub mod LawsOfCompleteFrontiers
+pub mod LawsOfDeliveries
+pub mod LawsOfDenotation
+pub mod LawsOfExistence
+pub mod LawsOfFiltering
 pub mod LawsOfLegalHistories
 pub mod LawsOfProjections
+pub mod LawsOfRecoveries
+pub mod LawsOfRuns
 pub mod LawsOfSending
 pub mod Least
+pub mod LawsOfSteps
 pub mod Machine
 pub mod Plain
 pub mod Steps

@@ -1,9 +1,16 @@
 //! The laws of the definitions: each function's `ensures` is one law, and its body is empty.
 ghost use Rattle.fw_model.specs.LawsOfChoices.{ConsistentChoicesHaveUnion, DeliveredOfUnion, DiscardedOfUnion, EachLiesWithinUnion, LargestChoiceIsOne, NotifiedOfUnion, UnionOfCandidatesIsCandidate, UnionOfConsistentIsConsistent};
 ghost use Rattle.fw_model.specs.LawsOfCompleteFrontiers.{AdmissibleStaysAdmissible, EnabledIsOutside, LegalInsidePhiComesFromInside, SequencesAreNotifiedInOrder};
+ghost use Rattle.fw_model.specs.LawsOfDeliveries.{ClosedStampsStayClosed, DeliveredInsideCompleteIsDenoted, DeliveredInsideCompleteIsFinal, DeliveredIsSubBagOfDenotation, NotificationsComeLast, NumberedDeliveriesAscend, SentInsidePhiIsDenoted, SentIsSubBagOfDenotation};
+ghost use Rattle.fw_model.specs.LawsOfDenotation.{DenotationExists, DenotationIsInDomain, DenotationIsInOrder, DenotationIsNumbered, DenotationIsTheOnlyOne, LaterRoundsAreTheSame, MeasureExists, OutBagsDependOnLesserMeasure, RecsAtStampsDecideBag, UnchangedRoundIsDenotation};
+ghost use Rattle.fw_model.specs.LawsOfExistence.{CompleteExists, CompleteIsTheOnlyOne, FrontierHasFront, LargestChoiceExists, SettledCanGrow};
+ghost use Rattle.fw_model.specs.LawsOfFiltering.{ConsistentMeetsInclusions, FilteredHistoryIsLegal, KeptDeliveriesHaveKeptCauses, KeptEventsAreLegal, KeptEventsAreLegalWithoutNotices, KeptEventsDeliverTheSame, KeptEventsSendTheSame, KeptEventsSendTheSameFromWithin, NothingPendingWithoutLog, PendingAtKeptStamps, PendingAtOtherStamps, PendingForCut, PendingForPresent, PhiOfKeptEvents};
 ghost use Rattle.fw_model.specs.LawsOfLegalHistories.{LegalEventsAreInDomain, LegalMessagesAreInDomain, OnlyInputsInject};
 ghost use Rattle.fw_model.specs.LawsOfProjections.{PhiGrowsWithHistory, PhiIgnoresHistory, PhiIsFrontier, PhiIsMonotone, PhiOfEverything, PhiOfMeet, PsiIsFrontier, PsiIsMonotone, PsiOfJoin, PsiOfNothing, PsiOfUnion};
-ghost use Rattle.fw_model.specs.LawsOfSending.{InsidePhiComesFromInside, InsidePhiOfSequenceComesFromInside, PhiBySendStamps, PsiBySendStamps, SendStampIsMonotone, SendersOfWellFormed, SendsAreInsidePsi, SendsAtSendStamp, SentFromInsideIsInsidePsi};
+ghost use Rattle.fw_model.specs.LawsOfRecoveries.{AcknowledgementsShowDenotationThroughRecoveries, CandidatesLieWithinSettled, DenotedIsFull, RunsStayLegalThroughRecoveries, SettledStaysDenoted, StepsKeepHistoriesLegal};
+ghost use Rattle.fw_model.specs.LawsOfRuns.{AcknowledgementsAreInOrder, AcknowledgementsShowDenotation, RunsStayLegal};
+ghost use Rattle.fw_model.specs.LawsOfSending.{InsidePhiComesFromInside, InsidePhiOfSequenceComesFromInside, PhiBySendStamps, PsiBackBySendStamps, PsiBackIsLargest, PsiBySendStamps, SendStampIsMonotone, SendersOfWellFormed, SendsAreInsidePsi, SendsAtSendStamp, SentFromInsideIsInsidePsi};
+ghost use Rattle.fw_model.specs.LawsOfSteps.{ExactlyOneNextState, OneNextState, SomeNextState};
 
 // The laws of times and of frontiers, each over every type of times, and that of dataflows.
 pub use fw_flow::laws::ranks_exist;
@@ -41,6 +48,16 @@ pub fn phi_by_send_stamps()
 /// A stamp is inside psi exactly where some stamp inside sends at it or above it.
 pub fn psi_by_send_stamps()
     ensures { PsiBySendStamps }
+{}
+
+/// A stamp is inside psi backwards exactly where each stamp at it or below it that sends, sends inside.
+pub fn psi_back_by_send_stamps()
+    ensures { PsiBackBySendStamps }
+{}
+
+/// Psi backwards is the largest frontier of the sender whose psi lies within the given one.
+pub fn psi_back_is_largest()
+    ensures { PsiBackIsLargest }
 {}
 
 /// Psi is monotone: what is inside a larger frontier can send at more stamps.
@@ -186,4 +203,249 @@ pub fn union_of_candidates_is_candidate()
 /// The union of two consistent choices of the restore candidates is consistent, where it is offered.
 pub fn union_of_consistent_is_consistent()
     ensures { UnionOfConsistentIsConsistent }
+{}
+
+/// In a well-formed dataflow the stamps of each node have a measure, which falls from what a node is sent to what it is made of.
+pub fn measure_exists()
+    ensures { MeasureExists }
+{}
+
+/// Two bags in order that have the same recs at each stamp are the same.
+pub fn recs_at_stamps_decide_bag()
+    ensures { RecsAtStampsDecideBag }
+{}
+
+/// What a node sends on an edge at a stamp depends on the bags on its in-edges at stamps of lesser measure alone.
+pub fn out_bags_depend_on_lesser_measure()
+    ensures { OutBagsDependOnLesserMeasure }
+{}
+
+/// Two families that solve the equations of a well-formed dataflow are the same on each edge: the denotation is the only one.
+pub fn denotation_is_the_only_one()
+    ensures { DenotationIsTheOnlyOne }
+{}
+
+/// In a well-formed dataflow the family after so many rounds solves the equations: the denotation exists.
+pub fn denotation_exists()
+    ensures { DenotationExists }
+{}
+
+/// A family that the next round leaves unchanged solves the equations.
+pub fn unchanged_round_is_denotation()
+    ensures { UnchangedRoundIsDenotation }
+{}
+
+/// Once rounds have reached a solution, each later round is the same.
+pub fn later_rounds_are_the_same()
+    ensures { LaterRoundsAreTheSame }
+{}
+
+/// Each bag of the denotation is in order.
+pub fn denotation_is_in_order()
+    ensures { DenotationIsInOrder }
+{}
+
+/// Each timed rec of the denotation of a well-formed dataflow is at a stamp of the domain of its edge's receiver.
+pub fn denotation_is_in_domain()
+    ensures { DenotationIsInDomain }
+{}
+
+/// The timed recs of the denotation of a well-formed dataflow on a numbered edge are at the numbers from 0 on, one at each.
+pub fn denotation_is_numbered()
+    ensures { DenotationIsNumbered }
+{}
+
+/// Each frontier of a domain has a list of outside stamps that names it.
+pub fn frontier_has_front()
+    ensures { FrontierHasFront }
+{}
+
+/// After each history of a well-formed flow, legal or not, there are complete frontiers.
+pub fn complete_exists()
+    ensures { CompleteExists }
+{}
+
+/// After each history there is at most one family of complete frontiers.
+pub fn complete_is_the_only_one()
+    ensures { CompleteIsTheOnlyOne }
+{}
+
+/// Settled can grow to what is complete wherever there is more of it.
+pub fn settled_can_grow()
+    ensures { SettledCanGrow }
+{}
+
+/// Where some choice is consistent and checkpoints are chains, there is a largest choice.
+pub fn largest_choice_exists()
+    ensures { LargestChoiceExists }
+{}
+
+/// In a legal history the kept events alone send what they send among all: the messages whose causes are kept.
+pub fn kept_events_send_the_same()
+    ensures { KeptEventsSendTheSame }
+{}
+
+/// From inside less than the sender keeps, the kept events send the same as all events.
+pub fn kept_events_send_the_same_from_within()
+    ensures { KeptEventsSendTheSameFromWithin }
+{}
+
+/// The kept events alone deliver the messages at stamps that the receiver keeps.
+pub fn kept_events_deliver_the_same()
+    ensures { KeptEventsDeliverTheSame }
+{}
+
+/// Phi of what lies within what the sender keeps is the same in the kept events alone.
+pub fn phi_of_kept_events()
+    ensures { PhiOfKeptEvents }
+{}
+
+/// In a legal history what was delivered inside phi of what is kept has kept causes.
+pub fn kept_deliveries_have_kept_causes()
+    ensures { KeptDeliveriesHaveKeptCauses }
+{}
+
+/// Where no node is notified, the kept events of a legal history are a legal history, if what was delivered comes from kept.
+pub fn kept_events_are_legal_without_notices()
+    ensures { KeptEventsAreLegalWithoutNotices }
+{}
+
+/// The consistently kept events of a legal history are a legal history.
+pub fn kept_events_are_legal()
+    ensures { KeptEventsAreLegal }
+{}
+
+/// A consistent choice of the restore candidates meets the inclusions.
+pub fn consistent_meets_inclusions()
+    ensures { ConsistentMeetsInclusions }
+{}
+
+/// A legal history filtered by a choice that meets the inclusions is legal.
+pub fn filtered_history_is_legal()
+    ensures { FilteredHistoryIsLegal }
+{}
+
+/// At stamps that the receiver keeps, what is pending of the kept events is the part with kept causes of what was pending.
+pub fn pending_at_kept_stamps()
+    ensures { PendingAtKeptStamps }
+{}
+
+/// At other stamps, what is pending of the kept events is the part with kept causes of what was sent.
+pub fn pending_at_other_stamps()
+    ensures { PendingAtOtherStamps }
+{}
+
+/// For a receiver that stays as it is, what is pending afterwards is the part with kept causes of what was pending.
+pub fn pending_for_present()
+    ensures { PendingForPresent }
+{}
+
+/// For a receiver cut within what is settled, what is pending afterwards is the part with kept causes of what was sent outside.
+pub fn pending_for_cut()
+    ensures { PendingForCut }
+{}
+
+/// For a receiver cut within what is settled nothing is pending from a sender that cannot send again.
+pub fn nothing_pending_without_log()
+    ensures { NothingPendingWithoutLog }
+{}
+
+/// From a state a step leads to at most one next state, with one outcome.
+pub fn one_next_state()
+    ensures { OneNextState }
+{}
+
+/// From a state of a well-formed flow a step leads to some next state, with some outcome.
+pub fn some_next_state()
+    ensures { SomeNextState }
+{}
+
+/// From a state of a well-formed flow a step leads to exactly one next state, with exactly one outcome.
+pub fn exactly_one_next_state()
+    ensures { ExactlyOneNextState }
+{}
+
+/// A stamp that is closed for a node stays closed as the history goes on.
+pub fn closed_stamps_stay_closed()
+    ensures { ClosedStampsStayClosed }
+{}
+
+/// After a notification of a node no event of the node is at its stamp or a lesser one.
+pub fn notifications_come_last()
+    ensures { NotificationsComeLast }
+{}
+
+/// In a legal history the deliveries on a numbered edge have the numbers 0, 1, 2 and so on in this order.
+pub fn numbered_deliveries_ascend()
+    ensures { NumberedDeliveriesAscend }
+{}
+
+/// Inside phi of an admissible family, what was sent on an edge is what the denotation has there.
+pub fn sent_inside_phi_is_denoted()
+    ensures { SentInsidePhiIsDenoted }
+{}
+
+/// Inside an admissible family, what was delivered on an edge is what the denotation has there.
+pub fn delivered_inside_complete_is_denoted()
+    ensures { DeliveredInsideCompleteIsDenoted }
+{}
+
+/// What was delivered inside an admissible family stays as it is while the history goes on.
+pub fn delivered_inside_complete_is_final()
+    ensures { DeliveredInsideCompleteIsFinal }
+{}
+
+/// In a legal history each rec was sent on an edge at a stamp at most as often as it is in the denotation there.
+pub fn sent_is_sub_bag_of_denotation()
+    ensures { SentIsSubBagOfDenotation }
+{}
+
+/// In a legal history each rec was delivered on an edge at a stamp at most as often as it is in the denotation there.
+pub fn delivered_is_sub_bag_of_denotation()
+    ensures { DeliveredIsSubBagOfDenotation }
+{}
+
+/// The history of each state to which steps without a recovery lead from the first one is legal.
+pub fn runs_stay_legal()
+    ensures { RunsStayLegal }
+{}
+
+/// Each acknowledgement of a run without a recovery shows the denotation of the output's in-edge at its stamp.
+pub fn acknowledgements_show_denotation()
+    ensures { AcknowledgementsShowDenotation }
+{}
+
+/// A run acknowledges at each output the stamps below its bound, in order and each once.
+pub fn acknowledgements_are_in_order()
+    ensures { AcknowledgementsAreInOrder }
+{}
+
+/// Each step from a state with a legal history leads to one, a recovery too.
+pub fn steps_keep_histories_legal()
+    ensures { StepsKeepHistoriesLegal }
+{}
+
+/// The history of each state to which steps lead from the first one is legal, with recoveries among them.
+pub fn runs_stay_legal_through_recoveries()
+    ensures { RunsStayLegalThroughRecoveries }
+{}
+
+/// In each state to which steps lead from the first one, what is settled is denoted.
+pub fn settled_stays_denoted()
+    ensures { SettledStaysDenoted }
+{}
+
+/// Where what is settled is denoted, nothing more can come there.
+pub fn denoted_is_full()
+    ensures { DenotedIsFull }
+{}
+
+/// Each acknowledgement of a run shows the denotation, with recoveries among its steps.
+pub fn acknowledgements_show_denotation_through_recoveries()
+    ensures { AcknowledgementsShowDenotationThroughRecoveries }
+{}
+
+/// In each state of a run, a node that is no input can be restored only to frontiers within what is settled at it.
+pub fn candidates_lie_within_settled()
+    ensures { CandidatesLieWithinSettled }
 {}

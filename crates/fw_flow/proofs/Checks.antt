@@ -1,0 +1,584 @@
+-- The rules of `Flow::check` against well-formedness: declarations that break one are not well formed, and those that break none are.
+use Rattle.std.proofs.Common.{◌≡◌, ◌⊎◌, inl, inr, ℕ, zero, suc, ◌+◌, ◌^◌, ◌<◌, ◌≤◌, Bool, true, false, cond, List, [], ◌∷◌, ◌++◌, length, map, take, Option, Some, None, refl, sym, ap, ◌∙◌, subst, arith, slice_get, IfSome, is_some}
+use Rattle.std.proofs.lemmas.Bool.{lt-ltb, ltb-true, and_from, and_parts, false≢true, cases_lt}
+use Rattle.std.proofs.lemmas.List.{length-map}
+use Rattle.std.proofs.lemmas.Option.{none-some, same_Some, slice_get-map, slice_get_within, get_or_from_slice_get, slice_get-get_or}
+use Rattle.std.specs.List.{flat_map}
+use Rattle.std.specs.Option.{option_map_or}
+use Rattle.fw_lines.specs.declared.refusal.Code.{Code}
+use Rattle.fw_lines.specs.declared.refusal.Code.TheVariants.{F1, F2, F3, F4, F5, F6, F7, F8, F9, F10, F11, I1, I2, I3, I4, I5, S1, S2, S3, S4}
+use Rattle.fw_lines.specs.declared.refusal.Refusal.{Refusal}
+use Rattle.fw_flow.specs.declared.kind.Kind.{Kind}
+use Rattle.fw_flow.specs.declared.kind.Policy.{Policy}
+use Rattle.fw_flow.specs.declared.node.Loop.{Loop}
+use Rattle.fw_flow.specs.declared.node.Node.{Node}
+use Rattle.fw_flow.specs.declared.node.Edge.{Edge}
+use Rattle.fw_flow.specs.declared.raw.Declaration.{Declaration}
+use Rattle.fw_flow.specs.declared.raw.Declaration.TheVariants.{Loop as ALoop, Node as ANode, Edge as AnEdge}
+use Rattle.fw_flow.specs.declared.raw.Declared.{Declared}
+use Rattle.fw_flow.specs.declared.raw.RawKind.{RawKind}
+use Rattle.fw_flow.specs.declared.raw.RawKind.TheVariants.{Input, OutputEpoch, OutputNumber, Select, Concat, Distinct, Join, Sum, Enter, Feedback, Leave, Total, Sequence, Ledger, Regroup}
+use Rattle.fw_flow.specs.Check.{is_declared, loop_named, are_names_declared, NamesTheDeclared, HasItsDegrees, JoinsDomains, AreWalksRight, HasAllowedPolicy, IsWithinLimitsAfter, StaysWithinLimits, HasBorders, all_lines, node_lines, edge_lines, HoldsBelow, IsFirstBreak, Holds, IsBroken, rules, IsFirstBrokenOf, IsFirstBroken, IsRawGroupSize, IsChecked}
+use Rattle.fw_flow.specs.Dataflow.{Dataflow, idle_node, kind_of, sender, receiver, max_of}
+use Rattle.fw_flow.specs.Raw.{names_of, loop_name, node_name, edge_name, loop_names, node_names, edge_names, place_or_end, resolved_kind, loop_in, node_in, edge_in, flow_of}
+use Rattle.fw_flow.specs.WellFormed.{IsWellFormed, IsWithinLimits, IsLoopDeclared, IsGroupSize, is_feedback_kind, is_enter_kind}
+use Rattle.fw_flow.proofs.Givers.{GivesOne, GiverOf, giver_of, slice_get-given, length-given}
+
+-- ---- what a declaration gives
+
+loop_part : (line : ℕ) (d : Declaration) → (loop_in (record { line = line; declaration = d }) ≡ []) ⊎ ((a : Loop) × (loop_in (record { line = line; declaration = d }) ≡ a ∷ []))
+loop_part line (ALoop name max) = inr (record { name = name; max = max }, refl)
+loop_part line (ANode name kind policy) = inl refl
+loop_part line (AnEdge name s r) = inl refl
+
+pub GivesOne-loop_in : GivesOne loop_in
+GivesOne-loop_in d = loop_part d.line d.declaration
+
+node_part : (loops : List (List ℕ)) (line : ℕ) (d : Declaration) → (node_in loops (record { line = line; declaration = d }) ≡ []) ⊎ ((a : Node) × (node_in loops (record { line = line; declaration = d }) ≡ a ∷ []))
+node_part loops line (ALoop name max) = inl refl
+node_part loops line (ANode name kind policy) = inr (record { name = name; kind = resolved_kind loops kind; policy = policy }, refl)
+node_part loops line (AnEdge name s r) = inl refl
+
+pub GivesOne-node_in : (loops : List (List ℕ)) → GivesOne (node_in loops)
+GivesOne-node_in loops d = node_part loops d.line d.declaration
+
+edge_part : (nodes : List (List ℕ)) (line : ℕ) (d : Declaration) → (edge_in nodes (record { line = line; declaration = d }) ≡ []) ⊎ ((a : Edge) × (edge_in nodes (record { line = line; declaration = d }) ≡ a ∷ []))
+edge_part nodes line (ALoop name max) = inl refl
+edge_part nodes line (ANode name kind policy) = inl refl
+edge_part nodes line (AnEdge name s r) = inr (record { name = name; sender = place_or_end nodes s; receiver = place_or_end nodes r }, refl)
+
+pub GivesOne-edge_in : (nodes : List (List ℕ)) → GivesOne (edge_in nodes)
+GivesOne-edge_in nodes d = edge_part nodes d.line d.declaration
+
+-- ---- as many names and lines as parts
+
+loop_name_count : (line : ℕ) (d : Declaration) → length (loop_in (record { line = line; declaration = d })) ≡ length (loop_name (record { line = line; declaration = d }))
+loop_name_count line (ALoop name max) = refl
+loop_name_count line (ANode name kind policy) = refl
+loop_name_count line (AnEdge name s r) = refl
+
+node_name_count : (loops : List (List ℕ)) (line : ℕ) (d : Declaration) → length (node_in loops (record { line = line; declaration = d })) ≡ length (node_name (record { line = line; declaration = d }))
+node_name_count loops line (ALoop name max) = refl
+node_name_count loops line (ANode name kind policy) = refl
+node_name_count loops line (AnEdge name s r) = refl
+
+edge_name_count : (nodes : List (List ℕ)) (line : ℕ) (d : Declaration) → length (edge_in nodes (record { line = line; declaration = d })) ≡ length (edge_name (record { line = line; declaration = d }))
+edge_name_count nodes line (ALoop name max) = refl
+edge_name_count nodes line (ANode name kind policy) = refl
+edge_name_count nodes line (AnEdge name s r) = refl
+
+pub length-loops : (raw : List Declared) → length (flat_map loop_in raw) ≡ length (loop_names raw)
+length-loops raw = length-given loop_in loop_name (λ d. loop_name_count d.line d.declaration) raw
+
+pub length-nodes : (loops : List (List ℕ)) (raw : List Declared) → length (flat_map (node_in loops) raw) ≡ length (node_names raw)
+length-nodes loops raw = length-given (node_in loops) node_name (λ d. node_name_count loops d.line d.declaration) raw
+
+pub length-edges : (nodes : List (List ℕ)) (raw : List Declared) → length (flat_map (edge_in nodes) raw) ≡ length (edge_names raw)
+length-edges nodes raw = length-given (edge_in nodes) edge_name (λ d. edge_name_count nodes d.line d.declaration) raw
+
+pub length-node_lines : (raw : List Declared) → length (node_lines raw) ≡ length (flow_of raw).nodes
+length-node_lines raw =
+    length-given (λ (d : Declared). map (λ name. d.line) (node_name d)) node_name (λ d. length-map (node_name d) (λ name. d.line)) raw
+    ∙ sym (length-nodes (loop_names raw) raw)
+
+pub length-edge_lines : (raw : List Declared) → length (edge_lines raw) ≡ length (flow_of raw).edges
+length-edge_lines raw =
+    length-given (λ (d : Declared). map (λ name. d.line) (edge_name d)) edge_name (λ d. length-map (edge_name d) (λ name. d.line)) raw
+    ∙ sym (length-edges (node_names raw) raw)
+
+pub length-all_lines : (raw : List Declared) → length (all_lines raw) ≡ length raw
+length-all_lines raw = length-map raw (λ (d : Declared). d.line)
+
+-- ---- names and places
+
+is_declared-from_below : (names : List (List ℕ)) (name : List ℕ) → place_or_end names name < length names → is_declared names name ≡ true
+is_declared-from_below names name lt =
+    ap (λ b. is_some (cond b (Some (place_or_end names name)) None)) (lt-ltb (place_or_end names name) (length names) lt)
+
+some_below : (b : Bool) (n : ℕ) → is_some (cond b (Some n) None) ≡ true → b ≡ true
+some_below true n h = refl
+some_below false n h = absurd (false≢true h)
+
+pub place-below : (names : List (List ℕ)) (name : List ℕ) → is_declared names name ≡ true → place_or_end names name < length names
+place-below names name h = ltb-true (place_or_end names name) (length names) (some_below _ (place_or_end names name) h)
+
+-- the kind's loop is declared exactly where its name is
+loop_name_declared : (flow : Dataflow) (loops : List (List ℕ)) (kind : RawKind) → length flow.loops ≡ length loops
+    → IsLoopDeclared flow (resolved_kind loops kind) → option_map_or (is_declared loops) (loop_named kind) true ≡ true
+loop_name_declared flow loops Input e h = refl
+loop_name_declared flow loops OutputEpoch e h = refl
+loop_name_declared flow loops OutputNumber e h = refl
+loop_name_declared flow loops (Select selection None) e h = refl
+loop_name_declared flow loops (Select selection (Some l)) e h = is_declared-from_below loops l (omega (arith, e, h))
+loop_name_declared flow loops (Concat None) e h = refl
+loop_name_declared flow loops (Concat (Some l)) e h = is_declared-from_below loops l (omega (arith, e, h))
+loop_name_declared flow loops (Distinct None) e h = refl
+loop_name_declared flow loops (Distinct (Some l)) e h = is_declared-from_below loops l (omega (arith, e, h))
+loop_name_declared flow loops (Join None) e h = refl
+loop_name_declared flow loops (Join (Some l)) e h = is_declared-from_below loops l (omega (arith, e, h))
+loop_name_declared flow loops (Sum None) e h = refl
+loop_name_declared flow loops (Sum (Some l)) e h = is_declared-from_below loops l (omega (arith, e, h))
+loop_name_declared flow loops (Enter l) e h = is_declared-from_below loops l (omega (arith, e, h))
+loop_name_declared flow loops (Feedback l) e h = is_declared-from_below loops l (omega (arith, e, h))
+loop_name_declared flow loops (Leave l) e h = is_declared-from_below loops l (omega (arith, e, h))
+loop_name_declared flow loops Total e h = refl
+loop_name_declared flow loops Sequence e h = refl
+loop_name_declared flow loops Ledger e h = refl
+loop_name_declared flow loops (Regroup n) e h = refl
+
+loop_declared : (flow : Dataflow) (loops : List (List ℕ)) (kind : RawKind) → length flow.loops ≡ length loops
+    → option_map_or (is_declared loops) (loop_named kind) true ≡ true → IsLoopDeclared flow (resolved_kind loops kind)
+loop_declared flow loops Input e h = tt
+loop_declared flow loops OutputEpoch e h = tt
+loop_declared flow loops OutputNumber e h = tt
+loop_declared flow loops (Select selection None) e h = tt
+loop_declared flow loops (Select selection (Some l)) e h = omega (arith, e, place-below loops l h)
+loop_declared flow loops (Concat None) e h = tt
+loop_declared flow loops (Concat (Some l)) e h = omega (arith, e, place-below loops l h)
+loop_declared flow loops (Distinct None) e h = tt
+loop_declared flow loops (Distinct (Some l)) e h = omega (arith, e, place-below loops l h)
+loop_declared flow loops (Join None) e h = tt
+loop_declared flow loops (Join (Some l)) e h = omega (arith, e, place-below loops l h)
+loop_declared flow loops (Sum None) e h = tt
+loop_declared flow loops (Sum (Some l)) e h = omega (arith, e, place-below loops l h)
+loop_declared flow loops (Enter l) e h = omega (arith, e, place-below loops l h)
+loop_declared flow loops (Feedback l) e h = omega (arith, e, place-below loops l h)
+loop_declared flow loops (Leave l) e h = omega (arith, e, place-below loops l h)
+loop_declared flow loops Total e h = tt
+loop_declared flow loops Sequence e h = tt
+loop_declared flow loops Ledger e h = tt
+loop_declared flow loops (Regroup n) e h = tt
+
+-- ---- what stands at a place of the flow
+
+kind_of-given : (flow : Dataflow) (p : ℕ) (node : Node) → slice_get flow.nodes p ≡ Some node → kind_of flow p ≡ node.kind
+unfolding kind_of
+kind_of-given flow p node there = ap (λ (n : Node). n.kind) (get_or_from_slice_get flow.nodes p node idle_node there)
+
+sender-given : (flow : Dataflow) (e : ℕ) (edge : Edge) → slice_get flow.edges e ≡ Some edge → sender flow e ≡ edge.sender
+unfolding sender
+sender-given flow e edge there =
+    ap (λ (x : Edge). x.sender) (get_or_from_slice_get flow.edges e edge (record { name = []; sender = length flow.nodes; receiver = length flow.nodes }) there)
+
+receiver-given : (flow : Dataflow) (e : ℕ) (edge : Edge) → slice_get flow.edges e ≡ Some edge → receiver flow e ≡ edge.receiver
+unfolding receiver
+receiver-given flow e edge there =
+    ap (λ (x : Edge). x.receiver) (get_or_from_slice_get flow.edges e edge (record { name = []; sender = length flow.nodes; receiver = length flow.nodes }) there)
+
+max_of-given : (flow : Dataflow) (l : ℕ) (a_loop : Loop) → slice_get flow.loops l ≡ Some a_loop → max_of flow l ≡ a_loop.max
+unfolding max_of
+max_of-given flow l a_loop there =
+    ap (λ (x : Loop). x.max) (get_or_from_slice_get flow.loops l a_loop (record { name = []; max = 0 }) there)
+
+-- a declared node, at its place of the flow
+record NodePlace (raw : List Declared) (name : List ℕ) (kind : RawKind) (before : List Declared) : Type 0 where
+  below : length (node_names before) < length (flow_of raw).nodes
+  is_kind : kind_of (flow_of raw) (length (node_names before)) ≡ resolved_kind (loop_names raw) kind
+
+node_place : (raw : List Declared) (i line : ℕ) (name : List ℕ) (kind : RawKind) (policy : Policy)
+    → slice_get raw i ≡ Some (record { line = line; declaration = ANode name kind policy }) → NodePlace raw name kind (take i raw)
+node_place raw i line name kind policy there =
+    let loops = loop_names raw in
+    let node : Node = record { name = name; kind = resolved_kind loops kind; policy = policy } in
+    let count = length-nodes loops (take i raw) in
+    let given = subst (λ n. slice_get (flat_map (node_in loops) raw) n ≡ Some node) count
+    (slice_get-given (node_in loops) (GivesOne-node_in loops) raw i (record { line = line; declaration = ANode name kind policy }) node there refl) in
+    record {
+      below = slice_get_within (flow_of raw).nodes (length (node_names (take i raw))) node given;
+      is_kind = kind_of-given (flow_of raw) (length (node_names (take i raw))) node given;
+    }
+
+-- a declared edge, at its place of the flow
+record EdgePlace (raw : List Declared) (s r : List ℕ) (before : List Declared) : Type 0 where
+  below : length (edge_names before) < length (flow_of raw).edges
+  is_sender : sender (flow_of raw) (length (edge_names before)) ≡ place_or_end (node_names raw) s
+  is_receiver : receiver (flow_of raw) (length (edge_names before)) ≡ place_or_end (node_names raw) r
+
+edge_place : (raw : List Declared) (i line : ℕ) (name s r : List ℕ)
+    → slice_get raw i ≡ Some (record { line = line; declaration = AnEdge name s r }) → EdgePlace raw s r (take i raw)
+edge_place raw i line name s r there =
+    let nodes = node_names raw in
+    let edge : Edge = record { name = name; sender = place_or_end nodes s; receiver = place_or_end nodes r } in
+    let count = length-edges nodes (take i raw) in
+    let given = subst (λ n. slice_get (flat_map (edge_in nodes) raw) n ≡ Some edge) count
+    (slice_get-given (edge_in nodes) (GivesOne-edge_in nodes) raw i (record { line = line; declaration = AnEdge name s r }) edge there refl) in
+    record {
+      below = slice_get_within (flow_of raw).edges (length (edge_names (take i raw))) edge given;
+      is_sender = sender-given (flow_of raw) (length (edge_names (take i raw))) edge given;
+      is_receiver = receiver-given (flow_of raw) (length (edge_names (take i raw))) edge given;
+    }
+
+-- a declared loop, at its place of the flow
+record LoopPlace (raw : List Declared) (max : ℕ) (before : List Declared) : Type 0 where
+  below : length (loop_names before) < length (flow_of raw).loops
+  is_max : max_of (flow_of raw) (length (loop_names before)) ≡ max
+
+loop_place : (raw : List Declared) (i line : ℕ) (name : List ℕ) (max : ℕ)
+    → slice_get raw i ≡ Some (record { line = line; declaration = ALoop name max }) → LoopPlace raw max (take i raw)
+loop_place raw i line name max there =
+    let a_loop : Loop = record { name = name; max = max } in
+    let count = length-loops (take i raw) in
+    let given = subst (λ n. slice_get (flat_map loop_in raw) n ≡ Some a_loop) count
+    (slice_get-given loop_in GivesOne-loop_in raw i (record { line = line; declaration = ALoop name max }) a_loop there refl) in
+    record {
+      below = slice_get_within (flow_of raw).loops (length (loop_names (take i raw))) a_loop given;
+      is_max = max_of-given (flow_of raw) (length (loop_names (take i raw))) a_loop given;
+    }
+
+-- ---- a well-formed flow breaks no rule
+
+names_declared : (raw : List Declared) → IsWellFormed (flow_of raw) → (i line : ℕ) (d : Declaration)
+    → slice_get raw i ≡ Some (record { line = line; declaration = d }) → are_names_declared (names_of raw) d ≡ true
+names_declared raw wf i line (ALoop name max) there = refl
+names_declared raw wf i line (ANode name kind policy) there =
+    let at = node_place raw i line name kind policy there in
+    loop_name_declared (flow_of raw) (loop_names raw) kind (length-loops raw)
+    (subst (IsLoopDeclared (flow_of raw)) at.is_kind (wf.loops_declared (length (node_names (take i raw))) at.below))
+names_declared raw wf i line (AnEdge name s r) there =
+    let at = edge_place raw i line name s r there in
+    let e = length (edge_names (take i raw)) in
+    let count = length-nodes (loop_names raw) raw in
+    let from = wf.senders_declared e at.below in
+    let to = wf.receivers_declared e at.below in
+    and_from (is_declared (node_names raw) s) (is_declared (node_names raw) r)
+    (is_declared-from_below (node_names raw) s (omega (arith, count, from, at.is_sender)))
+    (is_declared-from_below (node_names raw) r (omega (arith, count, to, at.is_receiver)))
+
+raw_size : (loops : List (List ℕ)) (kind : RawKind) → IsGroupSize (resolved_kind loops kind) → IsRawGroupSize kind
+raw_size loops Input h = tt
+raw_size loops OutputEpoch h = tt
+raw_size loops OutputNumber h = tt
+raw_size loops (Select selection within) h = tt
+raw_size loops (Concat within) h = tt
+raw_size loops (Distinct within) h = tt
+raw_size loops (Join within) h = tt
+raw_size loops (Sum within) h = tt
+raw_size loops (Enter name) h = tt
+raw_size loops (Feedback name) h = tt
+raw_size loops (Leave name) h = tt
+raw_size loops Total h = tt
+raw_size loops Sequence h = tt
+raw_size loops Ledger h = tt
+raw_size loops (Regroup n) h = h
+
+size_from_raw : (loops : List (List ℕ)) (kind : RawKind) → IsRawGroupSize kind → IsGroupSize (resolved_kind loops kind)
+size_from_raw loops Input h = tt
+size_from_raw loops OutputEpoch h = tt
+size_from_raw loops OutputNumber h = tt
+size_from_raw loops (Select selection within) h = tt
+size_from_raw loops (Concat within) h = tt
+size_from_raw loops (Distinct within) h = tt
+size_from_raw loops (Join within) h = tt
+size_from_raw loops (Sum within) h = tt
+size_from_raw loops (Enter name) h = tt
+size_from_raw loops (Feedback name) h = tt
+size_from_raw loops (Leave name) h = tt
+size_from_raw loops Total h = tt
+size_from_raw loops Sequence h = tt
+size_from_raw loops Ledger h = tt
+size_from_raw loops (Regroup n) h = h
+
+within_limits : (raw : List Declared) → IsWithinLimits (flow_of raw) → (i line : ℕ) (d : Declaration)
+    → slice_get raw i ≡ Some (record { line = line; declaration = d }) → IsWithinLimitsAfter (take i raw) d
+within_limits raw limits i line (ALoop name max) there =
+    let at = loop_place raw i line name max there in
+    let bounds = limits.counters (length (loop_names (take i raw))) at.below in
+    (omega (arith, limits.loops, at.below), omega (arith, bounds.0, at.is_max), omega (arith, bounds.1, at.is_max))
+within_limits raw limits i line (ANode name kind policy) there =
+    let at = node_place raw i line name kind policy there in
+    (omega (arith, limits.nodes, at.below), raw_size (loop_names raw) kind (subst IsGroupSize at.is_kind (limits.groups (length (node_names (take i raw))) at.below)))
+within_limits raw limits i line (AnEdge name s r) there =
+    let at = edge_place raw i line name s r there in
+    omega (arith, limits.edges, at.below)
+
+-- ---- what a place of the flow was declared by
+
+-- the declaration of the p-th node
+record NodeGiver (raw : List Declared) (p : ℕ) : Type 0 where
+  place : ℕ
+  line : ℕ
+  name : List ℕ
+  kind : RawKind
+  policy : Policy
+  there : slice_get raw place ≡ Some (record { line = line; declaration = ANode name kind policy })
+  is_kind : kind_of (flow_of raw) p ≡ resolved_kind (loop_names raw) kind
+  before : length (node_names (take place raw)) ≡ p
+
+node_giver_from : (raw : List Declared) (p place line : ℕ) (d : Declaration) (part : Node)
+    → slice_get raw place ≡ Some (record { line = line; declaration = d }) → node_in (loop_names raw) (record { line = line; declaration = d }) ≡ part ∷ []
+    → slice_get (flow_of raw).nodes p ≡ Some part → length (flat_map (node_in (loop_names raw)) (take place raw)) ≡ p → NodeGiver raw p
+node_giver_from raw p place line (ALoop name max) part there gives is before = absurd (cc)
+node_giver_from raw p place line (ANode name kind policy) part there gives is before =
+    let same : record { name = name; kind = resolved_kind (loop_names raw) kind; policy = policy } ≡ part = cc in
+    record {
+      place = place;
+      line = line;
+      name = name;
+      kind = kind;
+      policy = policy;
+      there = there;
+      is_kind = kind_of-given (flow_of raw) p part is ∙ ap (λ (n : Node). n.kind) (sym same);
+      before = sym (length-nodes (loop_names raw) (take place raw)) ∙ before;
+    }
+node_giver_from raw p place line (AnEdge name s r) part there gives is before = absurd (cc)
+
+node_giver : (raw : List Declared) (p : ℕ) → p < length (flow_of raw).nodes → NodeGiver raw p
+node_giver raw p lt =
+    let g = giver_of (node_in (loop_names raw)) (GivesOne-node_in (loop_names raw)) raw p lt in
+    node_giver_from raw p g.place g.giver.line g.giver.declaration g.part g.there g.gives g.is g.before
+
+-- the declaration of the e-th edge
+record EdgeGiver (raw : List Declared) (e : ℕ) : Type 0 where
+  place : ℕ
+  line : ℕ
+  name : List ℕ
+  from : List ℕ
+  to : List ℕ
+  there : slice_get raw place ≡ Some (record { line = line; declaration = AnEdge name from to })
+  is_sender : sender (flow_of raw) e ≡ place_or_end (node_names raw) from
+  is_receiver : receiver (flow_of raw) e ≡ place_or_end (node_names raw) to
+  before : length (edge_names (take place raw)) ≡ e
+
+edge_giver_from : (raw : List Declared) (e place line : ℕ) (d : Declaration) (part : Edge)
+    → slice_get raw place ≡ Some (record { line = line; declaration = d }) → edge_in (node_names raw) (record { line = line; declaration = d }) ≡ part ∷ []
+    → slice_get (flow_of raw).edges e ≡ Some part → length (flat_map (edge_in (node_names raw)) (take place raw)) ≡ e → EdgeGiver raw e
+edge_giver_from raw e place line (ALoop name max) part there gives is before = absurd (cc)
+edge_giver_from raw e place line (ANode name kind policy) part there gives is before = absurd (cc)
+edge_giver_from raw e place line (AnEdge name s r) part there gives is before =
+    let same : record { name = name; sender = place_or_end (node_names raw) s; receiver = place_or_end (node_names raw) r } ≡ part = cc in
+    record {
+      place = place;
+      line = line;
+      name = name;
+      from = s;
+      to = r;
+      there = there;
+      is_sender = sender-given (flow_of raw) e part is ∙ ap (λ (x : Edge). x.sender) (sym same);
+      is_receiver = receiver-given (flow_of raw) e part is ∙ ap (λ (x : Edge). x.receiver) (sym same);
+      before = sym (length-edges (node_names raw) (take place raw)) ∙ before;
+    }
+
+edge_giver : (raw : List Declared) (e : ℕ) → e < length (flow_of raw).edges → EdgeGiver raw e
+edge_giver raw e lt =
+    let g = giver_of (edge_in (node_names raw)) (GivesOne-edge_in (node_names raw)) raw e lt in
+    edge_giver_from raw e g.place g.giver.line g.giver.declaration g.part g.there g.gives g.is g.before
+
+-- the declaration of the l-th loop
+record LoopGiver (raw : List Declared) (l : ℕ) : Type 0 where
+  place : ℕ
+  line : ℕ
+  name : List ℕ
+  max : ℕ
+  there : slice_get raw place ≡ Some (record { line = line; declaration = ALoop name max })
+  is_max : max_of (flow_of raw) l ≡ max
+  before : length (loop_names (take place raw)) ≡ l
+
+loop_giver_from : (raw : List Declared) (l place line : ℕ) (d : Declaration) (part : Loop)
+    → slice_get raw place ≡ Some (record { line = line; declaration = d }) → loop_in (record { line = line; declaration = d }) ≡ part ∷ []
+    → slice_get (flow_of raw).loops l ≡ Some part → length (flat_map loop_in (take place raw)) ≡ l → LoopGiver raw l
+loop_giver_from raw l place line (ALoop name max) part there gives is before =
+    let same : record { name = name; max = max } ≡ part = cc in
+    record {
+      place = place;
+      line = line;
+      name = name;
+      max = max;
+      there = there;
+      is_max = max_of-given (flow_of raw) l part is ∙ ap (λ (x : Loop). x.max) (sym same);
+      before = sym (length-loops (take place raw)) ∙ before;
+    }
+loop_giver_from raw l place line (ANode name kind policy) part there gives is before = absurd (cc)
+loop_giver_from raw l place line (AnEdge name s r) part there gives is before = absurd (cc)
+
+loop_giver : (raw : List Declared) (l : ℕ) → l < length (flow_of raw).loops → LoopGiver raw l
+loop_giver raw l lt =
+    let g = giver_of loop_in GivesOne-loop_in raw l lt in
+    loop_giver_from raw l g.place g.giver.line g.giver.declaration g.part g.there g.gives g.is g.before
+
+-- ---- declarations that break no rule are well formed
+
+names_at : (raw : List Declared) → Holds raw F3 → (i line : ℕ) (d : Declaration) → slice_get raw i ≡ Some (record { line = line; declaration = d })
+    → are_names_declared (names_of raw) d ≡ true
+names_at raw h i line d there =
+    subst (λ o. IfSome o (λ (x : Declared). are_names_declared (names_of raw) x.declaration ≡ true)) there
+    (h i (omega (arith, length-all_lines raw, slice_get_within raw i (record { line = line; declaration = d }) there)))
+
+limits_at : (raw : List Declared) → Holds raw F8 → (i line : ℕ) (d : Declaration) → slice_get raw i ≡ Some (record { line = line; declaration = d })
+    → IsWithinLimitsAfter (take i raw) d
+limits_at raw h i line d there =
+    subst (λ o. IfSome o (λ (x : Declared). IsWithinLimitsAfter (take i raw) x.declaration)) there
+    (h i (omega (arith, length-all_lines raw, slice_get_within raw i (record { line = line; declaration = d }) there)))
+
+loops_declared : (raw : List Declared) → Holds raw F3 → (p : ℕ) → p < length (flow_of raw).nodes → IsLoopDeclared (flow_of raw) (kind_of (flow_of raw) p)
+loops_declared raw h p lt =
+    let g = node_giver raw p lt in
+    subst (IsLoopDeclared (flow_of raw)) (sym g.is_kind)
+    (loop_declared (flow_of raw) (loop_names raw) g.kind (length-loops raw) (names_at raw h g.place g.line (ANode g.name g.kind g.policy) g.there))
+
+-- both ends of an edge are declared
+pub both_declared : (raw : List Declared) → Holds raw F3 → (e : ℕ) → e < length (flow_of raw).edges
+    → (sender (flow_of raw) e < length (flow_of raw).nodes) × (receiver (flow_of raw) e < length (flow_of raw).nodes)
+both_declared raw h e lt =
+    let g = edge_giver raw e lt in
+    let names = node_names raw in
+    let both = and_parts (is_declared names g.from) (is_declared names g.to) (names_at raw h g.place g.line (AnEdge g.name g.from g.to) g.there) in
+    let count = length-nodes (loop_names raw) raw in
+    let from = place-below names g.from both.0 in
+    let to = place-below names g.to both.1 in
+    (omega (arith, count, from, g.is_sender), omega (arith, count, to, g.is_receiver))
+
+few_nodes : (raw : List Declared) → Holds raw F8 → length (flow_of raw).nodes ≤ 256
+few_nodes raw h =
+    elim (cases_lt 256 (length (flow_of raw).nodes)) [
+      | inl over ↦
+          let g = node_giver raw 256 over in
+          let room = limits_at raw h g.place g.line (ANode g.name g.kind g.policy) g.there in
+          absurd (omega (arith, room.0, g.before))
+      | inr within ↦ within
+    ]
+
+few_edges : (raw : List Declared) → Holds raw F8 → length (flow_of raw).edges ≤ 512
+few_edges raw h =
+    elim (cases_lt 512 (length (flow_of raw).edges)) [
+      | inl over ↦
+          let g = edge_giver raw 512 over in
+          let room = limits_at raw h g.place g.line (AnEdge g.name g.from g.to) g.there in
+          absurd (omega (arith, room, g.before))
+      | inr within ↦ within
+    ]
+
+few_loops : (raw : List Declared) → Holds raw F8 → length (flow_of raw).loops ≤ 64
+few_loops raw h =
+    elim (cases_lt 64 (length (flow_of raw).loops)) [
+      | inl over ↦
+          let g = loop_giver raw 64 over in
+          let room = limits_at raw h g.place g.line (ALoop g.name g.max) g.there in
+          absurd (omega (arith, room.0, g.before))
+      | inr within ↦ within
+    ]
+
+limits_hold : (raw : List Declared) → Holds raw F8 → IsWithinLimits (flow_of raw)
+limits_hold raw h = record {
+  nodes = few_nodes raw h;
+  edges = few_edges raw h;
+  loops = few_loops raw h;
+  counters = λ l lt.
+      let g = loop_giver raw l lt in
+      let range = limits_at raw h g.place g.line (ALoop g.name g.max) g.there in
+      (omega (arith, range.1, g.is_max), omega (arith, range.2, g.is_max));
+  groups = λ p lt.
+      let g = node_giver raw p lt in
+      let range = limits_at raw h g.place g.line (ANode g.name g.kind g.policy) g.there in
+      subst IsGroupSize (sym g.is_kind) (size_from_raw (loop_names raw) g.kind range.1);
+}
+
+pub IsWellFormed-from_rules : (raw : List Declared) → Holds raw F3 → Holds raw F4 → Holds raw F5 → Holds raw F6 → Holds raw F7 → Holds raw F8 → Holds raw F9 → IsWellFormed (flow_of raw)
+IsWellFormed-from_rules raw names degrees domains walks policies limits borders =
+    let nodes = length-node_lines raw in
+    let edges = length-edge_lines raw in
+    record {
+      loops_declared = loops_declared raw names;
+      senders_declared = λ e lt. (both_declared raw names e lt).0;
+      receivers_declared = λ e lt. (both_declared raw names e lt).1;
+      in_degrees = λ p lt. (degrees p (omega (arith, nodes))).0;
+      out_degrees = λ p lt. (degrees p (omega (arith, nodes))).1;
+      domains = λ e lt. domains e (omega (arith, edges));
+      feedback = walks.fed_back;
+      no_enter = walks.never_entered;
+      policies = λ p lt. policies p (omega (arith, nodes));
+      limits = limits_hold raw limits;
+      input = borders.0;
+      output = borders.1;
+    }
+
+-- ---- declarations that break a rule are not
+
+names_rule_at : (raw : List Declared) → IsWellFormed (flow_of raw) → (i : ℕ) (o : Option Declared) → slice_get raw i ≡ o
+    → IfSome o (λ (d : Declared). are_names_declared (names_of raw) d.declaration ≡ true)
+names_rule_at raw wf i None there = tt
+names_rule_at raw wf i (Some d) there = names_declared raw wf i d.line d.declaration there
+
+limits_rule_at : (raw : List Declared) → IsWellFormed (flow_of raw) → (i : ℕ) (o : Option Declared) → slice_get raw i ≡ o
+    → IfSome o (λ (d : Declared). IsWithinLimitsAfter (take i raw) d.declaration)
+limits_rule_at raw wf i None there = tt
+limits_rule_at raw wf i (Some d) there = within_limits raw wf.limits i d.line d.declaration there
+
+-- each rule holds of a well-formed flow
+pub Holds-from_IsWellFormed : (raw : List Declared) → IsWellFormed (flow_of raw) → (code : Code) → Holds raw code
+Holds-from_IsWellFormed raw wf F3 = λ i lt. names_rule_at raw wf i (slice_get raw i) refl
+Holds-from_IsWellFormed raw wf F4 = λ p lt. (wf.in_degrees p (omega (arith, length-node_lines raw)), wf.out_degrees p (omega (arith, length-node_lines raw)))
+Holds-from_IsWellFormed raw wf F5 = λ e lt. wf.domains e (omega (arith, length-edge_lines raw))
+Holds-from_IsWellFormed raw wf F6 = record { fed_back = wf.feedback; never_entered = wf.no_enter }
+Holds-from_IsWellFormed raw wf F7 = λ p lt. wf.policies p (omega (arith, length-node_lines raw))
+Holds-from_IsWellFormed raw wf F8 = λ i lt. limits_rule_at raw wf i (slice_get raw i) refl
+Holds-from_IsWellFormed raw wf F9 = (wf.input, wf.output)
+Holds-from_IsWellFormed raw wf code = tt
+
+first_break-false : (Rule : ℕ → Type 0) (lines : List ℕ) (line : ℕ) → IsFirstBreak Rule lines line → HoldsBelow Rule (length lines) → ⊥
+first_break-false Rule lines line first holds = first.broken (holds first.place (slice_get_within lines first.place line first.there))
+
+-- a rule is not both broken and kept
+pub broken_or_holds : (raw : List Declared) (code : Code) (line : ℕ) → IsBroken raw code line → Holds raw code → ⊥
+broken_or_holds raw F3 line broken holds = first_break-false (NamesTheDeclared raw) (all_lines raw) line broken holds
+broken_or_holds raw F4 line broken holds = first_break-false (HasItsDegrees (flow_of raw)) (node_lines raw) line broken holds
+broken_or_holds raw F5 line broken holds = first_break-false (JoinsDomains (flow_of raw)) (edge_lines raw) line broken holds
+broken_or_holds raw F6 line broken holds =
+    elim broken.0 [
+      | inl walk ↦ walk.avoids (holds.fed_back walk.node walk.edges walk.closed)
+      | inr walk ↦ holds.never_entered walk.node walk.edges walk.closed walk.passes
+    ]
+broken_or_holds raw F7 line broken holds = first_break-false (HasAllowedPolicy (flow_of raw)) (node_lines raw) line broken holds
+broken_or_holds raw F8 line broken holds = first_break-false (StaysWithinLimits raw) (all_lines raw) line broken holds
+broken_or_holds raw F9 line broken holds = broken.0 holds
+broken_or_holds raw code line broken holds = broken
+
+one_first_break : (Rule : ℕ → Type 0) (lines : List ℕ) (m n : ℕ) → IsFirstBreak Rule lines m → IsFirstBreak Rule lines n → m ≡ n
+one_first_break Rule lines m n first second =
+    elim (cases_lt first.place second.place) [
+      | inl before ↦ absurd (first.broken (second.earlier first.place before))
+      | inr not_before ↦ elim (cases_lt second.place first.place) [
+        | inl after ↦ absurd (second.broken (first.earlier second.place after))
+        | inr not_after ↦
+            let same : first.place ≡ second.place = omega arith in
+            same_Some m n (sym first.there ∙ ap (slice_get lines) same ∙ second.there)
+      ]
+    ]
+
+-- a broken rule has one line
+one_line : (raw : List Declared) (code : Code) (m n : ℕ) → IsBroken raw code m → IsBroken raw code n → m ≡ n
+one_line raw F3 m n first second = one_first_break (NamesTheDeclared raw) (all_lines raw) m n first second
+one_line raw F4 m n first second = one_first_break (HasItsDegrees (flow_of raw)) (node_lines raw) m n first second
+one_line raw F5 m n first second = one_first_break (JoinsDomains (flow_of raw)) (edge_lines raw) m n first second
+one_line raw F6 m n first second = first.1 ∙ sym second.1
+one_line raw F7 m n first second = one_first_break (HasAllowedPolicy (flow_of raw)) (node_lines raw) m n first second
+one_line raw F8 m n first second = one_first_break (StaysWithinLimits raw) (all_lines raw) m n first second
+one_line raw F9 m n first second = first.1 ∙ sym second.1
+one_line raw code m n first second = absurd first
+
+-- a first broken rule is broken
+broken_of : (codes : List Code) (raw : List Declared) (r : Refusal) → IsFirstBrokenOf codes raw r → IsBroken raw r.code r.line
+broken_of [] raw r first = absurd first
+broken_of (code ∷ codes) raw r (inl here) = subst (λ c. IsBroken raw c r.line) (sym here.0) here.1
+broken_of (code ∷ codes) raw r (inr later) = broken_of codes raw r later.1
+
+-- declarations of a well-formed flow are not refused
+pub checked_or_refused : (raw : List Declared) (flow : Dataflow) (r : Refusal) → IsChecked raw flow → IsFirstBroken raw r → ⊥
+checked_or_refused raw flow r checked first =
+    broken_or_holds raw r.code r.line (broken_of rules raw r first) (Holds-from_IsWellFormed raw checked.well_formed r.code)
+
+same_refusal : (r s : Refusal) → r.code ≡ s.code → r.line ≡ s.line → r ≡ s
+same_refusal r s e f =
+    let with_code : Code → Refusal = λ c. record { code = c; line = r.line } in
+    let with_line : ℕ → Refusal = λ n. record { code = s.code; line = n } in
+    ap with_code e ∙ ap with_line f
+
+one_refusal_of : (codes : List Code) (raw : List Declared) (r s : Refusal) → IsFirstBrokenOf codes raw r → IsFirstBrokenOf codes raw s → r ≡ s
+one_refusal_of [] raw r s first second = absurd first
+one_refusal_of (code ∷ codes) raw r s (inl a) (inl b) = same_refusal r s (a.0 ∙ sym b.0) (one_line raw code r.line s.line a.1 b.1)
+one_refusal_of (code ∷ codes) raw r s (inl a) (inr b) = absurd (broken_or_holds raw code r.line a.1 b.0)
+one_refusal_of (code ∷ codes) raw r s (inr a) (inl b) = absurd (broken_or_holds raw code s.line b.1 a.0)
+one_refusal_of (code ∷ codes) raw r s (inr a) (inr b) = one_refusal_of codes raw r s a.1 b.1
+
+-- declarations are refused by one rule, at one line
+pub one_refusal : (raw : List Declared) (r s : Refusal) → IsFirstBroken raw r → IsFirstBroken raw s → r ≡ s
+one_refusal raw r s first second = one_refusal_of rules raw r s first second

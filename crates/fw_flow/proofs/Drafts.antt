@@ -1,0 +1,302 @@
+-- A draft and the flow of its declarations: what the tests of the draft say of the rules.
+use Rattle.std.proofs.Common.{◌≡◌, ◌⊎◌, inl, inr, ◌↔◌, ℕ, ◌<◌, ◌^◌, ◌≤◌, Bool, true, false, List, [], ◌∷◌, length, map, Option, Some, None, Result, Ok, Err, refl, sym, ap, ◌∙◌, subst, arith, get_or, slice_get, is_some, IsNone, IfErr, IfOk}
+use Rattle.std.proofs.lemmas.Bool.{false≢true, true≢false}
+use Rattle.std.proofs.lemmas.List.{length-map, get_or-map}
+use Rattle.std.proofs.lemmas.Option.{same_Some, none-some}
+use Rattle.std.specs.Bool.{OnTrue, OnFalse}
+use Rattle.std.specs.List.{flat_map}
+use Rattle.fw_lines.specs.declared.fault.ReadFault.{ReadFault}
+use Rattle.fw_lines.specs.declared.fault.ReadFault.TheVariants.{Refused, NoMemory}
+use Rattle.fw_lines.specs.declared.refusal.Code.{Code}
+use Rattle.fw_lines.specs.declared.refusal.Code.TheVariants.{F3, F4, F5, F6, F7, F8, F9}
+use Rattle.fw_lines.specs.declared.refusal.Refusal.{Refusal}
+use Rattle.fw_lines.specs.Faults.{IfRefused}
+use Rattle.std.specs.declared.alloc.Global.{Global}
+use Rattle.std.specs.declared.vec.Vec.{Vec}
+use Rattle.fw_flow.specs.declared.kind.Kind.{Kind}
+use Rattle.fw_flow.specs.declared.node.Loop.{Loop}
+use Rattle.fw_flow.specs.declared.node.Node.{Node}
+use Rattle.fw_flow.specs.declared.node.Edge.{Edge}
+use Rattle.fw_flow.specs.declared.parts.Parts.{Parts}
+use Rattle.fw_flow.specs.declared.draft.Draft.{Draft}
+use Rattle.fw_flow.specs.declared.raw.Declaration.{Declaration}
+use Rattle.fw_flow.specs.declared.raw.Declaration.TheVariants.{Loop as ALoop, Node as ANode, Edge as AnEdge}
+use Rattle.fw_flow.specs.declared.raw.Declared.{Declared}
+use Rattle.fw_flow.specs.declared.raw.NameSpaces.{NameSpaces}
+use Rattle.fw_flow.specs.declared.walks.Link.{Link}
+use Rattle.fw_flow.specs.Check.{HoldsBelow, IsFirstBreak, IsFirstBreakIfAny, HasItsDegrees, JoinsDomains, HasAllowedPolicy, AreWalksRight, IsWalkWrong, HasBorders, node_lines, edge_lines, Holds, IsBroken, IsFirstBrokenOf, IsFirstBroken}
+use Rattle.fw_flow.specs.Dataflow.{Dataflow, kind_of, in_edges, out_edges, edges_into, edges_from}
+use Rattle.fw_flow.specs.Draft.{IsDraftOf, AllHold}
+use Rattle.fw_flow.specs.Flow.{edges_at, IsIndexed}
+use Rattle.fw_flow.specs.Parts.{ArePartsOf, capped_kind, capped_node, capped_flow, places_from}
+use Rattle.fw_flow.specs.Raw.{names_of, loop_names, node_names, edge_names, node_name, edge_name, loop_in, node_in, edge_in, flow_of}
+use Rattle.fw_flow.specs.Walks.{AreWithin, IsMadeOf, link_of, link_at, listed_kind}
+use Rattle.fw_flow.specs.WellFormed.{IsInDegree, IsOutDegree, IsWellFormed}
+use Rattle.fw_flow.proofs.Capped.{from_capped, to_capped, kind_of-capped, JoinsDomains-capped, HasAllowedPolicy-capped, AreWalksRight-capped, IsWalkWrong-capped, HasBorders-capped, loops-capped, nodes-capped}
+use Rattle.fw_flow.proofs.Checks.{GivesOne-loop_in, GivesOne-node_in, GivesOne-edge_in, length-loops, length-nodes, length-edges, length-node_lines, length-edge_lines, both_declared, IsWellFormed-from_rules}
+use Rattle.fw_flow.proofs.Ends.{places_from-receivers, places_from-senders}
+use Rattle.fw_flow.proofs.Flows.{sender-of_link, receiver-of_link, kinds_of}
+use Rattle.fw_flow.proofs.Givers.{length-given_le, map-flat_map}
+
+-- ---- how many names and edges there are
+
+pub few_loops : (raw : List Declared) → length raw < 2 ^ 32 → length (loop_names raw) < 2 ^ 32
+few_loops raw few =
+    let count = length-loops raw in
+    let most = length-given_le loop_in GivesOne-loop_in raw in
+    omega (arith, few, count, most)
+
+pub few_nodes : (raw : List Declared) → length raw < 2 ^ 32 → length (node_names raw) < 2 ^ 32
+few_nodes raw few =
+    let count = length-nodes (loop_names raw) raw in
+    let most = length-given_le (node_in (loop_names raw)) (GivesOne-node_in (loop_names raw)) raw in
+    omega (arith, few, count, most)
+
+pub few_edges : (raw : List Declared) → length raw < 2 ^ 32 → length (flow_of raw).edges < 2 ^ 32
+few_edges raw few =
+    let most = length-given_le (edge_in (node_names raw)) (GivesOne-edge_in (node_names raw)) raw in
+    omega (arith, few, most)
+
+-- ---- the parts
+
+pub count_of_nodes : (parts : Parts) (raw : List Declared) → ArePartsOf parts (names_of raw) raw → length parts.nodes.items ≡ length (flow_of raw).nodes
+count_of_nodes parts raw of_parts = ap length of_parts.all_nodes ∙ length-map (flow_of raw).nodes capped_node
+
+-- the links join nodes of the flow
+pub links_within : (parts : Parts) (raw : List Declared) → ArePartsOf parts (names_of raw) raw → Holds raw F3 → (links : List Link) → links ≡ map link_of parts.edges.items
+    → AreWithin (length parts.nodes.items) links
+links_within parts raw of_parts declared links is =
+    let flow = flow_of raw in
+    let same : links ≡ map link_of flow.edges = is ∙ ap (map link_of) of_parts.all_edges in
+    let count = length-map {A = Edge} {B = Link} flow.edges link_of in
+    let nodes = count_of_nodes parts raw of_parts in
+    let here : AreWithin (length flow.nodes) (map link_of flow.edges) = record {
+      senders = λ e lt.
+          let below : e < length flow.edges = omega (arith, lt, count) in
+          subst (λ p. p < length flow.nodes) (sym (sender-of_link flow e below)) (both_declared raw declared e below).0;
+      receivers = λ e lt.
+          let below : e < length flow.edges = omega (arith, lt, count) in
+          subst (λ p. p < length flow.nodes) (sym (receiver-of_link flow e below)) (both_declared raw declared e below).1;
+    } in
+    subst (AreWithin (length parts.nodes.items)) (sym same) (subst (λ n. AreWithin n (map link_of flow.edges)) (sym nodes) here)
+
+pub receivers_below : (n : ℕ) (links : List Link) (ends : List ℕ) → AreWithin n links → ends ≡ map (λ (l : Link). l.receiver) links → (e : ℕ) → e < length ends → get_or ends e 0 < n
+receivers_below n links ends within is e lt =
+    let count = length-map links (λ (l : Link). l.receiver) in
+    let same = ap length is in
+    let below : e < length links = omega (arith, lt, count, same) in
+    subst (λ p. p < n) (sym (ap (λ es. get_or es e 0) is ∙ get_or-map (λ (l : Link). l.receiver) links e (record { sender = 0; receiver = 0 }) 0 below)) (within.receivers e below)
+
+pub senders_below : (n : ℕ) (links : List Link) (ends : List ℕ) → AreWithin n links → ends ≡ map (λ (l : Link). l.sender) links → (e : ℕ) → e < length ends → get_or ends e 0 < n
+senders_below n links ends within is e lt =
+    let count = length-map links (λ (l : Link). l.sender) in
+    let same = ap length is in
+    let below : e < length links = omega (arith, lt, count, same) in
+    subst (λ p. p < n) (sym (ap (λ es. get_or es e 0) is ∙ get_or-map (λ (l : Link). l.sender) links e (record { sender = 0; receiver = 0 }) 0 below)) (within.senders e below)
+
+pub few_ends : (parts : Parts) (raw : List Declared) → ArePartsOf parts (names_of raw) raw → length raw < 2 ^ 32 → (links : List Link) → links ≡ map link_of parts.edges.items
+    → (end : Link → ℕ) (ends : List ℕ) → ends ≡ map end links → length ends < 2 ^ 32
+few_ends parts raw of_parts few links is end ends ends_are =
+    let edges = ap length of_parts.all_edges in
+    let of_edges = length-map {A = Edge} {B = Link} parts.edges.items link_of in
+    let of_links = length-map links end in
+    let count = ap length is in
+    let same = ap length ends_are in
+    let most = few_edges raw few in
+    omega (arith, edges, of_edges, of_links, count, same, most)
+
+pub lines_of_nodes : (parts : Parts) (raw : List Declared) → ArePartsOf parts (names_of raw) raw → length parts.node_lines.items ≡ length parts.nodes.items
+lines_of_nodes parts raw of_parts = ap length of_parts.lines_of_nodes ∙ length-node_lines raw ∙ sym (count_of_nodes parts raw of_parts)
+
+pub lines_of_edges : (parts : Parts) (raw : List Declared) → ArePartsOf parts (names_of raw) raw → (links : List Link) → links ≡ map link_of parts.edges.items
+    → length parts.edge_lines.items ≡ length links
+lines_of_edges parts raw of_parts links is =
+    ap length of_parts.lines_of_edges ∙ length-edge_lines raw ∙ sym (ap length of_parts.all_edges)
+    ∙ sym (length-map {A = Edge} {B = Link} parts.edges.items link_of) ∙ sym (ap length is)
+
+pub edges_to : (edges : List Edge) (links : List Link) (ends : List ℕ) (lists : List (Vec ℕ Global)) → links ≡ map link_of edges → ends ≡ map (λ (l : Link). l.receiver) links
+    → ((p : ℕ) → edges_at lists p ≡ places_from 0 ends p) → (p : ℕ) → edges_at lists p ≡ edges_into 0 edges p
+edges_to edges links ends lists is ends_are listed p =
+    listed p ∙ ap (λ es. places_from 0 es p) (ends_are ∙ ap (map (λ (l : Link). l.receiver)) is) ∙ places_from-receivers 0 edges p
+
+pub edges_out_of : (edges : List Edge) (links : List Link) (ends : List ℕ) (lists : List (Vec ℕ Global)) → links ≡ map link_of edges → ends ≡ map (λ (l : Link). l.sender) links
+    → ((p : ℕ) → edges_at lists p ≡ places_from 0 ends p) → (p : ℕ) → edges_at lists p ≡ edges_from 0 edges p
+edges_out_of edges links ends lists is ends_are listed p =
+    listed p ∙ ap (λ es. places_from 0 es p) (ends_are ∙ ap (map (λ (l : Link). l.sender)) is) ∙ places_from-senders 0 edges p
+
+-- ---- the tests
+
+pub made_of : (draft : Draft) (raw : List Declared) → IsDraftOf draft raw → IsMadeOf (capped_flow (flow_of raw)) draft.parts.nodes.items draft.links.items
+made_of draft raw of_draft = record {
+  nodes = sym of_draft.of_parts.all_nodes;
+  links = ap (map link_of) (sym of_draft.of_parts.all_edges) ∙ sym of_draft.of_links;
+}
+
+first_break_same : (R S : ℕ → Type 0) → ((p : ℕ) → R p ↔ S p) → (lines : List ℕ) (line : Option ℕ) → IsFirstBreakIfAny R lines line → IsFirstBreakIfAny S lines line
+first_break_same R S same lines None holds = λ p lt. (same p).0 (holds p lt)
+first_break_same R S same lines (Some line) first = record {
+  place = first.place;
+  there = first.there;
+  earlier = λ p lt. (same p).0 (first.earlier p lt);
+  broken = λ h. first.broken ((same first.place).1 h);
+}
+
+degrees_same : (draft : Draft) (raw : List Declared) → IsDraftOf draft raw → (p : ℕ)
+    → (IsInDegree (listed_kind draft.parts.nodes.items p) (length (edges_at draft.incoming.items p)) × IsOutDegree (listed_kind draft.parts.nodes.items p) (length (edges_at draft.outgoing.items p)))
+    ↔ HasItsDegrees (flow_of raw) p
+unfolding in_edges out_edges
+degrees_same draft raw of_draft p =
+    let flow = flow_of raw in
+    let kind : listed_kind draft.parts.nodes.items p ≡ capped_kind (kind_of flow p) =
+    sym (kinds_of (capped_flow flow) draft.parts.nodes.items draft.links.items (made_of draft raw of_draft) p) ∙ kind_of-capped flow p in
+    let into : edges_at draft.incoming.items p ≡ edges_into 0 flow.edges p = of_draft.edges_in p ∙ ap (λ (es : List Edge). edges_into 0 es p) of_draft.of_parts.all_edges in
+    let from : edges_at draft.outgoing.items p ≡ edges_from 0 flow.edges p = of_draft.edges_out p ∙ ap (λ (es : List Edge). edges_from 0 es p) of_draft.of_parts.all_edges in
+    let Degrees : Kind → List ℕ → List ℕ → Type 0 = λ k i o. IsInDegree k (length i) × IsOutDegree k (length o) in
+    let P : Kind → Type 0 = λ k. Degrees k (edges_into 0 flow.edges p) (edges_from 0 flow.edges p) in
+    let ins = edges_at draft.incoming.items p in
+    let outs = edges_at draft.outgoing.items p in
+    let k = listed_kind draft.parts.nodes.items p in (
+      λ h. from_capped P (λ m n x. x) (kind_of flow p) (subst P kind (subst (λ i. Degrees k i (edges_from 0 flow.edges p)) into (subst (λ o. Degrees k ins o) from h))),
+      λ h. subst (λ o. Degrees k ins o) (sym from) (subst (λ i. Degrees k i (edges_from 0 flow.edges p)) (sym into) (subst P (sym kind) (to_capped P (λ m n x. x) (kind_of flow p) h))),
+    )
+
+-- the rule of degrees over lists
+abbrev pub ListedDegrees : List Node → List (Vec ℕ Global) → List (Vec ℕ Global) → ℕ → Type 0
+ListedDegrees nodes incoming outgoing p = IsInDegree (listed_kind nodes p) (length (edges_at incoming p)) × IsOutDegree (listed_kind nodes p) (length (edges_at outgoing p))
+
+-- Each test is given lists that are those of the draft.
+
+pub degrees_first : (draft : Draft) (raw : List Declared) → IsDraftOf draft raw → (line : Option ℕ) (nodes : List Node) (incoming outgoing : List (Vec ℕ Global)) (lines : List ℕ)
+    → nodes ≡ draft.parts.nodes.items → incoming ≡ draft.incoming.items → outgoing ≡ draft.outgoing.items → lines ≡ draft.parts.node_lines.items
+    → IsFirstBreakIfAny (ListedDegrees nodes incoming outgoing) lines line → IsFirstBreakIfAny (HasItsDegrees (flow_of raw)) (node_lines raw) line
+degrees_first draft raw of_draft line nodes incoming outgoing lines are_nodes are_in are_out are_lines first =
+    let own_nodes = subst (λ ns. IsFirstBreakIfAny (ListedDegrees ns incoming outgoing) lines line) are_nodes first in
+    let own_in = subst (λ es. IsFirstBreakIfAny (ListedDegrees draft.parts.nodes.items es outgoing) lines line) are_in own_nodes in
+    let own_out = subst (λ es. IsFirstBreakIfAny (ListedDegrees draft.parts.nodes.items draft.incoming.items es) lines line) are_out own_in in
+    subst (λ ls. IsFirstBreakIfAny (HasItsDegrees (flow_of raw)) ls line) (are_lines ∙ of_draft.of_parts.lines_of_nodes)
+    (first_break_same (ListedDegrees draft.parts.nodes.items draft.incoming.items draft.outgoing.items) (HasItsDegrees (flow_of raw)) (degrees_same draft raw of_draft) lines line own_out)
+
+made_of_lists : (draft : Draft) (raw : List Declared) → IsDraftOf draft raw → (nodes : List Node) (links : List Link)
+    → nodes ≡ draft.parts.nodes.items → links ≡ draft.links.items → IsMadeOf (capped_flow (flow_of raw)) nodes links
+made_of_lists draft raw of_draft nodes links are_nodes are_links =
+    let made = made_of draft raw of_draft in
+    record { nodes = made.nodes ∙ sym are_nodes; links = made.links ∙ sym are_links }
+
+pub domains_first : (draft : Draft) (raw : List Declared) → IsDraftOf draft raw → (line : Option ℕ) (nodes : List Node) (links : List Link) (lines : List ℕ)
+    → nodes ≡ draft.parts.nodes.items → links ≡ draft.links.items → lines ≡ draft.parts.edge_lines.items
+    → ((flow : Dataflow) → IsMadeOf flow nodes links → IsFirstBreakIfAny (JoinsDomains flow) lines line)
+    → IsFirstBreakIfAny (JoinsDomains (flow_of raw)) (edge_lines raw) line
+domains_first draft raw of_draft line nodes links lines are_nodes are_links are_lines first =
+    let flow = flow_of raw in
+    subst (λ ls. IsFirstBreakIfAny (JoinsDomains flow) ls line) (are_lines ∙ of_draft.of_parts.lines_of_edges)
+    (first_break_same (JoinsDomains (capped_flow flow)) (JoinsDomains flow) (JoinsDomains-capped flow) lines line
+    (first (capped_flow flow) (made_of_lists draft raw of_draft nodes links are_nodes are_links)))
+
+pub policies_first : (draft : Draft) (raw : List Declared) → IsDraftOf draft raw → (line : Option ℕ) (nodes : List Node) (lines : List ℕ)
+    → nodes ≡ draft.parts.nodes.items → lines ≡ draft.parts.node_lines.items
+    → ((flow : Dataflow) → flow.nodes ≡ nodes → IsFirstBreakIfAny (HasAllowedPolicy flow) lines line)
+    → IsFirstBreakIfAny (HasAllowedPolicy (flow_of raw)) (node_lines raw) line
+policies_first draft raw of_draft line nodes lines are_nodes are_lines first =
+    let flow = flow_of raw in
+    subst (λ ls. IsFirstBreakIfAny (HasAllowedPolicy flow) ls line) (are_lines ∙ of_draft.of_parts.lines_of_nodes)
+    (first_break_same (HasAllowedPolicy (capped_flow flow)) (HasAllowedPolicy flow) (HasAllowedPolicy-capped flow) lines line
+    (first (capped_flow flow) ((made_of draft raw of_draft).nodes ∙ sym are_nodes)))
+
+pub walks_right : (draft : Draft) (raw : List Declared) → IsDraftOf draft raw → (b : Bool) (nodes : List Node) (links : List Link)
+    → nodes ≡ draft.parts.nodes.items → links ≡ draft.links.items → b ≡ true
+    → ((flow : Dataflow) → IsMadeOf flow nodes links → OnTrue b (AreWalksRight flow)) → AreWalksRight (flow_of raw)
+walks_right draft raw of_draft true nodes links are_nodes are_links e right =
+    AreWalksRight-capped (flow_of raw) (right (capped_flow (flow_of raw)) (made_of_lists draft raw of_draft nodes links are_nodes are_links))
+walks_right draft raw of_draft false nodes links are_nodes are_links e right = absurd (false≢true e)
+
+pub walk_wrong : (draft : Draft) (raw : List Declared) → IsDraftOf draft raw → (b : Bool) (nodes : List Node) (links : List Link)
+    → nodes ≡ draft.parts.nodes.items → links ≡ draft.links.items → b ≡ false
+    → ((flow : Dataflow) → IsMadeOf flow nodes links → OnFalse b (IsWalkWrong flow)) → IsWalkWrong (flow_of raw)
+walk_wrong draft raw of_draft true nodes links are_nodes are_links e wrong = absurd (true≢false e)
+walk_wrong draft raw of_draft false nodes links are_nodes are_links e wrong =
+    IsWalkWrong-capped (flow_of raw) (wrong (capped_flow (flow_of raw)) (made_of_lists draft raw of_draft nodes links are_nodes are_links))
+
+pub borders_same : (draft : Draft) (raw : List Declared) → IsDraftOf draft raw → (b : Bool) (nodes : List Node) → nodes ≡ draft.parts.nodes.items
+    → ((flow : Dataflow) → flow.nodes ≡ nodes → (b ≡ true) ↔ HasBorders flow) → (b ≡ true) ↔ HasBorders (flow_of raw)
+borders_same draft raw of_draft b nodes are_nodes same =
+    let here = same (capped_flow (flow_of raw)) ((made_of draft raw of_draft).nodes ∙ sym are_nodes) in
+    let capped = HasBorders-capped (flow_of raw) in
+    (λ e. capped.0 (here.0 e), λ h. here.1 (capped.1 h))
+
+-- ---- refusals
+
+-- with no line the rule holds
+pub holds_if_none : (Rule : ℕ → Type 0) (lines : List ℕ) (line : Option ℕ) → IsNone line → IsFirstBreakIfAny Rule lines line → HoldsBelow Rule (length lines)
+holds_if_none Rule lines None none holds = holds
+holds_if_none Rule lines (Some line) none first = absurd (true≢false none)
+
+-- a refusal by a rule whose first broken line it tells
+pub refused_first : (Rule : ℕ → Type 0) (lines : List ℕ) (code : Code) (line : Option ℕ) (Q : Refusal → Type 0) (fault : ReadFault)
+    → IsFirstBreakIfAny Rule lines line → ((r : Refusal) → r.code ≡ code → IsFirstBreak Rule lines r.line → Q r)
+    → IfRefused (λ (r : Refusal). (r.code ≡ code) × (line ≡ Some r.line)) fault → IfRefused Q fault
+refused_first Rule lines code line Q (Refused r) first gives h = gives r h.0 (subst (IsFirstBreakIfAny Rule lines) h.1 first)
+refused_first Rule lines code line Q NoMemory first gives h = tt
+
+-- a refusal of the flow as a whole
+pub refused_whole : (code : Code) (Q : Refusal → Type 0) (fault : ReadFault) → fault ≡ Refused (record { code = code; line = 0 }) → Q (record { code = code; line = 0 }) → IfRefused Q fault
+refused_whole code Q fault e h = subst (IfRefused Q) (sym e) h
+
+-- after declared names, the first broken of the rules that follow is the first broken rule
+pub later_rules : (raw : List Declared) (fault : ReadFault) → Holds raw F3 → IfRefused (IsFirstBrokenOf (F4 ∷ F5 ∷ F6 ∷ F7 ∷ F8 ∷ F9 ∷ []) raw) fault → IfRefused (IsFirstBroken raw) fault
+later_rules raw (Refused r) names first = inr (names, first)
+later_rules raw NoMemory names first = tt
+
+-- ---- the flow
+
+pub well_formed_draft : (raw : List Declared) → Holds raw F3 → AllHold raw → IsWellFormed (flow_of raw)
+well_formed_draft raw names all = IsWellFormed-from_rules raw names all.degrees all.domains all.walks all.policies all.limits all.borders
+
+-- the flow that a draft's parts make
+abbrev pub drafted : Draft → Dataflow
+drafted draft = record { loops = draft.parts.loops.items; nodes = draft.parts.nodes.items; edges = draft.parts.edges.items }
+
+pub flow_of_draft : (draft : Draft) (raw : List Declared) → IsDraftOf draft raw → IsWellFormed (flow_of raw) → drafted draft ≡ flow_of raw
+flow_of_draft draft raw of_draft wf =
+    let flow = flow_of raw in
+    let parts = draft.parts in
+    let loops : parts.loops.items ≡ flow.loops = of_draft.of_parts.all_loops ∙ loops-capped flow wf.limits in
+    let nodes : parts.nodes.items ≡ flow.nodes = of_draft.of_parts.all_nodes ∙ nodes-capped flow wf.limits in
+    let with_loops : List Loop → Dataflow = λ ls. record { loops = ls; nodes = parts.nodes.items; edges = parts.edges.items } in
+    let with_nodes : List Node → Dataflow = λ ns. record { loops = flow.loops; nodes = ns; edges = parts.edges.items } in
+    let with_edges : List Edge → Dataflow = λ es. record { loops = flow.loops; nodes = flow.nodes; edges = es } in
+    ap with_loops loops ∙ ap with_nodes nodes ∙ ap with_edges of_draft.of_parts.all_edges
+
+node_named : (loops : List (List ℕ)) (line : ℕ) (d : Declaration)
+    → map (λ (n : Node). n.name) (node_in loops (record { line = line; declaration = d })) ≡ node_name (record { line = line; declaration = d })
+node_named loops line (ALoop name max) = refl
+node_named loops line (ANode name kind policy) = refl
+node_named loops line (AnEdge name s r) = refl
+
+edge_named : (nodes : List (List ℕ)) (line : ℕ) (d : Declaration)
+    → map (λ (e : Edge). e.name) (edge_in nodes (record { line = line; declaration = d })) ≡ edge_name (record { line = line; declaration = d })
+edge_named nodes line (ALoop name max) = refl
+edge_named nodes line (ANode name kind policy) = refl
+edge_named nodes line (AnEdge name s r) = refl
+
+-- the names of the nodes and edges are those that were declared
+pub names_of_flow : (raw : List Declared) → (node_names raw ≡ map (λ (n : Node). n.name) (flow_of raw).nodes) × (edge_names raw ≡ map (λ (e : Edge). e.name) (flow_of raw).edges)
+names_of_flow raw = (
+  sym (map-flat_map (λ (n : Node). n.name) (node_in (loop_names raw)) node_name (λ d. node_named (loop_names raw) d.line d.declaration) raw),
+  sym (map-flat_map (λ (e : Edge). e.name) (edge_in (node_names raw)) edge_name (λ d. edge_named (node_names raw) d.line d.declaration) raw),
+)
+
+-- the flow of a draft that breaks no rule is kept with its names and edges
+pub IsIndexed-from_draft : (draft : Draft) (raw : List Declared) (names : NameSpaces) → names ≡ names_of raw → IsDraftOf draft raw → Holds raw F3 → AllHold raw
+    → IsIndexed (drafted draft) names.nodes names.edges draft.incoming.items draft.outgoing.items
+unfolding in_edges out_edges
+IsIndexed-from_draft draft raw names taken of_draft names_hold all =
+    let wf = well_formed_draft raw names_hold all in
+    let same = flow_of_draft draft raw of_draft wf in
+    let named = names_of_flow raw in
+    record {
+      well_formed = subst IsWellFormed (sym same) wf;
+      names_of_nodes = ap (λ (n : NameSpaces). n.nodes) taken ∙ named.0 ∙ ap (λ (f : Dataflow). map (λ (n : Node). n.name) f.nodes) (sym same);
+      names_of_edges = ap (λ (n : NameSpaces). n.edges) taken ∙ named.1 ∙ ap (λ (f : Dataflow). map (λ (e : Edge). e.name) f.edges) (sym same);
+      edges_in = of_draft.edges_in;
+      edges_out = of_draft.edges_out;
+    }

@@ -1,0 +1,726 @@
+-- What projections do to the outside stamps of a frontier.
+use Rattle.std.proofs.Common.{◌≡◌, ℕ, zero, suc, ◌+◌, ◌-◌, ◌*◌, ◌/◌, ◌%◌, ◌<◌, ◌≤◌, min, Bool, true, false, not, cond, ◌&&◌, ◌||◌, ◌==◌, nat_lt, nat_le, ◌^◌, List, [], ◌∷◌, ◌++◌, length, get_or, drop, Option, Some, None, add-one, refl, sym, ap, subst, ◌∙◌, arith}
+use Rattle.std.specs.Prelude.{option_to_list, slice_index, Result, IfOk}
+use Rattle.std.proofs.lemmas.Result.{IfOk-weaker}
+use Rattle.std.proofs.lemmas.Bool.Decides.{nat_tests}
+use Rattle.std.proofs.lemmas.List.{drop_all}
+use Rattle.std.specs.List.{AllByRecursion}
+use Rattle.fw_time.specs.declared.stamp.Bounds.{Bounds}
+use Rattle.fw_time.specs.Stamp.{Stamp, leq, nest, outer, counter, in_domain, origin}
+use Rattle.fw_time.specs.Sending.{entered, fed_back}
+use Rattle.std.proofs.Math.Nat.{min-le_left, min-le_right, div-add-mod', mod-lt, le-div_iff_mul-le, div-lt_iff_lt-mul, div-le_self, mul-le-mul_right}
+use Rattle.fw_time.specs.NestLaws.{length-nest, places-outer}
+use Rattle.fw_time.proofs.StampLaws.{leq-refl, leq-length, leq-nest, origin-leq, counter-nest, nest-outer, and_left, and_right, both}
+use Rattle.fw_frontier.specs.Frontier.{Frontier}
+use Rattle.fw_frontier.specs.Front.{Front, inside, frontier_of, IsCanonical, Names}
+use Rattle.fw_frontier.proofs.CanonicalLaws.{in_domain-canonical}
+use Rattle.fw_frontier.proofs.BelowLaws.{names-as, names-by, names-numbers, names-limit}
+use Rattle.fw_frontier.proofs.NamesLaws.{frontier-closed}
+use Rattle.fw_flow.specs.declared.kind.Kind.TheVariants.{Enter, Feedback, Leave, Sequence, Regroup}
+use Rattle.fw_flow.specs.declared.projection.Way.{Way}
+use Rattle.fw_flow.specs.declared.projection.Way.TheVariants.{First, Next, NextAfterFirst, Before, Outer, OuterOfFirst}
+use Rattle.fw_flow.specs.Projection.{number_of, each_counter, some_counter, phi_of_kind, psi_of_kind, psi_back_of_kind, table_count}
+use Rattle.fw_flow.specs.ProjectedStamps.{JoinsDomains, IsNest, image, images, entered_outside, front_until}
+use Rattle.fw_flow.specs.Dataflow.{max_of, greatest_number}
+
+le-from : (x y : ℕ) → nat_le x y ≡ true → x ≤ y
+le-from x y h = grind (arith, nat_tests)
+
+to-le : (x y : ℕ) → x ≤ y → nat_le x y ≡ true
+to-le x y h = grind (arith, nat_tests)
+
+lt-from : (x y : ℕ) → nat_lt x y ≡ true → x < y
+lt-from x y h = grind (arith, nat_tests)
+
+some-is : (s t : Stamp) → Some s ≡ Some t → s ≡ t
+some-is s t e = cc
+
+-- ---- lists of images
+
+-- whether an image is at most a stamp, as none is where there is no image
+abbrev is_met : Option Stamp → Stamp → Bool
+is_met None u = false
+is_met (Some w) u = leq w u
+
+-- what is inside the images, by what is inside the stamps
+pub inside-images : (way : Way) (os : List Stamp) (P : Stamp → Type 0) (u v : Stamp) (free : Bool) → ((o : Stamp) → P o → is_met (image way o) u ≡ (not free && leq o v))
+    → AllByRecursion P os → inside (images way os) u ≡ (free || inside os v)
+inside-images way [] P u v free f h = by free
+  where
+    by : (free : Bool) → true ≡ (free || true)
+    by true = refl
+    by false = refl
+inside-images way (o ∷ os) P u v free f h =
+    one (image way o) ∙ (λ i. not (f o h.0 i) && inside-images way os P u v free f h.1 i) ∙ split free (leq o v) (inside os v)
+  where
+    one : (w : Option Stamp) → inside (option_to_list w ++ images way os) u ≡ (not (is_met w u) && inside (images way os) u)
+    one None = refl
+    one (Some w) = refl
+
+    split : (free b c : Bool) → (not (not free && b) && (free || c)) ≡ (free || (not b && c))
+    split true b c = refl
+    split false b c = refl
+
+-- a fact on each image
+pub each-image : (way : Way) (os : List Stamp) (P Q : Stamp → Type 0) → ((o w : Stamp) → P o → image way o ≡ Some w → Q w) → AllByRecursion P os → AllByRecursion Q (images way os)
+each-image way [] P Q f h = tt
+each-image way (o ∷ os) P Q f h = one (image way o) refl (each-image way os P Q f h.1)
+  where
+    one : (w : Option Stamp) → image way o ≡ w → AllByRecursion Q (images way os) → AllByRecursion Q (option_to_list w ++ images way os)
+    one None e r = r
+    one (Some w) e r = (f o w h.0 e, r)
+
+-- ---- a loop's stamps
+
+-- a stamp of a loop, by its outer stamp and its counter
+pub record IsOfLoop (b : Stamp) (m : ℕ) (u : Stamp) : Type 0 where
+  pub nested : nest (outer u) (counter u) ≡ u
+  pub outside : leq (outer u) b ≡ true
+  pub counted : counter u ≤ m
+  pub long : length (outer u) ≡ length b
+
+pub of_loop : (b : Stamp) (m : ℕ) (u : Stamp) → leq u (nest b m) ≡ true → IsOfLoop b m u
+of_loop b m u h =
+    let long : length u ≡ length b + 1 = leq-length u (nest b m) h ∙ length-nest b m in
+    let e = nest-outer u (omega arith) in
+    let l = places-outer u (length b) long in
+    let q : (leq (outer u) b && nat_le (counter u) m) ≡ true = sym (leq-nest (outer u) b (counter u) m l) ∙ ap (λ w. leq w (nest b m)) e ∙ h in
+    record { nested = e; outside = and_left _ _ q; counted = le-from (counter u) m (and_right _ _ q); long = l }
+
+-- the order of a loop's stamps
+leq-loop : (b : Stamp) (m : ℕ) (o u : Stamp) → IsOfLoop b m o → IsOfLoop b m u → (c d : ℕ) → leq (nest (outer o) c) (nest (outer u) d) ≡ (leq (outer o) (outer u) && nat_le c d)
+leq-loop b m o u v w c d = leq-nest (outer o) (outer u) c d (v.long ∙ sym w.long)
+
+nested-leq : (b : Stamp) (m : ℕ) (o u : Stamp) → IsOfLoop b m o → IsOfLoop b m u → (d : ℕ) → leq o (nest (outer u) d) ≡ (leq (outer o) (outer u) && nat_le (counter o) d)
+nested-leq b m o u v w d = ap (λ x. leq x (nest (outer u) d)) (sym v.nested) ∙ leq-loop b m o u v w (counter o) d
+
+leq-nested : (b : Stamp) (m : ℕ) (o u : Stamp) → IsOfLoop b m o → IsOfLoop b m u → (c : ℕ) → leq (nest (outer o) c) u ≡ (leq (outer o) (outer u) && nat_le c (counter u))
+leq-nested b m o u v w c = ap (leq (nest (outer o) c)) (sym w.nested) ∙ leq-loop b m o u v w c (counter u)
+
+-- a stamp of the loop with a counter up to the greatest
+nest-in : (b : Stamp) (m : ℕ) (o : Stamp) (c : ℕ) → leq o b ≡ true → c ≤ m → leq (nest o c) (nest b m) ≡ true
+nest-in b m o c h k = leq-nest o b c m (leq-length o b h) ∙ both (leq o b) (nat_le c m) h (to-le c m k)
+
+is_met-if : (b : Bool) (w u : Stamp) → is_met (cond b (Some w) None) u ≡ cond b (leq w u) false
+is_met-if true w u = refl
+is_met-if false w u = refl
+
+is_met-else : (b : Bool) (w : Stamp) (x : Option Stamp) (u : Stamp) → is_met (cond b (Some w) x) u ≡ cond b (leq w u) (is_met x u)
+is_met-else true w x u = refl
+is_met-else false w x u = refl
+
+some_if : (b : Bool) (v w : Stamp) → cond b (Some v) None ≡ Some w → (b ≡ true) × (v ≡ w)
+some_if true v w e = (refl, cc)
+some_if false v w e = absurd (cc)
+
+-- ---- where the images of each way are met
+
+met-first : (b : Stamp) (m : ℕ) (o u : Stamp) → leq o b ≡ true → leq u (nest b m) ≡ true → is_met (entered o) u ≡ (true && leq o (outer u))
+met-first b m o u h k =
+    let w = of_loop b m u k in
+    ap (leq (nest o 0)) (sym w.nested) ∙ leq-nest o (outer u) 0 (counter u) (leq-length o b h ∙ sym w.long) ∙ by (leq o (outer u)) (counter u)
+  where
+    by : (a : Bool) (c : ℕ) → (a && nat_le 0 c) ≡ (true && a)
+    by a c = grind (arith, nat_tests)
+
+met-next : (b : Stamp) (m : ℕ) (o u : Stamp) → leq o (nest b m) ≡ true → leq u (nest b m) ≡ true
+    → is_met (fed_back m o) u ≡ (not (counter u == 0) && leq o (nest (outer u) (counter u - 1)))
+met-next b m o u h k =
+    let v = of_loop b m o h in
+    let w = of_loop b m u k in
+    is_met-if (nat_lt (counter o) m) (nest (outer o) (counter o + 1)) u
+    ∙ ap (λ x. cond (nat_lt (counter o) m) x false) (leq-nested b m o u v w (counter o + 1))
+    ∙ by (leq (outer o) (outer u)) (counter o) (counter u) m v.counted w.counted
+    ∙ ap (λ x. not (counter u == 0) && x) (sym (nested-leq b m o u v w (counter u - 1)))
+  where
+    by : (a : Bool) (d c m : ℕ) → d ≤ m → c ≤ m → cond (nat_lt d m) (a && nat_le (d + 1) c) false ≡ (not (c == 0) && (a && nat_le d (c - 1)))
+    by true d c m p q = grind (arith, nat_tests)
+    by false d c m p q = grind (arith, nat_tests)
+
+met-next_after_first : (b : Stamp) (m : ℕ) (o u : Stamp) → leq o (nest b m) ≡ true → leq u (nest b m) ≡ true
+    → is_met (image (NextAfterFirst m) o) u ≡ (true && leq o (nest (outer u) (counter u - 1)))
+met-next_after_first b m o u h k =
+    let v = of_loop b m o h in
+    let w = of_loop b m u k in
+    is_met-else (counter o == 0) o (fed_back m o) u
+    ∙ (λ i. cond (counter o == 0) (same v w i) ((is_met-if (nat_lt (counter o) m) (nest (outer o) (counter o + 1)) u ∙ ap (λ x. cond (nat_lt (counter o) m) x false) (leq-nested b m o u v w (counter o + 1))) i))
+    ∙ by (leq (outer o) (outer u)) (counter o) (counter u) m v.counted w.counted
+    ∙ ap (λ x. true && x) (sym (nested-leq b m o u v w (counter u - 1)))
+  where
+    same : IsOfLoop b m o → IsOfLoop b m u → leq o u ≡ (leq (outer o) (outer u) && nat_le (counter o) (counter u))
+    same v w = ap (leq o) (sym w.nested) ∙ nested-leq b m o u v w (counter u)
+
+    by : (a : Bool) (d c m : ℕ) → d ≤ m → c ≤ m → cond (d == 0) (a && nat_le d c) (cond (nat_lt d m) (a && nat_le (d + 1) c) false) ≡ (true && (a && nat_le d (c - 1)))
+    by true d c m p q = grind (arith, nat_tests)
+    by false d c m p q = grind (arith, nat_tests)
+
+met-before : (b : Stamp) (m : ℕ) (o u : Stamp) → leq o (nest b m) ≡ true → leq u (nest b m) ≡ true
+    → leq (nest (outer o) (counter o - 1)) u ≡ (true && leq o (nest (outer u) (min (counter u + 1) m)))
+met-before b m o u h k =
+    let v = of_loop b m o h in
+    let w = of_loop b m u k in
+    leq-nested b m o u v w (counter o - 1)
+    ∙ by (leq (outer o) (outer u)) (counter o) (counter u) m v.counted
+    ∙ ap (λ x. true && x) (sym (nested-leq b m o u v w (min (counter u + 1) m)))
+  where
+    test : (d c m : ℕ) → d ≤ m → nat_le (d - 1) c ≡ nat_le d (min (c + 1) m)
+    test d c m p = grind (arith, nat_tests)
+
+    by : (a : Bool) (d c m : ℕ) → d ≤ m → (a && nat_le (d - 1) c) ≡ (true && (a && nat_le d (min (c + 1) m)))
+    by a d c m p = ap (λ x. a && x) (test d c m p)
+
+met-outer : (b : Stamp) (m : ℕ) (o u : Stamp) → leq o (nest b m) ≡ true → leq u b ≡ true → leq (outer o) u ≡ (true && leq o (nest u m))
+met-outer b m o u h k =
+    let v = of_loop b m o h in
+    sym (ap (λ x. leq x (nest u m)) (sym v.nested) ∙ leq-nest (outer o) u (counter o) m (v.long ∙ sym (leq-length u b k)) ∙ by (leq (outer o) u) (nat_le (counter o) m) (to-le (counter o) m v.counted))
+  where
+    by : (a c : Bool) → c ≡ true → (a && c) ≡ a
+    by true c e = e
+    by false c e = refl
+
+met-outer_of_first : (b : Stamp) (m : ℕ) (o u : Stamp) → leq o (nest b m) ≡ true → leq u b ≡ true
+    → is_met (image OuterOfFirst o) u ≡ (true && leq o (nest u 0))
+met-outer_of_first b m o u h k =
+    let v = of_loop b m o h in
+    is_met-if (counter o == 0) (outer o) u
+    ∙ by (leq (outer o) u) (counter o)
+    ∙ sym (ap (λ x. leq x (nest u 0)) (sym v.nested) ∙ leq-nest (outer o) u (counter o) 0 (v.long ∙ sym (leq-length u b k)))
+  where
+    by : (a : Bool) (d : ℕ) → cond (d == 0) a false ≡ (a && nat_le d 0)
+    by true d = grind (arith, nat_tests)
+    by false d = grind (arith, nat_tests)
+
+-- ---- what is inside the images of each way, seen in the domain to which they go
+
+-- the images are the domain's, and have inside what passes the test
+pub record IsMoved (way : Way) (os : Front) (target : Bounds) (test : Frontier) : Type 0 where
+  pub images_in : AllByRecursion (λ s. in_domain target s ≡ true) (images way os)
+  pub same : (u : Stamp) → in_domain target u ≡ true → inside (images way os) u ≡ test u
+
+-- the test of a frontier on a stamp of its domain
+in-frontier : (b : Bounds) (os : Front) (v : Stamp) → in_domain b v ≡ true → inside os v ≡ frontier_of b os v
+in-frontier b os v h = sym (ap (λ c. c && inside os v) h)
+
+abbrev AreIn : Bounds → Front → Type 0
+AreIn b os = AllByRecursion (λ o. in_domain b o ≡ true) os
+
+pub first-moved : (s r : Bounds) (m : ℕ) (os : Front) → r.greatest ≡ nest s.greatest m → AreIn s os → IsMoved First os r (λ u. frontier_of s os (outer u))
+first-moved s r m os e h = record {
+  images_in = each-image First os (λ o. in_domain s o ≡ true) (λ w. in_domain r w ≡ true)
+      (λ o w d f. ap (in_domain r) (sym (some-is (nest o 0) w f)) ∙ ap (leq (nest o 0)) e ∙ nest-in s.greatest m o 0 d (omega arith)) h;
+  same = λ u i.
+      let k : leq u (nest s.greatest m) ≡ true = sym (ap (leq u) e) ∙ i in
+      inside-images First os (λ o. in_domain s o ≡ true) u (outer u) false (λ o d. met-first s.greatest m o u d k) h
+      ∙ in-frontier s os (outer u) (of_loop s.greatest m u k).outside;
+}
+
+pub next-moved : (s r : Bounds) (b : Stamp) (m : ℕ) (os : Front) → s.greatest ≡ nest b m → r.greatest ≡ nest b m → AreIn s os
+    → IsMoved (Next m) os r (λ u. counter u == 0 || frontier_of s os (nest (outer u) (counter u - 1)))
+next-moved s r b m os e f h = record {
+  images_in = each-image (Next m) os (λ o. in_domain s o ≡ true) (λ w. in_domain r w ≡ true)
+      (λ o w d g.
+      let v = of_loop b m o (sym (ap (leq o) e) ∙ d) in
+      let i = some_if (nat_lt (counter o) m) (nest (outer o) (counter o + 1)) w g in
+      ap (in_domain r) (sym i.1) ∙ ap (leq (nest (outer o) (counter o + 1))) f ∙ nest-in b m (outer o) (counter o + 1) v.outside (let l : counter o < m = lt-from (counter o) m i.0 in omega arith)) h;
+  same = λ u i.
+      let k : leq u (nest b m) ≡ true = sym (ap (leq u) f) ∙ i in
+      let w = of_loop b m u k in
+      let c = w.counted in
+      let v = nest (outer u) (counter u - 1) in
+      let j : in_domain s v ≡ true = ap (leq v) e ∙ nest-in b m (outer u) (counter u - 1) w.outside (omega arith) in
+      inside-images (Next m) os (λ o. in_domain s o ≡ true) u v (counter u == 0) (λ o d. met-next b m o u (sym (ap (leq o) e) ∙ d) k) h
+      ∙ ap (λ x. counter u == 0 || x) (in-frontier s os v j);
+}
+
+pub next_after_first-moved : (s r : Bounds) (b : Stamp) (m : ℕ) (os : Front) → s.greatest ≡ nest b m → r.greatest ≡ nest b m → AreIn s os
+    → IsMoved (NextAfterFirst m) os r (λ u. frontier_of s os (nest (outer u) (counter u - 1)))
+next_after_first-moved s r b m os e f h = record {
+  images_in = each-image (NextAfterFirst m) os (λ o. in_domain s o ≡ true) (λ w. in_domain r w ≡ true)
+      (λ o w d g. stays o w (sym (ap (leq o) e) ∙ d) (counter o == 0) (nat_lt (counter o) m) refl g) h;
+  same = λ u i.
+      let k : leq u (nest b m) ≡ true = sym (ap (leq u) f) ∙ i in
+      let w = of_loop b m u k in
+      let c = w.counted in
+      let v = nest (outer u) (counter u - 1) in
+      let j : in_domain s v ≡ true = ap (leq v) e ∙ nest-in b m (outer u) (counter u - 1) w.outside (omega arith) in
+      inside-images (NextAfterFirst m) os (λ o. in_domain s o ≡ true) u v false (λ o d. met-next_after_first b m o u (sym (ap (leq o) e) ∙ d) k) h
+      ∙ in-frontier s os v j;
+}
+  where
+    stays : (o w : Stamp) → leq o (nest b m) ≡ true → (a c : Bool) → nat_lt (counter o) m ≡ c → cond a (Some o) (cond c (Some (nest (outer o) (counter o + 1))) None) ≡ Some w → in_domain r w ≡ true
+    stays o w d true c g x = ap (in_domain r) (sym (some-is o w x)) ∙ ap (leq o) f ∙ d
+    stays o w d false true g x =
+        let v = of_loop b m o d in
+        ap (in_domain r) (sym (some-is (nest (outer o) (counter o + 1)) w x)) ∙ ap (leq (nest (outer o) (counter o + 1))) f ∙ nest-in b m (outer o) (counter o + 1) v.outside (let l : counter o < m = lt-from (counter o) m g in omega arith)
+    stays o w d false false g x = absurd (cc)
+
+pub before-moved : (s r : Bounds) (b : Stamp) (m : ℕ) (os : Front) → s.greatest ≡ nest b m → r.greatest ≡ nest b m → AreIn r os
+    → IsMoved Before os s (λ t. frontier_of r os (nest (outer t) (min (counter t + 1) m)))
+before-moved s r b m os e f h = record {
+  images_in = each-image Before os (λ o. in_domain r o ≡ true) (λ w. in_domain s w ≡ true)
+      (λ o w d g.
+      let v = of_loop b m o (sym (ap (leq o) f) ∙ d) in
+      let c = v.counted in
+      ap (in_domain s) (sym (some-is (nest (outer o) (counter o - 1)) w g)) ∙ ap (leq (nest (outer o) (counter o - 1))) e ∙ nest-in b m (outer o) (counter o - 1) v.outside (omega arith)) h;
+  same = λ t i.
+      let k : leq t (nest b m) ≡ true = sym (ap (leq t) e) ∙ i in
+      let w = of_loop b m t k in
+      let v = nest (outer t) (min (counter t + 1) m) in
+      let j : in_domain r v ≡ true = ap (leq v) f ∙ nest-in b m (outer t) (min (counter t + 1) m) w.outside (min-le_right (counter t + 1) m) in
+      inside-images Before os (λ o. in_domain r o ≡ true) t v false (λ o d. met-before b m o t (sym (ap (leq o) f) ∙ d) k) h
+      ∙ in-frontier r os v j;
+}
+
+pub outer-moved : (s r : Bounds) (m : ℕ) (os : Front) → s.greatest ≡ nest r.greatest m → AreIn s os → IsMoved Outer os r (λ u. frontier_of s os (nest u m))
+outer-moved s r m os e h = record {
+  images_in = each-image Outer os (λ o. in_domain s o ≡ true) (λ w. in_domain r w ≡ true)
+      (λ o w d g. ap (in_domain r) (sym (some-is (outer o) w g)) ∙ (of_loop r.greatest m o (sym (ap (leq o) e) ∙ d)).outside) h;
+  same = λ u i.
+      inside-images Outer os (λ o. in_domain s o ≡ true) u (nest u m) false (λ o d. met-outer r.greatest m o u (sym (ap (leq o) e) ∙ d) i) h
+      ∙ in-frontier s os (nest u m) (ap (leq (nest u m)) e ∙ nest-in r.greatest m u m i (omega arith));
+}
+
+pub outer_of_first-moved : (s r : Bounds) (m : ℕ) (os : Front) → s.greatest ≡ nest r.greatest m → AreIn s os → IsMoved OuterOfFirst os r (λ u. frontier_of s os (nest u 0))
+outer_of_first-moved s r m os e h = record {
+  images_in = each-image OuterOfFirst os (λ o. in_domain s o ≡ true) (λ w. in_domain r w ≡ true)
+      (λ o w d g.
+      let i = some_if (counter o == 0) (outer o) w g in
+      ap (in_domain r) (sym i.1) ∙ (of_loop r.greatest m o (sym (ap (leq o) e) ∙ d)).outside) h;
+  same = λ u i.
+      inside-images OuterOfFirst os (λ o. in_domain s o ≡ true) u (nest u 0) false (λ o d. met-outer_of_first r.greatest m o u (sym (ap (leq o) e) ∙ d) i) h
+      ∙ in-frontier s os (nest u 0) (ap (leq (nest u 0)) e ∙ nest-in r.greatest m u 0 i (omega arith));
+}
+
+-- ---- numbers
+
+-- a stamp of one coordinate
+pub of_line : (b : Bounds) (u : Stamp) → length b.greatest ≡ 1 → in_domain b u ≡ true → u ≡ number_of u ∷ []
+of_line b u l h = by u (leq-length u b.greatest h ∙ l)
+  where
+    by : (u : Stamp) → length u ≡ 1 → u ≡ number_of u ∷ []
+    by [] e = absurd (omega arith)
+    by (x ∷ []) e = refl
+    by (x ∷ y ∷ u) e = absurd (omega arith)
+
+-- a canonical list of stamps of one coordinate has at most one
+one-line : (b : Bounds) (o : Stamp) (os : Front) → length b.greatest ≡ 1 → IsCanonical b (o ∷ os) → os ≡ []
+one-line b o [] l h = refl
+one-line b o (q ∷ os) l h =
+    absurd (by (number_of o) (number_of q) (sym (λ i. leq (of_line b o l h.0.in_the_domain i) (of_line b q l h.1.0.in_the_domain i) || leq (of_line b q l h.1.0.in_the_domain i) (of_line b o l h.0.in_the_domain i)) ∙ h.0.incomparable.0))
+  where
+    by : (x y : ℕ) → ((nat_le x y && true) || (nat_le y x && true)) ≡ false → ⊥
+    by x y e = grind (arith, nat_tests)
+
+pub one-limit : (b : Bounds) (os : Front) (o : Stamp) (x : ℕ) → length b.greatest ≡ 1 → IsCanonical b os → 0 < length os → o ≡ get_or os 0 o → x ≡ slice_index o 0 → os ≡ (x ∷ []) ∷ []
+one-limit b [] o x l h some e f = absurd (omega arith)
+one-limit b (q ∷ os) o x l h some e f =
+    let line = of_line b q l h.0.in_the_domain in
+    (λ i. line i ∷ one-line b q os l h i) ∙ ap (λ n. (n ∷ []) ∷ []) (sym (f ∙ ap (λ u. slice_index u 0) (e ∙ line)))
+
+-- the numbers below a limit of the domain
+pub names-below_limit : (b : Bounds) (g limit : ℕ) (os : Front) → b.greatest ≡ g ∷ [] → Names b os (frontier_of b ((limit ∷ []) ∷ [])) → Names b os (λ u. in_domain b u && nat_lt (number_of u) limit)
+names-below_limit b g limit os e n = names-numbers b os (Some limit) number_of by (names-limit b g limit os e n)
+  where
+    by : (t : Stamp) → length t ≡ length b.greatest → number_of t ≡ slice_index t 0
+    by [] l = refl
+    by (x ∷ t) l = refl
+
+-- numbers of a domain by another test
+pub names-numbers_by : (b : Bounds) (g : ℕ) (os : Front) (f : ℕ → Bool) (test : Frontier) → b.greatest ≡ g ∷ [] → Names b os (λ u. in_domain b u && f (number_of u))
+    → ((u : Stamp) → number_of u ≤ g → f (number_of u) ≡ test u) → Names b os (λ u. in_domain b u && test u)
+names-numbers_by b g os f test e n h = names-as b os (λ u. in_domain b u && f (number_of u)) (λ u. in_domain b u && test u) n (λ u. by u (in_domain b u) refl)
+  where
+    small : (u : Stamp) → leq u (g ∷ []) ≡ true → number_of u ≤ g
+    small [] k = absurd (cc)
+    small (x ∷ u) k = le-from x g (and_left _ _ k)
+
+    by : (u : Stamp) (c : Bool) → in_domain b u ≡ c → (c && f (number_of u)) ≡ (c && test u)
+    by u true k = h u (small u (sym (ap (leq u) e) ∙ k))
+    by u false k = refl
+
+-- the test of the numbers below a limit
+below-limit : (b : Bounds) (g limit x : ℕ) → b.greatest ≡ g ∷ [] → frontier_of b (front_until (Some limit)) (x ∷ []) ≡ (nat_le x g && nat_lt x limit)
+below-limit b g limit x e = ap (λ t. leq (x ∷ []) t && inside ((limit ∷ []) ∷ []) (x ∷ [])) e ∙ by x g limit
+  where
+    by : (x g limit : ℕ) → ((nat_le x g && true) && (not (nat_le limit x && true) && true)) ≡ (nat_le x g && nat_lt x limit)
+    by x g limit = grind (arith, nat_tests)
+
+-- a limit of the domain
+pub limit-in : (b : Bounds) (g limit : ℕ) (os : Front) → b.greatest ≡ g ∷ [] → os ≡ front_until (Some limit) → IsCanonical b os → limit ≤ g
+limit-in b g limit os e f h =
+    let c : IsCanonical b ((limit ∷ []) ∷ []) = subst (IsCanonical b) f h in
+    le-from limit g (and_left _ _ (sym (ap (leq (limit ∷ [])) e) ∙ c.0.in_the_domain))
+
+-- two comparisons are one where each follows from the other
+lt-same : (a b c d : ℕ) → (a < b → c < d) → (c < d → a < b) → nat_lt a b ≡ nat_lt c d
+lt-same a b c d f g = by (nat_lt a b) refl (nat_lt c d) refl
+  where
+    by : (x : Bool) → nat_lt a b ≡ x → (y : Bool) → nat_lt c d ≡ y → x ≡ y
+    by true e true h = refl
+    by true e false h = let l : a < b = lt-from a b e in let m = f l in absurd (not_less c d h m)
+      where
+        not_less : (c d : ℕ) → nat_lt c d ≡ false → c < d → ⊥
+        not_less c d h m = grind (arith, nat_tests)
+    by false e true h = let l : c < d = lt-from c d h in let m = g l in absurd (not_less a b e m)
+      where
+        not_less : (a b : ℕ) → nat_lt a b ≡ false → a < b → ⊥
+        not_less a b h m = grind (arith, nat_tests)
+    by false e false h = refl
+
+-- regrouped, an epoch up to whose last number all are inside
+pub phi-regroup : (n g limit k : ℕ) → 1 ≤ n → limit ≤ g → nat_lt k (limit / n) ≡ (nat_le (min (k * n + n - 1) g) g && nat_lt (min (k * n + n - 1) g) limit)
+phi-regroup n g limit k p q =
+    let a = le-div_iff_mul-le {k = n} {x = k + 1} {y = limit} (omega arith) in
+    lt-same k (limit / n) (min (k * n + n - 1) g) limit
+    (λ h. let x : (k + 1) * n ≤ limit = a.0 (omega arith) in let y = min-le_left (k * n + n - 1) g in omega arith)
+    (λ h. let x : k + 1 ≤ limit / n = a.1 (above (k * n) h) in omega arith)
+    ∙ by (nat_lt (min (k * n + n - 1) g) limit) (nat_le (min (k * n + n - 1) g) g) (to-le (min (k * n + n - 1) g) g (min-le_right (k * n + n - 1) g))
+  where
+    by : (c a : Bool) → a ≡ true → c ≡ (a && c)
+    by c true e = refl
+    by true false e = sym e
+    by false false e = refl
+
+    least : (x g limit : ℕ) → min x g < limit → limit ≤ g → x < limit
+    least x g limit h q = grind (arith, nat_tests)
+
+    above : (kn : ℕ) → min (k * n + n - 1) g < limit → (k + 1) * n ≤ limit
+    above kn h = let l = least (k * n + n - 1) g limit h q in omega arith
+
+-- an epoch whose first number is inside
+pub psi-regroup : (n end k : ℕ) → 1 ≤ n → nat_lt k (end / n + min 1 (end % n)) ≡ nat_lt (k * n) end
+psi-regroup n end k p = by (end / n) (end % n) (div-add-mod' end n) (mod-lt end (omega arith))
+  where
+    by : (q r : ℕ) → q * n + r ≡ end → r < n → nat_lt k (q + min 1 r) ≡ nat_lt (k * n) end
+    by q zero e l = lt-same k (q + min 1 zero) (k * n) end
+        (λ h. let x : (k + 1) * n ≤ q * n = mul-le-mul_right {m = k + 1} {n = q} n (omega arith) in omega arith)
+        (λ h. less q (λ (g : q ≤ k). let x : q * n ≤ k * n = mul-le-mul_right {m = q} {n = k} n g in omega arith))
+      where
+        less : (q : ℕ) → (q ≤ k → ⊥) → k < q + 0
+        less q f = grind (arith, nat_tests)
+    by q (suc r) e l = lt-same k (q + min 1 (suc r)) (k * n) end
+        (λ h. let x : k * n ≤ q * n = mul-le-mul_right {m = k} {n = q} n (few q r h) in omega arith)
+        (λ h. less q r (λ (g : q + 1 ≤ k). let x : (q + 1) * n ≤ k * n = mul-le-mul_right {m = q + 1} {n = k} n g in omega arith))
+      where
+        few : (q r : ℕ) → k < q + min 1 (suc r) → k ≤ q
+        few q r h = grind (arith, nat_tests)
+
+        less : (q r : ℕ) → (q + 1 ≤ k → ⊥) → k < q + min 1 (suc r)
+        less q r f = grind (arith, nat_tests)
+
+-- the numbers of the epochs below a limit
+pub psi_back-regroup : (n limit x : ℕ) → 1 ≤ n → nat_lt x (limit * n) ≡ nat_lt (x / n) limit
+psi_back-regroup n limit x p =
+    let a = div-lt_iff_lt-mul {k = n} {x = x} {y = limit} (omega arith) in
+    lt-same x (limit * n) (x / n) limit a.1 a.0
+
+-- ---- the domains of each kind
+
+-- the greatest stamps of the domains that an enter joins
+enter-domains : (l : ℕ) (s r : Bounds) → JoinsDomains (Enter l) s r → (m : ℕ) × (s.greatest ≡ greatest_number ∷ []) × (r.greatest ≡ nest s.greatest m)
+enter-domains l s r d =
+    let e : s.greatest ≡ greatest_number ∷ [] = ap (λ b. b.greatest) d.1 in
+    let f : r.greatest ≡ nest (greatest_number ∷ []) (max_of d.0 l) = ap (λ b. b.greatest) d.2 in
+    (max_of d.0 l, e, f ∙ ap (λ b. nest b (max_of d.0 l)) (sym e))
+
+-- those that a leave joins
+leave-domains : (l : ℕ) (s r : Bounds) → JoinsDomains (Leave l) s r → (s.greatest ≡ nest r.greatest (counter s.greatest)) × (r.greatest ≡ greatest_number ∷ [])
+leave-domains l s r d =
+    let e : s.greatest ≡ nest (greatest_number ∷ []) (max_of d.0 l) = ap (λ b. b.greatest) d.1 in
+    let f : r.greatest ≡ greatest_number ∷ [] = ap (λ b. b.greatest) d.2 in
+    (e ∙ (λ i. nest (sym f i) (sym (ap counter e) i)), f)
+
+-- those that a feedback joins
+feedback-domains : (l : ℕ) (s r : Bounds) → JoinsDomains (Feedback l) s r
+    → (s.greatest ≡ nest (greatest_number ∷ []) (counter s.greatest)) × (r.greatest ≡ nest (greatest_number ∷ []) (counter s.greatest))
+feedback-domains l s r d =
+    let e : s.greatest ≡ nest (greatest_number ∷ []) (max_of d.0 l) = ap (λ b. b.greatest) d.1 in
+    let f : r.greatest ≡ nest (greatest_number ∷ []) (max_of d.0 l) = ap (λ b. b.greatest) d.2 in
+    (e ∙ ap (nest (greatest_number ∷ [])) (sym (ap counter e)), f ∙ ap (nest (greatest_number ∷ [])) (sym (ap counter e)))
+
+-- those that a regroup joins
+pub regroup-domains : (n : ℕ) (s r : Bounds) → JoinsDomains (Regroup n) s r → (s.greatest ≡ greatest_number ∷ []) × (r.greatest ≡ greatest_number ∷ [])
+regroup-domains n s r d = (ap (λ b. b.greatest) d.1, ap (λ b. b.greatest) d.2)
+
+-- and those that a sequence joins
+pub sequence-domains : (s r : Bounds) → JoinsDomains Sequence s r → (s.greatest ≡ greatest_number ∷ []) × (r.greatest ≡ greatest_number ∷ [])
+sequence-domains s r d = (ap (λ b. b.greatest) d.1, ap (λ b. b.greatest) d.2)
+
+-- the stamps of a domain of one to three coordinates may be nested
+nests : (b : Bounds) (n : ℕ) (os : Front) → length b.greatest ≡ n → 0 < n → n < 4 → AreIn b os → AllByRecursion IsNest os
+nests b n [] e some few h = tt
+nests b n (o ∷ os) e some few h =
+    let l = leq-length o b.greatest h.0 in
+    ((omega (arith, l), omega (arith, l)), nests b n os e some few h.1)
+
+pub nests-enter_sender : (l : ℕ) (s r : Bounds) (os : Front) → JoinsDomains (Enter l) s r → IsCanonical s os → AllByRecursion IsNest os
+nests-enter_sender l s r os d h = nests s 1 os (ap length (enter-domains l s r d).1) (omega arith) (omega arith) (in_domain-canonical s os h)
+
+pub nests-enter_receiver : (l : ℕ) (s r : Bounds) (os : Front) → JoinsDomains (Enter l) s r → IsCanonical r os → AllByRecursion IsNest os
+nests-enter_receiver l s r os d h =
+    let e = enter-domains l s r d in
+    nests r 2 os (ap length (e.2 ∙ ap (λ b. nest b e.0) e.1)) (omega arith) (omega arith) (in_domain-canonical r os h)
+
+pub nests-feedback_sender : (l : ℕ) (s r : Bounds) (os : Front) → JoinsDomains (Feedback l) s r → IsCanonical s os → AllByRecursion IsNest os
+nests-feedback_sender l s r os d h = nests s 2 os (ap length (feedback-domains l s r d).0) (omega arith) (omega arith) (in_domain-canonical s os h)
+
+pub nests-feedback_receiver : (l : ℕ) (s r : Bounds) (os : Front) → JoinsDomains (Feedback l) s r → IsCanonical r os → AllByRecursion IsNest os
+nests-feedback_receiver l s r os d h = nests r 2 os (ap length (feedback-domains l s r d).1) (omega arith) (omega arith) (in_domain-canonical r os h)
+
+pub nests-leave_sender : (l : ℕ) (s r : Bounds) (os : Front) → JoinsDomains (Leave l) s r → IsCanonical s os → AllByRecursion IsNest os
+nests-leave_sender l s r os d h =
+    let e = leave-domains l s r d in
+    nests s 2 os (ap length (e.0 ∙ ap (λ b. nest b (counter s.greatest)) e.1)) (omega arith) (omega arith) (in_domain-canonical s os h)
+
+pub nests-leave_receiver : (l : ℕ) (s r : Bounds) (os : Front) → JoinsDomains (Leave l) s r → IsCanonical r os → AllByRecursion IsNest os
+nests-leave_receiver l s r os d h = nests r 1 os (ap length (leave-domains l s r d).1) (omega arith) (omega arith) (in_domain-canonical r os h)
+
+-- ---- phi, psi and psi backwards through a loop
+
+-- the same, by a test that agrees on the domain
+moved-as : (way : Way) (os : Front) (r : Bounds) (f g : Frontier) → IsMoved way os r f → ((u : Stamp) → in_domain r u ≡ true → f u ≡ g u) → IsMoved way os r g
+moved-as way os r f g m h = record { images_in = m.images_in; same = λ u i. m.same u i ∙ h u i }
+
+-- a frontier has all counters of a stamp where it has the last
+each-last : (s : Bounds) (os : Front) (b : Stamp) (m c : ℕ) (u : Stamp) → s.greatest ≡ nest b m → leq u b ≡ true → c ≤ m → each_counter (frontier_of s os) u c ≡ frontier_of s os (nest u c)
+each-last s os b m zero u e i l = refl
+each-last s os b m (suc c) u e i l =
+    ap (λ x. frontier_of s os (nest u (suc c)) && x) (each-last s os b m c u e i (omega arith))
+    ∙ by (frontier_of s os (nest u (suc c))) (frontier_of s os (nest u c))
+    ((frontier-closed s os).closed (nest u c) (nest u (suc c)) (ap (leq (nest u c)) e ∙ nest-in b m u c i (omega arith)) (higher u c))
+  where
+    by : (x y : Bool) → (x ≡ true → y ≡ true) → (x && y) ≡ x
+    by true y h = h refl
+    by false y h = refl
+
+    higher : (u : Stamp) (c : ℕ) → leq (nest u c) (nest u (suc c)) ≡ true
+    higher u c = leq-nest u u c (suc c) refl ∙ both (leq u u) (nat_le c (suc c)) (leq-refl u) (to-le c (suc c) (omega arith))
+
+-- and one of them where it has the first
+some-first : (s : Bounds) (os : Front) (b : Stamp) (m c : ℕ) (u : Stamp) → s.greatest ≡ nest b m → leq u b ≡ true → c ≤ m → some_counter (frontier_of s os) u c ≡ frontier_of s os (nest u 0)
+some-first s os b m zero u e i l = refl
+some-first s os b m (suc c) u e i l =
+    ap (λ x. frontier_of s os (nest u (suc c)) || x) (some-first s os b m c u e i (omega arith))
+    ∙ by (frontier_of s os (nest u (suc c))) (frontier_of s os (nest u 0))
+    ((frontier-closed s os).closed (nest u 0) (nest u (suc c)) (ap (leq (nest u 0)) e ∙ nest-in b m u 0 i (omega arith)) (higher u c))
+  where
+    by : (x y : Bool) → (x ≡ true → y ≡ true) → (x || y) ≡ y
+    by true y h = sym (h refl)
+    by false y h = refl
+
+    higher : (u : Stamp) (c : ℕ) → leq (nest u 0) (nest u (suc c)) ≡ true
+    higher u c = leq-nest u u 0 (suc c) refl ∙ both (leq u u) (nat_le 0 (suc c)) (leq-refl u) (to-le 0 (suc c) (omega arith))
+
+pub phi-enter : (l count : ℕ) (s r : Bounds) (os : Front) → JoinsDomains (Enter l) s r → IsCanonical s os → IsMoved First os r (phi_of_kind s.greatest (Enter l) count (frontier_of s os))
+phi-enter l count s r os d h = let e = enter-domains l s r d in first-moved s r e.0 os e.2 (in_domain-canonical s os h)
+
+pub phi-feedback : (l count : ℕ) (s r : Bounds) (os : Front) → JoinsDomains (Feedback l) s r → IsCanonical s os
+    → IsMoved (Next (counter s.greatest)) os r (phi_of_kind s.greatest (Feedback l) count (frontier_of s os))
+phi-feedback l count s r os d h =
+    let e = feedback-domains l s r d in
+    next-moved s r (greatest_number ∷ []) (counter s.greatest) os e.0 e.1 (in_domain-canonical s os h)
+
+pub phi-leave : (l count : ℕ) (s r : Bounds) (os : Front) → JoinsDomains (Leave l) s r → IsCanonical s os → IsMoved Outer os r (phi_of_kind s.greatest (Leave l) count (frontier_of s os))
+phi-leave l count s r os d h =
+    let e = leave-domains l s r d in
+    moved-as Outer os r (λ u. frontier_of s os (nest u (counter s.greatest))) (phi_of_kind s.greatest (Leave l) count (frontier_of s os))
+    (outer-moved s r (counter s.greatest) os e.0 (in_domain-canonical s os h))
+    (λ u i. sym (each-last s os r.greatest (counter s.greatest) (counter s.greatest) u e.0 i (omega arith)))
+
+pub psi-feedback : (l : ℕ) (s r : Bounds) (os : Front) → JoinsDomains (Feedback l) s r → IsCanonical s os
+    → IsMoved (NextAfterFirst (counter s.greatest)) os r (psi_of_kind s.greatest (Feedback l) (frontier_of s os))
+psi-feedback l s r os d h =
+    let e = feedback-domains l s r d in
+    next_after_first-moved s r (greatest_number ∷ []) (counter s.greatest) os e.0 e.1 (in_domain-canonical s os h)
+
+pub psi-leave : (l : ℕ) (s r : Bounds) (os : Front) → JoinsDomains (Leave l) s r → IsCanonical s os → IsMoved OuterOfFirst os r (psi_of_kind s.greatest (Leave l) (frontier_of s os))
+psi-leave l s r os d h =
+    let e = leave-domains l s r d in
+    moved-as OuterOfFirst os r (λ u. frontier_of s os (nest u 0)) (psi_of_kind s.greatest (Leave l) (frontier_of s os))
+    (outer_of_first-moved s r (counter s.greatest) os e.0 (in_domain-canonical s os h))
+    (λ u i. sym (some-first s os r.greatest (counter s.greatest) (counter s.greatest) u e.0 i (omega arith)))
+
+pub psi_back-enter : (l : ℕ) (s r : Bounds) (os : Front) → JoinsDomains (Enter l) s r → IsCanonical r os → IsMoved OuterOfFirst os s (psi_back_of_kind s.greatest (Enter l) (frontier_of r os))
+psi_back-enter l s r os d h = let e = enter-domains l s r d in outer_of_first-moved r s e.0 os e.2 (in_domain-canonical r os h)
+
+pub psi_back-feedback : (l : ℕ) (s r : Bounds) (os : Front) → JoinsDomains (Feedback l) s r → IsCanonical r os → IsMoved Before os s (psi_back_of_kind s.greatest (Feedback l) (frontier_of r os))
+psi_back-feedback l s r os d h =
+    let e = feedback-domains l s r d in
+    before-moved s r (greatest_number ∷ []) (counter s.greatest) os e.0 e.1 (in_domain-canonical r os h)
+
+pub psi_back-leave : (l : ℕ) (s r : Bounds) (os : Front) → JoinsDomains (Leave l) s r → IsCanonical r os → IsMoved First os s (psi_back_of_kind s.greatest (Leave l) (frontier_of r os))
+psi_back-leave l s r os d h = let e = leave-domains l s r d in first-moved r s (counter s.greatest) os e.0 (in_domain-canonical r os h)
+
+-- what is moved names the frontier that the test has
+pub moved-ok : {E : Type 0} (way : Way) (os : Front) (r : Bounds) (test : Frontier) (res : Result Front E) → IsMoved way os r test
+    → ((b : Bounds) → AreIn b (images way os) → IfOk res (λ g. Names b g (frontier_of b (images way os))))
+    → IfOk res (λ g. Names r g (λ u. in_domain r u && test u))
+moved-ok way os r test res m h =
+    IfOk-weaker res (λ g. Names r g (frontier_of r (images way os))) (λ g. Names r g (λ u. in_domain r u && test u))
+    (λ g n. names-by r g (images way os) test n m.same) (h r m.images_in)
+
+-- ---- what enters a loop is at counter 0
+
+inside-append : (xs ys : Front) (u : Stamp) → inside (xs ++ ys) u ≡ (inside xs u && inside ys u)
+inside-append [] ys u = refl
+inside-append (x ∷ xs) ys u = ap (λ c. not (leq x u) && c) (inside-append xs ys u) ∙ assoc (not (leq x u)) (inside xs u) (inside ys u)
+  where
+    assoc : (a b c : Bool) → (a && (b && c)) ≡ ((a && b) && c)
+    assoc true b c = refl
+    assoc false b c = refl
+
+all-append : (P : Stamp → Type 0) (xs ys : Front) → AllByRecursion P xs → AllByRecursion P ys → AllByRecursion P (xs ++ ys)
+all-append P [] ys h k = k
+all-append P (x ∷ xs) ys h k = (h.0, all-append P xs ys h.1 k)
+
+pub length-origin : (s : Stamp) → length (origin s) ≡ length s
+length-origin s = leq-length (origin s) s (origin-leq s s refl)
+
+-- outside from counter 1 on
+from_one : (b : Stamp) (m : ℕ) (u : Stamp) → leq u (nest b m) ≡ true
+    → inside (cond (nat_lt 0 m) (nest (origin b) 1 ∷ []) []) u ≡ (counter u == 0)
+from_one b m u h = by (nat_lt 0 m) refl
+  where
+    v : IsOfLoop b m u
+    v = of_loop b m u h
+
+    at : leq (nest (origin b) 1) u ≡ nat_le 1 (counter u)
+    at =
+        ap (leq (nest (origin b) 1)) (sym v.nested)
+        ∙ leq-nest (origin b) (outer u) 1 (counter u) (length-origin b ∙ sym v.long)
+        ∙ ap (λ c. c && nat_le 1 (counter u)) (origin-leq b (outer u) (sym v.long))
+
+    some : (c : ℕ) → (not (nat_le 1 c) && true) ≡ (c == 0)
+    some c = grind (arith, nat_tests)
+
+    none : (m c : ℕ) → nat_lt 0 m ≡ false → c ≤ m → true ≡ (c == 0)
+    none m c e l = grind (arith, nat_tests)
+
+    by : (x : Bool) → nat_lt 0 m ≡ x → inside (cond x (nest (origin b) 1 ∷ []) []) u ≡ (counter u == 0)
+    by true e = ap (λ c. not c && true) at ∙ some (counter u)
+    by false e = none m (counter u) e v.counted
+
+pub psi-enter_in : (l : ℕ) (s r : Bounds) (os : Front) → JoinsDomains (Enter l) s r → IsCanonical s os → AreIn r (entered_outside s r os)
+psi-enter_in l s r os d h =
+    let e = enter-domains l s r d in
+    let m = first-moved s r e.0 os e.2 (in_domain-canonical s os h) in
+    all-append (λ o. in_domain r o ≡ true) (images First os) (cond (nat_lt 0 (counter r.greatest)) (nest (origin s.greatest) 1 ∷ []) [])
+    m.images_in (one e.0 e.2 (nat_lt 0 (counter r.greatest)) refl)
+  where
+    one : (m : ℕ) → r.greatest ≡ nest s.greatest m → (x : Bool) → nat_lt 0 (counter r.greatest) ≡ x → AreIn r (cond x (nest (origin s.greatest) 1 ∷ []) [])
+    one m e true f =
+        let c : counter r.greatest ≡ m = ap counter e ∙ counter-nest s.greatest m in
+        let p : 0 < counter r.greatest = lt-from 0 (counter r.greatest) f in
+        (ap (leq (nest (origin s.greatest) 1)) e ∙ nest-in s.greatest m (origin s.greatest) 1 (origin-leq s.greatest s.greatest refl) (omega (arith, c)), tt)
+    one m e false f = tt
+
+pub psi-enter_same : (l : ℕ) (s r : Bounds) (os : Front) → JoinsDomains (Enter l) s r → IsCanonical s os → (u : Stamp) → in_domain r u ≡ true
+    → inside (entered_outside s r os) u ≡ psi_of_kind s.greatest (Enter l) (frontier_of s os) u
+psi-enter_same l s r os d h u i =
+    let e = enter-domains l s r d in
+    let m = first-moved s r e.0 os e.2 (in_domain-canonical s os h) in
+    let c : counter r.greatest ≡ e.0 = ap counter e.2 ∙ counter-nest s.greatest e.0 in
+    inside-append (images First os) (cond (nat_lt 0 (counter r.greatest)) (nest (origin s.greatest) 1 ∷ []) []) u
+    ∙ (λ j. m.same u i j && (ap (λ n. inside (cond (nat_lt 0 n) (nest (origin s.greatest) 1 ∷ []) []) u) c ∙ from_one s.greatest e.0 u (sym (ap (leq u) e.2) ∙ i)) j)
+    ∙ swap (frontier_of s os (outer u)) (counter u == 0)
+  where
+    swap : (a b : Bool) → (a && b) ≡ (b && a)
+    swap true true = refl
+    swap true false = refl
+    swap false true = refl
+    swap false false = refl
+
+-- ---- regrouping
+
+pub phi-regroup_ok : (n limit count : ℕ) (s r : Bounds) (os g : Front) → 1 ≤ n → JoinsDomains (Regroup n) s r → IsCanonical s os → os ≡ front_until (Some limit)
+    → Names r g (λ u. in_domain r u && nat_lt (number_of u) (limit / n)) → Names r g (λ u. in_domain r u && phi_of_kind s.greatest (Regroup n) count (frontier_of s os) u)
+phi-regroup_ok n limit count s r os g p d h f named =
+    let e = regroup-domains n s r d in
+    let x : Stamp → ℕ = λ u. min (number_of u * n + n - 1) (number_of s.greatest) in
+    names-numbers_by r greatest_number g (λ k. nat_lt k (limit / n)) (phi_of_kind s.greatest (Regroup n) count (frontier_of s os)) e.1 named
+    (λ u l.
+    phi-regroup n greatest_number limit (number_of u) p (limit-in s greatest_number limit os e.0 f h)
+    ∙ sym (below-limit s greatest_number limit (min (number_of u * n + n - 1) greatest_number) e.0)
+    ∙ (λ j. frontier_of s (sym f j) (min (number_of u * n + n - 1) (number_of (sym e.0 j)) ∷ [])))
+
+pub psi-regroup_ok : (n end : ℕ) (s r : Bounds) (os g : Front) → 1 ≤ n → JoinsDomains (Regroup n) s r → ((x : ℕ) → frontier_of s os (x ∷ []) ≡ nat_lt x end)
+    → Names r g (λ u. in_domain r u && nat_lt (number_of u) (end / n + min 1 (end % n))) → Names r g (λ u. in_domain r u && psi_of_kind s.greatest (Regroup n) (frontier_of s os) u)
+psi-regroup_ok n end s r os g p d f named =
+    names-numbers_by r greatest_number g (λ k. nat_lt k (end / n + min 1 (end % n))) (psi_of_kind s.greatest (Regroup n) (frontier_of s os)) (regroup-domains n s r d).1 named
+    (λ u l. psi-regroup n end (number_of u) p ∙ sym (f (number_of u * n)))
+
+-- the numbers inside, by where they end
+pub end-limit : (n limit : ℕ) (s r : Bounds) (os : Front) → JoinsDomains (Regroup n) s r → IsCanonical s os → os ≡ front_until (Some limit) → (x : ℕ) → frontier_of s os (x ∷ []) ≡ nat_lt x limit
+end-limit n limit s r os d h f x =
+    let e = regroup-domains n s r d in
+    (λ j. frontier_of s (f j) (x ∷ [])) ∙ below-limit s greatest_number limit x e.0 ∙ by x greatest_number limit (limit-in s greatest_number limit os e.0 f h)
+  where
+    by : (x g limit : ℕ) → limit ≤ g → (nat_le x g && nat_lt x limit) ≡ nat_lt x limit
+    by x g limit l = grind (arith, nat_tests)
+
+pub end-all : (n end : ℕ) (s r : Bounds) (os : Front) → JoinsDomains (Regroup n) s r → os ≡ front_until None → end ≡ slice_index s.greatest 0 + 1 → (x : ℕ) → frontier_of s os (x ∷ []) ≡ nat_lt x end
+end-all n end s r os d f k x =
+    let e = (regroup-domains n s r d).0 in
+    (λ j. frontier_of s (f j) (x ∷ [])) ∙ ap (λ t. leq (x ∷ []) t && true) e ∙ by x greatest_number end (k ∙ ap (λ t. slice_index t 0 + 1) e)
+  where
+    by : (x g end : ℕ) → end ≡ g + 1 → ((nat_le x g && true) && true) ≡ nat_lt x end
+    by x g end e = grind (arith, nat_tests)
+
+pub psi_back-regroup_ok : (n limit : ℕ) (s r : Bounds) (os g : Front) → 1 ≤ n → JoinsDomains (Regroup n) s r → os ≡ front_until (Some limit)
+    → Names s g (λ u. in_domain s u && nat_lt (number_of u) (limit * n)) → Names s g (λ u. in_domain s u && psi_back_of_kind s.greatest (Regroup n) (frontier_of r os) u)
+psi_back-regroup_ok n limit s r os g p d f named =
+    let e = regroup-domains n s r d in
+    names-numbers_by s greatest_number g (λ k. nat_lt k (limit * n)) (psi_back_of_kind s.greatest (Regroup n) (frontier_of r os)) e.0 named
+    (λ u l.
+    psi_back-regroup n limit (number_of u) p
+    ∙ by (nat_le (number_of u / n) greatest_number) (nat_lt (number_of u / n) limit) (to-le (number_of u / n) greatest_number (omega (arith, div-le_self (number_of u) n)))
+    ∙ sym (below-limit r greatest_number limit (number_of u / n) e.1)
+    ∙ (λ j. frontier_of r (sym f j) ((number_of u / n) ∷ [])))
+  where
+    by : (a c : Bool) → a ≡ true → c ≡ (a && c)
+    by true c e = refl
+    by false true e = sym e
+    by false false e = refl
+
+-- ---- a table of what was sent
+
+pub table-drop : (f : Frontier) (es : List (ℕ × ℕ)) (i : ℕ) → i < length es
+    → table_count f (drop i es) ≡ cond (f ((get_or es i (0, 0)).0 ∷ [])) ((get_or es i (0, 0)).1 + table_count f (drop (i + 1) es)) (table_count f (drop (i + 1) es))
+table-drop f es i h = rw add-one (by es i h)
+  where
+    by : (es : List (ℕ × ℕ)) (i : ℕ) → i < length es
+        → table_count f (drop i es) ≡ cond (f ((get_or es i (0, 0)).0 ∷ [])) ((get_or es i (0, 0)).1 + table_count f (drop (suc i) es)) (table_count f (drop (suc i) es))
+    by [] i h = absurd (omega arith)
+    by (e ∷ es) zero h = refl
+    by (e ∷ es) (suc i) h = by es i (omega arith)
+
+-- an entry more is counted
+pub counted-then : (t t2 x rest all : ℕ) → t2 ≡ min (t + x) (2 ^ 64 - 1) → min (t + (x + rest)) (2 ^ 64 - 1) ≡ min all (2 ^ 64 - 1) → min (t2 + rest) (2 ^ 64 - 1) ≡ min all (2 ^ 64 - 1)
+counted-then t t2 x rest all e h = ap (λ n. min (n + rest) (2 ^ 64 - 1)) e ∙ by t x rest ∙ h
+  where
+    by : (t x rest : ℕ) → min (min (t + x) (2 ^ 64 - 1) + rest) (2 ^ 64 - 1) ≡ min (t + (x + rest)) (2 ^ 64 - 1)
+    by t x rest = grind (arith, nat_tests)
+
+-- all entries are counted
+pub counted-all : (f : Frontier) (es : List (ℕ × ℕ)) (i t : ℕ) → length es ≤ i → t ≤ 2 ^ 64 - 1
+    → min (t + table_count f (drop i es)) (2 ^ 64 - 1) ≡ min (table_count f es) (2 ^ 64 - 1) → t ≡ min (table_count f es) (2 ^ 64 - 1)
+counted-all f es i t l h e = by t h ∙ ap (λ us. min (t + table_count f us) (2 ^ 64 - 1)) (sym (drop_all i es l)) ∙ e
+  where
+    by : (t : ℕ) → t ≤ 2 ^ 64 - 1 → t ≡ min (t + 0) (2 ^ 64 - 1)
+    by t h = grind (arith, nat_tests)
+
+-- the numbers sent, of a sequence that has not all inside
+pub phi-sequence_ok : (limit count small : ℕ) (s r : Bounds) (os g : Front) → JoinsDomains Sequence s r → IsCanonical s os → os ≡ front_until (Some limit) → small ≡ min count (2 ^ 64 - 1)
+    → Names r g (λ u. in_domain r u && nat_lt (number_of u) small) → Names r g (λ u. in_domain r u && phi_of_kind s.greatest Sequence count (frontier_of s os) u)
+phi-sequence_ok limit count small s r os g d h f k named =
+    let e = sequence-domains s r d in
+    let lost : frontier_of s os s.greatest ≡ false =
+    (λ j. frontier_of s (f j) (e.0 j)) ∙ below-limit s greatest_number limit greatest_number e.0 ∙ past greatest_number limit (limit-in s greatest_number limit os e.0 f h) in
+    names-numbers_by r greatest_number g (λ n. nat_lt n small) (phi_of_kind s.greatest Sequence count (frontier_of s os)) e.1 named
+    (λ u l. by (number_of u) count small l k ∙ ap (λ c. c || nat_lt (number_of u) count) (sym lost))
+  where
+    past : (g limit : ℕ) → limit ≤ g → (nat_le g g && nat_lt g limit) ≡ false
+    past g limit l = grind (arith, nat_tests)
+
+    by : (n count small : ℕ) → n ≤ greatest_number → small ≡ min count (2 ^ 64 - 1) → nat_lt n small ≡ nat_lt n count
+    by n count small l k = grind (arith, nat_tests)

@@ -1,0 +1,54 @@
+-- The parts of a flow before its limits are tested.
+use Rattle.std.specs.Prelude.{◌≡◌, ℕ, nat_le, ◌==◌, ◌+◌, if◌then◌else◌, List, [], ◌∷◌, map, length}
+use Rattle.std.specs.List.{flat_map}
+use Rattle.fw_flow.specs.declared.check.Counts.{Counts}
+use Rattle.fw_flow.specs.declared.kind.Kind.{Kind}
+use Rattle.fw_flow.specs.declared.kind.Kind.TheVariants.{Regroup}
+use Rattle.fw_flow.specs.declared.node.Loop.{Loop}
+use Rattle.fw_flow.specs.declared.node.Node.{Node}
+use Rattle.fw_flow.specs.declared.parts.Parts.{Parts}
+use Rattle.fw_flow.specs.declared.raw.Declared.{Declared}
+use Rattle.fw_flow.specs.declared.raw.NameSpaces.{NameSpaces}
+use Rattle.fw_flow.specs.Check.{node_lines, edge_lines}
+use Rattle.fw_flow.specs.Dataflow.{Dataflow, greatest_number}
+use Rattle.fw_flow.specs.Raw.{loop_names, node_names, edge_names, loop_in, node_in, edge_in}
+
+-- the number, or the greatest one of 32 bits if it is past that
+abbrev pub capped : ℕ → ℕ
+capped n = if nat_le n greatest_number then n else greatest_number
+
+-- the kind with its size capped
+abbrev pub capped_kind : Kind → Kind
+capped_kind (Regroup n) = Regroup (capped n)
+capped_kind kind = kind
+
+-- the loop with its greatest counter capped
+abbrev pub capped_loop : Loop → Loop
+capped_loop l = record { name = l.name; max = capped l.max }
+
+-- the node with its size capped
+abbrev pub capped_node : Node → Node
+capped_node node = record { name = node.name; kind = capped_kind node.kind; policy = node.policy }
+
+-- the flow with its sizes and counters capped
+abbrev pub capped_flow : Dataflow → Dataflow
+capped_flow flow = record { loops = map capped_loop flow.loops; nodes = map capped_node flow.nodes; edges = flow.edges }
+
+-- these are the parts that the declarations give, with these names
+pub record ArePartsOf (parts : Parts) (names : NameSpaces) (raw : List Declared) : Type 0 where
+  pub all_loops : parts.loops.items ≡ map capped_loop (flat_map loop_in raw)
+  pub all_nodes : parts.nodes.items ≡ map capped_node (flat_map (node_in names.loops) raw)
+  pub all_edges : parts.edges.items ≡ flat_map (edge_in names.nodes) raw
+  pub lines_of_nodes : parts.node_lines.items ≡ node_lines raw
+  pub lines_of_edges : parts.edge_lines.items ≡ edge_lines raw
+
+-- so many loops, nodes and edges are declared
+pub record AreCountsOf (counts : Counts) (raw : List Declared) : Type 0 where
+  pub of_loops : counts.loops ≡ length (loop_names raw)
+  pub of_nodes : counts.nodes ≡ length (node_names raw)
+  pub of_edges : counts.edges ≡ length (edge_names raw)
+
+-- the places, counted from n, of the ends that are this node
+abbrev pub places_from : ℕ → List ℕ → ℕ → List ℕ
+places_from n [] p = []
+places_from n (end ∷ ends) p = if end == p then n ∷ places_from (n + 1) ends p else places_from (n + 1) ends p

@@ -1,0 +1,43 @@
+-- Where the outside stamps of a frontier go when it is projected.
+use Rattle.std.specs.Prelude.{◌≡◌, ℕ, ◌-◌, ◌<◌, ◌==◌, nat_lt, if◌then◌else◌, List, [], ◌∷◌, ◌++◌, length, Option, Some, None, option_to_list}
+use Rattle.fw_time.specs.declared.stamp.Bounds.{Bounds}
+use Rattle.fw_time.specs.Stamp.{Stamp, nest, outer, counter, origin}
+use Rattle.fw_time.specs.Sending.{entered, fed_back, left}
+use Rattle.fw_frontier.specs.Front.{Front}
+use Rattle.fw_flow.specs.declared.kind.Kind.{Kind}
+use Rattle.fw_flow.specs.declared.projection.Way.{Way}
+use Rattle.fw_flow.specs.declared.projection.Way.TheVariants.{First, Next, NextAfterFirst, Before, Outer, OuterOfFirst}
+use Rattle.fw_flow.specs.Dataflow.{Dataflow, domain_of_kind, out_domain_of_kind, bounds_of_domain}
+
+-- the bounds are those of the domain and the out domain of a node of the kind, in some dataflow
+abbrev pub JoinsDomains : Kind → Bounds → Bounds → Type 0
+JoinsDomains kind sender receiver = (flow : Dataflow)
+    × (sender ≡ bounds_of_domain flow (domain_of_kind flow kind))
+    × (receiver ≡ bounds_of_domain flow (out_domain_of_kind flow kind))
+
+-- a stamp that has a counter or may get one
+abbrev pub IsNest : Stamp → Type 0
+IsNest s = (0 < length s) × (length s < 4)
+
+-- where a stamp goes
+abbrev pub image : Way → Stamp → Option Stamp
+image First o = entered o
+image (Next max) o = fed_back max o
+image (NextAfterFirst max) o = if counter o == 0 then Some o else fed_back max o
+image Before o = Some (nest (outer o) (counter o - 1))
+image Outer o = left o
+image OuterOfFirst o = if counter o == 0 then left o else None
+
+-- where stamps go
+abbrev pub images : Way → List Stamp → List Stamp
+images way [] = []
+images way (o ∷ os) = option_to_list (image way o) ++ images way os
+
+-- outside of what is sent into a loop: at counter 0 what is outside, and all from counter 1 on
+abbrev pub entered_outside : Bounds → Bounds → Front → Front
+entered_outside sender receiver os = images First os ++ (if nat_lt 0 (counter receiver.greatest) then nest (origin sender.greatest) 1 ∷ [] else [])
+
+-- the frontier of the numbers below a limit, or of all
+abbrev pub front_until : Option ℕ → Front
+front_until None = []
+front_until (Some limit) = (limit ∷ []) ∷ []

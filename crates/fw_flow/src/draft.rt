@@ -1,0 +1,101 @@
+//! A flow whose parts have their places, and whose rules are not tested yet.
+ghost use Rattle.std.specs.Prelude.{◌≡◌, ◌^◌, ◌<◌, List, [], ◌∷◌, map, length, OnOk, IfOk, IfErr};
+ghost use Rattle.fw_lines.specs.Faults.{IfRefused};
+ghost use Rattle.fw_lines.specs.declared.refusal.Code.TheVariants as code;
+ghost use Rattle.fw_flow.specs.declared.raw.Declared.{Declared};
+ghost use Rattle.fw_flow.specs.Check.{all_lines, StaysWithinLimits, IsFirstBreakIfAny, Holds, IsFirstBrokenOf};
+ghost use Rattle.fw_flow.specs.Draft.{Fits, IsDraftOf, AllHold};
+ghost use Rattle.fw_flow.specs.Raw.{names_of};
+ghost use Rattle.fw_flow.specs.Walks.{AreWithin};
+
+use crate::check::{
+    are_walks_right, degree_line, domain_line, edges_by_end, has_borders, links_of, policy_line,
+    refuse,
+};
+use crate::parts::Parts;
+use crate::raw::NameSpaces;
+use crate::walks::Link;
+use crate::{Declared, EdgeId};
+use fw_lines::{Code, ReadFault};
+use std::alloc::{AllocError, Global};
+
+/// The parts of a flow with their links, and for each node the edges to it and from it.
+#[derive(Debug, Drop)]
+pub(crate) struct Draft {
+    pub(crate) parts: Parts,
+    links: Vec<Link>,
+    pub(crate) incoming: Vec<Vec<EdgeId>>,
+    pub(crate) outgoing: Vec<Vec<EdgeId>>,
+}
+
+impl Draft {
+    /// The draft of the declarations, all of whose names are declared. The only error is want of
+    /// memory.
+    pub(crate) fn of(
+        alloc: Global,
+        names: &NameSpaces,
+        declared: Vec<Declared>,
+    ) -> Result<Draft, AllocError>
+        requires named { names.now ≡ names_of declared.items }
+        requires few { length declared.items < 2 ^ 32 }
+        requires names_declared { Holds declared.items code.F3 }
+        ensures fits { IfOk result Fits }
+        ensures draft { IfOk result (λ draft. IsDraftOf draft declared.items) }
+    {
+        let parts = Parts::of(alloc, names, declared)?;
+        let links = links_of(alloc, &parts.edges)?;
+        let incoming = edges_by_end(alloc, parts.nodes.len(), &receivers(alloc, &links)?)?;
+        let outgoing = edges_by_end(alloc, parts.nodes.len(), &senders(alloc, &links)?)?;
+        Ok(Draft {
+            parts,
+            links,
+            incoming,
+            outgoing,
+        })
+    }
+
+    /// Tests the rules from F4 on, in their order, where this is the line of the first declaration
+    /// past the limits.
+    pub(crate) fn test(&self, alloc: Global, limit_line: Option<u32>) -> Result<(), ReadFault>
+        requires { Fits self.now }
+        ensures kept { (raw : List Declared) → IsDraftOf self.now raw
+            → IsFirstBreakIfAny (StaysWithinLimits raw) (all_lines raw) limit_line
+            → OnOk result (AllHold raw) }
+        ensures broken { (raw : List Declared) → IsDraftOf self.now raw
+            → IsFirstBreakIfAny (StaysWithinLimits raw) (all_lines raw) limit_line
+            → IfErr result (IfRefused (IsFirstBrokenOf
+            (code.F4 ∷ code.F5 ∷ code.F6 ∷ code.F7 ∷ code.F8 ∷ code.F9 ∷ []) raw)) }
+    {
+        let nodes = self.parts.nodes.as_slice();
+        let node_lines = self.parts.node_lines.as_slice();
+        refuse(
+            Code::F4,
+            degree_line(nodes, &self.incoming, &self.outgoing, node_lines),
+        )?;
+        refuse(
+            Code::F5,
+            domain_line(nodes, &self.links, &self.parts.edge_lines),
+        )?;
+        if !are_walks_right(alloc, nodes, &self.links)? {
+            return Err(ReadFault::of_whole(Code::F6));
+        }
+        refuse(Code::F7, policy_line(nodes, node_lines))?;
+        refuse(Code::F8, limit_line)?;
+        if !has_borders(nodes) {
+            return Err(ReadFault::of_whole(Code::F9));
+        }
+        Ok(())
+    }
+}
+
+fn receivers(alloc: Global, links: &[Link]) -> Result<Vec<usize>, AllocError>
+    ensures { IfOk result (λ ends. ends.items ≡ map (λ link. link.receiver) links.now) }
+{
+    links.iter().map(|link| link.receiver).collect(alloc)
+}
+
+fn senders(alloc: Global, links: &[Link]) -> Result<Vec<usize>, AllocError>
+    ensures { IfOk result (λ ends. ends.items ≡ map (λ link. link.sender) links.now) }
+{
+    links.iter().map(|link| link.sender).collect(alloc)
+}

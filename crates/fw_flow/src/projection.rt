@@ -1,0 +1,292 @@
+//! What of an edge comes from a frontier of its sender, and where a frontier of its sender can send.
+ghost use Rattle.std.specs.Prelude.{◌≡◌, ℕ, ◌+◌, ◌^◌, ◌-◌, ◌<◌, ◌≤◌, ◌&&◌, true, nat_lt, min, List, [], ◌∷◌, ◌++◌, length, if◌then◌else◌, is_ok, IfOk};
+ghost use Rattle.std.specs.List.{AllByRecursion};
+ghost use Rattle.fw_time.specs.declared.stamp.Bounds.{Bounds as Domain};
+ghost use Rattle.fw_time.specs.Stamp.{in_domain};
+ghost use Rattle.fw_time.specs.Sending.{fed_back};
+ghost use Rattle.fw_frontier.specs.Front.{frontier_of, IsCanonical, Names};
+ghost use Rattle.fw_flow.specs.Dataflow.{greatest_number};
+ghost use Rattle.fw_flow.specs.Projection.{number_of, phi_of_kind, psi_of_kind, psi_back_of_kind, table_count};
+ghost use Rattle.fw_flow.specs.ProjectedStamps.{IsNest, image, images, entered_outside, front_until, JoinsDomains};
+ghost use Rattle.fw_flow.specs.WellFormed.{IsGroupSize};
+
+use crate::Kind;
+use fw_frontier::Front;
+use fw_time::{Bounds, Stamp};
+use std::alloc::{AllocError, Global};
+use std::marker::Model;
+
+/// How many messages a sequence sent, by epoch. Contracts see the list of epochs and counts.
+#[derive(Debug, Drop)]
+pub struct SentTable {
+    entries: Vec<(u32, u64)>,
+}
+
+impl Model for SentTable {
+    ghost use Rattle.std.specs.Prelude.{ℕ, List};
+
+    ghost Value = { List (ℕ × ℕ) };
+
+    ghost view = { λ table. table.entries.items };
+}
+
+impl SentTable {
+    /// The table of a sequence that sent nothing.
+    pub fn new(alloc: Global) -> Self
+        ensures { result ≡ [] }
+    {
+        SentTable {
+            entries: Vec::new(alloc),
+        }
+    }
+
+    /// Adds how many messages the sequence sent when it was notified of the epoch. The only error is want of memory, and
+    /// then the table stays as it was.
+    pub fn push(&mut self, epoch: u32, count: u64) -> Result<(), AllocError>
+        ensures { self.new ≡ (if is_ok result then self.old ++ (epoch, count) ∷ [] else self.old) }
+    {
+        self.entries.push((epoch, count))?;
+        Ok(())
+    }
+
+    /// How many messages were sent in the epochs inside, or `u64::MAX` where they were more.
+    fn count_inside(&self, f: &Front) -> u64
+        ensures { (bounds : Domain) → bounds.greatest ≡ greatest_number ∷ []
+            → result ≡ min (table_count (frontier_of bounds f.now) self.now) (2 ^ 64 - 1) }
+    {
+        let mut total: u64 = 0;
+        for entry in &self.entries {
+            let (epoch, count) = *entry;
+            if has_epoch(f, epoch) {
+                total = total.saturating_add(count);
+            }
+        }
+        total
+    }
+}
+
+/// Whether an epoch is inside.
+fn has_epoch(f: &Front, epoch: u32) -> bool
+    ensures { (bounds : Domain) → bounds.greatest ≡ greatest_number ∷ []
+        → result ≡ frontier_of bounds f.now (epoch ∷ []) }
+{
+    f.contains(&Stamp::new(&[epoch]))
+}
+
+/// Where an outside stamp goes, when a frontier is taken into a loop, out of it, or to its next counter.
+#[derive(Clone, Copy, Debug)]
+pub(crate) enum Way {
+    /// To counter 0.
+    First,
+    /// To the next counter, and nowhere from the greatest one.
+    Next(u32),
+    /// To the next counter, but 0 stays.
+    NextAfterFirst(u32),
+    /// To the counter before, but 0 stays.
+    Before,
+    /// To the stamp without its counter.
+    Outer,
+    /// To the stamp without its counter where that is 0, else nowhere.
+    OuterOfFirst,
+}
+
+/// Where a stamp of a loop, or of the domain that it is in, goes.
+fn image(way: Way, o: &Stamp) -> Option<Stamp>
+    requires some { 0 < length o.now }
+    requires few { length o.now < 4 }
+    ensures { result ≡ image way o.now }
+{
+    match way {
+        Way::First => Some(o.nest(0)),
+        Way::Next(max) => next(max, o),
+        Way::NextAfterFirst(max) => {
+            if o.counter() == 0 {
+                Some(o.copy())
+            } else {
+                next(max, o)
+            }
+        }
+        Way::Before => Some(o.outer().nest(o.counter().saturating_sub(1))),
+        Way::Outer => Some(o.outer()),
+        Way::OuterOfFirst => {
+            if o.counter() == 0 {
+                Some(o.outer())
+            } else {
+                None
+            }
+        }
+    }
+}
+
+/// The next counter of a loop's stamp, if there is one.
+fn next(max: u32, o: &Stamp) -> Option<Stamp>
+    requires { 0 < length o.now }
+    ensures { result ≡ fed_back max o.now }
+{
+    if o.counter() < max {
+        Some(o.outer().nest(o.counter() + 1))
+    } else {
+        None
+    }
+}
+
+/// Where the stamps go, in their order.
+fn images(alloc: Global, stamps: &[Stamp], way: Way) -> Result<Vec<Stamp>, AllocError>
+    requires { AllByRecursion IsNest stamps.now }
+    ensures { IfOk result (λ all. all.items ≡ images way stamps.now) }
+{
+    let mut all = Vec::new(alloc);
+    for o in stamps {
+        if let Some(image) = image(way, o) {
+            all.push(image)?;
+        }
+    }
+    Ok(all)
+}
+
+/// The frontier outside of which are the images of the outside stamps of `f`.
+fn moved(alloc: Global, f: &Front, way: Way) -> Result<Front, AllocError>
+    requires { AllByRecursion IsNest f.now }
+    ensures { (bounds : Domain) → AllByRecursion (λ s. in_domain bounds s ≡ true) (images way f.now)
+        → IfOk result (λ g. Names bounds g (frontier_of bounds (images way f.now))) }
+{
+    let stamps = images(alloc, f.outside(), way)?;
+    Front::until(alloc, &stamps)
+}
+
+/// What is sent into a loop from inside `f`: the stamps of counter 0.
+fn entered(
+    alloc: Global,
+    f: &Front,
+    sender: &Bounds,
+    receiver: &Bounds,
+) -> Result<Front, AllocError>
+    requires front { AllByRecursion IsNest f.now }
+    requires sender { IsNest sender.now.greatest }
+    requires receiver { 0 < length receiver.now.greatest }
+    ensures { (bounds : Domain) → AllByRecursion (λ s. in_domain bounds s ≡ true) (entered_outside sender.now receiver.now f.now)
+        → IfOk result (λ g. Names bounds g (frontier_of bounds (entered_outside sender.now receiver.now f.now))) }
+{
+    let mut stamps = images(alloc, f.outside(), Way::First)?;
+    if receiver.greatest.counter() > 0 {
+        stamps.push(sender.origin().nest(1))?;
+    }
+    Front::until(alloc, &stamps)
+}
+
+/// The numbers, or epochs, below a limit.
+fn below(alloc: Global, limit: u64, bounds: &Bounds) -> Result<Front, AllocError>
+    requires { length bounds.now.greatest ≡ 1 }
+    ensures { IfOk result
+        (λ g. Names bounds.now g (λ u. in_domain bounds.now u && nat_lt (number_of u) limit)) }
+{
+    if limit > u64::from(bounds.greatest.at(0)) {
+        return Ok(Front::all(alloc));
+    }
+    Front::until(alloc, &[Stamp::new(&[limit as u32])])
+}
+
+/// The first number outside, if not all are inside.
+fn limit(f: &Front, bounds: &Bounds) -> Option<u32>
+    requires line { length bounds.now.greatest ≡ 1 }
+    requires front { IsCanonical bounds.now f.now }
+    ensures { f.now ≡ front_until result }
+{
+    match f.outside() {
+        [] => None,
+        [first, ..] => Some(first.at(0)),
+    }
+}
+
+/// What of the messages of a node of the kind comes from its events inside `f`: the least frontier of the node's out domain
+/// whose messages may come from other events is not in it. `sender` and `receiver` are the bounds of the node's domain and
+/// out domain. Only a sequence reads `sent`, what it sent so far. The only error is want of memory.
+pub(crate) fn phi(
+    alloc: Global,
+    kind: Kind,
+    f: &Front,
+    sent: &SentTable,
+    sender: &Bounds,
+    receiver: &Bounds,
+) -> Result<Front, AllocError>
+    requires group { IsGroupSize kind }
+    requires domains { JoinsDomains kind sender.now receiver.now }
+    requires front { IsCanonical sender.now f.now }
+    ensures { let inside = frontier_of sender.now f.now in IfOk result
+        (λ g. Names receiver.now g (λ u. in_domain receiver.now u
+        && phi_of_kind sender.now.greatest kind (table_count inside sent.now) inside u)) }
+{
+    match kind {
+        Kind::Enter(_) => moved(alloc, f, Way::First),
+        Kind::Feedback(_) => moved(alloc, f, Way::Next(sender.greatest.counter())),
+        Kind::Leave(_) => moved(alloc, f, Way::Outer),
+        Kind::Sequence => match limit(f, sender) {
+            None => Ok(Front::all(alloc)),
+            Some(_) => below(alloc, sent.count_inside(f), receiver),
+        },
+        Kind::Regroup(n) => match limit(f, sender) {
+            None => Ok(Front::all(alloc)),
+            Some(limit) => below(alloc, u64::from(limit / n), receiver),
+        },
+        _ => f.copy(),
+    }
+}
+
+/// The cover of the stamps at which a node of the kind can send from its events inside `f`, for the kinds that may keep
+/// nothing; for the others the answer has no use. `sender` and `receiver` are the bounds of the node's domain and out
+/// domain. The only error is want of memory.
+pub(crate) fn psi(
+    alloc: Global,
+    kind: Kind,
+    f: &Front,
+    sender: &Bounds,
+    receiver: &Bounds,
+) -> Result<Front, AllocError>
+    requires group { IsGroupSize kind }
+    requires domains { JoinsDomains kind sender.now receiver.now }
+    requires front { IsCanonical sender.now f.now }
+    ensures { IfOk result (λ g. Names receiver.now g (λ u. in_domain receiver.now u
+        && psi_of_kind sender.now.greatest kind (frontier_of sender.now f.now) u)) }
+{
+    match kind {
+        Kind::Enter(_) => entered(alloc, f, sender, receiver),
+        Kind::Feedback(_) => moved(alloc, f, Way::NextAfterFirst(sender.greatest.counter())),
+        Kind::Leave(_) => moved(alloc, f, Way::OuterOfFirst),
+        Kind::Regroup(n) => {
+            let end = match limit(f, sender) {
+                None => u64::from(sender.greatest.at(0)) + 1,
+                Some(limit) => u64::from(limit),
+            };
+            below(alloc, end.div_ceil(u64::from(n)), receiver)
+        }
+        _ => f.copy(),
+    }
+}
+
+/// The largest frontier of a node of the kind from which it sends inside `g` alone, for the kinds that may keep nothing;
+/// for the others the answer has no use. `sender` and `receiver` are the bounds of the node's domain and out domain. The
+/// only error is want of memory.
+pub(crate) fn psi_back(
+    alloc: Global,
+    kind: Kind,
+    g: &Front,
+    sender: &Bounds,
+    receiver: &Bounds,
+) -> Result<Front, AllocError>
+    requires group { IsGroupSize kind }
+    requires domains { JoinsDomains kind sender.now receiver.now }
+    requires front { IsCanonical receiver.now g.now }
+    ensures { IfOk result (λ f. Names sender.now f (λ t. in_domain sender.now t
+        && psi_back_of_kind sender.now.greatest kind (frontier_of receiver.now g.now) t)) }
+{
+    match kind {
+        Kind::Enter(_) => moved(alloc, g, Way::OuterOfFirst),
+        Kind::Feedback(_) => moved(alloc, g, Way::Before),
+        Kind::Leave(_) => moved(alloc, g, Way::First),
+        Kind::Regroup(n) => match limit(g, receiver) {
+            None => Ok(Front::all(alloc)),
+            Some(limit) => below(alloc, u64::from(limit) * u64::from(n), sender),
+        },
+        _ => g.copy(),
+    }
+}

@@ -1,0 +1,220 @@
+-- Checkpoints lie within what is settled, and so does each frontier to which a node can be restored.
+use Rattle.std.proofs.Common.{◌≡◌, ℕ, ◌<◌, Bool, true, false, not, ◌&&◌, List, [], ◌∷◌, ◌++◌, length, filter, map, refl, sym, ap, subst, ◌∙◌, inl, inr}
+use Rattle.std.specs.List.{AllByRecursion, list_all}
+use Rattle.std.proofs.lemmas.Bool.{and_parts, and_from, or_left, cond_both, cases_Bool, false_from_ne_true}
+use Rattle.fw_time.specs.Stamp.{leq, in_domain}
+use Rattle.fw_time.specs.declared.stamp.Bounds.{Bounds}
+use Rattle.fw_frontier.specs.Frontier.{Frontier, Within}
+use Rattle.fw_frontier.specs.Front.{Front, inside, frontier_of}
+use Rattle.fw_frontier.proofs.InsideLaws.{inside-closed}
+use Rattle.fw_flow.specs.declared.choice.Cut.{Cut}
+use Rattle.fw_flow.specs.declared.choice.Cut.TheVariants.{Present, At}
+use Rattle.fw_flow.specs.declared.kind.Kind.{Kind}
+use Rattle.fw_flow.specs.declared.kind.Kind.TheVariants.{Input, OutputEpoch, OutputNumber}
+use Rattle.fw_flow.specs.declared.kind.Policy.{Policy}
+use Rattle.fw_flow.specs.declared.kind.Policy.TheVariants as policy
+use Rattle.fw_flow.specs.declared.step.Step.{Step}
+use Rattle.fw_flow.specs.declared.step.Step.TheVariants.{Inject, Deliver, Notify, Progress as ProgressStep, Checkpoint, Persist, Fail, Recover, Collect, Ack}
+use Rattle.fw_flow.specs.Dataflow.{System, kind_of, policy_of, receiver, bounds_of, is_input_kind}
+use Rattle.fw_model.specs.Machine.{Machine, Numbered, Write, Written, checkpoint, logged_event, Progress, acknowledged, places, first_state, front_of, is_failed}
+use Rattle.fw_model.specs.Choice.{View, Restoring, by_batches, by_bound, by_anything, by_checkpoints, by_events, restoring_of_policy, restoring, HasCheckpoint, IsRestorable, Choice, cut_of, filtered}
+use Rattle.fw_model.specs.Steps.{Effect, Outcome, did, idle, Takes, Steps, Run, write_of_event, checkpoint_of, is_eager, same_front, is_within, GrowsTo, AcknowledgesOldest, is_one_of, is_in_flight, is_kept_write, kept_writes, IsSettledCut, CutsTo, is_below, after_collection, front_of_cut}
+use Rattle.fw_model.specs.LawsOfRecoveries.{CandidatesLieWithinSettled}
+use Rattle.fw_model.proofs.Decisions.{two_ways}
+use Rattle.fw_model.proofs.EachLaws.{each-weaker, each-append}
+use Rattle.fw_model.proofs.FilterLaws.{each-one}
+use Rattle.fw_model.proofs.RunLaws.{none-inside}
+
+-- ---- checkpoints
+
+-- the frontier lies within what is settled at the node, if it is there
+abbrev IsSettled : System → List Front → ℕ → Front → Type 0
+IsSettled sys settled p g = p < length sys.flow.nodes → Within (frontier_of (bounds_of sys.flow p) g) (frontier_of (bounds_of sys.flow p) (front_of settled p))
+
+-- what a write of a node holds lies within what is settled, if it is a checkpoint
+abbrev HoldsSettled : System → List Front → ℕ → Written → Type 0
+HoldsSettled sys settled p (checkpoint g low) = IsSettled sys settled p g
+HoldsSettled sys settled p (logged_event serial) = Unit {0}
+
+abbrev IsWriteSettled : System → List Front → Write → Type 0
+IsWriteSettled sys settled write = HoldsSettled sys settled write.node write.written
+
+abbrev AreWritesSettled : System → List Front → List Write → Type 0
+AreWritesSettled sys settled writes = AllByRecursion (IsWriteSettled sys settled) writes
+
+-- what holds of written of a node after what was settled has changed
+changed : (sys : System) (before after : List Front) (p : ℕ) (w : Written)
+    → ((g : Front) (low : List Front) → w ≡ checkpoint g low → IsSettled sys before p g → IsSettled sys after p g)
+    → HoldsSettled sys before p w → HoldsSettled sys after p w
+changed sys before after p (checkpoint g low) k h = k g low refl h
+changed sys before after p (logged_event serial) k h = tt
+
+-- settled grows at each node
+abbrev Grows : System → List Front → List Front → Type 0
+Grows sys before after = (p : ℕ) → p < length sys.flow.nodes → Within (frontier_of (bounds_of sys.flow p) (front_of before p)) (frontier_of (bounds_of sys.flow p) (front_of after p))
+
+grown-writes : (sys : System) (before after : List Front) → Grows sys before after → (writes : List Write) → AreWritesSettled sys before writes → AreWritesSettled sys after writes
+grown-writes sys before after k writes a =
+    each-weaker (IsWriteSettled sys before) (IsWriteSettled sys after) writes
+    (λ write h. changed sys before after write.node write.written (λ g low e s l t i. k write.node l t (s l t i)) h) a
+
+each-mapped : {A B : Type 0} (P : B → Type 0) (f : A → B) (xs : List A) → AllByRecursion (λ x. P (f x)) xs → AllByRecursion P (map f xs)
+each-mapped P f [] a = tt
+each-mapped P f (x ∷ xs) a = (a.0, each-mapped P f xs a.1)
+
+each-passed : {A : Type 0} (P Q : A → Type 0) (test : A → Bool) (xs : List A) → ((x : A) → test x ≡ true → P x → Q x) → AllByRecursion P xs → AllByRecursion Q (filter test xs)
+each-passed P Q test [] k a = tt
+each-passed P Q test (x ∷ xs) k a =
+    let rest = each-passed P Q test xs k a.1 in
+    cond_both (test x) (x ∷ filter test xs) (filter test xs) (AllByRecursion Q) (λ e. (k x e a.0, rest)) (λ e. rest)
+
+each-replaced : {A : Type 0} (P : A → Type 0) (xs : List A) (y z : A) (ys : List A) → (P y → P z) → AllByRecursion P (xs ++ y ∷ ys) → AllByRecursion P (xs ++ z ∷ ys)
+each-replaced P [] y z ys k a = (k a.0, a.1)
+each-replaced P (x ∷ xs) y z ys k a = (a.0, each-replaced P xs y z ys k a.1)
+
+-- ---- what steps do to them
+
+event-writes : (sys : System) (settled : List Front) (p : Policy) (q serial : ℕ) → AreWritesSettled sys settled (write_of_event p q serial)
+event-writes sys settled policy.Full q serial = (tt, tt)
+event-writes sys settled p q serial = tt
+
+settled-grows : (sys : System) (state : Machine) (done : ℕ → Frontier) (settled : List Front) → GrowsTo sys state done settled → Grows sys state.settled settled
+settled-grows sys state done settled g p l t i = elim (cases_Bool (is_failed state p)) [
+  | inl lost ↦ subst (λ os. frontier_of (bounds_of sys.flow p) os t ≡ true) (sym (g.failed p l lost)) i
+  | inr live ↦ (g.each p l live).same t ∙ or_left (frontier_of (bounds_of sys.flow p) (front_of state.settled p) t) (done p t) i
+]
+
+-- a front all of whose outside stamps are outside another holds it
+is_within-holds : (b : Bounds) (g f : Front) → is_within g f ≡ true → Within (frontier_of b g) (frontier_of b f)
+is_within-holds b g f k t i =
+    let a = and_parts (in_domain b t) (inside g t) i in
+    and_from (in_domain b t) (inside f t) a.0 (all_outside f k)
+  where
+    all_outside : (os : Front) → list_all (λ o. not (inside g o)) os ≡ true → inside os t ≡ true
+    all_outside [] k = refl
+    all_outside (o ∷ os) k =
+        let x = and_parts (not (inside g o)) (list_all (λ o. not (inside g o)) os) k in
+        let above : leq o t ≡ false = false_from_ne_true (leq o t) (λ l.
+        two_ways (not (inside g o)) x.0 (ap not (inside-closed g o t l (and_parts (in_domain b t) (inside g t) i).1))) in
+        and_from (not (leq o t)) (inside os t) (ap not above) (all_outside os x.1)
+
+cut-settled : (sys : System) (p : ℕ) (cut : Cut) (before after g : Front) (low : List Front) (h : List Numbered) → IsSettledCut sys p cut before after
+    → is_kept_write cut (checkpoint g low) h ≡ true → Within (frontier_of (bounds_of sys.flow p) g) (frontier_of (bounds_of sys.flow p) before)
+    → Within (frontier_of (bounds_of sys.flow p) g) (frontier_of (bounds_of sys.flow p) after)
+cut-settled sys p Present before after g low h c k w = subst (λ os. Within (frontier_of (bounds_of sys.flow p) g) (frontier_of (bounds_of sys.flow p) os)) (sym c) w
+cut-settled sys p (At f) before after g low h c k w = λ t i.
+    let b = bounds_of sys.flow p in
+    c.same t ∙ and_from (frontier_of b before t) (frontier_of b f t) (w t i) (is_within-holds b g f k t i)
+
+recovered-writes : (sys : System) (state : Machine) (choice : Choice) (settled : List Front) (h : List Numbered) → CutsTo sys state choice settled
+    → AreWritesSettled sys state.settled state.writes → AreWritesSettled sys settled (kept_writes choice h state.writes)
+recovered-writes sys state choice settled h c a =
+    each-passed (IsWriteSettled sys state.settled) (IsWriteSettled sys settled) (λ write. is_kept_write (cut_of choice write.node) write.written h) state.writes
+    (λ write k x. changed sys state.settled settled write.node write.written
+    (λ g low e s l. cut-settled sys write.node (cut_of choice write.node) (front_of state.settled write.node) (front_of settled write.node) g low h (c.each write.node l)
+    (ap (λ w. is_kept_write (cut_of choice write.node) w h) (sym e) ∙ k) (s l)) x) a
+
+acknowledged-writes : (sys : System) (settled : List Front) (writes next : List Write) → AcknowledgesOldest writes next → AreWritesSettled sys settled writes → AreWritesSettled sys settled next
+acknowledged-writes sys settled writes next k a =
+    let oldest = k.oldest in
+    subst (AreWritesSettled sys settled) (sym k.after)
+    (each-replaced (IsWriteSettled sys settled) k.earlier oldest (record oldest { progress = acknowledged }) k.later (λ x. x)
+    (subst (AreWritesSettled sys settled) k.before a))
+
+-- the checkpoints of a state lie within what is settled
+abbrev HasWritesSettled : System → Machine → Type 0
+HasWritesSettled sys state = AreWritesSettled sys state.settled state.writes
+
+with-settled : (sys : System) (state : Machine) (more : List Write) → HasWritesSettled sys state → AreWritesSettled sys state.settled more
+    → HasWritesSettled sys (record state { writes = state.writes ++ more })
+with-settled sys state more a b = each-append (IsWriteSettled sys state.settled) state.writes more a b
+
+took-writes : (sys : System) (state : Machine) (step : Step) (next : Machine) (effect : Effect) → Takes sys state step next effect
+    → HasWritesSettled sys state → HasWritesSettled sys next
+took-writes sys state (Inject s) next effect t a =
+    subst (HasWritesSettled sys) (sym t.3) (with-settled sys state (write_of_event (policy_of sys.flow s) s state.next) a (event-writes sys state.settled (policy_of sys.flow s) s state.next))
+took-writes sys state (Deliver e at) next effect t a =
+    let r = receiver sys.flow e in
+    subst (HasWritesSettled sys) (sym t.3) (with-settled sys state (write_of_event (policy_of sys.flow r) r state.next) a (event-writes sys state.settled (policy_of sys.flow r) r state.next))
+took-writes sys state (Notify p at) next effect t a =
+    subst (HasWritesSettled sys) (sym t.3) (with-settled sys state (write_of_event (policy_of sys.flow p) p state.next) a (event-writes sys state.settled (policy_of sys.flow p) p state.next))
+took-writes sys state ProgressStep next effect t a =
+    let settled = t.1 in
+    let ps = filter (λ p. is_eager (policy_of sys.flow p) && not (same_front (front_of state.settled p) (front_of settled p))) (places sys.flow) in
+    subst (HasWritesSettled sys) (sym t.3)
+    (each-append (IsWriteSettled sys settled) state.writes (map (λ p. checkpoint_of state p (front_of settled p)) ps)
+    (grown-writes sys state.settled settled (settled-grows sys state t.0 settled t.2) state.writes a)
+    (each-mapped (IsWriteSettled sys settled) (λ p. checkpoint_of state p (front_of settled p)) ps
+    (each-one (λ p. IsSettled sys settled p (front_of settled p)) ps (λ p l u i. i))))
+took-writes sys state (Checkpoint p) next effect t a =
+    subst (HasWritesSettled sys) (sym t.3) (with-settled sys state (checkpoint_of state p (front_of state.settled p) ∷ []) a (λ l u i. i, tt))
+took-writes sys state Persist next effect t a =
+    subst (HasWritesSettled sys) (sym t.2) (acknowledged-writes sys state.settled state.writes t.0 t.1 a)
+took-writes sys state (Fail ps) next effect t a =
+    subst (HasWritesSettled sys) (sym t.4)
+    (each-passed (IsWriteSettled sys state.settled) (IsWriteSettled sys state.settled) (λ write. not (is_one_of write.node ps && is_in_flight write.progress)) state.writes (λ w k x. x) a)
+took-writes sys state Recover next effect t a =
+    subst (HasWritesSettled sys) (sym t.7) (recovered-writes sys state t.1 t.2 (filtered sys t.1 state.history) t.6 a)
+took-writes sys state Collect next effect t a =
+    let low = map front_of_cut t.0.cuts in
+    subst (HasWritesSettled sys) (sym t.3)
+    (each-mapped (IsWriteSettled sys state.settled)
+    (λ (write : Write). record write { progress = after_collection (is_below sys low state.history write.node write.written) write.progress }) state.writes a)
+took-writes sys state (Ack o) next effect t a = subst (HasWritesSettled sys) (sym t.2) a
+
+steps-writes : (sys : System) (state : Machine) (step : Step) (next : Machine) (outcome : Outcome) → Steps sys state step next outcome
+    → HasWritesSettled sys state → HasWritesSettled sys next
+steps-writes sys state step next (did effect) t a = took-writes sys state step next effect t a
+steps-writes sys state step next idle t a = subst (HasWritesSettled sys) (sym t.1) a
+
+run-writes : (sys : System) (steps : List Step) (outcomes : List Outcome) (state last : Machine) → Run sys state steps outcomes last
+    → HasWritesSettled sys state → HasWritesSettled sys last
+run-writes sys [] [] state last r a = subst (HasWritesSettled sys) (sym r) a
+run-writes sys [] (o ∷ os) state last r a = absurd r
+run-writes sys (s ∷ ss) [] state last r a = absurd r
+run-writes sys (s ∷ ss) (o ∷ os) state last r a = run-writes sys ss os r.0 last r.2 (steps-writes sys state s r.0 o r.1 a)
+
+-- ---- candidates
+
+checkpoint-within : (sys : System) (settled : List Front) (view : View) (p : ℕ) (f : Front) (writes : List Write) → AreWritesSettled sys settled writes
+    → HasCheckpoint view p f writes → IsSettled sys settled p f
+checkpoint-within sys settled view p f [] a k = absurd k
+checkpoint-within sys settled view p f (write ∷ writes) a k =
+    by write.node write.written write.progress a.0 (checkpoint-within sys settled view p f writes a.1) k
+  where
+    by : (n : ℕ) (w : Written) (far : Progress) → HoldsSettled sys settled n w → (HasCheckpoint view p f writes → IsSettled sys settled p f)
+        → HasCheckpoint view p f (record { node = n; written = w; progress = far } ∷ writes) → IsSettled sys settled p f
+    by n (checkpoint g low) far h rest k = elim k [
+      | inl c ↦ subst (λ q. IsSettled sys settled q f) c.0 (subst (λ x. IsSettled sys settled n x) c.1 h)
+      | inr c ↦ rest c
+    ]
+    by n (logged_event serial) far h rest k = elim k [ inl c ↦ absurd c | inr c ↦ rest c ]
+
+restorable-within : (sys : System) (state : Machine) (view : View) (p : ℕ) (way : Restoring) (f : Front) → p < length sys.flow.nodes → (way ≡ by_batches → ⊥)
+    → HasWritesSettled sys state → IsRestorable sys state view p way f → IsSettled sys state.settled p f
+restorable-within sys state view p by_batches f l n a k = absurd (n refl)
+restorable-within sys state view p by_bound f l n a k = λ _. k.0
+restorable-within sys state view p by_anything f l n a k = λ _. k
+restorable-within sys state view p by_checkpoints f l n a k = elim k [
+  | inl e ↦ λ _ t i. absurd (none-inside (bounds_of sys.flow p) t (subst (λ os. frontier_of (bounds_of sys.flow p) os t ≡ true) e i))
+  | inr c ↦ checkpoint-within sys state.settled view p f state.writes a c
+]
+restorable-within sys state view p by_events f l n a k = λ _. k.0
+
+policy-not_batches : (p : Policy) → restoring_of_policy p ≡ by_batches → ⊥
+policy-not_batches policy.None e = cc
+policy-not_batches policy.Lazy e = cc
+policy-not_batches policy.Logged e = cc
+policy-not_batches policy.Eager e = cc
+policy-not_batches policy.Full e = cc
+
+not_batches : (kind : Kind) (p : Policy) → is_input_kind kind ≡ false → restoring kind p ≡ by_batches → ⊥
+not_batches Input p n e = two_ways true refl n
+not_batches OutputEpoch p n e = cc
+not_batches OutputNumber p n e = cc
+not_batches kind p n e = policy-not_batches p e
+
+pub candidates-within_settled : CandidatesLieWithinSettled
+candidates-within_settled sys steps outcomes last r lost view p f l n k =
+    restorable-within sys last view p (restoring (kind_of sys.flow p) (policy_of sys.flow p)) f l (not_batches (kind_of sys.flow p) (policy_of sys.flow p) n)
+    (run-writes sys steps outcomes (first_state sys) last r tt) k.1 l

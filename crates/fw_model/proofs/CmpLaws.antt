@@ -1,0 +1,162 @@
+-- The orders of stamps and messages are total, and of what satisfies a decided property one is least.
+use Rattle.std.proofs.Common.{◌≡◌, ℕ, true, false, List, [], ◌∷◌, refl, sym, ap, subst, ◌∙◌, inl, inr, ◌⊎◌, arith}
+use Rattle.std.specs.List.{AllByRecursion}
+use Rattle.std.specs.Cmp.{IsTotalOrder}
+use Rattle.std.specs.declared.cmp.Ordering.{Ordering}
+use Rattle.std.specs.declared.cmp.Ordering.TheVariants.{Less, Equal, Greater}
+use Rattle.std.specs.Ordering.{nat_cmp, ordering_then, ordering_reverse, is_eq, is_gt}
+use Rattle.std.specs.Cmp.Lexicographic.{slice_cmp}
+use Rattle.std.proofs.lemmas.Bool.{cases_Bool, or_cases}
+use Rattle.std.proofs.lemmas.Bool.Decides.{nat_tests}
+use Rattle.std.proofs.lemmas.Cmp.{nat_list_cmp_total, lists_total, on_total, then_total, tied_itself, upto}
+use Rattle.fw_time.specs.Stamp.{Stamp, stamp_cmp}
+use Rattle.fw_frontier.specs.Front.{Front}
+use Rattle.fw_bag.specs.Rec.{rec_cmp}
+use Rattle.fw_bag.proofs.RecLaws.{rec_order, rec_cmp-same}
+use Rattle.fw_flow.specs.declared.event.Message.{Message}
+use Rattle.fw_model.specs.History.{message_cmp, is_among}
+use Rattle.fw_model.proofs.Decisions.{Decided}
+use Rattle.fw_model.proofs.EachLaws.{each-weaker}
+
+-- ---- elements that an order finds equal are one
+
+then_equal : (o p : Ordering) → ordering_then o p ≡ Equal → (o ≡ Equal) × (p ≡ Equal)
+then_equal Less p h = absurd (cc)
+then_equal Equal p h = (refl, h)
+then_equal Greater p h = absurd (cc)
+
+nat_cmp-same : (m n : ℕ) → nat_cmp m n ≡ Equal → m ≡ n
+nat_cmp-same m n h = grind (arith, nat_tests)
+
+pub equal_from_is_eq : (o : Ordering) → is_eq o ≡ true → o ≡ Equal
+equal_from_is_eq Less h = absurd (cc)
+equal_from_is_eq Equal h = refl
+equal_from_is_eq Greater h = absurd (cc)
+
+pub slice_cmp-same : {K : Type 0} (R : K → K → Ordering) → ((x y : K) → R x y ≡ Equal → x ≡ y) → (xs ys : List K) → slice_cmp R xs ys ≡ Equal → xs ≡ ys
+slice_cmp-same R h [] [] e = refl
+slice_cmp-same R h [] (y ∷ ys) e = absurd (cc)
+slice_cmp-same R h (x ∷ xs) [] e = absurd (cc)
+slice_cmp-same R h (x ∷ xs) (y ∷ ys) e =
+    let a = then_equal (R x y) (slice_cmp R xs ys) e in
+    ap (λ z. z ∷ xs) (h x y a.0) ∙ ap (λ zs. y ∷ zs) (slice_cmp-same R h xs ys a.1)
+
+pub stamp_cmp-same : (s t : Stamp) → stamp_cmp s t ≡ Equal → s ≡ t
+stamp_cmp-same = slice_cmp-same nat_cmp nat_cmp-same
+
+pub fronts_cmp-same : (f g : List Stamp) → slice_cmp stamp_cmp f g ≡ Equal → f ≡ g
+fronts_cmp-same = slice_cmp-same stamp_cmp stamp_cmp-same
+
+pub stamp_total : IsTotalOrder stamp_cmp
+stamp_total = nat_list_cmp_total
+
+pub message_total : IsTotalOrder message_cmp
+message_total =
+    then_total (on_total (λ (m : Message). m.at) stamp_total)
+    (then_total (on_total (λ (m : Message). m.rec) rec_order) (on_total (λ (m : Message). m.causes) (lists_total stamp_total)))
+
+pub message_cmp-same : (m x : Message) → message_cmp m x ≡ Equal → m ≡ x
+message_cmp-same m x e =
+    let a = then_equal (stamp_cmp m.at x.at) (ordering_then (rec_cmp m.rec x.rec) (slice_cmp stamp_cmp m.causes x.causes)) e in
+    let b = then_equal (rec_cmp m.rec x.rec) (slice_cmp stamp_cmp m.causes x.causes) a.1 in
+    let p = stamp_cmp-same m.at x.at a.0 in
+    let q = rec_cmp-same m.rec x.rec b.0 in
+    let r = fronts_cmp-same m.causes x.causes b.1 in
+    λ i. record { at = p i; rec = q i; causes = r i }
+
+-- elements of which neither is greater are tied
+pub tied : {K : Type 0} {R : K → K → Ordering} → IsTotalOrder R → (x y : K) → is_gt (R x y) ≡ false → is_gt (R y x) ≡ false → R x y ≡ Equal
+tied {R} o x y h k = by (R x y) (R y x) (o.antisymm x y) h k
+  where
+    by : (a b : Ordering) → a ≡ ordering_reverse b → is_gt a ≡ false → is_gt b ≡ false → a ≡ Equal
+    by Less Less e h k = absurd (cc)
+    by Less Equal e h k = absurd (cc)
+    by Less Greater e h k = absurd (cc)
+    by Equal b e h k = refl
+    by Greater b e h k = absurd (cc)
+
+-- one of two elements is not greater than the other
+pub not_greater : {K : Type 0} {R : K → K → Ordering} → IsTotalOrder R → (x y : K) → is_gt (R x y) ≡ true → is_gt (R y x) ≡ false
+not_greater {R} o x y h = by (R x y) (R y x) (o.antisymm x y) h
+  where
+    by : (a b : Ordering) → a ≡ ordering_reverse b → is_gt a ≡ true → is_gt b ≡ false
+    by a Less e h = refl
+    by a Equal e h = refl
+    by Less Greater e h = absurd (cc)
+    by Equal Greater e h = absurd (cc)
+    by Greater Greater e h = absurd (cc)
+
+-- what holds of each listed message holds of each one among them
+pub among-each : (P : Message → Type 0) (m : Message) (ms : List Message) → is_among m ms ≡ true → AllByRecursion P ms → P m
+among-each P m [] k a = absurd (cc)
+among-each P m (x ∷ xs) k a = elim (or_cases (is_eq (message_cmp m x)) (is_among m xs) k) [
+  | inl e ↦ subst P (sym (message_cmp-same m x (equal_from_is_eq (message_cmp m x) e))) a.0
+  | inr l ↦ among-each P m xs l a.1
+]
+
+-- ---- the least element with a property
+
+-- the element has the property, and none of the list that has it comes before
+pub record IsLeastIn {K : Type 0} (R : K → K → Ordering) (P : K → Type 0) (xs : List K) (x : K) : Type 0 where
+  pub has : P x
+  pub least : AllByRecursion (λ y. P y → is_gt (R x y) ≡ false) xs
+
+least-with : {K : Type 0} {R : K → K → Ordering} → IsTotalOrder R → (P : K → Type 0) (x w : K) (xs : List K) → P x → IsLeastIn R P xs w
+    → (y : K) × IsLeastIn R P (x ∷ xs) y
+least-with {R} o P x w xs p l = elim (cases_Bool (is_gt (R x w))) [
+  | inl e ↦ (w, record { has = l.has; least = (λ q. not_greater o x w e, l.least) })
+  | inr e ↦ (
+    x,
+    record {
+      has = p;
+      least = (
+        λ q. ap is_gt (tied_itself o x),
+        each-weaker (λ y. P y → is_gt (R w y) ≡ false) (λ y. P y → is_gt (R x y) ≡ false) xs (λ y h q. upto o x w y e (h q)) l.least,
+      );
+    },
+  )
+]
+
+-- of the listed elements with a decided property one is least, or none has it
+pub find_least : {K : Type 0} {R : K → K → Ordering} → IsTotalOrder R → (P : K → Type 0) → ((x : K) → Decided (P x)) → (xs : List K)
+    → ((x : K) × IsLeastIn R P xs x) ⊎ AllByRecursion (λ x. P x → ⊥) xs
+find_least o P decide [] = inr tt
+find_least {R} o P decide (x ∷ xs) = elim (decide x) [
+  | inr n ↦ elim (find_least o P decide xs) [
+    | inl w ↦ let l = w.1 in inl (w.0, record { has = l.has; least = (λ p. absurd (n p), l.least) })
+    | inr none ↦ inr (n, none)
+  ]
+  | inl p ↦ elim (find_least o P decide xs) [
+    | inl w ↦ inl (least-with o P x w.0 xs p w.1)
+    | inr none ↦ inl (
+      x,
+      record {
+        has = p;
+        least = (
+          λ q. ap is_gt (tied_itself o x),
+          each-weaker (λ y. P y → ⊥) (λ y. P y → is_gt (R x y) ≡ false) xs (λ y n q. absurd (n q)) none,
+        );
+      },
+    )
+  ]
+]
+
+-- ---- decided equations
+
+-- elements that an order compares are one, or not
+pub decided-same : {K : Type 0} {R : K → K → Ordering} → IsTotalOrder R → ((x y : K) → R x y ≡ Equal → x ≡ y) → (x y : K) → Decided (x ≡ y)
+decided-same {K} {R} o h x y = by (R x y) refl
+  where
+    differ : (r : Ordering) → R x y ≡ r → (Equal ≡ r → ⊥) → x ≡ y → ⊥
+    differ r e n p = n (sym (tied_itself o x) ∙ ap (R x) p ∙ e)
+
+    by : (r : Ordering) → R x y ≡ r → Decided (x ≡ y)
+    by Less e = inr (differ Less e (λ q. cc))
+    by Equal e = inl (h x y e)
+    by Greater e = inr (differ Greater e (λ q. cc))
+
+pub decided-stamp : (s t : Stamp) → Decided (s ≡ t)
+decided-stamp s t = decided-same stamp_total stamp_cmp-same s t
+
+pub decided-front : (f g : Front) → Decided (f ≡ g)
+decided-front f g = decided-same (lists_total stamp_total) fronts_cmp-same f g

@@ -1,0 +1,152 @@
+-- Lists of which some elements are kept, and what is pending of them.
+use Rattle.std.proofs.Common.{◌≡◌, ◌+◌, Bool, ◌||◌, true, false, cond, List, [], ◌∷◌, ◌++◌, filter, refl, sym, ap, ◌∙◌, inl, inr}
+use Rattle.std.specs.Ordering.{is_eq}
+use Rattle.std.specs.List.{AllByRecursion, list_any, flat_map}
+use Rattle.std.proofs.lemmas.Bool.{or_parts, or_from, cond-true, cond-false, cond_both, cases_Bool}
+use Rattle.fw_flow.specs.Counting.{how_many}
+use Rattle.fw_flow.specs.declared.event.Message.{Message}
+use Rattle.fw_model.specs.History.{message_cmp, without, less}
+use Rattle.fw_model.proofs.CmpLaws.{equal_from_is_eq, message_cmp-same}
+
+-- what the wider of two tests leaves out, the narrower one leaves out
+passes-not : (j k : Bool) → (j ≡ true → k ≡ true) → k ≡ false → j ≡ false
+passes-not true k h e = sym (h refl) ∙ e
+passes-not false k h e = refl
+
+pub message_cmp-equal : (m x : Message) → is_eq (message_cmp m x) ≡ true → m ≡ x
+message_cmp-equal m x e = message_cmp-same m x (equal_from_is_eq (message_cmp m x) e)
+
+pub each-one : {X : Type 0} (P : X → Type 0) (xs : List X) → ((x : X) → P x) → AllByRecursion P xs
+each-one P [] h = tt
+each-one P (x ∷ xs) h = (h x, each-one P xs h)
+
+-- ---- what is kept of a list
+
+pub filter-in : {X : Type 0} (k : X → Bool) (x : X) (xs : List X) → k x ≡ true → filter k (x ∷ xs) ≡ x ∷ filter k xs
+filter-in k x xs e = cond-true (k x) (x ∷ filter k xs) (filter k xs) e
+
+pub filter-out : {X : Type 0} (k : X → Bool) (x : X) (xs : List X) → k x ≡ false → filter k (x ∷ xs) ≡ filter k xs
+filter-out k x xs e = cond-false (k x) (x ∷ filter k xs) (filter k xs) e
+
+pub filter-all : {X : Type 0} (k : X → Bool) (xs : List X) → AllByRecursion (λ x. k x ≡ true) xs → filter k xs ≡ xs
+filter-all k [] a = refl
+filter-all k (x ∷ xs) a = filter-in k x xs a.0 ∙ ap (λ zs. x ∷ zs) (filter-all k xs a.1)
+
+pub filter-none : {X : Type 0} (k : X → Bool) (xs : List X) → AllByRecursion (λ x. k x ≡ false) xs → filter k xs ≡ []
+filter-none k [] a = refl
+filter-none k (x ∷ xs) a = filter-out k x xs a.0 ∙ filter-none k xs a.1
+
+-- of what one test keeps, a narrower test keeps as much as of all
+pub filter-inner : {X : Type 0} (j k : X → Bool) (xs : List X) → AllByRecursion (λ x. j x ≡ true → k x ≡ true) xs → filter j (filter k xs) ≡ filter j xs
+filter-inner j k [] a = refl
+filter-inner j k (x ∷ xs) a = elim (cases_Bool (k x)) [
+  | inl e ↦ ap (filter j) (filter-in k x xs e) ∙ by (j x) (filter-inner j k xs a.1)
+  | inr e ↦ ap (filter j) (filter-out k x xs e) ∙ filter-inner j k xs a.1
+      ∙ sym (filter-out j x xs (passes-not (j x) (k x) a.0 e))
+]
+  where
+    by : (b : Bool) → filter j (filter k xs) ≡ filter j xs
+        → cond b (x ∷ filter j (filter k xs)) (filter j (filter k xs)) ≡ cond b (x ∷ filter j xs) (filter j xs)
+    by true e = ap (λ zs. x ∷ zs) e
+    by false e = e
+
+-- two tests in turn, where within the one the other agrees with a third
+pub filter-swap : {X : Type 0} (j k l : X → Bool) (xs : List X) → AllByRecursion (λ x. j x ≡ true → k x ≡ l x) xs → filter j (filter k xs) ≡ filter l (filter j xs)
+filter-swap j k l [] a = refl
+filter-swap j k l (x ∷ xs) a =
+    let rest = filter-swap j k l xs a.1 in
+    elim (cases_Bool (j x)) [
+      | inl e ↦ elim (cases_Bool (k x)) [
+        | inl i ↦ ap (filter j) (filter-in k x xs i) ∙ filter-in j x (filter k xs) e ∙ ap (λ zs. x ∷ zs) rest
+            ∙ sym (ap (filter l) (filter-in j x xs e) ∙ filter-in l x (filter j xs) (sym (a.0 e) ∙ i))
+        | inr i ↦ ap (filter j) (filter-out k x xs i) ∙ rest
+            ∙ sym (ap (filter l) (filter-in j x xs e) ∙ filter-out l x (filter j xs) (sym (a.0 e) ∙ i))
+      ]
+      | inr e ↦
+          cond_both (k x) (x ∷ filter k xs) (filter k xs) (λ zs. filter j zs ≡ filter j (filter k xs)) (λ i. filter-out j x (filter k xs) e) (λ i. refl)
+          ∙ rest ∙ sym (ap (filter l) (filter-out j x xs e))
+    ]
+
+pub any-filter : {X : Type 0} (test k : X → Bool) (xs : List X) → AllByRecursion (λ x. test x ≡ true → k x ≡ true) xs → list_any test (filter k xs) ≡ list_any test xs
+any-filter test k [] a = refl
+any-filter test k (x ∷ xs) a = elim (cases_Bool (k x)) [
+  | inl e ↦ ap (list_any test) (filter-in k x xs e) ∙ ap (λ b. test x || b) (any-filter test k xs a.1)
+  | inr e ↦ ap (list_any test) (filter-out k x xs e) ∙ any-filter test k xs a.1 ∙ sym (ap (λ b. b || list_any test xs) (passes-not (test x) (k x) a.0 e))
+]
+
+pub any_filter-none : {X : Type 0} (test k : X → Bool) (xs : List X) → list_any test xs ≡ false → list_any test (filter k xs) ≡ false
+any_filter-none test k [] n = refl
+any_filter-none test k (x ∷ xs) n =
+    let a = or_parts (test x) (list_any test xs) n in
+    let rest = any_filter-none test k xs a.1 in
+    cond_both (k x) (x ∷ filter k xs) (filter k xs) (λ zs. list_any test zs ≡ false) (λ e. or_from (test x) (list_any test (filter k xs)) a.0 rest) (λ e. rest)
+
+pub how_many-filter : {X : Type 0} (test k : X → Bool) (xs : List X) → AllByRecursion (λ x. test x ≡ true → k x ≡ true) xs → how_many test (filter k xs) ≡ how_many test xs
+how_many-filter test k [] a = refl
+how_many-filter test k (x ∷ xs) a = elim (cases_Bool (k x)) [
+  | inl e ↦ ap (how_many test) (filter-in k x xs e) ∙ ap (λ n. cond (test x) (n + 1) n) (how_many-filter test k xs a.1)
+  | inr e ↦ ap (how_many test) (filter-out k x xs e) ∙ how_many-filter test k xs a.1
+      ∙ sym (cond-false (test x) (how_many test xs + 1) (how_many test xs) (passes-not (test x) (k x) a.0 e))
+]
+
+pub flat_map-filter : {X Y : Type 0} (g : X → List Y) (k : X → Bool) (xs : List X) → AllByRecursion (λ x. k x ≡ false → g x ≡ []) xs → flat_map g (filter k xs) ≡ flat_map g xs
+flat_map-filter g k [] a = refl
+flat_map-filter g k (x ∷ xs) a = elim (cases_Bool (k x)) [
+  | inl e ↦ ap (flat_map g) (filter-in k x xs e) ∙ ap (λ zs. g x ++ zs) (flat_map-filter g k xs a.1)
+  | inr e ↦ ap (flat_map g) (filter-out k x xs e) ∙ flat_map-filter g k xs a.1 ∙ sym (ap (λ zs. zs ++ flat_map g xs) (a.0 e))
+]
+
+-- ---- what is pending of it
+
+without-here : (d x : Message) (ms : List Message) → is_eq (message_cmp d x) ≡ true → without d (x ∷ ms) ≡ ms
+without-here d x ms e = cond-true (is_eq (message_cmp d x)) ms (x ∷ without d ms) e
+
+without-later : (d x : Message) (ms : List Message) → is_eq (message_cmp d x) ≡ false → without d (x ∷ ms) ≡ x ∷ without d ms
+without-later d x ms e = cond-false (is_eq (message_cmp d x)) ms (x ∷ without d ms) e
+
+-- the messages without one that may be kept
+abbrev without_if : Bool → Message → List Message → List Message
+without_if b d ms = cond b (without d ms) ms
+
+without_if-later : (b : Bool) (d x : Message) (ms : List Message) → is_eq (message_cmp d x) ≡ false → without_if b d (x ∷ ms) ≡ x ∷ without_if b d ms
+without_if-later true d x ms e = without-later d x ms e
+without_if-later false d x ms e = refl
+
+without_if-here : (k : Message → Bool) (d x : Message) (ms : List Message) → is_eq (message_cmp d x) ≡ true → k d ≡ k x → filter k ms ≡ without_if (k d) d (filter k (x ∷ ms))
+without_if-here k d x ms e s = elim (cases_Bool (k d)) [
+  | inl i ↦ sym (cond-true (k d) (without d (filter k (x ∷ ms))) (filter k (x ∷ ms)) i ∙ ap (without d) (filter-in k x ms (sym s ∙ i)) ∙ without-here d x (filter k ms) e)
+  | inr i ↦ sym (cond-false (k d) (without d (filter k (x ∷ ms))) (filter k (x ∷ ms)) i ∙ filter-out k x ms (sym s ∙ i))
+]
+
+filter-without : (k : Message → Bool) (d : Message) (ms : List Message) → filter k (without d ms) ≡ without_if (k d) d (filter k ms)
+filter-without k d [] = cond_both (k d) (without d []) [] (λ l. [] ≡ l) (λ e. refl) (λ e. refl)
+filter-without k d (x ∷ xs) = elim (cases_Bool (is_eq (message_cmp d x))) [
+  | inl e ↦ ap (filter k) (without-here d x xs e) ∙ without_if-here k d x xs e (ap k (message_cmp-equal d x e))
+  | inr e ↦
+      let later = ap (filter k) (without-later d x xs e) in
+      let h = filter-without k d xs in
+      elim (cases_Bool (k x)) [
+        | inl i ↦ later ∙ filter-in k x (without d xs) i ∙ ap (λ l. x ∷ l) h ∙ sym (ap (without_if (k d) d) (filter-in k x xs i) ∙ without_if-later (k d) d x (filter k xs) e)
+        | inr i ↦ later ∙ filter-out k x (without d xs) i ∙ h ∙ sym (ap (without_if (k d) d) (filter-out k x xs i))
+      ]
+]
+
+-- what is kept of what is left is left of what is kept
+pub filter-less : (k : Message → Bool) (ms ds : List Message) → filter k (less ms ds) ≡ less (filter k ms) (filter k ds)
+filter-less k ms [] = refl
+filter-less k ms (d ∷ ds) =
+    let rest = filter-without k d (less ms ds) ∙ ap (without_if (k d) d) (filter-less k ms ds) in
+    elim (cases_Bool (k d)) [
+      | inl e ↦ rest ∙ cond-true (k d) _ _ e ∙ sym (ap (less (filter k ms)) (filter-in k d ds e))
+      | inr e ↦ rest ∙ cond-false (k d) _ _ e ∙ sym (ap (less (filter k ms)) (filter-out k d ds e))
+    ]
+
+-- Of what was sent one test keeps some, of what was delivered another, which keeps less there: of what is pending then, the
+-- second keeps what both keep of what was pending.
+pub pending-kept : (inside from : Message → Bool) (ms ds : List Message) → AllByRecursion (λ d. inside d ≡ true → from d ≡ true) ds
+    → filter inside (less (filter from ms) (filter inside ds)) ≡ filter inside (filter from (less ms ds))
+pending-kept inside from ms ds a =
+    filter-less inside (filter from ms) (filter inside ds)
+    ∙ ap (less (filter inside (filter from ms))) (filter-inner inside inside ds (each-one (λ d. inside d ≡ true → inside d ≡ true) ds (λ d i. i)) ∙ sym (filter-inner inside from ds a))
+    ∙ sym (filter-less inside (filter from ms) (filter from ds))
+    ∙ ap (filter inside) (sym (filter-less from ms ds))

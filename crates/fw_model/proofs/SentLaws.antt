@@ -1,0 +1,193 @@
+-- In a legal history each message is delivered at most as often as it was sent.
+use Rattle.std.proofs.Common.{◌≡◌, ℕ, ◌+◌, ◌<◌, ◌≤◌, true, false, cond, ◌&&◌, ◌==◌, List, [], ◌∷◌, ◌++◌, map, refl, sym, ap, ◌∙◌, inl, inr, arith}
+use Rattle.std.specs.Ordering.{is_eq, ordering_then}
+use Rattle.std.specs.Cmp.Lexicographic.{slice_cmp}
+use Rattle.std.specs.declared.cmp.Ordering.{Ordering}
+use Rattle.std.specs.declared.cmp.Ordering.TheVariants.{Less, Equal, Greater}
+use Rattle.std.proofs.lemmas.Bool.{or_cases, or_parts, cond_both, eqb-true}
+use Rattle.std.proofs.lemmas.Map.Text.{is_eq-slice_cmp}
+use Rattle.std.proofs.lemmas.Slice.Eq.{bytes_eq-Decides}
+use Rattle.std.proofs.lemmas.Cmp.{tied_itself, nat_list_cmp_total, lists_total}
+use Rattle.fw_time.specs.Stamp.{Stamp, same, stamp_cmp}
+use Rattle.fw_bag.specs.declared.rec.Rec.{Rec}
+use Rattle.fw_bag.specs.Rec.{rec_cmp}
+use Rattle.fw_bag.proofs.RecLaws.{is_eq-same, rec_cmp-refl}
+use Rattle.fw_flow.specs.declared.event.Event.{Event}
+use Rattle.fw_flow.specs.declared.event.Event.TheVariants.{Inject, Deliver, Notify}
+use Rattle.fw_flow.specs.declared.event.Message.{Message}
+use Rattle.fw_flow.specs.WholeBags.{Timed}
+use Rattle.fw_flow.specs.Dataflow.{System, sender}
+use Rattle.fw_flow.specs.NodeFunction.{place, sends, sent_by}
+use Rattle.fw_flow.specs.Projection.{events_at}
+use Rattle.fw_model.specs.History.{message_cmp, is_among, without, less, some_at, sent, delivered, pending, IsEnabled, IsLegal}
+use Rattle.fw_model.proofs.WeightLaws.{weigh, weigh-append, one, one-out}
+
+-- ---- messages that the order finds the same
+
+both_equal : (o p : Ordering) → is_eq (ordering_then o p) ≡ true → (is_eq o ≡ true) × (is_eq p ≡ true)
+both_equal Less p e = cc
+both_equal Equal p e = (refl, e)
+both_equal Greater p e = cc
+
+stamp_cmp-same : (s t : Stamp) → is_eq (stamp_cmp s t) ≡ true → s ≡ t
+stamp_cmp-same s t e = (bytes_eq-Decides s t).0 (sym (is_eq-slice_cmp s t) ∙ e)
+
+causes-same : (cs ds : List Stamp) → is_eq (slice_cmp stamp_cmp cs ds) ≡ true → cs ≡ ds
+causes-same [] [] e = refl
+causes-same [] (d ∷ ds) e = cc
+causes-same (c ∷ cs) [] e = cc
+causes-same (c ∷ cs) (d ∷ ds) e =
+    let a = both_equal (stamp_cmp c d) (slice_cmp stamp_cmp cs ds) e in
+    ap (λ x. x ∷ cs) (stamp_cmp-same c d a.0) ∙ ap (λ xs. d ∷ xs) (causes-same cs ds a.1)
+
+pub message_cmp-same : (m x : Message) → is_eq (message_cmp m x) ≡ true → m ≡ x
+message_cmp-same m x e =
+    let a = both_equal (stamp_cmp m.at x.at) (ordering_then (rec_cmp m.rec x.rec) (slice_cmp stamp_cmp m.causes x.causes)) e in
+    let b = both_equal (rec_cmp m.rec x.rec) (slice_cmp stamp_cmp m.causes x.causes) a.1 in
+    let at : Stamp → Message = λ t. record { at = t; rec = m.rec; causes = m.causes } in
+    let rec : Rec → Message = λ r. record { at = x.at; rec = r; causes = m.causes } in
+    let causes : List Stamp → Message = λ cs. record { at = x.at; rec = x.rec; causes = cs } in
+    ap at (stamp_cmp-same m.at x.at a.0) ∙ ap rec (is_eq-same m.rec x.rec b.0) ∙ ap causes (causes-same m.causes x.causes b.1)
+
+three_equal : (o p q : Ordering) → o ≡ Equal → p ≡ Equal → q ≡ Equal → is_eq (ordering_then o (ordering_then p q)) ≡ true
+three_equal o p q a b c = ap (λ x. is_eq (ordering_then x (ordering_then p q))) a ∙ ap (λ x. is_eq (ordering_then x q)) b ∙ ap is_eq c
+
+message_cmp-self : (m : Message) → is_eq (message_cmp m m) ≡ true
+message_cmp-self m =
+    three_equal (stamp_cmp m.at m.at) (rec_cmp m.rec m.rec) (slice_cmp stamp_cmp m.causes m.causes)
+    (tied_itself nat_list_cmp_total m.at) (rec_cmp-refl m.rec) (tied_itself (lists_total nat_list_cmp_total) m.causes)
+
+-- ---- how often a message is there
+
+-- 1 for this message, and else 0
+abbrev pub copy : Message → Message → ℕ
+copy m x = cond (is_eq (message_cmp m x)) 1 0
+
+copy-self : (m : Message) → copy m m ≡ 1
+copy-self m = ap (λ b. cond b 1 0) (message_cmp-self m)
+
+pub without-weigh : (w : Message → ℕ) (m : Message) (ms : List Message) → 0 < weigh (copy m) ms → weigh w ms ≡ w m + weigh w (without m ms)
+unfolding weigh
+without-weigh w m [] l = absurd (omega arith)
+without-weigh w m (x ∷ xs) l =
+    cond_both (is_eq (message_cmp m x)) xs (x ∷ without m xs) (λ ys. weigh w (x ∷ xs) ≡ w m + weigh w ys)
+    (λ e. let i = ap w (message_cmp-same m x e) in omega arith)
+    (λ e. let z : copy m x ≡ 0 = ap (λ b. cond b 1 0) e in let h = without-weigh w m xs (omega arith) in omega arith)
+
+pub is_among-copies : (m : Message) (ms : List Message) → is_among m ms ≡ true → 0 < weigh (copy m) ms
+unfolding weigh
+is_among-copies m [] k = absurd (cc)
+is_among-copies m (x ∷ xs) k = elim (or_cases (is_eq (message_cmp m x)) (is_among m xs) k) [
+  | inl e ↦ let i : copy m x ≡ 1 = ap (λ b. cond b 1 0) e in omega arith
+  | inr e ↦ let h = is_among-copies m xs e in omega arith
+]
+
+-- each message is in the first list at most as often as in the second
+abbrev pub IsSub : List Message → List Message → Type 0
+IsSub ds ms = (m : Message) → weigh (copy m) ds ≤ weigh (copy m) ms
+
+-- what is left weighs what is missing
+pub less-weigh : (w : Message → ℕ) (ms ds : List Message) → IsSub ds ms → weigh w (less ms ds) + weigh w ds ≡ weigh w ms
+unfolding weigh
+less-weigh w ms [] s = omega arith
+less-weigh w ms (d ∷ ds) s =
+    let rest : IsSub ds ms = λ m. let a = s m in omega arith in
+    let a = s d in
+    let b = less-weigh (copy d) ms ds rest in
+    let c = copy-self d in
+    let e = without-weigh w d (less ms ds) (omega arith) in
+    let h = less-weigh w ms ds rest in
+    omega arith
+
+-- ---- what was sent grows
+
+pub sent-grows : (sys : System) (h : List Event) (v : Event) (e : ℕ) (w : Message → ℕ) → weigh w (sent sys h e) ≤ weigh w (sent sys (v ∷ h) e)
+sent-grows sys h v e w =
+    let q = sender sys.flow e in
+    let vs = events_at sys.flow q h in
+    cond_both (place sys.flow v == q) (v ∷ vs) vs (λ ws. weigh w (sent sys h e) ≤ weigh w (sent_by sys q ws))
+    (λ c. omega (arith, weigh-append w (sends sys q vs v) (sent_by sys q vs))) (λ c. omega arith)
+
+delivered-sub : (sys : System) (h : List Event) (v : Event) → IsEnabled sys h v → (e : ℕ) → IsSub (delivered h e) (sent sys h e)
+    → IsSub (delivered (v ∷ h) e) (sent sys h e)
+unfolding weigh
+delivered-sub sys h (Inject s x) k e i = i
+delivered-sub sys h (Notify p t) k e i = i
+delivered-sub sys h (Deliver d m) k e i = λ x.
+    cond_both (d == e) (m ∷ []) [] (λ ms. weigh (copy x) (ms ++ delivered h e) ≤ weigh (copy x) (sent sys h e))
+    (λ c.
+    let same_edge = eqb-true d e c in
+    let there = is_among-copies m (pending sys h e) (sym (ap (λ n. is_among m (pending sys h n)) same_edge) ∙ k.is_pending) in
+    let a = less-weigh (copy m) (sent sys h e) (delivered h e) i in
+    cond_both (is_eq (message_cmp x m)) 1 0 (λ n. n + weigh (copy x) (delivered h e) ≤ weigh (copy x) (sent sys h e))
+    (λ z.
+    let f = message_cmp-same x m z in
+    let g = ap (λ y. weigh (copy y) (delivered h e)) f in
+    let j = ap (λ y. weigh (copy y) (sent sys h e)) f in
+    omega arith)
+    (λ z. let y = i x in omega arith))
+    (λ c. i x)
+
+-- in a legal history each message was delivered at most as often as it was sent
+pub delivered-was_sent : (sys : System) (h : List Event) → IsLegal sys h → (e : ℕ) → IsSub (delivered h e) (sent sys h e)
+unfolding weigh
+delivered-was_sent sys [] l e = λ m. omega arith
+delivered-was_sent sys (v ∷ h) l e = λ m.
+    let a = delivered-sub sys h v l.0 e (delivered-was_sent sys h l.1 e) m in
+    let b = sent-grows sys h v e (copy m) in
+    omega arith
+
+-- ---- at a stamp
+
+-- a message without its causes
+abbrev pub timed_message : Message → Timed
+timed_message m = record { at = m.at; rec = m.rec }
+
+-- messages without their causes
+abbrev pub timed_of : List Message → List Timed
+timed_of ms = map timed_message ms
+
+pub timed_of-weigh : (w : Timed → ℕ) (ms : List Message) → weigh w (timed_of ms) ≡ weigh (λ m. w (timed_message m)) ms
+unfolding weigh
+timed_of-weigh w [] = refl
+timed_of-weigh w (m ∷ ms) = ap (λ n. w (timed_message m) + n) (timed_of-weigh w ms)
+
+-- what was delivered weighs no more than what was sent
+pub delivered-lighter : (sys : System) (h : List Event) → IsLegal sys h → (e : ℕ) (w : Timed → ℕ)
+    → weigh w (timed_of (delivered h e)) ≤ weigh w (timed_of (sent sys h e))
+delivered-lighter sys h l e w =
+    let u : Message → ℕ = λ m. w (timed_message m) in
+    let a = less-weigh u (sent sys h e) (delivered h e) (delivered-was_sent sys h l e) in
+    let b = timed_of-weigh w (delivered h e) in
+    let c = timed_of-weigh w (sent sys h e) in
+    omega arith
+
+-- after a legal history what is delivered next weighs, with the rest, no more than what was sent before
+pub next_delivered-lighter : (sys : System) (h : List Event) (v : Event) → IsLegal sys h → IsEnabled sys h v → (e : ℕ) (w : Timed → ℕ)
+    → weigh w (timed_of (delivered (v ∷ h) e)) ≤ weigh w (timed_of (sent sys h e))
+next_delivered-lighter sys h v l k e w =
+    let u : Message → ℕ = λ m. w (timed_message m) in
+    let a = less-weigh u (sent sys h e) (delivered (v ∷ h) e) (delivered-sub sys h v k e (delivered-was_sent sys h l e)) in
+    let b = timed_of-weigh w (delivered (v ∷ h) e) in
+    let c = timed_of-weigh w (sent sys h e) in
+    omega arith
+
+none_at-weigh : (t : Stamp) (q : Rec) (ms : List Message) → some_at (same t) ms ≡ false → weigh (λ m. one t q (timed_message m)) ms ≡ 0
+unfolding weigh
+none_at-weigh t q [] k = refl
+none_at-weigh t q (m ∷ ms) k =
+    let a = or_parts (same t m.at) (some_at (same t) ms) k in
+    let z = one-out t q (timed_message m) (ap (λ b. b && is_eq (rec_cmp q m.rec)) a.0) in
+    let h = none_at-weigh t q ms a.1 in
+    omega arith
+
+-- where nothing is pending at a stamp, what was sent at it was delivered
+pub quiet-delivered : (sys : System) (h : List Event) → IsLegal sys h → (e : ℕ) (t : Stamp) → some_at (same t) (pending sys h e) ≡ false
+    → (q : Rec) → weigh (one t q) (timed_of (delivered h e)) ≡ weigh (one t q) (timed_of (sent sys h e))
+quiet-delivered sys h l e t k q =
+    let u : Message → ℕ = λ m. one t q (timed_message m) in
+    let a = less-weigh u (sent sys h e) (delivered h e) (delivered-was_sent sys h l e) in
+    let z = none_at-weigh t q (pending sys h e) k in
+    let b = timed_of-weigh (one t q) (delivered h e) in
+    let c = timed_of-weigh (one t q) (sent sys h e) in
+    omega arith

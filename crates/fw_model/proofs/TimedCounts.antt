@@ -1,0 +1,145 @@
+-- Bags of timed recs as their ascending lists.
+use Rattle.std.proofs.Common.{◌≡◌, ℕ, ◌+◌, true, false, cond, List, [], ◌∷◌, map, refl, sym, ap, subst, ◌∙◌, inl, inr, arith}
+use Rattle.std.specs.List.{AllByRecursion}
+use Rattle.std.specs.Prelude.{filter}
+use Rattle.std.specs.Cmp.{IsTotalOrder}
+use Rattle.std.specs.Ordering.{is_le, is_gt, ordering_then, ordering_reverse}
+use Rattle.std.specs.declared.cmp.Ordering.{Ordering}
+use Rattle.std.specs.declared.cmp.Ordering.TheVariants.{Less, Equal, Greater}
+use Rattle.std.proofs.lemmas.Bool.{cases_Bool, cond_both}
+use Rattle.std.proofs.lemmas.Cmp.{tied_itself, upto, nat_list_cmp_total, on_total, then_total}
+use Rattle.fw_time.specs.Stamp.{Stamp, same, stamp_cmp}
+use Rattle.fw_bag.specs.declared.rec.Rec.{Rec}
+use Rattle.fw_bag.specs.Rec.{rec_cmp, IsAscending}
+use Rattle.fw_bag.specs.Bag.{how_often}
+use Rattle.fw_bag.specs.Keyed.{sorted}
+use Rattle.fw_bag.proofs.RecLaws.{rec_order}
+use Rattle.fw_bag.proofs.BagLaws.{how_often-bag_sum, IsAscending-bag_sum, same_from_how_often}
+use Rattle.fw_flow.specs.WholeBags.{Timed, timed_cmp, with_timed, in_order, recs_where, outputs_of, outputs_of_kind}
+use Rattle.fw_flow.specs.declared.event.Message.{Message}
+use Rattle.fw_flow.specs.Dataflow.{System, sender, kind_of, in_edges, batches_of}
+use Rattle.fw_model.specs.Denotation.{Family, IsDenotation, bag_at}
+use Rattle.fw_model.specs.LawsOfDeliveries.{recs_at}
+use Rattle.fw_model.proofs.WeightLaws.{weigh, one, how_often-where, same-is}
+use Rattle.fw_model.proofs.SentLaws.{timed_message, timed_of}
+
+-- ---- the same recs
+
+with_timed-weigh : (w : Timed → ℕ) (r : Timed) (xs : List Timed) → weigh w (with_timed r xs) ≡ w r + weigh w xs
+unfolding weigh
+with_timed-weigh w r [] = refl
+with_timed-weigh w r (x ∷ xs) =
+    let h = with_timed-weigh w r xs in
+    cond_both (is_le (timed_cmp r x)) (r ∷ x ∷ xs) (x ∷ with_timed r xs) (λ ys. weigh w ys ≡ w r + weigh w (x ∷ xs))
+    (λ e. refl) (λ e. omega arith)
+
+pub in_order-weigh : (w : Timed → ℕ) (xs : List Timed) → weigh w (in_order xs) ≡ weigh w xs
+unfolding weigh
+in_order-weigh w [] = refl
+in_order-weigh w (x ∷ xs) = let h = in_order-weigh w xs in let a = with_timed-weigh w x (in_order xs) in omega arith
+
+-- ---- in order
+
+-- the order of timed recs is total
+pub timed_order : IsTotalOrder timed_cmp
+timed_order = then_total (on_total (λ (r : Timed). r.at) nat_list_cmp_total) (on_total (λ (r : Timed). r.rec) rec_order)
+
+-- no timed rec is greater than a later one
+pub IsAscendingTimed : List Timed → Type 0
+IsAscendingTimed [] = Unit {0}
+IsAscendingTimed (x ∷ xs) = AllByRecursion (λ y. is_gt (timed_cmp x y) ≡ false) xs × IsAscendingTimed xs
+
+le_not_gt : (o : Ordering) → is_le o ≡ true → is_gt o ≡ false
+le_not_gt Less h = refl
+le_not_gt Equal h = refl
+le_not_gt Greater h = cc
+
+not_le_greater : (o : Ordering) → is_le o ≡ false → is_gt (ordering_reverse o) ≡ false
+not_le_greater Less h = cc
+not_le_greater Equal h = cc
+not_le_greater Greater h = refl
+
+above-with_timed : (P : Timed → Type 0) (r : Timed) (xs : List Timed) → P r → AllByRecursion P xs → AllByRecursion P (with_timed r xs)
+above-with_timed P r [] p a = (p, tt)
+above-with_timed P r (x ∷ xs) p a =
+    cond_both (is_le (timed_cmp r x)) (r ∷ x ∷ xs) (x ∷ with_timed r xs) (AllByRecursion P) (λ e. (p, a)) (λ e. (a.0, above-with_timed P r xs p a.1))
+
+above-lower : (r x : Timed) (xs : List Timed) → is_gt (timed_cmp r x) ≡ false → AllByRecursion (λ y. is_gt (timed_cmp x y) ≡ false) xs
+    → AllByRecursion (λ y. is_gt (timed_cmp r y) ≡ false) xs
+above-lower r x [] h a = tt
+above-lower r x (y ∷ ys) h a = (upto timed_order r x y h a.0, above-lower r x ys h a.1)
+
+ascending-with_timed : (r : Timed) (xs : List Timed) → IsAscendingTimed xs → IsAscendingTimed (with_timed r xs)
+unfolding IsAscendingTimed
+ascending-with_timed r [] s = (tt, tt)
+ascending-with_timed r (x ∷ xs) s =
+    cond_both (is_le (timed_cmp r x)) (r ∷ x ∷ xs) (x ∷ with_timed r xs) IsAscendingTimed
+    (λ e. let l = le_not_gt (timed_cmp r x) e in ((l, above-lower r x xs l s.0), s))
+    (λ e. (
+      above-with_timed (λ y. is_gt (timed_cmp x y) ≡ false) r xs (ap is_gt (timed_order.antisymm x r) ∙ not_le_greater (timed_cmp r x) e) s.0,
+      ascending-with_timed r xs s.1,
+    ))
+
+pub ascending-in_order : (xs : List Timed) → IsAscendingTimed (in_order xs)
+unfolding IsAscendingTimed
+ascending-in_order [] = tt
+ascending-in_order (x ∷ xs) = ascending-with_timed x (in_order xs) (ascending-in_order xs)
+
+then_gt : (o p : Ordering) → o ≡ Equal → is_gt (ordering_then o p) ≡ false → is_gt p ≡ false
+then_gt o p e h = sym (ap (λ x. is_gt (ordering_then x p)) e) ∙ h
+
+above-where : (t : Stamp) (x : Timed) (xs : List Timed) → same t x.at ≡ true → AllByRecursion (λ y. is_gt (timed_cmp x y) ≡ false) xs
+    → AllByRecursion (λ r. is_gt (rec_cmp x.rec r) ≡ false) (recs_where (same t) xs)
+above-where t x [] k a = tt
+above-where t x (y ∷ ys) k a =
+    let rest = above-where t x ys k a.1 in
+    cond_both (same t y.at) (y ∷ filter (λ r. same t r.at) ys) (filter (λ r. same t r.at) ys)
+    (λ zs. AllByRecursion (λ r. is_gt (rec_cmp x.rec r) ≡ false) (map (λ z. z.rec) zs))
+    (λ e.
+    let at : x.at ≡ y.at = sym (same-is t x.at k) ∙ same-is t y.at e in
+    let tied : stamp_cmp x.at y.at ≡ Equal = sym (ap (stamp_cmp x.at) at) ∙ tied_itself nat_list_cmp_total x.at in
+    (then_gt (stamp_cmp x.at y.at) (rec_cmp x.rec y.rec) tied a.0, rest))
+    (λ e. rest)
+
+pub ascending-where : (t : Stamp) (xs : List Timed) → IsAscendingTimed xs → IsAscending (recs_where (same t) xs)
+unfolding IsAscendingTimed
+ascending-where t [] s = tt
+ascending-where t (x ∷ xs) s =
+    let rest = ascending-where t xs s.1 in
+    cond_both (same t x.at) (x ∷ filter (λ r. same t r.at) xs) (filter (λ r. same t r.at) xs) (λ zs. IsAscending (map (λ z. z.rec) zs))
+    (λ e. (above-where t x xs e s.0, rest)) (λ e. rest)
+
+-- ---- the bags of a denotation
+
+pub family-weigh : (sys : System) (family : Family) → IsDenotation sys family → (e : ℕ) (w : Timed → ℕ)
+    → let q = sender sys.flow e in
+    weigh w (family e) ≡ weigh w (outputs_of_kind sys.flow (kind_of sys.flow q) (batches_of sys q) (map family (in_edges sys.flow q)))
+family-weigh sys family d e w = ap (weigh w) (d e) ∙ in_order-weigh w _
+
+pub bag-ascending : (sys : System) (family : Family) → IsDenotation sys family → (e : ℕ) (t : Stamp) → IsAscending (bag_at family e t)
+bag-ascending sys family d e t =
+    let q = sender sys.flow e in
+    subst (λ xs. IsAscending (recs_where (same t) xs)) (sym (d e)) (ascending-where t (outputs_of sys family q) (ascending-in_order (outputs_of_kind sys.flow (kind_of sys.flow q) (batches_of sys q) (map family (in_edges sys.flow q)))))
+
+pub recs_at-timed : (t : Stamp) (ms : List Message) → recs_at t ms ≡ recs_where (same t) (timed_of ms)
+recs_at-timed t [] = refl
+recs_at-timed t (m ∷ ms) =
+    let h = recs_at-timed t ms in
+    elim (cases_Bool (same t m.at)) [
+      | inl e ↦
+          ap (λ b. map (λ (x : Message). x.rec) (cond b (m ∷ filter (λ (x : Message). same t x.at) ms) (filter (λ (x : Message). same t x.at) ms))) e
+          ∙ ap (λ rs. m.rec ∷ rs) h
+          ∙ sym (ap (λ b. map (λ (x : Timed). x.rec) (cond b (timed_message m ∷ filter (λ (x : Timed). same t x.at) (timed_of ms)) (filter (λ (x : Timed). same t x.at) (timed_of ms)))) e)
+      | inr e ↦
+          ap (λ b. map (λ (x : Message). x.rec) (cond b (m ∷ filter (λ (x : Message). same t x.at) ms) (filter (λ (x : Message). same t x.at) ms))) e
+          ∙ h
+          ∙ sym (ap (λ b. map (λ (x : Timed). x.rec) (cond b (timed_message m ∷ filter (λ (x : Timed). same t x.at) (timed_of ms)) (filter (λ (x : Timed). same t x.at) (timed_of ms)))) e)
+    ]
+
+pub how_often-recs_at : (t : Stamp) (q : Rec) (ms : List Message) → how_often q (recs_at t ms) ≡ weigh (one t q) (timed_of ms)
+how_often-recs_at t q ms = ap (how_often q) (recs_at-timed t ms) ∙ how_often-where t q (timed_of ms)
+
+-- recs that are as often in an ascending list are that list, once sorted
+pub sorted-is : (rs bag : List Rec) → IsAscending bag → ((q : Rec) → how_often q rs ≡ how_often q bag) → sorted rs ≡ bag
+sorted-is rs bag a k =
+    same_from_how_often (sorted rs) bag (IsAscending-bag_sum rs [] tt) a (λ q. let s = how_often-bag_sum q rs [] in let e = k q in omega arith)

@@ -1,0 +1,85 @@
+-- Laws of the denotation: what an out bag depends on, that there is exactly one denotation, which rounds reach, and at
+-- which stamps its recs are.
+use Rattle.std.specs.Prelude.{◌≡◌, ℕ, suc, ◌+◌, ◌*◌, ◌<◌, ◌≤◌, true, false, List, [], ◌∷◌, length, Some}
+use Rattle.std.specs.List.{AllByRecursion}
+use Rattle.fw_time.specs.Stamp.{Stamp, leq, same, in_domain}
+use Rattle.fw_flow.specs.Dataflow.{System, Dataflow, sender, receiver, bounds_of, send_stamp, is_numbered}
+use Rattle.fw_flow.specs.WellFormed.{IsWellFormed}
+use Rattle.fw_flow.specs.Walks.{is_looped}
+use Rattle.fw_flow.specs.WholeBags.{Timed, recs_where, in_order, outputs_of}
+use Rattle.fw_model.specs.Denotation.{Family, IsDenotation, rounds, bag_at}
+use Rattle.fw_model.specs.LawsOfLegalHistories.{HasEpochs}
+
+-- how many rounds reach the denotation: for a rank of loops up to the number of nodes, a counter up to 1024, and a rank
+-- below the number of nodes within each
+unfoldable pub enough_rounds : Dataflow → ℕ
+enough_rounds flow = (length flow.nodes + 1) * 1025 * length flow.nodes
+
+-- A measure of the stamps of each node's domain, which is bounded and falls towards the sender of each edge: into a node
+-- that is not looped whatever the stamps, and into a looped one towards each stamp that sends at this one or below.
+pub record Measure (flow : Dataflow) : Type 0 where
+  pub measure : ℕ → Stamp → ℕ
+  pub bound : (p : ℕ) → p < length flow.nodes → (t : Stamp) → measure p t < enough_rounds flow
+  pub into_unlooped : (e : ℕ) → e < length flow.edges → is_looped flow (receiver flow e) ≡ false → (s t : Stamp)
+      → measure (sender flow e) s < measure (receiver flow e) t
+  pub into_looped : (e : ℕ) → e < length flow.edges → is_looped flow (receiver flow e) ≡ true → (s t u : Stamp)
+      → send_stamp flow (sender flow e) s ≡ Some u → leq u t ≡ true → measure (sender flow e) s < measure (receiver flow e) t
+
+-- each well-formed dataflow has a measure
+abbrev pub MeasureExists : Type 0
+MeasureExists = (flow : Dataflow) → IsWellFormed flow → Measure flow
+
+-- each bag of the family is in order
+abbrev pub AreInOrder : Family → Type 0
+AreInOrder family = (e : ℕ) → in_order (family e) ≡ family e
+
+-- two bags in order that have the same recs at each stamp are the same
+abbrev pub RecsAtStampsDecideBag : Type 0
+RecsAtStampsDecideBag = (bag other : List Timed) → in_order bag ≡ bag → in_order other ≡ other
+    → ((t : Stamp) → recs_where (same t) bag ≡ recs_where (same t) other) → bag ≡ other
+
+-- What a node sends on an edge at a stamp depends on the bags on its in-edges at stamps of lesser measure alone.
+abbrev pub OutBagsDependOnLesserMeasure : Type 0
+OutBagsDependOnLesserMeasure = (sys : System) (family other : Family) → IsWellFormed sys.flow → (by : Measure sys.flow)
+    → AreInOrder family → AreInOrder other → (e : ℕ) → e < length sys.flow.edges → (t : Stamp)
+    → ((d : ℕ) → d < length sys.flow.edges → receiver sys.flow d ≡ sender sys.flow e → (s : Stamp)
+    → by.measure (sender sys.flow e) s < by.measure (receiver sys.flow e) t → bag_at family d s ≡ bag_at other d s)
+    → recs_where (same t) (outputs_of sys family (sender sys.flow e)) ≡ recs_where (same t) (outputs_of sys other (sender sys.flow e))
+
+-- two families that solve the equations are the same on each edge
+abbrev pub DenotationIsTheOnlyOne : Type 0
+DenotationIsTheOnlyOne = (sys : System) (family other : Family) → IsWellFormed sys.flow
+    → IsDenotation sys family → IsDenotation sys other → (e : ℕ) → family e ≡ other e
+
+-- the family after enough rounds solves the equations
+abbrev pub DenotationExists : Type 0
+DenotationExists = (sys : System) → IsWellFormed sys.flow → IsDenotation sys (rounds sys (enough_rounds sys.flow))
+
+-- a family that the next round leaves unchanged solves the equations
+abbrev pub UnchangedRoundIsDenotation : Type 0
+UnchangedRoundIsDenotation = (sys : System) (n : ℕ)
+    → ((e : ℕ) → rounds sys (suc n) e ≡ rounds sys n e) → IsDenotation sys (rounds sys n)
+
+-- once rounds have reached a solution, each later round is the same
+abbrev pub LaterRoundsAreTheSame : Type 0
+LaterRoundsAreTheSame = (sys : System) (n m : ℕ) → IsDenotation sys (rounds sys n) → n ≤ m
+    → (e : ℕ) → rounds sys m e ≡ rounds sys n e
+
+-- each bag of the denotation is in order
+abbrev pub DenotationIsInOrder : Type 0
+DenotationIsInOrder = (sys : System) (family : Family) → IsDenotation sys family → AreInOrder family
+
+-- each timed rec of the denotation is at a stamp of the domain of its edge's receiver
+abbrev pub DenotationIsInDomain : Type 0
+DenotationIsInDomain = (sys : System) (family : Family) → IsWellFormed sys.flow → HasEpochs sys → IsDenotation sys family
+    → (e : ℕ) → AllByRecursion (λ (r : Timed). in_domain (bounds_of sys.flow (receiver sys.flow e)) r.at ≡ true) (family e)
+
+-- the timed recs are at the numbers from n on, one at each, in order
+abbrev pub AreNumberedFrom : ℕ → List Timed → Type 0
+AreNumberedFrom n [] = Unit {0}
+AreNumberedFrom n (r ∷ rs) = (r.at ≡ n ∷ []) × AreNumberedFrom (n + 1) rs
+
+-- the timed recs of the denotation on a numbered edge are at the numbers from 0 on, one at each, in order
+abbrev pub DenotationIsNumbered : Type 0
+DenotationIsNumbered = (sys : System) (family : Family) → IsWellFormed sys.flow → IsDenotation sys family
+    → (e : ℕ) → is_numbered sys.flow e ≡ true → AreNumberedFrom 0 (family e)

@@ -1,0 +1,54 @@
+-- Laws of existence: complete frontiers, lists of outside stamps, and largest choices.
+use Rattle.std.specs.Prelude.{◌≡◌, ◌⊎◌, ℕ, ◌<◌, Bool, false, true, List, length}
+use Rattle.fw_time.specs.Stamp.{Stamp}
+use Rattle.fw_time.specs.declared.stamp.Bounds.{Bounds}
+use Rattle.fw_frontier.specs.Frontier.{Frontier, IsFrontier}
+use Rattle.fw_frontier.specs.Front.{Front, frontier_of, Names}
+use Rattle.fw_flow.specs.declared.choice.Cut.{Cut}
+use Rattle.fw_flow.specs.declared.event.Event.{Event}
+use Rattle.fw_flow.specs.Dataflow.{System, kind_of, policy_of, bounds_of}
+use Rattle.fw_flow.specs.WellFormed.{IsWellFormed}
+use Rattle.fw_model.specs.History.{IsComplete}
+use Rattle.fw_model.specs.Machine.{Machine, events, front_of, is_failed}
+use Rattle.fw_model.specs.Choice.{View, by_checkpoints, restoring, IsCandidate, Choice, IsConsistent, IsCutWithin, IsLargest}
+use Rattle.fw_model.specs.Steps.{GrowsTo}
+
+-- each frontier of a domain has a list of outside stamps that names it
+abbrev pub FrontierHasFront : Type 0
+FrontierHasFront = (bounds : Bounds) (f : Frontier) → IsFrontier bounds f → (os : Front) × Names bounds os f
+
+-- after each history of a well-formed flow, legal or not, there are complete frontiers
+abbrev pub CompleteExists : Type 0
+CompleteExists = (sys : System) (h : List Event) → IsWellFormed sys.flow → (done : ℕ → Frontier) × IsComplete sys h done
+
+-- after each history there is at most one family of complete frontiers
+abbrev pub CompleteIsTheOnlyOne : Type 0
+CompleteIsTheOnlyOne = (sys : System) (h : List Event) (one other : ℕ → Frontier) → IsComplete sys h one → IsComplete sys h other
+    → one ≡ other
+
+-- more is complete than is settled, at some node that is not failed
+pub record HasMoreToSettle (sys : System) (state : Machine) (done : ℕ → Frontier) : Type 0 where
+  pub node : ℕ
+  pub at : Stamp
+  pub declared : node < length sys.flow.nodes
+  pub live : is_failed state node ≡ false
+  pub complete : done node at ≡ true
+  pub unsettled : frontier_of (bounds_of sys.flow node) (front_of state.settled node) at ≡ false
+
+-- settled can grow to what is complete wherever there is more of it
+abbrev pub SettledCanGrow : Type 0
+SettledCanGrow = (sys : System) (state : Machine) (done : ℕ → Frontier) → IsComplete sys (events state.history) done
+    → HasMoreToSettle sys state done → (settled : List Front) × GrowsTo sys state done settled
+
+-- where a node is restored by its checkpoints, of two cuts that it offers one lies within the other
+abbrev pub AreCheckpointsChains : System → Machine → (ℕ → Bool) → View → Type 0
+AreCheckpointsChains sys state lost view =
+    (p : ℕ) (one other : Cut) → p < length sys.flow.nodes → restoring (kind_of sys.flow p) (policy_of sys.flow p) ≡ by_checkpoints
+    → IsCandidate sys state lost view p one → IsCandidate sys state lost view p other
+    → IsCutWithin sys p one other ⊎ IsCutWithin sys p other one
+
+-- where some choice is consistent and checkpoints are chains, there is a largest choice
+abbrev pub LargestChoiceExists : Type 0
+LargestChoiceExists = (sys : System) (state : Machine) (lost : ℕ → Bool) (view : View) → AreCheckpointsChains sys state lost view
+    → (choice : Choice) → IsConsistent sys state (IsCandidate sys state lost view) choice
+    → (largest : Choice) × IsLargest sys state (IsCandidate sys state lost view) largest

@@ -1,0 +1,3 @@
+pub mod CoordinateLaws
+pub mod ReadLaws
+pub mod StepLaws

@@ -1,0 +1,83 @@
+-- The steps that lines spell are steps of the flow.
+use Rattle.std.proofs.Common.{◌≡◌, ℕ, ◌<◌, Bool, true, false, cond, List, [], ◌∷◌, length, map, Option, Some, None, IfSome, Result, Ok, Err, IfOk, refl, subst}
+use Rattle.std.proofs.lemmas.List.{length-map}
+use Rattle.std.proofs.lemmas.List.Quantifiers.{position-Some}
+use Rattle.std.specs.List.{AllByRecursion, cons_option}
+use Rattle.std.specs.Option.{option_map, option_and_then, option_map_or, ok_or}
+use Rattle.std.specs.Result.{result_ok}
+use Rattle.std.specs.Str.{bytes_eq}
+use Rattle.fw_time.specs.Stamp.{in_domain}
+use Rattle.fw_time.specs.declared.stamp.Bounds.{Bounds}
+use Rattle.fw_lines.specs.declared.refusal.Code.{Code}
+use Rattle.fw_lines.specs.declared.refusal.Code.TheVariants.{S1, S2, S3}
+use Rattle.fw_lines.specs.Lines.{Said}
+use Rattle.fw_flow.specs.declared.kind.Kind.{Kind}
+use Rattle.fw_flow.specs.declared.node.Node.{Node}
+use Rattle.fw_flow.specs.declared.node.Edge.{Edge}
+use Rattle.fw_flow.specs.declared.step.Step.{Step}
+use Rattle.fw_flow.specs.declared.step.Step.TheVariants as step
+use Rattle.fw_flow.specs.Dataflow.{Dataflow, kind_of, receiver, bounds_of, is_input_kind, is_output_kind}
+use Rattle.fw_flow.specs.Names.{place_of}
+use Rattle.fw_schedule.specs.declared.form.Form.{Form}
+use Rattle.fw_schedule.specs.declared.form.Form.TheVariants as form
+use Rattle.fw_schedule.specs.Forms.{form_of}
+use Rattle.fw_schedule.specs.Grammar.{node_named, edge_named, if_kind, node_of_kind, told_in, delivery_of, notification_of, step_of_form, step_of, steps_of}
+use Rattle.fw_schedule.specs.Stamps.{stamp_of}
+use Rattle.fw_schedule.specs.Steps.{IsTimeIn, IsNodeOfKind, IsStepOf}
+
+-- a name stands below the end
+below : (name : List ℕ) (names : List (List ℕ)) (o : Option ℕ) → place_of name names ≡ o → IfSome o (λ place. place < length names)
+below name names None e = tt
+below name names (Some place) e = (position-Some (bytes_eq name) names place [] e).0
+
+node_below : (flow : Dataflow) (name : List ℕ) → IfSome (node_named flow name) (λ node. node < length flow.nodes)
+node_below flow name = subst (λ n. IfSome (node_named flow name) (λ node. node < n)) (length-map flow.nodes (λ (n : Node). n.name)) (below name (map (λ (n : Node). n.name) flow.nodes) (node_named flow name) refl)
+
+edge_below : (flow : Dataflow) (name : List ℕ) → IfSome (edge_named flow name) (λ edge. edge < length flow.edges)
+edge_below flow name = subst (λ n. IfSome (edge_named flow name) (λ edge. edge < n)) (length-map flow.edges (λ (e : Edge). e.name)) (below name (map (λ (e : Edge). e.name) flow.edges) (edge_named flow name) refl)
+
+kind_sound : (flow : Dataflow) (is_such : Kind → Bool) (node : ℕ) (b : Bool) → is_such (kind_of flow node) ≡ b → node < length flow.nodes → IfSome (cond b (Some node) None) (IsNodeOfKind flow is_such)
+kind_sound flow is_such node true e h = (h, e)
+kind_sound flow is_such node false e h = tt
+
+node_sound : (flow : Dataflow) (is_such : Kind → Bool) (node : Option ℕ) → IfSome node (λ n. n < length flow.nodes) → IfSome (option_and_then (if_kind flow is_such) node) (IsNodeOfKind flow is_such)
+node_sound flow is_such None h = tt
+node_sound flow is_such (Some node) h = kind_sound flow is_such node (is_such (kind_of flow node)) refl h
+
+told_sound : (bounds : Bounds) (stamp : Option (List ℕ)) → IfSome (told_in bounds stamp) (IsTimeIn bounds)
+told_sound bounds None = tt
+told_sound bounds (Some word) = inside (in_domain bounds (stamp_of word)) refl
+  where
+    inside : (b : Bool) → in_domain bounds (stamp_of word) ≡ b → IfSome (cond b (Some (Some (stamp_of word))) None) (IsTimeIn bounds)
+    inside true e = e
+    inside false e = tt
+
+-- a step that is made of what is found
+made : {X : Type 0} (flow : Dataflow) (P : X → Type 0) (make : X → Step) (code : Code) (o : Option X) → IfSome o P → ((x : X) → P x → IsStepOf flow (make x)) → IfOk (ok_or (option_map make o) code) (IsStepOf flow)
+made flow P make code None h f = tt
+made flow P make code (Some x) h f = f x h
+
+-- a step at a place, if there is one
+at_place : (flow : Dataflow) (P : ℕ → Type 0) (make : ℕ → Result Step Code) (o : Option ℕ) → IfSome o P → ((n : ℕ) → P n → IfOk (make n) (IsStepOf flow)) → IfOk (option_map_or make o (Err S2)) (IsStepOf flow)
+at_place flow P make None h f = tt
+at_place flow P make (Some n) h f = f n h
+
+form_sound : (flow : Dataflow) (f : Form (List ℕ)) → IfOk (step_of_form flow f) (IsStepOf flow)
+form_sound flow (form.Inject name) = made flow (IsNodeOfKind flow is_input_kind) (λ n. step.Inject n) S2 (node_of_kind flow is_input_kind name) (node_sound flow is_input_kind (node_named flow name) (node_below flow name)) (λ n h. h)
+form_sound flow (form.Deliver name stamp) = at_place flow (λ e. e < length flow.edges) (delivery_of flow stamp) (edge_named flow name) (edge_below flow name) (λ e h. made flow (IsTimeIn (bounds_of flow (receiver flow e))) (λ at. step.Deliver e at) S3 (told_in (bounds_of flow (receiver flow e)) stamp) (told_sound (bounds_of flow (receiver flow e)) stamp) (λ at k. (h, k)))
+form_sound flow (form.Notify name stamp) = at_place flow (λ n. n < length flow.nodes) (notification_of flow stamp) (node_named flow name) (node_below flow name) (λ n h. made flow (IsTimeIn (bounds_of flow n)) (λ at. step.Notify n at) S3 (told_in (bounds_of flow n) stamp) (told_sound (bounds_of flow n) stamp) (λ at k. (h, k)))
+form_sound flow form.Progress = tt
+form_sound flow (form.Ack name) = made flow (IsNodeOfKind flow is_output_kind) (λ n. step.Ack n) S2 (node_of_kind flow is_output_kind name) (node_sound flow is_output_kind (node_named flow name) (node_below flow name)) (λ n h. h)
+
+words_sound : (flow : Dataflow) (o : Option (Form (List ℕ))) → IfOk (option_map_or (step_of_form flow) o (Err S1)) (IsStepOf flow)
+words_sound flow None = tt
+words_sound flow (Some f) = form_sound flow f
+
+one_more : (flow : Dataflow) (r : Result Step Code) (steps : List Step) → IfOk r (IsStepOf flow) → AllByRecursion (IsStepOf flow) steps → AllByRecursion (IsStepOf flow) (cons_option (result_ok r) steps)
+one_more flow (Ok step) steps h k = (h, k)
+one_more flow (Err code) steps h k = k
+
+-- each step that lines spell is a step of the flow
+pub steps_sound : (flow : Dataflow) (lines : List Said) → AllByRecursion (IsStepOf flow) (steps_of flow lines)
+steps_sound flow [] = tt
+steps_sound flow (line ∷ lines) = one_more flow (step_of flow line.words) (steps_of flow lines) (words_sound flow (form_of line.words)) (steps_sound flow lines)

@@ -1,0 +1,93 @@
+-- The grammar of schedules: the step that each line spells, and the rules that it may break.
+use Rattle.std.specs.Prelude.{◌≡◌, ℕ, ◌<◌, ◌≤◌, Bool, List, [], ◌∷◌, map, length, if◌then◌else◌, Option, Some, None, Result, Ok, Err, ◌⊎◌}
+use Rattle.std.specs.List.{filter_map}
+use Rattle.std.specs.Option.{option_map, option_map_or, option_and_then, ok_or}
+use Rattle.std.specs.Result.{result_ok, result_err}
+use Rattle.fw_time.specs.Stamp.{Stamp, in_domain}
+use Rattle.fw_time.specs.declared.stamp.Bounds.{Bounds}
+use Rattle.fw_lines.specs.declared.refusal.Code.{Code}
+use Rattle.fw_lines.specs.declared.refusal.Code.TheVariants.{S1, S2, S3, S4}
+use Rattle.fw_lines.specs.declared.refusal.Refusal.{Refusal}
+use Rattle.fw_lines.specs.Faults.{IsSound, IsFirstFault, IsOfWhole}
+use Rattle.fw_lines.specs.Lines.{Said, said_lines}
+use Rattle.fw_flow.specs.declared.kind.Kind.{Kind}
+use Rattle.fw_flow.specs.declared.node.Node.{Node}
+use Rattle.fw_flow.specs.declared.node.Edge.{Edge}
+use Rattle.fw_flow.specs.declared.step.Step.{Step}
+use Rattle.fw_flow.specs.declared.step.Step.TheVariants as step
+use Rattle.fw_flow.specs.Dataflow.{Dataflow, kind_of, receiver, bounds_of, is_input_kind, is_output_kind}
+use Rattle.fw_flow.specs.Names.{place_of}
+use Rattle.fw_schedule.specs.declared.form.Form.{Form}
+use Rattle.fw_schedule.specs.declared.form.Form.TheVariants as form
+use Rattle.fw_schedule.specs.Forms.{form_of}
+use Rattle.fw_schedule.specs.Stamps.{stamp_of}
+
+-- the place of the node with a name
+abbrev pub node_named : Dataflow → List ℕ → Option ℕ
+node_named flow name = place_of name (map (λ (n : Node). n.name) flow.nodes)
+
+-- the place of the edge with a name
+abbrev pub edge_named : Dataflow → List ℕ → Option ℕ
+edge_named flow name = place_of name (map (λ (e : Edge). e.name) flow.edges)
+
+-- the place, if the node there is of such a kind
+abbrev pub if_kind : Dataflow → (Kind → Bool) → ℕ → Option ℕ
+if_kind flow is_such node = if is_such (kind_of flow node) then Some node else None
+
+-- the place of the node with a name, if it is of such a kind
+abbrev pub node_of_kind : Dataflow → (Kind → Bool) → List ℕ → Option ℕ
+node_of_kind flow is_such name = option_and_then (if_kind flow is_such) (node_named flow name)
+
+-- the stamp that a word spells, if it lies in the domain; where there is no word no stamp is told
+abbrev pub told_in : Bounds → Option (List ℕ) → Option (Option Stamp)
+told_in bounds None = Some None
+told_in bounds (Some word) = if in_domain bounds (stamp_of word) then Some (Some (stamp_of word)) else None
+
+-- the delivery on an edge; S3, unless the stamp lies in the receiver's domain
+abbrev pub delivery_of : Dataflow → Option (List ℕ) → ℕ → Result Step Code
+delivery_of flow stamp edge = ok_or (option_map (step.Deliver edge) (told_in (bounds_of flow (receiver flow edge)) stamp)) S3
+
+-- the notification of a node; S3, unless the stamp lies in its domain
+abbrev pub notification_of : Dataflow → Option (List ℕ) → ℕ → Result Step Code
+notification_of flow stamp node = ok_or (option_map (step.Notify node) (told_in (bounds_of flow node) stamp)) S3
+
+-- the step of a form; S2, unless its name is that of an input, an edge, a node or an output
+abbrev pub step_of_form : Dataflow → Form (List ℕ) → Result Step Code
+step_of_form flow (form.Inject name) = ok_or (option_map step.Inject (node_of_kind flow is_input_kind name)) S2
+step_of_form flow (form.Deliver name stamp) = option_map_or (delivery_of flow stamp) (edge_named flow name) (Err S2)
+step_of_form flow (form.Notify name stamp) = option_map_or (notification_of flow stamp) (node_named flow name) (Err S2)
+step_of_form flow form.Progress = Ok step.Progress
+step_of_form flow (form.Ack name) = ok_or (option_map step.Ack (node_of_kind flow is_output_kind name)) S2
+
+-- the step that words spell, or the first rule that they break; S1, unless they have a form
+abbrev pub step_of : Dataflow → List (List ℕ) → Result Step Code
+step_of flow words = option_map_or (step_of_form flow) (form_of words) (Err S1)
+
+-- the rule that a line of these words breaks; a line without words breaks none
+abbrev pub fault_of : Dataflow → List (List ℕ) → Option Code
+fault_of flow [] = None
+fault_of flow (word ∷ words) = result_err (step_of flow (word ∷ words))
+
+-- the rule that a line breaks, whatever the lines before it say
+abbrev pub line_fault : Dataflow → List Said → Said → Option Code
+line_fault flow before line = fault_of flow line.words
+
+-- the steps that lines spell, in order
+abbrev pub steps_of : Dataflow → List Said → List Step
+steps_of flow lines = filter_map (λ line. result_ok (step_of flow line.words)) lines
+
+-- the longest text, in bytes
+abbrev pub size_limit : ℕ
+size_limit = 16777216
+
+-- the text has the form of a schedule of the flow, and the steps are those that its lines spell
+pub record IsAccepted (text : List ℕ) (flow : Dataflow) (steps : List Step) : Type 0 where
+  pub size : length text ≤ size_limit
+  pub sound : IsSound (line_fault flow) (said_lines text)
+  pub value : steps ≡ steps_of flow (said_lines text)
+
+-- the refusal is the first rule that the text breaks: of its size, or of its first line that breaks one
+abbrev pub IsRefused : List ℕ → Dataflow → Refusal → Type 0
+IsRefused text flow refusal =
+    ((size_limit < length text) × IsOfWhole S4 refusal)
+    ⊎ ((length text ≤ size_limit) × IsFirstFault (line_fault flow) (said_lines text) refusal)

@@ -1,0 +1,4 @@
+pub mod Forms
+pub mod Grammar
+pub mod Stamps
+pub mod Steps

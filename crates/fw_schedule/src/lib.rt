@@ -1,0 +1,10 @@
+//! The reader of schedules.
+#![tactic(auto)]
+
+mod coordinates;
+mod form;
+mod schedule;
+mod steps;
+
+pub use schedule::{one_answer, read_schedule};
+pub use steps::Steps;

@@ -14,11 +14,13 @@ pub mod DescentLaws
 pub mod DistinctLaws
 pub mod DomainLaws
 pub mod EachLaws
+pub mod EventSteps
+pub mod FrontierLaws
+pub mod LeastSteps
 pub mod EnabledLaws
 pub mod FilterLaws
 pub mod FilteredLaws
 pub mod FrontLaws
-pub mod FrontierLaws
 pub mod InputLaws
 pub mod JoinLaws
 pub mod KeptLaws
@@ -43,6 +45,8 @@ pub mod PhiLaws
 pub mod PrefixLaws
 pub mod PsiBackLaws
 pub mod PsiLaws
+pub mod RecSteps
+pub mod SendSteps
 pub mod RecoveryLaws
 pub mod RewritingLaws
 pub mod RunLaws
@@ -54,6 +58,7 @@ pub mod SequencedLaws
 pub mod SettleLaws
 pub mod SomeNextLaws
 pub mod StampLaws
+pub mod WaitingSteps
 pub mod StampLists
 pub mod StampMeasures
 pub mod SubBagLaws

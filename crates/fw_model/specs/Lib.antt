@@ -12,6 +12,9 @@ pub mod LawsOfProjections
 pub mod LawsOfRecoveries
 pub mod LawsOfRuns
 pub mod LawsOfSending
+pub mod Least
 pub mod LawsOfSteps
 pub mod Machine
+pub mod Plain
 pub mod Steps
+pub mod Wanted

@@ -18,6 +18,7 @@ pub mod OutputLaws
 pub mod PendingLaws
 pub mod PhiLaws
 pub mod PsiLaws
+pub mod RecSteps
 pub mod SendingLaws
 pub mod SendsLaws
 pub mod SequenceLaws

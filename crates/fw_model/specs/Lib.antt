@@ -10,4 +10,5 @@ pub mod LawsOfProjections
 pub mod LawsOfSending
 pub mod LawsOfSteps
 pub mod Machine
+pub mod Plain
 pub mod Steps

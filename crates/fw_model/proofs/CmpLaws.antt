@@ -10,15 +10,13 @@ use Rattle.std.proofs.lemmas.Bool.{cases_Bool, or_cases}
 use Rattle.std.proofs.lemmas.Bool.Decides.{nat_tests}
 use Rattle.std.proofs.lemmas.Cmp.{nat_list_cmp_total, lists_total, on_total, then_total, tied_itself, upto}
 use Rattle.fw_time.specs.Stamp.{Stamp, stamp_cmp}
+use Rattle.fw_frontier.specs.Front.{Front}
 use Rattle.fw_bag.specs.Rec.{rec_cmp}
 use Rattle.fw_bag.proofs.RecLaws.{rec_order, rec_cmp-same}
 use Rattle.fw_flow.specs.declared.event.Message.{Message}
 use Rattle.fw_model.specs.History.{message_cmp, is_among}
+use Rattle.fw_model.proofs.Decisions.{Decided}
 use Rattle.fw_model.proofs.EachLaws.{each-weaker}
-
--- a statement is decided where it is proved or refuted
-abbrev pub Decided : Type 0 → Type 0
-Decided A = A ⊎ (A → ⊥)
 
 -- ---- elements that an order finds equal are one
 
@@ -142,3 +140,23 @@ find_least {R} o P decide (x ∷ xs) = elim (decide x) [
     )
   ]
 ]
+
+-- ---- decided equations
+
+-- elements that an order compares are one, or not
+pub decided-same : {K : Type 0} {R : K → K → Ordering} → IsTotalOrder R → ((x y : K) → R x y ≡ Equal → x ≡ y) → (x y : K) → Decided (x ≡ y)
+decided-same {K} {R} o h x y = by (R x y) refl
+  where
+    differ : (r : Ordering) → R x y ≡ r → (Equal ≡ r → ⊥) → x ≡ y → ⊥
+    differ r e n p = n (sym (tied_itself o x) ∙ ap (R x) p ∙ e)
+
+    by : (r : Ordering) → R x y ≡ r → Decided (x ≡ y)
+    by Less e = inr (differ Less e (λ q. cc))
+    by Equal e = inl (h x y e)
+    by Greater e = inr (differ Greater e (λ q. cc))
+
+pub decided-stamp : (s t : Stamp) → Decided (s ≡ t)
+decided-stamp s t = decided-same stamp_total stamp_cmp-same s t
+
+pub decided-front : (f g : Front) → Decided (f ≡ g)
+decided-front f g = decided-same (lists_total stamp_total) fronts_cmp-same f g

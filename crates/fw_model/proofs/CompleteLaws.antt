@@ -50,7 +50,7 @@ enabled-outside sys h done a (Notify p t) k = false_from_ne_true (done p t) (λ 
 
 -- ---- what an event outside sends is outside phi
 
-past_edges-idle : (flow : Dataflow) (e : ℕ) → length flow.edges ≤ e → kind_of flow (sender flow e) ≡ OutputEpoch
+pub past_edges-idle : (flow : Dataflow) (e : ℕ) → length flow.edges ≤ e → kind_of flow (sender flow e) ≡ OutputEpoch
 unfolding sender kind_of
 past_edges-idle flow e l =
     let past = get_or_past flow.edges e (record { name = []; sender = length flow.nodes; receiver = length flow.nodes }) l in

@@ -1,5 +1,5 @@
 -- The largest family of frontiers inside which nothing is missing, found by a descent.
-use Rattle.std.proofs.Common.{◌≡◌, ℕ, zero, suc, ◌+◌, ◌<◌, ◌≤◌, Bool, true, false, not, ◌&&◌, ◌||◌, ◌==◌, cond, List, [], ◌∷◌, ◌++◌, length, get_or, refl, sym, ap, subst, ◌∙◌, inl, inr, ◌⊎◌, arith}
+use Rattle.std.proofs.Common.{◌≡◌, ℕ, zero, suc, ◌+◌, ◌<◌, ◌≤◌, Bool, true, false, not, ◌&&◌, ◌||◌, ◌==◌, cond, List, [], ◌∷◌, ◌++◌, length, refl, sym, ap, subst, ◌∙◌, inl, inr, ◌⊎◌, arith}
 use Rattle.std.specs.List.{AllByRecursion}
 use Rattle.std.proofs.lemmas.Bool.{and_parts, and_from, cases_lt, eqb-true, eq-eqb}
 use Rattle.std.proofs.lemmas.List.{get_or_past}
@@ -10,12 +10,13 @@ use Rattle.fw_flow.specs.declared.event.Event.{Event}
 use Rattle.fw_flow.specs.declared.event.Message.{Message}
 use Rattle.fw_flow.specs.declared.kind.Kind.{Kind}
 use Rattle.fw_flow.specs.declared.kind.Kind.TheVariants.{OutputEpoch}
-use Rattle.fw_flow.specs.Dataflow.{System, Dataflow, idle_node, kind_of, sender, receiver, bounds_of, bounds_of_domain, out_domain_of_kind, domain_of_kind, is_input_kind}
+use Rattle.fw_flow.specs.Dataflow.{System, Dataflow, kind_of, sender, receiver, bounds_of, bounds_of_domain, out_domain_of_kind, domain_of_kind, is_input_kind}
 use Rattle.fw_flow.specs.NodeFunction.{sends_of_kind, sends, sent_by}
 use Rattle.fw_flow.specs.Projection.{events_at, sent_count, phi_of_kind, phi}
 use Rattle.fw_flow.specs.WellFormed.{IsWellFormed}
 use Rattle.fw_model.specs.History.{without, less, some_at, delivered, pending, owed, injected_epochs, IsQuiet, IsAdmissible}
 use Rattle.fw_model.specs.LawsOfExistence.{CompleteExists, CompleteIsTheOnlyOne}
+use Rattle.fw_model.proofs.CompleteLaws.{past_edges-idle}
 use Rattle.fw_model.proofs.PhiLaws.{phi-monotone}
 use Rattle.fw_model.proofs.PsiLaws.{same_tests}
 use Rattle.fw_model.proofs.FrontierLaws.{phi-frontier}
@@ -99,11 +100,17 @@ settles top sequence w n (suc fuel) k l = elim (total-less top (sequence (suc k)
 
 -- ---- the bounds of the descent
 
+-- whether nothing is pending for node p at a stamp
+pub is_quiet : System → List Event → ℕ → Stamp → Bool
+is_quiet sys h p t = each_below (λ e. not (receiver sys.flow e == p) || not (some_at (same t) (pending sys h e))) (length sys.flow.edges)
+
+-- whether nothing is owed to node p at a stamp, and a source injected it
+is_paid : System → List Event → ℕ → Stamp → Bool
+is_paid sys h p t = not (owed sys h p t) && (not (is_input_kind (kind_of sys.flow p)) || injected_epochs sys h p t)
+
 -- whether nothing is pending and nothing owed for node p at a stamp, and a source injected it
 is_clear : System → List Event → ℕ → Stamp → Bool
-is_clear sys h p t =
-    each_below (λ e. not (receiver sys.flow e == p) || not (some_at (same t) (pending sys h e))) (length sys.flow.edges)
-    && (not (owed sys h p t) && (not (is_input_kind (kind_of sys.flow p)) || injected_epochs sys h p t))
+is_clear sys h p t = is_quiet sys h p t && is_paid sys h p t
 
 -- the stamps of node p up to which all is clear
 clear_below : System → List Event → ℕ → Frontier
@@ -120,13 +127,6 @@ clear-frontier sys h p = record {
 }
 
 -- past the last edge nothing is sent
-past_edges-idle : (flow : Dataflow) (e : ℕ) → length flow.edges ≤ e → kind_of flow (sender flow e) ≡ OutputEpoch
-unfolding sender kind_of
-past_edges-idle flow e l =
-    let past = get_or_past flow.edges e (record { name = []; sender = length flow.nodes; receiver = length flow.nodes }) l in
-    let last : length flow.nodes ≤ length flow.nodes = omega arith in
-    ap (λ d. (get_or flow.nodes d.sender idle_node).kind) past ∙ ap (λ n. n.kind) (get_or_past flow.nodes (length flow.nodes) idle_node last)
-
 past_edges-joined : (flow : Dataflow) (e : ℕ) → length flow.edges ≤ e → sender flow e ≡ receiver flow e
 unfolding sender receiver
 past_edges-joined flow e l =
@@ -159,52 +159,60 @@ past_edges-phi sys h e f t l d k =
     → (in_domain (bounds_of_domain sys.flow (out_domain_of_kind sys.flow kind)) t && phi_of_kind sys kind (sent_count sys h q f) f t) ≡ true in
     subst P (sym is) (λ j. and_from (in_domain (bounds_of_domain sys.flow (domain_of_kind sys.flow OutputEpoch)) t) (f t) j k) d
 
-clear-quiet : (sys : System) (h : List Event) (p : ℕ) (t : Stamp) → is_clear sys h p t ≡ true → IsQuiet sys h p t
-unfolding is_clear
-clear-quiet sys h p t k e r = elim (cases_lt e (length sys.flow.edges)) [
+pub past_edges-receiver : (flow : Dataflow) (e : ℕ) → length flow.edges ≤ e → kind_of flow (receiver flow e) ≡ OutputEpoch
+past_edges-receiver flow e l = sym (ap (kind_of flow) (past_edges-joined flow e l)) ∙ past_edges-idle flow e l
+
+pub quiet-at : (sys : System) (h : List Event) (p : ℕ) (t : Stamp) → is_quiet sys h p t ≡ true → IsQuiet sys h p t
+unfolding is_quiet
+quiet-at sys h p t k e r = elim (cases_lt e (length sys.flow.edges)) [
   | inr l ↦ past_edges-quiet sys h e t l
   | inl l ↦
-      let test : ℕ → Bool = λ d. not (receiver sys.flow d == p) || not (some_at (same t) (pending sys h d)) in
-      let a = and_parts (each_below test (length sys.flow.edges)) (not (owed sys h p t) && (not (is_input_kind (kind_of sys.flow p)) || injected_epochs sys h p t)) k in
       not-true (some_at (same t) (pending sys h e))
-      (implies-at (receiver sys.flow e == p) (not (some_at (same t) (pending sys h e))) (each_below-at test (length sys.flow.edges) a.0 e l) (eq-eqb (receiver sys.flow e) p r))
+      (implies-at (receiver sys.flow e == p) (not (some_at (same t) (pending sys h e)))
+      (each_below-at (λ d. not (receiver sys.flow d == p) || not (some_at (same t) (pending sys h d))) (length sys.flow.edges) k e l)
+      (eq-eqb (receiver sys.flow e) p r))
 ]
 
-clear-paid : (sys : System) (h : List Event) (p : ℕ) (t : Stamp) → is_clear sys h p t ≡ true → owed sys h p t ≡ false
+pub quiet-from : (sys : System) (h : List Event) (p : ℕ) (t : Stamp) → IsQuiet sys h p t → is_quiet sys h p t ≡ true
+unfolding is_quiet
+quiet-from sys h p t q =
+    each_below-from (λ d. not (receiver sys.flow d == p) || not (some_at (same t) (pending sys h d))) (length sys.flow.edges)
+    (λ e l. implies-from (receiver sys.flow e == p) (not (some_at (same t) (pending sys h e))) (λ r. ap not (q e (eqb-true (receiver sys.flow e) p r))))
+
+clear-quiet : (sys : System) (h : List Event) (p : ℕ) (t : Stamp) → is_clear sys h p t ≡ true → IsQuiet sys h p t
 unfolding is_clear
+clear-quiet sys h p t k = quiet-at sys h p t (and_parts (is_quiet sys h p t) (is_paid sys h p t) k).0
+
+clear-paid : (sys : System) (h : List Event) (p : ℕ) (t : Stamp) → is_clear sys h p t ≡ true → owed sys h p t ≡ false
+unfolding is_clear is_paid
 clear-paid sys h p t k =
-    let a = and_parts (each_below (λ d. not (receiver sys.flow d == p) || not (some_at (same t) (pending sys h d))) (length sys.flow.edges))
-    (not (owed sys h p t) && (not (is_input_kind (kind_of sys.flow p)) || injected_epochs sys h p t)) k in
+    let a = and_parts (is_quiet sys h p t) (is_paid sys h p t) k in
     not-true (owed sys h p t) (and_parts (not (owed sys h p t)) (not (is_input_kind (kind_of sys.flow p)) || injected_epochs sys h p t) a.1).0
 
 clear-source : (sys : System) (h : List Event) (p : ℕ) (t : Stamp) → is_clear sys h p t ≡ true → is_input_kind (kind_of sys.flow p) ≡ true
     → injected_epochs sys h p t ≡ true
-unfolding is_clear
+unfolding is_clear is_paid
 clear-source sys h p t k i =
-    let a = and_parts (each_below (λ d. not (receiver sys.flow d == p) || not (some_at (same t) (pending sys h d))) (length sys.flow.edges))
-    (not (owed sys h p t) && (not (is_input_kind (kind_of sys.flow p)) || injected_epochs sys h p t)) k in
+    let a = and_parts (is_quiet sys h p t) (is_paid sys h p t) k in
     implies-at (is_input_kind (kind_of sys.flow p)) (injected_epochs sys h p t)
     (and_parts (not (owed sys h p t)) (not (is_input_kind (kind_of sys.flow p)) || injected_epochs sys h p t) a.1).1 i
 
 clear-from : (sys : System) (h : List Event) (p : ℕ) (t : Stamp) → IsQuiet sys h p t → owed sys h p t ≡ false
     → (is_input_kind (kind_of sys.flow p) ≡ true → injected_epochs sys h p t ≡ true) → is_clear sys h p t ≡ true
-unfolding is_clear
+unfolding is_clear is_paid
 clear-from sys h p t q o s =
-    let test : ℕ → Bool = λ d. not (receiver sys.flow d == p) || not (some_at (same t) (pending sys h d)) in
-    and_from (each_below test (length sys.flow.edges)) (not (owed sys h p t) && (not (is_input_kind (kind_of sys.flow p)) || injected_epochs sys h p t))
-    (each_below-from test (length sys.flow.edges) (λ e l. implies-from (receiver sys.flow e == p) (not (some_at (same t) (pending sys h e)))
-    (λ r. ap not (q e (eqb-true (receiver sys.flow e) p r)))))
+    and_from (is_quiet sys h p t) (is_paid sys h p t) (quiet-from sys h p t q)
     (and_from (not (owed sys h p t)) (not (is_input_kind (kind_of sys.flow p)) || injected_epochs sys h p t) (ap not o)
     (implies-from (is_input_kind (kind_of sys.flow p)) (injected_epochs sys h p t) s))
 
 -- ---- the descent
 
 -- whether a stamp is inside phi on each in-edge of node p
-follows_all : System → List Event → (ℕ → Frontier) → ℕ → Frontier
+pub follows_all : System → List Event → (ℕ → Frontier) → ℕ → Frontier
 follows_all sys h family p t =
     each_below (λ e. not (receiver sys.flow e == p) || phi sys h e (family (sender sys.flow e)) t) (length sys.flow.edges)
 
-follows_all-at : (sys : System) (h : List Event) (family : ℕ → Frontier) (p : ℕ) (t : Stamp) → follows_all sys h family p t ≡ true
+pub follows_all-at : (sys : System) (h : List Event) (family : ℕ → Frontier) (p : ℕ) (t : Stamp) → follows_all sys h family p t ≡ true
     → (e : ℕ) → e < length sys.flow.edges → receiver sys.flow e ≡ p → phi sys h e (family (sender sys.flow e)) t ≡ true
 unfolding follows_all
 follows_all-at sys h family p t k e l r =
@@ -212,7 +220,7 @@ follows_all-at sys h family p t k e l r =
     (each_below-at (λ d. not (receiver sys.flow d == p) || phi sys h d (family (sender sys.flow d)) t) (length sys.flow.edges) k e l)
     (eq-eqb (receiver sys.flow e) p r)
 
-follows_all-from : (sys : System) (h : List Event) (family : ℕ → Frontier) (p : ℕ) (t : Stamp)
+pub follows_all-from : (sys : System) (h : List Event) (family : ℕ → Frontier) (p : ℕ) (t : Stamp)
     → ((e : ℕ) → e < length sys.flow.edges → receiver sys.flow e ≡ p → phi sys h e (family (sender sys.flow e)) t ≡ true)
     → follows_all sys h family p t ≡ true
 unfolding follows_all

@@ -5,17 +5,15 @@ use Rattle.std.proofs.lemmas.Bool.{and_parts, and_from, cond_both, cases_Bool, f
 use Rattle.fw_time.specs.Stamp.{Stamp, leq, in_domain}
 use Rattle.fw_time.specs.declared.stamp.Bounds.{Bounds}
 use Rattle.fw_frontier.specs.Frontier.{Frontier, IsFrontier}
-use Rattle.fw_frontier.specs.Front.{Front, inside, frontier_of}
+use Rattle.fw_frontier.specs.Front.{Front, inside, frontier_of, Names}
 use Rattle.fw_frontier.specs.Outside.{excluding_all}
 use Rattle.fw_frontier.proofs.BelowLaws.{names-as}
 use Rattle.fw_frontier.proofs.NamesLaws.{names-until}
 use Rattle.fw_model.specs.LawsOfExistence.{FrontierHasFront}
+use Rattle.fw_model.proofs.Decisions.{two_ways}
 use Rattle.fw_model.proofs.PsiLaws.{same_tests}
 use Rattle.fw_model.proofs.StampLaws.{leq-refl}
 use Rattle.fw_model.proofs.StampLists.{stamps, each_stamp-at, each_stamp-from}
-
-two_ways : (b : Bool) → b ≡ true → b ≡ false → ⊥
-two_ways b p q = cc
 
 pub each-filter : {A : Type 0} (P : A → Type 0) (test : A → Bool) (xs : List A) → AllByRecursion (λ x. test x ≡ true → P x) xs → AllByRecursion P (filter test xs)
 each-filter P test [] a = tt
@@ -43,11 +41,10 @@ inside-each (o ∷ os) t k =
     (false_from_ne_true (leq o t) (λ e. two_ways (not (leq o t)) a.0 (ap not e)), inside-each os t a.1)
 
 -- the domain's stamps that are outside
-outsiders : Bounds → Frontier → List Stamp
+abbrev pub outsiders : Bounds → Frontier → List Stamp
 outsiders b f = filter (λ t. not (f t)) (stamps b.greatest)
 
 outsiders-same : (b : Bounds) (f : Frontier) → IsFrontier b f → (t : Stamp) → frontier_of b (outsiders b f) t ≡ f t
-unfolding outsiders
 outsiders-same b f fr t =
     let out : Stamp → Bool = λ s. not (f s) in
     same_tests (frontier_of b (filter out (stamps b.greatest)) t) (f t)
@@ -64,13 +61,14 @@ outsiders-same b f fr t =
     (each_stamp-from (λ s. out s ≡ true → leq s t ≡ false) b.greatest
     (λ s d e. false_from_ne_true (leq s t) (λ l. two_ways (out s) e (ap not (fr.closed s t d l k))))))))
 
+-- and they make the list that names the frontier
+pub outsiders-name : (b : Bounds) (f : Frontier) → IsFrontier b f → Names b (excluding_all (outsiders b f) []) f
+outsiders-name b f fr =
+    let ss = outsiders b f in
+    names-as b (excluding_all ss []) (frontier_of b ss) f
+    (names-until b ss (each-filter (λ s. in_domain b s ≡ true) (λ t. not (f t)) (stamps b.greatest)
+    (each_stamp-from (λ s. not (f s) ≡ true → in_domain b s ≡ true) b.greatest (λ s d e. d))))
+    (outsiders-same b f fr)
+
 pub has_front : FrontierHasFront
-unfolding outsiders
-has_front b f fr =
-    let ss = outsiders b f in (
-      excluding_all ss [],
-      names-as b (excluding_all ss []) (frontier_of b ss) f
-          (names-until b ss (each-filter (λ s. in_domain b s ≡ true) (λ t. not (f t)) (stamps b.greatest)
-          (each_stamp-from (λ s. not (f s) ≡ true → in_domain b s ≡ true) b.greatest (λ s d e. d))))
-          (outsiders-same b f fr),
-    )
+has_front b f fr = (excluding_all (outsiders b f) [], outsiders-name b f fr)

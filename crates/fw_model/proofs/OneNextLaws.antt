@@ -1,9 +1,9 @@
 -- From a state a step leads to at most one next state.
-use Rattle.std.proofs.Common.{◌≡◌, ℕ, ◌+◌, ◌<◌, Bool, true, false, ◌||◌, List, [], ◌∷◌, ◌++◌, length, map, slice_set, refl, sym, ap, subst, ◌∙◌, inl, inr, arith}
+use Rattle.std.proofs.Common.{◌≡◌, ℕ, ◌+◌, ◌<◌, Bool, true, false, List, [], ◌∷◌, ◌++◌, length, map, slice_set, refl, sym, ap, subst, ◌∙◌, inl, inr, arith}
 use Rattle.std.specs.List.{list_any}
 use Rattle.std.proofs.lemmas.Bool.{cases_Bool, or_parts}
 use Rattle.std.proofs.lemmas.List.{ext_get_or}
-use Rattle.fw_time.specs.Stamp.{Stamp, stamp_cmp}
+use Rattle.fw_time.specs.Stamp.{Stamp}
 use Rattle.fw_frontier.specs.Frontier.{Frontier, meet, join}
 use Rattle.fw_frontier.specs.Front.{Front, frontier_of, Names}
 use Rattle.fw_frontier.proofs.NamesLaws.{names-same}
@@ -16,16 +16,14 @@ use Rattle.fw_flow.specs.declared.step.Step.TheVariants.{Inject, Deliver, Notify
 use Rattle.fw_flow.specs.Dataflow.{System, bounds_of}
 use Rattle.fw_model.specs.Machine.{Machine, Write, acknowledged, events, places, front_of, is_failed}
 use Rattle.fw_model.specs.Choice.{Choice, kept, cut_of}
-use Rattle.fw_model.specs.Steps.{Effect, acked, cuts, lows, Outcome, did, idle, with_event, eager_writes, GrowsTo, is_in_flight, AcknowledgesOldest, IsSettledCut, CutsTo, recovered, front_of_cut, collected_writes, recs_at_output, Takes, Steps}
+use Rattle.fw_model.specs.Steps.{Effect, acked, cuts, lows, did, idle, with_event, eager_writes, GrowsTo, is_in_flight, AcknowledgesOldest, IsSettledCut, CutsTo, recovered, front_of_cut, collected_writes, recs_at_output, Takes}
 use Rattle.fw_model.specs.LawsOfSteps.{OneNextState}
 use Rattle.fw_model.proofs.ChoiceLaws.{largest-one}
 use Rattle.fw_model.proofs.CmpLaws.{stamp_cmp-same, stamp_total, message_cmp-same, message_total, tied}
+use Rattle.fw_model.proofs.Decisions.{two_ways}
 use Rattle.fw_model.proofs.DescentLaws.{complete-one}
 
 -- ---- the parts of next states
-
-two_ways : (b : Bool) → b ≡ true → b ≡ false → ⊥
-two_ways b p q = cc
 
 grows-one : (sys : System) (state : Machine) (done also : ℕ → Frontier) (one other : List Front) → GrowsTo sys state done one → GrowsTo sys state also other
     → one ≡ other

@@ -1,14 +1,16 @@
--- Laws of existence: complete frontiers are there after each history, and each frontier has its list of outside stamps.
-use Rattle.std.specs.Prelude.{◌≡◌, ℕ, ◌<◌, false, true, List, length}
+-- Laws of existence: complete frontiers, lists of outside stamps, and largest choices.
+use Rattle.std.specs.Prelude.{◌≡◌, ◌⊎◌, ℕ, ◌<◌, Bool, false, true, List, length}
 use Rattle.fw_time.specs.Stamp.{Stamp}
 use Rattle.fw_time.specs.declared.stamp.Bounds.{Bounds}
 use Rattle.fw_frontier.specs.Frontier.{Frontier, IsFrontier}
 use Rattle.fw_frontier.specs.Front.{Front, frontier_of, Names}
+use Rattle.fw_flow.specs.declared.choice.Cut.{Cut}
 use Rattle.fw_flow.specs.declared.event.Event.{Event}
-use Rattle.fw_flow.specs.Dataflow.{System, bounds_of}
+use Rattle.fw_flow.specs.Dataflow.{System, kind_of, policy_of, bounds_of}
 use Rattle.fw_flow.specs.WellFormed.{IsWellFormed}
 use Rattle.fw_model.specs.History.{IsComplete}
 use Rattle.fw_model.specs.Machine.{Machine, events, front_of, is_failed}
+use Rattle.fw_model.specs.Choice.{View, by_checkpoints, restoring, IsCandidate, Choice, IsConsistent, IsCutWithin, IsLargest}
 use Rattle.fw_model.specs.Steps.{GrowsTo}
 
 -- each frontier of a domain has a list of outside stamps that names it
@@ -37,3 +39,16 @@ pub record HasMoreToSettle (sys : System) (state : Machine) (done : ℕ → Fron
 abbrev pub SettledCanGrow : Type 0
 SettledCanGrow = (sys : System) (state : Machine) (done : ℕ → Frontier) → IsComplete sys (events state.history) done
     → HasMoreToSettle sys state done → (settled : List Front) × GrowsTo sys state done settled
+
+-- where a node is restored by its checkpoints, of two cuts that it offers one lies within the other
+abbrev pub AreCheckpointsChains : System → Machine → (ℕ → Bool) → View → Type 0
+AreCheckpointsChains sys state lost view =
+    (p : ℕ) (one other : Cut) → p < length sys.flow.nodes → restoring (kind_of sys.flow p) (policy_of sys.flow p) ≡ by_checkpoints
+    → IsCandidate sys state lost view p one → IsCandidate sys state lost view p other
+    → IsCutWithin sys p one other ⊎ IsCutWithin sys p other one
+
+-- where some choice is consistent and checkpoints are chains, there is a largest choice
+abbrev pub LargestChoiceExists : Type 0
+LargestChoiceExists = (sys : System) (state : Machine) (lost : ℕ → Bool) (view : View) → AreCheckpointsChains sys state lost view
+    → (choice : Choice) → IsConsistent sys state (IsCandidate sys state lost view) choice
+    → (largest : Choice) × IsLargest sys state (IsCandidate sys state lost view) largest

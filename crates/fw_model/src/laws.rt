@@ -2,11 +2,11 @@
 ghost use Rattle.fw_model.specs.LawsOfChoices.{ConsistentChoicesHaveUnion, DeliveredOfUnion, DiscardedOfUnion, EachLiesWithinUnion, LargestChoiceIsOne, NotifiedOfUnion, UnionOfCandidatesIsCandidate, UnionOfConsistentIsConsistent};
 ghost use Rattle.fw_model.specs.LawsOfCompleteFrontiers.{AdmissibleStaysAdmissible, EnabledIsOutside, LegalInsidePhiComesFromInside, SequencesAreNotifiedInOrder};
 ghost use Rattle.fw_model.specs.LawsOfDenotation.{DenotationExists, DenotationIsInDomain, DenotationIsInOrder, DenotationIsNumbered, DenotationIsTheOnlyOne, LaterRoundsAreTheSame, MeasureExists, OutBagsDependOnLesserMeasure, RecsAtStampsDecideBag, UnchangedRoundIsDenotation};
-ghost use Rattle.fw_model.specs.LawsOfExistence.{CompleteExists, CompleteIsTheOnlyOne, FrontierHasFront, SettledCanGrow};
+ghost use Rattle.fw_model.specs.LawsOfExistence.{CompleteExists, CompleteIsTheOnlyOne, FrontierHasFront, LargestChoiceExists, SettledCanGrow};
 ghost use Rattle.fw_model.specs.LawsOfLegalHistories.{LegalEventsAreInDomain, LegalMessagesAreInDomain, OnlyInputsInject};
 ghost use Rattle.fw_model.specs.LawsOfProjections.{PhiGrowsWithHistory, PhiIgnoresHistory, PhiIsFrontier, PhiIsMonotone, PhiOfEverything, PhiOfMeet, PsiIsFrontier, PsiIsMonotone, PsiOfJoin, PsiOfNothing, PsiOfUnion};
 ghost use Rattle.fw_model.specs.LawsOfSending.{InsidePhiComesFromInside, InsidePhiOfSequenceComesFromInside, PhiBySendStamps, PsiBySendStamps, SendStampIsMonotone, SendersOfWellFormed, SendsAreInsidePsi, SendsAtSendStamp, SentFromInsideIsInsidePsi};
-ghost use Rattle.fw_model.specs.LawsOfSteps.{OneNextState};
+ghost use Rattle.fw_model.specs.LawsOfSteps.{ExactlyOneNextState, OneNextState, SomeNextState};
 
 // The laws of times and of frontiers, each over every type of times, and that of dataflows.
 pub use fw_flow::laws::ranks_exist;
@@ -261,7 +261,22 @@ pub fn settled_can_grow()
     ensures { SettledCanGrow }
 {}
 
+/// Where some choice is consistent and checkpoints are chains, there is a largest choice.
+pub fn largest_choice_exists()
+    ensures { LargestChoiceExists }
+{}
+
 /// From a state a step leads to at most one next state, with one outcome.
 pub fn one_next_state()
     ensures { OneNextState }
+{}
+
+/// From a state of a well-formed flow a step leads to some next state, with some outcome.
+pub fn some_next_state()
+    ensures { SomeNextState }
+{}
+
+/// From a state of a well-formed flow a step leads to exactly one next state, with exactly one outcome.
+pub fn exactly_one_next_state()
+    ensures { ExactlyOneNextState }
 {}

@@ -6,6 +6,7 @@ use Rattle.fw_flow.specs.declared.kind.Policy.TheVariants as policy
 use Rattle.fw_flow.specs.declared.step.Step.{Step}
 use Rattle.fw_flow.specs.declared.step.Step.TheVariants.{Inject, Deliver, Notify, Progress, Checkpoint, Persist, Fail, Recover, Collect, Ack}
 use Rattle.fw_flow.specs.Dataflow.{System, Dataflow, policy_of, bounds_of}
+use Rattle.fw_flow.specs.WellFormed.{IsWellFormed}
 use Rattle.fw_model.specs.History.{IsLegal}
 use Rattle.fw_model.specs.LawsOfLegalHistories.{HasEpochs}
 use Rattle.fw_model.specs.Machine.{Machine, Numbered, no_stamps, places, front_of}
@@ -45,6 +46,7 @@ state_of flow events settled bounds = record {
 
 -- what is true of each state of an engine
 pub record IsSound (sys : System) (events : List Event) (settled : List Front) (bounds : List ℕ) : Type 0 where
+  pub well_formed : IsWellFormed sys.flow
   pub keeps_nothing : KeepsNothing sys.flow
   pub epochs : HasEpochs sys
   pub legal : IsLegal sys (reverse events)

@@ -20,17 +20,6 @@ pub(crate) fn no_stamps_each(alloc: Global, flow: &Flow) -> Result<Vec<Front>, A
     Ok(fronts)
 }
 
-/// For each node 0. The error is want of memory.
-pub(crate) fn zero_each(alloc: Global, flow: &Flow) -> Result<Vec<u64>, AllocError>
-    ensures { IfOk result (λ zeros. zeros.items ≡ map (λ p. 0) (places flow.now)) }
-{
-    let mut zeros = Vec::new(alloc);
-    for _place in 0..flow.nodes() {
-        zeros.push(0)?;
-    }
-    Ok(zeros)
-}
-
 /// Whether a frontier has a stamp that the other lacks.
 fn grows(complete: &Front, settled: &Front) -> bool
     ensures { result ≡ spec.grows complete.now settled.now }

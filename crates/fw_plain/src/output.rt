@@ -17,11 +17,11 @@ pub(crate) fn is_output(kind: Kind) -> bool
 }
 
 /// Whether some input has a batch of the epoch.
-pub(crate) fn has_epoch(flow: &Flow, batches: &Batches, epoch: u64) -> bool
+pub(crate) fn has_epoch(flow: &Flow, batches: &Batches, epoch: u32) -> bool
     ensures { result ≡ spec.has_epoch (system_of flow.now batches.now).batches epoch }
 {
     for node in 0..flow.nodes() {
-        if batches.count(node as u32) as u64 > epoch {
+        if batches.count(node as u32) > epoch as usize {
             return true;
         }
     }

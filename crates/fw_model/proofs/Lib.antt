@@ -9,9 +9,11 @@ pub mod DependenceLaws
 pub mod DescentLaws
 pub mod EachLaws
 pub mod EnabledLaws
+pub mod EventSteps
 pub mod FrontLaws
 pub mod FrontierLaws
 pub mod LargestLaws
+pub mod LeastSteps
 pub mod LegalLaws
 pub mod ListedLaws
 pub mod MeasureLaws
@@ -24,6 +26,7 @@ pub mod PendingLaws
 pub mod PhiLaws
 pub mod PsiLaws
 pub mod RecSteps
+pub mod SendSteps
 pub mod SendingLaws
 pub mod SendsLaws
 pub mod SequenceLaws
@@ -32,4 +35,5 @@ pub mod SomeNextLaws
 pub mod StampLaws
 pub mod StampLists
 pub mod TimedLaws
+pub mod WaitingSteps
 pub mod WellFormedLaws

@@ -9,6 +9,8 @@ pub mod LawsOfLegalHistories
 pub mod LawsOfProjections
 pub mod LawsOfSending
 pub mod LawsOfSteps
+pub mod Least
 pub mod Machine
 pub mod Plain
 pub mod Steps
+pub mod Wanted

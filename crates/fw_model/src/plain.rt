@@ -3,10 +3,12 @@
 //!
 //! The lists are in the order of the events, the oldest first.
 
+mod arrivals;
 mod complete;
 mod keyed;
 mod next;
 mod outputs;
+mod sending;
 mod waiting;
 
 pub use complete::complete_frontiers;

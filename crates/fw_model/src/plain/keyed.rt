@@ -74,17 +74,24 @@ pub(super) fn sums_of(alloc: Global, keys: &[u64], recs: &[Rec]) -> Result<Vec<R
         .collect(alloc)
 }
 
-/// The recs in ascending order.
+/// The recs as a bag.
 #[tactic(auto, using(crate::proofs::RecSteps::sorted_more))]
-pub(super) fn sorted(alloc: Global, recs: &[Rec]) -> Result<Vec<Rec>, AllocError>
-    ensures { IfOk result (λ rs. rs.items ≡ keyed.sorted recs.now) }
+pub(super) fn bag_of(alloc: Global, recs: &[Rec]) -> Result<Bag, AllocError>
+    ensures { IfOk result (λ bag. bag.recs ≡ keyed.sorted recs.now) }
 {
     let mut bag = Bag::new(alloc);
     for rec in recs {
         bag.add(*rec)?;
     }
-    let mut ascending = Vec::with_capacity(alloc, bag.len())?;
-    drain(bag, &mut ascending)?;
+    Ok(bag)
+}
+
+/// The recs in ascending order.
+pub(super) fn sorted(alloc: Global, recs: &[Rec]) -> Result<Vec<Rec>, AllocError>
+    ensures { IfOk result (λ rs. rs.items ≡ keyed.sorted recs.now) }
+{
+    let mut ascending = Vec::new(alloc);
+    drain(bag_of(alloc, recs)?, &mut ascending)?;
     Ok(ascending)
 }
 

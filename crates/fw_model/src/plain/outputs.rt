@@ -5,6 +5,8 @@ ghost use Rattle.fw_time.specs.Stamp.{same};
 ghost use Rattle.fw_flow.specs.Dataflow.{receiver};
 ghost use Rattle.fw_flow.specs.NodeFunction.{delivered_recs};
 
+use super::arrivals::{Wanted, delivered_to};
+use super::keyed::bag_of;
 use fw_bag::Bag;
 use fw_flow::{Event, Flow, NodeId};
 use fw_time::Stamp;
@@ -21,5 +23,6 @@ pub fn recs_at(
     ensures { IfOk result (λ bag. bag.recs
         ≡ sorted (delivered_recs (λ e s. receiver flow.now e == output && same s at.now) (reverse events.now))) }
 {
-    Err(AllocError)
+    let recs = delivered_to(alloc, flow, output, events, &Wanted::At(at.copy()))?;
+    bag_of(alloc, &recs)
 }

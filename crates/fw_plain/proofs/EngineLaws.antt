@@ -23,7 +23,7 @@ use Rattle.fw_time.specs.Stamp.{Stamp}
 use Rattle.std.specs.Prelude.{Option, Some, None, MatchOption}
 use Rattle.fw_model.specs.History.{IsEnabled, IsLegal, IsNextBatch}
 use Rattle.fw_model.specs.Machine.{Machine, Numbered, Write, events, is_failed, no_stamps, places}
-use Rattle.fw_model.specs.Steps.{with_event, write_of_event, Takes, Steps, IsNextMessage, IsNextNotice, Outcome, quiet, did, idle}
+use Rattle.fw_model.specs.Steps.{with_event, write_of_event, Steps, IsNextMessage, IsNextNotice, Outcome, quiet, did, idle}
 use Rattle.fw_model.specs.Plain.{AreAtNodes}
 use Rattle.fw_model.proofs.LegalLaws.{legal_events-in_domain}
 use Rattle.fw_plain.specs.Engine.{Standing, numbered, state_of, KeepsNothing, IsSound}
@@ -201,3 +201,14 @@ at_some o x P Q e m = subst (λ k. MatchOption k P Q) e m
 
 pub at_none : {A : Type 0} (o : Option A) (P : Type 0) (Q : A → Type 0) → o ≡ None → MatchOption o P Q → P
 at_none o P Q e m = subst (λ k. MatchOption k P Q) e m
+
+-- its history is legal
+pub legal_now : (sys : System) (vs : List Event) (settled : List Front) (bounds : List ℕ) → IsSound sys vs settled bounds
+    → IsLegal sys (events (numbered (reverse vs)))
+legal_now sys vs settled bounds i = along sys vs (λ h. IsLegal sys h) i.legal
+
+pub legal_then : (was : Standing) (sys : System) (vs : List Event) (settled : List Front) (bounds : List ℕ) (refused : Bool)
+    → record { sys = sys; state = state_of sys.flow vs settled bounds; refused = refused } ≡ was → IsSound sys vs settled bounds
+    → IsLegal was.sys (events was.state.history)
+legal_then was sys vs settled bounds refused e i =
+    subst (λ (w : Standing). IsLegal w.sys (events w.state.history)) e (legal_now sys vs settled bounds i)

@@ -1,5 +1,5 @@
 -- What progress and acknowledgements do to the state that an engine stands for.
-use Rattle.std.proofs.Common.{◌≡◌, ℕ, ◌+◌, ◌<◌, ◌^◌, ◌==◌, nat_le, cond, map, Bool, true, false, ◌&&◌, not, List, [], ◌∷◌, ◌++◌, length, reverse, slice_set, slice_index_or, refl, sym, ◌∙◌, ap, subst, filter, arith}
+use Rattle.std.proofs.Common.{◌≡◌, ℕ, ◌+◌, ◌<◌, ◌^◌, ◌==◌, nat_le, cond, map, Bool, true, false, ◌&&◌, not, List, [], ◌∷◌, length, reverse, slice_set, slice_index_or, refl, sym, ◌∙◌, ap, subst, filter, arith}
 use Rattle.std.proofs.lemmas.Bool.{and_parts, and_from}
 use Rattle.std.proofs.lemmas.Bool.Decides.{nat_tests}
 use Rattle.std.proofs.lemmas.Grind.{common_steps}
@@ -8,7 +8,7 @@ use Rattle.fw_time.specs.Stamp.{Stamp, leq, same, in_domain}
 use Rattle.fw_bag.specs.declared.rec.Rec.{Rec}
 use Rattle.fw_bag.specs.Keyed.{sorted}
 use Rattle.fw_frontier.specs.Frontier.{Frontier}
-use Rattle.fw_frontier.specs.Front.{Front, inside, frontier_of, IsCanonical}
+use Rattle.fw_frontier.specs.Front.{Front, inside, frontier_of}
 use Rattle.fw_flow.specs.declared.event.Event.{Event}
 use Rattle.fw_flow.specs.declared.kind.Kind.{Kind}
 use Rattle.fw_flow.specs.declared.kind.Kind.TheVariants.{OutputEpoch, OutputNumber}
@@ -16,12 +16,12 @@ use Rattle.fw_flow.specs.declared.step.Step.TheVariants.{Progress, Ack}
 use Rattle.fw_flow.specs.Dataflow.{System, Dataflow, kind_of, policy_of, receiver, bounds_of, greatest_of, greatest_number, domain_of_kind, is_output_kind}
 use Rattle.fw_flow.specs.NodeFunction.{delivered_recs}
 use Rattle.fw_model.specs.History.{IsComplete}
-use Rattle.fw_model.specs.Machine.{Machine, Write, events, front_of, is_failed, bound_of, places}
-use Rattle.fw_model.specs.Steps.{GrowsTo, MayAcknowledge, IsThere, Steps, checkpoint_of, eager_writes, is_eager, same_front, recs_at_output, quiet, acked, did, idle}
+use Rattle.fw_model.specs.Machine.{Machine, events, front_of, is_failed, bound_of, places}
+use Rattle.fw_model.specs.Steps.{MayAcknowledge, IsThere, Steps, checkpoint_of, eager_writes, is_eager, same_front, quiet, acked, did, idle}
 use Rattle.fw_model.specs.Plain.{family_of, AreCanonical}
 use Rattle.fw_model.proofs.Decisions.{two_ways}
 use Rattle.fw_model.proofs.DescentLaws.{complete-one}
-use Rattle.fw_plain.specs.Engine.{Standing, numbered, state_of, KeepsNothing, IsSound}
+use Rattle.fw_plain.specs.Engine.{Standing, state_of, KeepsNothing, IsSound}
 use Rattle.fw_plain.specs.Fronts.{grows, any_grows, AreJoined}
 use Rattle.fw_plain.proofs.EngineLaws.{events_numbered, live}
 use Rattle.fw_plain.proofs.FrontsLaws.{grows-at, grows-by, any_grows-at, any_grows-by}
@@ -41,17 +41,20 @@ grows-new b c s t i o =
 pub progresses_nothing : (sys : System) (vs : List Event) (settled : List Front) (bounds : List ℕ) (complete : List Front) → IsSound sys vs settled bounds
     → IsComplete sys (reverse vs) (family_of sys.flow complete) → length complete ≡ length sys.flow.nodes → any_grows complete settled ≡ false
     → Steps sys (state_of sys.flow vs settled bounds) Progress (state_of sys.flow vs settled bounds) idle
-progresses_nothing sys vs settled bounds complete i k n none = (λ other effect t.
-    let g = t.2 in
-    let w = g.some in
-    let p = w.0 in
-    let b = bounds_of sys.flow p in
-    let also : IsComplete sys (reverse vs) t.0 = subst (λ h. IsComplete sys h t.0) (events_numbered (reverse vs)) g.complete in
-    let one : t.0 ≡ family_of sys.flow complete = complete-one sys (reverse vs) t.0 (family_of sys.flow complete) also k in
-    let in_ours : frontier_of b (front_of complete p) w.1 ≡ true = subst (λ (done : ℕ → Frontier). done p w.1 ≡ true) one w.4 in
-    let more = any_grows-at complete settled p (n ∙ sym i.one_front_each) (subst (λ m. p < m) (sym i.one_front_each) w.2)
-        (grows-new b (front_of complete p) (front_of settled p) w.1 in_ours w.5) in
-    two_ways (any_grows complete settled) more none, refl)
+progresses_nothing sys vs settled bounds complete i k n none = (
+  λ other effect t.
+      let g = t.2 in
+      let w = g.some in
+      let p = w.0 in
+      let b = bounds_of sys.flow p in
+      let also : IsComplete sys (reverse vs) t.0 = subst (λ h. IsComplete sys h t.0) (events_numbered (reverse vs)) g.complete in
+      let one : t.0 ≡ family_of sys.flow complete = complete-one sys (reverse vs) t.0 (family_of sys.flow complete) also k in
+      let in_ours : frontier_of b (front_of complete p) w.1 ≡ true = subst (λ (done : ℕ → Frontier). done p w.1 ≡ true) one w.4 in
+      let more = any_grows-at complete settled p (n ∙ sym i.one_front_each) (subst (λ m. p < m) (sym i.one_front_each) w.2)
+      (grows-new b (front_of complete p) (front_of settled p) w.1 in_ours w.5) in
+      two_ways (any_grows complete settled) more none,
+  refl,
+)
 
 none_eager : (sys : System) (state : Machine) (settled : List Front) (ps : List ℕ) → KeepsNothing sys.flow → eager_writes sys state settled ps ≡ []
 none_eager sys state settled [] keeps = refl
@@ -77,7 +80,10 @@ progresses sys vs settled bounds complete both i k canonical j more =
       record {
         complete = subst (λ h. IsComplete sys h (family_of sys.flow complete)) (sym (events_numbered (reverse vs))) k;
         some = (
-          p, new.0, l, live sys.flow vs settled bounds p,
+          p,
+          new.0,
+          l,
+          live sys.flow vs settled bounds p,
           and_from (in_domain b new.0) (inside (front_of complete p) new.0) new.1.in_the_domain new.1.gained,
           still (in_domain b new.0) (inside (front_of settled p) new.0) new.1.lacked,
         );
@@ -157,7 +163,7 @@ acknowledges sys vs settled bounds o x recs m e = (
   m,
   refl,
   ap (λ rs. acked o (x ∷ []) rs)
-  (e ∙ ap (λ h. sorted (delivered_recs (λ e s. receiver sys.flow e == o && same s (x ∷ [])) h)) (sym (events_numbered (reverse vs)))),
+      (e ∙ ap (λ h. sorted (delivered_recs (λ e s. receiver sys.flow e == o && same s (x ∷ [])) h)) (sym (events_numbered (reverse vs)))),
 )
 
 pub acknowledges_nothing : (sys : System) (state : Machine) (o : ℕ) → ((x : ℕ) → MayAcknowledge sys state o x → ⊥) → Steps sys state (Ack o) state idle

@@ -3,6 +3,7 @@ ghost use Rattle.std.specs.Prelude.{◌≡◌, ◌↔◌, ◌<◌, ℕ, [], ◌�
 ghost use Rattle.std.specs.Option.{option_copied};
 ghost use Rattle.fw_flow.specs.declared.step.Step.TheVariants.{Inject, Deliver, Notify, Progress, Ack};
 ghost use Rattle.fw_flow.specs.Dataflow.{kind_of, bounds_of};
+ghost use Rattle.fw_model.specs.History.{IsLegal};
 ghost use Rattle.fw_model.specs.LawsOfLegalHistories.{HasEpochs};
 ghost use Rattle.fw_model.specs.Plain.{system_of};
 ghost use Rattle.fw_model.specs.Machine.{first_state, events, front_of};
@@ -43,9 +44,9 @@ impl Model for Engine {
     ghost Value = { Standing };
 
     ghost view = { λ e. record {
-        sys = system_of e.flow e.batches;
-        state = state_of e.flow e.history.items e.settled.items e.bounds.items;
-        refused = e.refused;
+      sys = system_of e.flow e.batches;
+      state = state_of e.flow e.history.items e.settled.items e.bounds.items;
+      refused = e.refused;
     } };
 
     ghost invariant = { λ e. IsSound (system_of e.flow e.batches) e.history.items e.settled.items e.bounds.items };
@@ -57,9 +58,9 @@ impl Engine {
         requires keeps_nothing { KeepsNothing flow }
         requires epochs { HasEpochs (system_of flow batches) }
         ensures { IfOk result (λ e. e ≡ record {
-            sys = system_of flow batches;
-            state = first_state (system_of flow batches);
-            refused = false;
+          sys = system_of flow batches;
+          state = first_state (system_of flow batches);
+          refused = false;
         }) }
     {
         let settled = no_stamps_each(alloc, &flow)?;
@@ -81,6 +82,7 @@ impl Engine {
         ensures system { self.new.sys ≡ self.old.sys }
         ensures ok { IfOk result (λ stepped.
             Steps self.old.sys self.old.state step.now self.new.state (outcome_of stepped)) }
+        ensures legal { IsLegal self.new.sys (events self.new.state.history) }
         ensures live { OnOk result (self.new.refused ≡ false) }
         ensures err { OnErr result (self.new.refused ≡ true) }
         ensures refused { IsTrue self.old.refused → IsErr result }
@@ -129,7 +131,14 @@ impl Engine {
         ensures ok { IfOk result (λ stepped.
             Steps self.old.sys self.old.state (Deliver edge (option_copied at.entry)) self.new.state (outcome_of stepped)) }
     {
-        let found = next_message(self.alloc, &self.flow, &self.batches, &self.history, edge, at)?;
+        let found = next_message(
+            self.alloc,
+            &self.flow,
+            &self.batches,
+            &self.history,
+            edge,
+            at,
+        )?;
         let Some(message) = found else {
             return Ok(Stepped::Idle);
         };
@@ -143,7 +152,14 @@ impl Engine {
         ensures ok { IfOk result (λ stepped.
             Steps self.old.sys self.old.state (Notify node (option_copied at.entry)) self.new.state (outcome_of stepped)) }
     {
-        let found = next_notice(self.alloc, &self.flow, &self.batches, &self.history, node, at)?;
+        let found = next_notice(
+            self.alloc,
+            &self.flow,
+            &self.batches,
+            &self.history,
+            node,
+            at,
+        )?;
         let Some(at) = found else {
             return Ok(Stepped::Idle);
         };
@@ -187,7 +203,10 @@ impl Engine {
     {
         let bound = *self.bounds.get(output.place() as usize)?;
         let x = u32::try_from(bound).ok()?;
-        if is_output(self.flow.kind(output)) && self.is_settled(output, x) && self.is_there(output, x) {
+        if is_output(self.flow.kind(output))
+            && self.is_settled(output, x)
+            && self.is_there(output, x)
+        {
             Some(x)
         } else {
             None
@@ -201,7 +220,8 @@ impl Engine {
             (front_of self.now.state.settled output) (x ∷ []) }
     {
         let at = Stamp::new(&[x]);
-        at.in_domain(&self.flow.domain(output)) && self.settled[output.place() as usize].contains(&at)
+        at.in_domain(&self.flow.domain(output))
+            && self.settled[output.place() as usize].contains(&at)
     }
 
     // Whether there is something to acknowledge.

@@ -32,7 +32,9 @@ pub(crate) fn has_epoch(flow: &Flow, batches: &Batches, epoch: u32) -> bool
 pub(crate) fn has_delivery_at(flow: &Flow, events: &[Event], output: NodeId, at: &Stamp) -> bool
     ensures { result ≡ spec.has_delivery flow.now events.now output (same at.now) }
 {
-    events.iter().any(|event| is_delivery_at(flow, event, output, at))
+    events
+        .iter()
+        .any(|event| is_delivery_at(flow, event, output, at))
 }
 
 fn is_delivery_at(flow: &Flow, event: &Event, output: NodeId, at: &Stamp) -> bool
@@ -50,7 +52,9 @@ fn is_delivery_at(flow: &Flow, event: &Event, output: NodeId, at: &Stamp) -> boo
 pub(crate) fn has_delivery_from(flow: &Flow, events: &[Event], output: NodeId, at: &Stamp) -> bool
     ensures { result ≡ spec.has_delivery flow.now events.now output (leq at.now) }
 {
-    events.iter().any(|event| is_delivery_from(flow, event, output, at))
+    events
+        .iter()
+        .any(|event| is_delivery_from(flow, event, output, at))
 }
 
 fn is_delivery_from(flow: &Flow, event: &Event, output: NodeId, at: &Stamp) -> bool

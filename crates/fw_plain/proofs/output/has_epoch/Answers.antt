@@ -1,5 +1,4 @@
-use Rattle.std.proofs.Common.{ℕ, ◌<◌, ◌≤◌, length, sym, below_more, arith}
-use Rattle.fw_lines.specs.Batches.{batches_at}
+use Rattle.std.proofs.Common.{sym, below_more, arith}
 use Rattle.fw_plain.proofs.OutputLaws.{epoch_there, epoch_nowhere}
 use Rattle.fw_plain.proofs.output.has_epoch.Goals as goal
 

@@ -30,9 +30,9 @@ returns-clause-ok c =
     let is : old ≡ x = get_or_read ns o old there (c.index_mut.ensures.value ∙ ap (λ p. get_or ns p old) c.place.ensures) 0 ∙ sym may.next in
     let more : slice_set ns o (x + 1) ≡ slice_set ns c.place.result (old + 1) = ap (λ n. slice_set ns o (n + 1)) (sym is) ∙ ap (λ p. slice_set ns p (old + 1)) (sym c.place.ensures) in
     let got : recs ≡ sorted (delivered_recs (λ d s. receiver e.flow d == o && same s (x ∷ [])) (reverse vs)) =
-        c.in_ok-recs.ensures
-        ∙ ap (λ (ws : List Event). sorted (delivered_recs (λ d s. receiver e.flow d == o && same s c.new-at.result) (reverse ws))) c.deref.ensures.value
-        ∙ ap (λ (at : Stamp). sorted (delivered_recs (λ d s. receiver e.flow d == o && same s at) (reverse vs))) c.new-at.ensures in
+    c.in_ok-recs.ensures
+    ∙ ap (λ (ws : List Event). sorted (delivered_recs (λ d s. receiver e.flow d == o && same s c.new-at.result) (reverse ws))) c.deref.ensures.value
+    ∙ ap (λ (at : Stamp). sorted (delivered_recs (λ d s. receiver e.flow d == o && same s at) (reverse vs))) c.new-at.ensures in
     standing c.args.self.now sys state e.refused (Ack o) (state_of e.flow vs fs (slice_set ns c.place.result (old + 1))) (did (acked o c.new-at.result recs)) c.self.view_is
     (subst (λ (ms : List ℕ). Steps sys state (Ack o) (state_of e.flow vs fs ms) (did (acked o c.new-at.result recs))) more
     (subst (λ (at : Stamp). Steps sys state (Ack o) (state_of e.flow vs fs (slice_set ns o (x + 1))) (did (acked o at recs))) (sym c.new-at.ensures)

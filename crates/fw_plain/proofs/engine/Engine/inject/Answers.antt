@@ -15,7 +15,7 @@ returns-in_default-clause-ok c =
     let sys = system_of e.flow e.batches in
     let state = state_of e.flow e.history.items e.settled.items e.bounds.items in
     let none : (x : ℕ) → IsNextBatch sys (reverse e.history.items) s x → ⊥ =
-        subst (λ (vs : List Event). (x : ℕ) → IsNextBatch sys (reverse vs) s x → ⊥) c.deref.ensures.value (at_none _ _ _ c.in_default.is c.in_ok-epoch.ensures) in
+    subst (λ (vs : List Event). (x : ℕ) → IsNextBatch sys (reverse vs) s x → ⊥) c.deref.ensures.value (at_none _ _ _ c.in_default.is c.next_batch.ensures) in
     standing_idle c.args.self.now sys state e.refused (Inject s) c.self.view_is (injects_nothing sys e.history.items e.settled.items e.bounds.items s none)
 
 pub returns-clause-ok : goal.returns-clause-ok
@@ -27,7 +27,7 @@ returns-clause-ok c =
     let vs = e.history.items in
     let state = state_of e.flow vs e.settled.items e.bounds.items in
     let next : IsNextBatch sys (reverse vs) s x =
-        subst (λ (vs : List Event). IsNextBatch sys (reverse vs) s x) c.deref.ensures.value (at_some _ _ _ _ c.in-Some.is c.in_ok-epoch.ensures) in
+    subst (λ (vs : List Event). IsNextBatch sys (reverse vs) s x) c.deref.ensures.value (at_some _ _ _ _ c.in-Some.is c.next_batch.ensures) in
     standing c.args.self.now sys state e.refused (Inject s) (state_of e.flow c.push.new.self.items e.settled.items e.bounds.items) (did quiet) c.self.view_is
     (subst (λ (ws : List Event). Steps sys state (Inject s) (state_of e.flow ws e.settled.items e.bounds.items) (did quiet)) (sym c.in_ok-push.ensures.items)
     (injects sys vs e.settled.items e.bounds.items s x c.self.invariant next))

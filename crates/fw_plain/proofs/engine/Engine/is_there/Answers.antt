@@ -1,8 +1,6 @@
-use Rattle.std.proofs.Common.{List, ℕ, sym, ◌∙◌, ap}
+use Rattle.std.proofs.Common.{List, sym, ◌∙◌, ap}
 use Rattle.fw_time.specs.Stamp.{Stamp, leq, same}
 use Rattle.fw_flow.specs.declared.event.Event.{Event}
-use Rattle.fw_flow.specs.declared.kind.Kind.TheVariants.{OutputNumber}
-use Rattle.fw_flow.specs.Dataflow.{kind_of}
 use Rattle.fw_model.specs.Plain.{system_of}
 use Rattle.fw_plain.specs.Output.{has_delivery}
 use Rattle.fw_plain.proofs.OutputLaws.{tells-number, tells-epoch, tells-later}

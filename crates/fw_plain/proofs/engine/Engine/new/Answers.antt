@@ -1,8 +1,8 @@
-use Rattle.std.proofs.Common.{◌≡◌, ℕ, false, List, [], map, length, replicate, sym, ◌∙◌, ap, subst, rules}
+use Rattle.std.proofs.Common.{◌≡◌, ℕ, false, List, [], map, replicate, sym, ◌∙◌, ap, subst}
 use Rattle.fw_frontier.specs.Front.{Front}
 use Rattle.fw_flow.specs.declared.event.Event.{Event}
-use Rattle.fw_flow.specs.Dataflow.{System, bounds_of}
-use Rattle.fw_model.specs.Machine.{Machine, no_stamps, places}
+use Rattle.fw_flow.specs.Dataflow.{bounds_of}
+use Rattle.fw_model.specs.Machine.{no_stamps, places}
 use Rattle.fw_model.specs.Plain.{system_of}
 use Rattle.fw_plain.specs.Engine.{Standing, state_of, IsSound}
 use Rattle.fw_plain.proofs.EngineLaws.{sound_first, zeros_each}

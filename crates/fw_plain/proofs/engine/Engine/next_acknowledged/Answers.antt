@@ -27,7 +27,7 @@ returns-in_err-x c =
     let n = c.in_ok-bound.field-0.now in
     let at = read c.deref.result.now e.bounds.items c.place.result o n c.deref.ensures.value c.place.ensures c.in_ok-bound.ensures.lookup.3 in
     let not_fits : get_or e.bounds.items o 0 < 2 ^ 32 → ⊥ =
-        λ l. fits-not c.try_from.result (n < 2 ^ 32) n c.try_from.ensures c.in_err-x.ensures.value (subst (λ m. m < 2 ^ 32) (sym at.1) l) in
+    λ l. fits-not c.try_from.result (n < 2 ^ 32) n c.try_from.ensures c.in_err-x.ensures.value (subst (λ m. m < 2 ^ 32) (sym at.1) l) in
     subst (λ (r : Option ℕ). MatchOption r ((x : ℕ) → MayAcknowledge was.sys was.state o x → ⊥) (λ x. MayAcknowledge was.sys was.state o x))
     (sym c.from_residual-in_err-x.ensures)
     (may_acknowledge_none was (system_of e.flow e.batches) e.history.items e.settled.items e.bounds.items e.refused o c.self.view_is not_fits)

@@ -1,4 +1,4 @@
-use Rattle.std.proofs.Common.{◌≡◌, ℕ, List, reverse, sym, subst}
+use Rattle.std.proofs.Common.{List, reverse, sym, subst}
 use Rattle.std.specs.Option.{option_copied}
 use Rattle.fw_flow.specs.declared.event.Event.{Event}
 use Rattle.fw_time.specs.Stamp.{Stamp}
@@ -23,7 +23,7 @@ returns-in_default-clause-ok c =
     let sys = system_of e.flow e.batches in
     let state = state_of e.flow e.history.items e.settled.items e.bounds.items in
     let none : (x : Stamp) → IsNextNotice sys (reverse e.history.items) p at x → ⊥ =
-        subst (λ (vs : List Event). (x : Stamp) → IsNextNotice sys (reverse vs) p at x → ⊥) c.deref.ensures.value (at_none _ _ _ c.in_default.is c.in_ok-found.ensures) in
+    subst (λ (vs : List Event). (x : Stamp) → IsNextNotice sys (reverse vs) p at x → ⊥) c.deref.ensures.value (at_none _ _ _ c.in_default.is c.in_ok-found.ensures) in
     standing_idle c.args.self.now sys state e.refused (Notify p at) c.self.view_is (notifies_nothing sys e.history.items e.settled.items e.bounds.items p at none)
 
 pub returns-clause-ok : goal.returns-clause-ok
@@ -36,7 +36,7 @@ returns-clause-ok c =
     let vs = e.history.items in
     let state = state_of e.flow vs e.settled.items e.bounds.items in
     let next : IsNextNotice sys (reverse vs) p at x =
-        subst (λ (vs : List Event). IsNextNotice sys (reverse vs) p at x) c.deref.ensures.value (at_some _ _ _ _ c.in-Some.is c.in_ok-found.ensures) in
+    subst (λ (vs : List Event). IsNextNotice sys (reverse vs) p at x) c.deref.ensures.value (at_some _ _ _ _ c.in-Some.is c.in_ok-found.ensures) in
     standing c.args.self.now sys state e.refused (Notify p at) (state_of e.flow c.push.new.self.items e.settled.items e.bounds.items) (did quiet) c.self.view_is
     (subst (λ (ws : List Event). Steps sys state (Notify p at) (state_of e.flow ws e.settled.items e.bounds.items) (did quiet)) (sym c.in_ok-push.ensures.items)
     (notifies sys vs e.settled.items e.bounds.items p at x c.self.invariant next))

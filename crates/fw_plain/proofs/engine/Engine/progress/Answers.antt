@@ -25,10 +25,10 @@ returns-then-not-any_grows-clause-ok c =
     let fs = e.settled.items in
     let cs = c.in_ok-complete.complete.items in
     let found : IsComplete sys (reverse vs) (family_of e.flow cs) =
-        subst (λ (ws : List Event). IsComplete sys (reverse ws) (family_of e.flow cs)) c.deref.ensures.value c.in_ok-complete.ensures.complete in
+    subst (λ (ws : List Event). IsComplete sys (reverse ws) (family_of e.flow cs)) c.deref.ensures.value c.in_ok-complete.ensures.complete in
     let none : any_grows cs fs ≡ false =
-        sym (sym c.if-not-any_grows.true ∙ c.any_grows.ensures ∙ ap (λ (gs : List Front). any_grows gs c.deref-3.result.now) c.deref-2.ensures.value
-        ∙ ap (λ (gs : List Front). any_grows cs gs) c.deref-3.ensures.value) in
+    sym (sym c.if-not-any_grows.true ∙ c.any_grows.ensures ∙ ap (λ (gs : List Front). any_grows gs c.deref-3.result.now) c.deref-2.ensures.value
+    ∙ ap (λ (gs : List Front). any_grows cs gs) c.deref-3.ensures.value) in
     standing_idle c.args.self.now sys (state_of e.flow vs fs e.bounds.items) e.refused Progress c.self.view_is
     (progresses_nothing sys vs fs e.bounds.items cs c.self.invariant found c.in_ok-complete.ensures.one_each none)
 
@@ -39,8 +39,8 @@ invariant_of-self c =
     let cs = c.in_ok-complete.complete.items in
     let both = c.in_ok-self-inside.field-0.items in
     let join : AreJoined (length fs) fs cs both =
-        subst (λ (gs : List Front). AreJoined (length gs) gs cs both) c.deref-4.ensures.value
-        (subst (λ (gs : List Front). AreJoined (length c.deref-4.result.now) c.deref-4.result.now gs both) c.deref-5.ensures.value c.in_ok-self-inside.ensures) in
+    subst (λ (gs : List Front). AreJoined (length gs) gs cs both) c.deref-4.ensures.value
+    (subst (λ (gs : List Front). AreJoined (length c.deref-4.result.now) c.deref-4.result.now gs both) c.deref-5.ensures.value c.in_ok-self-inside.ensures) in
     sound_grown (system_of e.flow e.batches) e.history.items fs e.bounds.items cs both c.self.invariant c.in_ok-complete.ensures.canonical join
 
 pub returns-clause-ok : goal.returns-clause-ok
@@ -52,12 +52,12 @@ returns-clause-ok c =
     let cs = c.in_ok-complete.complete.items in
     let both = c.in_ok-self-inside.field-0.items in
     let found : IsComplete sys (reverse vs) (family_of e.flow cs) =
-        subst (λ (ws : List Event). IsComplete sys (reverse ws) (family_of e.flow cs)) c.deref.ensures.value c.in_ok-complete.ensures.complete in
+    subst (λ (ws : List Event). IsComplete sys (reverse ws) (family_of e.flow cs)) c.deref.ensures.value c.in_ok-complete.ensures.complete in
     let join : AreJoined (length fs) fs cs both =
-        subst (λ (gs : List Front). AreJoined (length gs) gs cs both) c.deref-4.ensures.value
-        (subst (λ (gs : List Front). AreJoined (length c.deref-4.result.now) c.deref-4.result.now gs both) c.deref-5.ensures.value c.in_ok-self-inside.ensures) in
+    subst (λ (gs : List Front). AreJoined (length gs) gs cs both) c.deref-4.ensures.value
+    (subst (λ (gs : List Front). AreJoined (length c.deref-4.result.now) c.deref-4.result.now gs both) c.deref-5.ensures.value c.in_ok-self-inside.ensures) in
     let more : any_grows cs fs ≡ true =
-        sym (sym c.if-not-any_grows.false ∙ c.any_grows.ensures ∙ ap (λ (gs : List Front). any_grows gs c.deref-3.result.now) c.deref-2.ensures.value
-        ∙ ap (λ (gs : List Front). any_grows cs gs) c.deref-3.ensures.value) in
+    sym (sym c.if-not-any_grows.false ∙ c.any_grows.ensures ∙ ap (λ (gs : List Front). any_grows gs c.deref-3.result.now) c.deref-2.ensures.value
+    ∙ ap (λ (gs : List Front). any_grows cs gs) c.deref-3.ensures.value) in
     standing c.args.self.now sys (state_of e.flow vs fs e.bounds.items) e.refused Progress (state_of e.flow vs both e.bounds.items) (did quiet) c.self.view_is
     (progresses sys vs fs e.bounds.items cs both c.self.invariant found c.in_ok-complete.ensures.canonical join more)

@@ -76,7 +76,9 @@ impl Engine {
         })
     }
 
-    /// Takes a step that a schedule may have today. The error is want of memory; from then on every step answers it.
+    /// Takes a step, and tells what it shows: Idle exactly where it is not enabled, and then nothing changes. The step is
+    /// an injection, a delivery, a notification, progress or an acknowledgement. The error is want of memory; from then
+    /// on every step answers it.
     pub fn step(&mut self, step: &Step) -> Result<Stepped, AllocError>
         requires { is_plain_step step.now ≡ true }
         ensures system { self.new.sys ≡ self.old.sys }

@@ -1,5 +1,5 @@
 -- What a further event does to the state that an engine stands for.
-use Rattle.std.proofs.Common.{◌≡◌, ℕ, zero, suc, cond, ◌+◌, ◌==◌, Bool, true, false, List, [], ◌∷◌, ◌++◌, map, length, reverse, refl, sym, ◌∙◌, ap, subst, slice_index_or, replicate, arith}
+use Rattle.std.proofs.Common.{◌≡◌, ℕ, zero, suc, cond, ◌+◌, ◌==◌, Bool, ◌&&◌, true, false, List, [], ◌∷◌, ◌++◌, map, length, reverse, refl, sym, ◌∙◌, ap, subst, slice_index_or, replicate, arith}
 use Rattle.std.specs.List.{AllByRecursion, range_with_len}
 use Rattle.std.proofs.lemmas.List.FromFn.{length-map-range_with_len, get_or-map-range_with_len}
 use Rattle.std.proofs.lemmas.Bool.Decides.{nat_tests}
@@ -17,6 +17,7 @@ use Rattle.fw_flow.specs.NodeFunction.{place, stamp}
 use Rattle.fw_flow.specs.Projection.{events_at}
 use Rattle.fw_frontier.specs.Front.{Front, IsCanonical}
 use Rattle.fw_flow.specs.WellFormed.{IsWellFormed}
+use Rattle.fw_model.specs.LawsOfFiltering.{NotifiesNobody}
 use Rattle.fw_model.specs.LawsOfLegalHistories.{HasEpochs}
 use Rattle.fw_plain.proofs.FrontsLaws.{names-no_stamps}
 use Rattle.fw_time.specs.Stamp.{Stamp}
@@ -83,14 +84,15 @@ pub zeros_each : (flow : Dataflow) → replicate {A = ℕ} (length flow.nodes) 0
 zeros_each flow = zeros_from 0 (length flow.nodes)
 
 -- the first state is sound
-pub sound_first : (sys : System) → IsWellFormed sys.flow → KeepsNothing sys.flow → HasEpochs sys
+pub sound_first : (sys : System) → IsWellFormed sys.flow → KeepsNothing sys.flow → NotifiesNobody sys.flow → HasEpochs sys
     → IsSound sys [] (map (λ p. no_stamps (bounds_of sys.flow p)) (places sys.flow)) (map (λ p. 0) (places sys.flow))
-sound_first sys w keeps epochs =
+sound_first sys w keeps nobody epochs =
     let n = length sys.flow.nodes in
     let f : ℕ → Front = λ p. no_stamps (bounds_of sys.flow p) in
     record {
       well_formed = w;
       keeps_nothing = keeps;
+      notifies_nobody = nobody;
       epochs = epochs;
       legal = tt;
       one_front_each = length-map-range_with_len f 0 n;
@@ -105,6 +107,7 @@ pub sound_after : (sys : System) (vs : List Event) (settled : List Front) (bound
 sound_after sys vs settled bounds v s e = record {
   well_formed = s.well_formed;
   keeps_nothing = s.keeps_nothing;
+  notifies_nobody = s.notifies_nobody;
   epochs = s.epochs;
   legal = subst (IsLegal sys) (sym (reverse_more vs v)) (e, s.legal);
   one_front_each = s.one_front_each;
@@ -169,21 +172,18 @@ pub delivers_nothing : (sys : System) (vs : List Event) (settled : List Front) (
     → Steps sys (state_of sys.flow vs settled bounds) (Deliver e at) (state_of sys.flow vs settled bounds) idle
 delivers_nothing sys vs settled bounds e at n = (λ other effect t. n t.0 (back sys vs (λ h. IsNextMessage sys h e at t.0) t.1), refl)
 
-pub notifies : (sys : System) (vs : List Event) (settled : List Front) (bounds : List ℕ) (p : ℕ) (at : Option Stamp) (t : Stamp) → IsSound sys vs settled bounds
-    → IsNextNotice sys (reverse vs) p at t
-    → Steps sys (state_of sys.flow vs settled bounds) (Notify p at) (state_of sys.flow (vs ++ Notified p t ∷ []) settled bounds) (did quiet)
-notifies sys vs settled bounds p at t i k = (
-  t,
-  along sys vs (λ h. IsNextNotice sys h p at t) k,
-  live sys.flow vs settled bounds p,
-  with_event_added sys vs settled bounds (Notified p t) i.keeps_nothing,
-  refl,
-)
+first_of : (a b c : Bool) → (a && b && c) ≡ true → a ≡ true
+first_of true b c h = refl
+first_of false b c h = h
 
-pub notifies_nothing : (sys : System) (vs : List Event) (settled : List Front) (bounds : List ℕ) (p : ℕ) (at : Option Stamp)
-    → ((t : Stamp) → IsNextNotice sys (reverse vs) p at t → ⊥)
+-- where no node is notified a notification is idle
+pub notifies_nothing : (sys : System) (vs : List Event) (settled : List Front) (bounds : List ℕ) (p : ℕ) (at : Option Stamp) → IsSound sys vs settled bounds
     → Steps sys (state_of sys.flow vs settled bounds) (Notify p at) (state_of sys.flow vs settled bounds) idle
-notifies_nothing sys vs settled bounds p at n = (λ other effect t. n t.0 (back sys vs (λ h. IsNextNotice sys h p at t.0) t.1), refl)
+notifies_nothing sys vs settled bounds p at i =
+    (λ other effect t. true_false (sym (first_of _ _ _ t.1.enabled.is_owed) ∙ i.notifies_nobody p), refl)
+  where
+    true_false : true ≡ false → ⊥
+    true_false e = cc
 
 -- ---- what an engine stands for
 

@@ -104,6 +104,7 @@ pub sound_grown : (sys : System) (vs : List Event) (settled : List Front) (bound
 sound_grown sys vs settled bounds complete both i canonical j = record {
   well_formed = i.well_formed;
   keeps_nothing = i.keeps_nothing;
+  notifies_nobody = i.notifies_nobody;
   epochs = i.epochs;
   legal = i.legal;
   one_front_each = j.one_each ∙ i.one_front_each;
@@ -174,6 +175,7 @@ pub sound_acknowledged : (sys : System) (vs : List Event) (settled : List Front)
 sound_acknowledged sys vs settled bounds o x i = record {
   well_formed = i.well_formed;
   keeps_nothing = i.keeps_nothing;
+  notifies_nobody = i.notifies_nobody;
   epochs = i.epochs;
   legal = i.legal;
   one_front_each = i.one_front_each;

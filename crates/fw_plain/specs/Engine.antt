@@ -8,6 +8,7 @@ use Rattle.fw_flow.specs.declared.step.Step.TheVariants.{Inject, Deliver, Notify
 use Rattle.fw_flow.specs.Dataflow.{System, Dataflow, policy_of, bounds_of}
 use Rattle.fw_flow.specs.WellFormed.{IsWellFormed}
 use Rattle.fw_model.specs.History.{IsLegal}
+use Rattle.fw_model.specs.LawsOfFiltering.{NotifiesNobody}
 use Rattle.fw_model.specs.LawsOfLegalHistories.{HasEpochs}
 use Rattle.fw_model.specs.Machine.{Machine, Numbered, no_stamps, places, front_of}
 use Rattle.fw_model.specs.Steps.{Effect, quiet, acked, Outcome, did, idle}
@@ -48,6 +49,7 @@ state_of flow events settled bounds = record {
 pub record IsSound (sys : System) (events : List Event) (settled : List Front) (bounds : List ℕ) : Type 0 where
   pub well_formed : IsWellFormed sys.flow
   pub keeps_nothing : KeepsNothing sys.flow
+  pub notifies_nobody : NotifiesNobody sys.flow
   pub epochs : HasEpochs sys
   pub legal : IsLegal sys (reverse events)
   pub one_front_each : length settled ≡ length sys.flow.nodes

@@ -4,6 +4,7 @@ ghost use Rattle.std.specs.Option.{option_copied};
 ghost use Rattle.fw_flow.specs.declared.step.Step.TheVariants.{Inject, Deliver, Notify, Progress, Ack};
 ghost use Rattle.fw_flow.specs.Dataflow.{kind_of, bounds_of};
 ghost use Rattle.fw_model.specs.History.{IsLegal};
+ghost use Rattle.fw_model.specs.LawsOfFiltering.{NotifiesNobody};
 ghost use Rattle.fw_model.specs.LawsOfLegalHistories.{HasEpochs};
 ghost use Rattle.fw_model.specs.Plain.{system_of};
 ghost use Rattle.fw_model.specs.Machine.{first_state, events, front_of};
@@ -17,12 +18,12 @@ use crate::{Effect, Stepped};
 use fw_flow::{EdgeId, Event, Flow, Kind, NodeId, Step};
 use fw_frontier::Front;
 use fw_lines::Batches;
-use fw_model::plain::{complete_frontiers, next_batch, next_message, next_notice, recs_at};
+use fw_model::plain::{complete_frontiers, next_batch, next_message, recs_at};
 use fw_time::Stamp;
 use std::alloc::{AllocError, Global};
 use std::marker::Model;
 
-/// An engine that keeps the list of events, of a dataflow whose nodes keep nothing. Contracts see the system that it
+/// An engine that keeps the list of events, of a dataflow whose nodes keep nothing and are not notified. Contracts see the system that it
 /// runs, the state of the machine that it stands for, and whether memory was refused.
 #[derive(Debug, Drop)]
 pub struct Engine {
@@ -56,6 +57,7 @@ impl Engine {
     /// An engine to which nothing has happened. The error is want of memory.
     pub fn new(alloc: Global, flow: Flow, batches: Batches) -> Result<Self, AllocError>
         requires keeps_nothing { KeepsNothing flow }
+        requires notifies_nobody { NotifiesNobody flow }
         requires epochs { HasEpochs (system_of flow batches) }
         ensures { IfOk result (λ e. e ≡ record {
           sys = system_of flow batches;
@@ -107,7 +109,7 @@ impl Engine {
         match step {
             Step::Inject(source) => self.inject(*source),
             Step::Deliver(edge, at) => self.deliver(*edge, at.as_ref()),
-            Step::Notify(node, at) => self.notify(*node, at.as_ref()),
+            Step::Notify(node, at) => Ok(self.notify(*node, at.as_ref())),
             Step::Progress => self.progress(),
             Step::Ack(output) => self.acknowledge(*output),
             _ => Ok(Stepped::Idle),
@@ -148,25 +150,12 @@ impl Engine {
         Ok(Stepped::Did(Effect::Quiet))
     }
 
-    fn notify(&mut self, node: NodeId, at: Option<&Stamp>) -> Result<Stepped, AllocError>
-        ensures system { self.new.sys ≡ self.old.sys }
-        ensures refused { self.new.refused ≡ self.old.refused }
-        ensures ok { IfOk result (λ stepped.
-            Steps self.old.sys self.old.state (Notify node (option_copied at.entry)) self.new.state (outcome_of stepped)) }
+    // A notification comes to nothing, since no node of the dataflow waits for one.
+    fn notify(&self, _node: NodeId, _at: Option<&Stamp>) -> Stepped
+        ensures { Steps self.now.sys self.now.state (Notify _node (option_copied _at.entry)) self.now.state (outcome_of result) }
     {
-        let found = next_notice(
-            self.alloc,
-            &self.flow,
-            &self.batches,
-            &self.history,
-            node,
-            at,
-        )?;
-        let Some(at) = found else {
-            return Ok(Stepped::Idle);
-        };
-        self.history.push(Event::Notify { node, at })?;
-        Ok(Stepped::Did(Effect::Quiet))
+        let _ = &self.flow;
+        Stepped::Idle
     }
 
     fn progress(&mut self) -> Result<Stepped, AllocError>

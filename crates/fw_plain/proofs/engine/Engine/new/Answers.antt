@@ -16,7 +16,7 @@ invariant_of-result c =
     subst (λ (vs : List Event). IsSound sys vs c.in_ok-settled.settled.items c.in_ok-bounds.bounds.items) (sym c.new.ensures.items)
     (subst (λ (fs : List Front). IsSound sys [] fs c.in_ok-bounds.bounds.items) (sym c.in_ok-settled.ensures)
     (subst (λ (ns : List ℕ). IsSound sys [] (map (λ p. no_stamps (bounds_of flow p)) (places flow)) ns) (sym zeros)
-    (sound_first sys c.nodes.ensures.well_formed c.requires.keeps_nothing c.requires.epochs)))
+    (sound_first sys c.nodes.ensures.well_formed c.requires.keeps_nothing c.requires.notifies_nobody c.requires.epochs)))
 
 pub returns : goal.returns
 returns c =

@@ -28,5 +28,5 @@ returns-in-Deliver-clause-ok c =
 
 pub returns-in-Notify-clause-ok : goal.returns-in-Notify-clause-ok
 returns-in-Notify-clause-ok c =
-    subst (λ (step : Step). IfOk c.notify.result (λ stepped. Steps c.args.self.now.sys c.args.self.now.state step c.notify.new.self.state (outcome_of stepped)))
-    (ap (λ (at : Option Stamp). Notify c.in-Notify.node at) c.as_ref-in-Notify.ensures.value ∙ sym c.in-Notify.is) c.notify.ensures.ok
+    subst (λ (step : Step). Steps c.args.self.now.sys c.args.self.now.state step c.args.self.now.state (outcome_of c.notify.result))
+    (ap (λ (at : Option Stamp). Notify c.in-Notify.node at) c.as_ref-in-Notify.ensures.value ∙ sym c.in-Notify.is) c.notify.ensures

@@ -87,7 +87,7 @@ abbrev pub IsSub : List Message → List Message → Type 0
 IsSub ds ms = (m : Message) → weigh (copy m) ds ≤ weigh (copy m) ms
 
 -- what is left weighs what is missing
-less-weigh : (w : Message → ℕ) (ms ds : List Message) → IsSub ds ms → weigh w (less ms ds) + weigh w ds ≡ weigh w ms
+pub less-weigh : (w : Message → ℕ) (ms ds : List Message) → IsSub ds ms → weigh w (less ms ds) + weigh w ds ≡ weigh w ms
 unfolding weigh
 less-weigh w ms [] s = omega arith
 less-weigh w ms (d ∷ ds) s =
@@ -147,7 +147,7 @@ timed_message m = record { at = m.at; rec = m.rec }
 abbrev pub timed_of : List Message → List Timed
 timed_of ms = map timed_message ms
 
-timed_of-weigh : (w : Timed → ℕ) (ms : List Message) → weigh w (timed_of ms) ≡ weigh (λ m. w (timed_message m)) ms
+pub timed_of-weigh : (w : Timed → ℕ) (ms : List Message) → weigh w (timed_of ms) ≡ weigh (λ m. w (timed_message m)) ms
 unfolding weigh
 timed_of-weigh w [] = refl
 timed_of-weigh w (m ∷ ms) = ap (λ n. w (timed_message m) + n) (timed_of-weigh w ms)

@@ -1,6 +1,7 @@
 pub mod ArrivalLaws
 pub mod CheckpointLaws
 pub mod ChoiceLaws
+pub mod ChoosingLaws
 pub mod ClosedLaws
 pub mod CmpLaws
 pub mod CompleteLaws
@@ -28,6 +29,7 @@ pub mod LedgerLaws
 pub mod LegalLaws
 pub mod ListedLaws
 pub mod LocalityLaws
+pub mod LowLaws
 pub mod MeasureLaws
 pub mod MeetLaws
 pub mod NotifiedLaws
@@ -46,12 +48,14 @@ pub mod PsiLaws
 pub mod RecoveryLaws
 pub mod RewritingLaws
 pub mod RunLaws
+pub mod SameInsideLaws
 pub mod SendingLaws
 pub mod SendsLaws
 pub mod SentLaws
 pub mod SequenceLaws
 pub mod SequencedLaws
 pub mod SettleLaws
+pub mod ShownLaws
 pub mod SomeNextLaws
 pub mod StampLaws
 pub mod StampLists
@@ -63,3 +67,4 @@ pub mod TimedCounts
 pub mod TimedLaws
 pub mod WeightLaws
 pub mod WellFormedLaws
+pub mod WriteLaws

@@ -28,18 +28,18 @@ use Rattle.fw_model.proofs.RunLaws.{none-inside}
 -- ---- checkpoints
 
 -- the frontier lies within what is settled at the node, if it is there
-abbrev IsSettled : System → List Front → ℕ → Front → Type 0
+abbrev pub IsSettled : System → List Front → ℕ → Front → Type 0
 IsSettled sys settled p g = p < length sys.flow.nodes → Within (frontier_of (bounds_of sys.flow p) g) (frontier_of (bounds_of sys.flow p) (front_of settled p))
 
 -- what a write of a node holds lies within what is settled, if it is a checkpoint
-abbrev HoldsSettled : System → List Front → ℕ → Written → Type 0
+abbrev pub HoldsSettled : System → List Front → ℕ → Written → Type 0
 HoldsSettled sys settled p (checkpoint g low) = IsSettled sys settled p g
 HoldsSettled sys settled p (logged_event serial) = Unit {0}
 
-abbrev IsWriteSettled : System → List Front → Write → Type 0
+abbrev pub IsWriteSettled : System → List Front → Write → Type 0
 IsWriteSettled sys settled write = HoldsSettled sys settled write.node write.written
 
-abbrev AreWritesSettled : System → List Front → List Write → Type 0
+abbrev pub AreWritesSettled : System → List Front → List Write → Type 0
 AreWritesSettled sys settled writes = AllByRecursion (IsWriteSettled sys settled) writes
 
 -- what holds of written of a node after what was settled has changed
@@ -50,25 +50,25 @@ changed sys before after p (checkpoint g low) k h = k g low refl h
 changed sys before after p (logged_event serial) k h = tt
 
 -- settled grows at each node
-abbrev Grows : System → List Front → List Front → Type 0
+abbrev pub Grows : System → List Front → List Front → Type 0
 Grows sys before after = (p : ℕ) → p < length sys.flow.nodes → Within (frontier_of (bounds_of sys.flow p) (front_of before p)) (frontier_of (bounds_of sys.flow p) (front_of after p))
 
-grown-writes : (sys : System) (before after : List Front) → Grows sys before after → (writes : List Write) → AreWritesSettled sys before writes → AreWritesSettled sys after writes
+pub grown-writes : (sys : System) (before after : List Front) → Grows sys before after → (writes : List Write) → AreWritesSettled sys before writes → AreWritesSettled sys after writes
 grown-writes sys before after k writes a =
     each-weaker (IsWriteSettled sys before) (IsWriteSettled sys after) writes
     (λ write h. changed sys before after write.node write.written (λ g low e s l t i. k write.node l t (s l t i)) h) a
 
-each-mapped : {A B : Type 0} (P : B → Type 0) (f : A → B) (xs : List A) → AllByRecursion (λ x. P (f x)) xs → AllByRecursion P (map f xs)
+pub each-mapped : {A B : Type 0} (P : B → Type 0) (f : A → B) (xs : List A) → AllByRecursion (λ x. P (f x)) xs → AllByRecursion P (map f xs)
 each-mapped P f [] a = tt
 each-mapped P f (x ∷ xs) a = (a.0, each-mapped P f xs a.1)
 
-each-passed : {A : Type 0} (P Q : A → Type 0) (test : A → Bool) (xs : List A) → ((x : A) → test x ≡ true → P x → Q x) → AllByRecursion P xs → AllByRecursion Q (filter test xs)
+pub each-passed : {A : Type 0} (P Q : A → Type 0) (test : A → Bool) (xs : List A) → ((x : A) → test x ≡ true → P x → Q x) → AllByRecursion P xs → AllByRecursion Q (filter test xs)
 each-passed P Q test [] k a = tt
 each-passed P Q test (x ∷ xs) k a =
     let rest = each-passed P Q test xs k a.1 in
     cond_both (test x) (x ∷ filter test xs) (filter test xs) (AllByRecursion Q) (λ e. (k x e a.0, rest)) (λ e. rest)
 
-each-replaced : {A : Type 0} (P : A → Type 0) (xs : List A) (y z : A) (ys : List A) → (P y → P z) → AllByRecursion P (xs ++ y ∷ ys) → AllByRecursion P (xs ++ z ∷ ys)
+pub each-replaced : {A : Type 0} (P : A → Type 0) (xs : List A) (y z : A) (ys : List A) → (P y → P z) → AllByRecursion P (xs ++ y ∷ ys) → AllByRecursion P (xs ++ z ∷ ys)
 each-replaced P [] y z ys k a = (k a.0, a.1)
 each-replaced P (x ∷ xs) y z ys k a = (a.0, each-replaced P xs y z ys k a.1)
 
@@ -78,14 +78,14 @@ event-writes : (sys : System) (settled : List Front) (p : Policy) (q serial : �
 event-writes sys settled policy.Full q serial = (tt, tt)
 event-writes sys settled p q serial = tt
 
-settled-grows : (sys : System) (state : Machine) (done : ℕ → Frontier) (settled : List Front) → GrowsTo sys state done settled → Grows sys state.settled settled
+pub settled-grows : (sys : System) (state : Machine) (done : ℕ → Frontier) (settled : List Front) → GrowsTo sys state done settled → Grows sys state.settled settled
 settled-grows sys state done settled g p l t i = elim (cases_Bool (is_failed state p)) [
   | inl lost ↦ subst (λ os. frontier_of (bounds_of sys.flow p) os t ≡ true) (sym (g.failed p l lost)) i
   | inr live ↦ (g.each p l live).same t ∙ or_left (frontier_of (bounds_of sys.flow p) (front_of state.settled p) t) (done p t) i
 ]
 
 -- a front all of whose outside stamps are outside another holds it
-is_within-holds : (b : Bounds) (g f : Front) → is_within g f ≡ true → Within (frontier_of b g) (frontier_of b f)
+pub is_within-holds : (b : Bounds) (g f : Front) → is_within g f ≡ true → Within (frontier_of b g) (frontier_of b f)
 is_within-holds b g f k t i =
     let a = and_parts (in_domain b t) (inside g t) i in
     and_from (in_domain b t) (inside f t) a.0 (all_outside f k)
@@ -122,14 +122,14 @@ acknowledged-writes sys settled writes next k a =
     (subst (AreWritesSettled sys settled) k.before a))
 
 -- the checkpoints of a state lie within what is settled
-abbrev HasWritesSettled : System → Machine → Type 0
+abbrev pub HasWritesSettled : System → Machine → Type 0
 HasWritesSettled sys state = AreWritesSettled sys state.settled state.writes
 
 with-settled : (sys : System) (state : Machine) (more : List Write) → HasWritesSettled sys state → AreWritesSettled sys state.settled more
     → HasWritesSettled sys (record state { writes = state.writes ++ more })
 with-settled sys state more a b = each-append (IsWriteSettled sys state.settled) state.writes more a b
 
-took-writes : (sys : System) (state : Machine) (step : Step) (next : Machine) (effect : Effect) → Takes sys state step next effect
+pub took-writes : (sys : System) (state : Machine) (step : Step) (next : Machine) (effect : Effect) → Takes sys state step next effect
     → HasWritesSettled sys state → HasWritesSettled sys next
 took-writes sys state (Inject s) next effect t a =
     subst (HasWritesSettled sys) (sym t.3) (with-settled sys state (write_of_event (policy_of sys.flow s) s state.next) a (event-writes sys state.settled (policy_of sys.flow s) s state.next))
@@ -190,7 +190,7 @@ checkpoint-within sys settled view p f (write ∷ writes) a k =
     ]
     by n (logged_event serial) far h rest k = elim k [ inl c ↦ absurd c | inr c ↦ rest c ]
 
-restorable-within : (sys : System) (state : Machine) (view : View) (p : ℕ) (way : Restoring) (f : Front) → p < length sys.flow.nodes → (way ≡ by_batches → ⊥)
+pub restorable-within : (sys : System) (state : Machine) (view : View) (p : ℕ) (way : Restoring) (f : Front) → p < length sys.flow.nodes → (way ≡ by_batches → ⊥)
     → HasWritesSettled sys state → IsRestorable sys state view p way f → IsSettled sys state.settled p f
 restorable-within sys state view p by_batches f l n a k = absurd (n refl)
 restorable-within sys state view p by_bound f l n a k = λ _. k.0
@@ -208,7 +208,7 @@ policy-not_batches policy.Logged e = cc
 policy-not_batches policy.Eager e = cc
 policy-not_batches policy.Full e = cc
 
-not_batches : (kind : Kind) (p : Policy) → is_input_kind kind ≡ false → restoring kind p ≡ by_batches → ⊥
+pub not_batches : (kind : Kind) (p : Policy) → is_input_kind kind ≡ false → restoring kind p ≡ by_batches → ⊥
 not_batches Input p n e = two_ways true refl n
 not_batches OutputEpoch p n e = cc
 not_batches OutputNumber p n e = cc

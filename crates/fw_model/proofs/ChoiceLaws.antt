@@ -318,13 +318,13 @@ not_by_batches policy.Logged e = cc
 not_by_batches policy.Eager e = cc
 not_by_batches policy.Full e = cc
 
-by_batches-input : (kind : Kind) (p : Policy) → restoring kind p ≡ by_batches → kind ≡ Input
+pub by_batches-input : (kind : Kind) (p : Policy) → restoring kind p ≡ by_batches → kind ≡ Input
 by_batches-input Input p e = refl
 by_batches-input OutputEpoch p e = absurd (cc)
 by_batches-input OutputNumber p e = absurd (cc)
 by_batches-input kind p e = absurd (not_by_batches p e)
 
-bounds-input : (flow : Dataflow) (p : ℕ) → kind_of flow p ≡ Input → bounds_of flow p ≡ record { greatest = greatest_number ∷ [] }
+pub bounds-input : (flow : Dataflow) (p : ℕ) → kind_of flow p ≡ Input → bounds_of flow p ≡ record { greatest = greatest_number ∷ [] }
 unfolding bounds_of
 bounds-input flow p is = ap (λ k. bounds_of_domain flow (domain_of_kind flow k)) is
 

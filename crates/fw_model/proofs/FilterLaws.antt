@@ -9,7 +9,7 @@ use Rattle.fw_model.specs.History.{message_cmp, without, less}
 use Rattle.fw_model.proofs.CmpLaws.{equal_from_is_eq, message_cmp-same}
 
 -- what the wider of two tests leaves out, the narrower one leaves out
-passes-not : (j k : Bool) → (j ≡ true → k ≡ true) → k ≡ false → j ≡ false
+pub passes-not : (j k : Bool) → (j ≡ true → k ≡ true) → k ≡ false → j ≡ false
 passes-not true k h e = sym (h refl) ∙ e
 passes-not false k h e = refl
 

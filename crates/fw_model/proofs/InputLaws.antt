@@ -100,7 +100,7 @@ batches-weigh w batches =
 input-sends : (sys : System) (kind : Kind) (before : List Event) (v : Event) (w : Timed → ℕ) → kind ≡ Input → weigh w (timed_of (sends_of_kind sys kind before v)) ≡ weigh w (timed_of (sends_of_kind sys Input before v))
 input-sends sys kind before v w e = ap (λ k. weigh w (timed_of (sends_of_kind sys k before v))) e
 
-injected-few : (sys : System) (h : List Event) → IsLegal sys h → (p : ℕ) → injected_count p h ≤ length (batches_of sys p)
+pub injected-few : (sys : System) (h : List Event) → IsLegal sys h → (p : ℕ) → injected_count p h ≤ length (batches_of sys p)
 injected-few sys [] l p = omega arith
 injected-few sys (Inject s x ∷ h) l p =
     let r = injected-few sys h l.1 p in

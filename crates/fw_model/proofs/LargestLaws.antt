@@ -27,7 +27,7 @@ cut_within-trans sys p (At f) (At g) (At h) v w = λ t i. w t (v t i)
 within-refl : (sys : System) (x : Choice) → IsChoiceWithin sys x x
 within-refl sys x = record { cuts = λ p l. cut_within-refl sys p (cut_of x p); notes = λ p l t i. i }
 
-within-trans : (sys : System) (x y z : Choice) → IsChoiceWithin sys x y → IsChoiceWithin sys y z → IsChoiceWithin sys x z
+pub within-trans : (sys : System) (x y z : Choice) → IsChoiceWithin sys x y → IsChoiceWithin sys y z → IsChoiceWithin sys x z
 within-trans sys x y z v w = record {
   cuts = λ p l. cut_within-trans sys p (cut_of x p) (cut_of y p) (cut_of z p) (v.cuts p l) (w.cuts p l);
   notes = λ p l t i. w.notes p l t (v.notes p l t i);

@@ -1,6 +1,7 @@
 pub mod ArrivalLaws
 pub mod CheckpointLaws
 pub mod ChoiceLaws
+pub mod ChoosingLaws
 pub mod ClosedLaws
 pub mod CmpLaws
 pub mod CompleteLaws
@@ -30,6 +31,7 @@ pub mod LedgerLaws
 pub mod LegalLaws
 pub mod ListedLaws
 pub mod LocalityLaws
+pub mod LowLaws
 pub mod MeasureLaws
 pub mod MeetLaws
 pub mod NotifiedLaws
@@ -50,12 +52,14 @@ pub mod RecoveryLaws
 pub mod RewritingLaws
 pub mod RunLaws
 pub mod SendSteps
+pub mod SameInsideLaws
 pub mod SendingLaws
 pub mod SendsLaws
 pub mod SentLaws
 pub mod SequenceLaws
 pub mod SequencedLaws
 pub mod SettleLaws
+pub mod ShownLaws
 pub mod SomeNextLaws
 pub mod StampLaws
 pub mod StampLists
@@ -68,3 +72,4 @@ pub mod TimedLaws
 pub mod WaitingSteps
 pub mod WeightLaws
 pub mod WellFormedLaws
+pub mod WriteLaws

@@ -83,13 +83,13 @@ runs-legal sys steps outcomes last w b r = run-legal sys steps outcomes (first_s
 -- ---- what is settled is denoted
 
 -- in each legal history no more was delivered than the family has, and all of it where it is complete
-record Denotes (sys : System) (family : Family) : Type 0 where
-  within : (h : List Event) → IsLegal sys h → (e : ℕ) (t : Stamp) (r : Rec) → how_often r (recs_at t (delivered h e)) ≤ how_often r (bag_at family e t)
-  whole : (h : List Event) → IsLegal sys h → (done : ℕ → Frontier) → IsAdmissible sys h done → (e : ℕ) (t : Stamp) → done (receiver sys.flow e) t ≡ true
+pub record Denotes (sys : System) (family : Family) : Type 0 where
+  pub within : (h : List Event) → IsLegal sys h → (e : ℕ) (t : Stamp) (r : Rec) → how_often r (recs_at t (delivered h e)) ≤ how_often r (bag_at family e t)
+  pub whole : (h : List Event) → IsLegal sys h → (done : ℕ → Frontier) → IsAdmissible sys h done → (e : ℕ) (t : Stamp) → done (receiver sys.flow e) t ≡ true
       → sorted (recs_at t (delivered h e)) ≡ bag_at family e t
 
 -- the stamps that are settled at a node
-abbrev settled_at : System → List Front → ℕ → Frontier
+abbrev pub settled_at : System → List Front → ℕ → Frontier
 settled_at sys settled p = frontier_of (bounds_of sys.flow p) (front_of settled p)
 
 one-more : (r : Rec) (rs : List Rec) → how_often r (r ∷ rs) ≡ how_often r rs + 1
@@ -114,7 +114,7 @@ no_more sys family b h e m t l all = false_from_ne_true (same t m.at) (λ k.
     omega arith)
 
 -- the state's settled stamps are denoted after a history
-abbrev AreDenoted : System → Family → List Front → List Event → Type 0
+abbrev pub AreDenoted : System → Family → List Front → List Event → Type 0
 AreDenoted sys family settled h = (e : ℕ) → e < length sys.flow.edges → (t : Stamp) → settled_at sys settled (receiver sys.flow e) t ≡ true
     → sorted (recs_at t (delivered h e)) ≡ bag_at family e t
 
@@ -131,7 +131,7 @@ event-denoted sys family b settled h (Delivered d m) l a = λ e r t i.
     (λ c. a e r t i)
 
 -- an edge to a node is there
-edge-there : (flow : Dataflow) (e p : ℕ) → receiver flow e ≡ p → p < length flow.nodes → e < length flow.edges
+pub edge-there : (flow : Dataflow) (e p : ℕ) → receiver flow e ≡ p → p < length flow.nodes → e < length flow.edges
 unfolding receiver
 edge-there flow e p r l = elim (cases_lt e (length flow.edges)) [
   | inl i ↦ i
@@ -141,7 +141,7 @@ edge-there flow e p r l = elim (cases_lt e (length flow.edges)) [
 ]
 
 -- what is owed at settled stamps: nothing
-abbrev ArePaid : System → List Front → List Event → Type 0
+abbrev pub ArePaid : System → List Front → List Event → Type 0
 ArePaid sys settled h = (p : ℕ) → p < length sys.flow.nodes → (t : Stamp) → settled_at sys settled p t ≡ true → owed sys h p t ≡ false
 
 event-paid : (sys : System) (family : Family) → Denotes sys family → (settled : List Front) (h : List Event) (v : Event) → IsLegal sys (v ∷ h)
@@ -160,10 +160,10 @@ event-paid sys family b settled h (Delivered d m) l a k p q t i =
     (k p q t i)
 
 -- what holds of each state of a run
-record Holds (sys : System) (family : Family) (state : Machine) : Type 0 where
-  legal : IsLegal sys (events state.history)
-  denoted : AreDenoted sys family state.settled (events state.history)
-  paid : ArePaid sys state.settled (events state.history)
+pub record Holds (sys : System) (family : Family) (state : Machine) : Type 0 where
+  pub legal : IsLegal sys (events state.history)
+  pub denoted : AreDenoted sys family state.settled (events state.history)
+  pub paid : ArePaid sys state.settled (events state.history)
 
 event-holds : (sys : System) (family : Family) → Denotes sys family → (state : Machine) (v : Event) → Holds sys family state → IsEnabled sys (events state.history) v
     → Holds sys family (with_event sys state v)
@@ -261,7 +261,7 @@ took-holds sys family w p b state Collect next effect f t = same-holds sys famil
 took-holds sys family w p b state (Ack o) next effect f t = same-holds sys family state next f (ap (λ (m : Machine). m.history) t.2) (ap (λ (m : Machine). m.settled) t.2)
 
 -- nothing is settled at first
-first-holds : (sys : System) (family : Family) → IsWellFormed sys.flow → Holds sys family (first_state sys)
+pub first-holds : (sys : System) (family : Family) → IsWellFormed sys.flow → Holds sys family (first_state sys)
 first-holds sys family w =
     let none : (p : ℕ) → p < length sys.flow.nodes → (t : Stamp) → settled_at sys (first_state sys).settled p t ≡ true → ⊥ =
     λ p l t i. none-inside (bounds_of sys.flow p) t
@@ -273,7 +273,7 @@ first-holds sys family w =
       paid = λ p l t i. absurd (none p l t i);
     }
 
-steps-hold : (sys : System) (family : Family) → IsWellFormed sys.flow → HasEpochs sys → Denotes sys family → (state : Machine) (step : Step) (next : Machine) (outcome : Outcome)
+pub steps-hold : (sys : System) (family : Family) → IsWellFormed sys.flow → HasEpochs sys → Denotes sys family → (state : Machine) (step : Step) (next : Machine) (outcome : Outcome)
     → Holds sys family state → Steps sys state step next outcome → Holds sys family next
 steps-hold sys family w p b state step next (did effect) f t = took-holds sys family w p b state step next effect f t
 steps-hold sys family w p b state step next idle f t = subst (Holds sys family) (sym t.1) f
@@ -285,7 +285,7 @@ run-holds sys family w p b [] (o ∷ os) state last f r = absurd r
 run-holds sys family w p b (s ∷ ss) [] state last f r = absurd r
 run-holds sys family w p b (s ∷ ss) (o ∷ os) state last f r = run-holds sys family w p b ss os r.0 last (steps-hold sys family w p b state s r.0 o f r.1) r.2
 
-all_kinds-denote : (sys : System) (family : Family) → IsWellFormedSystem sys → IsDenotation sys family → Denotes sys family
+pub all_kinds-denote : (sys : System) (family : Family) → IsWellFormedSystem sys → IsDenotation sys family → Denotes sys family
 all_kinds-denote sys family w u = record {
   within = λ h l e t r. delivered-is_sub sys h family w l u e t r;
   whole = λ h l done a e t i. delivered-is_denoted sys h family w l u done a e t i;

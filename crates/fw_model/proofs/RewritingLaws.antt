@@ -31,7 +31,7 @@ use Rattle.fw_model.proofs.KeptLaws.{IsFiltering, filtering-before, kept-causes,
 -- ---- which injections are kept
 
 -- of n injections k are kept: all, or those of the epochs below the first that is not kept
-AreKeptUpTo : Frontier → ℕ → ℕ → Type 0
+unfoldable pub AreKeptUpTo : Frontier → ℕ → ℕ → Type 0
 AreKeptUpTo f k n = (k ≡ n) ⊎ ((k < n) × (f (k ∷ []) ≡ false))
 
 next-kept : (bounds : Bounds) (f : Frontier) → IsFrontier bounds f → (a c : Bool) (k n : ℕ) → (a ≡ true → c ≡ f (n ∷ [])) → AreKeptUpTo f k n
@@ -48,7 +48,7 @@ next-kept bounds f fr true true k n e (inr s) =
 next-kept bounds f fr true false k n e (inl s) = inr (omega arith, ap (λ x. f (x ∷ [])) s ∙ sym (e refl))
 next-kept bounds f fr true false k n e (inr s) = let l : k < n = s.0 in inr (omega arith, s.1)
 
-injections-kept : (sys : System) (h : List Event) (keep : ℕ → Frontier) → IsLegal sys h → AreFrontiers sys.flow keep → (s : ℕ)
+pub injections-kept : (sys : System) (h : List Event) (keep : ℕ → Frontier) → IsLegal sys h → AreFrontiers sys.flow keep → (s : ℕ)
     → AreKeptUpTo (keep s) (injected_count s (kept_events sys.flow keep h)) (injected_count s h)
 unfolding AreKeptUpTo
 injections-kept sys [] keep l fr s = inl refl

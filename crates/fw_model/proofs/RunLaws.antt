@@ -258,7 +258,7 @@ takes-full sys state (Ack o) next effect w b k f t = same-full sys state next f 
 one-zero : (n : ℕ) → n ≡ 1 → n ≡ 0 → ⊥
 one-zero n h k = omega arith
 
-output-degree : (kind : Kind) → is_output_kind kind ≡ true → (n : ℕ) → IsInDegree kind n → n ≡ 1
+pub output-degree : (kind : Kind) → is_output_kind kind ≡ true → (n : ℕ) → IsInDegree kind n → n ≡ 1
 output-degree OutputEpoch k n d = d
 output-degree OutputNumber k n d = d
 output-degree kind k n d = absurd (cc)

@@ -2,6 +2,7 @@ pub mod Choice
 pub mod Denotation
 pub mod History
 pub mod LawsOfChoices
+pub mod LawsOfChoosing
 pub mod LawsOfCompleteFrontiers
 pub mod LawsOfDeliveries
 pub mod LawsOfDenotation

@@ -1,5 +1,6 @@
 //! The laws of the definitions: each function's `ensures` is one law, and its body is empty.
 ghost use Rattle.fw_model.specs.LawsOfChoices.{ConsistentChoicesHaveUnion, DeliveredOfUnion, DiscardedOfUnion, EachLiesWithinUnion, LargestChoiceIsOne, NotifiedOfUnion, UnionOfCandidatesIsCandidate, UnionOfConsistentIsConsistent};
+ghost use Rattle.fw_model.specs.LawsOfChoosing.{CheckpointsAreChains, LargestChoiceHoldsLowWatermark, LargestOfKeptIsLargestOfEver, LowWatermarkIsConsistent, LowWatermarkNeverFalls, ReachedStatesHaveOneNextState, RecoveryHasAChoice, TwoRunsShowOneBag};
 ghost use Rattle.fw_model.specs.LawsOfCompleteFrontiers.{AdmissibleStaysAdmissible, EnabledIsOutside, LegalInsidePhiComesFromInside, SequencesAreNotifiedInOrder};
 ghost use Rattle.fw_model.specs.LawsOfDeliveries.{ClosedStampsStayClosed, DeliveredInsideCompleteIsDenoted, DeliveredInsideCompleteIsFinal, DeliveredIsSubBagOfDenotation, DeliveredUpToClosedIsDenoted, DeliveredUpToClosedIsFinal, NotificationsComeLast, NumberedDeliveriesAscend, SentInsidePhiIsDenoted, SentIsSubBagOfDenotation};
 ghost use Rattle.fw_model.specs.LawsOfDenotation.{DenotationExists, DenotationIsInDomain, DenotationIsInOrder, DenotationIsNumbered, DenotationIsTheOnlyOne, LaterRoundsAreTheSame, MeasureExists, OutBagsDependOnLesserMeasure, RecsAtStampsDecideBag, UnchangedRoundIsDenotation};
@@ -463,4 +464,44 @@ pub fn acknowledgements_show_denotation_through_recoveries()
 /// In each state of a run, a node that is no input can be restored only to frontiers within what is settled at it.
 pub fn candidates_lie_within_settled()
     ensures { CandidatesLieWithinSettled }
+{}
+
+/// With some notification frontiers the low watermark of each state of a run is a consistent choice, whichever nodes count as failed.
+pub fn low_watermark_is_consistent()
+    ensures { LowWatermarkIsConsistent }
+{}
+
+/// In each state of a run the checkpoints of each node are a chain.
+pub fn checkpoints_are_chains()
+    ensures { CheckpointsAreChains }
+{}
+
+/// In each state of a run a recovery has something to choose, whichever nodes count as failed.
+pub fn recovery_has_a_choice()
+    ensures { RecoveryHasAChoice }
+{}
+
+/// From each state of a run each step leads to exactly one next state, with exactly one outcome.
+pub fn reached_states_have_one_next_state()
+    ensures { ReachedStatesHaveOneNextState }
+{}
+
+/// In each state of a run each largest choice contains the low watermark.
+pub fn largest_choice_holds_low_watermark()
+    ensures { LargestChoiceHoldsLowWatermark }
+{}
+
+/// A step from a state of a run lowers the low watermark at no node.
+pub fn low_watermark_never_falls()
+    ensures { LowWatermarkNeverFalls }
+{}
+
+/// In each state of a run the largest choice among what is kept is the largest also with what was collected.
+pub fn largest_of_kept_is_largest_of_ever()
+    ensures { LargestOfKeptIsLargestOfEver }
+{}
+
+/// Two runs of one system that acknowledge an output at a stamp show the same recs there.
+pub fn two_runs_show_one_bag()
+    ensures { TwoRunsShowOneBag }
 {}

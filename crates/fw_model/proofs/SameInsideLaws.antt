@@ -1,0 +1,272 @@
+-- The inclusions of the low watermark see only the events inside it.
+use Rattle.std.proofs.Common.{◌≡◌, ℕ, ◌<◌, ◌≤◌, true, false, cond, not, ◌&&◌, ◌==◌, List, [], ◌∷◌, ◌++◌, length, filter, map, refl, sym, ap, subst, ◌∙◌, inl, inr, arith}
+use Rattle.std.specs.List.{flat_map}
+use Rattle.std.proofs.lemmas.Bool.{and_parts, and_from, cond_both, cases_Bool, eqb-true, false_from_ne_true}
+use Rattle.std.proofs.lemmas.List.{get_or-map, length-map}
+use Rattle.std.proofs.lemmas.List.Elements.{filter-append}
+use Rattle.fw_time.specs.Stamp.{Stamp, leq, in_domain}
+use Rattle.fw_time.specs.declared.stamp.Bounds.{Bounds}
+use Rattle.fw_frontier.specs.Frontier.{Frontier, Within, nothing, cover}
+use Rattle.fw_frontier.specs.Front.{Front, inside, frontier_of}
+use Rattle.fw_flow.specs.declared.choice.Cut.{Cut}
+use Rattle.fw_flow.specs.declared.choice.Cut.TheVariants.{Present, At}
+use Rattle.fw_flow.specs.declared.event.Event.{Event}
+use Rattle.fw_flow.specs.declared.event.Event.TheVariants.{Inject, Deliver, Notify}
+use Rattle.fw_flow.specs.declared.event.Message.{Message}
+use Rattle.fw_flow.specs.Dataflow.{System, Dataflow, kind_of, policy_of, sender, receiver, bounds_of}
+use Rattle.fw_flow.specs.NodeFunction.{place, stamp, sends, sent_by}
+use Rattle.fw_flow.specs.Projection.{events_at, all_inside, phi}
+use Rattle.fw_flow.specs.WellFormed.{IsWellFormed}
+use Rattle.fw_model.specs.History.{sent, delivered, IsLegal}
+use Rattle.fw_model.specs.Machine.{Machine, events, front_of, bound_of}
+use Rattle.fw_model.specs.Choice.{kept, Restoring, by_batches, by_bound, by_anything, by_checkpoints, by_events, until, HasCheckpoint, AllLogged, IsRestorable, IsCandidate, restoring, can_resend, cut_of, kept_of, set_of, takes_its_cut, takes_its_notes, stamps_inside, stamps_from, stamp_of_notice, notified_inside, delivered_cover, notified_cover, discarded_at, discarded_cover, IsConsistent}
+use Rattle.fw_model.specs.LawsOfLegalHistories.{HasEpochs}
+use Rattle.fw_model.specs.LawsOfFiltering.{AreFrontiers, kept_events, messages_inside}
+use Rattle.fw_model.specs.LawsOfChoosing.{low_choice}
+use Rattle.fw_model.proofs.Decisions.{two_ways}
+use Rattle.fw_model.proofs.EachLaws.{each-weaker}
+use Rattle.fw_model.proofs.StampLaws.{leq-trans, line-leq}
+use Rattle.fw_model.proofs.FilterLaws.{passes-not, filter-in, filter-out, filter-none}
+use Rattle.fw_model.proofs.PhiLaws.{phi-longer}
+use Rattle.fw_model.proofs.LocalityLaws.{sends-causes, one_cause, delivers-same, sends-same_within, phi-same}
+
+-- the frontier that the list has at node p
+abbrev pub at_node : System → List Front → ℕ → Frontier
+at_node sys low p = frontier_of (bounds_of sys.flow p) (front_of low p)
+
+-- the second history has the events of the first that are inside the fronts, and they send the same
+pub record IsSameInside (sys : System) (h k : List Event) (low : List Front) : Type 0 where
+  pub deliveries : (d : ℕ) → d < length sys.flow.edges
+      → stamps_inside (at_node sys low (receiver sys.flow d)) (delivered k d) ≡ stamps_inside (at_node sys low (receiver sys.flow d)) (delivered h d)
+  pub notices : (p : ℕ) → p < length sys.flow.nodes → notified_inside p (at_node sys low p) k ≡ notified_inside p (at_node sys low p) h
+  pub sendings : (e : ℕ) → e < length sys.flow.edges
+      → stamps_from (at_node sys low (sender sys.flow e)) (sent sys k e) ≡ stamps_from (at_node sys low (sender sys.flow e)) (sent sys h e)
+  pub reach : (e : ℕ) → e < length sys.flow.edges → (g : Frontier) → Within g (at_node sys low (sender sys.flow e))
+      → Within (phi sys h e g) (phi sys k e g)
+
+pub inside-refl : (sys : System) (h : List Event) (low : List Front) → IsSameInside sys h h low
+inside-refl sys h low = record {
+  deliveries = λ d l. refl;
+  notices = λ p l. refl;
+  sendings = λ e l. refl;
+  reach = λ e l g w u k. k;
+}
+
+-- ---- an event outside
+
+pub inside-event : (sys : System) (h : List Event) (v : Event) (low : List Front) → IsWellFormed sys.flow
+    → ((p : ℕ) → p < length sys.flow.nodes → place sys.flow v ≡ p → at_node sys low p (stamp v) ≡ false) → IsSameInside sys h (v ∷ h) low
+inside-event sys h v low w out = record {
+  deliveries = λ d l. delivery d (w.receivers_declared d l) v out;
+  notices = λ p l. notice p l v out;
+  sendings = λ e l.
+      let q = sender sys.flow e in
+      let f = at_node sys low q in
+      let vs = events_at sys.flow q h in
+      cond_both (place sys.flow v == q) (v ∷ vs) vs (λ ws. stamps_from f (sent_by sys q ws) ≡ stamps_from f (sent_by sys q vs))
+      (λ c.
+      let o = out q (w.senders_declared e l) (eqb-true (place sys.flow v) q c) in
+      let now = sends sys q vs v in
+      ap (map (λ (m : Message). m.at))
+      (filter-append (λ (m : Message). all_inside f m.causes) now (sent_by sys q vs)
+      ∙ ap (λ ms. ms ++ filter (λ (m : Message). all_inside f m.causes) (sent_by sys q vs))
+      (filter-none (λ (m : Message). all_inside f m.causes) now
+      (each-weaker (λ (m : Message). m.causes ≡ stamp v ∷ []) (λ m. all_inside f m.causes ≡ false) now (λ m a. one_cause f (stamp v) m false o a) (sends-causes sys q vs v)))))
+      (λ c. refl);
+  reach = λ e l g i u k. phi-longer sys h (v ∷ []) e g u k;
+}
+  where
+    delivery : (d : ℕ) → receiver sys.flow d < length sys.flow.nodes → (v : Event)
+        → ((p : ℕ) → p < length sys.flow.nodes → place sys.flow v ≡ p → at_node sys low p (stamp v) ≡ false)
+        → stamps_inside (at_node sys low (receiver sys.flow d)) (delivered (v ∷ h) d) ≡ stamps_inside (at_node sys low (receiver sys.flow d)) (delivered h d)
+    delivery d l (Inject s x) o = refl
+    delivery d l (Notify p t) o = refl
+    delivery d l (Deliver e m) o =
+        let f = at_node sys low (receiver sys.flow d) in
+        cond_both (e == d) (m ∷ []) [] (λ ms. stamps_inside f (ms ++ delivered h d) ≡ stamps_inside f (delivered h d))
+        (λ c. filter-out f m.at (map (λ (x : Message). x.at) (delivered h d)) (o (receiver sys.flow d) l (ap (receiver sys.flow) (eqb-true e d c))))
+        (λ c. refl)
+
+    notice : (p : ℕ) → p < length sys.flow.nodes → (v : Event)
+        → ((q : ℕ) → q < length sys.flow.nodes → place sys.flow v ≡ q → at_node sys low q (stamp v) ≡ false)
+        → notified_inside p (at_node sys low p) (v ∷ h) ≡ notified_inside p (at_node sys low p) h
+    notice p l (Inject s x) o = refl
+    notice p l (Deliver e m) o = refl
+    notice p l (Notify q t) o =
+        let f = at_node sys low p in
+        cond_both (q == p) (t ∷ []) [] (λ ss. filter f (ss ++ flat_map (stamp_of_notice p) h) ≡ filter f (flat_map (stamp_of_notice p) h))
+        (λ c. filter-out f t (flat_map (stamp_of_notice p) h) (o p l (eqb-true q p c))) (λ c. refl)
+
+-- ---- what is kept contains the fronts
+
+stamps-kept : (f g : Frontier) → Within f g → (ms : List Message) → stamps_inside f (messages_inside g ms) ≡ stamps_inside f ms
+stamps-kept f g w [] = refl
+stamps-kept f g w (m ∷ ms) =
+    let rest = stamps-kept f g w ms in
+    elim (cases_Bool (g m.at)) [
+      | inl i ↦ ap (stamps_inside f) (filter-in (λ (x : Message). g x.at) m ms i) ∙ ap (λ ss. cond (f m.at) (m.at ∷ ss) ss) rest
+      | inr i ↦ ap (stamps_inside f) (filter-out (λ (x : Message). g x.at) m ms i) ∙ rest
+          ∙ sym (filter-out f m.at (map (λ (x : Message). x.at) ms) (passes-not (f m.at) (g m.at) (w m.at) i))
+    ]
+
+notices-kept : (flow : Dataflow) (keep : ℕ → Frontier) (p : ℕ) (f : Frontier) → Within f (keep p) → (h : List Event)
+    → notified_inside p f (kept_events flow keep h) ≡ notified_inside p f h
+notices-kept flow keep p f w [] = refl
+notices-kept flow keep p f w (v ∷ h) =
+    let rest = notices-kept flow keep p f w h in
+    let g = stamp_of_notice p in
+    elim (cases_Bool (keep (place flow v) (stamp v))) [
+      | inl i ↦ ap (notified_inside p f) (filter-in (λ x. keep (place flow x) (stamp x)) v h i)
+          ∙ filter-append f (g v) (flat_map g (kept_events flow keep h)) ∙ ap (λ ss. filter f (g v) ++ ss) rest ∙ sym (filter-append f (g v) (flat_map g h))
+      | inr i ↦ ap (notified_inside p f) (filter-out (λ x. keep (place flow x) (stamp x)) v h i) ∙ rest ∙ sym (struck v i)
+    ]
+  where
+    struck : (v : Event) → keep (place flow v) (stamp v) ≡ false → notified_inside p f (v ∷ h) ≡ notified_inside p f h
+    struck (Inject s x) i = refl
+    struck (Deliver e m) i = refl
+    struck (Notify q t) i =
+        let ss = flat_map (stamp_of_notice p) h in
+        cond_both (q == p) (t ∷ []) [] (λ zs. filter f (zs ++ ss) ≡ filter f ss)
+        (λ c. filter-out f t ss (passes-not (f t) (keep p t) (w t) (ap (λ n. keep n t) (sym (eqb-true q p c)) ∙ i))) (λ c. refl)
+
+pub inside-kept : (sys : System) (h : List Event) (keep : ℕ → Frontier) (low : List Front) → IsWellFormed sys.flow → HasEpochs sys → IsLegal sys h
+    → AreFrontiers sys.flow keep → ((p : ℕ) → p < length sys.flow.nodes → Within (at_node sys low p) (keep p))
+    → IsSameInside sys h (kept_events sys.flow keep h) low
+inside-kept sys h keep low w b l fr within = record {
+  deliveries = λ d i.
+      let r = receiver sys.flow d in
+      ap (stamps_inside (at_node sys low r)) (delivers-same sys.flow h keep d)
+      ∙ stamps-kept (at_node sys low r) (keep r) (within r (w.receivers_declared d i)) (delivered h d);
+  notices = λ p i. notices-kept sys.flow keep p (at_node sys low p) (within p i) h;
+  sendings = λ e i.
+      let q = sender sys.flow e in
+      ap (map (λ (m : Message). m.at)) (sends-same_within sys h keep w b l fr e (at_node sys low q) (within q (w.senders_declared e i)));
+  reach = λ e i g v u k.
+      phi-same sys h keep w b l fr e g (λ t j. within (sender sys.flow e) (w.senders_declared e i) t (v t j)) u ∙ k;
+}
+
+-- ---- the low watermark stays a consistent choice
+
+-- the low watermark is a consistent choice with these notification frontiers, where every node counts as failed, among what is kept
+abbrev pub IsLowConsistent : System → Machine → List Front → Type 0
+IsLowConsistent sys state notes = IsConsistent sys state (IsCandidate sys state (λ p. true) kept) (low_choice state notes)
+
+pub low_length : (sys : System) (state : Machine) (notes : List Front) → IsLowConsistent sys state notes → length state.low ≡ length sys.flow.nodes
+low_length sys state notes c = sym (length-map state.low (λ f. At f)) ∙ c.one_cut_each
+
+pub low_cut : (state : Machine) (notes : List Front) (p : ℕ) → p < length state.low → cut_of (low_choice state notes) p ≡ At (front_of state.low p)
+low_cut state notes p l = get_or-map (λ f. At f) state.low p [] Present l
+
+-- node p offers it
+pub low-offered : (sys : System) (state : Machine) (notes : List Front) → IsLowConsistent sys state notes → (p : ℕ) → p < length sys.flow.nodes
+    → IsCandidate sys state (λ q. true) kept p (At (front_of state.low p))
+low-offered sys state notes c p l =
+    subst (λ x. IsCandidate sys state (λ q. true) kept p x) (low_cut state notes p (omega (arith, low_length sys state notes c))) (c.offered p l)
+
+delivered-same : (sys : System) (state next : Machine) (p d : ℕ) (f : Front)
+    → stamps_inside (frontier_of (bounds_of sys.flow p) f) (delivered (events next.history) d) ≡ stamps_inside (frontier_of (bounds_of sys.flow p) f) (delivered (events state.history) d)
+    → delivered_cover sys next p d (At f) ≡ delivered_cover sys state p d (At f)
+delivered-same sys state next p d f e =
+    let b = bounds_of sys.flow p in
+    ap (λ ss. cond (takes_its_cut (restoring (kind_of sys.flow p) (policy_of sys.flow p))) (frontier_of b f) (cover b ss)) e
+
+notified-same : (sys : System) (state next : Machine) (p : ℕ) (f : Front)
+    → notified_inside p (frontier_of (bounds_of sys.flow p) f) (events next.history) ≡ notified_inside p (frontier_of (bounds_of sys.flow p) f) (events state.history)
+    → notified_cover sys next p (At f) ≡ notified_cover sys state p (At f)
+notified-same sys state next p f e =
+    let b = bounds_of sys.flow p in
+    ap (λ ss. cond (takes_its_notes (kind_of sys.flow p) (policy_of sys.flow p)) (frontier_of b f) (cover b ss)) e
+
+discarded_at-same : (sys : System) (state next : Machine) (q e : ℕ) (way : Restoring) (f : Frontier)
+    → stamps_from f (sent sys (events next.history) e) ≡ stamps_from f (sent sys (events state.history) e)
+    → discarded_at sys next q e way f ≡ discarded_at sys state q e way f
+discarded_at-same sys state next q e by_anything f same = refl
+discarded_at-same sys state next q e way f same = ap (λ ss. cover (bounds_of sys.flow (receiver sys.flow e)) ss) same
+
+discarded-same : (sys : System) (state next : Machine) (q e : ℕ) (f : Front)
+    → stamps_from (frontier_of (bounds_of sys.flow q) f) (sent sys (events next.history) e) ≡ stamps_from (frontier_of (bounds_of sys.flow q) f) (sent sys (events state.history) e)
+    → discarded_cover sys next q e (At f) ≡ discarded_cover sys state q e (At f)
+discarded-same sys state next q e f same =
+    ap (λ g. cond (can_resend (policy_of sys.flow q)) nothing g)
+    (discarded_at-same sys state next q e (restoring (kind_of sys.flow q) (policy_of sys.flow q)) (frontier_of (bounds_of sys.flow q) f) same)
+
+-- a value at two cuts that are one
+at-cut : (f g : Cut → Frontier) (cut low : Cut) → cut ≡ low → f low ≡ g low → (t : Stamp) → f cut t ≡ true → g cut t ≡ true
+at-cut f g cut low e same t k = ap (λ c. g c t) e ∙ sym (ap (λ h. h t) same) ∙ sym (ap (λ c. f c t) e) ∙ k
+
+low-moves_at : (sys : System) (state next : Machine) (notes : List Front) → IsWellFormed sys.flow
+    → IsSameInside sys (events state.history) (events next.history) state.low
+    → ((p : ℕ) → p < length sys.flow.nodes → IsCandidate sys next (λ q. true) kept p (At (front_of state.low p)))
+    → IsLowConsistent sys state notes → IsConsistent sys next (IsCandidate sys next (λ p. true) kept) (low_choice state notes)
+low-moves_at sys state next notes w same offered c =
+    let choice = low_choice state notes in
+    let long = low_length sys state notes c in
+    let cut : (p : ℕ) → p < length sys.flow.nodes → cut_of choice p ≡ At (front_of state.low p) = λ p l. low_cut state notes p (omega (arith, long)) in
+    let lies : (p : ℕ) → p < length sys.flow.nodes → Within (kept_of sys choice p) (at_node sys state.low p) = λ p l t k. sym (ap (λ x. set_of sys p x t) (cut p l)) ∙ k in
+    record {
+      one_cut_each = c.one_cut_each;
+      one_note_each = c.one_note_each;
+      offered = λ p l. subst (λ x. IsCandidate sys next (λ q. true) kept p x) (sym (cut p l)) (offered p l);
+      canonical = c.canonical;
+      delivered = λ d l t k.
+          let r = receiver sys.flow d in
+          let q = sender sys.flow d in
+          let m = w.receivers_declared d l in
+          same.reach d l (kept_of sys choice q) (lies q (w.senders_declared d l)) t
+          (c.delivered d l t (at-cut (delivered_cover sys next r d) (delivered_cover sys state r d) (cut_of choice r) (At (front_of state.low r)) (cut r m)
+          (delivered-same sys state next r d (front_of state.low r) (same.deliveries d l)) t k));
+      discarded = λ e l t k.
+          let q = sender sys.flow e in
+          c.discarded e l t (at-cut (discarded_cover sys next q e) (discarded_cover sys state q e) (cut_of choice q) (At (front_of state.low q)) (cut q (w.senders_declared e l))
+          (discarded-same sys state next q e (front_of state.low q) (same.sendings e l)) t k);
+      notified = λ p l t k.
+          c.notified p l t (at-cut (notified_cover sys next p) (notified_cover sys state p) (cut_of choice p) (At (front_of state.low p)) (cut p l)
+          (notified-same sys state next p (front_of state.low p) (same.notices p l)) t k);
+      own = c.own;
+      notes = λ d l t k.
+          let q = sender sys.flow d in
+          let m = w.senders_declared d l in
+          same.reach d l (frontier_of (bounds_of sys.flow q) (front_of notes q)) (λ s i. lies q m s (c.own q m s i)) t (c.notes d l t k);
+    }
+
+-- what restores a node to the frontier does so in the next state
+pub record Keeps (sys : System) (state next : Machine) (p : ℕ) (f : Front) : Type 0 where
+  pub batches : restoring (kind_of sys.flow p) (policy_of sys.flow p) ≡ by_batches → IsRestorable sys state kept p by_batches f
+      → IsRestorable sys next kept p by_batches f
+  pub settled : Within (frontier_of (bounds_of sys.flow p) f) (at_node sys state.settled p) → Within (frontier_of (bounds_of sys.flow p) f) (at_node sys next.settled p)
+  pub bound : bound_of state p ≤ bound_of next p
+  pub checkpoints : HasCheckpoint kept p f state.writes → HasCheckpoint kept p f next.writes
+  pub logs : AllLogged sys p (frontier_of (bounds_of sys.flow p) f) state.writes state.history
+      → AllLogged sys p (frontier_of (bounds_of sys.flow p) f) next.writes next.history
+
+-- more epochs are below a greater one
+until-more : (b : Bounds) (m n : ℕ) → m ≤ n → Within (frontier_of b (until m)) (frontier_of b (until n))
+until-more b m n l t i =
+    let a = and_parts (in_domain b t) (inside (until m) t) i in
+    and_from (in_domain b t) (inside (until n) t) a.0
+    (and_from (not (leq (n ∷ []) t)) true
+    (ap not (false_from_ne_true (leq (n ∷ []) t) (λ k.
+    two_ways (inside (until m) t) a.1 (ap (λ c. not c && true) (leq-trans (m ∷ []) (n ∷ []) t (line-leq m n l) k))))) refl)
+
+restorable-stays : (sys : System) (state next : Machine) (p : ℕ) (way : Restoring) (f : Front) → restoring (kind_of sys.flow p) (policy_of sys.flow p) ≡ way
+    → Keeps sys state next p f → IsRestorable sys state kept p way f → IsRestorable sys next kept p way f
+restorable-stays sys state next p by_batches f e k a = k.batches e a
+restorable-stays sys state next p by_bound f e k a =
+    (k.settled a.0, λ t i. until-more (bounds_of sys.flow p) (bound_of state p) (bound_of next p) k.bound t (a.1 t i))
+restorable-stays sys state next p by_anything f e k a = k.settled a
+restorable-stays sys state next p by_checkpoints f e k a = elim a [ inl n ↦ inl n | inr c ↦ inr (k.checkpoints c) ]
+restorable-stays sys state next p by_events f e k a = (k.settled a.0, k.logs a.1)
+
+pub low-stays : (sys : System) (state next : Machine) (notes : List Front) → IsWellFormed sys.flow → next.low ≡ state.low
+    → IsSameInside sys (events state.history) (events next.history) state.low
+    → ((p : ℕ) → p < length sys.flow.nodes → Keeps sys state next p (front_of state.low p))
+    → IsLowConsistent sys state notes → IsLowConsistent sys next notes
+low-stays sys state next notes w low same keeps c =
+    subst (λ (fs : List Front). IsConsistent sys next (IsCandidate sys next (λ p. true) kept) (record { cuts = map (λ f. At f) fs; notes = notes })) (sym low)
+    (low-moves_at sys state next notes w same
+    (λ p l.
+    let a = low-offered sys state notes c p l in (
+      a.0,
+      restorable-stays sys state next p (restoring (kind_of sys.flow p) (policy_of sys.flow p)) (front_of state.low p) refl (keeps p l) a.1,
+      λ t i. sym (ap (λ fs. at_node sys fs p t) low) ∙ i,
+    )) c)

@@ -1,0 +1,74 @@
+-- Laws of choosing: in each state of a run there is something to choose, and what was collected changes no choice.
+use Rattle.std.specs.Prelude.{◌≡◌, ◌↔◌, ◌⊎◌, ℕ, ◌<◌, Bool, List, [], ◌∷◌, map, length}
+use Rattle.fw_time.specs.Stamp.{Stamp}
+use Rattle.fw_bag.specs.declared.rec.Rec.{Rec}
+use Rattle.fw_frontier.specs.Frontier.{Within}
+use Rattle.fw_frontier.specs.Front.{Front, frontier_of}
+use Rattle.fw_flow.specs.declared.choice.Cut.TheVariants.{At}
+use Rattle.fw_flow.specs.declared.step.Step.{Step}
+use Rattle.fw_flow.specs.Dataflow.{System, bounds_of}
+use Rattle.fw_flow.specs.WellFormed.{IsWellFormedSystem}
+use Rattle.fw_model.specs.Machine.{Machine, first_state, front_of}
+use Rattle.fw_model.specs.Choice.{View, kept, ever, Choice, cut_of, IsCandidate, IsConsistent, IsCutWithin, IsLargest}
+use Rattle.fw_model.specs.Steps.{acked, Outcome, did, Steps, Run}
+use Rattle.fw_model.specs.LawsOfExistence.{AreCheckpointsChains}
+use Rattle.fw_model.specs.LawsOfSteps.{CanChoose, IsTheNext}
+
+-- the low watermark as a choice, with these notification frontiers
+abbrev pub low_choice : Machine → List Front → Choice
+low_choice state notes = record { cuts = map (λ f. At f) state.low; notes = notes }
+
+-- in each state to which steps lead from the first one, the low watermark is a consistent choice with some notification
+-- frontiers, whichever nodes count as failed, with what was collected and without it
+abbrev pub LowWatermarkIsConsistent : Type 0
+LowWatermarkIsConsistent = (sys : System) → IsWellFormedSystem sys → (steps : List Step) (outcomes : List Outcome) (last : Machine)
+    → Run sys (first_state sys) steps outcomes last
+    → (notes : List Front) × ((lost : ℕ → Bool) (view : View) → IsConsistent sys last (IsCandidate sys last lost view) (low_choice last notes))
+
+-- in each state to which steps lead from the first one, the checkpoints of each node are a chain
+abbrev pub CheckpointsAreChains : Type 0
+CheckpointsAreChains = (sys : System) → IsWellFormedSystem sys → (steps : List Step) (outcomes : List Outcome) (last : Machine)
+    → Run sys (first_state sys) steps outcomes last → (lost : ℕ → Bool) (view : View) → AreCheckpointsChains sys last lost view
+
+-- in each state to which steps lead from the first one, a recovery has something to choose, whichever nodes count as failed
+abbrev pub RecoveryHasAChoice : Type 0
+RecoveryHasAChoice = (sys : System) → IsWellFormedSystem sys → (steps : List Step) (outcomes : List Outcome) (last : Machine)
+    → Run sys (first_state sys) steps outcomes last → (lost : ℕ → Bool) → CanChoose sys last lost
+
+-- from each state to which steps lead from the first one, each step leads to exactly one next state, with one outcome
+abbrev pub ReachedStatesHaveOneNextState : Type 0
+ReachedStatesHaveOneNextState = (sys : System) → IsWellFormedSystem sys → (steps : List Step) (outcomes : List Outcome) (last : Machine)
+    → Run sys (first_state sys) steps outcomes last → (step : Step)
+    → (next : Machine) × (outcome : Outcome) × IsTheNext sys last step next outcome
+
+-- in each state to which steps lead from the first one, each largest choice contains the low watermark
+abbrev pub LargestChoiceHoldsLowWatermark : Type 0
+LargestChoiceHoldsLowWatermark = (sys : System) → IsWellFormedSystem sys → (steps : List Step) (outcomes : List Outcome) (last : Machine)
+    → Run sys (first_state sys) steps outcomes last → (lost : ℕ → Bool) (view : View) (choice : Choice)
+    → IsLargest sys last (IsCandidate sys last lost view) choice
+    → (p : ℕ) → p < length sys.flow.nodes → IsCutWithin sys p (At (front_of last.low p)) (cut_of choice p)
+
+-- a step from a state to which steps lead from the first one lowers the low watermark at no node
+abbrev pub LowWatermarkNeverFalls : Type 0
+LowWatermarkNeverFalls = (sys : System) → IsWellFormedSystem sys → (steps : List Step) (outcomes : List Outcome) (last : Machine)
+    → Run sys (first_state sys) steps outcomes last → (step : Step) (next : Machine) (outcome : Outcome) → Steps sys last step next outcome
+    → (p : ℕ) → p < length sys.flow.nodes
+    → Within (frontier_of (bounds_of sys.flow p) (front_of last.low p)) (frontier_of (bounds_of sys.flow p) (front_of next.low p))
+
+-- in each state to which steps lead from the first one, the largest choice among what is kept is the largest also with what
+-- was collected, whichever nodes count as failed
+abbrev pub LargestOfKeptIsLargestOfEver : Type 0
+LargestOfKeptIsLargestOfEver = (sys : System) → IsWellFormedSystem sys → (steps : List Step) (outcomes : List Outcome) (last : Machine)
+    → Run sys (first_state sys) steps outcomes last → (lost : ℕ → Bool) (choice : Choice)
+    → IsLargest sys last (IsCandidate sys last lost kept) choice ↔ IsLargest sys last (IsCandidate sys last lost ever) choice
+
+-- one of the outcomes acknowledges output o at this stamp, and shows these recs
+abbrev pub Shows : ℕ → Stamp → List Rec → List Outcome → Type 0
+Shows o t recs [] = ⊥
+Shows o t recs (outcome ∷ outcomes) = (outcome ≡ did (acked o t recs)) ⊎ Shows o t recs outcomes
+
+-- two runs of one system that acknowledge an output at a stamp show the same recs there
+abbrev pub TwoRunsShowOneBag : Type 0
+TwoRunsShowOneBag = (sys : System) → IsWellFormedSystem sys → (steps others : List Step) (outcomes also : List Outcome) (last final : Machine)
+    → Run sys (first_state sys) steps outcomes last → Run sys (first_state sys) others also final
+    → (o : ℕ) (t : Stamp) (one two : List Rec) → Shows o t one outcomes → Shows o t two also → one ≡ two

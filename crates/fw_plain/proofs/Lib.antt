@@ -1,0 +1,4 @@
+pub mod EngineLaws
+pub mod FrontsLaws
+pub mod OutputLaws
+pub mod StepLaws

@@ -1,0 +1,241 @@
+//! The engine and its steps.
+ghost use Rattle.std.specs.Prelude.{◌≡◌, ◌↔◌, ◌<◌, ℕ, [], ◌∷◌, length, true, false, IfOk, IsErr, OnErr, OnOk, IsTrue, MatchOption};
+ghost use Rattle.std.specs.Option.{option_copied};
+ghost use Rattle.fw_flow.specs.declared.step.Step.TheVariants.{Inject, Deliver, Notify, Progress, Ack};
+ghost use Rattle.fw_flow.specs.Dataflow.{kind_of, bounds_of};
+ghost use Rattle.fw_model.specs.History.{IsLegal};
+ghost use Rattle.fw_model.specs.LawsOfLegalHistories.{HasEpochs};
+ghost use Rattle.fw_model.specs.Plain.{system_of};
+ghost use Rattle.fw_model.specs.Machine.{first_state, events, front_of};
+ghost use Rattle.fw_frontier.specs.Front.{frontier_of};
+ghost use Rattle.fw_model.specs.Steps.{Steps, MayAcknowledge, IsThere};
+ghost use Rattle.fw_plain.specs.Engine.{Standing, KeepsNothing, is_plain_step, outcome_of};
+
+use crate::fronts::{any_grows, joined, no_stamps_each};
+use crate::output::{has_delivery_at, has_delivery_from, has_epoch, is_output};
+use crate::{Effect, Stepped};
+use fw_flow::{EdgeId, Event, Flow, Kind, NodeId, Step};
+use fw_frontier::Front;
+use fw_lines::Batches;
+use fw_model::plain::{complete_frontiers, next_batch, next_message, next_notice, recs_at};
+use fw_time::Stamp;
+use std::alloc::{AllocError, Global};
+use std::marker::Model;
+
+/// An engine that keeps the list of events, of a dataflow whose nodes keep nothing. Contracts see the system that it
+/// runs, the state of the machine that it stands for, and whether memory was refused.
+#[derive(Debug, Drop)]
+pub struct Engine {
+    alloc: Global,
+    flow: Flow,
+    batches: Batches,
+    // The events, the oldest first.
+    history: Vec<Event>,
+    // For each node what is settled, and how many stamps it acknowledged.
+    settled: Vec<Front>,
+    bounds: Vec<u64>,
+    refused: bool,
+}
+
+impl Model for Engine {
+    ghost use Rattle.fw_model.specs.Plain.{system_of};
+    ghost use Rattle.fw_plain.specs.Engine.{Standing, state_of, IsSound};
+
+    ghost Value = { Standing };
+
+    ghost view = { λ e. record {
+      sys = system_of e.flow e.batches;
+      state = state_of e.flow e.history.items e.settled.items e.bounds.items;
+      refused = e.refused;
+    } };
+
+    ghost invariant = { λ e. IsSound (system_of e.flow e.batches) e.history.items e.settled.items e.bounds.items };
+}
+
+impl Engine {
+    /// An engine to which nothing has happened. The error is want of memory.
+    pub fn new(alloc: Global, flow: Flow, batches: Batches) -> Result<Self, AllocError>
+        requires keeps_nothing { KeepsNothing flow }
+        requires epochs { HasEpochs (system_of flow batches) }
+        ensures { IfOk result (λ e. e ≡ record {
+          sys = system_of flow batches;
+          state = first_state (system_of flow batches);
+          refused = false;
+        }) }
+    {
+        let settled = no_stamps_each(alloc, &flow)?;
+        let bounds = vec![in alloc; 0; flow.nodes()]?;
+        Ok(Engine {
+            alloc,
+            flow,
+            batches,
+            history: Vec::new(alloc),
+            settled,
+            bounds,
+            refused: false,
+        })
+    }
+
+    /// Takes a step that a schedule may have today. The error is want of memory; from then on every step answers it.
+    pub fn step(&mut self, step: &Step) -> Result<Stepped, AllocError>
+        requires { is_plain_step step.now ≡ true }
+        ensures system { self.new.sys ≡ self.old.sys }
+        ensures ok { IfOk result (λ stepped.
+            Steps self.old.sys self.old.state step.now self.new.state (outcome_of stepped)) }
+        ensures legal { IsLegal self.new.sys (events self.new.state.history) }
+        ensures live { OnOk result (self.new.refused ≡ false) }
+        ensures err { OnErr result (self.new.refused ≡ true) }
+        ensures refused { IsTrue self.old.refused → IsErr result }
+    {
+        if self.refused {
+            return Err(AllocError);
+        }
+        let stepped = self.try_step(step);
+        self.refused = stepped.is_err();
+        stepped
+    }
+
+    fn try_step(&mut self, step: &Step) -> Result<Stepped, AllocError>
+        requires { is_plain_step step.now ≡ true }
+        ensures system { self.new.sys ≡ self.old.sys }
+        ensures refused { self.new.refused ≡ self.old.refused }
+        ensures ok { IfOk result (λ stepped.
+            Steps self.old.sys self.old.state step.now self.new.state (outcome_of stepped)) }
+    {
+        match step {
+            Step::Inject(source) => self.inject(*source),
+            Step::Deliver(edge, at) => self.deliver(*edge, at.as_ref()),
+            Step::Notify(node, at) => self.notify(*node, at.as_ref()),
+            Step::Progress => self.progress(),
+            Step::Ack(output) => self.acknowledge(*output),
+            _ => Ok(Stepped::Idle),
+        }
+    }
+
+    fn inject(&mut self, source: NodeId) -> Result<Stepped, AllocError>
+        ensures system { self.new.sys ≡ self.old.sys }
+        ensures refused { self.new.refused ≡ self.old.refused }
+        ensures ok { IfOk result (λ stepped.
+            Steps self.old.sys self.old.state (Inject source) self.new.state (outcome_of stepped)) }
+    {
+        let Some(epoch) = next_batch(&self.flow, &self.batches, &self.history, source) else {
+            return Ok(Stepped::Idle);
+        };
+        self.history.push(Event::Inject { source, epoch })?;
+        Ok(Stepped::Did(Effect::Quiet))
+    }
+
+    fn deliver(&mut self, edge: EdgeId, at: Option<&Stamp>) -> Result<Stepped, AllocError>
+        ensures system { self.new.sys ≡ self.old.sys }
+        ensures refused { self.new.refused ≡ self.old.refused }
+        ensures ok { IfOk result (λ stepped.
+            Steps self.old.sys self.old.state (Deliver edge (option_copied at.entry)) self.new.state (outcome_of stepped)) }
+    {
+        let found = next_message(
+            self.alloc,
+            &self.flow,
+            &self.batches,
+            &self.history,
+            edge,
+            at,
+        )?;
+        let Some(message) = found else {
+            return Ok(Stepped::Idle);
+        };
+        self.history.push(Event::Deliver { edge, message })?;
+        Ok(Stepped::Did(Effect::Quiet))
+    }
+
+    fn notify(&mut self, node: NodeId, at: Option<&Stamp>) -> Result<Stepped, AllocError>
+        ensures system { self.new.sys ≡ self.old.sys }
+        ensures refused { self.new.refused ≡ self.old.refused }
+        ensures ok { IfOk result (λ stepped.
+            Steps self.old.sys self.old.state (Notify node (option_copied at.entry)) self.new.state (outcome_of stepped)) }
+    {
+        let found = next_notice(
+            self.alloc,
+            &self.flow,
+            &self.batches,
+            &self.history,
+            node,
+            at,
+        )?;
+        let Some(at) = found else {
+            return Ok(Stepped::Idle);
+        };
+        self.history.push(Event::Notify { node, at })?;
+        Ok(Stepped::Did(Effect::Quiet))
+    }
+
+    fn progress(&mut self) -> Result<Stepped, AllocError>
+        ensures system { self.new.sys ≡ self.old.sys }
+        ensures refused { self.new.refused ≡ self.old.refused }
+        ensures ok { IfOk result (λ stepped.
+            Steps self.old.sys self.old.state Progress self.new.state (outcome_of stepped)) }
+    {
+        let complete = complete_frontiers(self.alloc, &self.flow, &self.batches, &self.history)?;
+        if !any_grows(&complete, &self.settled) {
+            return Ok(Stepped::Idle);
+        }
+        self.settled = joined(self.alloc, &self.settled, &complete)?;
+        Ok(Stepped::Did(Effect::Quiet))
+    }
+
+    fn acknowledge(&mut self, output: NodeId) -> Result<Stepped, AllocError>
+        ensures system { self.new.sys ≡ self.old.sys }
+        ensures refused { self.new.refused ≡ self.old.refused }
+        ensures ok { IfOk result (λ stepped.
+            Steps self.old.sys self.old.state (Ack output) self.new.state (outcome_of stepped)) }
+    {
+        let Some(x) = self.next_acknowledged(output) else {
+            return Ok(Stepped::Idle);
+        };
+        let at = Stamp::new(&[x]);
+        let recs = recs_at(self.alloc, &self.flow, &self.history, output, &at)?;
+        self.bounds[output.place() as usize] += 1;
+        Ok(Stepped::Did(Effect::Acked { output, at, recs }))
+    }
+
+    // The number that an output may acknowledge.
+    fn next_acknowledged(&self, output: NodeId) -> Option<u32>
+        ensures { MatchOption result ((x : ℕ) → MayAcknowledge self.now.sys self.now.state output x → ⊥)
+            (λ x. MayAcknowledge self.now.sys self.now.state output x) }
+    {
+        let bound = *self.bounds.get(output.place() as usize)?;
+        let x = u32::try_from(bound).ok()?;
+        if is_output(self.flow.kind(output))
+            && self.is_settled(output, x)
+            && self.is_there(output, x)
+        {
+            Some(x)
+        } else {
+            None
+        }
+    }
+
+    // Whether a number of an output is settled.
+    fn is_settled(&self, output: NodeId, x: u32) -> bool
+        requires { output < length self.now.state.settled }
+        ensures { result ≡ frontier_of (bounds_of self.now.sys.flow output)
+            (front_of self.now.state.settled output) (x ∷ []) }
+    {
+        let at = Stamp::new(&[x]);
+        at.in_domain(&self.flow.domain(output))
+            && self.settled[output.place() as usize].contains(&at)
+    }
+
+    // Whether there is something to acknowledge.
+    fn is_there(&self, output: NodeId, x: u32) -> bool
+        ensures { IsTrue result ↔ IsThere self.now.sys (events self.now.state.history)
+            (kind_of self.now.sys.flow output) output x }
+    {
+        let at = Stamp::new(&[x]);
+        match self.flow.kind(output) {
+            Kind::OutputNumber => has_delivery_at(&self.flow, &self.history, output, &at),
+            _ => {
+                has_epoch(&self.flow, &self.batches, x)
+                    || has_delivery_from(&self.flow, &self.history, output, &at)
+            }
+        }
+    }
+}

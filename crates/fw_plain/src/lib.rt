@@ -1,0 +1,10 @@
+//! The plain engine: it keeps the list of events and finds everything by scanning it.
+#![tactic(auto)]
+
+mod engine;
+mod fronts;
+mod output;
+mod stepped;
+
+pub use engine::Engine;
+pub use stepped::{Effect, Stepped};

@@ -76,6 +76,13 @@ impl Engine {
         })
     }
 
+    /// The flow that it runs.
+    pub fn flow(&self) -> &Flow
+        ensures { result.now ≡ self.now.sys.flow }
+    {
+        &self.flow
+    }
+
     /// Takes a step that a schedule may have today. The error is want of memory; from then on every step answers it.
     pub fn step(&mut self, step: &Step) -> Result<Stepped, AllocError>
         requires { is_plain_step step.now ≡ true }

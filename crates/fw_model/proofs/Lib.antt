@@ -51,8 +51,8 @@ pub mod RecSteps
 pub mod RecoveryLaws
 pub mod RewritingLaws
 pub mod RunLaws
-pub mod SendSteps
 pub mod SameInsideLaws
+pub mod SendSteps
 pub mod SendingLaws
 pub mod SendsLaws
 pub mod SentLaws

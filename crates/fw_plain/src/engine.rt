@@ -78,6 +78,13 @@ impl Engine {
         })
     }
 
+    /// The flow that it runs.
+    pub fn flow(&self) -> &Flow
+        ensures { result.now ≡ self.now.sys.flow }
+    {
+        &self.flow
+    }
+
     /// Takes a step, and tells what it shows: Idle exactly where it is not enabled, and then nothing changes. The step is
     /// an injection, a delivery, a notification, progress or an acknowledgement. The error is want of memory; from then
     /// on every step answers it.

@@ -1,17 +1,31 @@
 -- Each status has one of the numbers of a status.
 use Rattle.std.proofs.Common.{refl, lit<, Contains}
-use Rattle.fw_run.specs.declared.refusal.Code.{Code}
-use Rattle.fw_run.specs.declared.refusal.Code.TheVariants.{F1, F11, I1, I5, S1, S4}
+use Rattle.fw_lines.specs.declared.refusal.Code.{Code}
+use Rattle.fw_lines.specs.declared.refusal.Code.TheVariants.{F1, F2, F3, F4, F5, F6, F7, F8, F9, F10, F11, I1, I2, I3, I4, I5, S1, S2, S3, S4}
 use Rattle.fw_run.specs.declared.status.Status.{Status}
 use Rattle.fw_run.specs.declared.status.Status.TheVariants.{Done, BadWords, Refused, ReadFault, WriteFault, NoMemory}
 use Rattle.fw_run.specs.Status.{refusal_number, number_of, status_numbers}
 
 Contains-refusal_number : (code : Code) → Contains status_numbers (refusal_number code)
 Contains-refusal_number F1 = (2, lit< tt, refl)
+Contains-refusal_number F2 = (2, lit< tt, refl)
+Contains-refusal_number F3 = (2, lit< tt, refl)
+Contains-refusal_number F4 = (2, lit< tt, refl)
+Contains-refusal_number F5 = (2, lit< tt, refl)
+Contains-refusal_number F6 = (2, lit< tt, refl)
+Contains-refusal_number F7 = (2, lit< tt, refl)
+Contains-refusal_number F8 = (2, lit< tt, refl)
+Contains-refusal_number F9 = (2, lit< tt, refl)
+Contains-refusal_number F10 = (2, lit< tt, refl)
 Contains-refusal_number F11 = (2, lit< tt, refl)
 Contains-refusal_number I1 = (3, lit< tt, refl)
+Contains-refusal_number I2 = (3, lit< tt, refl)
+Contains-refusal_number I3 = (3, lit< tt, refl)
+Contains-refusal_number I4 = (3, lit< tt, refl)
 Contains-refusal_number I5 = (3, lit< tt, refl)
 Contains-refusal_number S1 = (4, lit< tt, refl)
+Contains-refusal_number S2 = (4, lit< tt, refl)
+Contains-refusal_number S3 = (4, lit< tt, refl)
 Contains-refusal_number S4 = (4, lit< tt, refl)
 
 pub Contains-number_of : (status : Status) → Contains status_numbers (number_of status)

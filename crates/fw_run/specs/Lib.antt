@@ -1,4 +1,7 @@
+pub mod Headline
+pub mod Performing
+pub mod Printed
 pub mod Reading
-pub mod Refusal
 pub mod Status
+pub mod Texts
 pub mod Words

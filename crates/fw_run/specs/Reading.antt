@@ -1,11 +1,54 @@
--- What a reader of a text answers.
-use Rattle.std.specs.Prelude.{◌≡◌}
-use Rattle.fw_run.specs.declared.refusal.Code.{Code}
-use Rattle.fw_run.specs.declared.readers.ReadFault.{ReadFault}
-use Rattle.fw_run.specs.declared.readers.ReadFault.TheVariants.{Failed, Refused, NoMemory}
+-- What is read before a run begins.
+use Rattle.std.specs.Prelude.{◌≡◌, ℕ, ◌<◌, List, length, Option, Some, true}
+use Rattle.std.specs.List.{AllByRecursion}
+use Rattle.fw_lines.specs.declared.fault.ReadFault.{ReadFault}
+use Rattle.fw_lines.specs.declared.fault.ReadFault.TheVariants as lines
+use Rattle.fw_lines.specs.declared.refusal.Code.{Code}
+use Rattle.fw_lines.specs.declared.refusal.Refusal.{Refusal}
+use Rattle.fw_lines.specs.Faults.{IsOfWhole}
+use Rattle.fw_flow.specs.declared.step.Step.{Step}
+use Rattle.fw_flow.specs.Dataflow.{Dataflow, System, node_at}
+use Rattle.fw_flow.specs.WellFormed.{IsWellFormed}
+use Rattle.fw_schedule.specs.Grammar.{node_named}
+use Rattle.fw_model.specs.LawsOfLegalHistories.{HasEpochs}
+use Rattle.fw_model.specs.Plain.{system_of}
+use Rattle.fw_plain.specs.Engine.{KeepsNothing, is_plain_step}
+use Rattle.fw_run.specs.declared.reading.JobFault.{JobFault}
+use Rattle.fw_run.specs.declared.reading.JobFault.TheVariants.{Failed, Refused, NoMemory}
+use Rattle.fw_run.specs.declared.reading.Job.{Job}
+use Rattle.fw_run.specs.Texts.{HasText, Texts, AreThere, AreAccepted, spelled_system, spelled_steps}
+use Rattle.fw_run.specs.Words.{Names}
 
--- a reader's fault is a refusal of the text as a whole with this code, or want of memory
-abbrev pub RefusesAs : Code → ReadFault → Type 0
-RefusesAs code Failed = ⊥
-RefusesAs code (Refused refusal) = (refusal.code ≡ code) × (refusal.line ≡ 0)
-RefusesAs code NoMemory = Unit {0}
+-- where the fault is a refusal it is one of these; the other faults say nothing here
+abbrev pub IfRefused : (Refusal → Type 0) → JobFault → Type 0
+IfRefused P Failed = Unit {0}
+IfRefused P (Refused refusal) = P refusal
+IfRefused P NoMemory = Unit {0}
+
+-- the fault of a text as the fault of a job
+abbrev pub job_fault : ReadFault → JobFault
+job_fault (lines.Refused refusal) = Refused refusal
+job_fault lines.NoMemory = NoMemory
+
+-- the text under the name has more bytes than the limit, and is refused so as a whole
+abbrev pub IsTooLarge : Option (List ℕ → Option (List ℕ)) → List ℕ → ℕ → Code → Refusal → Type 0
+IsTooLarge told name limit code refusal = HasText told name (λ text. (limit < length text) × IsOfWhole code refusal)
+
+-- each node is the one that is found by its name
+abbrev pub AreNamesDistinct : Dataflow → Type 0
+AreNamesDistinct flow = (p : ℕ) → p < length flow.nodes → node_named flow (node_at flow p).name ≡ Some p
+
+-- what the texts under the names spell, and they are accepted
+pub record IsJob (told : Option (List ℕ → Option (List ℕ))) (names : Names) (job : Job) : Type 0 where
+  pub texts : Texts
+  pub there : AreThere told names texts
+  pub accepted : AreAccepted texts
+  pub system : system_of job.flow job.batches ≡ spelled_system texts
+  pub steps : job.steps ≡ spelled_steps texts
+
+-- what the plain engine asks of a run
+pub record IsReady (sys : System) (steps : List Step) : Type 0 where
+  pub well_formed : IsWellFormed sys.flow
+  pub keeps_nothing : KeepsNothing sys.flow
+  pub epochs : HasEpochs sys
+  pub plain : AllByRecursion (λ step. is_plain_step step ≡ true) steps

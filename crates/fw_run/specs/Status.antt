@@ -2,20 +2,34 @@
 use Rattle.std.specs.Prelude.{◌≡◌, ◌⊎◌, ℕ, Bool, true, Option, List, [], ◌∷◌, ◌++◌, codes}
 use Rattle.std.specs.Fmt.{decimal}
 use Rattle.fw_outside.specs.Outside.{Takes, TakesPrefix}
-use Rattle.fw_run.specs.declared.refusal.Code.{Code}
-use Rattle.fw_run.specs.declared.refusal.Code.TheVariants.{F1, F11, I1, I5, S1, S4}
-use Rattle.fw_run.specs.declared.refusal.Refusal.{Refusal}
+use Rattle.fw_lines.specs.declared.refusal.Code.{Code}
+use Rattle.fw_lines.specs.declared.refusal.Code.TheVariants.{F1, F2, F3, F4, F5, F6, F7, F8, F9, F10, F11, I1, I2, I3, I4, I5, S1, S2, S3, S4}
+use Rattle.fw_lines.specs.declared.refusal.Refusal.{Refusal}
+use Rattle.fw_lines.specs.Refusal.{code_text}
 use Rattle.fw_run.specs.declared.status.Status.{Status}
 use Rattle.fw_run.specs.declared.status.Status.TheVariants.{Done, BadWords, Refused, ReadFault, WriteFault, NoMemory}
-use Rattle.fw_run.specs.Refusal.{code_text}
 
 -- 3 for a flow that is refused, 4 for inputs, 5 for a schedule
 abbrev pub refusal_number : Code → ℕ
 refusal_number F1 = 3
+refusal_number F2 = 3
+refusal_number F3 = 3
+refusal_number F4 = 3
+refusal_number F5 = 3
+refusal_number F6 = 3
+refusal_number F7 = 3
+refusal_number F8 = 3
+refusal_number F9 = 3
+refusal_number F10 = 3
 refusal_number F11 = 3
 refusal_number I1 = 4
+refusal_number I2 = 4
+refusal_number I3 = 4
+refusal_number I4 = 4
 refusal_number I5 = 4
 refusal_number S1 = 5
+refusal_number S2 = 5
+refusal_number S3 = 5
 refusal_number S4 = 5
 
 -- the number of a status

@@ -1,13 +1,15 @@
 //! The top call.
-ghost use Rattle.std.specs.Prelude.{◌≡◌, ◌⊎◌, ◌≤◌, ◌↔◌, map, false, Contains};
+ghost use Rattle.std.specs.Prelude.{◌≡◌, ◌⊎◌, ◌≤◌, ◌↔◌, true, false, Contains, IsSome};
+ghost use Rattle.fw_lines.specs.declared.refusal.Refusal as lines;
 ghost use Rattle.fw_outside.specs.Outside.{Rose};
-ghost use Rattle.fw_run.specs.Words.{are_run_words};
+ghost use Rattle.fw_run.specs.Headline.{Prints, PrintsPart, IsRunEnd, StaysLegal, ShowsDenotation, AcknowledgesInOrder};
+ghost use Rattle.fw_run.specs.Texts.{Texts, AreThere, AreAccepted, IsFirstRefusal, spelled_system, spelled_steps};
+ghost use Rattle.fw_run.specs.Words.{words_in, are_run_words, names_of};
 ghost use Rattle.fw_run.specs.Status.{number_of, note_of, IsTold, IsRefused, status_numbers};
 
 use crate::Status;
 use crate::run::run;
 use crate::text::refused_line;
-use crate::words::parse;
 use fw_outside::{Folder, Sink, Store};
 use std::alloc::Global;
 
@@ -23,12 +25,41 @@ pub fn falkirk<F: Folder, K: Store, O: Sink, N: Sink>(
     notes: &mut N,
 ) -> Status
     ensures number { Contains status_numbers (number_of result) }
-    ensures bad_words { (result ≡ Status.BadWords) ↔ (are_run_words (map (λ word. word.now) words.now) ≡ false) }
+    ensures bad_words { (result ≡ Status.BadWords) ↔ (are_run_words (words_in words.now) ≡ false) }
     ensures read_fault { result ≡ Status.ReadFault → Rose (F.fault_count folder.old) (F.fault_count folder.new) }
     ensures write_fault { result ≡ Status.WriteFault → Rose (O.fault_count out.old) (O.fault_count out.new) }
 
     // At 2 to 6 nothing was written.
     ensures nothing_out { 2 ≤ number_of result → number_of result ≤ 6 → out.new ≡ out.old }
+
+    // At 0 the texts are accepted and all that their run prints was written. At 7, and at 10 unless nothing was, first
+    // bytes of it were.
+    ensures done { let names = names_of (words_in words.now) in
+        result ≡ Status.Done → Prints (F.texts folder.old) names (O.taken out.old) (O.taken out.new) }
+    ensures cut_off { let names = names_of (words_in words.now) in
+        result ≡ Status.WriteFault → PrintsPart (F.texts folder.old) names (O.taken out.old) (O.taken out.new) }
+    ensures no_memory { let names = names_of (words_in words.now) in result ≡ Status.NoMemory
+        → (out.new ≡ out.old) ⊎ PrintsPart (F.texts folder.old) names (O.taken out.old) (O.taken out.new) }
+
+    // At 3 to 5 the first of the three texts that is not accepted is refused by the first rule that it breaks.
+    ensures refused { (refusal : lines.Refusal) → let names = names_of (words_in words.now) in
+        result ≡ Status.Refused refusal → IsFirstRefusal (F.texts folder.old) names refusal }
+
+    // Where the folder tells its texts, a text that is not accepted is refused and accepted ones are run, unless what is
+    // outside fails or memory is refused.
+    ensures refuses { (refusal : lines.Refusal) → let names = names_of (words_in words.now) in
+        are_run_words (words_in words.now) ≡ true → IsSome (F.texts folder.old)
+        → IsFirstRefusal (F.texts folder.old) names refusal
+        → (result ≡ Status.Refused refusal) ⊎ ((result ≡ Status.ReadFault) ⊎ (result ≡ Status.NoMemory)) }
+    ensures completes { (texts : Texts) → let names = names_of (words_in words.now) in
+        are_run_words (words_in words.now) ≡ true → IsSome (F.texts folder.old)
+        → AreThere (F.texts folder.old) names texts → AreAccepted texts → IsRunEnd result }
+
+    // What the machine does with accepted texts: its histories are legal, and each output acknowledges its epochs in
+    // order, each with what the dataflow means there.
+    ensures legal { (texts : Texts) → AreAccepted texts → StaysLegal (spelled_system texts) (spelled_steps texts) }
+    ensures in_order { (texts : Texts) → AreAccepted texts → AcknowledgesInOrder (spelled_system texts) (spelled_steps texts) }
+    ensures denoted { (texts : Texts) → AreAccepted texts → ShowsDenotation (spelled_system texts) (spelled_steps texts) }
 
     // The status's line, or first bytes of it where that write was refused; at 0 nothing.
     ensures notes { IsTold (note_of result) (N.taken notes.old) (N.taken notes.new) (N.has_refused notes.new) }
@@ -36,10 +67,7 @@ pub fn falkirk<F: Folder, K: Store, O: Sink, N: Sink>(
 
     ensures store { store.new ≡ store.old }
 {
-    let status = match parse(words) {
-        Some(words) => run(alloc, &words, folder, out),
-        None => Status::BadWords,
-    };
+    let status = run(alloc, words, folder, out);
     tell(alloc, status, notes)
 }
 

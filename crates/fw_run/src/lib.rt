@@ -2,15 +2,13 @@
 #![tactic(auto)]
 
 mod command;
-mod forms;
-mod plain;
-mod readers;
-mod refusal;
+mod perform;
+mod reading;
 mod run;
 mod status;
 mod text;
 mod words;
 
 pub use command::falkirk;
-pub use refusal::{Code, Refusal};
+pub use fw_lines::{Code, Refusal};
 pub use status::Status;

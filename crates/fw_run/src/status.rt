@@ -1,9 +1,9 @@
 //! How a command ended.
-ghost use Rattle.std.specs.Prelude.{◌≡◌, ◌++◌, IfOk, string_bytes, codes};
-ghost use Rattle.fw_run.specs.Status.{number_of, note_of};
+ghost use Rattle.std.specs.Prelude.{◌≡◌};
+ghost use Rattle.fw_run.specs.Status as spec;
+ghost use Rattle.fw_run.specs.Status.{number_of};
 
-use crate::Refusal;
-use std::alloc::{AllocError, Global};
+use fw_lines::{Code, Refusal};
 
 /// How a command ended.
 #[derive(Clone, Copy, Debug, PartialEq, Eq)]
@@ -30,10 +30,31 @@ impl Status {
         match self {
             Status::Done => 0,
             Status::BadWords => 2,
-            Status::Refused(refusal) => refusal.code.status_number(),
+            Status::Refused(refusal) => refusal_number(refusal.code),
             Status::ReadFault => 6,
             Status::WriteFault => 7,
             Status::NoMemory => 10,
         }
+    }
+}
+
+// The number of the status of such a refusal: 3 for the flow, 4 for the inputs, 5 for the schedule.
+fn refusal_number(code: Code) -> u8
+    ensures { result ≡ spec.refusal_number code }
+{
+    match code {
+        Code::F1
+        | Code::F2
+        | Code::F3
+        | Code::F4
+        | Code::F5
+        | Code::F6
+        | Code::F7
+        | Code::F8
+        | Code::F9
+        | Code::F10
+        | Code::F11 => 3,
+        Code::I1 | Code::I2 | Code::I3 | Code::I4 | Code::I5 => 4,
+        Code::S1 | Code::S2 | Code::S3 | Code::S4 => 5,
     }
 }

@@ -1,40 +1,104 @@
-//! The lines that are printed, as text.
-ghost use Rattle.std.specs.Prelude.{◌≡◌, ◌++◌, [], ◌∷◌, codes, IfOk, string_bytes};
-ghost use Rattle.std.specs.Fmt.{decimal};
+//! The lines that are printed, as bytes.
+ghost use Rattle.std.specs.Prelude.{◌≡◌, ◌++◌, [], OnOk, IfOk, string_bytes};
+ghost use Rattle.fw_model.specs.Steps.{did};
+ghost use Rattle.fw_plain.specs.Engine.{effect_of, outcome_of};
+ghost use Rattle.fw_run.specs.Printed as spec;
+ghost use Rattle.fw_run.specs.Printed.{recs_text, effect_text, outcome_text};
+ghost use Rattle.fw_run.specs.Performing.{IsShownOf, shown_bytes};
 ghost use Rattle.fw_run.specs.Status.{note_of};
 ghost use Rattle.fw_run.specs.declared.status.Status.TheVariants as Status;
 
-use crate::Refusal;
-use fw_bag::Bag;
-use fw_time::Epoch;
+use fw_bag::{Bag, Rec};
+use fw_flow::{Flow, Kind};
+use fw_lines::Refusal;
+use fw_plain::{Effect, Stepped};
+use fw_time::Stamp;
 use std::alloc::{AllocError, Global};
-use std::fmt::Write;
 
-/// The line `ack OUTPUT epoch EPOCH KEY:VALUE ..`, ended by LF, with the recs in ascending order.
+/// The line of what came of a step of the flow, if it shows something.
+pub fn line_of(alloc: Global, flow: &Flow, stepped: Stepped) -> Result<Option<Vec<u8>>, AllocError>
+    requires { IsShownOf flow.now (outcome_of stepped) }
+    ensures { IfOk result (λ line. shown_bytes line
+        ≡ outcome_text flow.now (outcome_of stepped)) }
+{
+    match stepped {
+        Stepped::Did(mut effect) => effect_line(alloc, flow, &mut effect),
+        Stepped::Idle => Ok(None),
+    }
+}
+
+// The line of an effect, if it has one. It takes the recs out of the effect's bag.
+fn effect_line(
+    alloc: Global,
+    flow: &Flow,
+    effect: &mut Effect,
+) -> Result<Option<Vec<u8>>, AllocError>
+    requires { IsShownOf flow.now (did (effect_of effect.old)) }
+    ensures { IfOk result (λ line. shown_bytes line
+        ≡ effect_text flow.now (effect_of effect.old)) }
+{
+    match effect {
+        Effect::Quiet => Ok(None),
+        Effect::Acked { output, at, recs } => {
+            let name = flow.node_name(*output).as_bytes();
+            Ok(Some(ack_line(alloc, name, flow.kind(*output), at, recs)?))
+        }
+    }
+}
+
+/// The line `ack OUTPUT epoch EPOCH KEY:VALUE ..`, or with `number` and a number, ended by LF, with the recs in
+/// ascending order. It takes them out of the bag.
 pub fn ack_line(
     alloc: Global,
-    output: &str,
-    epoch: Epoch,
-    mut recs: Bag,
-) -> Result<String, AllocError> {
-    let epoch = epoch.0;
-    let mut line = format!(in alloc; "ack {output} epoch {epoch}")?;
-    for _ in 0..recs.len() {
-        let Some(rec) = recs.take_least() else {
-            break;
-        };
-        let key = rec.key;
-        let value = rec.value;
-        write!(line, " {key}:{value}")?;
-    }
-    line.push('\n')?;
+    output: &[u8],
+    kind: Kind,
+    at: &Stamp,
+    recs: &mut Bag,
+) -> Result<Vec<u8>, AllocError>
+    ensures { IfOk result (λ line. line.items ≡ spec.ack_line output.now kind at.now recs.old.recs) }
+{
+    let mut line = Vec::from_slice(alloc, b"ack ")?;
+    line.extend_from_slice(output)?;
+    let time = time_text(alloc, kind, at)?;
+    line.extend_from_slice(time.as_bytes())?;
+    push_recs(alloc, &mut line, recs)?;
+    line.push(b'\n')?;
     Ok(line)
+}
+
+// The part ` epoch EPOCH` of a line, or ` number NUMBER`.
+fn time_text(alloc: Global, kind: Kind, at: &Stamp) -> Result<String, AllocError>
+    ensures { IfOk result (λ text. string_bytes text ≡ spec.time_text kind at.now) }
+{
+    match kind {
+        Kind::OutputNumber => format!(in alloc; " number {at}"),
+        _ => format!(in alloc; " epoch {at}"),
+    }
+}
+
+// Puts the recs at the end of a line, each after a space.
+fn push_recs(alloc: Global, line: &mut Vec<u8>, recs: &mut Bag) -> Result<(), AllocError>
+    ensures { OnOk result (line.new.items ≡ line.old.items ++ recs_text recs.old.recs) }
+{
+    while let Some(rec) = recs.take_least() {
+        let text = rec_text(alloc, rec)?;
+        line.extend_from_slice(text.as_bytes())?;
+    }
+    Ok(())
+}
+
+// The part ` KEY:VALUE` of a line.
+fn rec_text(alloc: Global, rec: Rec) -> Result<String, AllocError>
+    ensures { IfOk result (λ text. string_bytes text ≡ spec.rec_text rec) }
+{
+    let key = rec.key;
+    let value = rec.value;
+    format!(in alloc; " {key}:{value}")
 }
 
 /// The line `done steps STEPS idle IDLE`, ended by LF.
 pub fn done_line(alloc: Global, steps: u64, idle: u64) -> Result<String, AllocError>
-    ensures { IfOk result (λ text. string_bytes text
-        ≡ codes "done steps " ++ (decimal steps ++ (codes " idle " ++ (decimal idle ++ 10 ∷ [])))) }
+    ensures { IfOk result (λ text. string_bytes text ≡ spec.done_line steps idle) }
 {
     format!(in alloc; "done steps {steps} idle {idle}\n")
 }

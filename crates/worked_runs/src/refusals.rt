@@ -1,21 +1,13 @@
-//! Texts that are not accepted.
+//! Texts that are not accepted, and accepted ones beside them.
 use crate::runs::{ONE_SELECT, run_texts};
 use std::alloc::{AllocError, Global};
 use std::test::Fail;
 
-const FLOW: [&str; 5] = [
-    "edge b pick out",
-    "node in input",
-    "node pick select key < 7 policy none",
-    "node out output epoch",
-    "edge a in pick",
-];
-
-// The flow above with one of its lines replaced.
+// The flow of most runs with one of its lines, counted from 0, replaced.
 fn flow_with(alloc: Global, at: usize, line: &str) -> Result<String, AllocError> {
     let mut text = String::new(alloc);
-    for (i, usual) in FLOW.iter().enumerate() {
-        text.push_str(if i == at { line } else { *usual })?;
+    for (i, usual) in ONE_SELECT.lines().enumerate() {
+        text.push_str(if i == at { line } else { usual })?;
         text.push('\n')?;
     }
     Ok(text)
@@ -34,114 +26,140 @@ fn refusal(
 
 #[test]
 fn flows(rt: HostRuntime) -> Result<(), Fail> {
-    let refused = [
-        (0, ""),
-        (0, "edge b out pick"),
-        (0, "edge b in out"),
-        (0, "edge a pick out"),
-        (0, "edge b pick out\nedge c in pick"),
-        (0, "edge abcdefghijklmnopqrstuvwxyz0123456 pick out"),
-        (1, "node in input\r"),
-        (1, "#\t\nnode in input"),
-        (1, "node in input # the only one"),
-        (1, "node in input\nnode in input"),
-        (1, "node _in input"),
-        (1, "node In input"),
-        (2, "node pick select key < 07 policy none"),
-        (2, "node pick select key < 18446744073709551616 policy none"),
-        (2, "node pick select key < +7 policy none"),
-        (2, "node pick select 7 > key policy none"),
-        (2, "node pick select key == 7 policy none"),
-        (2, "node pick select key < 7 policy epoch"),
-        (2, "node pick select key < 7"),
-        (3, "node out output"),
-        (3, "node in output epoch"),
-    ];
-    for (at, line) in refused {
-        let flow = flow_with(rt.alloc(), at, line)?;
-        let (status, notes) = refusal(rt.alloc(), &flow, "", "")?;
-        assert_eq!(rt; status, 3, "at {line}");
-        assert_eq!(rt;
-            notes.as_slice(),
-            b"refused F1 line 0\n".as_slice(),
-            "at {line}"
-        );
-    }
-    let accepted = [
-        (0, "edge abcdefghijklmnopqrstuvwxyz012345 pick out"),
+    let rows = [
+        (0, "node src input # the only one", "refused F1 line 1\n"),
+        (0, "#\tx\nnode src input", "refused F1 line 1\n"),
+        (
+            1,
+            "node big select value >= 010 policy none",
+            "refused F1 line 2\n",
+        ),
+        (
+            1,
+            "node abcdefghijklmnopqrstuvwxyz0123456 select value >= 10 policy none",
+            "refused F1 line 2\n",
+        ),
+        (2, "node out output epoch\r", "refused F1 line 3\n"),
+        (
+            1,
+            "node big select value >= 18446744073709551616 policy none",
+            "refused F10 line 2\n",
+        ),
+        (
+            1,
+            "node big select value >= 18446744073709551616 policy never",
+            "refused F1 line 2\n",
+        ),
+        (0, "node src input\nnode src input", "refused F2 line 2\n"),
+        (4, "edge a big out", "refused F2 line 5\n"),
+        (3, "edge a bug big", "refused F3 line 4\n"),
+        (
+            4,
+            "edge b big out\nedge c src big\nedge d src bigger",
+            "refused F3 line 7\n",
+        ),
+        (3, "", "refused F4 line 2\n"),
+        (4, "edge b big out\nedge c big out", "refused F4 line 3\n"),
         (
             2,
-            "node pick select value >= 18446744073709551615 policy none",
+            "node out select key = 1 policy none",
+            "refused F9 line 0\n",
         ),
-        (2, "  node pick  select value != key policy none "),
-        (3, "# a line that says nothing\n\nnode out output epoch"),
+        (0, "# flow A\n\n  node   src input  ", ""),
+        (
+            1,
+            "node big select key != value set value key plus 1 policy none",
+            "",
+        ),
+        (4, "edge b src out", ""),
     ];
-    for (at, line) in accepted {
+    for (at, line, note) in rows {
         let flow = flow_with(rt.alloc(), at, line)?;
-        let (status, _) = refusal(rt.alloc(), &flow, "", "")?;
-        assert_eq!(rt; status, 0, "at {line}");
+        let (status, notes) = refusal(rt.alloc(), &flow, "", "")?;
+        assert_eq!(rt; notes.as_slice(), note.as_bytes(), "at {line}");
+        assert_eq!(rt; status, if note.is_empty() { 0 } else { 3 }, "at {line}");
+    }
+    let flows = [
+        ("", "refused F9 line 0\n"),
+        (
+            "node src input\nnode pos select value > 0 policy none\nnode out output epoch\nedge a src out\nedge b pos pos\n",
+            "refused F6 line 0\n",
+        ),
+    ];
+    for (flow, note) in flows {
+        let (status, notes) = refusal(rt.alloc(), flow, "batch", "step")?;
+        assert_eq!(rt; notes.as_slice(), note.as_bytes(), "at {flow}");
+        assert_eq!(rt; status, 3, "at {flow}");
     }
     Ok(())
 }
 
 #[test]
 fn inputs(rt: HostRuntime) -> Result<(), Fail> {
-    let refused = [
-        "batch",
-        "batch out 1:2",
-        "batch src 15",
-        "batch src 1:2:3",
-        "batch src 1 :2",
-        "batch src 1:",
-        "batch src 01:2",
-        "batch src 1:18446744073709551616",
-        "batch src 1:2\r\n",
-        "batch src 1:2\n# a tab\t",
-        "batch src 1:2\nbatches src",
-        "batch src 1:2\x7f",
-        "batch src é",
+    let rows = [
+        ("batch", "refused I1 line 1\n"),
+        ("batch Src", "refused I1 line 1\n"),
+        ("batch src 01:2", "refused I1 line 1\n"),
+        ("batch src 1:2:3", "refused I1 line 1\n"),
+        ("batch src 1:2\nbatches src", "refused I1 line 2\n"),
+        ("batch src é", "refused I1 line 1\n"),
+        ("batch big 1:1", "refused I2 line 1\n"),
+        ("batch out", "refused I2 line 1\n"),
+        ("batch big 18446744073709551616:1", "refused I2 line 1\n"),
+        ("batch src 18446744073709551616:1", "refused I3 line 1\n"),
+        ("batch src 1:18446744073709551616", "refused I3 line 1\n"),
+        ("batch src 15", "refused I4 line 1\n"),
+        ("batch src 18446744073709551616:1 15", "refused I4 line 1\n"),
+        ("batch src 1:2\n\nbatch src 1:2 # x", "refused I4 line 3\n"),
+        (
+            "# two\n\nbatch  src 3:4 18446744073709551615:0 3:4  \n   batch src",
+            "",
+        ),
     ];
-    for inputs in refused {
-        let (status, notes) = refusal(rt.alloc(), ONE_SELECT, inputs, "")?;
-        assert_eq!(rt; status, 4, "at {inputs}");
-        assert_eq!(rt;
-            notes.as_slice(),
-            b"refused I1 line 0\n".as_slice(),
-            "at {inputs}"
-        );
+    for (inputs, note) in rows {
+        let (status, notes) = refusal(
+            rt.alloc(),
+            ONE_SELECT,
+            inputs,
+            if note.is_empty() { "" } else { "step" },
+        )?;
+        assert_eq!(rt; notes.as_slice(), note.as_bytes(), "at {inputs}");
+        assert_eq!(rt; status, if note.is_empty() { 0 } else { 4 }, "at {inputs}");
     }
-    let accepted = "# two\n\nbatch  src 3:4 18446744073709551615:0 3:4  \n   batch src";
-    let (status, _) = refusal(rt.alloc(), ONE_SELECT, accepted, "")?;
-    assert_eq!(rt; status, 0);
     Ok(())
 }
 
 #[test]
 fn schedules(rt: HostRuntime) -> Result<(), Fail> {
-    let refused = [
-        "inject",
-        "inject out",
-        "inject src src",
-        "deliver c",
-        "deliver src",
-        "ack src",
-        "progress now",
-        "Progress",
-        "progress\r\n",
-        "progress # now",
-        "progress\n#\t",
+    let rows = [
+        ("inject", "refused S1 line 1\n"),
+        ("inject src src", "refused S1 line 1\n"),
+        ("Progress", "refused S1 line 1\n"),
+        ("progress\r\n", "refused S1 line 1\n"),
+        ("progress # now", "refused S1 line 1\n"),
+        ("progress\n#\t", "refused S1 line 2\n"),
+        ("progress\n\n#\ninject src src", "refused S1 line 4\n"),
+        ("deliver a at 01", "refused S1 line 1\n"),
+        ("inject out", "refused S2 line 1\n"),
+        ("ack big", "refused S2 line 1\n"),
+        ("deliver c", "refused S2 line 1\n"),
+        ("notify a", "refused S2 line 1\n"),
+        ("progress\ninject nobody\nstep", "refused S2 line 2\n"),
+        ("deliver a at 0.0", "refused S3 line 1\n"),
+        ("notify big at 4294967296", "refused S3 line 1\n"),
+        (
+            "inject src\n deliver  a at 0 \ndeliver b\n#~\nnotify big\nprogress\nack out",
+            "",
+        ),
     ];
-    for schedule in refused {
+    for (schedule, note) in rows {
         let (status, notes) = refusal(rt.alloc(), ONE_SELECT, "", schedule)?;
-        assert_eq!(rt; status, 5, "at {schedule}");
+        assert_eq!(rt; notes.as_slice(), note.as_bytes(), "at {schedule}");
         assert_eq!(rt;
-            notes.as_slice(),
-            b"refused S1 line 0\n".as_slice(),
+            status,
+            if note.is_empty() { 0 } else { 5 },
             "at {schedule}"
         );
     }
-    let accepted = "inject src\n deliver  a \ndeliver b\n#~\nprogress\nack out";
-    let (status, _) = refusal(rt.alloc(), ONE_SELECT, "", accepted)?;
-    assert_eq!(rt; status, 0);
     Ok(())
 }

@@ -1,0 +1,115 @@
+-- From the job that was read and what was printed of it to what a command does.
+use Rattle.std.proofs.Common.{◌≡◌, ◌⊎◌, inl, inr, ℕ, List, take, Option, Some, None, refl, sym, ◌∙◌, ap, subst}
+use Rattle.std.proofs.lemmas.Bool.{false≢true}
+use Rattle.std.specs.Prelude.{IsSome}
+use Rattle.fw_lines.specs.declared.refusal.Refusal.{Refusal}
+use Rattle.fw_model.proofs.RecoveryLaws.{runs-legal, acknowledged-denoted}
+use Rattle.fw_model.proofs.RunLaws.{acknowledgements-in_order}
+use Rattle.fw_model.specs.Plain.{system_of}
+use Rattle.fw_run.proofs.KindLaws.{spelled-one_by_one}
+use Rattle.fw_run.proofs.TextLaws.{ready, well_formed_system, one_first_refusal, accepted_or_refused}
+use Rattle.fw_run.specs.declared.reading.Job.{Job}
+use Rattle.fw_run.specs.declared.status.Status.{Status}
+use Rattle.fw_run.specs.declared.status.Status.TheVariants.{Done, BadWords, Refused, ReadFault, WriteFault, NoMemory}
+use Rattle.fw_run.specs.Headline.{Prints, PrintsPart, IsPrinted, IsPartPrinted, IsRunEnd, StaysLegal, AcknowledgesInOrder, ShowsDenotation}
+use Rattle.fw_run.specs.Reading.{IsReady, IsJob}
+use Rattle.fw_run.specs.Status.{IsRefused}
+use Rattle.fw_run.specs.Texts.{Texts, AreThere, AreAccepted, IsFirstRefusal, spelled_system, spelled_steps}
+use Rattle.fw_run.specs.Words.{Names}
+
+-- a job is one that the plain engine runs
+pub ready_job : (told : Option (List ℕ → Option (List ℕ))) (names : Names) (job : Job) → IsJob told names job → IsReady (system_of job.flow job.batches) job.steps
+ready_job told names job j =
+    subst (λ sys. IsReady sys job.steps) (sym j.system) (subst (λ steps. IsReady (spelled_system j.texts) steps) (sym j.steps) (ready j.texts j.accepted))
+
+-- what is printed of a job is printed of its texts
+pub prints_job : (told : Option (List ℕ → Option (List ℕ))) (names : Names) (job : Job) (before after : Option (List ℕ)) → IsJob told names job
+    → IsPrinted (system_of job.flow job.batches) job.steps before after → Prints told names before after
+prints_job told names job before after j p = record {
+  texts = j.texts;
+  there = j.there;
+  accepted = j.accepted;
+  whole = subst (λ steps. IsPrinted (spelled_system j.texts) steps before after) j.steps (subst (λ sys. IsPrinted sys job.steps before after) j.system p);
+}
+
+pub prints_part_of_job : (told : Option (List ℕ → Option (List ℕ))) (names : Names) (job : Job) (before after : Option (List ℕ)) → IsJob told names job
+    → IsPartPrinted (system_of job.flow job.batches) job.steps before after → PrintsPart told names before after
+prints_part_of_job told names job before after j p = record {
+  texts = j.texts;
+  there = j.there;
+  accepted = j.accepted;
+  part = subst (λ steps. IsPartPrinted (spelled_system j.texts) steps before after) j.steps (subst (λ sys. IsPartPrinted sys job.steps before after) j.system p);
+}
+
+-- where the folder tells its texts, a text that is not accepted is refused
+pub refuses : (told : Option (List ℕ → Option (List ℕ))) (names : Names) (before after : Option (List ℕ)) (status : Status) (refusal : Refusal) → IsSome told → IsFirstRefusal told names refusal
+    → (status ≡ BadWords → ⊥) → (status ≡ Done → Prints told names before after) → (status ≡ WriteFault → PrintsPart told names before after)
+    → ((r : Refusal) → status ≡ Refused r → IsFirstRefusal told names r)
+    → (status ≡ Refused refusal) ⊎ ((status ≡ ReadFault) ⊎ (status ≡ NoMemory))
+refuses None names before after status refusal s f bad done cut refused = absurd (false≢true s)
+refuses (Some texts) names before after Done refusal s f bad done cut refused =
+    let p = done refl in absurd (accepted_or_refused texts names p.texts refusal p.there p.accepted f)
+refuses (Some texts) names before after BadWords refusal s f bad done cut refused = absurd (bad refl)
+refuses (Some texts) names before after (Refused r) refusal s f bad done cut refused = inl (ap Refused (one_first_refusal texts names r refusal (refused r refl) f))
+refuses (Some texts) names before after ReadFault refusal s f bad done cut refused = inr (inl refl)
+refuses (Some texts) names before after WriteFault refusal s f bad done cut refused =
+    let p = cut refl in absurd (accepted_or_refused texts names p.texts refusal p.there p.accepted f)
+refuses (Some texts) names before after NoMemory refusal s f bad done cut refused = inr (inr refl)
+
+-- and accepted texts are run
+pub completes : (told : Option (List ℕ → Option (List ℕ))) (names : Names) (status : Status) (texts : Texts) → IsSome told → AreThere told names texts → AreAccepted texts
+    → (status ≡ BadWords → ⊥) → ((r : Refusal) → status ≡ Refused r → IsFirstRefusal told names r) → IsRunEnd status
+completes None names status texts s t a bad refused = absurd (false≢true s)
+completes (Some folder) names Done texts s t a bad refused = inl refl
+completes (Some folder) names BadWords texts s t a bad refused = absurd (bad refl)
+completes (Some folder) names (Refused r) texts s t a bad refused = absurd (accepted_or_refused folder names texts r t a (refused r refl))
+completes (Some folder) names ReadFault texts s t a bad refused = inr (inl refl)
+completes (Some folder) names WriteFault texts s t a bad refused = inr (inr (inl refl))
+completes (Some folder) names NoMemory texts s t a bad refused = inr (inr (inr refl))
+
+-- ---- what the machine does with accepted texts
+
+pub texts-stay_legal : (texts : Texts) → AreAccepted texts → StaysLegal (spelled_system texts) (spelled_steps texts)
+texts-stay_legal texts a count outcomes state r =
+    let fit = ready texts a in
+    runs-legal (spelled_system texts) (take count (spelled_steps texts)) outcomes state fit.well_formed fit.epochs r
+
+pub texts-in_order : (texts : Texts) → AcknowledgesInOrder (spelled_system texts) (spelled_steps texts)
+texts-in_order texts outcomes last r = acknowledgements-in_order (spelled_system texts) (spelled_steps texts) outcomes last r
+
+pub texts-denoted : (texts : Texts) → AreAccepted texts → ShowsDenotation (spelled_system texts) (spelled_steps texts)
+texts-denoted texts a family d outcomes last r =
+    acknowledged-denoted (spelled_system texts) family (well_formed_system texts a) (spelled-one_by_one texts.flow) d (spelled_steps texts) outcomes last r
+
+-- ---- once a status is told
+
+-- the status that is answered is the one that was, or that of want of memory where this was a refusal
+abbrev pub IsTellingOf : Status → Status → Type 0
+IsTellingOf status result = (result ≡ status) ⊎ (IsRefused status × (result ≡ NoMemory))
+
+absurd_memory : (refusal : Refusal) → NoMemory ≡ Refused refusal → ⊥
+absurd_memory refusal e = absurd (cc)
+
+-- a refusal that is answered is the one that was
+pub told_refused : (status result : Status) (refusal : Refusal) → IsTellingOf status result → result ≡ Refused refusal → status ≡ Refused refusal
+told_refused status result refusal (inl e) f = sym e ∙ f
+told_refused status result refusal (inr t) f = absurd (absurd_memory refusal (sym t.1 ∙ f))
+
+-- what is true of one refusal is true of the same
+pub same_refusal : (P : Refusal → Type 0) (one other : Refusal) → Refused one ≡ Refused other → P one → P other
+same_refusal P one other e p = subst P (ap refusal_in e) p
+  where
+    refusal_in : Status → Refusal
+    refusal_in (Refused r) = r
+    refusal_in status = one
+
+pub refuses_told : (status result : Status) (refusal : Refusal) → IsTellingOf status result → (status ≡ Refused refusal) ⊎ ((status ≡ ReadFault) ⊎ (status ≡ NoMemory))
+    → (result ≡ Refused refusal) ⊎ ((result ≡ ReadFault) ⊎ (result ≡ NoMemory))
+refuses_told status result refusal (inr t) s = inr (inr t.1)
+refuses_told status result refusal (inl e) (inl s) = inl (e ∙ s)
+refuses_told status result refusal (inl e) (inr (inl s)) = inr (inl (e ∙ s))
+refuses_told status result refusal (inl e) (inr (inr s)) = inr (inr (e ∙ s))
+
+pub completes_told : (status result : Status) → IsTellingOf status result → IsRunEnd status → IsRunEnd result
+completes_told status result (inr t) s = inr (inr (inr t.1))
+completes_told status result (inl e) s = subst IsRunEnd (sym e) s

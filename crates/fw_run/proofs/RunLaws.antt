@@ -1,0 +1,284 @@
+-- How a run goes on, and what was printed of it so far.
+use Rattle.std.proofs.Common.{◌≡◌, ℕ, zero, suc, get_or, ◌+◌, ◌<◌, ◌≤◌, Bool, true, false, List, [], ◌∷◌, ◌++◌, length, take, drop, Option, Some, None, option_map, refl, sym, ◌∙◌, ap, subst, arith, append_assoc, inl, inr, cond}
+use Rattle.std.proofs.Math.Seq.{take-append-add}
+use Rattle.std.proofs.lemmas.Grind.{flat_map-append}
+use Rattle.std.proofs.lemmas.List.{append-nil, length-append, take-append-le, take-append-drop, drop_more, take_more}
+use Rattle.std.specs.List.{AllByRecursion}
+use Rattle.fw_outside.specs.Outside.{Takes, TakesPrefix}
+use Rattle.fw_flow.specs.declared.step.Step.{Step}
+use Rattle.fw_flow.specs.declared.step.Step.TheVariants.{Inject, Deliver, Notify, Progress, Checkpoint, Persist, Fail, Recover, Collect, Ack}
+use Rattle.fw_flow.specs.Dataflow.{Dataflow, System}
+use Rattle.fw_flow.specs.WellFormed.{IsWellFormed}
+use Rattle.fw_model.specs.LawsOfSteps.{HasItsChoice}
+use Rattle.fw_model.proofs.SomeNextLaws.{some_next}
+use Rattle.fw_model.specs.Machine.{Machine, first_state}
+use Rattle.fw_model.specs.Steps.{Effect, Outcome, did, idle, Takes as TakesStep, Steps, Run}
+use Rattle.fw_plain.specs.Engine.{Standing, is_plain_step}
+use Rattle.fw_run.specs.Headline.{IsPrinted, IsPartPrinted}
+use Rattle.fw_run.specs.Performing.{IsShownOf, IsStepPrinted, IsStepPartPrinted}
+use Rattle.fw_run.specs.Printed.{outcome_text, outcomes_text, is_idle, idle_count, done_line, text_of}
+
+-- ---- runs
+
+-- a run of further steps goes on where a run ended
+run_join : (sys : System) (state mid last : Machine) (steps others : List Step) (first second : List Outcome)
+    → Run sys state steps first mid → Run sys mid others second last → Run sys state (steps ++ others) (first ++ second) last
+run_join sys state mid last [] others [] second r s = subst (λ m. Run sys m others second last) r s
+run_join sys state mid last [] others (o ∷ first) second r s = absurd r
+run_join sys state mid last (step ∷ steps) others [] second r s = absurd r
+run_join sys state mid last (step ∷ steps) others (o ∷ first) second r s =
+    (r.0, r.1, run_join sys r.0 mid last steps others first second r.2 s)
+
+-- a run has an outcome for each step
+run_length : (sys : System) (state last : Machine) (steps : List Step) (outcomes : List Outcome) → Run sys state steps outcomes last → length outcomes ≡ length steps
+run_length sys state last [] [] r = refl
+run_length sys state last [] (o ∷ outcomes) r = absurd r
+run_length sys state last (step ∷ steps) [] r = absurd r
+run_length sys state last (step ∷ steps) (o ∷ outcomes) r = ap suc (run_length sys r.0 last steps outcomes r.2)
+
+-- a step that a schedule may have chooses nothing
+has_its_choice : (sys : System) (state : Machine) (step : Step) → is_plain_step step ≡ true → HasItsChoice sys state step
+has_its_choice sys state (Inject s) e = tt
+has_its_choice sys state (Deliver d at) e = tt
+has_its_choice sys state (Notify p at) e = tt
+has_its_choice sys state Progress e = tt
+has_its_choice sys state (Checkpoint p) e = tt
+has_its_choice sys state Persist e = tt
+has_its_choice sys state (Fail ps) e = tt
+has_its_choice sys state Recover e = absurd (cc)
+has_its_choice sys state Collect e = absurd (cc)
+has_its_choice sys state (Ack o) e = tt
+
+-- each of the steps is one that the plain engine takes
+abbrev pub ArePlain : List Step → Type 0
+ArePlain steps = AllByRecursion (λ step. is_plain_step step ≡ true) steps
+
+-- steps that a schedule may have are a run from each state
+run_exists : (sys : System) (state : Machine) (steps : List Step) → IsWellFormed sys.flow → AllByRecursion (λ step. is_plain_step step ≡ true) steps
+    → (outcomes : List Outcome) × (last : Machine) × Run sys state steps outcomes last
+run_exists sys state [] w plain = ([], state, refl)
+run_exists sys state (step ∷ steps) w plain =
+    let next = some_next sys state w step (has_its_choice sys state step plain.0) in
+    let rest = run_exists sys next.0 steps w plain.1 in
+    (next.1 ∷ rest.0, rest.1, (next.0, next.2, rest.2))
+
+-- what a step acknowledges is of a node of the dataflow
+shown_effect : (sys : System) (state : Machine) (step : Step) (next : Machine) (effect : Effect) → TakesStep sys state step next effect → IsShownOf sys.flow (did effect)
+shown_effect sys state (Inject s) next effect t = subst (λ e. IsShownOf sys.flow (did e)) (sym t.4) tt
+shown_effect sys state (Deliver d at) next effect t = subst (λ e. IsShownOf sys.flow (did e)) (sym t.4) tt
+shown_effect sys state (Notify p at) next effect t = subst (λ e. IsShownOf sys.flow (did e)) (sym t.4) tt
+shown_effect sys state Progress next effect t = subst (λ e. IsShownOf sys.flow (did e)) (sym t.4) tt
+shown_effect sys state (Checkpoint p) next effect t = subst (λ e. IsShownOf sys.flow (did e)) (sym t.4) tt
+shown_effect sys state Persist next effect t = subst (λ e. IsShownOf sys.flow (did e)) (sym t.3) tt
+shown_effect sys state (Fail ps) next effect t = subst (λ e. IsShownOf sys.flow (did e)) (sym t.5) tt
+shown_effect sys state Recover next effect t = subst (λ e. IsShownOf sys.flow (did e)) (sym t.8) tt
+shown_effect sys state Collect next effect t = subst (λ e. IsShownOf sys.flow (did e)) (sym t.4) tt
+shown_effect sys state (Ack o) next effect t = subst (λ e. IsShownOf sys.flow (did e)) (sym t.3) t.1.declared
+
+pub shown_of : (sys : System) (state : Machine) (step : Step) (next : Machine) (outcome : Outcome) → Steps sys state step next outcome → IsShownOf sys.flow outcome
+shown_of sys state step next (did effect) t = shown_effect sys state step next effect t
+shown_of sys state step next idle t = tt
+
+-- ---- what was taken
+
+pub takes_more : (before mid after : Option (List ℕ)) (one other : List ℕ) → Takes before one mid → Takes mid other after → Takes before (one ++ other) after
+takes_more None mid after one other e f = f ∙ ap (option_map (λ t. t ++ other)) e
+takes_more (Some taken) mid after one other e f = f ∙ ap (option_map (λ t. t ++ other)) e ∙ ap Some (append_assoc taken one other)
+
+pub takes_none : (before : Option (List ℕ)) → Takes before [] before
+takes_none None = refl
+takes_none (Some taken) = ap Some (sym (append-nil taken))
+
+-- first bytes behind what was taken are first bytes of the whole
+prefix_more : (before mid after : Option (List ℕ)) (one other rest : List ℕ) → Takes before one mid → TakesPrefix mid other after → TakesPrefix before (one ++ (other ++ rest)) after
+prefix_more before mid after one other rest e p =
+    let n = p.0 in
+    let front : take n (other ++ rest) ≡ take n other = take-append-le n other rest p.1 in
+    let whole : take (length one + n) (one ++ (other ++ rest)) ≡ one ++ take n other = take-append-add one (other ++ rest) n ∙ ap (λ t. one ++ t) front in (
+      length one + n,
+      omega (arith, p.1, length-append one (other ++ rest), length-append other rest),
+      subst (λ t. Takes before t after) (sym whole) (takes_more before mid after one (take n other) e p.2),
+    )
+
+-- ---- what was printed so far
+
+-- The engine stands for the state after these steps of a run, and what was taken is the lines of their outcomes.
+pub record IsSoFar (sys : System) (steps : List Step) (standing : Standing) (idle_steps : ℕ) (before after : Option (List ℕ)) : Type 0 where
+  pub system : standing.sys ≡ sys
+  pub outcomes : List Outcome
+  pub run : Run sys (first_state sys) steps outcomes standing.state
+  pub idle : idle_steps ≡ idle_count outcomes
+  pub taken : Takes before (outcomes_text sys.flow outcomes) after
+
+-- an engine to which nothing has happened
+pub none_so_far : (sys : System) (standing : Standing) (taken : Option (List ℕ)) → standing ≡ record { sys = sys; state = first_state sys; refused = false } → IsSoFar sys [] standing 0 taken taken
+none_so_far sys standing taken e = record {
+  system = ap (λ (s : Standing). s.sys) e;
+  outcomes = [];
+  run = ap (λ (s : Standing). s.state) e;
+  idle = refl;
+  taken = takes_none taken;
+}
+
+count_more : (outcomes : List Outcome) (o : Outcome) → idle_count (outcomes ++ o ∷ []) ≡ cond (is_idle o) (idle_count outcomes + 1) (idle_count outcomes)
+count_more [] o = refl
+count_more (x ∷ outcomes) o = both (is_idle x) (is_idle o) (idle_count (outcomes ++ o ∷ [])) (idle_count outcomes) (count_more outcomes o)
+  where
+    both : (b c : Bool) (n m : ℕ) → n ≡ cond c (m + 1) m → cond b (n + 1) n ≡ cond c (cond b (m + 1) m + 1) (cond b (m + 1) m)
+    both true true n m e = ap (λ k. k + 1) e
+    both true false n m e = ap (λ k. k + 1) e
+    both false true n m e = e
+    both false false n m e = e
+
+-- a step of a standing's system, as one of the system
+along : (sys : System) (standing : Standing) (P : System → Type 0) → standing.sys ≡ sys → P standing.sys → P sys
+along sys standing P e = subst P e
+
+-- one step more was taken and printed
+pub so_far_more : (sys : System) (steps : List Step) (old new : Standing) (step : Step) (idle_steps : ℕ) (was_idle : Bool) (before mid after : Option (List ℕ))
+    → IsSoFar sys steps old idle_steps before mid → new.sys ≡ old.sys → IsStepPrinted old new step was_idle mid after
+    → IsSoFar sys (steps ++ step ∷ []) new (cond was_idle (idle_steps + 1) idle_steps) before after
+so_far_more sys steps old new step idle_steps was_idle before mid after s e p =
+    let o = p.outcome in
+    let one : Steps sys old.state step new.state o = along sys old (λ y. Steps y old.state step new.state o) s.system p.steps in
+    let line : Takes mid (outcome_text sys.flow o) after = along sys old (λ y. Takes mid (outcome_text y.flow o) after) s.system p.taken in
+    record {
+      system = e ∙ s.system;
+      outcomes = s.outcomes ++ o ∷ [];
+      run = run_join sys (first_state sys) old.state new.state steps (step ∷ []) s.outcomes (o ∷ []) s.run (new.state, one, refl);
+      idle = ap (λ b. cond b (idle_steps + 1) idle_steps) p.is_idle ∙ ap (λ n. cond (is_idle o) (n + 1) n) s.idle ∙ sym (count_more s.outcomes o);
+      taken = subst (λ t. Takes before t after) (sym (flat_map-append (outcome_text sys.flow) s.outcomes (o ∷ []) ∙ ap (λ t. outcomes_text sys.flow s.outcomes ++ t) (append-nil (outcome_text sys.flow o)))) (takes_more before mid after (outcomes_text sys.flow s.outcomes) (outcome_text sys.flow o) s.taken line);
+    }
+
+-- a run of which first outcomes are these prints their lines first
+text_from : (flow : Dataflow) (first second : List Outcome) → text_of flow (first ++ second) ≡ outcomes_text flow first ++ (outcomes_text flow second ++ done_line (length (first ++ second)) (idle_count (first ++ second)))
+text_from flow first second =
+    ap (λ t. t ++ done_line (length (first ++ second)) (idle_count (first ++ second))) (flat_map-append (outcome_text flow) first second)
+    ∙ append_assoc (outcomes_text flow first) (outcomes_text flow second) (done_line (length (first ++ second)) (idle_count (first ++ second)))
+
+-- what is taken behind these lines is first bytes of the text of a run that goes on
+part : (sys : System) (steps others : List Step) (standing : Standing) (idle_steps : ℕ) (before mid after : Option (List ℕ)) (s : IsSoFar sys steps standing idle_steps before mid)
+    (second : List Outcome) (last : Machine) (front rest : List ℕ) → Run sys standing.state others second last
+    → outcomes_text sys.flow second ++ done_line (length (s.outcomes ++ second)) (idle_count (s.outcomes ++ second)) ≡ front ++ rest
+    → TakesPrefix mid front after → IsPartPrinted sys (steps ++ others) before after
+part sys steps others standing idle_steps before mid after s second last front rest r e p =
+    let printed = text_of sys.flow (s.outcomes ++ second) in
+    let same : printed ≡ outcomes_text sys.flow s.outcomes ++ (front ++ rest) = text_from sys.flow s.outcomes second ∙ ap (λ t. outcomes_text sys.flow s.outcomes ++ t) e in (
+      printed,
+      record {
+        outcomes = s.outcomes ++ second;
+        last = last;
+        run = run_join sys (first_state sys) standing.state last steps others s.outcomes second s.run r;
+        text = refl;
+      },
+      subst (λ t. TakesPrefix before t after) (sym same) (prefix_more before mid after (outcomes_text sys.flow s.outcomes) front rest s.taken p),
+    )
+
+nothing_taken : (mid : Option (List ℕ)) → TakesPrefix mid [] mid
+nothing_taken mid = (0, omega arith, takes_none mid)
+
+-- the run stops before its next step
+pub stops_before : (sys : System) (steps others : List Step) (standing : Standing) (idle_steps : ℕ) (before after : Option (List ℕ)) → IsSoFar sys steps standing idle_steps before after
+    → IsWellFormed sys.flow → AllByRecursion (λ step. is_plain_step step ≡ true) others → IsPartPrinted sys (steps ++ others) before after
+stops_before sys steps others standing idle_steps before after s w plain =
+    let rest = run_exists sys standing.state others w plain in
+    part sys steps others standing idle_steps before after after s rest.0 rest.1 [] (outcomes_text sys.flow rest.0 ++ done_line (length (s.outcomes ++ rest.0)) (idle_count (s.outcomes ++ rest.0))) rest.2 refl (nothing_taken after)
+
+-- the run stops within the lines of a step, or before them
+pub stops_within : (sys : System) (steps others : List Step) (standing : Standing) (step : Step) (idle_steps : ℕ) (before mid after : Option (List ℕ)) → IsSoFar sys steps standing idle_steps before mid
+    → IsWellFormed sys.flow → AllByRecursion (λ step. is_plain_step step ≡ true) (step ∷ others) → IsStepPartPrinted standing step mid after → IsPartPrinted sys (steps ++ step ∷ others) before after
+stops_within sys steps others standing step idle_steps before mid after s w plain (inl e) =
+    subst (λ t. IsPartPrinted sys (steps ++ step ∷ others) before t) (sym e) (stops_before sys steps (step ∷ others) standing idle_steps before mid s w plain)
+stops_within sys steps others standing step idle_steps before mid after s w plain (inr (next, o, t, p)) =
+    let one : Steps sys standing.state step next o = along sys standing (λ y. Steps y standing.state step next o) s.system t in
+    let line : TakesPrefix mid (outcome_text sys.flow o) after = along sys standing (λ y. TakesPrefix mid (outcome_text y.flow o) after) s.system p in
+    let rest = run_exists sys next others w plain.1 in
+    let tail = done_line (length (s.outcomes ++ o ∷ rest.0)) (idle_count (s.outcomes ++ o ∷ rest.0)) in
+    part sys steps (step ∷ others) standing idle_steps before mid after s (o ∷ rest.0) rest.1 (outcome_text sys.flow o) (outcomes_text sys.flow rest.0 ++ tail) (next, one, rest.2) (append_assoc (outcome_text sys.flow o) (outcomes_text sys.flow rest.0) tail) line
+
+-- the last line of a run whose outcomes are these
+last_line : (sys : System) (steps : List Step) (standing : Standing) (idle_steps : ℕ) (before after : Option (List ℕ)) (s : IsSoFar sys steps standing idle_steps before after)
+    → done_line (length steps) idle_steps ≡ done_line (length s.outcomes) (idle_count s.outcomes)
+last_line sys steps standing idle_steps before after s =
+    ap (λ n. done_line n idle_steps) (sym (run_length sys (first_state sys) standing.state steps s.outcomes s.run)) ∙ ap (done_line (length s.outcomes)) s.idle
+
+-- the run stops within its last line
+pub stops_at_end : (sys : System) (steps : List Step) (standing : Standing) (idle_steps : ℕ) (before mid after : Option (List ℕ)) → IsSoFar sys steps standing idle_steps before mid
+    → TakesPrefix mid (done_line (length steps) idle_steps) after → IsPartPrinted sys steps before after
+stops_at_end sys steps standing idle_steps before mid after s p =
+    let line = subst (λ t. TakesPrefix mid t after) (last_line sys steps standing idle_steps before mid s) p in (
+      text_of sys.flow s.outcomes,
+      record { outcomes = s.outcomes; last = standing.state; run = s.run; text = refl },
+      subst (λ t. TakesPrefix before (outcomes_text sys.flow s.outcomes ++ t) after) (append-nil (done_line (length s.outcomes) (idle_count s.outcomes))) (prefix_more before mid after (outcomes_text sys.flow s.outcomes) (done_line (length s.outcomes) (idle_count s.outcomes)) [] s.taken line),
+    )
+
+-- the run is printed to its end
+pub ends : (sys : System) (steps : List Step) (standing : Standing) (idle_steps : ℕ) (before mid after : Option (List ℕ)) → IsSoFar sys steps standing idle_steps before mid
+    → Takes mid (done_line (length steps) idle_steps) after → IsPrinted sys steps before after
+ends sys steps standing idle_steps before mid after s p =
+    let line = subst (λ t. Takes mid t after) (last_line sys steps standing idle_steps before mid s) p in (
+      text_of sys.flow s.outcomes,
+      record { outcomes = s.outcomes; last = standing.state; run = s.run; text = refl },
+      takes_more before mid after (outcomes_text sys.flow s.outcomes) (done_line (length s.outcomes) (idle_count s.outcomes)) s.taken line,
+    )
+
+-- ---- a list of steps, taken one after another
+
+each_left : (i : ℕ) (xs : List Step) → AllByRecursion (λ step. is_plain_step step ≡ true) xs → AllByRecursion (λ step. is_plain_step step ≡ true) (drop i xs)
+each_left zero xs a = a
+each_left (suc i) [] a = tt
+each_left (suc i) (x ∷ xs) a = each_left i xs a.1
+
+-- a step stands between those before it and those after it
+parts_at : (xs : List Step) (i : ℕ) (step : Step) → i < length xs → step ≡ get_or xs i step → drop i xs ≡ step ∷ drop (i + 1) xs
+parts_at xs i step below e = drop_more xs i step below ∙ ap (λ s. s ∷ drop (i + 1) xs) (sym e)
+
+-- the run is not begun
+pub stops_at_start : (sys : System) (steps : List Step) (taken : Option (List ℕ)) → IsWellFormed sys.flow → AllByRecursion (λ step. is_plain_step step ≡ true) steps → IsPartPrinted sys steps taken taken
+stops_at_start sys steps taken w plain =
+    let standing : Standing = record { sys = sys; state = first_state sys; refused = false } in
+    stops_before sys [] steps standing 0 taken taken (none_so_far sys standing taken refl) w plain
+
+-- the run stops at the step of this place
+pub stops_at : (sys : System) (xs : List Step) (i : ℕ) (standing : Standing) (step : Step) (idle_steps : ℕ) (before mid after : Option (List ℕ)) → IsSoFar sys (take i xs) standing idle_steps before mid
+    → IsWellFormed sys.flow → AllByRecursion (λ step. is_plain_step step ≡ true) xs → i < length xs → step ≡ get_or xs i step → IsStepPartPrinted standing step mid after → IsPartPrinted sys xs before after
+stops_at sys xs i standing step idle_steps before mid after s w plain below e p =
+    let parts = parts_at xs i step below e in
+    let left = subst (AllByRecursion (λ step. is_plain_step step ≡ true)) parts (each_left i xs plain) in
+    subst (λ t. IsPartPrinted sys t before after) (ap (λ t. take i xs ++ t) (sym parts) ∙ take-append-drop i xs)
+    (stops_within sys (take i xs) (drop (i + 1) xs) standing step idle_steps before mid after s w left p)
+
+-- the step of this place was taken and printed
+pub so_far_next : (sys : System) (xs : List Step) (i : ℕ) (old new : Standing) (step : Step) (was now : ℕ) (was_idle : Bool) (before mid after : Option (List ℕ))
+    → IsSoFar sys (take i xs) old was before mid → i < length xs → step ≡ get_or xs i step → new.sys ≡ old.sys → IsStepPrinted old new step was_idle mid after
+    → now ≡ cond was_idle (was + 1) was → IsSoFar sys (take (i + 1) xs) new now before after
+so_far_next sys xs i old new step was now was_idle before mid after s below e same p n =
+    let steps : take (i + 1) xs ≡ take i xs ++ step ∷ [] = take_more xs i step below ∙ ap (λ t. take i xs ++ t ∷ []) (sym e) in
+    subst (λ t. IsSoFar sys t new now before after) (sym steps) (subst (λ k. IsSoFar sys (take i xs ++ step ∷ []) new k before after) (sym n) (so_far_more sys (take i xs) old new step was was_idle before mid after s same p))
+
+pub counted_idle : (was_idle : Bool) (was now : ℕ) → was_idle ≡ true → now ≡ was + 1 → now ≡ cond was_idle (was + 1) was
+counted_idle was_idle was now e n = n ∙ sym (ap (λ b. cond b (was + 1) was) e)
+
+pub counted-few : (was_idle : Bool) (was now i : ℕ) → now ≡ cond was_idle (was + 1) was → was ≤ i → now ≤ i + 1
+counted-few true was now i e h = omega (arith, e, h)
+counted-few false was now i e h = omega (arith, e, h)
+
+pub counted_taken : (was_idle : Bool) (was now : ℕ) → was_idle ≡ false → now ≡ was → now ≡ cond was_idle (was + 1) was
+counted_taken was_idle was now e n = n ∙ sym (ap (λ b. cond b (was + 1) was) e)
+
+-- all steps were taken and printed
+pub all_so_far : (sys : System) (xs : List Step) (i : ℕ) (standing : Standing) (idle_steps : ℕ) (before after : Option (List ℕ)) → IsSoFar sys (take i xs) standing idle_steps before after → length xs ≤ i
+    → IsSoFar sys xs standing idle_steps before after
+all_so_far sys xs i standing idle_steps before after s h = subst (λ t. IsSoFar sys t standing idle_steps before after) (take_all xs i h) s
+  where
+    take_all : (ys : List Step) (k : ℕ) → length ys ≤ k → take k ys ≡ ys
+    take_all [] zero h = refl
+    take_all [] (suc k) h = refl
+    take_all (y ∷ ys) zero h = absurd (omega (arith, h))
+    take_all (y ∷ ys) (suc k) h = ap (λ t. y ∷ t) (take_all ys k (omega (arith, h)))
+
+-- the run stops before its last line
+pub stops_after_steps : (sys : System) (steps : List Step) (standing : Standing) (idle_steps : ℕ) (before after : Option (List ℕ)) → IsSoFar sys steps standing idle_steps before after
+    → IsWellFormed sys.flow → IsPartPrinted sys steps before after
+stops_after_steps sys steps standing idle_steps before after s w =
+    subst (λ t. IsPartPrinted sys t before after) (append-nil steps) (stops_before sys steps [] standing idle_steps before after s w tt)

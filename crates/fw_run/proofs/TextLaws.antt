@@ -1,0 +1,185 @@
+-- What accepted texts spell is fit for a run, and texts have one answer.
+use Rattle.std.proofs.Common.{◌≡◌, ◌⊎◌, inl, inr, ℕ, ◌^◌, ◌≤◌, true, false, List, [], ◌∷◌, map, length, Option, Some, refl, sym, ◌∙◌, ap, subst, arith}
+use Rattle.std.proofs.lemmas.List.FromFn.{length-map-range_with_len}
+use Rattle.std.proofs.lemmas.Option.{same_Some}
+use Rattle.std.specs.List.{AllByRecursion}
+use Rattle.fw_outside.specs.Outside.{IsText}
+use Rattle.fw_bag.specs.declared.rec.Rec.{Rec}
+use Rattle.fw_lines.specs.declared.refusal.Refusal.{Refusal}
+use Rattle.fw_lines.specs.Batches.{batches_at}
+use Rattle.fw_lines.specs.Inputs as inputs
+use Rattle.fw_lines.specs.Lines.{said_lines}
+use Rattle.fw_lines.proofs.FaultLaws.{sound_or_first}
+use Rattle.fw_lines.proofs.ReadLaws as input_texts
+use Rattle.fw_flow.specs.declared.step.Step.{Step}
+use Rattle.fw_flow.specs.declared.step.Step.TheVariants.{Inject, Deliver, Notify, Progress, Checkpoint, Persist, Fail, Recover, Collect, Ack}
+use Rattle.fw_flow.specs.Dataflow.{Dataflow, System}
+use Rattle.fw_flow.specs.Dataflow as dataflow
+use Rattle.fw_flow.specs.WellFormed.{IsWellFormedSystem, IsBatch}
+use Rattle.fw_flow_text.specs.Grammar as flows
+use Rattle.fw_flow_text.proofs.ReadLaws as flow_texts
+use Rattle.fw_schedule.specs.Grammar.{steps_of}
+use Rattle.fw_schedule.specs.Grammar as schedules
+use Rattle.fw_schedule.specs.Steps.{IsStepOf}
+use Rattle.fw_schedule.proofs.ReadLaws as schedule_texts
+use Rattle.fw_schedule.proofs.StepLaws.{steps_sound}
+use Rattle.fw_model.proofs.EachLaws.{each-weaker}
+use Rattle.fw_model.specs.Machine.{places}
+use Rattle.fw_model.specs.Plain.{system_of, batches_of_nodes}
+use Rattle.fw_plain.specs.Engine.{is_plain_step}
+use Rattle.fw_run.proofs.InputLaws.{each_batch, none_given, few_batches, at_place}
+use Rattle.fw_run.proofs.KindLaws.{spelled-keeps_nothing}
+use Rattle.fw_run.specs.declared.reading.Job.{Job}
+use Rattle.fw_run.specs.Reading.{IsReady, IsJob}
+use Rattle.fw_run.specs.Texts.{Texts, spelled_flow, sources_of, spelled_batches, spelled_system, spelled_steps, AreInputsOf, AreAccepted, HasText, AreThere, AreInputsRefused, IsScheduleRefused, IsFirstRefusal}
+use Rattle.fw_run.specs.Words.{Names}
+
+-- ---- what accepted texts spell
+
+-- a step of a schedule is one that the plain engine takes
+plain_step : (flow : Dataflow) (step : Step) → IsStepOf flow step → is_plain_step step ≡ true
+plain_step flow (Inject s) h = refl
+plain_step flow (Deliver e at) h = refl
+plain_step flow (Notify p at) h = refl
+plain_step flow Progress h = refl
+plain_step flow (Checkpoint p) h = absurd h
+plain_step flow Persist h = absurd h
+plain_step flow (Fail ps) h = absurd h
+plain_step flow Recover h = absurd h
+plain_step flow Collect h = absurd h
+plain_step flow (Ack o) h = refl
+
+few_epochs : (texts : Texts) → AreInputsOf (spelled_flow texts.flow) texts.inputs → (p : ℕ) → length (dataflow.batches_of (spelled_system texts) p) ≤ 2 ^ 20
+unfolding dataflow.batches_of
+few_epochs texts a p =
+    let flow = spelled_flow texts.flow in
+    at_place (λ b. length b ≤ 2 ^ 20) (inputs.batches_of (sources_of flow) (said_lines texts.inputs)) (length flow.nodes) p (omega arith) (few_batches (sources_of flow) (said_lines texts.inputs) p a.sound)
+
+pub ready : (texts : Texts) → AreAccepted texts → IsReady (spelled_system texts) (spelled_steps texts)
+ready texts a =
+    let flow = spelled_flow texts.flow in
+    record {
+      well_formed = a.first.checked.well_formed;
+      keeps_nothing = spelled-keeps_nothing texts.flow;
+      epochs = λ s. omega (arith, few_epochs texts a.second s);
+      plain = each-weaker (IsStepOf flow) (λ step. is_plain_step step ≡ true) (spelled_steps texts) (plain_step flow) (steps_sound flow (said_lines texts.schedule));
+    }
+
+batches-of_inputs : (texts : Texts) (p : ℕ) → dataflow.is_input_kind (dataflow.kind_of (spelled_flow texts.flow) p) ≡ false → dataflow.batches_of (spelled_system texts) p ≡ []
+unfolding dataflow.batches_of
+batches-of_inputs texts p e =
+    let flow = spelled_flow texts.flow in
+    at_place (λ b. b ≡ []) (inputs.batches_of (sources_of flow) (said_lines texts.inputs)) (length flow.nodes) p refl (none_given flow (places flow) (said_lines texts.inputs) p e)
+
+bags-of_inputs : (texts : Texts) (p : ℕ) → AllByRecursion IsBatch (dataflow.batches_of (spelled_system texts) p)
+unfolding dataflow.batches_of
+bags-of_inputs texts p =
+    let flow = spelled_flow texts.flow in
+    at_place (AllByRecursion IsBatch) (inputs.batches_of (sources_of flow) (said_lines texts.inputs)) (length flow.nodes) p tt (each_batch (sources_of flow) (said_lines texts.inputs) p)
+
+-- the system of accepted texts is well formed
+pub well_formed_system : (texts : Texts) → AreAccepted texts → IsWellFormedSystem (spelled_system texts)
+well_formed_system texts a =
+    let flow = spelled_flow texts.flow in
+    record {
+      flow = a.first.checked.well_formed;
+      one_each = length-map-range_with_len (inputs.batches_of (sources_of flow) (said_lines texts.inputs)) 0 (length flow.nodes);
+      of_inputs = batches-of_inputs texts;
+      few = few_epochs texts a.second;
+      batches = bags-of_inputs texts;
+    }
+
+-- ---- what was read
+
+same_map : {A : Type 0} (f g : ℕ → A) (ns : List ℕ) → ((n : ℕ) → f n ≡ g n) → map f ns ≡ map g ns
+same_map f g [] e = refl
+same_map f g (n ∷ ns) e = ap (λ a. a ∷ map f ns) (e n) ∙ ap (λ rest. g n ∷ rest) (same_map f g ns e)
+
+system_read : (flow_text text : List ℕ) (flow : Dataflow) (batches : List (ℕ × List (List Rec))) → flow ≡ spelled_flow flow_text → inputs.IsAccepted text (sources_of flow) batches
+    → system_of flow batches ≡ record { flow = spelled_flow flow_text; batches = spelled_batches (spelled_flow flow_text) text }
+unfolding batches_of_nodes
+system_read flow_text text flow batches e a =
+    let make : List (List (List Rec)) → System = λ b. record { flow = flow; batches = b } in
+    let spelled : Dataflow → System = λ f. record { flow = f; batches = spelled_batches f text } in
+    ap make (same_map (batches_at batches) (inputs.batches_of (sources_of flow) (said_lines text)) (places flow) a.value) ∙ ap spelled e
+
+-- what three accepted texts spell is a job
+pub job_read : (told : Option (List ℕ → Option (List ℕ))) (names : Names) (job : Job)
+    → HasText told names.flow (λ text. flows.IsAccepted text job.flow)
+    → HasText told names.inputs (λ text. inputs.IsAccepted text (sources_of job.flow) job.batches)
+    → HasText told names.schedule (λ text. schedules.IsAccepted text job.flow job.steps)
+    → IsJob told names job
+job_read told names job f i s =
+    let texts : Texts = record { flow = f.text; inputs = i.text; schedule = s.text } in
+    let value : job.flow ≡ spelled_flow f.text = f.so.checked.value in
+    record {
+      texts = texts;
+      there = record { first = f.there; second = i.there; third = s.there };
+      accepted = record {
+        first = subst (flows.IsAccepted f.text) value f.so;
+        second = subst (λ flow. AreInputsOf flow i.text) value (record { size = i.so.size; sound = i.so.sound });
+        third = subst (λ flow. schedules.IsAccepted s.text flow (steps_of flow (said_lines s.text))) value (record { size = s.so.size; sound = s.so.sound; value = refl });
+      };
+      system = system_read f.text i.text job.flow job.batches value i.so;
+      steps = s.so.value ∙ ap (λ flow. steps_of flow (said_lines s.text)) value;
+    }
+
+-- the same where the folder told its texts anew before each
+pub job_read_in_turn : (told second third : Option (List ℕ → Option (List ℕ))) (names : Names) (job : Job) → second ≡ told → third ≡ second
+    → HasText told names.flow (λ text. flows.IsAccepted text job.flow)
+    → HasText second names.inputs (λ text. inputs.IsAccepted text (sources_of job.flow) job.batches)
+    → HasText third names.schedule (λ text. schedules.IsAccepted text job.flow job.steps)
+    → IsJob told names job
+job_read_in_turn told second third names job e h f i s =
+    job_read told names job f
+    (subst (λ t. HasText t names.inputs (λ text. inputs.IsAccepted text (sources_of job.flow) job.batches)) e i)
+    (subst (λ t. HasText t names.schedule (λ text. schedules.IsAccepted text job.flow job.steps)) (h ∙ e) s)
+
+-- ---- one answer
+
+inputs_or_refused : (flow : Dataflow) (text : List ℕ) (r : Refusal) → AreInputsOf flow text → inputs.IsRefused text (sources_of flow) r → ⊥
+inputs_or_refused flow text r a (inl (large, whole)) = omega (arith, a.size, large)
+inputs_or_refused flow text r a (inr (size, first)) = sound_or_first (inputs.line_fault (sources_of flow)) (said_lines text) r a.sound first
+
+-- the text under a name is one
+same_text : (texts : List ℕ → Option (List ℕ)) (name a b : List ℕ) → IsText (Some texts) name a → IsText (Some texts) name b → a ≡ b
+same_text texts name a b e f = same_Some a b (sym e ∙ f)
+
+-- two things that are true of the text under a name are true of one text
+both_true : (texts : List ℕ → Option (List ℕ)) (name : List ℕ) (P Q : List ℕ → Type 0) (R : Type 0) → HasText (Some texts) name P → HasText (Some texts) name Q → ((text : List ℕ) → P text → Q text → R) → R
+both_true texts name P Q R p q f = f p.text p.so (subst Q (same_text texts name q.text p.text q.there p.there) q.so)
+
+same_flow : (texts : List ℕ → Option (List ℕ)) (name : List ℕ) (one other : Dataflow) → HasText (Some texts) name (λ text. flows.IsAccepted text one) → HasText (Some texts) name (λ text. flows.IsAccepted text other) → one ≡ other
+same_flow texts name one other a b =
+    both_true texts name (λ text. flows.IsAccepted text one) (λ text. flows.IsAccepted text other) (one ≡ other) a b (λ text p q. p.checked.value ∙ sym q.checked.value)
+
+-- of three texts one is refused first, by one rule
+pub one_first_refusal : (texts : List ℕ → Option (List ℕ)) (names : Names) (r s : Refusal) → IsFirstRefusal (Some texts) names r → IsFirstRefusal (Some texts) names s → r ≡ s
+one_first_refusal texts names r s (inl a) (inl b) = both_true texts names.flow _ _ (r ≡ s) a b (λ text p q. flow_texts.one_refusal text r s p q)
+one_first_refusal texts names r s (inl a) (inr (flow, b, rest)) = absurd (both_true texts names.flow _ _ ⊥ a b (λ text p q. flow_texts.accepted_or_refused text flow r q p))
+one_first_refusal texts names r s (inr (flow, a, rest)) (inl b) = absurd (both_true texts names.flow _ _ ⊥ a b (λ text p q. flow_texts.accepted_or_refused text flow s p q))
+one_first_refusal texts names r s (inr (flow, a, rest)) (inr (other, b, more)) =
+    by rest (subst (λ f. Later f s) (sym (same_flow texts names.flow flow other a b)) more)
+  where
+    Later : Dataflow → Refusal → Type 0
+    Later f refusal = AreInputsRefused (Some texts) names.inputs f refusal ⊎ (HasText (Some texts) names.inputs (AreInputsOf f) × IsScheduleRefused (Some texts) names.schedule f refusal)
+
+    by : Later flow r → Later flow s → r ≡ s
+    by (inl p) (inl q) = both_true texts names.inputs _ _ (r ≡ s) p q (λ text x y. input_texts.one_refusal text (sources_of flow) r s x y)
+    by (inl p) (inr q) = absurd (both_true texts names.inputs _ _ ⊥ p q.0 (λ text x y. inputs_or_refused flow text r y x))
+    by (inr p) (inl q) = absurd (both_true texts names.inputs _ _ ⊥ p.0 q (λ text x y. inputs_or_refused flow text s x y))
+    by (inr p) (inr q) = both_true texts names.schedule _ _ (r ≡ s) p.1 q.1 (λ text x y. schedule_texts.one_refusal text flow r s x y)
+
+-- accepted texts are not refused
+pub accepted_or_refused : (texts : List ℕ → Option (List ℕ)) (names : Names) (three : Texts) (r : Refusal) → AreThere (Some texts) names three → AreAccepted three → IsFirstRefusal (Some texts) names r → ⊥
+accepted_or_refused texts names three r t a (inl p) =
+    flow_texts.accepted_or_refused three.flow (spelled_flow three.flow) r a.first (subst (λ text. flows.IsRefused text r) (same_text texts names.flow p.text three.flow p.there t.first) p.so)
+accepted_or_refused texts names three r t a (inr (flow, p, rest)) =
+    by (subst Later (same_flow texts names.flow flow (spelled_flow three.flow) p (record { text = three.flow; there = t.first; so = a.first })) rest)
+  where
+    Later : Dataflow → Type 0
+    Later f = AreInputsRefused (Some texts) names.inputs f r ⊎ (HasText (Some texts) names.inputs (AreInputsOf f) × IsScheduleRefused (Some texts) names.schedule f r)
+
+    by : Later (spelled_flow three.flow) → ⊥
+    by (inl q) = inputs_or_refused (spelled_flow three.flow) three.inputs r a.second (subst (λ text. inputs.IsRefused text (sources_of (spelled_flow three.flow)) r) (same_text texts names.inputs q.text three.inputs q.there t.second) q.so)
+    by (inr q) = schedule_texts.accepted_or_refused three.schedule (spelled_flow three.flow) (spelled_steps three) r a.third (subst (λ text. schedules.IsRefused text (spelled_flow three.flow) r) (same_text texts names.schedule q.1.text three.schedule q.1.there t.third) q.1.so)

@@ -1,0 +1,30 @@
+use Rattle.std.proofs.Common.{arith}
+use Rattle.std.proofs.lemmas.Result.{err_from_is_err_and}
+use Rattle.fw_run.proofs.NameLaws.{names-distinct}
+use Rattle.fw_run.proofs.Roses.{rose_last, same_fault}
+use Rattle.fw_run.proofs.TextLaws.{job_read_in_turn}
+use Rattle.fw_run.specs.declared.reading.JobFault.TheVariants.{Failed}
+use Rattle.fw_run.specs.Words.{names_in}
+use Rattle.fw_run.proofs.reading.read_job.Goals as goal
+
+pub fetch_inputs-requires : goal.fetch_inputs-requires
+fetch_inputs-requires g c = names-distinct c.in_ok-flow.ensures.flow.text c.in_ok-flow.flow c.in_ok-flow.ensures.flow.so
+
+pub returns-in_err-batches-clause-failed : goal.returns-in_err-batches-clause-failed
+returns-in_err-batches-clause-failed g c =
+    let p = err_from_is_err_and c.from_residual-in_err-batches.result c.from_residual-in_err-batches.ensures.1 in
+    let count = g.F.Folder.fault_count in
+    rw (p.1, p.2) (λ e. rose_last (count c.args.folder.now) (count c.fetch_flow.new.folder) (count c.fetch_inputs.new.folder) c.fetch_flow.ensures.never_falls c.fetch_inputs.ensures.never_falls (c.in_err-batches.ensures.failed (same_fault _ _ _ _ Failed e)))
+
+pub returns-in_err-steps-clause-failed : goal.returns-in_err-steps-clause-failed
+returns-in_err-steps-clause-failed g c =
+    let p = err_from_is_err_and c.from_residual-in_err-steps.result c.from_residual-in_err-steps.ensures.1 in
+    let count = g.F.Folder.fault_count in
+    rw (p.1, p.2) (λ e. rose_last (count c.args.folder.now) (count c.fetch_inputs.new.folder) (count c.fetch_schedule.new.folder) (omega (arith, c.fetch_flow.ensures.never_falls, c.fetch_inputs.ensures.never_falls)) c.fetch_schedule.ensures.never_falls (c.in_err-steps.ensures.failed (same_fault _ _ _ _ Failed e)))
+
+pub returns-clause-job : goal.returns-clause-job
+returns-clause-job g c =
+    let told = g.F.Folder.texts in
+    job_read_in_turn (told c.args.folder.now) (told c.fetch_flow.new.folder) (told c.fetch_inputs.new.folder) (names_in c.args.words.now)
+    (record { flow = c.in_ok-flow.flow; batches = c.in_ok-batches.batches; steps = c.in_ok-steps.steps })
+    c.fetch_flow.ensures.texts_stay c.fetch_inputs.ensures.texts_stay c.in_ok-flow.ensures.flow c.in_ok-batches.ensures.batches c.in_ok-steps.ensures.steps

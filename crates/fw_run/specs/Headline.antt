@@ -1,0 +1,64 @@
+-- What a command does, from its words and the folder's texts to what it writes.
+use Rattle.std.specs.Prelude.{◌≡◌, ◌⊎◌, ℕ, List, Option, take}
+use Rattle.std.specs.List.{AllByRecursion}
+use Rattle.fw_outside.specs.Outside.{Takes, TakesPrefix}
+use Rattle.fw_flow.specs.declared.step.Step.{Step}
+use Rattle.fw_flow.specs.Dataflow.{System}
+use Rattle.fw_model.specs.Denotation.{Family, IsDenotation}
+use Rattle.fw_model.specs.History.{IsLegal}
+use Rattle.fw_model.specs.LawsOfRuns.{IsDenoted, stamps_acknowledged, first_stamps}
+use Rattle.fw_model.specs.Machine.{Machine, events, first_state, bound_of}
+use Rattle.fw_model.specs.Steps.{Outcome, Run}
+use Rattle.fw_run.specs.declared.status.Status.{Status}
+use Rattle.fw_run.specs.declared.status.Status.TheVariants.{Done, ReadFault, WriteFault, NoMemory}
+use Rattle.fw_run.specs.Printed.{text_of}
+use Rattle.fw_run.specs.Texts.{Texts, spelled_system, spelled_steps, AreAccepted, AreThere}
+use Rattle.fw_run.specs.Words.{Names}
+
+-- the machine takes the steps from its first state, and this is the text of what comes of them
+pub record PrintsRun (sys : System) (steps : List Step) (printed : List ℕ) : Type 0 where
+  pub outcomes : List Outcome
+  pub last : Machine
+  pub run : Run sys (first_state sys) steps outcomes last
+  pub text : printed ≡ text_of sys.flow outcomes
+
+-- the whole printed text of the run of these steps was taken
+abbrev pub IsPrinted : System → List Step → Option (List ℕ) → Option (List ℕ) → Type 0
+IsPrinted sys steps before after = (printed : List ℕ) × PrintsRun sys steps printed × Takes before printed after
+
+-- first bytes of it were taken, none of them or all perhaps
+abbrev pub IsPartPrinted : System → List Step → Option (List ℕ) → Option (List ℕ) → Type 0
+IsPartPrinted sys steps before after = (printed : List ℕ) × PrintsRun sys steps printed × TakesPrefix before printed after
+
+-- the texts under the names are accepted, and the whole printed text of their run was taken
+pub record Prints (told : Option (List ℕ → Option (List ℕ))) (names : Names) (before after : Option (List ℕ)) : Type 0 where
+  pub texts : Texts
+  pub there : AreThere told names texts
+  pub accepted : AreAccepted texts
+  pub whole : IsPrinted (spelled_system texts) (spelled_steps texts) before after
+
+-- the texts under the names are accepted, and first bytes of the printed text of their run were taken
+pub record PrintsPart (told : Option (List ℕ → Option (List ℕ))) (names : Names) (before after : Option (List ℕ)) : Type 0 where
+  pub texts : Texts
+  pub there : AreThere told names texts
+  pub accepted : AreAccepted texts
+  pub part : IsPartPrinted (spelled_system texts) (spelled_steps texts) before after
+
+-- the run of accepted texts was printed, or what is outside failed or memory was refused
+abbrev pub IsRunEnd : Status → Type 0
+IsRunEnd status = (status ≡ Done) ⊎ ((status ≡ ReadFault) ⊎ ((status ≡ WriteFault) ⊎ (status ≡ NoMemory)))
+
+-- after each number of the steps the machine's history is legal
+abbrev pub StaysLegal : System → List Step → Type 0
+StaysLegal sys steps = (count : ℕ) (outcomes : List Outcome) (state : Machine)
+    → Run sys (first_state sys) (take count steps) outcomes state → IsLegal sys (events state.history)
+
+-- each output acknowledges its first stamps, in order and each once
+abbrev pub AcknowledgesInOrder : System → List Step → Type 0
+AcknowledgesInOrder sys steps = (outcomes : List Outcome) (last : Machine) → Run sys (first_state sys) steps outcomes last
+    → (o : ℕ) → stamps_acknowledged o outcomes ≡ first_stamps (bound_of last o)
+
+-- each acknowledgement of the steps shows the denotation
+abbrev pub ShowsDenotation : System → List Step → Type 0
+ShowsDenotation sys steps = (family : Family) → IsDenotation sys family
+    → (outcomes : List Outcome) (last : Machine) → Run sys (first_state sys) steps outcomes last → AllByRecursion (IsDenoted sys family) outcomes

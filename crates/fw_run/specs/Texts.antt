@@ -1,0 +1,100 @@
+-- What the three texts of a run spell, and which of them is refused.
+use Rattle.std.specs.Prelude.{◌⊎◌, ℕ, ◌≤◌, if◌then◌else◌, List, [], ◌∷◌, map, length, Option}
+use Rattle.std.specs.List.{flat_map}
+use Rattle.fw_bag.specs.declared.rec.Rec.{Rec}
+use Rattle.fw_outside.specs.Outside.{IsText}
+use Rattle.fw_lines.specs.declared.refusal.Refusal.{Refusal}
+use Rattle.fw_lines.specs.Faults.{IsSound}
+use Rattle.fw_lines.specs.Inputs.{line_fault, size_limit}
+use Rattle.fw_lines.specs.Inputs as inputs
+use Rattle.fw_lines.specs.Lines.{said_lines}
+use Rattle.fw_flow.specs.declared.step.Step.{Step}
+use Rattle.fw_flow.specs.Dataflow.{Dataflow, System, node_at, kind_of, is_input_kind}
+use Rattle.fw_flow.specs.Raw.{flow_of}
+use Rattle.fw_flow_text.specs.Grammar.{declared_by}
+use Rattle.fw_flow_text.specs.Grammar as flows
+use Rattle.fw_schedule.specs.Grammar.{steps_of}
+use Rattle.fw_schedule.specs.Grammar as schedules
+use Rattle.fw_model.specs.Machine.{places}
+use Rattle.fw_run.specs.Words.{Names}
+
+-- the three texts of a run
+pub record Texts : Type 0 where
+  pub flow : List ℕ
+  pub inputs : List ℕ
+  pub schedule : List ℕ
+
+-- the dataflow that a text declares
+abbrev pub spelled_flow : List ℕ → Dataflow
+spelled_flow text = flow_of (declared_by (said_lines text))
+
+-- the node at a place by its name, if it is an input
+abbrev pub source_at : Dataflow → ℕ → List (List ℕ × ℕ)
+source_at flow place = if is_input_kind (kind_of flow place) then ((node_at flow place).name, place) ∷ [] else []
+
+-- the inputs of a dataflow by their names, in order of the nodes
+abbrev pub sources_of : Dataflow → List (List ℕ × ℕ)
+sources_of flow = flat_map (source_at flow) (places flow)
+
+-- for each node of a dataflow the batches that a text gives it, by epoch
+abbrev pub spelled_batches : Dataflow → List ℕ → List (List (List Rec))
+spelled_batches flow text = map (inputs.batches_of (sources_of flow) (said_lines text)) (places flow)
+
+-- the dataflow with its batches
+abbrev pub spelled_system : Texts → System
+spelled_system texts = record { flow = spelled_flow texts.flow; batches = spelled_batches (spelled_flow texts.flow) texts.inputs }
+
+-- the steps of the schedule
+abbrev pub spelled_steps : Texts → List Step
+spelled_steps texts = steps_of (spelled_flow texts.flow) (said_lines texts.schedule)
+
+-- the text is that of a flow
+abbrev pub IsFlow : List ℕ → Type 0
+IsFlow text = flows.IsAccepted text (spelled_flow text)
+
+-- the text gives batches to inputs of the dataflow
+pub record AreInputsOf (flow : Dataflow) (text : List ℕ) : Type 0 where
+  pub size : length text ≤ size_limit
+  pub sound : IsSound (line_fault (sources_of flow)) (said_lines text)
+
+-- the text is a schedule of the dataflow
+abbrev pub IsScheduleOf : Dataflow → List ℕ → Type 0
+IsScheduleOf flow text = schedules.IsAccepted text flow (steps_of flow (said_lines text))
+
+-- the three texts are accepted: of a flow, its inputs and its schedule
+pub record AreAccepted (texts : Texts) : Type 0 where
+  pub first : IsFlow texts.flow
+  pub second : AreInputsOf (spelled_flow texts.flow) texts.inputs
+  pub third : IsScheduleOf (spelled_flow texts.flow) texts.schedule
+
+-- the folder has a text under the name, where it tells its texts, and this is true of it
+pub record HasText (told : Option (List ℕ → Option (List ℕ))) (name : List ℕ) (IsSo : List ℕ → Type 0) : Type 0 where
+  pub text : List ℕ
+  pub there : IsText told name text
+  pub so : IsSo text
+
+-- the folder has these texts under these names, where it tells its texts
+pub record AreThere (told : Option (List ℕ → Option (List ℕ))) (names : Names) (texts : Texts) : Type 0 where
+  pub first : IsText told names.flow texts.flow
+  pub second : IsText told names.inputs texts.inputs
+  pub third : IsText told names.schedule texts.schedule
+
+-- the text under the name is refused as a flow's
+abbrev pub IsFlowRefused : Option (List ℕ → Option (List ℕ)) → List ℕ → Refusal → Type 0
+IsFlowRefused told name refusal = HasText told name (λ text. flows.IsRefused text refusal)
+
+-- the text under the name is refused as one of inputs of the dataflow
+abbrev pub AreInputsRefused : Option (List ℕ → Option (List ℕ)) → List ℕ → Dataflow → Refusal → Type 0
+AreInputsRefused told name flow refusal = HasText told name (λ text. inputs.IsRefused text (sources_of flow) refusal)
+
+-- the text under the name is refused as a schedule of the dataflow
+abbrev pub IsScheduleRefused : Option (List ℕ → Option (List ℕ)) → List ℕ → Dataflow → Refusal → Type 0
+IsScheduleRefused told name flow refusal = HasText told name (λ text. schedules.IsRefused text flow refusal)
+
+-- Of the three texts, in this order, the first that is not accepted is refused so. A later text plays no part.
+abbrev pub IsFirstRefusal : Option (List ℕ → Option (List ℕ)) → Names → Refusal → Type 0
+IsFirstRefusal told names refusal =
+    IsFlowRefused told names.flow refusal
+    ⊎ ((flow : Dataflow) × HasText told names.flow (λ text. flows.IsAccepted text flow)
+    × (AreInputsRefused told names.inputs flow refusal
+    ⊎ (HasText told names.inputs (AreInputsOf flow) × IsScheduleRefused told names.schedule flow refusal)))

@@ -1,0 +1,189 @@
+//! The three texts are fetched and read, each before the next one is fetched.
+ghost use Rattle.std.specs.Prelude.{◌≡◌, ◌++◌, ◌^◌, ◌<◌, ◌≤◌, length, IsNone, IfOk, OnOk, IfErr, IsErrOf};
+ghost use Rattle.fw_outside.specs.Outside.{Rose, IsText};
+ghost use Rattle.fw_lines.specs.Inputs as inputs;
+ghost use Rattle.fw_lines.specs.Sources.{node_of};
+ghost use Rattle.fw_flow.specs.Dataflow.{node_at};
+ghost use Rattle.fw_flow_text.specs.Grammar as flows;
+ghost use Rattle.fw_schedule.specs.Grammar as schedules;
+ghost use Rattle.fw_run.specs.Reading.{IfRefused, IsTooLarge, IsJob, AreNamesDistinct};
+ghost use Rattle.fw_run.specs.Texts as spec;
+ghost use Rattle.fw_run.specs.Words.{names_in};
+ghost use Rattle.fw_run.specs.Texts.{HasText, IsFlowRefused, AreInputsRefused, IsScheduleRefused, IsFirstRefusal};
+
+use crate::words::RunWords;
+use fw_flow::{Flow, Kind, NodeId};
+use fw_flow_text::read_flow;
+use fw_lines::{Batches, Code, ReadFault, Refusal, SourceNames, read_batches};
+use fw_outside::{FetchFault, Folder};
+use fw_schedule::{Steps, read_schedule};
+use std::alloc::{AllocError, Global};
+
+/// The most bytes that a flow may have.
+const FLOW_LIMIT: usize = 1 << 20;
+
+/// The most bytes that inputs may have, and a schedule.
+const LINES_LIMIT: usize = 1 << 24;
+
+/// What the three texts spell.
+#[derive(Debug, Drop)]
+pub struct Job {
+    pub flow: Flow,
+    pub batches: Batches,
+    pub steps: Steps,
+}
+
+/// Why no run begins.
+#[derive(Clone, Copy, Debug, PartialEq, Eq)]
+pub enum JobFault {
+    /// The folder failed.
+    Failed,
+    /// A text is not accepted.
+    Refused(Refusal),
+    /// Memory was refused.
+    NoMemory,
+}
+
+impl From<AllocError> for JobFault {
+    ghost use Rattle.fw_run.specs.declared.reading.JobFault.TheVariants.{NoMemory};
+
+    ghost from_gives = { λ _ fault. fault ≡ NoMemory };
+
+    fn from(_error: AllocError) -> Self {
+        JobFault::NoMemory
+    }
+}
+
+impl From<ReadFault> for JobFault {
+    ghost use Rattle.fw_run.specs.Reading.{job_fault};
+
+    ghost from_gives = { λ read fault. fault ≡ job_fault read };
+
+    fn from(fault: ReadFault) -> Self {
+        match fault {
+            ReadFault::Refused(refusal) => JobFault::Refused(refusal),
+            ReadFault::NoMemory => JobFault::NoMemory,
+        }
+    }
+}
+
+/// Reads the three texts, each before the next one is fetched.
+pub(crate) fn read_job<F: Folder>(
+    alloc: Global,
+    words: &RunWords,
+    folder: &mut F,
+) -> Result<Job, JobFault>
+    ensures job { IfOk result (IsJob (F.texts folder.old) (names_in words.now)) }
+    ensures refused { IfErr result (IfRefused (IsFirstRefusal (F.texts folder.old) (names_in words.now))) }
+    ensures failed { IsErrOf result JobFault.Failed → Rose (F.fault_count folder.old) (F.fault_count folder.new) }
+{
+    let flow = fetch_flow(alloc, folder, words.flow)?;
+    let batches = fetch_inputs(alloc, folder, words.inputs, &flow)?;
+    let steps = fetch_schedule(alloc, folder, words.schedule, &flow)?;
+    Ok(Job {
+        flow,
+        batches,
+        steps,
+    })
+}
+
+// The flow of the text under a name.
+fn fetch_flow<F: Folder>(alloc: Global, folder: &mut F, name: &str) -> Result<Flow, JobFault>
+    ensures flow { IfOk result (λ flow. HasText (F.texts folder.old) name.now (λ text. flows.IsAccepted text flow)) }
+    ensures refused { IfErr result (IfRefused (IsFlowRefused (F.texts folder.old) name.now)) }
+    ensures failed { IsErrOf result JobFault.Failed → Rose (F.fault_count folder.old) (F.fault_count folder.new) }
+    ensures never_falls { F.fault_count folder.old ≤ F.fault_count folder.new }
+    ensures texts_stay { F.texts folder.new ≡ F.texts folder.old }
+{
+    let text = fetch(alloc, folder, name, FLOW_LIMIT, Code::F11)?;
+    Ok(read_flow(alloc, &text)?)
+}
+
+// The batches of the text under a name.
+fn fetch_inputs<F: Folder>(
+    alloc: Global,
+    folder: &mut F,
+    name: &str,
+    flow: &Flow,
+) -> Result<Batches, JobFault>
+    requires { AreNamesDistinct flow.now }
+    ensures batches { IfOk result (λ batches. HasText (F.texts folder.old) name.now
+        (λ text. inputs.IsAccepted text (spec.sources_of flow.now) batches)) }
+    ensures refused { IfErr result (IfRefused (AreInputsRefused (F.texts folder.old) name.now flow.now)) }
+    ensures failed { IsErrOf result JobFault.Failed → Rose (F.fault_count folder.old) (F.fault_count folder.new) }
+    ensures never_falls { F.fault_count folder.old ≤ F.fault_count folder.new }
+    ensures texts_stay { F.texts folder.new ≡ F.texts folder.old }
+{
+    let text = fetch(alloc, folder, name, LINES_LIMIT, Code::I5)?;
+    let sources = sources_of(alloc, flow)?;
+    Ok(read_batches(alloc, &text, &sources)?)
+}
+
+// The steps of the text under a name.
+fn fetch_schedule<F: Folder>(
+    alloc: Global,
+    folder: &mut F,
+    name: &str,
+    flow: &Flow,
+) -> Result<Steps, JobFault>
+    ensures steps { IfOk result (λ steps. HasText (F.texts folder.old) name.now
+        (λ text. schedules.IsAccepted text flow.now steps)) }
+    ensures refused { IfErr result (IfRefused (IsScheduleRefused (F.texts folder.old) name.now flow.now)) }
+    ensures failed { IsErrOf result JobFault.Failed → Rose (F.fault_count folder.old) (F.fault_count folder.new) }
+    ensures never_falls { F.fault_count folder.old ≤ F.fault_count folder.new }
+{
+    let text = fetch(alloc, folder, name, LINES_LIMIT, Code::S4)?;
+    Ok(read_schedule(alloc, &text, flow)?)
+}
+
+// The text under a name, of at most `limit` bytes; a longer one is refused as a whole by this rule.
+fn fetch<F: Folder>(
+    alloc: Global,
+    folder: &mut F,
+    name: &str,
+    limit: usize,
+    too_large: Code,
+) -> Result<Vec<u8>, JobFault>
+    requires { limit < 2 ^ 32 }
+    ensures text { IfOk result (λ text. IsText (F.texts folder.old) name.now text.items) }
+    ensures refused { IfErr result (IfRefused (IsTooLarge (F.texts folder.old) name.now limit too_large)) }
+    ensures failed { IsErrOf result JobFault.Failed → Rose (F.fault_count folder.old) (F.fault_count folder.new) }
+    ensures never_falls { F.fault_count folder.old ≤ F.fault_count folder.new }
+    ensures texts_stay { F.texts folder.new ≡ F.texts folder.old }
+{
+    let mut text = Vec::new(alloc);
+    match folder.fetch(name, limit, &mut text) {
+        Ok(()) => Ok(text),
+        Err(FetchFault::Failed) => Err(JobFault::Failed),
+        Err(FetchFault::TooLarge) => Err(JobFault::Refused(Refusal {
+            code: too_large,
+            line: 0,
+        })),
+        Err(FetchFault::NoMemory) => Err(JobFault::NoMemory),
+    }
+}
+
+// The inputs of a flow by their names.
+fn sources_of(alloc: Global, flow: &Flow) -> Result<SourceNames, AllocError>
+    requires { AreNamesDistinct flow.now }
+    ensures { IfOk result (λ sources. sources ≡ spec.sources_of flow.now) }
+{
+    let mut sources = SourceNames::new(alloc);
+    for place in 0..flow.nodes() as u32 {
+        add_source(&mut sources, flow, place)?;
+    }
+    Ok(sources)
+}
+
+// Adds the node at a place, if it is an input.
+fn add_source(sources: &mut SourceNames, flow: &Flow, place: u32) -> Result<(), AllocError>
+    requires there { place < length flow.now.nodes }
+    requires new { IsNone (node_of sources.old (node_at flow.now place).name) }
+    ensures { OnOk result (sources.new ≡ sources.old ++ spec.source_at flow.now place) }
+{
+    let node = NodeId::at(place);
+    if matches!(flow.kind(node), Kind::Input) {
+        sources.add(place, flow.node_name(node).as_bytes())?;
+    }
+    Ok(())
+}

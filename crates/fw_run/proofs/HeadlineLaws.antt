@@ -6,7 +6,6 @@ use Rattle.fw_lines.specs.declared.refusal.Refusal.{Refusal}
 use Rattle.fw_model.proofs.RecoveryLaws.{runs-legal, acknowledged-denoted}
 use Rattle.fw_model.proofs.RunLaws.{acknowledgements-in_order}
 use Rattle.fw_model.specs.Plain.{system_of}
-use Rattle.fw_run.proofs.KindLaws.{spelled-one_by_one}
 use Rattle.fw_run.proofs.TextLaws.{ready, well_formed_system, one_first_refusal, accepted_or_refused}
 use Rattle.fw_run.specs.declared.reading.Job.{Job}
 use Rattle.fw_run.specs.declared.status.Status.{Status}
@@ -79,7 +78,7 @@ texts-in_order texts outcomes last r = acknowledgements-in_order (spelled_system
 
 pub texts-denoted : (texts : Texts) → AreAccepted texts → ShowsDenotation (spelled_system texts) (spelled_steps texts)
 texts-denoted texts a family d outcomes last r =
-    acknowledged-denoted (spelled_system texts) family (well_formed_system texts a) (spelled-one_by_one texts.flow) d (spelled_steps texts) outcomes last r
+    acknowledged-denoted (spelled_system texts) family (well_formed_system texts a) d (spelled_steps texts) outcomes last r
 
 -- ---- once a status is told
 

@@ -1,12 +1,11 @@
 -- What the nodes of a flow that a text spells do and keep.
-use Rattle.std.proofs.Common.{◌≡◌, ℕ, zero, suc, Bool, true, false, ◌||◌, cond, List, [], ◌∷◌, Option, Some, None, option_map, IfSome, refl, get_or}
+use Rattle.std.proofs.Common.{◌≡◌, ℕ, zero, suc, Bool, true, false, cond, List, [], ◌∷◌, Option, Some, None, option_map, IfSome, refl, get_or}
 use Rattle.std.specs.List.{AllByRecursion, cons_option, flat_map}
 use Rattle.std.specs.Option.{option_and_then}
 use Rattle.std.specs.Str.{bytes_eq}
 use Rattle.std.specs.Prelude.{codes}
 use Rattle.fw_model.proofs.EachLaws.{each-append}
 use Rattle.fw_lines.specs.Lines.{Said, said_lines}
-use Rattle.fw_flow.specs.declared.kind.Kind.{Kind}
 use Rattle.fw_flow.specs.declared.kind.Policy.{Policy}
 use Rattle.fw_flow.specs.declared.kind.Policy.TheVariants as policy
 use Rattle.fw_flow.specs.declared.node.Node.{Node}
@@ -14,13 +13,13 @@ use Rattle.fw_flow.specs.declared.raw.Declaration.{Declaration}
 use Rattle.fw_flow.specs.declared.raw.Declaration.TheVariants.{Loop as ALoop, Node as ANode, Edge as AnEdge}
 use Rattle.fw_flow.specs.declared.raw.Declared.{Declared}
 use Rattle.fw_flow.specs.declared.raw.RawKind.{RawKind}
-use Rattle.fw_flow.specs.Dataflow.{kind_of, policy_of, idle_node, is_input_kind, is_output_kind}
+use Rattle.fw_flow.specs.Dataflow.{kind_of, policy_of, idle_node, is_notified_kind}
 use Rattle.fw_flow.specs.Raw.{node_in, loop_names, resolved_kind}
 use Rattle.fw_flow_text.specs.Forms.{policy_at_end, input_form, output_form, select_form, node_form, node_declaration, edge_declaration, declaration_of, name_of}
 use Rattle.fw_flow_text.specs.Forms as forms
 use Rattle.fw_flow_text.specs.Grammar.{declared_by}
 use Rattle.fw_flow_text.specs.Select.{condition_of, assignment_part}
-use Rattle.fw_model.specs.LawsOfDeliveries.{sends_one_by_one, IsOneByOne}
+use Rattle.fw_model.specs.LawsOfFiltering.{NotifiesNobody}
 use Rattle.fw_plain.specs.Engine.{KeepsNothing}
 use Rattle.fw_run.specs.Texts.{spelled_flow}
 
@@ -40,14 +39,10 @@ if_any (Some a) = tt
 
 -- ---- what a line declares
 
--- whether a node of the kind sends for each rec alone, or is an input or an output
-abbrev is_one_by_one : Kind → Bool
-is_one_by_one kind = is_input_kind kind || is_output_kind kind || sends_one_by_one kind
-
--- a node keeps nothing and is of such a kind, whatever the loops
+-- a node keeps nothing and waits for no notification, whatever the loops
 record IsPlainForm (kind : RawKind) (kept : Policy) : Type 0 where
   pub keeps_nothing : kept ≡ policy.None
-  pub one_by_one : (loops : List (List ℕ)) → is_one_by_one (resolved_kind loops kind) ≡ true
+  pub unnotified : (loops : List (List ℕ)) → is_notified_kind (resolved_kind loops kind) ≡ false
 
 abbrev IsPlainDeclaration : Declaration → Type 0
 IsPlainDeclaration (ALoop name max) = Unit {0}
@@ -65,13 +60,13 @@ plain_policy (a ∷ b ∷ c ∷ words) = tt
 
 plain_input : (words : List (List ℕ)) → IfSome (input_form words) (λ form. IsPlainForm form.kind form.policy)
 unfolding input_form
-plain_input [] = record { keeps_nothing = refl; one_by_one = λ loops. refl }
+plain_input [] = record { keeps_nothing = refl; unnotified = λ loops. refl }
 plain_input (word ∷ words) = tt
 
 plain_output : (words : List (List ℕ)) → IfSome (output_form words) (λ form. IsPlainForm form.kind form.policy)
 unfolding output_form
 plain_output [] = tt
-plain_output (word ∷ []) = if_either _ (bytes_eq word (codes "epoch")) _ None (record { keeps_nothing = refl; one_by_one = λ loops. refl }) tt
+plain_output (word ∷ []) = if_either _ (bytes_eq word (codes "epoch")) _ None (record { keeps_nothing = refl; unnotified = λ loops. refl }) tt
 plain_output (a ∷ b ∷ words) = tt
 
 plain_select : (words : List (List ℕ)) → IfSome (select_form words) (λ form. IsPlainForm form.kind form.policy)
@@ -83,7 +78,7 @@ plain_select (left ∷ between ∷ right ∷ rest) =
     if_next (λ c. Unit {0}) _ (condition_of left between right) _ (if_any (condition_of left between right)) (λ condition _.
     if_next (λ c. Unit {0}) _ (assignment_part rest) _ (if_any (assignment_part rest)) (λ assignment _.
     if_next (λ kept. kept ≡ policy.None) _ (policy_at_end assignment.2) _ (plain_policy assignment.2) (λ kept e.
-    record { keeps_nothing = e; one_by_one = λ loops. refl })))
+    record { keeps_nothing = e; unnotified = λ loops. refl })))
 
 plain_node : (kind : List ℕ) (words : List (List ℕ)) → IfSome (node_form kind words) (λ form. IsPlainForm form.kind form.policy)
 unfolding node_form
@@ -123,14 +118,14 @@ plain_line (first ∷ rest) =
 
 -- ---- the nodes of the flow
 
--- a node keeps nothing and is of such a kind
+-- a node keeps nothing and waits for no notification
 record IsPlainNode (node : Node) : Type 0 where
   pub keeps_nothing : node.policy ≡ policy.None
-  pub one_by_one : is_one_by_one node.kind ≡ true
+  pub unnotified : is_notified_kind node.kind ≡ false
 
 plain_in : (loops : List (List ℕ)) (line : ℕ) (d : Declaration) → IsPlainDeclaration d → AllByRecursion IsPlainNode (node_in loops (record { line = line; declaration = d }))
 plain_in loops line (ALoop name max) p = tt
-plain_in loops line (ANode name kind kept) p = (record { keeps_nothing = p.keeps_nothing; one_by_one = p.one_by_one loops }, tt)
+plain_in loops line (ANode name kind kept) p = (record { keeps_nothing = p.keeps_nothing; unnotified = p.unnotified loops }, tt)
 plain_in loops line (AnEdge name s r) p = tt
 
 plain_declared : (loops : List (List ℕ)) (line : ℕ) (found : Option (Declaration × Bool)) (raw : List Declared) → IfSome found IsPlainFound → AllByRecursion IsPlainNode (flat_map (node_in loops) raw)
@@ -143,7 +138,7 @@ plain_nodes loops [] = tt
 plain_nodes loops (line ∷ lines) = plain_declared loops line.number (declaration_of line.words) (declared_by lines) (plain_line line.words) (plain_nodes loops lines)
 
 plain_at : (nodes : List Node) (p : ℕ) → AllByRecursion IsPlainNode nodes → IsPlainNode (get_or nodes p idle_node)
-plain_at [] p a = record { keeps_nothing = refl; one_by_one = refl }
+plain_at [] p a = record { keeps_nothing = refl; unnotified = refl }
 plain_at (n ∷ nodes) zero a = a.0
 plain_at (n ∷ nodes) (suc p) a = plain_at nodes p a.1
 
@@ -152,7 +147,7 @@ pub spelled-keeps_nothing : (text : List ℕ) → KeepsNothing (spelled_flow tex
 unfolding policy_of
 spelled-keeps_nothing text p = (plain_at (spelled_flow text).nodes p (plain_nodes (loop_names (declared_by (said_lines text))) (said_lines text))).keeps_nothing
 
--- its nodes are inputs, outputs, or send for each rec alone
-pub spelled-one_by_one : (text : List ℕ) → IsOneByOne (spelled_flow text)
+-- no node of it is notified
+pub spelled-notifies_nobody : (text : List ℕ) → NotifiesNobody (spelled_flow text)
 unfolding kind_of
-spelled-one_by_one text p = (plain_at (spelled_flow text).nodes p (plain_nodes (loop_names (declared_by (said_lines text))) (said_lines text))).one_by_one
+spelled-notifies_nobody text p = (plain_at (spelled_flow text).nodes p (plain_nodes (loop_names (declared_by (said_lines text))) (said_lines text))).unnotified

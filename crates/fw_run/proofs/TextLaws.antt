@@ -28,7 +28,7 @@ use Rattle.fw_model.specs.Machine.{places}
 use Rattle.fw_model.specs.Plain.{system_of, batches_of_nodes}
 use Rattle.fw_plain.specs.Engine.{is_plain_step}
 use Rattle.fw_run.proofs.InputLaws.{each_batch, none_given, few_batches, at_place}
-use Rattle.fw_run.proofs.KindLaws.{spelled-keeps_nothing}
+use Rattle.fw_run.proofs.KindLaws.{spelled-keeps_nothing, spelled-notifies_nobody}
 use Rattle.fw_run.specs.declared.reading.Job.{Job}
 use Rattle.fw_run.specs.Reading.{IsReady, IsJob}
 use Rattle.fw_run.specs.Texts.{Texts, spelled_flow, sources_of, spelled_batches, spelled_system, spelled_steps, AreInputsOf, AreAccepted, HasText, AreThere, AreInputsRefused, IsScheduleRefused, IsFirstRefusal}
@@ -61,6 +61,7 @@ ready texts a =
     record {
       well_formed = a.first.checked.well_formed;
       keeps_nothing = spelled-keeps_nothing texts.flow;
+      notifies_nobody = spelled-notifies_nobody texts.flow;
       epochs = λ s. omega (arith, few_epochs texts a.second s);
       plain = each-weaker (IsStepOf flow) (λ step. is_plain_step step ≡ true) (spelled_steps texts) (plain_step flow) (steps_sound flow (said_lines texts.schedule));
     }

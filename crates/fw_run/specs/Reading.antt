@@ -12,6 +12,7 @@ use Rattle.fw_flow.specs.WellFormed.{IsWellFormed}
 use Rattle.fw_schedule.specs.Grammar.{node_named}
 use Rattle.fw_model.specs.LawsOfLegalHistories.{HasEpochs}
 use Rattle.fw_model.specs.Plain.{system_of}
+use Rattle.fw_model.specs.LawsOfFiltering.{NotifiesNobody}
 use Rattle.fw_plain.specs.Engine.{KeepsNothing, is_plain_step}
 use Rattle.fw_run.specs.declared.reading.JobFault.{JobFault}
 use Rattle.fw_run.specs.declared.reading.JobFault.TheVariants.{Failed, Refused, NoMemory}
@@ -50,5 +51,6 @@ pub record IsJob (told : Option (List ℕ → Option (List ℕ))) (names : Names
 pub record IsReady (sys : System) (steps : List Step) : Type 0 where
   pub well_formed : IsWellFormed sys.flow
   pub keeps_nothing : KeepsNothing sys.flow
+  pub notifies_nobody : NotifiesNobody sys.flow
   pub epochs : HasEpochs sys
   pub plain : AllByRecursion (λ step. is_plain_step step ≡ true) steps

@@ -1,7 +1,10 @@
 //! What happens in a run, and what is sent.
+ghost use Rattle.std.specs.Prelude.{◌≡◌, [], ◌∷◌, IfOk};
+
 use crate::{EdgeId, NodeId};
 use fw_bag::Rec;
 use fw_time::Stamp;
+use std::alloc::{AllocError, Global};
 use std::marker::Model;
 
 /// The stamps of the events that a message comes from. Contracts see their list.
@@ -16,6 +19,24 @@ impl Model for Causes {
     ghost Value = { List (List ℕ) };
 
     ghost view = { λ causes. causes.stamps.items };
+}
+
+impl Causes {
+    /// One cause alone. The error is want of memory.
+    pub fn of(alloc: Global, stamp: Stamp) -> Result<Self, AllocError>
+        ensures { IfOk result (λ causes. causes ≡ stamp ∷ []) }
+    {
+        let mut stamps = Vec::new(alloc);
+        stamps.push(stamp)?;
+        Ok(Causes { stamps })
+    }
+
+    /// The stamps.
+    pub fn stamps(&self) -> &[Stamp]
+        ensures { result.now ≡ self.now }
+    {
+        &self.stamps
+    }
 }
 
 /// A message on an edge.

@@ -20,6 +20,9 @@ pub mod FrontierLaws
 pub mod InputLaws
 pub mod LargestLaws
 pub mod KeptLaws
+pub mod EventSteps
+pub mod FrontierLaws
+pub mod LeastSteps
 pub mod LegalLaws
 pub mod ListedLaws
 pub mod LocalityLaws
@@ -38,6 +41,8 @@ pub mod RecoveryLaws
 pub mod RunLaws
 pub mod PsiBackLaws
 pub mod RewritingLaws
+pub mod RecSteps
+pub mod SendSteps
 pub mod SendingLaws
 pub mod SendsLaws
 pub mod SentLaws
@@ -51,4 +56,5 @@ pub mod SubBagLaws
 pub mod TimedCounts
 pub mod TimedLaws
 pub mod WeightLaws
+pub mod WaitingSteps
 pub mod WellFormedLaws

@@ -13,5 +13,8 @@ pub mod LawsOfRecoveries
 pub mod LawsOfRuns
 pub mod LawsOfSending
 pub mod LawsOfSteps
+pub mod Least
 pub mod Machine
+pub mod Plain
 pub mod Steps
+pub mod Wanted

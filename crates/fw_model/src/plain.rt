@@ -1,0 +1,17 @@
+//! Plain computations over a list of events: what is pending, what is next, what is complete. Each finds everything
+//! anew by going over the list, so that a call costs time in proportion to the events, and often to their square.
+//!
+//! The lists are in the order of the events, the oldest first.
+
+mod arrivals;
+mod complete;
+mod keyed;
+mod next;
+mod outputs;
+mod sending;
+mod waiting;
+
+pub use complete::complete_frontiers;
+pub use next::{next_batch, next_message, next_notice};
+pub use outputs::recs_at;
+pub use waiting::pending;

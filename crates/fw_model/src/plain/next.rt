@@ -1,0 +1,182 @@
+//! What may come next at an input, on an edge, at a node.
+ghost use Rattle.std.specs.Prelude.{◌≡◌, ℕ, length, reverse, if◌then◌else◌, MatchOption, IfOk};
+ghost use Rattle.std.specs.Option.{option_copied};
+ghost use Rattle.fw_time.specs.Stamp.{Stamp as Time};
+ghost use Rattle.fw_flow.specs.declared.event.Message.{Message as Sent};
+ghost use Rattle.fw_flow.specs.Dataflow.{is_input_kind, is_numbered};
+ghost use Rattle.fw_model.specs.History as history;
+ghost use Rattle.fw_model.specs.History.{IsNextBatch};
+ghost use Rattle.fw_model.specs.Least as least;
+ghost use Rattle.fw_model.specs.Least.{is_wanted_message, IsLeast, lesser_of};
+ghost use Rattle.fw_model.specs.LawsOfLegalHistories.{HasEpochs};
+ghost use Rattle.fw_model.specs.Steps.{IsNextMessage, IsNextNotice};
+ghost use Rattle.fw_model.specs.Plain.{system_of, AreAtNodes};
+
+use super::arrivals::{batches_of, is_same};
+use super::waiting::{compare, delivered_count, pending};
+use fw_flow::{Domain, EdgeId, Event, Flow, Kind, Message, NodeId};
+use fw_lines::Batches;
+use fw_time::Stamp;
+use std::alloc::{AllocError, Global};
+
+/// The next batch of an input, by its epoch, if there is one.
+pub fn next_batch(flow: &Flow, batches: &Batches, events: &[Event], source: NodeId) -> Option<u32>
+    requires { HasEpochs (system_of flow.now batches.now) }
+    ensures { let sys = system_of flow.now batches.now in
+        MatchOption result ((x : ℕ) → IsNextBatch sys (reverse events.now) source x → ⊥)
+        (λ x. IsNextBatch sys (reverse events.now) source x) }
+{
+    if !is_input(flow.kind(source)) {
+        return None;
+    }
+    let injected = injected_count(events, source);
+    if injected < batches_of(flow, batches, source).len() {
+        Some(injected as u32)
+    } else {
+        None
+    }
+}
+
+/// Whether a node of the kind is an input.
+fn is_input(kind: Kind) -> bool
+    ensures { result ≡ is_input_kind kind }
+{
+    matches!(kind, Kind::Input)
+}
+
+/// How many batches an input injected.
+#[tactic(auto, using(crate::proofs::EventSteps::injected_more))]
+pub(super) fn injected_count(events: &[Event], source: NodeId) -> usize
+    ensures { result ≡ history.injected_count source (reverse events.now) }
+{
+    let mut count: usize = 0;
+    for event in events {
+        if is_injection(event, source) {
+            count += 1;
+        }
+    }
+    count
+}
+
+/// Whether an event is an injection of the input.
+fn is_injection(event: &Event, source: NodeId) -> bool
+    ensures { result ≡ history.is_injection source event.now }
+{
+    match event {
+        Event::Inject { source: other, .. } => *other == source,
+        Event::Deliver { .. } | Event::Notify { .. } => false,
+    }
+}
+
+/// The next message on an edge, at the stamp if one is asked for, if there is one. The only error is want of memory.
+pub fn next_message(
+    alloc: Global,
+    flow: &Flow,
+    batches: &Batches,
+    events: &[Event],
+    edge: EdgeId,
+    at: Option<&Stamp>,
+) -> Result<Option<Message>, AllocError>
+    requires { AreAtNodes flow.now (reverse events.now) }
+    ensures { let sys = system_of flow.now batches.now in
+        let asked = option_copied at.entry in
+        IfOk result (λ next. MatchOption next
+        ((m : Sent) → IsNextMessage sys (reverse events.now) edge asked m → ⊥)
+        (λ m. IsNextMessage sys (reverse events.now) edge asked m)) }
+{
+    let messages = pending(alloc, flow, batches, events, edge)?;
+    let number = next_number(flow, events, edge);
+    Ok(least_wanted(messages, number, at))
+}
+
+/// The number at which the next message is delivered on an edge, if it is a numbered one.
+fn next_number(flow: &Flow, events: &[Event], edge: EdgeId) -> Option<usize>
+    ensures { result ≡ (if is_numbered flow.now edge
+        then Some (length (history.delivered (reverse events.now) edge)) else None) }
+{
+    match flow.domain_word(flow.dst(edge)) {
+        Domain::Number => Some(delivered_count(events, edge)),
+        Domain::Epoch | Domain::Loop(_) => None,
+    }
+}
+
+/// Whether the stamp is the number, if one is given.
+fn is_number(number: Option<usize>, t: &Stamp) -> bool
+    ensures { result ≡ least.is_number number t.now }
+{
+    match number {
+        None => true,
+        Some(number) => t.len() == 1 && t.at(0) as usize == number,
+    }
+}
+
+/// Whether the stamp is the one that is asked for, if one is.
+fn is_asked(at: Option<&Stamp>, t: &Stamp) -> bool
+    ensures { result ≡ least.is_asked (option_copied at.entry) t.now }
+{
+    match at {
+        None => true,
+        Some(at) => is_same(at, t),
+    }
+}
+
+/// Whether the message is at the number and at the stamp, if they are given.
+fn is_wanted(number: Option<usize>, at: Option<&Stamp>, message: &Message) -> bool
+    ensures { result ≡ is_wanted_message number (option_copied at.entry) message.now }
+{
+    is_number(number, &message.at) && is_asked(at, &message.at)
+}
+
+/// The least of these messages that is at the number and at the stamp, if they are given.
+fn least_wanted(
+    messages: Vec<Message>,
+    number: Option<usize>,
+    at: Option<&Stamp>,
+) -> Option<Message>
+    ensures { IsLeast (is_wanted_message number (option_copied at.entry)) messages.items result }
+{
+    let mut rest = messages;
+    let mut least = None;
+    while let Some(message) = rest.pop() {
+        if is_wanted(number, at, &message) {
+            least = Some(lesser(message, least));
+        }
+    }
+    least
+}
+
+/// The message, unless the other one comes before it.
+fn lesser(message: Message, other: Option<Message>) -> Message
+    ensures { result ≡ lesser_of message other }
+{
+    match other {
+        None => message,
+        Some(other) => {
+            if compare(&message, &other).is_le() {
+                message
+            } else {
+                other
+            }
+        }
+    }
+}
+
+/// The next stamp of which a node may be notified, the one that is asked for if one is, if there is one. The only error
+/// is want of memory.
+pub fn next_notice(
+    alloc: Global,
+    flow: &Flow,
+    batches: &Batches,
+    events: &[Event],
+    node: NodeId,
+    at: Option<&Stamp>,
+) -> Result<Option<Stamp>, AllocError>
+    requires { AreAtNodes flow.now (reverse events.now) }
+    ensures { let sys = system_of flow.now batches.now in
+        let asked = option_copied at.entry in
+        IfOk result (λ next. MatchOption next
+        ((t : Time) → IsNextNotice sys (reverse events.now) node asked t → ⊥)
+        (λ t. IsNextNotice sys (reverse events.now) node asked t)) }
+{
+    Err(AllocError)
+}

@@ -2,6 +2,7 @@ pub mod Capped
 pub mod Checks
 pub mod Drafts
 pub mod Ends
+pub mod EdgeLaws
 pub mod FlowLaws
 pub mod Flows
 pub mod Givers

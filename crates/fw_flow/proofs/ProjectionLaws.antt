@@ -19,9 +19,11 @@ use Rattle.fw_frontier.proofs.NamesLaws.{frontier-closed}
 use Rattle.fw_flow.specs.declared.kind.Kind.TheVariants.{Enter, Feedback, Leave, Sequence, Regroup}
 use Rattle.fw_flow.specs.declared.projection.Way.{Way}
 use Rattle.fw_flow.specs.declared.projection.Way.TheVariants.{First, Next, NextAfterFirst, Before, Outer, OuterOfFirst}
-use Rattle.fw_flow.specs.Projection.{number_of, each_counter, some_counter, phi_of_kind, psi_of_kind, psi_back_of_kind, table_count}
+use Rattle.fw_flow.specs.Projection.{sent_count, phi, IsSentTable, number_of, each_counter, some_counter, phi_of_kind, psi_of_kind, psi_back_of_kind, table_count}
 use Rattle.fw_flow.specs.ProjectedStamps.{JoinsDomains, IsNest, image, images, entered_outside, front_until}
-use Rattle.fw_flow.specs.Dataflow.{max_of, greatest_number}
+use Rattle.fw_flow.specs.declared.event.Event.{Event}
+use Rattle.fw_flow.specs.declared.kind.Kind.{Kind}
+use Rattle.fw_flow.specs.Dataflow.{System, kind_of, sender, max_of, greatest_number, out_domain_of_kind, greatest_of_kind, bounds_of_domain}
 
 le-from : (x y : ℕ) → nat_le x y ≡ true → x ≤ y
 le-from x y h = grind (arith, nat_tests)
@@ -709,18 +711,23 @@ counted-all f es i t l h e = by t h ∙ ap (λ us. min (t + table_count f us) (2
     by : (t : ℕ) → t ≤ 2 ^ 64 - 1 → t ≡ min (t + 0) (2 ^ 64 - 1)
     by t h = grind (arith, nat_tests)
 
--- the numbers sent, of a sequence that has not all inside
-pub phi-sequence_ok : (limit count small : ℕ) (s r : Bounds) (os g : Front) → JoinsDomains Sequence s r → IsCanonical s os → os ≡ front_until (Some limit) → small ≡ min count (2 ^ 64 - 1)
-    → Names r g (λ u. in_domain r u && nat_lt (number_of u) small) → Names r g (λ u. in_domain r u && phi_of_kind s.greatest Sequence count (frontier_of s os) u)
-phi-sequence_ok limit count small s r os g d h f k named =
-    let e = sequence-domains s r d in
-    let lost : frontier_of s os s.greatest ≡ false =
-    (λ j. frontier_of s (f j) (e.0 j)) ∙ below-limit s greatest_number limit greatest_number e.0 ∙ past greatest_number limit (limit-in s greatest_number limit os e.0 f h) in
-    names-numbers_by r greatest_number g (λ n. nat_lt n small) (phi_of_kind s.greatest Sequence count (frontier_of s os)) e.1 named
-    (λ u l. by (number_of u) count small l k ∙ ap (λ c. c || nat_lt (number_of u) count) (sym lost))
-  where
-    past : (g limit : ℕ) → limit ≤ g → (nat_le g g && nat_lt g limit) ≡ false
-    past g limit l = grind (arith, nat_tests)
+-- phi of a kind reads the count for a sequence alone
+phi_of_kind-counted : (greatest : Stamp) (kind : Kind) (m n : ℕ) (f : Frontier) (u : Stamp) → (kind ≡ Sequence → m ≡ n) → phi_of_kind greatest kind m f u ≡ phi_of_kind greatest kind n f u
+phi_of_kind-counted greatest (Enter l) m n f u h = refl
+phi_of_kind-counted greatest (Feedback l) m n f u h = refl
+phi_of_kind-counted greatest (Leave l) m n f u h = refl
+phi_of_kind-counted greatest Sequence m n f u h = ap (λ c. f greatest || nat_lt (number_of u) c) (h refl)
+phi_of_kind-counted greatest (Regroup r) m n f u h = refl
+phi_of_kind-counted greatest kind m n f u h = refl
 
-    by : (n count small : ℕ) → n ≤ greatest_number → small ≡ min count (2 ^ 64 - 1) → nat_lt n small ≡ nat_lt n count
-    by n count small l k = grind (arith, nat_tests)
+-- phi of an edge, by the table of its sender, which only a sequence needs
+pub phi-by_table : (sys : System) (h : List Event) (e : ℕ) (f : Frontier) (table : List (ℕ × ℕ))
+    → (kind_of sys.flow (sender sys.flow e) ≡ Sequence → IsSentTable sys h (sender sys.flow e) table)
+    → (u : Stamp) → phi sys h e f u
+    ≡ (in_domain (bounds_of_domain sys.flow (out_domain_of_kind sys.flow (kind_of sys.flow (sender sys.flow e)))) u
+    && phi_of_kind (greatest_of_kind sys.flow (kind_of sys.flow (sender sys.flow e))) (kind_of sys.flow (sender sys.flow e)) (table_count f table) f u)
+unfolding phi
+phi-by_table sys h e f table is u =
+    let kind = kind_of sys.flow (sender sys.flow e) in
+    ap (λ c. in_domain (bounds_of_domain sys.flow (out_domain_of_kind sys.flow kind)) u && c)
+    (phi_of_kind-counted (greatest_of_kind sys.flow kind) kind (sent_count sys h (sender sys.flow e) f) (table_count f table) f u (λ k. sym (is k f)))

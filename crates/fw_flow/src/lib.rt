@@ -11,7 +11,6 @@ mod kind;
 pub mod laws;
 mod name;
 mod node;
-mod parts;
 mod projection;
 mod raw;
 mod step;

@@ -5,12 +5,13 @@ ghost use Rattle.fw_time.specs.declared.stamp.Bounds.{Bounds as Domain};
 ghost use Rattle.fw_time.specs.Stamp.{in_domain};
 ghost use Rattle.fw_time.specs.Sending.{fed_back};
 ghost use Rattle.fw_frontier.specs.Front.{frontier_of, IsCanonical, Names};
-ghost use Rattle.fw_flow.specs.Dataflow.{greatest_number};
-ghost use Rattle.fw_flow.specs.Projection.{number_of, phi_of_kind, psi_of_kind, psi_back_of_kind, table_count};
+ghost use Rattle.fw_flow.specs.declared.event.Event.{Event};
+ghost use Rattle.fw_flow.specs.Dataflow.{System, greatest_number, kind_of, sender, receiver, bounds_of};
+ghost use Rattle.fw_flow.specs.Projection.{number_of, phi, psi, psi_back, phi_of_kind, psi_of_kind, psi_back_of_kind, table_count, IsSentTable};
 ghost use Rattle.fw_flow.specs.ProjectedStamps.{IsNest, image, images, entered_outside, front_until, JoinsDomains};
-ghost use Rattle.fw_flow.specs.WellFormed.{IsGroupSize};
+ghost use Rattle.fw_flow.specs.WellFormed.{IsWellFormed, IsGroupSize};
 
-use crate::Kind;
+use crate::{EdgeId, Flow, Kind};
 use fw_frontier::Front;
 use fw_time::{Bounds, Stamp};
 use std::alloc::{AllocError, Global};
@@ -71,6 +72,68 @@ fn has_epoch(f: &Front, epoch: u32) -> bool
         → result ≡ frontier_of bounds f.now (epoch ∷ []) }
 {
     f.contains(&Stamp::new(&[epoch]))
+}
+
+impl Flow {
+    /// If the sender of the edge keeps its events in `f`, each message on the edge at a stamp inside the answer comes from
+    /// one of them. Only for a sequence it reads `sent`, what the sequence sent so far. The only error is want of memory.
+    pub fn phi(
+        &self,
+        alloc: Global,
+        edge: EdgeId,
+        f: &Front,
+        sent: &SentTable,
+    ) -> Result<Front, AllocError>
+        requires { IsCanonical (bounds_of self.now (sender self.now edge)) f.now }
+        ensures { (sys : System) (h : List Event) → sys.flow ≡ self.now
+            → (kind_of self.now (sender self.now edge) ≡ Kind.Sequence → IsSentTable sys h (sender self.now edge) sent.now)
+            → IfOk result (λ g. Names (bounds_of self.now (receiver self.now edge)) g
+            (phi sys h edge (frontier_of (bounds_of self.now (sender self.now edge)) f.now))) }
+    {
+        let (kind, sender, receiver) = self.ends(edge);
+        phi(alloc, kind, f, sent, &sender, &receiver)
+    }
+
+    /// The cover of the stamps at which an event of the sender of the edge inside `f` can send on it, where the sender is of
+    /// a kind that may keep nothing; else the answer has no use. The only error is want of memory.
+    pub fn psi(&self, alloc: Global, edge: EdgeId, f: &Front) -> Result<Front, AllocError>
+        requires { IsCanonical (bounds_of self.now (sender self.now edge)) f.now }
+        ensures { (sys : System) → sys.flow ≡ self.now
+            → IfOk result (λ g. Names (bounds_of self.now (receiver self.now edge)) g
+            (psi sys edge (frontier_of (bounds_of self.now (sender self.now edge)) f.now))) }
+    {
+        let (kind, sender, receiver) = self.ends(edge);
+        psi(alloc, kind, f, &sender, &receiver)
+    }
+
+    /// The largest frontier of the sender of the edge from which it sends inside `g` alone, where the sender is of a kind that
+    /// may keep nothing; else the answer has no use. The only error is want of memory.
+    pub fn psi_back(&self, alloc: Global, edge: EdgeId, g: &Front) -> Result<Front, AllocError>
+        requires { IsCanonical (bounds_of self.now (receiver self.now edge)) g.now }
+        ensures { (sys : System) → sys.flow ≡ self.now
+            → IfOk result (λ f. Names (bounds_of self.now (sender self.now edge)) f
+            (psi_back sys edge (frontier_of (bounds_of self.now (receiver self.now edge)) g.now))) }
+    {
+        let (kind, sender, receiver) = self.ends(edge);
+        psi_back(alloc, kind, g, &sender, &receiver)
+    }
+
+    /// The kind of an edge's sender, and the bounds of the sender's domain and of the receiver's.
+    fn ends(&self, edge: EdgeId) -> (Kind, Bounds, Bounds)
+        ensures kind { result.0 ≡ kind_of self.now (sender self.now edge) }
+        ensures sender { result.1 ≡ bounds_of self.now (sender self.now edge) }
+        ensures receiver { result.2 ≡ bounds_of self.now (receiver self.now edge) }
+        ensures well_formed { IsWellFormed self.now }
+    {
+        // Where a field is read, the flow is known to be well formed.
+        let _ = &self.edges;
+        let src = self.src(edge);
+        (
+            self.kind(src),
+            self.domain(src),
+            self.domain(self.dst(edge)),
+        )
+    }
 }
 
 /// Where an outside stamp goes, when a frontier is taken into a loop, out of it, or to its next counter.
@@ -198,9 +261,9 @@ fn limit(f: &Front, bounds: &Bounds) -> Option<u32>
     }
 }
 
-/// What of the messages of a node of the kind comes from its events inside `f`: the least frontier of the node's out domain
-/// whose messages may come from other events is not in it. `sender` and `receiver` are the bounds of the node's domain and
-/// out domain. Only a sequence reads `sent`, what it sent so far. The only error is want of memory.
+/// If a node of the kind keeps its events in `f`, each of its messages at a stamp inside the answer comes from one of them.
+/// `sender` and `receiver` are the bounds of the node's domain and out domain. Only a sequence reads `sent`, what it sent so
+/// far. The only error is want of memory.
 pub(crate) fn phi(
     alloc: Global,
     kind: Kind,

@@ -36,6 +36,7 @@ pub mod OutputLaws
 pub mod PendingKeptLaws
 pub mod PendingLaws
 pub mod PhiLaws
+pub mod PsiBackLaws
 pub mod PsiLaws
 pub mod RecoveryLaws
 pub mod RunLaws
@@ -53,6 +54,7 @@ pub mod StampLaws
 pub mod StampLists
 pub mod StampMeasures
 pub mod SubBagLaws
+pub mod TableLaws
 pub mod TimedCounts
 pub mod TimedLaws
 pub mod WeightLaws

@@ -48,7 +48,7 @@ numbered-each n cause (r ∷ rs) =
     ))
     (λ e. tt)
 
-one_inside : (f : Frontier) (t : Stamp) (m : Message) (b : Bool) → f t ≡ b → m.causes ≡ t ∷ [] → all_inside f m.causes ≡ b
+pub one_inside : (f : Frontier) (t : Stamp) (m : Message) (b : Bool) → f t ≡ b → m.causes ≡ t ∷ [] → all_inside f m.causes ≡ b
 one_inside f t m true k e = ap (all_inside f) e ∙ and_from (f t) true k refl
 one_inside f t m false k e = ap (all_inside f) e ∙ and_left (f t) true k
 

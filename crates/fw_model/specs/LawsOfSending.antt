@@ -1,5 +1,5 @@
 -- Laws of sending: at which stamps events send, and from which events the messages inside a projection come.
-use Rattle.std.specs.Prelude.{◌≡◌, ◌↔◌, ◌⊎◌, ℕ, ◌<◌, ◌≤◌, true, false, List, [], ◌∷◌, length, Option, Some}
+use Rattle.std.specs.Prelude.{◌≡◌, ◌↔◌, ◌⊎◌, ℕ, ◌<◌, ◌≤◌, Bool, true, false, ◌==◌, List, [], ◌∷◌, ◌++◌, length, Option, Some}
 use Rattle.std.specs.List.{AllByRecursion}
 use Rattle.fw_time.specs.Stamp.{Stamp, leq, in_domain}
 use Rattle.fw_time.specs.declared.stamp.Bounds.{Bounds}
@@ -11,7 +11,7 @@ use Rattle.fw_flow.specs.declared.kind.Kind.{Kind}
 use Rattle.fw_flow.specs.declared.kind.Kind.TheVariants.{OutputEpoch, OutputNumber, Feedback, Sequence, Regroup}
 use Rattle.fw_flow.specs.Dataflow.{System, Dataflow, kind_of, sender, max_of, bounds_of, send_stamp}
 use Rattle.fw_flow.specs.NodeFunction.{stamp, sends}
-use Rattle.fw_flow.specs.Projection.{events_at, all_inside, phi, psi, psi_back}
+use Rattle.fw_flow.specs.Projection.{events_at, all_inside, IsSentTable, phi, psi, psi_back}
 use Rattle.fw_flow.specs.WellFormed.{IsWellFormed}
 use Rattle.fw_model.specs.History.{sent, injected_count}
 use Rattle.fw_model.specs.LawsOfProjections.{bounds_of_edge, IsSenderFrontier, is_sequence_kind}
@@ -138,3 +138,23 @@ InsidePhiOfSequenceComesFromInside = (sys : System) (h : List Event) (e : ℕ) (
     → kind_of sys.flow (sender sys.flow e) ≡ Sequence → IsSenderFrontier sys.flow e f
     → AreEventsInDomain sys.flow h (sender sys.flow e) → IsNotifiedInOrder sys.flow h (sender sys.flow e)
     → ComesFromInside sys h e f
+
+-- whether the event is a notification of the node
+abbrev pub is_notification_of : ℕ → Event → Bool
+is_notification_of p (Inject s x) = false
+is_notification_of p (Deliver e m) = false
+is_notification_of p (Notify q t) = q == p
+
+-- the table of what a node sent begins empty, takes each notification of an epoch with how many messages it made the
+-- node send, and stays at each other event
+pub record FollowsHistory (sys : System) (p : ℕ) : Type 0 where
+  pub begins : IsSentTable sys [] p []
+  pub grows : (h : List Event) (table : List (ℕ × ℕ)) (x : ℕ) → IsSentTable sys h p table
+      → IsSentTable sys (Notify p (x ∷ []) ∷ h) p
+      (table ++ (x, length (sends sys p (events_at sys.flow p h) (Notify p (x ∷ [])))) ∷ [])
+  pub stays : (h : List Event) (table : List (ℕ × ℕ)) (v : Event) → is_notification_of p v ≡ false
+      → IsSentTable sys h p table → IsSentTable sys (v ∷ h) p table
+
+-- the table of what a sequence sent follows the history
+abbrev pub SentTableFollowsHistory : Type 0
+SentTableFollowsHistory = (sys : System) (p : ℕ) → kind_of sys.flow p ≡ Sequence → FollowsHistory sys p

@@ -10,6 +10,7 @@ ghost use Rattle.fw_model.specs.LawsOfProjections.{PhiGrowsWithHistory, PhiIgnor
 ghost use Rattle.fw_model.specs.LawsOfRecoveries.{AcknowledgementsShowDenotationThroughRecoveries, CandidatesLieWithinSettled, DenotedIsFull, RunsStayLegalThroughRecoveries, SettledStaysDenoted, StepsKeepHistoriesLegal};
 ghost use Rattle.fw_model.specs.LawsOfRuns.{AcknowledgementsAreInOrder, AcknowledgementsShowDenotation, RunsStayLegal};
 ghost use Rattle.fw_model.specs.LawsOfSending.{InsidePhiComesFromInside, InsidePhiOfSequenceComesFromInside, PhiBySendStamps, PsiBackBySendStamps, PsiBackIsLargest, PsiBySendStamps, SendStampIsMonotone, SendersOfWellFormed, SendsAreInsidePsi, SendsAtSendStamp, SentFromInsideIsInsidePsi};
+ghost use Rattle.fw_model.specs.LawsOfSending.{InsidePhiComesFromInside, InsidePhiOfSequenceComesFromInside, PhiBySendStamps, PsiBySendStamps, PsiBackBySendStamps, PsiBackIsLargest, SendStampIsMonotone, SendersOfWellFormed, SendsAreInsidePsi, SendsAtSendStamp, SentFromInsideIsInsidePsi, SentTableFollowsHistory};
 ghost use Rattle.fw_model.specs.LawsOfSteps.{ExactlyOneNextState, OneNextState, SomeNextState};
 
 // The laws of times and of frontiers, each over every type of times, and that of dataflows.
@@ -58,6 +59,11 @@ pub fn psi_back_by_send_stamps()
 /// Psi backwards is the largest frontier of the sender whose psi lies within the given one.
 pub fn psi_back_is_largest()
     ensures { PsiBackIsLargest }
+{}
+
+/// The table of what a sequence sent, by epoch, begins empty, takes each notification, and stays at each other event.
+pub fn sent_table_follows_history()
+    ensures { SentTableFollowsHistory }
 {}
 
 /// Psi is monotone: what is inside a larger frontier can send at more stamps.

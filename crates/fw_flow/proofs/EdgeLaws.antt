@@ -1,0 +1,129 @@
+-- What an edge of a well-formed dataflow joins, and its projections by the kind of its sender.
+use Rattle.std.proofs.Common.{◌≡◌, ℕ, ◌≤◌, ◌<◌, Bool, true, false, ◌&&◌, nat_lt, List, [], length, refl, sym, ap, subst, ◌∙◌, arith}
+use Rattle.std.proofs.lemmas.Bool.Decides.{nat_tests}
+use Rattle.std.proofs.lemmas.List.{get_or_past}
+use Rattle.fw_time.specs.Stamp.{in_domain}
+use Rattle.fw_frontier.specs.Front.{Front, frontier_of, Names}
+use Rattle.fw_frontier.proofs.BelowLaws.{names-as}
+use Rattle.fw_flow.specs.declared.event.Event.{Event}
+use Rattle.fw_flow.specs.declared.kind.Kind.TheVariants.{OutputEpoch, Sequence}
+use Rattle.fw_flow.specs.Dataflow.{System, Dataflow, idle_node, kind_of, sender, receiver, domain_of, domain_of_kind, out_domain_of, out_domain_of_kind, greatest_of_kind, bounds_of, bounds_of_domain}
+use Rattle.fw_flow.specs.WellFormed.{IsWellFormed, IsGroupSize}
+use Rattle.fw_flow.specs.Projection.{phi_of_kind, psi_of_kind, psi_back_of_kind, phi, psi, psi_back, table_count, IsSentTable}
+use Rattle.fw_flow.specs.ProjectedStamps.{JoinsDomains}
+use Rattle.fw_flow.proofs.ProjectionLaws.{phi-by_table}
+
+-- past the last node stand idle outputs
+kind-past : (flow : Dataflow) (p : ℕ) → length flow.nodes ≤ p → kind_of flow p ≡ OutputEpoch
+unfolding kind_of
+kind-past flow p h = ap (λ node. node.kind) (get_or_past flow.nodes p idle_node h)
+
+-- by whether a place is among so many
+by_place : (P : Type 0) (i n : ℕ) → (i < n → P) → (n ≤ i → P) → P
+by_place P i n f g = by (nat_lt i n) refl
+  where
+    less : nat_lt i n ≡ true → i < n
+    less e = grind (arith, nat_tests)
+
+    past : nat_lt i n ≡ false → n ≤ i
+    past e = grind (arith, nat_tests)
+
+    by : (b : Bool) → nat_lt i n ≡ b → P
+    by true e = f (less e)
+    by false e = g (past e)
+
+-- a node regroups by so many numbers as it may
+pub group-size : (flow : Dataflow) → IsWellFormed flow → (p : ℕ) → IsGroupSize (kind_of flow p)
+group-size flow w p = by_place (IsGroupSize (kind_of flow p)) p (length flow.nodes) (w.limits.groups p) (λ h. subst IsGroupSize (sym (kind-past flow p h)) tt)
+
+-- past the last edge stand edges between idle outputs
+ends-past : (flow : Dataflow) (e : ℕ) → length flow.edges ≤ e → (sender flow e ≡ length flow.nodes) × (receiver flow e ≡ length flow.nodes)
+unfolding sender receiver
+ends-past flow e h =
+    let same = get_or_past flow.edges e (record { name = []; sender = length flow.nodes; receiver = length flow.nodes }) h in
+    (ap (λ edge. edge.sender) same, ap (λ edge. edge.receiver) same)
+
+-- an edge joins equal domains
+edge-domains : (flow : Dataflow) → IsWellFormed flow → (e : ℕ) → out_domain_of flow (sender flow e) ≡ domain_of flow (receiver flow e)
+edge-domains flow w e = by_place (out_domain_of flow (sender flow e) ≡ domain_of flow (receiver flow e)) e (length flow.edges) (w.domains e) past
+  where
+    past : length flow.edges ≤ e → out_domain_of flow (sender flow e) ≡ domain_of flow (receiver flow e)
+    past h =
+        let ends = ends-past flow e h in
+        ap (out_domain_of_kind flow) (ap (kind_of flow) ends.0 ∙ kind-past flow (length flow.nodes) (omega arith))
+        ∙ sym (ap (domain_of_kind flow) (ap (kind_of flow) ends.1 ∙ kind-past flow (length flow.nodes) (omega arith)))
+
+pub edge-joins : (flow : Dataflow) → IsWellFormed flow → (e : ℕ) → JoinsDomains (kind_of flow (sender flow e)) (bounds_of flow (sender flow e)) (bounds_of flow (receiver flow e))
+unfolding bounds_of
+edge-joins flow w e = (flow, refl, ap (bounds_of_domain flow) (sym (edge-domains flow w e)))
+
+-- the same of a dataflow that is another
+of_flow : (P : Dataflow → Type 0) (flow other : Dataflow) → other ≡ flow → P other → P flow
+of_flow P flow other e h = subst P e h
+
+pub phi-named : (flow : Dataflow) → IsWellFormed flow → (e : ℕ) (os g : Front) (table : List (ℕ × ℕ)) (sys : System) (h : List Event) → sys.flow ≡ flow
+    → (kind_of flow (sender flow e) ≡ Sequence → IsSentTable sys h (sender flow e) table)
+    → Names (bounds_of flow (receiver flow e)) g (λ u. in_domain (bounds_of flow (receiver flow e)) u
+    && phi_of_kind (bounds_of flow (sender flow e)).greatest (kind_of flow (sender flow e)) (table_count (frontier_of (bounds_of flow (sender flow e)) os) table) (frontier_of (bounds_of flow (sender flow e)) os) u)
+    → Names (bounds_of flow (receiver flow e)) g (phi sys h e (frontier_of (bounds_of flow (sender flow e)) os))
+unfolding bounds_of
+phi-named flow w e os g table sys h same =
+    let P : Dataflow → Type 0 = λ flow. IsWellFormed flow → (kind_of flow (sender flow e) ≡ Sequence → IsSentTable sys h (sender flow e) table)
+    → Names (bounds_of flow (receiver flow e)) g (λ u. in_domain (bounds_of flow (receiver flow e)) u
+    && phi_of_kind (bounds_of flow (sender flow e)).greatest (kind_of flow (sender flow e)) (table_count (frontier_of (bounds_of flow (sender flow e)) os) table) (frontier_of (bounds_of flow (sender flow e)) os) u)
+    → Names (bounds_of flow (receiver flow e)) g (phi sys h e (frontier_of (bounds_of flow (sender flow e)) os)) in
+    of_flow P flow sys.flow same here w
+  where
+    here : IsWellFormed sys.flow → (kind_of sys.flow (sender sys.flow e) ≡ Sequence → IsSentTable sys h (sender sys.flow e) table)
+        → Names (bounds_of sys.flow (receiver sys.flow e)) g (λ u. in_domain (bounds_of sys.flow (receiver sys.flow e)) u
+        && phi_of_kind (bounds_of sys.flow (sender sys.flow e)).greatest (kind_of sys.flow (sender sys.flow e)) (table_count (frontier_of (bounds_of sys.flow (sender sys.flow e)) os) table) (frontier_of (bounds_of sys.flow (sender sys.flow e)) os) u)
+        → Names (bounds_of sys.flow (receiver sys.flow e)) g (phi sys h e (frontier_of (bounds_of sys.flow (sender sys.flow e)) os))
+    here w is n =
+        let f = frontier_of (bounds_of sys.flow (sender sys.flow e)) os in
+        let kind = kind_of sys.flow (sender sys.flow e) in
+        names-as (bounds_of sys.flow (receiver sys.flow e)) g
+        (λ u. in_domain (bounds_of sys.flow (receiver sys.flow e)) u && phi_of_kind (bounds_of sys.flow (sender sys.flow e)).greatest kind (table_count f table) f u)
+        (phi sys h e f) n
+        (λ u. ap (λ d. in_domain (bounds_of_domain sys.flow d) u && phi_of_kind (greatest_of_kind sys.flow kind) kind (table_count f table) f u) (sym (edge-domains sys.flow w e))
+        ∙ sym (phi-by_table sys h e f table is u))
+
+pub psi-named : (flow : Dataflow) → IsWellFormed flow → (e : ℕ) (os g : Front) (sys : System) → sys.flow ≡ flow
+    → Names (bounds_of flow (receiver flow e)) g (λ u. in_domain (bounds_of flow (receiver flow e)) u
+    && psi_of_kind (bounds_of flow (sender flow e)).greatest (kind_of flow (sender flow e)) (frontier_of (bounds_of flow (sender flow e)) os) u)
+    → Names (bounds_of flow (receiver flow e)) g (psi sys e (frontier_of (bounds_of flow (sender flow e)) os))
+unfolding bounds_of psi
+psi-named flow w e os g sys same =
+    let P : Dataflow → Type 0 = λ flow. IsWellFormed flow
+    → Names (bounds_of flow (receiver flow e)) g (λ u. in_domain (bounds_of flow (receiver flow e)) u
+    && psi_of_kind (bounds_of flow (sender flow e)).greatest (kind_of flow (sender flow e)) (frontier_of (bounds_of flow (sender flow e)) os) u)
+    → Names (bounds_of flow (receiver flow e)) g (psi sys e (frontier_of (bounds_of flow (sender flow e)) os)) in
+    of_flow P flow sys.flow same here w
+  where
+    here : IsWellFormed sys.flow
+        → Names (bounds_of sys.flow (receiver sys.flow e)) g (λ u. in_domain (bounds_of sys.flow (receiver sys.flow e)) u
+        && psi_of_kind (bounds_of sys.flow (sender sys.flow e)).greatest (kind_of sys.flow (sender sys.flow e)) (frontier_of (bounds_of sys.flow (sender sys.flow e)) os) u)
+        → Names (bounds_of sys.flow (receiver sys.flow e)) g (psi sys e (frontier_of (bounds_of sys.flow (sender sys.flow e)) os))
+    here w n =
+        let f = frontier_of (bounds_of sys.flow (sender sys.flow e)) os in
+        let kind = kind_of sys.flow (sender sys.flow e) in
+        names-as (bounds_of sys.flow (receiver sys.flow e)) g
+        (λ u. in_domain (bounds_of sys.flow (receiver sys.flow e)) u && psi_of_kind (bounds_of sys.flow (sender sys.flow e)).greatest kind f u)
+        (psi sys e f) n
+        (λ u. ap (λ d. in_domain (bounds_of_domain sys.flow d) u && psi_of_kind (greatest_of_kind sys.flow kind) kind f u) (sym (edge-domains sys.flow w e)))
+
+pub psi_back-named : (flow : Dataflow) (e : ℕ) (os g : Front) (sys : System) → sys.flow ≡ flow
+    → Names (bounds_of flow (sender flow e)) g (λ t. in_domain (bounds_of flow (sender flow e)) t
+    && psi_back_of_kind (bounds_of flow (sender flow e)).greatest (kind_of flow (sender flow e)) (frontier_of (bounds_of flow (receiver flow e)) os) t)
+    → Names (bounds_of flow (sender flow e)) g (psi_back sys e (frontier_of (bounds_of flow (receiver flow e)) os))
+unfolding bounds_of psi_back
+psi_back-named flow e os g sys same =
+    let P : Dataflow → Type 0 = λ flow.
+    Names (bounds_of flow (sender flow e)) g (λ t. in_domain (bounds_of flow (sender flow e)) t
+    && psi_back_of_kind (bounds_of flow (sender flow e)).greatest (kind_of flow (sender flow e)) (frontier_of (bounds_of flow (receiver flow e)) os) t)
+    → Names (bounds_of flow (sender flow e)) g (psi_back sys e (frontier_of (bounds_of flow (receiver flow e)) os)) in
+    of_flow P flow sys.flow same here
+  where
+    here : Names (bounds_of sys.flow (sender sys.flow e)) g (λ t. in_domain (bounds_of sys.flow (sender sys.flow e)) t
+        && psi_back_of_kind (bounds_of sys.flow (sender sys.flow e)).greatest (kind_of sys.flow (sender sys.flow e)) (frontier_of (bounds_of sys.flow (receiver sys.flow e)) os) t)
+        → Names (bounds_of sys.flow (sender sys.flow e)) g (psi_back sys e (frontier_of (bounds_of sys.flow (receiver sys.flow e)) os))
+    here n = n

@@ -11,6 +11,7 @@ mod kind;
 pub mod laws;
 mod name;
 mod node;
+mod parts;
 mod projection;
 mod raw;
 mod step;

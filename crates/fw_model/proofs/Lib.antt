@@ -21,7 +21,6 @@ pub mod InputLaws
 pub mod LargestLaws
 pub mod KeptLaws
 pub mod EventSteps
-pub mod FrontierLaws
 pub mod LeastSteps
 pub mod LegalLaws
 pub mod ListedLaws
@@ -40,7 +39,6 @@ pub mod PsiBackLaws
 pub mod PsiLaws
 pub mod RecoveryLaws
 pub mod RunLaws
-pub mod PsiBackLaws
 pub mod RewritingLaws
 pub mod RecSteps
 pub mod SendSteps

@@ -1,6 +1,7 @@
 pub mod ArrivalLaws
 pub mod CheckpointLaws
 pub mod ChoiceLaws
+pub mod ClearSteps
 pub mod ClosedLaws
 pub mod CmpLaws
 pub mod CompleteLaws

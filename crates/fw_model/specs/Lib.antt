@@ -1,4 +1,5 @@
 pub mod Choice
+pub mod Clear
 pub mod Denotation
 pub mod History
 pub mod LawsOfChoices

@@ -76,7 +76,13 @@ fn recs_on_delivery(
         Kind::Ledger => {
             let earlier = delivered_to(alloc, flow, node, before, &Wanted::All)?;
             let value = rec.value.wrapping_add(value_sum(rec.key, &earlier));
-            alone(alloc, Some(Rec { key: rec.key, value }))
+            alone(
+                alloc,
+                Some(Rec {
+                    key: rec.key,
+                    value,
+                }),
+            )
         }
         Kind::Input
         | Kind::OutputEpoch
@@ -239,7 +245,15 @@ fn sent_by_sequence(
     let mut count: usize = 0;
     for (i, event) in events.iter().enumerate() {
         if place(flow, event) == node {
-            let recs = recs_on(alloc, flow, batches, node, Kind::Sequence, &events[..i], event)?;
+            let recs = recs_on(
+                alloc,
+                flow,
+                batches,
+                node,
+                Kind::Sequence,
+                &events[..i],
+                event,
+            )?;
             count = count.saturating_add(recs.len()).min(NUMBERS);
         }
     }
@@ -249,7 +263,7 @@ fn sent_by_sequence(
 /// What an event makes its node send on each of its out-edges, where these events came before it. The only error is want
 /// of memory.
 #[tactic(auto, using(crate::proofs::SendSteps::sends_past, crate::proofs::SendSteps::sends_sequence, crate::proofs::SendSteps::sends_some, crate::proofs::SendSteps::group_size), unfolding(fw_flow::specs::Dataflow::bounds_of))]
-fn sends(
+pub(super) fn sends(
     alloc: Global,
     flow: &Flow,
     batches: &Batches,

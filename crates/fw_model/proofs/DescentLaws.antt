@@ -65,6 +65,11 @@ total top family (suc n) = how_many (family n) (stamps (top n)) + total top fami
 pub Covers : (ℕ → Stamp) → (ℕ → Frontier) → (ℕ → Frontier) → ℕ → Type 0
 Covers top family other n = (p : ℕ) → p < n → (t : Stamp) → leq t (top p) ≡ true → other p t ≡ true → family p t ≡ true
 
+pub covers-at : (top : ℕ → Stamp) (family other : ℕ → Frontier) (n : ℕ) → Covers top family other n → (p : ℕ) → p < n → (t : Stamp) → leq t (top p) ≡ true
+    → other p t ≡ true → family p t ≡ true
+unfolding Covers
+covers-at top family other n c = c
+
 pub total-less : (top : ℕ → Stamp) (family other : ℕ → Frontier) → ((p : ℕ) → Within (family p) (other p)) → (n : ℕ)
     → (Covers top family other n × (total top family n ≡ total top other n)) ⊎ (total top family n < total top other n)
 unfolding total Covers

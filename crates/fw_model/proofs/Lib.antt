@@ -5,6 +5,7 @@ pub mod ClearSteps
 pub mod ClosedLaws
 pub mod CmpLaws
 pub mod CompleteLaws
+pub mod CompleteSteps
 pub mod ConsistentLaws
 pub mod Decisions
 pub mod DenotationDomainLaws

@@ -57,15 +57,20 @@ fewer f g w (x ∷ xs) = by (f x) (g x) refl refl (w x) (fewer f g w xs)
     by false false d e v (inr l) = inr l
 
 -- how many stamps the first n frontiers of a family have inside, of those up to these greatest ones
-total : (ℕ → Stamp) → (ℕ → Frontier) → ℕ → ℕ
+pub total : (ℕ → Stamp) → (ℕ → Frontier) → ℕ → ℕ
 total top family zero = 0
 total top family (suc n) = how_many (family n) (stamps (top n)) + total top family n
 
 -- of those up to these greatest stamps, the first n frontiers of a family have all that those of another have
-Covers : (ℕ → Stamp) → (ℕ → Frontier) → (ℕ → Frontier) → ℕ → Type 0
+pub Covers : (ℕ → Stamp) → (ℕ → Frontier) → (ℕ → Frontier) → ℕ → Type 0
 Covers top family other n = (p : ℕ) → p < n → (t : Stamp) → leq t (top p) ≡ true → other p t ≡ true → family p t ≡ true
 
-total-less : (top : ℕ → Stamp) (family other : ℕ → Frontier) → ((p : ℕ) → Within (family p) (other p)) → (n : ℕ)
+pub covers-at : (top : ℕ → Stamp) (family other : ℕ → Frontier) (n : ℕ) → Covers top family other n → (p : ℕ) → p < n → (t : Stamp) → leq t (top p) ≡ true
+    → other p t ≡ true → family p t ≡ true
+unfolding Covers
+covers-at top family other n c = c
+
+pub total-less : (top : ℕ → Stamp) (family other : ℕ → Frontier) → ((p : ℕ) → Within (family p) (other p)) → (n : ℕ)
     → (Covers top family other n × (total top family n ≡ total top other n)) ⊎ (total top family n < total top other n)
 unfolding total Covers
 total-less top family other w zero = inl (λ p l. absurd (omega arith), refl)
@@ -127,7 +132,7 @@ clear-frontier sys h p = record {
 }
 
 -- past the last edge nothing is sent
-past_edges-joined : (flow : Dataflow) (e : ℕ) → length flow.edges ≤ e → sender flow e ≡ receiver flow e
+pub past_edges-joined : (flow : Dataflow) (e : ℕ) → length flow.edges ≤ e → sender flow e ≡ receiver flow e
 unfolding sender receiver
 past_edges-joined flow e l =
     let past = get_or_past flow.edges e (record { name = []; sender = length flow.nodes; receiver = length flow.nodes }) l in
@@ -142,13 +147,13 @@ less-none : (ds : List Message) → less [] ds ≡ []
 less-none [] = refl
 less-none (d ∷ ds) = ap (λ ms. without d ms) (less-none ds)
 
-past_edges-quiet : (sys : System) (h : List Event) (e : ℕ) (t : Stamp) → length sys.flow.edges ≤ e → some_at (same t) (pending sys h e) ≡ false
+pub past_edges-quiet : (sys : System) (h : List Event) (e : ℕ) (t : Stamp) → length sys.flow.edges ≤ e → some_at (same t) (pending sys h e) ≡ false
 past_edges-quiet sys h e t l =
     let q = sender sys.flow e in
     ap (λ ms. some_at (same t) (less ms (delivered h e))) (idle-sends_none sys q (past_edges-idle sys.flow e l) (events_at sys.flow q h))
     ∙ ap (λ ms. some_at (same t) ms) (less-none (delivered h e))
 
-past_edges-phi : (sys : System) (h : List Event) (e : ℕ) (f : Frontier) (t : Stamp) → length sys.flow.edges ≤ e
+pub past_edges-phi : (sys : System) (h : List Event) (e : ℕ) (f : Frontier) (t : Stamp) → length sys.flow.edges ≤ e
     → in_domain (bounds_of sys.flow (sender sys.flow e)) t ≡ true → f t ≡ true → phi sys h e f t ≡ true
 unfolding phi bounds_of
 past_edges-phi sys h e f t l d k =

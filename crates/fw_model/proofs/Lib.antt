@@ -2,9 +2,11 @@ pub mod ArrivalLaws
 pub mod CheckpointLaws
 pub mod ChoiceLaws
 pub mod ChoosingLaws
+pub mod ClearSteps
 pub mod ClosedLaws
 pub mod CmpLaws
 pub mod CompleteLaws
+pub mod CompleteSteps
 pub mod ConsistentLaws
 pub mod Decisions
 pub mod DenotationDomainLaws

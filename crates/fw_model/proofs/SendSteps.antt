@@ -150,7 +150,7 @@ sequence_same flow p events i d l e = ap (λ vs. length (sequence_sent vs)) (eve
 
 -- ---- what an event sends
 
-kind-past : (flow : Dataflow) (p : ℕ) → length flow.nodes ≤ p → kind_of flow p ≡ OutputEpoch
+pub kind-past : (flow : Dataflow) (p : ℕ) → length flow.nodes ≤ p → kind_of flow p ≡ OutputEpoch
 unfolding kind_of
 kind-past flow p l = ap (λ n. n.kind) (get_or_past flow.nodes p _ l)
 

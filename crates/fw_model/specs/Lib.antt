@@ -1,4 +1,5 @@
 pub mod Choice
+pub mod Clear
 pub mod Denotation
 pub mod History
 pub mod LawsOfChoices
@@ -13,8 +14,8 @@ pub mod LawsOfProjections
 pub mod LawsOfRecoveries
 pub mod LawsOfRuns
 pub mod LawsOfSending
-pub mod Least
 pub mod LawsOfSteps
+pub mod Least
 pub mod Machine
 pub mod Plain
 pub mod Steps

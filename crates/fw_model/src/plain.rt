@@ -4,6 +4,7 @@
 //! The lists are in the order of the events, the oldest first.
 
 mod arrivals;
+mod clear;
 mod complete;
 mod keyed;
 mod next;

@@ -38,7 +38,7 @@ pub fn next_batch(flow: &Flow, batches: &Batches, events: &[Event], source: Node
 }
 
 /// Whether a node of the kind is an input.
-fn is_input(kind: Kind) -> bool
+pub(super) fn is_input(kind: Kind) -> bool
     ensures { result ≡ is_input_kind kind }
 {
     matches!(kind, Kind::Input)

@@ -263,7 +263,7 @@ fn sent_by_sequence(
 /// What an event makes its node send on each of its out-edges, where these events came before it. The only error is want
 /// of memory.
 #[tactic(auto, using(crate::proofs::SendSteps::sends_past, crate::proofs::SendSteps::sends_sequence, crate::proofs::SendSteps::sends_some, crate::proofs::SendSteps::group_size), unfolding(fw_flow::specs::Dataflow::bounds_of))]
-fn sends(
+pub(super) fn sends(
     alloc: Global,
     flow: &Flow,
     batches: &Batches,

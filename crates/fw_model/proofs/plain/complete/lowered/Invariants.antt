@@ -1,0 +1,11 @@
+use Rattle.std.proofs.Common.{reverse, take}
+use Rattle.fw_frontier.specs.Front.{Names}
+use Rattle.fw_flow.specs.Dataflow.{bounds_of}
+use Rattle.fw_model.specs.Plain.{system_of, family_of}
+use Rattle.fw_model.proofs.CompleteSteps.{left_by}
+use Rattle.fw_model.proofs.plain.complete.lowered.Given as goal
+
+abbrev pub invariant-loop-edge : goal.invariant-loop-edge
+invariant-loop-edge l =
+    Names (bounds_of l.flow l.fn.node) l.front
+    (left_by (system_of l.flow l.batches) (reverse l.events) (family_of l.flow l.fronts) l.fn.node (take l.edge-index l.edges))

@@ -13,6 +13,6 @@ mod sending;
 mod waiting;
 
 pub use complete::complete_frontiers;
-pub use next::{next_batch, next_message, next_notice};
+pub use next::{next_batch, next_message};
 pub use outputs::recs_at;
 pub use waiting::pending;

@@ -47,16 +47,16 @@ or_none : (a b : Bool) → a ≡ false → b ≡ false → (a || b) ≡ false
 or_none true b e f = e
 or_none false b e f = f
 
-not_true : (a : Bool) → not a ≡ true → a ≡ false
+pub not_true : (a : Bool) → not a ≡ true → a ≡ false
 not_true true e = absurd (cc)
 not_true false e = refl
 
 -- a test that cannot pass fails
-fails : (a : Bool) → (a ≡ true → ⊥) → a ≡ false
+pub fails : (a : Bool) → (a ≡ true → ⊥) → a ≡ false
 fails true h = absurd (h refl)
 fails false h = refl
 
-lies : true ≡ false → ⊥
+pub lies : true ≡ false → ⊥
 lies e = cc
 
 -- ---- what is inside two lists
@@ -137,7 +137,7 @@ none_below (m ∷ ms) t h =
     (ap not (fails (leq m.at t) (λ k. lies (sym (and_from (leq m.at m.at) (leq m.at m.at) (leq-refl m.at) (leq-refl m.at)) ∙ (or_neither (same m.at m.at) (some_at (same m.at) ms) (h m.at k)).0))))
     (none_below ms t (λ s k. (or_neither (same s m.at) (some_at (same s) ms) (h s k)).1))
 
-quiet-inside : (sys : System) (h : List Event) (p : ℕ) (t : Stamp) → inside (pending_stamps sys h p) t ≡ true → IsQuiet sys h p t
+pub quiet-inside : (sys : System) (h : List Event) (p : ℕ) (t : Stamp) → inside (pending_stamps sys h p) t ≡ true → IsQuiet sys h p t
 quiet-inside sys h p t i e r = elim (cases_lt e (length sys.flow.edges)) [
   | inr l ↦ past_edges-quiet sys h e t l
   | inl l ↦
@@ -146,7 +146,7 @@ quiet-inside sys h p t i e r = elim (cases_lt e (length sys.flow.edges)) [
       (inside-each (λ d. map (λ (m : Message). m.at) (pending sys h d)) (in_edges sys.flow p) t i) e l r)
 ]
 
-inside-quiet : (sys : System) (h : List Event) (p : ℕ) (t : Stamp) → ((s : Stamp) → leq s t ≡ true → IsQuiet sys h p s) → inside (pending_stamps sys h p) t ≡ true
+pub inside-quiet : (sys : System) (h : List Event) (p : ℕ) (t : Stamp) → ((s : Stamp) → leq s t ≡ true → IsQuiet sys h p s) → inside (pending_stamps sys h p) t ≡ true
 inside-quiet sys h p t q =
     inside-from_each (λ d. map (λ (m : Message). m.at) (pending sys h d)) (in_edges sys.flow p) t
     (in_edges-from (λ d. inside (map (λ (m : Message). m.at) (pending sys h d)) t ≡ true) sys.flow p

@@ -279,7 +279,7 @@ above_lowered sys h fronts lower a c n = record {
   ];
 }
 
-not_past : (sys : System) (h : List Event) (p : ℕ) (t : Stamp) → kind_of sys.flow p ≡ OutputEpoch → owed sys h p t ≡ false
+pub not_past : (sys : System) (h : List Event) (p : ℕ) (t : Stamp) → kind_of sys.flow p ≡ OutputEpoch → owed sys h p t ≡ false
 not_past sys h p t k = ap (λ kind. is_notified_kind kind && was_delivered_to sys.flow p t h && not (was_notified p t h)) k
 
 -- where a pass takes nothing away, the frontiers are complete

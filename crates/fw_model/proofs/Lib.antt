@@ -42,6 +42,7 @@ pub mod PsiLaws
 pub mod RecoveryLaws
 pub mod RunLaws
 pub mod RewritingLaws
+pub mod ReadySteps
 pub mod RecSteps
 pub mod SendSteps
 pub mod SendingLaws

@@ -9,6 +9,7 @@ mod complete;
 mod keyed;
 mod next;
 mod outputs;
+mod ready;
 mod sending;
 mod waiting;
 

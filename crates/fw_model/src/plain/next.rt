@@ -13,8 +13,12 @@ ghost use Rattle.fw_model.specs.Steps.{IsNextMessage, IsNextNotice};
 ghost use Rattle.fw_model.specs.Plain.{system_of, AreAtNodes};
 
 use super::arrivals::{batches_of, is_same};
+use super::clear::{owed_stamps, pending_stamps};
+use super::complete::{complete_frontiers, lowered};
+use super::ready::least_ready;
 use super::waiting::{compare, delivered_count, pending};
 use fw_flow::{Domain, EdgeId, Event, Flow, Kind, Message, NodeId};
+use fw_frontier::Front;
 use fw_lines::Batches;
 use fw_time::Stamp;
 use std::alloc::{AllocError, Global};
@@ -111,7 +115,7 @@ fn is_number(number: Option<usize>, t: &Stamp) -> bool
 }
 
 /// Whether the stamp is the one that is asked for, if one is.
-fn is_asked(at: Option<&Stamp>, t: &Stamp) -> bool
+pub(super) fn is_asked(at: Option<&Stamp>, t: &Stamp) -> bool
     ensures { result ≡ least.is_asked (option_copied at.entry) t.now }
 {
     match at {
@@ -178,5 +182,10 @@ pub fn next_notice(
         ((t : Time) → IsNextNotice sys (reverse events.now) node asked t → ⊥)
         (λ t. IsNextNotice sys (reverse events.now) node asked t)) }
 {
-    Err(AllocError)
+    let owed = owed_stamps(alloc, flow, events, node)?;
+    let waiting = pending_stamps(alloc, flow, batches, events, node)?;
+    let fronts = complete_frontiers(alloc, flow, batches, events)?;
+    let all = Front::all(alloc);
+    let arrived = lowered(alloc, flow, batches, events, &fronts, node, all)?;
+    Ok(least_ready(&owed, &waiting, &arrived, at))
 }

@@ -1,5 +1,5 @@
 -- What loops over a list of events find, one event at a time: the history of the list has its last event first.
-use Rattle.std.proofs.Common.{◌≡◌, ℕ, ◌+◌, ◌<◌, ◌≤◌, ◌==◌, ◌&&◌, if◌then◌else◌, Bool, true, false, cond, List, [], ◌∷◌, ◌++◌, length, reverse, map, Option, Some, None, option_to_list, refl, sym, ap, ◌∙◌, get_or, take, drop, append_assoc, arith}
+use Rattle.std.proofs.Common.{◌≡◌, ℕ, ◌+◌, ◌<◌, ◌≤◌, ◌==◌, ◌&&◌, if◌then◌else◌, Bool, true, false, cond, List, [], ◌∷◌, ◌++◌, length, reverse, map, refl, sym, ap, ◌∙◌, get_or, take, append_assoc, arith}
 use Rattle.std.proofs.lemmas.List.{reverse-append, take_more}
 use Rattle.std.proofs.lemmas.List.FromFn.{get_or-map-range_with_len, length-map-range_with_len}
 use Rattle.std.proofs.lemmas.List.{get_or_past}

@@ -1,28 +1,24 @@
 -- The least of the owed stamps of which a node may be notified is its next notice.
-use Rattle.std.proofs.Common.{◌≡◌, ◌⊎◌, inl, inr, ℕ, ◌+◌, ◌<◌, Bool, true, false, not, ◌&&◌, ◌||◌, ◌==◌, cond, Option, Some, None, option_to_list, List, [], ◌∷◌, ◌++◌, length, reverse, take, get_or, MatchOption, refl, sym, ap, subst, ◌∙◌, arith}
+use Rattle.std.proofs.Common.{◌≡◌, inl, inr, ℕ, ◌+◌, ◌<◌, Bool, true, false, not, ◌&&◌, ◌||◌, ◌==◌, cond, Option, Some, None, option_to_list, List, [], ◌∷◌, ◌++◌, length, reverse, take, get_or, MatchOption, refl, sym, ap, subst, ◌∙◌}
 use Rattle.std.specs.List.{AllByRecursion, list_all, list_any}
 use Rattle.std.specs.Ordering.{is_le, is_gt, ordering_reverse}
-use Rattle.std.proofs.lemmas.Bool.{and_parts, and_from, or_cases, or_left, or_right, both_ways, cases_Bool, cond-true, cond-false, cases_lt, eqb-true, eq-eqb}
+use Rattle.std.proofs.lemmas.Bool.{and_parts, and_from, or_cases, or_left, or_right, both_ways, cases_Bool, cond-true, cond-false, cases_lt, eqb-true}
 use Rattle.std.proofs.lemmas.Cmp.{tied_itself, upto}
 use Rattle.std.proofs.lemmas.List.{take_more}
 use Rattle.std.proofs.lemmas.List.Folds.{list_any-append}
 use Rattle.fw_time.specs.Stamp.{Stamp, leq, lesser, same, stamp_cmp, in_domain}
-use Rattle.fw_frontier.specs.Frontier.{Frontier, Within}
 use Rattle.fw_frontier.specs.Front.{Front, inside, frontier_of, Names}
 use Rattle.fw_frontier.proofs.InsideLaws.{inside-closed}
 use Rattle.fw_flow.specs.declared.event.Event.{Event}
 use Rattle.fw_flow.specs.declared.event.Event.TheVariants.{Inject, Deliver, Notify}
-use Rattle.fw_flow.specs.declared.event.Message.{Message}
 use Rattle.fw_flow.specs.Dataflow.{System, Dataflow, kind_of, sender, receiver, in_edges, bounds_of, is_notified_kind}
-use Rattle.fw_flow.specs.NodeFunction.{place, stamp}
 use Rattle.fw_flow.specs.Projection.{phi}
-use Rattle.fw_model.specs.History.{owed, is_delivery_to, is_notification, was_delivered_to, was_notified, IsQuiet, IsAdmissible, IsComplete, IsNotifiable}
+use Rattle.fw_model.specs.History.{owed, is_delivery_to, is_notification, was_delivered_to, was_notified, IsComplete, IsNotifiable}
 use Rattle.fw_model.specs.Steps.{IsAsked, IsNextNotice}
 use Rattle.fw_model.specs.Least.{is_asked}
 use Rattle.fw_model.specs.Clear.{pending_stamps, is_unnotified, owed_by, owed_stamps, lowered}
 use Rattle.fw_model.specs.Ready.{is_ready, lesser_of, IsLeastOf, IsLeast}
 use Rattle.fw_model.specs.Plain.{family_of, AreAtNodes}
-use Rattle.fw_model.proofs.StampLaws.{leq-refl}
 use Rattle.fw_model.proofs.StampLists.{each-of_all, all-of_each}
 use Rattle.fw_model.proofs.EachLaws.{each-weaker, each-append}
 use Rattle.fw_model.proofs.PhiLaws.{phi-monotone}

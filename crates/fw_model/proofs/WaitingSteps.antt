@@ -1,13 +1,13 @@
 -- What loops find that take away what was delivered, and that look for a least message.
-use Rattle.std.proofs.Common.{◌≡◌, ◌≢◌, ℕ, zero, suc, ◌+◌, ◌<◌, ◌≤◌, ◌==◌, Bool, true, false, not, cond, List, [], ◌∷◌, ◌++◌, length, reverse, map, Option, Some, None, refl, sym, ap, ◌∙◌, get_or, take, drop, append_assoc, arith, inl, inr, remove, position, nat_lt, lt-ltb}
-use Rattle.std.specs.List.{position_or_len, prefix_len}
+use Rattle.std.proofs.Common.{◌≡◌, ℕ, zero, suc, ◌+◌, ◌<◌, ◌≤◌, ◌==◌, Bool, true, false, not, cond, List, [], ◌∷◌, ◌++◌, length, reverse, Some, None, refl, sym, ap, ◌∙◌, get_or, take, arith, inl, inr, remove, position, nat_lt, lt-ltb}
+use Rattle.std.specs.List.{position_or_len}
 use Rattle.std.proofs.lemmas.List.Quantifiers.{position-Some}
 use Rattle.std.specs.Ordering.{is_eq}
-use Rattle.std.proofs.lemmas.Bool.{cond-true, cond-false, eq-eqb, eqb-true, cases_lt}
+use Rattle.std.proofs.lemmas.Bool.{cond-true, cond-false, eq-eqb, cases_lt}
 use Rattle.fw_flow.specs.declared.event.Event.{Event}
-use Rattle.fw_flow.specs.declared.event.Event.TheVariants.{Inject, Deliver, Notify}
+use Rattle.fw_flow.specs.declared.event.Event.TheVariants.{Deliver}
 use Rattle.fw_flow.specs.declared.event.Message.{Message}
-use Rattle.fw_model.specs.History.{message_cmp, message_on, without, less, delivered}
+use Rattle.fw_model.specs.History.{message_cmp, message_on, without, delivered}
 use Rattle.fw_model.proofs.EventSteps.{history_more}
 
 -- what one event more delivers on an edge

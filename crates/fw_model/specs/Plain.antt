@@ -1,5 +1,5 @@
 -- What plain computations over a list of events say: the system that they are about, and what they read of the list.
-use Rattle.std.specs.Prelude.{◌≡◌, ℕ, true, List, map, slice_index_or}
+use Rattle.std.specs.Prelude.{◌≡◌, ℕ, true, List, map}
 use Rattle.std.specs.List.{AllByRecursion}
 use Rattle.fw_time.specs.Stamp.{in_domain}
 use Rattle.fw_bag.specs.declared.rec.Rec.{Rec}

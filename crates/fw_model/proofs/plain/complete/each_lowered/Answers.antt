@@ -1,5 +1,5 @@
-use Rattle.std.proofs.Common.{reverse, refl, subst, sym, ap, ◌∙◌}
-use Rattle.fw_frontier.specs.Front.{frontier_of, Names}
+use Rattle.std.proofs.Common.{reverse, refl}
+use Rattle.fw_frontier.specs.Front.{Names}
 use Rattle.fw_flow.specs.Dataflow.{bounds_of}
 use Rattle.fw_model.specs.Clear.{lowered}
 use Rattle.fw_model.specs.Plain.{system_of, family_of}

@@ -1,6 +1,5 @@
-use Rattle.std.proofs.Common.{◌≡◌, [], reverse, subst, sym, ap, ◌∙◌}
+use Rattle.std.proofs.Common.{reverse, ◌∙◌}
 use Rattle.std.specs.Option.{option_copied}
-use Rattle.fw_flow.specs.Dataflow.{bounds_of}
 use Rattle.fw_model.specs.Plain.{system_of}
 use Rattle.fw_model.proofs.ReadySteps.{notice_is, arrived_read}
 use Rattle.fw_model.proofs.plain.next.next_notice.Goals as goal

@@ -1,4 +1,4 @@
-use Rattle.std.proofs.Common.{◌≡◌, Some, sym, subst, ◌∙◌, ◌+◌, take}
+use Rattle.std.proofs.Common.{sym, subst, ◌∙◌, ◌+◌, take}
 use Rattle.std.specs.Option.{option_copied}
 use Rattle.fw_model.specs.Ready.{is_ready, IsLeast}
 use Rattle.fw_model.proofs.ReadySteps.{least_more, least_same}

@@ -1,4 +1,4 @@
-use Rattle.std.proofs.Common.{◌≡◌, None, position, sym, ap, ◌∙◌}
+use Rattle.std.proofs.Common.{◌≡◌, None, position, sym}
 use Rattle.std.specs.Ordering.{is_eq}
 use Rattle.fw_model.specs.History.{message_cmp}
 use Rattle.fw_model.proofs.WaitingSteps.{without_nowhere}

@@ -1,5 +1,5 @@
 -- Up to where nothing is missing at a node alone: what loops over stamps, edges and events find, and what it comes to.
-use Rattle.std.proofs.Common.{◌≡◌, ℕ, zero, suc, ◌+◌, ◌-◌, ◌^◌, ◌<◌, ◌≤◌, nat_le, nat_lt, Bool, true, false, not, ◌&&◌, ◌||◌, ◌==◌, cond, List, [], ◌∷◌, ◌++◌, length, reverse, map, Option, Some, None, option_to_list, refl, sym, ap, subst, ◌∙◌, get_or, take, drop, append_assoc, inl, inr, ◌⊎◌, arith}
+use Rattle.std.proofs.Common.{◌≡◌, ℕ, zero, suc, ◌+◌, ◌^◌, ◌<◌, ◌≤◌, nat_le, nat_lt, Bool, true, false, not, ◌&&◌, ◌||◌, ◌==◌, cond, List, [], ◌∷◌, ◌++◌, length, reverse, map, Some, None, option_to_list, refl, sym, ap, subst, ◌∙◌, get_or, take, inl, inr, ◌⊎◌, arith}
 use Rattle.std.specs.List.{AllByRecursion, flat_map, list_any}
 use Rattle.std.proofs.lemmas.Bool.{and_parts, and_from, cond-true, cond-false, cases_lt, eqb-true, eq-eqb}
 use Rattle.std.proofs.lemmas.List.Folds.{list_any-append}
@@ -8,7 +8,7 @@ use Rattle.std.proofs.lemmas.List.{reverse-append, take_more, append-nil, length
 use Rattle.std.proofs.lemmas.Bool.Decides.{nat_tests}
 use Rattle.fw_time.specs.Stamp.{Stamp, leq, same, in_domain}
 use Rattle.fw_time.specs.declared.stamp.Bounds.{Bounds}
-use Rattle.fw_frontier.specs.Frontier.{Frontier, IsFrontier, Within, without_above}
+use Rattle.fw_frontier.specs.Frontier.{without_above}
 use Rattle.fw_frontier.specs.Front.{Front, inside, frontier_of, IsCanonical, Names}
 use Rattle.fw_bag.specs.declared.rec.Rec.{Rec}
 use Rattle.fw_flow.specs.declared.event.Event.{Event}
@@ -19,7 +19,7 @@ use Rattle.fw_flow.specs.declared.kind.Kind.{Kind}
 use Rattle.fw_flow.specs.declared.kind.Kind.TheVariants.{Input}
 use Rattle.fw_flow.specs.Projection.{number_of}
 use Rattle.fw_flow.specs.Dataflow.{System, Dataflow, kind_of, receiver, in_edges, edges_into, bounds_of, bounds_of_domain, domain_of_kind, greatest_number, is_input_kind, is_notified_kind, batches_of}
-use Rattle.fw_model.specs.History.{pending, owed, is_delivery_to, is_notification, was_notified, was_delivered_to, some_at, injected_count, is_exhausted, injected_epochs, IsQuiet, IsAdmissible}
+use Rattle.fw_model.specs.History.{pending, owed, is_delivery_to, is_notification, was_notified, was_delivered_to, some_at, injected_count, is_exhausted, injected_epochs, IsQuiet}
 use Rattle.fw_model.specs.Clear.{given, pending_stamps, is_unnotified, owed_by, owed_stamps, IsClear}
 use Rattle.fw_model.proofs.StampLaws.{leq-refl, leq-trans, in_line}
 use Rattle.fw_model.proofs.DescentLaws.{past_edges-quiet}
@@ -47,16 +47,16 @@ or_none : (a b : Bool) → a ≡ false → b ≡ false → (a || b) ≡ false
 or_none true b e f = e
 or_none false b e f = f
 
-not_true : (a : Bool) → not a ≡ true → a ≡ false
+pub not_true : (a : Bool) → not a ≡ true → a ≡ false
 not_true true e = absurd (cc)
 not_true false e = refl
 
 -- a test that cannot pass fails
-fails : (a : Bool) → (a ≡ true → ⊥) → a ≡ false
+pub fails : (a : Bool) → (a ≡ true → ⊥) → a ≡ false
 fails true h = absurd (h refl)
 fails false h = refl
 
-lies : true ≡ false → ⊥
+pub lies : true ≡ false → ⊥
 lies e = cc
 
 -- ---- what is inside two lists
@@ -137,7 +137,7 @@ none_below (m ∷ ms) t h =
     (ap not (fails (leq m.at t) (λ k. lies (sym (and_from (leq m.at m.at) (leq m.at m.at) (leq-refl m.at) (leq-refl m.at)) ∙ (or_neither (same m.at m.at) (some_at (same m.at) ms) (h m.at k)).0))))
     (none_below ms t (λ s k. (or_neither (same s m.at) (some_at (same s) ms) (h s k)).1))
 
-quiet-inside : (sys : System) (h : List Event) (p : ℕ) (t : Stamp) → inside (pending_stamps sys h p) t ≡ true → IsQuiet sys h p t
+pub quiet-inside : (sys : System) (h : List Event) (p : ℕ) (t : Stamp) → inside (pending_stamps sys h p) t ≡ true → IsQuiet sys h p t
 quiet-inside sys h p t i e r = elim (cases_lt e (length sys.flow.edges)) [
   | inr l ↦ past_edges-quiet sys h e t l
   | inl l ↦
@@ -146,7 +146,7 @@ quiet-inside sys h p t i e r = elim (cases_lt e (length sys.flow.edges)) [
       (inside-each (λ d. map (λ (m : Message). m.at) (pending sys h d)) (in_edges sys.flow p) t i) e l r)
 ]
 
-inside-quiet : (sys : System) (h : List Event) (p : ℕ) (t : Stamp) → ((s : Stamp) → leq s t ≡ true → IsQuiet sys h p s) → inside (pending_stamps sys h p) t ≡ true
+pub inside-quiet : (sys : System) (h : List Event) (p : ℕ) (t : Stamp) → ((s : Stamp) → leq s t ≡ true → IsQuiet sys h p s) → inside (pending_stamps sys h p) t ≡ true
 inside-quiet sys h p t q =
     inside-from_each (λ d. map (λ (m : Message). m.at) (pending sys h d)) (in_edges sys.flow p) t
     (in_edges-from (λ d. inside (map (λ (m : Message). m.at) (pending sys h d)) t ≡ true) sys.flow p

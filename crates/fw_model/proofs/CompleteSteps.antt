@@ -1,17 +1,16 @@
 -- The descent to the complete frontiers: what each pass keeps, when it ends, and what it comes to.
-use Rattle.std.proofs.Common.{◌≡◌, ℕ, zero, suc, ◌+◌, ◌<◌, ◌≤◌, Bool, true, false, not, ◌&&◌, ◌||◌, ◌==◌, cond, List, [], ◌∷◌, ◌++◌, length, reverse, map, Option, Some, None, refl, sym, ap, subst, ◌∙◌, get_or, take, drop, inl, inr, ◌⊎◌, arith}
+use Rattle.std.proofs.Common.{◌≡◌, ℕ, zero, suc, ◌+◌, ◌<◌, ◌≤◌, Bool, true, false, not, ◌&&◌, ◌==◌, cond, List, [], ◌∷◌, ◌++◌, length, reverse, Some, None, refl, sym, ap, subst, ◌∙◌, get_or, take, inl, inr, arith}
 use Rattle.std.specs.List.{AllByRecursion, list_all}
-use Rattle.std.proofs.lemmas.Bool.{and_parts, and_from, cases_lt, eqb-true, eq-eqb}
+use Rattle.std.proofs.lemmas.Bool.{and_parts, and_from, cases_lt, eqb-true}
 use Rattle.std.proofs.lemmas.List.{take_more, get_or_past, length-append, reverse-append}
-use Rattle.fw_time.specs.Stamp.{Stamp, leq, in_domain}
+use Rattle.fw_time.specs.Stamp.{Stamp, in_domain}
 use Rattle.fw_time.specs.declared.stamp.Bounds.{Bounds}
-use Rattle.fw_frontier.specs.Frontier.{Frontier, IsFrontier, Within, meet}
+use Rattle.fw_frontier.specs.Frontier.{Frontier, Within, meet}
 use Rattle.fw_frontier.specs.Front.{Front, inside, frontier_of, IsCanonical, Names}
 use Rattle.fw_frontier.proofs.NamesLaws.{frontier-closed, none_inside-within, within_domain-none_inside}
 use Rattle.fw_flow.specs.declared.event.Event.{Event}
 use Rattle.fw_flow.specs.declared.event.Event.TheVariants.{Inject, Deliver, Notify}
 use Rattle.fw_flow.specs.declared.event.Message.{Message}
-use Rattle.fw_flow.specs.declared.kind.Kind.{Kind}
 use Rattle.fw_flow.specs.declared.kind.Kind.TheVariants.{Sequence, OutputEpoch}
 use Rattle.fw_flow.specs.Dataflow.{System, Dataflow, kind_of, sender, receiver, in_edges, bounds_of, bounds_of_domain, domain_of_kind, greatest_number, is_input_kind, is_notified_kind}
 use Rattle.fw_flow.specs.NodeFunction.{place, stamp, sends}
@@ -79,9 +78,9 @@ all-append test (y ∷ xs) x = ap (λ b. test y && b) (all-append test xs x) ∙
     assoc true c d = refl
     assoc false c d = refl
 
--- whether a stamp is inside the family at node p, and inside phi of it on each of these edges
-abbrev pub left_by : System → List Event → (ℕ → Frontier) → ℕ → List ℕ → Frontier
-left_by sys h family p edges t = family p t && list_all (λ e. phi sys h e (family (sender sys.flow e)) t) edges
+-- whether a stamp is inside a frontier, and inside phi of the family on each of these edges
+abbrev pub left_by : System → List Event → (ℕ → Frontier) → List ℕ → Frontier → Frontier
+left_by sys h family edges f t = f t && list_all (λ e. phi sys h e (family (sender sys.flow e)) t) edges
 
 -- what comes on an in-edge is in the domain of the node
 pub arrived_here : (sys : System) (p : ℕ) (arrived : Front) (edges : List ℕ) (i e : ℕ) (f : Frontier) → edges ≡ in_edges sys.flow p → i < length edges → e ≡ get_or edges i e
@@ -91,12 +90,12 @@ arrived_here sys p arrived edges i e f es l is n =
     let here : receiver sys.flow e ≡ p = subst (λ d. receiver sys.flow d ≡ p) (sym is) (each_at (λ d. receiver sys.flow d ≡ p) edges i e (subst (AllByRecursion (λ d. receiver sys.flow d ≡ p)) (sym es) each) l) in
     subst (λ q. Names (bounds_of sys.flow q) arrived f) here n
 
-pub lowered_more : (sys : System) (h : List Event) (family : ℕ → Frontier) (p : ℕ) (old arrived new : Front) (edges : List ℕ) (i e : ℕ) → i < length edges → e ≡ get_or edges i e
-    → Names (bounds_of sys.flow p) old (left_by sys h family p (take i edges))
+pub lowered_more : (sys : System) (h : List Event) (family : ℕ → Frontier) (p : ℕ) (f : Frontier) (old arrived new : Front) (edges : List ℕ) (i e : ℕ) → i < length edges → e ≡ get_or edges i e
+    → Names (bounds_of sys.flow p) old (left_by sys h family (take i edges) f)
     → Names (bounds_of sys.flow p) arrived (phi sys h e (family (sender sys.flow e)))
     → Names (bounds_of sys.flow p) new (meet (frontier_of (bounds_of sys.flow p) old) (frontier_of (bounds_of sys.flow p) arrived))
-    → Names (bounds_of sys.flow p) new (left_by sys h family p (take (i + 1) edges))
-lowered_more sys h family p old arrived new edges i e l is o a n =
+    → Names (bounds_of sys.flow p) new (left_by sys h family (take (i + 1) edges) f)
+lowered_more sys h family p f old arrived new edges i e l is o a n =
     record {
       canonical = n.canonical;
       same = λ t.
@@ -104,8 +103,8 @@ lowered_more sys h family p old arrived new edges i e l is o a n =
           let more : list_all test (take (i + 1) edges) ≡ (list_all test (take i edges) && test e) =
           ap (list_all test) (take_more edges i e l) ∙ all-append test (take i edges) (get_or edges i e) ∙ ap (λ d. list_all test (take i edges) && test d) (sym is) in
           n.same t ∙ ap (λ b. b && frontier_of (bounds_of sys.flow p) arrived t) (o.same t)
-          ∙ ap (λ b. (family p t && list_all test (take i edges)) && b) (a.same t)
-          ∙ assoc (family p t) (list_all test (take i edges)) (test e) ∙ ap (λ b. family p t && b) (sym more);
+          ∙ ap (λ b. (f t && list_all test (take i edges)) && b) (a.same t)
+          ∙ assoc (f t) (list_all test (take i edges)) (test e) ∙ ap (λ b. f t && b) (sym more);
     }
   where
     assoc : (a c d : Bool) → ((a && c) && d) ≡ (a && (c && d))
@@ -113,12 +112,8 @@ lowered_more sys h family p old arrived new edges i e l is o a n =
     assoc false c d = refl
 
 -- at first no edge is looked at
-pub lowered_none : (flow : Dataflow) (fronts : List Front) (p : ℕ) (f : Front) → AreCanonical flow fronts → f ≡ front_of fronts p
-    → Names (bounds_of flow p) f (λ t. family_of flow fronts p t && true)
-lowered_none flow fronts p f c e = record {
-  canonical = subst (IsCanonical (bounds_of flow p)) (sym e) (c p);
-  same = λ t. ap (λ os. frontier_of (bounds_of flow p) os t) e ∙ alone (family_of flow fronts p t);
-}
+pub lowered_none : (b : Bounds) (f : Front) → IsCanonical b f → Names b f (λ t. frontier_of b f t && true)
+lowered_none b f c = record { canonical = c; same = λ t. alone (frontier_of b f t) }
   where
     alone : (b : Bool) → b ≡ (b && true)
     alone true = refl
@@ -132,6 +127,13 @@ pub phi_at : (sys : System) (h : List Event) (e q : ℕ) (fronts : List Front) (
     → Names (bounds_of sys.flow (receiver sys.flow e)) g (phi sys h e (family_of sys.flow fronts (sender sys.flow e)))
 phi_at sys h e q fronts f g s is n =
     subst (λ os. Names (bounds_of sys.flow (receiver sys.flow e)) g (phi sys h e (frontier_of (bounds_of sys.flow (sender sys.flow e)) os))) (is ∙ ap (front_of fronts) s) n
+
+pub lowered_at : (sys : System) (h : List Event) (fronts : List Front) (p q : ℕ) (f g : Front) → q ≡ p → f ≡ front_of fronts q
+    → Names (bounds_of sys.flow q) g (lowered sys h (family_of sys.flow fronts) q (frontier_of (bounds_of sys.flow q) f))
+    → Names (bounds_of sys.flow p) g (lowered sys h (family_of sys.flow fronts) p (family_of sys.flow fronts p))
+lowered_at sys h fronts p q f g e is n =
+    subst (λ r. Names (bounds_of sys.flow r) g (lowered sys h (family_of sys.flow fronts) r (family_of sys.flow fronts r))) e
+    (subst (λ os. Names (bounds_of sys.flow q) g (lowered sys h (family_of sys.flow fronts) q (frontier_of (bounds_of sys.flow q) os))) is n)
 
 -- ---- what a sequence sent
 
@@ -248,7 +250,7 @@ above_clear sys h fronts c k = record {
 
 -- what is left after a pass over the nodes
 abbrev pub AreLowered : System → List Event → List Front → List Front → Type 0
-AreLowered sys h fronts lower = (p : ℕ) → p < length sys.flow.nodes → Names (bounds_of sys.flow p) (front_of lower p) (lowered sys h (family_of sys.flow fronts) p)
+AreLowered sys h fronts lower = (p : ℕ) → p < length sys.flow.nodes → Names (bounds_of sys.flow p) (front_of lower p) (lowered sys h (family_of sys.flow fronts) p (family_of sys.flow fronts p))
 
 lowered-within : (sys : System) (h : List Event) (fronts lower : List Front) → AreLowered sys h fronts lower → (p : ℕ) → p < length sys.flow.nodes
     → Within (family_of sys.flow lower p) (family_of sys.flow fronts p)
@@ -276,7 +278,7 @@ above_lowered sys h fronts lower a c n = record {
   ];
 }
 
-not_past : (sys : System) (h : List Event) (p : ℕ) (t : Stamp) → kind_of sys.flow p ≡ OutputEpoch → owed sys h p t ≡ false
+pub not_past : (sys : System) (h : List Event) (p : ℕ) (t : Stamp) → kind_of sys.flow p ≡ OutputEpoch → owed sys h p t ≡ false
 not_past sys h p t k = ap (λ kind. is_notified_kind kind && was_delivered_to sys.flow p t h && not (was_notified p t h)) k
 
 -- where a pass takes nothing away, the frontiers are complete

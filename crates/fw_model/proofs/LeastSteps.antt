@@ -73,12 +73,12 @@ message_cmp-same m n h =
     let causes : m.causes ≡ n.causes = slice_cmp-same stamp_cmp stamp_cmp-same m.causes n.causes rest.1 in
     λ i. record { at = at i; rec = r i; causes = causes i }
 
-le_not_gt : (o : Ordering) → is_le o ≡ true → is_gt o ≡ false
+pub le_not_gt : (o : Ordering) → is_le o ≡ true → is_gt o ≡ false
 le_not_gt Less h = refl
 le_not_gt Equal h = refl
 le_not_gt Greater h = cc
 
-gt_of : (o : Ordering) → is_le o ≡ false → o ≡ Greater
+pub gt_of : (o : Ordering) → is_le o ≡ false → o ≡ Greater
 gt_of Less h = cc
 gt_of Equal h = cc
 gt_of Greater h = refl
@@ -141,17 +141,17 @@ least_wanted test seen (Some o) m e a = elim (cases_Bool (is_le (message_cmp m o
 
 -- ---- the next message
 
-same-is : (s t : Stamp) → same s t ≡ true → s ≡ t
+pub same-is : (s t : Stamp) → same s t ≡ true → s ≡ t
 same-is s t e = let p = and_parts (leq s t) (leq t s) e in leq-antisym s t p.0 p.1
 
-same-from : (s t : Stamp) → s ≡ t → same s t ≡ true
+pub same-from : (s t : Stamp) → s ≡ t → same s t ≡ true
 same-from s t e = let P : Stamp → Type 0 = λ u. same s u ≡ true in subst P e (and_from (leq s s) (leq s s) (leq-refl s) (leq-refl s))
 
-asked-is : (at : Option Stamp) (t : Stamp) → is_asked at t ≡ true → IsAsked at t
+pub asked-is : (at : Option Stamp) (t : Stamp) → is_asked at t ≡ true → IsAsked at t
 asked-is None t e = tt
 asked-is (Some s) t e = same-is s t e
 
-asked-from : (at : Option Stamp) (t : Stamp) → IsAsked at t → is_asked at t ≡ true
+pub asked-from : (at : Option Stamp) (t : Stamp) → IsAsked at t → is_asked at t ≡ true
 asked-from None t e = refl
 asked-from (Some s) t e = same-from s t e
 

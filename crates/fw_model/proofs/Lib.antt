@@ -49,6 +49,7 @@ pub mod PhiLaws
 pub mod PrefixLaws
 pub mod PsiBackLaws
 pub mod PsiLaws
+pub mod ReadySteps
 pub mod RecSteps
 pub mod RecoveryLaws
 pub mod RewritingLaws

@@ -42,9 +42,9 @@ pub record IsClear (sys : System) (h : List Event) (p : ℕ) (front : Front) : T
   pub source : is_input_kind (kind_of sys.flow p) ≡ true → Within (frontier_of (bounds_of sys.flow p) front) (injected_epochs sys h p)
   pub largest : (other : ℕ → Frontier) → IsAdmissible sys h other → Within (other p) (frontier_of (bounds_of sys.flow p) front)
 
--- what is inside the family at a node, and inside phi of the family on each in-edge
-abbrev pub lowered : System → List Event → (ℕ → Frontier) → ℕ → Frontier
-lowered sys h family p t = family p t && list_all (λ e. phi sys h e (family (sender sys.flow e)) t) (in_edges sys.flow p)
+-- what is inside a frontier of a node, and inside phi of the family on each in-edge
+abbrev pub lowered : System → List Event → (ℕ → Frontier) → ℕ → Frontier → Frontier
+lowered sys h family p f t = f t && list_all (λ e. phi sys h e (family (sender sys.flow e)) t) (in_edges sys.flow p)
 
 -- the first number of the stamp of which an event notifies node p, if it does
 abbrev pub notified_epoch : ℕ → Event → Option ℕ

@@ -18,5 +18,6 @@ pub mod LawsOfSteps
 pub mod Least
 pub mod Machine
 pub mod Plain
+pub mod Ready
 pub mod Steps
 pub mod Wanted

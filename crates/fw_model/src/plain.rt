@@ -9,10 +9,11 @@ mod complete;
 mod keyed;
 mod next;
 mod outputs;
+mod ready;
 mod sending;
 mod waiting;
 
 pub use complete::complete_frontiers;
-pub use next::{next_batch, next_message};
+pub use next::{next_batch, next_message, next_notice};
 pub use outputs::recs_at;
 pub use waiting::pending;

@@ -88,7 +88,7 @@ fn given(
 
 /// The stamps of what is pending for a node.
 #[tactic(auto, using(crate::proofs::ClearSteps::flat_map_more))]
-fn pending_stamps(
+pub(super) fn pending_stamps(
     alloc: Global,
     flow: &Flow,
     batches: &Batches,
@@ -120,7 +120,7 @@ fn push_stamps(stamps: &mut Vec<Stamp>, messages: &[Message]) -> Result<(), Allo
 
 /// The stamps of the deliveries to a node that it is owed a notification of.
 #[tactic(auto, using(crate::proofs::ClearSteps::flat_map_more))]
-fn owed_stamps(
+pub(super) fn owed_stamps(
     alloc: Global,
     flow: &Flow,
     events: &[Event],

@@ -1,6 +1,6 @@
 //! The complete frontiers.
 ghost use Rattle.std.specs.Prelude.{◌≡◌, ◌&&◌, ℕ, ◌<◌, ◌↔◌, length, reverse, IsTrue, IfOk};
-ghost use Rattle.fw_frontier.specs.Front.{inside, Names};
+ghost use Rattle.fw_frontier.specs.Front.{inside, frontier_of, IsCanonical, Names};
 ghost use Rattle.fw_frontier.specs.Frontier.{Within};
 ghost use Rattle.fw_flow.specs.WellFormed.{IsWellFormed};
 ghost use Rattle.fw_flow.specs.Dataflow.{kind_of, sender, receiver, bounds_of};
@@ -78,41 +78,47 @@ fn each_lowered(
     ensures one_each { IfOk result (λ lower. length lower.items ≡ length flow.now.nodes) }
     ensures lowered { IfOk result (λ lower. (p : ℕ) → p < length flow.now.nodes
         → Names (bounds_of flow.now p) (front_of lower.items p)
-        (spec.lowered (system_of flow.now batches.now) (reverse events.now) (family_of flow.now fronts.now) p)) }
+        (spec.lowered (system_of flow.now batches.now) (reverse events.now) (family_of flow.now fronts.now) p
+        (family_of flow.now fronts.now p))) }
 {
     let mut lower = Vec::new(alloc);
     for place in 0..flow.nodes() {
         let node = NodeId::at(place as u32);
-        lower.push(lowered(alloc, flow, batches, events, fronts, node)?)?;
+        let front = front_at(alloc, fronts, node)?;
+        let left = lowered(alloc, flow, batches, events, fronts, node, front)?;
+        lower.push(left)?;
     }
     Ok(lower)
 }
 
-/// What is left of a node's frontier, where each stamp that can still come on an in-edge is taken away.
-fn lowered(
+/// What is left of a frontier of the node without what can still come on its in-edges.
+pub(super) fn lowered(
     alloc: Global,
     flow: &Flow,
     batches: &Batches,
     events: &[Event],
     fronts: &[Front],
     node: NodeId,
+    front: Front,
 ) -> Result<Front, AllocError>
     requires at_nodes { AreAtNodes flow.now (reverse events.now) }
     requires canonical { AreCanonical flow.now fronts.now }
+    requires front { IsCanonical (bounds_of flow.now node) front }
     ensures { IfOk result (λ f. Names (bounds_of flow.now node) f
-        (spec.lowered (system_of flow.now batches.now) (reverse events.now) (family_of flow.now fronts.now) node)) }
+        (spec.lowered (system_of flow.now batches.now) (reverse events.now) (family_of flow.now fronts.now) node
+        (frontier_of (bounds_of flow.now node) front))) }
 {
-    let mut front = front_at(alloc, fronts, node)?;
+    let mut left = front;
     let edges = flow.in_edges(node);
     for edge in edges {
         let arrived = phi(alloc, flow, batches, events, fronts, *edge)?;
-        front = front.meet(&arrived)?;
+        left = left.meet(&arrived)?;
     }
-    Ok(front)
+    Ok(left)
 }
 
 /// The frontier of a node in a list of one for each node.
-pub(super) fn front_at(alloc: Global, fronts: &[Front], node: NodeId) -> Result<Front, AllocError>
+fn front_at(alloc: Global, fronts: &[Front], node: NodeId) -> Result<Front, AllocError>
     ensures { IfOk result (λ f. f ≡ front_of fronts.now node) }
 {
     match fronts.get(node.place() as usize) {
@@ -122,7 +128,7 @@ pub(super) fn front_at(alloc: Global, fronts: &[Front], node: NodeId) -> Result<
 }
 
 /// What of an edge comes from the frontier of its sender.
-pub(super) fn phi(
+fn phi(
     alloc: Global,
     flow: &Flow,
     batches: &Batches,

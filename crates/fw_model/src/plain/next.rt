@@ -1,6 +1,7 @@
 //! What may come next at an input, on an edge, at a node.
 ghost use Rattle.std.specs.Prelude.{◌≡◌, ℕ, length, reverse, if◌then◌else◌, MatchOption, IfOk};
 ghost use Rattle.std.specs.Option.{option_copied};
+ghost use Rattle.fw_time.specs.Stamp.{Stamp as Time};
 ghost use Rattle.fw_flow.specs.declared.event.Message.{Message as Sent};
 ghost use Rattle.fw_flow.specs.Dataflow.{is_input_kind, is_numbered};
 ghost use Rattle.fw_model.specs.History as history;
@@ -8,12 +9,16 @@ ghost use Rattle.fw_model.specs.History.{IsNextBatch};
 ghost use Rattle.fw_model.specs.Least as least;
 ghost use Rattle.fw_model.specs.Least.{is_wanted_message, IsLeast, lesser_of};
 ghost use Rattle.fw_model.specs.LawsOfLegalHistories.{HasEpochs};
-ghost use Rattle.fw_model.specs.Steps.{IsNextMessage};
+ghost use Rattle.fw_model.specs.Steps.{IsNextMessage, IsNextNotice};
 ghost use Rattle.fw_model.specs.Plain.{system_of, AreAtNodes};
 
 use super::arrivals::{batches_of, is_same};
+use super::clear::{owed_stamps, pending_stamps};
+use super::complete::{complete_frontiers, lowered};
+use super::ready::least_ready;
 use super::waiting::{compare, delivered_count, pending};
 use fw_flow::{Domain, EdgeId, Event, Flow, Kind, Message, NodeId};
+use fw_frontier::Front;
 use fw_lines::Batches;
 use fw_time::Stamp;
 use std::alloc::{AllocError, Global};
@@ -110,7 +115,7 @@ fn is_number(number: Option<usize>, t: &Stamp) -> bool
 }
 
 /// Whether the stamp is the one that is asked for, if one is.
-fn is_asked(at: Option<&Stamp>, t: &Stamp) -> bool
+pub(super) fn is_asked(at: Option<&Stamp>, t: &Stamp) -> bool
     ensures { result ≡ least.is_asked (option_copied at.entry) t.now }
 {
     match at {
@@ -158,4 +163,29 @@ fn lesser(message: Message, other: Option<Message>) -> Message
             }
         }
     }
+}
+
+/// The next stamp of which a node may be notified, the one that is asked for if one is, if there is one. The only error
+/// is want of memory.
+pub fn next_notice(
+    alloc: Global,
+    flow: &Flow,
+    batches: &Batches,
+    events: &[Event],
+    node: NodeId,
+    at: Option<&Stamp>,
+) -> Result<Option<Stamp>, AllocError>
+    requires { AreAtNodes flow.now (reverse events.now) }
+    ensures { let sys = system_of flow.now batches.now in
+        let asked = option_copied at.entry in
+        IfOk result (λ next. MatchOption next
+        ((t : Time) → IsNextNotice sys (reverse events.now) node asked t → ⊥)
+        (λ t. IsNextNotice sys (reverse events.now) node asked t)) }
+{
+    let owed = owed_stamps(alloc, flow, events, node)?;
+    let waiting = pending_stamps(alloc, flow, batches, events, node)?;
+    let fronts = complete_frontiers(alloc, flow, batches, events)?;
+    let all = Front::all(alloc);
+    let arrived = lowered(alloc, flow, batches, events, &fronts, node, all)?;
+    Ok(least_ready(&owed, &waiting, &arrived, at))
 }

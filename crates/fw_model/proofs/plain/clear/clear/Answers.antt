@@ -1,4 +1,4 @@
-use Rattle.std.proofs.Common.{◌∙◌, reverse}
+use Rattle.std.proofs.Common.{◌∙◌}
 use Rattle.std.proofs.lemmas.Result.{IfOk-weaker}
 use Rattle.fw_model.specs.Plain.{system_of}
 use Rattle.fw_model.proofs.ClearSteps.{clear_is}

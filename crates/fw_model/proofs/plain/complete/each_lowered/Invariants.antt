@@ -10,5 +10,5 @@ abbrev pub invariant-loop-place : goal.invariant-loop-place
 invariant-loop-place l = record {
   one_each : length l.lower.items ≡ l.place;
   lowered : (p : ℕ) → p < l.place → Names (bounds_of l.flow p) (front_of l.lower.items p)
-      (lowered (system_of l.flow l.batches) (reverse l.events) (family_of l.flow l.fronts) p);
+      (lowered (system_of l.flow l.batches) (reverse l.events) (family_of l.flow l.fronts) p (family_of l.flow l.fronts p));
 }

@@ -1,12 +1,12 @@
-use Rattle.std.proofs.Common.{reverse, sym, ◌∙◌}
-use Rattle.std.proofs.lemmas.Result.{IfOk-weaker}
+use Rattle.std.proofs.Common.{reverse}
+use Rattle.fw_frontier.specs.Front.{frontier_of}
 use Rattle.fw_flow.specs.Dataflow.{bounds_of}
 use Rattle.fw_model.specs.Plain.{system_of, family_of}
 use Rattle.fw_model.proofs.CompleteSteps.{arrived_here, lowered_more, lowered_none}
 use Rattle.fw_model.proofs.plain.complete.lowered.Goals as goal
 
 pub loop-edge-init : goal.loop-edge-init
-loop-edge-init c = lowered_none c.args.flow.now c.args.fronts.now c.args.node c.in_ok-front.front c.requires.canonical c.in_ok-front.ensures
+loop-edge-init c = lowered_none (bounds_of c.args.flow.now c.args.node) c.args.front c.requires.front
 
 pub loop-edge-preserved : goal.loop-edge-preserved
 loop-edge-preserved c =
@@ -17,5 +17,5 @@ loop-edge-preserved c =
     let e = c.edge-item.result in
     let old = c.loop-edge.invariant in
     let here = arrived_here sys c.args.node c.in_ok-arrived.arrived edges i e _ c.in_edges-edges.ensures c.loop-edge-test.true c.edge-item.is c.in_ok-arrived.ensures in
-    lowered_more sys (reverse c.args.events.now) (family_of flow c.args.fronts.now) c.args.node c.loop-edge.front c.in_ok-arrived.arrived c.in_ok-front-2.front edges i e
-    c.loop-edge-test.true c.edge-item.is old here (c.in_ok-front-2.ensures (bounds_of flow c.args.node) old.canonical here.canonical)
+    lowered_more sys (reverse c.args.events.now) (family_of flow c.args.fronts.now) c.args.node (frontier_of (bounds_of flow c.args.node) c.args.front) c.loop-edge.left c.in_ok-arrived.arrived c.in_ok-left.left edges i e
+    c.loop-edge-test.true c.edge-item.is old here (c.in_ok-left.ensures (bounds_of flow c.args.node) old.canonical here.canonical)

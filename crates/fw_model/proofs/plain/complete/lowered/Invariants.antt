@@ -1,5 +1,5 @@
 use Rattle.std.proofs.Common.{reverse, take}
-use Rattle.fw_frontier.specs.Front.{Names}
+use Rattle.fw_frontier.specs.Front.{frontier_of, Names}
 use Rattle.fw_flow.specs.Dataflow.{bounds_of}
 use Rattle.fw_model.specs.Plain.{system_of, family_of}
 use Rattle.fw_model.proofs.CompleteSteps.{left_by}
@@ -7,5 +7,5 @@ use Rattle.fw_model.proofs.plain.complete.lowered.Given as goal
 
 abbrev pub invariant-loop-edge : goal.invariant-loop-edge
 invariant-loop-edge l =
-    Names (bounds_of l.flow l.fn.node) l.front
-    (left_by (system_of l.flow l.batches) (reverse l.events) (family_of l.flow l.fronts) l.fn.node (take l.edge-index l.edges))
+    Names (bounds_of l.flow l.fn.node) l.left
+    (left_by (system_of l.flow l.batches) (reverse l.events) (family_of l.flow l.fronts) (take l.edge-index l.edges) (frontier_of (bounds_of l.flow l.fn.node) l.fn.front))

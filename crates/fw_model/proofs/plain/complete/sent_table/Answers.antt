@@ -1,4 +1,4 @@
-use Rattle.std.proofs.Common.{◌++◌, ◌∷◌, [], reverse, sym, ap, ◌∙◌, arith}
+use Rattle.std.proofs.Common.{◌++◌, ◌∷◌, [], sym, ap, ◌∙◌, arith}
 use Rattle.fw_model.specs.Plain.{system_of}
 use Rattle.fw_model.proofs.CompleteSteps.{table_more, table_same, at_nodes_at}
 use Rattle.fw_model.proofs.plain.complete.sent_table.Goals.{in-Some+in_ok-sent+in_ok-push, in_default-notified_epoch}

@@ -65,7 +65,7 @@ fn flows(rt: HostRuntime) -> Result<(), Fail> {
             "node out select key = 1 policy none",
             "refused F9 line 0\n",
         ),
-        (0, "# flow A\n\n  node   src input  ", ""),
+        (0, "# one select\n\n  node   src input  ", ""),
         (
             1,
             "node big select key != value set value key plus 1 policy none",

@@ -3,7 +3,8 @@ use Rattle.std.proofs.Common.{◌≡◌, ◌≢◌, ◌⊎◌, ℕ, zero, suc, r
 use Rattle.std.proofs.lemmas.Bool.{cases_eq}
 use Rattle.fw_flow.specs.declared.choice.Cut.{Cut}
 use Rattle.fw_flow.specs.Dataflow.{System}
-use Rattle.fw_model.specs.Choice.{Choice, IsConsistent}
+use Rattle.fw_flow.specs.declared.choice.Choice.{Choice}
+use Rattle.fw_model.specs.Choice.{IsConsistent}
 use Rattle.fw_model.specs.Machine.{Machine}
 use Rattle.fw_model.specs.Steps.{offers}
 use Rattle.fw_examples.specs.Inclusions.{Inclusion, of_delivered, of_discarded, of_notified, of_own, of_notes, Meets, IsConsistentWithout, LeavesOutOne}

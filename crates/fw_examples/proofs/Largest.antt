@@ -10,7 +10,8 @@ use Rattle.fw_flow.specs.declared.choice.Cut.TheVariants.{Present, At}
 use Rattle.fw_flow.specs.Dataflow.{kind_of, policy_of, sender, receiver, bounds_of, max_of}
 use Rattle.fw_flow.specs.Projection.{phi, psi}
 use Rattle.fw_model.specs.Machine.{events, front_of}
-use Rattle.fw_model.specs.Choice.{Choice, IsConsistent, IsCutWithin, IsLargest, set_of, cut_of, note_of, kept_of, delivered_cover, discarded_cover, notified_cover}
+use Rattle.fw_flow.specs.declared.choice.Choice.{Choice}
+use Rattle.fw_model.specs.Choice.{IsConsistent, IsCutWithin, IsLargest, set_of, cut_of, note_of, kept_of, delivered_cover, discarded_cover, notified_cover}
 use Rattle.fw_model.specs.Steps.{CutsTo, IsSettledCut, offers}
 use Rattle.fw_examples.specs.Flows.{loop_counts_up, two_batches}
 use Rattle.fw_examples.specs.UnderWay.{under_way, counted_rounds, complete_fronts}

@@ -13,7 +13,8 @@ use Rattle.fw_flow.specs.declared.step.Step.TheVariants.{Inject, Deliver, Progre
 use Rattle.fw_flow.specs.Dataflow.{kind_of, policy_of, sender, receiver, bounds_of, batches_of}
 use Rattle.fw_flow.specs.NodeFunction.{sends}
 use Rattle.fw_flow.specs.Projection.{phi, psi}
-use Rattle.fw_model.specs.Choice.{Choice, cut_of, note_of, discarded_cover, IsLogged, IsConsistent, IsCutWithin, IsChoiceWithin}
+use Rattle.fw_flow.specs.declared.choice.Choice.{Choice}
+use Rattle.fw_model.specs.Choice.{cut_of, note_of, discarded_cover, IsLogged, IsConsistent, IsCutWithin, IsChoiceWithin}
 use Rattle.fw_model.specs.History.{pending, some_at, IsComplete}
 use Rattle.fw_model.specs.Machine.{Machine, Write, first_state, events, front_of, logged_event, in_flight, acknowledged}
 use Rattle.fw_model.specs.Steps.{Steps, CutsTo, with_event, offers, did, quiet, cuts, acked}

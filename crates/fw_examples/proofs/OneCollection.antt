@@ -13,7 +13,8 @@ use Rattle.fw_flow.specs.declared.step.Step.TheVariants.{Inject, Deliver, Progre
 use Rattle.fw_flow.specs.Dataflow.{kind_of, policy_of, sender, receiver, bounds_of, batches_of}
 use Rattle.fw_flow.specs.NodeFunction.{sends}
 use Rattle.fw_flow.specs.Projection.{phi, psi}
-use Rattle.fw_model.specs.Choice.{Choice, kept, cut_of, IsCandidate, IsConsistent, IsCutWithin, IsChoiceWithin, IsLargest, offers_of_writes}
+use Rattle.fw_flow.specs.declared.choice.Choice.{Choice}
+use Rattle.fw_model.specs.Choice.{kept, cut_of, IsCandidate, IsConsistent, IsCutWithin, IsChoiceWithin, IsLargest, offers_of_writes}
 use Rattle.fw_model.specs.History.{pending, some_at, IsComplete}
 use Rattle.fw_model.specs.Machine.{Machine, first_state, events, front_of, is_failed, checkpoint, acknowledged, in_flight}
 use Rattle.fw_model.specs.Steps.{Steps, Takes, Effect, CutsTo, with_event, front_of_cut, did, quiet, cuts, lows, acked}

@@ -11,7 +11,8 @@ use Rattle.fw_flow.specs.declared.step.Step.TheVariants.{Inject, Deliver, Fail}
 use Rattle.fw_flow.specs.Dataflow.{kind_of, policy_of, sender, receiver, bounds_of, batches_of}
 use Rattle.fw_flow.specs.NodeFunction.{sends}
 use Rattle.fw_flow.specs.Projection.{phi, psi}
-use Rattle.fw_model.specs.Choice.{Choice, filtered, cut_of, note_of, delivered_cover, discarded_cover, IsConsistent, IsCutWithin, IsChoiceWithin}
+use Rattle.fw_flow.specs.declared.choice.Choice.{Choice}
+use Rattle.fw_model.specs.Choice.{filtered, cut_of, note_of, delivered_cover, discarded_cover, IsConsistent, IsCutWithin, IsChoiceWithin}
 use Rattle.fw_model.specs.History.{pending}
 use Rattle.fw_model.specs.Machine.{Machine, first_state, events}
 use Rattle.fw_model.specs.Steps.{Steps, with_event, offers, did, quiet}

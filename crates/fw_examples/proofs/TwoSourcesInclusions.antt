@@ -8,7 +8,8 @@ use Rattle.fw_flow.specs.declared.choice.Cut.TheVariants.{Present, At}
 use Rattle.fw_flow.specs.Dataflow.{kind_of, policy_of, sender, receiver, bounds_of, batches_of}
 use Rattle.fw_flow.specs.NodeFunction.{sends}
 use Rattle.fw_flow.specs.Projection.{phi, psi}
-use Rattle.fw_model.specs.Choice.{Choice, cut_of, note_of, discarded_cover, notified_cover, IsConsistent, IsCutWithin, IsChoiceWithin, IsLargest}
+use Rattle.fw_flow.specs.declared.choice.Choice.{Choice}
+use Rattle.fw_model.specs.Choice.{cut_of, note_of, discarded_cover, notified_cover, IsConsistent, IsCutWithin, IsChoiceWithin, IsLargest}
 use Rattle.fw_model.specs.Machine.{front_of}
 use Rattle.fw_model.specs.Steps.{offers}
 use Rattle.fw_examples.specs.TwoSources.{two_sources_flow}

@@ -7,7 +7,8 @@ use Rattle.fw_flow.specs.declared.choice.Cut.TheVariants.{Present, At}
 use Rattle.fw_flow.specs.declared.step.Step.TheVariants.{Inject, Deliver, Notify, Fail}
 use Rattle.fw_flow.specs.Dataflow.{System, sender, receiver, bounds_of}
 use Rattle.fw_flow.specs.Projection.{phi}
-use Rattle.fw_model.specs.Choice.{Choice, cut_of, note_of, kept_of, delivered_cover, discarded_cover, notified_cover, filtered, IsConsistent, IsLargest, IsChoiceWithin}
+use Rattle.fw_flow.specs.declared.choice.Choice.{Choice}
+use Rattle.fw_model.specs.Choice.{cut_of, note_of, kept_of, delivered_cover, discarded_cover, notified_cover, filtered, IsConsistent, IsLargest, IsChoiceWithin}
 use Rattle.fw_model.specs.History.{pending, IsLegal}
 use Rattle.fw_model.specs.Machine.{Machine, events, first_state, front_of}
 use Rattle.fw_model.specs.Steps.{Run, offers, did, quiet}

@@ -6,7 +6,7 @@ use Rattle.fw_flow.specs.declared.choice.Cut.TheVariants.{Present, At}
 use Rattle.fw_flow.specs.declared.kind.Policy.TheVariants as policy
 use Rattle.fw_flow.specs.declared.step.Step.TheVariants.{Inject, Deliver, Progress, Persist, Fail, Recover, Ack}
 use Rattle.fw_flow.specs.Dataflow.{System}
-use Rattle.fw_model.specs.Choice.{Choice}
+use Rattle.fw_flow.specs.declared.choice.Choice.{Choice}
 use Rattle.fw_model.specs.Machine.{Machine, first_state}
 use Rattle.fw_model.specs.Steps.{Run, did, quiet, cuts, acked}
 use Rattle.fw_examples.specs.OneSelect.{one_select_of, rec_of, src, big, out, src_to_big, big_to_out}

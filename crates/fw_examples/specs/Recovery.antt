@@ -8,7 +8,8 @@ use Rattle.fw_flow.specs.declared.step.Step.{Step}
 use Rattle.fw_flow.specs.declared.step.Step.TheVariants as step
 use Rattle.fw_model.specs.History.{IsLegal, pending}
 use Rattle.fw_model.specs.Machine.{Machine, Numbered, events, first_state}
-use Rattle.fw_model.specs.Choice.{Choice, filtered, IsLargest}
+use Rattle.fw_flow.specs.declared.choice.Choice.{Choice}
+use Rattle.fw_model.specs.Choice.{filtered, IsLargest}
 use Rattle.fw_model.specs.Steps.{Outcome, did, quiet, acked, cuts, CutsTo, Run, offers, recovered}
 use Rattle.fw_examples.specs.Flows.{two_batches, pair}
 use Rattle.fw_examples.specs.UnderWay.{message, round, under_way, counted_rounds, complete_fronts}

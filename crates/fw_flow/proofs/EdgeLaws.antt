@@ -9,7 +9,7 @@ use Rattle.fw_flow.specs.declared.event.Event.{Event}
 use Rattle.fw_flow.specs.declared.kind.Kind.TheVariants.{OutputEpoch, Sequence}
 use Rattle.fw_flow.specs.Dataflow.{System, Dataflow, idle_node, kind_of, sender, receiver, domain_of, domain_of_kind, out_domain_of, out_domain_of_kind, greatest_of_kind, bounds_of, bounds_of_domain}
 use Rattle.fw_flow.specs.WellFormed.{IsWellFormed, IsGroupSize}
-use Rattle.fw_flow.specs.Projection.{phi_of_kind, psi_of_kind, psi_back_of_kind, phi, psi, psi_back, table_count, IsSentTable}
+use Rattle.fw_flow.specs.Projection.{phi_of_kind, psi_of_kind, psi_back_of_kind, phi, phi_by_count, psi, psi_back, table_count, IsSentTable}
 use Rattle.fw_flow.specs.ProjectedStamps.{JoinsDomains}
 use Rattle.fw_flow.proofs.ProjectionLaws.{phi-by_table}
 
@@ -86,6 +86,19 @@ phi-named flow w e os g table sys h same =
         (phi sys h e f) n
         (λ u. ap (λ d. in_domain (bounds_of_domain sys.flow d) u && phi_of_kind (greatest_of_kind sys.flow kind) kind (table_count f table) f u) (sym (edge-domains sys.flow w e))
         ∙ sym (phi-by_table sys h e f table is u))
+
+pub phi-counted : (flow : Dataflow) → IsWellFormed flow → (e : ℕ) (os g : Front) (count : ℕ)
+    → Names (bounds_of flow (receiver flow e)) g (λ u. in_domain (bounds_of flow (receiver flow e)) u
+    && phi_of_kind (bounds_of flow (sender flow e)).greatest (kind_of flow (sender flow e)) count (frontier_of (bounds_of flow (sender flow e)) os) u)
+    → Names (bounds_of flow (receiver flow e)) g (phi_by_count flow count e (frontier_of (bounds_of flow (sender flow e)) os))
+unfolding bounds_of phi_by_count
+phi-counted flow w e os g count n =
+    let f = frontier_of (bounds_of flow (sender flow e)) os in
+    let kind = kind_of flow (sender flow e) in
+    names-as (bounds_of flow (receiver flow e)) g
+    (λ u. in_domain (bounds_of flow (receiver flow e)) u && phi_of_kind (bounds_of flow (sender flow e)).greatest kind count f u)
+    (phi_by_count flow count e f) n
+    (λ u. ap (λ d. in_domain (bounds_of_domain flow d) u && phi_of_kind (greatest_of_kind flow kind) kind count f u) (sym (edge-domains flow w e)))
 
 pub psi-named : (flow : Dataflow) → IsWellFormed flow → (e : ℕ) (os g : Front) (sys : System) → sys.flow ≡ flow
     → Names (bounds_of flow (receiver flow e)) g (λ u. in_domain (bounds_of flow (receiver flow e)) u

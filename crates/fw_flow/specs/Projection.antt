@@ -70,6 +70,12 @@ phi sys h e f u =
     in_domain (bounds_of_domain sys.flow (out_domain_of_kind sys.flow (kind_of sys.flow (sender sys.flow e)))) u
     && phi_of_kind (greatest_of_kind sys.flow (kind_of sys.flow (sender sys.flow e))) (kind_of sys.flow (sender sys.flow e)) (sent_count sys h (sender sys.flow e) f) f u
 
+-- the same, where the events of the sender inside f sent so many messages in all
+unfoldable pub phi_by_count : Dataflow → ℕ → ℕ → Frontier → Frontier
+phi_by_count flow count e f u =
+    in_domain (bounds_of_domain flow (out_domain_of_kind flow (kind_of flow (sender flow e)))) u
+    && phi_of_kind (greatest_of_kind flow (kind_of flow (sender flow e))) (kind_of flow (sender flow e)) count f u
+
 -- Below which stamps events inside f can send, by the kind of the sender and the greatest stamp of its domain, for the
 -- kinds that may keep nothing.
 abbrev pub psi_of_kind : Stamp → Kind → Frontier → Frontier

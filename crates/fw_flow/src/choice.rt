@@ -1,5 +1,12 @@
-//! To what a node is cut by a recovery.
+//! To what nodes are restored after a failure, and what each of them offers.
+ghost use Rattle.std.specs.Prelude.{◌≡◌, IfOk};
+ghost use Rattle.fw_flow.specs.declared.choice.Cut.TheVariants as cut;
+
+use crate::{Causes, EdgeId};
 use fw_frontier::Front;
+use fw_time::Stamp;
+use std::alloc::AllocError;
+use std::marker::Model;
 
 /// To what a node is cut.
 #[derive(Debug, Drop)]
@@ -8,4 +15,144 @@ pub enum Cut {
     Present,
     /// It keeps what its events in the frontier made.
     At(Front),
+}
+
+impl Cut {
+    /// The same cut once more. The error is want of memory.
+    pub fn copy(&self) -> Result<Self, AllocError>
+        ensures { IfOk result (λ same. same ≡ self.now) }
+    {
+        match self {
+            Cut::Present => Ok(Cut::Present),
+            Cut::At(front) => Ok(Cut::At(front.copy()?)),
+        }
+    }
+}
+
+/// Cuts, one for each node. Contracts see their list.
+#[derive(Debug, Drop)]
+pub struct Cuts {
+    cuts: Vec<Cut>,
+}
+
+impl Model for Cuts {
+    ghost use Rattle.std.specs.Prelude.{List};
+    ghost use Rattle.fw_flow.specs.declared.choice.Cut.{Cut};
+
+    ghost Value = { List Cut };
+
+    ghost view = { λ cuts. cuts.cuts.items };
+}
+
+impl Cuts {
+    /// These cuts.
+    pub fn of(cuts: Vec<Cut>) -> Self
+        ensures { result ≡ cuts.items }
+    {
+        Cuts { cuts }
+    }
+
+    /// The cuts, in order of the nodes.
+    pub fn as_slice(&self) -> &[Cut]
+        ensures { result.now ≡ self.now }
+    {
+        &self.cuts
+    }
+}
+
+/// Frontiers, one for each node. Contracts see their list.
+#[derive(Debug, Drop)]
+pub struct Fronts {
+    fronts: Vec<Front>,
+}
+
+impl Model for Fronts {
+    ghost use Rattle.std.specs.Prelude.{ℕ, List};
+
+    ghost Value = { List (List (List ℕ)) };
+
+    ghost view = { λ fronts. fronts.fronts.items };
+}
+
+impl Fronts {
+    /// These frontiers.
+    pub fn of(fronts: Vec<Front>) -> Self
+        ensures { result ≡ fronts.items }
+    {
+        Fronts { fronts }
+    }
+
+    /// The frontiers, in order of the nodes.
+    pub fn as_slice(&self) -> &[Front]
+        ensures { result.now ≡ self.now }
+    {
+        &self.fronts
+    }
+}
+
+/// For each node to what it is cut, and its notification frontier.
+#[derive(Debug, Drop)]
+pub struct Choice {
+    pub cuts: Cuts,
+    pub notes: Fronts,
+}
+
+/// Messages of an edge with one stamp and the same causes.
+#[derive(Debug, Drop)]
+pub struct Counted {
+    pub edge: EdgeId,
+    /// Their stamp, in the receiver's domain.
+    pub at: Stamp,
+    /// The stamps of the sender's events that they come from.
+    pub causes: Causes,
+    /// How many they are.
+    pub count: u64,
+}
+
+/// Where a node's events are, and where they sent: each in any order.
+#[derive(Debug, Drop)]
+pub struct Stamps {
+    /// What was delivered to it, on its in-edges.
+    pub delivered: Vec<Counted>,
+    /// Of what it was notified.
+    pub notified: Vec<Stamp>,
+    /// What it sent, on its out-edges.
+    pub sent: Vec<Counted>,
+}
+
+/// A frontier of an edge.
+#[derive(Debug, Drop)]
+pub struct OfEdge {
+    pub edge: EdgeId,
+    pub front: Front,
+}
+
+/// A frontier that a node recorded, with what stands for its events inside.
+#[derive(Debug, Drop)]
+pub struct Recorded {
+    pub front: Front,
+    /// The cover of what it was notified of.
+    pub notified: Front,
+    /// The cover of what was delivered to it, for each in-edge; nothing on an edge that is not listed.
+    pub delivered: Vec<OfEdge>,
+    /// The cover of what it sent and cannot send again, for each out-edge; nothing on an edge that is not listed.
+    pub discarded: Vec<OfEdge>,
+}
+
+/// The frontiers to which a node can be restored.
+#[derive(Debug, Drop)]
+pub enum Offered {
+    /// These.
+    Listed(Vec<Recorded>),
+    /// All from a least one to a greatest one.
+    Between { least: Front, greatest: Front },
+}
+
+/// What a node offers to a recovery.
+#[derive(Debug, Drop)]
+pub struct Offer {
+    /// Whether it can stay as it is.
+    pub present: bool,
+    pub offered: Offered,
+    pub stamps: Stamps,
 }

@@ -17,7 +17,7 @@ mod raw;
 mod step;
 mod walks;
 
-pub use choice::Cut;
+pub use choice::{Choice, Counted, Cut, Cuts, Fronts, OfEdge, Offer, Offered, Recorded, Stamps};
 pub use event::{Causes, Event, Message};
 pub use flow::Flow;
 pub use ids::{EdgeId, LoopId, NodeId};

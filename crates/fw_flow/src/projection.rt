@@ -7,7 +7,7 @@ ghost use Rattle.fw_time.specs.Sending.{fed_back};
 ghost use Rattle.fw_frontier.specs.Front.{frontier_of, IsCanonical, Names};
 ghost use Rattle.fw_flow.specs.declared.event.Event.{Event};
 ghost use Rattle.fw_flow.specs.Dataflow.{System, greatest_number, kind_of, sender, receiver, bounds_of};
-ghost use Rattle.fw_flow.specs.Projection.{number_of, phi, psi, psi_back, phi_of_kind, psi_of_kind, psi_back_of_kind, table_count, IsSentTable};
+ghost use Rattle.fw_flow.specs.Projection.{number_of, phi, phi_by_count, psi, psi_back, phi_of_kind, psi_of_kind, psi_back_of_kind, table_count, IsSentTable};
 ghost use Rattle.fw_flow.specs.ProjectedStamps.{IsNest, image, images, entered_outside, front_until, JoinsDomains};
 ghost use Rattle.fw_flow.specs.WellFormed.{IsWellFormed, IsGroupSize};
 
@@ -76,7 +76,8 @@ fn has_epoch(f: &Front, epoch: u32) -> bool
 
 impl Flow {
     /// If the sender of the edge keeps its events in `f`, each message on the edge at a stamp inside the answer comes from
-    /// one of them. Only for a sequence it reads `sent`, what the sequence sent so far. The only error is want of memory.
+    /// one of them. Only for a sequence it reads `sent`, what the sequence sent so far: it counts those of the epochs inside.
+    /// The only error is want of memory.
     pub fn phi(
         &self,
         alloc: Global,
@@ -85,7 +86,10 @@ impl Flow {
         sent: &SentTable,
     ) -> Result<Front, AllocError>
         requires { IsCanonical (bounds_of self.now (sender self.now edge)) f.now }
-        ensures { (sys : System) (h : List Event) → sys.flow ≡ self.now
+        ensures by_table { let inside = frontier_of (bounds_of self.now (sender self.now edge)) f.now in IfOk result
+            (λ g. Names (bounds_of self.now (receiver self.now edge)) g
+            (phi_by_count self.now (table_count inside sent.now) edge inside)) }
+        ensures after_history { (sys : System) (h : List Event) → sys.flow ≡ self.now
             → (kind_of self.now (sender self.now edge) ≡ Kind.Sequence → IsSentTable sys h (sender self.now edge) sent.now)
             → IfOk result (λ g. Names (bounds_of self.now (receiver self.now edge)) g
             (phi sys h edge (frontier_of (bounds_of self.now (sender self.now edge)) f.now))) }

@@ -15,7 +15,8 @@ use Rattle.fw_flow.specs.Projection.{phi, psi_of_kind, psi}
 use Rattle.fw_model.specs.History.{delivered, sent, injected_count, is_exhausted}
 use Rattle.fw_model.specs.LawsOfProjections.{bounds_of_edge}
 use Rattle.fw_model.specs.Machine.{Machine, Numbered, Write, Written, checkpoint, logged_event, Progress, events, no_stamps, front_of, bound_of}
-use Rattle.fw_model.specs.Choice.{View, kept, ever, Restoring, by_batches, by_bound, by_anything, by_checkpoints, by_events, counts, until, HasCheckpoint, IsLogged, AllLogged, IsRestorable, HoldsLow, IsCandidate, restoring, can_resend, Choice, cut_of, note_of, kept_of, takes_its_cut, takes_its_notes, stamps_inside, stamps_from, notified_inside, delivered_cover, notified_cover, sent_cover, discarded_at, discarded_cover, IsConsistent}
+use Rattle.fw_flow.specs.declared.choice.Choice.{Choice}
+use Rattle.fw_model.specs.Choice.{View, kept, ever, Restoring, by_batches, by_bound, by_anything, by_checkpoints, by_events, counts, until, HasCheckpoint, IsLogged, AllLogged, IsRestorable, HoldsLow, IsCandidate, restoring, can_resend, cut_of, note_of, kept_of, takes_its_cut, takes_its_notes, stamps_inside, stamps_from, notified_inside, delivered_cover, notified_cover, sent_cover, discarded_at, discarded_cover, IsConsistent}
 use Rattle.fw_model.proofs.CmpLaws.{decided-front}
 use Rattle.fw_model.proofs.Decisions.{two_ways, Decided, decided-test, decided-or, decided-as, decided-and, decided-if, decided-number, decided-places, decided-each, find_place}
 use Rattle.fw_model.proofs.StampLists.{find_stamp}

@@ -18,7 +18,8 @@ use Rattle.fw_flow.specs.Projection.{phi}
 use Rattle.fw_flow.specs.WellFormed.{IsWellFormed}
 use Rattle.fw_model.specs.History.{delivered, IsLegal}
 use Rattle.fw_model.specs.Machine.{Machine, Numbered, events, front_of}
-use Rattle.fw_model.specs.Choice.{Choice, stamp_of_notice, restoring, set_of, takes_its_cut, takes_its_notes, cut_of, note_of, kept_of, delivered_cover, notified_cover, filtered}
+use Rattle.fw_flow.specs.declared.choice.Choice.{Choice}
+use Rattle.fw_model.specs.Choice.{stamp_of_notice, restoring, set_of, takes_its_cut, takes_its_notes, cut_of, note_of, kept_of, delivered_cover, notified_cover, filtered}
 use Rattle.fw_model.specs.LawsOfFiltering.{kept_events, IsConsistentlyKept, MeetsInclusions, ConsistentMeetsInclusions, FilteredHistoryIsLegal}
 use Rattle.fw_model.proofs.EachLaws.{each-weaker}
 use Rattle.fw_model.proofs.StampLaws.{leq-refl}

@@ -6,7 +6,8 @@ use Rattle.fw_flow.specs.declared.choice.Cut.{Cut}
 use Rattle.fw_flow.specs.declared.choice.Cut.TheVariants.{Present, At}
 use Rattle.fw_flow.specs.Dataflow.{System, bounds_of}
 use Rattle.fw_model.specs.Machine.{Machine, front_of}
-use Rattle.fw_model.specs.Choice.{View, IsCandidate, Choice, cut_of, IsConsistent, IsCutWithin, IsChoiceWithin}
+use Rattle.fw_flow.specs.declared.choice.Choice.{Choice}
+use Rattle.fw_model.specs.Choice.{View, IsCandidate, cut_of, IsConsistent, IsCutWithin, IsChoiceWithin}
 use Rattle.fw_model.specs.LawsOfExistence.{AreCheckpointsChains, LargestChoiceExists}
 use Rattle.fw_model.proofs.ChoiceLaws.{candidates-union, union-consistent, have-union, within-union}
 use Rattle.fw_model.proofs.ConsistentLaws.{consistent-decided}

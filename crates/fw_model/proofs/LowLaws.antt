@@ -23,7 +23,8 @@ use Rattle.fw_flow.specs.Projection.{phi}
 use Rattle.fw_flow.specs.WellFormed.{IsWellFormed, IsInDegree}
 use Rattle.fw_model.specs.History.{some_at, pending, was_delivered_to, was_notified, is_injection, injected_count, is_exhausted, IsEnabled, IsLegal}
 use Rattle.fw_model.specs.Machine.{Machine, Numbered, Write, Written, checkpoint, logged_event, Progress, in_flight, acknowledged, collected, events, no_stamps, first_state, front_of, bound_of}
-use Rattle.fw_model.specs.Choice.{View, kept, ever, Restoring, by_batches, by_bound, by_anything, by_checkpoints, by_events, restoring, can_resend, takes_its_cut, takes_its_notes, counts, until, HasCheckpoint, IsLogged, AllLogged, IsRestorable, HoldsLow, IsCandidate, Choice, cut_of, note_of, kept_of, set_of, IsConsistent, IsCutWithin, IsLargest, filtered, delivered_cover, notified_cover, discarded_at, discarded_cover}
+use Rattle.fw_flow.specs.declared.choice.Choice.{Choice}
+use Rattle.fw_model.specs.Choice.{View, kept, ever, Restoring, by_batches, by_bound, by_anything, by_checkpoints, by_events, restoring, can_resend, takes_its_cut, takes_its_notes, counts, until, HasCheckpoint, IsLogged, AllLogged, IsRestorable, HoldsLow, IsCandidate, cut_of, note_of, kept_of, set_of, IsConsistent, IsCutWithin, IsLargest, filtered, delivered_cover, notified_cover, discarded_at, discarded_cover}
 use Rattle.fw_model.specs.Steps.{write_of_event, with_event, is_within, AcknowledgesOldest, is_one_of, is_in_flight, has_serial, is_kept_write, IsSettledCut, CutsTo, recovered, is_below, after_collection, collected_writes, front_of_cut}
 use Rattle.fw_model.specs.LawsOfLegalHistories.{HasEpochs}
 use Rattle.fw_model.specs.LawsOfFiltering.{IsFull, AreFrontiers, kept_events}

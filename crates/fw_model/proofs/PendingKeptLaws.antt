@@ -18,7 +18,8 @@ use Rattle.fw_flow.specs.Projection.{all_inside}
 use Rattle.fw_flow.specs.WellFormed.{IsWellFormed, IsPolicyAllowed}
 use Rattle.fw_model.specs.History.{less, some_at, sent, delivered, pending, IsLegal}
 use Rattle.fw_model.specs.Machine.{Machine, events}
-use Rattle.fw_model.specs.Choice.{Choice, Restoring, by_bound, by_anything, restoring_of_policy, restoring, can_resend, stamps_from, set_of, cut_of, kept_of, sent_cover, discarded_at, discarded_cover}
+use Rattle.fw_flow.specs.declared.choice.Choice.{Choice}
+use Rattle.fw_model.specs.Choice.{Restoring, by_bound, by_anything, restoring_of_policy, restoring, can_resend, stamps_from, set_of, cut_of, kept_of, sent_cover, discarded_at, discarded_cover}
 use Rattle.fw_model.specs.LawsOfProjections.{bounds_of_edge}
 use Rattle.fw_model.specs.LawsOfSending.{SendsByStamp}
 use Rattle.fw_model.specs.LawsOfLegalHistories.{HasEpochs}

@@ -28,7 +28,8 @@ use Rattle.fw_flow.specs.WellFormed.{IsWellFormed, IsWellFormedSystem}
 use Rattle.fw_model.specs.Denotation.{Family, IsDenotation, bag_at}
 use Rattle.fw_model.specs.History.{some_at, sent, delivered, pending, was_delivered_to, was_notified, owed, IsAdmissible, IsEnabled, IsLegal}
 use Rattle.fw_model.specs.Machine.{Machine, Numbered, events, no_stamps, first_state, front_of, is_failed}
-use Rattle.fw_model.specs.Choice.{kept, Choice, set_of, cut_of, kept_of, filtered}
+use Rattle.fw_flow.specs.declared.choice.Choice.{Choice}
+use Rattle.fw_model.specs.Choice.{kept, set_of, cut_of, kept_of, filtered}
 use Rattle.fw_model.specs.Steps.{Effect, Outcome, did, idle, Takes, Steps, Run, with_event, GrowsTo, IsSettledCut, CutsTo, recovered}
 use Rattle.fw_model.specs.LawsOfProjections.{is_sequence_kind}
 use Rattle.fw_model.specs.LawsOfLegalHistories.{HasEpochs}

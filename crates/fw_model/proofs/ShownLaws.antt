@@ -9,7 +9,7 @@ use Rattle.fw_flow.specs.Dataflow.{System, Dataflow, kind_of, receiver, in_edges
 use Rattle.fw_flow.specs.WellFormed.{IsWellFormed}
 use Rattle.fw_model.specs.Denotation.{Family, rounds}
 use Rattle.fw_model.specs.Machine.{Machine, first_state}
-use Rattle.fw_model.specs.Choice.{Choice}
+use Rattle.fw_flow.specs.declared.choice.Choice.{Choice}
 use Rattle.fw_model.specs.Steps.{quiet, acked, cuts, lows, Outcome, Takes, Steps, Run}
 use Rattle.fw_model.specs.LawsOfDenotation.{enough_rounds}
 use Rattle.fw_model.specs.LawsOfRuns.{IsDenotedEffect, IsDenoted}

@@ -4,6 +4,7 @@ use Rattle.std.specs.List.{flat_map}
 use Rattle.fw_time.specs.Stamp.{Stamp}
 use Rattle.fw_frontier.specs.Frontier.{Frontier, Within, nothing, everything, cover}
 use Rattle.fw_frontier.specs.Front.{Front, frontier_of, IsCanonical}
+use Rattle.fw_flow.specs.declared.choice.Choice.{Choice}
 use Rattle.fw_flow.specs.declared.choice.Cut.{Cut}
 use Rattle.fw_flow.specs.declared.choice.Cut.TheVariants.{Present, At}
 use Rattle.fw_flow.specs.declared.event.Event.{Event}
@@ -190,11 +191,6 @@ discarded_cover sys state p e (At f) =
     if can_resend (policy_of sys.flow p) then nothing
     else discarded_at sys state p e (restoring (kind_of sys.flow p) (policy_of sys.flow p)) (frontier_of (bounds_of sys.flow p) f)
 
--- a cut and a notification frontier for each node
-pub record Choice : Type 0 where
-  pub cuts : List Cut
-  pub notes : List Front
-
 -- the cut of node p
 abbrev pub cut_of : Choice → ℕ → Cut
 cut_of choice p = slice_index_or choice.cuts p Present
@@ -207,22 +203,43 @@ note_of sys choice p = frontier_of (bounds_of sys.flow p) (front_of choice.notes
 abbrev pub kept_of : System → Choice → ℕ → Frontier
 kept_of sys choice p = set_of sys p (cut_of choice p)
 
+-- What counts of a node's events in a cut: as delivered on an in-edge; as sent on an out-edge, and it can't be sent again;
+-- and as notified. And what of an edge comes from a frontier of its sender.
+pub record Covers : Type 0 where
+  pub delivered : ℕ → Cut → Frontier
+  pub discarded : ℕ → Cut → Frontier
+  pub notified : ℕ → Cut → Frontier
+  pub arrived : ℕ → Frontier → Frontier
+
+-- what counts in a state of the machine
+abbrev pub covers_in : System → Machine → Covers
+covers_in sys state = record {
+  delivered = λ d cut. delivered_cover sys state (receiver sys.flow d) d cut;
+  discarded = λ e cut. discarded_cover sys state (sender sys.flow e) e cut;
+  notified = λ p cut. notified_cover sys state p cut;
+  arrived = λ e f. phi sys (events state.history) e f;
+}
+
 -- A choice from what is offered is consistent. On each edge what was delivered inside the receiver's cut comes from what
 -- the sender keeps, and what the sender cannot send again lies in what the receiver keeps. What a node was notified of
 -- inside its cut lies in its notification frontier, which lies in what it keeps and comes from the sender's.
-pub record IsConsistent (sys : System) (state : Machine) (offers : ℕ → Cut → Type 0) (choice : Choice) : Type 0 where
+pub record IsConsistentBy (sys : System) (covers : Covers) (offers : ℕ → Cut → Type 0) (choice : Choice) : Type 0 where
   pub one_cut_each : length choice.cuts ≡ length sys.flow.nodes
   pub one_note_each : length choice.notes ≡ length sys.flow.nodes
   pub offered : (p : ℕ) → p < length sys.flow.nodes → offers p (cut_of choice p)
   pub canonical : (p : ℕ) → p < length sys.flow.nodes → IsCanonical (bounds_of sys.flow p) (front_of choice.notes p)
   pub delivered : (d : ℕ) → d < length sys.flow.edges
-      → Within (delivered_cover sys state (receiver sys.flow d) d (cut_of choice (receiver sys.flow d))) (phi sys (events state.history) d (kept_of sys choice (sender sys.flow d)))
+      → Within (covers.delivered d (cut_of choice (receiver sys.flow d))) (covers.arrived d (kept_of sys choice (sender sys.flow d)))
   pub discarded : (e : ℕ) → e < length sys.flow.edges
-      → Within (discarded_cover sys state (sender sys.flow e) e (cut_of choice (sender sys.flow e))) (kept_of sys choice (receiver sys.flow e))
-  pub notified : (p : ℕ) → p < length sys.flow.nodes → Within (notified_cover sys state p (cut_of choice p)) (note_of sys choice p)
+      → Within (covers.discarded e (cut_of choice (sender sys.flow e))) (kept_of sys choice (receiver sys.flow e))
+  pub notified : (p : ℕ) → p < length sys.flow.nodes → Within (covers.notified p (cut_of choice p)) (note_of sys choice p)
   pub own : (p : ℕ) → p < length sys.flow.nodes → Within (note_of sys choice p) (kept_of sys choice p)
   pub notes : (d : ℕ) → d < length sys.flow.edges
-      → Within (note_of sys choice (receiver sys.flow d)) (phi sys (events state.history) d (note_of sys choice (sender sys.flow d)))
+      → Within (note_of sys choice (receiver sys.flow d)) (covers.arrived d (note_of sys choice (sender sys.flow d)))
+
+-- in a state of the machine a choice from what is offered is consistent
+abbrev pub IsConsistent : System → Machine → (ℕ → Cut → Type 0) → Choice → Type 0
+IsConsistent sys state offers choice = IsConsistentBy sys (covers_in sys state) offers choice
 
 -- a cut of node p lies within another: a state as it is lies above every other cut
 abbrev pub IsCutWithin : System → ℕ → Cut → Cut → Type 0
@@ -236,9 +253,13 @@ pub record IsChoiceWithin (sys : System) (smaller larger : Choice) : Type 0 wher
   pub notes : (p : ℕ) → p < length sys.flow.nodes → Within (note_of sys smaller p) (note_of sys larger p)
 
 -- the choice is consistent, and each consistent choice lies within it
-pub record IsLargest (sys : System) (state : Machine) (offers : ℕ → Cut → Type 0) (choice : Choice) : Type 0 where
-  pub consistent : IsConsistent sys state offers choice
-  pub largest : (other : Choice) → IsConsistent sys state offers other → IsChoiceWithin sys other choice
+pub record IsLargestBy (sys : System) (covers : Covers) (offers : ℕ → Cut → Type 0) (choice : Choice) : Type 0 where
+  pub consistent : IsConsistentBy sys covers offers choice
+  pub largest : (other : Choice) → IsConsistentBy sys covers offers other → IsChoiceWithin sys other choice
+
+-- in a state of the machine the choice is the largest consistent one
+abbrev pub IsLargest : System → Machine → (ℕ → Cut → Type 0) → Choice → Type 0
+IsLargest sys state offers choice = IsLargestBy sys (covers_in sys state) offers choice
 
 -- the history without the events outside the cut of their node
 abbrev pub filtered : System → Choice → List Numbered → List Numbered

@@ -6,7 +6,8 @@ use Rattle.fw_flow.specs.declared.choice.Cut.{Cut}
 use Rattle.fw_flow.specs.declared.choice.Cut.TheVariants.{Present, At}
 use Rattle.fw_flow.specs.Dataflow.{System, kind_of, policy_of, sender, bounds_of}
 use Rattle.fw_model.specs.Machine.{Machine, front_of}
-use Rattle.fw_model.specs.Choice.{View, by_checkpoints, restoring, Choice, IsCandidate, IsConsistent, IsCutWithin, IsChoiceWithin, IsLargest, cut_of, note_of, delivered_cover, notified_cover, discarded_cover}
+use Rattle.fw_flow.specs.declared.choice.Choice.{Choice}
+use Rattle.fw_model.specs.Choice.{View, by_checkpoints, restoring, IsCandidate, IsConsistent, IsCutWithin, IsChoiceWithin, IsLargest, cut_of, note_of, delivered_cover, notified_cover, discarded_cover}
 
 -- a largest choice of the restore candidates is the only one: two of them are the same cuts and the same lists of stamps
 abbrev pub LargestChoiceIsOne : Type 0

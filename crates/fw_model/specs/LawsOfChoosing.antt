@@ -9,7 +9,8 @@ use Rattle.fw_flow.specs.declared.step.Step.{Step}
 use Rattle.fw_flow.specs.Dataflow.{System, bounds_of}
 use Rattle.fw_flow.specs.WellFormed.{IsWellFormedSystem}
 use Rattle.fw_model.specs.Machine.{Machine, first_state, front_of}
-use Rattle.fw_model.specs.Choice.{View, kept, ever, Choice, cut_of, IsCandidate, IsConsistent, IsCutWithin, IsLargest}
+use Rattle.fw_flow.specs.declared.choice.Choice.{Choice}
+use Rattle.fw_model.specs.Choice.{View, kept, ever, cut_of, IsCandidate, IsConsistent, IsCutWithin, IsLargest}
 use Rattle.fw_model.specs.Steps.{acked, Outcome, did, Steps, Run}
 use Rattle.fw_model.specs.LawsOfExistence.{AreCheckpointsChains}
 use Rattle.fw_model.specs.LawsOfSteps.{CanChoose, IsTheNext}

@@ -10,7 +10,8 @@ use Rattle.fw_flow.specs.Dataflow.{System, kind_of, policy_of, bounds_of}
 use Rattle.fw_flow.specs.WellFormed.{IsWellFormed}
 use Rattle.fw_model.specs.History.{IsComplete}
 use Rattle.fw_model.specs.Machine.{Machine, events, front_of, is_failed}
-use Rattle.fw_model.specs.Choice.{View, by_checkpoints, restoring, IsCandidate, Choice, IsConsistent, IsCutWithin, IsLargest}
+use Rattle.fw_flow.specs.declared.choice.Choice.{Choice}
+use Rattle.fw_model.specs.Choice.{View, by_checkpoints, restoring, IsCandidate, IsConsistent, IsCutWithin, IsLargest}
 use Rattle.fw_model.specs.Steps.{GrowsTo}
 
 -- each frontier of a domain has a list of outside stamps that names it

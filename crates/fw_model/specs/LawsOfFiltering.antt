@@ -13,7 +13,8 @@ use Rattle.fw_flow.specs.Projection.{all_inside, phi}
 use Rattle.fw_flow.specs.WellFormed.{IsWellFormed}
 use Rattle.fw_model.specs.History.{IsLegal, IsQuiet, sent, delivered, pending, owed}
 use Rattle.fw_model.specs.Machine.{Machine, events, front_of}
-use Rattle.fw_model.specs.Choice.{View, Choice, IsCandidate, IsConsistent, stamp_of_notice, can_resend, cut_of, note_of, kept_of, delivered_cover, notified_cover, discarded_cover, filtered}
+use Rattle.fw_flow.specs.declared.choice.Choice.{Choice}
+use Rattle.fw_model.specs.Choice.{View, IsCandidate, IsConsistent, stamp_of_notice, can_resend, cut_of, note_of, kept_of, delivered_cover, notified_cover, discarded_cover, filtered}
 use Rattle.fw_model.specs.LawsOfLegalHistories.{HasEpochs}
 
 -- the stamps that each node keeps are a frontier of its domain

@@ -5,7 +5,8 @@ use Rattle.fw_flow.specs.declared.step.Step.TheVariants.{Recover, Collect}
 use Rattle.fw_flow.specs.Dataflow.{System}
 use Rattle.fw_flow.specs.WellFormed.{IsWellFormed}
 use Rattle.fw_model.specs.Machine.{Machine, is_failed}
-use Rattle.fw_model.specs.Choice.{kept, IsCandidate, Choice, IsConsistent}
+use Rattle.fw_flow.specs.declared.choice.Choice.{Choice}
+use Rattle.fw_model.specs.Choice.{kept, IsCandidate, IsConsistent}
 use Rattle.fw_model.specs.Steps.{Outcome, Steps}
 use Rattle.fw_model.specs.LawsOfExistence.{AreCheckpointsChains}
 

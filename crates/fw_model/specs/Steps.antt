@@ -24,7 +24,8 @@ use Rattle.fw_flow.specs.WellFormed.{may_keep_nothing}
 use Rattle.fw_flow.specs.NodeFunction.{place, stamp, delivered_recs}
 use Rattle.fw_model.specs.History.{IsEnabled, IsComplete, message_cmp}
 use Rattle.fw_model.specs.Machine.{Machine, Numbered, Write, Written, checkpoint, logged_event, Progress, in_flight, acknowledged, collected, events, no_stamps, places, front_of, is_failed, bound_of}
-use Rattle.fw_model.specs.Choice.{Choice, kept, cut_of, filtered, IsCandidate, IsLargest, IsWatermark}
+use Rattle.fw_flow.specs.declared.choice.Choice.{Choice}
+use Rattle.fw_model.specs.Choice.{kept, cut_of, filtered, IsCandidate, IsLargest, IsWatermark}
 
 -- what a step shows
 pub data Effect : Type 0 where

@@ -1,0 +1,6 @@
+//! The monitor: to what the nodes of a dataflow are restored after a failure.
+#![tactic(auto)]
+
+mod largest;
+
+pub use largest::largest;

@@ -1,6 +1,6 @@
 //! The monitor: to what the nodes of a dataflow are restored after a failure.
 #![tactic(auto)]
 
-mod largest;
+mod descent;
 
-pub use largest::largest;
+pub use descent::largest;

@@ -16,6 +16,5 @@ pub fn largest(alloc: Global, flow: &Flow, offers: &[Offer]) -> Result<Choice, A
         → IsConsistentBy sys (covers_of sys offers.now) (IsOffered flow.now offers.now) some
         → IfOk result (IsLargestBy sys (covers_of sys offers.now) (IsOffered flow.now offers.now)) }
 {
-    let _ = (alloc, flow, offers);
     Err(AllocError)
 }

@@ -1,4 +1,6 @@
 //! The steps of a run.
+ghost use Rattle.std.specs.Prelude.{◌≡◌};
+
 use crate::{EdgeId, NodeId};
 use fw_time::Stamp;
 use std::marker::Model;
@@ -15,6 +17,22 @@ impl Model for Nodes {
     ghost Value = { List ℕ };
 
     ghost view = { λ nodes. nodes.nodes.items };
+}
+
+impl Nodes {
+    /// These nodes, in this order.
+    pub fn new(nodes: Vec<NodeId>) -> Self
+        ensures { result ≡ nodes.items }
+    {
+        Nodes { nodes }
+    }
+
+    /// The nodes as a slice.
+    pub fn as_slice(&self) -> &[NodeId]
+        ensures { result.now ≡ self.now }
+    {
+        self.nodes.as_slice()
+    }
 }
 
 /// A step of a run, one atomic event of a node, the store or the monitor, or a failure.

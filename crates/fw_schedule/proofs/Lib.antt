@@ -1,3 +1,4 @@
 pub mod CoordinateLaws
+pub mod NameLaws
 pub mod ReadLaws
 pub mod StepLaws

@@ -1,5 +1,6 @@
 -- The steps that lines spell are steps of the flow.
-use Rattle.std.proofs.Common.{◌≡◌, ℕ, ◌<◌, Bool, true, false, cond, List, [], ◌∷◌, length, map, Option, Some, None, IfSome, Result, Ok, Err, IfOk, refl, subst}
+use Rattle.std.proofs.Common.{◌≡◌, ℕ, suc, ◌<◌, Bool, true, false, cond, List, [], ◌∷◌, length, map, Option, Some, None, IfSome, Result, Ok, Err, IfOk, refl, ap, subst, arith}
+use Rattle.std.specs.Prelude.{codes}
 use Rattle.std.proofs.lemmas.List.{length-map}
 use Rattle.std.proofs.lemmas.List.Quantifiers.{position-Some}
 use Rattle.std.specs.List.{AllByRecursion, cons_option}
@@ -20,8 +21,8 @@ use Rattle.fw_flow.specs.Dataflow.{Dataflow, kind_of, receiver, bounds_of, is_in
 use Rattle.fw_flow.specs.Names.{place_of}
 use Rattle.fw_schedule.specs.declared.form.Form.{Form}
 use Rattle.fw_schedule.specs.declared.form.Form.TheVariants as form
-use Rattle.fw_schedule.specs.Forms.{form_of}
-use Rattle.fw_schedule.specs.Grammar.{node_named, edge_named, if_kind, node_of_kind, told_in, delivery_of, notification_of, step_of_form, step_of, steps_of}
+use Rattle.fw_schedule.specs.Forms.{are_names, form_of}
+use Rattle.fw_schedule.specs.Grammar.{node_named, edge_named, nodes_named, if_kind, node_of_kind, told_in, delivery_of, notification_of, step_of_form, failure_of, step_of, steps_of}
 use Rattle.fw_schedule.specs.Stamps.{stamp_of}
 use Rattle.fw_schedule.specs.Steps.{IsTimeIn, IsNodeOfKind, IsStepOf}
 
@@ -67,11 +68,41 @@ form_sound flow (form.Inject name) = made flow (IsNodeOfKind flow is_input_kind)
 form_sound flow (form.Deliver name stamp) = at_place flow (λ e. e < length flow.edges) (delivery_of flow stamp) (edge_named flow name) (edge_below flow name) (λ e h. made flow (IsTimeIn (bounds_of flow (receiver flow e))) (λ at. step.Deliver e at) S3 (told_in (bounds_of flow (receiver flow e)) stamp) (told_sound (bounds_of flow (receiver flow e)) stamp) (λ at k. (h, k)))
 form_sound flow (form.Notify name stamp) = at_place flow (λ n. n < length flow.nodes) (notification_of flow stamp) (node_named flow name) (node_below flow name) (λ n h. made flow (IsTimeIn (bounds_of flow n)) (λ at. step.Notify n at) S3 (told_in (bounds_of flow n) stamp) (told_sound (bounds_of flow n) stamp) (λ at k. (h, k)))
 form_sound flow form.Progress = tt
+form_sound flow form.Recover = tt
 form_sound flow (form.Ack name) = made flow (IsNodeOfKind flow is_output_kind) (λ n. step.Ack n) S2 (node_of_kind flow is_output_kind name) (node_sound flow is_output_kind (node_named flow name) (node_below flow name)) (λ n h. h)
 
-words_sound : (flow : Dataflow) (o : Option (Form (List ℕ))) → IfOk (option_map_or (step_of_form flow) o (Err S1)) (IsStepOf flow)
-words_sound flow None = tt
-words_sound flow (Some f) = form_sound flow f
+-- as many nodes are found as there are names, each of them of the flow
+nodes_below : (flow : Dataflow) (names : List (List ℕ)) → IfSome (nodes_named flow names) (λ nodes. (length nodes ≡ length names) × AllByRecursion (λ node. node < length flow.nodes) nodes)
+nodes_below flow [] = (refl, tt)
+nodes_below flow (name ∷ names) = more (node_named flow name) (nodes_named flow names) (node_below flow name) (nodes_below flow names)
+  where
+    more : (o : Option ℕ) (os : Option (List ℕ)) → IfSome o (λ node. node < length flow.nodes)
+        → IfSome os (λ nodes. (length nodes ≡ length names) × AllByRecursion (λ node. node < length flow.nodes) nodes)
+        → IfSome (option_and_then (λ node. option_map (λ nodes. node ∷ nodes) os) o) (λ nodes. (length nodes ≡ length (name ∷ names)) × AllByRecursion (λ node. node < length flow.nodes) nodes)
+    more None os h k = tt
+    more (Some node) None h k = tt
+    more (Some node) (Some nodes) h k = (ap suc k.0, (h, k.1))
+
+-- one of two, both of them steps of the flow where they are steps
+either : (flow : Dataflow) (b : Bool) (x y : Result Step Code) → IfOk x (IsStepOf flow) → IfOk y (IsStepOf flow) → IfOk (cond b x y) (IsStepOf flow)
+either flow true x y h k = h
+either flow false x y h k = k
+
+failure_sound : (flow : Dataflow) (words : List (List ℕ)) → IfOk (failure_of flow words) (IsStepOf flow)
+failure_sound flow [] = tt
+failure_sound flow (name ∷ names) =
+    either flow (are_names (name ∷ names)) (ok_or (option_map step.Fail (nodes_named flow (name ∷ names))) S2) (Err S1)
+    (made flow (λ nodes. (length nodes ≡ length (name ∷ names)) × AllByRecursion (λ node. node < length flow.nodes) nodes) (λ nodes. step.Fail nodes) S2 (nodes_named flow (name ∷ names)) (nodes_below flow (name ∷ names)) (λ nodes h. (omega (arith, h.0), h.1))) tt
+
+found_sound : (flow : Dataflow) (o : Option (Form (List ℕ))) → IfOk (option_map_or (step_of_form flow) o (Err S1)) (IsStepOf flow)
+found_sound flow None = tt
+found_sound flow (Some f) = form_sound flow f
+
+words_sound : (flow : Dataflow) (words : List (List ℕ)) → IfOk (step_of flow words) (IsStepOf flow)
+words_sound flow [] = tt
+words_sound flow (verb ∷ words) =
+    either flow (bytes_eq verb (codes "fail")) (failure_of flow words) (option_map_or (step_of_form flow) (form_of (verb ∷ words)) (Err S1))
+    (failure_sound flow words) (found_sound flow (form_of (verb ∷ words)))
 
 one_more : (flow : Dataflow) (r : Result Step Code) (steps : List Step) → IfOk r (IsStepOf flow) → AllByRecursion (IsStepOf flow) steps → AllByRecursion (IsStepOf flow) (cons_option (result_ok r) steps)
 one_more flow (Ok step) steps h k = (h, k)
@@ -80,4 +111,4 @@ one_more flow (Err code) steps h k = k
 -- each step that lines spell is a step of the flow
 pub steps_sound : (flow : Dataflow) (lines : List Said) → AllByRecursion (IsStepOf flow) (steps_of flow lines)
 steps_sound flow [] = tt
-steps_sound flow (line ∷ lines) = one_more flow (step_of flow line.words) (steps_of flow lines) (words_sound flow (form_of line.words)) (steps_sound flow lines)
+steps_sound flow (line ∷ lines) = one_more flow (step_of flow line.words) (steps_of flow lines) (words_sound flow line.words) (steps_sound flow lines)

@@ -1,17 +1,20 @@
 -- The forms of the lines of a schedule.
-use Rattle.std.specs.Prelude.{◌≡◌, ℕ, Bool, true, ◌&&◌, List, [], ◌∷◌, Option, Some, None, IfSome, codes, if◌then◌else◌}
+use Rattle.std.specs.Prelude.{◌≡◌, ℕ, Bool, true, false, ◌&&◌, List, [], ◌∷◌, Option, Some, None, IfSome, codes, if◌then◌else◌}
+use Rattle.std.specs.List.{list_all}
 use Rattle.std.specs.Option.{option_map}
 use Rattle.std.specs.Str.{bytes_eq}
 use Rattle.fw_lines.specs.declared.span.Span.{Span}
 use Rattle.fw_lines.specs.Lines.{bytes_at}
 use Rattle.fw_lines.specs.Spelling.{is_name}
 use Rattle.fw_schedule.specs.declared.form.Form.{Form}
-use Rattle.fw_schedule.specs.declared.form.Form.TheVariants.{Inject, Deliver, Notify, Progress, Ack}
+use Rattle.fw_schedule.specs.declared.form.Form.TheVariants.{Inject, Deliver, Notify, Progress, Recover, Ack}
 use Rattle.fw_schedule.specs.Stamps.{is_stamp}
 
 -- the form of a line of one word
 abbrev pub lone_form : {W : Type 0} → List ℕ → Option (Form W)
-lone_form verb = if bytes_eq verb (codes "progress") then Some Progress else None
+lone_form verb =
+    if bytes_eq verb (codes "progress") then Some Progress
+    else (if bytes_eq verb (codes "recover") then Some Recover else None)
 
 -- the form of a line of a verb and a name, and perhaps a stamp
 abbrev pub form_of_stamp : {W : Type 0} → List ℕ → W → Option W → Option (Form W)
@@ -29,7 +32,12 @@ form_of_name verb name =
 abbrev pub is_name_at_stamp : List ℕ → List ℕ → List ℕ → Bool
 is_name_at_stamp name at stamp = is_name name && (bytes_eq at (codes "at") && is_stamp stamp)
 
--- the form of a line of these words, if it has one
+-- whether the words are one name or more
+abbrev pub are_names : List (List ℕ) → Bool
+are_names [] = false
+are_names (name ∷ names) = is_name name && list_all is_name names
+
+-- the form of a line of these words, if it has one other than that of a failure
 abbrev pub form_of : List (List ℕ) → Option (Form (List ℕ))
 form_of [] = None
 form_of (verb ∷ []) = lone_form verb
@@ -44,6 +52,7 @@ form_in text (Inject name) = Inject (bytes_at text name)
 form_in text (Deliver name stamp) = Deliver (bytes_at text name) (option_map (bytes_at text) stamp)
 form_in text (Notify name stamp) = Notify (bytes_at text name) (option_map (bytes_at text) stamp)
 form_in text Progress = Progress
+form_in text Recover = Recover
 form_in text (Ack name) = Ack (bytes_at text name)
 
 -- the word, if there is one, is a stamp

@@ -1,8 +1,9 @@
 -- The grammar of schedules: the step that each line spells, and the rules that it may break.
-use Rattle.std.specs.Prelude.{◌≡◌, ℕ, ◌<◌, ◌≤◌, Bool, List, [], ◌∷◌, map, length, if◌then◌else◌, Option, Some, None, Result, Ok, Err, ◌⊎◌}
+use Rattle.std.specs.Prelude.{◌≡◌, ℕ, ◌<◌, ◌≤◌, Bool, List, [], ◌∷◌, map, length, if◌then◌else◌, Option, Some, None, Result, Ok, Err, ◌⊎◌, codes}
 use Rattle.std.specs.List.{filter_map}
 use Rattle.std.specs.Option.{option_map, option_map_or, option_and_then, ok_or}
 use Rattle.std.specs.Result.{result_ok, result_err}
+use Rattle.std.specs.Str.{bytes_eq}
 use Rattle.fw_time.specs.Stamp.{Stamp, in_domain}
 use Rattle.fw_time.specs.declared.stamp.Bounds.{Bounds}
 use Rattle.fw_lines.specs.declared.refusal.Code.{Code}
@@ -19,7 +20,7 @@ use Rattle.fw_flow.specs.Dataflow.{Dataflow, kind_of, receiver, bounds_of, is_in
 use Rattle.fw_flow.specs.Names.{place_of}
 use Rattle.fw_schedule.specs.declared.form.Form.{Form}
 use Rattle.fw_schedule.specs.declared.form.Form.TheVariants as form
-use Rattle.fw_schedule.specs.Forms.{form_of}
+use Rattle.fw_schedule.specs.Forms.{are_names, form_of}
 use Rattle.fw_schedule.specs.Stamps.{stamp_of}
 
 -- the place of the node with a name
@@ -37,6 +38,12 @@ if_kind flow is_such node = if is_such (kind_of flow node) then Some node else N
 -- the place of the node with a name, if it is of such a kind
 abbrev pub node_of_kind : Dataflow → (Kind → Bool) → List ℕ → Option ℕ
 node_of_kind flow is_such name = option_and_then (if_kind flow is_such) (node_named flow name)
+
+-- the places of the nodes with these names, in their order, if each is that of a node
+abbrev pub nodes_named : Dataflow → List (List ℕ) → Option (List ℕ)
+nodes_named flow [] = Some []
+nodes_named flow (name ∷ names) =
+    option_and_then (λ node. option_map (λ nodes. node ∷ nodes) (nodes_named flow names)) (node_named flow name)
 
 -- the stamp that a word spells, if it lies in the domain; where there is no word no stamp is told
 abbrev pub told_in : Bounds → Option (List ℕ) → Option (Option Stamp)
@@ -57,11 +64,19 @@ step_of_form flow (form.Inject name) = ok_or (option_map step.Inject (node_of_ki
 step_of_form flow (form.Deliver name stamp) = option_map_or (delivery_of flow stamp) (edge_named flow name) (Err S2)
 step_of_form flow (form.Notify name stamp) = option_map_or (notification_of flow stamp) (node_named flow name) (Err S2)
 step_of_form flow form.Progress = Ok step.Progress
+step_of_form flow form.Recover = Ok step.Recover
 step_of_form flow (form.Ack name) = ok_or (option_map step.Ack (node_of_kind flow is_output_kind name)) S2
 
--- the step that words spell, or the first rule that they break; S1, unless they have a form
+-- the failure of the nodes that words name; S1, unless they are one name or more, and S2, unless each is that of a node
+abbrev pub failure_of : Dataflow → List (List ℕ) → Result Step Code
+failure_of flow words = if are_names words then ok_or (option_map step.Fail (nodes_named flow words)) S2 else Err S1
+
+-- the step that words spell, or the first rule that they break; S1, unless they are `fail` and names or have another form
 abbrev pub step_of : Dataflow → List (List ℕ) → Result Step Code
-step_of flow words = option_map_or (step_of_form flow) (form_of words) (Err S1)
+step_of flow [] = Err S1
+step_of flow (verb ∷ words) =
+    if bytes_eq verb (codes "fail") then failure_of flow words
+    else option_map_or (step_of_form flow) (form_of (verb ∷ words)) (Err S1)
 
 -- the rule that a line of these words breaks; a line without words breaks none
 abbrev pub fault_of : Dataflow → List (List ℕ) → Option Code

@@ -1,15 +1,18 @@
 //! The forms of lines.
 ghost use Rattle.std.specs.Prelude.{◌≡◌, IfSome};
+ghost use Rattle.std.specs.List.{list_all};
 ghost use Rattle.std.specs.Option.{option_map};
 ghost use Rattle.std.specs.Str.{bytes_eq};
 ghost use Rattle.fw_lines.specs.Lines.{bytes_at, words_at};
+ghost use Rattle.fw_lines.specs.Spelling as lines;
 ghost use Rattle.fw_schedule.specs.Forms as spec;
 ghost use Rattle.fw_schedule.specs.Forms.{form_in, IsSpelled};
 
 use crate::coordinates::is_stamp;
 use fw_lines::{Span, is_name};
 
-/// What a line asks for, with its words as they are written.
+/// What a line asks for, with its words as they are written. A line of `fail` has as many names as it likes, and is read
+/// apart.
 #[derive(Clone, Copy, Debug, PartialEq, Eq)]
 pub enum Form<W> {
     /// `inject` and an input.
@@ -20,6 +23,8 @@ pub enum Form<W> {
     Notify(W, Option<W>),
     /// `progress`.
     Progress,
+    /// `recover`.
+    Recover,
     /// `ack` and an output.
     Ack(W),
 }
@@ -39,6 +44,20 @@ pub fn form_of(text: &[u8], words: &[Span]) -> Option<Form<Span>>
     }
 }
 
+/// Whether the words are one name or more.
+pub fn are_names(text: &[u8], words: &[Span]) -> bool
+    ensures { result ≡ spec.are_names (words_at text.now words.now) }
+{
+    !words.is_empty() && are_all_names(text, words)
+}
+
+// Whether each word is a name.
+fn are_all_names(text: &[u8], words: &[Span]) -> bool
+    ensures { result ≡ list_all (λ word. lines.is_name (bytes_at text.now word)) words.now }
+{
+    words.iter().all(|word| is_name(word.of(text)))
+}
+
 // Whether these words are a name, `at` and a stamp.
 fn is_name_at_stamp(text: &[u8], name: Span, at: Span, stamp: Span) -> bool
     ensures { result ≡ spec.is_name_at_stamp (bytes_at text.now name) (bytes_at text.now at)
@@ -53,6 +72,8 @@ fn lone_form(verb: &[u8]) -> Option<Form<Span>>
 {
     if is_word(verb, b"progress") {
         Some(Form::Progress)
+    } else if is_word(verb, b"recover") {
+        Some(Form::Recover)
     } else {
         None
     }
@@ -84,7 +105,8 @@ fn form_of_stamp(verb: &[u8], name: Span, stamp: Option<Span>) -> Option<Form<Sp
     }
 }
 
-fn is_word(word: &[u8], expected: &[u8]) -> bool
+/// Whether the word is this one.
+pub fn is_word(word: &[u8], expected: &[u8]) -> bool
     ensures { result ≡ bytes_eq word.now expected.now }
 {
     word == expected

@@ -13,12 +13,12 @@ ghost use Rattle.fw_schedule.specs.Grammar.{fault_of, steps_of, told_in, node_of
 ghost use Rattle.fw_schedule.specs.Steps.{IsStepOf};
 
 use crate::coordinates::stamp_up_to;
-use crate::form::{Form, form_of};
+use crate::form::{Form, are_names, form_of, is_word};
 use crate::steps::Steps;
-use fw_flow::{Flow, Kind, NodeId, Step};
+use fw_flow::{Flow, Kind, NodeId, Nodes, Step};
 use fw_lines::{Code, Line, Place, ReadFault, Refusal, Span, line_at};
 use fw_time::{Bounds, Stamp};
-use std::alloc::Global;
+use std::alloc::{AllocError, Global};
 
 /// The longest text, in bytes.
 const SIZE_LIMIT: usize = 16_777_216;
@@ -39,7 +39,7 @@ pub fn read_schedule(alloc: Global, text: &[u8], flow: &Flow) -> Result<Steps, R
     let mut place = Some(Place::START);
     while let Some(at) = place {
         let (line, next) = line_at(alloc, text, at)?;
-        read_line(text, &line, flow, &mut steps)?;
+        read_line(alloc, text, &line, flow, &mut steps)?;
         place = next;
     }
     Ok(steps)
@@ -57,7 +57,13 @@ pub fn one_answer()
 {}
 
 // Adds the step that a line spells, or tells the rule that it breaks.
-fn read_line(text: &[u8], line: &Line, flow: &Flow, steps: &mut Steps) -> Result<(), ReadFault>
+fn read_line(
+    alloc: Global,
+    text: &[u8],
+    line: &Line,
+    flow: &Flow,
+    steps: &mut Steps,
+) -> Result<(), ReadFault>
     ensures sound { OnOk result (fault_of flow.now (words_at text.now line.now.words) ≡ None) }
     ensures value { OnOk result
         (steps.new ≡ steps.old ++ steps_of flow.now (said_in text.now line.now ∷ [])) }
@@ -69,7 +75,7 @@ fn read_line(text: &[u8], line: &Line, flow: &Flow, steps: &mut Steps) -> Result
     if words.is_empty() {
         return Ok(());
     }
-    match step_of(text, words, flow) {
+    match step_of(alloc, text, words, flow)? {
         Ok(step) => steps.push(step)?,
         Err(code) => {
             return Err(ReadFault::Refused(Refusal {
@@ -82,13 +88,60 @@ fn read_line(text: &[u8], line: &Line, flow: &Flow, steps: &mut Steps) -> Result
 }
 
 // The step that words spell, or the first rule that they break.
-fn step_of(text: &[u8], words: &[Span], flow: &Flow) -> Result<Step, Code>
-    ensures { result ≡ spec.step_of flow.now (words_at text.now words.now) }
+fn step_of(
+    alloc: Global,
+    text: &[u8],
+    words: &[Span],
+    flow: &Flow,
+) -> Result<Result<Step, Code>, AllocError>
+    ensures { IfOk result (λ step. step ≡ spec.step_of flow.now (words_at text.now words.now)) }
 {
-    match form_of(text, words) {
-        Some(form) => step_of_form(text, form, flow),
-        None => Err(Code::S1),
+    if let [verb, names @ ..] = words
+        && is_word(verb.of(text), b"fail")
+    {
+        return failure(alloc, text, names, flow);
     }
+    match form_of(text, words) {
+        Some(form) => Ok(step_of_form(text, form, flow)),
+        None => Ok(Err(Code::S1)),
+    }
+}
+
+// The failure of the nodes that words name, or the rule that they break.
+fn failure(
+    alloc: Global,
+    text: &[u8],
+    words: &[Span],
+    flow: &Flow,
+) -> Result<Result<Step, Code>, AllocError>
+    ensures { IfOk result (λ step. step ≡ spec.failure_of flow.now (words_at text.now words.now)) }
+{
+    if !are_names(text, words) {
+        return Ok(Err(Code::S1));
+    }
+    match nodes_named(alloc, text, words, flow)? {
+        Some(nodes) => Ok(Ok(Step::Fail(nodes))),
+        None => Ok(Err(Code::S2)),
+    }
+}
+
+// The nodes with these names, in their order; nothing where one of them is not that of a node.
+fn nodes_named(
+    alloc: Global,
+    text: &[u8],
+    names: &[Span],
+    flow: &Flow,
+) -> Result<Option<Nodes>, AllocError>
+    ensures { IfOk result (λ nodes. nodes ≡ spec.nodes_named flow.now (words_at text.now names.now)) }
+{
+    let mut nodes = Vec::new(alloc);
+    for name in names {
+        let Some(node) = flow.node_named(name.of(text)) else {
+            return Ok(None);
+        };
+        nodes.push(node)?;
+    }
+    Ok(Some(Nodes::new(nodes)))
 }
 
 // The step of a form, or the rule that it breaks.
@@ -104,6 +157,7 @@ fn step_of_form(text: &[u8], form: Form<Span>, flow: &Flow) -> Result<Step, Code
         Form::Deliver(name, stamp) => delivery(text, name, stamp, flow),
         Form::Notify(name, stamp) => notification(text, name, stamp, flow),
         Form::Progress => Ok(Step::Progress),
+        Form::Recover => Ok(Step::Recover),
         Form::Ack(name) => match output(flow, name.of(text)) {
             Some(node) => Ok(Step::Ack(node)),
             None => Err(Code::S2),

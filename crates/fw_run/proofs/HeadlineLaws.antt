@@ -3,14 +3,20 @@ use Rattle.std.proofs.Common.{◌≡◌, ◌⊎◌, inl, inr, ℕ, List, take, O
 use Rattle.std.proofs.lemmas.Bool.{false≢true}
 use Rattle.std.specs.Prelude.{IsSome}
 use Rattle.fw_lines.specs.declared.refusal.Refusal.{Refusal}
+use Rattle.fw_model.proofs.ChoosingLaws.{kept-is_ever}
+use Rattle.fw_model.proofs.DomainLaws.{has_epochs}
 use Rattle.fw_model.proofs.RecoveryLaws.{runs-legal, acknowledged-denoted}
 use Rattle.fw_model.proofs.RunLaws.{acknowledgements-in_order}
+use Rattle.fw_flow.specs.declared.choice.Choice.{Choice}
+use Rattle.fw_model.specs.Choice.{View, kept, ever, IsCandidate, IsLargest}
+use Rattle.fw_model.specs.Machine.{is_failed}
 use Rattle.fw_model.specs.Plain.{system_of}
+use Rattle.fw_model.specs.Steps.{Effect, cuts}
 use Rattle.fw_run.proofs.TextLaws.{ready, well_formed_system, one_first_refusal, accepted_or_refused}
 use Rattle.fw_run.specs.declared.reading.Job.{Job}
 use Rattle.fw_run.specs.declared.status.Status.{Status}
 use Rattle.fw_run.specs.declared.status.Status.TheVariants.{Done, BadWords, Refused, ReadFault, WriteFault, NoMemory}
-use Rattle.fw_run.specs.Headline.{Prints, PrintsPart, IsPrinted, IsPartPrinted, IsRunEnd, StaysLegal, AcknowledgesInOrder, ShowsDenotation}
+use Rattle.fw_run.specs.Headline.{Prints, PrintsPart, IsPrinted, IsPartPrinted, IsRunEnd, StaysLegal, AcknowledgesInOrder, ShowsDenotation, CutsToLargest}
 use Rattle.fw_run.specs.Reading.{IsReady, IsJob}
 use Rattle.fw_run.specs.Status.{IsRefused}
 use Rattle.fw_run.specs.Texts.{Texts, AreThere, AreAccepted, IsFirstRefusal, spelled_system, spelled_steps}
@@ -71,7 +77,7 @@ completes (Some folder) names NoMemory texts s t a bad refused = inr (inr (inr r
 pub texts-stay_legal : (texts : Texts) → AreAccepted texts → StaysLegal (spelled_system texts) (spelled_steps texts)
 texts-stay_legal texts a count outcomes state r =
     let fit = ready texts a in
-    runs-legal (spelled_system texts) (take count (spelled_steps texts)) outcomes state fit.well_formed fit.epochs r
+    runs-legal (spelled_system texts) (take count (spelled_steps texts)) outcomes state fit.well_formed.flow (has_epochs (spelled_system texts) fit.well_formed) r
 
 pub texts-in_order : (texts : Texts) → AcknowledgesInOrder (spelled_system texts) (spelled_steps texts)
 texts-in_order texts outcomes last r = acknowledgements-in_order (spelled_system texts) (spelled_steps texts) outcomes last r
@@ -79,6 +85,27 @@ texts-in_order texts outcomes last r = acknowledgements-in_order (spelled_system
 pub texts-denoted : (texts : Texts) → AreAccepted texts → ShowsDenotation (spelled_system texts) (spelled_steps texts)
 texts-denoted texts a family d outcomes last r =
     acknowledged-denoted (spelled_system texts) family (well_formed_system texts a) d (spelled_steps texts) outcomes last r
+
+-- what a recovery shows is what it chose
+cuts-one : (one other : Choice) → cuts one ≡ cuts other → one ≡ other
+cuts-one one other e = ap shown_choice e
+  where
+    shown_choice : Effect → Choice
+    shown_choice (cuts choice) = choice
+    shown_choice effect = one
+
+pub texts-largest : (texts : Texts) → AreAccepted texts → CutsToLargest (spelled_system texts) (spelled_steps texts)
+texts-largest texts a count outcomes state next choice r t view =
+    let sys = spelled_system texts in
+    let among : View → Choice → Type 0 = λ view. IsLargest sys state (IsCandidate sys state (is_failed state) view) in
+    let of_kept = subst (among kept) (sym (cuts-one choice t.1 t.8)) t.5 in
+    by view of_kept ((kept-is_ever sys (well_formed_system texts a) (take count (spelled_steps texts)) outcomes state r (is_failed state) choice).0 of_kept)
+  where
+    by : (view : View) → IsLargest (spelled_system texts) state (IsCandidate (spelled_system texts) state (is_failed state) kept) choice
+        → IsLargest (spelled_system texts) state (IsCandidate (spelled_system texts) state (is_failed state) ever) choice
+        → IsLargest (spelled_system texts) state (IsCandidate (spelled_system texts) state (is_failed state) view) choice
+    by kept one other = one
+    by ever one other = other
 
 -- ---- once a status is told
 

@@ -8,9 +8,8 @@ use Rattle.fw_outside.specs.Outside.{Takes, TakesPrefix}
 use Rattle.fw_flow.specs.declared.step.Step.{Step}
 use Rattle.fw_flow.specs.declared.step.Step.TheVariants.{Inject, Deliver, Notify, Progress, Checkpoint, Persist, Fail, Recover, Collect, Ack}
 use Rattle.fw_flow.specs.Dataflow.{Dataflow, System}
-use Rattle.fw_flow.specs.WellFormed.{IsWellFormed}
-use Rattle.fw_model.specs.LawsOfSteps.{HasItsChoice}
-use Rattle.fw_model.proofs.SomeNextLaws.{some_next}
+use Rattle.fw_flow.specs.WellFormed.{IsWellFormedSystem}
+use Rattle.fw_model.proofs.ChoosingLaws.{reached-one_next}
 use Rattle.fw_model.specs.Machine.{Machine, first_state}
 use Rattle.fw_model.specs.Steps.{Effect, Outcome, did, idle, Takes as TakesStep, Steps, Run}
 use Rattle.fw_plain.specs.Engine.{Standing, is_plain_step}
@@ -36,31 +35,18 @@ run_length sys state last [] (o ∷ outcomes) r = absurd r
 run_length sys state last (step ∷ steps) [] r = absurd r
 run_length sys state last (step ∷ steps) (o ∷ outcomes) r = ap suc (run_length sys r.0 last steps outcomes r.2)
 
--- a step that a schedule may have chooses nothing
-has_its_choice : (sys : System) (state : Machine) (step : Step) → is_plain_step step ≡ true → HasItsChoice sys state step
-has_its_choice sys state (Inject s) e = tt
-has_its_choice sys state (Deliver d at) e = tt
-has_its_choice sys state (Notify p at) e = tt
-has_its_choice sys state Progress e = tt
-has_its_choice sys state (Checkpoint p) e = tt
-has_its_choice sys state Persist e = tt
-has_its_choice sys state (Fail ps) e = tt
-has_its_choice sys state Recover e = absurd (cc)
-has_its_choice sys state Collect e = absurd (cc)
-has_its_choice sys state (Ack o) e = tt
-
 -- each of the steps is one that the plain engine takes
 abbrev pub ArePlain : List Step → Type 0
 ArePlain steps = AllByRecursion (λ step. is_plain_step step ≡ true) steps
 
--- steps that a schedule may have are a run from each state
-run_exists : (sys : System) (state : Machine) (steps : List Step) → IsWellFormed sys.flow → AllByRecursion (λ step. is_plain_step step ≡ true) steps
+-- steps are a run from each state to which steps lead from the first one
+run_exists : (sys : System) → IsWellFormedSystem sys → (before : List Step) (earlier : List Outcome) (state : Machine) → Run sys (first_state sys) before earlier state → (steps : List Step)
     → (outcomes : List Outcome) × (last : Machine) × Run sys state steps outcomes last
-run_exists sys state [] w plain = ([], state, refl)
-run_exists sys state (step ∷ steps) w plain =
-    let next = some_next sys state w step (has_its_choice sys state step plain.0) in
-    let rest = run_exists sys next.0 steps w plain.1 in
-    (next.1 ∷ rest.0, rest.1, (next.0, next.2, rest.2))
+run_exists sys w before earlier state r [] = ([], state, refl)
+run_exists sys w before earlier state r (step ∷ steps) =
+    let next = reached-one_next sys w before earlier state r step in
+    let rest = run_exists sys w (before ++ step ∷ []) (earlier ++ next.1 ∷ []) next.0 (run_join sys (first_state sys) state next.0 before (step ∷ []) earlier (next.1 ∷ []) r (next.0, next.2.steps, refl)) steps in
+    (next.1 ∷ rest.0, rest.1, (next.0, next.2.steps, rest.2))
 
 -- what a step acknowledges is of a node of the dataflow
 shown_effect : (sys : System) (state : Machine) (step : Step) (next : Machine) (effect : Effect) → TakesStep sys state step next effect → IsShownOf sys.flow (did effect)
@@ -179,20 +165,21 @@ nothing_taken mid = (0, omega arith, takes_none mid)
 
 -- the run stops before its next step
 pub stops_before : (sys : System) (steps others : List Step) (standing : Standing) (idle_steps : ℕ) (before after : Option (List ℕ)) → IsSoFar sys steps standing idle_steps before after
-    → IsWellFormed sys.flow → AllByRecursion (λ step. is_plain_step step ≡ true) others → IsPartPrinted sys (steps ++ others) before after
-stops_before sys steps others standing idle_steps before after s w plain =
-    let rest = run_exists sys standing.state others w plain in
+    → IsWellFormedSystem sys → IsPartPrinted sys (steps ++ others) before after
+stops_before sys steps others standing idle_steps before after s w =
+    let rest = run_exists sys w steps s.outcomes standing.state s.run others in
     part sys steps others standing idle_steps before after after s rest.0 rest.1 [] (outcomes_text sys.flow rest.0 ++ done_line (length (s.outcomes ++ rest.0)) (idle_count (s.outcomes ++ rest.0))) rest.2 refl (nothing_taken after)
 
 -- the run stops within the lines of a step, or before them
 pub stops_within : (sys : System) (steps others : List Step) (standing : Standing) (step : Step) (idle_steps : ℕ) (before mid after : Option (List ℕ)) → IsSoFar sys steps standing idle_steps before mid
-    → IsWellFormed sys.flow → AllByRecursion (λ step. is_plain_step step ≡ true) (step ∷ others) → IsStepPartPrinted standing step mid after → IsPartPrinted sys (steps ++ step ∷ others) before after
-stops_within sys steps others standing step idle_steps before mid after s w plain (inl e) =
-    subst (λ t. IsPartPrinted sys (steps ++ step ∷ others) before t) (sym e) (stops_before sys steps (step ∷ others) standing idle_steps before mid s w plain)
-stops_within sys steps others standing step idle_steps before mid after s w plain (inr (next, o, t, p)) =
+    → IsWellFormedSystem sys → IsStepPartPrinted standing step mid after → IsPartPrinted sys (steps ++ step ∷ others) before after
+stops_within sys steps others standing step idle_steps before mid after s w (inl e) =
+    subst (λ t. IsPartPrinted sys (steps ++ step ∷ others) before t) (sym e) (stops_before sys steps (step ∷ others) standing idle_steps before mid s w)
+stops_within sys steps others standing step idle_steps before mid after s w (inr (next, o, t, p)) =
     let one : Steps sys standing.state step next o = along sys standing (λ y. Steps y standing.state step next o) s.system t in
     let line : TakesPrefix mid (outcome_text sys.flow o) after = along sys standing (λ y. TakesPrefix mid (outcome_text y.flow o) after) s.system p in
-    let rest = run_exists sys next others w plain.1 in
+    let further = run_join sys (first_state sys) standing.state next steps (step ∷ []) s.outcomes (o ∷ []) s.run (next, one, refl) in
+    let rest = run_exists sys w (steps ++ step ∷ []) (s.outcomes ++ o ∷ []) next further others in
     let tail = done_line (length (s.outcomes ++ o ∷ rest.0)) (idle_count (s.outcomes ++ o ∷ rest.0)) in
     part sys steps (step ∷ others) standing idle_steps before mid after s (o ∷ rest.0) rest.1 (outcome_text sys.flow o) (outcomes_text sys.flow rest.0 ++ tail) (next, one, rest.2) (append_assoc (outcome_text sys.flow o) (outcomes_text sys.flow rest.0) tail) line
 
@@ -224,29 +211,23 @@ ends sys steps standing idle_steps before mid after s p =
 
 -- ---- a list of steps, taken one after another
 
-each_left : (i : ℕ) (xs : List Step) → AllByRecursion (λ step. is_plain_step step ≡ true) xs → AllByRecursion (λ step. is_plain_step step ≡ true) (drop i xs)
-each_left zero xs a = a
-each_left (suc i) [] a = tt
-each_left (suc i) (x ∷ xs) a = each_left i xs a.1
-
 -- a step stands between those before it and those after it
 parts_at : (xs : List Step) (i : ℕ) (step : Step) → i < length xs → step ≡ get_or xs i step → drop i xs ≡ step ∷ drop (i + 1) xs
 parts_at xs i step below e = drop_more xs i step below ∙ ap (λ s. s ∷ drop (i + 1) xs) (sym e)
 
 -- the run is not begun
-pub stops_at_start : (sys : System) (steps : List Step) (taken : Option (List ℕ)) → IsWellFormed sys.flow → AllByRecursion (λ step. is_plain_step step ≡ true) steps → IsPartPrinted sys steps taken taken
-stops_at_start sys steps taken w plain =
+pub stops_at_start : (sys : System) (steps : List Step) (taken : Option (List ℕ)) → IsWellFormedSystem sys → IsPartPrinted sys steps taken taken
+stops_at_start sys steps taken w =
     let standing : Standing = record { sys = sys; state = first_state sys; refused = false } in
-    stops_before sys [] steps standing 0 taken taken (none_so_far sys standing taken refl) w plain
+    stops_before sys [] steps standing 0 taken taken (none_so_far sys standing taken refl) w
 
 -- the run stops at the step of this place
 pub stops_at : (sys : System) (xs : List Step) (i : ℕ) (standing : Standing) (step : Step) (idle_steps : ℕ) (before mid after : Option (List ℕ)) → IsSoFar sys (take i xs) standing idle_steps before mid
-    → IsWellFormed sys.flow → AllByRecursion (λ step. is_plain_step step ≡ true) xs → i < length xs → step ≡ get_or xs i step → IsStepPartPrinted standing step mid after → IsPartPrinted sys xs before after
-stops_at sys xs i standing step idle_steps before mid after s w plain below e p =
+    → IsWellFormedSystem sys → i < length xs → step ≡ get_or xs i step → IsStepPartPrinted standing step mid after → IsPartPrinted sys xs before after
+stops_at sys xs i standing step idle_steps before mid after s w below e p =
     let parts = parts_at xs i step below e in
-    let left = subst (AllByRecursion (λ step. is_plain_step step ≡ true)) parts (each_left i xs plain) in
     subst (λ t. IsPartPrinted sys t before after) (ap (λ t. take i xs ++ t) (sym parts) ∙ take-append-drop i xs)
-    (stops_within sys (take i xs) (drop (i + 1) xs) standing step idle_steps before mid after s w left p)
+    (stops_within sys (take i xs) (drop (i + 1) xs) standing step idle_steps before mid after s w p)
 
 -- the step of this place was taken and printed
 pub so_far_next : (sys : System) (xs : List Step) (i : ℕ) (old new : Standing) (step : Step) (was now : ℕ) (was_idle : Bool) (before mid after : Option (List ℕ))
@@ -279,6 +260,6 @@ all_so_far sys xs i standing idle_steps before after s h = subst (λ t. IsSoFar 
 
 -- the run stops before its last line
 pub stops_after_steps : (sys : System) (steps : List Step) (standing : Standing) (idle_steps : ℕ) (before after : Option (List ℕ)) → IsSoFar sys steps standing idle_steps before after
-    → IsWellFormed sys.flow → IsPartPrinted sys steps before after
+    → IsWellFormedSystem sys → IsPartPrinted sys steps before after
 stops_after_steps sys steps standing idle_steps before after s w =
-    subst (λ t. IsPartPrinted sys t before after) (append-nil steps) (stops_before sys steps [] standing idle_steps before after s w tt)
+    subst (λ t. IsPartPrinted sys t before after) (append-nil steps) (stops_before sys steps [] standing idle_steps before after s w)

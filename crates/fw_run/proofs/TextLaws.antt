@@ -44,8 +44,8 @@ plain_step flow (Notify p at) h = refl
 plain_step flow Progress h = refl
 plain_step flow (Checkpoint p) h = absurd h
 plain_step flow Persist h = absurd h
-plain_step flow (Fail ps) h = absurd h
-plain_step flow Recover h = absurd h
+plain_step flow (Fail ps) h = refl
+plain_step flow Recover h = refl
 plain_step flow Collect h = absurd h
 plain_step flow (Ack o) h = refl
 
@@ -54,17 +54,6 @@ unfolding dataflow.batches_of
 few_epochs texts a p =
     let flow = spelled_flow texts.flow in
     at_place (λ b. length b ≤ 2 ^ 20) (inputs.batches_of (sources_of flow) (said_lines texts.inputs)) (length flow.nodes) p (omega arith) (few_batches (sources_of flow) (said_lines texts.inputs) p a.sound)
-
-pub ready : (texts : Texts) → AreAccepted texts → IsReady (spelled_system texts) (spelled_steps texts)
-ready texts a =
-    let flow = spelled_flow texts.flow in
-    record {
-      well_formed = a.first.checked.well_formed;
-      keeps_nothing = spelled-keeps_nothing texts.flow;
-      notifies_nobody = spelled-notifies_nobody texts.flow;
-      epochs = λ s. omega (arith, few_epochs texts a.second s);
-      plain = each-weaker (IsStepOf flow) (λ step. is_plain_step step ≡ true) (spelled_steps texts) (plain_step flow) (steps_sound flow (said_lines texts.schedule));
-    }
 
 batches-of_inputs : (texts : Texts) (p : ℕ) → dataflow.is_input_kind (dataflow.kind_of (spelled_flow texts.flow) p) ≡ false → dataflow.batches_of (spelled_system texts) p ≡ []
 unfolding dataflow.batches_of
@@ -88,6 +77,17 @@ well_formed_system texts a =
       of_inputs = batches-of_inputs texts;
       few = few_epochs texts a.second;
       batches = bags-of_inputs texts;
+    }
+
+-- what accepted texts spell is fit for the plain engine
+pub ready : (texts : Texts) → AreAccepted texts → IsReady (spelled_system texts) (spelled_steps texts)
+ready texts a =
+    let flow = spelled_flow texts.flow in
+    record {
+      well_formed = well_formed_system texts a;
+      keeps_nothing = spelled-keeps_nothing texts.flow;
+      notifies_nobody = spelled-notifies_nobody texts.flow;
+      plain = each-weaker (IsStepOf flow) (λ step. is_plain_step step ≡ true) (spelled_steps texts) (plain_step flow) (steps_sound flow (said_lines texts.schedule));
     }
 
 -- ---- what was read

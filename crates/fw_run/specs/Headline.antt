@@ -2,13 +2,16 @@
 use Rattle.std.specs.Prelude.{◌≡◌, ◌⊎◌, ℕ, List, Option, take}
 use Rattle.std.specs.List.{AllByRecursion}
 use Rattle.fw_outside.specs.Outside.{Takes, TakesPrefix}
+use Rattle.fw_flow.specs.declared.choice.Choice.{Choice}
 use Rattle.fw_flow.specs.declared.step.Step.{Step}
+use Rattle.fw_flow.specs.declared.step.Step.TheVariants.{Recover}
 use Rattle.fw_flow.specs.Dataflow.{System}
+use Rattle.fw_model.specs.Choice.{View, IsCandidate, IsLargest}
 use Rattle.fw_model.specs.Denotation.{Family, IsDenotation}
 use Rattle.fw_model.specs.History.{IsLegal}
 use Rattle.fw_model.specs.LawsOfRuns.{IsDenoted, stamps_acknowledged, first_stamps}
-use Rattle.fw_model.specs.Machine.{Machine, events, first_state, bound_of}
-use Rattle.fw_model.specs.Steps.{Outcome, Run}
+use Rattle.fw_model.specs.Machine.{Machine, events, first_state, bound_of, is_failed}
+use Rattle.fw_model.specs.Steps.{cuts, Outcome, did, Steps, Run}
 use Rattle.fw_run.specs.declared.status.Status.{Status}
 use Rattle.fw_run.specs.declared.status.Status.TheVariants.{Done, ReadFault, WriteFault, NoMemory}
 use Rattle.fw_run.specs.Printed.{text_of}
@@ -62,3 +65,10 @@ AcknowledgesInOrder sys steps = (outcomes : List Outcome) (last : Machine) → R
 abbrev pub ShowsDenotation : System → List Step → Type 0
 ShowsDenotation sys steps = (family : Family) → IsDenotation sys family
     → (outcomes : List Outcome) (last : Machine) → Run sys (first_state sys) steps outcomes last → AllByRecursion (IsDenoted sys family) outcomes
+
+-- after each number of the steps a recovery cuts to the largest consistent choice of what is kept, and that is also the
+-- largest over all that was ever acknowledged and not undone
+abbrev pub CutsToLargest : System → List Step → Type 0
+CutsToLargest sys steps = (count : ℕ) (outcomes : List Outcome) (state next : Machine) (choice : Choice)
+    → Run sys (first_state sys) (take count steps) outcomes state → Steps sys state Recover next (did (cuts choice))
+    → (view : View) → IsLargest sys state (IsCandidate sys state (is_failed state) view) choice

@@ -8,9 +8,8 @@ use Rattle.fw_lines.specs.declared.refusal.Refusal.{Refusal}
 use Rattle.fw_lines.specs.Faults.{IsOfWhole}
 use Rattle.fw_flow.specs.declared.step.Step.{Step}
 use Rattle.fw_flow.specs.Dataflow.{Dataflow, System, node_at}
-use Rattle.fw_flow.specs.WellFormed.{IsWellFormed}
+use Rattle.fw_flow.specs.WellFormed.{IsWellFormedSystem}
 use Rattle.fw_schedule.specs.Grammar.{node_named}
-use Rattle.fw_model.specs.LawsOfLegalHistories.{HasEpochs}
 use Rattle.fw_model.specs.Plain.{system_of}
 use Rattle.fw_model.specs.LawsOfFiltering.{NotifiesNobody}
 use Rattle.fw_plain.specs.Engine.{KeepsNothing, is_plain_step}
@@ -49,8 +48,7 @@ pub record IsJob (told : Option (List ℕ → Option (List ℕ))) (names : Names
 
 -- what the plain engine asks of a run
 pub record IsReady (sys : System) (steps : List Step) : Type 0 where
-  pub well_formed : IsWellFormed sys.flow
+  pub well_formed : IsWellFormedSystem sys
   pub keeps_nothing : KeepsNothing sys.flow
   pub notifies_nobody : NotifiesNobody sys.flow
-  pub epochs : HasEpochs sys
   pub plain : AllByRecursion (λ step. is_plain_step step ≡ true) steps

@@ -2,7 +2,7 @@
 ghost use Rattle.std.specs.Prelude.{◌≡◌, ◌⊎◌, ◌≤◌, ◌↔◌, true, false, Contains, IsSome};
 ghost use Rattle.fw_lines.specs.declared.refusal.Refusal as lines;
 ghost use Rattle.fw_outside.specs.Outside.{Rose};
-ghost use Rattle.fw_run.specs.Headline.{Prints, PrintsPart, IsRunEnd, StaysLegal, ShowsDenotation, AcknowledgesInOrder};
+ghost use Rattle.fw_run.specs.Headline.{Prints, PrintsPart, IsRunEnd, StaysLegal, ShowsDenotation, AcknowledgesInOrder, CutsToLargest};
 ghost use Rattle.fw_run.specs.Texts.{Texts, AreThere, AreAccepted, IsFirstRefusal, spelled_system, spelled_steps};
 ghost use Rattle.fw_run.specs.Words.{words_in, are_run_words, names_of};
 ghost use Rattle.fw_run.specs.Status.{number_of, note_of, IsTold, IsRefused, status_numbers};
@@ -60,6 +60,9 @@ pub fn falkirk<F: Folder, K: Store, O: Sink, N: Sink>(
     ensures legal { (texts : Texts) → AreAccepted texts → StaysLegal (spelled_system texts) (spelled_steps texts) }
     ensures in_order { (texts : Texts) → AreAccepted texts → AcknowledgesInOrder (spelled_system texts) (spelled_steps texts) }
     ensures denoted { (texts : Texts) → AreAccepted texts → ShowsDenotation (spelled_system texts) (spelled_steps texts) }
+
+    // Each recovery cuts the nodes to the largest consistent choice, of what is kept and of all ever acknowledged.
+    ensures largest { (texts : Texts) → AreAccepted texts → CutsToLargest (spelled_system texts) (spelled_steps texts) }
 
     // The status's line, or first bytes of it where that write was refused; at 0 nothing.
     ensures notes { IsTold (note_of result) (N.taken notes.old) (N.taken notes.new) (N.has_refused notes.new) }

@@ -13,7 +13,7 @@ use Rattle.fw_run.proofs.perform.perform.Goals as goal
 
 pub returns-in_err-engine-clause-part : goal.returns-in_err-engine-clause-part
 returns-in_err-engine-clause-part g c =
-    on_err _ (stops_at_start (system_of c.args.job.flow c.args.job.batches) c.args.job.steps (g.O.Sink.taken c.args.out.now) c.requires.well_formed c.requires.plain)
+    on_err _ (stops_at_start (system_of c.args.job.flow c.args.job.batches) c.args.job.steps (g.O.Sink.taken c.args.out.now) c.requires.well_formed)
 
 pub returns-in_err-perform_step-clause-part : goal.returns-in_err-perform_step-clause-part
 returns-in_err-perform_step-clause-part g c =
@@ -22,7 +22,7 @@ returns-in_err-perform_step-clause-part g c =
     let same = c.as_slice-step-items.ensures in
     let xs = c.as_slice-step-items.result.now in
     on_err _ (subst (λ t. IsPartPrinted sys t (taken c.args.out.now) (taken c.perform_step.new.out)) same
-    (stops_at sys xs c.loop-step.step-index c.loop-step.engine c.step-item.result c.loop-step.idle (taken c.args.out.now) (taken c.loop-step.out) (taken c.perform_step.new.out) c.loop-step.invariant.so_far c.requires.well_formed (subst ArePlain (sym same) c.requires.plain) c.loop-step-test.true c.step-item.is c.in_err-perform_step.ensures.part))
+    (stops_at sys xs c.loop-step.step-index c.loop-step.engine c.step-item.result c.loop-step.idle (taken c.args.out.now) (taken c.loop-step.out) (taken c.perform_step.new.out) c.loop-step.invariant.so_far c.requires.well_formed c.loop-step-test.true c.step-item.is c.in_err-perform_step.ensures.part))
 
 pub returns-in_err-perform_step-clause-failed : goal.returns-in_err-perform_step-clause-failed
 returns-in_err-perform_step-clause-failed g c =

@@ -18,12 +18,13 @@ edges_at-push_empty [] v e h (suc p) = refl
 edges_at-push_empty (x ∷ lists) v e h zero = h zero
 edges_at-push_empty (x ∷ lists) v e h (suc p) = edges_at-push_empty lists v e (λ q. h (suc q)) p
 
-edges_at-set_same : (lists : List (Vec ℕ Global)) (i : ℕ) (v : Vec ℕ Global) → i < length lists → edges_at (set lists i v) i ≡ v.items
+-- a list that takes the place of another
+pub edges_at-set_same : (lists : List (Vec ℕ Global)) (i : ℕ) (v : Vec ℕ Global) → i < length lists → edges_at (set lists i v) i ≡ v.items
 edges_at-set_same [] i v lt = absurd (omega arith)
 edges_at-set_same (x ∷ lists) zero v lt = refl
 edges_at-set_same (x ∷ lists) (suc i) v lt = edges_at-set_same lists i v (omega arith)
 
-edges_at-set_other : (lists : List (Vec ℕ Global)) (i p : ℕ) (v : Vec ℕ Global) → (p ≡ i → ⊥) → edges_at (set lists i v) p ≡ edges_at lists p
+pub edges_at-set_other : (lists : List (Vec ℕ Global)) (i p : ℕ) (v : Vec ℕ Global) → (p ≡ i → ⊥) → edges_at (set lists i v) p ≡ edges_at lists p
 edges_at-set_other [] i p v other = refl
 edges_at-set_other (x ∷ lists) zero zero v other = absurd (other refl)
 edges_at-set_other (x ∷ lists) zero (suc p) v other = refl

@@ -1,5 +1,8 @@
 -- Walks over plain links, and the ranks of a dataflow's nodes.
-use Rattle.std.specs.Prelude.{◌≡◌, ℕ, ◌<◌, ◌≤◌, Bool, true, false, not, ◌==◌, if◌then◌else◌, ◌+◌, List, [], ◌∷◌, length, map, slice_index_or}
+use Rattle.std.specs.Prelude.{◌≡◌, ℕ, ◌<◌, ◌≤◌, Bool, true, false, not, ◌⊎◌, ◌==◌, if◌then◌else◌, ◌+◌, List, [], ◌∷◌, length, map, slice_index_or}
+use Rattle.std.specs.List.{Contains}
+use Rattle.std.specs.declared.alloc.Global.{Global}
+use Rattle.std.specs.declared.vec.Vec.{Vec}
 use Rattle.fw_flow.specs.declared.kind.Domain.{Domain}
 use Rattle.fw_flow.specs.declared.kind.Domain.TheVariants.{Loop as InLoop}
 use Rattle.fw_flow.specs.declared.kind.Kind.{Kind}
@@ -7,6 +10,7 @@ use Rattle.fw_flow.specs.declared.node.Edge.{Edge}
 use Rattle.fw_flow.specs.declared.node.Node.{Node}
 use Rattle.fw_flow.specs.declared.walks.Link.{Link}
 use Rattle.fw_flow.specs.Dataflow.{Dataflow, idle_node, kind_of, sender, receiver, domain_of, out_domain_of}
+use Rattle.fw_flow.specs.Flow.{edges_at}
 use Rattle.fw_flow.specs.WellFormed.{IsClosedWalk, Passes, IsWellFormed, is_feedback_kind}
 
 -- edges by their places, each from its source to its target, of which only the free ones are passed
@@ -71,11 +75,24 @@ IsAmong marks set = (p : ℕ) → is_marked marks p ≡ true → set p ≡ true
 abbrev pub IsClosedUnder : List Link → ℕ → (ℕ → Bool) → Type 0
 IsClosedUnder links m set = (e : ℕ) → e < m → set (link_at links e).sender ≡ true → set (link_at links e).receiver ≡ true
 
--- the marks grew along links, and stay in each set that holds them and that no link leaves
-pub record IsSpread (links : List Link) (old new : List Bool) : Type 0 where
-  pub len : length new ≡ length old
-  pub kept : (p : ℕ) → is_marked old p ≡ true → is_marked new p ≡ true
-  pub only : (set : ℕ → Bool) → IsClosedUnder links (length links) set → IsAmong old set → IsAmong new set
+-- the lists have, for each node, exactly the receivers of those of the first m links that leave it
+pub record AreOnward (links : List Link) (m : ℕ) (onward : List (Vec ℕ Global)) : Type 0 where
+  pub each : (e : ℕ) → e < m → Contains (edges_at onward (link_at links e).sender) (link_at links e).receiver
+  pub only : (p r : ℕ) → Contains (edges_at onward p) r → (e : ℕ) × (e < m) × ((link_at links e).sender ≡ p) × ((link_at links e).receiver ≡ r)
+
+-- the lists have only nodes for which there is a list
+abbrev pub AreOnwardWithin : List (Vec ℕ Global) → Type 0
+AreOnwardWithin onward = (p r : ℕ) → Contains (edges_at onward p) r → r < length onward
+
+-- the places are marked now, nothing else is new, and what is newly marked is added to the nodes that wait
+pub record AreMarked (places : List ℕ) (old now : List Bool) (waiting_before waiting_now : List ℕ) : Type 0 where
+  pub len : length now ≡ length old
+  pub count : unmarked_count now + length waiting_now ≡ unmarked_count old + length waiting_before
+  pub kept : (p : ℕ) → is_marked old p ≡ true → is_marked now p ≡ true
+  pub each : (p : ℕ) → Contains places p → is_marked now p ≡ true
+  pub only : (p : ℕ) → is_marked now p ≡ true → (is_marked old p ≡ true) ⊎ (Contains places p × Contains waiting_now p)
+  pub still_waiting : (p : ℕ) → Contains waiting_before p → Contains waiting_now p
+  pub waiting : (p : ℕ) → Contains waiting_now p → Contains waiting_before p ⊎ (is_marked now p ≡ true)
 
 -- the marked nodes are the least set that holds the node and that no link leaves
 pub record IsReachOf (links : List Link) (node : ℕ) (marks : List Bool) : Type 0 where

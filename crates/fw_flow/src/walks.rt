@@ -1,10 +1,12 @@
 //! Whether the closed walks of a dataflow are right: each passes a feedback, and none an enter.
-ghost use Rattle.std.specs.Prelude.{◌≡◌, ℕ, ◌<◌, ◌↔◌, [], map, length, IfOk, IsTrue};
+ghost use Rattle.std.specs.Prelude.{◌≡◌, ℕ, ◌<◌, ◌↔◌, List, [], ◌∷◌, map, length, IfOk, OnOk, IsTrue};
 ghost use Rattle.std.specs.Bool.{OnTrue, OnFalse};
-ghost use Rattle.std.specs.List.{list_any};
+ghost use Rattle.std.specs.List.{list_any, Contains};
+ghost use Rattle.fw_flow.specs.declared.walks.Link.{Link as AnyLink};
 ghost use Rattle.fw_flow.specs.Dataflow.{Dataflow};
 ghost use Rattle.fw_flow.specs.WellFormed.{is_feedback_kind, is_enter_kind};
-ghost use Rattle.fw_flow.specs.Walks.{Path, graph_of, is_marked, unmarked_count, AreWithin, IsClosedUnder, IsLedTo, IsSpread, IsReachOf, LeadsBack, IsMadeOf, EachClosedWalkPasses, NoClosedWalkPasses, AvoidingWalk, PassingWalk};
+ghost use Rattle.fw_flow.specs.Flow.{edges_at};
+ghost use Rattle.fw_flow.specs.Walks.{Path, graph_of, AreWithin, IsLedTo, AreOnward, AreOnwardWithin, AreMarked, IsReachOf, LeadsBack, IsMadeOf, EachClosedWalkPasses, NoClosedWalkPasses, AvoidingWalk, PassingWalk};
 
 use crate::{Kind, Node};
 use std::alloc::{AllocError, Global};
@@ -58,8 +60,9 @@ pub(crate) fn no_closed_walk_enters(
     ensures refused { (flow : Dataflow) → IsMadeOf flow nodes.now links.now
         → IfOk result (λ b. OnFalse b (PassingWalk flow is_enter_kind)) }
 {
+    let onward = receivers_by_sender(alloc, nodes.len(), links)?;
     for (place, node) in nodes.iter().enumerate() {
-        if is_enter(node.kind) && is_on_closed_walk(alloc, nodes.len(), links, place)? {
+        if is_enter(node.kind) && is_on_closed_walk(alloc, links, &onward, place)? {
             return Ok(false);
         }
     }
@@ -136,19 +139,49 @@ fn receivers(
     Ok(marks)
 }
 
-/// Whether a closed walk passes the node.
-fn is_on_closed_walk(
+/// For each of so many nodes the receivers of the links that leave it.
+fn receivers_by_sender(
     alloc: Global,
     places: usize,
     links: &[Link],
+) -> Result<Vec<Vec<usize>>, AllocError>
+    requires { AreWithin places links.now }
+    ensures len { IfOk result (λ onward. length onward.items ≡ places) }
+    ensures onward { IfOk result (λ onward. AreOnward links.now (length links.now) onward.items) }
+{
+    let mut onward = no_receivers(alloc, places)?;
+    for link in links {
+        onward[link.sender].push(link.receiver)?;
+    }
+    Ok(onward)
+}
+
+/// So many nodes that no link leaves.
+fn no_receivers(alloc: Global, places: usize) -> Result<Vec<Vec<usize>>, AllocError>
+    ensures len { IfOk result (λ onward. length onward.items ≡ places) }
+    ensures empty { IfOk result (λ onward. (p : ℕ) → edges_at onward.items p ≡ []) }
+{
+    let mut onward = Vec::new(alloc);
+    for _ in 0..places {
+        onward.push(Vec::new(alloc))?;
+    }
+    Ok(onward)
+}
+
+/// Whether a closed walk passes the node. `onward` has the receivers of the links that leave each node.
+fn is_on_closed_walk(
+    alloc: Global,
+    links: &[Link],
+    onward: &[Vec<usize>],
     node: usize,
 ) -> Result<bool, AllocError>
-    requires within { AreWithin places links.now }
-    requires node_within { node < places }
+    requires within { AreWithin (length onward.now) links.now }
+    requires onward { AreOnward links.now (length links.now) onward.now }
+    requires node_within { node < length onward.now }
     ensures some { IfOk result (λ b. OnTrue b (Path (graph_of links.now []) node node)) }
     ensures none { IfOk result (λ b. OnFalse b (Path (graph_of links.now []) node node → ⊥)) }
 {
-    let reached = nodes_from(alloc, places, links, node)?;
+    let reached = nodes_from(alloc, onward, node)?;
     Ok(leads_back(links, &reached, node))
 }
 
@@ -166,48 +199,51 @@ fn leads_back(links: &[Link], marks: &[bool], node: usize) -> bool
     false
 }
 
-/// Marks the nodes that walks from the node reach, it among them.
-fn nodes_from(
-    alloc: Global,
-    places: usize,
-    links: &[Link],
-    node: usize,
-) -> Result<Vec<bool>, AllocError>
-    requires within { AreWithin places links.now }
-    requires node_within { node < places }
-    ensures len { IfOk result (λ marks. length marks.items ≡ places) }
-    ensures reach { IfOk result (λ marks. IsReachOf links.now node marks.items) }
+/// Marks the nodes that walks from the node reach, it among them. Each is visited once, and each link that leaves it is
+/// looked at then.
+fn nodes_from(alloc: Global, onward: &[Vec<usize>], node: usize) -> Result<Vec<bool>, AllocError>
+    requires within { AreOnwardWithin onward.now }
+    requires node_within { node < length onward.now }
+    ensures len { IfOk result (λ marks. length marks.items ≡ length onward.now) }
+    ensures reach { (links : List AnyLink) → AreOnward links (length links) onward.now
+        → IfOk result (λ marks. IsReachOf links node marks.items) }
 {
-    let mut marks = vec![in alloc; false; places]?;
-    marks[node] = true;
-    spread_all(links, &mut marks);
+    let mut marks = vec![in alloc; false; onward.len()]?;
+    let mut to_visit = Vec::new(alloc);
+    mark(node, &mut marks, &mut to_visit)?;
+    while let Some(place) = to_visit.pop() {
+        mark_all(&onward[place], &mut marks, &mut to_visit)?;
+    }
     Ok(marks)
 }
 
-/// Marks the nodes that walks from marked nodes reach.
-fn spread_all(links: &[Link], marks: &mut [bool])
-    requires { AreWithin (length marks.old) links.now }
-    ensures spread { IsSpread links.now marks.old marks.new }
-    ensures closed { IsClosedUnder links.now (length links.now) (is_marked marks.new) }
+/// Marks the places, and adds those that had no mark to the list of nodes to visit. The only error is want of memory.
+fn mark_all(
+    places: &[usize],
+    marks: &mut Vec<bool>,
+    to_visit: &mut Vec<usize>,
+) -> Result<(), AllocError>
+    requires { (p : ℕ) → Contains places.now p → p < length marks.old.items }
+    ensures { OnOk result (AreMarked places.now marks.old.items marks.new.items to_visit.old.items to_visit.new.items) }
 {
-    while spread(links, marks) {}
+    for place in places {
+        mark(*place, marks, to_visit)?;
+    }
+    Ok(())
 }
 
-/// Marks the receivers of the links that leave a marked node, in one pass. Whether a mark is new.
-fn spread(links: &[Link], marks: &mut [bool]) -> bool
-    requires { AreWithin (length marks.old) links.now }
-    ensures spread { IsSpread links.now marks.old marks.new }
-    ensures grows { OnTrue result (unmarked_count marks.new < unmarked_count marks.old) }
-    ensures closed { OnFalse result (IsClosedUnder links.now (length links.now) (is_marked marks.new)) }
+/// Marks the place, and adds it to the list of nodes to visit if it had no mark. The only error is want of memory.
+fn mark(place: usize, marks: &mut Vec<bool>, to_visit: &mut Vec<usize>) -> Result<(), AllocError>
+    requires { place < length marks.old.items }
+    ensures { OnOk result
+        (AreMarked (place ∷ []) marks.old.items marks.new.items to_visit.old.items to_visit.new.items) }
 {
-    let mut has_grown = false;
-    for link in links {
-        if marks[link.sender] && !marks[link.receiver] {
-            marks[link.receiver] = true;
-            has_grown = true;
-        }
+    if marks[place] {
+        return Ok(());
     }
-    has_grown
+    marks[place] = true;
+    to_visit.push(place)?;
+    Ok(())
 }
 
 #[cfg(test)]
@@ -238,10 +274,11 @@ mod tests {
     fn finds_the_nodes_of_closed_walks(rt: HostRuntime) -> Result<(), Fail> {
         let links = [link(3, 2), link(2, 1), link(1, 2), link(0, 1)];
         assert!(rt; are_within(4, &links));
+        let onward = receivers_by_sender(rt.alloc(), 4, &links)?;
         for (node, want) in [(0, false), (1, true), (2, true), (3, false)] {
             assert!(rt; node < 4);
             assert_eq!(rt;
-                is_on_closed_walk(rt.alloc(), 4, &links, node)?,
+                is_on_closed_walk(rt.alloc(), &links, &onward, node)?,
                 want,
                 "at {node}"
             );

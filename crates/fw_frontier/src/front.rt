@@ -1,5 +1,5 @@
 //! The frontier of any domain, by its least outside stamps.
-ghost use Rattle.std.specs.Prelude.{◌≡◌, ◌↔◌, true, [], IsTrue, IfOk};
+ghost use Rattle.std.specs.Prelude.{◌≡◌, ◌↔◌, true, [], IsTrue, IsSome, IfSome, IfOk};
 ghost use Rattle.std.specs.List.{AllByRecursion};
 ghost use Rattle.fw_time.specs.declared.stamp.Bounds.{Bounds as Domain};
 ghost use Rattle.fw_time.specs.Stamp.{in_domain};
@@ -56,6 +56,24 @@ impl Front {
         let mut outside = Vec::new(alloc);
         outside::exclude_all(&mut outside, stamps)?;
         Ok(Front { outside })
+    }
+
+    /// The frontier that has these stamps outside, and with each the greater ones; none where one of them is not the
+    /// domain's.
+    pub fn checked_until(
+        alloc: Global,
+        stamps: &[Stamp],
+        bounds: &Bounds,
+    ) -> Result<Option<Self>, AllocError>
+        ensures some { IfOk result
+            (λ front. IsSome front ↔ AllByRecursion (λ s. in_domain bounds.now s ≡ true) stamps.now) }
+        ensures names { IfOk result
+            (λ front. IfSome front (λ f. Names bounds.now f (frontier_of bounds.now stamps.now))) }
+    {
+        if !outside::are_in_domain(stamps, bounds) {
+            return Ok(None);
+        }
+        Ok(Some(Self::until(alloc, stamps)?))
     }
 
     /// What is at most one of these stamps of the domain.

@@ -9,7 +9,7 @@ use Rattle.fw_flow.proofs.Flows.{NoClosedWalkPasses-from_nodes, PassingWalk-from
 use Rattle.fw_flow.proofs.walks.no_closed_walk_enters.Goals as goal
 
 -- at the early return the node is an enter on a closed walk
-entered : (c : goal.Then-branch) (flow : Dataflow) → IsMadeOf flow c.args.nodes.now c.args.links.now → PassingWalk flow is_enter_kind
+entered : (c : goal.After-drop-onward-then-branch) (flow : Dataflow) → IsMadeOf flow c.args.nodes.now c.args.links.now → PassingWalk flow is_enter_kind
 entered c flow made =
     let nodes = c.args.nodes.now in
     let p = c.loop-place.place in

@@ -1,4 +1,5 @@
 pub mod ArrivalLaws
+pub mod AskedLaws
 pub mod CheckpointLaws
 pub mod ChoiceLaws
 pub mod ChoosingLaws
@@ -43,6 +44,7 @@ pub mod OneByOneLaws
 pub mod OneNextLaws
 pub mod OrderLaws
 pub mod OutputLaws
+pub mod PartLaws
 pub mod PendingKeptLaws
 pub mod PendingLaws
 pub mod PhiLaws
@@ -52,6 +54,7 @@ pub mod PsiLaws
 pub mod ReadySteps
 pub mod RecSteps
 pub mod RecoveryLaws
+pub mod RestoringLaws
 pub mod RewritingLaws
 pub mod RunLaws
 pub mod SameInsideLaws

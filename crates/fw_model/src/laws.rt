@@ -9,6 +9,7 @@ ghost use Rattle.fw_model.specs.LawsOfFiltering.{ConsistentMeetsInclusions, Filt
 ghost use Rattle.fw_model.specs.LawsOfLegalHistories.{LegalEventsAreInDomain, LegalMessagesAreInDomain, OnlyInputsInject};
 ghost use Rattle.fw_model.specs.LawsOfProjections.{PhiGrowsWithHistory, PhiIgnoresHistory, PhiIsFrontier, PhiIsMonotone, PhiOfEverything, PhiOfMeet, PsiIsFrontier, PsiIsMonotone, PsiOfJoin, PsiOfNothing, PsiOfUnion};
 ghost use Rattle.fw_model.specs.LawsOfRecoveries.{AcknowledgementsShowDenotationThroughRecoveries, CandidatesLieWithinSettled, DenotedIsFull, RunsStayLegalThroughRecoveries, SettledStaysDenoted, StepsKeepHistoriesLegal};
+ghost use Rattle.fw_model.specs.LawsOfRestoring.{CheckpointsStayTrue, NothingComesInsideCheckpoints};
 ghost use Rattle.fw_model.specs.LawsOfRuns.{AcknowledgementsAreInOrder, AcknowledgementsShowDenotation, RunsStayLegal};
 ghost use Rattle.fw_model.specs.LawsOfSending.{InsidePhiComesFromInside, InsidePhiOfSequenceComesFromInside, PhiBySendStamps, PsiBackBySendStamps, PsiBackIsLargest, PsiBySendStamps, SendStampIsMonotone, SendersOfWellFormed, SendsAreInsidePsi, SendsAtSendStamp, SentFromInsideIsInsidePsi, SentTableFollowsHistory};
 ghost use Rattle.fw_model.specs.LawsOfSteps.{ExactlyOneNextState, OneNextState, SomeNextState};
@@ -506,4 +507,14 @@ pub fn largest_of_kept_is_largest_of_ever()
 /// Two runs of one system that acknowledge an output at a stamp show the same recs there.
 pub fn two_runs_show_one_bag()
     ensures { TwoRunsShowOneBag }
+{}
+
+/// Each step leaves what each checkpoint holds that is among the writes after it.
+pub fn checkpoints_stay_true()
+    ensures { CheckpointsStayTrue }
+{}
+
+/// In each state of a run nothing new comes inside a checkpoint.
+pub fn nothing_comes_inside_checkpoints()
+    ensures { NothingComesInsideCheckpoints }
 {}

@@ -2,7 +2,7 @@
 use Rattle.std.proofs.Common.{◌≡◌, ℕ, zero, suc, ◌+◌, ◌<◌, ◌≤◌, Bool, true, false, cond, not, ◌&&◌, ◌==◌, List, [], ◌∷◌, ◌++◌, length, filter, map, Option, Some, None, refl, sym, ap, subst, ◌∙◌, inl, inr, arith}
 use Rattle.std.specs.List.{AllByRecursion, list_any, range_with_len}
 use Rattle.std.specs.Ordering.{is_eq}
-use Rattle.std.proofs.lemmas.Bool.{and_parts, and_from, or_cases, cond_both, cases_Bool, cases_lt, eqb-true, eq-eqb}
+use Rattle.std.proofs.lemmas.Bool.{not-true, and_parts, and_from, or_cases, cond_both, cases_Bool, cases_lt, eqb-true, eq-eqb}
 use Rattle.std.proofs.lemmas.Cmp.{lists_total, tied_itself}
 use Rattle.std.proofs.lemmas.List.{get_or_past, length-map}
 use Rattle.std.proofs.lemmas.List.FromFn.{get_or-map-range_with_len}
@@ -346,7 +346,7 @@ settled-alone state settled (p ∷ ps) a = (
 )
 
 -- each of the first with each of the second
-each-each : {X Y : Type 0} (R : X → Y → Type 0) (xs : List X) (ys : List Y) → AllByRecursion (λ y. AllByRecursion (λ x. R x y) xs) ys → AllByRecursion (λ x. AllByRecursion (R x) ys) xs
+pub each-each : {X Y : Type 0} (R : X → Y → Type 0) (xs : List X) (ys : List Y) → AllByRecursion (λ y. AllByRecursion (λ x. R x y) xs) ys → AllByRecursion (λ x. AllByRecursion (R x) ys) xs
 each-each {X} {Y} R [] ys a = tt
 each-each {X} {Y} R (x ∷ xs) ys a =
     let Both : Y → Type 0 = λ y. R x y × AllByRecursion (λ z. R z y) xs in
@@ -415,13 +415,9 @@ progress-restore sys state done settled g h c =
       takes,
       each-weaker (IsWriteSettled sys state.settled) (λ x. IsApart x.node x.written p (checkpoint (front_of settled p) state.low)) state.writes
           (λ x b. grown-apart sys state.settled settled p state.low l (settled-grows sys state done settled g p l) (c.settled p l) (now p l)
-          (not_true (same_front (front_of state.settled p) (front_of settled p)) a.1) x.node x.written b) h,
+          (not-true (same_front (front_of state.settled p) (front_of settled p)) a.1) x.node x.written b) h,
     ))
     (each-one (λ p. Unit {0}) (places sys.flow) (λ p. tt))) c
-  where
-    not_true : (b : Bool) → not b ≡ true → b ≡ false
-    not_true true e = sym e
-    not_true false e = refl
 
 -- ---- a checkpoint that is asked for
 

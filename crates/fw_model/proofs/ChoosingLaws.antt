@@ -353,7 +353,7 @@ largest-holds_low sys w steps outcomes last r lost view choice m =
 same-node : (sys : System) (state next : Machine) → next.low ≡ state.low → (p : ℕ) → Within (at_node sys state.low p) (at_node sys next.low p)
 same-node sys state next e p t i = ap (λ fs. at_node sys fs p t) e ∙ i
 
-took-grows : (sys : System) (state : Machine) (notes : List Front) (step : Step) (next : Machine) (effect : Effect) → IsLowConsistent sys state notes
+pub took-grows : (sys : System) (state : Machine) (notes : List Front) (step : Step) (next : Machine) (effect : Effect) → IsLowConsistent sys state notes
     → Takes sys state step next effect → (p : ℕ) → p < length sys.flow.nodes → Within (at_node sys state.low p) (at_node sys next.low p)
 took-grows sys state notes (Inject s) next effect c t p l = same-node sys state next (ap (λ (m : Machine). m.low) t.3) p
 took-grows sys state notes (Deliver e at) next effect c t p l = same-node sys state next (ap (λ (m : Machine). m.low) t.3) p

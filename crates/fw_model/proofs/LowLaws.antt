@@ -52,7 +52,7 @@ at_most-refl n = omega arith
 
 -- ---- an enabled event lies outside the low watermark
 
-input-is : (kind : Kind) → is_input_kind kind ≡ true → kind ≡ Input
+pub input-is : (kind : Kind) → is_input_kind kind ≡ true → kind ≡ Input
 input-is Input e = refl
 input-is kind e = absurd (cc)
 

@@ -90,7 +90,7 @@ abbrev pub AreSerialsBelow : ℕ → List Numbered → Type 0
 AreSerialsBelow n [] = Unit {0}
 AreSerialsBelow n (v ∷ h) = (v.serial < n) × AreSerialsBelow v.serial h
 
-serials-each : (n m : ℕ) (h : List Numbered) → n ≤ m → AreSerialsBelow n h → AllByRecursion (λ (v : Numbered). v.serial < m) h
+pub serials-each : (n m : ℕ) (h : List Numbered) → n ≤ m → AreSerialsBelow n h → AllByRecursion (λ (v : Numbered). v.serial < m) h
 serials-each n m [] l a = tt
 serials-each n m (v ∷ h) l a = let b = a.0 in (omega arith, serials-each v.serial m h (omega arith) a.1)
 
@@ -106,7 +106,7 @@ serials-passed n test (v ∷ h) a =
     cond_both (test v) (v ∷ filter test h) (filter test h) (AreSerialsBelow n) (λ e. (b, rest)) (λ e. serials-more v.serial n (filter test h) (omega arith) rest)
 
 -- one of the list that passes the test
-any-find : {X : Type 0} (test : X → Bool) (P : X → Type 0) (xs : List X) → list_any test xs ≡ true → AllByRecursion P xs → (x : X) × (test x ≡ true) × P x
+pub any-find : {X : Type 0} (test : X → Bool) (P : X → Type 0) (xs : List X) → list_any test xs ≡ true → AllByRecursion P xs → (x : X) × (test x ≡ true) × P x
 any-find test P [] k a = absurd (two_ways false k refl)
 any-find test P (x ∷ xs) k a = elim (or_cases (test x) (list_any test xs) k) [ inl i ↦ (x, i, a.0) | inr i ↦ any-find test P xs i a.1 ]
 
@@ -146,7 +146,13 @@ sends-grow sys old low g p t (e ∷ es) k =
     let a = and_parts (inside_if_some (at_node sys old r) u) (sends_inside sys old p t es) k in
     and_from (inside_if_some (at_node sys low r) u) (sends_inside sys low p t es) (some-grows (at_node sys old r) (at_node sys low r) (g r) u a.0) (sends-grow sys old low g p t es a.1)
 
-given-grows : (sys : System) (old low : List Front) → LowGrows sys old low → (p : ℕ) (t : Stamp) → is_given_up sys old p t ≡ true → is_given_up sys low p t ≡ true
+-- what is given up lies inside the node's front
+pub given-stamp : (sys : System) (low : List Front) (p : ℕ) (t : Stamp) → is_given_up sys low p t ≡ true → at_node sys low p t ≡ true
+given-stamp sys low p t k =
+    let may = may_keep_nothing (kind_of sys.flow p) in
+    (and_parts may (at_node sys low p t) (and_parts (may && at_node sys low p t) (sends_inside sys low p t (out_edges sys.flow p)) k).0).1
+
+pub given-grows : (sys : System) (old low : List Front) → LowGrows sys old low → (p : ℕ) (t : Stamp) → is_given_up sys old p t ≡ true → is_given_up sys low p t ≡ true
 given-grows sys old low g p t k =
     let may = may_keep_nothing (kind_of sys.flow p) in
     let es = out_edges sys.flow p in
@@ -164,12 +170,13 @@ IsGivenUpOnce sys low h p s collected =
     (may_keep_nothing (kind_of sys.flow p) ≡ true) × AllByRecursion (λ (v : Numbered). v.serial ≡ s → is_given_up sys low p (stamp v.event) ≡ true) h
 
 -- A checkpoint is one of a node that takes them, at a canonical front, kept with a watermark within the one of now. A logged
--- event has a serial that was given out, is one of the node, and if it was collected, given up.
+-- event has a serial that was given out, is one of the node, if it was collected given up, and its node logs each event.
 abbrev pub IsAskedWell : System → List Front → ℕ → List Numbered → ℕ → Written → Progress → Type 0
 IsAskedWell sys low next h p (checkpoint f kept_low) far =
     (takes_checkpoints (policy_of sys.flow p) ≡ true) × IsCanonical (bounds_of sys.flow p) f × LowGrows sys kept_low low
 IsAskedWell sys low next h p (logged_event s) far =
     (s < next) × AllByRecursion (λ (v : Numbered). v.serial ≡ s → place sys.flow v.event ≡ p) h × IsGivenUpOnce sys low h p s far
+    × (policy_of sys.flow p ≡ policy.Full)
 
 abbrev pub IsWriteAskedWell : System → List Front → ℕ → List Numbered → Write → Type 0
 IsWriteAskedWell sys low next h write = IsAskedWell sys low next h write.node write.written write.progress
@@ -187,7 +194,7 @@ event-well : (sys : System) (low : List Front) (v : Numbered) (h : List Numbered
     → IsAskedWell sys low (v.serial + 1) (v ∷ h) p w far
 event-well sys low v h p (checkpoint f l) far a = a
 event-well sys low v h p (logged_event s) far a =
-    let less = a.0 in (omega arith, ((λ e. absurd (omega arith)), a.1), event-given sys low v h p s far less a.2)
+    let less = a.0 in (omega arith, ((λ e. absurd (omega arith)), a.1), event-given sys low v h p s far less a.2, a.3)
 
 passed-given : (sys : System) (low : List Front) (test : Numbered → Bool) (h : List Numbered) (p s : ℕ) (far : Progress) → IsGivenUpOnce sys low h p s far
     → IsGivenUpOnce sys low (filter test h) p s far
@@ -202,12 +209,12 @@ passed-well : (sys : System) (low : List Front) (next : ℕ) (test : Numbered �
 passed-well sys low next test h p (checkpoint f l) far a = a
 passed-well sys low next test h p (logged_event s) far a =
     let P : Numbered → Type 0 = λ v. v.serial ≡ s → place sys.flow v.event ≡ p in
-    (a.0, each-passed P P test h (λ v k b. b) a.1, passed-given sys low test h p s far a.2)
+    (a.0, each-passed P P test h (λ v k b. b) a.1, passed-given sys low test h p s far a.2, a.3)
 
 acknowledged-well : (sys : System) (low : List Front) (next : ℕ) (h : List Numbered) (p : ℕ) (w : Written) (far : Progress) → IsAskedWell sys low next h p w far
     → IsAskedWell sys low next h p w acknowledged
 acknowledged-well sys low next h p (checkpoint f l) far a = a
-acknowledged-well sys low next h p (logged_event s) far a = (a.0, a.1, tt)
+acknowledged-well sys low next h p (logged_event s) far a = (a.0, a.1, tt, a.3)
 
 collected-given : (sys : System) (old low : List Front) (n : ℕ) (h : List Numbered) (p s : ℕ) → LowGrows sys old low → AreSerialsBelow n h
     → AllByRecursion (λ (v : Numbered). v.serial ≡ s → place sys.flow v.event ≡ p) h → (far : Progress) → IsGivenUpOnce sys old h p s far
@@ -239,7 +246,7 @@ collected-given sys old low n h p s g b c acknowledged a =
 collected-well : (sys : System) (old low : List Front) (next : ℕ) (h : List Numbered) → LowGrows sys old low → AreSerialsBelow next h → (p : ℕ) (w : Written) (far : Progress)
     → IsAskedWell sys old next h p w far → IsAskedWell sys low next h p w (after_collection (is_below sys low h p w) far)
 collected-well sys old low next h g b p (checkpoint f l) far a = (a.0, a.1, λ q t i. g q t (a.2 q t i))
-collected-well sys old low next h g b p (logged_event s) far a = (a.0, a.1, collected-given sys old low next h p s g b a.1 far a.2)
+collected-well sys old low next h g b p (logged_event s) far a = (a.0, a.1, collected-given sys old low next h p s g b a.1 far a.2, a.3)
 
 -- ---- no two hold the same
 
@@ -266,8 +273,8 @@ pub record CanRestore (sys : System) (state : Machine) : Type 0 where
 -- ---- an event
 
 event-asked : (sys : System) (low : List Front) (next : ℕ) (v : Event) (h : List Numbered) → AreSerialsBelow next h → (p : Policy)
-    → AreAskedWell sys low (next + 1) (record { serial = next; event = v } ∷ h) (write_of_event p (place sys.flow v) next)
-event-asked sys low next v h a policy.Full = (
+    → policy_of sys.flow (place sys.flow v) ≡ p → AreAskedWell sys low (next + 1) (record { serial = next; event = v } ∷ h) (write_of_event p (place sys.flow v) next)
+event-asked sys low next v h a policy.Full e = (
   (
     omega arith,
     (
@@ -276,10 +283,11 @@ event-asked sys low next v h a policy.Full = (
           (serials-each next next h (at_most-refl next) a),
     ),
     tt,
+    e,
   ),
   tt,
 )
-event-asked sys low next v h a p = tt
+event-asked sys low next v h a p e = tt
 
 event-alone : (p : Policy) (q serial : ℕ) → ArePairs IsApart (write_of_event p q serial)
 event-alone policy.Full q serial = (tt, tt)
@@ -302,7 +310,7 @@ event-restore sys state v c =
       asked = each-append (IsWriteAskedWell sys state.low (state.next + 1) (now ∷ state.history)) state.writes more
           (each-weaker (IsWriteAskedWell sys state.low state.next state.history) (IsWriteAskedWell sys state.low (state.next + 1) (now ∷ state.history)) state.writes
           (λ x a. event-well sys state.low now state.history x.node x.written x.progress a) c.asked)
-          (event-asked sys state.low state.next v state.history c.serials asks);
+          (event-asked sys state.low state.next v state.history c.serials asks refl);
       apart = pairs-append IsApart state.writes more c.apart (event-alone asks p state.next)
           (each-weaker (IsWriteAskedWell sys state.low state.next state.history) (λ x. AllByRecursion (λ (y : Write). IsApart x.node x.written y.node y.written) more) state.writes
           (λ x a. event-apart sys state.low state.next state.history x asks p a) c.asked);
@@ -536,7 +544,7 @@ recovered-restore sys state choice settled k c =
     }
 
 -- the new watermark contains the old one, also past the last node
-low-grows : (sys : System) (state : Machine) (notes : List Front) (choice : Choice) → IsLowConsistent sys state notes
+pub low-grows : (sys : System) (state : Machine) (notes : List Front) (choice : Choice) → IsLowConsistent sys state notes
     → IsLargest sys state (IsCandidate sys state (λ p. true) kept) choice → LowGrows sys state.low (map front_of_cut choice.cuts)
 low-grows sys state notes choice c m p = elim (cases_lt p (length sys.flow.nodes)) [
   | inl l ↦ watermark-grows sys state notes choice c m p l
@@ -602,7 +610,7 @@ run-reached sys w (s ∷ ss) [] state last f r = absurd r
 run-reached sys w (s ∷ ss) (did effect ∷ os) state last f r = run-reached sys w ss os r.0 last (took-reached sys w state s r.0 effect f r.1) r.2
 run-reached sys w (s ∷ ss) (idle ∷ os) state last f r = run-reached sys w ss os r.0 last (subst (IsReached sys) (sym r.1.1) f) r.2
 
-first-reached : (sys : System) → IsWellFormedSystem sys → IsReached sys (first_state sys)
+pub first-reached : (sys : System) → IsWellFormedSystem sys → IsReached sys (first_state sys)
 first-reached sys w = record {
   recover = first-recover sys (rounds sys (enough_rounds sys.flow)) w;
   restore = record {

@@ -22,6 +22,7 @@ pub mod EnabledLaws
 pub mod EventSteps
 pub mod FilterLaws
 pub mod FilteredLaws
+pub mod ForgottenLaws
 pub mod FrontLaws
 pub mod FrontierLaws
 pub mod InputLaws

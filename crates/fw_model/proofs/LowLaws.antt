@@ -75,13 +75,18 @@ quiet-each : (test : Stamp → Bool) (ms : List Message) → some_at test ms ≡
 quiet-each test [] q = tt
 quiet-each test (m ∷ ms) q = let a = or_parts (test m.at) (some_at test ms) q in (a.0, quiet-each test ms a.1)
 
--- the low watermark of a node that is no input lies within what is settled, so that what is outside that is outside it
+-- the low watermark of a node that is no input lies within what is settled
+pub low-within_settled : (sys : System) (state : Machine) (notes : List Front) → HasWritesSettled sys state → IsLowConsistent sys state notes
+    → (p : ℕ) → p < length sys.flow.nodes → (kind_of sys.flow p ≡ Input → ⊥) → Within (at_node sys state.low p) (at_node sys state.settled p)
+low-within_settled sys state notes a c p l n =
+    restorable-within sys state kept p (restoring (kind_of sys.flow p) (policy_of sys.flow p)) (front_of state.low p) l
+    (λ b. n (by_batches-input (kind_of sys.flow p) (policy_of sys.flow p) b)) a (low-offered sys state notes c p l).1 l
+
+-- what is outside that is outside it
 outside_low : (sys : System) (state : Machine) (notes : List Front) → HasWritesSettled sys state → IsLowConsistent sys state notes
     → (p : ℕ) → p < length sys.flow.nodes → (kind_of sys.flow p ≡ Input → ⊥) → (t : Stamp) → at_node sys state.settled p t ≡ false → at_node sys state.low p t ≡ false
 outside_low sys state notes a c p l n t o =
-    let way = restoring (kind_of sys.flow p) (policy_of sys.flow p) in
-    false_from_ne_true (at_node sys state.low p t) (λ i. two_ways (at_node sys state.settled p t)
-    (restorable-within sys state kept p way (front_of state.low p) l (λ b. n (by_batches-input (kind_of sys.flow p) (policy_of sys.flow p) b)) a (low-offered sys state notes c p l).1 l t i) o)
+    false_from_ne_true (at_node sys state.low p t) (λ i. two_ways (at_node sys state.settled p t) (low-within_settled sys state notes a c p l n t i) o)
 
 -- a batch that was not injected lies outside
 pub batch-outside : (sys : System) (state : Machine) (s x : ℕ) (f : Front) → injected_count s (events state.history) ≤ x → x < length (batches_of sys s)
@@ -107,7 +112,8 @@ settled-outside sys state (Delivered d m) f k p n e = false_from_ne_true (at_nod
 settled-outside sys state (Notified q t) f k p n e = false_from_ne_true (at_node sys state.settled p t) (λ i.
     two_ways _ k.is_owed (f.paid q t (ap (λ n. at_node sys state.settled n t) e ∙ i)))
 
-event-outside : (sys : System) (state : Machine) (notes : List Front) (v : Event) → IsWellFormed sys.flow → IsFull sys state → HasWritesSettled sys state
+-- an enabled event lies outside the low watermark
+pub event-outside : (sys : System) (state : Machine) (notes : List Front) (v : Event) → IsWellFormed sys.flow → IsFull sys state → HasWritesSettled sys state
     → IsLowConsistent sys state notes → IsEnabled sys (events state.history) v → (p : ℕ) → p < length sys.flow.nodes → place sys.flow v ≡ p
     → at_node sys state.low p (stamp v) ≡ false
 event-outside sys state notes (Injected s x) w f a c k p l e =
@@ -250,7 +256,7 @@ counted-not_lost false acknowledged e = refl
 counted-not_lost true collected e = refl
 counted-not_lost false collected e = refl
 
-kept-counts : (far : Progress) → counts kept far ≡ true → counts ever far ≡ true
+pub kept-counts : (far : Progress) → counts kept far ≡ true → counts ever far ≡ true
 kept-counts in_flight e = absurd (cc)
 kept-counts acknowledged e = refl
 kept-counts collected e = absurd (cc)
@@ -656,7 +662,7 @@ origin-zeros (x ∷ s) = ap (λ t. 0 ∷ t) (origin-zeros s)
 pub none-canonical : (b : Bounds) → IsCanonical b (no_stamps b)
 none-canonical b = subst (λ t. IsCanonical b (t ∷ [])) (origin-zeros b.greatest) (names-nothing b).canonical
 
-none-within : (b : Bounds) (g : Frontier) → Within (frontier_of b (no_stamps b)) g
+pub none-within : (b : Bounds) (g : Frontier) → Within (frontier_of b (no_stamps b)) g
 none-within b g t i = absurd (none-inside b t i)
 
 none-restorable : (sys : System) (p : ℕ) (way : Restoring) → restoring (kind_of sys.flow p) (policy_of sys.flow p) ≡ way

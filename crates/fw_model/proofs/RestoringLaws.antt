@@ -47,7 +47,7 @@ use Rattle.fw_model.proofs.AskedLaws.{takes-declared, takes-restoring, takes-not
 -- ---- nothing comes inside a checkpoint
 
 -- what is settled is full
-full-reached : (sys : System) (state : Machine) → IsWellFormedSystem sys → IsReached sys state → IsFull sys state
+pub full-reached : (sys : System) (state : Machine) → IsWellFormedSystem sys → IsReached sys state → IsFull sys state
 full-reached sys state w f = full-of sys (rounds sys (enough_rounds sys.flow)) state w (denotation-exists sys w.flow) f.recover.holds
 
 settled-closed : (sys : System) (state : Machine) → IsWellFormed sys.flow → IsFull sys state → (low : List Front) (next : ℕ) (h : List Numbered) (p : ℕ) (w : Written) (far : Progress)
@@ -236,7 +236,7 @@ outside-each g (m ∷ ms) =
     (λ e. (not-true (g m.at) e, outside-each g ms)) (λ e. outside-each g ms)
 
 -- the low watermark lies within what a largest choice keeps
-low-kept : (sys : System) (state : Machine) → IsReached sys state → (lost : ℕ → Bool) (choice : Choice) → IsLargest sys state (IsCandidate sys state lost kept) choice
+pub low-kept : (sys : System) (state : Machine) → IsReached sys state → (lost : ℕ → Bool) (choice : Choice) → IsLargest sys state (IsCandidate sys state lost kept) choice
     → (p : ℕ) → p < length sys.flow.nodes → Within (at_node sys state.low p) (kept_of sys choice p)
 low-kept sys state f lost choice m p l =
     within-set sys p (front_of state.low p) (cut_of choice p) (low-within sys state f.recover.notes f.recover.watermark lost kept choice m p l)
@@ -343,7 +343,7 @@ of-each sys low next h n (logged_event s) collected a =
     (λ v k e. (k.0 e, λ c. k.1 e))
     (each-both (λ (v : Numbered). v.serial ≡ s → place sys.flow v.event ≡ n) (λ v. v.serial ≡ s → is_given_up sys low n (stamp v.event) ≡ true) h a.1 a.2.1)
 
-apart-events : (serial m : ℕ) (v : Written) (n : ℕ) (w : Written) → IsApart m v n w → v ≡ logged_event serial → w ≡ logged_event serial → ⊥
+pub apart-events : (serial m : ℕ) (v : Written) (n : ℕ) (w : Written) → IsApart m v n w → v ≡ logged_event serial → w ≡ logged_event serial → ⊥
 apart-events serial m v n w a d e = subst (λ y. IsApart m (logged_event serial) n y) e (subst (λ x. IsApart m x n w) d a) refl
 
 -- what a write that logs the event says of it
@@ -371,18 +371,18 @@ logged-once sys low p v writes a each e k =
       given_up = λ c. subst (λ q. is_given_up sys low q (stamp v.event) ≡ true) its (o.1.2 c);
     }
 
-all-logged : (sys : System) (p : ℕ) (f : Frontier) (writes : List Write) (h : List Numbered) → AllLogged sys p f writes h
+pub all-logged : (sys : System) (p : ℕ) (f : Frontier) (writes : List Write) (h : List Numbered) → AllLogged sys p f writes h
     → AllByRecursion (λ (v : Numbered). place sys.flow v.event ≡ p → f (stamp v.event) ≡ true → IsLogged v.serial writes) h
 all-logged sys p f writes [] a = tt
 all-logged sys p f writes (v ∷ h) a = (a.0, all-logged sys p f writes h a.1)
 
-full-restoring : (kind : Kind) (p : Policy) → IsPolicyAllowed kind p → p ≡ policy.Full → restoring kind p ≡ by_events
+pub full-restoring : (kind : Kind) (p : Policy) → IsPolicyAllowed kind p → p ≡ policy.Full → restoring kind p ≡ by_events
 full-restoring Input p a k = absurd (let e : policy.None ≡ policy.Full = sym a ∙ k in cc)
 full-restoring OutputEpoch p a k = absurd (let e : policy.None ≡ policy.Full = sym a ∙ k in cc)
 full-restoring OutputNumber p a k = absurd (let e : policy.None ≡ policy.Full = sym a ∙ k in cc)
 full-restoring kind p a k = ap restoring_of_policy k
 
-full-declared : (flow : Dataflow) (p : ℕ) → policy_of flow p ≡ policy.Full → p < length flow.nodes
+pub full-declared : (flow : Dataflow) (p : ℕ) → policy_of flow p ≡ policy.Full → p < length flow.nodes
 unfolding policy_of
 full-declared flow p k = elim (cases_lt p (length flow.nodes)) [
   | inl l ↦ l

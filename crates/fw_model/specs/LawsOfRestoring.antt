@@ -1,6 +1,6 @@
--- Laws of restoring: what a restoration to a largest choice needs was not lost and not collected, and what checkpoints hold
--- stays true.
-use Rattle.std.specs.Prelude.{◌≡◌, ◌≢◌, ℕ, ◌<◌, ◌≤◌, Bool, true, false, List, [], ◌∷◌, ◌++◌, length}
+-- Laws of restoring: what a restoration to a largest choice needs was not lost and not collected, what checkpoints hold stays
+-- true, and what was collected is what lies below the low watermark.
+use Rattle.std.specs.Prelude.{◌≡◌, ◌≢◌, ◌↔◌, ℕ, ◌<◌, ◌≤◌, Bool, true, false, List, [], ◌∷◌, ◌++◌, map, length}
 use Rattle.std.specs.List.{AllByRecursion}
 use Rattle.fw_frontier.specs.Frontier.{Frontier, Within}
 use Rattle.fw_frontier.specs.Front.{Front, frontier_of}
@@ -16,8 +16,8 @@ use Rattle.fw_flow.specs.Projection.{events_at}
 use Rattle.fw_flow.specs.WellFormed.{IsWellFormedSystem, may_keep_nothing}
 use Rattle.fw_model.specs.History.{sent, injected_count, IsEnabled}
 use Rattle.fw_model.specs.Machine.{Machine, Numbered, Write, Written, checkpoint, logged_event, acknowledged, collected, events, no_stamps, first_state, front_of}
-use Rattle.fw_model.specs.Choice.{kept, ever, counts, IsCandidate, delivered_cover, notified_cover, discarded_cover, Choice, cut_of, kept_of, IsLargest}
-use Rattle.fw_model.specs.Steps.{Outcome, Steps, Run, checkpoint_front, is_given_up}
+use Rattle.fw_model.specs.Choice.{kept, ever, counts, IsCandidate, delivered_cover, notified_cover, discarded_cover, Choice, cut_of, kept_of, IsLargest, IsWatermark}
+use Rattle.fw_model.specs.Steps.{Outcome, Steps, Run, checkpoint_front, is_in_flight, front_of_cut, is_given_up, is_below}
 use Rattle.fw_model.specs.LawsOfFiltering.{events_inside, messages_from, messages_outside}
 
 -- whether the policy takes checkpoints, asked or of its own
@@ -181,3 +181,18 @@ MayKeepNothingIfCollected sys write =
 abbrev pub EventsThatMustBeKeptAreNeverCollected : Type 0
 EventsThatMustBeKeptAreNeverCollected = (sys : System) → IsWellFormedSystem sys → (steps : List Step) (outcomes : List Outcome) (last : Machine)
     → Run sys (first_state sys) steps outcomes last → AllByRecursion (MayKeepNothingIfCollected sys) last.writes
+
+-- in each state to which steps lead from the first one, no write below the watermark that a collection takes is in flight:
+-- what a collection forgets was acknowledged
+abbrev pub WhatIsForgottenWasAcknowledged : Type 0
+WhatIsForgottenWasAcknowledged = (sys : System) → IsWellFormedSystem sys → (steps : List Step) (outcomes : List Outcome) (last : Machine)
+    → Run sys (first_state sys) steps outcomes last → (choice : Choice) → IsWatermark sys last choice
+    → AllByRecursion (λ (write : Write). is_below sys (map front_of_cut choice.cuts) last.history write.node write.written ≡ true
+    → is_in_flight write.progress ≡ false) last.writes
+
+-- in each state to which steps lead from the first one, a write was collected exactly where what it holds lies below the low
+-- watermark: so the logged events of a node at a stamp are all collected, or none is
+abbrev pub CollectedIsWhatLiesBelow : Type 0
+CollectedIsWhatLiesBelow = (sys : System) → IsWellFormedSystem sys → (steps : List Step) (outcomes : List Outcome) (last : Machine)
+    → Run sys (first_state sys) steps outcomes last
+    → AllByRecursion (λ (write : Write). (write.progress ≡ collected) ↔ (is_below sys last.low last.history write.node write.written ≡ true)) last.writes

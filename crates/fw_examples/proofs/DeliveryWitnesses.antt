@@ -14,7 +14,7 @@ complete_before (suc zero) r = absurd (omega (arith, r))
 complete_before (suc (suc d)) r = absurd (omega (arith, r))
 
 pub an_epoch_is_closed : AnEpochIsClosed
-unfolding kind_of receiver sender sends batches_of bounds_of
+unfolding kind_of receiver sender sends batches_of bounds_of in_edges
 an_epoch_is_closed = record {
   closed = record {
     quiet = λ s l. quiet_at_total two_epochs refl s;
@@ -22,6 +22,7 @@ an_epoch_is_closed = record {
   };
   goes_on = total_is_legal;
   delivered_there = refl;
+  bag = refl;
   delivered_later = refl;
 }
 

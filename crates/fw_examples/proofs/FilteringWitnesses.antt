@@ -1,6 +1,7 @@
 -- Witnesses for the laws of filtering.
-use Rattle.std.proofs.Common.{◌≡◌, ℕ, zero, suc, true, List, [], ◌∷◌, ◌++◌, refl, sym, ap, ◌∙◌, subst, lit<, lit≤}
+use Rattle.std.proofs.Common.{◌≡◌, ℕ, zero, suc, true, List, [], ◌∷◌, ◌++◌, refl, sym, ap, ◌∙◌, subst, lit<, lit≤, arith}
 use Rattle.std.proofs.lemmas.Bool.{false≢true, and_parts, and_from}
+use Rattle.std.proofs.lemmas.Bool.Decides.{nat_tests}
 use Rattle.std.specs.List.{AllByRecursion, flat_map}
 use Rattle.fw_time.specs.Stamp.{Stamp, same}
 use Rattle.fw_frontier.specs.Frontier.{IsFrontier, Within}
@@ -14,7 +15,6 @@ use Rattle.fw_model.specs.Choice.{Choice, until, set_of, stamp_of_notice, IsCons
 use Rattle.fw_model.specs.History.{some_at, delivered, IsQuiet}
 use Rattle.fw_model.specs.Machine.{Machine, front_of, is_failed}
 use Rattle.fw_model.specs.LawsOfFiltering.{ComeFromKept, IsConsistentlyKept, IsFull, MeetsInclusions, NotifiesNobody}
-use Rattle.fw_model.specs.LawsOfLegalHistories.{HasEpochs}
 use Rattle.fw_examples.specs.Flows.{loop_counts_up, regroup_by_three, two_batches}
 use Rattle.fw_examples.specs.UnderWay.{under_way}
 use Rattle.fw_examples.specs.Recovery.{counting_failed, restored}
@@ -29,6 +29,8 @@ use Rattle.fw_examples.proofs.Walks.{is_well_formed}
 use Rattle.fw_examples.proofs.TotalDone.{pending_past, nothing_owed}
 use Rattle.fw_examples.proofs.TotalRun.{total_is_legal, one_pending, sum_pending, none_owed}
 use Rattle.fw_examples.proofs.TotalChoices.{until_within, kept_consistent}
+use Rattle.fw_examples.proofs.LoopWitness.{loop_is_reached}
+use Rattle.fw_examples.proofs.Orders.{within_two}
 use Rattle.fw_examples.proofs.NumbersRun.{regroup_is_well_formed, numbers_have_epochs, numbers_are_legal}
 
 -- a consistent choice meets the inclusions
@@ -121,11 +123,6 @@ totals_are_filtered = record {
 
 -- ---- the loop
 
-loop_has_epochs : HasEpochs two_batches
-unfolding batches_of
-loop_has_epochs zero = lit≤ tt
-loop_has_epochs (suc s) = lit≤ tt
-
 loop_notifies_nobody : NotifiesNobody loop_counts_up
 unfolding kind_of
 loop_notifies_nobody zero = refl
@@ -150,10 +147,10 @@ loop_comes_from_kept (suc (suc (suc (suc (suc (suc (suc e))))))) =
     of_each _ (λ m k. and_from _ _ k k) (delivered under_way (suc (suc (suc (suc (suc (suc (suc e))))))))
 
 pub loop_is_filtered : LoopIsFiltered
-unfolding kind_of receiver sender bounds_of max_of
+unfolding kind_of receiver sender sends bounds_of batches_of max_of
 loop_is_filtered = record {
   well_formed = is_well_formed;
-  epochs = loop_has_epochs;
+  epochs = loop_is_reached.epochs;
   nobody = loop_notifies_nobody;
   legal = under_way_is_legal;
   frontiers = λ p. set_is_frontier two_batches p _;
@@ -164,6 +161,8 @@ loop_is_filtered = record {
   present = refl;
   two_were_pending = under_way_leaves 3;
   one_is_pending = restored_leaves 3;
+  fewer = within_two 4294967295 3 _ _ (λ x y hx hy k. grind (arith, nat_tests));
+  sent_from_fewer = refl;
   cut = λ t i. i;
   one_was_pending = under_way_leaves 2;
   two_are_pending = restored_leaves 2;
@@ -195,4 +194,4 @@ sequence_is_filtered = record {
 
 pub numbers_are_delivered : NumbersAreDelivered
 unfolding kind_of receiver
-numbers_are_delivered = record { legal = numbers_are_legal; numbered = refl; two = refl }
+numbers_are_delivered = record { legal = numbers_are_legal; sequence = refl; numbered = refl; two = refl }

@@ -29,5 +29,6 @@ pub mod TotalChoices
 pub mod TotalWitnesses
 pub mod ChoiceWitnesses
 pub mod DeliveryWitnesses
+pub mod LoopWitness
 pub mod NumbersRun
 pub mod FilteringWitnesses

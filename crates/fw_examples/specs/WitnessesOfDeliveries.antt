@@ -11,7 +11,7 @@ use Rattle.fw_model.specs.History.{IsAdmissible, IsEnabled, IsLegal, sent, deliv
 use Rattle.fw_model.specs.Machine.{front_of}
 use Rattle.fw_model.specs.LawsOfDeliveries.{IsClosedFor, recs_at}
 use Rattle.fw_examples.specs.OneSelect.{rec_of}
-use Rattle.fw_examples.specs.RunningTotal.{totals, total_flow, totals_denoted, src, run, src_to_run, run_to_out, at_epoch, two_epochs, next_epochs, alike}
+use Rattle.fw_examples.specs.RunningTotal.{totals, total_flow, totals_denoted, src, run, out, src_to_run, run_to_out, at_epoch, two_epochs, next_epochs, alike}
 
 -- what is complete once epochs 0 and 1 came through
 abbrev pub complete_two : ℕ → Frontier
@@ -22,6 +22,7 @@ pub record AnEpochIsClosed : Type 0 where
   pub closed : IsClosedFor totals two_epochs run (1 ∷ [])
   pub goes_on : IsLegal totals (next_epochs ++ two_epochs)
   pub delivered_there : recs_at (1 ∷ []) (delivered two_epochs src_to_run) ≡ rec_of 1 10 ∷ []
+  pub bag : bag_at totals_denoted src_to_run (1 ∷ []) ≡ rec_of 1 10 ∷ []
   pub delivered_later : delivered (next_epochs ++ two_epochs) src_to_run ≡ at_epoch 2 5 ∷ at_epoch 1 10 ∷ []
 
 -- The same history goes on after a notification of the running total with a delivery to it and a notification of it.
@@ -36,7 +37,7 @@ NotifiedAndGoesOn =
 pub record TwoEpochsAreComplete : Type 0 where
   pub legal : IsLegal totals two_epochs
   pub admissible : IsAdmissible totals two_epochs complete_two
-  pub inside : complete_two run (1 ∷ []) ≡ true
+  pub inside : complete_two out (1 ∷ []) ≡ true
   pub inside_phi : phi totals two_epochs run_to_out (complete_two run) (1 ∷ []) ≡ true
   pub was_sent : recs_at (1 ∷ []) (sent totals two_epochs run_to_out) ≡ rec_of 1 10 ∷ []
   pub was_delivered : recs_at (1 ∷ []) (delivered two_epochs run_to_out) ≡ rec_of 1 10 ∷ []

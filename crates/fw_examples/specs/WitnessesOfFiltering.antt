@@ -1,16 +1,17 @@
 -- Witnesses for the laws of filtering: what they ask holds of the recoveries of the running total and of the loop, and of a
 -- sequence.
 use Rattle.std.specs.Prelude.{◌≡◌, ℕ, true, false, [], ◌∷◌}
-use Rattle.fw_frontier.specs.Frontier.{Frontier}
+use Rattle.fw_frontier.specs.Frontier.{Frontier, Within}
 use Rattle.fw_frontier.specs.Front.{frontier_of}
 use Rattle.fw_flow.specs.declared.choice.Cut.TheVariants.{Present}
-use Rattle.fw_flow.specs.Dataflow.{policy_of, receiver, bounds_of, is_numbered}
+use Rattle.fw_flow.specs.declared.kind.Kind.TheVariants.{Sequence}
+use Rattle.fw_flow.specs.Dataflow.{kind_of, policy_of, sender, receiver, bounds_of, is_numbered}
 use Rattle.fw_flow.specs.Projection.{phi}
 use Rattle.fw_flow.specs.WellFormed.{IsWellFormed}
 use Rattle.fw_model.specs.Choice.{until, cut_of, note_of, kept_of, can_resend, filtered}
 use Rattle.fw_model.specs.History.{IsLegal, pending, sent, delivered}
 use Rattle.fw_model.specs.Machine.{events, front_of}
-use Rattle.fw_model.specs.LawsOfFiltering.{AreFrontiers, ComeFromKept, IsConsistentlyKept, IsCutWithinSettled, IsFull, KeepsDiscarded, MeetsInclusions, NotifiesNobody, kept_events}
+use Rattle.fw_model.specs.LawsOfFiltering.{AreFrontiers, ComeFromKept, IsConsistentlyKept, IsCutWithinSettled, IsFull, KeepsDiscarded, MeetsInclusions, NotifiesNobody, kept_events, messages_from}
 use Rattle.fw_model.specs.LawsOfLegalHistories.{HasEpochs}
 use Rattle.fw_examples.specs.Flows.{loop_counts_up, regroup_by_three, two_batches, pair}
 use Rattle.fw_examples.specs.UnderWay.{message, round, under_way}
@@ -44,6 +45,10 @@ pub record TotalsAreFiltered : Type 0 where
 abbrev pub kept_rounds : ℕ → Frontier
 kept_rounds p = kept_of two_batches restored p
 
+-- two rounds of epoch 0
+abbrev pub two_rounds : Frontier
+two_rounds = frontier_of (bounds_of loop_counts_up (sender loop_counts_up 3)) (round 0 2 ∷ round 1 0 ∷ [])
+
 -- The recovery of the loop, in which no node is notified, strikes a delivery. On an edge to a node that stays as it is one
 -- message of two stays pending, and on the edge to the node that is cut one more is pending than before.
 pub record LoopIsFiltered : Type 0 where
@@ -60,6 +65,9 @@ pub record LoopIsFiltered : Type 0 where
   pub two_were_pending : pending two_batches under_way 3
       ≡ message (round 0 2) (pair 1 3) (round 0 2) ∷ message (round 1 0) (pair 2 1) (round 1 0) ∷ []
   pub one_is_pending : pending two_batches without_the_second 3 ≡ message (round 0 2) (pair 1 3) (round 0 2) ∷ []
+  pub fewer : Within two_rounds (kept_rounds (sender loop_counts_up 3))
+  pub sent_from_fewer : messages_from two_rounds (sent two_batches under_way 3)
+      ≡ message (round 0 1) (pair 1 2) (round 0 1) ∷ message (round 0 0) (pair 1 1) (round 0 0) ∷ []
   pub cut : IsCutWithinSettled two_batches counting_failed restored (receiver loop_counts_up 2)
   pub one_was_pending : pending two_batches under_way 2 ≡ message (round 1 0) (pair 3 0) (round 1 0) ∷ []
   pub two_are_pending : pending two_batches without_the_second 2
@@ -83,8 +91,9 @@ pub record SequenceIsFiltered : Type 0 where
   pub inside : phi numbers numbered_both 1 (kept_epoch 1) (1 ∷ []) ≡ true
   pub outside : phi numbers numbered_both 1 (kept_epoch 1) (2 ∷ []) ≡ false
 
--- In that history two numbers were delivered on a numbered edge.
+-- In that history the sequence was notified twice, and two of its numbers were delivered on a numbered edge.
 pub record NumbersAreDelivered : Type 0 where
   pub legal : IsLegal numbers numbered_both
+  pub sequence : kind_of regroup_by_three 1 ≡ Sequence
   pub numbered : is_numbered regroup_by_three 1 ≡ true
   pub two : delivered numbered_both 1 ≡ value_at 1 2 0 ∷ value_at 0 1 0 ∷ []

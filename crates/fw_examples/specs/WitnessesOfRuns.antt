@@ -8,7 +8,7 @@ use Rattle.fw_flow.specs.declared.step.Step.TheVariants.{Recover, Collect}
 use Rattle.fw_flow.specs.Dataflow.{bounds_of}
 use Rattle.fw_flow.specs.WellFormed.{IsWellFormedSystem}
 use Rattle.fw_model.specs.Choice.{kept, ever, until, IsCandidate, IsLargest}
-use Rattle.fw_model.specs.Denotation.{IsDenotation, bag_at}
+use Rattle.fw_model.specs.Denotation.{IsDenotation, rounds, bag_at}
 use Rattle.fw_model.specs.History.{IsComplete, IsLegal, pending, delivered}
 use Rattle.fw_model.specs.Machine.{Machine, events, first_state, front_of, is_failed}
 use Rattle.fw_model.specs.Steps.{Steps, Run, did, cuts, lows}
@@ -20,6 +20,8 @@ use Rattle.fw_model.specs.LawsOfRecoveries.{IsDenotedInside}
 use Rattle.fw_model.specs.LawsOfRuns.{HaveNoRecovery, stamps_acknowledged}
 use Rattle.fw_model.specs.LawsOfSteps.{HasItsChoice}
 use Rattle.fw_examples.specs.OneSelect.{rec_of}
+use Rattle.fw_examples.specs.Flows.{two_batches}
+use Rattle.fw_examples.specs.Recovery.{steps_taken, outcomes_shown, steps_left, outcomes_left}
 use Rattle.fw_examples.specs.RunningTotal.{totals, total_flow, totals_denoted, run, out, src_to_run, run_to_out, at_epoch, two_epochs, next_epochs, alike, output_failed, come_back, two_epochs_kept, steps_up_to_two, outcomes_up_to_two, steps_to_failure, outcomes_to_failure, steps_through_recovery, outcomes_through_recovery, steps_without_failure, outcomes_without_failure}
 
 -- The running total is well formed, its batches have epochs, and the rounds are its denotation.
@@ -95,3 +97,12 @@ complete_then p = frontier_of (bounds_of total_flow p) (front_of (until 4 ∷ un
 pub record MoreIsComplete : Type 0 where
   pub complete : IsComplete totals (events output_failed.history) complete_then
   pub more : HasMoreToSettle totals output_failed complete_then
+
+-- The loop that counts up is well formed with its two batches, and is run through a failure and a recovery, after which both
+-- epochs are acknowledged.
+pub record LoopIsReached : Type 0 where
+  pub well_formed : IsWellFormedSystem two_batches
+  pub epochs : HasEpochs two_batches
+  pub denoted : IsDenotation two_batches (rounds two_batches 14)
+  pub runs : (last : Machine) × Run two_batches (first_state two_batches) (steps_taken ++ steps_left) (outcomes_shown ++ outcomes_left) last
+  pub acknowledged : stamps_acknowledged 6 (outcomes_shown ++ outcomes_left) ≡ (0 ∷ []) ∷ (1 ∷ []) ∷ []

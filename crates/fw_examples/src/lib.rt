@@ -37,7 +37,7 @@ pub use witnesses_of_filtering::{
     loop_is_filtered, numbers_are_delivered, sequence_is_filtered, totals_are_filtered,
 };
 pub use witnesses_of_runs::{
-    each_step_has_its_choice, failure_is_reached, low_watermark_rises, more_is_complete,
-    recovery_is_reached, some_is_settled, something_is_chosen, totals_are_well_formed,
-    two_runs_meet,
+    each_step_has_its_choice, failure_is_reached, loop_is_reached, low_watermark_rises,
+    more_is_complete, recovery_is_reached, some_is_settled, something_is_chosen,
+    totals_are_well_formed, two_runs_meet,
 };

@@ -1,5 +1,5 @@
 //! That the laws of runs, recoveries, choosing and steps say something: where what they ask holds.
-ghost use Rattle.fw_examples.specs.WitnessesOfRuns.{EachStepHasItsChoice, FailureIsReached, LowWatermarkRises, MoreIsComplete, RecoveryIsReached, SomeIsSettled, SomethingIsChosen, TotalsAreWellFormed, TwoRunsMeet};
+ghost use Rattle.fw_examples.specs.WitnessesOfRuns.{EachStepHasItsChoice, FailureIsReached, LoopIsReached, LowWatermarkRises, MoreIsComplete, RecoveryIsReached, SomeIsSettled, SomethingIsChosen, TotalsAreWellFormed, TwoRunsMeet};
 
 /// The running total is a system that the laws are about.
 pub fn totals_are_well_formed()
@@ -44,4 +44,9 @@ pub fn low_watermark_rises()
 /// More is complete than is settled, though a node is failed.
 pub fn more_is_complete()
     ensures { MoreIsComplete }
+{}
+
+/// The loop that counts up, with a failure, a recovery and both acknowledgements.
+pub fn loop_is_reached()
+    ensures { LoopIsReached }
 {}

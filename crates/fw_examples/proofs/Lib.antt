@@ -32,3 +32,4 @@ pub mod DeliveryWitnesses
 pub mod LoopWitness
 pub mod NumbersRun
 pub mod FilteringWitnesses
+pub mod LawsApplied

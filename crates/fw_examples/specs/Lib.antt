@@ -16,3 +16,4 @@ pub mod WitnessesOfRuns
 pub mod WitnessesOfChoices
 pub mod WitnessesOfDeliveries
 pub mod WitnessesOfFiltering
+pub mod LawsApplied

@@ -3,6 +3,7 @@
 #![tactic(auto)]
 
 mod inclusions;
+mod laws_applied;
 mod logged_events;
 mod loop_counts_up;
 mod one_collection;
@@ -19,6 +20,9 @@ mod witnesses_of_runs;
 pub use inclusions::{
     delivered_is_needed, discarded_is_needed, leaves_out_one, notes_are_needed, notified_is_needed,
     own_is_needed, two_sources_is_well_formed,
+};
+pub use laws_applied::{
+    choices_apply, choosing_applies, deliveries_apply, filtering_applies, runs_apply, steps_apply,
 };
 pub use logged_events::{loses_an_epoch, restores_an_epoch};
 pub use one_collection::collects_the_first_epoch;

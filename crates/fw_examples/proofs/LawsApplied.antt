@@ -17,7 +17,7 @@ use Rattle.fw_examples.specs.WitnessesOfRuns.{complete_then}
 use Rattle.fw_examples.specs.WitnessesOfChoices.{inc, first_rounds, both_rounds, joined_rounds}
 use Rattle.fw_examples.specs.WitnessesOfDeliveries.{complete_two}
 use Rattle.fw_examples.specs.WitnessesOfFiltering.{kept_rounds, kept_epoch, kept_totals, noted_totals, two_rounds}
-use Rattle.fw_examples.specs.LawsApplied.{RunsApply, ChoosingApplies, StepsApply, ChoicesApply, DeliveriesApply, FilteringApplies}
+use Rattle.fw_examples.specs.LawsApplied.{RunsApply, ChoosingApplies, StepsApply, ChoicesApply, DeliveriesApply, LegalHistoriesApply, FilteringApplies}
 use Rattle.fw_examples.proofs.TotalWitnesses.{totals_are_well_formed, failure_is_reached, recovery_is_reached, two_runs_meet, some_is_settled, something_is_chosen, each_step_has_its_choice, more_is_complete}
 use Rattle.fw_examples.proofs.TotalRun.{again_acknowledged, ten_acknowledged, two_collected, runs_to_two}
 use Rattle.fw_examples.proofs.TotalChoices.{collects, run_through_recovery}
@@ -113,6 +113,20 @@ deliveries_apply =
       delivered_sub_bag = λ law. law totals (next_epochs ++ two_epochs) totals_denoted system.well_formed one_is_on_its_way.legal system.denoted 1 (2 ∷ []) (rec_of 1 15);
       enabled_outside = λ law. law totals two_epochs complete_two two.admissible (Injected 0 2) two.enabled;
       stays_admissible = λ law. law totals two_epochs flow system.epochs two.legal complete_two two.admissible (Injected 0 2) two.enabled;
+    }
+
+pub legal_histories_apply : LegalHistoriesApply
+unfolding kind_of sender
+legal_histories_apply =
+    let system = totals_are_well_formed in
+    let flow = system.well_formed.flow in
+    let numbered = sequence_is_filtered in
+    record {
+      events_in_domain = λ law. law totals (next_epochs ++ two_epochs) flow system.epochs totals_are_filtered.legal;
+      messages_in_domain = λ law. law totals (next_epochs ++ two_epochs) flow system.epochs totals_are_filtered.legal;
+      inputs_inject = λ law. law totals (next_epochs ++ two_epochs) totals_are_filtered.legal 1 refl;
+      notified_in_order = λ law. law numbers numbered_both numbered.well_formed numbered.epochs numbered.legal 1 numbers_are_delivered.sequence;
+      from_inside = λ law. law numbers numbered_both numbered.well_formed numbered.epochs numbered.legal 1 (kept_epoch 1) (numbered.frontiers 1);
     }
 
 pub filtering_applies : FilteringApplies

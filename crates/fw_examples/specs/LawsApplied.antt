@@ -1,14 +1,15 @@
 -- What the laws say of their witnesses: each field is a law, asked of the state, history or choice that meets what it asks.
-use Rattle.std.specs.Prelude.{◌≡◌, ℕ, ◌≤◌, Bool, false, ◌&&◌, ◌==◌, List, [], ◌∷◌, ◌++◌}
+use Rattle.std.specs.Prelude.{◌≡◌, ℕ, ◌≤◌, Bool, true, false, ◌&&◌, ◌==◌, List, [], ◌∷◌, ◌++◌}
 use Rattle.std.specs.List.{AllByRecursion}
 use Rattle.fw_bag.specs.declared.rec.Rec.{Rec}
 use Rattle.fw_bag.specs.Bag.{how_often}
 use Rattle.fw_bag.specs.Keyed.{sorted}
-use Rattle.fw_time.specs.Stamp.{leq}
+use Rattle.fw_time.specs.Stamp.{leq, in_domain}
 use Rattle.fw_frontier.specs.Frontier.{Frontier, Within, join}
 use Rattle.fw_frontier.specs.Front.{Front, frontier_of, Names}
 use Rattle.fw_flow.specs.declared.choice.Cut.TheVariants.{At}
 use Rattle.fw_flow.specs.declared.event.Event.TheVariants.{Inject as Injected, Deliver as Delivered}
+use Rattle.fw_flow.specs.declared.event.Message.{Message}
 use Rattle.fw_flow.specs.declared.step.Step.{Step}
 use Rattle.fw_flow.specs.declared.step.Step.TheVariants.{Recover, Collect}
 use Rattle.fw_flow.specs.Dataflow.{sender, receiver, bounds_of}
@@ -16,7 +17,7 @@ use Rattle.fw_flow.specs.NodeFunction.{place, stamp}
 use Rattle.fw_flow.specs.Projection.{phi}
 use Rattle.fw_model.specs.Choice.{View, ever, kept, until, Choice, cut_of, kept_of, IsCandidate, IsConsistent, IsCutWithin, IsChoiceWithin, IsLargest, delivered_cover, notified_cover, discarded_cover, filtered}
 use Rattle.fw_model.specs.Denotation.{bag_at}
-use Rattle.fw_model.specs.History.{IsAdmissible, IsComplete, IsLegal, pending, sent, delivered}
+use Rattle.fw_model.specs.History.{IsAdmissible, IsComplete, IsLegal, pending, sent, delivered, injected_count}
 use Rattle.fw_model.specs.Machine.{Machine, events, is_failed}
 use Rattle.fw_model.specs.Steps.{Outcome, Steps, GrowsTo, did, cuts}
 use Rattle.fw_model.specs.LawsOfChoices as choices
@@ -25,8 +26,11 @@ use Rattle.fw_model.specs.LawsOfCompleteFrontiers as complete
 use Rattle.fw_model.specs.LawsOfDeliveries as deliveries
 use Rattle.fw_model.specs.LawsOfExistence as existence
 use Rattle.fw_model.specs.LawsOfFiltering as filtering
+use Rattle.fw_model.specs.LawsOfLegalHistories as legal
+use Rattle.fw_model.specs.LawsOfProjections.{bounds_of_edge}
 use Rattle.fw_model.specs.LawsOfRecoveries as recoveries
 use Rattle.fw_model.specs.LawsOfRuns as runs
+use Rattle.fw_model.specs.LawsOfSending.{AreEventsInDomain, ComesFromInside, IsNotifiedInOrder}
 use Rattle.fw_model.specs.LawsOfSteps as steps
 use Rattle.fw_examples.specs.Flows.{loop_counts_up, regroup_by_three, two_batches}
 use Rattle.fw_examples.specs.UnderWay.{under_way, counted_rounds}
@@ -131,6 +135,15 @@ pub record DeliveriesApply : Type 0 where
       ≤ how_often (rec_of 1 15) (bag_at totals_denoted run_to_out (2 ∷ []))
   pub enabled_outside : complete.EnabledIsOutside → complete_two src (2 ∷ []) ≡ false
   pub stays_admissible : complete.AdmissibleStaysAdmissible → IsAdmissible totals (Injected src 2 ∷ two_epochs) complete_two
+
+-- the laws of legal histories, of the history of the running total and of that of the sequence
+pub record LegalHistoriesApply : Type 0 where
+  pub events_in_domain : legal.LegalEventsAreInDomain → (p : ℕ) → AreEventsInDomain total_flow (next_epochs ++ two_epochs) p
+  pub messages_in_domain : legal.LegalMessagesAreInDomain → (e : ℕ)
+      → AllByRecursion (λ (m : Message). in_domain (bounds_of_edge total_flow e) m.at ≡ true) (sent totals (next_epochs ++ two_epochs) e)
+  pub inputs_inject : legal.OnlyInputsInject → injected_count run (next_epochs ++ two_epochs) ≡ 0
+  pub notified_in_order : complete.SequencesAreNotifiedInOrder → IsNotifiedInOrder regroup_by_three numbered_both 1
+  pub from_inside : complete.LegalInsidePhiComesFromInside → ComesFromInside numbers numbered_both 1 (kept_epoch 1)
 
 -- the laws of filtering, of the recoveries of the running total and of the loop, and of the sequence
 pub record FilteringApplies : Type 0 where

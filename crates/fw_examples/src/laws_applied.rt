@@ -1,5 +1,5 @@
 //! What the laws say of their witnesses.
-ghost use Rattle.fw_examples.specs.LawsApplied.{ChoicesApply, ChoosingApplies, DeliveriesApply, FilteringApplies, RunsApply, StepsApply};
+ghost use Rattle.fw_examples.specs.LawsApplied.{ChoicesApply, ChoosingApplies, DeliveriesApply, FilteringApplies, LegalHistoriesApply, RunsApply, StepsApply};
 
 /// The laws of runs and of recoveries.
 pub fn runs_apply()
@@ -24,6 +24,11 @@ pub fn choices_apply()
 /// The laws of deliveries and of complete frontiers.
 pub fn deliveries_apply()
     ensures { DeliveriesApply }
+{}
+
+/// The laws of legal histories.
+pub fn legal_histories_apply()
+    ensures { LegalHistoriesApply }
 {}
 
 /// The laws of filtering.

@@ -22,7 +22,8 @@ pub use inclusions::{
     own_is_needed, two_sources_is_well_formed,
 };
 pub use laws_applied::{
-    choices_apply, choosing_applies, deliveries_apply, filtering_applies, runs_apply, steps_apply,
+    choices_apply, choosing_applies, deliveries_apply, filtering_applies, legal_histories_apply,
+    runs_apply, steps_apply,
 };
 pub use logged_events::{loses_an_epoch, restores_an_epoch};
 pub use one_collection::collects_the_first_epoch;

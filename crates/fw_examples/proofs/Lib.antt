@@ -33,3 +33,4 @@ pub mod LoopWitness
 pub mod NumbersRun
 pub mod FilteringWitnesses
 pub mod LawsApplied
+pub mod SendingApplied

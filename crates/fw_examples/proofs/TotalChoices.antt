@@ -318,13 +318,15 @@ checkpoints_are_chains lost view (suc (suc (suc p))) one other l r a b = absurd 
 
 -- ---- the whole runs
 
-pub runs_to_collection : Run totals (first_state totals) (steps_up_to_two ++ Collect ∷ []) (outcomes_up_to_two ++ did (lows two_epochs_kept) ∷ []) two_collected
-runs_to_collection = run_append totals steps_up_to_two (Collect ∷ []) outcomes_up_to_two (did (lows two_epochs_kept) ∷ []) (first_state totals) ten_acknowledged two_collected runs_to_two (two_collected, collects, refl)
-
 pub failed_run : Run totals (first_state totals) steps_to_failure outcomes_to_failure output_failed
 failed_run =
     run_append totals steps_up_to_two (Collect ∷ steps_of_failure) outcomes_up_to_two (did (lows two_epochs_kept) ∷ outcomes_of_failure) (first_state totals) ten_acknowledged output_failed runs_to_two
     (two_collected, collects, runs_to_failure)
+
+pub run_to_recovery : Run totals (first_state totals) (steps_to_failure ++ Recover ∷ []) (outcomes_to_failure ++ did (cuts two_epochs_kept) ∷ []) come_back
+run_to_recovery =
+    run_append totals steps_to_failure (Recover ∷ []) outcomes_to_failure (did (cuts two_epochs_kept) ∷ []) (first_state totals) output_failed come_back failed_run
+    (come_back, recovers, refl)
 
 pub run_through_recovery : Run totals (first_state totals) steps_through_recovery outcomes_through_recovery again_acknowledged
 run_through_recovery =

@@ -23,7 +23,7 @@ use Rattle.fw_examples.proofs.ChoiceFacts.{by_two, by_three, below_epoch}
 use Rattle.fw_examples.proofs.WellFormed.{no_closed_walk}
 use Rattle.fw_examples.proofs.TotalDone.{nothing_owed}
 use Rattle.fw_examples.proofs.TotalRun.{ten_acknowledged, two_collected, put_out_acknowledged, again_acknowledged, total_is_legal, none_owed, failed_complete, runs_to_two}
-use Rattle.fw_examples.proofs.TotalChoices.{collects, failed_run, run_through_recovery, run_without_failure, recovers, two_offered, kept_largest, kept_consistent, epoch_consistent, checkpoints_are_chains}
+use Rattle.fw_examples.proofs.TotalChoices.{collects, failed_run, run_to_recovery, run_through_recovery, run_without_failure, recovers, two_offered, kept_largest, kept_consistent, epoch_consistent, checkpoints_are_chains}
 
 total_up : (e : ℕ) → e < 2 → sender total_flow e < receiver total_flow e
 unfolding sender receiver
@@ -108,6 +108,7 @@ failure_is_reached = record {
   no_recovery = (refl, (refl, (refl, (refl, (refl, (refl, (refl, (refl, (refl, (refl, (refl, (refl, (refl, (refl, (refl, (refl, (refl, (refl, (refl, (refl, (refl, tt)))))))))))))))))))));
   reached = failed_run;
   failed = refl;
+  written = refl;
   pending_for_total = refl;
   pending_for_output = refl;
   acknowledged = refl;
@@ -121,6 +122,7 @@ recovery_is_reached = record {
   before = refl;
   after = refl;
   legal = total_is_legal;
+  reached = run_to_recovery;
   goes_on = (again_acknowledged, run_through_recovery);
   acknowledged = refl;
   bag = refl;

@@ -49,7 +49,7 @@ pub record RunsApply : Type 0 where
   pub denoted : runs.AcknowledgementsShowDenotation → AllByRecursion (runs.IsDenoted totals totals_denoted) outcomes_to_failure
   pub in_order : runs.AcknowledgementsAreInOrder → runs.stamps_acknowledged out outcomes_through_recovery ≡ runs.first_stamps 3
   pub step : recoveries.StepsKeepHistoriesLegal → IsLegal totals (events come_back.history)
-  pub through : recoveries.RunsStayLegalThroughRecoveries → IsLegal totals (events output_failed.history)
+  pub through : recoveries.RunsStayLegalThroughRecoveries → IsLegal totals (events come_back.history)
   pub candidates : recoveries.CandidatesLieWithinSettled
       → Within (frontier_of (bounds_of total_flow run) (until 2)) (frontier_of (bounds_of total_flow run) (until 3))
   pub settled : recoveries.SettledStaysDenoted → recoveries.IsDenotedInside totals totals_denoted output_failed

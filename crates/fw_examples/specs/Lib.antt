@@ -17,3 +17,4 @@ pub mod WitnessesOfChoices
 pub mod WitnessesOfDeliveries
 pub mod WitnessesOfFiltering
 pub mod LawsApplied
+pub mod SendingApplied

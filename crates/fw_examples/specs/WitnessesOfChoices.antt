@@ -59,6 +59,6 @@ pub record CutsUnite : Type 0 where
   pub discarded_of_one : discarded_cover two_batches counting_failed inc 3 (At both_rounds) (round 0 2) ≡ true
   pub discarded_of_other : discarded_cover two_batches counting_failed inc 3 (At both_rounds) (round 1 0) ≡ true
 
--- Their join is a frontier that is given by no list.
+-- What is in one of the two frontiers or in the other is a frontier, which is given without a list.
 abbrev pub JoinIsAFrontier : Type 0
 JoinIsAFrontier = IsFrontier (bounds_of loop_counts_up inc) joined_rounds

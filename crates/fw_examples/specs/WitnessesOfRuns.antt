@@ -1,6 +1,6 @@
 -- Witnesses for the laws of runs, recoveries, choosing and steps: what they ask holds of the running total, where what they
 -- say is not empty.
-use Rattle.std.specs.Prelude.{◌≡◌, ℕ, true, [], ◌∷◌, ◌++◌}
+use Rattle.std.specs.Prelude.{◌≡◌, ℕ, true, [], ◌∷◌, ◌++◌, map}
 use Rattle.fw_frontier.specs.Frontier.{Frontier}
 use Rattle.fw_frontier.specs.Front.{frontier_of}
 use Rattle.fw_flow.specs.declared.choice.Cut.TheVariants.{At}
@@ -10,7 +10,7 @@ use Rattle.fw_flow.specs.WellFormed.{IsWellFormedSystem}
 use Rattle.fw_model.specs.Choice.{kept, ever, until, IsCandidate, IsLargest}
 use Rattle.fw_model.specs.Denotation.{IsDenotation, rounds, bag_at}
 use Rattle.fw_model.specs.History.{IsComplete, IsLegal, pending, delivered}
-use Rattle.fw_model.specs.Machine.{Machine, events, first_state, front_of, is_failed}
+use Rattle.fw_model.specs.Machine.{Machine, Write, in_flight, acknowledged, collected, events, first_state, front_of, is_failed}
 use Rattle.fw_model.specs.Steps.{Steps, Run, did, cuts, lows}
 use Rattle.fw_model.specs.LawsOfChoosing.{Shows}
 use Rattle.fw_model.specs.LawsOfDeliveries.{recs_at}
@@ -30,12 +30,13 @@ pub record TotalsAreWellFormed : Type 0 where
   pub epochs : HasEpochs totals
   pub denoted : IsDenotation totals totals_denoted
 
--- A state that is reached without a recovery: an output is failed, a message is pending on each edge, and two epochs were
--- acknowledged, with what is denoted.
+-- A state that is reached without a recovery: an output is failed, a checkpoint was collected, a later one is acknowledged, and
+-- the latest is in flight; a message is pending on each edge, and two epochs were acknowledged, with what is denoted.
 pub record FailureIsReached : Type 0 where
   pub no_recovery : HaveNoRecovery steps_to_failure
   pub reached : Run totals (first_state totals) steps_to_failure outcomes_to_failure output_failed
   pub failed : is_failed output_failed out ≡ true
+  pub written : map (λ (write : Write). write.progress) output_failed.writes ≡ collected ∷ acknowledged ∷ in_flight ∷ []
   pub pending_for_total : pending totals (events output_failed.history) src_to_run ≡ at_epoch 3 1 ∷ []
   pub pending_for_output : pending totals (events output_failed.history) run_to_out ≡ at_epoch 2 15 ∷ []
   pub acknowledged : stamps_acknowledged out outcomes_to_failure ≡ (0 ∷ []) ∷ (1 ∷ []) ∷ []
@@ -47,6 +48,7 @@ pub record RecoveryIsReached : Type 0 where
   pub before : events output_failed.history ≡ next_epochs ++ two_epochs
   pub after : events come_back.history ≡ two_epochs
   pub legal : IsLegal totals (events output_failed.history)
+  pub reached : Run totals (first_state totals) (steps_to_failure ++ Recover ∷ []) (outcomes_to_failure ++ did (cuts two_epochs_kept) ∷ []) come_back
   pub goes_on : (last : Machine) × Run totals (first_state totals) steps_through_recovery outcomes_through_recovery last
   pub acknowledged : stamps_acknowledged out outcomes_through_recovery ≡ (0 ∷ []) ∷ (1 ∷ []) ∷ (2 ∷ []) ∷ []
   pub bag : bag_at totals_denoted run_to_out (2 ∷ []) ≡ rec_of 1 15 ∷ []

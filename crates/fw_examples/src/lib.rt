@@ -11,6 +11,7 @@ mod one_recovery;
 mod one_select_runs;
 mod projections;
 mod recovery;
+mod sending_applied;
 mod under_way;
 mod witnesses_of_choices;
 mod witnesses_of_deliveries;
@@ -34,6 +35,7 @@ pub use one_select_runs::{
     acknowledges_what_is_settled, is_idle_too_early, is_idle_without_batches,
     is_idle_without_steps, one_select_is_well_formed, waits_for_the_rest,
 };
+pub use sending_applied::{denotation_applies, projections_apply, sending_applies};
 pub use witnesses_of_choices::{choices_unite, cuts_unite, join_is_a_frontier, less_is_consistent};
 pub use witnesses_of_deliveries::{
     an_epoch_is_closed, notified_and_goes_on, one_is_on_its_way, two_epochs_are_complete,

@@ -10,3 +10,4 @@ pub mod TwoSources
 pub mod Inclusions
 pub mod LoggedEvents
 pub mod OneCollection
+pub mod KindsSend

@@ -3,6 +3,7 @@
 #![tactic(auto)]
 
 mod inclusions;
+mod kinds_send;
 mod logged_events;
 mod loop_counts_up;
 mod one_collection;
@@ -15,6 +16,10 @@ mod under_way;
 pub use inclusions::{
     delivered_is_needed, discarded_is_needed, leaves_out_one, notes_are_needed, notified_is_needed,
     own_is_needed, two_sources_is_well_formed,
+};
+pub use kinds_send::{
+    distinct_sends_the_first, join_sends_each_pair, ledger_sends_running_totals,
+    regroup_sends_at_epochs, sequence_sends_numbers, sum_sends_at_the_end, total_sends_up_to_now,
 };
 pub use logged_events::{loses_an_epoch, restores_an_epoch};
 pub use one_collection::collects_the_first_epoch;

@@ -18,3 +18,4 @@ pub mod WitnessesOfDeliveries
 pub mod WitnessesOfFiltering
 pub mod LawsApplied
 pub mod SendingApplied
+pub mod KindsSend

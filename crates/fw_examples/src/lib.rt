@@ -3,6 +3,7 @@
 #![tactic(auto)]
 
 mod inclusions;
+mod kinds_send;
 mod laws_applied;
 mod logged_events;
 mod loop_counts_up;
@@ -21,6 +22,10 @@ mod witnesses_of_runs;
 pub use inclusions::{
     delivered_is_needed, discarded_is_needed, leaves_out_one, notes_are_needed, notified_is_needed,
     own_is_needed, two_sources_is_well_formed,
+};
+pub use kinds_send::{
+    distinct_sends_the_first, join_sends_each_pair, ledger_sends_running_totals,
+    regroup_sends_at_epochs, sequence_sends_numbers, sum_sends_at_the_end, total_sends_up_to_now,
 };
 pub use laws_applied::{
     choices_apply, choosing_applies, deliveries_apply, filtering_applies, legal_histories_apply,

@@ -8,7 +8,8 @@ use Rattle.fw_frontier.specs.Front.{frontier_of}
 use Rattle.fw_flow.specs.Dataflow.{kind_of, policy_of, sender, receiver, bounds_of, batches_of, max_of}
 use Rattle.fw_flow.specs.NodeFunction.{sends}
 use Rattle.fw_flow.specs.Projection.{psi}
-use Rattle.fw_model.specs.Choice.{Choice, until}
+use Rattle.fw_flow.specs.declared.choice.Choice.{Choice}
+use Rattle.fw_model.specs.Choice.{until}
 use Rattle.fw_model.specs.Machine.{front_of, is_failed}
 use Rattle.fw_examples.specs.Flows.{loop_counts_up}
 use Rattle.fw_examples.specs.UnderWay.{counted_rounds}

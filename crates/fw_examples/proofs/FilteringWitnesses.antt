@@ -11,7 +11,8 @@ use Rattle.fw_flow.specs.declared.choice.Cut.TheVariants.{Present, At}
 use Rattle.fw_flow.specs.Dataflow.{System, kind_of, policy_of, sender, receiver, bounds_of, batches_of, max_of}
 use Rattle.fw_flow.specs.NodeFunction.{sends}
 use Rattle.fw_flow.specs.Projection.{phi}
-use Rattle.fw_model.specs.Choice.{Choice, until, set_of, stamp_of_notice, IsConsistent}
+use Rattle.fw_flow.specs.declared.choice.Choice.{Choice}
+use Rattle.fw_model.specs.Choice.{until, set_of, stamp_of_notice, IsConsistent}
 use Rattle.fw_model.specs.History.{some_at, delivered, IsQuiet}
 use Rattle.fw_model.specs.Machine.{Machine, front_of, is_failed}
 use Rattle.fw_model.specs.LawsOfFiltering.{ComeFromKept, IsConsistentlyKept, IsFull, MeetsInclusions, NotifiesNobody}

@@ -11,7 +11,8 @@ use Rattle.fw_flow.specs.declared.step.Step.TheVariants.{Recover, Collect}
 use Rattle.fw_flow.specs.Dataflow.{kind_of, policy_of, sender, receiver, bounds_of, batches_of}
 use Rattle.fw_flow.specs.NodeFunction.{sends}
 use Rattle.fw_flow.specs.Projection.{phi, psi}
-use Rattle.fw_model.specs.Choice.{View, kept, ever, until, by_checkpoints, Choice, cut_of, note_of, discarded_cover, IsRestorable, IsCandidate, IsConsistent, IsCutWithin, IsChoiceWithin, IsLargest}
+use Rattle.fw_flow.specs.declared.choice.Choice.{Choice}
+use Rattle.fw_model.specs.Choice.{View, kept, ever, until, by_checkpoints, cut_of, note_of, discarded_cover, IsRestorable, IsCandidate, IsConsistent, IsCutWithin, IsChoiceWithin, IsLargest}
 use Rattle.fw_model.specs.Machine.{Machine, first_state, is_failed}
 use Rattle.fw_model.specs.Steps.{Steps, Run, CutsTo, did, cuts, lows, offers}
 use Rattle.fw_model.specs.LawsOfChoices.{IsUnionOfChoices}

@@ -15,7 +15,8 @@ use Rattle.fw_flow.specs.declared.step.Step.TheVariants.{Recover, Collect}
 use Rattle.fw_flow.specs.Dataflow.{sender, receiver, bounds_of}
 use Rattle.fw_flow.specs.NodeFunction.{place, stamp}
 use Rattle.fw_flow.specs.Projection.{phi}
-use Rattle.fw_model.specs.Choice.{View, ever, kept, until, Choice, cut_of, kept_of, IsCandidate, IsConsistent, IsCutWithin, IsChoiceWithin, IsLargest, delivered_cover, notified_cover, discarded_cover, filtered}
+use Rattle.fw_flow.specs.declared.choice.Choice.{Choice}
+use Rattle.fw_model.specs.Choice.{View, ever, kept, until, cut_of, kept_of, IsCandidate, IsConsistent, IsCutWithin, IsChoiceWithin, IsLargest, delivered_cover, notified_cover, discarded_cover, filtered}
 use Rattle.fw_model.specs.Denotation.{bag_at}
 use Rattle.fw_model.specs.History.{IsAdmissible, IsComplete, IsLegal, pending, sent, delivered, injected_count}
 use Rattle.fw_model.specs.Machine.{Machine, events, is_failed}

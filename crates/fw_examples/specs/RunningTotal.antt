@@ -11,7 +11,8 @@ use Rattle.fw_flow.specs.declared.kind.Policy.TheVariants as policy
 use Rattle.fw_flow.specs.declared.step.Step.{Step}
 use Rattle.fw_flow.specs.declared.step.Step.TheVariants.{Inject, Deliver, Notify, Progress, Checkpoint, Persist, Fail, Recover, Collect, Ack}
 use Rattle.fw_flow.specs.Dataflow.{Dataflow, System}
-use Rattle.fw_model.specs.Choice.{Choice, until}
+use Rattle.fw_flow.specs.declared.choice.Choice.{Choice}
+use Rattle.fw_model.specs.Choice.{until}
 use Rattle.fw_model.specs.Denotation.{Family, rounds}
 use Rattle.fw_model.specs.Machine.{Machine, checkpoint, in_flight, acknowledged, collected}
 use Rattle.fw_model.specs.Steps.{Outcome, did, quiet, acked, cuts, lows}

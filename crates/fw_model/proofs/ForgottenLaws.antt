@@ -16,7 +16,8 @@ use Rattle.fw_flow.specs.NodeFunction.{place, stamp}
 use Rattle.fw_flow.specs.WellFormed.{IsWellFormed, IsWellFormedSystem}
 use Rattle.fw_model.specs.History.{IsEnabled}
 use Rattle.fw_model.specs.Machine.{Machine, Numbered, Write, Written, checkpoint, logged_event, Progress, in_flight, acknowledged, collected, events, places, first_state, front_of, is_failed}
-use Rattle.fw_model.specs.Choice.{kept, ever, counts, IsLogged, IsRestorable, IsCandidate, Choice, cut_of, kept_of, IsConsistent, filtered}
+use Rattle.fw_flow.specs.declared.choice.Choice.{Choice}
+use Rattle.fw_model.specs.Choice.{kept, ever, counts, IsLogged, IsRestorable, IsCandidate, cut_of, kept_of, IsConsistent, filtered}
 use Rattle.fw_model.specs.Steps.{Effect, Outcome, did, idle, Takes, Run, write_of_event, with_event, same_front, is_within, checkpoint_of, is_eager, is_one_of, is_in_flight, is_kept_write, front_of_cut, is_given_up, is_serial_given_up, is_below, after_collection}
 use Rattle.fw_model.specs.LawsOfRestoring.{WhatIsForgottenWasAcknowledged, CollectedIsWhatLiesBelow}
 use Rattle.fw_model.proofs.Decisions.{two_ways}

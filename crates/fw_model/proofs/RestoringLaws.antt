@@ -24,7 +24,8 @@ use Rattle.fw_flow.specs.WellFormed.{IsWellFormed, IsWellFormedSystem, IsPolicyA
 use Rattle.fw_model.specs.Denotation.{rounds}
 use Rattle.fw_model.specs.History.{IsEnabled, IsLegal, sent}
 use Rattle.fw_model.specs.Machine.{Machine, Numbered, Write, Written, checkpoint, logged_event, Progress, in_flight, acknowledged, collected, events, front_of}
-use Rattle.fw_model.specs.Choice.{kept, ever, by_batches, by_events, restoring_of_policy, restoring, counts, IsLogged, AllLogged, IsRestorable, IsCandidate, Choice, set_of, cut_of, kept_of, IsLargest, filtered}
+use Rattle.fw_flow.specs.declared.choice.Choice.{Choice}
+use Rattle.fw_model.specs.Choice.{kept, ever, by_batches, by_events, restoring_of_policy, restoring, counts, IsLogged, AllLogged, IsRestorable, IsCandidate, set_of, cut_of, kept_of, IsLargest, filtered}
 use Rattle.fw_model.specs.Steps.{Effect, Outcome, did, idle, Takes, Run, with_event, checkpoint_front, is_kept_write, recovered, is_given_up}
 use Rattle.fw_model.specs.LawsOfDenotation.{enough_rounds}
 use Rattle.fw_model.specs.LawsOfFiltering.{IsFull, AreFrontiers, kept_events, messages_from, messages_outside}

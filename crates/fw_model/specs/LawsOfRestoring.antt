@@ -16,7 +16,8 @@ use Rattle.fw_flow.specs.Projection.{events_at}
 use Rattle.fw_flow.specs.WellFormed.{IsWellFormedSystem, may_keep_nothing}
 use Rattle.fw_model.specs.History.{sent, injected_count, IsEnabled}
 use Rattle.fw_model.specs.Machine.{Machine, Numbered, Write, Written, checkpoint, logged_event, acknowledged, collected, events, no_stamps, first_state, front_of}
-use Rattle.fw_model.specs.Choice.{kept, ever, counts, IsCandidate, delivered_cover, notified_cover, discarded_cover, Choice, cut_of, kept_of, IsLargest, IsWatermark}
+use Rattle.fw_flow.specs.declared.choice.Choice.{Choice}
+use Rattle.fw_model.specs.Choice.{kept, ever, counts, IsCandidate, delivered_cover, notified_cover, discarded_cover, cut_of, kept_of, IsLargest, IsWatermark}
 use Rattle.fw_model.specs.Steps.{Outcome, Steps, Run, checkpoint_front, is_in_flight, front_of_cut, is_given_up, is_below}
 use Rattle.fw_model.specs.LawsOfFiltering.{events_inside, messages_from, messages_outside}
 

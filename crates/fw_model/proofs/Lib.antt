@@ -1,5 +1,6 @@
 pub mod ArrivalLaws
 pub mod AskedLaws
+pub mod AskedStateLaws
 pub mod CheckpointLaws
 pub mod ChoiceLaws
 pub mod ChoosingLaws

@@ -72,13 +72,13 @@ nothing-inside sys w steps outcomes last r = closed-each sys last w (reached-all
 
 -- ---- what checkpoints hold stays true
 
-same-written : (sys : System) (state next : Machine) → next.history ≡ state.history → (p : ℕ) (w : Written) → CountsWritten sys state next p w
+pub same-written : (sys : System) (state next : Machine) → next.history ≡ state.history → (p : ℕ) (w : Written) → CountsWritten sys state next p w
 same-written sys state next e p (checkpoint f l) =
     part-counts sys state next p f
     (subst (λ h. IsSamePart sys (events state.history) (events h) p (frontier_of (bounds_of sys.flow p) f)) (sym e) (part-same sys (events state.history) p (frontier_of (bounds_of sys.flow p) f)))
 same-written sys state next e p (logged_event s) = tt
 
-same-each : (sys : System) (state next : Machine) → next.history ≡ state.history → AllByRecursion (λ (x : Write). CountsWritten sys state next x.node x.written) next.writes
+pub same-each : (sys : System) (state next : Machine) → next.history ≡ state.history → AllByRecursion (λ (x : Write). CountsWritten sys state next x.node x.written) next.writes
 same-each sys state next e = each-one (λ (x : Write). CountsWritten sys state next x.node x.written) next.writes (λ x. same-written sys state next e x.node x.written)
 
 event-written : (sys : System) (state : Machine) (v : Event) → IsWellFormed sys.flow → IsFull sys state → IsEnabled sys (events state.history) v
@@ -128,7 +128,7 @@ recovered-each sys state next choice settled w b l e =
     (λ x k u. recovered-written sys state next choice w b l (ap (λ (m : Machine). m.history) e) x.node x.written k)
     (each-one (λ (x : Write). Unit {0}) state.writes (λ x. tt)))
 
-took-true : (sys : System) → IsWellFormedSystem sys → (state : Machine) (step : Step) (next : Machine) (effect : Effect) → IsReached sys state → IsReached sys next
+pub took-true : (sys : System) → IsWellFormedSystem sys → (state : Machine) (step : Step) (next : Machine) (effect : Effect) → IsReached sys state → IsReached sys next
     → Takes sys state step next effect → AllByRecursion (λ (x : Write). CountsWritten sys state next x.node x.written) next.writes
 took-true sys w state (Inject s) next effect f g t = event-each sys state next (Injected s t.0) w f g t.1 t.3
 took-true sys w state (Deliver e at) next effect f g t = event-each sys state next (Delivered e t.0) w f g t.1.enabled t.3

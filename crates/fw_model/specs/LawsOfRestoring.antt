@@ -53,6 +53,31 @@ CheckpointsStayTrue = (sys : System) → IsWellFormedSystem sys → (steps : Lis
     → Run sys (first_state sys) steps outcomes last → (step : Step) (next : Machine) (outcome : Outcome) → Steps sys last step next outcome
     → AllByRecursion (λ (write : Write). CountsWritten sys last next write.node write.written) next.writes
 
+-- A checkpoint of node p at f was asked in an earlier state of a run, in which f was settled and this was the low watermark,
+-- and it counts in the last state as it did in that one.
+pub record IsAsItWasAsked (sys : System) (last : Machine) (p : ℕ) (f : Front) (low : List Front) : Type 0 where
+  pub steps : List Step
+  pub outcomes : List Outcome
+  pub asked : Machine
+  pub run : Run sys (first_state sys) steps outcomes asked
+  pub more : List Step
+  pub also : List Outcome
+  pub on : Run sys asked more also last
+  pub settled : front_of asked.settled p ≡ f
+  pub watermark : asked.low ≡ low
+  pub same : CountsTheSame sys asked last p f
+
+-- what is written of node p is as it was asked, if it is a checkpoint
+abbrev pub IsWrittenAsAsked : System → Machine → ℕ → Written → Type 0
+IsWrittenAsAsked sys last p (checkpoint f low) = IsAsItWasAsked sys last p f low
+IsWrittenAsAsked sys last p (logged_event serial) = Unit {0}
+
+-- in each state to which steps lead from the first one, each checkpoint is as it was asked
+abbrev pub CheckpointsAreAsTheyWereAsked : Type 0
+CheckpointsAreAsTheyWereAsked = (sys : System) → IsWellFormedSystem sys → (steps : List Step) (outcomes : List Outcome) (last : Machine)
+    → Run sys (first_state sys) steps outcomes last
+    → AllByRecursion (λ (write : Write). IsWrittenAsAsked sys last write.node write.written) last.writes
+
 -- no event of node p that may come next is inside what is written of it, if it is a checkpoint
 abbrev pub NothingComesInside : System → Machine → ℕ → Written → Type 0
 NothingComesInside sys state p (checkpoint f low) = (v : Event) → IsEnabled sys (events state.history) v → place sys.flow v ≡ p

@@ -9,7 +9,7 @@ ghost use Rattle.fw_model.specs.LawsOfFiltering.{ConsistentMeetsInclusions, Filt
 ghost use Rattle.fw_model.specs.LawsOfLegalHistories.{LegalEventsAreInDomain, LegalMessagesAreInDomain, OnlyInputsInject};
 ghost use Rattle.fw_model.specs.LawsOfProjections.{PhiGrowsWithHistory, PhiIgnoresHistory, PhiIsFrontier, PhiIsMonotone, PhiOfEverything, PhiOfMeet, PsiIsFrontier, PsiIsMonotone, PsiOfJoin, PsiOfNothing, PsiOfUnion};
 ghost use Rattle.fw_model.specs.LawsOfRecoveries.{AcknowledgementsShowDenotationThroughRecoveries, CandidatesLieWithinSettled, DenotedIsFull, RunsStayLegalThroughRecoveries, SettledStaysDenoted, StepsKeepHistoriesLegal};
-ghost use Rattle.fw_model.specs.LawsOfRestoring.{BatchesOutsideCutsLieOutsideLow, BatchesToComeLieOutsideLow, CheckpointLogsHoldWhatIsSentAgain, CheckpointsAtCutsAreKept, CheckpointsStayTrue, CollectedIsWhatLiesBelow, EventsInsideCutsAreLogged, EventsThatMustBeKeptAreNeverCollected, KeptWatermarksLieWithinToday, LogsHoldWhatIsSentAgain, NothingComesInsideCheckpoints, WhatIsForgottenWasAcknowledged};
+ghost use Rattle.fw_model.specs.LawsOfRestoring.{BatchesOutsideCutsLieOutsideLow, BatchesToComeLieOutsideLow, CheckpointLogsHoldWhatIsSentAgain, CheckpointsAreAsTheyWereAsked, CheckpointsAtCutsAreKept, CheckpointsStayTrue, CollectedIsWhatLiesBelow, EventsInsideCutsAreLogged, EventsThatMustBeKeptAreNeverCollected, KeptWatermarksLieWithinToday, LogsHoldWhatIsSentAgain, NothingComesInsideCheckpoints, WhatIsForgottenWasAcknowledged};
 ghost use Rattle.fw_model.specs.LawsOfRuns.{AcknowledgementsAreInOrder, AcknowledgementsShowDenotation, RunsStayLegal};
 ghost use Rattle.fw_model.specs.LawsOfSending.{InsidePhiComesFromInside, InsidePhiOfSequenceComesFromInside, PhiBySendStamps, PsiBackBySendStamps, PsiBackIsLargest, PsiBySendStamps, SendStampIsMonotone, SendersOfWellFormed, SendsAreInsidePsi, SendsAtSendStamp, SentFromInsideIsInsidePsi, SentTableFollowsHistory};
 ghost use Rattle.fw_model.specs.LawsOfSteps.{ExactlyOneNextState, OneNextState, SomeNextState};
@@ -567,4 +567,9 @@ pub fn what_is_forgotten_was_acknowledged()
 /// A write was collected exactly where what it holds lies below the low watermark.
 pub fn collected_is_what_lies_below()
     ensures { CollectedIsWhatLiesBelow }
+{}
+
+/// Each checkpoint was asked in an earlier state of the run, and counts now as it did then.
+pub fn checkpoints_are_as_they_were_asked()
+    ensures { CheckpointsAreAsTheyWereAsked }
 {}

@@ -1,9 +1,8 @@
 -- What each step does to the state that an engine stands for.
-use Rattle.std.proofs.Common.{◌≡◌, ℕ, zero, suc, ◌+◌, ◌<◌, ◌==◌, nat_eq, cond, Bool, true, false, ◌&&◌, ◌||◌, not, List, [], ◌∷◌, ◌++◌, map, length, reverse, slice_set, slice_index_or, get_or, filter, replicate, refl, sym, ◌∙◌, ap, subst, inl, inr, arith, Option, Some, None, MatchOption, IfOk}
-use Rattle.std.specs.List.{AllByRecursion, range_with_len, list_any}
+use Rattle.std.proofs.Common.{◌≡◌, ℕ, zero, suc, ◌+◌, ◌<◌, ◌==◌, cond, Bool, true, false, ◌&&◌, List, [], ◌∷◌, ◌++◌, map, length, slice_set, slice_index_or, replicate, refl, sym, ◌∙◌, ap, subst, arith, Option, Some, None, MatchOption}
+use Rattle.std.specs.List.{AllByRecursion, range_with_len}
 use Rattle.std.proofs.lemmas.Bool.Decides.{nat_tests}
 use Rattle.std.proofs.lemmas.Grind.{common_steps}
-use Rattle.std.proofs.lemmas.List.{append-nil}
 use Rattle.std.proofs.lemmas.List.FromFn.{length-map-range_with_len, get_or-map-range_with_len}
 use Rattle.fw_time.specs.Stamp.{Stamp, in_domain}
 use Rattle.fw_frontier.specs.Front.{Front, IsCanonical}
@@ -11,7 +10,7 @@ use Rattle.fw_flow.specs.declared.choice.Choice.{Choice}
 use Rattle.fw_flow.specs.declared.choice.Cut.{Cut}
 use Rattle.fw_flow.specs.declared.choice.Cut.TheVariants.{Present, At}
 use Rattle.fw_flow.specs.declared.event.Event.{Event}
-use Rattle.fw_flow.specs.declared.event.Event.TheVariants.{Inject as Injected, Deliver as Delivered, Notify as Notified}
+use Rattle.fw_flow.specs.declared.event.Event.TheVariants.{Inject as Injected, Deliver as Delivered}
 use Rattle.fw_flow.specs.declared.event.Message.{Message}
 use Rattle.fw_flow.specs.declared.kind.Policy.{Policy}
 use Rattle.fw_flow.specs.declared.kind.Policy.TheVariants as policy
@@ -22,12 +21,12 @@ use Rattle.fw_flow.specs.NodeFunction.{place, stamp}
 use Rattle.fw_flow.specs.Projection.{events_at}
 use Rattle.fw_flow.specs.WellFormed.{IsWellFormedSystem}
 use Rattle.fw_model.specs.Choice.{cut_of}
-use Rattle.fw_model.specs.History.{IsEnabled, IsLegal, IsNextBatch}
+use Rattle.fw_model.specs.History.{IsLegal, IsNextBatch}
 use Rattle.fw_model.specs.LawsOfFiltering.{NotifiesNobody}
 use Rattle.fw_model.specs.LawsOfLegalHistories.{HasEpochs}
-use Rattle.fw_model.specs.Machine.{Machine, Numbered, Write, events, first_state, front_of, is_failed, no_stamps, places}
+use Rattle.fw_model.specs.Machine.{Machine, Write, events, first_state, front_of, is_failed, no_stamps, places}
 use Rattle.fw_model.specs.Plain.{AreAtNodes}
-use Rattle.fw_model.specs.Steps.{Effect, quiet, Outcome, did, idle, with_event, write_of_event, Takes, Steps, Run, IsNextMessage, IsNextNotice, GrowsTo, CutsTo, IsSettledCut}
+use Rattle.fw_model.specs.Steps.{Effect, quiet, Outcome, did, idle, with_event, write_of_event, Takes, Steps, Run, IsNextMessage, GrowsTo, CutsTo, IsSettledCut}
 use Rattle.fw_model.proofs.DomainLaws.{has_epochs}
 use Rattle.fw_model.proofs.LegalLaws.{legal_events-in_domain}
 use Rattle.fw_model.proofs.RecoveryLaws.{runs-legal}

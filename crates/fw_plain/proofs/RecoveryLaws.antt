@@ -1,5 +1,5 @@
 -- What a recovery of an engine chooses.
-use Rattle.std.proofs.Common.{◌≡◌, ℕ, ◌+◌, ◌<◌, Bool, List, [], map, length, reverse, refl, sym, ◌∙◌, ap, subst, Result, Ok, Err, IfOk, arith}
+use Rattle.std.proofs.Common.{◌≡◌, ℕ, Bool, List, [], length, reverse, refl, sym, Result, Ok, Err, IfOk, arith}
 use Rattle.std.proofs.lemmas.List.FromFn.{get_or-map-range_with_len}
 use Rattle.fw_frontier.specs.Front.{Front}
 use Rattle.fw_flow.specs.declared.choice.Choice.{Choice}
@@ -8,7 +8,7 @@ use Rattle.fw_flow.specs.declared.event.Event.{Event}
 use Rattle.fw_flow.specs.Dataflow.{System, bounds_of}
 use Rattle.fw_model.specs.Choice.{IsConsistentBy, IsLargestBy, IsLargest}
 use Rattle.fw_model.specs.LawsOfSteps.{CanChoose}
-use Rattle.fw_model.specs.Machine.{Machine, events, is_failed, no_stamps, front_of}
+use Rattle.fw_model.specs.Machine.{Machine, events, is_failed, no_stamps}
 use Rattle.fw_model.specs.Steps.{offers}
 use Rattle.fw_model.proofs.ChoosingLaws.{recovery-has_choice}
 use Rattle.fw_monitor.specs.Offers.{IsOffered, AreOffersIn, AreAscending, covers_of}

@@ -1,6 +1,6 @@
 -- What progress, acknowledgements, failures and recoveries do to the state that an engine stands for.
-use Rattle.std.proofs.Common.{◌≡◌, ℕ, zero, suc, ◌+◌, ◌<◌, ◌^◌, ◌==◌, nat_le, cond, map, Bool, true, false, ◌&&◌, ◌||◌, not, List, [], ◌∷◌, length, slice_set, slice_index_or, get_or, refl, sym, ◌∙◌, ap, subst, filter, inl, inr, arith}
-use Rattle.std.specs.List.{list_any, range_with_len}
+use Rattle.std.proofs.Common.{◌≡◌, ℕ, zero, suc, ◌+◌, ◌<◌, ◌^◌, ◌==◌, nat_le, cond, map, Bool, true, false, ◌&&◌, ◌||◌, not, List, [], ◌∷◌, length, slice_set, slice_index_or, refl, sym, ◌∙◌, ap, subst, filter, inl, inr, arith}
+use Rattle.std.specs.List.{range_with_len}
 use Rattle.std.proofs.lemmas.Bool.{and_parts, and_from, or_cases, or_left, or_right}
 use Rattle.std.proofs.lemmas.Bool.Decides.{nat_tests}
 use Rattle.fw_time.specs.declared.stamp.Bounds.{Bounds}

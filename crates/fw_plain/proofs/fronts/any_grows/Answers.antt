@@ -1,4 +1,4 @@
-use Rattle.std.proofs.Common.{◌≡◌, not, ◌&&◌, false, true, [], get_or, sym, ◌∙◌, ap, below_more, arith}
+use Rattle.std.proofs.Common.{◌≡◌, not, ◌&&◌, false, [], get_or, sym, ◌∙◌, ap, below_more, arith}
 use Rattle.std.proofs.lemmas.List.{get_or_read}
 use Rattle.fw_frontier.specs.Front.{Front}
 use Rattle.fw_model.specs.Machine.{front_of}

@@ -1,4 +1,4 @@
-use Rattle.std.proofs.Common.{◌≡◌, ℕ, ◌+◌, Bool, true, false, List, [], ◌∷◌, ◌++◌, length, drop, get_or, sym, ◌∙◌, ap, Vec, Global, arith}
+use Rattle.std.proofs.Common.{◌≡◌, ℕ, ◌+◌, Bool, List, ◌∷◌, ◌++◌, drop, get_or, sym, ◌∙◌, ap, Vec, Global, arith}
 use Rattle.std.proofs.lemmas.List.{drop_more}
 use Rattle.fw_flow.specs.declared.event.Event.{Event}
 use Rattle.fw_plain.specs.Past.{is_kept, kept_serials}

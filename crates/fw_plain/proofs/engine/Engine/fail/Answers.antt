@@ -1,4 +1,4 @@
-use Rattle.std.proofs.Common.{◌≡◌, Bool, List, false, true, refl, sym, ◌∙◌, ap, subst}
+use Rattle.std.proofs.Common.{◌≡◌, Bool, List, false, true, refl, sym, ◌∙◌, ap}
 use Rattle.fw_flow.specs.declared.step.Step.TheVariants.{Fail}
 use Rattle.fw_model.specs.Plain.{system_of}
 use Rattle.fw_model.specs.Steps.{quiet, did}

@@ -1,4 +1,4 @@
-use Rattle.std.proofs.Common.{List, sym, ◌∙◌, ap}
+use Rattle.std.proofs.Common.{sym, ◌∙◌, ap}
 use Rattle.fw_time.specs.Stamp.{Stamp, leq, same}
 use Rattle.fw_model.specs.Plain.{system_of}
 use Rattle.fw_plain.specs.Engine.{state_of}

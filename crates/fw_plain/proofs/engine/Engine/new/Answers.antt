@@ -1,4 +1,4 @@
-use Rattle.std.proofs.Common.{◌≡◌, ℕ, Bool, false, List, [], map, replicate, sym, ◌∙◌, ap, subst}
+use Rattle.std.proofs.Common.{◌≡◌, ℕ, Bool, false, List, map, replicate, sym, ◌∙◌, ap, subst}
 use Rattle.fw_frontier.specs.Front.{Front}
 use Rattle.fw_flow.specs.Dataflow.{bounds_of}
 use Rattle.fw_model.specs.Machine.{no_stamps, places}

@@ -1,4 +1,4 @@
-use Rattle.std.proofs.Common.{◌≡◌, ℕ, ◌+◌, Bool, true, false, cond, List, [], ◌∷◌, ◌++◌, refl, sym, ◌∙◌, Result, Ok, Err, Option, Some, None, SomeIff}
+use Rattle.std.proofs.Common.{◌≡◌, ℕ, ◌+◌, false, cond, List, [], ◌∷◌, ◌++◌, sym, ◌∙◌, Result, Ok, Err, Option, Some, None, SomeIff}
 use Rattle.std.specs.Result.{is_ok, is_err}
 use Rattle.fw_plain.proofs.PastLaws.{past_pushed}
 use Rattle.fw_plain.proofs.events.Events.push.Goals as goal

@@ -6,6 +6,8 @@ mod adapters;
 #[cfg(test)]
 mod ample_memory;
 #[cfg(test)]
+mod failures;
+#[cfg(test)]
 mod one_select;
 #[cfg(test)]
 mod refusals;

@@ -1,5 +1,9 @@
 pub mod EngineLaws
 pub mod FrontsLaws
+pub mod OffersFronts
+pub mod OffersLaws
+pub mod OffersLists
+pub mod OffersSteps
 pub mod OutputLaws
 pub mod PastLaws
 pub mod RecoveryLaws

@@ -57,7 +57,7 @@ shown_effect sys state Progress next effect t = subst (λ e. IsShownOf sys.flow 
 shown_effect sys state (Checkpoint p) next effect t = subst (λ e. IsShownOf sys.flow (did e)) (sym t.4) tt
 shown_effect sys state Persist next effect t = subst (λ e. IsShownOf sys.flow (did e)) (sym t.3) tt
 shown_effect sys state (Fail ps) next effect t = subst (λ e. IsShownOf sys.flow (did e)) (sym t.5) tt
-shown_effect sys state Recover next effect t = subst (λ e. IsShownOf sys.flow (did e)) (sym t.8) tt
+shown_effect sys state Recover next effect t = subst (λ e. IsShownOf sys.flow (did e)) (sym t.8) t.5.consistent.one_cut_each
 shown_effect sys state Collect next effect t = subst (λ e. IsShownOf sys.flow (did e)) (sym t.4) tt
 shown_effect sys state (Ack o) next effect t = subst (λ e. IsShownOf sys.flow (did e)) (sym t.3) t.1.declared
 

@@ -43,6 +43,7 @@ fn effect_line(
             let name = flow.node_name(*output).as_bytes();
             Ok(Some(ack_line(alloc, name, flow.kind(*output), at, recs)?))
         }
+        Effect::Cuts(choice) => Ok(Some(cut_lines(alloc, flow, choice.cuts.as_slice())?)),
     }
 }
 

@@ -1,1 +1,2 @@
+pub mod LawsOfOffers
 pub mod Offers

@@ -2,5 +2,6 @@
 #![tactic(auto)]
 
 mod descent;
+pub mod laws;
 
 pub use descent::largest;

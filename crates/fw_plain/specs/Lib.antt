@@ -1,3 +1,4 @@
 pub mod Engine
 pub mod Fronts
+pub mod Offered
 pub mod Output

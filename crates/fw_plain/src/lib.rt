@@ -3,6 +3,7 @@
 
 mod engine;
 mod fronts;
+mod offers;
 mod output;
 mod stepped;
 

@@ -5,4 +5,6 @@ pub mod OffersLaws
 pub mod OffersLists
 pub mod OffersSteps
 pub mod OutputLaws
+pub mod PastLaws
+pub mod RecoveryLaws
 pub mod StepLaws

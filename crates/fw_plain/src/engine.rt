@@ -28,8 +28,8 @@ use fw_time::Stamp;
 use std::alloc::{AllocError, Global};
 use std::marker::Model;
 
-/// An engine that keeps the list of events, of a dataflow whose nodes keep nothing and are not notified. Contracts see the system that it
-/// runs, the state of the machine that it stands for, and whether memory was refused.
+/// An engine that keeps the list of events, of a dataflow whose nodes keep nothing for their recovery and are not notified.
+/// Contracts see the system that it runs, the state of the machine that it stands for, and whether memory was refused.
 #[derive(Debug, Drop)]
 pub struct Engine {
     alloc: Global,

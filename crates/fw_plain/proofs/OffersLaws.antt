@@ -28,10 +28,10 @@ use Rattle.fw_model.proofs.DomainLaws.{edge-bounds, has_epochs}
 use Rattle.fw_model.proofs.EachLaws.{each-weaker}
 use Rattle.fw_model.proofs.InputLaws.{injected-few}
 use Rattle.fw_model.proofs.LegalLaws.{legal_messages-in_domain}
-use Rattle.fw_monitor.specs.Offers.{can_stay, listed, records_of, range, range_of, delivered_to, notified_of, sent_by, IsOffered, IsListed, IsBetween, stamps_from, count_from, is_by_records, recorded_notified, record_at, delivered_at, sent_cover, discarded_at, covers_of, Ascend, IsRecordOf, IsRangeOf, AreOnEdges, AreOffersOf, AreOffersIn}
+use Rattle.fw_monitor.specs.Offers.{can_stay, listed, records_of, range, range_of, delivered_to, notified_of, sent_by, IsOffered, IsListed, IsBetween, stamps_from, count_from, is_by_records, recorded_notified, record_at, delivered_at, sent_cover, discarded_at, covers_of, Ascend, IsRecordOf, IsRangeOf, IsListedBy, AreOnEdges, AreOffersOf, AreOffersIn}
 use Rattle.fw_plain.specs.Offered.{StandsBy, deliveries_to, sent_from, IsOfferOf, AreOffersFrom}
 use Rattle.fw_plain.proofs.FrontsLaws.{names-no_stamps}
-use Rattle.fw_plain.proofs.OffersFronts.{offered-restorable, offered-records, offered-ascend, offered-range}
+use Rattle.fw_plain.proofs.OffersFronts.{offered-restorable, offered-records, offered-ascend, offered-range, offered-listed}
 use Rattle.fw_plain.proofs.OffersLists.{delivered-on_edge, deliveries-on_edges, notices-in_domain, sent-on_edge, count-on_edge, sent-on_edges}
 
 -- ---- the offer of a node
@@ -155,6 +155,11 @@ of_flow sys state offers a =
           let o = a.each p l in
           subst (λ (r : Option (Front × Front)). IsRangeOf (bounds_of sys.flow p) r) (sym (range-is sys state offers p o))
           (offered-range sys h p (front_of state.settled p) (bound_of state p) (restoring (kind_of sys.flow p) policy.None) o.offer.offered o.is.offered);
+      listed = λ p l.
+          let o = a.each p l in
+          subst (λ (way : Restoring). IsListedBy way (range_of offers p)) (a.way p)
+          (subst (λ (r : Option (Front × Front)). IsListedBy (restoring (kind_of sys.flow p) policy.None) r) (sym (range-is sys state offers p o))
+          (offered-listed sys h p (front_of state.settled p) (bound_of state p) (restoring (kind_of sys.flow p) policy.None) o.offer.offered o.is.offered));
       delivered = λ p l.
           subst (λ (ms : List Counted). AreOnEdges sys.flow ms) (sym (delivered-is sys state offers p (a.each p l))) (deliveries-on_edges sys.flow p h a.at_nodes);
       notified = λ p l.

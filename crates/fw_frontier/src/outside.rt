@@ -10,6 +10,9 @@ ghost use Rattle.fw_frontier.specs.Outside.{place, placed, excluding, excluding_
 use fw_time::{Bounds, Stamp};
 use std::alloc::{AllocError, Global};
 
+// Of two stamps of up to so many coordinates, one is greater at no more than one place.
+const FEW: usize = 3;
+
 // Whether a stamp is inside: no outside stamp is at most it.
 pub fn has_inside(outside: &[Stamp], t: &Stamp) -> bool
     ensures { result ≡ inside outside.now t.now }
@@ -199,7 +202,7 @@ pub fn joined(alloc: Global, mine: &[Stamp], others: &[Stamp]) -> Result<Vec<Sta
     let [first, ..] = mine else {
         return Ok(Vec::new(alloc));
     };
-    if first.len() <= 3 {
+    if first.len() <= FEW {
         return joined_by_near(alloc, mine, others);
     }
     joined_by_pairs(alloc, mine, others)

@@ -1,5 +1,5 @@
 -- The frontiers that plain nodes offer.
-use Rattle.std.proofs.Common.{◌≡◌, ◌≢◌, ◌⊎◌, ◌↔◌, inl, inr, ℕ, zero, suc, ◌+◌, ◌^◌, ◌<◌, ◌≤◌, min, ◌==◌, Bool, true, false, not, ◌&&◌, cond, List, [], ◌∷◌, ◌++◌, length, map, Some, refl, sym, ◌∙◌, ap, subst, arith}
+use Rattle.std.proofs.Common.{◌≡◌, ◌≢◌, ◌⊎◌, ◌↔◌, inl, inr, ℕ, zero, suc, ◌+◌, ◌^◌, ◌<◌, ◌≤◌, min, ◌==◌, Bool, true, false, not, ◌&&◌, cond, List, [], ◌∷◌, ◌++◌, map, Some, refl, sym, ◌∙◌, ap, subst, arith}
 use Rattle.std.specs.List.{AllByRecursion, range_with_len}
 use Rattle.std.proofs.lemmas.Bool.{and_parts, and_from, cases_Bool}
 use Rattle.std.proofs.lemmas.Bool.Decides.{nat_tests}
@@ -19,7 +19,7 @@ use Rattle.fw_model.specs.History.{injected_count, is_exhausted}
 use Rattle.fw_model.specs.Machine.{Machine, events, front_of, bound_of}
 use Rattle.fw_model.proofs.EachLaws.{each-append}
 use Rattle.fw_model.proofs.StampLaws.{leq-trans, line-leq, leq-line}
-use Rattle.fw_monitor.specs.Offers.{listed, range, IsListed, IsBetween, Ascend, IsRecordOf, IsRangeOf, AreFrontsOfEdges}
+use Rattle.fw_monitor.specs.Offers.{listed, range, IsListed, IsBetween, Ascend, IsRecordOf, IsRangeOf, IsListedBy, AreFrontsOfEdges}
 use Rattle.fw_plain.specs.Offered.{batch_fronts, IsBare, AreBare, OffersBy}
 
 -- ---- frontiers of numbers
@@ -354,3 +354,15 @@ offered-range sys h p settled bound by_anything (Listed records) a = absurd a
 offered-range sys h p settled bound by_anything (Between least greatest) a = (a.0.canonical, a.1.canonical)
 offered-range sys h p settled bound by_checkpoints o a = absurd a
 offered-range sys h p settled bound by_events o a = absurd a
+
+-- what is restored by its batches lists its frontiers
+pub offered-listed : (sys : System) (h : List Event) (p : ℕ) (settled : Front) (bound : ℕ) (way : Restoring) (o : Offered)
+    → OffersBy sys h p settled bound way o → IsListedBy way (range o)
+offered-listed sys h p settled bound by_batches (Listed records) a = refl
+offered-listed sys h p settled bound by_batches (Between least greatest) a = absurd a
+offered-listed sys h p settled bound by_bound (Listed records) a = absurd a
+offered-listed sys h p settled bound by_bound (Between least greatest) a = tt
+offered-listed sys h p settled bound by_anything (Listed records) a = absurd a
+offered-listed sys h p settled bound by_anything (Between least greatest) a = tt
+offered-listed sys h p settled bound by_checkpoints o a = absurd a
+offered-listed sys h p settled bound by_events o a = absurd a

@@ -1,27 +1,25 @@
 -- What plain nodes offer is what the machine offers.
-use Rattle.std.proofs.Common.{◌≡◌, ◌⊎◌, ◌↔◌, inl, inr, ℕ, zero, suc, ◌+◌, ◌<◌, ◌≤◌, ◌^◌, Bool, true, false, not, cond, List, [], ◌∷◌, length, map, reverse, slice_index_or, Option, None, ◌==◌, refl, sym, ◌∙◌, ap, subst, arith}
+use Rattle.std.proofs.Common.{◌≡◌, ◌⊎◌, ◌↔◌, ℕ, zero, suc, ◌+◌, ◌<◌, ◌≤◌, Bool, true, false, not, cond, List, [], ◌∷◌, length, map, reverse, slice_index_or, Option, None, ◌==◌, refl, sym, ◌∙◌, ap, subst, arith}
 use Rattle.std.specs.List.{AllByRecursion, flat_map, filter}
 use Rattle.fw_time.specs.declared.stamp.Bounds.{Bounds}
 use Rattle.fw_time.specs.Stamp.{Stamp, in_domain}
 use Rattle.fw_frontier.specs.Frontier.{Frontier, Within, nothing, everything, cover}
-use Rattle.fw_frontier.specs.Front.{Front, frontier_of, IsCanonical}
+use Rattle.fw_frontier.specs.Front.{Front, frontier_of}
 use Rattle.fw_flow.specs.declared.choice.Counted.{Counted}
 use Rattle.fw_flow.specs.declared.choice.Cut.{Cut}
 use Rattle.fw_flow.specs.declared.choice.Cut.TheVariants.{Present, At}
 use Rattle.fw_flow.specs.declared.choice.Offer.{Offer}
-use Rattle.fw_flow.specs.declared.choice.Offered.{Offered}
 use Rattle.fw_flow.specs.declared.choice.Recorded.{Recorded}
 use Rattle.fw_flow.specs.declared.event.Event.{Event}
 use Rattle.fw_flow.specs.declared.event.Message.{Message}
 use Rattle.fw_flow.specs.declared.kind.Kind.{Kind}
 use Rattle.fw_flow.specs.declared.kind.Kind.TheVariants.{Input, OutputEpoch, OutputNumber}
-use Rattle.fw_flow.specs.declared.kind.Policy.{Policy}
 use Rattle.fw_flow.specs.declared.kind.Policy.TheVariants as policy
-use Rattle.fw_flow.specs.Dataflow.{System, Dataflow, kind_of, policy_of, sender, receiver, bounds_of, batches_of, greatest_number, is_notified_kind}
-use Rattle.fw_flow.specs.Projection.{all_inside, phi, phi_by_count, psi}
+use Rattle.fw_flow.specs.Dataflow.{System, kind_of, policy_of, sender, receiver, bounds_of, greatest_number, is_notified_kind}
+use Rattle.fw_flow.specs.Projection.{all_inside, phi, phi_by_count}
 use Rattle.fw_model.specs.Choice as machine
 use Rattle.fw_model.specs.Choice.{kept, Restoring, by_batches, by_bound, by_anything, by_checkpoints, by_events, restoring, takes_its_cut, takes_its_notes, can_resend, covers_in, IsCandidate, IsRestorable, stamp_of_notice}
-use Rattle.fw_model.specs.History.{delivered, sent, injected_count, IsLegal}
+use Rattle.fw_model.specs.History.{delivered, sent, injected_count}
 use Rattle.fw_model.specs.LawsOfProjections.{bounds_of_edge}
 use Rattle.fw_model.specs.Machine.{Machine, events, is_failed, no_stamps, front_of, bound_of}
 use Rattle.fw_model.specs.Plain.{AreAtNodes}
@@ -30,10 +28,10 @@ use Rattle.fw_model.proofs.DomainLaws.{edge-bounds, has_epochs}
 use Rattle.fw_model.proofs.EachLaws.{each-weaker}
 use Rattle.fw_model.proofs.InputLaws.{injected-few}
 use Rattle.fw_model.proofs.LegalLaws.{legal_messages-in_domain}
-use Rattle.fw_monitor.specs.Offers.{can_stay, listed, records_of, range, range_of, delivered_to, notified_of, sent_by, IsOffered, IsListed, IsBetween, stamps_from, count_from, is_by_records, recorded_notified, record_at, delivered_at, sent_cover, discarded_at, covers_of, Ascend, IsRecordOf, IsRangeOf, AreOnEdges, AreFromEpochs, AreOffersOf, AreOffersIn}
+use Rattle.fw_monitor.specs.Offers.{can_stay, listed, records_of, range, range_of, delivered_to, notified_of, sent_by, IsOffered, IsListed, IsBetween, stamps_from, count_from, is_by_records, recorded_notified, record_at, delivered_at, sent_cover, discarded_at, covers_of, Ascend, IsRecordOf, IsRangeOf, IsListedBy, AreOnEdges, AreOffersOf, AreOffersIn}
 use Rattle.fw_plain.specs.Offered.{StandsBy, deliveries_to, sent_from, IsOfferOf, AreOffersFrom}
 use Rattle.fw_plain.proofs.FrontsLaws.{names-no_stamps}
-use Rattle.fw_plain.proofs.OffersFronts.{offered-restorable, offered-records, offered-ascend, offered-range}
+use Rattle.fw_plain.proofs.OffersFronts.{offered-restorable, offered-records, offered-ascend, offered-range, offered-listed}
 use Rattle.fw_plain.proofs.OffersLists.{delivered-on_edge, deliveries-on_edges, notices-in_domain, sent-on_edge, count-on_edge, sent-on_edges}
 
 -- ---- the offer of a node
@@ -157,6 +155,11 @@ of_flow sys state offers a =
           let o = a.each p l in
           subst (λ (r : Option (Front × Front)). IsRangeOf (bounds_of sys.flow p) r) (sym (range-is sys state offers p o))
           (offered-range sys h p (front_of state.settled p) (bound_of state p) (restoring (kind_of sys.flow p) policy.None) o.offer.offered o.is.offered);
+      listed = λ p l.
+          let o = a.each p l in
+          subst (λ (way : Restoring). IsListedBy way (range_of offers p)) (a.way p)
+          (subst (λ (r : Option (Front × Front)). IsListedBy (restoring (kind_of sys.flow p) policy.None) r) (sym (range-is sys state offers p o))
+          (offered-listed sys h p (front_of state.settled p) (bound_of state p) (restoring (kind_of sys.flow p) policy.None) o.offer.offered o.is.offered));
       delivered = λ p l.
           subst (λ (ms : List Counted). AreOnEdges sys.flow ms) (sym (delivered-is sys state offers p (a.each p l))) (deliveries-on_edges sys.flow p h a.at_nodes);
       notified = λ p l.

@@ -63,7 +63,7 @@ sent_from sys h p = on_each (out_edges sys.flow p) (sent_by sys p (events_at sys
 abbrev pub batch_fronts : ℕ → Bool → List Front
 batch_fronts injected exhausted = map until (range_with_len 0 (injected + 1)) ++ (if exhausted then [] ∷ [] else [])
 
--- the record is of the frontier, and holds nothing else
+-- the record is of the frontier and lists no edge; its notification frontier, which plays no part at an input, is all
 pub record IsBare (f : Front) (r : Recorded) : Type 0 where
   pub front : r.front ≡ f
   pub notified : r.notified ≡ []

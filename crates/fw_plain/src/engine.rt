@@ -94,7 +94,8 @@ impl Engine {
     }
 
     /// Takes a step, and tells what it shows: Idle exactly where it is not enabled, and then nothing changes. The step is
-    /// none of writes and collections. The error is want of memory; from then on every step answers it.
+    /// none of writes and collections. The error is want of memory: the state stays as it was, and from then on every step
+    /// answers it.
     pub fn step(&mut self, step: &Step) -> Result<Stepped, AllocError>
         requires { is_plain_step step.now ≡ true }
         ensures system { self.new.sys ≡ self.old.sys }
@@ -103,6 +104,7 @@ impl Engine {
         ensures legal { IsLegal self.new.sys (events self.new.state.history) }
         ensures live { OnOk result (self.new.refused ≡ false) }
         ensures err { OnErr result (self.new.refused ≡ true) }
+        ensures unchanged { OnErr result (self.new.state ≡ self.old.state) }
         ensures refused { IsTrue self.old.refused → IsErr result }
     {
         if self.refused {
@@ -117,6 +119,7 @@ impl Engine {
         requires { is_plain_step step.now ≡ true }
         ensures system { self.new.sys ≡ self.old.sys }
         ensures refused { self.new.refused ≡ self.old.refused }
+        ensures unchanged { OnErr result (self.new ≡ self.old) }
         ensures ok { IfOk result (λ stepped.
             Steps self.old.sys self.old.state step.now self.new.state (outcome_of stepped)) }
     {
@@ -135,6 +138,7 @@ impl Engine {
     fn inject(&mut self, source: NodeId) -> Result<Stepped, AllocError>
         ensures system { self.new.sys ≡ self.old.sys }
         ensures refused { self.new.refused ≡ self.old.refused }
+        ensures unchanged { OnErr result (self.new ≡ self.old) }
         ensures ok { IfOk result (λ stepped.
             Steps self.old.sys self.old.state (Inject source) self.new.state (outcome_of stepped)) }
     {
@@ -152,6 +156,7 @@ impl Engine {
     fn deliver(&mut self, edge: EdgeId, at: Option<&Stamp>) -> Result<Stepped, AllocError>
         ensures system { self.new.sys ≡ self.old.sys }
         ensures refused { self.new.refused ≡ self.old.refused }
+        ensures unchanged { OnErr result (self.new ≡ self.old) }
         ensures ok { IfOk result (λ stepped.
             Steps self.old.sys self.old.state (Deliver edge (option_copied at.entry)) self.new.state (outcome_of stepped)) }
     {
@@ -178,6 +183,7 @@ impl Engine {
     fn progress(&mut self) -> Result<Stepped, AllocError>
         ensures system { self.new.sys ≡ self.old.sys }
         ensures refused { self.new.refused ≡ self.old.refused }
+        ensures unchanged { OnErr result (self.new ≡ self.old) }
         ensures ok { IfOk result (λ stepped.
             Steps self.old.sys self.old.state Progress self.new.state (outcome_of stepped)) }
     {
@@ -193,6 +199,7 @@ impl Engine {
     fn fail(&mut self, nodes: &[NodeId]) -> Result<Stepped, AllocError>
         ensures system { self.new.sys ≡ self.old.sys }
         ensures refused { self.new.refused ≡ self.old.refused }
+        ensures unchanged { OnErr result (self.new ≡ self.old) }
         ensures ok { IfOk result (λ stepped.
             Steps self.old.sys self.old.state (Fail nodes.now) self.new.state (outcome_of stepped)) }
     {
@@ -207,6 +214,7 @@ impl Engine {
     fn recover(&mut self) -> Result<Stepped, AllocError>
         ensures system { self.new.sys ≡ self.old.sys }
         ensures refused { self.new.refused ≡ self.old.refused }
+        ensures unchanged { OnErr result (self.new ≡ self.old) }
         ensures ok { IfOk result (λ stepped.
             Steps self.old.sys self.old.state Recover self.new.state (outcome_of stepped)) }
     {
@@ -243,6 +251,7 @@ impl Engine {
     fn acknowledge(&mut self, output: NodeId) -> Result<Stepped, AllocError>
         ensures system { self.new.sys ≡ self.old.sys }
         ensures refused { self.new.refused ≡ self.old.refused }
+        ensures unchanged { OnErr result (self.new ≡ self.old) }
         ensures ok { IfOk result (λ stepped.
             Steps self.old.sys self.old.state (Ack output) self.new.state (outcome_of stepped)) }
     {

@@ -10,12 +10,12 @@ use Rattle.fw_frontier.proofs.NamesLaws.{names-join}
 use Rattle.fw_frontier.proofs.JoinLaws.{names-join_near}
 use Rattle.fw_frontier.proofs.outside.joined.Goals as goal
 
-pub returns-then-len-le3 : goal.returns-then-len-le3
-returns-then-len-le3 c = λ b h k.
+pub returns-then-len-le-FEW : goal.returns-then-len-le-FEW
+returns-then-len-le-FEW c = λ b h k.
     let mine = c.args.mine.now in
     let others = c.args.others.now in
     let d : in_domain b c.first-item.result ≡ true = in_domain-at b mine 0 c.first-item.result (omega (arith, c.in-len1-up.len_at_least)) c.first-item.is h in
-    let few : length b.greatest ≤ 3 = omega (arith, leq-length c.first-item.result b.greatest d, c.len.ensures.value, c.if-len-le3.true) in
+    let few : length b.greatest ≤ 3 = omega (arith, leq-length c.first-item.result b.greatest d, c.len.ensures.value, c.if-len-le-FEW.true) in
     IfOk-weaker c.joined_by_near.result
     (λ both. both.items ≡ excluding_all_near others mine (excluding_all_near mine others []))
     (λ both. Names b both.items (join (frontier_of b mine) (frontier_of b others)))

@@ -1,4 +1,4 @@
-use Rattle.std.proofs.Common.{false, not, List, [], ◌∷◌, reverse, length, get_or, refl, sym, ap, subst, arith}
+use Rattle.std.proofs.Common.{false, not, List, [], reverse, length, get_or, refl, sym, ap, subst, arith}
 use Rattle.std.proofs.lemmas.List.{get_or_read, length-append}
 use Rattle.fw_flow.specs.declared.choice.Offer.{Offer}
 use Rattle.fw_model.specs.Plain.{system_of}

@@ -1,7 +1,6 @@
 -- Lists of frontiers, one for each node.
-use Rattle.std.proofs.Common.{◌≡◌, ℕ, zero, suc, ◌+◌, ◌<◌, Bool, true, false, not, ◌&&◌, List, [], ◌∷◌, ◌++◌, map, length, get_or, below_more, refl, sym, ◌∙◌, ap, subst, inl, inr, arith, Result, Ok, Err, IfOk}
+use Rattle.std.proofs.Common.{◌≡◌, ℕ, zero, suc, ◌<◌, Bool, true, false, not, ◌&&◌, List, [], ◌∷◌, map, length, get_or, refl, sym, ap, subst, inl, inr, arith, Result, Ok, Err, IfOk}
 use Rattle.std.proofs.lemmas.Bool.{cases_Bool, or_cases, or_left, or_right, and_parts, and_from, false_from_ne_true}
-use Rattle.std.proofs.lemmas.List.{length-append}
 use Rattle.fw_time.specs.declared.stamp.Bounds.{Bounds}
 use Rattle.fw_time.specs.Stamp.{Stamp, leq, origin, in_domain}
 use Rattle.fw_time.proofs.StampLaws.{leq-refl}
@@ -11,7 +10,7 @@ use Rattle.fw_frontier.proofs.InsideLaws.{inside-closed}
 use Rattle.fw_frontier.proofs.NamesLaws.{names-same, names-nothing}
 use Rattle.fw_model.specs.Machine.{no_stamps, front_of}
 use Rattle.fw_model.proofs.Decisions.{two_ways}
-use Rattle.fw_plain.specs.Fronts.{grows, any_grows, AreAtPlaces}
+use Rattle.fw_plain.specs.Fronts.{grows, any_grows}
 
 -- ---- frontiers without stamps
 

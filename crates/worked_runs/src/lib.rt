@@ -6,6 +6,8 @@ mod adapters;
 #[cfg(test)]
 mod ample_memory;
 #[cfg(test)]
+mod faults;
+#[cfg(test)]
 mod one_select;
 #[cfg(test)]
 mod refusals;

@@ -7,6 +7,7 @@ mod adapters;
 mod ample_memory;
 #[cfg(test)]
 mod failures;
+mod faults;
 #[cfg(test)]
 mod one_select;
 #[cfg(test)]

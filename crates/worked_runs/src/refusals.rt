@@ -1,5 +1,6 @@
 //! Texts that are not accepted, and accepted ones beside them.
-use crate::runs::{ONE_SELECT, run_texts};
+use crate::runs::{ONE_SELECT, run_texts, run_words};
+use fw_outside::MemText;
 use std::alloc::{AllocError, Global};
 use std::test::Fail;
 
@@ -159,6 +160,35 @@ fn schedules(rt: HostRuntime) -> Result<(), Fail> {
             status,
             if note.is_empty() { 0 } else { 5 },
             "at {schedule}"
+        );
+    }
+    Ok(())
+}
+
+#[test]
+fn largest_texts(rt: HostRuntime) -> Result<(), Fail> {
+    let alloc = rt.alloc();
+    let rows = [
+        ("flow", 1_048_576, "refused F9 line 0\n"),
+        ("flow", 1_048_577, "refused F11 line 0\n"),
+        ("inputs", 16_777_217, "refused I5 line 0\n"),
+        ("schedule", 16_777_217, "refused S4 line 0\n"),
+    ];
+    for (name, bytes, note) in rows {
+        let comment = vec![in alloc; b'#'; bytes]?;
+        // of two texts of a name the first is there
+        let texts = vec![in alloc;
+            MemText::new(alloc, name, &comment)?,
+            MemText::new(alloc, "flow", ONE_SELECT.as_bytes())?,
+            MemText::new(alloc, "inputs", b"")?,
+            MemText::new(alloc, "schedule", b"")?,
+        ]?;
+        let words = ["run", "flow", "inputs", "schedule"];
+        let ran = run_words(alloc, &words, texts, Vec::new(alloc))?;
+        assert_eq!(rt;
+            ran.notes.as_slice(),
+            note.as_bytes(),
+            "of {bytes} bytes of {name}"
         );
     }
     Ok(())

@@ -7,6 +7,7 @@ mod adapters;
 mod ample_memory;
 #[cfg(test)]
 mod failures;
+#[cfg(test)]
 mod faults;
 #[cfg(test)]
 mod one_select;

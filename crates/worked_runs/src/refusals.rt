@@ -141,6 +141,13 @@ fn schedules(rt: HostRuntime) -> Result<(), Fail> {
         ("progress\n#\t", "refused S1 line 2\n"),
         ("progress\n\n#\ninject src src", "refused S1 line 4\n"),
         ("deliver a at 01", "refused S1 line 1\n"),
+        ("fail", "refused S1 line 1\n"),
+        ("fail Big", "refused S1 line 1\n"),
+        ("fail nobody 1x", "refused S1 line 1\n"),
+        ("recover big", "refused S1 line 1\n"),
+        ("fail a", "refused S2 line 1\n"),
+        ("fail big at", "refused S2 line 1\n"),
+        ("progress\nfail big nobody\nstep", "refused S2 line 2\n"),
         ("inject out", "refused S2 line 1\n"),
         ("ack big", "refused S2 line 1\n"),
         ("deliver c", "refused S2 line 1\n"),
@@ -152,6 +159,7 @@ fn schedules(rt: HostRuntime) -> Result<(), Fail> {
             "inject src\n deliver  a at 0 \ndeliver b\n#~\nnotify big\nprogress\nack out",
             "",
         ),
+        ("fail big\nfail  out big out\nfail src \nrecover", ""),
     ];
     for (schedule, note) in rows {
         let (status, notes) = refusal(rt.alloc(), ONE_SELECT, "", schedule)?;

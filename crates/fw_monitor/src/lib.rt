@@ -2,5 +2,8 @@
 #![tactic(auto)]
 
 mod descent;
+mod offers;
+mod passes;
+mod side;
 
 pub use descent::largest;

@@ -1,0 +1,5 @@
+pub mod HeldLaws
+pub mod FrontLaws
+pub mod CoverLaws
+pub mod OfferLaws
+pub mod PassLaws

@@ -1,5 +1,12 @@
-pub mod HeldLaws
-pub mod FrontLaws
+pub mod ArrivedLaws
 pub mod CoverLaws
+pub mod CutDownLaws
+pub mod DescentLaws
+pub mod EventLaws
+pub mod FrontLaws
+pub mod HeldLaws
+pub mod LowerLaws
 pub mod OfferLaws
 pub mod PassLaws
+pub mod RecordLaws
+pub mod WayLaws

@@ -100,3 +100,28 @@ sent_pass-is flow from e f g ms d =
           (λ m i t. subst (λ x. in_domain (bounds_of flow (receiver flow x)) m.at ≡ true)
           (eqb-true m.edge e (and_parts (m.edge == e) (all_inside (frontier_of from f) m.causes) t).0) i) d))) w)))),
     )
+
+-- ---- as the tests are called
+
+pub inside_pass_at : (b c : Bounds) (f g : Front) (ss ts : List Stamp) (r : Bool) → c ≡ b → ts ≡ ss → r ≡ inside_pass c f g ts
+    → (r ≡ true) ↔ Within (cover b (filter (frontier_of b f) ss)) (frontier_of b g)
+inside_pass_at b c f g ss ts r e k is =
+    let i = inside_pass-is b f g ss in
+    let same : r ≡ inside_pass b f g ss = is ∙ ap (λ x. inside_pass x f g ts) e ∙ ap (inside_pass b f g) k in
+    (λ h. i.0 (sym same ∙ h), λ w. same ∙ i.1 w)
+
+pub delivered_pass_at : (b c : Bounds) (d : ℕ) (f g : Front) (ms ns : List Counted) (r : Bool) → c ≡ b → ns ≡ ms → r ≡ delivered_pass c d f g ns
+    → (r ≡ true) ↔ Within (cover b (stamps_inside d (frontier_of b f) ms)) (frontier_of b g)
+delivered_pass_at b c d f g ms ns r e k is =
+    let i = delivered_pass-is b d f g ms in
+    let same : r ≡ delivered_pass b d f g ms = is ∙ ap (λ x. delivered_pass x d f g ns) e ∙ ap (delivered_pass b d f g) k in
+    (λ h. i.0 (sym same ∙ h), λ w. same ∙ i.1 w)
+
+pub sent_pass_at : (flow : Dataflow) (from a to : Bounds) (e : ℕ) (f g : Front) (ms ns : List Counted) (r : Bool) → a ≡ from → to ≡ bounds_of flow (receiver flow e) → ns ≡ ms
+    → AreOnEdges flow ms → r ≡ sent_pass a to e f g ns
+    → (r ≡ true) ↔ Within (cover (bounds_of flow (receiver flow e)) (stamps_from e (frontier_of from f) ms)) (frontier_of (bounds_of flow (receiver flow e)) g)
+sent_pass_at flow from a to e f g ms ns r i j k d is =
+    let h = sent_pass-is flow from e f g ms d in
+    let same : r ≡ sent_pass from (bounds_of flow (receiver flow e)) e f g ms =
+    is ∙ ap (λ x. sent_pass x to e f g ns) i ∙ ap (λ x. sent_pass from x e f g ns) j ∙ ap (sent_pass from (bounds_of flow (receiver flow e)) e f g) k in
+    (λ l. h.0 (sym same ∙ l), λ w. same ∙ h.1 w)

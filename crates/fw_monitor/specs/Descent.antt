@@ -1,11 +1,13 @@
 -- The descent to the largest choice: what it lowers, and what it keeps.
-use Rattle.std.specs.Prelude.{◌≡◌, ◌≢◌, ℕ, ◌+◌, ◌<◌, Bool, true, false, List, [], length, Option, Some, None}
+use Rattle.std.specs.Prelude.{◌≡◌, ◌≢◌, ℕ, ◌+◌, ◌<◌, Bool, true, false, ◌==◌, if◌then◌else◌, List, [], ◌∷◌, length, Option, Some, None}
 use Rattle.fw_time.specs.declared.stamp.Bounds.{Bounds}
-use Rattle.fw_frontier.specs.Frontier.{Frontier, Within, everything}
+use Rattle.fw_frontier.specs.Frontier.{Frontier, Within, nothing, everything}
 use Rattle.fw_frontier.specs.Front.{Front, frontier_of, IsCanonical}
 use Rattle.fw_flow.specs.declared.choice.Choice.{Choice}
 use Rattle.fw_flow.specs.declared.choice.Cut.{Cut}
 use Rattle.fw_flow.specs.declared.choice.Cut.TheVariants.{Present, At}
+use Rattle.fw_flow.specs.declared.choice.OfEdge.{OfEdge}
+use Rattle.fw_flow.specs.declared.choice.Recorded.{Recorded}
 use Rattle.fw_flow.specs.declared.choice.Offer.{Offer}
 use Rattle.fw_flow.specs.Dataflow.{System, Dataflow, sender, receiver, bounds_of}
 use Rattle.fw_model.specs.Machine.{front_of}
@@ -16,7 +18,7 @@ use Rattle.fw_monitor.specs.declared.side.Restoring.TheVariants as restored
 use Rattle.fw_monitor.specs.declared.side.Side.{Side}
 use Rattle.fw_monitor.specs.declared.side.Side.TheVariants.{Delivered, Discarded, Notified}
 use Rattle.fw_monitor.specs.Held.{held, sum_below}
-use Rattle.fw_monitor.specs.Offers.{IsOffered, AreAscending, delivered_cover, discarded_cover, notified_cover, arrived_from, covers_of}
+use Rattle.fw_monitor.specs.Offers.{IsOffered, AreAscending, delivered_cover, discarded_cover, notified_cover, recorded_delivered, recorded_discarded, recorded_notified, arrived_from, covers_of}
 
 -- the way in which a node is restored, as the model names it
 abbrev pub named : Restoring → model.Restoring
@@ -51,6 +53,28 @@ abbrev pub IsThere : Dataflow → Side → Type 0
 IsThere flow (Delivered d) = d < length flow.edges
 IsThere flow (Discarded e) = e < length flow.edges
 IsThere flow (Notified p) = p < length flow.nodes
+
+-- the frontier that is listed for an edge
+abbrev pub found : ℕ → List OfEdge → Option Front
+found e [] = None
+found e (x ∷ xs) = if x.edge == e then Some x.front else found e xs
+
+-- what a record lists of a side
+abbrev pub recorded : Side → Recorded → Option Front
+recorded (Delivered d) r = found d r.delivered.items
+recorded (Discarded e) r = found e r.discarded.items
+recorded (Notified p) r = Some r.notified
+
+-- the frontier, without stamps where there is none
+abbrev pub front_or_nothing : Bounds → Option Front → Frontier
+front_or_nothing bounds None = nothing
+front_or_nothing bounds (Some f) = frontier_of bounds f
+
+-- what a record holds of a side
+abbrev pub recorded_left : Bounds → Side → Option Recorded → Frontier
+recorded_left bounds (Delivered d) r = recorded_delivered bounds d r
+recorded_left bounds (Discarded e) r = recorded_discarded bounds e r
+recorded_left bounds (Notified p) r = recorded_notified bounds r
 
 -- what it is in a cut
 abbrev pub left_of : Dataflow → List Offer → Side → Cut → Frontier

@@ -1,3 +1,4 @@
 pub mod Offers
 pub mod Held
+pub mod Kept
 pub mod Descent

@@ -7,9 +7,10 @@ ghost use Rattle.fw_flow.specs.Dataflow.{kind_of, policy_of};
 ghost use Rattle.fw_model.specs.Choice as model;
 ghost use Rattle.fw_model.specs.Steps as steps;
 ghost use Rattle.fw_monitor.specs.Offers as spec;
-ghost use Rattle.fw_monitor.specs.Descent.{named};
+ghost use Rattle.std.specs.Option.{option_copied};
+ghost use Rattle.fw_monitor.specs.Descent.{named, found, recorded, recorded_left};
 
-use crate::side::Restoring;
+use crate::side::{Restoring, Side};
 use fw_flow::{Counted, EdgeId, Flow, Kind, NodeId, OfEdge, Offer, Offered, Policy, Recorded};
 use fw_frontier::Front;
 use fw_time::Stamp;
@@ -172,9 +173,8 @@ pub(crate) fn sent_by(offers: &[Offer], node: NodeId) -> &[Counted]
 }
 
 /// The record of a frontier: the first that is listed.
-pub(crate) fn record_at<'a>(records: &'a [Recorded], front: &Front) -> Option<&'a Recorded>
-    ensures { MatchOption result (spec.record_at front.now records.now ≡ None)
-        (λ r. spec.record_at front.now records.now ≡ Some r.now) }
+fn record_at<'a>(records: &'a [Recorded], front: &Front) -> Option<&'a Recorded>
+    ensures { option_copied result ≡ spec.record_at front.now records.now }
 {
     for record in records {
         if same_front(&record.front, front) {
@@ -191,15 +191,44 @@ fn same_front(front: &Front, other: &Front) -> bool
     front.outside().cmp(&other.outside()).is_eq()
 }
 
-/// Whether what is listed for an edge lies within a frontier of its domain.
-pub(crate) fn edge_passes(fronts: &[OfEdge], edge: EdgeId, bound: &Front) -> bool
-    ensures { (bounds : Domain) → IsCanonical bounds bound.now
-        → (IsTrue result ↔ Within (spec.front_of_edge bounds edge fronts.now) (frontier_of bounds bound.now)) }
+/// The frontier that is listed for an edge.
+fn front_on(fronts: &[OfEdge], edge: EdgeId) -> Option<&Front>
+    ensures { option_copied result ≡ found edge fronts.now }
 {
     for of_edge in fronts {
         if of_edge.edge == edge {
-            return of_edge.front.subset(bound);
+            return Some(&of_edge.front);
         }
     }
-    true
+    None
+}
+
+/// What a record holds of a side, if it lists it.
+fn recorded(record: &Recorded, side: Side) -> Option<&Front>
+    ensures { option_copied result ≡ recorded side record.now }
+{
+    match side {
+        Side::Delivered(edge) => front_on(&record.delivered, edge),
+        Side::Discarded(edge) => front_on(&record.discarded, edge),
+        Side::Notified(_) => Some(&record.notified),
+    }
+}
+
+/// Whether what the record of the frontier holds of the side lies within the bound.
+pub(crate) fn record_passes(
+    records: &[Recorded],
+    side: Side,
+    front: &Front,
+    bound: &Front,
+) -> bool
+    ensures { (bounds : Domain) → IsCanonical bounds bound.now
+        → (IsTrue result ↔ Within (recorded_left bounds side (spec.record_at front.now records.now)) (frontier_of bounds bound.now)) }
+{
+    match record_at(records, front) {
+        Some(record) => match recorded(record, side) {
+            Some(held) => held.subset(bound),
+            None => true,
+        },
+        None => true,
+    }
 }

@@ -1,17 +1,17 @@
 //! Whether a side of a cut lies within a bound.
-ghost use Rattle.std.specs.Prelude.{◌≡◌, ◌↔◌, ◌<◌, not, ◌&&◌, ◌||◌, ◌==◌, length, IsTrue, IfOk};
+ghost use Rattle.std.specs.Prelude.{◌≡◌, ◌↔◌, not, ◌&&◌, ◌||◌, ◌==◌, filter, [], IsTrue, IfOk};
 ghost use Rattle.std.specs.List.{list_all};
 ghost use Rattle.fw_frontier.specs.Front.{frontier_of, IsCanonical};
-ghost use Rattle.fw_frontier.specs.Frontier.{Within};
+ghost use Rattle.fw_frontier.specs.Frontier.{Within, cover};
 ghost use Rattle.fw_flow.specs.declared.choice.Cut.TheVariants as cut;
 ghost use Rattle.fw_flow.specs.Dataflow.{bounds_of, sender, receiver};
 ghost use Rattle.fw_flow.specs.Projection.{all_inside};
 ghost use Rattle.fw_monitor.specs.Offers as spec;
 ghost use Rattle.fw_monitor.specs.Offers.{AreOffersOf, delivered_cover, discarded_cover, notified_cover};
-ghost use Rattle.fw_monitor.specs.Descent.{bare, owner, reach, left_of, IsThere, IsCanonicalCut};
+ghost use Rattle.fw_monitor.specs.Descent.{bare, owner, reach, left_of, IsCanonicalCut};
 
 use crate::offers::{
-    can_resend, delivered_to, edge_passes, notified_of, record_at, records_of, restoring, sent_by,
+    can_resend, delivered_to, notified_of, record_passes, records_of, restoring, sent_by,
     takes_its_notes,
 };
 use crate::side::{Restoring, Side};
@@ -41,7 +41,6 @@ pub(crate) fn passes(
     bound: &Front,
 ) -> Result<bool, AllocError>
     requires offers { AreOffersOf flow.now offers.now }
-    requires there { IsThere flow.now side }
     requires cut { IsCanonicalCut (bounds_of flow.now (owner flow.now side)) cut.now }
     requires bound { IsCanonical (reach flow.now side) bound.now }
     ensures { IfOk result (λ b. IsTrue b
@@ -55,25 +54,37 @@ pub(crate) fn passes(
 
 /// Whether the side of a state as it is lies within the bound.
 fn present_passes(alloc: Global, flow: &Flow, offers: &[Offer], side: Side, bound: &Front) -> bool
-    requires offers { AreOffersOf flow.now offers.now }
-    requires there { IsThere flow.now side }
+    requires { AreOffersOf flow.now offers.now }
     ensures { IsTrue result
         ↔ Within (left_of flow.now offers.now side cut.Present) (frontier_of (reach flow.now side) bound.now) }
 {
     let all = Front::all(alloc);
     match side {
-        Side::Delivered(edge) => {
-            let node = flow.dst(edge);
-            delivered_pass(&flow.domain(node), delivered_to(offers, node), edge, &all, bound)
-        }
-        Side::Discarded(edge) => {
-            let node = flow.src(edge);
-            can_resend(flow.policy(node)) || sent_on_edge_passes(flow, offers, edge, &all, bound)
-        }
-        Side::Notified(node) => {
-            inside_pass(&flow.domain(node), notified_of(offers, node), &all, bound)
-        }
+        Side::Delivered(edge) => delivered_on_edge_passes(flow, offers, edge, &all, bound),
+        Side::Discarded(edge) => all_sent_passes(flow, offers, edge, &all, bound),
+        Side::Notified(node) => notices_pass(flow, offers, node, &all, bound),
     }
+}
+
+/// Whether what the sender of the edge sent in all, if it cannot send it again, lies within the bound.
+fn all_sent_passes(
+    flow: &Flow,
+    offers: &[Offer],
+    edge: EdgeId,
+    all: &Front,
+    bound: &Front,
+) -> bool
+    requires offers { AreOffersOf flow.now offers.now }
+    requires all { all.now ≡ [] }
+    ensures { IsTrue result
+        ↔ Within (discarded_cover (bare flow.now) offers.now (sender flow.now edge) edge cut.Present)
+        (frontier_of (bounds_of flow.now (receiver flow.now edge)) bound.now) }
+{
+    let node = flow.src(edge);
+    if can_resend(flow.policy(node)) {
+        return true;
+    }
+    sent_on_edge_passes(flow, offers, edge, all, bound)
 }
 
 /// Whether the side of a cut at the frontier lies within the bound. The error is want of memory.
@@ -86,7 +97,6 @@ pub(crate) fn front_passes(
     bound: &Front,
 ) -> Result<bool, AllocError>
     requires offers { AreOffersOf flow.now offers.now }
-    requires there { IsThere flow.now side }
     requires front { IsCanonical (bounds_of flow.now (owner flow.now side)) front.now }
     requires bound { IsCanonical (reach flow.now side) bound.now }
     ensures { IfOk result (λ b. IsTrue b
@@ -114,14 +124,13 @@ fn delivered_passes(
 {
     let node = flow.dst(edge);
     match restoring(flow, node) {
-        Restoring::Bound | Restoring::Anything => front.subset(bound),
-        Restoring::Checkpoints => match record_at(records_of(offers, node), front) {
-            Some(record) => edge_passes(&record.delivered, edge, bound),
-            None => true,
-        },
-        Restoring::Batches | Restoring::Events => {
-            delivered_pass(&flow.domain(node), delivered_to(offers, node), edge, front, bound)
+        Restoring::Bound => front.subset(bound),
+        Restoring::Anything => front.subset(bound),
+        Restoring::Checkpoints => {
+            record_passes(records_of(offers, node), Side::Delivered(edge), front, bound)
         }
+        Restoring::Batches => delivered_on_edge_passes(flow, offers, edge, front, bound),
+        Restoring::Events => delivered_on_edge_passes(flow, offers, edge, front, bound),
     }
 }
 
@@ -136,7 +145,6 @@ fn discarded_passes(
     bound: &Front,
 ) -> Result<bool, AllocError>
     requires offers { AreOffersOf flow.now offers.now }
-    requires there { edge < length flow.now.edges }
     requires front { IsCanonical (bounds_of flow.now (sender flow.now edge)) front.now }
     requires bound { IsCanonical (bounds_of flow.now (receiver flow.now edge)) bound.now }
     ensures { IfOk result (λ b. IsTrue b
@@ -152,13 +160,13 @@ fn discarded_passes(
             let sent = flow.psi(alloc, edge, front)?;
             Ok(sent.subset(bound))
         }
-        Restoring::Checkpoints => match record_at(records_of(offers, node), front) {
-            Some(record) => Ok(edge_passes(&record.discarded, edge, bound)),
-            None => Ok(true),
-        },
-        Restoring::Batches | Restoring::Bound | Restoring::Events => {
-            Ok(sent_on_edge_passes(flow, offers, edge, front, bound))
+        Restoring::Checkpoints => {
+            let records = records_of(offers, node);
+            Ok(record_passes(records, Side::Discarded(edge), front, bound))
         }
+        Restoring::Batches => Ok(sent_on_edge_passes(flow, offers, edge, front, bound)),
+        Restoring::Bound => Ok(sent_on_edge_passes(flow, offers, edge, front, bound)),
+        Restoring::Events => Ok(sent_on_edge_passes(flow, offers, edge, front, bound)),
     }
 }
 
@@ -178,13 +186,13 @@ fn notified_passes(
         return front.subset(bound);
     }
     match restoring(flow, node) {
-        Restoring::Checkpoints => match record_at(records_of(offers, node), front) {
-            Some(record) => record.notified.subset(bound),
-            None => true,
-        },
-        Restoring::Batches | Restoring::Bound | Restoring::Anything | Restoring::Events => {
-            inside_pass(&flow.domain(node), notified_of(offers, node), front, bound)
+        Restoring::Checkpoints => {
+            record_passes(records_of(offers, node), Side::Notified(node), front, bound)
         }
+        Restoring::Batches => notices_pass(flow, offers, node, front, bound),
+        Restoring::Bound => notices_pass(flow, offers, node, front, bound),
+        Restoring::Anything => notices_pass(flow, offers, node, front, bound),
+        Restoring::Events => notices_pass(flow, offers, node, front, bound),
     }
 }
 
@@ -203,6 +211,40 @@ fn inside_pass(bounds: &Bounds, stamps: &[Stamp], front: &Front, bound: &Front) 
     stamps
         .iter()
         .all(|t| !is_inside(bounds, front, t) || is_inside(bounds, bound, t))
+}
+
+/// Whether that of which the node was notified inside the frontier is inside the bound.
+fn notices_pass(
+    flow: &Flow,
+    offers: &[Offer],
+    node: NodeId,
+    front: &Front,
+    bound: &Front,
+) -> bool
+    ensures { IsTrue result
+        ↔ Within (cover (bounds_of flow.now node)
+        (filter (frontier_of (bounds_of flow.now node) front.now) (spec.notified_of offers.now node)))
+        (frontier_of (bounds_of flow.now node) bound.now) }
+{
+    inside_pass(&flow.domain(node), notified_of(offers, node), front, bound)
+}
+
+/// Whether what was delivered on the edge inside the frontier is inside the bound.
+fn delivered_on_edge_passes(
+    flow: &Flow,
+    offers: &[Offer],
+    edge: EdgeId,
+    front: &Front,
+    bound: &Front,
+) -> bool
+    ensures { IsTrue result
+        ↔ Within (cover (bounds_of flow.now (receiver flow.now edge))
+        (spec.stamps_inside edge (frontier_of (bounds_of flow.now (receiver flow.now edge)) front.now)
+        (spec.delivered_to offers.now (receiver flow.now edge))))
+        (frontier_of (bounds_of flow.now (receiver flow.now edge)) bound.now) }
+{
+    let node = flow.dst(edge);
+    delivered_pass(&flow.domain(node), delivered_to(offers, node), edge, front, bound)
 }
 
 /// Whether each of the edge's messages that is inside the frontier is inside the bound.
@@ -229,8 +271,7 @@ fn sent_on_edge_passes(
     front: &Front,
     bound: &Front,
 ) -> bool
-    requires offers { AreOffersOf flow.now offers.now }
-    requires there { edge < length flow.now.edges }
+    requires { AreOffersOf flow.now offers.now }
     ensures { IsTrue result
         ↔ Within (spec.sent_cover flow.now offers.now (sender flow.now edge) edge
         (frontier_of (bounds_of flow.now (sender flow.now edge)) front.now))
@@ -238,7 +279,14 @@ fn sent_on_edge_passes(
 {
     let node = flow.src(edge);
     let to = flow.domain(flow.dst(edge));
-    sent_pass(&flow.domain(node), &to, sent_by(offers, node), edge, front, bound)
+    sent_pass(
+        &flow.domain(node),
+        &to,
+        sent_by(offers, node),
+        edge,
+        front,
+        bound,
+    )
 }
 
 /// Whether each of the edge's messages all of whose causes are inside the frontier is inside the bound.

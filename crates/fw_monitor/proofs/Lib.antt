@@ -3,8 +3,10 @@ pub mod CoverLaws
 pub mod CutDownLaws
 pub mod DescentLaws
 pub mod EventLaws
+pub mod FitLaws
 pub mod FrontLaws
 pub mod HeldLaws
+pub mod LastLaws
 pub mod LowerLaws
 pub mod OfferLaws
 pub mod PassLaws

@@ -1,8 +1,10 @@
 //! The monitor: to what the nodes of a dataflow are restored after a failure.
 #![tactic(auto)]
 
+mod descent;
 mod lower;
 mod offers;
 mod passes;
 mod side;
 
+pub use descent::largest;

@@ -28,25 +28,48 @@ pub(crate) fn lowered(
     alloc: Global,
     flow: &Flow,
     offers: &[Offer],
-    side: Side,
+    side: &Side,
     cut: &Cut,
     bound: &Front,
 ) -> Result<Option<Cut>, AllocError>
     requires offers { AreOffersOf flow.now offers.now }
-    requires there { IsThere flow.now side }
-    requires cut { IsCanonicalCut (bounds_of flow.now (owner flow.now side)) cut.now }
-    requires bound { IsCanonical (reach flow.now side) bound.now }
-    ensures { IfOk result (IsLowered flow.now offers.now side cut.now bound.now) }
+    requires there { IsThere flow.now side.now }
+    requires cut { IsCanonicalCut (bounds_of flow.now (owner flow.now side.now)) cut.now }
+    requires bound { IsCanonical (reach flow.now side.now) bound.now }
+    ensures { IfOk result (IsLowered flow.now offers.now side.now cut.now bound.now) }
 {
-    if passes(alloc, flow, offers, side, cut, bound)? {
+    if passes(alloc, flow, offers, *side, cut, bound)? {
         return Ok(None);
     }
-    let Some(greatest) = greatest(offers, owner(flow, side)) else {
-        return last_passing(alloc, flow, offers, side, cut, bound);
-    };
-    let base = front_or(cut, greatest);
-    let front = cut_down(alloc, flow, offers, side, base, bound)?;
-    Ok(Some(Cut::At(front)))
+    lowered_failing(alloc, flow, offers, side, cut, bound)
+}
+
+/// The same where the side does not lie within the bound.
+fn lowered_failing(
+    alloc: Global,
+    flow: &Flow,
+    offers: &[Offer],
+    side: &Side,
+    cut: &Cut,
+    bound: &Front,
+) -> Result<Option<Cut>, AllocError>
+    requires offers { AreOffersOf flow.now offers.now }
+    requires there { IsThere flow.now side.now }
+    requires cut { IsCanonicalCut (bounds_of flow.now (owner flow.now side.now)) cut.now }
+    requires bound { IsCanonical (reach flow.now side.now) bound.now }
+    requires fails { Within (left_of flow.now offers.now side.now cut.now) (frontier_of (reach flow.now side.now) bound.now) → ⊥ }
+    ensures { IfOk result (IsLowered flow.now offers.now side.now cut.now bound.now) }
+{
+    let _ = flow.nodes();
+    let node = owner(flow, *side);
+    match greatest(offers, node) {
+        Some(greatest) => {
+            let base = front_or(cut, greatest);
+            let front = cut_down(alloc, flow, offers, *side, base, bound)?;
+            Ok(Some(Cut::At(front)))
+        }
+        None => last_passing(alloc, flow, offers, *side, cut, bound),
+    }
 }
 
 /// The frontier of the cut, and this one for a state as it is.

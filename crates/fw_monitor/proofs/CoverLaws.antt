@@ -78,6 +78,6 @@ cover-below b [] g d w = tt
 cover-below b (s ∷ ss) g d w = (
   w s (and_from (in_domain b s) (leq s s || some_above ss s) d.0 (or_left (leq s s) (some_above ss s) (leq-refl s))),
   cover-below b ss g d.1 (λ t k.
-  let a = and_parts (in_domain b t) (some_above ss t) k in
-  w t (and_from (in_domain b t) (leq t s || some_above ss t) a.0 (or_right (leq t s) (some_above ss t) a.1))),
+      let a = and_parts (in_domain b t) (some_above ss t) k in
+      w t (and_from (in_domain b t) (leq t s || some_above ss t) a.0 (or_right (leq t s) (some_above ss t) a.1))),
 )

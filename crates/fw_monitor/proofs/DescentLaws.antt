@@ -26,7 +26,7 @@ use Rattle.fw_monitor.proofs.ArrivedLaws.{arrived-monotone}
 
 -- ---- what lies within
 
-set-monotone : (sys : System) (p : ℕ) (c d : Cut) → IsCutWithin sys p c d → Within (set_of sys p c) (set_of sys p d)
+pub set-monotone : (sys : System) (p : ℕ) (c d : Cut) → IsCutWithin sys p c d → Within (set_of sys p c) (set_of sys p d)
 set-monotone sys p Present Present w t k = k
 set-monotone sys p (At f) Present w t k = within_everything (bounds_of sys.flow p) f t k
 set-monotone sys p Present (At g) w t k = absurd w
@@ -127,12 +127,12 @@ lower_step flow offers side choice bound new well there r same lower =
     let one = r.one_cut_each in
     record {
       reached = reached_cut flow offers choice p new r l lower.canonical (λ a other k.
-      let inner = r.within a other k in
-      lower.largest a (r.offered a other k p l) (cut_of other p) (record {
-        offered = k.offered p l;
-        within = inner.cuts p l;
-        passes = λ t i. same t (right-monotone flow offers side other choice well there inner t (side-holds flow offers side other there k t i));
-      }));
+          let inner = r.within a other k in
+          lower.largest a (r.offered a other k p l) (cut_of other p) (record {
+            offered = k.offered p l;
+            within = inner.cuts p l;
+            passes = λ t i. same t (right-monotone flow offers side other choice well there inner t (side-holds flow offers side other there k t i));
+          }));
       fewer = λ e. weight_cut flow choice p new l (omega arith) (cut_weight-less flow p new (cut_of choice p) lower.canonical (r.cuts p l) lower.within lower.other);
       same = λ e. absurd (cc);
     }
@@ -220,11 +220,11 @@ note_step flow offers choice p bound f l r names fails keeps =
     let one = r.one_note_each in
     record {
       reached = reached_note flow offers choice p f r l names.canonical (λ a other k.
-      let inner = r.within a other k in
-      meet-largest b f (frontier_of b (front_of choice.notes p)) (frontier_of b bound) (note_of (bare flow) other p) names (inner.notes p l) (keeps other k inner));
+          let inner = r.within a other k in
+          meet-largest b f (frontier_of b (front_of choice.notes p)) (frontier_of b bound) (note_of (bare flow) other p) names (inner.notes p l) (keeps other k inner));
       fewer = λ e. weight_note flow choice p f l (omega arith) (held-less b f (front_of choice.notes p) names.canonical (r.notes p l)
-      (meet-left b f (frontier_of b (front_of choice.notes p)) (frontier_of b bound) names)
-      (λ e. fails (subst (λ g. Within (frontier_of b g) (frontier_of b bound)) e (meet-right b f (frontier_of b (front_of choice.notes p)) (frontier_of b bound) names))));
+          (meet-left b f (frontier_of b (front_of choice.notes p)) (frontier_of b bound) names)
+          (λ e. fails (subst (λ g. Within (frontier_of b g) (frontier_of b bound)) e (meet-right b f (frontier_of b (front_of choice.notes p)) (frontier_of b bound) names))));
       same = λ e. absurd (cc);
     }
 

@@ -73,6 +73,7 @@ kept_outside b front bound ss s f g k o d n =
   where
     two : (c : Bool) → c ≡ true → c ≡ false → ⊥
     two c p q = cc
+
     gone : (c : Bool) → c ≡ true → not c ≡ true → ⊥
     gone true p q = cc
     gone false p q = cc

@@ -1,4 +1,5 @@
 pub mod ArrivedLaws
+pub mod CountLaws
 pub mod CoverLaws
 pub mod CutDownLaws
 pub mod DescentLaws
@@ -11,4 +12,6 @@ pub mod LowerLaws
 pub mod OfferLaws
 pub mod PassLaws
 pub mod RecordLaws
+pub mod StartLaws
+pub mod StepLaws
 pub mod WayLaws

@@ -119,14 +119,14 @@ range-unlisted (o ∷ offers) zero ends e = at o.offered e
     at (Between least greatest) k = refl
 range-unlisted (o ∷ offers) (suc p) ends e = range-unlisted offers p ends e
 
-between-offered : (flow : Dataflow) (offers : List Offer) (p : ℕ) (least greatest g : Front) → range_of offers p ≡ Some (least, greatest) → IsOffered flow offers p (At g)
+pub between-offered : (flow : Dataflow) (offers : List Offer) (p : ℕ) (least greatest g : Front) → range_of offers p ≡ Some (least, greatest) → IsOffered flow offers p (At g)
     → IsBetween (bounds_of flow p) (Some (least, greatest)) g
 between-offered flow offers p least greatest g e offered = elim (offered.1) [
   | inl i ↦ absurd (subst (IsListed g) (range-unlisted offers p (least, greatest) e) i)
   | inr j ↦ subst (λ o. IsBetween (bounds_of flow p) o g) e j
 ]
 
-offered-between : (flow : Dataflow) (offers : List Offer) (p : ℕ) (least greatest g : Front) → range_of offers p ≡ Some (least, greatest) → IsCanonical (bounds_of flow p) g
+pub offered-between : (flow : Dataflow) (offers : List Offer) (p : ℕ) (least greatest g : Front) → range_of offers p ≡ Some (least, greatest) → IsCanonical (bounds_of flow p) g
     → IsBetween (bounds_of flow p) (Some (least, greatest)) g → IsOffered flow offers p (At g)
 offered-between flow offers p least greatest g e c j = (c, inr (subst (λ o. IsBetween (bounds_of flow p) o g) (sym e) j))
 
@@ -148,8 +148,7 @@ lower_range flow offers side front bound f least greatest is down fails = record
     at (At g) old offered within passes =
         let inner = down.largest g within passes in
         let low = between-offered flow offers (owner flow side) least greatest g is offered in
-        let high = between-offered flow offers (owner flow side) least greatest front is old in
-        (
+        let high = between-offered flow offers (owner flow side) least greatest front is old in (
           offered-between flow offers (owner flow side) least greatest f is down.canonical (λ t k. inner t (low.0 t k), λ t k. high.1 t (down.within t k)),
           inner,
         )
@@ -170,8 +169,7 @@ lower_present flow offers side bound f least greatest is down fails = record {
     at Present offered passes = absurd (fails passes)
     at (At g) offered passes =
         let low = between-offered flow offers (owner flow side) least greatest g is offered in
-        let inner = down.largest g low.1 passes in
-        (
+        let inner = down.largest g low.1 passes in (
           offered-between flow offers (owner flow side) least greatest f is down.canonical (λ t k. inner t (low.0 t k), λ t k. down.within t k),
           inner,
         )

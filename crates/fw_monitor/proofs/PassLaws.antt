@@ -57,8 +57,10 @@ delivered_pass-stamps b d f g (m ∷ ms) = at (m.edge == d) refl (delivered_pass
   where
     test : Stamp → Bool
     test s = not (frontier_of b f s) || frontier_of b g s
+
     rest : List Stamp
     rest = map (λ (n : Counted). n.at) (filter (λ (n : Counted). n.edge == d) ms)
+
     at : (e : Bool) → m.edge == d ≡ e → delivered_pass b d f g ms ≡ inside_pass b f g rest
         → ((not e || not (frontier_of b f m.at) || frontier_of b g m.at) && delivered_pass b d f g ms)
         ≡ inside_pass b f g (map (λ n. n.at) (cond e (m ∷ filter (λ n. n.edge == d) ms) (filter (λ n. n.edge == d) ms)))
@@ -80,8 +82,7 @@ pub sent_pass-is : (flow : Dataflow) (from : Bounds) (e : ℕ) (f g : Front) (ms
     ↔ Within (cover (bounds_of flow (receiver flow e)) (stamps_from e (frontier_of from f) ms)) (frontier_of (bounds_of flow (receiver flow e)) g)
 sent_pass-is flow from e f g ms d =
     let to = bounds_of flow (receiver flow e) in
-    let test : Counted → Bool = λ m. m.edge == e && all_inside (frontier_of from f) m.causes in
-    (
+    let test : Counted → Bool = λ m. m.edge == e && all_inside (frontier_of from f) m.causes in (
       λ k. cover-within to (map (λ m. m.at) (filter test ms)) (frontier_of to g) (frontier-closed to g)
           (each-map (λ s. frontier_of to g s ≡ true) (λ (m : Counted). m.at) (filter test ms)
           (each-filter (λ m. frontier_of to g m.at ≡ true) test ms

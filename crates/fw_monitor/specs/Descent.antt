@@ -1,8 +1,8 @@
 -- The descent to the largest choice: what it lowers, and what it keeps.
-use Rattle.std.specs.Prelude.{◌≡◌, ◌≢◌, ℕ, ◌+◌, ◌<◌, Bool, true, false, ◌==◌, if◌then◌else◌, List, [], ◌∷◌, length, Option, Some, None}
+use Rattle.std.specs.Prelude.{◌≡◌, ◌≢◌, ℕ, ◌+◌, ◌<◌, Bool, true, false, ◌==◌, if◌then◌else◌, List, [], ◌∷◌, length, set, Option, Some, None}
 use Rattle.fw_time.specs.declared.stamp.Bounds.{Bounds}
-use Rattle.fw_frontier.specs.Frontier.{Frontier, Within, nothing, everything}
-use Rattle.fw_frontier.specs.Front.{Front, frontier_of, IsCanonical}
+use Rattle.fw_frontier.specs.Frontier.{Frontier, Within, nothing, everything, meet}
+use Rattle.fw_frontier.specs.Front.{Front, frontier_of, IsCanonical, Names}
 use Rattle.fw_flow.specs.declared.choice.Choice.{Choice}
 use Rattle.fw_flow.specs.declared.choice.Cut.{Cut}
 use Rattle.fw_flow.specs.declared.choice.Cut.TheVariants.{Present, At}
@@ -183,3 +183,32 @@ pub record IsStep (flow : Dataflow) (offers : List Offer) (old new : Choice) (lo
   pub reached : IsReached flow offers new
   pub fewer : lowered ≡ true → weight flow new < weight flow old
   pub same : lowered ≡ false → new ≡ old
+
+-- A notification frontier lies within a bound, and all stays; or else it is cut to what is inside the bound.
+abbrev pub IsNoteLowered : List Front → List Front → ℕ → Front → Bool → Type 0
+IsNoteLowered old new p bound false = (new ≡ old) × ((b : Bounds) → IsCanonical b bound → Within (frontier_of b (front_of old p)) (frontier_of b bound))
+IsNoteLowered old new p bound true =
+    (f : Front) × (new ≡ set old p f)
+    × ((b : Bounds) → IsCanonical b (front_of old p) → IsCanonical b bound
+    → Names b f (meet (frontier_of b (front_of old p)) (frontier_of b bound)) × (Within (frontier_of b (front_of old p)) (frontier_of b bound) → ⊥))
+
+-- a pass over all that has to hold: where nothing was lowered all holds, if there is a consistent choice
+pub record IsPass (flow : Dataflow) (offers : List Offer) (old new : Choice) (lowered : Bool) : Type 0 where
+  pub step : IsStep flow offers old new lowered
+  pub edges : lowered ≡ false → HasConsistent flow offers → (e : ℕ) → e < length flow.edges → HoldsAtEdge flow offers new e
+  pub nodes : lowered ≡ false → HasConsistent flow offers → (p : ℕ) → p < length flow.nodes → HoldsAtNode flow offers new p
+
+-- a choice that was reached, at which all holds if the last pass lowered nothing and there is a consistent choice
+pub record IsDescent (flow : Dataflow) (offers : List Offer) (choice : Choice) (lowered : Bool) : Type 0 where
+  pub reached : IsReached flow offers choice
+  pub edges : lowered ≡ false → HasConsistent flow offers → (e : ℕ) → e < length flow.edges → HoldsAtEdge flow offers choice e
+  pub nodes : lowered ≡ false → HasConsistent flow offers → (p : ℕ) → p < length flow.nodes → HoldsAtNode flow offers choice p
+
+-- how much is left of the descent: twice the weight, and one more where another pass is needed
+unfoldable pub left_over : Dataflow → Choice → Bool → ℕ
+left_over flow choice lowered = weight flow choice + weight flow choice + (if lowered then 1 else 0)
+
+-- a node's greatest cut: each that it offers lies within it, and it is offered if some cut is
+pub record IsGreatest (flow : Dataflow) (offers : List Offer) (p : ℕ) (cut : Cut) : Type 0 where
+  pub canonical : IsCanonicalCut (bounds_of flow p) cut
+  pub largest : AreAscending flow offers → (x : Cut) → IsOffered flow offers p x → IsOffered flow offers p cut × IsCutWithin (bare flow) p x cut

@@ -194,7 +194,13 @@ fn delivered_cut_down(
         Restoring::Checkpoints => front.copy(),
         Restoring::Batches => front.copy(),
         Restoring::Events => {
-            delivered_kept(&flow.domain(node), delivered_to(offers, node), edge, front, bound)
+            delivered_kept(
+                &flow.domain(node),
+                delivered_to(offers, node),
+                edge,
+                front,
+                bound,
+            )
         }
     }
 }
@@ -312,12 +318,7 @@ fn without_on(
 
 /// What is left of the frontier without the stamp, unless that is inside the bound or not one of the domain. The error is
 /// want of memory.
-fn without(
-    bounds: &Bounds,
-    left: Front,
-    t: &Stamp,
-    bound: &Front,
-) -> Result<Front, AllocError>
+fn without(bounds: &Bounds, left: Front, t: &Stamp, bound: &Front) -> Result<Front, AllocError>
     requires { IsCanonical bounds.now left }
     ensures { IfOk result (IsWithout bounds.now left t.now bound.now) }
 {

@@ -215,12 +215,7 @@ fn recorded(record: &Recorded, side: Side) -> Option<&Front>
 }
 
 /// Whether what the record of the frontier holds of the side lies within the bound.
-pub(crate) fn record_passes(
-    records: &[Recorded],
-    side: Side,
-    front: &Front,
-    bound: &Front,
-) -> bool
+pub(crate) fn record_passes(records: &[Recorded], side: Side, front: &Front, bound: &Front) -> bool
     ensures { (bounds : Domain) → IsCanonical bounds bound.now
         → (IsTrue result ↔ Within (recorded_left bounds side (spec.record_at front.now records.now)) (frontier_of bounds bound.now)) }
 {

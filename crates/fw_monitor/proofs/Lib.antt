@@ -9,7 +9,7 @@ pub mod FrontLaws
 pub mod HeldLaws
 pub mod LastLaws
 pub mod LowerLaws
-pub mod OfferLaws
+pub mod LookUpLaws
 pub mod PassLaws
 pub mod RecordLaws
 pub mod StartLaws

@@ -17,7 +17,7 @@ use Rattle.fw_monitor.specs.declared.side.Side.{Side}
 use Rattle.fw_monitor.specs.declared.side.Side.TheVariants.{Delivered, Discarded, Notified}
 use Rattle.fw_monitor.specs.Offers.{records_of, delivered_to, notified_of, sent_by, stamps_inside, record_at, delivered_at, delivered_cover, notified_cover, sent_cover, discarded_at, discarded_cover, is_by_records, recorded_notified, AreOnEdges, AreOffersOf}
 use Rattle.fw_monitor.specs.Descent.{bare, left_of, reach, recorded_left}
-use Rattle.fw_monitor.proofs.OfferLaws.{offer_past}
+use Rattle.fw_monitor.proofs.LookUpLaws.{offer_past}
 use Rattle.fw_monitor.proofs.FrontLaws.{all_is_everything}
 
 -- what each node sent is at stamps of its edges

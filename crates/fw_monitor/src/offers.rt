@@ -85,7 +85,7 @@ pub(crate) fn takes_its_notes(kind: Kind, policy: Policy) -> bool
 }
 
 /// Whether a node can stay as it is.
-#[tactic(auto, using(crate::proofs::OfferLaws::offer_there, crate::proofs::OfferLaws::offer_past))]
+#[tactic(auto, using(crate::proofs::LookUpLaws::offer_there, crate::proofs::LookUpLaws::offer_past))]
 pub(crate) fn can_stay(offers: &[Offer], node: NodeId) -> bool
     ensures { result ≡ spec.can_stay offers.now node }
 {
@@ -96,7 +96,7 @@ pub(crate) fn can_stay(offers: &[Offer], node: NodeId) -> bool
 }
 
 /// The records of a node, if it lists them.
-#[tactic(auto, using(crate::proofs::OfferLaws::offer_there, crate::proofs::OfferLaws::offer_past))]
+#[tactic(auto, using(crate::proofs::LookUpLaws::offer_there, crate::proofs::LookUpLaws::offer_past))]
 pub(crate) fn records_of(offers: &[Offer], node: NodeId) -> &[Recorded]
     ensures { result.now ≡ spec.records_of offers.now node }
 {
@@ -117,7 +117,7 @@ fn listed(offered: &Offered) -> &[Recorded]
 }
 
 /// The greatest frontier of a node, if it offers all from a least one to it.
-#[tactic(auto, using(crate::proofs::OfferLaws::offer_there, crate::proofs::OfferLaws::offer_past))]
+#[tactic(auto, using(crate::proofs::LookUpLaws::offer_there, crate::proofs::LookUpLaws::offer_past))]
 pub(crate) fn greatest(offers: &[Offer], node: NodeId) -> Option<&Front>
     ensures { MatchOption result (spec.range_of offers.now node ≡ None)
         (λ f. (least : Outside) × (spec.range_of offers.now node ≡ Some (least, f.now))) }
@@ -140,7 +140,7 @@ fn greatest_of(offered: &Offered) -> Option<&Front>
 }
 
 /// What was delivered to a node.
-#[tactic(auto, using(crate::proofs::OfferLaws::offer_there, crate::proofs::OfferLaws::offer_past))]
+#[tactic(auto, using(crate::proofs::LookUpLaws::offer_there, crate::proofs::LookUpLaws::offer_past))]
 pub(crate) fn delivered_to(offers: &[Offer], node: NodeId) -> &[Counted]
     ensures { result.now ≡ spec.delivered_to offers.now node }
 {
@@ -151,7 +151,7 @@ pub(crate) fn delivered_to(offers: &[Offer], node: NodeId) -> &[Counted]
 }
 
 /// Of what a node was notified.
-#[tactic(auto, using(crate::proofs::OfferLaws::offer_there, crate::proofs::OfferLaws::offer_past))]
+#[tactic(auto, using(crate::proofs::LookUpLaws::offer_there, crate::proofs::LookUpLaws::offer_past))]
 pub(crate) fn notified_of(offers: &[Offer], node: NodeId) -> &[Stamp]
     ensures { result.now ≡ spec.notified_of offers.now node }
 {
@@ -162,7 +162,7 @@ pub(crate) fn notified_of(offers: &[Offer], node: NodeId) -> &[Stamp]
 }
 
 /// What a node sent.
-#[tactic(auto, using(crate::proofs::OfferLaws::offer_there, crate::proofs::OfferLaws::offer_past))]
+#[tactic(auto, using(crate::proofs::LookUpLaws::offer_there, crate::proofs::LookUpLaws::offer_past))]
 pub(crate) fn sent_by(offers: &[Offer], node: NodeId) -> &[Counted]
     ensures { result.now ≡ spec.sent_by offers.now node }
 {

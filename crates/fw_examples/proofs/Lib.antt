@@ -23,3 +23,14 @@ pub mod WellFormed
 pub mod LoggedEvents
 pub mod OneCollection
 pub mod OneUndone
+pub mod TotalDone
+pub mod TotalRun
+pub mod TotalChoices
+pub mod TotalWitnesses
+pub mod ChoiceWitnesses
+pub mod DeliveryWitnesses
+pub mod LoopWitness
+pub mod NumbersRun
+pub mod FilteringWitnesses
+pub mod LawsApplied
+pub mod SendingApplied

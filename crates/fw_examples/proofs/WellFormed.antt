@@ -16,7 +16,7 @@ walk_up flow up p (e ∷ es) q (l, s, w) =
     omega arith
 
 -- so it does not come back
-no_closed_walk : (flow : Dataflow) → ((e : ℕ) → e < length flow.edges → sender flow e < receiver flow e)
+pub no_closed_walk : (flow : Dataflow) → ((e : ℕ) → e < length flow.edges → sender flow e < receiver flow e)
     → (p : ℕ) (es : List ℕ) → IsClosedWalk flow p es → ⊥
 no_closed_walk flow up p es is = let some = is.some in let far = walk_up flow up p es p is.walk in omega arith
 

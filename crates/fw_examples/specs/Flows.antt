@@ -59,13 +59,13 @@ loop_counts_up = record {
 
 -- the loop with a batch of one rec
 abbrev pub one_batch : System
-one_batch = record { flow = loop_counts_up; batches = ((pair 1 0 ∷ []) ∷ []) ∷ [] }
+one_batch = record { flow = loop_counts_up; batches = ((pair 1 0 ∷ []) ∷ []) ∷ [] ∷ [] ∷ [] ∷ [] ∷ [] ∷ [] ∷ [] }
 
 -- the loop with two batches, of one rec and of two
 abbrev pub two_batches : System
 two_batches = record {
   flow = loop_counts_up;
-  batches = ((pair 1 0 ∷ []) ∷ (pair 2 0 ∷ pair 3 0 ∷ []) ∷ []) ∷ [];
+  batches = ((pair 1 0 ∷ []) ∷ (pair 2 0 ∷ pair 3 0 ∷ []) ∷ []) ∷ [] ∷ [] ∷ [] ∷ [] ∷ [] ∷ [] ∷ [];
 }
 
 -- a sequence whose numbers are regrouped into epochs of three
@@ -83,4 +83,4 @@ regroup_by_three = record {
 
 -- the regrouping without batches
 abbrev pub no_batches : System
-no_batches = record { flow = regroup_by_three; batches = [] }
+no_batches = record { flow = regroup_by_three; batches = [] ∷ [] ∷ [] ∷ [] ∷ [] }

@@ -10,3 +10,12 @@ pub mod TwoSources
 pub mod Inclusions
 pub mod LoggedEvents
 pub mod OneCollection
+pub mod RunningTotal
+pub mod Numbers
+pub mod WitnessesOfRuns
+pub mod WitnessesOfChoices
+pub mod WitnessesOfDeliveries
+pub mod WitnessesOfFiltering
+pub mod LawsApplied
+pub mod SendingApplied
+pub mod KindsSend

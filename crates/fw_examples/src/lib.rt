@@ -3,6 +3,8 @@
 #![tactic(auto)]
 
 mod inclusions;
+mod kinds_send;
+mod laws_applied;
 mod logged_events;
 mod loop_counts_up;
 mod one_collection;
@@ -10,11 +12,24 @@ mod one_recovery;
 mod one_select_runs;
 mod projections;
 mod recovery;
+mod sending_applied;
 mod under_way;
+mod witnesses_of_choices;
+mod witnesses_of_deliveries;
+mod witnesses_of_filtering;
+mod witnesses_of_runs;
 
 pub use inclusions::{
     delivered_is_needed, discarded_is_needed, leaves_out_one, notes_are_needed, notified_is_needed,
     own_is_needed, two_sources_is_well_formed,
+};
+pub use kinds_send::{
+    distinct_sends_the_first, join_sends_each_pair, ledger_sends_running_totals,
+    regroup_sends_at_epochs, sequence_sends_numbers, sum_sends_at_the_end, total_sends_up_to_now,
+};
+pub use laws_applied::{
+    choices_apply, choosing_applies, deliveries_apply, filtering_applies, legal_histories_apply,
+    runs_apply, steps_apply,
 };
 pub use logged_events::{loses_an_epoch, restores_an_epoch};
 pub use one_collection::collects_the_first_epoch;
@@ -24,4 +39,17 @@ pub use one_recovery::{
 pub use one_select_runs::{
     acknowledges_what_is_settled, is_idle_too_early, is_idle_without_batches,
     is_idle_without_steps, one_select_is_well_formed, waits_for_the_rest,
+};
+pub use sending_applied::{denotation_applies, projections_apply, sending_applies};
+pub use witnesses_of_choices::{choices_unite, cuts_unite, join_is_a_frontier, less_is_consistent};
+pub use witnesses_of_deliveries::{
+    an_epoch_is_closed, notified_and_goes_on, one_is_on_its_way, two_epochs_are_complete,
+};
+pub use witnesses_of_filtering::{
+    loop_is_filtered, numbers_are_delivered, sequence_is_filtered, totals_are_filtered,
+};
+pub use witnesses_of_runs::{
+    each_step_has_its_choice, failure_is_reached, loop_is_reached, low_watermark_rises,
+    more_is_complete, recovery_is_reached, some_is_settled, something_is_chosen,
+    totals_are_well_formed, two_runs_meet,
 };

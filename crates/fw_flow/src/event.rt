@@ -31,12 +31,31 @@ impl Causes {
         Ok(Causes { stamps })
     }
 
+    /// The same causes once more. The error is want of memory.
+    pub fn copy(&self) -> Result<Self, AllocError>
+        ensures { IfOk result (λ causes. causes ≡ self.now) }
+    {
+        let stamps = copied(*self.stamps.allocator(), &self.stamps)?;
+        Ok(Causes { stamps })
+    }
+
     /// The stamps.
     pub fn stamps(&self) -> &[Stamp]
         ensures { result.now ≡ self.now }
     {
         &self.stamps
     }
+}
+
+/// The same stamps once more.
+fn copied(alloc: Global, stamps: &[Stamp]) -> Result<Vec<Stamp>, AllocError>
+    ensures { IfOk result (λ copy. copy.items ≡ stamps.now) }
+{
+    let mut copy = Vec::with_capacity(alloc, stamps.len())?;
+    for stamp in stamps {
+        copy.push(stamp.copy())?;
+    }
+    Ok(copy)
 }
 
 /// A message on an edge.

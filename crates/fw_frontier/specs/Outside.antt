@@ -1,5 +1,5 @@
 -- What the calls do to a list of outside stamps.
-use Rattle.std.specs.Prelude.{ℕ, zero, suc, Bool, true, not, ◌&&◌, if◌then◌else◌, nat_lt, slice_index, List, [], ◌∷◌, filter}
+use Rattle.std.specs.Prelude.{ℕ, zero, suc, Bool, true, not, ◌&&◌, ◌+◌, if◌then◌else◌, nat_lt, nat_le, slice_index, List, [], ◌∷◌, filter}
 use Rattle.std.specs.Ordering.{is_lt}
 use Rattle.fw_time.specs.Stamp.{Stamp, leq, lub, raised, stamp_cmp}
 use Rattle.fw_frontier.specs.Front.{Front, inside}
@@ -33,16 +33,21 @@ abbrev pub excluding_pairs : Front → Front → Front → Front
 excluding_pairs [] ps os = os
 excluding_pairs (s ∷ ss) ps os = excluding_pairs ss ps (excluding_lubs s ps os)
 
--- the first, in the order of stamps, of a first one found and the least upper bounds of a stamp with these
-abbrev pub first_lub_from : Stamp → Stamp → List Stamp → Stamp
-first_lub_from s first [] = first
-first_lub_from s first (p ∷ ps) = first_lub_from s (if is_lt (stamp_cmp (lub s p) first) then lub s p else first) ps
+-- at how many places the second stamp is greater
+abbrev pub rises : Stamp → Stamp → ℕ
+rises [] t = 0
+rises (x ∷ s) [] = 0
+rises (x ∷ s) (y ∷ t) = (if nat_lt x y then 1 else 0) + rises s t
 
--- for each stamp of the first list, the first of its least upper bounds with those of the second is outside too
-abbrev pub excluding_first_lubs : Front → Front → Front → Front
-excluding_first_lubs ss [] os = os
-excluding_first_lubs [] (p ∷ ps) os = os
-excluding_first_lubs (s ∷ ss) (p ∷ ps) os = excluding_first_lubs ss (p ∷ ps) (excluding (first_lub_from s (lub s p) ps) os)
+-- what is at least a stamp and one of the list that is greater at no more than one place is outside too
+abbrev pub excluding_near : Stamp → Front → Front → Front
+excluding_near s [] os = os
+excluding_near s (p ∷ ps) os = excluding_near s ps (if nat_le (rises s p) 1 then excluding (lub s p) os else os)
+
+-- the same for each stamp of the first list
+abbrev pub excluding_all_near : Front → Front → Front → Front
+excluding_all_near [] ps os = os
+excluding_all_near (s ∷ ss) ps os = excluding_all_near ss ps (excluding_all (excluding_near s ps []) os)
 
 -- outside is what has a greater coordinate than the stamp at one of the first places, below the domain's greatest
 abbrev pub below_at : Stamp → Stamp → ℕ → Front

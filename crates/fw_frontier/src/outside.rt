@@ -5,10 +5,13 @@ ghost use Rattle.fw_time.specs.declared.stamp.Bounds.{Bounds as Domain};
 ghost use Rattle.fw_time.specs.Stamp.{leq, lub, raised, in_domain};
 ghost use Rattle.fw_frontier.specs.Front.{inside, all_in_domain, frontier_of, Names};
 ghost use Rattle.fw_frontier.specs.Frontier.{join, cover};
-ghost use Rattle.fw_frontier.specs.Outside.{place, placed, excluding, excluding_all, excluding_lubs, excluding_pairs, first_lub_from, excluding_first_lubs, below_at, none_inside};
+ghost use Rattle.fw_frontier.specs.Outside.{place, placed, excluding, excluding_all, excluding_lubs, excluding_pairs, rises, excluding_near, excluding_all_near, below_at, none_inside};
 
 use fw_time::{Bounds, Stamp};
 use std::alloc::{AllocError, Global};
+
+// Of two stamps of up to so many coordinates, one is greater at no more than one place.
+const FEW: usize = 3;
 
 // Whether a stamp is inside: no outside stamp is at most it.
 pub fn has_inside(outside: &[Stamp], t: &Stamp) -> bool
@@ -134,51 +137,58 @@ fn joined_by_pairs(
     Ok(both)
 }
 
-// The first, in the order of stamps, of the least upper bounds of `s` with `p` and with the other stamps.
-fn first_lub(s: &Stamp, p: &Stamp, others: &[Stamp]) -> Stamp
-    ensures { result ≡ first_lub_from s.now (lub s.now p.now) others.now }
+// At how many places the second stamp is greater.
+fn count_of_rises(s: &Stamp, p: &Stamp) -> usize
+    ensures { result ≡ rises s.now p.now }
 {
-    let mut first = s.lub(p);
-    for other in others {
-        let lub = s.lub(other);
-        if lub.compare(&first).is_lt() {
-            first = lub;
+    let mut count = 0;
+    for i in 0..s.len().min(p.len()) {
+        if s.at(i) < p.at(i) {
+            count += 1;
         }
     }
-    first
+    count
 }
 
-// Makes outside, for each of the stamps, the first of its least upper bounds with the others.
-fn exclude_first_lubs(
+// Makes outside the least upper bounds of `s` with those of the stamps that are greater at no more than one place. Two of
+// them that are greater at the same place are comparable.
+fn exclude_near(outside: &mut Vec<Stamp>, s: &Stamp, stamps: &[Stamp]) -> Result<(), AllocError>
+    ensures { OnOk result (outside.new.items ≡ excluding_near s.now stamps.now outside.old.items) }
+{
+    for p in stamps {
+        if count_of_rises(s, p) <= 1 {
+            exclude(outside, s.lub(p))?;
+        }
+    }
+    Ok(())
+}
+
+// Does so for each of the stamps. Of the bounds of one stamp only the least go on: at most one for each place.
+fn exclude_all_near(
     outside: &mut Vec<Stamp>,
     stamps: &[Stamp],
     others: &[Stamp],
 ) -> Result<(), AllocError>
     ensures { OnOk result
-        (outside.new.items ≡ excluding_first_lubs stamps.now others.now outside.old.items) }
+        (outside.new.items ≡ excluding_all_near stamps.now others.now outside.old.items) }
 {
-    let [p, rest @ ..] = others else {
-        return Ok(());
-    };
     for s in stamps {
-        exclude(outside, first_lub(s, p, rest))?;
+        let mut near = Vec::new(*outside.allocator());
+        exclude_near(&mut near, s, others)?;
+        exclude_all(outside, &near)?;
     }
     Ok(())
 }
 
-// What is inside one of two frontiers of at most two coordinates. A least stamp outside of both has its first coordinate
-// from an outside stamp of one of them, and is the first of that stamp's least upper bounds with those of the other.
-fn joined_by_firsts(
-    alloc: Global,
-    mine: &[Stamp],
-    others: &[Stamp],
-) -> Result<Vec<Stamp>, AllocError>
+// What is inside one of two frontiers of at most three coordinates. Of two stamps one is then greater at no more than one
+// place, so that each pair is looked at from one side at least.
+fn joined_by_near(alloc: Global, mine: &[Stamp], others: &[Stamp]) -> Result<Vec<Stamp>, AllocError>
     ensures { IfOk result (λ both. both.items
-        ≡ excluding_first_lubs others.now mine.now (excluding_first_lubs mine.now others.now [])) }
+        ≡ excluding_all_near others.now mine.now (excluding_all_near mine.now others.now [])) }
 {
     let mut both = Vec::new(alloc);
-    exclude_first_lubs(&mut both, mine, others)?;
-    exclude_first_lubs(&mut both, others, mine)?;
+    exclude_all_near(&mut both, mine, others)?;
+    exclude_all_near(&mut both, others, mine)?;
     Ok(both)
 }
 
@@ -192,8 +202,8 @@ pub fn joined(alloc: Global, mine: &[Stamp], others: &[Stamp]) -> Result<Vec<Sta
     let [first, ..] = mine else {
         return Ok(Vec::new(alloc));
     };
-    if first.len() <= 2 {
-        return joined_by_firsts(alloc, mine, others);
+    if first.len() <= FEW {
+        return joined_by_near(alloc, mine, others);
     }
     joined_by_pairs(alloc, mine, others)
 }

@@ -38,7 +38,7 @@ use Rattle.fw_model.proofs.SequenceLaws.{bounds-sequence}
 -- ---- the largest choice
 
 -- fronts that lie within each other are one list
-same_fronts : (b : Bounds) (f g : Front) → IsCanonical b f → IsCanonical b g → Within (frontier_of b f) (frontier_of b g)
+pub same_fronts : (b : Bounds) (f g : Front) → IsCanonical b f → IsCanonical b g → Within (frontier_of b f) (frontier_of b g)
     → Within (frontier_of b g) (frontier_of b f) → f ≡ g
 same_fronts b f g cf cg v w =
     names-same b f g (frontier_of b g)

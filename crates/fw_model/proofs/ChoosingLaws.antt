@@ -33,19 +33,19 @@ use Rattle.fw_model.proofs.RunLaws.{none-inside, epochs-of}
 use Rattle.fw_model.proofs.RecoveryLaws.{Holds, all_kinds-denote, first-holds, steps-hold, denoted-full}
 use Rattle.fw_model.proofs.SomeNextLaws.{exactly_one_next}
 use Rattle.fw_model.proofs.SameInsideLaws.{at_node, IsLowConsistent}
-use Rattle.fw_model.proofs.WriteLaws.{some-checkpoint, checkpoint-some, LiesBelow, IsWriteBelow, AreAscending, ascending-append, ascending-passed, ascending-mapped, ascending-replaced, settled-below, ascending-chain, IsCollectedBelow, IsWriteCollectedBelow, kept-from_ever}
+use Rattle.fw_model.proofs.WriteLaws.{some-checkpoint, checkpoint-some, pairs-append, pairs-passed, pairs-mapped, pairs-replaced, LiesBelow, IsWriteBelow, AreAscending, settled-below, ascending-chain, IsCollectedBelow, IsWriteCollectedBelow, kept-from_ever}
 use Rattle.fw_model.proofs.LowLaws.{event-low, same-low, keep-append, keep-all, keep-acknowledged, keep-failed, set-grows, at_most-refl, candidate-ever, offered-consistent, low-any, low-within, within-is, recovery-low, watermark-front, collection-low, first-low}
 
 -- what holds of each state of a run
-record CanRecover (sys : System) (family : Family) (state : Machine) : Type 0 where
-  holds : Holds sys family state
-  lie_settled : HasWritesSettled sys state
-  ascend : AreAscending sys state.writes
-  lie_below : AllByRecursion (IsWriteCollectedBelow sys state.low) state.writes
-  notes : List Front
-  watermark : IsLowConsistent sys state notes
+pub record CanRecover (sys : System) (family : Family) (state : Machine) : Type 0 where
+  pub holds : Holds sys family state
+  pub lie_settled : HasWritesSettled sys state
+  pub ascend : AreAscending sys state.writes
+  pub lie_below : AllByRecursion (IsWriteCollectedBelow sys state.low) state.writes
+  pub notes : List Front
+  pub watermark : IsLowConsistent sys state notes
 
-full-of : (sys : System) (family : Family) (state : Machine) → IsWellFormedSystem sys → IsDenotation sys family → Holds sys family state → IsFull sys state
+pub full-of : (sys : System) (family : Family) (state : Machine) → IsWellFormedSystem sys → IsDenotation sys family → Holds sys family state → IsFull sys state
 full-of sys family state w u f = denoted-full sys family state w u f.legal (record { denoted = f.denoted; paid = f.paid })
 
 -- ---- the low watermark at each step
@@ -108,7 +108,7 @@ logged-above sys p (checkpoint f l) q serial = tt
 logged-above sys p (logged_event r) q serial = tt
 
 event-ascend : (sys : System) (writes : List Write) (p : Policy) (q serial : ℕ) → AreAscending sys writes → AreAscending sys (writes ++ write_of_event p q serial)
-event-ascend sys writes p q serial a = ascending-append sys writes (write_of_event p q serial) a (alone p) (each-one _ writes (λ x. above p x))
+event-ascend sys writes p q serial a = pairs-append (LiesBelow sys) writes (write_of_event p q serial) a (alone p) (each-one _ writes (λ x. above p x))
   where
     alone : (p : Policy) → AreAscending sys (write_of_event p q serial)
     alone policy.Full = (tt, tt)
@@ -119,7 +119,7 @@ event-ascend sys writes p q serial a = ascending-append sys writes (write_of_eve
     above p x = tt
 
 -- the checkpoints of what is settled now
-abbrev settled_writes : Machine → List Front → List ℕ → List Write
+abbrev pub settled_writes : Machine → List Front → List ℕ → List Write
 settled_writes state settled ps = map (λ p. checkpoint_of state p (front_of settled p)) ps
 
 settled-above : (sys : System) (state : Machine) (settled : List Front) (ps : List ℕ) (p : ℕ) (w : Written) → HoldsSettled sys settled p w
@@ -136,7 +136,7 @@ settled-alone sys state settled (p ∷ ps) =
 settled-ascend : (sys : System) (state : Machine) (settled : List Front) (ps : List ℕ) → AreWritesSettled sys settled state.writes → AreAscending sys state.writes
     → AreAscending sys (state.writes ++ settled_writes state settled ps)
 settled-ascend sys state settled ps h a =
-    ascending-append sys state.writes (settled_writes state settled ps) a (settled-alone sys state settled ps)
+    pairs-append (LiesBelow sys) state.writes (settled_writes state settled ps) a (settled-alone sys state settled ps)
     (each-weaker (IsWriteSettled sys settled) (λ x. AllByRecursion (IsWriteBelow sys x) (settled_writes state settled ps)) state.writes
     (λ x k. settled-above sys state settled ps x.node x.written k) h)
 
@@ -161,15 +161,15 @@ took-ascend sys state (Checkpoint p) next effect h a t = subst (HasAscending sys
 took-ascend sys state Persist next effect h a t =
     let k = t.1 in
     subst (HasAscending sys) (sym t.2)
-    (subst (AreAscending sys) (sym k.after) (ascending-replaced sys k.earlier k.oldest acknowledged k.later (subst (AreAscending sys) k.before a)))
+    (subst (AreAscending sys) (sym k.after) (pairs-replaced (LiesBelow sys) k.earlier k.oldest acknowledged k.later (subst (AreAscending sys) k.before a)))
 took-ascend sys state (Fail ps) next effect h a t =
-    subst (HasAscending sys) (sym t.4) (ascending-passed sys (λ write. not (is_one_of write.node ps && is_in_flight write.progress)) state.writes a)
+    subst (HasAscending sys) (sym t.4) (pairs-passed (LiesBelow sys) (λ write. not (is_one_of write.node ps && is_in_flight write.progress)) state.writes a)
 took-ascend sys state Recover next effect h a t =
     subst (HasAscending sys) (sym t.7)
-    (ascending-passed sys (λ write. is_kept_write (cut_of t.1 write.node) write.written (filtered sys t.1 state.history)) state.writes a)
+    (pairs-passed (LiesBelow sys) (λ write. is_kept_write (cut_of t.1 write.node) write.written (filtered sys t.1 state.history)) state.writes a)
 took-ascend sys state Collect next effect h a t =
     let low = map front_of_cut t.0.cuts in
-    subst (HasAscending sys) (sym t.3) (ascending-mapped sys (λ write. after_collection (is_below sys low state.history write.node write.written) write.progress) state.writes a)
+    subst (HasAscending sys) (sym t.3) (pairs-mapped (LiesBelow sys) (λ write. after_collection (is_below sys low state.history write.node write.written) write.progress) state.writes a)
 took-ascend sys state (Ack o) next effect h a t = subst (HasAscending sys) (sym t.2) a
 
 -- ---- collected checkpoints lie below at each step
@@ -205,7 +205,7 @@ collected-below sys old low h grows p (checkpoint g l) acknowledged a =
 collected-below sys old low h grows p (logged_event s) far a = tt
 
 -- the new low watermark contains the old one
-watermark-grows : (sys : System) (state : Machine) (notes : List Front) (choice : Choice) → IsLowConsistent sys state notes
+pub watermark-grows : (sys : System) (state : Machine) (notes : List Front) (choice : Choice) → IsLowConsistent sys state notes
     → IsLargest sys state (IsCandidate sys state (λ p. true) kept) choice
     → (p : ℕ) → p < length sys.flow.nodes → Within (at_node sys state.low p) (at_node sys (map front_of_cut choice.cuts) p)
 watermark-grows sys state notes choice c m p l =
@@ -258,7 +258,7 @@ took-below sys family state (Ack o) next effect f t = subst (HasCollectedBelow s
 
 -- ---- each state of a run
 
-took-recover : (sys : System) (family : Family) → IsWellFormedSystem sys → IsDenotation sys family → (state : Machine) (step : Step) (next : Machine) (effect : Effect)
+pub took-recover : (sys : System) (family : Family) → IsWellFormedSystem sys → IsDenotation sys family → (state : Machine) (step : Step) (next : Machine) (effect : Effect)
     → CanRecover sys family state → Takes sys state step next effect → CanRecover sys family next
 took-recover sys family w u state step next effect f t =
     let low = took-low sys family w u state step next effect f t in
@@ -281,7 +281,7 @@ run-recover sys family w u (s ∷ ss) (did effect ∷ os) state last f r =
 run-recover sys family w u (s ∷ ss) (idle ∷ os) state last f r =
     run-recover sys family w u ss os r.0 last (subst (CanRecover sys family) (sym r.1.1) f) r.2
 
-first-recover : (sys : System) (family : Family) → IsWellFormedSystem sys → CanRecover sys family (first_state sys)
+pub first-recover : (sys : System) (family : Family) → IsWellFormedSystem sys → CanRecover sys family (first_state sys)
 first-recover sys family w = record {
   holds = first-holds sys family w.flow;
   lie_settled = tt;
@@ -291,7 +291,7 @@ first-recover sys family w = record {
   watermark = first-low sys w.flow;
 }
 
-reached : (sys : System) → IsWellFormedSystem sys → (steps : List Step) (outcomes : List Outcome) (last : Machine) → Run sys (first_state sys) steps outcomes last
+pub reached : (sys : System) → IsWellFormedSystem sys → (steps : List Step) (outcomes : List Outcome) (last : Machine) → Run sys (first_state sys) steps outcomes last
     → CanRecover sys (rounds sys (enough_rounds sys.flow)) last
 reached sys w steps outcomes last r =
     let family = rounds sys (enough_rounds sys.flow) in
@@ -354,7 +354,7 @@ largest-holds_low sys w steps outcomes last r lost view choice m =
 same-node : (sys : System) (state next : Machine) → next.low ≡ state.low → (p : ℕ) → Within (at_node sys state.low p) (at_node sys next.low p)
 same-node sys state next e p t i = ap (λ fs. at_node sys fs p t) e ∙ i
 
-took-grows : (sys : System) (state : Machine) (notes : List Front) (step : Step) (next : Machine) (effect : Effect) → IsLowConsistent sys state notes
+pub took-grows : (sys : System) (state : Machine) (notes : List Front) (step : Step) (next : Machine) (effect : Effect) → IsLowConsistent sys state notes
     → Takes sys state step next effect → (p : ℕ) → p < length sys.flow.nodes → Within (at_node sys state.low p) (at_node sys next.low p)
 took-grows sys state notes (Inject s) next effect c t p l = same-node sys state next (ap (λ (m : Machine). m.low) t.3) p
 took-grows sys state notes (Deliver e at) next effect c t p l = same-node sys state next (ap (λ (m : Machine). m.low) t.3) p

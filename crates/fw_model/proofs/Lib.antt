@@ -1,4 +1,6 @@
 pub mod ArrivalLaws
+pub mod AskedLaws
+pub mod AskedStateLaws
 pub mod CheckpointLaws
 pub mod ChoiceLaws
 pub mod ChoosingLaws
@@ -21,6 +23,7 @@ pub mod EnabledLaws
 pub mod EventSteps
 pub mod FilterLaws
 pub mod FilteredLaws
+pub mod ForgottenLaws
 pub mod FrontLaws
 pub mod FrontierLaws
 pub mod InputLaws
@@ -43,6 +46,7 @@ pub mod OneByOneLaws
 pub mod OneNextLaws
 pub mod OrderLaws
 pub mod OutputLaws
+pub mod PartLaws
 pub mod PendingKeptLaws
 pub mod PendingLaws
 pub mod PhiLaws
@@ -52,6 +56,7 @@ pub mod PsiLaws
 pub mod ReadySteps
 pub mod RecSteps
 pub mod RecoveryLaws
+pub mod RestoringLaws
 pub mod RewritingLaws
 pub mod RunLaws
 pub mod SameInsideLaws

@@ -1,5 +1,5 @@
 -- What the events inside a frontier send does not depend on those outside.
-use Rattle.std.proofs.Common.{◌≡◌, ℕ, zero, suc, ◌+◌, ◌<◌, ◌≤◌, Bool, true, false, cond, not, ◌&&◌, ◌||◌, ◌==◌, List, [], ◌∷◌, ◌++◌, length, length-append, get_or, filter, refl, sym, ap, subst, ◌∙◌, inl, inr, arith}
+use Rattle.std.proofs.Common.{◌≡◌, ℕ, zero, suc, ◌+◌, ◌<◌, ◌≤◌, Bool, true, false, cond, not, ◌&&◌, ◌||◌, ◌==◌, List, [], ◌∷◌, ◌++◌, length, length-append, get_or, refl, sym, ap, subst, ◌∙◌, inl, inr, arith}
 use Rattle.std.specs.List.{AllByRecursion, list_any}
 use Rattle.std.proofs.lemmas.Bool.{and_parts, and_from, and_left, or_cases, or_left, or_right, cond_both, cases_Bool, cases_lt, eqb-true, eq-eqb}
 use Rattle.std.proofs.lemmas.List.{get_or_past}
@@ -20,7 +20,7 @@ use Rattle.fw_flow.specs.WellFormed.{IsWellFormed, IsInDegree}
 use Rattle.fw_model.specs.History.{message_on, sent, delivered, was_delivered_to, was_notified, IsEnabled, IsLegal}
 use Rattle.fw_model.specs.LawsOfSending.{notified_stamps, IsDescending}
 use Rattle.fw_model.specs.LawsOfLegalHistories.{HasEpochs}
-use Rattle.fw_model.specs.LawsOfFiltering.{AreFrontiers, kept_events, messages_from, messages_inside, KeptEventsSendTheSame, KeptEventsSendTheSameFromWithin, KeptEventsDeliverTheSame, PhiOfKeptEvents}
+use Rattle.fw_model.specs.LawsOfFiltering.{AreFrontiers, kept_events, events_inside, messages_from, messages_inside, KeptEventsSendTheSame, KeptEventsSendTheSameFromWithin, KeptEventsDeliverTheSame, PhiOfKeptEvents}
 use Rattle.fw_model.proofs.Decisions.{two_ways}
 use Rattle.fw_model.proofs.EachLaws.{each-weaker}
 use Rattle.fw_model.proofs.StampLaws.{leq-trans, leq_from, leq_to, line-leq}
@@ -29,10 +29,6 @@ use Rattle.fw_model.proofs.FilterLaws.{filter-in, filter-out, filter-inner, filt
 use Rattle.fw_model.proofs.SendsLaws.{IsAt, sends_of_kind-each}
 use Rattle.fw_model.proofs.SequenceLaws.{IsNumbered, numbered-each}
 use Rattle.fw_model.proofs.OrderLaws.{sequences-in_order}
-
--- the events inside
-abbrev pub events_inside : Frontier → List Event → List Event
-events_inside f vs = filter (λ v. f (stamp v)) vs
 
 -- with the stamp each lesser one is inside
 abbrev IsInsideUpTo : Frontier → Stamp → Type 0
@@ -294,7 +290,7 @@ in_order sys h w b l p = by (kind_of sys.flow p) refl
 -- ---- the laws
 
 -- a node's part of the kept events
-events_at-kept : (flow : Dataflow) (keep : ℕ → Frontier) (p : ℕ) (h : List Event) → events_at flow p (kept_events flow keep h) ≡ events_inside (keep p) (events_at flow p h)
+pub events_at-kept : (flow : Dataflow) (keep : ℕ → Frontier) (p : ℕ) (h : List Event) → events_at flow p (kept_events flow keep h) ≡ events_inside (keep p) (events_at flow p h)
 events_at-kept flow keep p h =
     filter-swap (λ v. place flow v == p) (λ v. keep (place flow v) (stamp v)) (λ v. keep p (stamp v)) h
     (each-one (λ v. (place flow v == p) ≡ true → keep (place flow v) (stamp v) ≡ keep p (stamp v)) h (λ v c. ap (λ q. keep q (stamp v)) (eqb-true (place flow v) p c)))

@@ -53,7 +53,7 @@ at_most-refl n = omega arith
 
 -- ---- an enabled event lies outside the low watermark
 
-input-is : (kind : Kind) → is_input_kind kind ≡ true → kind ≡ Input
+pub input-is : (kind : Kind) → is_input_kind kind ≡ true → kind ≡ Input
 input-is Input e = refl
 input-is kind e = absurd (cc)
 
@@ -77,53 +77,63 @@ quiet-each test [] q = tt
 quiet-each test (m ∷ ms) q = let a = or_parts (test m.at) (some_at test ms) q in (a.0, quiet-each test ms a.1)
 
 -- the low watermark of a node that is no input lies within what is settled
-low-within_settled : (sys : System) (state : Machine) (notes : List Front) → HasWritesSettled sys state → IsLowConsistent sys state notes
-    → (p : ℕ) → p < length sys.flow.nodes → (restoring (kind_of sys.flow p) (policy_of sys.flow p) ≡ by_batches → ⊥) → Within (at_node sys state.low p) (at_node sys state.settled p)
+pub low-within_settled : (sys : System) (state : Machine) (notes : List Front) → HasWritesSettled sys state → IsLowConsistent sys state notes
+    → (p : ℕ) → p < length sys.flow.nodes → (kind_of sys.flow p ≡ Input → ⊥) → Within (at_node sys state.low p) (at_node sys state.settled p)
 low-within_settled sys state notes a c p l n =
-    restorable-within sys state kept p (restoring (kind_of sys.flow p) (policy_of sys.flow p)) (front_of state.low p) l n a (low-offered sys state notes c p l).1 l
+    restorable-within sys state kept p (restoring (kind_of sys.flow p) (policy_of sys.flow p)) (front_of state.low p) l
+    (λ b. n (by_batches-input (kind_of sys.flow p) (policy_of sys.flow p) b)) a (low-offered sys state notes c p l).1 l
 
--- an epoch that is injected lies outside
-batch-outside : (sys : System) (state : Machine) (s x : ℕ) (f : Front) → IsEnabled sys (events state.history) (Injected s x) → IsRestorable sys state kept s by_batches f
-    → frontier_of (bounds_of sys.flow s) f (x ∷ []) ≡ false
-batch-outside sys state s x f k a = elim a [
+-- what is outside that is outside it
+outside_low : (sys : System) (state : Machine) (notes : List Front) → HasWritesSettled sys state → IsLowConsistent sys state notes
+    → (p : ℕ) → p < length sys.flow.nodes → (kind_of sys.flow p ≡ Input → ⊥) → (t : Stamp) → at_node sys state.settled p t ≡ false → at_node sys state.low p t ≡ false
+outside_low sys state notes a c p l n t o =
+    false_from_ne_true (at_node sys state.low p t) (λ i. two_ways (at_node sys state.settled p t) (low-within_settled sys state notes a c p l n t i) o)
+
+-- a batch that was not injected lies outside
+pub batch-outside : (sys : System) (state : Machine) (s x : ℕ) (f : Front) → injected_count s (events state.history) ≤ x → x < length (batches_of sys s)
+    → IsRestorable sys state kept s by_batches f → frontier_of (bounds_of sys.flow s) f (x ∷ []) ≡ false
+batch-outside sys state s x f next there a = elim a [
   | inl b ↦ false_from_ne_true (frontier_of (bounds_of sys.flow s) f (x ∷ [])) (λ i.
       let j = (and_parts (in_domain (bounds_of sys.flow s) (x ∷ [])) (inside f (x ∷ [])) i).1 in
       let few = b.1 in
-      let next = k.next in
       two_ways (inside (until b.0) (x ∷ [])) (ap (λ os. inside os (x ∷ [])) (sym b.2) ∙ j)
       (ap (λ c. not c && true) (line-leq b.0 x (omega arith))))
   | inr b ↦
       let all = eqb-true (injected_count s (events state.history)) (length (batches_of sys s)) b.0 in
-      let next = k.next in
-      let there = k.there in
       absurd (omega arith)
 ]
 
-event-outside : (sys : System) (state : Machine) (notes : List Front) (v : Event) → IsWellFormed sys.flow → IsFull sys state → HasWritesSettled sys state
+-- an enabled event lies outside what is settled, but at an input
+pub settled-outside : (sys : System) (state : Machine) (v : Event) → IsFull sys state → IsEnabled sys (events state.history) v → (p : ℕ)
+    → (kind_of sys.flow p ≡ Input → ⊥) → place sys.flow v ≡ p → at_node sys state.settled p (stamp v) ≡ false
+settled-outside sys state (Injected s x) f k p n e = absurd (n (ap (kind_of sys.flow) (sym e) ∙ input-is (kind_of sys.flow s) k.input))
+settled-outside sys state (Delivered d m) f k p n e = false_from_ne_true (at_node sys state.settled p m.at) (λ i.
+    let quiet = quiet-each (same m.at) (pending sys (events state.history) d) (f.quiet p m.at i d e) in
+    two_ways (same m.at m.at) (same-refl m.at) (among-each (λ x. same m.at x.at ≡ false) m (pending sys (events state.history) d) k.is_pending quiet))
+settled-outside sys state (Notified q t) f k p n e = false_from_ne_true (at_node sys state.settled p t) (λ i.
+    two_ways _ k.is_owed (f.paid q t (ap (λ n. at_node sys state.settled n t) e ∙ i)))
+
+-- an enabled event lies outside the low watermark
+pub event-outside : (sys : System) (state : Machine) (notes : List Front) (v : Event) → IsWellFormed sys.flow → IsFull sys state → HasWritesSettled sys state
     → IsLowConsistent sys state notes → IsEnabled sys (events state.history) v → (p : ℕ) → p < length sys.flow.nodes → place sys.flow v ≡ p
     → at_node sys state.low p (stamp v) ≡ false
 event-outside sys state notes (Injected s x) w f a c k p l e =
     let m : s < length sys.flow.nodes = subst (λ n. n < length sys.flow.nodes) (sym e) l in
     let way : restoring (kind_of sys.flow s) (policy_of sys.flow s) ≡ by_batches = ap (λ kind. restoring kind (policy_of sys.flow s)) (input-is (kind_of sys.flow s) k.input) in
+    let next = k.next in
     subst (λ n. at_node sys state.low n (x ∷ []) ≡ false) e
-    (batch-outside sys state s x (front_of state.low s) k (subst (λ r. IsRestorable sys state kept s r (front_of state.low s)) way (low-offered sys state notes c s m).1))
+    (batch-outside sys state s x (front_of state.low s) (omega arith) k.there (subst (λ r. IsRestorable sys state kept s r (front_of state.low s)) way (low-offered sys state notes c s m).1))
 event-outside sys state notes (Delivered d m) w f a c k p l e =
     let there = edge-there sys.flow d p e l in
-    let not_input : restoring (kind_of sys.flow p) (policy_of sys.flow p) ≡ by_batches → ⊥ =
-    λ b. no_input-receives sys.flow w d there (ap (kind_of sys.flow) e ∙ by_batches-input (kind_of sys.flow p) (policy_of sys.flow p) b) in
-    false_from_ne_true (at_node sys state.low p m.at) (λ i.
-    let j = low-within_settled sys state notes a c p l not_input m.at i in
-    let quiet = quiet-each (same m.at) (pending sys (events state.history) d) (f.quiet p m.at j d e) in
-    two_ways (same m.at m.at) (same-refl m.at) (among-each (λ x. same m.at x.at ≡ false) m (pending sys (events state.history) d) k.is_pending quiet))
+    let not_input : kind_of sys.flow p ≡ Input → ⊥ = λ b. no_input-receives sys.flow w d there (ap (kind_of sys.flow) e ∙ b) in
+    outside_low sys state notes a c p l not_input m.at (settled-outside sys state (Delivered d m) f k p not_input e)
 event-outside sys state notes (Notified q t) w f a c k p l e =
     let h = events state.history in
     let owing = and_parts (is_notified_kind (kind_of sys.flow q) && was_delivered_to sys.flow q t h) (not (was_notified q t h)) k.is_owed in
     let notified = (and_parts (is_notified_kind (kind_of sys.flow q)) (was_delivered_to sys.flow q t h) owing.0).0 in
-    let not_input : restoring (kind_of sys.flow p) (policy_of sys.flow p) ≡ by_batches → ⊥ =
-    λ b. two_ways (is_notified_kind (kind_of sys.flow q)) notified (ap (λ n. is_notified_kind (kind_of sys.flow n)) e ∙ ap is_notified_kind (by_batches-input (kind_of sys.flow p) (policy_of sys.flow p) b)) in
-    false_from_ne_true (at_node sys state.low p t) (λ i.
-    let j = low-within_settled sys state notes a c p l not_input t i in
-    two_ways _ k.is_owed (f.paid q t (ap (λ n. at_node sys state.settled n t) e ∙ j)))
+    let not_input : kind_of sys.flow p ≡ Input → ⊥ =
+    λ b. two_ways (is_notified_kind (kind_of sys.flow q)) notified (ap (λ n. is_notified_kind (kind_of sys.flow n)) e ∙ ap is_notified_kind b) in
+    outside_low sys state notes a c p l not_input t (settled-outside sys state (Notified q t) f k p not_input e)
 
 -- ---- writes
 
@@ -247,7 +257,7 @@ counted-not_lost false acknowledged e = refl
 counted-not_lost true collected e = refl
 counted-not_lost false collected e = refl
 
-kept-counts : (far : Progress) → counts kept far ≡ true → counts ever far ≡ true
+pub kept-counts : (far : Progress) → counts kept far ≡ true → counts ever far ≡ true
 kept-counts in_flight e = absurd (cc)
 kept-counts acknowledged e = refl
 kept-counts collected e = absurd (cc)
@@ -650,10 +660,10 @@ origin-zeros : (s : Stamp) → origin s ≡ map (λ c. 0) s
 origin-zeros [] = refl
 origin-zeros (x ∷ s) = ap (λ t. 0 ∷ t) (origin-zeros s)
 
-none-canonical : (b : Bounds) → IsCanonical b (no_stamps b)
+pub none-canonical : (b : Bounds) → IsCanonical b (no_stamps b)
 none-canonical b = subst (λ t. IsCanonical b (t ∷ [])) (origin-zeros b.greatest) (names-nothing b).canonical
 
-none-within : (b : Bounds) (g : Frontier) → Within (frontier_of b (no_stamps b)) g
+pub none-within : (b : Bounds) (g : Frontier) → Within (frontier_of b (no_stamps b)) g
 none-within b g t i = absurd (none-inside b t i)
 
 none-restorable : (sys : System) (p : ℕ) (way : Restoring) → restoring (kind_of sys.flow p) (policy_of sys.flow p) ≡ way

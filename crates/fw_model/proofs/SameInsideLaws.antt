@@ -21,7 +21,7 @@ use Rattle.fw_model.specs.History.{sent, delivered, IsLegal}
 use Rattle.fw_model.specs.Machine.{Machine, events, front_of, bound_of}
 use Rattle.fw_model.specs.Choice.{kept, Restoring, by_batches, by_bound, by_anything, by_checkpoints, by_events, until, HasCheckpoint, AllLogged, IsRestorable, IsCandidate, restoring, can_resend, cut_of, kept_of, set_of, takes_its_cut, takes_its_notes, stamps_inside, stamps_from, stamp_of_notice, notified_inside, delivered_cover, notified_cover, discarded_at, discarded_cover, IsConsistent}
 use Rattle.fw_model.specs.LawsOfLegalHistories.{HasEpochs}
-use Rattle.fw_model.specs.LawsOfFiltering.{AreFrontiers, kept_events, messages_inside}
+use Rattle.fw_model.specs.LawsOfFiltering.{AreFrontiers, kept_events, messages_from, messages_inside}
 use Rattle.fw_model.specs.LawsOfChoosing.{low_choice}
 use Rattle.fw_model.proofs.Decisions.{two_ways}
 use Rattle.fw_model.proofs.EachLaws.{each-weaker}
@@ -54,6 +54,22 @@ inside-refl sys h low = record {
 
 -- ---- an event outside
 
+-- an event outside sends nothing from inside
+pub sent-outside : (sys : System) (h : List Event) (v : Event) (e : ℕ) (f : Frontier) → (place sys.flow v ≡ sender sys.flow e → f (stamp v) ≡ false)
+    → messages_from f (sent sys (v ∷ h) e) ≡ messages_from f (sent sys h e)
+sent-outside sys h v e f out =
+    let q = sender sys.flow e in
+    let vs = events_at sys.flow q h in
+    cond_both (place sys.flow v == q) (v ∷ vs) vs (λ ws. messages_from f (sent_by sys q ws) ≡ messages_from f (sent_by sys q vs))
+    (λ c.
+    let o = out (eqb-true (place sys.flow v) q c) in
+    let now = sends sys q vs v in
+    filter-append (λ (m : Message). all_inside f m.causes) now (sent_by sys q vs)
+    ∙ ap (λ ms. ms ++ messages_from f (sent_by sys q vs))
+    (filter-none (λ (m : Message). all_inside f m.causes) now
+    (each-weaker (λ (m : Message). m.causes ≡ stamp v ∷ []) (λ m. all_inside f m.causes ≡ false) now (λ m a. one_cause f (stamp v) m false o a) (sends-causes sys q vs v))))
+    (λ c. refl)
+
 pub inside-event : (sys : System) (h : List Event) (v : Event) (low : List Front) → IsWellFormed sys.flow
     → ((p : ℕ) → p < length sys.flow.nodes → place sys.flow v ≡ p → at_node sys low p (stamp v) ≡ false) → IsSameInside sys h (v ∷ h) low
 inside-event sys h v low w out = record {
@@ -61,18 +77,7 @@ inside-event sys h v low w out = record {
   notices = λ p l. notice p l v out;
   sendings = λ e l.
       let q = sender sys.flow e in
-      let f = at_node sys low q in
-      let vs = events_at sys.flow q h in
-      cond_both (place sys.flow v == q) (v ∷ vs) vs (λ ws. stamps_from f (sent_by sys q ws) ≡ stamps_from f (sent_by sys q vs))
-      (λ c.
-      let o = out q (w.senders_declared e l) (eqb-true (place sys.flow v) q c) in
-      let now = sends sys q vs v in
-      ap (map (λ (m : Message). m.at))
-      (filter-append (λ (m : Message). all_inside f m.causes) now (sent_by sys q vs)
-      ∙ ap (λ ms. ms ++ filter (λ (m : Message). all_inside f m.causes) (sent_by sys q vs))
-      (filter-none (λ (m : Message). all_inside f m.causes) now
-      (each-weaker (λ (m : Message). m.causes ≡ stamp v ∷ []) (λ m. all_inside f m.causes ≡ false) now (λ m a. one_cause f (stamp v) m false o a) (sends-causes sys q vs v)))))
-      (λ c. refl);
+      ap (map (λ (m : Message). m.at)) (sent-outside sys h v e (at_node sys low q) (out q (w.senders_declared e l)));
   reach = λ e l g i u k. phi-longer sys h (v ∷ []) e g u k;
 }
   where
@@ -163,14 +168,14 @@ pub low-offered : (sys : System) (state : Machine) (notes : List Front) → IsLo
 low-offered sys state notes c p l =
     subst (λ x. IsCandidate sys state (λ q. true) kept p x) (low_cut state notes p (omega (arith, low_length sys state notes c))) (c.offered p l)
 
-delivered-same : (sys : System) (state next : Machine) (p d : ℕ) (f : Front)
+pub delivered-same : (sys : System) (state next : Machine) (p d : ℕ) (f : Front)
     → stamps_inside (frontier_of (bounds_of sys.flow p) f) (delivered (events next.history) d) ≡ stamps_inside (frontier_of (bounds_of sys.flow p) f) (delivered (events state.history) d)
     → delivered_cover sys next p d (At f) ≡ delivered_cover sys state p d (At f)
 delivered-same sys state next p d f e =
     let b = bounds_of sys.flow p in
     ap (λ ss. cond (takes_its_cut (restoring (kind_of sys.flow p) (policy_of sys.flow p))) (frontier_of b f) (cover b ss)) e
 
-notified-same : (sys : System) (state next : Machine) (p : ℕ) (f : Front)
+pub notified-same : (sys : System) (state next : Machine) (p : ℕ) (f : Front)
     → notified_inside p (frontier_of (bounds_of sys.flow p) f) (events next.history) ≡ notified_inside p (frontier_of (bounds_of sys.flow p) f) (events state.history)
     → notified_cover sys next p (At f) ≡ notified_cover sys state p (At f)
 notified-same sys state next p f e =
@@ -183,7 +188,7 @@ discarded_at-same : (sys : System) (state next : Machine) (q e : ℕ) (way : Res
 discarded_at-same sys state next q e by_anything f same = refl
 discarded_at-same sys state next q e way f same = ap (λ ss. cover (bounds_of sys.flow (receiver sys.flow e)) ss) same
 
-discarded-same : (sys : System) (state next : Machine) (q e : ℕ) (f : Front)
+pub discarded-same : (sys : System) (state next : Machine) (q e : ℕ) (f : Front)
     → stamps_from (frontier_of (bounds_of sys.flow q) f) (sent sys (events next.history) e) ≡ stamps_from (frontier_of (bounds_of sys.flow q) f) (sent sys (events state.history) e)
     → discarded_cover sys next q e (At f) ≡ discarded_cover sys state q e (At f)
 discarded-same sys state next q e f same =

@@ -103,6 +103,37 @@ logged-some serial (write ∷ writes) k = by write.node write.written write.prog
     by n (checkpoint g low) far rest k = elim k [ inl c ↦ absurd c | inr c ↦ inr (rest c) ]
     by n (logged_event s) far rest k = elim k [ inl c ↦ inl c | inr c ↦ inr (rest c) ]
 
+-- ---- each write and each later one
+
+-- each write is so related to each later one, by their nodes and what is written: how far they are plays no part
+abbrev pub ArePairs : (ℕ → Written → ℕ → Written → Type 0) → List Write → Type 0
+ArePairs R [] = Unit {0}
+ArePairs R (x ∷ xs) = AllByRecursion (λ (y : Write). R x.node x.written y.node y.written) xs × ArePairs R xs
+
+pub pairs-append : (R : ℕ → Written → ℕ → Written → Type 0) (xs ys : List Write) → ArePairs R xs → ArePairs R ys
+    → AllByRecursion (λ (x : Write). AllByRecursion (λ (y : Write). R x.node x.written y.node y.written) ys) xs → ArePairs R (xs ++ ys)
+pairs-append R [] ys a b c = b
+pairs-append R (x ∷ xs) ys a b c = (each-append (λ (y : Write). R x.node x.written y.node y.written) xs ys a.0 c.0, pairs-append R xs ys a.1 b c.1)
+
+pub pairs-passed : (R : ℕ → Written → ℕ → Written → Type 0) (test : Write → Bool) (xs : List Write) → ArePairs R xs → ArePairs R (filter test xs)
+pairs-passed R test [] a = tt
+pairs-passed R test (x ∷ xs) a =
+    let rest = pairs-passed R test xs a.1 in
+    let P : Write → Type 0 = λ y. R x.node x.written y.node y.written in
+    cond_both (test x) (x ∷ filter test xs) (filter test xs) (ArePairs R) (λ e. (each-passed P P test xs (λ y k b. b) a.0, rest)) (λ e. rest)
+
+pub pairs-mapped : (R : ℕ → Written → ℕ → Written → Type 0) (far : Write → Progress) (xs : List Write) → ArePairs R xs
+    → ArePairs R (map (λ (x : Write). record x { progress = far x }) xs)
+pairs-mapped R far [] a = tt
+pairs-mapped R far (x ∷ xs) a =
+    (each-mapped (λ (y : Write). R x.node x.written y.node y.written) (λ (y : Write). record y { progress = far y }) xs a.0, pairs-mapped R far xs a.1)
+
+pub pairs-replaced : (R : ℕ → Written → ℕ → Written → Type 0) (xs : List Write) (y : Write) (far : Progress) (ys : List Write) → ArePairs R (xs ++ y ∷ ys)
+    → ArePairs R (xs ++ record y { progress = far } ∷ ys)
+pairs-replaced R [] y far ys a = a
+pairs-replaced R (x ∷ xs) y far ys a =
+    (each-replaced (λ (z : Write). R x.node x.written z.node z.written) xs y (record y { progress = far }) ys (λ b. b) a.0, pairs-replaced R xs y far ys a.1)
+
 -- ---- checkpoints ascend
 
 -- of two that are written of one node the first lies within the second, if both are checkpoints
@@ -116,33 +147,7 @@ IsWriteBelow sys x y = LiesBelow sys x.node x.written y.node y.written
 
 -- the checkpoints of each node ascend in order of asking
 abbrev pub AreAscending : System → List Write → Type 0
-AreAscending sys [] = Unit {0}
-AreAscending sys (x ∷ xs) = AllByRecursion (IsWriteBelow sys x) xs × AreAscending sys xs
-
-pub ascending-append : (sys : System) (xs ys : List Write) → AreAscending sys xs → AreAscending sys ys
-    → AllByRecursion (λ x. AllByRecursion (IsWriteBelow sys x) ys) xs → AreAscending sys (xs ++ ys)
-ascending-append sys [] ys a b c = b
-ascending-append sys (x ∷ xs) ys a b c = (each-append (IsWriteBelow sys x) xs ys a.0 c.0, ascending-append sys xs ys a.1 b c.1)
-
-pub ascending-passed : (sys : System) (test : Write → Bool) (xs : List Write) → AreAscending sys xs → AreAscending sys (filter test xs)
-ascending-passed sys test [] a = tt
-ascending-passed sys test (x ∷ xs) a =
-    let rest = ascending-passed sys test xs a.1 in
-    cond_both (test x) (x ∷ filter test xs) (filter test xs) (AreAscending sys)
-    (λ e. (each-passed (IsWriteBelow sys x) (IsWriteBelow sys x) test xs (λ y k b. b) a.0, rest)) (λ e. rest)
-
--- the progress of writes plays no part
-pub ascending-mapped : (sys : System) (far : Write → Progress) (xs : List Write) → AreAscending sys xs
-    → AreAscending sys (map (λ (x : Write). record x { progress = far x }) xs)
-ascending-mapped sys far [] a = tt
-ascending-mapped sys far (x ∷ xs) a =
-    (each-mapped (IsWriteBelow sys (record x { progress = far x })) (λ (y : Write). record y { progress = far y }) xs a.0, ascending-mapped sys far xs a.1)
-
-pub ascending-replaced : (sys : System) (xs : List Write) (y : Write) (far : Progress) (ys : List Write) → AreAscending sys (xs ++ y ∷ ys)
-    → AreAscending sys (xs ++ record y { progress = far } ∷ ys)
-ascending-replaced sys [] y far ys a = a
-ascending-replaced sys (x ∷ xs) y far ys a =
-    (each-replaced (IsWriteBelow sys x) xs y (record y { progress = far }) ys (λ b. b) a.0, ascending-replaced sys xs y far ys a.1)
+AreAscending sys xs = ArePairs (LiesBelow sys) xs
 
 -- what lies within what is settled lies below the checkpoint of it
 pub settled-below : (sys : System) (settled : List Front) (p : ℕ) (w : Written) (q : ℕ) (low : List Front) → HoldsSettled sys settled p w

@@ -25,6 +25,10 @@ AreFrontiers flow keep = (p : ℕ) → IsFrontier (bounds_of flow p) (keep p)
 abbrev pub kept_events : Dataflow → (ℕ → Frontier) → List Event → List Event
 kept_events flow keep h = filter (λ v. keep (place flow v) (stamp v)) h
 
+-- the events at stamps inside
+abbrev pub events_inside : Frontier → List Event → List Event
+events_inside f vs = filter (λ v. f (stamp v)) vs
+
 -- the messages all of whose causes are inside
 abbrev pub messages_from : Frontier → List Message → List Message
 messages_from f ms = filter (λ m. all_inside f m.causes) ms

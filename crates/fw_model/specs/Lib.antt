@@ -12,6 +12,7 @@ pub mod LawsOfFiltering
 pub mod LawsOfLegalHistories
 pub mod LawsOfProjections
 pub mod LawsOfRecoveries
+pub mod LawsOfRestoring
 pub mod LawsOfRuns
 pub mod LawsOfSending
 pub mod LawsOfSteps

@@ -9,6 +9,7 @@ ghost use Rattle.fw_model.specs.LawsOfFiltering.{ConsistentMeetsInclusions, Filt
 ghost use Rattle.fw_model.specs.LawsOfLegalHistories.{LegalEventsAreInDomain, LegalMessagesAreInDomain, OnlyInputsInject};
 ghost use Rattle.fw_model.specs.LawsOfProjections.{PhiGrowsWithHistory, PhiIgnoresHistory, PhiIsFrontier, PhiIsMonotone, PhiOfEverything, PhiOfMeet, PsiIsFrontier, PsiIsMonotone, PsiOfJoin, PsiOfNothing, PsiOfUnion};
 ghost use Rattle.fw_model.specs.LawsOfRecoveries.{AcknowledgementsShowDenotationThroughRecoveries, CandidatesLieWithinSettled, DenotedIsFull, RunsStayLegalThroughRecoveries, SettledStaysDenoted, StepsKeepHistoriesLegal};
+ghost use Rattle.fw_model.specs.LawsOfRestoring.{BatchesOutsideCutsLieOutsideLow, BatchesToComeLieOutsideLow, CheckpointLogsHoldWhatIsSentAgain, CheckpointsAreAsTheyWereAsked, CheckpointsAtCutsAreKept, CheckpointsStayTrue, CollectedIsWhatLiesBelow, EventsInsideCutsAreLogged, EventsThatMustBeKeptAreNeverCollected, KeptWatermarksLieWithinToday, LogsHoldWhatIsSentAgain, NothingComesInsideCheckpoints, WhatIsForgottenWasAcknowledged};
 ghost use Rattle.fw_model.specs.LawsOfRuns.{AcknowledgementsAreInOrder, AcknowledgementsShowDenotation, RunsStayLegal};
 ghost use Rattle.fw_model.specs.LawsOfSending.{InsidePhiComesFromInside, InsidePhiOfSequenceComesFromInside, PhiBySendStamps, PsiBackBySendStamps, PsiBackIsLargest, PsiBySendStamps, SendStampIsMonotone, SendersOfWellFormed, SendsAreInsidePsi, SendsAtSendStamp, SentFromInsideIsInsidePsi, SentTableFollowsHistory};
 ghost use Rattle.fw_model.specs.LawsOfSteps.{ExactlyOneNextState, OneNextState, SomeNextState};
@@ -506,4 +507,69 @@ pub fn largest_of_kept_is_largest_of_ever()
 /// Two runs of one system that acknowledge an output at a stamp show the same recs there.
 pub fn two_runs_show_one_bag()
     ensures { TwoRunsShowOneBag }
+{}
+
+/// Each step leaves what each checkpoint holds that is among the writes after it.
+pub fn checkpoints_stay_true()
+    ensures { CheckpointsStayTrue }
+{}
+
+/// In each state of a run nothing new comes inside a checkpoint.
+pub fn nothing_comes_inside_checkpoints()
+    ensures { NothingComesInsideCheckpoints }
+{}
+
+/// Where a largest choice cuts a node that takes checkpoints, its checkpoint there is acknowledged, not collected, and the only one.
+pub fn checkpoints_at_cuts_are_kept()
+    ensures { CheckpointsAtCutsAreKept }
+{}
+
+/// With each largest choice, what is to be sent again lies outside the low watermark of its receiver, so that logs hold it.
+pub fn logs_hold_what_is_sent_again()
+    ensures { LogsHoldWhatIsSentAgain }
+{}
+
+/// So do the logs that are kept with checkpoints, by the watermark of the moment at which each was asked.
+pub fn checkpoint_logs_hold_what_is_sent_again()
+    ensures { CheckpointLogsHoldWhatIsSentAgain }
+{}
+
+/// The watermark that is kept with a checkpoint lies within today's.
+pub fn kept_watermarks_lie_within_today()
+    ensures { KeptWatermarksLieWithinToday }
+{}
+
+/// A batch outside the cut of its input in a largest choice lies outside the low watermark.
+pub fn batches_outside_cuts_lie_outside_low()
+    ensures { BatchesOutsideCutsLieOutsideLow }
+{}
+
+/// A batch that is injected later lies outside the low watermark of today.
+pub fn batches_to_come_lie_outside_low()
+    ensures { BatchesToComeLieOutsideLow }
+{}
+
+/// Where a largest choice cuts a node that logs each event, each of its events inside is logged once, and collected only where it is given up.
+pub fn events_inside_cuts_are_logged()
+    ensures { EventsInsideCutsAreLogged }
+{}
+
+/// No logged event of a total, a sequence or a ledger was collected.
+pub fn events_that_must_be_kept_are_never_collected()
+    ensures { EventsThatMustBeKeptAreNeverCollected }
+{}
+
+/// No write below the watermark that a collection takes is in flight: what a collection forgets was acknowledged.
+pub fn what_is_forgotten_was_acknowledged()
+    ensures { WhatIsForgottenWasAcknowledged }
+{}
+
+/// A write was collected exactly where what it holds lies below the low watermark.
+pub fn collected_is_what_lies_below()
+    ensures { CollectedIsWhatLiesBelow }
+{}
+
+/// Each checkpoint was asked in an earlier state of the run, and counts now as it did then.
+pub fn checkpoints_are_as_they_were_asked()
+    ensures { CheckpointsAreAsTheyWereAsked }
 {}

@@ -14,6 +14,7 @@ mod sending;
 mod waiting;
 
 pub use complete::complete_frontiers;
-pub use next::{next_batch, next_message, next_notice};
+pub use next::{injected_count, next_batch, next_message, next_notice};
 pub use outputs::recs_at;
+pub use sending::sent_by;
 pub use waiting::pending;

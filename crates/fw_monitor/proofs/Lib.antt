@@ -8,8 +8,9 @@ pub mod FitLaws
 pub mod FrontLaws
 pub mod HeldLaws
 pub mod LastLaws
-pub mod LowerLaws
 pub mod LookUpLaws
+pub mod LowerLaws
+pub mod OfferLaws
 pub mod PassLaws
 pub mod RecordLaws
 pub mod StartLaws

@@ -3,3 +3,4 @@ pub mod Held
 pub mod Kept
 pub mod Counts
 pub mod Descent
+pub mod LawsOfOffers

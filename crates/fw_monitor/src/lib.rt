@@ -3,6 +3,7 @@
 
 mod arrived;
 mod descent;
+pub mod laws;
 mod lower;
 mod offers;
 mod passes;

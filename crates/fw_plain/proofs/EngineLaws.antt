@@ -1,119 +1,175 @@
--- What a further event does to the state that an engine stands for.
-use Rattle.std.proofs.Common.{◌≡◌, ℕ, zero, suc, cond, ◌+◌, ◌==◌, Bool, ◌&&◌, true, false, List, [], ◌∷◌, ◌++◌, map, length, reverse, refl, sym, ◌∙◌, ap, subst, slice_index_or, replicate, arith}
+-- What each step does to the state that an engine stands for.
+use Rattle.std.proofs.Common.{◌≡◌, ℕ, zero, suc, ◌+◌, ◌<◌, ◌==◌, cond, Bool, true, false, ◌&&◌, List, [], ◌∷◌, ◌++◌, map, length, slice_set, slice_index_or, replicate, refl, sym, ◌∙◌, ap, subst, arith, Option, Some, None, MatchOption}
 use Rattle.std.specs.List.{AllByRecursion, range_with_len}
-use Rattle.std.proofs.lemmas.List.FromFn.{length-map-range_with_len, get_or-map-range_with_len}
 use Rattle.std.proofs.lemmas.Bool.Decides.{nat_tests}
-use Rattle.std.proofs.lemmas.List.{length-append, length-reverse, reverse-append}
-use Rattle.fw_time.specs.Stamp.{in_domain}
+use Rattle.std.proofs.lemmas.Grind.{common_steps}
+use Rattle.std.proofs.lemmas.List.FromFn.{length-map-range_with_len, get_or-map-range_with_len}
+use Rattle.fw_time.specs.Stamp.{Stamp, in_domain}
+use Rattle.fw_frontier.specs.Front.{Front, IsCanonical}
+use Rattle.fw_flow.specs.declared.choice.Choice.{Choice}
+use Rattle.fw_flow.specs.declared.choice.Cut.{Cut}
+use Rattle.fw_flow.specs.declared.choice.Cut.TheVariants.{Present, At}
 use Rattle.fw_flow.specs.declared.event.Event.{Event}
-use Rattle.fw_flow.specs.declared.event.Event.TheVariants.{Inject as Injected, Deliver as Delivered, Notify as Notified}
+use Rattle.fw_flow.specs.declared.event.Event.TheVariants.{Inject as Injected, Deliver as Delivered}
 use Rattle.fw_flow.specs.declared.event.Message.{Message}
 use Rattle.fw_flow.specs.declared.kind.Policy.{Policy}
 use Rattle.fw_flow.specs.declared.kind.Policy.TheVariants as policy
 use Rattle.fw_flow.specs.declared.step.Step.{Step}
-use Rattle.fw_flow.specs.declared.step.Step.TheVariants.{Inject, Deliver, Notify}
-use Rattle.fw_flow.specs.Dataflow.{System, Dataflow, policy_of, bounds_of}
+use Rattle.fw_flow.specs.declared.step.Step.TheVariants.{Inject, Deliver, Notify, Progress, Checkpoint, Persist, Fail, Recover, Collect, Ack}
+use Rattle.fw_flow.specs.Dataflow.{System, Dataflow, policy_of, receiver, bounds_of}
 use Rattle.fw_flow.specs.NodeFunction.{place, stamp}
 use Rattle.fw_flow.specs.Projection.{events_at}
-use Rattle.fw_frontier.specs.Front.{Front, IsCanonical}
-use Rattle.fw_flow.specs.WellFormed.{IsWellFormed}
+use Rattle.fw_flow.specs.WellFormed.{IsWellFormedSystem}
+use Rattle.fw_model.specs.Choice.{cut_of}
+use Rattle.fw_model.specs.History.{IsLegal, IsNextBatch}
 use Rattle.fw_model.specs.LawsOfFiltering.{NotifiesNobody}
 use Rattle.fw_model.specs.LawsOfLegalHistories.{HasEpochs}
-use Rattle.fw_plain.proofs.FrontsLaws.{names-no_stamps}
-use Rattle.fw_time.specs.Stamp.{Stamp}
-use Rattle.std.specs.Prelude.{Option, Some, None, MatchOption}
-use Rattle.fw_model.specs.History.{IsEnabled, IsLegal, IsNextBatch}
-use Rattle.fw_model.specs.Machine.{Machine, Numbered, Write, events, is_failed, no_stamps, places}
-use Rattle.fw_model.specs.Steps.{with_event, write_of_event, Steps, IsNextMessage, IsNextNotice, Outcome, quiet, did, idle}
+use Rattle.fw_model.specs.Machine.{Machine, Write, events, first_state, front_of, is_failed, no_stamps, places}
 use Rattle.fw_model.specs.Plain.{AreAtNodes}
+use Rattle.fw_model.specs.Steps.{Effect, quiet, Outcome, did, idle, with_event, write_of_event, Takes, Steps, Run, IsNextMessage, GrowsTo, CutsTo, IsSettledCut}
+use Rattle.fw_model.proofs.DomainLaws.{has_epochs}
 use Rattle.fw_model.proofs.LegalLaws.{legal_events-in_domain}
-use Rattle.fw_plain.specs.Engine.{Standing, numbered, state_of, KeepsNothing, IsSound}
+use Rattle.fw_model.proofs.RecoveryLaws.{runs-legal}
+use Rattle.fw_plain.specs.Engine.{Standing, KeepsNothing, state_of, IsReached, IsOfEachNode, IsSound, is_plain_step}
+use Rattle.fw_plain.specs.Past.{Past, with_one_more}
+use Rattle.fw_plain.proofs.FrontsLaws.{names-no_stamps}
 
--- the events of a numbered history are the history
-pub events_numbered : (h : List Event) → events (numbered h) ≡ h
-events_numbered [] = refl
-events_numbered (v ∷ h) = ap (λ t. v ∷ t) (events_numbered h)
+-- ---- runs
 
-pub reverse_more : (vs : List Event) (v : Event) → reverse (vs ++ v ∷ []) ≡ v ∷ reverse vs
-reverse_more vs v = reverse-append vs (v ∷ [])
+-- a run goes on by one more step
+run_more : (sys : System) (state mid next : Machine) (steps : List Step) (outcomes : List Outcome) (step : Step) (outcome : Outcome)
+    → Run sys state steps outcomes mid → Steps sys mid step next outcome → Run sys state (steps ++ step ∷ []) (outcomes ++ outcome ∷ []) next
+run_more sys state mid next [] [] step outcome r t = (next, subst (λ m. Steps sys m step next outcome) r t, refl)
+run_more sys state mid next [] (o ∷ outcomes) step outcome r t = absurd r
+run_more sys state mid next (s ∷ steps) [] step outcome r t = absurd r
+run_more sys state mid next (s ∷ steps) (o ∷ outcomes) step outcome r t =
+    (r.0, r.1, run_more sys r.0 mid next steps outcomes step outcome r.2 t)
 
-length_more : (vs : List Event) (v : Event) → length (vs ++ v ∷ []) ≡ length vs + 1
-length_more vs v = length-append vs (v ∷ [])
+reached_more : (sys : System) (state next : Machine) (step : Step) (outcome : Outcome) → IsReached sys state → Steps sys state step next outcome → IsReached sys next
+reached_more sys state next step outcome r t =
+    (r.0 ++ step ∷ [], r.1 ++ outcome ∷ [], run_more sys (first_state sys) state next r.0 r.1 step outcome r.2 t)
 
--- a state by its history, the next serial and the writes
-abbrev state_with : Dataflow → List Front → List ℕ → List Numbered → ℕ → List Write → Machine
-state_with flow settled bounds h n writes = record {
-  history = h;
-  next = n;
-  settled = settled;
-  writes = writes;
-  failed = map (λ p. false) (places flow);
-  bounds = bounds;
-  low = map (λ p. no_stamps (bounds_of flow p)) (places flow);
+-- ---- what the state says of each node
+
+-- a state with the same settled frontiers, failed nodes and bounds
+same_each : (sys : System) (state next : Machine) → next.settled ≡ state.settled → next.failed ≡ state.failed → length next.bounds ≡ length state.bounds
+    → IsOfEachNode sys state → IsOfEachNode sys next
+same_each sys state next s f b i = record {
+  one_front_each = ap length s ∙ i.one_front_each;
+  canonical = λ p l. subst (λ fs. IsCanonical (bounds_of sys.flow p) (front_of fs p)) (sym s) (i.canonical p l);
+  one_flag_each = ap length f ∙ i.one_flag_each;
+  one_bound_each = b ∙ i.one_bound_each;
 }
 
-no_write : (kept : Policy) (p n : ℕ) → kept ≡ policy.None → [] ≡ write_of_event kept p n
-no_write kept p n e = ap (λ k. write_of_event k p n) (sym e)
+grown_each : (sys : System) (state next : Machine) (done : ℕ → Stamp → Bool) → GrowsTo sys state done next.settled → next.failed ≡ state.failed
+    → next.bounds ≡ state.bounds → IsOfEachNode sys state → IsOfEachNode sys next
+grown_each sys state next done g f b i = record {
+  one_front_each = g.one_each;
+  canonical = λ p l. at p l (is_failed state p) refl;
+  one_flag_each = ap length f ∙ i.one_flag_each;
+  one_bound_each = ap length b ∙ i.one_bound_each;
+}
+  where
+    at : (p : ℕ) → p < length sys.flow.nodes → (b : Bool) → is_failed state p ≡ b → IsCanonical (bounds_of sys.flow p) (front_of next.settled p)
+    at p l true e = subst (IsCanonical (bounds_of sys.flow p)) (sym (g.failed p l e)) (i.canonical p l)
+    at p l false e = (g.each p l e).canonical
 
--- an event that is added is the machine's next event
-pub with_event_added : (sys : System) (vs : List Event) (settled : List Front) (bounds : List ℕ) (v : Event) → KeepsNothing sys.flow
-    → state_of sys.flow (vs ++ v ∷ []) settled bounds ≡ with_event sys (state_of sys.flow vs settled bounds) v
-with_event_added sys vs settled bounds v keeps =
-    let p = place sys.flow v in
-    let n = length vs in
-    let make : List Numbered → ℕ → List Write → Machine = state_with sys.flow settled bounds in
-    ap (λ h. make (numbered h) (length (vs ++ v ∷ [])) []) (reverse_more vs v)
-    ∙ ap (λ k. make (record { serial = k; event = v } ∷ numbered (reverse vs)) (length (vs ++ v ∷ [])) []) (length-reverse vs)
-    ∙ ap (λ k. make (record { serial = n; event = v } ∷ numbered (reverse vs)) k []) (length_more vs v)
-    ∙ ap (λ ws. make (record { serial = n; event = v } ∷ numbered (reverse vs)) (n + 1) ws) (no_write (policy_of sys.flow p) p n (keeps p))
+flags_each : (sys : System) (state next : Machine) → next.settled ≡ state.settled → length next.failed ≡ length sys.flow.nodes → next.bounds ≡ state.bounds
+    → IsOfEachNode sys state → IsOfEachNode sys next
+flags_each sys state next s f b i = record {
+  one_front_each = ap length s ∙ i.one_front_each;
+  canonical = λ p l. subst (λ fs. IsCanonical (bounds_of sys.flow p) (front_of fs p)) (sym s) (i.canonical p l);
+  one_flag_each = f;
+  one_bound_each = ap length b ∙ i.one_bound_each;
+}
 
--- no node fails
-not_failed : (xs : List ℕ) (p : ℕ) → slice_index_or (map (λ q. false) xs) p false ≡ false
-not_failed [] p = refl
-not_failed (x ∷ xs) zero = refl
-not_failed (x ∷ xs) (suc p) = not_failed xs p
+cut_each : (sys : System) (state next : Machine) (choice : Choice) → CutsTo sys state choice next.settled → length next.failed ≡ length sys.flow.nodes
+    → next.bounds ≡ state.bounds → IsOfEachNode sys state → IsOfEachNode sys next
+cut_each sys state next choice c f b i = record {
+  one_front_each = c.one_each;
+  canonical = λ p l. at p l (cut_of choice p) (c.each p l);
+  one_flag_each = f;
+  one_bound_each = ap length b ∙ i.one_bound_each;
+}
+  where
+    at : (p : ℕ) → p < length sys.flow.nodes → (cut : Cut) → IsSettledCut sys p cut (front_of state.settled p) (front_of next.settled p)
+        → IsCanonical (bounds_of sys.flow p) (front_of next.settled p)
+    at p l Present e = subst (IsCanonical (bounds_of sys.flow p)) (sym e) (i.canonical p l)
+    at p l (At g) n = n.canonical
 
-pub live : (flow : Dataflow) (vs : List Event) (settled : List Front) (bounds : List ℕ) (p : ℕ) → is_failed (state_of flow vs settled bounds) p ≡ false
-live flow vs settled bounds p = not_failed (places flow) p
+length_set : (xs : List ℕ) (k y : ℕ) → length (slice_set xs k y) ≡ length xs
+length_set xs k y = grind (arith, common_steps)
 
-zeros_from : (a n : ℕ) → replicate {A = ℕ} n 0 ≡ map (λ p. 0) (range_with_len a n)
-zeros_from a zero = refl
-zeros_from a (suc n) = ap (λ xs. 0 ∷ xs) (zeros_from (a + 1) n)
+each_took : (sys : System) (state : Machine) (step : Step) (next : Machine) (effect : Effect) → is_plain_step step ≡ true → Takes sys state step next effect
+    → IsOfEachNode sys state → IsOfEachNode sys next
+each_took sys state (Inject s) next effect k t i = same_each sys state next (ap (λ m. m.settled) t.3) (ap (λ m. m.failed) t.3) (ap (λ m. length m.bounds) t.3) i
+each_took sys state (Deliver d at) next effect k t i = same_each sys state next (ap (λ m. m.settled) t.3) (ap (λ m. m.failed) t.3) (ap (λ m. length m.bounds) t.3) i
+each_took sys state (Notify p at) next effect k t i = same_each sys state next (ap (λ m. m.settled) t.3) (ap (λ m. m.failed) t.3) (ap (λ m. length m.bounds) t.3) i
+each_took sys state Progress next effect k t i =
+    grown_each sys state next t.0 (subst (GrowsTo sys state t.0) (sym (ap (λ m. m.settled) t.3)) t.2) (ap (λ m. m.failed) t.3) (ap (λ m. m.bounds) t.3) i
+each_took sys state (Checkpoint p) next effect k t i = absurd (cc)
+each_took sys state Persist next effect k t i = absurd (cc)
+each_took sys state (Fail ps) next effect k t i =
+    flags_each sys state next (ap (λ m. m.settled) t.4) (ap (λ m. length m.failed) t.4 ∙ length-map-range_with_len _ 0 (length sys.flow.nodes)) (ap (λ m. m.bounds) t.4) i
+each_took sys state Recover next effect k t i =
+    cut_each sys state next t.1 (subst (CutsTo sys state t.1) (sym (ap (λ m. m.settled) t.7)) t.6)
+    (ap (λ m. length m.failed) t.7 ∙ length-map-range_with_len _ 0 (length sys.flow.nodes)) (ap (λ m. m.bounds) t.7) i
+each_took sys state Collect next effect k t i = absurd (cc)
+each_took sys state (Ack o) next effect k t i =
+    same_each sys state next (ap (λ m. m.settled) t.2) (ap (λ m. m.failed) t.2) (ap (λ m. length m.bounds) t.2 ∙ length_set state.bounds o (t.0 + 1)) i
 
-pub zeros_each : (flow : Dataflow) → replicate {A = ℕ} (length flow.nodes) 0 ≡ map (λ p. 0) (places flow)
-zeros_each flow = zeros_from 0 (length flow.nodes)
+each_step : (sys : System) (state : Machine) (step : Step) (next : Machine) (outcome : Outcome) → is_plain_step step ≡ true → Steps sys state step next outcome
+    → IsOfEachNode sys state → IsOfEachNode sys next
+each_step sys state step next (did effect) k t i = each_took sys state step next effect k t i
+each_step sys state step next idle k t i = subst (IsOfEachNode sys) (sym t.1) i
+
+-- a step of the plain engine leads from a sound state to a sound one
+pub sound_after : (sys : System) (state : Machine) (step : Step) (next : Machine) (outcome : Outcome) → is_plain_step step ≡ true → IsSound sys state
+    → Steps sys state step next outcome → IsSound sys next
+sound_after sys state step next outcome k i t = record {
+  well_formed = i.well_formed;
+  keeps_nothing = i.keeps_nothing;
+  notifies_nobody = i.notifies_nobody;
+  reached = reached_more sys state next step outcome i.reached t;
+  of_each_node = each_step sys state step next outcome k t i.of_each_node;
+}
 
 -- the first state is sound
-pub sound_first : (sys : System) → IsWellFormed sys.flow → KeepsNothing sys.flow → NotifiesNobody sys.flow → HasEpochs sys
-    → IsSound sys [] (map (λ p. no_stamps (bounds_of sys.flow p)) (places sys.flow)) (map (λ p. 0) (places sys.flow))
-sound_first sys w keeps nobody epochs =
+pub sound_first : (sys : System) → IsWellFormedSystem sys → KeepsNothing sys.flow → NotifiesNobody sys.flow → IsSound sys (first_state sys)
+sound_first sys w keeps nobody =
     let n = length sys.flow.nodes in
     let f : ℕ → Front = λ p. no_stamps (bounds_of sys.flow p) in
     record {
       well_formed = w;
       keeps_nothing = keeps;
       notifies_nobody = nobody;
-      epochs = epochs;
-      legal = tt;
-      one_front_each = length-map-range_with_len f 0 n;
-      canonical = λ p l. subst (λ (os : Front). IsCanonical (bounds_of sys.flow p) os) (sym (get_or-map-range_with_len f 0 n p p [] l (omega arith)))
-          (names-no_stamps (bounds_of sys.flow p)).canonical;
-      one_bound_each = length-map-range_with_len (λ p. 0) 0 n;
+      reached = ([], [], refl);
+      of_each_node = record {
+        one_front_each = length-map-range_with_len f 0 n;
+        canonical = λ p l. subst (λ (os : Front). IsCanonical (bounds_of sys.flow p) os) (sym (get_or-map-range_with_len f 0 n p p [] l (omega arith)))
+            (names-no_stamps (bounds_of sys.flow p)).canonical;
+        one_flag_each = length-map-range_with_len (λ p. false) 0 n;
+        one_bound_each = length-map-range_with_len (λ p. 0) 0 n;
+      };
     }
 
--- an enabled event keeps the engine sound
-pub sound_after : (sys : System) (vs : List Event) (settled : List Front) (bounds : List ℕ) (v : Event)
-    → IsSound sys vs settled bounds → IsEnabled sys (reverse vs) v → IsSound sys (vs ++ v ∷ []) settled bounds
-sound_after sys vs settled bounds v s e = record {
-  well_formed = s.well_formed;
-  keeps_nothing = s.keeps_nothing;
-  notifies_nobody = s.notifies_nobody;
-  epochs = s.epochs;
-  legal = subst (IsLegal sys) (sym (reverse_more vs v)) (e, s.legal);
-  one_front_each = s.one_front_each;
-  canonical = s.canonical;
-  one_bound_each = s.one_bound_each;
-}
+same_from : {A : Type 0} (x : A) (a n : ℕ) → replicate n x ≡ map (λ p. x) (range_with_len a n)
+same_from x a zero = refl
+same_from x a (suc n) = ap (λ xs. x ∷ xs) (same_from x (a + 1) n)
+
+-- the same for each node
+pub same_for_each : {A : Type 0} (x : A) (flow : Dataflow) → replicate (length flow.nodes) x ≡ map (λ p. x) (places flow)
+same_for_each x flow = same_from x 0 (length flow.nodes)
+
+-- ---- what is true of a sound state
+
+pub epochs_of : (sys : System) (state : Machine) → IsSound sys state → HasEpochs sys
+epochs_of sys state i = has_epochs sys i.well_formed
+
+-- its history is legal
+pub legal_of : (sys : System) (state : Machine) → IsSound sys state → IsLegal sys (events state.history)
+legal_of sys state i =
+    let r = i.reached in runs-legal sys r.0 r.1 state i.well_formed.flow (epochs_of sys state i) r.2
 
 -- the events are at stamps of their nodes' domains
 first_at : (flow : Dataflow) (v : Event) (h : List Event) → AllByRecursion (λ w. in_domain (bounds_of flow (place flow v)) (stamp w) ≡ true) (events_at flow (place flow v) (v ∷ h))
@@ -125,61 +181,66 @@ first_at flow v h a = by (place flow v == place flow v) (grind (arith, nat_tests
     by true e a = a.0
     by false e a = absurd (cc)
 
-pub at_nodes : (sys : System) (vs : List Event) (settled : List Front) (bounds : List ℕ) → IsSound sys vs settled bounds → AreAtNodes sys.flow (reverse vs)
-at_nodes sys vs settled bounds s = each (reverse vs) s.legal
+pub at_nodes : (sys : System) (state : Machine) → IsSound sys state → AreAtNodes sys.flow (events state.history)
+at_nodes sys state i = each (events state.history) (legal_of sys state i)
   where
     each : (h : List Event) → IsLegal sys h → AreAtNodes sys.flow h
     each [] l = tt
     each (v ∷ h) l =
-        (first_at sys.flow v h (legal_events-in_domain sys (v ∷ h) s.well_formed s.epochs l (place sys.flow v)), each h l.1)
+        (first_at sys.flow v h (legal_events-in_domain sys (v ∷ h) i.well_formed.flow (epochs_of sys state i) l (place sys.flow v)), each h l.1)
 
 -- ---- the steps that add an event
 
-along : (sys : System) (vs : List Event) (P : List Event → Type 0) → P (reverse vs) → P (events (numbered (reverse vs)))
-along sys vs P e = subst P (sym (events_numbered (reverse vs))) e
+no_write : (kept : Policy) (p n : ℕ) → kept ≡ policy.None → [] ≡ write_of_event kept p n
+no_write kept p n e = ap (λ k. write_of_event k p n) (sym e)
 
-back : (sys : System) (vs : List Event) (P : List Event → Type 0) → P (events (numbered (reverse vs))) → P (reverse vs)
-back sys vs P e = subst P (events_numbered (reverse vs)) e
+-- an event that is added is the machine's next event
+with_event_added : (sys : System) (past : Past) (settled : List Front) (failed : List Bool) (bounds : List ℕ) (v : Event) → KeepsNothing sys.flow
+    → state_of sys.flow (with_one_more past v) settled failed bounds ≡ with_event sys (state_of sys.flow past settled failed bounds) v
+with_event_added sys past settled failed bounds v keeps =
+    let p = place sys.flow v in
+    let make : List Write → Machine = λ ws. record (state_of sys.flow (with_one_more past v) settled failed bounds) { writes = ws } in
+    ap make (no_write (policy_of sys.flow p) p past.next (keeps p))
 
-pub injects : (sys : System) (vs : List Event) (settled : List Front) (bounds : List ℕ) (s x : ℕ) → IsSound sys vs settled bounds
-    → IsNextBatch sys (reverse vs) s x
-    → Steps sys (state_of sys.flow vs settled bounds) (Inject s) (state_of sys.flow (vs ++ Injected s x ∷ []) settled bounds) (did quiet)
-injects sys vs settled bounds s x i e = (
+pub injects : (sys : System) (past later : Past) (settled : List Front) (failed : List Bool) (bounds : List ℕ) (s x : ℕ) → KeepsNothing sys.flow
+    → IsNextBatch sys (events past.history) s x → slice_index_or failed s false ≡ false → later ≡ with_one_more past (Injected s x)
+    → Steps sys (state_of sys.flow past settled failed bounds) (Inject s) (state_of sys.flow later settled failed bounds) (did quiet)
+injects sys past later settled failed bounds s x keeps e live m = (
   x,
-  along sys vs (λ h. IsNextBatch sys h s x) e,
-  live sys.flow vs settled bounds s,
-  with_event_added sys vs settled bounds (Injected s x) i.keeps_nothing,
+  e,
+  live,
+  ap (λ l. state_of sys.flow l settled failed bounds) m ∙ with_event_added sys past settled failed bounds (Injected s x) keeps,
   refl,
 )
 
-pub injects_nothing : (sys : System) (vs : List Event) (settled : List Front) (bounds : List ℕ) (s : ℕ) → ((x : ℕ) → IsNextBatch sys (reverse vs) s x → ⊥)
-    → Steps sys (state_of sys.flow vs settled bounds) (Inject s) (state_of sys.flow vs settled bounds) idle
-injects_nothing sys vs settled bounds s n = (λ other effect t. n t.0 (back sys vs (λ h. IsNextBatch sys h s t.0) t.1), refl)
+pub injects_nothing : (sys : System) (state : Machine) (s : ℕ) → ((x : ℕ) → IsNextBatch sys (events state.history) s x → is_failed state s ≡ false → ⊥)
+    → Steps sys state (Inject s) state idle
+injects_nothing sys state s n = (λ other effect t. n t.0 t.1 t.2, refl)
 
-pub delivers : (sys : System) (vs : List Event) (settled : List Front) (bounds : List ℕ) (e : ℕ) (at : Option Stamp) (m : Message) → IsSound sys vs settled bounds
-    → IsNextMessage sys (reverse vs) e at m
-    → Steps sys (state_of sys.flow vs settled bounds) (Deliver e at) (state_of sys.flow (vs ++ Delivered e m ∷ []) settled bounds) (did quiet)
-delivers sys vs settled bounds e at m i k = (
+pub delivers : (sys : System) (past later : Past) (settled : List Front) (failed : List Bool) (bounds : List ℕ) (e : ℕ) (at : Option Stamp) (m : Message)
+    → KeepsNothing sys.flow → IsNextMessage sys (events past.history) e at m → slice_index_or failed (receiver sys.flow e) false ≡ false
+    → later ≡ with_one_more past (Delivered e m)
+    → Steps sys (state_of sys.flow past settled failed bounds) (Deliver e at) (state_of sys.flow later settled failed bounds) (did quiet)
+delivers sys past later settled failed bounds e at m keeps k live l = (
   m,
-  along sys vs (λ h. IsNextMessage sys h e at m) k,
-  live sys.flow vs settled bounds (place sys.flow (Delivered e m)),
-  with_event_added sys vs settled bounds (Delivered e m) i.keeps_nothing,
+  k,
+  live,
+  ap (λ l. state_of sys.flow l settled failed bounds) l ∙ with_event_added sys past settled failed bounds (Delivered e m) keeps,
   refl,
 )
 
-pub delivers_nothing : (sys : System) (vs : List Event) (settled : List Front) (bounds : List ℕ) (e : ℕ) (at : Option Stamp)
-    → ((m : Message) → IsNextMessage sys (reverse vs) e at m → ⊥)
-    → Steps sys (state_of sys.flow vs settled bounds) (Deliver e at) (state_of sys.flow vs settled bounds) idle
-delivers_nothing sys vs settled bounds e at n = (λ other effect t. n t.0 (back sys vs (λ h. IsNextMessage sys h e at t.0) t.1), refl)
+pub delivers_nothing : (sys : System) (state : Machine) (e : ℕ) (at : Option Stamp)
+    → ((m : Message) → IsNextMessage sys (events state.history) e at m → is_failed state (receiver sys.flow e) ≡ false → ⊥)
+    → Steps sys state (Deliver e at) state idle
+delivers_nothing sys state e at n = (λ other effect t. n t.0 t.1 t.2, refl)
 
 first_of : (a b c : Bool) → (a && b && c) ≡ true → a ≡ true
 first_of true b c h = refl
 first_of false b c h = h
 
 -- where no node is notified a notification is idle
-pub notifies_nothing : (sys : System) (vs : List Event) (settled : List Front) (bounds : List ℕ) (p : ℕ) (at : Option Stamp) → IsSound sys vs settled bounds
-    → Steps sys (state_of sys.flow vs settled bounds) (Notify p at) (state_of sys.flow vs settled bounds) idle
-notifies_nothing sys vs settled bounds p at i =
+pub notifies_nothing : (sys : System) (state : Machine) (p : ℕ) (at : Option Stamp) → IsSound sys state → Steps sys state (Notify p at) state idle
+notifies_nothing sys state p at i =
     (λ other effect t. true_false (sym (first_of _ _ _ t.1.enabled.is_owed) ∙ i.notifies_nobody p), refl)
   where
     true_false : true ≡ false → ⊥
@@ -202,13 +263,6 @@ at_some o x P Q e m = subst (λ k. MatchOption k P Q) e m
 pub at_none : {A : Type 0} (o : Option A) (P : Type 0) (Q : A → Type 0) → o ≡ None → MatchOption o P Q → P
 at_none o P Q e m = subst (λ k. MatchOption k P Q) e m
 
--- its history is legal
-pub legal_now : (sys : System) (vs : List Event) (settled : List Front) (bounds : List ℕ) → IsSound sys vs settled bounds
-    → IsLegal sys (events (numbered (reverse vs)))
-legal_now sys vs settled bounds i = along sys vs (λ h. IsLegal sys h) i.legal
-
-pub legal_then : (was : Standing) (sys : System) (vs : List Event) (settled : List Front) (bounds : List ℕ) (refused : Bool)
-    → record { sys = sys; state = state_of sys.flow vs settled bounds; refused = refused } ≡ was → IsSound sys vs settled bounds
-    → IsLegal was.sys (events was.state.history)
-legal_then was sys vs settled bounds refused e i =
-    subst (λ (w : Standing). IsLegal w.sys (events w.state.history)) e (legal_now sys vs settled bounds i)
+pub legal_then : (was : Standing) (sys : System) (state : Machine) (refused : Bool)
+    → record { sys = sys; state = state; refused = refused } ≡ was → IsSound sys state → IsLegal was.sys (events was.state.history)
+legal_then was sys state refused e i = subst (λ (w : Standing). IsLegal w.sys (events w.state.history)) e (legal_of sys state i)

@@ -1,6 +1,6 @@
 -- Lists of frontiers, one for each node.
-use Rattle.std.proofs.Common.{◌≡◌, ℕ, zero, suc, ◌+◌, ◌<◌, Bool, true, false, not, ◌&&◌, List, [], ◌∷◌, ◌++◌, map, length, get_or, below_more, refl, sym, ◌∙◌, ap, subst, inl, inr, arith}
-use Rattle.std.proofs.lemmas.Bool.{cases_Bool, or_cases, or_left, or_right}
+use Rattle.std.proofs.Common.{◌≡◌, ℕ, zero, suc, ◌+◌, ◌<◌, Bool, true, false, not, ◌&&◌, List, [], ◌∷◌, ◌++◌, map, length, get_or, below_more, refl, sym, ◌∙◌, ap, subst, inl, inr, arith, Result, Ok, Err, IfOk}
+use Rattle.std.proofs.lemmas.Bool.{cases_Bool, or_cases, or_left, or_right, and_parts, and_from, false_from_ne_true}
 use Rattle.std.proofs.lemmas.List.{length-append}
 use Rattle.fw_time.specs.declared.stamp.Bounds.{Bounds}
 use Rattle.fw_time.specs.Stamp.{Stamp, leq, origin, in_domain}
@@ -10,7 +10,8 @@ use Rattle.fw_frontier.specs.Front.{Front, inside, IsCanonical, Names}
 use Rattle.fw_frontier.proofs.InsideLaws.{inside-closed}
 use Rattle.fw_frontier.proofs.NamesLaws.{names-same, names-nothing}
 use Rattle.fw_model.specs.Machine.{no_stamps, front_of}
-use Rattle.fw_plain.specs.Fronts.{grows, any_grows, IsJoin, AreJoined}
+use Rattle.fw_model.proofs.Decisions.{two_ways}
+use Rattle.fw_plain.specs.Fronts.{grows, any_grows, AreAtPlaces}
 
 -- ---- frontiers without stamps
 
@@ -62,32 +63,60 @@ grows-by b c (x ∷ s) k g = elim (or_cases (inside c x) (grows c s) g) [
     still true b e = e
     still false b e = refl
 
--- it does so at some place
-pub any_grows-at : (cs ss : List Front) (p : ℕ) → length cs ≡ length ss → p < length ss → grows (front_of cs p) (front_of ss p) ≡ true → any_grows cs ss ≡ true
-any_grows-at [] [] p e l g = absurd (omega arith)
-any_grows-at [] (s ∷ ss) p e l g = absurd (omega arith)
-any_grows-at (c ∷ cs) [] p e l g = absurd (omega arith)
-any_grows-at (c ∷ cs) (s ∷ ss) zero e l g = or_left (grows c s) (any_grows cs ss) g
-any_grows-at (c ∷ cs) (s ∷ ss) (suc p) e l g = or_right (grows c s) (any_grows cs ss) (any_grows-at cs ss p (omega arith) (omega arith) g)
+-- it does so at some place that is not failed
+pub any_grows-at : (fs : List Bool) (cs ss : List Front) (p : ℕ) → length cs ≡ length fs → length ss ≡ length fs → p < length fs → get_or fs p false ≡ false
+    → grows (front_of cs p) (front_of ss p) ≡ true → any_grows fs cs ss ≡ true
+any_grows-at [] cs ss p e k l n g = absurd (omega arith)
+any_grows-at (f ∷ fs) [] ss p e k l n g = absurd (omega arith)
+any_grows-at (f ∷ fs) (c ∷ cs) [] p e k l n g = absurd (omega arith)
+any_grows-at (f ∷ fs) (c ∷ cs) (s ∷ ss) zero e k l n g = or_left (not f && grows c s) (any_grows fs cs ss) (and_from (not f) (grows c s) (ap not n) g)
+any_grows-at (f ∷ fs) (c ∷ cs) (s ∷ ss) (suc p) e k l n g =
+    or_right (not f && grows c s) (any_grows fs cs ss) (any_grows-at fs cs ss p (omega arith) (omega arith) (omega arith) n g)
 
-pub any_grows-by : (cs ss : List Front) → any_grows cs ss ≡ true → (p : ℕ) × (p < length ss) × (grows (front_of cs p) (front_of ss p) ≡ true)
-any_grows-by [] ss g = absurd (cc)
-any_grows-by (c ∷ cs) [] g = absurd (cc)
-any_grows-by (c ∷ cs) (s ∷ ss) g = elim (or_cases (grows c s) (any_grows cs ss) g) [
-  | inl i ↦ (0, omega arith, i)
-  | inr r ↦ let w = any_grows-by cs ss r in (suc w.0, omega (arith, w.1), w.2)
+pub any_grows-by : (fs : List Bool) (cs ss : List Front) → any_grows fs cs ss ≡ true
+    → (p : ℕ) × (p < length fs) × (get_or fs p false ≡ false) × (grows (front_of cs p) (front_of ss p) ≡ true)
+any_grows-by [] cs ss g = absurd (cc)
+any_grows-by (f ∷ fs) [] ss g = absurd (cc)
+any_grows-by (f ∷ fs) (c ∷ cs) [] g = absurd (cc)
+any_grows-by (f ∷ fs) (c ∷ cs) (s ∷ ss) g = elim (or_cases (not f && grows c s) (any_grows fs cs ss) g) [
+  | inl i ↦ let a = and_parts (not f) (grows c s) i in (0, omega arith, negated f a.0, a.1)
+  | inr r ↦ let w = any_grows-by fs cs ss r in (suc w.0, omega (arith, w.1), w.2, w.3)
 ]
+  where
+    negated : (b : Bool) → not b ≡ true → b ≡ false
+    negated true e = absurd (cc)
+    negated false e = refl
 
--- ---- unions
+pub any_grows-where : (fs : List Bool) (cs ss : List Front) (p : ℕ) → length cs ≡ length fs → length ss ≡ length fs → p < length fs
+    → (not (get_or fs p false) && grows (front_of cs p) (front_of ss p)) ≡ true → any_grows fs cs ss ≡ true
+any_grows-where fs cs ss p e k l g =
+    let a = and_parts (not (get_or fs p false)) (grows (front_of cs p) (front_of ss p)) g in
+    any_grows-at fs cs ss p e k l (negated (get_or fs p false) a.0) a.1
+  where
+    negated : (b : Bool) → not b ≡ true → b ≡ false
+    negated true e = absurd (cc)
+    negated false e = refl
 
-pub joined_more : (n : ℕ) (ours others both : List Front) (g h f : Front) → AreJoined n ours others both → g ≡ front_of ours n → h ≡ front_of others n
-    → IsJoin g h f → AreJoined (n + 1) ours others (both ++ f ∷ [])
-joined_more n ours others both g h f a d e j = record {
-  one_each = length-append both (f ∷ []) ∙ ap (λ k. k + 1) a.one_each;
-  each = below_more _ _
-      (λ p l. subst (λ g. IsJoin (front_of ours p) (front_of others p) g) (sym (get_or-append_first both f p (omega (arith, a.one_each)))) (a.each p l))
-      (subst (λ k. IsJoin (front_of ours n) (front_of others n) k) (sym (get_or-append_last both f n a.one_each))
-      (subst (λ k. IsJoin k (front_of others n) f) d (subst (λ k. IsJoin g k f) e j)));
+-- and nowhere where it does at none
+pub any_grows-none : (fs : List Bool) (cs ss : List Front) → ((p : ℕ) → p < length fs → (not (get_or fs p false) && grows (front_of cs p) (front_of ss p)) ≡ false)
+    → any_grows fs cs ss ≡ false
+any_grows-none fs cs ss h = false_from_ne_true (any_grows fs cs ss) (λ g.
+    let w = any_grows-by fs cs ss g in
+    two_ways (not (get_or fs w.0 false) && grows (front_of cs w.0) (front_of ss w.0))
+    (and_from (not (get_or fs w.0 false)) (grows (front_of cs w.0) (front_of ss w.0)) (ap not w.2) w.3) (h w.0 w.1))
+
+-- ---- lists
+
+pub places_none : (is_wanted : ℕ → Front → Type 0) → AreAtPlaces 0 is_wanted []
+places_none is_wanted = record { one_each = refl; each = λ p l. absurd (omega arith) }
+
+-- one more frontier behind the others
+pub places_more : (n : ℕ) (is_wanted : ℕ → Front → Type 0) (fronts : List Front) (f : Front) → AreAtPlaces n is_wanted fronts → is_wanted n f
+    → AreAtPlaces (n + 1) is_wanted (fronts ++ f ∷ [])
+places_more n is_wanted fronts f a w = record {
+  one_each = length-append fronts (f ∷ []) ∙ ap (λ k. k + 1) a.one_each;
+  each = below_more _ _ (λ p l. subst (is_wanted p) (sym (get_or-append_first fronts f p (omega (arith, a.one_each)))) (a.each p l))
+      (subst (is_wanted n) (sym (get_or-append_last fronts f n a.one_each)) w);
 }
   where
     get_or-append_first : (xs : List Front) (x : Front) (p : ℕ) → p < length xs → get_or (xs ++ x ∷ []) p [] ≡ get_or xs p []
@@ -100,3 +129,9 @@ joined_more n ours others both g h f a d e j = record {
     get_or-append_last [] x (suc p) l = absurd (omega arith)
     get_or-append_last (y ∷ xs) x zero l = absurd (omega arith)
     get_or-append_last (y ∷ xs) x (suc p) l = get_or-append_last xs x p (omega arith)
+
+-- what holds in each domain of what a call gives
+pub in_each_domain : {E : Type 0} (r : Result Front E) (f g : Front) (P : Bounds → Front → Type 0)
+    → ((b : Bounds) → IsCanonical b f → IsCanonical b g → IfOk r (P b)) → IfOk r (λ x. (b : Bounds) → IsCanonical b f → IsCanonical b g → P b x)
+in_each_domain (Ok x) f g P h = h
+in_each_domain (Err e) f g P h = tt

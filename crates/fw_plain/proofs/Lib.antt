@@ -1,4 +1,10 @@
 pub mod EngineLaws
 pub mod FrontsLaws
+pub mod OffersFronts
+pub mod OffersLaws
+pub mod OffersLists
+pub mod OffersSteps
 pub mod OutputLaws
+pub mod PastLaws
+pub mod RecoveryLaws
 pub mod StepLaws

@@ -11,11 +11,9 @@ use Rattle.fw_flow.specs.declared.event.Event.{Event}
 use Rattle.fw_flow.specs.declared.event.Event.TheVariants.{Inject, Deliver, Notify}
 use Rattle.fw_flow.specs.declared.kind.Kind.{Kind}
 use Rattle.fw_flow.specs.declared.kind.Kind.TheVariants.{OutputNumber}
-use Rattle.fw_frontier.specs.Front.{Front}
 use Rattle.fw_flow.specs.Dataflow.{System, Dataflow, kind_of, receiver}
-use Rattle.fw_model.specs.Machine.{events}
-use Rattle.fw_plain.specs.Engine.{Standing, state_of}
-use Rattle.fw_plain.proofs.EngineLaws.{events_numbered}
+use Rattle.fw_model.specs.Machine.{Machine, events}
+use Rattle.fw_plain.specs.Engine.{Standing}
 use Rattle.fw_flow.specs.NodeFunction.{delivered_recs}
 use Rattle.fw_model.specs.Plain.{batches_of_nodes}
 use Rattle.fw_model.specs.Steps.{HasEpoch, HasDelivery, IsThere}
@@ -164,38 +162,38 @@ Tells w o x b =
     (b ≡ true → IsThere w.sys (events w.state.history) (kind_of w.sys.flow o) o x) × (IsThere w.sys (events w.state.history) (kind_of w.sys.flow o) o x → b ≡ true)
 
 -- the history of that state
-tells-from : (was : Standing) (sys : System) (vs : List Event) (settled : List Front) (bounds : List ℕ) (refused : Bool) (o x : ℕ) (b : Bool)
-    → record { sys = sys; state = state_of sys.flow vs settled bounds; refused = refused } ≡ was
+tells-from : (was : Standing) (sys : System) (state : Machine) (vs : List Event) (refused : Bool) (o x : ℕ) (b : Bool)
+    → record { sys = sys; state = state; refused = refused } ≡ was → events state.history ≡ reverse vs
     → ((b ≡ true → IsThere sys (reverse vs) (kind_of sys.flow o) o x) × (IsThere sys (reverse vs) (kind_of sys.flow o) o x → b ≡ true)) → Tells was o x b
-tells-from was sys vs settled bounds refused o x b e t =
+tells-from was sys state vs refused o x b e h t =
     let kind = kind_of sys.flow o in
     let P : List Event → Type 0 = λ h. (b ≡ true → IsThere sys h kind o x) × (IsThere sys h kind o x → b ≡ true) in
-    subst (λ (w : Standing). Tells w o x b) e (subst P (sym (events_numbered (reverse vs))) t)
+    subst (λ (w : Standing). Tells w o x b) e (subst P (sym h) t)
 
-pub tells-number : (was : Standing) (sys : System) (vs : List Event) (settled : List Front) (bounds : List ℕ) (refused : Bool) (o x : ℕ) (b : Bool)
-    → record { sys = sys; state = state_of sys.flow vs settled bounds; refused = refused } ≡ was → kind_of sys.flow o ≡ OutputNumber
+pub tells-number : (was : Standing) (sys : System) (state : Machine) (vs : List Event) (refused : Bool) (o x : ℕ) (b : Bool)
+    → record { sys = sys; state = state; refused = refused } ≡ was → events state.history ≡ reverse vs → kind_of sys.flow o ≡ OutputNumber
     → b ≡ has_delivery sys.flow vs o (same (x ∷ [])) → Tells was o x b
-tells-number was sys vs settled bounds refused o x b e k d =
-    tells-from was sys vs settled bounds refused o x b e (there-number sys vs (kind_of sys.flow o) o x b k d)
+tells-number was sys state vs refused o x b e h k d =
+    tells-from was sys state vs refused o x b e h (there-number sys vs (kind_of sys.flow o) o x b k d)
 
-pub tells-epoch : (was : Standing) (sys : System) (vs : List Event) (settled : List Front) (bounds : List ℕ) (refused : Bool) (o x : ℕ) (a : Bool)
-    → record { sys = sys; state = state_of sys.flow vs settled bounds; refused = refused } ≡ was → (kind_of sys.flow o ≡ OutputNumber → ⊥)
+pub tells-epoch : (was : Standing) (sys : System) (state : Machine) (vs : List Event) (refused : Bool) (o x : ℕ) (a : Bool)
+    → record { sys = sys; state = state; refused = refused } ≡ was → events state.history ≡ reverse vs → (kind_of sys.flow o ≡ OutputNumber → ⊥)
     → a ≡ has_epoch sys.batches x → a ≡ true → Tells was o x a
-tells-epoch was sys vs settled bounds refused o x a e k d t =
+tells-epoch was sys state vs refused o x a e h k d t =
     let late = has_delivery sys.flow vs o (leq (x ∷ [])) in
     subst (λ b. Tells was o x b) (or_true a late t)
-    (tells-from was sys vs settled bounds refused o x (a || late) e (there-epoch sys vs (kind_of sys.flow o) o x a late k d refl))
+    (tells-from was sys state vs refused o x (a || late) e h (there-epoch sys vs (kind_of sys.flow o) o x a late k d refl))
   where
     or_true : (a b : Bool) → a ≡ true → (a || b) ≡ a
     or_true true b t = refl
     or_true false b t = absurd (cc)
 
-pub tells-later : (was : Standing) (sys : System) (vs : List Event) (settled : List Front) (bounds : List ℕ) (refused : Bool) (o x : ℕ) (a b : Bool)
-    → record { sys = sys; state = state_of sys.flow vs settled bounds; refused = refused } ≡ was → (kind_of sys.flow o ≡ OutputNumber → ⊥)
+pub tells-later : (was : Standing) (sys : System) (state : Machine) (vs : List Event) (refused : Bool) (o x : ℕ) (a b : Bool)
+    → record { sys = sys; state = state; refused = refused } ≡ was → events state.history ≡ reverse vs → (kind_of sys.flow o ≡ OutputNumber → ⊥)
     → a ≡ has_epoch sys.batches x → a ≡ false → b ≡ has_delivery sys.flow vs o (leq (x ∷ [])) → Tells was o x b
-tells-later was sys vs settled bounds refused o x a b e k d t f =
+tells-later was sys state vs refused o x a b e h k d t f =
     subst (λ c. Tells was o x c) (or_false a b t)
-    (tells-from was sys vs settled bounds refused o x (a || b) e (there-epoch sys vs (kind_of sys.flow o) o x a b k d f))
+    (tells-from was sys state vs refused o x (a || b) e h (there-epoch sys vs (kind_of sys.flow o) o x a b k d f))
   where
     or_false : (a b : Bool) → a ≡ false → (a || b) ≡ b
     or_false true b t = absurd (cc)

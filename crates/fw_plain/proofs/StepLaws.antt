@@ -1,29 +1,32 @@
--- What progress and acknowledgements do to the state that an engine stands for.
-use Rattle.std.proofs.Common.{◌≡◌, ℕ, ◌+◌, ◌<◌, ◌^◌, ◌==◌, nat_le, cond, map, Bool, true, false, ◌&&◌, not, List, [], ◌∷◌, length, reverse, slice_set, slice_index_or, refl, sym, ◌∙◌, ap, subst, filter, arith}
-use Rattle.std.proofs.lemmas.Bool.{and_parts, and_from}
+-- What progress, acknowledgements, failures and recoveries do to the state that an engine stands for.
+use Rattle.std.proofs.Common.{◌≡◌, ℕ, zero, suc, ◌+◌, ◌<◌, ◌^◌, ◌==◌, nat_le, cond, map, Bool, true, false, ◌&&◌, ◌||◌, not, List, [], ◌∷◌, length, slice_set, slice_index_or, refl, sym, ◌∙◌, ap, subst, filter, inl, inr, arith}
+use Rattle.std.specs.List.{range_with_len}
+use Rattle.std.proofs.lemmas.Bool.{and_parts, and_from, or_cases, or_left, or_right}
 use Rattle.std.proofs.lemmas.Bool.Decides.{nat_tests}
-use Rattle.std.proofs.lemmas.Grind.{common_steps}
 use Rattle.fw_time.specs.declared.stamp.Bounds.{Bounds}
 use Rattle.fw_time.specs.Stamp.{Stamp, leq, same, in_domain}
 use Rattle.fw_bag.specs.declared.rec.Rec.{Rec}
 use Rattle.fw_bag.specs.Keyed.{sorted}
-use Rattle.fw_frontier.specs.Frontier.{Frontier}
 use Rattle.fw_frontier.specs.Front.{Front, inside, frontier_of}
-use Rattle.fw_flow.specs.declared.event.Event.{Event}
+use Rattle.fw_flow.specs.declared.choice.Choice.{Choice}
+use Rattle.fw_flow.specs.declared.choice.Cut.{Cut}
+use Rattle.fw_flow.specs.declared.choice.Cut.TheVariants.{Present, At}
 use Rattle.fw_flow.specs.declared.kind.Kind.{Kind}
 use Rattle.fw_flow.specs.declared.kind.Kind.TheVariants.{OutputEpoch, OutputNumber}
-use Rattle.fw_flow.specs.declared.step.Step.TheVariants.{Progress, Ack}
+use Rattle.fw_flow.specs.declared.step.Step.TheVariants.{Progress, Fail, Recover, Ack}
 use Rattle.fw_flow.specs.Dataflow.{System, Dataflow, kind_of, policy_of, receiver, bounds_of, greatest_of, greatest_number, domain_of_kind, is_output_kind}
 use Rattle.fw_flow.specs.NodeFunction.{delivered_recs}
+use Rattle.fw_model.specs.Choice.{cut_of, filtered, IsLargest}
 use Rattle.fw_model.specs.History.{IsComplete}
 use Rattle.fw_model.specs.Machine.{Machine, events, front_of, is_failed, bound_of, places}
-use Rattle.fw_model.specs.Steps.{MayAcknowledge, IsThere, Steps, checkpoint_of, eager_writes, is_eager, same_front, quiet, acked, did, idle}
+use Rattle.fw_model.specs.Steps.{MayAcknowledge, IsThere, Steps, CutsTo, IsSettledCut, checkpoint_of, eager_writes, is_eager, is_one_of, same_front, offers, quiet, acked, cuts, did, idle}
 use Rattle.fw_model.specs.Plain.{family_of, AreCanonical}
 use Rattle.fw_model.proofs.Decisions.{two_ways}
 use Rattle.fw_model.proofs.DescentLaws.{complete-one}
-use Rattle.fw_plain.specs.Engine.{Standing, state_of, KeepsNothing, IsSound}
-use Rattle.fw_plain.specs.Fronts.{grows, any_grows, AreJoined}
-use Rattle.fw_plain.proofs.EngineLaws.{events_numbered, live}
+use Rattle.fw_plain.specs.Engine.{Standing, KeepsNothing, state_of, IsOfEachNode, IsSound}
+use Rattle.fw_plain.specs.Failed.{any_failed, any_live, with_failed}
+use Rattle.fw_plain.specs.Fronts.{grows, any_grows, IsGrown, AreGrown, IsCut, AreCut}
+use Rattle.fw_plain.specs.Past.{Past}
 use Rattle.fw_plain.proofs.FrontsLaws.{grows-at, grows-by, any_grows-at, any_grows-by}
 
 -- ---- progress
@@ -38,21 +41,21 @@ grows-new b c s t i o =
     by true k e l = l
     by false k e l = absurd (cc)
 
-pub progresses_nothing : (sys : System) (vs : List Event) (settled : List Front) (bounds : List ℕ) (complete : List Front) → IsSound sys vs settled bounds
-    → IsComplete sys (reverse vs) (family_of sys.flow complete) → length complete ≡ length sys.flow.nodes → any_grows complete settled ≡ false
-    → Steps sys (state_of sys.flow vs settled bounds) Progress (state_of sys.flow vs settled bounds) idle
-progresses_nothing sys vs settled bounds complete i k n none = (
+pub progresses_nothing : (sys : System) (state : Machine) (complete : List Front) → IsSound sys state → IsComplete sys (events state.history) (family_of sys.flow complete)
+    → length complete ≡ length sys.flow.nodes → any_grows state.failed complete state.settled ≡ false → Steps sys state Progress state idle
+progresses_nothing sys state complete i k n none = (
   λ other effect t.
       let g = t.2 in
       let w = g.some in
       let p = w.0 in
       let b = bounds_of sys.flow p in
-      let also : IsComplete sys (reverse vs) t.0 = subst (λ h. IsComplete sys h t.0) (events_numbered (reverse vs)) g.complete in
-      let one : t.0 ≡ family_of sys.flow complete = complete-one sys (reverse vs) t.0 (family_of sys.flow complete) also k in
-      let in_ours : frontier_of b (front_of complete p) w.1 ≡ true = subst (λ (done : ℕ → Frontier). done p w.1 ≡ true) one w.4 in
-      let more = any_grows-at complete settled p (n ∙ sym i.one_front_each) (subst (λ m. p < m) (sym i.one_front_each) w.2)
-      (grows-new b (front_of complete p) (front_of settled p) w.1 in_ours w.5) in
-      two_ways (any_grows complete settled) more none,
+      let each = i.of_each_node in
+      let one : t.0 ≡ family_of sys.flow complete = complete-one sys (events state.history) t.0 (family_of sys.flow complete) g.complete k in
+      let in_ours : frontier_of b (front_of complete p) w.1 ≡ true = subst (λ (done : ℕ → Stamp → Bool). done p w.1 ≡ true) one w.4 in
+      let more = any_grows-at state.failed complete state.settled p (n ∙ sym each.one_flag_each) (each.one_front_each ∙ sym each.one_flag_each)
+      (subst (λ m. p < m) (sym each.one_flag_each) w.2) w.3
+      (grows-new b (front_of complete p) (front_of state.settled p) w.1 in_ours w.5) in
+      two_ways (any_grows state.failed complete state.settled) more none,
   refl,
 )
 
@@ -64,54 +67,47 @@ none_eager sys state settled (p ∷ ps) keeps =
     ap (λ kept. map (λ q. checkpoint_of state q (front_of settled q)) (cond (is_eager kept && grown p) (p ∷ asked) asked)) (keeps p)
     ∙ none_eager sys state settled ps keeps
 
-pub progresses : (sys : System) (vs : List Event) (settled : List Front) (bounds : List ℕ) (complete both : List Front) → IsSound sys vs settled bounds
-    → IsComplete sys (reverse vs) (family_of sys.flow complete) → AreCanonical sys.flow complete → AreJoined (length settled) settled complete both
-    → any_grows complete settled ≡ true
-    → Steps sys (state_of sys.flow vs settled bounds) Progress (state_of sys.flow vs both bounds) (did quiet)
-progresses sys vs settled bounds complete both i k canonical j more =
-    let old : Machine = state_of sys.flow vs settled bounds in
-    let place = any_grows-by complete settled more in
+live_grown : (b : Bounds) (f : Bool) (c s both : Front) → f ≡ false → IsGrown f s c both → IsGrown false s c both
+live_grown b f c s both e g = subst (λ flag. IsGrown flag s c both) e g
+
+pub progresses : (sys : System) (past : Past) (settled : List Front) (failed : List Bool) (bounds : List ℕ) (complete both : List Front)
+    → IsSound sys (state_of sys.flow past settled failed bounds)
+    → IsComplete sys (events past.history) (family_of sys.flow complete) → AreCanonical sys.flow complete → AreGrown failed settled complete both
+    → any_grows failed complete settled ≡ true
+    → Steps sys (state_of sys.flow past settled failed bounds) Progress (state_of sys.flow past both failed bounds) (did quiet)
+progresses sys past settled failed bounds complete both i k canonical j more =
+    let old : Machine = state_of sys.flow past settled failed bounds in
+    let each = i.of_each_node in
+    let place = any_grows-by failed complete settled more in
     let p = place.0 in
-    let l : p < length sys.flow.nodes = subst (λ n. p < n) i.one_front_each place.1 in
+    let l : p < length sys.flow.nodes = subst (λ n. p < n) each.one_flag_each place.1 in
     let b = bounds_of sys.flow p in
-    let new = grows-by b (front_of complete p) (front_of settled p) (i.canonical p l) place.2 in (
+    let new = grows-by b (front_of complete p) (front_of settled p) (each.canonical p l) place.3 in (
       family_of sys.flow complete,
       both,
       record {
-        complete = subst (λ h. IsComplete sys h (family_of sys.flow complete)) (sym (events_numbered (reverse vs))) k;
+        complete = k;
         some = (
           p,
           new.0,
           l,
-          live sys.flow vs settled bounds p,
+          place.2,
           and_from (in_domain b new.0) (inside (front_of complete p) new.0) new.1.in_the_domain new.1.gained,
           still (in_domain b new.0) (inside (front_of settled p) new.0) new.1.lacked,
         );
-        one_each = j.one_each ∙ i.one_front_each;
-        each = λ q m e. j.each q (subst (λ n. q < n) (sym i.one_front_each) m) (bounds_of sys.flow q) (i.canonical q m) (canonical q);
-        failed = λ q m e. absurd (two_ways (is_failed old q) e (live sys.flow vs settled bounds q));
+        one_each = j.one_each ∙ each.one_flag_each;
+        each = λ q m e. subst (λ flag. IsGrown flag (front_of settled q) (front_of complete q) (front_of both q)) e
+            (j.each q (subst (λ n. q < n) (sym each.one_flag_each) m)) (bounds_of sys.flow q) (each.canonical q m) (canonical q);
+        failed = λ q m e. subst (λ flag. IsGrown flag (front_of settled q) (front_of complete q) (front_of both q)) e
+            (j.each q (subst (λ n. q < n) (sym each.one_flag_each) m));
       },
-      ap (λ ws. record (state_of sys.flow vs both bounds) { writes = ws }) (sym (none_eager sys old both (places sys.flow) i.keeps_nothing)),
+      ap (λ ws. record (state_of sys.flow past both failed bounds) { writes = ws }) (sym (none_eager sys old both (places sys.flow) i.keeps_nothing)),
       refl,
     )
   where
     still : (a c : Bool) → c ≡ false → (a && c) ≡ false
     still true c e = e
     still false c e = refl
-
-pub sound_grown : (sys : System) (vs : List Event) (settled : List Front) (bounds : List ℕ) (complete both : List Front) → IsSound sys vs settled bounds
-    → AreCanonical sys.flow complete → AreJoined (length settled) settled complete both → IsSound sys vs both bounds
-sound_grown sys vs settled bounds complete both i canonical j = record {
-  well_formed = i.well_formed;
-  keeps_nothing = i.keeps_nothing;
-  notifies_nobody = i.notifies_nobody;
-  epochs = i.epochs;
-  legal = i.legal;
-  one_front_each = j.one_each ∙ i.one_front_each;
-  canonical = λ p l.
-      (j.each p (subst (λ n. p < n) (sym i.one_front_each) l) (bounds_of sys.flow p) (i.canonical p l) (canonical p)).canonical;
-  one_bound_each = i.one_bound_each;
-}
 
 -- ---- acknowledgements
 
@@ -132,56 +128,144 @@ settled_fits sys state o x m =
     (fits_of_kind sys.flow (kind_of sys.flow o) x m.output
     (and_parts (in_domain (bounds_of sys.flow o) (x ∷ [])) (inside (front_of state.settled o) (x ∷ [])) m.settled).0)
 
-pub may_acknowledge : (was : Standing) (sys : System) (vs : List Event) (settled : List Front) (bounds : List ℕ) (refused : Bool) (o x : ℕ)
-    → record { sys = sys; state = state_of sys.flow vs settled bounds; refused = refused } ≡ was → IsSound sys vs settled bounds → o < length bounds
-    → x ≡ slice_index_or bounds o 0 → is_output_kind (kind_of sys.flow o) ≡ true
+pub may_acknowledge : (was : Standing) (sys : System) (state : Machine) (refused : Bool) (o x : ℕ)
+    → record { sys = sys; state = state; refused = refused } ≡ was → IsSound sys state → o < length state.bounds
+    → x ≡ bound_of state o → is_output_kind (kind_of sys.flow o) ≡ true → is_failed state o ≡ false
     → frontier_of (bounds_of was.sys.flow o) (front_of was.state.settled o) (x ∷ []) ≡ true
     → IsThere was.sys (events was.state.history) (kind_of was.sys.flow o) o x → MayAcknowledge was.sys was.state o x
-may_acknowledge was sys vs settled bounds refused o x e i l n k =
+may_acknowledge was sys state refused o x e i l n k live =
     subst (λ (w : Standing). frontier_of (bounds_of w.sys.flow o) (front_of w.state.settled o) (x ∷ []) ≡ true
     → IsThere w.sys (events w.state.history) (kind_of w.sys.flow o) o x → MayAcknowledge w.sys w.state o x) e
     (λ s t. record {
-      declared = subst (λ m. o < m) i.one_bound_each l;
+      declared = subst (λ m. o < m) i.of_each_node.one_bound_each l;
       output = k;
-      live = live sys.flow vs settled bounds o;
+      live = live;
       next = n;
       settled = s;
       there = t;
     })
 
-pub may_acknowledge_none : (was : Standing) (sys : System) (vs : List Event) (settled : List Front) (bounds : List ℕ) (refused : Bool) (o : ℕ)
-    → record { sys = sys; state = state_of sys.flow vs settled bounds; refused = refused } ≡ was
-    → (slice_index_or bounds o 0 < 2 ^ 32 → ⊥) → (x : ℕ) → MayAcknowledge was.sys was.state o x → ⊥
-may_acknowledge_none was sys vs settled bounds refused o e n =
-    subst (λ (w : Standing). (x : ℕ) → MayAcknowledge w.sys w.state o x → ⊥) e (λ x m. n (settled_fits sys (state_of sys.flow vs settled bounds) o x m))
+pub may_acknowledge_none : (was : Standing) (sys : System) (state : Machine) (refused : Bool) (o : ℕ)
+    → record { sys = sys; state = state; refused = refused } ≡ was
+    → (bound_of state o < 2 ^ 32 → ⊥) → (x : ℕ) → MayAcknowledge was.sys was.state o x → ⊥
+may_acknowledge_none was sys state refused o e n =
+    subst (λ (w : Standing). (x : ℕ) → MayAcknowledge w.sys w.state o x → ⊥) e (λ x m. n (settled_fits sys state o x m))
 
-pub acknowledges : (sys : System) (vs : List Event) (settled : List Front) (bounds : List ℕ) (o x : ℕ) (recs : List Rec)
-    → MayAcknowledge sys (state_of sys.flow vs settled bounds) o x
-    → recs ≡ sorted (delivered_recs (λ e s. receiver sys.flow e == o && same s (x ∷ [])) (reverse vs))
-    → Steps sys (state_of sys.flow vs settled bounds) (Ack o) (state_of sys.flow vs settled (slice_set bounds o (x + 1))) (did (acked o (x ∷ []) recs))
-acknowledges sys vs settled bounds o x recs m e = (
-  x,
-  m,
-  refl,
-  ap (λ rs. acked o (x ∷ []) rs)
-      (e ∙ ap (λ h. sorted (delivered_recs (λ e s. receiver sys.flow e == o && same s (x ∷ [])) h)) (sym (events_numbered (reverse vs)))),
-)
+pub acknowledges : (sys : System) (past : Past) (settled : List Front) (failed : List Bool) (bounds : List ℕ) (o x : ℕ) (recs : List Rec)
+    → MayAcknowledge sys (state_of sys.flow past settled failed bounds) o x
+    → recs ≡ sorted (delivered_recs (λ e s. receiver sys.flow e == o && same s (x ∷ [])) (events past.history))
+    → Steps sys (state_of sys.flow past settled failed bounds) (Ack o) (state_of sys.flow past settled failed (slice_set bounds o (x + 1))) (did (acked o (x ∷ []) recs))
+acknowledges sys past settled failed bounds o x recs m e = (x, m, refl, ap (λ rs. acked o (x ∷ []) rs) e)
 
 pub acknowledges_nothing : (sys : System) (state : Machine) (o : ℕ) → ((x : ℕ) → MayAcknowledge sys state o x → ⊥) → Steps sys state (Ack o) state idle
 acknowledges_nothing sys state o n = (λ other effect t. n t.0 t.1, refl)
 
-pub sound_acknowledged : (sys : System) (vs : List Event) (settled : List Front) (bounds : List ℕ) (o x : ℕ) → IsSound sys vs settled bounds
-    → IsSound sys vs settled (slice_set bounds o x)
-sound_acknowledged sys vs settled bounds o x i = record {
-  well_formed = i.well_formed;
-  keeps_nothing = i.keeps_nothing;
-  notifies_nobody = i.notifies_nobody;
-  epochs = i.epochs;
-  legal = i.legal;
-  one_front_each = i.one_front_each;
-  canonical = i.canonical;
-  one_bound_each = length_set bounds o x ∙ i.one_bound_each;
+-- ---- failures
+
+-- one of the nodes is live exactly where one of them is a node of the flow that is not failed
+live-at : (failed : List Bool) (ps : List ℕ) (p : ℕ) → p < length failed → slice_index_or failed p false ≡ false → is_one_of p ps ≡ true → any_live failed ps ≡ true
+live-at failed [] p l n o = absurd (cc)
+live-at failed (q ∷ ps) p l n o = elim (or_cases (p == q) (is_one_of p ps) o) [
+  | inl e ↦
+      or_left (not (slice_index_or failed q true)) (any_live failed ps)
+      (subst (λ r. not (slice_index_or failed r true) ≡ true) (same_place p q e) (ap not (within failed p l ∙ n)))
+  | inr r ↦ or_right (not (slice_index_or failed q true)) (any_live failed ps) (live-at failed ps p l n r)
+]
+  where
+    same_place : (a b : ℕ) → (a == b) ≡ true → a ≡ b
+    same_place a b e = grind (arith, nat_tests)
+
+    within : (xs : List Bool) (k : ℕ) → k < length xs → slice_index_or xs k true ≡ slice_index_or xs k false
+    within [] k l = absurd (omega arith)
+    within (x ∷ xs) zero l = refl
+    within (x ∷ xs) (suc k) l = within xs k (omega arith)
+
+live-by : (failed : List Bool) (ps : List ℕ) → any_live failed ps ≡ true
+    → (p : ℕ) × (p < length failed) × (slice_index_or failed p false ≡ false) × (is_one_of p ps ≡ true)
+live-by failed [] e = absurd (cc)
+live-by failed (q ∷ ps) e = elim (or_cases (not (slice_index_or failed q true)) (any_live failed ps) e) [
+  | inl l ↦
+      let there = flag_of failed q l in
+      (q, there.0, there.1, or_left (q == q) (is_one_of q ps) (grind (arith, nat_tests)))
+  | inr r ↦ let w = live-by failed ps r in (w.0, w.1, w.2, or_right (w.0 == q) (is_one_of w.0 ps) w.3)
+]
+  where
+    flag_of : (xs : List Bool) (k : ℕ) → not (slice_index_or xs k true) ≡ true → (k < length xs) × (slice_index_or xs k false ≡ false)
+    flag_of [] k e = absurd (cc)
+    flag_of (true ∷ xs) zero e = absurd (cc)
+    flag_of (false ∷ xs) zero e = (omega arith, refl)
+    flag_of (x ∷ xs) (suc k) e = let r = flag_of xs k e in (omega (arith, r.0), r.1)
+
+pub fails : (sys : System) (past : Past) (settled : List Front) (failed then_failed : List Bool) (bounds : List ℕ) (ps : List ℕ)
+    → IsSound sys (state_of sys.flow past settled failed bounds) → any_live failed ps ≡ true → then_failed ≡ with_failed failed ps
+    → Steps sys (state_of sys.flow past settled failed bounds) (Fail ps) (state_of sys.flow past settled then_failed bounds) (did quiet)
+fails sys past settled failed then_failed bounds ps i l e =
+    let w = live-by failed ps l in
+    let n = i.of_each_node.one_flag_each in
+    let flag : ℕ → Bool = λ p. slice_index_or failed p false || is_one_of p ps in (
+      w.0,
+      subst (λ m. w.0 < m) n w.1,
+      w.3,
+      w.2,
+      ap (λ fs. state_of sys.flow past settled fs bounds) (e ∙ ap (λ m. map flag (range_with_len 0 m)) n),
+      refl,
+    )
+
+pub fails_nothing : (sys : System) (state : Machine) (ps : List ℕ) → IsSound sys state → any_live state.failed ps ≡ false → Steps sys state (Fail ps) state idle
+fails_nothing sys state ps i none = (
+  λ other effect t.
+      two_ways (any_live state.failed ps)
+      (live-at state.failed ps t.0 (subst (λ m. t.0 < m) (sym i.of_each_node.one_flag_each) t.1) t.3 t.2) none,
+  refl,
+)
+
+-- ---- recoveries
+
+failed-at : (failed : List Bool) (p : ℕ) → slice_index_or failed p false ≡ true → any_failed failed ≡ true
+failed-at [] p e = absurd (cc)
+failed-at (f ∷ failed) zero e = or_left f (any_failed failed) e
+failed-at (f ∷ failed) (suc p) e = or_right f (any_failed failed) (failed-at failed p e)
+
+failed-by : (failed : List Bool) → any_failed failed ≡ true → (p : ℕ) × (p < length failed) × (slice_index_or failed p false ≡ true)
+failed-by [] e = absurd (cc)
+failed-by (f ∷ failed) e = elim (or_cases f (any_failed failed) e) [
+  | inl l ↦ (0, omega arith, l)
+  | inr r ↦ let w = failed-by failed r in (suc w.0, omega (arith, w.1), w.2)
+]
+
+-- what is settled is cut at each node by a choice of canonical cuts
+cuts-to : (sys : System) (state : Machine) (choice : Choice) (after : List Front) → IsOfEachNode sys state → IsLargest sys state (offers sys state) choice
+    → AreCut choice.cuts state.settled after → CutsTo sys state choice after
+cuts-to sys state choice after each g c = record {
+  one_each = c.one_each ∙ each.one_front_each;
+  each = λ p l. at p l (cut_of choice p) (g.consistent.offered p l) (c.each p (subst (λ n. p < n) (sym each.one_front_each) l));
 }
   where
-    length_set : (xs : List ℕ) (k y : ℕ) → length (slice_set xs k y) ≡ length xs
-    length_set xs k y = grind (arith, common_steps)
+    at : (p : ℕ) → p < length sys.flow.nodes → (cut : Cut) → offers sys state p cut → IsCut cut (front_of state.settled p) (front_of after p)
+        → IsSettledCut sys p cut (front_of state.settled p) (front_of after p)
+    at p l Present o e = e
+    at p l (At f) o n = n (bounds_of sys.flow p) (each.canonical p l) o.0
+
+pub recovers : (sys : System) (past later : Past) (settled after : List Front) (failed then_failed : List Bool) (bounds : List ℕ) (choice : Choice)
+    → IsSound sys (state_of sys.flow past settled failed bounds) → any_failed failed ≡ true
+    → IsLargest sys (state_of sys.flow past settled failed bounds) (offers sys (state_of sys.flow past settled failed bounds)) choice
+    → AreCut choice.cuts settled after → later ≡ record { history = filtered sys choice past.history; next = past.next }
+    → then_failed ≡ map (λ p. false) (places sys.flow)
+    → Steps sys (state_of sys.flow past settled failed bounds) Recover (state_of sys.flow later after then_failed bounds) (did (cuts choice))
+recovers sys past later settled after failed then_failed bounds choice i some g c l e =
+    let state = state_of sys.flow past settled failed bounds in
+    let w = failed-by failed some in (
+      w.0,
+      choice,
+      after,
+      subst (λ m. w.0 < m) i.of_each_node.one_flag_each w.1,
+      w.2,
+      g,
+      cuts-to sys state choice after i.of_each_node g c,
+      ap (λ p. state_of sys.flow p after then_failed bounds) l
+          ∙ ap (λ fs. state_of sys.flow (record { history = filtered sys choice past.history; next = past.next }) after fs bounds) e,
+      refl,
+    )
+
+pub recovers_nothing : (sys : System) (state : Machine) → any_failed state.failed ≡ false → Steps sys state Recover state idle
+recovers_nothing sys state none = (λ other effect t. two_ways (any_failed state.failed) (failed-at state.failed t.0 t.4) none, refl)

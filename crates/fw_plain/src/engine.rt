@@ -1,39 +1,44 @@
 //! The engine and its steps.
 ghost use Rattle.std.specs.Prelude.{◌≡◌, ◌↔◌, ◌<◌, ℕ, [], ◌∷◌, length, true, false, IfOk, IsErr, OnErr, OnOk, IsTrue, MatchOption};
 ghost use Rattle.std.specs.Option.{option_copied};
-ghost use Rattle.fw_flow.specs.declared.step.Step.TheVariants.{Inject, Deliver, Notify, Progress, Ack};
+ghost use Rattle.fw_flow.specs.declared.step.Step.TheVariants.{Inject, Deliver, Notify, Progress, Fail, Recover, Ack};
 ghost use Rattle.fw_flow.specs.Dataflow.{kind_of, bounds_of};
+ghost use Rattle.fw_flow.specs.WellFormed.{IsWellFormedSystem};
+ghost use Rattle.fw_model.specs.Choice.{IsLargest};
 ghost use Rattle.fw_model.specs.History.{IsLegal};
 ghost use Rattle.fw_model.specs.LawsOfFiltering.{NotifiesNobody};
-ghost use Rattle.fw_model.specs.LawsOfLegalHistories.{HasEpochs};
 ghost use Rattle.fw_model.specs.Plain.{system_of};
 ghost use Rattle.fw_model.specs.Machine.{first_state, events, front_of};
 ghost use Rattle.fw_frontier.specs.Front.{frontier_of};
-ghost use Rattle.fw_model.specs.Steps.{Steps, MayAcknowledge, IsThere};
+ghost use Rattle.fw_model.specs.Steps.{Steps, MayAcknowledge, IsThere, offers as spec_offers};
 ghost use Rattle.fw_plain.specs.Engine.{Standing, KeepsNothing, is_plain_step, outcome_of};
 
-use crate::fronts::{any_grows, joined, no_stamps_each};
+use crate::events::Events;
+use crate::failed::{any_failed, any_live, is_failed, none_failed, with_failed};
+use crate::fronts::{any_grows, cut_each, grown, no_stamps_each};
+use crate::offers::offers;
 use crate::output::{has_delivery_at, has_delivery_from, has_epoch, is_output};
 use crate::{Effect, Stepped};
-use fw_flow::{EdgeId, Event, Flow, Kind, NodeId, Step};
+use fw_flow::{Choice, EdgeId, Event, Flow, Kind, NodeId, Step};
 use fw_frontier::Front;
 use fw_lines::Batches;
 use fw_model::plain::{complete_frontiers, next_batch, next_message, recs_at};
+use fw_monitor::largest;
 use fw_time::Stamp;
 use std::alloc::{AllocError, Global};
 use std::marker::Model;
 
-/// An engine that keeps the list of events, of a dataflow whose nodes keep nothing and are not notified. Contracts see the system that it
-/// runs, the state of the machine that it stands for, and whether memory was refused.
+/// An engine that keeps the list of events, of a dataflow whose nodes keep nothing for their recovery and are not notified.
+/// Contracts see the system that it runs, the state of the machine that it stands for, and whether memory was refused.
 #[derive(Debug, Drop)]
 pub struct Engine {
     alloc: Global,
     flow: Flow,
     batches: Batches,
-    // The events, the oldest first.
-    history: Vec<Event>,
-    // For each node what is settled, and how many stamps it acknowledged.
+    history: Events,
+    // For each node what is settled, whether it is failed, and how many stamps it acknowledged.
     settled: Vec<Front>,
+    failed: Vec<bool>,
     bounds: Vec<u64>,
     refused: bool,
 }
@@ -46,11 +51,12 @@ impl Model for Engine {
 
     ghost view = { λ e. record {
       sys = system_of e.flow e.batches;
-      state = state_of e.flow e.history.items e.settled.items e.bounds.items;
+      state = state_of e.flow e.history e.settled.items e.failed.items e.bounds.items;
       refused = e.refused;
     } };
 
-    ghost invariant = { λ e. IsSound (system_of e.flow e.batches) e.history.items e.settled.items e.bounds.items };
+    ghost invariant = { λ e. IsSound (system_of e.flow e.batches)
+        (state_of e.flow e.history e.settled.items e.failed.items e.bounds.items) };
 }
 
 impl Engine {
@@ -58,7 +64,7 @@ impl Engine {
     pub fn new(alloc: Global, flow: Flow, batches: Batches) -> Result<Self, AllocError>
         requires keeps_nothing { KeepsNothing flow }
         requires notifies_nobody { NotifiesNobody flow }
-        requires epochs { HasEpochs (system_of flow batches) }
+        requires well_formed { IsWellFormedSystem (system_of flow batches) }
         ensures { IfOk result (λ e. e ≡ record {
           sys = system_of flow batches;
           state = first_state (system_of flow batches);
@@ -66,13 +72,15 @@ impl Engine {
         }) }
     {
         let settled = no_stamps_each(alloc, &flow)?;
+        let failed = none_failed(alloc, &flow)?;
         let bounds = vec![in alloc; 0; flow.nodes()]?;
         Ok(Engine {
             alloc,
             flow,
             batches,
-            history: Vec::new(alloc),
+            history: Events::new(alloc),
             settled,
+            failed,
             bounds,
             refused: false,
         })
@@ -86,8 +94,8 @@ impl Engine {
     }
 
     /// Takes a step, and tells what it shows: Idle exactly where it is not enabled, and then nothing changes. The step is
-    /// an injection, a delivery, a notification, progress or an acknowledgement. The error is want of memory; from then
-    /// on every step answers it.
+    /// none of writes and collections. The error is want of memory: the state stays as it was, and from then on every step
+    /// answers it.
     pub fn step(&mut self, step: &Step) -> Result<Stepped, AllocError>
         requires { is_plain_step step.now ≡ true }
         ensures system { self.new.sys ≡ self.old.sys }
@@ -96,6 +104,7 @@ impl Engine {
         ensures legal { IsLegal self.new.sys (events self.new.state.history) }
         ensures live { OnOk result (self.new.refused ≡ false) }
         ensures err { OnErr result (self.new.refused ≡ true) }
+        ensures unchanged { OnErr result (self.new.state ≡ self.old.state) }
         ensures refused { IsTrue self.old.refused → IsErr result }
     {
         if self.refused {
@@ -110,6 +119,7 @@ impl Engine {
         requires { is_plain_step step.now ≡ true }
         ensures system { self.new.sys ≡ self.old.sys }
         ensures refused { self.new.refused ≡ self.old.refused }
+        ensures unchanged { OnErr result (self.new ≡ self.old) }
         ensures ok { IfOk result (λ stepped.
             Steps self.old.sys self.old.state step.now self.new.state (outcome_of stepped)) }
     {
@@ -118,6 +128,8 @@ impl Engine {
             Step::Deliver(edge, at) => self.deliver(*edge, at.as_ref()),
             Step::Notify(node, at) => Ok(self.notify(*node, at.as_ref())),
             Step::Progress => self.progress(),
+            Step::Fail(nodes) => self.fail(nodes.as_slice()),
+            Step::Recover => self.recover(),
             Step::Ack(output) => self.acknowledge(*output),
             _ => Ok(Stepped::Idle),
         }
@@ -126,10 +138,15 @@ impl Engine {
     fn inject(&mut self, source: NodeId) -> Result<Stepped, AllocError>
         ensures system { self.new.sys ≡ self.old.sys }
         ensures refused { self.new.refused ≡ self.old.refused }
+        ensures unchanged { OnErr result (self.new ≡ self.old) }
         ensures ok { IfOk result (λ stepped.
             Steps self.old.sys self.old.state (Inject source) self.new.state (outcome_of stepped)) }
     {
-        let Some(epoch) = next_batch(&self.flow, &self.batches, &self.history, source) else {
+        if is_failed(&self.failed, source) {
+            return Ok(Stepped::Idle);
+        }
+        let events = self.history.as_slice();
+        let Some(epoch) = next_batch(&self.flow, &self.batches, events, source) else {
             return Ok(Stepped::Idle);
         };
         self.history.push(Event::Inject { source, epoch })?;
@@ -139,17 +156,15 @@ impl Engine {
     fn deliver(&mut self, edge: EdgeId, at: Option<&Stamp>) -> Result<Stepped, AllocError>
         ensures system { self.new.sys ≡ self.old.sys }
         ensures refused { self.new.refused ≡ self.old.refused }
+        ensures unchanged { OnErr result (self.new ≡ self.old) }
         ensures ok { IfOk result (λ stepped.
             Steps self.old.sys self.old.state (Deliver edge (option_copied at.entry)) self.new.state (outcome_of stepped)) }
     {
-        let found = next_message(
-            self.alloc,
-            &self.flow,
-            &self.batches,
-            &self.history,
-            edge,
-            at,
-        )?;
+        if is_failed(&self.failed, self.flow.dst(edge)) {
+            return Ok(Stepped::Idle);
+        }
+        let events = self.history.as_slice();
+        let found = next_message(self.alloc, &self.flow, &self.batches, events, edge, at)?;
         let Some(message) = found else {
             return Ok(Stepped::Idle);
         };
@@ -168,20 +183,75 @@ impl Engine {
     fn progress(&mut self) -> Result<Stepped, AllocError>
         ensures system { self.new.sys ≡ self.old.sys }
         ensures refused { self.new.refused ≡ self.old.refused }
+        ensures unchanged { OnErr result (self.new ≡ self.old) }
         ensures ok { IfOk result (λ stepped.
             Steps self.old.sys self.old.state Progress self.new.state (outcome_of stepped)) }
     {
-        let complete = complete_frontiers(self.alloc, &self.flow, &self.batches, &self.history)?;
-        if !any_grows(&complete, &self.settled) {
+        let events = self.history.as_slice();
+        let complete = complete_frontiers(self.alloc, &self.flow, &self.batches, events)?;
+        if !any_grows(&self.failed, &complete, &self.settled) {
             return Ok(Stepped::Idle);
         }
-        self.settled = joined(self.alloc, &self.settled, &complete)?;
+        self.settled = grown(self.alloc, &self.failed, &self.settled, &complete)?;
         Ok(Stepped::Did(Effect::Quiet))
+    }
+
+    fn fail(&mut self, nodes: &[NodeId]) -> Result<Stepped, AllocError>
+        ensures system { self.new.sys ≡ self.old.sys }
+        ensures refused { self.new.refused ≡ self.old.refused }
+        ensures unchanged { OnErr result (self.new ≡ self.old) }
+        ensures ok { IfOk result (λ stepped.
+            Steps self.old.sys self.old.state (Fail nodes.now) self.new.state (outcome_of stepped)) }
+    {
+        if !any_live(&self.failed, nodes) {
+            return Ok(Stepped::Idle);
+        }
+        self.failed = with_failed(self.alloc, &self.failed, nodes)?;
+        Ok(Stepped::Did(Effect::Quiet))
+    }
+
+    // What is outside its node's cut is filtered out, also of what is settled, and no node is failed any more.
+    fn recover(&mut self) -> Result<Stepped, AllocError>
+        ensures system { self.new.sys ≡ self.old.sys }
+        ensures refused { self.new.refused ≡ self.old.refused }
+        ensures unchanged { OnErr result (self.new ≡ self.old) }
+        ensures ok { IfOk result (λ stepped.
+            Steps self.old.sys self.old.state Recover self.new.state (outcome_of stepped)) }
+    {
+        if !any_failed(&self.failed) {
+            return Ok(Stepped::Idle);
+        }
+        let choice = self.choose()?;
+        let settled = cut_each(self.alloc, choice.cuts.as_slice(), &self.settled)?;
+        let failed = none_failed(self.alloc, &self.flow)?;
+        self.history
+            .cut(self.alloc, &self.flow, choice.cuts.as_slice())?;
+        self.settled = settled;
+        self.failed = failed;
+        Ok(Stepped::Did(Effect::Cuts(choice)))
+    }
+
+    // To what a recovery restores the nodes.
+    fn choose(&self) -> Result<Choice, AllocError>
+        ensures { IfOk result (λ choice.
+            IsLargest self.now.sys self.now.state (spec_offers self.now.sys self.now.state) choice) }
+    {
+        let offers = offers(
+            self.alloc,
+            &self.flow,
+            &self.batches,
+            self.history.as_slice(),
+            &self.settled,
+            &self.bounds,
+            &self.failed,
+        )?;
+        largest(self.alloc, &self.flow, &offers)
     }
 
     fn acknowledge(&mut self, output: NodeId) -> Result<Stepped, AllocError>
         ensures system { self.new.sys ≡ self.old.sys }
         ensures refused { self.new.refused ≡ self.old.refused }
+        ensures unchanged { OnErr result (self.new ≡ self.old) }
         ensures ok { IfOk result (λ stepped.
             Steps self.old.sys self.old.state (Ack output) self.new.state (outcome_of stepped)) }
     {
@@ -189,7 +259,7 @@ impl Engine {
             return Ok(Stepped::Idle);
         };
         let at = Stamp::new(&[x]);
-        let recs = recs_at(self.alloc, &self.flow, &self.history, output, &at)?;
+        let recs = recs_at(self.alloc, &self.flow, self.history.as_slice(), output, &at)?;
         self.bounds[output.place() as usize] += 1;
         Ok(Stepped::Did(Effect::Acked { output, at, recs }))
     }
@@ -202,6 +272,7 @@ impl Engine {
         let bound = *self.bounds.get(output.place() as usize)?;
         let x = u32::try_from(bound).ok()?;
         if is_output(self.flow.kind(output))
+            && !is_failed(&self.failed, output)
             && self.is_settled(output, x)
             && self.is_there(output, x)
         {
@@ -228,11 +299,12 @@ impl Engine {
             (kind_of self.now.sys.flow output) output x }
     {
         let at = Stamp::new(&[x]);
+        let events = self.history.as_slice();
         match self.flow.kind(output) {
-            Kind::OutputNumber => has_delivery_at(&self.flow, &self.history, output, &at),
+            Kind::OutputNumber => has_delivery_at(&self.flow, events, output, &at),
             _ => {
                 has_epoch(&self.flow, &self.batches, x)
-                    || has_delivery_from(&self.flow, &self.history, output, &at)
+                    || has_delivery_from(&self.flow, events, output, &at)
             }
         }
     }

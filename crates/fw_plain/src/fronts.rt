@@ -1,11 +1,11 @@
 //! A frontier for each node.
-ghost use Rattle.std.specs.Prelude.{◌≡◌, map, length, IfOk};
+ghost use Rattle.std.specs.Prelude.{◌≡◌, not, ◌&&◌, map, length, IfOk};
 ghost use Rattle.fw_flow.specs.Dataflow.{bounds_of};
 ghost use Rattle.fw_model.specs.Machine.{no_stamps, places};
 ghost use Rattle.fw_plain.specs.Fronts as spec;
-ghost use Rattle.fw_plain.specs.Fronts.{AreJoined};
+ghost use Rattle.fw_plain.specs.Fronts.{IsGrown, AreGrown, IsCut, AreCut};
 
-use fw_flow::{Flow, NodeId};
+use fw_flow::{Cut, Flow, NodeId};
 use fw_frontier::Front;
 use std::alloc::{AllocError, Global};
 
@@ -27,31 +27,75 @@ fn grows(complete: &Front, settled: &Front) -> bool
     settled.outside().iter().any(|o| complete.contains(o))
 }
 
-/// Whether some frontier of the first list has a stamp that the second list's lacks.
-pub(crate) fn any_grows(complete: &[Front], settled: &[Front]) -> bool
-    requires { length complete.now ≡ length settled.now }
-    ensures { result ≡ spec.any_grows complete.now settled.now }
+/// Whether some complete frontier has a stamp that is not settled yet, of a node that is not failed.
+pub(crate) fn any_grows(failed: &[bool], complete: &[Front], settled: &[Front]) -> bool
+    requires complete { length complete.now ≡ length failed.now }
+    requires settled { length settled.now ≡ length failed.now }
+    ensures { result ≡ spec.any_grows failed.now complete.now settled.now }
 {
-    for (place, complete) in complete.iter().enumerate() {
-        if grows(complete, &settled[place]) {
+    for (place, flag) in failed.iter().enumerate() {
+        if grows_at(*flag, &complete[place], &settled[place]) {
             return true;
         }
     }
     false
 }
 
-/// The unions of the frontiers at each place. The error is want of memory.
-pub(crate) fn joined(
-    alloc: Global,
-    ours: &[Front],
-    others: &[Front],
-) -> Result<Vec<Front>, AllocError>
-    requires { length ours.now ≡ length others.now }
-    ensures { IfOk result (λ both. AreJoined (length ours.now) ours.now others.now both.items) }
+fn grows_at(failed: bool, complete: &Front, settled: &Front) -> bool
+    ensures { result ≡ (not failed && spec.grows complete.now settled.now) }
 {
-    let mut both = Vec::with_capacity(alloc, ours.len())?;
-    for (place, one) in ours.iter().enumerate() {
-        both.push(one.join(&others[place])?)?;
+    !failed && grows(complete, settled)
+}
+
+/// What is settled once the nodes that are not failed settle what is complete. The error is want of memory.
+pub(crate) fn grown(
+    alloc: Global,
+    failed: &[bool],
+    settled: &[Front],
+    complete: &[Front],
+) -> Result<Vec<Front>, AllocError>
+    requires settled { length settled.now ≡ length failed.now }
+    requires complete { length complete.now ≡ length failed.now }
+    ensures { IfOk result (λ both. AreGrown failed.now settled.now complete.now both.items) }
+{
+    let mut both = Vec::with_capacity(alloc, failed.len())?;
+    for (place, flag) in failed.iter().enumerate() {
+        both.push(grown_at(*flag, &settled[place], &complete[place])?)?;
     }
     Ok(both)
+}
+
+fn grown_at(failed: bool, settled: &Front, complete: &Front) -> Result<Front, AllocError>
+    ensures { IfOk result (λ both. IsGrown failed settled.now complete.now both) }
+{
+    if failed {
+        settled.copy()
+    } else {
+        settled.join(complete)
+    }
+}
+
+/// What is settled once each node is cut. The error is want of memory.
+pub(crate) fn cut_each(
+    alloc: Global,
+    cuts: &[Cut],
+    settled: &[Front],
+) -> Result<Vec<Front>, AllocError>
+    requires { length cuts.now ≡ length settled.now }
+    ensures { IfOk result (λ after. AreCut cuts.now settled.now after.items) }
+{
+    let mut after = Vec::with_capacity(alloc, settled.len())?;
+    for (place, front) in settled.iter().enumerate() {
+        after.push(cut_at(&cuts[place], front)?)?;
+    }
+    Ok(after)
+}
+
+fn cut_at(cut: &Cut, settled: &Front) -> Result<Front, AllocError>
+    ensures { IfOk result (λ after. IsCut cut.now settled.now after) }
+{
+    match cut {
+        Cut::Present => settled.copy(),
+        Cut::At(front) => settled.meet(front),
+    }
 }

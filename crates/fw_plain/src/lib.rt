@@ -2,8 +2,12 @@
 #![tactic(auto)]
 
 mod engine;
+mod events;
+mod failed;
 mod fronts;
+mod offers;
 mod output;
+mod restoring;
 mod stepped;
 
 pub use engine::Engine;

@@ -1,6 +1,6 @@
 //! What comes of a step.
 use fw_bag::Bag;
-use fw_flow::NodeId;
+use fw_flow::{Choice, NodeId};
 use fw_time::Stamp;
 
 /// What a step shows.
@@ -14,6 +14,8 @@ pub enum Effect {
         at: Stamp,
         recs: Bag,
     },
+    /// The nodes were restored to the choice.
+    Cuts(Choice),
 }
 
 /// What comes of a step.

@@ -12,11 +12,12 @@ use Rattle.fw_model.specs.Choice.{View, kept, ever, IsCandidate, IsLargest}
 use Rattle.fw_model.specs.Machine.{is_failed}
 use Rattle.fw_model.specs.Plain.{system_of}
 use Rattle.fw_model.specs.Steps.{Effect, cuts}
+use Rattle.fw_run.proofs.RunLaws.{one_run}
 use Rattle.fw_run.proofs.TextLaws.{ready, well_formed_system, one_first_refusal, accepted_or_refused}
 use Rattle.fw_run.specs.declared.reading.Job.{Job}
 use Rattle.fw_run.specs.declared.status.Status.{Status}
 use Rattle.fw_run.specs.declared.status.Status.TheVariants.{Done, BadWords, Refused, ReadFault, WriteFault, NoMemory}
-use Rattle.fw_run.specs.Headline.{Prints, PrintsPart, IsPrinted, IsPartPrinted, IsRunEnd, StaysLegal, AcknowledgesInOrder, ShowsDenotation, CutsToLargest}
+use Rattle.fw_run.specs.Headline.{Prints, PrintsPart, IsPrinted, IsPartPrinted, IsRunEnd, StaysLegal, AcknowledgesInOrder, ShowsDenotation, HasOneRun, CutsToLargest}
 use Rattle.fw_run.specs.Reading.{IsReady, IsJob}
 use Rattle.fw_run.specs.Status.{IsRefused}
 use Rattle.fw_run.specs.Texts.{Texts, AreThere, AreAccepted, IsFirstRefusal, spelled_system, spelled_steps}
@@ -85,6 +86,9 @@ texts-in_order texts outcomes last r = acknowledgements-in_order (spelled_system
 pub texts-denoted : (texts : Texts) → AreAccepted texts → ShowsDenotation (spelled_system texts) (spelled_steps texts)
 texts-denoted texts a family d outcomes last r =
     acknowledged-denoted (spelled_system texts) family (well_formed_system texts a) d (spelled_steps texts) outcomes last r
+
+pub texts-one_run : (texts : Texts) → AreAccepted texts → HasOneRun (spelled_system texts) (spelled_steps texts)
+texts-one_run texts a count = one_run (spelled_system texts) (well_formed_system texts a) (take count (spelled_steps texts))
 
 -- what a recovery shows is what it chose
 cuts-one : (one other : Choice) → cuts one ≡ cuts other → one ≡ other

@@ -10,6 +10,7 @@ use Rattle.fw_flow.specs.declared.step.Step.TheVariants.{Inject, Deliver, Notify
 use Rattle.fw_flow.specs.Dataflow.{Dataflow, System}
 use Rattle.fw_flow.specs.WellFormed.{IsWellFormedSystem}
 use Rattle.fw_model.proofs.ChoosingLaws.{reached-one_next}
+use Rattle.fw_model.proofs.OneNextLaws.{one_next}
 use Rattle.fw_model.specs.Machine.{Machine, first_state}
 use Rattle.fw_model.specs.Steps.{Effect, Outcome, did, idle, Takes as TakesStep, Steps, Run}
 use Rattle.fw_plain.specs.Engine.{Standing, is_plain_step}
@@ -48,6 +49,27 @@ run_exists sys w before earlier state r (step ∷ steps) =
     let rest = run_exists sys w (before ++ step ∷ []) (earlier ++ next.1 ∷ []) next.0 (run_join sys (first_state sys) state next.0 before (step ∷ []) earlier (next.1 ∷ []) r (next.0, next.2.steps, refl)) steps in
     (next.1 ∷ rest.0, rest.1, (next.0, next.2.steps, rest.2))
 
+-- two runs of the same steps from a state are one
+run_once : (sys : System) (state : Machine) (steps : List Step) (one other : List Outcome) (last final : Machine) → Run sys state steps one last → Run sys state steps other final
+    → (other ≡ one) × (final ≡ last)
+run_once sys state [] [] [] last final r s = (refl, s ∙ sym r)
+run_once sys state [] [] (o ∷ other) last final r s = absurd s
+run_once sys state [] (o ∷ one) other last final r s = absurd r
+run_once sys state (step ∷ steps) [] other last final r s = absurd r
+run_once sys state (step ∷ steps) (o ∷ one) [] last final r s = absurd s
+run_once sys state (step ∷ steps) (o ∷ one) (q ∷ other) last final r s =
+    let next = one_next sys state step s.0 r.0 q o s.1 r.1 in
+    let rest = run_once sys r.0 steps one other last final r.2 (subst (λ m. Run sys m steps other final) next.0 s.2) in
+    (ap (λ x. x ∷ other) next.1 ∙ ap (λ xs. o ∷ xs) rest.0, rest.1)
+
+-- steps of a well-formed system have exactly one run from its first state
+pub one_run : (sys : System) → IsWellFormedSystem sys → (steps : List Step)
+    → (outcomes : List Outcome) × (state : Machine) × Run sys (first_state sys) steps outcomes state
+    × ((others : List Outcome) (other : Machine) → Run sys (first_state sys) steps others other → (others ≡ outcomes) × (other ≡ state))
+one_run sys w steps =
+    let run = run_exists sys w [] [] (first_state sys) refl steps in
+    (run.0, run.1, run.2, λ others other r. run_once sys (first_state sys) steps run.0 others run.1 other run.2 r)
+
 -- what a step acknowledges is of a node of the dataflow
 shown_effect : (sys : System) (state : Machine) (step : Step) (next : Machine) (effect : Effect) → TakesStep sys state step next effect → IsShownOf sys.flow (did effect)
 shown_effect sys state (Inject s) next effect t = subst (λ e. IsShownOf sys.flow (did e)) (sym t.4) tt
@@ -57,7 +79,7 @@ shown_effect sys state Progress next effect t = subst (λ e. IsShownOf sys.flow 
 shown_effect sys state (Checkpoint p) next effect t = subst (λ e. IsShownOf sys.flow (did e)) (sym t.4) tt
 shown_effect sys state Persist next effect t = subst (λ e. IsShownOf sys.flow (did e)) (sym t.3) tt
 shown_effect sys state (Fail ps) next effect t = subst (λ e. IsShownOf sys.flow (did e)) (sym t.5) tt
-shown_effect sys state Recover next effect t = subst (λ e. IsShownOf sys.flow (did e)) (sym t.8) tt
+shown_effect sys state Recover next effect t = subst (λ e. IsShownOf sys.flow (did e)) (sym t.8) t.5.consistent.one_cut_each
 shown_effect sys state Collect next effect t = subst (λ e. IsShownOf sys.flow (did e)) (sym t.4) tt
 shown_effect sys state (Ack o) next effect t = subst (λ e. IsShownOf sys.flow (did e)) (sym t.3) t.1.declared
 

@@ -1,7 +1,5 @@
 -- The inputs of a flow by their names, found one after another.
 use Rattle.std.proofs.Common.{◌≡◌, ℕ, zero, suc, ◌+◌, ◌<◌, ◌≤◌, Bool, true, false, cond, List, [], ◌∷◌, ◌++◌, length, Some, None, refl, sym, ◌∙◌, ap, arith}
-use Rattle.std.proofs.lemmas.Grind.{flat_map-append}
-use Rattle.std.proofs.lemmas.List.{append-nil}
 use Rattle.std.proofs.lemmas.Option.{same_Some}
 use Rattle.std.proofs.lemmas.Slice.Eq.{bytes_eq-Decides}
 use Rattle.std.specs.List.{flat_map, range_with_len}
@@ -11,6 +9,7 @@ use Rattle.std.specs.Str.{bytes_eq}
 use Rattle.fw_flow.specs.Dataflow.{Dataflow, node_at, kind_of, is_input_kind}
 use Rattle.fw_lines.specs.Sources.{node_of}
 use Rattle.fw_schedule.specs.Grammar.{node_named}
+use Rattle.fw_run.proofs.Ranges.{joined_more}
 use Rattle.fw_run.specs.Reading.{AreNamesDistinct}
 use Rattle.fw_run.specs.Texts.{source_at}
 
@@ -39,18 +38,6 @@ none_among flow p distinct below a (suc n) h =
 pub name_is_new : (flow : Dataflow) (p : ℕ) → AreNamesDistinct flow → p < length flow.nodes → IsNone (node_of (flat_map (source_at flow) (range_with_len 0 p)) (node_at flow p).name)
 name_is_new flow p distinct below = ap is_some (none_among flow p distinct below 0 p (omega arith))
 
-range_more : (a n : ℕ) → range_with_len a (n + 1) ≡ range_with_len a n ++ (a + n) ∷ []
-range_more a zero = ap (λ k. k ∷ []) (omega arith)
-range_more a (suc n) =
-    let more : range_with_len (a + 1) (n + 1) ≡ range_with_len (a + 1) n ++ (a + 1 + n) ∷ [] = range_more (a + 1) n in
-    let last : a + 1 + n ≡ a + suc n = omega arith in
-    let longer : suc n + 1 ≡ suc (n + 1) = omega arith in
-    ap (range_with_len a) longer ∙ ap (λ t. a ∷ t) (more ∙ ap (λ k. range_with_len (a + 1) n ++ k ∷ []) last)
-
 -- the inputs among one node more
 pub sources_more : (flow : Dataflow) (p : ℕ) → flat_map (source_at flow) (range_with_len 0 (p + 1)) ≡ flat_map (source_at flow) (range_with_len 0 p) ++ source_at flow p
-sources_more flow p =
-    ap (flat_map (source_at flow)) (range_more 0 p)
-    ∙ flat_map-append (source_at flow) (range_with_len 0 p) ((0 + p) ∷ [])
-    ∙ ap (λ k. flat_map (source_at flow) (range_with_len 0 p) ++ (source_at flow k ++ [])) (omega arith)
-    ∙ ap (λ t. flat_map (source_at flow) (range_with_len 0 p) ++ t) (append-nil (source_at flow p))
+sources_more flow p = joined_more (source_at flow) p

@@ -66,8 +66,13 @@ abbrev pub ShowsDenotation : System → List Step → Type 0
 ShowsDenotation sys steps = (family : Family) → IsDenotation sys family
     → (outcomes : List Outcome) (last : Machine) → Run sys (first_state sys) steps outcomes last → AllByRecursion (IsDenoted sys family) outcomes
 
--- after each number of the steps a recovery cuts to the largest consistent choice of what is kept, and that is also the
--- largest over all that was ever acknowledged and not undone
+-- each number of first steps has exactly one run
+abbrev pub HasOneRun : System → List Step → Type 0
+HasOneRun sys steps = (count : ℕ) → (outcomes : List Outcome) × (state : Machine) × Run sys (first_state sys) (take count steps) outcomes state
+    × ((others : List Outcome) (other : Machine) → Run sys (first_state sys) (take count steps) others other → (others ≡ outcomes) × (other ≡ state))
+
+-- After each number of the steps a recovery cuts to the largest consistent choice of what is kept, which is what a recovery
+-- is, and by a law that is also the largest over all that was ever acknowledged and not undone.
 abbrev pub CutsToLargest : System → List Step → Type 0
 CutsToLargest sys steps = (count : ℕ) (outcomes : List Outcome) (state next : Machine) (choice : Choice)
     → Run sys (first_state sys) (take count steps) outcomes state → Steps sys state Recover next (did (cuts choice))

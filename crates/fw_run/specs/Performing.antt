@@ -6,7 +6,7 @@ use Rattle.fw_outside.specs.Outside.{Takes, TakesPrefix}
 use Rattle.fw_flow.specs.declared.step.Step.{Step}
 use Rattle.fw_flow.specs.Dataflow.{Dataflow}
 use Rattle.fw_model.specs.Machine.{Machine}
-use Rattle.fw_model.specs.Steps.{acked, Outcome, did, Steps}
+use Rattle.fw_model.specs.Steps.{acked, cuts, Outcome, did, Steps}
 use Rattle.fw_plain.specs.Engine.{Standing}
 use Rattle.fw_run.specs.Printed.{outcome_text, is_idle}
 
@@ -15,9 +15,10 @@ abbrev pub shown_bytes : Option (Vec ℕ Global) → List ℕ
 shown_bytes None = []
 shown_bytes (Some line) = line.items
 
--- what an outcome acknowledges is of a node of the dataflow
+-- what an outcome acknowledges is of a node of the dataflow, and what it cuts is of each node
 abbrev pub IsShownOf : Dataflow → Outcome → Type 0
 IsShownOf flow (did (acked o t recs)) = o < length flow.nodes
+IsShownOf flow (did (cuts choice)) = length choice.cuts ≡ length flow.nodes
 IsShownOf flow outcome = Unit {0}
 
 -- the step was taken from one state to the next, and the lines of what came of it were taken

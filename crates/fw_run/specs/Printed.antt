@@ -1,5 +1,5 @@
 -- What a run prints.
-use Rattle.std.specs.Prelude.{ℕ, Bool, true, false, List, [], ◌∷◌, ◌++◌, length, codes}
+use Rattle.std.specs.Prelude.{ℕ, Bool, true, false, List, [], ◌∷◌, ◌++◌, length, slice_index_or, codes}
 use Rattle.std.specs.Fmt.{decimal}
 use Rattle.std.specs.List.{flat_map}
 use Rattle.fw_bag.specs.declared.rec.Rec.{Rec}
@@ -43,6 +43,10 @@ cut_text (At front) = front_text front
 abbrev pub cut_line : List ℕ → Cut → List ℕ
 cut_line name cut = codes "cut " ++ name ++ codes " " ++ cut_text cut ++ codes "\n"
 
+-- the line of each node's cut, where these are the cuts in the order of the nodes
+abbrev pub cut_lines : Dataflow → List Cut → List ℕ
+cut_lines flow in_order = flat_map (λ p. cut_line (node_at flow p).name (slice_index_or in_order p Present)) (places flow)
+
 -- `low NODE all` or `low NODE until STAMP ..`
 abbrev pub low_line : List ℕ → Cut → List ℕ
 low_line name cut = codes "low " ++ name ++ codes " " ++ front_text (front_of_cut cut) ++ codes "\n"
@@ -51,7 +55,7 @@ low_line name cut = codes "low " ++ name ++ codes " " ++ front_text (front_of_cu
 abbrev pub effect_text : Dataflow → Effect → List ℕ
 effect_text flow quiet = []
 effect_text flow (acked o t recs) = ack_line (node_at flow o).name (kind_of flow o) t recs
-effect_text flow (cuts choice) = flat_map (λ p. cut_line (node_at flow p).name (cut_of choice p)) (places flow)
+effect_text flow (cuts choice) = cut_lines flow choice.cuts
 effect_text flow (lows choice) = flat_map (λ p. low_line (node_at flow p).name (cut_of choice p)) (places flow)
 
 -- the lines of what comes of a step

@@ -2,7 +2,7 @@
 ghost use Rattle.std.specs.Prelude.{◌≡◌, ◌⊎◌, ◌≤◌, ◌↔◌, true, false, Contains, IsSome};
 ghost use Rattle.fw_lines.specs.declared.refusal.Refusal as lines;
 ghost use Rattle.fw_outside.specs.Outside.{Rose};
-ghost use Rattle.fw_run.specs.Headline.{Prints, PrintsPart, IsRunEnd, StaysLegal, ShowsDenotation, AcknowledgesInOrder, CutsToLargest};
+ghost use Rattle.fw_run.specs.Headline.{Prints, PrintsPart, IsRunEnd, StaysLegal, ShowsDenotation, AcknowledgesInOrder, HasOneRun, CutsToLargest};
 ghost use Rattle.fw_run.specs.Texts.{Texts, AreThere, AreAccepted, IsFirstRefusal, spelled_system, spelled_steps};
 ghost use Rattle.fw_run.specs.Words.{words_in, are_run_words, names_of};
 ghost use Rattle.fw_run.specs.Status.{number_of, note_of, IsTold, IsRefused, status_numbers};
@@ -55,8 +55,9 @@ pub fn falkirk<F: Folder, K: Store, O: Sink, N: Sink>(
         are_run_words (words_in words.now) ≡ true → IsSome (F.texts folder.old)
         → AreThere (F.texts folder.old) names texts → AreAccepted texts → IsRunEnd result }
 
-    // What the machine does with accepted texts: its histories are legal, and each output acknowledges its epochs in
-    // order, each with what the dataflow means there.
+    // What the machine does with accepted texts: there is one run, its histories are legal, and each output acknowledges
+    // its epochs in order, each with what the dataflow means there.
+    ensures one_run { (texts : Texts) → AreAccepted texts → HasOneRun (spelled_system texts) (spelled_steps texts) }
     ensures legal { (texts : Texts) → AreAccepted texts → StaysLegal (spelled_system texts) (spelled_steps texts) }
     ensures in_order { (texts : Texts) → AreAccepted texts → AcknowledgesInOrder (spelled_system texts) (spelled_steps texts) }
     ensures denoted { (texts : Texts) → AreAccepted texts → ShowsDenotation (spelled_system texts) (spelled_steps texts) }

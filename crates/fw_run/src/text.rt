@@ -1,5 +1,5 @@
 //! The lines that are printed, as bytes.
-ghost use Rattle.std.specs.Prelude.{◌≡◌, ◌++◌, [], OnOk, IfOk, string_bytes};
+ghost use Rattle.std.specs.Prelude.{◌≡◌, ◌++◌, [], length, OnOk, IfOk, string_bytes};
 ghost use Rattle.fw_model.specs.Steps.{did};
 ghost use Rattle.fw_plain.specs.Engine.{effect_of, outcome_of};
 ghost use Rattle.fw_run.specs.Printed as spec;
@@ -9,7 +9,7 @@ ghost use Rattle.fw_run.specs.Status.{note_of};
 ghost use Rattle.fw_run.specs.declared.status.Status.TheVariants as Status;
 
 use fw_bag::{Bag, Rec};
-use fw_flow::{Flow, Kind};
+use fw_flow::{Cut, Flow, Kind, NodeId};
 use fw_lines::Refusal;
 use fw_plain::{Effect, Stepped};
 use fw_time::Stamp;
@@ -43,6 +43,7 @@ fn effect_line(
             let name = flow.node_name(*output).as_bytes();
             Ok(Some(ack_line(alloc, name, flow.kind(*output), at, recs)?))
         }
+        Effect::Cuts(choice) => Ok(Some(cut_lines(alloc, flow, choice.cuts.as_slice())?)),
     }
 }
 
@@ -94,6 +95,48 @@ fn rec_text(alloc: Global, rec: Rec) -> Result<String, AllocError>
     let key = rec.key;
     let value = rec.value;
     format!(in alloc; " {key}:{value}")
+}
+
+/// The lines of what nodes are cut to, one for each node in order: `cut NODE present`, `cut NODE all` or
+/// `cut NODE until STAMP ..`, each ended by LF.
+pub(crate) fn cut_lines(alloc: Global, flow: &Flow, cuts: &[Cut]) -> Result<Vec<u8>, AllocError>
+    requires { length cuts.now ≡ length flow.now.nodes }
+    ensures { IfOk result (λ lines. lines.items ≡ spec.cut_lines flow.now cuts.now) }
+{
+    let mut lines = Vec::new(alloc);
+    for place in 0..flow.nodes() {
+        let name = flow.node_name(NodeId::at(place as u32));
+        push_cut_line(alloc, &mut lines, name.as_bytes(), &cuts[place])?;
+    }
+    Ok(lines)
+}
+
+// Puts the line of a node's cut at the end.
+fn push_cut_line(
+    alloc: Global,
+    lines: &mut Vec<u8>,
+    node: &[u8],
+    cut: &Cut,
+) -> Result<(), AllocError>
+    ensures { OnOk result (lines.new.items ≡ lines.old.items ++ spec.cut_line node.now cut.now) }
+{
+    lines.extend_from_slice(b"cut ")?;
+    lines.extend_from_slice(node)?;
+    lines.push(b' ')?;
+    let text = cut_text(alloc, cut)?;
+    lines.extend_from_slice(text.as_bytes())?;
+    lines.push(b'\n')?;
+    Ok(())
+}
+
+// `present`, or the frontier to which a node is cut.
+fn cut_text(alloc: Global, cut: &Cut) -> Result<String, AllocError>
+    ensures { IfOk result (λ text. string_bytes text ≡ spec.cut_text cut.now) }
+{
+    match cut {
+        Cut::Present => String::from_str(alloc, "present"),
+        Cut::At(front) => format!(in alloc; "{front}"),
+    }
 }
 
 /// The line `done steps STEPS idle IDLE`, ended by LF.

@@ -50,7 +50,7 @@ pub(super) fn is_input(kind: Kind) -> bool
 
 /// How many batches an input injected.
 #[tactic(auto, using(crate::proofs::EventSteps::injected_more))]
-pub(super) fn injected_count(events: &[Event], source: NodeId) -> usize
+pub fn injected_count(events: &[Event], source: NodeId) -> usize
     ensures { result ≡ history.injected_count source (reverse events.now) }
 {
     let mut count: usize = 0;

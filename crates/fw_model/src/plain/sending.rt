@@ -294,7 +294,7 @@ pub(super) fn sends(
 
 /// What a node sent on each of its out-edges, what its latest event sent first. The only error is want of memory.
 #[tactic(auto, using(crate::proofs::SendSteps::sent_more, crate::proofs::SendSteps::sent_same, crate::proofs::SendSteps::at_nodes_last))]
-pub(super) fn sent_by(
+pub fn sent_by(
     alloc: Global,
     flow: &Flow,
     batches: &Batches,

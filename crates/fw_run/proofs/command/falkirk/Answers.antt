@@ -1,6 +1,6 @@
 use Rattle.std.proofs.Common.{sym, ◌∙◌}
 use Rattle.std.proofs.lemmas.Bool.{false≢true}
-use Rattle.fw_run.proofs.HeadlineLaws.{told_refused, refuses, refuses_told, completes, completes_told, texts-stay_legal, texts-in_order, texts-denoted, texts-largest}
+use Rattle.fw_run.proofs.HeadlineLaws.{told_refused, refuses, refuses_told, completes, completes_told, texts-stay_legal, texts-in_order, texts-denoted, texts-one_run, texts-largest}
 use Rattle.fw_run.proofs.Numbers.{Contains-number_of}
 use Rattle.fw_run.specs.Words.{words_in, names_of}
 use Rattle.fw_run.proofs.command.falkirk.Goals as goal
@@ -37,3 +37,6 @@ returns-clause-denoted g c = texts-denoted
 
 pub returns-clause-largest : goal.returns-clause-largest
 returns-clause-largest g c = texts-largest
+
+pub returns-clause-one_run : goal.returns-clause-one_run
+returns-clause-one_run g c = texts-one_run

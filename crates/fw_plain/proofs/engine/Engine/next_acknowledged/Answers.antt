@@ -1,8 +1,9 @@
-use Rattle.std.proofs.Common.{◌≡◌, ℕ, ◌<◌, ◌^◌, List, length, get_or, Option, Some, None, Result, Ok, Err, OkIff, MatchOption, sym, ◌∙◌, ap, subst}
+use Rattle.std.proofs.Common.{◌≡◌, ℕ, ◌<◌, ◌^◌, Bool, false, slice_index_or, List, length, get_or, Option, Some, None, Result, Ok, Err, OkIff, MatchOption, sym, ◌∙◌, ap, subst}
 use Rattle.std.specs.Result.{result_ok}
 use Rattle.fw_flow.specs.Dataflow.{is_output_kind}
 use Rattle.fw_model.specs.Plain.{system_of}
 use Rattle.fw_model.specs.Steps.{MayAcknowledge}
+use Rattle.fw_plain.specs.Engine.{state_of}
 use Rattle.fw_plain.proofs.StepLaws.{may_acknowledge, may_acknowledge_none}
 use Rattle.fw_plain.proofs.engine.Engine.next_acknowledged.Goals as goal
 
@@ -30,7 +31,7 @@ returns-in_err-x c =
     λ l. fits-not c.try_from.result (n < 2 ^ 32) n c.try_from.ensures c.in_err-x.ensures.value (subst (λ m. m < 2 ^ 32) (sym at.1) l) in
     subst (λ (r : Option ℕ). MatchOption r ((x : ℕ) → MayAcknowledge was.sys was.state o x → ⊥) (λ x. MayAcknowledge was.sys was.state o x))
     (sym c.from_residual-in_err-x.ensures)
-    (may_acknowledge_none was (system_of e.flow e.batches) e.history.items e.settled.items e.bounds.items e.refused o c.self.view_is not_fits)
+    (may_acknowledge_none was (system_of e.flow e.batches) (state_of e.flow e.history e.settled.items e.failed.items e.bounds.items) e.refused o c.self.view_is not_fits)
 
 pub returns-then-is_there : goal.returns-then-is_there
 returns-then-is_there c =
@@ -40,7 +41,8 @@ returns-then-is_there c =
     let n = c.in_ok-bound.field-0.now in
     let x = c.in_ok-x.x in
     let at = read c.deref.result.now e.bounds.items c.place.result o n c.deref.ensures.value c.place.ensures c.in_ok-bound.ensures.lookup.3 in
-    may_acknowledge was (system_of e.flow e.batches) e.history.items e.settled.items e.bounds.items e.refused o x c.self.view_is c.self.invariant at.0
+    may_acknowledge was (system_of e.flow e.batches) (state_of e.flow e.history e.settled.items e.failed.items e.bounds.items) e.refused o x c.self.view_is c.self.invariant at.0
     (fits-same c.try_from.result (n < 2 ^ 32) n x c.try_from.ensures c.in_ok-x.ensures.value ∙ at.1)
     (ap is_output_kind (sym c.kind.ensures) ∙ sym c.is_output.ensures ∙ c.if-is_output.true)
+    (sym (sym c.if-not-is_failed.true ∙ c.is_failed.ensures ∙ ap (λ (fs : List Bool). slice_index_or fs o false) c.deref-then-is_output.ensures.value))
     (sym c.is_settled.ensures ∙ c.if-is_settled.true) (c.is_there.ensures.0 c.if-is_there.true)

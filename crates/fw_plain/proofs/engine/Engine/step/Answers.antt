@@ -1,13 +1,14 @@
 use Rattle.fw_model.specs.Plain.{system_of}
-use Rattle.fw_plain.proofs.EngineLaws.{legal_now, legal_then}
+use Rattle.fw_plain.specs.Engine.{state_of}
+use Rattle.fw_plain.proofs.EngineLaws.{legal_of, legal_then}
 use Rattle.fw_plain.proofs.engine.Engine.step.Goals as goal
 
 pub returns-then-self-clause-legal : goal.returns-then-self-clause-legal
 returns-then-self-clause-legal c =
     let e = c.self.inside in
-    legal_then c.args.self.now (system_of e.flow e.batches) e.history.items e.settled.items e.bounds.items e.refused c.self.view_is c.self.invariant
+    legal_then c.args.self.now (system_of e.flow e.batches) (state_of e.flow e.history e.settled.items e.failed.items e.bounds.items) e.refused c.self.view_is c.self.invariant
 
 pub returns-clause-legal : goal.returns-clause-legal
 returns-clause-legal c =
     let e = c.self-2.inside in
-    legal_now (system_of e.flow e.batches) e.history.items e.settled.items e.bounds.items c.self-2.invariant
+    legal_of (system_of e.flow e.batches) (state_of e.flow e.history e.settled.items e.failed.items e.bounds.items) c.self-2.invariant

@@ -1,6 +1,6 @@
 use Rattle.std.proofs.Common.{Option, sym, ◌∙◌, ap, subst, IfOk}
 use Rattle.fw_time.specs.Stamp.{Stamp}
-use Rattle.fw_flow.specs.declared.step.Step.TheVariants.{Deliver, Notify}
+use Rattle.fw_flow.specs.declared.step.Step.TheVariants.{Deliver, Notify, Fail}
 use Rattle.fw_flow.specs.declared.step.Step.{Step}
 use Rattle.fw_model.specs.Steps.{Steps}
 use Rattle.fw_plain.specs.Engine.{outcome_of}
@@ -30,3 +30,13 @@ pub returns-in-Notify-clause-ok : goal.returns-in-Notify-clause-ok
 returns-in-Notify-clause-ok c =
     subst (λ (step : Step). Steps c.args.self.now.sys c.args.self.now.state step c.args.self.now.state (outcome_of c.notify.result))
     (ap (λ (at : Option Stamp). Notify c.in-Notify.node at) c.as_ref-in-Notify.ensures.value ∙ sym c.in-Notify.is) c.notify.ensures
+
+pub returns-in-Fail-clause-ok : goal.returns-in-Fail-clause-ok
+returns-in-Fail-clause-ok c =
+    subst (λ (step : Step). IfOk c.fail.result (λ stepped. Steps c.args.self.now.sys c.args.self.now.state step c.fail.new.self.state (outcome_of stepped)))
+    (ap Fail c.as_slice.ensures ∙ sym c.in-Fail.is) c.fail.ensures.ok
+
+pub returns-in-Recover-clause-ok : goal.returns-in-Recover-clause-ok
+returns-in-Recover-clause-ok c =
+    subst (λ (step : Step). IfOk c.recover.result (λ stepped. Steps c.args.self.now.sys c.args.self.now.state step c.recover.new.self.state (outcome_of stepped))) (sym c.in-Recover.is)
+    c.recover.ensures.ok

@@ -1,0 +1,5 @@
+use Rattle.fw_examples.proofs.LawsApplied.{steps_apply}
+use Rattle.fw_examples.proofs.laws_applied.steps_apply.Goals as goal
+
+pub returns : goal.returns
+returns c = steps_apply

@@ -1,0 +1,92 @@
+-- What nodes of the kinds that look at their earlier events send at one event, and in all.
+use Rattle.std.specs.Prelude.{◌≡◌, ℕ, ◌-◌, ◌^◌, List, [], ◌∷◌, None}
+use Rattle.fw_time.specs.Stamp.{Stamp}
+use Rattle.fw_bag.specs.declared.rec.Rec.{Rec}
+use Rattle.fw_flow.specs.declared.event.Event.{Event}
+use Rattle.fw_flow.specs.declared.event.Event.TheVariants.{Deliver, Notify}
+use Rattle.fw_flow.specs.declared.event.Message.{Message}
+use Rattle.fw_flow.specs.declared.kind.Kind.{Kind}
+use Rattle.fw_flow.specs.declared.kind.Kind.TheVariants.{Distinct, Join, Sum, Total, Sequence, Ledger, Regroup}
+use Rattle.fw_flow.specs.NodeFunction.{sends_of_kind}
+use Rattle.fw_flow.specs.WholeBags.{Timed, outputs_of_kind, in_order}
+use Rattle.fw_examples.specs.Flows.{no_batches, pair}
+
+-- an epoch or a number
+abbrev pub at : ℕ → Stamp
+at x = x ∷ []
+
+-- a delivery on an edge of a rec at an epoch or a number
+abbrev pub taken : ℕ → ℕ → Rec → Event
+taken e x r = Deliver e (record { at = at x; rec = r; causes = at x ∷ [] })
+
+-- a notification of an epoch; the node plays no part
+abbrev pub notice : ℕ → Event
+notice x = Notify 0 (at x)
+
+-- a message at an epoch or a number, of an event at another one
+abbrev pub sent : ℕ → Rec → ℕ → Message
+sent x r cause = record { at = at x; rec = r; causes = at cause ∷ [] }
+
+-- what an event makes a node of the kind send, after these earlier events of the node, the latest first
+abbrev pub Sends : Kind → List Event → Event → List Message → Type 0
+Sends kind before v messages = sends_of_kind no_batches kind before v ≡ messages
+
+-- a rec at an epoch or a number
+abbrev pub timed : ℕ → Rec → Timed
+timed x r = record { at = at x; rec = r }
+
+-- what a node of the kind sends in all for these bags on its in-edges, in order
+abbrev pub SendsInAll : Kind → List (List Timed) → List Timed → Type 0
+SendsInAll kind bags all = in_order (outputs_of_kind no_batches.flow kind [] bags) ≡ all
+
+-- the first of equal recs at an epoch is sent on, the second is not
+pub record DistinctSendsTheFirst : Type 0 where
+  pub first : Sends (Distinct None) (taken 0 1 (pair 1 5) ∷ taken 0 0 (pair 1 6) ∷ []) (taken 0 0 (pair 1 5)) (sent 0 (pair 1 5) 0 ∷ [])
+  pub second : Sends (Distinct None) (taken 0 0 (pair 1 5) ∷ []) (taken 0 0 (pair 1 5)) []
+  pub all : SendsInAll (Distinct None) ((timed 1 (pair 1 5) ∷ timed 0 (pair 1 5) ∷ timed 0 (pair 1 5) ∷ []) ∷ [])
+      (timed 0 (pair 1 5) ∷ timed 1 (pair 1 5) ∷ [])
+
+-- a rec is joined with each rec of its key that came at its epoch on the other edge, equal ones each
+pub record JoinSendsEachPair : Type 0 where
+  pub pairs : Sends (Join None)
+      (taken 0 0 (pair 1 10) ∷ taken 1 0 (pair 1 7) ∷ taken 0 1 (pair 1 3) ∷ taken 0 0 (pair 2 4) ∷ taken 0 0 (pair 1 10) ∷ [])
+      (taken 1 0 (pair 1 2)) (sent 0 (pair 1 12) 0 ∷ sent 0 (pair 1 12) 0 ∷ [])
+  pub all : SendsInAll (Join None)
+      ((timed 0 (pair 1 10) ∷ timed 0 (pair 1 10) ∷ timed 1 (pair 1 3) ∷ []) ∷ (timed 0 (pair 1 1) ∷ timed 0 (pair 1 2) ∷ timed 0 (pair 2 5) ∷ []) ∷ [])
+      (timed 0 (pair 1 11) ∷ timed 0 (pair 1 11) ∷ timed 0 (pair 1 12) ∷ timed 0 (pair 1 12) ∷ [])
+
+-- a sum is of the values at its epoch alone, modulo 2^64; nothing is sent before the notification
+pub record SumSendsAtTheEnd : Type 0 where
+  pub before : Sends (Sum None) (taken 0 0 (pair 7 1) ∷ []) (taken 0 0 (pair 7 2)) []
+  pub sum : Sends (Sum None) (taken 0 0 (pair 7 1) ∷ taken 0 1 (pair 7 5) ∷ taken 0 0 (pair 7 (2 ^ 64 - 1)) ∷ []) (notice 0) (sent 0 (pair 7 0) 0 ∷ [])
+  pub all : SendsInAll (Sum None) ((timed 0 (pair 7 1) ∷ timed 1 (pair 7 5) ∷ timed 0 (pair 7 (2 ^ 64 - 1)) ∷ []) ∷ [])
+      (timed 0 (pair 7 0) ∷ timed 1 (pair 7 5) ∷ [])
+
+-- a total is of the values up to its epoch, for the keys at its epoch alone
+pub record TotalSendsUpToNow : Type 0 where
+  pub total : Sends Total (taken 0 2 (pair 7 9) ∷ taken 0 1 (pair 7 2) ∷ taken 0 0 (pair 8 1) ∷ taken 0 0 (pair 7 1) ∷ []) (notice 1)
+      (sent 1 (pair 7 3) 1 ∷ [])
+  pub all : SendsInAll Total ((timed 0 (pair 7 1) ∷ timed 0 (pair 8 1) ∷ timed 1 (pair 7 2) ∷ []) ∷ [])
+      (timed 0 (pair 7 1) ∷ timed 0 (pair 8 1) ∷ timed 1 (pair 7 3) ∷ [])
+
+-- a sequence sends the recs of an epoch in order, at the numbers behind those that it sent
+pub record SequenceSendsNumbers : Type 0 where
+  pub first : Sends Sequence (taken 0 1 (pair 1 1) ∷ taken 0 0 (pair 1 2) ∷ taken 0 0 (pair 1 1) ∷ []) (notice 0)
+      (sent 0 (pair 1 1) 0 ∷ sent 1 (pair 1 2) 0 ∷ [])
+  pub next : Sends Sequence
+      (taken 0 1 (pair 2 3) ∷ taken 0 1 (pair 2 9) ∷ notice 0 ∷ taken 0 0 (pair 1 2) ∷ taken 0 0 (pair 1 1) ∷ []) (notice 1)
+      (sent 2 (pair 2 3) 1 ∷ sent 3 (pair 2 9) 1 ∷ [])
+  pub all : SendsInAll Sequence ((timed 1 (pair 2 9) ∷ timed 1 (pair 2 3) ∷ timed 0 (pair 5 2) ∷ []) ∷ [])
+      (timed 0 (pair 5 2) ∷ timed 1 (pair 2 3) ∷ timed 2 (pair 2 9) ∷ [])
+
+-- a ledger sends for each rec the sum of the values of its key so far
+pub record LedgerSendsRunningTotals : Type 0 where
+  pub total : Sends Ledger (taken 0 2 (pair 2 3) ∷ taken 0 1 (pair 1 2) ∷ taken 0 0 (pair 1 1) ∷ []) (taken 0 3 (pair 1 4)) (sent 3 (pair 1 7) 3 ∷ [])
+  pub all : SendsInAll Ledger ((timed 0 (pair 1 1) ∷ timed 1 (pair 1 2) ∷ timed 2 (pair 2 3) ∷ timed 3 (pair 1 4) ∷ []) ∷ [])
+      (timed 0 (pair 1 1) ∷ timed 1 (pair 1 3) ∷ timed 2 (pair 2 3) ∷ timed 3 (pair 1 7) ∷ [])
+
+-- regrouped by three, the numbers 6 to 8 are epoch 2
+pub record RegroupSendsAtEpochs : Type 0 where
+  pub one : Sends (Regroup 3) [] (taken 0 7 (pair 1 7)) (sent 2 (pair 1 7) 7 ∷ [])
+  pub all : SendsInAll (Regroup 3) ((timed 2 (pair 1 3) ∷ timed 3 (pair 1 4) ∷ timed 8 (pair 1 9) ∷ []) ∷ [])
+      (timed 0 (pair 1 3) ∷ timed 1 (pair 1 4) ∷ timed 2 (pair 1 9) ∷ [])

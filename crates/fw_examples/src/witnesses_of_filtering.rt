@@ -1,0 +1,22 @@
+//! That the laws of filtering say something: where what they ask holds.
+ghost use Rattle.fw_examples.specs.WitnessesOfFiltering.{LoopIsFiltered, NumbersAreDelivered, SequenceIsFiltered, TotalsAreFiltered};
+
+/// A recovery keeps some deliveries and a notification, and strikes others.
+pub fn totals_are_filtered()
+    ensures { TotalsAreFiltered }
+{}
+
+/// A recovery in a loop leaves some pending messages, and makes others pending again.
+pub fn loop_is_filtered()
+    ensures { LoopIsFiltered }
+{}
+
+/// What comes from the kept events of a sequence depends on the history.
+pub fn sequence_is_filtered()
+    ensures { SequenceIsFiltered }
+{}
+
+/// Numbers are delivered on a numbered edge.
+pub fn numbers_are_delivered()
+    ensures { NumbersAreDelivered }
+{}

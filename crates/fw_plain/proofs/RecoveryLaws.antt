@@ -1,0 +1,56 @@
+-- What a recovery of an engine chooses.
+use Rattle.std.proofs.Common.{◌≡◌, ℕ, Bool, List, [], length, reverse, refl, sym, Result, Ok, Err, IfOk, arith}
+use Rattle.std.proofs.lemmas.List.FromFn.{get_or-map-range_with_len}
+use Rattle.fw_frontier.specs.Front.{Front}
+use Rattle.fw_flow.specs.declared.choice.Choice.{Choice}
+use Rattle.fw_flow.specs.declared.choice.Offer.{Offer}
+use Rattle.fw_flow.specs.declared.event.Event.{Event}
+use Rattle.fw_flow.specs.Dataflow.{System, bounds_of}
+use Rattle.fw_model.specs.Choice.{IsConsistentBy, IsLargestBy, IsLargest}
+use Rattle.fw_model.specs.LawsOfSteps.{CanChoose}
+use Rattle.fw_model.specs.Machine.{Machine, events, is_failed, no_stamps}
+use Rattle.fw_model.specs.Steps.{offers}
+use Rattle.fw_model.proofs.ChoosingLaws.{recovery-has_choice}
+use Rattle.fw_monitor.specs.Offers.{IsOffered, AreOffersIn, AreAscending, covers_of}
+use Rattle.fw_monitor.proofs.OfferLaws.{consistent-same, largest-same}
+use Rattle.fw_plain.specs.Engine.{state_of, IsSound}
+use Rattle.fw_plain.specs.Offered.{StandsBy}
+use Rattle.fw_plain.specs.Past.{Past}
+use Rattle.fw_plain.proofs.EngineLaws.{legal_of}
+
+-- the state that an engine stands for is that of its lists
+pub stands_by : (sys : System) (past : Past) (settled fs : List Front) (failed ds : List Bool) (bounds ns : List ℕ) (vs : List Event)
+    → IsSound sys (state_of sys.flow past settled failed bounds) → events past.history ≡ reverse vs → fs ≡ settled → ns ≡ bounds → ds ≡ failed
+    → StandsBy sys vs fs ns ds (state_of sys.flow past settled failed bounds)
+stands_by sys past settled fs failed ds bounds ns vs i h e k l =
+    let low : ℕ → Front = λ p. no_stamps (bounds_of sys.flow p) in
+    record {
+      well_formed = i.well_formed;
+      keeps_nothing = i.keeps_nothing;
+      notifies_nobody = i.notifies_nobody;
+      legal = legal_of sys (state_of sys.flow past settled failed bounds) i;
+      history = h;
+      settled_there = sym e;
+      bounds_there = sym k;
+      failed_there = sym l;
+      nothing_written = refl;
+      nothing_collected = λ p m. get_or-map-range_with_len low 0 (length sys.flow.nodes) p p [] m (omega arith);
+    }
+
+if_ok_also : {A E : Type 0} (r : Result A E) (P Q : A → Type 0) → ((x : A) → P x → Q x) → IfOk r P → IfOk r Q
+if_ok_also (Ok x) P Q h p = h x p
+if_ok_also (Err e) P Q h p = tt
+
+-- some choice is consistent in a sound state, so the largest of what is offered is the machine's
+pub chosen : {E : Type 0} (sys : System) (state : Machine) (os : List Offer) (r : Result Choice E) → IsSound sys state → AreOffersIn sys state (is_failed state) os
+    → ((s : System) (some : Choice) → s.flow ≡ sys.flow → AreAscending sys.flow os → IsConsistentBy s (covers_of s os) (IsOffered sys.flow os) some
+    → IfOk r (IsLargestBy s (covers_of s os) (IsOffered sys.flow os)))
+    → IfOk r (λ choice. IsLargest sys state (offers sys state) choice)
+chosen sys state os r i a give =
+    let reached = i.reached in
+    let lost : ℕ → Bool = is_failed state in
+    let can : CanChoose sys state lost = recovery-has_choice sys i.well_formed reached.0 reached.1 state reached.2 lost in
+    let some = can.choice in
+    let by_offers = (consistent-same sys state lost os some i.well_formed.flow a).1 can.consistent in
+    if_ok_also r (IsLargestBy sys (covers_of sys os) (IsOffered sys.flow os)) (λ choice. IsLargest sys state (offers sys state) choice)
+    (λ choice g. (largest-same sys state lost os choice i.well_formed.flow a).0 g) (give sys some refl a.ascending by_offers)

@@ -1,0 +1,113 @@
+-- What the nodes of a plain dataflow offer to a recovery.
+use Rattle.std.specs.Prelude.{◌≡◌, ℕ, ◌+◌, ◌<◌, min, Bool, false, not, ◌==◌, if◌then◌else◌, List, [], ◌∷◌, ◌++◌, map, length, reverse, slice_index_or}
+use Rattle.std.specs.List.{flat_map, range_with_len}
+use Rattle.fw_time.specs.declared.stamp.Bounds.{Bounds}
+use Rattle.fw_frontier.specs.Frontier.{Frontier, nothing, meet}
+use Rattle.fw_frontier.specs.Front.{Front, frontier_of, Names}
+use Rattle.fw_flow.specs.declared.choice.Counted.{Counted}
+use Rattle.fw_flow.specs.declared.choice.Recorded.{Recorded}
+use Rattle.fw_flow.specs.declared.choice.Offered.{Offered}
+use Rattle.fw_flow.specs.declared.choice.Offered.TheVariants.{Listed, Between}
+use Rattle.fw_flow.specs.declared.choice.Offer.{Offer}
+use Rattle.fw_flow.specs.declared.event.Event.{Event}
+use Rattle.fw_flow.specs.declared.event.Event.TheVariants.{Inject, Deliver, Notify}
+use Rattle.fw_flow.specs.declared.event.Message.{Message}
+use Rattle.fw_flow.specs.declared.kind.Policy.TheVariants as policy
+use Rattle.fw_flow.specs.Dataflow.{System, Dataflow, kind_of, receiver, out_edges, bounds_of, greatest_number}
+use Rattle.fw_flow.specs.NodeFunction.{sent_by}
+use Rattle.fw_flow.specs.Projection.{events_at}
+use Rattle.fw_flow.specs.WellFormed.{IsWellFormedSystem}
+use Rattle.fw_model.specs.Choice.{Restoring, by_batches, by_bound, by_anything, by_checkpoints, by_events, restoring, until, stamp_of_notice}
+use Rattle.fw_model.specs.History.{IsLegal, injected_count, is_exhausted}
+use Rattle.fw_model.specs.LawsOfFiltering.{NotifiesNobody}
+use Rattle.fw_model.specs.Machine.{Machine, events, no_stamps, front_of}
+use Rattle.fw_plain.specs.Engine.{KeepsNothing}
+
+-- The state is that of a plain machine in which these events happened, the oldest first, and in which this is settled, was
+-- acknowledged and is failed: nothing was ever written or collected.
+pub record StandsBy (sys : System) (vs : List Event) (settled : List Front) (bounds : List ℕ) (failed : List Bool) (state : Machine) : Type 0 where
+  pub well_formed : IsWellFormedSystem sys
+  pub keeps_nothing : KeepsNothing sys.flow
+  pub notifies_nobody : NotifiesNobody sys.flow
+  pub legal : IsLegal sys (events state.history)
+  pub history : events state.history ≡ reverse vs
+  pub settled_there : state.settled ≡ settled
+  pub bounds_there : state.bounds ≡ bounds
+  pub failed_there : state.failed ≡ failed
+  pub nothing_written : state.writes ≡ []
+  pub nothing_collected : (p : ℕ) → p < length sys.flow.nodes → front_of state.low p ≡ no_stamps (bounds_of sys.flow p)
+
+-- a message on an edge, alone
+abbrev pub alone : ℕ → Message → Counted
+alone e m = record { edge = e; at = m.at; causes = m.causes; count = 1 }
+
+-- what an event delivered to node p
+abbrev pub delivery_to : Dataflow → ℕ → Event → List Counted
+delivery_to flow p (Inject s x) = []
+delivery_to flow p (Deliver e m) = if receiver flow e == p then alone e m ∷ [] else []
+delivery_to flow p (Notify q t) = []
+
+-- what was delivered to node p, each message alone
+abbrev pub deliveries_to : Dataflow → ℕ → List Event → List Counted
+deliveries_to flow p h = flat_map (delivery_to flow p) h
+
+-- the messages on each of the edges, each alone
+abbrev pub on_each : List ℕ → List Message → List Counted
+on_each es ms = flat_map (λ e. map (alone e) ms) es
+
+-- what node p sent on its out-edges
+abbrev pub sent_from : System → List Event → ℕ → List Counted
+sent_from sys h p = on_each (out_edges sys.flow p) (sent_by sys p (events_at sys.flow p h))
+
+-- the frontiers of an input's batches: until each number of them, and all once there are no more
+abbrev pub batch_fronts : ℕ → Bool → List Front
+batch_fronts injected exhausted = map until (range_with_len 0 (injected + 1)) ++ (if exhausted then [] ∷ [] else [])
+
+-- the record is of the frontier and lists no edge; its notification frontier, which plays no part at an input, is all
+pub record IsBare (f : Front) (r : Recorded) : Type 0 where
+  pub front : r.front ≡ f
+  pub notified : r.notified ≡ []
+  pub delivered : r.delivered.items ≡ []
+  pub discarded : r.discarded.items ≡ []
+
+-- the records are of these frontiers, and hold nothing else
+abbrev pub AreBare : List Front → List Recorded → Type 0
+AreBare [] [] = Unit {0}
+AreBare [] (r ∷ rs) = ⊥
+AreBare (f ∷ fs) [] = ⊥
+AreBare (f ∷ fs) (r ∷ rs) = IsBare f r × AreBare fs rs
+
+-- these frontiers are offered, and no others
+abbrev pub AreListed : List Front → Offered → Type 0
+AreListed fs (Listed records) = AreBare fs records.items
+AreListed fs (Between least greatest) = ⊥
+
+-- all up to the frontier is offered
+abbrev pub IsUpTo : Bounds → Frontier → Offered → Type 0
+IsUpTo bounds f (Listed records) = ⊥
+IsUpTo bounds f (Between least greatest) = Names bounds least nothing × Names bounds greatest f
+
+-- What node p offers, by the way in which it is restored, where so much is settled and so many stamps were acknowledged: an
+-- input what it injected, an output what is settled and acknowledged, any other node what is settled.
+abbrev pub OffersBy : System → List Event → ℕ → Front → ℕ → Restoring → Offered → Type 0
+OffersBy sys h p settled bound by_batches offered =
+    AreListed (batch_fronts (min (injected_count p h) greatest_number) (is_exhausted sys h p)) offered
+OffersBy sys h p settled bound by_bound offered =
+    IsUpTo (bounds_of sys.flow p) (meet (frontier_of (bounds_of sys.flow p) settled) (frontier_of (bounds_of sys.flow p) (until bound))) offered
+OffersBy sys h p settled bound by_anything offered = IsUpTo (bounds_of sys.flow p) (frontier_of (bounds_of sys.flow p) settled) offered
+OffersBy sys h p settled bound by_checkpoints offered = ⊥
+OffersBy sys h p settled bound by_events offered = ⊥
+
+-- what node p offers after a history, the latest event first, where these are settled, acknowledged and failed
+pub record IsOfferOf (sys : System) (h : List Event) (settled : List Front) (bounds : List ℕ) (failed : List Bool) (p : ℕ) (offer : Offer) : Type 0 where
+  pub present : offer.present ≡ not (slice_index_or failed p false)
+  pub offered : OffersBy sys h p (front_of settled p) (slice_index_or bounds p 0) (restoring (kind_of sys.flow p) policy.None) offer.offered
+  pub delivered : offer.stamps.delivered.items ≡ deliveries_to sys.flow p h
+  pub notified : offer.stamps.notified.items ≡ flat_map (stamp_of_notice p) h
+  pub sent : offer.stamps.sent.items ≡ sent_from sys h p
+
+-- the offers are those of the nodes from p on
+abbrev pub AreOffersFrom : System → List Event → List Front → List ℕ → List Bool → ℕ → List Offer → Type 0
+AreOffersFrom sys h settled bounds failed p [] = Unit {0}
+AreOffersFrom sys h settled bounds failed p (offer ∷ offers) =
+    IsOfferOf sys h settled bounds failed p offer × AreOffersFrom sys h settled bounds failed (p + 1) offers

@@ -1,20 +1,264 @@
 //! The largest consistent choice of what the nodes offer.
-ghost use Rattle.std.specs.Prelude.{◌≡◌, IfOk};
+ghost use Rattle.std.specs.Prelude.{◌≡◌, ◌<◌, ◌↔◌, ◌||◌, ℕ, true, false, length, IsTrue, IfOk};
+ghost use Rattle.fw_frontier.specs.Front.{frontier_of, IsCanonical, Names};
+ghost use Rattle.fw_frontier.specs.Frontier.{Within};
 ghost use Rattle.fw_flow.specs.declared.choice.Choice as choices;
-ghost use Rattle.fw_flow.specs.Dataflow.{System};
-ghost use Rattle.fw_model.specs.Choice.{IsConsistentBy, IsLargestBy};
+ghost use Rattle.fw_flow.specs.declared.choice.Cut.TheVariants as variants;
+ghost use Rattle.fw_flow.specs.Dataflow.{System, Dataflow, bounds_of, sender, receiver};
+ghost use Rattle.fw_model.specs.Choice.{IsConsistentBy, IsLargestBy, IsChoiceWithin, cut_of, note_of, set_of};
+ghost use Rattle.fw_model.specs.Machine.{front_of};
+ghost use Rattle.fw_monitor.specs.Offers as spec;
 ghost use Rattle.fw_monitor.specs.Offers.{IsOffered, AreOffersOf, AreAscending, covers_of};
+ghost use Rattle.fw_monitor.specs.Descent.{bare, choice_of, owner, reach, right_of, IsThere, IsCanonicalCut, IsConsistentOf, IsReached, IsStep, HasConsistent, Holds, HoldsAtEdge, HoldsAtNode, IsNoteLowered, IsPass};
 
-use fw_flow::{Choice, Flow, Offer};
+use crate::arrived::arrived;
+use crate::lower::lowered;
+use crate::passes::owner;
+use crate::side::Side;
+use crate::start::{all_kept, greatest_cuts, kept};
+use fw_flow::{Choice, Cut, Cuts, EdgeId, Flow, Fronts, NodeId, Offer};
+use fw_frontier::Front;
 use std::alloc::{AllocError, Global};
 
 /// The largest consistent choice of what the nodes offer, where the records of each ascend and some choice is consistent; else
 /// some cuts and frontiers. The error is want of memory.
+///
+/// It begins with the greatest cut of each node, and lowers what does not hold, pass by pass, until a pass lowers nothing.
 pub fn largest(alloc: Global, flow: &Flow, offers: &[Offer]) -> Result<Choice, AllocError>
     requires { AreOffersOf flow.now offers.now }
     ensures { (sys : System) (some : choices.Choice) → sys.flow ≡ flow.now → AreAscending flow.now offers.now
         → IsConsistentBy sys (covers_of sys offers.now) (IsOffered flow.now offers.now) some
         → IfOk result (IsLargestBy sys (covers_of sys offers.now) (IsOffered flow.now offers.now)) }
 {
-    Err(AllocError)
+    let mut cuts = greatest_cuts(alloc, flow, offers)?;
+    let mut notes = all_kept(alloc, flow, &cuts)?;
+    let mut lowered = pass(alloc, flow, offers, &mut cuts, &mut notes)?;
+    'pass: while lowered {
+        lowered = pass(alloc, flow, offers, &mut cuts, &mut notes)?;
+    }
+    Ok(Choice {
+        cuts: Cuts::of(cuts),
+        notes: Fronts::of(notes),
+    })
+}
+
+/// The cut of a node.
+fn cut_at(cuts: &[Cut], node: NodeId) -> &Cut
+    requires { node < length cuts.now }
+    ensures { (choice : choices.Choice) → choice.cuts ≡ cuts.now → result.now ≡ cut_of choice node }
+{
+    &cuts[node.place() as usize]
+}
+
+/// The notification frontier of a node.
+fn note_at(notes: &[Front], node: NodeId) -> &Front
+    requires { node < length notes.now }
+    ensures { result.now ≡ front_of notes.now node }
+{
+    &notes[node.place() as usize]
+}
+
+/// In what the side has to lie. The error is want of memory.
+fn right(
+    alloc: Global,
+    flow: &Flow,
+    offers: &[Offer],
+    side: &Side,
+    cuts: &[Cut],
+    notes: &[Front],
+) -> Result<Front, AllocError>
+    requires offers { AreOffersOf flow.now offers.now }
+    requires there { IsThere flow.now side.now }
+    requires reached { IsReached flow.now offers.now (choice_of cuts.now notes.now) }
+    ensures { IfOk result (λ g. Names (reach flow.now side.now) g
+        (right_of flow.now offers.now side.now (choice_of cuts.now notes.now))) }
+{
+    let _ = flow.nodes();
+    match side {
+        Side::Delivered(edge) => {
+            let cut = cut_at(cuts, flow.src(*edge));
+            arrived_from_cut(alloc, flow, offers, *edge, cut)
+        },
+        Side::Discarded(edge) => kept(alloc, cut_at(cuts, flow.dst(*edge))),
+        Side::Notified(node) => note_at(notes, *node).copy(),
+    }
+}
+
+/// What of the edge comes from what its sender keeps in a cut. The error is want of memory.
+fn arrived_from_cut(
+    alloc: Global,
+    flow: &Flow,
+    offers: &[Offer],
+    edge: EdgeId,
+    cut: &Cut,
+) -> Result<Front, AllocError>
+    requires offers { AreOffersOf flow.now offers.now }
+    requires cut { IsCanonicalCut (bounds_of flow.now (sender flow.now edge)) cut.now }
+    ensures { IfOk result (λ g. Names (bounds_of flow.now (receiver flow.now edge)) g
+        (spec.arrived_from flow.now offers.now edge (set_of (bare flow.now) (sender flow.now edge) cut.now))) }
+{
+    let front = kept(alloc, cut)?;
+    arrived(alloc, flow, offers, edge, &front)
+}
+
+/// Lowers the cut of the node of the side to the largest one left, if the side does not lie where it has to; whether it
+/// did. The error is want of memory.
+fn lower_cut(
+    alloc: Global,
+    flow: &Flow,
+    offers: &[Offer],
+    side: &Side,
+    cuts: &mut Vec<Cut>,
+    notes: &[Front],
+) -> Result<bool, AllocError>
+    requires offers { AreOffersOf flow.now offers.now }
+    requires there { IsThere flow.now side.now }
+    requires reached { IsReached flow.now offers.now (choice_of cuts.old.items notes.now) }
+    ensures step { IfOk result (IsStep flow.now offers.now (choice_of cuts.old.items notes.now) (choice_of cuts.new.items notes.now)) }
+    ensures holds { IfOk result (λ b. b ≡ false → HasConsistent flow.now offers.now
+        → Holds flow.now offers.now (choice_of cuts.new.items notes.now) side.now) }
+{
+    let _ = flow.nodes();
+    let bound = right(alloc, flow, offers, side, cuts, notes)?;
+    let node = owner(flow, *side);
+    let lower = lowered(alloc, flow, offers, side, cut_at(cuts, node), &bound)?;
+    match lower {
+        None => Ok(false),
+        Some(cut) => {
+            cuts[node.place() as usize] = cut;
+            Ok(true)
+        }
+    }
+}
+
+/// Takes from the notification frontier of a node what does not lie within a bound; whether there was any. The error is
+/// want of memory.
+fn lower_note(notes: &mut Vec<Front>, node: NodeId, bound: &Front) -> Result<bool, AllocError>
+    requires { node < length notes.old.items }
+    ensures { IfOk result (IsNoteLowered notes.old.items notes.new.items node bound.now) }
+{
+    let place = node.place() as usize;
+    if notes[place].subset(bound) {
+        return Ok(false);
+    }
+    let left = notes[place].meet(bound)?;
+    notes[place] = left;
+    Ok(true)
+}
+
+/// Whether one of the two is true.
+fn either(one: bool, other: bool) -> bool
+    ensures { result ≡ (one || other) }
+{
+    one || other
+}
+
+/// Lowers what does not hold at an edge; whether anything was lowered. The error is want of memory.
+fn at_edge(
+    alloc: Global,
+    flow: &Flow,
+    offers: &[Offer],
+    cuts: &mut Vec<Cut>,
+    notes: &mut Vec<Front>,
+    edge: EdgeId,
+) -> Result<bool, AllocError>
+    requires offers { AreOffersOf flow.now offers.now }
+    requires there { edge < length flow.now.edges }
+    requires reached { IsReached flow.now offers.now (choice_of cuts.old.items notes.old.items) }
+    ensures step { IfOk result (IsStep flow.now offers.now (choice_of cuts.old.items notes.old.items) (choice_of cuts.new.items notes.new.items)) }
+    ensures holds { IfOk result (λ b. b ≡ false → HasConsistent flow.now offers.now
+        → HoldsAtEdge flow.now offers.now (choice_of cuts.new.items notes.new.items) edge) }
+{
+    let _ = flow.nodes();
+    let delivered = lower_cut(alloc, flow, offers, &Side::Delivered(edge), cuts, notes)?;
+    let discarded = lower_cut(alloc, flow, offers, &Side::Discarded(edge), cuts, notes)?;
+    let bound = arrived(alloc, flow, offers, edge, note_at(notes, flow.src(edge)))?;
+    let note = lower_note(notes, flow.dst(edge), &bound)?;
+    Ok(either(either(delivered, discarded), note))
+}
+
+/// Lowers what does not hold at a node alone; whether anything was lowered. The error is want of memory.
+fn at_node(
+    alloc: Global,
+    flow: &Flow,
+    offers: &[Offer],
+    cuts: &mut Vec<Cut>,
+    notes: &mut Vec<Front>,
+    node: NodeId,
+) -> Result<bool, AllocError>
+    requires offers { AreOffersOf flow.now offers.now }
+    requires there { node < length flow.now.nodes }
+    requires reached { IsReached flow.now offers.now (choice_of cuts.old.items notes.old.items) }
+    ensures step { IfOk result (IsStep flow.now offers.now (choice_of cuts.old.items notes.old.items) (choice_of cuts.new.items notes.new.items)) }
+    ensures holds { IfOk result (λ b. b ≡ false → HasConsistent flow.now offers.now
+        → HoldsAtNode flow.now offers.now (choice_of cuts.new.items notes.new.items) node) }
+{
+    let notified = lower_cut(alloc, flow, offers, &Side::Notified(node), cuts, notes)?;
+    let bound = kept(alloc, cut_at(cuts, node))?;
+    let own = lower_note(notes, node, &bound)?;
+    Ok(either(notified, own))
+}
+
+/// A pass over the edges; whether anything was lowered. The error is want of memory.
+fn pass_edges(
+    alloc: Global,
+    flow: &Flow,
+    offers: &[Offer],
+    cuts: &mut Vec<Cut>,
+    notes: &mut Vec<Front>,
+) -> Result<bool, AllocError>
+    requires offers { AreOffersOf flow.now offers.now }
+    requires reached { IsReached flow.now offers.now (choice_of cuts.old.items notes.old.items) }
+    ensures step { IfOk result (IsStep flow.now offers.now (choice_of cuts.old.items notes.old.items) (choice_of cuts.new.items notes.new.items)) }
+    ensures holds { IfOk result (λ b. b ≡ false → HasConsistent flow.now offers.now
+        → (e : ℕ) → e < length flow.now.edges → HoldsAtEdge flow.now offers.now (choice_of cuts.new.items notes.new.items) e) }
+{
+    let _ = flow.nodes();
+    let mut lowered = false;
+    for place in 0..flow.edges() {
+        let edge = EdgeId::at(place as u32);
+        let more = at_edge(alloc, flow, offers, cuts, notes, edge)?;
+        lowered = either(more, lowered);
+    }
+    Ok(lowered)
+}
+
+/// A pass over the nodes; whether anything was lowered. The error is want of memory.
+fn pass_nodes(
+    alloc: Global,
+    flow: &Flow,
+    offers: &[Offer],
+    cuts: &mut Vec<Cut>,
+    notes: &mut Vec<Front>,
+) -> Result<bool, AllocError>
+    requires offers { AreOffersOf flow.now offers.now }
+    requires reached { IsReached flow.now offers.now (choice_of cuts.old.items notes.old.items) }
+    ensures step { IfOk result (IsStep flow.now offers.now (choice_of cuts.old.items notes.old.items) (choice_of cuts.new.items notes.new.items)) }
+    ensures holds { IfOk result (λ b. b ≡ false → HasConsistent flow.now offers.now
+        → (p : ℕ) → p < length flow.now.nodes → HoldsAtNode flow.now offers.now (choice_of cuts.new.items notes.new.items) p) }
+{
+    let mut lowered = false;
+    for place in 0..flow.nodes() {
+        let node = NodeId::at(place as u32);
+        let more = at_node(alloc, flow, offers, cuts, notes, node)?;
+        lowered = either(more, lowered);
+    }
+    Ok(lowered)
+}
+
+/// A pass over all that has to hold; whether anything was lowered. The error is want of memory.
+fn pass(
+    alloc: Global,
+    flow: &Flow,
+    offers: &[Offer],
+    cuts: &mut Vec<Cut>,
+    notes: &mut Vec<Front>,
+) -> Result<bool, AllocError>
+    requires offers { AreOffersOf flow.now offers.now }
+    requires reached { IsReached flow.now offers.now (choice_of cuts.old.items notes.old.items) }
+    ensures { IfOk result (IsPass flow.now offers.now (choice_of cuts.old.items notes.old.items) (choice_of cuts.new.items notes.new.items)) }
+{
+    let edges = pass_edges(alloc, flow, offers, cuts, notes)?;
+    let nodes = pass_nodes(alloc, flow, offers, cuts, notes)?;
+    Ok(either(edges, nodes))
 }

@@ -1,0 +1,157 @@
+-- Where the descent starts.
+use Rattle.std.proofs.Common.{◌≡◌, ◌≢◌, ◌⊎◌, ℕ, zero, suc, ◌+◌, ◌<◌, ◌≤◌, Bool, true, false, List, [], ◌∷◌, ◌++◌, length, take, get_or, ◌-◌, ◌==◌, Option, Some, None, refl, sym, ap, subst, ◌∙◌, inl, inr, arith}
+use Rattle.std.specs.List.{AllByRecursion}
+use Rattle.std.proofs.lemmas.Bool.{cases_lt, eqb-false}
+use Rattle.std.proofs.lemmas.List.{get_or_read, drop_all}
+use Rattle.fw_time.specs.declared.stamp.Bounds.{Bounds}
+use Rattle.fw_frontier.specs.Frontier.{Within}
+use Rattle.fw_frontier.specs.Front.{Front, frontier_of, IsCanonical, Names}
+use Rattle.fw_flow.specs.declared.choice.Choice.{Choice}
+use Rattle.fw_flow.specs.declared.choice.Cut.{Cut}
+use Rattle.fw_flow.specs.declared.choice.Cut.TheVariants.{Present, At}
+use Rattle.fw_flow.specs.declared.choice.Recorded.{Recorded}
+use Rattle.fw_flow.specs.declared.choice.Offer.{Offer}
+use Rattle.fw_flow.specs.Dataflow.{System, Dataflow, bounds_of}
+use Rattle.fw_model.specs.Machine.{front_of}
+use Rattle.fw_model.specs.Choice.{cut_of, note_of, kept_of, set_of, IsCutWithin, IsConsistentBy, IsLargestBy}
+use Rattle.fw_monitor.specs.Offers.{IsListed, IsBetween, IsOffered, Ascend, AreAscending, IsRangeOf, IsRecordOf, can_stay, records_of, range_of, AreOffersOf, covers_of}
+use Rattle.fw_monitor.specs.Descent.{bare, choice_of, IsCanonicalCut, IsConsistentOf, IsReached, IsGreatest, IsDescent, HasConsistent}
+use Rattle.fw_monitor.proofs.LowerLaws.{below_last, listed-there, between-offered, offered-between}
+use Rattle.fw_monitor.proofs.DescentLaws.{set-monotone, largest_of, consistent-bare, largest-whole}
+use Rattle.fw_monitor.proofs.CutDownLaws.{split_at}
+
+pub greatest_present : (flow : Dataflow) (offers : List Offer) (p : ℕ) (r : Bool) → r ≡ true → r ≡ can_stay offers p → IsGreatest flow offers p Present
+greatest_present flow offers p r e is = record { canonical = tt; largest = λ a x o. (sym is ∙ e, tt) }
+
+pub greatest_between : (flow : Dataflow) (offers : List Offer) (p : ℕ) (r : Bool) (greatest f : Front) → AreOffersOf flow offers → p < length flow.nodes → r ≡ false → r ≡ can_stay offers p
+    → (least : Front) × (range_of offers p ≡ Some (least, greatest)) → f ≡ greatest → IsGreatest flow offers p (At f)
+greatest_between flow offers p r greatest f a l e is ends same =
+    subst (λ g. IsGreatest flow offers p (At g)) (sym same) (record { canonical = canonical; largest = λ asc x o. at x o })
+  where
+    canonical : IsCanonical (bounds_of flow p) greatest
+    canonical = (subst (IsRangeOf (bounds_of flow p)) ends.1 (a.range p l)).1
+
+    at : (x : Cut) → IsOffered flow offers p x → IsOffered flow offers p (At greatest) × IsCutWithin (bare flow) p x (At greatest)
+    at Present o = let k = sym e ∙ is ∙ o in absurd (cc)
+    at (At g) o =
+        let j = between-offered flow offers p ends.0 greatest g ends.1 o in
+        (offered-between flow offers p ends.0 greatest greatest ends.1 canonical (λ t k. j.1 t (j.0 t k), λ t k. k), j.1)
+
+pub greatest_none : (flow : Dataflow) (offers : List Offer) (p : ℕ) (r : Bool) (f : Front) → r ≡ false → r ≡ can_stay offers p → range_of offers p ≡ None → records_of offers p ≡ [] → f ≡ [] → IsGreatest flow offers p (At f)
+greatest_none flow offers p r f e is none empty same =
+    subst (λ g. IsGreatest flow offers p (At g)) (sym same) (record { canonical = tt; largest = λ asc x o. at x o })
+  where
+    at : (x : Cut) → IsOffered flow offers p x → IsOffered flow offers p (At []) × IsCutWithin (bare flow) p x (At [])
+    at Present o = let k = sym e ∙ is ∙ o in absurd (cc)
+    at (At g) o = elim (o.1) [
+      | inl i ↦ absurd (subst (IsListed g) empty i)
+      | inr j ↦ absurd (subst (λ ends. IsBetween (bounds_of flow p) ends g) none j)
+    ]
+
+pub greatest_last : (flow : Dataflow) (offers : List Offer) (p : ℕ) (r : Bool) (f : Front) (before : List Recorded) (last : Recorded) → AreOffersOf flow offers → p < length flow.nodes → r ≡ false → r ≡ can_stay offers p
+    → range_of offers p ≡ None → records_of offers p ≡ before ++ last ∷ [] → f ≡ last.front → IsGreatest flow offers p (At f)
+greatest_last flow offers p r f before last a l e is none split same =
+    subst (λ g. IsGreatest flow offers p (At g)) (sym same) (record { canonical = canonical; largest = λ asc x o. at (asc p l) x o })
+  where
+    end : (xs : List Recorded) → AllByRecursion (IsRecordOf flow p) (xs ++ last ∷ []) → IsRecordOf flow p last
+    end [] b = b.0
+    end (y ∷ xs) b = end xs b.1
+
+    canonical : IsCanonical (bounds_of flow p) last.front
+    canonical = (end before (subst (AllByRecursion (IsRecordOf flow p)) split (a.records p l))).front
+
+    at : Ascend (bounds_of flow p) (records_of offers p) → (x : Cut) → IsOffered flow offers p x → IsOffered flow offers p (At last.front) × IsCutWithin (bare flow) p x (At last.front)
+    at asc Present o = let k = sym e ∙ is ∙ o in absurd (cc)
+    at asc (At g) o = elim (o.1) [
+      | inl i ↦ (
+        (canonical, inl (subst (IsListed last.front) (sym split) (listed-there before last []))),
+        below_last (bounds_of flow p) before last [] g (subst (Ascend (bounds_of flow p)) split asc) (subst (IsListed g) split i) tt,
+      )
+      | inr j ↦ absurd (subst (λ ends. IsBetween (bounds_of flow p) ends g) none j)
+    ]
+
+-- ---- lists of cuts
+
+at_before : {A : Type 0} (xs : List A) (x : A) (p : ℕ) (d : A) → p < length xs → get_or (xs ++ x ∷ []) p d ≡ get_or xs p d
+at_before [] x p d l = absurd (omega arith)
+at_before (y ∷ xs) x zero d l = refl
+at_before (y ∷ xs) x (suc p) d l = at_before xs x p d (omega arith)
+
+at_end : {A : Type 0} (xs : List A) (x : A) (d : A) → get_or (xs ++ x ∷ []) (length xs) d ≡ x
+at_end [] x d = refl
+at_end (y ∷ xs) x d = at_end xs x d
+
+pub each_more : {A : Type 0} (P : ℕ → A → Type 0) (xs ys : List A) (x : A) (n q : ℕ) (d : A) → ys ≡ xs ++ x ∷ [] → length xs ≡ n → q ≡ n
+    → ((p : ℕ) → p < n → P p (get_or xs p d)) → P q x → (p : ℕ) → p < n + 1 → P p (get_or ys p d)
+each_more P xs ys x n q d e c same h k p l = elim (cases_lt p n) [
+  | inl m ↦ subst (P p) (sym (ap (λ zs. get_or zs p d) e ∙ at_before xs x p d (omega arith))) (h p m)
+  | inr m ↦
+      let here : p ≡ length xs = omega arith in
+      let there : q ≡ p = omega arith in
+      let is : get_or ys p d ≡ x = ap (λ zs. get_or zs p d) e ∙ ap (λ i. get_or (xs ++ x ∷ []) i d) here ∙ at_end xs x d in
+      subst (P p) (sym is) (subst (λ i. P i x) there k)
+]
+
+pub kept_here : (flow : Dataflow) (cuts : List Cut) (i : ℕ) (x : Cut) (f : Front) → i < length cuts → x ≡ get_or cuts i x → Names (bounds_of flow i) f (set_of (bare flow) i x)
+    → Names (bounds_of flow i) f (set_of (bare flow) i (cut_of (choice_of cuts []) i))
+kept_here flow cuts i x f l is n = subst (λ c. Names (bounds_of flow i) f (set_of (bare flow) i c)) (get_or_read cuts i x l is Present) n
+
+pub canonical_here : (flow : Dataflow) (cuts : List Cut) (i : ℕ) (x : Cut) → i < length cuts → x ≡ get_or cuts i x → IsCanonicalCut (bounds_of flow i) (cut_of (choice_of cuts []) i) → IsCanonicalCut (bounds_of flow i) x
+canonical_here flow cuts i x l is c = subst (IsCanonicalCut (bounds_of flow i)) (sym (get_or_read cuts i x l is Present)) c
+
+-- the last record
+pub last_is : (rs : List Recorded) (d : Recorded) (r : Bool) (f : Front) → r ≡ (length rs == 0) → r ≡ false → f ≡ (get_or rs (length rs - 1) d).front
+    → (before : List Recorded) × (last : Recorded) × (rs ≡ before ++ last ∷ []) × (f ≡ last.front)
+last_is rs d r f e k is =
+    let some : length rs ≡ 0 → ⊥ = eqb-false (length rs) 0 (sym e ∙ k) in
+    let i = length rs - 1 in
+    let x = get_or rs i d in
+    let l : i < length rs = by (length rs) some in
+    let past : length rs ≤ i + 1 = omega arith in
+    (take i rs, x, split_at rs i x l (at_itself rs i d l) ∙ ap (λ ys. take i rs ++ x ∷ ys) (drop_all (i + 1) rs past), is)
+  where
+    by : (n : ℕ) → (n ≡ 0 → ⊥) → n - 1 < n
+    by zero s = absurd (s refl)
+    by (suc n) s = omega arith
+
+    at_itself : (rs : List Recorded) (i : ℕ) (d : Recorded) → i < length rs → get_or rs i d ≡ get_or rs i (get_or rs i d)
+    at_itself [] i d l = absurd (omega arith)
+    at_itself (y ∷ rs) zero d l = refl
+    at_itself (y ∷ rs) (suc i) d l = at_itself rs i d (omega arith)
+
+pub greatest_records : (flow : Dataflow) (offers : List Offer) (p : ℕ) (r : Bool) (rs : List Recorded) (f : Front) → AreOffersOf flow offers → p < length flow.nodes → r ≡ false → r ≡ can_stay offers p
+    → range_of offers p ≡ None → rs ≡ records_of offers p → (rs ≡ [] → f ≡ [])
+    → (rs ≢ [] → (before : List Recorded) × (last : Recorded) × (rs ≡ before ++ last ∷ []) × (f ≡ last.front)) → IsGreatest flow offers p (At f)
+greatest_records flow offers p r [] f a l e is none same empty some = greatest_none flow offers p r f e is none (sym same) (empty refl)
+greatest_records flow offers p r (x ∷ rs) f a l e is none same empty some =
+    let s = some (λ k. cc) in
+    greatest_last flow offers p r f s.0 s.1 a l e is none (sym same ∙ s.2) s.3
+
+-- ---- the start
+
+pub start_reached : (flow : Dataflow) (offers : List Offer) (cuts : List Cut) (notes : List Front) → length cuts ≡ length flow.nodes → length notes ≡ length flow.nodes
+    → ((p : ℕ) → p < length flow.nodes → IsGreatest flow offers p (cut_of (choice_of cuts notes) p))
+    → ((p : ℕ) → p < length flow.nodes → Names (bounds_of flow p) (front_of notes p) (set_of (bare flow) p (cut_of (choice_of cuts notes) p)))
+    → IsReached flow offers (choice_of cuts notes)
+start_reached flow offers cuts notes one each greatest kept = record {
+  one_cut_each = one;
+  one_note_each = each;
+  cuts = λ p l. (greatest p l).canonical;
+  notes = λ p l. (kept p l).canonical;
+  within = λ a other k. record {
+    cuts = λ p l. ((greatest p l).largest a (cut_of other p) (k.offered p l)).1;
+    notes = λ p l t i. (kept p l).same t ∙ set-monotone (bare flow) p (cut_of other p) (cut_of (choice_of cuts notes) p) ((greatest p l).largest a (cut_of other p) (k.offered p l)).1 t (k.own p l t i);
+  };
+  offered = λ a other k p l. ((greatest p l).largest a (cut_of other p) (k.offered p l)).0;
+}
+
+-- ---- the end
+
+pub largest_end : (flow : Dataflow) (offers : List Offer) (choice : Choice) (sys : System) (some : Choice) → sys.flow ≡ flow → IsDescent flow offers choice false → AreAscending flow offers
+    → IsConsistentBy sys (covers_of sys offers) (IsOffered flow offers) some → IsLargestBy sys (covers_of sys offers) (IsOffered flow offers) choice
+largest_end flow offers choice sys some e =
+    subst (λ fl. IsDescent fl offers choice false → AreAscending fl offers → IsConsistentBy sys (covers_of sys offers) (IsOffered fl offers) some → IsLargestBy sys (covers_of sys offers) (IsOffered fl offers) choice)
+    e (λ d a k. at d (a, (some, consistent-bare sys offers some k)))
+  where
+    at : IsDescent sys.flow offers choice false → HasConsistent sys.flow offers → IsLargestBy sys (covers_of sys offers) (IsOffered sys.flow offers) choice
+    at d has = largest-whole sys offers choice (largest_of sys.flow offers choice d.reached has (d.edges refl has) (d.nodes refl has))

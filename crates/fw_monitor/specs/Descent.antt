@@ -1,0 +1,214 @@
+-- The descent to the largest choice: what it lowers, and what it keeps.
+use Rattle.std.specs.Prelude.{◌≡◌, ◌≢◌, ℕ, ◌+◌, ◌<◌, Bool, true, false, ◌==◌, if◌then◌else◌, List, [], ◌∷◌, length, set, Option, Some, None}
+use Rattle.fw_time.specs.declared.stamp.Bounds.{Bounds}
+use Rattle.fw_frontier.specs.Frontier.{Frontier, Within, nothing, everything, meet}
+use Rattle.fw_frontier.specs.Front.{Front, frontier_of, IsCanonical, Names}
+use Rattle.fw_flow.specs.declared.choice.Choice.{Choice}
+use Rattle.fw_flow.specs.declared.choice.Cut.{Cut}
+use Rattle.fw_flow.specs.declared.choice.Cut.TheVariants.{Present, At}
+use Rattle.fw_flow.specs.declared.choice.OfEdge.{OfEdge}
+use Rattle.fw_flow.specs.declared.choice.Recorded.{Recorded}
+use Rattle.fw_flow.specs.declared.choice.Offer.{Offer}
+use Rattle.fw_flow.specs.Dataflow.{System, Dataflow, sender, receiver, bounds_of}
+use Rattle.fw_model.specs.Machine.{front_of}
+use Rattle.fw_model.specs.Choice as model
+use Rattle.fw_model.specs.Choice.{cut_of, note_of, kept_of, IsConsistentBy, IsCutWithin, IsChoiceWithin, by_batches, by_bound, by_anything, by_checkpoints, by_events}
+use Rattle.fw_monitor.specs.declared.side.Restoring.{Restoring}
+use Rattle.fw_monitor.specs.declared.side.Restoring.TheVariants as restored
+use Rattle.fw_monitor.specs.declared.side.Side.{Side}
+use Rattle.fw_monitor.specs.declared.side.Side.TheVariants.{Delivered, Discarded, Notified}
+use Rattle.fw_monitor.specs.Held.{held, sum_below}
+use Rattle.fw_monitor.specs.Offers.{IsOffered, AreAscending, delivered_cover, discarded_cover, notified_cover, recorded_delivered, recorded_discarded, recorded_notified, arrived_from, covers_of}
+
+-- the way in which a node is restored, as the model names it
+abbrev pub named : Restoring → model.Restoring
+named restored.Batches = by_batches
+named restored.Bound = by_bound
+named restored.Anything = by_anything
+named restored.Checkpoints = by_checkpoints
+named restored.Events = by_events
+
+-- a dataflow alone, without batches
+abbrev pub bare : Dataflow → System
+bare flow = record { flow = flow; batches = [] }
+
+-- these cuts and notification frontiers
+abbrev pub choice_of : List Cut → List Front → Choice
+choice_of cuts notes = record { cuts = cuts; notes = notes }
+
+-- the node whose cut a side is of
+abbrev pub owner : Dataflow → Side → ℕ
+owner flow (Delivered d) = receiver flow d
+owner flow (Discarded e) = sender flow e
+owner flow (Notified p) = p
+
+-- the domain in which it is
+abbrev pub reach : Dataflow → Side → Bounds
+reach flow (Delivered d) = bounds_of flow (receiver flow d)
+reach flow (Discarded e) = bounds_of flow (receiver flow e)
+reach flow (Notified p) = bounds_of flow p
+
+-- its edge or its node is one of the dataflow
+abbrev pub IsThere : Dataflow → Side → Type 0
+IsThere flow (Delivered d) = d < length flow.edges
+IsThere flow (Discarded e) = e < length flow.edges
+IsThere flow (Notified p) = p < length flow.nodes
+
+-- the frontier that is listed for an edge
+abbrev pub found : ℕ → List OfEdge → Option Front
+found e [] = None
+found e (x ∷ xs) = if x.edge == e then Some x.front else found e xs
+
+-- what a record lists of a side
+abbrev pub recorded : Side → Recorded → Option Front
+recorded (Delivered d) r = found d r.delivered.items
+recorded (Discarded e) r = found e r.discarded.items
+recorded (Notified p) r = Some r.notified
+
+-- the frontier, without stamps where there is none
+abbrev pub front_or_nothing : Bounds → Option Front → Frontier
+front_or_nothing bounds None = nothing
+front_or_nothing bounds (Some f) = frontier_of bounds f
+
+-- what a record holds of a side
+abbrev pub recorded_left : Bounds → Side → Option Recorded → Frontier
+recorded_left bounds (Delivered d) r = recorded_delivered bounds d r
+recorded_left bounds (Discarded e) r = recorded_discarded bounds e r
+recorded_left bounds (Notified p) r = recorded_notified bounds r
+
+-- what it is in a cut
+abbrev pub left_of : Dataflow → List Offer → Side → Cut → Frontier
+left_of flow offers (Delivered d) cut = delivered_cover flow offers (receiver flow d) d cut
+left_of flow offers (Discarded e) cut = discarded_cover (bare flow) offers (sender flow e) e cut
+left_of flow offers (Notified p) cut = notified_cover flow offers p cut
+
+-- in what it has to lie
+abbrev pub right_of : Dataflow → List Offer → Side → Choice → Frontier
+right_of flow offers (Delivered d) choice = arrived_from flow offers d (kept_of (bare flow) choice (sender flow d))
+right_of flow offers (Discarded e) choice = kept_of (bare flow) choice (receiver flow e)
+right_of flow offers (Notified p) choice = note_of (bare flow) choice p
+
+-- it does
+abbrev pub Holds : Dataflow → List Offer → Choice → Side → Type 0
+Holds flow offers choice side = Within (left_of flow offers side (cut_of choice (owner flow side))) (right_of flow offers side choice)
+
+-- a node's notification frontier lies in what it keeps
+abbrev pub HoldsOwn : Dataflow → Choice → ℕ → Type 0
+HoldsOwn flow choice p = Within (note_of (bare flow) choice p) (kept_of (bare flow) choice p)
+
+-- the notification frontier of an edge's receiver comes from that of its sender
+abbrev pub HoldsNote : Dataflow → List Offer → Choice → ℕ → Type 0
+HoldsNote flow offers choice d =
+    Within (note_of (bare flow) choice (receiver flow d)) (arrived_from flow offers d (note_of (bare flow) choice (sender flow d)))
+
+-- all that speaks of an edge holds
+pub record HoldsAtEdge (flow : Dataflow) (offers : List Offer) (choice : Choice) (e : ℕ) : Type 0 where
+  pub delivered : Holds flow offers choice (Delivered e)
+  pub discarded : Holds flow offers choice (Discarded e)
+  pub note : HoldsNote flow offers choice e
+
+-- all that speaks of a node alone holds
+pub record HoldsAtNode (flow : Dataflow) (offers : List Offer) (choice : Choice) (p : ℕ) : Type 0 where
+  pub notified : Holds flow offers choice (Notified p)
+  pub own : HoldsOwn flow choice p
+
+-- the frontier of a cut is canonical, if it has one
+abbrev pub IsCanonicalCut : Bounds → Cut → Type 0
+IsCanonicalCut bounds Present = Unit {0}
+IsCanonicalCut bounds (At f) = IsCanonical bounds f
+
+-- a cut is offered, lies within another, and its side lies within a frontier
+pub record IsLeft (flow : Dataflow) (offers : List Offer) (side : Side) (cut : Cut) (bound : Front) (x : Cut) : Type 0 where
+  pub offered : IsOffered flow offers (owner flow side) x
+  pub within : IsCutWithin (bare flow) (owner flow side) x cut
+  pub passes : Within (left_of flow offers side x) (frontier_of (reach flow side) bound)
+
+-- a lower cut, within which lies each that is left; it is offered if one is left
+pub record IsLower (flow : Dataflow) (offers : List Offer) (side : Side) (cut : Cut) (bound : Front) (new : Cut) : Type 0 where
+  pub canonical : IsCanonicalCut (bounds_of flow (owner flow side)) new
+  pub within : IsCutWithin (bare flow) (owner flow side) new cut
+  pub other : new ≢ cut
+  pub largest : AreAscending flow offers → IsOffered flow offers (owner flow side) cut → (x : Cut) → IsLeft flow offers side cut bound x
+      → IsOffered flow offers (owner flow side) new × IsCutWithin (bare flow) (owner flow side) x new
+
+-- a lower cut; or else the side lies within the frontier, if some cut is left
+abbrev pub IsLowered : Dataflow → List Offer → Side → Cut → Front → Option Cut → Type 0
+IsLowered flow offers side cut bound None =
+    AreAscending flow offers → (x : Cut) → IsLeft flow offers side cut bound x
+    → Within (left_of flow offers side cut) (frontier_of (reach flow side) bound)
+IsLowered flow offers side cut bound (Some new) = IsLower flow offers side cut bound new
+
+-- a frontier of those within another, whose side lies within a bound: the largest
+pub record IsCutDown (flow : Dataflow) (offers : List Offer) (side : Side) (front bound f : Front) : Type 0 where
+  pub canonical : IsCanonical (bounds_of flow (owner flow side)) f
+  pub within : Within (frontier_of (bounds_of flow (owner flow side)) f) (frontier_of (bounds_of flow (owner flow side)) front)
+  pub passes : Within (left_of flow offers side (At f)) (frontier_of (reach flow side) bound)
+  pub largest : (x : Front) → Within (frontier_of (bounds_of flow (owner flow side)) x) (frontier_of (bounds_of flow (owner flow side)) front)
+      → Within (left_of flow offers side (At x)) (frontier_of (reach flow side) bound)
+      → Within (frontier_of (bounds_of flow (owner flow side)) x) (frontier_of (bounds_of flow (owner flow side)) f)
+
+-- the choice is consistent by what the nodes offer
+abbrev pub IsConsistentOf : Dataflow → List Offer → Choice → Type 0
+IsConsistentOf flow offers choice = IsConsistentBy (bare flow) (covers_of (bare flow) offers) (IsOffered flow offers) choice
+
+-- cuts and notification frontiers of the nodes, within which each consistent choice lies, and offered if there is one
+pub record IsReached (flow : Dataflow) (offers : List Offer) (choice : Choice) : Type 0 where
+  pub one_cut_each : length choice.cuts ≡ length flow.nodes
+  pub one_note_each : length choice.notes ≡ length flow.nodes
+  pub cuts : (p : ℕ) → p < length flow.nodes → IsCanonicalCut (bounds_of flow p) (cut_of choice p)
+  pub notes : (p : ℕ) → p < length flow.nodes → IsCanonical (bounds_of flow p) (front_of choice.notes p)
+  pub within : AreAscending flow offers → (other : Choice) → IsConsistentOf flow offers other → IsChoiceWithin (bare flow) other choice
+  pub offered : AreAscending flow offers → (other : Choice) → IsConsistentOf flow offers other
+      → (p : ℕ) → p < length flow.nodes → IsOffered flow offers p (cut_of choice p)
+
+-- records ascend, and there is a consistent choice
+abbrev pub HasConsistent : Dataflow → List Offer → Type 0
+HasConsistent flow offers = AreAscending flow offers × ((other : Choice) × IsConsistentOf flow offers other)
+
+-- how many stamps a cut holds, and one more for a state as it is
+unfoldable pub cut_weight : Bounds → Cut → ℕ
+cut_weight bounds Present = held bounds.greatest (everything bounds) + 1
+cut_weight bounds (At f) = held bounds.greatest (frontier_of bounds f)
+
+-- the same of a node's cut, and how many stamps its notification frontier holds
+unfoldable pub node_weight : Dataflow → Choice → ℕ → ℕ
+node_weight flow choice p = cut_weight (bounds_of flow p) (cut_of choice p) + held (bounds_of flow p).greatest (note_of (bare flow) choice p)
+
+-- the sum of the nodes'
+unfoldable pub weight : Dataflow → Choice → ℕ
+weight flow choice = sum_below (length flow.nodes) (node_weight flow choice)
+
+-- one step of the descent: the choice is the same, or a lower one
+pub record IsStep (flow : Dataflow) (offers : List Offer) (old new : Choice) (lowered : Bool) : Type 0 where
+  pub reached : IsReached flow offers new
+  pub fewer : lowered ≡ true → weight flow new < weight flow old
+  pub same : lowered ≡ false → new ≡ old
+
+-- A notification frontier lies within a bound, and all stays; or else it is cut to what is inside the bound.
+abbrev pub IsNoteLowered : List Front → List Front → ℕ → Front → Bool → Type 0
+IsNoteLowered old new p bound false = (new ≡ old) × ((b : Bounds) → IsCanonical b bound → Within (frontier_of b (front_of old p)) (frontier_of b bound))
+IsNoteLowered old new p bound true =
+    (f : Front) × (new ≡ set old p f)
+    × ((b : Bounds) → IsCanonical b (front_of old p) → IsCanonical b bound
+    → Names b f (meet (frontier_of b (front_of old p)) (frontier_of b bound)) × (Within (frontier_of b (front_of old p)) (frontier_of b bound) → ⊥))
+
+-- a pass over all that has to hold: where nothing was lowered all holds, if there is a consistent choice
+pub record IsPass (flow : Dataflow) (offers : List Offer) (old new : Choice) (lowered : Bool) : Type 0 where
+  pub step : IsStep flow offers old new lowered
+  pub edges : lowered ≡ false → HasConsistent flow offers → (e : ℕ) → e < length flow.edges → HoldsAtEdge flow offers new e
+  pub nodes : lowered ≡ false → HasConsistent flow offers → (p : ℕ) → p < length flow.nodes → HoldsAtNode flow offers new p
+
+-- a choice that was reached, at which all holds if the last pass lowered nothing and there is a consistent choice
+pub record IsDescent (flow : Dataflow) (offers : List Offer) (choice : Choice) (lowered : Bool) : Type 0 where
+  pub reached : IsReached flow offers choice
+  pub edges : lowered ≡ false → HasConsistent flow offers → (e : ℕ) → e < length flow.edges → HoldsAtEdge flow offers choice e
+  pub nodes : lowered ≡ false → HasConsistent flow offers → (p : ℕ) → p < length flow.nodes → HoldsAtNode flow offers choice p
+
+-- how much is left of the descent: twice the weight, and one more where another pass is needed
+unfoldable pub left_over : Dataflow → Choice → Bool → ℕ
+left_over flow choice lowered = weight flow choice + weight flow choice + (if lowered then 1 else 0)
+
+-- a node's greatest cut: each that it offers lies within it, and it is offered if some cut is
+pub record IsGreatest (flow : Dataflow) (offers : List Offer) (p : ℕ) (cut : Cut) : Type 0 where
+  pub canonical : IsCanonicalCut (bounds_of flow p) cut
+  pub largest : AreAscending flow offers → (x : Cut) → IsOffered flow offers p x → IsOffered flow offers p cut × IsCutWithin (bare flow) p x cut

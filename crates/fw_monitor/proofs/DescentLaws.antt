@@ -1,10 +1,8 @@
 -- What a step of the descent keeps, and what it comes to.
-use Rattle.std.proofs.Common.{◌≡◌, ◌≢◌, ◌⊎◌, ℕ, zero, suc, ◌+◌, ◌<◌, ◌≤◌, Bool, true, false, ◌&&◌, List, [], ◌∷◌, length, Option, Some, None, refl, sym, ap, subst, ◌∙◌, inl, inr, get_or, set, arith}
+use Rattle.std.proofs.Common.{◌≡◌, ◌≢◌, ◌⊎◌, ℕ, ◌<◌, Bool, true, false, List, [], length, None, refl, sym, ap, subst, ◌∙◌, inl, inr, set, arith}
 use Rattle.std.proofs.lemmas.Bool.{cases_eq}
 use Rattle.std.proofs.lemmas.List.{get_or-set_same, get_or-set_other, length-set}
-use Rattle.fw_time.specs.Stamp.{Stamp, in_domain}
-use Rattle.fw_time.specs.declared.stamp.Bounds.{Bounds}
-use Rattle.fw_frontier.specs.Frontier.{Frontier, Within, everything, meet}
+use Rattle.fw_frontier.specs.Frontier.{Within, everything, meet}
 use Rattle.fw_frontier.specs.Front.{Front, frontier_of, IsCanonical, Names}
 use Rattle.fw_flow.specs.declared.choice.Choice.{Choice}
 use Rattle.fw_flow.specs.declared.choice.Cut.{Cut}
@@ -19,7 +17,7 @@ use Rattle.fw_monitor.specs.declared.side.Side.{Side}
 use Rattle.fw_monitor.specs.declared.side.Side.TheVariants.{Delivered, Discarded, Notified}
 use Rattle.fw_monitor.specs.Held.{held}
 use Rattle.fw_monitor.specs.Offers.{IsOffered, AreAscending, covers_of, arrived_from}
-use Rattle.fw_monitor.specs.Descent.{bare, choice_of, owner, reach, IsThere, left_of, right_of, Holds, HoldsOwn, HoldsNote, HoldsAtEdge, HoldsAtNode, IsCanonicalCut, IsLeft, IsLower, IsLowered, IsConsistentOf, IsReached, HasConsistent, cut_weight, node_weight, weight, IsStep}
+use Rattle.fw_monitor.specs.Descent.{bare, choice_of, owner, reach, IsThere, right_of, Holds, HoldsAtEdge, HoldsAtNode, IsCanonicalCut, IsLower, IsLowered, IsConsistentOf, IsReached, HasConsistent, cut_weight, node_weight, weight, IsStep}
 use Rattle.fw_monitor.proofs.HeldLaws.{sum_below-less, held-most}
 use Rattle.fw_monitor.proofs.FrontLaws.{held-less, within_everything, meet-left, meet-right, meet-largest}
 use Rattle.fw_monitor.proofs.ArrivedLaws.{arrived-monotone}

@@ -1,18 +1,17 @@
 -- Cutting a frontier below the stamps of events that are not inside a bound.
-use Rattle.std.proofs.Common.{◌≡◌, ℕ, ◌+◌, ◌<◌, Bool, true, false, not, ◌&&◌, ◌==◌, ◌⊎◌, cond, List, [], ◌∷◌, ◌++◌, length, map, filter, get_or, take, refl, sym, ap, subst, ◌∙◌, inl, inr, arith}
+use Rattle.std.proofs.Common.{◌≡◌, ℕ, ◌+◌, ◌<◌, Bool, true, false, not, ◌==◌, cond, List, [], ◌∷◌, ◌++◌, length, map, filter, get_or, take, refl, sym, ap, subst, ◌∙◌, inl, inr}
 use Rattle.std.specs.List.{AllByRecursion}
-use Rattle.std.proofs.lemmas.Bool.{and_parts, and_from, cases_Bool, false_from_ne_true}
+use Rattle.std.proofs.lemmas.Bool.{and_parts, false_from_ne_true}
 use Rattle.std.proofs.lemmas.List.{take_more}
 use Rattle.fw_time.specs.Stamp.{Stamp, leq, in_domain}
 use Rattle.fw_time.specs.declared.stamp.Bounds.{Bounds}
 use Rattle.fw_time.proofs.StampLaws.{leq-refl}
-use Rattle.fw_frontier.specs.Frontier.{Frontier, IsFrontier, Within, cover, without_above}
+use Rattle.fw_frontier.specs.Frontier.{Within, cover, without_above}
 use Rattle.fw_frontier.specs.Front.{Front, inside, frontier_of, IsCanonical, Names}
 use Rattle.fw_frontier.proofs.NamesLaws.{frontier-closed, without_above-largest}
 use Rattle.fw_flow.specs.declared.choice.Counted.{Counted}
-use Rattle.fw_monitor.specs.Offers.{stamps_inside}
 use Rattle.fw_monitor.specs.Kept.{IsKept, IsWithout, IsWithoutOn}
-use Rattle.fw_monitor.proofs.CoverLaws.{each-filter, each_of-filter, each_of-map, each-of, cover-within, cover-below}
+use Rattle.fw_monitor.proofs.CoverLaws.{each-filter, each_of-filter, each-of, cover-within, cover-below}
 
 pub kept_none : (b : Bounds) (front bound f : Front) → IsCanonical b front → f ≡ front → IsKept b front bound [] f
 kept_none b front bound f c e = subst (IsKept b front bound []) (sym e) (record { canonical = c; within = λ t k. k; passes = tt; largest = λ x w a. w })

@@ -1,9 +1,9 @@
 -- Frontiers by their canonical lists.
-use Rattle.std.proofs.Common.{◌≡◌, ◌≢◌, ℕ, ◌<◌, Bool, true, false, ◌&&◌, [], ◌∷◌, refl, sym, ◌∙◌, inl, inr, arith}
+use Rattle.std.proofs.Common.{◌≡◌, ◌≢◌, ◌<◌, Bool, true, false, ◌&&◌, [], refl, sym, ◌∙◌, inl, inr}
 use Rattle.std.proofs.lemmas.Bool.{and_parts, and_from}
-use Rattle.fw_time.specs.Stamp.{Stamp, leq, in_domain}
+use Rattle.fw_time.specs.Stamp.{in_domain}
 use Rattle.fw_time.specs.declared.stamp.Bounds.{Bounds}
-use Rattle.fw_frontier.specs.Frontier.{Frontier, Within, everything, meet, without_above}
+use Rattle.fw_frontier.specs.Frontier.{Frontier, Within, everything, meet}
 use Rattle.fw_frontier.specs.Front.{Front, inside, frontier_of, IsCanonical, Names}
 use Rattle.fw_frontier.proofs.NamesLaws.{names-same, names-self}
 use Rattle.fw_monitor.specs.Held.{held}

@@ -1,5 +1,5 @@
 -- The last record that fits, and what is cut down of a range, as a lower cut.
-use Rattle.std.proofs.Common.{◌≡◌, ◌≢◌, ◌↔◌, ℕ, zero, suc, ◌+◌, ◌-◌, ◌<◌, ◌≤◌, Bool, true, false, List, [], ◌∷◌, ◌++◌, length, take, drop, get_or, Option, Some, None, refl, sym, ap, subst, ◌∙◌, arith}
+use Rattle.std.proofs.Common.{◌≡◌, ◌≢◌, ◌↔◌, ℕ, ◌+◌, ◌<◌, Bool, true, false, List, length, take, drop, get_or, Some, None, sym, ap, subst, ◌∙◌}
 use Rattle.std.specs.List.{AllByRecursion}
 use Rattle.fw_frontier.specs.Frontier.{Within}
 use Rattle.fw_frontier.specs.Front.{Front, frontier_of, IsCanonical}
@@ -12,7 +12,7 @@ use Rattle.fw_flow.specs.WellFormed.{IsWellFormed}
 use Rattle.fw_monitor.specs.declared.side.Side.{Side}
 use Rattle.fw_monitor.specs.Kept.{front_or}
 use Rattle.fw_monitor.specs.Offers.{records_of, range_of, IsRangeOf, AreOffersOf}
-use Rattle.fw_monitor.specs.Descent.{bare, owner, reach, left_of, IsThere, IsCanonicalCut, IsLeft, IsLower, IsCutDown}
+use Rattle.fw_monitor.specs.Descent.{owner, reach, left_of, IsThere, IsCanonicalCut, IsLeft, IsLower, IsCutDown}
 use Rattle.fw_monitor.proofs.LowerLaws.{Fits, lower_listed, none_listed, lower_range, lower_present}
 use Rattle.fw_monitor.proofs.CutDownLaws.{split_at, fails_more, record_canonical}
 use Rattle.fw_monitor.proofs.DescentLaws.{owner-there}

@@ -1,8 +1,8 @@
 -- The largest cut that is left of a node: of its records the last, of a range what is cut down.
-use Rattle.std.proofs.Common.{◌≡◌, ◌≢◌, ◌⊎◌, ℕ, zero, suc, ◌<◌, Bool, true, false, List, [], ◌∷◌, ◌++◌, length, Option, Some, None, refl, sym, ap, subst, ◌∙◌, inl, inr, get_or, map, arith}
+use Rattle.std.proofs.Common.{◌≡◌, ◌≢◌, ℕ, zero, suc, ◌<◌, List, [], ◌∷◌, ◌++◌, length, Some, None, refl, sym, ap, subst, ◌∙◌, inl, inr}
 use Rattle.std.specs.List.{AllByRecursion}
 use Rattle.fw_time.specs.declared.stamp.Bounds.{Bounds}
-use Rattle.fw_frontier.specs.Frontier.{Frontier, Within}
+use Rattle.fw_frontier.specs.Frontier.{Within}
 use Rattle.fw_frontier.specs.Front.{Front, frontier_of, IsCanonical}
 use Rattle.fw_flow.specs.declared.choice.Cut.{Cut}
 use Rattle.fw_flow.specs.declared.choice.Cut.TheVariants.{Present, At}
@@ -13,8 +13,8 @@ use Rattle.fw_flow.specs.declared.choice.Offer.{Offer}
 use Rattle.fw_flow.specs.Dataflow.{System, Dataflow, bounds_of}
 use Rattle.fw_model.specs.Choice.{IsCutWithin}
 use Rattle.fw_monitor.specs.declared.side.Side.{Side}
-use Rattle.fw_monitor.specs.Offers.{IsListed, IsBetween, IsOffered, Ascend, AreAscending, listed, range, records_of, range_of}
-use Rattle.fw_monitor.specs.Descent.{bare, owner, reach, left_of, IsCanonicalCut, IsLeft, IsLower, IsCutDown}
+use Rattle.fw_monitor.specs.Offers.{IsListed, IsBetween, IsOffered, Ascend, listed, range, records_of, range_of}
+use Rattle.fw_monitor.specs.Descent.{bare, owner, reach, left_of, IsLeft, IsLower, IsCutDown}
 
 -- ---- records
 

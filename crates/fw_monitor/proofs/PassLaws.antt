@@ -1,17 +1,17 @@
 -- Which stamps have to lie within a bound, so that a cover of them does.
-use Rattle.std.proofs.Common.{◌≡◌, ◌↔◌, ℕ, Bool, true, false, not, ◌&&◌, ◌||◌, ◌==◌, cond, List, [], ◌∷◌, map, filter, refl, sym, ap, subst, ◌∙◌, inl, inr}
+use Rattle.std.proofs.Common.{◌≡◌, ◌↔◌, ℕ, Bool, true, false, not, ◌&&◌, ◌||◌, ◌==◌, cond, List, [], ◌∷◌, map, filter, refl, sym, ap, subst, ◌∙◌}
 use Rattle.std.specs.List.{AllByRecursion, list_all}
-use Rattle.std.proofs.lemmas.Bool.{and_parts, and_from, eqb-true}
-use Rattle.fw_time.specs.Stamp.{Stamp, leq, in_domain}
+use Rattle.std.proofs.lemmas.Bool.{and_parts, eqb-true}
+use Rattle.fw_time.specs.Stamp.{Stamp, in_domain}
 use Rattle.fw_time.specs.declared.stamp.Bounds.{Bounds}
-use Rattle.fw_frontier.specs.Frontier.{Frontier, IsFrontier, Within, cover}
+use Rattle.fw_frontier.specs.Frontier.{Within, cover}
 use Rattle.fw_frontier.specs.Front.{Front, inside, frontier_of}
 use Rattle.fw_frontier.proofs.NamesLaws.{frontier-closed}
 use Rattle.fw_flow.specs.declared.choice.Counted.{Counted}
 use Rattle.fw_flow.specs.Dataflow.{Dataflow, receiver, bounds_of}
 use Rattle.fw_flow.specs.Projection.{all_inside}
 use Rattle.fw_monitor.specs.Offers.{stamps_inside, stamps_from, AreOnEdges}
-use Rattle.fw_monitor.proofs.CoverLaws.{each-filter, each_of-filter, each-map, each_of-map, each-of, each-both, list_all-each, each-list_all, implies-at, implies-from, cover-within, cover-below}
+use Rattle.fw_monitor.proofs.CoverLaws.{each-filter, each_of-filter, each-map, each_of-map, each-of, list_all-each, each-list_all, implies-at, implies-from, cover-within, cover-below}
 
 both-at : (a b c : Bool) → (not a || not b || c) ≡ true → a ≡ true → b ≡ true → c ≡ true
 both-at true true c k e f = k

@@ -1,11 +1,9 @@
 -- Where the descent starts.
-use Rattle.std.proofs.Common.{◌≡◌, ◌≢◌, ◌⊎◌, ℕ, zero, suc, ◌+◌, ◌<◌, ◌≤◌, Bool, true, false, List, [], ◌∷◌, ◌++◌, length, take, get_or, ◌-◌, ◌==◌, Option, Some, None, refl, sym, ap, subst, ◌∙◌, inl, inr, arith}
+use Rattle.std.proofs.Common.{◌≡◌, ◌≢◌, ℕ, zero, suc, ◌+◌, ◌<◌, ◌≤◌, Bool, true, false, List, [], ◌∷◌, ◌++◌, length, take, get_or, ◌-◌, ◌==◌, Some, None, refl, sym, ap, subst, ◌∙◌, inl, inr, arith}
 use Rattle.std.specs.List.{AllByRecursion}
 use Rattle.std.proofs.lemmas.Bool.{cases_lt, eqb-false}
 use Rattle.std.proofs.lemmas.List.{get_or_read, drop_all}
-use Rattle.fw_time.specs.declared.stamp.Bounds.{Bounds}
-use Rattle.fw_frontier.specs.Frontier.{Within}
-use Rattle.fw_frontier.specs.Front.{Front, frontier_of, IsCanonical, Names}
+use Rattle.fw_frontier.specs.Front.{Front, IsCanonical, Names}
 use Rattle.fw_flow.specs.declared.choice.Choice.{Choice}
 use Rattle.fw_flow.specs.declared.choice.Cut.{Cut}
 use Rattle.fw_flow.specs.declared.choice.Cut.TheVariants.{Present, At}
@@ -13,9 +11,9 @@ use Rattle.fw_flow.specs.declared.choice.Recorded.{Recorded}
 use Rattle.fw_flow.specs.declared.choice.Offer.{Offer}
 use Rattle.fw_flow.specs.Dataflow.{System, Dataflow, bounds_of}
 use Rattle.fw_model.specs.Machine.{front_of}
-use Rattle.fw_model.specs.Choice.{cut_of, note_of, kept_of, set_of, IsCutWithin, IsConsistentBy, IsLargestBy}
+use Rattle.fw_model.specs.Choice.{cut_of, set_of, IsCutWithin, IsConsistentBy, IsLargestBy}
 use Rattle.fw_monitor.specs.Offers.{IsListed, IsBetween, IsOffered, Ascend, AreAscending, IsRangeOf, IsRecordOf, can_stay, records_of, range_of, AreOffersOf, covers_of}
-use Rattle.fw_monitor.specs.Descent.{bare, choice_of, IsCanonicalCut, IsConsistentOf, IsReached, IsGreatest, IsDescent, HasConsistent}
+use Rattle.fw_monitor.specs.Descent.{bare, choice_of, IsCanonicalCut, IsReached, IsGreatest, IsDescent, HasConsistent}
 use Rattle.fw_monitor.proofs.LowerLaws.{below_last, listed-there, between-offered, offered-between}
 use Rattle.fw_monitor.proofs.DescentLaws.{set-monotone, largest_of, consistent-bare, largest-whole}
 use Rattle.fw_monitor.proofs.CutDownLaws.{split_at}

@@ -1,8 +1,7 @@
 -- Steps of the descent, as its calls make them.
-use Rattle.std.proofs.Common.{◌≡◌, ◌≢◌, ◌⊎◌, ◌↔◌, ℕ, zero, suc, ◌+◌, ◌<◌, ◌≤◌, Bool, true, false, ◌||◌, List, [], ◌∷◌, length, set, get_or, Option, Some, None, refl, sym, ap, subst, ◌∙◌, inl, inr, arith}
+use Rattle.std.proofs.Common.{◌≡◌, ◌↔◌, ℕ, ◌+◌, ◌<◌, Bool, true, false, ◌||◌, List, [], length, set, get_or, None, refl, sym, ap, subst, ◌∙◌, inl, inr, arith}
 use Rattle.std.proofs.lemmas.Bool.{or_parts, or_cases, cases_lt}
 use Rattle.std.proofs.lemmas.List.{get_or_read}
-use Rattle.fw_time.specs.Stamp.{Stamp}
 use Rattle.fw_time.specs.declared.stamp.Bounds.{Bounds}
 use Rattle.fw_frontier.specs.Frontier.{Frontier, Within, meet}
 use Rattle.fw_frontier.specs.Front.{Front, frontier_of, IsCanonical, Names}
@@ -17,8 +16,8 @@ use Rattle.fw_model.specs.Choice.{cut_of, note_of, kept_of, set_of, IsChoiceWith
 use Rattle.fw_monitor.specs.declared.side.Side.{Side}
 use Rattle.fw_monitor.specs.declared.side.Side.TheVariants.{Delivered, Discarded, Notified}
 use Rattle.fw_monitor.specs.Offers.{arrived_from}
-use Rattle.fw_monitor.specs.Descent.{bare, choice_of, owner, reach, IsThere, left_of, right_of, Holds, HoldsOwn, HoldsNote, HoldsAtEdge, HoldsAtNode, IsCanonicalCut, IsLower, IsLowered, IsConsistentOf, IsReached, HasConsistent, weight, IsStep, IsNoteLowered, IsPass, IsDescent, left_over}
-use Rattle.fw_monitor.proofs.DescentLaws.{owner-there, lower_step, same_step, none_holds, note_step, own_keeps, edge_keeps, then_step}
+use Rattle.fw_monitor.specs.Descent.{bare, choice_of, owner, reach, IsThere, right_of, Holds, HoldsAtEdge, HoldsAtNode, IsCanonicalCut, IsLower, IsLowered, IsConsistentOf, IsReached, HasConsistent, weight, IsStep, IsNoteLowered, IsPass, IsDescent, left_over}
+use Rattle.fw_monitor.proofs.DescentLaws.{lower_step, same_step, none_holds, note_step, own_keeps, edge_keeps, then_step}
 
 -- ---- right sides
 

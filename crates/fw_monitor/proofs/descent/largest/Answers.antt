@@ -1,4 +1,4 @@
-use Rattle.std.proofs.Common.{ℕ, ◌<◌, [], length, false, sym, subst}
+use Rattle.std.proofs.Common.{ℕ, ◌<◌, [], length, sym, subst}
 use Rattle.fw_frontier.specs.Front.{Names}
 use Rattle.fw_flow.specs.Dataflow.{bounds_of}
 use Rattle.fw_model.specs.Machine.{front_of}

@@ -1,6 +1,5 @@
-use Rattle.std.proofs.Common.{◌≡◌, None, Some, refl, sym, subst}
+use Rattle.std.proofs.Common.{None, Some, refl, sym, subst}
 use Rattle.fw_frontier.specs.Front.{Names}
-use Rattle.fw_model.specs.Choice.{cut_of}
 use Rattle.fw_monitor.specs.Descent.{choice_of, owner, reach, right_of, IsLowered}
 use Rattle.fw_monitor.proofs.DescentLaws.{owner-there}
 use Rattle.fw_monitor.proofs.StepLaws.{cut_here, cut_step, cut_holds}

@@ -1,4 +1,4 @@
-use Rattle.std.proofs.Common.{◌≡◌, ◌<◌, length, arith}
+use Rattle.std.proofs.Common.{arith}
 use Rattle.fw_monitor.specs.Descent.{choice_of, HoldsAtNode}
 use Rattle.fw_monitor.proofs.DescentLaws.{same_step}
 use Rattle.fw_monitor.proofs.StepLaws.{more_done}

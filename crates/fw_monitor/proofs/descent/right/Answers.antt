@@ -1,7 +1,7 @@
 use Rattle.std.proofs.Common.{refl}
 use Rattle.std.proofs.lemmas.Result.{IfOk-weaker}
 use Rattle.fw_flow.specs.Dataflow.{sender, receiver}
-use Rattle.fw_monitor.specs.declared.side.Side.TheVariants.{Delivered, Discarded, Notified}
+use Rattle.fw_monitor.specs.declared.side.Side.TheVariants.{Delivered, Discarded}
 use Rattle.fw_monitor.specs.Descent.{choice_of}
 use Rattle.fw_monitor.proofs.StepLaws.{cut_here, there_at, delivered_at_cut, discarded_at_cut}
 use Rattle.fw_monitor.proofs.descent.right.Goals as goal

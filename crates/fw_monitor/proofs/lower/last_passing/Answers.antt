@@ -1,4 +1,4 @@
-use Rattle.std.proofs.Common.{◌≡◌, ◌+◌, ◌-◌, ◌<◌, length, get_or, ap, ◌∙◌, arith}
+use Rattle.std.proofs.Common.{◌≡◌, ◌+◌, ◌-◌, ◌<◌, length, get_or, ap, arith}
 use Rattle.fw_monitor.proofs.LastLaws.{front_there, last_lower, one_more_fails, none_left}
 use Rattle.fw_monitor.proofs.lower.last_passing.Goals as goal
 

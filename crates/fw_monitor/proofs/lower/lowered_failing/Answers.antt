@@ -1,4 +1,3 @@
-use Rattle.std.proofs.Common.{refl}
 use Rattle.fw_monitor.proofs.LastLaws.{range_some, range_none, range_front, range_lower}
 use Rattle.fw_monitor.proofs.lower.lowered_failing.Goals as goal
 

@@ -44,7 +44,13 @@ fn a_recovery_undoes_as_little_as_it_can(rt: HostRuntime) -> Result<(), Fail> {
         ),
     ];
     for (inputs, schedule, text) in runs {
-        let ran = run_texts(rt.alloc(), ONE_SELECT, inputs, schedule, Vec::new(rt.alloc()))?;
+        let ran = run_texts(
+            rt.alloc(),
+            ONE_SELECT,
+            inputs,
+            schedule,
+            Vec::new(rt.alloc()),
+        )?;
         assert_eq!(rt; ran.out.as_slice(), text.as_bytes(), "of {schedule}");
         assert_eq!(rt; ran.status, 0, "of {schedule}");
     }
@@ -73,7 +79,8 @@ fn with_failure(
 #[test]
 fn a_failure_between_any_two_steps_of_a_batch_of_two(rt: HostRuntime) -> Result<(), Fail> {
     let inputs = "batch src 1:20 2:30\nbatch src 3:40";
-    let steps = "inject src\ndeliver a\nprogress\ndeliver a\ndeliver b\ndeliver b\nprogress\nack out";
+    let steps =
+        "inject src\ndeliver a\nprogress\ndeliver a\ndeliver b\ndeliver b\nprogress\nack out";
     let texts = [
         "cut src present\ncut big until 0\ncut out until 0\nack out epoch 0 1:20 2:30\ndone steps 10 idle 0\n",
         "cut src until 0\ncut big until 0\ncut out until 0\ndone steps 10 idle 7\n",
@@ -86,7 +93,13 @@ fn a_failure_between_any_two_steps_of_a_batch_of_two(rt: HostRuntime) -> Result<
     ];
     for (place, text) in texts.iter().enumerate() {
         let schedule = with_failure(rt.alloc(), steps, place, "fail big out")?;
-        let ran = run_texts(rt.alloc(), ONE_SELECT, inputs, &schedule, Vec::new(rt.alloc()))?;
+        let ran = run_texts(
+            rt.alloc(),
+            ONE_SELECT,
+            inputs,
+            &schedule,
+            Vec::new(rt.alloc()),
+        )?;
         assert_eq!(rt; ran.out.as_slice(), text.as_bytes(), "of {schedule}");
     }
     Ok(())
@@ -95,7 +108,8 @@ fn a_failure_between_any_two_steps_of_a_batch_of_two(rt: HostRuntime) -> Result<
 #[test]
 fn a_failure_between_any_two_steps_of_two_batches(rt: HostRuntime) -> Result<(), Fail> {
     let inputs = "batch src 1:20\nbatch src 2:30";
-    let steps = "inject src\ndeliver a\nprogress\ndeliver b\nprogress\nack out\ninject src\ndeliver a\ndeliver b\nprogress\nack out";
+    let steps =
+        "inject src\ndeliver a\nprogress\ndeliver b\nprogress\nack out\ninject src\ndeliver a\ndeliver b\nprogress\nack out";
     // where the select fails, and where the output does
     let texts = [
         (
@@ -145,10 +159,22 @@ fn a_failure_between_any_two_steps_of_two_batches(rt: HostRuntime) -> Result<(),
     ];
     for (place, (one, other)) in texts.iter().enumerate() {
         let schedule = with_failure(rt.alloc(), steps, place, "fail big")?;
-        let ran = run_texts(rt.alloc(), ONE_SELECT, inputs, &schedule, Vec::new(rt.alloc()))?;
+        let ran = run_texts(
+            rt.alloc(),
+            ONE_SELECT,
+            inputs,
+            &schedule,
+            Vec::new(rt.alloc()),
+        )?;
         assert_eq!(rt; ran.out.as_slice(), one.as_bytes(), "of {schedule}");
         let schedule = with_failure(rt.alloc(), steps, place, "fail out")?;
-        let ran = run_texts(rt.alloc(), ONE_SELECT, inputs, &schedule, Vec::new(rt.alloc()))?;
+        let ran = run_texts(
+            rt.alloc(),
+            ONE_SELECT,
+            inputs,
+            &schedule,
+            Vec::new(rt.alloc()),
+        )?;
         assert_eq!(rt; ran.out.as_slice(), other.as_bytes(), "of {schedule}");
     }
     Ok(())

@@ -45,6 +45,6 @@ restored_leaves (suc (suc (suc (suc (suc zero))))) = refl
 restored_leaves (suc (suc (suc (suc (suc (suc zero)))))) = refl
 restored_leaves (suc (suc (suc (suc (suc (suc (suc e))))))) = less-nothing (delivered without_the_second (suc (suc (suc (suc (suc (suc (suc e))))))))
 
-pub strikes_the_second : events (filtered two_batches restored (with_serials under_way)) ≡ without_the_second
+pub the_second_is_filtered_out : events (filtered two_batches restored (with_serials under_way)) ≡ without_the_second
 unfolding kind_of sender receiver bounds_of batches_of max_of sends
-strikes_the_second = refl
+the_second_is_filtered_out = refl

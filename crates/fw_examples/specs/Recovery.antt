@@ -74,9 +74,9 @@ pending_again =
     ∷ []
     ∷ []
 
--- the recovery strikes one delivery alone, the rest is legal, and the struck message is pending again
+-- the recovery filters out one delivery alone, the rest is legal, and the message that was filtered out is pending again
 pub record IsRestored : Type 0 where
-  pub struck : events (filtered two_batches restored (with_serials under_way)) ≡ without_the_second
+  pub remains : events (filtered two_batches restored (with_serials under_way)) ≡ without_the_second
   pub legal : IsLegal two_batches without_the_second
   pub waiting : (e : ℕ) → pending two_batches without_the_second e ≡ slice_index_or pending_again e []
 

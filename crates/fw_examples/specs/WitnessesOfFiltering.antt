@@ -27,14 +27,14 @@ kept_totals p = kept_of totals two_epochs_kept p
 abbrev pub noted_totals : ℕ → Frontier
 noted_totals p = note_of totals two_epochs_kept p
 
--- The recovery of the running total keeps what is consistent, deliveries and a notification among it, and strikes others.
+-- The recovery of the running total keeps what is consistent, deliveries and a notification among it, and filters out others.
 -- All that was settled had come. The running total is cut within what it settled, and of what the input sent, which it cannot
 -- send again, a message was pending.
 pub record TotalsAreFiltered : Type 0 where
   pub legal : IsLegal totals (events output_failed.history)
   pub consistently : IsConsistentlyKept totals (events output_failed.history) kept_totals noted_totals
   pub inclusions : MeetsInclusions totals output_failed two_epochs_kept
-  pub struck : events (filtered totals two_epochs_kept output_failed.history) ≡ two_epochs
+  pub remains : events (filtered totals two_epochs_kept output_failed.history) ≡ two_epochs
   pub full : IsFull totals output_failed
   pub cut : IsCutWithinSettled totals output_failed two_epochs_kept run
   pub discarded : KeepsDiscarded totals output_failed two_epochs_kept src_to_run
@@ -49,7 +49,7 @@ kept_rounds p = kept_of two_batches restored p
 abbrev pub two_rounds : Frontier
 two_rounds = frontier_of (bounds_of loop_counts_up (sender loop_counts_up 3)) (round 0 2 ∷ round 1 0 ∷ [])
 
--- The recovery of the loop, in which no node is notified, strikes a delivery. On an edge to a node that stays as it is one
+-- The recovery of the loop, in which no node is notified, filters out a delivery. On an edge to a node that stays as it is one
 -- message of two stays pending, and on the edge to the node that is cut one more is pending than before.
 pub record LoopIsFiltered : Type 0 where
   pub well_formed : IsWellFormed loop_counts_up
@@ -58,7 +58,7 @@ pub record LoopIsFiltered : Type 0 where
   pub legal : IsLegal two_batches under_way
   pub frontiers : AreFrontiers loop_counts_up kept_rounds
   pub come : ComeFromKept two_batches under_way kept_rounds
-  pub struck : kept_events loop_counts_up kept_rounds under_way ≡ without_the_second
+  pub remains : kept_events loop_counts_up kept_rounds under_way ≡ without_the_second
   pub inclusions : MeetsInclusions two_batches counting_failed restored
   pub full : IsFull two_batches counting_failed
   pub present : cut_of restored (receiver loop_counts_up 3) ≡ Present
@@ -85,7 +85,7 @@ pub record SequenceIsFiltered : Type 0 where
   pub legal : IsLegal numbers numbered_both
   pub frontiers : AreFrontiers regroup_by_three kept_epoch
   pub come : ComeFromKept numbers numbered_both kept_epoch
-  pub struck : kept_events regroup_by_three kept_epoch numbered_both ≡ numbered_epoch
+  pub remains : kept_events regroup_by_three kept_epoch numbered_both ≡ numbered_epoch
   pub sent_before : sent numbers numbered_both 1 ≡ value_at 2 3 1 ∷ value_at 0 1 0 ∷ value_at 1 2 0 ∷ []
   pub sent_by_kept : sent numbers numbered_epoch 1 ≡ value_at 0 1 0 ∷ value_at 1 2 0 ∷ []
   pub inside : phi numbers numbered_both 1 (kept_epoch 1) (1 ∷ []) ≡ true

@@ -42,7 +42,7 @@ pub record FailureIsReached : Type 0 where
   pub acknowledged : stamps_acknowledged out outcomes_to_failure ≡ (0 ∷ []) ∷ (1 ∷ []) ∷ []
   pub bag : bag_at totals_denoted run_to_out (1 ∷ []) ≡ rec_of 1 10 ∷ []
 
--- A recovery is a step from that state, strikes some events and keeps others, and one more epoch is acknowledged after it.
+-- A recovery is a step from that state, filters out some events and keeps others, and one more epoch is acknowledged after it.
 pub record RecoveryIsReached : Type 0 where
   pub step : Steps totals output_failed Recover come_back (did (cuts two_epochs_kept))
   pub before : events output_failed.history ≡ next_epochs ++ two_epochs

@@ -6,7 +6,7 @@ pub fn is_restored_choice()
     ensures { IsRestoredChoice }
 {}
 
-/// A recovery strikes the one event outside the cut of its node.
+/// A recovery filters out the one event outside the cut of its node.
 pub fn is_restored()
     ensures { IsRestored }
 {}

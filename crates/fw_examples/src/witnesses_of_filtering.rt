@@ -1,7 +1,7 @@
 //! That the laws of filtering say something: where what they ask holds.
 ghost use Rattle.fw_examples.specs.WitnessesOfFiltering.{LoopIsFiltered, NumbersAreDelivered, SequenceIsFiltered, TotalsAreFiltered};
 
-/// A recovery keeps some deliveries and a notification, and strikes others.
+/// A recovery keeps some deliveries and a notification, and filters out others.
 pub fn totals_are_filtered()
     ensures { TotalsAreFiltered }
 {}

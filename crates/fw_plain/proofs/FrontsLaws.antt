@@ -1,7 +1,6 @@
 -- Lists of frontiers, one for each node.
-use Rattle.std.proofs.Common.{◌≡◌, ℕ, zero, suc, ◌+◌, ◌<◌, Bool, true, false, not, ◌&&◌, List, [], ◌∷◌, ◌++◌, map, length, get_or, below_more, refl, sym, ◌∙◌, ap, subst, inl, inr, arith, Result, Ok, Err, IfOk}
+use Rattle.std.proofs.Common.{◌≡◌, ℕ, zero, suc, ◌<◌, Bool, true, false, not, ◌&&◌, List, [], ◌∷◌, map, length, get_or, refl, sym, ap, subst, inl, inr, arith, Result, Ok, Err, IfOk}
 use Rattle.std.proofs.lemmas.Bool.{cases_Bool, or_cases, or_left, or_right, and_parts, and_from, false_from_ne_true}
-use Rattle.std.proofs.lemmas.List.{length-append}
 use Rattle.fw_time.specs.declared.stamp.Bounds.{Bounds}
 use Rattle.fw_time.specs.Stamp.{Stamp, leq, origin, in_domain}
 use Rattle.fw_time.proofs.StampLaws.{leq-refl}
@@ -11,7 +10,7 @@ use Rattle.fw_frontier.proofs.InsideLaws.{inside-closed}
 use Rattle.fw_frontier.proofs.NamesLaws.{names-same, names-nothing}
 use Rattle.fw_model.specs.Machine.{no_stamps, front_of}
 use Rattle.fw_model.proofs.Decisions.{two_ways}
-use Rattle.fw_plain.specs.Fronts.{grows, any_grows, AreAtPlaces}
+use Rattle.fw_plain.specs.Fronts.{grows, any_grows}
 
 -- ---- frontiers without stamps
 
@@ -105,30 +104,7 @@ any_grows-none fs cs ss h = false_from_ne_true (any_grows fs cs ss) (λ g.
     two_ways (not (get_or fs w.0 false) && grows (front_of cs w.0) (front_of ss w.0))
     (and_from (not (get_or fs w.0 false)) (grows (front_of cs w.0) (front_of ss w.0)) (ap not w.2) w.3) (h w.0 w.1))
 
--- ---- lists
-
-pub places_none : (is_wanted : ℕ → Front → Type 0) → AreAtPlaces 0 is_wanted []
-places_none is_wanted = record { one_each = refl; each = λ p l. absurd (omega arith) }
-
--- one more frontier behind the others
-pub places_more : (n : ℕ) (is_wanted : ℕ → Front → Type 0) (fronts : List Front) (f : Front) → AreAtPlaces n is_wanted fronts → is_wanted n f
-    → AreAtPlaces (n + 1) is_wanted (fronts ++ f ∷ [])
-places_more n is_wanted fronts f a w = record {
-  one_each = length-append fronts (f ∷ []) ∙ ap (λ k. k + 1) a.one_each;
-  each = below_more _ _ (λ p l. subst (is_wanted p) (sym (get_or-append_first fronts f p (omega (arith, a.one_each)))) (a.each p l))
-      (subst (is_wanted n) (sym (get_or-append_last fronts f n a.one_each)) w);
-}
-  where
-    get_or-append_first : (xs : List Front) (x : Front) (p : ℕ) → p < length xs → get_or (xs ++ x ∷ []) p [] ≡ get_or xs p []
-    get_or-append_first [] x p l = absurd (omega arith)
-    get_or-append_first (y ∷ xs) x zero l = refl
-    get_or-append_first (y ∷ xs) x (suc p) l = get_or-append_first xs x p (omega arith)
-
-    get_or-append_last : (xs : List Front) (x : Front) (p : ℕ) → length xs ≡ p → get_or (xs ++ x ∷ []) p [] ≡ x
-    get_or-append_last [] x zero l = refl
-    get_or-append_last [] x (suc p) l = absurd (omega arith)
-    get_or-append_last (y ∷ xs) x zero l = absurd (omega arith)
-    get_or-append_last (y ∷ xs) x (suc p) l = get_or-append_last xs x p (omega arith)
+-- ---- what calls give
 
 -- what holds in each domain of what a call gives
 pub in_each_domain : {E : Type 0} (r : Result Front E) (f g : Front) (P : Bounds → Front → Type 0)

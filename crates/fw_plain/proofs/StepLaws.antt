@@ -67,9 +67,6 @@ none_eager sys state settled (p ∷ ps) keeps =
     ap (λ kept. map (λ q. checkpoint_of state q (front_of settled q)) (cond (is_eager kept && grown p) (p ∷ asked) asked)) (keeps p)
     ∙ none_eager sys state settled ps keeps
 
-live_grown : (b : Bounds) (f : Bool) (c s both : Front) → f ≡ false → IsGrown f s c both → IsGrown false s c both
-live_grown b f c s both e g = subst (λ flag. IsGrown flag s c both) e g
-
 pub progresses : (sys : System) (past : Past) (settled : List Front) (failed : List Bool) (bounds : List ℕ) (complete both : List Front)
     → IsSound sys (state_of sys.flow past settled failed bounds)
     → IsComplete sys (events past.history) (family_of sys.flow complete) → AreCanonical sys.flow complete → AreGrown failed settled complete both
@@ -156,9 +153,6 @@ pub acknowledges : (sys : System) (past : Past) (settled : List Front) (failed :
     → recs ≡ sorted (delivered_recs (λ e s. receiver sys.flow e == o && same s (x ∷ [])) (events past.history))
     → Steps sys (state_of sys.flow past settled failed bounds) (Ack o) (state_of sys.flow past settled failed (slice_set bounds o (x + 1))) (did (acked o (x ∷ []) recs))
 acknowledges sys past settled failed bounds o x recs m e = (x, m, refl, ap (λ rs. acked o (x ∷ []) rs) e)
-
-pub acknowledges_nothing : (sys : System) (state : Machine) (o : ℕ) → ((x : ℕ) → MayAcknowledge sys state o x → ⊥) → Steps sys state (Ack o) state idle
-acknowledges_nothing sys state o n = (λ other effect t. n t.0 t.1, refl)
 
 -- ---- failures
 

@@ -4,6 +4,7 @@ ghost use Rattle.std.specs.Option.{ForSome};
 ghost use Rattle.std.specs.FinMap as map;
 
 use fw_bag::{Bag, Rec};
+use fw_lines::lines;
 use fw_outside::{
     FaultlessFolder, FaultlessSink, FaultlessStore, Folder, MemStore, MemText, OutFault, Sink,
     Store,
@@ -28,8 +29,8 @@ fn bags(rt: HostRuntime) -> Result<(), Fail> {
     Ok(())
 }
 
-// Puts a record, gets it and takes it out.
-fn keep_a_record<K: Store>(store: &mut K, into: &mut Vec<u8>) -> Result<(), OutFault>
+/// Puts a record, gets it and takes it out.
+pub fn keep_a_record<K: Store>(store: &mut K, into: &mut Vec<u8>) -> Result<(), OutFault>
     requires { ForSome (K.records store.old) (λ held. map.get held 3 ≡ None) }
 {
     store.put(3, b"record")?;
@@ -56,5 +57,26 @@ fn the_outside(rt: HostRuntime) -> Result<(), Fail> {
     let mut sink = FaultlessSink::new(alloc);
     assert_eq!(rt; sink.write(b"piece"), Ok(()));
     assert_eq!(rt; sink.taken(), b"piece".as_slice());
+    Ok(())
+}
+
+#[test]
+fn lines_of_a_text(rt: HostRuntime) -> Result<(), Fail> {
+    let text = b" inject  src\n# none\n\nack out";
+    let found = lines(rt.alloc(), text)?;
+    let mut said = Vec::new(rt.alloc());
+    for line in found.as_slice() {
+        for word in line.words.as_slice() {
+            said.extend_from_slice(word.of(text))?;
+            said.push(b' ')?;
+        }
+        let number = line.number;
+        let end = format!(in rt.alloc(); "{number}\n")?;
+        said.extend_from_slice(end.as_bytes())?;
+    }
+    assert_eq!(rt;
+        said.as_slice(),
+        b"inject src 1\n2\n3\nack out 4\n".as_slice()
+    );
     Ok(())
 }

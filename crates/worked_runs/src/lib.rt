@@ -8,6 +8,8 @@ mod ample_memory;
 #[cfg(test)]
 mod failures;
 #[cfg(test)]
+mod faults;
+#[cfg(test)]
 mod one_select;
 #[cfg(test)]
 mod refusals;

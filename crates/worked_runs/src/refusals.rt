@@ -1,5 +1,6 @@
 //! Texts that are not accepted, and accepted ones beside them.
-use crate::runs::{ONE_SELECT, run_texts};
+use crate::runs::{ONE_SELECT, run_texts, run_words};
+use fw_outside::MemText;
 use std::alloc::{AllocError, Global};
 use std::test::Fail;
 
@@ -140,6 +141,13 @@ fn schedules(rt: HostRuntime) -> Result<(), Fail> {
         ("progress\n#\t", "refused S1 line 2\n"),
         ("progress\n\n#\ninject src src", "refused S1 line 4\n"),
         ("deliver a at 01", "refused S1 line 1\n"),
+        ("fail", "refused S1 line 1\n"),
+        ("fail Big", "refused S1 line 1\n"),
+        ("fail nobody 1x", "refused S1 line 1\n"),
+        ("recover big", "refused S1 line 1\n"),
+        ("fail a", "refused S2 line 1\n"),
+        ("fail big at", "refused S2 line 1\n"),
+        ("progress\nfail big nobody\nstep", "refused S2 line 2\n"),
         ("inject out", "refused S2 line 1\n"),
         ("ack big", "refused S2 line 1\n"),
         ("deliver c", "refused S2 line 1\n"),
@@ -151,6 +159,7 @@ fn schedules(rt: HostRuntime) -> Result<(), Fail> {
             "inject src\n deliver  a at 0 \ndeliver b\n#~\nnotify big\nprogress\nack out",
             "",
         ),
+        ("fail big\nfail  out big out\nfail src \nrecover", ""),
     ];
     for (schedule, note) in rows {
         let (status, notes) = refusal(rt.alloc(), ONE_SELECT, "", schedule)?;
@@ -159,6 +168,35 @@ fn schedules(rt: HostRuntime) -> Result<(), Fail> {
             status,
             if note.is_empty() { 0 } else { 5 },
             "at {schedule}"
+        );
+    }
+    Ok(())
+}
+
+#[test]
+fn largest_texts(rt: HostRuntime) -> Result<(), Fail> {
+    let alloc = rt.alloc();
+    let rows = [
+        ("flow", 1_048_576, "refused F9 line 0\n"),
+        ("flow", 1_048_577, "refused F11 line 0\n"),
+        ("inputs", 16_777_217, "refused I5 line 0\n"),
+        ("schedule", 16_777_217, "refused S4 line 0\n"),
+    ];
+    for (name, bytes, note) in rows {
+        let comment = vec![in alloc; b'#'; bytes]?;
+        // of two texts of a name the first is there
+        let texts = vec![in alloc;
+            MemText::new(alloc, name, &comment)?,
+            MemText::new(alloc, "flow", ONE_SELECT.as_bytes())?,
+            MemText::new(alloc, "inputs", b"")?,
+            MemText::new(alloc, "schedule", b"")?,
+        ]?;
+        let words = ["run", "flow", "inputs", "schedule"];
+        let ran = run_words(alloc, &words, texts, Vec::new(alloc))?;
+        assert_eq!(rt;
+            ran.notes.as_slice(),
+            note.as_bytes(),
+            "of {bytes} bytes of {name}"
         );
     }
     Ok(())

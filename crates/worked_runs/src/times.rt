@@ -141,5 +141,8 @@ fn covers_and_cuts_by_their_types(rt: HostRuntime) -> Result<(), Fail> {
     assert_eq!(rt; loops.as_str(), "until 1.1 3.0");
     assert!(rt; tops[0].leq(&tops[0].lub(&tops[1])));
     assert!(rt; tops[0].in_domain(&two));
+    let stamp = cut.coords();
+    let text = format!(in alloc; "{stamp}")?;
+    assert_eq!(rt; text.as_str(), "1.1");
     Ok(())
 }

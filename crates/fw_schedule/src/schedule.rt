@@ -1,5 +1,5 @@
 //! The reader of schedules.
-ghost use Rattle.std.specs.Prelude.{◌≡◌, ◌++◌, ◌∷◌, [], ℕ, List, IfOk, OnOk, IfErr, MatchResult};
+ghost use Rattle.std.specs.Prelude.{◌≡◌, ◌++◌, ◌∷◌, [], ℕ, List, IfOk, OnOk, IfErr, OnErr, MatchResult};
 ghost use Rattle.std.specs.List.{AllByRecursion};
 ghost use Rattle.std.specs.Option.{option_map};
 ghost use Rattle.fw_flow.specs.Dataflow.{Dataflow, is_input_kind, is_output_kind};
@@ -70,6 +70,7 @@ fn read_line(
     ensures broken { IfErr result (IfRefused (λ refusal.
         (fault_of flow.now (words_at text.now line.now.words) ≡ Some refusal.code)
         × (refusal.line ≡ line.now.number))) }
+    ensures err { OnErr result (steps.new ≡ steps.old) }
 {
     let words = line.words.as_slice();
     if words.is_empty() {

@@ -1,4 +1,5 @@
-//! Runs of the whole program over memory, and one call of each kind over real files, streams and ample memory.
+//! Runs of the whole program over memory, one call of each kind over real files, streams and ample memory, and worked
+//! values of times, frontiers and projections.
 #![tactic(auto)]
 
 #[cfg(test)]
@@ -11,6 +12,8 @@ mod failures;
 mod faults;
 #[cfg(test)]
 mod one_select;
+#[cfg(test)]
+mod projections;
 #[cfg(test)]
 mod refusals;
 #[cfg(test)]

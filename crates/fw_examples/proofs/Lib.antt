@@ -33,4 +33,5 @@ pub mod LoopWitness
 pub mod NumbersRun
 pub mod FilteringWitnesses
 pub mod LawsApplied
+mod RestoringApplied
 pub mod SendingApplied

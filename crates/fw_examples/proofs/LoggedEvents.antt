@@ -14,10 +14,10 @@ use Rattle.fw_flow.specs.Dataflow.{kind_of, policy_of, sender, receiver, bounds_
 use Rattle.fw_flow.specs.NodeFunction.{sends}
 use Rattle.fw_flow.specs.Projection.{phi, psi}
 use Rattle.fw_flow.specs.declared.choice.Choice.{Choice}
-use Rattle.fw_model.specs.Choice.{cut_of, note_of, discarded_cover, IsLogged, IsConsistent, IsCutWithin, IsChoiceWithin}
+use Rattle.fw_model.specs.Choice.{cut_of, note_of, discarded_cover, IsLogged, IsConsistent, IsCutWithin, IsChoiceWithin, IsLargest}
 use Rattle.fw_model.specs.History.{pending, some_at, IsComplete}
 use Rattle.fw_model.specs.Machine.{Machine, Write, first_state, events, front_of, logged_event, in_flight, acknowledged}
-use Rattle.fw_model.specs.Steps.{Steps, CutsTo, with_event, offers, did, quiet, cuts, acked}
+use Rattle.fw_model.specs.Steps.{Steps, CutsTo, with_event, offers, did, quiet, cuts, acked, Run}
 use Rattle.fw_examples.specs.OneSelect.{one_select_flow_of, rec_of}
 use Rattle.fw_examples.specs.LoggedEvents.{two_recs, each_written, none, nothing_restored, nothing_left, LosesAnEpoch, all_restored, RestoresAnEpoch}
 use Rattle.fw_examples.proofs.FrontierFacts.{is_frontier_of, within_all, within_until, not_same}
@@ -214,7 +214,7 @@ loses_an_epoch = (
 abbrev both_persisted : Machine
 both_persisted = record select_settled { writes = first_write ∷ second_write ∷ [] }
 
-abbrev failed_with_both : Machine
+abbrev pub failed_with_both : Machine
 failed_with_both = record both_persisted { failed = false ∷ true ∷ false ∷ [] }
 
 abbrev one_put_out : Machine
@@ -310,6 +310,16 @@ settles_all =
 acknowledges_both : Steps each_written all_settled (Ack 2) both_acknowledged (did (acked 2 (0 ∷ []) (rec_of 1 20 ∷ rec_of 2 30 ∷ [])))
 unfolding kind_of receiver bounds_of policy_of
 acknowledges_both = (0, record { declared = lit< tt; output = refl; live = refl; next = refl; settled = refl; there = inl (inl (lit< tt)) }, refl, refl)
+
+pub all_restored_is_largest : IsLargest each_written failed_with_both (offers each_written failed_with_both) all_restored
+all_restored_is_largest = record { consistent = both_consistent; largest = both_largest }
+
+pub fails_after_both : Run each_written (first_state each_written)
+    (Inject 0 ∷ Deliver 0 None ∷ Deliver 0 None ∷ Progress ∷ Persist ∷ Persist ∷ Fail (1 ∷ []) ∷ [])
+    (did quiet ∷ did quiet ∷ did quiet ∷ did quiet ∷ did quiet ∷ did quiet ∷ did quiet ∷ [])
+    failed_with_both
+fails_after_both =
+    (both_sent, sends_both, (one_taken, takes_one, (both_taken, takes_both, (select_settled, settles_select, (one_persisted, persists_one, (both_persisted, persists_both, (failed_with_both, fails_with_both, refl)))))))
 
 pub restores_an_epoch : RestoresAnEpoch
 restores_an_epoch = (

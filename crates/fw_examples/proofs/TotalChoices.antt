@@ -12,7 +12,7 @@ use Rattle.fw_flow.specs.Dataflow.{kind_of, policy_of, sender, receiver, bounds_
 use Rattle.fw_flow.specs.NodeFunction.{sends}
 use Rattle.fw_flow.specs.Projection.{phi, psi}
 use Rattle.fw_flow.specs.declared.choice.Choice.{Choice}
-use Rattle.fw_model.specs.Choice.{View, kept, ever, until, by_checkpoints, cut_of, note_of, discarded_cover, IsRestorable, IsCandidate, IsConsistent, IsCutWithin, IsChoiceWithin, IsLargest}
+use Rattle.fw_model.specs.Choice.{View, kept, ever, until, by_checkpoints, cut_of, note_of, discarded_cover, IsRestorable, IsCandidate, IsConsistent, IsCutWithin, IsChoiceWithin, IsLargest, IsWatermark}
 use Rattle.fw_model.specs.Machine.{Machine, first_state, is_failed}
 use Rattle.fw_model.specs.Steps.{Steps, Run, CutsTo, did, cuts, lows, offers}
 use Rattle.fw_model.specs.LawsOfChoices.{IsUnionOfChoices}
@@ -120,6 +120,9 @@ first_above other is =
     let at = by_three (λ p. IsCutWithin totals p (cut_of other p) (At (until 2)))
     (at_input (cut_of other 0) (is.offered 0 (lit< tt))) (at_total (cut_of other 1) (is.offered 1 (lit< tt))) (at_output (cut_of other 2) (is.offered 2 (lit< tt))) in
     within_two other at (noted_within ten_acknowledged _ other is at)
+
+pub two_epochs_are_low : IsWatermark totals ten_acknowledged two_epochs_kept
+two_epochs_are_low = record { consistent = first_consistent; largest = first_above }
 
 pub collects : Steps totals ten_acknowledged Collect two_collected (did (lows two_epochs_kept))
 unfolding kind_of receiver bounds_of policy_of

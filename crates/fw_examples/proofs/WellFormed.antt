@@ -2,7 +2,8 @@
 use Rattle.std.proofs.Common.{ℕ, ◌+◌, ◌<◌, ◌≤◌, List, [], ◌∷◌, length, refl, arith, lit<, lit≤}
 use Rattle.fw_flow.specs.Dataflow.{Dataflow, kind_of, policy_of, sender, receiver, in_edges, out_edges}
 use Rattle.fw_flow.specs.WellFormed.{IsWalk, IsClosedWalk, IsWellFormed}
-use Rattle.fw_examples.specs.OneSelect.{one_select_flow}
+use Rattle.fw_flow.specs.declared.kind.Policy.TheVariants as policy
+use Rattle.fw_examples.specs.OneSelect.{one_select_flow, one_select_flow_of}
 use Rattle.fw_examples.specs.TwoSources.{two_sources_flow}
 use Rattle.fw_examples.proofs.ChoiceFacts.{by_two, by_three, by_five, by_six}
 
@@ -36,6 +37,27 @@ one_select_is_well_formed = record {
   feedback = λ p es is. absurd (no_closed_walk one_select_flow one_select_up p es is);
   no_enter = λ p es is passes. no_closed_walk one_select_flow one_select_up p es is;
   policies = by_three _ refl refl refl;
+  limits = record { nodes = lit≤ tt; edges = lit≤ tt; loops = lit≤ tt; counters = λ l h. absurd (omega arith); groups = by_three _ tt tt tt };
+  input = (0, lit< tt, refl);
+  output = (2, lit< tt, refl);
+}
+
+logging_select_up : (e : ℕ) → e < 2 → sender (one_select_flow_of policy.Full) e < receiver (one_select_flow_of policy.Full) e
+unfolding sender receiver
+logging_select_up = by_two _ (lit< tt) (lit< tt)
+
+pub logging_select_is_well_formed : IsWellFormed (one_select_flow_of policy.Full)
+unfolding kind_of policy_of sender receiver in_edges out_edges
+logging_select_is_well_formed = record {
+  loops_declared = by_three _ tt tt tt;
+  senders_declared = by_two _ (lit< tt) (lit< tt);
+  receivers_declared = by_two _ (lit< tt) (lit< tt);
+  in_degrees = by_three _ refl refl refl;
+  out_degrees = by_three _ tt tt refl;
+  domains = by_two _ refl refl;
+  feedback = λ p es is. absurd (no_closed_walk (one_select_flow_of policy.Full) logging_select_up p es is);
+  no_enter = λ p es is passes. no_closed_walk (one_select_flow_of policy.Full) logging_select_up p es is;
+  policies = by_three _ refl tt refl;
   limits = record { nodes = lit≤ tt; edges = lit≤ tt; loops = lit≤ tt; counters = λ l h. absurd (omega arith); groups = by_three _ tt tt tt };
   input = (0, lit< tt, refl);
   output = (2, lit< tt, refl);

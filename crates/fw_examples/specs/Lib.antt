@@ -17,5 +17,6 @@ pub mod WitnessesOfChoices
 pub mod WitnessesOfDeliveries
 pub mod WitnessesOfFiltering
 pub mod LawsApplied
+pub mod RestoringApplied
 pub mod SendingApplied
 pub mod KindsSend

@@ -12,6 +12,7 @@ mod one_recovery;
 mod one_select_runs;
 mod projections;
 mod recovery;
+mod restoring_applied;
 mod sending_applied;
 mod under_way;
 mod witnesses_of_choices;
@@ -40,6 +41,7 @@ pub use one_select_runs::{
     acknowledges_what_is_settled, is_idle_too_early, is_idle_without_batches,
     is_idle_without_steps, one_select_is_well_formed, waits_for_the_rest,
 };
+pub use restoring_applied::{logging_restored, restoring_applies};
 pub use sending_applied::{denotation_applies, projections_apply, sending_applies};
 pub use witnesses_of_choices::{choices_unite, cuts_unite, join_is_a_frontier, less_is_consistent};
 pub use witnesses_of_deliveries::{

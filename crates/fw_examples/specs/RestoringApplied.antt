@@ -1,0 +1,53 @@
+-- What the laws of restoring say of the running total: of the state of the failure and of the recovery from it.
+use Rattle.std.specs.Prelude.{◌≡◌, ◌↔◌, true, false, ◌∷◌, [], map, length}
+use Rattle.std.specs.List.{AllByRecursion}
+use Rattle.fw_frontier.specs.Front.{frontier_of}
+use Rattle.fw_flow.specs.Dataflow.{bounds_of}
+use Rattle.fw_model.specs.Choice.{until}
+use Rattle.fw_flow.specs.NodeFunction.{place, stamp}
+use Rattle.fw_model.specs.Machine.{Machine, Numbered, Write, acknowledged, collected, front_of}
+use Rattle.fw_model.specs.Steps.{front_of_cut, is_in_flight, is_below}
+use Rattle.fw_model.specs.LawsOfRestoring as restoring
+use Rattle.fw_examples.specs.OneSelect.{big}
+use Rattle.fw_examples.specs.LoggedEvents.{each_written}
+use Rattle.fw_examples.specs.RunningTotal.{totals, total_flow, src, run, src_to_run, run_to_out, output_failed, come_back, two_epochs_kept}
+
+-- the laws of restoring, of the state of the failure, in which a checkpoint is collected, one acknowledged and one in flight,
+-- and of the recovery that keeps two epochs
+pub record RestoringApplies : Type 0 where
+  pub stay_true : restoring.CheckpointsStayTrue
+      → AllByRecursion (λ (write : Write). restoring.CountsWritten totals output_failed come_back write.node write.written) come_back.writes
+  pub as_asked : restoring.CheckpointsAreAsTheyWereAsked
+      → AllByRecursion (λ (write : Write). restoring.IsWrittenAsAsked totals output_failed write.node write.written) output_failed.writes
+  pub nothing_inside : restoring.NothingComesInsideCheckpoints
+      → AllByRecursion (λ (write : Write). restoring.NothingComesInside totals output_failed write.node write.written) output_failed.writes
+  pub at_cut : restoring.CheckpointsAtCutsAreKept
+      → (only : restoring.HasOne (restoring.IsCheckpointOf run (until 2)) output_failed.writes) × (only.one.progress ≡ acknowledged)
+  pub logs : restoring.LogsHoldWhatIsSentAgain
+      → restoring.HoldsWhatIsSentAgain totals output_failed two_epochs_kept output_failed.low run_to_out
+  pub kept_logs : restoring.CheckpointLogsHoldWhatIsSentAgain
+      → AllByRecursion (λ (write : Write). restoring.LogHoldsWhatIsSentAgain totals output_failed two_epochs_kept write.node write.written) output_failed.writes
+  pub watermarks : restoring.KeptWatermarksLieWithinToday
+      → AllByRecursion (λ (write : Write). restoring.IsKeptWithin totals output_failed.low write.written) output_failed.writes
+  pub cut_batch : restoring.BatchesOutsideCutsLieOutsideLow
+      → frontier_of (bounds_of total_flow src) (front_of output_failed.low src) (2 ∷ []) ≡ false
+  pub batch_to_come : restoring.BatchesToComeLieOutsideLow
+      → frontier_of (bounds_of total_flow src) (front_of output_failed.low src) (4 ∷ []) ≡ false
+  pub collected_below : restoring.CollectedIsWhatLiesBelow
+      → AllByRecursion (λ (write : Write). (write.progress ≡ collected) ↔ (is_below totals output_failed.low output_failed.history write.node write.written ≡ true)) output_failed.writes
+  pub before : Machine
+  pub two_asked : length before.writes ≡ 2
+  pub forgotten : restoring.WhatIsForgottenWasAcknowledged
+      → AllByRecursion (λ (write : Write). is_below totals (map front_of_cut two_epochs_kept.cuts) before.history write.node write.written ≡ true
+      → is_in_flight write.progress ≡ false) before.writes
+
+-- the laws of restoring, of a select that writes each event, when it fails with both of its events acknowledged
+pub record LoggingRestored : Type 0 where
+  pub failed : Machine
+  pub three_events : length failed.history ≡ 3
+  pub two_writes : length failed.writes ≡ 2
+  pub logged : restoring.EventsInsideCutsAreLogged
+      → AllByRecursion (λ (v : Numbered). place each_written.flow v.event ≡ big → frontier_of (bounds_of each_written.flow big) [] (stamp v.event) ≡ true
+      → restoring.IsLoggedOnce each_written failed.low big v failed.writes) failed.history
+  pub never_collected : restoring.EventsThatMustBeKeptAreNeverCollected
+      → AllByRecursion (restoring.MayKeepNothingIfCollected each_written) failed.writes

@@ -5,6 +5,7 @@ ghost use Rattle.fw_time.specs.declared.stamp.Bounds.{Bounds as Domain};
 ghost use Rattle.fw_time.specs.Stamp.{in_domain};
 ghost use Rattle.fw_frontier.specs.Frontier.{nothing, meet, join, cover, without_above, Within};
 ghost use Rattle.fw_frontier.specs.Front.{inside, frontier_of, IsCanonical, Names};
+ghost use Rattle.fw_frontier.specs.Outside.{excluding, excluding_all};
 
 use crate::outside;
 use fw_time::{Bounds, Stamp};
@@ -14,6 +15,10 @@ use std::marker::Model;
 
 /// A frontier of any domain. Contracts see it as the ascending list of its least outside stamps; it has all stamps
 /// where there is none.
+///
+/// It does not hold the bounds of its domain. `until`, `meet` and `cut_above` name what they say for each domain that has the
+/// stamps; whatever the stamps are, each new outside stamp takes the place of those that it is at most, and is left out
+/// where an outside one is at most it. `join` and `cover_of` speak of stamps of one domain alone.
 ///
 /// The calls that make a frontier need memory for its outside stamps, and fail where memory is refused.
 #[derive(Debug, Drop)]
@@ -50,8 +55,9 @@ impl Front {
 
     /// The frontier that has these stamps of the domain outside, and with each the greater ones.
     pub fn until(alloc: Global, stamps: &[Stamp]) -> Result<Self, AllocError>
-        ensures { (bounds : Domain) → AllByRecursion (λ s. in_domain bounds s ≡ true) stamps.now
+        ensures names { (bounds : Domain) → AllByRecursion (λ s. in_domain bounds s ≡ true) stamps.now
             → IfOk result (λ f. Names bounds f (frontier_of bounds stamps.now)) }
+        ensures list { IfOk result (λ f. f ≡ excluding_all stamps.now []) }
     {
         let mut outside = Vec::new(alloc);
         outside::exclude_all(&mut outside, stamps)?;
@@ -125,9 +131,10 @@ impl Front {
 
     /// What is inside both.
     pub fn meet(&self, other: &Self) -> Result<Self, AllocError>
-        ensures { (bounds : Domain) → IsCanonical bounds self.now → IsCanonical bounds other.now
+        ensures names { (bounds : Domain) → IsCanonical bounds self.now → IsCanonical bounds other.now
             → IfOk result (λ f. Names bounds f
             (meet (frontier_of bounds self.now) (frontier_of bounds other.now))) }
+        ensures list { IfOk result (λ f. f ≡ excluding_all other.now self.now) }
     {
         let mut outside = outside::copied(*self.outside.allocator(), &self.outside)?;
         outside::exclude_all(&mut outside, &other.outside)?;
@@ -146,8 +153,9 @@ impl Front {
 
     /// The largest frontier inside that is without this stamp of the domain.
     pub fn cut_above(&self, t: &Stamp) -> Result<Self, AllocError>
-        ensures { (bounds : Domain) → IsCanonical bounds self.now → in_domain bounds t.now ≡ true
+        ensures names { (bounds : Domain) → IsCanonical bounds self.now → in_domain bounds t.now ≡ true
             → IfOk result (λ f. Names bounds f (without_above t.now (frontier_of bounds self.now))) }
+        ensures list { IfOk result (λ f. f ≡ excluding t.now self.now) }
     {
         let mut outside = outside::copied(*self.outside.allocator(), &self.outside)?;
         outside::exclude(&mut outside, t.copy())?;

@@ -18,4 +18,4 @@ returns c =
     let i : in_domain b c.new.result ≡ true = rw c.new.ensures (in_domain-one b g c.args.limit e l) in
     IfOk-weaker c.until.result (λ f. Names b f (frontier_of b (c.new.result ∷ []))) (λ f. Names b f (λ u. in_domain b u && nat_lt (number_of u) c.args.limit))
     (λ f n. names-below_limit b g c.args.limit f e (rw (sym c.new.ensures) n))
-    (c.until.ensures b (i, tt))
+    (c.until.ensures.names b (i, tt))

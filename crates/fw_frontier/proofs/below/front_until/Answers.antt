@@ -7,5 +7,5 @@ pub returns : goal.returns
 returns c =
     let b = c.args.bounds.now in
     let inside : leq c.new.result b.greatest ≡ true = ap (λ t. leq t b.greatest) c.new.ensures ∙ in_domain-one b c.greatest_of.result c.in-Some.limit c.greatest_of.ensures c.if-limit-greatest_of.false in
-    let n = c.in_ok-front.ensures b (inside, tt) in
+    let n = c.in_ok-front.ensures.names b (inside, tt) in
     rw c.in-Some.is (names-limit b c.greatest_of.result c.in-Some.limit c.in_ok-front.front c.greatest_of.ensures (rw c.new.ensures at n))

@@ -13,4 +13,4 @@ returns-in_ok-back-in-Anything c =
     (λ f n. discarded_psi_by flow c.args.offers.now c.args.edge c.src-node.result c.args.front.now c.args.bound.now c.in_ok-back-in-Anything.back f c.can_resend.result c.policy.result
     c.nodes.ensures.well_formed c.senders_of_well_formed.ensures c.psi_back_is_largest.ensures c.requires.there
     c.can_resend.ensures c.if-can_resend.false c.policy.ensures c.src-node.ensures c.in-Anything.ensures named n)
-    (c.meet.ensures (bounds_of flow (sender flow c.args.edge)) c.requires.front named.canonical)
+    (c.meet.ensures.names (bounds_of flow (sender flow c.args.edge)) c.requires.front named.canonical)

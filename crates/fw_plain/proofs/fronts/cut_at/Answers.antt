@@ -11,4 +11,4 @@ returns-in-At c =
     let f = c.args.settled.now in
     let g = c.in-At.front in
     subst (λ (cut : Cut). IfOk c.meet.result (λ after. IsCut cut f after)) (sym c.in-At.is)
-    (in_each_domain c.meet.result f g (λ b after. Names b after (meet (frontier_of b f) (frontier_of b g))) c.meet.ensures)
+    (in_each_domain c.meet.result f g (λ b after. Names b after (meet (frontier_of b f) (frontier_of b g))) c.meet.ensures.names)

@@ -18,4 +18,4 @@ returns-clause-some c =
 
 pub returns-clause-names : goal.returns-clause-names
 returns-clause-names c =
-    c.in_ok-until.ensures c.args.bounds.now (all_in_domain-each c.args.bounds.now c.args.stamps.now (sym c.are_in_domain.ensures ∙ c.if-not-are_in_domain.false))
+    c.in_ok-until.ensures.names c.args.bounds.now (all_in_domain-each c.args.bounds.now c.args.stamps.now (sym c.are_in_domain.ensures ∙ c.if-not-are_in_domain.false))

@@ -2,7 +2,7 @@ use Rattle.std.proofs.Common.{◌≡◌, ◌∙◌}
 use Rattle.fw_frontier.proofs.NamesLaws.{names-excluding}
 use Rattle.fw_frontier.proofs.front.Front.cut_above.Goals as goal
 
-pub returns : goal.returns
-returns c = λ b h k.
+pub returns-clause-names : goal.returns-clause-names
+returns-clause-names c = λ b h k.
     let mine : c.deref.result.now ≡ c.args.self.now = c.deref.ensures.value ∙ c.self.view_is in
     rw (c.in_ok-exclude.ensures, c.in_ok-outside.ensures, mine, c.copy.ensures) (names-excluding b c.args.t.now c.args.self.now k h)

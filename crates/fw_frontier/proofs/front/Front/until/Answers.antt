@@ -1,5 +1,5 @@
 use Rattle.fw_frontier.proofs.NamesLaws.{names-until}
 use Rattle.fw_frontier.proofs.front.Front.until.Goals as goal
 
-pub returns : goal.returns
-returns c = λ b h. rw (c.in_ok-exclude_all.ensures, c.new-outside.ensures.items) (names-until b c.args.stamps.now h)
+pub returns-clause-names : goal.returns-clause-names
+returns-clause-names c = λ b h. rw (c.in_ok-exclude_all.ensures, c.new-outside.ensures.items) (names-until b c.args.stamps.now h)

@@ -19,7 +19,7 @@ returns-in-Ok c =
     let more : is_exhausted sys h p ≡ false = not_exhausted _ c.batches_of.result.now sys h p n c.batches_of.ensures c.injected_count-injected.ensures c.if-injected-batches_of.false in
     IfOk-weaker c.until.result _ _
     (λ f names. given_until sys h p c.in-Ok.epoch c.new.result f is more (e.1 ∙ c.injected_count-injected.ensures) c.new.ensures names)
-    (c.until.ensures (bounds_of flow p) (epoch-in_domain flow p c.in-Ok.epoch c.new.result is (omega (arith, e.0, e.1)) c.new.ensures, tt))
+    (c.until.ensures.names (bounds_of flow p) (epoch-in_domain flow p c.in-Ok.epoch c.new.result is (omega (arith, e.0, e.1)) c.new.ensures, tt))
 
 pub returns-in-Err : goal.returns-in-Err
 returns-in-Err c =

@@ -18,4 +18,4 @@ loop-edge-preserved c =
     let old = c.loop-edge.invariant in
     let here = arrived_here sys c.args.node c.in_ok-arrived.arrived edges i e _ c.in_edges-edges.ensures c.loop-edge-test.true c.edge-item.is c.in_ok-arrived.ensures in
     lowered_more sys (reverse c.args.events.now) (family_of flow c.args.fronts.now) c.args.node (frontier_of (bounds_of flow c.args.node) c.args.front) c.loop-edge.left c.in_ok-arrived.arrived c.in_ok-left.left edges i e
-    c.loop-edge-test.true c.edge-item.is old here (c.in_ok-left.ensures (bounds_of flow c.args.node) old.canonical here.canonical)
+    c.loop-edge-test.true c.edge-item.is old here (c.in_ok-left.ensures.names (bounds_of flow c.args.node) old.canonical here.canonical)

@@ -52,6 +52,7 @@ choosing_applies =
       low = λ law. law totals formed steps_to_failure outcomes_to_failure output_failed reached;
       chains = λ law. law totals formed steps_to_failure outcomes_to_failure output_failed reached;
       choice = λ law. law totals formed steps_to_failure outcomes_to_failure output_failed reached;
+      recovered = λ law. law totals formed steps_to_failure outcomes_to_failure output_failed reached out (lit< tt) refl;
       next = λ law. law totals formed steps_to_failure outcomes_to_failure output_failed reached;
       holds = λ law. law totals formed steps_to_failure outcomes_to_failure output_failed reached (is_failed output_failed) kept two_epochs_kept something_is_chosen.largest 1 (lit< tt);
       rises = λ law. law totals formed steps_up_to_two outcomes_up_to_two ten_acknowledged runs_to_two Collect two_collected (did (lows two_epochs_kept)) collects 1 (lit< tt);

@@ -8,7 +8,7 @@ use Rattle.fw_flow.specs.declared.step.Step.TheVariants.{Inject, Deliver, Notify
 use Rattle.fw_flow.specs.Dataflow.{System, sender, receiver, bounds_of}
 use Rattle.fw_flow.specs.Projection.{phi}
 use Rattle.fw_flow.specs.declared.choice.Choice.{Choice}
-use Rattle.fw_model.specs.Choice.{cut_of, note_of, kept_of, delivered_cover, discarded_cover, notified_cover, filtered, IsConsistent, IsLargest, IsChoiceWithin}
+use Rattle.fw_model.specs.Choice.{ComesFromSender, LiesInReceiver, HasItsNotices, IsNoteKept, NoteComesFromSender, covers_in, cut_of, filtered, IsConsistent, IsLargest, IsChoiceWithin}
 use Rattle.fw_model.specs.History.{pending, IsLegal}
 use Rattle.fw_model.specs.Machine.{Machine, events, first_state, front_of}
 use Rattle.fw_model.specs.Steps.{Run, offers, did, quiet}
@@ -25,14 +25,11 @@ pub data Inclusion : Type 0 where
 
 -- the choice meets the inclusion
 abbrev pub Meets : System → Machine → Choice → Inclusion → Type 0
-Meets sys state choice of_delivered = (d : ℕ) → d < length sys.flow.edges
-    → Within (delivered_cover sys state (receiver sys.flow d) d (cut_of choice (receiver sys.flow d))) (phi sys (events state.history) d (kept_of sys choice (sender sys.flow d)))
-Meets sys state choice of_discarded = (e : ℕ) → e < length sys.flow.edges
-    → Within (discarded_cover sys state (sender sys.flow e) e (cut_of choice (sender sys.flow e))) (kept_of sys choice (receiver sys.flow e))
-Meets sys state choice of_notified = (p : ℕ) → p < length sys.flow.nodes → Within (notified_cover sys state p (cut_of choice p)) (note_of sys choice p)
-Meets sys state choice of_own = (p : ℕ) → p < length sys.flow.nodes → Within (note_of sys choice p) (kept_of sys choice p)
-Meets sys state choice of_notes = (d : ℕ) → d < length sys.flow.edges
-    → Within (note_of sys choice (receiver sys.flow d)) (phi sys (events state.history) d (note_of sys choice (sender sys.flow d)))
+Meets sys state choice of_delivered = (d : ℕ) → d < length sys.flow.edges → ComesFromSender sys (covers_in sys state) choice d
+Meets sys state choice of_discarded = (e : ℕ) → e < length sys.flow.edges → LiesInReceiver sys (covers_in sys state) choice e
+Meets sys state choice of_notified = (p : ℕ) → p < length sys.flow.nodes → HasItsNotices sys (covers_in sys state) choice p
+Meets sys state choice of_own = (p : ℕ) → p < length sys.flow.nodes → IsNoteKept sys choice p
+Meets sys state choice of_notes = (d : ℕ) → d < length sys.flow.edges → NoteComesFromSender sys (covers_in sys state) choice d
 
 -- the choice is from what is offered, and meets each inclusion but perhaps this one
 pub record IsConsistentWithout (left_out : Inclusion) (sys : System) (state : Machine) (offers : ℕ → Cut → Type 0) (choice : Choice) : Type 0 where

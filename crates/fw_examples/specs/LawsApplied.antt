@@ -65,6 +65,7 @@ pub record ChoosingApplies : Type 0 where
       → IsConsistent totals output_failed (IsCandidate totals output_failed lost view) (choosing.low_choice output_failed notes))
   pub chains : choosing.CheckpointsAreChains → (lost : ℕ → Bool) (view : View) → existence.AreCheckpointsChains totals output_failed lost view
   pub choice : choosing.RecoveryHasAChoice → (lost : ℕ → Bool) → steps.CanChoose totals output_failed lost
+  pub recovered : choosing.FailedNodesAreRecovered → (next : Machine) × (choice : Choice) × Steps totals output_failed Recover next (did (cuts choice))
   pub next : choosing.ReachedStatesHaveOneNextState → (step : Step)
       → (next : Machine) × (outcome : Outcome) × steps.IsTheNext totals output_failed step next outcome
   pub holds : choosing.LargestChoiceHoldsLowWatermark → IsCutWithin totals run (At (until 2)) (cut_of two_epochs_kept run)

@@ -22,7 +22,7 @@ use Rattle.fw_model.specs.LawsOfDenotation.{enough_rounds}
 use Rattle.fw_model.specs.LawsOfExistence.{AreCheckpointsChains}
 use Rattle.fw_model.specs.LawsOfFiltering.{IsFull}
 use Rattle.fw_model.specs.LawsOfSteps.{CanChoose, HasItsChoice}
-use Rattle.fw_model.specs.LawsOfChoosing.{low_choice, LowWatermarkIsConsistent, CheckpointsAreChains, RecoveryHasAChoice, ReachedStatesHaveOneNextState, LargestChoiceHoldsLowWatermark, LowWatermarkNeverFalls, LargestOfKeptIsLargestOfEver}
+use Rattle.fw_model.specs.LawsOfChoosing.{low_choice, LowWatermarkIsConsistent, CheckpointsAreChains, RecoveryHasAChoice, FailedNodesAreRecovered, ReachedStatesHaveOneNextState, LargestChoiceHoldsLowWatermark, LowWatermarkNeverFalls, LargestOfKeptIsLargestOfEver}
 use Rattle.fw_model.proofs.Decisions.{two_ways}
 use Rattle.fw_model.proofs.EachLaws.{each-weaker, each-append}
 use Rattle.fw_model.proofs.DenotationLaws.{denotation-exists}
@@ -31,7 +31,7 @@ use Rattle.fw_model.proofs.CheckpointLaws.{HoldsSettled, IsWriteSettled, AreWrit
 use Rattle.fw_model.proofs.LargestLaws.{largest-exists, within-trans}
 use Rattle.fw_model.proofs.RunLaws.{none-inside, epochs-of}
 use Rattle.fw_model.proofs.RecoveryLaws.{Holds, all_kinds-denote, first-holds, steps-hold, denoted-full}
-use Rattle.fw_model.proofs.SomeNextLaws.{exactly_one_next}
+use Rattle.fw_model.proofs.SomeNextLaws.{exactly_one_next, recover-enabled}
 use Rattle.fw_model.proofs.SameInsideLaws.{at_node, IsLowConsistent}
 use Rattle.fw_model.proofs.WriteLaws.{some-checkpoint, checkpoint-some, pairs-append, pairs-passed, pairs-mapped, pairs-replaced, LiesBelow, IsWriteBelow, AreAscending, settled-below, ascending-chain, IsCollectedBelow, IsWriteCollectedBelow, kept-from_ever}
 use Rattle.fw_model.proofs.LowLaws.{event-low, same-low, keep-append, keep-all, keep-acknowledged, keep-failed, set-grows, at_most-refl, candidate-ever, offered-consistent, low-any, low-within, within-is, recovery-low, watermark-front, collection-low, first-low}
@@ -336,6 +336,10 @@ recovery-has_choice sys w steps outcomes last r lost =
       consistent = low-any sys last f.notes f.watermark lost kept;
       chains = ascending-chains sys last f.ascend lost kept;
     }
+
+pub failed-recovered : FailedNodesAreRecovered
+failed-recovered sys w steps outcomes last r p there failed =
+    recover-enabled sys last (recovery-has_choice sys w steps outcomes last r (is_failed last)) p there failed
 
 has_its-choice : (sys : System) (state : Machine) → ((lost : ℕ → Bool) → CanChoose sys state lost) → (step : Step) → HasItsChoice sys state step
 has_its-choice sys state c Recover = c (is_failed state)

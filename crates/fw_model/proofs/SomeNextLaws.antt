@@ -1,5 +1,5 @@
 -- From a state a step leads to some next state, and with what leads to at most one, to exactly one.
-use Rattle.std.proofs.Common.{◌≡◌, ℕ, true, List, length, map, ap, ◌∙◌, refl, inl, inr}
+use Rattle.std.proofs.Common.{◌≡◌, ◌<◌, ℕ, true, List, length, map, ap, ◌∙◌, refl, inl, inr}
 use Rattle.std.specs.Cmp.Lexicographic.{slice_cmp}
 use Rattle.std.proofs.lemmas.Cmp.{lists_total}
 use Rattle.fw_time.specs.Stamp.{stamp_cmp}
@@ -15,7 +15,7 @@ use Rattle.fw_flow.specs.WellFormed.{IsWellFormed}
 use Rattle.fw_model.specs.Machine.{Machine, front_of, is_failed}
 use Rattle.fw_flow.specs.declared.choice.Choice.{Choice}
 use Rattle.fw_model.specs.Choice.{kept, cut_of}
-use Rattle.fw_model.specs.Steps.{cuts, lows, did, idle, IsSettledCut, CutsTo, recovered, front_of_cut, collected_writes}
+use Rattle.fw_model.specs.Steps.{cuts, lows, did, idle, IsSettledCut, CutsTo, Takes, recovered, front_of_cut, collected_writes}
 use Rattle.fw_model.specs.LawsOfSteps.{CanChoose, HasItsChoice, SomeNextState, ExactlyOneNextState}
 use Rattle.fw_model.proofs.ChoiceLaws.{largest-one}
 use Rattle.fw_model.proofs.CmpLaws.{decided-same, slice_cmp-same, stamp_total, fronts_cmp-same}
@@ -38,13 +38,18 @@ settled_cuts sys state choice =
     (λ p. settled_cut sys p (cut_of choice p) (front_of state.settled p)) in
     (w.0, record { one_each = w.1; each = w.2 })
 
+-- a recovery is enabled where a node is failed and there is something to choose
+pub recover-enabled : (sys : System) (state : Machine) → CanChoose sys state (is_failed state) → (p : ℕ) → p < length sys.flow.nodes → is_failed state p ≡ true
+    → (next : Machine) × (choice : Choice) × Takes sys state Recover next (cuts choice)
+recover-enabled sys state c p there failed =
+    let l = largest-exists sys state (is_failed state) kept c.chains c.choice c.consistent in
+    let s = settled_cuts sys state l.0 in
+    (recovered sys state l.0 s.0, l.0, (p, l.0, s.0, there, failed, l.1, s.1, refl, refl))
+
 recover-decided : (sys : System) (state : Machine) → CanChoose sys state (is_failed state) → DecidedStep sys state Recover
 recover-decided sys state c = elim (find_place (length sys.flow.nodes) (λ p. is_failed state p ≡ true) (λ p. decided-test (is_failed state p) true)) [
   | inr none ↦ inr (λ next effect t. none t.0 t.3 t.4)
-  | inl w ↦
-      let l = largest-exists sys state (is_failed state) kept c.chains c.choice c.consistent in
-      let s = settled_cuts sys state l.0 in
-      inl (recovered sys state l.0 s.0, cuts l.0, (w.0, l.0, s.0, w.1, w.2, l.1, s.1, refl, refl))
+  | inl w ↦ let r = recover-enabled sys state c w.0 w.1 w.2 in inl (r.0, cuts r.1, r.2)
 ]
 
 decided-fronts : (fs gs : List Front) → Decided (fs ≡ gs)

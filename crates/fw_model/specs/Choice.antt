@@ -220,22 +220,40 @@ covers_in sys state = record {
   arrived = λ e f. phi sys (events state.history) e f;
 }
 
--- A choice from what is offered is consistent. On each edge what was delivered inside the receiver's cut comes from what
--- the sender keeps, and what the sender cannot send again lies in what the receiver keeps. What a node was notified of
--- inside its cut lies in its notification frontier, which lies in what it keeps and comes from the sender's.
+-- on edge d what was delivered inside the receiver's cut comes from what the sender keeps
+abbrev pub ComesFromSender : System → Covers → Choice → ℕ → Type 0
+ComesFromSender sys covers choice d =
+    Within (covers.delivered d (cut_of choice (receiver sys.flow d))) (covers.arrived d (kept_of sys choice (sender sys.flow d)))
+
+-- on edge e what was sent inside the sender's cut and can't be sent again lies in what the receiver keeps
+abbrev pub LiesInReceiver : System → Covers → Choice → ℕ → Type 0
+LiesInReceiver sys covers choice e = Within (covers.discarded e (cut_of choice (sender sys.flow e))) (kept_of sys choice (receiver sys.flow e))
+
+-- what node p was notified of inside its cut lies in its notification frontier
+abbrev pub HasItsNotices : System → Covers → Choice → ℕ → Type 0
+HasItsNotices sys covers choice p = Within (covers.notified p (cut_of choice p)) (note_of sys choice p)
+
+-- the notification frontier of node p lies in what it keeps
+abbrev pub IsNoteKept : System → Choice → ℕ → Type 0
+IsNoteKept sys choice p = Within (note_of sys choice p) (kept_of sys choice p)
+
+-- on edge d the receiver's notification frontier comes from the sender's
+abbrev pub NoteComesFromSender : System → Covers → Choice → ℕ → Type 0
+NoteComesFromSender sys covers choice d =
+    Within (note_of sys choice (receiver sys.flow d)) (covers.arrived d (note_of sys choice (sender sys.flow d)))
+
+-- A choice from what is offered is consistent: it has a cut that is offered and a notification frontier for each node, and
+-- meets the five inclusions at each edge and node.
 pub record IsConsistentBy (sys : System) (covers : Covers) (offers : ℕ → Cut → Type 0) (choice : Choice) : Type 0 where
   pub one_cut_each : length choice.cuts ≡ length sys.flow.nodes
   pub one_note_each : length choice.notes ≡ length sys.flow.nodes
   pub offered : (p : ℕ) → p < length sys.flow.nodes → offers p (cut_of choice p)
   pub canonical : (p : ℕ) → p < length sys.flow.nodes → IsCanonical (bounds_of sys.flow p) (front_of choice.notes p)
-  pub delivered : (d : ℕ) → d < length sys.flow.edges
-      → Within (covers.delivered d (cut_of choice (receiver sys.flow d))) (covers.arrived d (kept_of sys choice (sender sys.flow d)))
-  pub discarded : (e : ℕ) → e < length sys.flow.edges
-      → Within (covers.discarded e (cut_of choice (sender sys.flow e))) (kept_of sys choice (receiver sys.flow e))
-  pub notified : (p : ℕ) → p < length sys.flow.nodes → Within (covers.notified p (cut_of choice p)) (note_of sys choice p)
-  pub own : (p : ℕ) → p < length sys.flow.nodes → Within (note_of sys choice p) (kept_of sys choice p)
-  pub notes : (d : ℕ) → d < length sys.flow.edges
-      → Within (note_of sys choice (receiver sys.flow d)) (covers.arrived d (note_of sys choice (sender sys.flow d)))
+  pub delivered : (d : ℕ) → d < length sys.flow.edges → ComesFromSender sys covers choice d
+  pub discarded : (e : ℕ) → e < length sys.flow.edges → LiesInReceiver sys covers choice e
+  pub notified : (p : ℕ) → p < length sys.flow.nodes → HasItsNotices sys covers choice p
+  pub own : (p : ℕ) → p < length sys.flow.nodes → IsNoteKept sys choice p
+  pub notes : (d : ℕ) → d < length sys.flow.edges → NoteComesFromSender sys covers choice d
 
 -- in a state of the machine a choice from what is offered is consistent
 abbrev pub IsConsistent : System → Machine → (ℕ → Cut → Type 0) → Choice → Type 0

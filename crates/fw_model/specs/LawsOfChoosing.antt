@@ -1,17 +1,18 @@
 -- Laws of choosing: in each state of a run there is something to choose, and what was collected changes no choice.
-use Rattle.std.specs.Prelude.{◌≡◌, ◌↔◌, ◌⊎◌, ℕ, ◌<◌, Bool, List, [], ◌∷◌, map, length}
+use Rattle.std.specs.Prelude.{◌≡◌, ◌↔◌, ◌⊎◌, ℕ, ◌<◌, Bool, true, List, [], ◌∷◌, map, length}
 use Rattle.fw_time.specs.Stamp.{Stamp}
 use Rattle.fw_bag.specs.declared.rec.Rec.{Rec}
 use Rattle.fw_frontier.specs.Frontier.{Within}
 use Rattle.fw_frontier.specs.Front.{Front, frontier_of}
 use Rattle.fw_flow.specs.declared.choice.Cut.TheVariants.{At}
 use Rattle.fw_flow.specs.declared.step.Step.{Step}
+use Rattle.fw_flow.specs.declared.step.Step.TheVariants.{Recover}
 use Rattle.fw_flow.specs.Dataflow.{System, bounds_of}
 use Rattle.fw_flow.specs.WellFormed.{IsWellFormedSystem}
-use Rattle.fw_model.specs.Machine.{Machine, first_state, front_of}
+use Rattle.fw_model.specs.Machine.{Machine, first_state, front_of, is_failed}
 use Rattle.fw_flow.specs.declared.choice.Choice.{Choice}
 use Rattle.fw_model.specs.Choice.{View, kept, ever, cut_of, IsCandidate, IsConsistent, IsCutWithin, IsLargest}
-use Rattle.fw_model.specs.Steps.{acked, Outcome, did, Steps, Run}
+use Rattle.fw_model.specs.Steps.{acked, cuts, Outcome, did, Steps, Run}
 use Rattle.fw_model.specs.LawsOfExistence.{AreCheckpointsChains}
 use Rattle.fw_model.specs.LawsOfSteps.{CanChoose, IsTheNext}
 
@@ -35,6 +36,13 @@ CheckpointsAreChains = (sys : System) → IsWellFormedSystem sys → (steps : Li
 abbrev pub RecoveryHasAChoice : Type 0
 RecoveryHasAChoice = (sys : System) → IsWellFormedSystem sys → (steps : List Step) (outcomes : List Outcome) (last : Machine)
     → Run sys (first_state sys) steps outcomes last → (lost : ℕ → Bool) → CanChoose sys last lost
+
+-- in each state to which steps lead from the first one, a recovery is enabled if a declared node is failed, and shows a choice
+abbrev pub FailedNodesAreRecovered : Type 0
+FailedNodesAreRecovered = (sys : System) → IsWellFormedSystem sys → (steps : List Step) (outcomes : List Outcome) (last : Machine)
+    → Run sys (first_state sys) steps outcomes last
+    → (p : ℕ) → p < length sys.flow.nodes → is_failed last p ≡ true
+    → (next : Machine) × (choice : Choice) × Steps sys last Recover next (did (cuts choice))
 
 -- from each state to which steps lead from the first one, each step leads to exactly one next state, with one outcome
 abbrev pub ReachedStatesHaveOneNextState : Type 0

@@ -14,7 +14,7 @@ use Rattle.fw_flow.specs.WellFormed.{IsWellFormed}
 use Rattle.fw_model.specs.History.{IsLegal, IsQuiet, sent, delivered, pending, owed}
 use Rattle.fw_model.specs.Machine.{Machine, events, front_of}
 use Rattle.fw_flow.specs.declared.choice.Choice.{Choice}
-use Rattle.fw_model.specs.Choice.{View, IsCandidate, IsConsistent, stamp_of_notice, can_resend, cut_of, note_of, kept_of, delivered_cover, notified_cover, discarded_cover, filtered}
+use Rattle.fw_model.specs.Choice.{View, IsCandidate, IsConsistent, ComesFromSender, LiesInReceiver, HasItsNotices, IsNoteKept, NoteComesFromSender, covers_in, stamp_of_notice, can_resend, cut_of, kept_of, filtered}
 use Rattle.fw_model.specs.LawsOfLegalHistories.{HasEpochs}
 
 -- the stamps that each node keeps are a frontier of its domain
@@ -107,13 +107,10 @@ KeptEventsAreLegal = (sys : System) (h : List Event) (keep note : ℕ → Fronti
 pub record MeetsInclusions (sys : System) (state : Machine) (choice : Choice) : Type 0 where
   pub one_cut_each : length choice.cuts ≡ length sys.flow.nodes
   pub one_note_each : length choice.notes ≡ length sys.flow.nodes
-  pub delivered : (d : ℕ) → d < length sys.flow.edges
-      → Within (delivered_cover sys state (receiver sys.flow d) d (cut_of choice (receiver sys.flow d)))
-      (phi sys (events state.history) d (kept_of sys choice (sender sys.flow d)))
-  pub notified : (p : ℕ) → p < length sys.flow.nodes → Within (notified_cover sys state p (cut_of choice p)) (note_of sys choice p)
-  pub own : (p : ℕ) → p < length sys.flow.nodes → Within (note_of sys choice p) (kept_of sys choice p)
-  pub notes : (d : ℕ) → d < length sys.flow.edges
-      → Within (note_of sys choice (receiver sys.flow d)) (phi sys (events state.history) d (note_of sys choice (sender sys.flow d)))
+  pub delivered : (d : ℕ) → d < length sys.flow.edges → ComesFromSender sys (covers_in sys state) choice d
+  pub notified : (p : ℕ) → p < length sys.flow.nodes → HasItsNotices sys (covers_in sys state) choice p
+  pub own : (p : ℕ) → p < length sys.flow.nodes → IsNoteKept sys choice p
+  pub notes : (d : ℕ) → d < length sys.flow.edges → NoteComesFromSender sys (covers_in sys state) choice d
 
 -- a consistent choice of the restore candidates meets the inclusions
 abbrev pub ConsistentMeetsInclusions : Type 0
@@ -176,8 +173,7 @@ PendingForCut = (sys : System) (state : Machine) (choice : Choice) → IsWellFor
 
 -- what the sender of an edge sent inside its cut and cannot send again lies in what the receiver keeps
 abbrev pub KeepsDiscarded : System → Machine → Choice → ℕ → Type 0
-KeepsDiscarded sys state choice e =
-    Within (discarded_cover sys state (sender sys.flow e) e (cut_of choice (sender sys.flow e))) (kept_of sys choice (receiver sys.flow e))
+KeepsDiscarded sys state choice e = LiesInReceiver sys (covers_in sys state) choice e
 
 -- for a receiver that is cut within what is settled nothing is pending from a sender that cannot send again
 abbrev pub NothingPendingWithoutLog : Type 0

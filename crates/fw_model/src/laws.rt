@@ -1,6 +1,6 @@
 //! The laws of the definitions: each function's `ensures` is one law, and its body is empty.
 ghost use Rattle.fw_model.specs.LawsOfChoices.{ConsistentChoicesHaveUnion, DeliveredOfUnion, DiscardedOfUnion, EachLiesWithinUnion, LargestChoiceIsOne, NotifiedOfUnion, UnionOfCandidatesIsCandidate, UnionOfConsistentIsConsistent};
-ghost use Rattle.fw_model.specs.LawsOfChoosing.{CheckpointsAreChains, LargestChoiceHoldsLowWatermark, LargestOfKeptIsLargestOfEver, LowWatermarkIsConsistent, LowWatermarkNeverFalls, ReachedStatesHaveOneNextState, RecoveryHasAChoice, TwoRunsShowOneBag};
+ghost use Rattle.fw_model.specs.LawsOfChoosing.{CheckpointsAreChains, FailedNodesAreRecovered, LargestChoiceHoldsLowWatermark, LargestOfKeptIsLargestOfEver, LowWatermarkIsConsistent, LowWatermarkNeverFalls, ReachedStatesHaveOneNextState, RecoveryHasAChoice, TwoRunsShowOneBag};
 ghost use Rattle.fw_model.specs.LawsOfCompleteFrontiers.{AdmissibleStaysAdmissible, EnabledIsOutside, LegalInsidePhiComesFromInside, SequencesAreNotifiedInOrder};
 ghost use Rattle.fw_model.specs.LawsOfDeliveries.{ClosedStampsStayClosed, DeliveredInsideCompleteIsDenoted, DeliveredInsideCompleteIsFinal, DeliveredIsSubBagOfDenotation, DeliveredUpToClosedIsDenoted, DeliveredUpToClosedIsFinal, NotificationsComeLast, NumberedDeliveriesAscend, SentInsidePhiIsDenoted, SentIsSubBagOfDenotation};
 ghost use Rattle.fw_model.specs.LawsOfDenotation.{DenotationExists, DenotationIsInDomain, DenotationIsInOrder, DenotationIsNumbered, DenotationIsTheOnlyOne, LaterRoundsAreTheSame, MeasureExists, OutBagsDependOnLesserMeasure, RecsAtStampsDecideBag, UnchangedRoundIsDenotation};
@@ -482,6 +482,11 @@ pub fn checkpoints_are_chains()
 /// In each state of a run a recovery has something to choose, whichever nodes count as failed.
 pub fn recovery_has_a_choice()
     ensures { RecoveryHasAChoice }
+{}
+
+/// In each state of a run in which a declared node is failed, a recovery is enabled.
+pub fn failed_nodes_are_recovered()
+    ensures { FailedNodesAreRecovered }
 {}
 
 /// From each state of a run each step leads to exactly one next state, with exactly one outcome.

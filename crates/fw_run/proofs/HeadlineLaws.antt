@@ -3,12 +3,15 @@ use Rattle.std.proofs.Common.{◌≡◌, ◌⊎◌, inl, inr, ℕ, List, take, O
 use Rattle.std.proofs.lemmas.Bool.{false≢true}
 use Rattle.std.specs.Prelude.{IsSome}
 use Rattle.fw_lines.specs.declared.refusal.Refusal.{Refusal}
-use Rattle.fw_model.proofs.ChoosingLaws.{kept-is_ever}
+use Rattle.fw_model.proofs.ChoosingLaws.{kept-is_ever, failed-recovered}
+use Rattle.fw_model.proofs.DenotationLaws.{denotation-exists}
 use Rattle.fw_model.proofs.DomainLaws.{has_epochs}
 use Rattle.fw_model.proofs.RecoveryLaws.{runs-legal, acknowledged-denoted}
 use Rattle.fw_model.proofs.RunLaws.{acknowledgements-in_order}
 use Rattle.fw_flow.specs.declared.choice.Choice.{Choice}
 use Rattle.fw_model.specs.Choice.{View, kept, ever, IsCandidate, IsLargest}
+use Rattle.fw_model.specs.Denotation.{rounds}
+use Rattle.fw_model.specs.LawsOfDenotation.{enough_rounds}
 use Rattle.fw_model.specs.Machine.{is_failed}
 use Rattle.fw_model.specs.Plain.{system_of}
 use Rattle.fw_model.specs.Steps.{Effect, cuts}
@@ -17,7 +20,7 @@ use Rattle.fw_run.proofs.TextLaws.{ready, well_formed_system, one_first_refusal,
 use Rattle.fw_run.specs.declared.reading.Job.{Job}
 use Rattle.fw_run.specs.declared.status.Status.{Status}
 use Rattle.fw_run.specs.declared.status.Status.TheVariants.{Done, BadWords, Refused, ReadFault, WriteFault, NoMemory}
-use Rattle.fw_run.specs.Headline.{Prints, PrintsPart, IsPrinted, IsPartPrinted, IsRunEnd, StaysLegal, AcknowledgesInOrder, ShowsDenotation, HasOneRun, CutsToLargest}
+use Rattle.fw_run.specs.Headline.{Prints, PrintsPart, IsPrinted, IsPartPrinted, IsRunEnd, StaysLegal, AcknowledgesInOrder, ShowsDenotation, HasOneRun, RecoversFailed, CutsToLargest}
 use Rattle.fw_run.specs.Reading.{IsReady, IsJob}
 use Rattle.fw_run.specs.Status.{IsRefused}
 use Rattle.fw_run.specs.Texts.{Texts, AreThere, AreAccepted, IsFirstRefusal, spelled_system, spelled_steps}
@@ -84,11 +87,19 @@ pub texts-in_order : (texts : Texts) → AcknowledgesInOrder (spelled_system tex
 texts-in_order texts outcomes last r = acknowledgements-in_order (spelled_system texts) (spelled_steps texts) outcomes last r
 
 pub texts-denoted : (texts : Texts) → AreAccepted texts → ShowsDenotation (spelled_system texts) (spelled_steps texts)
-texts-denoted texts a family d outcomes last r =
-    acknowledged-denoted (spelled_system texts) family (well_formed_system texts a) d (spelled_steps texts) outcomes last r
+texts-denoted texts a =
+    let sys = spelled_system texts in
+    let w = well_formed_system texts a in
+    let family = rounds sys (enough_rounds sys.flow) in
+    let d = denotation-exists sys w.flow in
+    (family, d, λ outcomes last r. acknowledged-denoted sys family w d (spelled_steps texts) outcomes last r)
 
 pub texts-one_run : (texts : Texts) → AreAccepted texts → HasOneRun (spelled_system texts) (spelled_steps texts)
 texts-one_run texts a count = one_run (spelled_system texts) (well_formed_system texts a) (take count (spelled_steps texts))
+
+pub texts-recover : (texts : Texts) → AreAccepted texts → RecoversFailed (spelled_system texts) (spelled_steps texts)
+texts-recover texts a count outcomes state r p there failed =
+    failed-recovered (spelled_system texts) (well_formed_system texts a) (take count (spelled_steps texts)) outcomes state r p there failed
 
 -- what a recovery shows is what it chose
 cuts-one : (one other : Choice) → cuts one ≡ cuts other → one ≡ other

@@ -1,5 +1,5 @@
 -- What a command does, from its words and the folder's texts to what it writes.
-use Rattle.std.specs.Prelude.{◌≡◌, ◌⊎◌, ℕ, List, Option, take}
+use Rattle.std.specs.Prelude.{◌≡◌, ◌⊎◌, ◌<◌, ℕ, true, List, length, Option, take}
 use Rattle.std.specs.List.{AllByRecursion}
 use Rattle.fw_outside.specs.Outside.{Takes, TakesPrefix}
 use Rattle.fw_flow.specs.declared.choice.Choice.{Choice}
@@ -61,15 +61,22 @@ abbrev pub AcknowledgesInOrder : System → List Step → Type 0
 AcknowledgesInOrder sys steps = (outcomes : List Outcome) (last : Machine) → Run sys (first_state sys) steps outcomes last
     → (o : ℕ) → stamps_acknowledged o outcomes ≡ first_stamps (bound_of last o)
 
--- each acknowledgement of the steps shows the denotation
+-- the dataflow has a denotation, which each acknowledgement of the steps shows
 abbrev pub ShowsDenotation : System → List Step → Type 0
-ShowsDenotation sys steps = (family : Family) → IsDenotation sys family
-    → (outcomes : List Outcome) (last : Machine) → Run sys (first_state sys) steps outcomes last → AllByRecursion (IsDenoted sys family) outcomes
+ShowsDenotation sys steps = (family : Family) × IsDenotation sys family
+    × ((outcomes : List Outcome) (last : Machine) → Run sys (first_state sys) steps outcomes last → AllByRecursion (IsDenoted sys family) outcomes)
 
 -- each number of first steps has exactly one run
 abbrev pub HasOneRun : System → List Step → Type 0
 HasOneRun sys steps = (count : ℕ) → (outcomes : List Outcome) × (state : Machine) × Run sys (first_state sys) (take count steps) outcomes state
     × ((others : List Outcome) (other : Machine) → Run sys (first_state sys) (take count steps) others other → (others ≡ outcomes) × (other ≡ state))
+
+-- after each number of the steps, if a declared node is failed, a recovery is enabled and shows a choice
+abbrev pub RecoversFailed : System → List Step → Type 0
+RecoversFailed sys steps = (count : ℕ) (outcomes : List Outcome) (state : Machine)
+    → Run sys (first_state sys) (take count steps) outcomes state
+    → (p : ℕ) → p < length sys.flow.nodes → is_failed state p ≡ true
+    → (next : Machine) × (choice : Choice) × Steps sys state Recover next (did (cuts choice))
 
 -- After each number of the steps a recovery cuts to the largest consistent choice of what is kept, which is what a recovery
 -- is, and by a law that is also the largest over all that was ever acknowledged and not undone.

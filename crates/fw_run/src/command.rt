@@ -2,7 +2,7 @@
 ghost use Rattle.std.specs.Prelude.{◌≡◌, ◌⊎◌, ◌≤◌, ◌↔◌, true, false, Contains, IsSome};
 ghost use Rattle.fw_lines.specs.declared.refusal.Refusal as lines;
 ghost use Rattle.fw_outside.specs.Outside.{Rose};
-ghost use Rattle.fw_run.specs.Headline.{Prints, PrintsPart, IsRunEnd, StaysLegal, ShowsDenotation, AcknowledgesInOrder, HasOneRun, CutsToLargest};
+ghost use Rattle.fw_run.specs.Headline.{Prints, PrintsPart, IsRunEnd, StaysLegal, ShowsDenotation, AcknowledgesInOrder, HasOneRun, RecoversFailed, CutsToLargest};
 ghost use Rattle.fw_run.specs.Texts.{Texts, AreThere, AreAccepted, IsFirstRefusal, spelled_system, spelled_steps};
 ghost use Rattle.fw_run.specs.Words.{words_in, are_run_words, names_of};
 ghost use Rattle.fw_run.specs.Status.{number_of, note_of, IsTold, IsRefused, status_numbers};
@@ -62,14 +62,20 @@ pub fn falkirk<F: Folder, K: Store, O: Sink, N: Sink>(
     ensures in_order { (texts : Texts) → AreAccepted texts → AcknowledgesInOrder (spelled_system texts) (spelled_steps texts) }
     ensures denoted { (texts : Texts) → AreAccepted texts → ShowsDenotation (spelled_system texts) (spelled_steps texts) }
 
-    // Each recovery cuts the nodes to the largest consistent choice, of what is kept and of all ever acknowledged.
+    // Where a node is failed a recovery is not idle, and each one cuts the nodes to the largest consistent choice, of what
+    // is kept and of all that was ever acknowledged and not undone.
+    ensures recovers { (texts : Texts) → AreAccepted texts → RecoversFailed (spelled_system texts) (spelled_steps texts) }
     ensures largest { (texts : Texts) → AreAccepted texts → CutsToLargest (spelled_system texts) (spelled_steps texts) }
 
-    // The status's line, or first bytes of it where that write was refused; at 0 nothing.
+    // The status's line, or first bytes of it where the notes refused a write, then or earlier; at 0 nothing.
     ensures notes { IsTold (note_of result) (N.taken notes.old) (N.taken notes.new) (N.has_refused notes.new) }
     ensures no_notes { result ≡ Status.Done → notes.new ≡ notes.old }
 
+    // The store and the folder's texts stay as they were, and no count of faults falls.
     ensures store { store.new ≡ store.old }
+    ensures folder { F.texts folder.new ≡ F.texts folder.old }
+    ensures never_fall { (F.fault_count folder.old ≤ F.fault_count folder.new)
+        × (O.fault_count out.old ≤ O.fault_count out.new) × (N.fault_count notes.old ≤ N.fault_count notes.new) }
 {
     let status = run(alloc, words, folder, out);
     tell(alloc, status, notes)
@@ -80,6 +86,7 @@ fn tell<N: Sink>(alloc: Global, status: Status, notes: &mut N) -> Status
     ensures status { (result ≡ status) ⊎ (IsRefused status × (result ≡ Status.NoMemory)) }
     ensures notes { IsTold (note_of result) (N.taken notes.old) (N.taken notes.new) (N.has_refused notes.new) }
     ensures done { status ≡ Status.Done → notes.new ≡ notes.old }
+    ensures never_falls { N.fault_count notes.old ≤ N.fault_count notes.new }
 {
     match status {
         Status::Done => {}
@@ -100,7 +107,8 @@ fn tell<N: Sink>(alloc: Global, status: Status, notes: &mut N) -> Status
 
 // Writes a line; a refused write changes nothing else.
 fn note<N: Sink>(notes: &mut N, line: &[u8])
-    ensures { IsTold line.now (N.taken notes.old) (N.taken notes.new) (N.has_refused notes.new) }
+    ensures told { IsTold line.now (N.taken notes.old) (N.taken notes.new) (N.has_refused notes.new) }
+    ensures never_falls { N.fault_count notes.old ≤ N.fault_count notes.new }
 {
     let _ = notes.write(line);
 }

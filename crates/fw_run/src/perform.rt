@@ -21,6 +21,7 @@ pub(crate) fn perform<O: Sink>(alloc: Global, job: Job, out: &mut O) -> Result<(
     ensures printed { OnOk result (IsPrinted (system_of job.flow job.batches) job.steps (O.taken out.old) (O.taken out.new)) }
     ensures part { OnErr result (IsPartPrinted (system_of job.flow job.batches) job.steps (O.taken out.old) (O.taken out.new)) }
     ensures failed { IsErrOf result OutFault.Failed → Rose (O.fault_count out.old) (O.fault_count out.new) }
+    ensures never_falls { O.fault_count out.old ≤ O.fault_count out.new }
 {
     let Job {
         flow,

@@ -76,6 +76,8 @@ pub(crate) fn read_job<F: Folder>(
     ensures job { IfOk result (IsJob (F.texts folder.old) (names_in words.now)) }
     ensures refused { IfErr result (IfRefused (IsFirstRefusal (F.texts folder.old) (names_in words.now))) }
     ensures failed { IsErrOf result JobFault.Failed → Rose (F.fault_count folder.old) (F.fault_count folder.new) }
+    ensures never_falls { F.fault_count folder.old ≤ F.fault_count folder.new }
+    ensures texts_stay { F.texts folder.new ≡ F.texts folder.old }
 {
     let flow = fetch_flow(alloc, folder, words.flow)?;
     let batches = fetch_inputs(alloc, folder, words.inputs, &flow)?;
@@ -131,6 +133,7 @@ fn fetch_schedule<F: Folder>(
     ensures refused { IfErr result (IfRefused (IsScheduleRefused (F.texts folder.old) name.now flow.now)) }
     ensures failed { IsErrOf result JobFault.Failed → Rose (F.fault_count folder.old) (F.fault_count folder.new) }
     ensures never_falls { F.fault_count folder.old ≤ F.fault_count folder.new }
+    ensures texts_stay { F.texts folder.new ≡ F.texts folder.old }
 {
     let text = fetch(alloc, folder, name, LINES_LIMIT, Code::S4)?;
     Ok(read_schedule(alloc, &text, flow)?)

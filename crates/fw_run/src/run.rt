@@ -33,6 +33,9 @@ pub(crate) fn run<F: Folder, O: Sink>(
         ⊎ PrintsPart (F.texts folder.old) (names_of (words_in words.now)) (O.taken out.old) (O.taken out.new) }
     ensures refused { (refusal : lines.Refusal) → result ≡ Status.Refused refusal
         → IsFirstRefusal (F.texts folder.old) (names_of (words_in words.now)) refusal }
+    ensures folder { F.texts folder.new ≡ F.texts folder.old }
+    ensures folder_count { F.fault_count folder.old ≤ F.fault_count folder.new }
+    ensures out_count { O.fault_count out.old ≤ O.fault_count out.new }
 {
     let Some(words) = parse(words) else {
         return Status::BadWords;

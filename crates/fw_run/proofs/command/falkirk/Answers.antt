@@ -1,6 +1,6 @@
 use Rattle.std.proofs.Common.{sym, ◌∙◌}
 use Rattle.std.proofs.lemmas.Bool.{false≢true}
-use Rattle.fw_run.proofs.HeadlineLaws.{told_refused, refuses, refuses_told, completes, completes_told, texts-stay_legal, texts-in_order, texts-denoted, texts-one_run, texts-largest}
+use Rattle.fw_run.proofs.HeadlineLaws.{told_refused, refuses, refuses_told, completes, completes_told, texts-stay_legal, texts-in_order, texts-denoted, texts-one_run, texts-recover, texts-largest}
 use Rattle.fw_run.proofs.Numbers.{Contains-number_of}
 use Rattle.fw_run.specs.Words.{words_in, names_of}
 use Rattle.fw_run.proofs.command.falkirk.Goals as goal
@@ -34,6 +34,9 @@ returns-clause-in_order g c texts accepted = texts-in_order texts
 
 pub returns-clause-denoted : goal.returns-clause-denoted
 returns-clause-denoted g c = texts-denoted
+
+pub returns-clause-recovers : goal.returns-clause-recovers
+returns-clause-recovers g c = texts-recover
 
 pub returns-clause-largest : goal.returns-clause-largest
 returns-clause-largest g c = texts-largest

@@ -1,3 +1,4 @@
+//! Bags of recs.
 ghost use Rattle.std.specs.Prelude.{◌≡◌, ◌<◌, ◌↔◌, [], ◌∷◌, length, true, false, IsTrue, IsNone, IfSome, IfNone, IfOk, IsErr, OnOk, OnErr, OnSome};
 ghost use Rattle.fw_bag.specs.Rec.{IsAscending};
 ghost use Rattle.fw_bag.specs.Bag.{with_rec, without_rec, how_often, bag_sum, with_copies, expand, IsTally};

@@ -1,3 +1,4 @@
+//! What a select does to a rec.
 ghost use Rattle.std.specs.Prelude.{◌≡◌};
 ghost use Rattle.fw_bag.specs.Select.{field_of, term_of, compares, holds, new_value, assigned, selected};
 

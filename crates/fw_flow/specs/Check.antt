@@ -38,7 +38,7 @@ are_names_declared names (ALoop name max) = true
 are_names_declared names (ANode name kind policy) = option_map_or (λ l. has_name l names.loops) (loop_named kind) true
 are_names_declared names (AnEdge name sender receiver) = has_name sender names.nodes && has_name receiver names.nodes
 
--- so many epochs may be regrouped from
+-- so many numbers may be grouped into one epoch
 abbrev pub IsRawGroupSize : RawKind → Type 0
 IsRawGroupSize (Regroup n) = (1 ≤ n) × (n < 2 ^ 32)
 IsRawGroupSize kind = Unit {0}

@@ -168,13 +168,13 @@ is_output_kind OutputEpoch = true
 is_output_kind OutputNumber = true
 is_output_kind kind = false
 
--- whether an edge carries numbers
+-- whether a domain is that of numbers
 abbrev pub is_number : Domain → Bool
 is_number Epoch = false
 is_number Number = true
 is_number (InLoop l) = false
 
--- whether each number stands at most once, in order and without a gap, on an edge
+-- whether an edge is numbered: it leads into the domain of numbers
 abbrev pub is_numbered : Dataflow → ℕ → Bool
 is_numbered flow e = is_number (domain_of flow (receiver flow e))
 

@@ -1,4 +1,4 @@
--- A flow whose parts have their places, and whose rules are not tested yet.
+-- For the proofs of src/draft.rt: a flow whose parts have their places, and whose rules are not tested yet.
 use Rattle.std.specs.Prelude.{◌≡◌, ℕ, List, length, map}
 use Rattle.fw_lines.specs.declared.refusal.Code.TheVariants.{F4, F5, F6, F7, F8, F9}
 use Rattle.fw_flow.specs.declared.draft.Draft.{Draft}

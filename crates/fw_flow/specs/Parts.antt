@@ -1,4 +1,4 @@
--- The parts of a flow before its limits are tested.
+-- For the proofs of src/parts.rt and src/check.rt: the parts of a flow before its limits are tested.
 use Rattle.std.specs.Prelude.{◌≡◌, ℕ, nat_le, ◌==◌, ◌+◌, if◌then◌else◌, List, [], ◌∷◌, map, length}
 use Rattle.std.specs.List.{flat_map}
 use Rattle.fw_flow.specs.declared.check.Counts.{Counts}

@@ -77,7 +77,7 @@ abbrev pub Passes : Dataflow → (Kind → Bool) → List ℕ → Type 0
 Passes flow sort [] = ⊥
 Passes flow sort (e ∷ es) = (sort (kind_of flow (sender flow e)) ≡ true) ⊎ Passes flow sort es
 
--- so many epochs may be regrouped from
+-- so many numbers may be grouped into one epoch
 abbrev pub IsGroupSize : Kind → Type 0
 IsGroupSize (Regroup n) = (1 ≤ n) × (n < 2 ^ 32)
 IsGroupSize kind = Unit {0}
@@ -90,8 +90,9 @@ pub record IsWithinLimits (flow : Dataflow) : Type 0 where
   pub counters : (l : ℕ) → l < length flow.loops → (1 ≤ max_of flow l) × (max_of flow l ≤ 1024)
   pub groups : (p : ℕ) → p < length flow.nodes → IsGroupSize (kind_of flow p)
 
--- The dataflow is well formed: what its parts name is there, edges join equal domains, and each closed walk passes a
--- feedback and none an enter.
+-- The dataflow is well formed: what its parts name is there, each node has the in-edges and out-edges of its kind, edges join
+-- equal domains, each closed walk passes a feedback and none an enter, the policies are allowed, the sizes are within the limits,
+-- and there are an input and an output.
 pub record IsWellFormed (flow : Dataflow) : Type 0 where
   pub loops_declared : (p : ℕ) → p < length flow.nodes → IsLoopDeclared flow (kind_of flow p)
   pub senders_declared : (e : ℕ) → e < length flow.edges → sender flow e < length flow.nodes
@@ -116,7 +117,8 @@ pub record IsBatch (batch : List Rec) : Type 0 where
   pub recs : AllByRecursion IsRec batch
   pub ascending : IsAscending batch
 
--- The system is well formed: its dataflow is, and the inputs alone have batches, at most 2^20 each.
+-- The system is well formed: its dataflow is, there is a list of batches for each node, the inputs alone have batches, at most
+-- 2^20 each, and each batch is a bag of recs.
 pub record IsWellFormedSystem (sys : System) : Type 0 where
   pub flow : IsWellFormed sys.flow
   pub one_each : length sys.batches ≡ length sys.flow.nodes

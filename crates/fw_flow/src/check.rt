@@ -279,7 +279,7 @@ impl Counts {
     }
 }
 
-// Whether so many epochs may be regrouped from.
+// Whether so many numbers may be grouped into one epoch.
 fn is_group_size(kind: &RawKind) -> bool
     ensures { IsTrue result ↔ IsRawGroupSize kind.now }
 {

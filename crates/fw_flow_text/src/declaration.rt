@@ -1,3 +1,4 @@
+//! What a line declares.
 ghost use Rattle.std.specs.Prelude.{◌≡◌, IfOk};
 ghost use Rattle.fw_lines.specs.Lines.{words_at};
 ghost use Rattle.fw_flow_text.specs.Forms as spec;

@@ -1,3 +1,4 @@
+//! The forms of a node.
 ghost use Rattle.std.specs.Prelude.{◌≡◌, ℕ, List};
 ghost use Rattle.fw_lines.specs.Lines.{words_at};
 ghost use Rattle.fw_flow_text.specs.Forms as spec;

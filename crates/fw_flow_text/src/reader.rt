@@ -1,3 +1,4 @@
+//! The reader of a whole text.
 ghost use Rattle.std.specs.Prelude.{◌≡◌, ℕ, List, [], ◌∷◌, ◌++◌, OnOk, IfErr, MatchResult};
 ghost use Rattle.std.specs.Option.{option_map, option_to_list};
 ghost use Rattle.fw_lines.specs.Faults.{IfRefused};

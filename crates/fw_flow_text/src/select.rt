@@ -1,3 +1,4 @@
+//! The condition and the assignment of a select.
 ghost use Rattle.std.specs.Prelude.{◌≡◌};
 ghost use Rattle.std.specs.Option.{option_map};
 ghost use Rattle.fw_lines.specs.Lines.{words_at};

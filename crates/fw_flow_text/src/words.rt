@@ -1,3 +1,4 @@
+//! What a word spells: a number, a field, a comparison.
 ghost use Rattle.std.specs.Prelude.{◌≡◌};
 ghost use Rattle.fw_flow_text.specs.Words as spec;
 

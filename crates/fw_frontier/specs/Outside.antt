@@ -1,4 +1,4 @@
--- What the calls do to a list of outside stamps.
+-- For the proofs of src/outside.rt: what the calls do to a list of outside stamps.
 use Rattle.std.specs.Prelude.{ℕ, zero, suc, Bool, true, not, ◌&&◌, ◌+◌, if◌then◌else◌, nat_lt, nat_le, slice_index, List, [], ◌∷◌, filter}
 use Rattle.std.specs.Ordering.{is_lt}
 use Rattle.fw_time.specs.Stamp.{Stamp, leq, lub, raised, stamp_cmp}

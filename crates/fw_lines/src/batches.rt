@@ -1,3 +1,4 @@
+//! The batches of the inputs.
 ghost use Rattle.std.specs.Prelude.{◌≡◌, [], length, map, OnOk, OnErr};
 ghost use Rattle.fw_lines.specs.Batches.{batches_at, batches_of_entries, AddsBatch, KeepsBatches};
 

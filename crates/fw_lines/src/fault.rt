@@ -1,3 +1,4 @@
+//! Why a text gives nothing.
 ghost use Rattle.std.specs.Prelude.{◌≡◌};
 
 use crate::refusal::{Code, Refusal};

@@ -1,3 +1,4 @@
+//! The reader of the inputs.
 ghost use Rattle.std.specs.Prelude.{◌≡◌, ℕ, List, [], ◌∷◌, ◌++◌, codes, IfOk, OnOk, IfErr, MatchResult, if◌then◌else◌};
 ghost use Rattle.std.specs.List.{filter_map, list_any};
 ghost use Rattle.std.specs.Option.{option_map_or, option_or};

@@ -1,3 +1,4 @@
+//! Lines, and places at which they begin.
 ghost use Rattle.std.specs.Prelude.{◌≡◌};
 
 use crate::span::Spans;

@@ -1,3 +1,4 @@
+//! Words taken as numbers.
 /// What a word spells, taken as a number.
 #[derive(Clone, Copy, Debug, PartialEq, Eq)]
 pub enum Number {

@@ -1,3 +1,4 @@
+//! Record words: a key and a value.
 ghost use Rattle.std.specs.Prelude.{◌≡◌, ◌<◌, true, length, if◌then◌else◌};
 ghost use Rattle.std.specs.List.{list_any, list_all, position_or_len};
 ghost use Rattle.fw_lines.specs.Inputs as spec;

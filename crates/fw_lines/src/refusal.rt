@@ -1,27 +1,48 @@
+//! Refusals: which rule a text breaks, and on which line.
 use std::fmt;
 
 /// The rule that a text breaks: of the flow (F), of the inputs (I) or of the schedule (S).
 #[derive(Clone, Copy, Debug, PartialEq, Eq)]
 pub enum Code {
+    /// A line of a flow has no form of the grammar, a word of it is badly spelled, or a byte is not allowed.
     F1,
+    /// The name of a node, an edge or a loop is there already.
     F2,
+    /// A loop, a sender or a receiver is not declared.
     F3,
+    /// A node has another number of in-edges than its kind wants, or an output has an out-edge.
     F4,
+    /// The out domain of an edge's sender is not the domain of its receiver.
     F5,
+    /// A closed walk passes no feedback, or one passes an enter.
     F6,
+    /// The policy of a node is not allowed for its kind.
     F7,
+    /// There are too many nodes, edges or loops, or the `max` of a loop or the number of a regroup is out of range.
     F8,
+    /// There is no input or no output.
     F9,
+    /// A number of a flow is 2^64 or more.
     F10,
+    /// The text of a flow is too long.
     F11,
+    /// A line of the inputs has no form of the grammar, a word of it is badly spelled, or a byte is not allowed.
     I1,
+    /// The name of a batch is not that of an input.
     I2,
+    /// A number of the inputs is 2^64 or more.
     I3,
+    /// A record word has no colon.
     I4,
+    /// The text of the inputs is too long, or an input has too many batches.
     I5,
+    /// A line of a schedule has no form of the grammar, a word of it is badly spelled, or a byte is not allowed.
     S1,
+    /// A name is not that of an input, an edge, a node or an output, as the step wants.
     S2,
+    /// A stamp is not of the domain.
     S3,
+    /// The text of a schedule is too long.
     S4,
 }
 

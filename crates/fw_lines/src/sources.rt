@@ -1,3 +1,4 @@
+//! The names of the inputs.
 ghost use Rattle.std.specs.Prelude.{◌≡◌, [], ◌∷◌, ◌++◌, OnOk, OnErr, IsNone};
 ghost use Rattle.indexmap.specs.IndexMap.{IndexMap};
 ghost use Rattle.fw_lines.specs.Sources.{node_of, named};

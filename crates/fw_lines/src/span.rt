@@ -1,3 +1,4 @@
+//! Parts of a text.
 ghost use Rattle.std.specs.Prelude.{◌≡◌};
 ghost use Rattle.fw_lines.specs.Lines.{bytes_at};
 

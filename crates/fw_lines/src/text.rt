@@ -1,3 +1,4 @@
+//! How a text falls into lines, and lines into words.
 ghost use Rattle.std.specs.Prelude.{◌≡◌, ◌+◌, ◌-◌, ◌^◌, ◌<◌, ◌≤◌, ◌==◌, ◌&&◌, not, nat_lt, [], ◌∷◌, ◌++◌, length, map, IfOk, OnOk, IfSome, slice_range, if◌then◌else◌};
 ghost use Rattle.std.specs.List.{slice_split, prefix_len, list_all};
 ghost use Rattle.fw_lines.specs.Lines as spec;

@@ -1,4 +1,4 @@
--- Up to where nothing is missing at a node alone, whatever may still come.
+-- For the proofs of src/plain/clear.rt and complete.rt: up to where nothing is missing at a node alone, whatever may come.
 use Rattle.std.specs.Prelude.{◌≡◌, ℕ, Bool, true, false, not, ◌&&◌, ◌||◌, ◌==◌, List, [], ◌∷◌, map, Option, Some, None, option_to_list, if◌then◌else◌}
 use Rattle.std.specs.List.{flat_map, list_any, list_all}
 use Rattle.fw_time.specs.Stamp.{Stamp, in_domain}

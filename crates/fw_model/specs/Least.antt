@@ -1,4 +1,4 @@
--- The least of the messages that are wanted.
+-- For the proofs of src/plain/next.rt: the least of the messages that are wanted.
 use Rattle.std.specs.Prelude.{◌≡◌, ℕ, Bool, true, false, ◌&&◌, if◌then◌else◌, List, [], ◌∷◌, Option, Some, None}
 use Rattle.std.specs.List.{AllByRecursion}
 use Rattle.std.specs.Ordering.{is_le, is_gt}

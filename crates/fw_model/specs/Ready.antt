@@ -1,4 +1,5 @@
--- Of which stamps a node may be notified, by what it is owed, what is pending for it, and what its in-edges still bring.
+-- For the proofs of src/plain/ready.rt: of which stamps a node may be notified, by what it is owed, what is pending for it, and
+-- what its in-edges still bring.
 use Rattle.std.specs.Prelude.{◌≡◌, Bool, true, false, not, ◌&&◌, if◌then◌else◌, List, Option, Some, None}
 use Rattle.std.specs.List.{AllByRecursion, list_any}
 use Rattle.std.specs.Ordering.{is_le, is_gt}

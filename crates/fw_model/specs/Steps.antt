@@ -231,7 +231,7 @@ abbrev pub collected_writes : System → List Front → List Numbered → List W
 collected_writes sys low h writes =
     map (λ (write : Write). record write { progress = after_collection (is_below sys low h write.node write.written) write.progress }) writes
 
--- some number of batches of a source is above x
+-- some node has a batch of epoch x
 abbrev pub HasEpoch : List (List (List Rec)) → ℕ → Type 0
 HasEpoch [] x = ⊥
 HasEpoch (batches ∷ sources) x = (x < length batches) ⊎ HasEpoch sources x

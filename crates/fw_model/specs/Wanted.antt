@@ -1,4 +1,4 @@
--- Which deliveries are looked for.
+-- For the proofs of src/plain/sending.rt and arrivals.rt: which deliveries are looked for.
 use Rattle.std.specs.Prelude.{ℕ, Bool, true, not, ◌&&◌, ◌==◌}
 use Rattle.fw_time.specs.Stamp.{Stamp, leq, same}
 use Rattle.fw_model.specs.declared.plain.arrivals.Wanted.{Wanted}

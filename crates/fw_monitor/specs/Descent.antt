@@ -1,4 +1,5 @@
--- The descent to the largest choice: what it lowers, and what it keeps.
+-- For the proofs of src/descent.rt, and of start, passes, lower and offers beside it: the descent to the largest choice, what
+-- it lowers and what it keeps.
 use Rattle.std.specs.Prelude.{◌≡◌, ◌≢◌, ℕ, ◌+◌, ◌<◌, Bool, true, false, ◌==◌, if◌then◌else◌, List, [], ◌∷◌, length, set, Option, Some, None}
 use Rattle.fw_time.specs.declared.stamp.Bounds.{Bounds}
 use Rattle.fw_frontier.specs.Frontier.{Frontier, Within, nothing, everything, meet}

@@ -34,6 +34,7 @@ impl<R: Files> Folder for FileFolder<'_, R> {
 
     ghost fault_count = { λ folder. folder.faults };
 
+    /// Reads the first bytes of the file, at most `limit + 1`. A file that cannot be opened or read is a fault.
     fn fetch(&mut self, name: &str, limit: usize, into: &mut Vec<u8>) -> Result<(), FetchFault> {
         into.clear();
         if let Err(error) = read_first(self.files, name, limit as u64 + 1, into) {
@@ -51,6 +52,7 @@ impl<R: Files> Folder for FileFolder<'_, R> {
         Ok(())
     }
 
+    /// How many files could not be opened or read.
     fn faults(&self) -> u64 {
         self.faults
     }

@@ -10,7 +10,9 @@ use std::alloc::{AllocError, Global};
 /// A text and its name.
 #[derive(Debug, Drop)]
 pub struct MemText {
+    /// The name under which it is fetched.
     pub name: String,
+    /// The text; any bytes.
     pub bytes: Vec<u8>,
 }
 

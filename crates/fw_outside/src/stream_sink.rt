@@ -22,6 +22,7 @@ impl<W: Write> StreamSink<W> {
     }
 }
 
+// Writes the whole piece, and flushes.
 fn write_and_flush<W: Write>(stream: &mut W, piece: &[u8]) -> io::Result<()> {
     stream.write_all(piece)?;
     stream.flush()
@@ -34,6 +35,7 @@ impl<W: Write> Sink for StreamSink<W> {
 
     ghost fault_count = { λ sink. sink.faults };
 
+    /// Writes the piece and flushes the stream. An error of either is a fault, want of memory too.
     fn write(&mut self, piece: &[u8]) -> Result<(), OutFault> {
         if write_and_flush(&mut self.stream, piece).is_err() {
             self.faults = raised(self.faults);
@@ -42,6 +44,7 @@ impl<W: Write> Sink for StreamSink<W> {
         Ok(())
     }
 
+    /// How many pieces the stream refused.
     fn faults(&self) -> u64 {
         self.faults
     }

@@ -1,4 +1,4 @@
--- Which nodes are failed.
+-- For the proofs of src/failed.rt: which nodes are failed.
 use Rattle.std.specs.Prelude.{ℕ, Bool, true, false, not, ◌||◌, List, map, length, slice_index_or}
 use Rattle.std.specs.List.{list_any, range_with_len}
 use Rattle.fw_model.specs.Steps.{is_one_of}

@@ -1,4 +1,4 @@
--- Lists of frontiers, one for each node.
+-- For the proofs of src/fronts.rt: lists of frontiers, one for each node.
 use Rattle.std.specs.Prelude.{◌≡◌, ℕ, ◌<◌, Bool, true, false, not, ◌&&◌, ◌||◌, List, [], ◌∷◌, length, slice_index_or}
 use Rattle.std.specs.List.{list_any}
 use Rattle.fw_time.specs.declared.stamp.Bounds.{Bounds}

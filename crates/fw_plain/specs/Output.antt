@@ -1,4 +1,4 @@
--- Whether there is something for an output to acknowledge.
+-- For the proofs of src/output.rt: whether there is something for an output to acknowledge.
 use Rattle.std.specs.Prelude.{ℕ, nat_lt, Bool, false, ◌&&◌, ◌==◌, List, length}
 use Rattle.std.specs.List.{list_any}
 use Rattle.fw_time.specs.Stamp.{Stamp}

@@ -1,4 +1,5 @@
--- The events of an engine with their serial numbers.
+-- For the proofs of src/events.rt and src/restoring.rt, and for the state that an engine stands for: the events of an engine
+-- with their serial numbers.
 use Rattle.std.specs.Prelude.{ℕ, ◌+◌, Bool, if◌then◌else◌, List, [], ◌∷◌, filter, slice_index_or}
 use Rattle.fw_time.specs.declared.stamp.Bounds.{Bounds}
 use Rattle.fw_time.specs.Stamp.{Stamp, in_domain}

@@ -8,7 +8,7 @@ use std::cmp::Ordering;
 use std::fmt;
 use std::marker::Model;
 
-/// A logical time of any domain: its one to four coordinates, outermost first. Contracts see it as their list.
+/// A logical time of any domain: its coordinates, up to four, outermost first. Contracts see it as their list.
 ///
 /// It holds its coordinates in itself, so that no call takes memory.
 #[derive(Debug, PartialEq, Eq, PartialOrd, Ord, Drop)]

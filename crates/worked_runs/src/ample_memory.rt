@@ -12,7 +12,7 @@ use fw_outside::{
 use std::test::Fail;
 
 #[test]
-fn bags(rt: HostRuntime) -> Result<(), Fail> {
+fn bags_add_unite_count_and_take(rt: HostRuntime) -> Result<(), Fail> {
     let mut bag = Bag::new(rt.alloc());
     bag.add(Rec { key: 2, value: 7 })?;
     bag.add(Rec { key: 1, value: 9 })?;
@@ -39,7 +39,7 @@ pub fn keep_a_record<K: Store>(store: &mut K, into: &mut Vec<u8>) -> Result<(), 
 }
 
 #[test]
-fn the_outside(rt: HostRuntime) -> Result<(), Fail> {
+fn objects_in_memory_give_what_they_have(rt: HostRuntime) -> Result<(), Fail> {
     let alloc = rt.alloc();
     let texts = vec![in alloc; MemText::new(alloc, "a", b"text")?]?;
     let mut folder = FaultlessFolder::new(texts);

@@ -4,7 +4,7 @@ use std::alloc::{AllocError, Global};
 use std::test::Fail;
 
 #[test]
-fn a_recovery_undoes_as_little_as_it_can(rt: HostRuntime) -> Result<(), Fail> {
+fn recoveries_print_their_cuts_and_the_run_goes_on(rt: HostRuntime) -> Result<(), Fail> {
     let runs = [
         // the select forgot a rec that it may not have sent on: the batch is sent again
         (
@@ -77,7 +77,7 @@ fn with_failure(
 }
 
 #[test]
-fn a_failure_between_any_two_steps_of_a_batch_of_two(rt: HostRuntime) -> Result<(), Fail> {
+fn a_failure_before_each_step_of_one_batch(rt: HostRuntime) -> Result<(), Fail> {
     let inputs = "batch src 1:20 2:30\nbatch src 3:40";
     let steps =
         "inject src\ndeliver a\nprogress\ndeliver a\ndeliver b\ndeliver b\nprogress\nack out";
@@ -106,7 +106,7 @@ fn a_failure_between_any_two_steps_of_a_batch_of_two(rt: HostRuntime) -> Result<
 }
 
 #[test]
-fn a_failure_between_any_two_steps_of_two_batches(rt: HostRuntime) -> Result<(), Fail> {
+fn a_failure_before_each_step_of_two_batches(rt: HostRuntime) -> Result<(), Fail> {
     let inputs = "batch src 1:20\nbatch src 2:30";
     let steps =
         "inject src\ndeliver a\nprogress\ndeliver b\nprogress\nack out\ninject src\ndeliver a\ndeliver b\nprogress\nack out";

@@ -1,5 +1,5 @@
 //! Runs of the whole program over memory, one call of each kind over real files, streams and ample memory, and worked
-//! values of times, frontiers and projections.
+//! values of times, frontiers, projections and notifications.
 #![tactic(auto)]
 
 #[cfg(test)]
@@ -11,6 +11,8 @@ mod failures;
 #[cfg(test)]
 mod faults;
 #[cfg(test)]
+mod notices;
+#[cfg(test)]
 mod one_select;
 #[cfg(test)]
 mod projections;
@@ -20,3 +22,5 @@ mod refusals;
 mod runs;
 #[cfg(test)]
 mod times;
+#[cfg(test)]
+mod two_consumers;

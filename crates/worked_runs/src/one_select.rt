@@ -47,7 +47,7 @@ fn prints_what_is_acknowledged(rt: HostRuntime) -> Result<(), Fail> {
 }
 
 #[test]
-fn faults_have_their_statuses(rt: HostRuntime) -> Result<(), Fail> {
+fn bad_words_and_faults_have_their_statuses(rt: HostRuntime) -> Result<(), Fail> {
     let alloc = rt.alloc();
     let bad_words: [&[&str]; 6] = [
         &["run", "a"],

@@ -174,8 +174,8 @@ fn edges(alloc: Global, raw: &mut RawFlow) -> Result<(), AllocError> {
     Ok(())
 }
 
-// The declarations of a flow that has a node of each kind.
-fn every_kind(alloc: Global) -> Result<RawFlow, AllocError> {
+/// The declarations of a flow that has a node of each kind.
+pub fn every_kind(alloc: Global) -> Result<RawFlow, AllocError> {
     let mut raw = RawFlow::new(alloc);
     ring(alloc, &mut raw)?;
     nodes(alloc, &mut raw)?;

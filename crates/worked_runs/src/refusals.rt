@@ -26,7 +26,7 @@ fn refusal(
 }
 
 #[test]
-fn flows(rt: HostRuntime) -> Result<(), Fail> {
+fn flows_are_refused_by_their_first_broken_rule(rt: HostRuntime) -> Result<(), Fail> {
     let rows = [
         (0, "node src input # the only one", "refused F1 line 1\n"),
         (0, "#\tx\nnode src input", "refused F1 line 1\n"),
@@ -96,7 +96,7 @@ fn flows(rt: HostRuntime) -> Result<(), Fail> {
 }
 
 #[test]
-fn inputs(rt: HostRuntime) -> Result<(), Fail> {
+fn inputs_are_refused_by_their_first_broken_rule(rt: HostRuntime) -> Result<(), Fail> {
     let rows = [
         ("batch", "refused I1 line 1\n"),
         ("batch Src", "refused I1 line 1\n"),
@@ -131,7 +131,7 @@ fn inputs(rt: HostRuntime) -> Result<(), Fail> {
 }
 
 #[test]
-fn schedules(rt: HostRuntime) -> Result<(), Fail> {
+fn schedules_are_refused_by_their_first_broken_rule(rt: HostRuntime) -> Result<(), Fail> {
     let rows = [
         ("inject", "refused S1 line 1\n"),
         ("inject src src", "refused S1 line 1\n"),
@@ -174,7 +174,7 @@ fn schedules(rt: HostRuntime) -> Result<(), Fail> {
 }
 
 #[test]
-fn largest_texts(rt: HostRuntime) -> Result<(), Fail> {
+fn texts_over_the_limit_are_refused(rt: HostRuntime) -> Result<(), Fail> {
     let alloc = rt.alloc();
     let rows = [
         ("flow", 1_048_576, "refused F9 line 0\n"),

@@ -4,6 +4,7 @@ ghost use Rattle.std.specs.Prelude.{◌≡◌, length};
 use fw_frontier::{Front, Frontier, Logical};
 use fw_time::{Bounds, Epoch, Nest, SeqNo, Stamp, Time};
 use std::alloc::{AllocError, Global};
+use std::test::Fail;
 
 // A front by way of the frontiers of a type of times, or all stamps where one of its outside stamps is past the domain.
 fn through<T: Logical>(alloc: Global, front: &Front, bounds: &Bounds) -> Result<Front, AllocError>
@@ -33,8 +34,6 @@ fn cut_cover<T: Logical>(
     let front = both.to_front(alloc, bounds)?;
     format!(in alloc; "{front}")
 }
-
-use std::test::Fail;
 
 #[test]
 fn cuts_above_a_stamp(rt: HostRuntime) -> Result<(), Fail> {

@@ -153,7 +153,7 @@ leq_take (y ∷ t) (x ∷ s) (suc n) h k = ap (λ b. nat_le y x && b) (leq_take 
     assoc true b c = refl
     assoc false b c = refl
 
-leq-at : (s t : List ℕ) (n : ℕ) → leq s t ≡ true → get_or s n 0 ≤ get_or t n 0
+pub leq-at : (s t : List ℕ) (n : ℕ) → leq s t ≡ true → get_or s n 0 ≤ get_or t n 0
 leq-at [] [] n h = omega arith
 leq-at [] (y ∷ t) n h = cc
 leq-at (x ∷ s) [] n h = cc

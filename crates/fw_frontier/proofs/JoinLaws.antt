@@ -156,7 +156,7 @@ all_free-second [] ps t h = refl
 all_free-second (s ∷ ss) ps t h = both _ _ (free-inside s ps t h) (all_free-second ss ps t h)
 
 -- what is at least a stamp of each list is not free
-found : (os : List (List ℕ)) (t : List ℕ) → inside os t ≡ false → (i : ℕ) × ((i < length os) × (leq (get_or os i []) t ≡ true))
+pub found : (os : List (List ℕ)) (t : List ℕ) → inside os t ≡ false → (i : ℕ) × ((i < length os) × (leq (get_or os i []) t ≡ true))
 found [] t h = no (sym h)
 found (o ∷ os) t h = by (leq o t) refl h (found os t)
   where

@@ -7,3 +7,6 @@ pub mod BelowLaws
 pub mod StairsLaws
 pub mod DomainLaws
 pub mod JoinLaws
+pub mod CornerLaws
+pub mod PlaneSteps
+pub mod PlaneLaws

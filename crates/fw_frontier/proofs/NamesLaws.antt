@@ -244,7 +244,7 @@ none_inside-within os (p ∷ ps) h t k =
     by false f e = refl
 
 -- the stamps of a list are outside
-all-outside : (ps : List (List ℕ)) → AllByRecursion (λ p. inside ps p ≡ false) ps
+pub all-outside : (ps : List (List ℕ)) → AllByRecursion (λ p. inside ps p ≡ false) ps
 all-outside [] = tt
 all-outside (x ∷ ps) = (outside-self x ps, more x ps ps (all-outside ps))
   where

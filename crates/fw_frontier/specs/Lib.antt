@@ -7,3 +7,4 @@ pub mod BelowLaw
 pub mod Stairs
 pub mod StairsLaw
 pub mod Domain
+pub mod Planes

@@ -6,6 +6,7 @@ mod front;
 mod frontier;
 pub mod laws;
 mod outside;
+mod planes;
 mod stairs;
 
 pub use below::Below;

@@ -5,8 +5,9 @@ ghost use Rattle.fw_time.specs.declared.stamp.Bounds.{Bounds as Domain};
 ghost use Rattle.fw_time.specs.Stamp.{leq, lub, raised, in_domain};
 ghost use Rattle.fw_frontier.specs.Front.{inside, all_in_domain, frontier_of, Names};
 ghost use Rattle.fw_frontier.specs.Frontier.{join, cover};
-ghost use Rattle.fw_frontier.specs.Outside.{place, placed, excluding, excluding_all, excluding_lubs, excluding_pairs, rises, excluding_near, excluding_all_near, below_at, none_inside};
+ghost use Rattle.fw_frontier.specs.Outside.{place, placed, excluding, excluding_all, rises, excluding_near, excluding_all_near, below_at, none_inside};
 
+use crate::planes;
 use fw_time::{Bounds, Stamp};
 use std::alloc::{AllocError, Global};
 
@@ -111,32 +112,6 @@ pub fn exclude_all(outside: &mut Vec<Stamp>, stamps: &[Stamp]) -> Result<(), All
     Ok(())
 }
 
-// Makes what is at least `s` and one of the stamps outside.
-fn exclude_lubs(outside: &mut Vec<Stamp>, s: &Stamp, stamps: &[Stamp]) -> Result<(), AllocError>
-    ensures { OnOk result
-        (outside.new.items ≡ excluding_lubs s.now stamps.now outside.old.items) }
-{
-    for p in stamps {
-        exclude(outside, s.lub(p))?;
-    }
-    Ok(())
-}
-
-// What is inside one of two frontiers: what is at least one outside stamp of each is outside. All pairs are looked at.
-fn joined_by_pairs(
-    alloc: Global,
-    mine: &[Stamp],
-    others: &[Stamp],
-) -> Result<Vec<Stamp>, AllocError>
-    ensures { IfOk result (λ both. both.items ≡ excluding_pairs mine.now others.now []) }
-{
-    let mut both = Vec::new(alloc);
-    for s in mine {
-        exclude_lubs(&mut both, s, others)?;
-    }
-    Ok(both)
-}
-
 // At how many places the second stamp is greater.
 fn count_of_rises(s: &Stamp, p: &Stamp) -> usize
     ensures { result ≡ rises s.now p.now }
@@ -205,7 +180,7 @@ pub fn joined(alloc: Global, mine: &[Stamp], others: &[Stamp]) -> Result<Vec<Sta
     if first.len() <= FEW {
         return joined_by_near(alloc, mine, others);
     }
-    joined_by_pairs(alloc, mine, others)
+    planes::least_bounds(alloc, mine, others)
 }
 
 // Makes outside what has a greater coordinate than `s` at a place, if the domain has such stamps.

@@ -1,12 +1,16 @@
-use Rattle.std.proofs.Common.{◌≡◌, true, ◌≤◌, length, [], arith}
+use Rattle.std.proofs.Common.{◌≡◌, true, ◌≤◌, length, [], Result, Ok, Err, arith}
+use Rattle.std.specs.Prelude.{IfOk}
 use Rattle.std.proofs.lemmas.Result.{IfOk-weaker}
-use Rattle.fw_time.specs.Stamp.{in_domain}
+use Rattle.std.specs.List.Sorted.{IsStrictlySortedBy}
+use Rattle.fw_time.specs.Stamp.{in_domain, stamp_cmp}
 use Rattle.fw_time.proofs.StampLaws.{leq-length}
 use Rattle.fw_frontier.specs.Front.{frontier_of, Names}
 use Rattle.fw_frontier.specs.Frontier.{join}
-use Rattle.fw_frontier.specs.Outside.{excluding_pairs, excluding_all_near}
+use Rattle.fw_frontier.specs.Outside.{excluding_all_near}
+use Rattle.fw_frontier.specs.declared.planes.TheConstants.{PLANES}
+use Rattle.fw_frontier.specs.Planes.{planes_bounds, HaveSame}
 use Rattle.fw_frontier.proofs.CanonicalLaws.{in_domain-at}
-use Rattle.fw_frontier.proofs.NamesLaws.{names-join}
+use Rattle.fw_frontier.proofs.PlaneLaws.{names-planes}
 use Rattle.fw_frontier.proofs.JoinLaws.{names-join_near}
 use Rattle.fw_frontier.proofs.outside.joined.Goals as goal
 
@@ -22,12 +26,19 @@ returns-then-len-le-FEW c = λ b h k.
     (λ both e. rw e (names-join_near b mine others few h k))
     c.joined_by_near.ensures
 
+IfOk-both : {T E : Type 0} (r : Result T E) (P Q R : T → Type 0) → ((x : T) → P x → Q x → R x) → IfOk r P → IfOk r Q → IfOk r R
+IfOk-both (Ok x) P Q R f h k = f x h k
+IfOk-both (Err e) P Q R f h k = h
+
 pub returns : goal.returns
 returns c = λ b h k.
     let mine = c.args.mine.now in
     let others = c.args.others.now in
-    IfOk-weaker c.joined_by_pairs.result
-    (λ both. both.items ≡ excluding_pairs mine others [])
-    (λ both. Names b both.items (join (frontier_of b mine) (frontier_of b others)))
-    (λ both e. rw e (names-join b mine others h k))
-    c.joined_by_pairs.ensures
+    let d : in_domain b c.first-item.result ≡ true = in_domain-at b mine 0 c.first-item.result (omega (arith, c.in-len1-up.len_at_least)) c.first-item.is h in
+    let four : length b.greatest ≡ 4 = omega (arith, leq-length c.first-item.result b.greatest d, c.len.ensures.value, c.len.ensures.few, c.if-len-le-FEW.false) in
+    IfOk-both c.least_bounds.result
+    (λ bounds. IsStrictlySortedBy stamp_cmp bounds.items)
+    (λ bounds. HaveSame (planes_bounds PLANES mine others) bounds.items)
+    (λ bounds. Names b bounds.items (join (frontier_of b mine) (frontier_of b others)))
+    (λ bounds sorted same. names-planes b mine others bounds.items four h k sorted same)
+    c.least_bounds.ensures.ascending c.least_bounds.ensures.same

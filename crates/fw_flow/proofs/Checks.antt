@@ -574,6 +574,10 @@ pub checked_or_refused : (raw : List Declared) (flow : Dataflow) (r : Refusal) �
 checked_or_refused raw flow r checked first =
     broken_or_holds raw r.code r.line (broken_of rules raw r first) (Holds-from_IsWellFormed raw checked.well_formed r.code)
 
+-- declarations are those of one dataflow
+pub one_value : (raw : List Declared) (flow other : Dataflow) → IsChecked raw flow → IsChecked raw other → flow ≡ other
+one_value raw flow other first second = first.value ∙ sym second.value
+
 same_refusal : (r s : Refusal) → r.code ≡ s.code → r.line ≡ s.line → r ≡ s
 same_refusal r s e f =
     let with_code : Code → Refusal = λ c. record { code = c; line = r.line } in

@@ -7,6 +7,7 @@ pub mod FlowLaws
 pub mod Flows
 pub mod Givers
 pub mod Marks
+pub mod Named
 pub mod Peel
 pub mod ProjectionLaws
 pub mod Ranks

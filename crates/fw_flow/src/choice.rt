@@ -93,13 +93,16 @@ impl Fronts {
 /// For each node to what it is cut, and its notification frontier.
 #[derive(Debug, Drop)]
 pub struct Choice {
+    /// To what each node is cut.
     pub cuts: Cuts,
+    /// The notification frontier of each node: what it was notified of inside its cut lies in it.
     pub notes: Fronts,
 }
 
 /// Messages of an edge with one stamp and the same causes.
 #[derive(Debug, Drop)]
 pub struct Counted {
+    /// The edge that they were sent on.
     pub edge: EdgeId,
     /// Their stamp, in the receiver's domain.
     pub at: Stamp,
@@ -123,13 +126,16 @@ pub struct Stamps {
 /// A frontier of an edge.
 #[derive(Debug, Drop)]
 pub struct OfEdge {
+    /// The edge.
     pub edge: EdgeId,
+    /// The frontier, of the domain of the edge's receiver.
     pub front: Front,
 }
 
 /// A frontier that a node recorded, with what stands for its events inside.
 #[derive(Debug, Drop)]
 pub struct Recorded {
+    /// The frontier, of the node's domain.
     pub front: Front,
     /// The cover of what it was notified of.
     pub notified: Front,
@@ -153,6 +159,8 @@ pub enum Offered {
 pub struct Offer {
     /// Whether it can stay as it is.
     pub present: bool,
+    /// The frontiers to which it can be restored, with what stands for its events inside.
     pub offered: Offered,
+    /// Where its events are, and where they sent, as it stands now.
     pub stamps: Stamps,
 }

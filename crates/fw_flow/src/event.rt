@@ -63,6 +63,7 @@ fn copied(alloc: Global, stamps: &[Stamp]) -> Result<Vec<Stamp>, AllocError>
 pub struct Message {
     /// Its stamp, in the receiver's domain.
     pub at: Stamp,
+    /// What is sent: one rec.
     pub rec: Rec,
     /// The stamps of the sender's events that it comes from.
     pub causes: Causes,

@@ -41,7 +41,7 @@ impl Model for Flow {
 }
 
 impl Flow {
-    /// How many nodes it has.
+    /// How many nodes it has: they stand at the places from 0 on. The call also tells that the flow is well formed.
     pub fn nodes(&self) -> usize
         ensures count { result ≡ length self.now.nodes }
         ensures well_formed { IsWellFormed self.now }
@@ -49,7 +49,7 @@ impl Flow {
         self.nodes.len()
     }
 
-    /// How many edges it has.
+    /// How many edges it has: they stand at the places from 0 on.
     pub fn edges(&self) -> usize
         ensures { result ≡ length self.now.edges }
     {
@@ -67,7 +67,7 @@ impl Flow {
         }
     }
 
-    /// How a node is restored.
+    /// How a node is restored. Past the last node each keeps nothing.
     #[tactic(auto, unfolding(crate::specs::Dataflow::policy_of))]
     pub fn policy(&self, node: NodeId) -> Policy
         ensures { result ≡ policy_of self.now node }
@@ -78,21 +78,21 @@ impl Flow {
         }
     }
 
-    /// The domain of a node's events, by its word.
+    /// The domain of a node's events, by its word; that of epochs past the last node.
     pub fn domain_word(&self, node: NodeId) -> Domain
         ensures { result ≡ domain_of self.now node }
     {
         self.kind(node).domain()
     }
 
-    /// The domain of a node's messages, by its word.
+    /// The domain of a node's messages, by its word; that of epochs past the last node.
     pub fn out_domain_word(&self, node: NodeId) -> Domain
         ensures { result ≡ out_domain_of self.now node }
     {
         self.kind(node).out_domain()
     }
 
-    /// The bounds of a node's domain.
+    /// The bounds of the domain of a node's events; those of epochs past the last node.
     #[tactic(auto, unfolding(crate::specs::Dataflow::bounds_of))]
     pub fn domain(&self, node: NodeId) -> Bounds
         ensures { result ≡ bounds_of self.now node }
@@ -115,7 +115,7 @@ impl Flow {
         }
     }
 
-    /// The sender of an edge. Past the last edge stand edges between idle outputs.
+    /// The sender of an edge; for an edge past the last one the node past the last one, which is an idle output.
     #[tactic(auto, unfolding(crate::specs::Dataflow::sender))]
     pub fn src(&self, edge: EdgeId) -> NodeId
         ensures { result ≡ sender self.now edge }
@@ -126,7 +126,7 @@ impl Flow {
         }
     }
 
-    /// The receiver of an edge.
+    /// The receiver of an edge; for an edge past the last one the node past the last one, which is an idle output.
     #[tactic(auto, unfolding(crate::specs::Dataflow::receiver))]
     pub fn dst(&self, edge: EdgeId) -> NodeId
         ensures { result ≡ receiver self.now edge }
@@ -143,7 +143,7 @@ impl Flow {
         NodeId::at(self.nodes.len() as u32)
     }
 
-    /// The edges to a node, in order.
+    /// The edges to a node, in order of their places; none past the last node.
     #[tactic(auto, using(crate::proofs::FlowLaws::edges_there, crate::proofs::FlowLaws::edges_past))]
     pub fn in_edges(&self, node: NodeId) -> &[EdgeId]
         ensures { result.now ≡ in_edges self.now node }
@@ -154,7 +154,7 @@ impl Flow {
         }
     }
 
-    /// The edges from a node, in order.
+    /// The edges from a node, in order of their places; none past the last node.
     #[tactic(auto, using(crate::proofs::FlowLaws::edges_there, crate::proofs::FlowLaws::edges_past))]
     pub fn out_edges(&self, node: NodeId) -> &[EdgeId]
         ensures { result.now ≡ out_edges self.now node }
@@ -174,7 +174,7 @@ impl Flow {
         &self.nodes[node.place() as usize].name
     }
 
-    /// The node of a name.
+    /// The node of a name, `None` where no node has it.
     pub fn node_named(&self, name: &[u8]) -> Option<NodeId>
         ensures { result ≡ place_of name.now (map (λ node. node.name) self.now.nodes) }
     {
@@ -182,7 +182,7 @@ impl Flow {
         Some(NodeId::at(place as u32))
     }
 
-    /// The edge of a name.
+    /// The edge of a name, `None` where no edge has it.
     pub fn edge_named(&self, name: &[u8]) -> Option<EdgeId>
         ensures { result ≡ place_of name.now (map (λ edge. edge.name) self.now.edges) }
     {
@@ -191,7 +191,8 @@ impl Flow {
     }
 
     /// The flow of these declarations, where no rule is broken; else the first broken rule, in order of their numbers,
-    /// with its line.
+    /// with the line of the first declaration that breaks it, or line 0 where it is broken by the flow as a whole. The rules
+    /// are F3 to F9; those of words and names were tested before. The other error is want of memory.
     pub fn check(alloc: Global, raw: RawFlow) -> Result<Flow, ReadFault>
         ensures checked { MatchResult result (IsChecked raw) (IfRefused (IsFirstBroken raw)) }
         ensures well_formed { IfOk result IsWellFormed }

@@ -11,12 +11,14 @@ pub fn ranks_exist()
     ensures { RanksExist }
 {}
 
-/// Declarations of a well-formed dataflow are not refused, and declarations are refused by one rule
-/// at one line: so `Flow::check` answers `Ok` exactly for the well-formed ones, unless memory is
-/// refused.
+/// Declarations of a well-formed dataflow are not refused and have one dataflow, and declarations are
+/// refused by one rule at one line: so `Flow::check` answers `Ok` exactly for the well-formed ones,
+/// with the one dataflow that they declare, unless memory is refused.
 pub fn one_answer()
     ensures exclusive { (raw : List Declared) (flow : Dataflow) (refusal : Refusal)
         → IsChecked raw flow → IsFirstBroken raw refusal → ⊥ }
+    ensures one_value { (raw : List Declared) (first second : Dataflow)
+        → IsChecked raw first → IsChecked raw second → first ≡ second }
     ensures one_refusal { (raw : List Declared) (first second : Refusal)
         → IsFirstBroken raw first → IsFirstBroken raw second → first ≡ second }
 {}

@@ -1,4 +1,9 @@
 //! Dataflows: nodes, edges, kinds and policies, events and messages, cuts and choices, and the steps of a run.
+//!
+//! A `RawFlow` takes declarations by names, `Flow::check` tests every rule and gives the `Flow`, or the first broken rule
+//! with its line. A `Flow` answers look-ups by places, also past its end, and projects frontiers along its edges
+//! (`Flow::phi`, `Flow::psi`, `Flow::psi_back`). The other types are the words of a run, over which `fw_model` defines
+//! what a run does.
 #![tactic(auto)]
 
 mod check;

@@ -27,7 +27,7 @@ impl Model for Name {
 }
 
 impl Name {
-    /// The name of these bytes, if they are one. The error is want of memory.
+    /// The name of these bytes, `None` where they are not one. The only error is want of memory.
     pub fn new(alloc: Global, word: &[u8]) -> Result<Option<Name>, AllocError>
         ensures { IfOk result (λ name. name ≡ (if spelling.is_name word.now then Some word.now else None)) }
     {
@@ -85,7 +85,7 @@ impl Names {
         Ok(self.names.insert(name)?)
     }
 
-    /// The place of a name.
+    /// The place of a name, from 0; `None` where it is not among them.
     #[tactic(auto, using(crate::proofs::FlowLaws::place_among_keys))]
     pub(crate) fn place_of(&self, name: &[u8]) -> Option<usize>
         ensures { result ≡ place_of name.now self.now }

@@ -4,22 +4,30 @@ use crate::{Kind, Name, NodeId, Policy};
 /// A loop, with its greatest counter.
 #[derive(Debug, Drop)]
 pub struct Loop {
+    /// Its name, which no other loop has.
     pub name: Name,
+    /// The greatest counter of a stamp of the loop, from 1 to 1024 in a well-formed flow.
     pub max: u32,
 }
 
 /// A node.
 #[derive(Debug, Drop)]
 pub struct Node {
+    /// Its name, which no other node has.
     pub name: Name,
+    /// What it does.
     pub kind: Kind,
+    /// How it is restored after a failure.
     pub policy: Policy,
 }
 
 /// An edge from a sender to a receiver.
 #[derive(Debug, Drop)]
 pub struct Edge {
+    /// Its name, which no other edge has.
     pub name: Name,
+    /// The node that sends on it.
     pub sender: NodeId,
+    /// The node to which what is sent on it is delivered.
     pub receiver: NodeId,
 }

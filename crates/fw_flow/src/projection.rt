@@ -32,22 +32,12 @@ impl Model for SentTable {
 }
 
 impl SentTable {
-    /// The table of a sequence that sent nothing.
-    pub fn new(alloc: Global) -> Self
-        ensures { result ≡ [] }
+    /// The table with these entries: an epoch of which the sequence was notified, and how many messages it sent then. An
+    /// epoch that stands there twice counts twice.
+    pub fn new(entries: Vec<(u32, u64)>) -> Self
+        ensures { result ≡ entries.items }
     {
-        SentTable {
-            entries: Vec::new(alloc),
-        }
-    }
-
-    /// Adds how many messages the sequence sent when it was notified of the epoch. The only error is want of memory, and
-    /// then the table stays as it was.
-    pub fn push(&mut self, epoch: u32, count: u64) -> Result<(), AllocError>
-        ensures { self.new ≡ (if is_ok result then self.old ++ (epoch, count) ∷ [] else self.old) }
-    {
-        self.entries.push((epoch, count))?;
-        Ok(())
+        SentTable { entries }
     }
 
     /// How many messages were sent in the epochs inside, or `u64::MAX` where they were more.
@@ -77,7 +67,8 @@ fn has_epoch(f: &Front, epoch: u32) -> bool
 impl Flow {
     /// If the sender of the edge keeps its events in `f`, each message on the edge at a stamp inside the answer comes from
     /// one of them. Only for a sequence it reads `sent`, what the sequence sent so far: it counts those of the epochs inside.
-    /// The only error is want of memory.
+    /// `f` must be canonical in the domain of the sender (`Flow::domain` of `Flow::src`), as `Front::checked_until` makes
+    /// it; the answer is canonical in the domain of the receiver. The only error is want of memory.
     pub fn phi(
         &self,
         alloc: Global,
@@ -99,7 +90,8 @@ impl Flow {
     }
 
     /// The cover of the stamps at which an event of the sender of the edge inside `f` can send on it, where the sender is of
-    /// a kind that may keep nothing; else the answer has no use. The only error is want of memory.
+    /// a kind that may keep nothing; else the answer has no use. `f` must be canonical in the domain of the sender, and the
+    /// answer is in that of the receiver. The only error is want of memory.
     pub fn psi(&self, alloc: Global, edge: EdgeId, f: &Front) -> Result<Front, AllocError>
         requires { IsCanonical (bounds_of self.now (sender self.now edge)) f.now }
         ensures { (sys : System) → sys.flow ≡ self.now
@@ -111,7 +103,8 @@ impl Flow {
     }
 
     /// The largest frontier of the sender of the edge from which it sends inside `g` alone, where the sender is of a kind that
-    /// may keep nothing; else the answer has no use. The only error is want of memory.
+    /// may keep nothing; else the answer has no use. `g` must be canonical in the domain of the receiver, and the answer is
+    /// in that of the sender. The only error is want of memory.
     pub fn psi_back(&self, alloc: Global, edge: EdgeId, g: &Front) -> Result<Front, AllocError>
         requires { IsCanonical (bounds_of self.now (receiver self.now edge)) g.now }
         ensures { (sys : System) → sys.flow ≡ self.now

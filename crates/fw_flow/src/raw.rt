@@ -11,52 +11,68 @@ use std::marker::Model;
 /// How many declarations places of 32 bits can count.
 const LIMIT: usize = 4_294_967_295;
 
-/// What a node does, with loops by their names.
+/// What a node does, with loops by their names. `within` is the loop that a node stands in; without one it stands outside
+/// loops. `Kind` has the same with loops by their places.
 #[derive(Debug, Drop)]
 pub enum RawKind {
+    /// Injects its batches.
     Input,
+    /// Keeps the recs of each epoch, and acknowledges them.
     OutputEpoch,
+    /// Keeps the rec of each number, and acknowledges it.
     OutputNumber,
+    /// Sends a rec on where a condition holds, perhaps after an assignment.
     Select {
         selection: Selection,
         within: Option<Name>,
     },
+    /// Sends each rec on, of any of its edges.
     Concat {
         within: Option<Name>,
     },
+    /// Sends on the first of equal recs at a time.
     Distinct {
         within: Option<Name>,
     },
+    /// Sends the sum of each pair of recs of its two edges with one key at a time.
     Join {
         within: Option<Name>,
     },
+    /// Once a time is complete, sends the sum of the values of each of its keys.
     Sum {
         within: Option<Name>,
     },
+    /// Leads into the loop of the name, at counter 0.
     Enter(Name),
+    /// Leads to the next counter of the loop of the name.
     Feedback(Name),
+    /// Leads out of the loop of the name.
     Leave(Name),
+    /// Once an epoch is complete, sends for each of its keys the sum of the values up to it.
     Total,
+    /// Once an epoch is complete, sends its recs in order at the next numbers.
     Sequence,
+    /// Sends for each rec the running total of its key.
     Ledger,
+    /// Sends the recs of so many numbers at one epoch. A flow is refused where it is 0 or past 2^32 - 1.
     Regroup(u64),
 }
 
 /// What one line of a flow declares.
 #[derive(Debug, Drop)]
 pub enum Declaration {
-    /// A loop, with its greatest counter.
+    /// A loop, with its greatest counter. A flow is refused where that is 0 or past 1024.
     Loop {
         name: Name,
         max: u64,
     },
-    /// A node.
+    /// A node, with what it does and how it is restored.
     Node {
         name: Name,
         kind: RawKind,
         policy: Policy,
     },
-    /// An edge, from a node to a node.
+    /// An edge, from a node to a node, both by their names.
     Edge {
         name: Name,
         sender: Name,
@@ -67,8 +83,9 @@ pub enum Declaration {
 /// A declaration, with its line.
 #[derive(Debug, Drop)]
 pub struct Declared {
-    /// Lines are counted from 1.
+    /// Lines are counted from 1. A refusal of the declaration has this line.
     pub line: u32,
+    /// What the line declares.
     pub declaration: Declaration,
 }
 
@@ -136,21 +153,19 @@ impl RawFlow {
         }
     }
 
-    /// Adds a declaration whose name is new in its name space, and says whether it is. The error is want of memory; more
-    /// than 2^32 - 1 declarations count as that.
-    pub fn declare(&mut self, declared: Declared) -> Result<bool, AllocError>
-        ensures new { IfOk result (λ new. new ≡ is_new self.old declared.declaration) }
-        ensures ok { IfOk result (λ new. self.new ≡ (if new then self.old ++ declared ∷ [] else self.old)) }
-        ensures err { OnErr result (self.new ≡ self.old) }
+    /// The declarations with one more, where its name is new in its name space, and whether it is; else they are as they
+    /// were. The error is want of memory; more than 2^32 - 1 declarations count as that.
+    pub fn declare(mut self, declared: Declared) -> Result<(Self, bool), AllocError>
+        ensures new { IfOk result (λ r. r.1 ≡ is_new self declared.declaration) }
+        ensures added { IfOk result (λ r. r.0 ≡ (if r.1 then self ++ declared ∷ [] else self)) }
     {
         if self.declared.len() >= LIMIT {
             return Err(AllocError);
         }
-        self.declared.reserve(1)?;
-        let new = self.names.add(&declared.declaration)?;
-        if new {
-            self.declared.push(declared)?;
+        if !self.names.add(&declared.declaration)? {
+            return Ok((self, false));
         }
-        Ok(new)
+        self.declared.push(declared)?;
+        Ok((self, true))
     }
 }

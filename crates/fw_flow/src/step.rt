@@ -46,7 +46,7 @@ pub enum Step {
     Notify(NodeId, Option<Stamp>),
     /// What is complete becomes settled.
     Progress,
-    /// The node asks a record of what is settled.
+    /// The node asks a checkpoint of what is settled.
     Checkpoint(NodeId),
     /// The oldest write in flight is acknowledged.
     Persist,

@@ -1,5 +1,5 @@
 //! The reader of a whole text.
-ghost use Rattle.std.specs.Prelude.{◌≡◌, ℕ, List, [], ◌∷◌, ◌++◌, OnOk, IfErr, MatchResult};
+ghost use Rattle.std.specs.Prelude.{◌≡◌, ℕ, List, [], ◌∷◌, ◌++◌, IfOk, IfErr, MatchResult};
 ghost use Rattle.std.specs.Option.{option_map, option_to_list};
 ghost use Rattle.fw_lines.specs.Faults.{IfRefused};
 ghost use Rattle.fw_lines.specs.Lines.{words_at, said_in};
@@ -30,7 +30,7 @@ pub fn read_flow(alloc: Global, text: &[u8]) -> Result<Flow, ReadFault>
     let mut place = Some(Place::START);
     while let Some(at) = place {
         let (line, next) = line_at(alloc, text, at)?;
-        read_line(alloc, text, &line, &mut raw)?;
+        raw = read_line(alloc, text, &line, raw)?;
         place = next;
     }
     Flow::check(alloc, raw)
@@ -47,33 +47,33 @@ pub fn one_answer()
         → IsRefused text first → IsRefused text second → first ≡ second }
 {}
 
-// Adds what a line declares, or tells the rule that it breaks.
-fn read_line(alloc: Global, text: &[u8], line: &Line, raw: &mut RawFlow) -> Result<(), ReadFault>
-    ensures sound { OnOk result (words_fault raw.old (words_at text.now line.now.words) ≡ None) }
-    ensures value { OnOk result (raw.new ≡ raw.old ++ declared_by (said_in text.now line.now ∷ [])) }
+// The declarations with what a line declares, or the rule that it breaks.
+fn read_line(alloc: Global, text: &[u8], line: &Line, raw: RawFlow) -> Result<RawFlow, ReadFault>
+    ensures sound { IfOk result (λ more. words_fault raw (words_at text.now line.now.words) ≡ None) }
+    ensures value { IfOk result (λ more. more ≡ raw ++ declared_by (said_in text.now line.now ∷ [])) }
     ensures broken { IfErr result (IfRefused (λ refusal.
-        (words_fault raw.old (words_at text.now line.now.words) ≡ Some refusal.code)
+        (words_fault raw (words_at text.now line.now.words) ≡ Some refusal.code)
         × (refusal.line ≡ line.now.number))) }
 {
     let words = line.words.as_slice();
     if words.is_empty() {
-        return Ok(());
+        return Ok(raw);
     }
     let found = declaration(alloc, text, words)?;
     declare(found, line.number, raw)
 }
 
-// Adds what was found on a line with words, or tells the rule that it breaks.
+// The declarations with what was found on a line with words, or the rule that it breaks.
 fn declare(
     found: Option<(Declaration, bool)>,
     line: u32,
-    raw: &mut RawFlow,
-) -> Result<(), ReadFault>
-    ensures sound { OnOk result (form_fault raw.old found ≡ None) }
-    ensures value { OnOk result (raw.new ≡ raw.old
+    raw: RawFlow,
+) -> Result<RawFlow, ReadFault>
+    ensures sound { IfOk result (λ more. form_fault raw found ≡ None) }
+    ensures value { IfOk result (λ more. more ≡ raw
         ++ option_to_list (option_map (λ f. record { line = line; declaration = f.0 }) found)) }
     ensures broken { IfErr result (IfRefused (λ refusal.
-        (form_fault raw.old found ≡ Some refusal.code) × (refusal.line ≡ line))) }
+        (form_fault raw found ≡ Some refusal.code) × (refusal.line ≡ line))) }
 {
     let Some((declaration, is_large)) = found else {
         return Err(refused(Code::F1, line));
@@ -81,10 +81,11 @@ fn declare(
     if is_large {
         return Err(refused(Code::F10, line));
     }
-    if !raw.declare(Declared { line, declaration })? {
+    let (raw, new) = raw.declare(Declared { line, declaration })?;
+    if !new {
         return Err(refused(Code::F2, line));
     }
-    Ok(())
+    Ok(raw)
 }
 
 const fn refused(code: Code, line: u32) -> ReadFault

@@ -11,6 +11,7 @@ use std::alloc::{AllocError, Global};
 
 /// A time that has frontiers of a type of its own.
 pub trait Logical: Time {
+    /// Its frontiers: sets of such times.
     type Frontier: Frontier<Self>;
 }
 

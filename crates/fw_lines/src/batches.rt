@@ -36,7 +36,7 @@ impl Batches {
         }
     }
 
-    /// The batches of a node, those of the earlier epochs first.
+    /// The batches of a node, those of the earlier epochs first; none where nothing is kept for it.
     pub fn of(&self, node: u32) -> &[Bag]
         ensures { map (λ b. b.recs) result.now ≡ batches_at self.now node }
     {
@@ -53,8 +53,8 @@ impl Batches {
         self.of(node).len()
     }
 
-    /// Adds the batch of the next epoch of a node. It fails where memory is refused.
-    pub fn push(&mut self, node: u32, batch: Bag) -> Result<(), AllocError>
+    /// Adds the batch of the next epoch of a node. The only error is want of memory, and then each node keeps its batches.
+    pub(crate) fn push(&mut self, node: u32, batch: Bag) -> Result<(), AllocError>
         ensures ok { OnOk result (AddsBatch self.old self.new node batch.recs) }
         ensures err { OnErr result (KeepsBatches self.old self.new) }
     {

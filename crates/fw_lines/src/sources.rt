@@ -1,5 +1,5 @@
 //! The names of the inputs.
-ghost use Rattle.std.specs.Prelude.{◌≡◌, [], ◌∷◌, ◌++◌, OnOk, OnErr, IsNone};
+ghost use Rattle.std.specs.Prelude.{◌≡◌, [], ◌∷◌, ◌++◌, IfOk, IsNone};
 ghost use Rattle.indexmap.specs.IndexMap.{IndexMap};
 ghost use Rattle.fw_lines.specs.Sources.{node_of, named};
 
@@ -34,18 +34,17 @@ impl SourceNames {
         }
     }
 
-    /// Adds a name that is not there. It fails where memory is refused.
-    pub fn add(&mut self, node: u32, name: &[u8]) -> Result<(), AllocError>
-        requires { IsNone (node_of self.old name.now) }
-        ensures ok { OnOk result (self.new ≡ self.old ++ (name.now, node) ∷ []) }
-        ensures err { OnErr result (self.new ≡ self.old) }
+    /// These names and one more, which is not among them. The only error is want of memory.
+    pub fn with(mut self, node: u32, name: &[u8]) -> Result<Self, AllocError>
+        requires { IsNone (node_of self name.now) }
+        ensures { IfOk result (λ sources. sources ≡ self ++ (name.now, node) ∷ []) }
     {
         let name = Vec::from_slice(self.alloc, name)?;
         self.nodes.insert(name, node)?;
-        Ok(())
+        Ok(self)
     }
 
-    /// The node of a name.
+    /// The node of a name; `None` where the name is not among them.
     pub fn node_of(&self, name: &[u8]) -> Option<u32>
         ensures { result ≡ node_of self.now name.now }
     {

@@ -43,7 +43,7 @@ fn sent_table(
 {
     let node = flow.src(edge);
     if !matches!(flow.kind(node), Kind::Sequence) {
-        return Ok(SentTable::new(alloc));
+        return Ok(SentTable::new(Vec::new(alloc)));
     }
     table_of(alloc, sent_by(offers, node), edge)
 }
@@ -53,19 +53,19 @@ fn table_of(alloc: Global, sent: &[Counted], edge: EdgeId) -> Result<SentTable, 
     ensures { spec.AreFromEpochs sent.now → IfOk result
         (λ table. (f : Frontier) → table_count f table ≡ spec.count_from edge f sent.now) }
 {
-    let mut table = SentTable::new(alloc);
+    let mut entries = Vec::new(alloc);
     for m in sent {
-        count(&mut table, m, edge)?;
+        count(&mut entries, m, edge)?;
     }
-    Ok(table)
+    Ok(SentTable::new(entries))
 }
 
 /// Counts the message, if it is on the edge.
-fn count(table: &mut SentTable, m: &Counted, edge: EdgeId) -> Result<(), AllocError>
-    ensures { OnOk result (table.new ≡ with_count edge table.old m.now) }
+fn count(entries: &mut Vec<(u32, u64)>, m: &Counted, edge: EdgeId) -> Result<(), AllocError>
+    ensures { OnOk result (entries.new.items ≡ with_count edge entries.old.items m.now) }
 {
     if m.edge == edge {
-        table.push(first_epoch(m), m.count)?;
+        entries.push((first_epoch(m), m.count))?;
     }
     Ok(())
 }

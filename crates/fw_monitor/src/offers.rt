@@ -204,13 +204,13 @@ fn front_on(fronts: &[OfEdge], edge: EdgeId) -> Option<&Front>
 }
 
 /// What a record holds of a side, if it lists it.
-fn recorded(record: &Recorded, side: Side) -> Option<&Front>
-    ensures { option_copied result ≡ recorded side record.now }
+fn recorded(entry: &Recorded, side: Side) -> Option<&Front>
+    ensures { option_copied result ≡ recorded side entry.now }
 {
     match side {
-        Side::Delivered(edge) => front_on(&record.delivered, edge),
-        Side::Discarded(edge) => front_on(&record.discarded, edge),
-        Side::Notified(_) => Some(&record.notified),
+        Side::Delivered(edge) => front_on(&entry.delivered, edge),
+        Side::Discarded(edge) => front_on(&entry.discarded, edge),
+        Side::Notified(_) => Some(&entry.notified),
     }
 }
 

@@ -14,7 +14,12 @@ pub trait Folder {
 
     /// Puts all bytes of a text into `into`, in place of what was there, where they are at most `limit`.
     /// Of a longer text it leaves the first `limit + 1`; after another refusal `into` is empty.
-    /// A name that is not there is a fault.
+    ///
+    /// # Errors
+    ///
+    /// `TooLarge` where the text is longer than the limit; `Failed` where the folder fails, and a name that is not there is
+    /// a fault; `NoMemory` where memory is refused, which may come at any time. The texts stay in each case, and a later
+    /// call may succeed.
     fn fetch(&mut self, name: &str, limit: usize, into: &mut Vec<u8>) -> Result<(), FetchFault>
         requires { limit < 2 ^ 32 }
         ensures text { OnOk result (IsText (texts self.old) name.now into.new.items) }

@@ -15,7 +15,13 @@ pub trait Sink {
     /// How often the sink failed.
     ghost fault_count: { Self → ℕ };
 
-    /// Takes the whole piece. Of a piece that is refused some first bytes may have been taken.
+    /// Takes the whole piece.
+    ///
+    /// # Errors
+    ///
+    /// `Failed` where the sink fails, `NoMemory` where memory is refused, which may come at any time. Then some first bytes
+    /// of the piece may have been taken, and the sink's mark says from then on that it refused a write. A later call may
+    /// succeed.
     fn write(&mut self, piece: &[u8]) -> Result<(), OutFault>
         ensures whole { OnOk result (Takes (taken self.old) piece.now (taken self.new)) }
         ensures refused { OnErr result (TakesPrefix (taken self.old) piece.now (taken self.new)) }

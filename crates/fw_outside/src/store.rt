@@ -19,6 +19,11 @@ pub trait Store {
     ghost fault_count: { Self → ℕ };
 
     /// Adds a record under a new id.
+    ///
+    /// # Errors
+    ///
+    /// `Failed` where the store fails, `NoMemory` where memory is refused, which may come at any time. Then the records
+    /// stay, and a later call may succeed.
     fn put(&mut self, id: u64, bytes: &[u8]) -> Result<(), OutFault>
         requires { ForSome (records self.old) (λ held. map.get held id ≡ None) }
         ensures added { OnOk result (records self.new ≡ option_map (λ held. map.insert held id bytes.now) (records self.old)) }
@@ -27,7 +32,12 @@ pub trait Store {
         ensures failed { IsErrOf result OutFault.Failed → Rose (fault_count self.old) (fault_count self.new) }
         ensures never_falls { fault_count self.old ≤ fault_count self.new };
 
-    /// Puts the bytes of a record into `into`, in place of what was there; after a refusal `into` is empty.
+    /// Puts the bytes of a record into `into`, in place of what was there.
+    ///
+    /// # Errors
+    ///
+    /// `Failed` where the store fails, `NoMemory` where memory is refused, which may come at any time. Then `into` is empty,
+    /// and the last `get` that was Ok is still the one before; a later call may succeed. The records stay in each case.
     fn get(&mut self, id: u64, into: &mut Vec<u8>) -> Result<(), OutFault>
         requires { ForSome (records self.old) (λ held. IsSome (map.get held id)) }
         ensures bytes { OnOk result (IfSome (records self.old) (λ held. map.get held id ≡ Some into.new.items)) }
@@ -39,6 +49,11 @@ pub trait Store {
         ensures never_falls { fault_count self.old ≤ fault_count self.new };
 
     /// Takes a record out.
+    ///
+    /// # Errors
+    ///
+    /// `Failed` where the store fails, `NoMemory` where memory is refused, which may come at any time. Then the records
+    /// stay, and a later call may succeed.
     fn remove(&mut self, id: u64) -> Result<(), OutFault>
         requires { ForSome (records self.old) (λ held. IsSome (map.get held id)) }
         ensures removed { OnOk result (records self.new ≡ option_map (λ held. map.remove held id) (records self.old)) }

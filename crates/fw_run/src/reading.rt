@@ -1,5 +1,5 @@
 //! The three texts are fetched and read, each before the next one is fetched.
-ghost use Rattle.std.specs.Prelude.{◌≡◌, ◌++◌, ◌^◌, ◌<◌, ◌≤◌, length, IsNone, IfOk, OnOk, IfErr, IsErrOf};
+ghost use Rattle.std.specs.Prelude.{◌≡◌, ◌++◌, ◌^◌, ◌<◌, ◌≤◌, length, IsNone, IfOk, IfErr, IsErrOf};
 ghost use Rattle.fw_outside.specs.Outside.{Rose, IsText};
 ghost use Rattle.fw_lines.specs.Inputs as inputs;
 ghost use Rattle.fw_lines.specs.Sources.{node_of};
@@ -173,20 +173,20 @@ fn sources_of(alloc: Global, flow: &Flow) -> Result<SourceNames, AllocError>
 {
     let mut sources = SourceNames::new(alloc);
     for place in 0..flow.nodes() as u32 {
-        add_source(&mut sources, flow, place)?;
+        sources = with_source(sources, flow, place)?;
     }
     Ok(sources)
 }
 
-// Adds the node at a place, if it is an input.
-fn add_source(sources: &mut SourceNames, flow: &Flow, place: u32) -> Result<(), AllocError>
+// These inputs, and the node at a place if it is one.
+fn with_source(sources: SourceNames, flow: &Flow, place: u32) -> Result<SourceNames, AllocError>
     requires there { place < length flow.now.nodes }
-    requires new { IsNone (node_of sources.old (node_at flow.now place).name) }
-    ensures { OnOk result (sources.new ≡ sources.old ++ spec.source_at flow.now place) }
+    requires new { IsNone (node_of sources (node_at flow.now place).name) }
+    ensures { IfOk result (λ more. more ≡ sources ++ spec.source_at flow.now place) }
 {
     let node = NodeId::at(place);
     if matches!(flow.kind(node), Kind::Input) {
-        sources.add(place, flow.node_name(node).as_bytes())?;
+        return sources.with(place, flow.node_name(node).as_bytes());
     }
-    Ok(())
+    Ok(sources)
 }

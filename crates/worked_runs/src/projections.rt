@@ -15,13 +15,13 @@ fn name(alloc: Global, word: &str) -> Result<Name, AllocError> {
 }
 
 // Adds the line of a loop, a node or an edge.
-fn declare(raw: &mut RawFlow, declaration: Declaration) -> Result<(), AllocError> {
+fn declare(raw: RawFlow, declaration: Declaration) -> Result<RawFlow, AllocError> {
     let declared = Declared {
         line: 1,
         declaration,
     };
-    raw.declare(declared)?;
-    Ok(())
+    let (raw, _) = raw.declare(declared)?;
+    Ok(raw)
 }
 
 // What a node does, by its name.
@@ -85,23 +85,23 @@ fn policy(kind: &RawKind) -> Policy {
 }
 
 // Declares a node; without a kind none, so that the flow is refused.
-fn node(alloc: Global, raw: &mut RawFlow, word: &str) -> Result<(), AllocError> {
+fn node(alloc: Global, raw: RawFlow, word: &str) -> Result<RawFlow, AllocError> {
     let ring = name(alloc, "ring")?;
-    if let Some(kind) = kind(word, ring) {
-        let policy = policy(&kind);
-        let name = name(alloc, word)?;
-        declare(raw, Declaration::Node { name, kind, policy })?;
-    }
-    Ok(())
+    let Some(kind) = kind(word, ring) else {
+        return Ok(raw);
+    };
+    let policy = policy(&kind);
+    let name = name(alloc, word)?;
+    declare(raw, Declaration::Node { name, kind, policy })
 }
 
 fn edge(
     alloc: Global,
-    raw: &mut RawFlow,
+    raw: RawFlow,
     word: &str,
     from: &str,
     to: &str,
-) -> Result<(), AllocError> {
+) -> Result<RawFlow, AllocError> {
     let edge = Declaration::Edge {
         name: name(alloc, word)?,
         sender: name(alloc, from)?,
@@ -128,14 +128,15 @@ numbers
 epochs
 ";
 
-fn nodes(alloc: Global, raw: &mut RawFlow) -> Result<(), AllocError> {
+fn nodes(alloc: Global, raw: RawFlow) -> Result<RawFlow, AllocError> {
+    let mut raw = raw;
     for word in NODES.lines() {
-        node(alloc, raw, word)?;
+        raw = node(alloc, raw, word)?;
     }
-    Ok(())
+    Ok(raw)
 }
 
-fn ring(alloc: Global, raw: &mut RawFlow) -> Result<(), AllocError> {
+fn ring(alloc: Global, raw: RawFlow) -> Result<RawFlow, AllocError> {
     let name = name(alloc, "ring")?;
     declare(raw, Declaration::Loop { name, max: 3 })
 }
@@ -166,21 +167,20 @@ fn row(line: &str) -> (&str, &str, &str) {
     (first, second, third)
 }
 
-fn edges(alloc: Global, raw: &mut RawFlow) -> Result<(), AllocError> {
+fn edges(alloc: Global, raw: RawFlow) -> Result<RawFlow, AllocError> {
+    let mut raw = raw;
     for line in EDGES.lines() {
         let (word, from, to) = row(line);
-        edge(alloc, raw, word, from, to)?;
+        raw = edge(alloc, raw, word, from, to)?;
     }
-    Ok(())
+    Ok(raw)
 }
 
 /// The declarations of a flow that has a node of each kind.
 pub fn every_kind(alloc: Global) -> Result<RawFlow, AllocError> {
-    let mut raw = RawFlow::new(alloc);
-    ring(alloc, &mut raw)?;
-    nodes(alloc, &mut raw)?;
-    edges(alloc, &mut raw)?;
-    Ok(raw)
+    let raw = ring(alloc, RawFlow::new(alloc))?;
+    let raw = nodes(alloc, raw)?;
+    edges(alloc, raw)
 }
 
 // The stamp of one or two numbers with a dot between them; other words spell none.
@@ -255,10 +255,10 @@ fn psi_back(alloc: Global, flow: &Flow, edge: &str, text: &str) -> Result<String
 
 // A sequence that sent two messages at epoch 0 and three at epoch 3.
 fn five_sent(alloc: Global) -> Result<SentTable, AllocError> {
-    let mut sent = SentTable::new(alloc);
-    sent.push(0, 2)?;
-    sent.push(3, 3)?;
-    Ok(sent)
+    let mut entries = Vec::new(alloc);
+    entries.push((0, 2))?;
+    entries.push((3, 3))?;
+    Ok(SentTable::new(entries))
 }
 
 // Each line: an edge, a frontier of its sender, and what of the edge comes from it. They lie within a domain, where two

@@ -1,5 +1,5 @@
 //! The complete frontiers.
-ghost use Rattle.std.specs.Prelude.{◌≡◌, ◌&&◌, ℕ, ◌<◌, ◌↔◌, length, reverse, IsTrue, IfOk};
+ghost use Rattle.std.specs.Prelude.{◌≡◌, ◌&&◌, ℕ, ◌<◌, ◌↔◌, [], length, reverse, IsTrue, IfOk};
 ghost use Rattle.fw_frontier.specs.Front.{inside, frontier_of, IsCanonical, Names};
 ghost use Rattle.fw_frontier.specs.Frontier.{Within};
 ghost use Rattle.fw_flow.specs.WellFormed.{IsWellFormed};
@@ -148,7 +148,7 @@ fn phi(
     flow.phi(alloc, edge, &front, &table)
 }
 
-/// How many messages a sequence sent, by epoch; nothing for the other kinds.
+/// How many messages a sequence sent, by epoch; nothing for the other kinds. The only error is want of memory.
 fn sent_table(
     alloc: Global,
     flow: &Flow,
@@ -157,20 +157,21 @@ fn sent_table(
     node: NodeId,
 ) -> Result<SentTable, AllocError>
     requires { AreAtNodes flow.now (reverse events.now) }
-    ensures { kind_of flow.now node ≡ Kind.Sequence → IfOk result
+    ensures sequence { kind_of flow.now node ≡ Kind.Sequence → IfOk result
         (λ table. IsSentTable (system_of flow.now batches.now) (reverse events.now) node table) }
+    ensures others { (kind_of flow.now node ≡ Kind.Sequence → ⊥) → IfOk result (λ table. table ≡ []) }
 {
-    let mut table = SentTable::new(alloc);
     if !matches!(flow.kind(node), Kind::Sequence) {
-        return Ok(table);
+        return Ok(SentTable::new(Vec::new(alloc)));
     }
+    let mut entries = Vec::new(alloc);
     for (i, event) in events.iter().enumerate() {
         if let Some(epoch) = notified_epoch(event, node) {
             let sent = sends(alloc, flow, batches, &events[..i], event)?;
-            table.push(epoch, sent.len() as u64)?;
+            entries.push((epoch, sent.len() as u64))?;
         }
     }
-    Ok(table)
+    Ok(SentTable::new(entries))
 }
 
 /// The first number of the stamp of which an event notifies the node, if it does.

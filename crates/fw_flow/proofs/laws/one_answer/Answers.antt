@@ -1,8 +1,11 @@
-use Rattle.fw_flow.proofs.Checks.{checked_or_refused, one_refusal}
+use Rattle.fw_flow.proofs.Checks.{checked_or_refused, one_value, one_refusal}
 use Rattle.fw_flow.proofs.laws.one_answer.Goals as goal
 
 pub returns-clause-exclusive : goal.returns-clause-exclusive
 returns-clause-exclusive c = checked_or_refused
+
+pub returns-clause-one_value : goal.returns-clause-one_value
+returns-clause-one_value c = one_value
 
 pub returns-clause-one_refusal : goal.returns-clause-one_refusal
 returns-clause-one_refusal c = one_refusal

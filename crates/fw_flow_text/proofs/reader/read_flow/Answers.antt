@@ -10,14 +10,14 @@ loop-place-preserved c =
     let text = c.args.text.now in
     record {
       within = c.in_ok-line.ensures.next;
-      read = read_more (said_lines text) (left text c.loop-place.place) (left text c.in_ok-line.next) (said_in text c.in_ok-line.line) c.loop-place.raw c.read_line.new.raw c.loop-place.invariant.read (ap (left text) c.in-Some.is ∙ c.in_ok-line.ensures.line) c.in_ok-read_line.ensures.sound c.in_ok-read_line.ensures.value;
+      read = read_more (said_lines text) (left text c.loop-place.place) (left text c.in_ok-line.next) (said_in text c.in_ok-line.line) c.loop-place.raw c.in_ok-raw.raw c.loop-place.invariant.read (ap (left text) c.in-Some.is ∙ c.in_ok-line.ensures.line) c.in_ok-raw.ensures.sound c.in_ok-raw.ensures.value;
     }
 
-pub returns-in_err-read_line : goal.returns-in_err-read_line
-returns-in_err-read_line c =
+pub returns-in_err-raw : goal.returns-in_err-raw
+returns-in_err-raw c =
     let text = c.args.text.now in
-    let p = err_from_is_err_and c.from_residual-in_err-read_line.result c.from_residual-in_err-read_line.ensures.1 in
-    rw (p.1, p.2) (if_refused-weaker _ _ c.in_err-read_line.field-0.0 c.in_err-read_line.ensures.broken (λ refusal h. inr (inl (c.if-text-gt-SIZE_LIMIT.false, read_broken (said_lines text) (left text c.loop-place.place) (left text c.in_ok-line.next) (said_in text c.in_ok-line.line) c.loop-place.raw refusal c.loop-place.invariant.read (ap (left text) c.in-Some.is ∙ c.in_ok-line.ensures.line) h.0 h.1))))
+    let p = err_from_is_err_and c.from_residual-in_err-raw.result c.from_residual-in_err-raw.ensures.1 in
+    rw (p.1, p.2) (if_refused-weaker _ _ c.in_err-raw.field-0.0 c.in_err-raw.ensures.broken (λ refusal h. inr (inl (c.if-text-gt-SIZE_LIMIT.false, read_broken (said_lines text) (left text c.loop-place.place) (left text c.in_ok-line.next) (said_in text c.in_ok-line.line) c.loop-place.raw refusal c.loop-place.invariant.read (ap (left text) c.in-Some.is ∙ c.in_ok-line.ensures.line) h.0 h.1))))
 
 pub returns : goal.returns
 returns c =

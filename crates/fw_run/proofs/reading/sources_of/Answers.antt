@@ -6,8 +6,8 @@ use Rattle.fw_run.proofs.SourceLaws.{name_is_new, sources_more}
 use Rattle.fw_run.specs.Texts.{source_at}
 use Rattle.fw_run.proofs.reading.sources_of.Goals as goal
 
-pub add_source-requires-clause-new : goal.add_source-requires-clause-new
-add_source-requires-clause-new c =
+pub with_source-requires-clause-new : goal.with_source-requires-clause-new
+with_source-requires-clause-new c =
     let flow = c.args.flow.now in
     let place = c.loop-place.place in
     subst (λ t. IsNone (node_of t (node_at flow place).name)) (sym c.loop-place.invariant) (name_is_new flow place c.requires (omega (arith, c.loop-place-test.true, c.nodes-place-end.ensures.count)))
@@ -16,4 +16,4 @@ pub loop-place-preserved : goal.loop-place-preserved
 loop-place-preserved c =
     let flow = c.args.flow.now in
     let place = c.loop-place.place in
-    c.in_ok-add_source.ensures ∙ ap (λ t. t ++ source_at flow place) c.loop-place.invariant ∙ sym (sources_more flow place)
+    c.in_ok-with_source.ensures ∙ ap (λ t. t ++ source_at flow place) c.loop-place.invariant ∙ sym (sources_more flow place)

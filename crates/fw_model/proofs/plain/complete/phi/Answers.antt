@@ -17,4 +17,4 @@ returns c =
     let h = reverse c.args.events.now in
     IfOk-weaker c.phi.result _ _
     (λ g n. phi_at sys h c.args.edge c.src-sender.result c.args.fronts.now c.in_ok-front.front g c.src-sender.ensures c.in_ok-front.ensures n)
-    (c.phi.ensures.after_history sys h refl (subst (λ q. kind_of flow q ≡ Sequence → IsSentTable sys h q c.in_ok-table.table) c.src-sender.ensures c.in_ok-table.ensures))
+    (c.phi.ensures.after_history sys h refl (subst (λ q. kind_of flow q ≡ Sequence → IsSentTable sys h q c.in_ok-table.table) c.src-sender.ensures c.in_ok-table.ensures.sequence))

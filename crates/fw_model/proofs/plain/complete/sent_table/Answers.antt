@@ -11,10 +11,10 @@ pub loop-i-preserved : goal.loop-i-preserved
 loop-i-preserved c = elim c.match-notified_epoch.branch [
   | in-Some+in_ok-sent+in_ok-push w ↦
       table_more (system_of c.args.flow.now c.args.batches.now) c.args.node c.args.events.now c.loop-i.i c.index-events-i.result w.in-Some.epoch w.in_ok-sent.sent.items
-      c.loop-i.table c.match-notified_epoch.table c.requires c.loop-i-test.true c.index-events-i.is (sym w.in-Some.is ∙ c.notified_epoch.ensures) w.in_ok-sent.ensures
-      (w.table-is ∙ w.in_ok-push.ensures ∙ ap (λ n. c.loop-i.table ++ (w.in-Some.epoch, n) ∷ []) (w.len.ensures ∙ omega arith)) c.loop-i.invariant
+      c.loop-i.entries.items c.match-notified_epoch.entries.items c.requires c.loop-i-test.true c.index-events-i.is (sym w.in-Some.is ∙ c.notified_epoch.ensures) w.in_ok-sent.ensures
+      (ap (λ v. v.items) w.entries-is ∙ w.in_ok-push.ensures.items ∙ ap (λ n. c.loop-i.entries.items ++ (w.in-Some.epoch, n) ∷ []) (w.len.ensures ∙ omega arith)) c.loop-i.invariant
   | in_default-notified_epoch w ↦
       table_same (system_of c.args.flow.now c.args.batches.now) c.args.node c.args.events.now c.loop-i.i c.index-events-i.result
-      c.loop-i.table c.match-notified_epoch.table c.requires c.loop-i-test.true c.index-events-i.is (sym w.in_default-notified_epoch.is ∙ c.notified_epoch.ensures)
-      w.table-is c.loop-i.invariant
+      c.loop-i.entries.items c.match-notified_epoch.entries.items c.requires c.loop-i-test.true c.index-events-i.is (sym w.in_default-notified_epoch.is ∙ c.notified_epoch.ensures)
+      (ap (λ v. v.items) w.entries-is) c.loop-i.invariant
 ]

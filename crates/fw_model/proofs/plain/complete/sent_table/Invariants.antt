@@ -8,4 +8,4 @@ use Rattle.fw_model.proofs.plain.complete.sent_table.Given as goal
 abbrev pub invariant-loop-i : goal.invariant-loop-i
 invariant-loop-i l =
     kind_of l.flow l.node ≡ Sequence
-    → IsSentTable (system_of l.flow l.batches) (reverse (take l.i l.events)) l.node l.table
+    → IsSentTable (system_of l.flow l.batches) (reverse (take l.i l.events)) l.node l.entries.items

@@ -42,7 +42,7 @@ abbrev pub PhiIgnoresHistory : Type 0
 PhiIgnoresHistory = (sys : System) (h other : List Event) (e : ℕ) (f : Frontier) (u : Stamp)
     → is_sequence_kind (kind_of sys.flow (sender sys.flow e)) ≡ false → phi sys h e f u ≡ phi sys other e f u
 
--- phi of what is inside both of two frontiers is what is inside both of their phis
+-- phi of what is inside both of two frontiers of the sender is what is inside both of their phis
 abbrev pub PhiOfMeet : Type 0
 PhiOfMeet = (sys : System) (h : List Event) (e : ℕ) (f g : Frontier) → IsSenderFrontier sys.flow e f
     → IsSenderFrontier sys.flow e g → (u : Stamp) → phi sys h e (meet f g) u ≡ meet (phi sys h e f) (phi sys h e g) u

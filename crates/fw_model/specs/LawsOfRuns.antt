@@ -20,7 +20,7 @@ is_recovery step = false
 abbrev pub HaveNoRecovery : List Step → Type 0
 HaveNoRecovery steps = AllByRecursion (λ step. is_recovery step ≡ false) steps
 
--- the history of each state to which steps lead from the first one is legal
+-- the history of each state to which steps without a recovery lead from the first one is legal
 abbrev pub RunsStayLegal : Type 0
 RunsStayLegal = (sys : System) (steps : List Step) (outcomes : List Outcome) (last : Machine) → HaveNoRecovery steps
     → Run sys (first_state sys) steps outcomes last → IsLegal sys (events last.history)
@@ -38,7 +38,8 @@ abbrev pub IsDenoted : System → Family → Outcome → Type 0
 IsDenoted sys family (did effect) = IsDenotedEffect sys family effect
 IsDenoted sys family idle = Unit {0}
 
--- each acknowledgement of a run shows the denotation
+-- each acknowledgement of a run of a well-formed system without a recovery shows the denotation of the output's in-edge at
+-- its stamp
 abbrev pub AcknowledgementsShowDenotation : Type 0
 AcknowledgementsShowDenotation = (sys : System) (family : Family) → IsWellFormedSystem sys
     → IsDenotation sys family → (steps : List Step) (outcomes : List Outcome) (last : Machine) → HaveNoRecovery steps

@@ -1,5 +1,5 @@
 -- Laws of runs: what holds of each state to which steps lead from the first one, and of what they show.
-use Rattle.std.specs.Prelude.{◌≡◌, ℕ, ◌<◌, Bool, true, false, ◌==◌, List, [], ◌∷◌, length, map, if◌then◌else◌}
+use Rattle.std.specs.Prelude.{◌≡◌, ℕ, ◌<◌, Bool, true, false, ◌==◌, List, [], ◌∷◌, ◌++◌, length, map, if◌then◌else◌}
 use Rattle.std.specs.List.{AllByRecursion, flat_map, range_with_len}
 use Rattle.fw_time.specs.Stamp.{Stamp}
 use Rattle.fw_flow.specs.declared.step.Step.{Step}
@@ -10,6 +10,11 @@ use Rattle.fw_model.specs.Denotation.{Family, IsDenotation, bag_at}
 use Rattle.fw_model.specs.History.{IsLegal}
 use Rattle.fw_model.specs.Machine.{Machine, events, first_state, bound_of}
 use Rattle.fw_model.specs.Steps.{Effect, quiet, acked, cuts, lows, Outcome, did, idle, Run}
+
+-- a run that goes on where another ended is one run with it, from whatever state
+abbrev pub RunsGoOn : Type 0
+RunsGoOn = (sys : System) (state between last : Machine) (steps more : List Step) (outcomes also : List Outcome)
+    → Run sys state steps outcomes between → Run sys between more also last → Run sys state (steps ++ more) (outcomes ++ also) last
 
 -- whether the step is a recovery
 abbrev pub is_recovery : Step → Bool

@@ -83,7 +83,8 @@ PsiBackIsLargest = (sys : System) (e : ℕ) (g : Frontier)
     → IsSenderFrontier sys.flow e (psi_back sys e g)
     × ((f : Frontier) → IsSenderFrontier sys.flow e f → Within (psi sys e f) g ↔ Within f (psi_back sys e g))
 
--- each message that an event makes a node send, but for a sequence, is at the send stamp of the event, its one cause
+-- each message that an event makes a node send that is no sequence is at the send stamp of the event, and its one cause is
+-- the event's stamp
 abbrev pub SendsAtSendStamp : Type 0
 SendsAtSendStamp = (sys : System) (p : ℕ) → is_sequence_kind (kind_of sys.flow p) ≡ false
     → (before : List Event) (v : Event)

@@ -19,14 +19,7 @@ use Rattle.fw_model.proofs.CheckpointLaws.{each-mapped, each-passed, each-replac
 use Rattle.fw_model.proofs.ChoosingLaws.{settled_writes}
 use Rattle.fw_model.proofs.AskedLaws.{IsReached, took-reached, first-reached}
 use Rattle.fw_model.proofs.RestoringLaws.{same-each, took-true}
-
--- a run and a step after it are a run
-run-longer : (sys : System) (steps : List Step) (outcomes : List Outcome) (state last : Machine) (step : Step) (next : Machine) (outcome : Outcome)
-    → Run sys state steps outcomes last → Steps sys last step next outcome → Run sys state (steps ++ step ∷ []) (outcomes ++ outcome ∷ []) next
-run-longer sys [] [] state last step next outcome r t = (next, subst (λ (m : Machine). Steps sys m step next outcome) r t, refl)
-run-longer sys [] (o ∷ os) state last step next outcome r t = absurd r
-run-longer sys (s ∷ ss) [] state last step next outcome r t = absurd r
-run-longer sys (s ∷ ss) (o ∷ os) state last step next outcome r t = (r.0, r.1, run-longer sys ss os r.0 last step next outcome r.2 t)
+use Rattle.fw_model.proofs.GoingOn.{runs-go_on}
 
 counts-on : (sys : System) (one two three : Machine) (p : ℕ) (f : Front) → CountsTheSame sys one two p f → CountsTheSame sys two three p f → CountsTheSame sys one three p f
 counts-on sys one two three p f a b = record {
@@ -118,7 +111,7 @@ asked-on sys steps outcomes state r step next outcome t p (checkpoint f low) (in
   run = a.run;
   more = a.more ++ step ∷ [];
   also = a.also ++ outcome ∷ [];
-  on = run-longer sys a.more a.also a.asked state step next outcome a.on t;
+  on = runs-go_on sys a.asked state next a.more (step ∷ []) a.also (outcome ∷ []) a.on (next, t, refl);
   settled = a.settled;
   watermark = a.watermark;
   same = counts-on sys a.asked state next p f a.same c;
@@ -127,7 +120,7 @@ asked-on sys steps outcomes state r step next outcome t p (checkpoint f low) (in
   steps = steps ++ step ∷ [];
   outcomes = outcomes ++ outcome ∷ [];
   asked = next;
-  run = run-longer sys steps outcomes (first_state sys) state step next outcome r t;
+  run = runs-go_on sys (first_state sys) state next steps (step ∷ []) outcomes (outcome ∷ []) r (next, t, refl);
   more = [];
   also = [];
   on = refl;
@@ -158,7 +151,7 @@ run-as_asked sys w before seen [] (o ∷ os) state last p f a r = absurd r
 run-as_asked sys w before seen (s ∷ ss) [] state last p f a r = absurd r
 run-as_asked sys w before seen (s ∷ ss) (did effect ∷ os) state last p f a r =
     let g = took-reached sys w state s r.0 effect f r.1 in
-    run-as_asked sys w (before ++ s ∷ []) (seen ++ did effect ∷ []) ss os r.0 last (run-longer sys before seen (first_state sys) state s r.0 (did effect) p r.1) g
+    run-as_asked sys w (before ++ s ∷ []) (seen ++ did effect ∷ []) ss os r.0 last (runs-go_on sys (first_state sys) state r.0 before (s ∷ []) seen (did effect ∷ []) p (r.0, r.1, refl)) g
     (took-as_asked sys w before seen state p f s r.0 effect r.1 g a) r.2
 run-as_asked sys w before seen (s ∷ ss) (idle ∷ os) state last p f a r =
     run-as_asked sys w before seen ss os r.0 last (subst (Run sys (first_state sys) before seen) (sym r.1.1) p) (subst (IsReached sys) (sym r.1.1) f)

@@ -26,6 +26,7 @@ pub mod FilteredLaws
 pub mod ForgottenLaws
 pub mod FrontLaws
 pub mod FrontierLaws
+pub mod GoingOn
 pub mod InputLaws
 pub mod JoinLaws
 pub mod KeptLaws

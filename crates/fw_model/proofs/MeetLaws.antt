@@ -81,10 +81,10 @@ phi_of_kind-meet sys (Leave l) count mono f g ff fg u j k = each_counter-meet f 
 phi_of_kind-meet sys Sequence count mono f g ff fg u j k = elim (one_within greatest_number f g ff fg) [
   | inl w ↦
       let v : Within f (meet f g) = λ t i. and_from (f t) (g t) i (w t i) in
-      phi_of_kind-monotone sys Sequence (count f) (count (meet f g)) f (meet f g) v (mono f (meet f g) v) u j
+      phi_of_kind-monotone (greatest_of_kind sys.flow Sequence) Sequence (count f) (count (meet f g)) f (meet f g) v (mono f (meet f g) v) u j
   | inr w ↦
       let v : Within g (meet f g) = λ t i. and_from (f t) (g t) (w t i) i in
-      phi_of_kind-monotone sys Sequence (count g) (count (meet f g)) g (meet f g) v (mono g (meet f g) v) u k
+      phi_of_kind-monotone (greatest_of_kind sys.flow Sequence) Sequence (count g) (count (meet f g)) g (meet f g) v (mono g (meet f g) v) u k
 ]
 phi_of_kind-meet sys (Regroup r) count mono f g ff fg u j k = and_from _ _ j k
 phi_of_kind-meet sys kind count mono f g ff fg u j k = and_from (f u) (g u) j k

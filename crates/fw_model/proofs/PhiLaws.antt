@@ -7,14 +7,14 @@ use Rattle.fw_flow.specs.declared.event.Event.{Event}
 use Rattle.fw_flow.specs.declared.event.Message.{Message}
 use Rattle.fw_flow.specs.declared.kind.Kind.{Kind}
 use Rattle.fw_flow.specs.declared.kind.Kind.TheVariants.{Enter, Feedback, Leave, Sequence, Regroup}
-use Rattle.fw_flow.specs.Dataflow.{greatest_of_kind, System, kind_of, sender, max_of, greatest_number, out_domain_of_kind, bounds_of_domain}
+use Rattle.fw_flow.specs.Dataflow.{greatest_of_kind, System, kind_of, sender, out_domain_of_kind, bounds_of_domain}
 use Rattle.fw_flow.specs.NodeFunction.{place, sent_by, sends}
-use Rattle.fw_flow.specs.Projection.{events_at, all_inside, count_from, sent_count, number_of, each_counter, phi_of_kind, phi}
-use Rattle.fw_model.specs.LawsOfProjections.{PhiIsMonotone, PhiGrowsWithHistory}
+use Rattle.fw_flow.specs.Projection.{events_at, all_inside, count_from, sent_count, number_of, each_counter, phi_of_kind, phi, phi_by_count}
+use Rattle.fw_model.specs.LawsOfProjections.{PhiByCountIsMonotone, PhiIsMonotone, PhiGrowsWithHistory}
 
 -- ---- counts of messages
 
-all_inside-monotone : (f g : Frontier) → Within f g → (cs : List Stamp) → all_inside f cs ≡ true → all_inside g cs ≡ true
+pub all_inside-monotone : (f g : Frontier) → Within f g → (cs : List Stamp) → all_inside f cs ≡ true → all_inside g cs ≡ true
 all_inside-monotone f g w [] k = refl
 all_inside-monotone f g w (c ∷ cs) k =
     let a = and_parts (f c) (all_inside f cs) k in
@@ -65,28 +65,33 @@ sequence_phi-monotone : (a b : Bool) (u m n : ℕ) → (a ≡ true → b ≡ tru
 sequence_phi-monotone true b u m n w l k = or_left b (nat_lt u n) (w refl)
 sequence_phi-monotone false b u m n w l k = let a = ltb-true u m k in or_right b (nat_lt u n) (lt-ltb u n (omega arith))
 
-pub phi_of_kind-monotone : (sys : System) (kind : Kind) (m n : ℕ) (f g : Frontier) → Within f g → m ≤ n → (u : Stamp) → phi_of_kind (greatest_of_kind sys.flow kind) kind m f u ≡ true → phi_of_kind (greatest_of_kind sys.flow kind) kind n g u ≡ true
-phi_of_kind-monotone sys (Enter l) m n f g w c u k = w (outer u) k
-phi_of_kind-monotone sys (Feedback l) m n f g w c u k = or_monotone (counter u == 0) _ _ (w (nest (outer u) (counter u - 1))) k
-phi_of_kind-monotone sys (Leave l) m n f g w c u k = each_counter-monotone f g w u (max_of sys.flow l) k
-phi_of_kind-monotone sys Sequence m n f g w c u k = sequence_phi-monotone _ _ (number_of u) m n (w (greatest_number ∷ [])) c k
-phi_of_kind-monotone sys (Regroup r) m n f g w c u k = w _ k
-phi_of_kind-monotone sys kind m n f g w c u k = w u k
+pub phi_of_kind-monotone : (greatest : Stamp) (kind : Kind) (m n : ℕ) (f g : Frontier) → Within f g → m ≤ n → (u : Stamp) → phi_of_kind greatest kind m f u ≡ true → phi_of_kind greatest kind n g u ≡ true
+phi_of_kind-monotone greatest (Enter l) m n f g w c u k = w (outer u) k
+phi_of_kind-monotone greatest (Feedback l) m n f g w c u k = or_monotone (counter u == 0) _ _ (w (nest (outer u) (counter u - 1))) k
+phi_of_kind-monotone greatest (Leave l) m n f g w c u k = each_counter-monotone f g w u (counter greatest) k
+phi_of_kind-monotone greatest Sequence m n f g w c u k = sequence_phi-monotone _ _ (number_of u) m n (w greatest) c k
+phi_of_kind-monotone greatest (Regroup r) m n f g w c u k = w _ k
+phi_of_kind-monotone greatest kind m n f g w c u k = w u k
+
+pub phi_by_count-monotone : PhiByCountIsMonotone
+unfolding phi_by_count
+phi_by_count-monotone flow m n e f g w l u k =
+    let kind = kind_of flow (sender flow e) in
+    let i = in_domain (bounds_of_domain flow (out_domain_of_kind flow kind)) u in
+    let a = and_parts i (phi_of_kind (greatest_of_kind flow kind) kind m f u) k in
+    and_from i (phi_of_kind (greatest_of_kind flow kind) kind n g u) a.0
+    (phi_of_kind-monotone (greatest_of_kind flow kind) kind m n f g w l u a.1)
 
 pub phi-monotone : PhiIsMonotone
-unfolding phi
-phi-monotone sys h e f g w u k =
+unfolding phi phi_by_count
+phi-monotone sys h e f g w =
     let p = sender sys.flow e in
-    let i = in_domain (bounds_of_domain sys.flow (out_domain_of_kind sys.flow (kind_of sys.flow p))) u in
-    let a = and_parts i (phi_of_kind (greatest_of_kind sys.flow (kind_of sys.flow p)) (kind_of sys.flow p) (sent_count sys h p f) f u) k in
-    and_from i (phi_of_kind (greatest_of_kind sys.flow (kind_of sys.flow p)) (kind_of sys.flow p) (sent_count sys h p g) g u) a.0
-    (phi_of_kind-monotone sys (kind_of sys.flow p) _ _ f g w (count-monotone f g w (sent_by sys p (events_at sys.flow p h))) u a.1)
+    phi_by_count-monotone sys.flow (sent_count sys h p f) (sent_count sys h p g) e f g w
+    (count-monotone f g w (sent_by sys p (events_at sys.flow p h)))
 
 pub phi-longer : PhiGrowsWithHistory
-unfolding phi
-phi-longer sys h more e f u k =
+unfolding phi phi_by_count
+phi-longer sys h more e f =
     let p = sender sys.flow e in
-    let i = in_domain (bounds_of_domain sys.flow (out_domain_of_kind sys.flow (kind_of sys.flow p))) u in
-    let a = and_parts i (phi_of_kind (greatest_of_kind sys.flow (kind_of sys.flow p)) (kind_of sys.flow p) (sent_count sys h p f) f u) k in
-    and_from i (phi_of_kind (greatest_of_kind sys.flow (kind_of sys.flow p)) (kind_of sys.flow p) (sent_count sys (more ++ h) p f) f u) a.0
-    (phi_of_kind-monotone sys (kind_of sys.flow p) _ _ f f (λ t q. q) (sent_count-longer sys h more p f) u a.1)
+    phi_by_count-monotone sys.flow (sent_count sys h p f) (sent_count sys (more ++ h) p f) e f f (λ t q. q)
+    (sent_count-longer sys h more p f)

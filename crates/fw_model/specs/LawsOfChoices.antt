@@ -69,7 +69,7 @@ DiscardedOfUnion = (sys : System) (state : Machine) (e : ℕ) (one other union :
     → Within (discarded_cover sys state (sender sys.flow e) e union)
     (join (discarded_cover sys state (sender sys.flow e) e one) (discarded_cover sys state (sender sys.flow e) e other))
 
--- the union of two consistent choices of the restore candidates is consistent, where it is offered
+-- the union of two consistent choices of the restore candidates is consistent, where each of its cuts is offered
 abbrev pub UnionOfConsistentIsConsistent : Type 0
 UnionOfConsistentIsConsistent = (sys : System) (state : Machine) (lost : ℕ → Bool) (view : View) (one other union : Choice)
     → IsConsistent sys state (IsCandidate sys state lost view) one

@@ -20,52 +20,56 @@ use Rattle.fw_model.specs.LawsOfSteps.{CanChoose, IsTheNext}
 abbrev pub low_choice : Machine → List Front → Choice
 low_choice state notes = record { cuts = map (λ f. At f) state.low; notes = notes }
 
--- in each state to which steps lead from the first one, the low watermark is a consistent choice with some notification
--- frontiers, whichever nodes count as failed, with what was collected and without it
+-- in each state to which steps of a well-formed system lead from the first one, the low watermark is a consistent choice
+-- with some notification frontiers, whichever nodes count as failed, with what was collected and without it
 abbrev pub LowWatermarkIsConsistent : Type 0
 LowWatermarkIsConsistent = (sys : System) → IsWellFormedSystem sys → (steps : List Step) (outcomes : List Outcome) (last : Machine)
     → Run sys (first_state sys) steps outcomes last
     → (notes : List Front) × ((lost : ℕ → Bool) (view : View) → IsConsistent sys last (IsCandidate sys last lost view) (low_choice last notes))
 
--- in each state to which steps lead from the first one, the checkpoints of each node are a chain
+-- in each state to which steps of a well-formed system lead from the first one, the checkpoints of each node are a chain
 abbrev pub CheckpointsAreChains : Type 0
 CheckpointsAreChains = (sys : System) → IsWellFormedSystem sys → (steps : List Step) (outcomes : List Outcome) (last : Machine)
     → Run sys (first_state sys) steps outcomes last → (lost : ℕ → Bool) (view : View) → AreCheckpointsChains sys last lost view
 
--- in each state to which steps lead from the first one, a recovery has something to choose, whichever nodes count as failed
+-- in each state to which steps of a well-formed system lead from the first one, a recovery has something to choose,
+-- whichever nodes count as failed
 abbrev pub RecoveryHasAChoice : Type 0
 RecoveryHasAChoice = (sys : System) → IsWellFormedSystem sys → (steps : List Step) (outcomes : List Outcome) (last : Machine)
     → Run sys (first_state sys) steps outcomes last → (lost : ℕ → Bool) → CanChoose sys last lost
 
--- in each state to which steps lead from the first one, a recovery is enabled if a declared node is failed, and shows a choice
+-- in each state to which steps of a well-formed system lead from the first one, a recovery is enabled if a declared node is
+-- failed, and shows a choice
 abbrev pub FailedNodesAreRecovered : Type 0
 FailedNodesAreRecovered = (sys : System) → IsWellFormedSystem sys → (steps : List Step) (outcomes : List Outcome) (last : Machine)
     → Run sys (first_state sys) steps outcomes last
     → (p : ℕ) → p < length sys.flow.nodes → is_failed last p ≡ true
     → (next : Machine) × (choice : Choice) × Steps sys last Recover next (did (cuts choice))
 
--- from each state to which steps lead from the first one, each step leads to exactly one next state, with one outcome
+-- from each state to which steps of a well-formed system lead from the first one, each step leads to exactly one next
+-- state, with one outcome
 abbrev pub ReachedStatesHaveOneNextState : Type 0
 ReachedStatesHaveOneNextState = (sys : System) → IsWellFormedSystem sys → (steps : List Step) (outcomes : List Outcome) (last : Machine)
     → Run sys (first_state sys) steps outcomes last → (step : Step)
     → (next : Machine) × (outcome : Outcome) × IsTheNext sys last step next outcome
 
--- in each state to which steps lead from the first one, each largest choice contains the low watermark
+-- in each state to which steps of a well-formed system lead from the first one, each largest choice contains the low
+-- watermark
 abbrev pub LargestChoiceHoldsLowWatermark : Type 0
 LargestChoiceHoldsLowWatermark = (sys : System) → IsWellFormedSystem sys → (steps : List Step) (outcomes : List Outcome) (last : Machine)
     → Run sys (first_state sys) steps outcomes last → (lost : ℕ → Bool) (view : View) (choice : Choice)
     → IsLargest sys last (IsCandidate sys last lost view) choice
     → (p : ℕ) → p < length sys.flow.nodes → IsCutWithin sys p (At (front_of last.low p)) (cut_of choice p)
 
--- a step from a state to which steps lead from the first one lowers the low watermark at no node
+-- a step from a state to which steps of a well-formed system lead from the first one lowers the low watermark at no node
 abbrev pub LowWatermarkNeverFalls : Type 0
 LowWatermarkNeverFalls = (sys : System) → IsWellFormedSystem sys → (steps : List Step) (outcomes : List Outcome) (last : Machine)
     → Run sys (first_state sys) steps outcomes last → (step : Step) (next : Machine) (outcome : Outcome) → Steps sys last step next outcome
     → (p : ℕ) → p < length sys.flow.nodes
     → Within (frontier_of (bounds_of sys.flow p) (front_of last.low p)) (frontier_of (bounds_of sys.flow p) (front_of next.low p))
 
--- in each state to which steps lead from the first one, the largest choice among what is kept is the largest also with what
--- was collected, whichever nodes count as failed
+-- in each state to which steps of a well-formed system lead from the first one, the largest choice among what is kept is
+-- the largest also with what was collected, whichever nodes count as failed
 abbrev pub LargestOfKeptIsLargestOfEver : Type 0
 LargestOfKeptIsLargestOfEver = (sys : System) → IsWellFormedSystem sys → (steps : List Step) (outcomes : List Outcome) (last : Machine)
     → Run sys (first_state sys) steps outcomes last → (lost : ℕ → Bool) (choice : Choice)
@@ -76,7 +80,7 @@ abbrev pub Shows : ℕ → Stamp → List Rec → List Outcome → Type 0
 Shows o t recs [] = ⊥
 Shows o t recs (outcome ∷ outcomes) = (outcome ≡ did (acked o t recs)) ⊎ Shows o t recs outcomes
 
--- two runs of one system that acknowledge an output at a stamp show the same recs there
+-- two runs of one well-formed system that acknowledge an output at a stamp show the same recs there
 abbrev pub TwoRunsShowOneBag : Type 0
 TwoRunsShowOneBag = (sys : System) → IsWellFormedSystem sys → (steps others : List Step) (outcomes also : List Outcome) (last final : Machine)
     → Run sys (first_state sys) steps outcomes last → Run sys (first_state sys) others also final

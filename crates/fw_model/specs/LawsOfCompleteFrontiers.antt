@@ -11,22 +11,25 @@ use Rattle.fw_model.specs.LawsOfLegalHistories.{HasEpochs}
 use Rattle.fw_model.specs.LawsOfProjections.{IsSenderFrontier}
 use Rattle.fw_model.specs.LawsOfSending.{ComesFromInside, IsNotifiedInOrder}
 
--- an enabled event is outside each admissible family: nothing comes where all has come
+-- after any history, legal or not, an enabled event is outside each admissible family: nothing comes where all has come
 abbrev pub EnabledIsOutside : Type 0
 EnabledIsOutside = (sys : System) (h : List Event) (done : ℕ → Frontier) → IsAdmissible sys h done
     → (v : Event) → IsEnabled sys h v → done (place sys.flow v) (stamp v) ≡ false
 
--- an enabled event leaves each admissible family admissible: it lowers no complete frontier
+-- after a legal history of a well-formed flow with epochs an enabled event leaves each admissible family admissible: it
+-- lowers no complete frontier
 abbrev pub AdmissibleStaysAdmissible : Type 0
 AdmissibleStaysAdmissible = (sys : System) (h : List Event) → IsWellFormed sys.flow → HasEpochs sys → IsLegal sys h
     → (done : ℕ → Frontier) → IsAdmissible sys h done → (v : Event) → IsEnabled sys h v → IsAdmissible sys (v ∷ h) done
 
--- in a legal history each sequence injects nothing and is notified of each stamp after the lesser ones
+-- in a legal history of a well-formed flow with epochs each sequence injects nothing and is notified of each stamp after
+-- the lesser ones
 abbrev pub SequencesAreNotifiedInOrder : Type 0
 SequencesAreNotifiedInOrder = (sys : System) (h : List Event) → IsWellFormed sys.flow → HasEpochs sys → IsLegal sys h
     → (p : ℕ) → kind_of sys.flow p ≡ Sequence → IsNotifiedInOrder sys.flow h p
 
--- in a legal history each message on an edge at a stamp inside phi comes from events inside
+-- in a legal history of a well-formed flow with epochs each message on an edge at a stamp inside phi of a frontier of the
+-- sender comes from events inside
 abbrev pub LegalInsidePhiComesFromInside : Type 0
 LegalInsidePhiComesFromInside = (sys : System) (h : List Event) → IsWellFormed sys.flow → HasEpochs sys
     → IsLegal sys h → (e : ℕ) (f : Frontier) → IsSenderFrontier sys.flow e f → ComesFromInside sys h e f

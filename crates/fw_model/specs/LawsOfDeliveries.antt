@@ -27,18 +27,20 @@ pub record IsClosedFor (sys : System) (h : List Event) (p : ℕ) (t : Stamp) : T
   pub complete : (done : ℕ → Frontier) × IsAdmissible sys h done
       × ((d : ℕ) → receiver sys.flow d ≡ p → phi sys h d (done (sender sys.flow d)) t ≡ true)
 
--- a stamp that is closed for a node stays closed as the history goes on
+-- a stamp that is closed for a node of a well-formed flow with epochs stays closed as the history goes on legally
 abbrev pub ClosedStampsStayClosed : Type 0
 ClosedStampsStayClosed = (sys : System) (h : List Event) → IsWellFormed sys.flow → HasEpochs sys
     → (p : ℕ) (t : Stamp) → IsClosedFor sys h p t → (more : List Event) → IsLegal sys (more ++ h) → IsClosedFor sys (more ++ h) p t
 
--- up to a stamp that is closed for a node, what was delivered to the node stays as it is while the history goes on
+-- in a well-formed flow with epochs, what was delivered to a node up to a stamp that is closed for it stays as it is while
+-- the history goes on legally
 abbrev pub DeliveredUpToClosedIsFinal : Type 0
 DeliveredUpToClosedIsFinal = (sys : System) (h : List Event) → IsWellFormed sys.flow → HasEpochs sys
     → (p : ℕ) (t : Stamp) → IsClosedFor sys h p t → (more : List Event) → IsLegal sys (more ++ h)
     → (e : ℕ) → receiver sys.flow e ≡ p → (s : Stamp) → leq s t ≡ true → recs_at s (delivered (more ++ h) e) ≡ recs_at s (delivered h e)
 
--- after a notification of a node no event of the node is at its stamp or a lesser one
+-- in a legal history of a well-formed flow with epochs no event of a node after a notification of it is at the stamp of the
+-- notification or a lesser one
 abbrev pub NotificationsComeLast : Type 0
 NotificationsComeLast = (sys : System) (h : List Event) → IsWellFormed sys.flow → HasEpochs sys
     → (p : ℕ) (t : Stamp) (more : List Event) → IsLegal sys (more ++ Notify p t ∷ h)
@@ -54,37 +56,43 @@ abbrev pub NumberedDeliveriesAscend : Type 0
 NumberedDeliveriesAscend = (sys : System) (h : List Event) → IsLegal sys h
     → (e : ℕ) → is_numbered sys.flow e ≡ true → AreNumberedInOrder (delivered h e)
 
--- inside phi of an admissible family, what was sent on an edge is what the denotation has there
+-- in a legal history of a well-formed system, what was sent on an edge inside phi of an admissible family is what the
+-- denotation has there
 abbrev pub SentInsidePhiIsDenoted : Type 0
 SentInsidePhiIsDenoted = (sys : System) (h : List Event) (family : Family) → IsWellFormedSystem sys
     → IsLegal sys h → IsDenotation sys family → (done : ℕ → Frontier) → IsAdmissible sys h done
     → (e : ℕ) (t : Stamp) → phi sys h e (done (sender sys.flow e)) t ≡ true → sorted (recs_at t (sent sys h e)) ≡ bag_at family e t
 
--- inside an admissible family, what was delivered on an edge is what the denotation has there
+-- in a legal history of a well-formed system, what was delivered on an edge inside an admissible family is what the
+-- denotation has there
 abbrev pub DeliveredInsideCompleteIsDenoted : Type 0
 DeliveredInsideCompleteIsDenoted = (sys : System) (h : List Event) (family : Family) → IsWellFormedSystem sys
     → IsLegal sys h → IsDenotation sys family → (done : ℕ → Frontier) → IsAdmissible sys h done
     → (e : ℕ) (t : Stamp) → done (receiver sys.flow e) t ≡ true → sorted (recs_at t (delivered h e)) ≡ bag_at family e t
 
--- up to a stamp that is closed for a node, what was delivered to the node is what the denotation has
+-- in a legal history of a well-formed system, what was delivered to a node on each in-edge up to a stamp that is closed for
+-- it is what the denotation has there
 abbrev pub DeliveredUpToClosedIsDenoted : Type 0
 DeliveredUpToClosedIsDenoted = (sys : System) (h : List Event) (family : Family) → IsWellFormedSystem sys
     → IsLegal sys h → IsDenotation sys family → (p : ℕ) (t : Stamp) → IsClosedFor sys h p t
     → (e : ℕ) → receiver sys.flow e ≡ p → (s : Stamp) → leq s t ≡ true → sorted (recs_at s (delivered h e)) ≡ bag_at family e s
 
--- what was delivered inside an admissible family stays as it is while the history goes on
+-- in a well-formed flow with epochs, what was delivered inside an admissible family stays as it is while the history goes
+-- on legally
 abbrev pub DeliveredInsideCompleteIsFinal : Type 0
 DeliveredInsideCompleteIsFinal = (sys : System) (h : List Event) → IsWellFormed sys.flow → HasEpochs sys
     → (done : ℕ → Frontier) → IsAdmissible sys h done → (more : List Event) → IsLegal sys (more ++ h)
     → (e : ℕ) (t : Stamp) → done (receiver sys.flow e) t ≡ true → recs_at t (delivered (more ++ h) e) ≡ recs_at t (delivered h e)
 
--- in a legal history each rec was sent on an edge at a stamp at most as often as it is in the denotation there
+-- in a legal history of a well-formed system each rec was sent on an edge at a stamp at most as often as it is in the
+-- denotation there
 abbrev pub SentIsSubBagOfDenotation : Type 0
 SentIsSubBagOfDenotation = (sys : System) (h : List Event) (family : Family) → IsWellFormedSystem sys
     → IsLegal sys h → IsDenotation sys family
     → (e : ℕ) (t : Stamp) (r : Rec) → how_often r (recs_at t (sent sys h e)) ≤ how_often r (bag_at family e t)
 
--- in a legal history each rec was delivered on an edge at a stamp at most as often as it is in the denotation there
+-- in a legal history of a well-formed system each rec was delivered on an edge at a stamp at most as often as it is in the
+-- denotation there
 abbrev pub DeliveredIsSubBagOfDenotation : Type 0
 DeliveredIsSubBagOfDenotation = (sys : System) (h : List Event) (family : Family) → IsWellFormedSystem sys
     → IsLegal sys h → IsDenotation sys family

@@ -38,7 +38,8 @@ abbrev pub RecsAtStampsDecideBag : Type 0
 RecsAtStampsDecideBag = (bag other : List Timed) → in_order bag ≡ bag → in_order other ≡ other
     → ((t : Stamp) → recs_where (same t) bag ≡ recs_where (same t) other) → bag ≡ other
 
--- What a node sends on an edge at a stamp depends on the bags on its in-edges at stamps of lesser measure alone.
+-- in a well-formed flow what a node sends on an edge at a stamp, by a family whose bags are in order, depends on the bags
+-- on its in-edges at stamps of lesser measure alone
 abbrev pub OutBagsDependOnLesserMeasure : Type 0
 OutBagsDependOnLesserMeasure = (sys : System) (family other : Family) → IsWellFormed sys.flow → (by : Measure sys.flow)
     → AreInOrder family → AreInOrder other → (e : ℕ) → e < length sys.flow.edges → (t : Stamp)
@@ -46,12 +47,12 @@ OutBagsDependOnLesserMeasure = (sys : System) (family other : Family) → IsWell
     → by.measure (sender sys.flow e) s < by.measure (receiver sys.flow e) t → bag_at family d s ≡ bag_at other d s)
     → recs_where (same t) (outputs_of sys family (sender sys.flow e)) ≡ recs_where (same t) (outputs_of sys other (sender sys.flow e))
 
--- two families that solve the equations are the same on each edge
+-- two families that solve the equations of a well-formed flow are the same on each edge: the denotation is the only one
 abbrev pub DenotationIsTheOnlyOne : Type 0
 DenotationIsTheOnlyOne = (sys : System) (family other : Family) → IsWellFormed sys.flow
     → IsDenotation sys family → IsDenotation sys other → (e : ℕ) → family e ≡ other e
 
--- the family after enough rounds solves the equations
+-- in a well-formed flow the family after enough rounds solves the equations
 abbrev pub DenotationExists : Type 0
 DenotationExists = (sys : System) → IsWellFormed sys.flow → IsDenotation sys (rounds sys (enough_rounds sys.flow))
 
@@ -69,7 +70,7 @@ LaterRoundsAreTheSame = (sys : System) (n m : ℕ) → IsDenotation sys (rounds 
 abbrev pub DenotationIsInOrder : Type 0
 DenotationIsInOrder = (sys : System) (family : Family) → IsDenotation sys family → AreInOrder family
 
--- each timed rec of the denotation is at a stamp of the domain of its edge's receiver
+-- each timed rec of the denotation of a well-formed flow with epochs is at a stamp of the domain of its edge's receiver
 abbrev pub DenotationIsInDomain : Type 0
 DenotationIsInDomain = (sys : System) (family : Family) → IsWellFormed sys.flow → HasEpochs sys → IsDenotation sys family
     → (e : ℕ) → AllByRecursion (λ (r : Timed). in_domain (bounds_of sys.flow (receiver sys.flow e)) r.at ≡ true) (family e)
@@ -79,7 +80,8 @@ abbrev pub AreNumberedFrom : ℕ → List Timed → Type 0
 AreNumberedFrom n [] = Unit {0}
 AreNumberedFrom n (r ∷ rs) = (r.at ≡ n ∷ []) × AreNumberedFrom (n + 1) rs
 
--- the timed recs of the denotation on a numbered edge are at the numbers from 0 on, one at each, in order
+-- the timed recs of the denotation of a well-formed flow on a numbered edge are at the numbers from 0 on, one at each, in
+-- order
 abbrev pub DenotationIsNumbered : Type 0
 DenotationIsNumbered = (sys : System) (family : Family) → IsWellFormed sys.flow → IsDenotation sys family
     → (e : ℕ) → is_numbered sys.flow e ≡ true → AreNumberedFrom 0 (family e)

@@ -36,7 +36,7 @@ pub record HasMoreToSettle (sys : System) (state : Machine) (done : ℕ → Fron
   pub complete : done node at ≡ true
   pub unsettled : frontier_of (bounds_of sys.flow node) (front_of state.settled node) at ≡ false
 
--- settled can grow to what is complete wherever there is more of it
+-- settled can grow to what is complete where more is complete at some node that is not failed
 abbrev pub SettledCanGrow : Type 0
 SettledCanGrow = (sys : System) (state : Machine) (done : ℕ → Frontier) → IsComplete sys (events state.history) done
     → HasMoreToSettle sys state done → (settled : List Front) × GrowsTo sys state done settled
@@ -48,7 +48,7 @@ AreCheckpointsChains sys state lost view =
     → IsCandidate sys state lost view p one → IsCandidate sys state lost view p other
     → IsCutWithin sys p one other ⊎ IsCutWithin sys p other one
 
--- where some choice is consistent and checkpoints are chains, there is a largest choice
+-- where some choice of the restore candidates is consistent and checkpoints are chains, there is a largest choice
 abbrev pub LargestChoiceExists : Type 0
 LargestChoiceExists = (sys : System) (state : Machine) (lost : ℕ → Bool) (view : View) → AreCheckpointsChains sys state lost view
     → (choice : Choice) → IsConsistent sys state (IsCandidate sys state lost view) choice

@@ -37,24 +37,27 @@ messages_from f ms = filter (λ m. all_inside f m.causes) ms
 abbrev pub messages_inside : Frontier → List Message → List Message
 messages_inside f ms = filter (λ m. f m.at) ms
 
--- in a legal history the kept events alone send on each edge what they send among all: the messages whose causes are kept
+-- in a legal history of a well-formed flow with epochs, of which each node keeps the events inside a frontier, the kept
+-- events alone send on each edge what they send among all: the messages whose causes are kept
 abbrev pub KeptEventsSendTheSame : Type 0
 KeptEventsSendTheSame = (sys : System) (h : List Event) (keep : ℕ → Frontier) → IsWellFormed sys.flow → HasEpochs sys
     → IsLegal sys h → AreFrontiers sys.flow keep → (e : ℕ)
     → sent sys (kept_events sys.flow keep h) e ≡ messages_from (keep (sender sys.flow e)) (sent sys h e)
 
--- from inside less than the sender keeps, the kept events send the same as all events
+-- in a legal history of a well-formed flow with epochs, of which each node keeps the events inside a frontier, the kept
+-- events send from inside less than the sender keeps the same as all events
 abbrev pub KeptEventsSendTheSameFromWithin : Type 0
 KeptEventsSendTheSameFromWithin = (sys : System) (h : List Event) (keep : ℕ → Frontier) → IsWellFormed sys.flow → HasEpochs sys
     → IsLegal sys h → AreFrontiers sys.flow keep → (e : ℕ) (g : Frontier) → Within g (keep (sender sys.flow e))
     → messages_from g (sent sys (kept_events sys.flow keep h) e) ≡ messages_from g (sent sys h e)
 
--- the kept events alone deliver on each edge the messages at stamps that the receiver keeps
+-- in any history the kept events alone deliver on each edge the messages at stamps that the receiver keeps
 abbrev pub KeptEventsDeliverTheSame : Type 0
 KeptEventsDeliverTheSame = (flow : Dataflow) (h : List Event) (keep : ℕ → Frontier) (e : ℕ)
     → delivered (kept_events flow keep h) e ≡ messages_inside (keep (receiver flow e)) (delivered h e)
 
--- phi of what lies within what the sender keeps is the same in the kept events alone
+-- in a legal history of a well-formed flow with epochs, of which each node keeps the events inside a frontier, phi of what
+-- lies within what the sender keeps is the same in the kept events alone
 abbrev pub PhiOfKeptEvents : Type 0
 PhiOfKeptEvents = (sys : System) (h : List Event) (keep : ℕ → Frontier) → IsWellFormed sys.flow → HasEpochs sys
     → IsLegal sys h → AreFrontiers sys.flow keep → (e : ℕ) (g : Frontier) → Within g (keep (sender sys.flow e)) → (u : Stamp)
@@ -72,7 +75,8 @@ HaveKeptCauses flow h keep = (e : ℕ)
     → AllByRecursion (λ (m : Message). keep (receiver flow e) m.at ≡ true → all_inside (keep (sender flow e)) m.causes ≡ true)
     (delivered h e)
 
--- in a legal history what was delivered inside phi of what is kept has kept causes
+-- in a legal history of a well-formed flow with epochs, of which each node keeps the events inside a frontier: if on each
+-- edge what was delivered inside what the receiver keeps is inside phi of what the sender keeps, it has kept causes
 abbrev pub KeptDeliveriesHaveKeptCauses : Type 0
 KeptDeliveriesHaveKeptCauses = (sys : System) (h : List Event) (keep : ℕ → Frontier) → IsWellFormed sys.flow → HasEpochs sys
     → IsLegal sys h → AreFrontiers sys.flow keep → ComeFromKept sys h keep → HaveKeptCauses sys.flow h keep
@@ -81,7 +85,9 @@ KeptDeliveriesHaveKeptCauses = (sys : System) (h : List Event) (keep : ℕ → F
 abbrev pub NotifiesNobody : Dataflow → Type 0
 NotifiesNobody flow = (p : ℕ) → is_notified_kind (kind_of flow p) ≡ false
 
--- where no node is notified, the kept events of a legal history are a legal history, if what was delivered comes from kept
+-- where no node is of a notified kind, the kept events of a legal history of a well-formed flow with epochs, of which each
+-- node keeps those inside a frontier, are a legal history, if on each edge what was delivered inside what the receiver
+-- keeps is inside phi of what the sender keeps
 abbrev pub KeptEventsAreLegalWithoutNotices : Type 0
 KeptEventsAreLegalWithoutNotices = (sys : System) (h : List Event) (keep : ℕ → Frontier) → IsWellFormed sys.flow
     → HasEpochs sys → NotifiesNobody sys.flow → IsLegal sys h → AreFrontiers sys.flow keep → ComeFromKept sys h keep
@@ -98,7 +104,7 @@ pub record IsConsistentlyKept (sys : System) (h : List Event) (keep note : ℕ �
   pub own : (p : ℕ) → Within (note p) (keep p)
   pub notes : (e : ℕ) → Within (note (receiver sys.flow e)) (phi sys h e (note (sender sys.flow e)))
 
--- the consistently kept events of a legal history are a legal history
+-- the consistently kept events of a legal history of a well-formed flow with epochs are a legal history
 abbrev pub KeptEventsAreLegal : Type 0
 KeptEventsAreLegal = (sys : System) (h : List Event) (keep note : ℕ → Frontier) → IsWellFormed sys.flow → HasEpochs sys
     → IsLegal sys h → IsConsistentlyKept sys h keep note → IsLegal sys (kept_events sys.flow keep h)
@@ -117,7 +123,7 @@ abbrev pub ConsistentMeetsInclusions : Type 0
 ConsistentMeetsInclusions = (sys : System) (state : Machine) (lost : ℕ → Bool) (view : View) (choice : Choice)
     → IsConsistent sys state (IsCandidate sys state lost view) choice → MeetsInclusions sys state choice
 
--- a legal history filtered by a choice that meets the inclusions is legal
+-- a legal history of a well-formed flow with epochs, filtered by a choice that meets the inclusions, is legal
 abbrev pub FilteredHistoryIsLegal : Type 0
 FilteredHistoryIsLegal = (sys : System) (state : Machine) (choice : Choice) → IsWellFormed sys.flow → HasEpochs sys
     → IsLegal sys (events state.history) → MeetsInclusions sys state choice → IsLegal sys (events (filtered sys choice state.history))
@@ -126,22 +132,25 @@ FilteredHistoryIsLegal = (sys : System) (state : Machine) (choice : Choice) → 
 abbrev pub messages_outside : Frontier → List Message → List Message
 messages_outside f ms = filter (λ m. not (f m.at)) ms
 
--- at stamps that the receiver keeps, what is pending of the kept events is the part with kept causes of what was pending
+-- in a legal history of a well-formed flow with epochs, of which each node keeps the events inside a frontier, and on each
+-- edge what was delivered inside what the receiver keeps is inside phi of what the sender keeps: at stamps that the
+-- receiver keeps, what is pending of the kept events is the part with kept causes of what was pending
 abbrev pub PendingAtKeptStamps : Type 0
 PendingAtKeptStamps = (sys : System) (h : List Event) (keep : ℕ → Frontier) → IsWellFormed sys.flow → HasEpochs sys
     → IsLegal sys h → AreFrontiers sys.flow keep → ComeFromKept sys h keep → (e : ℕ)
     → messages_inside (keep (receiver sys.flow e)) (pending sys (kept_events sys.flow keep h) e)
     ≡ messages_inside (keep (receiver sys.flow e)) (messages_from (keep (sender sys.flow e)) (pending sys h e))
 
--- at other stamps, what is pending of the kept events is the part with kept causes of what was sent
+-- in a legal history of a well-formed flow with epochs, of which each node keeps the events inside a frontier: at stamps
+-- that the receiver does not keep, what is pending of the kept events is the part with kept causes of what was sent
 abbrev pub PendingAtOtherStamps : Type 0
 PendingAtOtherStamps = (sys : System) (h : List Event) (keep : ℕ → Frontier) → IsWellFormed sys.flow → HasEpochs sys
     → IsLegal sys h → AreFrontiers sys.flow keep → (e : ℕ)
     → messages_outside (keep (receiver sys.flow e)) (pending sys (kept_events sys.flow keep h) e)
     ≡ messages_outside (keep (receiver sys.flow e)) (messages_from (keep (sender sys.flow e)) (sent sys h e))
 
--- For a receiver that stays as it is, what is pending in the filtered history is the part with kept causes of what was
--- pending.
+-- A legal history of a well-formed flow with epochs is filtered by a choice that meets the inclusions. For a receiver that
+-- stays as it is, what is pending in the filtered history is the part with kept causes of what was pending.
 abbrev pub PendingForPresent : Type 0
 PendingForPresent = (sys : System) (state : Machine) (choice : Choice) → IsWellFormed sys.flow → HasEpochs sys
     → IsLegal sys (events state.history) → MeetsInclusions sys state choice → (e : ℕ)
@@ -161,8 +170,9 @@ abbrev pub IsCutWithinSettled : System → Machine → Choice → ℕ → Type 0
 IsCutWithinSettled sys state choice p =
     Within (kept_of sys choice p) (frontier_of (bounds_of sys.flow p) (front_of state.settled p))
 
--- For a receiver that is cut within what is settled, what is pending in the filtered history is the part with kept causes
--- of what was sent outside its cut.
+-- A legal history of a well-formed flow with epochs, full inside what is settled, is filtered by a choice that meets the
+-- inclusions. For a receiver that is cut within what is settled, what is pending in the filtered history is the part with
+-- kept causes of what was sent outside its cut.
 abbrev pub PendingForCut : Type 0
 PendingForCut = (sys : System) (state : Machine) (choice : Choice) → IsWellFormed sys.flow → HasEpochs sys
     → IsLegal sys (events state.history) → IsFull sys state → MeetsInclusions sys state choice → (e : ℕ)
@@ -175,7 +185,9 @@ PendingForCut = (sys : System) (state : Machine) (choice : Choice) → IsWellFor
 abbrev pub KeepsDiscarded : System → Machine → Choice → ℕ → Type 0
 KeepsDiscarded sys state choice e = LiesInReceiver sys (covers_in sys state) choice e
 
--- for a receiver that is cut within what is settled nothing is pending from a sender that cannot send again
+-- A legal history of a well-formed flow with epochs, full inside what is settled, is filtered by a choice that meets the
+-- inclusions. For a receiver that is cut within what is settled nothing is pending from a sender whose policy cannot send
+-- again, if what it sent inside its cut lies in what the receiver keeps.
 abbrev pub NothingPendingWithoutLog : Type 0
 NothingPendingWithoutLog = (sys : System) (state : Machine) (choice : Choice) → IsWellFormed sys.flow → HasEpochs sys
     → IsLegal sys (events state.history) → IsFull sys state → MeetsInclusions sys state choice → (e : ℕ)

@@ -14,12 +14,12 @@ use Rattle.fw_model.specs.LawsOfSending.{AreEventsInDomain}
 abbrev pub HasEpochs : System → Type 0
 HasEpochs sys = (s : ℕ) → length (batches_of sys s) ≤ greatest_number + 1
 
--- in a legal history each event is at a stamp of its node's domain
+-- in a legal history of a well-formed flow with epochs each event is at a stamp of its node's domain
 abbrev pub LegalEventsAreInDomain : Type 0
 LegalEventsAreInDomain = (sys : System) (h : List Event) → IsWellFormed sys.flow → HasEpochs sys → IsLegal sys h
     → (p : ℕ) → AreEventsInDomain sys.flow h p
 
--- in a legal history each message is at a stamp of its edge
+-- in a legal history of a well-formed flow with epochs each message that was sent is at a stamp of its edge
 abbrev pub LegalMessagesAreInDomain : Type 0
 LegalMessagesAreInDomain = (sys : System) (h : List Event) → IsWellFormed sys.flow → HasEpochs sys → IsLegal sys h
     → (e : ℕ) → AllByRecursion (λ (m : Message). in_domain (bounds_of_edge sys.flow e) m.at ≡ true) (sent sys h e)

@@ -1,5 +1,5 @@
 -- Laws of projections: in its frontier, in the history, and under meets and unions.
-use Rattle.std.specs.Prelude.{◌≡◌, ℕ, Bool, true, false, List, ◌++◌}
+use Rattle.std.specs.Prelude.{◌≡◌, ℕ, ◌≤◌, Bool, true, false, List, ◌++◌}
 use Rattle.fw_time.specs.Stamp.{Stamp}
 use Rattle.fw_time.specs.declared.stamp.Bounds.{Bounds}
 use Rattle.fw_frontier.specs.Frontier.{Frontier, IsFrontier, Within, nothing, everything, meet, join}
@@ -7,7 +7,7 @@ use Rattle.fw_flow.specs.declared.event.Event.{Event}
 use Rattle.fw_flow.specs.declared.kind.Kind.{Kind}
 use Rattle.fw_flow.specs.declared.kind.Kind.TheVariants.{Sequence}
 use Rattle.fw_flow.specs.Dataflow.{System, Dataflow, kind_of, sender, bounds_of, bounds_of_domain, out_domain_of}
-use Rattle.fw_flow.specs.Projection.{phi, psi}
+use Rattle.fw_flow.specs.Projection.{phi, phi_by_count, psi}
 
 -- the bounds of an edge: which lists are stamps of its messages
 abbrev pub bounds_of_edge : Dataflow → ℕ → Bounds
@@ -32,6 +32,11 @@ abbrev pub PhiIsMonotone : Type 0
 PhiIsMonotone = (sys : System) (h : List Event) (e : ℕ) (f g : Frontier) → Within f g
     → Within (phi sys h e f) (phi sys h e g)
 
+-- phi by the count of what was sent is monotone, in the frontier and in the count
+abbrev pub PhiByCountIsMonotone : Type 0
+PhiByCountIsMonotone = (flow : Dataflow) (fewer more e : ℕ) (f g : Frontier) → Within f g → fewer ≤ more
+    → Within (phi_by_count flow fewer e f) (phi_by_count flow more e g)
+
 -- phi of a longer history covers at least as much
 abbrev pub PhiGrowsWithHistory : Type 0
 PhiGrowsWithHistory = (sys : System) (h more : List Event) (e : ℕ) (f : Frontier)
@@ -42,7 +47,7 @@ abbrev pub PhiIgnoresHistory : Type 0
 PhiIgnoresHistory = (sys : System) (h other : List Event) (e : ℕ) (f : Frontier) (u : Stamp)
     → is_sequence_kind (kind_of sys.flow (sender sys.flow e)) ≡ false → phi sys h e f u ≡ phi sys other e f u
 
--- phi of what is inside both of two frontiers is what is inside both of their phis
+-- phi of what is inside both of two frontiers of the sender is what is inside both of their phis
 abbrev pub PhiOfMeet : Type 0
 PhiOfMeet = (sys : System) (h : List Event) (e : ℕ) (f g : Frontier) → IsSenderFrontier sys.flow e f
     → IsSenderFrontier sys.flow e g → (u : Stamp) → phi sys h e (meet f g) u ≡ meet (phi sys h e f) (phi sys h e g) u

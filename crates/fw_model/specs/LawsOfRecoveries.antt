@@ -19,13 +19,14 @@ use Rattle.fw_model.specs.LawsOfDeliveries.{recs_at}
 use Rattle.fw_model.specs.LawsOfFiltering.{IsFull}
 use Rattle.fw_model.specs.LawsOfRuns.{IsDenoted}
 
--- each step from a state with a legal history leads to one
+-- each step from a state of a well-formed flow with epochs with a legal history leads to one, a recovery too
 abbrev pub StepsKeepHistoriesLegal : Type 0
 StepsKeepHistoriesLegal = (sys : System) (state : Machine) (step : Step) (next : Machine) (outcome : Outcome)
     → IsWellFormed sys.flow → HasEpochs sys → IsLegal sys (events state.history) → Steps sys state step next outcome
     → IsLegal sys (events next.history)
 
--- the history of each state to which steps lead from the first one is legal, with recoveries among them
+-- in a well-formed flow with epochs the history of each state to which steps lead from the first one is legal, with
+-- recoveries among them
 abbrev pub RunsStayLegalThroughRecoveries : Type 0
 RunsStayLegalThroughRecoveries = (sys : System) (steps : List Step) (outcomes : List Outcome) (last : Machine)
     → IsWellFormed sys.flow → HasEpochs sys → Run sys (first_state sys) steps outcomes last → IsLegal sys (events last.history)
@@ -46,18 +47,19 @@ pub record IsDenotedInside (sys : System) (family : Family) (state : Machine) : 
   pub paid : (p : ℕ) → p < length sys.flow.nodes → (t : Stamp) → frontier_of (bounds_of sys.flow p) (front_of state.settled p) t ≡ true
       → owed sys (events state.history) p t ≡ false
 
--- in each state to which steps lead from the first one, what is settled is denoted
+-- in each state to which steps of a well-formed system lead from the first one, what is settled is denoted
 abbrev pub SettledStaysDenoted : Type 0
 SettledStaysDenoted = (sys : System) (family : Family) → IsWellFormedSystem sys → IsDenotation sys family
     → (steps : List Step) (outcomes : List Outcome) (last : Machine) → Run sys (first_state sys) steps outcomes last
     → IsDenotedInside sys family last
 
--- where what is settled is denoted, nothing more can come there
+-- in a state of a well-formed system with a legal history, where what is settled is denoted, nothing is pending and nothing
+-- owed inside what is settled
 abbrev pub DenotedIsFull : Type 0
 DenotedIsFull = (sys : System) (family : Family) (state : Machine) → IsWellFormedSystem sys
     → IsDenotation sys family → IsLegal sys (events state.history) → IsDenotedInside sys family state → IsFull sys state
 
--- each acknowledgement of a run shows the denotation, with recoveries among its steps
+-- each acknowledgement of a run of a well-formed system shows the denotation, with recoveries among its steps
 abbrev pub AcknowledgementsShowDenotationThroughRecoveries : Type 0
 AcknowledgementsShowDenotationThroughRecoveries = (sys : System) (family : Family) → IsWellFormedSystem sys
     → IsDenotation sys family → (steps : List Step) (outcomes : List Outcome) (last : Machine)

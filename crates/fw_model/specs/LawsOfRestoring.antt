@@ -46,8 +46,8 @@ abbrev pub CountsWritten : System → Machine → Machine → ℕ → Written �
 CountsWritten sys state next p (checkpoint f low) = CountsTheSame sys state next p f
 CountsWritten sys state next p (logged_event serial) = Unit {0}
 
--- each step from a state to which steps lead from the first one leaves what each checkpoint holds that is among the writes
--- after it: in flight, acknowledged or collected, asked in that step or before
+-- each step from a state to which steps of a well-formed system lead from the first one leaves what each checkpoint holds
+-- that is among the writes after it: in flight, acknowledged or collected, asked in that step or before
 abbrev pub CheckpointsStayTrue : Type 0
 CheckpointsStayTrue = (sys : System) → IsWellFormedSystem sys → (steps : List Step) (outcomes : List Outcome) (last : Machine)
     → Run sys (first_state sys) steps outcomes last → (step : Step) (next : Machine) (outcome : Outcome) → Steps sys last step next outcome
@@ -72,7 +72,7 @@ abbrev pub IsWrittenAsAsked : System → Machine → ℕ → Written → Type 0
 IsWrittenAsAsked sys last p (checkpoint f low) = IsAsItWasAsked sys last p f low
 IsWrittenAsAsked sys last p (logged_event serial) = Unit {0}
 
--- in each state to which steps lead from the first one, each checkpoint is as it was asked
+-- in each state to which steps of a well-formed system lead from the first one, each checkpoint is as it was asked
 abbrev pub CheckpointsAreAsTheyWereAsked : Type 0
 CheckpointsAreAsTheyWereAsked = (sys : System) → IsWellFormedSystem sys → (steps : List Step) (outcomes : List Outcome) (last : Machine)
     → Run sys (first_state sys) steps outcomes last
@@ -84,7 +84,7 @@ NothingComesInside sys state p (checkpoint f low) = (v : Event) → IsEnabled sy
     → frontier_of (bounds_of sys.flow p) f (stamp v) ≡ false
 NothingComesInside sys state p (logged_event serial) = Unit {0}
 
--- in each state to which steps lead from the first one, nothing new comes inside a checkpoint
+-- in each state to which steps of a well-formed system lead from the first one, nothing new comes inside a checkpoint
 abbrev pub NothingComesInsideCheckpoints : Type 0
 NothingComesInsideCheckpoints = (sys : System) → IsWellFormedSystem sys → (steps : List Step) (outcomes : List Outcome) (last : Machine)
     → Run sys (first_state sys) steps outcomes last
@@ -104,8 +104,9 @@ pub record HasOne (IsSuch : Write → Type 0) (writes : List Write) : Type 0 whe
 abbrev pub IsCheckpointOf : ℕ → Front → Write → Type 0
 IsCheckpointOf p f write = (write.node ≡ p) × (checkpoint_front write.written ≡ f ∷ [])
 
--- in each state to which steps lead from the first one, where the largest choice cuts a node that takes checkpoints to a
--- front with a stamp inside, exactly one write is a checkpoint of the node there, and it is acknowledged and not collected
+-- in each state to which steps of a well-formed system lead from the first one, where the largest choice among what is kept
+-- cuts a node that takes checkpoints to a front with a stamp inside, exactly one write is a checkpoint of the node there,
+-- and it is acknowledged and not collected
 abbrev pub CheckpointsAtCutsAreKept : Type 0
 CheckpointsAtCutsAreKept = (sys : System) → IsWellFormedSystem sys → (steps : List Step) (outcomes : List Outcome) (last : Machine)
     → Run sys (first_state sys) steps outcomes last → (lost : ℕ → Bool) (choice : Choice) → IsLargest sys last (IsCandidate sys last lost kept) choice
@@ -131,8 +132,8 @@ pub record HoldsWhatIsSentAgain (sys : System) (state : Machine) (choice : Choic
   pub logged : messages_outside (kept_of sys choice (receiver sys.flow e)) (logged_messages sys state low e (kept_of sys choice (sender sys.flow e)))
       ≡ messages_to_resend sys state choice e
 
--- in each state to which steps lead from the first one, with each largest choice, logs that hold what lies outside the low
--- watermark hold what is to be sent again
+-- in each state to which steps of a well-formed system lead from the first one, with each largest choice among what is
+-- kept, logs that hold what lies outside the low watermark hold what is to be sent again
 abbrev pub LogsHoldWhatIsSentAgain : Type 0
 LogsHoldWhatIsSentAgain = (sys : System) → IsWellFormedSystem sys → (steps : List Step) (outcomes : List Outcome) (last : Machine)
     → Run sys (first_state sys) steps outcomes last → (lost : ℕ → Bool) (choice : Choice) → IsLargest sys last (IsCandidate sys last lost kept) choice
@@ -156,21 +157,22 @@ IsKeptWithin sys low (checkpoint f kept_low) =
     (p : ℕ) → Within (frontier_of (bounds_of sys.flow p) (front_of kept_low p)) (frontier_of (bounds_of sys.flow p) (front_of low p))
 IsKeptWithin sys low (logged_event serial) = Unit {0}
 
--- in each state to which steps lead from the first one, the watermark that is kept with a checkpoint lies within today's
+-- in each state to which steps of a well-formed system lead from the first one, the watermark that is kept with a
+-- checkpoint lies within today's
 abbrev pub KeptWatermarksLieWithinToday : Type 0
 KeptWatermarksLieWithinToday = (sys : System) → IsWellFormedSystem sys → (steps : List Step) (outcomes : List Outcome) (last : Machine)
     → Run sys (first_state sys) steps outcomes last → AllByRecursion (λ (write : Write). IsKeptWithin sys last.low write.written) last.writes
 
--- in each state to which steps lead from the first one, a batch outside the cut of its input in a largest choice, which is
--- then injected again, lies outside the low watermark
+-- in each state to which steps of a well-formed system lead from the first one, a batch outside the cut of its input in a
+-- largest choice among what is kept, which is then injected again, lies outside the low watermark
 abbrev pub BatchesOutsideCutsLieOutsideLow : Type 0
 BatchesOutsideCutsLieOutsideLow = (sys : System) → IsWellFormedSystem sys → (steps : List Step) (outcomes : List Outcome) (last : Machine)
     → Run sys (first_state sys) steps outcomes last → (lost : ℕ → Bool) (choice : Choice) → IsLargest sys last (IsCandidate sys last lost kept) choice
     → (s x : ℕ) → s < length sys.flow.nodes → kept_of sys choice s (x ∷ []) ≡ false
     → frontier_of (bounds_of sys.flow s) (front_of last.low s) (x ∷ []) ≡ false
 
--- a batch that is not injected in some state of a run, and so is to come, lies outside the low watermark of that state and of
--- each earlier one
+-- a batch of an input that is not injected in some state of a run of a well-formed system, and so is to come, lies outside
+-- the low watermark of that state and of each earlier one
 abbrev pub BatchesToComeLieOutsideLow : Type 0
 BatchesToComeLieOutsideLow = (sys : System) → IsWellFormedSystem sys → (steps : List Step) (outcomes : List Outcome) (last : Machine)
     → Run sys (first_state sys) steps outcomes last → (more : List Step) (also : List Outcome) (later : Machine) → Run sys last more also later
@@ -189,8 +191,8 @@ pub record IsLoggedOnce (sys : System) (low : List Front) (p : ℕ) (v : Numbere
   pub acknowledged : counts ever only.one.progress ≡ true
   pub given_up : only.one.progress ≡ collected → is_given_up sys low p (stamp v.event) ≡ true
 
--- in each state to which steps lead from the first one, where the largest choice cuts a node that logs each event, each event
--- of the node inside its cut is logged once
+-- in each state to which steps of a well-formed system lead from the first one, where the largest choice among what is kept
+-- cuts a node that logs each event, each event of the node inside its cut is logged once
 abbrev pub EventsInsideCutsAreLogged : Type 0
 EventsInsideCutsAreLogged = (sys : System) → IsWellFormedSystem sys → (steps : List Step) (outcomes : List Outcome) (last : Machine)
     → Run sys (first_state sys) steps outcomes last → (lost : ℕ → Bool) (choice : Choice) → IsLargest sys last (IsCandidate sys last lost kept) choice
@@ -203,21 +205,22 @@ abbrev pub MayKeepNothingIfCollected : System → Write → Type 0
 MayKeepNothingIfCollected sys write =
     (serial : ℕ) → write.written ≡ logged_event serial → write.progress ≡ collected → may_keep_nothing (kind_of sys.flow write.node) ≡ true
 
--- in each state to which steps lead from the first one, no event of a total, a sequence or a ledger was collected
+-- in each state to which steps of a well-formed system lead from the first one, no logged event of a total, a sequence or a
+-- ledger was collected
 abbrev pub EventsThatMustBeKeptAreNeverCollected : Type 0
 EventsThatMustBeKeptAreNeverCollected = (sys : System) → IsWellFormedSystem sys → (steps : List Step) (outcomes : List Outcome) (last : Machine)
     → Run sys (first_state sys) steps outcomes last → AllByRecursion (MayKeepNothingIfCollected sys) last.writes
 
--- in each state to which steps lead from the first one, no write below the watermark that a collection takes is in flight:
--- what a collection forgets was acknowledged
+-- in each state to which steps of a well-formed system lead from the first one, no write below the watermark that a
+-- collection takes is in flight: what a collection forgets was acknowledged
 abbrev pub WhatIsForgottenWasAcknowledged : Type 0
 WhatIsForgottenWasAcknowledged = (sys : System) → IsWellFormedSystem sys → (steps : List Step) (outcomes : List Outcome) (last : Machine)
     → Run sys (first_state sys) steps outcomes last → (choice : Choice) → IsWatermark sys last choice
     → AllByRecursion (λ (write : Write). is_below sys (map front_of_cut choice.cuts) last.history write.node write.written ≡ true
     → is_in_flight write.progress ≡ false) last.writes
 
--- in each state to which steps lead from the first one, a write was collected exactly where what it holds lies below the low
--- watermark: so the logged events of a node at a stamp are all collected, or none is
+-- in each state to which steps of a well-formed system lead from the first one, a write was collected exactly where what it
+-- holds lies below the low watermark: so the logged events of a node at a stamp are all collected, or none is
 abbrev pub CollectedIsWhatLiesBelow : Type 0
 CollectedIsWhatLiesBelow = (sys : System) → IsWellFormedSystem sys → (steps : List Step) (outcomes : List Outcome) (last : Machine)
     → Run sys (first_state sys) steps outcomes last

@@ -1,5 +1,5 @@
 -- Laws of runs: what holds of each state to which steps lead from the first one, and of what they show.
-use Rattle.std.specs.Prelude.{◌≡◌, ℕ, ◌<◌, Bool, true, false, ◌==◌, List, [], ◌∷◌, length, map, if◌then◌else◌}
+use Rattle.std.specs.Prelude.{◌≡◌, ℕ, ◌<◌, Bool, true, false, ◌==◌, List, [], ◌∷◌, ◌++◌, length, map, if◌then◌else◌}
 use Rattle.std.specs.List.{AllByRecursion, flat_map, range_with_len}
 use Rattle.fw_time.specs.Stamp.{Stamp}
 use Rattle.fw_flow.specs.declared.step.Step.{Step}
@@ -11,6 +11,11 @@ use Rattle.fw_model.specs.History.{IsLegal}
 use Rattle.fw_model.specs.Machine.{Machine, events, first_state, bound_of}
 use Rattle.fw_model.specs.Steps.{Effect, quiet, acked, cuts, lows, Outcome, did, idle, Run}
 
+-- a run that goes on where another ended is one run with it, from whatever state
+abbrev pub RunsGoOn : Type 0
+RunsGoOn = (sys : System) (state between last : Machine) (steps more : List Step) (outcomes also : List Outcome)
+    → Run sys state steps outcomes between → Run sys between more also last → Run sys state (steps ++ more) (outcomes ++ also) last
+
 -- whether the step is a recovery
 abbrev pub is_recovery : Step → Bool
 is_recovery Recover = true
@@ -20,7 +25,7 @@ is_recovery step = false
 abbrev pub HaveNoRecovery : List Step → Type 0
 HaveNoRecovery steps = AllByRecursion (λ step. is_recovery step ≡ false) steps
 
--- the history of each state to which steps lead from the first one is legal
+-- the history of each state to which steps without a recovery lead from the first one is legal
 abbrev pub RunsStayLegal : Type 0
 RunsStayLegal = (sys : System) (steps : List Step) (outcomes : List Outcome) (last : Machine) → HaveNoRecovery steps
     → Run sys (first_state sys) steps outcomes last → IsLegal sys (events last.history)
@@ -38,7 +43,8 @@ abbrev pub IsDenoted : System → Family → Outcome → Type 0
 IsDenoted sys family (did effect) = IsDenotedEffect sys family effect
 IsDenoted sys family idle = Unit {0}
 
--- each acknowledgement of a run shows the denotation
+-- each acknowledgement of a run of a well-formed system without a recovery shows the denotation of the output's in-edge at
+-- its stamp
 abbrev pub AcknowledgementsShowDenotation : Type 0
 AcknowledgementsShowDenotation = (sys : System) (family : Family) → IsWellFormedSystem sys
     → IsDenotation sys family → (steps : List Step) (outcomes : List Outcome) (last : Machine) → HaveNoRecovery steps

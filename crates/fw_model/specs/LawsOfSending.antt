@@ -31,7 +31,7 @@ abbrev pub SendersOfWellFormed : Type 0
 SendersOfWellFormed = (flow : Dataflow) → IsWellFormed flow → (e : ℕ) → e < length flow.edges
     → (kind_of flow (sender flow e) ≡ Sequence) ⊎ SendsByStamp flow (kind_of flow (sender flow e))
 
--- a lesser stamp sends where a greater one does, and at the same stamp or a lesser one
+-- a lesser stamp sends where a greater one of the node's domain does, and at the same stamp or a lesser one
 abbrev pub SendStampIsMonotone : Type 0
 SendStampIsMonotone = (flow : Dataflow) (p : ℕ) (s t w : Stamp) → in_domain (bounds_of flow p) t ≡ true
     → leq s t ≡ true → send_stamp flow p t ≡ Some w
@@ -46,7 +46,8 @@ IsSentFrom bounds send f u =
 abbrev pub SendsAbove : (Stamp → Option Stamp) → Frontier → Stamp → Type 0
 SendsAbove send f u = (t : Stamp) × (s : Stamp) × (f t ≡ true) × (send t ≡ Some s) × (leq u s ≡ true)
 
--- u is inside phi exactly where each stamp of the sender that sends at u or below is inside
+-- where the sender sends at the send stamps of its events, a stamp u of the edge is inside phi of a frontier of the sender
+-- exactly where each stamp of the sender that sends at u or below is inside the frontier
 abbrev pub PhiBySendStamps : Type 0
 PhiBySendStamps = (sys : System) (h : List Event) (e : ℕ) (f : Frontier)
     → SendsByStamp sys.flow (kind_of sys.flow (sender sys.flow e)) → IsSenderFrontier sys.flow e f
@@ -54,7 +55,8 @@ PhiBySendStamps = (sys : System) (h : List Event) (e : ℕ) (f : Frontier)
     → (phi sys h e f u ≡ true)
     ↔ IsSentFrom (bounds_of sys.flow (sender sys.flow e)) (send_stamp sys.flow (sender sys.flow e)) f u
 
--- u is inside psi exactly where some stamp inside sends at u or above
+-- where the sender sends at the send stamps of its events, a stamp u of the edge is inside psi of a frontier of the sender
+-- exactly where some stamp inside the frontier sends at u or above
 abbrev pub PsiBySendStamps : Type 0
 PsiBySendStamps = (sys : System) (e : ℕ) (f : Frontier)
     → SendsByStamp sys.flow (kind_of sys.flow (sender sys.flow e)) → IsSenderFrontier sys.flow e f
@@ -65,35 +67,40 @@ PsiBySendStamps = (sys : System) (e : ℕ) (f : Frontier)
 abbrev pub SendsWithin : (Stamp → Option Stamp) → Frontier → Stamp → Type 0
 SendsWithin send g t = (s w : Stamp) → leq s t ≡ true → send s ≡ Some w → g w ≡ true
 
--- t is inside psi_back exactly where each stamp at t or below that sends, sends inside
+-- where the sender sends at the send stamps of its events, a stamp t of the sender is inside psi_back of a frontier of the
+-- edge exactly where each stamp at t or below that sends, sends inside the frontier
 abbrev pub PsiBackBySendStamps : Type 0
 PsiBackBySendStamps = (sys : System) (e : ℕ) (g : Frontier)
     → SendsByStamp sys.flow (kind_of sys.flow (sender sys.flow e)) → IsFrontier (bounds_of_edge sys.flow e) g
     → (t : Stamp) → in_domain (bounds_of sys.flow (sender sys.flow e)) t ≡ true
     → (psi_back sys e g t ≡ true) ↔ SendsWithin (send_stamp sys.flow (sender sys.flow e)) g t
 
--- psi_back of g is a frontier of the sender, and the frontiers within it are those whose psi lies within g
+-- where the sender sends at the send stamps of its events, psi_back of a frontier g of the edge is a frontier of the
+-- sender, and the frontiers of the sender within it are those whose psi lies within g
 abbrev pub PsiBackIsLargest : Type 0
 PsiBackIsLargest = (sys : System) (e : ℕ) (g : Frontier)
     → SendsByStamp sys.flow (kind_of sys.flow (sender sys.flow e)) → IsFrontier (bounds_of_edge sys.flow e) g
     → IsSenderFrontier sys.flow e (psi_back sys e g)
     × ((f : Frontier) → IsSenderFrontier sys.flow e f → Within (psi sys e f) g ↔ Within f (psi_back sys e g))
 
--- each message that an event makes a node send, but for a sequence, is at the send stamp of the event, its one cause
+-- each message that an event makes a node send that is no sequence is at the send stamp of the event, and its one cause is
+-- the event's stamp
 abbrev pub SendsAtSendStamp : Type 0
 SendsAtSendStamp = (sys : System) (p : ℕ) → is_sequence_kind (kind_of sys.flow p) ≡ false
     → (before : List Event) (v : Event)
     → AllByRecursion (λ (m : Message). (send_stamp sys.flow p (stamp v) ≡ Some m.at) × (m.causes ≡ stamp v ∷ []))
     (sends sys p before v)
 
--- what an event inside a frontier makes its node send is inside psi
+-- where the sender sends at the send stamps of its events, what an event inside a frontier of the sender makes it send is
+-- inside psi
 abbrev pub SendsAreInsidePsi : Type 0
 SendsAreInsidePsi = (sys : System) (e : ℕ) (f : Frontier)
     → SendsByStamp sys.flow (kind_of sys.flow (sender sys.flow e)) → IsSenderFrontier sys.flow e f
     → (before : List Event) (v : Event) → f (stamp v) ≡ true
     → AllByRecursion (λ (m : Message). psi sys e f m.at ≡ true) (sends sys (sender sys.flow e) before v)
 
--- each message on an edge that comes from events inside a frontier is at a stamp inside psi
+-- where the sender sends at the send stamps of its events, each message on an edge that comes from events inside a frontier
+-- of the sender is at a stamp inside psi
 abbrev pub SentFromInsideIsInsidePsi : Type 0
 SentFromInsideIsInsidePsi = (sys : System) (h : List Event) (e : ℕ) (f : Frontier)
     → SendsByStamp sys.flow (kind_of sys.flow (sender sys.flow e)) → IsSenderFrontier sys.flow e f
@@ -109,7 +116,8 @@ abbrev pub ComesFromInside : System → List Event → ℕ → Frontier → Type
 ComesFromInside sys h e f =
     AllByRecursion (λ (m : Message). phi sys h e f m.at ≡ true → all_inside f m.causes ≡ true) (sent sys h e)
 
--- each message on an edge at a stamp inside phi comes from events inside, where the sender is no sequence
+-- where the sender sends at the send stamps of its events, and its events are at stamps of its domain, each message on an
+-- edge at a stamp inside phi of a frontier of the sender comes from events inside
 abbrev pub InsidePhiComesFromInside : Type 0
 InsidePhiComesFromInside = (sys : System) (h : List Event) (e : ℕ) (f : Frontier)
     → SendsByStamp sys.flow (kind_of sys.flow (sender sys.flow e)) → IsSenderFrontier sys.flow e f
@@ -132,7 +140,9 @@ pub record IsNotifiedInOrder (flow : Dataflow) (h : List Event) (p : ℕ) : Type
   pub injects_nothing : injected_count p h ≡ 0
   pub in_order : IsDescending (notified_stamps (events_at flow p h))
 
--- each message on an edge at a stamp inside phi comes from events inside, where the sender is a sequence
+-- where the sender is a sequence that injected nothing and was notified of each stamp after the lesser ones, and its events
+-- are at stamps of its domain, each message on an edge at a stamp inside phi of a frontier of the sender comes from events
+-- inside
 abbrev pub InsidePhiOfSequenceComesFromInside : Type 0
 InsidePhiOfSequenceComesFromInside = (sys : System) (h : List Event) (e : ℕ) (f : Frontier)
     → kind_of sys.flow (sender sys.flow e) ≡ Sequence → IsSenderFrontier sys.flow e f

@@ -27,7 +27,7 @@ HasItsChoice sys state Recover = CanChoose sys state (is_failed state)
 HasItsChoice sys state Collect = CanChoose sys state (λ p. true)
 HasItsChoice sys state step = Unit {0}
 
--- from a state of a well-formed flow a step leads to some next state, with some outcome
+-- from a state of a well-formed flow a step leads to some next state, with some outcome, if it has its choice
 abbrev pub SomeNextState : Type 0
 SomeNextState = (sys : System) (state : Machine) → IsWellFormed sys.flow → (step : Step) → HasItsChoice sys state step
     → (next : Machine) × (outcome : Outcome) × Steps sys state step next outcome
@@ -37,7 +37,7 @@ pub record IsTheNext (sys : System) (state : Machine) (step : Step) (next : Mach
   pub steps : Steps sys state step next outcome
   pub only : (other : Machine) (another : Outcome) → Steps sys state step other another → (next ≡ other) × (outcome ≡ another)
 
--- from a state of a well-formed flow a step leads to exactly one next state, with exactly one outcome
+-- from a state of a well-formed flow a step leads to exactly one next state, with exactly one outcome, if it has its choice
 abbrev pub ExactlyOneNextState : Type 0
 ExactlyOneNextState = (sys : System) (state : Machine) → IsWellFormed sys.flow → (step : Step) → HasItsChoice sys state step
     → (next : Machine) × (outcome : Outcome) × IsTheNext sys state step next outcome

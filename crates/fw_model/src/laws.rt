@@ -1,5 +1,11 @@
 //! The laws of the definitions. Of each function that stands here the `ensures` is one law, and the body is empty; beside
 //! them are the laws of the crates below, and `complete_frontiers`, which computes what some of the laws speak of.
+//!
+//! In the comments a flow is well formed by `IsWellFormed`, and with epochs where each node has at most 2^32 batches
+//! (`HasEpochs`); a system is well formed by `IsWellFormedSystem`, which says both and more. A node sends at the send
+//! stamps of its events by `SendsByStamp`: it is no output and no sequence, a loop that it feeds back has a next counter,
+//! and the groups that it makes are not empty. A run begins in the machine's first state, and its steps are any, failures,
+//! recoveries and collections among them. A history goes on legally where the longer one is legal.
 ghost use Rattle.fw_model.specs.LawsOfChoices.{ConsistentChoicesHaveUnion, DeliveredOfUnion, DiscardedOfUnion, EachLiesWithinUnion, LargestChoiceIsOne, NotifiedOfUnion, UnionOfCandidatesIsCandidate, UnionOfConsistentIsConsistent};
 ghost use Rattle.fw_model.specs.LawsOfChoosing.{CheckpointsAreChains, FailedNodesAreRecovered, LargestChoiceHoldsLowWatermark, LargestOfKeptIsLargestOfEver, LowWatermarkIsConsistent, LowWatermarkNeverFalls, ReachedStatesHaveOneNextState, RecoveryHasAChoice, TwoRunsShowOneBag};
 ghost use Rattle.fw_model.specs.LawsOfCompleteFrontiers.{AdmissibleStaysAdmissible, EnabledIsOutside, LegalInsidePhiComesFromInside, SequencesAreNotifiedInOrder};
@@ -8,10 +14,10 @@ ghost use Rattle.fw_model.specs.LawsOfDenotation.{DenotationExists, DenotationIs
 ghost use Rattle.fw_model.specs.LawsOfExistence.{CompleteExists, CompleteIsTheOnlyOne, FrontierHasFront, LargestChoiceExists, SettledCanGrow};
 ghost use Rattle.fw_model.specs.LawsOfFiltering.{ConsistentMeetsInclusions, FilteredHistoryIsLegal, KeptDeliveriesHaveKeptCauses, KeptEventsAreLegal, KeptEventsAreLegalWithoutNotices, KeptEventsDeliverTheSame, KeptEventsSendTheSame, KeptEventsSendTheSameFromWithin, NothingPendingWithoutLog, PendingAtKeptStamps, PendingAtOtherStamps, PendingForCut, PendingForPresent, PhiOfKeptEvents};
 ghost use Rattle.fw_model.specs.LawsOfLegalHistories.{LegalEventsAreInDomain, LegalMessagesAreInDomain, OnlyInputsInject};
-ghost use Rattle.fw_model.specs.LawsOfProjections.{PhiGrowsWithHistory, PhiIgnoresHistory, PhiIsFrontier, PhiIsMonotone, PhiOfEverything, PhiOfMeet, PsiIsFrontier, PsiIsMonotone, PsiOfJoin, PsiOfNothing, PsiOfUnion};
+ghost use Rattle.fw_model.specs.LawsOfProjections.{PhiByCountIsMonotone, PhiGrowsWithHistory, PhiIgnoresHistory, PhiIsFrontier, PhiIsMonotone, PhiOfEverything, PhiOfMeet, PsiIsFrontier, PsiIsMonotone, PsiOfJoin, PsiOfNothing, PsiOfUnion};
 ghost use Rattle.fw_model.specs.LawsOfRecoveries.{AcknowledgementsShowDenotationThroughRecoveries, CandidatesLieWithinSettled, DenotedIsFull, RunsStayLegalThroughRecoveries, SettledStaysDenoted, StepsKeepHistoriesLegal};
 ghost use Rattle.fw_model.specs.LawsOfRestoring.{BatchesOutsideCutsLieOutsideLow, BatchesToComeLieOutsideLow, CheckpointLogsHoldWhatIsSentAgain, CheckpointsAreAsTheyWereAsked, CheckpointsAtCutsAreKept, CheckpointsStayTrue, CollectedIsWhatLiesBelow, EventsInsideCutsAreLogged, EventsThatMustBeKeptAreNeverCollected, KeptWatermarksLieWithinToday, LogsHoldWhatIsSentAgain, NothingComesInsideCheckpoints, WhatIsForgottenWasAcknowledged};
-ghost use Rattle.fw_model.specs.LawsOfRuns.{AcknowledgementsAreInOrder, AcknowledgementsShowDenotation, RunsStayLegal};
+ghost use Rattle.fw_model.specs.LawsOfRuns.{AcknowledgementsAreInOrder, AcknowledgementsShowDenotation, RunsGoOn, RunsStayLegal};
 ghost use Rattle.fw_model.specs.LawsOfSending.{InsidePhiComesFromInside, InsidePhiOfSequenceComesFromInside, PhiBySendStamps, PsiBackBySendStamps, PsiBackIsLargest, PsiBySendStamps, SendStampIsMonotone, SendersOfWellFormed, SendsAreInsidePsi, SendsAtSendStamp, SentFromInsideIsInsidePsi, SentTableFollowsHistory};
 ghost use Rattle.fw_model.specs.LawsOfSteps.{ExactlyOneNextState, OneNextState, SomeNextState};
 
@@ -30,12 +36,17 @@ pub fn phi_is_monotone()
     ensures { PhiIsMonotone }
 {}
 
+/// Phi by the count of what was sent is monotone, in the frontier and in the count.
+pub fn phi_by_count_is_monotone()
+    ensures { PhiByCountIsMonotone }
+{}
+
 /// Phi of a longer history covers at least as much.
 pub fn phi_grows_with_history()
     ensures { PhiGrowsWithHistory }
 {}
 
-/// Phi of the meet of two frontiers is the meet of their phis.
+/// Phi of the meet of two frontiers of the sender is the meet of their phis.
 pub fn phi_of_meet()
     ensures { PhiOfMeet }
 {}
@@ -45,27 +56,32 @@ pub fn phi_of_everything()
     ensures { PhiOfEverything }
 {}
 
-/// A stamp is inside phi exactly where each stamp that sends at it or below it is inside.
+/// Where the sender sends at the send stamps of its events (`SendsByStamp`), a stamp of the edge is inside phi of a
+/// frontier of the sender exactly where each stamp of the sender that sends at it or below it is inside the frontier.
 pub fn phi_by_send_stamps()
     ensures { PhiBySendStamps }
 {}
 
-/// A stamp is inside psi exactly where some stamp inside sends at it or above it.
+/// Where the sender sends at the send stamps of its events, a stamp of the edge is inside psi of a frontier of the
+/// sender exactly where some stamp inside the frontier sends at it or above it.
 pub fn psi_by_send_stamps()
     ensures { PsiBySendStamps }
 {}
 
-/// A stamp is inside psi backwards exactly where each stamp at it or below it that sends, sends inside.
+/// Where the sender sends at the send stamps of its events, a stamp of the sender is inside psi backwards of a
+/// frontier of the edge exactly where each stamp at it or below it that sends, sends inside the frontier.
 pub fn psi_back_by_send_stamps()
     ensures { PsiBackBySendStamps }
 {}
 
-/// Psi backwards is the largest frontier of the sender whose psi lies within the given one.
+/// Where the sender sends at the send stamps of its events, psi backwards of a frontier of the edge is a frontier of
+/// the sender, and the frontiers of the sender within it are those whose psi lies within the given one.
 pub fn psi_back_is_largest()
     ensures { PsiBackIsLargest }
 {}
 
-/// The table of what a sequence sent, by epoch, begins empty, takes each notification, and stays at each other event.
+/// The table of what a sequence sent, by epoch, begins empty, takes each notification of an epoch with how many
+/// messages it made the sequence send, and stays at each event that is no notification of the sequence.
 pub fn sent_table_follows_history()
     ensures { SentTableFollowsHistory }
 {}
@@ -90,22 +106,27 @@ pub fn psi_of_nothing()
     ensures { PsiOfNothing }
 {}
 
-/// Each message that an event makes its node send, outside a sequence, is at the send stamp of the event, its one cause.
+/// Each message that an event makes a node send that is no sequence is at the send stamp of the event, and its one cause is
+/// the event's stamp.
 pub fn sends_at_send_stamp()
     ensures { SendsAtSendStamp }
 {}
 
-/// What an event inside a frontier makes its node send is inside psi.
+/// Where the sender sends at the send stamps of its events, what an event inside a frontier of the sender makes it
+/// send is inside psi.
 pub fn sends_are_inside_psi()
     ensures { SendsAreInsidePsi }
 {}
 
-/// Each message at a stamp inside phi comes from events inside, where the sender is no sequence.
+/// Where the sender sends at the send stamps of its events, and its events are at stamps of its domain, each message
+/// at a stamp inside phi of a frontier of the sender comes from events inside.
 pub fn inside_phi_comes_from_inside()
     ensures { InsidePhiComesFromInside }
 {}
 
-/// Each message at a stamp inside phi comes from events inside, where the sender is a sequence.
+/// Where the sender is a sequence that injected nothing and was notified of each stamp after the lesser ones, and its
+/// events are at stamps of its domain, each message at a stamp inside phi of a frontier of the sender comes from
+/// events inside.
 pub fn inside_phi_of_sequence_comes_from_inside()
     ensures { InsidePhiOfSequenceComesFromInside }
 {}
@@ -125,12 +146,13 @@ pub fn phi_ignores_history()
     ensures { PhiIgnoresHistory }
 {}
 
-/// A lesser stamp sends where a greater one does, and at the same stamp or a lesser one.
+/// A lesser stamp sends where a greater one of the node's domain does, and at the same stamp or a lesser one.
 pub fn send_stamp_is_monotone()
     ensures { SendStampIsMonotone }
 {}
 
-/// Each message that comes from events inside a frontier is at a stamp inside psi.
+/// Where the sender sends at the send stamps of its events, each message that comes from events inside a frontier of
+/// the sender is at a stamp inside psi.
 pub fn sent_from_inside_is_inside_psi()
     ensures { SentFromInsideIsInsidePsi }
 {}
@@ -140,12 +162,12 @@ pub fn senders_of_well_formed()
     ensures { SendersOfWellFormed }
 {}
 
-/// In a legal history each event is at a stamp of its node's domain.
+/// In a legal history of a well-formed flow with epochs each event is at a stamp of its node's domain.
 pub fn legal_events_are_in_domain()
     ensures { LegalEventsAreInDomain }
 {}
 
-/// In a legal history each message is at a stamp of its edge.
+/// In a legal history of a well-formed flow with epochs each message that was sent is at a stamp of its edge.
 pub fn legal_messages_are_in_domain()
     ensures { LegalMessagesAreInDomain }
 {}
@@ -155,22 +177,26 @@ pub fn only_inputs_inject()
     ensures { OnlyInputsInject }
 {}
 
-/// An enabled event is outside each admissible family: nothing comes where all has come.
+/// After any history, legal or not, an enabled event is outside each admissible family: nothing comes where all has
+/// come.
 pub fn enabled_is_outside()
     ensures { EnabledIsOutside }
 {}
 
-/// An enabled event leaves each admissible family admissible: it lowers no complete frontier.
+/// After a legal history of a well-formed flow with epochs an enabled event leaves each admissible family admissible:
+/// it lowers no complete frontier.
 pub fn admissible_stays_admissible()
     ensures { AdmissibleStaysAdmissible }
 {}
 
-/// In a legal history each sequence injects nothing and is notified of each stamp after the lesser ones.
+/// In a legal history of a well-formed flow with epochs each sequence injects nothing and is notified of each stamp
+/// after the lesser ones.
 pub fn sequences_are_notified_in_order()
     ensures { SequencesAreNotifiedInOrder }
 {}
 
-/// In a legal history each message at a stamp inside phi comes from events inside.
+/// In a legal history of a well-formed flow with epochs each message at a stamp inside phi of a frontier of the
+/// sender comes from events inside.
 pub fn legal_inside_phi_comes_from_inside()
     ensures { LegalInsidePhiComesFromInside }
 {}
@@ -205,17 +231,19 @@ pub fn discarded_of_union()
     ensures { DiscardedOfUnion }
 {}
 
-/// The union of two candidates of a node is a candidate, and of two checkpoints if one lies within the other.
+/// The union of two candidates of a node is a candidate; where the node is restored by its checkpoints, if one of the
+/// two lies within the other.
 pub fn union_of_candidates_is_candidate()
     ensures { UnionOfCandidatesIsCandidate }
 {}
 
-/// The union of two consistent choices of the restore candidates is consistent, where it is offered.
+/// The union of two consistent choices of the restore candidates is consistent, where each of its cuts is offered.
 pub fn union_of_consistent_is_consistent()
     ensures { UnionOfConsistentIsConsistent }
 {}
 
-/// In a well-formed dataflow the stamps of each node have a measure, which falls from what a node is sent to what it is made of.
+/// The stamps of each node of a well-formed flow have a measure, which is bounded and falls from each node towards
+/// the senders of its in-edges.
 pub fn measure_exists()
     ensures { MeasureExists }
 {}
@@ -225,17 +253,20 @@ pub fn recs_at_stamps_decide_bag()
     ensures { RecsAtStampsDecideBag }
 {}
 
-/// What a node sends on an edge at a stamp depends on the bags on its in-edges at stamps of lesser measure alone.
+/// In a well-formed flow what a node sends on an edge at a stamp, by a family whose bags are in order, depends on the
+/// bags on its in-edges at stamps of lesser measure alone.
 pub fn out_bags_depend_on_lesser_measure()
     ensures { OutBagsDependOnLesserMeasure }
 {}
 
-/// Two families that solve the equations of a well-formed dataflow are the same on each edge: the denotation is the only one.
+/// Two families that solve the equations of a well-formed flow are the same on each edge: the denotation is the only
+/// one.
 pub fn denotation_is_the_only_one()
     ensures { DenotationIsTheOnlyOne }
 {}
 
-/// In a well-formed dataflow the family after so many rounds solves the equations: the denotation exists.
+/// In a well-formed flow the family after enough rounds (`enough_rounds`) solves the equations: the denotation
+/// exists.
 pub fn denotation_exists()
     ensures { DenotationExists }
 {}
@@ -255,12 +286,14 @@ pub fn denotation_is_in_order()
     ensures { DenotationIsInOrder }
 {}
 
-/// Each timed rec of the denotation of a well-formed dataflow is at a stamp of the domain of its edge's receiver.
+/// Each timed rec of the denotation of a well-formed flow with epochs is at a stamp of the domain of its edge's
+/// receiver.
 pub fn denotation_is_in_domain()
     ensures { DenotationIsInDomain }
 {}
 
-/// The timed recs of the denotation of a well-formed dataflow on a numbered edge are at the numbers from 0 on, one at each.
+/// The timed recs of the denotation of a well-formed flow on a numbered edge are at the numbers from 0 on, one at
+/// each, in order.
 pub fn denotation_is_numbered()
     ensures { DenotationIsNumbered }
 {}
@@ -280,47 +313,54 @@ pub fn complete_is_the_only_one()
     ensures { CompleteIsTheOnlyOne }
 {}
 
-/// Settled can grow to what is complete wherever there is more of it.
+/// Settled can grow to what is complete where more is complete at some node that is not failed.
 pub fn settled_can_grow()
     ensures { SettledCanGrow }
 {}
 
-/// Where some choice is consistent and checkpoints are chains, there is a largest choice.
+/// Where some choice of the restore candidates is consistent and checkpoints are chains, there is a largest choice.
 pub fn largest_choice_exists()
     ensures { LargestChoiceExists }
 {}
 
-/// In a legal history the kept events alone send what they send among all: the messages whose causes are kept.
+/// In a legal history of a well-formed flow with epochs, of which each node keeps the events inside a frontier, the
+/// kept events alone send on each edge what they send among all: the messages whose causes are kept.
 pub fn kept_events_send_the_same()
     ensures { KeptEventsSendTheSame }
 {}
 
-/// From inside less than the sender keeps, the kept events send the same as all events.
+/// In a legal history of a well-formed flow with epochs, of which each node keeps the events inside a frontier, the
+/// kept events send from inside less than the sender keeps the same as all events.
 pub fn kept_events_send_the_same_from_within()
     ensures { KeptEventsSendTheSameFromWithin }
 {}
 
-/// The kept events alone deliver the messages at stamps that the receiver keeps.
+/// In any history the kept events alone deliver on each edge the messages at stamps that the receiver keeps.
 pub fn kept_events_deliver_the_same()
     ensures { KeptEventsDeliverTheSame }
 {}
 
-/// Phi of what lies within what the sender keeps is the same in the kept events alone.
+/// In a legal history of a well-formed flow with epochs, of which each node keeps the events inside a frontier, phi
+/// of what lies within what the sender keeps is the same in the kept events alone.
 pub fn phi_of_kept_events()
     ensures { PhiOfKeptEvents }
 {}
 
-/// In a legal history what was delivered inside phi of what is kept has kept causes.
+/// In a legal history of a well-formed flow with epochs, of which each node keeps the events inside a frontier: if on
+/// each edge what was delivered inside what the receiver keeps is inside phi of what the sender keeps, it has kept
+/// causes.
 pub fn kept_deliveries_have_kept_causes()
     ensures { KeptDeliveriesHaveKeptCauses }
 {}
 
-/// Where no node is notified, the kept events of a legal history are a legal history, if what was delivered comes from kept.
+/// Where no node is of a notified kind, the kept events of a legal history of a well-formed flow with epochs, of
+/// which each node keeps those inside a frontier, are a legal history, if on each edge what was delivered inside what
+/// the receiver keeps is inside phi of what the sender keeps.
 pub fn kept_events_are_legal_without_notices()
     ensures { KeptEventsAreLegalWithoutNotices }
 {}
 
-/// The consistently kept events of a legal history are a legal history.
+/// The consistently kept events of a legal history of a well-formed flow with epochs are a legal history.
 pub fn kept_events_are_legal()
     ensures { KeptEventsAreLegal }
 {}
@@ -330,32 +370,41 @@ pub fn consistent_meets_inclusions()
     ensures { ConsistentMeetsInclusions }
 {}
 
-/// A legal history filtered by a choice that meets the inclusions is legal.
+/// A legal history of a well-formed flow with epochs, filtered by a choice that meets the inclusions, is legal.
 pub fn filtered_history_is_legal()
     ensures { FilteredHistoryIsLegal }
 {}
 
-/// At stamps that the receiver keeps, what is pending of the kept events is the part with kept causes of what was pending.
+/// In a legal history of a well-formed flow with epochs, of which each node keeps the events inside a frontier, and
+/// on each edge what was delivered inside what the receiver keeps is inside phi of what the sender keeps: at stamps
+/// that the receiver keeps, what is pending of the kept events is the part with kept causes of what was pending.
 pub fn pending_at_kept_stamps()
     ensures { PendingAtKeptStamps }
 {}
 
-/// At other stamps, what is pending of the kept events is the part with kept causes of what was sent.
+/// In a legal history of a well-formed flow with epochs, of which each node keeps the events inside a frontier: at
+/// stamps that the receiver does not keep, what is pending of the kept events is the part with kept causes of what
+/// was sent.
 pub fn pending_at_other_stamps()
     ensures { PendingAtOtherStamps }
 {}
 
-/// For a receiver that stays as it is, what is pending afterwards is the part with kept causes of what was pending.
+/// A legal history of a well-formed flow with epochs is filtered by a choice that meets the inclusions. For a
+/// receiver that stays as it is, what is pending afterwards is the part with kept causes of what was pending.
 pub fn pending_for_present()
     ensures { PendingForPresent }
 {}
 
-/// For a receiver cut within what is settled, what is pending afterwards is the part with kept causes of what was sent outside.
+/// A legal history of a well-formed flow with epochs, full inside what is settled, is filtered by a choice that meets
+/// the inclusions. For a receiver that is cut within what is settled, what is pending afterwards is the part with
+/// kept causes of what was sent outside its cut.
 pub fn pending_for_cut()
     ensures { PendingForCut }
 {}
 
-/// For a receiver cut within what is settled nothing is pending from a sender that cannot send again.
+/// A legal history of a well-formed flow with epochs, full inside what is settled, is filtered by a choice that meets
+/// the inclusions. For a receiver that is cut within what is settled nothing is pending from a sender whose policy
+/// cannot send again, if what it sent inside its cut lies in what the receiver keeps.
 pub fn nothing_pending_without_log()
     ensures { NothingPendingWithoutLog }
 {}
@@ -365,22 +414,25 @@ pub fn one_next_state()
     ensures { OneNextState }
 {}
 
-/// From a state of a well-formed flow a step leads to some next state, with some outcome.
+/// From a state of a well-formed flow a step leads to some next state, with some outcome; a recovery and a collection
+/// do if they have something to choose (`HasItsChoice`).
 pub fn some_next_state()
     ensures { SomeNextState }
 {}
 
-/// From a state of a well-formed flow a step leads to exactly one next state, with exactly one outcome.
+/// From a state of a well-formed flow a step leads to exactly one next state, with exactly one outcome; a recovery
+/// and a collection do if they have something to choose (`HasItsChoice`).
 pub fn exactly_one_next_state()
     ensures { ExactlyOneNextState }
 {}
 
-/// A stamp that is closed for a node stays closed as the history goes on.
+/// A stamp that is closed for a node of a well-formed flow with epochs stays closed as the history goes on legally.
 pub fn closed_stamps_stay_closed()
     ensures { ClosedStampsStayClosed }
 {}
 
-/// After a notification of a node no event of the node is at its stamp or a lesser one.
+/// In a legal history of a well-formed flow with epochs no event of a node after a notification of it is at the stamp
+/// of the notification or a lesser one.
 pub fn notifications_come_last()
     ensures { NotificationsComeLast }
 {}
@@ -390,39 +442,51 @@ pub fn numbered_deliveries_ascend()
     ensures { NumberedDeliveriesAscend }
 {}
 
-/// Inside phi of an admissible family, what was sent on an edge is what the denotation has there.
+/// In a legal history of a well-formed system, what was sent on an edge inside phi of an admissible family is what
+/// the denotation has there.
 pub fn sent_inside_phi_is_denoted()
     ensures { SentInsidePhiIsDenoted }
 {}
 
-/// Inside an admissible family, what was delivered on an edge is what the denotation has there.
+/// In a legal history of a well-formed system, what was delivered on an edge inside an admissible family is what the
+/// denotation has there.
 pub fn delivered_inside_complete_is_denoted()
     ensures { DeliveredInsideCompleteIsDenoted }
 {}
 
-/// What was delivered inside an admissible family stays as it is while the history goes on.
+/// In a well-formed flow with epochs, what was delivered inside an admissible family stays as it is while the history
+/// goes on legally.
 pub fn delivered_inside_complete_is_final()
     ensures { DeliveredInsideCompleteIsFinal }
 {}
 
-/// Up to a stamp that is closed for a node, what was delivered to the node stays as it is while the history goes on.
+/// In a well-formed flow with epochs, what was delivered to a node up to a stamp that is closed for it stays as it is
+/// while the history goes on legally.
 pub fn delivered_up_to_closed_is_final()
     ensures { DeliveredUpToClosedIsFinal }
 {}
 
-/// Up to a stamp that is closed for a node, what was delivered to the node is what the denotation has.
+/// In a legal history of a well-formed system, what was delivered to a node on each in-edge up to a stamp that is
+/// closed for it is what the denotation has there.
 pub fn delivered_up_to_closed_is_denoted()
     ensures { DeliveredUpToClosedIsDenoted }
 {}
 
-/// In a legal history each rec was sent on an edge at a stamp at most as often as it is in the denotation there.
+/// In a legal history of a well-formed system each rec was sent on an edge at a stamp at most as often as it is in
+/// the denotation there.
 pub fn sent_is_sub_bag_of_denotation()
     ensures { SentIsSubBagOfDenotation }
 {}
 
-/// In a legal history each rec was delivered on an edge at a stamp at most as often as it is in the denotation there.
+/// In a legal history of a well-formed system each rec was delivered on an edge at a stamp at most as often as it is
+/// in the denotation there.
 pub fn delivered_is_sub_bag_of_denotation()
     ensures { DeliveredIsSubBagOfDenotation }
+{}
+
+/// A run that goes on where another ended is one run with it, from whatever state.
+pub fn runs_go_on()
+    ensures { RunsGoOn }
 {}
 
 /// The history of each state to which steps without a recovery lead from the first one is legal.
@@ -430,7 +494,8 @@ pub fn runs_stay_legal()
     ensures { RunsStayLegal }
 {}
 
-/// Each acknowledgement of a run without a recovery shows the denotation of the output's in-edge at its stamp.
+/// Each acknowledgement of a run of a well-formed system without a recovery shows the denotation of the output's
+/// in-edge at its stamp.
 pub fn acknowledgements_show_denotation()
     ensures { AcknowledgementsShowDenotation }
 {}
@@ -440,27 +505,29 @@ pub fn acknowledgements_are_in_order()
     ensures { AcknowledgementsAreInOrder }
 {}
 
-/// Each step from a state with a legal history leads to one, a recovery too.
+/// Each step from a state of a well-formed flow with epochs with a legal history leads to one, a recovery too.
 pub fn steps_keep_histories_legal()
     ensures { StepsKeepHistoriesLegal }
 {}
 
-/// The history of each state to which steps lead from the first one is legal, with recoveries among them.
+/// In a well-formed flow with epochs the history of each state to which steps lead from the first one is legal, with
+/// recoveries among them.
 pub fn runs_stay_legal_through_recoveries()
     ensures { RunsStayLegalThroughRecoveries }
 {}
 
-/// In each state to which steps lead from the first one, what is settled is denoted.
+/// In each state to which steps of a well-formed system lead from the first one, what is settled is denoted.
 pub fn settled_stays_denoted()
     ensures { SettledStaysDenoted }
 {}
 
-/// Where what is settled is denoted, nothing more can come there.
+/// In a state of a well-formed system with a legal history, where what is settled is denoted, nothing is pending and
+/// nothing owed inside what is settled.
 pub fn denoted_is_full()
     ensures { DenotedIsFull }
 {}
 
-/// Each acknowledgement of a run shows the denotation, with recoveries among its steps.
+/// Each acknowledgement of a run of a well-formed system shows the denotation, with recoveries among its steps.
 pub fn acknowledgements_show_denotation_through_recoveries()
     ensures { AcknowledgementsShowDenotationThroughRecoveries }
 {}
@@ -470,67 +537,74 @@ pub fn candidates_lie_within_settled()
     ensures { CandidatesLieWithinSettled }
 {}
 
-/// With some notification frontiers the low watermark of each state of a run is a consistent choice, whichever nodes count as failed.
+/// In each state of a run of a well-formed system the low watermark is a consistent choice with some notification
+/// frontiers, whichever nodes count as failed, with what was collected and without it.
 pub fn low_watermark_is_consistent()
     ensures { LowWatermarkIsConsistent }
 {}
 
-/// In each state of a run the checkpoints of each node are a chain.
+/// In each state of a run of a well-formed system the checkpoints of each node are a chain.
 pub fn checkpoints_are_chains()
     ensures { CheckpointsAreChains }
 {}
 
-/// In each state of a run a recovery has something to choose, whichever nodes count as failed.
+/// In each state of a run of a well-formed system a recovery has something to choose, whichever nodes count as
+/// failed.
 pub fn recovery_has_a_choice()
     ensures { RecoveryHasAChoice }
 {}
 
-/// In each state of a run in which a declared node is failed, a recovery is enabled.
+/// In each state of a run of a well-formed system in which a declared node is failed, a recovery is enabled.
 pub fn failed_nodes_are_recovered()
     ensures { FailedNodesAreRecovered }
 {}
 
-/// From each state of a run each step leads to exactly one next state, with exactly one outcome.
+/// From each state of a run of a well-formed system each step leads to exactly one next state, with exactly one
+/// outcome.
 pub fn reached_states_have_one_next_state()
     ensures { ReachedStatesHaveOneNextState }
 {}
 
-/// In each state of a run each largest choice contains the low watermark.
+/// In each state of a run of a well-formed system each largest choice contains the low watermark.
 pub fn largest_choice_holds_low_watermark()
     ensures { LargestChoiceHoldsLowWatermark }
 {}
 
-/// A step from a state of a run lowers the low watermark at no node.
+/// A step from a state of a run of a well-formed system lowers the low watermark at no node.
 pub fn low_watermark_never_falls()
     ensures { LowWatermarkNeverFalls }
 {}
 
-/// In each state of a run the largest choice among what is kept is the largest also with what was collected.
+/// In each state of a run of a well-formed system the largest choice among what is kept is the largest also with what
+/// was collected, whichever nodes count as failed.
 pub fn largest_of_kept_is_largest_of_ever()
     ensures { LargestOfKeptIsLargestOfEver }
 {}
 
-/// Two runs of one system that acknowledge an output at a stamp show the same recs there.
+/// Two runs of one well-formed system that acknowledge an output at a stamp show the same recs there.
 pub fn two_runs_show_one_bag()
     ensures { TwoRunsShowOneBag }
 {}
 
-/// Each step leaves what each checkpoint holds that is among the writes after it.
+/// Each step from a state of a run of a well-formed system leaves what each checkpoint holds that is among the writes
+/// after it.
 pub fn checkpoints_stay_true()
     ensures { CheckpointsStayTrue }
 {}
 
-/// In each state of a run nothing new comes inside a checkpoint.
+/// In each state of a run of a well-formed system nothing new comes inside a checkpoint.
 pub fn nothing_comes_inside_checkpoints()
     ensures { NothingComesInsideCheckpoints }
 {}
 
-/// Where a largest choice cuts a node that takes checkpoints, its checkpoint there is acknowledged, not collected, and the only one.
+/// In each state of a run of a well-formed system: where a largest choice among what is kept cuts a node that takes
+/// checkpoints to a front with a stamp inside, its checkpoint there is acknowledged, not collected, and the only one.
 pub fn checkpoints_at_cuts_are_kept()
     ensures { CheckpointsAtCutsAreKept }
 {}
 
-/// With each largest choice, what is to be sent again lies outside the low watermark of its receiver, so that logs hold it.
+/// In each state of a run of a well-formed system, with each largest choice among what is kept, what is to be sent
+/// again lies outside the low watermark of its receiver, so that logs of what lies outside it hold it.
 pub fn logs_hold_what_is_sent_again()
     ensures { LogsHoldWhatIsSentAgain }
 {}
@@ -540,42 +614,49 @@ pub fn checkpoint_logs_hold_what_is_sent_again()
     ensures { CheckpointLogsHoldWhatIsSentAgain }
 {}
 
-/// The watermark that is kept with a checkpoint lies within today's.
+/// In each state of a run of a well-formed system the watermark that is kept with a checkpoint lies within today's.
 pub fn kept_watermarks_lie_within_today()
     ensures { KeptWatermarksLieWithinToday }
 {}
 
-/// A batch outside the cut of its input in a largest choice lies outside the low watermark.
+/// In each state of a run of a well-formed system a batch outside the cut of its input in a largest choice among what
+/// is kept lies outside the low watermark.
 pub fn batches_outside_cuts_lie_outside_low()
     ensures { BatchesOutsideCutsLieOutsideLow }
 {}
 
-/// A batch that is injected later lies outside the low watermark of today.
+/// A batch of an input that is not injected in a state of a run of a well-formed system, and so is to come, lies
+/// outside the low watermark of that state and of each earlier one.
 pub fn batches_to_come_lie_outside_low()
     ensures { BatchesToComeLieOutsideLow }
 {}
 
-/// Where a largest choice cuts a node that logs each event, each of its events inside is logged once, and collected only where it is given up.
+/// In each state of a run of a well-formed system: where a largest choice among what is kept cuts a node that logs
+/// each event, each event of the node inside its cut is logged once, by a write of the node that was acknowledged,
+/// and that is collected only where what the node logged at the stamp of the event is given up.
 pub fn events_inside_cuts_are_logged()
     ensures { EventsInsideCutsAreLogged }
 {}
 
-/// No logged event of a total, a sequence or a ledger was collected.
+/// In each state of a run of a well-formed system no logged event of a total, a sequence or a ledger was collected.
 pub fn events_that_must_be_kept_are_never_collected()
     ensures { EventsThatMustBeKeptAreNeverCollected }
 {}
 
-/// No write below the watermark that a collection takes is in flight: what a collection forgets was acknowledged.
+/// In each state of a run of a well-formed system no write below the watermark that a collection takes is in flight:
+/// what a collection forgets was acknowledged.
 pub fn what_is_forgotten_was_acknowledged()
     ensures { WhatIsForgottenWasAcknowledged }
 {}
 
-/// A write was collected exactly where what it holds lies below the low watermark.
+/// In each state of a run of a well-formed system a write was collected exactly where what it holds lies below the
+/// low watermark.
 pub fn collected_is_what_lies_below()
     ensures { CollectedIsWhatLiesBelow }
 {}
 
-/// Each checkpoint was asked in an earlier state of the run, and counts now as it did then.
+/// Each checkpoint in a state of a run of a well-formed system was asked in an earlier state of the run, and counts
+/// now as it did then.
 pub fn checkpoints_are_as_they_were_asked()
     ensures { CheckpointsAreAsTheyWereAsked }
 {}

@@ -1,7 +1,8 @@
 //! Plain computations over a list of events: what is pending, what is next, what is complete. Each finds everything
 //! anew by going over the list, so that a call costs time in proportion to the events, and often to their square.
 //!
-//! The lists are in the order of the events, the oldest first.
+//! The lists of events that they take are in the order of the events, the oldest first. The clauses speak of the same
+//! events as a history, which has the latest first.
 
 mod arrivals;
 mod clear;

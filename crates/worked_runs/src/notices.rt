@@ -6,9 +6,9 @@ ghost use Rattle.fw_flow.specs.NodeFunction.{place, stamp};
 ghost use Rattle.fw_model.specs.Plain.{AreAtNodes};
 
 use crate::projections::every_kind;
-use fw_bag::{Bag, Rec};
+use fw_bag::Rec;
 use fw_flow::{Causes, Event, Flow, Message, NodeId};
-use fw_lines::Batches;
+use fw_lines::{Batches, ReadFault, SourceNames, read_batches};
 use fw_model::plain::next_notice;
 use fw_time::Stamp;
 use std::alloc::{AllocError, Global};
@@ -83,13 +83,9 @@ fn notice(
 }
 
 // One batch of two recs, of which the select lets through the first.
-fn one_batch(alloc: Global) -> Result<Batches, AllocError> {
-    let mut batch = Bag::new(alloc);
-    batch.add(Rec { key: 1, value: 5 })?;
-    batch.add(Rec { key: 9, value: 7 })?;
-    let mut batches = Batches::new(alloc);
-    batches.push(INPUT.place(), batch)?;
-    Ok(batches)
+fn one_batch(alloc: Global) -> Result<Batches, ReadFault> {
+    let sources = SourceNames::new(alloc).with(INPUT.place(), b"input")?;
+    read_batches(alloc, b"batch input 1:5 9:7\n", &sources)
 }
 
 #[test]

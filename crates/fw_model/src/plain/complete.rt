@@ -19,7 +19,9 @@ use fw_frontier::Front;
 use fw_lines::Batches;
 use std::alloc::{AllocError, Global};
 
-/// The complete frontiers after these events, one for each node. The only error is want of memory.
+/// The complete frontiers after these events, one for each node in the order of the nodes: the largest admissible family,
+/// each frontier as the one list of its node's domain that names it. Each event must be at a stamp of its node's domain;
+/// the events need not be a legal history. The only error is want of memory.
 ///
 /// It begins with what is clear at each node alone, and takes from each node what can still come on its in-edges, until
 /// nothing is taken.

@@ -23,7 +23,9 @@ use fw_lines::Batches;
 use fw_time::Stamp;
 use std::alloc::{AllocError, Global};
 
-/// The next batch of an input, by its epoch, if there is one.
+/// The epoch of the next batch of an input: the number of batches that it injected, where it has a batch of this epoch.
+/// None exactly where the node is no input, or has no batch of this epoch. Each node must have at most 2^32 batches, so
+/// that each has an epoch.
 pub fn next_batch(flow: &Flow, batches: &Batches, events: &[Event], source: NodeId) -> Option<u32>
     requires { HasEpochs (system_of flow.now batches.now) }
     ensures { let sys = system_of flow.now batches.now in
@@ -48,7 +50,7 @@ pub(super) fn is_input(kind: Kind) -> bool
     matches!(kind, Kind::Input)
 }
 
-/// How many batches an input injected.
+/// How many batches an input injected: how many of the events are injections of it.
 #[tactic(auto, using(crate::proofs::EventSteps::injected_more))]
 pub fn injected_count(events: &[Event], source: NodeId) -> usize
     ensures { result ≡ history.injected_count source (reverse events.now) }
@@ -72,7 +74,10 @@ fn is_injection(event: &Event, source: NodeId) -> bool
     }
 }
 
-/// The next message on an edge, at the stamp if one is asked for, if there is one. The only error is want of memory.
+/// The next message on an edge: of what is pending there, on a numbered edge at the next number alone, and at the stamp that
+/// is asked for if one is, the least by stamp, then rec, then causes. Stamps are compared by their coordinates from the
+/// outermost on. None exactly where there is no such message. Each event must be at a stamp of its node's domain; the
+/// events need not be a legal history. The only error is want of memory.
 pub fn next_message(
     alloc: Global,
     flow: &Flow,
@@ -165,8 +170,11 @@ fn lesser(message: Message, other: Option<Message>) -> Message
     }
 }
 
-/// The next stamp of which a node may be notified, the one that is asked for if one is, if there is one. The only error
-/// is want of memory.
+/// The next stamp of which a node may be notified: the one that is asked for if one is, or the least, by the coordinates
+/// from the outermost on. A node may be notified of a stamp at which it is owed a notification, where none is owed at a
+/// lesser stamp, nothing is pending for the node at it or a lesser one, and it is inside phi of some admissible family on
+/// each in-edge. None exactly where there is no such stamp. Each event must be at a stamp of its node's domain; the events
+/// need not be a legal history. The only error is want of memory.
 pub fn next_notice(
     alloc: Global,
     flow: &Flow,

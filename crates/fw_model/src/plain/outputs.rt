@@ -12,7 +12,8 @@ use fw_flow::{Event, Flow, NodeId};
 use fw_time::Stamp;
 use std::alloc::{AllocError, Global};
 
-/// The recs that an output got at a stamp, in ascending order. The only error is want of memory.
+/// The recs that were delivered to an output at a stamp, on whichever edge, each as often as it was delivered, in ascending
+/// order. The only error is want of memory.
 pub fn recs_at(
     alloc: Global,
     flow: &Flow,

@@ -292,7 +292,9 @@ pub(super) fn sends(
     }
 }
 
-/// What a node sent on each of its out-edges, what its latest event sent first. The only error is want of memory.
+/// What the events of a node sent on each of its out-edges: what its latest event sent first, and what one event sent in
+/// the order in which it sent it. Each event must be at a stamp of its node's domain; the events need not be a legal
+/// history. The only error is want of memory.
 #[tactic(auto, using(crate::proofs::SendSteps::sent_more, crate::proofs::SendSteps::sent_same, crate::proofs::SendSteps::at_nodes_last))]
 pub fn sent_by(
     alloc: Global,

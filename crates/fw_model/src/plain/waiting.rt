@@ -52,7 +52,10 @@ pub(super) fn delivered_count(events: &[Event], edge: EdgeId) -> usize
     count
 }
 
-/// What was sent on an edge and not delivered. The only error is want of memory.
+/// What is pending on an edge: what its sender sent, in the order of `sent_by`, so what the latest event sent first, less
+/// what was delivered on the edge. Each delivery, the oldest first, takes away the first message that is left of the same
+/// stamp, rec and causes, and nothing where there is none. Each event must be at a stamp of its node's domain; the events
+/// need not be a legal history. The only error is want of memory.
 pub fn pending(
     alloc: Global,
     flow: &Flow,

@@ -5,7 +5,7 @@ use Rattle.fw_flow.specs.declared.step.Step.TheVariants.{Recover, Collect}
 use Rattle.fw_flow.specs.declared.choice.Cut.TheVariants.{At}
 use Rattle.fw_flow.specs.Dataflow.{kind_of, sender, receiver, bounds_of}
 use Rattle.fw_model.specs.Choice.{ever, kept, until}
-use Rattle.fw_model.specs.Machine.{events, is_failed}
+use Rattle.fw_model.specs.Machine.{events, first_state, is_failed}
 use Rattle.fw_model.specs.Steps.{did, cuts, lows}
 use Rattle.fw_examples.specs.Flows.{loop_counts_up, two_batches}
 use Rattle.fw_examples.specs.OneSelect.{rec_of}
@@ -32,6 +32,8 @@ runs_apply =
     let reached = failure_is_reached.reached in
     let on = recovery_is_reached.goes_on in
     record {
+      goes_on = λ law. law totals (first_state totals) output_failed come_back steps_to_failure (Recover ∷ []) outcomes_to_failure (did (cuts two_epochs_kept) ∷ []) reached
+          (come_back, recovery_is_reached.step, refl);
       legal = λ law. law totals steps_to_failure outcomes_to_failure output_failed failure_is_reached.no_recovery reached;
       denoted = λ law. law totals totals_denoted system.well_formed system.denoted steps_to_failure outcomes_to_failure output_failed failure_is_reached.no_recovery reached;
       in_order = λ law. law totals steps_through_recovery outcomes_through_recovery again_acknowledged run_through_recovery out;

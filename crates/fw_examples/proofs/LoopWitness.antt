@@ -7,6 +7,7 @@ use Rattle.fw_flow.specs.WellFormed.{IsWellFormedSystem, IsBatch}
 use Rattle.fw_model.specs.LawsOfLegalHistories.{HasEpochs}
 use Rattle.fw_model.specs.Machine.{first_state}
 use Rattle.fw_model.specs.Steps.{recovered}
+use Rattle.fw_model.proofs.GoingOn.{runs-go_on}
 use Rattle.fw_examples.specs.Flows.{loop_counts_up, two_batches}
 use Rattle.fw_examples.specs.UnderWay.{complete_fronts}
 use Rattle.fw_examples.specs.Recovery.{counting_failed, restored, steps_taken, outcomes_shown, steps_left, outcomes_left}
@@ -15,7 +16,6 @@ use Rattle.fw_examples.proofs.Walks.{is_well_formed}
 use Rattle.fw_examples.proofs.Rounds.{two_batches_solves}
 use Rattle.fw_examples.proofs.Running.{runs_to_recovery}
 use Rattle.fw_examples.proofs.Ending.{runs_to_the_end}
-use Rattle.fw_examples.proofs.TotalRun.{run_append}
 
 loop_is_well_formed : IsWellFormedSystem two_batches
 unfolding kind_of batches_of
@@ -78,8 +78,8 @@ loop_is_reached = record {
   denoted = two_batches_solves;
   runs = (
     runs_to_the_end.0,
-    run_append two_batches steps_taken steps_left outcomes_shown outcomes_left (first_state two_batches)
-        (recovered two_batches counting_failed restored complete_fronts) runs_to_the_end.0 runs_to_recovery runs_to_the_end.1,
+    runs-go_on two_batches (first_state two_batches) (recovered two_batches counting_failed restored complete_fronts) runs_to_the_end.0
+        steps_taken steps_left outcomes_shown outcomes_left runs_to_recovery runs_to_the_end.1,
   );
   acknowledged = refl;
 }

@@ -47,6 +47,7 @@ unfolding kind_of sender
 projections_apply = record {
   phi_is_frontier = λ law. law two_batches under_way fed_back_edge counted counted_is_frontier;
   phi_is_monotone = λ law. law two_batches under_way fed_back_edge (meet counted begun) counted both_are_counted;
+  phi_by_count = λ law. law regroup_by_three 2 3 1 (kept_epoch 1) (kept_epoch 1) (λ t q. q) (lit≤ tt);
   phi_grows = λ law. law numbers numbered_epoch (Notify 1 (1 ∷ []) ∷ Deliver 0 (value_at 1 3 1) ∷ Inject 0 1 ∷ []) 1 both_epochs;
   phi_ignores_history = λ law u. law two_batches under_way [] fed_back_edge counted u refl;
   phi_of_meet = λ law. law two_batches under_way fed_back_edge counted begun counted_is_frontier begun_is_frontier;

@@ -17,12 +17,13 @@ use Rattle.fw_model.specs.Machine.{Machine, first_state, is_failed}
 use Rattle.fw_model.specs.Steps.{Steps, Run, CutsTo, did, cuts, lows, offers}
 use Rattle.fw_model.specs.LawsOfChoices.{IsUnionOfChoices}
 use Rattle.fw_model.specs.LawsOfExistence.{AreCheckpointsChains}
+use Rattle.fw_model.proofs.GoingOn.{runs-go_on}
 use Rattle.fw_examples.specs.RunningTotal.{totals, total_flow, alike, output_failed, come_back, two_epochs_kept, two_kept_noting, epoch_kept, steps_to_failure, outcomes_to_failure, steps_through_recovery, outcomes_through_recovery, steps_without_failure, outcomes_without_failure, steps_up_to_two, outcomes_up_to_two, steps_of_failure, outcomes_of_failure, steps_of_sum, outcomes_of_sum}
 use Rattle.fw_examples.proofs.Orders.{within_one}
 use Rattle.fw_examples.proofs.FrontierFacts.{is_frontier_of, within_until}
 use Rattle.fw_examples.proofs.ChoiceFacts.{nothing_covered, cover_within, meet_within, within_meet, set_within, canonical, by_three, by_two}
 use Rattle.fw_examples.proofs.TotalDone.{join_within}
-use Rattle.fw_examples.proofs.TotalRun.{ten_acknowledged, two_collected, put_out_acknowledged, again_acknowledged, run_append, runs_to_two, runs_to_failure, runs_without_failure, runs_again}
+use Rattle.fw_examples.proofs.TotalRun.{ten_acknowledged, two_collected, put_out_acknowledged, again_acknowledged, runs_to_two, runs_to_failure, runs_without_failure, runs_again}
 
 -- fewer epochs lie within more
 pub until_within : (n j k : ℕ) → j ≤ k → Within (frontier_of (record { greatest = n ∷ [] }) (until j)) (frontier_of (record { greatest = n ∷ [] }) (until k))
@@ -324,20 +325,20 @@ checkpoints_are_chains lost view (suc (suc (suc p))) one other l r a b = absurd 
 
 pub failed_run : Run totals (first_state totals) steps_to_failure outcomes_to_failure output_failed
 failed_run =
-    run_append totals steps_up_to_two (Collect ∷ steps_of_failure) outcomes_up_to_two (did (lows two_epochs_kept) ∷ outcomes_of_failure) (first_state totals) ten_acknowledged output_failed runs_to_two
+    runs-go_on totals (first_state totals) ten_acknowledged output_failed steps_up_to_two (Collect ∷ steps_of_failure) outcomes_up_to_two (did (lows two_epochs_kept) ∷ outcomes_of_failure) runs_to_two
     (two_collected, collects, runs_to_failure)
 
 pub run_to_recovery : Run totals (first_state totals) (steps_to_failure ++ Recover ∷ []) (outcomes_to_failure ++ did (cuts two_epochs_kept) ∷ []) come_back
 run_to_recovery =
-    run_append totals steps_to_failure (Recover ∷ []) outcomes_to_failure (did (cuts two_epochs_kept) ∷ []) (first_state totals) output_failed come_back failed_run
+    runs-go_on totals (first_state totals) output_failed come_back steps_to_failure (Recover ∷ []) outcomes_to_failure (did (cuts two_epochs_kept) ∷ []) failed_run
     (come_back, recovers, refl)
 
 pub run_through_recovery : Run totals (first_state totals) steps_through_recovery outcomes_through_recovery again_acknowledged
 run_through_recovery =
-    run_append totals steps_to_failure (Recover ∷ steps_of_sum) outcomes_to_failure (did (cuts two_epochs_kept) ∷ outcomes_of_sum) (first_state totals) output_failed again_acknowledged failed_run
+    runs-go_on totals (first_state totals) output_failed again_acknowledged steps_to_failure (Recover ∷ steps_of_sum) outcomes_to_failure (did (cuts two_epochs_kept) ∷ outcomes_of_sum) failed_run
     (come_back, recovers, runs_again)
 
 pub run_without_failure : Run totals (first_state totals) steps_without_failure outcomes_without_failure put_out_acknowledged
 run_without_failure =
-    run_append totals steps_up_to_two (Collect ∷ steps_of_sum) outcomes_up_to_two (did (lows two_epochs_kept) ∷ outcomes_of_sum) (first_state totals) ten_acknowledged put_out_acknowledged runs_to_two
+    runs-go_on totals (first_state totals) ten_acknowledged put_out_acknowledged steps_up_to_two (Collect ∷ steps_of_sum) outcomes_up_to_two (did (lows two_epochs_kept) ∷ outcomes_of_sum) runs_to_two
     (two_collected, collects, runs_without_failure)

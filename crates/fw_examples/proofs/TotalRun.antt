@@ -1,19 +1,18 @@
 -- The runs of the running total, but for what is chosen.
-use Rattle.std.proofs.Common.{◌≡◌, ℕ, zero, suc, Bool, true, false, not, ◌&&◌, ◌||◌, List, [], ◌∷◌, ◌++◌, refl, sym, ap, ◌∙◌, subst, Some, None, lit<, arith, inl}
+use Rattle.std.proofs.Common.{◌≡◌, ℕ, zero, suc, Bool, true, false, not, ◌&&◌, ◌||◌, List, [], ◌∷◌, ◌++◌, refl, sym, ap, ◌∙◌, Some, None, lit<, arith, inl}
 use Rattle.std.proofs.lemmas.Bool.{false≢true, true≢false, and_parts, and_from}
 use Rattle.fw_time.specs.Stamp.{Stamp, same, in_domain}
 use Rattle.fw_frontier.specs.Frontier.{Frontier, Within}
 use Rattle.fw_flow.specs.declared.event.Event.{Event}
 use Rattle.fw_flow.specs.declared.event.Event.TheVariants.{Inject as Injected, Deliver as Delivered, Notify as Notified}
-use Rattle.fw_flow.specs.declared.step.Step.{Step}
 use Rattle.fw_flow.specs.declared.step.Step.TheVariants.{Inject, Deliver, Notify, Progress, Checkpoint, Persist, Fail, Ack}
-use Rattle.fw_flow.specs.Dataflow.{System, kind_of, policy_of, sender, receiver, bounds_of, batches_of}
+use Rattle.fw_flow.specs.Dataflow.{kind_of, policy_of, sender, receiver, bounds_of, batches_of}
 use Rattle.fw_flow.specs.NodeFunction.{sends}
 use Rattle.fw_flow.specs.Projection.{phi}
 use Rattle.fw_model.specs.Choice.{until}
 use Rattle.fw_model.specs.History.{some_at, pending, owed, injected_epochs, IsQuiet, IsAdmissible, IsComplete, IsNotifiable, IsLegal}
 use Rattle.fw_model.specs.Machine.{Machine, Write, Progress as Written, first_state, events, checkpoint, in_flight, acknowledged, collected, is_failed}
-use Rattle.fw_model.specs.Steps.{Steps, Run, Outcome, with_event, did, quiet, acked}
+use Rattle.fw_model.specs.Steps.{Steps, Run, with_event, did, quiet, acked}
 use Rattle.fw_examples.specs.OneSelect.{rec_of}
 use Rattle.fw_examples.specs.RunningTotal.{totals, total_flow, at_epoch, alike, two_epochs, next_epochs, output_failed, come_back, steps_up_to_two, outcomes_up_to_two, steps_of_failure, outcomes_of_failure, steps_of_sum, outcomes_of_sum}
 use Rattle.fw_examples.proofs.FrontierFacts.{is_frontier_of, within_until, one_not_same}
@@ -419,16 +418,6 @@ unfolding kind_of receiver bounds_of policy_of
 acknowledges_again = (2, record { declared = lit< tt; output = refl; live = refl; next = refl; settled = refl; there = inl (inl (lit< tt)) }, refl, refl)
 
 -- ---- the runs
-
--- one run after another
-pub run_append : (sys : System) (steps more : List Step) (outcomes others : List Outcome) (state between last : Machine)
-    → Run sys state steps outcomes between → Run sys between more others last
-    → Run sys state (steps ++ more) (outcomes ++ others) last
-run_append sys [] more [] others state between last r s = subst (λ m. Run sys m more others last) r s
-run_append sys [] more (o ∷ os) others state between last r s = absurd r
-run_append sys (x ∷ xs) more [] others state between last r s = absurd r
-run_append sys (x ∷ xs) more (o ∷ os) others state between last r s =
-    (r.0, r.1, run_append sys xs more os others r.0 between last r.2 s)
 
 pub runs_to_two : Run totals (first_state totals) steps_up_to_two outcomes_up_to_two ten_acknowledged
 runs_to_two = (

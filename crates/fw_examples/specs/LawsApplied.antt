@@ -19,8 +19,8 @@ use Rattle.fw_flow.specs.declared.choice.Choice.{Choice}
 use Rattle.fw_model.specs.Choice.{View, ever, kept, until, cut_of, kept_of, IsCandidate, IsConsistent, IsCutWithin, IsChoiceWithin, IsLargest, delivered_cover, notified_cover, discarded_cover, filtered}
 use Rattle.fw_model.specs.Denotation.{bag_at}
 use Rattle.fw_model.specs.History.{IsAdmissible, IsComplete, IsLegal, pending, sent, delivered, injected_count}
-use Rattle.fw_model.specs.Machine.{Machine, events, is_failed}
-use Rattle.fw_model.specs.Steps.{Outcome, Steps, GrowsTo, did, cuts}
+use Rattle.fw_model.specs.Machine.{Machine, events, first_state, is_failed}
+use Rattle.fw_model.specs.Steps.{Outcome, Steps, Run, GrowsTo, did, cuts}
 use Rattle.fw_model.specs.LawsOfChoices as choices
 use Rattle.fw_model.specs.LawsOfChoosing as choosing
 use Rattle.fw_model.specs.LawsOfCompleteFrontiers as complete
@@ -37,7 +37,7 @@ use Rattle.fw_examples.specs.Flows.{loop_counts_up, regroup_by_three, two_batche
 use Rattle.fw_examples.specs.UnderWay.{under_way, counted_rounds}
 use Rattle.fw_examples.specs.Recovery.{counting_failed, restored}
 use Rattle.fw_examples.specs.OneSelect.{rec_of}
-use Rattle.fw_examples.specs.RunningTotal.{totals, total_flow, totals_denoted, src, run, out, src_to_run, run_to_out, at_epoch, two_epochs, next_epochs, output_failed, come_back, two_epochs_kept, two_kept_noting, epoch_kept, outcomes_to_failure, outcomes_through_recovery, outcomes_without_failure}
+use Rattle.fw_examples.specs.RunningTotal.{totals, total_flow, totals_denoted, src, run, out, src_to_run, run_to_out, at_epoch, two_epochs, next_epochs, output_failed, come_back, two_epochs_kept, two_kept_noting, epoch_kept, steps_to_failure, outcomes_to_failure, outcomes_through_recovery, outcomes_without_failure}
 use Rattle.fw_examples.specs.Numbers.{numbers, numbered_both}
 use Rattle.fw_examples.specs.WitnessesOfRuns.{complete_then}
 use Rattle.fw_examples.specs.WitnessesOfChoices.{inc, first_rounds, both_rounds, joined_rounds}
@@ -46,6 +46,8 @@ use Rattle.fw_examples.specs.WitnessesOfFiltering.{kept_rounds, kept_epoch, two_
 
 -- the laws of runs and of recoveries, of the runs of the running total
 pub record RunsApply : Type 0 where
+  pub goes_on : runs.RunsGoOn
+      → Run totals (first_state totals) (steps_to_failure ++ Recover ∷ []) (outcomes_to_failure ++ did (cuts two_epochs_kept) ∷ []) come_back
   pub legal : runs.RunsStayLegal → IsLegal totals (events output_failed.history)
   pub denoted : runs.AcknowledgementsShowDenotation → AllByRecursion (runs.IsDenoted totals totals_denoted) outcomes_to_failure
   pub in_order : runs.AcknowledgementsAreInOrder → runs.stamps_acknowledged out outcomes_through_recovery ≡ runs.first_stamps 3

@@ -9,7 +9,7 @@ use Rattle.fw_flow.specs.declared.event.Message.{Message}
 use Rattle.fw_flow.specs.declared.kind.Kind.TheVariants.{Sequence}
 use Rattle.fw_flow.specs.Dataflow.{kind_of, sender, receiver, bounds_of, send_stamp}
 use Rattle.fw_flow.specs.NodeFunction.{sends}
-use Rattle.fw_flow.specs.Projection.{all_inside, phi, psi, psi_back}
+use Rattle.fw_flow.specs.Projection.{all_inside, phi, phi_by_count, psi, psi_back}
 use Rattle.fw_flow.specs.WholeBags.{Timed, recs_where, in_order, outputs_of}
 use Rattle.fw_model.specs.Choice.{until}
 use Rattle.fw_model.specs.Denotation.{Family, IsDenotation, rounds}
@@ -48,6 +48,8 @@ pub record ProjectionsApply : Type 0 where
       → IsFrontier (projections.bounds_of_edge loop_counts_up fed_back_edge) (phi two_batches under_way fed_back_edge counted)
   pub phi_is_monotone : projections.PhiIsMonotone
       → Within (phi two_batches under_way fed_back_edge (meet counted begun)) (phi two_batches under_way fed_back_edge counted)
+  pub phi_by_count : projections.PhiByCountIsMonotone
+      → Within (phi_by_count regroup_by_three 2 1 (kept_epoch 1)) (phi_by_count regroup_by_three 3 1 (kept_epoch 1))
   pub phi_grows : projections.PhiGrowsWithHistory → Within (phi numbers numbered_epoch 1 both_epochs) (phi numbers numbered_both 1 both_epochs)
   pub phi_ignores_history : projections.PhiIgnoresHistory → (u : Stamp)
       → phi two_batches under_way fed_back_edge counted u ≡ phi two_batches [] fed_back_edge counted u

@@ -26,8 +26,9 @@ use Rattle.fw_model.specs.LawsOfFiltering.{NotifiesNobody}
 use Rattle.fw_model.specs.LawsOfLegalHistories.{HasEpochs}
 use Rattle.fw_model.specs.Machine.{Machine, Write, events, first_state, front_of, is_failed, no_stamps, places}
 use Rattle.fw_model.specs.Plain.{AreAtNodes}
-use Rattle.fw_model.specs.Steps.{Effect, quiet, Outcome, did, idle, with_event, write_of_event, Takes, Steps, Run, IsNextMessage, GrowsTo, CutsTo, IsSettledCut}
+use Rattle.fw_model.specs.Steps.{Effect, quiet, Outcome, did, idle, with_event, write_of_event, Takes, Steps, IsNextMessage, GrowsTo, CutsTo, IsSettledCut}
 use Rattle.fw_model.proofs.DomainLaws.{has_epochs}
+use Rattle.fw_model.proofs.GoingOn.{runs-go_on}
 use Rattle.fw_model.proofs.LegalLaws.{legal_events-in_domain}
 use Rattle.fw_model.proofs.RecoveryLaws.{runs-legal}
 use Rattle.fw_plain.specs.Engine.{Standing, KeepsNothing, state_of, IsReached, IsOfEachNode, IsSound, is_plain_step}
@@ -36,18 +37,9 @@ use Rattle.fw_plain.proofs.FrontsLaws.{names-no_stamps}
 
 -- ---- runs
 
--- a run goes on by one more step
-run_more : (sys : System) (state mid next : Machine) (steps : List Step) (outcomes : List Outcome) (step : Step) (outcome : Outcome)
-    → Run sys state steps outcomes mid → Steps sys mid step next outcome → Run sys state (steps ++ step ∷ []) (outcomes ++ outcome ∷ []) next
-run_more sys state mid next [] [] step outcome r t = (next, subst (λ m. Steps sys m step next outcome) r t, refl)
-run_more sys state mid next [] (o ∷ outcomes) step outcome r t = absurd r
-run_more sys state mid next (s ∷ steps) [] step outcome r t = absurd r
-run_more sys state mid next (s ∷ steps) (o ∷ outcomes) step outcome r t =
-    (r.0, r.1, run_more sys r.0 mid next steps outcomes step outcome r.2 t)
-
 reached_more : (sys : System) (state next : Machine) (step : Step) (outcome : Outcome) → IsReached sys state → Steps sys state step next outcome → IsReached sys next
 reached_more sys state next step outcome r t =
-    (r.0 ++ step ∷ [], r.1 ++ outcome ∷ [], run_more sys (first_state sys) state next r.0 r.1 step outcome r.2 t)
+    (r.0 ++ step ∷ [], r.1 ++ outcome ∷ [], runs-go_on sys (first_state sys) state next r.0 (step ∷ []) r.1 (outcome ∷ []) r.2 (next, t, refl))
 
 -- ---- what the state says of each node
 

@@ -3,7 +3,7 @@ ghost use Rattle.std.specs.Prelude.{◌≡◌, ◌⊎◌, ◌≤◌, ◌↔◌, 
 ghost use Rattle.fw_lines.specs.declared.refusal.Refusal as lines;
 ghost use Rattle.fw_outside.specs.Outside.{Rose};
 ghost use Rattle.fw_run.specs.Headline.{Prints, PrintsPart, IsRunEnd, StaysLegal, ShowsDenotation, AcknowledgesInOrder, HasOneRun, RecoversFailed, CutsToLargest};
-ghost use Rattle.fw_run.specs.Texts.{Texts, AreThere, AreAccepted, IsFirstRefusal, spelled_system, spelled_steps};
+ghost use Rattle.fw_run.specs.Texts.{Texts, AreThere, AreAccepted, IsFirstRefusal, AreFetchedInTurn, spelled_system, spelled_steps};
 ghost use Rattle.fw_run.specs.Words.{words_in, are_run_words, names_of};
 ghost use Rattle.fw_run.specs.Status.{number_of, note_of, IsTold, IsRefused, status_numbers};
 
@@ -45,6 +45,12 @@ pub fn falkirk<F: Folder, K: Store, O: Sink, N: Sink>(
     ensures refused { (refusal : lines.Refusal) → let names = names_of (words_in words.now) in
         result ≡ Status.Refused refusal → IsFirstRefusal (F.texts folder.old) names refusal }
 
+    // Each text is asked for only where those before it are accepted, and at 2 none is. They stay as they are.
+    ensures in_turn { let names = names_of (words_in words.now) in
+        AreFetchedInTurn (F.texts folder.old) names (F.fetch_count folder.old) (F.fetch_count folder.new) }
+    ensures nothing_read { result ≡ Status.BadWords → folder.new ≡ folder.old }
+    ensures texts_stay { F.texts folder.new ≡ F.texts folder.old }
+
     // Where the folder tells its texts, a text that is not accepted is refused and accepted ones are run, unless what is
     // outside fails or memory is refused.
     ensures refuses { (refusal : lines.Refusal) → let names = names_of (words_in words.now) in
@@ -71,9 +77,8 @@ pub fn falkirk<F: Folder, K: Store, O: Sink, N: Sink>(
     ensures notes { IsTold (note_of result) (N.taken notes.old) (N.taken notes.new) (N.has_refused notes.new) }
     ensures no_notes { result ≡ Status.Done → notes.new ≡ notes.old }
 
-    // The store and the folder's texts stay as they were, and no count of faults falls.
+    // The store stays as it was, and no count of faults falls.
     ensures store { store.new ≡ store.old }
-    ensures folder { F.texts folder.new ≡ F.texts folder.old }
     ensures never_fall { (F.fault_count folder.old ≤ F.fault_count folder.new)
         × (O.fault_count out.old ≤ O.fault_count out.new) × (N.fault_count notes.old ≤ N.fault_count notes.new) }
 {

@@ -1,6 +1,6 @@
 //! Objects in memory that fail at the calls that they are told to, and what a run makes of it.
 use crate::ample_memory::keep_a_record;
-use crate::runs::ONE_SELECT;
+use crate::runs::{ONE_SELECT, run_words};
 use fw_outside::{
     FetchFault, Folder, MemFolder, MemSink, MemStore, MemText, OutFault, Sink, Store,
 };
@@ -45,7 +45,13 @@ fn stores_fail_when_told(rt: HostRuntime) -> Result<(), Fail> {
 #[test]
 fn folder_that_fails_later_ends_a_run(rt: HostRuntime) -> Result<(), Fail> {
     let alloc = rt.alloc();
-    for call in 0..3 {
+    // there is no fourth call
+    for (call, status, text, note) in [
+        (0, 6, "", "read fault\n"),
+        (1, 6, "", "read fault\n"),
+        (2, 6, "", "read fault\n"),
+        (3, 0, "done steps 0 idle 0\n", ""),
+    ] {
         let texts = vec![in alloc;
             MemText::new(alloc, "flow", ONE_SELECT.as_bytes())?,
             MemText::new(alloc, "nothing", b"")?,
@@ -55,10 +61,31 @@ fn folder_that_fails_later_ends_a_run(rt: HostRuntime) -> Result<(), Fail> {
         let mut out = MemSink::new(alloc, Vec::new(alloc));
         let mut notes = MemSink::new(alloc, Vec::new(alloc));
         let words = ["run", "flow", "nothing", "nothing"];
-        let status = falkirk(alloc, &words, &mut folder, &mut store, &mut out, &mut notes);
-        assert_eq!(rt; status.number(), 6, "at {call}");
-        assert_eq!(rt; out.taken().len(), 0, "at {call}");
-        assert_eq!(rt; notes.taken(), b"read fault\n".as_slice(), "at {call}");
+        let ended = falkirk(alloc, &words, &mut folder, &mut store, &mut out, &mut notes);
+        assert_eq!(rt; ended.number(), status, "at {call}");
+        assert_eq!(rt; out.taken(), text.as_bytes(), "at {call}");
+        assert_eq!(rt; notes.taken(), note.as_bytes(), "at {call}");
+    }
+    Ok(())
+}
+
+#[test]
+fn later_texts_play_no_part(rt: HostRuntime) -> Result<(), Fail> {
+    let alloc = rt.alloc();
+    // a text that is refused, and none under the names that follow
+    for (flow, name, status, note) in [
+        ("node", "other", 3, "refused F1 line 1\n"),
+        (ONE_SELECT, "inputs", 4, "refused I1 line 1\n"),
+    ] {
+        let texts = vec![in alloc;
+            MemText::new(alloc, "flow", flow.as_bytes())?,
+            MemText::new(alloc, name, b"batch")?,
+        ]?;
+        let words = ["run", "flow", "inputs", "schedule"];
+        let ran = run_words(alloc, &words, texts, Vec::new(alloc))?;
+        assert_eq!(rt; ran.status, status, "at {name}");
+        assert_eq!(rt; ran.notes.as_slice(), note.as_bytes(), "at {name}");
+        assert_eq!(rt; ran.out.len(), 0, "at {name}");
     }
     Ok(())
 }

@@ -47,12 +47,12 @@ impl<R: Files> Folder for FileFolder<'_, R> {
         self.fetches = one_more(self.fetches);
         into.clear();
         if let Err(error) = read_first(self.files, name, limit as u64 + 1, into) {
-            self.faults = raised(self.faults);
             into.clear();
-            return Err(match error.kind() {
-                ErrorKind::OutOfMemory => FetchFault::NoMemory,
-                _ => FetchFault::Failed,
-            });
+            if error.kind() == ErrorKind::OutOfMemory {
+                return Err(FetchFault::NoMemory);
+            }
+            self.faults = raised(self.faults);
+            return Err(FetchFault::Failed);
         }
         if into.len() > limit {
             into.truncate(limit + 1);

@@ -10,6 +10,7 @@ use Rattle.fw_flow.specs.declared.step.Step.TheVariants.{Inject, Deliver, Notify
 use Rattle.fw_flow.specs.Dataflow.{Dataflow, System}
 use Rattle.fw_flow.specs.WellFormed.{IsWellFormedSystem}
 use Rattle.fw_model.proofs.ChoosingLaws.{reached-one_next}
+use Rattle.fw_model.proofs.GoingOn.{runs-go_on}
 use Rattle.fw_model.proofs.OneNextLaws.{one_next}
 use Rattle.fw_model.specs.Machine.{Machine, first_state}
 use Rattle.fw_model.specs.Steps.{Effect, Outcome, did, idle, Takes as TakesStep, Steps, Run}
@@ -19,15 +20,6 @@ use Rattle.fw_run.specs.Performing.{IsShownOf, IsStepPrinted, IsStepPartPrinted}
 use Rattle.fw_run.specs.Printed.{outcome_text, outcomes_text, is_idle, idle_count, done_line, text_of}
 
 -- ---- runs
-
--- a run of further steps goes on where a run ended
-run_join : (sys : System) (state mid last : Machine) (steps others : List Step) (first second : List Outcome)
-    → Run sys state steps first mid → Run sys mid others second last → Run sys state (steps ++ others) (first ++ second) last
-run_join sys state mid last [] others [] second r s = subst (λ m. Run sys m others second last) r s
-run_join sys state mid last [] others (o ∷ first) second r s = absurd r
-run_join sys state mid last (step ∷ steps) others [] second r s = absurd r
-run_join sys state mid last (step ∷ steps) others (o ∷ first) second r s =
-    (r.0, r.1, run_join sys r.0 mid last steps others first second r.2 s)
 
 -- a run has an outcome for each step
 run_length : (sys : System) (state last : Machine) (steps : List Step) (outcomes : List Outcome) → Run sys state steps outcomes last → length outcomes ≡ length steps
@@ -46,7 +38,7 @@ run_exists : (sys : System) → IsWellFormedSystem sys → (before : List Step) 
 run_exists sys w before earlier state r [] = ([], state, refl)
 run_exists sys w before earlier state r (step ∷ steps) =
     let next = reached-one_next sys w before earlier state r step in
-    let rest = run_exists sys w (before ++ step ∷ []) (earlier ++ next.1 ∷ []) next.0 (run_join sys (first_state sys) state next.0 before (step ∷ []) earlier (next.1 ∷ []) r (next.0, next.2.steps, refl)) steps in
+    let rest = run_exists sys w (before ++ step ∷ []) (earlier ++ next.1 ∷ []) next.0 (runs-go_on sys (first_state sys) state next.0 before (step ∷ []) earlier (next.1 ∷ []) r (next.0, next.2.steps, refl)) steps in
     (next.1 ∷ rest.0, rest.1, (next.0, next.2.steps, rest.2))
 
 -- two runs of the same steps from a state are one
@@ -153,7 +145,7 @@ so_far_more sys steps old new step idle_steps was_idle before mid after s e p =
     record {
       system = e ∙ s.system;
       outcomes = s.outcomes ++ o ∷ [];
-      run = run_join sys (first_state sys) old.state new.state steps (step ∷ []) s.outcomes (o ∷ []) s.run (new.state, one, refl);
+      run = runs-go_on sys (first_state sys) old.state new.state steps (step ∷ []) s.outcomes (o ∷ []) s.run (new.state, one, refl);
       idle = ap (λ b. cond b (idle_steps + 1) idle_steps) p.is_idle ∙ ap (λ n. cond (is_idle o) (n + 1) n) s.idle ∙ sym (count_more s.outcomes o);
       taken = subst (λ t. Takes before t after) (sym (flat_map-append (outcome_text sys.flow) s.outcomes (o ∷ []) ∙ ap (λ t. outcomes_text sys.flow s.outcomes ++ t) (append-nil (outcome_text sys.flow o)))) (takes_more before mid after (outcomes_text sys.flow s.outcomes) (outcome_text sys.flow o) s.taken line);
     }
@@ -176,7 +168,7 @@ part sys steps others standing idle_steps before mid after s second last front r
       record {
         outcomes = s.outcomes ++ second;
         last = last;
-        run = run_join sys (first_state sys) standing.state last steps others s.outcomes second s.run r;
+        run = runs-go_on sys (first_state sys) standing.state last steps others s.outcomes second s.run r;
         text = refl;
       },
       subst (λ t. TakesPrefix before t after) (sym same) (prefix_more before mid after (outcomes_text sys.flow s.outcomes) front rest s.taken p),
@@ -200,7 +192,7 @@ stops_within sys steps others standing step idle_steps before mid after s w (inl
 stops_within sys steps others standing step idle_steps before mid after s w (inr (next, o, t, p)) =
     let one : Steps sys standing.state step next o = along sys standing (λ y. Steps y standing.state step next o) s.system t in
     let line : TakesPrefix mid (outcome_text sys.flow o) after = along sys standing (λ y. TakesPrefix mid (outcome_text y.flow o) after) s.system p in
-    let further = run_join sys (first_state sys) standing.state next steps (step ∷ []) s.outcomes (o ∷ []) s.run (next, one, refl) in
+    let further = runs-go_on sys (first_state sys) standing.state next steps (step ∷ []) s.outcomes (o ∷ []) s.run (next, one, refl) in
     let rest = run_exists sys w (steps ++ step ∷ []) (s.outcomes ++ o ∷ []) next further others in
     let tail = done_line (length (s.outcomes ++ o ∷ rest.0)) (idle_count (s.outcomes ++ o ∷ rest.0)) in
     part sys steps (step ∷ others) standing idle_steps before mid after s (o ∷ rest.0) rest.1 (outcome_text sys.flow o) (outcomes_text sys.flow rest.0 ++ tail) (next, one, rest.2) (append_assoc (outcome_text sys.flow o) (outcomes_text sys.flow rest.0) tail) line

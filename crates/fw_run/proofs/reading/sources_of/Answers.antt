@@ -16,4 +16,4 @@ pub loop-place-preserved : goal.loop-place-preserved
 loop-place-preserved c =
     let flow = c.args.flow.now in
     let place = c.loop-place.place in
-    c.in_ok-with_source.ensures ∙ ap (λ t. t ++ source_at flow place) c.loop-place.invariant ∙ sym (sources_more flow place)
+    c.in_ok-sources.ensures ∙ ap (λ t. t ++ source_at flow place) c.loop-place.invariant ∙ sym (sources_more flow place)

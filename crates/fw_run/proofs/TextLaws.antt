@@ -72,10 +72,10 @@ pub well_formed_system : (texts : Texts) → AreAccepted texts → IsWellFormedS
 well_formed_system texts a =
     let flow = spelled_flow texts.flow in
     record {
-      flow = a.first.checked.well_formed;
+      flow = a.flow.checked.well_formed;
       one_each = length-map-range_with_len (inputs.batches_of (sources_of flow) (said_lines texts.inputs)) 0 (length flow.nodes);
       of_inputs = batches-of_inputs texts;
-      few = few_epochs texts a.second;
+      few = few_epochs texts a.inputs;
       batches = bags-of_inputs texts;
     }
 
@@ -115,11 +115,11 @@ job_read told names job f i s =
     let value : job.flow ≡ spelled_flow f.text = f.so.checked.value in
     record {
       texts = texts;
-      there = record { first = f.there; second = i.there; third = s.there };
+      there = record { flow = f.there; inputs = i.there; schedule = s.there };
       accepted = record {
-        first = subst (flows.IsAccepted f.text) value f.so;
-        second = subst (λ flow. AreInputsOf flow i.text) value (record { size = i.so.size; sound = i.so.sound });
-        third = subst (λ flow. schedules.IsAccepted s.text flow (steps_of flow (said_lines s.text))) value (record { size = s.so.size; sound = s.so.sound; value = refl });
+        flow = subst (flows.IsAccepted f.text) value f.so;
+        inputs = subst (λ flow. AreInputsOf flow i.text) value (record { size = i.so.size; sound = i.so.sound });
+        schedule = subst (λ flow. schedules.IsAccepted s.text flow (steps_of flow (said_lines s.text))) value (record { size = s.so.size; sound = s.so.sound; value = refl });
       };
       system = system_read f.text i.text job.flow job.batches value i.so;
       steps = s.so.value ∙ ap (λ flow. steps_of flow (said_lines s.text)) value;
@@ -191,13 +191,13 @@ one_first_refusal texts names r s (inr (flow, a, rest)) (inr (other, b, more)) =
 -- accepted texts are not refused
 pub accepted_or_refused : (texts : List ℕ → Option (List ℕ)) (names : Names) (three : Texts) (r : Refusal) → AreThere (Some texts) names three → AreAccepted three → IsFirstRefusal (Some texts) names r → ⊥
 accepted_or_refused texts names three r t a (inl p) =
-    flow_texts.accepted_or_refused three.flow (spelled_flow three.flow) r a.first (subst (λ text. flows.IsRefused text r) (same_text texts names.flow p.text three.flow p.there t.first) p.so)
+    flow_texts.accepted_or_refused three.flow (spelled_flow three.flow) r a.flow (subst (λ text. flows.IsRefused text r) (same_text texts names.flow p.text three.flow p.there t.flow) p.so)
 accepted_or_refused texts names three r t a (inr (flow, p, rest)) =
-    by (subst Later (same_flow texts names.flow flow (spelled_flow three.flow) p (record { text = three.flow; there = t.first; so = a.first })) rest)
+    by (subst Later (same_flow texts names.flow flow (spelled_flow three.flow) p (record { text = three.flow; there = t.flow; so = a.flow })) rest)
   where
     Later : Dataflow → Type 0
     Later f = AreInputsRefused (Some texts) names.inputs f r ⊎ (HasText (Some texts) names.inputs (AreInputsOf f) × IsScheduleRefused (Some texts) names.schedule f r)
 
     by : Later (spelled_flow three.flow) → ⊥
-    by (inl q) = inputs_or_refused (spelled_flow three.flow) three.inputs r a.second (subst (λ text. inputs.IsRefused text (sources_of (spelled_flow three.flow)) r) (same_text texts names.inputs q.text three.inputs q.there t.second) q.so)
-    by (inr q) = schedule_texts.accepted_or_refused three.schedule (spelled_flow three.flow) (spelled_steps three) r a.third (subst (λ text. schedules.IsRefused text (spelled_flow three.flow) r) (same_text texts names.schedule q.1.text three.schedule q.1.there t.third) q.1.so)
+    by (inl q) = inputs_or_refused (spelled_flow three.flow) three.inputs r a.inputs (subst (λ text. inputs.IsRefused text (sources_of (spelled_flow three.flow)) r) (same_text texts names.inputs q.text three.inputs q.there t.inputs) q.so)
+    by (inr q) = schedule_texts.accepted_or_refused three.schedule (spelled_flow three.flow) (spelled_steps three) r a.schedule (subst (λ text. schedules.IsRefused text (spelled_flow three.flow) r) (same_text texts names.schedule q.1.text three.schedule q.1.there t.schedule) q.1.so)

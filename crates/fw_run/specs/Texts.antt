@@ -63,9 +63,9 @@ IsScheduleOf flow text = schedules.IsAccepted text flow (steps_of flow (said_lin
 
 -- the three texts are accepted: of a flow, its inputs and its schedule
 pub record AreAccepted (texts : Texts) : Type 0 where
-  pub first : IsFlow texts.flow
-  pub second : AreInputsOf (spelled_flow texts.flow) texts.inputs
-  pub third : IsScheduleOf (spelled_flow texts.flow) texts.schedule
+  pub flow : IsFlow texts.flow
+  pub inputs : AreInputsOf (spelled_flow texts.flow) texts.inputs
+  pub schedule : IsScheduleOf (spelled_flow texts.flow) texts.schedule
 
 -- the folder has a text under the name, where it tells its texts, and this is true of it
 pub record HasText (told : Option (List ℕ → Option (List ℕ))) (name : List ℕ) (IsSo : List ℕ → Type 0) : Type 0 where
@@ -75,9 +75,9 @@ pub record HasText (told : Option (List ℕ → Option (List ℕ))) (name : List
 
 -- the folder has these texts under these names, where it tells its texts
 pub record AreThere (told : Option (List ℕ → Option (List ℕ))) (names : Names) (texts : Texts) : Type 0 where
-  pub first : IsText told names.flow texts.flow
-  pub second : IsText told names.inputs texts.inputs
-  pub third : IsText told names.schedule texts.schedule
+  pub flow : IsText told names.flow texts.flow
+  pub inputs : IsText told names.inputs texts.inputs
+  pub schedule : IsText told names.schedule texts.schedule
 
 -- the text under the name is refused as a flow's
 abbrev pub IsFlowRefused : Option (List ℕ → Option (List ℕ)) → List ℕ → Refusal → Type 0

@@ -1,12 +1,12 @@
--- What the corners of a list of views have outside in a plane.
-use Rattle.std.proofs.Common.{◌≡◌, ℕ, ◌+◌, ◌-◌, ◌≤◌, ◌<◌, Bool, true, false, not, ◌&&◌, ◌||◌, nat_lt, cond, List, [], ◌∷◌, length, get_or, refl, sym, ap, ◌∙◌, zero, suc, ◌⊎◌, inl, inr, arith}
+-- What the corners of a list of points have outside in a plane.
+use Rattle.std.proofs.Common.{◌≡◌, ℕ, ◌-◌, ◌≤◌, ◌<◌, Bool, true, false, ◌&&◌, ◌||◌, nat_lt, cond, List, [], ◌∷◌, length, get_or, refl, sym, ap, ◌∙◌, zero, suc, inl, inr, arith}
 use Rattle.std.proofs.lemmas.Bool.{cases_lt}
 use Rattle.std.proofs.lemmas.Bool.Decides.{nat_tests}
 use Rattle.std.proofs.lemmas.List.Folds.{Any-from_list_any, list_any_at}
-use Rattle.std.specs.List.{AllByRecursion, AllWithin, Any, list_any}
+use Rattle.std.specs.List.{AllByRecursion, AllWithin, list_any}
 use Rattle.std.specs.List.Sorted.{IsNonDecreasingBy}
 use Rattle.fw_time.proofs.StampLaws.{and_left, and_right, both}
-use Rattle.fw_frontier.specs.declared.planes.View.{View}
+use Rattle.fw_frontier.specs.declared.planes.Point.{Point}
 use Rattle.fw_frontier.specs.declared.planes.Corner.{Corner}
 use Rattle.fw_frontier.specs.Planes.{is_before, reaches, corners_of}
 
@@ -34,10 +34,10 @@ not_below x y h = grind (arith, nat_tests)
 from_not_below : (x y : ℕ) → nat_lt x y ≡ false → y ≤ x
 from_not_below x y h = grind (arith, nat_tests)
 
--- ---- the order of the views and of the corners
+-- ---- the order of the points and of the corners
 
--- each later view is at least as far along
-Ascends : List View → Type 0
+-- each later point is at least as far along
+Ascends : List Point → Type 0
 Ascends [] = Unit {0}
 Ascends (v ∷ vs) = AllByRecursion (λ u. v.x ≤ u.x) vs × Ascends vs
 
@@ -50,12 +50,12 @@ all-at P [] k d l h = absurd (omega arith)
 all-at P (x ∷ xs) zero d l h = h.0
 all-at P (x ∷ xs) (suc k) d l h = all-at P xs k d (omega arith) h.1
 
-ascends : (vs : List View) → IsNonDecreasingBy (λ v. v.x) vs → Ascends vs
+ascends : (vs : List Point) → IsNonDecreasingBy (λ v. v.x) vs → Ascends vs
 unfolding Ascends
 ascends [] h = tt
 ascends (v ∷ vs) h = (all-each (λ u. v.x ≤ u.x) vs (λ k d l. h 0 (suc k) d (omega arith) (omega arith)), ascends vs (λ i j d l m. h (suc i) (suc j) d (omega arith) (omega arith)))
 
-corners-past : (m : ℕ) (vs : List View) (z w low : ℕ) → AllByRecursion (λ v. m ≤ v.x) vs → AllByRecursion (λ c. m ≤ c.x) (corners_of vs z w low)
+corners-past : (m : ℕ) (vs : List Point) (z w low : ℕ) → AllByRecursion (λ v. m ≤ v.x) vs → AllByRecursion (λ c. m ≤ c.x) (corners_of vs z w low)
 corners-past m [] z w low h = tt
 corners-past m (v ∷ vs) z w low h = by (nat_lt v.z z && (nat_lt v.w w && nat_lt v.y low)) (λ k. corners-past m vs z w k h.1)
   where
@@ -70,8 +70,8 @@ ascend-cons c cs h k zero (suc j) d l m = all-at (λ e. c.x ≤ e.x) cs j d (ome
 ascend-cons c cs h k (suc i) zero d l m = absurd (omega arith)
 ascend-cons c cs h k (suc i) (suc j) d l m = k i j d (omega arith) (omega arith)
 
--- the corners of ascending views are each at least as far along as those before
-corners-ascend : (vs : List View) (z w low : ℕ) → Ascends vs → IsNonDecreasingBy (λ c. c.x) (corners_of vs z w low)
+-- the corners of ascending points are each at least as far along as those before
+corners-ascend : (vs : List Point) (z w low : ℕ) → Ascends vs → IsNonDecreasingBy (λ c. c.x) (corners_of vs z w low)
 unfolding Ascends
 corners-ascend [] z w low h = λ i j d l m. absurd (omega arith)
 corners-ascend (v ∷ vs) z w low h = by (nat_lt v.z z && (nat_lt v.w w && nat_lt v.y low)) (λ k. corners-ascend vs z w k h.1)
@@ -80,7 +80,7 @@ corners-ascend (v ∷ vs) z w low h = by (nat_lt v.z z && (nat_lt v.w w && nat_l
     by true r = ascend-cons (record { x = v.x; y = v.y }) (corners_of vs z w v.y) (corners-past v.x vs z w v.y h.0) (r v.y)
     by false r = r low
 
-pub corners-sorted : (vs : List View) (z w low : ℕ) → IsNonDecreasingBy (λ v. v.x) vs → IsNonDecreasingBy (λ c. c.x) (corners_of vs z w low)
+pub corners-sorted : (vs : List Point) (z w low : ℕ) → IsNonDecreasingBy (λ v. v.x) vs → IsNonDecreasingBy (λ c. c.x) (corners_of vs z w low)
 corners-sorted vs z w low h = corners-ascend vs z w low (ascends vs h)
 
 -- each corner is lower than those before
@@ -88,7 +88,7 @@ Falls : ℕ → List Corner → Type 0
 Falls low [] = Unit {0}
 Falls low (c ∷ cs) = (c.y < low) × Falls c.y cs
 
-corners-fall : (vs : List View) (z w low : ℕ) → Falls low (corners_of vs z w low)
+corners-fall : (vs : List Point) (z w low : ℕ) → Falls low (corners_of vs z w low)
 unfolding Falls
 corners-fall [] z w low = tt
 corners-fall (v ∷ vs) z w low = by (nat_lt v.z z) (nat_lt v.w w) (nat_lt v.y low) refl (λ k. corners-fall vs z w k)
@@ -148,7 +148,7 @@ look-up cs x y p low d falls within before after = same-by (nat_lt 0 p && nat_lt
         let lower : (get_or cs (p - 1) d).y ≤ (get_or cs w.0 c).y = falls-at low cs w.0 (p - 1) c d falls (omega arith) (omega arith) in
         both (nat_lt 0 p) (nat_lt (get_or cs (p - 1) d).y y) (to_below 0 p (omega arith)) (to_below (get_or cs (p - 1) d).y y (omega arith))
 
--- ---- the corners reach as far as the views
+-- ---- the corners reach as far as the points
 
 none-corner : (x y : ℕ) (cs : List Corner) → AllByRecursion (λ c. x ≤ c.x) cs → list_any (corner_before x y) cs ≡ false
 unfolding corner_before
@@ -159,20 +159,20 @@ none-corner x y (c ∷ cs) h = λ i. by (nat_lt c.x x) (nat_lt c.y y) (not_below
     by true b e = no (sym e)
     by false b e = refl
 
-none-view : (x y z w : ℕ) (vs : List View) → AllByRecursion (λ v. x ≤ v.x) vs → list_any (is_before x y z w) vs ≡ false
+none-point : (x y z w : ℕ) (vs : List Point) → AllByRecursion (λ v. x ≤ v.x) vs → list_any (is_before x y z w) vs ≡ false
 unfolding is_before
-none-view x y z w [] h = refl
-none-view x y z w (v ∷ vs) h = λ i. by (nat_lt v.x x) (nat_lt v.y y && (nat_lt v.z z && nat_lt v.w w)) (not_below v.x x h.0) i || none-view x y z w vs h.1 i
+none-point x y z w [] h = refl
+none-point x y z w (v ∷ vs) h = λ i. by (nat_lt v.x x) (nat_lt v.y y && (nat_lt v.z z && nat_lt v.w w)) (not_below v.x x h.0) i || none-point x y z w vs h.1 i
   where
     by : (a b : Bool) → a ≡ false → (a && b) ≡ false
     by true b e = no (sym e)
     by false b e = refl
 
-all-over : (m x : ℕ) (vs : List View) → x ≤ m → AllByRecursion (λ v. m ≤ v.x) vs → AllByRecursion (λ v. x ≤ v.x) vs
+all-over : (m x : ℕ) (vs : List Point) → x ≤ m → AllByRecursion (λ v. m ≤ v.x) vs → AllByRecursion (λ v. x ≤ v.x) vs
 all-over m x [] l h = tt
 all-over m x (v ∷ vs) l h = (omega (arith, h.0), all-over m x vs l h.1)
 
-corners-reach : (vs : List View) (x y z w low : ℕ) → Ascends vs → y ≤ low → list_any (corner_before x y) (corners_of vs z w low) ≡ list_any (is_before x y z w) vs
+corners-reach : (vs : List Point) (x y z w low : ℕ) → Ascends vs → y ≤ low → list_any (corner_before x y) (corners_of vs z w low) ≡ list_any (is_before x y z w) vs
 unfolding Ascends corner_before is_before
 corners-reach [] x y z w low h l = refl
 corners-reach (v ∷ vs) x y z w low h l = by (nat_lt v.z z) (nat_lt v.w w) (nat_lt v.y low) refl (λ k m. corners-reach vs x y z w k h.1 m)
@@ -183,7 +183,7 @@ corners-reach (v ∷ vs) x y z w low h l = by (nat_lt v.z z) (nat_lt v.w w) (nat
     tails : nat_lt v.x x ≡ false → list_any (corner_before x y) (corners_of vs z w v.y) ≡ list_any (is_before x y z w) vs
     tails e =
         let far = all-over v.x x vs (from_not_below v.x x e) h.0 in
-        none-corner x y (corners_of vs z w v.y) (corners-past x vs z w v.y far) ∙ sym (none-view x y z w vs far)
+        none-corner x y (corners_of vs z w v.y) (corners-past x vs z w v.y far) ∙ sym (none-point x y z w vs far)
 
     taken : (a b : Bool) → nat_lt v.x x ≡ a → nat_lt v.y y ≡ b → Reach → ((a && b) || list_any (corner_before x y) (corners_of vs z w v.y)) ≡ ((a && (b && (true && true))) || list_any (is_before x y z w) vs)
     taken true true e f r = refl
@@ -214,8 +214,8 @@ corners-reach (v ∷ vs) x y z w low h l = by (nat_lt v.z z) (nat_lt v.w w) (nat
     by true false c e r = rest r _ (never (nat_lt v.x x) (nat_lt v.y y) true false refl)
     by false b c e r = rest r _ (never (nat_lt v.x x) (nat_lt v.y y) false b refl)
 
--- the last corner before the first end tells whether a view comes before all ends
-pub corners-look_up : (vs : List View) (cs : List Corner) (x y z w low p : ℕ) (d : Corner) → IsNonDecreasingBy (λ v. v.x) vs → cs ≡ corners_of vs z w low → y ≤ low → p ≤ length cs
+-- the last corner before the first end tells whether a point comes before all ends
+pub corners-look_up : (vs : List Point) (cs : List Corner) (x y z w low p : ℕ) (d : Corner) → IsNonDecreasingBy (λ v. v.x) vs → cs ≡ corners_of vs z w low → y ≤ low → p ≤ length cs
     → AllWithin (λ c. nat_lt c.x x ≡ true) cs 0 p → AllWithin (λ c. nat_lt c.x x ≡ false) cs p (length cs)
     → (nat_lt 0 p && nat_lt (get_or cs (p - 1) d).y y) ≡ reaches vs x y z w
 corners-look_up vs cs x y z w low p d h e l m before after =

@@ -9,14 +9,14 @@ use Rattle.std.specs.Ordering.{is_lt}
 use Rattle.std.specs.declared.cmp.Ordering.TheVariants.{Less}
 use Rattle.fw_time.specs.declared.stamp.Bounds.{Bounds}
 use Rattle.fw_time.specs.Stamp.{leq, lub, stamp_cmp, in_domain}
-use Rattle.fw_time.proofs.StampLaws.{leq-refl, leq-trans, leq-antisym, leq-length, length-lub, lub-left, lub-right, lub-least, before-irrefl, and_left, and_right, both}
+use Rattle.fw_time.proofs.StampLaws.{leq-refl, leq-trans, leq-antisym, leq-length, lub-left, lub-right, lub-least, before-irrefl, and_left, and_right, both}
 use Rattle.fw_frontier.specs.declared.planes.Plane.{Plane}
-use Rattle.fw_frontier.specs.declared.planes.View.{View}
+use Rattle.fw_frontier.specs.declared.planes.Point.{Point}
 use Rattle.fw_frontier.specs.declared.planes.TheConstants.{PLANES}
 use Rattle.fw_frontier.specs.Front.{inside, frontier_of, IsCanonical, Names}
 use Rattle.fw_frontier.specs.Frontier.{join}
 use Rattle.fw_frontier.specs.Outside.{excluding_pairs}
-use Rattle.fw_frontier.specs.Planes.{seen, is_before, reaches, both_reach, is_least, is_least_along, bounds_with, all_bounds, plane_bounds, planes_bounds, HaveSame}
+use Rattle.fw_frontier.specs.Planes.{point_of, is_before, reaches, both_reach, is_least, is_least_along, bounds_with, all_bounds, plane_bounds, planes_bounds, HaveSame}
 use Rattle.fw_frontier.proofs.GenericLaws.{each-at}
 use Rattle.fw_frontier.proofs.InsideLaws.{inside-above, leq-at}
 use Rattle.fw_frontier.proofs.CanonicalLaws.{in_domain-canonical}
@@ -61,7 +61,7 @@ record IsBefore (plane : Plane) (s : List ℕ) (x y z w : ℕ) : Type 0 where
   at_z : get_or s plane.z 0 < z
   at_w : get_or s plane.w 0 < w
 
-test-before : (plane : Plane) (s : List ℕ) (x y z w : ℕ) → IsBefore plane s x y z w → is_before x y z w (seen plane s) ≡ true
+test-before : (plane : Plane) (s : List ℕ) (x y z w : ℕ) → IsBefore plane s x y z w → is_before x y z w (point_of plane s) ≡ true
 unfolding is_before
 test-before plane s x y z w h =
     let a = to_below (get_or s plane.x 0) x h.at_x in
@@ -70,7 +70,7 @@ test-before plane s x y z w h =
     let d = to_below (get_or s plane.w 0) w h.at_w in
     λ i. a i && (b i && (c i && d i))
 
-before-tested : (plane : Plane) (s : List ℕ) (x y z w : ℕ) → is_before x y z w (seen plane s) ≡ true → IsBefore plane s x y z w
+before-tested : (plane : Plane) (s : List ℕ) (x y z w : ℕ) → is_before x y z w (point_of plane s) ≡ true → IsBefore plane s x y z w
 unfolding is_before
 before-tested plane s x y z w h =
     let a = nat_lt (get_or s plane.x 0) x in
@@ -92,23 +92,23 @@ record IsReached (plane : Plane) (ss : List (List ℕ)) (x y z w : ℕ) : Type 0
   there : place < length ss
   before : IsBefore plane (get_or ss place []) x y z w
 
-reaches-at : (plane : Plane) (ss : List (List ℕ)) (x y z w i : ℕ) → i < length ss → IsBefore plane (get_or ss i []) x y z w → reaches (map (seen plane) ss) x y z w ≡ true
+reaches-at : (plane : Plane) (ss : List (List ℕ)) (x y z w i : ℕ) → i < length ss → IsBefore plane (get_or ss i []) x y z w → reaches (map (point_of plane) ss) x y z w ≡ true
 reaches-at plane [] x y z w i l h = absurd (omega arith)
-reaches-at plane (s ∷ ss) x y z w zero l h = ap (λ b. b || reaches (map (seen plane) ss) x y z w) (test-before plane s x y z w h)
-reaches-at plane (s ∷ ss) x y z w (suc i) l h = last (is_before x y z w (seen plane s)) (reaches (map (seen plane) ss) x y z w) (reaches-at plane ss x y z w i (omega arith) h)
+reaches-at plane (s ∷ ss) x y z w zero l h = ap (λ b. b || reaches (map (point_of plane) ss) x y z w) (test-before plane s x y z w h)
+reaches-at plane (s ∷ ss) x y z w (suc i) l h = last (is_before x y z w (point_of plane s)) (reaches (map (point_of plane) ss) x y z w) (reaches-at plane ss x y z w i (omega arith) h)
   where
     last : (a b : Bool) → b ≡ true → (a || b) ≡ true
     last true b e = refl
     last false b e = e
 
-reaches-found : (plane : Plane) (ss : List (List ℕ)) (x y z w : ℕ) → reaches (map (seen plane) ss) x y z w ≡ true → IsReached plane ss x y z w
+reaches-found : (plane : Plane) (ss : List (List ℕ)) (x y z w : ℕ) → reaches (map (point_of plane) ss) x y z w ≡ true → IsReached plane ss x y z w
 reaches-found plane [] x y z w h = no h
-reaches-found plane (s ∷ ss) x y z w h = by (is_before x y z w (seen plane s)) refl h (λ e. reaches-found plane ss x y z w e)
+reaches-found plane (s ∷ ss) x y z w h = by (is_before x y z w (point_of plane s)) refl h (λ e. reaches-found plane ss x y z w e)
   where
     later : IsReached plane ss x y z w → IsReached plane (s ∷ ss) x y z w
     later r = let l : r.place < length ss = r.there in record { place = suc r.place; there = omega arith; before = r.before }
 
-    by : (a : Bool) → is_before x y z w (seen plane s) ≡ a → (a || reaches (map (seen plane) ss) x y z w) ≡ true → (reaches (map (seen plane) ss) x y z w ≡ true → IsReached plane ss x y z w) → IsReached plane (s ∷ ss) x y z w
+    by : (a : Bool) → is_before x y z w (point_of plane s) ≡ a → (a || reaches (map (point_of plane) ss) x y z w) ≡ true → (reaches (map (point_of plane) ss) x y z w ≡ true → IsReached plane ss x y z w) → IsReached plane (s ∷ ss) x y z w
     by true e h r = record { place = 0; there = omega arith; before = before-tested plane s x y z w e }
     by false e h r = later (r h)
 
@@ -156,11 +156,11 @@ InDomain b ss = AllByRecursion (λ s. in_domain b s ≡ true) ss
 
 -- a bound comes before ends before which stamps of both lists come
 bound-before : (b : Bounds) (plane : Plane) (ss ps : List (List ℕ)) (x y z w : ℕ) → InDomain b ss → InDomain b ps
-    → both_reach (map (seen plane) ss) (map (seen plane) ps) x y z w ≡ true → (u : List ℕ) × (IsBound b ss ps u × IsBefore plane u x y z w)
+    → both_reach (map (point_of plane) ss) (map (point_of plane) ps) x y z w ≡ true → (u : List ℕ) × (IsBound b ss ps u × IsBefore plane u x y z w)
 unfolding InDomain
 bound-before b plane ss ps x y z w h k e =
-    let r = reaches-found plane ss x y z w (and_left (reaches (map (seen plane) ss) x y z w) (reaches (map (seen plane) ps) x y z w) e) in
-    let q = reaches-found plane ps x y z w (and_right (reaches (map (seen plane) ss) x y z w) (reaches (map (seen plane) ps) x y z w) e) in
+    let r = reaches-found plane ss x y z w (and_left (reaches (map (point_of plane) ss) x y z w) (reaches (map (point_of plane) ps) x y z w) e) in
+    let q = reaches-found plane ps x y z w (and_right (reaches (map (point_of plane) ss) x y z w) (reaches (map (point_of plane) ps) x y z w) e) in
     let s = get_or ss r.place [] in
     let p = get_or ps q.place [] in
     let ds : in_domain b s ≡ true = each-at (λ s. in_domain b s ≡ true) ss r.place [] r.there h in
@@ -180,7 +180,7 @@ bound-before b plane ss ps x y z w h k e =
 
 -- stamps of both lists come before ends before which a bound comes
 reached-by : (b : Bounds) (plane : Plane) (ss ps : List (List ℕ)) (u : List ℕ) (x y z w : ℕ) → IsBound b ss ps u → IsBefore plane u x y z w
-    → both_reach (map (seen plane) ss) (map (seen plane) ps) x y z w ≡ true
+    → both_reach (map (point_of plane) ss) (map (point_of plane) ps) x y z w ≡ true
 reached-by b plane ss ps u x y z w h k = λ i. one ss h.first i && one ps h.second i
   where
     lower : (s : List ℕ) → leq s u ≡ true → IsBefore plane s x y z w
@@ -191,7 +191,7 @@ reached-by b plane ss ps u x y z w h k = λ i. one ss h.first i && one ps h.seco
       at_w = omega (arith, leq-at s u plane.w l, k.at_w);
     }
 
-    one : (ss : List (List ℕ)) → inside ss u ≡ false → reaches (map (seen plane) ss) x y z w ≡ true
+    one : (ss : List (List ℕ)) → inside ss u ≡ false → reaches (map (point_of plane) ss) x y z w ≡ true
     one ss e = let f = found ss u e in reaches-at plane ss x y z w f.0 f.1.0 (lower (get_or ss f.0 []) f.1.1)
 
 -- ---- the test in a plane
@@ -205,12 +205,12 @@ parts false false false false h = (refl, (refl, (refl, refl)))
 
 -- what passes the test is least
 least-tested : (b : Bounds) (plane : Plane) (ss ps : List (List ℕ)) (t : List ℕ) → length b.greatest ≡ 4 → Covers plane
-    → is_least (map (seen plane) ss) (map (seen plane) ps) (seen plane t) ≡ true → IsBound b ss ps t → IsLeastBound b ss ps t
+    → is_least (map (point_of plane) ss) (map (point_of plane) ps) (point_of plane t) ≡ true → IsBound b ss ps t → IsLeastBound b ss ps t
 unfolding is_least
 least-tested b plane ss ps t four covers h bound = record { bound = bound; least = λ u k l. leq-antisym u t l (back u k l) }
   where
     reach : ℕ → ℕ → ℕ → ℕ → Bool
-    reach x y z w = both_reach (map (seen plane) ss) (map (seen plane) ps) x y z w
+    reach x y z w = both_reach (map (point_of plane) ss) (map (point_of plane) ps) x y z w
 
     at : List ℕ → ℕ → ℕ
     at s c = get_or s c 0
@@ -248,7 +248,7 @@ least-tested b plane ss ps t four covers h bound = record { bound = bound; least
 
 -- what is least passes the test
 test-least : (b : Bounds) (plane : Plane) (ss ps : List (List ℕ)) (t : List ℕ) → length b.greatest ≡ 4 → Covers plane → InDomain b ss → InDomain b ps
-    → IsLeastBound b ss ps t → is_least (map (seen plane) ss) (map (seen plane) ps) (seen plane t) ≡ true
+    → IsLeastBound b ss ps t → is_least (map (point_of plane) ss) (map (point_of plane) ps) (point_of plane t) ≡ true
 unfolding is_least
 test-least b plane ss ps t four covers h k least =
     let x = get_or t plane.x 0 in
@@ -266,10 +266,10 @@ test-least b plane ss ps t four covers h k least =
 
     lies : (x y z w : ℕ) → ((u : List ℕ) → IsBefore plane u x y z w → u ≡ t → ⊥)
         → x ≤ get_or t plane.x 0 + 1 → y ≤ get_or t plane.y 0 + 1 → z ≤ get_or t plane.z 0 + 1 → w ≤ get_or t plane.w 0 + 1
-        → both_reach (map (seen plane) ss) (map (seen plane) ps) x y z w ≡ false
-    lies x y z w never lx ly lz lw = by (both_reach (map (seen plane) ss) (map (seen plane) ps) x y z w) refl
+        → both_reach (map (point_of plane) ss) (map (point_of plane) ps) x y z w ≡ false
+    lies x y z w never lx ly lz lw = by (both_reach (map (point_of plane) ss) (map (point_of plane) ps) x y z w) refl
       where
-        by : (c : Bool) → both_reach (map (seen plane) ss) (map (seen plane) ps) x y z w ≡ c → c ≡ false
+        by : (c : Bool) → both_reach (map (point_of plane) ss) (map (point_of plane) ps) x y z w ≡ c → c ≡ false
         by false e = refl
         by true e =
             let u = bound-before b plane ss ps x y z w h k e in
@@ -286,17 +286,17 @@ AllBounds : Bounds → (ss ps : List (List ℕ)) → List ℕ → List (List ℕ
 AllBounds b ss ps s qs = AllByRecursion (λ q. IsBound b ss ps (lub s q)) qs
 
 bounds_with-least : (b : Bounds) (plane : Plane) (ss ps : List (List ℕ)) (s : List ℕ) (qs : List (List ℕ)) → length b.greatest ≡ 4 → Covers plane → AllBounds b ss ps s qs
-    → AllByRecursion (IsLeastBound b ss ps) (bounds_with plane (map (seen plane) ss) (map (seen plane) ps) s qs)
+    → AllByRecursion (IsLeastBound b ss ps) (bounds_with plane (map (point_of plane) ss) (map (point_of plane) ps) s qs)
 unfolding AllBounds is_least_along
 bounds_with-least b plane ss ps s [] four covers h = tt
 bounds_with-least b plane ss ps s (q ∷ qs) four covers h = by
     (nat_eq (get_or (lub s q) plane.z 0) (get_or s plane.z 0)) (nat_eq (get_or (lub s q) plane.w 0) (get_or s plane.w 0))
-    (is_least (map (seen plane) ss) (map (seen plane) ps) (seen plane (lub s q))) refl (bounds_with-least b plane ss ps s qs four covers h.1)
+    (is_least (map (point_of plane) ss) (map (point_of plane) ps) (point_of plane (lub s q))) refl (bounds_with-least b plane ss ps s qs four covers h.1)
   where
     rest : List (List ℕ)
-    rest = bounds_with plane (map (seen plane) ss) (map (seen plane) ps) s qs
+    rest = bounds_with plane (map (point_of plane) ss) (map (point_of plane) ps) s qs
 
-    by : (c d e : Bool) → is_least (map (seen plane) ss) (map (seen plane) ps) (seen plane (lub s q)) ≡ e → AllByRecursion (IsLeastBound b ss ps) rest
+    by : (c d e : Bool) → is_least (map (point_of plane) ss) (map (point_of plane) ps) (point_of plane (lub s q)) ≡ e → AllByRecursion (IsLeastBound b ss ps) rest
         → AllByRecursion (IsLeastBound b ss ps) (cond (c && (d && e)) (lub s q ∷ rest) rest)
     by true true true f r = (least-tested b plane ss ps (lub s q) four covers f h.0, r)
     by true true false f r = r
@@ -308,10 +308,10 @@ all-append P [] vs h k = k
 all-append P (u ∷ us) vs h k = (h.0, all-append P us vs h.1 k)
 
 all_bounds-least : (b : Bounds) (plane : Plane) (ss ps rs qs : List (List ℕ)) → length b.greatest ≡ 4 → Covers plane → AllByRecursion (λ s. AllBounds b ss ps s qs) rs
-    → AllByRecursion (IsLeastBound b ss ps) (all_bounds plane (map (seen plane) ss) (map (seen plane) ps) rs qs)
+    → AllByRecursion (IsLeastBound b ss ps) (all_bounds plane (map (point_of plane) ss) (map (point_of plane) ps) rs qs)
 all_bounds-least b plane ss ps [] qs four covers h = tt
 all_bounds-least b plane ss ps (r ∷ rs) qs four covers h =
-    all-append (IsLeastBound b ss ps) (bounds_with plane (map (seen plane) ss) (map (seen plane) ps) r qs) (all_bounds plane (map (seen plane) ss) (map (seen plane) ps) rs qs)
+    all-append (IsLeastBound b ss ps) (bounds_with plane (map (point_of plane) ss) (map (point_of plane) ps) r qs) (all_bounds plane (map (point_of plane) ss) (map (point_of plane) ps) rs qs)
     (bounds_with-least b plane ss ps r qs four covers h.0) (all_bounds-least b plane ss ps rs qs four covers h.1)
 
 -- the least upper bounds of stamps of both lists are bounds, whichever comes first
@@ -341,7 +341,7 @@ lubs-all_after b ss ps (r ∷ rs) qs d h e k = (lubs-after b ss ps r qs d.0 h.0 
 
 plane_bounds-least : (b : Bounds) (plane : Plane) (ss ps : List (List ℕ)) → length b.greatest ≡ 4 → Covers plane → InDomain b ss → InDomain b ps → AllByRecursion (IsLeastBound b ss ps) (plane_bounds plane ss ps)
 plane_bounds-least b plane ss ps four covers h k =
-    all-append (IsLeastBound b ss ps) (all_bounds plane (map (seen plane) ss) (map (seen plane) ps) ss ps) (all_bounds plane (map (seen plane) ss) (map (seen plane) ps) ps ss)
+    all-append (IsLeastBound b ss ps) (all_bounds plane (map (point_of plane) ss) (map (point_of plane) ps) ss ps) (all_bounds plane (map (point_of plane) ss) (map (point_of plane) ps) ps ss)
     (all_bounds-least b plane ss ps ss ps four covers (lubs-all b ss ps ss ps h (all-outside ss) k (all-outside ps)))
     (all_bounds-least b plane ss ps ps ss four covers (lubs-all_after b ss ps ps ss k (all-outside ps) h (all-outside ss)))
 
@@ -352,22 +352,22 @@ planes_bounds-least b (plane ∷ planes) ss ps four covers h k =
 
 -- ---- what is least is found
 
-bounds_with-has : (plane : Plane) (ms os : List View) (s : List ℕ) (qs : List (List ℕ)) (j : ℕ) → j < length qs
-    → is_least_along ms os (get_or s plane.z 0) (get_or s plane.w 0) (seen plane (lub s (get_or qs j []))) ≡ true → Contains (bounds_with plane ms os s qs) (lub s (get_or qs j []))
+bounds_with-has : (plane : Plane) (ms os : List Point) (s : List ℕ) (qs : List (List ℕ)) (j : ℕ) → j < length qs
+    → is_least_along ms os (get_or s plane.z 0) (get_or s plane.w 0) (point_of plane (lub s (get_or qs j []))) ≡ true → Contains (bounds_with plane ms os s qs) (lub s (get_or qs j []))
 bounds_with-has plane ms os s [] j l h = absurd (omega arith)
-bounds_with-has plane ms os s (q ∷ qs) zero l h = by (is_least_along ms os (get_or s plane.z 0) (get_or s plane.w 0) (seen plane (lub s q))) h
+bounds_with-has plane ms os s (q ∷ qs) zero l h = by (is_least_along ms os (get_or s plane.z 0) (get_or s plane.w 0) (point_of plane (lub s q))) h
   where
     by : (c : Bool) → c ≡ true → Contains (cond c (lub s q ∷ bounds_with plane ms os s qs) (bounds_with plane ms os s qs)) (lub s q)
     by true e = (0, omega arith, refl)
     by false e = no e
 bounds_with-has plane ms os s (q ∷ qs) (suc j) l h =
-    by (is_least_along ms os (get_or s plane.z 0) (get_or s plane.w 0) (seen plane (lub s q))) (bounds_with-has plane ms os s qs j (omega arith) h)
+    by (is_least_along ms os (get_or s plane.z 0) (get_or s plane.w 0) (point_of plane (lub s q))) (bounds_with-has plane ms os s qs j (omega arith) h)
   where
     by : (c : Bool) → Contains (bounds_with plane ms os s qs) (lub s (get_or qs j [])) → Contains (cond c (lub s q ∷ bounds_with plane ms os s qs) (bounds_with plane ms os s qs)) (lub s (get_or qs j []))
     by true r = Contains-append_right (lub s q ∷ []) (bounds_with plane ms os s qs) (lub s (get_or qs j [])) r
     by false r = r
 
-all_bounds-has : (plane : Plane) (ms os : List View) (ss qs : List (List ℕ)) (i : ℕ) (t : List ℕ) → i < length ss → Contains (bounds_with plane ms os (get_or ss i []) qs) t → Contains (all_bounds plane ms os ss qs) t
+all_bounds-has : (plane : Plane) (ms os : List Point) (ss qs : List (List ℕ)) (i : ℕ) (t : List ℕ) → i < length ss → Contains (bounds_with plane ms os (get_or ss i []) qs) t → Contains (all_bounds plane ms os ss qs) t
 all_bounds-has plane ms os [] qs i t l h = absurd (omega arith)
 all_bounds-has plane ms os (s ∷ ss) qs zero t l h = Contains-append_left (bounds_with plane ms os s qs) (all_bounds plane ms os ss qs) t h
 all_bounds-has plane ms os (s ∷ ss) qs (suc i) t l h = Contains-append_right (bounds_with plane ms os s qs) (all_bounds plane ms os ss qs) t (all_bounds-has plane ms os ss qs i t (omega arith) h)
@@ -377,7 +377,7 @@ record Agrees (plane : Plane) (t s : List ℕ) : Type 0 where
   at_z : get_or t plane.z 0 ≡ get_or s plane.z 0
   at_w : get_or t plane.w 0 ≡ get_or s plane.w 0
 
-along-agrees : (plane : Plane) (ms os : List View) (s t : List ℕ) → Agrees plane t s → is_least ms os (seen plane t) ≡ true → is_least_along ms os (get_or s plane.z 0) (get_or s plane.w 0) (seen plane t) ≡ true
+along-agrees : (plane : Plane) (ms os : List Point) (s t : List ℕ) → Agrees plane t s → is_least ms os (point_of plane t) ≡ true → is_least_along ms os (get_or s plane.z 0) (get_or s plane.w 0) (point_of plane t) ≡ true
 unfolding is_least_along
 along-agrees plane ms os s t h k =
     let z = equal (get_or t plane.z 0) (get_or s plane.z 0) h.at_z in
@@ -393,13 +393,13 @@ plane_bounds-has : (b : Bounds) (plane : Plane) (ss ps : List (List ℕ)) (t : L
     → Agrees plane t (get_or ss i []) ⊎ Agrees plane t (get_or ps j []) → Contains (plane_bounds plane ss ps) t
 plane_bounds-has b plane ss ps t i j four covers h k least l m e f side = by side
   where
-    ms : List View
-    ms = map (seen plane) ss
+    ms : List Point
+    ms = map (point_of plane) ss
 
-    os : List View
-    os = map (seen plane) ps
+    os : List Point
+    os = map (point_of plane) ps
 
-    passed : is_least ms os (seen plane t) ≡ true
+    passed : is_least ms os (point_of plane t) ≡ true
     passed = test-least b plane ss ps t four covers h k least
 
     by : Agrees plane t (get_or ss i []) ⊎ Agrees plane t (get_or ps j []) → Contains (plane_bounds plane ss ps) t
@@ -410,7 +410,7 @@ plane_bounds-has b plane ss ps t i j four covers h k least l m e f side = by sid
         (all_bounds-has plane ms os ss ps i t l
         (let P : List ℕ → Type 0 = λ u. Contains (bounds_with plane ms os s ps) u in
         subst P e (bounds_with-has plane ms os s ps j m
-        (ap (λ u. is_least_along ms os (get_or s plane.z 0) (get_or s plane.w 0) (seen plane u)) e ∙ along-agrees plane ms os s t a passed))))
+        (ap (λ u. is_least_along ms os (get_or s plane.z 0) (get_or s plane.w 0) (point_of plane u)) e ∙ along-agrees plane ms os s t a passed))))
     by (inr a) =
         let s = get_or ss i [] in
         let p = get_or ps j [] in
@@ -418,7 +418,7 @@ plane_bounds-has b plane ss ps t i j four covers h k least l m e f side = by sid
         (all_bounds-has plane ms os ps ss j t m
         (let P : List ℕ → Type 0 = λ u. Contains (bounds_with plane ms os p ss) u in
         subst P f (bounds_with-has plane ms os p ss i l
-        (ap (λ u. is_least_along ms os (get_or p plane.z 0) (get_or p plane.w 0) (seen plane u)) f ∙ along-agrees plane ms os p t a passed))))
+        (ap (λ u. is_least_along ms os (get_or p plane.z 0) (get_or p plane.w 0) (point_of plane u)) f ∙ along-agrees plane ms os p t a passed))))
 
 -- at each place a least upper bound agrees with one of the two stamps
 lub-one : (s p : List ℕ) (c : ℕ) → length s ≡ length p → (get_or (lub s p) c 0 ≡ get_or s c 0) ⊎ (get_or (lub s p) c 0 ≡ get_or p c 0)

@@ -1,6 +1,5 @@
--- How the bounds in planes are found one by one, whatever the order of the views.
-use Rattle.std.proofs.Common.{◌≡◌, ℕ, ◌+◌, ◌<◌, ◌≤◌, Bool, true, false, not, ◌&&◌, nat_eq, cond, List, [], ◌∷◌, ◌++◌, length, get_or, drop, map, refl, sym, ap, ◌∙◌, zero, suc, arith, add-one, append_assoc}
-use Rattle.std.proofs.lemmas.Bool.Decides.{nat_tests}
+-- How the bounds in planes are found one by one, whatever the order of the points.
+use Rattle.std.proofs.Common.{◌≡◌, ℕ, ◌+◌, ◌<◌, ◌≤◌, not, ◌&&◌, nat_eq, cond, List, [], ◌∷◌, ◌++◌, length, get_or, drop, map, refl, sym, ap, ◌∙◌, zero, suc, arith, add-one, append_assoc}
 use Rattle.std.proofs.lemmas.Cmp.{nat_list_eq_equiv}
 use Rattle.std.proofs.lemmas.List.{append-nil, drop_all}
 use Rattle.std.proofs.lemmas.List.Kept.{Contains-dedup, Contains-from_dedup}
@@ -10,13 +9,13 @@ use Rattle.std.specs.List.{dedup}
 use Rattle.std.specs.List.Sorted.{IsPermutation}
 use Rattle.fw_time.specs.Stamp.{lub}
 use Rattle.fw_frontier.specs.declared.planes.Plane.{Plane}
-use Rattle.fw_frontier.specs.declared.planes.View.{View}
-use Rattle.fw_frontier.specs.Planes.{seen, is_before, reaches, both_reach, is_least, is_least_along, bounds_with, all_bounds, plane_bounds, planes_bounds, HaveSame}
+use Rattle.fw_frontier.specs.declared.planes.Point.{Point}
+use Rattle.fw_frontier.specs.Planes.{point_of, is_before, both_reach, is_least, is_least_along, bounds_with, all_bounds, plane_bounds, planes_bounds, HaveSame}
 
-both_reach-moved : (ms ns os qs : List View) → IsPermutation ms ns → IsPermutation os qs → (x y z w : ℕ) → both_reach ns qs x y z w ≡ both_reach ms os x y z w
+both_reach-moved : (ms ns os qs : List Point) → IsPermutation ms ns → IsPermutation os qs → (x y z w : ℕ) → both_reach ns qs x y z w ≡ both_reach ms os x y z w
 both_reach-moved ms ns os qs h k x y z w = λ i. sym (list_any-IsPermutation (is_before x y z w) ms ns h) i && sym (list_any-IsPermutation (is_before x y z w) os qs k) i
 
-is_least_along-moved : (ms ns os qs : List View) → IsPermutation ms ns → IsPermutation os qs → (z w : ℕ) (t : View) → is_least_along ns qs z w t ≡ is_least_along ms os z w t
+is_least_along-moved : (ms ns os qs : List Point) → IsPermutation ms ns → IsPermutation os qs → (z w : ℕ) (t : Point) → is_least_along ns qs z w t ≡ is_least_along ms os z w t
 unfolding is_least_along is_least
 is_least_along-moved ms ns os qs h k z w t = λ i. nat_eq t.z z && (nat_eq t.w w && (
     not (same t.x (t.y + 1) (t.z + 1) (t.w + 1) i)
@@ -27,22 +26,22 @@ is_least_along-moved ms ns os qs h k z w t = λ i. nat_eq t.z z && (nat_eq t.w w
     same : (x y z w : ℕ) → both_reach ns qs x y z w ≡ both_reach ms os x y z w
     same x y z w = both_reach-moved ms ns os qs h k x y z w
 
-bounds_with-moved : (plane : Plane) (ms ns os qs : List View) → IsPermutation ms ns → IsPermutation os qs → (s : List ℕ) (ps : List (List ℕ)) → bounds_with plane ns qs s ps ≡ bounds_with plane ms os s ps
+bounds_with-moved : (plane : Plane) (ms ns os qs : List Point) → IsPermutation ms ns → IsPermutation os qs → (s : List ℕ) (ps : List (List ℕ)) → bounds_with plane ns qs s ps ≡ bounds_with plane ms os s ps
 bounds_with-moved plane ms ns os qs h k s [] = refl
 bounds_with-moved plane ms ns os qs h k s (p ∷ ps) =
-    λ i. cond (is_least_along-moved ms ns os qs h k (get_or s plane.z 0) (get_or s plane.w 0) (seen plane (lub s p)) i)
+    λ i. cond (is_least_along-moved ms ns os qs h k (get_or s plane.z 0) (get_or s plane.w 0) (point_of plane (lub s p)) i)
     (lub s p ∷ bounds_with-moved plane ms ns os qs h k s ps i) (bounds_with-moved plane ms ns os qs h k s ps i)
 
-all_bounds-moved : (plane : Plane) (ms ns os qs : List View) → IsPermutation ms ns → IsPermutation os qs → (ss ps : List (List ℕ)) → all_bounds plane ns qs ss ps ≡ all_bounds plane ms os ss ps
+all_bounds-moved : (plane : Plane) (ms ns os qs : List Point) → IsPermutation ms ns → IsPermutation os qs → (ss ps : List (List ℕ)) → all_bounds plane ns qs ss ps ≡ all_bounds plane ms os ss ps
 all_bounds-moved plane ms ns os qs h k [] ps = refl
 all_bounds-moved plane ms ns os qs h k (s ∷ ss) ps = λ i. bounds_with-moved plane ms ns os qs h k s ps i ++ all_bounds-moved plane ms ns os qs h k ss ps i
 
 -- the bounds from both sides of a plane
-pub plane_bounds-from : (plane : Plane) (ss ps old mid new : List (List ℕ)) (ns qs : List View) → IsPermutation (map (seen plane) ss) ns → IsPermutation (map (seen plane) ps) qs
+pub plane_bounds-from : (plane : Plane) (ss ps old mid new : List (List ℕ)) (ns qs : List Point) → IsPermutation (map (point_of plane) ss) ns → IsPermutation (map (point_of plane) ps) qs
     → mid ≡ old ++ all_bounds plane ns qs ss ps → new ≡ mid ++ all_bounds plane ns qs ps ss → new ≡ old ++ plane_bounds plane ss ps
 plane_bounds-from plane ss ps old mid new ns qs h k e f =
-    let ms = map (seen plane) ss in
-    let os = map (seen plane) ps in
+    let ms = map (point_of plane) ss in
+    let os = map (point_of plane) ps in
     f
     ∙ (λ i. e i ++ all_bounds-moved plane ms ns os qs h k ps ss i)
     ∙ append_assoc old (all_bounds plane ns qs ss ps) (all_bounds plane ms os ps ss)

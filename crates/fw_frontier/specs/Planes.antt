@@ -1,39 +1,39 @@
 -- The planes through stamps of four coordinates, and the least upper bounds in them.
-use Rattle.std.specs.Prelude.{◌≡◌, ℕ, ◌+◌, ◌<◌, Bool, true, false, not, ◌&&◌, ◌||◌, if◌then◌else◌, nat_lt, nat_eq, slice_index, List, [], ◌∷◌, ◌++◌, map}
+use Rattle.std.specs.Prelude.{◌≡◌, ℕ, ◌+◌, Bool, not, ◌&&◌, if◌then◌else◌, nat_lt, nat_eq, slice_index, List, [], ◌∷◌, ◌++◌, map}
 use Rattle.std.specs.List.{list_any, Contains}
 use Rattle.fw_time.specs.Stamp.{Stamp, lub}
 use Rattle.fw_frontier.specs.Front.{Front}
 use Rattle.fw_frontier.specs.declared.planes.Plane.{Plane}
-use Rattle.fw_frontier.specs.declared.planes.View.{View}
+use Rattle.fw_frontier.specs.declared.planes.Point.{Point}
 use Rattle.fw_frontier.specs.declared.planes.Corner.{Corner}
-use Rattle.fw_frontier.specs.declared.planes.Cut.{Cut}
+use Rattle.fw_frontier.specs.declared.planes.Section.{Section}
 use Rattle.fw_frontier.specs.declared.planes.Around.{Around}
 use Rattle.fw_frontier.specs.declared.planes.TheConstants.{PAST}
 
--- a stamp seen from a plane
-abbrev pub seen : Plane → Stamp → View
-seen plane s = record { x = slice_index s plane.x; y = slice_index s plane.y; z = slice_index s plane.z; w = slice_index s plane.w }
+-- a stamp's coordinates at the places of a plane
+abbrev pub point_of : Plane → Stamp → Point
+point_of plane s = record { x = slice_index s plane.x; y = slice_index s plane.y; z = slice_index s plane.z; w = slice_index s plane.w }
 
--- whether a view comes before the ends at each place
-unfoldable pub is_before : ℕ → ℕ → ℕ → ℕ → View → Bool
-is_before x y z w v = nat_lt v.x x && (nat_lt v.y y && (nat_lt v.z z && nat_lt v.w w))
+-- whether a point comes before the ends at each place
+unfoldable pub is_before : ℕ → ℕ → ℕ → ℕ → Point → Bool
+is_before x y z w p = nat_lt p.x x && (nat_lt p.y y && (nat_lt p.z z && nat_lt p.w w))
 
--- whether one of the views comes before the ends at each place
-abbrev pub reaches : List View → ℕ → ℕ → ℕ → ℕ → Bool
-reaches vs x y z w = list_any (is_before x y z w) vs
+-- whether one of the points comes before the ends at each place
+abbrev pub reaches : List Point → ℕ → ℕ → ℕ → ℕ → Bool
+reaches ps x y z w = list_any (is_before x y z w) ps
 
--- the corners of what these views have outside in a plane: those before the ends across it that come lower than each before them
-abbrev pub corners_of : List View → ℕ → ℕ → ℕ → List Corner
+-- the corners from which the outside goes up in a plane: of the points before the ends across it, those lower than each before them
+abbrev pub corners_of : List Point → ℕ → ℕ → ℕ → List Corner
 corners_of [] z w low = []
-corners_of (v ∷ vs) z w low =
-    if nat_lt v.z z && (nat_lt v.w w && nat_lt v.y low) then record { x = v.x; y = v.y } ∷ corners_of vs z w v.y else corners_of vs z w low
+corners_of (p ∷ ps) z w low =
+    if nat_lt p.z z && (nat_lt p.w w && nat_lt p.y low) then record { x = p.x; y = p.y } ∷ corners_of ps z w p.y else corners_of ps z w low
 
--- whether a view of each list comes before the ends at each place
-abbrev pub both_reach : (ms os : List View) → ℕ → ℕ → ℕ → ℕ → Bool
+-- whether a point of each list comes before the ends at each place
+abbrev pub both_reach : (ms os : List Point) → ℕ → ℕ → ℕ → ℕ → Bool
 both_reach ms os x y z w = reaches ms x y z w && reaches os x y z w
 
 -- whether a bound is least: none has one less at a place and is at most it elsewhere
-unfoldable pub is_least : (ms os : List View) → View → Bool
+unfoldable pub is_least : (ms os : List Point) → Point → Bool
 is_least ms os t =
     not (both_reach ms os t.x (t.y + 1) (t.z + 1) (t.w + 1))
     && (not (both_reach ms os (t.x + 1) t.y (t.z + 1) (t.w + 1))
@@ -41,27 +41,27 @@ is_least ms os t =
     && not (both_reach ms os (t.x + 1) (t.y + 1) (t.z + 1) t.w)))
 
 -- whether it also has these coordinates across the plane
-unfoldable pub is_least_along : (ms os : List View) → (z w : ℕ) → View → Bool
+unfoldable pub is_least_along : (ms os : List Point) → (z w : ℕ) → Point → Bool
 is_least_along ms os z w t = nat_eq t.z z && (nat_eq t.w w && is_least ms os t)
 
 -- the least bounds of a stamp with those of a list that lie in the plane through it
-abbrev pub bounds_with : Plane → (ms os : List View) → Stamp → Front → List Stamp
+abbrev pub bounds_with : Plane → (ms os : List Point) → Stamp → Front → List Stamp
 bounds_with plane ms os s [] = []
 bounds_with plane ms os s (p ∷ ps) =
-    if is_least_along ms os (slice_index s plane.z) (slice_index s plane.w) (seen plane (lub s p))
+    if is_least_along ms os (slice_index s plane.z) (slice_index s plane.w) (point_of plane (lub s p))
     then lub s p ∷ bounds_with plane ms os s ps
     else bounds_with plane ms os s ps
 
 -- those of each stamp of the first list with those of the second
-abbrev pub all_bounds : Plane → (ms os : List View) → Front → Front → List Stamp
+abbrev pub all_bounds : Plane → (ms os : List Point) → Front → Front → List Stamp
 all_bounds plane ms os [] ps = []
 all_bounds plane ms os (s ∷ ss) ps = bounds_with plane ms os s ps ++ all_bounds plane ms os ss ps
 
 -- those of each stamp of either list with those of the other
 abbrev pub plane_bounds : Plane → Front → Front → List Stamp
 plane_bounds plane ss ps =
-    let ms = map (seen plane) ss in
-    let os = map (seen plane) ps in
+    let ms = map (point_of plane) ss in
+    let os = map (point_of plane) ps in
     all_bounds plane ms os ss ps ++ all_bounds plane ms os ps ss
 
 -- in each of the planes
@@ -69,18 +69,18 @@ abbrev pub planes_bounds : List Plane → Front → Front → List Stamp
 planes_bounds [] ss ps = []
 planes_bounds (plane ∷ planes) ss ps = plane_bounds plane ss ps ++ planes_bounds planes ss ps
 
--- the corners in a plane of both lists of views
-pub record IsCut (ms os : List View) (z w : ℕ) (cut : Cut) : Type 0 where
-  pub mine : cut.mine.items ≡ corners_of ms z w PAST
-  pub others : cut.others.items ≡ corners_of os z w PAST
+-- the corners of both lists of points in a plane, before these ends across it
+pub record IsSection (ms os : List Point) (z w : ℕ) (section : Section) : Type 0 where
+  pub mine : section.mine.items ≡ corners_of ms z w PAST
+  pub others : section.others.items ≡ corners_of os z w PAST
 
 -- the plane with these coordinates across it, and with one less at one of the two
-pub record IsAround (ms os : List View) (z w : ℕ) (around : Around) : Type 0 where
+pub record IsAround (ms os : List Point) (z w : ℕ) (around : Around) : Type 0 where
   pub at_z : around.z ≡ z
   pub at_w : around.w ≡ w
-  pub level : IsCut ms os (z + 1) (w + 1) around.level
-  pub before_z : IsCut ms os z (w + 1) around.before_z
-  pub before_w : IsCut ms os (z + 1) w around.before_w
+  pub level : IsSection ms os (z + 1) (w + 1) around.level
+  pub before_z : IsSection ms os z (w + 1) around.before_z
+  pub before_w : IsSection ms os (z + 1) w around.before_w
 
 -- the two lists have the same stamps
 pub record HaveSame (ss ps : List Stamp) : Type 0 where

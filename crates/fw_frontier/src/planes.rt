@@ -1,18 +1,18 @@
 //! The least stamps that are at least one of each of two lists, where stamps have four coordinates.
 //!
-//! Of the first three places of two stamps there are two at which one of the stamps is at most the other. So the least
-//! upper bound of a stamp of each list has the coordinates of one of the two there: it lies in the plane through that
-//! stamp along the other two places. In a plane the outside of a list goes up from a line of corners, in which the test
-//! whether a bound is least is a look-up.
+//! Of the first three places of two stamps there are two at which one of the stamps is at most the other. The least upper
+//! bound of the two has the other one's coordinates there, so it lies in the plane through that one along the other two
+//! places. In a plane the outside of a list goes up from a flight of corners, so that a look-up tells whether something
+//! is outside.
 ghost use Rattle.std.specs.Prelude.{◌≡◌, ℕ, ◌≤◌, ◌++◌, List, slice_index, map, IfOk, OnOk};
 ghost use Rattle.std.specs.List.Sorted.{IsPermutation, IsNonDecreasingBy, IsStrictlySortedBy};
 ghost use Rattle.fw_time.specs.Stamp.{stamp_cmp};
-ghost use Rattle.fw_frontier.specs.Planes.{seen, corners_of, reaches, both_reach, is_least_along, IsCut, IsAround, bounds_with, all_bounds, plane_bounds, planes_bounds, HaveSame};
+ghost use Rattle.fw_frontier.specs.Planes.{point_of, corners_of, reaches, both_reach, is_least_along, IsSection, IsAround, bounds_with, all_bounds, plane_bounds, planes_bounds, HaveSame};
 
 use fw_time::Stamp;
 use std::alloc::{AllocError, Global};
 
-// The two places along a plane, and the two at which all of it has the same coordinates.
+// The two places along a plane, `x` and `y`, and the two across it, at which all of it has the same coordinates.
 struct Plane {
     x: usize,
     y: usize,
@@ -20,7 +20,7 @@ struct Plane {
     w: usize,
 }
 
-// The planes through a stamp along the last place and one of the first three.
+// The planes along the last place and one of the first three.
 const PLANES: [Plane; 3] = [
     Plane {
         x: 2,
@@ -47,7 +47,7 @@ const PAST: u64 = 1 << 32;
 
 // A stamp's coordinates at the places of a plane.
 #[derive(Clone, Copy)]
-struct View {
+struct Point {
     x: u32,
     y: u32,
     z: u32,
@@ -61,11 +61,11 @@ fn coordinate(s: &Stamp, place: usize) -> u32
     if place < s.len() { s.at(place) } else { 0 }
 }
 
-// A stamp seen from a plane.
-fn view_of(s: &Stamp, plane: &Plane) -> View
-    ensures { result ≡ seen plane.now s.now }
+// The point that a stamp is for a plane.
+fn point_of(s: &Stamp, plane: &Plane) -> Point
+    ensures { result ≡ point_of plane.now s.now }
 {
-    View {
+    Point {
         x: coordinate(s, plane.x),
         y: coordinate(s, plane.y),
         z: coordinate(s, plane.z),
@@ -73,42 +73,46 @@ fn view_of(s: &Stamp, plane: &Plane) -> View
     }
 }
 
-// The stamps seen from a plane, in the order of its first place.
-fn views_of(alloc: Global, stamps: &[Stamp], plane: &Plane) -> Result<Vec<View>, AllocError>
-    ensures same { IfOk result (λ views. IsPermutation (map (seen plane.now) stamps.now) views.items) }
-    ensures ascending { IfOk result (λ views. IsNonDecreasingBy (λ v. v.x) views.items) }
+// The points that stamps are for a plane, in the order of its first place.
+fn points_of(alloc: Global, stamps: &[Stamp], plane: &Plane) -> Result<Vec<Point>, AllocError>
+    ensures same { IfOk result
+        (λ points. IsPermutation (map (point_of plane.now) stamps.now) points.items) }
+    ensures ascending { IfOk result (λ points. IsNonDecreasingBy (λ p. p.x) points.items) }
 {
-    let mut views = Vec::with_capacity(alloc, stamps.len())?;
+    let mut points = Vec::with_capacity(alloc, stamps.len())?;
     for s in stamps {
-        views.push(view_of(s, plane))?;
+        points.push(point_of(s, plane))?;
     }
-    views.sort_unstable_by_key(|v| v.x);
-    Ok(views)
+    points.sort_unstable_by_key(|p| p.x);
+    Ok(points)
 }
 
-// A point of a plane.
+// Where in a plane the outside begins: from there upward at both places.
 #[derive(Clone, Copy)]
 struct Corner {
     x: u32,
     y: u32,
 }
 
-// The corners of what views have outside in a plane: each is further along the first place and less far along the second
-// than the one before. Only views with coordinates before the ends at the other places count.
+// The corners in a plane, of the points that come before these ends across it: each corner is at least as far along the
+// first place as the one before it, and lower at the second.
 fn corners_of(
     alloc: Global,
-    views: &[View],
+    points: &[Point],
     z_end: u64,
     w_end: u64,
 ) -> Result<Vec<Corner>, AllocError>
-    ensures { IfOk result (λ corners. corners.items ≡ corners_of views.now z_end w_end PAST) }
+    ensures { IfOk result (λ corners. corners.items ≡ corners_of points.now z_end w_end PAST) }
 {
     let mut corners = Vec::new(alloc);
     let mut low = PAST;
-    for v in views {
-        if u64::from(v.z) < z_end && u64::from(v.w) < w_end && u64::from(v.y) < low {
-            corners.push(Corner { x: v.x, y: v.y })?;
-            low = u64::from(v.y);
+    for point in points {
+        if u64::from(point.z) < z_end && u64::from(point.w) < w_end && u64::from(point.y) < low {
+            corners.push(Corner {
+                x: point.x,
+                y: point.y,
+            })?;
+            low = u64::from(point.y);
         }
     }
     Ok(corners)
@@ -116,59 +120,59 @@ fn corners_of(
 
 // Whether one of the corners comes before the ends at both places.
 fn has_corner_before(corners: &[Corner], x_end: u64, y_end: u64) -> bool
-    ensures { (views : List View) (z_end : ℕ) (w_end : ℕ)
-        → IsNonDecreasingBy (λ v. v.x) views → corners.now ≡ corners_of views z_end w_end PAST
-        → y_end ≤ PAST → result ≡ reaches views x_end y_end z_end w_end }
+    ensures { (points : List Point) (z_end : ℕ) (w_end : ℕ)
+        → IsNonDecreasingBy (λ p. p.x) points → corners.now ≡ corners_of points z_end w_end PAST
+        → y_end ≤ PAST → result ≡ reaches points x_end y_end z_end w_end }
 {
     let before = corners.partition_point(|c| u64::from(c.x) < x_end);
     before > 0 && u64::from(corners[before - 1].y) < y_end
 }
 
-// The views of the two lists from a plane, each list in the order of the plane's first place.
+// The points of both lists for a plane, in the order of its first place.
 #[derive(Drop)]
 struct Sides {
-    mine: Vec<View>,
-    others: Vec<View>,
-    ghost mine_ascend: { IsNonDecreasingBy (λ v. v.x) mine.items },
-    ghost others_ascend: { IsNonDecreasingBy (λ v. v.x) others.items },
+    mine: Vec<Point>,
+    others: Vec<Point>,
+    ghost mine_ascend: { IsNonDecreasingBy (λ p. p.x) mine.items },
+    ghost others_ascend: { IsNonDecreasingBy (λ p. p.x) others.items },
 }
 
 // The corners of both lists in a plane.
 #[derive(Drop)]
-struct Cut {
+struct Section {
     mine: Vec<Corner>,
     others: Vec<Corner>,
 }
 
-impl Cut {
-    // The corners of the views with coordinates before these ends across the plane.
-    fn new(alloc: Global, sides: &Sides, z_end: u64, w_end: u64) -> Result<Cut, AllocError>
-        ensures { IfOk result (IsCut sides.now.mine.items sides.now.others.items z_end w_end) }
+impl Section {
+    // Of the points that come before these ends across the plane.
+    fn new(alloc: Global, sides: &Sides, z_end: u64, w_end: u64) -> Result<Section, AllocError>
+        ensures { IfOk result (IsSection sides.now.mine.items sides.now.others.items z_end w_end) }
     {
-        Ok(Cut {
+        Ok(Section {
             mine: corners_of(alloc, &sides.mine, z_end, w_end)?,
             others: corners_of(alloc, &sides.others, z_end, w_end)?,
         })
     }
 
-    // Whether a view of each list comes before the ends.
+    // Whether a point of each list comes before the ends.
     fn has_both_before(&self, x_end: u64, y_end: u64) -> bool
         ensures { (sides : Sides) (z_end : ℕ) (w_end : ℕ)
-            → IsCut sides.mine.items sides.others.items z_end w_end self.now → y_end ≤ PAST
+            → IsSection sides.mine.items sides.others.items z_end w_end self.now → y_end ≤ PAST
             → result ≡ both_reach sides.mine.items sides.others.items x_end y_end z_end w_end }
     {
         has_corner_before(&self.mine, x_end, y_end) && has_corner_before(&self.others, x_end, y_end)
     }
 }
 
-// The plane through a point, and where it has one less at one of the places across it.
+// The plane with these coordinates across it, and where it has one less at one of the two.
 #[derive(Drop)]
 struct Around {
     z: u32,
     w: u32,
-    level: Cut,
-    before_z: Cut,
-    before_w: Cut,
+    level: Section,
+    before_z: Section,
+    before_w: Section,
 }
 
 impl Around {
@@ -179,15 +183,15 @@ impl Around {
         Ok(Around {
             z,
             w,
-            level: Cut::new(alloc, sides, z_end + 1, w_end + 1)?,
-            before_z: Cut::new(alloc, sides, z_end, w_end + 1)?,
-            before_w: Cut::new(alloc, sides, z_end + 1, w_end)?,
+            level: Section::new(alloc, sides, z_end + 1, w_end + 1)?,
+            before_z: Section::new(alloc, sides, z_end, w_end + 1)?,
+            before_w: Section::new(alloc, sides, z_end + 1, w_end)?,
         })
     }
 
-    // Whether a bound lies in the plane, and with one less at a place is none.
+    // Whether a bound lies in the plane, and with one less at any place is no bound.
     #[tactic(auto, unfolding(crate::specs::Planes::is_least_along, crate::specs::Planes::is_least))]
-    fn has_least(&self, bound: &View) -> bool
+    fn has_least(&self, bound: &Point) -> bool
         ensures { (sides : Sides) (z : ℕ) (w : ℕ)
             → IsAround sides.mine.items sides.others.items z w self.now
             → result ≡ is_least_along sides.mine.items sides.others.items z w bound.now }
@@ -202,7 +206,7 @@ impl Around {
     }
 }
 
-// Puts to the found ones the least bounds of `s` with one of the stamps that lie in the plane through `s`.
+// Adds those least upper bounds of `s` and one of the stamps that lie in the plane through `s`, if no bound is lesser.
 fn push_bounds(
     found: &mut Vec<Stamp>,
     s: &Stamp,
@@ -213,11 +217,11 @@ fn push_bounds(
     ensures { OnOk result (found.new.items ≡ found.old.items
         ++ bounds_with plane.now sides.now.mine.items sides.now.others.items s.now stamps.now) }
 {
-    let here = view_of(s, plane);
+    let here = point_of(s, plane);
     let around = Around::new(*found.allocator(), sides, here.z, here.w)?;
     for p in stamps {
         let bound = s.lub(p);
-        if around.has_least(&view_of(&bound, plane)) {
+        if around.has_least(&point_of(&bound, plane)) {
             found.push(bound)?;
         }
     }
@@ -241,7 +245,7 @@ fn push_all_bounds(
     Ok(())
 }
 
-// Puts to the found ones the least bounds that lie in planes through a stamp of either list.
+// Adds the least bounds that lie in planes through a stamp of either list.
 fn push_plane(
     found: &mut Vec<Stamp>,
     mine: &[Stamp],
@@ -253,8 +257,8 @@ fn push_plane(
 {
     let alloc = *found.allocator();
     let sides = Sides {
-        mine: views_of(alloc, mine, plane)?,
-        others: views_of(alloc, others, plane)?,
+        mine: points_of(alloc, mine, plane)?,
+        others: points_of(alloc, others, plane)?,
     };
     push_all_bounds(found, mine, others, plane, &sides)?;
     push_all_bounds(found, others, mine, plane, &sides)

@@ -1,10 +1,8 @@
-use Rattle.std.proofs.Common.{rules, ◌≡◌, ℕ, ◌-◌, ◌<◌, ◌≤◌, true, false, nat_lt, ◌&&◌, length, get_or, slice_index_or, sym, ap, ◌∙◌, arith}
+use Rattle.std.proofs.Common.{rules, ◌-◌, nat_lt, get_or, ap, ◌∙◌}
 use Rattle.std.proofs.lemmas.List.Sorted.{IsPartitionedBy-ltb, IsPartitionPoint-from_clause}
-use Rattle.std.proofs.lemmas.Bool.Decides.{nat_tests}
-use Rattle.std.specs.List.Sorted.{IsNonDecreasingBy, IsPartitionPoint}
+use Rattle.std.specs.List.Sorted.{IsNonDecreasingBy}
 use Rattle.fw_frontier.specs.declared.planes.Corner.{Corner}
 use Rattle.fw_frontier.specs.declared.planes.TheConstants.{PAST}
-use Rattle.fw_frontier.specs.Planes.{corners_of, reaches}
 use Rattle.fw_frontier.proofs.CornerLaws.{corners-look_up, corners-sorted, some-before, none-before}
 use Rattle.fw_frontier.proofs.planes.has_corner_before.Goals as goal
 

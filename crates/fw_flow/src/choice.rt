@@ -1,11 +1,9 @@
 //! To what nodes are restored after a failure, and what each of them offers.
-ghost use Rattle.std.specs.Prelude.{◌≡◌, IfOk};
-ghost use Rattle.fw_flow.specs.declared.choice.Cut.TheVariants as cut;
+ghost use Rattle.std.specs.Prelude.{◌≡◌};
 
 use crate::{Causes, EdgeId};
 use fw_frontier::Front;
 use fw_time::Stamp;
-use std::alloc::AllocError;
 use std::marker::Model;
 
 /// To what a node is cut.
@@ -15,18 +13,6 @@ pub enum Cut {
     Present,
     /// It keeps what its events in the frontier made.
     At(Front),
-}
-
-impl Cut {
-    /// The same cut once more. The error is want of memory.
-    pub fn copy(&self) -> Result<Self, AllocError>
-        ensures { IfOk result (λ same. same ≡ self.now) }
-    {
-        match self {
-            Cut::Present => Ok(Cut::Present),
-            Cut::At(front) => Ok(Cut::At(front.copy()?)),
-        }
-    }
 }
 
 /// Cuts, one for each node. Contracts see their list.

@@ -52,12 +52,15 @@ pub fn read_batches(alloc: Global, text: &[u8], sources: &SourceNames) -> Result
     Ok(batches)
 }
 
-/// An accepted text is not refused, and a text is refused by one rule at one line: so `read_batches`
-/// answers `Ok` exactly for the texts of the grammar, unless memory is refused.
+/// An accepted text is not refused and gives each node its batches, and a text is refused by one rule at one
+/// line: so `read_batches` answers `Ok` exactly for the texts of the grammar, unless memory is refused.
 pub fn one_answer()
     ensures exclusive { (text : List ℕ) (sources : List (List ℕ × ℕ))
         (batches : List (ℕ × List (List Rec))) (refusal : Refusal)
         → IsAccepted text sources batches → IsRefused text sources refusal → ⊥ }
+    ensures one_value { (text : List ℕ) (sources : List (List ℕ × ℕ)) (first second : List (ℕ × List (List Rec)))
+        → IsAccepted text sources first → IsAccepted text sources second
+        → (node : ℕ) → batches_at first node ≡ batches_at second node }
     ensures one_refusal { (text : List ℕ) (sources : List (List ℕ × ℕ)) (first second : Refusal)
         → IsRefused text sources first → IsRefused text sources second → first ≡ second }
 {}

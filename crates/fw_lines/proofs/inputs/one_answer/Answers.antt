@@ -1,8 +1,12 @@
+use Rattle.std.proofs.Common.{sym, ◌∙◌}
 use Rattle.fw_lines.proofs.ReadLaws.{accepted_or_refused, one_refusal}
 use Rattle.fw_lines.proofs.inputs.one_answer.Goals as goal
 
 pub returns-clause-exclusive : goal.returns-clause-exclusive
 returns-clause-exclusive c = accepted_or_refused
+
+pub returns-clause-one_value : goal.returns-clause-one_value
+returns-clause-one_value c text sources first second a b node = a.value node ∙ sym (b.value node)
 
 pub returns-clause-one_refusal : goal.returns-clause-one_refusal
 returns-clause-one_refusal c = one_refusal

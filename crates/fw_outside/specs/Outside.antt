@@ -1,9 +1,13 @@
 -- What the calls of a folder, a store and a sink promise.
-use Rattle.std.specs.Prelude.{◌≡◌, ◌⊎◌, ℕ, ◌+◌, ◌-◌, ◌^◌, ◌<◌, ◌≤◌, Option, List, ◌++◌, length, take, IfSome, IsSomeAnd, option_map}
+use Rattle.std.specs.Prelude.{◌≡◌, ◌⊎◌, ℕ, ◌+◌, ◌-◌, ◌^◌, ◌<◌, ◌≤◌, min, Option, List, ◌++◌, length, take, IfSome, IsSomeAnd, option_map}
 
 -- a count of faults rose, or stands at the end of its type, where it stays
 abbrev pub Rose : ℕ → ℕ → Type 0
 Rose before after = (before < after) ⊎ (before ≡ 2 ^ 64 - 1)
+
+-- a count with one more; at the end of its type it stays there
+abbrev pub one_more : ℕ → ℕ
+one_more count = min (count + 1) (2 ^ 64 - 1)
 
 -- these bytes are the text under a name, where the folder tells its texts
 abbrev pub IsText : Option (List ℕ → Option (List ℕ)) → List ℕ → List ℕ → Type 0

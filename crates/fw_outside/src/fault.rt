@@ -1,6 +1,7 @@
 //! What a call to the outside answers when it is refused, and the list of calls that are to fail.
-ghost use Rattle.std.specs.Prelude.{◌≡◌, ◌+◌, ◌-◌, ◌^◌, ◌≤◌, ◌↔◌, min, IsTrue, Contains};
+ghost use Rattle.std.specs.Prelude.{◌≡◌, ◌+◌, ◌-◌, ◌^◌, ◌≤◌, ◌↔◌, IsTrue, Contains};
 ghost use Rattle.fw_outside.specs.Outside.{Rose};
+ghost use Rattle.fw_outside.specs.Outside as spec;
 ghost use Rattle.fw_outside.specs.declared.fault.FetchFault.TheVariants.{NoMemory as FetchNoMemory};
 ghost use Rattle.fw_outside.specs.declared.fault.OutFault.TheVariants.{NoMemory as OutNoMemory};
 
@@ -58,6 +59,13 @@ pub(crate) fn raised(faults: u64) -> u64
     faults.saturating_add(1)
 }
 
+/// One more; a count at the end of its type stays there.
+pub(crate) fn one_more(count: u64) -> u64
+    ensures { result ≡ spec.one_more count }
+{
+    count.saturating_add(1)
+}
+
 /// Which calls of an object in memory are to fail, by number from 0, and how many did.
 #[derive(Debug, Drop)]
 pub(crate) struct FaultPlan {
@@ -83,11 +91,11 @@ impl FaultPlan {
         ensures failing { IsTrue result ↔ Contains self.old.failing.items self.old.calls }
         ensures rose { IsTrue result → Rose self.old.faults self.new.faults }
         ensures later { self.old.faults ≤ self.new.faults }
-        ensures counted { self.new.calls ≡ min (self.old.calls + 1) (2 ^ 64 - 1) }
+        ensures counted { self.new.calls ≡ spec.one_more self.old.calls }
         ensures failing_stays { self.new.failing.items ≡ self.old.failing.items }
     {
         let fails = self.failing.contains(&self.calls);
-        self.calls = self.calls.saturating_add(1);
+        self.calls = one_more(self.calls);
         if fails {
             self.faults = raised(self.faults);
         }

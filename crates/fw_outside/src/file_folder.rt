@@ -1,7 +1,7 @@
 //! A folder of real files.
 ghost use Rattle.std.specs.Prelude.{◌≡◌, None};
 
-use crate::fault::raised;
+use crate::fault::{one_more, raised};
 use crate::{FetchFault, Folder};
 use std::io::{ErrorKind, Read};
 use std::rt::Files;
@@ -11,15 +11,21 @@ use std::{fs, io};
 #[derive(Drop)]
 pub struct FileFolder<'a, R: Files> {
     files: &'a R,
+    fetches: u64,
     faults: u64,
 }
 
 impl<'a, R: Files> FileFolder<'a, R> {
     /// The files that this runtime reaches.
     pub fn new(files: &'a R) -> Self
-        ensures { ⟦<FileFolder<'a, R> as Folder>⟧.fault_count result ≡ 0 }
+        ensures unasked { ⟦<FileFolder<'a, R> as Folder>⟧.fetch_count result ≡ 0 }
+        ensures faultless { ⟦<FileFolder<'a, R> as Folder>⟧.fault_count result ≡ 0 }
     {
-        FileFolder { files, faults: 0 }
+        FileFolder {
+            files,
+            fetches: 0,
+            faults: 0,
+        }
     }
 }
 
@@ -32,9 +38,12 @@ fn read_first<R: Files>(files: &R, path: &str, most: u64, into: &mut Vec<u8>) ->
 impl<R: Files> Folder for FileFolder<'_, R> {
     ghost texts = { λ _. None };
 
+    ghost fetch_count = { λ folder. folder.fetches };
+
     ghost fault_count = { λ folder. folder.faults };
 
     fn fetch(&mut self, name: &str, limit: usize, into: &mut Vec<u8>) -> Result<(), FetchFault> {
+        self.fetches = one_more(self.fetches);
         into.clear();
         if let Err(error) = read_first(self.files, name, limit as u64 + 1, into) {
             self.faults = raised(self.faults);

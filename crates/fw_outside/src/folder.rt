@@ -1,6 +1,6 @@
 //! Where texts come from.
 ghost use Rattle.std.specs.Prelude.{◌≡◌, ◌+◌, ◌^◌, ◌<◌, ◌≤◌, [], ℕ, List, Option, OnOk, IsErrOf, vec_len};
-ghost use Rattle.fw_outside.specs.Outside.{Rose, IsText, IsCutText};
+ghost use Rattle.fw_outside.specs.Outside.{Rose, IsText, IsCutText, one_more};
 
 use crate::FetchFault;
 
@@ -8,6 +8,9 @@ use crate::FetchFault;
 pub trait Folder {
     /// The bytes under each name, none for a name that is not there; or nothing, where the folder does not tell.
     ghost texts: { Self → Option (List ℕ → Option (List ℕ)) };
+
+    /// How often a text was asked for; a count of 2^64 - 1 stands for more.
+    ghost fetch_count: { Self → ℕ };
 
     /// How often the folder failed.
     ghost fault_count: { Self → ℕ };
@@ -25,6 +28,7 @@ pub trait Folder {
         ensures failed_empty { IsErrOf result FetchFault.Failed → into.new.items ≡ [] }
         ensures no_memory_empty { IsErrOf result FetchFault.NoMemory → into.new.items ≡ [] }
         ensures never_falls { fault_count self.old ≤ fault_count self.new }
+        ensures counted { fetch_count self.new ≡ one_more (fetch_count self.old) }
         ensures texts_stay { texts self.new ≡ texts self.old };
 
     /// How often the folder failed; a count of 2^64 - 1 stands for more.

@@ -3,7 +3,7 @@ ghost use Rattle.std.specs.Prelude.{◌≡◌, ◌+◌, ◌^◌, ◌<◌, ◌≤
 ghost use Rattle.std.specs.Option.{option_copied};
 ghost use Rattle.fw_outside.specs.Memory.{text_under, text_or_empty};
 
-use crate::fault::{FaultPlan, raised};
+use crate::fault::{FaultPlan, one_more, raised};
 use crate::{FetchFault, Folder};
 use std::alloc::{AllocError, Global};
 
@@ -66,6 +66,7 @@ impl MemFolder {
     /// A folder of these texts, of a name that stands twice the first, whose calls of these numbers are to fail.
     pub fn new(entries: Vec<MemText>, failing: Vec<u64>) -> Self
         ensures texts { ⟦<MemFolder as Folder>⟧.texts result ≡ Some (text_under entries.items) }
+        ensures unasked { ⟦<MemFolder as Folder>⟧.fetch_count result ≡ 0 }
         ensures faultless { ⟦<MemFolder as Folder>⟧.fault_count result ≡ 0 }
     {
         MemFolder {
@@ -77,6 +78,8 @@ impl MemFolder {
 
 impl Folder for MemFolder {
     ghost texts = { λ folder. Some (text_under folder.entries.items) };
+
+    ghost fetch_count = { λ folder. folder.plan.calls };
 
     ghost fault_count = { λ folder. folder.plan.faults };
 
@@ -100,23 +103,31 @@ impl Folder for MemFolder {
 #[derive(Debug, Drop)]
 pub struct FaultlessFolder {
     entries: Vec<MemText>,
+    fetches: u64,
 }
 
 impl FaultlessFolder {
     /// A folder of these texts, of a name that stands twice the first.
     pub fn new(entries: Vec<MemText>) -> Self
-        ensures { ⟦<FaultlessFolder as Folder>⟧.texts result ≡ Some (text_or_empty entries.items) }
+        ensures texts { ⟦<FaultlessFolder as Folder>⟧.texts result ≡ Some (text_or_empty entries.items) }
+        ensures unasked { ⟦<FaultlessFolder as Folder>⟧.fetch_count result ≡ 0 }
     {
-        FaultlessFolder { entries }
+        FaultlessFolder {
+            entries,
+            fetches: 0,
+        }
     }
 }
 
 impl Folder for FaultlessFolder {
     ghost texts = { λ folder. Some (text_or_empty folder.entries.items) };
 
+    ghost fetch_count = { λ folder. folder.fetches };
+
     ghost fault_count = { λ _. 0 };
 
     fn fetch(&mut self, name: &str, limit: usize, into: &mut Vec<u8>) -> Result<(), FetchFault> {
+        self.fetches = one_more(self.fetches);
         match find_text(&self.entries, name) {
             Some(text) => hand_over(text, limit, into),
             None => hand_over(&[], limit, into),

@@ -3,7 +3,7 @@ use Rattle.std.proofs.Common.{◌≡◌, ◌⊎◌, inl, inr, ℕ, ◌^◌, ◌�
 use Rattle.std.proofs.lemmas.List.FromFn.{length-map-range_with_len}
 use Rattle.std.proofs.lemmas.Option.{same_Some}
 use Rattle.std.specs.List.{AllByRecursion}
-use Rattle.fw_outside.specs.Outside.{IsText}
+use Rattle.fw_outside.specs.Outside.{IsText, one_more}
 use Rattle.fw_bag.specs.declared.rec.Rec.{Rec}
 use Rattle.fw_lines.specs.declared.refusal.Refusal.{Refusal}
 use Rattle.fw_lines.specs.Batches.{batches_at}
@@ -31,7 +31,7 @@ use Rattle.fw_run.proofs.InputLaws.{each_batch, none_given, few_batches, at_plac
 use Rattle.fw_run.proofs.KindLaws.{spelled-keeps_nothing, spelled-notifies_nobody}
 use Rattle.fw_run.specs.declared.reading.Job.{Job}
 use Rattle.fw_run.specs.Reading.{IsReady, IsJob}
-use Rattle.fw_run.specs.Texts.{Texts, spelled_flow, sources_of, spelled_batches, spelled_system, spelled_steps, AreInputsOf, AreAccepted, HasText, AreThere, AreInputsRefused, IsScheduleRefused, IsFirstRefusal}
+use Rattle.fw_run.specs.Texts.{Texts, spelled_flow, sources_of, spelled_batches, spelled_system, spelled_steps, AreInputsOf, AreAccepted, HasText, AreThere, AreInputsRefused, IsScheduleRefused, IsFirstRefusal, AreFetchedInTurn}
 use Rattle.fw_run.specs.Words.{Names}
 
 -- ---- what accepted texts spell
@@ -135,6 +135,23 @@ job_read_in_turn told second third names job e h f i s =
     job_read told names job f
     (subst (λ t. HasText t names.inputs (λ text. inputs.IsAccepted text (sources_of job.flow) job.batches)) e i)
     (subst (λ t. HasText t names.schedule (λ text. schedules.IsAccepted text job.flow job.steps)) (h ∙ e) s)
+
+-- a text was asked for after an accepted flow
+pub fetched_second : (told : Option (List ℕ → Option (List ℕ))) (names : Names) (flow : Dataflow) (before one after : ℕ)
+    → HasText told names.flow (λ text. flows.IsAccepted text flow) → one ≡ one_more before → after ≡ one_more one → AreFetchedInTurn told names before after
+fetched_second told names flow before one after f e h = inr (inr (flow, f, inl (h ∙ ap one_more e)))
+
+-- and one after accepted inputs
+pub fetched_third : (told second : Option (List ℕ → Option (List ℕ))) (names : Names) (flow : Dataflow) (batches : List (ℕ × List (List Rec))) (before one two after : ℕ) → second ≡ told
+    → HasText told names.flow (λ text. flows.IsAccepted text flow) → HasText second names.inputs (λ text. inputs.IsAccepted text (sources_of flow) batches)
+    → one ≡ one_more before → two ≡ one_more one → after ≡ one_more two → AreFetchedInTurn told names before after
+fetched_third told second names flow batches before one two after same f i e h k =
+    let given : HasText told names.inputs (AreInputsOf flow) = record {
+      text = i.text;
+      there = subst (λ t. IsText t names.inputs i.text) same i.there;
+      so = record { size = i.so.size; sound = i.so.sound };
+    } in
+    inr (inr (flow, f, inr (given, k ∙ ap one_more (h ∙ ap one_more e))))
 
 -- ---- one answer
 

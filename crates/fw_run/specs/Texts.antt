@@ -1,8 +1,8 @@
 -- What the three texts of a run spell, and which of them is refused.
-use Rattle.std.specs.Prelude.{◌⊎◌, ℕ, ◌≤◌, if◌then◌else◌, List, [], ◌∷◌, map, length, Option}
+use Rattle.std.specs.Prelude.{◌≡◌, ◌⊎◌, ℕ, ◌≤◌, if◌then◌else◌, List, [], ◌∷◌, map, length, Option}
 use Rattle.std.specs.List.{flat_map}
 use Rattle.fw_bag.specs.declared.rec.Rec.{Rec}
-use Rattle.fw_outside.specs.Outside.{IsText}
+use Rattle.fw_outside.specs.Outside.{IsText, one_more}
 use Rattle.fw_lines.specs.declared.refusal.Refusal.{Refusal}
 use Rattle.fw_lines.specs.Faults.{IsSound}
 use Rattle.fw_lines.specs.Inputs.{line_fault, size_limit}
@@ -98,3 +98,13 @@ IsFirstRefusal told names refusal =
     ⊎ ((flow : Dataflow) × HasText told names.flow (λ text. flows.IsAccepted text flow)
     × (AreInputsRefused told names.inputs flow refusal
     ⊎ (HasText told names.inputs (AreInputsOf flow) × IsScheduleRefused told names.schedule flow refusal)))
+
+-- Texts were asked for in turn, and no more often than this, if calls were counted from the first number to the second: a second
+-- time only where the flow is accepted, a third only where the inputs are too, and no fourth.
+abbrev pub AreFetchedInTurn : Option (List ℕ → Option (List ℕ)) → Names → ℕ → ℕ → Type 0
+AreFetchedInTurn told names before after =
+    (after ≡ before)
+    ⊎ ((after ≡ one_more before)
+    ⊎ ((flow : Dataflow) × HasText told names.flow (λ text. flows.IsAccepted text flow)
+    × ((after ≡ one_more (one_more before))
+    ⊎ (HasText told names.inputs (AreInputsOf flow) × (after ≡ one_more (one_more (one_more before)))))))

@@ -3,7 +3,7 @@ ghost use Rattle.std.specs.Prelude.{◌≡◌, ◌⊎◌, ◌≤◌, ◌↔◌, 
 ghost use Rattle.fw_lines.specs.declared.refusal.Refusal as lines;
 ghost use Rattle.fw_outside.specs.Outside.{Rose};
 ghost use Rattle.fw_run.specs.Headline.{Prints, PrintsPart, IsRunEnd, StaysLegal, ShowsDenotation, AcknowledgesInOrder, HasOneRun, CutsToLargest};
-ghost use Rattle.fw_run.specs.Texts.{Texts, AreThere, AreAccepted, IsFirstRefusal, spelled_system, spelled_steps};
+ghost use Rattle.fw_run.specs.Texts.{Texts, AreThere, AreAccepted, IsFirstRefusal, AreFetchedInTurn, spelled_system, spelled_steps};
 ghost use Rattle.fw_run.specs.Words.{words_in, are_run_words, names_of};
 ghost use Rattle.fw_run.specs.Status.{number_of, note_of, IsTold, IsRefused, status_numbers};
 
@@ -44,6 +44,12 @@ pub fn falkirk<F: Folder, K: Store, O: Sink, N: Sink>(
     // At 3 to 5 the first of the three texts that is not accepted is refused by the first rule that it breaks.
     ensures refused { (refusal : lines.Refusal) → let names = names_of (words_in words.now) in
         result ≡ Status.Refused refusal → IsFirstRefusal (F.texts folder.old) names refusal }
+
+    // Each text is asked for only where those before it are accepted, and at 2 none is. They stay as they are.
+    ensures in_turn { let names = names_of (words_in words.now) in
+        AreFetchedInTurn (F.texts folder.old) names (F.fetch_count folder.old) (F.fetch_count folder.new) }
+    ensures nothing_read { result ≡ Status.BadWords → folder.new ≡ folder.old }
+    ensures texts_stay { F.texts folder.new ≡ F.texts folder.old }
 
     // Where the folder tells its texts, a text that is not accepted is refused and accepted ones are run, unless what is
     // outside fails or memory is refused.

@@ -1,6 +1,6 @@
 //! The three texts are fetched and read, each before the next one is fetched.
 ghost use Rattle.std.specs.Prelude.{◌≡◌, ◌++◌, ◌^◌, ◌<◌, ◌≤◌, length, IsNone, IfOk, OnOk, IfErr, IsErrOf};
-ghost use Rattle.fw_outside.specs.Outside.{Rose, IsText};
+ghost use Rattle.fw_outside.specs.Outside.{Rose, IsText, one_more};
 ghost use Rattle.fw_lines.specs.Inputs as inputs;
 ghost use Rattle.fw_lines.specs.Sources.{node_of};
 ghost use Rattle.fw_flow.specs.Dataflow.{node_at};
@@ -9,7 +9,7 @@ ghost use Rattle.fw_schedule.specs.Grammar as schedules;
 ghost use Rattle.fw_run.specs.Reading.{IfRefused, IsTooLarge, IsJob, AreNamesDistinct};
 ghost use Rattle.fw_run.specs.Texts as spec;
 ghost use Rattle.fw_run.specs.Words.{names_in};
-ghost use Rattle.fw_run.specs.Texts.{HasText, IsFlowRefused, AreInputsRefused, IsScheduleRefused, IsFirstRefusal};
+ghost use Rattle.fw_run.specs.Texts.{HasText, IsFlowRefused, AreInputsRefused, IsScheduleRefused, IsFirstRefusal, AreFetchedInTurn};
 
 use crate::words::RunWords;
 use fw_flow::{Flow, Kind, NodeId};
@@ -76,6 +76,8 @@ pub(crate) fn read_job<F: Folder>(
     ensures job { IfOk result (IsJob (F.texts folder.old) (names_in words.now)) }
     ensures refused { IfErr result (IfRefused (IsFirstRefusal (F.texts folder.old) (names_in words.now))) }
     ensures failed { IsErrOf result JobFault.Failed → Rose (F.fault_count folder.old) (F.fault_count folder.new) }
+    ensures in_turn { AreFetchedInTurn (F.texts folder.old) (names_in words.now) (F.fetch_count folder.old) (F.fetch_count folder.new) }
+    ensures texts_stay { F.texts folder.new ≡ F.texts folder.old }
 {
     let flow = fetch_flow(alloc, folder, words.flow)?;
     let batches = fetch_inputs(alloc, folder, words.inputs, &flow)?;
@@ -93,6 +95,7 @@ fn fetch_flow<F: Folder>(alloc: Global, folder: &mut F, name: &str) -> Result<Fl
     ensures refused { IfErr result (IfRefused (IsFlowRefused (F.texts folder.old) name.now)) }
     ensures failed { IsErrOf result JobFault.Failed → Rose (F.fault_count folder.old) (F.fault_count folder.new) }
     ensures never_falls { F.fault_count folder.old ≤ F.fault_count folder.new }
+    ensures counted { F.fetch_count folder.new ≡ one_more (F.fetch_count folder.old) }
     ensures texts_stay { F.texts folder.new ≡ F.texts folder.old }
 {
     let text = fetch(alloc, folder, name, FLOW_LIMIT, Code::F11)?;
@@ -112,6 +115,7 @@ fn fetch_inputs<F: Folder>(
     ensures refused { IfErr result (IfRefused (AreInputsRefused (F.texts folder.old) name.now flow.now)) }
     ensures failed { IsErrOf result JobFault.Failed → Rose (F.fault_count folder.old) (F.fault_count folder.new) }
     ensures never_falls { F.fault_count folder.old ≤ F.fault_count folder.new }
+    ensures counted { F.fetch_count folder.new ≡ one_more (F.fetch_count folder.old) }
     ensures texts_stay { F.texts folder.new ≡ F.texts folder.old }
 {
     let text = fetch(alloc, folder, name, LINES_LIMIT, Code::I5)?;
@@ -131,6 +135,8 @@ fn fetch_schedule<F: Folder>(
     ensures refused { IfErr result (IfRefused (IsScheduleRefused (F.texts folder.old) name.now flow.now)) }
     ensures failed { IsErrOf result JobFault.Failed → Rose (F.fault_count folder.old) (F.fault_count folder.new) }
     ensures never_falls { F.fault_count folder.old ≤ F.fault_count folder.new }
+    ensures counted { F.fetch_count folder.new ≡ one_more (F.fetch_count folder.old) }
+    ensures texts_stay { F.texts folder.new ≡ F.texts folder.old }
 {
     let text = fetch(alloc, folder, name, LINES_LIMIT, Code::S4)?;
     Ok(read_schedule(alloc, &text, flow)?)
@@ -149,6 +155,7 @@ fn fetch<F: Folder>(
     ensures refused { IfErr result (IfRefused (IsTooLarge (F.texts folder.old) name.now limit too_large)) }
     ensures failed { IsErrOf result JobFault.Failed → Rose (F.fault_count folder.old) (F.fault_count folder.new) }
     ensures never_falls { F.fault_count folder.old ≤ F.fault_count folder.new }
+    ensures counted { F.fetch_count folder.new ≡ one_more (F.fetch_count folder.old) }
     ensures texts_stay { F.texts folder.new ≡ F.texts folder.old }
 {
     let mut text = Vec::new(alloc);

@@ -14,10 +14,15 @@ use fw_time::Stamp;
 use std::alloc::{AllocError, Global};
 use std::test::Fail;
 
-// The input and the sum of the flow with a node of each kind, by their places.
-const INPUT: NodeId = NodeId::at(0);
+// The input of the flow with a node of each kind, by its place.
+fn input() -> NodeId {
+    NodeId::at(0)
+}
 
-const SUM: NodeId = NodeId::at(4);
+// The sum of that flow.
+fn sum() -> NodeId {
+    NodeId::at(4)
+}
 
 // Whether an event is at a stamp of its node's domain.
 fn is_at_node(flow: &Flow, event: &Event) -> bool
@@ -76,7 +81,7 @@ fn notice(
 ) -> Result<String, AllocError>
     requires { AreAtNodes flow.now (reverse events.now) }
 {
-    match next_notice(alloc, flow, batches, events, SUM, None)? {
+    match next_notice(alloc, flow, batches, events, sum(), None)? {
         Some(at) => format!(in alloc; "{at}"),
         None => format!(in alloc; "none"),
     }
@@ -84,7 +89,7 @@ fn notice(
 
 // One batch of two recs, of which the select lets through the first.
 fn one_batch(alloc: Global) -> Result<Batches, ReadFault> {
-    let sources = SourceNames::new(alloc).with(INPUT.place(), b"input")?;
+    let sources = SourceNames::new(alloc).with(input().place(), b"input")?;
     read_batches(alloc, b"batch input 1:5 9:7\n", &sources)
 }
 
@@ -93,7 +98,7 @@ fn a_sum_is_notified_once_nothing_can_come(rt: HostRuntime) -> Result<(), Fail> 
     let alloc = rt.alloc();
     let flow = Flow::check(alloc, every_kind(alloc)?)?;
     let batches = one_batch(alloc)?;
-    let (source, epoch) = (INPUT, 0);
+    let (source, epoch) = (input(), 0);
     let (five, ten) = (Rec { key: 1, value: 5 }, Rec { key: 1, value: 10 });
 
     // the first rec on its way to the join, where it comes twice
@@ -118,7 +123,7 @@ fn a_sum_is_notified_once_nothing_can_come(rt: HostRuntime) -> Result<(), Fail> 
     let text = notice(alloc, &flow, &batches, &events)?;
     assert_eq!(rt; text.as_str(), "0", "when all has come");
 
-    let (node, at) = (SUM, Stamp::new(&[0]));
+    let (node, at) = (sum(), Stamp::new(&[0]));
     happen(&flow, &mut events, Event::Notify { node, at })?;
     let text = notice(alloc, &flow, &batches, &events)?;
     assert_eq!(rt; text.as_str(), "none", "after the notification");

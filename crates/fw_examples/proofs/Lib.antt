@@ -35,3 +35,4 @@ pub mod FilteringWitnesses
 pub mod LawsApplied
 mod RestoringApplied
 pub mod SendingApplied
+pub mod OffersOfTotals

@@ -20,3 +20,4 @@ pub mod LawsApplied
 pub mod RestoringApplied
 pub mod SendingApplied
 pub mod KindsSend
+pub mod OffersOfTotals

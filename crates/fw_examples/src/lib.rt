@@ -7,6 +7,7 @@ mod kinds_send;
 mod laws_applied;
 mod logged_events;
 mod loop_counts_up;
+mod offers_of_totals;
 mod one_collection;
 mod one_recovery;
 mod one_select_runs;
@@ -33,6 +34,7 @@ pub use laws_applied::{
     runs_apply, steps_apply,
 };
 pub use logged_events::{loses_an_epoch, restores_an_epoch};
+pub use offers_of_totals::checkpoints_are_offered;
 pub use one_collection::collects_the_first_epoch;
 pub use one_recovery::{
     acknowledges_what_is_to_come, keeps_the_settled_epoch, resumes_after_both_failed,

@@ -1,0 +1,263 @@
+-- What the nodes of the running total offer as data is what the machine offers.
+use Rattle.std.proofs.Common.{◌≡◌, ◌≢◌, ◌⊎◌, ◌↔◌, ℕ, zero, suc, ◌<◌, ◌≤◌, Bool, true, false, ◌&&◌, ◌==◌, cond, List, [], ◌∷◌, map, filter, refl, sym, subst, ap, inl, inr, lit<, lit≤, arith}
+use Rattle.std.proofs.lemmas.Bool.{false≢true, true≢false}
+use Rattle.std.proofs.lemmas.Bool.Decides.{nat_tests}
+use Rattle.fw_time.specs.Stamp.{Stamp}
+use Rattle.fw_time.specs.declared.stamp.Bounds.{Bounds}
+use Rattle.fw_frontier.specs.Frontier.{Frontier, Within, cover}
+use Rattle.fw_frontier.specs.Front.{Front, frontier_of}
+use Rattle.fw_flow.specs.declared.choice.Counted.{Counted}
+use Rattle.fw_flow.specs.declared.choice.Cut.{Cut}
+use Rattle.fw_flow.specs.declared.choice.Cut.TheVariants.{Present, At}
+use Rattle.fw_flow.specs.declared.event.Message.{Message}
+use Rattle.fw_flow.specs.declared.kind.Kind.TheVariants.{Sequence}
+use Rattle.fw_flow.specs.Dataflow.{kind_of, policy_of, sender, receiver, bounds_of, batches_of, greatest_number}
+use Rattle.fw_flow.specs.NodeFunction.{sends}
+use Rattle.fw_flow.specs.Projection.{all_inside, phi, phi_by_count}
+use Rattle.fw_model.specs.Choice as machine
+use Rattle.fw_model.specs.Choice.{kept, until, covers_in, IsCandidate}
+use Rattle.fw_model.specs.Machine.{is_failed}
+use Rattle.fw_monitor.specs.Offers.{covers_of, stamps_from, AreAscending, AreFromEpochs, AreOffersOf, AreOffersIn, IsOffered, sent_by}
+use Rattle.fw_examples.specs.OffersOfTotals.{offers_of_totals, CheckpointsAreOffered}
+use Rattle.fw_examples.specs.RunningTotal.{totals, total_flow, output_failed, two_epochs_kept, two_kept_noting, at_epoch}
+use Rattle.fw_examples.proofs.ChoiceFacts.{by_three, canonical}
+use Rattle.fw_examples.proofs.TotalChoices.{until_within}
+use Rattle.fw_examples.proofs.ChoiceWitnesses.{less_is_consistent}
+use Rattle.fw_examples.proofs.TotalWitnesses.{totals_are_well_formed, something_is_chosen}
+
+-- ---- covers of epoch 1
+
+-- the epochs below 2 are what epoch 1 covers
+two_by_one : (n : ℕ) (t : Stamp) → frontier_of (record { greatest = n ∷ [] }) (until 2) t ≡ cover (record { greatest = n ∷ [] }) ((1 ∷ []) ∷ []) t
+two_by_one n [] = refl
+two_by_one n (x ∷ y ∷ t) = grind (arith, nat_tests)
+two_by_one n (zero ∷ []) = refl
+two_by_one n (suc zero ∷ []) = refl
+two_by_one n (suc (suc x) ∷ []) = grind (arith, nat_tests)
+
+pub two_is_cover : (n : ℕ) → frontier_of (record { greatest = n ∷ [] }) (until 2) ≡ cover (record { greatest = n ∷ [] }) ((1 ∷ []) ∷ [])
+two_is_cover n = λ i t. two_by_one n t i
+
+-- ---- the cuts that are offered
+
+-- the domain of each node
+abbrev epochs : Bounds
+epochs = record { greatest = greatest_number ∷ [] }
+
+-- the epochs below 2 lie within those below k, unless k is less
+holds_two : (f : Front) (k : ℕ) → 2 ≤ k → until k ≡ f → Within (frontier_of epochs (until 2)) (frontier_of epochs f)
+holds_two f k l e = subst (λ g. Within (frontier_of epochs (until 2)) (frontier_of epochs g)) e (until_within greatest_number 2 k l)
+
+lacks_one : (f : Front) (k : ℕ) → k < 2 → f ≡ until k → Within (frontier_of epochs (until 2)) (frontier_of epochs f) → ⊥
+lacks_one f k l e w = go k l (subst (λ g. Within (frontier_of epochs (until 2)) (frontier_of epochs g)) e w)
+  where
+    go : (k : ℕ) → k < 2 → Within (frontier_of epochs (until 2)) (frontier_of epochs (until k)) → ⊥
+    go zero l w = false≢true (w (0 ∷ []) refl)
+    go (suc zero) l w = false≢true (w (1 ∷ []) refl)
+    go (suc (suc k)) l w = absurd (omega arith)
+
+-- the input can be restored to its batches from the low watermark on
+input_listed : (f : Front) → IsOffered total_flow offers_of_totals 0 (At f) → IsCandidate totals output_failed (is_failed output_failed) kept 0 (At f)
+unfolding kind_of policy_of bounds_of batches_of
+input_listed f (c, inl (inl e)) = (c, inl (2, lit≤ tt, sym e), holds_two f 2 (lit≤ tt) e)
+input_listed f (c, inl (inr (inl e))) = (c, inl (3, lit≤ tt, sym e), holds_two f 3 (lit≤ tt) e)
+input_listed f (c, inl (inr (inr (inl e)))) = (c, inl (4, lit≤ tt, sym e), holds_two f 4 (lit≤ tt) e)
+input_listed f (c, inl (inr (inr (inr e)))) = absurd e
+input_listed f (c, inr e) = absurd e
+
+-- and to no others
+batches_listed : (f : Front) (k : ℕ) → k ≤ 4 → f ≡ until k → Within (frontier_of epochs (until 2)) (frontier_of epochs f)
+    → (until 2 ≡ f) ⊎ (until 3 ≡ f) ⊎ (until 4 ≡ f) ⊎ ⊥
+batches_listed f zero l e w = absurd (lacks_one f 0 (lit< tt) e w)
+batches_listed f (suc zero) l e w = absurd (lacks_one f 1 (lit< tt) e w)
+batches_listed f (suc (suc zero)) l e w = inl (sym e)
+batches_listed f (suc (suc (suc zero))) l e w = inr (inl (sym e))
+batches_listed f (suc (suc (suc (suc zero)))) l e w = inr (inr (inl (sym e)))
+batches_listed f (suc (suc (suc (suc (suc k))))) l e w = absurd (omega arith)
+
+input_restorable : (f : Front) → IsCandidate totals output_failed (is_failed output_failed) kept 0 (At f) → IsOffered total_flow offers_of_totals 0 (At f)
+unfolding kind_of policy_of bounds_of batches_of
+input_restorable f (c, inl k, w) = (c, inl (batches_listed f k.0 k.1 k.2 w))
+input_restorable f (c, inr e, w) = absurd (false≢true e.0)
+
+-- the running total can be restored to its acknowledged checkpoint alone: to nothing not, since that lacks the low watermark
+total_listed : (f : Front) → IsOffered total_flow offers_of_totals 1 (At f) → IsCandidate totals output_failed (is_failed output_failed) kept 1 (At f)
+unfolding kind_of policy_of bounds_of
+total_listed f (c, inl (inl e)) = (c, inr (inr (inl (refl, e, refl))), holds_two f 2 (lit≤ tt) e)
+total_listed f (c, inl (inr e)) = absurd e
+total_listed f (c, inr e) = absurd e
+
+total_restorable : (f : Front) → IsCandidate totals output_failed (is_failed output_failed) kept 1 (At f) → IsOffered total_flow offers_of_totals 1 (At f)
+unfolding kind_of policy_of bounds_of
+total_restorable f (c, inl e, w) = absurd (lacks_one f 0 (lit< tt) e w)
+total_restorable f (c, inr (inl is), w) = absurd (false≢true is.2)
+total_restorable f (c, inr (inr (inl is)), w) = (c, inl (inl is.1))
+total_restorable f (c, inr (inr (inr (inl is))), w) = absurd (false≢true is.2)
+total_restorable f (c, inr (inr (inr (inr e))), w) = absurd e
+
+-- the output can be restored to what is settled and acknowledged and holds the low watermark
+output_same : (f : Front) → IsOffered total_flow offers_of_totals 2 (At f) ↔ IsCandidate totals output_failed (is_failed output_failed) kept 2 (At f)
+unfolding kind_of policy_of bounds_of
+output_same f = ((λ o. to o), (λ o. (o.0, inr (o.2, o.1.0))))
+  where
+    to : IsOffered total_flow offers_of_totals 2 (At f) → IsCandidate totals output_failed (is_failed output_failed) kept 2 (At f)
+    to (c, inl e) = absurd e
+    to (c, inr b) = (c, (b.1, b.1), b.0)
+
+offered_same : (p : ℕ) → p < 3 → (cut : Cut) → IsOffered total_flow offers_of_totals p cut ↔ IsCandidate totals output_failed (is_failed output_failed) kept p cut
+offered_same zero l Present = ((λ e. refl), (λ e. refl))
+offered_same (suc zero) l Present = ((λ e. refl), (λ e. refl))
+offered_same (suc (suc zero)) l Present = ((λ e. absurd (false≢true e)), (λ e. absurd (true≢false e)))
+offered_same zero l (At f) = (input_listed f, input_restorable f)
+offered_same (suc zero) l (At f) = (total_listed f, total_restorable f)
+offered_same (suc (suc zero)) l (At f) = output_same f
+offered_same (suc (suc (suc p))) l cut = absurd (omega arith)
+
+-- ---- what is offered is of the dataflow
+
+of_flow : AreOffersOf total_flow offers_of_totals
+unfolding kind_of policy_of bounds_of receiver
+of_flow = record {
+  one_each = refl;
+  records = by_three _ (
+    record { front = canonical _ (2 ∷ []) refl; notified = tt; delivered = tt; discarded = tt },
+    (
+      record { front = canonical _ (3 ∷ []) refl; notified = tt; delivered = tt; discarded = tt },
+      (record { front = canonical _ (4 ∷ []) refl; notified = tt; delivered = tt; discarded = tt }, tt),
+    ),
+  ) (
+    record {
+      front = canonical _ (2 ∷ []) refl;
+      notified = canonical _ (2 ∷ []) refl;
+      delivered = (canonical _ (2 ∷ []) refl, tt);
+      discarded = (canonical _ (2 ∷ []) refl, tt);
+    },
+    tt,
+  )
+      tt;
+  range = by_three _ tt tt (canonical _ (2 ∷ []) refl, canonical _ (2 ∷ []) refl);
+  listed = by_three _ refl refl tt;
+  delivered = by_three _ tt (refl, (refl, tt)) (refl, tt);
+  notified = by_three _ tt (refl, (refl, tt)) tt;
+  sent = by_three _ (refl, (refl, (refl, tt))) (refl, (refl, tt)) tt;
+  epochs = epochs;
+}
+  where
+    epochs : (p : ℕ) → kind_of total_flow p ≡ Sequence → AreFromEpochs (sent_by offers_of_totals p)
+    epochs zero e = absurd (cc)
+    epochs (suc zero) e = absurd (cc)
+    epochs (suc (suc zero)) e = absurd (cc)
+    epochs (suc (suc (suc p))) e = absurd (cc)
+
+-- the epochs below different numbers are different frontiers
+until_apart : (j k : ℕ) → j < k → until j ≢ until k
+until_apart j k l e = let here : j ≡ k = ap first e in absurd (omega arith)
+  where
+    number : Stamp → ℕ
+    number [] = 0
+    number (x ∷ t) = x
+
+    first : Front → ℕ
+    first [] = 0
+    first (o ∷ os) = number o
+
+ascending : AreAscending total_flow offers_of_totals
+unfolding kind_of bounds_of
+ascending = by_three _ (
+  ((until_within _ 2 3 (lit≤ tt), until_apart 2 3 (lit< tt)), ((until_within _ 2 4 (lit≤ tt), until_apart 2 4 (lit< tt)), tt)),
+  (((until_within _ 3 4 (lit≤ tt), until_apart 3 4 (lit< tt)), tt), (tt, tt)),
+)
+    (tt, tt)
+    tt
+
+-- ---- the same counts
+
+-- the messages on the edge from the input, each alone
+abbrev alone_from_input : Message → Counted
+alone_from_input m = record { edge = 0; at = m.at; causes = m.causes; count = 1 }
+
+one_sent : (b : Bool) (m : Message) (xs : List Counted) (ms : List Message) → map (λ (x : Counted). x.at) xs ≡ map (λ (x : Message). x.at) ms
+    → map (λ (x : Counted). x.at) (cond b (alone_from_input m ∷ xs) xs) ≡ map (λ (x : Message). x.at) (cond b (m ∷ ms) ms)
+one_sent true m xs ms e = ap (λ ts. m.at ∷ ts) e
+one_sent false m xs ms e = e
+
+-- what comes from a frontier among them
+sent_from_input : (f : Frontier) (ms : List Message) → stamps_from 0 f (map alone_from_input ms) ≡ machine.stamps_from f ms
+sent_from_input f [] = refl
+sent_from_input f (m ∷ ms) =
+    one_sent (all_inside f m.causes) m (filter (λ (x : Counted). x.edge == 0 && all_inside f x.causes) (map alone_from_input ms))
+    (filter (λ (x : Message). all_inside f x.causes) ms) (sent_from_input f ms)
+
+delivered_same : (d : ℕ) → d < 2 → (cut : Cut) → IsOffered total_flow offers_of_totals (receiver total_flow d) cut
+    → (covers_of totals offers_of_totals).delivered d cut ≡ (covers_in totals output_failed).delivered d cut
+unfolding kind_of policy_of bounds_of receiver
+delivered_same zero l Present o = refl
+delivered_same zero l (At f) (c, inl (inl e)) =
+    subst (λ g. (covers_of totals offers_of_totals).delivered 0 (At g) ≡ (covers_in totals output_failed).delivered 0 (At g)) e (two_is_cover _)
+delivered_same zero l (At f) (c, inl (inr e)) = absurd e
+delivered_same zero l (At f) (c, inr e) = absurd e
+delivered_same (suc zero) l Present o = refl
+delivered_same (suc zero) l (At f) o = refl
+delivered_same (suc (suc d)) l cut o = absurd (omega arith)
+
+discarded_same : (e : ℕ) → e < 2 → (cut : Cut) → IsOffered total_flow offers_of_totals (sender total_flow e) cut
+    → (covers_of totals offers_of_totals).discarded e cut ≡ (covers_in totals output_failed).discarded e cut
+unfolding kind_of policy_of bounds_of receiver sender sends batches_of
+discarded_same zero l Present o = refl
+discarded_same zero l (At f) o =
+    ap (cover (bounds_of total_flow 1)) (sent_from_input (frontier_of (bounds_of total_flow 0) f) (at_epoch 3 1 ∷ at_epoch 2 5 ∷ at_epoch 1 10 ∷ []))
+discarded_same (suc zero) l Present o = refl
+discarded_same (suc zero) l (At f) (c, inl (inl e)) =
+    subst (λ g. (covers_of totals offers_of_totals).discarded 1 (At g) ≡ (covers_in totals output_failed).discarded 1 (At g)) e (two_is_cover _)
+discarded_same (suc zero) l (At f) (c, inl (inr e)) = absurd e
+discarded_same (suc zero) l (At f) (c, inr e) = absurd e
+discarded_same (suc (suc e)) l cut o = absurd (omega arith)
+
+notified_same : (p : ℕ) → p < 3 → (cut : Cut) → IsOffered total_flow offers_of_totals p cut
+    → (covers_of totals offers_of_totals).notified p cut ≡ (covers_in totals output_failed).notified p cut
+unfolding kind_of policy_of bounds_of
+notified_same zero l Present o = refl
+notified_same zero l (At f) o = refl
+notified_same (suc zero) l Present o = refl
+notified_same (suc zero) l (At f) (c, inl (inl e)) =
+    subst (λ g. (covers_of totals offers_of_totals).notified 1 (At g) ≡ (covers_in totals output_failed).notified 1 (At g)) e (two_is_cover _)
+notified_same (suc zero) l (At f) (c, inl (inr e)) = absurd e
+notified_same (suc zero) l (At f) (c, inr e) = absurd e
+notified_same (suc (suc zero)) l Present o = refl
+notified_same (suc (suc zero)) l (At f) o = refl
+notified_same (suc (suc (suc p))) l cut o = absurd (omega arith)
+
+arrived_same : (e : ℕ) → e < 2 → (f : Frontier) → (covers_of totals offers_of_totals).arrived e f ≡ (covers_in totals output_failed).arrived e f
+unfolding kind_of sender phi phi_by_count
+arrived_same zero l f = refl
+arrived_same (suc zero) l f = refl
+arrived_same (suc (suc e)) l f = absurd (omega arith)
+
+-- ---- the whole
+
+same : AreOffersIn totals output_failed (is_failed output_failed) offers_of_totals
+same = record {
+  of_flow = of_flow;
+  ascending = ascending;
+  offered = offered_same;
+  delivered = delivered_same;
+  discarded = discarded_same;
+  notified = notified_same;
+  arrived = arrived_same;
+}
+
+pub checkpoints_are_offered : CheckpointsAreOffered
+unfolding kind_of policy_of bounds_of
+checkpoints_are_offered =
+    let flow = totals_are_well_formed.well_formed.flow in
+    let lost = is_failed output_failed in
+    record {
+      way = refl;
+      recorded = refl;
+      offered = (canonical _ (2 ∷ []) refl, inl (inl refl));
+      present = refl;
+      ascending = ascending;
+      same = same;
+      consistent = λ law. (law totals output_failed lost offers_of_totals (two_kept_noting (until 0)) flow same).1 less_is_consistent.consistent;
+      largest = λ law. (law totals output_failed lost offers_of_totals two_epochs_kept flow same).1 something_is_chosen.largest;
+    }

@@ -93,39 +93,58 @@ fn one_batch(alloc: Global) -> Result<Batches, ReadFault> {
     read_batches(alloc, b"batch input 1:5 9:7\n", &sources)
 }
 
+// The first rec comes, and goes on up to the join, where it comes twice.
+fn first_rec_comes(alloc: Global, flow: &Flow, events: &mut Vec<Event>) -> Result<(), AllocError>
+    requires { AreAtNodes flow.now (reverse events.old.items) }
+    ensures { AreAtNodes flow.now (reverse events.new.items) }
+{
+    let (source, epoch) = (input(), 0);
+    let rec = Rec { key: 1, value: 5 };
+    happen(flow, events, Event::Inject { source, epoch })?;
+    deliver(alloc, flow, events, "input", rec)?;
+    deliver(alloc, flow, events, "select", rec)?;
+    deliver(alloc, flow, events, "select2", rec)?;
+    deliver(alloc, flow, events, "distinct", rec)
+}
+
+// Adds of what the sum is notified next.
+fn tell(
+    alloc: Global,
+    flow: &Flow,
+    batches: &Batches,
+    events: &[Event],
+    told: &mut String,
+) -> Result<(), AllocError>
+    requires { AreAtNodes flow.now (reverse events.now) }
+{
+    let notice = notice(alloc, flow, batches, events)?;
+    told.push_str(notice.as_str())?;
+    told.push_str(" ")
+}
+
+// Of what the sum is notified before it took a rec, while a rec is pending before the select, when all has come, and
+// after it was notified.
+fn notices(alloc: Global, flow: &Flow, batches: &Batches) -> Result<String, AllocError> {
+    let mut told = String::new(alloc);
+    let mut events = Vec::new(alloc);
+    first_rec_comes(alloc, flow, &mut events)?;
+    tell(alloc, flow, batches, &events, &mut told)?;
+    deliver(alloc, flow, &mut events, "join", Rec { key: 1, value: 10 })?;
+    tell(alloc, flow, batches, &events, &mut told)?;
+    deliver(alloc, flow, &mut events, "input", Rec { key: 9, value: 7 })?;
+    tell(alloc, flow, batches, &events, &mut told)?;
+    let (node, at) = (sum(), Stamp::new(&[0]));
+    happen(flow, &mut events, Event::Notify { node, at })?;
+    tell(alloc, flow, batches, &events, &mut told)?;
+    Ok(told)
+}
+
 #[test]
 fn a_sum_is_notified_once_nothing_can_come(rt: HostRuntime) -> Result<(), Fail> {
     let alloc = rt.alloc();
     let flow = Flow::check(alloc, every_kind(alloc)?)?;
     let batches = one_batch(alloc)?;
-    let (source, epoch) = (input(), 0);
-    let (five, ten) = (Rec { key: 1, value: 5 }, Rec { key: 1, value: 10 });
-
-    // the first rec on its way to the join, where it comes twice
-    let mut events = Vec::new(alloc);
-    happen(&flow, &mut events, Event::Inject { source, epoch })?;
-    deliver(alloc, &flow, &mut events, "input", five)?;
-    deliver(alloc, &flow, &mut events, "select", five)?;
-    deliver(alloc, &flow, &mut events, "select2", five)?;
-    deliver(alloc, &flow, &mut events, "distinct", five)?;
-    let text = notice(alloc, &flow, &batches, &events)?;
-    assert_eq!(rt; text.as_str(), "none", "before the sum took a rec");
-
-    deliver(alloc, &flow, &mut events, "join", ten)?;
-    let text = notice(alloc, &flow, &batches, &events)?;
-    assert_eq!(rt;
-        text.as_str(),
-        "none",
-        "while a rec is pending before the select"
-    );
-
-    deliver(alloc, &flow, &mut events, "input", Rec { key: 9, value: 7 })?;
-    let text = notice(alloc, &flow, &batches, &events)?;
-    assert_eq!(rt; text.as_str(), "0", "when all has come");
-
-    let (node, at) = (sum(), Stamp::new(&[0]));
-    happen(&flow, &mut events, Event::Notify { node, at })?;
-    let text = notice(alloc, &flow, &batches, &events)?;
-    assert_eq!(rt; text.as_str(), "none", "after the notification");
+    let told = notices(alloc, &flow, &batches)?;
+    assert_eq!(rt; told.as_str(), "none none 0 none ");
     Ok(())
 }

@@ -1,12 +1,10 @@
 -- The inclusions of a consistent choice one by one, and for each a short run after which a choice that lacks it alone is wrong.
 use Rattle.std.specs.Prelude.{◌≡◌, ◌≢◌, ◌↔◌, ℕ, ◌<◌, List, [], ◌∷◌, length, None}
-use Rattle.fw_frontier.specs.Frontier.{Within}
 use Rattle.fw_frontier.specs.Front.{Front, IsCanonical}
 use Rattle.fw_flow.specs.declared.choice.Cut.{Cut}
 use Rattle.fw_flow.specs.declared.choice.Cut.TheVariants.{Present, At}
 use Rattle.fw_flow.specs.declared.step.Step.TheVariants.{Inject, Deliver, Notify, Fail}
-use Rattle.fw_flow.specs.Dataflow.{System, sender, receiver, bounds_of}
-use Rattle.fw_flow.specs.Projection.{phi}
+use Rattle.fw_flow.specs.Dataflow.{System, bounds_of}
 use Rattle.fw_flow.specs.declared.choice.Choice.{Choice}
 use Rattle.fw_model.specs.Choice.{ComesFromSender, LiesInReceiver, HasItsNotices, IsNoteKept, NoteComesFromSender, covers_in, cut_of, filtered, IsConsistent, IsLargest, IsChoiceWithin}
 use Rattle.fw_model.specs.History.{pending, IsLegal}

@@ -10,7 +10,7 @@ use Rattle.fw_model.specs.Steps.{front_of_cut, is_in_flight, is_below}
 use Rattle.fw_model.specs.LawsOfRestoring as restoring
 use Rattle.fw_examples.specs.OneSelect.{big}
 use Rattle.fw_examples.specs.LoggedEvents.{each_written}
-use Rattle.fw_examples.specs.RunningTotal.{totals, total_flow, src, run, src_to_run, run_to_out, output_failed, come_back, two_epochs_kept}
+use Rattle.fw_examples.specs.RunningTotal.{totals, total_flow, src, run, run_to_out, output_failed, come_back, two_epochs_kept}
 
 -- the laws of restoring, of the state of the failure, in which a checkpoint is collected, one acknowledged and one in flight,
 -- and of the recovery that keeps two epochs

@@ -1,9 +1,7 @@
 -- A run that goes on where another ended.
-use Rattle.std.proofs.Common.{List, [], ◌∷◌, subst}
-use Rattle.fw_flow.specs.Dataflow.{System}
-use Rattle.fw_flow.specs.declared.step.Step.{Step}
+use Rattle.std.proofs.Common.{[], ◌∷◌, subst}
 use Rattle.fw_model.specs.Machine.{Machine}
-use Rattle.fw_model.specs.Steps.{Outcome, Run}
+use Rattle.fw_model.specs.Steps.{Run}
 use Rattle.fw_model.specs.LawsOfRuns.{RunsGoOn}
 
 pub runs-go_on : RunsGoOn

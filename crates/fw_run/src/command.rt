@@ -45,7 +45,8 @@ pub fn falkirk<F: Folder, K: Store, O: Sink, N: Sink>(
     ensures refused { (refusal : lines.Refusal) → let names = names_of (words_in words.now) in
         result ≡ Status.Refused refusal → IsFirstRefusal (F.texts folder.old) names refusal }
 
-    // Each text is asked for only where those before it are accepted, and at 2 none is. They stay as they are.
+    // The folder is asked a second time only where the flow is accepted, a third time only where the inputs are too, and
+    // never a fourth; at 2 it is not asked. The texts stay as they are.
     ensures in_turn { let names = names_of (words_in words.now) in
         AreFetchedInTurn (F.texts folder.old) names (F.fetch_count folder.old) (F.fetch_count folder.new) }
     ensures nothing_read { result ≡ Status.BadWords → folder.new ≡ folder.old }

@@ -1,14 +1,14 @@
 -- The laws of restoring, applied to the running total.
-use Rattle.std.proofs.Common.{◌≡◌, ℕ, zero, suc, ◌≤◌, ◌^◌, false, [], ◌∷◌, length, None, refl, lit<, lit≤, arith}
+use Rattle.std.proofs.Common.{◌≡◌, ℕ, zero, suc, ◌≤◌, ◌^◌, false, [], ◌∷◌, length, None, refl, drop, lit<, lit≤, arith}
 use Rattle.std.proofs.lemmas.Bool.{true≢false}
 use Rattle.std.specs.List.{AllByRecursion}
 use Rattle.fw_flow.specs.declared.step.Step.TheVariants.{Inject, Deliver, Progress, Persist, Fail, Recover}
 use Rattle.fw_flow.specs.Dataflow.{is_input_kind, kind_of, policy_of, sender, receiver, bounds_of, batches_of}
 use Rattle.fw_flow.specs.WellFormed.{IsWellFormedSystem, IsBatch}
 use Rattle.fw_model.specs.Choice.{until}
-use Rattle.fw_model.specs.Machine.{is_failed}
+use Rattle.fw_model.specs.Machine.{is_failed, checkpoint, collected}
 use Rattle.fw_model.specs.Steps.{did, quiet, cuts}
-use Rattle.fw_examples.specs.RunningTotal.{totals, output_failed, come_back, two_epochs_kept, steps_up_to_two, outcomes_up_to_two, steps_to_failure, outcomes_to_failure}
+use Rattle.fw_examples.specs.RunningTotal.{totals, alike, output_failed, come_back, two_epochs_kept, steps_up_to_two, outcomes_up_to_two, steps_to_failure, outcomes_to_failure}
 use Rattle.fw_examples.specs.RestoringApplied.{RestoringApplies, LoggingRestored}
 use Rattle.fw_examples.specs.LoggedEvents.{each_written, all_restored}
 use Rattle.fw_examples.proofs.LoggedEvents.{failed_with_both, fails_after_both, all_restored_is_largest}
@@ -26,6 +26,7 @@ restoring_applies =
     record {
       stay_true = λ law. law totals formed steps_to_failure outcomes_to_failure output_failed reached Recover come_back (did (cuts two_epochs_kept)) recovery_is_reached.step;
       as_asked = λ law. law totals formed steps_to_failure outcomes_to_failure output_failed reached;
+      ascend = λ law. law totals formed steps_to_failure outcomes_to_failure output_failed reached [] (drop 1 output_failed.writes) (record { node = 1; written = checkpoint (until 1) (alike 0); progress = collected }) refl (lit< tt) (until 1) (alike 0) refl;
       nothing_inside = λ law. law totals formed steps_to_failure outcomes_to_failure output_failed reached;
       at_cut = λ law. law totals formed steps_to_failure outcomes_to_failure output_failed reached (is_failed output_failed) two_epochs_kept largest 1 (until 2) refl refl (λ e. absurd (cc));
       logs = λ law. law totals formed steps_to_failure outcomes_to_failure output_failed reached (is_failed output_failed) two_epochs_kept largest 1 (lit< tt);

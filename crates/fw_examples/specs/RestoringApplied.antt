@@ -1,5 +1,5 @@
 -- What the laws of restoring say of the running total: of the state of the failure and of the recovery from it.
-use Rattle.std.specs.Prelude.{◌≡◌, ◌↔◌, true, false, ◌∷◌, [], map, length}
+use Rattle.std.specs.Prelude.{◌≡◌, ◌↔◌, true, false, ◌∷◌, [], map, length, drop}
 use Rattle.std.specs.List.{AllByRecursion}
 use Rattle.fw_frontier.specs.Front.{frontier_of}
 use Rattle.fw_flow.specs.Dataflow.{bounds_of}
@@ -19,6 +19,7 @@ pub record RestoringApplies : Type 0 where
       → AllByRecursion (λ (write : Write). restoring.CountsWritten totals output_failed come_back write.node write.written) come_back.writes
   pub as_asked : restoring.CheckpointsAreAsTheyWereAsked
       → AllByRecursion (λ (write : Write). restoring.IsWrittenAsAsked totals output_failed write.node write.written) output_failed.writes
+  pub ascend : restoring.CheckpointsAscend → restoring.Ascends totals output_failed.settled run (until 1) (drop 1 output_failed.writes)
   pub nothing_inside : restoring.NothingComesInsideCheckpoints
       → AllByRecursion (λ (write : Write). restoring.NothingComesInside totals output_failed write.node write.written) output_failed.writes
   pub at_cut : restoring.CheckpointsAtCutsAreKept

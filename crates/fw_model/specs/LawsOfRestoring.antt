@@ -53,6 +53,19 @@ CheckpointsStayTrue = (sys : System) → IsWellFormedSystem sys → (steps : Lis
     → Run sys (first_state sys) steps outcomes last → (step : Step) (next : Machine) (outcome : Outcome) → Steps sys last step next outcome
     → AllByRecursion (λ (write : Write). CountsWritten sys last next write.node write.written) next.writes
 
+-- a frontier of node p lies within what is settled there, and within each checkpoint of the node among these writes
+pub record Ascends (sys : System) (settled : List Front) (p : ℕ) (f : Front) (later : List Write) : Type 0 where
+  pub within_settled : Within (frontier_of (bounds_of sys.flow p) f) (frontier_of (bounds_of sys.flow p) (front_of settled p))
+  pub within_later : AllByRecursion (λ (write : Write). (g : Front) (low : List Front) → write.node ≡ p → write.written ≡ checkpoint g low
+      → Within (frontier_of (bounds_of sys.flow p) f) (frontier_of (bounds_of sys.flow p) g)) later
+
+-- in each state to which steps of a well-formed system lead from the first one, each checkpoint, in flight or not, lies within
+-- what is settled at its node and within each checkpoint of the node that was asked later
+abbrev pub CheckpointsAscend : Type 0
+CheckpointsAscend = (sys : System) → IsWellFormedSystem sys → (steps : List Step) (outcomes : List Outcome) (last : Machine)
+    → Run sys (first_state sys) steps outcomes last → (earlier later : List Write) (write : Write) → last.writes ≡ earlier ++ write ∷ later
+    → write.node < length sys.flow.nodes → (f : Front) (low : List Front) → write.written ≡ checkpoint f low → Ascends sys last.settled write.node f later
+
 -- A checkpoint of node p at f was asked in an earlier state of a run, in which f was settled and this was the low watermark,
 -- and it counts in the last state as it did in that one.
 pub record IsAsItWasAsked (sys : System) (last : Machine) (p : ℕ) (f : Front) (low : List Front) : Type 0 where

@@ -17,7 +17,7 @@ use Rattle.fw_flow.specs.declared.choice.Choice.{Choice}
 use Rattle.fw_model.specs.Choice.{kept, cut_of, IsCandidate, IsConsistent, IsCutWithin, IsChoiceWithin, IsLargest, offers_of_writes}
 use Rattle.fw_model.specs.History.{pending, some_at, IsComplete}
 use Rattle.fw_model.specs.Machine.{Machine, first_state, events, front_of, is_failed, checkpoint, acknowledged, in_flight}
-use Rattle.fw_model.specs.Steps.{Steps, Takes, Effect, CutsTo, with_event, front_of_cut, did, quiet, cuts, lows, acked}
+use Rattle.fw_model.specs.Steps.{Steps, LeadsTo, Effect, CutsTo, with_event, front_of_cut, did, quiet, cuts, lows, acked}
 use Rattle.fw_examples.specs.OneSelect.{one_select_flow_of, rec_of}
 use Rattle.fw_examples.specs.OneCollection.{two_batches, written_when_asked, first, first_epoch, CollectsTheFirstEpoch}
 use Rattle.fw_examples.proofs.FrontierFacts.{is_frontier_of, within_until}
@@ -243,7 +243,7 @@ same_cuts choice is =
     (by_three (λ q. IsCutWithin written_when_asked q (At first) (cut_of choice q)) (above.cuts 0 (lit< tt)) (above.cuts 1 (lit< tt)) (above.cuts 2 (lit< tt)) p l) in
     three_cuts choice.cuts is.consistent.one_cut_each (At first) (At first) (At first) (at 0 (lit< tt)) (at 1 (lit< tt)) (at 2 (lit< tt))
 
-collects_once : (other : Machine) (effect : Effect) → Takes written_when_asked (at_low all_first none_lost) Collect other effect → ⊥
+collects_once : (other : Machine) (effect : Effect) → LeadsTo written_when_asked (at_low all_first none_lost) Collect other effect → ⊥
 collects_once other effect t = t.2 (ap (map front_of_cut) (same_cuts t.0 t.1))
 
 -- ---- all fail

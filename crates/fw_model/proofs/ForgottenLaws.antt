@@ -18,7 +18,7 @@ use Rattle.fw_model.specs.History.{IsEnabled}
 use Rattle.fw_model.specs.Machine.{Machine, Numbered, Write, Written, checkpoint, logged_event, Progress, in_flight, acknowledged, collected, events, places, first_state, front_of, is_failed}
 use Rattle.fw_flow.specs.declared.choice.Choice.{Choice}
 use Rattle.fw_model.specs.Choice.{kept, ever, counts, IsLogged, IsRestorable, IsCandidate, cut_of, kept_of, IsConsistent, filtered}
-use Rattle.fw_model.specs.Steps.{Effect, Outcome, did, idle, Takes, Run, write_of_event, with_event, same_front, is_within, checkpoint_of, is_eager, is_one_of, is_in_flight, is_kept_write, front_of_cut, is_given_up, is_serial_given_up, is_below, after_collection}
+use Rattle.fw_model.specs.Steps.{Effect, Outcome, did, idle, LeadsTo, Run, write_of_event, with_event, same_front, is_within, checkpoint_of, is_eager, is_one_of, is_in_flight, is_kept_write, front_of_cut, is_given_up, is_serial_given_up, is_below, after_collection}
 use Rattle.fw_model.specs.LawsOfRestoring.{WhatIsForgottenWasAcknowledged, CollectedIsWhatLiesBelow}
 use Rattle.fw_model.proofs.Decisions.{two_ways}
 use Rattle.fw_model.proofs.EachLaws.{each-weaker, each-both, each-append}
@@ -28,7 +28,7 @@ use Rattle.fw_model.proofs.SameInsideLaws.{at_node}
 use Rattle.fw_model.proofs.WriteLaws.{HoldsOfOne, IsCheckpointAt, IsItsCheckpoint, NamesEvent, LogsEvent, some-checkpoint, some-logged, ArePairs, LiesBelow, AreAscending}
 use Rattle.fw_model.proofs.LowLaws.{at_most-refl, low-within_settled, event-outside, within-is, none-within, watermark-front, kept-counts}
 use Rattle.fw_model.proofs.ChoosingLaws.{settled_writes}
-use Rattle.fw_model.proofs.AskedLaws.{takes-declared, takes-restoring, takes-not_input, AreSerialsBelow, serials-each, any-find, LowGrows, given-stamp, given-grows, IsAskedWell, IsWriteAskedWell, IsApart, low-grows, IsReached, took-reached, first-reached, reached-all}
+use Rattle.fw_model.proofs.AskedLaws.{takes-declared, takes-restoring, takes-not_input, AreSerialsBelow, serials-each, any-find, LowGrows, given-stamp, given-grows, IsAskedWell, IsWriteAskedWell, IsApart, low-grows, CanRecoverAndRestore, took-reached, first-reached, reached-all}
 use Rattle.fw_model.proofs.RestoringLaws.{full-reached, low-kept, apart-events, all-logged, full-restoring, full-declared}
 
 -- ---- writes are acknowledged in order
@@ -89,7 +89,7 @@ asked-fly state settled ps = each-mapped Flies (λ p. checkpoint_of state p (fro
 abbrev HasOrder : Machine → Type 0
 HasOrder state = AreInOrder state.writes
 
-took-order : (sys : System) (state : Machine) (step : Step) (next : Machine) (effect : Effect) → Takes sys state step next effect → HasOrder state → HasOrder next
+took-order : (sys : System) (state : Machine) (step : Step) (next : Machine) (effect : Effect) → LeadsTo sys state step next effect → HasOrder state → HasOrder next
 took-order sys state (Inject s) next effect t a =
     subst HasOrder (sym t.3) (order-append state.writes (write_of_event (policy_of sys.flow s) s state.next) a (event-flies (policy_of sys.flow s) s state.next))
 took-order sys state (Deliver e at) next effect t a =
@@ -197,7 +197,7 @@ offered-low : (sys : System) (state : Machine) (choice : Choice) → IsConsisten
     → p < length sys.flow.nodes → IsCandidate sys state (λ q. true) kept p (At (front_of (map front_of_cut choice.cuts) p))
 offered-low sys state choice c p l = subst (λ cut. IsCandidate sys state (λ q. true) kept p cut) (sym (watermark-front sys state choice c p l)) (c.offered p l)
 
-below-lands : (sys : System) → IsWellFormed sys.flow → (state : Machine) → IsReached sys state → HasOrder state → (choice : Choice)
+below-lands : (sys : System) → IsWellFormed sys.flow → (state : Machine) → CanRecoverAndRestore sys state → HasOrder state → (choice : Choice)
     → IsConsistent sys state (IsCandidate sys state (λ p. true) kept) choice → (p : ℕ) (w : Written)
     → HoldsOfOne (λ (y : Write). y ≡ record { node = p; written = w; progress = in_flight }) state.writes
     → is_below sys (map front_of_cut choice.cuts) state.history p w ≡ true → ⊥
@@ -240,7 +240,7 @@ below-lands sys w state r o choice c p (logged_event s) has k =
     flying-alone s p state.writes r.restore.apart has (some-logged s state.writes (subst (λ x. IsLogged x state.writes) is (v.2.1 at inside)))
 
 -- no write below the watermark of a collection is in flight
-below-each : (sys : System) → IsWellFormed sys.flow → (state : Machine) → IsReached sys state → HasOrder state → (choice : Choice)
+below-each : (sys : System) → IsWellFormed sys.flow → (state : Machine) → CanRecoverAndRestore sys state → HasOrder state → (choice : Choice)
     → IsConsistent sys state (IsCandidate sys state (λ p. true) kept) choice
     → AllByRecursion (λ (x : Write). is_below sys (map front_of_cut choice.cuts) state.history x.node x.written ≡ true → is_in_flight x.progress ≡ false) state.writes
 below-each sys w state f o choice c =
@@ -248,7 +248,7 @@ below-each sys w state f o choice c =
     each-in (λ (x : Write). is_below sys low state.history x.node x.written ≡ true → is_in_flight x.progress ≡ false) state.writes
     (λ x has k. false_from_ne_true (is_in_flight x.progress) (λ i. by x.node x.written x.progress f o c has k i))
   where
-    by : (n : ℕ) (v : Written) (far : Progress) → IsReached sys state → HasOrder state → IsConsistent sys state (IsCandidate sys state (λ p. true) kept) choice
+    by : (n : ℕ) (v : Written) (far : Progress) → CanRecoverAndRestore sys state → HasOrder state → IsConsistent sys state (IsCandidate sys state (λ p. true) kept) choice
         → HoldsOfOne (λ (y : Write). y ≡ record { node = n; written = v; progress = far }) state.writes
         → is_below sys (map front_of_cut choice.cuts) state.history n v ≡ true → is_in_flight far ≡ true → ⊥
     by n v in_flight f o c has k i = below-lands sys w state f o choice c n v has k
@@ -302,7 +302,7 @@ new-not_below sys low v h a out p k =
           absurd (omega arith)
     ]
 
-event-exact : (sys : System) → IsWellFormedSystem sys → (state : Machine) (v : Event) → IsReached sys state → IsEnabled sys (events state.history) v → AreExact sys state
+event-exact : (sys : System) → IsWellFormedSystem sys → (state : Machine) (v : Event) → CanRecoverAndRestore sys state → IsEnabled sys (events state.history) v → AreExact sys state
     → AreExact sys (with_event sys state v)
 event-exact sys w state v f k a =
     let p = place sys.flow v in
@@ -323,7 +323,7 @@ event-exact sys w state v f k a =
     asked pol e out = tt
 
 -- a checkpoint of what is settled is not below
-settled-not_below : (sys : System) → IsWellFormed sys.flow → (state : Machine) → IsReached sys state → (p : ℕ) (l : List Front) (far : Progress)
+settled-not_below : (sys : System) → IsWellFormed sys.flow → (state : Machine) → CanRecoverAndRestore sys state → (p : ℕ) (l : List Front) (far : Progress)
     → IsAskedWell sys state.low state.next state.history p (checkpoint (front_of state.settled p) l) far
     → is_below sys state.low state.history p (checkpoint (front_of state.settled p) l) ≡ true → ⊥
 settled-not_below sys w state f p l far a k =
@@ -341,11 +341,11 @@ each-unmapped : {A B : Type 0} (P : B → Type 0) (f : A → B) (xs : List A) �
 each-unmapped P f [] a = tt
 each-unmapped P f (x ∷ xs) a = (a.0, each-unmapped P f xs a.1)
 
-asked-exact : (sys : System) → IsWellFormed sys.flow → (state next : Machine) (settled : List Front) (ps : List ℕ) → IsReached sys next
+asked-exact : (sys : System) → IsWellFormed sys.flow → (state next : Machine) (settled : List Front) (ps : List ℕ) → CanRecoverAndRestore sys next
     → next ≡ record state { settled = settled; writes = state.writes ++ settled_writes state settled ps } → AreExact sys state → AreExact sys next
 asked-exact sys w state next settled ps g e a =
     let now : Machine = record state { settled = settled; writes = state.writes ++ settled_writes state settled ps } in
-    let f : IsReached sys now = subst (IsReached sys) e g in
+    let f : CanRecoverAndRestore sys now = subst (CanRecoverAndRestore sys) e g in
     let asks : ℕ → Write = λ p. checkpoint_of state p (front_of settled p) in
     let W : Write → Type 0 = IsWriteAskedWell sys state.low state.next state.history in
     let more = each-unmapped W asks ps (later-part W state.writes (settled_writes state settled ps) f.restore.asked) in
@@ -419,8 +419,8 @@ collected-exact sys old low h p w g acknowledged n a =
     cond_both below collected acknowledged (λ far. IsExact sys low h p w far) (λ e. (λ c. e, λ k. refl)) (λ e. (λ c. absurd (cc c), λ k. absurd (two_ways below k e)))
 collected-exact sys old low h p w g collected n a = (λ c. g (a.0 refl), λ k. refl)
 
-took-exact : (sys : System) → IsWellFormedSystem sys → (state : Machine) (step : Step) (next : Machine) (effect : Effect) → IsReached sys state → IsReached sys next
-    → HasOrder state → Takes sys state step next effect → AreExact sys state → AreExact sys next
+took-exact : (sys : System) → IsWellFormedSystem sys → (state : Machine) (step : Step) (next : Machine) (effect : Effect) → CanRecoverAndRestore sys state → CanRecoverAndRestore sys next
+    → HasOrder state → LeadsTo sys state step next effect → AreExact sys state → AreExact sys next
 took-exact sys w state (Inject s) next effect f g o t a = subst (AreExact sys) (sym t.3) (event-exact sys w state (Injected s t.0) f t.1 a)
 took-exact sys w state (Deliver e at) next effect f g o t a = subst (AreExact sys) (sym t.3) (event-exact sys w state (Delivered e t.0) f t.1.enabled a)
 took-exact sys w state (Notify p at) next effect f g o t a = subst (AreExact sys) (sym t.3) (event-exact sys w state (Notified p t.0) f t.1.enabled a)
@@ -467,7 +467,7 @@ took-exact sys w state Collect next effect f g o t a =
     (each-both W L state.writes f.restore.asked (below-each sys w.flow state f o choice c)))))
 took-exact sys w state (Ack o) next effect f g k t a = subst (AreExact sys) (sym t.2) a
 
-run-exact : (sys : System) → IsWellFormedSystem sys → (steps : List Step) (outcomes : List Outcome) (state last : Machine) → IsReached sys state → HasOrder state → AreExact sys state
+run-exact : (sys : System) → IsWellFormedSystem sys → (steps : List Step) (outcomes : List Outcome) (state last : Machine) → CanRecoverAndRestore sys state → HasOrder state → AreExact sys state
     → Run sys state steps outcomes last → AreExact sys last
 run-exact sys w [] [] state last f o a r = subst (AreExact sys) (sym r) a
 run-exact sys w [] (q ∷ os) state last f o a r = absurd r
@@ -476,7 +476,7 @@ run-exact sys w (s ∷ ss) (did effect ∷ os) state last f o a r =
     let g = took-reached sys w state s r.0 effect f r.1 in
     run-exact sys w ss os r.0 last g (took-order sys state s r.0 effect r.1 o) (took-exact sys w state s r.0 effect f g o r.1 a) r.2
 run-exact sys w (s ∷ ss) (idle ∷ os) state last f o a r =
-    run-exact sys w ss os r.0 last (subst (IsReached sys) (sym r.1.1) f) (subst HasOrder (sym r.1.1) o) (subst (AreExact sys) (sym r.1.1) a) r.2
+    run-exact sys w ss os r.0 last (subst (CanRecoverAndRestore sys) (sym r.1.1) f) (subst HasOrder (sym r.1.1) o) (subst (AreExact sys) (sym r.1.1) a) r.2
 
 pub collected-below : CollectedIsWhatLiesBelow
 collected-below sys w steps outcomes last r = run-exact sys w steps outcomes (first_state sys) last (first-reached sys w) tt tt r

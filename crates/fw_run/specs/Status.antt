@@ -33,13 +33,13 @@ refusal_number S3 = 5
 refusal_number S4 = 5
 
 -- the number of a status
-abbrev pub number_of : Status → ℕ
-number_of Done = 0
-number_of BadWords = 2
-number_of (Refused refusal) = refusal_number refusal.code
-number_of ReadFault = 6
-number_of WriteFault = 7
-number_of NoMemory = 10
+abbrev pub status_number : Status → ℕ
+status_number Done = 0
+status_number BadWords = 2
+status_number (Refused refusal) = refusal_number refusal.code
+status_number ReadFault = 6
+status_number WriteFault = 7
+status_number NoMemory = 10
 
 -- the line on the notes, ended by a line feed; none where all went well
 abbrev pub note_of : Status → List ℕ

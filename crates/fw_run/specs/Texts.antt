@@ -16,7 +16,7 @@ use Rattle.fw_flow_text.specs.Grammar as flows
 use Rattle.fw_schedule.specs.Grammar.{steps_of}
 use Rattle.fw_schedule.specs.Grammar as schedules
 use Rattle.fw_model.specs.Machine.{places}
-use Rattle.fw_run.specs.Words.{Names}
+use Rattle.fw_run.specs.Words.{TextNames}
 
 -- the three texts of a run
 pub record Texts : Type 0 where
@@ -74,7 +74,7 @@ pub record HasText (told : Option (List ℕ → Option (List ℕ))) (name : List
   pub so : IsSo text
 
 -- the folder has these texts under these names, where it tells its texts
-pub record AreThere (told : Option (List ℕ → Option (List ℕ))) (names : Names) (texts : Texts) : Type 0 where
+pub record AreThere (told : Option (List ℕ → Option (List ℕ))) (names : TextNames) (texts : Texts) : Type 0 where
   pub flow : IsText told names.flow texts.flow
   pub inputs : IsText told names.inputs texts.inputs
   pub schedule : IsText told names.schedule texts.schedule
@@ -92,7 +92,7 @@ abbrev pub IsScheduleRefused : Option (List ℕ → Option (List ℕ)) → List 
 IsScheduleRefused told name flow refusal = HasText told name (λ text. schedules.IsRefused text flow refusal)
 
 -- Of the three texts, in this order, the first that is not accepted is refused so. A later text plays no part.
-abbrev pub IsFirstRefusal : Option (List ℕ → Option (List ℕ)) → Names → Refusal → Type 0
+abbrev pub IsFirstRefusal : Option (List ℕ → Option (List ℕ)) → TextNames → Refusal → Type 0
 IsFirstRefusal told names refusal =
     IsFlowRefused told names.flow refusal
     ⊎ ((flow : Dataflow) × HasText told names.flow (λ text. flows.IsAccepted text flow)
@@ -101,7 +101,7 @@ IsFirstRefusal told names refusal =
 
 -- Texts were asked for in turn, and no more often than this, if calls were counted from the first number to the second: a second
 -- time only where the flow is accepted, a third only where the inputs are too, and no fourth.
-abbrev pub AreFetchedInTurn : Option (List ℕ → Option (List ℕ)) → Names → ℕ → ℕ → Type 0
+abbrev pub AreFetchedInTurn : Option (List ℕ → Option (List ℕ)) → TextNames → ℕ → ℕ → Type 0
 AreFetchedInTurn told names before after =
     (after ≡ before)
     ⊎ ((after ≡ one_more before)

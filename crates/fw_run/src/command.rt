@@ -5,7 +5,7 @@ ghost use Rattle.fw_outside.specs.Outside.{Rose};
 ghost use Rattle.fw_run.specs.Headline.{Prints, PrintsPart, IsRunEnd, StaysLegal, ShowsDenotation, AcknowledgesInOrder, HasOneRun, RecoversFailed, CutsToLargest};
 ghost use Rattle.fw_run.specs.Texts.{Texts, AreThere, AreAccepted, IsFirstRefusal, AreFetchedInTurn, spelled_system, spelled_steps};
 ghost use Rattle.fw_run.specs.Words.{words_in, are_run_words, names_of};
-ghost use Rattle.fw_run.specs.Status.{number_of, note_of, IsTold, IsRefused, status_numbers};
+ghost use Rattle.fw_run.specs.Status.{status_number, note_of, IsTold, IsRefused, status_numbers};
 
 use crate::Status;
 use crate::run::run;
@@ -24,13 +24,13 @@ pub fn falkirk<F: Folder, K: Store, O: Sink, N: Sink>(
     out: &mut O,
     notes: &mut N,
 ) -> Status
-    ensures number { Contains status_numbers (number_of result) }
+    ensures number { Contains status_numbers (status_number result) }
     ensures bad_words { (result ≡ Status.BadWords) ↔ (are_run_words (words_in words.now) ≡ false) }
     ensures read_fault { result ≡ Status.ReadFault → Rose (F.fault_count folder.old) (F.fault_count folder.new) }
     ensures write_fault { result ≡ Status.WriteFault → Rose (O.fault_count out.old) (O.fault_count out.new) }
 
     // At 2 to 6 nothing was written.
-    ensures nothing_out { 2 ≤ number_of result → number_of result ≤ 6 → out.new ≡ out.old }
+    ensures nothing_out { 2 ≤ status_number result → status_number result ≤ 6 → out.new ≡ out.old }
 
     // At 0 the texts are accepted and all that their run prints was written. At 7, and at 10 unless nothing was, first
     // bytes of it were.

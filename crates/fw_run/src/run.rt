@@ -3,7 +3,7 @@ ghost use Rattle.std.specs.Prelude.{◌≡◌, ◌⊎◌, ◌≤◌, ◌↔◌, 
 ghost use Rattle.fw_lines.specs.declared.refusal.Refusal as lines;
 ghost use Rattle.fw_outside.specs.Outside.{Rose};
 ghost use Rattle.fw_run.specs.Headline.{Prints, PrintsPart};
-ghost use Rattle.fw_run.specs.Status.{number_of};
+ghost use Rattle.fw_run.specs.Status.{status_number};
 ghost use Rattle.fw_run.specs.Texts.{IsFirstRefusal, AreFetchedInTurn};
 ghost use Rattle.fw_run.specs.Words.{words_in, are_run_words, names_of};
 
@@ -24,7 +24,7 @@ pub(crate) fn run<F: Folder, O: Sink>(
     ensures bad_words { (result ≡ Status.BadWords) ↔ (are_run_words (words_in words.now) ≡ false) }
     ensures read_fault { result ≡ Status.ReadFault → Rose (F.fault_count folder.old) (F.fault_count folder.new) }
     ensures write_fault { result ≡ Status.WriteFault → Rose (O.fault_count out.old) (O.fault_count out.new) }
-    ensures nothing_out { number_of result ≤ 6 → (result ≡ Status.Done) ⊎ (out.new ≡ out.old) }
+    ensures nothing_out { status_number result ≤ 6 → (result ≡ Status.Done) ⊎ (out.new ≡ out.old) }
     ensures done { result ≡ Status.Done
         → Prints (F.texts folder.old) (names_of (words_in words.now)) (O.taken out.old) (O.taken out.new) }
     ensures cut_off { result ≡ Status.WriteFault

@@ -27,7 +27,7 @@ use Rattle.fw_model.specs.Denotation.{Family, rounds}
 use Rattle.fw_model.specs.Machine.{Machine, Numbered, Write, Written, checkpoint, logged_event, Progress, in_flight, acknowledged, collected, no_stamps, places, first_state, front_of, is_failed}
 use Rattle.fw_flow.specs.declared.choice.Choice.{Choice}
 use Rattle.fw_model.specs.Choice.{kept, by_checkpoints, restoring_of_policy, restoring, cut_of, kept_of, IsCandidate, IsLargest, filtered}
-use Rattle.fw_model.specs.Steps.{Effect, Outcome, did, idle, LeadsTo, Run, write_of_event, with_event, same_front, checkpoint_of, is_eager, GrowsTo, is_asked_for_checkpoints, checkpoint_front, checkpoints_of, last_or, newest_checkpoint, AcknowledgesOldest, is_one_of, is_in_flight, with_failed, is_kept_write, IsSettledCut, CutsTo, recovered, front_of_cut, inside_if_some, sends_inside, is_given_up, is_serial_given_up, is_below, after_collection, collected_writes}
+use Rattle.fw_model.specs.Steps.{Effect, Outcome, did, idle, LeadsTo, Run, write_of_event, with_event, same_front, checkpoint_of, is_eager, GrowsTo, is_asked_for_checkpoints, checkpoint_front, checkpoints_of, last_or, newest_checkpoint, AcknowledgesOldest, is_one_of, is_in_flight, with_failed, is_kept_write, IsSettledCut, CutsTo, recovered, front_of_cut, inside_if_some, sends_inside, is_given_up, is_serial_given_up, lies_below, after_collection, collected_writes}
 use Rattle.fw_model.specs.LawsOfDenotation.{enough_rounds}
 use Rattle.fw_model.specs.LawsOfRestoring.{takes_checkpoints}
 use Rattle.fw_model.proofs.Decisions.{two_ways}
@@ -245,7 +245,7 @@ collected-given sys old low n h p s g b c acknowledged a =
     (λ e. tt)
 
 collected-well : (sys : System) (old low : List Front) (next : ℕ) (h : List Numbered) → LowGrows sys old low → AreSerialsBelow next h → (p : ℕ) (w : Written) (far : Progress)
-    → IsAskedWell sys old next h p w far → IsAskedWell sys low next h p w (after_collection (is_below sys low h p w) far)
+    → IsAskedWell sys old next h p w far → IsAskedWell sys low next h p w (after_collection (lies_below sys low h p w) far)
 collected-well sys old low next h g b p (checkpoint f l) far a = (a.0, a.1, λ q t i. g q t (a.2 q t i))
 collected-well sys old low next h g b p (logged_event s) far a = (a.0, a.1, collected-given sys old low next h p s g b a.1 far a.2, a.3)
 
@@ -564,11 +564,11 @@ collected-restore sys state low g c = record {
   settled = c.settled;
   serials = c.serials;
   asked = each-mapped (IsWriteAskedWell sys low state.next state.history)
-      (λ (x : Write). record x { progress = after_collection (is_below sys low state.history x.node x.written) x.progress }) state.writes
+      (λ (x : Write). record x { progress = after_collection (lies_below sys low state.history x.node x.written) x.progress }) state.writes
       (each-weaker (IsWriteAskedWell sys state.low state.next state.history)
-      (λ (x : Write). IsAskedWell sys low state.next state.history x.node x.written (after_collection (is_below sys low state.history x.node x.written) x.progress)) state.writes
+      (λ (x : Write). IsAskedWell sys low state.next state.history x.node x.written (after_collection (lies_below sys low state.history x.node x.written) x.progress)) state.writes
       (λ x a. collected-well sys state.low low state.next state.history g c.serials x.node x.written x.progress a) c.asked);
-  apart = pairs-mapped IsApart (λ x. after_collection (is_below sys low state.history x.node x.written) x.progress) state.writes c.apart;
+  apart = pairs-mapped IsApart (λ x. after_collection (lies_below sys low state.history x.node x.written) x.progress) state.writes c.apart;
 }
 
 -- ---- each state of a run

@@ -11,7 +11,7 @@ use Rattle.fw_flow.specs.Dataflow.{System, policy_of, receiver}
 use Rattle.fw_flow.specs.WellFormed.{IsWellFormedSystem}
 use Rattle.fw_model.specs.Machine.{Machine, Write, Written, checkpoint, logged_event, acknowledged, places, first_state, front_of}
 use Rattle.fw_model.specs.Choice.{cut_of, filtered}
-use Rattle.fw_model.specs.Steps.{Effect, Outcome, did, idle, LeadsTo, Steps, Run, write_of_event, with_event, same_front, checkpoint_of, is_eager, is_one_of, is_in_flight, is_kept_write, front_of_cut, is_below, after_collection}
+use Rattle.fw_model.specs.Steps.{Effect, Outcome, did, idle, LeadsTo, Steps, Run, write_of_event, with_event, same_front, checkpoint_of, is_eager, is_one_of, is_in_flight, is_kept_write, front_of_cut, lies_below, after_collection}
 use Rattle.fw_model.specs.LawsOfRestoring.{CountsTheSame, CountsWritten, IsWrittenAsAsked, CheckpointsAreAsTheyWereAsked}
 use Rattle.fw_model.proofs.EachLaws.{each-weaker, each-both, each-append}
 use Rattle.fw_model.proofs.FilterLaws.{each-one}
@@ -95,7 +95,7 @@ took-was_or_new sys P state Collect next effect t a =
     let low = map front_of_cut t.0.cuts in
     each-weaker W (WasOrIsNew P next) next.writes (λ x b. inl b)
     (subst (λ (m : Machine). AllByRecursion W m.writes) (sym t.3)
-    (each-mapped W (λ (x : Write). record x { progress = after_collection (is_below sys low state.history x.node x.written) x.progress }) state.writes a))
+    (each-mapped W (λ (x : Write). record x { progress = after_collection (lies_below sys low state.history x.node x.written) x.progress }) state.writes a))
 took-was_or_new sys P state (Ack o) next effect t a =
     let W : Write → Type 0 = λ x. P x.node x.written in
     each-weaker W (WasOrIsNew P next) next.writes (λ x b. inl b) (subst (λ (m : Machine). AllByRecursion W m.writes) (sym t.2) a)

@@ -17,7 +17,7 @@ use Rattle.fw_model.specs.Denotation.{Family, IsDenotation, rounds}
 use Rattle.fw_model.specs.Machine.{Machine, Numbered, Write, Written, checkpoint, logged_event, Progress, in_flight, acknowledged, collected, places, first_state, front_of, is_failed, bound_of}
 use Rattle.fw_flow.specs.declared.choice.Choice.{Choice}
 use Rattle.fw_model.specs.Choice.{View, kept, ever, Restoring, by_batches, by_bound, by_anything, by_checkpoints, by_events, restoring, IsRestorable, IsCandidate, cut_of, IsConsistent, IsCutWithin, IsLargest, filtered}
-use Rattle.fw_model.specs.Steps.{Effect, Outcome, did, idle, LeadsTo, Run, write_of_event, checkpoint_of, is_eager, same_front, is_within, eager_writes, is_one_of, is_in_flight, without_lost, with_failed, is_kept_write, is_below, after_collection, front_of_cut}
+use Rattle.fw_model.specs.Steps.{Effect, Outcome, did, idle, LeadsTo, Run, write_of_event, checkpoint_of, is_eager, same_front, is_within, eager_writes, is_one_of, is_in_flight, without_lost, with_failed, is_kept_write, lies_below, after_collection, front_of_cut}
 use Rattle.fw_model.specs.LawsOfDenotation.{enough_rounds}
 use Rattle.fw_model.specs.LawsOfExistence.{AreCheckpointsChains}
 use Rattle.fw_model.specs.LawsOfFiltering.{IsFull}
@@ -169,7 +169,7 @@ took-ascend sys state Recover next effect h a t =
     (pairs-passed (LiesBelow sys) (λ write. is_kept_write (cut_of t.1 write.node) write.written (filtered sys t.1 state.history)) state.writes a)
 took-ascend sys state Collect next effect h a t =
     let low = map front_of_cut t.0.cuts in
-    subst (HasAscending sys) (sym t.3) (pairs-mapped (LiesBelow sys) (λ write. after_collection (is_below sys low state.history write.node write.written) write.progress) state.writes a)
+    subst (HasAscending sys) (sym t.3) (pairs-mapped (LiesBelow sys) (λ write. after_collection (lies_below sys low state.history write.node write.written) write.progress) state.writes a)
 took-ascend sys state (Ack o) next effect h a t = subst (HasAscending sys) (sym t.2) a
 
 -- ---- collected checkpoints lie below at each step
@@ -194,11 +194,11 @@ acknowledged-below sys low p (logged_event s) = tt
 
 -- what is collected lies below the new low watermark, and so does what lay below the old one
 collected-below : (sys : System) (old low : List Front) (h : List Numbered) → ((p : ℕ) → p < length sys.flow.nodes → Within (at_node sys old p) (at_node sys low p))
-    → (p : ℕ) (w : Written) (far : Progress) → IsCollectedBelow sys old p w far → IsCollectedBelow sys low p w (after_collection (is_below sys low h p w) far)
+    → (p : ℕ) (w : Written) (far : Progress) → IsCollectedBelow sys old p w far → IsCollectedBelow sys low p w (after_collection (lies_below sys low h p w) far)
 collected-below sys old low h grows p (checkpoint g l) in_flight a = tt
 collected-below sys old low h grows p (checkpoint g l) collected a = λ i c v. a i c (λ t k. v t (grows p i t k))
 collected-below sys old low h grows p (checkpoint g l) acknowledged a =
-    cond_both (is_below sys low h p (checkpoint g l)) collected acknowledged (λ far. IsCollectedBelow sys low p (checkpoint g l) far)
+    cond_both (lies_below sys low h p (checkpoint g l)) collected acknowledged (λ far. IsCollectedBelow sys low p (checkpoint g l) far)
     (λ e i c v. two_ways (not (is_within (front_of low p) g)) (and_parts (is_within g (front_of low p)) (not (is_within (front_of low p) g)) e).1
     (ap not (within-is (bounds_of sys.flow p) (front_of low p) g c v)))
     (λ e. tt)
@@ -251,8 +251,8 @@ took-below sys family state Collect next effect f t =
     let low = map front_of_cut choice.cuts in
     let grows = watermark-grows sys state f.notes choice f.watermark t.1 in
     subst (HasCollectedBelow sys) (sym t.3)
-    (each-mapped (IsWriteCollectedBelow sys low) (λ (x : Write). record x { progress = after_collection (is_below sys low state.history x.node x.written) x.progress }) state.writes
-    (each-weaker (IsWriteCollectedBelow sys state.low) (λ (x : Write). IsCollectedBelow sys low x.node x.written (after_collection (is_below sys low state.history x.node x.written) x.progress)) state.writes
+    (each-mapped (IsWriteCollectedBelow sys low) (λ (x : Write). record x { progress = after_collection (lies_below sys low state.history x.node x.written) x.progress }) state.writes
+    (each-weaker (IsWriteCollectedBelow sys state.low) (λ (x : Write). IsCollectedBelow sys low x.node x.written (after_collection (lies_below sys low state.history x.node x.written) x.progress)) state.writes
     (λ x b. collected-below sys state.low low state.history grows x.node x.written x.progress b) f.lie_below))
 took-below sys family state (Ack o) next effect f t = subst (HasCollectedBelow sys) (sym t.2) f.lie_below
 

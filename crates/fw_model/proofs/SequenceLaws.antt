@@ -14,7 +14,7 @@ use Rattle.fw_flow.specs.Dataflow.{greatest_of_kind, System, Dataflow, kind_of, 
 use Rattle.fw_flow.specs.NodeFunction.{stamp, recs_on_notification, numbered_messages, sequence_sent, sends_of_kind, sends, sent_by}
 use Rattle.fw_flow.specs.Projection.{events_at, all_inside, count_from, sent_count, first_number_of, phi_of_kind, phi}
 use Rattle.fw_model.specs.History.{injected_count}
-use Rattle.fw_model.specs.LawsOfSending.{notified_stamps, IsDescending, InsidePhiOfSequenceComesFromInside}
+use Rattle.fw_model.specs.LawsOfSending.{notified_stamps, AreDescending, InsidePhiOfSequenceComesFromInside}
 use Rattle.fw_model.proofs.EachLaws.{each-weaker, each-both, each-append}
 use Rattle.fw_model.proofs.PhiLaws.{count-append}
 
@@ -66,7 +66,7 @@ causes-inside f (Notify p t ∷ vs) a =
 
 -- the numbers below the count of messages from events inside are those of messages from events inside
 numbers-inside : (bounds : Bounds) (f : Frontier) → IsFrontier bounds f → (vs : List Event)
-    → AllByRecursion (λ s. in_domain bounds s ≡ true) (notified_stamps vs) → IsDescending (notified_stamps vs)
+    → AllByRecursion (λ s. in_domain bounds s ≡ true) (notified_stamps vs) → AreDescending (notified_stamps vs)
     → AllByRecursion (λ (m : Message). first_number_of m.at < count_from f (sequence_sent vs) → all_inside f m.causes ≡ true) (sequence_sent vs)
 numbers-inside bounds f fr [] d o = tt
 numbers-inside bounds f fr (Inject s x ∷ vs) d o = numbers-inside bounds f fr vs d o

@@ -216,9 +216,9 @@ is_serial_given_up sys low serial h =
     list_any (λ v. v.serial == serial && is_given_up sys low (place sys.flow v.event) (stamp v.event)) h
 
 -- whether what a write of node p holds lies below the watermark, so that it is not needed again
-abbrev pub is_below : System → List Front → List Numbered → ℕ → Written → Bool
-is_below sys low h p (checkpoint g kept_low) = is_within g (front_of low p) && not (is_within (front_of low p) g)
-is_below sys low h p (logged_event serial) = is_serial_given_up sys low serial h
+abbrev pub lies_below : System → List Front → List Numbered → ℕ → Written → Bool
+lies_below sys low h p (checkpoint g kept_low) = is_within g (front_of low p) && not (is_within (front_of low p) g)
+lies_below sys low h p (logged_event serial) = is_serial_given_up sys low serial h
 
 -- how far a write is once what lies below is collected
 abbrev pub after_collection : Bool → Progress → Progress
@@ -229,7 +229,7 @@ after_collection below collected = collected
 -- the writes with those below the watermark collected
 abbrev pub collected_writes : System → List Front → List Numbered → List Write → List Write
 collected_writes sys low h writes =
-    map (λ (write : Write). record write { progress = after_collection (is_below sys low h write.node write.written) write.progress }) writes
+    map (λ (write : Write). record write { progress = after_collection (lies_below sys low h write.node write.written) write.progress }) writes
 
 -- some node has a batch of epoch x
 abbrev pub HasEpoch : List (List (List Rec)) → ℕ → Type 0

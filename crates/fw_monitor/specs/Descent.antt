@@ -22,12 +22,12 @@ use Rattle.fw_monitor.specs.Held.{held, sum_below}
 use Rattle.fw_monitor.specs.Offers.{IsOffered, AreAscending, delivered_cover, discarded_cover, notified_cover, recorded_delivered, recorded_discarded, recorded_notified, arrived_from, covers_of}
 
 -- the way in which a node is restored, as the model names it
-abbrev pub named : Restoring → model.Restoring
-named restored.Batches = by_batches
-named restored.Bound = by_bound
-named restored.Anything = by_anything
-named restored.Checkpoints = by_checkpoints
-named restored.Events = by_events
+abbrev pub modelled : Restoring → model.Restoring
+modelled restored.Batches = by_batches
+modelled restored.Bound = by_bound
+modelled restored.Anything = by_anything
+modelled restored.Checkpoints = by_checkpoints
+modelled restored.Events = by_events
 
 -- a dataflow alone, without batches
 abbrev pub bare : Dataflow → System

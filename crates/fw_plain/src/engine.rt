@@ -274,7 +274,7 @@ impl Engine {
         if is_output(self.flow.kind(output))
             && !is_failed(&self.failed, output)
             && self.is_settled(output, x)
-            && self.is_there(output, x)
+            && self.has_something_at(output, x)
         {
             Some(x)
         } else {
@@ -294,7 +294,7 @@ impl Engine {
     }
 
     // Whether there is something to acknowledge.
-    fn is_there(&self, output: NodeId, x: u32) -> bool
+    fn has_something_at(&self, output: NodeId, x: u32) -> bool
         ensures { IsTrue result ↔ HasSomethingAt self.now.sys (events self.now.state.history)
             (kind_of self.now.sys.flow output) output x }
     {

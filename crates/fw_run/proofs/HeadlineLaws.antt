@@ -22,7 +22,7 @@ use Rattle.fw_run.specs.declared.status.Status.{Status}
 use Rattle.fw_run.specs.declared.status.Status.TheVariants.{Done, BadWords, Refused, ReadFault, WriteFault, NoMemory}
 use Rattle.fw_run.specs.Headline.{Prints, PrintsPart, IsPrinted, IsPartPrinted, IsRunEnd, StaysLegal, AcknowledgesInOrder, ShowsDenotation, HasOneRun, RecoversFailed, CutsToLargest}
 use Rattle.fw_run.specs.Reading.{IsReady, IsJob}
-use Rattle.fw_run.specs.Status.{IsRefused}
+use Rattle.fw_run.specs.Status.{TellsRefusal}
 use Rattle.fw_run.specs.Texts.{Texts, AreThere, AreAccepted, IsFirstRefusal, spelled_system, spelled_steps}
 use Rattle.fw_run.specs.Words.{TextNames}
 
@@ -126,7 +126,7 @@ texts-largest texts a count outcomes state next choice r t view =
 
 -- the status that is answered is the one that was, or that of want of memory where this was a refusal
 abbrev pub IsTellingOf : Status → Status → Type 0
-IsTellingOf status result = (result ≡ status) ⊎ (IsRefused status × (result ≡ NoMemory))
+IsTellingOf status result = (result ≡ status) ⊎ (TellsRefusal status × (result ≡ NoMemory))
 
 absurd_memory : (refusal : Refusal) → NoMemory ≡ Refused refusal → ⊥
 absurd_memory refusal e = absurd (cc)

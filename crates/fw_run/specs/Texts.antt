@@ -4,7 +4,7 @@ use Rattle.std.specs.List.{flat_map}
 use Rattle.fw_bag.specs.declared.rec.Rec.{Rec}
 use Rattle.fw_outside.specs.Outside.{IsText, one_more}
 use Rattle.fw_lines.specs.declared.refusal.Refusal.{Refusal}
-use Rattle.fw_lines.specs.Faults.{IsSound}
+use Rattle.fw_lines.specs.Faults.{BreakNoRule}
 use Rattle.fw_lines.specs.Inputs.{line_fault, size_limit}
 use Rattle.fw_lines.specs.Inputs as inputs
 use Rattle.fw_lines.specs.Lines.{said_lines}
@@ -55,7 +55,7 @@ IsFlow text = flows.IsAccepted text (spelled_flow text)
 -- the text gives batches to inputs of the dataflow
 pub record AreInputsOf (flow : Dataflow) (text : List ℕ) : Type 0 where
   pub size : length text ≤ size_limit
-  pub sound : IsSound (line_fault (sources_of flow)) (said_lines text)
+  pub sound : BreakNoRule (line_fault (sources_of flow)) (said_lines text)
 
 -- the text is a schedule of the dataflow
 abbrev pub IsScheduleOf : Dataflow → List ℕ → Type 0

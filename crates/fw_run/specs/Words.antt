@@ -26,10 +26,10 @@ pub record TextNames : Type 0 where
   pub schedule : List ℕ
 
 -- the names that the words of a run give
-abbrev pub names_of : List (List ℕ) → TextNames
-names_of (command ∷ flow ∷ inputs ∷ schedule ∷ words) = record { flow = flow; inputs = inputs; schedule = schedule }
-names_of words = record { flow = []; inputs = []; schedule = [] }
+abbrev pub text_names_of : List (List ℕ) → TextNames
+text_names_of (command ∷ flow ∷ inputs ∷ schedule ∷ words) = record { flow = flow; inputs = inputs; schedule = schedule }
+text_names_of words = record { flow = []; inputs = []; schedule = [] }
 
 -- the names that parsed words give
-abbrev pub names_in : RunWords → TextNames
-names_in words = record { flow = words.flow.now; inputs = words.inputs.now; schedule = words.schedule.now }
+abbrev pub text_names_in : RunWords → TextNames
+text_names_in words = record { flow = words.flow.now; inputs = words.inputs.now; schedule = words.schedule.now }

@@ -19,7 +19,7 @@ use Rattle.fw_model.specs.History.{pending, some_at, IsComplete}
 use Rattle.fw_model.specs.Machine.{Machine, first_state, events, front_of, is_failed, checkpoint, acknowledged, in_flight}
 use Rattle.fw_model.specs.Steps.{Steps, LeadsTo, Effect, CutsTo, with_event, front_of_cut, did, quiet, cuts, lows, acked}
 use Rattle.fw_examples.specs.OneSelect.{one_select_flow_of, rec_of}
-use Rattle.fw_examples.specs.OneCollection.{two_batches, written_when_asked, first, first_epoch_everywhere, CollectsTheFirstEpoch}
+use Rattle.fw_examples.specs.OneCollection.{selected_batches, written_when_asked, first, first_epoch_everywhere, CollectsTheFirstEpoch}
 use Rattle.fw_examples.proofs.FrontierFacts.{is_frontier_of, within_until}
 use Rattle.fw_examples.proofs.StepFacts.{injects, delivers, acknowledges_first_write}
 use Rattle.fw_examples.proofs.ChoiceFacts.{nothing_covered, cover_within, meet_within, set_within, canonical, below_epoch, epoch_named, by_three, by_two}
@@ -83,8 +83,8 @@ none_left = by_two _ refl refl
 first_complete : IsComplete written_when_asked (events rec_put_out.history) (named policy.Lazy all_first)
 unfolding bounds_of kind_of receiver batches_of
 first_complete =
-    complete policy.Lazy two_batches (events rec_put_out.history) first first first
-    (admissible policy.Lazy two_batches (events rec_put_out.history) all_first
+    complete policy.Lazy selected_batches (events rec_put_out.history) first first first
+    (admissible policy.Lazy selected_batches (events rec_put_out.history) all_first
     (λ t i. ap (some_at (same t)) (none_left 0 (lit< tt)))
     (λ t i. ap (some_at (same t)) (none_left 1 (lit< tt)))
     (λ t i. and_from _ _ (and_parts _ _ i).0 (below_epoch _ 1 t i))
@@ -93,7 +93,7 @@ first_complete =
     (λ other o.
     let in_first : Within (other 0) (named policy.Lazy all_first 0) =
     within_until _ (other 0) (1 ∷ []) (o.frontier 0) refl (λ i. false≢true (o.source 0 refl (1 ∷ []) i)) in
-    let follows = at_sender policy.Lazy two_batches _ other o in
+    let follows = at_sender policy.Lazy selected_batches _ other o in
     (in_first, (λ t i. in_first t (follows.0 t i)), (λ t i. in_first t (follows.0 t (follows.1 t i)))))
 
 -- no stamp is among those of epoch 0
@@ -104,7 +104,7 @@ none_in_first p = within_until _ _ (1 ∷ []) (is_frontier_of _ none) refl false
 settles_all : Steps written_when_asked rec_put_out Progress all_settled (did quiet)
 unfolding kind_of receiver sender sends batches_of bounds_of policy_of
 settles_all =
-    progresses policy.Lazy two_batches rec_put_out first first first first_complete
+    progresses policy.Lazy selected_batches rec_put_out first first first first_complete
     (canonical _ (1 ∷ []) refl) (canonical _ (1 ∷ []) refl) (canonical _ (1 ∷ []) refl)
     none_failed
     (none_in_first 0) (none_in_first 1) (none_in_first 2)

@@ -12,12 +12,12 @@ use Rattle.fw_model.specs.Steps.{Run, did, idle, quiet, cuts, lows, acked}
 use Rattle.fw_examples.specs.OneSelect.{one_select_of, rec_of, src, big, out, src_to_big, big_to_out}
 
 -- two batches of a rec that is selected
-abbrev pub two_batches : List (List Rec)
-two_batches = (rec_of 1 20 ∷ []) ∷ (rec_of 2 30 ∷ []) ∷ []
+abbrev pub selected_batches : List (List Rec)
+selected_batches = (rec_of 1 20 ∷ []) ∷ (rec_of 2 30 ∷ []) ∷ []
 
 -- the dataflow with these batches, whose select writes checkpoints when asked
 abbrev pub written_when_asked : System
-written_when_asked = one_select_of policy.Lazy two_batches
+written_when_asked = one_select_of policy.Lazy selected_batches
 
 -- the frontier of epoch 0
 abbrev pub first : Front

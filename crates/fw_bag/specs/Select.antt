@@ -14,14 +14,14 @@ use Rattle.fw_bag.specs.declared.select.Term.{Term}
 use Rattle.fw_bag.specs.declared.select.Term.TheVariants as term
 
 -- the field's number in a rec
-abbrev pub field_of : Field → Rec → ℕ
-field_of Key r = r.key
-field_of Value r = r.value
+abbrev pub field_number : Field → Rec → ℕ
+field_number Key r = r.key
+field_number Value r = r.value
 
 -- the number that a condition compares with, at a rec
-abbrev pub term_of : Term → Rec → ℕ
-term_of (term.Number n) r = n
-term_of (term.Field f) r = field_of f r
+abbrev pub term_number : Term → Rec → ℕ
+term_number (term.Number n) r = n
+term_number (term.Field f) r = field_number f r
 
 -- whether the comparison holds between the first number and the second
 abbrev pub compares : Comparison → ℕ → ℕ → Bool
@@ -34,13 +34,13 @@ compares GreaterOrEqual m n = nat_le n m
 
 -- whether the condition holds of a rec
 abbrev pub holds : Condition → Rec → Bool
-holds c r = compares c.comparison (field_of c.field r) (term_of c.term r)
+holds c r = compares c.comparison (field_number c.field r) (term_number c.term r)
 
 -- the number that an assignment gives its field, at the rec as it came
 abbrev pub new_value : NewValue → Rec → ℕ
 new_value (new.Number n) r = n
-new_value (new.Field f) r = field_of f r
-new_value (new.FieldPlus f n) r = (field_of f r + n) % 2 ^ 64
+new_value (new.Field f) r = field_number f r
+new_value (new.FieldPlus f n) r = (field_number f r + n) % 2 ^ 64
 
 -- the rec with this number in the field
 abbrev pub with_field : Field → ℕ → Rec → Rec

@@ -1,6 +1,6 @@
 //! What a select does to a rec.
 ghost use Rattle.std.specs.Prelude.{◌≡◌};
-ghost use Rattle.fw_bag.specs.Select.{field_of, term_of, compares, holds, new_value, assigned, selected};
+ghost use Rattle.fw_bag.specs.Select.{field_number, term_number, compares, holds, new_value, assigned, selected};
 
 use crate::Rec;
 
@@ -62,7 +62,7 @@ pub struct Selection {
 impl Field {
     /// The field's number in a rec.
     pub fn of(self, rec: Rec) -> u64
-        ensures { result ≡ field_of self rec }
+        ensures { result ≡ field_number self rec }
     {
         match self {
             Field::Key => rec.key,
@@ -90,7 +90,7 @@ impl Comparison {
 impl Term {
     /// The term's number at a rec.
     pub fn of(self, rec: Rec) -> u64
-        ensures { result ≡ term_of self rec }
+        ensures { result ≡ term_number self rec }
     {
         match self {
             Term::Number(number) => number,

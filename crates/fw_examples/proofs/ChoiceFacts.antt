@@ -8,7 +8,7 @@ use Rattle.fw_frontier.specs.Front.{Front, frontier_of, inside, IsCanonical}
 use Rattle.fw_flow.specs.declared.choice.Cut.{Cut}
 use Rattle.fw_flow.specs.declared.choice.Cut.TheVariants.{Present, At}
 use Rattle.fw_flow.specs.Dataflow.{System, bounds_of}
-use Rattle.fw_flow.specs.Projection.{number_of}
+use Rattle.fw_flow.specs.Projection.{first_number_of}
 use Rattle.fw_model.specs.Choice.{set_of, IsCutWithin}
 
 -- no stamp is covered by none
@@ -67,7 +67,7 @@ pub canonical : (bounds : Bounds) (o : Stamp) → in_domain bounds o ≡ true �
 canonical bounds o d = (record { in_the_domain = d; ascending = tt; incomparable = tt }, tt)
 
 -- an epoch inside those below k is less
-pub below_epoch : (n k : ℕ) (t : Stamp) → frontier_of (record { greatest = n ∷ [] }) ((k ∷ []) ∷ []) t ≡ true → nat_lt (number_of t) k ≡ true
+pub below_epoch : (n k : ℕ) (t : Stamp) → frontier_of (record { greatest = n ∷ [] }) ((k ∷ []) ∷ []) t ≡ true → nat_lt (first_number_of t) k ≡ true
 below_epoch n k [] h = absurd (false≢true h)
 below_epoch n k (x ∷ y ∷ t) h = absurd (false≢true (and_parts (leb x n) false (and_parts (leb x n && false) (inside ((k ∷ []) ∷ []) (x ∷ y ∷ t)) h).0).1)
 below_epoch n k (x ∷ []) h =

@@ -13,7 +13,7 @@ use Rattle.fw_flow.specs.NodeFunction.{sends}
 use Rattle.fw_flow.specs.Projection.{phi}
 use Rattle.fw_model.specs.History.{IsComplete, injected_epochs, owed, delivered, pending, some_at}
 use Rattle.fw_model.specs.Machine.{Machine, events, front_of, is_failed}
-use Rattle.fw_model.specs.Steps.{Outcome, did, Takes, GrowsTo, Run, quiet, acked, recovered}
+use Rattle.fw_model.specs.Steps.{Outcome, did, LeadsTo, GrowsTo, Run, quiet, acked, recovered}
 use Rattle.fw_examples.specs.Flows.{loop_counts_up, two_batches, pair}
 use Rattle.fw_examples.specs.UnderWay.{message, round, complete_fronts}
 use Rattle.fw_examples.specs.Recovery.{counting_failed, restored, RunsToTheEnd}
@@ -193,7 +193,7 @@ grows = record {
 abbrev all_settled : Machine
 all_settled = record all_delivered { settled = replicate 7 [] }
 
-takes_progress : Takes two_batches all_delivered step.Progress all_settled quiet
+takes_progress : LeadsTo two_batches all_delivered step.Progress all_settled quiet
 unfolding kind_of policy_of receiver bounds_of max_of
 takes_progress = (all_at, replicate 7 [], grows, refl, refl)
 
@@ -201,11 +201,11 @@ takes_progress = (all_at, replicate 7 [], grows, refl, refl)
 abbrev acknowledged : ℕ → Machine
 acknowledged x = record all_settled { bounds = 0 ∷ 0 ∷ 0 ∷ 0 ∷ 0 ∷ 0 ∷ x ∷ [] }
 
-takes_first : Takes two_batches all_settled (step.Ack 6) (acknowledged 1) (acked 6 (0 ∷ []) (pair 1 1 ∷ pair 1 2 ∷ pair 1 3 ∷ pair 1 4 ∷ []))
+takes_first : LeadsTo two_batches all_settled (step.Ack 6) (acknowledged 1) (acked 6 (0 ∷ []) (pair 1 1 ∷ pair 1 2 ∷ pair 1 3 ∷ pair 1 4 ∷ []))
 unfolding kind_of policy_of receiver bounds_of max_of
 takes_first = (0, record { declared = lit< tt; output = refl; live = refl; next = refl; settled = refl; there = inl (inl (lit< tt)) }, refl, refl)
 
-takes_second : Takes two_batches (acknowledged 1) (step.Ack 6) (acknowledged 2)
+takes_second : LeadsTo two_batches (acknowledged 1) (step.Ack 6) (acknowledged 2)
     (acked 6 (1 ∷ []) (pair 2 1 ∷ pair 2 2 ∷ pair 2 3 ∷ pair 2 4 ∷ pair 3 1 ∷ pair 3 2 ∷ pair 3 3 ∷ pair 3 4 ∷ []))
 unfolding kind_of policy_of receiver bounds_of max_of
 takes_second = (1, record { declared = lit< tt; output = refl; live = refl; next = refl; settled = refl; there = inl (inl (lit< tt)) }, refl, refl)

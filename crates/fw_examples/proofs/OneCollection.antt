@@ -17,9 +17,9 @@ use Rattle.fw_flow.specs.declared.choice.Choice.{Choice}
 use Rattle.fw_model.specs.Choice.{kept, cut_of, IsCandidate, IsConsistent, IsCutWithin, IsChoiceWithin, IsLargest, offers_of_writes}
 use Rattle.fw_model.specs.History.{pending, some_at, IsComplete}
 use Rattle.fw_model.specs.Machine.{Machine, first_state, events, front_of, is_failed, checkpoint, acknowledged, in_flight}
-use Rattle.fw_model.specs.Steps.{Steps, Takes, Effect, CutsTo, with_event, front_of_cut, did, quiet, cuts, lows, acked}
+use Rattle.fw_model.specs.Steps.{Steps, LeadsTo, Effect, CutsTo, with_event, front_of_cut, did, quiet, cuts, lows, acked}
 use Rattle.fw_examples.specs.OneSelect.{one_select_flow_of, rec_of}
-use Rattle.fw_examples.specs.OneCollection.{two_batches, written_when_asked, first, first_epoch, CollectsTheFirstEpoch}
+use Rattle.fw_examples.specs.OneCollection.{selected_batches, written_when_asked, first, first_epoch_everywhere, CollectsTheFirstEpoch}
 use Rattle.fw_examples.proofs.FrontierFacts.{is_frontier_of, within_until}
 use Rattle.fw_examples.proofs.StepFacts.{injects, delivers, acknowledges_first_write}
 use Rattle.fw_examples.proofs.ChoiceFacts.{nothing_covered, cover_within, meet_within, set_within, canonical, below_epoch, epoch_named, by_three, by_two}
@@ -83,8 +83,8 @@ none_left = by_two _ refl refl
 first_complete : IsComplete written_when_asked (events rec_put_out.history) (named policy.Lazy all_first)
 unfolding bounds_of kind_of receiver batches_of
 first_complete =
-    complete policy.Lazy two_batches (events rec_put_out.history) first first first
-    (admissible policy.Lazy two_batches (events rec_put_out.history) all_first
+    complete policy.Lazy selected_batches (events rec_put_out.history) first first first
+    (admissible policy.Lazy selected_batches (events rec_put_out.history) all_first
     (λ t i. ap (some_at (same t)) (none_left 0 (lit< tt)))
     (λ t i. ap (some_at (same t)) (none_left 1 (lit< tt)))
     (λ t i. and_from _ _ (and_parts _ _ i).0 (below_epoch _ 1 t i))
@@ -93,7 +93,7 @@ first_complete =
     (λ other o.
     let in_first : Within (other 0) (named policy.Lazy all_first 0) =
     within_until _ (other 0) (1 ∷ []) (o.frontier 0) refl (λ i. false≢true (o.source 0 refl (1 ∷ []) i)) in
-    let follows = at_sender policy.Lazy two_batches _ other o in
+    let follows = at_sender policy.Lazy selected_batches _ other o in
     (in_first, (λ t i. in_first t (follows.0 t i)), (λ t i. in_first t (follows.0 t (follows.1 t i)))))
 
 -- no stamp is among those of epoch 0
@@ -104,7 +104,7 @@ none_in_first p = within_until _ _ (1 ∷ []) (is_frontier_of _ none) refl false
 settles_all : Steps written_when_asked rec_put_out Progress all_settled (did quiet)
 unfolding kind_of receiver sender sends batches_of bounds_of policy_of
 settles_all =
-    progresses policy.Lazy two_batches rec_put_out first first first first_complete
+    progresses policy.Lazy selected_batches rec_put_out first first first first_complete
     (canonical _ (1 ∷ []) refl) (canonical _ (1 ∷ []) refl) (canonical _ (1 ∷ []) refl)
     none_failed
     (none_in_first 0) (none_in_first 1) (none_in_first 2)
@@ -126,7 +126,7 @@ acknowledges = (0, record { declared = lit< tt; output = refl; live = refl; next
 
 first_consistent : (low : List Front) (failed : List Bool) (lost : ℕ → Bool)
     → ((p : ℕ) → p < 3 → Within (frontier_of (bounds_of (one_select_flow_of policy.Lazy) p) (front_of low p)) (frontier_of (bounds_of (one_select_flow_of policy.Lazy) p) first))
-    → IsConsistent written_when_asked (at_low low failed) (IsCandidate written_when_asked (at_low low failed) lost kept) first_epoch
+    → IsConsistent written_when_asked (at_low low failed) (IsCandidate written_when_asked (at_low low failed) lost kept) first_epoch_everywhere
 unfolding kind_of receiver sender sends batches_of bounds_of policy_of phi psi
 first_consistent low failed lost below = record {
   one_cut_each = refl;
@@ -181,7 +181,7 @@ at_output low failed lost gone (At f) o = o.1.0
 
 first_above : (low : List Front) (failed : List Bool) (lost : ℕ → Bool) → lost 0 ≡ true → lost 1 ≡ true → lost 2 ≡ true
     → (other : Choice) → IsConsistent written_when_asked (at_low low failed) (IsCandidate written_when_asked (at_low low failed) lost kept) other
-    → IsChoiceWithin written_when_asked other first_epoch
+    → IsChoiceWithin written_when_asked other first_epoch_everywhere
 unfolding kind_of bounds_of
 first_above low failed lost a b c other is =
     let zero_in = at_input low failed lost a (cut_of other 0) (is.offered 0 (lit< tt)) in
@@ -199,10 +199,10 @@ first_in_first : (p : ℕ) → p < 3
     → Within (frontier_of (bounds_of (one_select_flow_of policy.Lazy) p) (front_of all_first p)) (frontier_of (bounds_of (one_select_flow_of policy.Lazy) p) first)
 first_in_first = by_three _ (λ t i. i) (λ t i. i) (λ t i. i)
 
-collects : Steps written_when_asked (at_low (none ∷ none ∷ none ∷ []) none_lost) Collect (at_low all_first none_lost) (did (lows first_epoch))
+collects : Steps written_when_asked (at_low (none ∷ none ∷ none ∷ []) none_lost) Collect (at_low all_first none_lost) (did (lows first_epoch_everywhere))
 unfolding kind_of receiver bounds_of policy_of
 collects = (
-  first_epoch,
+  first_epoch_everywhere,
   record {
     consistent = first_consistent (none ∷ none ∷ none ∷ []) none_lost (λ p. true) (by_three _ (none_in_first 0) (none_in_first 1) (none_in_first 2));
     largest = first_above (none ∷ none ∷ none ∷ []) none_lost (λ p. true) refl refl refl;
@@ -236,14 +236,14 @@ three_cuts (r ∷ s ∷ t ∷ u ∷ rest) l a b c x y z = absurd (omega arith)
 same_cuts : (choice : Choice) → IsLargest written_when_asked (at_low all_first none_lost) (offers_of_writes written_when_asked (at_low all_first none_lost)) choice
     → choice.cuts ≡ At first ∷ At first ∷ At first ∷ []
 same_cuts choice is =
-    let above = is.largest first_epoch (first_consistent all_first none_lost (λ p. true) first_in_first) in
+    let above = is.largest first_epoch_everywhere (first_consistent all_first none_lost (λ p. true) first_in_first) in
     let below = first_above all_first none_lost (λ p. true) refl refl refl choice is.consistent in
     let at : (p : ℕ) → p < 3 → cut_of choice p ≡ At first =
     λ p l. at_first p l (cut_of choice p) (is.consistent.offered p l) (by_three (λ q. IsCutWithin written_when_asked q (cut_of choice q) (At first)) (below.cuts 0 (lit< tt)) (below.cuts 1 (lit< tt)) (below.cuts 2 (lit< tt)) p l)
     (by_three (λ q. IsCutWithin written_when_asked q (At first) (cut_of choice q)) (above.cuts 0 (lit< tt)) (above.cuts 1 (lit< tt)) (above.cuts 2 (lit< tt)) p l) in
     three_cuts choice.cuts is.consistent.one_cut_each (At first) (At first) (At first) (at 0 (lit< tt)) (at 1 (lit< tt)) (at 2 (lit< tt))
 
-collects_once : (other : Machine) (effect : Effect) → Takes written_when_asked (at_low all_first none_lost) Collect other effect → ⊥
+collects_once : (other : Machine) (effect : Effect) → LeadsTo written_when_asked (at_low all_first none_lost) Collect other effect → ⊥
 collects_once other effect t = t.2 (ap (map front_of_cut) (same_cuts t.0 t.1))
 
 -- ---- all fail
@@ -252,7 +252,7 @@ fails_all : Steps written_when_asked (at_low all_first none_lost) (Fail (0 ∷ 1
 unfolding kind_of receiver bounds_of policy_of
 fails_all = (0, lit< tt, refl, refl, refl, refl)
 
-cut_to_first : CutsTo written_when_asked (at_low all_first all_lost) first_epoch all_first
+cut_to_first : CutsTo written_when_asked (at_low all_first all_lost) first_epoch_everywhere all_first
 unfolding kind_of bounds_of policy_of receiver
 cut_to_first = record {
   one_each = refl;
@@ -262,11 +262,11 @@ cut_to_first = record {
       (record { canonical = canonical _ (1 ∷ []) refl; same = meet_within _ _ (λ t i. i) });
 }
 
-recovers_all : Steps written_when_asked (at_low all_first all_lost) Recover (at_low all_first none_lost) (did (cuts first_epoch))
+recovers_all : Steps written_when_asked (at_low all_first all_lost) Recover (at_low all_first none_lost) (did (cuts first_epoch_everywhere))
 unfolding kind_of receiver bounds_of policy_of
 recovers_all = (
   0,
-  first_epoch,
+  first_epoch_everywhere,
   all_first,
   lit< tt,
   refl,

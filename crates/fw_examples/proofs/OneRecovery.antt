@@ -19,7 +19,7 @@ use Rattle.fw_model.specs.History.{pending, some_at, IsComplete}
 use Rattle.fw_model.specs.Machine.{Machine, first_state, events, front_of, is_failed}
 use Rattle.fw_model.specs.Steps.{Steps, CutsTo, with_event, offers, did, quiet, cuts, acked}
 use Rattle.fw_examples.specs.OneSelect.{one_select_flow, rec_of}
-use Rattle.fw_examples.specs.OneRecovery.{two_batches, two_epochs, first_epoch_kept, first_epoch_alone, KeepsTheSettledEpoch, acknowledged_epoch_kept, ResumesAfterBothFailed}
+use Rattle.fw_examples.specs.OneRecovery.{selected_batches, select_of_two_batches, first_epoch_kept, first_epoch_alone, KeepsTheSettledEpoch, acknowledged_epoch_kept, ResumesAfterBothFailed}
 use Rattle.fw_examples.proofs.FrontierFacts.{is_frontier_of, within_all, within_until, one_not_same}
 use Rattle.fw_examples.proofs.StepFacts.{injects, delivers}
 use Rattle.fw_examples.proofs.ChoiceFacts.{nothing_covered, in_all, cover_within, meet_within, set_within, canonical, below_epoch, by_three, by_two}
@@ -38,41 +38,41 @@ abbrev message : Message
 message = record { at = 0 ∷ []; rec = rec_of 1 20; causes = (0 ∷ []) ∷ [] }
 
 abbrev first_sent : Machine
-first_sent = with_event two_epochs (first_state two_epochs) (Injected 0 0)
+first_sent = with_event select_of_two_batches (first_state select_of_two_batches) (Injected 0 0)
 
 abbrev first_taken : Machine
-first_taken = with_event two_epochs first_sent (Delivered 0 message)
+first_taken = with_event select_of_two_batches first_sent (Delivered 0 message)
 
 abbrev first_settled : Machine
 first_settled = record first_taken { settled = first ∷ first ∷ none ∷ [] }
 
 abbrev second_sent : Machine
-second_sent = with_event two_epochs first_settled (Injected 0 1)
+second_sent = with_event select_of_two_batches first_settled (Injected 0 1)
 
 abbrev select_failed : Machine
 select_failed = record second_sent { failed = false ∷ true ∷ false ∷ [] }
 
-sends_first : Steps two_epochs (first_state two_epochs) (Inject 0) first_sent (did quiet)
+sends_first : Steps select_of_two_batches (first_state select_of_two_batches) (Inject 0) first_sent (did quiet)
 unfolding kind_of batches_of
-sends_first = injects two_epochs (first_state two_epochs) 0 0 refl refl (lit< tt) refl
+sends_first = injects select_of_two_batches (first_state select_of_two_batches) 0 0 refl refl (lit< tt) refl
 
-takes_first : Steps two_epochs first_sent (Deliver 0 None) first_taken (did quiet)
+takes_first : Steps select_of_two_batches first_sent (Deliver 0 None) first_taken (did quiet)
 unfolding kind_of receiver sender sends batches_of bounds_of policy_of
-takes_first = delivers two_epochs first_sent 0 message refl refl refl refl
+takes_first = delivers select_of_two_batches first_sent 0 message refl refl refl refl
 
-none_pending : pending two_epochs (events first_taken.history) 0 ≡ []
+none_pending : pending select_of_two_batches (events first_taken.history) 0 ≡ []
 unfolding kind_of receiver sender sends batches_of bounds_of
 none_pending = refl
 
-pending_rec : pending two_epochs (events first_taken.history) 1 ≡ message ∷ []
+pending_rec : pending select_of_two_batches (events first_taken.history) 1 ≡ message ∷ []
 unfolding kind_of receiver sender sends batches_of bounds_of
 pending_rec = refl
 
-first_complete : IsComplete two_epochs (events first_taken.history) (named policy.None (first ∷ first ∷ none ∷ []))
+first_complete : IsComplete select_of_two_batches (events first_taken.history) (named policy.None (first ∷ first ∷ none ∷ []))
 unfolding bounds_of kind_of receiver batches_of
 first_complete =
-    complete policy.None two_batches (events first_taken.history) first first none
-    (admissible policy.None two_batches (events first_taken.history) (first ∷ first ∷ none ∷ [])
+    complete policy.None selected_batches (events first_taken.history) first first none
+    (admissible policy.None selected_batches (events first_taken.history) (first ∷ first ∷ none ∷ [])
     (λ t i. ap (some_at (same t)) none_pending)
     (λ t i. ap (some_at (same t)) pending_rec ∙ one_not_same _ (0 ∷ []) t i)
     (λ t i. and_from _ _ (and_parts _ _ i).0 (below_epoch _ 1 t i))
@@ -82,15 +82,15 @@ first_complete =
     let in_first : Within (other 0) (named policy.None (first ∷ first ∷ none ∷ []) 0) =
     within_until _ (other 0) (1 ∷ []) (o.frontier 0) refl (λ i. false≢true (o.source 0 refl (1 ∷ []) i)) in (
       in_first,
-      (λ t i. in_first t ((at_sender policy.None two_batches _ other o).0 t i)),
+      (λ t i. in_first t ((at_sender policy.None selected_batches _ other o).0 t i)),
       within_until _ (other 2) (0 ∷ []) (o.frontier 2) refl
           (λ i. true≢false (sym (ap (some_at (same (0 ∷ []))) pending_rec) ∙ o.quiet 2 (0 ∷ []) i 1 refl)),
     ))
 
-settles_first : Steps two_epochs first_taken Progress first_settled (did quiet)
+settles_first : Steps select_of_two_batches first_taken Progress first_settled (did quiet)
 unfolding kind_of receiver sender sends batches_of bounds_of policy_of
 settles_first =
-    progresses policy.None two_batches first_taken first first none first_complete
+    progresses policy.None selected_batches first_taken first first none first_complete
     (canonical _ (1 ∷ []) refl) (canonical _ (1 ∷ []) refl) (canonical _ (0 ∷ []) refl)
     none_failed
     (within_until _ _ (1 ∷ []) (is_frontier_of _ none) refl false≢true)
@@ -98,20 +98,20 @@ settles_first =
     (λ t i. i)
     0 (0 ∷ []) (lit< tt) refl refl
 
-sends_second : Steps two_epochs first_settled (Inject 0) second_sent (did quiet)
+sends_second : Steps select_of_two_batches first_settled (Inject 0) second_sent (did quiet)
 unfolding kind_of batches_of
-sends_second = injects two_epochs first_settled 0 1 refl refl (lit< tt) refl
+sends_second = injects select_of_two_batches first_settled 0 1 refl refl (lit< tt) refl
 
-fails : Steps two_epochs second_sent (Fail (1 ∷ [])) select_failed (did quiet)
+fails : Steps select_of_two_batches second_sent (Fail (1 ∷ [])) select_failed (did quiet)
 unfolding policy_of receiver bounds_of
 fails = (1, lit< tt, refl, refl, refl, refl)
 
 -- ---- the choice is largest
 
 abbrev Offered : ℕ → Cut → Type 0
-Offered = offers two_epochs select_failed
+Offered = offers select_of_two_batches select_failed
 
-first_consistent : IsConsistent two_epochs select_failed Offered first_epoch_kept
+first_consistent : IsConsistent select_of_two_batches select_failed Offered first_epoch_kept
 unfolding kind_of receiver sender sends batches_of bounds_of policy_of phi psi
 first_consistent = record {
   one_cut_each = refl;
@@ -129,28 +129,28 @@ first_consistent = record {
 }
 
 -- the select failed, and can have no more than it settled
-select_within : (cut : Cut) → Offered 1 cut → IsCutWithin two_epochs 1 cut (At first)
+select_within : (cut : Cut) → Offered 1 cut → IsCutWithin select_of_two_batches 1 cut (At first)
 unfolding kind_of policy_of
 select_within Present o = absurd (true≢false o)
 select_within (At f) o = o.1
 
 -- the input cannot keep an epoch that it sent and that the select does not keep
-input_within : (cut : Cut) → Within (discarded_cover two_epochs select_failed 0 0 cut) (frontier_of (bounds_of one_select_flow 1) first)
-    → IsCutWithin two_epochs 0 cut (At first)
+input_within : (cut : Cut) → Within (discarded_cover select_of_two_batches select_failed 0 0 cut) (frontier_of (bounds_of one_select_flow 1) first)
+    → IsCutWithin select_of_two_batches 0 cut (At first)
 unfolding kind_of receiver sender sends batches_of bounds_of policy_of
 input_within Present w = false≢true (w (1 ∷ []) refl)
 input_within (At f) w =
     within_until _ _ (1 ∷ []) (is_frontier_of _ f) refl
-    (λ i. let sent : discarded_cover two_epochs select_failed 0 0 (At f) (1 ∷ []) ≡ true = rw i refl in false≢true (w (1 ∷ []) sent))
+    (λ i. let sent : discarded_cover select_of_two_batches select_failed 0 0 (At f) (1 ∷ []) ≡ true = rw i refl in false≢true (w (1 ∷ []) sent))
 
-first_above : (other : Choice) → IsConsistent two_epochs select_failed Offered other → IsChoiceWithin two_epochs other first_epoch_kept
+first_above : (other : Choice) → IsConsistent select_of_two_batches select_failed Offered other → IsChoiceWithin select_of_two_batches other first_epoch_kept
 unfolding kind_of receiver sender bounds_of phi
 first_above other is =
     let at_select = select_within (cut_of other 1) (is.offered 1 (lit< tt)) in
-    let kept_by_select = set_within two_epochs 1 (cut_of other 1) first at_select in
+    let kept_by_select = set_within select_of_two_batches 1 (cut_of other 1) first at_select in
     let at_input = input_within (cut_of other 0) (λ t i. kept_by_select t (is.discarded 0 (lit< tt) t i)) in
-    let kept_by_input = set_within two_epochs 0 (cut_of other 0) first at_input in
-    let noted_at_select : Within (note_of two_epochs other 1) (frontier_of (bounds_of one_select_flow 1) first) = λ t i. kept_by_select t (is.own 1 (lit< tt) t i) in
+    let kept_by_input = set_within select_of_two_batches 0 (cut_of other 0) first at_input in
+    let noted_at_select : Within (note_of select_of_two_batches other 1) (frontier_of (bounds_of one_select_flow 1) first) = λ t i. kept_by_select t (is.own 1 (lit< tt) t i) in
     record {
       cuts = by_three _ at_input at_select tt;
       notes = by_three _
@@ -159,7 +159,7 @@ first_above other is =
           (λ t i. noted_at_select t (and_parts _ _ (is.notes 1 (lit< tt) t i)).1);
     }
 
-cut_to_first : CutsTo two_epochs select_failed first_epoch_kept (first ∷ first ∷ none ∷ [])
+cut_to_first : CutsTo select_of_two_batches select_failed first_epoch_kept (first ∷ first ∷ none ∷ [])
 unfolding kind_of bounds_of
 cut_to_first = record {
   one_each = refl;
@@ -169,7 +169,7 @@ cut_to_first = record {
       refl;
 }
 
-recovers : Steps two_epochs select_failed Recover first_epoch_alone (did (cuts first_epoch_kept))
+recovers : Steps select_of_two_batches select_failed Recover first_epoch_alone (did (cuts first_epoch_kept))
 unfolding kind_of receiver bounds_of policy_of
 recovers = (
   1,
@@ -212,7 +212,7 @@ abbrev big_failed : Machine
 big_failed = record first_settled { failed = false ∷ true ∷ false ∷ [] }
 
 abbrev first_put_out : Machine
-first_put_out = with_event two_epochs big_failed (Delivered 1 message)
+first_put_out = with_event select_of_two_batches big_failed (Delivered 1 message)
 
 abbrev output_settled : Machine
 output_settled = record first_put_out { settled = first ∷ first ∷ first ∷ [] }
@@ -227,13 +227,13 @@ abbrev both_back : Machine
 both_back = record both_failed { failed = false ∷ false ∷ false ∷ [] }
 
 abbrev later_sent : Machine
-later_sent = with_event two_epochs both_back (Injected 0 1)
+later_sent = with_event select_of_two_batches both_back (Injected 0 1)
 
 abbrev later_taken : Machine
-later_taken = with_event two_epochs later_sent (Delivered 0 later_message)
+later_taken = with_event select_of_two_batches later_sent (Delivered 0 later_message)
 
 abbrev later_put_out : Machine
-later_put_out = with_event two_epochs later_taken (Delivered 1 later_message)
+later_put_out = with_event select_of_two_batches later_taken (Delivered 1 later_message)
 
 abbrev later_settled : Machine
 later_settled = record later_put_out { settled = [] ∷ [] ∷ [] ∷ [] }
@@ -241,23 +241,23 @@ later_settled = record later_put_out { settled = [] ∷ [] ∷ [] ∷ [] }
 abbrev both_acknowledged : Machine
 both_acknowledged = record later_settled { bounds = 0 ∷ 0 ∷ 2 ∷ [] }
 
-fails_select : Steps two_epochs first_settled (Fail (1 ∷ [])) big_failed (did quiet)
+fails_select : Steps select_of_two_batches first_settled (Fail (1 ∷ [])) big_failed (did quiet)
 unfolding kind_of policy_of receiver bounds_of
 fails_select = (1, lit< tt, refl, refl, refl, refl)
 
-puts_first_out : Steps two_epochs big_failed (Deliver 1 None) first_put_out (did quiet)
+puts_first_out : Steps select_of_two_batches big_failed (Deliver 1 None) first_put_out (did quiet)
 unfolding kind_of receiver sender sends batches_of bounds_of policy_of
-puts_first_out = delivers two_epochs big_failed 1 message refl refl refl refl
+puts_first_out = delivers select_of_two_batches big_failed 1 message refl refl refl refl
 
-none_left : (e : ℕ) → e < 2 → pending two_epochs (events first_put_out.history) e ≡ []
+none_left : (e : ℕ) → e < 2 → pending select_of_two_batches (events first_put_out.history) e ≡ []
 unfolding kind_of receiver sender sends batches_of bounds_of
 none_left = by_two _ refl refl
 
-output_complete : IsComplete two_epochs (events first_put_out.history) (named policy.None (first ∷ first ∷ first ∷ []))
+output_complete : IsComplete select_of_two_batches (events first_put_out.history) (named policy.None (first ∷ first ∷ first ∷ []))
 unfolding bounds_of kind_of receiver batches_of
 output_complete =
-    complete policy.None two_batches (events first_put_out.history) first first first
-    (admissible policy.None two_batches (events first_put_out.history) (first ∷ first ∷ first ∷ [])
+    complete policy.None selected_batches (events first_put_out.history) first first first
+    (admissible policy.None selected_batches (events first_put_out.history) (first ∷ first ∷ first ∷ [])
     (λ t i. ap (some_at (same t)) (none_left 0 (lit< tt)))
     (λ t i. ap (some_at (same t)) (none_left 1 (lit< tt)))
     (λ t i. and_from _ _ (and_parts _ _ i).0 (below_epoch _ 1 t i))
@@ -266,7 +266,7 @@ output_complete =
     (λ other o.
     let in_first : Within (other 0) (named policy.None (first ∷ first ∷ first ∷ []) 0) =
     within_until _ (other 0) (1 ∷ []) (o.frontier 0) refl (λ i. false≢true (o.source 0 refl (1 ∷ []) i)) in
-    let follows = at_sender policy.None two_batches _ other o in
+    let follows = at_sender policy.None selected_batches _ other o in
     (in_first, (λ t i. in_first t (follows.0 t i)), (λ t i. in_first t (follows.0 t (follows.1 t i)))))
 
 -- the select alone is failed, and stays as it was settled
@@ -277,28 +277,28 @@ as_settled (suc zero) f = refl
 as_settled (suc (suc zero)) f = absurd (false≢true f)
 as_settled (suc (suc (suc p))) f = absurd (false≢true f)
 
-settles_output : Steps two_epochs first_put_out Progress output_settled (did quiet)
+settles_output : Steps select_of_two_batches first_put_out Progress output_settled (did quiet)
 unfolding kind_of receiver sender sends batches_of bounds_of policy_of
 settles_output =
-    progresses_where_live policy.None two_batches first_put_out first first first output_complete
+    progresses_where_live policy.None selected_batches first_put_out first first first output_complete
     (canonical _ (1 ∷ []) refl) (canonical _ (1 ∷ []) refl) (canonical _ (1 ∷ []) refl)
     as_settled
     (λ t i. i) (λ t i. i)
     (within_until _ _ (1 ∷ []) (is_frontier_of _ none) refl false≢true)
     2 (0 ∷ []) (lit< tt) refl refl refl
 
-acknowledges_first : Steps two_epochs output_settled (Ack 2) first_acknowledged (did (acked 2 (0 ∷ []) (rec_of 1 20 ∷ [])))
+acknowledges_first : Steps select_of_two_batches output_settled (Ack 2) first_acknowledged (did (acked 2 (0 ∷ []) (rec_of 1 20 ∷ [])))
 unfolding kind_of receiver bounds_of policy_of
 acknowledges_first = (0, record { declared = lit< tt; output = refl; live = refl; next = refl; settled = refl; there = inl (inl (lit< tt)) }, refl, refl)
 
-fails_output : Steps two_epochs first_acknowledged (Fail (2 ∷ [])) both_failed (did quiet)
+fails_output : Steps select_of_two_batches first_acknowledged (Fail (2 ∷ [])) both_failed (did quiet)
 unfolding kind_of policy_of receiver bounds_of
 fails_output = (2, lit< tt, refl, refl, refl, refl)
 
 abbrev BothOffered : ℕ → Cut → Type 0
-BothOffered = offers two_epochs both_failed
+BothOffered = offers select_of_two_batches both_failed
 
-both_consistent : IsConsistent two_epochs both_failed BothOffered acknowledged_epoch_kept
+both_consistent : IsConsistent select_of_two_batches both_failed BothOffered acknowledged_epoch_kept
 unfolding kind_of receiver sender sends batches_of bounds_of policy_of phi psi
 both_consistent = record {
   one_cut_each = refl;
@@ -317,17 +317,17 @@ both_consistent = record {
       (λ t i. and_from _ _ (and_parts _ _ i).0 i);
 }
 
-select_below : (cut : Cut) → BothOffered 1 cut → IsCutWithin two_epochs 1 cut (At first)
+select_below : (cut : Cut) → BothOffered 1 cut → IsCutWithin select_of_two_batches 1 cut (At first)
 unfolding kind_of policy_of
 select_below Present o = absurd (true≢false o)
 select_below (At f) o = o.1
 
-output_below : (cut : Cut) → BothOffered 2 cut → IsCutWithin two_epochs 2 cut (At first)
+output_below : (cut : Cut) → BothOffered 2 cut → IsCutWithin select_of_two_batches 2 cut (At first)
 unfolding kind_of policy_of
 output_below Present o = absurd (true≢false o)
 output_below (At f) o = o.1.0
 
-both_above : (other : Choice) → IsConsistent two_epochs both_failed BothOffered other → IsChoiceWithin two_epochs other acknowledged_epoch_kept
+both_above : (other : Choice) → IsConsistent select_of_two_batches both_failed BothOffered other → IsChoiceWithin select_of_two_batches other acknowledged_epoch_kept
 unfolding bounds_of
 both_above other is =
     let at_select = select_below (cut_of other 1) (is.offered 1 (lit< tt)) in
@@ -336,11 +336,11 @@ both_above other is =
       cuts = by_three _ tt at_select at_output;
       notes = by_three _
           (within_all _ _ (is_frontier_of _ (front_of other.notes 0)))
-          (λ t i. set_within two_epochs 1 (cut_of other 1) first at_select t (is.own 1 (lit< tt) t i))
-          (λ t i. set_within two_epochs 2 (cut_of other 2) first at_output t (is.own 2 (lit< tt) t i));
+          (λ t i. set_within select_of_two_batches 1 (cut_of other 1) first at_select t (is.own 1 (lit< tt) t i))
+          (λ t i. set_within select_of_two_batches 2 (cut_of other 2) first at_output t (is.own 2 (lit< tt) t i));
     }
 
-both_cut_to_first : CutsTo two_epochs both_failed acknowledged_epoch_kept (first ∷ first ∷ first ∷ [])
+both_cut_to_first : CutsTo select_of_two_batches both_failed acknowledged_epoch_kept (first ∷ first ∷ first ∷ [])
 unfolding kind_of bounds_of
 both_cut_to_first = record {
   one_each = refl;
@@ -350,7 +350,7 @@ both_cut_to_first = record {
       (record { canonical = canonical _ (1 ∷ []) refl; same = meet_within _ _ (λ t i. i) });
 }
 
-recovers_both : Steps two_epochs both_failed Recover both_back (did (cuts acknowledged_epoch_kept))
+recovers_both : Steps select_of_two_batches both_failed Recover both_back (did (cuts acknowledged_epoch_kept))
 unfolding kind_of receiver bounds_of policy_of
 recovers_both = (
   1,
@@ -364,28 +364,28 @@ recovers_both = (
   refl,
 )
 
-sends_later : Steps two_epochs both_back (Inject 0) later_sent (did quiet)
+sends_later : Steps select_of_two_batches both_back (Inject 0) later_sent (did quiet)
 unfolding kind_of batches_of
-sends_later = injects two_epochs both_back 0 1 refl refl (lit< tt) refl
+sends_later = injects select_of_two_batches both_back 0 1 refl refl (lit< tt) refl
 
-takes_later : Steps two_epochs later_sent (Deliver 0 None) later_taken (did quiet)
+takes_later : Steps select_of_two_batches later_sent (Deliver 0 None) later_taken (did quiet)
 unfolding kind_of receiver sender sends batches_of bounds_of policy_of
-takes_later = delivers two_epochs later_sent 0 later_message refl refl refl refl
+takes_later = delivers select_of_two_batches later_sent 0 later_message refl refl refl refl
 
-puts_later_out : Steps two_epochs later_taken (Deliver 1 None) later_put_out (did quiet)
+puts_later_out : Steps select_of_two_batches later_taken (Deliver 1 None) later_put_out (did quiet)
 unfolding kind_of receiver sender sends batches_of bounds_of policy_of
-puts_later_out = delivers two_epochs later_taken 1 later_message refl refl refl refl
+puts_later_out = delivers select_of_two_batches later_taken 1 later_message refl refl refl refl
 
-settles_later : Steps two_epochs later_put_out Progress later_settled (did quiet)
+settles_later : Steps select_of_two_batches later_put_out Progress later_settled (did quiet)
 unfolding kind_of receiver sender sends batches_of bounds_of policy_of
 settles_later =
-    progresses policy.None two_batches later_put_out [] [] []
-    (all_complete policy.None two_batches (events later_put_out.history) refl refl (λ t i. i))
+    progresses policy.None selected_batches later_put_out [] [] []
+    (all_complete policy.None selected_batches (events later_put_out.history) refl refl (λ t i. i))
     tt tt tt none_failed
     (below_all policy.None 0 first) (below_all policy.None 1 first) (below_all policy.None 2 first)
     0 (1 ∷ []) (lit< tt) refl refl
 
-acknowledges_later : Steps two_epochs later_settled (Ack 2) both_acknowledged (did (acked 2 (1 ∷ []) (rec_of 2 30 ∷ [])))
+acknowledges_later : Steps select_of_two_batches later_settled (Ack 2) both_acknowledged (did (acked 2 (1 ∷ []) (rec_of 2 30 ∷ [])))
 unfolding kind_of receiver bounds_of policy_of
 acknowledges_later = (1, record { declared = lit< tt; output = refl; live = refl; next = refl; settled = refl; there = inl (inl (lit< tt)) }, refl, refl)
 

@@ -11,7 +11,7 @@ use Rattle.fw_frontier.specs.Front.{Front, frontier_of}
 use Rattle.fw_time.specs.Stamp.{same}
 use Rattle.fw_model.specs.History.{pending, some_at, IsComplete}
 use Rattle.fw_model.specs.Machine.{Machine, first_state, events}
-use Rattle.fw_model.specs.Steps.{Steps, Takes, with_event, did, quiet, acked, Effect, HasEpoch}
+use Rattle.fw_model.specs.Steps.{Steps, LeadsTo, with_event, did, quiet, acked, Effect, HasEpoch}
 use Rattle.fw_examples.specs.OneSelect.{one_select_flow, rec_of}
 use Rattle.fw_examples.specs.OneSelectRuns.{one_of_two_batches, one_of_two, AcknowledgesWhatIsSettled, nothing_sent, IsIdleWithoutSteps, IsIdleWithoutBatches, two_selected_batches, two_selected, WaitsForTheRest, one_rec, IsIdleTooEarly}
 use Rattle.fw_examples.proofs.FrontierFacts.{within_all, within_until, one_not_same}
@@ -100,7 +100,7 @@ progress_at_nothing =
 no_epoch : (x : ℕ) → HasEpoch ([] ∷ [] ∷ [] ∷ []) x ⊎ (0 < 0) → ⊥
 no_epoch x h = omega arith
 
-no_ack_at_nothing : (other : Machine) (effect : Effect) → Takes nothing_sent progressed_at_nothing (Ack 2) other effect → ⊥
+no_ack_at_nothing : (other : Machine) (effect : Effect) → LeadsTo nothing_sent progressed_at_nothing (Ack 2) other effect → ⊥
 unfolding kind_of
 no_ack_at_nothing other effect t = no_epoch t.0 t.1.there
 
@@ -179,7 +179,7 @@ settles_input =
     (below_all policy.None 0 none) (λ t i. i) (λ t i. i)
     0 (0 ∷ []) (lit< tt) refl refl
 
-no_early_ack : (other : Machine) (effect : Effect) → Takes two_selected input_settled (Ack 2) other effect → ⊥
+no_early_ack : (other : Machine) (effect : Effect) → LeadsTo two_selected input_settled (Ack 2) other effect → ⊥
 unfolding bounds_of kind_of
 no_early_ack other effect t =
     true≢false (sym t.1.settled ∙ ap (λ x. frontier_of (bounds_of one_select_flow 2) none (x ∷ [])) t.1.next)
@@ -249,10 +249,10 @@ waits_for_the_rest = (
 abbrev rec_sent : Machine
 rec_sent = with_event one_rec (first_state one_rec) (Injected 0 0)
 
-no_early_recovery : (other : Machine) (effect : Effect) → Takes one_rec (first_state one_rec) Recover other effect → ⊥
+no_early_recovery : (other : Machine) (effect : Effect) → LeadsTo one_rec (first_state one_rec) Recover other effect → ⊥
 no_early_recovery other effect t = true≢false (sym t.4 ∙ none_failed t.0)
 
-no_early_delivery : (other : Machine) (effect : Effect) → Takes one_rec (first_state one_rec) (Deliver 0 None) other effect → ⊥
+no_early_delivery : (other : Machine) (effect : Effect) → LeadsTo one_rec (first_state one_rec) (Deliver 0 None) other effect → ⊥
 unfolding sender
 no_early_delivery other effect t = true≢false (sym t.1.enabled.is_pending)
 
@@ -260,7 +260,7 @@ sends_rec : Steps one_rec (first_state one_rec) (Inject 0) rec_sent (did quiet)
 unfolding kind_of batches_of
 sends_rec = injects one_rec (first_state one_rec) 0 0 refl refl (lit< tt) refl
 
-not_settled : (other : Machine) (effect : Effect) → Takes one_rec rec_sent (Ack 2) other effect → ⊥
+not_settled : (other : Machine) (effect : Effect) → LeadsTo one_rec rec_sent (Ack 2) other effect → ⊥
 unfolding bounds_of kind_of
 not_settled other effect t =
     true≢false (sym t.1.settled ∙ ap (λ x. frontier_of (bounds_of one_select_flow 2) none (x ∷ [])) t.1.next)

@@ -10,7 +10,7 @@ use Rattle.fw_flow.specs.declared.step.Step.{Step}
 use Rattle.fw_flow.specs.Dataflow.{kind_of, policy_of, sender, receiver, bounds_of, batches_of, max_of}
 use Rattle.fw_flow.specs.NodeFunction.{sends}
 use Rattle.fw_model.specs.Machine.{Machine, first_state, front_of, is_failed}
-use Rattle.fw_model.specs.Steps.{Outcome, did, Takes, GrowsTo, Run, quiet, cuts, recovered, with_event}
+use Rattle.fw_model.specs.Steps.{Outcome, did, LeadsTo, GrowsTo, Run, quiet, cuts, recovered, with_event}
 use Rattle.fw_examples.specs.Flows.{loop_counts_up, two_batches, pair}
 use Rattle.fw_examples.specs.UnderWay.{message, round, under_way, complete_fronts, complete_at}
 use Rattle.fw_examples.specs.Recovery.{with_serials, counting_failed, restored, steps_taken, outcomes_shown}
@@ -24,7 +24,7 @@ use Rattle.fw_examples.proofs.Largest.{restored_is_largest, settled_stays}
 abbrev pub after : List Event → Machine
 after h = record (first_state two_batches) { history = with_serials h; next = length h }
 
-takes_first_batch : Takes two_batches (first_state two_batches) (step.Inject 0) (with_event two_batches (first_state two_batches) (Inject 0 0)) quiet
+takes_first_batch : LeadsTo two_batches (first_state two_batches) (step.Inject 0) (with_event two_batches (first_state two_batches) (Inject 0 0)) quiet
 unfolding batches_of kind_of
 takes_first_batch = (0, record { input = refl; next = refl; there = lit< tt }, refl, refl, refl)
 
@@ -60,7 +60,7 @@ second_deliveries =
 abbrev one_injected : Machine
 one_injected = after_all two_batches (with_event two_batches (first_state two_batches) (Inject 0 0)) first_deliveries
 
-takes_second_batch : Takes two_batches one_injected (step.Inject 0) (with_event two_batches one_injected (Inject 0 1)) quiet
+takes_second_batch : LeadsTo two_batches one_injected (step.Inject 0) (with_event two_batches one_injected (Inject 0 1)) quiet
 unfolding kind_of policy_of sender receiver bounds_of batches_of max_of sends
 takes_second_batch = (1, record { input = refl; next = refl; there = lit< tt }, refl, refl, refl)
 
@@ -117,14 +117,14 @@ grows = record {
 abbrev pub all_settled : Machine
 all_settled = record (after under_way) { settled = complete_fronts }
 
-takes_progress : Takes two_batches (after under_way) step.Progress all_settled quiet
+takes_progress : LeadsTo two_batches (after under_way) step.Progress all_settled quiet
 unfolding kind_of policy_of bounds_of max_of
 takes_progress = (complete_at, complete_fronts, grows, refl, refl)
 
-takes_failure : Takes two_batches all_settled (step.Fail (3 ∷ [])) counting_failed quiet
+takes_failure : LeadsTo two_batches all_settled (step.Fail (3 ∷ [])) counting_failed quiet
 takes_failure = (3, lit< tt, refl, refl, refl, refl)
 
-takes_recovery : Takes two_batches counting_failed step.Recover (recovered two_batches counting_failed restored complete_fronts) (cuts restored)
+takes_recovery : LeadsTo two_batches counting_failed step.Recover (recovered two_batches counting_failed restored complete_fronts) (cuts restored)
 takes_recovery = (3, restored, complete_fronts, lit< tt, refl, restored_is_largest, settled_stays, refl, refl)
 
 -- what is left after all deliveries

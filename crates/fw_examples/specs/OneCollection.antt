@@ -12,20 +12,20 @@ use Rattle.fw_model.specs.Steps.{Run, did, idle, quiet, cuts, lows, acked}
 use Rattle.fw_examples.specs.OneSelect.{one_select_of, rec_of, src, big, out, src_to_big, big_to_out}
 
 -- two batches of a rec that is selected
-abbrev pub two_batches : List (List Rec)
-two_batches = (rec_of 1 20 ∷ []) ∷ (rec_of 2 30 ∷ []) ∷ []
+abbrev pub selected_batches : List (List Rec)
+selected_batches = (rec_of 1 20 ∷ []) ∷ (rec_of 2 30 ∷ []) ∷ []
 
 -- the dataflow with these batches, whose select writes checkpoints when asked
 abbrev pub written_when_asked : System
-written_when_asked = one_select_of policy.Lazy two_batches
+written_when_asked = one_select_of policy.Lazy selected_batches
 
 -- the frontier of epoch 0
 abbrev pub first : Front
 first = (1 ∷ []) ∷ []
 
 -- each node keeps epoch 0
-abbrev pub first_epoch : Choice
-first_epoch = record { cuts = At first ∷ At first ∷ At first ∷ []; notes = first ∷ first ∷ first ∷ [] }
+abbrev pub first_epoch_everywhere : Choice
+first_epoch_everywhere = record { cuts = At first ∷ At first ∷ At first ∷ []; notes = first ∷ first ∷ first ∷ [] }
 
 -- Once the select wrote epoch 0 and the output acknowledged it, a collection takes epoch 0 as the low watermark, a second
 -- one does nothing, and when all fail they come back with epoch 0.
@@ -36,7 +36,7 @@ CollectsTheFirstEpoch =
     (Inject src ∷ Deliver src_to_big None ∷ Deliver big_to_out None ∷ Progress ∷ Checkpoint big ∷ Persist ∷ Ack out
     ∷ Collect ∷ Collect ∷ Fail (src ∷ big ∷ out ∷ []) ∷ Recover ∷ [])
     (did quiet ∷ did quiet ∷ did quiet ∷ did quiet ∷ did quiet ∷ did quiet ∷ did (acked out (0 ∷ []) (rec_of 1 20 ∷ []))
-    ∷ did (lows first_epoch) ∷ idle ∷ did quiet ∷ did (cuts first_epoch) ∷ [])
+    ∷ did (lows first_epoch_everywhere) ∷ idle ∷ did quiet ∷ did (cuts first_epoch_everywhere) ∷ [])
     last
     × (last.low ≡ first ∷ first ∷ first ∷ [])
     × (last.settled ≡ first ∷ first ∷ first ∷ [])

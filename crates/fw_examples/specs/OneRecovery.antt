@@ -11,12 +11,12 @@ use Rattle.fw_model.specs.Steps.{Run, did, quiet, cuts, acked}
 use Rattle.fw_examples.specs.OneSelect.{one_select, rec_of, src, big, out, src_to_big, big_to_out}
 
 -- two batches of a rec that is selected
-abbrev pub two_batches : List (List Rec)
-two_batches = (rec_of 1 20 ∷ []) ∷ (rec_of 2 30 ∷ []) ∷ []
+abbrev pub selected_batches : List (List Rec)
+selected_batches = (rec_of 1 20 ∷ []) ∷ (rec_of 2 30 ∷ []) ∷ []
 
 -- the dataflow with these batches
-abbrev pub two_epochs : System
-two_epochs = one_select two_batches
+abbrev pub select_of_two_batches : System
+select_of_two_batches = one_select selected_batches
 
 -- the input and the select keep epoch 0, and the output stays as it is; notifications, of which there are none, would count
 -- at epoch 0
@@ -44,7 +44,7 @@ first_epoch_alone = record {
 -- The select settles epoch 0 and fails once epoch 1 is sent to it: epoch 0 stays with it, and the input sends epoch 1 anew.
 abbrev pub KeepsTheSettledEpoch : Type 0
 KeepsTheSettledEpoch =
-    Run two_epochs (first_state two_epochs)
+    Run select_of_two_batches (first_state select_of_two_batches)
     (Inject src ∷ Deliver src_to_big None ∷ Progress ∷ Inject src ∷ Fail (big ∷ []) ∷ Recover ∷ [])
     (did quiet ∷ did quiet ∷ did quiet ∷ did quiet ∷ did quiet ∷ did (cuts first_epoch_kept) ∷ [])
     first_epoch_alone
@@ -61,7 +61,7 @@ acknowledged_epoch_kept = record {
 abbrev pub ResumesAfterBothFailed : Type 0
 ResumesAfterBothFailed =
     (last : Machine)
-    × Run two_epochs (first_state two_epochs)
+    × Run select_of_two_batches (first_state select_of_two_batches)
     (Inject src ∷ Deliver src_to_big None ∷ Progress ∷ Fail (big ∷ []) ∷ Deliver big_to_out None ∷ Progress ∷ Ack out ∷ Fail (out ∷ []) ∷ Recover
     ∷ Inject src ∷ Deliver src_to_big None ∷ Deliver big_to_out None ∷ Progress ∷ Ack out ∷ [])
     (did quiet ∷ did quiet ∷ did quiet ∷ did quiet ∷ did quiet ∷ did quiet ∷ did (acked out (0 ∷ []) (rec_of 1 20 ∷ [])) ∷ did quiet

@@ -6,7 +6,7 @@ use Rattle.fw_flow.specs.Dataflow.{bounds_of}
 use Rattle.fw_model.specs.Choice.{until}
 use Rattle.fw_flow.specs.NodeFunction.{place, stamp}
 use Rattle.fw_model.specs.Machine.{Machine, Numbered, Write, acknowledged, collected, front_of}
-use Rattle.fw_model.specs.Steps.{front_of_cut, is_in_flight, is_below}
+use Rattle.fw_model.specs.Steps.{front_of_cut, is_in_flight, lies_below}
 use Rattle.fw_model.specs.LawsOfRestoring as restoring
 use Rattle.fw_examples.specs.OneSelect.{big}
 use Rattle.fw_examples.specs.LoggedEvents.{each_written}
@@ -35,11 +35,11 @@ pub record RestoringApplies : Type 0 where
   pub batch_to_come : restoring.BatchesToComeLieOutsideLow
       → frontier_of (bounds_of total_flow src) (front_of output_failed.low src) (4 ∷ []) ≡ false
   pub collected_below : restoring.CollectedIsWhatLiesBelow
-      → AllByRecursion (λ (write : Write). (write.progress ≡ collected) ↔ (is_below totals output_failed.low output_failed.history write.node write.written ≡ true)) output_failed.writes
+      → AllByRecursion (λ (write : Write). (write.progress ≡ collected) ↔ (lies_below totals output_failed.low output_failed.history write.node write.written ≡ true)) output_failed.writes
   pub before : Machine
   pub two_asked : length before.writes ≡ 2
   pub forgotten : restoring.WhatIsForgottenWasAcknowledged
-      → AllByRecursion (λ (write : Write). is_below totals (map front_of_cut two_epochs_kept.cuts) before.history write.node write.written ≡ true
+      → AllByRecursion (λ (write : Write). lies_below totals (map front_of_cut two_epochs_kept.cuts) before.history write.node write.written ≡ true
       → is_in_flight write.progress ≡ false) before.writes
 
 -- the laws of restoring, of a select that writes each event, when it fails with both of its events acknowledged

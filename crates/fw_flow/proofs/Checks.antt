@@ -17,7 +17,7 @@ use Rattle.fw_flow.specs.declared.raw.Declaration.TheVariants.{Loop as ALoop, No
 use Rattle.fw_flow.specs.declared.raw.Declared.{Declared}
 use Rattle.fw_flow.specs.declared.raw.RawKind.{RawKind}
 use Rattle.fw_flow.specs.declared.raw.RawKind.TheVariants.{Input, OutputEpoch, OutputNumber, Select, Concat, Distinct, Join, Sum, Enter, Feedback, Leave, Total, Sequence, Ledger, Regroup}
-use Rattle.fw_flow.specs.Check.{loop_named, are_names_declared, NamesTheDeclared, HasItsDegrees, JoinsDomains, HasAllowedPolicy, IsWithinLimitsAfter, StaysWithinLimits, all_lines, node_lines, edge_lines, HoldsBelow, IsFirstBreak, Holds, IsBroken, rules, IsFirstBrokenOf, IsFirstBroken, IsRawGroupSize, IsChecked}
+use Rattle.fw_flow.specs.Check.{loop_named, are_names_declared, NamesTheDeclared, HasItsDegrees, JoinsDomains, HasAllowedPolicy, IsWithinLimitsAfter, StaysWithinLimits, all_lines, node_lines, edge_lines, HoldsBelow, IsFirstBreak, KeepsRule, IsBroken, rules, IsFirstBrokenOf, IsFirstBroken, IsRawGroupSize, IsChecked}
 use Rattle.fw_flow.specs.Dataflow.{Dataflow, idle_node, kind_of, sender, receiver, max_of}
 use Rattle.std.specs.Str.{bytes_eq}
 use Rattle.fw_flow.specs.Names.{has_name}
@@ -405,26 +405,26 @@ loop_giver raw l lt =
 
 -- ---- declarations that break no rule are well formed
 
-names_at : (raw : List Declared) → Holds raw F3 → (i line : ℕ) (d : Declaration) → slice_get raw i ≡ Some (record { line = line; declaration = d })
+names_at : (raw : List Declared) → KeepsRule raw F3 → (i line : ℕ) (d : Declaration) → slice_get raw i ≡ Some (record { line = line; declaration = d })
     → are_names_declared (names_of raw) d ≡ true
 names_at raw h i line d there =
     subst (λ o. IfSome o (λ (x : Declared). are_names_declared (names_of raw) x.declaration ≡ true)) there
     (h i (omega (arith, length-all_lines raw, slice_get_within raw i (record { line = line; declaration = d }) there)))
 
-limits_at : (raw : List Declared) → Holds raw F8 → (i line : ℕ) (d : Declaration) → slice_get raw i ≡ Some (record { line = line; declaration = d })
+limits_at : (raw : List Declared) → KeepsRule raw F8 → (i line : ℕ) (d : Declaration) → slice_get raw i ≡ Some (record { line = line; declaration = d })
     → IsWithinLimitsAfter (take i raw) d
 limits_at raw h i line d there =
     subst (λ o. IfSome o (λ (x : Declared). IsWithinLimitsAfter (take i raw) x.declaration)) there
     (h i (omega (arith, length-all_lines raw, slice_get_within raw i (record { line = line; declaration = d }) there)))
 
-loops_declared : (raw : List Declared) → Holds raw F3 → (p : ℕ) → p < length (flow_of raw).nodes → IsLoopDeclared (flow_of raw) (kind_of (flow_of raw) p)
+loops_declared : (raw : List Declared) → KeepsRule raw F3 → (p : ℕ) → p < length (flow_of raw).nodes → IsLoopDeclared (flow_of raw) (kind_of (flow_of raw) p)
 loops_declared raw h p lt =
     let g = node_giver raw p lt in
     subst (IsLoopDeclared (flow_of raw)) (sym g.is_kind)
     (loop_declared (flow_of raw) (loop_names raw) g.kind (length-loops raw) (names_at raw h g.place g.line (ANode g.name g.kind g.policy) g.there))
 
 -- both ends of an edge are declared
-pub both_declared : (raw : List Declared) → Holds raw F3 → (e : ℕ) → e < length (flow_of raw).edges
+pub both_declared : (raw : List Declared) → KeepsRule raw F3 → (e : ℕ) → e < length (flow_of raw).edges
     → (sender (flow_of raw) e < length (flow_of raw).nodes) × (receiver (flow_of raw) e < length (flow_of raw).nodes)
 both_declared raw h e lt =
     let g = edge_giver raw e lt in
@@ -435,7 +435,7 @@ both_declared raw h e lt =
     let to = place-below names g.to both.1 in
     (omega (arith, count, from, g.is_sender), omega (arith, count, to, g.is_receiver))
 
-few_nodes : (raw : List Declared) → Holds raw F8 → length (flow_of raw).nodes ≤ 256
+few_nodes : (raw : List Declared) → KeepsRule raw F8 → length (flow_of raw).nodes ≤ 256
 few_nodes raw h =
     elim (cases_lt 256 (length (flow_of raw).nodes)) [
       | inl over ↦
@@ -445,7 +445,7 @@ few_nodes raw h =
       | inr within ↦ within
     ]
 
-few_edges : (raw : List Declared) → Holds raw F8 → length (flow_of raw).edges ≤ 512
+few_edges : (raw : List Declared) → KeepsRule raw F8 → length (flow_of raw).edges ≤ 512
 few_edges raw h =
     elim (cases_lt 512 (length (flow_of raw).edges)) [
       | inl over ↦
@@ -455,7 +455,7 @@ few_edges raw h =
       | inr within ↦ within
     ]
 
-few_loops : (raw : List Declared) → Holds raw F8 → length (flow_of raw).loops ≤ 64
+few_loops : (raw : List Declared) → KeepsRule raw F8 → length (flow_of raw).loops ≤ 64
 few_loops raw h =
     elim (cases_lt 64 (length (flow_of raw).loops)) [
       | inl over ↦
@@ -465,7 +465,7 @@ few_loops raw h =
       | inr within ↦ within
     ]
 
-limits_hold : (raw : List Declared) → Holds raw F8 → IsWithinLimits (flow_of raw)
+limits_hold : (raw : List Declared) → KeepsRule raw F8 → IsWithinLimits (flow_of raw)
 limits_hold raw h = record {
   nodes = few_nodes raw h;
   edges = few_edges raw h;
@@ -480,7 +480,7 @@ limits_hold raw h = record {
       subst IsGroupSize (sym g.is_kind) (size_from_raw (loop_names raw) g.kind range.1);
 }
 
-pub IsWellFormed-from_rules : (raw : List Declared) → Holds raw F3 → Holds raw F4 → Holds raw F5 → Holds raw F6 → Holds raw F7 → Holds raw F8 → Holds raw F9 → IsWellFormed (flow_of raw)
+pub IsWellFormed-from_rules : (raw : List Declared) → KeepsRule raw F3 → KeepsRule raw F4 → KeepsRule raw F5 → KeepsRule raw F6 → KeepsRule raw F7 → KeepsRule raw F8 → KeepsRule raw F9 → IsWellFormed (flow_of raw)
 IsWellFormed-from_rules raw names degrees domains walks policies limits borders =
     let nodes = length-node_lines raw in
     let edges = length-edge_lines raw in
@@ -512,21 +512,21 @@ limits_rule_at raw wf i None there = tt
 limits_rule_at raw wf i (Some d) there = within_limits raw wf.limits i d.line d.declaration there
 
 -- each rule holds of a well-formed flow
-pub Holds-from_IsWellFormed : (raw : List Declared) → IsWellFormed (flow_of raw) → (code : Code) → Holds raw code
-Holds-from_IsWellFormed raw wf F3 = λ i lt. names_rule_at raw wf i (slice_get raw i) refl
-Holds-from_IsWellFormed raw wf F4 = λ p lt. (wf.in_degrees p (omega (arith, length-node_lines raw)), wf.out_degrees p (omega (arith, length-node_lines raw)))
-Holds-from_IsWellFormed raw wf F5 = λ e lt. wf.domains e (omega (arith, length-edge_lines raw))
-Holds-from_IsWellFormed raw wf F6 = record { fed_back = wf.feedback; never_entered = wf.no_enter }
-Holds-from_IsWellFormed raw wf F7 = λ p lt. wf.policies p (omega (arith, length-node_lines raw))
-Holds-from_IsWellFormed raw wf F8 = λ i lt. limits_rule_at raw wf i (slice_get raw i) refl
-Holds-from_IsWellFormed raw wf F9 = (wf.input, wf.output)
-Holds-from_IsWellFormed raw wf code = tt
+pub KeepsRule-from_IsWellFormed : (raw : List Declared) → IsWellFormed (flow_of raw) → (code : Code) → KeepsRule raw code
+KeepsRule-from_IsWellFormed raw wf F3 = λ i lt. names_rule_at raw wf i (slice_get raw i) refl
+KeepsRule-from_IsWellFormed raw wf F4 = λ p lt. (wf.in_degrees p (omega (arith, length-node_lines raw)), wf.out_degrees p (omega (arith, length-node_lines raw)))
+KeepsRule-from_IsWellFormed raw wf F5 = λ e lt. wf.domains e (omega (arith, length-edge_lines raw))
+KeepsRule-from_IsWellFormed raw wf F6 = record { fed_back = wf.feedback; never_entered = wf.no_enter }
+KeepsRule-from_IsWellFormed raw wf F7 = λ p lt. wf.policies p (omega (arith, length-node_lines raw))
+KeepsRule-from_IsWellFormed raw wf F8 = λ i lt. limits_rule_at raw wf i (slice_get raw i) refl
+KeepsRule-from_IsWellFormed raw wf F9 = (wf.input, wf.output)
+KeepsRule-from_IsWellFormed raw wf code = tt
 
 first_break-false : (Rule : ℕ → Type 0) (lines : List ℕ) (line : ℕ) → IsFirstBreak Rule lines line → HoldsBelow Rule (length lines) → ⊥
 first_break-false Rule lines line first holds = first.broken (holds first.place (slice_get_within lines first.place line first.there))
 
 -- a rule is not both broken and kept
-pub broken_or_holds : (raw : List Declared) (code : Code) (line : ℕ) → IsBroken raw code line → Holds raw code → ⊥
+pub broken_or_holds : (raw : List Declared) (code : Code) (line : ℕ) → IsBroken raw code line → KeepsRule raw code → ⊥
 broken_or_holds raw F3 line broken holds = first_break-false (NamesTheDeclared raw) (all_lines raw) line broken holds
 broken_or_holds raw F4 line broken holds = first_break-false (HasItsDegrees (flow_of raw)) (node_lines raw) line broken holds
 broken_or_holds raw F5 line broken holds = first_break-false (JoinsDomains (flow_of raw)) (edge_lines raw) line broken holds
@@ -572,7 +572,7 @@ broken_of (code ∷ codes) raw r (inr later) = broken_of codes raw r later.1
 -- declarations of a well-formed flow are not refused
 pub checked_or_refused : (raw : List Declared) (flow : Dataflow) (r : Refusal) → IsChecked raw flow → IsFirstBroken raw r → ⊥
 checked_or_refused raw flow r checked first =
-    broken_or_holds raw r.code r.line (broken_of rules raw r first) (Holds-from_IsWellFormed raw checked.well_formed r.code)
+    broken_or_holds raw r.code r.line (broken_of rules raw r first) (KeepsRule-from_IsWellFormed raw checked.well_formed r.code)
 
 -- declarations are those of one dataflow
 pub one_value : (raw : List Declared) (flow other : Dataflow) → IsChecked raw flow → IsChecked raw other → flow ≡ other

@@ -22,7 +22,7 @@ use Rattle.fw_flow.specs.declared.raw.Declaration.TheVariants.{Loop as ALoop, No
 use Rattle.fw_flow.specs.declared.raw.Declared.{Declared}
 use Rattle.fw_flow.specs.declared.raw.NameSpaces.{NameSpaces}
 use Rattle.fw_flow.specs.declared.walks.Link.{Link}
-use Rattle.fw_flow.specs.Check.{HoldsBelow, IsFirstBreak, IsFirstBreakIfAny, HasItsDegrees, JoinsDomains, HasAllowedPolicy, AreWalksRight, IsWalkWrong, HasBorders, node_lines, edge_lines, Holds, later_rules, IsFirstBrokenOf, IsFirstBroken}
+use Rattle.fw_flow.specs.Check.{HoldsBelow, IsFirstBreak, IsFirstBreakIfAny, HasItsDegrees, JoinsDomains, HasAllowedPolicy, AreWalksRight, IsWalkWrong, HasBorders, node_lines, edge_lines, KeepsRule, later_rules, IsFirstBrokenOf, IsFirstBroken}
 use Rattle.fw_flow.specs.Dataflow.{Dataflow, kind_of, in_edges, out_edges, edges_into, edges_from}
 use Rattle.fw_flow.specs.Draft.{IsDraftOf, LaterRulesHold}
 use Rattle.fw_flow.specs.Flow.{edges_at, IsIndexed}
@@ -61,7 +61,7 @@ pub count_of_nodes : (parts : Parts) (raw : List Declared) → ArePartsOf parts 
 count_of_nodes parts raw of_parts = ap length of_parts.all_nodes ∙ length-map (flow_of raw).nodes capped_node
 
 -- the links join nodes of the flow
-pub links_within : (parts : Parts) (raw : List Declared) → ArePartsOf parts (names_of raw) raw → Holds raw F3 → (links : List Link) → links ≡ map link_of parts.edges.items
+pub links_within : (parts : Parts) (raw : List Declared) → ArePartsOf parts (names_of raw) raw → KeepsRule raw F3 → (links : List Link) → links ≡ map link_of parts.edges.items
     → AreWithin (length parts.nodes.items) links
 links_within parts raw of_parts declared links is =
     let flow = flow_of raw in
@@ -240,13 +240,13 @@ pub refused_whole : (code : Code) (Q : Refusal → Type 0) (fault : ReadFault) �
 refused_whole code Q fault e h = subst (IfRefused Q) (sym e) h
 
 -- after declared names, the first broken of the rules that follow is the first broken rule
-pub IsFirstBroken-from_later : (raw : List Declared) (fault : ReadFault) → Holds raw F3 → IfRefused (IsFirstBrokenOf later_rules raw) fault → IfRefused (IsFirstBroken raw) fault
+pub IsFirstBroken-from_later : (raw : List Declared) (fault : ReadFault) → KeepsRule raw F3 → IfRefused (IsFirstBrokenOf later_rules raw) fault → IfRefused (IsFirstBroken raw) fault
 IsFirstBroken-from_later raw (Refused r) names first = inr (names, first)
 IsFirstBroken-from_later raw NoMemory names first = tt
 
 -- ---- the flow
 
-pub well_formed_draft : (raw : List Declared) → Holds raw F3 → LaterRulesHold raw → IsWellFormed (flow_of raw)
+pub well_formed_draft : (raw : List Declared) → KeepsRule raw F3 → LaterRulesHold raw → IsWellFormed (flow_of raw)
 well_formed_draft raw names all = IsWellFormed-from_rules raw names all.degrees all.domains all.walks all.policies all.limits all.borders
 
 -- the flow that a draft's parts make
@@ -284,7 +284,7 @@ names_of_flow raw = (
 )
 
 -- the flow of a draft that breaks no rule is kept with its names and edges
-pub IsIndexed-from_draft : (draft : Draft) (raw : List Declared) (names : NameSpaces) → names ≡ names_of raw → IsDraftOf draft raw → Holds raw F3 → LaterRulesHold raw
+pub IsIndexed-from_draft : (draft : Draft) (raw : List Declared) (names : NameSpaces) → names ≡ names_of raw → IsDraftOf draft raw → KeepsRule raw F3 → LaterRulesHold raw
     → IsIndexed (drafted draft) names.nodes names.edges draft.incoming.items draft.outgoing.items
 unfolding in_edges out_edges
 IsIndexed-from_draft draft raw names taken of_draft names_hold all =

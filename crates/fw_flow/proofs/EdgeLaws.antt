@@ -10,7 +10,7 @@ use Rattle.fw_flow.specs.declared.kind.Kind.TheVariants.{OutputEpoch, Sequence}
 use Rattle.fw_flow.specs.Dataflow.{System, Dataflow, idle_node, kind_of, sender, receiver, domain_of, domain_of_kind, out_domain_of, out_domain_of_kind, greatest_of_kind, bounds_of, bounds_of_domain}
 use Rattle.fw_flow.specs.WellFormed.{IsWellFormed, IsGroupSize}
 use Rattle.fw_flow.specs.Projection.{phi_of_kind, psi_of_kind, psi_back_of_kind, phi, phi_by_count, psi, psi_back, table_count, IsSentTable}
-use Rattle.fw_flow.specs.ProjectedStamps.{JoinsDomains}
+use Rattle.fw_flow.specs.ProjectedStamps.{AreDomainsOf}
 use Rattle.fw_flow.proofs.ProjectionLaws.{phi-by_table}
 
 -- past the last node stand idle outputs
@@ -53,7 +53,7 @@ edge-domains flow w e = by_place (out_domain_of flow (sender flow e) ≡ domain_
         ap (out_domain_of_kind flow) (ap (kind_of flow) ends.0 ∙ kind-past flow (length flow.nodes) (omega arith))
         ∙ sym (ap (domain_of_kind flow) (ap (kind_of flow) ends.1 ∙ kind-past flow (length flow.nodes) (omega arith)))
 
-pub edge-joins : (flow : Dataflow) → IsWellFormed flow → (e : ℕ) → JoinsDomains (kind_of flow (sender flow e)) (bounds_of flow (sender flow e)) (bounds_of flow (receiver flow e))
+pub edge-joins : (flow : Dataflow) → IsWellFormed flow → (e : ℕ) → AreDomainsOf (kind_of flow (sender flow e)) (bounds_of flow (sender flow e)) (bounds_of flow (receiver flow e))
 unfolding bounds_of
 edge-joins flow w e = (flow, refl, ap (bounds_of_domain flow) (sym (edge-domains flow w e)))
 

@@ -19,8 +19,8 @@ use Rattle.fw_frontier.proofs.NamesLaws.{frontier-closed}
 use Rattle.fw_flow.specs.declared.kind.Kind.TheVariants.{Enter, Feedback, Leave, Sequence, Regroup}
 use Rattle.fw_flow.specs.declared.projection.Way.{Way}
 use Rattle.fw_flow.specs.declared.projection.Way.TheVariants.{First, Next, NextAfterFirst, Before, Outer, OuterOfFirst}
-use Rattle.fw_flow.specs.Projection.{sent_count, phi, IsSentTable, number_of, each_counter, some_counter, phi_of_kind, psi_of_kind, psi_back_of_kind, table_count}
-use Rattle.fw_flow.specs.ProjectedStamps.{JoinsDomains, IsNest, image, images, entered_outside, front_until}
+use Rattle.fw_flow.specs.Projection.{sent_count, phi, IsSentTable, first_number_of, each_counter, some_counter, phi_of_kind, psi_of_kind, psi_back_of_kind, table_count}
+use Rattle.fw_flow.specs.ProjectedStamps.{AreDomainsOf, IsNest, image, images, entered_outside, front_until}
 use Rattle.fw_flow.specs.declared.event.Event.{Event}
 use Rattle.fw_flow.specs.declared.kind.Kind.{Kind}
 use Rattle.fw_flow.specs.Dataflow.{System, kind_of, sender, max_of, greatest_number, out_domain_of_kind, greatest_of_kind, bounds_of_domain}
@@ -296,10 +296,10 @@ outer_of_first-moved s r m os e h = record {
 -- ---- numbers
 
 -- a stamp of one coordinate
-pub of_line : (b : Bounds) (u : Stamp) → length b.greatest ≡ 1 → in_domain b u ≡ true → u ≡ number_of u ∷ []
+pub of_line : (b : Bounds) (u : Stamp) → length b.greatest ≡ 1 → in_domain b u ≡ true → u ≡ first_number_of u ∷ []
 of_line b u l h = by u (leq-length u b.greatest h ∙ l)
   where
-    by : (u : Stamp) → length u ≡ 1 → u ≡ number_of u ∷ []
+    by : (u : Stamp) → length u ≡ 1 → u ≡ first_number_of u ∷ []
     by [] e = absurd (omega arith)
     by (x ∷ []) e = refl
     by (x ∷ y ∷ u) e = absurd (omega arith)
@@ -308,7 +308,7 @@ of_line b u l h = by u (leq-length u b.greatest h ∙ l)
 one-line : (b : Bounds) (o : Stamp) (os : Front) → length b.greatest ≡ 1 → IsCanonical b (o ∷ os) → os ≡ []
 one-line b o [] l h = refl
 one-line b o (q ∷ os) l h =
-    absurd (by (number_of o) (number_of q) (sym (λ i. leq (of_line b o l h.0.in_the_domain i) (of_line b q l h.1.0.in_the_domain i) || leq (of_line b q l h.1.0.in_the_domain i) (of_line b o l h.0.in_the_domain i)) ∙ h.0.incomparable.0))
+    absurd (by (first_number_of o) (first_number_of q) (sym (λ i. leq (of_line b o l h.0.in_the_domain i) (of_line b q l h.1.0.in_the_domain i) || leq (of_line b q l h.1.0.in_the_domain i) (of_line b o l h.0.in_the_domain i)) ∙ h.0.incomparable.0))
   where
     by : (x y : ℕ) → ((nat_le x y && true) || (nat_le y x && true)) ≡ false → ⊥
     by x y e = grind (arith, nat_tests)
@@ -320,23 +320,23 @@ one-limit b (q ∷ os) o x l h some e f =
     (λ i. line i ∷ one-line b q os l h i) ∙ ap (λ n. (n ∷ []) ∷ []) (sym (f ∙ ap (λ u. slice_index u 0) (e ∙ line)))
 
 -- the numbers below a limit of the domain
-pub names-below_limit : (b : Bounds) (g limit : ℕ) (os : Front) → b.greatest ≡ g ∷ [] → Names b os (frontier_of b ((limit ∷ []) ∷ [])) → Names b os (λ u. in_domain b u && nat_lt (number_of u) limit)
-names-below_limit b g limit os e n = names-numbers b os (Some limit) number_of by (names-limit b g limit os e n)
+pub names-below_limit : (b : Bounds) (g limit : ℕ) (os : Front) → b.greatest ≡ g ∷ [] → Names b os (frontier_of b ((limit ∷ []) ∷ [])) → Names b os (λ u. in_domain b u && nat_lt (first_number_of u) limit)
+names-below_limit b g limit os e n = names-numbers b os (Some limit) first_number_of by (names-limit b g limit os e n)
   where
-    by : (t : Stamp) → length t ≡ length b.greatest → number_of t ≡ slice_index t 0
+    by : (t : Stamp) → length t ≡ length b.greatest → first_number_of t ≡ slice_index t 0
     by [] l = refl
     by (x ∷ t) l = refl
 
 -- numbers of a domain by another test
-pub names-numbers_by : (b : Bounds) (g : ℕ) (os : Front) (f : ℕ → Bool) (test : Frontier) → b.greatest ≡ g ∷ [] → Names b os (λ u. in_domain b u && f (number_of u))
-    → ((u : Stamp) → number_of u ≤ g → f (number_of u) ≡ test u) → Names b os (λ u. in_domain b u && test u)
-names-numbers_by b g os f test e n h = names-as b os (λ u. in_domain b u && f (number_of u)) (λ u. in_domain b u && test u) n (λ u. by u (in_domain b u) refl)
+pub names-numbers_by : (b : Bounds) (g : ℕ) (os : Front) (f : ℕ → Bool) (test : Frontier) → b.greatest ≡ g ∷ [] → Names b os (λ u. in_domain b u && f (first_number_of u))
+    → ((u : Stamp) → first_number_of u ≤ g → f (first_number_of u) ≡ test u) → Names b os (λ u. in_domain b u && test u)
+names-numbers_by b g os f test e n h = names-as b os (λ u. in_domain b u && f (first_number_of u)) (λ u. in_domain b u && test u) n (λ u. by u (in_domain b u) refl)
   where
-    small : (u : Stamp) → leq u (g ∷ []) ≡ true → number_of u ≤ g
+    small : (u : Stamp) → leq u (g ∷ []) ≡ true → first_number_of u ≤ g
     small [] k = absurd (cc)
     small (x ∷ u) k = le-from x g (and_left _ _ k)
 
-    by : (u : Stamp) (c : Bool) → in_domain b u ≡ c → (c && f (number_of u)) ≡ (c && test u)
+    by : (u : Stamp) (c : Bool) → in_domain b u ≡ c → (c && f (first_number_of u)) ≡ (c && test u)
     by u true k = h u (small u (sym (ap (leq u) e) ∙ k))
     by u false k = refl
 
@@ -419,21 +419,21 @@ psi_back-regroup n limit x p =
 -- ---- the domains of each kind
 
 -- the greatest stamps of the domains that an enter joins
-enter-domains : (l : ℕ) (s r : Bounds) → JoinsDomains (Enter l) s r → (m : ℕ) × (s.greatest ≡ greatest_number ∷ []) × (r.greatest ≡ nest s.greatest m)
+enter-domains : (l : ℕ) (s r : Bounds) → AreDomainsOf (Enter l) s r → (m : ℕ) × (s.greatest ≡ greatest_number ∷ []) × (r.greatest ≡ nest s.greatest m)
 enter-domains l s r d =
     let e : s.greatest ≡ greatest_number ∷ [] = ap (λ b. b.greatest) d.1 in
     let f : r.greatest ≡ nest (greatest_number ∷ []) (max_of d.0 l) = ap (λ b. b.greatest) d.2 in
     (max_of d.0 l, e, f ∙ ap (λ b. nest b (max_of d.0 l)) (sym e))
 
 -- those that a leave joins
-leave-domains : (l : ℕ) (s r : Bounds) → JoinsDomains (Leave l) s r → (s.greatest ≡ nest r.greatest (counter s.greatest)) × (r.greatest ≡ greatest_number ∷ [])
+leave-domains : (l : ℕ) (s r : Bounds) → AreDomainsOf (Leave l) s r → (s.greatest ≡ nest r.greatest (counter s.greatest)) × (r.greatest ≡ greatest_number ∷ [])
 leave-domains l s r d =
     let e : s.greatest ≡ nest (greatest_number ∷ []) (max_of d.0 l) = ap (λ b. b.greatest) d.1 in
     let f : r.greatest ≡ greatest_number ∷ [] = ap (λ b. b.greatest) d.2 in
     (e ∙ (λ i. nest (sym f i) (sym (ap counter e) i)), f)
 
 -- those that a feedback joins
-feedback-domains : (l : ℕ) (s r : Bounds) → JoinsDomains (Feedback l) s r
+feedback-domains : (l : ℕ) (s r : Bounds) → AreDomainsOf (Feedback l) s r
     → (s.greatest ≡ nest (greatest_number ∷ []) (counter s.greatest)) × (r.greatest ≡ nest (greatest_number ∷ []) (counter s.greatest))
 feedback-domains l s r d =
     let e : s.greatest ≡ nest (greatest_number ∷ []) (max_of d.0 l) = ap (λ b. b.greatest) d.1 in
@@ -441,11 +441,11 @@ feedback-domains l s r d =
     (e ∙ ap (nest (greatest_number ∷ [])) (sym (ap counter e)), f ∙ ap (nest (greatest_number ∷ [])) (sym (ap counter e)))
 
 -- those that a regroup joins
-pub regroup-domains : (n : ℕ) (s r : Bounds) → JoinsDomains (Regroup n) s r → (s.greatest ≡ greatest_number ∷ []) × (r.greatest ≡ greatest_number ∷ [])
+pub regroup-domains : (n : ℕ) (s r : Bounds) → AreDomainsOf (Regroup n) s r → (s.greatest ≡ greatest_number ∷ []) × (r.greatest ≡ greatest_number ∷ [])
 regroup-domains n s r d = (ap (λ b. b.greatest) d.1, ap (λ b. b.greatest) d.2)
 
 -- and those that a sequence joins
-pub sequence-domains : (s r : Bounds) → JoinsDomains Sequence s r → (s.greatest ≡ greatest_number ∷ []) × (r.greatest ≡ greatest_number ∷ [])
+pub sequence-domains : (s r : Bounds) → AreDomainsOf Sequence s r → (s.greatest ≡ greatest_number ∷ []) × (r.greatest ≡ greatest_number ∷ [])
 sequence-domains s r d = (ap (λ b. b.greatest) d.1, ap (λ b. b.greatest) d.2)
 
 -- the stamps of a domain of one to three coordinates may be nested
@@ -455,26 +455,26 @@ nests b n (o ∷ os) e some few h =
     let l = leq-length o b.greatest h.0 in
     ((omega (arith, l), omega (arith, l)), nests b n os e some few h.1)
 
-pub nests-enter_sender : (l : ℕ) (s r : Bounds) (os : Front) → JoinsDomains (Enter l) s r → IsCanonical s os → AllByRecursion IsNest os
+pub nests-enter_sender : (l : ℕ) (s r : Bounds) (os : Front) → AreDomainsOf (Enter l) s r → IsCanonical s os → AllByRecursion IsNest os
 nests-enter_sender l s r os d h = nests s 1 os (ap length (enter-domains l s r d).1) (omega arith) (omega arith) (in_domain-canonical s os h)
 
-pub nests-enter_receiver : (l : ℕ) (s r : Bounds) (os : Front) → JoinsDomains (Enter l) s r → IsCanonical r os → AllByRecursion IsNest os
+pub nests-enter_receiver : (l : ℕ) (s r : Bounds) (os : Front) → AreDomainsOf (Enter l) s r → IsCanonical r os → AllByRecursion IsNest os
 nests-enter_receiver l s r os d h =
     let e = enter-domains l s r d in
     nests r 2 os (ap length (e.2 ∙ ap (λ b. nest b e.0) e.1)) (omega arith) (omega arith) (in_domain-canonical r os h)
 
-pub nests-feedback_sender : (l : ℕ) (s r : Bounds) (os : Front) → JoinsDomains (Feedback l) s r → IsCanonical s os → AllByRecursion IsNest os
+pub nests-feedback_sender : (l : ℕ) (s r : Bounds) (os : Front) → AreDomainsOf (Feedback l) s r → IsCanonical s os → AllByRecursion IsNest os
 nests-feedback_sender l s r os d h = nests s 2 os (ap length (feedback-domains l s r d).0) (omega arith) (omega arith) (in_domain-canonical s os h)
 
-pub nests-feedback_receiver : (l : ℕ) (s r : Bounds) (os : Front) → JoinsDomains (Feedback l) s r → IsCanonical r os → AllByRecursion IsNest os
+pub nests-feedback_receiver : (l : ℕ) (s r : Bounds) (os : Front) → AreDomainsOf (Feedback l) s r → IsCanonical r os → AllByRecursion IsNest os
 nests-feedback_receiver l s r os d h = nests r 2 os (ap length (feedback-domains l s r d).1) (omega arith) (omega arith) (in_domain-canonical r os h)
 
-pub nests-leave_sender : (l : ℕ) (s r : Bounds) (os : Front) → JoinsDomains (Leave l) s r → IsCanonical s os → AllByRecursion IsNest os
+pub nests-leave_sender : (l : ℕ) (s r : Bounds) (os : Front) → AreDomainsOf (Leave l) s r → IsCanonical s os → AllByRecursion IsNest os
 nests-leave_sender l s r os d h =
     let e = leave-domains l s r d in
     nests s 2 os (ap length (e.0 ∙ ap (λ b. nest b (counter s.greatest)) e.1)) (omega arith) (omega arith) (in_domain-canonical s os h)
 
-pub nests-leave_receiver : (l : ℕ) (s r : Bounds) (os : Front) → JoinsDomains (Leave l) s r → IsCanonical r os → AllByRecursion IsNest os
+pub nests-leave_receiver : (l : ℕ) (s r : Bounds) (os : Front) → AreDomainsOf (Leave l) s r → IsCanonical r os → AllByRecursion IsNest os
 nests-leave_receiver l s r os d h = nests r 1 os (ap length (leave-domains l s r d).1) (omega arith) (omega arith) (in_domain-canonical r os h)
 
 -- ---- phi, psi and psi backwards through a loop
@@ -513,44 +513,44 @@ some-first s os b m (suc c) u e i l =
     higher : (u : Stamp) (c : ℕ) → leq (nest u 0) (nest u (suc c)) ≡ true
     higher u c = leq-nest u u 0 (suc c) refl ∙ both (leq u u) (nat_le 0 (suc c)) (leq-refl u) (to-le 0 (suc c) (omega arith))
 
-pub phi-enter : (l count : ℕ) (s r : Bounds) (os : Front) → JoinsDomains (Enter l) s r → IsCanonical s os → IsMoved First os r (phi_of_kind s.greatest (Enter l) count (frontier_of s os))
+pub phi-enter : (l count : ℕ) (s r : Bounds) (os : Front) → AreDomainsOf (Enter l) s r → IsCanonical s os → IsMoved First os r (phi_of_kind s.greatest (Enter l) count (frontier_of s os))
 phi-enter l count s r os d h = let e = enter-domains l s r d in first-moved s r e.0 os e.2 (in_domain-canonical s os h)
 
-pub phi-feedback : (l count : ℕ) (s r : Bounds) (os : Front) → JoinsDomains (Feedback l) s r → IsCanonical s os
+pub phi-feedback : (l count : ℕ) (s r : Bounds) (os : Front) → AreDomainsOf (Feedback l) s r → IsCanonical s os
     → IsMoved (Next (counter s.greatest)) os r (phi_of_kind s.greatest (Feedback l) count (frontier_of s os))
 phi-feedback l count s r os d h =
     let e = feedback-domains l s r d in
     next-moved s r (greatest_number ∷ []) (counter s.greatest) os e.0 e.1 (in_domain-canonical s os h)
 
-pub phi-leave : (l count : ℕ) (s r : Bounds) (os : Front) → JoinsDomains (Leave l) s r → IsCanonical s os → IsMoved Outer os r (phi_of_kind s.greatest (Leave l) count (frontier_of s os))
+pub phi-leave : (l count : ℕ) (s r : Bounds) (os : Front) → AreDomainsOf (Leave l) s r → IsCanonical s os → IsMoved Outer os r (phi_of_kind s.greatest (Leave l) count (frontier_of s os))
 phi-leave l count s r os d h =
     let e = leave-domains l s r d in
     moved-as Outer os r (λ u. frontier_of s os (nest u (counter s.greatest))) (phi_of_kind s.greatest (Leave l) count (frontier_of s os))
     (outer-moved s r (counter s.greatest) os e.0 (in_domain-canonical s os h))
     (λ u i. sym (each-last s os r.greatest (counter s.greatest) (counter s.greatest) u e.0 i (omega arith)))
 
-pub psi-feedback : (l : ℕ) (s r : Bounds) (os : Front) → JoinsDomains (Feedback l) s r → IsCanonical s os
+pub psi-feedback : (l : ℕ) (s r : Bounds) (os : Front) → AreDomainsOf (Feedback l) s r → IsCanonical s os
     → IsMoved (NextAfterFirst (counter s.greatest)) os r (psi_of_kind s.greatest (Feedback l) (frontier_of s os))
 psi-feedback l s r os d h =
     let e = feedback-domains l s r d in
     next_after_first-moved s r (greatest_number ∷ []) (counter s.greatest) os e.0 e.1 (in_domain-canonical s os h)
 
-pub psi-leave : (l : ℕ) (s r : Bounds) (os : Front) → JoinsDomains (Leave l) s r → IsCanonical s os → IsMoved OuterOfFirst os r (psi_of_kind s.greatest (Leave l) (frontier_of s os))
+pub psi-leave : (l : ℕ) (s r : Bounds) (os : Front) → AreDomainsOf (Leave l) s r → IsCanonical s os → IsMoved OuterOfFirst os r (psi_of_kind s.greatest (Leave l) (frontier_of s os))
 psi-leave l s r os d h =
     let e = leave-domains l s r d in
     moved-as OuterOfFirst os r (λ u. frontier_of s os (nest u 0)) (psi_of_kind s.greatest (Leave l) (frontier_of s os))
     (outer_of_first-moved s r (counter s.greatest) os e.0 (in_domain-canonical s os h))
     (λ u i. sym (some-first s os r.greatest (counter s.greatest) (counter s.greatest) u e.0 i (omega arith)))
 
-pub psi_back-enter : (l : ℕ) (s r : Bounds) (os : Front) → JoinsDomains (Enter l) s r → IsCanonical r os → IsMoved OuterOfFirst os s (psi_back_of_kind s.greatest (Enter l) (frontier_of r os))
+pub psi_back-enter : (l : ℕ) (s r : Bounds) (os : Front) → AreDomainsOf (Enter l) s r → IsCanonical r os → IsMoved OuterOfFirst os s (psi_back_of_kind s.greatest (Enter l) (frontier_of r os))
 psi_back-enter l s r os d h = let e = enter-domains l s r d in outer_of_first-moved r s e.0 os e.2 (in_domain-canonical r os h)
 
-pub psi_back-feedback : (l : ℕ) (s r : Bounds) (os : Front) → JoinsDomains (Feedback l) s r → IsCanonical r os → IsMoved Before os s (psi_back_of_kind s.greatest (Feedback l) (frontier_of r os))
+pub psi_back-feedback : (l : ℕ) (s r : Bounds) (os : Front) → AreDomainsOf (Feedback l) s r → IsCanonical r os → IsMoved Before os s (psi_back_of_kind s.greatest (Feedback l) (frontier_of r os))
 psi_back-feedback l s r os d h =
     let e = feedback-domains l s r d in
     before-moved s r (greatest_number ∷ []) (counter s.greatest) os e.0 e.1 (in_domain-canonical r os h)
 
-pub psi_back-leave : (l : ℕ) (s r : Bounds) (os : Front) → JoinsDomains (Leave l) s r → IsCanonical r os → IsMoved First os s (psi_back_of_kind s.greatest (Leave l) (frontier_of r os))
+pub psi_back-leave : (l : ℕ) (s r : Bounds) (os : Front) → AreDomainsOf (Leave l) s r → IsCanonical r os → IsMoved First os s (psi_back_of_kind s.greatest (Leave l) (frontier_of r os))
 psi_back-leave l s r os d h = let e = leave-domains l s r d in first-moved r s (counter s.greatest) os e.0 (in_domain-canonical r os h)
 
 -- what is moved names the frontier that the test has
@@ -602,7 +602,7 @@ from_one b m u h = by (nat_lt 0 m) refl
     by true e = ap (λ c. not c && true) at ∙ some (counter u)
     by false e = none m (counter u) e v.counted
 
-pub psi-enter_in : (l : ℕ) (s r : Bounds) (os : Front) → JoinsDomains (Enter l) s r → IsCanonical s os → AreIn r (entered_outside s r os)
+pub psi-enter_in : (l : ℕ) (s r : Bounds) (os : Front) → AreDomainsOf (Enter l) s r → IsCanonical s os → AreIn r (entered_outside s r os)
 psi-enter_in l s r os d h =
     let e = enter-domains l s r d in
     let m = first-moved s r e.0 os e.2 (in_domain-canonical s os h) in
@@ -616,7 +616,7 @@ psi-enter_in l s r os d h =
         (ap (leq (nest (origin s.greatest) 1)) e ∙ nest-in s.greatest m (origin s.greatest) 1 (origin-leq s.greatest s.greatest refl) (omega (arith, c)), tt)
     one m e false f = tt
 
-pub psi-enter_same : (l : ℕ) (s r : Bounds) (os : Front) → JoinsDomains (Enter l) s r → IsCanonical s os → (u : Stamp) → in_domain r u ≡ true
+pub psi-enter_same : (l : ℕ) (s r : Bounds) (os : Front) → AreDomainsOf (Enter l) s r → IsCanonical s os → (u : Stamp) → in_domain r u ≡ true
     → inside (entered_outside s r os) u ≡ psi_of_kind s.greatest (Enter l) (frontier_of s os) u
 psi-enter_same l s r os d h u i =
     let e = enter-domains l s r d in
@@ -634,25 +634,25 @@ psi-enter_same l s r os d h u i =
 
 -- ---- regrouping
 
-pub phi-regroup_ok : (n limit count : ℕ) (s r : Bounds) (os g : Front) → 1 ≤ n → JoinsDomains (Regroup n) s r → IsCanonical s os → os ≡ front_until (Some limit)
-    → Names r g (λ u. in_domain r u && nat_lt (number_of u) (limit / n)) → Names r g (λ u. in_domain r u && phi_of_kind s.greatest (Regroup n) count (frontier_of s os) u)
+pub phi-regroup_ok : (n limit count : ℕ) (s r : Bounds) (os g : Front) → 1 ≤ n → AreDomainsOf (Regroup n) s r → IsCanonical s os → os ≡ front_until (Some limit)
+    → Names r g (λ u. in_domain r u && nat_lt (first_number_of u) (limit / n)) → Names r g (λ u. in_domain r u && phi_of_kind s.greatest (Regroup n) count (frontier_of s os) u)
 phi-regroup_ok n limit count s r os g p d h f named =
     let e = regroup-domains n s r d in
-    let x : Stamp → ℕ = λ u. min (number_of u * n + n - 1) (number_of s.greatest) in
+    let x : Stamp → ℕ = λ u. min (first_number_of u * n + n - 1) (first_number_of s.greatest) in
     names-numbers_by r greatest_number g (λ k. nat_lt k (limit / n)) (phi_of_kind s.greatest (Regroup n) count (frontier_of s os)) e.1 named
     (λ u l.
-    phi-regroup n greatest_number limit (number_of u) p (limit-in s greatest_number limit os e.0 f h)
-    ∙ sym (below-limit s greatest_number limit (min (number_of u * n + n - 1) greatest_number) e.0)
-    ∙ (λ j. frontier_of s (sym f j) (min (number_of u * n + n - 1) (number_of (sym e.0 j)) ∷ [])))
+    phi-regroup n greatest_number limit (first_number_of u) p (limit-in s greatest_number limit os e.0 f h)
+    ∙ sym (below-limit s greatest_number limit (min (first_number_of u * n + n - 1) greatest_number) e.0)
+    ∙ (λ j. frontier_of s (sym f j) (min (first_number_of u * n + n - 1) (first_number_of (sym e.0 j)) ∷ [])))
 
-pub psi-regroup_ok : (n end : ℕ) (s r : Bounds) (os g : Front) → 1 ≤ n → JoinsDomains (Regroup n) s r → ((x : ℕ) → frontier_of s os (x ∷ []) ≡ nat_lt x end)
-    → Names r g (λ u. in_domain r u && nat_lt (number_of u) (end / n + min 1 (end % n))) → Names r g (λ u. in_domain r u && psi_of_kind s.greatest (Regroup n) (frontier_of s os) u)
+pub psi-regroup_ok : (n end : ℕ) (s r : Bounds) (os g : Front) → 1 ≤ n → AreDomainsOf (Regroup n) s r → ((x : ℕ) → frontier_of s os (x ∷ []) ≡ nat_lt x end)
+    → Names r g (λ u. in_domain r u && nat_lt (first_number_of u) (end / n + min 1 (end % n))) → Names r g (λ u. in_domain r u && psi_of_kind s.greatest (Regroup n) (frontier_of s os) u)
 psi-regroup_ok n end s r os g p d f named =
     names-numbers_by r greatest_number g (λ k. nat_lt k (end / n + min 1 (end % n))) (psi_of_kind s.greatest (Regroup n) (frontier_of s os)) (regroup-domains n s r d).1 named
-    (λ u l. psi-regroup n end (number_of u) p ∙ sym (f (number_of u * n)))
+    (λ u l. psi-regroup n end (first_number_of u) p ∙ sym (f (first_number_of u * n)))
 
 -- the numbers inside, by where they end
-pub end-limit : (n limit : ℕ) (s r : Bounds) (os : Front) → JoinsDomains (Regroup n) s r → IsCanonical s os → os ≡ front_until (Some limit) → (x : ℕ) → frontier_of s os (x ∷ []) ≡ nat_lt x limit
+pub end-limit : (n limit : ℕ) (s r : Bounds) (os : Front) → AreDomainsOf (Regroup n) s r → IsCanonical s os → os ≡ front_until (Some limit) → (x : ℕ) → frontier_of s os (x ∷ []) ≡ nat_lt x limit
 end-limit n limit s r os d h f x =
     let e = regroup-domains n s r d in
     (λ j. frontier_of s (f j) (x ∷ [])) ∙ below-limit s greatest_number limit x e.0 ∙ by x greatest_number limit (limit-in s greatest_number limit os e.0 f h)
@@ -660,7 +660,7 @@ end-limit n limit s r os d h f x =
     by : (x g limit : ℕ) → limit ≤ g → (nat_le x g && nat_lt x limit) ≡ nat_lt x limit
     by x g limit l = grind (arith, nat_tests)
 
-pub end-all : (n end : ℕ) (s r : Bounds) (os : Front) → JoinsDomains (Regroup n) s r → os ≡ front_until None → end ≡ slice_index s.greatest 0 + 1 → (x : ℕ) → frontier_of s os (x ∷ []) ≡ nat_lt x end
+pub end-all : (n end : ℕ) (s r : Bounds) (os : Front) → AreDomainsOf (Regroup n) s r → os ≡ front_until None → end ≡ slice_index s.greatest 0 + 1 → (x : ℕ) → frontier_of s os (x ∷ []) ≡ nat_lt x end
 end-all n end s r os d f k x =
     let e = (regroup-domains n s r d).0 in
     (λ j. frontier_of s (f j) (x ∷ [])) ∙ ap (λ t. leq (x ∷ []) t && true) e ∙ by x greatest_number end (k ∙ ap (λ t. slice_index t 0 + 1) e)
@@ -668,16 +668,16 @@ end-all n end s r os d f k x =
     by : (x g end : ℕ) → end ≡ g + 1 → ((nat_le x g && true) && true) ≡ nat_lt x end
     by x g end e = grind (arith, nat_tests)
 
-pub psi_back-regroup_ok : (n limit : ℕ) (s r : Bounds) (os g : Front) → 1 ≤ n → JoinsDomains (Regroup n) s r → os ≡ front_until (Some limit)
-    → Names s g (λ u. in_domain s u && nat_lt (number_of u) (limit * n)) → Names s g (λ u. in_domain s u && psi_back_of_kind s.greatest (Regroup n) (frontier_of r os) u)
+pub psi_back-regroup_ok : (n limit : ℕ) (s r : Bounds) (os g : Front) → 1 ≤ n → AreDomainsOf (Regroup n) s r → os ≡ front_until (Some limit)
+    → Names s g (λ u. in_domain s u && nat_lt (first_number_of u) (limit * n)) → Names s g (λ u. in_domain s u && psi_back_of_kind s.greatest (Regroup n) (frontier_of r os) u)
 psi_back-regroup_ok n limit s r os g p d f named =
     let e = regroup-domains n s r d in
     names-numbers_by s greatest_number g (λ k. nat_lt k (limit * n)) (psi_back_of_kind s.greatest (Regroup n) (frontier_of r os)) e.0 named
     (λ u l.
-    psi_back-regroup n limit (number_of u) p
-    ∙ by (nat_le (number_of u / n) greatest_number) (nat_lt (number_of u / n) limit) (to-le (number_of u / n) greatest_number (omega (arith, div-le_self (number_of u) n)))
-    ∙ sym (below-limit r greatest_number limit (number_of u / n) e.1)
-    ∙ (λ j. frontier_of r (sym f j) ((number_of u / n) ∷ [])))
+    psi_back-regroup n limit (first_number_of u) p
+    ∙ by (nat_le (first_number_of u / n) greatest_number) (nat_lt (first_number_of u / n) limit) (to-le (first_number_of u / n) greatest_number (omega (arith, div-le_self (first_number_of u) n)))
+    ∙ sym (below-limit r greatest_number limit (first_number_of u / n) e.1)
+    ∙ (λ j. frontier_of r (sym f j) ((first_number_of u / n) ∷ [])))
   where
     by : (a c : Bool) → a ≡ true → c ≡ (a && c)
     by true c e = refl
@@ -716,7 +716,7 @@ phi_of_kind-counted : (greatest : Stamp) (kind : Kind) (m n : ℕ) (f : Frontier
 phi_of_kind-counted greatest (Enter l) m n f u h = refl
 phi_of_kind-counted greatest (Feedback l) m n f u h = refl
 phi_of_kind-counted greatest (Leave l) m n f u h = refl
-phi_of_kind-counted greatest Sequence m n f u h = ap (λ c. f greatest || nat_lt (number_of u) c) (h refl)
+phi_of_kind-counted greatest Sequence m n f u h = ap (λ c. f greatest || nat_lt (first_number_of u) c) (h refl)
 phi_of_kind-counted greatest (Regroup r) m n f u h = refl
 phi_of_kind-counted greatest kind m n f u h = refl
 

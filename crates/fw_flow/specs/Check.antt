@@ -117,16 +117,16 @@ IsFirstBreakIfAny Rule lines line = MatchOption line (HoldsBelow Rule (length li
 
 -- ---- the first broken rule
 
--- the rule of this code holds
-abbrev pub Holds : List Declared → Code → Type 0
-Holds raw F3 = HoldsBelow (NamesTheDeclared raw) (length (all_lines raw))
-Holds raw F4 = HoldsBelow (HasItsDegrees (flow_of raw)) (length (node_lines raw))
-Holds raw F5 = HoldsBelow (JoinsDomains (flow_of raw)) (length (edge_lines raw))
-Holds raw F6 = AreWalksRight (flow_of raw)
-Holds raw F7 = HoldsBelow (HasAllowedPolicy (flow_of raw)) (length (node_lines raw))
-Holds raw F8 = HoldsBelow (StaysWithinLimits raw) (length (all_lines raw))
-Holds raw F9 = HasBorders (flow_of raw)
-Holds raw code = Unit {0}
+-- the declarations keep the rule of this code
+abbrev pub KeepsRule : List Declared → Code → Type 0
+KeepsRule raw F3 = HoldsBelow (NamesTheDeclared raw) (length (all_lines raw))
+KeepsRule raw F4 = HoldsBelow (HasItsDegrees (flow_of raw)) (length (node_lines raw))
+KeepsRule raw F5 = HoldsBelow (JoinsDomains (flow_of raw)) (length (edge_lines raw))
+KeepsRule raw F6 = AreWalksRight (flow_of raw)
+KeepsRule raw F7 = HoldsBelow (HasAllowedPolicy (flow_of raw)) (length (node_lines raw))
+KeepsRule raw F8 = HoldsBelow (StaysWithinLimits raw) (length (all_lines raw))
+KeepsRule raw F9 = HasBorders (flow_of raw)
+KeepsRule raw code = Unit {0}
 
 -- the rule of this code is broken, first on this line; line 0 stands for the flow as a whole
 abbrev pub IsBroken : List Declared → Code → ℕ → Type 0
@@ -151,7 +151,7 @@ rules = F3 ∷ later_rules
 abbrev pub IsFirstBrokenOf : List Code → List Declared → Refusal → Type 0
 IsFirstBrokenOf [] raw refusal = ⊥
 IsFirstBrokenOf (code ∷ codes) raw refusal =
-    ((refusal.code ≡ code) × IsBroken raw code refusal.line) ⊎ (Holds raw code × IsFirstBrokenOf codes raw refusal)
+    ((refusal.code ≡ code) × IsBroken raw code refusal.line) ⊎ (KeepsRule raw code × IsFirstBrokenOf codes raw refusal)
 
 -- the refusal is the first rule that the declarations break, with its line
 abbrev pub IsFirstBroken : List Declared → Refusal → Type 0

@@ -169,14 +169,14 @@ is_output_kind OutputNumber = true
 is_output_kind kind = false
 
 -- whether a domain is that of numbers
-abbrev pub is_number : Domain → Bool
-is_number Epoch = false
-is_number Number = true
-is_number (InLoop l) = false
+abbrev pub is_of_numbers : Domain → Bool
+is_of_numbers Epoch = false
+is_of_numbers Number = true
+is_of_numbers (InLoop l) = false
 
 -- whether an edge is numbered: it leads into the domain of numbers
 abbrev pub is_numbered : Dataflow → ℕ → Bool
-is_numbered flow e = is_number (domain_of flow (receiver flow e))
+is_numbered flow e = is_of_numbers (domain_of flow (receiver flow e))
 
 -- the batches of a node, by epoch
 unfoldable pub batches_of : System → ℕ → List (List Rec)

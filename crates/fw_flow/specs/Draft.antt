@@ -3,7 +3,7 @@ use Rattle.std.specs.Prelude.{◌≡◌, ℕ, List, length, map}
 use Rattle.fw_lines.specs.declared.refusal.Code.TheVariants.{F4, F5, F6, F7, F8, F9}
 use Rattle.fw_flow.specs.declared.draft.Draft.{Draft}
 use Rattle.fw_flow.specs.declared.raw.Declared.{Declared}
-use Rattle.fw_flow.specs.Check.{Holds}
+use Rattle.fw_flow.specs.Check.{KeepsRule}
 use Rattle.fw_flow.specs.Dataflow.{edges_into, edges_from}
 use Rattle.fw_flow.specs.Flow.{edges_at}
 use Rattle.fw_flow.specs.Parts.{ArePartsOf}
@@ -27,9 +27,9 @@ pub record IsDraftOf (draft : Draft) (raw : List Declared) : Type 0 where
 
 -- the rules that are tested once the names are declared hold
 pub record LaterRulesHold (raw : List Declared) : Type 0 where
-  pub degrees : Holds raw F4
-  pub domains : Holds raw F5
-  pub walks : Holds raw F6
-  pub policies : Holds raw F7
-  pub limits : Holds raw F8
-  pub borders : Holds raw F9
+  pub degrees : KeepsRule raw F4
+  pub domains : KeepsRule raw F5
+  pub walks : KeepsRule raw F6
+  pub policies : KeepsRule raw F7
+  pub limits : KeepsRule raw F8
+  pub borders : KeepsRule raw F9

@@ -10,8 +10,8 @@ use Rattle.fw_flow.specs.declared.projection.Way.TheVariants.{First, Next, NextA
 use Rattle.fw_flow.specs.Dataflow.{Dataflow, domain_of_kind, out_domain_of_kind, bounds_of_domain}
 
 -- the bounds are those of the domain and the out domain of a node of the kind, in some dataflow
-abbrev pub JoinsDomains : Kind → Bounds → Bounds → Type 0
-JoinsDomains kind sender receiver = (flow : Dataflow)
+abbrev pub AreDomainsOf : Kind → Bounds → Bounds → Type 0
+AreDomainsOf kind sender receiver = (flow : Dataflow)
     × (sender ≡ bounds_of_domain flow (domain_of_kind flow kind))
     × (receiver ≡ bounds_of_domain flow (out_domain_of_kind flow kind))
 

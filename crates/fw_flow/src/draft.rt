@@ -3,7 +3,7 @@ ghost use Rattle.std.specs.Prelude.{◌≡◌, ◌^◌, ◌<◌, List, map, leng
 ghost use Rattle.fw_lines.specs.Faults.{IfRefused};
 ghost use Rattle.fw_lines.specs.declared.refusal.Code.TheVariants as code;
 ghost use Rattle.fw_flow.specs.declared.raw.Declared.{Declared};
-ghost use Rattle.fw_flow.specs.Check.{all_lines, StaysWithinLimits, IsFirstBreakIfAny, Holds, later_rules, IsFirstBrokenOf};
+ghost use Rattle.fw_flow.specs.Check.{all_lines, StaysWithinLimits, IsFirstBreakIfAny, KeepsRule, later_rules, IsFirstBrokenOf};
 ghost use Rattle.fw_flow.specs.Draft.{FitsTogether, IsDraftOf, LaterRulesHold};
 ghost use Rattle.fw_flow.specs.Raw.{names_of};
 
@@ -37,7 +37,7 @@ impl Draft {
     ) -> Result<Draft, AllocError>
         requires named { names.now ≡ names_of declared.items }
         requires few { length declared.items < 2 ^ 32 }
-        requires names_declared { Holds declared.items code.F3 }
+        requires names_declared { KeepsRule declared.items code.F3 }
         ensures fits { IfOk result FitsTogether }
         ensures draft { IfOk result (λ draft. IsDraftOf draft declared.items) }
     {

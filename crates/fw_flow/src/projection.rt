@@ -7,8 +7,8 @@ ghost use Rattle.fw_time.specs.Sending.{fed_back};
 ghost use Rattle.fw_frontier.specs.Front.{frontier_of, IsCanonical, Names};
 ghost use Rattle.fw_flow.specs.declared.event.Event.{Event};
 ghost use Rattle.fw_flow.specs.Dataflow.{System, greatest_number, kind_of, sender, receiver, bounds_of};
-ghost use Rattle.fw_flow.specs.Projection.{number_of, phi, phi_by_count, psi, psi_back, phi_of_kind, psi_of_kind, psi_back_of_kind, table_count, IsSentTable};
-ghost use Rattle.fw_flow.specs.ProjectedStamps.{IsNest, image, images, entered_outside, front_until, JoinsDomains};
+ghost use Rattle.fw_flow.specs.Projection.{first_number_of, phi, phi_by_count, psi, psi_back, phi_of_kind, psi_of_kind, psi_back_of_kind, table_count, IsSentTable};
+ghost use Rattle.fw_flow.specs.ProjectedStamps.{IsNest, image, images, entered_outside, front_until, AreDomainsOf};
 ghost use Rattle.fw_flow.specs.WellFormed.{IsWellFormed, IsGroupSize};
 
 use crate::{EdgeId, Flow, Kind};
@@ -238,7 +238,7 @@ fn entered(
 fn below(alloc: Global, limit: u64, bounds: &Bounds) -> Result<Front, AllocError>
     requires { length bounds.now.greatest ≡ 1 }
     ensures { IfOk result
-        (λ g. Names bounds.now g (λ u. in_domain bounds.now u && nat_lt (number_of u) limit)) }
+        (λ g. Names bounds.now g (λ u. in_domain bounds.now u && nat_lt (first_number_of u) limit)) }
 {
     if limit > u64::from(bounds.greatest.at(0)) {
         return Ok(Front::all(alloc));
@@ -270,7 +270,7 @@ pub(crate) fn phi(
     receiver: &Bounds,
 ) -> Result<Front, AllocError>
     requires group { IsGroupSize kind }
-    requires domains { JoinsDomains kind sender.now receiver.now }
+    requires domains { AreDomainsOf kind sender.now receiver.now }
     requires front { IsCanonical sender.now f.now }
     ensures { let inside = frontier_of sender.now f.now in IfOk result
         (λ g. Names receiver.now g (λ u. in_domain receiver.now u
@@ -303,7 +303,7 @@ pub(crate) fn psi(
     receiver: &Bounds,
 ) -> Result<Front, AllocError>
     requires group { IsGroupSize kind }
-    requires domains { JoinsDomains kind sender.now receiver.now }
+    requires domains { AreDomainsOf kind sender.now receiver.now }
     requires front { IsCanonical sender.now f.now }
     ensures { IfOk result (λ g. Names receiver.now g (λ u. in_domain receiver.now u
         && psi_of_kind sender.now.greatest kind (frontier_of sender.now f.now) u)) }
@@ -334,7 +334,7 @@ pub(crate) fn psi_back(
     receiver: &Bounds,
 ) -> Result<Front, AllocError>
     requires group { IsGroupSize kind }
-    requires domains { JoinsDomains kind sender.now receiver.now }
+    requires domains { AreDomainsOf kind sender.now receiver.now }
     requires front { IsCanonical receiver.now g.now }
     ensures { IfOk result (λ f. Names sender.now f (λ t. in_domain sender.now t
         && psi_back_of_kind sender.now.greatest kind (frontier_of receiver.now g.now) t)) }

@@ -24,7 +24,7 @@ use Rattle.fw_flow.specs.declared.raw.Declaration.{Declaration}
 use Rattle.fw_flow.specs.declared.raw.Declared.{Declared}
 use Rattle.fw_flow.specs.Dataflow.{Dataflow}
 use Rattle.fw_flow_text.specs.declared.node.NodeForm.{NodeForm}
-use Rattle.fw_flow_text.specs.Forms.{name_of, policy_of, policy_at_end, input_form, output_form, select_form, node_form, node_declaration, edge_declaration, declaration_of}
+use Rattle.fw_flow_text.specs.Forms.{name_of, policy_named, policy_at_end, input_form, output_form, select_form, node_form, node_declaration, edge_declaration, declaration_of}
 use Rattle.fw_flow_text.specs.Grammar.{declared_by, form_fault, words_fault, line_fault, IsAccepted}
 use Rattle.fw_flow_text.specs.Laws.{is_in_texts}
 use Rattle.fw_flow_text.specs.Select.{condition_of, sum_value, plain_value, plain_part, value_part, set_part, assignment_part}
@@ -169,7 +169,7 @@ assignment_clean (set ∷ word ∷ rest) found e h =
     (λ r. ap are_clean (sym (rest_is None false (set ∷ word ∷ rest) found r)) ∙ h)
 
 policy_clean : (words : List (List ℕ)) (found : Policy) → policy_at_end words ≡ Some found → are_clean words ≡ true
-unfolding policy_at_end policy_of
+unfolding policy_at_end policy_named
 policy_clean [] found e = absurd (cc)
 policy_clean (policy ∷ []) found e = absurd (cc)
 policy_clean (policy ∷ word ∷ []) found e =

@@ -5,7 +5,7 @@ use Rattle.std.proofs.lemmas.List.Elements.{filter_map-append}
 use Rattle.fw_lines.specs.declared.fault.ReadFault.{ReadFault}
 use Rattle.fw_lines.specs.declared.fault.ReadFault.TheVariants.{Refused, NoMemory}
 use Rattle.fw_lines.specs.declared.refusal.Refusal.{Refusal}
-use Rattle.fw_lines.specs.Faults.{IsSound, IsFirstFault, IfRefused}
+use Rattle.fw_lines.specs.Faults.{BreakNoRule, IsFirstFault, IfRefused}
 use Rattle.fw_lines.specs.declared.span.Span.{Span}
 use Rattle.fw_lines.specs.Lines.{Said, said_lines, bytes_at}
 use Rattle.fw_lines.proofs.FaultLaws.{IsSoundSoFar, sound_more, first_fault, none_left, sound_or_first, one_first}
@@ -46,7 +46,7 @@ read_broken lines left next line raw refusal read e broken number =
     first_fault line_fault lines read.done line next refusal (subst (λ ls. IsSoundSoFar line_fault lines ls read.done) e read.so_far) (fault_done raw read.done line read.value ∙ broken) number
 
 -- all lines are read
-pub read_all : (lines : List Said) (raw : List Declared) → IsRead lines [] raw → IsSound line_fault lines × (raw ≡ declared_by lines)
+pub read_all : (lines : List Said) (raw : List Declared) → IsRead lines [] raw → BreakNoRule line_fault lines × (raw ≡ declared_by lines)
 read_all lines raw read =
     let all = none_left line_fault lines read.done read.so_far in
     (all.0, read.value ∙ ap declared_by all.1)

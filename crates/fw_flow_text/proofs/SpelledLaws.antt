@@ -30,7 +30,7 @@ use Rattle.fw_flow.specs.declared.raw.Declaration.{Declaration}
 use Rattle.fw_flow.specs.declared.raw.Declaration.TheVariants.{Node, Edge}
 use Rattle.fw_flow.specs.declared.raw.RawKind.TheVariants.{Input, OutputEpoch, Select}
 use Rattle.fw_flow_text.specs.declared.node.NodeForm.{NodeForm}
-use Rattle.fw_flow_text.specs.Forms.{name_of, policy_of, policy_at_end, input_form, output_form, select_form, node_form, node_declaration, edge_declaration, declaration_of}
+use Rattle.fw_flow_text.specs.Forms.{name_of, policy_named, policy_at_end, input_form, output_form, select_form, node_form, node_declaration, edge_declaration, declaration_of}
 use Rattle.fw_flow_text.specs.Laws.{InputsAreRead, OutputsAreRead, SelectsAreRead, EdgesAreRead}
 use Rattle.fw_flow_text.specs.Select.{condition_of, sum_value, plain_value, value_part, assignment_part}
 use Rattle.fw_flow_text.specs.Spelled.{field_word, comparison_word, term_word, value_words, assignment_words, selection_words, IsSmallTerm, IsSmallValue, IsSmallAssignment, IsSmall}
@@ -178,7 +178,7 @@ assignment_read (Some a) h =
     ∙ ap (option_and_then (whole a.field)) (value_read a.value h)
 
 select_read : (s : Selection) → IsSmall s → select_form (selection_words s ++ ending) ≡ Some (record { kind = Select s None; policy = NoPolicy; is_large = false })
-unfolding select_form policy_at_end policy_of
+unfolding select_form policy_at_end policy_named
 select_read s small =
     let whole : Condition × Bool → Option Assignment × Bool × List (List ℕ) → Option NodeForm =
     λ c a. option_and_then (λ p. Some (record { kind = Select (record { condition = c.0; assignment = a.0 }) None; policy = p; is_large = c.1 || a.1 })) (policy_at_end a.2) in

@@ -17,12 +17,12 @@ abbrev pub name_of : List ℕ → Option (List ℕ)
 name_of word = if is_name word then Some word else None
 
 -- the policy that a word names
-unfoldable pub policy_of : List ℕ → Option Policy
-policy_of word = if bytes_eq word (codes "none") then Some NoPolicy else None
+unfoldable pub policy_named : List ℕ → Option Policy
+policy_named word = if bytes_eq word (codes "none") then Some NoPolicy else None
 
 -- the policy with which a line ends: `policy P`
 unfoldable pub policy_at_end : List (List ℕ) → Option Policy
-policy_at_end (policy ∷ word ∷ []) = if bytes_eq policy (codes "policy") then policy_of word else None
+policy_at_end (policy ∷ word ∷ []) = if bytes_eq policy (codes "policy") then policy_named word else None
 policy_at_end words = None
 
 -- `input`

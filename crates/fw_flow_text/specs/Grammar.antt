@@ -4,7 +4,7 @@ use Rattle.std.specs.List.{filter_map}
 use Rattle.fw_lines.specs.declared.refusal.Code.{Code}
 use Rattle.fw_lines.specs.declared.refusal.Code.TheVariants.{F1, F2, F10, F11}
 use Rattle.fw_lines.specs.declared.refusal.Refusal.{Refusal}
-use Rattle.fw_lines.specs.Faults.{IsSound, IsFirstFault, IsOfWhole}
+use Rattle.fw_lines.specs.Faults.{BreakNoRule, IsFirstFault, IsOfWhole}
 use Rattle.fw_lines.specs.Lines.{Said, said_lines}
 use Rattle.fw_flow.specs.declared.raw.Declaration.{Declaration}
 use Rattle.fw_flow.specs.declared.raw.Declared.{Declared}
@@ -49,7 +49,7 @@ size_limit = 1048576
 -- the text has the form of a flow, and its declarations are those of this dataflow
 pub record IsAccepted (text : List ℕ) (flow : Dataflow) : Type 0 where
   pub size : length text ≤ size_limit
-  pub sound : IsSound line_fault (said_lines text)
+  pub sound : BreakNoRule line_fault (said_lines text)
   pub checked : IsChecked (declared_by (said_lines text)) flow
 
 -- the refusal is the first rule that the text breaks: of its size, of its first line that breaks one, or of its declarations
@@ -57,4 +57,5 @@ abbrev pub IsRefused : List ℕ → Refusal → Type 0
 IsRefused text refusal =
     ((size_limit < length text) × IsOfWhole F11 refusal)
     ⊎ (((length text ≤ size_limit) × IsFirstFault line_fault (said_lines text) refusal)
-    ⊎ ((length text ≤ size_limit) × IsSound line_fault (said_lines text) × IsFirstBroken (declared_by (said_lines text)) refusal))
+    ⊎ ((length text ≤ size_limit) × BreakNoRule line_fault (said_lines text)
+    × IsFirstBroken (declared_by (said_lines text)) refusal))

@@ -105,9 +105,9 @@ fn policy_at_end(text: &[u8], words: &[Span]) -> Option<Policy>
 }
 
 // The policy that a word names.
-#[tactic(auto, unfolding(crate::specs::Forms::policy_of))]
+#[tactic(auto, unfolding(crate::specs::Forms::policy_named))]
 fn policy(word: &[u8]) -> Option<Policy>
-    ensures { result ≡ spec.policy_of word.now }
+    ensures { result ≡ spec.policy_named word.now }
 {
     match word {
         b"none" => Some(Policy::None),

@@ -87,7 +87,7 @@ before-tested plane s x y z w h =
     }
 
 -- some stamp of the list comes before the ends
-record IsReached (plane : Plane) (ss : List (List ℕ)) (x y z w : ℕ) : Type 0 where
+record HasStampBefore (plane : Plane) (ss : List (List ℕ)) (x y z w : ℕ) : Type 0 where
   place : ℕ
   there : place < length ss
   before : IsBefore plane (get_or ss place []) x y z w
@@ -101,14 +101,14 @@ reaches-at plane (s ∷ ss) x y z w (suc i) l h = last (is_before x y z w (point
     last true b e = refl
     last false b e = e
 
-reaches-found : (plane : Plane) (ss : List (List ℕ)) (x y z w : ℕ) → reaches (map (point_of plane) ss) x y z w ≡ true → IsReached plane ss x y z w
+reaches-found : (plane : Plane) (ss : List (List ℕ)) (x y z w : ℕ) → reaches (map (point_of plane) ss) x y z w ≡ true → HasStampBefore plane ss x y z w
 reaches-found plane [] x y z w h = no h
 reaches-found plane (s ∷ ss) x y z w h = by (is_before x y z w (point_of plane s)) refl h (λ e. reaches-found plane ss x y z w e)
   where
-    later : IsReached plane ss x y z w → IsReached plane (s ∷ ss) x y z w
+    later : HasStampBefore plane ss x y z w → HasStampBefore plane (s ∷ ss) x y z w
     later r = let l : r.place < length ss = r.there in record { place = suc r.place; there = omega arith; before = r.before }
 
-    by : (a : Bool) → is_before x y z w (point_of plane s) ≡ a → (a || reaches (map (point_of plane) ss) x y z w) ≡ true → (reaches (map (point_of plane) ss) x y z w ≡ true → IsReached plane ss x y z w) → IsReached plane (s ∷ ss) x y z w
+    by : (a : Bool) → is_before x y z w (point_of plane s) ≡ a → (a || reaches (map (point_of plane) ss) x y z w) ≡ true → (reaches (map (point_of plane) ss) x y z w ≡ true → HasStampBefore plane ss x y z w) → HasStampBefore plane (s ∷ ss) x y z w
     by true e h r = record { place = 0; there = omega arith; before = before-tested plane s x y z w e }
     by false e h r = later (r h)
 

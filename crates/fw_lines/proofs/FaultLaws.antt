@@ -8,7 +8,7 @@ use Rattle.fw_lines.specs.declared.fault.ReadFault.{ReadFault}
 use Rattle.fw_lines.specs.declared.fault.ReadFault.TheVariants.{Refused, NoMemory}
 use Rattle.fw_lines.specs.declared.refusal.Code.{Code}
 use Rattle.fw_lines.specs.declared.refusal.Refusal.{Refusal}
-use Rattle.fw_lines.specs.Faults.{fault_at, IsSoundBelow, IsSound, IsFirstFault, IfRefused}
+use Rattle.fw_lines.specs.Faults.{fault_at, IsSoundBelow, BreakNoRule, IsFirstFault, IfRefused}
 use Rattle.fw_lines.specs.Lines.{Said}
 
 -- lines of which the first, `done`, break no rule
@@ -51,7 +51,7 @@ first_fault fault lines done line left refusal h e n = record {
   number = n;
 }
 
-pub none_left : (fault : List Said → Said → Option Code) (lines done : List Said) → IsSoundSoFar fault lines [] done → IsSound fault lines × (done ≡ lines)
+pub none_left : (fault : List Said → Said → Option Code) (lines done : List Said) → IsSoundSoFar fault lines [] done → BreakNoRule fault lines × (done ≡ lines)
 none_left fault lines done h =
     let same : done ≡ lines = sym (append-nil done) ∙ h.parts in
     (λ place below. h.sound place (subst (λ ls. place < length ls) (sym same) below), same)
@@ -65,7 +65,7 @@ fault_there : (fault : List Said → Said → Option Code) (lines : List Said) (
 fault_there fault lines refusal first = ap (option_and_then (λ line. fault (take first.place lines) line)) first.there ∙ first.broken
 
 -- lines that break no rule have no first fault
-pub sound_or_first : (fault : List Said → Said → Option Code) (lines : List Said) (refusal : Refusal) → IsSound fault lines → IsFirstFault fault lines refusal → ⊥
+pub sound_or_first : (fault : List Said → Said → Option Code) (lines : List Said) (refusal : Refusal) → BreakNoRule fault lines → IsFirstFault fault lines refusal → ⊥
 sound_or_first fault lines refusal sound first =
     let none = sound first.place (slice_get_within lines first.place first.line first.there) in
     let some = fault_there fault lines refusal first in

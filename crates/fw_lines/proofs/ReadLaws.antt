@@ -9,7 +9,7 @@ use Rattle.fw_lines.specs.declared.line.Line.{Line}
 use Rattle.fw_lines.specs.declared.refusal.Refusal.{Refusal}
 use Rattle.fw_lines.specs.declared.span.Span.{Span}
 use Rattle.fw_lines.specs.Batches.{batches_at}
-use Rattle.fw_lines.specs.Faults.{IsSound, IsFirstFault}
+use Rattle.fw_lines.specs.Faults.{BreakNoRule, IsFirstFault}
 use Rattle.fw_lines.specs.Inputs.{line_fault, batches_of, fault_in, source_of, fault_of, batch_of, is_batch_of, IsAccepted, IsRefused}
 use Rattle.fw_lines.specs.Lines.{Said, bytes_at, said_in, said_lines}
 use Rattle.fw_lines.proofs.FaultLaws.{IsSoundSoFar, sound_more, first_fault, none_left, sound_or_first, one_first}
@@ -54,7 +54,7 @@ read_broken sources text lines left next line batches refusal read e broken numb
     first_fault (line_fault sources) lines read.done (said_in text line) next refusal (subst (λ ls. IsSoundSoFar (line_fault sources) lines ls read.done) e read.so_far) (fault_done sources text batches read.done line.words line.number read.value ∙ broken) number
 
 -- all lines are read
-pub read_all : (sources : List (List ℕ × ℕ)) (lines : List Said) (batches : List (ℕ × List (List Rec))) → IsRead sources lines [] batches → IsSound (line_fault sources) lines × ((node : ℕ) → batches_at batches node ≡ batches_of sources lines node)
+pub read_all : (sources : List (List ℕ × ℕ)) (lines : List Said) (batches : List (ℕ × List (List Rec))) → IsRead sources lines [] batches → BreakNoRule (line_fault sources) lines × ((node : ℕ) → batches_at batches node ≡ batches_of sources lines node)
 read_all sources lines batches read =
     let all = none_left (line_fault sources) lines read.done read.so_far in
     (all.0, λ node. read.value node ∙ ap (λ ls. batches_of sources ls node) all.1)

@@ -16,8 +16,8 @@ abbrev pub IsSoundBelow : (List Said → Said → Option Code) → List Said →
 IsSoundBelow fault lines count = (place : ℕ) → place < count → fault_at fault lines place ≡ None
 
 -- no line breaks a rule
-abbrev pub IsSound : (List Said → Said → Option Code) → List Said → Type 0
-IsSound fault lines = IsSoundBelow fault lines (length lines)
+abbrev pub BreakNoRule : (List Said → Said → Option Code) → List Said → Type 0
+BreakNoRule fault lines = IsSoundBelow fault lines (length lines)
 
 -- the refusal names the rule that some line breaks and that line's number, and no earlier line breaks one
 pub record IsFirstFault (fault : List Said → Said → Option Code) (lines : List Said) (refusal : Refusal) : Type 0 where

@@ -14,7 +14,7 @@ use Rattle.fw_lines.specs.declared.refusal.Code.TheVariants.{I1, I2, I3, I4, I5}
 use Rattle.fw_lines.specs.declared.refusal.Refusal.{Refusal}
 use Rattle.fw_lines.specs.declared.span.Span.{Span}
 use Rattle.fw_lines.specs.Batches.{batches_at, count_at}
-use Rattle.fw_lines.specs.Faults.{IsSound, IsFirstFault, IsOfWhole}
+use Rattle.fw_lines.specs.Faults.{BreakNoRule, IsFirstFault, IsOfWhole}
 use Rattle.fw_lines.specs.Lines.{Said, said_lines, is_allowed, words_at}
 use Rattle.fw_lines.specs.Sources.{node_of}
 use Rattle.fw_lines.specs.Spelling.{is_name, number_of}
@@ -135,7 +135,7 @@ size_limit = 16777216
 -- the text has the form of inputs of these sources, and the batches are those that its lines give
 pub record IsAccepted (text : List ℕ) (sources : List (List ℕ × ℕ)) (batches : List (ℕ × List (List Rec))) : Type 0 where
   pub size : length text ≤ size_limit
-  pub sound : IsSound (line_fault sources) (said_lines text)
+  pub sound : BreakNoRule (line_fault sources) (said_lines text)
   pub value : (node : ℕ) → batches_at batches node ≡ batches_of sources (said_lines text) node
 
 -- the refusal is the first rule that the text breaks: of its size, or of its first line that breaks one

@@ -67,9 +67,9 @@ abbrev pub said_in : List ℕ → Line → Said
 said_in text line = record { number = line.number; words = words_at text line.words }
 
 -- the lines that are left from a place on
-abbrev pub left : List ℕ → Option Place → List Said
-left text None = []
-left text (Some place) = said_from (place.passed + 1) (lines_of (drop place.from text))
+abbrev pub lines_left : List ℕ → Option Place → List Said
+lines_left text None = []
+lines_left text (Some place) = said_from (place.passed + 1) (lines_of (drop place.from text))
 
 -- a place in the text, before which there are no more lines than bytes
 pub record IsPlace (text : List ℕ) (place : Place) : Type 0 where

@@ -2,7 +2,7 @@
 ghost use Rattle.std.specs.Prelude.{◌≡◌, ◌+◌, ◌-◌, ◌^◌, ◌<◌, ◌≤◌, ◌==◌, ◌&&◌, not, nat_lt, [], ◌∷◌, ◌++◌, length, map, IfOk, OnOk, IfSome, slice_range, if◌then◌else◌};
 ghost use Rattle.std.specs.List.{slice_split, prefix_len, list_all};
 ghost use Rattle.fw_lines.specs.Lines as spec;
-ghost use Rattle.fw_lines.specs.Lines.{said_lines, said_in, left, IsPlace, said_by, words_of, bytes_at, is_allowed};
+ghost use Rattle.fw_lines.specs.Lines.{said_lines, said_in, lines_left, IsPlace, said_by, words_of, bytes_at, is_allowed};
 
 use crate::line::{Line, Lines, Place};
 use crate::span::{Span, Spans};
@@ -40,7 +40,7 @@ pub fn line_at(
     requires short { length text.now < 2 ^ 32 - 1 }
     requires place { IsPlace text.now place }
     ensures line { IfOk result
-        (λ found. left text.now (Some place) ≡ said_in text.now found.0 ∷ left text.now found.1) }
+        (λ found. lines_left text.now (Some place) ≡ said_in text.now found.0 ∷ lines_left text.now found.1) }
     ensures next { IfOk result (λ found. IfSome found.1 (IsPlace text.now)) }
     ensures later { IfOk result (λ found. IfSome found.1 (λ next. place.from < next.from)) }
 {

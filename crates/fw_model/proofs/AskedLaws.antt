@@ -27,7 +27,7 @@ use Rattle.fw_model.specs.Denotation.{Family, rounds}
 use Rattle.fw_model.specs.Machine.{Machine, Numbered, Write, Written, checkpoint, logged_event, Progress, in_flight, acknowledged, collected, no_stamps, places, first_state, front_of, is_failed}
 use Rattle.fw_flow.specs.declared.choice.Choice.{Choice}
 use Rattle.fw_model.specs.Choice.{kept, by_checkpoints, restoring_of_policy, restoring, cut_of, kept_of, IsCandidate, IsLargest, filtered}
-use Rattle.fw_model.specs.Steps.{Effect, Outcome, did, idle, Takes, Run, write_of_event, with_event, same_front, checkpoint_of, is_eager, GrowsTo, is_asked_for_checkpoints, checkpoint_front, checkpoints_of, last_or, newest_checkpoint, AcknowledgesOldest, is_one_of, is_in_flight, with_failed, is_kept_write, IsSettledCut, CutsTo, recovered, front_of_cut, inside_if_some, sends_inside, is_given_up, is_serial_given_up, is_below, after_collection, collected_writes}
+use Rattle.fw_model.specs.Steps.{Effect, Outcome, did, idle, LeadsTo, Run, write_of_event, with_event, same_front, checkpoint_of, is_eager, GrowsTo, is_asked_for_checkpoints, checkpoint_front, checkpoints_of, last_or, newest_checkpoint, AcknowledgesOldest, is_one_of, is_in_flight, with_failed, is_kept_write, IsSettledCut, CutsTo, recovered, front_of_cut, inside_if_some, sends_inside, is_given_up, is_serial_given_up, lies_below, after_collection, collected_writes}
 use Rattle.fw_model.specs.LawsOfDenotation.{enough_rounds}
 use Rattle.fw_model.specs.LawsOfRestoring.{takes_checkpoints}
 use Rattle.fw_model.proofs.Decisions.{two_ways}
@@ -245,7 +245,7 @@ collected-given sys old low n h p s g b c acknowledged a =
     (λ e. tt)
 
 collected-well : (sys : System) (old low : List Front) (next : ℕ) (h : List Numbered) → LowGrows sys old low → AreSerialsBelow next h → (p : ℕ) (w : Written) (far : Progress)
-    → IsAskedWell sys old next h p w far → IsAskedWell sys low next h p w (after_collection (is_below sys low h p w) far)
+    → IsAskedWell sys old next h p w far → IsAskedWell sys low next h p w (after_collection (lies_below sys low h p w) far)
 collected-well sys old low next h g b p (checkpoint f l) far a = (a.0, a.1, λ q t i. g q t (a.2 q t i))
 collected-well sys old low next h g b p (logged_event s) far a = (a.0, a.1, collected-given sys old low next h p s g b a.1 far a.2, a.3)
 
@@ -564,17 +564,17 @@ collected-restore sys state low g c = record {
   settled = c.settled;
   serials = c.serials;
   asked = each-mapped (IsWriteAskedWell sys low state.next state.history)
-      (λ (x : Write). record x { progress = after_collection (is_below sys low state.history x.node x.written) x.progress }) state.writes
+      (λ (x : Write). record x { progress = after_collection (lies_below sys low state.history x.node x.written) x.progress }) state.writes
       (each-weaker (IsWriteAskedWell sys state.low state.next state.history)
-      (λ (x : Write). IsAskedWell sys low state.next state.history x.node x.written (after_collection (is_below sys low state.history x.node x.written) x.progress)) state.writes
+      (λ (x : Write). IsAskedWell sys low state.next state.history x.node x.written (after_collection (lies_below sys low state.history x.node x.written) x.progress)) state.writes
       (λ x a. collected-well sys state.low low state.next state.history g c.serials x.node x.written x.progress a) c.asked);
-  apart = pairs-mapped IsApart (λ x. after_collection (is_below sys low state.history x.node x.written) x.progress) state.writes c.apart;
+  apart = pairs-mapped IsApart (λ x. after_collection (lies_below sys low state.history x.node x.written) x.progress) state.writes c.apart;
 }
 
 -- ---- each state of a run
 
 pub took-restore : (sys : System) (family : Family) (state : Machine) (step : Step) (next : Machine) (effect : Effect) → CanRecover sys family state
-    → Takes sys state step next effect → CanRestore sys state → CanRestore sys next
+    → LeadsTo sys state step next effect → CanRestore sys state → CanRestore sys next
 took-restore sys family state (Inject s) next effect f t c = subst (CanRestore sys) (sym t.3) (event-restore sys state (Injected s t.0) c)
 took-restore sys family state (Deliver e at) next effect f t c = subst (CanRestore sys) (sym t.3) (event-restore sys state (Delivered e t.0) c)
 took-restore sys family state (Notify p at) next effect f t c = subst (CanRestore sys) (sym t.3) (event-restore sys state (Notified p t.0) c)
@@ -589,13 +589,13 @@ took-restore sys family state Collect next effect f t c =
     subst (CanRestore sys) (sym t.3) (collected-restore sys state (map front_of_cut t.0.cuts) (low-grows sys state f.notes t.0 f.watermark t.1) c)
 took-restore sys family state (Ack o) next effect f t c = subst (CanRestore sys) (sym t.2) (record { settled = c.settled; serials = c.serials; asked = c.asked; apart = c.apart })
 
--- what holds of each state that steps lead to
-pub record IsReached (sys : System) (state : Machine) : Type 0 where
+-- what holds of each state that steps lead to: what a recovery needs, and what a restoration needs
+pub record CanRecoverAndRestore (sys : System) (state : Machine) : Type 0 where
   pub recover : CanRecover sys (rounds sys (enough_rounds sys.flow)) state
   pub restore : CanRestore sys state
 
-pub took-reached : (sys : System) → IsWellFormedSystem sys → (state : Machine) (step : Step) (next : Machine) (effect : Effect) → IsReached sys state
-    → Takes sys state step next effect → IsReached sys next
+pub took-reached : (sys : System) → IsWellFormedSystem sys → (state : Machine) (step : Step) (next : Machine) (effect : Effect) → CanRecoverAndRestore sys state
+    → LeadsTo sys state step next effect → CanRecoverAndRestore sys next
 took-reached sys w state step next effect f t =
     let family = rounds sys (enough_rounds sys.flow) in
     record {
@@ -603,15 +603,15 @@ took-reached sys w state step next effect f t =
       restore = took-restore sys family state step next effect f.recover t f.restore;
     }
 
-pub run-reached : (sys : System) → IsWellFormedSystem sys → (steps : List Step) (outcomes : List Outcome) (state last : Machine) → IsReached sys state
-    → Run sys state steps outcomes last → IsReached sys last
-run-reached sys w [] [] state last f r = subst (IsReached sys) (sym r) f
+pub run-reached : (sys : System) → IsWellFormedSystem sys → (steps : List Step) (outcomes : List Outcome) (state last : Machine) → CanRecoverAndRestore sys state
+    → Run sys state steps outcomes last → CanRecoverAndRestore sys last
+run-reached sys w [] [] state last f r = subst (CanRecoverAndRestore sys) (sym r) f
 run-reached sys w [] (o ∷ os) state last f r = absurd r
 run-reached sys w (s ∷ ss) [] state last f r = absurd r
 run-reached sys w (s ∷ ss) (did effect ∷ os) state last f r = run-reached sys w ss os r.0 last (took-reached sys w state s r.0 effect f r.1) r.2
-run-reached sys w (s ∷ ss) (idle ∷ os) state last f r = run-reached sys w ss os r.0 last (subst (IsReached sys) (sym r.1.1) f) r.2
+run-reached sys w (s ∷ ss) (idle ∷ os) state last f r = run-reached sys w ss os r.0 last (subst (CanRecoverAndRestore sys) (sym r.1.1) f) r.2
 
-pub first-reached : (sys : System) → IsWellFormedSystem sys → IsReached sys (first_state sys)
+pub first-reached : (sys : System) → IsWellFormedSystem sys → CanRecoverAndRestore sys (first_state sys)
 first-reached sys w = record {
   recover = first-recover sys (rounds sys (enough_rounds sys.flow)) w;
   restore = record {
@@ -624,5 +624,5 @@ first-reached sys w = record {
 }
 
 pub reached-all : (sys : System) → IsWellFormedSystem sys → (steps : List Step) (outcomes : List Outcome) (last : Machine) → Run sys (first_state sys) steps outcomes last
-    → IsReached sys last
+    → CanRecoverAndRestore sys last
 reached-all sys w steps outcomes last r = run-reached sys w steps outcomes (first_state sys) last (first-reached sys w) r

@@ -11,13 +11,13 @@ use Rattle.fw_flow.specs.Dataflow.{System, policy_of, receiver}
 use Rattle.fw_flow.specs.WellFormed.{IsWellFormedSystem}
 use Rattle.fw_model.specs.Machine.{Machine, Write, Written, checkpoint, logged_event, acknowledged, places, first_state, front_of}
 use Rattle.fw_model.specs.Choice.{cut_of, filtered}
-use Rattle.fw_model.specs.Steps.{Effect, Outcome, did, idle, Takes, Steps, Run, write_of_event, with_event, same_front, checkpoint_of, is_eager, is_one_of, is_in_flight, is_kept_write, front_of_cut, is_below, after_collection}
+use Rattle.fw_model.specs.Steps.{Effect, Outcome, did, idle, LeadsTo, Steps, Run, write_of_event, with_event, same_front, checkpoint_of, is_eager, is_one_of, is_in_flight, is_kept_write, front_of_cut, lies_below, after_collection}
 use Rattle.fw_model.specs.LawsOfRestoring.{CountsTheSame, CountsWritten, IsWrittenAsAsked, CheckpointsAreAsTheyWereAsked}
 use Rattle.fw_model.proofs.EachLaws.{each-weaker, each-both, each-append}
 use Rattle.fw_model.proofs.FilterLaws.{each-one}
 use Rattle.fw_model.proofs.CheckpointLaws.{each-mapped, each-passed, each-replaced}
 use Rattle.fw_model.proofs.ChoosingLaws.{settled_writes}
-use Rattle.fw_model.proofs.AskedLaws.{IsReached, took-reached, first-reached}
+use Rattle.fw_model.proofs.AskedLaws.{CanRecoverAndRestore, took-reached, first-reached}
 use Rattle.fw_model.proofs.RestoringLaws.{same-each, took-true}
 use Rattle.fw_model.proofs.GoingOn.{runs-go_on}
 
@@ -60,7 +60,7 @@ asked-each P state settled ps a =
     (each-one (λ p. WasOrIsNew P next (checkpoint_of state p (front_of settled p))) ps (λ p. inr (refl, refl))))
 
 -- the writes after a step are those before it, whatever their progress, or new
-took-was_or_new : (sys : System) (P : ℕ → Written → Type 0) (state : Machine) (step : Step) (next : Machine) (effect : Effect) → Takes sys state step next effect
+took-was_or_new : (sys : System) (P : ℕ → Written → Type 0) (state : Machine) (step : Step) (next : Machine) (effect : Effect) → LeadsTo sys state step next effect
     → AllByRecursion (λ (x : Write). P x.node x.written) state.writes → EachWasOrIsNew P next
 took-was_or_new sys P state (Inject s) next effect t a =
     subst (EachWasOrIsNew P) (sym t.3) (event-each P (with_event sys state (Injected s t.0)) state.writes (policy_of sys.flow s) s state.next a)
@@ -95,7 +95,7 @@ took-was_or_new sys P state Collect next effect t a =
     let low = map front_of_cut t.0.cuts in
     each-weaker W (WasOrIsNew P next) next.writes (λ x b. inl b)
     (subst (λ (m : Machine). AllByRecursion W m.writes) (sym t.3)
-    (each-mapped W (λ (x : Write). record x { progress = after_collection (is_below sys low state.history x.node x.written) x.progress }) state.writes a))
+    (each-mapped W (λ (x : Write). record x { progress = after_collection (lies_below sys low state.history x.node x.written) x.progress }) state.writes a))
 took-was_or_new sys P state (Ack o) next effect t a =
     let W : Write → Type 0 = λ x. P x.node x.written in
     each-weaker W (WasOrIsNew P next) next.writes (λ x b. inl b) (subst (λ (m : Machine). AllByRecursion W m.writes) (sym t.2) a)
@@ -134,7 +134,7 @@ abbrev AreAsAsked : System → Machine → Type 0
 AreAsAsked sys state = AllByRecursion (λ (x : Write). IsWrittenAsAsked sys state x.node x.written) state.writes
 
 took-as_asked : (sys : System) → IsWellFormedSystem sys → (steps : List Step) (outcomes : List Outcome) (state : Machine) → Run sys (first_state sys) steps outcomes state
-    → IsReached sys state → (step : Step) (next : Machine) (effect : Effect) → Takes sys state step next effect → IsReached sys next → AreAsAsked sys state → AreAsAsked sys next
+    → CanRecoverAndRestore sys state → (step : Step) (next : Machine) (effect : Effect) → LeadsTo sys state step next effect → CanRecoverAndRestore sys next → AreAsAsked sys state → AreAsAsked sys next
 took-as_asked sys w steps outcomes state r f step next effect t g a =
     let Was : Write → Type 0 = WasOrIsNew (IsWrittenAsAsked sys state) next in
     let Counts : Write → Type 0 = λ x. CountsWritten sys state next x.node x.written in
@@ -145,7 +145,7 @@ took-as_asked sys w steps outcomes state r f step next effect t g a =
     (each-both Counts Itself next.writes (took-true sys w state step next effect f g t) (same-each sys next next refl)))
 
 run-as_asked : (sys : System) → IsWellFormedSystem sys → (before : List Step) (seen : List Outcome) (steps : List Step) (outcomes : List Outcome) (state last : Machine)
-    → Run sys (first_state sys) before seen state → IsReached sys state → AreAsAsked sys state → Run sys state steps outcomes last → AreAsAsked sys last
+    → Run sys (first_state sys) before seen state → CanRecoverAndRestore sys state → AreAsAsked sys state → Run sys state steps outcomes last → AreAsAsked sys last
 run-as_asked sys w before seen [] [] state last p f a r = subst (AreAsAsked sys) (sym r) a
 run-as_asked sys w before seen [] (o ∷ os) state last p f a r = absurd r
 run-as_asked sys w before seen (s ∷ ss) [] state last p f a r = absurd r
@@ -154,7 +154,7 @@ run-as_asked sys w before seen (s ∷ ss) (did effect ∷ os) state last p f a r
     run-as_asked sys w (before ++ s ∷ []) (seen ++ did effect ∷ []) ss os r.0 last (runs-go_on sys (first_state sys) state r.0 before (s ∷ []) seen (did effect ∷ []) p (r.0, r.1, refl)) g
     (took-as_asked sys w before seen state p f s r.0 effect r.1 g a) r.2
 run-as_asked sys w before seen (s ∷ ss) (idle ∷ os) state last p f a r =
-    run-as_asked sys w before seen ss os r.0 last (subst (Run sys (first_state sys) before seen) (sym r.1.1) p) (subst (IsReached sys) (sym r.1.1) f)
+    run-as_asked sys w before seen ss os r.0 last (subst (Run sys (first_state sys) before seen) (sym r.1.1) p) (subst (CanRecoverAndRestore sys) (sym r.1.1) f)
     (subst (AreAsAsked sys) (sym r.1.1) a) r.2
 
 pub checkpoints-as_asked : CheckpointsAreAsTheyWereAsked

@@ -19,7 +19,7 @@ use Rattle.fw_flow.specs.Dataflow.{System, kind_of, policy_of, receiver, bounds_
 use Rattle.fw_model.specs.Machine.{Machine, Numbered, Write, Written, checkpoint, logged_event, Progress, acknowledged, places, first_state, front_of, is_failed}
 use Rattle.fw_flow.specs.declared.choice.Choice.{Choice}
 use Rattle.fw_model.specs.Choice.{View, Restoring, by_batches, by_bound, by_anything, by_checkpoints, by_events, restoring_of_policy, restoring, HasCheckpoint, IsRestorable, cut_of, filtered}
-use Rattle.fw_model.specs.Steps.{Effect, Outcome, did, idle, Takes, Steps, Run, write_of_event, checkpoint_of, is_eager, same_front, is_within, GrowsTo, AcknowledgesOldest, is_one_of, is_in_flight, is_kept_write, kept_writes, IsSettledCut, CutsTo, is_below, after_collection, front_of_cut}
+use Rattle.fw_model.specs.Steps.{Effect, Outcome, did, idle, LeadsTo, Steps, Run, write_of_event, checkpoint_of, is_eager, same_front, is_within, GrowsTo, AcknowledgesOldest, is_one_of, is_in_flight, is_kept_write, kept_writes, IsSettledCut, CutsTo, lies_below, after_collection, front_of_cut}
 use Rattle.fw_model.specs.LawsOfRecoveries.{CandidatesLieWithinSettled}
 use Rattle.fw_model.proofs.Decisions.{two_ways}
 use Rattle.fw_model.proofs.EachLaws.{each-weaker, each-append}
@@ -130,7 +130,7 @@ with-settled : (sys : System) (state : Machine) (more : List Write) → HasWrite
     → HasWritesSettled sys (record state { writes = state.writes ++ more })
 with-settled sys state more a b = each-append (IsWriteSettled sys state.settled) state.writes more a b
 
-pub took-writes : (sys : System) (state : Machine) (step : Step) (next : Machine) (effect : Effect) → Takes sys state step next effect
+pub took-writes : (sys : System) (state : Machine) (step : Step) (next : Machine) (effect : Effect) → LeadsTo sys state step next effect
     → HasWritesSettled sys state → HasWritesSettled sys next
 took-writes sys state (Inject s) next effect t a =
     subst (HasWritesSettled sys) (sym t.3) (with-settled sys state (write_of_event (policy_of sys.flow s) s state.next) a (event-writes sys state.settled (policy_of sys.flow s) s state.next))
@@ -160,7 +160,7 @@ took-writes sys state Collect next effect t a =
     let low = map front_of_cut t.0.cuts in
     subst (HasWritesSettled sys) (sym t.3)
     (each-mapped (IsWriteSettled sys state.settled)
-    (λ (write : Write). record write { progress = after_collection (is_below sys low state.history write.node write.written) write.progress }) state.writes a)
+    (λ (write : Write). record write { progress = after_collection (lies_below sys low state.history write.node write.written) write.progress }) state.writes a)
 took-writes sys state (Ack o) next effect t a = subst (HasWritesSettled sys) (sym t.2) a
 
 steps-writes : (sys : System) (state : Machine) (step : Step) (next : Machine) (outcome : Outcome) → Steps sys state step next outcome

@@ -17,7 +17,7 @@ use Rattle.fw_model.specs.Denotation.{Family, IsDenotation, rounds}
 use Rattle.fw_model.specs.Machine.{Machine, Numbered, Write, Written, checkpoint, logged_event, Progress, in_flight, acknowledged, collected, places, first_state, front_of, is_failed, bound_of}
 use Rattle.fw_flow.specs.declared.choice.Choice.{Choice}
 use Rattle.fw_model.specs.Choice.{View, kept, ever, Restoring, by_batches, by_bound, by_anything, by_checkpoints, by_events, restoring, IsRestorable, IsCandidate, cut_of, IsConsistent, IsCutWithin, IsLargest, filtered}
-use Rattle.fw_model.specs.Steps.{Effect, Outcome, did, idle, Takes, Run, write_of_event, checkpoint_of, is_eager, same_front, is_within, eager_writes, is_one_of, is_in_flight, without_lost, with_failed, is_kept_write, is_below, after_collection, front_of_cut}
+use Rattle.fw_model.specs.Steps.{Effect, Outcome, did, idle, LeadsTo, Run, write_of_event, checkpoint_of, is_eager, same_front, is_within, eager_writes, is_one_of, is_in_flight, without_lost, with_failed, is_kept_write, lies_below, after_collection, front_of_cut}
 use Rattle.fw_model.specs.LawsOfDenotation.{enough_rounds}
 use Rattle.fw_model.specs.LawsOfExistence.{AreCheckpointsChains}
 use Rattle.fw_model.specs.LawsOfFiltering.{IsFull}
@@ -30,7 +30,7 @@ use Rattle.fw_model.proofs.FilterLaws.{each-one}
 use Rattle.fw_model.proofs.CheckpointLaws.{HoldsSettled, IsWriteSettled, AreWritesSettled, HasWritesSettled, grown-writes, settled-grows, each-mapped, each-passed, each-replaced, took-writes}
 use Rattle.fw_model.proofs.LargestLaws.{largest-exists, within-trans}
 use Rattle.fw_model.proofs.RunLaws.{none-inside, epochs-of}
-use Rattle.fw_model.proofs.RecoveryLaws.{Holds, all_kinds-denote, first-holds, steps-hold, denoted-full}
+use Rattle.fw_model.proofs.RecoveryLaws.{IsLegalAndDenoted, all_kinds-denote, first-holds, steps-hold, denoted-full}
 use Rattle.fw_model.proofs.SomeNextLaws.{exactly_one_next, recover-enabled}
 use Rattle.fw_model.proofs.SameInsideLaws.{at_node, IsLowConsistent}
 use Rattle.fw_model.proofs.WriteLaws.{some-checkpoint, checkpoint-some, pairs-append, pairs-passed, pairs-mapped, pairs-replaced, LiesBelow, IsWriteBelow, AreAscending, settled-below, ascending-chain, IsCollectedBelow, IsWriteCollectedBelow, kept-from_ever}
@@ -38,14 +38,14 @@ use Rattle.fw_model.proofs.LowLaws.{event-low, same-low, keep-append, keep-all, 
 
 -- what holds of each state of a run
 pub record CanRecover (sys : System) (family : Family) (state : Machine) : Type 0 where
-  pub holds : Holds sys family state
+  pub holds : IsLegalAndDenoted sys family state
   pub lie_settled : HasWritesSettled sys state
   pub ascend : AreAscending sys state.writes
   pub lie_below : AllByRecursion (IsWriteCollectedBelow sys state.low) state.writes
   pub notes : List Front
   pub watermark : IsLowConsistent sys state notes
 
-pub full-of : (sys : System) (family : Family) (state : Machine) → IsWellFormedSystem sys → IsDenotation sys family → Holds sys family state → IsFull sys state
+pub full-of : (sys : System) (family : Family) (state : Machine) → IsWellFormedSystem sys → IsDenotation sys family → IsLegalAndDenoted sys family state → IsFull sys state
 full-of sys family state w u f = denoted-full sys family state w u f.legal (record { denoted = f.denoted; paid = f.paid })
 
 -- ---- the low watermark at each step
@@ -55,7 +55,7 @@ abbrev HasLow : System → Machine → Type 0
 HasLow sys state = (notes : List Front) × IsLowConsistent sys state notes
 
 took-low : (sys : System) (family : Family) → IsWellFormedSystem sys → IsDenotation sys family → (state : Machine) (step : Step) (next : Machine) (effect : Effect)
-    → CanRecover sys family state → Takes sys state step next effect → HasLow sys next
+    → CanRecover sys family state → LeadsTo sys state step next effect → HasLow sys next
 took-low sys family w u state (Inject s) next effect f t =
     subst (HasLow sys) (sym t.3) (f.notes, event-low sys state f.notes (Injected s t.0) w.flow (full-of sys family state w u f.holds) f.lie_settled f.watermark t.1)
 took-low sys family w u state (Deliver e at) next effect f t =
@@ -144,7 +144,7 @@ abbrev HasAscending : System → Machine → Type 0
 HasAscending sys state = AreAscending sys state.writes
 
 took-ascend : (sys : System) (state : Machine) (step : Step) (next : Machine) (effect : Effect) → HasWritesSettled sys state → AreAscending sys state.writes
-    → Takes sys state step next effect → AreAscending sys next.writes
+    → LeadsTo sys state step next effect → AreAscending sys next.writes
 took-ascend sys state (Inject s) next effect h a t =
     subst (HasAscending sys) (sym t.3) (event-ascend sys state.writes (policy_of sys.flow s) s state.next a)
 took-ascend sys state (Deliver e at) next effect h a t =
@@ -169,7 +169,7 @@ took-ascend sys state Recover next effect h a t =
     (pairs-passed (LiesBelow sys) (λ write. is_kept_write (cut_of t.1 write.node) write.written (filtered sys t.1 state.history)) state.writes a)
 took-ascend sys state Collect next effect h a t =
     let low = map front_of_cut t.0.cuts in
-    subst (HasAscending sys) (sym t.3) (pairs-mapped (LiesBelow sys) (λ write. after_collection (is_below sys low state.history write.node write.written) write.progress) state.writes a)
+    subst (HasAscending sys) (sym t.3) (pairs-mapped (LiesBelow sys) (λ write. after_collection (lies_below sys low state.history write.node write.written) write.progress) state.writes a)
 took-ascend sys state (Ack o) next effect h a t = subst (HasAscending sys) (sym t.2) a
 
 -- ---- collected checkpoints lie below at each step
@@ -194,11 +194,11 @@ acknowledged-below sys low p (logged_event s) = tt
 
 -- what is collected lies below the new low watermark, and so does what lay below the old one
 collected-below : (sys : System) (old low : List Front) (h : List Numbered) → ((p : ℕ) → p < length sys.flow.nodes → Within (at_node sys old p) (at_node sys low p))
-    → (p : ℕ) (w : Written) (far : Progress) → IsCollectedBelow sys old p w far → IsCollectedBelow sys low p w (after_collection (is_below sys low h p w) far)
+    → (p : ℕ) (w : Written) (far : Progress) → IsCollectedBelow sys old p w far → IsCollectedBelow sys low p w (after_collection (lies_below sys low h p w) far)
 collected-below sys old low h grows p (checkpoint g l) in_flight a = tt
 collected-below sys old low h grows p (checkpoint g l) collected a = λ i c v. a i c (λ t k. v t (grows p i t k))
 collected-below sys old low h grows p (checkpoint g l) acknowledged a =
-    cond_both (is_below sys low h p (checkpoint g l)) collected acknowledged (λ far. IsCollectedBelow sys low p (checkpoint g l) far)
+    cond_both (lies_below sys low h p (checkpoint g l)) collected acknowledged (λ far. IsCollectedBelow sys low p (checkpoint g l) far)
     (λ e i c v. two_ways (not (is_within (front_of low p) g)) (and_parts (is_within g (front_of low p)) (not (is_within (front_of low p) g)) e).1
     (ap not (within-is (bounds_of sys.flow p) (front_of low p) g c v)))
     (λ e. tt)
@@ -213,7 +213,7 @@ watermark-grows sys state notes choice c m p l =
     (low-within sys state notes c (λ q. true) kept choice m p l)
 
 took-below : (sys : System) (family : Family) (state : Machine) (step : Step) (next : Machine) (effect : Effect) → CanRecover sys family state
-    → Takes sys state step next effect → HasCollectedBelow sys next
+    → LeadsTo sys state step next effect → HasCollectedBelow sys next
 took-below sys family state (Inject s) next effect f t =
     subst (HasCollectedBelow sys) (sym t.3)
     (each-append (IsWriteCollectedBelow sys state.low) state.writes (write_of_event (policy_of sys.flow s) s state.next) f.lie_below (event-below sys state.low (policy_of sys.flow s) s state.next))
@@ -251,15 +251,15 @@ took-below sys family state Collect next effect f t =
     let low = map front_of_cut choice.cuts in
     let grows = watermark-grows sys state f.notes choice f.watermark t.1 in
     subst (HasCollectedBelow sys) (sym t.3)
-    (each-mapped (IsWriteCollectedBelow sys low) (λ (x : Write). record x { progress = after_collection (is_below sys low state.history x.node x.written) x.progress }) state.writes
-    (each-weaker (IsWriteCollectedBelow sys state.low) (λ (x : Write). IsCollectedBelow sys low x.node x.written (after_collection (is_below sys low state.history x.node x.written) x.progress)) state.writes
+    (each-mapped (IsWriteCollectedBelow sys low) (λ (x : Write). record x { progress = after_collection (lies_below sys low state.history x.node x.written) x.progress }) state.writes
+    (each-weaker (IsWriteCollectedBelow sys state.low) (λ (x : Write). IsCollectedBelow sys low x.node x.written (after_collection (lies_below sys low state.history x.node x.written) x.progress)) state.writes
     (λ x b. collected-below sys state.low low state.history grows x.node x.written x.progress b) f.lie_below))
 took-below sys family state (Ack o) next effect f t = subst (HasCollectedBelow sys) (sym t.2) f.lie_below
 
 -- ---- each state of a run
 
 pub took-recover : (sys : System) (family : Family) → IsWellFormedSystem sys → IsDenotation sys family → (state : Machine) (step : Step) (next : Machine) (effect : Effect)
-    → CanRecover sys family state → Takes sys state step next effect → CanRecover sys family next
+    → CanRecover sys family state → LeadsTo sys state step next effect → CanRecover sys family next
 took-recover sys family w u state step next effect f t =
     let low = took-low sys family w u state step next effect f t in
     record {
@@ -359,7 +359,7 @@ same-node : (sys : System) (state next : Machine) → next.low ≡ state.low →
 same-node sys state next e p t i = ap (λ fs. at_node sys fs p t) e ∙ i
 
 pub took-grows : (sys : System) (state : Machine) (notes : List Front) (step : Step) (next : Machine) (effect : Effect) → IsLowConsistent sys state notes
-    → Takes sys state step next effect → (p : ℕ) → p < length sys.flow.nodes → Within (at_node sys state.low p) (at_node sys next.low p)
+    → LeadsTo sys state step next effect → (p : ℕ) → p < length sys.flow.nodes → Within (at_node sys state.low p) (at_node sys next.low p)
 took-grows sys state notes (Inject s) next effect c t p l = same-node sys state next (ap (λ (m : Machine). m.low) t.3) p
 took-grows sys state notes (Deliver e at) next effect c t p l = same-node sys state next (ap (λ (m : Machine). m.low) t.3) p
 took-grows sys state notes (Notify q at) next effect c t p l = same-node sys state next (ap (λ (m : Machine). m.low) t.3) p

@@ -17,7 +17,7 @@ use Rattle.fw_flow.specs.declared.event.Message.{Message}
 use Rattle.fw_flow.specs.declared.node.Edge.{Edge}
 use Rattle.fw_flow.specs.declared.kind.Kind.{Kind}
 use Rattle.fw_flow.specs.declared.kind.Kind.TheVariants.{Input}
-use Rattle.fw_flow.specs.Projection.{number_of}
+use Rattle.fw_flow.specs.Projection.{first_number_of}
 use Rattle.fw_flow.specs.Dataflow.{System, Dataflow, kind_of, receiver, in_edges, edges_into, bounds_of, bounds_of_domain, domain_of_kind, greatest_number, is_input_kind, is_notified_kind, batches_of}
 use Rattle.fw_model.specs.History.{pending, owed, is_delivery_to, is_notification, was_notified, was_delivered_to, some_at, injected_count, is_exhausted, injected_epochs, IsQuiet}
 use Rattle.fw_model.specs.Clear.{given, pending_stamps, is_unnotified, owed_by, owed_stamps, IsClear}
@@ -345,7 +345,7 @@ given_no_input sys h p f e k = record {
 pub given_exhausted : (sys : System) (h : List Event) (p : ℕ) (f : Front) → f ≡ [] → is_exhausted sys h p ≡ true → Names (bounds_of sys.flow p) f (given sys h p)
 given_exhausted sys h p f e k = record {
   canonical = subst (IsCanonical (bounds_of sys.flow p)) (sym e) tt;
-  same = λ t. ap (λ os. frontier_of (bounds_of sys.flow p) os t) e ∙ all (in_domain (bounds_of sys.flow p) t) (is_input_kind (kind_of sys.flow p)) (is_exhausted sys h p) (nat_lt (number_of t) (injected_count p h)) k;
+  same = λ t. ap (λ os. frontier_of (bounds_of sys.flow p) os t) e ∙ all (in_domain (bounds_of sys.flow p) t) (is_input_kind (kind_of sys.flow p)) (is_exhausted sys h p) (nat_lt (first_number_of t) (injected_count p h)) k;
 }
   where
     all : (d i x n : Bool) → x ≡ true → (d && true) ≡ (d && (not i || (d && (x || n))))
@@ -357,10 +357,10 @@ given_exhausted sys h p f e k = record {
         last false = refl
     all true i false n k = absurd (cc)
 
-epoch-before : (n : ℕ) (t : Stamp) → leq t (greatest_number ∷ []) ≡ true → (not (leq (n ∷ []) t) && true) ≡ nat_lt (number_of t) n
+epoch-before : (n : ℕ) (t : Stamp) → leq t (greatest_number ∷ []) ≡ true → (not (leq (n ∷ []) t) && true) ≡ nat_lt (first_number_of t) n
 epoch-before n t l =
     let a = in_line t greatest_number l in
-    subst (λ u. (not (leq (n ∷ []) u) && true) ≡ nat_lt (number_of u) n) (sym a.1) (lt a.0)
+    subst (λ u. (not (leq (n ∷ []) u) && true) ≡ nat_lt (first_number_of u) n) (sym a.1) (lt a.0)
   where
     lt : (k : ℕ) → (not (nat_le n k && true) && true) ≡ nat_lt k n
     lt k = grind (arith, nat_tests)
@@ -376,12 +376,12 @@ given_until sys h p n s f k x e q names =
       same = λ t. m.same t ∙ at t (in_domain b t) refl ∙ ap (λ c. in_domain b t && (not c || injected_epochs sys h p t)) (sym k);
     }
   where
-    at : (t : Stamp) (d : Bool) → in_domain (bounds_of sys.flow p) t ≡ d → (d && inside ((n ∷ []) ∷ []) t) ≡ (d && (not true || (in_domain (bounds_of sys.flow p) t && (is_exhausted sys h p || nat_lt (number_of t) (injected_count p h)))))
+    at : (t : Stamp) (d : Bool) → in_domain (bounds_of sys.flow p) t ≡ d → (d && inside ((n ∷ []) ∷ []) t) ≡ (d && (not true || (in_domain (bounds_of sys.flow p) t && (is_exhausted sys h p || nat_lt (first_number_of t) (injected_count p h)))))
     at t false j = refl
     at t true j =
         epoch-before n t (sym (ap (λ (c : Bounds). in_domain c t) (input-bounds sys.flow p k)) ∙ j)
-        ∙ ap (nat_lt (number_of t)) e
-        ∙ (λ i. sym j i && (sym x i || nat_lt (number_of t) (injected_count p h)))
+        ∙ ap (nat_lt (first_number_of t)) e
+        ∙ (λ i. sym j i && (sym x i || nat_lt (first_number_of t) (injected_count p h)))
 
 -- an input that injected more than all epochs gives all
 pub given_past : (sys : System) (h : List Event) (p : ℕ) (f : Front) → f ≡ [] → is_input_kind (kind_of sys.flow p) ≡ true → 2 ^ 32 ≤ injected_count p h
@@ -398,13 +398,13 @@ given_past sys h p f e k l = record {
     less : (n m : ℕ) → n ≤ greatest_number → 2 ^ 32 ≤ m → nat_lt n m ≡ true
     less n m a b = grind (arith, nat_tests)
 
-    at : (t : Stamp) (d : Bool) → in_domain (bounds_of sys.flow p) t ≡ d → (d && true) ≡ (d && (not true || (in_domain (bounds_of sys.flow p) t && (is_exhausted sys h p || nat_lt (number_of t) (injected_count p h)))))
+    at : (t : Stamp) (d : Bool) → in_domain (bounds_of sys.flow p) t ≡ d → (d && true) ≡ (d && (not true || (in_domain (bounds_of sys.flow p) t && (is_exhausted sys h p || nat_lt (first_number_of t) (injected_count p h)))))
     at t false j = refl
     at t true j =
         let a = in_line t greatest_number (sym (ap (λ (c : Bounds). in_domain c t) (input-bounds sys.flow p k)) ∙ j) in
-        all (is_exhausted sys h p) (nat_lt (number_of t) (injected_count p h))
-        (less (number_of t) (injected_count p h) (subst (λ u. number_of u ≤ greatest_number) (sym a.1) a.2) l)
-        ∙ ap (λ c. c && (is_exhausted sys h p || nat_lt (number_of t) (injected_count p h))) (sym j)
+        all (is_exhausted sys h p) (nat_lt (first_number_of t) (injected_count p h))
+        (less (first_number_of t) (injected_count p h) (subst (λ u. first_number_of u ≤ greatest_number) (sym a.1) a.2) l)
+        ∙ ap (λ c. c && (is_exhausted sys h p || nat_lt (first_number_of t) (injected_count p h))) (sym j)
 
 -- the domain of an input has each epoch
 pub epoch-in_domain : (flow : Dataflow) (p n : ℕ) (s : Stamp) → is_input_kind (kind_of flow p) ≡ true → n < 2 ^ 32 → s ≡ n ∷ [] → in_domain (bounds_of flow p) s ≡ true

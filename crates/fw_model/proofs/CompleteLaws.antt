@@ -11,7 +11,7 @@ use Rattle.fw_flow.specs.declared.event.Message.{Message}
 use Rattle.fw_flow.specs.declared.kind.Kind.TheVariants.{OutputEpoch, Sequence}
 use Rattle.fw_flow.specs.Dataflow.{System, Dataflow, idle_node, kind_of, sender, receiver, greatest_number, bounds_of, is_input_kind, is_notified_kind, batches_of, send_stamp, send_stamp_of_kind}
 use Rattle.fw_flow.specs.NodeFunction.{place, stamp, recs_on, numbered_messages, sequence_sent, sends_of_kind, sends, sent_by}
-use Rattle.fw_flow.specs.Projection.{events_at, count_from, number_of, phi}
+use Rattle.fw_flow.specs.Projection.{events_at, count_from, first_number_of, phi}
 use Rattle.fw_flow.specs.WellFormed.{IsWellFormed}
 use Rattle.fw_model.specs.History.{less, some_at, sent, delivered, pending, was_delivered_to, was_notified, owed, injected_count, is_exhausted, injected_epochs, IsAdmissible, IsEnabled, IsLegal}
 use Rattle.fw_model.specs.LawsOfProjections.{bounds_of_edge, is_sequence_kind, IsSenderFrontier}
@@ -187,9 +187,9 @@ injected-grows sys h (Notify p u) k s = λ t i. i
 injected-grows sys h (Inject q x) k s = λ t i.
     let d = in_domain (bounds_of sys.flow s) t in
     let n = injected_count s h in
-    let a = and_parts d (is_exhausted sys h s || nat_lt (number_of t) n) i in
-    cond_both (q == s) (n + 1) n (λ c. (d && (c == length (batches_of sys s) || nat_lt (number_of t) c)) ≡ true)
-    (λ e. and_from d _ a.0 (elim (or_cases (is_exhausted sys h s) (nat_lt (number_of t) n) a.1) [
+    let a = and_parts d (is_exhausted sys h s || nat_lt (first_number_of t) n) i in
+    cond_both (q == s) (n + 1) n (λ c. (d && (c == length (batches_of sys s) || nat_lt (first_number_of t) c)) ≡ true)
+    (λ e. and_from d _ a.0 (elim (or_cases (is_exhausted sys h s) (nat_lt (first_number_of t) n) a.1) [
       | inl j ↦
           let z = eqb-true n (length (batches_of sys s)) j in
           let y = k.next in
@@ -198,7 +198,7 @@ injected-grows sys h (Inject q x) k s = λ t i.
           let u = ap (λ r. injected_count r h) same_node in
           let g = ap (λ r. length (batches_of sys r)) same_node in
           absurd (omega arith)
-      | inr j ↦ let z = ltb-true (number_of t) n j in or_right _ (nat_lt (number_of t) (n + 1)) (lt-ltb (number_of t) (n + 1) (omega arith))
+      | inr j ↦ let z = ltb-true (first_number_of t) n j in or_right _ (nat_lt (first_number_of t) (n + 1)) (lt-ltb (first_number_of t) (n + 1) (omega arith))
     ]))
     (λ e. i)
 

@@ -21,7 +21,7 @@ use Rattle.fw_flow.specs.Projection.{phi}
 use Rattle.fw_flow.specs.WellFormed.{IsWellFormed}
 use Rattle.fw_model.specs.History.{is_among, pending, delivered, was_delivered_to, was_notified, owed, injected_count, message_cmp, IsAdmissible, IsComplete, IsDeliverable, IsNotifiable}
 use Rattle.fw_model.specs.Machine.{Machine, Write, acknowledged, events, no_stamps, places, front_of, is_failed, bound_of}
-use Rattle.fw_model.specs.Steps.{Effect, quiet, acked, with_event, IsAsked, eager_writes, is_asked_for_checkpoints, newest_checkpoint, checkpoint_of, is_in_flight, AcknowledgesOldest, is_one_of, without_lost, with_failed, HasEpoch, HasDelivery, IsThere, MayAcknowledge, recs_at_output, Takes}
+use Rattle.fw_model.specs.Steps.{Effect, quiet, acked, with_event, IsAsked, eager_writes, is_asked_for_checkpoints, newest_checkpoint, checkpoint_of, is_in_flight, AcknowledgesOldest, is_one_of, without_lost, with_failed, HasEpoch, HasDelivery, HasSomethingAt, MayAcknowledge, recs_at_output, LeadsTo}
 use Rattle.fw_model.proofs.CmpLaws.{decided-stamp, decided-front, stamp_total, message_total, among-each, find_least}
 use Rattle.fw_model.proofs.Decisions.{two_ways, Decided, decided-test, decided-or, decided-below, find_place}
 use Rattle.fw_model.proofs.DescentLaws.{is_quiet, quiet-at, quiet-from, past_edges-receiver, follows_all, follows_all-at, follows_all-from, complete-exists, complete-one}
@@ -40,7 +40,7 @@ decided-asked (Some s) t = decided-stamp s t
 -- a step is enabled and leads to some next state, or it is not enabled
 abbrev pub DecidedStep : System → Machine → Step → Type 0
 DecidedStep sys state step =
-    ((next : Machine) × (effect : Effect) × Takes sys state step next effect) ⊎ ((next : Machine) (effect : Effect) → Takes sys state step next effect → ⊥)
+    ((next : Machine) × (effect : Effect) × LeadsTo sys state step next effect) ⊎ ((next : Machine) (effect : Effect) → LeadsTo sys state step next effect → ⊥)
 
 pub inject-decided : (sys : System) (state : Machine) (s : ℕ) → DecidedStep sys state (Inject s)
 inject-decided sys state s =
@@ -339,7 +339,7 @@ epoch-decided (batches ∷ sources) x = decided-or (decided-below x (length batc
 delivery-decided : (sys : System) (h : List Event) (o : ℕ) (test : Stamp → Bool) → Decided (HasDelivery sys h o test)
 delivery-decided sys h o test = decided-below 0 (length (delivered_recs (λ e s. receiver sys.flow e == o && test s) h))
 
-there-decided : (sys : System) (h : List Event) (kind : Kind) (o x : ℕ) → Decided (IsThere sys h kind o x)
+there-decided : (sys : System) (h : List Event) (kind : Kind) (o x : ℕ) → Decided (HasSomethingAt sys h kind o x)
 there-decided sys h OutputNumber o x = delivery-decided sys h o (same (x ∷ []))
 there-decided sys h kind o x = decided-or (epoch-decided sys.batches x) (delivery-decided sys h o (leq (x ∷ [])))
 

@@ -18,7 +18,7 @@ use Rattle.fw_model.specs.History.{IsEnabled}
 use Rattle.fw_model.specs.Machine.{Machine, Numbered, Write, Written, checkpoint, logged_event, Progress, in_flight, acknowledged, collected, events, places, first_state, front_of, is_failed}
 use Rattle.fw_flow.specs.declared.choice.Choice.{Choice}
 use Rattle.fw_model.specs.Choice.{kept, ever, counts, IsLogged, IsRestorable, IsCandidate, cut_of, kept_of, IsConsistent, filtered}
-use Rattle.fw_model.specs.Steps.{Effect, Outcome, did, idle, Takes, Run, write_of_event, with_event, same_front, is_within, checkpoint_of, is_eager, is_one_of, is_in_flight, is_kept_write, front_of_cut, is_given_up, is_serial_given_up, is_below, after_collection}
+use Rattle.fw_model.specs.Steps.{Effect, Outcome, did, idle, LeadsTo, Run, write_of_event, with_event, same_front, is_within, checkpoint_of, is_eager, is_one_of, is_in_flight, is_kept_write, front_of_cut, is_given_up, is_serial_given_up, lies_below, after_collection}
 use Rattle.fw_model.specs.LawsOfRestoring.{WhatIsForgottenWasAcknowledged, CollectedIsWhatLiesBelow}
 use Rattle.fw_model.proofs.Decisions.{two_ways}
 use Rattle.fw_model.proofs.EachLaws.{each-weaker, each-both, each-append}
@@ -28,7 +28,7 @@ use Rattle.fw_model.proofs.SameInsideLaws.{at_node}
 use Rattle.fw_model.proofs.WriteLaws.{HoldsOfOne, IsCheckpointAt, IsItsCheckpoint, NamesEvent, LogsEvent, some-checkpoint, some-logged, ArePairs, LiesBelow, AreAscending}
 use Rattle.fw_model.proofs.LowLaws.{at_most-refl, low-within_settled, event-outside, within-is, none-within, watermark-front, kept-counts}
 use Rattle.fw_model.proofs.ChoosingLaws.{settled_writes}
-use Rattle.fw_model.proofs.AskedLaws.{takes-declared, takes-restoring, takes-not_input, AreSerialsBelow, serials-each, any-find, LowGrows, given-stamp, given-grows, IsAskedWell, IsWriteAskedWell, IsApart, low-grows, IsReached, took-reached, first-reached, reached-all}
+use Rattle.fw_model.proofs.AskedLaws.{takes-declared, takes-restoring, takes-not_input, AreSerialsBelow, serials-each, any-find, LowGrows, given-stamp, given-grows, IsAskedWell, IsWriteAskedWell, IsApart, low-grows, CanRecoverAndRestore, took-reached, first-reached, reached-all}
 use Rattle.fw_model.proofs.RestoringLaws.{full-reached, low-kept, apart-events, all-logged, full-restoring, full-declared}
 
 -- ---- writes are acknowledged in order
@@ -89,7 +89,7 @@ asked-fly state settled ps = each-mapped Flies (λ p. checkpoint_of state p (fro
 abbrev HasOrder : Machine → Type 0
 HasOrder state = AreInOrder state.writes
 
-took-order : (sys : System) (state : Machine) (step : Step) (next : Machine) (effect : Effect) → Takes sys state step next effect → HasOrder state → HasOrder next
+took-order : (sys : System) (state : Machine) (step : Step) (next : Machine) (effect : Effect) → LeadsTo sys state step next effect → HasOrder state → HasOrder next
 took-order sys state (Inject s) next effect t a =
     subst HasOrder (sym t.3) (order-append state.writes (write_of_event (policy_of sys.flow s) s state.next) a (event-flies (policy_of sys.flow s) s state.next))
 took-order sys state (Deliver e at) next effect t a =
@@ -111,7 +111,7 @@ took-order sys state Recover next effect t a =
     subst HasOrder (sym t.7) (order-passed (λ write. is_kept_write (cut_of t.1 write.node) write.written (filtered sys t.1 state.history)) state.writes a)
 took-order sys state Collect next effect t a =
     let low = map front_of_cut t.0.cuts in
-    subst HasOrder (sym t.3) (order-collected (λ write. is_below sys low state.history write.node write.written) state.writes a)
+    subst HasOrder (sym t.3) (order-collected (λ write. lies_below sys low state.history write.node write.written) state.writes a)
 took-order sys state (Ack o) next effect t a = subst HasOrder (sym t.2) a
 
 run-order : (sys : System) (steps : List Step) (outcomes : List Outcome) (state last : Machine) → HasOrder state → Run sys state steps outcomes last → HasOrder last
@@ -197,10 +197,10 @@ offered-low : (sys : System) (state : Machine) (choice : Choice) → IsConsisten
     → p < length sys.flow.nodes → IsCandidate sys state (λ q. true) kept p (At (front_of (map front_of_cut choice.cuts) p))
 offered-low sys state choice c p l = subst (λ cut. IsCandidate sys state (λ q. true) kept p cut) (sym (watermark-front sys state choice c p l)) (c.offered p l)
 
-below-lands : (sys : System) → IsWellFormed sys.flow → (state : Machine) → IsReached sys state → HasOrder state → (choice : Choice)
+below-lands : (sys : System) → IsWellFormed sys.flow → (state : Machine) → CanRecoverAndRestore sys state → HasOrder state → (choice : Choice)
     → IsConsistent sys state (IsCandidate sys state (λ p. true) kept) choice → (p : ℕ) (w : Written)
     → HoldsOfOne (λ (y : Write). y ≡ record { node = p; written = w; progress = in_flight }) state.writes
-    → is_below sys (map front_of_cut choice.cuts) state.history p w ≡ true → ⊥
+    → lies_below sys (map front_of_cut choice.cuts) state.history p w ≡ true → ⊥
 below-lands sys w state r o choice c p (checkpoint g l) has k =
     let low = map front_of_cut choice.cuts in
     let b = bounds_of sys.flow p in
@@ -240,17 +240,17 @@ below-lands sys w state r o choice c p (logged_event s) has k =
     flying-alone s p state.writes r.restore.apart has (some-logged s state.writes (subst (λ x. IsLogged x state.writes) is (v.2.1 at inside)))
 
 -- no write below the watermark of a collection is in flight
-below-each : (sys : System) → IsWellFormed sys.flow → (state : Machine) → IsReached sys state → HasOrder state → (choice : Choice)
+below-each : (sys : System) → IsWellFormed sys.flow → (state : Machine) → CanRecoverAndRestore sys state → HasOrder state → (choice : Choice)
     → IsConsistent sys state (IsCandidate sys state (λ p. true) kept) choice
-    → AllByRecursion (λ (x : Write). is_below sys (map front_of_cut choice.cuts) state.history x.node x.written ≡ true → is_in_flight x.progress ≡ false) state.writes
+    → AllByRecursion (λ (x : Write). lies_below sys (map front_of_cut choice.cuts) state.history x.node x.written ≡ true → is_in_flight x.progress ≡ false) state.writes
 below-each sys w state f o choice c =
     let low = map front_of_cut choice.cuts in
-    each-in (λ (x : Write). is_below sys low state.history x.node x.written ≡ true → is_in_flight x.progress ≡ false) state.writes
+    each-in (λ (x : Write). lies_below sys low state.history x.node x.written ≡ true → is_in_flight x.progress ≡ false) state.writes
     (λ x has k. false_from_ne_true (is_in_flight x.progress) (λ i. by x.node x.written x.progress f o c has k i))
   where
-    by : (n : ℕ) (v : Written) (far : Progress) → IsReached sys state → HasOrder state → IsConsistent sys state (IsCandidate sys state (λ p. true) kept) choice
+    by : (n : ℕ) (v : Written) (far : Progress) → CanRecoverAndRestore sys state → HasOrder state → IsConsistent sys state (IsCandidate sys state (λ p. true) kept) choice
         → HoldsOfOne (λ (y : Write). y ≡ record { node = n; written = v; progress = far }) state.writes
-        → is_below sys (map front_of_cut choice.cuts) state.history n v ≡ true → is_in_flight far ≡ true → ⊥
+        → lies_below sys (map front_of_cut choice.cuts) state.history n v ≡ true → is_in_flight far ≡ true → ⊥
     by n v in_flight f o c has k i = below-lands sys w state f o choice c n v has k
     by n v acknowledged f o c has k i = two_ways false i refl
     by n v collected f o c has k i = two_ways false i refl
@@ -263,7 +263,7 @@ forgotten-acknowledged sys w steps outcomes last r choice m =
 
 -- what is written was collected exactly where it lies below the watermark
 abbrev IsExact : System → List Front → List Numbered → ℕ → Written → Progress → Type 0
-IsExact sys low h p w far = (far ≡ collected) ↔ (is_below sys low h p w ≡ true)
+IsExact sys low h p w far = (far ≡ collected) ↔ (lies_below sys low h p w ≡ true)
 
 abbrev IsWriteExact : System → List Front → List Numbered → Write → Type 0
 IsWriteExact sys low h x = IsExact sys low h x.node x.written x.progress
@@ -272,7 +272,7 @@ abbrev AreExact : System → Machine → Type 0
 AreExact sys state = AllByRecursion (IsWriteExact sys state.low state.history) state.writes
 
 -- where it lies below in one history as in another
-exact-same : (sys : System) (low : List Front) (h k : List Numbered) (p : ℕ) (w : Written) (far : Progress) → is_below sys low k p w ≡ is_below sys low h p w
+exact-same : (sys : System) (low : List Front) (h k : List Numbered) (p : ℕ) (w : Written) (far : Progress) → lies_below sys low k p w ≡ lies_below sys low h p w
     → IsExact sys low h p w far → IsExact sys low k p w far
 exact-same sys low h k p w far e a = (λ c. e ∙ a.0 c, λ b. a.1 (sym e ∙ b))
 
@@ -281,7 +281,7 @@ exact-new : (b : Bool) → (b ≡ true → ⊥) → (in_flight ≡ collected) �
 exact-new b n = (λ c. absurd (cc c), λ k. absurd (n k))
 
 later-below : (sys : System) (low : List Front) (v : Numbered) (h : List Numbered) (p : ℕ) (w : Written) (far : Progress) → IsAskedWell sys low v.serial h p w far
-    → is_below sys low (v ∷ h) p w ≡ is_below sys low h p w
+    → lies_below sys low (v ∷ h) p w ≡ lies_below sys low h p w
 later-below sys low v h p (checkpoint g l) far a = refl
 later-below sys low v h p (logged_event s) far a =
     let less = a.0 in
@@ -290,7 +290,7 @@ later-below sys low v h p (logged_event s) far a =
     (false_from_ne_true (v.serial == s) (λ e. let is = eqb-true v.serial s e in absurd (omega arith)))
 
 new-not_below : (sys : System) (low : List Front) (v : Numbered) (h : List Numbered) → AreSerialsBelow v.serial h
-    → at_node sys low (place sys.flow v.event) (stamp v.event) ≡ false → (p : ℕ) → is_below sys low (v ∷ h) p (logged_event v.serial) ≡ true → ⊥
+    → at_node sys low (place sys.flow v.event) (stamp v.event) ≡ false → (p : ℕ) → lies_below sys low (v ∷ h) p (logged_event v.serial) ≡ true → ⊥
 new-not_below sys low v h a out p k =
     let given : Numbered → Bool = λ u. is_given_up sys low (place sys.flow u.event) (stamp u.event) in
     elim (or_cases (v.serial == v.serial && given v) (is_serial_given_up sys low v.serial h) k) [
@@ -302,7 +302,7 @@ new-not_below sys low v h a out p k =
           absurd (omega arith)
     ]
 
-event-exact : (sys : System) → IsWellFormedSystem sys → (state : Machine) (v : Event) → IsReached sys state → IsEnabled sys (events state.history) v → AreExact sys state
+event-exact : (sys : System) → IsWellFormedSystem sys → (state : Machine) (v : Event) → CanRecoverAndRestore sys state → IsEnabled sys (events state.history) v → AreExact sys state
     → AreExact sys (with_event sys state v)
 event-exact sys w state v f k a =
     let p = place sys.flow v in
@@ -323,9 +323,9 @@ event-exact sys w state v f k a =
     asked pol e out = tt
 
 -- a checkpoint of what is settled is not below
-settled-not_below : (sys : System) → IsWellFormed sys.flow → (state : Machine) → IsReached sys state → (p : ℕ) (l : List Front) (far : Progress)
+settled-not_below : (sys : System) → IsWellFormed sys.flow → (state : Machine) → CanRecoverAndRestore sys state → (p : ℕ) (l : List Front) (far : Progress)
     → IsAskedWell sys state.low state.next state.history p (checkpoint (front_of state.settled p) l) far
-    → is_below sys state.low state.history p (checkpoint (front_of state.settled p) l) ≡ true → ⊥
+    → lies_below sys state.low state.history p (checkpoint (front_of state.settled p) l) ≡ true → ⊥
 settled-not_below sys w state f p l far a k =
     let g = front_of state.settled p in
     let low = front_of state.low p in
@@ -341,11 +341,11 @@ each-unmapped : {A B : Type 0} (P : B → Type 0) (f : A → B) (xs : List A) �
 each-unmapped P f [] a = tt
 each-unmapped P f (x ∷ xs) a = (a.0, each-unmapped P f xs a.1)
 
-asked-exact : (sys : System) → IsWellFormed sys.flow → (state next : Machine) (settled : List Front) (ps : List ℕ) → IsReached sys next
+asked-exact : (sys : System) → IsWellFormed sys.flow → (state next : Machine) (settled : List Front) (ps : List ℕ) → CanRecoverAndRestore sys next
     → next ≡ record state { settled = settled; writes = state.writes ++ settled_writes state settled ps } → AreExact sys state → AreExact sys next
 asked-exact sys w state next settled ps g e a =
     let now : Machine = record state { settled = settled; writes = state.writes ++ settled_writes state settled ps } in
-    let f : IsReached sys now = subst (IsReached sys) e g in
+    let f : CanRecoverAndRestore sys now = subst (CanRecoverAndRestore sys) e g in
     let asks : ℕ → Write = λ p. checkpoint_of state p (front_of settled p) in
     let W : Write → Type 0 = IsWriteAskedWell sys state.low state.next state.history in
     let more = each-unmapped W asks ps (later-part W state.writes (settled_writes state settled ps) f.restore.asked) in
@@ -364,7 +364,7 @@ acknowledged-exact sys low h p w collected i a = absurd (cc)
 -- a recovery keeps each event that is given up
 kept-below : (sys : System) (state : Machine) (choice : Choice) → ((p : ℕ) → p < length sys.flow.nodes → Within (at_node sys state.low p) (kept_of sys choice p))
     → (p : ℕ) (w : Written) (far : Progress) → IsAskedWell sys state.low state.next state.history p w far
-    → is_below sys state.low (filtered sys choice state.history) p w ≡ is_below sys state.low state.history p w
+    → lies_below sys state.low (filtered sys choice state.history) p w ≡ lies_below sys state.low state.history p w
 kept-below sys state choice k p (checkpoint g l) far a = refl
 kept-below sys state choice k p (logged_event s) far a =
     let low = state.low in
@@ -390,7 +390,7 @@ any-weaker test more (x ∷ xs) w k = elim (or_cases (test x) (list_any test xs)
 -- what lay below lies below the greater watermark
 below-grows : (sys : System) (old low : List Front) (next : ℕ) (h : List Numbered) → LowGrows sys old low
     → ((p : ℕ) → p < length sys.flow.nodes → IsCanonical (bounds_of sys.flow p) (front_of low p)) → (p : ℕ) (w : Written) (far : Progress)
-    → IsAskedWell sys old next h p w far → is_below sys old h p w ≡ true → is_below sys low h p w ≡ true
+    → IsAskedWell sys old next h p w far → lies_below sys old h p w ≡ true → lies_below sys low h p w ≡ true
 below-grows sys old low next h g c p (checkpoint f l) far a k =
     let b = bounds_of sys.flow p in
     let n = takes-declared sys.flow p a.0 in
@@ -410,17 +410,17 @@ below-grows sys old low next h g c p (logged_event s) far a k =
     let i = and_parts (v.serial == s) (is_given_up sys old (place sys.flow v.event) (stamp v.event)) e in
     and_from (v.serial == s) (is_given_up sys low (place sys.flow v.event) (stamp v.event)) i.0 (given-grows sys old low g (place sys.flow v.event) (stamp v.event) i.1)) k
 
-collected-exact : (sys : System) (old low : List Front) (h : List Numbered) (p : ℕ) (w : Written) → (is_below sys old h p w ≡ true → is_below sys low h p w ≡ true)
-    → (far : Progress) → (is_below sys low h p w ≡ true → is_in_flight far ≡ false) → IsExact sys old h p w far
-    → IsExact sys low h p w (after_collection (is_below sys low h p w) far)
+collected-exact : (sys : System) (old low : List Front) (h : List Numbered) (p : ℕ) (w : Written) → (lies_below sys old h p w ≡ true → lies_below sys low h p w ≡ true)
+    → (far : Progress) → (lies_below sys low h p w ≡ true → is_in_flight far ≡ false) → IsExact sys old h p w far
+    → IsExact sys low h p w (after_collection (lies_below sys low h p w) far)
 collected-exact sys old low h p w g in_flight n a = exact-new _ (λ k. two_ways true refl (n k))
 collected-exact sys old low h p w g acknowledged n a =
-    let below = is_below sys low h p w in
+    let below = lies_below sys low h p w in
     cond_both below collected acknowledged (λ far. IsExact sys low h p w far) (λ e. (λ c. e, λ k. refl)) (λ e. (λ c. absurd (cc c), λ k. absurd (two_ways below k e)))
 collected-exact sys old low h p w g collected n a = (λ c. g (a.0 refl), λ k. refl)
 
-took-exact : (sys : System) → IsWellFormedSystem sys → (state : Machine) (step : Step) (next : Machine) (effect : Effect) → IsReached sys state → IsReached sys next
-    → HasOrder state → Takes sys state step next effect → AreExact sys state → AreExact sys next
+took-exact : (sys : System) → IsWellFormedSystem sys → (state : Machine) (step : Step) (next : Machine) (effect : Effect) → CanRecoverAndRestore sys state → CanRecoverAndRestore sys next
+    → HasOrder state → LeadsTo sys state step next effect → AreExact sys state → AreExact sys next
 took-exact sys w state (Inject s) next effect f g o t a = subst (AreExact sys) (sym t.3) (event-exact sys w state (Injected s t.0) f t.1 a)
 took-exact sys w state (Deliver e at) next effect f g o t a = subst (AreExact sys) (sym t.3) (event-exact sys w state (Delivered e t.0) f t.1.enabled a)
 took-exact sys w state (Notify p at) next effect f g o t a = subst (AreExact sys) (sym t.3) (event-exact sys w state (Notified p t.0) f t.1.enabled a)
@@ -456,18 +456,18 @@ took-exact sys w state Collect next effect f g o t a =
     let grows = low-grows sys state f.recover.notes choice f.recover.watermark t.1 in
     let canonical : (p : ℕ) → p < length sys.flow.nodes → IsCanonical (bounds_of sys.flow p) (front_of low p) = λ p l. (offered-low sys state choice c p l).0 in
     let W : Write → Type 0 = IsWriteAskedWell sys state.low state.next h in
-    let L : Write → Type 0 = λ x. is_below sys low h x.node x.written ≡ true → is_in_flight x.progress ≡ false in
+    let L : Write → Type 0 = λ x. lies_below sys low h x.node x.written ≡ true → is_in_flight x.progress ≡ false in
     subst (AreExact sys) (sym t.3)
-    (each-mapped (IsWriteExact sys low h) (λ (x : Write). record x { progress = after_collection (is_below sys low h x.node x.written) x.progress }) state.writes
+    (each-mapped (IsWriteExact sys low h) (λ (x : Write). record x { progress = after_collection (lies_below sys low h x.node x.written) x.progress }) state.writes
     (each-weaker (λ (x : Write). IsWriteExact sys state.low h x × (W x × L x))
-    (λ (x : Write). IsExact sys low h x.node x.written (after_collection (is_below sys low h x.node x.written) x.progress)) state.writes
+    (λ (x : Write). IsExact sys low h x.node x.written (after_collection (lies_below sys low h x.node x.written) x.progress)) state.writes
     (λ x b. collected-exact sys state.low low h x.node x.written
     (below-grows sys state.low low state.next h grows canonical x.node x.written x.progress b.1.0) x.progress b.1.1 b.0)
     (each-both (IsWriteExact sys state.low h) (λ x. W x × L x) state.writes a
     (each-both W L state.writes f.restore.asked (below-each sys w.flow state f o choice c)))))
 took-exact sys w state (Ack o) next effect f g k t a = subst (AreExact sys) (sym t.2) a
 
-run-exact : (sys : System) → IsWellFormedSystem sys → (steps : List Step) (outcomes : List Outcome) (state last : Machine) → IsReached sys state → HasOrder state → AreExact sys state
+run-exact : (sys : System) → IsWellFormedSystem sys → (steps : List Step) (outcomes : List Outcome) (state last : Machine) → CanRecoverAndRestore sys state → HasOrder state → AreExact sys state
     → Run sys state steps outcomes last → AreExact sys last
 run-exact sys w [] [] state last f o a r = subst (AreExact sys) (sym r) a
 run-exact sys w [] (q ∷ os) state last f o a r = absurd r
@@ -476,7 +476,7 @@ run-exact sys w (s ∷ ss) (did effect ∷ os) state last f o a r =
     let g = took-reached sys w state s r.0 effect f r.1 in
     run-exact sys w ss os r.0 last g (took-order sys state s r.0 effect r.1 o) (took-exact sys w state s r.0 effect f g o r.1 a) r.2
 run-exact sys w (s ∷ ss) (idle ∷ os) state last f o a r =
-    run-exact sys w ss os r.0 last (subst (IsReached sys) (sym r.1.1) f) (subst HasOrder (sym r.1.1) o) (subst (AreExact sys) (sym r.1.1) a) r.2
+    run-exact sys w ss os r.0 last (subst (CanRecoverAndRestore sys) (sym r.1.1) f) (subst HasOrder (sym r.1.1) o) (subst (AreExact sys) (sym r.1.1) a) r.2
 
 pub collected-below : CollectedIsWhatLiesBelow
 collected-below sys w steps outcomes last r = run-exact sys w steps outcomes (first_state sys) last (first-reached sys w) tt tt r

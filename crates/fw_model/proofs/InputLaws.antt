@@ -13,7 +13,7 @@ use Rattle.fw_flow.specs.declared.kind.Kind.{Kind}
 use Rattle.fw_flow.specs.declared.kind.Kind.TheVariants.{Input}
 use Rattle.fw_flow.specs.Dataflow.{System, kind_of, batches_of, bounds_of}
 use Rattle.fw_flow.specs.NodeFunction.{place, messages_at, messages_at_some, sends_of_kind, sends, sent_by}
-use Rattle.fw_flow.specs.Projection.{events_at, number_of}
+use Rattle.fw_flow.specs.Projection.{events_at, first_number_of}
 use Rattle.fw_flow.specs.WholeBags.{Timed, timed, timed_at_some, timed_batches}
 use Rattle.fw_model.specs.History.{injected_count, is_exhausted, injected_epochs, IsLegal}
 use Rattle.fw_model.proofs.WeightLaws.{weigh, weigh-append, one, one-out, same-is}
@@ -156,13 +156,13 @@ input-weigh sys p is w (Notify q t ∷ h) l =
     (λ c. omega arith) (λ c. r)
 
 -- a batch weighs nothing at the stamps of other epochs
-other_epoch : (t : Stamp) (q : Rec) (x : ℕ) (rs : List Rec) → (number_of t ≡ x → ⊥) → weigh (one t q) (timed (x ∷ []) rs) ≡ 0
+other_epoch : (t : Stamp) (q : Rec) (x : ℕ) (rs : List Rec) → (first_number_of t ≡ x → ⊥) → weigh (one t q) (timed (x ∷ []) rs) ≡ 0
 unfolding weigh
 other_epoch t q x [] k = refl
 other_epoch t q x (r ∷ rs) k =
     let h = other_epoch t q x rs k in
     let z = one-out t q (record { at = x ∷ []; rec = r }) (elim (cases_Bool (same t (x ∷ []))) [
-      | inl e ↦ absurd (k (ap number_of (same-is t (x ∷ []) e)))
+      | inl e ↦ absurd (k (ap first_number_of (same-is t (x ∷ []) e)))
       | inr e ↦ ap (λ b. b && is_eq (rec_cmp q r)) e
     ]) in
     omega arith
@@ -193,11 +193,11 @@ input-equal sys p is h l t k q =
     let m = length (batches_of sys p) in
     let a = input-weigh sys p is w h l in
     let b = batches-weigh w (batches_of sys p) in
-    let i = and_parts (in_domain (bounds_of sys.flow p) t) (is_exhausted sys h p || nat_lt (number_of t) n) k in
-    elim (or_cases (is_exhausted sys h p) (nat_lt (number_of t) n) i.1) [
+    let i = and_parts (in_domain (bounds_of sys.flow p) t) (is_exhausted sys h p || nat_lt (first_number_of t) n) k in
+    elim (or_cases (is_exhausted sys h p) (nat_lt (first_number_of t) n) i.1) [
       | inl e ↦ a ∙ ap (λ j. sum_to j f) (eqb-true n m e) ∙ sym b
       | inr e ↦
-          let below = ltb-true (number_of t) n e in
+          let below = ltb-true (first_number_of t) n e in
           let few = injected-few sys h l p in
           let c = sum_to-same (m - n) n f (λ x j. other_epoch t q x (slice_index_or (batches_of sys p) x []) (λ y. omega arith)) in
           let e : m - n + n ≡ m = omega arith in

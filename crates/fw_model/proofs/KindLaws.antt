@@ -12,7 +12,7 @@ use Rattle.fw_flow.specs.declared.event.Event.{Event}
 use Rattle.fw_flow.specs.declared.event.Event.TheVariants.{Inject, Deliver, Notify}
 use Rattle.fw_flow.specs.declared.kind.Kind.{Kind}
 use Rattle.fw_flow.specs.declared.kind.Kind.TheVariants.{Input, OutputEpoch, OutputNumber, Select, Concat, Distinct, Join, Sum, Enter, Feedback, Leave, Total, Sequence, Ledger, Regroup}
-use Rattle.fw_flow.specs.Dataflow.{System, Dataflow, kind_of, receiver, in_edges, domain_of_kind, is_number, is_numbered, is_notified_kind, send_stamp_of_kind}
+use Rattle.fw_flow.specs.Dataflow.{System, Dataflow, kind_of, receiver, in_edges, domain_of_kind, is_of_numbers, is_numbered, is_notified_kind, send_stamp_of_kind}
 use Rattle.fw_flow.specs.NodeFunction.{delivered_recs, recs_on_notification, sent_by}
 use Rattle.fw_flow.specs.Projection.{events_at}
 use Rattle.fw_flow.specs.WellFormed.{IsWellFormed, IsInDegree}
@@ -291,7 +291,7 @@ ledger_edge flow w p l is =
       edge = e.0;
       only = e.1;
       received = a.0.1;
-      numbered = ap (λ q. is_number (domain_of_kind flow (kind_of flow q))) a.0.1 ∙ ap (λ k. is_number (domain_of_kind flow k)) is;
+      numbered = ap (λ q. is_of_numbers (domain_of_kind flow (kind_of flow q))) a.0.1 ∙ ap (λ k. is_of_numbers (domain_of_kind flow k)) is;
     }
 
 pub ledger-numbered : (sys : System) (h : List Event) → IsLegal sys h → (p : ℕ) → p < length sys.flow.nodes → (e : LedgerEdge sys.flow p)

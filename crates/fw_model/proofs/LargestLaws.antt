@@ -40,10 +40,10 @@ within-trans sys x y z v w = record {
 abbrev Consistent : System → Machine → (ℕ → Bool) → View → Choice → Type 0
 Consistent sys state lost view choice = IsConsistent sys state (IsCandidate sys state lost view) choice
 
--- a consistent choice that holds another one, and each consistent one of the list
-record Holds (sys : System) (state : Machine) (lost : ℕ → Bool) (view : View) (one : Choice) (cs : List Choice) (union : Choice) : Type 0 where
+-- a consistent choice that encloses another one, and each consistent one of the list
+record EnclosesEach (sys : System) (state : Machine) (lost : ℕ → Bool) (view : View) (one : Choice) (cs : List Choice) (union : Choice) : Type 0 where
   pub consistent : Consistent sys state lost view union
-  pub holds : IsChoiceWithin sys one union
+  pub encloses : IsChoiceWithin sys one union
   pub each : AllByRecursion (λ c. Consistent sys state lost view c → IsChoiceWithin sys c union) cs
 
 both : (sys : System) (state : Machine) (lost : ℕ → Bool) (view : View) → AreCheckpointsChains sys state lost view → (one other : Choice)
@@ -62,13 +62,13 @@ both sys state lost view chains one other a b =
     )
 
 gather : (sys : System) (state : Machine) (lost : ℕ → Bool) (view : View) → AreCheckpointsChains sys state lost view → (cs : List Choice) (one : Choice)
-    → Consistent sys state lost view one → (union : Choice) × Holds sys state lost view one cs union
-gather sys state lost view chains [] one a = (one, record { consistent = a; holds = within-refl sys one; each = tt })
+    → Consistent sys state lost view one → (union : Choice) × EnclosesEach sys state lost view one cs union
+gather sys state lost view chains [] one a = (one, record { consistent = a; encloses = within-refl sys one; each = tt })
 gather sys state lost view chains (c ∷ cs) one a = elim (consistent-decided sys state lost view c) [
   | inr n ↦
       let g = gather sys state lost view chains cs one a in
       let h = g.1 in
-      (g.0, record { consistent = h.consistent; holds = h.holds; each = (λ k. absurd (n k), h.each) })
+      (g.0, record { consistent = h.consistent; encloses = h.encloses; each = (λ k. absurd (n k), h.each) })
   | inl k ↦
       let u = both sys state lost view chains one c a k in
       let g = gather sys state lost view chains cs u.0 u.1 in
@@ -76,8 +76,8 @@ gather sys state lost view chains (c ∷ cs) one a = elim (consistent-decided sy
         g.0,
         record {
           consistent = h.consistent;
-          holds = within-trans sys one u.0 g.0 u.2 h.holds;
-          each = (λ j. within-trans sys c u.0 g.0 u.3 h.holds, h.each);
+          encloses = within-trans sys one u.0 g.0 u.2 h.encloses;
+          each = (λ j. within-trans sys c u.0 g.0 u.3 h.encloses, h.each);
         },
       )
 ]

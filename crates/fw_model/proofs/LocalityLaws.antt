@@ -13,12 +13,12 @@ use Rattle.fw_flow.specs.declared.event.Message.{Message}
 use Rattle.fw_flow.specs.declared.kind.Kind.{Kind}
 use Rattle.fw_flow.specs.declared.kind.Kind.TheVariants.{OutputEpoch, Distinct, Join, Sum, Total, Sequence, Ledger}
 use Rattle.fw_flow.specs.declared.node.Edge.{Edge}
-use Rattle.fw_flow.specs.Dataflow.{greatest_of_kind, System, Dataflow, idle_node, kind_of, sender, receiver, edges_into, in_edges, domain_of_kind, bounds_of, bounds_of_domain, is_input_kind, is_notified_kind, is_number, out_domain_of_kind, send_stamp_of_kind}
+use Rattle.fw_flow.specs.Dataflow.{greatest_of_kind, System, Dataflow, idle_node, kind_of, sender, receiver, edges_into, in_edges, domain_of_kind, bounds_of, bounds_of_domain, is_input_kind, is_notified_kind, is_of_numbers, out_domain_of_kind, send_stamp_of_kind}
 use Rattle.fw_flow.specs.NodeFunction.{place, stamp, rec_of_delivery, delivered_recs, recs_on_delivery, recs_on_notification, recs_on, numbered_messages, sequence_sent, messages_at_some, sends_of_kind, sends, sent_by}
 use Rattle.fw_flow.specs.Projection.{events_at, all_inside, count_from, sent_count, phi_of_kind, phi}
 use Rattle.fw_flow.specs.WellFormed.{IsWellFormed, IsInDegree}
 use Rattle.fw_model.specs.History.{message_on, sent, delivered, was_delivered_to, was_notified, IsEnabled, IsLegal}
-use Rattle.fw_model.specs.LawsOfSending.{notified_stamps, IsDescending}
+use Rattle.fw_model.specs.LawsOfSending.{notified_stamps, AreDescending}
 use Rattle.fw_model.specs.LawsOfLegalHistories.{HasEpochs}
 use Rattle.fw_model.specs.LawsOfFiltering.{AreFrontiers, kept_events, events_inside, messages_from, messages_inside, KeptEventsSendTheSame, KeptEventsSendTheSameFromWithin, KeptEventsDeliverTheSame, PhiOfKeptEvents}
 use Rattle.fw_model.proofs.Decisions.{two_ways}
@@ -160,7 +160,7 @@ sent_by-kept sys p f fr (v ∷ vs) o =
 
 -- ---- in a legal history each event follows what it reads
 
-sequence-order : (vs : List Event) → IsDescending (notified_stamps vs) → IsInOrder Sequence vs
+sequence-order : (vs : List Event) → AreDescending (notified_stamps vs) → IsInOrder Sequence vs
 sequence-order [] d = tt
 sequence-order (Inject s x ∷ vs) d = (tt, sequence-order vs d)
 sequence-order (Deliver e m ∷ vs) d = (tt, sequence-order vs d)
@@ -236,7 +236,7 @@ ledger-no_notice sys h p q t is k i =
 ledger-number : (sys : System) (h : List Event) (p e : ℕ) (m : Message) → kind_of sys.flow p ≡ Ledger → IsEnabled sys h (Deliver e m) → receiver sys.flow e ≡ p
     → m.at ≡ length (delivered h e) ∷ []
 ledger-number sys h p e m is k r =
-    k.numbered (ap (λ n. is_number (domain_of_kind sys.flow (kind_of sys.flow n))) r ∙ ap (λ kind. is_number (domain_of_kind sys.flow kind)) is)
+    k.numbered (ap (λ n. is_of_numbers (domain_of_kind sys.flow (kind_of sys.flow n))) r ∙ ap (λ kind. is_of_numbers (domain_of_kind sys.flow kind)) is)
 
 -- the events of a ledger are at most at the number of deliveries on its edge
 ledger-below : (sys : System) (h : List Event) → IsWellFormed sys.flow → IsLegal sys h → (p e : ℕ) → kind_of sys.flow p ≡ Ledger → receiver sys.flow e ≡ p

@@ -25,7 +25,7 @@ use Rattle.fw_model.specs.History.{some_at, pending, was_delivered_to, was_notif
 use Rattle.fw_model.specs.Machine.{Machine, Numbered, Write, Written, checkpoint, logged_event, Progress, in_flight, acknowledged, collected, events, no_stamps, first_state, front_of, bound_of}
 use Rattle.fw_flow.specs.declared.choice.Choice.{Choice}
 use Rattle.fw_model.specs.Choice.{View, kept, ever, Restoring, by_batches, by_bound, by_anything, by_checkpoints, by_events, restoring, can_resend, takes_its_cut, takes_its_notes, counts, until, HasCheckpoint, IsLogged, AllLogged, IsRestorable, HoldsLow, IsCandidate, cut_of, note_of, kept_of, set_of, IsConsistent, IsCutWithin, IsLargest, filtered, delivered_cover, notified_cover, discarded_at, discarded_cover}
-use Rattle.fw_model.specs.Steps.{write_of_event, with_event, is_within, AcknowledgesOldest, is_one_of, is_in_flight, has_serial, is_kept_write, IsSettledCut, CutsTo, recovered, is_below, after_collection, collected_writes, front_of_cut}
+use Rattle.fw_model.specs.Steps.{write_of_event, with_event, is_within, AcknowledgesOldest, is_one_of, is_in_flight, has_serial, is_kept_write, IsSettledCut, CutsTo, recovered, lies_below, after_collection, collected_writes, front_of_cut}
 use Rattle.fw_model.specs.LawsOfLegalHistories.{HasEpochs}
 use Rattle.fw_model.specs.LawsOfFiltering.{IsFull, AreFrontiers, kept_events}
 use Rattle.fw_model.specs.LawsOfChoosing.{low_choice}
@@ -579,12 +579,12 @@ still-kept below acknowledged b e = ap (λ c. counts kept (cond c collected ackn
 still-kept below collected b e = e
 
 checkpoint-stays : (sys : System) (low : List Front) (h : List Numbered) (p : ℕ) (n : ℕ) (w : Written) (far : Progress) → IsCheckpointAt kept p (front_of low p) n w far
-    → IsCheckpointAt kept p (front_of low p) n w (after_collection (is_below sys low h n w) far)
+    → IsCheckpointAt kept p (front_of low p) n w (after_collection (lies_below sys low h n w) far)
 checkpoint-stays sys low h p n (checkpoint g l) far a =
     let f = front_of low p in
-    let here : is_below sys low h n (checkpoint g l) ≡ false =
+    let here : lies_below sys low h n (checkpoint g l) ≡ false =
     ap (λ q. is_within g (front_of low q) && not (is_within (front_of low q) g)) a.0 ∙ ap (λ x. is_within x f && not (is_within f x)) a.1 ∙ not_both (is_within f f) in
-    (a.0, a.1, still-kept (is_below sys low h n (checkpoint g l)) far here a.2)
+    (a.0, a.1, still-kept (lies_below sys low h n (checkpoint g l)) far here a.2)
 checkpoint-stays sys low h p n (logged_event s) far a = absurd a
 
 counts-still : (below : Bool) (far : Progress) → counts ever far ≡ true → counts ever (after_collection below far) ≡ true
@@ -599,7 +599,7 @@ named-stays below serial (logged_event s) far a = (a.0, counts-still below far a
 
 -- how far a write is once the collection is done
 abbrev far_after : System → List Front → List Numbered → Write → Progress
-far_after sys low h x = after_collection (is_below sys low h x.node x.written) x.progress
+far_after sys low h x = after_collection (lies_below sys low h x.node x.written) x.progress
 
 collected-restorable : (sys : System) (state : Machine) (low : List Front) (p : ℕ) (way : Restoring) → IsRestorable sys state kept p way (front_of low p)
     → IsRestorable sys (with_low state low (collected_writes sys low state.history state.writes)) kept p way (front_of low p)
@@ -619,7 +619,7 @@ collected-restorable sys state low p by_events a = (
   logs-weaker sys p (frontier_of (bounds_of sys.flow p) (front_of low p)) state.writes (collected_writes sys low state.history state.writes)
       (λ s k. logged-some s (collected_writes sys low state.history state.writes)
       (some-mapped (LogsEvent s) (LogsEvent s) (λ (x : Write). record x { progress = far_after sys low state.history x }) state.writes
-      (λ x b. named-stays (is_below sys low state.history x.node x.written) s x.written x.progress b) (some-logged s state.writes k)))
+      (λ x b. named-stays (lies_below sys low state.history x.node x.written) s x.written x.progress b) (some-logged s state.writes k)))
       state.history a.1,
 )
 

@@ -11,7 +11,7 @@ use Rattle.fw_flow.specs.declared.kind.Domain.{Domain}
 use Rattle.fw_flow.specs.declared.kind.Domain.TheVariants.{Epoch, Number, Loop as InLoop}
 use Rattle.fw_flow.specs.declared.kind.Kind.{Kind}
 use Rattle.fw_flow.specs.declared.kind.Kind.TheVariants.{Input, OutputEpoch, OutputNumber, Select, Concat, Distinct, Join, Sum, Enter, Feedback, Leave, Total, Sequence, Ledger, Regroup}
-use Rattle.fw_flow.specs.Dataflow.{System, Dataflow, kind_of, sender, receiver, in_edges, batches_of, greatest_number, domain_within, domain_of, out_domain_of, domain_of_kind, out_domain_of_kind, is_number, is_numbered}
+use Rattle.fw_flow.specs.Dataflow.{System, Dataflow, kind_of, sender, receiver, in_edges, batches_of, greatest_number, domain_within, domain_of, out_domain_of, domain_of_kind, out_domain_of_kind, is_of_numbers, is_numbered}
 use Rattle.fw_flow.specs.WellFormed.{IsWellFormed, IsInDegree}
 use Rattle.fw_flow.specs.Walks.{is_same_loop}
 use Rattle.fw_flow.specs.WholeBags.{Timed, timed_cmp, in_order, numbered, running_totals, together, outputs_of_kind}
@@ -58,11 +58,11 @@ numbered-map n g (r ∷ rs) a = (a.0, numbered-map (n + 1) g rs a.1)
 
 -- ---- the senders of numbered edges
 
-not_number : (within : Option ℕ) → is_number (domain_within within) ≡ true → ⊥
+not_number : (within : Option ℕ) → is_of_numbers (domain_within within) ≡ true → ⊥
 not_number None k = cc
 not_number (Some l) k = cc
 
-sends_numbers : (flow : Dataflow) (kind : Kind) → is_number (out_domain_of_kind flow kind) ≡ true → ((kind ≡ Sequence) ⊎ (kind ≡ Ledger)) ⊎ (kind ≡ OutputNumber)
+sends_numbers : (flow : Dataflow) (kind : Kind) → is_of_numbers (out_domain_of_kind flow kind) ≡ true → ((kind ≡ Sequence) ⊎ (kind ≡ Ledger)) ⊎ (kind ≡ OutputNumber)
 sends_numbers flow Input k = absurd (cc)
 sends_numbers flow OutputEpoch k = absurd (cc)
 sends_numbers flow OutputNumber k = inr refl
@@ -79,7 +79,7 @@ sends_numbers flow Sequence k = inl (inl refl)
 sends_numbers flow Ledger k = inl (inr refl)
 sends_numbers flow (Regroup n) k = absurd (cc)
 
-number-no_loop : (d e : Domain) → is_number d ≡ true → is_same_loop d e ≡ false
+number-no_loop : (d e : Domain) → is_of_numbers d ≡ true → is_same_loop d e ≡ false
 number-no_loop Epoch e k = refl
 number-no_loop Number e k = refl
 number-no_loop (InLoop l) e k = absurd (cc)
@@ -101,14 +101,14 @@ numbered-by_measure sys family w by d (suc m) e l k h =
     let here : family e ≡ out (kind_of flow q) (map family (in_edges flow q)) = d e in
     let whose : (kind : Kind) → kind_of flow q ≡ kind → AreNumberedFrom 0 (out kind (map family (in_edges flow q))) → AreNumberedFrom 0 (family e) =
     λ kind is a. subst (AreNumberedFrom 0) (sym (here ∙ ap (λ kd. out kd (map family (in_edges flow q))) is)) a in
-    elim (sends_numbers flow (kind_of flow q) (ap is_number (edge_domains flow w e) ∙ k)) [
+    elim (sends_numbers flow (kind_of flow q) (ap is_of_numbers (edge_domains flow w e) ∙ k)) [
       | inl (inl is) ↦ whose Sequence is (numbered-in_order 0 _ (numbered-are 0 (in_order (together (map family (in_edges flow q))))))
       | inl (inr is) ↦
           let one : length (in_edges flow q) ≡ 1 = subst (λ kind. IsInDegree kind (length (in_edges flow q))) is (w.in_degrees q (w.senders_declared e l)) in
           let c = the_one (λ i. (i < length flow.edges) × (receiver flow i ≡ q)) (in_edges flow q) one (in_edges-each flow q) in
           let i = c.0 in
           let at_number : is_numbered flow i ≡ true =
-          ap (λ p. is_number (domain_of flow p)) (c.2).1 ∙ ap (λ kind. is_number (domain_of_kind flow kind)) is in
+          ap (λ p. is_of_numbers (domain_of flow p)) (c.2).1 ∙ ap (λ kind. is_of_numbers (domain_of_kind flow kind)) is in
           let less = by.into_unlooped e l (number-no_loop (domain_of flow (receiver flow e)) (out_domain_of flow (receiver flow e)) k) [] [] in
           let same : by.measure (receiver flow i) [] ≡ by.measure q [] = ap (λ p. by.measure p []) (c.2).1 in
           let before = numbered-by_measure sys family w by d m i (c.2).0 at_number (omega arith) in

@@ -17,7 +17,7 @@ use Rattle.fw_flow.specs.Dataflow.{System, bounds_of}
 use Rattle.fw_model.specs.Machine.{Machine, Write, acknowledged, events, places, front_of, is_failed}
 use Rattle.fw_flow.specs.declared.choice.Choice.{Choice}
 use Rattle.fw_model.specs.Choice.{kept, cut_of}
-use Rattle.fw_model.specs.Steps.{Effect, acked, cuts, lows, did, idle, with_event, eager_writes, GrowsTo, is_in_flight, AcknowledgesOldest, IsSettledCut, CutsTo, recovered, front_of_cut, collected_writes, recs_at_output, Takes}
+use Rattle.fw_model.specs.Steps.{Effect, acked, cuts, lows, did, idle, with_event, eager_writes, GrowsTo, is_in_flight, AcknowledgesOldest, IsSettledCut, CutsTo, recovered, front_of_cut, collected_writes, recs_at_output, LeadsTo}
 use Rattle.fw_model.specs.LawsOfSteps.{OneNextState}
 use Rattle.fw_model.proofs.ChoiceLaws.{largest-one}
 use Rattle.fw_model.proofs.CmpLaws.{stamp_cmp-same, stamp_total, message_cmp-same, message_total, tied}
@@ -84,8 +84,8 @@ cuts-one sys state choice also one other same a b =
 
 -- ---- the steps
 
-takes-one : (sys : System) (state : Machine) (step : Step) (one other : Machine) (first second : Effect) → Takes sys state step one first
-    → Takes sys state step other second → (one ≡ other) × (first ≡ second)
+takes-one : (sys : System) (state : Machine) (step : Step) (one other : Machine) (first second : Effect) → LeadsTo sys state step one first
+    → LeadsTo sys state step other second → (one ≡ other) × (first ≡ second)
 takes-one sys state (Inject s) one other first second t u =
     let same : t.0 ≡ u.0 = t.1.next ∙ sym u.1.next in
     (t.3 ∙ ap (λ x. with_event sys state (Injected s x)) same ∙ sym u.3, t.4 ∙ sym u.4)

@@ -14,7 +14,7 @@ use Rattle.fw_flow.specs.Projection.{events_at, all_inside, phi}
 use Rattle.fw_flow.specs.WellFormed.{IsWellFormed}
 use Rattle.fw_model.specs.History.{less, some_at, delivered, was_delivered_to, was_notified, owed, IsAdmissible, IsNotifiable, IsEnabled, IsLegal}
 use Rattle.fw_model.specs.LawsOfProjections.{is_sequence_kind, bounds_of_edge}
-use Rattle.fw_model.specs.LawsOfSending.{ComesFromInside, notified_stamps, IsDescending}
+use Rattle.fw_model.specs.LawsOfSending.{ComesFromInside, notified_stamps, AreDescending}
 use Rattle.fw_model.specs.LawsOfLegalHistories.{HasEpochs}
 use Rattle.fw_model.specs.LawsOfCompleteFrontiers.{SequencesAreNotifiedInOrder, LegalInsidePhiComesFromInside}
 use Rattle.fw_model.proofs.EachLaws.{each-weaker, each-both}
@@ -218,22 +218,22 @@ notified-below sys h p t is o i s j x =
     ]
 
 descending : (sys : System) (h : List Event) → IsWellFormed sys.flow → HasEpochs sys → IsLegal sys h
-    → (p : ℕ) → kind_of sys.flow p ≡ Sequence → IsDescending (notified_stamps (events_at sys.flow p h))
+    → (p : ℕ) → kind_of sys.flow p ≡ Sequence → AreDescending (notified_stamps (events_at sys.flow p h))
 descending sys [] w b l p is = tt
 descending sys (v ∷ h) w b l p is = after v l.0 (descending sys h w b l.1 p is)
   where
-    after : (v : Event) → IsEnabled sys h v → IsDescending (notified_stamps (events_at sys.flow p h))
-        → IsDescending (notified_stamps (events_at sys.flow p (v ∷ h)))
+    after : (v : Event) → IsEnabled sys h v → AreDescending (notified_stamps (events_at sys.flow p h))
+        → AreDescending (notified_stamps (events_at sys.flow p (v ∷ h)))
     after (Inject s x) k a =
         let vs = events_at sys.flow p h in
-        cond_both (s == p) (Inject s x ∷ vs) vs (λ ws. IsDescending (notified_stamps ws)) (λ e. a) (λ e. a)
+        cond_both (s == p) (Inject s x ∷ vs) vs (λ ws. AreDescending (notified_stamps ws)) (λ e. a) (λ e. a)
     after (Deliver d m) k a =
         let vs = events_at sys.flow p h in
-        cond_both (receiver sys.flow d == p) (Deliver d m ∷ vs) vs (λ ws. IsDescending (notified_stamps ws)) (λ e. a) (λ e. a)
+        cond_both (receiver sys.flow d == p) (Deliver d m ∷ vs) vs (λ ws. AreDescending (notified_stamps ws)) (λ e. a) (λ e. a)
     after (Notify q t) k a =
         let vs = events_at sys.flow p h in
         let bounds = bounds_of sys.flow p in
-        cond_both (q == p) (Notify q t ∷ vs) vs (λ ws. IsDescending (notified_stamps ws))
+        cond_both (q == p) (Notify q t ∷ vs) vs (λ ws. AreDescending (notified_stamps ws))
         (λ e.
         let here = eqb-true q p e in
         let o = sym (ap (λ n. owed sys h n t) here) ∙ k.is_owed in

@@ -9,7 +9,7 @@ use Rattle.fw_frontier.specs.Frontier.{Frontier, IsFrontier}
 use Rattle.fw_flow.specs.declared.kind.Kind.{Kind}
 use Rattle.fw_flow.specs.declared.kind.Kind.TheVariants.{OutputEpoch, OutputNumber, Enter, Feedback, Leave, Sequence, Regroup}
 use Rattle.fw_flow.specs.Dataflow.{System, kind_of, sender, max_of, greatest_number, domain_of_kind, out_domain_of_kind, greatest_of_kind, bounds_of, bounds_of_domain, send_stamp_of_kind}
-use Rattle.fw_flow.specs.Projection.{number_of, psi, psi_back_of_kind, psi_back}
+use Rattle.fw_flow.specs.Projection.{first_number_of, psi, psi_back_of_kind, psi_back}
 use Rattle.fw_model.specs.LawsOfProjections.{bounds_of_edge}
 use Rattle.fw_model.specs.LawsOfSending.{SendsByStamp, SendsWithin, PsiBackBySendStamps, PsiBackIsLargest}
 use Rattle.fw_model.proofs.StampLaws.{leq-refl, leq-trans, loop-leq, nest-leq, in_loop, leq_from, leq_to, in_line, line-leq, leq-line}
@@ -74,22 +74,22 @@ leave_back b m g fr t i =
       λ all. all t (outer t) (leq-refl t) refl,
     )
 
-regroup_back : (g n : ℕ) (f : Frontier) → IsFrontier (up_to (g ∷ [])) f → (t : Stamp) → leq t (g ∷ []) ≡ true → (f ((number_of t / n) ∷ []) ≡ true) ↔ SendsWithin (regrouped n) f t
+regroup_back : (g n : ℕ) (f : Frontier) → IsFrontier (up_to (g ∷ [])) f → (t : Stamp) → leq t (g ∷ []) ≡ true → (f ((first_number_of t / n) ∷ []) ≡ true) ↔ SendsWithin (regrouped n) f t
 regroup_back g n f fr t i =
     let v = in_line t g i in
     let x = v.0 in
-    let here : number_of t ≡ x = ap number_of v.1 in (
+    let here : first_number_of t ≡ x = ap first_number_of v.1 in (
       λ k s w l e.
           let u = in_line s g (leq-trans s t (g ∷ []) l i) in
           let y = u.0 in
           let r : Some ((y / n) ∷ []) ≡ Some w = ap (regrouped n) (sym u.1) ∙ e in
           let a = some_is ((y / n) ∷ []) w r in
           let q : y ≤ x = leq-line y x (leq_to (y ∷ []) t _ v.1 (leq_from s _ t u.1 l)) in
-          let h : y ≤ number_of t = omega arith in
+          let h : y ≤ first_number_of t = omega arith in
           let z : y ≤ g = u.2 in
-          fr.closed w ((number_of t / n) ∷ []) (leq_from _ w _ a (line-leq (y / n) g (omega (arith, div-le_self y n))))
-          (leq_from _ w _ a (line-leq (y / n) (number_of t / n) (div-monotone n y (number_of t) h))) k,
-      λ all. all t ((number_of t / n) ∷ []) (leq-refl t) (ap (regrouped n) v.1 ∙ ap (λ k. Some ((k / n) ∷ [])) (sym here)),
+          fr.closed w ((first_number_of t / n) ∷ []) (leq_from _ w _ a (line-leq (y / n) g (omega (arith, div-le_self y n))))
+          (leq_from _ w _ a (line-leq (y / n) (first_number_of t / n) (div-monotone n y (first_number_of t) h))) k,
+      λ all. all t ((first_number_of t / n) ∷ []) (leq-refl t) (ap (regrouped n) v.1 ∙ ap (λ k. Some ((k / n) ∷ [])) (sym here)),
     )
 
 psi_back_of_kind-by_stamp : (sys : System) (kind : Kind) (g : Frontier) → SendsByStamp sys.flow kind

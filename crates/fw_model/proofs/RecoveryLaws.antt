@@ -30,7 +30,7 @@ use Rattle.fw_model.specs.History.{some_at, sent, delivered, pending, was_delive
 use Rattle.fw_model.specs.Machine.{Machine, Numbered, events, no_stamps, first_state, front_of, is_failed}
 use Rattle.fw_flow.specs.declared.choice.Choice.{Choice}
 use Rattle.fw_model.specs.Choice.{kept, set_of, cut_of, kept_of, filtered}
-use Rattle.fw_model.specs.Steps.{Effect, Outcome, did, idle, Takes, Steps, Run, with_event, GrowsTo, IsSettledCut, CutsTo, recovered}
+use Rattle.fw_model.specs.Steps.{Effect, Outcome, did, idle, LeadsTo, Steps, Run, with_event, GrowsTo, IsSettledCut, CutsTo, recovered}
 use Rattle.fw_model.specs.LawsOfProjections.{is_sequence_kind}
 use Rattle.fw_model.specs.LawsOfLegalHistories.{HasEpochs}
 use Rattle.fw_model.specs.LawsOfDeliveries.{recs_at}
@@ -57,13 +57,13 @@ use Rattle.fw_model.proofs.RunLaws.{legal-takes, none-inside, delivered-to, same
 -- ---- legal histories
 
 legal-recovery : (sys : System) (state : Machine) (next : Machine) (effect : Effect) → IsWellFormed sys.flow → HasEpochs sys → IsLegal sys (events state.history)
-    → Takes sys state Recover next effect → IsLegal sys (events next.history)
+    → LeadsTo sys state Recover next effect → IsLegal sys (events next.history)
 legal-recovery sys state next effect w b l t =
     subst (λ (m : Machine). IsLegal sys (events m.history)) (sym t.7)
     (filtered-legal sys state t.1 w b l (consistent-meets sys state (is_failed state) kept t.1 t.5.consistent))
 
 legal-took : (sys : System) (state : Machine) (step : Step) (next : Machine) (effect : Effect) → IsWellFormed sys.flow → HasEpochs sys → IsLegal sys (events state.history)
-    → Takes sys state step next effect → IsLegal sys (events next.history)
+    → LeadsTo sys state step next effect → IsLegal sys (events next.history)
 legal-took sys state Recover next effect w b l t = legal-recovery sys state next effect w b l t
 legal-took sys state step next effect w b l t = legal-takes sys state step next effect refl t l
 
@@ -160,21 +160,21 @@ event-paid sys family b settled h (Delivered d m) l a k p q t i =
     two_ways (same t m.at) (and_from (leq t m.at) (leq m.at t) y.1 y.0) (no_more sys family b h d m t l all)))
     (k p q t i)
 
--- what holds of each state of a run
-pub record Holds (sys : System) (family : Family) (state : Machine) : Type 0 where
+-- what holds of each state of a run: its history is legal, and what is settled is denoted, with nothing owed there
+pub record IsLegalAndDenoted (sys : System) (family : Family) (state : Machine) : Type 0 where
   pub legal : IsLegal sys (events state.history)
   pub denoted : AreDenoted sys family state.settled (events state.history)
   pub paid : ArePaid sys state.settled (events state.history)
 
-event-holds : (sys : System) (family : Family) → Denotes sys family → (state : Machine) (v : Event) → Holds sys family state → IsEnabled sys (events state.history) v
-    → Holds sys family (with_event sys state v)
+event-holds : (sys : System) (family : Family) → Denotes sys family → (state : Machine) (v : Event) → IsLegalAndDenoted sys family state → IsEnabled sys (events state.history) v
+    → IsLegalAndDenoted sys family (with_event sys state v)
 event-holds sys family b state v f k = record {
   legal = (k, f.legal);
   denoted = event-denoted sys family b state.settled (events state.history) v (k, f.legal) f.denoted;
   paid = event-paid sys family b state.settled (events state.history) v (k, f.legal) f.denoted f.paid;
 }
 
-same-holds : (sys : System) (family : Family) (state next : Machine) → Holds sys family state → next.history ≡ state.history → next.settled ≡ state.settled → Holds sys family next
+same-holds : (sys : System) (family : Family) (state next : Machine) → IsLegalAndDenoted sys family state → next.history ≡ state.history → next.settled ≡ state.settled → IsLegalAndDenoted sys family next
 same-holds sys family state next f h s = record {
   legal = subst (λ (x : List Numbered). IsLegal sys (events x)) (sym h) f.legal;
   denoted = subst (λ (x : List Numbered). AreDenoted sys family next.settled (events x)) (sym h)
@@ -192,10 +192,10 @@ grown sys state done settled g p l t i = elim (cases_Bool (is_failed state p)) [
 ]
 
 progress-holds : (sys : System) (family : Family) → IsWellFormed sys.flow → Denotes sys family → (state next : Machine) (done : ℕ → Frontier) (settled : List Front)
-    → Holds sys family state → GrowsTo sys state done settled → next.history ≡ state.history → next.settled ≡ settled → Holds sys family next
+    → IsLegalAndDenoted sys family state → GrowsTo sys state done settled → next.history ≡ state.history → next.settled ≡ settled → IsLegalAndDenoted sys family next
 progress-holds sys family w b state next done settled f g h s =
     let old = events state.history in
-    let now : Holds sys family (record state { settled = settled }) = record {
+    let now : IsLegalAndDenoted sys family (record state { settled = settled }) = record {
       legal = f.legal;
       denoted = λ e l t i.
           let r = receiver sys.flow e in
@@ -224,8 +224,8 @@ recs-kept f t ms i =
     ap (map (λ (x : Message). x.rec)) (filter-inner (λ (m : Message). same t m.at) (λ m. f m.at) ms
     (each-one (λ (m : Message). same t m.at ≡ true → f m.at ≡ true) ms (λ m k. ap f (sym (same-is t m.at k)) ∙ i)))
 
-recovery-holds : (sys : System) (family : Family) → IsWellFormed sys.flow → (state : Machine) (choice : Choice) (settled : List Front) → Holds sys family state
-    → IsLegal sys (events (filtered sys choice state.history)) → CutsTo sys state choice settled → Holds sys family (recovered sys state choice settled)
+recovery-holds : (sys : System) (family : Family) → IsWellFormed sys.flow → (state : Machine) (choice : Choice) (settled : List Front) → IsLegalAndDenoted sys family state
+    → IsLegal sys (events (filtered sys choice state.history)) → CutsTo sys state choice settled → IsLegalAndDenoted sys family (recovered sys state choice settled)
 recovery-holds sys family w state choice settled f l c =
     let old = events state.history in
     let keep = kept_of sys choice in
@@ -246,23 +246,23 @@ recovery-holds sys family w state choice settled f l c =
     }
 
 took-holds : (sys : System) (family : Family) → IsWellFormed sys.flow → HasEpochs sys → Denotes sys family → (state : Machine) (step : Step) (next : Machine) (effect : Effect)
-    → Holds sys family state → Takes sys state step next effect → Holds sys family next
-took-holds sys family w p b state (Inject s) next effect f t = subst (Holds sys family) (sym t.3) (event-holds sys family b state (Injected s t.0) f t.1)
-took-holds sys family w p b state (Deliver e at) next effect f t = subst (Holds sys family) (sym t.3) (event-holds sys family b state (Delivered e t.0) f t.1.enabled)
-took-holds sys family w p b state (Notify q at) next effect f t = subst (Holds sys family) (sym t.3) (event-holds sys family b state (Notified q t.0) f t.1.enabled)
+    → IsLegalAndDenoted sys family state → LeadsTo sys state step next effect → IsLegalAndDenoted sys family next
+took-holds sys family w p b state (Inject s) next effect f t = subst (IsLegalAndDenoted sys family) (sym t.3) (event-holds sys family b state (Injected s t.0) f t.1)
+took-holds sys family w p b state (Deliver e at) next effect f t = subst (IsLegalAndDenoted sys family) (sym t.3) (event-holds sys family b state (Delivered e t.0) f t.1.enabled)
+took-holds sys family w p b state (Notify q at) next effect f t = subst (IsLegalAndDenoted sys family) (sym t.3) (event-holds sys family b state (Notified q t.0) f t.1.enabled)
 took-holds sys family w p b state ProgressStep next effect f t =
     progress-holds sys family w b state next t.0 t.1 f t.2 (ap (λ (m : Machine). m.history) t.3) (ap (λ (m : Machine). m.settled) t.3)
 took-holds sys family w p b state (Checkpoint q) next effect f t = same-holds sys family state next f (ap (λ (m : Machine). m.history) t.3) (ap (λ (m : Machine). m.settled) t.3)
 took-holds sys family w p b state Persist next effect f t = same-holds sys family state next f (ap (λ (m : Machine). m.history) t.2) (ap (λ (m : Machine). m.settled) t.2)
 took-holds sys family w p b state (Fail ps) next effect f t = same-holds sys family state next f (ap (λ (m : Machine). m.history) t.4) (ap (λ (m : Machine). m.settled) t.4)
 took-holds sys family w p b state Recover next effect f t =
-    subst (Holds sys family) (sym t.7) (recovery-holds sys family w state t.1 t.2 f
+    subst (IsLegalAndDenoted sys family) (sym t.7) (recovery-holds sys family w state t.1 t.2 f
     (filtered-legal sys state t.1 w p f.legal (consistent-meets sys state (is_failed state) kept t.1 t.5.consistent)) t.6)
 took-holds sys family w p b state Collect next effect f t = same-holds sys family state next f (ap (λ (m : Machine). m.history) t.3) (ap (λ (m : Machine). m.settled) t.3)
 took-holds sys family w p b state (Ack o) next effect f t = same-holds sys family state next f (ap (λ (m : Machine). m.history) t.2) (ap (λ (m : Machine). m.settled) t.2)
 
 -- nothing is settled at first
-pub first-holds : (sys : System) (family : Family) → IsWellFormed sys.flow → Holds sys family (first_state sys)
+pub first-holds : (sys : System) (family : Family) → IsWellFormed sys.flow → IsLegalAndDenoted sys family (first_state sys)
 first-holds sys family w =
     let none : (p : ℕ) → p < length sys.flow.nodes → (t : Stamp) → settled_at sys (first_state sys).settled p t ≡ true → ⊥ =
     λ p l t i. none-inside (bounds_of sys.flow p) t
@@ -275,13 +275,13 @@ first-holds sys family w =
     }
 
 pub steps-hold : (sys : System) (family : Family) → IsWellFormed sys.flow → HasEpochs sys → Denotes sys family → (state : Machine) (step : Step) (next : Machine) (outcome : Outcome)
-    → Holds sys family state → Steps sys state step next outcome → Holds sys family next
+    → IsLegalAndDenoted sys family state → Steps sys state step next outcome → IsLegalAndDenoted sys family next
 steps-hold sys family w p b state step next (did effect) f t = took-holds sys family w p b state step next effect f t
-steps-hold sys family w p b state step next idle f t = subst (Holds sys family) (sym t.1) f
+steps-hold sys family w p b state step next idle f t = subst (IsLegalAndDenoted sys family) (sym t.1) f
 
 run-holds : (sys : System) (family : Family) → IsWellFormed sys.flow → HasEpochs sys → Denotes sys family → (steps : List Step) (outcomes : List Outcome) (state last : Machine)
-    → Holds sys family state → Run sys state steps outcomes last → Holds sys family last
-run-holds sys family w p b [] [] state last f r = subst (Holds sys family) (sym r) f
+    → IsLegalAndDenoted sys family state → Run sys state steps outcomes last → IsLegalAndDenoted sys family last
+run-holds sys family w p b [] [] state last f r = subst (IsLegalAndDenoted sys family) (sym r) f
 run-holds sys family w p b [] (o ∷ os) state last f r = absurd r
 run-holds sys family w p b (s ∷ ss) [] state last f r = absurd r
 run-holds sys family w p b (s ∷ ss) (o ∷ os) state last f r = run-holds sys family w p b ss os r.0 last (steps-hold sys family w p b state s r.0 o f r.1) r.2
@@ -299,8 +299,8 @@ settled-stays_denoted sys family w u steps outcomes last r =
 
 -- ---- acknowledgements
 
-took-denoted : (sys : System) (family : Family) → IsWellFormed sys.flow → (state : Machine) (step : Step) (next : Machine) (effect : Effect) → Holds sys family state
-    → Takes sys state step next effect → IsDenotedEffect sys family effect
+took-denoted : (sys : System) (family : Family) → IsWellFormed sys.flow → (state : Machine) (step : Step) (next : Machine) (effect : Effect) → IsLegalAndDenoted sys family state
+    → LeadsTo sys state step next effect → IsDenotedEffect sys family effect
 took-denoted sys family w state (Inject s) next effect f t = subst (IsDenotedEffect sys family) (sym t.4) tt
 took-denoted sys family w state (Deliver e at) next effect f t = subst (IsDenotedEffect sys family) (sym t.4) tt
 took-denoted sys family w state (Notify p at) next effect f t = subst (IsDenotedEffect sys family) (sym t.4) tt
@@ -317,7 +317,7 @@ took-denoted sys family w state (Ack o) next effect f t =
     ∙ f.denoted d l at (ap (λ p. settled_at sys state.settled p at) r ∙ t.1.settled))
 
 run-denoted : (sys : System) (family : Family) → IsWellFormed sys.flow → HasEpochs sys → Denotes sys family → (steps : List Step) (outcomes : List Outcome) (state last : Machine)
-    → Holds sys family state → Run sys state steps outcomes last → AllByRecursion (IsDenoted sys family) outcomes
+    → IsLegalAndDenoted sys family state → Run sys state steps outcomes last → AllByRecursion (IsDenoted sys family) outcomes
 run-denoted sys family w p b [] [] state last f r = tt
 run-denoted sys family w p b [] (o ∷ os) state last f r = absurd r
 run-denoted sys family w p b (s ∷ ss) [] state last f r = absurd r

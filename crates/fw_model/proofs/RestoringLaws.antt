@@ -26,7 +26,7 @@ use Rattle.fw_model.specs.History.{IsEnabled, IsLegal, sent}
 use Rattle.fw_model.specs.Machine.{Machine, Numbered, Write, Written, checkpoint, logged_event, Progress, in_flight, acknowledged, collected, events, front_of}
 use Rattle.fw_flow.specs.declared.choice.Choice.{Choice}
 use Rattle.fw_model.specs.Choice.{kept, ever, by_batches, by_events, restoring_of_policy, restoring, counts, IsLogged, AllLogged, IsRestorable, IsCandidate, set_of, cut_of, kept_of, IsLargest, filtered}
-use Rattle.fw_model.specs.Steps.{Effect, Outcome, did, idle, Takes, Run, with_event, checkpoint_front, is_kept_write, recovered, is_given_up}
+use Rattle.fw_model.specs.Steps.{Effect, Outcome, did, idle, LeadsTo, Run, with_event, checkpoint_front, is_kept_write, recovered, is_given_up}
 use Rattle.fw_model.specs.LawsOfDenotation.{enough_rounds}
 use Rattle.fw_model.specs.LawsOfFiltering.{IsFull, AreFrontiers, kept_events, messages_from, messages_outside}
 use Rattle.fw_model.specs.LawsOfLegalHistories.{HasEpochs}
@@ -43,12 +43,12 @@ use Rattle.fw_model.proofs.WriteLaws.{HoldsOfOne, some-weaker, IsCheckpointAt, I
 use Rattle.fw_model.proofs.LowLaws.{input-is, batch-outside, settled-outside, low-within, within-set}
 use Rattle.fw_model.proofs.PartLaws.{part-same, part-event, part-kept, part-counts}
 use Rattle.fw_model.proofs.ChoosingLaws.{full-of, took-grows}
-use Rattle.fw_model.proofs.AskedLaws.{takes-declared, takes-restoring, takes-not_input, IsAskedWell, IsWriteAskedWell, IsApart, each-each, IsReached, took-reached, run-reached, reached-all}
+use Rattle.fw_model.proofs.AskedLaws.{takes-declared, takes-restoring, takes-not_input, IsAskedWell, IsWriteAskedWell, IsApart, each-each, CanRecoverAndRestore, took-reached, run-reached, reached-all}
 
 -- ---- nothing comes inside a checkpoint
 
 -- what is settled is full
-pub full-reached : (sys : System) (state : Machine) → IsWellFormedSystem sys → IsReached sys state → IsFull sys state
+pub full-reached : (sys : System) (state : Machine) → IsWellFormedSystem sys → CanRecoverAndRestore sys state → IsFull sys state
 full-reached sys state w f = full-of sys (rounds sys (enough_rounds sys.flow)) state w (denotation-exists sys w.flow) f.recover.holds
 
 settled-closed : (sys : System) (state : Machine) → IsWellFormed sys.flow → IsFull sys state → (low : List Front) (next : ℕ) (h : List Numbered) (p : ℕ) (w : Written) (far : Progress)
@@ -59,7 +59,7 @@ settled-closed sys state w f low next h p (checkpoint g l) far s a = λ v k e.
     (λ i. two_ways (at_node sys state.settled p (stamp v)) (s (takes-declared sys.flow p a.0) (stamp v) i) out)
 settled-closed sys state w f low next h p (logged_event s) far b a = tt
 
-closed-each : (sys : System) (state : Machine) → IsWellFormedSystem sys → IsReached sys state
+closed-each : (sys : System) (state : Machine) → IsWellFormedSystem sys → CanRecoverAndRestore sys state
     → AllByRecursion (λ (x : Write). NothingComesInside sys state x.node x.written) state.writes
 closed-each sys state w f =
     each-weaker (λ (x : Write). IsWriteSettled sys state.settled x × IsWriteAskedWell sys state.low state.next state.history x)
@@ -89,7 +89,7 @@ event-written sys state v w f k low next h p (checkpoint g l) far s a =
     (part-event sys (events state.history) v p (frontier_of (bounds_of sys.flow p) g) (λ e. settled-closed sys state w f low next h p (checkpoint g l) far s a v k e))
 event-written sys state v w f k low next h p (logged_event r) far s a = tt
 
-event-each : (sys : System) (state next : Machine) (v : Event) → IsWellFormedSystem sys → IsReached sys state → IsReached sys next → IsEnabled sys (events state.history) v
+event-each : (sys : System) (state next : Machine) (v : Event) → IsWellFormedSystem sys → CanRecoverAndRestore sys state → CanRecoverAndRestore sys next → IsEnabled sys (events state.history) v
     → next ≡ with_event sys state v → AllByRecursion (λ (x : Write). CountsWritten sys state next x.node x.written) next.writes
 event-each sys state next v w f g k e =
     let settled : next.settled ≡ state.settled = ap (λ (m : Machine). m.settled) e in
@@ -128,8 +128,8 @@ recovered-each sys state next choice settled w b l e =
     (λ x k u. recovered-written sys state next choice w b l (ap (λ (m : Machine). m.history) e) x.node x.written k)
     (each-one (λ (x : Write). Unit {0}) state.writes (λ x. tt)))
 
-pub took-true : (sys : System) → IsWellFormedSystem sys → (state : Machine) (step : Step) (next : Machine) (effect : Effect) → IsReached sys state → IsReached sys next
-    → Takes sys state step next effect → AllByRecursion (λ (x : Write). CountsWritten sys state next x.node x.written) next.writes
+pub took-true : (sys : System) → IsWellFormedSystem sys → (state : Machine) (step : Step) (next : Machine) (effect : Effect) → CanRecoverAndRestore sys state → CanRecoverAndRestore sys next
+    → LeadsTo sys state step next effect → AllByRecursion (λ (x : Write). CountsWritten sys state next x.node x.written) next.writes
 took-true sys w state (Inject s) next effect f g t = event-each sys state next (Injected s t.0) w f g t.1 t.3
 took-true sys w state (Deliver e at) next effect f g t = event-each sys state next (Delivered e t.0) w f g t.1.enabled t.3
 took-true sys w state (Notify p at) next effect f g t = event-each sys state next (Notified p t.0) w f g t.1.enabled t.3
@@ -237,7 +237,7 @@ outside-each g (m ∷ ms) =
     (λ e. (not-true (g m.at) e, outside-each g ms)) (λ e. outside-each g ms)
 
 -- the low watermark lies within what a largest choice keeps
-pub low-kept : (sys : System) (state : Machine) → IsReached sys state → (lost : ℕ → Bool) (choice : Choice) → IsLargest sys state (IsCandidate sys state lost kept) choice
+pub low-kept : (sys : System) (state : Machine) → CanRecoverAndRestore sys state → (lost : ℕ → Bool) (choice : Choice) → IsLargest sys state (IsCandidate sys state lost kept) choice
     → (p : ℕ) → p < length sys.flow.nodes → Within (at_node sys state.low p) (kept_of sys choice p)
 low-kept sys state f lost choice m p l =
     within-set sys p (front_of state.low p) (cut_of choice p) (low-within sys state f.recover.notes f.recover.watermark lost kept choice m p l)
@@ -300,7 +300,7 @@ input-declared flow s k = elim (cases_lt s (length flow.nodes)) [
 ]
 
 -- the low watermark grows along a run
-run-grows : (sys : System) → IsWellFormedSystem sys → (steps : List Step) (outcomes : List Outcome) (state last : Machine) → IsReached sys state
+run-grows : (sys : System) → IsWellFormedSystem sys → (steps : List Step) (outcomes : List Outcome) (state last : Machine) → CanRecoverAndRestore sys state
     → Run sys state steps outcomes last → (p : ℕ) → p < length sys.flow.nodes → Within (at_node sys state.low p) (at_node sys last.low p)
 run-grows sys w [] [] state last f r p l = λ t i. ap (λ (m : Machine). at_node sys m.low p t) r ∙ i
 run-grows sys w [] (o ∷ os) state last f r p l = absurd r
@@ -309,7 +309,7 @@ run-grows sys w (s ∷ ss) (did effect ∷ os) state last f r p l = λ t i.
     run-grows sys w ss os r.0 last (took-reached sys w state s r.0 effect f r.1) r.2 p l t
     (took-grows sys state f.recover.notes s r.0 effect f.recover.watermark r.1 p l t i)
 run-grows sys w (s ∷ ss) (idle ∷ os) state last f r p l = λ t i.
-    run-grows sys w ss os r.0 last (subst (IsReached sys) (sym r.1.1) f) r.2 p l t (ap (λ (m : Machine). at_node sys m.low p t) r.1.1 ∙ i)
+    run-grows sys w ss os r.0 last (subst (CanRecoverAndRestore sys) (sym r.1.1) f) r.2 p l t (ap (λ (m : Machine). at_node sys m.low p t) r.1.1 ∙ i)
 
 pub batches-outside : BatchesToComeLieOutsideLow
 batches-outside sys w steps outcomes last r more also later a s x k n there =

@@ -12,7 +12,7 @@ use Rattle.fw_flow.specs.declared.kind.Kind.{Kind}
 use Rattle.fw_flow.specs.declared.kind.Kind.TheVariants.{Input, Sequence}
 use Rattle.fw_flow.specs.Dataflow.{greatest_of_kind, System, Dataflow, kind_of, sender, receiver, greatest_number, domain_of_kind, out_domain_of_kind, bounds_of, bounds_of_domain, batches_of, is_input_kind}
 use Rattle.fw_flow.specs.NodeFunction.{place, stamp, sends, sent_by}
-use Rattle.fw_flow.specs.Projection.{events_at, all_inside, number_of, count_from, sent_count, phi_of_kind, phi}
+use Rattle.fw_flow.specs.Projection.{events_at, all_inside, first_number_of, count_from, sent_count, phi_of_kind, phi}
 use Rattle.fw_model.specs.History.{injected_count, injected_epochs, IsAdmissible, IsEnabled, IsLegal}
 use Rattle.fw_model.specs.Choice.{stamp_of_notice}
 use Rattle.fw_model.specs.LawsOfProjections.{is_sequence_kind}
@@ -86,16 +86,16 @@ kept-source sys h keep l fr s is t i j =
     let n = injected_count s h in
     let k = injected_count s (kept_events sys.flow keep h) in
     let d = (fr s).inside_domain t i in
-    let here : ℕ → Bool = λ c. in_domain (bounds_of sys.flow s) t && (c == length (batches_of sys s) || nat_lt (number_of t) c) in
+    let here : ℕ → Bool = λ c. in_domain (bounds_of sys.flow s) t && (c == length (batches_of sys s) || nat_lt (first_number_of t) c) in
     elim (injections-kept sys h keep l fr s) [
       | inl e ↦ ap here e ∙ j
       | inr u ↦
           let line = in_line t greatest_number (input-line sys.flow (kind_of sys.flow s) t is d) in
           let y = line.0 in
-          let number = ap number_of line.1 in
+          let number = ap first_number_of line.1 in
           elim (cases_lt y k) [
             | inl below ↦ and_from (in_domain (bounds_of sys.flow s) t) _ d
-                (or_right (k == length (batches_of sys s)) (nat_lt (number_of t) k) (lt-ltb (number_of t) k (omega arith)))
+                (or_right (k == length (batches_of sys s)) (nat_lt (first_number_of t) k) (lt-ltb (first_number_of t) k (omega arith)))
             | inr above ↦
                 let b = leq_to (k ∷ []) (y ∷ []) t (sym line.1) (line-leq k y above) in
                 absurd (two_ways (keep s (k ∷ [])) ((fr s).closed (k ∷ []) t (leq-trans (k ∷ []) t (bounds_of sys.flow s).greatest b d) b i) u.1)

@@ -34,13 +34,13 @@ use Rattle.fw_model.specs.LawsOfRuns.{is_recovery, HaveNoRecovery, RunsStayLegal
 use Rattle.fw_model.specs.LawsOfDeliveries.{recs_at}
 use Rattle.fw_model.specs.Denotation.{Family, IsDenotation}
 use Rattle.fw_model.specs.Machine.{Machine, Numbered, events, no_stamps, first_state, front_of, bound_of, is_failed, places}
-use Rattle.fw_model.specs.Steps.{Effect, acked, Outcome, did, idle, Takes, Steps, Run, with_event, GrowsTo, recs_at_output}
+use Rattle.fw_model.specs.Steps.{Effect, acked, Outcome, did, idle, LeadsTo, Steps, Run, with_event, GrowsTo, recs_at_output}
 
 -- ---- legal histories
 
 -- a step that is no recovery keeps a legal history legal
 pub legal-takes : (sys : System) (state : Machine) (step : Step) (next : Machine) (effect : Effect) → is_recovery step ≡ false
-    → Takes sys state step next effect → IsLegal sys (events state.history) → IsLegal sys (events next.history)
+    → LeadsTo sys state step next effect → IsLegal sys (events state.history) → IsLegal sys (events next.history)
 legal-takes sys state (Inject s) next effect k t l = subst (λ (m : Machine). IsLegal sys (events m.history)) (sym t.3) (t.1, l)
 legal-takes sys state (Deliver e at) next effect k t l = subst (λ (m : Machine). IsLegal sys (events m.history)) (sym t.3) (t.1.enabled, l)
 legal-takes sys state (Notify p at) next effect k t l = subst (λ (m : Machine). IsLegal sys (events m.history)) (sym t.3) (t.1.enabled, l)
@@ -116,7 +116,7 @@ quiet-goes : (sys : System) (state next : Machine) (effect : Effect) → ((o : �
 quiet-goes sys state next effect k e = (ap length e, λ o. subst (λ ss. Goes o state next ss) (sym (k o)) (same-goes state next o e))
 
 takes-goes : (sys : System) (state : Machine) (step : Step) (next : Machine) (effect : Effect) → HasBounds sys state
-    → Takes sys state step next effect → GoesOn sys state next effect
+    → LeadsTo sys state step next effect → GoesOn sys state next effect
 takes-goes sys state (Inject s) next effect h t = quiet-goes sys state next effect (λ o. ap (stamp_shown o) t.4) (ap (λ (m : Machine). m.bounds) t.3)
 takes-goes sys state (Deliver e at) next effect h t = quiet-goes sys state next effect (λ o. ap (stamp_shown o) t.4) (ap (λ (m : Machine). m.bounds) t.3)
 takes-goes sys state (Notify p at) next effect h t = quiet-goes sys state next effect (λ o. ap (stamp_shown o) t.4) (ap (λ (m : Machine). m.bounds) t.3)
@@ -235,7 +235,7 @@ same-full sys state next f h s = record {
 }
 
 takes-full : (sys : System) (state : Machine) (step : Step) (next : Machine) (effect : Effect) → IsWellFormed sys.flow → HasEpochs sys
-    → is_recovery step ≡ false → IsFull sys state → Takes sys state step next effect → IsFull sys next
+    → is_recovery step ≡ false → IsFull sys state → LeadsTo sys state step next effect → IsFull sys next
 takes-full sys state (Inject s) next effect w b k f t = subst (IsFull sys) (sym t.3) (event-full sys state (Injected s t.0) w b f t.1)
 takes-full sys state (Deliver e at) next effect w b k f t = subst (IsFull sys) (sym t.3) (event-full sys state (Delivered e t.0) w b f t.1.enabled)
 takes-full sys state (Notify p at) next effect w b k f t = subst (IsFull sys) (sym t.3) (event-full sys state (Notified p t.0) w b f t.1.enabled)
@@ -324,7 +324,7 @@ pub epochs-of : (sys : System) → IsWellFormedSystem sys → HasEpochs sys
 epochs-of sys w s = let f = w.few s in omega arith
 
 takes-denoted : (sys : System) (family : Family) → IsWellFormedSystem sys → IsDenotation sys family
-    → (state : Machine) (step : Step) (next : Machine) (effect : Effect) → IsFull sys state → Takes sys state step next effect → IsDenotedEffect sys family effect
+    → (state : Machine) (step : Step) (next : Machine) (effect : Effect) → IsFull sys state → LeadsTo sys state step next effect → IsDenotedEffect sys family effect
 takes-denoted sys family w u state (Inject s) next effect f t = subst (IsDenotedEffect sys family) (sym t.4) tt
 takes-denoted sys family w u state (Deliver e at) next effect f t = subst (IsDenotedEffect sys family) (sym t.4) tt
 takes-denoted sys family w u state (Notify p at) next effect f t = subst (IsDenotedEffect sys family) (sym t.4) tt

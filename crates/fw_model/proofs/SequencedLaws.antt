@@ -12,7 +12,7 @@ use Rattle.fw_bag.specs.Keyed.{sorted}
 use Rattle.fw_flow.specs.declared.event.Event.{Event}
 use Rattle.fw_flow.specs.declared.event.Message.{Message}
 use Rattle.fw_flow.specs.Dataflow.{greatest_number}
-use Rattle.fw_flow.specs.Projection.{number_of}
+use Rattle.fw_flow.specs.Projection.{first_number_of}
 use Rattle.fw_flow.specs.NodeFunction.{delivered_recs, numbered_messages}
 use Rattle.fw_flow.specs.WholeBags.{Timed, timed_cmp, in_order, recs_where, numbered}
 use Rattle.fw_model.proofs.EachLaws.{each-weaker, each-both}
@@ -142,14 +142,14 @@ numbered-messages n cause rs xs e = ap (λ qs. timed_of (numbered_messages n cau
         cases false h = refl
 
 -- nothing is numbered below the first number
-pub numbered-from : (n : ℕ) (xs : List Timed) (t : Stamp) (q : Rec) → number_of t < n → weigh (one t q) (numbered n xs) ≡ 0
+pub numbered-from : (n : ℕ) (xs : List Timed) (t : Stamp) (q : Rec) → first_number_of t < n → weigh (one t q) (numbered n xs) ≡ 0
 unfolding weigh
 numbered-from n [] t q l = refl
 numbered-from n (x ∷ xs) t q l =
     let h = numbered-from (n + 1) xs t q (omega arith) in
     let head : Timed = record { at = n ∷ []; rec = x.rec } in
     let z = one-out t q head (elim (cases_Bool (same t (n ∷ []))) [
-      | inl e ↦ let i = ap number_of (same-is t (n ∷ []) e) in absurd (omega arith)
+      | inl e ↦ let i = ap first_number_of (same-is t (n ∷ []) e) in absurd (omega arith)
       | inr e ↦ ap (λ b. b && is_eq (rec_cmp q x.rec)) e
     ]) in
     cond_both (nat_le n greatest_number) (head ∷ numbered (n + 1) xs) [] (λ ys. weigh (one t q) ys ≡ 0) (λ e. omega arith) (λ e. refl)

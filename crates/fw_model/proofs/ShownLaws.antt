@@ -10,7 +10,7 @@ use Rattle.fw_flow.specs.WellFormed.{IsWellFormed}
 use Rattle.fw_model.specs.Denotation.{Family, rounds}
 use Rattle.fw_model.specs.Machine.{Machine, first_state}
 use Rattle.fw_flow.specs.declared.choice.Choice.{Choice}
-use Rattle.fw_model.specs.Steps.{quiet, acked, cuts, lows, Outcome, Takes, Steps, Run}
+use Rattle.fw_model.specs.Steps.{quiet, acked, cuts, lows, Outcome, LeadsTo, Steps, Run}
 use Rattle.fw_model.specs.LawsOfDenotation.{enough_rounds}
 use Rattle.fw_model.specs.LawsOfRuns.{IsDenotedEffect, IsDenoted}
 use Rattle.fw_model.specs.LawsOfChoosing.{Shows, TwoRunsShowOneBag}
@@ -37,7 +37,7 @@ one_output : (o q : ℕ) (t s : Stamp) (recs also : List Rec) → acked o t recs
 one_output o q t s recs also e = cc
 
 -- only outputs are acknowledged
-took-output : (sys : System) (state : Machine) (step : Step) (next : Machine) (o : ℕ) (t : Stamp) (recs : List Rec) → Takes sys state step next (acked o t recs)
+took-output : (sys : System) (state : Machine) (step : Step) (next : Machine) (o : ℕ) (t : Stamp) (recs : List Rec) → LeadsTo sys state step next (acked o t recs)
     → IsOutput sys.flow o
 took-output sys state (Inject s) next o t recs k = absurd (quiet-other o t recs k.4)
 took-output sys state (Deliver e at) next o t recs k = absurd (quiet-other o t recs k.4)

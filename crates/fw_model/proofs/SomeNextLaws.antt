@@ -15,7 +15,7 @@ use Rattle.fw_flow.specs.WellFormed.{IsWellFormed}
 use Rattle.fw_model.specs.Machine.{Machine, front_of, is_failed}
 use Rattle.fw_flow.specs.declared.choice.Choice.{Choice}
 use Rattle.fw_model.specs.Choice.{kept, cut_of}
-use Rattle.fw_model.specs.Steps.{cuts, lows, did, idle, IsSettledCut, CutsTo, Takes, recovered, front_of_cut, collected_writes}
+use Rattle.fw_model.specs.Steps.{cuts, lows, did, idle, IsSettledCut, CutsTo, LeadsTo, recovered, front_of_cut, collected_writes}
 use Rattle.fw_model.specs.LawsOfSteps.{CanChoose, HasItsChoice, SomeNextState, ExactlyOneNextState}
 use Rattle.fw_model.proofs.ChoiceLaws.{largest-one}
 use Rattle.fw_model.proofs.CmpLaws.{decided-same, slice_cmp-same, stamp_total, fronts_cmp-same}
@@ -40,7 +40,7 @@ settled_cuts sys state choice =
 
 -- a recovery is enabled where a node is failed and there is something to choose
 pub recover-enabled : (sys : System) (state : Machine) → CanChoose sys state (is_failed state) → (p : ℕ) → p < length sys.flow.nodes → is_failed state p ≡ true
-    → (next : Machine) × (choice : Choice) × Takes sys state Recover next (cuts choice)
+    → (next : Machine) × (choice : Choice) × LeadsTo sys state Recover next (cuts choice)
 recover-enabled sys state c p there failed =
     let l = largest-exists sys state (is_failed state) kept c.chains c.choice c.consistent in
     let s = settled_cuts sys state l.0 in

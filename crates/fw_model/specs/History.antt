@@ -13,7 +13,7 @@ use Rattle.fw_flow.specs.declared.event.Event.TheVariants.{Inject, Deliver, Noti
 use Rattle.fw_flow.specs.declared.event.Message.{Message}
 use Rattle.fw_flow.specs.Dataflow.{System, Dataflow, kind_of, sender, receiver, bounds_of, is_notified_kind, is_input_kind, is_numbered, batches_of}
 use Rattle.fw_flow.specs.NodeFunction.{sent_by}
-use Rattle.fw_flow.specs.Projection.{events_at, phi, number_of}
+use Rattle.fw_flow.specs.Projection.{events_at, phi, first_number_of}
 
 -- messages are ordered by stamp, rec and causes
 abbrev pub message_cmp : Message → Message → Ordering
@@ -97,7 +97,7 @@ is_exhausted sys h s = injected_count s h == length (batches_of sys s)
 -- the epochs that source s injected; all once it is exhausted
 abbrev pub injected_epochs : System → List Event → ℕ → Frontier
 injected_epochs sys h s t =
-    in_domain (bounds_of sys.flow s) t && (is_exhausted sys h s || nat_lt (number_of t) (injected_count s h))
+    in_domain (bounds_of sys.flow s) t && (is_exhausted sys h s || nat_lt (first_number_of t) (injected_count s h))
 
 -- nothing is pending for node p at stamp t
 abbrev pub IsQuiet : System → List Event → ℕ → Stamp → Type 0

@@ -18,7 +18,7 @@ use Rattle.fw_model.specs.History.{sent, injected_count, IsEnabled}
 use Rattle.fw_model.specs.Machine.{Machine, Numbered, Write, Written, checkpoint, logged_event, acknowledged, collected, events, no_stamps, first_state, front_of}
 use Rattle.fw_flow.specs.declared.choice.Choice.{Choice}
 use Rattle.fw_model.specs.Choice.{kept, ever, counts, IsCandidate, delivered_cover, notified_cover, discarded_cover, cut_of, kept_of, IsLargest, IsWatermark}
-use Rattle.fw_model.specs.Steps.{Outcome, Steps, Run, checkpoint_front, is_in_flight, front_of_cut, is_given_up, is_below}
+use Rattle.fw_model.specs.Steps.{Outcome, Steps, Run, checkpoint_front, is_in_flight, front_of_cut, is_given_up, lies_below}
 use Rattle.fw_model.specs.LawsOfFiltering.{events_inside, messages_from, messages_outside}
 
 -- whether the policy takes checkpoints, asked or of its own
@@ -229,7 +229,7 @@ EventsThatMustBeKeptAreNeverCollected = (sys : System) → IsWellFormedSystem sy
 abbrev pub WhatIsForgottenWasAcknowledged : Type 0
 WhatIsForgottenWasAcknowledged = (sys : System) → IsWellFormedSystem sys → (steps : List Step) (outcomes : List Outcome) (last : Machine)
     → Run sys (first_state sys) steps outcomes last → (choice : Choice) → IsWatermark sys last choice
-    → AllByRecursion (λ (write : Write). is_below sys (map front_of_cut choice.cuts) last.history write.node write.written ≡ true
+    → AllByRecursion (λ (write : Write). lies_below sys (map front_of_cut choice.cuts) last.history write.node write.written ≡ true
     → is_in_flight write.progress ≡ false) last.writes
 
 -- in each state to which steps of a well-formed system lead from the first one, a write was collected exactly where what it
@@ -237,4 +237,4 @@ WhatIsForgottenWasAcknowledged = (sys : System) → IsWellFormedSystem sys → (
 abbrev pub CollectedIsWhatLiesBelow : Type 0
 CollectedIsWhatLiesBelow = (sys : System) → IsWellFormedSystem sys → (steps : List Step) (outcomes : List Outcome) (last : Machine)
     → Run sys (first_state sys) steps outcomes last
-    → AllByRecursion (λ (write : Write). (write.progress ≡ collected) ↔ (is_below sys last.low last.history write.node write.written ≡ true)) last.writes
+    → AllByRecursion (λ (write : Write). (write.progress ≡ collected) ↔ (lies_below sys last.low last.history write.node write.written ≡ true)) last.writes

@@ -131,14 +131,14 @@ notified_stamps (Deliver e m ∷ vs) = notified_stamps vs
 notified_stamps (Notify p t ∷ vs) = t ∷ notified_stamps vs
 
 -- each stamp is the same as the stamps that follow it, or greater
-abbrev pub IsDescending : List Stamp → Type 0
-IsDescending [] = Unit {0}
-IsDescending (t ∷ ts) = AllByRecursion (λ s. leq s t ≡ true) ts × IsDescending ts
+abbrev pub AreDescending : List Stamp → Type 0
+AreDescending [] = Unit {0}
+AreDescending (t ∷ ts) = AllByRecursion (λ s. leq s t ≡ true) ts × AreDescending ts
 
 -- the node injected nothing, and was notified of each stamp after the lesser ones
 pub record IsNotifiedInOrder (flow : Dataflow) (h : List Event) (p : ℕ) : Type 0 where
   pub injects_nothing : injected_count p h ≡ 0
-  pub in_order : IsDescending (notified_stamps (events_at flow p h))
+  pub in_order : AreDescending (notified_stamps (events_at flow p h))
 
 -- where the sender is a sequence that injected nothing and was notified of each stamp after the lesser ones, and its events
 -- are at stamps of its domain, each message on an edge at a stamp inside phi of a frontier of the sender comes from events

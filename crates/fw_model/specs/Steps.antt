@@ -216,9 +216,9 @@ is_serial_given_up sys low serial h =
     list_any (λ v. v.serial == serial && is_given_up sys low (place sys.flow v.event) (stamp v.event)) h
 
 -- whether what a write of node p holds lies below the watermark, so that it is not needed again
-abbrev pub is_below : System → List Front → List Numbered → ℕ → Written → Bool
-is_below sys low h p (checkpoint g kept_low) = is_within g (front_of low p) && not (is_within (front_of low p) g)
-is_below sys low h p (logged_event serial) = is_serial_given_up sys low serial h
+abbrev pub lies_below : System → List Front → List Numbered → ℕ → Written → Bool
+lies_below sys low h p (checkpoint g kept_low) = is_within g (front_of low p) && not (is_within (front_of low p) g)
+lies_below sys low h p (logged_event serial) = is_serial_given_up sys low serial h
 
 -- how far a write is once what lies below is collected
 abbrev pub after_collection : Bool → Progress → Progress
@@ -229,7 +229,7 @@ after_collection below collected = collected
 -- the writes with those below the watermark collected
 abbrev pub collected_writes : System → List Front → List Numbered → List Write → List Write
 collected_writes sys low h writes =
-    map (λ (write : Write). record write { progress = after_collection (is_below sys low h write.node write.written) write.progress }) writes
+    map (λ (write : Write). record write { progress = after_collection (lies_below sys low h write.node write.written) write.progress }) writes
 
 -- some node has a batch of epoch x
 abbrev pub HasEpoch : List (List (List Rec)) → ℕ → Type 0
@@ -242,9 +242,9 @@ HasDelivery sys h o test =
     0 < length (delivered_recs (λ e s. receiver sys.flow e == o && test s) h)
 
 -- there is something to acknowledge at x: a rec at the number, or a batch of the epoch or a rec at it or a later one
-abbrev pub IsThere : System → List Event → Kind → ℕ → ℕ → Type 0
-IsThere sys h OutputNumber o x = HasDelivery sys h o (same (x ∷ []))
-IsThere sys h kind o x = HasEpoch sys.batches x ⊎ HasDelivery sys h o (leq (x ∷ []))
+abbrev pub HasSomethingAt : System → List Event → Kind → ℕ → ℕ → Type 0
+HasSomethingAt sys h OutputNumber o x = HasDelivery sys h o (same (x ∷ []))
+HasSomethingAt sys h kind o x = HasEpoch sys.batches x ⊎ HasDelivery sys h o (leq (x ∷ []))
 
 -- output o may acknowledge x: it is not failed, x is its next stamp and settled, and there is something
 pub record MayAcknowledge (sys : System) (state : Machine) (o x : ℕ) : Type 0 where
@@ -253,7 +253,7 @@ pub record MayAcknowledge (sys : System) (state : Machine) (o x : ℕ) : Type 0 
   pub live : is_failed state o ≡ false
   pub next : x ≡ bound_of state o
   pub settled : frontier_of (bounds_of sys.flow o) (front_of state.settled o) (x ∷ []) ≡ true
-  pub there : IsThere sys (events state.history) (kind_of sys.flow o) o x
+  pub there : HasSomethingAt sys (events state.history) (kind_of sys.flow o) o x
 
 -- the recs of output o at x, ascending
 abbrev pub recs_at_output : System → Machine → ℕ → ℕ → List Rec
@@ -265,34 +265,34 @@ abbrev pub offers : System → Machine → ℕ → Cut → Type 0
 offers sys state = IsCandidate sys state (is_failed state) kept
 
 -- From a state the step is enabled and leads to the next state with this effect.
-abbrev pub Takes : System → Machine → Step → Machine → Effect → Type 0
-Takes sys state (Inject s) next effect =
+abbrev pub LeadsTo : System → Machine → Step → Machine → Effect → Type 0
+LeadsTo sys state (Inject s) next effect =
     (x : ℕ) × IsEnabled sys (events state.history) (Injected s x) × (is_failed state s ≡ false)
     × (next ≡ with_event sys state (Injected s x)) × (effect ≡ quiet)
-Takes sys state (Deliver e at) next effect =
+LeadsTo sys state (Deliver e at) next effect =
     (m : Message) × IsNextMessage sys (events state.history) e at m × (is_failed state (receiver sys.flow e) ≡ false)
     × (next ≡ with_event sys state (Delivered e m)) × (effect ≡ quiet)
-Takes sys state (Notify p at) next effect =
+LeadsTo sys state (Notify p at) next effect =
     (t : Stamp) × IsNextNotice sys (events state.history) p at t × (is_failed state p ≡ false)
     × (next ≡ with_event sys state (Notified p t)) × (effect ≡ quiet)
-Takes sys state ProgressStep next effect =
+LeadsTo sys state ProgressStep next effect =
     (done : ℕ → Frontier) × (settled : List Front) × GrowsTo sys state done settled
     × (next ≡ record state { settled = settled; writes = state.writes ++ eager_writes sys state settled (places sys.flow) }) × (effect ≡ quiet)
-Takes sys state (Checkpoint p) next effect =
+LeadsTo sys state (Checkpoint p) next effect =
     (is_asked_for_checkpoints (policy_of sys.flow p) ≡ true) × (is_failed state p ≡ false)
     × (front_of state.settled p ≢ newest_checkpoint p (no_stamps (bounds_of sys.flow p)) state.writes)
     × (next ≡ record state { writes = state.writes ++ checkpoint_of state p (front_of state.settled p) ∷ [] }) × (effect ≡ quiet)
-Takes sys state Persist next effect =
+LeadsTo sys state Persist next effect =
     (writes : List Write) × AcknowledgesOldest state.writes writes
     × (next ≡ record state { writes = writes }) × (effect ≡ quiet)
-Takes sys state (Fail ps) next effect =
+LeadsTo sys state (Fail ps) next effect =
     (p : ℕ) × (p < length sys.flow.nodes) × (is_one_of p ps ≡ true) × (is_failed state p ≡ false)
     × (next ≡ record state { failed = with_failed sys state ps; writes = without_lost ps state.writes }) × (effect ≡ quiet)
-Takes sys state Recover next effect =
+LeadsTo sys state Recover next effect =
     (p : ℕ) × (choice : Choice) × (settled : List Front) × (p < length sys.flow.nodes) × (is_failed state p ≡ true)
     × IsLargest sys state (offers sys state) choice × CutsTo sys state choice settled
     × (next ≡ recovered sys state choice settled) × (effect ≡ cuts choice)
-Takes sys state Collect next effect =
+LeadsTo sys state Collect next effect =
     (choice : Choice) × IsWatermark sys state choice
     × (map front_of_cut choice.cuts ≢ state.low)
     × (next ≡ record state {
@@ -300,15 +300,15 @@ Takes sys state Collect next effect =
       writes = collected_writes sys (map front_of_cut choice.cuts) state.history state.writes;
     })
     × (effect ≡ lows choice)
-Takes sys state (Ack o) next effect =
+LeadsTo sys state (Ack o) next effect =
     (x : ℕ) × MayAcknowledge sys state o x
     × (next ≡ record state { bounds = slice_set state.bounds o (x + 1) }) × (effect ≡ acked o (x ∷ []) (recs_at_output sys state o x))
 
 -- One step of the machine: its effect where it is enabled, and else nothing changes.
 abbrev pub Steps : System → Machine → Step → Machine → Outcome → Type 0
-Steps sys state step next (did effect) = Takes sys state step next effect
+Steps sys state step next (did effect) = LeadsTo sys state step next effect
 Steps sys state step next idle =
-    ((other : Machine) (effect : Effect) → Takes sys state step other effect → ⊥) × (next ≡ state)
+    ((other : Machine) (effect : Effect) → LeadsTo sys state step other effect → ⊥) × (next ≡ state)
 
 -- a run: the machine takes the steps in turn, with these outcomes
 abbrev pub Run : System → Machine → List Step → List Outcome → Machine → Type 0
@@ -325,8 +325,8 @@ auto_steps sys =
     ++ ProgressStep ∷ map Ack (places sys.flow) ++ map Inject (places sys.flow)
 
 -- One step of `auto`: the first of these that is enabled, those before it being idle; idle where none is enabled.
-abbrev pub TakesFirst : System → Machine → List Step → Machine → Outcome → Type 0
-TakesFirst sys state [] next outcome = (outcome ≡ idle) × (next ≡ state)
-TakesFirst sys state (step ∷ steps) next outcome =
-    ((effect : Effect) × Takes sys state step next effect × (outcome ≡ did effect))
-    ⊎ (Steps sys state step state idle × TakesFirst sys state steps next outcome)
+abbrev pub StepsByFirst : System → Machine → List Step → Machine → Outcome → Type 0
+StepsByFirst sys state [] next outcome = (outcome ≡ idle) × (next ≡ state)
+StepsByFirst sys state (step ∷ steps) next outcome =
+    ((effect : Effect) × LeadsTo sys state step next effect × (outcome ≡ did effect))
+    ⊎ (Steps sys state step state idle × StepsByFirst sys state steps next outcome)

@@ -17,7 +17,7 @@ use Rattle.fw_monitor.specs.declared.side.Side.{Side}
 use Rattle.fw_monitor.specs.declared.side.Side.TheVariants.{Delivered, Discarded, Notified}
 use Rattle.fw_monitor.specs.Held.{held}
 use Rattle.fw_monitor.specs.Offers.{IsOffered, AreAscending, covers_of, arrived_from}
-use Rattle.fw_monitor.specs.Descent.{bare, choice_of, owner, reach, IsThere, right_of, Holds, HoldsAtEdge, HoldsAtNode, IsCanonicalCut, IsLower, IsLowered, IsConsistentOf, IsReached, HasConsistent, cut_weight, node_weight, weight, IsStep}
+use Rattle.fw_monitor.specs.Descent.{bare, choice_of, owner, reach, IsOfFlow, right_of, IsMet, IsMetAtEdge, IsMetAtNode, IsCanonicalCut, IsLower, IsLowered, IsConsistentOf, EnclosesConsistent, HasConsistent, cut_weight, node_weight, weight, IsStep}
 use Rattle.fw_monitor.proofs.HeldLaws.{sum_below-less, held-most}
 use Rattle.fw_monitor.proofs.FrontLaws.{held-less, within_everything, meet-left, meet-right, meet-largest}
 use Rattle.fw_monitor.proofs.ArrivedLaws.{arrived-monotone}
@@ -31,7 +31,7 @@ set-monotone sys p Present (At g) w t k = absurd w
 set-monotone sys p (At f) (At g) w t k = w t k
 
 -- the right sides grow with the choice
-right-monotone : (flow : Dataflow) (offers : List Offer) (side : Side) (small large : Choice) → IsWellFormed flow → IsThere flow side → IsChoiceWithin (bare flow) small large
+right-monotone : (flow : Dataflow) (offers : List Offer) (side : Side) (small large : Choice) → IsWellFormed flow → IsOfFlow flow side → IsChoiceWithin (bare flow) small large
     → Within (right_of flow offers side small) (right_of flow offers side large)
 right-monotone flow offers (Delivered d) small large well there w =
     arrived-monotone flow offers d (kept_of (bare flow) small (sender flow d)) (kept_of (bare flow) large (sender flow d))
@@ -41,12 +41,12 @@ right-monotone flow offers (Discarded e) small large well there w =
 right-monotone flow offers (Notified p) small large well there w = w.notes p there
 
 -- in a consistent choice each side holds
-side-holds : (flow : Dataflow) (offers : List Offer) (side : Side) (choice : Choice) → IsThere flow side → IsConsistentOf flow offers choice → Holds flow offers choice side
+side-holds : (flow : Dataflow) (offers : List Offer) (side : Side) (choice : Choice) → IsOfFlow flow side → IsConsistentOf flow offers choice → IsMet flow offers choice side
 side-holds flow offers (Delivered d) choice there c = c.delivered d there
 side-holds flow offers (Discarded e) choice there c = c.discarded e there
 side-holds flow offers (Notified p) choice there c = c.notified p there
 
-pub owner-there : (flow : Dataflow) (side : Side) → IsWellFormed flow → IsThere flow side → owner flow side < length flow.nodes
+pub owner-there : (flow : Dataflow) (side : Side) → IsWellFormed flow → IsOfFlow flow side → owner flow side < length flow.nodes
 owner-there flow (Delivered d) well there = well.receivers_declared d there
 owner-there flow (Discarded e) well there = well.senders_declared e there
 owner-there flow (Notified p) well there = there
@@ -67,10 +67,10 @@ each_cut flow choice p c P l h k q m = elim (cases_eq q p) [
   | inr n ↦ subst (P q) (sym (cut_old choice p q c n)) (h q m)
 ]
 
-reached_cut : (flow : Dataflow) (offers : List Offer) (choice : Choice) (p : ℕ) (c : Cut) → IsReached flow offers choice → p < length flow.nodes → IsCanonicalCut (bounds_of flow p) c
+cut_encloses : (flow : Dataflow) (offers : List Offer) (choice : Choice) (p : ℕ) (c : Cut) → EnclosesConsistent flow offers choice → p < length flow.nodes → IsCanonicalCut (bounds_of flow p) c
     → (AreAscending flow offers → (other : Choice) → IsConsistentOf flow offers other → IsOffered flow offers p c × IsCutWithin (bare flow) p (cut_of other p) c)
-    → IsReached flow offers (choice_of (set choice.cuts p c) choice.notes)
-reached_cut flow offers choice p c r l canonical keeps =
+    → EnclosesConsistent flow offers (choice_of (set choice.cuts p c) choice.notes)
+cut_encloses flow offers choice p c r l canonical keeps =
     let one = r.one_cut_each in
     let there : p < length choice.cuts = omega arith in
     record {
@@ -116,7 +116,7 @@ weight_cut flow choice p c l m k =
     l
     (omega arith)
 
-pub lower_step : (flow : Dataflow) (offers : List Offer) (side : Side) (choice : Choice) (bound : Front) (new : Cut) → IsWellFormed flow → IsThere flow side → IsReached flow offers choice
+pub lower_step : (flow : Dataflow) (offers : List Offer) (side : Side) (choice : Choice) (bound : Front) (new : Cut) → IsWellFormed flow → IsOfFlow flow side → EnclosesConsistent flow offers choice
     → Within (right_of flow offers side choice) (frontier_of (reach flow side) bound) → IsLower flow offers side (cut_of choice (owner flow side)) bound new
     → IsStep flow offers choice (choice_of (set choice.cuts (owner flow side) new) choice.notes) true
 lower_step flow offers side choice bound new well there r same lower =
@@ -124,7 +124,7 @@ lower_step flow offers side choice bound new well there r same lower =
     let l = owner-there flow side well there in
     let one = r.one_cut_each in
     record {
-      reached = reached_cut flow offers choice p new r l lower.canonical (λ a other k.
+      encloses = cut_encloses flow offers choice p new r l lower.canonical (λ a other k.
           let inner = r.within a other k in
           lower.largest a (r.offered a other k p l) (cut_of other p) (record {
             offered = k.offered p l;
@@ -135,13 +135,13 @@ lower_step flow offers side choice bound new well there r same lower =
       same = λ e. absurd (cc);
     }
 
-pub same_step : (flow : Dataflow) (offers : List Offer) (choice : Choice) → IsReached flow offers choice → IsStep flow offers choice choice false
-same_step flow offers choice r = record { reached = r; fewer = λ e. absurd (cc); same = λ e. refl }
+pub same_step : (flow : Dataflow) (offers : List Offer) (choice : Choice) → EnclosesConsistent flow offers choice → IsStep flow offers choice choice false
+same_step flow offers choice r = record { encloses = r; fewer = λ e. absurd (cc); same = λ e. refl }
 
 -- where no cut is lower, the side holds
-pub none_holds : (flow : Dataflow) (offers : List Offer) (side : Side) (choice : Choice) (bound : Front) → IsWellFormed flow → IsThere flow side → IsReached flow offers choice
+pub none_holds : (flow : Dataflow) (offers : List Offer) (side : Side) (choice : Choice) (bound : Front) → IsWellFormed flow → IsOfFlow flow side → EnclosesConsistent flow offers choice
     → Within (right_of flow offers side choice) (frontier_of (reach flow side) bound) → Within (frontier_of (reach flow side) bound) (right_of flow offers side choice)
-    → IsLowered flow offers side (cut_of choice (owner flow side)) bound None → HasConsistent flow offers → Holds flow offers choice side
+    → IsLowered flow offers side (cut_of choice (owner flow side)) bound None → HasConsistent flow offers → IsMet flow offers choice side
 none_holds flow offers side choice bound well there r same back none has =
     let p = owner flow side in
     let l = owner-there flow side well there in
@@ -169,10 +169,10 @@ each_note flow choice p f P l h k q m = elim (cases_eq q p) [
   | inr n ↦ subst (P q) (sym (note_old choice p q f n)) (h q m)
 ]
 
-reached_note : (flow : Dataflow) (offers : List Offer) (choice : Choice) (p : ℕ) (f : Front) → IsReached flow offers choice → p < length flow.nodes → IsCanonical (bounds_of flow p) f
+note_encloses : (flow : Dataflow) (offers : List Offer) (choice : Choice) (p : ℕ) (f : Front) → EnclosesConsistent flow offers choice → p < length flow.nodes → IsCanonical (bounds_of flow p) f
     → (AreAscending flow offers → (other : Choice) → IsConsistentOf flow offers other → Within (note_of (bare flow) other p) (frontier_of (bounds_of flow p) f))
-    → IsReached flow offers (choice_of choice.cuts (set choice.notes p f))
-reached_note flow offers choice p f r l canonical keeps =
+    → EnclosesConsistent flow offers (choice_of choice.cuts (set choice.notes p f))
+note_encloses flow offers choice p f r l canonical keeps =
     let one = r.one_note_each in
     let there : p < length choice.notes = omega arith in
     record {
@@ -208,7 +208,7 @@ weight_note flow choice p f l m k =
     (omega arith)
 
 -- a notification frontier is cut to what is inside a bound, in which each consistent choice's lies
-pub note_step : (flow : Dataflow) (offers : List Offer) (choice : Choice) (p : ℕ) (bound f : Front) → p < length flow.nodes → IsReached flow offers choice
+pub note_step : (flow : Dataflow) (offers : List Offer) (choice : Choice) (p : ℕ) (bound f : Front) → p < length flow.nodes → EnclosesConsistent flow offers choice
     → Names (bounds_of flow p) f (meet (frontier_of (bounds_of flow p) (front_of choice.notes p)) (frontier_of (bounds_of flow p) bound))
     → (Within (note_of (bare flow) choice p) (frontier_of (bounds_of flow p) bound) → ⊥)
     → ((other : Choice) → IsConsistentOf flow offers other → IsChoiceWithin (bare flow) other choice → Within (note_of (bare flow) other p) (frontier_of (bounds_of flow p) bound))
@@ -217,7 +217,7 @@ note_step flow offers choice p bound f l r names fails keeps =
     let b = bounds_of flow p in
     let one = r.one_note_each in
     record {
-      reached = reached_note flow offers choice p f r l names.canonical (λ a other k.
+      encloses = note_encloses flow offers choice p f r l names.canonical (λ a other k.
           let inner = r.within a other k in
           meet-largest b f (frontier_of b (front_of choice.notes p)) (frontier_of b bound) (note_of (bare flow) other p) names (inner.notes p l) (keeps other k inner));
       fewer = λ e. weight_note flow choice p f l (omega arith) (held-less b f (front_of choice.notes p) names.canonical (r.notes p l)
@@ -240,7 +240,7 @@ edge_keeps flow offers choice d well l other k w t i =
 pub then_step : (flow : Dataflow) (offers : List Offer) (old mid new : Choice) (a b c : Bool) → (c ≡ false → (a ≡ false) × (b ≡ false)) → (c ≡ true → (a ≡ true) ⊎ (b ≡ true))
     → IsStep flow offers old mid a → IsStep flow offers mid new b → IsStep flow offers old new c
 then_step flow offers old mid new a b c none some first second = record {
-  reached = second.reached;
+  encloses = second.encloses;
   fewer = λ e. by a b refl refl (some e);
   same = λ e. let n = none e in second.same n.1 ∙ first.same n.0;
 }
@@ -255,8 +255,8 @@ then_step flow offers old mid new a b c none some first second = record {
 -- ---- the end
 
 -- where all holds, the choice is the largest consistent one
-pub largest_of : (flow : Dataflow) (offers : List Offer) (choice : Choice) → IsReached flow offers choice → HasConsistent flow offers
-    → ((e : ℕ) → e < length flow.edges → HoldsAtEdge flow offers choice e) → ((p : ℕ) → p < length flow.nodes → HoldsAtNode flow offers choice p)
+pub largest_of : (flow : Dataflow) (offers : List Offer) (choice : Choice) → EnclosesConsistent flow offers choice → HasConsistent flow offers
+    → ((e : ℕ) → e < length flow.edges → IsMetAtEdge flow offers choice e) → ((p : ℕ) → p < length flow.nodes → IsMetAtNode flow offers choice p)
     → IsLargestBy (bare flow) (covers_of (bare flow) offers) (IsOffered flow offers) choice
 largest_of flow offers choice r has edges nodes = record {
   consistent = record {

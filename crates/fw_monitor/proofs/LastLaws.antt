@@ -12,7 +12,7 @@ use Rattle.fw_flow.specs.WellFormed.{IsWellFormed}
 use Rattle.fw_monitor.specs.declared.side.Side.{Side}
 use Rattle.fw_monitor.specs.Kept.{front_or}
 use Rattle.fw_monitor.specs.Offers.{records_of, range_of, IsRangeOf, AreOffersOf}
-use Rattle.fw_monitor.specs.Descent.{owner, reach, left_of, IsThere, IsCanonicalCut, IsLeft, IsLower, IsCutDown}
+use Rattle.fw_monitor.specs.Descent.{owner, reach, left_of, IsOfFlow, IsCanonicalCut, IsLeft, IsLower, IsCutDown}
 use Rattle.fw_monitor.proofs.LowerLaws.{Fits, lower_listed, none_listed, lower_range, lower_present}
 use Rattle.fw_monitor.proofs.CutDownLaws.{split_at, fails_more, record_canonical}
 use Rattle.fw_monitor.proofs.DescentLaws.{owner-there}
@@ -20,12 +20,12 @@ use Rattle.fw_monitor.proofs.DescentLaws.{owner-there}
 records-are : (flow : Dataflow) (offers : List Offer) (side : Side) (q : ℕ) (rs : List Recorded) → q ≡ owner flow side → rs ≡ records_of offers q → rs ≡ records_of offers (owner flow side)
 records-are flow offers side q rs e i = i ∙ ap (records_of offers) e
 
-pub front_there : (flow : Dataflow) (offers : List Offer) (side : Side) (q : ℕ) (rs : List Recorded) (i : ℕ) (x : Recorded) → AreOffersOf flow offers → IsWellFormed flow → IsThere flow side
+pub front_there : (flow : Dataflow) (offers : List Offer) (side : Side) (q : ℕ) (rs : List Recorded) (i : ℕ) (x : Recorded) → AreOffersOf flow offers → IsWellFormed flow → IsOfFlow flow side
     → q ≡ owner flow side → rs ≡ records_of offers q → i < length rs → x ≡ get_or rs i x → IsCanonical (bounds_of flow (owner flow side)) x.front
 front_there flow offers side q rs i x a well there e is l k =
     record_canonical flow offers (owner flow side) rs i x a (owner-there flow side well there) (records-are flow offers side q rs e is) l k
 
-pub last_lower : (flow : Dataflow) (offers : List Offer) (side : Side) (cut : Cut) (bound : Front) (q : ℕ) (rs : List Recorded) (i n : ℕ) (x : Recorded) (f : Front) → AreOffersOf flow offers → IsWellFormed flow → IsThere flow side
+pub last_lower : (flow : Dataflow) (offers : List Offer) (side : Side) (cut : Cut) (bound : Front) (q : ℕ) (rs : List Recorded) (i n : ℕ) (x : Recorded) (f : Front) → AreOffersOf flow offers → IsWellFormed flow → IsOfFlow flow side
     → q ≡ owner flow side → rs ≡ records_of offers q → n ≡ i + 1 → i < length rs → x ≡ get_or rs i x → range_of offers (owner flow side) ≡ None
     → (Within (left_of flow offers side cut) (frontier_of (reach flow side) bound) → ⊥) → Fits flow offers side cut bound x
     → AllByRecursion (λ s. Fits flow offers side cut bound s → ⊥) (drop n rs) → f ≡ x.front → IsLower flow offers side cut bound (At f)
@@ -65,7 +65,7 @@ range_some flow offers side q greatest e ends none = let k = sym ends.1 ∙ ap (
 pub range_none : (flow : Dataflow) (offers : List Offer) (side : Side) (q : ℕ) → q ≡ owner flow side → range_of offers q ≡ None → range_of offers (owner flow side) ≡ None
 range_none flow offers side q e none = sym (ap (range_of offers) e) ∙ none
 
-pub range_front : (flow : Dataflow) (offers : List Offer) (side : Side) (cut : Cut) (q : ℕ) (greatest base : Front) → AreOffersOf flow offers → IsWellFormed flow → IsThere flow side → q ≡ owner flow side
+pub range_front : (flow : Dataflow) (offers : List Offer) (side : Side) (cut : Cut) (q : ℕ) (greatest base : Front) → AreOffersOf flow offers → IsWellFormed flow → IsOfFlow flow side → q ≡ owner flow side
     → IsCanonicalCut (bounds_of flow (owner flow side)) cut → EndsIn offers q greatest → base ≡ front_or cut greatest → IsCanonical (bounds_of flow (owner flow side)) base
 range_front flow offers side cut q greatest base a well there e c ends is = subst (IsCanonical (bounds_of flow (owner flow side))) (sym is) (at cut c)
   where

@@ -13,7 +13,7 @@ use Rattle.fw_flow.specs.Dataflow.{System, Dataflow, bounds_of}
 use Rattle.fw_model.specs.Machine.{front_of}
 use Rattle.fw_model.specs.Choice.{cut_of, set_of, IsCutWithin, IsConsistentBy, IsLargestBy}
 use Rattle.fw_monitor.specs.Offers.{IsListed, IsBetween, IsOffered, Ascend, AreAscending, IsRangeOf, IsRecordOf, can_stay, records_of, range_of, AreOffersOf, covers_of}
-use Rattle.fw_monitor.specs.Descent.{bare, choice_of, IsCanonicalCut, IsReached, IsGreatest, IsDescent, HasConsistent}
+use Rattle.fw_monitor.specs.Descent.{bare, choice_of, IsCanonicalCut, EnclosesConsistent, IsGreatest, IsDescent, HasConsistent}
 use Rattle.fw_monitor.proofs.LowerLaws.{below_last, listed-there, between-offered, offered-between}
 use Rattle.fw_monitor.proofs.DescentLaws.{set-monotone, largest_of, consistent-bare, largest-whole}
 use Rattle.fw_monitor.proofs.CutDownLaws.{split_at}
@@ -127,11 +127,11 @@ greatest_records flow offers p r (x ∷ rs) f a l e is none same empty some =
 
 -- ---- the start
 
-pub start_reached : (flow : Dataflow) (offers : List Offer) (cuts : List Cut) (notes : List Front) → length cuts ≡ length flow.nodes → length notes ≡ length flow.nodes
+pub start_encloses : (flow : Dataflow) (offers : List Offer) (cuts : List Cut) (notes : List Front) → length cuts ≡ length flow.nodes → length notes ≡ length flow.nodes
     → ((p : ℕ) → p < length flow.nodes → IsGreatest flow offers p (cut_of (choice_of cuts notes) p))
     → ((p : ℕ) → p < length flow.nodes → Names (bounds_of flow p) (front_of notes p) (set_of (bare flow) p (cut_of (choice_of cuts notes) p)))
-    → IsReached flow offers (choice_of cuts notes)
-start_reached flow offers cuts notes one each greatest kept = record {
+    → EnclosesConsistent flow offers (choice_of cuts notes)
+start_encloses flow offers cuts notes one each greatest kept = record {
   one_cut_each = one;
   one_note_each = each;
   cuts = λ p l. (greatest p l).canonical;
@@ -152,4 +152,4 @@ largest_end flow offers choice sys some e =
     e (λ d a k. at d (a, (some, consistent-bare sys offers some k)))
   where
     at : IsDescent sys.flow offers choice false → HasConsistent sys.flow offers → IsLargestBy sys (covers_of sys offers) (IsOffered sys.flow offers) choice
-    at d has = largest-whole sys offers choice (largest_of sys.flow offers choice d.reached has (d.edges refl has) (d.nodes refl has))
+    at d has = largest-whole sys offers choice (largest_of sys.flow offers choice d.encloses has (d.edges refl has) (d.nodes refl has))

@@ -16,7 +16,7 @@ use Rattle.fw_model.specs.Choice.{cut_of, note_of, kept_of, set_of, IsChoiceWith
 use Rattle.fw_monitor.specs.declared.side.Side.{Side}
 use Rattle.fw_monitor.specs.declared.side.Side.TheVariants.{Delivered, Discarded, Notified}
 use Rattle.fw_monitor.specs.Offers.{arrived_from}
-use Rattle.fw_monitor.specs.Descent.{bare, choice_of, owner, reach, IsThere, right_of, Holds, HoldsAtEdge, HoldsAtNode, IsCanonicalCut, IsLower, IsLowered, IsConsistentOf, IsReached, HasConsistent, weight, IsStep, IsNoteLowered, IsPass, IsDescent, left_over}
+use Rattle.fw_monitor.specs.Descent.{bare, choice_of, owner, reach, IsOfFlow, right_of, IsMet, IsMetAtEdge, IsMetAtNode, IsCanonicalCut, IsLower, IsLowered, IsConsistentOf, EnclosesConsistent, HasConsistent, weight, IsStep, IsNoteLowered, IsPass, IsDescent, left_over}
 use Rattle.fw_monitor.proofs.DescentLaws.{lower_step, same_step, none_holds, note_step, own_keeps, edge_keeps, then_step}
 
 -- ---- right sides
@@ -29,7 +29,7 @@ pub right_discarded : (flow : Dataflow) (offers : List Offer) (side : Side) (d :
     → Names (bounds_of flow (receiver flow d)) g (kept_of (bare flow) choice (receiver flow d)) → Names (reach flow side) g (right_of flow offers side choice)
 right_discarded flow offers side d choice g e n = subst (λ s. Names (reach flow s) g (right_of flow offers s choice)) (sym e) n
 
-pub right_notified : (flow : Dataflow) (offers : List Offer) (side : Side) (p : ℕ) (choice : Choice) (g : Front) → side ≡ Notified p → IsReached flow offers choice → p < length flow.nodes
+pub right_notified : (flow : Dataflow) (offers : List Offer) (side : Side) (p : ℕ) (choice : Choice) (g : Front) → side ≡ Notified p → EnclosesConsistent flow offers choice → p < length flow.nodes
     → g ≡ front_of choice.notes p → Names (reach flow side) g (right_of flow offers side choice)
 right_notified flow offers side p choice g e r l is =
     subst (λ s. Names (reach flow s) g (right_of flow offers s choice)) (sym e)
@@ -41,7 +41,7 @@ arrived_same flow offers e b c f g s n m = subst (λ h. Names b g (arrived_from 
 
 -- ---- a cut
 
-pub cut_step : (flow : Dataflow) (offers : List Offer) (side : Side) (cuts new : List Cut) (notes : List Front) (bound : Front) (p q : ℕ) (c : Cut) → IsWellFormed flow → IsThere flow side → IsReached flow offers (choice_of cuts notes)
+pub cut_step : (flow : Dataflow) (offers : List Offer) (side : Side) (cuts new : List Cut) (notes : List Front) (bound : Front) (p q : ℕ) (c : Cut) → IsWellFormed flow → IsOfFlow flow side → EnclosesConsistent flow offers (choice_of cuts notes)
     → Names (reach flow side) bound (right_of flow offers side (choice_of cuts notes)) → p ≡ owner flow side → q ≡ p → new ≡ set cuts q c
     → IsLower flow offers side (cut_of (choice_of cuts notes) p) bound c → IsStep flow offers (choice_of cuts notes) (choice_of new notes) true
 cut_step flow offers side cuts new notes bound p q c well there r n e f is lower =
@@ -49,14 +49,14 @@ cut_step flow offers side cuts new notes bound p q c well there r n e f is lower
     (lower_step flow offers side (choice_of cuts notes) bound c well there r (λ t k. n.same t ∙ k)
     (subst (λ x. IsLower flow offers side (cut_of (choice_of cuts notes) x) bound c) e lower))
 
-pub cut_same : (flow : Dataflow) (offers : List Offer) (cuts new : List Cut) (notes : List Front) → IsReached flow offers (choice_of cuts notes) → new ≡ cuts → IsStep flow offers (choice_of cuts notes) (choice_of new notes) false
+pub cut_same : (flow : Dataflow) (offers : List Offer) (cuts new : List Cut) (notes : List Front) → EnclosesConsistent flow offers (choice_of cuts notes) → new ≡ cuts → IsStep flow offers (choice_of cuts notes) (choice_of new notes) false
 cut_same flow offers cuts new notes r e = subst (λ xs. IsStep flow offers (choice_of cuts notes) (choice_of xs notes) false) (sym e) (same_step flow offers (choice_of cuts notes) r)
 
-pub cut_holds : (flow : Dataflow) (offers : List Offer) (side : Side) (cuts new : List Cut) (notes : List Front) (bound : Front) (p : ℕ) → IsWellFormed flow → IsThere flow side → IsReached flow offers (choice_of cuts notes)
+pub cut_holds : (flow : Dataflow) (offers : List Offer) (side : Side) (cuts new : List Cut) (notes : List Front) (bound : Front) (p : ℕ) → IsWellFormed flow → IsOfFlow flow side → EnclosesConsistent flow offers (choice_of cuts notes)
     → Names (reach flow side) bound (right_of flow offers side (choice_of cuts notes)) → p ≡ owner flow side → new ≡ cuts
-    → IsLowered flow offers side (cut_of (choice_of cuts notes) p) bound None → HasConsistent flow offers → Holds flow offers (choice_of new notes) side
+    → IsLowered flow offers side (cut_of (choice_of cuts notes) p) bound None → HasConsistent flow offers → IsMet flow offers (choice_of new notes) side
 cut_holds flow offers side cuts new notes bound p well there r n e is none has =
-    subst (λ xs. Holds flow offers (choice_of xs notes) side) (sym is)
+    subst (λ xs. IsMet flow offers (choice_of xs notes) side) (sym is)
     (none_holds flow offers side (choice_of cuts notes) bound well there r (λ t k. n.same t ∙ k) (λ t k. sym (n.same t) ∙ k)
     (subst (λ x. IsLowered flow offers side (cut_of (choice_of cuts notes) x) bound None) e none) has)
 
@@ -80,7 +80,7 @@ note_cut notes p q bound f x y r e l i j k test cut =
     apart : (r : Bool) → r ≡ true → r ≡ false → ⊥
     apart r u v = cc
 
-pub note_lowered_step : (flow : Dataflow) (offers : List Offer) (cuts : List Cut) (old new : List Front) (p : ℕ) (bound : Front) (right : Frontier) (b : Bool) → p < length flow.nodes → IsReached flow offers (choice_of cuts old)
+pub note_lowered_step : (flow : Dataflow) (offers : List Offer) (cuts : List Cut) (old new : List Front) (p : ℕ) (bound : Front) (right : Frontier) (b : Bool) → p < length flow.nodes → EnclosesConsistent flow offers (choice_of cuts old)
     → Names (bounds_of flow p) bound right
     → ((other : Choice) → IsConsistentOf flow offers other → IsChoiceWithin (bare flow) other (choice_of cuts old) → Within (note_of (bare flow) other p) right)
     → IsNoteLowered old new p bound b → IsStep flow offers (choice_of cuts old) (choice_of cuts new) b
@@ -108,11 +108,11 @@ still flow offers old new b P s e h = subst P (sym (s.same e)) h
 
 -- ---- what the calls find
 
-pub cut_here : (flow : Dataflow) (offers : List Offer) (choice : Choice) (p q : ℕ) (c : Cut) → IsReached flow offers choice → p < length flow.nodes → c ≡ cut_of choice q → q ≡ p → IsCanonicalCut (bounds_of flow p) c
+pub cut_here : (flow : Dataflow) (offers : List Offer) (choice : Choice) (p q : ℕ) (c : Cut) → EnclosesConsistent flow offers choice → p < length flow.nodes → c ≡ cut_of choice q → q ≡ p → IsCanonicalCut (bounds_of flow p) c
 cut_here flow offers choice p q c r l is e = subst (IsCanonicalCut (bounds_of flow p)) (sym (is ∙ ap (cut_of choice) e)) (r.cuts p l)
 
-pub there_at : (flow : Dataflow) (side other : Side) → IsThere flow side → side ≡ other → IsThere flow other
-there_at flow side other l e = subst (IsThere flow) e l
+pub there_at : (flow : Dataflow) (side other : Side) → IsOfFlow flow side → side ≡ other → IsOfFlow flow other
+there_at flow side other l e = subst (IsOfFlow flow) e l
 
 pub delivered_at_cut : (flow : Dataflow) (offers : List Offer) (side : Side) (d q : ℕ) (choice : Choice) (g : Front) (c : Cut) → side ≡ Delivered d → c ≡ cut_of choice q → q ≡ sender flow d
     → Names (bounds_of flow (receiver flow d)) g (arrived_from flow offers d (set_of (bare flow) (sender flow d) c)) → Names (reach flow side) g (right_of flow offers side choice)
@@ -137,39 +137,39 @@ abbrev pub IsDone : Dataflow → List Offer → Choice → Choice → Bool → (
 IsDone flow offers old new b P = IsStep flow offers old new b × (b ≡ false → HasConsistent flow offers → P new)
 
 pub edge_done : (flow : Dataflow) (offers : List Offer) (cuts0 cuts1 cuts2 : List Cut) (notes0 notes1 : List Front) (e : ℕ) (bound : Front) (a b n ab all : Bool) → IsWellFormed flow → e < length flow.edges
-    → IsStep flow offers (choice_of cuts0 notes0) (choice_of cuts1 notes0) a → (a ≡ false → HasConsistent flow offers → Holds flow offers (choice_of cuts1 notes0) (Delivered e))
-    → IsStep flow offers (choice_of cuts1 notes0) (choice_of cuts2 notes0) b → (b ≡ false → HasConsistent flow offers → Holds flow offers (choice_of cuts2 notes0) (Discarded e))
+    → IsStep flow offers (choice_of cuts0 notes0) (choice_of cuts1 notes0) a → (a ≡ false → HasConsistent flow offers → IsMet flow offers (choice_of cuts1 notes0) (Delivered e))
+    → IsStep flow offers (choice_of cuts1 notes0) (choice_of cuts2 notes0) b → (b ≡ false → HasConsistent flow offers → IsMet flow offers (choice_of cuts2 notes0) (Discarded e))
     → Names (bounds_of flow (receiver flow e)) bound (arrived_from flow offers e (note_of (bare flow) (choice_of cuts2 notes0) (sender flow e)))
     → IsNoteLowered notes0 notes1 (receiver flow e) bound n → ab ≡ (a || b) → all ≡ (ab || n)
-    → IsDone flow offers (choice_of cuts0 notes0) (choice_of cuts2 notes1) all (λ v. HoldsAtEdge flow offers v e)
+    → IsDone flow offers (choice_of cuts0 notes0) (choice_of cuts2 notes1) all (λ v. IsMetAtEdge flow offers v e)
 edge_done flow offers cuts0 cuts1 cuts2 notes0 notes1 e bound a b n ab all well l s1 h1 s2 h2 names low ea eb =
     let p = receiver flow e in
     let right = arrived_from flow offers e (note_of (bare flow) (choice_of cuts2 notes0) (sender flow e)) in
-    let s3 = note_lowered_step flow offers cuts2 notes0 notes1 p bound right n (well.receivers_declared e l) s2.reached names (edge_keeps flow offers (choice_of cuts2 notes0) e well l) low in (
+    let s3 = note_lowered_step flow offers cuts2 notes0 notes1 p bound right n (well.receivers_declared e l) s2.encloses names (edge_keeps flow offers (choice_of cuts2 notes0) e well l) low in (
       either_step flow offers (choice_of cuts0 notes0) (choice_of cuts2 notes0) (choice_of cuts2 notes1) ab n all eb
           (either_step flow offers (choice_of cuts0 notes0) (choice_of cuts1 notes0) (choice_of cuts2 notes0) a b ab ea s1 s2) s3,
       λ k has.
           let u = or_parts ab n (sym eb ∙ k) in
           let v = or_parts a b (sym ea ∙ u.0) in
-          still flow offers (choice_of cuts2 notes0) (choice_of cuts2 notes1) n (λ w. HoldsAtEdge flow offers w e) s3 u.1 (record {
-            delivered = still flow offers (choice_of cuts1 notes0) (choice_of cuts2 notes0) b (λ w. Holds flow offers w (Delivered e)) s2 v.1 (h1 v.0 has);
+          still flow offers (choice_of cuts2 notes0) (choice_of cuts2 notes1) n (λ w. IsMetAtEdge flow offers w e) s3 u.1 (record {
+            delivered = still flow offers (choice_of cuts1 notes0) (choice_of cuts2 notes0) b (λ w. IsMet flow offers w (Delivered e)) s2 v.1 (h1 v.0 has);
             discarded = h2 v.1 has;
             note = note_lowered_within flow notes0 notes1 p bound right n names low u.1;
           }),
     )
 
 pub node_done : (flow : Dataflow) (offers : List Offer) (cuts0 cuts1 : List Cut) (notes0 notes1 : List Front) (p : ℕ) (bound : Front) (a n all : Bool) → p < length flow.nodes
-    → IsStep flow offers (choice_of cuts0 notes0) (choice_of cuts1 notes0) a → (a ≡ false → HasConsistent flow offers → Holds flow offers (choice_of cuts1 notes0) (Notified p))
+    → IsStep flow offers (choice_of cuts0 notes0) (choice_of cuts1 notes0) a → (a ≡ false → HasConsistent flow offers → IsMet flow offers (choice_of cuts1 notes0) (Notified p))
     → Names (bounds_of flow p) bound (kept_of (bare flow) (choice_of cuts1 notes0) p)
     → IsNoteLowered notes0 notes1 p bound n → all ≡ (a || n)
-    → IsDone flow offers (choice_of cuts0 notes0) (choice_of cuts1 notes1) all (λ v. HoldsAtNode flow offers v p)
+    → IsDone flow offers (choice_of cuts0 notes0) (choice_of cuts1 notes1) all (λ v. IsMetAtNode flow offers v p)
 node_done flow offers cuts0 cuts1 notes0 notes1 p bound a n all l s1 h1 names low ea =
     let right = kept_of (bare flow) (choice_of cuts1 notes0) p in
-    let s2 = note_lowered_step flow offers cuts1 notes0 notes1 p bound right n l s1.reached names (own_keeps flow offers (choice_of cuts1 notes0) p l) low in (
+    let s2 = note_lowered_step flow offers cuts1 notes0 notes1 p bound right n l s1.encloses names (own_keeps flow offers (choice_of cuts1 notes0) p l) low in (
       either_step flow offers (choice_of cuts0 notes0) (choice_of cuts1 notes0) (choice_of cuts1 notes1) a n all ea s1 s2,
       λ k has.
           let u = or_parts a n (sym ea ∙ k) in
-          still flow offers (choice_of cuts1 notes0) (choice_of cuts1 notes1) n (λ w. HoldsAtNode flow offers w p) s2 u.1 (record {
+          still flow offers (choice_of cuts1 notes0) (choice_of cuts1 notes1) n (λ w. IsMetAtNode flow offers w p) s2 u.1 (record {
             notified = h1 u.0 has;
             own = note_lowered_within flow notes0 notes1 p bound right n names low u.1;
           }),
@@ -193,20 +193,20 @@ more_done flow offers first cur new p q a low c P s1 s2 e same here before = (
 )
 
 pub pass_done : (flow : Dataflow) (offers : List Offer) (old mid new : Choice) (a b c : Bool) → c ≡ (a || b) → IsStep flow offers old mid a → IsStep flow offers mid new b
-    → (a ≡ false → HasConsistent flow offers → (e : ℕ) → e < length flow.edges → HoldsAtEdge flow offers mid e)
-    → (b ≡ false → HasConsistent flow offers → (p : ℕ) → p < length flow.nodes → HoldsAtNode flow offers new p)
+    → (a ≡ false → HasConsistent flow offers → (e : ℕ) → e < length flow.edges → IsMetAtEdge flow offers mid e)
+    → (b ≡ false → HasConsistent flow offers → (p : ℕ) → p < length flow.nodes → IsMetAtNode flow offers new p)
     → IsPass flow offers old new c
 pass_done flow offers old mid new a b c e s1 s2 edges nodes = record {
   step = either_step flow offers old mid new a b c e s1 s2;
-  edges = λ k has d l. let u = or_parts a b (sym e ∙ k) in still flow offers mid new b (λ v. HoldsAtEdge flow offers v d) s2 u.1 (edges u.0 has d l);
+  edges = λ k has d l. let u = or_parts a b (sym e ∙ k) in still flow offers mid new b (λ v. IsMetAtEdge flow offers v d) s2 u.1 (edges u.0 has d l);
   nodes = λ k has. let u = or_parts a b (sym e ∙ k) in nodes u.1 has;
 }
 
 -- ---- the descent as a whole
 
--- what the descent keeps: a choice that is reached, at which all holds once a pass lowered nothing
+-- what the descent keeps: a choice that encloses each consistent one, at which all is met once a pass lowered nothing
 pub pass_begun : (flow : Dataflow) (offers : List Offer) (old new : Choice) (b : Bool) → IsPass flow offers old new b → IsDescent flow offers new b
-pass_begun flow offers old new b p = record { reached = p.step.reached; edges = p.edges; nodes = p.nodes }
+pass_begun flow offers old new b p = record { encloses = p.step.encloses; edges = p.edges; nodes = p.nodes }
 
 -- twice the weight, and one more where another pass is needed, falls
 pub pass_falls : (flow : Dataflow) (offers : List Offer) (old new : Choice) (b : Bool) → IsPass flow offers old new b → left_over flow new b < left_over flow old true

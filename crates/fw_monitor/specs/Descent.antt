@@ -22,12 +22,12 @@ use Rattle.fw_monitor.specs.Held.{held, sum_below}
 use Rattle.fw_monitor.specs.Offers.{IsOffered, AreAscending, delivered_cover, discarded_cover, notified_cover, recorded_delivered, recorded_discarded, recorded_notified, arrived_from, covers_of}
 
 -- the way in which a node is restored, as the model names it
-abbrev pub named : Restoring → model.Restoring
-named restored.Batches = by_batches
-named restored.Bound = by_bound
-named restored.Anything = by_anything
-named restored.Checkpoints = by_checkpoints
-named restored.Events = by_events
+abbrev pub modelled : Restoring → model.Restoring
+modelled restored.Batches = by_batches
+modelled restored.Bound = by_bound
+modelled restored.Anything = by_anything
+modelled restored.Checkpoints = by_checkpoints
+modelled restored.Events = by_events
 
 -- a dataflow alone, without batches
 abbrev pub bare : Dataflow → System
@@ -50,10 +50,10 @@ reach flow (Discarded e) = bounds_of flow (receiver flow e)
 reach flow (Notified p) = bounds_of flow p
 
 -- its edge or its node is one of the dataflow
-abbrev pub IsThere : Dataflow → Side → Type 0
-IsThere flow (Delivered d) = d < length flow.edges
-IsThere flow (Discarded e) = e < length flow.edges
-IsThere flow (Notified p) = p < length flow.nodes
+abbrev pub IsOfFlow : Dataflow → Side → Type 0
+IsOfFlow flow (Delivered d) = d < length flow.edges
+IsOfFlow flow (Discarded e) = e < length flow.edges
+IsOfFlow flow (Notified p) = p < length flow.nodes
 
 -- the frontier that is listed for an edge
 abbrev pub found : ℕ → List OfEdge → Option Front
@@ -89,29 +89,29 @@ right_of flow offers (Delivered d) choice = arrived_from flow offers d (kept_of 
 right_of flow offers (Discarded e) choice = kept_of (bare flow) choice (receiver flow e)
 right_of flow offers (Notified p) choice = note_of (bare flow) choice p
 
--- it does
-abbrev pub Holds : Dataflow → List Offer → Choice → Side → Type 0
-Holds flow offers choice side = Within (left_of flow offers side (cut_of choice (owner flow side))) (right_of flow offers side choice)
+-- what it is lies in what it has to lie in
+abbrev pub IsMet : Dataflow → List Offer → Choice → Side → Type 0
+IsMet flow offers choice side = Within (left_of flow offers side (cut_of choice (owner flow side))) (right_of flow offers side choice)
 
 -- a node's notification frontier lies in what it keeps
-abbrev pub HoldsOwn : Dataflow → Choice → ℕ → Type 0
-HoldsOwn flow choice p = Within (note_of (bare flow) choice p) (kept_of (bare flow) choice p)
+abbrev pub IsOwnMet : Dataflow → Choice → ℕ → Type 0
+IsOwnMet flow choice p = Within (note_of (bare flow) choice p) (kept_of (bare flow) choice p)
 
 -- the notification frontier of an edge's receiver comes from that of its sender
-abbrev pub HoldsNote : Dataflow → List Offer → Choice → ℕ → Type 0
-HoldsNote flow offers choice d =
+abbrev pub IsNoteMet : Dataflow → List Offer → Choice → ℕ → Type 0
+IsNoteMet flow offers choice d =
     Within (note_of (bare flow) choice (receiver flow d)) (arrived_from flow offers d (note_of (bare flow) choice (sender flow d)))
 
--- all that speaks of an edge holds
-pub record HoldsAtEdge (flow : Dataflow) (offers : List Offer) (choice : Choice) (e : ℕ) : Type 0 where
-  pub delivered : Holds flow offers choice (Delivered e)
-  pub discarded : Holds flow offers choice (Discarded e)
-  pub note : HoldsNote flow offers choice e
+-- all that speaks of an edge is met
+pub record IsMetAtEdge (flow : Dataflow) (offers : List Offer) (choice : Choice) (e : ℕ) : Type 0 where
+  pub delivered : IsMet flow offers choice (Delivered e)
+  pub discarded : IsMet flow offers choice (Discarded e)
+  pub note : IsNoteMet flow offers choice e
 
--- all that speaks of a node alone holds
-pub record HoldsAtNode (flow : Dataflow) (offers : List Offer) (choice : Choice) (p : ℕ) : Type 0 where
-  pub notified : Holds flow offers choice (Notified p)
-  pub own : HoldsOwn flow choice p
+-- all that speaks of a node alone is met
+pub record IsMetAtNode (flow : Dataflow) (offers : List Offer) (choice : Choice) (p : ℕ) : Type 0 where
+  pub notified : IsMet flow offers choice (Notified p)
+  pub own : IsOwnMet flow choice p
 
 -- the frontier of a cut is canonical, if it has one
 abbrev pub IsCanonicalCut : Bounds → Cut → Type 0
@@ -153,7 +153,7 @@ abbrev pub IsConsistentOf : Dataflow → List Offer → Choice → Type 0
 IsConsistentOf flow offers choice = IsConsistentBy (bare flow) (covers_of (bare flow) offers) (IsOffered flow offers) choice
 
 -- cuts and notification frontiers of the nodes, within which each consistent choice lies, and offered if there is one
-pub record IsReached (flow : Dataflow) (offers : List Offer) (choice : Choice) : Type 0 where
+pub record EnclosesConsistent (flow : Dataflow) (offers : List Offer) (choice : Choice) : Type 0 where
   pub one_cut_each : length choice.cuts ≡ length flow.nodes
   pub one_note_each : length choice.notes ≡ length flow.nodes
   pub cuts : (p : ℕ) → p < length flow.nodes → IsCanonicalCut (bounds_of flow p) (cut_of choice p)
@@ -181,7 +181,7 @@ weight flow choice = sum_below (length flow.nodes) (node_weight flow choice)
 
 -- one step of the descent: the choice is the same, or a lower one
 pub record IsStep (flow : Dataflow) (offers : List Offer) (old new : Choice) (lowered : Bool) : Type 0 where
-  pub reached : IsReached flow offers new
+  pub encloses : EnclosesConsistent flow offers new
   pub fewer : lowered ≡ true → weight flow new < weight flow old
   pub same : lowered ≡ false → new ≡ old
 
@@ -193,17 +193,17 @@ IsNoteLowered old new p bound true =
     × ((b : Bounds) → IsCanonical b (front_of old p) → IsCanonical b bound
     → Names b f (meet (frontier_of b (front_of old p)) (frontier_of b bound)) × (Within (frontier_of b (front_of old p)) (frontier_of b bound) → ⊥))
 
--- a pass over all that has to hold: where nothing was lowered all holds, if there is a consistent choice
+-- a pass over all that has to be met: where nothing was lowered all is met, if there is a consistent choice
 pub record IsPass (flow : Dataflow) (offers : List Offer) (old new : Choice) (lowered : Bool) : Type 0 where
   pub step : IsStep flow offers old new lowered
-  pub edges : lowered ≡ false → HasConsistent flow offers → (e : ℕ) → e < length flow.edges → HoldsAtEdge flow offers new e
-  pub nodes : lowered ≡ false → HasConsistent flow offers → (p : ℕ) → p < length flow.nodes → HoldsAtNode flow offers new p
+  pub edges : lowered ≡ false → HasConsistent flow offers → (e : ℕ) → e < length flow.edges → IsMetAtEdge flow offers new e
+  pub nodes : lowered ≡ false → HasConsistent flow offers → (p : ℕ) → p < length flow.nodes → IsMetAtNode flow offers new p
 
--- a choice that was reached, at which all holds if the last pass lowered nothing and there is a consistent choice
+-- a choice that encloses each consistent one, at which all is met if the last pass lowered nothing and there is one
 pub record IsDescent (flow : Dataflow) (offers : List Offer) (choice : Choice) (lowered : Bool) : Type 0 where
-  pub reached : IsReached flow offers choice
-  pub edges : lowered ≡ false → HasConsistent flow offers → (e : ℕ) → e < length flow.edges → HoldsAtEdge flow offers choice e
-  pub nodes : lowered ≡ false → HasConsistent flow offers → (p : ℕ) → p < length flow.nodes → HoldsAtNode flow offers choice p
+  pub encloses : EnclosesConsistent flow offers choice
+  pub edges : lowered ≡ false → HasConsistent flow offers → (e : ℕ) → e < length flow.edges → IsMetAtEdge flow offers choice e
+  pub nodes : lowered ≡ false → HasConsistent flow offers → (p : ℕ) → p < length flow.nodes → IsMetAtNode flow offers choice p
 
 -- how much is left of the descent: twice the weight, and one more where another pass is needed
 unfoldable pub left_over : Dataflow → Choice → Bool → ℕ

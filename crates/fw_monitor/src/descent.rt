@@ -9,7 +9,7 @@ ghost use Rattle.fw_model.specs.Choice.{IsConsistentBy, IsLargestBy, IsChoiceWit
 ghost use Rattle.fw_model.specs.Machine.{front_of};
 ghost use Rattle.fw_monitor.specs.Offers as spec;
 ghost use Rattle.fw_monitor.specs.Offers.{IsOffered, AreOffersOf, AreAscending, covers_of};
-ghost use Rattle.fw_monitor.specs.Descent.{bare, choice_of, owner, reach, right_of, IsThere, IsCanonicalCut, IsConsistentOf, IsReached, IsStep, HasConsistent, Holds, HoldsAtEdge, HoldsAtNode, IsNoteLowered, IsPass};
+ghost use Rattle.fw_monitor.specs.Descent.{bare, choice_of, owner, reach, right_of, IsOfFlow, IsCanonicalCut, IsConsistentOf, EnclosesConsistent, IsStep, HasConsistent, IsMet, IsMetAtEdge, IsMetAtNode, IsNoteLowered, IsPass};
 
 use crate::arrived::arrived;
 use crate::lower::lowered;
@@ -68,8 +68,8 @@ fn right(
     notes: &[Front],
 ) -> Result<Front, AllocError>
     requires offers { AreOffersOf flow.now offers.now }
-    requires there { IsThere flow.now side.now }
-    requires reached { IsReached flow.now offers.now (choice_of cuts.now notes.now) }
+    requires there { IsOfFlow flow.now side.now }
+    requires encloses { EnclosesConsistent flow.now offers.now (choice_of cuts.now notes.now) }
     ensures { IfOk result (λ g. Names (reach flow.now side.now) g
         (right_of flow.now offers.now side.now (choice_of cuts.now notes.now))) }
 {
@@ -112,11 +112,11 @@ fn lower_cut(
     notes: &[Front],
 ) -> Result<bool, AllocError>
     requires offers { AreOffersOf flow.now offers.now }
-    requires there { IsThere flow.now side.now }
-    requires reached { IsReached flow.now offers.now (choice_of cuts.old.items notes.now) }
+    requires there { IsOfFlow flow.now side.now }
+    requires encloses { EnclosesConsistent flow.now offers.now (choice_of cuts.old.items notes.now) }
     ensures step { IfOk result (IsStep flow.now offers.now (choice_of cuts.old.items notes.now) (choice_of cuts.new.items notes.now)) }
     ensures holds { IfOk result (λ b. b ≡ false → HasConsistent flow.now offers.now
-        → Holds flow.now offers.now (choice_of cuts.new.items notes.now) side.now) }
+        → IsMet flow.now offers.now (choice_of cuts.new.items notes.now) side.now) }
 {
     let _ = flow.nodes();
     let bound = right(alloc, flow, offers, side, cuts, notes)?;
@@ -164,10 +164,10 @@ fn at_edge(
 ) -> Result<bool, AllocError>
     requires offers { AreOffersOf flow.now offers.now }
     requires there { edge < length flow.now.edges }
-    requires reached { IsReached flow.now offers.now (choice_of cuts.old.items notes.old.items) }
+    requires encloses { EnclosesConsistent flow.now offers.now (choice_of cuts.old.items notes.old.items) }
     ensures step { IfOk result (IsStep flow.now offers.now (choice_of cuts.old.items notes.old.items) (choice_of cuts.new.items notes.new.items)) }
     ensures holds { IfOk result (λ b. b ≡ false → HasConsistent flow.now offers.now
-        → HoldsAtEdge flow.now offers.now (choice_of cuts.new.items notes.new.items) edge) }
+        → IsMetAtEdge flow.now offers.now (choice_of cuts.new.items notes.new.items) edge) }
 {
     let _ = flow.nodes();
     let delivered = lower_cut(alloc, flow, offers, &Side::Delivered(edge), cuts, notes)?;
@@ -188,10 +188,10 @@ fn at_node(
 ) -> Result<bool, AllocError>
     requires offers { AreOffersOf flow.now offers.now }
     requires there { node < length flow.now.nodes }
-    requires reached { IsReached flow.now offers.now (choice_of cuts.old.items notes.old.items) }
+    requires encloses { EnclosesConsistent flow.now offers.now (choice_of cuts.old.items notes.old.items) }
     ensures step { IfOk result (IsStep flow.now offers.now (choice_of cuts.old.items notes.old.items) (choice_of cuts.new.items notes.new.items)) }
     ensures holds { IfOk result (λ b. b ≡ false → HasConsistent flow.now offers.now
-        → HoldsAtNode flow.now offers.now (choice_of cuts.new.items notes.new.items) node) }
+        → IsMetAtNode flow.now offers.now (choice_of cuts.new.items notes.new.items) node) }
 {
     let notified = lower_cut(alloc, flow, offers, &Side::Notified(node), cuts, notes)?;
     let bound = kept(alloc, cut_at(cuts, node))?;
@@ -208,10 +208,10 @@ fn pass_edges(
     notes: &mut Vec<Front>,
 ) -> Result<bool, AllocError>
     requires offers { AreOffersOf flow.now offers.now }
-    requires reached { IsReached flow.now offers.now (choice_of cuts.old.items notes.old.items) }
+    requires encloses { EnclosesConsistent flow.now offers.now (choice_of cuts.old.items notes.old.items) }
     ensures step { IfOk result (IsStep flow.now offers.now (choice_of cuts.old.items notes.old.items) (choice_of cuts.new.items notes.new.items)) }
     ensures holds { IfOk result (λ b. b ≡ false → HasConsistent flow.now offers.now
-        → (e : ℕ) → e < length flow.now.edges → HoldsAtEdge flow.now offers.now (choice_of cuts.new.items notes.new.items) e) }
+        → (e : ℕ) → e < length flow.now.edges → IsMetAtEdge flow.now offers.now (choice_of cuts.new.items notes.new.items) e) }
 {
     let _ = flow.nodes();
     let mut lowered = false;
@@ -232,10 +232,10 @@ fn pass_nodes(
     notes: &mut Vec<Front>,
 ) -> Result<bool, AllocError>
     requires offers { AreOffersOf flow.now offers.now }
-    requires reached { IsReached flow.now offers.now (choice_of cuts.old.items notes.old.items) }
+    requires encloses { EnclosesConsistent flow.now offers.now (choice_of cuts.old.items notes.old.items) }
     ensures step { IfOk result (IsStep flow.now offers.now (choice_of cuts.old.items notes.old.items) (choice_of cuts.new.items notes.new.items)) }
     ensures holds { IfOk result (λ b. b ≡ false → HasConsistent flow.now offers.now
-        → (p : ℕ) → p < length flow.now.nodes → HoldsAtNode flow.now offers.now (choice_of cuts.new.items notes.new.items) p) }
+        → (p : ℕ) → p < length flow.now.nodes → IsMetAtNode flow.now offers.now (choice_of cuts.new.items notes.new.items) p) }
 {
     let mut lowered = false;
     for place in 0..flow.nodes() {
@@ -255,7 +255,7 @@ fn pass(
     notes: &mut Vec<Front>,
 ) -> Result<bool, AllocError>
     requires offers { AreOffersOf flow.now offers.now }
-    requires reached { IsReached flow.now offers.now (choice_of cuts.old.items notes.old.items) }
+    requires encloses { EnclosesConsistent flow.now offers.now (choice_of cuts.old.items notes.old.items) }
     ensures { IfOk result (IsPass flow.now offers.now (choice_of cuts.old.items notes.old.items) (choice_of cuts.new.items notes.new.items)) }
 {
     let edges = pass_edges(alloc, flow, offers, cuts, notes)?;

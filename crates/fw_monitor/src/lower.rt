@@ -7,7 +7,7 @@ ghost use Rattle.fw_flow.specs.Dataflow.{Dataflow, bounds_of, sender, receiver};
 ghost use Rattle.fw_model.specs.Choice.{IsCutWithin};
 ghost use Rattle.fw_monitor.specs.Offers as spec;
 ghost use Rattle.fw_monitor.specs.Offers.{AreOffersOf};
-ghost use Rattle.fw_monitor.specs.Descent.{bare, owner, reach, left_of, IsThere, IsCanonicalCut, IsLowered, IsCutDown};
+ghost use Rattle.fw_monitor.specs.Descent.{bare, owner, reach, left_of, IsOfFlow, IsCanonicalCut, IsLowered, IsCutDown};
 ghost use Rattle.fw_monitor.specs.Kept.{IsKept, IsWithout, IsWithoutOn, front_or};
 ghost use Rattle.fw_monitor.specs.declared.side.Side.TheVariants as sides;
 
@@ -33,7 +33,7 @@ pub(crate) fn lowered(
     bound: &Front,
 ) -> Result<Option<Cut>, AllocError>
     requires offers { AreOffersOf flow.now offers.now }
-    requires there { IsThere flow.now side.now }
+    requires there { IsOfFlow flow.now side.now }
     requires cut { IsCanonicalCut (bounds_of flow.now (owner flow.now side.now)) cut.now }
     requires bound { IsCanonical (reach flow.now side.now) bound.now }
     ensures { IfOk result (IsLowered flow.now offers.now side.now cut.now bound.now) }
@@ -54,7 +54,7 @@ fn lowered_failing(
     bound: &Front,
 ) -> Result<Option<Cut>, AllocError>
     requires offers { AreOffersOf flow.now offers.now }
-    requires there { IsThere flow.now side.now }
+    requires there { IsOfFlow flow.now side.now }
     requires cut { IsCanonicalCut (bounds_of flow.now (owner flow.now side.now)) cut.now }
     requires bound { IsCanonical (reach flow.now side.now) bound.now }
     requires fails { Within (left_of flow.now offers.now side.now cut.now) (frontier_of (reach flow.now side.now) bound.now) → ⊥ }
@@ -92,7 +92,7 @@ fn last_passing(
     bound: &Front,
 ) -> Result<Option<Cut>, AllocError>
     requires offers { AreOffersOf flow.now offers.now }
-    requires there { IsThere flow.now side }
+    requires there { IsOfFlow flow.now side }
     requires cut { IsCanonicalCut (bounds_of flow.now (owner flow.now side)) cut.now }
     requires bound { IsCanonical (reach flow.now side) bound.now }
     requires listed { spec.range_of offers.now (owner flow.now side) ≡ None }
@@ -158,7 +158,7 @@ fn cut_down(
     bound: &Front,
 ) -> Result<Front, AllocError>
     requires offers { AreOffersOf flow.now offers.now }
-    requires there { IsThere flow.now side }
+    requires there { IsOfFlow flow.now side }
     requires front { IsCanonical (bounds_of flow.now (owner flow.now side)) front.now }
     requires bound { IsCanonical (reach flow.now side) bound.now }
     requires range { spec.range_of offers.now (owner flow.now side) ≢ None }
@@ -215,7 +215,7 @@ fn discarded_cut_down(
     bound: &Front,
 ) -> Result<Front, AllocError>
     requires offers { AreOffersOf flow.now offers.now }
-    requires there { IsThere flow.now (sides.Discarded edge) }
+    requires there { IsOfFlow flow.now (sides.Discarded edge) }
     requires front { IsCanonical (bounds_of flow.now (sender flow.now edge)) front.now }
     requires bound { IsCanonical (bounds_of flow.now (receiver flow.now edge)) bound.now }
     requires range { spec.range_of offers.now (sender flow.now edge) ≢ None }

@@ -8,7 +8,7 @@ ghost use Rattle.fw_model.specs.Choice as model;
 ghost use Rattle.fw_model.specs.Steps as steps;
 ghost use Rattle.fw_monitor.specs.Offers as spec;
 ghost use Rattle.std.specs.Option.{option_copied};
-ghost use Rattle.fw_monitor.specs.Descent.{named, found, recorded, recorded_left};
+ghost use Rattle.fw_monitor.specs.Descent.{modelled, found, recorded, recorded_left};
 
 use crate::side::{Restoring, Side};
 use fw_flow::{Counted, EdgeId, Flow, Kind, NodeId, OfEdge, Offer, Offered, Policy, Recorded};
@@ -17,14 +17,14 @@ use fw_time::Stamp;
 
 /// By what a node can be restored.
 pub(crate) fn restoring(flow: &Flow, node: NodeId) -> Restoring
-    ensures { named result ≡ model.restoring (kind_of flow.now node) (policy_of flow.now node) }
+    ensures { modelled result ≡ model.restoring (kind_of flow.now node) (policy_of flow.now node) }
 {
     restoring_of(flow.kind(node), flow.policy(node))
 }
 
 /// By what a node of the kind and policy can be restored.
 fn restoring_of(kind: Kind, policy: Policy) -> Restoring
-    ensures { named result ≡ model.restoring kind policy }
+    ensures { modelled result ≡ model.restoring kind policy }
 {
     match kind {
         Kind::Input => Restoring::Batches,
@@ -47,7 +47,7 @@ fn restoring_of(kind: Kind, policy: Policy) -> Restoring
 
 /// By what an inner node of the policy can be restored.
 fn restoring_by(policy: Policy) -> Restoring
-    ensures { named result ≡ model.restoring_of_policy policy }
+    ensures { modelled result ≡ model.restoring_of_policy policy }
 {
     match policy {
         Policy::None => Restoring::Anything,

@@ -6,7 +6,7 @@ use Rattle.std.specs.BTreeMap.{is_at}
 use Rattle.std.specs.Cmp.{nat_cmp_total, eq_by_cmp_equiv}
 use Rattle.std.specs.FinMap.{find, get, insert, remove, get-from_entries, get-insert, get-remove, same_map, nat_cmp-IsAntisymmetric}
 use Rattle.std.specs.declared.alloc.Global.{Global}
-use Rattle.fw_outside.specs.Memory.{records_of}
+use Rattle.fw_outside.specs.Memory.{record_map}
 
 abbrev Entries : Type 0
 Entries = List (ℕ × Vec ℕ Global)
@@ -24,26 +24,26 @@ find_bytes (e ∷ es) q =
     ]
 
 -- what the map has under an id
-pub get-records_of : (es : Entries) (q : ℕ) → get (records_of es) q ≡ bytes_at es q
-get-records_of es q = get-from_entries nat_cmp_total _ q ∙ find_bytes es q
+pub get-record_map : (es : Entries) (q : ℕ) → get (record_map es) q ≡ bytes_at es q
+get-record_map es q = get-from_entries nat_cmp_total _ q ∙ find_bytes es q
 
 -- entries that differ at one id make maps that differ there
-pub records_of-put : (es fs : Entries) (id : ℕ) (v : Vec ℕ Global) → ((q : ℕ) → lookup (is_at (nat_cmp q)) fs ≡ cond (is_at (nat_cmp id) q) (Some v) (lookup (is_at (nat_cmp q)) es)) → records_of fs ≡ insert (records_of es) id v.items
-records_of-put es fs id v h = same_map nat_cmp_total nat_cmp-IsAntisymmetric _ _ (λ q.
-    get-records_of fs q ∙ ap (option_map (λ (w : Vec ℕ Global). w.items)) (h q) ∙ ap (λ b. option_map (λ (w : Vec ℕ Global). w.items) (cond b (Some v) (lookup (is_at (nat_cmp q)) es))) ((eq_by_cmp_equiv nat_cmp_total).symm id q)
+pub record_map-put : (es fs : Entries) (id : ℕ) (v : Vec ℕ Global) → ((q : ℕ) → lookup (is_at (nat_cmp q)) fs ≡ cond (is_at (nat_cmp id) q) (Some v) (lookup (is_at (nat_cmp q)) es)) → record_map fs ≡ insert (record_map es) id v.items
+record_map-put es fs id v h = same_map nat_cmp_total nat_cmp-IsAntisymmetric _ _ (λ q.
+    get-record_map fs q ∙ ap (option_map (λ (w : Vec ℕ Global). w.items)) (h q) ∙ ap (λ b. option_map (λ (w : Vec ℕ Global). w.items) (cond b (Some v) (lookup (is_at (nat_cmp q)) es))) ((eq_by_cmp_equiv nat_cmp_total).symm id q)
     ∙ within (eq_by_cmp nat_cmp q id) v (lookup (is_at (nat_cmp q)) es)
-    ∙ sym (get-insert nat_cmp_total (records_of es) id v.items q ∙ ap (cond (eq_by_cmp nat_cmp q id) (Some v.items)) (get-records_of es q)))
+    ∙ sym (get-insert nat_cmp_total (record_map es) id v.items q ∙ ap (cond (eq_by_cmp nat_cmp q id) (Some v.items)) (get-record_map es q)))
   where
     within : (b : Bool) (v : Vec ℕ Global) (o : Option (Vec ℕ Global)) → option_map (λ (w : Vec ℕ Global). w.items) (cond b (Some v) o) ≡ cond b (Some v.items) (option_map (λ (w : Vec ℕ Global). w.items) o)
     within true v o = refl
     within false v o = refl
 
 -- the same where one id is taken out
-pub records_of-removed : (es fs : Entries) (id : ℕ) → ((q : ℕ) → lookup (is_at (nat_cmp q)) fs ≡ cond (is_at (nat_cmp id) q) None (lookup (is_at (nat_cmp q)) es)) → records_of fs ≡ remove (records_of es) id
-records_of-removed es fs id h = same_map nat_cmp_total nat_cmp-IsAntisymmetric _ _ (λ q.
-    get-records_of fs q ∙ ap (option_map (λ (w : Vec ℕ Global). w.items)) (h q) ∙ ap (λ b. option_map (λ (w : Vec ℕ Global). w.items) (cond b None (lookup (is_at (nat_cmp q)) es))) ((eq_by_cmp_equiv nat_cmp_total).symm id q)
+pub record_map-removed : (es fs : Entries) (id : ℕ) → ((q : ℕ) → lookup (is_at (nat_cmp q)) fs ≡ cond (is_at (nat_cmp id) q) None (lookup (is_at (nat_cmp q)) es)) → record_map fs ≡ remove (record_map es) id
+record_map-removed es fs id h = same_map nat_cmp_total nat_cmp-IsAntisymmetric _ _ (λ q.
+    get-record_map fs q ∙ ap (option_map (λ (w : Vec ℕ Global). w.items)) (h q) ∙ ap (λ b. option_map (λ (w : Vec ℕ Global). w.items) (cond b None (lookup (is_at (nat_cmp q)) es))) ((eq_by_cmp_equiv nat_cmp_total).symm id q)
     ∙ within (eq_by_cmp nat_cmp q id) (lookup (is_at (nat_cmp q)) es)
-    ∙ sym (get-remove nat_cmp_total (records_of es) id q ∙ ap (cond (eq_by_cmp nat_cmp q id) None) (get-records_of es q)))
+    ∙ sym (get-remove nat_cmp_total (record_map es) id q ∙ ap (cond (eq_by_cmp nat_cmp q id) None) (get-record_map es q)))
   where
     within : (b : Bool) (o : Option (Vec ℕ Global)) → option_map (λ (w : Vec ℕ Global). w.items) (cond b None o) ≡ cond b None (option_map (λ (w : Vec ℕ Global). w.items) o)
     within true o = refl

@@ -16,5 +16,5 @@ abbrev pub text_or_empty : List MemText → List ℕ → Option (List ℕ)
 text_or_empty entries name = Some (unwrap_or (text_under entries name) [])
 
 -- the records of the entries of a map
-abbrev pub records_of : List (ℕ × Vec ℕ Global) → FinMap nat_cmp (List ℕ)
-records_of entries = from_entries (map (λ entry. (entry.0, entry.1.items)) entries)
+abbrev pub record_map : List (ℕ × Vec ℕ Global) → FinMap nat_cmp (List ℕ)
+record_map entries = from_entries (map (λ entry. (entry.0, entry.1.items)) entries)

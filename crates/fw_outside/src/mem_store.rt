@@ -1,7 +1,7 @@
 //! Stores in memory.
 ghost use Rattle.std.specs.Prelude.{◌≡◌, Some, None, option_map};
 ghost use Rattle.std.specs.FinMap as map;
-ghost use Rattle.fw_outside.specs.Memory.{records_of};
+ghost use Rattle.fw_outside.specs.Memory.{record_map};
 
 use crate::fault::FaultPlan;
 use crate::{OutFault, Store};
@@ -38,7 +38,7 @@ impl FaultlessStore {
 }
 
 impl Store for FaultlessStore {
-    ghost records = { λ store. Some (records_of store.records.entries) };
+    ghost records = { λ store. Some (record_map store.records.entries) };
 
     ghost given = { λ store. option_map (λ given. (given.id, given.bytes.items)) store.given };
 
@@ -95,7 +95,7 @@ impl MemStore {
 }
 
 impl Store for MemStore {
-    ghost records = { λ store. Some (records_of store.store.records.entries) };
+    ghost records = { λ store. Some (record_map store.store.records.entries) };
 
     ghost given = { λ store. option_map (λ given. (given.id, given.bytes.items)) store.store.given };
 

@@ -26,7 +26,7 @@ use Rattle.fw_model.specs.LawsOfFiltering.{NotifiesNobody}
 use Rattle.fw_model.specs.LawsOfLegalHistories.{HasEpochs}
 use Rattle.fw_model.specs.Machine.{Machine, Write, events, first_state, front_of, is_failed, no_stamps, places}
 use Rattle.fw_model.specs.Plain.{AreAtNodes}
-use Rattle.fw_model.specs.Steps.{Effect, quiet, Outcome, did, idle, with_event, write_of_event, Takes, Steps, IsNextMessage, GrowsTo, CutsTo, IsSettledCut}
+use Rattle.fw_model.specs.Steps.{Effect, quiet, Outcome, did, idle, with_event, write_of_event, LeadsTo, Steps, IsNextMessage, GrowsTo, CutsTo, IsSettledCut}
 use Rattle.fw_model.proofs.DomainLaws.{has_epochs}
 use Rattle.fw_model.proofs.GoingOn.{runs-go_on}
 use Rattle.fw_model.proofs.LegalLaws.{legal_events-in_domain}
@@ -92,7 +92,7 @@ cut_each sys state next choice c f b i = record {
 length_set : (xs : List ℕ) (k y : ℕ) → length (slice_set xs k y) ≡ length xs
 length_set xs k y = grind (arith, common_steps)
 
-each_took : (sys : System) (state : Machine) (step : Step) (next : Machine) (effect : Effect) → is_plain_step step ≡ true → Takes sys state step next effect
+each_took : (sys : System) (state : Machine) (step : Step) (next : Machine) (effect : Effect) → is_plain_step step ≡ true → LeadsTo sys state step next effect
     → IsOfEachNode sys state → IsOfEachNode sys next
 each_took sys state (Inject s) next effect k t i = same_each sys state next (ap (λ m. m.settled) t.3) (ap (λ m. m.failed) t.3) (ap (λ m. length m.bounds) t.3) i
 each_took sys state (Deliver d at) next effect k t i = same_each sys state next (ap (λ m. m.settled) t.3) (ap (λ m. m.failed) t.3) (ap (λ m. length m.bounds) t.3) i

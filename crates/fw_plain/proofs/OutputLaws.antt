@@ -16,7 +16,7 @@ use Rattle.fw_model.specs.Machine.{Machine, events}
 use Rattle.fw_plain.specs.Engine.{Standing}
 use Rattle.fw_flow.specs.NodeFunction.{delivered_recs}
 use Rattle.fw_model.specs.Plain.{batches_of_nodes}
-use Rattle.fw_model.specs.Steps.{HasEpoch, HasDelivery, IsThere}
+use Rattle.fw_model.specs.Steps.{HasEpoch, HasDelivery, HasSomethingAt}
 use Rattle.fw_plain.specs.Output.{has_epoch, is_delivery, has_delivery}
 
 -- ---- batches
@@ -123,9 +123,9 @@ has-delivery sys vs o test h = turned sys.flow o test vs ∙ more-delivery sys.f
 -- ---- what there is
 
 pub there-number : (sys : System) (vs : List Event) (kind : Kind) (o x : ℕ) (b : Bool) → kind ≡ OutputNumber → b ≡ has_delivery sys.flow vs o (same (x ∷ []))
-    → ((b ≡ true → IsThere sys (reverse vs) kind o x) × (IsThere sys (reverse vs) kind o x → b ≡ true))
+    → ((b ≡ true → HasSomethingAt sys (reverse vs) kind o x) × (HasSomethingAt sys (reverse vs) kind o x → b ≡ true))
 there-number sys vs kind o x b k e =
-    let P : Kind → Type 0 = λ q. (b ≡ true → IsThere sys (reverse vs) q o x) × (IsThere sys (reverse vs) q o x → b ≡ true) in
+    let P : Kind → Type 0 = λ q. (b ≡ true → HasSomethingAt sys (reverse vs) q o x) × (HasSomethingAt sys (reverse vs) q o x → b ≡ true) in
     subst P (sym k) (λ t. delivery-has sys vs o (same (x ∷ [])) (sym e ∙ t), λ h. e ∙ has-delivery sys vs o (same (x ∷ [])) h)
 
 -- what is there where it is not only a number that counts
@@ -133,14 +133,14 @@ EpochOrLater : System → List Event → ℕ → ℕ → Type 0
 EpochOrLater sys h o x = HasEpoch sys.batches x ⊎ HasDelivery sys h o (leq (x ∷ []))
 
 there-as : (sys : System) (h : List Event) (kind : Kind) (o x : ℕ) → (kind ≡ OutputNumber → ⊥)
-    → ((EpochOrLater sys h o x → IsThere sys h kind o x) × (IsThere sys h kind o x → EpochOrLater sys h o x))
+    → ((EpochOrLater sys h o x → HasSomethingAt sys h kind o x) × (HasSomethingAt sys h kind o x → EpochOrLater sys h o x))
 unfolding EpochOrLater
 there-as sys h OutputNumber o x n = absurd (n refl)
 there-as sys h kind o x n = (λ i. i, λ i. i)
 
 pub there-epoch : (sys : System) (vs : List Event) (kind : Kind) (o x : ℕ) (a b : Bool) → (kind ≡ OutputNumber → ⊥) → a ≡ has_epoch sys.batches x
     → b ≡ has_delivery sys.flow vs o (leq (x ∷ []))
-    → (((a || b) ≡ true → IsThere sys (reverse vs) kind o x) × (IsThere sys (reverse vs) kind o x → (a || b) ≡ true))
+    → (((a || b) ≡ true → HasSomethingAt sys (reverse vs) kind o x) × (HasSomethingAt sys (reverse vs) kind o x → (a || b) ≡ true))
 unfolding EpochOrLater
 there-epoch sys vs kind o x a b n e f =
     let ways = there-as sys (reverse vs) kind o x n in (
@@ -159,15 +159,15 @@ there-epoch sys vs kind o x a b n e f =
 -- the test says whether there is something
 abbrev pub Tells : Standing → ℕ → ℕ → Bool → Type 0
 Tells w o x b =
-    (b ≡ true → IsThere w.sys (events w.state.history) (kind_of w.sys.flow o) o x) × (IsThere w.sys (events w.state.history) (kind_of w.sys.flow o) o x → b ≡ true)
+    (b ≡ true → HasSomethingAt w.sys (events w.state.history) (kind_of w.sys.flow o) o x) × (HasSomethingAt w.sys (events w.state.history) (kind_of w.sys.flow o) o x → b ≡ true)
 
 -- the history of that state
 tells-from : (was : Standing) (sys : System) (state : Machine) (vs : List Event) (refused : Bool) (o x : ℕ) (b : Bool)
     → record { sys = sys; state = state; refused = refused } ≡ was → events state.history ≡ reverse vs
-    → ((b ≡ true → IsThere sys (reverse vs) (kind_of sys.flow o) o x) × (IsThere sys (reverse vs) (kind_of sys.flow o) o x → b ≡ true)) → Tells was o x b
+    → ((b ≡ true → HasSomethingAt sys (reverse vs) (kind_of sys.flow o) o x) × (HasSomethingAt sys (reverse vs) (kind_of sys.flow o) o x → b ≡ true)) → Tells was o x b
 tells-from was sys state vs refused o x b e h t =
     let kind = kind_of sys.flow o in
-    let P : List Event → Type 0 = λ h. (b ≡ true → IsThere sys h kind o x) × (IsThere sys h kind o x → b ≡ true) in
+    let P : List Event → Type 0 = λ h. (b ≡ true → HasSomethingAt sys h kind o x) × (HasSomethingAt sys h kind o x → b ≡ true) in
     subst (λ (w : Standing). Tells w o x b) e (subst P (sym h) t)
 
 pub tells-number : (was : Standing) (sys : System) (state : Machine) (vs : List Event) (refused : Bool) (o x : ℕ) (b : Bool)

@@ -10,14 +10,14 @@ use Rattle.fw_flow.specs.Dataflow.{System, Dataflow, bounds_of}
 use Rattle.fw_flow.specs.NodeFunction.{place, stamp}
 use Rattle.fw_time.specs.Stamp.{Stamp}
 use Rattle.fw_model.specs.Choice.{cut_of, kept_of, set_of, filtered}
-use Rattle.fw_plain.specs.Past.{Past, numbered, is_inside_cut, is_kept, kept_serials, with_one_more, cut_past}
+use Rattle.fw_plain.specs.Past.{Past, under_serials, is_inside_cut, is_kept, kept_serials, with_one_more, cut_past}
 
--- the events of a numbered list are the list
+-- the events of a list under serial numbers are the list
 events_append : (xs ys : List Numbered) → events (xs ++ ys) ≡ events xs ++ events ys
 events_append [] ys = refl
 events_append (x ∷ xs) ys = ap (λ vs. x.event ∷ vs) (events_append xs ys)
 
-events_numbered : (ns : List ℕ) (vs : List Event) → length ns ≡ length vs → events (numbered ns vs) ≡ vs
+events_numbered : (ns : List ℕ) (vs : List Event) → length ns ≡ length vs → events (under_serials ns vs) ≡ vs
 events_numbered [] [] e = refl
 events_numbered [] (v ∷ vs) e = absurd (omega arith)
 events_numbered (n ∷ ns) [] e = absurd (omega arith)
@@ -36,20 +36,20 @@ events_reverse (x ∷ xs) =
     ∙ sym (reverse_cons x.event (events xs))
 
 -- the events of a history are those that are kept, the latest first
-pub events_past : (ns : List ℕ) (vs : List Event) → length ns ≡ length vs → events (reverse (numbered ns vs)) ≡ reverse vs
-events_past ns vs e = events_reverse (numbered ns vs) ∙ ap reverse (events_numbered ns vs e)
+pub events_past : (ns : List ℕ) (vs : List Event) → length ns ≡ length vs → events (reverse (under_serials ns vs)) ≡ reverse vs
+events_past ns vs e = events_reverse (under_serials ns vs) ∙ ap reverse (events_numbered ns vs e)
 
 -- one more event behind the others comes first in the history
 numbered_more : (ns : List ℕ) (vs : List Event) (n : ℕ) (v : Event) → length ns ≡ length vs
-    → numbered (ns ++ n ∷ []) (vs ++ v ∷ []) ≡ numbered ns vs ++ record { serial = n; event = v } ∷ []
+    → under_serials (ns ++ n ∷ []) (vs ++ v ∷ []) ≡ under_serials ns vs ++ record { serial = n; event = v } ∷ []
 numbered_more [] [] n v e = refl
 numbered_more [] (w ∷ vs) n v e = absurd (omega arith)
 numbered_more (m ∷ ns) [] n v e = absurd (omega arith)
 numbered_more (m ∷ ns) (w ∷ vs) n v e = ap (λ xs. record { serial = m; event = w } ∷ xs) (numbered_more ns vs n v (omega arith))
 
 pub past_more : (ns : List ℕ) (vs : List Event) (n : ℕ) (v : Event) → length ns ≡ length vs
-    → reverse (numbered (ns ++ n ∷ []) (vs ++ v ∷ [])) ≡ record { serial = n; event = v } ∷ reverse (numbered ns vs)
-past_more ns vs n v e = ap reverse (numbered_more ns vs n v e) ∙ reverse_more (record { serial = n; event = v }) (numbered ns vs)
+    → reverse (under_serials (ns ++ n ∷ []) (vs ++ v ∷ [])) ≡ record { serial = n; event = v } ∷ reverse (under_serials ns vs)
+past_more ns vs n v e = ap reverse (numbered_more ns vs n v e) ∙ reverse_more (record { serial = n; event = v }) (under_serials ns vs)
 
 -- ---- what is left of a history
 
@@ -68,15 +68,15 @@ kept_length test (n ∷ ns) (v ∷ vs) e = by (test v) (kept_length test ns vs (
 
 -- what is left with its serials is what is left of the events with theirs
 kept_numbered : (test : Event → Bool) (ns : List ℕ) (vs : List Event) → length ns ≡ length vs
-    → numbered (kept_serials test ns vs) (filter test vs) ≡ filter (λ w. test w.event) (numbered ns vs)
+    → under_serials (kept_serials test ns vs) (filter test vs) ≡ filter (λ w. test w.event) (under_serials ns vs)
 kept_numbered test [] [] e = refl
 kept_numbered test [] (v ∷ vs) e = absurd (omega arith)
 kept_numbered test (n ∷ ns) [] e = absurd (omega arith)
 kept_numbered test (n ∷ ns) (v ∷ vs) e = by (test v) (kept_numbered test ns vs (omega arith))
   where
-    by : (b : Bool) → numbered (kept_serials test ns vs) (filter test vs) ≡ filter (λ w. test w.event) (numbered ns vs)
-        → numbered (cond b (n ∷ kept_serials test ns vs) (kept_serials test ns vs)) (cond b (v ∷ filter test vs) (filter test vs))
-        ≡ cond b (record { serial = n; event = v } ∷ filter (λ w. test w.event) (numbered ns vs)) (filter (λ w. test w.event) (numbered ns vs))
+    by : (b : Bool) → under_serials (kept_serials test ns vs) (filter test vs) ≡ filter (λ w. test w.event) (under_serials ns vs)
+        → under_serials (cond b (n ∷ kept_serials test ns vs) (kept_serials test ns vs)) (cond b (v ∷ filter test vs) (filter test vs))
+        ≡ cond b (record { serial = n; event = v } ∷ filter (λ w. test w.event) (under_serials ns vs)) (filter (λ w. test w.event) (under_serials ns vs))
     by true k = ap (λ xs. record { serial = n; event = v } ∷ xs) k
     by false k = k
 
@@ -100,8 +100,8 @@ filter_reverse test (x ∷ xs) =
     by false k = k ∙ sym (append-nil (filter test (reverse xs)))
 
 pub past_cut : (test : Event → Bool) (ns : List ℕ) (vs : List Event) → length ns ≡ length vs
-    → reverse (numbered (kept_serials test ns vs) (filter test vs)) ≡ filter (λ w. test w.event) (reverse (numbered ns vs))
-past_cut test ns vs e = ap reverse (kept_numbered test ns vs e) ∙ filter_reverse (λ w. test w.event) (numbered ns vs)
+    → reverse (under_serials (kept_serials test ns vs) (filter test vs)) ≡ filter (λ w. test w.event) (reverse (under_serials ns vs))
+past_cut test ns vs e = ap reverse (kept_numbered test ns vs e) ∙ filter_reverse (λ w. test w.event) (under_serials ns vs)
 
 -- the events that a choice keeps are those inside its cuts
 inside_set : (sys : System) (p : ℕ) (cut : Cut) (t : Stamp) → is_inside_cut (bounds_of sys.flow p) cut t ≡ set_of sys p cut t
@@ -123,24 +123,24 @@ cut_is_filtered sys choice past =
 -- ---- what the events of an engine stand for
 
 pub past_events : (was : Past) (ns : List ℕ) (vs : List Event) (n : ℕ) → length ns ≡ length vs
-    → record { history = reverse (numbered ns vs); next = n } ≡ was → events was.history ≡ reverse vs
+    → record { history = reverse (under_serials ns vs); next = n } ≡ was → events was.history ≡ reverse vs
 past_events was ns vs n l e = ap (λ (w : Past). events w.history) (sym e) ∙ events_past ns vs l
 
 pub past_pushed : (was : Past) (ns then_ns : List ℕ) (vs then_vs : List Event) (n next : ℕ) (v : Event) → length ns ≡ length vs
-    → record { history = reverse (numbered ns vs); next = n } ≡ was → then_ns ≡ ns ++ n ∷ [] → then_vs ≡ vs ++ v ∷ [] → next ≡ n + 1
-    → record { history = reverse (numbered then_ns then_vs); next = next } ≡ with_one_more was v
+    → record { history = reverse (under_serials ns vs); next = n } ≡ was → then_ns ≡ ns ++ n ∷ [] → then_vs ≡ vs ++ v ∷ [] → next ≡ n + 1
+    → record { history = reverse (under_serials then_ns then_vs); next = next } ≡ with_one_more was v
 past_pushed was ns then_ns vs then_vs n next v l e a b m =
     let make : List Numbered → ℕ → Past = λ h k. record { history = h; next = k } in
-    ap (λ xs. make (reverse (numbered xs then_vs)) next) a ∙ ap (λ ws. make (reverse (numbered (ns ++ n ∷ []) ws)) next) b
-    ∙ ap (λ h. make h next) (past_more ns vs n v l) ∙ ap (λ k. make (record { serial = n; event = v } ∷ reverse (numbered ns vs)) k) m
+    ap (λ xs. make (reverse (under_serials xs then_vs)) next) a ∙ ap (λ ws. make (reverse (under_serials (ns ++ n ∷ []) ws)) next) b
+    ∙ ap (λ h. make h next) (past_more ns vs n v l) ∙ ap (λ k. make (record { serial = n; event = v } ∷ reverse (under_serials ns vs)) k) m
     ∙ ap (λ (w : Past). with_one_more w v) e
 
 pub past_cut_to : (was : Past) (flow : Dataflow) (cuts : List Cut) (ns then_ns : List ℕ) (vs then_vs : List Event) (n : ℕ) → length ns ≡ length vs
-    → record { history = reverse (numbered ns vs); next = n } ≡ was → then_ns ≡ kept_serials (is_kept flow cuts) ns vs → then_vs ≡ filter (is_kept flow cuts) vs
-    → record { history = reverse (numbered then_ns then_vs); next = n } ≡ cut_past flow cuts was
+    → record { history = reverse (under_serials ns vs); next = n } ≡ was → then_ns ≡ kept_serials (is_kept flow cuts) ns vs → then_vs ≡ filter (is_kept flow cuts) vs
+    → record { history = reverse (under_serials then_ns then_vs); next = n } ≡ cut_past flow cuts was
 past_cut_to was flow cuts ns then_ns vs then_vs n l e a b =
     let make : List Numbered → Past = λ h. record { history = h; next = n } in
-    ap (λ xs. make (reverse (numbered xs then_vs))) a ∙ ap (λ ws. make (reverse (numbered (kept_serials (is_kept flow cuts) ns vs) ws))) b
+    ap (λ xs. make (reverse (under_serials xs then_vs))) a ∙ ap (λ ws. make (reverse (under_serials (kept_serials (is_kept flow cuts) ns vs) ws))) b
     ∙ ap make (past_cut (is_kept flow cuts) ns vs l) ∙ ap (λ (w : Past). cut_past flow cuts w) e
 
 -- ---- the loop over the serials

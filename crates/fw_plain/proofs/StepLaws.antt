@@ -19,7 +19,7 @@ use Rattle.fw_flow.specs.NodeFunction.{delivered_recs}
 use Rattle.fw_model.specs.Choice.{cut_of, filtered, IsLargest}
 use Rattle.fw_model.specs.History.{IsComplete}
 use Rattle.fw_model.specs.Machine.{Machine, events, front_of, is_failed, bound_of, places}
-use Rattle.fw_model.specs.Steps.{MayAcknowledge, IsThere, Steps, CutsTo, IsSettledCut, checkpoint_of, eager_writes, is_eager, is_one_of, same_front, offers, quiet, acked, cuts, did, idle}
+use Rattle.fw_model.specs.Steps.{MayAcknowledge, HasSomethingAt, Steps, CutsTo, IsSettledCut, checkpoint_of, eager_writes, is_eager, is_one_of, same_front, offers, quiet, acked, cuts, did, idle}
 use Rattle.fw_model.specs.Plain.{family_of, AreCanonical}
 use Rattle.fw_model.proofs.Decisions.{two_ways}
 use Rattle.fw_model.proofs.DescentLaws.{complete-one}
@@ -129,10 +129,10 @@ pub may_acknowledge : (was : Standing) (sys : System) (state : Machine) (refused
     → record { sys = sys; state = state; refused = refused } ≡ was → IsSound sys state → o < length state.bounds
     → x ≡ bound_of state o → is_output_kind (kind_of sys.flow o) ≡ true → is_failed state o ≡ false
     → frontier_of (bounds_of was.sys.flow o) (front_of was.state.settled o) (x ∷ []) ≡ true
-    → IsThere was.sys (events was.state.history) (kind_of was.sys.flow o) o x → MayAcknowledge was.sys was.state o x
+    → HasSomethingAt was.sys (events was.state.history) (kind_of was.sys.flow o) o x → MayAcknowledge was.sys was.state o x
 may_acknowledge was sys state refused o x e i l n k live =
     subst (λ (w : Standing). frontier_of (bounds_of w.sys.flow o) (front_of w.state.settled o) (x ∷ []) ≡ true
-    → IsThere w.sys (events w.state.history) (kind_of w.sys.flow o) o x → MayAcknowledge w.sys w.state o x) e
+    → HasSomethingAt w.sys (events w.state.history) (kind_of w.sys.flow o) o x → MayAcknowledge w.sys w.state o x) e
     (λ s t. record {
       declared = subst (λ m. o < m) i.of_each_node.one_bound_each l;
       output = k;

@@ -17,10 +17,10 @@ pub record Past : Type 0 where
   pub next : ℕ
 
 -- events with these serial numbers, one for each
-abbrev pub numbered : List ℕ → List Event → List Numbered
-numbered [] vs = []
-numbered (n ∷ ns) [] = []
-numbered (n ∷ ns) (v ∷ vs) = record { serial = n; event = v } ∷ numbered ns vs
+abbrev pub under_serials : List ℕ → List Event → List Numbered
+under_serials [] vs = []
+under_serials (n ∷ ns) [] = []
+under_serials (n ∷ ns) (v ∷ vs) = record { serial = n; event = v } ∷ under_serials ns vs
 
 -- nothing has happened
 abbrev pub nothing_past : Past

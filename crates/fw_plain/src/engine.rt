@@ -10,7 +10,7 @@ ghost use Rattle.fw_model.specs.LawsOfFiltering.{NotifiesNobody};
 ghost use Rattle.fw_model.specs.Plain.{system_of};
 ghost use Rattle.fw_model.specs.Machine.{first_state, events, front_of};
 ghost use Rattle.fw_frontier.specs.Front.{frontier_of};
-ghost use Rattle.fw_model.specs.Steps.{Steps, MayAcknowledge, IsThere, offers as spec_offers};
+ghost use Rattle.fw_model.specs.Steps.{Steps, MayAcknowledge, HasSomethingAt, offers as spec_offers};
 ghost use Rattle.fw_plain.specs.Engine.{Standing, KeepsNothing, is_plain_step, outcome_of};
 
 use crate::events::Events;
@@ -274,7 +274,7 @@ impl Engine {
         if is_output(self.flow.kind(output))
             && !is_failed(&self.failed, output)
             && self.is_settled(output, x)
-            && self.is_there(output, x)
+            && self.has_something_at(output, x)
         {
             Some(x)
         } else {
@@ -294,8 +294,8 @@ impl Engine {
     }
 
     // Whether there is something to acknowledge.
-    fn is_there(&self, output: NodeId, x: u32) -> bool
-        ensures { IsTrue result ↔ IsThere self.now.sys (events self.now.state.history)
+    fn has_something_at(&self, output: NodeId, x: u32) -> bool
+        ensures { IsTrue result ↔ HasSomethingAt self.now.sys (events self.now.state.history)
             (kind_of self.now.sys.flow output) output x }
     {
         let at = Stamp::new(&[x]);

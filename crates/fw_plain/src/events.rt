@@ -20,11 +20,11 @@ pub(crate) struct Events {
 
 impl Model for Events {
     ghost use Rattle.std.specs.Prelude.{◌≡◌, reverse, length};
-    ghost use Rattle.fw_plain.specs.Past.{Past, numbered};
+    ghost use Rattle.fw_plain.specs.Past.{Past, under_serials};
 
     ghost Value = { Past };
 
-    ghost view = { λ e. record { history = reverse (numbered e.serials.items e.events.items); next = e.next } };
+    ghost view = { λ e. record { history = reverse (under_serials e.serials.items e.events.items); next = e.next } };
 
     ghost invariant = { λ e. length e.serials.items ≡ length e.events.items };
 }

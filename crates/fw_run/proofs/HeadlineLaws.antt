@@ -22,17 +22,17 @@ use Rattle.fw_run.specs.declared.status.Status.{Status}
 use Rattle.fw_run.specs.declared.status.Status.TheVariants.{Done, BadWords, Refused, ReadFault, WriteFault, NoMemory}
 use Rattle.fw_run.specs.Headline.{Prints, PrintsPart, IsPrinted, IsPartPrinted, IsRunEnd, StaysLegal, AcknowledgesInOrder, ShowsDenotation, HasOneRun, RecoversFailed, CutsToLargest}
 use Rattle.fw_run.specs.Reading.{IsReady, IsJob}
-use Rattle.fw_run.specs.Status.{IsRefused}
+use Rattle.fw_run.specs.Status.{TellsRefusal}
 use Rattle.fw_run.specs.Texts.{Texts, AreThere, AreAccepted, IsFirstRefusal, spelled_system, spelled_steps}
-use Rattle.fw_run.specs.Words.{Names}
+use Rattle.fw_run.specs.Words.{TextNames}
 
 -- a job is one that the plain engine runs
-pub ready_job : (told : Option (List ℕ → Option (List ℕ))) (names : Names) (job : Job) → IsJob told names job → IsReady (system_of job.flow job.batches) job.steps
+pub ready_job : (told : Option (List ℕ → Option (List ℕ))) (names : TextNames) (job : Job) → IsJob told names job → IsReady (system_of job.flow job.batches) job.steps
 ready_job told names job j =
     subst (λ sys. IsReady sys job.steps) (sym j.system) (subst (λ steps. IsReady (spelled_system j.texts) steps) (sym j.steps) (ready j.texts j.accepted))
 
 -- what is printed of a job is printed of its texts
-pub prints_job : (told : Option (List ℕ → Option (List ℕ))) (names : Names) (job : Job) (before after : Option (List ℕ)) → IsJob told names job
+pub prints_job : (told : Option (List ℕ → Option (List ℕ))) (names : TextNames) (job : Job) (before after : Option (List ℕ)) → IsJob told names job
     → IsPrinted (system_of job.flow job.batches) job.steps before after → Prints told names before after
 prints_job told names job before after j p = record {
   texts = j.texts;
@@ -41,7 +41,7 @@ prints_job told names job before after j p = record {
   whole = subst (λ steps. IsPrinted (spelled_system j.texts) steps before after) j.steps (subst (λ sys. IsPrinted sys job.steps before after) j.system p);
 }
 
-pub prints_part_of_job : (told : Option (List ℕ → Option (List ℕ))) (names : Names) (job : Job) (before after : Option (List ℕ)) → IsJob told names job
+pub prints_part_of_job : (told : Option (List ℕ → Option (List ℕ))) (names : TextNames) (job : Job) (before after : Option (List ℕ)) → IsJob told names job
     → IsPartPrinted (system_of job.flow job.batches) job.steps before after → PrintsPart told names before after
 prints_part_of_job told names job before after j p = record {
   texts = j.texts;
@@ -51,7 +51,7 @@ prints_part_of_job told names job before after j p = record {
 }
 
 -- where the folder tells its texts, a text that is not accepted is refused
-pub refuses : (told : Option (List ℕ → Option (List ℕ))) (names : Names) (before after : Option (List ℕ)) (status : Status) (refusal : Refusal) → IsSome told → IsFirstRefusal told names refusal
+pub refuses : (told : Option (List ℕ → Option (List ℕ))) (names : TextNames) (before after : Option (List ℕ)) (status : Status) (refusal : Refusal) → IsSome told → IsFirstRefusal told names refusal
     → (status ≡ BadWords → ⊥) → (status ≡ Done → Prints told names before after) → (status ≡ WriteFault → PrintsPart told names before after)
     → ((r : Refusal) → status ≡ Refused r → IsFirstRefusal told names r)
     → (status ≡ Refused refusal) ⊎ ((status ≡ ReadFault) ⊎ (status ≡ NoMemory))
@@ -66,7 +66,7 @@ refuses (Some texts) names before after WriteFault refusal s f bad done cut refu
 refuses (Some texts) names before after NoMemory refusal s f bad done cut refused = inr (inr refl)
 
 -- and accepted texts are run
-pub completes : (told : Option (List ℕ → Option (List ℕ))) (names : Names) (status : Status) (texts : Texts) → IsSome told → AreThere told names texts → AreAccepted texts
+pub completes : (told : Option (List ℕ → Option (List ℕ))) (names : TextNames) (status : Status) (texts : Texts) → IsSome told → AreThere told names texts → AreAccepted texts
     → (status ≡ BadWords → ⊥) → ((r : Refusal) → status ≡ Refused r → IsFirstRefusal told names r) → IsRunEnd status
 completes None names status texts s t a bad refused = absurd (false≢true s)
 completes (Some folder) names Done texts s t a bad refused = inl refl
@@ -126,7 +126,7 @@ texts-largest texts a count outcomes state next choice r t view =
 
 -- the status that is answered is the one that was, or that of want of memory where this was a refusal
 abbrev pub IsTellingOf : Status → Status → Type 0
-IsTellingOf status result = (result ≡ status) ⊎ (IsRefused status × (result ≡ NoMemory))
+IsTellingOf status result = (result ≡ status) ⊎ (TellsRefusal status × (result ≡ NoMemory))
 
 absurd_memory : (refusal : Refusal) → NoMemory ≡ Refused refusal → ⊥
 absurd_memory refusal e = absurd (cc)

@@ -17,7 +17,7 @@ use Rattle.fw_lines.specs.declared.record.RecordWord.{RecordWord}
 use Rattle.fw_lines.specs.declared.record.RecordWord.TheVariants.{Broken}
 use Rattle.fw_lines.specs.declared.refusal.Code.{Code}
 use Rattle.fw_lines.specs.declared.refusal.Code.TheVariants.{I1, I4, I5}
-use Rattle.fw_lines.specs.Faults.{IsSound}
+use Rattle.fw_lines.specs.Faults.{BreakNoRule}
 use Rattle.fw_lines.specs.Inputs.{is_colon, record_of, record_from, spelled_rec, batch_of, batches_of, is_batch_of, is_batch_of_words, form_fault, value_fault, number_fault, count_fault, fault_of, count_of, line_fault}
 use Rattle.fw_lines.specs.Lines.{Said, is_allowed}
 use Rattle.fw_lines.specs.Sources.{node_of}
@@ -164,7 +164,7 @@ given_by : (b : Bool) (line : Said) → length (map (λ (l : Said). batch_of l.w
 given_by true line = refl
 given_by false line = refl
 
-few_from : (sources : List (List ℕ × ℕ)) (lines done left : List Said) (node : ℕ) → IsSound (line_fault sources) lines → done ++ left ≡ lines → length (batches_of sources done node) ≤ 2 ^ 20
+few_from : (sources : List (List ℕ × ℕ)) (lines done left : List Said) (node : ℕ) → BreakNoRule (line_fault sources) lines → done ++ left ≡ lines → length (batches_of sources done node) ≤ 2 ^ 20
     → length (batches_of sources (done ++ left) node) ≤ 2 ^ 20
 few_from sources lines done [] node sound parts h = subst (λ t. length (batches_of sources t node) ≤ 2 ^ 20) (sym (append-nil done)) h
 few_from sources lines done (line ∷ left) node sound parts h =
@@ -182,7 +182,7 @@ few_from sources lines done (line ∷ left) node sound parts h =
     below [] y ys = omega arith
     below (x ∷ xs) y ys = omega (arith, below xs y ys)
 
-pub few_batches : (sources : List (List ℕ × ℕ)) (lines : List Said) (node : ℕ) → IsSound (line_fault sources) lines → length (batches_of sources lines node) ≤ 2 ^ 20
+pub few_batches : (sources : List (List ℕ × ℕ)) (lines : List Said) (node : ℕ) → BreakNoRule (line_fault sources) lines → length (batches_of sources lines node) ≤ 2 ^ 20
 few_batches sources lines node sound = few_from sources lines [] lines node sound refl (omega arith)
 
 -- ---- the batches of each node, in a list

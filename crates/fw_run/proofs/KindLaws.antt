@@ -50,7 +50,7 @@ IsPlainDeclaration (ANode name kind kept) = IsPlainForm kind kept
 IsPlainDeclaration (AnEdge name sender receiver) = Unit {0}
 
 plain_policy : (words : List (List ℕ)) → IfSome (policy_at_end words) (λ kept. kept ≡ policy.None)
-unfolding policy_at_end forms.policy_of
+unfolding policy_at_end forms.policy_named
 plain_policy [] = tt
 plain_policy (a ∷ []) = tt
 plain_policy (word ∷ name ∷ []) =

@@ -9,7 +9,7 @@ use Rattle.std.proofs.lemmas.List.{append-nil, map-append, get_or-map, length_pu
 use Rattle.std.proofs.lemmas.List.Elements.{filter_map-append}
 use Rattle.std.specs.List.{list_any, position_or_len, cons_option, flat_map}
 use Rattle.std.specs.Str.{bytes_eq}
-use Rattle.fw_lines.specs.Faults.{IsSound}
+use Rattle.fw_lines.specs.Faults.{BreakNoRule}
 use Rattle.fw_lines.specs.Lines.{Said, said_lines}
 use Rattle.fw_lines.proofs.FaultLaws.{fault_next}
 use Rattle.fw_flow.specs.declared.node.Node.{Node}
@@ -95,7 +95,7 @@ apart_line before line [] e apart = subst (λ t. AreApart (node_names t)) (sym (
 apart_line before line (word ∷ words) e apart = apart_declared before line (declaration_of (word ∷ words)) e apart
 
 -- what lines that break no rule declare has names apart, as far as they have been read
-apart_from : (lines done left : List Said) → IsSound line_fault lines → done ++ left ≡ lines → AreApart (node_names (declared_by done)) → AreApart (node_names (declared_by (done ++ left)))
+apart_from : (lines done left : List Said) → BreakNoRule line_fault lines → done ++ left ≡ lines → AreApart (node_names (declared_by done)) → AreApart (node_names (declared_by (done ++ left)))
 apart_from lines done [] sound parts apart = subst (λ t. AreApart (node_names (declared_by t))) (sym (append-nil done)) apart
 apart_from lines done (line ∷ left) sound parts apart =
     let there : length done < length lines = subst (λ t. length done < length t) parts (below done line left) in

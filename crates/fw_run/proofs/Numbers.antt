@@ -4,7 +4,7 @@ use Rattle.fw_lines.specs.declared.refusal.Code.{Code}
 use Rattle.fw_lines.specs.declared.refusal.Code.TheVariants.{F1, F2, F3, F4, F5, F6, F7, F8, F9, F10, F11, I1, I2, I3, I4, I5, S1, S2, S3, S4}
 use Rattle.fw_run.specs.declared.status.Status.{Status}
 use Rattle.fw_run.specs.declared.status.Status.TheVariants.{Done, BadWords, Refused, ReadFault, WriteFault, NoMemory}
-use Rattle.fw_run.specs.Status.{refusal_number, number_of, status_numbers}
+use Rattle.fw_run.specs.Status.{refusal_number, status_number, status_numbers}
 
 Contains-refusal_number : (code : Code) → Contains status_numbers (refusal_number code)
 Contains-refusal_number F1 = (2, lit< tt, refl)
@@ -28,10 +28,10 @@ Contains-refusal_number S2 = (4, lit< tt, refl)
 Contains-refusal_number S3 = (4, lit< tt, refl)
 Contains-refusal_number S4 = (4, lit< tt, refl)
 
-pub Contains-number_of : (status : Status) → Contains status_numbers (number_of status)
-Contains-number_of Done = (0, lit< tt, refl)
-Contains-number_of BadWords = (1, lit< tt, refl)
-Contains-number_of (Refused refusal) = Contains-refusal_number refusal.code
-Contains-number_of ReadFault = (5, lit< tt, refl)
-Contains-number_of WriteFault = (6, lit< tt, refl)
-Contains-number_of NoMemory = (7, lit< tt, refl)
+pub Contains-status_number : (status : Status) → Contains status_numbers (status_number status)
+Contains-status_number Done = (0, lit< tt, refl)
+Contains-status_number BadWords = (1, lit< tt, refl)
+Contains-status_number (Refused refusal) = Contains-refusal_number refusal.code
+Contains-status_number ReadFault = (5, lit< tt, refl)
+Contains-status_number WriteFault = (6, lit< tt, refl)
+Contains-status_number NoMemory = (7, lit< tt, refl)

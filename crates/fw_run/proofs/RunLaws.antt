@@ -13,7 +13,7 @@ use Rattle.fw_model.proofs.ChoosingLaws.{reached-one_next}
 use Rattle.fw_model.proofs.GoingOn.{runs-go_on}
 use Rattle.fw_model.proofs.OneNextLaws.{one_next}
 use Rattle.fw_model.specs.Machine.{Machine, first_state}
-use Rattle.fw_model.specs.Steps.{Effect, Outcome, did, idle, Takes as TakesStep, Steps, Run}
+use Rattle.fw_model.specs.Steps.{Effect, Outcome, did, idle, LeadsTo, Steps, Run}
 use Rattle.fw_plain.specs.Engine.{Standing, is_plain_step}
 use Rattle.fw_run.specs.Headline.{IsPrinted, IsPartPrinted}
 use Rattle.fw_run.specs.Performing.{IsShownOf, IsStepPrinted, IsStepPartPrinted}
@@ -63,7 +63,7 @@ one_run sys w steps =
     (run.0, run.1, run.2, λ others other r. run_once sys (first_state sys) steps run.0 others run.1 other run.2 r)
 
 -- what a step acknowledges is of a node of the dataflow
-shown_effect : (sys : System) (state : Machine) (step : Step) (next : Machine) (effect : Effect) → TakesStep sys state step next effect → IsShownOf sys.flow (did effect)
+shown_effect : (sys : System) (state : Machine) (step : Step) (next : Machine) (effect : Effect) → LeadsTo sys state step next effect → IsShownOf sys.flow (did effect)
 shown_effect sys state (Inject s) next effect t = subst (λ e. IsShownOf sys.flow (did e)) (sym t.4) tt
 shown_effect sys state (Deliver d at) next effect t = subst (λ e. IsShownOf sys.flow (did e)) (sym t.4) tt
 shown_effect sys state (Notify p at) next effect t = subst (λ e. IsShownOf sys.flow (did e)) (sym t.4) tt

@@ -32,7 +32,7 @@ use Rattle.fw_run.proofs.KindLaws.{spelled-keeps_nothing, spelled-notifies_nobod
 use Rattle.fw_run.specs.declared.reading.Job.{Job}
 use Rattle.fw_run.specs.Reading.{IsReady, IsJob}
 use Rattle.fw_run.specs.Texts.{Texts, spelled_flow, sources_of, spelled_batches, spelled_system, spelled_steps, AreInputsOf, AreAccepted, HasText, AreThere, AreInputsRefused, IsScheduleRefused, IsFirstRefusal, AreFetchedInTurn}
-use Rattle.fw_run.specs.Words.{Names}
+use Rattle.fw_run.specs.Words.{TextNames}
 
 -- ---- what accepted texts spell
 
@@ -105,7 +105,7 @@ system_read flow_text text flow batches e a =
     ap make (same_map (batches_at batches) (inputs.batches_of (sources_of flow) (said_lines text)) (places flow) a.value) ∙ ap spelled e
 
 -- what three accepted texts spell is a job
-pub job_read : (told : Option (List ℕ → Option (List ℕ))) (names : Names) (job : Job)
+pub job_read : (told : Option (List ℕ → Option (List ℕ))) (names : TextNames) (job : Job)
     → HasText told names.flow (λ text. flows.IsAccepted text job.flow)
     → HasText told names.inputs (λ text. inputs.IsAccepted text (sources_of job.flow) job.batches)
     → HasText told names.schedule (λ text. schedules.IsAccepted text job.flow job.steps)
@@ -126,7 +126,7 @@ job_read told names job f i s =
     }
 
 -- the same where the folder told its texts anew before each
-pub job_read_in_turn : (told second third : Option (List ℕ → Option (List ℕ))) (names : Names) (job : Job) → second ≡ told → third ≡ second
+pub job_read_in_turn : (told second third : Option (List ℕ → Option (List ℕ))) (names : TextNames) (job : Job) → second ≡ told → third ≡ second
     → HasText told names.flow (λ text. flows.IsAccepted text job.flow)
     → HasText second names.inputs (λ text. inputs.IsAccepted text (sources_of job.flow) job.batches)
     → HasText third names.schedule (λ text. schedules.IsAccepted text job.flow job.steps)
@@ -137,12 +137,12 @@ job_read_in_turn told second third names job e h f i s =
     (subst (λ t. HasText t names.schedule (λ text. schedules.IsAccepted text job.flow job.steps)) (h ∙ e) s)
 
 -- a text was asked for after an accepted flow
-pub fetched_second : (told : Option (List ℕ → Option (List ℕ))) (names : Names) (flow : Dataflow) (before one after : ℕ)
+pub fetched_second : (told : Option (List ℕ → Option (List ℕ))) (names : TextNames) (flow : Dataflow) (before one after : ℕ)
     → HasText told names.flow (λ text. flows.IsAccepted text flow) → one ≡ one_more before → after ≡ one_more one → AreFetchedInTurn told names before after
 fetched_second told names flow before one after f e h = inr (inr (flow, f, inl (h ∙ ap one_more e)))
 
 -- and one after accepted inputs
-pub fetched_third : (told second : Option (List ℕ → Option (List ℕ))) (names : Names) (flow : Dataflow) (batches : List (ℕ × List (List Rec))) (before one two after : ℕ) → second ≡ told
+pub fetched_third : (told second : Option (List ℕ → Option (List ℕ))) (names : TextNames) (flow : Dataflow) (batches : List (ℕ × List (List Rec))) (before one two after : ℕ) → second ≡ told
     → HasText told names.flow (λ text. flows.IsAccepted text flow) → HasText second names.inputs (λ text. inputs.IsAccepted text (sources_of flow) batches)
     → one ≡ one_more before → two ≡ one_more one → after ≡ one_more two → AreFetchedInTurn told names before after
 fetched_third told second names flow batches before one two after same f i e h k =
@@ -172,7 +172,7 @@ same_flow texts name one other a b =
     both_true texts name (λ text. flows.IsAccepted text one) (λ text. flows.IsAccepted text other) (one ≡ other) a b (λ text p q. p.checked.value ∙ sym q.checked.value)
 
 -- of three texts one is refused first, by one rule
-pub one_first_refusal : (texts : List ℕ → Option (List ℕ)) (names : Names) (r s : Refusal) → IsFirstRefusal (Some texts) names r → IsFirstRefusal (Some texts) names s → r ≡ s
+pub one_first_refusal : (texts : List ℕ → Option (List ℕ)) (names : TextNames) (r s : Refusal) → IsFirstRefusal (Some texts) names r → IsFirstRefusal (Some texts) names s → r ≡ s
 one_first_refusal texts names r s (inl a) (inl b) = both_true texts names.flow _ _ (r ≡ s) a b (λ text p q. flow_texts.one_refusal text r s p q)
 one_first_refusal texts names r s (inl a) (inr (flow, b, rest)) = absurd (both_true texts names.flow _ _ ⊥ a b (λ text p q. flow_texts.accepted_or_refused text flow r q p))
 one_first_refusal texts names r s (inr (flow, a, rest)) (inl b) = absurd (both_true texts names.flow _ _ ⊥ a b (λ text p q. flow_texts.accepted_or_refused text flow s p q))
@@ -189,7 +189,7 @@ one_first_refusal texts names r s (inr (flow, a, rest)) (inr (other, b, more)) =
     by (inr p) (inr q) = both_true texts names.schedule _ _ (r ≡ s) p.1 q.1 (λ text x y. schedule_texts.one_refusal text flow r s x y)
 
 -- accepted texts are not refused
-pub accepted_or_refused : (texts : List ℕ → Option (List ℕ)) (names : Names) (three : Texts) (r : Refusal) → AreThere (Some texts) names three → AreAccepted three → IsFirstRefusal (Some texts) names r → ⊥
+pub accepted_or_refused : (texts : List ℕ → Option (List ℕ)) (names : TextNames) (three : Texts) (r : Refusal) → AreThere (Some texts) names three → AreAccepted three → IsFirstRefusal (Some texts) names r → ⊥
 accepted_or_refused texts names three r t a (inl p) =
     flow_texts.accepted_or_refused three.flow (spelled_flow three.flow) r a.flow (subst (λ text. flows.IsRefused text r) (same_text texts names.flow p.text three.flow p.there t.flow) p.so)
 accepted_or_refused texts names three r t a (inr (flow, p, rest)) =

@@ -16,7 +16,7 @@ use Rattle.fw_run.specs.declared.status.Status.{Status}
 use Rattle.fw_run.specs.declared.status.Status.TheVariants.{Done, ReadFault, WriteFault, NoMemory}
 use Rattle.fw_run.specs.Printed.{text_of}
 use Rattle.fw_run.specs.Texts.{Texts, spelled_system, spelled_steps, AreAccepted, AreThere}
-use Rattle.fw_run.specs.Words.{Names}
+use Rattle.fw_run.specs.Words.{TextNames}
 
 -- the machine takes the steps from its first state, and this is the text of what comes of them
 pub record PrintsRun (sys : System) (steps : List Step) (printed : List ℕ) : Type 0 where
@@ -34,14 +34,14 @@ abbrev pub IsPartPrinted : System → List Step → Option (List ℕ) → Option
 IsPartPrinted sys steps before after = (printed : List ℕ) × PrintsRun sys steps printed × TakesPrefix before printed after
 
 -- the texts under the names are accepted, and the whole printed text of their run was taken
-pub record Prints (told : Option (List ℕ → Option (List ℕ))) (names : Names) (before after : Option (List ℕ)) : Type 0 where
+pub record Prints (told : Option (List ℕ → Option (List ℕ))) (names : TextNames) (before after : Option (List ℕ)) : Type 0 where
   pub texts : Texts
   pub there : AreThere told names texts
   pub accepted : AreAccepted texts
   pub whole : IsPrinted (spelled_system texts) (spelled_steps texts) before after
 
 -- the texts under the names are accepted, and first bytes of the printed text of their run were taken
-pub record PrintsPart (told : Option (List ℕ → Option (List ℕ))) (names : Names) (before after : Option (List ℕ)) : Type 0 where
+pub record PrintsPart (told : Option (List ℕ → Option (List ℕ))) (names : TextNames) (before after : Option (List ℕ)) : Type 0 where
   pub texts : Texts
   pub there : AreThere told names texts
   pub accepted : AreAccepted texts

@@ -17,7 +17,7 @@ use Rattle.fw_run.specs.declared.reading.JobFault.{JobFault}
 use Rattle.fw_run.specs.declared.reading.JobFault.TheVariants.{Failed, Refused, NoMemory}
 use Rattle.fw_run.specs.declared.reading.Job.{Job}
 use Rattle.fw_run.specs.Texts.{HasText, Texts, AreThere, AreAccepted, spelled_system, spelled_steps}
-use Rattle.fw_run.specs.Words.{Names}
+use Rattle.fw_run.specs.Words.{TextNames}
 
 -- where the fault is a refusal it is one of these; the other faults say nothing here
 abbrev pub IfRefused : (Refusal → Type 0) → JobFault → Type 0
@@ -39,7 +39,7 @@ abbrev pub AreNamesDistinct : Dataflow → Type 0
 AreNamesDistinct flow = (p : ℕ) → p < length flow.nodes → node_named flow (node_at flow p).name ≡ Some p
 
 -- what the texts under the names spell, and they are accepted
-pub record IsJob (told : Option (List ℕ → Option (List ℕ))) (names : Names) (job : Job) : Type 0 where
+pub record IsJob (told : Option (List ℕ → Option (List ℕ))) (names : TextNames) (job : Job) : Type 0 where
   pub texts : Texts
   pub there : AreThere told names texts
   pub accepted : AreAccepted texts

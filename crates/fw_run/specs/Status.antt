@@ -33,22 +33,22 @@ refusal_number S3 = 5
 refusal_number S4 = 5
 
 -- the number of a status
-abbrev pub number_of : Status → ℕ
-number_of Done = 0
-number_of BadWords = 2
-number_of (Refused refusal) = refusal_number refusal.code
-number_of ReadFault = 6
-number_of WriteFault = 7
-number_of NoMemory = 10
+abbrev pub status_number : Status → ℕ
+status_number Done = 0
+status_number BadWords = 2
+status_number (Refused refusal) = refusal_number refusal.code
+status_number ReadFault = 6
+status_number WriteFault = 7
+status_number NoMemory = 10
 
 -- the line on the notes, ended by a line feed; none where all went well
-abbrev pub note_of : Status → List ℕ
-note_of Done = []
-note_of BadWords = codes "bad words\n"
-note_of (Refused refusal) = codes "refused " ++ (code_text refusal.code ++ (codes " line " ++ (decimal refusal.line ++ codes "\n")))
-note_of ReadFault = codes "read fault\n"
-note_of WriteFault = codes "write fault\n"
-note_of NoMemory = codes "no memory\n"
+abbrev pub note_line : Status → List ℕ
+note_line Done = []
+note_line BadWords = codes "bad words\n"
+note_line (Refused refusal) = codes "refused " ++ (code_text refusal.code ++ (codes " line " ++ (decimal refusal.line ++ codes "\n")))
+note_line ReadFault = codes "read fault\n"
+note_line WriteFault = codes "write fault\n"
+note_line NoMemory = codes "no memory\n"
 
 -- a sink has taken the whole line, or first bytes of it and has refused a write
 abbrev pub IsTold : List ℕ → Option (List ℕ) → Option (List ℕ) → Bool → Type 0
@@ -59,5 +59,5 @@ abbrev pub status_numbers : List ℕ
 status_numbers = 0 ∷ 2 ∷ 3 ∷ 4 ∷ 5 ∷ 6 ∷ 7 ∷ 10 ∷ []
 
 -- a text was refused
-abbrev pub IsRefused : Status → Type 0
-IsRefused status = (refusal : Refusal) × (status ≡ Refused refusal)
+abbrev pub TellsRefusal : Status → Type 0
+TellsRefusal status = (refusal : Refusal) × (status ≡ Refused refusal)

@@ -4,7 +4,7 @@ use Rattle.std.specs.List.{flat_map}
 use Rattle.fw_bag.specs.declared.rec.Rec.{Rec}
 use Rattle.fw_outside.specs.Outside.{IsText, one_more}
 use Rattle.fw_lines.specs.declared.refusal.Refusal.{Refusal}
-use Rattle.fw_lines.specs.Faults.{IsSound}
+use Rattle.fw_lines.specs.Faults.{BreakNoRule}
 use Rattle.fw_lines.specs.Inputs.{line_fault, size_limit}
 use Rattle.fw_lines.specs.Inputs as inputs
 use Rattle.fw_lines.specs.Lines.{said_lines}
@@ -16,7 +16,7 @@ use Rattle.fw_flow_text.specs.Grammar as flows
 use Rattle.fw_schedule.specs.Grammar.{steps_of}
 use Rattle.fw_schedule.specs.Grammar as schedules
 use Rattle.fw_model.specs.Machine.{places}
-use Rattle.fw_run.specs.Words.{Names}
+use Rattle.fw_run.specs.Words.{TextNames}
 
 -- the three texts of a run
 pub record Texts : Type 0 where
@@ -55,7 +55,7 @@ IsFlow text = flows.IsAccepted text (spelled_flow text)
 -- the text gives batches to inputs of the dataflow
 pub record AreInputsOf (flow : Dataflow) (text : List ℕ) : Type 0 where
   pub size : length text ≤ size_limit
-  pub sound : IsSound (line_fault (sources_of flow)) (said_lines text)
+  pub sound : BreakNoRule (line_fault (sources_of flow)) (said_lines text)
 
 -- the text is a schedule of the dataflow
 abbrev pub IsScheduleOf : Dataflow → List ℕ → Type 0
@@ -74,7 +74,7 @@ pub record HasText (told : Option (List ℕ → Option (List ℕ))) (name : List
   pub so : IsSo text
 
 -- the folder has these texts under these names, where it tells its texts
-pub record AreThere (told : Option (List ℕ → Option (List ℕ))) (names : Names) (texts : Texts) : Type 0 where
+pub record AreThere (told : Option (List ℕ → Option (List ℕ))) (names : TextNames) (texts : Texts) : Type 0 where
   pub flow : IsText told names.flow texts.flow
   pub inputs : IsText told names.inputs texts.inputs
   pub schedule : IsText told names.schedule texts.schedule
@@ -92,7 +92,7 @@ abbrev pub IsScheduleRefused : Option (List ℕ → Option (List ℕ)) → List 
 IsScheduleRefused told name flow refusal = HasText told name (λ text. schedules.IsRefused text flow refusal)
 
 -- Of the three texts, in this order, the first that is not accepted is refused so. A later text plays no part.
-abbrev pub IsFirstRefusal : Option (List ℕ → Option (List ℕ)) → Names → Refusal → Type 0
+abbrev pub IsFirstRefusal : Option (List ℕ → Option (List ℕ)) → TextNames → Refusal → Type 0
 IsFirstRefusal told names refusal =
     IsFlowRefused told names.flow refusal
     ⊎ ((flow : Dataflow) × HasText told names.flow (λ text. flows.IsAccepted text flow)
@@ -101,7 +101,7 @@ IsFirstRefusal told names refusal =
 
 -- Texts were asked for in turn, and no more often than this, if calls were counted from the first number to the second: a second
 -- time only where the flow is accepted, a third only where the inputs are too, and no fourth.
-abbrev pub AreFetchedInTurn : Option (List ℕ → Option (List ℕ)) → Names → ℕ → ℕ → Type 0
+abbrev pub AreFetchedInTurn : Option (List ℕ → Option (List ℕ)) → TextNames → ℕ → ℕ → Type 0
 AreFetchedInTurn told names before after =
     (after ≡ before)
     ⊎ ((after ≡ one_more before)

@@ -20,16 +20,16 @@ are_run_words (command ∷ flow ∷ inputs ∷ schedule ∷ []) =
 are_run_words _ = false
 
 -- the names of the three texts of a run
-pub record Names : Type 0 where
+pub record TextNames : Type 0 where
   pub flow : List ℕ
   pub inputs : List ℕ
   pub schedule : List ℕ
 
 -- the names that the words of a run give
-abbrev pub names_of : List (List ℕ) → Names
-names_of (command ∷ flow ∷ inputs ∷ schedule ∷ words) = record { flow = flow; inputs = inputs; schedule = schedule }
-names_of words = record { flow = []; inputs = []; schedule = [] }
+abbrev pub text_names_of : List (List ℕ) → TextNames
+text_names_of (command ∷ flow ∷ inputs ∷ schedule ∷ words) = record { flow = flow; inputs = inputs; schedule = schedule }
+text_names_of words = record { flow = []; inputs = []; schedule = [] }
 
 -- the names that parsed words give
-abbrev pub names_in : RunWords → Names
-names_in words = record { flow = words.flow.now; inputs = words.inputs.now; schedule = words.schedule.now }
+abbrev pub text_names_in : RunWords → TextNames
+text_names_in words = record { flow = words.flow.now; inputs = words.inputs.now; schedule = words.schedule.now }

@@ -4,8 +4,8 @@ ghost use Rattle.fw_lines.specs.declared.refusal.Refusal as lines;
 ghost use Rattle.fw_outside.specs.Outside.{Rose};
 ghost use Rattle.fw_run.specs.Headline.{Prints, PrintsPart, IsRunEnd, StaysLegal, ShowsDenotation, AcknowledgesInOrder, HasOneRun, RecoversFailed, CutsToLargest};
 ghost use Rattle.fw_run.specs.Texts.{Texts, AreThere, AreAccepted, IsFirstRefusal, AreFetchedInTurn, spelled_system, spelled_steps};
-ghost use Rattle.fw_run.specs.Words.{words_in, are_run_words, names_of};
-ghost use Rattle.fw_run.specs.Status.{number_of, note_of, IsTold, IsRefused, status_numbers};
+ghost use Rattle.fw_run.specs.Words.{words_in, are_run_words, text_names_of};
+ghost use Rattle.fw_run.specs.Status.{status_number, note_line, IsTold, TellsRefusal, status_numbers};
 
 use crate::Status;
 use crate::run::run;
@@ -24,41 +24,41 @@ pub fn falkirk<F: Folder, K: Store, O: Sink, N: Sink>(
     out: &mut O,
     notes: &mut N,
 ) -> Status
-    ensures number { Contains status_numbers (number_of result) }
+    ensures number { Contains status_numbers (status_number result) }
     ensures bad_words { (result ≡ Status.BadWords) ↔ (are_run_words (words_in words.now) ≡ false) }
     ensures read_fault { result ≡ Status.ReadFault → Rose (F.fault_count folder.old) (F.fault_count folder.new) }
     ensures write_fault { result ≡ Status.WriteFault → Rose (O.fault_count out.old) (O.fault_count out.new) }
 
     // At 2 to 6 nothing was written.
-    ensures nothing_out { 2 ≤ number_of result → number_of result ≤ 6 → out.new ≡ out.old }
+    ensures nothing_out { 2 ≤ status_number result → status_number result ≤ 6 → out.new ≡ out.old }
 
     // At 0 the texts are accepted and all that their run prints was written. At 7, and at 10 unless nothing was, first
     // bytes of it were.
-    ensures done { let names = names_of (words_in words.now) in
+    ensures done { let names = text_names_of (words_in words.now) in
         result ≡ Status.Done → Prints (F.texts folder.old) names (O.taken out.old) (O.taken out.new) }
-    ensures cut_off { let names = names_of (words_in words.now) in
+    ensures cut_off { let names = text_names_of (words_in words.now) in
         result ≡ Status.WriteFault → PrintsPart (F.texts folder.old) names (O.taken out.old) (O.taken out.new) }
-    ensures no_memory { let names = names_of (words_in words.now) in result ≡ Status.NoMemory
+    ensures no_memory { let names = text_names_of (words_in words.now) in result ≡ Status.NoMemory
         → (out.new ≡ out.old) ⊎ PrintsPart (F.texts folder.old) names (O.taken out.old) (O.taken out.new) }
 
     // At 3 to 5 the first of the three texts that is not accepted is refused by the first rule that it breaks.
-    ensures refused { (refusal : lines.Refusal) → let names = names_of (words_in words.now) in
+    ensures refused { (refusal : lines.Refusal) → let names = text_names_of (words_in words.now) in
         result ≡ Status.Refused refusal → IsFirstRefusal (F.texts folder.old) names refusal }
 
     // The folder is asked a second time only where the flow is accepted, a third time only where the inputs are too, and
     // never a fourth; at 2 it is not asked. The texts stay as they are.
-    ensures in_turn { let names = names_of (words_in words.now) in
+    ensures in_turn { let names = text_names_of (words_in words.now) in
         AreFetchedInTurn (F.texts folder.old) names (F.fetch_count folder.old) (F.fetch_count folder.new) }
     ensures nothing_read { result ≡ Status.BadWords → folder.new ≡ folder.old }
     ensures texts_stay { F.texts folder.new ≡ F.texts folder.old }
 
     // Where the folder tells its texts, a text that is not accepted is refused and accepted ones are run, unless what is
     // outside fails or memory is refused.
-    ensures refuses { (refusal : lines.Refusal) → let names = names_of (words_in words.now) in
+    ensures refuses { (refusal : lines.Refusal) → let names = text_names_of (words_in words.now) in
         are_run_words (words_in words.now) ≡ true → IsSome (F.texts folder.old)
         → IsFirstRefusal (F.texts folder.old) names refusal
         → (result ≡ Status.Refused refusal) ⊎ ((result ≡ Status.ReadFault) ⊎ (result ≡ Status.NoMemory)) }
-    ensures completes { (texts : Texts) → let names = names_of (words_in words.now) in
+    ensures completes { (texts : Texts) → let names = text_names_of (words_in words.now) in
         are_run_words (words_in words.now) ≡ true → IsSome (F.texts folder.old)
         → AreThere (F.texts folder.old) names texts → AreAccepted texts → IsRunEnd result }
 
@@ -75,7 +75,7 @@ pub fn falkirk<F: Folder, K: Store, O: Sink, N: Sink>(
     ensures largest { (texts : Texts) → AreAccepted texts → CutsToLargest (spelled_system texts) (spelled_steps texts) }
 
     // The status's line, or first bytes of it where the notes refused a write, then or earlier; at 0 nothing.
-    ensures notes { IsTold (note_of result) (N.taken notes.old) (N.taken notes.new) (N.has_refused notes.new) }
+    ensures notes { IsTold (note_line result) (N.taken notes.old) (N.taken notes.new) (N.has_refused notes.new) }
     ensures no_notes { result ≡ Status.Done → notes.new ≡ notes.old }
 
     // The store stays as it was, and no count of faults falls.
@@ -89,8 +89,8 @@ pub fn falkirk<F: Folder, K: Store, O: Sink, N: Sink>(
 
 // Tells a status by its line. Where there is no memory for that line, this is told, and is the status.
 fn tell<N: Sink>(alloc: Global, status: Status, notes: &mut N) -> Status
-    ensures status { (result ≡ status) ⊎ (IsRefused status × (result ≡ Status.NoMemory)) }
-    ensures notes { IsTold (note_of result) (N.taken notes.old) (N.taken notes.new) (N.has_refused notes.new) }
+    ensures status { (result ≡ status) ⊎ (TellsRefusal status × (result ≡ Status.NoMemory)) }
+    ensures notes { IsTold (note_line result) (N.taken notes.old) (N.taken notes.new) (N.has_refused notes.new) }
     ensures done { status ≡ Status.Done → notes.new ≡ notes.old }
     ensures never_falls { N.fault_count notes.old ≤ N.fault_count notes.new }
 {

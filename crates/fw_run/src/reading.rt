@@ -8,7 +8,7 @@ ghost use Rattle.fw_flow_text.specs.Grammar as flows;
 ghost use Rattle.fw_schedule.specs.Grammar as schedules;
 ghost use Rattle.fw_run.specs.Reading.{IfRefused, IsTooLarge, IsJob, AreNamesDistinct};
 ghost use Rattle.fw_run.specs.Texts as spec;
-ghost use Rattle.fw_run.specs.Words.{names_in};
+ghost use Rattle.fw_run.specs.Words.{text_names_in};
 ghost use Rattle.fw_run.specs.Texts.{HasText, IsFlowRefused, AreInputsRefused, IsScheduleRefused, IsFirstRefusal, AreFetchedInTurn};
 
 use crate::words::RunWords;
@@ -73,11 +73,11 @@ pub(crate) fn read_job<F: Folder>(
     words: &RunWords,
     folder: &mut F,
 ) -> Result<Job, JobFault>
-    ensures job { IfOk result (IsJob (F.texts folder.old) (names_in words.now)) }
-    ensures refused { IfErr result (IfRefused (IsFirstRefusal (F.texts folder.old) (names_in words.now))) }
+    ensures job { IfOk result (IsJob (F.texts folder.old) (text_names_in words.now)) }
+    ensures refused { IfErr result (IfRefused (IsFirstRefusal (F.texts folder.old) (text_names_in words.now))) }
     ensures failed { IsErrOf result JobFault.Failed → Rose (F.fault_count folder.old) (F.fault_count folder.new) }
     ensures never_falls { F.fault_count folder.old ≤ F.fault_count folder.new }
-    ensures in_turn { AreFetchedInTurn (F.texts folder.old) (names_in words.now) (F.fetch_count folder.old) (F.fetch_count folder.new) }
+    ensures in_turn { AreFetchedInTurn (F.texts folder.old) (text_names_in words.now) (F.fetch_count folder.old) (F.fetch_count folder.new) }
     ensures texts_stay { F.texts folder.new ≡ F.texts folder.old }
 {
     let flow = fetch_flow(alloc, folder, words.flow)?;

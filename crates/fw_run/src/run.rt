@@ -3,9 +3,9 @@ ghost use Rattle.std.specs.Prelude.{◌≡◌, ◌⊎◌, ◌≤◌, ◌↔◌, 
 ghost use Rattle.fw_lines.specs.declared.refusal.Refusal as lines;
 ghost use Rattle.fw_outside.specs.Outside.{Rose};
 ghost use Rattle.fw_run.specs.Headline.{Prints, PrintsPart};
-ghost use Rattle.fw_run.specs.Status.{number_of};
+ghost use Rattle.fw_run.specs.Status.{status_number};
 ghost use Rattle.fw_run.specs.Texts.{IsFirstRefusal, AreFetchedInTurn};
-ghost use Rattle.fw_run.specs.Words.{words_in, are_run_words, names_of};
+ghost use Rattle.fw_run.specs.Words.{words_in, are_run_words, text_names_of};
 
 use crate::Status;
 use crate::perform::perform;
@@ -24,16 +24,16 @@ pub(crate) fn run<F: Folder, O: Sink>(
     ensures bad_words { (result ≡ Status.BadWords) ↔ (are_run_words (words_in words.now) ≡ false) }
     ensures read_fault { result ≡ Status.ReadFault → Rose (F.fault_count folder.old) (F.fault_count folder.new) }
     ensures write_fault { result ≡ Status.WriteFault → Rose (O.fault_count out.old) (O.fault_count out.new) }
-    ensures nothing_out { number_of result ≤ 6 → (result ≡ Status.Done) ⊎ (out.new ≡ out.old) }
+    ensures nothing_out { status_number result ≤ 6 → (result ≡ Status.Done) ⊎ (out.new ≡ out.old) }
     ensures done { result ≡ Status.Done
-        → Prints (F.texts folder.old) (names_of (words_in words.now)) (O.taken out.old) (O.taken out.new) }
+        → Prints (F.texts folder.old) (text_names_of (words_in words.now)) (O.taken out.old) (O.taken out.new) }
     ensures cut_off { result ≡ Status.WriteFault
-        → PrintsPart (F.texts folder.old) (names_of (words_in words.now)) (O.taken out.old) (O.taken out.new) }
+        → PrintsPart (F.texts folder.old) (text_names_of (words_in words.now)) (O.taken out.old) (O.taken out.new) }
     ensures no_memory { result ≡ Status.NoMemory → (out.new ≡ out.old)
-        ⊎ PrintsPart (F.texts folder.old) (names_of (words_in words.now)) (O.taken out.old) (O.taken out.new) }
+        ⊎ PrintsPart (F.texts folder.old) (text_names_of (words_in words.now)) (O.taken out.old) (O.taken out.new) }
     ensures refused { (refusal : lines.Refusal) → result ≡ Status.Refused refusal
-        → IsFirstRefusal (F.texts folder.old) (names_of (words_in words.now)) refusal }
-    ensures in_turn { AreFetchedInTurn (F.texts folder.old) (names_of (words_in words.now)) (F.fetch_count folder.old) (F.fetch_count folder.new) }
+        → IsFirstRefusal (F.texts folder.old) (text_names_of (words_in words.now)) refusal }
+    ensures in_turn { AreFetchedInTurn (F.texts folder.old) (text_names_of (words_in words.now)) (F.fetch_count folder.old) (F.fetch_count folder.new) }
     ensures nothing_read { result ≡ Status.BadWords → folder.new ≡ folder.old }
     ensures texts_stay { F.texts folder.new ≡ F.texts folder.old }
     ensures folder_count { F.fault_count folder.old ≤ F.fault_count folder.new }

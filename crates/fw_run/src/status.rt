@@ -1,7 +1,7 @@
 //! How a command ended.
 ghost use Rattle.std.specs.Prelude.{◌≡◌};
 ghost use Rattle.fw_run.specs.Status as spec;
-ghost use Rattle.fw_run.specs.Status.{number_of};
+ghost use Rattle.fw_run.specs.Status.{status_number};
 
 use fw_lines::{Code, Refusal};
 
@@ -25,7 +25,7 @@ pub enum Status {
 impl Status {
     /// The number that a program ends with: 0, 2 to 7 or 10.
     pub fn number(&self) -> u8
-        ensures { result ≡ number_of self.now }
+        ensures { result ≡ status_number self.now }
     {
         match self {
             Status::Done => 0,

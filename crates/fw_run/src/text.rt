@@ -5,7 +5,7 @@ ghost use Rattle.fw_plain.specs.Engine.{effect_of, outcome_of};
 ghost use Rattle.fw_run.specs.Printed as spec;
 ghost use Rattle.fw_run.specs.Printed.{recs_text, effect_text, outcome_text};
 ghost use Rattle.fw_run.specs.Performing.{IsShownOf, shown_bytes};
-ghost use Rattle.fw_run.specs.Status.{note_of};
+ghost use Rattle.fw_run.specs.Status.{note_line};
 ghost use Rattle.fw_run.specs.declared.status.Status.TheVariants as Status;
 
 use fw_bag::{Bag, Rec};
@@ -148,7 +148,7 @@ pub fn done_line(alloc: Global, steps: u64, idle: u64) -> Result<String, AllocEr
 
 /// The line `refused CODE line LINE`, ended by LF.
 pub fn refused_line(alloc: Global, refusal: Refusal) -> Result<String, AllocError>
-    ensures { IfOk result (λ text. string_bytes text ≡ note_of (Status.Refused refusal)) }
+    ensures { IfOk result (λ text. string_bytes text ≡ note_line (Status.Refused refusal)) }
 {
     let code = refusal.code;
     let line = refusal.line;

@@ -9,7 +9,7 @@ use Rattle.fw_time.specs.declared.stamp.Bounds.{Bounds}
 use Rattle.fw_lines.specs.declared.refusal.Code.{Code}
 use Rattle.fw_lines.specs.declared.refusal.Code.TheVariants.{S1, S2, S3, S4}
 use Rattle.fw_lines.specs.declared.refusal.Refusal.{Refusal}
-use Rattle.fw_lines.specs.Faults.{IsSound, IsFirstFault, IsOfWhole}
+use Rattle.fw_lines.specs.Faults.{BreakNoRule, IsFirstFault, IsOfWhole}
 use Rattle.fw_lines.specs.Lines.{Said, said_lines}
 use Rattle.fw_flow.specs.declared.kind.Kind.{Kind}
 use Rattle.fw_flow.specs.declared.node.Node.{Node}
@@ -98,7 +98,7 @@ size_limit = 16777216
 -- the text has the form of a schedule of the flow, and the steps are those that its lines spell
 pub record IsAccepted (text : List ℕ) (flow : Dataflow) (steps : List Step) : Type 0 where
   pub size : length text ≤ size_limit
-  pub sound : IsSound (line_fault flow) (said_lines text)
+  pub sound : BreakNoRule (line_fault flow) (said_lines text)
   pub value : steps ≡ steps_of flow (said_lines text)
 
 -- the refusal is the first rule that the text breaks: of its size, or of its first line that breaks one

@@ -1,6 +1,6 @@
 use Rattle.std.proofs.Common.{◌∙◌, ap, inl, inr}
 use Rattle.std.proofs.lemmas.Result.{err_from_is_err_and}
-use Rattle.fw_lines.specs.Lines.{left, said_in, said_lines}
+use Rattle.fw_lines.specs.Lines.{lines_left, said_in, said_lines}
 use Rattle.fw_lines.proofs.FaultLaws.{if_refused-weaker}
 use Rattle.fw_flow_text.proofs.ReadLaws.{read_more, read_broken, checked_all}
 use Rattle.fw_flow_text.proofs.reader.read_flow.Goals as goal
@@ -10,16 +10,16 @@ loop-place-preserved c =
     let text = c.args.text.now in
     record {
       within = c.in_ok-line.ensures.next;
-      read = read_more (said_lines text) (left text c.loop-place.place) (left text c.in_ok-line.next) (said_in text c.in_ok-line.line) c.loop-place.raw c.in_ok-raw.raw c.loop-place.invariant.read (ap (left text) c.in-Some.is ∙ c.in_ok-line.ensures.line) c.in_ok-raw.ensures.sound c.in_ok-raw.ensures.value;
+      read = read_more (said_lines text) (lines_left text c.loop-place.place) (lines_left text c.in_ok-line.next) (said_in text c.in_ok-line.line) c.loop-place.raw c.in_ok-raw.raw c.loop-place.invariant.read (ap (lines_left text) c.in-Some.is ∙ c.in_ok-line.ensures.line) c.in_ok-raw.ensures.sound c.in_ok-raw.ensures.value;
     }
 
 pub returns-in_err-raw : goal.returns-in_err-raw
 returns-in_err-raw c =
     let text = c.args.text.now in
     let p = err_from_is_err_and c.from_residual-in_err-raw.result c.from_residual-in_err-raw.ensures.1 in
-    rw (p.1, p.2) (if_refused-weaker _ _ c.in_err-raw.field-0.0 c.in_err-raw.ensures.broken (λ refusal h. inr (inl (c.if-text-gt-SIZE_LIMIT.false, read_broken (said_lines text) (left text c.loop-place.place) (left text c.in_ok-line.next) (said_in text c.in_ok-line.line) c.loop-place.raw refusal c.loop-place.invariant.read (ap (left text) c.in-Some.is ∙ c.in_ok-line.ensures.line) h.0 h.1))))
+    rw (p.1, p.2) (if_refused-weaker _ _ c.in_err-raw.field-0.0 c.in_err-raw.ensures.broken (λ refusal h. inr (inl (c.if-text-gt-SIZE_LIMIT.false, read_broken (said_lines text) (lines_left text c.loop-place.place) (lines_left text c.in_ok-line.next) (said_in text c.in_ok-line.line) c.loop-place.raw refusal c.loop-place.invariant.read (ap (lines_left text) c.in-Some.is ∙ c.in_ok-line.ensures.line) h.0 h.1))))
 
 pub returns : goal.returns
 returns c =
     let text = c.args.text.now in
-    checked_all text (left text c.loop-place.place) c.loop-place.raw c.check.result c.if-text-gt-SIZE_LIMIT.false c.loop-place.invariant.read (ap (left text) c.in_default.is) c.check.ensures.checked
+    checked_all text (lines_left text c.loop-place.place) c.loop-place.raw c.check.result c.if-text-gt-SIZE_LIMIT.false c.loop-place.invariant.read (ap (lines_left text) c.in_default.is) c.check.ensures.checked

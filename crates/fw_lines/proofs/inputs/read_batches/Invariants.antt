@@ -1,13 +1,13 @@
 use Rattle.std.proofs.Common.{◌+◌, ◌-◌, length, IfSome}
 use Rattle.std.specs.Option.{option_map_or}
-use Rattle.fw_lines.specs.Lines.{left, IsPlace, said_lines}
+use Rattle.fw_lines.specs.Lines.{lines_left, IsPlace, said_lines}
 use Rattle.fw_lines.proofs.ReadLaws.{IsRead}
 use Rattle.fw_lines.proofs.inputs.read_batches.Given as goal
 
 abbrev pub invariant-loop-place : goal.invariant-loop-place
 invariant-loop-place l = record {
   within : IfSome l.place (IsPlace l.text);
-  read : IsRead l.sources (said_lines l.text) (left l.text l.place) l.batches;
+  read : IsRead l.sources (said_lines l.text) (lines_left l.text l.place) l.batches;
 }
 
 abbrev pub decreases-loop-place : goal.decreases-loop-place

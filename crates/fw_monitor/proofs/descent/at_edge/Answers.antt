@@ -4,7 +4,7 @@ use Rattle.fw_flow.specs.Dataflow.{sender, receiver, bounds_of}
 use Rattle.fw_model.specs.Machine.{front_of}
 use Rattle.fw_monitor.specs.declared.side.Side.TheVariants.{Delivered, Discarded}
 use Rattle.fw_monitor.specs.Offers.{arrived_from}
-use Rattle.fw_monitor.specs.Descent.{choice_of, IsStep, HasConsistent, Holds, IsNoteLowered}
+use Rattle.fw_monitor.specs.Descent.{choice_of, IsStep, HasConsistent, IsMet, IsNoteLowered}
 use Rattle.fw_monitor.proofs.StepLaws.{edge_done}
 use Rattle.fw_monitor.proofs.descent.at_edge.Goals as goal
 
@@ -20,9 +20,9 @@ returns-clause-step c =
     let a = c.in_ok-delivered.delivered in
     let b = c.in_ok-discarded.discarded in
     let s1 = subst (λ xs. IsStep flow offers (choice_of cuts0 xs) (choice_of cuts1 xs) a) c.deref.ensures.value c.in_ok-delivered.ensures.step in
-    let h1 = subst (λ xs. a ≡ false → HasConsistent flow offers → Holds flow offers (choice_of cuts1 xs) (Delivered e)) c.deref.ensures.value c.in_ok-delivered.ensures.holds in
+    let h1 = subst (λ xs. a ≡ false → HasConsistent flow offers → IsMet flow offers (choice_of cuts1 xs) (Delivered e)) c.deref.ensures.value c.in_ok-delivered.ensures.holds in
     let s2 = subst (λ xs. IsStep flow offers (choice_of cuts1 xs) (choice_of cuts2 xs) b) c.deref-2.ensures.value c.in_ok-discarded.ensures.step in
-    let h2 = subst (λ xs. b ≡ false → HasConsistent flow offers → Holds flow offers (choice_of cuts2 xs) (Discarded e)) c.deref-2.ensures.value c.in_ok-discarded.ensures.holds in
+    let h2 = subst (λ xs. b ≡ false → HasConsistent flow offers → IsMet flow offers (choice_of cuts2 xs) (Discarded e)) c.deref-2.ensures.value c.in_ok-discarded.ensures.holds in
     let front : c.note_at.result.now ≡ front_of notes (sender flow e) = c.note_at.ensures ∙ ap (front_of c.deref-3.result.now) c.src.ensures ∙ ap (λ xs. front_of xs (sender flow e)) c.deref-3.ensures.value in
     let names = subst (λ f. Names (bounds_of flow (receiver flow e)) c.in_ok-bound.bound (arrived_from flow offers e (frontier_of (bounds_of flow (sender flow e)) f))) front c.in_ok-bound.ensures in
     let low = subst (λ q. IsNoteLowered notes c.lower_note.new.notes.items q c.in_ok-bound.bound c.in_ok-note.note) c.dst.ensures c.in_ok-note.ensures in
@@ -41,9 +41,9 @@ returns-clause-holds c =
     let a = c.in_ok-delivered.delivered in
     let b = c.in_ok-discarded.discarded in
     let s1 = subst (λ xs. IsStep flow offers (choice_of cuts0 xs) (choice_of cuts1 xs) a) c.deref.ensures.value c.in_ok-delivered.ensures.step in
-    let h1 = subst (λ xs. a ≡ false → HasConsistent flow offers → Holds flow offers (choice_of cuts1 xs) (Delivered e)) c.deref.ensures.value c.in_ok-delivered.ensures.holds in
+    let h1 = subst (λ xs. a ≡ false → HasConsistent flow offers → IsMet flow offers (choice_of cuts1 xs) (Delivered e)) c.deref.ensures.value c.in_ok-delivered.ensures.holds in
     let s2 = subst (λ xs. IsStep flow offers (choice_of cuts1 xs) (choice_of cuts2 xs) b) c.deref-2.ensures.value c.in_ok-discarded.ensures.step in
-    let h2 = subst (λ xs. b ≡ false → HasConsistent flow offers → Holds flow offers (choice_of cuts2 xs) (Discarded e)) c.deref-2.ensures.value c.in_ok-discarded.ensures.holds in
+    let h2 = subst (λ xs. b ≡ false → HasConsistent flow offers → IsMet flow offers (choice_of cuts2 xs) (Discarded e)) c.deref-2.ensures.value c.in_ok-discarded.ensures.holds in
     let front : c.note_at.result.now ≡ front_of notes (sender flow e) = c.note_at.ensures ∙ ap (front_of c.deref-3.result.now) c.src.ensures ∙ ap (λ xs. front_of xs (sender flow e)) c.deref-3.ensures.value in
     let names = subst (λ f. Names (bounds_of flow (receiver flow e)) c.in_ok-bound.bound (arrived_from flow offers e (frontier_of (bounds_of flow (sender flow e)) f))) front c.in_ok-bound.ensures in
     let low = subst (λ q. IsNoteLowered notes c.lower_note.new.notes.items q c.in_ok-bound.bound c.in_ok-note.note) c.dst.ensures c.in_ok-note.ensures in

@@ -6,14 +6,14 @@ use Rattle.fw_model.specs.Choice.{set_of, cut_of, IsLargestBy}
 use Rattle.fw_monitor.specs.Offers.{IsOffered, covers_of}
 use Rattle.fw_monitor.specs.Descent.{bare, choice_of, IsDescent, left_over}
 use Rattle.fw_monitor.proofs.StepLaws.{pass_falls}
-use Rattle.fw_monitor.proofs.StartLaws.{start_reached, largest_end}
+use Rattle.fw_monitor.proofs.StartLaws.{start_encloses, largest_end}
 use Rattle.fw_monitor.proofs.descent.largest.Goals as goal
 
-pub pass-requires-clause-reached : goal.pass-requires-clause-reached
-pass-requires-clause-reached c =
+pub pass-requires-clause-encloses : goal.pass-requires-clause-encloses
+pass-requires-clause-encloses c =
     let flow = c.args.flow.now in
     let notes = c.in_ok-notes.notes.items in
-    start_reached flow c.args.offers.now c.in_ok-cuts.cuts.items notes c.in_ok-cuts.ensures.one_each c.in_ok-notes.ensures.one_each c.in_ok-cuts.ensures.greatest
+    start_encloses flow c.args.offers.now c.in_ok-cuts.cuts.items notes c.in_ok-cuts.ensures.one_each c.in_ok-notes.ensures.one_each c.in_ok-cuts.ensures.greatest
     (subst (λ xs. (p : ℕ) → p < length flow.nodes → Names (bounds_of flow p) (front_of notes p) (set_of (bare flow) p (cut_of (choice_of xs []) p))) c.deref.ensures.value c.in_ok-notes.ensures.kept)
 
 pub pass-smaller : goal.pass-smaller

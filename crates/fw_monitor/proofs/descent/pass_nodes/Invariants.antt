@@ -1,9 +1,9 @@
 use Rattle.std.proofs.Common.{◌≡◌, ◌<◌, ℕ, false}
-use Rattle.fw_monitor.specs.Descent.{choice_of, IsStep, HasConsistent, HoldsAtNode}
+use Rattle.fw_monitor.specs.Descent.{choice_of, IsStep, HasConsistent, IsMetAtNode}
 use Rattle.fw_monitor.proofs.descent.pass_nodes.Given as goal
 
 abbrev pub invariant-loop-place : goal.invariant-loop-place
 invariant-loop-place l = record {
   step : IsStep l.flow l.offers (choice_of l.fn.cuts.items l.fn.notes.items) (choice_of l.cuts.items l.notes.items) l.lowered;
-  holds : l.lowered ≡ false → HasConsistent l.flow l.offers → (e : ℕ) → e < l.place → HoldsAtNode l.flow l.offers (choice_of l.cuts.items l.notes.items) e;
+  holds : l.lowered ≡ false → HasConsistent l.flow l.offers → (e : ℕ) → e < l.place → IsMetAtNode l.flow l.offers (choice_of l.cuts.items l.notes.items) e;
 }

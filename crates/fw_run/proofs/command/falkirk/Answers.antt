@@ -1,12 +1,12 @@
 use Rattle.std.proofs.Common.{sym, ◌∙◌}
 use Rattle.std.proofs.lemmas.Bool.{false≢true}
 use Rattle.fw_run.proofs.HeadlineLaws.{told_refused, refuses, refuses_told, completes, completes_told, texts-stay_legal, texts-in_order, texts-denoted, texts-one_run, texts-recover, texts-largest}
-use Rattle.fw_run.proofs.Numbers.{Contains-number_of}
-use Rattle.fw_run.specs.Words.{words_in, names_of}
+use Rattle.fw_run.proofs.Numbers.{Contains-status_number}
+use Rattle.fw_run.specs.Words.{words_in, text_names_of}
 use Rattle.fw_run.proofs.command.falkirk.Goals as goal
 
 pub returns-clause-number : goal.returns-clause-number
-returns-clause-number g c = Contains-number_of c.tell.result
+returns-clause-number g c = Contains-status_number c.tell.result
 
 pub returns-clause-refused : goal.returns-clause-refused
 returns-clause-refused g c refusal e = c.run-status.ensures.refused refusal (told_refused c.run-status.result c.tell.result refusal c.tell.ensures.status e)
@@ -16,7 +16,7 @@ returns-clause-refuses g c refusal words tells first =
     let e = c.run-status.ensures in
     let status = c.run-status.result in
     refuses_told status c.tell.result refusal c.tell.ensures.status
-    (refuses (g.F.Folder.texts c.args.folder.now) (names_of (words_in c.args.words.now)) (g.O.Sink.taken c.args.out.now) (g.O.Sink.taken c.run-status.new.out) status refusal tells first
+    (refuses (g.F.Folder.texts c.args.folder.now) (text_names_of (words_in c.args.words.now)) (g.O.Sink.taken c.args.out.now) (g.O.Sink.taken c.run-status.new.out) status refusal tells first
     (λ bad. false≢true (sym (e.bad_words.0 bad) ∙ words)) e.done e.cut_off e.refused)
 
 pub returns-clause-completes : goal.returns-clause-completes
@@ -24,7 +24,7 @@ returns-clause-completes g c texts words tells there accepted =
     let e = c.run-status.ensures in
     let status = c.run-status.result in
     completes_told status c.tell.result c.tell.ensures.status
-    (completes (g.F.Folder.texts c.args.folder.now) (names_of (words_in c.args.words.now)) status texts tells there accepted (λ bad. false≢true (sym (e.bad_words.0 bad) ∙ words)) e.refused)
+    (completes (g.F.Folder.texts c.args.folder.now) (text_names_of (words_in c.args.words.now)) status texts tells there accepted (λ bad. false≢true (sym (e.bad_words.0 bad) ∙ words)) e.refused)
 
 pub returns-clause-legal : goal.returns-clause-legal
 returns-clause-legal g c = texts-stay_legal

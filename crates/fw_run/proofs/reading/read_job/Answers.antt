@@ -4,7 +4,7 @@ use Rattle.fw_run.proofs.NameLaws.{names-distinct}
 use Rattle.fw_run.proofs.Roses.{rose_last, same_fault}
 use Rattle.fw_run.proofs.TextLaws.{job_read_in_turn, fetched_second, fetched_third}
 use Rattle.fw_run.specs.declared.reading.JobFault.TheVariants.{Failed}
-use Rattle.fw_run.specs.Words.{names_in}
+use Rattle.fw_run.specs.Words.{text_names_in}
 use Rattle.fw_run.proofs.reading.read_job.Goals as goal
 
 pub fetch_inputs-requires : goal.fetch_inputs-requires
@@ -25,26 +25,26 @@ returns-in_err-steps-clause-failed g c =
 pub returns-clause-job : goal.returns-clause-job
 returns-clause-job g c =
     let told = g.F.Folder.texts in
-    job_read_in_turn (told c.args.folder.now) (told c.fetch_flow.new.folder) (told c.fetch_inputs.new.folder) (names_in c.args.words.now)
+    job_read_in_turn (told c.args.folder.now) (told c.fetch_flow.new.folder) (told c.fetch_inputs.new.folder) (text_names_in c.args.words.now)
     (record { flow = c.in_ok-flow.flow; batches = c.in_ok-batches.batches; steps = c.in_ok-steps.steps })
     c.fetch_flow.ensures.texts_stay c.fetch_inputs.ensures.texts_stay c.in_ok-flow.ensures.flow c.in_ok-batches.ensures.batches c.in_ok-steps.ensures.steps
 
 pub returns-in_err-batches-clause-in_turn : goal.returns-in_err-batches-clause-in_turn
 returns-in_err-batches-clause-in_turn g c =
     let count = g.F.Folder.fetch_count in
-    fetched_second (g.F.Folder.texts c.args.folder.now) (names_in c.args.words.now) c.in_ok-flow.flow (count c.args.folder.now) (count c.fetch_flow.new.folder) (count c.fetch_inputs.new.folder)
+    fetched_second (g.F.Folder.texts c.args.folder.now) (text_names_in c.args.words.now) c.in_ok-flow.flow (count c.args.folder.now) (count c.fetch_flow.new.folder) (count c.fetch_inputs.new.folder)
     c.in_ok-flow.ensures.flow c.fetch_flow.ensures.counted c.fetch_inputs.ensures.counted
 
 pub returns-in_err-steps-clause-in_turn : goal.returns-in_err-steps-clause-in_turn
 returns-in_err-steps-clause-in_turn g c =
     let count = g.F.Folder.fetch_count in
     let told = g.F.Folder.texts in
-    fetched_third (told c.args.folder.now) (told c.fetch_flow.new.folder) (names_in c.args.words.now) c.in_ok-flow.flow c.in_ok-batches.batches (count c.args.folder.now) (count c.fetch_flow.new.folder) (count c.fetch_inputs.new.folder) (count c.fetch_schedule.new.folder)
+    fetched_third (told c.args.folder.now) (told c.fetch_flow.new.folder) (text_names_in c.args.words.now) c.in_ok-flow.flow c.in_ok-batches.batches (count c.args.folder.now) (count c.fetch_flow.new.folder) (count c.fetch_inputs.new.folder) (count c.fetch_schedule.new.folder)
     c.fetch_flow.ensures.texts_stay c.in_ok-flow.ensures.flow c.in_ok-batches.ensures.batches c.fetch_flow.ensures.counted c.fetch_inputs.ensures.counted c.fetch_schedule.ensures.counted
 
 pub returns-clause-in_turn : goal.returns-clause-in_turn
 returns-clause-in_turn g c =
     let count = g.F.Folder.fetch_count in
     let told = g.F.Folder.texts in
-    fetched_third (told c.args.folder.now) (told c.fetch_flow.new.folder) (names_in c.args.words.now) c.in_ok-flow.flow c.in_ok-batches.batches (count c.args.folder.now) (count c.fetch_flow.new.folder) (count c.fetch_inputs.new.folder) (count c.fetch_schedule.new.folder)
+    fetched_third (told c.args.folder.now) (told c.fetch_flow.new.folder) (text_names_in c.args.words.now) c.in_ok-flow.flow c.in_ok-batches.batches (count c.args.folder.now) (count c.fetch_flow.new.folder) (count c.fetch_inputs.new.folder) (count c.fetch_schedule.new.folder)
     c.fetch_flow.ensures.texts_stay c.in_ok-flow.ensures.flow c.in_ok-batches.ensures.batches c.fetch_flow.ensures.counted c.fetch_inputs.ensures.counted c.fetch_schedule.ensures.counted

@@ -1,7 +1,7 @@
 use Rattle.fw_run.proofs.HeadlineLaws.{ready_job, same_refusal}
 use Rattle.std.proofs.Common.{subst}
 use Rattle.fw_run.specs.Texts.{IsFirstRefusal, AreFetchedInTurn}
-use Rattle.fw_run.specs.Words.{names_of, words_in}
+use Rattle.fw_run.specs.Words.{text_names_of, words_in}
 use Rattle.fw_run.proofs.run.run.Goals as goal
 
 pub perform-requires : goal.perform-requires
@@ -12,7 +12,7 @@ returns-in-Err-Refused-clause-refused g c refusal e =
     let told = g.F.Folder.texts c.args.folder.now in
     let first = rw c.in-Err-Refused.field-0-is at c.in-Err-Refused.ensures.refused in
     let one = rw c.in-Err-Refused.field-0-is at e in
-    same_refusal (IsFirstRefusal told (names_of (words_in c.args.words.now))) c.in-Err-Refused.refusal refusal one (subst (λ names. IsFirstRefusal told names c.in-Err-Refused.refusal) c.in-Some.ensures.names first)
+    same_refusal (IsFirstRefusal told (text_names_of (words_in c.args.words.now))) c.in-Err-Refused.refusal refusal one (subst (λ names. IsFirstRefusal told names c.in-Err-Refused.refusal) c.in-Some.ensures.names first)
 
 pub returns-in-Err-Failed-perform-clause-in_turn : goal.returns-in-Err-Failed-perform-clause-in_turn
 returns-in-Err-Failed-perform-clause-in_turn g c =

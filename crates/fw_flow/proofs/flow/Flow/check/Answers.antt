@@ -1,7 +1,7 @@
 use Rattle.std.proofs.Common.{sym, subst, rules}
 use Rattle.fw_lines.specs.declared.refusal.Code.TheVariants.{F3}
 use Rattle.fw_lines.specs.Faults.{IfRefused}
-use Rattle.fw_flow.specs.Check.{NamesTheDeclared, StaysWithinLimits, IsFirstBreakIfAny, IsFirstBroken, all_lines, Holds, IsChecked}
+use Rattle.fw_flow.specs.Check.{NamesTheDeclared, StaysWithinLimits, IsFirstBreakIfAny, IsFirstBroken, all_lines, KeepsRule, IsChecked}
 use Rattle.fw_flow.specs.Draft.{LaterRulesHold}
 use Rattle.fw_flow.specs.WellFormed.{IsWellFormed}
 use Rattle.fw_flow.proofs.Drafts.{holds_if_none, IsFirstBroken-from_later, well_formed_draft, flow_of_draft, IsIndexed-from_draft}
@@ -10,7 +10,7 @@ use Rattle.fw_flow.proofs.flow.Flow.check.Goals as goal
 pub returns-in_err-test-clause-checked : goal.returns-in_err-test-clause-checked
 returns-in_err-test-clause-checked c =
     let raw = c.raw.inside.declared.items in
-    let names : Holds raw F3 = subst (λ ds. Holds ds F3) c.deref.ensures.value
+    let names : KeepsRule raw F3 = subst (λ ds. KeepsRule ds F3) c.deref.ensures.value
     (holds_if_none (NamesTheDeclared c.deref.result.now) (all_lines c.deref.result.now) c.undeclared_line.result c.in_ok-refuse.ensures.kept c.undeclared_line.ensures) in
     let limits : IsFirstBreakIfAny (StaysWithinLimits raw) (all_lines raw) c.limit_line-limit_line.result =
     subst (λ ds. IsFirstBreakIfAny (StaysWithinLimits ds) (all_lines ds) c.limit_line-limit_line.result) c.deref-2.ensures.value c.limit_line-limit_line.ensures in
@@ -22,7 +22,7 @@ returns-in_err-test-clause-checked c =
 pub invariant_of-result : goal.invariant_of-result
 invariant_of-result c =
     let raw = c.raw.inside.declared.items in
-    let names : Holds raw F3 = subst (λ ds. Holds ds F3) c.deref.ensures.value
+    let names : KeepsRule raw F3 = subst (λ ds. KeepsRule ds F3) c.deref.ensures.value
     (holds_if_none (NamesTheDeclared c.deref.result.now) (all_lines c.deref.result.now) c.undeclared_line.result c.in_ok-refuse.ensures.kept c.undeclared_line.ensures) in
     let limits : IsFirstBreakIfAny (StaysWithinLimits raw) (all_lines raw) c.limit_line-limit_line.result =
     subst (λ ds. IsFirstBreakIfAny (StaysWithinLimits ds) (all_lines ds) c.limit_line-limit_line.result) c.deref-2.ensures.value c.limit_line-limit_line.ensures in
@@ -32,7 +32,7 @@ invariant_of-result c =
 pub returns-clause-checked : goal.returns-clause-checked
 returns-clause-checked c =
     let raw = c.raw.inside.declared.items in
-    let names : Holds raw F3 = subst (λ ds. Holds ds F3) c.deref.ensures.value
+    let names : KeepsRule raw F3 = subst (λ ds. KeepsRule ds F3) c.deref.ensures.value
     (holds_if_none (NamesTheDeclared c.deref.result.now) (all_lines c.deref.result.now) c.undeclared_line.result c.in_ok-refuse.ensures.kept c.undeclared_line.ensures) in
     let limits : IsFirstBreakIfAny (StaysWithinLimits raw) (all_lines raw) c.limit_line-limit_line.result =
     subst (λ ds. IsFirstBreakIfAny (StaysWithinLimits ds) (all_lines ds) c.limit_line-limit_line.result) c.deref-2.ensures.value c.limit_line-limit_line.ensures in
@@ -45,7 +45,7 @@ returns-clause-checked c =
 pub returns-clause-well_formed : goal.returns-clause-well_formed
 returns-clause-well_formed c =
     let raw = c.raw.inside.declared.items in
-    let names : Holds raw F3 = subst (λ ds. Holds ds F3) c.deref.ensures.value
+    let names : KeepsRule raw F3 = subst (λ ds. KeepsRule ds F3) c.deref.ensures.value
     (holds_if_none (NamesTheDeclared c.deref.result.now) (all_lines c.deref.result.now) c.undeclared_line.result c.in_ok-refuse.ensures.kept c.undeclared_line.ensures) in
     let limits : IsFirstBreakIfAny (StaysWithinLimits raw) (all_lines raw) c.limit_line-limit_line.result =
     subst (λ ds. IsFirstBreakIfAny (StaysWithinLimits ds) (all_lines ds) c.limit_line-limit_line.result) c.deref-2.ensures.value c.limit_line-limit_line.ensures in

@@ -33,8 +33,8 @@ returns-in_err-x c =
     (sym c.from_residual-in_err-x.ensures)
     (may_acknowledge_none was (system_of e.flow e.batches) (state_of e.flow e.history e.settled.items e.failed.items e.bounds.items) e.refused o c.self.view_is not_fits)
 
-pub returns-then-is_there : goal.returns-then-is_there
-returns-then-is_there c =
+pub returns-then-has_something_at : goal.returns-then-has_something_at
+returns-then-has_something_at c =
     let e = c.self.inside in
     let was = c.args.self.now in
     let o = c.args.output in
@@ -45,4 +45,4 @@ returns-then-is_there c =
     (fits-same c.try_from.result (n < 2 ^ 32) n x c.try_from.ensures c.in_ok-x.ensures.value ∙ at.1)
     (ap is_output_kind (sym c.kind.ensures) ∙ sym c.is_output.ensures ∙ c.if-is_output.true)
     (sym (sym c.if-not-is_failed.true ∙ c.is_failed.ensures ∙ ap (λ (fs : List Bool). slice_index_or fs o false) c.deref-then-is_output.ensures.value))
-    (sym c.is_settled.ensures ∙ c.if-is_settled.true) (c.is_there.ensures.0 c.if-is_there.true)
+    (sym c.is_settled.ensures ∙ c.if-is_settled.true) (c.has_something_at.ensures.0 c.if-has_something_at.true)

@@ -1,120 +1,34 @@
 -- The calls keep a list of outside stamps canonical.
-use Rattle.std.proofs.Common.{◌≡◌, ℕ, Bool, true, false, not, ◌||◌, cond, List, [], ◌∷◌, length, refl, sym, ◌∙◌, subst, filter, zero, suc, nat_lt, nat_le, ◌<◌, get_or, ap, arith}
+use Rattle.std.proofs.Common.{◌≡◌, ℕ, Bool, true, false, cond, List, [], ◌∷◌, length, refl, sym, ◌∙◌, zero, suc, nat_lt, nat_le, ◌<◌, get_or, ap, arith}
 use Rattle.std.proofs.lemmas.Bool.Decides.{nat_tests}
 use Rattle.std.specs.List.{AllByRecursion}
-use Rattle.std.specs.Ordering.{is_lt}
 use Rattle.fw_time.specs.declared.stamp.Bounds.{Bounds}
-use Rattle.fw_time.specs.Stamp.{leq, lub, stamp_cmp, raised, in_domain}
-use Rattle.fw_time.proofs.StampLaws.{leq-refl, leq-length, lub-least, leq-raised, before-trans, before-total, and_left, and_right, both}
-use Rattle.fw_frontier.specs.Front.{inside, IsCanonical, all_in_domain}
-use Rattle.fw_frontier.specs.Outside.{placed, excluding, excluding_all, excluding_lubs, excluding_pairs, below_at}
+use Rattle.fw_time.specs.Stamp.{leq, lub, raised, in_domain}
+use Rattle.fw_time.proofs.StampLaws.{leq-length, lub-least, leq-raised, and_left, and_right, both}
+use Rattle.fw_frontier.specs.Front.{IsCanonical, all_in_domain}
+use Rattle.fw_frontier.specs.Outside.{excluding, excluding_all, below_at}
 use Rattle.fw_frontier.proofs.GenericLaws.{each-at}
+use Rattle.fw_frontier.proofs.AntichainLaws.{IsAntichain, all-map, all-excluding, antichain-excluding}
+use Rattle.fw_frontier.proofs.Pairs.{excluding_lubs, excluding_pairs}
 
-apart : List ℕ → List ℕ → Type 0
-apart o q = (leq o q || leq q o) ≡ false
+-- a canonical list is an antichain of a domain's stamps
+pub antichain-canonical : (b : Bounds) (os : List (List ℕ)) → IsCanonical b os → IsAntichain os
+antichain-canonical b [] h = tt
+antichain-canonical b (o ∷ os) h = (record { ascending = h.0.ascending; incomparable = h.0.incomparable }, antichain-canonical b os h.1)
 
--- what holds of each stamp holds of each after a stamp is put among them
-all-placed : (P : List ℕ → Type 0) (s : List ℕ) (os : List (List ℕ)) → P s → AllByRecursion P os → AllByRecursion P (placed s os)
-all-placed P s [] h k = (h, tt)
-all-placed P s (o ∷ os) h k = by (is_lt (stamp_cmp s o)) (all-placed P s os h k.1)
-  where
-    by : (b : Bool) → AllByRecursion P (placed s os) → AllByRecursion P (cond b (s ∷ o ∷ os) (o ∷ placed s os))
-    by true r = (h, (k.0, k.1))
-    by false r = (k.0, r)
+pub canonical-antichain : (b : Bounds) (os : List (List ℕ)) → AllByRecursion (λ o. in_domain b o ≡ true) os → IsAntichain os → IsCanonical b os
+canonical-antichain b [] d h = tt
+canonical-antichain b (o ∷ os) d h = (record { in_the_domain = d.0; ascending = h.0.ascending; incomparable = h.0.incomparable }, canonical-antichain b os d.1 h.1)
 
--- and of those that a test keeps
-all-filter : (P : List ℕ → Type 0) (p : List ℕ → Bool) (os : List (List ℕ)) → AllByRecursion P os → AllByRecursion P (filter p os)
-all-filter P p [] h = tt
-all-filter P p (o ∷ os) h = by (p o) (all-filter P p os h.1)
-  where
-    by : (b : Bool) → AllByRecursion P (filter p os) → AllByRecursion P (cond b (o ∷ filter p os) (filter p os))
-    by true r = (h.0, r)
-    by false r = r
-
--- each of a list's stamps follows from a fact on it
-all-map : (P Q : List ℕ → Type 0) (f : (o : List ℕ) → P o → Q o) (os : List (List ℕ)) → AllByRecursion P os → AllByRecursion Q os
-all-map P Q f [] h = tt
-all-map P Q f (o ∷ os) h = (f o h.0, all-map P Q f os h.1)
-
-canonical-filter : (b : Bounds) (p : List ℕ → Bool) (os : List (List ℕ)) → IsCanonical b os → IsCanonical b (filter p os)
-canonical-filter b p [] h = tt
-canonical-filter b p (o ∷ os) h = by (p o) (canonical-filter b p os h.1)
-  where
-    by : (c : Bool) → IsCanonical b (filter p os) → IsCanonical b (cond c (o ∷ filter p os) (filter p os))
-    by true r = (
-      record {
-        in_the_domain = h.0.in_the_domain;
-        ascending = all-filter (λ q. is_lt (stamp_cmp o q) ≡ true) p os h.0.ascending;
-        incomparable = all-filter (λ q. (leq o q || leq q o) ≡ false) p os h.0.incomparable;
-      },
-      r,
-    )
-    by false r = r
-
-or-swap : (a b : Bool) → (a || b) ≡ false → (b || a) ≡ false
-or-swap true b h = cc
-or-swap false true h = cc
-or-swap false false h = refl
-
-canonical-placed : (b : Bounds) (s : List ℕ) (os : List (List ℕ)) → in_domain b s ≡ true → AllByRecursion (λ q. (leq s q || leq q s) ≡ false) os → IsCanonical b os → IsCanonical b (placed s os)
-canonical-placed b s [] h k l = (record { in_the_domain = h; ascending = tt; incomparable = tt }, tt)
-canonical-placed b s (o ∷ os) h k l = by (is_lt (stamp_cmp s o)) refl (canonical-placed b s os h k.1 l.1)
-  where
-    no : false ≡ true → ⊥
-    no e = cc
-
-    distinct : o ≡ s → ⊥
-    distinct e = let P : List ℕ → Type 0 = λ u. (leq s u || leq u s) ≡ false in
-        let f = subst P e k.0 in
-        no (sym f ∙ same (leq s s) (leq-refl s))
-      where
-        same : (c : Bool) → c ≡ true → (c || c) ≡ true
-        same c e = cc
-
-    other : (c : Bool) → is_lt (stamp_cmp o s) ≡ c → is_lt (stamp_cmp s o) ≡ false → is_lt (stamp_cmp o s) ≡ true
-    other true e f = e
-    other false e f = absurd (distinct (before-total o s e f))
-
-    by : (c : Bool) → is_lt (stamp_cmp s o) ≡ c → IsCanonical b (placed s os) → IsCanonical b (cond c (s ∷ o ∷ os) (o ∷ placed s os))
-    by true e r = (
-      record {
-        in_the_domain = h;
-        ascending = (e, all-map (λ q. is_lt (stamp_cmp o q) ≡ true) (λ q. is_lt (stamp_cmp s q) ≡ true) (λ q m. before-trans s o q e m) os l.0.ascending);
-        incomparable = k;
-      },
-      l,
-    )
-    by false e r = (
-      record {
-        in_the_domain = l.0.in_the_domain;
-        ascending = all-placed (λ q. is_lt (stamp_cmp o q) ≡ true) s os (other (is_lt (stamp_cmp o s)) refl e) l.0.ascending;
-        incomparable = all-placed (λ q. (leq o q || leq q o) ≡ false) s os (or-swap (leq s o) (leq o s) k.0) l.0.incomparable;
-      },
-      r,
-    )
-
--- what is left after the greater ones are gone is not comparable with a stamp that was inside
-apart-filter : (s : List ℕ) (os : List (List ℕ)) → inside os s ≡ true → AllByRecursion (λ q. (leq s q || leq q s) ≡ false) (filter (λ o. not (leq s o)) os)
-apart-filter s [] h = tt
-apart-filter s (o ∷ os) h = by (leq s o) refl (apart-filter s os (and_right _ _ h))
-  where
-    none : (c d : Bool) → c ≡ false → not d ≡ true → (c || d) ≡ false
-    none true d e f = cc
-    none false true e f = cc
-    none false false e f = refl
-
-    by : (c : Bool) → leq s o ≡ c → AllByRecursion (λ q. (leq s q || leq q s) ≡ false) (filter (λ o. not (leq s o)) os) → AllByRecursion (λ q. (leq s q || leq q s) ≡ false) (cond (not c) (o ∷ filter (λ o. not (leq s o)) os) (filter (λ o. not (leq s o)) os))
-    by true e r = r
-    by false e r = (none (leq s o) (leq o s) e (and_left _ _ h), r)
+-- the stamps of a canonical list are the domain's
+pub in_domain-canonical : (b : Bounds) (os : List (List ℕ)) → IsCanonical b os → AllByRecursion (λ o. in_domain b o ≡ true) os
+in_domain-canonical b [] h = tt
+in_domain-canonical b (o ∷ os) h = (h.0.in_the_domain, in_domain-canonical b os h.1)
 
 -- a stamp more is outside
 pub canonical-excluding : (b : Bounds) (s : List ℕ) (os : List (List ℕ)) → in_domain b s ≡ true → IsCanonical b os → IsCanonical b (excluding s os)
-unfolding excluding
-canonical-excluding b s os h k = by (inside os s) refl
-  where
-    by : (c : Bool) → inside os s ≡ c → IsCanonical b (cond c (placed s (filter (λ o. not (leq s o)) os)) os)
-    by true e = canonical-placed b s (filter (λ o. not (leq s o)) os) h (apart-filter s os e) (canonical-filter b (λ o. not (leq s o)) os k)
-    by false e = k
+canonical-excluding b s os h k =
+    canonical-antichain b (excluding s os) (all-excluding (λ o. in_domain b o ≡ true) s os h (in_domain-canonical b os k)) (antichain-excluding s os (antichain-canonical b os k))
 
 -- these stamps more are outside
 pub canonical-excluding_all : (b : Bounds) (ss os : List (List ℕ)) → AllByRecursion (λ s. in_domain b s ≡ true) ss → IsCanonical b os → IsCanonical b (excluding_all ss os)
@@ -129,11 +43,6 @@ canonical-excluding_lubs b s (p ∷ ps) os h k l =
 pub canonical-excluding_pairs : (b : Bounds) (ss ps os : List (List ℕ)) → AllByRecursion (λ s. in_domain b s ≡ true) ss → AllByRecursion (λ p. in_domain b p ≡ true) ps → IsCanonical b os → IsCanonical b (excluding_pairs ss ps os)
 canonical-excluding_pairs b [] ps os h k l = l
 canonical-excluding_pairs b (s ∷ ss) ps os h k l = canonical-excluding_pairs b ss ps (excluding_lubs s ps os) h.1 k (canonical-excluding_lubs b s ps os h.0 k l)
-
--- the stamps of a canonical list are the domain's
-pub in_domain-canonical : (b : Bounds) (os : List (List ℕ)) → IsCanonical b os → AllByRecursion (λ o. in_domain b o ≡ true) os
-in_domain-canonical b [] h = tt
-in_domain-canonical b (o ∷ os) h = (h.0.in_the_domain, in_domain-canonical b os h.1)
 
 -- a stamp at a place of a list of a domain's stamps is the domain's
 pub in_domain-at : (b : Bounds) (ss : List (List ℕ)) (i : ℕ) (s : List ℕ) → i < length ss → s ≡ get_or ss i s → AllByRecursion (λ s. in_domain b s ≡ true) ss → in_domain b s ≡ true

@@ -6,7 +6,8 @@ use Rattle.std.specs.Ordering.{is_lt}
 use Rattle.fw_time.specs.Stamp.{leq, lub, stamp_cmp, raised}
 use Rattle.fw_time.proofs.StampLaws.{leq-trans, leq-lub, leq-length, leq-raised, and_left, and_right, both}
 use Rattle.fw_frontier.specs.Front.{inside}
-use Rattle.fw_frontier.specs.Outside.{place, placed, excluding, excluding_all, excluding_lubs, excluding_pairs, below_at}
+use Rattle.fw_frontier.specs.Outside.{place, placed, excluding, excluding_all, below_at}
+use Rattle.fw_frontier.proofs.Pairs.{excluding_lubs, excluding_pairs}
 
 -- with a stamp each lesser one is inside
 pub inside-closed : (os : List (List ℕ)) (s t : List ℕ) → leq s t ≡ true → inside os t ≡ true → inside os s ≡ true

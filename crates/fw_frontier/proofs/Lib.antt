@@ -1,4 +1,6 @@
+pub mod Pairs
 pub mod InsideLaws
+pub mod AntichainLaws
 pub mod CanonicalLaws
 pub mod NamesLaws
 pub mod TextLaws
@@ -10,3 +12,4 @@ pub mod JoinLaws
 pub mod CornerLaws
 pub mod PlaneSteps
 pub mod PlaneLaws
+pub mod LeastLaws

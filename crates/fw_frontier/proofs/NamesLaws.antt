@@ -8,10 +8,11 @@ use Rattle.fw_time.specs.Stamp.{leq, stamp_cmp, origin, in_domain}
 use Rattle.fw_time.proofs.StampLaws.{leq-refl, leq-antisym, leq-length, origin-leq, before-leq, before-trans, before-irrefl, and_left, and_right, both}
 use Rattle.fw_frontier.specs.Frontier.{nothing, everything, meet, join, cover, some_above, without_above, Within, IsFrontier}
 use Rattle.fw_frontier.specs.Front.{inside, frontier_of, IsCanonical, IsLeastBefore, Names}
-use Rattle.fw_frontier.specs.Outside.{excluding, excluding_all, excluding_pairs, below_at, none_inside}
+use Rattle.fw_frontier.specs.Outside.{excluding, excluding_all, below_at, none_inside}
 use Rattle.fw_frontier.proofs.InsideLaws.{inside-closed, inside-excluding, inside-excluding_all, inside-excluding_pairs, inside-below_at}
 use Rattle.fw_frontier.proofs.CanonicalLaws.{canonical-excluding, canonical-excluding_all, canonical-excluding_pairs, canonical-below_at, in_domain-canonical, lengths}
 use Rattle.fw_frontier.proofs.GenericLaws.{some_above_more}
+use Rattle.fw_frontier.proofs.Pairs.{excluding_pairs}
 
 -- the list without stamps names all of the domain
 pub names-all : (b : Bounds) → Names b [] (everything b)

@@ -15,14 +15,15 @@ use Rattle.fw_frontier.specs.declared.planes.Point.{Point}
 use Rattle.fw_frontier.specs.declared.planes.TheConstants.{PLANES}
 use Rattle.fw_frontier.specs.Front.{inside, frontier_of, IsCanonical, Names}
 use Rattle.fw_frontier.specs.Frontier.{join}
-use Rattle.fw_frontier.specs.Outside.{excluding_pairs}
 use Rattle.fw_frontier.specs.Planes.{point_of, is_before, reaches, both_reach, is_least, is_least_along, bounds_with, all_bounds, plane_bounds, planes_bounds, HaveSame}
 use Rattle.fw_frontier.proofs.GenericLaws.{each-at}
 use Rattle.fw_frontier.proofs.InsideLaws.{inside-above, leq-at}
-use Rattle.fw_frontier.proofs.CanonicalLaws.{in_domain-canonical}
+use Rattle.fw_frontier.proofs.AntichainLaws.{antichain-at}
+use Rattle.fw_frontier.proofs.CanonicalLaws.{in_domain-canonical, antichain-canonical}
 use Rattle.fw_frontier.proofs.NamesLaws.{names-join, all-outside}
 use Rattle.fw_frontier.proofs.JoinLaws.{found}
 use Rattle.fw_frontier.proofs.CornerLaws.{no, below, to_below}
+use Rattle.fw_frontier.proofs.Pairs.{excluding_pairs}
 
 -- ---- a stamp and the places of a plane
 
@@ -528,21 +529,6 @@ planes_bounds-has b ss ps t four h k least = by (side-of s p t (at 0) (at 1) (at
 
 -- ---- under each bound there is a least one
 
-antichain : (b : Bounds) (os : List (List ℕ)) (i j : ℕ) → IsCanonical b os → i < length os → j < length os → leq (get_or os i []) (get_or os j []) ≡ true → get_or os i [] ≡ get_or os j []
-antichain b [] i j h l m e = absurd (omega arith)
-antichain b (o ∷ os) zero zero h l m e = refl
-antichain b (o ∷ os) zero (suc j) h l m e = by (leq o (get_or os j [])) (leq (get_or os j []) o) e (each-at (λ q. (leq o q || leq q o) ≡ false) os j [] (omega arith) h.0.incomparable)
-  where
-    by : {A : Type 0} (c d : Bool) → c ≡ true → (c || d) ≡ false → A
-    by true d e f = no (sym f)
-    by false d e f = no e
-antichain b (o ∷ os) (suc i) zero h l m e = by (leq o (get_or os i [])) (leq (get_or os i []) o) e (each-at (λ q. (leq o q || leq q o) ≡ false) os i [] (omega arith) h.0.incomparable)
-  where
-    by : {A : Type 0} (c d : Bool) → d ≡ true → (c || d) ≡ false → A
-    by true d e f = no (sym f)
-    by false d e f = no (sym f ∙ e)
-antichain b (o ∷ os) (suc i) (suc j) h l m e = antichain b os i j h.1 (omega arith) (omega arith) e
-
 least-under : (b : Bounds) (ss ps : List (List ℕ)) (t : List ℕ) → InDomain b ss → InDomain b ps → IsBound b ss ps t → (u : List ℕ) × (IsLeastBound b ss ps u × (leq u t ≡ true))
 unfolding InDomain
 least-under b ss ps t h k bound = (u, (record { bound = under; least = smallest }, w.1.1))
@@ -581,7 +567,7 @@ least-under b ss ps t h k bound = (u, (record { bound = under; least = smallest 
     smallest : (v : List ℕ) → IsBound b ss ps v → leq v u ≡ true → v ≡ u
     smallest v m l =
         let x = found os v (outside v m) in
-        let e : get_or os x.0 [] ≡ u = antichain b os x.0 w.0 named.canonical x.1.0 w.1.0 (leq-trans (get_or os x.0 []) v u x.1.1 l) in
+        let e : get_or os x.0 [] ≡ u = antichain-at os x.0 w.0 (antichain-canonical b os named.canonical) x.1.0 w.1.0 (leq-trans (get_or os x.0 []) v u x.1.1 l) in
         leq-antisym v u l (ap (λ s. leq s v) (sym e) ∙ x.1.1)
 
 -- ---- the names

@@ -1,5 +1,6 @@
 pub mod Frontier
 pub mod Front
+pub mod Least
 pub mod Outside
 pub mod FrontText
 pub mod Below

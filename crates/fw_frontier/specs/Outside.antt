@@ -23,16 +23,6 @@ abbrev pub excluding_all : Front → Front → Front
 excluding_all [] os = os
 excluding_all (s ∷ ss) os = excluding_all ss (excluding s os)
 
--- what is at least a stamp and one of the list is outside too
-abbrev pub excluding_lubs : Stamp → Front → Front → Front
-excluding_lubs s [] os = os
-excluding_lubs s (p ∷ ps) os = excluding_lubs s ps (excluding (lub s p) os)
-
--- what is at least one of either list is outside too
-abbrev pub excluding_pairs : Front → Front → Front → Front
-excluding_pairs [] ps os = os
-excluding_pairs (s ∷ ss) ps os = excluding_pairs ss ps (excluding_lubs s ps os)
-
 -- at how many places the second stamp is greater
 abbrev pub rises : Stamp → Stamp → ℕ
 rises [] t = 0

@@ -1,11 +1,11 @@
 //! The frontier of any domain, by its least outside stamps.
-ghost use Rattle.std.specs.Prelude.{◌≡◌, ◌↔◌, true, [], IsTrue, IsSome, IfSome, IfOk};
+ghost use Rattle.std.specs.Prelude.{◌≡◌, ◌↔◌, ◌&&◌, ◌++◌, ℕ, List, true, not, [], ◌∷◌, IsTrue, IsSome, IfSome, IfOk};
 ghost use Rattle.std.specs.List.{AllByRecursion};
 ghost use Rattle.fw_time.specs.declared.stamp.Bounds.{Bounds as Domain};
-ghost use Rattle.fw_time.specs.Stamp.{in_domain};
+ghost use Rattle.fw_time.specs.Stamp.{leq, in_domain};
 ghost use Rattle.fw_frontier.specs.Frontier.{nothing, meet, join, cover, without_above, Within};
 ghost use Rattle.fw_frontier.specs.Front.{inside, frontier_of, IsCanonical, Names};
-ghost use Rattle.fw_frontier.specs.Outside.{excluding, excluding_all};
+ghost use Rattle.fw_frontier.specs.Least.{AreLeastOf};
 
 use crate::outside;
 use fw_time::{Bounds, Stamp};
@@ -17,8 +17,9 @@ use std::marker::Model;
 /// where there is none.
 ///
 /// It does not hold the bounds of its domain. `until`, `meet` and `cut_above` name what they say for each domain that has the
-/// stamps; whatever the stamps are, each new outside stamp takes the place of those that it is at most, and is left out
-/// where an outside one is at most it. `join` and `cover_of` speak of stamps of one domain alone.
+/// stamps. Whatever the stamps are, the list of `until` has the least of them, and so do those of `meet` and `cut_above`
+/// of all that are to be outside, from a front whose list has the least of its own. `join` and `cover_of` speak of stamps
+/// of one domain alone; there all lists have the least of their own.
 ///
 /// The calls that make a frontier need memory for its outside stamps, and fail where memory is refused.
 #[derive(Debug, Drop)]
@@ -57,7 +58,7 @@ impl Front {
     pub fn until(alloc: Global, stamps: &[Stamp]) -> Result<Self, AllocError>
         ensures names { (bounds : Domain) → AllByRecursion (λ s. in_domain bounds s ≡ true) stamps.now
             → IfOk result (λ f. Names bounds f (frontier_of bounds stamps.now)) }
-        ensures list { IfOk result (λ f. f ≡ excluding_all stamps.now []) }
+        ensures list { IfOk result (λ f. AreLeastOf stamps.now f) }
     {
         let mut outside = Vec::new(alloc);
         outside::exclude_all(&mut outside, stamps)?;
@@ -134,7 +135,10 @@ impl Front {
         ensures names { (bounds : Domain) → IsCanonical bounds self.now → IsCanonical bounds other.now
             → IfOk result (λ f. Names bounds f
             (meet (frontier_of bounds self.now) (frontier_of bounds other.now))) }
-        ensures list { IfOk result (λ f. f ≡ excluding_all other.now self.now) }
+        ensures inside { IfOk result
+            (λ f. (t : List ℕ) → inside f t ≡ (inside self.now t && inside other.now t)) }
+        ensures list { AreLeastOf self.now self.now
+            → IfOk result (λ f. AreLeastOf (self.now ++ other.now) f) }
     {
         let mut outside = outside::copied(*self.outside.allocator(), &self.outside)?;
         outside::exclude_all(&mut outside, &other.outside)?;
@@ -155,7 +159,10 @@ impl Front {
     pub fn cut_above(&self, t: &Stamp) -> Result<Self, AllocError>
         ensures names { (bounds : Domain) → IsCanonical bounds self.now → in_domain bounds t.now ≡ true
             → IfOk result (λ f. Names bounds f (without_above t.now (frontier_of bounds self.now))) }
-        ensures list { IfOk result (λ f. f ≡ excluding t.now self.now) }
+        ensures inside { IfOk result
+            (λ f. (u : List ℕ) → inside f u ≡ (inside self.now u && not (leq t.now u))) }
+        ensures list { AreLeastOf self.now self.now
+            → IfOk result (λ f. AreLeastOf (t.now ∷ self.now) f) }
     {
         let mut outside = outside::copied(*self.outside.allocator(), &self.outside)?;
         outside::exclude(&mut outside, t.copy())?;

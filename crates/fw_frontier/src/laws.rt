@@ -6,6 +6,7 @@ ghost use Rattle.fw_time.specs.declared.stamp.Bounds.{Bounds as Domain};
 ghost use Rattle.fw_time.specs.Stamp.{leq, glb, in_domain};
 ghost use Rattle.fw_frontier.specs.Frontier.{IsFrontier, Within, some_above, without_above};
 ghost use Rattle.fw_frontier.specs.Front.{inside, frontier_of, IsCanonical, Names};
+ghost use Rattle.fw_frontier.specs.Least.{AreLeastOf};
 ghost use Rattle.fw_frontier.specs.Domain.{IsOfDomain};
 
 use crate::{Frontier, Logical};
@@ -14,6 +15,28 @@ use crate::{Frontier, Logical};
 pub fn one_list_names_a_frontier()
     ensures { (bounds : Domain) (xs ys : List (List ℕ)) (f : List ℕ → Bool)
         → Names bounds xs f → Names bounds ys f → xs ≡ ys }
+{}
+
+/// Only one list has the least of some stamps.
+pub fn least_stamps_are_one_list()
+    ensures { (ss xs ys : List (List ℕ)) → AreLeastOf ss xs → AreLeastOf ss ys → xs ≡ ys }
+{}
+
+/// The least of some stamps have the same stamps inside as these.
+pub fn least_stamps_decide()
+    ensures { (ss os : List (List ℕ)) (t : List ℕ) → AreLeastOf ss os → inside os t ≡ inside ss t }
+{}
+
+/// A list that has the least of some stamps has the least of its own.
+pub fn least_stamps_stay()
+    ensures { (ss os : List (List ℕ)) → AreLeastOf ss os → AreLeastOf os os }
+{}
+
+/// The lists that name frontiers are those that have the least of some stamps of the domain.
+pub fn canonical_lists_are_least()
+    ensures least { (bounds : Domain) (os : List (List ℕ)) → IsCanonical bounds os → AreLeastOf os os }
+    ensures canonical { (bounds : Domain) (ss os : List (List ℕ))
+        → AllByRecursion (λ s. in_domain bounds s ≡ true) ss → AreLeastOf ss os → IsCanonical bounds os }
 {}
 
 /// What a front has inside is a frontier.

@@ -206,7 +206,9 @@ impl Around {
     }
 }
 
-// Adds those least upper bounds of `s` and one of the stamps that lie in the plane through `s`, if no bound is lesser.
+// Pushes the least upper bounds of `s` with each of the stamps, of those that lie in the plane through `s` the least
+// ones: with one less at any place, such a bound would not be at least one of each list. The union's list has the least
+// alone, and to leave the others out here spares comparing all bounds with each other.
 fn push_bounds(
     found: &mut Vec<Stamp>,
     s: &Stamp,

@@ -76,7 +76,7 @@ pub(crate) fn takes_its_notes(kind: Kind, policy: Policy) -> bool
     ensures { result ≡ model.takes_its_notes kind policy }
 {
     match policy {
-        Policy::None => matches!(kind, Kind::Sum { .. } | Kind::Total | Kind::Sequence),
+        Policy::None => kind.is_notified(),
         Policy::Lazy => false,
         Policy::Logged => false,
         Policy::Eager => false,

@@ -168,6 +168,11 @@ is_output_kind OutputEpoch = true
 is_output_kind OutputNumber = true
 is_output_kind kind = false
 
+-- whether the node is a sequence: it numbers what it sends
+abbrev pub is_sequence_kind : Kind → Bool
+is_sequence_kind Sequence = true
+is_sequence_kind kind = false
+
 -- whether a domain is that of numbers
 abbrev pub is_of_numbers : Domain → Bool
 is_of_numbers Epoch = false

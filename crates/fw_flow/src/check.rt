@@ -299,13 +299,13 @@ pub(crate) fn has_borders(nodes: &[Node]) -> bool
 fn has_input(nodes: &[Node]) -> bool
     ensures { result ≡ list_any (λ node. is_input_kind node.kind) nodes.now }
 {
-    nodes.iter().any(|node| matches!(node.kind, Kind::Input))
+    nodes.iter().any(|node| node.kind.is_input())
 }
 
 fn has_output(nodes: &[Node]) -> bool
     ensures { result ≡ list_any (λ node. is_output_kind node.kind) nodes.now }
 {
-    nodes.iter().any(|node| matches!(node.kind, Kind::OutputEpoch | Kind::OutputNumber))
+    nodes.iter().any(|node| node.kind.is_output())
 }
 
 /// The links of the edges, in order.

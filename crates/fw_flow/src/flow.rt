@@ -1,7 +1,7 @@
 //! A well-formed dataflow, and what is looked up in it.
 ghost use Rattle.std.specs.Prelude.{◌≡◌, ◌<◌, length, map, MatchResult, IfOk};
 ghost use Rattle.fw_lines.specs.Faults.{IfRefused};
-ghost use Rattle.fw_flow.specs.Dataflow.{kind_of, policy_of, sender, receiver, in_edges, out_edges, domain_of, out_domain_of, bounds_of, max_of, node_at};
+ghost use Rattle.fw_flow.specs.Dataflow.{kind_of, policy_of, sender, receiver, in_edges, out_edges, domain_of, bounds_of, max_of, node_at};
 ghost use Rattle.fw_flow.specs.WellFormed.{IsWellFormed};
 ghost use Rattle.fw_flow.specs.Names.{place_of};
 ghost use Rattle.fw_flow.specs.Check.{IsChecked, IsFirstBroken};
@@ -83,13 +83,6 @@ impl Flow {
         ensures { result ≡ domain_of self.now node }
     {
         self.kind(node).domain()
-    }
-
-    /// The domain of a node's messages, by its word; that of epochs past the last node.
-    pub fn out_domain_word(&self, node: NodeId) -> Domain
-        ensures { result ≡ out_domain_of self.now node }
-    {
-        self.kind(node).out_domain()
     }
 
     /// The bounds of the domain of a node's events; those of epochs past the last node.

@@ -1,6 +1,7 @@
 //! What a node does, at which times, and how it is restored.
 ghost use Rattle.std.specs.Prelude.{◌≡◌};
-ghost use Rattle.fw_flow.specs.Dataflow.{Dataflow, domain_within, domain_of_kind, out_domain_of_kind};
+ghost use Rattle.fw_flow.specs.Dataflow.{Dataflow, domain_within, domain_of_kind, out_domain_of_kind, is_input_kind, is_output_kind, is_notified_kind, is_sequence_kind};
+ghost use Rattle.fw_flow.specs.WellFormed.{is_feedback_kind, is_enter_kind};
 
 use crate::LoopId;
 use fw_bag::Selection;
@@ -98,6 +99,48 @@ impl Kind {
             | Kind::Sum { within } => Domain::within(within),
             Kind::Feedback(id) => Domain::Loop(id),
         }
+    }
+
+    /// Whether a node of the kind is an input: it alone has batches, and injects them.
+    pub fn is_input(self) -> bool
+        ensures { result ≡ is_input_kind self }
+    {
+        matches!(self, Kind::Input)
+    }
+
+    /// Whether a node of the kind is an output, of epochs or of numbers: it alone acknowledges.
+    pub fn is_output(self) -> bool
+        ensures { result ≡ is_output_kind self }
+    {
+        matches!(self, Kind::OutputEpoch | Kind::OutputNumber)
+    }
+
+    /// Whether a node of the kind is notified: it waits for a time to be complete, and sends then.
+    pub fn is_notified(self) -> bool
+        ensures { result ≡ is_notified_kind self }
+    {
+        matches!(self, Kind::Sum { .. } | Kind::Total | Kind::Sequence)
+    }
+
+    /// Whether a node of the kind leads to the next counter of a loop.
+    pub fn is_feedback(self) -> bool
+        ensures { result ≡ is_feedback_kind self }
+    {
+        matches!(self, Kind::Feedback(_))
+    }
+
+    /// Whether a node of the kind leads into a loop.
+    pub fn is_enter(self) -> bool
+        ensures { result ≡ is_enter_kind self }
+    {
+        matches!(self, Kind::Enter(_))
+    }
+
+    /// Whether a node of the kind is a sequence: it numbers what it sends.
+    pub fn is_sequence(self) -> bool
+        ensures { result ≡ is_sequence_kind self }
+    {
+        matches!(self, Kind::Sequence)
     }
 }
 

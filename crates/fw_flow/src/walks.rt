@@ -8,7 +8,7 @@ ghost use Rattle.fw_flow.specs.WellFormed.{is_feedback_kind, is_enter_kind};
 ghost use Rattle.fw_flow.specs.Flow.{edges_at};
 ghost use Rattle.fw_flow.specs.Walks.{Path, graph_of, AreWithin, IsLedTo, AreOnward, AreOnwardWithin, AreMarked, IsReachOf, LeadsBack, IsMadeOf, EachClosedWalkPasses, NoClosedWalkPasses, AvoidingWalk, PassingWalk};
 
-use crate::{Kind, Node};
+use crate::Node;
 use std::alloc::{AllocError, Global};
 
 /// An edge, by the places of the nodes that it joins.
@@ -62,25 +62,11 @@ pub(crate) fn no_closed_walk_enters(
 {
     let onward = receivers_by_sender(alloc, nodes.len(), links)?;
     for (place, node) in nodes.iter().enumerate() {
-        if is_enter(node.kind) && is_on_closed_walk(alloc, links, &onward, place)? {
+        if node.kind.is_enter() && is_on_closed_walk(alloc, links, &onward, place)? {
             return Ok(false);
         }
     }
     Ok(true)
-}
-
-/// Whether a node of the kind leads to the next counter of a loop.
-fn is_feedback(kind: Kind) -> bool
-    ensures { result ≡ is_feedback_kind kind }
-{
-    matches!(kind, Kind::Feedback(_))
-}
-
-/// Whether a node of the kind leads into a loop.
-fn is_enter(kind: Kind) -> bool
-    ensures { result ≡ is_enter_kind kind }
-{
-    matches!(kind, Kind::Enter(_))
 }
 
 /// A mark for each node: whether it is a feedback.
@@ -89,7 +75,7 @@ fn marks_of_feedbacks(alloc: Global, nodes: &[Node]) -> Result<Vec<bool>, AllocE
 {
     nodes
         .iter()
-        .map(|node| is_feedback(node.kind))
+        .map(|node| node.kind.is_feedback())
         .collect(alloc)
 }
 

@@ -8,4 +8,4 @@ mod reader;
 mod select;
 mod words;
 
-pub use reader::{one_answer, read_flow};
+pub use reader::{FLOW_LIMIT, one_answer, read_flow};

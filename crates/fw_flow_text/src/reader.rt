@@ -12,8 +12,8 @@ use fw_flow::{Declaration, Declared, Flow, RawFlow};
 use fw_lines::{Code, Line, Place, ReadFault, Refusal, line_at};
 use std::alloc::Global;
 
-/// The longest text, in bytes.
-const SIZE_LIMIT: usize = 1_048_576;
+/// The most bytes that a flow may have.
+pub const FLOW_LIMIT: usize = 1_048_576;
 
 /// Reads a flow.
 ///
@@ -23,7 +23,7 @@ const SIZE_LIMIT: usize = 1_048_576;
 pub fn read_flow(alloc: Global, text: &[u8]) -> Result<Flow, ReadFault>
     ensures { MatchResult result (IsAccepted text.now) (IfRefused (IsRefused text.now)) }
 {
-    if text.len() > SIZE_LIMIT {
+    if text.len() > FLOW_LIMIT {
         return Err(ReadFault::of_whole(Code::F11));
     }
     let mut raw = RawFlow::new(alloc);

@@ -25,8 +25,8 @@ use crate::text::line_at;
 use fw_bag::Bag;
 use std::alloc::{AllocError, Global};
 
-/// The longest text, in bytes.
-const SIZE_LIMIT: usize = 16_777_216;
+/// The most bytes that inputs may have.
+pub const INPUTS_LIMIT: usize = 16_777_216;
 
 /// How many batches a text may give to an input.
 const BATCH_LIMIT: usize = 1 << 20;
@@ -39,7 +39,7 @@ pub fn read_batches(alloc: Global, text: &[u8], sources: &SourceNames) -> Result
     ensures { MatchResult result (IsAccepted text.now sources.now)
         (IfRefused (IsRefused text.now sources.now)) }
 {
-    if text.len() > SIZE_LIMIT {
+    if text.len() > INPUTS_LIMIT {
         return Err(ReadFault::of_whole(Code::I5));
     }
     let mut batches = Batches::new(alloc);

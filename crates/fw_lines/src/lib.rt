@@ -15,7 +15,7 @@ mod text;
 
 pub use batches::Batches;
 pub use fault::ReadFault;
-pub use inputs::{one_answer, read_batches};
+pub use inputs::{INPUTS_LIMIT, one_answer, read_batches};
 pub use line::{Line, Lines, Place};
 pub use numeral::Number;
 pub use refusal::{Code, Refusal};

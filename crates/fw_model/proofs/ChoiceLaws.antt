@@ -19,11 +19,10 @@ use Rattle.fw_flow.specs.declared.kind.Kind.{Kind}
 use Rattle.fw_flow.specs.declared.kind.Kind.TheVariants.{Input, OutputEpoch, OutputNumber, Sequence}
 use Rattle.fw_flow.specs.declared.kind.Policy.{Policy}
 use Rattle.fw_flow.specs.declared.kind.Policy.TheVariants as policy
-use Rattle.fw_flow.specs.Dataflow.{System, Dataflow, kind_of, policy_of, sender, receiver, domain_of_kind, bounds_of, bounds_of_domain, greatest_number}
+use Rattle.fw_flow.specs.Dataflow.{System, Dataflow, kind_of, policy_of, sender, receiver, domain_of_kind, bounds_of, bounds_of_domain, greatest_number, is_sequence_kind}
 use Rattle.fw_flow.specs.NodeFunction.{stamp}
 use Rattle.fw_flow.specs.Projection.{events_at, all_inside, phi}
 use Rattle.fw_model.specs.History.{delivered, sent}
-use Rattle.fw_model.specs.LawsOfProjections.{is_sequence_kind}
 use Rattle.fw_model.specs.Machine.{Machine, Numbered, Write, bound_of, events, front_of}
 use Rattle.fw_flow.specs.declared.choice.Choice.{Choice}
 use Rattle.fw_model.specs.Choice.{View, kept, ever, Restoring, by_batches, by_bound, by_anything, by_checkpoints, by_events, until, AllLogged, IsRestorable, HoldsLow, restoring_of_policy, restoring, can_resend, IsCandidate, IsCutWithin, stamp_of_notice, stamps_from, set_of, takes_its_cut, takes_its_notes, cut_of, note_of, kept_of, delivered_cover, notified_cover, sent_cover, discarded_at, discarded_cover}

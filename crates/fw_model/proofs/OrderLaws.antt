@@ -8,12 +8,12 @@ use Rattle.fw_flow.specs.declared.event.Event.{Event}
 use Rattle.fw_flow.specs.declared.event.Event.TheVariants.{Inject, Deliver, Notify}
 use Rattle.fw_flow.specs.declared.kind.Domain.TheVariants.{Epoch, Number}
 use Rattle.fw_flow.specs.declared.kind.Kind.TheVariants.{OutputEpoch, Sequence}
-use Rattle.fw_flow.specs.Dataflow.{System, Dataflow, kind_of, sender, receiver, greatest_number, domain_of_kind, out_domain_of_kind, bounds_of, is_input_kind, is_notified_kind, send_stamp_of_kind}
+use Rattle.fw_flow.specs.Dataflow.{System, Dataflow, kind_of, sender, receiver, greatest_number, domain_of_kind, out_domain_of_kind, bounds_of, is_input_kind, is_notified_kind, send_stamp_of_kind, is_sequence_kind}
 use Rattle.fw_flow.specs.NodeFunction.{sent_by}
 use Rattle.fw_flow.specs.Projection.{events_at, all_inside, phi}
 use Rattle.fw_flow.specs.WellFormed.{IsWellFormed}
 use Rattle.fw_model.specs.History.{less, some_at, delivered, was_delivered_to, was_notified, owed, IsAdmissible, IsNotifiable, IsEnabled, IsLegal}
-use Rattle.fw_model.specs.LawsOfProjections.{is_sequence_kind, bounds_of_edge}
+use Rattle.fw_model.specs.LawsOfProjections.{bounds_of_edge}
 use Rattle.fw_model.specs.LawsOfSending.{ComesFromInside, notified_stamps, AreDescending}
 use Rattle.fw_model.specs.LawsOfLegalHistories.{HasEpochs}
 use Rattle.fw_model.specs.LawsOfCompleteFrontiers.{SequencesAreNotifiedInOrder, LegalInsidePhiComesFromInside}

@@ -10,12 +10,11 @@ use Rattle.fw_flow.specs.declared.event.Event.TheVariants.{Inject, Deliver, Noti
 use Rattle.fw_flow.specs.declared.event.Message.{Message}
 use Rattle.fw_flow.specs.declared.kind.Kind.{Kind}
 use Rattle.fw_flow.specs.declared.kind.Kind.TheVariants.{Input, Sequence}
-use Rattle.fw_flow.specs.Dataflow.{greatest_of_kind, System, Dataflow, kind_of, sender, receiver, greatest_number, domain_of_kind, out_domain_of_kind, bounds_of, bounds_of_domain, batches_of, is_input_kind}
+use Rattle.fw_flow.specs.Dataflow.{greatest_of_kind, System, Dataflow, kind_of, sender, receiver, greatest_number, domain_of_kind, out_domain_of_kind, bounds_of, bounds_of_domain, batches_of, is_input_kind, is_sequence_kind}
 use Rattle.fw_flow.specs.NodeFunction.{place, stamp, sends, sent_by}
 use Rattle.fw_flow.specs.Projection.{events_at, all_inside, first_number_of, count_from, sent_count, phi_of_kind, phi}
 use Rattle.fw_model.specs.History.{injected_count, injected_epochs, IsAdmissible, IsEnabled, IsLegal}
 use Rattle.fw_model.specs.Choice.{stamp_of_notice}
-use Rattle.fw_model.specs.LawsOfProjections.{is_sequence_kind}
 use Rattle.fw_model.specs.LawsOfFiltering.{AreFrontiers, kept_events, HaveKeptCauses, KeptEventsAreLegal}
 use Rattle.fw_model.proofs.Decisions.{two_ways}
 use Rattle.fw_model.proofs.EachLaws.{each-weaker}

@@ -8,10 +8,9 @@ use Rattle.fw_flow.specs.declared.event.Event.{Event}
 use Rattle.fw_flow.specs.declared.event.Message.{Message}
 use Rattle.fw_flow.specs.declared.kind.Kind.{Kind}
 use Rattle.fw_flow.specs.declared.kind.Kind.TheVariants.{Sequence}
-use Rattle.fw_flow.specs.Dataflow.{System, Dataflow, kind_of, sender, bounds_of, send_stamp, send_stamp_of_kind}
+use Rattle.fw_flow.specs.Dataflow.{System, Dataflow, kind_of, sender, bounds_of, send_stamp, send_stamp_of_kind, is_sequence_kind}
 use Rattle.fw_flow.specs.NodeFunction.{stamp, recs_on, messages_at, messages_at_some, sends_of_kind, sends, sent_by}
 use Rattle.fw_flow.specs.Projection.{events_at, all_inside, phi, psi}
-use Rattle.fw_model.specs.LawsOfProjections.{is_sequence_kind}
 use Rattle.fw_model.specs.LawsOfSending.{SendsByStamp, SendsAtSendStamp, SendsAreInsidePsi, SentFromInsideIsInsidePsi, InsidePhiComesFromInside}
 use Rattle.fw_model.proofs.EachLaws.{each-weaker, each-append}
 use Rattle.fw_model.proofs.StampLaws.{leq-refl}

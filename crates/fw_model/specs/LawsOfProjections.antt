@@ -1,12 +1,10 @@
 -- Laws of projections: in its frontier, in the history, and under meets and unions.
-use Rattle.std.specs.Prelude.{◌≡◌, ℕ, ◌≤◌, Bool, true, false, List, ◌++◌}
+use Rattle.std.specs.Prelude.{◌≡◌, ℕ, ◌≤◌, false, List, ◌++◌}
 use Rattle.fw_time.specs.Stamp.{Stamp}
 use Rattle.fw_time.specs.declared.stamp.Bounds.{Bounds}
 use Rattle.fw_frontier.specs.Frontier.{Frontier, IsFrontier, Within, nothing, everything, meet, join}
 use Rattle.fw_flow.specs.declared.event.Event.{Event}
-use Rattle.fw_flow.specs.declared.kind.Kind.{Kind}
-use Rattle.fw_flow.specs.declared.kind.Kind.TheVariants.{Sequence}
-use Rattle.fw_flow.specs.Dataflow.{System, Dataflow, kind_of, sender, bounds_of, bounds_of_domain, out_domain_of}
+use Rattle.fw_flow.specs.Dataflow.{System, Dataflow, kind_of, sender, bounds_of, bounds_of_domain, out_domain_of, is_sequence_kind}
 use Rattle.fw_flow.specs.Projection.{phi, phi_by_count, psi}
 
 -- the bounds of an edge: which lists are stamps of its messages
@@ -16,11 +14,6 @@ bounds_of_edge flow e = bounds_of_domain flow (out_domain_of flow (sender flow e
 -- the frontier is one of the sender's domain
 abbrev pub IsSenderFrontier : Dataflow → ℕ → Frontier → Type 0
 IsSenderFrontier flow e f = IsFrontier (bounds_of flow (sender flow e)) f
-
--- whether a node of the kind numbers what it sends
-abbrev pub is_sequence_kind : Kind → Bool
-is_sequence_kind Sequence = true
-is_sequence_kind kind = false
 
 -- phi of a frontier of the sender is a frontier of the edge
 abbrev pub PhiIsFrontier : Type 0

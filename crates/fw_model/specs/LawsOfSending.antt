@@ -9,12 +9,12 @@ use Rattle.fw_flow.specs.declared.event.Event.TheVariants.{Inject, Deliver, Noti
 use Rattle.fw_flow.specs.declared.event.Message.{Message}
 use Rattle.fw_flow.specs.declared.kind.Kind.{Kind}
 use Rattle.fw_flow.specs.declared.kind.Kind.TheVariants.{OutputEpoch, OutputNumber, Feedback, Sequence, Regroup}
-use Rattle.fw_flow.specs.Dataflow.{System, Dataflow, kind_of, sender, max_of, bounds_of, send_stamp}
+use Rattle.fw_flow.specs.Dataflow.{System, Dataflow, kind_of, sender, max_of, bounds_of, send_stamp, is_sequence_kind}
 use Rattle.fw_flow.specs.NodeFunction.{stamp, sends}
 use Rattle.fw_flow.specs.Projection.{events_at, all_inside, IsSentTable, phi, psi, psi_back}
 use Rattle.fw_flow.specs.WellFormed.{IsWellFormed}
 use Rattle.fw_model.specs.History.{sent, injected_count}
-use Rattle.fw_model.specs.LawsOfProjections.{bounds_of_edge, IsSenderFrontier, is_sequence_kind}
+use Rattle.fw_model.specs.LawsOfProjections.{bounds_of_edge, IsSenderFrontier}
 
 -- A node of the kind sends at the send stamps of its events: it is no output and no sequence, a loop that it feeds back
 -- has a next counter, and the groups that it makes are not empty.

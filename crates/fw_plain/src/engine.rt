@@ -17,7 +17,7 @@ use crate::events::Events;
 use crate::failed::{any_failed, any_live, is_failed, none_failed, with_failed};
 use crate::fronts::{any_grows, cut_each, grown, no_stamps_each};
 use crate::offers::offers;
-use crate::output::{has_delivery_at, has_delivery_from, has_epoch, is_output};
+use crate::output::{has_delivery_at, has_delivery_from, has_epoch};
 use crate::{Effect, Stepped};
 use fw_flow::{Choice, EdgeId, Event, Flow, Kind, NodeId, Step};
 use fw_frontier::Front;
@@ -271,7 +271,7 @@ impl Engine {
     {
         let bound = *self.bounds.get(output.place() as usize)?;
         let x = u32::try_from(bound).ok()?;
-        if is_output(self.flow.kind(output))
+        if self.flow.kind(output).is_output()
             && !is_failed(&self.failed, output)
             && self.is_settled(output, x)
             && self.has_something_at(output, x)

@@ -1,20 +1,12 @@
 //! What an output may acknowledge.
 ghost use Rattle.std.specs.Prelude.{◌≡◌};
-ghost use Rattle.fw_flow.specs.Dataflow.{is_output_kind};
 ghost use Rattle.fw_time.specs.Stamp.{leq, same};
 ghost use Rattle.fw_model.specs.Plain.{system_of};
 ghost use Rattle.fw_plain.specs.Output as spec;
 
-use fw_flow::{Event, Flow, Kind, NodeId};
+use fw_flow::{Event, Flow, NodeId};
 use fw_lines::Batches;
 use fw_time::Stamp;
-
-/// Whether the kind is an output's.
-pub(crate) fn is_output(kind: Kind) -> bool
-    ensures { result ≡ is_output_kind kind }
-{
-    matches!(kind, Kind::OutputEpoch | Kind::OutputNumber)
-}
 
 /// Whether some input has a batch of the epoch.
 pub(crate) fn has_epoch(flow: &Flow, batches: &Batches, epoch: u32) -> bool

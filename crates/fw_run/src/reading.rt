@@ -12,18 +12,12 @@ ghost use Rattle.fw_run.specs.Words.{text_names_in};
 ghost use Rattle.fw_run.specs.Texts.{HasText, IsFlowRefused, AreInputsRefused, IsScheduleRefused, IsFirstRefusal, AreFetchedInTurn};
 
 use crate::words::RunWords;
-use fw_flow::{Flow, Kind, NodeId};
-use fw_flow_text::read_flow;
-use fw_lines::{Batches, Code, ReadFault, Refusal, SourceNames, read_batches};
+use fw_flow::{Flow, NodeId};
+use fw_flow_text::{FLOW_LIMIT, read_flow};
+use fw_lines::{Batches, Code, INPUTS_LIMIT, ReadFault, Refusal, SourceNames, read_batches};
 use fw_outside::{FetchFault, Folder};
-use fw_schedule::{Steps, read_schedule};
+use fw_schedule::{SCHEDULE_LIMIT, Steps, read_schedule};
 use std::alloc::{AllocError, Global};
-
-/// The most bytes that a flow may have.
-const FLOW_LIMIT: usize = 1 << 20;
-
-/// The most bytes that inputs may have, and a schedule.
-const LINES_LIMIT: usize = 1 << 24;
 
 /// What the three texts spell.
 #[derive(Debug, Drop)]
@@ -119,7 +113,7 @@ fn fetch_inputs<F: Folder>(
     ensures counted { F.fetch_count folder.new ≡ one_more (F.fetch_count folder.old) }
     ensures texts_stay { F.texts folder.new ≡ F.texts folder.old }
 {
-    let text = fetch(alloc, folder, name, LINES_LIMIT, Code::I5)?;
+    let text = fetch(alloc, folder, name, INPUTS_LIMIT, Code::I5)?;
     let sources = sources_of(alloc, flow)?;
     Ok(read_batches(alloc, &text, &sources)?)
 }
@@ -139,7 +133,7 @@ fn fetch_schedule<F: Folder>(
     ensures counted { F.fetch_count folder.new ≡ one_more (F.fetch_count folder.old) }
     ensures texts_stay { F.texts folder.new ≡ F.texts folder.old }
 {
-    let text = fetch(alloc, folder, name, LINES_LIMIT, Code::S4)?;
+    let text = fetch(alloc, folder, name, SCHEDULE_LIMIT, Code::S4)?;
     Ok(read_schedule(alloc, &text, flow)?)
 }
 
@@ -190,7 +184,7 @@ fn with_source(sources: SourceNames, flow: &Flow, place: u32) -> Result<SourceNa
     ensures { IfOk result (λ more. more ≡ sources ++ spec.source_at flow.now place) }
 {
     let node = NodeId::at(place);
-    if matches!(flow.kind(node), Kind::Input) {
+    if flow.kind(node).is_input() {
         return sources.with(place, flow.node_name(node).as_bytes());
     }
     Ok(sources)

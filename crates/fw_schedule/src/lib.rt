@@ -6,5 +6,5 @@ mod form;
 mod schedule;
 mod steps;
 
-pub use schedule::{one_answer, read_schedule};
+pub use schedule::{SCHEDULE_LIMIT, one_answer, read_schedule};
 pub use steps::Steps;

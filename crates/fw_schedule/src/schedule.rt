@@ -15,13 +15,13 @@ ghost use Rattle.fw_schedule.specs.Steps.{IsStepOf};
 use crate::coordinates::stamp_up_to;
 use crate::form::{Form, are_names, form_of, is_word};
 use crate::steps::Steps;
-use fw_flow::{Flow, Kind, NodeId, Nodes, Step};
+use fw_flow::{Flow, NodeId, Nodes, Step};
 use fw_lines::{Code, Line, Place, ReadFault, Refusal, Span, line_at};
 use fw_time::{Bounds, Stamp};
 use std::alloc::{AllocError, Global};
 
-/// The longest text, in bytes.
-const SIZE_LIMIT: usize = 16_777_216;
+/// The most bytes that a schedule may have.
+pub const SCHEDULE_LIMIT: usize = 16_777_216;
 
 /// Reads a schedule: the steps of a run of this flow.
 ///
@@ -32,7 +32,7 @@ pub fn read_schedule(alloc: Global, text: &[u8], flow: &Flow) -> Result<Steps, R
         (IfRefused (IsRefused text.now flow.now)) }
     ensures steps { IfOk result (AllByRecursion (IsStepOf flow.now)) }
 {
-    if text.len() > SIZE_LIMIT {
+    if text.len() > SCHEDULE_LIMIT {
         return Err(ReadFault::of_whole(Code::S4));
     }
     let mut steps = Steps::new(alloc);
@@ -210,9 +210,10 @@ fn input(flow: &Flow, name: &[u8]) -> Option<NodeId>
     ensures { result ≡ node_of_kind flow.now is_input_kind name.now }
 {
     let node = flow.node_named(name)?;
-    match flow.kind(node) {
-        Kind::Input => Some(node),
-        _ => None,
+    if flow.kind(node).is_input() {
+        Some(node)
+    } else {
+        None
     }
 }
 
@@ -221,8 +222,9 @@ fn output(flow: &Flow, name: &[u8]) -> Option<NodeId>
     ensures { result ≡ node_of_kind flow.now is_output_kind name.now }
 {
     let node = flow.node_named(name)?;
-    match flow.kind(node) {
-        Kind::OutputEpoch | Kind::OutputNumber => Some(node),
-        _ => None,
+    if flow.kind(node).is_output() {
+        Some(node)
+    } else {
+        None
     }
 }

@@ -4,16 +4,16 @@ ghost use Rattle.std.specs.List.{list_any};
 ghost use Rattle.fw_time.specs.declared.stamp.Bounds.{Bounds as Domain};
 ghost use Rattle.fw_frontier.specs.Frontier.{without_above};
 ghost use Rattle.fw_frontier.specs.Front.{inside, frontier_of, IsCanonical, Names};
-ghost use Rattle.fw_flow.specs.Dataflow.{receiver, bounds_of, is_notified_kind};
+ghost use Rattle.fw_flow.specs.Dataflow.{receiver, bounds_of};
 ghost use Rattle.fw_model.specs.History as history;
 ghost use Rattle.fw_model.specs.Clear as spec;
 ghost use Rattle.fw_model.specs.Clear.{given, IsClear};
 ghost use Rattle.fw_model.specs.Plain.{system_of, AreAtNodes};
 
 use super::arrivals::{batches_of, is_same};
-use super::next::{injected_count, is_input};
+use super::next::injected_count;
 use super::waiting::pending;
-use fw_flow::{EdgeId, Event, Flow, Kind, Message, NodeId};
+use fw_flow::{EdgeId, Event, Flow, Message, NodeId};
 use fw_frontier::Front;
 use fw_lines::Batches;
 use fw_time::{Bounds, Stamp};
@@ -77,7 +77,7 @@ fn given(
         (given (system_of flow.now batches.now) (reverse events.now) node)) }
 {
     let injected = injected_count(events, node);
-    if !is_input(flow.kind(node)) || injected == batches_of(flow, batches, node).len() {
+    if !flow.kind(node).is_input() || injected == batches_of(flow, batches, node).len() {
         return Ok(Front::all(alloc));
     }
     match u32::try_from(injected) {
@@ -164,7 +164,7 @@ fn is_owed(flow: &Flow, events: &[Event], node: NodeId, edge: EdgeId, at: &Stamp
 fn is_unnotified(flow: &Flow, events: &[Event], node: NodeId, at: &Stamp) -> bool
     ensures { result ≡ spec.is_unnotified flow.now events.now node at.now }
 {
-    is_notified(flow.kind(node)) && !was_notified(events, node, at)
+    flow.kind(node).is_notified() && !was_notified(events, node, at)
 }
 
 /// Whether a node was notified of the stamp.
@@ -172,13 +172,6 @@ fn was_notified(events: &[Event], node: NodeId, at: &Stamp) -> bool
     ensures { result ≡ list_any (history.is_notification node at.now) events.now }
 {
     events.iter().any(|event| is_notice(event, node, at))
-}
-
-/// Whether a node of the kind is notified.
-pub(super) fn is_notified(kind: Kind) -> bool
-    ensures { result ≡ is_notified_kind kind }
-{
-    matches!(kind, Kind::Sum { .. } | Kind::Total | Kind::Sequence)
 }
 
 /// Whether an event notified the node of the stamp.

@@ -163,7 +163,7 @@ fn sent_table(
         (λ table. IsSentTable (system_of flow.now batches.now) (reverse events.now) node table) }
     ensures others { (kind_of flow.now node ≡ Kind.Sequence → ⊥) → IfOk result (λ table. table ≡ []) }
 {
-    if !matches!(flow.kind(node), Kind::Sequence) {
+    if !flow.kind(node).is_sequence() {
         return Ok(SentTable::new(Vec::new(alloc)));
     }
     let mut entries = Vec::new(alloc);

@@ -3,7 +3,7 @@ ghost use Rattle.std.specs.Prelude.{◌≡◌, ℕ, length, reverse, if◌then�
 ghost use Rattle.std.specs.Option.{option_copied};
 ghost use Rattle.fw_time.specs.Stamp.{Stamp as Time};
 ghost use Rattle.fw_flow.specs.declared.event.Message.{Message as Sent};
-ghost use Rattle.fw_flow.specs.Dataflow.{is_input_kind, is_numbered};
+ghost use Rattle.fw_flow.specs.Dataflow.{is_numbered};
 ghost use Rattle.fw_model.specs.History as history;
 ghost use Rattle.fw_model.specs.History.{IsNextBatch};
 ghost use Rattle.fw_model.specs.Least as least;
@@ -17,7 +17,7 @@ use super::clear::{owed_stamps, pending_stamps};
 use super::complete::{complete_frontiers, lowered};
 use super::ready::least_ready;
 use super::waiting::{compare, delivered_count, pending};
-use fw_flow::{Domain, EdgeId, Event, Flow, Kind, Message, NodeId};
+use fw_flow::{Domain, EdgeId, Event, Flow, Message, NodeId};
 use fw_frontier::Front;
 use fw_lines::Batches;
 use fw_time::Stamp;
@@ -32,7 +32,7 @@ pub fn next_batch(flow: &Flow, batches: &Batches, events: &[Event], source: Node
         MatchOption result ((x : ℕ) → IsNextBatch sys (reverse events.now) source x → ⊥)
         (λ x. IsNextBatch sys (reverse events.now) source x) }
 {
-    if !is_input(flow.kind(source)) {
+    if !flow.kind(source).is_input() {
         return None;
     }
     let injected = injected_count(events, source);
@@ -41,13 +41,6 @@ pub fn next_batch(flow: &Flow, batches: &Batches, events: &[Event], source: Node
     } else {
         None
     }
-}
-
-/// Whether a node of the kind is an input.
-pub(super) fn is_input(kind: Kind) -> bool
-    ensures { result ≡ is_input_kind kind }
-{
-    matches!(kind, Kind::Input)
 }
 
 /// How many batches an input injected: how many of the events are injections of it.

@@ -17,9 +17,9 @@ pub returns-in_err-raw : goal.returns-in_err-raw
 returns-in_err-raw c =
     let text = c.args.text.now in
     let p = err_from_is_err_and c.from_residual-in_err-raw.result c.from_residual-in_err-raw.ensures.1 in
-    rw (p.1, p.2) (if_refused-weaker _ _ c.in_err-raw.field-0.0 c.in_err-raw.ensures.broken (λ refusal h. inr (inl (c.if-text-gt-SIZE_LIMIT.false, read_broken (said_lines text) (lines_left text c.loop-place.place) (lines_left text c.in_ok-line.next) (said_in text c.in_ok-line.line) c.loop-place.raw refusal c.loop-place.invariant.read (ap (lines_left text) c.in-Some.is ∙ c.in_ok-line.ensures.line) h.0 h.1))))
+    rw (p.1, p.2) (if_refused-weaker _ _ c.in_err-raw.field-0.0 c.in_err-raw.ensures.broken (λ refusal h. inr (inl (c.if-text-gt-FLOW_LIMIT.false, read_broken (said_lines text) (lines_left text c.loop-place.place) (lines_left text c.in_ok-line.next) (said_in text c.in_ok-line.line) c.loop-place.raw refusal c.loop-place.invariant.read (ap (lines_left text) c.in-Some.is ∙ c.in_ok-line.ensures.line) h.0 h.1))))
 
 pub returns : goal.returns
 returns c =
     let text = c.args.text.now in
-    checked_all text (lines_left text c.loop-place.place) c.loop-place.raw c.check.result c.if-text-gt-SIZE_LIMIT.false c.loop-place.invariant.read (ap (lines_left text) c.in_default.is) c.check.ensures.checked
+    checked_all text (lines_left text c.loop-place.place) c.loop-place.raw c.check.result c.if-text-gt-FLOW_LIMIT.false c.loop-place.invariant.read (ap (lines_left text) c.in_default.is) c.check.ensures.checked

@@ -17,7 +17,7 @@ loop-place-preserved c = record {
 pub returns-in_err-read_line-clause-answer : goal.returns-in_err-read_line-clause-answer
 returns-in_err-read_line-clause-answer c =
     let p = err_from_is_err_and c.from_residual-in_err-read_line.result c.from_residual-in_err-read_line.ensures.1 in
-    rw (p.1, p.2) (if_refused-weaker _ _ c.in_err-read_line.field-0.0 c.in_err-read_line.ensures.broken (λ refusal h. inr (c.if-text-gt-SIZE_LIMIT.false, read_broken c.args.flow.now c.args.text.now (said_lines c.args.text.now) (lines_left c.args.text.now c.loop-place.place) (lines_left c.args.text.now c.in_ok-line.next) c.in_ok-line.line c.loop-place.steps refusal c.loop-place.invariant.read (ap (lines_left c.args.text.now) c.in-Some.is ∙ c.in_ok-line.ensures.line) h.0 h.1)))
+    rw (p.1, p.2) (if_refused-weaker _ _ c.in_err-read_line.field-0.0 c.in_err-read_line.ensures.broken (λ refusal h. inr (c.if-text-gt-SCHEDULE_LIMIT.false, read_broken c.args.flow.now c.args.text.now (said_lines c.args.text.now) (lines_left c.args.text.now c.loop-place.place) (lines_left c.args.text.now c.in_ok-line.next) c.in_ok-line.line c.loop-place.steps refusal c.loop-place.invariant.read (ap (lines_left c.args.text.now) c.in-Some.is ∙ c.in_ok-line.ensures.line) h.0 h.1)))
 
 pub returns-clause-steps : goal.returns-clause-steps
 returns-clause-steps c =

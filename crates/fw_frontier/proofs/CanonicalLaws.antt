@@ -1,11 +1,12 @@
 -- The calls keep a list of outside stamps canonical.
 use Rattle.std.proofs.Common.{◌≡◌, ℕ, Bool, true, false, not, ◌||◌, cond, List, [], ◌∷◌, length, refl, sym, ◌∙◌, subst, filter, zero, suc, nat_lt, nat_le, ◌<◌, get_or, ap, arith}
+use Rattle.std.proofs.lemmas.Bool.{false≢true, and_from, and_parts}
 use Rattle.std.proofs.lemmas.Bool.Decides.{nat_tests}
 use Rattle.std.specs.List.{AllByRecursion}
 use Rattle.std.specs.Ordering.{is_lt}
 use Rattle.fw_time.specs.declared.stamp.Bounds.{Bounds}
 use Rattle.fw_time.specs.Stamp.{leq, lub, stamp_cmp, raised, in_domain}
-use Rattle.fw_time.proofs.StampLaws.{leq-refl, leq-length, lub-least, leq-raised, before-trans, before-total, and_left, and_right, both}
+use Rattle.fw_time.proofs.StampLaws.{leq-refl, leq-length, lub-least, leq-raised, before-trans, before-total}
 use Rattle.fw_frontier.specs.Front.{inside, IsCanonical, all_in_domain}
 use Rattle.fw_frontier.specs.Outside.{placed, excluding, excluding_all, excluding_lubs, excluding_pairs, below_at}
 use Rattle.fw_frontier.proofs.GenericLaws.{each-at}
@@ -60,13 +61,10 @@ canonical-placed : (b : Bounds) (s : List ℕ) (os : List (List ℕ)) → in_dom
 canonical-placed b s [] h k l = (record { in_the_domain = h; ascending = tt; incomparable = tt }, tt)
 canonical-placed b s (o ∷ os) h k l = by (is_lt (stamp_cmp s o)) refl (canonical-placed b s os h k.1 l.1)
   where
-    no : false ≡ true → ⊥
-    no e = cc
-
     distinct : o ≡ s → ⊥
     distinct e = let P : List ℕ → Type 0 = λ u. (leq s u || leq u s) ≡ false in
         let f = subst P e k.0 in
-        no (sym f ∙ same (leq s s) (leq-refl s))
+        false≢true (sym f ∙ same (leq s s) (leq-refl s))
       where
         same : (c : Bool) → c ≡ true → (c || c) ≡ true
         same c e = cc
@@ -96,7 +94,7 @@ canonical-placed b s (o ∷ os) h k l = by (is_lt (stamp_cmp s o)) refl (canonic
 -- what is left after the greater ones are gone is not comparable with a stamp that was inside
 apart-filter : (s : List ℕ) (os : List (List ℕ)) → inside os s ≡ true → AllByRecursion (λ q. (leq s q || leq q s) ≡ false) (filter (λ o. not (leq s o)) os)
 apart-filter s [] h = tt
-apart-filter s (o ∷ os) h = by (leq s o) refl (apart-filter s os (and_right _ _ h))
+apart-filter s (o ∷ os) h = by (leq s o) refl (apart-filter s os (and_parts _ _ h).1)
   where
     none : (c d : Bool) → c ≡ false → not d ≡ true → (c || d) ≡ false
     none true d e f = cc
@@ -105,7 +103,7 @@ apart-filter s (o ∷ os) h = by (leq s o) refl (apart-filter s os (and_right _ 
 
     by : (c : Bool) → leq s o ≡ c → AllByRecursion (λ q. (leq s q || leq q s) ≡ false) (filter (λ o. not (leq s o)) os) → AllByRecursion (λ q. (leq s q || leq q s) ≡ false) (cond (not c) (o ∷ filter (λ o. not (leq s o)) os) (filter (λ o. not (leq s o)) os))
     by true e r = r
-    by false e r = (none (leq s o) (leq o s) e (and_left _ _ h), r)
+    by false e r = (none (leq s o) (leq o s) e (and_parts _ _ h).0, r)
 
 -- a stamp more is outside
 pub canonical-excluding : (b : Bounds) (s : List ℕ) (os : List (List ℕ)) → in_domain b s ≡ true → IsCanonical b os → IsCanonical b (excluding s os)
@@ -149,7 +147,7 @@ leq-raised_upto : (s g : List ℕ) (i : ℕ) → leq s g ≡ true → nat_lt (ge
 leq-raised_upto [] g i h k = h
 leq-raised_upto (x ∷ s) [] i h k = cc
 leq-raised_upto (x ∷ s) (y ∷ g) zero h k = leq-raised (x ∷ s) (y ∷ g) zero (omega arith) (leq-length (x ∷ s) (y ∷ g) h) ∙ k
-leq-raised_upto (x ∷ s) (y ∷ g) (suc i) h k = both _ _ (zero_leq y) (leq-raised_upto s g i (and_right _ _ h) k)
+leq-raised_upto (x ∷ s) (y ∷ g) (suc i) h k = and_from _ _ (zero_leq y) (leq-raised_upto s g i (and_parts _ _ h).1 k)
   where
     zero_leq : (y : ℕ) → nat_le 0 y ≡ true
     zero_leq y = grind (arith, nat_tests)
@@ -166,8 +164,8 @@ canonical-below_at b s (suc n) h = by (nat_lt (get_or s n 0) (get_or b.greatest 
 -- the test of all stamps, by each
 pub all_in_domain-each : (b : Bounds) (os : List (List ℕ)) → all_in_domain b os ≡ true → AllByRecursion (λ o. in_domain b o ≡ true) os
 all_in_domain-each b [] h = tt
-all_in_domain-each b (o ∷ os) h = (and_left _ _ h, all_in_domain-each b os (and_right _ _ h))
+all_in_domain-each b (o ∷ os) h = ((and_parts _ _ h).0, all_in_domain-each b os (and_parts _ _ h).1)
 
 pub each-all_in_domain : (b : Bounds) (os : List (List ℕ)) → AllByRecursion (λ o. in_domain b o ≡ true) os → all_in_domain b os ≡ true
 each-all_in_domain b [] h = refl
-each-all_in_domain b (o ∷ os) h = both (in_domain b o) (all_in_domain b os) h.0 (each-all_in_domain b os h.1)
+each-all_in_domain b (o ∷ os) h = and_from (in_domain b o) (all_in_domain b os) h.0 (each-all_in_domain b os h.1)

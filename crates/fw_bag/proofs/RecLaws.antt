@@ -1,25 +1,18 @@
 -- The laws of the order of recs.
-use Rattle.std.proofs.Common.{◌≡◌, ℕ, true, false, refl, ap, ◌∙◌, subst, arith}
-use Rattle.std.proofs.lemmas.Bool.Decides.{nat_tests}
+use Rattle.std.proofs.Common.{◌≡◌, ℕ, true, false, refl, ap, ◌∙◌, subst}
 use Rattle.std.proofs.lemmas.Cmp.{nat_cmp_total, on_total, then_total, tied_itself, upto}
+use Rattle.std.proofs.lemmas.Map.Lookups.{exact_unsigned}
 use Rattle.std.specs.Cmp.{IsTotalOrder}
 use Rattle.std.specs.declared.cmp.Ordering.{Ordering}
 use Rattle.std.specs.declared.cmp.Ordering.TheVariants.{Less, Equal, Greater}
-use Rattle.std.specs.Ordering.{nat_cmp, ordering_then, ordering_reverse, is_eq, is_le, is_gt}
+use Rattle.std.specs.Ordering.{nat_cmp, ordering_reverse, is_eq, is_le, is_gt}
 use Rattle.fw_bag.specs.declared.rec.Rec.{Rec}
 use Rattle.fw_bag.specs.Rec.{rec_cmp}
+use Rattle.fw_bag.proofs.OrderingLaws.{equal_from_is_eq, then_equal, le_not_gt, not_gt_le, gt_of}
 
 -- the order of recs is total
 pub rec_order : IsTotalOrder rec_cmp
 rec_order = then_total (on_total (λ (r : Rec). r.key) nat_cmp_total) (on_total (λ (r : Rec). r.value) nat_cmp_total)
-
-then_equal : (o p : Ordering) → ordering_then o p ≡ Equal → (o ≡ Equal) × (p ≡ Equal)
-then_equal Less p h = cc
-then_equal Equal p h = (refl, h)
-then_equal Greater p h = cc
-
-nat_cmp-same : (m n : ℕ) → nat_cmp m n ≡ Equal → m ≡ n
-nat_cmp-same m n h = grind (arith, nat_tests)
 
 -- recs of which neither is less are equal
 pub rec_cmp-same : (x y : Rec) → rec_cmp x y ≡ Equal → x ≡ y
@@ -27,16 +20,11 @@ rec_cmp-same x y h =
     let parts = then_equal (nat_cmp x.key y.key) (nat_cmp x.value y.value) h in
     let f : ℕ → Rec = λ n. record x { key = n } in
     let g : ℕ → Rec = λ n. record y { value = n } in
-    ap f (nat_cmp-same _ _ parts.0) ∙ ap g (nat_cmp-same _ _ parts.1)
+    ap f (exact_unsigned _ _ parts.0) ∙ ap g (exact_unsigned _ _ parts.1)
 
 -- a rec equals itself
 pub rec_cmp-refl : (x : Rec) → rec_cmp x x ≡ Equal
 rec_cmp-refl x = tied_itself rec_order x
-
-equal_from_is_eq : (o : Ordering) → is_eq o ≡ true → o ≡ Equal
-equal_from_is_eq Less h = cc
-equal_from_is_eq Equal h = refl
-equal_from_is_eq Greater h = cc
 
 -- recs that the test finds equal are equal
 pub is_eq-same : (x y : Rec) → is_eq (rec_cmp x y) ≡ true → x ≡ y
@@ -55,32 +43,17 @@ le_cases x y z l Greater e h = cc
 pub less-trans_le : (x y z : Rec) → rec_cmp x y ≡ Less → is_le (rec_cmp y z) ≡ true → rec_cmp x z ≡ Less
 less-trans_le x y z l h = le_cases x y z l (rec_cmp y z) refl h
 
-le_or_gt : (o : Ordering) → is_le o ≡ true → is_gt o ≡ false
-le_or_gt Less h = refl
-le_or_gt Equal h = refl
-le_or_gt Greater h = cc
-
 -- what is not greater, by the other test
 pub is_gt-from_le : (x y : Rec) → is_le (rec_cmp x y) ≡ true → is_gt (rec_cmp x y) ≡ false
-is_gt-from_le x y h = le_or_gt (rec_cmp x y) h
-
-gt_is_greater : (o : Ordering) → is_le o ≡ false → o ≡ Greater
-gt_is_greater Less h = cc
-gt_is_greater Equal h = cc
-gt_is_greater Greater h = refl
+is_gt-from_le x y h = le_not_gt (rec_cmp x y) h
 
 -- a greater rec, seen from the smaller
 pub less_from_gt : (x y : Rec) → is_le (rec_cmp x y) ≡ false → rec_cmp y x ≡ Less
-less_from_gt x y h = rec_order.antisymm y x ∙ ap ordering_reverse (gt_is_greater (rec_cmp x y) h)
+less_from_gt x y h = rec_order.antisymm y x ∙ ap ordering_reverse (gt_of (rec_cmp x y) h)
 
 -- a rec that is greater is not equal
 pub is_eq-from_gt : (x y : Rec) → is_le (rec_cmp x y) ≡ false → is_eq (rec_cmp x y) ≡ false
-is_eq-from_gt x y h = ap is_eq (gt_is_greater (rec_cmp x y) h)
-
-not_gt_cases : (o : Ordering) → is_gt o ≡ false → is_le o ≡ true
-not_gt_cases Less h = refl
-not_gt_cases Equal h = refl
-not_gt_cases Greater h = cc
+is_eq-from_gt x y h = ap is_eq (gt_of (rec_cmp x y) h)
 
 -- what is at most a rec is at most each rec that is not less than that one
 pub le-trans : (x y z : Rec) → is_le (rec_cmp x y) ≡ true → is_gt (rec_cmp y z) ≡ false → is_gt (rec_cmp x z) ≡ false
@@ -88,4 +61,4 @@ le-trans x y z h g = upto rec_order x y z (is_gt-from_le x y h) g
 
 -- what is less than a rec equals none that is not less than that one
 pub is_eq-from_less : (x y z : Rec) → rec_cmp x y ≡ Less → is_gt (rec_cmp y z) ≡ false → is_eq (rec_cmp x z) ≡ false
-is_eq-from_less x y z l g = ap is_eq (less-trans_le x y z l (not_gt_cases (rec_cmp y z) g))
+is_eq-from_less x y z l g = ap is_eq (less-trans_le x y z l (not_gt_le (rec_cmp y z) g))

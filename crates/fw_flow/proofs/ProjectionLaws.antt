@@ -1,5 +1,8 @@
 -- What projections do to the outside stamps of a frontier.
 use Rattle.std.proofs.Common.{◌≡◌, ℕ, zero, suc, ◌+◌, ◌-◌, ◌*◌, ◌/◌, ◌%◌, ◌<◌, ◌≤◌, min, Bool, true, false, not, cond, ◌&&◌, ◌||◌, ◌==◌, nat_lt, nat_le, ◌^◌, List, [], ◌∷◌, ◌++◌, length, get_or, drop, Option, Some, None, add-one, refl, sym, ap, subst, ◌∙◌, arith}
+use Rattle.std.proofs.Math.Bool.{or-true, and_assoc, and_comm}
+use Rattle.std.proofs.lemmas.Option.{cond_some}
+use Rattle.std.proofs.lemmas.Bool.{and_from, and_parts, le-leb, leb-true, ltb-true}
 use Rattle.std.specs.Prelude.{option_to_list, slice_index, Result, IfOk}
 use Rattle.std.proofs.lemmas.Result.{IfOk-weaker}
 use Rattle.std.proofs.lemmas.Bool.Decides.{nat_tests}
@@ -10,7 +13,7 @@ use Rattle.fw_time.specs.Stamp.{Stamp, leq, nest, outer, counter, in_domain, ori
 use Rattle.fw_time.specs.Sending.{entered, fed_back}
 use Rattle.std.proofs.Math.Nat.{min-le_left, min-le_right, div-add-mod', mod-lt, le-div_iff_mul-le, div-lt_iff_lt-mul, div-le_self, mul-le-mul_right}
 use Rattle.fw_time.specs.NestLaws.{length-nest, places-outer}
-use Rattle.fw_time.proofs.StampLaws.{leq-refl, leq-length, leq-nest, origin-leq, counter-nest, nest-outer, and_left, and_right, both}
+use Rattle.fw_time.proofs.StampLaws.{leq-refl, leq-length, leq-nest, origin-leq, counter-nest, nest-outer}
 use Rattle.fw_frontier.specs.Frontier.{Frontier}
 use Rattle.fw_frontier.specs.Front.{Front, inside, frontier_of, IsCanonical, Names}
 use Rattle.fw_frontier.proofs.CanonicalLaws.{in_domain-canonical}
@@ -25,15 +28,6 @@ use Rattle.fw_flow.specs.declared.event.Event.{Event}
 use Rattle.fw_flow.specs.declared.kind.Kind.{Kind}
 use Rattle.fw_flow.specs.Dataflow.{System, kind_of, sender, max_of, greatest_number, out_domain_of_kind, greatest_of_kind, bounds_of_domain}
 
-le-from : (x y : ℕ) → nat_le x y ≡ true → x ≤ y
-le-from x y h = grind (arith, nat_tests)
-
-to-le : (x y : ℕ) → x ≤ y → nat_le x y ≡ true
-to-le x y h = grind (arith, nat_tests)
-
-lt-from : (x y : ℕ) → nat_lt x y ≡ true → x < y
-lt-from x y h = grind (arith, nat_tests)
-
 some-is : (s t : Stamp) → Some s ≡ Some t → s ≡ t
 some-is s t e = cc
 
@@ -47,11 +41,7 @@ is_met (Some w) u = leq w u
 -- what is inside the images, by what is inside the stamps
 pub inside-images : (way : Way) (os : List Stamp) (P : Stamp → Type 0) (u v : Stamp) (free : Bool) → ((o : Stamp) → P o → is_met (image way o) u ≡ (not free && leq o v))
     → AllByRecursion P os → inside (images way os) u ≡ (free || inside os v)
-inside-images way [] P u v free f h = by free
-  where
-    by : (free : Bool) → true ≡ (free || true)
-    by true = refl
-    by false = refl
+inside-images way [] P u v free f h = sym (or-true free)
 inside-images way (o ∷ os) P u v free f h =
     one (image way o) ∙ (λ i. not (f o h.0 i) && inside-images way os P u v free f h.1 i) ∙ split free (leq o v) (inside os v)
   where
@@ -87,7 +77,7 @@ of_loop b m u h =
     let e = nest-outer u (omega arith) in
     let l = places-outer u (length b) long in
     let q : (leq (outer u) b && nat_le (counter u) m) ≡ true = sym (leq-nest (outer u) b (counter u) m l) ∙ ap (λ w. leq w (nest b m)) e ∙ h in
-    record { nested = e; outside = and_left _ _ q; counted = le-from (counter u) m (and_right _ _ q); long = l }
+    record { nested = e; outside = (and_parts _ _ q).0; counted = leb-true (counter u) m (and_parts _ _ q).1; long = l }
 
 -- the order of a loop's stamps
 leq-loop : (b : Stamp) (m : ℕ) (o u : Stamp) → IsOfLoop b m o → IsOfLoop b m u → (c d : ℕ) → leq (nest (outer o) c) (nest (outer u) d) ≡ (leq (outer o) (outer u) && nat_le c d)
@@ -101,7 +91,7 @@ leq-nested b m o u v w c = ap (leq (nest (outer o) c)) (sym w.nested) ∙ leq-lo
 
 -- a stamp of the loop with a counter up to the greatest
 nest-in : (b : Stamp) (m : ℕ) (o : Stamp) (c : ℕ) → leq o b ≡ true → c ≤ m → leq (nest o c) (nest b m) ≡ true
-nest-in b m o c h k = leq-nest o b c m (leq-length o b h) ∙ both (leq o b) (nat_le c m) h (to-le c m k)
+nest-in b m o c h k = leq-nest o b c m (leq-length o b h) ∙ and_from (leq o b) (nat_le c m) h (le-leb c m k)
 
 is_met-if : (b : Bool) (w u : Stamp) → is_met (cond b (Some w) None) u ≡ cond b (leq w u) false
 is_met-if true w u = refl
@@ -110,10 +100,6 @@ is_met-if false w u = refl
 is_met-else : (b : Bool) (w : Stamp) (x : Option Stamp) (u : Stamp) → is_met (cond b (Some w) x) u ≡ cond b (leq w u) (is_met x u)
 is_met-else true w x u = refl
 is_met-else false w x u = refl
-
-some_if : (b : Bool) (v w : Stamp) → cond b (Some v) None ≡ Some w → (b ≡ true) × (v ≡ w)
-some_if true v w e = (refl, cc)
-some_if false v w e = absurd (cc)
 
 -- ---- where the images of each way are met
 
@@ -174,7 +160,7 @@ met-before b m o u h k =
 met-outer : (b : Stamp) (m : ℕ) (o u : Stamp) → leq o (nest b m) ≡ true → leq u b ≡ true → leq (outer o) u ≡ (true && leq o (nest u m))
 met-outer b m o u h k =
     let v = of_loop b m o h in
-    sym (ap (λ x. leq x (nest u m)) (sym v.nested) ∙ leq-nest (outer o) u (counter o) m (v.long ∙ sym (leq-length u b k)) ∙ by (leq (outer o) u) (nat_le (counter o) m) (to-le (counter o) m v.counted))
+    sym (ap (λ x. leq x (nest u m)) (sym v.nested) ∙ leq-nest (outer o) u (counter o) m (v.long ∙ sym (leq-length u b k)) ∙ by (leq (outer o) u) (nat_le (counter o) m) (le-leb (counter o) m v.counted))
   where
     by : (a c : Bool) → c ≡ true → (a && c) ≡ a
     by true c e = e
@@ -222,8 +208,8 @@ next-moved s r b m os e f h = record {
   images_in = each-image (Next m) os (λ o. in_domain s o ≡ true) (λ w. in_domain r w ≡ true)
       (λ o w d g.
       let v = of_loop b m o (sym (ap (leq o) e) ∙ d) in
-      let i = some_if (nat_lt (counter o) m) (nest (outer o) (counter o + 1)) w g in
-      ap (in_domain r) (sym i.1) ∙ ap (leq (nest (outer o) (counter o + 1))) f ∙ nest-in b m (outer o) (counter o + 1) v.outside (let l : counter o < m = lt-from (counter o) m i.0 in omega arith)) h;
+      let i = cond_some (nat_lt (counter o) m) (nest (outer o) (counter o + 1)) w g in
+      ap (in_domain r) (sym i.1) ∙ ap (leq (nest (outer o) (counter o + 1))) f ∙ nest-in b m (outer o) (counter o + 1) v.outside (let l : counter o < m = ltb-true (counter o) m i.0 in omega arith)) h;
   same = λ u i.
       let k : leq u (nest b m) ≡ true = sym (ap (leq u) f) ∙ i in
       let w = of_loop b m u k in
@@ -253,7 +239,7 @@ next_after_first-moved s r b m os e f h = record {
     stays o w d true c g x = ap (in_domain r) (sym (some-is o w x)) ∙ ap (leq o) f ∙ d
     stays o w d false true g x =
         let v = of_loop b m o d in
-        ap (in_domain r) (sym (some-is (nest (outer o) (counter o + 1)) w x)) ∙ ap (leq (nest (outer o) (counter o + 1))) f ∙ nest-in b m (outer o) (counter o + 1) v.outside (let l : counter o < m = lt-from (counter o) m g in omega arith)
+        ap (in_domain r) (sym (some-is (nest (outer o) (counter o + 1)) w x)) ∙ ap (leq (nest (outer o) (counter o + 1))) f ∙ nest-in b m (outer o) (counter o + 1) v.outside (let l : counter o < m = ltb-true (counter o) m g in omega arith)
     stays o w d false false g x = absurd (cc)
 
 pub before-moved : (s r : Bounds) (b : Stamp) (m : ℕ) (os : Front) → s.greatest ≡ nest b m → r.greatest ≡ nest b m → AreIn r os
@@ -286,7 +272,7 @@ pub outer_of_first-moved : (s r : Bounds) (m : ℕ) (os : Front) → s.greatest 
 outer_of_first-moved s r m os e h = record {
   images_in = each-image OuterOfFirst os (λ o. in_domain s o ≡ true) (λ w. in_domain r w ≡ true)
       (λ o w d g.
-      let i = some_if (counter o == 0) (outer o) w g in
+      let i = cond_some (counter o == 0) (outer o) w g in
       ap (in_domain r) (sym i.1) ∙ (of_loop r.greatest m o (sym (ap (leq o) e) ∙ d)).outside) h;
   same = λ u i.
       inside-images OuterOfFirst os (λ o. in_domain s o ≡ true) u (nest u 0) false (λ o d. met-outer_of_first r.greatest m o u (sym (ap (leq o) e) ∙ d) i) h
@@ -334,7 +320,7 @@ names-numbers_by b g os f test e n h = names-as b os (λ u. in_domain b u && f (
   where
     small : (u : Stamp) → leq u (g ∷ []) ≡ true → first_number_of u ≤ g
     small [] k = absurd (cc)
-    small (x ∷ u) k = le-from x g (and_left _ _ k)
+    small (x ∷ u) k = leb-true x g (and_parts _ _ k).0
 
     by : (u : Stamp) (c : Bool) → in_domain b u ≡ c → (c && f (first_number_of u)) ≡ (c && test u)
     by u true k = h u (small u (sym (ap (leq u) e) ∙ k))
@@ -351,7 +337,7 @@ below-limit b g limit x e = ap (λ t. leq (x ∷ []) t && inside ((limit ∷ [])
 pub limit-in : (b : Bounds) (g limit : ℕ) (os : Front) → b.greatest ≡ g ∷ [] → os ≡ front_until (Some limit) → IsCanonical b os → limit ≤ g
 limit-in b g limit os e f h =
     let c : IsCanonical b ((limit ∷ []) ∷ []) = subst (IsCanonical b) f h in
-    le-from limit g (and_left _ _ (sym (ap (leq (limit ∷ [])) e) ∙ c.0.in_the_domain))
+    leb-true limit g ((and_parts _ _ (sym (ap (leq (limit ∷ [])) e) ∙ c.0.in_the_domain)).0)
 
 -- two comparisons are one where each follows from the other
 lt-same : (a b c d : ℕ) → (a < b → c < d) → (c < d → a < b) → nat_lt a b ≡ nat_lt c d
@@ -359,11 +345,11 @@ lt-same a b c d f g = by (nat_lt a b) refl (nat_lt c d) refl
   where
     by : (x : Bool) → nat_lt a b ≡ x → (y : Bool) → nat_lt c d ≡ y → x ≡ y
     by true e true h = refl
-    by true e false h = let l : a < b = lt-from a b e in let m = f l in absurd (not_less c d h m)
+    by true e false h = let l : a < b = ltb-true a b e in let m = f l in absurd (not_less c d h m)
       where
         not_less : (c d : ℕ) → nat_lt c d ≡ false → c < d → ⊥
         not_less c d h m = grind (arith, nat_tests)
-    by false e true h = let l : c < d = lt-from c d h in let m = g l in absurd (not_less a b e m)
+    by false e true h = let l : c < d = ltb-true c d h in let m = g l in absurd (not_less a b e m)
       where
         not_less : (a b : ℕ) → nat_lt a b ≡ false → a < b → ⊥
         not_less a b h m = grind (arith, nat_tests)
@@ -376,7 +362,7 @@ phi-regroup n g limit k p q =
     lt-same k (limit / n) (min (k * n + n - 1) g) limit
     (λ h. let x : (k + 1) * n ≤ limit = a.0 (omega arith) in let y = min-le_left (k * n + n - 1) g in omega arith)
     (λ h. let x : k + 1 ≤ limit / n = a.1 (above (k * n) h) in omega arith)
-    ∙ by (nat_lt (min (k * n + n - 1) g) limit) (nat_le (min (k * n + n - 1) g) g) (to-le (min (k * n + n - 1) g) g (min-le_right (k * n + n - 1) g))
+    ∙ by (nat_lt (min (k * n + n - 1) g) limit) (nat_le (min (k * n + n - 1) g) g) (le-leb (min (k * n + n - 1) g) g (min-le_right (k * n + n - 1) g))
   where
     by : (c a : Bool) → a ≡ true → c ≡ (a && c)
     by c true e = refl
@@ -496,7 +482,7 @@ each-last s os b m (suc c) u e i l =
     by false y h = refl
 
     higher : (u : Stamp) (c : ℕ) → leq (nest u c) (nest u (suc c)) ≡ true
-    higher u c = leq-nest u u c (suc c) refl ∙ both (leq u u) (nat_le c (suc c)) (leq-refl u) (to-le c (suc c) (omega arith))
+    higher u c = leq-nest u u c (suc c) refl ∙ and_from (leq u u) (nat_le c (suc c)) (leq-refl u) (le-leb c (suc c) (omega arith))
 
 -- and one of them where it has the first
 some-first : (s : Bounds) (os : Front) (b : Stamp) (m c : ℕ) (u : Stamp) → s.greatest ≡ nest b m → leq u b ≡ true → c ≤ m → some_counter (frontier_of s os) u c ≡ frontier_of s os (nest u 0)
@@ -511,7 +497,7 @@ some-first s os b m (suc c) u e i l =
     by false y h = refl
 
     higher : (u : Stamp) (c : ℕ) → leq (nest u 0) (nest u (suc c)) ≡ true
-    higher u c = leq-nest u u 0 (suc c) refl ∙ both (leq u u) (nat_le 0 (suc c)) (leq-refl u) (to-le 0 (suc c) (omega arith))
+    higher u c = leq-nest u u 0 (suc c) refl ∙ and_from (leq u u) (nat_le 0 (suc c)) (leq-refl u) (le-leb 0 (suc c) (omega arith))
 
 pub phi-enter : (l count : ℕ) (s r : Bounds) (os : Front) → AreDomainsOf (Enter l) s r → IsCanonical s os → IsMoved First os r (phi_of_kind s.greatest (Enter l) count (frontier_of s os))
 phi-enter l count s r os d h = let e = enter-domains l s r d in first-moved s r e.0 os e.2 (in_domain-canonical s os h)
@@ -565,11 +551,7 @@ moved-ok way os r test res m h =
 
 inside-append : (xs ys : Front) (u : Stamp) → inside (xs ++ ys) u ≡ (inside xs u && inside ys u)
 inside-append [] ys u = refl
-inside-append (x ∷ xs) ys u = ap (λ c. not (leq x u) && c) (inside-append xs ys u) ∙ assoc (not (leq x u)) (inside xs u) (inside ys u)
-  where
-    assoc : (a b c : Bool) → (a && (b && c)) ≡ ((a && b) && c)
-    assoc true b c = refl
-    assoc false b c = refl
+inside-append (x ∷ xs) ys u = ap (λ c. not (leq x u) && c) (inside-append xs ys u) ∙ sym (and_assoc (not (leq x u)) (inside xs u) (inside ys u))
 
 all-append : (P : Stamp → Type 0) (xs ys : Front) → AllByRecursion P xs → AllByRecursion P ys → AllByRecursion P (xs ++ ys)
 all-append P [] ys h k = k
@@ -612,7 +594,7 @@ psi-enter_in l s r os d h =
     one : (m : ℕ) → r.greatest ≡ nest s.greatest m → (x : Bool) → nat_lt 0 (counter r.greatest) ≡ x → AreIn r (cond x (nest (origin s.greatest) 1 ∷ []) [])
     one m e true f =
         let c : counter r.greatest ≡ m = ap counter e ∙ counter-nest s.greatest m in
-        let p : 0 < counter r.greatest = lt-from 0 (counter r.greatest) f in
+        let p : 0 < counter r.greatest = ltb-true 0 (counter r.greatest) f in
         (ap (leq (nest (origin s.greatest) 1)) e ∙ nest-in s.greatest m (origin s.greatest) 1 (origin-leq s.greatest s.greatest refl) (omega (arith, c)), tt)
     one m e false f = tt
 
@@ -624,13 +606,7 @@ psi-enter_same l s r os d h u i =
     let c : counter r.greatest ≡ e.0 = ap counter e.2 ∙ counter-nest s.greatest e.0 in
     inside-append (images First os) (cond (nat_lt 0 (counter r.greatest)) (nest (origin s.greatest) 1 ∷ []) []) u
     ∙ (λ j. m.same u i j && (ap (λ n. inside (cond (nat_lt 0 n) (nest (origin s.greatest) 1 ∷ []) []) u) c ∙ from_one s.greatest e.0 u (sym (ap (leq u) e.2) ∙ i)) j)
-    ∙ swap (frontier_of s os (outer u)) (counter u == 0)
-  where
-    swap : (a b : Bool) → (a && b) ≡ (b && a)
-    swap true true = refl
-    swap true false = refl
-    swap false true = refl
-    swap false false = refl
+    ∙ and_comm (frontier_of s os (outer u)) (counter u == 0)
 
 -- ---- regrouping
 
@@ -675,7 +651,7 @@ psi_back-regroup_ok n limit s r os g p d f named =
     names-numbers_by s greatest_number g (λ k. nat_lt k (limit * n)) (psi_back_of_kind s.greatest (Regroup n) (frontier_of r os)) e.0 named
     (λ u l.
     psi_back-regroup n limit (first_number_of u) p
-    ∙ by (nat_le (first_number_of u / n) greatest_number) (nat_lt (first_number_of u / n) limit) (to-le (first_number_of u / n) greatest_number (omega (arith, div-le_self (first_number_of u) n)))
+    ∙ by (nat_le (first_number_of u / n) greatest_number) (nat_lt (first_number_of u / n) limit) (le-leb (first_number_of u / n) greatest_number (omega (arith, div-le_self (first_number_of u) n)))
     ∙ sym (below-limit r greatest_number limit (first_number_of u / n) e.1)
     ∙ (λ j. frontier_of r (sym f j) ((first_number_of u / n) ∷ [])))
   where

@@ -1,12 +1,13 @@
 -- Lists of stamps that ascend and of which no two are comparable, whatever their lengths, and that the calls keep them so.
 use Rattle.std.proofs.Common.{◌≡◌, ℕ, ◌<◌, Bool, true, false, not, ◌||◌, cond, List, [], ◌∷◌, length, get_or, refl, sym, ◌∙◌, subst, filter, zero, suc, arith}
+use Rattle.std.proofs.lemmas.Bool.{and_parts}
 use Rattle.std.specs.List.{AllByRecursion}
 use Rattle.std.specs.Ordering.{is_lt}
 use Rattle.fw_time.specs.Stamp.{leq, stamp_cmp}
-use Rattle.fw_time.proofs.StampLaws.{leq-refl, before-trans, before-total, and_left, and_right}
+use Rattle.fw_time.proofs.StampLaws.{leq-refl, before-trans, before-total}
 use Rattle.fw_frontier.specs.Front.{inside}
 use Rattle.fw_frontier.specs.Outside.{placed, excluding, excluding_all}
-use Rattle.fw_frontier.proofs.GenericLaws.{each-at}
+use Rattle.fw_frontier.proofs.GenericLaws.{each-at, no}
 
 -- the stamp comes before each of these in order and is not comparable with one
 pub record Leads (o : List ℕ) (os : List (List ℕ)) : Type 0 where
@@ -17,12 +18,6 @@ pub record Leads (o : List ℕ) (os : List (List ℕ)) : Type 0 where
 abbrev pub IsAntichain : List (List ℕ) → Type 0
 IsAntichain [] = Unit {0}
 IsAntichain (o ∷ os) = Leads o os × IsAntichain os
-
-no : {A : Type 0} → false ≡ true → A
-no e = absurd (lies e)
-  where
-    lies : false ≡ true → ⊥
-    lies e = cc
 
 -- what holds of each stamp holds of each after a stamp is put among them
 all-placed : (P : List ℕ → Type 0) (s : List ℕ) (os : List (List ℕ)) → P s → AllByRecursion P os → AllByRecursion P (placed s os)
@@ -114,7 +109,7 @@ antichain-placed s (o ∷ os) k l = by (is_lt (stamp_cmp s o)) refl (antichain-p
 -- what is left after the greater ones are gone is not comparable with a stamp that was inside
 apart-filter : (s : List ℕ) (os : List (List ℕ)) → inside os s ≡ true → AllByRecursion (λ q. (leq s q || leq q s) ≡ false) (filter (λ o. not (leq s o)) os)
 apart-filter s [] h = tt
-apart-filter s (o ∷ os) h = by (leq s o) refl (apart-filter s os (and_right _ _ h))
+apart-filter s (o ∷ os) h = by (leq s o) refl (apart-filter s os (and_parts _ _ h).1)
   where
     none : (c d : Bool) → c ≡ false → not d ≡ true → (c || d) ≡ false
     none true d e f = cc
@@ -123,7 +118,7 @@ apart-filter s (o ∷ os) h = by (leq s o) refl (apart-filter s os (and_right _ 
 
     by : (c : Bool) → leq s o ≡ c → AllByRecursion (λ q. (leq s q || leq q s) ≡ false) (filter (λ o. not (leq s o)) os) → AllByRecursion (λ q. (leq s q || leq q s) ≡ false) (cond (not c) (o ∷ filter (λ o. not (leq s o)) os) (filter (λ o. not (leq s o)) os))
     by true e r = r
-    by false e r = (none (leq s o) (leq o s) e (and_left _ _ h), r)
+    by false e r = (none (leq s o) (leq o s) e (and_parts _ _ h).0, r)
 
 -- a stamp more is outside
 pub antichain-excluding : (s : List ℕ) (os : List (List ℕ)) → IsAntichain os → IsAntichain (excluding s os)

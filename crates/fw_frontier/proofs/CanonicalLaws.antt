@@ -1,10 +1,11 @@
 -- The calls keep a list of outside stamps canonical.
 use Rattle.std.proofs.Common.{◌≡◌, ℕ, Bool, true, false, cond, List, [], ◌∷◌, length, refl, sym, ◌∙◌, zero, suc, nat_lt, nat_le, ◌<◌, get_or, ap, arith}
+use Rattle.std.proofs.lemmas.Bool.{and_from, and_parts}
 use Rattle.std.proofs.lemmas.Bool.Decides.{nat_tests}
 use Rattle.std.specs.List.{AllByRecursion}
 use Rattle.fw_time.specs.declared.stamp.Bounds.{Bounds}
 use Rattle.fw_time.specs.Stamp.{leq, lub, raised, in_domain}
-use Rattle.fw_time.proofs.StampLaws.{leq-length, lub-least, leq-raised, and_left, and_right, both}
+use Rattle.fw_time.proofs.StampLaws.{leq-length, lub-least, leq-raised}
 use Rattle.fw_frontier.specs.Front.{IsCanonical, all_in_domain}
 use Rattle.fw_frontier.specs.Outside.{excluding, excluding_all, below_at}
 use Rattle.fw_frontier.proofs.GenericLaws.{each-at}
@@ -58,7 +59,7 @@ leq-raised_upto : (s g : List ℕ) (i : ℕ) → leq s g ≡ true → nat_lt (ge
 leq-raised_upto [] g i h k = h
 leq-raised_upto (x ∷ s) [] i h k = cc
 leq-raised_upto (x ∷ s) (y ∷ g) zero h k = leq-raised (x ∷ s) (y ∷ g) zero (omega arith) (leq-length (x ∷ s) (y ∷ g) h) ∙ k
-leq-raised_upto (x ∷ s) (y ∷ g) (suc i) h k = both _ _ (zero_leq y) (leq-raised_upto s g i (and_right _ _ h) k)
+leq-raised_upto (x ∷ s) (y ∷ g) (suc i) h k = and_from _ _ (zero_leq y) (leq-raised_upto s g i (and_parts _ _ h).1 k)
   where
     zero_leq : (y : ℕ) → nat_le 0 y ≡ true
     zero_leq y = grind (arith, nat_tests)
@@ -75,8 +76,8 @@ canonical-below_at b s (suc n) h = by (nat_lt (get_or s n 0) (get_or b.greatest 
 -- the test of all stamps, by each
 pub all_in_domain-each : (b : Bounds) (os : List (List ℕ)) → all_in_domain b os ≡ true → AllByRecursion (λ o. in_domain b o ≡ true) os
 all_in_domain-each b [] h = tt
-all_in_domain-each b (o ∷ os) h = (and_left _ _ h, all_in_domain-each b os (and_right _ _ h))
+all_in_domain-each b (o ∷ os) h = ((and_parts _ _ h).0, all_in_domain-each b os (and_parts _ _ h).1)
 
 pub each-all_in_domain : (b : Bounds) (os : List (List ℕ)) → AllByRecursion (λ o. in_domain b o ≡ true) os → all_in_domain b os ≡ true
 each-all_in_domain b [] h = refl
-each-all_in_domain b (o ∷ os) h = both (in_domain b o) (all_in_domain b os) h.0 (each-all_in_domain b os h.1)
+each-all_in_domain b (o ∷ os) h = and_from (in_domain b o) (all_in_domain b os) h.0 (each-all_in_domain b os h.1)

@@ -1,20 +1,14 @@
 -- What the corners of a list of points have outside in a plane.
 use Rattle.std.proofs.Common.{◌≡◌, ℕ, ◌-◌, ◌≤◌, ◌<◌, Bool, true, false, ◌&&◌, ◌||◌, nat_lt, cond, List, [], ◌∷◌, length, get_or, refl, sym, ap, ◌∙◌, zero, suc, inl, inr, arith}
-use Rattle.std.proofs.lemmas.Bool.{cases_lt}
+use Rattle.std.proofs.lemmas.Bool.{cases_lt, le-ltb, and_from, and_parts, and_left}
 use Rattle.std.proofs.lemmas.Bool.Decides.{nat_tests}
 use Rattle.std.proofs.lemmas.List.Folds.{Any-from_list_any, list_any_at}
 use Rattle.std.specs.List.{AllByRecursion, AllWithin, list_any}
 use Rattle.std.specs.List.Sorted.{IsNonDecreasingBy}
-use Rattle.fw_time.proofs.StampLaws.{and_left, and_right, both}
 use Rattle.fw_frontier.specs.declared.planes.Point.{Point}
 use Rattle.fw_frontier.specs.declared.planes.Corner.{Corner}
 use Rattle.fw_frontier.specs.Planes.{is_before, reaches, corners_of}
-
-pub no : {A : Type 0} → false ≡ true → A
-no e = absurd (lies e)
-  where
-    lies : false ≡ true → ⊥
-    lies e = cc
+use Rattle.fw_frontier.proofs.GenericLaws.{no}
 
 same-by : (b c : Bool) → (b ≡ true → c ≡ true) → (c ≡ true → b ≡ true) → b ≡ c
 same-by true c h k = sym (h refl)
@@ -27,9 +21,6 @@ below x y h = grind (arith, nat_tests)
 
 pub to_below : (x y : ℕ) → x < y → nat_lt x y ≡ true
 to_below x y h = grind (arith, nat_tests)
-
-not_below : (x y : ℕ) → y ≤ x → nat_lt x y ≡ false
-not_below x y h = grind (arith, nat_tests)
 
 from_not_below : (x y : ℕ) → nat_lt x y ≡ false → y ≤ x
 from_not_below x y h = grind (arith, nat_tests)
@@ -128,8 +119,8 @@ look-up cs x y p low d falls within before after = same-by (nat_lt 0 p && nat_lt
     there : (nat_lt 0 p && nat_lt (get_or cs (p - 1) d).y y) ≡ true → list_any (corner_before x y) cs ≡ true
     there e =
         let at = get_or cs (p - 1) d in
-        let some : 0 < p = below 0 p (and_left (nat_lt 0 p) (nat_lt at.y y) e) in
-        list_any_at (corner_before x y) cs (p - 1) d (omega arith) (both (nat_lt at.x x) (nat_lt at.y y) (before (p - 1) d (omega arith) (omega arith)) (and_right (nat_lt 0 p) (nat_lt at.y y) e))
+        let some : 0 < p = below 0 p (and_parts (nat_lt 0 p) (nat_lt at.y y) e).0 in
+        list_any_at (corner_before x y) cs (p - 1) d (omega arith) (and_from (nat_lt at.x x) (nat_lt at.y y) (before (p - 1) d (omega arith) (omega arith)) (and_parts (nat_lt 0 p) (nat_lt at.y y) e).1)
 
     early : (k : ℕ) (c : Corner) → k < length cs → get_or cs k c ≡ c → nat_lt c.x x ≡ true → k < p
     early k c l is e = elim (cases_lt k p) [
@@ -142,31 +133,23 @@ look-up cs x y p low d falls within before after = same-by (nat_lt 0 p && nat_lt
         let w = Any-from_list_any (corner_before x y) cs e in
         let c = w.1 in
         let is : get_or cs w.0 c ≡ c = w.3 in
-        let k : w.0 < p = early w.0 c w.2 is (and_left (nat_lt c.x x) (nat_lt c.y y) w.4) in
-        let low_enough : c.y < y = below c.y y (and_right (nat_lt c.x x) (nat_lt c.y y) w.4) in
+        let k : w.0 < p = early w.0 c w.2 is (and_parts (nat_lt c.x x) (nat_lt c.y y) w.4).0 in
+        let low_enough : c.y < y = below c.y y (and_parts (nat_lt c.x x) (nat_lt c.y y) w.4).1 in
         let y_is : (get_or cs w.0 c).y ≡ c.y = ap (λ u. u.y) is in
         let lower : (get_or cs (p - 1) d).y ≤ (get_or cs w.0 c).y = falls-at low cs w.0 (p - 1) c d falls (omega arith) (omega arith) in
-        both (nat_lt 0 p) (nat_lt (get_or cs (p - 1) d).y y) (to_below 0 p (omega arith)) (to_below (get_or cs (p - 1) d).y y (omega arith))
+        and_from (nat_lt 0 p) (nat_lt (get_or cs (p - 1) d).y y) (to_below 0 p (omega arith)) (to_below (get_or cs (p - 1) d).y y (omega arith))
 
 -- ---- the corners reach as far as the points
 
 none-corner : (x y : ℕ) (cs : List Corner) → AllByRecursion (λ c. x ≤ c.x) cs → list_any (corner_before x y) cs ≡ false
 unfolding corner_before
 none-corner x y [] h = refl
-none-corner x y (c ∷ cs) h = λ i. by (nat_lt c.x x) (nat_lt c.y y) (not_below c.x x h.0) i || none-corner x y cs h.1 i
-  where
-    by : (a b : Bool) → a ≡ false → (a && b) ≡ false
-    by true b e = no (sym e)
-    by false b e = refl
+none-corner x y (c ∷ cs) h = λ i. and_left (nat_lt c.x x) (nat_lt c.y y) (le-ltb c.x x h.0) i || none-corner x y cs h.1 i
 
 none-point : (x y z w : ℕ) (vs : List Point) → AllByRecursion (λ v. x ≤ v.x) vs → list_any (is_before x y z w) vs ≡ false
 unfolding is_before
 none-point x y z w [] h = refl
-none-point x y z w (v ∷ vs) h = λ i. by (nat_lt v.x x) (nat_lt v.y y && (nat_lt v.z z && nat_lt v.w w)) (not_below v.x x h.0) i || none-point x y z w vs h.1 i
-  where
-    by : (a b : Bool) → a ≡ false → (a && b) ≡ false
-    by true b e = no (sym e)
-    by false b e = refl
+none-point x y z w (v ∷ vs) h = λ i. and_left (nat_lt v.x x) (nat_lt v.y y && (nat_lt v.z z && nat_lt v.w w)) (le-ltb v.x x h.0) i || none-point x y z w vs h.1 i
 
 all-over : (m x : ℕ) (vs : List Point) → x ≤ m → AllByRecursion (λ v. m ≤ v.x) vs → AllByRecursion (λ v. x ≤ v.x) vs
 all-over m x [] l h = tt
@@ -231,7 +214,7 @@ some-before p b h = by (nat_lt 0 p) (to_below 0 p h)
     by false e = no e
 
 pub none-before : (p : ℕ) (b : Bool) → p ≤ 0 → nat_lt 0 p ≡ (nat_lt 0 p && b)
-none-before p b h = by (nat_lt 0 p) (not_below 0 p h)
+none-before p b h = by (nat_lt 0 p) (le-ltb 0 p h)
   where
     by : (a : Bool) → a ≡ false → a ≡ (a && b)
     by true e = no (sym e)

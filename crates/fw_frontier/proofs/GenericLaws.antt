@@ -1,26 +1,24 @@
 -- How the loops over stamps and times go on by one, whatever the type of the times.
 use Rattle.std.proofs.Common.{◌≡◌, ℕ, ◌+◌, ◌<◌, Bool, true, false, not, ◌&&◌, ◌||◌, List, [], ◌∷◌, length, get_or, take, map, refl, sym, ap, ◌∙◌, zero, suc, arith, add-one}
+use Rattle.std.proofs.lemmas.Bool.{false≢true}
+use Rattle.std.proofs.Math.Bool.{and-true, and_assoc, or-false}
 use Rattle.std.specs.List.{AllByRecursion}
 use Rattle.fw_time.specs.Stamp.{leq}
 use Rattle.fw_frontier.specs.Front.{inside}
 use Rattle.fw_frontier.specs.Frontier.{some_above}
 
+-- nothing meets both answers of a test
+pub no : {A : Type 0} → false ≡ true → A
+no e = absurd (false≢true e)
+
 -- one more stamp outside
 pub inside_more : (os : List (List ℕ)) (i : ℕ) (d t : List ℕ) → i < length os → (inside (take i os) t && not (leq (get_or os i d) t)) ≡ inside (take (i + 1) os) t
 inside_more os i d t h = sym (rw add-one (by os i h))
   where
-    assoc : (a b c : Bool) → (a && (b && c)) ≡ ((a && b) && c)
-    assoc true b c = refl
-    assoc false b c = refl
-
-    one : (b : Bool) → (b && true) ≡ b
-    one true = refl
-    one false = refl
-
     by : (os : List (List ℕ)) (i : ℕ) → i < length os → inside (take (suc i) os) t ≡ (inside (take i os) t && not (leq (get_or os i d) t))
     by [] i h = absurd (omega arith)
-    by (o ∷ os) zero h = one (not (leq o t))
-    by (o ∷ os) (suc i) h = ap (λ b. not (leq o t) && b) (by os i (omega arith)) ∙ assoc (not (leq o t)) (inside (take i os) t) (not (leq (get_or os i d) t))
+    by (o ∷ os) zero h = and-true (not (leq o t))
+    by (o ∷ os) (suc i) h = ap (λ b. not (leq o t) && b) (by os i (omega arith)) ∙ sym (and_assoc (not (leq o t)) (inside (take i os) t) (not (leq (get_or os i d) t)))
 
 -- one more time covered
 pub some_above_more : {A : Type 0} (f : A → List ℕ) (ts : List A) (i : ℕ) (d : A) (u : List ℕ) → i < length ts → (some_above (map f (take i ts)) u || leq u (f (get_or ts i d))) ≡ some_above (map f (take (i + 1) ts)) u
@@ -30,13 +28,9 @@ some_above_more {A} f ts i d u h = sym (rw add-one (by ts i h))
     assoc true b c = refl
     assoc false b c = refl
 
-    one : (b : Bool) → (b || false) ≡ b
-    one true = refl
-    one false = refl
-
     by : (ts : List A) (i : ℕ) → i < length ts → some_above (map f (take (suc i) ts)) u ≡ (some_above (map f (take i ts)) u || leq u (f (get_or ts i d)))
     by [] i h = absurd (omega arith)
-    by (o ∷ ts) zero h = one (leq u (f o))
+    by (o ∷ ts) zero h = or-false (leq u (f o))
     by (o ∷ ts) (suc i) h = ap (λ b. leq u (f o) || b) (by ts i (omega arith)) ∙ assoc (leq u (f o)) (some_above (map f (take i ts)) u) (leq u (f (get_or ts i d)))
 
 -- a fact on each stamp, at a place

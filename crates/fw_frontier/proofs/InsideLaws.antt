@@ -1,10 +1,12 @@
 -- What is inside a list of outside stamps, before and after a change.
 use Rattle.std.proofs.Common.{◌≡◌, ℕ, ◌≤◌, ◌<◌, Bool, true, false, not, ◌&&◌, ◌||◌, nat_le, nat_lt, cond, List, [], ◌∷◌, length, get_or, take, drop, ◌++◌, refl, sym, ap, ◌∙◌, zero, suc, filter, arith}
+use Rattle.std.proofs.lemmas.Bool.{false≢true, and_from, and_parts}
+use Rattle.std.proofs.Math.Bool.{and-false, and_assoc, and-true, or-true}
 use Rattle.std.proofs.lemmas.Bool.Decides.{nat_tests}
 use Rattle.std.specs.List.{AllByRecursion}
 use Rattle.std.specs.Ordering.{is_lt}
 use Rattle.fw_time.specs.Stamp.{leq, lub, stamp_cmp, raised}
-use Rattle.fw_time.proofs.StampLaws.{leq-trans, leq-lub, leq-length, leq-raised, and_left, and_right, both}
+use Rattle.fw_time.proofs.StampLaws.{leq-trans, leq-lub, leq-length, leq-raised}
 use Rattle.fw_frontier.specs.Front.{inside}
 use Rattle.fw_frontier.specs.Outside.{place, placed, excluding, excluding_all, below_at}
 use Rattle.fw_frontier.proofs.Pairs.{excluding_lubs, excluding_pairs}
@@ -13,7 +15,7 @@ use Rattle.fw_frontier.proofs.Pairs.{excluding_lubs, excluding_pairs}
 pub inside-closed : (os : List (List ℕ)) (s t : List ℕ) → leq s t ≡ true → inside os t ≡ true → inside os s ≡ true
 inside-closed [] s t h k = refl
 inside-closed (o ∷ os) s t h k =
-    both _ _ (head (leq o s) (leq o t) (λ e. leq-trans o s t e h) (and_left _ _ k)) (inside-closed os s t h (and_right _ _ k))
+    and_from _ _ (head (leq o s) (leq o t) (λ e. leq-trans o s t e h) (and_parts _ _ k).0) (inside-closed os s t h (and_parts _ _ k).1)
   where
     head : (b c : Bool) → (b ≡ true → c ≡ true) → not c ≡ true → not b ≡ true
     head true c r h = let e = r refl in cc
@@ -50,10 +52,7 @@ inside-filter s (o ∷ os) t h = by (leq s o) refl (inside-filter s os t h)
     gone b false r = refl
 
     by : (b : Bool) → leq s o ≡ b → inside (filter (λ o. not (leq s o)) os) t ≡ inside os t → inside (cond (not b) (o ∷ filter (λ o. not (leq s o)) os) (filter (λ o. not (leq s o)) os)) t ≡ (not (leq o t) && inside os t)
-    by true e r = r ∙ gone (inside os t) (leq o t) (λ f. absurd (no (sym h ∙ leq-trans s o t e f)))
-      where
-        no : false ≡ true → ⊥
-        no e = cc
+    by true e r = r ∙ gone (inside os t) (leq o t) (λ f. absurd (false≢true (sym h ∙ leq-trans s o t e f)))
     by false e r = ap (λ b. not (leq o t) && b) r
 
 -- a stamp more is outside, with each greater one
@@ -62,40 +61,16 @@ unfolding excluding
 inside-excluding s os t = by (inside os s) refl (leq s t) refl
   where
     by : (b : Bool) → inside os s ≡ b → (c : Bool) → leq s t ≡ c → inside (cond b (placed s (filter (λ o. not (leq s o)) os)) os) t ≡ (inside os t && not c)
-    by true e true f = inside-placed s (filter (λ o. not (leq s o)) os) t ∙ ap (λ b. not b && inside (filter (λ o. not (leq s o)) os) t) f ∙ none (inside os t)
-      where
-        none : (b : Bool) → false ≡ (b && false)
-        none true = refl
-        none false = refl
-    by true e false f = inside-placed s (filter (λ o. not (leq s o)) os) t ∙ ap (λ b. not b && inside (filter (λ o. not (leq s o)) os) t) f ∙ inside-filter s os t f ∙ all (inside os t)
-      where
-        all : (b : Bool) → b ≡ (b && true)
-        all true = refl
-        all false = refl
-    by false e true f = inside-above os s t e f ∙ none (inside os t)
-      where
-        none : (b : Bool) → false ≡ (b && false)
-        none true = refl
-        none false = refl
-    by false e false f = all (inside os t)
-      where
-        all : (b : Bool) → b ≡ (b && true)
-        all true = refl
-        all false = refl
+    by true e true f = inside-placed s (filter (λ o. not (leq s o)) os) t ∙ ap (λ b. not b && inside (filter (λ o. not (leq s o)) os) t) f ∙ sym (and-false (inside os t))
+    by true e false f = inside-placed s (filter (λ o. not (leq s o)) os) t ∙ ap (λ b. not b && inside (filter (λ o. not (leq s o)) os) t) f ∙ inside-filter s os t f ∙ sym (and-true (inside os t))
+    by false e true f = inside-above os s t e f ∙ sym (and-false (inside os t))
+    by false e false f = sym (and-true (inside os t))
 
 -- these stamps more are outside, with each greater one
 pub inside-excluding_all : (ss os : List (List ℕ)) (t : List ℕ) → inside (excluding_all ss os) t ≡ (inside os t && inside ss t)
-inside-excluding_all [] os t = all (inside os t)
-  where
-    all : (b : Bool) → b ≡ (b && true)
-    all true = refl
-    all false = refl
+inside-excluding_all [] os t = sym (and-true (inside os t))
 inside-excluding_all (s ∷ ss) os t =
-    inside-excluding_all ss (excluding s os) t ∙ ap (λ b. b && inside ss t) (inside-excluding s os t) ∙ assoc (inside os t) (not (leq s t)) (inside ss t)
-  where
-    assoc : (a b c : Bool) → ((a && b) && c) ≡ (a && (b && c))
-    assoc true b c = refl
-    assoc false b c = refl
+    inside-excluding_all ss (excluding s os) t ∙ ap (λ b. b && inside ss t) (inside-excluding s os t) ∙ and_assoc (inside os t) (not (leq s t)) (inside ss t)
 
 inside-excluding_lubs : (s : List ℕ) (ps os : List (List ℕ)) (t : List ℕ) → AllByRecursion (λ p. length s ≡ length p) ps → inside (excluding_lubs s ps os) t ≡ (inside os t && (not (leq s t) || inside ps t))
 inside-excluding_lubs s [] os t h = by (inside os t) (leq s t)
@@ -117,11 +92,7 @@ inside-excluding_lubs s (p ∷ ps) os t h =
 
 -- what is at least one of either list is outside too
 pub inside-excluding_pairs : (ss ps os : List (List ℕ)) (t : List ℕ) → AllByRecursion (λ s. AllByRecursion (λ p. length s ≡ length p) ps) ss → inside (excluding_pairs ss ps os) t ≡ (inside os t && (inside ss t || inside ps t))
-inside-excluding_pairs [] ps os t h = all (inside os t)
-  where
-    all : (b : Bool) → b ≡ (b && true)
-    all true = refl
-    all false = refl
+inside-excluding_pairs [] ps os t h = sym (and-true (inside os t))
 inside-excluding_pairs (s ∷ ss) ps os t h =
     inside-excluding_pairs ss ps (excluding_lubs s ps os) t h.1
     ∙ ap (λ b. b && (inside ss t || inside ps t)) (inside-excluding_lubs s ps os t h.0)
@@ -131,11 +102,7 @@ inside-excluding_pairs (s ∷ ss) ps os t h =
     by true true c true = refl
     by true true true false = refl
     by true true false false = refl
-    by true false c true = or c
-      where
-        or : (c : Bool) → (c || true) ≡ true
-        or true = refl
-        or false = refl
+    by true false c true = or-true c
     by true false c false = refl
     by false b c d = refl
 
@@ -143,23 +110,15 @@ inside-excluding_pairs (s ∷ ss) ps os t h =
 leq_take : (t s : List ℕ) (n : ℕ) → n < length t → n < length s → leq (take (suc n) t) (take (suc n) s) ≡ (leq (take n t) (take n s) && nat_le (get_or t n 0) (get_or s n 0))
 leq_take [] s n h k = absurd (omega arith)
 leq_take (y ∷ t) [] n h k = absurd (omega arith)
-leq_take (y ∷ t) (x ∷ s) zero h k = all (nat_le y x)
-  where
-    all : (b : Bool) → (b && true) ≡ b
-    all true = refl
-    all false = refl
-leq_take (y ∷ t) (x ∷ s) (suc n) h k = ap (λ b. nat_le y x && b) (leq_take t s n (omega arith) (omega arith)) ∙ assoc (nat_le y x) (leq (take n t) (take n s)) (nat_le (get_or t n 0) (get_or s n 0))
-  where
-    assoc : (a b c : Bool) → (a && (b && c)) ≡ ((a && b) && c)
-    assoc true b c = refl
-    assoc false b c = refl
+leq_take (y ∷ t) (x ∷ s) zero h k = and-true (nat_le y x)
+leq_take (y ∷ t) (x ∷ s) (suc n) h k = ap (λ b. nat_le y x && b) (leq_take t s n (omega arith) (omega arith)) ∙ sym (and_assoc (nat_le y x) (leq (take n t) (take n s)) (nat_le (get_or t n 0) (get_or s n 0)))
 
 pub leq-at : (s t : List ℕ) (n : ℕ) → leq s t ≡ true → get_or s n 0 ≤ get_or t n 0
 leq-at [] [] n h = omega arith
 leq-at [] (y ∷ t) n h = cc
 leq-at (x ∷ s) [] n h = cc
-leq-at (x ∷ s) (y ∷ t) zero h = let a : nat_le x y ≡ true = and_left _ _ h in grind (arith, nat_tests)
-leq-at (x ∷ s) (y ∷ t) (suc n) h = leq-at s t n (and_right _ _ h)
+leq-at (x ∷ s) (y ∷ t) zero h = let a : nat_le x y ≡ true = (and_parts _ _ h).0 in grind (arith, nat_tests)
+leq-at (x ∷ s) (y ∷ t) (suc n) h = leq-at s t n (and_parts _ _ h).1
 
 -- of the stamps of a domain, those are inside that are at most the stamp at the first places
 pub inside-below_at : (s g t : List ℕ) (n : ℕ) → n ≤ length s → leq s g ≡ true → leq t g ≡ true → inside (below_at s g n) t ≡ leq (take n t) (take n s)

@@ -1,23 +1,18 @@
 -- What is inside one of two frontiers, by the near least upper bounds, where stamps have at most three coordinates.
 use Rattle.std.proofs.Common.{◌≡◌, ℕ, ◌+◌, ◌≤◌, ◌<◌, Bool, true, false, not, ◌&&◌, ◌||◌, nat_le, nat_lt, cond, List, [], ◌∷◌, length, min, drop, get_or, refl, sym, ap, ◌∙◌, zero, suc, ◌⊎◌, inl, inr, arith}
-use Rattle.std.proofs.lemmas.Bool.{cases_lt}
+use Rattle.std.proofs.Math.Bool.{and_assoc, and-true, and-or_distrib_left}
+use Rattle.std.proofs.lemmas.Bool.{cases_lt, not-true, and_from, and_parts, and_left, and_right}
 use Rattle.std.proofs.lemmas.Bool.Decides.{nat_tests}
 use Rattle.std.specs.List.{AllByRecursion}
 use Rattle.fw_time.specs.declared.stamp.Bounds.{Bounds}
 use Rattle.fw_time.specs.Stamp.{leq, lub, in_domain}
-use Rattle.fw_time.proofs.StampLaws.{leq-length, leq-lub, lub-least, and_left, and_right, both}
+use Rattle.fw_time.proofs.StampLaws.{leq-length, leq-lub, lub-least}
 use Rattle.fw_frontier.specs.Frontier.{join}
 use Rattle.fw_frontier.specs.Front.{inside, frontier_of, IsCanonical, Names}
 use Rattle.fw_frontier.specs.Outside.{excluding, excluding_all, rises, excluding_near, excluding_all_near}
 use Rattle.fw_frontier.proofs.InsideLaws.{inside-excluding, inside-excluding_all}
 use Rattle.fw_frontier.proofs.CanonicalLaws.{canonical-excluding, canonical-excluding_all, in_domain-canonical, lengths}
-use Rattle.fw_frontier.proofs.GenericLaws.{each-at}
-
-no : {A : Type 0} → false ≡ true → A
-no e = absurd (lies e)
-  where
-    lies : false ≡ true → ⊥
-    lies e = cc
+use Rattle.fw_frontier.proofs.GenericLaws.{each-at, no}
 
 -- of two stamps of at most three coordinates one is greater at no more than one place
 rises-sum : (s p : List ℕ) → length s ≡ length p → rises s p + rises p s ≤ length s
@@ -81,49 +76,29 @@ all_free (s ∷ ss) ps t = free s ps t && all_free ss ps t
 
 inside-excluding_near : (s : List ℕ) (ps os : List (List ℕ)) (t : List ℕ) → AllByRecursion (λ p. length s ≡ length p) ps → inside (excluding_near s ps os) t ≡ (inside os t && free s ps t)
 unfolding free
-inside-excluding_near s [] os t h = last (inside os t)
-  where
-    last : (b : Bool) → b ≡ (b && true)
-    last true = refl
-    last false = refl
+inside-excluding_near s [] os t h = sym (and-true (inside os t))
 inside-excluding_near s (p ∷ ps) os t h =
     inside-excluding_near s ps (cond (nat_le (rises s p) 1) (excluding (lub s p) os) os) t h.1
     ∙ ap (λ b. b && free s ps t) (by (nat_le (rises s p) 1))
-    ∙ assoc (inside os t) (not (nat_le (rises s p) 1 && (leq s t && leq p t))) (free s ps t)
+    ∙ and_assoc (inside os t) (not (nat_le (rises s p) 1 && (leq s t && leq p t))) (free s ps t)
   where
-    last : (b : Bool) → b ≡ (b && true)
-    last true = refl
-    last false = refl
-
-    assoc : (a b c : Bool) → ((a && b) && c) ≡ (a && (b && c))
-    assoc true b c = refl
-    assoc false b c = refl
-
     by : (c : Bool) → inside (cond c (excluding (lub s p) os) os) t ≡ (inside os t && not (c && (leq s t && leq p t)))
     by true = inside-excluding (lub s p) os t ∙ ap (λ b. inside os t && not b) (leq-lub s p t h.0)
-    by false = last (inside os t)
+    by false = sym (and-true (inside os t))
 
 inside-excluding_all_near : (ss ps os : List (List ℕ)) (t : List ℕ) → AllByRecursion (λ s. AllByRecursion (λ p. length s ≡ length p) ps) ss → inside (excluding_all_near ss ps os) t ≡ (inside os t && all_free ss ps t)
 unfolding all_free
-inside-excluding_all_near [] ps os t h = last (inside os t)
-  where
-    last : (b : Bool) → b ≡ (b && true)
-    last true = refl
-    last false = refl
+inside-excluding_all_near [] ps os t h = sym (and-true (inside os t))
 inside-excluding_all_near (s ∷ ss) ps os t h =
     inside-excluding_all_near ss ps (excluding_all (excluding_near s ps []) os) t h.1
     ∙ ap (λ b. b && all_free ss ps t) (inside-excluding_all (excluding_near s ps []) os t ∙ ap (λ b. inside os t && b) (inside-excluding_near s ps [] t h.0))
-    ∙ assoc (inside os t) (free s ps t) (all_free ss ps t)
-  where
-    assoc : (a b c : Bool) → ((a && b) && c) ≡ (a && (b && c))
-    assoc true b c = refl
-    assoc false b c = refl
+    ∙ and_assoc (inside os t) (free s ps t) (all_free ss ps t)
 
 -- what is inside one of the two is free
 free-apart : (s : List ℕ) (ps : List (List ℕ)) (t : List ℕ) → leq s t ≡ false → free s ps t ≡ true
 unfolding free
 free-apart s [] t h = refl
-free-apart s (p ∷ ps) t h = both _ _ (by (nat_le (rises s p) 1) (leq s t) (leq p t) h) (free-apart s ps t h)
+free-apart s (p ∷ ps) t h = and_from _ _ (by (nat_le (rises s p) 1) (leq s t) (leq p t) h) (free-apart s ps t h)
   where
     by : (n a b : Bool) → a ≡ false → not (n && (a && b)) ≡ true
     by true true b e = no (sym e)
@@ -133,7 +108,7 @@ free-apart s (p ∷ ps) t h = both _ _ (by (nat_le (rises s p) 1) (leq s t) (leq
 free-inside : (s : List ℕ) (ps : List (List ℕ)) (t : List ℕ) → inside ps t ≡ true → free s ps t ≡ true
 unfolding free
 free-inside s [] t h = refl
-free-inside s (p ∷ ps) t h = both _ _ (by (nat_le (rises s p) 1) (leq s t) (leq p t) (and_left _ _ h)) (free-inside s ps t (and_right _ _ h))
+free-inside s (p ∷ ps) t h = and_from _ _ (by (nat_le (rises s p) 1) (leq s t) (leq p t) (and_parts _ _ h).0) (free-inside s ps t (and_parts _ _ h).1)
   where
     by : (n a b : Bool) → not b ≡ true → not (n && (a && b)) ≡ true
     by n a true e = no e
@@ -144,16 +119,12 @@ free-inside s (p ∷ ps) t h = both _ _ (by (nat_le (rises s p) 1) (leq s t) (le
 all_free-first : (ss ps : List (List ℕ)) (t : List ℕ) → inside ss t ≡ true → all_free ss ps t ≡ true
 unfolding all_free
 all_free-first [] ps t h = refl
-all_free-first (s ∷ ss) ps t h = both _ _ (free-apart s ps t (by (leq s t) (and_left _ _ h))) (all_free-first ss ps t (and_right _ _ h))
-  where
-    by : (a : Bool) → not a ≡ true → a ≡ false
-    by true e = no e
-    by false e = refl
+all_free-first (s ∷ ss) ps t h = and_from _ _ (free-apart s ps t (not-true (leq s t) (and_parts _ _ h).0)) (all_free-first ss ps t (and_parts _ _ h).1)
 
 all_free-second : (ss ps : List (List ℕ)) (t : List ℕ) → inside ps t ≡ true → all_free ss ps t ≡ true
 unfolding all_free
 all_free-second [] ps t h = refl
-all_free-second (s ∷ ss) ps t h = both _ _ (free-inside s ps t h) (all_free-second ss ps t h)
+all_free-second (s ∷ ss) ps t h = and_from _ _ (free-inside s ps t h) (all_free-second ss ps t h)
 
 -- what is at least a stamp of each list is not free
 pub found : (os : List (List ℕ)) (t : List ℕ) → inside os t ≡ false → (i : ℕ) × ((i < length os) × (leq (get_or os i []) t ≡ true))
@@ -181,21 +152,13 @@ not_free s (p ∷ ps) t zero l n h k = by (nat_le (rises s p) 1) (leq s t) (leq 
     by true true false d e f = no f
     by true false b d e f = no e
     by false a b d e f = no d
-not_free s (p ∷ ps) t (suc j) l n h k = last (not (nat_le (rises s p) 1 && (leq s t && leq p t))) (free s ps t) (not_free s ps t j (omega arith) n h k)
-  where
-    last : (a b : Bool) → b ≡ false → (a && b) ≡ false
-    last true b e = e
-    last false b e = refl
+not_free s (p ∷ ps) t (suc j) l n h k = and_right (not (nat_le (rises s p) 1 && (leq s t && leq p t))) (free s ps t) (not_free s ps t j (omega arith) n h k)
 
 not_all_free : (ss ps : List (List ℕ)) (t : List ℕ) (i : ℕ) → i < length ss → free (get_or ss i []) ps t ≡ false → all_free ss ps t ≡ false
 unfolding all_free
 not_all_free [] ps t i l h = absurd (omega arith)
 not_all_free (s ∷ ss) ps t zero l h = ap (λ b. b && all_free ss ps t) h
-not_all_free (s ∷ ss) ps t (suc i) l h = last (free s ps t) (all_free ss ps t) (not_all_free ss ps t i (omega arith) h)
-  where
-    last : (a b : Bool) → b ≡ false → (a && b) ≡ false
-    last true b e = e
-    last false b e = refl
+not_all_free (s ∷ ss) ps t (suc i) l h = and_right (free s ps t) (all_free ss ps t) (not_all_free ss ps t i (omega arith) h)
 
 covered : (b : Bounds) (ss ps : List (List ℕ)) (t : List ℕ) → length b.greatest ≤ 3 → AllByRecursion (λ s. in_domain b s ≡ true) ss → AllByRecursion (λ p. in_domain b p ≡ true) ps
     → inside ss t ≡ false → inside ps t ≡ false → (all_free ss ps t && all_free ps ss t) ≡ false
@@ -207,36 +170,24 @@ covered b ss ps t few h k l m =
     let ls = leq-length s b.greatest (each-at (λ s. in_domain b s ≡ true) ss x.0 [] x.1.0 h) in
     let lp = leq-length p b.greatest (each-at (λ p. in_domain b p ≡ true) ps y.0 [] y.1.0 k) in
     elim (one-near s p (ls ∙ sym lp) (omega (arith, ls))) [
-      | inl n ↦ first (all_free ss ps t) (all_free ps ss t) (not_all_free ss ps t x.0 x.1.0 (not_free s ps t y.0 y.1.0 n x.1.1 y.1.1))
-      | inr n ↦ last (all_free ss ps t) (all_free ps ss t) (not_all_free ps ss t y.0 y.1.0 (not_free p ss t x.0 x.1.0 n y.1.1 x.1.1))
+      | inl n ↦ and_left (all_free ss ps t) (all_free ps ss t) (not_all_free ss ps t x.0 x.1.0 (not_free s ps t y.0 y.1.0 n x.1.1 y.1.1))
+      | inr n ↦ and_right (all_free ss ps t) (all_free ps ss t) (not_all_free ps ss t y.0 y.1.0 (not_free p ss t x.0 x.1.0 n y.1.1 x.1.1))
     ]
-  where
-    first : (a c : Bool) → a ≡ false → (a && c) ≡ false
-    first true c e = no (sym e)
-    first false c e = refl
-
-    last : (a c : Bool) → c ≡ false → (a && c) ≡ false
-    last true c e = e
-    last false c e = refl
 
 -- what is inside one of the two, where stamps have at most three coordinates
 pub names-join_near : (b : Bounds) (ss ps : List (List ℕ)) → length b.greatest ≤ 3 → AllByRecursion (λ s. in_domain b s ≡ true) ss → AllByRecursion (λ p. in_domain b p ≡ true) ps
     → Names b (excluding_all_near ps ss (excluding_all_near ss ps [])) (join (frontier_of b ss) (frontier_of b ps))
 names-join_near b ss ps few h k = record {
   canonical = canonical-excluding_all_near b ps ss (excluding_all_near ss ps []) k h (canonical-excluding_all_near b ss ps [] h k tt);
-  same = λ t. ap (λ c. in_domain b t && c) (whole t ∙ test t (inside ss t) refl (inside ps t) refl) ∙ by (in_domain b t) (inside ss t) (inside ps t);
+  same = λ t. ap (λ c. in_domain b t && c) (whole t ∙ test t (inside ss t) refl (inside ps t) refl) ∙ and-or_distrib_left (in_domain b t) (inside ss t) (inside ps t);
 }
   where
-    by : (a b c : Bool) → (a && (b || c)) ≡ ((a && b) || (a && c))
-    by true b c = refl
-    by false b c = refl
-
     whole : (t : List ℕ) → inside (excluding_all_near ps ss (excluding_all_near ss ps [])) t ≡ (all_free ss ps t && all_free ps ss t)
     whole t =
         inside-excluding_all_near ps ss (excluding_all_near ss ps []) t (lengths b ps ss k h)
         ∙ ap (λ c. c && all_free ps ss t) (inside-excluding_all_near ss ps [] t (lengths b ss ps h k))
 
     test : (t : List ℕ) (x : Bool) → inside ss t ≡ x → (y : Bool) → inside ps t ≡ y → (all_free ss ps t && all_free ps ss t) ≡ (inside ss t || inside ps t)
-    test t true e y f = both _ _ (all_free-first ss ps t e) (all_free-second ps ss t e) ∙ sym (ap (λ c. c || inside ps t) e)
-    test t false e true f = both _ _ (all_free-second ss ps t f) (all_free-first ps ss t f) ∙ sym (λ i. e i || f i)
+    test t true e y f = and_from _ _ (all_free-first ss ps t e) (all_free-second ps ss t e) ∙ sym (ap (λ c. c || inside ps t) e)
+    test t false e true f = and_from _ _ (all_free-second ss ps t f) (all_free-first ps ss t f) ∙ sym (λ i. e i || f i)
     test t false e false f = covered b ss ps t few h k e f ∙ sym (λ i. e i || f i)

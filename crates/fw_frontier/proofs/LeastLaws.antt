@@ -12,18 +12,12 @@ use Rattle.fw_time.proofs.StampLaws.{leq-trans, leq-antisym, before-irrefl, befo
 use Rattle.fw_frontier.specs.Front.{inside, IsCanonical}
 use Rattle.fw_frontier.specs.Least.{IsOneOfTheLeast, AreLeastOf}
 use Rattle.fw_frontier.specs.Outside.{excluding, excluding_all}
-use Rattle.fw_frontier.proofs.GenericLaws.{each-at}
+use Rattle.fw_frontier.proofs.GenericLaws.{each-at, no}
 use Rattle.fw_frontier.proofs.InsideLaws.{inside-excluding, inside-excluding_all}
 use Rattle.fw_frontier.proofs.AntichainLaws.{IsAntichain, all-excluding, all-excluding_all, antichain-excluding, antichain-excluding_all, antichain-at}
 use Rattle.fw_frontier.proofs.CanonicalLaws.{antichain-canonical, canonical-antichain}
 use Rattle.fw_frontier.proofs.NamesLaws.{all-outside}
 use Rattle.fw_frontier.proofs.JoinLaws.{found}
-
-no : {A : Type 0} → false ≡ true → A
-no e = absurd (lies e)
-  where
-    lies : false ≡ true → ⊥
-    lies e = cc
 
 -- ---- the stamps of a list
 

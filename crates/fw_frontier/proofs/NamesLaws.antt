@@ -1,26 +1,24 @@
 -- Which list names a frontier, and that there is only one.
 use Rattle.std.proofs.Common.{◌≡◌, ℕ, Bool, true, false, not, ◌&&◌, ◌||◌, List, [], ◌∷◌, length, get_or, take, map, ◌+◌, ◌<◌, refl, sym, ap, ◌∙◌, subst, suc, arith}
+use Rattle.std.proofs.lemmas.Bool.{and_from, and_parts}
+use Rattle.std.proofs.Math.Bool.{and-false, and_assoc, and-true, and-or_distrib_left, or-false}
 use Rattle.std.proofs.lemmas.List.{take_all}
 use Rattle.std.specs.List.{AllByRecursion}
 use Rattle.std.specs.Ordering.{is_lt}
 use Rattle.fw_time.specs.declared.stamp.Bounds.{Bounds}
 use Rattle.fw_time.specs.Stamp.{leq, stamp_cmp, origin, in_domain}
-use Rattle.fw_time.proofs.StampLaws.{leq-refl, leq-antisym, leq-length, origin-leq, before-leq, before-trans, before-irrefl, and_left, and_right, both}
+use Rattle.fw_time.proofs.StampLaws.{leq-refl, leq-antisym, leq-length, origin-leq, before-leq, before-trans, before-irrefl}
 use Rattle.fw_frontier.specs.Frontier.{nothing, everything, meet, join, cover, some_above, without_above, Within, IsFrontier}
 use Rattle.fw_frontier.specs.Front.{inside, frontier_of, IsCanonical, IsLeastBefore, Names}
 use Rattle.fw_frontier.specs.Outside.{excluding, excluding_all, below_at, none_inside}
 use Rattle.fw_frontier.proofs.InsideLaws.{inside-closed, inside-excluding, inside-excluding_all, inside-excluding_pairs, inside-below_at}
 use Rattle.fw_frontier.proofs.CanonicalLaws.{canonical-excluding, canonical-excluding_all, canonical-excluding_pairs, canonical-below_at, in_domain-canonical, lengths}
-use Rattle.fw_frontier.proofs.GenericLaws.{some_above_more}
+use Rattle.fw_frontier.proofs.GenericLaws.{some_above_more, no}
 use Rattle.fw_frontier.proofs.Pairs.{excluding_pairs}
 
 -- the list without stamps names all of the domain
 pub names-all : (b : Bounds) → Names b [] (everything b)
-names-all b = record { canonical = tt; same = λ t. one (in_domain b t) }
-  where
-    one : (c : Bool) → (c && true) ≡ c
-    one true = refl
-    one false = refl
+names-all b = record { canonical = tt; same = λ t. and-true (in_domain b t) }
 
 length-origin : (s : List ℕ) → length (origin s) ≡ length s
 length-origin [] = refl
@@ -45,12 +43,8 @@ names-nothing b = record {
 pub names-excluding : (b : Bounds) (s : List ℕ) (os : List (List ℕ)) → in_domain b s ≡ true → IsCanonical b os → Names b (excluding s os) (without_above s (frontier_of b os))
 names-excluding b s os h k = record {
   canonical = canonical-excluding b s os h k;
-  same = λ t. ap (λ c. in_domain b t && c) (inside-excluding s os t) ∙ assoc (in_domain b t) (inside os t) (not (leq s t));
+  same = λ t. ap (λ c. in_domain b t && c) (inside-excluding s os t) ∙ sym (and_assoc (in_domain b t) (inside os t) (not (leq s t)));
 }
-  where
-    assoc : (a b c : Bool) → (a && (b && c)) ≡ ((a && b) && c)
-    assoc true b c = refl
-    assoc false b c = refl
 
 -- what is inside both
 pub names-excluding_all : (b : Bounds) (ss os : List (List ℕ)) → AllByRecursion (λ s. in_domain b s ≡ true) ss → IsCanonical b os → Names b (excluding_all ss os) (meet (frontier_of b os) (frontier_of b ss))
@@ -81,12 +75,8 @@ names-until b ss h = let n = names-excluding_all b ss [] h tt in record {
 pub names-join : (b : Bounds) (os ps : List (List ℕ)) → AllByRecursion (λ s. in_domain b s ≡ true) os → AllByRecursion (λ p. in_domain b p ≡ true) ps → Names b (excluding_pairs os ps []) (join (frontier_of b os) (frontier_of b ps))
 names-join b os ps h k = record {
   canonical = canonical-excluding_pairs b os ps [] h k tt;
-  same = λ t. ap (λ c. in_domain b t && c) (inside-excluding_pairs os ps [] t (lengths b os ps h k)) ∙ by (in_domain b t) (inside os t) (inside ps t);
+  same = λ t. ap (λ c. in_domain b t && c) (inside-excluding_pairs os ps [] t (lengths b os ps h k)) ∙ and-or_distrib_left (in_domain b t) (inside os t) (inside ps t);
 }
-  where
-    by : (a b c : Bool) → (a && (b || c)) ≡ ((a && b) || (a && c))
-    by true b c = refl
-    by false b c = refl
 
 -- what is at most one stamp
 pub names-below : (b : Bounds) (s : List ℕ) → in_domain b s ≡ true → Names b (below_at s b.greatest (length s)) (cover b (s ∷ []))
@@ -95,12 +85,8 @@ names-below b s h = record {
   same = λ t. by t (in_domain b t) refl;
 }
   where
-    one : (c : Bool) → c ≡ (c || false)
-    one true = refl
-    one false = refl
-
     by : (t : List ℕ) (c : Bool) → leq t b.greatest ≡ c → (c && inside (below_at s b.greatest (length s)) t) ≡ (c && (leq t s || false))
-    by t true e = inside-below_at s b.greatest t (length s) (omega arith) h e ∙ whole ∙ one (leq t s)
+    by t true e = inside-below_at s b.greatest t (length s) (omega arith) h e ∙ whole ∙ sym (or-false (leq t s))
       where
         long : length t ≡ length s
         long = leq-length t b.greatest e ∙ sym (leq-length s b.greatest h)
@@ -139,12 +125,8 @@ names-cover_more b both os under s i ss l e n m h = record {
 pub names-cover_none : (b : Bounds) (os : List (List ℕ)) → os ≡ origin b.greatest ∷ [] → Names b os (cover b [])
 names-cover_none b os e = record {
   canonical = subst (IsCanonical b) (sym e) (names-nothing b).canonical;
-  same = λ t. ap (λ u. frontier_of b u t) e ∙ (names-nothing b).same t ∙ by (in_domain b t);
+  same = λ t. ap (λ u. frontier_of b u t) e ∙ (names-nothing b).same t ∙ sym (and-false (in_domain b t));
 }
-  where
-    by : (a : Bool) → false ≡ (a && false)
-    by true = refl
-    by false = refl
 
 -- the stamps before a canonical list are at most none of it
 pub inside-first : (x : List ℕ) (os : List (List ℕ)) (t : List ℕ) → AllByRecursion (λ q. is_lt (stamp_cmp x q) ≡ true) os → inside os t ≡ false → is_lt (stamp_cmp x t) ≡ true
@@ -154,12 +136,6 @@ inside-first x (q ∷ os) t h k = by (leq q t) refl (λ e. before-leq x q t h.0 
     by : (c : Bool) → leq q t ≡ c → (leq q t ≡ true → is_lt (stamp_cmp x t) ≡ true) → (inside os t ≡ false → is_lt (stamp_cmp x t) ≡ true) → (not c && inside os t) ≡ false → is_lt (stamp_cmp x t) ≡ true
     by true e f g k = f e
     by false e f g k = g k
-
-no : {A : Type 0} → false ≡ true → A
-no e = absurd (lies e)
-  where
-    lies : false ≡ true → ⊥
-    lies e = cc
 
 outside-self : (x : List ℕ) (os : List (List ℕ)) → inside (x ∷ os) x ≡ false
 outside-self x os = by (leq x x) (leq-refl x)
@@ -192,7 +168,7 @@ Alike b zs xs ys = (t : List ℕ) → in_domain b t ≡ true → inside zs t ≡
 alike-tail : (b : Bounds) (zs : List (List ℕ)) (x y : List ℕ) (xs ys : List (List ℕ)) → x ≡ y → Alike b zs (x ∷ xs) (y ∷ ys) → Alike b (x ∷ zs) xs ys
 unfolding Alike
 alike-tail b zs x y xs ys e h t d k =
-    part (leq x t) (leq y t) (inside xs t) (inside ys t) (and_left _ _ k) (ap (λ u. leq u t) e) (h t d (and_right _ _ k))
+    part (leq x t) (leq y t) (inside xs t) (inside ys t) (and_parts _ _ k).0 (ap (λ u. leq u t) e) (h t d (and_parts _ _ k).1)
   where
     part : (m n p q : Bool) → not m ≡ true → m ≡ n → (not m && p) ≡ (not n && q) → p ≡ q
     part true n p q k e h = no k
@@ -238,7 +214,7 @@ names-same b xs ys f h k = same-from b [] xs ys h.canonical k.canonical (any xs)
 pub none_inside-within : (os ps : List (List ℕ)) → none_inside os ps ≡ true → Within (inside os) (inside ps)
 none_inside-within os [] h t k = refl
 none_inside-within os (p ∷ ps) h t k =
-    both (not (leq p t)) (inside ps t) (by (leq p t) (λ e. inside-closed os p t e k) (and_left _ _ h)) (none_inside-within os ps (and_right _ _ h) t k)
+    and_from (not (leq p t)) (inside ps t) (by (leq p t) (λ e. inside-closed os p t e k) (and_parts _ _ h).0) (none_inside-within os ps (and_parts _ _ h).1 t k)
   where
     by : (c : Bool) → (c ≡ true → inside os p ≡ true) → not (inside os p) ≡ true → not c ≡ true
     by true f e = let g = f refl in no (sym (ap not g) ∙ e)
@@ -259,7 +235,7 @@ all-outside (x ∷ ps) = (outside-self x ps, more x ps ps (all-outside ps))
 
 none_inside-all : (os ps : List (List ℕ)) → AllByRecursion (λ p. inside os p ≡ false) ps → none_inside os ps ≡ true
 none_inside-all os [] h = refl
-none_inside-all os (p ∷ ps) h = both (not (inside os p)) (none_inside os ps) (ap not h.0) (none_inside-all os ps h.1)
+none_inside-all os (p ∷ ps) h = and_from (not (inside os p)) (none_inside os ps) (ap not h.0) (none_inside-all os ps h.1)
 
 each : (P Q : List ℕ → Type 0) (f : (o : List ℕ) → P o → Q o) (os : List (List ℕ)) → AllByRecursion P os → AllByRecursion Q os
 each P Q f [] h = tt
@@ -275,14 +251,14 @@ within-none_inside os ps h = none_inside-all os ps (each (λ p. inside ps p ≡ 
 
 -- the same of the stamps of a domain
 pub none_inside-within_domain : (b : Bounds) (os ps : List (List ℕ)) → none_inside os ps ≡ true → Within (frontier_of b os) (frontier_of b ps)
-none_inside-within_domain b os ps h t k = both (in_domain b t) (inside ps t) (and_left _ _ k) (none_inside-within os ps h t (and_right _ _ k))
+none_inside-within_domain b os ps h t k = and_from (in_domain b t) (inside ps t) (and_parts _ _ k).0 (none_inside-within os ps h t (and_parts _ _ k).1)
 
 pub within_domain-none_inside : (b : Bounds) (os ps : List (List ℕ)) → IsCanonical b ps → Within (frontier_of b os) (frontier_of b ps) → none_inside os ps ≡ true
 within_domain-none_inside b os ps k h =
     none_inside-all os ps (join-all ps (all-outside ps) (in_domain-canonical b ps k))
   where
     step : (p : List ℕ) → inside ps p ≡ false → in_domain b p ≡ true → inside os p ≡ false
-    step p e d = kept-out (inside os p) (inside ps p) (λ f. and_right (in_domain b p) (inside ps p) (h p (both (in_domain b p) (inside os p) d f))) e
+    step p e d = kept-out (inside os p) (inside ps p) (λ f. (and_parts (in_domain b p) (inside ps p) (h p (and_from (in_domain b p) (inside os p) d f))).1) e
 
     join-all : (qs : List (List ℕ)) → AllByRecursion (λ p. inside ps p ≡ false) qs → AllByRecursion (λ p. in_domain b p ≡ true) qs → AllByRecursion (λ p. inside os p ≡ false) qs
     join-all [] e d = tt
@@ -294,13 +270,13 @@ names-self b os h = record { canonical = h; same = λ t. refl }
 
 pub frontier-closed : (b : Bounds) (os : List (List ℕ)) → IsFrontier b (frontier_of b os)
 frontier-closed b os = record {
-  inside_domain = λ t h. and_left _ _ h;
-  closed = λ s t d l h. both (in_domain b s) (inside os s) d (inside-closed os s t l (and_right _ _ h));
+  inside_domain = λ t h. (and_parts _ _ h).0;
+  closed = λ s t d l h. and_from (in_domain b s) (inside os s) d (inside-closed os s t l (and_parts _ _ h).1);
 }
 
 -- the largest frontier inside another that is without a stamp
 pub without_above-largest : (b : Bounds) (s : List ℕ) (f g : List ℕ → Bool) → IsFrontier b g → Within g f → in_domain b s ≡ true → g s ≡ false → Within g (without_above s f)
-without_above-largest b s f g h k d e t l = both (f t) (not (leq s t)) (k t l) (by (leq s t) refl)
+without_above-largest b s f g h k d e t l = and_from (f t) (not (leq s t)) (k t l) (by (leq s t) refl)
   where
     by : (c : Bool) → leq s t ≡ c → not c ≡ true
     by true m = no (sym e ∙ h.closed s t d m l)

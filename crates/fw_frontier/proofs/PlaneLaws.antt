@@ -1,6 +1,6 @@
 -- In planes just the least bounds are found, so that they name what is inside one of two frontiers.
 use Rattle.std.proofs.Common.{◌≡◌, ℕ, ◌+◌, ◌≤◌, ◌<◌, Bool, true, false, not, ◌&&◌, ◌||◌, nat_le, nat_lt, nat_eq, cond, List, [], ◌∷◌, ◌++◌, length, get_or, map, refl, sym, ap, ◌∙◌, subst, zero, suc, ◌⊎◌, inl, inr, arith}
-use Rattle.std.proofs.lemmas.Bool.{cases_lt}
+use Rattle.std.proofs.lemmas.Bool.{cases_lt, or_right, le-leb, and_from, and_parts, and_right}
 use Rattle.std.proofs.lemmas.Bool.Decides.{nat_tests}
 use Rattle.std.proofs.lemmas.List.Elements.{Contains-append_left, Contains-append_right}
 use Rattle.std.specs.List.{AllByRecursion, Contains}
@@ -9,20 +9,20 @@ use Rattle.std.specs.Ordering.{is_lt}
 use Rattle.std.specs.declared.cmp.Ordering.TheVariants.{Less}
 use Rattle.fw_time.specs.declared.stamp.Bounds.{Bounds}
 use Rattle.fw_time.specs.Stamp.{leq, lub, stamp_cmp, in_domain}
-use Rattle.fw_time.proofs.StampLaws.{leq-refl, leq-trans, leq-antisym, leq-length, lub-left, lub-right, lub-least, before-irrefl, and_left, and_right, both}
+use Rattle.fw_time.proofs.StampLaws.{leq-refl, leq-trans, leq-antisym, leq-length, lub-left, lub-right, lub-least, before-irrefl}
 use Rattle.fw_frontier.specs.declared.planes.Plane.{Plane}
 use Rattle.fw_frontier.specs.declared.planes.Point.{Point}
 use Rattle.fw_frontier.specs.declared.planes.TheConstants.{PLANES}
 use Rattle.fw_frontier.specs.Front.{inside, frontier_of, IsCanonical, Names}
 use Rattle.fw_frontier.specs.Frontier.{join}
 use Rattle.fw_frontier.specs.Planes.{point_of, is_before, reaches, both_reach, is_least, is_least_along, bounds_with, all_bounds, plane_bounds, planes_bounds, HaveSame}
-use Rattle.fw_frontier.proofs.GenericLaws.{each-at}
+use Rattle.fw_frontier.proofs.GenericLaws.{each-at, no}
 use Rattle.fw_frontier.proofs.InsideLaws.{inside-above, leq-at}
 use Rattle.fw_frontier.proofs.AntichainLaws.{antichain-at}
 use Rattle.fw_frontier.proofs.CanonicalLaws.{in_domain-canonical, antichain-canonical}
 use Rattle.fw_frontier.proofs.NamesLaws.{names-join, all-outside}
 use Rattle.fw_frontier.proofs.JoinLaws.{found}
-use Rattle.fw_frontier.proofs.CornerLaws.{no, below, to_below}
+use Rattle.fw_frontier.proofs.CornerLaws.{below, to_below}
 use Rattle.fw_frontier.proofs.Pairs.{excluding_pairs}
 
 -- ---- a stamp and the places of a plane
@@ -35,10 +35,7 @@ leq-each : (s t : List ℕ) → length s ≡ length t → ((c : ℕ) → c < len
 leq-each [] [] e h = refl
 leq-each [] (y ∷ t) e h = absurd (omega arith)
 leq-each (x ∷ s) [] e h = absurd (omega arith)
-leq-each (x ∷ s) (y ∷ t) e h = both (nat_le x y) (leq s t) (fits x y (h 0 (omega arith))) (leq-each s t (omega arith) (λ c l. h (suc c) (omega arith)))
-  where
-    fits : (x y : ℕ) → x ≤ y → nat_le x y ≡ true
-    fits x y h = grind (arith, nat_tests)
+leq-each (x ∷ s) (y ∷ t) e h = and_from (nat_le x y) (leq s t) (le-leb x y (h 0 (omega arith))) (leq-each s t (omega arith) (λ c l. h (suc c) (omega arith)))
 
 leq-places : (plane : Plane) → Covers plane → (s t : List ℕ) → length s ≡ 4 → length t ≡ 4
     → get_or s plane.x 0 ≤ get_or t plane.x 0 → get_or s plane.y 0 ≤ get_or t plane.y 0 → get_or s plane.z 0 ≤ get_or t plane.z 0 → get_or s plane.w 0 ≤ get_or t plane.w 0
@@ -78,13 +75,13 @@ before-tested plane s x y z w h =
     let b = nat_lt (get_or s plane.y 0) y in
     let c = nat_lt (get_or s plane.z 0) z in
     let d = nat_lt (get_or s plane.w 0) w in
-    let k = and_right a (b && (c && d)) h in
-    let l = and_right b (c && d) k in
+    let k = (and_parts a (b && (c && d)) h).1 in
+    let l = (and_parts b (c && d) k).1 in
     record {
-      at_x = below (get_or s plane.x 0) x (and_left a (b && (c && d)) h);
-      at_y = below (get_or s plane.y 0) y (and_left b (c && d) k);
-      at_z = below (get_or s plane.z 0) z (and_left c d l);
-      at_w = below (get_or s plane.w 0) w (and_right c d l);
+      at_x = below (get_or s plane.x 0) x (and_parts a (b && (c && d)) h).0;
+      at_y = below (get_or s plane.y 0) y (and_parts b (c && d) k).0;
+      at_z = below (get_or s plane.z 0) z (and_parts c d l).0;
+      at_w = below (get_or s plane.w 0) w (and_parts c d l).1;
     }
 
 -- some stamp of the list comes before the ends
@@ -96,11 +93,7 @@ record HasStampBefore (plane : Plane) (ss : List (List ℕ)) (x y z w : ℕ) : T
 reaches-at : (plane : Plane) (ss : List (List ℕ)) (x y z w i : ℕ) → i < length ss → IsBefore plane (get_or ss i []) x y z w → reaches (map (point_of plane) ss) x y z w ≡ true
 reaches-at plane [] x y z w i l h = absurd (omega arith)
 reaches-at plane (s ∷ ss) x y z w zero l h = ap (λ b. b || reaches (map (point_of plane) ss) x y z w) (test-before plane s x y z w h)
-reaches-at plane (s ∷ ss) x y z w (suc i) l h = last (is_before x y z w (point_of plane s)) (reaches (map (point_of plane) ss) x y z w) (reaches-at plane ss x y z w i (omega arith) h)
-  where
-    last : (a b : Bool) → b ≡ true → (a || b) ≡ true
-    last true b e = refl
-    last false b e = e
+reaches-at plane (s ∷ ss) x y z w (suc i) l h = or_right (is_before x y z w (point_of plane s)) (reaches (map (point_of plane) ss) x y z w) (reaches-at plane ss x y z w i (omega arith) h)
 
 reaches-found : (plane : Plane) (ss : List (List ℕ)) (x y z w : ℕ) → reaches (map (point_of plane) ss) x y z w ≡ true → HasStampBefore plane ss x y z w
 reaches-found plane [] x y z w h = no h
@@ -133,11 +126,7 @@ out-at (o ∷ os) t zero l h = by (leq o t) h
     by : (c : Bool) → c ≡ true → (not c && inside os t) ≡ false
     by true e = refl
     by false e = no e
-out-at (o ∷ os) t (suc i) l h = last (not (leq o t)) (inside os t) (out-at os t i (omega arith) h)
-  where
-    last : (a b : Bool) → b ≡ false → (a && b) ≡ false
-    last true b e = e
-    last false b e = refl
+out-at (o ∷ os) t (suc i) l h = and_right (not (leq o t)) (inside os t) (out-at os t i (omega arith) h)
 
 -- what is at least a stamp of each list and in the domain is a bound
 bound-of : (b : Bounds) (ss ps : List (List ℕ)) (s p t : List ℕ) → inside ss s ≡ false → inside ps p ≡ false → leq s t ≡ true → leq p t ≡ true → in_domain b t ≡ true → IsBound b ss ps t
@@ -160,8 +149,8 @@ bound-before : (b : Bounds) (plane : Plane) (ss ps : List (List ℕ)) (x y z w :
     → both_reach (map (point_of plane) ss) (map (point_of plane) ps) x y z w ≡ true → (u : List ℕ) × (IsBound b ss ps u × IsBefore plane u x y z w)
 unfolding InDomain
 bound-before b plane ss ps x y z w h k e =
-    let r = reaches-found plane ss x y z w (and_left (reaches (map (point_of plane) ss) x y z w) (reaches (map (point_of plane) ps) x y z w) e) in
-    let q = reaches-found plane ps x y z w (and_right (reaches (map (point_of plane) ss) x y z w) (reaches (map (point_of plane) ps) x y z w) e) in
+    let r = reaches-found plane ss x y z w (and_parts (reaches (map (point_of plane) ss) x y z w) (reaches (map (point_of plane) ps) x y z w) e).0 in
+    let q = reaches-found plane ps x y z w (and_parts (reaches (map (point_of plane) ss) x y z w) (reaches (map (point_of plane) ps) x y z w) e).1 in
     let s = get_or ss r.place [] in
     let p = get_or ps q.place [] in
     let ds : in_domain b s ≡ true = each-at (λ s. in_domain b s ≡ true) ss r.place [] r.there h in
@@ -639,11 +628,7 @@ names-planes b ss ps us four h k sorted same = record {
             at : (us : List (List ℕ)) (i : ℕ) → i < length us → leq (get_or us i u) t ≡ true → inside us t ≡ false
             at [] i l e = absurd (omega arith)
             at (o ∷ os) zero l e = out-at (o ∷ os) t 0 (omega arith) e
-            at (o ∷ os) (suc i) l e = last (not (leq o t)) (inside os t) (at os i (omega arith) e)
-              where
-                last : (a b : Bool) → b ≡ false → (a && b) ≡ false
-                last true b e = e
-                last false b e = refl
+            at (o ∷ os) (suc i) l e = and_right (not (leq o t)) (inside os t) (at os i (omega arith) e)
 
     outer : (t : List ℕ) (c : Bool) → inside us t ≡ c → (x : Bool) → inside ss t ≡ x → (y : Bool) → inside ps t ≡ y → in_domain b t ≡ true → c ≡ (x || y)
     outer t false e true f y g d = let u = above t e in no (sym (inside-above ss u.0 t u.1.0.bound.first u.1.1) ∙ f)

@@ -1,26 +1,19 @@
 -- The steps of a loop's frontiers, whatever the frontiers outside of the loop.
 use Rattle.std.proofs.Common.{◌≡◌, ℕ, ◌+◌, ◌<◌, ◌≤◌, Bool, true, false, not, ◌&&◌, ◌||◌, nat_le, nat_lt, max, min, List, [], ◌∷◌, ◌++◌, length, get_or, map, refl, sym, ap, ◌∙◌, subst, zero, suc, inl, inr, arith, add-one}
+use Rattle.std.proofs.Math.Bool.{and_assoc, or-true}
 use Rattle.std.proofs.lemmas.Bool.Decides.{nat_tests}
-use Rattle.std.proofs.lemmas.Bool.{cases_lt}
+use Rattle.std.proofs.lemmas.Bool.{cases_lt, lt-ltb, leb-true, le-ltb, le-leb, and_from, and_parts, and_right}
 use Rattle.std.proofs.lemmas.List.{get_or_past}
 use Rattle.std.specs.List.{AllByRecursion}
 use Rattle.fw_time.specs.Stamp.{leq, nest, outer, counter, in_domain}
 use Rattle.fw_time.specs.NestLaws.{nest-outer}
 use Rattle.fw_time.specs.declared.stamp.Bounds.{Bounds}
-use Rattle.fw_time.proofs.StampLaws.{leq-nest, leq-length, and_left, and_right, both}
+use Rattle.fw_time.proofs.StampLaws.{leq-nest, leq-length}
 use Rattle.fw_time.proofs.TimeLaws.{leq-nest_bound}
 use Rattle.fw_frontier.specs.Front.{inside, Names}
 use Rattle.fw_frontier.proofs.CanonicalLaws.{in_domain-canonical}
 use Rattle.fw_frontier.specs.Stairs.{IsDescending}
-
-lies : {A : Type 0} → false ≡ true → A
-lies e = absurd (no e)
-  where
-    no : false ≡ true → ⊥
-    no e = cc
-
-to_le : (c d : ℕ) → c ≤ d → nat_le c d ≡ true
-to_le c d h = grind (arith, nat_tests)
+use Rattle.fw_frontier.proofs.GenericLaws.{no}
 
 -- ---- two frontiers of a loop, step by step
 
@@ -48,7 +41,7 @@ descending-pairwise test f xs ys zs x y z grows mine other each c d t h k =
     each c t ∙ grows _ _ _ _ (mine c d t h) (other c d t h) (sym (each d t) ∙ k)
 
 pub and-grows : (a b m n : Bool) → (a ≡ true → m ≡ true) → (b ≡ true → n ≡ true) → (a && b) ≡ true → (m && n) ≡ true
-and-grows a b m n f g h = both m n (f (and_left a b h)) (g (and_right a b h))
+and-grows a b m n f g h = and_from m n (f (and_parts a b h).0) (g (and_parts a b h).1)
 
 pub or-grows : (a b m n : Bool) → (a ≡ true → m ≡ true) → (b ≡ true → n ≡ true) → (a || b) ≡ true → (m || n) ≡ true
 or-grows true b m n f g h = ap (λ c. c || n) (f refl)
@@ -70,7 +63,7 @@ cut-whole test q from xs zs x z long each last c s = elim (cases_lt c (length zs
   | inr h ↦
       ap (λ f. test f s) (get_or_past zs c z h)
       ∙ last s
-      ∙ (let p = sym (get_or_past xs c x (omega arith)) in let b = sym (to_le from c (omega arith)) in λ i. test (p i) s && not (b i && q s))
+      ∙ (let p = sym (get_or_past xs c x (omega arith)) in let b = sym (le-leb from c (omega arith)) in λ i. test (p i) s && not (b i && q s))
 ]
 
 pub descending-cut : {F T : Type 0} (test : F → T → Bool) (q : T → Bool) (from : ℕ) (xs zs : List F) (x z : F)
@@ -79,7 +72,7 @@ pub descending-cut : {F T : Type 0} (test : F → T → Bool) (q : T → Bool) (
     → IsDescending test zs z
 descending-cut test q from xs zs x z down each c d s h k =
     let e = sym (each d s) ∙ k in
-    each c s ∙ both (test (get_or xs c x) s) (not (nat_le from c && q s)) (down c d s h (and_left _ _ e)) (kept (nat_le from c) (nat_le from d) (q s) (λ f. later from c d h f) (and_right (test (get_or xs d x) s) (not (nat_le from d && q s)) e))
+    each c s ∙ and_from (test (get_or xs c x) s) (not (nat_le from c && q s)) (down c d s h (and_parts _ _ e).0) (kept (nat_le from c) (nat_le from d) (q s) (λ f. later from c d h f) (and_parts (test (get_or xs d x) s) (not (nat_le from d && q s)) e).1)
   where
     later : (from c d : ℕ) → c ≤ d → nat_le from c ≡ true → nat_le from d ≡ true
     later from c d h e = grind (arith, nat_tests)
@@ -96,30 +89,20 @@ pub below-whole : {F T : Type 0} (test : F → T → Bool) (n : ℕ) (u : F) (zs
     → ((t : T) → test z t ≡ false)
     → (c : ℕ) (t : T) → test (get_or zs c z) t ≡ (test u t && nat_lt c n)
 below-whole test n u zs z long each last c t = elim (cases_lt c (length zs)) [
-  | inl h ↦ each c t z h ∙ whole (test u t) (nat_lt c n) (inner c n (omega arith))
-  | inr h ↦ ap (λ f. test f t) (get_or_past zs c z h) ∙ last t ∙ none (test u t) (nat_lt c n) (past c n (omega arith))
+  | inl h ↦ each c t z h ∙ whole (test u t) (nat_lt c n) (lt-ltb c n (omega arith))
+  | inr h ↦ ap (λ f. test f t) (get_or_past zs c z h) ∙ last t ∙ sym (and_right (test u t) (nat_lt c n) (le-ltb c n (omega arith)))
 ]
   where
-    inner : (c n : ℕ) → c < n → nat_lt c n ≡ true
-    inner c n h = grind (arith, nat_tests)
-
-    past : (c n : ℕ) → n ≤ c → nat_lt c n ≡ false
-    past c n h = grind (arith, nat_tests)
-
     whole : (a b : Bool) → b ≡ true → a ≡ (a && b)
     whole true b e = sym e
     whole false b e = refl
-
-    none : (a b : Bool) → b ≡ false → false ≡ (a && b)
-    none true b e = sym e
-    none false b e = refl
 
 pub descending-below : {F T : Type 0} (test : F → T → Bool) (n : ℕ) (u : F) (zs : List F) (z : F)
     → ((c : ℕ) (t : T) → test (get_or zs c z) t ≡ (test u t && nat_lt c n))
     → IsDescending test zs z
 descending-below test n u zs z each c d t h k =
     let e = sym (each d t) ∙ k in
-    each c t ∙ both (test u t) (nat_lt c n) (and_left _ _ e) (later c d n h (and_right (test u t) (nat_lt d n) e))
+    each c t ∙ and_from (test u t) (nat_lt c n) (and_parts _ _ e).0 (later c d n h (and_parts (test u t) (nat_lt d n) e).1)
   where
     later : (c d n : ℕ) → c ≤ d → nat_lt d n ≡ true → nat_lt c n ≡ true
     later c d n h e = grind (arith, nat_tests)
@@ -158,18 +141,18 @@ upto-more test c d = rw add-one refl
 
 upto-min : (test : ℕ → Bool) (n d : ℕ) → ((a b : ℕ) → a ≤ b → test b ≡ true → test a ≡ true) → upto test (suc n) d ≡ test (min d n)
 unfolding upto
-upto-min test zero d down = first (nat_le 0 d) (to_le 0 d (omega arith)) ∙ ap test lowest
+upto-min test zero d down = first (nat_le 0 d) (le-leb 0 d (omega arith)) ∙ ap test lowest
   where
     first : (a : Bool) → a ≡ true → (true && (not a || test 0)) ≡ test 0
     first true e = refl
-    first false e = lies e
+    first false e = no e
 
     lowest : 0 ≡ min d 0
     lowest = omega arith
 upto-min test (suc n) d down =
     ap (λ b. b && (not (nat_le (suc n) d) || test (suc n))) (upto-min test n d down)
     ∙ elim (cases_lt n d) [
-      | inl h ↦ here (nat_le (suc n) d) (to_le (suc n) d (omega arith)) (test (min d n)) (test (suc n)) (λ e. down (min d n) (suc n) (omega arith) e) ∙ ap test (lower n d h)
+      | inl h ↦ here (nat_le (suc n) d) (le-leb (suc n) d (omega arith)) (test (min d n)) (test (suc n)) (λ e. down (min d n) (suc n) (omega arith) e) ∙ ap test (lower n d h)
       | inr h ↦ past (nat_le (suc n) d) (over n d h) (test (min d n)) (test (suc n)) ∙ ap test (upper n d h)
     ]
   where
@@ -186,10 +169,10 @@ upto-min test (suc n) d down =
     here true e b true f = ap (λ v. v && true) (f refl)
     here true e true false f = refl
     here true e false false f = refl
-    here false e b c f = lies e
+    here false e b c f = no e
 
     past : (a : Bool) → a ≡ false → (b c : Bool) → (b && (not a || c)) ≡ b
-    past true e b c = lies (sym e)
+    past true e b c = no (sym e)
     past false e true c = refl
     past false e false c = refl
 
@@ -208,18 +191,10 @@ upto-all test len g d down flat h = rw add-one (upto-min test (min len g) d down
 
 inside-append : (xs ys : List (List ℕ)) (t : List ℕ) → inside (xs ++ ys) t ≡ (inside xs t && inside ys t)
 inside-append [] ys t = refl
-inside-append (x ∷ xs) ys t = ap (λ b. not (leq x t) && b) (inside-append xs ys t) ∙ assoc (not (leq x t)) (inside xs t) (inside ys t)
-  where
-    assoc : (a b c : Bool) → (a && (b && c)) ≡ ((a && b) && c)
-    assoc true b c = refl
-    assoc false b c = refl
+inside-append (x ∷ xs) ys t = ap (λ b. not (leq x t) && b) (inside-append xs ys t) ∙ sym (and_assoc (not (leq x t)) (inside xs t) (inside ys t))
 
 inside-nested : (os : List (List ℕ)) (s : List ℕ) (c d : ℕ) → AllByRecursion (λ o. length o ≡ length s) os → inside (map (λ o. nest o c) os) (nest s d) ≡ (not (nat_le c d) || inside os s)
-inside-nested [] s c d h = right (not (nat_le c d))
-  where
-    right : (m : Bool) → true ≡ (m || true)
-    right true = refl
-    right false = refl
+inside-nested [] s c d h = sym (or-true (not (nat_le c d)))
 inside-nested (o ∷ os) s c d h =
     (let p = leq-nest o s c d h.0 in let q = inside-nested os s c d h.1 in λ i. not (p i) && q i) ∙ by (leq o s) (nat_le c d) (inside os s)
   where
@@ -237,7 +212,7 @@ inside-more_nested xs os s c d h = inside-append xs (map (λ o. nest o c) os) (n
 pub all-more_nested : (b : Bounds) (xs os : List (List ℕ)) (c : ℕ) → 0 < length b.greatest → c ≤ counter b.greatest → AllByRecursion (λ x. in_domain b x ≡ true) xs → AllByRecursion (λ o. leq o (outer b.greatest) ≡ true) os → AllByRecursion (λ x. in_domain b x ≡ true) (xs ++ map (λ o. nest o c) os)
 all-more_nested b [] [] c h k l m = tt
 all-more_nested b [] (o ∷ os) c h k l m =
-    (leq-nest_bound o b.greatest c h ∙ both (leq o (outer b.greatest)) (nat_le c (counter b.greatest)) m.0 (to_le c (counter b.greatest) k), all-more_nested b [] os c h k tt m.1)
+    (leq-nest_bound o b.greatest c h ∙ and_from (leq o (outer b.greatest)) (nat_le c (counter b.greatest)) m.0 (le-leb c (counter b.greatest) k), all-more_nested b [] os c h k tt m.1)
 all-more_nested b (x ∷ xs) os c h k l m = (l.0, all-more_nested b xs os c h k l.1 m)
 
 -- stamps of the outer domain have its length
@@ -293,7 +268,7 @@ nested-more b o xs os test c e some fits named so_far =
   where
     here : {m n : Bool} (a : Bool) → a ≡ true → (a && m) ≡ (a && n) → m ≡ n
     here true e h = h
-    here false e h = lies e
+    here false e h = no e
 
 -- all counters
 pub nested-whole : (b : Bounds) (xs : List (List ℕ)) (test : List ℕ → ℕ → Bool) (len n : ℕ)
@@ -307,12 +282,9 @@ nested-whole b xs test len n some e down flat each t h =
     let whole = nest-outer t (omega arith) in
     let parts = sym (leq-nest_bound (outer t) b.greatest (counter t) some) ∙ ap (λ u. leq u b.greatest) whole ∙ h in
     ap (inside xs) (sym whole)
-    ∙ each (outer t) (counter t) (and_left _ _ parts)
+    ∙ each (outer t) (counter t) (and_parts _ _ parts).0
     ∙ ap (λ m. upto (test (outer t)) m (counter t)) e
-    ∙ upto-all (test (outer t)) len (counter b.greatest) (counter t) (down (outer t)) (flat (outer t)) (fits (counter t) (counter b.greatest) (and_right (leq (outer t) (outer b.greatest)) (nat_le (counter t) (counter b.greatest)) parts))
-  where
-    fits : (c d : ℕ) → nat_le c d ≡ true → c ≤ d
-    fits c d e = grind (arith, nat_tests)
+    ∙ upto-all (test (outer t)) len (counter b.greatest) (counter t) (down (outer t)) (flat (outer t)) (leb-true (counter t) (counter b.greatest) (and_parts (leq (outer t) (outer b.greatest)) (nat_le (counter t) (counter b.greatest)) parts).1)
 
 -- stamps of the outer domain have room for a counter
 pub all-short : (o : Bounds) (os : List (List ℕ)) → length o.greatest < 4 → AllByRecursion (λ u. in_domain o u ≡ true) os → AllByRecursion (λ u. length u < 4) os

@@ -1,8 +1,8 @@
 -- The stairs of a loop are a frontier.
-use Rattle.std.proofs.Common.{◌≡◌, ℕ, ◌≤◌, Bool, true, nat_le, List, length, sym, ◌∙◌, arith, slice_index_or}
-use Rattle.std.proofs.lemmas.Bool.Decides.{nat_tests}
+use Rattle.std.proofs.Common.{◌≡◌, ℕ, ◌≤◌, Bool, true, List, length, sym, ◌∙◌, slice_index_or}
+use Rattle.std.proofs.lemmas.Bool.{and_parts, leb-true}
 use Rattle.fw_time.specs.Stamp.{leq, nest}
-use Rattle.fw_time.proofs.StampLaws.{leq-nest, and_left, and_right}
+use Rattle.fw_time.proofs.StampLaws.{leq-nest}
 use Rattle.fw_frontier.specs.Stairs.{IsDescending}
 
 -- with a time each lesser one is inside
@@ -14,8 +14,5 @@ pub stairs-closed : {F T : Type 0} (coords : T → List ℕ) (inside : F → T �
     → inside (slice_index_or steps d last) t ≡ true → inside (slice_index_or steps c last) s ≡ true
 stairs-closed coords inside places long closed steps last down s t c d h k =
     let e = sym (leq-nest (coords s) (coords t) c d (long s ∙ sym (long t))) ∙ h in
-    let below : c ≤ d = fits c d (and_right _ _ e) in
-    down c d s below (closed (slice_index_or steps d last) s t (and_left _ _ e) k)
-  where
-    fits : (c d : ℕ) → nat_le c d ≡ true → c ≤ d
-    fits c d e = grind (arith, nat_tests)
+    let below : c ≤ d = leb-true c d (and_parts _ _ e).1 in
+    down c d s below (closed (slice_index_or steps d last) s t (and_parts _ _ e).0 k)

@@ -1,5 +1,7 @@
 -- The order of stamps is a partial order, and `lub` gives least upper bounds.
 use Rattle.std.proofs.Common.{◌≡◌, ℕ, ◌≤◌, Bool, true, false, ◌&&◌, nat_le, cond, List, [], ◌∷◌, length, refl, sym, ap, ◌∙◌, zero, suc, ◌<◌, nat_lt, ◌+◌, ◌++◌, get_or, arith}
+use Rattle.std.proofs.lemmas.Bool.{leb-true, le-leb, false_from_ne_true, and_from, and_parts}
+use Rattle.std.proofs.Math.Bool.{and_assoc, and-true}
 use Rattle.std.proofs.lemmas.Bool.Decides.{nat_tests}
 use Rattle.std.specs.Ordering.{is_lt, nat_cmp, ordering_then}
 use Rattle.std.specs.Cmp.Lexicographic.{slice_cmp}
@@ -9,28 +11,10 @@ use Rattle.std.proofs.lemmas.Cmp.{tied_itself, nat_list_cmp_total}
 pub use Rattle.fw_time.specs.NestLaws.{outer-nest, counter-nest, nest-outer}
 use Rattle.fw_time.specs.Stamp.{leq, lub, glb, stamp_cmp, nest, origin, raised}
 
--- both parts of a conjunction
-pub and_left : (b c : Bool) → (b && c) ≡ true → b ≡ true
-and_left true c h = refl
-and_left false c h = h
-
-pub and_right : (b c : Bool) → (b && c) ≡ true → c ≡ true
-and_right true c h = h
-and_right false c h = cc
-
-pub both : (b c : Bool) → b ≡ true → c ≡ true → (b && c) ≡ true
-both b c h k = cc
-
-le-from : (x y : ℕ) → nat_le x y ≡ true → x ≤ y
-le-from x y h = grind (arith, nat_tests)
-
-to_le : (x y : ℕ) → x ≤ y → nat_le x y ≡ true
-to_le x y h = grind (arith, nat_tests)
-
 -- each stamp is at most itself
 pub leq-refl : (s : List ℕ) → leq s s ≡ true
 leq-refl [] = refl
-leq-refl (x ∷ s) = both _ _ (to_le x x (omega arith)) (leq-refl s)
+leq-refl (x ∷ s) = and_from _ _ (le-leb x x (omega arith)) (leq-refl s)
 
 -- what is at most a lesser stamp is at most the greater one
 pub leq-trans : (s t u : List ℕ) → leq s t ≡ true → leq t u ≡ true → leq s u ≡ true
@@ -39,9 +23,9 @@ leq-trans [] (y ∷ t) u h k = cc
 leq-trans (x ∷ s) [] u h k = cc
 leq-trans (x ∷ s) (y ∷ t) [] h k = cc
 leq-trans (x ∷ s) (y ∷ t) (z ∷ u) h k =
-    let a : x ≤ y = le-from x y (and_left _ _ h) in
-    let b : y ≤ z = le-from y z (and_left _ _ k) in
-    both _ _ (to_le x z (omega arith)) (leq-trans s t u (and_right _ _ h) (and_right _ _ k))
+    let a : x ≤ y = leb-true x y (and_parts _ _ h).0 in
+    let b : y ≤ z = leb-true y z (and_parts _ _ k).0 in
+    and_from _ _ (le-leb x z (omega arith)) (leq-trans s t u (and_parts _ _ h).1 (and_parts _ _ k).1)
 
 -- stamps each at most the other are one
 pub leq-antisym : (s t : List ℕ) → leq s t ≡ true → leq t s ≡ true → s ≡ t
@@ -49,10 +33,10 @@ leq-antisym [] [] h k = refl
 leq-antisym [] (y ∷ t) h k = cc
 leq-antisym (x ∷ s) [] h k = cc
 leq-antisym (x ∷ s) (y ∷ t) h k =
-    let a : x ≤ y = le-from x y (and_left _ _ h) in
-    let b : y ≤ x = le-from y x (and_left _ _ k) in
+    let a : x ≤ y = leb-true x y (and_parts _ _ h).0 in
+    let b : y ≤ x = leb-true y x (and_parts _ _ k).0 in
     let e : x ≡ y = omega arith in
-    let f : s ≡ t = leq-antisym s t (and_right _ _ h) (and_right _ _ k) in
+    let f : s ≡ t = leq-antisym s t (and_parts _ _ h).1 (and_parts _ _ k).1 in
     ap (λ z. z ∷ s) e ∙ ap (λ u. y ∷ u) f
 
 -- only stamps of one length are comparable
@@ -60,15 +44,11 @@ pub leq-length : (s t : List ℕ) → leq s t ≡ true → length s ≡ length t
 leq-length [] [] h = refl
 leq-length [] (y ∷ t) h = cc
 leq-length (x ∷ s) [] h = cc
-leq-length (x ∷ s) (y ∷ t) h = ap suc (leq-length s t (and_right _ _ h))
-
-from_not : (b : Bool) → (b ≡ true → ⊥) → b ≡ false
-from_not true h = absurd (h refl)
-from_not false h = refl
+leq-length (x ∷ s) (y ∷ t) h = ap suc (leq-length s t (and_parts _ _ h).1)
 
 -- stamps of unequal length are not comparable
 pub leq-unequal : (s t : List ℕ) → (length s ≡ length t → ⊥) → leq s t ≡ false
-leq-unequal s t h = from_not (leq s t) (λ e. h (leq-length s t e))
+leq-unequal s t h = false_from_ne_true (leq s t) (λ e. h (leq-length s t e))
 
 -- the greater coordinates of two stamps of one length
 pub length-lub : (s t : List ℕ) → length s ≡ length t → length (lub s t) ≡ length s
@@ -84,7 +64,7 @@ lub-left [] (y ∷ t) h = cc
 lub-left (x ∷ s) [] h = leq-refl (x ∷ s)
 lub-left (x ∷ s) (y ∷ t) h =
     let a : nat_le x (cond (nat_le x y) y x) ≡ true = grind (arith, nat_tests) in
-    both _ _ a (lub-left s t (omega arith))
+    and_from _ _ a (lub-left s t (omega arith))
 
 -- and the second
 pub lub-right : (s t : List ℕ) → length s ≡ length t → leq t (lub s t) ≡ true
@@ -93,7 +73,7 @@ lub-right [] (y ∷ t) h = cc
 lub-right (x ∷ s) [] h = cc
 lub-right (x ∷ s) (y ∷ t) h =
     let a : nat_le y (cond (nat_le x y) y x) ≡ true = grind (arith, nat_tests) in
-    both _ _ a (lub-right s t (omega arith))
+    and_from _ _ a (lub-right s t (omega arith))
 
 -- and at most each stamp that is at least both
 pub lub-least : (s t u : List ℕ) → leq s u ≡ true → leq t u ≡ true → leq (lub s t) u ≡ true
@@ -101,10 +81,10 @@ lub-least [] t u h k = k
 lub-least (x ∷ s) [] u h k = h
 lub-least (x ∷ s) (y ∷ t) [] h k = cc
 lub-least (x ∷ s) (y ∷ t) (z ∷ u) h k =
-    let a : nat_le x z ≡ true = and_left _ _ h in
-    let b : nat_le y z ≡ true = and_left _ _ k in
+    let a : nat_le x z ≡ true = (and_parts _ _ h).0 in
+    let b : nat_le y z ≡ true = (and_parts _ _ k).0 in
     let m : nat_le (cond (nat_le x y) y x) z ≡ true = grind (arith, nat_tests) in
-    both _ _ m (lub-least s t u (and_right _ _ h) (and_right _ _ k))
+    and_from _ _ m (lub-least s t u (and_parts _ _ h).1 (and_parts _ _ k).1)
 
 -- a stamp is at least both where it is at least the least upper bound
 pub leq-lub : (s t u : List ℕ) → length s ≡ length t → leq (lub s t) u ≡ (leq s u && leq t u)
@@ -127,8 +107,8 @@ before-leq [] (y ∷ t) (z ∷ u) h k = refl
 before-leq (x ∷ s) [] u h k = cc
 before-leq (x ∷ s) (y ∷ t) [] h k = cc
 before-leq (x ∷ s) (y ∷ t) (z ∷ u) h k =
-    let b : nat_le y z ≡ true = and_left _ _ k in
-    step x y z (slice_cmp nat_cmp s t) (slice_cmp nat_cmp s u) b h (λ e. before-leq s t u e (and_right _ _ k))
+    let b : nat_le y z ≡ true = (and_parts _ _ k).0 in
+    step x y z (slice_cmp nat_cmp s t) (slice_cmp nat_cmp s u) b h (λ e. before-leq s t u e (and_parts _ _ k).1)
   where
     step : (x y z : ℕ) (o p : Ordering) → nat_le y z ≡ true → is_lt (ordering_then (nat_cmp x y) o) ≡ true → (is_lt o ≡ true → is_lt p ≡ true) → is_lt (ordering_then (nat_cmp x z) p) ≡ true
     step x y z o p b h r = grind (arith, nat_tests)
@@ -168,25 +148,17 @@ before-from_leq [] [] h k = cc
 before-from_leq [] (y ∷ t) h k = cc
 before-from_leq (x ∷ s) [] h k = cc
 before-from_leq (x ∷ s) (y ∷ t) h k =
-    step x y (slice_cmp nat_cmp s t) (leq t s) (and_left _ _ h) k (λ e. before-from_leq s t (and_right _ _ h) e)
+    step x y (slice_cmp nat_cmp s t) (leq t s) (and_parts _ _ h).0 k (λ e. before-from_leq s t (and_parts _ _ h).1 e)
   where
     step : (x y : ℕ) (o : Ordering) (b : Bool) → nat_le x y ≡ true → (nat_le y x && b) ≡ false → (b ≡ false → is_lt o ≡ true) → is_lt (ordering_then (nat_cmp x y) o) ≡ true
     step x y o b h k r = grind (arith, nat_tests)
 
 -- stamps of a loop are ordered by the outer stamp and the counter
 pub leq-nest : (s t : List ℕ) (c d : ℕ) → length s ≡ length t → leq (nest s c) (nest t d) ≡ (leq s t && nat_le c d)
-leq-nest [] [] c d h = step (nat_le c d)
-  where
-    step : (b : Bool) → (b && true) ≡ b
-    step true = refl
-    step false = refl
+leq-nest [] [] c d h = and-true (nat_le c d)
 leq-nest [] (y ∷ t) c d h = cc
 leq-nest (x ∷ s) [] c d h = cc
-leq-nest (x ∷ s) (y ∷ t) c d h = ap (λ b. nat_le x y && b) (leq-nest s t c d (omega arith)) ∙ step (nat_le x y) (leq s t) (nat_le c d)
-  where
-    step : (a b c : Bool) → (a && (b && c)) ≡ ((a && b) && c)
-    step true b c = refl
-    step false b c = refl
+leq-nest (x ∷ s) (y ∷ t) c d h = ap (λ b. nat_le x y && b) (leq-nest s t c d (omega arith)) ∙ sym (and_assoc (nat_le x y) (leq s t) (nat_le c d))
 
 -- and so are their greater coordinates
 pub lub-nest : (s t : List ℕ) (c d : ℕ) → length s ≡ length t → lub (nest s c) (nest t d) ≡ nest (lub s t) (cond (nat_le c d) d c)
@@ -200,12 +172,12 @@ pub origin-leq : (s t : List ℕ) → length s ≡ length t → leq (origin s) t
 origin-leq [] [] h = refl
 origin-leq [] (y ∷ t) h = cc
 origin-leq (x ∷ s) [] h = cc
-origin-leq (x ∷ s) (y ∷ t) h = both _ _ (to_le 0 y (omega arith)) (origin-leq s t (omega arith))
+origin-leq (x ∷ s) (y ∷ t) h = and_from _ _ (le-leb 0 y (omega arith)) (origin-leq s t (omega arith))
 
 -- zeros before two stamps change nothing
 pub leq-origin-append : (h s t : List ℕ) → leq (origin h ++ s) (h ++ t) ≡ leq s t
 leq-origin-append [] s t = refl
-leq-origin-append (x ∷ h) s t = cong (nat_le 0 x) (to_le 0 x (omega arith)) (leq-origin-append h s t)
+leq-origin-append (x ∷ h) s t = cong (nat_le 0 x) (le-leb 0 x (omega arith)) (leq-origin-append h s t)
   where
     cong : {b c : Bool} (a : Bool) → a ≡ true → b ≡ c → (a && b) ≡ c
     cong a e k = cc
@@ -227,7 +199,7 @@ leq-raised (x ∷ s) (y ∷ t) zero h k = step (nat_le (x + 1) y) (leq (origin s
 
     same : (x y : ℕ) → nat_le (x + 1) y ≡ nat_lt x y
     same x y = grind (arith, nat_tests)
-leq-raised (x ∷ s) (y ∷ t) (suc i) h k = step (nat_le 0 y) (to_le 0 y (omega arith)) ∙ leq-raised s t i (omega arith) (omega arith)
+leq-raised (x ∷ s) (y ∷ t) (suc i) h k = step (nat_le 0 y) (le-leb 0 y (omega arith)) ∙ leq-raised s t i (omega arith) (omega arith)
   where
     step : {c : Bool} (b : Bool) → b ≡ true → (b && c) ≡ c
     step b e = cc
@@ -239,14 +211,14 @@ glb-right [] (y ∷ t) h = cc
 glb-right (x ∷ s) [] h = cc
 glb-right (x ∷ s) (y ∷ t) h =
     let a : nat_le (cond (nat_le x y) x y) y ≡ true = grind (arith, nat_tests) in
-    both _ _ a (glb-right s t (omega arith))
+    and_from _ _ a (glb-right s t (omega arith))
 
 -- a stamp below another one is its own lesser part
 pub glb-leq : (s t : List ℕ) → leq s t ≡ true → glb s t ≡ s
 glb-leq [] [] h = refl
 glb-leq [] (y ∷ t) h = cc
 glb-leq (x ∷ s) [] h = cc
-glb-leq (x ∷ s) (y ∷ t) h = λ i. first x y (and_left _ _ h) i ∷ glb-leq s t (and_right _ _ h) i
+glb-leq (x ∷ s) (y ∷ t) h = λ i. first x y (and_parts _ _ h).0 i ∷ glb-leq s t (and_parts _ _ h).1 i
   where
     first : (x y : ℕ) → nat_le x y ≡ true → cond (nat_le x y) x y ≡ x
     first x y e = grind (arith, nat_tests)
@@ -258,7 +230,7 @@ glb-left [] (y ∷ t) h = cc
 glb-left (x ∷ s) [] h = cc
 glb-left (x ∷ s) (y ∷ t) h =
     let a : nat_le (cond (nat_le x y) x y) x ≡ true = grind (arith, nat_tests) in
-    both _ _ a (glb-left s t (omega arith))
+    and_from _ _ a (glb-left s t (omega arith))
 
 -- it has as many coordinates
 pub length-glb : (s t : List ℕ) → length s ≡ length t → length (glb s t) ≡ length s
@@ -273,10 +245,10 @@ glb-greatest [] (x ∷ s) t h k = cc
 glb-greatest (z ∷ u) [] t h k = cc
 glb-greatest (z ∷ u) (x ∷ s) [] h k = cc
 glb-greatest (z ∷ u) (x ∷ s) (y ∷ t) h k =
-    let a : nat_le z x ≡ true = and_left _ _ h in
-    let b : nat_le z y ≡ true = and_left _ _ k in
+    let a : nat_le z x ≡ true = (and_parts _ _ h).0 in
+    let b : nat_le z y ≡ true = (and_parts _ _ k).0 in
     let m : nat_le z (cond (nat_le x y) x y) ≡ true = grind (arith, nat_tests) in
-    both _ _ m (glb-greatest u s t (and_right _ _ h) (and_right _ _ k))
+    and_from _ _ m (glb-greatest u s t (and_parts _ _ h).1 (and_parts _ _ k).1)
 
 -- a domain's stamp is at most a stamp where it is at most that stamp's part in the domain
 pub leq-glb : (u s g : List ℕ) → leq u g ≡ true → length s ≡ length g → leq u s ≡ leq u (glb s g)

@@ -1,12 +1,7 @@
-use Rattle.std.proofs.Common.{◌≡◌, true, false, sym, ◌∙◌, refl}
+use Rattle.std.proofs.Common.{sym, ◌∙◌, refl}
 use Rattle.fw_frontier.proofs.CanonicalLaws.{all_in_domain-each, each-all_in_domain}
+use Rattle.fw_frontier.proofs.GenericLaws.{no}
 use Rattle.fw_frontier.proofs.front.Front.checked_until.Goals as goal
-
-no : {A : Type 0} → false ≡ true → A
-no e = absurd (lies e)
-  where
-    lies : false ≡ true → ⊥
-    lies e = cc
 
 pub returns-then-not-are_in_domain-clause-some : goal.returns-then-not-are_in_domain-clause-some
 returns-then-not-are_in_domain-clause-some c =

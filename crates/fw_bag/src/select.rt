@@ -7,55 +7,75 @@ use crate::Rec;
 /// One of the two numbers of a rec.
 #[derive(Clone, Copy, Debug, PartialEq, Eq)]
 pub enum Field {
+    /// Its key.
     Key,
+    /// Its value.
     Value,
 }
 
 /// How a condition compares a field with its term.
 #[derive(Clone, Copy, Debug, PartialEq, Eq)]
 pub enum Comparison {
+    /// Both numbers are the same.
     Equal,
+    /// They differ.
     NotEqual,
+    /// The field is less than the term.
     Less,
+    /// The field is at most the term.
     LessOrEqual,
+    /// The field is greater than the term.
     Greater,
+    /// The field is at least the term.
     GreaterOrEqual,
 }
 
 /// What a field is compared with: a number, or a field of the same rec.
 #[derive(Clone, Copy, Debug, PartialEq, Eq)]
 pub enum Term {
+    /// A number.
     Number(u64),
+    /// A field of the rec.
     Field(Field),
 }
 
 /// A comparison of a field with a term, both of the rec as it came.
 #[derive(Clone, Copy, Debug, PartialEq, Eq)]
 pub struct Condition {
+    /// What is compared.
     pub field: Field,
+    /// How.
     pub comparison: Comparison,
+    /// With what.
     pub term: Term,
 }
 
 /// What is assigned to a field, of the rec as it came. Sums are modulo 2^64.
 #[derive(Clone, Copy, Debug, PartialEq, Eq)]
 pub enum NewValue {
+    /// A number.
     Number(u64),
+    /// A field of the rec.
     Field(Field),
+    /// The sum of a field of the rec and a number.
     FieldPlus(Field, u64),
 }
 
 /// An assignment to one field of a rec.
 #[derive(Clone, Copy, Debug, PartialEq, Eq)]
 pub struct Assignment {
+    /// To which field.
     pub field: Field,
+    /// What.
     pub value: NewValue,
 }
 
 /// What a node does to a rec: it sends the rec on if the condition holds, after the assignment if there is one.
 #[derive(Clone, Copy, Debug, PartialEq, Eq)]
 pub struct Selection {
+    /// Which recs are sent on.
     pub condition: Condition,
+    /// What is assigned to those, if anything.
     pub assignment: Option<Assignment>,
 }
 

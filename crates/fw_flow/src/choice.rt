@@ -118,7 +118,8 @@ pub struct OfEdge {
     pub front: Front,
 }
 
-/// A frontier that a node recorded, with what stands for its events inside.
+/// A frontier that a node recorded, with what stands for its events inside. Of a node that is not restored by checkpoints
+/// the frontier alone counts.
 #[derive(Debug, Drop)]
 pub struct Recorded {
     /// The frontier, of the node's domain.

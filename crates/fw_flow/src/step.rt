@@ -40,7 +40,8 @@ impl Nodes {
 pub enum Step {
     /// The input sends its next batch.
     Inject(NodeId),
-    /// The receiver takes the least rec that is pending on the edge, at the stamp or at the least one.
+    /// The receiver takes the least rec that is pending on the edge, at the stamp or at the least one; on an edge of
+    /// numbers only the next number.
     Deliver(EdgeId, Option<Stamp>),
     /// The node is notified of the stamp, or of the least one that it may be notified of.
     Notify(NodeId, Option<Stamp>),

@@ -100,7 +100,7 @@ impl Front {
         Ok(Front { outside })
     }
 
-    /// The least stamps outside, in ascending order.
+    /// The stamps outside by which the front is known: of a canonical one the least, in ascending order.
     pub fn outside(&self) -> &[Stamp]
         ensures { result.now ≡ self.now }
     {

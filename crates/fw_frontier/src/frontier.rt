@@ -18,7 +18,7 @@ pub trait Logical: Time {
 /// A set of times that holds with a time each lesser one, which contracts see by its test.
 ///
 /// Bounds have as many coordinates as the times. Past the greatest stamp of its domain a frontier goes on as at the
-/// domain's last stamps, so that no call makes an outside stamp past the domain.
+/// domain's last stamps, as long as it is made from times of the domain: then no outside time lies past the domain.
 pub trait Frontier<T: Time>: Drop {
     // whether a time is inside
     ghost inside: { Self → T → Bool };

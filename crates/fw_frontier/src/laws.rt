@@ -65,8 +65,10 @@ pub fn domain_decides<T: Logical>()
         → (t : T) → T.Frontier.inside f t ≡ true → T.Frontier.inside g t ≡ true }
 {}
 
-/// No call makes an outside time past the domain.
+/// What the calls make of frontiers without outside times past the domain, and of times of the domain, has none either.
 pub fn stays_in_domain<T: Logical>()
+    ensures constant { (bounds : Domain) (c : T.Frontier) (answer : Bool) → ((t : T) → T.Frontier.inside c t ≡ answer)
+        → IsOfDomain T.coords T.of_coords bounds (T.Frontier.inside c) }
     ensures meet { (bounds : Domain) (a b c : T.Frontier)
         → IsOfDomain T.coords T.of_coords bounds (T.Frontier.inside a)
         → IsOfDomain T.coords T.of_coords bounds (T.Frontier.inside b)

@@ -93,6 +93,7 @@ impl fmt::Display for Code {
 /// A refusal of a text: the rule that is broken, and the line that breaks it.
 #[derive(Clone, Copy, Debug, PartialEq, Eq)]
 pub struct Refusal {
+    /// The rule.
     pub code: Code,
     /// Lines are counted from 1; 0 is for the text as a whole.
     pub line: u32,

@@ -7,7 +7,9 @@ use std::marker::Model;
 /// A part of a text: its bytes from `from` on up to `to`, without the one at `to`.
 #[derive(Clone, Copy, Debug, PartialEq, Eq)]
 pub struct Span {
+    /// The place of its first byte, from 0 on.
     pub from: usize,
+    /// The place behind its last byte.
     pub to: usize,
 }
 

@@ -1,6 +1,6 @@
 -- The steps of the event-list machine: when each is enabled, to which state it leads, and what it shows.
 use Rattle.std.specs.Prelude.{◌≡◌, ◌≢◌, ◌⊎◌, ℕ, ◌+◌, ◌<◌, Bool, true, false, not, ◌&&◌, ◌||◌, ◌==◌, if◌then◌else◌, List, [], ◌∷◌, ◌++◌, map, length, Option, Some, None, slice_set, filter}
-use Rattle.std.specs.List.{list_any, list_all, flat_map, range_with_len}
+use Rattle.std.specs.List.{list_any, list_all, flat_map}
 use Rattle.std.specs.Ordering.{is_gt, is_eq}
 use Rattle.std.specs.Cmp.Lexicographic.{slice_cmp}
 use Rattle.fw_time.specs.Stamp.{Stamp, leq, same, stamp_cmp}
@@ -317,16 +317,3 @@ Run sys state [] (outcome ∷ outcomes) last = ⊥
 Run sys state (step ∷ steps) [] last = ⊥
 Run sys state (step ∷ steps) (outcome ∷ outcomes) last =
     (next : Machine) × Steps sys state step next outcome × Run sys next steps outcomes last
-
--- the steps of which `auto` takes the first that is enabled, in this order
-abbrev pub auto_steps : System → List Step
-auto_steps sys =
-    Persist ∷ map (λ e. Deliver e None) (range_with_len 0 (length sys.flow.edges)) ++ map (λ p. Notify p None) (places sys.flow)
-    ++ ProgressStep ∷ map Ack (places sys.flow) ++ map Inject (places sys.flow)
-
--- One step of `auto`: the first of these that is enabled, those before it being idle; idle where none is enabled.
-abbrev pub StepsByFirst : System → Machine → List Step → Machine → Outcome → Type 0
-StepsByFirst sys state [] next outcome = (outcome ≡ idle) × (next ≡ state)
-StepsByFirst sys state (step ∷ steps) next outcome =
-    ((effect : Effect) × LeadsTo sys state step next effect × (outcome ≡ did effect))
-    ⊎ (Steps sys state step state idle × StepsByFirst sys state steps next outcome)

@@ -10,7 +10,7 @@ use std::alloc::{AllocError, AllocFailed};
 /// Why a text was not fetched.
 #[derive(Clone, Copy, Debug, PartialEq, Eq)]
 pub enum FetchFault {
-    /// The folder failed; its count of faults rose.
+    /// The folder failed; its count of faults rose, or stands at 2^64 - 1.
     Failed,
     /// The text has more bytes than the limit.
     TooLarge,
@@ -29,7 +29,7 @@ impl From<AllocError> for FetchFault {
 /// Why a store or a sink refused a call.
 #[derive(Clone, Copy, Debug, PartialEq, Eq)]
 pub enum OutFault {
-    /// The store or the sink failed; its count of faults rose.
+    /// The store or the sink failed; its count of faults rose, or stands at 2^64 - 1.
     Failed,
     /// There was no memory for the call.
     NoMemory,

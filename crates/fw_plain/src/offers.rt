@@ -125,7 +125,7 @@ fn until(alloc: Global, epoch: u32) -> Result<Front, AllocError>
     Front::until(alloc, &[Stamp::new(&[epoch])])
 }
 
-/// A record of the frontier that holds nothing else.
+/// A record of the frontier. Nothing else of it counts, since the node is not restored by checkpoints.
 fn bare(alloc: Global, front: Front) -> Recorded
     ensures { IsBare front result }
 {

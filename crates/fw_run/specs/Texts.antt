@@ -99,8 +99,8 @@ IsFirstRefusal told names refusal =
     × (AreInputsRefused told names.inputs flow refusal
     ⊎ (HasText told names.inputs (AreInputsOf flow) × IsScheduleRefused told names.schedule flow refusal)))
 
--- Texts were asked for in turn, and no more often than this, if calls were counted from the first number to the second: a second
--- time only where the flow is accepted, a third only where the inputs are too, and no fourth.
+-- A folder was asked no more often than this, if its calls were counted from the first number to the second: a second time only
+-- where the flow is accepted, a third only where the inputs are too, and no fourth.
 abbrev pub AreFetchedInTurn : Option (List ℕ → Option (List ℕ)) → TextNames → ℕ → ℕ → Type 0
 AreFetchedInTurn told names before after =
     (after ≡ before)

@@ -215,6 +215,7 @@ fn raised_at(coords: &[u32], place: usize) -> ArrayVec<u32, 4>
 /// What makes a domain of stamps: the greatest coordinate at each place.
 #[derive(Debug, Drop)]
 pub struct Bounds {
+    /// The greatest stamp of the domain.
     pub greatest: Stamp,
 }
 

@@ -1,4 +1,4 @@
-//! Each call that may answer want of memory, with ample memory.
+//! Calls of bags, of the objects in memory and of the lines of a text that may answer want of memory, with ample memory.
 ghost use Rattle.std.specs.Prelude.{◌≡◌, None};
 ghost use Rattle.std.specs.Option.{ForSome};
 ghost use Rattle.std.specs.FinMap as map;

@@ -5,6 +5,7 @@ use fw_outside::{
     FetchFault, Folder, MemFolder, MemSink, MemStore, MemText, OutFault, Sink, Store,
 };
 use fw_run::falkirk;
+use std::alloc::{AllocError, Global};
 use std::test::Fail;
 
 #[test]
@@ -90,23 +91,43 @@ fn later_texts_play_no_part(rt: HostRuntime) -> Result<(), Fail> {
     Ok(())
 }
 
+// The number of the status of a run whose notes are refused and whose output fails; 1 where the notes were not refused
+// once or took something.
+fn status_without_notes(
+    alloc: Global,
+    words: &[&str],
+    texts: Vec<MemText>,
+) -> Result<u8, AllocError> {
+    let mut folder = MemFolder::new(texts, Vec::new(alloc));
+    let mut store = MemStore::new(alloc, Vec::new(alloc));
+    let mut out = MemSink::new(alloc, vec![in alloc; 0]?);
+    let mut notes = MemSink::new(alloc, vec![in alloc; 0]?);
+    let status = falkirk(alloc, words, &mut folder, &mut store, &mut out, &mut notes);
+    if notes.faults() == 1 && notes.taken().is_empty() {
+        Ok(status.number())
+    } else {
+        Ok(1)
+    }
+}
+
 #[test]
 fn refused_notes_change_no_status(rt: HostRuntime) -> Result<(), Fail> {
     let alloc = rt.alloc();
-    let mut folder = MemFolder::new(Vec::new(alloc), Vec::new(alloc));
-    let mut store = MemStore::new(alloc, Vec::new(alloc));
-    let mut out = MemSink::new(alloc, Vec::new(alloc));
-    let mut notes = MemSink::new(alloc, vec![in alloc; 0]?);
-    let status = falkirk(
-        alloc,
-        &["run"],
-        &mut folder,
-        &mut store,
-        &mut out,
-        &mut notes,
-    );
-    assert_eq!(rt; status.number(), 2);
-    assert_eq!(rt; notes.taken().len(), 0);
-    assert_eq!(rt; notes.faults(), 1);
+    for (flow, inputs, schedule, last, status) in [
+        (ONE_SELECT, "", "", "-", 2),
+        ("node", "", "", "schedule", 3),
+        (ONE_SELECT, "batch", "", "schedule", 4),
+        (ONE_SELECT, "", "again", "schedule", 5),
+        (ONE_SELECT, "", "", "other", 6),
+        (ONE_SELECT, "", "", "schedule", 7),
+    ] {
+        let texts = vec![in alloc;
+            MemText::new(alloc, "flow", flow.as_bytes())?,
+            MemText::new(alloc, "inputs", inputs.as_bytes())?,
+            MemText::new(alloc, "schedule", schedule.as_bytes())?,
+        ]?;
+        let words = ["run", "flow", "inputs", last];
+        assert_eq!(rt; status_without_notes(alloc, &words, texts)?, status);
+    }
     Ok(())
 }

@@ -11,6 +11,8 @@ mod failures;
 #[cfg(test)]
 mod faults;
 #[cfg(test)]
+mod joins;
+#[cfg(test)]
 mod notices;
 #[cfg(test)]
 mod one_select;

@@ -3,6 +3,9 @@ use Rattle.fw_time.specs.Stamp.{glb}
 use Rattle.fw_frontier.proofs.DomainLaws.{cut-ends, cover-ends, front-ends}
 use Rattle.fw_frontier.proofs.laws.stays_in_domain.Goals as goal
 
+pub returns-clause-constant : goal.returns-clause-constant
+returns-clause-constant g c = λ b z v e t. e t ∙ sym (e (g.T.Time.of_coords (glb (g.T.Time.coords t) b.greatest)))
+
 pub returns-clause-meet : goal.returns-clause-meet
 returns-clause-meet g c = λ b x y z h k e t. e t ∙ (λ i. h t i && k t i) ∙ sym (e (g.T.Time.of_coords (glb (g.T.Time.coords t) b.greatest)))
 

@@ -1,3 +1,4 @@
+pub mod AnswerLaws
 pub mod Capped
 pub mod Checks
 pub mod Drafts

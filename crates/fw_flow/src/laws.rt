@@ -1,5 +1,5 @@
 //! Facts about the definitions of dataflows, each proved as a function that does nothing.
-ghost use Rattle.std.specs.Prelude.{◌≡◌, List};
+ghost use Rattle.std.specs.Prelude.{◌≡◌, ◌⊎◌, List};
 ghost use Rattle.fw_lines.specs.declared.refusal.Refusal.{Refusal};
 ghost use Rattle.fw_flow.specs.declared.raw.Declared.{Declared};
 ghost use Rattle.fw_flow.specs.Check.{IsChecked, IsFirstBroken};
@@ -22,10 +22,12 @@ pub fn flow_is_well_formed(flow: &Flow)
     let _ = &flow.nodes;
 }
 
-/// Declarations of a well-formed dataflow are not refused and have one dataflow, and declarations are
-/// refused by one rule at one line: so `Flow::check` answers `Ok` exactly for the well-formed ones,
-/// with the one dataflow that they declare, unless memory is refused.
+/// Declarations are those of a well-formed dataflow or break a rule, and not both; the former have one dataflow, and the
+/// latter are refused by one rule at one line: so `Flow::check` answers `Ok` exactly for the well-formed ones, with the
+/// dataflow that they declare, and else that refusal, unless memory is refused.
 pub fn one_answer()
+    ensures some_answer { (raw : List Declared) → ((flow : Dataflow) × IsChecked raw flow)
+        ⊎ ((refusal : Refusal) × IsFirstBroken raw refusal) }
     ensures exclusive { (raw : List Declared) (flow : Dataflow) (refusal : Refusal)
         → IsChecked raw flow → IsFirstBroken raw refusal → ⊥ }
     ensures one_value { (raw : List Declared) (first second : Dataflow)

@@ -1,20 +1,23 @@
 -- The lines of a flow, read one after another.
-use Rattle.std.proofs.Common.{◌≡◌, ℕ, ◌≤◌, List, [], ◌∷◌, ◌++◌, length, map, Some, None, Result, Ok, Err, MatchResult, sym, ◌∙◌, ap, subst, inl, inr, arith}
+use Rattle.std.proofs.Common.{◌≡◌, ℕ, ◌≤◌, List, [], ◌∷◌, ◌++◌, length, map, Some, None, Result, Ok, Err, MatchResult, refl, sym, ◌∙◌, ap, subst, ◌⊎◌, inl, inr, arith}
+use Rattle.std.proofs.lemmas.Bool.{cases_lt}
 use Rattle.std.proofs.lemmas.List.{append-nil}
 use Rattle.std.proofs.lemmas.List.Elements.{filter_map-append}
 use Rattle.fw_lines.specs.declared.fault.ReadFault.{ReadFault}
 use Rattle.fw_lines.specs.declared.fault.ReadFault.TheVariants.{Refused, NoMemory}
+use Rattle.fw_lines.specs.declared.refusal.Code.TheVariants.{F11}
 use Rattle.fw_lines.specs.declared.refusal.Refusal.{Refusal}
 use Rattle.fw_lines.specs.Faults.{BreakNoRule, IsFirstFault, IfRefused}
 use Rattle.fw_lines.specs.declared.span.Span.{Span}
 use Rattle.fw_lines.specs.Lines.{Said, said_lines, bytes_at}
-use Rattle.fw_lines.proofs.FaultLaws.{IsSoundSoFar, sound_more, first_fault, none_left, sound_or_first, one_first}
+use Rattle.fw_lines.proofs.FaultLaws.{IsSoundSoFar, sound_more, first_fault, none_left, sound_or_first, sound_or_some, one_first}
+use Rattle.fw_flow.proofs.AnswerLaws.{some_answer as some_checked}
 use Rattle.fw_flow.proofs.Checks.{checked_or_refused, one_refusal as one_broken}
 use Rattle.fw_flow.specs.declared.raw.Declared.{Declared}
 use Rattle.fw_flow.specs.Check.{IsChecked, IsFirstBroken}
 use Rattle.fw_flow.specs.Dataflow.{Dataflow}
 use Rattle.fw_flow_text.specs.Forms.{declaration_of}
-use Rattle.fw_flow_text.specs.Grammar.{declared_in, declared_by, words_fault, line_fault, IsAccepted, IsRefused}
+use Rattle.fw_flow_text.specs.Grammar.{declared_in, declared_by, words_fault, line_fault, size_limit, IsAccepted, IsRefused}
 
 -- what the code's loop knows: some lines are done, none of them breaks a rule, and the declarations are theirs
 pub record IsRead (lines left : List Said) (raw : List Declared) : Type 0 where
@@ -89,3 +92,16 @@ one_refusal text first second (inr (inl a)) (inr (inr b)) = absurd (sound_or_fir
 one_refusal text first second (inr (inr a)) (inl b) = absurd (omega (arith, a.0, b.0))
 one_refusal text first second (inr (inr a)) (inr (inl b)) = absurd (sound_or_first line_fault (said_lines text) second a.1 b.1)
 one_refusal text first second (inr (inr a)) (inr (inr b)) = one_broken (declared_by (said_lines text)) first second a.2 b.2
+
+-- each text is accepted or refused
+pub some_answer : (text : List ℕ) → ((flow : Dataflow) × IsAccepted text flow) ⊎ ((refusal : Refusal) × IsRefused text refusal)
+some_answer text = elim (cases_lt size_limit (length text)) [
+  | inl large ↦ inr (record { code = F11; line = 0 }, inl (large, refl))
+  | inr small ↦ elim (sound_or_some line_fault (said_lines text)) [
+    | inl sound ↦ elim (some_checked (declared_by (said_lines text))) [
+      | inl checked ↦ inl (checked.0, record { size = omega (arith, small); sound = sound; checked = checked.1 })
+      | inr broken ↦ inr (broken.0, inr (inr (omega (arith, small), sound, broken.1)))
+    ]
+    | inr fault ↦ inr (fault.0, inr (inl (omega (arith, small), fault.1)))
+  ]
+]

@@ -1,5 +1,5 @@
 //! The reader of a whole text.
-ghost use Rattle.std.specs.Prelude.{◌≡◌, ℕ, List, [], ◌∷◌, ◌++◌, IfOk, IfErr, MatchResult};
+ghost use Rattle.std.specs.Prelude.{◌≡◌, ◌⊎◌, ℕ, List, [], ◌∷◌, ◌++◌, IfOk, IfErr, MatchResult};
 ghost use Rattle.std.specs.Option.{option_map, option_to_list};
 ghost use Rattle.fw_lines.specs.Faults.{IfRefused};
 ghost use Rattle.fw_lines.specs.Lines.{words_at, said_in};
@@ -36,9 +36,12 @@ pub fn read_flow(alloc: Global, text: &[u8]) -> Result<Flow, ReadFault>
     Flow::check(alloc, raw)
 }
 
-/// An accepted text is not refused and has one dataflow, and a text is refused by one rule at one line: so
-/// `read_flow` answers `Ok` exactly for the texts of the grammar, unless memory is refused.
+/// Each text is accepted or refused, and not both; an accepted one has one dataflow, and one that is refused is by one rule
+/// at one line: so `read_flow` answers `Ok` exactly for the texts of the grammar, and else that refusal, unless memory is
+/// refused.
 pub fn one_answer()
+    ensures some_answer { (text : List ℕ) → ((flow : Dataflow) × IsAccepted text flow)
+        ⊎ ((refusal : Refusal) × IsRefused text refusal) }
     ensures exclusive { (text : List ℕ) (flow : Dataflow) (refusal : Refusal)
         → IsAccepted text flow → IsRefused text refusal → ⊥ }
     ensures one_flow { (text : List ℕ) (first second : Dataflow)

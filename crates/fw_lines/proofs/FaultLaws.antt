@@ -1,5 +1,5 @@
 -- The lines of a text, judged one after another.
-use Rattle.std.proofs.Common.{◌≡◌, ℕ, ◌<◌, List, [], ◌∷◌, ◌++◌, length, take, Option, Some, None, refl, sym, ◌∙◌, ap, subst, arith, slice_get, below_more, append_assoc, inl, inr}
+use Rattle.std.proofs.Common.{◌≡◌, ℕ, ◌<◌, List, [], ◌∷◌, ◌++◌, length, take, Option, Some, None, refl, sym, ◌∙◌, ap, subst, arith, slice_get, below_more, append_assoc, ◌⊎◌, inl, inr}
 use Rattle.std.proofs.lemmas.Bool.{cases_lt}
 use Rattle.std.proofs.lemmas.List.{take_at, length_push, append-nil}
 use Rattle.std.proofs.lemmas.Option.{slice_get_within}
@@ -103,3 +103,20 @@ one_first fault lines r s first second =
         | inr not_after ↦ same_at fault lines r s first second (omega (arith, not_before, not_after))
       ]
     ]
+
+-- the lines that are left break no rule, or one is the first that does
+first_left : (fault : List Said → Said → Option Code) (lines done left : List Said) → IsSoundSoFar fault lines left done
+    → BreakNoRule fault lines ⊎ ((refusal : Refusal) × IsFirstFault fault lines refusal)
+first_left fault lines done [] h = inl (none_left fault lines done h).0
+first_left fault lines done (line ∷ left) h = by (fault done line) refl (λ e. first_left fault lines (done ++ line ∷ []) left (sound_more fault lines done line left h e))
+  where
+    by : (c : Option Code) → fault done line ≡ c → (fault done line ≡ None → BreakNoRule fault lines ⊎ ((refusal : Refusal) × IsFirstFault fault lines refusal))
+        → BreakNoRule fault lines ⊎ ((refusal : Refusal) × IsFirstFault fault lines refusal)
+    by None e later = later e
+    by (Some code) e later =
+        let refusal : Refusal = record { code = code; line = line.number } in
+        inr (refusal, first_fault fault lines done line left refusal h e refl)
+
+-- lines break no rule, or one of them is the first that does
+pub sound_or_some : (fault : List Said → Said → Option Code) (lines : List Said) → BreakNoRule fault lines ⊎ ((refusal : Refusal) × IsFirstFault fault lines refusal)
+sound_or_some fault lines = first_left fault lines [] lines (record { parts = refl; sound = λ place below. absurd (omega (arith, below)) })

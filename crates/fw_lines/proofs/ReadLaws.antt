@@ -1,18 +1,21 @@
 -- The lines of inputs, read one after another.
-use Rattle.std.proofs.Common.{◌≡◌, ℕ, List, [], ◌∷◌, ◌++◌, map, length, Option, Some, None, refl, sym, ◌∙◌, ap, subst, arith, inl, inr}
+use Rattle.std.proofs.Common.{◌≡◌, ℕ, ◌==◌, Bool, true, false, cond, List, [], ◌∷◌, ◌++◌, map, length, Option, Some, None, unwrap_or, refl, sym, ◌∙◌, ap, subst, arith, ◌⊎◌, inl, inr}
+use Rattle.std.proofs.lemmas.Bool.{cases_lt, eq-eqb, eqb-true, true≢false}
+use Rattle.std.specs.Map.{lookup}
 use Rattle.std.proofs.lemmas.List.{map-append}
 use Rattle.std.proofs.lemmas.List.Elements.{filter-append}
 use Rattle.std.specs.List.{filter}
 use Rattle.std.specs.Option.{option_map_or}
 use Rattle.fw_bag.specs.declared.rec.Rec.{Rec}
 use Rattle.fw_lines.specs.declared.line.Line.{Line}
+use Rattle.fw_lines.specs.declared.refusal.Code.TheVariants.{I5}
 use Rattle.fw_lines.specs.declared.refusal.Refusal.{Refusal}
 use Rattle.fw_lines.specs.declared.span.Span.{Span}
 use Rattle.fw_lines.specs.Batches.{batches_at}
 use Rattle.fw_lines.specs.Faults.{BreakNoRule, IsFirstFault}
-use Rattle.fw_lines.specs.Inputs.{line_fault, batches_of, fault_in, source_of, fault_of, batch_of, is_batch_of, IsAccepted, IsRefused}
+use Rattle.fw_lines.specs.Inputs.{line_fault, batches_of, fault_in, source_of, fault_of, batch_of, is_batch_of, size_limit, IsAccepted, IsRefused}
 use Rattle.fw_lines.specs.Lines.{Said, bytes_at, said_in, said_lines}
-use Rattle.fw_lines.proofs.FaultLaws.{IsSoundSoFar, sound_more, first_fault, none_left, sound_or_first, one_first}
+use Rattle.fw_lines.proofs.FaultLaws.{IsSoundSoFar, sound_more, first_fault, none_left, sound_or_first, sound_or_some, one_first}
 
 -- what the code's loop knows: some lines are done, none of them breaks a rule, and the batches are theirs
 pub record IsRead (sources : List (List ℕ × ℕ)) (lines left : List Said) (batches : List (ℕ × List (List Rec))) : Type 0 where
@@ -70,3 +73,48 @@ one_refusal text sources first second (inl a) (inl b) = a.1 ∙ sym b.1
 one_refusal text sources first second (inl a) (inr b) = absurd (omega (arith, a.0, b.0))
 one_refusal text sources first second (inr a) (inl b) = absurd (omega (arith, a.0, b.0))
 one_refusal text sources first second (inr a) (inr b) = one_first (line_fault sources) (said_lines text) first second a.1 b.1
+
+-- ---- each text has an answer
+
+-- a batch is the first of its node, and the other nodes keep theirs
+added_first : (n other : ℕ) (batch : List Rec) (batches : List (ℕ × List (List Rec)))
+    → batches_at ((n, batch ∷ batches_at batches n) ∷ batches) other ≡ cond (n == other) (batch ∷ batches_at batches other) (batches_at batches other)
+added_first n other batch batches = by (n == other) refl (other == n) refl
+  where
+    by : (c : Bool) → (n == other) ≡ c → (d : Bool) → (other == n) ≡ d
+        → unwrap_or (cond d (Some (batch ∷ batches_at batches n)) (lookup (λ k. other == k) batches)) [] ≡ cond c (batch ∷ batches_at batches other) (batches_at batches other)
+    by true e true f = ap (λ k. batch ∷ batches_at batches k) (eqb-true n other e)
+    by false e false f = refl
+    by true e false f = absurd (true≢false (sym (eq-eqb other n (sym (eqb-true n other e))) ∙ f))
+    by false e true f = absurd (true≢false (sym (eq-eqb n other (sym (eqb-true other n f))) ∙ e))
+
+-- some batches are those that lines give
+value_exists : (sources : List (List ℕ × ℕ)) (lines : List Said) → (batches : List (ℕ × List (List Rec))) × ((node : ℕ) → batches_at batches node ≡ batches_of sources lines node)
+value_exists sources [] = ([], λ node. refl)
+value_exists sources (line ∷ lines) = by (source_of sources line.words) refl (value_exists sources lines)
+  where
+    with_line : Option ℕ → ℕ → List (List Rec)
+    with_line source node = map (λ (l : Said). batch_of l.words) (cond (option_map_or (λ s. s == node) source false) (line ∷ filter (is_batch_of sources node) lines) (filter (is_batch_of sources node) lines))
+
+    one_more : (c : Bool) (node : ℕ) (batches : List (List Rec)) → batches ≡ batches_of sources lines node → cond c (batch_of line.words ∷ batches) batches
+        ≡ map (λ (l : Said). batch_of l.words) (cond c (line ∷ filter (is_batch_of sources node) lines) (filter (is_batch_of sources node) lines))
+    one_more true node batches h = ap (λ bs. batch_of line.words ∷ bs) h
+    one_more false node batches h = h
+
+    by : (source : Option ℕ) → source_of sources line.words ≡ source
+        → ((batches : List (ℕ × List (List Rec))) × ((node : ℕ) → batches_at batches node ≡ batches_of sources lines node))
+        → (batches : List (ℕ × List (List Rec))) × ((node : ℕ) → batches_at batches node ≡ batches_of sources (line ∷ lines) node)
+    by None e rest = (rest.0, λ node. rest.1 node ∙ ap (λ s. with_line s node) (sym e))
+    by (Some n) e rest = ((n, batch_of line.words ∷ batches_at rest.0 n) ∷ rest.0, λ node.
+        added_first n node (batch_of line.words) rest.0 ∙ one_more (n == node) node (batches_at rest.0 node) (rest.1 node) ∙ ap (λ s. with_line s node) (sym e))
+
+-- each text is accepted or refused
+pub some_answer : (text : List ℕ) (sources : List (List ℕ × ℕ)) → ((batches : List (ℕ × List (List Rec))) × IsAccepted text sources batches) ⊎ ((refusal : Refusal) × IsRefused text sources refusal)
+some_answer text sources = elim (cases_lt size_limit (length text)) [
+  | inl large ↦ inr (record { code = I5; line = 0 }, inl (large, refl))
+  | inr small ↦ elim (sound_or_some (line_fault sources) (said_lines text)) [
+    | inl sound ↦ let value = value_exists sources (said_lines text) in
+        inl (value.0, record { size = omega (arith, small); sound = sound; value = value.1 })
+    | inr fault ↦ inr (fault.0, inr (omega (arith, small), fault.1))
+  ]
+]

@@ -1,5 +1,5 @@
 //! The reader of the inputs.
-ghost use Rattle.std.specs.Prelude.{◌≡◌, ℕ, List, [], ◌∷◌, ◌++◌, codes, IfOk, OnOk, IfErr, MatchResult, if◌then◌else◌};
+ghost use Rattle.std.specs.Prelude.{◌≡◌, ◌⊎◌, ℕ, List, [], ◌∷◌, ◌++◌, codes, IfOk, OnOk, IfErr, MatchResult, if◌then◌else◌};
 ghost use Rattle.std.specs.List.{filter_map, list_any};
 ghost use Rattle.std.specs.Option.{option_map_or, option_or};
 ghost use Rattle.std.specs.Str.{bytes_eq};
@@ -52,9 +52,13 @@ pub fn read_batches(alloc: Global, text: &[u8], sources: &SourceNames) -> Result
     Ok(batches)
 }
 
-/// An accepted text is not refused and gives each node its batches, and a text is refused by one rule at one
-/// line: so `read_batches` answers `Ok` exactly for the texts of the grammar, unless memory is refused.
+/// Each text is accepted or refused, and not both; an accepted one gives each node its batches, and one that is refused is
+/// by one rule at one line: so `read_batches` answers `Ok` exactly for the texts of the grammar, and else that refusal,
+/// unless memory is refused.
 pub fn one_answer()
+    ensures some_answer { (text : List ℕ) (sources : List (List ℕ × ℕ))
+        → ((batches : List (ℕ × List (List Rec))) × IsAccepted text sources batches)
+        ⊎ ((refusal : Refusal) × IsRefused text sources refusal) }
     ensures exclusive { (text : List ℕ) (sources : List (List ℕ × ℕ))
         (batches : List (ℕ × List (List Rec))) (refusal : Refusal)
         → IsAccepted text sources batches → IsRefused text sources refusal → ⊥ }

@@ -1,15 +1,17 @@
 -- The lines of a schedule, read one after another.
-use Rattle.std.proofs.Common.{◌≡◌, ℕ, List, [], ◌∷◌, ◌++◌, Some, None, sym, ◌∙◌, ap, subst, arith, inl, inr}
+use Rattle.std.proofs.Common.{◌≡◌, ℕ, List, [], ◌∷◌, ◌++◌, length, Some, None, refl, sym, ◌∙◌, ap, subst, arith, ◌⊎◌, inl, inr}
+use Rattle.std.proofs.lemmas.Bool.{cases_lt}
 use Rattle.std.proofs.lemmas.List.Elements.{filter_map-append}
 use Rattle.std.specs.Result.{result_ok}
 use Rattle.fw_lines.specs.declared.line.Line.{Line}
+use Rattle.fw_lines.specs.declared.refusal.Code.TheVariants.{S4}
 use Rattle.fw_lines.specs.declared.refusal.Refusal.{Refusal}
 use Rattle.fw_lines.specs.Faults.{IsFirstFault}
 use Rattle.fw_lines.specs.Lines.{Said, words_at, said_in, said_lines}
-use Rattle.fw_lines.proofs.FaultLaws.{IsSoundSoFar, sound_more, first_fault, sound_or_first, one_first}
+use Rattle.fw_lines.proofs.FaultLaws.{IsSoundSoFar, sound_more, first_fault, sound_or_first, sound_or_some, one_first}
 use Rattle.fw_flow.specs.declared.step.Step.{Step}
 use Rattle.fw_flow.specs.Dataflow.{Dataflow}
-use Rattle.fw_schedule.specs.Grammar.{step_of, fault_of, line_fault, steps_of, IsAccepted, IsRefused}
+use Rattle.fw_schedule.specs.Grammar.{step_of, fault_of, line_fault, steps_of, size_limit, IsAccepted, IsRefused}
 
 -- what the code's loop knows: some lines are done, none of them breaks a rule, and the steps are theirs
 pub record IsRead (flow : Dataflow) (lines left : List Said) (steps : List Step) : Type 0 where
@@ -49,3 +51,13 @@ one_refusal text flow first second (inl a) (inl b) = a.1 ∙ sym b.1
 one_refusal text flow first second (inl a) (inr b) = absurd (omega (arith, a.0, b.0))
 one_refusal text flow first second (inr a) (inl b) = absurd (omega (arith, a.0, b.0))
 one_refusal text flow first second (inr a) (inr b) = one_first (line_fault flow) (said_lines text) first second a.1 b.1
+
+-- each text is accepted or refused
+pub some_answer : (text : List ℕ) (flow : Dataflow) → ((steps : List Step) × IsAccepted text flow steps) ⊎ ((refusal : Refusal) × IsRefused text flow refusal)
+some_answer text flow = elim (cases_lt size_limit (length text)) [
+  | inl large ↦ inr (record { code = S4; line = 0 }, inl (large, refl))
+  | inr small ↦ elim (sound_or_some (line_fault flow) (said_lines text)) [
+    | inl sound ↦ inl (steps_of flow (said_lines text), record { size = omega (arith, small); sound = sound; value = refl })
+    | inr fault ↦ inr (fault.0, inr (omega (arith, small), fault.1))
+  ]
+]

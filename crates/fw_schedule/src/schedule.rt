@@ -1,5 +1,5 @@
 //! The reader of schedules.
-ghost use Rattle.std.specs.Prelude.{◌≡◌, ◌++◌, ◌∷◌, [], ℕ, List, IfOk, OnOk, IfErr, OnErr, MatchResult};
+ghost use Rattle.std.specs.Prelude.{◌≡◌, ◌⊎◌, ◌++◌, ◌∷◌, [], ℕ, List, IfOk, OnOk, IfErr, OnErr, MatchResult};
 ghost use Rattle.std.specs.List.{AllByRecursion};
 ghost use Rattle.std.specs.Option.{option_map};
 ghost use Rattle.fw_flow.specs.Dataflow.{Dataflow, is_input_kind, is_output_kind};
@@ -45,9 +45,12 @@ pub fn read_schedule(alloc: Global, text: &[u8], flow: &Flow) -> Result<Steps, R
     Ok(steps)
 }
 
-/// An accepted text is not refused, and a text is refused by one rule at one line: so `read_schedule`
-/// answers `Ok` exactly for the texts of the grammar, unless memory is refused.
+/// Each text is accepted or refused, and not both; an accepted one spells one list of steps, and one that is refused is by one
+/// rule at one line: so `read_schedule` answers `Ok` exactly for the texts of the grammar, and else that refusal, unless
+/// memory is refused.
 pub fn one_answer()
+    ensures some_answer { (text : List ℕ) (flow : Dataflow) → ((steps : List Step) × IsAccepted text flow steps)
+        ⊎ ((refusal : Refusal) × IsRefused text flow refusal) }
     ensures exclusive { (text : List ℕ) (flow : Dataflow) (steps : List Step) (refusal : Refusal)
         → IsAccepted text flow steps → IsRefused text flow refusal → ⊥ }
     ensures one_value { (text : List ℕ) (flow : Dataflow) (first second : List Step)

@@ -1,5 +1,9 @@
 use Rattle.fw_flow.proofs.Checks.{checked_or_refused, one_value, one_refusal}
+use Rattle.fw_flow.proofs.AnswerLaws.{some_answer}
 use Rattle.fw_flow.proofs.laws.one_answer.Goals as goal
+
+pub returns-clause-some_answer : goal.returns-clause-some_answer
+returns-clause-some_answer c = some_answer
 
 pub returns-clause-exclusive : goal.returns-clause-exclusive
 returns-clause-exclusive c = checked_or_refused

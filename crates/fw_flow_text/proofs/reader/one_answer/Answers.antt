@@ -1,5 +1,8 @@
-use Rattle.fw_flow_text.proofs.ReadLaws.{accepted_or_refused, one_flow, one_refusal}
+use Rattle.fw_flow_text.proofs.ReadLaws.{accepted_or_refused, one_flow, one_refusal, some_answer}
 use Rattle.fw_flow_text.proofs.reader.one_answer.Goals as goal
+
+pub returns-clause-some_answer : goal.returns-clause-some_answer
+returns-clause-some_answer c = some_answer
 
 pub returns-clause-exclusive : goal.returns-clause-exclusive
 returns-clause-exclusive c = accepted_or_refused

@@ -1,6 +1,9 @@
 use Rattle.std.proofs.Common.{sym, ◌∙◌}
-use Rattle.fw_lines.proofs.ReadLaws.{accepted_or_refused, one_refusal}
+use Rattle.fw_lines.proofs.ReadLaws.{accepted_or_refused, one_refusal, some_answer}
 use Rattle.fw_lines.proofs.inputs.one_answer.Goals as goal
+
+pub returns-clause-some_answer : goal.returns-clause-some_answer
+returns-clause-some_answer c = some_answer
 
 pub returns-clause-exclusive : goal.returns-clause-exclusive
 returns-clause-exclusive c = accepted_or_refused

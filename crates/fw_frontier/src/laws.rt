@@ -22,7 +22,7 @@ pub fn least_stamps_are_one_list()
     ensures { (ss xs ys : List (List ℕ)) → AreLeastOf ss xs → AreLeastOf ss ys → xs ≡ ys }
 {}
 
-/// The least of some stamps have the same stamps inside as these.
+/// With the least of some stamps outside, the same is inside as with all of them.
 pub fn least_stamps_decide()
     ensures { (ss os : List (List ℕ)) (t : List ℕ) → AreLeastOf ss os → inside os t ≡ inside ss t }
 {}
@@ -32,7 +32,7 @@ pub fn least_stamps_stay()
     ensures { (ss os : List (List ℕ)) → AreLeastOf ss os → AreLeastOf os os }
 {}
 
-/// The lists that name frontiers are those that have the least of some stamps of the domain.
+/// The lists that name frontiers of a domain are those that have the least of some of its stamps.
 pub fn canonical_lists_are_least()
     ensures least { (bounds : Domain) (os : List (List ℕ)) → IsCanonical bounds os → AreLeastOf os os }
     ensures canonical { (bounds : Domain) (ss os : List (List ℕ))

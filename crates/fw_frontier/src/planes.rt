@@ -206,9 +206,9 @@ impl Around {
     }
 }
 
-// Pushes the least upper bounds of `s` with each of the stamps, of those that lie in the plane through `s` the least
-// ones: with one less at any place, such a bound would not be at least one of each list. The union's list has the least
-// alone, and to leave the others out here spares comparing all bounds with each other.
+// Pushes the least upper bound of `s` and each of the stamps, where it lies in the plane through `s` and no lesser stamp
+// is at least one of each list. Others are not among the least outside stamps of the union, and to leave them out here
+// spares comparing all bounds with each other.
 fn push_bounds(
     found: &mut Vec<Stamp>,
     s: &Stamp,

@@ -16,6 +16,7 @@ use crate::offers::{
 };
 use crate::passes::{front_passes, is_inside, owner, passes};
 use crate::side::{Restoring, Side};
+use fw_flow::laws::flow_is_well_formed;
 use fw_flow::{Counted, Cut, EdgeId, Flow, NodeId, Offer};
 use fw_frontier::Front;
 use fw_model::laws::{psi_back_is_largest, senders_of_well_formed};
@@ -60,7 +61,7 @@ fn lowered_failing(
     requires fails { Within (left_of flow.now offers.now side.now cut.now) (frontier_of (reach flow.now side.now) bound.now) → ⊥ }
     ensures { IfOk result (IsLowered flow.now offers.now side.now cut.now bound.now) }
 {
-    let _ = flow.nodes();
+    flow_is_well_formed(flow);
     let node = owner(flow, *side);
     match greatest(offers, node) {
         Some(greatest) => {
@@ -99,8 +100,7 @@ fn last_passing(
     requires fails { Within (left_of flow.now offers.now side cut.now) (frontier_of (reach flow.now side) bound.now) → ⊥ }
     ensures { IfOk result (IsLowered flow.now offers.now side cut.now bound.now) }
 {
-    // Where the number of nodes is asked, the flow is known to be well formed.
-    let _ = flow.nodes();
+    flow_is_well_formed(flow);
     let records = records_of(offers, owner(flow, side));
     let mut left = records.len();
     'record: while left > 0 {
@@ -186,7 +186,6 @@ fn delivered_cut_down(
     requires range { spec.range_of offers.now (receiver flow.now edge) ≢ None }
     ensures { IfOk result (IsCutDown flow.now offers.now (sides.Delivered edge) front.now bound.now) }
 {
-    let _ = flow.nodes();
     let node = flow.dst(edge);
     match restoring(flow, node) {
         Restoring::Bound => front.meet(bound),
@@ -221,8 +220,7 @@ fn discarded_cut_down(
     requires range { spec.range_of offers.now (sender flow.now edge) ≢ None }
     ensures { IfOk result (IsCutDown flow.now offers.now (sides.Discarded edge) front.now bound.now) }
 {
-    // Where the number of nodes is asked, the flow is known to be well formed.
-    let _ = flow.nodes();
+    flow_is_well_formed(flow);
     senders_of_well_formed();
     let node = flow.src(edge);
     if can_resend(flow.policy(node)) {

@@ -12,7 +12,7 @@ arrived_from_cut-requires-clause-cut c =
     let choice = choice_of c.args.cuts.now c.args.notes.now in
     let l = there_at flow c.args.side.now (Delivered c.in-Delivered.edge) c.requires.there c.in-Delivered.is in
     cut_here flow c.args.offers.now choice (sender flow c.in-Delivered.edge) c.src.result c.cut_at-cut.result.now c.requires.reached
-    (c.nodes.ensures.well_formed.senders_declared c.in-Delivered.edge l) (c.cut_at-cut.ensures choice refl) c.src.ensures
+    (c.flow_is_well_formed.ensures.senders_declared c.in-Delivered.edge l) (c.cut_at-cut.ensures choice refl) c.src.ensures
 
 pub returns-in-Delivered : goal.returns-in-Delivered
 returns-in-Delivered c =
@@ -29,7 +29,7 @@ returns-in-Discarded c =
     let l = there_at flow c.args.side.now (Discarded c.in-Discarded.edge) c.requires.there c.in-Discarded.is in
     let p = receiver flow c.in-Discarded.edge in
     let canonical = cut_here flow c.args.offers.now choice p c.dst.result c.cut_at.result.now c.requires.reached
-    (c.nodes.ensures.well_formed.receivers_declared c.in-Discarded.edge l) (c.cut_at.ensures choice refl) c.dst.ensures in
+    (c.flow_is_well_formed.ensures.receivers_declared c.in-Discarded.edge l) (c.cut_at.ensures choice refl) c.dst.ensures in
     IfOk-weaker c.kept.result _ _
     (λ g n. discarded_at_cut flow c.args.offers.now c.args.side.now c.in-Discarded.edge c.dst.result choice g c.cut_at.result.now c.in-Discarded.is (c.cut_at.ensures choice refl) c.dst.ensures n)
     (c.kept.ensures flow p canonical)

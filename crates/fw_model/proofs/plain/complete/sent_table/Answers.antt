@@ -1,7 +1,7 @@
 use Rattle.std.proofs.Common.{◌++◌, ◌∷◌, [], sym, ap, ◌∙◌, arith}
 use Rattle.fw_model.specs.Plain.{system_of}
 use Rattle.fw_model.proofs.CompleteSteps.{table_more, table_same, at_nodes_at}
-use Rattle.fw_model.proofs.plain.complete.sent_table.Goals.{in-Some+in_ok-sent+in_ok-push, in_default-notified_epoch}
+use Rattle.fw_model.proofs.plain.complete.sent_table.Goals.{in-Some+in_ok-sent+in_ok-push, in_default}
 use Rattle.fw_model.proofs.plain.complete.sent_table.Goals as goal
 
 pub sends-requires : goal.sends-requires
@@ -13,8 +13,8 @@ loop-i-preserved c = elim c.match-notified_epoch.branch [
       table_more (system_of c.args.flow.now c.args.batches.now) c.args.node c.args.events.now c.loop-i.i c.index-events-i.result w.in-Some.epoch w.in_ok-sent.sent.items
       c.loop-i.entries.items c.match-notified_epoch.entries.items c.requires c.loop-i-test.true c.index-events-i.is (sym w.in-Some.is ∙ c.notified_epoch.ensures) w.in_ok-sent.ensures
       (ap (λ v. v.items) w.entries-is ∙ w.in_ok-push.ensures.items ∙ ap (λ n. c.loop-i.entries.items ++ (w.in-Some.epoch, n) ∷ []) (w.len.ensures ∙ omega arith)) c.loop-i.invariant
-  | in_default-notified_epoch w ↦
+  | in_default w ↦
       table_same (system_of c.args.flow.now c.args.batches.now) c.args.node c.args.events.now c.loop-i.i c.index-events-i.result
-      c.loop-i.entries.items c.match-notified_epoch.entries.items c.requires c.loop-i-test.true c.index-events-i.is (sym w.in_default-notified_epoch.is ∙ c.notified_epoch.ensures)
+      c.loop-i.entries.items c.match-notified_epoch.entries.items c.requires c.loop-i-test.true c.index-events-i.is (sym w.in_default.is ∙ c.notified_epoch.ensures)
       (ap (λ v. v.items) w.entries-is) c.loop-i.invariant
 ]

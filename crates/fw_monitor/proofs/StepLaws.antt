@@ -177,18 +177,16 @@ node_done flow offers cuts0 cuts1 notes0 notes1 p bound a n all l s1 h1 names lo
 
 -- ---- passes
 
-pub more_done : (flow : Dataflow) (offers : List Offer) (first cur new : Choice) (p q : ℕ) (a low c : Bool) (P : Choice → ℕ → Type 0) → IsStep flow offers first cur low → IsStep flow offers cur new a → c ≡ (a || low) → q ≡ p
+pub more_done : (flow : Dataflow) (offers : List Offer) (first cur new : Choice) (p q : ℕ) (a low c : Bool) (P : Choice → ℕ → Type 0) → IsStep flow offers first cur low → IsStep flow offers cur new a → c ≡ (low || a) → q ≡ p
     → (a ≡ false → HasConsistent flow offers → P new q) → (low ≡ false → HasConsistent flow offers → (e : ℕ) → e < p → P cur e)
     → IsStep flow offers first new c × (c ≡ false → HasConsistent flow offers → (e : ℕ) → e < p + 1 → P new e)
 more_done flow offers first cur new p q a low c P s1 s2 e same here before = (
-  then_step flow offers first cur new low a c
-      (λ k. let u = or_parts a low (sym e ∙ k) in (u.1, u.0))
-      (λ k. elim (or_cases a low (sym e ∙ k)) [ inl i ↦ inr i | inr j ↦ inl j ]) s1 s2,
+  either_step flow offers first cur new low a c e s1 s2,
   λ k has d l.
-      let u = or_parts a low (sym e ∙ k) in
+      let u = or_parts low a (sym e ∙ k) in
       elim (cases_lt d p) [
-        | inl m ↦ still flow offers cur new a (λ v. P v d) s2 u.0 (before u.1 has d m)
-        | inr m ↦ let r : p ≡ d = omega arith in subst (P new) (same ∙ r) (here u.0 has)
+        | inl m ↦ still flow offers cur new a (λ v. P v d) s2 u.1 (before u.0 has d m)
+        | inr m ↦ let r : p ≡ d = omega arith in subst (P new) (same ∙ r) (here u.1 has)
       ],
 )
 

@@ -1,5 +1,5 @@
 //! The largest consistent choice of what the nodes offer.
-ghost use Rattle.std.specs.Prelude.{◌≡◌, ◌<◌, ◌↔◌, ◌||◌, ℕ, true, false, length, IsTrue, IfOk};
+ghost use Rattle.std.specs.Prelude.{◌≡◌, ◌<◌, ◌↔◌, ℕ, true, false, length, IsTrue, IfOk};
 ghost use Rattle.fw_frontier.specs.Front.{frontier_of, IsCanonical, Names};
 ghost use Rattle.fw_frontier.specs.Frontier.{Within};
 ghost use Rattle.fw_flow.specs.declared.choice.Choice as choices;
@@ -16,6 +16,7 @@ use crate::lower::lowered;
 use crate::passes::owner;
 use crate::side::Side;
 use crate::start::{all_kept, greatest_cuts, kept};
+use fw_flow::laws::flow_is_well_formed;
 use fw_flow::{Choice, Cut, Cuts, EdgeId, Flow, Fronts, NodeId, Offer};
 use fw_frontier::Front;
 use std::alloc::{AllocError, Global};
@@ -73,7 +74,7 @@ fn right(
     ensures { IfOk result (λ g. Names (reach flow.now side.now) g
         (right_of flow.now offers.now side.now (choice_of cuts.now notes.now))) }
 {
-    let _ = flow.nodes();
+    flow_is_well_formed(flow);
     match side {
         Side::Delivered(edge) => {
             let cut = cut_at(cuts, flow.src(*edge));
@@ -118,7 +119,7 @@ fn lower_cut(
     ensures holds { IfOk result (λ b. b ≡ false → HasConsistent flow.now offers.now
         → IsMet flow.now offers.now (choice_of cuts.new.items notes.now) side.now) }
 {
-    let _ = flow.nodes();
+    flow_is_well_formed(flow);
     let bound = right(alloc, flow, offers, side, cuts, notes)?;
     let node = owner(flow, *side);
     let lower = lowered(alloc, flow, offers, side, cut_at(cuts, node), &bound)?;
@@ -146,13 +147,6 @@ fn lower_note(notes: &mut Vec<Front>, node: NodeId, bound: &Front) -> Result<boo
     Ok(true)
 }
 
-/// Whether one of the two is true.
-fn either(one: bool, other: bool) -> bool
-    ensures { result ≡ (one || other) }
-{
-    one || other
-}
-
 /// Lowers what does not hold at an edge; whether anything was lowered. The error is want of memory.
 fn at_edge(
     alloc: Global,
@@ -169,12 +163,12 @@ fn at_edge(
     ensures holds { IfOk result (λ b. b ≡ false → HasConsistent flow.now offers.now
         → IsMetAtEdge flow.now offers.now (choice_of cuts.new.items notes.new.items) edge) }
 {
-    let _ = flow.nodes();
+    flow_is_well_formed(flow);
     let delivered = lower_cut(alloc, flow, offers, &Side::Delivered(edge), cuts, notes)?;
     let discarded = lower_cut(alloc, flow, offers, &Side::Discarded(edge), cuts, notes)?;
     let bound = arrived(alloc, flow, offers, edge, note_at(notes, flow.src(edge)))?;
     let note = lower_note(notes, flow.dst(edge), &bound)?;
-    Ok(either(either(delivered, discarded), note))
+    Ok(delivered | discarded | note)
 }
 
 /// Lowers what does not hold at a node alone; whether anything was lowered. The error is want of memory.
@@ -196,7 +190,7 @@ fn at_node(
     let notified = lower_cut(alloc, flow, offers, &Side::Notified(node), cuts, notes)?;
     let bound = kept(alloc, cut_at(cuts, node))?;
     let own = lower_note(notes, node, &bound)?;
-    Ok(either(notified, own))
+    Ok(notified | own)
 }
 
 /// A pass over the edges; whether anything was lowered. The error is want of memory.
@@ -213,12 +207,12 @@ fn pass_edges(
     ensures holds { IfOk result (λ b. b ≡ false → HasConsistent flow.now offers.now
         → (e : ℕ) → e < length flow.now.edges → IsMetAtEdge flow.now offers.now (choice_of cuts.new.items notes.new.items) e) }
 {
-    let _ = flow.nodes();
+    flow_is_well_formed(flow);
     let mut lowered = false;
     for place in 0..flow.edges() {
         let edge = EdgeId::at(place as u32);
         let more = at_edge(alloc, flow, offers, cuts, notes, edge)?;
-        lowered = either(more, lowered);
+        lowered |= more;
     }
     Ok(lowered)
 }
@@ -241,7 +235,7 @@ fn pass_nodes(
     for place in 0..flow.nodes() {
         let node = NodeId::at(place as u32);
         let more = at_node(alloc, flow, offers, cuts, notes, node)?;
-        lowered = either(more, lowered);
+        lowered |= more;
     }
     Ok(lowered)
 }
@@ -260,5 +254,5 @@ fn pass(
 {
     let edges = pass_edges(alloc, flow, offers, cuts, notes)?;
     let nodes = pass_nodes(alloc, flow, offers, cuts, notes)?;
-    Ok(either(edges, nodes))
+    Ok(edges | nodes)
 }

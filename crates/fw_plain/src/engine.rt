@@ -176,6 +176,7 @@ impl Engine {
     fn notify(&self, _node: NodeId, _at: Option<&Stamp>) -> Stepped
         ensures { Steps self.now.sys self.now.state (Notify _node (option_copied _at.entry)) self.now.state (outcome_of result) }
     {
+        // Where a field is read, what holds of each engine is known.
         let _ = &self.flow;
         Stepped::Idle
     }

@@ -1,4 +1,4 @@
-use Rattle.std.proofs.Common.{◌≡◌, false, ap, ◌∙◌, subst}
+use Rattle.std.proofs.Common.{◌≡◌, false, refl, ap, ◌∙◌, subst}
 use Rattle.fw_frontier.specs.Front.{frontier_of, Names}
 use Rattle.fw_flow.specs.Dataflow.{sender, receiver, bounds_of}
 use Rattle.fw_model.specs.Machine.{front_of}
@@ -26,8 +26,8 @@ returns-clause-step c =
     let front : c.note_at.result.now ≡ front_of notes (sender flow e) = c.note_at.ensures ∙ ap (front_of c.deref-3.result.now) c.src.ensures ∙ ap (λ xs. front_of xs (sender flow e)) c.deref-3.ensures.value in
     let names = subst (λ f. Names (bounds_of flow (receiver flow e)) c.in_ok-bound.bound (arrived_from flow offers e (frontier_of (bounds_of flow (sender flow e)) f))) front c.in_ok-bound.ensures in
     let low = subst (λ q. IsNoteLowered notes c.lower_note.new.notes.items q c.in_ok-bound.bound c.in_ok-note.note) c.dst.ensures c.in_ok-note.ensures in
-    (edge_done flow offers cuts0 cuts1 cuts2 notes c.lower_note.new.notes.items e c.in_ok-bound.bound a b c.in_ok-note.note c.either.result c.either-2.result
-    c.nodes.ensures.well_formed c.requires.there s1 h1 s2 h2 names low c.either.ensures c.either-2.ensures).0
+    (edge_done flow offers cuts0 cuts1 cuts2 notes c.lower_note.new.notes.items e c.in_ok-bound.bound a b c.in_ok-note.note _ _
+    c.flow_is_well_formed.ensures c.requires.there s1 h1 s2 h2 names low refl refl).0
 
 pub returns-clause-holds : goal.returns-clause-holds
 returns-clause-holds c =
@@ -47,5 +47,5 @@ returns-clause-holds c =
     let front : c.note_at.result.now ≡ front_of notes (sender flow e) = c.note_at.ensures ∙ ap (front_of c.deref-3.result.now) c.src.ensures ∙ ap (λ xs. front_of xs (sender flow e)) c.deref-3.ensures.value in
     let names = subst (λ f. Names (bounds_of flow (receiver flow e)) c.in_ok-bound.bound (arrived_from flow offers e (frontier_of (bounds_of flow (sender flow e)) f))) front c.in_ok-bound.ensures in
     let low = subst (λ q. IsNoteLowered notes c.lower_note.new.notes.items q c.in_ok-bound.bound c.in_ok-note.note) c.dst.ensures c.in_ok-note.ensures in
-    (edge_done flow offers cuts0 cuts1 cuts2 notes c.lower_note.new.notes.items e c.in_ok-bound.bound a b c.in_ok-note.note c.either.result c.either-2.result
-    c.nodes.ensures.well_formed c.requires.there s1 h1 s2 h2 names low c.either.ensures c.either-2.ensures).1
+    (edge_done flow offers cuts0 cuts1 cuts2 notes c.lower_note.new.notes.items e c.in_ok-bound.bound a b c.in_ok-note.note _ _
+    c.flow_is_well_formed.ensures c.requires.there s1 h1 s2 h2 names low refl refl).1

@@ -22,8 +22,8 @@ returns-clause-step c =
     let cut = c.cut_at.ensures choice (sym c.deref-2.ensures.value) in
     let canonical = cut_here flow offers choice p p c.cut_at.result.now s1.encloses c.requires.there cut refl in
     let names = subst (λ x. Names (bounds_of flow p) c.in_ok-bound.bound (set_of (bare flow) p x)) cut (c.in_ok-bound.ensures flow p canonical) in
-    (node_done flow offers cuts0 cuts1 notes c.lower_note.new.notes.items p c.in_ok-bound.bound a c.in_ok-own.own c.either.result
-    c.requires.there s1 h1 names c.in_ok-own.ensures c.either.ensures).0
+    (node_done flow offers cuts0 cuts1 notes c.lower_note.new.notes.items p c.in_ok-bound.bound a c.in_ok-own.own _
+    c.requires.there s1 h1 names c.in_ok-own.ensures refl).0
 
 pub returns-clause-holds : goal.returns-clause-holds
 returns-clause-holds c =
@@ -40,5 +40,5 @@ returns-clause-holds c =
     let cut = c.cut_at.ensures choice (sym c.deref-2.ensures.value) in
     let canonical = cut_here flow offers choice p p c.cut_at.result.now s1.encloses c.requires.there cut refl in
     let names = subst (λ x. Names (bounds_of flow p) c.in_ok-bound.bound (set_of (bare flow) p x)) cut (c.in_ok-bound.ensures flow p canonical) in
-    (node_done flow offers cuts0 cuts1 notes c.lower_note.new.notes.items p c.in_ok-bound.bound a c.in_ok-own.own c.either.result
-    c.requires.there s1 h1 names c.in_ok-own.ensures c.either.ensures).1
+    (node_done flow offers cuts0 cuts1 notes c.lower_note.new.notes.items p c.in_ok-bound.bound a c.in_ok-own.own _
+    c.requires.there s1 h1 names c.in_ok-own.ensures refl).1

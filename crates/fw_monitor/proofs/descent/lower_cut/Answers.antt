@@ -10,7 +10,7 @@ lowered-requires-clause-cut c =
     let flow = c.args.flow.now in
     let choice = choice_of c.args.cuts.now.items c.args.notes.now in
     cut_here flow c.args.offers.now choice (owner flow c.args.side.now) c.owner-node.result c.cut_at.result.now c.requires.encloses
-    (owner-there flow c.args.side.now c.nodes.ensures.well_formed c.requires.there) (c.cut_at.ensures choice (sym c.deref-2.ensures.value)) c.owner-node.ensures
+    (owner-there flow c.args.side.now c.flow_is_well_formed.ensures c.requires.there) (c.cut_at.ensures choice (sym c.deref-2.ensures.value)) c.owner-node.ensures
 
 pub returns-in-None-clause-holds : goal.returns-in-None-clause-holds
 returns-in-None-clause-holds c = λ k has.
@@ -23,7 +23,7 @@ returns-in-None-clause-holds c = λ k has.
     let names = subst (λ xs. Names (reach flow side) c.in_ok-bound.bound (right_of flow offers side (choice_of xs notes))) c.deref.ensures.value c.in_ok-bound.ensures in
     let low = subst (IsLowered flow offers side c.cut_at.result.now c.in_ok-bound.bound) c.in-None.is c.in_ok-lower.ensures in
     let none = subst (λ x. IsLowered flow offers side x c.in_ok-bound.bound None) (c.cut_at.ensures choice (sym c.deref-2.ensures.value)) low in
-    cut_holds flow offers side cuts cuts notes c.in_ok-bound.bound c.owner-node.result c.nodes.ensures.well_formed c.requires.there c.requires.encloses names c.owner-node.ensures refl none has
+    cut_holds flow offers side cuts cuts notes c.in_ok-bound.bound c.owner-node.result c.flow_is_well_formed.ensures c.requires.there c.requires.encloses names c.owner-node.ensures refl none has
 
 pub returns-clause-step : goal.returns-clause-step
 returns-clause-step c =
@@ -36,4 +36,4 @@ returns-clause-step c =
     let names = subst (λ xs. Names (reach flow side) c.in_ok-bound.bound (right_of flow offers side (choice_of xs notes))) c.deref.ensures.value c.in_ok-bound.ensures in
     let low = subst (IsLowered flow offers side c.cut_at.result.now c.in_ok-bound.bound) c.in-Some.is c.in_ok-lower.ensures in
     let some = subst (λ x. IsLowered flow offers side x c.in_ok-bound.bound (Some c.in-Some.cut)) (c.cut_at.ensures choice (sym c.deref-2.ensures.value)) low in
-    cut_step flow offers side cuts _ notes c.in_ok-bound.bound c.owner-node.result c.place.result c.in-Some.cut c.nodes.ensures.well_formed c.requires.there c.requires.encloses names c.owner-node.ensures c.place.ensures refl some
+    cut_step flow offers side cuts _ notes c.in_ok-bound.bound c.owner-node.result c.place.result c.in-Some.cut c.flow_is_well_formed.ensures c.requires.there c.requires.encloses names c.owner-node.ensures c.place.ensures refl some

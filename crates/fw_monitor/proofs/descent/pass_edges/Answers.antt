@@ -1,4 +1,4 @@
-use Rattle.std.proofs.Common.{arith}
+use Rattle.std.proofs.Common.{refl, arith}
 use Rattle.fw_monitor.specs.Descent.{choice_of, IsMetAtEdge}
 use Rattle.fw_monitor.proofs.DescentLaws.{same_step}
 use Rattle.fw_monitor.proofs.StepLaws.{more_done}
@@ -16,8 +16,8 @@ loop-place-preserved c =
     let offers = c.args.offers.now in
     let old = c.loop-place.invariant in
     let done = more_done flow offers (choice_of c.args.cuts.now.items c.args.notes.now.items) (choice_of c.loop-place.cuts.items c.loop-place.notes.items) (choice_of c.at_edge.new.cuts.items c.at_edge.new.notes.items)
-    c.loop-place.place c.at-edge.result c.in_ok-more.more c.loop-place.lowered c.either-lowered.result (IsMetAtEdge flow offers)
-    old.step c.in_ok-more.ensures.step c.either-lowered.ensures c.at-edge.ensures c.in_ok-more.ensures.holds old.holds in
+    c.loop-place.place c.at-edge.result c.in_ok-more.more c.loop-place.lowered _ (IsMetAtEdge flow offers)
+    old.step c.in_ok-more.ensures.step refl c.at-edge.ensures c.in_ok-more.ensures.holds old.holds in
     record { step = done.0; holds = done.1 }
 
 pub returns-clause-holds : goal.returns-clause-holds

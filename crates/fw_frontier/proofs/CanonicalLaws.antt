@@ -7,9 +7,9 @@ use Rattle.std.specs.Ordering.{is_lt}
 use Rattle.fw_time.specs.declared.stamp.Bounds.{Bounds}
 use Rattle.fw_time.specs.Stamp.{leq, lub, stamp_cmp, raised, in_domain}
 use Rattle.fw_time.proofs.StampLaws.{leq-refl, leq-length, lub-least, leq-raised, before-trans, before-total}
+use Rattle.fw_time.proofs.EachLaws.{each-at, each-kept, each-weaker}
 use Rattle.fw_frontier.specs.Front.{inside, IsCanonical, all_in_domain}
 use Rattle.fw_frontier.specs.Outside.{placed, excluding, excluding_all, excluding_lubs, excluding_pairs, below_at}
-use Rattle.fw_frontier.proofs.GenericLaws.{each-at}
 
 apart : List ℕ → List ℕ → Type 0
 apart o q = (leq o q || leq q o) ≡ false
@@ -23,20 +23,6 @@ all-placed P s (o ∷ os) h k = by (is_lt (stamp_cmp s o)) (all-placed P s os h 
     by true r = (h, (k.0, k.1))
     by false r = (k.0, r)
 
--- and of those that a test keeps
-all-filter : (P : List ℕ → Type 0) (p : List ℕ → Bool) (os : List (List ℕ)) → AllByRecursion P os → AllByRecursion P (filter p os)
-all-filter P p [] h = tt
-all-filter P p (o ∷ os) h = by (p o) (all-filter P p os h.1)
-  where
-    by : (b : Bool) → AllByRecursion P (filter p os) → AllByRecursion P (cond b (o ∷ filter p os) (filter p os))
-    by true r = (h.0, r)
-    by false r = r
-
--- each of a list's stamps follows from a fact on it
-all-map : (P Q : List ℕ → Type 0) (f : (o : List ℕ) → P o → Q o) (os : List (List ℕ)) → AllByRecursion P os → AllByRecursion Q os
-all-map P Q f [] h = tt
-all-map P Q f (o ∷ os) h = (f o h.0, all-map P Q f os h.1)
-
 canonical-filter : (b : Bounds) (p : List ℕ → Bool) (os : List (List ℕ)) → IsCanonical b os → IsCanonical b (filter p os)
 canonical-filter b p [] h = tt
 canonical-filter b p (o ∷ os) h = by (p o) (canonical-filter b p os h.1)
@@ -45,8 +31,8 @@ canonical-filter b p (o ∷ os) h = by (p o) (canonical-filter b p os h.1)
     by true r = (
       record {
         in_the_domain = h.0.in_the_domain;
-        ascending = all-filter (λ q. is_lt (stamp_cmp o q) ≡ true) p os h.0.ascending;
-        incomparable = all-filter (λ q. (leq o q || leq q o) ≡ false) p os h.0.incomparable;
+        ascending = each-kept (λ q. is_lt (stamp_cmp o q) ≡ true) p os h.0.ascending;
+        incomparable = each-kept (λ q. (leq o q || leq q o) ≡ false) p os h.0.incomparable;
       },
       r,
     )
@@ -77,7 +63,7 @@ canonical-placed b s (o ∷ os) h k l = by (is_lt (stamp_cmp s o)) refl (canonic
     by true e r = (
       record {
         in_the_domain = h;
-        ascending = (e, all-map (λ q. is_lt (stamp_cmp o q) ≡ true) (λ q. is_lt (stamp_cmp s q) ≡ true) (λ q m. before-trans s o q e m) os l.0.ascending);
+        ascending = (e, each-weaker (λ q. is_lt (stamp_cmp o q) ≡ true) (λ q. is_lt (stamp_cmp s q) ≡ true) os (λ q m. before-trans s o q e m) l.0.ascending);
         incomparable = k;
       },
       l,
@@ -141,7 +127,7 @@ in_domain-at b ss i s l e h = ap (in_domain b) e ∙ each-at (λ s. in_domain b 
 pub lengths : (b : Bounds) (ss ps : List (List ℕ)) → AllByRecursion (λ s. in_domain b s ≡ true) ss → AllByRecursion (λ p. in_domain b p ≡ true) ps → AllByRecursion (λ s. AllByRecursion (λ p. length s ≡ length p) ps) ss
 lengths b [] ps h k = tt
 lengths b (s ∷ ss) ps h k =
-    (all-map (λ p. in_domain b p ≡ true) (λ p. length s ≡ length p) (λ p e. leq-length s b.greatest h.0 ∙ sym (leq-length p b.greatest e)) ps k, lengths b ss ps h.1 k)
+    (each-weaker (λ p. in_domain b p ≡ true) (λ p. length s ≡ length p) ps (λ p e. leq-length s b.greatest h.0 ∙ sym (leq-length p b.greatest e)) k, lengths b ss ps h.1 k)
 
 leq-raised_upto : (s g : List ℕ) (i : ℕ) → leq s g ≡ true → nat_lt (get_or s i 0) (get_or g i 0) ≡ true → leq (raised s i) g ≡ true
 leq-raised_upto [] g i h k = h

@@ -1,6 +1,6 @@
 -- What projections do to the outside stamps of a frontier.
 use Rattle.std.proofs.Common.{◌≡◌, ℕ, zero, suc, ◌+◌, ◌-◌, ◌*◌, ◌/◌, ◌%◌, ◌<◌, ◌≤◌, min, Bool, true, false, not, cond, ◌&&◌, ◌||◌, ◌==◌, nat_lt, nat_le, ◌^◌, List, [], ◌∷◌, ◌++◌, length, get_or, drop, Option, Some, None, add-one, refl, sym, ap, subst, ◌∙◌, arith}
-use Rattle.std.proofs.Math.Bool.{or-true, and_assoc, and_comm}
+use Rattle.std.proofs.Math.Bool.{or-true, and_comm}
 use Rattle.std.proofs.lemmas.Option.{cond_some}
 use Rattle.std.proofs.lemmas.Bool.{and_from, and_parts, le-leb, leb-true, ltb-true}
 use Rattle.std.specs.Prelude.{option_to_list, slice_index, Result, IfOk}

@@ -1,5 +1,6 @@
 -- The last record that fits, and what is cut down of a range, as a lower cut.
 use Rattle.std.proofs.Common.{◌≡◌, ◌≢◌, ◌↔◌, ℕ, ◌+◌, ◌<◌, Bool, true, false, List, length, take, drop, get_or, Some, None, sym, ap, subst, ◌∙◌}
+use Rattle.std.proofs.lemmas.Bool.{both_ways}
 use Rattle.std.specs.List.{AllByRecursion}
 use Rattle.fw_frontier.specs.Frontier.{Within}
 use Rattle.fw_frontier.specs.Front.{Front, frontier_of, IsCanonical}
@@ -39,11 +40,8 @@ pub one_more_fails : (flow : Dataflow) (offers : List Offer) (side : Side) (cut 
     → b ≡ false → ((b ≡ true) ↔ Fits flow offers side cut bound x) → AllByRecursion (λ s. Fits flow offers side cut bound s → ⊥) (drop n rs)
     → AllByRecursion (λ s. Fits flow offers side cut bound s → ⊥) (drop i rs)
 one_more_fails flow offers side cut bound rs i n x b m l k wrong is others =
-    fails_more (λ s. Fits flow offers side cut bound s → ⊥) rs i x l k (λ h. apart b (is.1 h) wrong)
+    fails_more (λ s. Fits flow offers side cut bound s → ⊥) rs i x l k (λ h. both_ways b wrong (is.1 h))
     (subst (λ j. AllByRecursion (λ s. Fits flow offers side cut bound s → ⊥) (drop j rs)) m others)
-  where
-    apart : (b : Bool) → b ≡ true → b ≡ false → ⊥
-    apart b p q = cc
 
 pub none_left : (flow : Dataflow) (offers : List Offer) (side : Side) (cut : Cut) (bound : Front) (q : ℕ) (rs : List Recorded) (n : ℕ) → q ≡ owner flow side → rs ≡ records_of offers q → n ≡ 0
     → range_of offers (owner flow side) ≡ None → (Within (left_of flow offers side cut) (frontier_of (reach flow side) bound) → ⊥)

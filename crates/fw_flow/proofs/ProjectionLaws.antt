@@ -1,6 +1,6 @@
 -- What projections do to the outside stamps of a frontier.
 use Rattle.std.proofs.Common.{◌≡◌, ℕ, zero, suc, ◌+◌, ◌-◌, ◌*◌, ◌/◌, ◌%◌, ◌<◌, ◌≤◌, min, Bool, true, false, not, cond, ◌&&◌, ◌||◌, ◌==◌, nat_lt, nat_le, ◌^◌, List, [], ◌∷◌, ◌++◌, length, get_or, drop, Option, Some, None, add-one, refl, sym, ap, subst, ◌∙◌, arith}
-use Rattle.std.proofs.Math.Bool.{or-true, and_assoc, and_comm}
+use Rattle.std.proofs.Math.Bool.{or-true, and_comm}
 use Rattle.std.proofs.lemmas.Option.{cond_some}
 use Rattle.std.proofs.lemmas.Bool.{and_from, and_parts, le-leb, leb-true, ltb-true}
 use Rattle.std.specs.Prelude.{option_to_list, slice_index, Result, IfOk}
@@ -14,11 +14,14 @@ use Rattle.fw_time.specs.Sending.{entered, fed_back}
 use Rattle.std.proofs.Math.Nat.{min-le_left, min-le_right, div-add-mod', mod-lt, le-div_iff_mul-le, div-lt_iff_lt-mul, div-le_self, mul-le-mul_right}
 use Rattle.fw_time.specs.NestLaws.{length-nest, places-outer}
 use Rattle.fw_time.proofs.StampLaws.{leq-refl, leq-length, leq-nest, origin-leq, counter-nest, nest-outer}
+use Rattle.fw_time.proofs.EachLaws.{each-append}
+use Rattle.fw_time.proofs.StampSteps.{length-origin}
 use Rattle.fw_frontier.specs.Frontier.{Frontier}
 use Rattle.fw_frontier.specs.Front.{Front, inside, frontier_of, IsCanonical, Names}
 use Rattle.fw_frontier.proofs.CanonicalLaws.{in_domain-canonical}
 use Rattle.fw_frontier.proofs.BelowLaws.{names-as, names-by, names-numbers, names-limit}
 use Rattle.fw_frontier.proofs.NamesLaws.{frontier-closed}
+use Rattle.fw_frontier.proofs.StairsLaws.{inside-append}
 use Rattle.fw_flow.specs.declared.kind.Kind.TheVariants.{Enter, Feedback, Leave, Sequence, Regroup}
 use Rattle.fw_flow.specs.declared.projection.Way.{Way}
 use Rattle.fw_flow.specs.declared.projection.Way.TheVariants.{First, Next, NextAfterFirst, Before, Outer, OuterOfFirst}
@@ -549,17 +552,6 @@ moved-ok way os r test res m h =
 
 -- ---- what enters a loop is at counter 0
 
-inside-append : (xs ys : Front) (u : Stamp) → inside (xs ++ ys) u ≡ (inside xs u && inside ys u)
-inside-append [] ys u = refl
-inside-append (x ∷ xs) ys u = ap (λ c. not (leq x u) && c) (inside-append xs ys u) ∙ sym (and_assoc (not (leq x u)) (inside xs u) (inside ys u))
-
-all-append : (P : Stamp → Type 0) (xs ys : Front) → AllByRecursion P xs → AllByRecursion P ys → AllByRecursion P (xs ++ ys)
-all-append P [] ys h k = k
-all-append P (x ∷ xs) ys h k = (h.0, all-append P xs ys h.1 k)
-
-pub length-origin : (s : Stamp) → length (origin s) ≡ length s
-length-origin s = leq-length (origin s) s (origin-leq s s refl)
-
 -- outside from counter 1 on
 from_one : (b : Stamp) (m : ℕ) (u : Stamp) → leq u (nest b m) ≡ true
     → inside (cond (nat_lt 0 m) (nest (origin b) 1 ∷ []) []) u ≡ (counter u == 0)
@@ -588,7 +580,7 @@ pub psi-enter_in : (l : ℕ) (s r : Bounds) (os : Front) → AreDomainsOf (Enter
 psi-enter_in l s r os d h =
     let e = enter-domains l s r d in
     let m = first-moved s r e.0 os e.2 (in_domain-canonical s os h) in
-    all-append (λ o. in_domain r o ≡ true) (images First os) (cond (nat_lt 0 (counter r.greatest)) (nest (origin s.greatest) 1 ∷ []) [])
+    each-append (λ o. in_domain r o ≡ true) (images First os) (cond (nat_lt 0 (counter r.greatest)) (nest (origin s.greatest) 1 ∷ []) [])
     m.images_in (one e.0 e.2 (nat_lt 0 (counter r.greatest)) refl)
   where
     one : (m : ℕ) → r.greatest ≡ nest s.greatest m → (x : Bool) → nat_lt 0 (counter r.greatest) ≡ x → AreIn r (cond x (nest (origin s.greatest) 1 ∷ []) [])

@@ -7,7 +7,8 @@ use Rattle.fw_time.specs.Stamp.{leq, stamp_cmp}
 use Rattle.fw_time.proofs.StampLaws.{leq-refl, before-trans, before-total}
 use Rattle.fw_frontier.specs.Front.{inside}
 use Rattle.fw_frontier.specs.Outside.{placed, excluding, excluding_all}
-use Rattle.fw_frontier.proofs.GenericLaws.{each-at, no}
+use Rattle.fw_time.proofs.EachLaws.{each-at, each-kept, each-weaker}
+use Rattle.fw_frontier.proofs.GenericLaws.{no}
 
 -- the stamp comes before each of these in order and is not comparable with one
 pub record Leads (o : List ℕ) (os : List (List ℕ)) : Type 0 where
@@ -28,32 +29,18 @@ all-placed P s (o ∷ os) h k = by (is_lt (stamp_cmp s o)) (all-placed P s os h 
     by true r = (h, (k.0, k.1))
     by false r = (k.0, r)
 
--- and of those that a test keeps
-all-filter : (P : List ℕ → Type 0) (p : List ℕ → Bool) (os : List (List ℕ)) → AllByRecursion P os → AllByRecursion P (filter p os)
-all-filter P p [] h = tt
-all-filter P p (o ∷ os) h = by (p o) (all-filter P p os h.1)
-  where
-    by : (b : Bool) → AllByRecursion P (filter p os) → AllByRecursion P (cond b (o ∷ filter p os) (filter p os))
-    by true r = (h.0, r)
-    by false r = r
-
 -- and of those that stay when a stamp more is outside
 pub all-excluding : (P : List ℕ → Type 0) (s : List ℕ) (os : List (List ℕ)) → P s → AllByRecursion P os → AllByRecursion P (excluding s os)
 unfolding excluding
 all-excluding P s os h k = by (inside os s)
   where
     by : (b : Bool) → AllByRecursion P (cond b (placed s (filter (λ o. not (leq s o)) os)) os)
-    by true = all-placed P s (filter (λ o. not (leq s o)) os) h (all-filter P (λ o. not (leq s o)) os k)
+    by true = all-placed P s (filter (λ o. not (leq s o)) os) h (each-kept P (λ o. not (leq s o)) os k)
     by false = k
 
 pub all-excluding_all : (P : List ℕ → Type 0) (ss os : List (List ℕ)) → AllByRecursion P ss → AllByRecursion P os → AllByRecursion P (excluding_all ss os)
 all-excluding_all P [] os h k = k
 all-excluding_all P (s ∷ ss) os h k = all-excluding_all P ss (excluding s os) h.1 (all-excluding P s os h.0 k)
-
--- each of a list's stamps follows from a fact on it
-pub all-map : (P Q : List ℕ → Type 0) (f : (o : List ℕ) → P o → Q o) (os : List (List ℕ)) → AllByRecursion P os → AllByRecursion Q os
-all-map P Q f [] h = tt
-all-map P Q f (o ∷ os) h = (f o h.0, all-map P Q f os h.1)
 
 antichain-filter : (p : List ℕ → Bool) (os : List (List ℕ)) → IsAntichain os → IsAntichain (filter p os)
 antichain-filter p [] h = tt
@@ -62,8 +49,8 @@ antichain-filter p (o ∷ os) h = by (p o) (antichain-filter p os h.1)
     by : (c : Bool) → IsAntichain (filter p os) → IsAntichain (cond c (o ∷ filter p os) (filter p os))
     by true r = (
       record {
-        ascending = all-filter (λ q. is_lt (stamp_cmp o q) ≡ true) p os h.0.ascending;
-        incomparable = all-filter (λ q. (leq o q || leq q o) ≡ false) p os h.0.incomparable;
+        ascending = each-kept (λ q. is_lt (stamp_cmp o q) ≡ true) p os h.0.ascending;
+        incomparable = each-kept (λ q. (leq o q || leq q o) ≡ false) p os h.0.incomparable;
       },
       r,
     )
@@ -93,7 +80,7 @@ antichain-placed s (o ∷ os) k l = by (is_lt (stamp_cmp s o)) refl (antichain-p
     by : (c : Bool) → is_lt (stamp_cmp s o) ≡ c → IsAntichain (placed s os) → IsAntichain (cond c (s ∷ o ∷ os) (o ∷ placed s os))
     by true e r = (
       record {
-        ascending = (e, all-map (λ q. is_lt (stamp_cmp o q) ≡ true) (λ q. is_lt (stamp_cmp s q) ≡ true) (λ q m. before-trans s o q e m) os l.0.ascending);
+        ascending = (e, each-weaker (λ q. is_lt (stamp_cmp o q) ≡ true) (λ q. is_lt (stamp_cmp s q) ≡ true) os (λ q m. before-trans s o q e m) l.0.ascending);
         incomparable = k;
       },
       l,

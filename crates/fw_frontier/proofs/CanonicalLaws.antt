@@ -8,8 +8,8 @@ use Rattle.fw_time.specs.Stamp.{leq, lub, raised, in_domain}
 use Rattle.fw_time.proofs.StampLaws.{leq-length, lub-least, leq-raised}
 use Rattle.fw_frontier.specs.Front.{IsCanonical, all_in_domain}
 use Rattle.fw_frontier.specs.Outside.{excluding, excluding_all, below_at}
-use Rattle.fw_frontier.proofs.GenericLaws.{each-at}
-use Rattle.fw_frontier.proofs.AntichainLaws.{IsAntichain, all-map, all-excluding, antichain-excluding}
+use Rattle.fw_time.proofs.EachLaws.{each-at, each-weaker}
+use Rattle.fw_frontier.proofs.AntichainLaws.{IsAntichain, all-excluding, antichain-excluding}
 use Rattle.fw_frontier.proofs.Pairs.{excluding_lubs, excluding_pairs}
 
 -- a canonical list is an antichain of a domain's stamps
@@ -53,7 +53,7 @@ in_domain-at b ss i s l e h = ap (in_domain b) e ∙ each-at (λ s. in_domain b 
 pub lengths : (b : Bounds) (ss ps : List (List ℕ)) → AllByRecursion (λ s. in_domain b s ≡ true) ss → AllByRecursion (λ p. in_domain b p ≡ true) ps → AllByRecursion (λ s. AllByRecursion (λ p. length s ≡ length p) ps) ss
 lengths b [] ps h k = tt
 lengths b (s ∷ ss) ps h k =
-    (all-map (λ p. in_domain b p ≡ true) (λ p. length s ≡ length p) (λ p e. leq-length s b.greatest h.0 ∙ sym (leq-length p b.greatest e)) ps k, lengths b ss ps h.1 k)
+    (each-weaker (λ p. in_domain b p ≡ true) (λ p. length s ≡ length p) ps (λ p e. leq-length s b.greatest h.0 ∙ sym (leq-length p b.greatest e)) k, lengths b ss ps h.1 k)
 
 leq-raised_upto : (s g : List ℕ) (i : ℕ) → leq s g ≡ true → nat_lt (get_or s i 0) (get_or g i 0) ≡ true → leq (raised s i) g ≡ true
 leq-raised_upto [] g i h k = h

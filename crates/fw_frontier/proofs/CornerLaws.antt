@@ -9,6 +9,7 @@ use Rattle.fw_frontier.specs.declared.planes.Point.{Point}
 use Rattle.fw_frontier.specs.declared.planes.Corner.{Corner}
 use Rattle.fw_frontier.specs.Planes.{is_before, reaches, corners_of}
 use Rattle.fw_frontier.proofs.GenericLaws.{no}
+use Rattle.fw_time.proofs.EachLaws.{each-at}
 
 same-by : (b c : Bool) → (b ≡ true → c ≡ true) → (c ≡ true → b ≡ true) → b ≡ c
 same-by true c h k = sym (h refl)
@@ -36,11 +37,6 @@ all-each : {A : Type 0} (P : A → Type 0) (xs : List A) → ((k : ℕ) (d : A) 
 all-each P [] h = tt
 all-each P (x ∷ xs) h = (h 0 x (omega arith), all-each P xs (λ k d l. h (suc k) d (omega arith)))
 
-all-at : {A : Type 0} (P : A → Type 0) (xs : List A) (k : ℕ) (d : A) → k < length xs → AllByRecursion P xs → P (get_or xs k d)
-all-at P [] k d l h = absurd (omega arith)
-all-at P (x ∷ xs) zero d l h = h.0
-all-at P (x ∷ xs) (suc k) d l h = all-at P xs k d (omega arith) h.1
-
 ascends : (vs : List Point) → IsNonDecreasingBy (λ v. v.x) vs → Ascends vs
 unfolding Ascends
 ascends [] h = tt
@@ -57,7 +53,7 @@ corners-past m (v ∷ vs) z w low h = by (nat_lt v.z z && (nat_lt v.w w && nat_l
 ascend-cons : (c : Corner) (cs : List Corner) → AllByRecursion (λ d. c.x ≤ d.x) cs → IsNonDecreasingBy (λ c. c.x) cs
     → (i j : ℕ) (d : Corner) → i ≤ j → j < length (c ∷ cs) → (get_or (c ∷ cs) i d).x ≤ (get_or (c ∷ cs) j d).x
 ascend-cons c cs h k zero zero d l m = omega arith
-ascend-cons c cs h k zero (suc j) d l m = all-at (λ e. c.x ≤ e.x) cs j d (omega arith) h
+ascend-cons c cs h k zero (suc j) d l m = each-at (λ e. c.x ≤ e.x) cs j d (omega arith) h
 ascend-cons c cs h k (suc i) zero d l m = absurd (omega arith)
 ascend-cons c cs h k (suc i) (suc j) d l m = k i j d (omega arith) (omega arith)
 

@@ -2,7 +2,6 @@
 use Rattle.std.proofs.Common.{◌≡◌, ℕ, ◌+◌, ◌<◌, Bool, true, false, not, ◌&&◌, ◌||◌, List, [], ◌∷◌, length, get_or, take, map, refl, sym, ap, ◌∙◌, zero, suc, arith, add-one}
 use Rattle.std.proofs.lemmas.Bool.{false≢true}
 use Rattle.std.proofs.Math.Bool.{and-true, and_assoc, or-false}
-use Rattle.std.specs.List.{AllByRecursion}
 use Rattle.fw_time.specs.Stamp.{leq}
 use Rattle.fw_frontier.specs.Front.{inside}
 use Rattle.fw_frontier.specs.Frontier.{some_above}
@@ -32,12 +31,6 @@ some_above_more {A} f ts i d u h = sym (rw add-one (by ts i h))
     by [] i h = absurd (omega arith)
     by (o ∷ ts) zero h = or-false (leq u (f o))
     by (o ∷ ts) (suc i) h = ap (λ b. leq u (f o) || b) (by ts i (omega arith)) ∙ assoc (leq u (f o)) (some_above (map f (take i ts)) u) (leq u (f (get_or ts i d)))
-
--- a fact on each stamp, at a place
-pub each-at : (P : List ℕ → Type 0) (os : List (List ℕ)) (i : ℕ) (d : List ℕ) → i < length os → AllByRecursion P os → P (get_or os i d)
-each-at P [] i d h k = absurd (omega arith)
-each-at P (o ∷ os) zero d h k = k.0
-each-at P (o ∷ os) (suc i) d h k = each-at P os i d (omega arith) k.1
 
 -- what is inside after a time more is covered
 pub covered_more : {A : Type 0} (f : A → List ℕ) (ts : List A) (i : ℕ) (d : A) (u : List ℕ) (before below after : Bool) → i < length ts

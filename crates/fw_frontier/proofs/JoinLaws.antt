@@ -7,12 +7,13 @@ use Rattle.std.specs.List.{AllByRecursion}
 use Rattle.fw_time.specs.declared.stamp.Bounds.{Bounds}
 use Rattle.fw_time.specs.Stamp.{leq, lub, in_domain}
 use Rattle.fw_time.proofs.StampLaws.{leq-length, leq-lub, lub-least}
+use Rattle.fw_time.proofs.EachLaws.{each-at}
 use Rattle.fw_frontier.specs.Frontier.{join}
 use Rattle.fw_frontier.specs.Front.{inside, frontier_of, IsCanonical, Names}
 use Rattle.fw_frontier.specs.Outside.{excluding, excluding_all, rises, excluding_near, excluding_all_near}
 use Rattle.fw_frontier.proofs.InsideLaws.{inside-excluding, inside-excluding_all}
 use Rattle.fw_frontier.proofs.CanonicalLaws.{canonical-excluding, canonical-excluding_all, in_domain-canonical, lengths}
-use Rattle.fw_frontier.proofs.GenericLaws.{each-at, no}
+use Rattle.fw_frontier.proofs.GenericLaws.{no}
 
 -- of two stamps of at most three coordinates one is greater at no more than one place
 rises-sum : (s p : List ℕ) → length s ≡ length p → rises s p + rises p s ≤ length s

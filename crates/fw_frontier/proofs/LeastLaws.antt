@@ -12,7 +12,8 @@ use Rattle.fw_time.proofs.StampLaws.{leq-trans, leq-antisym, before-irrefl, befo
 use Rattle.fw_frontier.specs.Front.{inside, IsCanonical}
 use Rattle.fw_frontier.specs.Least.{IsOneOfTheLeast, AreLeastOf}
 use Rattle.fw_frontier.specs.Outside.{excluding, excluding_all}
-use Rattle.fw_frontier.proofs.GenericLaws.{each-at, no}
+use Rattle.fw_time.proofs.EachLaws.{each-at}
+use Rattle.fw_frontier.proofs.GenericLaws.{no}
 use Rattle.fw_frontier.proofs.InsideLaws.{inside-excluding, inside-excluding_all}
 use Rattle.fw_frontier.proofs.AntichainLaws.{IsAntichain, all-excluding, all-excluding_all, antichain-excluding, antichain-excluding_all, antichain-at}
 use Rattle.fw_frontier.proofs.CanonicalLaws.{antichain-canonical, canonical-antichain}

@@ -1,5 +1,5 @@
 -- Which list names a frontier, and that there is only one.
-use Rattle.std.proofs.Common.{◌≡◌, ℕ, Bool, true, false, not, ◌&&◌, ◌||◌, List, [], ◌∷◌, length, get_or, take, map, ◌+◌, ◌<◌, refl, sym, ap, ◌∙◌, subst, suc, arith}
+use Rattle.std.proofs.Common.{◌≡◌, ℕ, Bool, true, false, not, ◌&&◌, ◌||◌, List, [], ◌∷◌, length, get_or, take, map, ◌+◌, ◌<◌, refl, sym, ap, ◌∙◌, subst, arith}
 use Rattle.std.proofs.lemmas.Bool.{and_from, and_parts}
 use Rattle.std.proofs.Math.Bool.{and-false, and_assoc, and-true, and-or_distrib_left, or-false}
 use Rattle.std.proofs.lemmas.List.{take_all}
@@ -8,6 +8,7 @@ use Rattle.std.specs.Ordering.{is_lt}
 use Rattle.fw_time.specs.declared.stamp.Bounds.{Bounds}
 use Rattle.fw_time.specs.Stamp.{leq, stamp_cmp, origin, in_domain}
 use Rattle.fw_time.proofs.StampLaws.{leq-refl, leq-antisym, leq-length, origin-leq, before-leq, before-trans, before-irrefl}
+use Rattle.fw_time.proofs.EachLaws.{each-weaker}
 use Rattle.fw_frontier.specs.Frontier.{nothing, everything, meet, join, cover, some_above, without_above, Within, IsFrontier}
 use Rattle.fw_frontier.specs.Front.{inside, frontier_of, IsCanonical, IsLeastBefore, Names}
 use Rattle.fw_frontier.specs.Outside.{excluding, excluding_all, below_at, none_inside}
@@ -19,10 +20,6 @@ use Rattle.fw_frontier.proofs.Pairs.{excluding_pairs}
 -- the list without stamps names all of the domain
 pub names-all : (b : Bounds) → Names b [] (everything b)
 names-all b = record { canonical = tt; same = λ t. and-true (in_domain b t) }
-
-length-origin : (s : List ℕ) → length (origin s) ≡ length s
-length-origin [] = refl
-length-origin (x ∷ s) = ap (λ n. suc n) (length-origin s)
 
 -- the list of the least stamp names the frontier without stamps
 pub names-nothing : (b : Bounds) → Names b (origin b.greatest ∷ []) nothing
@@ -237,17 +234,13 @@ none_inside-all : (os ps : List (List ℕ)) → AllByRecursion (λ p. inside os 
 none_inside-all os [] h = refl
 none_inside-all os (p ∷ ps) h = and_from (not (inside os p)) (none_inside os ps) (ap not h.0) (none_inside-all os ps h.1)
 
-each : (P Q : List ℕ → Type 0) (f : (o : List ℕ) → P o → Q o) (os : List (List ℕ)) → AllByRecursion P os → AllByRecursion Q os
-each P Q f [] h = tt
-each P Q f (o ∷ os) h = (f o h.0, each P Q f os h.1)
-
 kept-out : (c d : Bool) → (c ≡ true → d ≡ true) → d ≡ false → c ≡ false
 kept-out true d f e = no (sym e ∙ f refl)
 kept-out false d f e = refl
 
 -- and where it does, none of them is
 pub within-none_inside : (os ps : List (List ℕ)) → Within (inside os) (inside ps) → none_inside os ps ≡ true
-within-none_inside os ps h = none_inside-all os ps (each (λ p. inside ps p ≡ false) (λ p. inside os p ≡ false) (λ p e. kept-out (inside os p) (inside ps p) (h p) e) ps (all-outside ps))
+within-none_inside os ps h = none_inside-all os ps (each-weaker (λ p. inside ps p ≡ false) (λ p. inside os p ≡ false) ps (λ p e. kept-out (inside os p) (inside ps p) (h p) e) (all-outside ps))
 
 -- the same of the stamps of a domain
 pub none_inside-within_domain : (b : Bounds) (os ps : List (List ℕ)) → none_inside os ps ≡ true → Within (frontier_of b os) (frontier_of b ps)

@@ -10,13 +10,14 @@ use Rattle.std.specs.declared.cmp.Ordering.TheVariants.{Less}
 use Rattle.fw_time.specs.declared.stamp.Bounds.{Bounds}
 use Rattle.fw_time.specs.Stamp.{leq, lub, stamp_cmp, in_domain}
 use Rattle.fw_time.proofs.StampLaws.{leq-refl, leq-trans, leq-antisym, leq-length, lub-left, lub-right, lub-least, before-irrefl}
+use Rattle.fw_time.proofs.EachLaws.{each-at, each-append}
 use Rattle.fw_frontier.specs.declared.planes.Plane.{Plane}
 use Rattle.fw_frontier.specs.declared.planes.Point.{Point}
 use Rattle.fw_frontier.specs.declared.planes.TheConstants.{PLANES}
 use Rattle.fw_frontier.specs.Front.{inside, frontier_of, IsCanonical, Names}
 use Rattle.fw_frontier.specs.Frontier.{join}
 use Rattle.fw_frontier.specs.Planes.{point_of, is_before, reaches, both_reach, is_least, is_least_along, bounds_with, all_bounds, plane_bounds, planes_bounds, HaveSame}
-use Rattle.fw_frontier.proofs.GenericLaws.{each-at, no}
+use Rattle.fw_frontier.proofs.GenericLaws.{no}
 use Rattle.fw_frontier.proofs.InsideLaws.{inside-above, leq-at}
 use Rattle.fw_frontier.proofs.AntichainLaws.{antichain-at}
 use Rattle.fw_frontier.proofs.CanonicalLaws.{in_domain-canonical, antichain-canonical}
@@ -293,15 +294,11 @@ bounds_with-least b plane ss ps s (q ∷ qs) four covers h = by
     by true false e f r = r
     by false d e f r = r
 
-all-append : (P : List ℕ → Type 0) (us vs : List (List ℕ)) → AllByRecursion P us → AllByRecursion P vs → AllByRecursion P (us ++ vs)
-all-append P [] vs h k = k
-all-append P (u ∷ us) vs h k = (h.0, all-append P us vs h.1 k)
-
 all_bounds-least : (b : Bounds) (plane : Plane) (ss ps rs qs : List (List ℕ)) → length b.greatest ≡ 4 → Covers plane → AllByRecursion (λ s. AllBounds b ss ps s qs) rs
     → AllByRecursion (IsLeastBound b ss ps) (all_bounds plane (map (point_of plane) ss) (map (point_of plane) ps) rs qs)
 all_bounds-least b plane ss ps [] qs four covers h = tt
 all_bounds-least b plane ss ps (r ∷ rs) qs four covers h =
-    all-append (IsLeastBound b ss ps) (bounds_with plane (map (point_of plane) ss) (map (point_of plane) ps) r qs) (all_bounds plane (map (point_of plane) ss) (map (point_of plane) ps) rs qs)
+    each-append (IsLeastBound b ss ps) (bounds_with plane (map (point_of plane) ss) (map (point_of plane) ps) r qs) (all_bounds plane (map (point_of plane) ss) (map (point_of plane) ps) rs qs)
     (bounds_with-least b plane ss ps r qs four covers h.0) (all_bounds-least b plane ss ps rs qs four covers h.1)
 
 -- the least upper bounds of stamps of both lists are bounds, whichever comes first
@@ -331,14 +328,14 @@ lubs-all_after b ss ps (r ∷ rs) qs d h e k = (lubs-after b ss ps r qs d.0 h.0 
 
 plane_bounds-least : (b : Bounds) (plane : Plane) (ss ps : List (List ℕ)) → length b.greatest ≡ 4 → Covers plane → InDomain b ss → InDomain b ps → AllByRecursion (IsLeastBound b ss ps) (plane_bounds plane ss ps)
 plane_bounds-least b plane ss ps four covers h k =
-    all-append (IsLeastBound b ss ps) (all_bounds plane (map (point_of plane) ss) (map (point_of plane) ps) ss ps) (all_bounds plane (map (point_of plane) ss) (map (point_of plane) ps) ps ss)
+    each-append (IsLeastBound b ss ps) (all_bounds plane (map (point_of plane) ss) (map (point_of plane) ps) ss ps) (all_bounds plane (map (point_of plane) ss) (map (point_of plane) ps) ps ss)
     (all_bounds-least b plane ss ps ss ps four covers (lubs-all b ss ps ss ps h (all-outside ss) k (all-outside ps)))
     (all_bounds-least b plane ss ps ps ss four covers (lubs-all_after b ss ps ps ss k (all-outside ps) h (all-outside ss)))
 
 planes_bounds-least : (b : Bounds) (planes : List Plane) (ss ps : List (List ℕ)) → length b.greatest ≡ 4 → AllByRecursion Covers planes → InDomain b ss → InDomain b ps → AllByRecursion (IsLeastBound b ss ps) (planes_bounds planes ss ps)
 planes_bounds-least b [] ss ps four covers h k = tt
 planes_bounds-least b (plane ∷ planes) ss ps four covers h k =
-    all-append (IsLeastBound b ss ps) (plane_bounds plane ss ps) (planes_bounds planes ss ps) (plane_bounds-least b plane ss ps four covers.0 h k) (planes_bounds-least b planes ss ps four covers.1 h k)
+    each-append (IsLeastBound b ss ps) (plane_bounds plane ss ps) (planes_bounds planes ss ps) (plane_bounds-least b plane ss ps four covers.0 h k) (planes_bounds-least b planes ss ps four covers.1 h k)
 
 -- ---- what is least is found
 

@@ -189,7 +189,7 @@ upto-all test len g d down flat h = rw add-one (upto-min test (min len g) d down
     at_d : (len g d : ℕ) → d ≤ min len g → min d (min len g) ≡ d
     at_d len g d k = omega arith
 
-inside-append : (xs ys : List (List ℕ)) (t : List ℕ) → inside (xs ++ ys) t ≡ (inside xs t && inside ys t)
+pub inside-append : (xs ys : List (List ℕ)) (t : List ℕ) → inside (xs ++ ys) t ≡ (inside xs t && inside ys t)
 inside-append [] ys t = refl
 inside-append (x ∷ xs) ys t = ap (λ b. not (leq x t) && b) (inside-append xs ys t) ∙ sym (and_assoc (not (leq x t)) (inside xs t) (inside ys t))
 

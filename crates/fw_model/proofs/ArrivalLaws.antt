@@ -1,7 +1,7 @@
 -- What arrives at a node, as the bags on its in-edges and as its list of events.
 use Rattle.std.proofs.Common.{◌≡◌, ℕ, zero, suc, ◌+◌, ◌<◌, ◌≤◌, Bool, true, false, cond, ◌==◌, List, [], ◌∷◌, ◌++◌, length, map, get_or, refl, sym, ap, subst, ◌∙◌, inl, inr, arith}
 use Rattle.std.specs.List.{AllByRecursion}
-use Rattle.std.proofs.lemmas.Bool.{cond_both, cond-true, cond-false, cases_lt, eqb-true, eq-eqb, ne_eqb}
+use Rattle.std.proofs.lemmas.Bool.{cond_both, cond-true, cond-false, cases_lt, eq-eqb, ne_eqb}
 use Rattle.std.proofs.lemmas.List.{get_or_past}
 use Rattle.fw_flow.specs.declared.event.Event.{Event}
 use Rattle.fw_flow.specs.declared.event.Event.TheVariants.{Inject, Deliver, Notify}
@@ -11,9 +11,10 @@ use Rattle.fw_flow.specs.Dataflow.{Dataflow, receiver, edges_into, in_edges}
 use Rattle.fw_flow.specs.Projection.{events_at}
 use Rattle.fw_flow.specs.WholeBags.{Timed, together}
 use Rattle.fw_model.specs.History.{delivered}
-use Rattle.fw_model.proofs.EachLaws.{each-weaker}
 use Rattle.fw_model.proofs.WeightLaws.{weigh, weigh-append, weigh-none, weigh-same}
 use Rattle.fw_model.proofs.SentLaws.{timed_message, timed_of}
+use Rattle.fw_model.proofs.ClearSteps.{into-from}
+use Rattle.fw_time.proofs.EachLaws.{each-weaker}
 
 -- ---- sums over in-edges
 
@@ -22,21 +23,12 @@ unfolding weigh
 weigh-both w u [] = refl
 weigh-both w u (x ∷ xs) = let h = weigh-both w u xs in omega arith
 
-into-all : (P : ℕ → Type 0) (z : Edge) (es : List Edge) (n p : ℕ)
-    → ((i : ℕ) → i < length es → (get_or es i z).receiver ≡ p → P (n + i)) → AllByRecursion P (edges_into n es p)
-into-all P z [] n p k = tt
-into-all P z (x ∷ es) n p k =
-    let rest = into-all P z es (n + 1) p (λ i l e. let s : n + suc i ≡ n + 1 + i = omega arith in subst P s (k (suc i) (omega arith) e)) in
-    cond_both (x.receiver == p) (n ∷ edges_into (n + 1) es p) (edges_into (n + 1) es p) (AllByRecursion P)
-    (λ e. let s : n + 0 ≡ n = omega arith in (subst P s (k 0 (omega arith) (eqb-true x.receiver p e)), rest)) (λ e. rest)
-
 -- the in-edges of a node are edges that it receives
 pub in_edges-receive : (flow : Dataflow) (p : ℕ) → AllByRecursion (λ d. (d < length flow.edges) × (receiver flow d ≡ p)) (in_edges flow p)
 unfolding in_edges receiver
 in_edges-receive flow p =
     let P : ℕ → Type 0 = λ d. (d < length flow.edges) × (receiver flow d ≡ p) in
-    into-all P (record { name = []; sender = length flow.nodes; receiver = length flow.nodes }) flow.edges 0 p
-    (λ i l e. let s : i ≡ 0 + i = omega arith in subst P s (l, e))
+    into-from P 0 flow.edges p (record { name = []; sender = length flow.nodes; receiver = length flow.nodes }) (λ i l e. let s : i ≡ 0 + i = omega arith in subst P s (l, e))
 
 -- the number at the edge, and 0 at the others
 abbrev pub at_edge : ℕ → ℕ → ℕ → ℕ
@@ -47,11 +39,11 @@ at_edge-other e n d k = cond-false (e == d) n 0 (ne_eqb e d k)
 
 into-before : (es : List Edge) (z : Edge) (k e n p : ℕ) → e < k → weigh (at_edge e n) (edges_into k es p) ≡ 0
 into-before es z k e n p l =
-    weigh-none (at_edge e n) (edges_into k es p) (into-all (λ d. at_edge e n d ≡ 0) z es k p (λ i j r. at_edge-other e n (k + i) (λ q. omega arith)))
+    weigh-none (at_edge e n) (edges_into k es p) (into-from (λ d. at_edge e n d ≡ 0) k es p z (λ i j r. at_edge-other e n (k + i) (λ q. omega arith)))
 
 into-past : (es : List Edge) (z : Edge) (k e n p : ℕ) → k + length es ≤ e → weigh (at_edge e n) (edges_into k es p) ≡ 0
 into-past es z k e n p l =
-    weigh-none (at_edge e n) (edges_into k es p) (into-all (λ d. at_edge e n d ≡ 0) z es k p (λ i j r. at_edge-other e n (k + i) (λ q. omega arith)))
+    weigh-none (at_edge e n) (edges_into k es p) (into-from (λ d. at_edge e n d ≡ 0) k es p z (λ i j r. at_edge-other e n (k + i) (λ q. omega arith)))
 
 once_cases : (g : ℕ → ℕ) (n : ℕ) (b : Bool) (xs ys : List ℕ) → weigh g xs ≡ n → weigh g ys ≡ 0 → weigh g (cond b xs ys) ≡ cond b n 0
 once_cases g n true xs ys k l = k

@@ -8,12 +8,8 @@ use Rattle.fw_model.specs.Machine.{Write, Written, checkpoint}
 use Rattle.fw_model.specs.LawsOfRestoring.{CheckpointsAscend}
 use Rattle.fw_model.proofs.CheckpointLaws.{HoldsSettled}
 use Rattle.fw_model.proofs.ChoosingLaws.{reached}
-use Rattle.fw_model.proofs.EachLaws.{each-weaker}
+use Rattle.fw_time.proofs.EachLaws.{each-weaker, each-suffix}
 use Rattle.fw_model.proofs.WriteLaws.{ArePairs, LiesBelow}
-
-each-at : (P : Write → Type 0) (xs ys : List Write) (x : Write) → AllByRecursion P (xs ++ x ∷ ys) → P x
-each-at P [] ys x a = a.0
-each-at P (z ∷ xs) ys x a = each-at P xs ys x a.1
 
 pairs-at : (R : ℕ → Written → ℕ → Written → Type 0) (xs ys : List Write) (x : Write) → ArePairs R (xs ++ x ∷ ys)
     → AllByRecursion (λ (y : Write). R x.node x.written y.node y.written) ys
@@ -24,7 +20,7 @@ pub checkpoints-ascend : CheckpointsAscend
 checkpoints-ascend sys w steps outcomes last r earlier later write e there f low k =
     let c = reached sys w steps outcomes last r in
     let settled = subst (HoldsSettled sys last.settled write.node) k
-    (each-at (λ (x : Write). HoldsSettled sys last.settled x.node x.written) earlier later write (subst (AllByRecursion (λ (x : Write). HoldsSettled sys last.settled x.node x.written)) e c.lie_settled)) in
+    (each-suffix (λ (x : Write). HoldsSettled sys last.settled x.node x.written) earlier (write ∷ later) (subst (AllByRecursion (λ (x : Write). HoldsSettled sys last.settled x.node x.written)) e c.lie_settled)).0 in
     let below = pairs-at (LiesBelow sys) earlier later write (subst (ArePairs (LiesBelow sys)) e c.ascend) in
     record {
       within_settled = settled there;

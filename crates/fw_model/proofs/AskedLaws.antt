@@ -7,6 +7,7 @@ use Rattle.std.proofs.lemmas.Cmp.{lists_total, tied_itself}
 use Rattle.std.proofs.lemmas.List.{get_or_past, length-map}
 use Rattle.std.proofs.lemmas.List.FromFn.{get_or-map-range_with_len}
 use Rattle.fw_time.specs.Stamp.{Stamp}
+use Rattle.fw_time.proofs.EachLaws.{each-weaker, each-both, each-append, each-one, each-map}
 use Rattle.fw_frontier.specs.Frontier.{Frontier, Within}
 use Rattle.fw_frontier.specs.Front.{Front, frontier_of, IsCanonical}
 use Rattle.fw_flow.specs.declared.choice.Cut.{Cut}
@@ -31,12 +32,10 @@ use Rattle.fw_model.specs.Steps.{Effect, Outcome, did, idle, LeadsTo, Run, write
 use Rattle.fw_model.specs.LawsOfDenotation.{enough_rounds}
 use Rattle.fw_model.specs.LawsOfRestoring.{takes_checkpoints}
 use Rattle.fw_model.proofs.Decisions.{two_ways}
-use Rattle.fw_model.proofs.EachLaws.{each-weaker, each-both, each-append}
-use Rattle.fw_model.proofs.FilterLaws.{each-one}
 use Rattle.fw_model.proofs.CmpLaws.{stamp_total}
 use Rattle.fw_model.proofs.ChoiceLaws.{same_fronts}
 use Rattle.fw_model.proofs.DenotationLaws.{denotation-exists}
-use Rattle.fw_model.proofs.CheckpointLaws.{HoldsSettled, IsWriteSettled, AreWritesSettled, HasWritesSettled, settled-grows, each-mapped, each-passed, each-replaced}
+use Rattle.fw_model.proofs.CheckpointLaws.{HoldsSettled, IsWriteSettled, AreWritesSettled, HasWritesSettled, settled-grows, each-passed, each-replaced}
 use Rattle.fw_model.proofs.SameInsideLaws.{at_node, IsLowConsistent, low_length}
 use Rattle.fw_model.proofs.WriteLaws.{ArePairs, pairs-append, pairs-passed, pairs-mapped, pairs-replaced, LiesBelow, AreAscending}
 use Rattle.fw_model.proofs.LowLaws.{at_most-refl, none-canonical}
@@ -349,7 +348,7 @@ MayAsk sys low settled writes ps = AllByRecursion (λ p. (takes_checkpoints (pol
 settled-alone : (state : Machine) (settled : List Front) (ps : List ℕ) → AreOthers ps → ArePairs IsApart (settled_writes state settled ps)
 settled-alone state settled [] a = tt
 settled-alone state settled (p ∷ ps) a = (
-  each-mapped (λ (y : Write). IsApart p (checkpoint (front_of settled p) state.low) y.node y.written) (λ q. checkpoint_of state q (front_of settled q)) ps
+  each-map (λ (y : Write). IsApart p (checkpoint (front_of settled p) state.low) y.node y.written) (λ q. checkpoint_of state q (front_of settled q)) ps
       (each-weaker (λ q. p ≡ q → ⊥) (λ q. IsApart p (checkpoint (front_of settled p) state.low) q (checkpoint (front_of settled q) state.low)) ps (λ q n e i. n e) a.0),
   settled-alone state settled ps a.1,
 )
@@ -373,12 +372,12 @@ asked-restore sys state settled ps k o m c =
       settled = k;
       serials = c.serials;
       asked = each-append (IsWriteAskedWell sys state.low state.next state.history) state.writes more c.asked
-          (each-mapped (IsWriteAskedWell sys state.low state.next state.history) asks ps
+          (each-map (IsWriteAskedWell sys state.low state.next state.history) asks ps
           (each-weaker T (λ p. IsWriteAskedWell sys state.low state.next state.history (asks p)) ps
           (λ p a. (a.0, k p (takes-declared sys.flow p a.0), λ q t i. i)) m));
       apart = pairs-append IsApart state.writes more c.apart (settled-alone state settled ps o)
           (each-each (λ (x : Write) (y : Write). IsApart x.node x.written y.node y.written) state.writes more
-          (each-mapped (λ (y : Write). AllByRecursion (λ (x : Write). IsApart x.node x.written y.node y.written) state.writes) asks ps
+          (each-map (λ (y : Write). AllByRecursion (λ (x : Write). IsApart x.node x.written y.node y.written) state.writes) asks ps
           (each-weaker T (λ p. AllByRecursion (λ (x : Write). IsApart x.node x.written p (checkpoint (front_of settled p) state.low)) state.writes) ps (λ p a. a.1) m)));
     }
 
@@ -563,7 +562,7 @@ collected-restore : (sys : System) (state : Machine) (low : List Front) → LowG
 collected-restore sys state low g c = record {
   settled = c.settled;
   serials = c.serials;
-  asked = each-mapped (IsWriteAskedWell sys low state.next state.history)
+  asked = each-map (IsWriteAskedWell sys low state.next state.history)
       (λ (x : Write). record x { progress = after_collection (lies_below sys low state.history x.node x.written) x.progress }) state.writes
       (each-weaker (IsWriteAskedWell sys state.low state.next state.history)
       (λ (x : Write). IsAskedWell sys low state.next state.history x.node x.written (after_collection (lies_below sys low state.history x.node x.written) x.progress)) state.writes

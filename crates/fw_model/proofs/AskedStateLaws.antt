@@ -13,13 +13,12 @@ use Rattle.fw_model.specs.Machine.{Machine, Write, Written, checkpoint, logged_e
 use Rattle.fw_model.specs.Choice.{cut_of, filtered}
 use Rattle.fw_model.specs.Steps.{Effect, Outcome, did, idle, LeadsTo, Steps, Run, write_of_event, with_event, same_front, checkpoint_of, is_eager, is_one_of, is_in_flight, is_kept_write, front_of_cut, lies_below, after_collection}
 use Rattle.fw_model.specs.LawsOfRestoring.{CountsTheSame, CountsWritten, IsWrittenAsAsked, CheckpointsAreAsTheyWereAsked}
-use Rattle.fw_model.proofs.EachLaws.{each-weaker, each-both, each-append}
-use Rattle.fw_model.proofs.FilterLaws.{each-one}
-use Rattle.fw_model.proofs.CheckpointLaws.{each-mapped, each-passed, each-replaced}
+use Rattle.fw_model.proofs.CheckpointLaws.{each-passed, each-replaced}
 use Rattle.fw_model.proofs.ChoosingLaws.{settled_writes}
 use Rattle.fw_model.proofs.AskedLaws.{CanRecoverAndRestore, took-reached, first-reached}
 use Rattle.fw_model.proofs.RestoringLaws.{same-each, took-true}
 use Rattle.fw_model.proofs.GoingOn.{runs-go_on}
+use Rattle.fw_time.proofs.EachLaws.{each-weaker, each-both, each-append, each-one, each-map}
 
 counts-on : (sys : System) (one two three : Machine) (p : ℕ) (f : Front) → CountsTheSame sys one two p f → CountsTheSame sys two three p f → CountsTheSame sys one three p f
 counts-on sys one two three p f a b = record {
@@ -56,7 +55,7 @@ asked-each : (P : ℕ → Written → Type 0) (state : Machine) (settled : List 
 asked-each P state settled ps a =
     let next : Machine = record state { settled = settled; writes = state.writes ++ settled_writes state settled ps } in
     each-append (WasOrIsNew P next) state.writes (settled_writes state settled ps) (each-weaker (λ (x : Write). P x.node x.written) (WasOrIsNew P next) state.writes (λ x b. inl b) a)
-    (each-mapped (WasOrIsNew P next) (λ p. checkpoint_of state p (front_of settled p)) ps
+    (each-map (WasOrIsNew P next) (λ p. checkpoint_of state p (front_of settled p)) ps
     (each-one (λ p. WasOrIsNew P next (checkpoint_of state p (front_of settled p))) ps (λ p. inr (refl, refl))))
 
 -- the writes after a step are those before it, whatever their progress, or new
@@ -95,7 +94,7 @@ took-was_or_new sys P state Collect next effect t a =
     let low = map front_of_cut t.0.cuts in
     each-weaker W (WasOrIsNew P next) next.writes (λ x b. inl b)
     (subst (λ (m : Machine). AllByRecursion W m.writes) (sym t.3)
-    (each-mapped W (λ (x : Write). record x { progress = after_collection (lies_below sys low state.history x.node x.written) x.progress }) state.writes a))
+    (each-map W (λ (x : Write). record x { progress = after_collection (lies_below sys low state.history x.node x.written) x.progress }) state.writes a))
 took-was_or_new sys P state (Ack o) next effect t a =
     let W : Write → Type 0 = λ x. P x.node x.written in
     each-weaker W (WasOrIsNew P next) next.writes (λ x b. inl b) (subst (λ (m : Machine). AllByRecursion W m.writes) (sym t.2) a)

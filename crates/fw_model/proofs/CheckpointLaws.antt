@@ -4,6 +4,7 @@ use Rattle.std.specs.List.{AllByRecursion, list_all}
 use Rattle.std.proofs.lemmas.Bool.{and_parts, and_from, or_left, cond_both, cases_Bool, false_from_ne_true}
 use Rattle.fw_time.specs.Stamp.{leq, in_domain}
 use Rattle.fw_time.specs.declared.stamp.Bounds.{Bounds}
+use Rattle.fw_time.proofs.EachLaws.{each-weaker, each-append, each-one, each-map}
 use Rattle.fw_frontier.specs.Frontier.{Frontier, Within}
 use Rattle.fw_frontier.specs.Front.{Front, inside, frontier_of}
 use Rattle.fw_frontier.proofs.InsideLaws.{inside-closed}
@@ -18,13 +19,12 @@ use Rattle.fw_flow.specs.declared.step.Step.TheVariants.{Inject, Deliver, Notify
 use Rattle.fw_flow.specs.Dataflow.{System, kind_of, policy_of, receiver, bounds_of, is_input_kind}
 use Rattle.fw_model.specs.Machine.{Machine, Numbered, Write, Written, checkpoint, logged_event, Progress, acknowledged, places, first_state, front_of, is_failed}
 use Rattle.fw_flow.specs.declared.choice.Choice.{Choice}
-use Rattle.fw_model.specs.Choice.{View, Restoring, by_batches, by_bound, by_anything, by_checkpoints, by_events, restoring_of_policy, restoring, HasCheckpoint, IsRestorable, cut_of, filtered}
+use Rattle.fw_model.specs.Choice.{View, Restoring, by_batches, by_bound, by_anything, by_checkpoints, by_events, restoring, HasCheckpoint, IsRestorable, cut_of, filtered}
 use Rattle.fw_model.specs.Steps.{Effect, Outcome, did, idle, LeadsTo, Steps, Run, write_of_event, checkpoint_of, is_eager, same_front, is_within, GrowsTo, AcknowledgesOldest, is_one_of, is_in_flight, is_kept_write, kept_writes, IsSettledCut, CutsTo, lies_below, after_collection, front_of_cut}
 use Rattle.fw_model.specs.LawsOfRecoveries.{CandidatesLieWithinSettled}
 use Rattle.fw_model.proofs.Decisions.{two_ways}
-use Rattle.fw_model.proofs.EachLaws.{each-weaker, each-append}
-use Rattle.fw_model.proofs.FilterLaws.{each-one}
 use Rattle.fw_model.proofs.RunLaws.{none-inside}
+use Rattle.fw_model.proofs.ChoiceLaws.{not_by_batches}
 
 -- ---- checkpoints
 
@@ -58,10 +58,6 @@ pub grown-writes : (sys : System) (before after : List Front) → Grows sys befo
 grown-writes sys before after k writes a =
     each-weaker (IsWriteSettled sys before) (IsWriteSettled sys after) writes
     (λ write h. changed sys before after write.node write.written (λ g low e s l t i. k write.node l t (s l t i)) h) a
-
-pub each-mapped : {A B : Type 0} (P : B → Type 0) (f : A → B) (xs : List A) → AllByRecursion (λ x. P (f x)) xs → AllByRecursion P (map f xs)
-each-mapped P f [] a = tt
-each-mapped P f (x ∷ xs) a = (a.0, each-mapped P f xs a.1)
 
 pub each-passed : {A : Type 0} (P Q : A → Type 0) (test : A → Bool) (xs : List A) → ((x : A) → test x ≡ true → P x → Q x) → AllByRecursion P xs → AllByRecursion Q (filter test xs)
 each-passed P Q test [] k a = tt
@@ -145,7 +141,7 @@ took-writes sys state ProgressStep next effect t a =
     subst (HasWritesSettled sys) (sym t.3)
     (each-append (IsWriteSettled sys settled) state.writes (map (λ p. checkpoint_of state p (front_of settled p)) ps)
     (grown-writes sys state.settled settled (settled-grows sys state t.0 settled t.2) state.writes a)
-    (each-mapped (IsWriteSettled sys settled) (λ p. checkpoint_of state p (front_of settled p)) ps
+    (each-map (IsWriteSettled sys settled) (λ p. checkpoint_of state p (front_of settled p)) ps
     (each-one (λ p. IsSettled sys settled p (front_of settled p)) ps (λ p l u i. i))))
 took-writes sys state (Checkpoint p) next effect t a =
     subst (HasWritesSettled sys) (sym t.3) (with-settled sys state (checkpoint_of state p (front_of state.settled p) ∷ []) a (λ l u i. i, tt))
@@ -159,7 +155,7 @@ took-writes sys state Recover next effect t a =
 took-writes sys state Collect next effect t a =
     let low = map front_of_cut t.0.cuts in
     subst (HasWritesSettled sys) (sym t.3)
-    (each-mapped (IsWriteSettled sys state.settled)
+    (each-map (IsWriteSettled sys state.settled)
     (λ (write : Write). record write { progress = after_collection (lies_below sys low state.history write.node write.written) write.progress }) state.writes a)
 took-writes sys state (Ack o) next effect t a = subst (HasWritesSettled sys) (sym t.2) a
 
@@ -202,18 +198,11 @@ restorable-within sys state view p by_checkpoints f l n a k = elim k [
 ]
 restorable-within sys state view p by_events f l n a k = λ _. k.0
 
-policy-not_batches : (p : Policy) → restoring_of_policy p ≡ by_batches → ⊥
-policy-not_batches policy.None e = cc
-policy-not_batches policy.Lazy e = cc
-policy-not_batches policy.Logged e = cc
-policy-not_batches policy.Eager e = cc
-policy-not_batches policy.Full e = cc
-
 pub not_batches : (kind : Kind) (p : Policy) → is_input_kind kind ≡ false → restoring kind p ≡ by_batches → ⊥
 not_batches Input p n e = two_ways true refl n
 not_batches OutputEpoch p n e = cc
 not_batches OutputNumber p n e = cc
-not_batches kind p n e = policy-not_batches p e
+not_batches kind p n e = not_by_batches p e
 
 pub candidates-within_settled : CandidatesLieWithinSettled
 candidates-within_settled sys steps outcomes last r lost view p f l n k =

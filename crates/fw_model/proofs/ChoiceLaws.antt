@@ -8,6 +8,7 @@ use Rattle.std.specs.List.{range_with_len}
 use Rattle.fw_frontier.proofs.Pairs.{excluding_pairs}
 use Rattle.fw_time.specs.Stamp.{Stamp, leq, in_domain}
 use Rattle.fw_time.specs.declared.stamp.Bounds.{Bounds}
+use Rattle.fw_time.proofs.EachLaws.{each-weaker, each-one}
 use Rattle.fw_frontier.specs.Frontier.{Frontier, IsFrontier, Within, nothing, join, cover, some_above}
 use Rattle.fw_frontier.specs.Front.{Front, inside, frontier_of, IsCanonical, Names}
 use Rattle.fw_frontier.proofs.CanonicalLaws.{in_domain-canonical}
@@ -27,8 +28,7 @@ use Rattle.fw_model.specs.Machine.{Machine, Numbered, Write, bound_of, events, f
 use Rattle.fw_flow.specs.declared.choice.Choice.{Choice}
 use Rattle.fw_model.specs.Choice.{View, kept, ever, Restoring, by_batches, by_bound, by_anything, by_checkpoints, by_events, until, AllLogged, IsRestorable, HoldsLow, restoring_of_policy, restoring, can_resend, IsCandidate, IsCutWithin, stamp_of_notice, stamps_from, set_of, takes_its_cut, takes_its_notes, cut_of, note_of, kept_of, delivered_cover, notified_cover, sent_cover, discarded_at, discarded_cover}
 use Rattle.fw_model.specs.LawsOfChoices.{ConsistentChoicesHaveUnion, EachLiesWithinUnion, LargestChoiceIsOne, IsUnionOfCuts, IsUnionOfChoices, DeliveredOfUnion, NotifiedOfUnion, DiscardedOfUnion, UnionOfCandidatesIsCandidate, UnionOfConsistentIsConsistent}
-use Rattle.fw_model.proofs.EachLaws.{each-weaker}
-use Rattle.fw_model.proofs.PhiLaws.{phi-monotone}
+use Rattle.fw_model.proofs.PhiLaws.{phi-monotone, all_inside-monotone}
 use Rattle.fw_model.proofs.PsiLaws.{same_tests, psi-monotone, psi-join}
 use Rattle.fw_model.proofs.MeetLaws.{one_within}
 use Rattle.fw_model.proofs.SendsLaws.{IsOfCause, sent_by-of_cause}
@@ -112,10 +112,6 @@ some-divides h f g at (x ∷ xs) t w k = elim (or_cases (h x && leq t (at x)) (s
   ]
 ]
 
-each : {A : Type 0} (P : A → Type 0) (xs : List A) → ((x : A) → P x) → AllByRecursion P xs
-each P [] h = tt
-each P (x ∷ xs) h = (h x, each P xs h)
-
 -- tests of a domain divide as their second parts do
 and_divides : (d a b c : Bool) → (a ≡ true → (b || c) ≡ true) → (d && a) ≡ true → ((d && b) || (d && c)) ≡ true
 and_divides true a b c h k = h k
@@ -125,7 +121,7 @@ cover-divides : (b : Bounds) (h f g : Frontier) (ss : List Stamp) → Within h (
 cover-divides b h f g ss w t k =
     and_divides (in_domain b t) (some_above (filter h ss) t) (some_above (filter f ss) t) (some_above (filter g ss) t)
     (λ i. ap (λ c. c || some_above (filter g ss) t) (above-some f ss t) ∙ ap (λ c. some_of f (λ s. s) ss t || c) (above-some g ss t)
-    ∙ some-divides h f g (λ s. s) ss t (each (Divides h f g) ss (λ s j. or_cases (f s) (g s) (w s j))) (sym (above-some h ss t) ∙ i)) k
+    ∙ some-divides h f g (λ s. s) ss t (each-one (Divides h f g) ss (λ s j. or_cases (f s) (g s) (w s j))) (sym (above-some h ss t) ∙ i)) k
 
 -- ---- what counts inside the union of two cuts
 
@@ -167,12 +163,6 @@ notified-union sys state p (At f) (At g) (At u) w t k =
     (cover b (filter (frontier_of b u) ss)) (cover b (filter (frontier_of b f) ss)) (cover b (filter (frontier_of b g) ss))
     v (cover-divides b (frontier_of b u) (frontier_of b f) (frontier_of b g) ss v) t k
 
-all_inside-monotone : (f g : Frontier) → Within f g → (cs : List Stamp) → all_inside f cs ≡ true → all_inside g cs ≡ true
-all_inside-monotone f g w [] k = refl
-all_inside-monotone f g w (c ∷ cs) k =
-    let a = and_parts (f c) (all_inside f cs) k in
-    and_from (g c) (all_inside g cs) (w c a.0) (all_inside-monotone f g w cs a.1)
-
 is_sequence : (kind : Kind) → is_sequence_kind kind ≡ true → kind ≡ Sequence
 is_sequence Sequence e = refl
 is_sequence kind e = absurd (cc)
@@ -206,8 +196,8 @@ sent-divides sys state e h f g ff fg w =
       | inl s ↦
           let bounds = bounds-sequence sys.flow p (is_sequence (kind_of sys.flow p) s) in
           elim (one_within greatest_number f g (subst (λ b. IsFrontier b f) bounds ff) (subst (λ b. IsFrontier b g) bounds fg)) [
-            | inl v ↦ each one (sent sys (events state.history) e) (λ m k. inr (all_inside-monotone h g (λ t i. within_or (f t) (g t) (v t) (w t i)) m.causes k))
-            | inr v ↦ each one (sent sys (events state.history) e) (λ m k. inl (all_inside-monotone h f (λ t i. within_either (f t) (g t) (v t) (w t i)) m.causes k))
+            | inl v ↦ each-one one (sent sys (events state.history) e) (λ m k. inr (all_inside-monotone h g (λ t i. within_or (f t) (g t) (v t) (w t i)) m.causes k))
+            | inr v ↦ each-one one (sent sys (events state.history) e) (λ m k. inl (all_inside-monotone h f (λ t i. within_either (f t) (g t) (v t) (w t i)) m.causes k))
           ]
     ]
 
@@ -311,7 +301,7 @@ low-union kept low f u w h = λ t k. w t (h t k)
 low-union ever low f u w h = tt
 
 -- only an input is restored by its batches
-not_by_batches : (p : Policy) → restoring_of_policy p ≡ by_batches → ⊥
+pub not_by_batches : (p : Policy) → restoring_of_policy p ≡ by_batches → ⊥
 not_by_batches policy.None e = cc
 not_by_batches policy.Lazy e = cc
 not_by_batches policy.Logged e = cc

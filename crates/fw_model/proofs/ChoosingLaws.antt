@@ -24,17 +24,17 @@ use Rattle.fw_model.specs.LawsOfFiltering.{IsFull}
 use Rattle.fw_model.specs.LawsOfSteps.{CanChoose, HasItsChoice}
 use Rattle.fw_model.specs.LawsOfChoosing.{low_choice, LowWatermarkIsConsistent, CheckpointsAreChains, RecoveryHasAChoice, FailedNodesAreRecovered, ReachedStatesHaveOneNextState, LargestChoiceHoldsLowWatermark, LowWatermarkNeverFalls, LargestOfKeptIsLargestOfEver}
 use Rattle.fw_model.proofs.Decisions.{two_ways}
-use Rattle.fw_model.proofs.EachLaws.{each-weaker, each-append}
 use Rattle.fw_model.proofs.DenotationLaws.{denotation-exists}
-use Rattle.fw_model.proofs.FilterLaws.{each-one}
-use Rattle.fw_model.proofs.CheckpointLaws.{HoldsSettled, IsWriteSettled, AreWritesSettled, HasWritesSettled, grown-writes, settled-grows, each-mapped, each-passed, each-replaced, took-writes}
+use Rattle.fw_model.proofs.CheckpointLaws.{HoldsSettled, IsWriteSettled, AreWritesSettled, HasWritesSettled, grown-writes, settled-grows, each-passed, each-replaced, took-writes}
 use Rattle.fw_model.proofs.LargestLaws.{largest-exists, within-trans}
-use Rattle.fw_model.proofs.RunLaws.{none-inside, epochs-of}
+use Rattle.fw_model.proofs.RunLaws.{none-inside}
 use Rattle.fw_model.proofs.RecoveryLaws.{IsLegalAndDenoted, all_kinds-denote, first-holds, steps-hold, denoted-full}
 use Rattle.fw_model.proofs.SomeNextLaws.{exactly_one_next, recover-enabled}
 use Rattle.fw_model.proofs.SameInsideLaws.{at_node, IsLowConsistent}
 use Rattle.fw_model.proofs.WriteLaws.{some-checkpoint, checkpoint-some, pairs-append, pairs-passed, pairs-mapped, pairs-replaced, LiesBelow, IsWriteBelow, AreAscending, settled-below, ascending-chain, IsCollectedBelow, IsWriteCollectedBelow, kept-from_ever}
 use Rattle.fw_model.proofs.LowLaws.{event-low, same-low, keep-append, keep-all, keep-acknowledged, keep-failed, set-grows, at_most-refl, candidate-ever, offered-consistent, low-any, low-within, within-is, recovery-low, watermark-front, collection-low, first-low}
+use Rattle.fw_model.proofs.DomainLaws.{has_epochs}
+use Rattle.fw_time.proofs.EachLaws.{each-weaker, each-append, each-one, each-map}
 
 -- what holds of each state of a run
 pub record CanRecover (sys : System) (family : Family) (state : Machine) : Type 0 where
@@ -89,7 +89,7 @@ took-low sys family w u state (Fail ps) next effect f t =
           (keep-failed ps state.writes) (λ q. at_most-refl (bound_of state q)) f.watermark,
     )
 took-low sys family w u state Recover next effect f t =
-    subst (HasLow sys) (sym t.7) (f.notes, recovery-low sys state f.notes t.1 t.2 w.flow (epochs-of sys w) f.holds.legal f.watermark (is_failed state) t.5 t.6)
+    subst (HasLow sys) (sym t.7) (f.notes, recovery-low sys state f.notes t.1 t.2 w.flow (has_epochs sys w) f.holds.legal f.watermark (is_failed state) t.5 t.6)
 took-low sys family w u state Collect next effect f t =
     subst (HasLow sys) (sym t.3) (t.0.notes, collection-low sys state t.0 t.1.consistent)
 took-low sys family w u state (Ack o) next effect f t =
@@ -125,7 +125,7 @@ settled_writes state settled ps = map (λ p. checkpoint_of state p (front_of set
 settled-above : (sys : System) (state : Machine) (settled : List Front) (ps : List ℕ) (p : ℕ) (w : Written) → HoldsSettled sys settled p w
     → AllByRecursion (λ (y : Write). LiesBelow sys p w y.node y.written) (settled_writes state settled ps)
 settled-above sys state settled ps p w h =
-    each-mapped (λ (y : Write). LiesBelow sys p w y.node y.written) (λ q. checkpoint_of state q (front_of settled q)) ps
+    each-map (λ (y : Write). LiesBelow sys p w y.node y.written) (λ q. checkpoint_of state q (front_of settled q)) ps
     (each-one _ ps (λ q. settled-below sys settled p w q state.low h))
 
 settled-alone : (sys : System) (state : Machine) (settled : List Front) (ps : List ℕ) → AreAscending sys (settled_writes state settled ps)
@@ -251,7 +251,7 @@ took-below sys family state Collect next effect f t =
     let low = map front_of_cut choice.cuts in
     let grows = watermark-grows sys state f.notes choice f.watermark t.1 in
     subst (HasCollectedBelow sys) (sym t.3)
-    (each-mapped (IsWriteCollectedBelow sys low) (λ (x : Write). record x { progress = after_collection (lies_below sys low state.history x.node x.written) x.progress }) state.writes
+    (each-map (IsWriteCollectedBelow sys low) (λ (x : Write). record x { progress = after_collection (lies_below sys low state.history x.node x.written) x.progress }) state.writes
     (each-weaker (IsWriteCollectedBelow sys state.low) (λ (x : Write). IsCollectedBelow sys low x.node x.written (after_collection (lies_below sys low state.history x.node x.written) x.progress)) state.writes
     (λ x b. collected-below sys state.low low state.history grows x.node x.written x.progress b) f.lie_below))
 took-below sys family state (Ack o) next effect f t = subst (HasCollectedBelow sys) (sym t.2) f.lie_below
@@ -263,7 +263,7 @@ pub took-recover : (sys : System) (family : Family) → IsWellFormedSystem sys �
 took-recover sys family w u state step next effect f t =
     let low = took-low sys family w u state step next effect f t in
     record {
-      holds = steps-hold sys family w.flow (epochs-of sys w) (all_kinds-denote sys family w u) state step next (did effect) f.holds t;
+      holds = steps-hold sys family w.flow (has_epochs sys w) (all_kinds-denote sys family w u) state step next (did effect) f.holds t;
       lie_settled = took-writes sys state step next effect t f.lie_settled;
       ascend = took-ascend sys state step next effect f.lie_settled f.ascend t;
       lie_below = took-below sys family state step next effect f t;

@@ -1,13 +1,15 @@
 -- Up to where nothing is missing at a node alone: what loops over stamps, edges and events find, and what it comes to.
 use Rattle.std.proofs.Common.{◌≡◌, ℕ, zero, suc, ◌+◌, ◌^◌, ◌<◌, ◌≤◌, nat_le, nat_lt, Bool, true, false, not, ◌&&◌, ◌||◌, ◌==◌, cond, List, [], ◌∷◌, ◌++◌, length, reverse, map, Some, None, option_to_list, refl, sym, ap, subst, ◌∙◌, get_or, take, inl, inr, ◌⊎◌, arith}
+use Rattle.std.proofs.Math.Bool.{and-true, and_assoc}
 use Rattle.std.specs.List.{AllByRecursion, flat_map, list_any}
-use Rattle.std.proofs.lemmas.Bool.{and_parts, and_from, cond-true, cond-false, cases_lt, eqb-true, eq-eqb}
+use Rattle.std.proofs.lemmas.Bool.{and_parts, and_from, cond-true, cond-false, cases_lt, eqb-true, eq-eqb, or_left, or_right, not-true, false_from_ne_true, true≢false}
 use Rattle.std.proofs.lemmas.List.Folds.{list_any-append}
 use Rattle.std.proofs.lemmas.Grind.{flat_map-append}
 use Rattle.std.proofs.lemmas.List.{reverse-append, take_more, append-nil, length-map}
 use Rattle.std.proofs.lemmas.Bool.Decides.{nat_tests}
 use Rattle.fw_time.specs.Stamp.{Stamp, leq, same, in_domain}
 use Rattle.fw_time.specs.declared.stamp.Bounds.{Bounds}
+use Rattle.fw_time.proofs.StampLaws.{leq-refl, leq-trans}
 use Rattle.fw_frontier.specs.Frontier.{without_above}
 use Rattle.fw_frontier.specs.Front.{Front, inside, frontier_of, IsCanonical, Names}
 use Rattle.fw_bag.specs.declared.rec.Rec.{Rec}
@@ -21,9 +23,8 @@ use Rattle.fw_flow.specs.Projection.{first_number_of}
 use Rattle.fw_flow.specs.Dataflow.{System, Dataflow, kind_of, receiver, in_edges, edges_into, bounds_of, bounds_of_domain, domain_of_kind, greatest_number, is_input_kind, is_notified_kind, batches_of}
 use Rattle.fw_model.specs.History.{pending, owed, is_delivery_to, is_notification, was_notified, was_delivered_to, some_at, injected_count, is_exhausted, injected_epochs, IsQuiet}
 use Rattle.fw_model.specs.Clear.{given, pending_stamps, is_unnotified, owed_by, owed_stamps, IsClear}
-use Rattle.fw_model.proofs.StampLaws.{leq-refl, leq-trans, in_line}
+use Rattle.fw_model.proofs.StampLaws.{in_line, same-is}
 use Rattle.fw_model.proofs.DescentLaws.{past_edges-quiet}
-use Rattle.fw_model.proofs.OutputLaws.{same-is}
 
 -- ---- tests
 
@@ -35,29 +36,9 @@ or_neither : (a b : Bool) → (a || b) ≡ false → (a ≡ false) × (b ≡ fal
 or_neither true b e = absurd (cc)
 or_neither false b e = (refl, e)
 
-or_left : (a b : Bool) → a ≡ true → (a || b) ≡ true
-or_left true b e = refl
-or_left false b e = absurd (cc)
-
-or_right : (a b : Bool) → b ≡ true → (a || b) ≡ true
-or_right true b e = refl
-or_right false b e = e
-
 or_none : (a b : Bool) → a ≡ false → b ≡ false → (a || b) ≡ false
 or_none true b e f = e
 or_none false b e f = f
-
-pub not_true : (a : Bool) → not a ≡ true → a ≡ false
-not_true true e = absurd (cc)
-not_true false e = refl
-
--- a test that cannot pass fails
-pub fails : (a : Bool) → (a ≡ true → ⊥) → a ≡ false
-fails true h = absurd (h refl)
-fails false h = refl
-
-pub lies : true ≡ false → ⊥
-lies e = cc
 
 -- ---- what is inside two lists
 
@@ -97,7 +78,7 @@ into-at P n (e ∷ es) p d a (suc i) l r =
     rest true k = k.1
     rest false k = k
 
-into-from : (P : ℕ → Type 0) (n : ℕ) (es : List Edge) (p : ℕ) (d : Edge) → ((i : ℕ) → i < length es → (get_or es i d).receiver ≡ p → P (n + i))
+pub into-from : (P : ℕ → Type 0) (n : ℕ) (es : List Edge) (p : ℕ) (d : Edge) → ((i : ℕ) → i < length es → (get_or es i d).receiver ≡ p → P (n + i))
     → AllByRecursion P (edges_into n es p)
 into-from P n [] p d h = tt
 into-from P n (e ∷ es) p d h =
@@ -127,14 +108,14 @@ none_at [] t e = refl
 none_at (m ∷ ms) t e =
     let a = and_parts (not (leq m.at t)) (inside (map (λ (m : Message). m.at) ms) t) e in
     or_none (same t m.at) (some_at (same t) ms)
-    (fails (same t m.at) (λ k. lies (sym (and_parts (leq t m.at) (leq m.at t) k).1 ∙ not_true (leq m.at t) a.0)))
+    (false_from_ne_true (same t m.at) (λ k. true≢false (sym (and_parts (leq t m.at) (leq m.at t) k).1 ∙ not-true (leq m.at t) a.0)))
     (none_at ms t a.1)
 
 none_below : (ms : List Message) (t : Stamp) → ((s : Stamp) → leq s t ≡ true → some_at (same s) ms ≡ false) → inside (map (λ (m : Message). m.at) ms) t ≡ true
 none_below [] t h = refl
 none_below (m ∷ ms) t h =
     and_from (not (leq m.at t)) (inside (map (λ (m : Message). m.at) ms) t)
-    (ap not (fails (leq m.at t) (λ k. lies (sym (and_from (leq m.at m.at) (leq m.at m.at) (leq-refl m.at) (leq-refl m.at)) ∙ (or_neither (same m.at m.at) (some_at (same m.at) ms) (h m.at k)).0))))
+    (ap not (false_from_ne_true (leq m.at t) (λ k. true≢false (sym (and_from (leq m.at m.at) (leq m.at m.at) (leq-refl m.at) (leq-refl m.at)) ∙ (or_neither (same m.at m.at) (some_at (same m.at) ms) (h m.at k)).0))))
     (none_below ms t (λ s k. (or_neither (same s m.at) (some_at (same s) ms) (h s k)).1))
 
 pub quiet-inside : (sys : System) (h : List Event) (p : ℕ) (t : Stamp) → inside (pending_stamps sys h p) t ≡ true → IsQuiet sys h p t
@@ -155,7 +136,7 @@ inside-quiet sys h p t q =
 -- ---- what is owed
 
 owed-cond : (a c : Bool) (s t : Stamp) → inside (option_to_list (cond (a && c) (Some s) None)) t ≡ true → a ≡ true → c ≡ true → leq s t ≡ false
-owed-cond true true s t e k l = not_true (leq s t) (and_parts (not (leq s t)) true e).0
+owed-cond true true s t e k l = not-true (leq s t) (and_parts (not (leq s t)) true e).0
 owed-cond true false s t e k l = absurd (cc)
 owed-cond false c s t e k l = absurd (cc)
 
@@ -173,10 +154,10 @@ no_delivery flow events p t (Notify q s ∷ vs) i u = no_delivery flow events p 
 no_delivery flow events p t (Deliver e m ∷ vs) i u =
     let a = inside-append (option_to_list (owed_by flow events p (Deliver e m))) (owed_stamps flow events p vs) t i in
     or_none (receiver flow e == p && same m.at t) (list_any (is_delivery_to flow p t) vs)
-    (fails (receiver flow e == p && same m.at t) (λ k.
+    (false_from_ne_true (receiver flow e == p && same m.at t) (λ k.
     let b = and_parts (receiver flow e == p) (same m.at t) k in
     let c = (and_parts (leq m.at t) (leq t m.at) b.1).0 in
-    lies (sym c ∙ owed-cond (receiver flow e == p) (is_unnotified flow events p m.at) m.at t a.0 b.0
+    true≢false (sym c ∙ owed-cond (receiver flow e == p) (is_unnotified flow events p m.at) m.at t a.0 b.0
     (subst (λ s. is_unnotified flow events p s ≡ true) (sym (same-is m.at t b.1)) u))))
     (no_delivery flow events p t vs a.1 u)
 
@@ -189,8 +170,7 @@ inside-owed flow events p t (Notify q s ∷ vs) h = inside-owed flow events p t 
 inside-owed flow events p t (Deliver e m ∷ vs) h =
     inside-both (option_to_list (owed_by flow events p (Deliver e m))) (owed_stamps flow events p vs) t
     (owed-uncond (receiver flow e == p) (is_unnotified flow events p m.at) m.at t (λ k u.
-    h m.at (or_left (receiver flow e == p && same m.at m.at) (list_any (is_delivery_to flow p m.at) vs)
-    (and_from (receiver flow e == p) (same m.at m.at) k (and_from (leq m.at m.at) (leq m.at m.at) (leq-refl m.at) (leq-refl m.at)))) u))
+    h m.at (or_left (receiver flow e == p && same m.at m.at) (list_any (is_delivery_to flow p m.at) vs) (and_from (receiver flow e == p) (same m.at m.at) k (and_from (leq m.at m.at) (leq m.at m.at) (leq-refl m.at) (leq-refl m.at)))) u))
     (inside-owed flow events p t vs (λ s k u. h s (or_right (receiver flow e == p && same m.at s) (list_any (is_delivery_to flow p s) vs) k) u))
 
 or-swap : (a b : Bool) → (a || (b || false)) ≡ (b || a)
@@ -209,35 +189,27 @@ any-reverse test (v ∷ vs) =
 
 paid-inside : (sys : System) (events : List Event) (p : ℕ) (t : Stamp) → inside (owed_stamps sys.flow events p events) t ≡ true → owed sys (reverse events) p t ≡ false
 paid-inside sys events p t i =
-    fails (owed sys (reverse events) p t) (λ k.
+    false_from_ne_true (owed sys (reverse events) p t) (λ k.
     let a = and_parts (is_notified_kind (kind_of sys.flow p) && was_delivered_to sys.flow p t (reverse events)) (not (was_notified p t (reverse events))) k in
     let b = and_parts (is_notified_kind (kind_of sys.flow p)) (was_delivered_to sys.flow p t (reverse events)) a.0 in
     let u = and_from (is_notified_kind (kind_of sys.flow p)) (not (list_any (is_notification p t) events)) b.0 (sym (ap not (any-reverse (is_notification p t) events)) ∙ a.1) in
-    lies (sym b.1 ∙ any-reverse (is_delivery_to sys.flow p t) events ∙ no_delivery sys.flow events p t events i u))
+    true≢false (sym b.1 ∙ any-reverse (is_delivery_to sys.flow p t) events ∙ no_delivery sys.flow events p t events i u))
 
 inside-paid : (sys : System) (events : List Event) (p : ℕ) (t : Stamp) → ((s : Stamp) → leq s t ≡ true → owed sys (reverse events) p s ≡ false)
     → inside (owed_stamps sys.flow events p events) t ≡ true
 inside-paid sys events p t h =
     inside-owed sys.flow events p t events (λ s k u.
-    fails (leq s t) (λ l.
+    false_from_ne_true (leq s t) (λ l.
     let a = and_parts (is_notified_kind (kind_of sys.flow p)) (not (list_any (is_notification p s) events)) u in
-    lies (sym (and_from (is_notified_kind (kind_of sys.flow p) && was_delivered_to sys.flow p s (reverse events)) (not (was_notified p s (reverse events)))
+    true≢false (sym (and_from (is_notified_kind (kind_of sys.flow p) && was_delivered_to sys.flow p s (reverse events)) (not (was_notified p s (reverse events)))
     (and_from (is_notified_kind (kind_of sys.flow p)) (was_delivered_to sys.flow p s (reverse events)) a.0 (any-reverse (is_delivery_to sys.flow p s) events ∙ k))
     (ap not (any-reverse (is_notification p s) events) ∙ a.1)) ∙ h s l)))
 
 -- ---- a frontier without stamps
 
-assoc : (a c d : Bool) → ((a && c) && d) ≡ (a && (c && d))
-assoc true c d = refl
-assoc false c d = refl
-
 inside-last : (xs : List Stamp) (x t : Stamp) → inside (xs ++ x ∷ []) t ≡ (inside xs t && not (leq x t))
-inside-last [] x t = last (not (leq x t))
-  where
-    last : (a : Bool) → (a && true) ≡ a
-    last true = refl
-    last false = refl
-inside-last (y ∷ xs) x t = ap (λ b. not (leq y t) && b) (inside-last xs x t) ∙ sym (assoc (not (leq y t)) (inside xs t) (not (leq x t)))
+inside-last [] x t = and-true (not (leq x t))
+inside-last (y ∷ xs) x t = ap (λ b. not (leq y t) && b) (inside-last xs x t) ∙ sym (and_assoc (not (leq y t)) (inside xs t) (not (leq x t)))
 
 inside-more : (xs : List Stamp) (i : ℕ) (d t : Stamp) → i < length xs → inside (take (i + 1) xs) t ≡ (inside (take i xs) t && not (leq (get_or xs i d) t))
 inside-more xs i d t l = ap (λ ys. inside ys t) (take_more xs i d l) ∙ inside-last (take i xs) (get_or xs i d) t
@@ -249,7 +221,7 @@ pub less_one : (b : Bounds) (first f new : Front) (xs : List Stamp) (i : ℕ) (x
 less_one b first f new xs i x l e m n = record {
   canonical = n.canonical;
   same = λ t.
-      n.same t ∙ ap (λ c. c && not (leq x t)) (m.same t) ∙ assoc (frontier_of b first t) (inside (take i xs) t) (not (leq x t))
+      n.same t ∙ ap (λ c. c && not (leq x t)) (m.same t) ∙ and_assoc (frontier_of b first t) (inside (take i xs) t) (not (leq x t))
       ∙ ap (λ c. frontier_of b first t && (inside (take i xs) t && not (leq c t))) e
       ∙ sym (ap (λ c. frontier_of b first t && c) (inside-more xs i x t l));
 }
@@ -258,21 +230,13 @@ less_one b first f new xs i x l e m n = record {
 pub names_other : (b : Bounds) (f : Front) (x : Stamp) → IsCanonical b f → in_domain b x ≡ false → Names b f (without_above x (frontier_of b f))
 names_other b f x c k = record { canonical = c; same = λ t. at t (in_domain b t) refl }
   where
-    alone : (c : Bool) → c ≡ (c && true)
-    alone true = refl
-    alone false = refl
-
     at : (t : Stamp) (d : Bool) → in_domain b t ≡ d → (d && inside f t) ≡ ((d && inside f t) && not (leq x t))
     at t false j = refl
-    at t true j = alone (inside f t) ∙ ap (λ c. inside f t && not c) (sym (fails (leq x t) (λ l. lies (sym (leq-trans x t b.greatest l j) ∙ k))))
+    at t true j = sym (and-true (inside f t)) ∙ ap (λ c. inside f t && not c) (sym (false_from_ne_true (leq x t) (λ l. true≢false (sym (leq-trans x t b.greatest l j) ∙ k))))
 
 -- nothing is left out at first
 pub names_first : (b : Bounds) (f : Front) → IsCanonical b f → Names b f (λ t. frontier_of b f t && true)
-names_first b f c = record { canonical = c; same = λ t. alone (frontier_of b f t) }
-  where
-    alone : (c : Bool) → c ≡ (c && true)
-    alone true = refl
-    alone false = refl
+names_first b f c = record { canonical = c; same = λ t. sym (and-true (frontier_of b f t)) }
 
 -- ---- lists that grow
 
@@ -437,4 +401,4 @@ pending_more sys h edges i e old new ms read l is o p r n =
 pub not_exhausted : {A : Type 0} (g : A → List Rec) (bs : List A) (sys : System) (h : List Event) (p m : ℕ) → map g bs ≡ batches_of sys p → m ≡ injected_count p h
     → (m ≡ length bs → ⊥) → is_exhausted sys h p ≡ false
 not_exhausted g bs sys h p m e c n =
-    fails (is_exhausted sys h p) (λ k. n (c ∙ eqb-true (injected_count p h) (length (batches_of sys p)) k ∙ sym (ap length e) ∙ length-map bs g))
+    false_from_ne_true (is_exhausted sys h p) (λ k. n (c ∙ eqb-true (injected_count p h) (length (batches_of sys p)) k ∙ sym (ap length e) ∙ length-map bs g))

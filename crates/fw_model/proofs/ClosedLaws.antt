@@ -1,9 +1,10 @@
 -- What is closed stays closed, notifications come last, and numbers come in order.
-use Rattle.std.proofs.Common.{◌≡◌, ℕ, Bool, true, false, not, ◌&&◌, ◌==◌, List, [], ◌∷◌, ◌++◌, length, map, refl, sym, ap, ◌∙◌}
+use Rattle.std.proofs.Common.{◌≡◌, ℕ, true, false, not, ◌&&◌, ◌==◌, List, [], ◌∷◌, ◌++◌, length, map, refl, sym, ap, ◌∙◌}
 use Rattle.std.specs.List.{AllByRecursion}
 use Rattle.std.specs.Prelude.{filter}
 use Rattle.std.proofs.lemmas.Bool.{eq-eqb, and_parts, and_from, cond_both, cond-false, eqb-true, false_from_ne_true}
 use Rattle.fw_time.specs.Stamp.{Stamp, leq, same}
+use Rattle.fw_time.proofs.StampLaws.{leq-trans}
 use Rattle.fw_frontier.specs.Frontier.{Frontier}
 use Rattle.fw_flow.specs.declared.event.Event.{Event}
 use Rattle.fw_flow.specs.declared.event.Event.TheVariants.{Inject, Deliver, Notify}
@@ -17,16 +18,13 @@ use Rattle.fw_model.specs.History.{sent, delivered, pending, was_delivered_to, w
 use Rattle.fw_model.specs.LawsOfProjections.{bounds_of_edge}
 use Rattle.fw_model.specs.LawsOfLegalHistories.{HasEpochs}
 use Rattle.fw_model.specs.LawsOfDeliveries.{IsClosedFor, ClosedStampsStayClosed, DeliveredUpToClosedIsFinal, NotificationsComeLast, AreNumberedInOrder, NumberedDeliveriesAscend, recs_at, DeliveredInsideCompleteIsFinal}
-use Rattle.fw_model.proofs.StampLaws.{leq-trans}
 use Rattle.fw_model.proofs.PhiLaws.{phi-longer}
 use Rattle.fw_model.proofs.FrontierLaws.{phi-frontier}
 use Rattle.fw_model.proofs.PendingLaws.{is_among-some_at}
 use Rattle.fw_model.proofs.CompleteLaws.{enabled-outside, admissible-stays, quiet-sent, quiet-event, not_owed-notified, not_owed-delivered}
 use Rattle.fw_model.proofs.OrderLaws.{raised-paid}
-use Rattle.fw_model.proofs.WeightLaws.{same-is}
-
-two_ways : (b : Bool) → b ≡ true → b ≡ false → ⊥
-two_ways b p q = cc
+use Rattle.fw_model.proofs.StampLaws.{same-is}
+use Rattle.fw_model.proofs.Decisions.{two_ways}
 
 pub legal-before : (sys : System) (more h : List Event) → IsLegal sys (more ++ h) → IsLegal sys h
 legal-before sys [] h l = l

@@ -1,48 +1,28 @@
 -- The orders of stamps and messages are total, and of what satisfies a decided property one is least.
-use Rattle.std.proofs.Common.{◌≡◌, ℕ, true, false, List, [], ◌∷◌, refl, sym, ap, subst, ◌∙◌, inl, inr, ◌⊎◌, arith}
-use Rattle.std.specs.List.{AllByRecursion}
+use Rattle.std.proofs.Common.{◌≡◌, true, false, ◌&&◌, List, [], ◌∷◌, refl, sym, ap, subst, ◌∙◌, inl, inr, ◌⊎◌}
+use Rattle.std.specs.List.{AllByRecursion, list_any}
 use Rattle.std.specs.Cmp.{IsTotalOrder}
 use Rattle.std.specs.declared.cmp.Ordering.{Ordering}
 use Rattle.std.specs.declared.cmp.Ordering.TheVariants.{Less, Equal, Greater}
-use Rattle.std.specs.Ordering.{nat_cmp, ordering_then, ordering_reverse, is_eq, is_gt}
+use Rattle.std.specs.Ordering.{ordering_then, ordering_reverse, is_eq, is_gt}
 use Rattle.std.specs.Cmp.Lexicographic.{slice_cmp}
 use Rattle.std.proofs.lemmas.Bool.{cases_Bool, or_cases}
-use Rattle.std.proofs.lemmas.Bool.Decides.{nat_tests}
 use Rattle.std.proofs.lemmas.Cmp.{nat_list_cmp_total, lists_total, on_total, then_total, tied_itself, upto}
+use Rattle.std.proofs.lemmas.Map.Lookups.{exact_bytes}
 use Rattle.fw_time.specs.Stamp.{Stamp, stamp_cmp}
+use Rattle.fw_time.proofs.EachLaws.{each-weaker}
 use Rattle.fw_frontier.specs.Front.{Front}
 use Rattle.fw_bag.specs.Rec.{rec_cmp}
 use Rattle.fw_bag.proofs.RecLaws.{rec_order, rec_cmp-same}
+use Rattle.fw_bag.proofs.OrderingLaws.{equal_from_is_eq, then_equal, slice_cmp-same}
 use Rattle.fw_flow.specs.declared.event.Message.{Message}
 use Rattle.fw_model.specs.History.{message_cmp, is_among}
 use Rattle.fw_model.proofs.Decisions.{Decided}
-use Rattle.fw_model.proofs.EachLaws.{each-weaker}
 
 -- ---- elements that an order finds equal are one
 
-then_equal : (o p : Ordering) → ordering_then o p ≡ Equal → (o ≡ Equal) × (p ≡ Equal)
-then_equal Less p h = absurd (cc)
-then_equal Equal p h = (refl, h)
-then_equal Greater p h = absurd (cc)
-
-nat_cmp-same : (m n : ℕ) → nat_cmp m n ≡ Equal → m ≡ n
-nat_cmp-same m n h = grind (arith, nat_tests)
-
-pub equal_from_is_eq : (o : Ordering) → is_eq o ≡ true → o ≡ Equal
-equal_from_is_eq Less h = absurd (cc)
-equal_from_is_eq Equal h = refl
-equal_from_is_eq Greater h = absurd (cc)
-
-pub slice_cmp-same : {K : Type 0} (R : K → K → Ordering) → ((x y : K) → R x y ≡ Equal → x ≡ y) → (xs ys : List K) → slice_cmp R xs ys ≡ Equal → xs ≡ ys
-slice_cmp-same R h [] [] e = refl
-slice_cmp-same R h [] (y ∷ ys) e = absurd (cc)
-slice_cmp-same R h (x ∷ xs) [] e = absurd (cc)
-slice_cmp-same R h (x ∷ xs) (y ∷ ys) e =
-    let a = then_equal (R x y) (slice_cmp R xs ys) e in
-    ap (λ z. z ∷ xs) (h x y a.0) ∙ ap (λ zs. y ∷ zs) (slice_cmp-same R h xs ys a.1)
-
 pub stamp_cmp-same : (s t : Stamp) → stamp_cmp s t ≡ Equal → s ≡ t
-stamp_cmp-same = slice_cmp-same nat_cmp nat_cmp-same
+stamp_cmp-same = exact_bytes
 
 pub fronts_cmp-same : (f g : List Stamp) → slice_cmp stamp_cmp f g ≡ Equal → f ≡ g
 fronts_cmp-same = slice_cmp-same stamp_cmp stamp_cmp-same
@@ -63,6 +43,17 @@ message_cmp-same m x e =
     let q = rec_cmp-same m.rec x.rec b.0 in
     let r = fronts_cmp-same m.causes x.causes b.1 in
     λ i. record { at = p i; rec = q i; causes = r i }
+
+pub stamp_cmp-equal : (s t : Stamp) → is_eq (stamp_cmp s t) ≡ true → s ≡ t
+stamp_cmp-equal s t e = stamp_cmp-same s t (equal_from_is_eq (stamp_cmp s t) e)
+
+pub message_cmp-equal : (m x : Message) → is_eq (message_cmp m x) ≡ true → m ≡ x
+message_cmp-equal m x e = message_cmp-same m x (equal_from_is_eq (message_cmp m x) e)
+
+pub then_parts : (o p : Ordering) → is_eq (ordering_then o p) ≡ (is_eq o && is_eq p)
+then_parts Less p = refl
+then_parts Equal p = refl
+then_parts Greater p = refl
 
 -- elements of which neither is greater are tied
 pub tied : {K : Type 0} {R : K → K → Ordering} → IsTotalOrder R → (x y : K) → is_gt (R x y) ≡ false → is_gt (R y x) ≡ false → R x y ≡ Equal
@@ -86,13 +77,17 @@ not_greater {R} o x y h = by (R x y) (R y x) (o.antisymm x y) h
     by Equal Greater e h = absurd (cc)
     by Greater Greater e h = absurd (cc)
 
--- what holds of each listed message holds of each one among them
-pub among-each : (P : Message → Type 0) (m : Message) (ms : List Message) → is_among m ms ≡ true → AllByRecursion P ms → P m
-among-each P m [] k a = absurd (cc)
-among-each P m (x ∷ xs) k a = elim (or_cases (is_eq (message_cmp m x)) (is_among m xs) k) [
-  | inl e ↦ subst P (sym (message_cmp-same m x (equal_from_is_eq (message_cmp m x) e))) a.0
-  | inr l ↦ among-each P m xs l a.1
+-- what holds of each listed element holds of each one among them
+pub each-among : {K : Type 0} {R : K → K → Ordering} → ((x y : K) → R x y ≡ Equal → x ≡ y)
+    → (P : K → Type 0) (x : K) (xs : List K) → list_any (λ y. is_eq (R x y)) xs ≡ true → AllByRecursion P xs → P x
+each-among h P x [] k a = absurd (cc)
+each-among {R} h P x (y ∷ ys) k a = elim (or_cases (is_eq (R x y)) (list_any (λ z. is_eq (R x z)) ys) k) [
+  | inl e ↦ subst P (sym (h x y (equal_from_is_eq (R x y) e))) a.0
+  | inr l ↦ each-among h P x ys l a.1
 ]
+
+pub among-each : (P : Message → Type 0) (m : Message) (ms : List Message) → is_among m ms ≡ true → AllByRecursion P ms → P m
+among-each = each-among message_cmp-same
 
 -- ---- the least element with a property
 

@@ -1,9 +1,12 @@
 -- Where all has come nothing more comes.
 use Rattle.std.proofs.Common.{◌≡◌, ℕ, ◌+◌, ◌≤◌, Bool, true, false, not, ◌&&◌, ◌||◌, ◌==◌, nat_lt, List, [], ◌∷◌, length, get_or, Some, None, refl, sym, ap, subst, ◌∙◌, inl, inr, ◌⊎◌, arith, ◌++◌}
+use Rattle.std.proofs.Math.Bool.{and-false}
 use Rattle.std.specs.List.{AllByRecursion}
 use Rattle.std.proofs.lemmas.Bool.{and_parts, and_from, or_cases, or_right, cond_both, eqb-true, ltb-true, lt-ltb, cases_lt, false_from_ne_true}
 use Rattle.std.proofs.lemmas.List.{get_or_past}
 use Rattle.fw_time.specs.Stamp.{Stamp, leq, same, in_domain}
+use Rattle.fw_time.proofs.EachLaws.{each-weaker}
+use Rattle.fw_time.proofs.StampLaws.{leq-refl, leq-trans}
 use Rattle.fw_frontier.specs.Frontier.{Frontier, Within}
 use Rattle.fw_flow.specs.declared.event.Event.{Event}
 use Rattle.fw_flow.specs.declared.event.Event.TheVariants.{Inject, Deliver, Notify}
@@ -18,8 +21,6 @@ use Rattle.fw_model.specs.LawsOfProjections.{bounds_of_edge, IsSenderFrontier}
 use Rattle.fw_model.specs.LawsOfSending.{SendsByStamp}
 use Rattle.fw_model.specs.LawsOfLegalHistories.{HasEpochs}
 use Rattle.fw_model.specs.LawsOfCompleteFrontiers.{EnabledIsOutside, AdmissibleStaysAdmissible}
-use Rattle.fw_model.proofs.EachLaws.{each-weaker}
-use Rattle.fw_model.proofs.StampLaws.{leq-refl, leq-trans}
 use Rattle.fw_model.proofs.PhiLaws.{phi-longer}
 use Rattle.fw_model.proofs.FrontierLaws.{phi-frontier}
 use Rattle.fw_model.proofs.SendingLaws.{phi-by_stamp, phi-in_domain}
@@ -28,9 +29,7 @@ use Rattle.fw_model.proofs.SequenceLaws.{IsNumbered, numbered-each, count-le_len
 use Rattle.fw_model.proofs.WellFormedLaws.{senders_well_formed}
 use Rattle.fw_model.proofs.LegalLaws.{enabled-in_domain, legal-in_domain, only_inputs_inject}
 use Rattle.fw_model.proofs.PendingLaws.{quiet-new, quiet-without, is_among-some_at}
-
-two_ways : (b : Bool) → b ≡ true → b ≡ false → ⊥
-two_ways b p q = cc
+use Rattle.fw_model.proofs.Decisions.{two_ways}
 
 -- ---- an enabled event is outside
 
@@ -155,11 +154,7 @@ quiet-event (Deliver d m) h e t ms k =
 quiet-event (Notify p s) h e t ms k = k
 
 pub not_owed-notified : (a b c d : Bool) → (a && b && not d) ≡ false → (a && b && not (c || d)) ≡ false
-not_owed-notified a b true d k = no (a && b)
-  where
-    no : (x : Bool) → (x && false) ≡ false
-    no true = refl
-    no false = refl
+not_owed-notified a b true d k = and-false (a && b)
 not_owed-notified a b false d k = k
 
 pub not_owed-delivered : (a b c d : Bool) → c ≡ false → (a && b && not d) ≡ false → (a && (c || b) && not d) ≡ false

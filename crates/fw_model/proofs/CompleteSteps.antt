@@ -1,10 +1,12 @@
 -- The descent to the complete frontiers: what each pass keeps, when it ends, and what it comes to.
 use Rattle.std.proofs.Common.{◌≡◌, ℕ, zero, suc, ◌+◌, ◌<◌, ◌≤◌, Bool, true, false, not, ◌&&◌, ◌==◌, cond, List, [], ◌∷◌, ◌++◌, length, reverse, Some, None, refl, sym, ap, subst, ◌∙◌, get_or, take, inl, inr, arith}
+use Rattle.std.proofs.Math.Bool.{and-true, and_assoc}
 use Rattle.std.specs.List.{AllByRecursion, list_all}
 use Rattle.std.proofs.lemmas.Bool.{and_parts, and_from, cases_lt, eqb-true}
 use Rattle.std.proofs.lemmas.List.{take_more, get_or_past, length-append, reverse-append}
 use Rattle.fw_time.specs.Stamp.{Stamp, in_domain}
 use Rattle.fw_time.specs.declared.stamp.Bounds.{Bounds}
+use Rattle.fw_time.proofs.EachLaws.{each-prefix, each-suffix, each-of_all, all-of_each}
 use Rattle.fw_frontier.specs.Frontier.{Frontier, Within, meet}
 use Rattle.fw_frontier.specs.Front.{Front, inside, frontier_of, IsCanonical, Names}
 use Rattle.fw_frontier.proofs.NamesLaws.{frontier-closed, none_inside-within, within_domain-none_inside}
@@ -22,7 +24,6 @@ use Rattle.fw_model.specs.Clear.{lowered, notified_epoch, IsClear}
 use Rattle.fw_model.specs.Plain.{family_of, AreAtNodes, AreCanonical}
 use Rattle.fw_model.specs.LawsOfSending.{is_notification_of}
 use Rattle.fw_model.proofs.StampLaws.{in_line}
-use Rattle.fw_model.proofs.StampLists.{each-prefix, each-suffix, each-of_all, all-of_each}
 use Rattle.fw_model.proofs.PhiLaws.{phi-monotone}
 use Rattle.fw_model.proofs.SendSteps.{kind-past}
 use Rattle.fw_model.proofs.EventSteps.{history_more}
@@ -67,16 +68,8 @@ each_at P (x ∷ xs) zero d a l = a.0
 each_at P (x ∷ xs) (suc i) d a l = each_at P xs i d a.1 (omega arith)
 
 all-append : (test : ℕ → Bool) (xs : List ℕ) (x : ℕ) → list_all test (xs ++ x ∷ []) ≡ (list_all test xs && test x)
-all-append test [] x = last (test x)
-  where
-    last : (a : Bool) → (a && true) ≡ a
-    last true = refl
-    last false = refl
-all-append test (y ∷ xs) x = ap (λ b. test y && b) (all-append test xs x) ∙ sym (assoc (test y) (list_all test xs) (test x))
-  where
-    assoc : (a c d : Bool) → ((a && c) && d) ≡ (a && (c && d))
-    assoc true c d = refl
-    assoc false c d = refl
+all-append test [] x = and-true (test x)
+all-append test (y ∷ xs) x = ap (λ b. test y && b) (all-append test xs x) ∙ sym (and_assoc (test y) (list_all test xs) (test x))
 
 -- whether a stamp is inside a frontier, and inside phi of the family on each of these edges
 abbrev pub left_by : System → List Event → (ℕ → Frontier) → List ℕ → Frontier → Frontier
@@ -104,20 +97,8 @@ lowered_more sys h family p f old arrived new edges i e l is o a n =
           ap (list_all test) (take_more edges i e l) ∙ all-append test (take i edges) (get_or edges i e) ∙ ap (λ d. list_all test (take i edges) && test d) (sym is) in
           n.same t ∙ ap (λ b. b && frontier_of (bounds_of sys.flow p) arrived t) (o.same t)
           ∙ ap (λ b. (f t && list_all test (take i edges)) && b) (a.same t)
-          ∙ assoc (f t) (list_all test (take i edges)) (test e) ∙ ap (λ b. f t && b) (sym more);
+          ∙ and_assoc (f t) (list_all test (take i edges)) (test e) ∙ ap (λ b. f t && b) (sym more);
     }
-  where
-    assoc : (a c d : Bool) → ((a && c) && d) ≡ (a && (c && d))
-    assoc true c d = refl
-    assoc false c d = refl
-
--- at first no edge is looked at
-pub lowered_none : (b : Bounds) (f : Front) → IsCanonical b f → Names b f (λ t. frontier_of b f t && true)
-lowered_none b f c = record { canonical = c; same = λ t. alone (frontier_of b f t) }
-  where
-    alone : (b : Bool) → b ≡ (b && true)
-    alone true = refl
-    alone false = refl
 
 pub canonical_at : (flow : Dataflow) (fronts : List Front) (p q : ℕ) (f : Front) → AreCanonical flow fronts → q ≡ p → f ≡ front_of fronts q → IsCanonical (bounds_of flow p) f
 canonical_at flow fronts p q f c e is = subst (IsCanonical (bounds_of flow p)) (sym (is ∙ ap (front_of fronts) e)) (c p)

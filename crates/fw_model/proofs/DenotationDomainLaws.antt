@@ -4,6 +4,7 @@ use Rattle.std.proofs.lemmas.Bool.{cond_both, and_from}
 use Rattle.std.specs.List.{AllByRecursion, flat_map}
 use Rattle.fw_bag.specs.declared.rec.Rec.{Rec}
 use Rattle.fw_time.specs.Stamp.{Stamp, leq, in_domain}
+use Rattle.fw_time.proofs.EachLaws.{each-weaker, each-append}
 use Rattle.fw_flow.specs.declared.kind.Kind.{Kind}
 use Rattle.fw_flow.specs.declared.kind.Kind.TheVariants.{Input, OutputEpoch, OutputNumber, Distinct, Join, Sum, Total, Sequence, Ledger}
 use Rattle.fw_flow.specs.Dataflow.{System, Dataflow, kind_of, sender, receiver, in_edges, batches_of, greatest_number, domain_of_kind, out_domain_of_kind, bounds_of, bounds_of_domain, send_stamp_of_kind}
@@ -12,7 +13,6 @@ use Rattle.fw_flow.specs.WholeBags.{Timed, in_order, timed, timed_at_some, timed
 use Rattle.fw_model.specs.Denotation.{Family, rounds}
 use Rattle.fw_model.specs.LawsOfDenotation.{enough_rounds, DenotationIsInDomain}
 use Rattle.fw_model.specs.LawsOfLegalHistories.{HasEpochs}
-use Rattle.fw_model.proofs.EachLaws.{each-weaker, each-append}
 use Rattle.fw_model.proofs.StampLaws.{line-leq}
 use Rattle.fw_model.proofs.SendingLaws.{send_stamp_of_kind-in_domain}
 use Rattle.fw_model.proofs.LegalLaws.{edge_domains}

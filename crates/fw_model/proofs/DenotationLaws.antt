@@ -1,8 +1,7 @@
 -- The denotation exists and is the only one.
-use Rattle.std.proofs.Common.{◌≡◌, ℕ, zero, suc, ◌<◌, ◌≤◌, List, [], ◌∷◌, length, get_or, map, refl, sym, ap, subst, ◌∙◌, inl, inr, ◌⊎◌, arith}
+use Rattle.std.proofs.Common.{◌≡◌, ℕ, zero, suc, ◌<◌, ◌≤◌, [], ◌∷◌, length, get_or, map, refl, sym, ap, subst, ◌∙◌, inl, inr, ◌⊎◌, arith}
 use Rattle.std.proofs.lemmas.Bool.{cases_lt}
 use Rattle.std.proofs.lemmas.List.{get_or_past}
-use Rattle.std.specs.List.{AllByRecursion}
 use Rattle.fw_flow.specs.declared.kind.Kind.TheVariants.{OutputEpoch}
 use Rattle.fw_flow.specs.declared.node.Edge.{Edge}
 use Rattle.fw_flow.specs.Dataflow.{System, Dataflow, idle_node, kind_of, sender, receiver, in_edges, batches_of}
@@ -13,6 +12,7 @@ use Rattle.fw_model.specs.LawsOfDenotation.{Measure, DenotationIsTheOnlyOne, eno
 use Rattle.fw_model.proofs.TimedLaws.{IsAscendingTimed, ascending-in_order, how_often_timed, same_from_how_often, in_order-twice}
 use Rattle.fw_model.proofs.MeasureLaws.{measure-exists}
 use Rattle.fw_model.proofs.DependenceLaws.{AreAscending, map-agree, outputs-agree}
+use Rattle.fw_time.proofs.EachLaws.{each-one}
 
 -- ---- past the last edge
 
@@ -95,15 +95,11 @@ denotation-exists sys w e =
 pub unchanged_round : UnchangedRoundIsDenotation
 unchanged_round sys n h e = sym (h e)
 
-each-of_all : {A : Type 0} (P : A → Type 0) → ((x : A) → P x) → (xs : List A) → AllByRecursion P xs
-each-of_all P h [] = tt
-each-of_all P h (x ∷ xs) = (h x, each-of_all P h xs)
-
 -- families that are the same give the same
 pub outputs_of-same : (sys : System) (f g : Family) → ((e : ℕ) → f e ≡ g e) → (p : ℕ) → outputs_of sys f p ≡ outputs_of sys g p
 outputs_of-same sys f g h p =
     ap (λ bags. in_order (outputs_of_kind sys.flow (kind_of sys.flow p) (batches_of sys p) bags))
-    (map-agree f g (in_edges sys.flow p) (each-of_all (λ e. f e ≡ g e) h (in_edges sys.flow p)))
+    (map-agree f g (in_edges sys.flow p) (each-one (λ e. f e ≡ g e) (in_edges sys.flow p) h))
 
 cases_last : (n m : ℕ) → n ≤ suc m → (n ≡ suc m) ⊎ (n ≤ m)
 cases_last n m h = grind arith

@@ -4,7 +4,7 @@ use Rattle.std.specs.Prelude.{filter}
 use Rattle.std.specs.Ordering.{is_gt, is_lt, ordering_then, ordering_reverse}
 use Rattle.std.specs.declared.cmp.Ordering.{Ordering}
 use Rattle.std.specs.declared.cmp.Ordering.TheVariants.{Less, Equal, Greater}
-use Rattle.std.proofs.lemmas.Bool.{and_parts, cases_Bool}
+use Rattle.std.proofs.lemmas.Bool.{and_parts, cases_Bool, not-true}
 use Rattle.std.proofs.lemmas.Cmp.{nat_list_cmp_total}
 use Rattle.fw_time.specs.Stamp.{Stamp, leq, stamp_cmp, in_domain}
 use Rattle.fw_time.proofs.StampLaws.{before-from_leq}
@@ -37,11 +37,10 @@ use Rattle.fw_model.proofs.ArrivalLaws.{deliveries, deliveries-weigh, together-w
 use Rattle.fw_model.proofs.InputLaws.{input-equal}
 use Rattle.fw_model.proofs.NotifiedLaws.{none_came}
 use Rattle.fw_model.proofs.KindLaws.{is_inner, AgreeFor, outputs-same, arrives, delivered_bag}
-use Rattle.fw_model.proofs.SequencedLaws.{IsMember, each_member, filter-none, filter-all, filter-parts, Precedes, numbered-append, numbered-from, length-weigh, length-messages}
+use Rattle.fw_model.proofs.SequencedLaws.{IsMember, each_member, filter-parts, Precedes, numbered-append, numbered-from, length-weigh, length-messages}
 use Rattle.fw_model.proofs.DomainLaws.{sort_of, inner_edge, sequence_edge, output-sent, output-outputs, edge-bounds, EdgeStamp, along, from_earlier, each_in_edge, denoted-in_domain, delivered-in_domain, has_epochs}
-
-two_ways : (b : Bool) → b ≡ true → b ≡ false → ⊥
-two_ways b p q = cc
+use Rattle.fw_model.proofs.FilterLaws.{filter-none, filter-all}
+use Rattle.fw_model.proofs.Decisions.{two_ways}
 
 -- what was sent on the edge at the stamp is what the family has there
 abbrev pub IsDenotedAt : System → List Event → Family → (ℕ → Frontier) → EdgeStamp → Type 0
@@ -125,17 +124,13 @@ numbered_first sys h family w den p is s r q i j k l =
     let a = ordered-member xs r i in
     let b = ordered-member xs q j in
     let o : leq q.at r.at ≡ false = elim (cases_Bool (leq q.at r.at)) [
-      | inl c ↦ absurd (two_ways (was_notified p q.at h) (s.sure r.at q.at q.rec k c b) (not-false (was_notified p q.at h) l))
+      | inl c ↦ absurd (two_ways (was_notified p q.at h) (s.sure r.at q.at q.rec k c b) (not-true (was_notified p q.at h) l))
       | inr c ↦ c
     ] in
     elim (epochs_compare sys p is r.at q.at (whole-in_domain sys family w den p r.at r.rec a) (whole-in_domain sys family w den p q.at q.rec b)) [
       | inl c ↦ comes_after r q c o
       | inr c ↦ absurd (two_ways (leq q.at r.at) c o)
     ]
-  where
-    not-false : (b : Bool) → not b ≡ true → b ≡ false
-    not-false true k = cc
-    not-false false k = refl
 
 either : (b : Bool) → (not b || b) ≡ true
 either true = refl

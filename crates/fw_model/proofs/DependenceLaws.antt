@@ -3,6 +3,8 @@ use Rattle.std.proofs.Common.{◌≡◌, ℕ, suc, ◌+◌, ◌<◌, Bool, cond,
 use Rattle.std.proofs.lemmas.Bool.{cond_both, cases_Bool, eqb-true}
 use Rattle.std.specs.List.{AllByRecursion}
 use Rattle.fw_time.specs.Stamp.{Stamp, same}
+use Rattle.fw_time.proofs.EachLaws.{each-weaker}
+use Rattle.fw_time.proofs.StampLaws.{leq-refl}
 use Rattle.fw_flow.specs.declared.node.Edge.{Edge}
 use Rattle.fw_flow.specs.Dataflow.{System, Dataflow, kind_of, sender, receiver, edges_into, in_edges, batches_of, send_stamp_of_kind}
 use Rattle.fw_flow.specs.WellFormed.{IsWellFormed}
@@ -10,11 +12,10 @@ use Rattle.fw_flow.specs.Walks.{is_looped}
 use Rattle.fw_flow.specs.WholeBags.{Timed, timed, recs_where, in_order, outputs_of_kind, outputs_of}
 use Rattle.fw_model.specs.Denotation.{Family}
 use Rattle.fw_model.specs.LawsOfDenotation.{Measure, RecsAtStampsDecideBag, OutBagsDependOnLesserMeasure}
-use Rattle.fw_model.proofs.StampLaws.{leq-refl}
-use Rattle.fw_model.proofs.EachLaws.{each-weaker}
 use Rattle.fw_model.proofs.TimedLaws.{IsAscendingTimed, ascending-in_order, ascending-filter, how_often_timed, how_often-in_order, same_from_how_often, how_often-filter_in, how_often-filter_out}
-use Rattle.fw_model.proofs.OutputLaws.{same-is, same-refl, part, is_stamp, sends_to, outputs-part}
+use Rattle.fw_model.proofs.OutputLaws.{part, is_stamp, sends_to, outputs-part}
 use Rattle.fw_model.proofs.MeasureLaws.{sends_to_loop, local-from_loop}
+use Rattle.fw_model.proofs.StampLaws.{same-is, same-refl}
 
 -- ---- in-edges
 

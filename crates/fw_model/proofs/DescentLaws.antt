@@ -1,9 +1,10 @@
 -- The largest family of frontiers inside which nothing is missing, found by a descent.
 use Rattle.std.proofs.Common.{◌≡◌, ℕ, zero, suc, ◌+◌, ◌<◌, ◌≤◌, Bool, true, false, not, ◌&&◌, ◌||◌, ◌==◌, cond, List, [], ◌∷◌, ◌++◌, length, refl, sym, ap, subst, ◌∙◌, inl, inr, ◌⊎◌, arith}
 use Rattle.std.specs.List.{AllByRecursion}
-use Rattle.std.proofs.lemmas.Bool.{and_parts, and_from, cases_lt, eqb-true, eq-eqb}
+use Rattle.std.proofs.lemmas.Bool.{and_parts, and_from, cases_lt, eqb-true, eq-eqb, not-true}
 use Rattle.std.proofs.lemmas.List.{get_or_past}
 use Rattle.fw_time.specs.Stamp.{Stamp, leq, same, in_domain}
+use Rattle.fw_time.proofs.StampLaws.{leq-refl, leq-trans}
 use Rattle.fw_frontier.specs.Frontier.{Frontier, IsFrontier, Within}
 use Rattle.fw_flow.specs.Counting.{how_many}
 use Rattle.fw_flow.specs.declared.event.Event.{Event}
@@ -20,22 +21,17 @@ use Rattle.fw_model.proofs.CompleteLaws.{past_edges-idle}
 use Rattle.fw_model.proofs.PhiLaws.{phi-monotone}
 use Rattle.fw_model.proofs.PsiLaws.{same_tests}
 use Rattle.fw_model.proofs.FrontierLaws.{phi-frontier}
-use Rattle.fw_model.proofs.StampLaws.{leq-refl, leq-trans}
 use Rattle.fw_model.proofs.StampLists.{each_below, each_below-at, each_below-from, stamps, each_stamp-at, each_up_to, each_up_to-at, each_up_to-from}
 
 -- ---- implications of tests
 
-implies-at : (a b : Bool) → (not a || b) ≡ true → a ≡ true → b ≡ true
+pub implies-at : (a b : Bool) → (not a || b) ≡ true → a ≡ true → b ≡ true
 implies-at true b k e = k
 implies-at false b k e = absurd (cc)
 
-implies-from : (a b : Bool) → (a ≡ true → b ≡ true) → (not a || b) ≡ true
+pub implies-from : (a b : Bool) → (a ≡ true → b ≡ true) → (not a || b) ≡ true
 implies-from true b h = h refl
 implies-from false b h = refl
-
-not-true : (a : Bool) → not a ≡ true → a ≡ false
-not-true true k = absurd (cc)
-not-true false k = refl
 
 -- ---- a family counts the less, the less it has inside
 
@@ -143,7 +139,7 @@ unfolding sends
 idle-sends_none sys p is [] = refl
 idle-sends_none sys p is (v ∷ vs) = ap (λ k. sends_of_kind sys k vs v ++ sent_by sys p vs) is ∙ idle-sends_none sys p is vs
 
-less-none : (ds : List Message) → less [] ds ≡ []
+pub less-none : (ds : List Message) → less [] ds ≡ []
 less-none [] = refl
 less-none (d ∷ ds) = ap (λ ms. without d ms) (less-none ds)
 
@@ -172,8 +168,7 @@ unfolding is_quiet
 quiet-at sys h p t k e r = elim (cases_lt e (length sys.flow.edges)) [
   | inr l ↦ past_edges-quiet sys h e t l
   | inl l ↦
-      not-true (some_at (same t) (pending sys h e))
-      (implies-at (receiver sys.flow e == p) (not (some_at (same t) (pending sys h e)))
+      not-true (some_at (same t) (pending sys h e)) (implies-at (receiver sys.flow e == p) (not (some_at (same t) (pending sys h e)))
       (each_below-at (λ d. not (receiver sys.flow d == p) || not (some_at (same t) (pending sys h d))) (length sys.flow.edges) k e l)
       (eq-eqb (receiver sys.flow e) p r))
 ]

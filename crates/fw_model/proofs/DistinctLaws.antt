@@ -1,8 +1,7 @@
 -- Distinct sends each rec once at each stamp, in whichever order the recs come.
 use Rattle.std.proofs.Common.{◌≡◌, ℕ, zero, suc, ◌+◌, ◌<◌, ◌≤◌, Bool, true, false, cond, ◌&&◌, List, [], ◌∷◌, ◌++◌, Some, refl, sym, ap, ◌∙◌, inl, inr, arith}
-use Rattle.std.specs.Ordering.{is_eq, ordering_then}
-use Rattle.std.specs.declared.cmp.Ordering.{Ordering}
-use Rattle.std.specs.declared.cmp.Ordering.TheVariants.{Less, Equal, Greater}
+use Rattle.std.proofs.Math.Bool.{and_comm}
+use Rattle.std.specs.Ordering.{is_eq}
 use Rattle.std.proofs.lemmas.Bool.{or_cases, or_parts, cond_both, cond-false, cases_Bool}
 use Rattle.std.proofs.lemmas.Cmp.{tied_itself, nat_list_cmp_total}
 use Rattle.fw_time.specs.Stamp.{Stamp, leq, same, stamp_cmp}
@@ -16,13 +15,13 @@ use Rattle.fw_flow.specs.declared.kind.Kind.TheVariants.{Distinct}
 use Rattle.fw_flow.specs.Dataflow.{System, kind_of}
 use Rattle.fw_flow.specs.NodeFunction.{delivered_recs, rec_of_delivery, sends_of_kind, sends, sent_by}
 use Rattle.fw_flow.specs.WholeBags.{Timed, timed, timed_cmp, is_among_timed, distinct_timed}
-use Rattle.fw_model.proofs.WeightLaws.{weigh, one, one-in, one-out, is_at, is_at-is, at_stamp, same-is, same-self}
-use Rattle.fw_model.proofs.SentLaws.{timed_of, timed_message, stamp_cmp-same}
+use Rattle.fw_model.proofs.WeightLaws.{weigh, one, one-in, one-out, is_at, is_at-is, at_stamp}
+use Rattle.fw_model.proofs.SentLaws.{timed_of, timed_message}
 use Rattle.fw_model.proofs.ArrivalLaws.{deliveries}
 use Rattle.fw_model.proofs.InputLaws.{timed_of-messages_at_some, sent-weigh}
-
-two_ways : (b : Bool) → b ≡ true → b ≡ false → ⊥
-two_ways b p q = cc
+use Rattle.fw_model.proofs.StampLaws.{same-is, same-refl}
+use Rattle.fw_model.proofs.CmpLaws.{then_parts, stamp_cmp-equal}
+use Rattle.fw_model.proofs.Decisions.{two_ways}
 
 -- 1 for each number but 0
 unfoldable pub sign : ℕ → ℕ
@@ -86,14 +85,8 @@ how_often-delivered test q (Deliver e m ∷ vs) =
     cases true = how_often-one q m.rec
     cases false = refl
 
-and_swap : (a b : Bool) → (a && b) ≡ (b && a)
-and_swap true true = refl
-and_swap true false = refl
-and_swap false true = refl
-and_swap false false = refl
-
 pub same-swap : (s t : Stamp) → same s t ≡ same t s
-same-swap s t = and_swap (leq s t) (leq t s)
+same-swap s t = and_comm (leq s t) (leq t s)
 
 passing-one : (t : Stamp) (q : Rec) (r : Timed) → passing (λ s. same s t) q r ≡ one t q r
 unfolding one
@@ -170,16 +163,11 @@ distinct-sent sys p n is t q (Deliver e m ∷ vs) =
 
 -- ---- what distinct sends in all
 
-then_parts : (o p : Ordering) → is_eq (ordering_then o p) ≡ (is_eq o && is_eq p)
-then_parts Less p = refl
-then_parts Equal p = refl
-then_parts Greater p = refl
-
 stamp_cmp-test : (s t : Stamp) → is_eq (stamp_cmp s t) ≡ same s t
 stamp_cmp-test s t = elim (cases_Bool (same s t)) [
   | inl e ↦ let i = same-is s t e in sym (ap (λ u. is_eq (stamp_cmp s u)) i) ∙ ap is_eq (tied_itself nat_list_cmp_total s) ∙ sym e
   | inr e ↦ elim (cases_Bool (is_eq (stamp_cmp s t))) [
-    | inl a ↦ absurd (two_ways (same s t) (sym (ap (same s) (stamp_cmp-same s t a)) ∙ same-self s) e)
+    | inl a ↦ absurd (two_ways (same s t) (sym (ap (same s) (stamp_cmp-equal s t a)) ∙ same-refl s) e)
     | inr a ↦ a ∙ sym e
   ]
 ]

@@ -1,9 +1,10 @@
 -- The bags of the denotation, and what was delivered, are in the domains of their edges.
-use Rattle.std.proofs.Common.{◌≡◌, ◌⊎◌, ℕ, ◌<◌, Bool, true, false, ◌&&◌, List, [], ◌∷◌, length, Some, refl, sym, ap, subst, ◌∙◌, inl, inr, arith}
+use Rattle.std.proofs.Common.{◌≡◌, ◌⊎◌, ℕ, ◌<◌, true, false, ◌&&◌, List, [], ◌∷◌, length, Some, refl, sym, ap, subst, ◌∙◌, inl, inr, arith}
 use Rattle.std.specs.List.{AllByRecursion}
 use Rattle.std.specs.Ordering.{is_eq}
 use Rattle.std.proofs.lemmas.Bool.{cases_Bool, cases_lt}
 use Rattle.fw_time.specs.Stamp.{Stamp, leq, same, in_domain}
+use Rattle.fw_time.proofs.EachLaws.{each-weaker}
 use Rattle.fw_bag.specs.declared.rec.Rec.{Rec}
 use Rattle.fw_bag.specs.Rec.{rec_cmp}
 use Rattle.fw_flow.specs.declared.event.Event.{Event}
@@ -20,19 +21,17 @@ use Rattle.fw_model.specs.Denotation.{Family, IsDenotation}
 use Rattle.fw_model.specs.History.{sent, delivered, IsLegal}
 use Rattle.fw_model.specs.LawsOfProjections.{bounds_of_edge}
 use Rattle.fw_model.specs.LawsOfLegalHistories.{HasEpochs}
-use Rattle.fw_model.proofs.EachLaws.{each-weaker}
 use Rattle.fw_model.proofs.LegalLaws.{edge_domains, legal_messages-in_domain}
 use Rattle.fw_model.proofs.CompleteLaws.{past_edges-idle}
-use Rattle.fw_model.proofs.WeightLaws.{weigh, one, one-out, same-is}
+use Rattle.fw_model.proofs.WeightLaws.{weigh, one, one-out}
 use Rattle.fw_model.proofs.SentLaws.{timed_of, timed_message, delivered-lighter}
 use Rattle.fw_model.proofs.StampMeasures.{by_below, counter_in, IsEarlier, earlier-sends}
 use Rattle.fw_model.proofs.DenotationDomainLaws.{denotation-in_domain}
 use Rattle.fw_model.proofs.ArrivalLaws.{in_edges-receive}
 use Rattle.fw_model.proofs.InputLaws.{sent-weigh}
 use Rattle.fw_model.proofs.KindLaws.{is_inner}
-
-two_ways : (b : Bool) → b ≡ true → b ≡ false → ⊥
-two_ways b p q = cc
+use Rattle.fw_model.proofs.StampLaws.{same-is}
+use Rattle.fw_model.proofs.Decisions.{two_ways}
 
 -- ---- sorts of kinds
 

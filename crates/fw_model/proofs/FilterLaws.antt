@@ -6,19 +6,14 @@ use Rattle.std.proofs.lemmas.Bool.{or_parts, or_from, cond-true, cond-false, con
 use Rattle.fw_flow.specs.Counting.{how_many}
 use Rattle.fw_flow.specs.declared.event.Message.{Message}
 use Rattle.fw_model.specs.History.{message_cmp, without, less}
-use Rattle.fw_model.proofs.CmpLaws.{equal_from_is_eq, message_cmp-same}
+use Rattle.fw_model.proofs.CmpLaws.{message_cmp-equal}
+use Rattle.fw_model.proofs.PendingLaws.{without-here, without-later}
+use Rattle.fw_time.proofs.EachLaws.{each-one}
 
 -- what the wider of two tests leaves out, the narrower one leaves out
 pub passes-not : (j k : Bool) → (j ≡ true → k ≡ true) → k ≡ false → j ≡ false
 passes-not true k h e = sym (h refl) ∙ e
 passes-not false k h e = refl
-
-pub message_cmp-equal : (m x : Message) → is_eq (message_cmp m x) ≡ true → m ≡ x
-message_cmp-equal m x e = message_cmp-same m x (equal_from_is_eq (message_cmp m x) e)
-
-pub each-one : {X : Type 0} (P : X → Type 0) (xs : List X) → ((x : X) → P x) → AllByRecursion P xs
-each-one P [] h = tt
-each-one P (x ∷ xs) h = (h x, each-one P xs h)
 
 -- ---- what is kept of a list
 
@@ -97,12 +92,6 @@ flat_map-filter g k (x ∷ xs) a = elim (cases_Bool (k x)) [
 ]
 
 -- ---- what is pending of it
-
-without-here : (d x : Message) (ms : List Message) → is_eq (message_cmp d x) ≡ true → without d (x ∷ ms) ≡ ms
-without-here d x ms e = cond-true (is_eq (message_cmp d x)) ms (x ∷ without d ms) e
-
-without-later : (d x : Message) (ms : List Message) → is_eq (message_cmp d x) ≡ false → without d (x ∷ ms) ≡ x ∷ without d ms
-without-later d x ms e = cond-false (is_eq (message_cmp d x)) ms (x ∷ without d ms) e
 
 -- the messages without one that may be kept
 abbrev without_if : Bool → Message → List Message → List Message

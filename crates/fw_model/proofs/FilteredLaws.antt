@@ -5,6 +5,8 @@ use Rattle.std.proofs.lemmas.Bool.{and_from, or_left, or_right, cond_both, cases
 use Rattle.std.proofs.lemmas.List.{get_or_past}
 use Rattle.fw_time.specs.Stamp.{Stamp, leq, in_domain}
 use Rattle.fw_time.specs.declared.stamp.Bounds.{Bounds}
+use Rattle.fw_time.proofs.EachLaws.{each-weaker}
+use Rattle.fw_time.proofs.StampLaws.{leq-refl}
 use Rattle.fw_frontier.specs.Frontier.{Frontier, IsFrontier, Within, everything, cover, some_above}
 use Rattle.fw_frontier.specs.Front.{frontier_of}
 use Rattle.fw_frontier.proofs.NamesLaws.{frontier-closed}
@@ -21,8 +23,6 @@ use Rattle.fw_model.specs.Machine.{Machine, Numbered, events, front_of}
 use Rattle.fw_flow.specs.declared.choice.Choice.{Choice}
 use Rattle.fw_model.specs.Choice.{stamp_of_notice, restoring, set_of, takes_its_cut, takes_its_notes, cut_of, note_of, kept_of, delivered_cover, notified_cover, filtered}
 use Rattle.fw_model.specs.LawsOfFiltering.{kept_events, IsConsistentlyKept, MeetsInclusions, ConsistentMeetsInclusions, FilteredHistoryIsLegal}
-use Rattle.fw_model.proofs.EachLaws.{each-weaker}
-use Rattle.fw_model.proofs.StampLaws.{leq-refl}
 use Rattle.fw_model.proofs.PhiLaws.{phi-monotone}
 use Rattle.fw_model.proofs.MeetLaws.{phi-everything}
 use Rattle.fw_model.proofs.LegalLaws.{edge_domains}

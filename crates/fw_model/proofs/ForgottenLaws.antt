@@ -21,15 +21,15 @@ use Rattle.fw_model.specs.Choice.{kept, ever, counts, IsLogged, IsRestorable, Is
 use Rattle.fw_model.specs.Steps.{Effect, Outcome, did, idle, LeadsTo, Run, write_of_event, with_event, same_front, is_within, checkpoint_of, is_eager, is_one_of, is_in_flight, is_kept_write, front_of_cut, is_given_up, is_serial_given_up, lies_below, after_collection}
 use Rattle.fw_model.specs.LawsOfRestoring.{WhatIsForgottenWasAcknowledged, CollectedIsWhatLiesBelow}
 use Rattle.fw_model.proofs.Decisions.{two_ways}
-use Rattle.fw_model.proofs.EachLaws.{each-weaker, each-both, each-append}
-use Rattle.fw_model.proofs.FilterLaws.{each-one, any-filter}
-use Rattle.fw_model.proofs.CheckpointLaws.{is_within-holds, each-mapped, each-passed, each-replaced}
+use Rattle.fw_model.proofs.FilterLaws.{any-filter}
+use Rattle.fw_model.proofs.CheckpointLaws.{is_within-holds, each-passed, each-replaced}
 use Rattle.fw_model.proofs.SameInsideLaws.{at_node}
 use Rattle.fw_model.proofs.WriteLaws.{HoldsOfOne, IsCheckpointAt, IsItsCheckpoint, NamesEvent, LogsEvent, some-checkpoint, some-logged, ArePairs, LiesBelow, AreAscending}
 use Rattle.fw_model.proofs.LowLaws.{at_most-refl, low-within_settled, event-outside, within-is, none-within, watermark-front, kept-counts}
 use Rattle.fw_model.proofs.ChoosingLaws.{settled_writes}
 use Rattle.fw_model.proofs.AskedLaws.{takes-declared, takes-restoring, takes-not_input, AreSerialsBelow, serials-each, any-find, LowGrows, given-stamp, given-grows, IsAskedWell, IsWriteAskedWell, IsApart, low-grows, CanRecoverAndRestore, took-reached, first-reached, reached-all}
 use Rattle.fw_model.proofs.RestoringLaws.{full-reached, low-kept, apart-events, all-logged, full-restoring, full-declared}
+use Rattle.fw_time.proofs.EachLaws.{each-weaker, each-both, each-append, each-one, each-suffix, each_of-map, each-map}
 
 -- ---- writes are acknowledged in order
 
@@ -73,7 +73,7 @@ still-flies below collected = refl
 order-collected : (below : Write → Bool) (xs : List Write) → AreInOrder xs → AreInOrder (map (λ (x : Write). record x { progress = after_collection (below x) x.progress }) xs)
 order-collected below [] a = tt
 order-collected below (x ∷ xs) a = (
-  λ e. each-mapped Flies (λ (y : Write). record y { progress = after_collection (below y) y.progress }) xs
+  λ e. each-map Flies (λ (y : Write). record y { progress = after_collection (below y) y.progress }) xs
       (each-weaker Flies (λ y. is_in_flight (after_collection (below y) y.progress) ≡ true) xs (λ y k. still-flies (below y) y.progress ∙ k)
       (a.0 (sym (still-flies (below x) x.progress) ∙ e))),
   order-collected below xs a.1,
@@ -84,7 +84,7 @@ event-flies policy.Full q serial = (refl, tt)
 event-flies p q serial = tt
 
 asked-fly : (state : Machine) (settled : List Front) (ps : List ℕ) → AllByRecursion Flies (settled_writes state settled ps)
-asked-fly state settled ps = each-mapped Flies (λ p. checkpoint_of state p (front_of settled p)) ps (each-one (λ p. Flies (checkpoint_of state p (front_of settled p))) ps (λ p. refl))
+asked-fly state settled ps = each-map Flies (λ p. checkpoint_of state p (front_of settled p)) ps (each-one (λ p. Flies (checkpoint_of state p (front_of settled p))) ps (λ p. refl))
 
 abbrev HasOrder : Machine → Type 0
 HasOrder state = AreInOrder state.writes
@@ -333,14 +333,6 @@ settled-not_below sys w state f p l far a k =
     let within = low-within_settled sys state f.recover.notes f.recover.lie_settled f.recover.watermark p n (takes-not_input sys.flow w p a.0) in
     two_ways (is_within low g) (within-is (bounds_of sys.flow p) low g a.1 within) (not-true (is_within low g) (and_parts (is_within g low) (not (is_within low g)) k).1)
 
-later-part : {A : Type 0} (P : A → Type 0) (xs ys : List A) → AllByRecursion P (xs ++ ys) → AllByRecursion P ys
-later-part P [] ys a = a
-later-part P (x ∷ xs) ys a = later-part P xs ys a.1
-
-each-unmapped : {A B : Type 0} (P : B → Type 0) (f : A → B) (xs : List A) → AllByRecursion P (map f xs) → AllByRecursion (λ x. P (f x)) xs
-each-unmapped P f [] a = tt
-each-unmapped P f (x ∷ xs) a = (a.0, each-unmapped P f xs a.1)
-
 asked-exact : (sys : System) → IsWellFormed sys.flow → (state next : Machine) (settled : List Front) (ps : List ℕ) → CanRecoverAndRestore sys next
     → next ≡ record state { settled = settled; writes = state.writes ++ settled_writes state settled ps } → AreExact sys state → AreExact sys next
 asked-exact sys w state next settled ps g e a =
@@ -348,10 +340,10 @@ asked-exact sys w state next settled ps g e a =
     let f : CanRecoverAndRestore sys now = subst (CanRecoverAndRestore sys) e g in
     let asks : ℕ → Write = λ p. checkpoint_of state p (front_of settled p) in
     let W : Write → Type 0 = IsWriteAskedWell sys state.low state.next state.history in
-    let more = each-unmapped W asks ps (later-part W state.writes (settled_writes state settled ps) f.restore.asked) in
+    let more = each_of-map W asks ps (each-suffix W state.writes (settled_writes state settled ps) f.restore.asked) in
     subst (AreExact sys) (sym e)
     (each-append (IsWriteExact sys state.low state.history) state.writes (settled_writes state settled ps) a
-    (each-mapped (IsWriteExact sys state.low state.history) asks ps
+    (each-map (IsWriteExact sys state.low state.history) asks ps
     (each-weaker (λ p. W (asks p)) (λ p. IsWriteExact sys state.low state.history (asks p)) ps
     (λ p b. exact-new _ (settled-not_below sys w now f p state.low in_flight b)) more)))
 
@@ -458,7 +450,7 @@ took-exact sys w state Collect next effect f g o t a =
     let W : Write → Type 0 = IsWriteAskedWell sys state.low state.next h in
     let L : Write → Type 0 = λ x. lies_below sys low h x.node x.written ≡ true → is_in_flight x.progress ≡ false in
     subst (AreExact sys) (sym t.3)
-    (each-mapped (IsWriteExact sys low h) (λ (x : Write). record x { progress = after_collection (lies_below sys low h x.node x.written) x.progress }) state.writes
+    (each-map (IsWriteExact sys low h) (λ (x : Write). record x { progress = after_collection (lies_below sys low h x.node x.written) x.progress }) state.writes
     (each-weaker (λ (x : Write). IsWriteExact sys state.low h x × (W x × L x))
     (λ (x : Write). IsExact sys low h x.node x.written (after_collection (lies_below sys low h x.node x.written) x.progress)) state.writes
     (λ x b. collected-exact sys state.low low h x.node x.written

@@ -1,9 +1,11 @@
 -- Each frontier has its list of outside stamps.
-use Rattle.std.proofs.Common.{◌≡◌, Bool, true, false, not, cond, List, [], ◌∷◌, filter, refl, ap, inl, inr}
+use Rattle.std.proofs.Common.{◌≡◌, Bool, true, false, not, List, [], ◌∷◌, filter, refl, ap, inl, inr}
 use Rattle.std.specs.List.{AllByRecursion}
-use Rattle.std.proofs.lemmas.Bool.{and_parts, and_from, cond_both, cases_Bool, false_from_ne_true}
+use Rattle.std.proofs.lemmas.Bool.{and_parts, and_from, cases_Bool, false_from_ne_true}
 use Rattle.fw_time.specs.Stamp.{Stamp, leq, in_domain}
 use Rattle.fw_time.specs.declared.stamp.Bounds.{Bounds}
+use Rattle.fw_time.proofs.EachLaws.{each-filter, each_of-filter}
+use Rattle.fw_time.proofs.StampLaws.{leq-refl}
 use Rattle.fw_frontier.specs.Frontier.{Frontier, IsFrontier}
 use Rattle.fw_frontier.specs.Front.{Front, inside, frontier_of, Names}
 use Rattle.fw_frontier.specs.Outside.{excluding_all}
@@ -12,23 +14,7 @@ use Rattle.fw_frontier.proofs.NamesLaws.{names-until}
 use Rattle.fw_model.specs.LawsOfExistence.{FrontierHasFront}
 use Rattle.fw_model.proofs.Decisions.{two_ways}
 use Rattle.fw_model.proofs.PsiLaws.{same_tests}
-use Rattle.fw_model.proofs.StampLaws.{leq-refl}
 use Rattle.fw_model.proofs.StampLists.{stamps, each_stamp-at, each_stamp-from}
-
-pub each-filter : {A : Type 0} (P : A → Type 0) (test : A → Bool) (xs : List A) → AllByRecursion (λ x. test x ≡ true → P x) xs → AllByRecursion P (filter test xs)
-each-filter P test [] a = tt
-each-filter P test (x ∷ xs) a =
-    let rest = each-filter P test xs a.1 in
-    cond_both (test x) (x ∷ filter test xs) (filter test xs) (AllByRecursion P) (λ e. (a.0 e, rest)) (λ e. rest)
-
-pub each_of-filter : {A : Type 0} (P : A → Type 0) (test : A → Bool) (xs : List A) → AllByRecursion P (filter test xs) → AllByRecursion (λ x. test x ≡ true → P x) xs
-each_of-filter P test [] a = tt
-each_of-filter P test (x ∷ xs) a = by (test x) refl a (λ b. each_of-filter P test xs b)
-  where
-    by : (c : Bool) → test x ≡ c → AllByRecursion P (cond c (x ∷ filter test xs) (filter test xs))
-        → (AllByRecursion P (filter test xs) → AllByRecursion (λ y. test y ≡ true → P y) xs) → AllByRecursion (λ y. test y ≡ true → P y) (x ∷ xs)
-    by true e a rest = (λ k. a.0, rest a.1)
-    by false e a rest = (λ k. absurd (two_ways (test x) k e), rest a)
 
 pub inside-from : (os : Front) (t : Stamp) → AllByRecursion (λ o. leq o t ≡ false) os → inside os t ≡ true
 inside-from [] t a = refl

@@ -16,8 +16,9 @@ use Rattle.fw_flow.specs.NodeFunction.{place, messages_at, messages_at_some, sen
 use Rattle.fw_flow.specs.Projection.{events_at, first_number_of}
 use Rattle.fw_flow.specs.WholeBags.{Timed, timed, timed_at_some, timed_batches}
 use Rattle.fw_model.specs.History.{injected_count, is_exhausted, injected_epochs, IsLegal}
-use Rattle.fw_model.proofs.WeightLaws.{weigh, weigh-append, one, one-out, same-is}
+use Rattle.fw_model.proofs.WeightLaws.{weigh, weigh-append, one, one-out}
 use Rattle.fw_model.proofs.SentLaws.{timed_of, timed_message}
+use Rattle.fw_model.proofs.StampLaws.{same-is}
 
 -- ---- sums
 

@@ -6,6 +6,7 @@ use Rattle.std.specs.Ordering.{is_eq}
 use Rattle.std.proofs.Math.Nat.{add_comm}
 use Rattle.std.proofs.lemmas.Bool.{cond_both, cases_Bool, eqb-true, eqb-false, eq-eqb, ne_eqb}
 use Rattle.fw_time.specs.Stamp.{Stamp, same}
+use Rattle.fw_time.proofs.EachLaws.{each-one}
 use Rattle.fw_bag.specs.declared.rec.Rec.{Rec}
 use Rattle.fw_bag.specs.Rec.{rec_cmp}
 use Rattle.fw_bag.specs.Bag.{how_often}
@@ -19,11 +20,12 @@ use Rattle.fw_flow.specs.NodeFunction.{delivered_recs, recs_on_delivery, sends_o
 use Rattle.fw_flow.specs.Projection.{events_at}
 use Rattle.fw_flow.specs.WholeBags.{Timed, timed, recs_where, joined_timed}
 use Rattle.fw_model.specs.History.{delivered}
-use Rattle.fw_model.proofs.WeightLaws.{weigh, weigh-flat_map, weigh-same, weigh-none, weigh-lighter, weigh-less, one, at_stamp, same-is}
+use Rattle.fw_model.proofs.WeightLaws.{weigh, weigh-flat_map, weigh-same, weigh-none, weigh-lighter, weigh-less, one, at_stamp}
 use Rattle.fw_model.proofs.SentLaws.{timed_of, timed_message}
 use Rattle.fw_model.proofs.ArrivalLaws.{at_edge, in_edges-once}
 use Rattle.fw_model.proofs.InputLaws.{timed_of-messages_at_some, sent-weigh}
 use Rattle.fw_model.proofs.DistinctLaws.{how_often-append, same-swap}
+use Rattle.fw_model.proofs.StampLaws.{same-is}
 
 -- ---- pairs
 
@@ -125,15 +127,11 @@ join-one t x a bs =
 
 -- ---- what join sends in all
 
-pub each_elem : {A : Type 0} (P : A → Type 0) → ((x : A) → P x) → (xs : List A) → AllByRecursion P xs
-each_elem P k [] = tt
-each_elem P k (x ∷ xs) = (k x, each_elem P k xs)
-
 pub join-outputs : (t : Stamp) (x : Rec) (ls bs : List Timed) → weigh (one t x) (joined_timed ls bs) ≡ pairs t x ls bs
 join-outputs t x ls bs =
     weigh-flat_map (one t x) (λ r. timed r.at (joined r.rec (recs_where (same r.at) bs))) ls
     ∙ weigh-same (λ a. weigh (one t x) (timed a.at (joined a.rec (recs_where (same a.at) bs)))) (λ a. weigh (pair t x a) bs) ls
-    (each_elem (λ a. weigh (one t x) (timed a.at (joined a.rec (recs_where (same a.at) bs))) ≡ weigh (pair t x a) bs) (λ a. join-one t x a bs) ls)
+    (each-one (λ a. weigh (one t x) (timed a.at (joined a.rec (recs_where (same a.at) bs))) ≡ weigh (pair t x a) bs) ls (λ a. join-one t x a bs))
 
 -- ---- fewer recs have fewer joins
 
@@ -149,15 +147,15 @@ pair-stamps t x a b l = elim (cases_Bool (same t b.at)) [
 pairs-stamps : (t : Stamp) (x : Rec) (a : Timed) (bs : List Timed) → 0 < weigh (pair t x a) bs → t ≡ a.at
 pairs-stamps t x a bs l = elim (cases_Bool (same t a.at)) [
   | inl e ↦ same-is t a.at e
-  | inr e ↦ let z = weigh-none (pair t x a) bs (each_elem (λ b. pair t x a b ≡ 0) (λ b. pair-left t x a b e) bs) in absurd (omega arith)
+  | inr e ↦ let z = weigh-none (pair t x a) bs (each-one (λ b. pair t x a b ≡ 0) bs (λ b. pair-left t x a b e)) in absurd (omega arith)
 ]
 
 pub pairs-fewer : (t : Stamp) (x : Rec) (ls cs bs ds : List Timed) → ((r : Rec) → weigh (one t r) ls ≤ weigh (one t r) cs)
     → ((r : Rec) → weigh (one t r) bs ≤ weigh (one t r) ds) → pairs t x ls bs ≤ pairs t x cs ds
 pairs-fewer t x ls cs bs ds f g =
     let inner = weigh-lighter (λ a. weigh (pair t x a) bs) (λ a. weigh (pair t x a) ds) ls
-    (each_elem (λ a. weigh (pair t x a) bs ≤ weigh (pair t x a) ds) (λ a.
-    weigh-less (pair t x a) bs ds (λ u r l. subst (λ s. weigh (one s r) bs ≤ weigh (one s r) ds) (pair-stamps t x a (at_stamp u r) l) (g r))) ls) in
+    (each-one (λ a. weigh (pair t x a) bs ≤ weigh (pair t x a) ds) ls (λ a.
+    weigh-less (pair t x a) bs ds (λ u r l. subst (λ s. weigh (one s r) bs ≤ weigh (one s r) ds) (pair-stamps t x a (at_stamp u r) l) (g r)))) in
     let outer = weigh-less (λ a. weigh (pair t x a) ds) ls cs
     (λ u r l. subst (λ s. weigh (one s r) ls ≤ weigh (one s r) cs) (pairs-stamps t x (at_stamp u r) ds l) (f r)) in
     omega arith

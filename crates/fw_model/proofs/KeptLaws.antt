@@ -4,6 +4,8 @@ use Rattle.std.specs.List.{AllByRecursion, list_any}
 use Rattle.std.specs.Ordering.{is_eq}
 use Rattle.std.proofs.lemmas.Bool.{and_parts, cond_both, eqb-true, eq-eqb}
 use Rattle.fw_time.specs.Stamp.{Stamp, leq, same}
+use Rattle.fw_time.proofs.EachLaws.{each-weaker, each-both, each-one, each-suffix}
+use Rattle.fw_time.proofs.StampLaws.{leq-trans}
 use Rattle.fw_frontier.specs.Frontier.{Frontier}
 use Rattle.fw_flow.specs.declared.event.Event.{Event}
 use Rattle.fw_flow.specs.declared.event.Event.TheVariants.{Inject, Deliver, Notify}
@@ -17,19 +19,13 @@ use Rattle.fw_model.specs.LawsOfLegalHistories.{HasEpochs}
 use Rattle.fw_model.specs.LawsOfDeliveries.{AreNumberedInOrder}
 use Rattle.fw_model.specs.LawsOfFiltering.{AreFrontiers, kept_events, messages_from, messages_inside, HaveKeptCauses, KeptDeliveriesHaveKeptCauses, NotifiesNobody, KeptEventsAreLegalWithoutNotices}
 use Rattle.fw_model.proofs.Decisions.{two_ways}
-use Rattle.fw_model.proofs.EachLaws.{each-weaker, each-both}
-use Rattle.fw_model.proofs.StampLaws.{leq-trans, leq_from, leq_to, line-leq}
-use Rattle.fw_model.proofs.OutputLaws.{same-is}
-use Rattle.fw_model.proofs.CmpLaws.{among-each}
+use Rattle.fw_model.proofs.StampLaws.{leq_from, leq_to, line-leq, same-is}
+use Rattle.fw_model.proofs.CmpLaws.{among-each, message_cmp-equal}
 use Rattle.fw_model.proofs.LegalLaws.{less-each}
 use Rattle.fw_model.proofs.OrderLaws.{legal-inside_phi}
 use Rattle.fw_model.proofs.ClosedLaws.{numbered-ascend}
-use Rattle.fw_model.proofs.FilterLaws.{each-one, filter-all, any-filter, any_filter-none, how_many-filter, pending-kept, message_cmp-equal}
+use Rattle.fw_model.proofs.FilterLaws.{filter-all, any-filter, any_filter-none, how_many-filter, pending-kept}
 use Rattle.fw_model.proofs.LocalityLaws.{sends-same, delivers-same}
-
-pub each-later : {A : Type 0} (P : A → Type 0) (xs ys : List A) → AllByRecursion P (xs ++ ys) → AllByRecursion P ys
-each-later P [] ys a = a
-each-later P (x ∷ xs) ys a = each-later P xs ys a.1
 
 -- ---- kept deliveries have kept causes
 
@@ -44,7 +40,7 @@ sent-each_before sys P v h e a = before (place sys.flow v == q) a
     vs = events_at sys.flow q h
 
     before : (b : Bool) → AllByRecursion P (sent_by sys q (cond b (v ∷ vs) vs)) → AllByRecursion P (sent_by sys q vs)
-    before true a = each-later P (sends sys q vs v) (sent_by sys q vs) a
+    before true a = each-suffix P (sends sys q vs v) (sent_by sys q vs) a
     before false a = a
 
 -- what was delivered was sent
@@ -74,7 +70,7 @@ kept-causes sys h keep w b l fr c e =
     (delivered-each sys from h l e (legal-inside_phi sys h w b l e f (fr (sender sys.flow e)))) (c e))
 
 causes-before : (flow : Dataflow) (keep : ℕ → Frontier) (v : Event) (h : List Event) → HaveKeptCauses flow (v ∷ h) keep → HaveKeptCauses flow h keep
-causes-before flow keep v h c e = each-later _ (message_on e v) (delivered h e) (c e)
+causes-before flow keep v h c e = each-suffix _ (message_on e v) (delivered h e) (c e)
 
 -- ---- what is pending of the kept events
 

@@ -3,6 +3,8 @@ use Rattle.std.proofs.Common.{◌≡◌, ℕ, ◌+◌, ◌<◌, ◌≤◌, Bool,
 use Rattle.std.specs.List.{AllByRecursion}
 use Rattle.std.proofs.lemmas.Bool.{cond_both, cases_Bool}
 use Rattle.fw_time.specs.Stamp.{Stamp, leq, same}
+use Rattle.fw_time.proofs.EachLaws.{each-weaker}
+use Rattle.fw_time.proofs.StampLaws.{leq-refl}
 use Rattle.std.specs.Ordering.{is_eq}
 use Rattle.fw_bag.specs.declared.rec.Rec.{Rec}
 use Rattle.fw_bag.specs.Rec.{rec_cmp}
@@ -19,8 +21,6 @@ use Rattle.fw_flow.specs.WellFormed.{IsWellFormed, IsInDegree}
 use Rattle.fw_flow.specs.WholeBags.{Timed, recs_where, outputs_of_kind, together}
 use Rattle.fw_model.specs.History.{was_delivered_to, was_notified, owed, delivered, IsLegal}
 use Rattle.fw_model.specs.LawsOfLegalHistories.{HasEpochs}
-use Rattle.fw_model.proofs.EachLaws.{each-weaker}
-use Rattle.fw_model.proofs.StampLaws.{leq-refl}
 use Rattle.fw_model.proofs.WeightLaws.{weigh, weigh-same, weigh-lighter, weigh-equal, how_often-where, one, at_stamp}
 use Rattle.fw_model.proofs.SentLaws.{timed_of, timed_message}
 use Rattle.fw_model.proofs.ArrivalLaws.{at_edge, in_edges-once, in_edges-receive, deliveries, deliveries-weigh, together-weigh}
@@ -31,9 +31,6 @@ use Rattle.fw_model.proofs.SumLaws.{AreSameBags, sums-same, sum-outputs, total-o
 use Rattle.fw_model.proofs.NotifiedLaws.{sends_sums, sums-sent, none_came}
 use Rattle.fw_model.proofs.LedgerLaws.{AreNumbered, numbered-timed, ledger-sent, totals-same}
 use Rattle.fw_model.proofs.ClosedLaws.{numbered-ascend}
-
-two_ways : (b : Bool) → b ≡ true → b ≡ false → ⊥
-two_ways b p q = cc
 
 -- whether a node of the kind sends at the deliveries, and more where more came
 abbrev pub sends_at_once : Kind → Bool

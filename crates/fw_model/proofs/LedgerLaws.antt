@@ -4,6 +4,8 @@ use Rattle.std.specs.Prelude.{filter}
 use Rattle.std.specs.Ordering.{is_eq}
 use Rattle.std.proofs.lemmas.Bool.{cond-true, cases_Bool, eq-eqb, lt-leb}
 use Rattle.fw_time.specs.Stamp.{Stamp, leq, same}
+use Rattle.fw_time.proofs.StampLaws.{leq-refl}
+use Rattle.fw_time.proofs.EachLaws.{each-one}
 use Rattle.fw_bag.specs.declared.rec.Rec.{Rec}
 use Rattle.fw_bag.specs.Rec.{rec_cmp}
 use Rattle.fw_bag.specs.Keyed.{plus, value_sum}
@@ -15,12 +17,11 @@ use Rattle.fw_flow.specs.Dataflow.{System, kind_of}
 use Rattle.fw_flow.specs.NodeFunction.{delivered_recs, sends_of_kind, sends, sent_by}
 use Rattle.fw_flow.specs.WholeBags.{Timed, recs_where, running_totals}
 use Rattle.fw_model.specs.LawsOfDeliveries.{AreNumberedInOrder}
-use Rattle.fw_model.proofs.StampLaws.{leq-refl, line-leq}
-use Rattle.fw_model.proofs.WeightLaws.{weigh, weigh-map, weigh-same, weigh-equal, one, one-out, at_stamp, same-is}
+use Rattle.fw_model.proofs.StampLaws.{line-leq, same-is}
+use Rattle.fw_model.proofs.WeightLaws.{weigh, weigh-map, weigh-same, weigh-equal, one, one-out, at_stamp}
 use Rattle.fw_model.proofs.SentLaws.{timed_of, timed_message}
 use Rattle.fw_model.proofs.ArrivalLaws.{deliveries}
 use Rattle.fw_model.proofs.InputLaws.{sent-weigh}
-use Rattle.fw_model.proofs.JoinLaws.{each_elem}
 use Rattle.fw_model.proofs.SumLaws.{AreSameBags, value_sum-same}
 
 -- ---- numbered recs
@@ -126,7 +127,7 @@ totals-weigh : (t : Stamp) (x : Rec) (rs : List Timed) → weigh (one t x) (runn
 totals-weigh t x rs =
     weigh-map (one t x) (total_in rs) rs
     ∙ weigh-same (λ r. one t x (total_in rs r)) (total_at t x (recs_where (λ s. leq s t) rs)) rs
-    (each_elem (λ r. one t x (total_in rs r) ≡ total_at t x (recs_where (λ s. leq s t) rs) r) each rs)
+    (each-one (λ r. one t x (total_in rs r) ≡ total_at t x (recs_where (λ s. leq s t) rs) r) rs each)
   where
     each : (r : Timed) → one t x (total_in rs r) ≡ total_at t x (recs_where (λ s. leq s t) rs) r
     each r = elim (cases_Bool (same t r.at)) [
@@ -154,8 +155,7 @@ totals-same t x xs ys f g =
     let vs = recs_where (λ s. leq s t) ys in
     totals-weigh t x xs
     ∙ weigh-same (total_at t x us) (total_at t x vs) xs
-    (each_elem (λ r. total_at t x us r ≡ total_at t x vs r)
-    (λ r. ap (λ n. one t x (record { at = r.at; rec = record { key = r.rec.key; value = n } })) (value_sum-same r.rec.key us vs f)) xs)
+    (each-one (λ r. total_at t x us r ≡ total_at t x vs r) xs (λ r. ap (λ n. one t x (record { at = r.at; rec = record { key = r.rec.key; value = n } })) (value_sum-same r.rec.key us vs f)))
     ∙ weigh-equal (total_at t x vs) xs ys
     (λ u q l. subst (λ s. weigh (one s q) xs ≡ weigh (one s q) ys) (total_at-stamp t x vs (at_stamp u q) l) (g q))
     ∙ sym (totals-weigh t x ys)

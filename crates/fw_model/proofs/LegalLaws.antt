@@ -4,12 +4,14 @@ use Rattle.std.specs.declared.cmp.Ordering.{Ordering}
 use Rattle.std.specs.declared.cmp.Ordering.TheVariants.{Less, Equal, Greater}
 use Rattle.std.specs.Ordering.{is_eq, ordering_then}
 use Rattle.std.specs.List.{AllByRecursion}
-use Rattle.std.proofs.lemmas.Bool.{and_parts, and_from, or_cases, cond_both, eqb-true, cases_lt}
+use Rattle.std.proofs.lemmas.Bool.{and_parts, and_from, or_cases, cond_both, eqb-true, cases_lt, both_ways}
 use Rattle.std.proofs.lemmas.List.{get_or_past}
 use Rattle.std.proofs.lemmas.Map.Text.{is_eq-slice_cmp}
 use Rattle.std.proofs.lemmas.Slice.Eq.{bytes_eq-Decides}
 use Rattle.fw_bag.specs.declared.rec.Rec.{Rec}
 use Rattle.fw_time.specs.Stamp.{Stamp, leq, same, stamp_cmp, in_domain}
+use Rattle.fw_time.proofs.EachLaws.{each-weaker, each-append}
+use Rattle.fw_time.proofs.StampLaws.{leq-trans}
 use Rattle.fw_flow.specs.declared.event.Event.{Event}
 use Rattle.fw_flow.specs.declared.event.Event.TheVariants.{Inject, Deliver, Notify}
 use Rattle.fw_flow.specs.declared.event.Message.{Message}
@@ -23,8 +25,7 @@ use Rattle.fw_model.specs.History.{message_cmp, is_among, without, less, sent, d
 use Rattle.fw_model.specs.LawsOfProjections.{bounds_of_edge}
 use Rattle.fw_model.specs.LawsOfSending.{AreEventsInDomain}
 use Rattle.fw_model.specs.LawsOfLegalHistories.{HasEpochs, LegalEventsAreInDomain, LegalMessagesAreInDomain, OnlyInputsInject}
-use Rattle.fw_model.proofs.EachLaws.{each-weaker, each-append}
-use Rattle.fw_model.proofs.StampLaws.{leq-trans, line-leq}
+use Rattle.fw_model.proofs.StampLaws.{line-leq}
 use Rattle.fw_model.proofs.SendingLaws.{send_stamp_of_kind-in_domain}
 use Rattle.fw_model.proofs.SendsLaws.{IsAt, sends_of_kind-each}
 
@@ -187,10 +188,7 @@ pub only_inputs_inject : OnlyInputsInject
 only_inputs_inject sys [] l p k = refl
 only_inputs_inject sys (Inject s x ∷ h) l p k =
     cond_both (s == p) (injected_count p h + 1) (injected_count p h) (λ n. n ≡ 0)
-    (λ e. absurd (two_ways _ (sym (ap (λ q. is_input_kind (kind_of sys.flow q)) (eqb-true s p e)) ∙ l.0.input) k))
+    (λ e. absurd (both_ways _ k (sym (ap (λ q. is_input_kind (kind_of sys.flow q)) (eqb-true s p e)) ∙ l.0.input)))
     (λ e. only_inputs_inject sys h l.1 p k)
-  where
-    two_ways : (b : Bool) → b ≡ true → b ≡ false → ⊥
-    two_ways b p q = cc
 only_inputs_inject sys (Deliver e m ∷ h) l p k = only_inputs_inject sys h l.1 p k
 only_inputs_inject sys (Notify q t ∷ h) l p k = only_inputs_inject sys h l.1 p k

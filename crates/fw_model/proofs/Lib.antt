@@ -19,7 +19,6 @@ pub mod DependenceLaws
 pub mod DescentLaws
 pub mod DistinctLaws
 pub mod DomainLaws
-pub mod EachLaws
 pub mod EnabledLaws
 pub mod EventSteps
 pub mod FilterLaws

@@ -1,10 +1,12 @@
 -- What the events inside a frontier send does not depend on those outside.
 use Rattle.std.proofs.Common.{◌≡◌, ℕ, zero, suc, ◌+◌, ◌<◌, ◌≤◌, Bool, true, false, cond, not, ◌&&◌, ◌||◌, ◌==◌, List, [], ◌∷◌, ◌++◌, length, length-append, get_or, refl, sym, ap, subst, ◌∙◌, inl, inr, arith}
 use Rattle.std.specs.List.{AllByRecursion, list_any}
-use Rattle.std.proofs.lemmas.Bool.{and_parts, and_from, and_left, or_cases, or_left, or_right, cond_both, cases_Bool, cases_lt, eqb-true, eq-eqb}
+use Rattle.std.proofs.lemmas.Bool.{and_parts, or_cases, or_left, or_right, cond_both, cases_Bool, cases_lt, eqb-true, eq-eqb}
 use Rattle.std.proofs.lemmas.List.{get_or_past}
 use Rattle.std.proofs.lemmas.List.Elements.{filter-append}
 use Rattle.fw_time.specs.Stamp.{Stamp, leq, same, in_domain}
+use Rattle.fw_time.proofs.EachLaws.{each-weaker, each-one}
+use Rattle.fw_time.proofs.StampLaws.{leq-trans}
 use Rattle.fw_bag.specs.Keyed.{joined, distinct_keys, sums_of, is_among, sorted}
 use Rattle.fw_frontier.specs.Frontier.{Frontier, IsFrontier, Within}
 use Rattle.fw_flow.specs.declared.event.Event.{Event}
@@ -22,13 +24,12 @@ use Rattle.fw_model.specs.LawsOfSending.{notified_stamps, AreDescending}
 use Rattle.fw_model.specs.LawsOfLegalHistories.{HasEpochs}
 use Rattle.fw_model.specs.LawsOfFiltering.{AreFrontiers, kept_events, events_inside, messages_from, messages_inside, KeptEventsSendTheSame, KeptEventsSendTheSameFromWithin, KeptEventsDeliverTheSame, PhiOfKeptEvents}
 use Rattle.fw_model.proofs.Decisions.{two_ways}
-use Rattle.fw_model.proofs.EachLaws.{each-weaker}
-use Rattle.fw_model.proofs.StampLaws.{leq-trans, leq_from, leq_to, line-leq}
-use Rattle.fw_model.proofs.OutputLaws.{same-is}
-use Rattle.fw_model.proofs.FilterLaws.{filter-in, filter-out, filter-inner, filter-all, filter-none, filter-swap, how_many-filter, flat_map-filter, each-one}
+use Rattle.fw_model.proofs.StampLaws.{leq_from, leq_to, line-leq, same-is}
+use Rattle.fw_model.proofs.FilterLaws.{filter-in, filter-out, filter-inner, filter-all, filter-none, filter-swap, how_many-filter, flat_map-filter}
 use Rattle.fw_model.proofs.SendsLaws.{IsAt, sends_of_kind-each}
-use Rattle.fw_model.proofs.SequenceLaws.{IsNumbered, numbered-each}
+use Rattle.fw_model.proofs.SequenceLaws.{IsNumbered, numbered-each, one_inside}
 use Rattle.fw_model.proofs.OrderLaws.{sequences-in_order}
+use Rattle.fw_model.proofs.PhiLaws.{all_inside-monotone}
 
 -- with the stamp each lesser one is inside
 abbrev IsInsideUpTo : Frontier → Stamp → Type 0
@@ -129,10 +130,6 @@ pub sends-causes : (sys : System) (p : ℕ) (vs : List Event) (v : Event) → Al
 unfolding sends
 sends-causes sys p vs v = causes_of_kind sys (kind_of sys.flow p) vs v
 
-pub one_cause : (f : Frontier) (t : Stamp) (m : Message) (b : Bool) → f t ≡ b → m.causes ≡ t ∷ [] → all_inside f m.causes ≡ b
-one_cause f t m true k e = ap (all_inside f) e ∙ and_from (f t) true k refl
-one_cause f t m false k e = ap (all_inside f) e ∙ and_left (f t) true k
-
 -- the kept part of what an event sends: all if it is inside, and else nothing
 sent_by-kept : (sys : System) (p : ℕ) (f : Frontier) → IsFrontier (bounds_of sys.flow p) f → (vs : List Event) → IsInOrder (kind_of sys.flow p) vs
     → sent_by sys p (events_inside f vs) ≡ messages_from f (sent_by sys p vs)
@@ -147,14 +144,14 @@ sent_by-kept sys p f fr (v ∷ vs) o =
           let top = fr.inside_domain (stamp v) i in
           let below : IsInsideUpTo f (stamp v) = λ s l. fr.closed s (stamp v) (leq-trans s (stamp v) (bounds_of sys.flow p).greatest l top) l i in
           let all = filter-all (λ (m : Message). all_inside f m.causes) now
-          (each-weaker (λ (m : Message). m.causes ≡ stamp v ∷ []) (λ m. all_inside f m.causes ≡ true) now (λ m e. one_cause f (stamp v) m true i e) (sends-causes sys p vs v)) in
+          (each-weaker (λ (m : Message). m.causes ≡ stamp v ∷ []) (λ m. all_inside f m.causes ≡ true) now (λ m e. one_inside f (stamp v) m true i e) (sends-causes sys p vs v)) in
           ap (sent_by sys p) (filter-in (λ w. f (stamp w)) v vs i)
           ∙ ap (λ ms. ms ++ sent_by sys p (events_inside f vs)) (sends_of_kind-local sys (kind_of sys.flow p) f vs v below i o.0)
           ∙ ap (λ ms. now ++ ms) rest
           ∙ sym (parts ∙ ap (λ ms. ms ++ messages_from f (sent_by sys p vs)) all)
       | inr i ↦
           let none = filter-none (λ (m : Message). all_inside f m.causes) now
-          (each-weaker (λ (m : Message). m.causes ≡ stamp v ∷ []) (λ m. all_inside f m.causes ≡ false) now (λ m e. one_cause f (stamp v) m false i e) (sends-causes sys p vs v)) in
+          (each-weaker (λ (m : Message). m.causes ≡ stamp v ∷ []) (λ m. all_inside f m.causes ≡ false) now (λ m e. one_inside f (stamp v) m false i e) (sends-causes sys p vs v)) in
           ap (sent_by sys p) (filter-out (λ w. f (stamp w)) v vs i) ∙ rest ∙ sym (parts ∙ ap (λ ms. ms ++ messages_from f (sent_by sys p vs)) none)
     ]
 
@@ -334,18 +331,12 @@ delivers-same flow (v ∷ h) keep e =
         cond_both (d == e) (m ∷ []) [] (λ ms. messages_inside (keep (receiver flow e)) ms ≡ [])
         (λ c. filter-out (λ (x : Message). keep (receiver flow e) x.at) m [] (at_edge d m c ∙ i)) (λ c. refl)
 
-all_inside-wider : (f g : Frontier) → Within f g → (cs : List Stamp) → all_inside f cs ≡ true → all_inside g cs ≡ true
-all_inside-wider f g w [] k = refl
-all_inside-wider f g w (c ∷ cs) k =
-    let a = and_parts (f c) (all_inside f cs) k in
-    and_from (g c) (all_inside g cs) (w c a.0) (all_inside-wider f g w cs a.1)
-
 pub sends-same_within : KeptEventsSendTheSameFromWithin
 sends-same_within sys h keep w b l fr e g i =
     let f = keep (sender sys.flow e) in
     ap (messages_from g) (sends-same sys h keep w b l fr e)
     ∙ filter-inner (λ (m : Message). all_inside g m.causes) (λ m. all_inside f m.causes) (sent sys h e)
-    (each-one (λ (m : Message). all_inside g m.causes ≡ true → all_inside f m.causes ≡ true) (sent sys h e) (λ m k. all_inside-wider g f i m.causes k))
+    (each-one (λ (m : Message). all_inside g m.causes ≡ true → all_inside f m.causes ≡ true) (sent sys h e) (λ m k. all_inside-monotone g f i m.causes k))
 
 pub sent_count-same : (sys : System) (h : List Event) (keep : ℕ → Frontier) → IsWellFormed sys.flow → HasEpochs sys → IsLegal sys h → AreFrontiers sys.flow keep
     → (p : ℕ) (g : Frontier) → Within g (keep p) → sent_count sys (kept_events sys.flow keep h) p g ≡ sent_count sys h p g
@@ -353,7 +344,7 @@ sent_count-same sys h keep w b l fr p g i =
     let ms = sent_by sys p (events_at sys.flow p h) in
     ap (count_from g) (sent_by-same sys h keep w b l fr p)
     ∙ how_many-filter (λ (m : Message). all_inside g m.causes) (λ m. all_inside (keep p) m.causes) ms
-    (each-one (λ m. all_inside g m.causes ≡ true → all_inside (keep p) m.causes ≡ true) ms (λ m k. all_inside-wider g (keep p) i m.causes k))
+    (each-one (λ m. all_inside g m.causes ≡ true → all_inside (keep p) m.causes ≡ true) ms (λ m k. all_inside-monotone g (keep p) i m.causes k))
 
 pub phi-same : PhiOfKeptEvents
 unfolding phi

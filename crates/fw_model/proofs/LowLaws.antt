@@ -1,15 +1,16 @@
 -- The low watermark stays a consistent choice at each step.
 use Rattle.std.proofs.Common.{◌≡◌, ℕ, zero, suc, ◌+◌, ◌<◌, ◌≤◌, Bool, true, false, cond, not, ◌&&◌, ◌==◌, List, [], ◌∷◌, ◌++◌, length, filter, map, slice_index_or, slice_set, refl, sym, ap, subst, ◌∙◌, inl, inr, arith}
-use Rattle.std.specs.List.{AllByRecursion, list_all}
+use Rattle.std.specs.List.{AllByRecursion}
 use Rattle.std.proofs.lemmas.Bool.{and_parts, and_from, or_parts, or_left, or_right, cond_both, cases_lt, eqb-true, eq-eqb, false_from_ne_true}
 use Rattle.std.proofs.lemmas.List.{get_or-map, length-map}
 use Rattle.std.proofs.lemmas.List.FromFn.{get_or-map-range_with_len, length-map-range_with_len}
 use Rattle.fw_time.specs.Stamp.{Stamp, leq, same, in_domain, origin}
 use Rattle.fw_time.specs.declared.stamp.Bounds.{Bounds}
+use Rattle.fw_time.proofs.EachLaws.{each-weaker, each-both, all-of_each}
 use Rattle.fw_frontier.specs.Frontier.{Frontier, Within, nothing, cover}
 use Rattle.fw_frontier.specs.Front.{Front, inside, frontier_of, IsCanonical}
 use Rattle.fw_frontier.proofs.CanonicalLaws.{in_domain-canonical}
-use Rattle.fw_frontier.proofs.NamesLaws.{names-nothing}
+use Rattle.fw_frontier.proofs.NamesLaws.{names-nothing, all-outside}
 use Rattle.fw_flow.specs.declared.choice.Cut.{Cut}
 use Rattle.fw_flow.specs.declared.choice.Cut.TheVariants.{Present, At}
 use Rattle.fw_flow.specs.declared.event.Event.{Event}
@@ -30,9 +31,7 @@ use Rattle.fw_model.specs.LawsOfLegalHistories.{HasEpochs}
 use Rattle.fw_model.specs.LawsOfFiltering.{IsFull, AreFrontiers, kept_events}
 use Rattle.fw_model.specs.LawsOfChoosing.{low_choice}
 use Rattle.fw_model.proofs.Decisions.{two_ways}
-use Rattle.fw_model.proofs.EachLaws.{each-weaker, each-both}
-use Rattle.fw_model.proofs.StampLaws.{leq-refl, line-leq, leq-line}
-use Rattle.fw_model.proofs.OutputLaws.{same-refl}
+use Rattle.fw_model.proofs.StampLaws.{line-leq, leq-line, same-refl}
 use Rattle.fw_model.proofs.WeightLaws.{weigh}
 use Rattle.fw_model.proofs.CmpLaws.{among-each}
 use Rattle.fw_model.proofs.ArrivalLaws.{at_edge, in_edges-once}
@@ -358,27 +357,14 @@ within-set sys p f (At g) k t i = k t i
 
 -- ---- a recovery
 
--- the outside stamps of a front are outside
-outside-each : (g : Front) → AllByRecursion (λ o. inside g o ≡ false) g
-outside-each [] = tt
-outside-each (o ∷ os) = (
-  ap (λ b. not b && inside os o) (leq-refl o),
-  each-weaker (λ q. inside os q ≡ false) (λ q. inside (o ∷ os) q ≡ false) os
-      (λ q e. false_from_ne_true (inside (o ∷ os) q) (λ k. two_ways (inside os q) (and_parts (not (leq o q)) (inside os q) k).1 e)) (outside-each os),
-)
-
-all-each : (test : Stamp → Bool) (xs : List Stamp) → AllByRecursion (λ x. test x ≡ true) xs → list_all test xs ≡ true
-all-each test [] a = refl
-all-each test (x ∷ xs) a = and_from (test x) (list_all test xs) a.0 (all-each test xs a.1)
-
 -- a front within a canonical one passes the test
 pub within-is : (b : Bounds) (f g : Front) → IsCanonical b g → Within (frontier_of b f) (frontier_of b g) → is_within f g ≡ true
 within-is b f g c w =
-    all-each (λ o. not (inside f o)) g
+    all-of_each (λ o. not (inside f o)) g
     (each-weaker (λ o. (in_domain b o ≡ true) × (inside g o ≡ false)) (λ o. not (inside f o) ≡ true) g
     (λ o a. ap not (false_from_ne_true (inside f o) (λ k.
     two_ways (inside g o) (and_parts (in_domain b o) (inside g o) (w o (and_from (in_domain b o) (inside f o) a.0 k))).1 a.1)))
-    (each-both (λ o. in_domain b o ≡ true) (λ o. inside g o ≡ false) g (in_domain-canonical b g c) (outside-each g)))
+    (each-both (λ o. in_domain b o ≡ true) (λ o. inside g o ≡ false) g (in_domain-canonical b g c) (all-outside g)))
 
 -- a checkpoint within a cut that is offered is kept
 checkpoint-kept : (sys : System) (state : Machine) (lost : ℕ → Bool) (view : View) (h : List Numbered) (p : ℕ) (f : Front) (low : List Front) (cut : Cut)

@@ -1,8 +1,8 @@
 -- The measure of a stamp at a node: by the rank of loops, then the counter, then the rank within rounds.
-use Rattle.std.proofs.Common.{◌≡◌, ◌⊎◌, ℕ, ◌+◌, ◌*◌, ◌<◌, ◌≤◌, min, Bool, nat_le, true, false, [], ◌∷◌, length, Some, refl, sym, ap, ◌∙◌, inl, inr, arith}
-use Rattle.std.proofs.lemmas.Bool.{and_parts}
+use Rattle.std.proofs.Common.{◌≡◌, ◌⊎◌, ℕ, ◌+◌, ◌*◌, ◌<◌, ◌≤◌, min, Bool, true, false, [], ◌∷◌, length, Some, refl, sym, ap, ◌∙◌, inl, inr, arith}
 use Rattle.std.proofs.Math.Nat.{mul-le-mul_left, min-le_right}
 use Rattle.fw_time.specs.Stamp.{Stamp, leq, nest, outer, counter}
+use Rattle.fw_time.proofs.StampLaws.{counter-nest}
 use Rattle.fw_flow.specs.declared.kind.Domain.{Domain}
 use Rattle.fw_flow.specs.declared.kind.Domain.TheVariants.{Epoch, Number, Loop as InLoop}
 use Rattle.fw_flow.specs.declared.kind.Kind.{Kind}
@@ -12,7 +12,7 @@ use Rattle.fw_flow.specs.WellFormed.{IsWellFormed, IsLoopDeclared, is_feedback_k
 use Rattle.fw_flow.specs.Walks.{is_same_loop, is_looped, Ranks}
 use Rattle.fw_flow.proofs.Ranks.{ranks-exist}
 use Rattle.fw_model.specs.LawsOfDenotation.{enough_rounds, MeasureExists}
-use Rattle.fw_model.proofs.StampLaws.{counter-nest, leq-line}
+use Rattle.fw_model.proofs.StampLaws.{counter-leq}
 use Rattle.fw_model.proofs.SendingLaws.{some_is, fed_back-some}
 use Rattle.fw_model.proofs.OutputLaws.{is_local_kind}
 
@@ -87,15 +87,6 @@ raises flow (Leave l) s t d m k e = absurd (cc)
 raises flow Sequence s t d m k e = absurd (cc)
 raises flow (Regroup n) s t d m k e = absurd (cc)
 raises flow kind s t d m k e = inr (refl, keeps (domain_of_kind flow kind) s t e)
-
-counter-leq : (s t : Stamp) → leq s t ≡ true → counter s ≤ counter t
-counter-leq [] [] p = omega arith
-counter-leq [] (y ∷ t) p = absurd (cc)
-counter-leq (x ∷ s) [] p = absurd (cc)
-counter-leq (x ∷ []) (y ∷ []) p = leq-line x y p
-counter-leq (x ∷ []) (y ∷ w ∷ t) p = let a = and_parts (nat_le x y) false p in absurd (cc)
-counter-leq (x ∷ z ∷ s) (y ∷ []) p = let a = and_parts (nat_le x y) false p in absurd (cc)
-counter-leq (x ∷ z ∷ s) (y ∷ w ∷ t) p = counter-leq (z ∷ s) (w ∷ t) (and_parts (nat_le x y) (leq (z ∷ s) (w ∷ t)) p).1
 
 counter_in-leq : (d : Domain) (s t : Stamp) → leq s t ≡ true → counter_in d s ≤ counter_in d t
 counter_in-leq Epoch s t p = omega arith

@@ -1,8 +1,9 @@
 -- Phi of what is inside both of two frontiers, and of everything.
 use Rattle.std.proofs.Common.{◌≡◌, ℕ, zero, suc, ◌+◌, ◌-◌, ◌*◌, ◌<◌, ◌≤◌, min, Bool, true, false, ◌&&◌, ◌||◌, ◌==◌, nat_lt, [], ◌∷◌, refl, sym, ap, ◌∙◌, inl, inr, ◌⊎◌, arith}
-use Rattle.std.proofs.lemmas.Bool.{and_parts, and_from, or_left, or_right, cases_Bool, cases_lt}
+use Rattle.std.proofs.lemmas.Bool.{and_parts, and_from, or_left, or_right, cases_Bool, cases_lt, both_ways}
 use Rattle.std.proofs.Math.Nat.{min-le_right}
 use Rattle.fw_time.specs.Stamp.{Stamp, leq, nest, outer, counter, in_domain}
+use Rattle.fw_time.proofs.StampLaws.{leq-refl}
 use Rattle.fw_frontier.specs.Frontier.{Frontier, IsFrontier, Within, everything, meet}
 use Rattle.fw_flow.specs.declared.kind.Kind.{Kind}
 use Rattle.fw_flow.specs.declared.kind.Kind.TheVariants.{Enter, Feedback, Leave, Sequence, Regroup}
@@ -10,7 +11,7 @@ use Rattle.fw_flow.specs.Dataflow.{greatest_of_kind, System, kind_of, sender, ma
 use Rattle.fw_flow.specs.NodeFunction.{sent_by}
 use Rattle.fw_flow.specs.Projection.{events_at, sent_count, first_number_of, each_counter, phi_of_kind, phi}
 use Rattle.fw_model.specs.LawsOfProjections.{PhiOfMeet, PhiOfEverything}
-use Rattle.fw_model.proofs.StampLaws.{leq-refl, nest-leq, in_loop, leq_from, in_line, line-leq}
+use Rattle.fw_model.proofs.StampLaws.{nest-leq, in_loop, leq_from, in_line, line-leq}
 use Rattle.fw_model.proofs.PhiLaws.{phi_of_kind-monotone, count-monotone, phi-monotone}
 use Rattle.fw_model.proofs.PsiLaws.{same_tests}
 use Rattle.fw_model.proofs.SendingLaws.{each_counter-from}
@@ -29,13 +30,10 @@ ordered_up_to f g (suc m) = elim (ordered_up_to f g m) [
     | inl k ↦ inl (λ x h j. elim (cases_lt x m) [ inl l ↦ all x l j | inr l ↦ let e : m ≡ x = omega arith in sym (ap (λ y. g (y ∷ [])) e) ∙ k ])
     | inr k ↦ elim (cases_Bool (f (m ∷ []))) [
       | inl j ↦ inr (m, j, k)
-      | inr j ↦ inl (λ x h i. elim (cases_lt x m) [ inl l ↦ all x l i | inr l ↦ let e : m ≡ x = omega arith in absurd (two_ways _ (ap (λ y. f (y ∷ [])) e ∙ i) j) ])
+      | inr j ↦ inl (λ x h i. elim (cases_lt x m) [ inl l ↦ all x l i | inr l ↦ let e : m ≡ x = omega arith in absurd (both_ways _ j (ap (λ y. f (y ∷ [])) e ∙ i)) ])
     ]
   ]
 ]
-  where
-    two_ways : (b : Bool) → b ≡ true → b ≡ false → ⊥
-    two_ways b p q = cc
 
 pub one_within : (g : ℕ) (f k : Frontier) → IsFrontier (record { greatest = g ∷ [] }) f → IsFrontier (record { greatest = g ∷ [] }) k → Within f k ⊎ Within k f
 unfolding Ordered
@@ -47,13 +45,10 @@ one_within g f k ff fk = elim (ordered_up_to f k (suc g)) [
       (leq_from (v.0 ∷ []) t _ (sym v.1) (line-leq v.0 w.0 (below v.0 w.0 (sym (ap k v.1) ∙ i) w.2 (ff.inside_domain (w.0 ∷ []) w.1)))) w.1)
 ]
   where
-    two_ways : (b : Bool) → b ≡ true → b ≡ false → ⊥
-    two_ways b p q = cc
-
     below : (y x : ℕ) → k (y ∷ []) ≡ true → k (x ∷ []) ≡ false → leq (x ∷ []) (g ∷ []) ≡ true → y ≤ x
     below y x a b d = elim (cases_lt x y) [
       | inr l ↦ l
-      | inl l ↦ absurd (two_ways (k (x ∷ [])) (fk.closed (x ∷ []) (y ∷ []) d (line-leq x y (omega arith)) a) b)
+      | inl l ↦ absurd (both_ways (k (x ∷ [])) b (fk.closed (x ∷ []) (y ∷ []) d (line-leq x y (omega arith)) a))
     ]
 
 -- ---- meet

@@ -1,7 +1,9 @@
 -- Sum and total send, once they are notified of a stamp, what they send for all that came.
 use Rattle.std.proofs.Common.{◌≡◌, ℕ, Bool, true, false, cond, ◌&&◌, ◌||◌, ◌==◌, List, [], ◌∷◌, ◌++◌, Some, refl, sym, ap, subst, ◌∙◌, inl, inr, arith}
+use Rattle.std.proofs.Math.Bool.{and-false}
 use Rattle.std.proofs.lemmas.Bool.{and_parts, and_from, or_cases, or_parts, cond_both, cases_Bool, eqb-true}
 use Rattle.fw_time.specs.Stamp.{Stamp, leq, same}
+use Rattle.fw_time.proofs.StampLaws.{leq-refl}
 use Rattle.std.specs.Ordering.{is_eq}
 use Rattle.fw_bag.specs.declared.rec.Rec.{Rec}
 use Rattle.fw_bag.specs.Rec.{rec_cmp}
@@ -19,17 +21,15 @@ use Rattle.fw_flow.specs.WellFormed.{IsWellFormed}
 use Rattle.fw_flow.specs.WholeBags.{Timed}
 use Rattle.fw_model.specs.History.{is_notification, was_delivered_to, was_notified, IsEnabled, IsLegal}
 use Rattle.fw_model.specs.LawsOfLegalHistories.{HasEpochs}
-use Rattle.fw_model.proofs.StampLaws.{leq-refl}
-use Rattle.fw_model.proofs.WeightLaws.{weigh, one, one-out, same-is}
+use Rattle.fw_model.proofs.WeightLaws.{weigh, one, one-out}
 use Rattle.fw_model.proofs.SentLaws.{timed_of, timed_message}
 use Rattle.fw_model.proofs.ArrivalLaws.{deliveries}
 use Rattle.fw_model.proofs.InputLaws.{timed_of-messages_at_some, sent-weigh}
 use Rattle.fw_model.proofs.DistinctLaws.{same-swap}
 use Rattle.fw_model.proofs.JoinLaws.{weigh-timed}
 use Rattle.fw_model.proofs.ClosedLaws.{IsSettled, settled-outside, settled-step, settled-now}
-
-two_ways : (b : Bool) → b ≡ true → b ≡ false → ⊥
-two_ways b p q = cc
+use Rattle.fw_model.proofs.StampLaws.{same-is}
+use Rattle.fw_model.proofs.Decisions.{two_ways}
 
 -- whether a node of the kind sends sums of what came, once it is notified
 abbrev pub sends_sums : Kind → Bool
@@ -165,15 +165,11 @@ sums-step sys h w b l p k n (Notify q s) i c t x r =
           z ∙ ap (λ d. cond d (how_often x (recs_on_notification kind vs s)) 0) j ∙ ap (λ y. how_often x (recs_on_notification kind vs y)) (sym at) in
           a ∙ (omega (arith, f, g)) ∙ sym (ap (how_often x) u) ∙ sym (ap (λ d. cond d (how_often x (recs_on_notification kind (Notify q s ∷ vs) t)) 0) now)
       | inr j ↦
-          let other : is_notification p t (Notify q s) ≡ false = ap (λ d. q == p && d) (same-swap s t ∙ j) ∙ no (q == p) in
+          let other : is_notification p t (Notify q s) ≡ false = ap (λ d. q == p && d) (same-swap s t ∙ j) ∙ and-false (q == p) in
           let g : weigh (one t x) (timed_of (sends sys p vs (Notify q s))) ≡ 0 = z ∙ ap (λ d. cond d (how_often x (recs_on_notification kind vs s)) 0) j in
           a ∙ (omega (arith, g, r)) ∙ sym (ap (λ rs. cond (was_notified p t h) (how_often x rs) 0) u)
           ∙ sym (ap (λ d. cond (d || was_notified p t h) (how_often x (recs_on_notification kind (Notify q s ∷ vs) t)) 0) other)
     ]
-  where
-    no : (d : Bool) → (d && false) ≡ false
-    no true = refl
-    no false = refl
 
 not_notified : (flow : Dataflow) (p : ℕ) (t : Stamp) (v : Event) → (place flow v == p) ≡ false → is_notification p t v ≡ false
 not_notified flow p t (Inject s x) e = refl

@@ -1,8 +1,9 @@
 -- On a numbered edge the denotation has at most one rec at each number, and a numbered list of recs has one.
-use Rattle.std.proofs.Common.{◌≡◌, ℕ, ◌+◌, ◌<◌, ◌≤◌, Bool, true, false, cond, List, [], ◌∷◌, length, refl, sym, ap, subst, ◌∙◌, inl, inr, arith}
+use Rattle.std.proofs.Common.{◌≡◌, ℕ, ◌+◌, ◌<◌, ◌≤◌, true, false, cond, List, [], ◌∷◌, length, refl, sym, ap, subst, ◌∙◌, inl, inr, arith}
 use Rattle.std.specs.Ordering.{is_eq}
 use Rattle.std.proofs.lemmas.Bool.{and_parts, cases_Bool, cases_eq}
 use Rattle.fw_time.specs.Stamp.{Stamp, leq, same}
+use Rattle.fw_time.proofs.EachLaws.{each-one}
 use Rattle.fw_bag.specs.declared.rec.Rec.{Rec}
 use Rattle.fw_bag.specs.Rec.{rec_cmp}
 use Rattle.fw_bag.proofs.RecLaws.{rec_cmp-refl, is_eq-same}
@@ -13,14 +14,11 @@ use Rattle.fw_flow.specs.WholeBags.{Timed}
 use Rattle.fw_model.specs.Denotation.{Family, IsDenotation}
 use Rattle.fw_model.specs.LawsOfDenotation.{AreNumberedFrom}
 use Rattle.fw_model.proofs.NumberedLaws.{denotation-numbered}
-use Rattle.fw_model.proofs.StampLaws.{in_line}
-use Rattle.fw_model.proofs.WeightLaws.{weigh, weigh-lighter, one, one-in, one-out, is_at, is_at-is, is_at-self, same-is}
+use Rattle.fw_model.proofs.StampLaws.{in_line, same-is}
+use Rattle.fw_model.proofs.WeightLaws.{weigh, weigh-lighter, one, one-in, one-out, is_at, is_at-is, is_at-self}
 use Rattle.fw_model.proofs.ArrivalLaws.{weigh-both}
-use Rattle.fw_model.proofs.JoinLaws.{each_elem}
 use Rattle.fw_model.proofs.LedgerLaws.{AreNumbered}
-
-two_ways : (b : Bool) → b ≡ true → b ≡ false → ⊥
-two_ways b p q = cc
+use Rattle.fw_model.proofs.Decisions.{two_ways}
 
 -- 1 for a rec at this stamp, and else 0
 abbrev pub any_at : Stamp → Timed → ℕ
@@ -89,7 +87,7 @@ numbered-at (x ∷ xs) a t q l = elim (cases_Bool (is_at t q x)) [
 two_at : (t : Stamp) (q r : Rec) (xs : List Timed) → is_eq (rec_cmp q r) ≡ false → weigh (one t q) xs + weigh (one t r) xs ≤ weigh (any_at t) xs
 two_at t q r xs o =
     let a = weigh-both (one t q) (one t r) xs in
-    let b = weigh-lighter (λ x. one t q x + one t r x) (any_at t) xs (each_elem (λ x. one t q x + one t r x ≤ any_at t x) each xs) in
+    let b = weigh-lighter (λ x. one t q x + one t r x) (any_at t) xs (each-one (λ x. one t q x + one t r x ≤ any_at t x) xs each) in
     omega arith
   where
     each : (x : Timed) → one t q x + one t r x ≤ any_at t x
@@ -118,7 +116,7 @@ two_at t q r xs o =
     ]
 
 pub one-any : (t : Stamp) (q : Rec) (xs : List Timed) → weigh (one t q) xs ≤ weigh (any_at t) xs
-one-any t q xs = weigh-lighter (one t q) (any_at t) xs (each_elem (λ x. one t q x ≤ any_at t x) each xs)
+one-any t q xs = weigh-lighter (one t q) (any_at t) xs (each-one (λ x. one t q x ≤ any_at t x) xs each)
   where
     each : (x : Timed) → one t q x ≤ any_at t x
     each x = elim (cases_Bool (is_at t q x)) [

@@ -12,10 +12,11 @@ use Rattle.fw_flow.specs.declared.kind.Kind.TheVariants.{Select, Concat, Enter, 
 use Rattle.fw_flow.specs.Dataflow.{System, Dataflow, kind_of, send_stamp_of_kind}
 use Rattle.fw_flow.specs.NodeFunction.{sends_of_kind, sends, sent_by}
 use Rattle.fw_flow.specs.WholeBags.{Timed, timed, timed_at_some, recs_for_one, outputs_of_kind, together}
-use Rattle.fw_model.proofs.WeightLaws.{weigh, weigh-flat_map, weigh-less, one, one-out, at_stamp, same-is}
+use Rattle.fw_model.proofs.WeightLaws.{weigh, weigh-flat_map, weigh-less, one, one-out, at_stamp}
 use Rattle.fw_model.proofs.SentLaws.{timed_of}
 use Rattle.fw_model.proofs.ArrivalLaws.{deliveries}
 use Rattle.fw_model.proofs.InputLaws.{timed_of-messages_at_some, sent-weigh}
+use Rattle.fw_model.proofs.StampLaws.{same-is}
 
 -- whether a node of the kind sends for each rec alone, as it comes
 abbrev pub sends_one_by_one : Kind → Bool

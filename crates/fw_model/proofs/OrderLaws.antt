@@ -1,8 +1,11 @@
 -- In a legal history a sequence is notified in the order of stamps.
 use Rattle.std.proofs.Common.{◌≡◌, ℕ, Bool, true, false, not, ◌&&◌, ◌||◌, ◌==◌, List, [], ◌∷◌, Some, None, refl, sym, ap, ◌∙◌, inl, inr, ◌⊎◌, arith}
+use Rattle.std.proofs.Math.Bool.{and-false}
 use Rattle.std.specs.List.{AllByRecursion}
 use Rattle.std.proofs.lemmas.Bool.{and_parts, and_from, or_cases, or_left, or_right, cond_both, eqb-true, eq-eqb, cases_lt, cases_Bool}
 use Rattle.fw_time.specs.Stamp.{Stamp, leq, same, in_domain}
+use Rattle.fw_time.proofs.EachLaws.{each-weaker, each-both}
+use Rattle.fw_time.proofs.StampLaws.{leq-refl, leq-trans}
 use Rattle.fw_frontier.specs.Frontier.{Frontier, IsFrontier, Within, join}
 use Rattle.fw_flow.specs.declared.event.Event.{Event}
 use Rattle.fw_flow.specs.declared.event.Event.TheVariants.{Inject, Deliver, Notify}
@@ -17,17 +20,14 @@ use Rattle.fw_model.specs.LawsOfProjections.{bounds_of_edge}
 use Rattle.fw_model.specs.LawsOfSending.{ComesFromInside, notified_stamps, AreDescending}
 use Rattle.fw_model.specs.LawsOfLegalHistories.{HasEpochs}
 use Rattle.fw_model.specs.LawsOfCompleteFrontiers.{SequencesAreNotifiedInOrder, LegalInsidePhiComesFromInside}
-use Rattle.fw_model.proofs.EachLaws.{each-weaker, each-both}
-use Rattle.fw_model.proofs.StampLaws.{leq-refl, leq-trans, in_line, line-leq, leq_from, leq_to}
+use Rattle.fw_model.proofs.StampLaws.{in_line, line-leq, leq_from, leq_to}
 use Rattle.fw_model.proofs.PhiLaws.{phi-monotone, phi-longer}
 use Rattle.fw_model.proofs.FrontierLaws.{phi-frontier}
 use Rattle.fw_model.proofs.SendsLaws.{IsOfCause, sent_by-of_cause, inside_phi-from_inside}
 use Rattle.fw_model.proofs.SequenceLaws.{bounds-sequence, notified_in_domain, inside_phi_of_sequence-from_inside}
 use Rattle.fw_model.proofs.LegalLaws.{enabled-in_domain, legal-in_domain, legal_events-in_domain, only_inputs_inject, edge_domains}
-use Rattle.fw_model.proofs.CompleteLaws.{admissible-stays, sender_sorts}
-
-two_ways : (b : Bool) → b ≡ true → b ≡ false → ⊥
-two_ways b p q = cc
+use Rattle.fw_model.proofs.CompleteLaws.{admissible-stays, sender_sorts, not_owed-notified}
+use Rattle.fw_model.proofs.Decisions.{two_ways}
 
 -- ---- a family with a notified stamp in it
 
@@ -81,16 +81,8 @@ no_loop flow w e p is s r =
     cc d
 
 not_owed-same : (a b c d : Bool) → c ≡ true → (a && b && not (c || d)) ≡ false
-not_owed-same a b true d e = no (a && b)
-  where
-    no : (x : Bool) → (x && false) ≡ false
-    no true = refl
-    no false = refl
+not_owed-same a b true d e = and-false (a && b)
 not_owed-same a b false d e = cc
-
-not_owed-more : (a b c d : Bool) → (a && b && not d) ≡ false → (a && b && not (c || d)) ≡ false
-not_owed-more a b true d k = not_owed-same a b true d refl
-not_owed-more a b false d k = k
 
 pub raised-paid : (sys : System) (h : List Event) (p : ℕ) (t s : Stamp) → IsNotifiable sys h p t → leq s t ≡ true → owed sys (Notify p t ∷ h) p s ≡ false
 raised-paid sys h p t s k l =
@@ -99,7 +91,7 @@ raised-paid sys h p t s k l =
     let now = p == p && same t s in
     elim (cases_Bool (leq t s)) [
       | inl i ↦ not_owed-same kind came now (was_notified p s h) (and_from (p == p) (same t s) (eq-eqb p p refl) (and_from (leq t s) (leq s t) i l))
-      | inr i ↦ not_owed-more kind came now (was_notified p s h) (k.none_lesser s (and_from (leq s t) (not (leq t s)) l (ap not i)))
+      | inr i ↦ not_owed-notified kind came now (was_notified p s h) (k.none_lesser s (and_from (leq s t) (not (leq t s)) l (ap not i)))
     ]
 
 raised-quiet : (sys : System) (h : List Event) → IsWellFormed sys.flow → (p : ℕ) (t s : Stamp) → kind_of sys.flow p ≡ Sequence → IsNotifiable sys h p t

@@ -1,41 +1,21 @@
 -- What a node sends at a stamp is made of what came at the stamps that send there, but for the kinds that count or sum over stamps.
-use Rattle.std.proofs.Common.{◌≡◌, Bool, true, false, cond, ◌||◌, nat_le, List, [], ◌∷◌, ◌++◌, Option, Some, None, map, filter, refl, sym, ap, ◌∙◌, inl, inr, arith}
-use Rattle.std.proofs.lemmas.Bool.{cond_both, cond-true, cond-false, cases_Bool, and_parts, and_from, leb-true}
+use Rattle.std.proofs.Common.{◌≡◌, Bool, true, false, cond, ◌||◌, List, [], ◌∷◌, ◌++◌, Option, Some, None, map, filter, refl, sym, ap, ◌∙◌, inl, inr}
+use Rattle.std.proofs.lemmas.Bool.{cond_both, cond-true, cond-false, cases_Bool}
 use Rattle.std.proofs.lemmas.List.Elements.{filter-append}
 use Rattle.std.specs.List.{flat_map, list_any}
 use Rattle.std.specs.Ordering.{is_eq}
 use Rattle.fw_bag.specs.declared.rec.Rec.{Rec}
 use Rattle.fw_bag.specs.Keyed.{joined, distinct_keys, sums_of}
-use Rattle.fw_time.specs.Stamp.{Stamp, leq, same}
+use Rattle.fw_time.specs.Stamp.{Stamp, same}
 use Rattle.fw_flow.specs.declared.kind.Kind.{Kind}
 use Rattle.fw_flow.specs.declared.kind.Kind.TheVariants.{Input, OutputEpoch, OutputNumber, Distinct, Join, Sum, Total, Sequence, Ledger}
 use Rattle.fw_flow.specs.Dataflow.{Dataflow, send_stamp_of_kind}
 use Rattle.fw_flow.specs.WholeBags.{Timed, timed_cmp, recs_where, timed, timed_at_some, recs_for_one, one_by_one, is_among_timed, distinct_timed, joined_timed, has_stamp, distinct_stamps, sums_at, together, outputs_of_kind}
-use Rattle.fw_model.proofs.StampLaws.{leq-refl}
 use Rattle.fw_model.proofs.TimedLaws.{timed-same}
-
-two_ways : (b : Bool) → b ≡ true → b ≡ false → ⊥
-two_ways b p q = cc
+use Rattle.fw_model.proofs.StampLaws.{same-is}
+use Rattle.fw_model.proofs.Decisions.{two_ways}
 
 -- ---- stamps that are one
-
-pub leq-both : (s t : Stamp) → leq s t ≡ true → leq t s ≡ true → s ≡ t
-leq-both [] [] p q = refl
-leq-both [] (y ∷ t) p q = cc
-leq-both (x ∷ s) [] p q = cc
-leq-both (x ∷ s) (y ∷ t) p q =
-    let a = and_parts (nat_le x y) (leq s t) p in
-    let b = and_parts (nat_le y x) (leq t s) q in
-    let c = leb-true x y a.0 in
-    let d = leb-true y x b.0 in
-    let e : x ≡ y = omega arith in
-    ap (λ z. z ∷ s) e ∙ ap (λ u. y ∷ u) (leq-both s t a.1 b.1)
-
-pub same-is : (s t : Stamp) → same s t ≡ true → s ≡ t
-same-is s t e = let a = and_parts (leq s t) (leq t s) e in leq-both s t a.0 a.1
-
-pub same-refl : (s : Stamp) → same s s ≡ true
-same-refl s = and_from (leq s s) (leq s s) (leq-refl s) (leq-refl s)
 
 -- what is at a stamp of which another is the same is at that one
 same-through : (t u s : Stamp) → same t u ≡ true → same u s ≡ true → same t s ≡ true

@@ -5,6 +5,7 @@ use Rattle.std.proofs.lemmas.Bool.{cond_both, eqb-true, eq-eqb}
 use Rattle.std.proofs.lemmas.List.{map-append}
 use Rattle.std.proofs.lemmas.List.Elements.{filter-append}
 use Rattle.fw_time.specs.Stamp.{Stamp}
+use Rattle.fw_time.proofs.EachLaws.{each-one}
 use Rattle.fw_frontier.specs.Frontier.{Frontier, Within}
 use Rattle.fw_frontier.specs.Front.{Front, frontier_of}
 use Rattle.fw_flow.specs.declared.event.Event.{Event}
@@ -21,7 +22,7 @@ use Rattle.fw_model.specs.LawsOfLegalHistories.{HasEpochs}
 use Rattle.fw_model.specs.LawsOfFiltering.{AreFrontiers, kept_events, events_inside}
 use Rattle.fw_model.specs.LawsOfRestoring.{IsSamePart, CountsTheSame}
 use Rattle.fw_model.proofs.Decisions.{two_ways}
-use Rattle.fw_model.proofs.FilterLaws.{filter-out, filter-inner, flat_map-filter, each-one}
+use Rattle.fw_model.proofs.FilterLaws.{filter-out, filter-inner, flat_map-filter}
 use Rattle.fw_model.proofs.LocalityLaws.{events_at-kept, sends-same_within}
 use Rattle.fw_model.proofs.SameInsideLaws.{sent-outside, delivered-same, notified-same, discarded-same}
 

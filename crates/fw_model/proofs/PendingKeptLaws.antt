@@ -3,6 +3,8 @@ use Rattle.std.proofs.Common.{◌≡◌, ℕ, Bool, true, false, cond, not, List
 use Rattle.std.specs.List.{AllByRecursion}
 use Rattle.std.proofs.lemmas.Bool.{and_from, or_parts, or_left, or_right, cond_both, cond-false, cases_Bool, cases_lt, false_from_ne_true}
 use Rattle.fw_time.specs.Stamp.{Stamp, leq, same, in_domain}
+use Rattle.fw_time.proofs.EachLaws.{each-weaker, each-both, each-kept}
+use Rattle.fw_time.proofs.StampLaws.{leq-refl}
 use Rattle.fw_frontier.specs.Frontier.{Frontier, IsFrontier, everything, nothing, cover, some_above}
 use Rattle.fw_frontier.specs.Front.{frontier_of}
 use Rattle.fw_frontier.proofs.NamesLaws.{frontier-closed}
@@ -25,8 +27,6 @@ use Rattle.fw_model.specs.LawsOfSending.{SendsByStamp}
 use Rattle.fw_model.specs.LawsOfLegalHistories.{HasEpochs}
 use Rattle.fw_model.specs.LawsOfFiltering.{kept_events, messages_from, messages_inside, messages_outside, PendingAtKeptStamps, PendingAtOtherStamps, PendingForPresent, PendingForCut, NothingPendingWithoutLog}
 use Rattle.fw_model.proofs.Decisions.{two_ways}
-use Rattle.fw_model.proofs.EachLaws.{each-weaker, each-both}
-use Rattle.fw_model.proofs.StampLaws.{leq-refl}
 use Rattle.fw_model.proofs.LegalLaws.{less-each, edge_domains, legal_messages-in_domain}
 use Rattle.fw_model.proofs.CompleteLaws.{past_edges-idle, sender_sorts}
 use Rattle.fw_model.proofs.SendsLaws.{sent_from_inside-inside_psi}
@@ -52,10 +52,6 @@ all-rest k (x ∷ xs) n = elim (cases_Bool (k x)) [
   | inl e ↦ let some : x ∷ filter k xs ≡ [] = sym (filter-in k x xs e) ∙ n in absurd (cc some)
   | inr e ↦ filter-in (λ y. not (k y)) x xs (ap not e) ∙ ap (λ zs. x ∷ zs) (all-rest k xs (sym (filter-out k x xs e) ∙ n))
 ]
-
-each-filter : {X : Type 0} (P : X → Type 0) (k : X → Bool) (xs : List X) → AllByRecursion P xs → AllByRecursion P (filter k xs)
-each-filter P k [] a = tt
-each-filter P k (x ∷ xs) a = cond_both (k x) (x ∷ filter k xs) (filter k xs) (AllByRecursion P) (λ e. (a.0, each-filter P k xs a.1)) (λ e. each-filter P k xs a.1)
 
 -- ---- the two parts
 
@@ -99,8 +95,8 @@ pending-present sys state choice w b l c e is =
     let now = kept_events sys.flow keep h in
     let P : Message → Type 0 = λ m. in_domain (bounds_of sys.flow r) m.at ≡ true in
     let sent_before = sent-in_domain sys h w b l e in
-    let sent_now = subst (AllByRecursion P) (sym (sends-same sys h keep w b l k.kept e)) (each-filter P (λ m. all_inside f m.causes) (sent sys h e) sent_before) in
-    let before = each-filter P (λ m. all_inside f m.causes) (pending sys h e) (less-each P (sent sys h e) (delivered h e) sent_before) in
+    let sent_now = subst (AllByRecursion P) (sym (sends-same sys h keep w b l k.kept e)) (each-kept P (λ m. all_inside f m.causes) (sent sys h e) sent_before) in
+    let before = each-kept P (λ m. all_inside f m.causes) (pending sys h e) (less-each P (sent sys h e) (delivered h e) sent_before) in
     ap (λ vs. pending sys vs e) (filtered-events sys choice state.history)
     ∙ sym (present-all sys choice r (pending sys now e) is (less-each P (sent sys now e) (delivered now e) sent_now))
     ∙ pending-at_kept sys h keep w b l k.kept k.delivered e
@@ -128,7 +124,7 @@ pending-cut sys state choice w b l full c e within =
     let now = kept_events sys.flow keep h in
     let quiet = none-inside g (pending sys h e) (λ t i. full.quiet r t (within t i) e refl) in
     let none = filter-none (λ (m : Message). g m.at) (messages_from f (pending sys h e))
-    (each-filter (λ (m : Message). g m.at ≡ false) (λ m. all_inside f m.causes) (pending sys h e) quiet) in
+    (each-kept (λ (m : Message). g m.at ≡ false) (λ m. all_inside f m.causes) (pending sys h e) quiet) in
     ap (λ vs. pending sys vs e) (filtered-events sys choice state.history)
     ∙ sym (all-rest (λ (m : Message). g m.at) (pending sys now e) (pending-at_kept sys h keep w b l k.kept k.delivered e ∙ none))
     ∙ pending-at_others sys h keep w b l k.kept e

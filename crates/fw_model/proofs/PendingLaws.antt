@@ -4,9 +4,9 @@ use Rattle.std.specs.Ordering.{is_eq}
 use Rattle.std.specs.List.{AllByRecursion}
 use Rattle.std.proofs.lemmas.Bool.{and_from, or_cases, or_left, or_right, or_parts, or_from, cond_both, cond-true, cond-false, cases_Bool}
 use Rattle.fw_time.specs.Stamp.{Stamp, leq, same}
+use Rattle.fw_time.proofs.StampLaws.{leq-refl}
 use Rattle.fw_flow.specs.declared.event.Message.{Message}
 use Rattle.fw_model.specs.History.{message_cmp, is_among, without, less, some_at}
-use Rattle.fw_model.proofs.StampLaws.{leq-refl}
 use Rattle.fw_model.proofs.LegalLaws.{message_cmp-at}
 
 -- the messages at a stamp
@@ -20,10 +20,10 @@ part-in t m ms e = cond-true (same t m.at) (m ∷ part t ms) (part t ms) e
 part-out : (t : Stamp) (m : Message) (ms : List Message) → same t m.at ≡ false → part t (m ∷ ms) ≡ part t ms
 part-out t m ms e = cond-false (same t m.at) (m ∷ part t ms) (part t ms) e
 
-without-here : (d x : Message) (ms : List Message) → is_eq (message_cmp d x) ≡ true → without d (x ∷ ms) ≡ ms
+pub without-here : (d x : Message) (ms : List Message) → is_eq (message_cmp d x) ≡ true → without d (x ∷ ms) ≡ ms
 without-here d x ms e = cond-true (is_eq (message_cmp d x)) ms (x ∷ without d ms) e
 
-without-later : (d x : Message) (ms : List Message) → is_eq (message_cmp d x) ≡ false → without d (x ∷ ms) ≡ x ∷ without d ms
+pub without-later : (d x : Message) (ms : List Message) → is_eq (message_cmp d x) ≡ false → without d (x ∷ ms) ≡ x ∷ without d ms
 without-later d x ms e = cond-false (is_eq (message_cmp d x)) ms (x ∷ without d ms) e
 
 -- what is left of the messages at a stamp, when one message is taken away

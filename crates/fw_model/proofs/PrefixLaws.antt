@@ -5,6 +5,7 @@ use Rattle.std.proofs.Math.Nat.{add_comm}
 use Rattle.std.proofs.lemmas.Bool.{and_parts, and_from, or_cases, or_left, or_right, cond_both, cases_Bool, cases_lt, eqb-true, eq-eqb}
 use Rattle.std.proofs.lemmas.List.{get_or_past}
 use Rattle.fw_time.specs.Stamp.{Stamp, leq, same}
+use Rattle.fw_time.proofs.StampLaws.{leq-refl, leq-trans}
 use Rattle.fw_bag.specs.declared.rec.Rec.{Rec}
 use Rattle.fw_frontier.specs.Frontier.{Frontier}
 use Rattle.fw_flow.specs.declared.event.Event.{Event}
@@ -19,10 +20,9 @@ use Rattle.fw_model.specs.Denotation.{Family, IsDenotation, bag_at}
 use Rattle.fw_model.specs.History.{was_notified, sent, delivered, IsAdmissible, IsEnabled, IsNotifiable, IsLegal}
 use Rattle.fw_model.specs.LawsOfProjections.{bounds_of_edge}
 use Rattle.fw_model.specs.LawsOfDeliveries.{IsClosedFor, recs_at, SentInsidePhiIsDenoted, DeliveredInsideCompleteIsDenoted, DeliveredUpToClosedIsDenoted}
-use Rattle.fw_model.proofs.StampLaws.{leq-refl, leq-trans}
 use Rattle.fw_model.proofs.FrontierLaws.{phi-frontier}
 use Rattle.fw_model.proofs.LegalLaws.{enabled-in_domain, legal-in_domain}
-use Rattle.fw_model.proofs.WeightLaws.{weigh, weigh-append, how_often-where, one, same-is}
+use Rattle.fw_model.proofs.WeightLaws.{weigh, weigh-append, how_often-where, one}
 use Rattle.fw_model.proofs.SentLaws.{timed_of, quiet-delivered}
 use Rattle.fw_model.proofs.TimedLaws.{ascending-in_order}
 use Rattle.fw_model.proofs.TimedCounts.{bag-ascending, how_often-recs_at, sorted-is}
@@ -30,12 +30,12 @@ use Rattle.fw_model.proofs.ArrivalLaws.{deliveries}
 use Rattle.fw_model.proofs.InputLaws.{timed_of-append}
 use Rattle.fw_model.proofs.ClosedLaws.{settled-outside}
 use Rattle.fw_model.proofs.NotifiedLaws.{notified-settled}
-use Rattle.fw_model.proofs.SequencedLaws.{each_member, filter-none, filter-same, filter-parts, Precedes, numbered-append, numbered-messages, length-weigh, length-messages, block-is}
+use Rattle.fw_model.proofs.SequencedLaws.{each_member, filter-same, filter-parts, Precedes, numbered-append, numbered-messages, length-weigh, length-messages, block-is}
 use Rattle.fw_model.proofs.DomainLaws.{has_epochs}
 use Rattle.fw_model.proofs.DenotedLaws.{IsDenotedAt, IsSequenced, whole, is_numbered_in, whole-in_domain, ordered-member, comes_after, epochs_compare, came_as_denoted, paid-notified, delivered-denoted, sent-denoted}
-
-two_ways : (b : Bool) → b ≡ true → b ≡ false → ⊥
-two_ways b p q = cc
+use Rattle.fw_model.proofs.StampLaws.{same-is}
+use Rattle.fw_model.proofs.FilterLaws.{filter-none}
+use Rattle.fw_model.proofs.Decisions.{two_ways}
 
 -- inside phi of each admissible family what was sent is what the family has
 abbrev pub AllDenoted : System → List Event → Family → Type 0

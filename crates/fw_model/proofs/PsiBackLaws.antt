@@ -5,6 +5,7 @@ use Rattle.std.proofs.Math.Nat.{div-le_self, min-le_left, min-le_right, le-min}
 use Rattle.fw_time.specs.declared.stamp.Bounds.{Bounds}
 use Rattle.fw_time.specs.Stamp.{Stamp, leq, nest, outer, counter, in_domain}
 use Rattle.fw_time.specs.Sending.{entered, fed_back, left, regrouped}
+use Rattle.fw_time.proofs.StampLaws.{leq-refl, leq-trans}
 use Rattle.fw_frontier.specs.Frontier.{Frontier, IsFrontier}
 use Rattle.fw_flow.specs.declared.kind.Kind.{Kind}
 use Rattle.fw_flow.specs.declared.kind.Kind.TheVariants.{OutputEpoch, OutputNumber, Enter, Feedback, Leave, Sequence, Regroup}
@@ -12,7 +13,7 @@ use Rattle.fw_flow.specs.Dataflow.{System, kind_of, sender, max_of, greatest_num
 use Rattle.fw_flow.specs.Projection.{first_number_of, psi, psi_back_of_kind, psi_back}
 use Rattle.fw_model.specs.LawsOfProjections.{bounds_of_edge}
 use Rattle.fw_model.specs.LawsOfSending.{SendsByStamp, SendsWithin, PsiBackBySendStamps, PsiBackIsLargest}
-use Rattle.fw_model.proofs.StampLaws.{leq-refl, leq-trans, loop-leq, nest-leq, in_loop, leq_from, leq_to, in_line, line-leq, leq-line}
+use Rattle.fw_model.proofs.StampLaws.{loop-leq, nest-leq, in_loop, leq_from, leq_to, in_line, line-leq, leq-line}
 use Rattle.fw_model.proofs.SendingLaws.{some_is, fed_back-some, fed_back-nest, div-monotone, psi-by_stamp, send_stamp-in_domain}
 
 -- the domain with this greatest stamp

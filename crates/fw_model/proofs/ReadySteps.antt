@@ -1,12 +1,11 @@
 -- The least of the owed stamps of which a node may be notified is its next notice.
-use Rattle.std.proofs.Common.{◌≡◌, inl, inr, ℕ, ◌+◌, ◌<◌, Bool, true, false, not, ◌&&◌, ◌||◌, ◌==◌, cond, Option, Some, None, option_to_list, List, [], ◌∷◌, ◌++◌, length, reverse, take, get_or, MatchOption, refl, sym, ap, subst, ◌∙◌}
+use Rattle.std.proofs.Common.{◌≡◌, inl, inr, ℕ, Bool, true, false, not, ◌&&◌, ◌||◌, ◌==◌, cond, Option, Some, None, option_to_list, List, [], ◌∷◌, length, reverse, MatchOption, refl, sym, ap, subst, ◌∙◌}
 use Rattle.std.specs.List.{AllByRecursion, list_all, list_any}
-use Rattle.std.specs.Ordering.{is_le, is_gt, ordering_reverse}
-use Rattle.std.proofs.lemmas.Bool.{and_parts, and_from, or_cases, or_left, or_right, both_ways, cases_Bool, cond-true, cond-false, cases_lt, eqb-true}
-use Rattle.std.proofs.lemmas.Cmp.{tied_itself, upto}
-use Rattle.std.proofs.lemmas.List.{take_more}
+use Rattle.std.specs.Ordering.{is_gt}
+use Rattle.std.proofs.lemmas.Bool.{and_parts, and_from, or_cases, or_left, or_right, both_ways, cond-true, cases_lt, eqb-true, not-true, false_from_ne_true, true≢false}
 use Rattle.std.proofs.lemmas.List.Folds.{list_any-append}
 use Rattle.fw_time.specs.Stamp.{Stamp, leq, lesser, same, stamp_cmp, in_domain}
+use Rattle.fw_time.proofs.EachLaws.{each-append, each-of_all, all-of_each}
 use Rattle.fw_frontier.specs.Front.{Front, inside, frontier_of, Names}
 use Rattle.fw_frontier.proofs.InsideLaws.{inside-closed}
 use Rattle.fw_flow.specs.declared.event.Event.{Event}
@@ -15,74 +14,17 @@ use Rattle.fw_flow.specs.Dataflow.{System, Dataflow, kind_of, sender, receiver, 
 use Rattle.fw_flow.specs.Projection.{phi}
 use Rattle.fw_model.specs.History.{owed, is_delivery_to, is_notification, was_delivered_to, was_notified, IsComplete, IsNotifiable}
 use Rattle.fw_model.specs.Steps.{IsAsked, IsNextNotice}
-use Rattle.fw_model.specs.Least.{is_asked}
+use Rattle.fw_model.specs.Least.{is_asked, IsLeastBy}
 use Rattle.fw_model.specs.Clear.{pending_stamps, is_unnotified, owed_by, owed_stamps, lowered}
-use Rattle.fw_model.specs.Ready.{is_ready, lesser_of, IsLeastOf, IsLeast}
+use Rattle.fw_model.specs.Ready.{is_ready}
 use Rattle.fw_model.specs.Plain.{family_of, AreAtNodes}
-use Rattle.fw_model.proofs.StampLists.{each-of_all, all-of_each}
-use Rattle.fw_model.proofs.EachLaws.{each-weaker, each-append}
 use Rattle.fw_model.proofs.PhiLaws.{phi-monotone}
 use Rattle.fw_model.proofs.DescentLaws.{past_edges-receiver}
-use Rattle.fw_model.proofs.LeastSteps.{stamp_order, le_not_gt, gt_of, same-is, same-from, asked-is, asked-from}
-use Rattle.fw_model.proofs.ClearSteps.{any-reverse, in_edges-at, in_edges-from, quiet-inside, inside-quiet, not_true, fails, lies}
+use Rattle.fw_model.proofs.LeastSteps.{asked-is, asked-from}
+use Rattle.fw_model.proofs.ClearSteps.{any-reverse, in_edges-at, in_edges-from, quiet-inside, inside-quiet}
 use Rattle.fw_model.proofs.CompleteSteps.{not_past}
-
--- ---- the least one
-
-itself : (t : Stamp) → is_gt (stamp_cmp t t) ≡ false
-itself t = ap is_gt (tied_itself stamp_order t)
-
--- what does not come first comes after
-after : (s t : Stamp) → is_le (stamp_cmp s t) ≡ false → is_gt (stamp_cmp t s) ≡ false
-after s t h = ap is_gt (stamp_order.antisymm t s ∙ ap ordering_reverse (gt_of (stamp_cmp s t) h))
-
-there-last : (t : Stamp) (xs : List Stamp) → list_any (same t) (xs ++ t ∷ []) ≡ true
-there-last t xs = list_any-append (same t) xs (t ∷ []) ∙ or_right (list_any (same t) xs) (same t t || false) (or_left (same t t) false (same-from t t refl))
-
-there-before : (t x : Stamp) (xs : List Stamp) → list_any (same t) xs ≡ true → list_any (same t) (xs ++ x ∷ []) ≡ true
-there-before t x xs e = list_any-append (same t) xs (x ∷ []) ∙ or_left (list_any (same t) xs) (same t x || false) e
-
--- no stamp of these that passes comes before t
-NoneBefore : (Stamp → Bool) → Stamp → Stamp → Type 0
-NoneBefore test t other = test other ≡ true → is_gt (stamp_cmp t other) ≡ false
-
-new-least : (test : Stamp → Bool) (xs : List Stamp) (t : Stamp) → test t ≡ true → AllByRecursion (λ other. test other ≡ true → is_gt (stamp_cmp t other) ≡ false) xs
-    → IsLeastOf test (xs ++ t ∷ []) t
-new-least test xs t e a = record {
-  among = there-last t xs;
-  wanted = e;
-  least = each-append (λ other. test other ≡ true → is_gt (stamp_cmp t other) ≡ false) xs (t ∷ []) a ((λ k. itself t), tt);
-}
-
-old-least : (test : Stamp → Bool) (xs : List Stamp) (u t : Stamp) → IsLeastOf test xs u → (test t ≡ true → is_gt (stamp_cmp u t) ≡ false) → IsLeastOf test (xs ++ t ∷ []) u
-old-least test xs u t a k = record {
-  among = there-before u t xs a.among;
-  wanted = a.wanted;
-  least = each-append (λ other. test other ≡ true → is_gt (stamp_cmp u other) ≡ false) xs (t ∷ []) a.least (k, tt);
-}
-
-one_wanted : (test : Stamp → Bool) (xs : List Stamp) (o : Option Stamp) (t : Stamp) → test t ≡ true → IsLeast test xs o → IsLeastOf test (xs ++ t ∷ []) (lesser_of t o)
-one_wanted test xs None t e a = new-least test xs t e (each-weaker _ _ xs (λ x h k. absurd (both_ways (test x) h k)) a)
-one_wanted test xs (Some u) t e a = elim (cases_Bool (is_le (stamp_cmp t u))) [
-  | inl l ↦ subst (λ x. IsLeastOf test (xs ++ t ∷ []) x) (sym (cond-true (is_le (stamp_cmp t u)) t u l))
-      (new-least test xs t e (each-weaker _ _ xs (λ x h k. upto stamp_order t u x (le_not_gt (stamp_cmp t u) l) (h k)) a.least))
-  | inr l ↦ subst (λ x. IsLeastOf test (xs ++ t ∷ []) x) (sym (cond-false (is_le (stamp_cmp t u)) t u l)) (old-least test xs u t a (λ k. after t u l))
-]
-
-one_other : (test : Stamp → Bool) (xs : List Stamp) (o : Option Stamp) (t : Stamp) → test t ≡ false → IsLeast test xs o → IsLeast test (xs ++ t ∷ []) o
-one_other test xs None t e a = each-append (λ x. test x ≡ false) xs (t ∷ []) a (e, tt)
-one_other test xs (Some u) t e a = old-least test xs u t a (λ k. absurd (both_ways (test t) e k))
-
-pub least_more : (test : Stamp → Bool) (ts : List Stamp) (i : ℕ) (t new : Stamp) (o : Option Stamp) → i < length ts → t ≡ get_or ts i t → test t ≡ true
-    → new ≡ lesser_of t o → IsLeast test (take i ts) o → IsLeast test (take (i + 1) ts) (Some new)
-least_more test ts i t new o l is e n a =
-    subst (λ xs. IsLeastOf test xs new) (sym (take_more ts i t l ∙ ap (λ x. take i ts ++ x ∷ []) (sym is)))
-    (subst (λ x. IsLeastOf test (take i ts ++ t ∷ []) x) (sym n) (one_wanted test (take i ts) o t e a))
-
-pub least_same : (test : Stamp → Bool) (ts : List Stamp) (i : ℕ) (t : Stamp) (o : Option Stamp) → i < length ts → t ≡ get_or ts i t → test t ≡ false
-    → IsLeast test (take i ts) o → IsLeast test (take (i + 1) ts) o
-least_same test ts i t o l is e a =
-    subst (λ xs. IsLeast test xs o) (sym (take_more ts i t l ∙ ap (λ x. take i ts ++ x ∷ []) (sym is))) (one_other test (take i ts) o t e a)
+use Rattle.fw_model.proofs.StampLaws.{same-is, same-from}
+use Rattle.fw_model.proofs.CmpLaws.{each-among, stamp_cmp-same}
 
 -- ---- among the stamps of a list
 
@@ -218,16 +160,16 @@ ready-notifiable sys events p ts waiting arrived fronts asked t r o k =
     let left = and_parts (frontier_of b [] t) (list_all test (in_edges sys.flow p)) (sym (r.arrived_there.same t) ∙ and_from (in_domain b t) (inside arrived t) (owed-domain sys h p t r.at_nodes o) a.1) in (
       record {
         is_owed = o;
-        none_lesser = λ s l. fails (owed sys h p s) (λ j.
-            lies (sym (any_there (λ u. lesser u t) s ts (subst (λ xs. list_any (same s) xs ≡ true) (sym r.owed_there) (owed-there sys events p s j)) l)
-            ∙ not_true (list_any (λ u. lesser u t) ts) d.1));
+        none_lesser = λ s l. false_from_ne_true (owed sys h p s) (λ j.
+            true≢false (sym (any_there (λ u. lesser u t) s ts (subst (λ xs. list_any (same s) xs ≡ true) (sym r.owed_there) (owed-there sys events p s j)) l)
+            ∙ not-true (list_any (λ u. lesser u t) ts) d.1));
         quiet = λ s l. quiet-inside sys h p s (inside-closed (pending_stamps sys h p) s t l quiet_here);
         complete = (
           family,
           r.complete.admissible,
           λ e j. elim (cases_lt e (length sys.flow.edges)) [
             | inl l ↦ in_edges-at (λ d. test d ≡ true) sys.flow p (each-of_all test (in_edges sys.flow p) left.1) e l j
-            | inr l ↦ absurd (lies (sym o ∙ not_past sys h p t (ap (kind_of sys.flow) (sym j) ∙ past_edges-receiver sys.flow e l)))
+            | inr l ↦ absurd (true≢false (sym o ∙ not_past sys h p t (ap (kind_of sys.flow) (sym j) ∙ past_edges-receiver sys.flow e l)))
           ],
         );
       },
@@ -244,7 +186,7 @@ notifiable-ready sys events p ts waiting arrived fronts asked t r n q =
     let test : ℕ → Bool = λ e. phi sys h e (family (sender sys.flow e)) t in
     let none_owed : list_any (λ s. lesser s t) ts ≡ false = none_passes (λ s. lesser s t) ts
     (subst (AllByRecursion (λ s. lesser s t ≡ false)) (sym r.owed_there)
-    (owed-each (λ s. lesser s t ≡ false) sys.flow events p events (λ s k u. fails (lesser s t) (λ l. lies (sym (owed-from sys events p s k u) ∙ n.none_lesser s l))))) in
+    (owed-each (λ s. lesser s t ≡ false) sys.flow events p events (λ s k u. false_from_ne_true (lesser s t) (λ l. true≢false (sym (owed-from sys events p s k u) ∙ n.none_lesser s l))))) in
     let none_waiting : not (list_any (λ s. leq s t) waiting) ≡ true = inside-none waiting t ∙ subst (λ xs. inside xs t ≡ true) (sym r.waiting_there) (inside-quiet sys h p t n.quiet) in
     let done = n.complete.0 in
     let come : list_all test (in_edges sys.flow p) ≡ true = all-of_each test (in_edges sys.flow p) (in_edges-from (λ e. test e ≡ true) sys.flow p (λ e l j.
@@ -256,7 +198,7 @@ notifiable-ready sys events p ts waiting arrived fronts asked t r n q =
     (and_parts (in_domain b t) (inside arrived t) left).1
 
 pub notice_is : (sys : System) (events : List Event) (p : ℕ) (ts waiting : List Stamp) (arrived : Front) (fronts : List Front) (asked : Option Stamp) (o : Option Stamp)
-    → IsRead sys events p ts waiting arrived fronts → IsLeast (is_ready ts waiting arrived asked) ts o
+    → IsRead sys events p ts waiting arrived fronts → IsLeastBy stamp_cmp (is_ready ts waiting arrived asked) ts o
     → MatchOption o ((t : Stamp) → IsNextNotice sys (reverse events) p asked t → ⊥) (λ t. IsNextNotice sys (reverse events) p asked t)
 notice_is sys events p ts waiting arrived fronts asked None r a = λ t n.
     both_ways (is_ready ts waiting arrived asked t)
@@ -266,7 +208,7 @@ notice_is sys events p ts waiting arrived fronts asked (Some t) r a =
     let h = reverse events in
     let each : AllByRecursion (λ s. owed sys h p s ≡ true) ts = subst (AllByRecursion (λ s. owed sys h p s ≡ true)) (sym r.owed_there)
     (owed-each (λ s. owed sys h p s ≡ true) sys.flow events p events (λ s k u. owed-from sys events p s k u)) in
-    let n = ready-notifiable sys events p ts waiting arrived fronts asked t r (at_there (λ s. owed sys h p s ≡ true) t ts each a.among) a.wanted in
+    let n = ready-notifiable sys events p ts waiting arrived fronts asked t r (each-among stamp_cmp-same (λ s. owed sys h p s ≡ true) t ts a.among each) a.wanted in
     record {
       enabled = n.0;
       asked = n.1;

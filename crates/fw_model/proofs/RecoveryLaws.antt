@@ -6,6 +6,7 @@ use Rattle.std.proofs.lemmas.Bool.{and_parts, and_from, or_cases, or_from, cond_
 use Rattle.std.proofs.lemmas.List.{get_or_past}
 use Rattle.std.proofs.lemmas.List.FromFn.{get_or-map-range_with_len}
 use Rattle.fw_time.specs.Stamp.{Stamp, leq, same, in_domain}
+use Rattle.fw_time.proofs.EachLaws.{each-weaker, each-one}
 use Rattle.fw_bag.specs.declared.rec.Rec.{Rec}
 use Rattle.fw_bag.specs.Rec.{rec_cmp}
 use Rattle.fw_bag.specs.Bag.{how_often}
@@ -37,21 +38,21 @@ use Rattle.fw_model.specs.LawsOfFiltering.{messages_inside}
 use Rattle.fw_model.specs.LawsOfRuns.{IsDenotedEffect, IsDenoted}
 use Rattle.fw_model.specs.LawsOfRecoveries.{StepsKeepHistoriesLegal, RunsStayLegalThroughRecoveries, SettledStaysDenoted, DenotedIsFull, AcknowledgementsShowDenotationThroughRecoveries}
 use Rattle.fw_model.proofs.Decisions.{two_ways}
-use Rattle.fw_model.proofs.EachLaws.{each-weaker}
 use Rattle.fw_model.proofs.CompleteLaws.{past_edges-idle, not_owed-notified, not_owed-delivered}
 use Rattle.fw_model.proofs.LegalLaws.{less-each}
 use Rattle.fw_model.proofs.SendsLaws.{IsOfCause, sent_by-of_cause}
 use Rattle.fw_model.proofs.PrefixLaws.{delivered-is_denoted}
 use Rattle.fw_model.proofs.SubBagLaws.{sent-is_sub, delivered-is_sub}
-use Rattle.fw_model.proofs.OutputLaws.{same-is}
-use Rattle.fw_model.proofs.FilterLaws.{each-one, filter-inner}
+use Rattle.fw_model.proofs.FilterLaws.{filter-inner}
 use Rattle.fw_model.proofs.LocalityLaws.{delivers-same}
 use Rattle.fw_model.proofs.KeptLaws.{kept-owed}
 use Rattle.fw_model.proofs.FilteredLaws.{filtered-events, consistent-meets, filtered-legal}
 use Rattle.fw_model.proofs.WeightLaws.{weigh, one, one-in}
 use Rattle.fw_model.proofs.SentLaws.{timed_message, timed_of-weigh, less-weigh, delivered-was_sent}
 use Rattle.fw_model.proofs.TimedCounts.{how_often-recs_at}
-use Rattle.fw_model.proofs.RunLaws.{legal-takes, none-inside, delivered-to, same-test, epochs-of}
+use Rattle.fw_model.proofs.RunLaws.{legal-takes, none-inside, delivered-to, same-test}
+use Rattle.fw_model.proofs.StampLaws.{same-is}
+use Rattle.fw_model.proofs.DomainLaws.{has_epochs}
 
 -- ---- legal histories
 
@@ -293,7 +294,7 @@ all_kinds-denote sys family w u = record {
 
 pub settled-stays_denoted : SettledStaysDenoted
 settled-stays_denoted sys family w u steps outcomes last r =
-    let f = run-holds sys family w.flow (epochs-of sys w) (all_kinds-denote sys family w u) steps outcomes (first_state sys) last (first-holds sys family w.flow) r in
+    let f = run-holds sys family w.flow (has_epochs sys w) (all_kinds-denote sys family w u) steps outcomes (first_state sys) last (first-holds sys family w.flow) r in
     record { denoted = f.denoted; paid = f.paid }
 
 -- ---- acknowledgements
@@ -329,7 +330,7 @@ run-denoted sys family w p b (s ∷ ss) (o ∷ os) state last f r =
 
 pub acknowledged-denoted : AcknowledgementsShowDenotationThroughRecoveries
 acknowledged-denoted sys family w u steps outcomes last r =
-    run-denoted sys family w.flow (epochs-of sys w) (all_kinds-denote sys family w u) steps outcomes (first_state sys) last (first-holds sys family w.flow) r
+    run-denoted sys family w.flow (has_epochs sys w) (all_kinds-denote sys family w u) steps outcomes (first_state sys) last (first-holds sys family w.flow) r
 
 -- ---- denoted is full
 

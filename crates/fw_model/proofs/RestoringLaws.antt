@@ -1,9 +1,10 @@
 -- What a restoration needs is there, and what checkpoints hold stays true.
-use Rattle.std.proofs.Common.{◌≡◌, ℕ, ◌<◌, Bool, true, false, not, List, [], ◌∷◌, ◌++◌, length, refl, sym, ap, subst, ◌∙◌, inl, inr}
+use Rattle.std.proofs.Common.{◌≡◌, ℕ, ◌<◌, Bool, true, false, not, List, [], ◌∷◌, length, refl, sym, ap, subst, ◌∙◌, inl, inr}
 use Rattle.std.specs.List.{AllByRecursion}
 use Rattle.std.proofs.lemmas.Bool.{not-true, and_parts, cond_both, cases_lt, false_from_ne_true}
 use Rattle.std.proofs.lemmas.List.{get_or_past}
 use Rattle.fw_time.specs.Stamp.{Stamp, in_domain}
+use Rattle.fw_time.proofs.EachLaws.{each-weaker, each-both, each-one, each-suffix}
 use Rattle.fw_frontier.specs.Frontier.{Frontier, Within}
 use Rattle.fw_frontier.specs.Front.{Front, inside, frontier_of}
 use Rattle.fw_flow.specs.declared.choice.Cut.{Cut}
@@ -32,18 +33,17 @@ use Rattle.fw_model.specs.LawsOfFiltering.{IsFull, AreFrontiers, kept_events, me
 use Rattle.fw_model.specs.LawsOfLegalHistories.{HasEpochs}
 use Rattle.fw_model.specs.LawsOfRestoring.{IsSamePart, CountsWritten, CheckpointsStayTrue, NothingComesInside, NothingComesInsideCheckpoints, HasOne, IsCheckpointOf, CheckpointsAtCutsAreKept, at_receiver, HoldsWhatIsSentAgain, LogsHoldWhatIsSentAgain, LogHoldsWhatIsSentAgain, CheckpointLogsHoldWhatIsSentAgain, IsKeptWithin, KeptWatermarksLieWithinToday, BatchesOutsideCutsLieOutsideLow, BatchesToComeLieOutsideLow, LogsSerial, IsLoggedOnce, EventsInsideCutsAreLogged, MayKeepNothingIfCollected, EventsThatMustBeKeptAreNeverCollected}
 use Rattle.fw_model.proofs.Decisions.{two_ways}
-use Rattle.fw_model.proofs.EachLaws.{each-weaker, each-both}
 use Rattle.fw_model.proofs.DenotationLaws.{denotation-exists}
-use Rattle.fw_model.proofs.FilterLaws.{each-one, filter-inner}
+use Rattle.fw_model.proofs.FilterLaws.{filter-inner}
 use Rattle.fw_model.proofs.FilteredLaws.{filtered-events, set-frontier}
 use Rattle.fw_model.proofs.CheckpointLaws.{HoldsSettled, IsWriteSettled, is_within-holds, each-passed}
-use Rattle.fw_model.proofs.RunLaws.{epochs-of}
 use Rattle.fw_model.proofs.SameInsideLaws.{at_node, low-offered}
 use Rattle.fw_model.proofs.WriteLaws.{HoldsOfOne, some-weaker, IsCheckpointAt, IsItsCheckpoint, NamesEvent, LogsEvent, some-checkpoint, some-logged, ArePairs}
 use Rattle.fw_model.proofs.LowLaws.{input-is, batch-outside, settled-outside, low-within, within-set}
 use Rattle.fw_model.proofs.PartLaws.{part-same, part-event, part-kept, part-counts}
 use Rattle.fw_model.proofs.ChoosingLaws.{full-of, took-grows}
 use Rattle.fw_model.proofs.AskedLaws.{takes-declared, takes-restoring, takes-not_input, IsAskedWell, IsWriteAskedWell, IsApart, each-each, CanRecoverAndRestore, took-reached, run-reached, reached-all}
+use Rattle.fw_model.proofs.DomainLaws.{has_epochs}
 
 -- ---- nothing comes inside a checkpoint
 
@@ -137,7 +137,7 @@ took-true sys w state ProgressStep next effect f g t = same-each sys state next 
 took-true sys w state (Checkpoint p) next effect f g t = same-each sys state next (ap (λ (m : Machine). m.history) t.3)
 took-true sys w state Persist next effect f g t = same-each sys state next (ap (λ (m : Machine). m.history) t.2)
 took-true sys w state (Fail ps) next effect f g t = same-each sys state next (ap (λ (m : Machine). m.history) t.4)
-took-true sys w state Recover next effect f g t = recovered-each sys state next t.1 t.2 w.flow (epochs-of sys w) f.recover.holds.legal t.7
+took-true sys w state Recover next effect f g t = recovered-each sys state next t.1 t.2 w.flow (has_epochs sys w) f.recover.holds.legal t.7
 took-true sys w state Collect next effect f g t = same-each sys state next (ap (λ (m : Machine). m.history) t.3)
 took-true sys w state (Ack o) next effect f g t = same-each sys state next (ap (λ (m : Machine). m.history) t.2)
 
@@ -148,10 +148,6 @@ checkpoints-true sys w steps outcomes last r step next (did effect) t =
 checkpoints-true sys w steps outcomes last r step next idle t = same-each sys last next (ap (λ (m : Machine). m.history) t.1)
 
 -- ---- exactly one
-
-middle : {A : Type 0} (P : A → Type 0) (xs : List A) (y : A) (ys : List A) → AllByRecursion P (xs ++ y ∷ ys) → P y
-middle P [] y ys a = a.0
-middle P (x ∷ xs) y ys a = middle P xs y ys a.1
 
 some-both : {A : Type 0} (P Q : A → Type 0) (xs : List A) → HoldsOfOne P xs → AllByRecursion Q xs → HoldsOfOne (λ x. P x × Q x) xs
 some-both P Q [] a b = absurd a
@@ -177,8 +173,7 @@ only-one IsSuch Q k (x ∷ xs) a (inl b) = (
 only-one IsSuch Q k (x ∷ xs) a (inr b) =
     let rest = only-one IsSuch Q k xs a.1 b in
     let o = rest.0 in
-    let apart = middle (λ (y : Write). IsApart x.node x.written y.node y.written) o.earlier o.one o.later
-    (subst (AllByRecursion (λ (y : Write). IsApart x.node x.written y.node y.written)) o.there a.0) in (
+    let apart = (each-suffix (λ (y : Write). IsApart x.node x.written y.node y.written) o.earlier (o.one ∷ o.later) (subst (AllByRecursion (λ (y : Write). IsApart x.node x.written y.node y.written)) o.there a.0)).0 in (
       record {
         earlier = x ∷ o.earlier;
         one = o.one;

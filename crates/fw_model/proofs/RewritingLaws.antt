@@ -4,6 +4,8 @@ use Rattle.std.specs.List.{AllByRecursion, flat_map}
 use Rattle.std.proofs.lemmas.Bool.{and_parts, and_from, or_right, cond_both, cases_Bool, cases_lt, eqb-true, eq-eqb, lt-ltb, false_from_ne_true}
 use Rattle.fw_time.specs.Stamp.{Stamp, leq, in_domain}
 use Rattle.fw_time.specs.declared.stamp.Bounds.{Bounds}
+use Rattle.fw_time.proofs.EachLaws.{each-weaker, each-suffix}
+use Rattle.fw_time.proofs.StampLaws.{leq-trans}
 use Rattle.fw_frontier.specs.Frontier.{Frontier, IsFrontier, Within, meet}
 use Rattle.fw_flow.specs.declared.event.Event.{Event}
 use Rattle.fw_flow.specs.declared.event.Event.TheVariants.{Inject, Deliver, Notify}
@@ -17,15 +19,15 @@ use Rattle.fw_model.specs.History.{injected_count, injected_epochs, IsAdmissible
 use Rattle.fw_model.specs.Choice.{stamp_of_notice}
 use Rattle.fw_model.specs.LawsOfFiltering.{AreFrontiers, kept_events, HaveKeptCauses, KeptEventsAreLegal}
 use Rattle.fw_model.proofs.Decisions.{two_ways}
-use Rattle.fw_model.proofs.EachLaws.{each-weaker}
-use Rattle.fw_model.proofs.StampLaws.{leq-trans, leq_to, in_line, line-leq}
+use Rattle.fw_model.proofs.StampLaws.{leq_to, in_line, line-leq}
 use Rattle.fw_model.proofs.PhiLaws.{phi-monotone, count-append}
 use Rattle.fw_model.proofs.FrontierLaws.{phi-ignores_history}
 use Rattle.fw_model.proofs.MeetLaws.{one_within, phi-meet}
-use Rattle.fw_model.proofs.SequenceLaws.{bounds-sequence, count-none}
+use Rattle.fw_model.proofs.SequenceLaws.{bounds-sequence, count-none, one_inside}
 use Rattle.fw_model.proofs.CompleteLaws.{enabled-outside, admissible-stays}
-use Rattle.fw_model.proofs.LocalityLaws.{sends-causes, one_cause, phi-same}
-use Rattle.fw_model.proofs.KeptLaws.{IsFiltering, filtering-before, kept-causes, kept-quiet, kept-owed, inject-enabled, deliver-enabled, causes-now, legal-with, each-later}
+use Rattle.fw_model.proofs.LocalityLaws.{sends-causes, phi-same}
+use Rattle.fw_model.proofs.KeptLaws.{IsFiltering, filtering-before, kept-causes, kept-quiet, kept-owed, inject-enabled, deliver-enabled, causes-now, legal-with}
+use Rattle.fw_model.proofs.SettleLaws.{meet-frontier}
 
 -- ---- which injections are kept
 
@@ -116,7 +118,7 @@ phi-final sys h done a v k e g i u =
     let outside : g (stamp v) ≡ false = false_from_ne_true (g (stamp v)) (λ j.
     two_ways (done q (stamp v)) (i (stamp v) j) (sym (ap (λ n. done n (stamp v)) (eqb-true (place sys.flow v) q c)) ∙ enabled-outside sys h done a v k)) in
     let none = count-none g (sends sys q vs v)
-    (each-weaker (λ (m : Message). m.causes ≡ stamp v ∷ []) (λ m. all_inside g m.causes ≡ false) (sends sys q vs v) (λ m r. one_cause g (stamp v) m false outside r) (sends-causes sys q vs v)) in
+    (each-weaker (λ (m : Message). m.causes ≡ stamp v ∷ []) (λ m. all_inside g m.causes ≡ false) (sends sys q vs v) (λ m r. one_inside g (stamp v) m false outside r) (sends-causes sys q vs v)) in
     omega (arith, count-append g (sends sys q vs v) (sent_by sys q vs)))
     (λ c. refl) in
     ap (λ n. in_domain (bounds_of_domain sys.flow (out_domain_of_kind sys.flow kind)) u && phi_of_kind (greatest_of_kind sys.flow kind) kind n g u) same
@@ -141,7 +143,7 @@ rewriting-before sys v h keep note c =
     record {
       filtering = filtering-before sys v h keep f;
       noted = c.noted;
-      notified = λ p. each-later (λ t. keep p t ≡ true → note p t ≡ true) (stamp_of_notice p v) (flat_map (stamp_of_notice p) h) (c.notified p);
+      notified = λ p. each-suffix (λ t. keep p t ≡ true → note p t ≡ true) (stamp_of_notice p v) (flat_map (stamp_of_notice p) h) (c.notified p);
       own = c.own;
       notes = λ done a e s u i.
           let q = sender sys.flow e in
@@ -183,12 +185,6 @@ kept-follows sys h keep note c done a e u i j =
                 (same (note q) (λ t k. k) ∙ c.notes done a e (λ _. w) u j)
           ]
     ]
-
-meet-frontier : (bounds : Bounds) (f g : Frontier) → IsFrontier bounds f → IsFrontier bounds g → IsFrontier bounds (meet f g)
-meet-frontier bounds f g ff fg = record {
-  inside_domain = λ t k. ff.inside_domain t (and_parts (f t) (g t) k).0;
-  closed = λ s t d l k. let a = and_parts (f t) (g t) k in and_from (f s) (g s) (ff.closed s t d l a.0) (fg.closed s t d l a.1);
-}
 
 kept-admissible : (sys : System) (h : List Event) (keep note : ℕ → Frontier) → IsRewriting sys h keep note → (done : ℕ → Frontier) → IsAdmissible sys h done
     → IsAdmissible sys (kept_events sys.flow keep h) (λ p. meet (done p) (note p))

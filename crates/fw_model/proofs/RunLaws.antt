@@ -35,6 +35,7 @@ use Rattle.fw_model.specs.LawsOfDeliveries.{recs_at}
 use Rattle.fw_model.specs.Denotation.{Family, IsDenotation}
 use Rattle.fw_model.specs.Machine.{Machine, Numbered, events, no_stamps, first_state, front_of, bound_of, is_failed, places}
 use Rattle.fw_model.specs.Steps.{Effect, acked, Outcome, did, idle, LeadsTo, Steps, Run, with_event, GrowsTo, recs_at_output}
+use Rattle.fw_model.proofs.DomainLaws.{has_epochs}
 
 -- ---- legal histories
 
@@ -81,9 +82,6 @@ Goes o state next stamps = first_stamps (bound_of state o) ++ stamps ≡ first_s
 more_stamps : (n : ℕ) → first_stamps n ++ (n ∷ []) ∷ [] ≡ first_stamps (n + 1)
 more_stamps n = sym (map-range_with_len_more (λ x. x ∷ []) 0 n n (omega arith))
 
-nothing_more : (xs : List Stamp) → xs ++ [] ≡ xs
-nothing_more xs = append-nil xs
-
 bound-at : (b : Bool) (bounds : List ℕ) (q o n : ℕ) → q < length bounds → (q == o) ≡ b
     → slice_index_or (slice_set bounds q n) o 0 ≡ cond b n (slice_index_or bounds o 0)
 bound-at true bounds q o n l e =
@@ -98,7 +96,7 @@ acked-at : (b : Bool) (state : Machine) (q o x : ℕ) → q < length state.bound
 acked-at true state q o x l e k =
     let same : bound_of state o ≡ x = ap (bound_of state) (sym (eqb-true q o k)) ∙ sym e in
     ap (λ n. first_stamps n ++ (x ∷ []) ∷ []) same ∙ more_stamps x
-acked-at false state q o x l e k = nothing_more (first_stamps (bound_of state o))
+acked-at false state q o x l e k = append-nil (first_stamps (bound_of state o))
 
 acked-goes : (sys : System) (state : Machine) (q o x : ℕ) (recs : List Rec) → q < length state.bounds → x ≡ bound_of state q
     → Goes o state (record state { bounds = slice_set state.bounds q (x + 1) }) (stamp_shown o (acked q (x ∷ []) recs))
@@ -106,7 +104,7 @@ acked-goes sys state q o x recs l e =
     acked-at (q == o) state q o x l e refl ∙ ap first_stamps (sym (bound-set state.bounds q o (x + 1) l))
 
 same-goes : (state next : Machine) (o : ℕ) → next.bounds ≡ state.bounds → Goes o state next []
-same-goes state next o e = nothing_more (first_stamps (bound_of state o)) ∙ ap (λ bs. first_stamps (slice_index_or bs o 0)) (sym e)
+same-goes state next o e = append-nil (first_stamps (bound_of state o)) ∙ ap (λ bs. first_stamps (slice_index_or bs o 0)) (sym e)
 
 -- the step keeps the number of bounds, and acknowledges the stamps between the old bound and the new one
 abbrev GoesOn : System → Machine → Machine → Effect → Type 0
@@ -320,9 +318,6 @@ same-test flow w o d l k r e = elim (cases_Bool (e == d)) [
   ]
 ]
 
-pub epochs-of : (sys : System) → IsWellFormedSystem sys → HasEpochs sys
-epochs-of sys w s = let f = w.few s in omega arith
-
 takes-denoted : (sys : System) (family : Family) → IsWellFormedSystem sys → IsDenotation sys family
     → (state : Machine) (step : Step) (next : Machine) (effect : Effect) → IsFull sys state → LeadsTo sys state step next effect → IsDenotedEffect sys family effect
 takes-denoted sys family w u state (Inject s) next effect f t = subst (IsDenotedEffect sys family) (sym t.4) tt
@@ -349,7 +344,7 @@ run-denoted sys family w u [] (x ∷ os) state last n f r = absurd r
 run-denoted sys family w u (s ∷ ss) [] state last n f r = absurd r
 run-denoted sys family w u (s ∷ ss) (did effect ∷ os) state last n f r = (
   takes-denoted sys family w u state s r.0 effect f r.1,
-  run-denoted sys family w u ss os r.0 last n.1 (takes-full sys state s r.0 effect w.flow (epochs-of sys w) n.0 f r.1) r.2,
+  run-denoted sys family w u ss os r.0 last n.1 (takes-full sys state s r.0 effect w.flow (has_epochs sys w) n.0 f r.1) r.2,
 )
 run-denoted sys family w u (s ∷ ss) (idle ∷ os) state last n f r =
     (tt, run-denoted sys family w u ss os r.0 last n.1 (subst (IsFull sys) (sym r.1.1) f) r.2)

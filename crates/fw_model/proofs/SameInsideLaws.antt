@@ -6,6 +6,8 @@ use Rattle.std.proofs.lemmas.List.{get_or-map, length-map}
 use Rattle.std.proofs.lemmas.List.Elements.{filter-append}
 use Rattle.fw_time.specs.Stamp.{Stamp, leq, in_domain}
 use Rattle.fw_time.specs.declared.stamp.Bounds.{Bounds}
+use Rattle.fw_time.proofs.EachLaws.{each-weaker}
+use Rattle.fw_time.proofs.StampLaws.{leq-trans}
 use Rattle.fw_frontier.specs.Frontier.{Frontier, Within, nothing, cover}
 use Rattle.fw_frontier.specs.Front.{Front, inside, frontier_of}
 use Rattle.fw_flow.specs.declared.choice.Cut.{Cut}
@@ -24,11 +26,11 @@ use Rattle.fw_model.specs.LawsOfLegalHistories.{HasEpochs}
 use Rattle.fw_model.specs.LawsOfFiltering.{AreFrontiers, kept_events, messages_from, messages_inside}
 use Rattle.fw_model.specs.LawsOfChoosing.{low_choice}
 use Rattle.fw_model.proofs.Decisions.{two_ways}
-use Rattle.fw_model.proofs.EachLaws.{each-weaker}
-use Rattle.fw_model.proofs.StampLaws.{leq-trans, line-leq}
+use Rattle.fw_model.proofs.StampLaws.{line-leq}
 use Rattle.fw_model.proofs.FilterLaws.{passes-not, filter-in, filter-out, filter-none}
 use Rattle.fw_model.proofs.PhiLaws.{phi-longer}
-use Rattle.fw_model.proofs.LocalityLaws.{sends-causes, one_cause, delivers-same, sends-same_within, phi-same}
+use Rattle.fw_model.proofs.LocalityLaws.{sends-causes, delivers-same, sends-same_within, phi-same}
+use Rattle.fw_model.proofs.SequenceLaws.{one_inside}
 
 -- the frontier that the list has at node p
 abbrev pub at_node : System → List Front → ℕ → Frontier
@@ -67,7 +69,7 @@ sent-outside sys h v e f out =
     filter-append (λ (m : Message). all_inside f m.causes) now (sent_by sys q vs)
     ∙ ap (λ ms. ms ++ messages_from f (sent_by sys q vs))
     (filter-none (λ (m : Message). all_inside f m.causes) now
-    (each-weaker (λ (m : Message). m.causes ≡ stamp v ∷ []) (λ m. all_inside f m.causes ≡ false) now (λ m a. one_cause f (stamp v) m false o a) (sends-causes sys q vs v))))
+    (each-weaker (λ (m : Message). m.causes ≡ stamp v ∷ []) (λ m. all_inside f m.causes ≡ false) now (λ m a. one_inside f (stamp v) m false o a) (sends-causes sys q vs v))))
     (λ c. refl)
 
 pub inside-event : (sys : System) (h : List Event) (v : Event) (low : List Front) → IsWellFormed sys.flow
@@ -245,7 +247,7 @@ pub record Keeps (sys : System) (state next : Machine) (p : ℕ) (f : Front) : T
       → AllLogged sys p (frontier_of (bounds_of sys.flow p) f) next.writes next.history
 
 -- more epochs are below a greater one
-until-more : (b : Bounds) (m n : ℕ) → m ≤ n → Within (frontier_of b (until m)) (frontier_of b (until n))
+pub until-more : (b : Bounds) (m n : ℕ) → m ≤ n → Within (frontier_of b (until m)) (frontier_of b (until n))
 until-more b m n l t i =
     let a = and_parts (in_domain b t) (inside (until m) t) i in
     and_from (in_domain b t) (inside (until n) t) a.0

@@ -1,10 +1,11 @@
 -- What loops find that collect what is sent.
-use Rattle.std.proofs.Common.{◌≡◌, ℕ, suc, ◌+◌, ◌/◌, ◌^◌, ◌<◌, ◌≤◌, ◌==◌, nat_le, min, true, false, cond, List, [], ◌∷◌, ◌++◌, length, reverse, Option, Some, option_to_list, refl, sym, ap, ◌∙◌, get_or, take, append_assoc, slice_index, arith, inl, inr}
-use Rattle.std.proofs.lemmas.Bool.{and_parts, cond-true, cond-false, cases_lt, eq-eqb}
+use Rattle.std.proofs.Common.{◌≡◌, ℕ, ◌+◌, ◌/◌, ◌^◌, ◌<◌, ◌≤◌, ◌==◌, nat_le, min, true, false, cond, List, [], ◌∷◌, ◌++◌, length, reverse, Option, Some, option_to_list, refl, sym, ap, ◌∙◌, get_or, take, append_assoc, slice_index, arith, inl, inr}
+use Rattle.std.proofs.lemmas.Bool.{cond-true, cond-false, cases_lt, eq-eqb}
 use Rattle.std.proofs.lemmas.Bool.Decides.{nat_tests}
 use Rattle.std.proofs.lemmas.List.{get_or_past, take_more, map-append, length-append, append-nil}
-use Rattle.fw_time.specs.Stamp.{Stamp, leq, in_domain}
+use Rattle.fw_time.specs.Stamp.{Stamp, in_domain}
 use Rattle.fw_time.specs.Sending.{regrouped}
+use Rattle.fw_time.proofs.StampLaws.{leq-length}
 use Rattle.fw_bag.specs.declared.rec.Rec.{Rec}
 use Rattle.fw_bag.specs.Keyed.{is_among, sums_of, distinct_keys}
 use Rattle.fw_flow.specs.declared.event.Event.{Event}
@@ -24,13 +25,6 @@ use Rattle.fw_model.specs.Wanted.{is_wanted}
 use Rattle.fw_model.proofs.EventSteps.{history_last, history_more}
 
 -- ---- stamps
-
--- stamps that are comparable have one length
-leq-length : (s t : Stamp) → leq s t ≡ true → length s ≡ length t
-leq-length [] [] e = refl
-leq-length [] (y ∷ t) e = cc
-leq-length (x ∷ s) [] e = cc
-leq-length (x ∷ s) (y ∷ t) e = ap suc (leq-length s t (and_parts (nat_le x y) (leq s t) e).1)
 
 pub record IsShort (t : Stamp) : Type 0 where
   pub some : 0 < length t

@@ -1,10 +1,12 @@
 -- Phi and psi by the send stamps of the sender, kind by kind.
-use Rattle.std.proofs.Common.{◌≡◌, ◌↔◌, ℕ, zero, suc, ◌+◌, ◌-◌, ◌*◌, ◌/◌, ◌<◌, ◌≤◌, min, Bool, true, false, cond, ◌&&◌, ◌||◌, ◌==◌, nat_lt, List, [], ◌∷◌, Some, None, refl, sym, ap, subst, ◌∙◌, inl, inr, ◌⊎◌, arith}
+use Rattle.std.proofs.Common.{◌≡◌, ◌↔◌, ℕ, zero, suc, ◌+◌, ◌-◌, ◌*◌, ◌/◌, ◌<◌, ◌≤◌, min, true, ◌&&◌, ◌||◌, ◌==◌, nat_lt, List, [], ◌∷◌, Some, None, refl, sym, ap, subst, ◌∙◌, inl, inr, ◌⊎◌, arith}
+use Rattle.std.proofs.lemmas.Option.{cond_some}
 use Rattle.std.proofs.lemmas.Bool.{and_parts, and_from, or_cases, or_left, or_right, ltb-true, lt-ltb, eqb-true, eqb-false, eq-eqb, cond-true, cases_Bool}
 use Rattle.std.proofs.Math.Nat.{div-le_self, div-mul-le_self, div-lt_iff_lt-mul, le-div_iff_mul-le, mul-div_left, min-le_left, min-le_right, le-min}
 use Rattle.fw_time.specs.declared.stamp.Bounds.{Bounds}
 use Rattle.fw_time.specs.Stamp.{Stamp, leq, nest, outer, counter, in_domain}
 use Rattle.fw_time.specs.Sending.{entered, fed_back, left, regrouped}
+use Rattle.fw_time.proofs.StampLaws.{leq-refl, leq-trans, outer-nest, counter-nest}
 use Rattle.fw_frontier.specs.Frontier.{Frontier, IsFrontier}
 use Rattle.fw_flow.specs.declared.kind.Kind.{Kind}
 use Rattle.fw_flow.specs.declared.kind.Kind.TheVariants.{OutputEpoch, OutputNumber, Enter, Feedback, Leave, Sequence, Regroup}
@@ -13,7 +15,7 @@ use Rattle.fw_flow.specs.declared.event.Event.{Event}
 use Rattle.fw_flow.specs.Projection.{sent_count, each_counter, some_counter, phi_of_kind, phi, psi_of_kind, psi}
 use Rattle.fw_model.specs.LawsOfProjections.{bounds_of_edge}
 use Rattle.fw_model.specs.LawsOfSending.{SendsByStamp, IsSentFrom, SendsAbove, PhiBySendStamps, PsiBySendStamps, SendStampIsMonotone}
-use Rattle.fw_model.proofs.StampLaws.{leq-refl, leq-trans, IsInLoop, loop-leq, outer-nest, counter-nest, nest-leq, leq-nest, in_loop, leq_from, leq_to, in_line, line-leq, leq-line}
+use Rattle.fw_model.proofs.StampLaws.{IsInLoop, loop-leq, nest-leq, leq-nest, in_loop, leq_from, leq_to, in_line, line-leq, leq-line}
 
 -- the domain with this greatest stamp
 abbrev up_to : Stamp → Bounds
@@ -65,13 +67,9 @@ enter_psi b m f fr u i =
 
 -- ---- feeding a loop back
 
-some_if : (b : Bool) (w s : Stamp) → cond b (Some w) None ≡ Some s → (b ≡ true) × (w ≡ s)
-some_if true w s e = (refl, some_is w s e)
-some_if false w s e = absurd (cc)
-
 pub fed_back-some : (m : ℕ) (t s : Stamp) → fed_back m t ≡ Some s → (counter t < m) × (nest (outer t) (counter t + 1) ≡ s)
 fed_back-some m t s e =
-    let a = some_if (nat_lt (counter t) m) (nest (outer t) (counter t + 1)) s e in
+    let a = cond_some (nat_lt (counter t) m) (nest (outer t) (counter t + 1)) s e in
     (ltb-true (counter t) m a.0, a.1)
 
 pub fed_back-nest : (m : ℕ) (x : Stamp) (c : ℕ) → c < m → fed_back m (nest x c) ≡ Some (nest x (c + 1))

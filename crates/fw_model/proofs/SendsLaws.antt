@@ -4,6 +4,8 @@ use Rattle.std.specs.List.{AllByRecursion}
 use Rattle.std.proofs.lemmas.Bool.{and_parts, and_from}
 use Rattle.fw_bag.specs.declared.rec.Rec.{Rec}
 use Rattle.fw_time.specs.Stamp.{Stamp, in_domain}
+use Rattle.fw_time.proofs.EachLaws.{each-weaker, each-append}
+use Rattle.fw_time.proofs.StampLaws.{leq-refl}
 use Rattle.fw_flow.specs.declared.event.Event.{Event}
 use Rattle.fw_flow.specs.declared.event.Message.{Message}
 use Rattle.fw_flow.specs.declared.kind.Kind.{Kind}
@@ -12,8 +14,6 @@ use Rattle.fw_flow.specs.Dataflow.{System, Dataflow, kind_of, sender, bounds_of,
 use Rattle.fw_flow.specs.NodeFunction.{stamp, recs_on, messages_at, messages_at_some, sends_of_kind, sends, sent_by}
 use Rattle.fw_flow.specs.Projection.{events_at, all_inside, phi, psi}
 use Rattle.fw_model.specs.LawsOfSending.{SendsByStamp, SendsAtSendStamp, SendsAreInsidePsi, SentFromInsideIsInsidePsi, InsidePhiComesFromInside}
-use Rattle.fw_model.proofs.EachLaws.{each-weaker, each-append}
-use Rattle.fw_model.proofs.StampLaws.{leq-refl}
 use Rattle.fw_model.proofs.SendingLaws.{phi-by_stamp, psi-by_stamp, phi-in_domain, send_stamp-in_domain}
 
 -- the message is at this stamp, if there is one, and has one cause

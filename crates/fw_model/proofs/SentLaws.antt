@@ -3,15 +3,13 @@ use Rattle.std.proofs.Common.{◌≡◌, ℕ, ◌+◌, ◌<◌, ◌≤◌, true,
 use Rattle.std.specs.Ordering.{is_eq, ordering_then}
 use Rattle.std.specs.Cmp.Lexicographic.{slice_cmp}
 use Rattle.std.specs.declared.cmp.Ordering.{Ordering}
-use Rattle.std.specs.declared.cmp.Ordering.TheVariants.{Less, Equal, Greater}
+use Rattle.std.specs.declared.cmp.Ordering.TheVariants.{Equal}
 use Rattle.std.proofs.lemmas.Bool.{or_cases, or_parts, cond_both, eqb-true}
-use Rattle.std.proofs.lemmas.Map.Text.{is_eq-slice_cmp}
-use Rattle.std.proofs.lemmas.Slice.Eq.{bytes_eq-Decides}
 use Rattle.std.proofs.lemmas.Cmp.{tied_itself, nat_list_cmp_total, lists_total}
 use Rattle.fw_time.specs.Stamp.{Stamp, same, stamp_cmp}
 use Rattle.fw_bag.specs.declared.rec.Rec.{Rec}
 use Rattle.fw_bag.specs.Rec.{rec_cmp}
-use Rattle.fw_bag.proofs.RecLaws.{is_eq-same, rec_cmp-refl}
+use Rattle.fw_bag.proofs.RecLaws.{rec_cmp-refl}
 use Rattle.fw_flow.specs.declared.event.Event.{Event}
 use Rattle.fw_flow.specs.declared.event.Event.TheVariants.{Inject, Deliver, Notify}
 use Rattle.fw_flow.specs.declared.event.Message.{Message}
@@ -21,33 +19,9 @@ use Rattle.fw_flow.specs.NodeFunction.{place, sends, sent_by}
 use Rattle.fw_flow.specs.Projection.{events_at}
 use Rattle.fw_model.specs.History.{message_cmp, is_among, without, less, some_at, sent, delivered, pending, IsEnabled, IsLegal}
 use Rattle.fw_model.proofs.WeightLaws.{weigh, weigh-append, one, one-out}
+use Rattle.fw_model.proofs.CmpLaws.{message_cmp-equal}
 
 -- ---- messages that the order finds the same
-
-both_equal : (o p : Ordering) → is_eq (ordering_then o p) ≡ true → (is_eq o ≡ true) × (is_eq p ≡ true)
-both_equal Less p e = cc
-both_equal Equal p e = (refl, e)
-both_equal Greater p e = cc
-
-pub stamp_cmp-same : (s t : Stamp) → is_eq (stamp_cmp s t) ≡ true → s ≡ t
-stamp_cmp-same s t e = (bytes_eq-Decides s t).0 (sym (is_eq-slice_cmp s t) ∙ e)
-
-causes-same : (cs ds : List Stamp) → is_eq (slice_cmp stamp_cmp cs ds) ≡ true → cs ≡ ds
-causes-same [] [] e = refl
-causes-same [] (d ∷ ds) e = cc
-causes-same (c ∷ cs) [] e = cc
-causes-same (c ∷ cs) (d ∷ ds) e =
-    let a = both_equal (stamp_cmp c d) (slice_cmp stamp_cmp cs ds) e in
-    ap (λ x. x ∷ cs) (stamp_cmp-same c d a.0) ∙ ap (λ xs. d ∷ xs) (causes-same cs ds a.1)
-
-pub message_cmp-same : (m x : Message) → is_eq (message_cmp m x) ≡ true → m ≡ x
-message_cmp-same m x e =
-    let a = both_equal (stamp_cmp m.at x.at) (ordering_then (rec_cmp m.rec x.rec) (slice_cmp stamp_cmp m.causes x.causes)) e in
-    let b = both_equal (rec_cmp m.rec x.rec) (slice_cmp stamp_cmp m.causes x.causes) a.1 in
-    let at : Stamp → Message = λ t. record { at = t; rec = m.rec; causes = m.causes } in
-    let rec : Rec → Message = λ r. record { at = x.at; rec = r; causes = m.causes } in
-    let causes : List Stamp → Message = λ cs. record { at = x.at; rec = x.rec; causes = cs } in
-    ap at (stamp_cmp-same m.at x.at a.0) ∙ ap rec (is_eq-same m.rec x.rec b.0) ∙ ap causes (causes-same m.causes x.causes b.1)
 
 three_equal : (o p q : Ordering) → o ≡ Equal → p ≡ Equal → q ≡ Equal → is_eq (ordering_then o (ordering_then p q)) ≡ true
 three_equal o p q a b c = ap (λ x. is_eq (ordering_then x (ordering_then p q))) a ∙ ap (λ x. is_eq (ordering_then x q)) b ∙ ap is_eq c
@@ -71,7 +45,7 @@ unfolding weigh
 without-weigh w m [] l = absurd (omega arith)
 without-weigh w m (x ∷ xs) l =
     cond_both (is_eq (message_cmp m x)) xs (x ∷ without m xs) (λ ys. weigh w (x ∷ xs) ≡ w m + weigh w ys)
-    (λ e. let i = ap w (message_cmp-same m x e) in omega arith)
+    (λ e. let i = ap w (message_cmp-equal m x e) in omega arith)
     (λ e. let z : copy m x ≡ 0 = ap (λ b. cond b 1 0) e in let h = without-weigh w m xs (omega arith) in omega arith)
 
 pub is_among-copies : (m : Message) (ms : List Message) → is_among m ms ≡ true → 0 < weigh (copy m) ms
@@ -121,7 +95,7 @@ delivered-sub sys h (Deliver d m) k e i = λ x.
     let a = less-weigh (copy m) (sent sys h e) (delivered h e) i in
     cond_both (is_eq (message_cmp x m)) 1 0 (λ n. n + weigh (copy x) (delivered h e) ≤ weigh (copy x) (sent sys h e))
     (λ z.
-    let f = message_cmp-same x m z in
+    let f = message_cmp-equal x m z in
     let g = ap (λ y. weigh (copy y) (delivered h e)) f in
     let j = ap (λ y. weigh (copy y) (sent sys h e)) f in
     omega arith)

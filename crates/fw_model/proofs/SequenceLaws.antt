@@ -1,10 +1,11 @@
 -- A sequence numbers in the order of its notifications, so what is inside phi comes from events inside.
 use Rattle.std.proofs.Common.{◌≡◌, ℕ, ◌+◌, ◌<◌, ◌≤◌, Bool, true, false, cond, ◌==◌, nat_lt, nat_le, List, [], ◌∷◌, ◌++◌, length, refl, sym, ap, subst, ◌∙◌, inl, inr, ◌⊎◌, arith}
 use Rattle.std.specs.List.{AllByRecursion}
-use Rattle.std.proofs.lemmas.Bool.{and_parts, and_from, and_left, or_cases, ltb-true, cases_Bool, cond_both}
+use Rattle.std.proofs.lemmas.Bool.{and_parts, and_from, and_left, or_cases, ltb-true, cases_Bool, cond_both, both_ways}
 use Rattle.fw_bag.specs.declared.rec.Rec.{Rec}
 use Rattle.fw_time.specs.declared.stamp.Bounds.{Bounds}
 use Rattle.fw_time.specs.Stamp.{Stamp, leq, in_domain}
+use Rattle.fw_time.proofs.EachLaws.{each-weaker, each-both, each-append}
 use Rattle.fw_frontier.specs.Frontier.{Frontier, IsFrontier}
 use Rattle.fw_flow.specs.declared.event.Event.{Event}
 use Rattle.fw_flow.specs.declared.event.Event.TheVariants.{Inject, Deliver, Notify}
@@ -15,7 +16,6 @@ use Rattle.fw_flow.specs.NodeFunction.{stamp, recs_on_notification, numbered_mes
 use Rattle.fw_flow.specs.Projection.{events_at, all_inside, count_from, sent_count, first_number_of, phi_of_kind, phi}
 use Rattle.fw_model.specs.History.{injected_count}
 use Rattle.fw_model.specs.LawsOfSending.{notified_stamps, AreDescending, InsidePhiOfSequenceComesFromInside}
-use Rattle.fw_model.proofs.EachLaws.{each-weaker, each-both, each-append}
 use Rattle.fw_model.proofs.PhiLaws.{count-append}
 
 -- ---- counts
@@ -175,11 +175,8 @@ inside_phi_of_sequence-from_inside sys h e f is fr d o =
       | inr k ↦
           each-weaker (λ (m : Message). first_number_of m.at < count_from f (sequence_sent vs) → all_inside f m.causes ≡ true) Q (sequence_sent vs)
           (λ m i l. elim (phi-sequence sys h e f m.at is l) [
-            | inl j ↦ absurd (two_ways (f top) j k)
+            | inl j ↦ absurd (both_ways (f top) k j)
             | inr j ↦ let same = ap (count_from f) sent_is in i (omega arith)
           ])
           (numbers-inside bounds f fr vs notified o.in_order)
     ])
-  where
-    two_ways : (b : Bool) → b ≡ true → b ≡ false → ⊥
-    two_ways b p q = cc

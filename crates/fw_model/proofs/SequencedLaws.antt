@@ -6,6 +6,7 @@ use Rattle.std.specs.Ordering.{is_eq, is_gt}
 use Rattle.std.proofs.lemmas.Bool.{cond_both, cond-false, cases_Bool, leb-false, lt-leb}
 use Rattle.std.proofs.lemmas.Cmp.{tied_itself}
 use Rattle.fw_time.specs.Stamp.{Stamp, same}
+use Rattle.fw_time.proofs.EachLaws.{each-weaker, each-both}
 use Rattle.fw_bag.specs.declared.rec.Rec.{Rec}
 use Rattle.fw_bag.specs.Rec.{rec_cmp}
 use Rattle.fw_bag.specs.Keyed.{sorted}
@@ -15,16 +16,15 @@ use Rattle.fw_flow.specs.Dataflow.{greatest_number}
 use Rattle.fw_flow.specs.Projection.{first_number_of}
 use Rattle.fw_flow.specs.NodeFunction.{delivered_recs, numbered_messages}
 use Rattle.fw_flow.specs.WholeBags.{Timed, timed_cmp, in_order, recs_where, numbered}
-use Rattle.fw_model.proofs.EachLaws.{each-weaker, each-both}
-use Rattle.fw_model.proofs.WeightLaws.{weigh, how_often-where, one, one-in, one-out, is_at-self, same-is}
+use Rattle.fw_model.proofs.WeightLaws.{weigh, how_often-where, one, one-in, one-out, is_at-self}
 use Rattle.fw_model.proofs.SentLaws.{timed_of}
 use Rattle.fw_model.proofs.TimedLaws.{timed_order, IsAscendingTimed, ascending-in_order}
 use Rattle.fw_model.proofs.TimedCounts.{ascending-where, in_order-weigh, sorted-is}
 use Rattle.fw_model.proofs.ArrivalLaws.{deliveries}
 use Rattle.fw_model.proofs.DistinctLaws.{how_often-delivered_at}
-
-two_ways : (b : Bool) → b ≡ true → b ≡ false → ⊥
-two_ways b p q = cc
+use Rattle.fw_model.proofs.StampLaws.{same-is}
+use Rattle.fw_model.proofs.FilterLaws.{filter-none}
+use Rattle.fw_model.proofs.Decisions.{two_ways}
 
 -- ---- members
 
@@ -45,14 +45,6 @@ each_member P [] k = tt
 each_member P (x ∷ xs) k = (k x (member-first x xs), each_member P xs (λ r l. k r (member-later r x xs l)))
 
 -- ---- parts of an ascending list
-
-pub filter-none : (test : Timed → Bool) (xs : List Timed) → AllByRecursion (λ r. test r ≡ false) xs → filter test xs ≡ []
-filter-none test [] a = refl
-filter-none test (x ∷ xs) a = ap (λ b. cond b (x ∷ filter test xs) (filter test xs)) a.0 ∙ filter-none test xs a.1
-
-pub filter-all : (test : Timed → Bool) (xs : List Timed) → AllByRecursion (λ r. test r ≡ true) xs → filter test xs ≡ xs
-filter-all test [] a = refl
-filter-all test (x ∷ xs) a = ap (λ b. cond b (x ∷ filter test xs) (filter test xs)) a.0 ∙ ap (λ ys. x ∷ ys) (filter-all test xs a.1)
 
 pub filter-same : (f g : Timed → Bool) (xs : List Timed) → AllByRecursion (λ r. f r ≡ g r) xs → filter f xs ≡ filter g xs
 filter-same f g [] a = refl

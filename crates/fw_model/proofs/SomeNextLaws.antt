@@ -18,13 +18,14 @@ use Rattle.fw_model.specs.Choice.{kept, cut_of}
 use Rattle.fw_model.specs.Steps.{cuts, lows, did, idle, IsSettledCut, CutsTo, LeadsTo, recovered, front_of_cut, collected_writes}
 use Rattle.fw_model.specs.LawsOfSteps.{CanChoose, HasItsChoice, SomeNextState, ExactlyOneNextState}
 use Rattle.fw_model.proofs.ChoiceLaws.{largest-one}
-use Rattle.fw_model.proofs.CmpLaws.{decided-same, slice_cmp-same, stamp_total, fronts_cmp-same}
+use Rattle.fw_model.proofs.CmpLaws.{decided-same, stamp_total, fronts_cmp-same}
 use Rattle.fw_model.proofs.Decisions.{Decided, decided-test, find_place}
 use Rattle.fw_model.proofs.EnabledLaws.{DecidedStep, inject-decided, deliver-decided, notify-decided, progress-decided, checkpoint-decided, persist-decided, fail-decided, ack-decided}
 use Rattle.fw_model.proofs.FrontLaws.{has_front}
 use Rattle.fw_model.proofs.LargestLaws.{largest-exists}
 use Rattle.fw_model.proofs.OneNextLaws.{one_next}
 use Rattle.fw_model.proofs.SettleLaws.{meet-frontier, fronts-each}
+use Rattle.fw_bag.proofs.OrderingLaws.{slice_cmp-same}
 
 settled_cut : (sys : System) (p : ℕ) (cut : Cut) (before : Front) → (after : Front) × IsSettledCut sys p cut before after
 settled_cut sys p Present before = (before, refl)

@@ -1,35 +1,8 @@
 -- The order of stamps, and the stamps of a loop.
 use Rattle.std.proofs.Common.{◌≡◌, ℕ, ◌≤◌, true, false, nat_le, [], ◌∷◌, refl, sym, ap, ◌∙◌, arith}
 use Rattle.std.proofs.lemmas.Bool.{and_parts, and_from, leb-true, le-leb}
-use Rattle.fw_time.specs.Stamp.{Stamp, leq, nest, outer, counter}
-
-pub leq-refl : (s : Stamp) → leq s s ≡ true
-leq-refl [] = refl
-leq-refl (x ∷ s) = and_from (nat_le x x) (leq s s) (le-leb x x (omega arith)) (leq-refl s)
-
-pub leq-trans : (s t u : Stamp) → leq s t ≡ true → leq t u ≡ true → leq s u ≡ true
-leq-trans [] [] u p q = q
-leq-trans [] (y ∷ t) u p q = cc
-leq-trans (x ∷ s) [] u p q = cc
-leq-trans (x ∷ s) (y ∷ t) [] p q = cc
-leq-trans (x ∷ s) (y ∷ t) (z ∷ u) p q =
-    let a = and_parts (nat_le x y) (leq s t) p in
-    let b = and_parts (nat_le y z) (leq t u) q in
-    let c = leb-true x y a.0 in
-    let d = leb-true y z b.0 in
-    and_from (nat_le x z) (leq s u) (le-leb x z (omega arith)) (leq-trans s t u a.1 b.1)
-
--- ---- the stamps of a loop
-
-pub outer-nest : (s : Stamp) (c : ℕ) → outer (nest s c) ≡ s
-outer-nest [] c = refl
-outer-nest (x ∷ []) c = refl
-outer-nest (x ∷ y ∷ s) c = ap (λ t. x ∷ t) (outer-nest (y ∷ s) c)
-
-pub counter-nest : (s : Stamp) (c : ℕ) → counter (nest s c) ≡ c
-counter-nest [] c = refl
-counter-nest (x ∷ []) c = refl
-counter-nest (x ∷ y ∷ s) c = counter-nest (y ∷ s) c
+use Rattle.fw_time.specs.Stamp.{Stamp, leq, nest, outer, counter, same}
+use Rattle.fw_time.proofs.StampLaws.{leq-refl, leq-antisym}
 
 nest-outer : (x : ℕ) (s : Stamp) → x ∷ s ≡ nest (outer (x ∷ s)) (counter (x ∷ s))
 nest-outer x [] = refl
@@ -94,3 +67,24 @@ line-leq x y p = and_from (nat_le x y) true (le-leb x y p) refl
 
 pub leq-line : (x y : ℕ) → leq (x ∷ []) (y ∷ []) ≡ true → x ≤ y
 leq-line x y p = leb-true x y (and_parts (nat_le x y) true p).0
+
+-- the counter does not rise downwards
+pub counter-leq : (s t : Stamp) → leq s t ≡ true → counter s ≤ counter t
+counter-leq [] [] k = omega arith
+counter-leq [] (y ∷ t) k = cc
+counter-leq (x ∷ s) [] k = cc
+counter-leq (x ∷ []) (y ∷ []) k = leb-true x y (and_parts (nat_le x y) true k).0
+counter-leq (x ∷ []) (y ∷ z ∷ t) k = let a = and_parts (nat_le x y) false k in absurd (cc)
+counter-leq (x ∷ z ∷ s) (y ∷ []) k = let a = and_parts (nat_le x y) false k in absurd (cc)
+counter-leq (x ∷ w ∷ s) (y ∷ z ∷ t) k = counter-leq (w ∷ s) (z ∷ t) (and_parts (nat_le x y) (leq (w ∷ s) (z ∷ t)) k).1
+
+-- ---- stamps that are one
+
+pub same-is : (s t : Stamp) → same s t ≡ true → s ≡ t
+same-is s t e = let p = and_parts (leq s t) (leq t s) e in leq-antisym s t p.0 p.1
+
+pub same-refl : (s : Stamp) → same s s ≡ true
+same-refl s = and_from (leq s s) (leq s s) (leq-refl s) (leq-refl s)
+
+pub same-from : (s t : Stamp) → s ≡ t → same s t ≡ true
+same-from s t e = sym (ap (same s) e) ∙ same-refl s

@@ -3,33 +3,7 @@ use Rattle.std.proofs.Common.{◌≡◌, ℕ, zero, suc, ◌<◌, ◌≤◌, Boo
 use Rattle.std.specs.List.{AllByRecursion, list_all}
 use Rattle.std.proofs.lemmas.Bool.{and_parts, and_from, leb-true, le-leb, cases_Bool, cases_lt}
 use Rattle.fw_time.specs.Stamp.{Stamp, leq}
-use Rattle.fw_model.proofs.EachLaws.{each-append}
-
--- ---- lists
-
-pub each-prefix : {A : Type 0} (P : A → Type 0) (xs ys : List A) → AllByRecursion P (xs ++ ys) → AllByRecursion P xs
-each-prefix P [] ys a = tt
-each-prefix P (x ∷ xs) ys a = (a.0, each-prefix P xs ys a.1)
-
-pub each-suffix : {A : Type 0} (P : A → Type 0) (xs ys : List A) → AllByRecursion P (xs ++ ys) → AllByRecursion P ys
-each-suffix P [] ys a = a
-each-suffix P (x ∷ xs) ys a = each-suffix P xs ys a.1
-
-pub each_of-map : {A B : Type 0} (P : B → Type 0) (f : A → B) (xs : List A) → AllByRecursion P (map f xs) → AllByRecursion (λ x. P (f x)) xs
-each_of-map P f [] a = tt
-each_of-map P f (x ∷ xs) a = (a.0, each_of-map P f xs a.1)
-
-pub each-map : {A B : Type 0} (P : B → Type 0) (f : A → B) (xs : List A) → AllByRecursion (λ x. P (f x)) xs → AllByRecursion P (map f xs)
-each-map P f [] a = tt
-each-map P f (x ∷ xs) a = (a.0, each-map P f xs a.1)
-
-pub each-of_all : {A : Type 0} (test : A → Bool) (xs : List A) → list_all test xs ≡ true → AllByRecursion (λ x. test x ≡ true) xs
-each-of_all test [] k = tt
-each-of_all test (x ∷ xs) k = let a = and_parts (test x) (list_all test xs) k in (a.0, each-of_all test xs a.1)
-
-pub all-of_each : {A : Type 0} (test : A → Bool) (xs : List A) → AllByRecursion (λ x. test x ≡ true) xs → list_all test xs ≡ true
-all-of_each test [] a = refl
-all-of_each test (x ∷ xs) a = and_from (test x) (list_all test xs) a.0 (all-of_each test xs a.1)
+use Rattle.fw_time.proofs.EachLaws.{each-append, each-prefix, each-suffix, each_of-map, each-map, each-of_all, all-of_each}
 
 -- an element passes a test, or none does
 pub find_in : {A : Type 0} (P : A → Type 0) (test : A → Bool) (xs : List A) → AllByRecursion P xs

@@ -1,7 +1,8 @@
 -- Induction along a dataflow: by the ranks of nodes and the counters of loops.
-use Rattle.std.proofs.Common.{◌≡◌, ◌⊎◌, ℕ, zero, suc, ◌+◌, ◌<◌, ◌≤◌, Bool, true, false, nat_le, [], ◌∷◌, length, Some, refl, ap, ◌∙◌, inl, inr, arith}
-use Rattle.std.proofs.lemmas.Bool.{and_parts, cases_Bool, leb-true}
+use Rattle.std.proofs.Common.{◌≡◌, ◌⊎◌, ℕ, zero, suc, ◌+◌, ◌<◌, ◌≤◌, true, false, [], ◌∷◌, length, Some, refl, ap, ◌∙◌, inl, inr, arith}
+use Rattle.std.proofs.lemmas.Bool.{cases_Bool, both_ways}
 use Rattle.fw_time.specs.Stamp.{Stamp, leq, outer, counter}
+use Rattle.fw_time.proofs.StampLaws.{counter-nest}
 use Rattle.fw_flow.specs.declared.kind.Domain.{Domain}
 use Rattle.fw_flow.specs.declared.kind.Domain.TheVariants.{Epoch, Number, Loop as InLoop}
 use Rattle.fw_flow.specs.declared.kind.Kind.{Kind}
@@ -9,8 +10,8 @@ use Rattle.fw_flow.specs.declared.kind.Kind.TheVariants.{OutputEpoch, OutputNumb
 use Rattle.fw_flow.specs.Dataflow.{Dataflow, kind_of, sender, receiver, max_of, domain_of, domain_of_kind, out_domain_of_kind, send_stamp, send_stamp_of_kind}
 use Rattle.fw_flow.specs.Walks.{Ranks, is_same_loop, is_looped}
 use Rattle.fw_flow.specs.WellFormed.{IsWellFormed, is_feedback_kind}
-use Rattle.fw_model.proofs.StampLaws.{counter-nest}
 use Rattle.fw_model.proofs.SendingLaws.{fed_back-some}
+use Rattle.fw_model.proofs.StampLaws.{counter-leq}
 
 -- three numbers are below three others in lexicographic order
 abbrev pub IsBelow : ℕ → ℕ → ℕ → ℕ → ℕ → ℕ → Type 0
@@ -53,15 +54,6 @@ counter_in Epoch t = 0
 counter_in Number t = 0
 counter_in (InLoop l) t = counter t
 
-leq-counter : (s t : Stamp) → leq s t ≡ true → counter s ≤ counter t
-leq-counter [] [] k = omega arith
-leq-counter [] (y ∷ t) k = cc
-leq-counter (x ∷ s) [] k = cc
-leq-counter (x ∷ []) (y ∷ []) k = leb-true x y (and_parts (nat_le x y) true k).0
-leq-counter (x ∷ []) (y ∷ z ∷ t) k = let a = and_parts (nat_le x y) false k in absurd (cc)
-leq-counter (x ∷ z ∷ s) (y ∷ []) k = let a = and_parts (nat_le x y) false k in absurd (cc)
-leq-counter (x ∷ w ∷ s) (y ∷ z ∷ t) k = leq-counter (w ∷ s) (z ∷ t) (and_parts (nat_le x y) (leq (w ∷ s) (z ∷ t)) k).1
-
 -- the counter does not rise against an edge, and falls against one from a feedback
 record CounterFalls (flow : Dataflow) (kind : Kind) (u t : Stamp) : Type 0 where
   pub keeps : counter_in (domain_of_kind flow kind) u ≤ counter t
@@ -73,11 +65,8 @@ same_stamp-falls flow kind l u s t f d e k =
     let i : u ≡ s = cc in
     let c = ap counter i in
     let a = ap (λ x. counter_in x u) d in
-    let b = leq-counter s t k in
-    record { keeps = omega arith; falls = λ g. absurd (two_ways (is_feedback_kind kind) g f) }
-  where
-    two_ways : (b : Bool) → b ≡ true → b ≡ false → ⊥
-    two_ways b p q = cc
+    let b = counter-leq s t k in
+    record { keeps = omega arith; falls = λ g. absurd (both_ways (is_feedback_kind kind) f g) }
 
 counter-falls : (flow : Dataflow) (kind : Kind) (l : ℕ) (u s t : Stamp) → send_stamp_of_kind flow kind u ≡ Some s → leq s t ≡ true
     → out_domain_of_kind flow kind ≡ InLoop l → CounterFalls flow kind u t
@@ -87,7 +76,7 @@ counter-falls flow Input l u s t e k d = absurd (cc)
 counter-falls flow (Enter r) l u s t e k d = record { keeps = omega arith; falls = λ g. absurd (cc) }
 counter-falls flow (Feedback r) l u s t e k d =
     let a = fed_back-some (max_of flow r) u s e in
-    let b = leq-counter s t k in
+    let b = counter-leq s t k in
     let c = ap counter (a.1) in
     let n = counter-nest (outer u) (counter u + 1) in
     record { keeps = omega arith; falls = λ g. omega arith }

@@ -1,8 +1,9 @@
 -- In a legal history what was sent is a part of the denotation.
-use Rattle.std.proofs.Common.{◌+◌, ◌≡◌, ◌⊎◌, ℕ, ◌≤◌, Bool, true, false, cond, not, ◌&&◌, List, [], ◌∷◌, map, Some, refl, sym, ap, subst, ◌∙◌, inl, inr, arith}
+use Rattle.std.proofs.Common.{◌+◌, ◌≡◌, ◌⊎◌, ℕ, ◌≤◌, true, false, cond, not, ◌&&◌, List, [], ◌∷◌, map, Some, refl, sym, ap, subst, ◌∙◌, inl, inr, arith}
 use Rattle.std.specs.List.{AllByRecursion}
 use Rattle.std.proofs.lemmas.Bool.{cases_Bool, cases_lt}
 use Rattle.fw_time.specs.Stamp.{Stamp, leq}
+use Rattle.fw_time.proofs.StampLaws.{leq-refl}
 use Rattle.fw_bag.specs.declared.rec.Rec.{Rec}
 use Rattle.fw_bag.specs.Bag.{how_often}
 use Rattle.fw_flow.specs.declared.event.Event.{Event}
@@ -16,7 +17,6 @@ use Rattle.fw_flow.specs.WholeBags.{outputs_of_kind, together}
 use Rattle.fw_model.specs.Denotation.{Family, IsDenotation}
 use Rattle.fw_model.specs.History.{was_delivered_to, was_notified, owed, sent, delivered, IsLegal}
 use Rattle.fw_model.specs.LawsOfDeliveries.{SentIsSubBagOfDenotation, DeliveredIsSubBagOfDenotation}
-use Rattle.fw_model.proofs.StampLaws.{leq-refl}
 use Rattle.fw_model.proofs.WeightLaws.{weigh, how_often-where, one}
 use Rattle.fw_model.proofs.SentLaws.{timed_of, next_delivered-lighter}
 use Rattle.fw_model.proofs.ArrivalLaws.{together-weigh}
@@ -30,9 +30,6 @@ use Rattle.fw_model.proofs.DomainLaws.{sort_of, inner_edge, output-sent, each_in
 use Rattle.fw_model.proofs.DenotedLaws.{sequence-fewer}
 use Rattle.fw_model.proofs.PrefixLaws.{closed-denoted, all_denoted, sequenced}
 use Rattle.fw_model.proofs.OncePerNumberLaws.{any_at, one-any, some_at_stamp, denoted-once, agree-below}
-
-two_ways : (b : Bool) → b ≡ true → b ≡ false → ⊥
-two_ways b p q = cc
 
 -- each rec was delivered at most as often as it is in the family
 abbrev IsDeliveredWithin : Family → List Event → Type 0

@@ -2,25 +2,23 @@
 use Rattle.std.proofs.Common.{◌≡◌, ℕ, ◌+◌, ◌*◌, ◌/◌, ◌%◌, ◌^◌, Bool, true, false, cond, ◌&&◌, ◌||◌, ◌==◌, nat_lt, List, [], ◌∷◌, map, refl, sym, ap, ◌∙◌, inl, inr, arith}
 use Rattle.std.specs.List.{flat_map}
 use Rattle.std.specs.Prelude.{filter}
-use Rattle.std.specs.Ordering.{is_eq, nat_cmp, ordering_then}
-use Rattle.std.specs.declared.cmp.Ordering.{Ordering}
-use Rattle.std.specs.declared.cmp.Ordering.TheVariants.{Less, Equal, Greater}
+use Rattle.std.specs.Ordering.{is_eq, nat_cmp}
 use Rattle.std.proofs.Math.Nat.{div-add-mod, add-mul-mod_self_left}
 use Rattle.std.proofs.lemmas.Bool.{or_parts, cond-true, cond-false, cases_Bool, eqb-true, eqb-false, eq-eqb, ne_eqb, lt-ltb}
 use Rattle.std.proofs.lemmas.Bool.Decides.{nat_tests}
 use Rattle.fw_time.specs.Stamp.{Stamp, leq, same}
+use Rattle.fw_time.proofs.EachLaws.{each-one}
 use Rattle.fw_bag.specs.declared.rec.Rec.{Rec}
 use Rattle.fw_bag.specs.Rec.{rec_cmp}
 use Rattle.fw_bag.specs.Bag.{how_often}
 use Rattle.fw_bag.specs.Keyed.{plus, value_sum, has_key, distinct_keys, sums_of}
 use Rattle.fw_flow.specs.WholeBags.{Timed, timed, recs_where, has_stamp, distinct_stamps, sums_at, totals_at}
-use Rattle.fw_model.proofs.WeightLaws.{weigh, weigh-flat_map, weigh-map, weigh-same, weigh-equal, one, same-is, same-self}
+use Rattle.fw_model.proofs.WeightLaws.{weigh, weigh-flat_map, weigh-map, weigh-same, weigh-equal, one}
 use Rattle.fw_model.proofs.ArrivalLaws.{at_edge}
 use Rattle.fw_model.proofs.DistinctLaws.{passing, same-swap}
-use Rattle.fw_model.proofs.JoinLaws.{weigh-timed, each_elem}
-
-two_ways : (b : Bool) → b ≡ true → b ≡ false → ⊥
-two_ways b p q = cc
+use Rattle.fw_model.proofs.JoinLaws.{weigh-timed}
+use Rattle.fw_model.proofs.StampLaws.{same-is, same-refl}
+use Rattle.fw_model.proofs.CmpLaws.{then_parts}
 
 -- ---- weights of recs
 
@@ -111,11 +109,6 @@ keys-once k n (r ∷ rs) =
 nat_cmp-test : (m n : ℕ) → is_eq (nat_cmp m n) ≡ (m == n)
 nat_cmp-test m n = grind (arith, nat_tests)
 
-then_parts : (o p : Ordering) → is_eq (ordering_then o p) ≡ (is_eq o && is_eq p)
-then_parts Less p = refl
-then_parts Equal p = refl
-then_parts Greater p = refl
-
 rec_cmp-test : (x y : Rec) → is_eq (rec_cmp x y) ≡ (x.key == y.key && x.value == y.value)
 rec_cmp-test x y =
     then_parts (nat_cmp x.key y.key) (nat_cmp x.value y.value)
@@ -177,7 +170,7 @@ stamps-once t n (r ∷ rs) =
           ∙ elim (cases_Bool (same r.at t)) [
             | inl j ↦
                 let i = same-is r.at t j in
-                let here : f r.at ≡ n = ap f i ∙ cond-true (same t t) n 0 (same-self t) in
+                let here : f r.at ≡ n = ap f i ∙ cond-true (same t t) n 0 (same-refl t) in
                 let none : cond (has_stamp t rs) n 0 ≡ 0 = ap (λ b. cond b n 0) (sym (ap (λ x. has_stamp x rs) i) ∙ e) in
                 (omega (arith, here, none, h)) ∙ sym (ap (λ b. cond (b || has_stamp t rs) n 0) j)
             | inr j ↦
@@ -199,7 +192,7 @@ stamped-is : (t : Stamp) (x : Rec) (f : Stamp → List Rec) (rs : List Timed) �
 stamped-is t x f rs z =
     weigh-flat_map (one t x) (λ u. timed u (f u)) (distinct_stamps rs)
     ∙ weigh-same (λ u. weigh (one t x) (timed u (f u))) (λ u. cond (same t u) (how_often x (f t)) 0) (distinct_stamps rs)
-    (each_elem (λ u. weigh (one t x) (timed u (f u)) ≡ cond (same t u) (how_often x (f t)) 0) each (distinct_stamps rs))
+    (each-one (λ u. weigh (one t x) (timed u (f u)) ≡ cond (same t u) (how_often x (f t)) 0) (distinct_stamps rs) each)
     ∙ stamps-once t (how_often x (f t)) rs
     ∙ elim (cases_Bool (has_stamp t rs)) [
       | inl e ↦ ap (λ b. cond b (how_often x (f t)) 0) e

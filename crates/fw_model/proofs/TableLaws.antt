@@ -1,9 +1,10 @@
 -- The table of what a sequence sent follows the history.
 use Rattle.std.proofs.Common.{◌≡◌, ℕ, ◌+◌, Bool, true, false, cond, ◌==◌, List, [], ◌∷◌, ◌++◌, length, refl, sym, ap, ◌∙◌, arith}
 use Rattle.std.specs.List.{AllByRecursion}
-use Rattle.std.proofs.lemmas.Bool.{eq-eqb}
+use Rattle.std.proofs.lemmas.Bool.{eq-eqb, true≢false}
 use Rattle.fw_bag.specs.declared.rec.Rec.{Rec}
 use Rattle.fw_time.specs.Stamp.{Stamp}
+use Rattle.fw_time.proofs.EachLaws.{each-weaker}
 use Rattle.fw_frontier.specs.Frontier.{Frontier}
 use Rattle.fw_flow.specs.declared.event.Event.{Event}
 use Rattle.fw_flow.specs.declared.event.Event.TheVariants.{Inject, Deliver, Notify}
@@ -13,7 +14,6 @@ use Rattle.fw_flow.specs.Dataflow.{System, kind_of}
 use Rattle.fw_flow.specs.NodeFunction.{place, stamp, recs_on, numbered_messages, sequence_sent, sends_of_kind, sends, sent_by}
 use Rattle.fw_flow.specs.Projection.{events_at, all_inside, count_from, table_count}
 use Rattle.fw_model.specs.LawsOfSending.{is_notification_of, SentTableFollowsHistory}
-use Rattle.fw_model.proofs.EachLaws.{each-weaker}
 use Rattle.fw_model.proofs.PhiLaws.{count-append}
 use Rattle.fw_model.proofs.SequenceLaws.{IsNumbered, numbered-each, one_inside, count-none}
 
@@ -67,10 +67,7 @@ stays-at : (sys : System) (p : ℕ) (f : Frontier) (vs : List Event) (v : Event)
 stays-at sys p f vs v false k e n = refl
 stays-at sys p f vs (Inject s x) true k e n = quiet sys p f (Inject s x) vs k refl
 stays-at sys p f vs (Deliver d m) true k e n = quiet sys p f (Deliver d m) vs k refl
-stays-at sys p f vs (Notify q t) true k e n = absurd (lies (sym e ∙ n))
-  where
-    lies : true ≡ false → ⊥
-    lies e = cc
+stays-at sys p f vs (Notify q t) true k e n = absurd (true≢false (sym e ∙ n))
 
 pub table-follows : SentTableFollowsHistory
 table-follows sys p k = record {

@@ -2,33 +2,26 @@
 use Rattle.std.proofs.Common.{◌≡◌, ℕ, ◌+◌, Bool, true, false, cond, List, [], ◌∷◌, filter, refl, sym, ap, ◌∙◌, subst, arith}
 use Rattle.std.proofs.lemmas.Bool.{cond_both}
 use Rattle.std.proofs.lemmas.Cmp.{nat_list_cmp_total, on_total, then_total, tied_itself, upto}
-use Rattle.std.proofs.lemmas.Map.Text.{is_eq-slice_cmp}
-use Rattle.std.proofs.lemmas.Slice.Eq.{bytes_eq-Decides}
 use Rattle.std.specs.Cmp.{IsTotalOrder}
 use Rattle.std.specs.declared.cmp.Ordering.{Ordering}
 use Rattle.std.specs.declared.cmp.Ordering.TheVariants.{Less, Equal, Greater}
 use Rattle.std.specs.List.{AllByRecursion}
-use Rattle.std.specs.Ordering.{ordering_then, ordering_reverse, is_eq, is_le, is_gt}
+use Rattle.std.specs.Ordering.{ordering_reverse, is_eq, is_le, is_gt}
 use Rattle.fw_bag.specs.declared.rec.Rec.{Rec}
 use Rattle.fw_bag.specs.Rec.{rec_cmp}
 use Rattle.fw_bag.proofs.RecLaws.{rec_order, rec_cmp-same}
+use Rattle.fw_bag.proofs.OrderingLaws.{then_equal, equal_from_is_eq, gt_of, le_not_gt}
 use Rattle.fw_time.specs.Stamp.{Stamp, stamp_cmp}
+use Rattle.fw_time.proofs.EachLaws.{each-kept}
 use Rattle.fw_flow.specs.Counting.{how_many}
 use Rattle.fw_flow.specs.WholeBags.{Timed, timed_cmp, with_timed, in_order}
+use Rattle.fw_model.proofs.CmpLaws.{stamp_cmp-same}
 
 -- ---- the order
 
 -- the order of timed recs is total
 pub timed_order : IsTotalOrder timed_cmp
 timed_order = then_total (on_total (λ (x : Timed). x.at) nat_list_cmp_total) (on_total (λ (x : Timed). x.rec) rec_order)
-
-then_equal : (o p : Ordering) → ordering_then o p ≡ Equal → (o ≡ Equal) × (p ≡ Equal)
-then_equal Less p h = cc
-then_equal Equal p h = (refl, h)
-then_equal Greater p h = cc
-
-stamp_cmp-same : (s t : Stamp) → stamp_cmp s t ≡ Equal → s ≡ t
-stamp_cmp-same s t e = (bytes_eq-Decides s t).0 (sym (is_eq-slice_cmp s t) ∙ ap is_eq e)
 
 -- timed recs of which neither is less are equal
 pub timed_cmp-same : (x y : Timed) → timed_cmp x y ≡ Equal → x ≡ y
@@ -42,24 +35,9 @@ timed_cmp-same x y h =
 pub timed_cmp-refl : (x : Timed) → timed_cmp x x ≡ Equal
 timed_cmp-refl x = tied_itself timed_order x
 
-equal_from_is_eq : (o : Ordering) → is_eq o ≡ true → o ≡ Equal
-equal_from_is_eq Less h = cc
-equal_from_is_eq Equal h = refl
-equal_from_is_eq Greater h = cc
-
 -- timed recs that the test finds equal are equal
 pub timed-same : (x y : Timed) → is_eq (timed_cmp x y) ≡ true → x ≡ y
 timed-same x y h = timed_cmp-same x y (equal_from_is_eq _ h)
-
-gt_is_greater : (o : Ordering) → is_le o ≡ false → o ≡ Greater
-gt_is_greater Less h = cc
-gt_is_greater Equal h = cc
-gt_is_greater Greater h = refl
-
-not_gt_from_le : (o : Ordering) → is_le o ≡ true → is_gt o ≡ false
-not_gt_from_le Less h = refl
-not_gt_from_le Equal h = refl
-not_gt_from_le Greater h = cc
 
 -- ---- ascending lists
 
@@ -98,9 +76,9 @@ unfolding IsAscendingTimed
 ascending-with_timed r [] a = (tt, tt)
 ascending-with_timed r (x ∷ xs) a =
     cond_both (is_le (timed_cmp r x)) (r ∷ x ∷ xs) (x ∷ with_timed r xs) IsAscendingTimed
-    (λ e. let g = not_gt_from_le (timed_cmp r x) e in ((g, above-weaker r x xs g a.0), a))
+    (λ e. let g = le_not_gt (timed_cmp r x) e in ((g, above-weaker r x xs g a.0), a))
     (λ e.
-    let g : is_gt (timed_cmp x r) ≡ false = ap is_gt (timed_order.antisymm x r ∙ ap ordering_reverse (gt_is_greater (timed_cmp r x) e)) in
+    let g : is_gt (timed_cmp x r) ≡ false = ap is_gt (timed_order.antisymm x r ∙ ap ordering_reverse (gt_of (timed_cmp r x) e)) in
     (each-with_timed (λ y. is_gt (timed_cmp x y) ≡ false) r xs g a.0, ascending-with_timed r xs a.1))
 
 -- what is in order ascends
@@ -109,19 +87,13 @@ unfolding IsAscendingTimed
 ascending-in_order [] = tt
 ascending-in_order (x ∷ xs) = ascending-with_timed x (in_order xs) (ascending-in_order xs)
 
-each-filter : {X : Type 0} (test : X → Bool) (P : X → Type 0) (xs : List X) → AllByRecursion P xs → AllByRecursion P (filter test xs)
-each-filter test P [] a = tt
-each-filter test P (x ∷ xs) a =
-    cond_both (test x) (x ∷ filter test xs) (filter test xs) (AllByRecursion P)
-    (λ e. (a.0, each-filter test P xs a.1)) (λ e. each-filter test P xs a.1)
-
 -- what passes a test ascends
 pub ascending-filter : (test : Timed → Bool) (xs : List Timed) → IsAscendingTimed xs → IsAscendingTimed (filter test xs)
 unfolding IsAscendingTimed
 ascending-filter test [] a = tt
 ascending-filter test (x ∷ xs) a =
     cond_both (test x) (x ∷ filter test xs) (filter test xs) IsAscendingTimed
-    (λ e. (each-filter test (λ y. is_gt (timed_cmp x y) ≡ false) xs a.0, ascending-filter test xs a.1)) (λ e. ascending-filter test xs a.1)
+    (λ e. (each-kept (λ y. is_gt (timed_cmp x y) ≡ false) test xs a.0, ascending-filter test xs a.1)) (λ e. ascending-filter test xs a.1)
 
 -- ---- how often a timed rec is in a list
 

@@ -1,17 +1,17 @@
 -- The weight of a list: the sum of a number of each element.
 use Rattle.std.proofs.Common.{◌≡◌, ℕ, zero, suc, ◌+◌, ◌<◌, ◌≤◌, Bool, true, false, cond, ◌&&◌, List, [], ◌∷◌, ◌++◌, map, refl, ap, ◌∙◌, inl, inr, arith}
+use Rattle.std.proofs.Math.Bool.{and-false}
 use Rattle.std.specs.List.{AllByRecursion, flat_map}
 use Rattle.std.specs.Ordering.{is_eq}
 use Rattle.std.specs.Prelude.{filter}
 use Rattle.std.proofs.lemmas.Bool.{and_parts, and_from, cases_Bool, cond_both, cond-true, cond-false}
-use Rattle.fw_time.specs.Stamp.{Stamp, leq, same}
-use Rattle.fw_time.proofs.StampLaws.{leq-antisym}
+use Rattle.fw_time.specs.Stamp.{Stamp, same}
 use Rattle.fw_bag.specs.declared.rec.Rec.{Rec}
 use Rattle.fw_bag.specs.Rec.{rec_cmp}
 use Rattle.fw_bag.specs.Bag.{how_often}
 use Rattle.fw_bag.proofs.RecLaws.{is_eq-same, rec_cmp-refl}
 use Rattle.fw_flow.specs.WholeBags.{Timed, recs_where}
-use Rattle.fw_model.proofs.StampLaws.{leq-refl}
+use Rattle.fw_model.proofs.StampLaws.{same-is, same-refl}
 
 -- the sum of the weights of the elements
 unfoldable pub weigh : {A : Type 0} → (A → ℕ) → List A → ℕ
@@ -50,12 +50,6 @@ weigh-none w (x ∷ xs) a = let h = weigh-none w xs a.1 in let e = a.0 in omega 
 
 -- ---- timed recs
 
-pub same-is : (s t : Stamp) → same s t ≡ true → s ≡ t
-same-is s t k = let a = and_parts (leq s t) (leq t s) k in leq-antisym s t a.0 a.1
-
-pub same-self : (s : Stamp) → same s s ≡ true
-same-self s = and_from (leq s s) (leq s s) (leq-refl s) (leq-refl s)
-
 -- whether a timed rec is this rec at this stamp
 abbrev pub is_at : Stamp → Rec → Timed → Bool
 is_at t q x = same t x.at && is_eq (rec_cmp q x.rec)
@@ -74,7 +68,7 @@ is_at-is t q x k =
     ap (λ s. at_stamp s q) (same-is t x.at a.0) ∙ ap (at_stamp x.at) (is_eq-same q x.rec a.1)
 
 pub is_at-self : (x : Timed) → is_at x.at x.rec x ≡ true
-is_at-self x = and_from (same x.at x.at) (is_eq (rec_cmp x.rec x.rec)) (same-self x.at) (ap is_eq (rec_cmp-refl x.rec))
+is_at-self x = and_from (same x.at x.at) (is_eq (rec_cmp x.rec x.rec)) (same-refl x.at) (ap is_eq (rec_cmp-refl x.rec))
 
 pub one-in : (t : Stamp) (q : Rec) (x : Timed) → is_at t q x ≡ true → one t q x ≡ 1
 unfolding one
@@ -141,12 +135,8 @@ how_often-where t q (x ∷ xs) =
           ap (λ b. how_often q (map (λ r. r.rec) (cond b (x ∷ filter (λ r. same t r.at) xs) (filter (λ r. same t r.at) xs)))) e
           ∙ cond_both (is_eq (rec_cmp q x.rec)) (how_often q (recs_where (same t) xs) + 1) (how_often q (recs_where (same t) xs)) (λ n. n ≡ one t q x + weigh (one t q) xs)
           (λ c. let i = one-in t q x (and_from (same t x.at) (is_eq (rec_cmp q x.rec)) e c) in omega arith)
-          (λ c. let i = one-out t q x (ap (λ b. same t x.at && b) c ∙ no (same t x.at)) in omega arith)
+          (λ c. let i = one-out t q x (ap (λ b. same t x.at && b) c ∙ and-false (same t x.at)) in omega arith)
       | inr e ↦
           let i = one-out t q x (ap (λ b. b && is_eq (rec_cmp q x.rec)) e) in
           ap (λ b. how_often q (map (λ r. r.rec) (cond b (x ∷ filter (λ r. same t r.at) xs) (filter (λ r. same t r.at) xs)))) e ∙ omega arith
     ]
-  where
-    no : (b : Bool) → (b && false) ≡ false
-    no true = refl
-    no false = refl

@@ -8,8 +8,8 @@ use Rattle.fw_flow.specs.Dataflow.{System, bounds_of}
 use Rattle.fw_model.specs.Machine.{Write, Written, checkpoint, logged_event, Progress, in_flight, acknowledged, collected, front_of}
 use Rattle.fw_model.specs.Choice.{View, kept, ever, counts, HasCheckpoint, IsLogged}
 use Rattle.fw_model.proofs.Decisions.{two_ways}
-use Rattle.fw_model.proofs.EachLaws.{each-append}
-use Rattle.fw_model.proofs.CheckpointLaws.{HoldsSettled, each-mapped, each-passed, each-replaced}
+use Rattle.fw_model.proofs.CheckpointLaws.{HoldsSettled, each-passed, each-replaced}
+use Rattle.fw_time.proofs.EachLaws.{each-append, each-map}
 
 -- ---- some element of a list
 
@@ -126,7 +126,7 @@ pub pairs-mapped : (R : ℕ → Written → ℕ → Written → Type 0) (far : W
     → ArePairs R (map (λ (x : Write). record x { progress = far x }) xs)
 pairs-mapped R far [] a = tt
 pairs-mapped R far (x ∷ xs) a =
-    (each-mapped (λ (y : Write). R x.node x.written y.node y.written) (λ (y : Write). record y { progress = far y }) xs a.0, pairs-mapped R far xs a.1)
+    (each-map (λ (y : Write). R x.node x.written y.node y.written) (λ (y : Write). record y { progress = far y }) xs a.0, pairs-mapped R far xs a.1)
 
 pub pairs-replaced : (R : ℕ → Written → ℕ → Written → Type 0) (xs : List Write) (y : Write) (far : Progress) (ys : List Write) → ArePairs R (xs ++ y ∷ ys)
     → ArePairs R (xs ++ record y { progress = far } ∷ ys)

@@ -2,6 +2,7 @@
 use Rattle.std.proofs.Common.{◌≡◌, ◌≢◌, ℕ, zero, suc, ◌<◌, List, [], ◌∷◌, ◌++◌, length, Some, None, refl, sym, ap, subst, ◌∙◌, inl, inr}
 use Rattle.std.specs.List.{AllByRecursion}
 use Rattle.fw_time.specs.declared.stamp.Bounds.{Bounds}
+use Rattle.fw_time.proofs.EachLaws.{each-suffix}
 use Rattle.fw_frontier.specs.Frontier.{Within}
 use Rattle.fw_frontier.specs.Front.{Front, frontier_of, IsCanonical}
 use Rattle.fw_flow.specs.declared.choice.Cut.{Cut}
@@ -18,11 +19,6 @@ use Rattle.fw_monitor.specs.Descent.{bare, owner, reach, left_of, IsLeft, IsLowe
 
 -- ---- records
 
--- a list in three parts
-all-middle : {A : Type 0} (P : A → Type 0) (pre : List A) (x : A) (post : List A) → AllByRecursion P (pre ++ x ∷ post) → P x
-all-middle P [] x post a = a.0
-all-middle P (y ∷ pre) x post a = all-middle P pre x post a.1
-
 not_listed : (xs : List Recorded) (f : Front) → IsListed f xs → AllByRecursion (λ s. s.front ≡ f → ⊥) xs → ⊥
 not_listed [] f l n = l
 not_listed (x ∷ xs) f (inl e) n = n.0 e
@@ -38,7 +34,7 @@ pub below_last : (b : Bounds) (pre : List Recorded) (r : Recorded) (post : List 
 below_last b [] r post f a (inl e) n = λ t k. ap (λ g. frontier_of b g t) e ∙ k
 below_last b [] r post f a (inr l) n = absurd (not_listed post f l n)
 below_last b (q ∷ pre) r post f a (inl e) n = λ t k.
-    (all-middle (λ s. Within (frontier_of b q.front) (frontier_of b s.front) × (q.front ≢ s.front)) pre r post a.0).0 t (ap (λ g. frontier_of b g t) e ∙ k)
+    ((each-suffix (λ s. Within (frontier_of b q.front) (frontier_of b s.front) × (q.front ≢ s.front)) pre (r ∷ post) a.0).0).0 t (ap (λ g. frontier_of b g t) e ∙ k)
 below_last b (q ∷ pre) r post f a (inr l) n = below_last b pre r post f a.1 l n
 
 -- a record's frontier is within a cut, and the side in it within the bound

@@ -1,6 +1,6 @@
 -- Steps of the descent, as its calls make them.
 use Rattle.std.proofs.Common.{◌≡◌, ◌↔◌, ℕ, ◌+◌, ◌<◌, Bool, true, false, ◌||◌, List, [], length, set, get_or, None, refl, sym, ap, subst, ◌∙◌, inl, inr, arith}
-use Rattle.std.proofs.lemmas.Bool.{or_parts, or_cases, cases_lt}
+use Rattle.std.proofs.lemmas.Bool.{or_parts, or_cases, cases_lt, both_ways}
 use Rattle.std.proofs.lemmas.List.{get_or_read}
 use Rattle.fw_time.specs.declared.stamp.Bounds.{Bounds}
 use Rattle.fw_frontier.specs.Frontier.{Frontier, Within, meet}
@@ -73,12 +73,9 @@ note_cut notes p q bound f x y r e l i j k test cut =
       ap (λ z. set notes z f) e,
       λ b c d. (
         subst (λ z. Names b f (meet (frontier_of b z) (frontier_of b bound))) ys (cut b (subst (IsCanonical b) (sym ys) c) d),
-        λ w. apart r ((test b d).1 (subst (λ z. Within (frontier_of b z) (frontier_of b bound)) (sym xs) w)) k,
+        λ w. both_ways r k ((test b d).1 (subst (λ z. Within (frontier_of b z) (frontier_of b bound)) (sym xs) w)),
       ),
     )
-  where
-    apart : (r : Bool) → r ≡ true → r ≡ false → ⊥
-    apart r u v = cc
 
 pub note_lowered_step : (flow : Dataflow) (offers : List Offer) (cuts : List Cut) (old new : List Front) (p : ℕ) (bound : Front) (right : Frontier) (b : Bool) → p < length flow.nodes → EnclosesConsistent flow offers (choice_of cuts old)
     → Names (bounds_of flow p) bound right

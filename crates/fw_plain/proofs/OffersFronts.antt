@@ -17,8 +17,9 @@ use Rattle.fw_flow.specs.Dataflow.{System, Dataflow, kind_of, bounds_of, bounds_
 use Rattle.fw_model.specs.Choice.{kept, Restoring, by_batches, by_bound, by_anything, by_checkpoints, by_events, IsRestorable, until}
 use Rattle.fw_model.specs.History.{injected_count, is_exhausted}
 use Rattle.fw_model.specs.Machine.{Machine, events, front_of, bound_of}
-use Rattle.fw_model.proofs.EachLaws.{each-append}
-use Rattle.fw_model.proofs.StampLaws.{leq-trans, line-leq, leq-line}
+use Rattle.fw_time.proofs.EachLaws.{each-append}
+use Rattle.fw_time.proofs.StampLaws.{leq-trans}
+use Rattle.fw_model.proofs.StampLaws.{line-leq, leq-line}
 use Rattle.fw_monitor.specs.Offers.{listed, range, IsListed, IsBetween, Ascend, IsRecordOf, IsRangeOf, IsListedBy, AreFrontsOfEdges}
 use Rattle.fw_plain.specs.Offered.{batch_fronts, IsBare, AreBare, OffersBy}
 

@@ -25,7 +25,7 @@ use Rattle.fw_model.specs.Machine.{Machine, events, is_failed, no_stamps, front_
 use Rattle.fw_model.specs.Plain.{AreAtNodes}
 use Rattle.fw_model.proofs.ChoiceLaws.{by_batches-input, bounds-input}
 use Rattle.fw_model.proofs.DomainLaws.{edge-bounds, has_epochs}
-use Rattle.fw_model.proofs.EachLaws.{each-weaker}
+use Rattle.fw_time.proofs.EachLaws.{each-weaker}
 use Rattle.fw_model.proofs.InputLaws.{injected-few}
 use Rattle.fw_model.proofs.LegalLaws.{legal_messages-in_domain}
 use Rattle.fw_monitor.specs.Offers.{can_stay, listed, records_of, range, range_of, delivered_to, notified_of, sent_by, IsOffered, IsListed, IsBetween, stamps_from, count_from, is_by_records, recorded_notified, record_at, delivered_at, sent_cover, discarded_at, covers_of, Ascend, IsRecordOf, IsRangeOf, IsListedBy, AreOnEdges, AreOffersOf, AreOffersIn}

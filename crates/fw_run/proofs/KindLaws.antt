@@ -4,7 +4,7 @@ use Rattle.std.specs.List.{AllByRecursion, cons_option, flat_map}
 use Rattle.std.specs.Option.{option_and_then}
 use Rattle.std.specs.Str.{bytes_eq}
 use Rattle.std.specs.Prelude.{codes}
-use Rattle.fw_model.proofs.EachLaws.{each-append}
+use Rattle.fw_time.proofs.EachLaws.{each-append}
 use Rattle.fw_lines.specs.Lines.{Said, said_lines}
 use Rattle.fw_flow.specs.declared.kind.Policy.{Policy}
 use Rattle.fw_flow.specs.declared.kind.Policy.TheVariants as policy

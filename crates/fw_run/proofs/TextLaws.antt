@@ -23,7 +23,7 @@ use Rattle.fw_schedule.specs.Grammar as schedules
 use Rattle.fw_schedule.specs.Steps.{IsStepOf}
 use Rattle.fw_schedule.proofs.ReadLaws as schedule_texts
 use Rattle.fw_schedule.proofs.StepLaws.{steps_sound}
-use Rattle.fw_model.proofs.EachLaws.{each-weaker}
+use Rattle.fw_time.proofs.EachLaws.{each-weaker}
 use Rattle.fw_model.specs.Machine.{places}
 use Rattle.fw_model.specs.Plain.{system_of, batches_of_nodes}
 use Rattle.fw_plain.specs.Engine.{is_plain_step}

@@ -1,3 +1,4 @@
+pub mod EachLaws
 pub mod StampLaws
 pub mod StampSteps
 pub mod TimeLaws

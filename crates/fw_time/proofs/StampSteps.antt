@@ -17,7 +17,7 @@ leq_suc (x ∷ a) (y ∷ b) (suc i) h k = leq_suc a b i (omega arith) (omega ari
 pub leq_more : (a b : List ℕ) (i : ℕ) → i < length a → i < length b → leq (drop i a) (drop i b) ≡ (nat_le (get_or a i 0) (get_or b i 0) && leq (drop (i + 1) a) (drop (i + 1) b))
 leq_more a b i h k = rw add-one (leq_suc a b i h k)
 
-length-origin : (s : List ℕ) → length (origin s) ≡ length s
+pub length-origin : (s : List ℕ) → length (origin s) ≡ length s
 length-origin [] = refl
 length-origin (x ∷ s) = ap suc (length-origin s)
 

@@ -7,7 +7,7 @@ ghost use Rattle.fw_flow.specs.Dataflow.{is_numbered};
 ghost use Rattle.fw_model.specs.History as history;
 ghost use Rattle.fw_model.specs.History.{IsNextBatch};
 ghost use Rattle.fw_model.specs.Least as least;
-ghost use Rattle.fw_model.specs.Least.{is_wanted_message, IsLeast, lesser_of};
+ghost use Rattle.fw_model.specs.Least.{is_wanted_message, IsLeastBy, lesser_by};
 ghost use Rattle.fw_model.specs.LawsOfLegalHistories.{HasEpochs};
 ghost use Rattle.fw_model.specs.Steps.{IsNextMessage, IsNextNotice};
 ghost use Rattle.fw_model.specs.Plain.{system_of, AreAtNodes};
@@ -135,7 +135,7 @@ fn least_wanted(
     number: Option<usize>,
     at: Option<&Stamp>,
 ) -> Option<Message>
-    ensures { IsLeast (is_wanted_message number (option_copied at.entry)) messages.items result }
+    ensures { IsLeastBy history.message_cmp (is_wanted_message number (option_copied at.entry)) messages.items result }
 {
     let mut rest = messages;
     let mut least = None;
@@ -149,7 +149,7 @@ fn least_wanted(
 
 /// The message, unless the other one comes before it.
 fn lesser(message: Message, other: Option<Message>) -> Message
-    ensures { result ≡ lesser_of message other }
+    ensures { result ≡ lesser_by history.message_cmp message other }
 {
     match other {
         None => message,

@@ -4,7 +4,7 @@ ghost use Rattle.std.specs.List.{list_any};
 ghost use Rattle.std.specs.Option.{option_copied};
 ghost use Rattle.fw_time.specs.Stamp as time;
 ghost use Rattle.fw_model.specs.Ready as spec;
-ghost use Rattle.fw_model.specs.Ready.{IsLeast};
+ghost use Rattle.fw_model.specs.Least.{IsLeastBy, lesser_by};
 
 use super::next::is_asked;
 use fw_frontier::Front;
@@ -17,7 +17,7 @@ pub(super) fn least_ready(
     arrived: &Front,
     at: Option<&Stamp>,
 ) -> Option<Stamp>
-    ensures { IsLeast (spec.is_ready owed.now waiting.now arrived.now (option_copied at.entry)) owed.now result }
+    ensures { IsLeastBy time.stamp_cmp (spec.is_ready owed.now waiting.now arrived.now (option_copied at.entry)) owed.now result }
 {
     let mut least = None;
     for stamp in owed {
@@ -61,7 +61,7 @@ fn has_up_to(stamps: &[Stamp], t: &Stamp) -> bool
 
 /// The stamp, unless the other one comes before it.
 fn lesser(stamp: &Stamp, other: Option<Stamp>) -> Stamp
-    ensures { result ≡ spec.lesser_of stamp.now other }
+    ensures { result ≡ lesser_by time.stamp_cmp stamp.now other }
 {
     match other {
         None => stamp.copy(),

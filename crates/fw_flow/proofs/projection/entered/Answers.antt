@@ -1,5 +1,5 @@
 use Rattle.std.proofs.Common.{◌≡◌, ◌<◌, length, ◌∙◌, ap, arith}
-use Rattle.fw_flow.proofs.ProjectionLaws.{length-origin}
+use Rattle.fw_time.proofs.StampSteps.{length-origin}
 use Rattle.fw_flow.proofs.projection.entered.Goals as goal
 
 pub nest-requires : goal.nest-requires

@@ -1,7 +1,8 @@
 use Rattle.std.proofs.Common.{◌≡◌, ◌∙◌, ap, true, not, ◌&&◌, length, get_or, arith}
 use Rattle.fw_time.specs.Stamp.{leq, in_domain}
 use Rattle.fw_time.proofs.StampLaws.{leq-length}
-use Rattle.fw_frontier.proofs.GenericLaws.{inside_more, each-at}
+use Rattle.fw_time.proofs.EachLaws.{each-at}
+use Rattle.fw_frontier.proofs.GenericLaws.{inside_more}
 use Rattle.fw_frontier.proofs.frontier.Frontier.from_front.Goals as goal
 
 pub loop-o-preserved : goal.loop-o-preserved

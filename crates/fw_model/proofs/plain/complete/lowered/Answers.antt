@@ -2,11 +2,12 @@ use Rattle.std.proofs.Common.{reverse}
 use Rattle.fw_frontier.specs.Front.{frontier_of}
 use Rattle.fw_flow.specs.Dataflow.{bounds_of}
 use Rattle.fw_model.specs.Plain.{system_of, family_of}
-use Rattle.fw_model.proofs.CompleteSteps.{arrived_here, lowered_more, lowered_none}
+use Rattle.fw_model.proofs.CompleteSteps.{arrived_here, lowered_more}
 use Rattle.fw_model.proofs.plain.complete.lowered.Goals as goal
+use Rattle.fw_model.proofs.ClearSteps.{names_first}
 
 pub loop-edge-init : goal.loop-edge-init
-loop-edge-init c = lowered_none (bounds_of c.args.flow.now c.args.node) c.args.front c.requires.front
+loop-edge-init c = names_first (bounds_of c.args.flow.now c.args.node) c.args.front c.requires.front
 
 pub loop-edge-preserved : goal.loop-edge-preserved
 loop-edge-preserved c =

@@ -1,7 +1,10 @@
 use Rattle.std.proofs.Common.{sym, subst, ◌∙◌, ◌+◌, take}
 use Rattle.std.specs.Option.{option_copied}
-use Rattle.fw_model.specs.Ready.{is_ready, IsLeast}
-use Rattle.fw_model.proofs.ReadySteps.{least_more, least_same}
+use Rattle.fw_time.specs.Stamp.{stamp_cmp}
+use Rattle.fw_model.specs.Ready.{is_ready}
+use Rattle.fw_model.specs.Least.{IsLeastBy}
+use Rattle.fw_model.proofs.CmpLaws.{stamp_total}
+use Rattle.fw_model.proofs.LeastSteps.{least_more, least_same}
 use Rattle.fw_model.proofs.plain.ready.least_ready.Goals.{then-is_ready, else-is_ready}
 use Rattle.fw_model.proofs.plain.ready.least_ready.Goals as goal
 
@@ -12,11 +15,11 @@ loop-stamp-preserved c =
     let test = is_ready owed c.args.waiting.now c.args.arrived.now (option_copied c.args.at) in
     elim c.if-is_ready.branch [
       | then-is_ready w ↦
-          subst (λ o. IsLeast test (take (i + 1) owed) o) (sym w.least-is)
-          (least_more test owed i c.stamp-item.result w.lesser.result c.loop-stamp.least c.loop-stamp-test.true c.stamp-item.is
+          subst (λ o. IsLeastBy stamp_cmp test (take (i + 1) owed) o) (sym w.least-is)
+          (least_more stamp_total test owed i c.stamp-item.result w.lesser.result c.loop-stamp.least c.loop-stamp-test.true c.stamp-item.is
           (sym c.is_ready.ensures ∙ w.if-is_ready.true) w.lesser.ensures c.loop-stamp.invariant)
       | else-is_ready w ↦
-          subst (λ o. IsLeast test (take (i + 1) owed) o) (sym w.least-is)
-          (least_same test owed i c.stamp-item.result c.loop-stamp.least c.loop-stamp-test.true c.stamp-item.is
+          subst (λ o. IsLeastBy stamp_cmp test (take (i + 1) owed) o) (sym w.least-is)
+          (least_same stamp_cmp test owed i c.stamp-item.result c.loop-stamp.least c.loop-stamp-test.true c.stamp-item.is
           (sym c.is_ready.ensures ∙ w.if-is_ready.false) c.loop-stamp.invariant)
     ]

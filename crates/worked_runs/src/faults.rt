@@ -97,16 +97,19 @@ fn refused_notes_change_no_status(rt: HostRuntime) -> Result<(), Fail> {
     let mut store = MemStore::new(alloc, Vec::new(alloc));
     let mut out = MemSink::new(alloc, Vec::new(alloc));
     let mut notes = MemSink::new(alloc, vec![in alloc; 0]?);
-    let status = falkirk(
-        alloc,
-        &["run"],
-        &mut folder,
-        &mut store,
-        &mut out,
-        &mut notes,
-    );
-    assert_eq!(rt; status.number(), 2);
-    assert_eq!(rt; notes.taken().len(), 0);
-    assert_eq!(rt; notes.faults(), 1);
+    // the first line is refused; after that refusal the second is taken whole
+    for line in ["", "bad words\n"] {
+        let status = falkirk(
+            alloc,
+            &["run"],
+            &mut folder,
+            &mut store,
+            &mut out,
+            &mut notes,
+        );
+        assert_eq!(rt; status.number(), 2);
+        assert_eq!(rt; notes.taken(), line.as_bytes());
+        assert_eq!(rt; notes.faults(), 1);
+    }
     Ok(())
 }

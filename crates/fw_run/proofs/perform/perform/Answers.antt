@@ -1,10 +1,10 @@
-use Rattle.std.proofs.Common.{◌≡◌, ◌+◌, arith, sym, ◌∙◌, ap, subst, cond, length}
+use Rattle.std.proofs.Common.{◌≡◌, ◌+◌, arith, ◌∙◌, ap, subst, cond, length}
 use Rattle.std.proofs.lemmas.Result.{err_from_is_err_and}
 use Rattle.fw_lines.proofs.BatchLaws.{on_err}
 use Rattle.fw_model.specs.Plain.{system_of}
 use Rattle.fw_outside.specs.declared.fault.OutFault.TheVariants.{Failed}
 use Rattle.fw_run.proofs.Roses.{rose_last, same_fault, on_ok_from, on_err_from}
-use Rattle.fw_run.proofs.RunLaws.{IsSoFar, stops_at_start, stops_at, so_far_next, counted_idle, counted_taken, counted-few, ArePlain, all_so_far, stops_after_steps, stops_at_end, ends}
+use Rattle.fw_run.proofs.RunLaws.{IsSoFar, stops_at_start, stops_at, so_far_next, counted_idle, counted_taken, counted-few, all_so_far, stops_after_steps, stops_at_end, ends}
 use Rattle.fw_outside.specs.Outside.{Takes, TakesPrefix}
 use Rattle.fw_run.specs.Headline.{IsPartPrinted}
 use Rattle.fw_run.specs.Printed.{done_line}

@@ -51,12 +51,12 @@ impl<T: Drop> From<AllocFailed<T>> for OutFault {
     }
 }
 
-/// One more fault; a count at the end of its type stays there.
-pub(crate) fn raised(faults: u64) -> u64
-    ensures rose { Rose faults result }
-    ensures later { faults ≤ result }
+/// One more fault or refusal; a count at the end of its type stays there.
+pub(crate) fn raised(before: u64) -> u64
+    ensures rose { Rose before result }
+    ensures later { before ≤ result }
 {
-    faults.saturating_add(1)
+    before.saturating_add(1)
 }
 
 /// One more; a count at the end of its type stays there.

@@ -1,7 +1,7 @@
 //! Sinks in memory.
-ghost use Rattle.std.specs.Prelude.{◌≡◌, [], Some, false};
+ghost use Rattle.std.specs.Prelude.{◌≡◌, [], Some};
 
-use crate::fault::FaultPlan;
+use crate::fault::{FaultPlan, raised};
 use crate::{OutFault, Sink};
 use std::alloc::{AllocError, Global};
 
@@ -9,18 +9,18 @@ use std::alloc::{AllocError, Global};
 #[derive(Debug, Drop)]
 pub struct FaultlessSink {
     taken: Vec<u8>,
-    has_refused: bool,
+    refusals: u64,
 }
 
 impl FaultlessSink {
     /// A sink that has taken nothing.
     pub fn new(alloc: Global) -> Self
         ensures taken { ⟦<FaultlessSink as Sink>⟧.taken result ≡ Some [] }
-        ensures mark { ⟦<FaultlessSink as Sink>⟧.has_refused result ≡ false }
+        ensures unrefused { ⟦<FaultlessSink as Sink>⟧.refusal_count result ≡ 0 }
     {
         FaultlessSink {
             taken: Vec::new(alloc),
-            has_refused: false,
+            refusals: 0,
         }
     }
 
@@ -35,13 +35,13 @@ impl FaultlessSink {
 impl Sink for FaultlessSink {
     ghost taken = { λ sink. Some sink.taken.items };
 
-    ghost has_refused = { λ sink. sink.has_refused };
+    ghost refusal_count = { λ sink. sink.refusals };
 
     ghost fault_count = { λ _. 0 };
 
     fn write(&mut self, piece: &[u8]) -> Result<(), OutFault> {
         if self.taken.extend_from_slice(piece).is_err() {
-            self.has_refused = true;
+            self.refusals = raised(self.refusals);
             return Err(OutFault::NoMemory);
         }
         Ok(())
@@ -63,7 +63,7 @@ impl MemSink {
     /// A sink that has taken nothing, whose writes of these numbers are to fail.
     pub fn new(alloc: Global, failing: Vec<u64>) -> Self
         ensures taken { ⟦<MemSink as Sink>⟧.taken result ≡ Some [] }
-        ensures mark { ⟦<MemSink as Sink>⟧.has_refused result ≡ false }
+        ensures unrefused { ⟦<MemSink as Sink>⟧.refusal_count result ≡ 0 }
         ensures faultless { ⟦<MemSink as Sink>⟧.fault_count result ≡ 0 }
     {
         MemSink {
@@ -83,13 +83,13 @@ impl MemSink {
 impl Sink for MemSink {
     ghost taken = { λ sink. Some sink.sink.taken.items };
 
-    ghost has_refused = { λ sink. sink.sink.has_refused };
+    ghost refusal_count = { λ sink. sink.sink.refusals };
 
     ghost fault_count = { λ sink. sink.plan.faults };
 
     fn write(&mut self, piece: &[u8]) -> Result<(), OutFault> {
         if self.plan.next_fails() {
-            self.sink.has_refused = true;
+            self.sink.refusals = raised(self.sink.refusals);
             return Err(OutFault::Failed);
         }
         self.sink.write(piece)

@@ -1,5 +1,5 @@
 //! A sink over a real stream.
-ghost use Rattle.std.specs.Prelude.{◌≡◌, None, nat_lt};
+ghost use Rattle.std.specs.Prelude.{◌≡◌, None};
 
 use crate::fault::raised;
 use crate::{OutFault, Sink};
@@ -16,7 +16,8 @@ pub struct StreamSink<W: Write> {
 impl<W: Write> StreamSink<W> {
     /// A sink over this stream.
     pub fn new(stream: W) -> Self
-        ensures { ⟦<StreamSink<W> as Sink>⟧.fault_count result ≡ 0 }
+        ensures unrefused { ⟦<StreamSink<W> as Sink>⟧.refusal_count result ≡ 0 }
+        ensures faultless { ⟦<StreamSink<W> as Sink>⟧.fault_count result ≡ 0 }
     {
         StreamSink { stream, faults: 0 }
     }
@@ -31,7 +32,7 @@ fn write_and_flush<W: Write>(stream: &mut W, piece: &[u8]) -> io::Result<()> {
 impl<W: Write> Sink for StreamSink<W> {
     ghost taken = { λ _. None };
 
-    ghost has_refused = { λ sink. nat_lt 0 sink.faults };
+    ghost refusal_count = { λ sink. sink.faults };
 
     ghost fault_count = { λ sink. sink.faults };
 

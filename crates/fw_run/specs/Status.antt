@@ -1,7 +1,7 @@
 -- The status of a command, and the line that stands for it.
-use Rattle.std.specs.Prelude.{◌≡◌, ◌⊎◌, ℕ, Bool, true, Option, List, [], ◌∷◌, ◌++◌, codes}
+use Rattle.std.specs.Prelude.{◌≡◌, ◌⊎◌, ℕ, Option, List, [], ◌∷◌, ◌++◌, codes}
 use Rattle.std.specs.Fmt.{decimal}
-use Rattle.fw_outside.specs.Outside.{Takes, TakesPrefix}
+use Rattle.fw_outside.specs.Outside.{Rose, Takes, TakesPrefix}
 use Rattle.fw_lines.specs.declared.refusal.Code.{Code}
 use Rattle.fw_lines.specs.declared.refusal.Code.TheVariants.{F1, F2, F3, F4, F5, F6, F7, F8, F9, F10, F11, I1, I2, I3, I4, I5, S1, S2, S3, S4}
 use Rattle.fw_lines.specs.declared.refusal.Refusal.{Refusal}
@@ -50,9 +50,11 @@ note_line ReadFault = codes "read fault\n"
 note_line WriteFault = codes "write fault\n"
 note_line NoMemory = codes "no memory\n"
 
--- a sink has taken the whole line, or first bytes of it and has refused a write
-abbrev pub IsTold : List ℕ → Option (List ℕ) → Option (List ℕ) → Bool → Type 0
-IsTold line before after has_refused = Takes before line after ⊎ (TakesPrefix before line after × (has_refused ≡ true))
+-- a sink has taken the whole line, and its count of refusals stayed; or first bytes of it, and that count rose
+abbrev pub IsTold : List ℕ → Option (List ℕ) → Option (List ℕ) → ℕ → ℕ → Type 0
+IsTold line before after refusals_before refusals_after =
+    (Takes before line after × (refusals_after ≡ refusals_before))
+    ⊎ (TakesPrefix before line after × Rose refusals_before refusals_after)
 
 -- the numbers that a status may have
 abbrev pub status_numbers : List ℕ

@@ -74,8 +74,9 @@ pub fn falkirk<F: Folder, K: Store, O: Sink, N: Sink>(
     ensures recovers { (texts : Texts) → AreAccepted texts → RecoversFailed (spelled_system texts) (spelled_steps texts) }
     ensures largest { (texts : Texts) → AreAccepted texts → CutsToLargest (spelled_system texts) (spelled_steps texts) }
 
-    // The status's line, or first bytes of it where the notes refused a write, then or earlier; at 0 nothing.
-    ensures notes { IsTold (note_line result) (N.taken notes.old) (N.taken notes.new) (N.has_refused notes.new) }
+    // The status's line; or first bytes of it where the notes refused it, and then their count of refusals rose in this
+    // call. At 0 nothing.
+    ensures notes { IsTold (note_line result) (N.taken notes.old) (N.taken notes.new) (N.refusal_count notes.old) (N.refusal_count notes.new) }
     ensures no_notes { result ≡ Status.Done → notes.new ≡ notes.old }
 
     // The store stays as it was, and no count of faults falls.
@@ -90,7 +91,7 @@ pub fn falkirk<F: Folder, K: Store, O: Sink, N: Sink>(
 // Tells a status by its line. Where there is no memory for that line, this is told, and is the status.
 fn tell<N: Sink>(alloc: Global, status: Status, notes: &mut N) -> Status
     ensures status { (result ≡ status) ⊎ (TellsRefusal status × (result ≡ Status.NoMemory)) }
-    ensures notes { IsTold (note_line result) (N.taken notes.old) (N.taken notes.new) (N.has_refused notes.new) }
+    ensures notes { IsTold (note_line result) (N.taken notes.old) (N.taken notes.new) (N.refusal_count notes.old) (N.refusal_count notes.new) }
     ensures done { status ≡ Status.Done → notes.new ≡ notes.old }
     ensures never_falls { N.fault_count notes.old ≤ N.fault_count notes.new }
 {
@@ -113,7 +114,7 @@ fn tell<N: Sink>(alloc: Global, status: Status, notes: &mut N) -> Status
 
 // Writes a line; a refused write changes nothing else.
 fn note<N: Sink>(notes: &mut N, line: &[u8])
-    ensures told { IsTold line.now (N.taken notes.old) (N.taken notes.new) (N.has_refused notes.new) }
+    ensures told { IsTold line.now (N.taken notes.old) (N.taken notes.new) (N.refusal_count notes.old) (N.refusal_count notes.new) }
     ensures never_falls { N.fault_count notes.old ≤ N.fault_count notes.new }
 {
     let _ = notes.write(line);

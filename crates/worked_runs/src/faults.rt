@@ -131,3 +131,27 @@ fn refused_notes_change_no_status(rt: HostRuntime) -> Result<(), Fail> {
     }
     Ok(())
 }
+
+#[test]
+fn notes_after_a_refused_one_are_taken(rt: HostRuntime) -> Result<(), Fail> {
+    let alloc = rt.alloc();
+    let mut folder = MemFolder::new(Vec::new(alloc), Vec::new(alloc));
+    let mut store = MemStore::new(alloc, Vec::new(alloc));
+    let mut out = MemSink::new(alloc, Vec::new(alloc));
+    let mut notes = MemSink::new(alloc, vec![in alloc; 0]?);
+    // the first line is refused, the second is taken whole
+    for line in ["", "bad words\n"] {
+        let status = falkirk(
+            alloc,
+            &["run"],
+            &mut folder,
+            &mut store,
+            &mut out,
+            &mut notes,
+        );
+        assert_eq!(rt; status.number(), 2);
+        assert_eq!(rt; notes.taken(), line.as_bytes());
+        assert_eq!(rt; notes.faults(), 1);
+    }
+    Ok(())
+}

@@ -1,11 +1,11 @@
 //! The top call.
-ghost use Rattle.std.specs.Prelude.{◌≡◌, ◌⊎◌, ◌≤◌, ◌↔◌, true, false, Contains, IsSome};
+ghost use Rattle.std.specs.Prelude.{◌≡◌, ◌⊎◌, ◌≤◌, ◌↔◌, true, false, IsSome};
 ghost use Rattle.fw_lines.specs.declared.refusal.Refusal as lines;
 ghost use Rattle.fw_outside.specs.Outside.{Rose};
 ghost use Rattle.fw_run.specs.Headline.{Prints, PrintsPart, IsRunEnd, StaysLegal, ShowsDenotation, AcknowledgesInOrder, HasOneRun, RecoversFailed, CutsToLargest};
 ghost use Rattle.fw_run.specs.Texts.{Texts, AreThere, AreAccepted, IsFirstRefusal, AreFetchedInTurn, spelled_system, spelled_steps};
 ghost use Rattle.fw_run.specs.Words.{words_in, are_run_words, text_names_of};
-ghost use Rattle.fw_run.specs.Status.{status_number, note_line, IsTold, TellsRefusal, status_numbers};
+ghost use Rattle.fw_run.specs.Status.{status_number, note_line, IsTold, TellsRefusal};
 
 use crate::Status;
 use crate::run::run;
@@ -24,7 +24,6 @@ pub fn falkirk<F: Folder, K: Store, O: Sink, N: Sink>(
     out: &mut O,
     notes: &mut N,
 ) -> Status
-    ensures number { Contains status_numbers (status_number result) }
     ensures bad_words { (result ≡ Status.BadWords) ↔ (are_run_words (words_in words.now) ≡ false) }
     ensures read_fault { result ≡ Status.ReadFault → Rose (F.fault_count folder.old) (F.fault_count folder.new) }
     ensures write_fault { result ≡ Status.WriteFault → Rose (O.fault_count out.old) (O.fault_count out.new) }
@@ -52,8 +51,11 @@ pub fn falkirk<F: Folder, K: Store, O: Sink, N: Sink>(
     ensures nothing_read { result ≡ Status.BadWords → folder.new ≡ folder.old }
     ensures texts_stay { F.texts folder.new ≡ F.texts folder.old }
 
-    // Where the folder tells its texts, a text that is not accepted is refused and accepted ones are run, unless what is
-    // outside fails or memory is refused.
+    // Three texts that are there are accepted, or one of them is the first that is refused. Where the folder tells its texts,
+    // that one is refused and accepted ones are run, unless what is outside fails or memory is refused.
+    ensures decided { (texts : Texts) → let names = text_names_of (words_in words.now) in
+        AreThere (F.texts folder.old) names texts
+        → AreAccepted texts ⊎ ((refusal : lines.Refusal) × IsFirstRefusal (F.texts folder.old) names refusal) }
     ensures refuses { (refusal : lines.Refusal) → let names = text_names_of (words_in words.now) in
         are_run_words (words_in words.now) ≡ true → IsSome (F.texts folder.old)
         → IsFirstRefusal (F.texts folder.old) names refusal

@@ -1,7 +1,7 @@
 //! How a command ended.
-ghost use Rattle.std.specs.Prelude.{◌≡◌};
+ghost use Rattle.std.specs.Prelude.{◌≡◌, Contains};
 ghost use Rattle.fw_run.specs.Status as spec;
-ghost use Rattle.fw_run.specs.Status.{status_number};
+ghost use Rattle.fw_run.specs.Status.{status_number, status_numbers};
 
 use fw_lines::{Code, Refusal};
 
@@ -24,8 +24,10 @@ pub enum Status {
 
 impl Status {
     /// The number that a program ends with: 0, 2 to 7 or 10.
+    #[tactic(auto, using(crate::proofs::Numbers::some_status_number))]
     pub fn number(&self) -> u8
-        ensures { result ≡ status_number self.now }
+        ensures value { result ≡ status_number self.now }
+        ensures among { Contains status_numbers result }
     {
         match self {
             Status::Done => 0,

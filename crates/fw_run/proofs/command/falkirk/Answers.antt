@@ -1,15 +1,15 @@
 use Rattle.std.proofs.Common.{sym, ◌∙◌}
 use Rattle.std.proofs.lemmas.Bool.{false≢true}
 use Rattle.fw_run.proofs.HeadlineLaws.{told_refused, refuses, refuses_told, completes, completes_told, texts-stay_legal, texts-in_order, texts-denoted, texts-one_run, texts-recover, texts-largest}
-use Rattle.fw_run.proofs.Numbers.{Contains-status_number}
+use Rattle.fw_run.proofs.DecidedLaws.{texts-decided}
 use Rattle.fw_run.specs.Words.{words_in, text_names_of}
 use Rattle.fw_run.proofs.command.falkirk.Goals as goal
 
-pub returns-clause-number : goal.returns-clause-number
-returns-clause-number g c = Contains-status_number c.tell.result
-
 pub returns-clause-refused : goal.returns-clause-refused
 returns-clause-refused g c refusal e = c.run-status.ensures.refused refusal (told_refused c.run-status.result c.tell.result refusal c.tell.ensures.status e)
+
+pub returns-clause-decided : goal.returns-clause-decided
+returns-clause-decided g c texts there = texts-decided (g.F.Folder.texts c.args.folder.now) (text_names_of (words_in c.args.words.now)) texts there
 
 pub returns-clause-refuses : goal.returns-clause-refuses
 returns-clause-refuses g c refusal words tells first =

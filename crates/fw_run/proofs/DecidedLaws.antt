@@ -1,0 +1,34 @@
+-- Three texts that are there are accepted, or one of them is the first that is refused.
+use Rattle.std.proofs.Common.{◌≡◌, List, Option, subst, ◌⊎◌, inl, inr}
+use Rattle.std.specs.Prelude.{ℕ}
+use Rattle.fw_lines.specs.declared.refusal.Refusal.{Refusal}
+use Rattle.fw_lines.proofs.ReadLaws.{some_answer as some_inputs}
+use Rattle.fw_flow_text.specs.Grammar as flows
+use Rattle.fw_flow_text.proofs.ReadLaws.{some_answer as some_flow}
+use Rattle.fw_schedule.specs.Grammar as schedules
+use Rattle.fw_schedule.proofs.ReadLaws.{some_answer as some_schedule}
+use Rattle.fw_run.specs.Texts.{Texts, spelled_flow, sources_of, IsFlow, AreInputsOf, AreAccepted, HasText, AreThere, IsFirstRefusal}
+use Rattle.fw_run.specs.Words.{TextNames}
+
+-- where the flow is accepted
+decided_inputs : (told : Option (List ℕ → Option (List ℕ))) (names : TextNames) (texts : Texts) → AreThere told names texts → IsFlow texts.flow
+    → AreAccepted texts ⊎ ((refusal : Refusal) × IsFirstRefusal told names refusal)
+decided_inputs told names texts t accepted =
+    let flow = spelled_flow texts.flow in
+    let first : HasText told names.flow (λ text. flows.IsAccepted text flow) = record { text = texts.flow; there = t.flow; so = accepted } in
+    elim (some_inputs texts.inputs (sources_of flow)) [
+      | inr refused ↦ inr (refused.0, inr (flow, first, inl (record { text = texts.inputs; there = t.inputs; so = refused.1 })))
+      | inl read ↦
+          let second : AreInputsOf flow texts.inputs = record { size = read.1.size; sound = read.1.sound } in
+          elim (some_schedule texts.schedule flow) [
+            | inr refused ↦ inr (refused.0, inr (flow, first, inr (record { text = texts.inputs; there = t.inputs; so = second }, record { text = texts.schedule; there = t.schedule; so = refused.1 })))
+            | inl steps ↦ inl (record { flow = accepted; inputs = second; schedule = subst (schedules.IsAccepted texts.schedule flow) steps.1.value steps.1 })
+          ]
+    ]
+
+pub texts-decided : (told : Option (List ℕ → Option (List ℕ))) (names : TextNames) (texts : Texts) → AreThere told names texts
+    → AreAccepted texts ⊎ ((refusal : Refusal) × IsFirstRefusal told names refusal)
+texts-decided told names texts t = elim (some_flow texts.flow) [
+  | inl read ↦ decided_inputs told names texts t (subst (flows.IsAccepted texts.flow) read.1.checked.value read.1)
+  | inr refused ↦ inr (refused.0, inl (record { text = texts.flow; there = t.flow; so = refused.1 }))
+]

@@ -1,5 +1,5 @@
 //! Times and frontiers at concrete types, each generic call through its bound.
-ghost use Rattle.std.specs.Prelude.{◌≡◌, length};
+ghost use Rattle.std.specs.Prelude.{◌≡◌, ◌≤◌, length};
 
 use fw_frontier::{Front, Frontier, Logical};
 use fw_time::{Bounds, Epoch, Nest, SeqNo, Stamp, Time};
@@ -33,6 +33,42 @@ fn cut_cover<T: Logical>(
         .join(&T::Frontier::empty(alloc, bounds)?)?;
     let front = both.to_front(alloc, bounds)?;
     format!(in alloc; "{front}")
+}
+
+// The least upper bound of two stamps as times, and whether the one is at most the other, and the bound, and whether the
+// bound is in the domain.
+fn compare<T: Time>(one: &Stamp, other: &Stamp, bounds: &Bounds) -> (Stamp, [bool; 3])
+    requires places { T.places ≤ 4 }
+    requires one { length one.now ≡ T.places }
+    requires other { length other.now ≡ T.places }
+{
+    let (one, other) = (T::from_coords(one), T::from_coords(other));
+    let upper = one.lub(&other);
+    let answers = [one.leq(&other), one.leq(&upper), upper.in_domain(bounds)];
+    (upper.coords(), answers)
+}
+
+// Whether a copy of the frontier below a stamp has this stamp, and the other one, and lies within all, and all in it.
+fn below<T: Logical>(
+    alloc: Global,
+    top: &Stamp,
+    other: &Stamp,
+    bounds: &Bounds,
+) -> Result<[bool; 4], AllocError>
+    requires shape { length bounds.now.greatest ≡ T.places }
+    requires top { length top.now ≡ T.places }
+    requires other { length other.now ≡ T.places }
+{
+    let top = T::from_coords(top);
+    let copy = T::Frontier::below(alloc, &top, bounds)?.copy()?;
+    let all = T::Frontier::all(alloc, bounds)?;
+    let has_other = copy.contains(&T::from_coords(other));
+    Ok([
+        copy.contains(&top),
+        has_other,
+        copy.subset(&all),
+        all.subset(&copy),
+    ])
 }
 
 #[test]
@@ -138,10 +174,38 @@ fn covers_and_cuts_by_their_types(rt: HostRuntime) -> Result<(), Fail> {
     };
     let loops = cut_cover(alloc, &tops, &cut, &two)?;
     assert_eq!(rt; loops.as_str(), "until 1.1 3.0");
-    assert!(rt; tops[0].leq(&tops[0].lub(&tops[1])));
-    assert!(rt; tops[0].in_domain(&two));
-    let stamp = cut.coords();
-    let text = format!(in alloc; "{stamp}")?;
-    assert_eq!(rt; text.as_str(), "1.1");
+    Ok(())
+}
+
+#[test]
+fn compares_by_their_types(rt: HostRuntime) -> Result<(), Fail> {
+    let alloc = rt.alloc();
+    let one = Bounds {
+        greatest: Stamp::new(&[9]),
+    };
+    let (three, nine) = (Stamp::new(&[3]), Stamp::new(&[9]));
+    let (upper, answers) = compare::<SeqNo>(&nine, &three, &one);
+    assert_eq!(rt; upper, nine);
+    assert_eq!(rt; answers, [false, true, true]);
+    let inside = below::<SeqNo>(alloc, &three, &nine, &one)?;
+    assert_eq!(rt; inside, [true, false, true, false]);
+    let inside = below::<SeqNo>(alloc, &nine, &three, &one)?;
+    assert_eq!(rt; inside, [true, true, true, true]);
+    Ok(())
+}
+
+#[test]
+fn compares_in_loops(rt: HostRuntime) -> Result<(), Fail> {
+    let alloc = rt.alloc();
+    let two = Bounds {
+        greatest: Stamp::new(&[9, 3]),
+    };
+    // the second one is past the end of the loop
+    let (wide, deep) = (Stamp::new(&[2, 1]), Stamp::new(&[0, 4]));
+    let (upper, answers) = compare::<Nest<Epoch>>(&wide, &deep, &two);
+    assert_eq!(rt; upper, Stamp::new(&[2, 4]));
+    assert_eq!(rt; answers, [false, true, false]);
+    let inside = below::<Nest<Epoch>>(alloc, &wide, &deep, &two)?;
+    assert_eq!(rt; inside, [true, false, true, false]);
     Ok(())
 }

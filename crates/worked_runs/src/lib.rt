@@ -7,6 +7,8 @@ mod adapters;
 #[cfg(test)]
 mod ample_memory;
 #[cfg(test)]
+mod choices;
+#[cfg(test)]
 mod failures;
 #[cfg(test)]
 mod faults;

@@ -76,21 +76,21 @@ fn select() -> RawKind {
     }
 }
 
-// To keep nothing, where the kind may.
-fn policy(kind: &RawKind) -> Policy {
-    match kind {
-        RawKind::Total | RawKind::Sequence | RawKind::Ledger => Policy::Lazy,
+// How a node is restored, by its word; without one it keeps nothing.
+fn policy(word: &str) -> Policy {
+    match word {
+        "lazy" => Policy::Lazy,
+        "full" => Policy::Full,
         _ => Policy::None,
     }
 }
 
-// Declares a node; without a kind none, so that the flow is refused.
-fn node(alloc: Global, raw: RawFlow, word: &str) -> Result<RawFlow, AllocError> {
+// Declares a node by its kind's name and its policy; without a kind none, so that the flow is refused.
+fn node(alloc: Global, raw: RawFlow, word: &str, policy: Policy) -> Result<RawFlow, AllocError> {
     let ring = name(alloc, "ring")?;
     let Some(kind) = kind(word, ring) else {
         return Ok(raw);
     };
-    let policy = policy(&kind);
     let name = name(alloc, word)?;
     declare(raw, Declaration::Node { name, kind, policy })
 }
@@ -110,28 +110,29 @@ fn edge(
     declare(raw, edge)
 }
 
-// The nodes, of each kind one.
+// The nodes, of each kind one, which keep nothing where their kind may.
 const NODES: &str = "input
 select
 distinct
 join
 sum
-total
+total,lazy
 enter
 concat
 feedback
 leave
-sequence
-ledger
+sequence,lazy
+ledger,lazy
 regroup
 numbers
 epochs
 ";
 
-fn nodes(alloc: Global, raw: RawFlow) -> Result<RawFlow, AllocError> {
+fn nodes(alloc: Global, raw: RawFlow, lines: &str) -> Result<RawFlow, AllocError> {
     let mut raw = raw;
-    for word in NODES.lines() {
-        raw = node(alloc, raw, word)?;
+    for line in lines.lines() {
+        let (word, policy_word, _) = row(line);
+        raw = node(alloc, raw, word, policy(policy_word))?;
     }
     Ok(raw)
 }
@@ -167,24 +168,34 @@ fn row(line: &str) -> (&str, &str, &str) {
     (first, second, third)
 }
 
-fn edges(alloc: Global, raw: RawFlow) -> Result<RawFlow, AllocError> {
+fn edges(alloc: Global, raw: RawFlow, lines: &str) -> Result<RawFlow, AllocError> {
     let mut raw = raw;
-    for line in EDGES.lines() {
+    for line in lines.lines() {
         let (word, from, to) = row(line);
         raw = edge(alloc, raw, word, from, to)?;
     }
     Ok(raw)
 }
 
-/// The declarations of a flow that has a node of each kind.
-pub fn every_kind(alloc: Global) -> Result<RawFlow, AllocError> {
+/// The declarations of a flow: each line of the nodes is a kind, and its policy if it keeps something; each line of the edges
+/// is an edge, its sender and its receiver.
+pub fn declarations(
+    alloc: Global,
+    node_lines: &str,
+    edge_lines: &str,
+) -> Result<RawFlow, AllocError> {
     let raw = ring(alloc, RawFlow::new(alloc))?;
-    let raw = nodes(alloc, raw)?;
-    edges(alloc, raw)
+    let raw = nodes(alloc, raw, node_lines)?;
+    edges(alloc, raw, edge_lines)
 }
 
-// The stamp of one or two numbers with a dot between them; other words spell none.
-fn stamp_of(word: &str) -> Option<Stamp> {
+/// The declarations of a flow that has a node of each kind.
+pub fn every_kind(alloc: Global) -> Result<RawFlow, AllocError> {
+    declarations(alloc, NODES, EDGES)
+}
+
+/// The stamp of one or two numbers with a dot between them; other words spell none.
+pub fn stamp_of(word: &str) -> Option<Stamp> {
     let Some((outer, counter)) = word.split_once('.') else {
         let number = word.parse::<u32>().ok()?;
         return Some(Stamp::new(&[number]));
@@ -194,8 +205,8 @@ fn stamp_of(word: &str) -> Option<Stamp> {
     Some(Stamp::new(&[outer, counter]))
 }
 
-// The outside stamps of a frontier's text, whose other words are `all` and `until`.
-fn stamps_of(alloc: Global, text: &str) -> Result<Vec<Stamp>, AllocError> {
+/// The stamps of a text, whose other words, as `all` and `until`, are none.
+pub fn stamps_of(alloc: Global, text: &str) -> Result<Vec<Stamp>, AllocError> {
     let mut stamps = Vec::new(alloc);
     for word in text.split_whitespace() {
         if let Some(stamp) = stamp_of(word) {

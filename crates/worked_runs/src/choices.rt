@@ -1,0 +1,384 @@
+//! To what the nodes of small flows are restored, from what they offer: checkpoints, ranges, nodes that log, and a loop.
+ghost use Rattle.std.specs.Prelude.{◌≡◌, ◌<◌, true, length, IfOk};
+ghost use Rattle.std.specs.List.{AllByRecursion};
+ghost use Rattle.std.specs.Option.{IfSome};
+ghost use Rattle.fw_time.specs.Stamp.{in_domain};
+ghost use Rattle.fw_frontier.specs.Front.{IsCanonical};
+ghost use Rattle.fw_flow.specs.Dataflow.{kind_of, policy_of, receiver, bounds_of};
+ghost use Rattle.fw_model.specs.Choice as model;
+ghost use Rattle.fw_monitor.specs.Offers.{AreFrontsOfEdges, AreOffersOf, AreOnEdges, IsRecordOf};
+ghost use Rattle.worked_runs.specs.Written as spec;
+ghost use Rattle.worked_runs.specs.Written.{IsOfferOf, IsOfferedBy};
+
+use crate::projections::{declarations, stamp_of, stamps_of};
+use fw_flow::{
+    Causes, Choice, Counted, Cut, EdgeId, Flow, Kind, NodeId, OfEdge, Offer, Offered, Policy,
+    Recorded, Stamps,
+};
+use fw_frontier::Front;
+use fw_lines::ReadFault;
+use fw_monitor::largest;
+use fw_time::{Bounds, Stamp};
+use std::alloc::{AllocError, Global};
+use std::test::Fail;
+
+// The frontier of a domain that has the text's stamps outside; all, if one is past the domain.
+fn front(alloc: Global, bounds: &Bounds, text: &str) -> Result<Front, AllocError>
+    ensures { IfOk result (λ f. IsCanonical bounds.now f) }
+{
+    let outside = stamps_of(alloc, text)?;
+    match Front::checked_until(alloc, &outside, bounds)? {
+        Some(front) => Ok(front),
+        None => Ok(Front::all(alloc)),
+    }
+}
+
+// The frontier of each of the edges, by one text.
+fn of_edges(
+    alloc: Global,
+    flow: &Flow,
+    edges: &[EdgeId],
+    text: &str,
+) -> Result<Vec<OfEdge>, AllocError>
+    ensures { IfOk result (λ fronts. AreFrontsOfEdges flow.now fronts.items) }
+{
+    let mut fronts = Vec::new(alloc);
+    for edge in edges {
+        let edge = *edge;
+        let front = front(alloc, &flow.domain(flow.dst(edge)), text)?;
+        fronts.push(OfEdge { edge, front })?;
+    }
+    Ok(fronts)
+}
+
+// A record by its outside stamp, and after a stroke that of what the node was notified of, what was delivered to it and what
+// it sent, if that is less.
+fn record(alloc: Global, flow: &Flow, node: NodeId, word: &str) -> Result<Recorded, AllocError>
+    ensures { IfOk result (λ r. IsRecordOf flow.now node r) }
+{
+    let (outside, held) = word.split_once('/').unwrap_or((word, word));
+    let domain = flow.domain(node);
+    Ok(Recorded {
+        front: front(alloc, &domain, outside)?,
+        notified: front(alloc, &domain, held)?,
+        delivered: of_edges(alloc, flow, flow.in_edges(node), held)?,
+        discarded: of_edges(alloc, flow, flow.out_edges(node), held)?,
+    })
+}
+
+fn records(
+    alloc: Global,
+    flow: &Flow,
+    node: NodeId,
+    text: &str,
+) -> Result<Vec<Recorded>, AllocError>
+    ensures { IfOk result (λ records. AllByRecursion (IsRecordOf flow.now node) records.items) }
+{
+    let mut records = Vec::new(alloc);
+    for word in text.split_whitespace() {
+        let record = record(alloc, flow, node, word)?;
+        records.push(record)?;
+    }
+    Ok(records)
+}
+
+// Whether a node lists its frontiers.
+fn is_listed(kind: Kind, policy: Policy) -> bool
+    ensures { result ≡ spec.is_listed (model.restoring kind policy) }
+{
+    match kind {
+        Kind::Input => true,
+        Kind::OutputEpoch => false,
+        Kind::OutputNumber => false,
+        Kind::Select { .. } => writes_checkpoints(policy),
+        Kind::Concat { .. } => writes_checkpoints(policy),
+        Kind::Distinct { .. } => writes_checkpoints(policy),
+        Kind::Join { .. } => writes_checkpoints(policy),
+        Kind::Sum { .. } => writes_checkpoints(policy),
+        Kind::Enter(_) => writes_checkpoints(policy),
+        Kind::Feedback(_) => writes_checkpoints(policy),
+        Kind::Leave(_) => writes_checkpoints(policy),
+        Kind::Total => writes_checkpoints(policy),
+        Kind::Sequence => writes_checkpoints(policy),
+        Kind::Ledger => writes_checkpoints(policy),
+        Kind::Regroup(_) => writes_checkpoints(policy),
+    }
+}
+
+fn writes_checkpoints(policy: Policy) -> bool
+    ensures { result ≡ spec.is_listed (model.restoring_of_policy policy) }
+{
+    match policy {
+        Policy::None => false,
+        Policy::Lazy => true,
+        Policy::Logged => true,
+        Policy::Eager => true,
+        Policy::Full => false,
+    }
+}
+
+// The frontiers of a node: its records, or the least and the greatest with `to` between them.
+fn offered(alloc: Global, flow: &Flow, node: NodeId, text: &str) -> Result<Offered, AllocError>
+    ensures { IfOk result (λ o. IsOfferedBy flow.now node o) }
+{
+    if is_listed(flow.kind(node), flow.policy(node)) {
+        return Ok(Offered::Listed(records(alloc, flow, node, text)?));
+    }
+    let (least, greatest) = text.split_once("to").unwrap_or((text, text));
+    let domain = flow.domain(node);
+    Ok(Offered::Between {
+        least: front(alloc, &domain, least)?,
+        greatest: front(alloc, &domain, greatest)?,
+    })
+}
+
+// A message by its edge, its stamp and its cause, which is its stamp if none is written.
+fn message(alloc: Global, flow: &Flow, word: &str) -> Result<Option<Counted>, AllocError>
+    ensures { IfOk result (λ message. IfSome message
+        (λ m. in_domain (bounds_of flow.now (receiver flow.now m.edge)) m.at ≡ true)) }
+{
+    let (edge, rest) = word.split_once(':').unwrap_or((word, ""));
+    let (at, cause) = rest.split_once(':').unwrap_or((rest, rest));
+    let (Some(edge), Some(at), Some(cause)) = (
+        flow.edge_named(edge.as_bytes()),
+        stamp_of(at),
+        stamp_of(cause),
+    ) else {
+        return Ok(None);
+    };
+    if !at.in_domain(&flow.domain(flow.dst(edge))) {
+        return Ok(None);
+    }
+    let causes = Causes::of(alloc, cause)?;
+    Ok(Some(Counted {
+        edge,
+        at,
+        causes,
+        count: 1,
+    }))
+}
+
+fn messages(alloc: Global, flow: &Flow, text: &str) -> Result<Vec<Counted>, AllocError>
+    ensures { IfOk result (λ messages. AreOnEdges flow.now messages.items) }
+{
+    let mut messages = Vec::new(alloc);
+    for word in text.split_whitespace() {
+        if let Some(message) = message(alloc, flow, word)? {
+            messages.push(message)?;
+        }
+    }
+    Ok(messages)
+}
+
+// The stamps of a text; none, if one is past the domain.
+fn stamps_within(alloc: Global, bounds: &Bounds, text: &str) -> Result<Vec<Stamp>, AllocError>
+    ensures { IfOk result (λ stamps. AllByRecursion (λ t. in_domain bounds.now t ≡ true) stamps.items) }
+{
+    let stamps = stamps_of(alloc, text)?;
+    if Front::checked_until(alloc, &stamps, bounds)?.is_none() {
+        return Ok(Vec::new(alloc));
+    }
+    Ok(stamps)
+}
+
+// What a node sent; of a sequence, which these flows do not have, nothing.
+fn sent(alloc: Global, flow: &Flow, node: NodeId, text: &str) -> Result<Vec<Counted>, AllocError>
+    ensures { IfOk result (λ sent. spec.AreSentBy flow.now node sent.items) }
+{
+    if matches!(flow.kind(node), Kind::Sequence) {
+        return Ok(Vec::new(alloc));
+    }
+    messages(alloc, flow, text)
+}
+
+// A part of a line, and the rest.
+fn part(line: &str) -> (&str, &str) {
+    line.split_once('|').unwrap_or((line, ""))
+}
+
+// What a node offers, by its line: whether it failed, its frontiers, what was delivered to it, of what it was notified, and
+// what it sent.
+fn offer(alloc: Global, flow: &Flow, node: NodeId, line: &str) -> Result<Offer, AllocError>
+    ensures { IfOk result (λ o. IsOfferOf flow.now node o) }
+{
+    let (state, rest) = part(line);
+    let (fronts, rest) = part(rest);
+    let (delivered, rest) = part(rest);
+    let (notified, sent_words) = part(rest);
+    Ok(Offer {
+        present: !state.contains("failed"),
+        offered: offered(alloc, flow, node, fronts)?,
+        stamps: Stamps {
+            delivered: messages(alloc, flow, delivered)?,
+            notified: stamps_within(alloc, &flow.domain(node), notified)?,
+            sent: sent(alloc, flow, node, sent_words)?,
+        },
+    })
+}
+
+fn line_at(text: &str, place: usize) -> &str {
+    text.lines().nth(place).unwrap_or("")
+}
+
+// What the nodes offer, by a line each.
+fn offers(alloc: Global, flow: &Flow, text: &str) -> Result<Vec<Offer>, AllocError>
+    ensures { IfOk result (λ offers. AreOffersOf flow.now offers.items) }
+{
+    let mut offers = Vec::new(alloc);
+    for place in 0..flow.nodes() {
+        let node = NodeId::at(place as u32);
+        let offer = offer(alloc, flow, node, line_at(text, place))?;
+        offers.push(offer)?;
+    }
+    Ok(offers)
+}
+
+fn cut_text(alloc: Global, cut: &Cut) -> Result<String, AllocError> {
+    match cut {
+        Cut::Present => format!(in alloc; "present"),
+        Cut::At(front) => format!(in alloc; "{front}"),
+    }
+}
+
+// A line for each node: its cut, and its notification frontier.
+fn choice_text(alloc: Global, choice: &Choice) -> Result<String, AllocError> {
+    let mut text = String::new(alloc);
+    for (cut, note) in choice
+        .cuts
+        .as_slice()
+        .iter()
+        .zip(choice.notes.as_slice().iter())
+    {
+        let cut = cut_text(alloc, cut)?;
+        let note = format!(in alloc; "{note}")?;
+        text.push_str(cut.as_str())?;
+        text.push_str(", ")?;
+        text.push_str(note.as_str())?;
+        text.push('\n')?;
+    }
+    Ok(text)
+}
+
+// To what the nodes of a flow are restored that offer this.
+fn chosen(alloc: Global, flow: &Flow, text: &str) -> Result<String, AllocError> {
+    let offers = offers(alloc, flow, text)?;
+    let choice = largest(alloc, flow, &offers)?;
+    choice_text(alloc, &choice)
+}
+
+fn flow_of(alloc: Global, nodes: &str, edges: &str) -> Result<Flow, ReadFault> {
+    Flow::check(alloc, declarations(alloc, nodes, edges)?)
+}
+
+// Four epochs came, the second of them without recs. The total wrote checkpoints after the first, the second and the fourth;
+// the output, which took three, failed.
+const OF_TOTAL: &str = "input | 0 1 2 3 4 | | | input:0 input:2 input:3
+total | 0 1 2/1 4 | input:0 input:2 input:3 | 0 2 3 | total:0 total:2 total:3
+epochs failed | 0 to 3 | total:0 total:2 | |
+";
+
+#[test]
+fn a_total_falls_to_a_checkpoint_between_others(rt: HostRuntime) -> Result<(), Fail> {
+    let alloc = rt.alloc();
+    let flow = flow_of(
+        alloc,
+        "input\ntotal,lazy\nepochs",
+        "input,input,total\ntotal,total,epochs",
+    )?;
+    let text = chosen(alloc, &flow, OF_TOTAL)?;
+    assert_eq!(rt;
+        text.as_str(),
+        "until 2, until 2\nuntil 2, until 2\nuntil 2, until 2\n"
+    );
+    Ok(())
+}
+
+// The same epochs, with a sum before the total: it wrote checkpoints after the second and the fourth, the total after the
+// first, the third and the fourth.
+const OF_SUM_AND_TOTAL: &str = "input | 0 1 2 3 4 | | | input:0 input:2 input:3
+sum | 0 2/1 4 | input:0 input:2 input:3 | 0 2 3 | sum:0 sum:2 sum:3
+total | 0 1 3 4 | sum:0 sum:2 sum:3 | 0 2 3 | total:0 total:2 total:3
+epochs failed | 0 to 3 | total:0 total:2 | |
+";
+
+const SUM_AND_TOTAL: &str = "input,input,sum
+sum,sum,total
+total,total,epochs
+";
+
+// The output has the total fall to `until 3`, and that the sum to `until 2`, for which the total falls once more.
+#[test]
+fn a_total_falls_again_for_the_sum_that_fell_for_it(rt: HostRuntime) -> Result<(), Fail> {
+    let alloc = rt.alloc();
+    let flow = flow_of(alloc, "input\nsum,lazy\ntotal,lazy\nepochs", SUM_AND_TOTAL)?;
+    let text = chosen(alloc, &flow, OF_SUM_AND_TOTAL)?;
+    assert_eq!(rt;
+        text.as_str(),
+        "until 2, until 2\nuntil 2, until 2\nuntil 1, until 1\nuntil 1, until 1\n"
+    );
+    Ok(())
+}
+
+// Three epochs came. The total logs each event, those of the first two epochs so far; its output took one.
+const OUTPUT_FAILED: &str = "input | 0 1 2 3 | | | input:0 input:1 input:2
+sum | 0 1 | input:0 input:1 input:2 | 0 1 2 | sum:0 sum:1 sum:2
+total | 0 to 2 | sum:0 sum:1 sum:2 | 0 1 | total:0 total:1
+epochs failed | 0 to 1 | total:0 | |
+";
+
+// The same, where the sum failed.
+const SUM_FAILED: &str = "input | 0 1 2 3 | | | input:0 input:1 input:2
+sum failed | 0 1 | input:0 input:1 input:2 | 0 1 2 | sum:0 sum:1 sum:2
+total | 0 to 2 | sum:0 sum:1 sum:2 | 0 1 | total:0 total:1
+epochs | 0 to 1 | total:0 | |
+";
+
+#[test]
+fn a_total_that_logs_falls_for_its_sender_alone(rt: HostRuntime) -> Result<(), Fail> {
+    let alloc = rt.alloc();
+    let flow = flow_of(alloc, "input\nsum,lazy\ntotal,full\nepochs", SUM_AND_TOTAL)?;
+    let text = chosen(alloc, &flow, OUTPUT_FAILED)?;
+    assert_eq!(rt;
+        text.as_str(),
+        "present, all\npresent, all\npresent, all\nuntil 1, until 1\n"
+    );
+    let text = chosen(alloc, &flow, SUM_FAILED)?;
+    assert_eq!(rt;
+        text.as_str(),
+        "until 1, until 1\nuntil 1, until 1\nuntil 1, until 1\npresent, until 1\n"
+    );
+    Ok(())
+}
+
+const RING: &str = "input,input,enter
+enter,enter,concat
+concat,concat,feedback
+feedback,feedback,concat
+concat2,concat,leave
+leave,leave,epochs
+";
+
+// Two epochs came into a loop, and the first went round three times. What the loop takes in logs each event, and failed.
+const CONCAT_FAILED: &str = "input | 0 1 2 | | | input:0 input:1
+enter | 0 to 2 | input:0 input:1 | | enter:0.0:0 enter:1.0:1
+concat failed | 0.0 to 0.3 1.0 | enter:0.0:0 enter:1.0:1 feedback:0.1:0.0 feedback:0.2:0.1 | | concat:0.0 concat:0.1 concat:0.2 concat:1.0 concat2:0.0 concat2:0.1 concat2:0.2 concat2:1.0
+feedback | 0.0 to 0.3 1.0 | concat:0.0 concat:0.1 concat:0.2 | | feedback:0.1:0.0 feedback:0.2:0.1 feedback:0.3:0.2
+leave | 0.0 to 0.2 1.0 | concat2:0.0 concat2:0.1 | | leave:0:0.0 leave:0:0.1
+epochs | 0 to 0 | leave:0:0.0 leave:0:0.1 | |
+";
+
+#[test]
+fn a_loop_is_cut_between_its_rounds(rt: HostRuntime) -> Result<(), Fail> {
+    let alloc = rt.alloc();
+    let flow = flow_of(
+        alloc,
+        "input\nenter\nconcat,full\nfeedback\nleave\nepochs",
+        RING,
+    )?;
+    let text = chosen(alloc, &flow, CONCAT_FAILED)?;
+    assert_eq!(rt;
+        text.as_str(),
+        "until 1, until 1\nuntil 1, until 1\nuntil 0.3 1.0, until 0.3 1.0\nuntil 0.2 1.0, until 0.2 1.0\npresent, until 0.3 1.0\npresent, until 0\n"
+    );
+    Ok(())
+}

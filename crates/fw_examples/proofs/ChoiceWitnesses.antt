@@ -5,6 +5,7 @@ use Rattle.std.proofs.lemmas.Bool.Decides.{nat_tests}
 use Rattle.fw_time.specs.Stamp.{Stamp}
 use Rattle.fw_frontier.specs.Frontier.{IsFrontier, join}
 use Rattle.fw_frontier.specs.Front.{frontier_of}
+use Rattle.fw_frontier.proofs.NamesLaws.{frontier-closed}
 use Rattle.fw_flow.specs.Dataflow.{kind_of, policy_of, sender, receiver, bounds_of, batches_of, max_of}
 use Rattle.fw_flow.specs.NodeFunction.{sends}
 use Rattle.fw_flow.specs.Projection.{psi}
@@ -15,7 +16,6 @@ use Rattle.fw_examples.specs.Flows.{loop_counts_up}
 use Rattle.fw_examples.specs.UnderWay.{counted_rounds}
 use Rattle.fw_examples.specs.RunningTotal.{output_failed}
 use Rattle.fw_examples.specs.WitnessesOfChoices.{ChoicesUnite, LessIsConsistent, CutsUnite, JoinIsAFrontier, first_rounds, both_rounds}
-use Rattle.fw_examples.proofs.FrontierFacts.{is_frontier_of}
 use Rattle.fw_examples.proofs.TotalChoices.{noting_none, noting_epoch, noting_less, epoch_consistent, union_of_both}
 
 pub choices_unite : ChoicesUnite
@@ -63,7 +63,7 @@ join_is_a_frontier = record {
 }
   where
     one : IsFrontier (bounds_of loop_counts_up 3) (frontier_of (bounds_of loop_counts_up 3) counted_rounds)
-    one = is_frontier_of _ counted_rounds
+    one = frontier-closed _ counted_rounds
 
     other : IsFrontier (bounds_of loop_counts_up 3) (frontier_of (bounds_of loop_counts_up 3) first_rounds)
-    other = is_frontier_of _ first_rounds
+    other = frontier-closed _ first_rounds

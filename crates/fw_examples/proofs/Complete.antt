@@ -6,13 +6,15 @@ use Rattle.std.proofs.lemmas.Bool.Decides.{nat_tests}
 use Rattle.fw_time.specs.Stamp.{Stamp, leq, same, in_domain, nest, outer, counter}
 use Rattle.fw_frontier.specs.Frontier.{Frontier, Within}
 use Rattle.fw_frontier.specs.Front.{inside}
+use Rattle.fw_frontier.proofs.NamesLaws.{frontier-closed}
 use Rattle.fw_flow.specs.Dataflow.{kind_of, sender, receiver, bounds_of, batches_of, max_of, is_input_kind}
 use Rattle.fw_flow.specs.Projection.{phi}
 use Rattle.fw_model.specs.History.{IsAdmissible, IsComplete, IsQuiet, injected_epochs, owed, pending, some_at}
+use Rattle.fw_model.proofs.PhiLaws.{or_monotone}
 use Rattle.fw_examples.specs.Flows.{loop_counts_up, two_batches}
 use Rattle.fw_examples.specs.UnderWay.{under_way, still_pending, complete_at, complete_fronts}
 use Rattle.fw_examples.proofs.Legal.{under_way_leaves}
-use Rattle.fw_examples.proofs.Orders.{frontier_of-is_frontier, some_at-inside, none_inside, not_above, within_one, within_two, and_more, both_more, or_more}
+use Rattle.fw_examples.proofs.Orders.{some_at-inside, none_inside, not_above, within_one, within_two, and_more, both_more}
 use Rattle.fw_examples.proofs.Projecting.{feedback_phi_of_some, leave_phi_of_nothing}
 
 -- what is pending on an edge is outside the frontier of its receiver
@@ -73,7 +75,7 @@ source (suc (suc (suc (suc (suc (suc (suc s))))))) h t k = cc
 
 admissible : IsAdmissible two_batches under_way complete_at
 admissible = record {
-  frontier = λ p. frontier_of-is_frontier (bounds_of loop_counts_up p) (get_or complete_fronts p []);
+  frontier = λ p. frontier-closed (bounds_of loop_counts_up p) (get_or complete_fronts p []);
   quiet = quiet;
   paid = λ p t h. paid p t;
   follows = follows;
@@ -102,7 +104,7 @@ most_feedback other adm t h =
 -- phi of the feedback grows with its frontier
 pub feeds_more : (f g : Frontier) → Within f g → (t : Stamp) → phi two_batches under_way 4 f t ≡ true → phi two_batches under_way 4 g t ≡ true
 unfolding phi kind_of sender receiver bounds_of max_of
-feeds_more f g w t h = and_more _ _ _ (or_more _ _ _ (w (nest (outer t) (counter t - 1)))) h
+feeds_more f g w t h = and_more _ _ _ (or_monotone _ _ _ (w (nest (outer t) (counter t - 1)))) h
 
 most_mixing : (other : ℕ → Frontier) → IsAdmissible two_batches under_way other → Within (other 2) (complete_at 2)
 unfolding kind_of sender receiver bounds_of max_of

@@ -10,7 +10,9 @@ use Rattle.fw_flow.specs.Dataflow.{System, receiver, is_numbered}
 use Rattle.fw_model.specs.History.{IsDeliverable, is_among, pending}
 use Rattle.fw_model.specs.Machine.{Machine, events, is_failed}
 use Rattle.fw_model.specs.Steps.{Outcome, did, quiet, Run, with_event}
-use Rattle.fw_examples.proofs.First.{is_asked, is_asked-asked, is_first, next_message}
+use Rattle.fw_model.proofs.LeastSteps.{asked-is}
+use Rattle.fw_model.specs.Least.{is_asked}
+use Rattle.fw_examples.proofs.First.{is_first, next_message}
 
 -- a delivery: its edge, the stamp that is asked for, and the message
 pub record Delivery : Type 0 where
@@ -67,7 +69,7 @@ runs_deliveries sys (d ∷ ds) state steps outcomes last h run =
       after_one sys state d,
       (
         d.message,
-        next_message sys (events state.history) d.edge d.asked d.message deliverable (is_asked-asked d.asked d.message.at asked.0) live.1,
+        next_message sys (events state.history) d.edge d.asked d.message deliverable (asked-is d.asked d.message.at asked.0) live.1,
         not-true (is_failed state (receiver sys.flow d.edge)) live.0,
         refl,
         refl,

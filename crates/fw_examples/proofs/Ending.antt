@@ -5,6 +5,7 @@ use Rattle.std.proofs.lemmas.Bool.Decides.{nat_tests}
 use Rattle.fw_time.specs.Stamp.{Stamp, same, in_domain}
 use Rattle.fw_frontier.specs.Frontier.{Frontier, Within, join}
 use Rattle.fw_frontier.specs.Front.{Names, inside, frontier_of}
+use Rattle.fw_frontier.proofs.NamesLaws.{frontier-closed}
 use Rattle.fw_flow.specs.declared.event.Event.{Event}
 use Rattle.fw_flow.specs.declared.step.Step.TheVariants as step
 use Rattle.fw_flow.specs.declared.step.Step.{Step}
@@ -14,13 +15,13 @@ use Rattle.fw_flow.specs.Projection.{phi}
 use Rattle.fw_model.specs.History.{IsComplete, injected_epochs, owed, delivered, pending, some_at}
 use Rattle.fw_model.specs.Machine.{Machine, events, front_of, is_failed}
 use Rattle.fw_model.specs.Steps.{Outcome, did, LeadsTo, GrowsTo, Run, quiet, acked, recovered}
+use Rattle.fw_model.proofs.DescentLaws.{less-none}
 use Rattle.fw_examples.specs.Flows.{loop_counts_up, two_batches, pair}
 use Rattle.fw_examples.specs.UnderWay.{message, round, complete_fronts}
 use Rattle.fw_examples.specs.Recovery.{counting_failed, restored, RunsToTheEnd}
 use Rattle.fw_flow.specs.declared.event.Message.{Message}
 use Rattle.fw_examples.proofs.Deliveries.{Delivery, after_all, runs_deliveries}
-use Rattle.fw_examples.proofs.Legal.{less-nothing}
-use Rattle.fw_examples.proofs.Orders.{frontier_of-is_frontier, within_one, within_two}
+use Rattle.fw_examples.proofs.Orders.{within_one, within_two}
 
 -- a delivery of the least message
 abbrev delivery : ℕ → Message → Delivery
@@ -98,7 +99,7 @@ none_pending (suc (suc (suc zero))) = refl
 none_pending (suc (suc (suc (suc zero)))) = refl
 none_pending (suc (suc (suc (suc (suc zero))))) = refl
 none_pending (suc (suc (suc (suc (suc (suc zero)))))) = refl
-none_pending (suc (suc (suc (suc (suc (suc (suc e))))))) = less-nothing (delivered whole (suc (suc (suc (suc (suc (suc (suc e))))))))
+none_pending (suc (suc (suc (suc (suc (suc (suc e))))))) = less-none (delivered whole (suc (suc (suc (suc (suc (suc (suc e))))))))
 
 -- all stamps of each node
 abbrev all_at : ℕ → Frontier
@@ -141,7 +142,7 @@ source (suc (suc (suc (suc (suc (suc (suc s))))))) h t k = cc
 all_is_complete : IsComplete two_batches whole all_at
 all_is_complete = record {
   admissible = record {
-    frontier = λ p. frontier_of-is_frontier (bounds_of loop_counts_up p) [];
+    frontier = λ p. frontier-closed (bounds_of loop_counts_up p) [];
     quiet = λ p t h e q. ap (some_at (same t)) (none_pending e);
     paid = λ p t h. paid p t;
     follows = follows;

@@ -1,28 +1,30 @@
 -- Witnesses for the laws of filtering.
-use Rattle.std.proofs.Common.{◌≡◌, ℕ, zero, suc, true, List, [], ◌∷◌, ◌++◌, refl, sym, ap, ◌∙◌, subst, lit<, lit≤, arith}
+use Rattle.std.proofs.Common.{◌≡◌, ℕ, zero, suc, true, [], ◌∷◌, ◌++◌, refl, sym, ap, ◌∙◌, subst, lit<, lit≤, arith}
 use Rattle.std.proofs.lemmas.Bool.{false≢true, and_parts, and_from}
 use Rattle.std.proofs.lemmas.Bool.Decides.{nat_tests}
 use Rattle.std.specs.List.{AllByRecursion, flat_map}
 use Rattle.fw_time.specs.Stamp.{Stamp, same}
-use Rattle.fw_frontier.specs.Frontier.{IsFrontier, Within}
+use Rattle.fw_time.proofs.EachLaws.{each-one}
+use Rattle.fw_frontier.specs.Frontier.{Within}
 use Rattle.fw_frontier.specs.Front.{frontier_of}
+use Rattle.fw_frontier.proofs.NamesLaws.{frontier-closed}
 use Rattle.fw_flow.specs.declared.choice.Cut.{Cut}
-use Rattle.fw_flow.specs.declared.choice.Cut.TheVariants.{Present, At}
 use Rattle.fw_flow.specs.Dataflow.{System, kind_of, policy_of, sender, receiver, bounds_of, batches_of, max_of}
 use Rattle.fw_flow.specs.NodeFunction.{sends}
 use Rattle.fw_flow.specs.Projection.{phi}
 use Rattle.fw_flow.specs.declared.choice.Choice.{Choice}
-use Rattle.fw_model.specs.Choice.{until, set_of, stamp_of_notice, IsConsistent}
+use Rattle.fw_model.specs.Choice.{until, stamp_of_notice, IsConsistent}
 use Rattle.fw_model.specs.History.{some_at, delivered, IsQuiet}
 use Rattle.fw_model.specs.Machine.{Machine, front_of, is_failed}
 use Rattle.fw_model.specs.LawsOfFiltering.{ComeFromKept, IsConsistentlyKept, IsFull, MeetsInclusions, NotifiesNobody}
+use Rattle.fw_model.proofs.FilteredLaws.{set-frontier}
 use Rattle.fw_examples.specs.Flows.{loop_counts_up, regroup_by_three, two_batches}
 use Rattle.fw_examples.specs.UnderWay.{under_way}
 use Rattle.fw_examples.specs.Recovery.{counting_failed, restored}
 use Rattle.fw_examples.specs.RunningTotal.{totals, total_flow, two_epochs, next_epochs, output_failed, two_epochs_kept, alike}
 use Rattle.fw_examples.specs.Numbers.{numbers, numbered_both}
 use Rattle.fw_examples.specs.WitnessesOfFiltering.{kept_totals, noted_totals, kept_rounds, kept_epoch, TotalsAreFiltered, LoopIsFiltered, SequenceIsFiltered, NumbersAreDelivered}
-use Rattle.fw_examples.proofs.FrontierFacts.{is_frontier_of, one_not_same}
+use Rattle.fw_examples.proofs.FrontierFacts.{one_not_same}
 use Rattle.fw_examples.proofs.Complete.{under_way_is_complete}
 use Rattle.fw_examples.proofs.Legal.{under_way_is_legal, under_way_leaves, restored_leaves}
 use Rattle.fw_examples.proofs.Largest.{restored_is_largest}
@@ -46,23 +48,13 @@ inclusions_of sys state offered choice is = record {
   notes = is.notes;
 }
 
--- the set of a cut is a frontier
-set_is_frontier : (sys : System) (p : ℕ) (cut : Cut) → IsFrontier (bounds_of sys.flow p) (set_of sys p cut)
-set_is_frontier sys p Present = record { inside_domain = λ t h. h; closed = λ s t d l h. d }
-set_is_frontier sys p (At f) = is_frontier_of (bounds_of sys.flow p) f
-
--- what holds of each holds of all
-of_each : {A : Type 0} (P : A → Type 0) → ((a : A) → P a) → (xs : List A) → AllByRecursion P xs
-of_each P each [] = tt
-of_each P each (x ∷ xs) = (each x, of_each P each xs)
-
 -- ---- the running total
 
 totals_come_from_kept : ComeFromKept totals (next_epochs ++ two_epochs) kept_totals
 unfolding kind_of receiver sender sends batches_of bounds_of phi
 totals_come_from_kept zero = ((λ k. absurd (false≢true k)), ((λ k. refl), tt))
 totals_come_from_kept (suc zero) = ((λ k. refl), tt)
-totals_come_from_kept (suc (suc e)) = of_each _ (λ m k. and_from _ _ k k) (delivered (next_epochs ++ two_epochs) (suc (suc e)))
+totals_come_from_kept (suc (suc e)) = each-one _ (delivered (next_epochs ++ two_epochs) (suc (suc e))) (λ m k. and_from _ _ k k)
 
 totals_are_noted : (p : ℕ)
     → AllByRecursion (λ t. kept_totals p t ≡ true → noted_totals p t ≡ true) (flat_map (stamp_of_notice p) (next_epochs ++ two_epochs))
@@ -70,7 +62,7 @@ unfolding kind_of bounds_of
 totals_are_noted zero = tt
 totals_are_noted (suc zero) = ((λ k. absurd (false≢true k)), ((λ k. refl), tt))
 totals_are_noted (suc (suc zero)) = tt
-totals_are_noted (suc (suc (suc p))) = of_each _ (λ t k. and_from _ _ k refl) (flat_map (stamp_of_notice (suc (suc (suc p)))) (next_epochs ++ two_epochs))
+totals_are_noted (suc (suc (suc p))) = each-one _ (flat_map (stamp_of_notice (suc (suc (suc p)))) (next_epochs ++ two_epochs)) (λ t k. and_from _ _ k refl)
 
 noted_is_kept : (p : ℕ) → Within (noted_totals p) (kept_totals p)
 unfolding kind_of bounds_of
@@ -87,8 +79,8 @@ notes_follow (suc (suc e)) t i = and_from _ _ (and_parts _ _ i).0 i
 
 totals_are_kept : IsConsistentlyKept totals (next_epochs ++ two_epochs) kept_totals noted_totals
 totals_are_kept = record {
-  kept = λ p. set_is_frontier totals p _;
-  noted = λ p. is_frontier_of (bounds_of total_flow p) (front_of (alike 2) p);
+  kept = λ p. set-frontier totals p _;
+  noted = λ p. frontier-closed (bounds_of total_flow p) (front_of (alike 2) p);
   delivered = totals_come_from_kept;
   notified = totals_are_noted;
   own = noted_is_kept;
@@ -145,7 +137,7 @@ loop_comes_from_kept (suc (suc (suc (suc zero)))) = ((λ k. refl), ((λ k. refl)
 loop_comes_from_kept (suc (suc (suc (suc (suc zero))))) = tt
 loop_comes_from_kept (suc (suc (suc (suc (suc (suc zero)))))) = tt
 loop_comes_from_kept (suc (suc (suc (suc (suc (suc (suc e))))))) =
-    of_each _ (λ m k. and_from _ _ k k) (delivered under_way (suc (suc (suc (suc (suc (suc (suc e))))))))
+    each-one _ (delivered under_way (suc (suc (suc (suc (suc (suc (suc e)))))))) (λ m k. and_from _ _ k k)
 
 pub loop_is_filtered : LoopIsFiltered
 unfolding kind_of receiver sender sends bounds_of batches_of max_of
@@ -154,7 +146,7 @@ loop_is_filtered = record {
   epochs = loop_is_reached.epochs;
   nobody = loop_notifies_nobody;
   legal = under_way_is_legal;
-  frontiers = λ p. set_is_frontier two_batches p _;
+  frontiers = λ p. set-frontier two_batches p _;
   come = loop_comes_from_kept;
   remains = refl;
   inclusions = inclusions_of two_batches counting_failed _ restored restored_is_largest.consistent;
@@ -176,7 +168,7 @@ unfolding kind_of receiver sender sends batches_of bounds_of phi
 numbers_come_from_kept zero = ((λ k. absurd (false≢true k)), ((λ k. refl), ((λ k. refl), tt)))
 numbers_come_from_kept (suc zero) = ((λ k. refl), ((λ k. refl), tt))
 numbers_come_from_kept (suc (suc zero)) = tt
-numbers_come_from_kept (suc (suc (suc e))) = of_each _ (λ m k. and_from _ _ (and_parts _ _ k).0 k) (delivered numbered_both (suc (suc (suc e))))
+numbers_come_from_kept (suc (suc (suc e))) = each-one _ (delivered numbered_both (suc (suc (suc e)))) (λ m k. and_from _ _ (and_parts _ _ k).0 k)
 
 pub sequence_is_filtered : SequenceIsFiltered
 unfolding kind_of receiver sender sends batches_of bounds_of phi
@@ -184,7 +176,7 @@ sequence_is_filtered = record {
   well_formed = regroup_is_well_formed;
   epochs = numbers_have_epochs;
   legal = numbers_are_legal;
-  frontiers = λ p. is_frontier_of (bounds_of regroup_by_three p) (front_of (until 1 ∷ until 1 ∷ [] ∷ [] ∷ []) p);
+  frontiers = λ p. frontier-closed (bounds_of regroup_by_three p) (front_of (until 1 ∷ until 1 ∷ [] ∷ [] ∷ []) p);
   come = numbers_come_from_kept;
   remains = refl;
   sent_before = refl;

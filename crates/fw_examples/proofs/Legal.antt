@@ -1,19 +1,14 @@
 -- The loop that counts up with both batches under way: which events are legal, and what they leave pending.
-use Rattle.std.proofs.Common.{◌≡◌, ℕ, zero, suc, List, [], ◌∷◌, get_or, refl, ap, lit<}
-use Rattle.fw_flow.specs.declared.event.Message.{Message}
+use Rattle.std.proofs.Common.{◌≡◌, ℕ, zero, suc, [], ◌∷◌, get_or, refl, lit<}
 use Rattle.fw_flow.specs.Dataflow.{kind_of, sender, receiver, bounds_of, batches_of, max_of}
 use Rattle.fw_flow.specs.NodeFunction.{sends}
-use Rattle.fw_model.specs.History.{IsLegal, pending, less, without, delivered}
+use Rattle.fw_model.specs.History.{IsLegal, pending, delivered}
 use Rattle.fw_model.specs.Machine.{events}
 use Rattle.fw_model.specs.Choice.{filtered}
+use Rattle.fw_model.proofs.DescentLaws.{less-none}
 use Rattle.fw_examples.specs.Flows.{two_batches}
 use Rattle.fw_examples.specs.UnderWay.{under_way, still_pending}
 use Rattle.fw_examples.specs.Recovery.{without_the_second, with_serials, pending_again, restored}
-
--- nothing less some messages is nothing
-pub less-nothing : (ds : List Message) → less [] ds ≡ []
-less-nothing [] = refl
-less-nothing (d ∷ ds) = ap (without d) (less-nothing ds)
 
 pub under_way_is_legal : IsLegal two_batches under_way
 unfolding kind_of sender receiver bounds_of batches_of max_of sends
@@ -28,7 +23,7 @@ under_way_leaves (suc (suc (suc zero))) = refl
 under_way_leaves (suc (suc (suc (suc zero)))) = refl
 under_way_leaves (suc (suc (suc (suc (suc zero))))) = refl
 under_way_leaves (suc (suc (suc (suc (suc (suc zero)))))) = refl
-under_way_leaves (suc (suc (suc (suc (suc (suc (suc e))))))) = less-nothing (delivered under_way (suc (suc (suc (suc (suc (suc (suc e))))))))
+under_way_leaves (suc (suc (suc (suc (suc (suc (suc e))))))) = less-none (delivered under_way (suc (suc (suc (suc (suc (suc (suc e))))))))
 
 pub restored_is_legal : IsLegal two_batches without_the_second
 unfolding kind_of sender receiver bounds_of batches_of max_of sends
@@ -43,7 +38,7 @@ restored_leaves (suc (suc (suc zero))) = refl
 restored_leaves (suc (suc (suc (suc zero)))) = refl
 restored_leaves (suc (suc (suc (suc (suc zero))))) = refl
 restored_leaves (suc (suc (suc (suc (suc (suc zero)))))) = refl
-restored_leaves (suc (suc (suc (suc (suc (suc (suc e))))))) = less-nothing (delivered without_the_second (suc (suc (suc (suc (suc (suc (suc e))))))))
+restored_leaves (suc (suc (suc (suc (suc (suc (suc e))))))) = less-none (delivered without_the_second (suc (suc (suc (suc (suc (suc (suc e))))))))
 
 pub the_second_is_filtered_out : events (filtered two_batches restored (with_serials under_way)) ≡ without_the_second
 unfolding kind_of sender receiver bounds_of batches_of max_of sends

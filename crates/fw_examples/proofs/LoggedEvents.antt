@@ -4,6 +4,7 @@ use Rattle.std.proofs.lemmas.Bool.{false≢true, true≢false, and_parts, and_fr
 use Rattle.fw_time.specs.Stamp.{same}
 use Rattle.fw_frontier.specs.Frontier.{Within}
 use Rattle.fw_frontier.specs.Front.{frontier_of}
+use Rattle.fw_frontier.proofs.NamesLaws.{frontier-closed}
 use Rattle.fw_flow.specs.declared.choice.Cut.{Cut}
 use Rattle.fw_flow.specs.declared.choice.Cut.TheVariants.{Present, At}
 use Rattle.fw_flow.specs.declared.event.Event.TheVariants.{Inject as Injected, Deliver as Delivered}
@@ -20,7 +21,7 @@ use Rattle.fw_model.specs.Machine.{Machine, Write, first_state, events, front_of
 use Rattle.fw_model.specs.Steps.{Steps, CutsTo, with_event, offers, did, quiet, cuts, acked, Run}
 use Rattle.fw_examples.specs.OneSelect.{one_select_flow_of, rec_of}
 use Rattle.fw_examples.specs.LoggedEvents.{two_recs, each_written, none, nothing_restored, nothing_left, LosesAnEpoch, all_restored, RestoresAnEpoch}
-use Rattle.fw_examples.proofs.FrontierFacts.{is_frontier_of, within_all, within_until, not_same}
+use Rattle.fw_examples.proofs.FrontierFacts.{within_all, within_until, not_same}
 use Rattle.fw_examples.proofs.StepFacts.{injects, delivers, acknowledges_first_write, acknowledges_second_write}
 use Rattle.fw_examples.proofs.ChoiceFacts.{nothing_covered, covered_in_all, meet_within, within_meet, set_within, canonical, by_three, by_two}
 use Rattle.fw_examples.proofs.OneSelectDone.{named, admissible, complete, all_complete, below_all, progresses, none_failed}
@@ -141,14 +142,14 @@ one_consistent = record {
 select_with_one : (cut : Cut) → OfferedWithOne 1 cut → IsCutWithin each_written 1 cut (At none)
 unfolding kind_of policy_of bounds_of receiver
 select_with_one Present o = absurd (true≢false o)
-select_with_one (At f) o = within_until _ _ (0 ∷ []) (is_frontier_of _ f) refl (λ i. not_logged (o.1.1.0 refl i))
+select_with_one (At f) o = within_until _ _ (0 ∷ []) (frontier-closed _ f) refl (λ i. not_logged (o.1.1.0 refl i))
 
 input_with_one : (cut : Cut) → Within (discarded_cover each_written failed_with_one 0 0 cut) (frontier_of (bounds_of (one_select_flow_of policy.Full) 1) none)
     → IsCutWithin each_written 0 cut (At none)
 unfolding kind_of receiver sender sends batches_of bounds_of policy_of
 input_with_one Present w = false≢true (w (0 ∷ []) refl)
 input_with_one (At f) w =
-    within_until _ _ (0 ∷ []) (is_frontier_of _ f) refl
+    within_until _ _ (0 ∷ []) (frontier-closed _ f) refl
     (λ i. let sent : discarded_cover each_written failed_with_one 0 0 (At f) (0 ∷ []) ≡ true = rw i refl in false≢true (w (0 ∷ []) sent))
 
 one_largest : (other : Choice) → IsConsistent each_written failed_with_one OfferedWithOne other → IsChoiceWithin each_written other nothing_restored
@@ -260,16 +261,16 @@ both_consistent = record {
 select_with_both : (cut : Cut) → OfferedWithBoth 1 cut → IsCutWithin each_written 1 cut (At [])
 unfolding kind_of policy_of bounds_of
 select_with_both Present o = absurd (true≢false o)
-select_with_both (At f) o = within_all _ _ (is_frontier_of _ f)
+select_with_both (At f) o = within_all _ _ (frontier-closed _ f)
 
 both_largest : (other : Choice) → IsConsistent each_written failed_with_both OfferedWithBoth other → IsChoiceWithin each_written other all_restored
 unfolding bounds_of
 both_largest other is = record {
   cuts = by_three _ tt (select_with_both (cut_of other 1) (is.offered 1 (lit< tt))) tt;
   notes = by_three _
-      (within_all _ _ (is_frontier_of _ (front_of other.notes 0)))
-      (within_all _ _ (is_frontier_of _ (front_of other.notes 1)))
-      (within_all _ _ (is_frontier_of _ (front_of other.notes 2)));
+      (within_all _ _ (frontier-closed _ (front_of other.notes 0)))
+      (within_all _ _ (frontier-closed _ (front_of other.notes 1)))
+      (within_all _ _ (frontier-closed _ (front_of other.notes 2)));
 }
 
 cut_to_all : CutsTo each_written failed_with_both all_restored ([] ∷ [] ∷ none ∷ [])

@@ -4,6 +4,7 @@ use Rattle.std.proofs.lemmas.Bool.{false≢true, and_parts, and_from}
 use Rattle.fw_time.specs.Stamp.{Stamp, same}
 use Rattle.fw_frontier.specs.Frontier.{Frontier, Within}
 use Rattle.fw_frontier.specs.Front.{frontier_of}
+use Rattle.fw_frontier.proofs.NamesLaws.{frontier-closed}
 use Rattle.fw_flow.specs.declared.event.Event.{Event}
 use Rattle.fw_flow.specs.declared.event.Event.TheVariants.{Inject, Deliver}
 use Rattle.fw_flow.specs.Dataflow.{kind_of, policy_of, sender, receiver, bounds_of, batches_of, in_edges, out_edges, is_input_kind}
@@ -16,7 +17,6 @@ use Rattle.fw_model.specs.Machine.{front_of}
 use Rattle.fw_model.specs.LawsOfLegalHistories.{HasEpochs}
 use Rattle.fw_examples.specs.Flows.{regroup_by_three}
 use Rattle.fw_examples.specs.Numbers.{numbers, value_at, numbered_epoch, numbered_both}
-use Rattle.fw_examples.proofs.FrontierFacts.{is_frontier_of}
 use Rattle.fw_examples.proofs.ChoiceFacts.{nothing_inside, below_epoch, by_three}
 use Rattle.fw_examples.proofs.TotalDone.{lesser_not_same}
 use Rattle.fw_examples.proofs.WellFormed.{no_closed_walk}
@@ -72,7 +72,7 @@ none_at k (suc (suc (suc e))) t i = nothing_inside _ t i
 alone_is_admissible : (h : List Event) (k : ℕ) → Within (sent_alone k 0) (injected_epochs numbers h 0) → IsAdmissible numbers h (sent_alone k)
 unfolding kind_of bounds_of
 alone_is_admissible h k from = record {
-  frontier = λ p. is_frontier_of (bounds_of regroup_by_three p) (front_of (until k ∷ until 0 ∷ until 0 ∷ until 0 ∷ until 0 ∷ []) p);
+  frontier = λ p. frontier-closed (bounds_of regroup_by_three p) (front_of (until k ∷ until 0 ∷ until 0 ∷ until 0 ∷ until 0 ∷ []) p);
   quiet = λ p t i e r. absurd (none_at k e t (subst (λ q. sent_alone k q t ≡ true) (sym r) i));
   paid = paid;
   follows = λ e t i. absurd (none_at k e t i);

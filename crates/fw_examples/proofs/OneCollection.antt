@@ -4,6 +4,7 @@ use Rattle.std.proofs.lemmas.Bool.{false≢true, true≢false, and_parts, and_fr
 use Rattle.fw_time.specs.Stamp.{same}
 use Rattle.fw_frontier.specs.Frontier.{Within}
 use Rattle.fw_frontier.specs.Front.{Front, frontier_of}
+use Rattle.fw_frontier.proofs.NamesLaws.{frontier-closed}
 use Rattle.fw_flow.specs.declared.choice.Cut.{Cut}
 use Rattle.fw_flow.specs.declared.choice.Cut.TheVariants.{Present, At}
 use Rattle.fw_flow.specs.declared.event.Event.TheVariants.{Inject as Injected, Deliver as Delivered}
@@ -20,7 +21,7 @@ use Rattle.fw_model.specs.Machine.{Machine, first_state, events, front_of, is_fa
 use Rattle.fw_model.specs.Steps.{Steps, LeadsTo, Effect, CutsTo, with_event, front_of_cut, did, quiet, cuts, lows, acked}
 use Rattle.fw_examples.specs.OneSelect.{one_select_flow_of, rec_of}
 use Rattle.fw_examples.specs.OneCollection.{selected_batches, written_when_asked, first, first_epoch_everywhere, CollectsTheFirstEpoch}
-use Rattle.fw_examples.proofs.FrontierFacts.{is_frontier_of, within_until}
+use Rattle.fw_examples.proofs.FrontierFacts.{within_until}
 use Rattle.fw_examples.proofs.StepFacts.{injects, delivers, acknowledges_first_write}
 use Rattle.fw_examples.proofs.ChoiceFacts.{nothing_covered, cover_within, meet_within, set_within, canonical, below_epoch, epoch_named, by_three, by_two}
 use Rattle.fw_examples.proofs.OneSelectDone.{named, admissible, complete, at_sender, progresses, none_failed}
@@ -99,7 +100,7 @@ first_complete =
 -- no stamp is among those of epoch 0
 none_in_first : (p : ℕ) → Within (frontier_of (bounds_of (one_select_flow_of policy.Lazy) 0) none) (frontier_of (bounds_of (one_select_flow_of policy.Lazy) 0) first)
 unfolding bounds_of kind_of
-none_in_first p = within_until _ _ (1 ∷ []) (is_frontier_of _ none) refl false≢true
+none_in_first p = within_until _ _ (1 ∷ []) (frontier-closed _ none) refl false≢true
 
 settles_all : Steps written_when_asked rec_put_out Progress all_settled (did quiet)
 unfolding kind_of receiver sender sends batches_of bounds_of policy_of
@@ -137,9 +138,9 @@ first_consistent low failed lost below = record {
       (canonical _ (1 ∷ []) refl, ((λ t i. i), (λ t i. i)), below 2 (lit< tt));
   canonical = by_three _ (canonical _ (1 ∷ []) refl) (canonical _ (1 ∷ []) refl) (canonical _ (1 ∷ []) refl);
   delivered = by_two _
-      (λ t i. and_from _ _ (and_parts _ _ i).0 (cover_within _ (0 ∷ []) _ (is_frontier_of _ first) refl t i))
+      (λ t i. and_from _ _ (and_parts _ _ i).0 (cover_within _ (0 ∷ []) _ (frontier-closed _ first) refl t i))
       (λ t i. and_from _ _ (and_parts _ _ i).0 i);
-  discarded = by_two _ (cover_within _ (0 ∷ []) _ (is_frontier_of _ first) refl) (cover_within _ (0 ∷ []) _ (is_frontier_of _ first) refl);
+  discarded = by_two _ (cover_within _ (0 ∷ []) _ (frontier-closed _ first) refl) (cover_within _ (0 ∷ []) _ (frontier-closed _ first) refl);
   notified = by_three _ (λ t i. absurd (nothing_covered _ t i)) (λ t i. absurd (nothing_covered _ t i)) (λ t i. absurd (nothing_covered _ t i));
   own = by_three _ (λ t i. i) (λ t i. i) (λ t i. i);
   notes = by_two _ (λ t i. and_from _ _ (and_parts _ _ i).0 i) (λ t i. and_from _ _ (and_parts _ _ i).0 i);
@@ -151,7 +152,7 @@ at_input : (low : List Front) (failed : List Bool) (lost : ℕ → Bool) → los
 unfolding kind_of policy_of bounds_of batches_of
 at_input low failed lost gone Present o = absurd (true≢false (sym gone ∙ o))
 at_input low failed lost gone (At f) o =
-    within_until _ _ (1 ∷ []) (is_frontier_of _ f) refl
+    within_until _ _ (1 ∷ []) (frontier-closed _ f) refl
     (λ i. ⊎_elim
     (λ k. let h : leb k.0 1 ≡ true = le-leb k.0 1 k.1 in
     let j : (not (leb k.0 1 && true) && true) ≡ true = subst (λ g. frontier_of (bounds_of (one_select_flow_of policy.Lazy) 0) g (1 ∷ []) ≡ true) k.2 i in

@@ -4,6 +4,7 @@ use Rattle.std.proofs.lemmas.Bool.{false≢true, true≢false, and_parts, and_fr
 use Rattle.fw_time.specs.Stamp.{same}
 use Rattle.fw_frontier.specs.Frontier.{Within}
 use Rattle.fw_frontier.specs.Front.{Front, frontier_of}
+use Rattle.fw_frontier.proofs.NamesLaws.{frontier-closed}
 use Rattle.fw_flow.specs.declared.choice.Cut.{Cut}
 use Rattle.fw_flow.specs.declared.choice.Cut.TheVariants.{Present, At}
 use Rattle.fw_flow.specs.declared.event.Event.TheVariants.{Inject as Injected, Deliver as Delivered}
@@ -20,7 +21,7 @@ use Rattle.fw_model.specs.Machine.{Machine, first_state, events, front_of, is_fa
 use Rattle.fw_model.specs.Steps.{Steps, CutsTo, with_event, offers, did, quiet, cuts, acked}
 use Rattle.fw_examples.specs.OneSelect.{one_select_flow, rec_of}
 use Rattle.fw_examples.specs.OneRecovery.{selected_batches, select_of_two_batches, first_epoch_kept, first_epoch_alone, KeepsTheSettledEpoch, acknowledged_epoch_kept, ResumesAfterBothFailed}
-use Rattle.fw_examples.proofs.FrontierFacts.{is_frontier_of, within_all, within_until, one_not_same}
+use Rattle.fw_examples.proofs.FrontierFacts.{within_all, within_until, one_not_same}
 use Rattle.fw_examples.proofs.StepFacts.{injects, delivers}
 use Rattle.fw_examples.proofs.ChoiceFacts.{nothing_covered, in_all, cover_within, meet_within, set_within, canonical, below_epoch, by_three, by_two}
 use Rattle.fw_examples.proofs.OneSelectDone.{named, admissible, complete, at_sender, all_complete, below_all, progresses, progresses_where_live, none_failed}
@@ -77,7 +78,7 @@ first_complete =
     (λ t i. ap (some_at (same t)) pending_rec ∙ one_not_same _ (0 ∷ []) t i)
     (λ t i. and_from _ _ (and_parts _ _ i).0 (below_epoch _ 1 t i))
     (λ t i. i)
-    (within_until _ _ (1 ∷ []) (is_frontier_of _ none) refl false≢true))
+    (within_until _ _ (1 ∷ []) (frontier-closed _ none) refl false≢true))
     (λ other o.
     let in_first : Within (other 0) (named policy.None (first ∷ first ∷ none ∷ []) 0) =
     within_until _ (other 0) (1 ∷ []) (o.frontier 0) refl (λ i. false≢true (o.source 0 refl (1 ∷ []) i)) in (
@@ -93,8 +94,8 @@ settles_first =
     progresses policy.None selected_batches first_taken first first none first_complete
     (canonical _ (1 ∷ []) refl) (canonical _ (1 ∷ []) refl) (canonical _ (0 ∷ []) refl)
     none_failed
-    (within_until _ _ (1 ∷ []) (is_frontier_of _ none) refl false≢true)
-    (within_until _ _ (1 ∷ []) (is_frontier_of _ none) refl false≢true)
+    (within_until _ _ (1 ∷ []) (frontier-closed _ none) refl false≢true)
+    (within_until _ _ (1 ∷ []) (frontier-closed _ none) refl false≢true)
     (λ t i. i)
     0 (0 ∷ []) (lit< tt) refl refl
 
@@ -117,12 +118,12 @@ first_consistent = record {
   one_cut_each = refl;
   one_note_each = refl;
   offered = by_three _
-      (canonical _ (1 ∷ []) refl, inl (1, lit≤ tt, refl), within_until _ _ (1 ∷ []) (is_frontier_of _ none) refl false≢true)
-      (canonical _ (1 ∷ []) refl, (λ t i. i), within_until _ _ (1 ∷ []) (is_frontier_of _ none) refl false≢true)
+      (canonical _ (1 ∷ []) refl, inl (1, lit≤ tt, refl), within_until _ _ (1 ∷ []) (frontier-closed _ none) refl false≢true)
+      (canonical _ (1 ∷ []) refl, (λ t i. i), within_until _ _ (1 ∷ []) (frontier-closed _ none) refl false≢true)
       refl;
   canonical = by_three _ (canonical _ (1 ∷ []) refl) (canonical _ (1 ∷ []) refl) (canonical _ (1 ∷ []) refl);
   delivered = by_two _ (λ t i. and_from _ _ (and_parts _ _ i).0 i) (λ t i. absurd (nothing_covered _ t i));
-  discarded = by_two _ (cover_within _ (0 ∷ []) _ (is_frontier_of _ first) refl) (λ t i. (and_parts _ _ i).0);
+  discarded = by_two _ (cover_within _ (0 ∷ []) _ (frontier-closed _ first) refl) (λ t i. (and_parts _ _ i).0);
   notified = by_three _ (λ t i. absurd (nothing_covered _ t i)) (λ t i. absurd (nothing_covered _ t i)) (λ t i. absurd (nothing_covered _ t i));
   own = by_three _ (λ t i. i) (λ t i. i) (λ t i. (and_parts _ _ i).0);
   notes = by_two _ (λ t i. and_from _ _ (and_parts _ _ i).0 i) (λ t i. and_from _ _ (and_parts _ _ i).0 i);
@@ -140,7 +141,7 @@ input_within : (cut : Cut) → Within (discarded_cover select_of_two_batches sel
 unfolding kind_of receiver sender sends batches_of bounds_of policy_of
 input_within Present w = false≢true (w (1 ∷ []) refl)
 input_within (At f) w =
-    within_until _ _ (1 ∷ []) (is_frontier_of _ f) refl
+    within_until _ _ (1 ∷ []) (frontier-closed _ f) refl
     (λ i. let sent : discarded_cover select_of_two_batches select_failed 0 0 (At f) (1 ∷ []) ≡ true = rw i refl in false≢true (w (1 ∷ []) sent))
 
 first_above : (other : Choice) → IsConsistent select_of_two_batches select_failed Offered other → IsChoiceWithin select_of_two_batches other first_epoch_kept
@@ -284,7 +285,7 @@ settles_output =
     (canonical _ (1 ∷ []) refl) (canonical _ (1 ∷ []) refl) (canonical _ (1 ∷ []) refl)
     as_settled
     (λ t i. i) (λ t i. i)
-    (within_until _ _ (1 ∷ []) (is_frontier_of _ none) refl false≢true)
+    (within_until _ _ (1 ∷ []) (frontier-closed _ none) refl false≢true)
     2 (0 ∷ []) (lit< tt) refl refl refl
 
 acknowledges_first : Steps select_of_two_batches output_settled (Ack 2) first_acknowledged (did (acked 2 (0 ∷ []) (rec_of 1 20 ∷ [])))
@@ -305,15 +306,15 @@ both_consistent = record {
   one_note_each = refl;
   offered = by_three _
       refl
-      (canonical _ (1 ∷ []) refl, (λ t i. i), within_until _ _ (1 ∷ []) (is_frontier_of _ none) refl false≢true)
-      (canonical _ (1 ∷ []) refl, ((λ t i. i), (λ t i. i)), within_until _ _ (1 ∷ []) (is_frontier_of _ none) refl false≢true);
+      (canonical _ (1 ∷ []) refl, (λ t i. i), within_until _ _ (1 ∷ []) (frontier-closed _ none) refl false≢true)
+      (canonical _ (1 ∷ []) refl, ((λ t i. i), (λ t i. i)), within_until _ _ (1 ∷ []) (frontier-closed _ none) refl false≢true);
   canonical = by_three _ tt (canonical _ (1 ∷ []) refl) (canonical _ (1 ∷ []) refl);
   delivered = by_two _ (in_all (bounds_of one_select_flow 1) first) (λ t i. and_from _ _ (and_parts _ _ i).0 i);
-  discarded = by_two _ (cover_within _ (0 ∷ []) _ (is_frontier_of _ first) refl) (λ t i. (and_parts _ _ i).1);
+  discarded = by_two _ (cover_within _ (0 ∷ []) _ (frontier-closed _ first) refl) (λ t i. (and_parts _ _ i).1);
   notified = by_three _ (λ t i. absurd (nothing_covered _ t i)) (λ t i. absurd (nothing_covered _ t i)) (λ t i. absurd (nothing_covered _ t i));
   own = by_three _ (λ t i. (and_parts _ _ i).0) (λ t i. i) (λ t i. i);
   notes = by_two _
-      (λ t i. and_from _ _ (and_parts _ _ i).0 (within_all _ _ (is_frontier_of _ first) t i))
+      (λ t i. and_from _ _ (and_parts _ _ i).0 (within_all _ _ (frontier-closed _ first) t i))
       (λ t i. and_from _ _ (and_parts _ _ i).0 i);
 }
 
@@ -335,7 +336,7 @@ both_above other is =
     record {
       cuts = by_three _ tt at_select at_output;
       notes = by_three _
-          (within_all _ _ (is_frontier_of _ (front_of other.notes 0)))
+          (within_all _ _ (frontier-closed _ (front_of other.notes 0)))
           (λ t i. set_within select_of_two_batches 1 (cut_of other 1) first at_select t (is.own 1 (lit< tt) t i))
           (λ t i. set_within select_of_two_batches 2 (cut_of other 2) first at_output t (is.own 2 (lit< tt) t i));
     }

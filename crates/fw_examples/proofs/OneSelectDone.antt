@@ -1,10 +1,11 @@
 -- Complete frontiers of one select, and the step that settles them.
-use Rattle.std.proofs.Common.{◌≡◌, ℕ, zero, suc, ◌<◌, Bool, true, false, ◌||◌, List, [], ◌∷◌, ◌++◌, slice_index_or, refl, sym, ap, ◌∙◌, subst, arith}
+use Rattle.std.proofs.Common.{◌≡◌, ℕ, zero, suc, ◌<◌, true, false, List, [], ◌∷◌, ◌++◌, slice_index_or, refl, sym, ap, ◌∙◌, subst, arith}
 use Rattle.std.proofs.lemmas.Bool.{false≢true, and_parts, and_from}
 use Rattle.fw_bag.specs.declared.rec.Rec.{Rec}
 use Rattle.fw_time.specs.Stamp.{Stamp, same}
 use Rattle.fw_frontier.specs.Frontier.{Frontier, IsFrontier, Within, join}
 use Rattle.fw_frontier.specs.Front.{Front, frontier_of, IsCanonical, Names}
+use Rattle.fw_frontier.proofs.NamesLaws.{frontier-closed}
 use Rattle.fw_flow.specs.declared.event.Event.{Event}
 use Rattle.fw_flow.specs.declared.step.Step.TheVariants.{Progress}
 use Rattle.fw_flow.specs.declared.kind.Policy.{Policy}
@@ -14,9 +15,10 @@ use Rattle.fw_flow.specs.Projection.{phi, events_at}
 use Rattle.fw_model.specs.History.{less, some_at, delivered, pending, owed, injected_epochs, IsQuiet, IsAdmissible, IsComplete}
 use Rattle.fw_model.specs.Machine.{Machine, events, front_of, is_failed, places}
 use Rattle.fw_model.specs.Steps.{Steps, did, quiet, eager_writes}
+use Rattle.fw_model.proofs.DescentLaws.{less-none}
 use Rattle.fw_examples.specs.OneSelect.{one_select_of, one_select_flow_of}
-use Rattle.fw_examples.proofs.StepFacts.{less_none}
-use Rattle.fw_examples.proofs.FrontierFacts.{is_frontier_of, within_all}
+use Rattle.fw_examples.proofs.FrontierFacts.{within_all}
+use Rattle.fw_examples.proofs.TotalDone.{join_within}
 
 -- the family of frontiers that these lists name
 abbrev pub named : Policy → List Front → ℕ → Frontier
@@ -32,7 +34,7 @@ sent_past keeping batches (v ∷ vs) = sent_past keeping batches vs
 pending_past : (keeping : Policy) (batches : List (List Rec)) (h : List Event) (e : ℕ) → pending (one_select_of keeping batches) h (suc (suc e)) ≡ []
 unfolding sender
 pending_past keeping batches h e =
-    ap (λ ms. less ms (delivered h (suc (suc e)))) (sent_past keeping batches (events_at (one_select_flow_of keeping) 3 h)) ∙ less_none (delivered h (suc (suc e)))
+    ap (λ ms. less ms (delivered h (suc (suc e)))) (sent_past keeping batches (events_at (one_select_flow_of keeping) 3 h)) ∙ less-none (delivered h (suc (suc e)))
 
 -- nothing is owed, since no node is notified
 nothing_owed : (keeping : Policy) (batches : List (List Rec)) (h : List Event) (p : ℕ) (t : Stamp) → owed (one_select_of keeping batches) h p t ≡ false
@@ -44,7 +46,7 @@ nothing_owed keeping batches h (suc (suc (suc p))) t = refl
 
 -- named frontiers are frontiers
 named_frontier : (keeping : Policy) (fronts : List Front) (p : ℕ) → IsFrontier (bounds_of (one_select_flow_of keeping) p) (named keeping fronts p)
-named_frontier keeping fronts p = is_frontier_of (bounds_of (one_select_flow_of keeping) p) (front_of fronts p)
+named_frontier keeping fronts p = frontier-closed (bounds_of (one_select_flow_of keeping) p) (front_of fronts p)
 
 -- a family is admissible if its nodes are quiet and follow each other
 pub admissible : (keeping : Policy) (batches : List (List Rec)) (h : List Event) (fronts : List Front)
@@ -108,15 +110,6 @@ all_complete keeping batches h a b from =
     (admissible keeping batches h ([] ∷ [] ∷ [] ∷ []) (λ t i. ap (some_at (same t)) a) (λ t i. ap (some_at (same t)) b) from (λ t i. i) (λ t i. i))
     (λ other o. (within_all _ (other 0) (o.frontier 0), within_all _ (other 1) (o.frontier 1), within_all _ (other 2) (o.frontier 2)))
 
--- what lies within is no more than what it lies within
-join_within : (f g : Frontier) → Within f g → (t : Stamp) → g t ≡ join f g t
-join_within f g w t = go (f t) (g t) refl refl
-  where
-    go : (a b : Bool) → f t ≡ a → g t ≡ b → b ≡ (a || b)
-    go true true p q = refl
-    go true false p q = absurd (false≢true (sym q ∙ w t p))
-    go false b p q = refl
-
 -- a list of outside stamps names the join with what lies within it
 pub names_join : (keeping : Policy) (p : ℕ) (old new : Front) → IsCanonical (bounds_of (one_select_flow_of keeping) p) new
     → Within (frontier_of (bounds_of (one_select_flow_of keeping) p) old) (frontier_of (bounds_of (one_select_flow_of keeping) p) new)
@@ -164,7 +157,7 @@ progresses keeping batches state x y z is cx cy cz live wx wy wz p t lt new old 
 
 -- what was settled lies within all
 pub below_all : (keeping : Policy) (p : ℕ) (os : Front) → Within (frontier_of (bounds_of (one_select_flow_of keeping) p) os) (frontier_of (bounds_of (one_select_flow_of keeping) p) [])
-below_all keeping p os = within_all (bounds_of (one_select_flow_of keeping) p) _ (is_frontier_of (bounds_of (one_select_flow_of keeping) p) os)
+below_all keeping p os = within_all (bounds_of (one_select_flow_of keeping) p) _ (frontier-closed (bounds_of (one_select_flow_of keeping) p) os)
 
 -- none of three nodes is failed
 pub none_failed : (p : ℕ) → slice_index_or (false ∷ false ∷ false ∷ []) p false ≡ false

@@ -3,6 +3,7 @@ use Rattle.std.proofs.Common.{◌≡◌, ℕ, true, false, [], ◌∷◌, refl, 
 use Rattle.std.proofs.lemmas.Bool.{false≢true, true≢false, and_parts, and_from}
 use Rattle.fw_frontier.specs.Frontier.{Within}
 use Rattle.fw_frontier.specs.Front.{frontier_of}
+use Rattle.fw_frontier.proofs.NamesLaws.{frontier-closed}
 use Rattle.fw_flow.specs.declared.choice.Cut.{Cut}
 use Rattle.fw_flow.specs.declared.choice.Cut.TheVariants.{Present, At}
 use Rattle.fw_flow.specs.declared.event.Event.TheVariants.{Inject as Injected, Deliver as Delivered}
@@ -18,7 +19,7 @@ use Rattle.fw_model.specs.Machine.{Machine, first_state, events}
 use Rattle.fw_model.specs.Steps.{Steps, with_event, offers, did, quiet}
 use Rattle.fw_examples.specs.OneSelect.{one_select_flow, rec_of}
 use Rattle.fw_examples.specs.Inclusions.{Inclusion, of_delivered, of_discarded, of_notified, of_own, of_notes, Meets, IsConsistentWithout, LeavesAHistory, none, one_selected, nothing_kept, output_kept, input_kept, DeliveredIsNeeded, DiscardedIsNeeded}
-use Rattle.fw_examples.proofs.FrontierFacts.{is_frontier_of, within_until}
+use Rattle.fw_examples.proofs.FrontierFacts.{within_until}
 use Rattle.fw_examples.proofs.StepFacts.{injects, delivers}
 use Rattle.fw_examples.proofs.ChoiceFacts.{nothing_covered, in_all, set_within, canonical, by_three, by_two}
 
@@ -94,7 +95,7 @@ late_at_input : (cut : Cut) → Within (discarded_cover one_selected failed_late
 unfolding kind_of receiver sender sends batches_of bounds_of policy_of
 late_at_input Present w = false≢true (w (0 ∷ []) refl)
 late_at_input (At f) w =
-    within_until _ _ (0 ∷ []) (is_frontier_of _ f) refl
+    within_until _ _ (0 ∷ []) (frontier-closed _ f) refl
     (λ i. let sent : discarded_cover one_selected failed_late 0 0 (At f) (0 ∷ []) ≡ true = rw i refl in false≢true (w (0 ∷ []) sent))
 
 -- the output has what the select does not keep, and acknowledged nothing
@@ -192,7 +193,7 @@ early_at_input : (cut : Cut) → Within (discarded_cover one_selected failed_ear
 unfolding kind_of receiver sender sends batches_of bounds_of policy_of
 early_at_input Present w = false≢true (w (0 ∷ []) refl)
 early_at_input (At f) w =
-    within_until _ _ (0 ∷ []) (is_frontier_of _ f) refl
+    within_until _ _ (0 ∷ []) (frontier-closed _ f) refl
     (λ i. let sent : discarded_cover one_selected failed_early 0 0 (At f) (0 ∷ []) ≡ true = rw i refl in false≢true (w (0 ∷ []) sent))
 
 output_kept_largest : (other : Choice) → IsConsistent one_selected failed_early Early other → IsChoiceWithin one_selected other output_kept

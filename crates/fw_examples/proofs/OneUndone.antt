@@ -3,6 +3,7 @@ use Rattle.std.proofs.Common.{◌≡◌, ℕ, true, false, [], ◌∷◌, refl, 
 use Rattle.std.proofs.lemmas.Bool.{false≢true, true≢false, and_parts, and_from}
 use Rattle.fw_frontier.specs.Frontier.{Within}
 use Rattle.fw_frontier.specs.Front.{Front, frontier_of}
+use Rattle.fw_frontier.proofs.NamesLaws.{frontier-closed}
 use Rattle.fw_flow.specs.declared.choice.Cut.{Cut}
 use Rattle.fw_flow.specs.declared.choice.Cut.TheVariants.{Present, At}
 use Rattle.fw_flow.specs.declared.event.Event.TheVariants.{Inject as Injected, Deliver as Delivered}
@@ -18,7 +19,7 @@ use Rattle.fw_model.specs.Machine.{Machine, first_state, events}
 use Rattle.fw_model.specs.Steps.{Steps, CutsTo, GrowsTo, with_event, offers, did, quiet, cuts, acked}
 use Rattle.fw_examples.specs.OneSelect.{one_select_flow, rec_of}
 use Rattle.fw_examples.specs.OneRecovery.{one_dropped, output_alone, AcknowledgesWhatIsToCome}
-use Rattle.fw_examples.proofs.FrontierFacts.{is_frontier_of, within_until}
+use Rattle.fw_examples.proofs.FrontierFacts.{within_until}
 use Rattle.fw_examples.proofs.StepFacts.{injects, delivers}
 use Rattle.fw_examples.proofs.ChoiceFacts.{nothing_covered, meet_within, within_meet, set_within, canonical, by_three, by_two}
 use Rattle.fw_examples.proofs.OneSelectDone.{named, all_complete, below_all, names_join}
@@ -109,7 +110,7 @@ at_input : (cut : Cut) → Within (discarded_cover one_dropped others_settled 0 
 unfolding kind_of receiver sender sends batches_of bounds_of policy_of
 at_input Present w = false≢true (w (0 ∷ []) refl)
 at_input (At f) w =
-    within_until _ _ (0 ∷ []) (is_frontier_of _ f) refl
+    within_until _ _ (0 ∷ []) (frontier-closed _ f) refl
     (λ i. let sent : discarded_cover one_dropped others_settled 0 0 (At f) (0 ∷ []) ≡ true = rw i refl in false≢true (w (0 ∷ []) sent))
 
 alone_above : (other : Choice) → IsConsistent one_dropped others_settled Offered other → IsChoiceWithin one_dropped other output_alone

@@ -1,40 +1,14 @@
 -- Frontiers by their outside stamps are frontiers, and what is pending outside them is not inside.
-use Rattle.std.proofs.Common.{◌≡◌, ℕ, ◌≤◌, Bool, true, false, not, ◌&&◌, ◌||◌, List, [], ◌∷◌, refl, arith}
-use Rattle.std.specs.Prelude.{nat_le}
+use Rattle.std.proofs.Common.{◌≡◌, ℕ, ◌≤◌, Bool, true, false, not, ◌&&◌, List, [], ◌∷◌, refl, arith}
 use Rattle.std.proofs.lemmas.Bool.{and_parts, and_from, not-true, not_from_false, false_from_ne_true, both_ways}
 use Rattle.std.proofs.lemmas.Bool.Decides.{nat_tests}
 use Rattle.fw_time.specs.Stamp.{Stamp, leq, same, in_domain}
 use Rattle.fw_time.specs.declared.stamp.Bounds.{Bounds}
 use Rattle.fw_frontier.specs.Frontier.{Frontier, IsFrontier, Within}
-use Rattle.fw_frontier.specs.Front.{Front, inside, frontier_of}
+use Rattle.fw_frontier.specs.Front.{Front, inside}
+use Rattle.fw_frontier.proofs.InsideLaws.{inside-closed}
 use Rattle.fw_flow.specs.declared.event.Message.{Message}
 use Rattle.fw_model.specs.History.{some_at}
-
-nat_le-trans : (x y z : ℕ) → nat_le x y ≡ true → nat_le y z ≡ true → nat_le x z ≡ true
-nat_le-trans x y z h k = grind (arith, nat_tests)
-
-pub leq-trans : (s t u : Stamp) → leq s t ≡ true → leq t u ≡ true → leq s u ≡ true
-leq-trans [] [] u h k = k
-leq-trans [] (y ∷ t) u h k = cc
-leq-trans (x ∷ s) [] u h k = cc
-leq-trans (x ∷ s) (y ∷ t) [] h k = cc
-leq-trans (x ∷ s) (y ∷ t) (z ∷ u) h k =
-    let a : (nat_le x y ≡ true) × (leq s t ≡ true) = and_parts _ _ h in
-    let b : (nat_le y z ≡ true) × (leq t u ≡ true) = and_parts _ _ k in
-    and_from _ _ (nat_le-trans x y z a.0 b.0) (leq-trans s t u a.1 b.1)
-
--- with a stamp each lesser one is inside
-pub inside-down : (os : Front) (s t : Stamp) → leq s t ≡ true → inside os t ≡ true → inside os s ≡ true
-inside-down [] s t h k = refl
-inside-down (o ∷ os) s t h k =
-    let a : (not (leq o t) ≡ true) × (inside os t ≡ true) = and_parts _ _ k in
-    and_from _ _ (not_from_false _ (false_from_ne_true _ (λ g. both_ways _ (not-true _ a.0) (leq-trans o s t g h)))) (inside-down os s t h a.1)
-
-pub frontier_of-is_frontier : (bounds : Bounds) (os : Front) → IsFrontier bounds (frontier_of bounds os)
-frontier_of-is_frontier bounds os = record {
-  inside_domain = λ t h. (and_parts (in_domain bounds t) (inside os t) h).0;
-  closed = λ s t d h k. and_from _ _ d (inside-down os s t h (and_parts (in_domain bounds t) (inside os t) k).1);
-}
 
 -- whether no message is at a stamp inside
 abbrev pub none_inside : Front → List Message → Bool
@@ -48,7 +22,7 @@ some_at-inside os t h [] k = refl
 some_at-inside os t h (m ∷ ms) k =
     let a : (not (inside os m.at) ≡ true) × (none_inside os ms ≡ true) = and_parts _ _ k in
     let not_same : same t m.at ≡ false =
-    false_from_ne_true _ (λ e. both_ways _ (not-true _ a.0) (inside-down os m.at t (and_parts (leq t m.at) (leq m.at t) e).1 h)) in
+    false_from_ne_true _ (λ e. both_ways _ (not-true _ a.0) (inside-closed os m.at t (and_parts (leq t m.at) (leq m.at t) e).1 h)) in
     rw not_same (some_at-inside os t h ms a.1)
 
 -- a frontier with nothing pending inside has no stamp from a pending one on
@@ -81,8 +55,3 @@ and_more false b c f h = h
 -- the same of two
 pub both_more : (a b c d : Bool) → (a ≡ true → c ≡ true) → (b ≡ true → d ≡ true) → (a && b) ≡ true → (c && d) ≡ true
 both_more a b c d f g h = let k : (a ≡ true) × (b ≡ true) = and_parts a b h in and_from c d (f k.0) (g k.1)
-
--- the same beside a test
-pub or_more : (a b c : Bool) → (b ≡ true → c ≡ true) → (a || b) ≡ true → (a || c) ≡ true
-or_more true b c f h = refl
-or_more false b c f h = f h

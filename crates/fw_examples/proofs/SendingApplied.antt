@@ -3,6 +3,7 @@ use Rattle.std.proofs.Common.{◌≡◌, ◌⊎◌, ℕ, zero, suc, true, [], �
 use Rattle.std.proofs.lemmas.Bool.{and_parts, or_cases, or_left, or_right}
 use Rattle.fw_time.specs.Stamp.{Stamp}
 use Rattle.fw_frontier.specs.Frontier.{IsFrontier, Within, meet, join}
+use Rattle.fw_frontier.proofs.NamesLaws.{frontier-closed}
 use Rattle.fw_flow.specs.declared.event.Event.TheVariants.{Inject, Deliver, Notify}
 use Rattle.fw_flow.specs.Dataflow.{kind_of, sender, receiver, bounds_of, batches_of, in_edges, max_of}
 use Rattle.fw_model.specs.Denotation.{IsDenotation, rounds}
@@ -17,16 +18,15 @@ use Rattle.fw_examples.specs.Numbers.{numbers, numbered_epoch, numbered_both, va
 use Rattle.fw_examples.specs.WitnessesOfChoices.{first_rounds}
 use Rattle.fw_examples.specs.WitnessesOfFiltering.{kept_epoch}
 use Rattle.fw_examples.specs.SendingApplied.{counted, begun, one_or_other, both_epochs, ProjectionsApply, SendingApplies, DenotationApplies}
-use Rattle.fw_examples.proofs.FrontierFacts.{is_frontier_of}
 use Rattle.fw_examples.proofs.Walks.{is_well_formed}
 use Rattle.fw_examples.proofs.TotalWitnesses.{totals_are_well_formed}
 use Rattle.fw_examples.proofs.FilteringWitnesses.{sequence_is_filtered}
 
 counted_is_frontier : IsFrontier (bounds_of loop_counts_up (sender loop_counts_up fed_back_edge)) counted
-counted_is_frontier = is_frontier_of _ counted_rounds
+counted_is_frontier = frontier-closed _ counted_rounds
 
 begun_is_frontier : IsFrontier (bounds_of loop_counts_up (sender loop_counts_up fed_back_edge)) begun
-begun_is_frontier = is_frontier_of _ first_rounds
+begun_is_frontier = frontier-closed _ first_rounds
 
 both_are_counted : Within (meet counted begun) counted
 both_are_counted t i = (and_parts _ _ i).0

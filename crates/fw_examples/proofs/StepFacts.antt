@@ -4,15 +4,14 @@ use Rattle.std.proofs.lemmas.Bool.{false≢true, and_parts, or_cases, not-true}
 use Rattle.std.proofs.lemmas.Cmp.{then_total, on_total, nat_list_cmp_total, lists_total, nat_cmp_total, alike_right}
 use Rattle.std.specs.Cmp.{IsTotalOrder}
 use Rattle.std.specs.Ordering.{is_eq, is_gt}
-use Rattle.std.specs.declared.cmp.Ordering.{Ordering}
-use Rattle.std.specs.declared.cmp.Ordering.TheVariants.{Less, Equal, Greater}
 use Rattle.fw_flow.specs.declared.event.Event.TheVariants.{Inject as Injected, Deliver as Delivered}
 use Rattle.fw_flow.specs.declared.event.Message.{Message}
 use Rattle.fw_flow.specs.declared.step.Step.TheVariants.{Inject, Deliver}
 use Rattle.fw_flow.specs.Dataflow.{System, kind_of, receiver, is_input_kind, is_numbered, batches_of}
-use Rattle.fw_model.specs.History.{message_cmp, is_among, less, pending, injected_count}
+use Rattle.fw_model.specs.History.{message_cmp, is_among, pending, injected_count}
 use Rattle.fw_model.specs.Machine.{Machine, Write, acknowledged, events, is_failed}
 use Rattle.fw_model.specs.Steps.{Steps, with_event, did, quiet, AcknowledgesOldest, is_in_flight}
+use Rattle.fw_bag.proofs.OrderingLaws.{equal_from_is_eq}
 
 -- messages are totally ordered
 pub message_order : IsTotalOrder message_cmp
@@ -20,11 +19,6 @@ message_order =
     then_total (on_total (λ (m : Message). m.at) nat_list_cmp_total)
     (then_total (on_total (λ (m : Message). m.rec) (then_total (on_total (λ r. r.key) nat_cmp_total) (on_total (λ r. r.value) nat_cmp_total)))
     (on_total (λ (m : Message). m.causes) (lists_total nat_list_cmp_total)))
-
-equal_from : (o : Ordering) → is_eq o ≡ true → o ≡ Equal
-equal_from Less h = absurd (false≢true h)
-equal_from Equal h = refl
-equal_from Greater h = absurd (false≢true h)
 
 -- whether the message is after none of these
 abbrev pub is_least : Message → List Message → Bool
@@ -38,14 +32,9 @@ least_of m [] h other i = absurd (false≢true i)
 least_of m (x ∷ xs) h other i =
     let parts = and_parts (not (is_gt (message_cmp m x))) (is_least m xs) h in
     ⊎_elim
-    (λ e. ap is_gt (alike_right message_order other x m (equal_from (message_cmp other x) e)) ∙ not-true (is_gt (message_cmp m x)) parts.0)
+    (λ e. ap is_gt (alike_right message_order other x m (equal_from_is_eq (message_cmp other x) e)) ∙ not-true (is_gt (message_cmp m x)) parts.0)
     (λ j. least_of m xs parts.1 other j)
     (or_cases (is_eq (message_cmp other x)) (is_among other xs) i)
-
--- of nothing, nothing is pending
-pub less_none : (ds : List Message) → less [] ds ≡ []
-less_none [] = refl
-less_none (d ∷ ds) = rw (less_none ds) refl
 
 -- an input sends its next batch
 pub injects : (sys : System) (state : Machine) (s x : ℕ) → is_input_kind (kind_of sys.flow s) ≡ true

@@ -4,6 +4,7 @@ use Rattle.std.proofs.lemmas.Bool.{false≢true, true≢false, and_parts, and_fr
 use Rattle.std.proofs.lemmas.Bool.Decides.{nat_tests}
 use Rattle.fw_frontier.specs.Frontier.{Frontier, Within, join}
 use Rattle.fw_frontier.specs.Front.{Front, frontier_of, IsCanonical}
+use Rattle.fw_frontier.proofs.NamesLaws.{frontier-closed}
 use Rattle.fw_time.specs.Stamp.{Stamp}
 use Rattle.fw_flow.specs.declared.choice.Cut.{Cut}
 use Rattle.fw_flow.specs.declared.choice.Cut.TheVariants.{Present, At}
@@ -20,7 +21,7 @@ use Rattle.fw_model.specs.LawsOfExistence.{AreCheckpointsChains}
 use Rattle.fw_model.proofs.GoingOn.{runs-go_on}
 use Rattle.fw_examples.specs.RunningTotal.{totals, total_flow, alike, output_failed, come_back, two_epochs_kept, two_kept_noting, epoch_kept, steps_to_failure, outcomes_to_failure, steps_through_recovery, outcomes_through_recovery, steps_without_failure, outcomes_without_failure, steps_up_to_two, outcomes_up_to_two, steps_of_failure, outcomes_of_failure, steps_of_sum, outcomes_of_sum}
 use Rattle.fw_examples.proofs.Orders.{within_one}
-use Rattle.fw_examples.proofs.FrontierFacts.{is_frontier_of, within_until}
+use Rattle.fw_examples.proofs.FrontierFacts.{within_until}
 use Rattle.fw_examples.proofs.ChoiceFacts.{nothing_covered, cover_within, meet_within, within_meet, set_within, canonical, by_three, by_two}
 use Rattle.fw_examples.proofs.TotalDone.{join_within}
 use Rattle.fw_examples.proofs.TotalRun.{ten_acknowledged, two_collected, put_out_acknowledged, again_acknowledged, runs_to_two, runs_to_failure, runs_without_failure, runs_again}
@@ -46,19 +47,19 @@ first_consistent = record {
   one_cut_each = refl;
   one_note_each = refl;
   offered = by_three _
-      (canonical _ (2 ∷ []) refl, inl (2, lit≤ tt, refl), within_until _ _ (2 ∷ []) (is_frontier_of _ (until 0)) refl false≢true)
-      (canonical _ (2 ∷ []) refl, inr (inr (inl (refl, refl, refl))), within_until _ _ (2 ∷ []) (is_frontier_of _ (until 0)) refl false≢true)
-      (canonical _ (2 ∷ []) refl, ((λ t i. i), (λ t i. i)), within_until _ _ (2 ∷ []) (is_frontier_of _ (until 0)) refl false≢true);
+      (canonical _ (2 ∷ []) refl, inl (2, lit≤ tt, refl), within_until _ _ (2 ∷ []) (frontier-closed _ (until 0)) refl false≢true)
+      (canonical _ (2 ∷ []) refl, inr (inr (inl (refl, refl, refl))), within_until _ _ (2 ∷ []) (frontier-closed _ (until 0)) refl false≢true)
+      (canonical _ (2 ∷ []) refl, ((λ t i. i), (λ t i. i)), within_until _ _ (2 ∷ []) (frontier-closed _ (until 0)) refl false≢true);
   canonical = by_three _ (canonical _ (2 ∷ []) refl) (canonical _ (2 ∷ []) refl) (canonical _ (2 ∷ []) refl);
   delivered = by_two _
-      (λ t i. and_from _ _ (and_parts _ _ i).0 (cover_within _ (1 ∷ []) _ (is_frontier_of _ (until 2)) refl t i))
+      (λ t i. and_from _ _ (and_parts _ _ i).0 (cover_within _ (1 ∷ []) _ (frontier-closed _ (until 2)) refl t i))
       (λ t i. and_from _ _ (and_parts _ _ i).0 i);
   discarded = by_two _
-      (cover_within _ (1 ∷ []) _ (is_frontier_of _ (until 2)) refl)
-      (cover_within _ (1 ∷ []) _ (is_frontier_of _ (until 2)) refl);
+      (cover_within _ (1 ∷ []) _ (frontier-closed _ (until 2)) refl)
+      (cover_within _ (1 ∷ []) _ (frontier-closed _ (until 2)) refl);
   notified = by_three _
       (λ t i. absurd (nothing_covered _ t i))
-      (cover_within _ (1 ∷ []) _ (is_frontier_of _ (until 2)) refl)
+      (cover_within _ (1 ∷ []) _ (frontier-closed _ (until 2)) refl)
       (λ t i. absurd (nothing_covered _ t i));
   own = by_three _ (λ t i. i) (λ t i. i) (λ t i. i);
   notes = by_two _ (λ t i. and_from _ _ (and_parts _ _ i).0 i) (λ t i. and_from _ _ (and_parts _ _ i).0 i);
@@ -143,14 +144,14 @@ two_consistent lost view last offered is_canonical below = record {
   offered = by_three _ (offered 0 (lit< tt)) (offered 1 (lit< tt)) (offered 2 (lit< tt));
   canonical = by_three _ (canonical _ (2 ∷ []) refl) (canonical _ (2 ∷ []) refl) is_canonical;
   delivered = by_two _
-      (λ t i. and_from _ _ (and_parts _ _ i).0 (cover_within _ (1 ∷ []) _ (is_frontier_of _ (until 2)) refl t i))
+      (λ t i. and_from _ _ (and_parts _ _ i).0 (cover_within _ (1 ∷ []) _ (frontier-closed _ (until 2)) refl t i))
       (λ t i. and_from _ _ (and_parts _ _ i).0 i);
   discarded = by_two _
-      (cover_within _ (1 ∷ []) _ (is_frontier_of _ (until 2)) refl)
-      (cover_within _ (1 ∷ []) _ (is_frontier_of _ (until 2)) refl);
+      (cover_within _ (1 ∷ []) _ (frontier-closed _ (until 2)) refl)
+      (cover_within _ (1 ∷ []) _ (frontier-closed _ (until 2)) refl);
   notified = by_three _
       (λ t i. absurd (nothing_covered _ t i))
-      (cover_within _ (1 ∷ []) _ (is_frontier_of _ (until 2)) refl)
+      (cover_within _ (1 ∷ []) _ (frontier-closed _ (until 2)) refl)
       (λ t i. absurd (nothing_covered _ t i));
   own = by_three _ (λ t i. i) (λ t i. i) below;
   notes = by_two _ (λ t i. and_from _ _ (and_parts _ _ i).0 i) (λ t i. and_from _ _ (and_parts _ _ i).0 (below t i));
@@ -203,7 +204,7 @@ input_within : (cut : Cut) → Within (discarded_cover totals output_failed 0 0 
 unfolding kind_of receiver sender sends batches_of bounds_of policy_of
 input_within Present w = false≢true (w (2 ∷ []) refl)
 input_within (At f) w =
-    within_until _ _ (2 ∷ []) (is_frontier_of _ f) refl
+    within_until _ _ (2 ∷ []) (frontier-closed _ f) refl
     (λ i. false≢true (w (2 ∷ []) (sent i (frontier_of (bounds_of total_flow 0) f (3 ∷ [])) refl)))
   where
     sent : frontier_of (bounds_of total_flow 0) f (2 ∷ []) ≡ true → (b : Bool) → frontier_of (bounds_of total_flow 0) f (3 ∷ []) ≡ b

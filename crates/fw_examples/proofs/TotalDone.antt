@@ -5,6 +5,7 @@ use Rattle.std.specs.Ordering.{is_gt}
 use Rattle.fw_time.specs.Stamp.{Stamp, leq, lesser, same, stamp_cmp}
 use Rattle.fw_frontier.specs.Frontier.{Frontier, IsFrontier, Within, join}
 use Rattle.fw_frontier.specs.Front.{Front, frontier_of, IsCanonical, Names}
+use Rattle.fw_frontier.proofs.NamesLaws.{frontier-closed}
 use Rattle.fw_flow.specs.declared.event.Event.{Event}
 use Rattle.fw_flow.specs.declared.event.Event.TheVariants.{Notify as Notified}
 use Rattle.fw_flow.specs.declared.step.Step.TheVariants.{Progress, Notify}
@@ -14,9 +15,9 @@ use Rattle.fw_flow.specs.Projection.{phi, events_at}
 use Rattle.fw_model.specs.History.{less, some_at, delivered, pending, owed, injected_epochs, IsQuiet, IsAdmissible, IsComplete, IsNotifiable}
 use Rattle.fw_model.specs.Machine.{Machine, events, front_of, is_failed, places}
 use Rattle.fw_model.specs.Steps.{Steps, did, quiet, with_event, eager_writes}
+use Rattle.fw_model.proofs.DescentLaws.{less-none}
 use Rattle.fw_examples.specs.RunningTotal.{totals, total_flow}
-use Rattle.fw_examples.proofs.StepFacts.{less_none}
-use Rattle.fw_examples.proofs.FrontierFacts.{is_frontier_of, within_all}
+use Rattle.fw_examples.proofs.FrontierFacts.{within_all}
 
 -- the family of frontiers that these lists name
 abbrev pub named : List Front → ℕ → Frontier
@@ -32,11 +33,11 @@ sent_past (v ∷ vs) = sent_past vs
 pub pending_past : (h : List Event) (e : ℕ) → pending totals h (suc (suc e)) ≡ []
 unfolding sender
 pending_past h e =
-    ap (λ ms. less ms (delivered h (suc (suc e)))) (sent_past (events_at total_flow 3 h)) ∙ less_none (delivered h (suc (suc e)))
+    ap (λ ms. less ms (delivered h (suc (suc e)))) (sent_past (events_at total_flow 3 h)) ∙ less-none (delivered h (suc (suc e)))
 
 -- named frontiers are frontiers
 pub named_frontier : (fronts : List Front) (p : ℕ) → IsFrontier (bounds_of total_flow p) (named fronts p)
-named_frontier fronts p = is_frontier_of (bounds_of total_flow p) (front_of fronts p)
+named_frontier fronts p = frontier-closed (bounds_of total_flow p) (front_of fronts p)
 
 -- nothing is owed where the running total is owed nothing
 pub nothing_owed : (h : List Event) → ((t : Stamp) → owed totals h 1 t ≡ false) → (p : ℕ) (t : Stamp) → owed totals h p t ≡ false

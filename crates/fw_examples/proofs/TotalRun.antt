@@ -3,6 +3,7 @@ use Rattle.std.proofs.Common.{◌≡◌, ℕ, zero, suc, Bool, true, false, not,
 use Rattle.std.proofs.lemmas.Bool.{false≢true, true≢false, and_parts, and_from}
 use Rattle.fw_time.specs.Stamp.{Stamp, same, in_domain}
 use Rattle.fw_frontier.specs.Frontier.{Frontier, Within}
+use Rattle.fw_frontier.proofs.NamesLaws.{frontier-closed}
 use Rattle.fw_flow.specs.declared.event.Event.{Event}
 use Rattle.fw_flow.specs.declared.event.Event.TheVariants.{Inject as Injected, Deliver as Delivered, Notify as Notified}
 use Rattle.fw_flow.specs.declared.step.Step.TheVariants.{Inject, Deliver, Notify, Progress, Checkpoint, Persist, Fail, Ack}
@@ -15,7 +16,7 @@ use Rattle.fw_model.specs.Machine.{Machine, Write, Progress as Written, first_st
 use Rattle.fw_model.specs.Steps.{Steps, Run, with_event, did, quiet, acked}
 use Rattle.fw_examples.specs.OneSelect.{rec_of}
 use Rattle.fw_examples.specs.RunningTotal.{totals, total_flow, at_epoch, alike, two_epochs, next_epochs, output_failed, come_back, steps_up_to_two, outcomes_up_to_two, steps_of_failure, outcomes_of_failure, steps_of_sum, outcomes_of_sum}
-use Rattle.fw_examples.proofs.FrontierFacts.{is_frontier_of, within_until, one_not_same}
+use Rattle.fw_examples.proofs.FrontierFacts.{within_until, one_not_same}
 use Rattle.fw_examples.proofs.StepFacts.{injects, delivers, acknowledges_first_write, acknowledges_second_write}
 use Rattle.fw_examples.proofs.ChoiceFacts.{nothing_inside, below_epoch, canonical}
 use Rattle.fw_examples.proofs.TotalDone.{named, pending_past, admissible, at_sender, complete, progresses, notifies, lesser_not_same}
@@ -234,9 +235,9 @@ settles_empty =
     progresses empty_sent (until 1) (until 1) (until 1) empty_complete
     (canonical _ (1 ∷ []) refl) (canonical _ (1 ∷ []) refl) (canonical _ (1 ∷ []) refl)
     none_failed
-    (within_until _ _ (1 ∷ []) (is_frontier_of _ (until 0)) refl false≢true)
-    (within_until _ _ (1 ∷ []) (is_frontier_of _ (until 0)) refl false≢true)
-    (within_until _ _ (1 ∷ []) (is_frontier_of _ (until 0)) refl false≢true)
+    (within_until _ _ (1 ∷ []) (frontier-closed _ (until 0)) refl false≢true)
+    (within_until _ _ (1 ∷ []) (frontier-closed _ (until 0)) refl false≢true)
+    (within_until _ _ (1 ∷ []) (frontier-closed _ (until 0)) refl false≢true)
     (0 ∷ []) refl refl
 
 settles_ten : Steps totals ten_put_out Progress ten_settled (did quiet)
@@ -245,9 +246,9 @@ settles_ten =
     progresses ten_put_out (until 2) (until 2) (until 2) ten_complete
     (canonical _ (2 ∷ []) refl) (canonical _ (2 ∷ []) refl) (canonical _ (2 ∷ []) refl)
     none_failed
-    (within_until _ _ (2 ∷ []) (is_frontier_of _ (until 1)) refl false≢true)
-    (within_until _ _ (2 ∷ []) (is_frontier_of _ (until 1)) refl false≢true)
-    (within_until _ _ (2 ∷ []) (is_frontier_of _ (until 1)) refl false≢true)
+    (within_until _ _ (2 ∷ []) (frontier-closed _ (until 1)) refl false≢true)
+    (within_until _ _ (2 ∷ []) (frontier-closed _ (until 1)) refl false≢true)
+    (within_until _ _ (2 ∷ []) (frontier-closed _ (until 1)) refl false≢true)
     (1 ∷ []) refl refl
 
 -- ---- checkpoints and acknowledgements
@@ -332,7 +333,7 @@ sum_complete =
     (λ t i. paid_two (same (2 ∷ []) t) (same (1 ∷ []) t))
     (λ t i. and_from _ _ (and_parts _ _ i).0 (below_epoch _ 3 t i))
     (λ t i. i)
-    (within_until _ _ (3 ∷ []) (is_frontier_of _ (until 2)) refl false≢true))
+    (within_until _ _ (3 ∷ []) (frontier-closed _ (until 2)) refl false≢true))
     (λ other o.
     let sent : Within (other 0) (named (until 3 ∷ until 3 ∷ until 2 ∷ []) 0) =
     within_until _ (other 0) (3 ∷ []) (o.frontier 0) refl (λ i. false≢true (o.source 0 refl (3 ∷ []) i)) in (
@@ -348,8 +349,8 @@ settles_sum =
     progresses five_summed (until 3) (until 3) (until 2) sum_complete
     (canonical _ (3 ∷ []) refl) (canonical _ (3 ∷ []) refl) (canonical _ (2 ∷ []) refl)
     none_failed
-    (within_until _ _ (3 ∷ []) (is_frontier_of _ (until 2)) refl false≢true)
-    (within_until _ _ (3 ∷ []) (is_frontier_of _ (until 2)) refl false≢true)
+    (within_until _ _ (3 ∷ []) (frontier-closed _ (until 2)) refl false≢true)
+    (within_until _ _ (3 ∷ []) (frontier-closed _ (until 2)) refl false≢true)
     (λ t i. i)
     (2 ∷ []) refl refl
 
@@ -377,9 +378,9 @@ settles_put_out =
     progresses put_out (until 3) (until 3) (until 3) third_complete
     (canonical _ (3 ∷ []) refl) (canonical _ (3 ∷ []) refl) (canonical _ (3 ∷ []) refl)
     none_failed
-    (within_until _ _ (3 ∷ []) (is_frontier_of _ (until 2)) refl false≢true)
-    (within_until _ _ (3 ∷ []) (is_frontier_of _ (until 2)) refl false≢true)
-    (within_until _ _ (3 ∷ []) (is_frontier_of _ (until 2)) refl false≢true)
+    (within_until _ _ (3 ∷ []) (frontier-closed _ (until 2)) refl false≢true)
+    (within_until _ _ (3 ∷ []) (frontier-closed _ (until 2)) refl false≢true)
+    (within_until _ _ (3 ∷ []) (frontier-closed _ (until 2)) refl false≢true)
     (2 ∷ []) refl refl
 
 acknowledges_put_out : Steps totals put_out_settled (Ack 2) put_out_acknowledged (did (acked 2 (2 ∷ []) (rec_of 1 15 ∷ [])))
@@ -408,9 +409,9 @@ settles_again =
     progresses again_put_out (until 3) (until 3) (until 3) third_complete
     (canonical _ (3 ∷ []) refl) (canonical _ (3 ∷ []) refl) (canonical _ (3 ∷ []) refl)
     none_failed
-    (within_until _ _ (3 ∷ []) (is_frontier_of _ (until 2)) refl false≢true)
-    (within_until _ _ (3 ∷ []) (is_frontier_of _ (until 2)) refl false≢true)
-    (within_until _ _ (3 ∷ []) (is_frontier_of _ (until 2)) refl false≢true)
+    (within_until _ _ (3 ∷ []) (frontier-closed _ (until 2)) refl false≢true)
+    (within_until _ _ (3 ∷ []) (frontier-closed _ (until 2)) refl false≢true)
+    (within_until _ _ (3 ∷ []) (frontier-closed _ (until 2)) refl false≢true)
     (2 ∷ []) refl refl
 
 acknowledges_again : Steps totals again_settled (Ack 2) again_acknowledged (did (acked 2 (2 ∷ []) (rec_of 1 15 ∷ [])))
@@ -569,8 +570,8 @@ failed_complete =
     (λ t i. ap (some_at (same t)) sum_pending ∙ one_not_same _ (2 ∷ []) t i)
     (λ t i. none_owed t)
     (λ t i. and_from _ _ (and_parts _ _ i).0 (below_epoch _ 4 t i))
-    (within_until _ _ (4 ∷ []) (is_frontier_of _ (until 3)) refl false≢true)
-    (within_until _ _ (3 ∷ []) (is_frontier_of _ (until 2)) refl false≢true))
+    (within_until _ _ (4 ∷ []) (frontier-closed _ (until 3)) refl false≢true)
+    (within_until _ _ (3 ∷ []) (frontier-closed _ (until 2)) refl false≢true))
     (λ other o. (
       within_until _ (other 0) (4 ∷ []) (o.frontier 0) refl (λ i. false≢true (o.source 0 refl (4 ∷ []) i)),
       within_until _ (other 1) (3 ∷ []) (o.frontier 1) refl

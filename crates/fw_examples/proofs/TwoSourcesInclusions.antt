@@ -3,6 +3,7 @@ use Rattle.std.proofs.Common.{◌≡◌, ℕ, ◌<◌, true, List, [], ◌∷◌
 use Rattle.std.proofs.lemmas.Bool.{false≢true, true≢false, and_parts, and_from}
 use Rattle.fw_frontier.specs.Frontier.{Within}
 use Rattle.fw_frontier.specs.Front.{Front, frontier_of}
+use Rattle.fw_frontier.proofs.NamesLaws.{frontier-closed}
 use Rattle.fw_flow.specs.declared.choice.Cut.{Cut}
 use Rattle.fw_flow.specs.declared.choice.Cut.TheVariants.{Present, At}
 use Rattle.fw_flow.specs.Dataflow.{kind_of, policy_of, sender, receiver, bounds_of, batches_of}
@@ -14,7 +15,7 @@ use Rattle.fw_model.specs.Machine.{front_of}
 use Rattle.fw_model.specs.Steps.{offers}
 use Rattle.fw_examples.specs.TwoSources.{two_sources_flow}
 use Rattle.fw_examples.specs.Inclusions.{Inclusion, of_delivered, of_discarded, of_notified, of_own, of_notes, Meets, IsConsistentWithout, LeavesAHistory, none, all, one_comes, sum_undone, sum_kept, NotifiedIsNeeded, OwnIsNeeded, NotesAreNeeded}
-use Rattle.fw_examples.proofs.FrontierFacts.{is_frontier_of, within_all, within_until}
+use Rattle.fw_examples.proofs.FrontierFacts.{within_all, within_until}
 use Rattle.fw_examples.proofs.ChoiceFacts.{nothing_covered, nothing_inside, covered_in_all, set_within, canonical, by_six, by_five}
 use Rattle.fw_examples.proofs.TwoSourcesRun.{select_failed, failed_after_notice}
 
@@ -78,7 +79,7 @@ at_second : (cut : Cut) → Within (discarded_cover one_comes select_failed 1 1 
 unfolding kind_of receiver sender sends batches_of bounds_of policy_of
 at_second Present w = false≢true (w (0 ∷ []) refl)
 at_second (At f) w =
-    within_until _ _ (0 ∷ []) (is_frontier_of _ f) refl
+    within_until _ _ (0 ∷ []) (frontier-closed _ f) refl
     (λ i. let sent : discarded_cover one_comes select_failed 1 1 (At f) (0 ∷ []) ≡ true = rw i refl in false≢true (w (0 ∷ []) sent))
 
 -- the sum settled nothing, and was notified of what it cannot count as notified
@@ -100,7 +101,7 @@ undone_largest other is =
     record {
       cuts = by_six _ tt cut_second cut_select tt (at_sum (cut_of other 4) (is.offered 4 (lit< tt)) (λ t i. note_sum t (is.notified 4 (lit< tt) t i))) tt;
       notes = by_six _
-          (within_all _ _ (is_frontier_of _ (front_of other.notes 0)))
+          (within_all _ _ (frontier-closed _ (front_of other.notes 0)))
           (λ t i. set_within one_comes 1 (cut_of other 1) none cut_second t (is.own 1 (lit< tt) t i))
           note_select
           note_mix

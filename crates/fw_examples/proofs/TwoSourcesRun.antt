@@ -5,6 +5,7 @@ use Rattle.std.specs.Ordering.{is_gt}
 use Rattle.fw_time.specs.Stamp.{Stamp, leq, lesser, same, stamp_cmp}
 use Rattle.fw_frontier.specs.Frontier.{Frontier, Within}
 use Rattle.fw_frontier.specs.Front.{frontier_of}
+use Rattle.fw_frontier.proofs.NamesLaws.{frontier-closed}
 use Rattle.fw_flow.specs.declared.event.Event.{Event}
 use Rattle.fw_flow.specs.declared.event.Event.TheVariants.{Inject as Injected, Deliver as Delivered, Notify as Notified}
 use Rattle.fw_flow.specs.declared.event.Message.{Message}
@@ -15,11 +16,11 @@ use Rattle.fw_flow.specs.Projection.{phi, events_at}
 use Rattle.fw_model.specs.History.{less, delivered, some_at, pending, owed, injected_epochs, IsQuiet, IsAdmissible, IsNotifiable}
 use Rattle.fw_model.specs.Machine.{Machine, first_state, events, front_of}
 use Rattle.fw_model.specs.Steps.{Steps, with_event, did, quiet}
+use Rattle.fw_model.proofs.DescentLaws.{less-none}
 use Rattle.fw_examples.specs.OneSelect.{rec_of}
 use Rattle.fw_examples.specs.TwoSources.{two_sources_flow}
 use Rattle.fw_examples.specs.Inclusions.{none, all, one_comes, IsFailedAfterNotice}
-use Rattle.fw_examples.proofs.FrontierFacts.{is_frontier_of}
-use Rattle.fw_examples.proofs.StepFacts.{injects, delivers, less_none}
+use Rattle.fw_examples.proofs.StepFacts.{injects, delivers}
 use Rattle.fw_examples.proofs.ChoiceFacts.{nothing_inside}
 
 -- the recs, each at epoch 0
@@ -97,7 +98,7 @@ none_pending (suc (suc zero)) = refl
 none_pending (suc (suc (suc zero))) = refl
 none_pending (suc (suc (suc (suc zero)))) = refl
 none_pending (suc (suc (suc (suc (suc e))))) =
-    ap (λ ms. less ms (delivered h (suc (suc (suc (suc (suc e))))))) (sent_past (events_at two_sources_flow 6 h)) ∙ less_none (delivered h (suc (suc (suc (suc (suc e))))))
+    ap (λ ms. less ms (delivered h (suc (suc (suc (suc (suc e))))))) (sent_past (events_at two_sources_flow 6 h)) ∙ less-none (delivered h (suc (suc (suc (suc (suc e))))))
 
 quiet_everywhere : (p : ℕ) (t : Stamp) → IsQuiet one_comes h p t
 quiet_everywhere p t e r = ap (some_at (same t)) (none_pending e)
@@ -133,7 +134,7 @@ sources_before (suc (suc (suc (suc (suc (suc s)))))) k t i = absurd (false≢tru
 
 admissible_before : IsAdmissible one_comes h before_sum
 admissible_before = record {
-  frontier = λ p. is_frontier_of (bounds_of two_sources_flow p) (front_of (all ∷ all ∷ all ∷ all ∷ none ∷ none ∷ []) p);
+  frontier = λ p. frontier-closed (bounds_of two_sources_flow p) (front_of (all ∷ all ∷ all ∷ all ∷ none ∷ none ∷ []) p);
   quiet = λ p t i. quiet_everywhere p t;
   paid = paid_before;
   follows = follows_before;

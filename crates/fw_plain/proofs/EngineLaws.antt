@@ -1,5 +1,6 @@
 -- What each step does to the state that an engine stands for.
 use Rattle.std.proofs.Common.{◌≡◌, ℕ, zero, suc, ◌+◌, ◌<◌, ◌==◌, cond, Bool, true, false, ◌&&◌, List, [], ◌∷◌, ◌++◌, map, length, slice_set, slice_index_or, replicate, refl, sym, ◌∙◌, ap, subst, arith, Option, Some, None, MatchOption}
+use Rattle.std.proofs.lemmas.Bool.{true≢false}
 use Rattle.std.specs.List.{AllByRecursion, range_with_len}
 use Rattle.std.proofs.lemmas.Bool.Decides.{nat_tests}
 use Rattle.std.proofs.lemmas.Grind.{common_steps}
@@ -233,10 +234,7 @@ first_of false b c h = h
 -- where no node is notified a notification is idle
 pub notifies_nothing : (sys : System) (state : Machine) (p : ℕ) (at : Option Stamp) → IsSound sys state → Steps sys state (Notify p at) state idle
 notifies_nothing sys state p at i =
-    (λ other effect t. true_false (sym (first_of _ _ _ t.1.enabled.is_owed) ∙ i.notifies_nobody p), refl)
-  where
-    true_false : true ≡ false → ⊥
-    true_false e = cc
+    (λ other effect t. true≢false (sym (first_of _ _ _ t.1.enabled.is_owed) ∙ i.notifies_nobody p), refl)
 
 -- ---- what an engine stands for
 

@@ -1,6 +1,6 @@
 -- Lists of frontiers, one for each node.
 use Rattle.std.proofs.Common.{◌≡◌, ℕ, zero, suc, ◌<◌, Bool, true, false, not, ◌&&◌, List, [], ◌∷◌, map, length, get_or, refl, sym, ap, subst, inl, inr, arith, Result, Ok, Err, IfOk}
-use Rattle.std.proofs.lemmas.Bool.{cases_Bool, or_cases, or_left, or_right, and_parts, and_from, false_from_ne_true}
+use Rattle.std.proofs.lemmas.Bool.{cases_Bool, or_cases, or_left, or_right, and_parts, and_from, false_from_ne_true, and_right, not-true}
 use Rattle.fw_time.specs.declared.stamp.Bounds.{Bounds}
 use Rattle.fw_time.specs.Stamp.{Stamp, leq, origin, in_domain}
 use Rattle.fw_time.proofs.StampLaws.{leq-refl}
@@ -51,16 +51,12 @@ grows-by b c (x ∷ s) k g = elim (or_cases (inside c x) (grows c s) g) [
   | inl i ↦ (x, record { in_the_domain = k.0.in_the_domain; gained = i; lacked = outside (leq x x) (leq-refl x) (inside s x) })
   | inr r ↦
       let w = grows-by b c s k.1 r in
-      (w.0, record { in_the_domain = w.1.in_the_domain; gained = w.1.gained; lacked = still (not (leq x w.0)) (inside s w.0) w.1.lacked })
+      (w.0, record { in_the_domain = w.1.in_the_domain; gained = w.1.gained; lacked = and_right (not (leq x w.0)) (inside s w.0) w.1.lacked })
 ]
   where
     outside : (a : Bool) → a ≡ true → (b : Bool) → (not a && b) ≡ false
     outside true e b = refl
     outside false e b = absurd (cc)
-
-    still : (a b : Bool) → b ≡ false → (a && b) ≡ false
-    still true b e = e
-    still false b e = refl
 
 -- it does so at some place that is not failed
 pub any_grows-at : (fs : List Bool) (cs ss : List Front) (p : ℕ) → length cs ≡ length fs → length ss ≡ length fs → p < length fs → get_or fs p false ≡ false
@@ -78,23 +74,15 @@ any_grows-by [] cs ss g = absurd (cc)
 any_grows-by (f ∷ fs) [] ss g = absurd (cc)
 any_grows-by (f ∷ fs) (c ∷ cs) [] g = absurd (cc)
 any_grows-by (f ∷ fs) (c ∷ cs) (s ∷ ss) g = elim (or_cases (not f && grows c s) (any_grows fs cs ss) g) [
-  | inl i ↦ let a = and_parts (not f) (grows c s) i in (0, omega arith, negated f a.0, a.1)
+  | inl i ↦ let a = and_parts (not f) (grows c s) i in (0, omega arith, not-true f a.0, a.1)
   | inr r ↦ let w = any_grows-by fs cs ss r in (suc w.0, omega (arith, w.1), w.2, w.3)
 ]
-  where
-    negated : (b : Bool) → not b ≡ true → b ≡ false
-    negated true e = absurd (cc)
-    negated false e = refl
 
 pub any_grows-where : (fs : List Bool) (cs ss : List Front) (p : ℕ) → length cs ≡ length fs → length ss ≡ length fs → p < length fs
     → (not (get_or fs p false) && grows (front_of cs p) (front_of ss p)) ≡ true → any_grows fs cs ss ≡ true
 any_grows-where fs cs ss p e k l g =
     let a = and_parts (not (get_or fs p false)) (grows (front_of cs p) (front_of ss p)) g in
-    any_grows-at fs cs ss p e k l (negated (get_or fs p false) a.0) a.1
-  where
-    negated : (b : Bool) → not b ≡ true → b ≡ false
-    negated true e = absurd (cc)
-    negated false e = refl
+    any_grows-at fs cs ss p e k l (not-true (get_or fs p false) a.0) a.1
 
 -- and nowhere where it does at none
 pub any_grows-none : (fs : List Bool) (cs ss : List Front) → ((p : ℕ) → p < length fs → (not (get_or fs p false) && grows (front_of cs p) (front_of ss p)) ≡ false)

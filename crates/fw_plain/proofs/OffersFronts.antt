@@ -1,10 +1,13 @@
 -- The frontiers that plain nodes offer.
 use Rattle.std.proofs.Common.{◌≡◌, ◌≢◌, ◌⊎◌, ◌↔◌, inl, inr, ℕ, zero, suc, ◌+◌, ◌^◌, ◌<◌, ◌≤◌, min, ◌==◌, Bool, true, false, not, ◌&&◌, cond, List, [], ◌∷◌, ◌++◌, map, Some, refl, sym, ◌∙◌, ap, subst, arith}
+use Rattle.std.proofs.Math.Bool.{and-true}
 use Rattle.std.specs.List.{AllByRecursion, range_with_len}
-use Rattle.std.proofs.lemmas.Bool.{and_parts, and_from, cases_Bool}
+use Rattle.std.proofs.lemmas.Bool.{and_parts, and_from, cases_Bool, false≢true, both_ways, eqb-true}
 use Rattle.std.proofs.lemmas.Bool.Decides.{nat_tests}
 use Rattle.fw_time.specs.declared.stamp.Bounds.{Bounds}
 use Rattle.fw_time.specs.Stamp.{Stamp, leq, in_domain}
+use Rattle.fw_time.proofs.EachLaws.{each-append}
+use Rattle.fw_time.proofs.StampLaws.{leq-trans}
 use Rattle.fw_frontier.specs.Frontier.{Frontier, Within, nothing, meet}
 use Rattle.fw_frontier.specs.Front.{Front, inside, frontier_of, IsCanonical, Names}
 use Rattle.fw_flow.specs.declared.event.Event.{Event}
@@ -17,9 +20,8 @@ use Rattle.fw_flow.specs.Dataflow.{System, Dataflow, kind_of, bounds_of, bounds_
 use Rattle.fw_model.specs.Choice.{kept, Restoring, by_batches, by_bound, by_anything, by_checkpoints, by_events, IsRestorable, until}
 use Rattle.fw_model.specs.History.{injected_count, is_exhausted}
 use Rattle.fw_model.specs.Machine.{Machine, events, front_of, bound_of}
-use Rattle.fw_time.proofs.EachLaws.{each-append}
-use Rattle.fw_time.proofs.StampLaws.{leq-trans}
 use Rattle.fw_model.proofs.StampLaws.{line-leq, leq-line}
+use Rattle.fw_model.proofs.SameInsideLaws.{until-more}
 use Rattle.fw_monitor.specs.Offers.{listed, range, IsListed, IsBetween, Ascend, IsRecordOf, IsRangeOf, IsListedBy, AreFrontsOfEdges}
 use Rattle.fw_plain.specs.Offered.{batch_fronts, IsBare, AreBare, OffersBy}
 
@@ -42,17 +44,8 @@ canonical-until k l = (record { in_the_domain = line-leq k greatest_number l; as
 
 stays : (a b : Bool) → (b ≡ true → a ≡ true) → (not a && true) ≡ true → (not b && true) ≡ true
 stays true b k i = absurd (cc)
-stays false true k i = absurd (differ (k refl))
-  where
-    differ : false ≡ true → ⊥
-    differ e = cc
+stays false true k i = absurd (false≢true (k refl))
 stays false false k i = refl
-
-until-within : (b : Bounds) (k j : ℕ) → k ≤ j → Within (frontier_of b (until k)) (frontier_of b (until j))
-until-within b k j l t i =
-    let a = and_parts (in_domain b t) (not (leq (k ∷ []) t) && true) i in
-    and_from (in_domain b t) (not (leq (j ∷ []) t) && true) a.0
-    (stays (leq (k ∷ []) t) (leq (j ∷ []) t) (λ e. leq-trans (k ∷ []) (j ∷ []) t (line-leq k j l) e) a.1)
 
 within-all : (b : Bounds) (f : Front) → Within (frontier_of b f) (frontier_of b [])
 within-all b f t i = and_from (in_domain b t) true (and_parts (in_domain b t) (inside f t) i).0 refl
@@ -78,14 +71,10 @@ up_to-all settled f k l c e = record {
       | inr n ↦ n
     ]
 
-    both : (a : Bool) → a ≡ (a && true)
-    both true = refl
-    both false = refl
-
     at : (t : Stamp) (d : Bool) → in_domain numbers t ≡ d
         → (d && inside settled t) ≡ ((d && inside settled t) && (d && (not (leq (k ∷ []) t) && true)))
     at t false i = refl
-    at t true i = both (inside settled t) ∙ ap (λ x. inside settled t && (not x && true)) (sym (beyond t i))
+    at t true i = sym (and-true (inside settled t)) ∙ ap (λ x. inside settled t && (not x && true)) (sym (beyond t i))
 
 -- ---- records of frontiers
 
@@ -151,13 +140,10 @@ found-until a (suc n) f i = elim i [
 until-found : (a n k : ℕ) (f : Front) → a ≤ k → k < a + n → f ≡ until k → Found f (map until (range_with_len a n))
 until-found a zero k f l m e = absurd (omega arith)
 until-found a (suc n) k f l m e = elim (cases_Bool (a == k)) [
-  | inl s ↦ inl (ap until (same_number a k s) ∙ sym e)
+  | inl s ↦ inl (ap until (eqb-true a k s) ∙ sym e)
   | inr s ↦ inr (until-found (a + 1) n k f (later a k l s) (omega arith) e)
 ]
   where
-    same_number : (a k : ℕ) → (a == k) ≡ true → a ≡ k
-    same_number a k s = grind (arith, nat_tests)
-
     later : (a k : ℕ) → a ≤ k → (a == k) ≡ false → a + 1 ≤ k
     later a k l s = grind (arith, nat_tests)
 
@@ -237,7 +223,7 @@ batches-rise b false a zero = tt
 batches-rise b x a (suc n) = (
   each-append (λ g. Within (frontier_of b (until a)) (frontier_of b g) × (until a ≢ g)) (map until (range_with_len (a + 1) n)) (last_front x)
       (each-until (λ g. Within (frontier_of b (until a)) (frontier_of b g) × (until a ≢ g)) (a + 1) n
-      (λ k l m. (until-within b a k (omega arith), until-differs a k (omega arith))))
+      (λ k l m. (until-more b a k (omega arith), until-differs a k (omega arith))))
       (each-last (λ g. Within (frontier_of b (until a)) (frontier_of b g) × (until a ≢ g)) x (within-all b (until a), λ e. cc)),
   batches-rise b x (a + 1) n,
 )
@@ -277,12 +263,8 @@ between-up_to : (b : Bounds) (g : Frontier) (least greatest f : Front) → Names
     → (⊥ ⊎ IsBetween b (Some (least, greatest)) f) ↔ Within (frontier_of b f) g
 between-up_to b g least greatest f l m = (
   λ i. elim i [ inl a ↦ absurd a | inr k ↦ λ t e. sym (m.same t) ∙ k.1 t e ],
-  λ w. inr ((λ t e. absurd (none (frontier_of b least t) e (l.same t))), (λ t e. m.same t ∙ w t e)),
+  λ w. inr ((λ t e. absurd (both_ways (frontier_of b least t) (l.same t) e)), (λ t e. m.same t ∙ w t e)),
 )
-  where
-    none : (a : Bool) → a ≡ true → a ≡ false → ⊥
-    none true e k = cc
-    none false e k = cc
 
 within-both : (f g h : Frontier) → Within f (meet g h) ↔ (Within f g × Within f h)
 within-both f g h = (

@@ -1,8 +1,10 @@
 -- What plain nodes offer is what the machine offers.
 use Rattle.std.proofs.Common.{◌≡◌, ◌⊎◌, ◌↔◌, ℕ, zero, suc, ◌+◌, ◌<◌, ◌≤◌, Bool, true, false, not, cond, List, [], ◌∷◌, length, map, reverse, slice_index_or, Option, None, ◌==◌, refl, sym, ◌∙◌, ap, subst, arith}
+use Rattle.std.proofs.lemmas.Bool.{both_ways, true≢false}
 use Rattle.std.specs.List.{AllByRecursion, flat_map, filter}
 use Rattle.fw_time.specs.declared.stamp.Bounds.{Bounds}
 use Rattle.fw_time.specs.Stamp.{Stamp, in_domain}
+use Rattle.fw_time.proofs.EachLaws.{each-weaker}
 use Rattle.fw_frontier.specs.Frontier.{Frontier, Within, nothing, everything, cover}
 use Rattle.fw_frontier.specs.Front.{Front, frontier_of}
 use Rattle.fw_flow.specs.declared.choice.Counted.{Counted}
@@ -25,7 +27,6 @@ use Rattle.fw_model.specs.Machine.{Machine, events, is_failed, no_stamps, front_
 use Rattle.fw_model.specs.Plain.{AreAtNodes}
 use Rattle.fw_model.proofs.ChoiceLaws.{by_batches-input, bounds-input}
 use Rattle.fw_model.proofs.DomainLaws.{edge-bounds, has_epochs}
-use Rattle.fw_time.proofs.EachLaws.{each-weaker}
 use Rattle.fw_model.proofs.InputLaws.{injected-few}
 use Rattle.fw_model.proofs.LegalLaws.{legal_messages-in_domain}
 use Rattle.fw_monitor.specs.Offers.{can_stay, listed, records_of, range, range_of, delivered_to, notified_of, sent_by, IsOffered, IsListed, IsBetween, stamps_from, count_from, is_by_records, recorded_notified, record_at, delivered_at, sent_cover, discarded_at, covers_of, Ascend, IsRecordOf, IsRangeOf, IsListedBy, AreOnEdges, AreOffersOf, AreOffersIn}
@@ -167,11 +168,8 @@ of_flow sys state offers a =
           (notices-in_domain sys.flow p h a.at_nodes);
       sent = λ p l.
           subst (λ (ms : List Counted). AreOnEdges sys.flow ms) (sym (sent-is sys state offers p (a.each p l))) (sent-on_edges sys h p a.messages);
-      epochs = λ p k. absurd (differ (sym (ap is_notified_kind k) ∙ a.nobody p));
+      epochs = λ p k. absurd (true≢false (sym (ap is_notified_kind k) ∙ a.nobody p));
     }
-  where
-    differ : true ≡ false → ⊥
-    differ e = cc
 
 ascending : (sys : System) (state : Machine) (offers : List Offer) → Are sys state offers
     → (p : ℕ) → p < length sys.flow.nodes → Ascend (bounds_of sys.flow p) (records_of offers p)
@@ -187,11 +185,7 @@ flips a true e = ((λ i. absurd (cc)), (λ i. absurd (cc)))
 flips a false e = ((λ i. refl), (λ i. e))
 
 low-within : (b : Bounds) (low : Front) (g : Frontier) → low ≡ no_stamps b → Within (frontier_of b low) g
-low-within b low g e t i = absurd (none (frontier_of b low t) i (ap (λ (x : Front). frontier_of b x t) e ∙ (names-no_stamps b).same t))
-  where
-    none : (x : Bool) → x ≡ true → x ≡ false → ⊥
-    none true j k = cc
-    none false j k = cc
+low-within b low g e t i = absurd (both_ways (frontier_of b low t) (ap (λ (x : Front). frontier_of b x t) e ∙ (names-no_stamps b).same t) i)
 
 offered-along : (b : Bounds) (f : Front) (rs ss : List Recorded) (r s : Option (Front × Front)) → rs ≡ ss → r ≡ s
     → (IsListed f rs ⊎ IsBetween b r f) → (IsListed f ss ⊎ IsBetween b s f)

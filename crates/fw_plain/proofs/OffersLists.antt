@@ -1,11 +1,12 @@
 -- What was delivered and sent, message by message, is what the history has.
 use Rattle.std.proofs.Common.{◌≡◌, ℕ, zero, suc, ◌+◌, ◌<◌, ◌==◌, ◌&&◌, Bool, true, false, cond, List, [], ◌∷◌, ◌++◌, length, map, get_or, refl, sym, ◌∙◌, ap, subst, arith}
 use Rattle.std.specs.List.{AllByRecursion, flat_map, filter}
-use Rattle.std.proofs.lemmas.Bool.{cond_both, cond-false, eqb-true, eq-eqb}
+use Rattle.std.proofs.lemmas.Bool.{cond_both, cond-false, eqb-true, eq-eqb, false≢true}
 use Rattle.std.proofs.lemmas.Bool.Decides.{nat_tests}
 use Rattle.std.proofs.lemmas.List.{map-append, append-nil}
 use Rattle.std.proofs.lemmas.List.Elements.{filter-append}
 use Rattle.fw_time.specs.Stamp.{Stamp, in_domain}
+use Rattle.fw_time.proofs.EachLaws.{each-append}
 use Rattle.fw_frontier.specs.Frontier.{Frontier}
 use Rattle.fw_flow.specs.Counting.{how_many}
 use Rattle.fw_flow.specs.declared.choice.Counted.{Counted}
@@ -20,7 +21,6 @@ use Rattle.fw_flow.specs.Projection as projection
 use Rattle.fw_model.specs.Choice.{stamp_of_notice}
 use Rattle.fw_model.specs.History.{delivered, sent}
 use Rattle.fw_model.specs.Plain.{AreAtNodes}
-use Rattle.fw_time.proofs.EachLaws.{each-append}
 use Rattle.fw_model.proofs.FilterLaws.{filter-in, filter-out}
 use Rattle.fw_monitor.specs.Offers.{stamps_from, count_from, AreOnEdges}
 use Rattle.fw_plain.specs.Offered.{alone, delivery_to, deliveries_to, on_each, sent_from}
@@ -41,10 +41,7 @@ one-delivered : (a b : Bool) (e d : ℕ) (m : Message) (ms : List Counted) (ts :
 one-delivered true true e d m ms ts k q h =
     ap stamps_of (filter-in (λ (x : Counted). x.edge == d) (alone e m) ms q) ∙ ap (λ us. m.at ∷ us) h
 one-delivered true false e d m ms ts k q h = ap stamps_of (filter-out (λ (x : Counted). x.edge == d) (alone e m) ms q) ∙ h
-one-delivered false true e d m ms ts k q h = absurd (differ (k refl))
-  where
-    differ : false ≡ true → ⊥
-    differ i = cc
+one-delivered false true e d m ms ts k q h = absurd (false≢true (k refl))
 one-delivered false false e d m ms ts k q h = h
 
 -- what was delivered on an edge, among what was delivered to its receiver

@@ -1,7 +1,7 @@
 -- Whether there is something for an output to acknowledge.
 use Rattle.std.proofs.Common.{◌≡◌, ℕ, zero, suc, ◌+◌, ◌<◌, ◌≤◌, Bool, true, false, ◌&&◌, ◌||◌, ◌==◌, ◌⊎◌, nat_lt, cond, List, [], ◌∷◌, ◌++◌, map, length, reverse, refl, sym, ◌∙◌, subst, inl, inr, arith}
 use Rattle.std.specs.List.{range_with_len}
-use Rattle.std.proofs.lemmas.Bool.{cases_Bool, or_cases, or_left, or_right, or_from}
+use Rattle.std.proofs.lemmas.Bool.{cases_Bool, or_cases, or_left, or_right, or_from, lt-ltb, ltb-true, eqb-true, le-ltb}
 use Rattle.std.proofs.lemmas.Bool.Decides.{nat_tests}
 use Rattle.std.proofs.lemmas.List.Sorted.{IsPermutation-reverse, list_any-IsPermutation}
 use Rattle.fw_time.specs.Stamp.{Stamp, leq, same}
@@ -21,30 +21,18 @@ use Rattle.fw_plain.specs.Output.{has_epoch, is_delivery, has_delivery}
 
 -- ---- batches
 
-below : (x n : ℕ) → x < n → nat_lt x n ≡ true
-below x n l = grind (arith, nat_tests)
-
-not_below : (x n : ℕ) → n ≤ x → nat_lt x n ≡ false
-not_below x n l = grind (arith, nat_tests)
-
-above : (x n : ℕ) → nat_lt x n ≡ true → x < n
-above x n e = grind (arith, nat_tests)
-
 epoch_in : (batches : List (ℕ × List (List Rec))) (x a n p : ℕ) → a ≤ p → p < a + n → x < length (batches_at batches p)
     → has_epoch (map (batches_at batches) (range_with_len a n)) x ≡ true
 epoch_in batches x a zero p l m b = absurd (omega arith)
 epoch_in batches x a (suc n) p l m b = elim (cases_Bool (a == p)) [
   | inl e ↦
       or_left (nat_lt x (length (batches_at batches a))) (has_epoch (map (batches_at batches) (range_with_len (a + 1) n)) x)
-      (below x _ (subst (λ k. x < length (batches_at batches k)) (sym (same_place a p e)) b))
+      (lt-ltb x _ (subst (λ k. x < length (batches_at batches k)) (sym (eqb-true a p e)) b))
   | inr e ↦
       or_right (nat_lt x (length (batches_at batches a))) (has_epoch (map (batches_at batches) (range_with_len (a + 1) n)) x)
       (epoch_in batches x (a + 1) n p (later a p l e) (omega arith) b)
 ]
   where
-    same_place : (a p : ℕ) → (a == p) ≡ true → a ≡ p
-    same_place a p e = grind (arith, nat_tests)
-
     later : (a p : ℕ) → a ≤ p → (a == p) ≡ false → a + 1 ≤ p
     later a p l e = grind (arith, nat_tests)
 
@@ -58,7 +46,7 @@ epoch_out : (batches : List (ℕ × List (List Rec))) (x a n : ℕ) → ((p : �
 epoch_out batches x a zero h = refl
 epoch_out batches x a (suc n) h =
     or_from (nat_lt x (length (batches_at batches a))) (has_epoch (map (batches_at batches) (range_with_len (a + 1) n)) x)
-    (not_below x _ (h a (omega arith))) (epoch_out batches x (a + 1) n (λ p l. h p (omega arith)))
+    (le-ltb x _ (h a (omega arith))) (epoch_out batches x (a + 1) n (λ p l. h p (omega arith)))
 
 pub epoch_nowhere : (flow : Dataflow) (batches : List (ℕ × List (List Rec))) (x : ℕ) → ((p : ℕ) → p < length flow.nodes → length (batches_at batches p) ≤ x)
     → has_epoch (batches_of_nodes flow batches) x ≡ false
@@ -70,13 +58,13 @@ epoch_nowhere flow batches x h = epoch_out batches x 0 (length flow.nodes) (λ p
 epoch-has : (batches : List (List (List Rec))) (x : ℕ) → has_epoch batches x ≡ true → HasEpoch batches x
 epoch-has [] x e = absurd (cc)
 epoch-has (b ∷ bs) x e = elim (or_cases (nat_lt x (length b)) (has_epoch bs x) e) [
-  | inl l ↦ inl (above x (length b) l)
+  | inl l ↦ inl (ltb-true x (length b) l)
   | inr r ↦ inr (epoch-has bs x r)
 ]
 
 has-epoch : (batches : List (List (List Rec))) (x : ℕ) → HasEpoch batches x → has_epoch batches x ≡ true
 has-epoch [] x h = absurd h
-has-epoch (b ∷ bs) x (inl l) = or_left (nat_lt x (length b)) (has_epoch bs x) (below x (length b) l)
+has-epoch (b ∷ bs) x (inl l) = or_left (nat_lt x (length b)) (has_epoch bs x) (lt-ltb x (length b) l)
 has-epoch (b ∷ bs) x (inr r) = or_right (nat_lt x (length b)) (has_epoch bs x) (has-epoch bs x r)
 
 -- the recs of the deliveries to the output

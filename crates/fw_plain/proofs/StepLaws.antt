@@ -1,7 +1,7 @@
 -- What progress, acknowledgements, failures and recoveries do to the state that an engine stands for.
 use Rattle.std.proofs.Common.{◌≡◌, ℕ, zero, suc, ◌+◌, ◌<◌, ◌^◌, ◌==◌, nat_le, cond, map, Bool, true, false, ◌&&◌, ◌||◌, not, List, [], ◌∷◌, length, slice_set, slice_index_or, refl, sym, ◌∙◌, ap, subst, filter, inl, inr, arith}
 use Rattle.std.specs.List.{range_with_len}
-use Rattle.std.proofs.lemmas.Bool.{and_parts, and_from, or_cases, or_left, or_right}
+use Rattle.std.proofs.lemmas.Bool.{and_parts, and_from, or_cases, or_left, or_right, and_right, eqb-true}
 use Rattle.std.proofs.lemmas.Bool.Decides.{nat_tests}
 use Rattle.fw_time.specs.declared.stamp.Bounds.{Bounds}
 use Rattle.fw_time.specs.Stamp.{Stamp, leq, same, in_domain}
@@ -90,7 +90,7 @@ progresses sys past settled failed bounds complete both i k canonical j more =
           l,
           place.2,
           and_from (in_domain b new.0) (inside (front_of complete p) new.0) new.1.in_the_domain new.1.gained,
-          still (in_domain b new.0) (inside (front_of settled p) new.0) new.1.lacked,
+          and_right (in_domain b new.0) (inside (front_of settled p) new.0) new.1.lacked,
         );
         one_each = j.one_each ∙ each.one_flag_each;
         each = λ q m e. subst (λ flag. IsGrown flag (front_of settled q) (front_of complete q) (front_of both q)) e
@@ -101,10 +101,6 @@ progresses sys past settled failed bounds complete both i k canonical j more =
       ap (λ ws. record (state_of sys.flow past both failed bounds) { writes = ws }) (sym (none_eager sys old both (places sys.flow) i.keeps_nothing)),
       refl,
     )
-  where
-    still : (a c : Bool) → c ≡ false → (a && c) ≡ false
-    still true c e = e
-    still false c e = refl
 
 -- ---- acknowledgements
 
@@ -162,13 +158,10 @@ live-at failed [] p l n o = absurd (cc)
 live-at failed (q ∷ ps) p l n o = elim (or_cases (p == q) (is_one_of p ps) o) [
   | inl e ↦
       or_left (not (slice_index_or failed q true)) (any_live failed ps)
-      (subst (λ r. not (slice_index_or failed r true) ≡ true) (same_place p q e) (ap not (within failed p l ∙ n)))
+      (subst (λ r. not (slice_index_or failed r true) ≡ true) (eqb-true p q e) (ap not (within failed p l ∙ n)))
   | inr r ↦ or_right (not (slice_index_or failed q true)) (any_live failed ps) (live-at failed ps p l n r)
 ]
   where
-    same_place : (a b : ℕ) → (a == b) ≡ true → a ≡ b
-    same_place a b e = grind (arith, nat_tests)
-
     within : (xs : List Bool) (k : ℕ) → k < length xs → slice_index_or xs k true ≡ slice_index_or xs k false
     within [] k l = absurd (omega arith)
     within (x ∷ xs) zero l = refl

@@ -105,8 +105,11 @@ value_exists sources (line ∷ lines) = by (source_of sources line.words) refl (
         → ((batches : List (ℕ × List (List Rec))) × ((node : ℕ) → batches_at batches node ≡ batches_of sources lines node))
         → (batches : List (ℕ × List (List Rec))) × ((node : ℕ) → batches_at batches node ≡ batches_of sources (line ∷ lines) node)
     by None e rest = (rest.0, λ node. rest.1 node ∙ ap (λ s. with_line s node) (sym e))
-    by (Some n) e rest = ((n, batch_of line.words ∷ batches_at rest.0 n) ∷ rest.0, λ node.
-        added_first n node (batch_of line.words) rest.0 ∙ one_more (n == node) node (batches_at rest.0 node) (rest.1 node) ∙ ap (λ s. with_line s node) (sym e))
+    by (Some n) e rest = (
+      (n, batch_of line.words ∷ batches_at rest.0 n) ∷ rest.0,
+      λ node.
+          added_first n node (batch_of line.words) rest.0 ∙ one_more (n == node) node (batches_at rest.0 node) (rest.1 node) ∙ ap (λ s. with_line s node) (sym e),
+    )
 
 -- each text is accepted or refused
 pub some_answer : (text : List ℕ) (sources : List (List ℕ × ℕ)) → ((batches : List (ℕ × List (List Rec))) × IsAccepted text sources batches) ⊎ ((refusal : Refusal) × IsRefused text sources refusal)

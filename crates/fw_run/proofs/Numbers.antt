@@ -1,12 +1,10 @@
--- Each status has one of the numbers of a status.
+-- A refusal has one of the numbers of a status.
 use Rattle.std.proofs.Common.{refl, lit<, Contains}
 use Rattle.fw_lines.specs.declared.refusal.Code.{Code}
 use Rattle.fw_lines.specs.declared.refusal.Code.TheVariants.{F1, F2, F3, F4, F5, F6, F7, F8, F9, F10, F11, I1, I2, I3, I4, I5, S1, S2, S3, S4}
-use Rattle.fw_run.specs.declared.status.Status.{Status}
-use Rattle.fw_run.specs.declared.status.Status.TheVariants.{Done, BadWords, Refused, ReadFault, WriteFault, NoMemory}
-use Rattle.fw_run.specs.Status.{refusal_number, status_number, status_numbers}
+use Rattle.fw_run.specs.Status.{refusal_number, status_numbers}
 
-some_refusal_number : (code : Code) → Contains status_numbers (refusal_number code)
+pub some_refusal_number : (code : Code) → Contains status_numbers (refusal_number code)
 some_refusal_number F1 = (2, lit< tt, refl)
 some_refusal_number F2 = (2, lit< tt, refl)
 some_refusal_number F3 = (2, lit< tt, refl)
@@ -27,11 +25,3 @@ some_refusal_number S1 = (4, lit< tt, refl)
 some_refusal_number S2 = (4, lit< tt, refl)
 some_refusal_number S3 = (4, lit< tt, refl)
 some_refusal_number S4 = (4, lit< tt, refl)
-
-pub some_status_number : (status : Status) → Contains status_numbers (status_number status)
-some_status_number Done = (0, lit< tt, refl)
-some_status_number BadWords = (1, lit< tt, refl)
-some_status_number (Refused refusal) = some_refusal_number refusal.code
-some_status_number ReadFault = (5, lit< tt, refl)
-some_status_number WriteFault = (6, lit< tt, refl)
-some_status_number NoMemory = (7, lit< tt, refl)

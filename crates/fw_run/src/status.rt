@@ -24,7 +24,6 @@ pub enum Status {
 
 impl Status {
     /// The number that a program ends with: 0, 2 to 7 or 10.
-    #[tactic(auto, using(crate::proofs::Numbers::some_status_number))]
     pub fn number(&self) -> u8
         ensures value { result ≡ status_number self.now }
         ensures among { Contains status_numbers result }

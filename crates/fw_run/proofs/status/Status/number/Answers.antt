@@ -1,0 +1,13 @@
+use Rattle.std.proofs.Common.{sym, subst, refl, lit<, Contains}
+use Rattle.fw_run.specs.Status.{status_numbers}
+use Rattle.fw_run.proofs.Numbers.{some_refusal_number}
+use Rattle.fw_run.proofs.status.Status.number.Goals as goal
+
+pub returns-in-Refused-clause-among : goal.returns-in-Refused-clause-among
+returns-in-Refused-clause-among c = subst (Contains status_numbers) (sym c.refusal_number.ensures) (some_refusal_number c.in-Refused.refusal.code)
+
+pub returns-in-ReadFault-clause-among : goal.returns-in-ReadFault-clause-among
+returns-in-ReadFault-clause-among c = (5, lit< tt, refl)
+
+pub returns-in-WriteFault-clause-among : goal.returns-in-WriteFault-clause-among
+returns-in-WriteFault-clause-among c = (6, lit< tt, refl)

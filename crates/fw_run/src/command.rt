@@ -31,10 +31,11 @@ pub fn falkirk<F: Folder, K: Store, O: Sink, N: Sink>(
     // At 2 to 6 nothing was written.
     ensures nothing_out { 2 ≤ status_number result → status_number result ≤ 6 → out.new ≡ out.old }
 
-    // At 0 the texts are accepted and all that their run prints was written. At 7, and at 10 unless nothing was, first
-    // bytes of it were.
+    // At 0 the texts are accepted, all that their run prints was written, and no write was refused. At 7, and at 10 unless
+    // nothing was, first bytes of it were written.
     ensures done { let names = text_names_of (words_in words.now) in
         result ≡ Status.Done → Prints (F.texts folder.old) names (O.taken out.old) (O.taken out.new) }
+    ensures none_refused { result ≡ Status.Done → O.refusal_count out.new ≡ O.refusal_count out.old }
     ensures cut_off { let names = text_names_of (words_in words.now) in
         result ≡ Status.WriteFault → PrintsPart (F.texts folder.old) names (O.taken out.old) (O.taken out.new) }
     ensures no_memory { let names = text_names_of (words_in words.now) in result ≡ Status.NoMemory

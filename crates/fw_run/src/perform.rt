@@ -20,6 +20,7 @@ pub(crate) fn perform<O: Sink>(alloc: Global, job: Job, out: &mut O) -> Result<(
     requires { IsReady (system_of job.flow job.batches) job.steps }
     ensures printed { OnOk result (IsPrinted (system_of job.flow job.batches) job.steps (O.taken out.old) (O.taken out.new)) }
     ensures part { OnErr result (IsPartPrinted (system_of job.flow job.batches) job.steps (O.taken out.old) (O.taken out.new)) }
+    ensures none_refused { OnOk result (O.refusal_count out.new ≡ O.refusal_count out.old) }
     ensures failed { IsErrOf result OutFault.Failed → Rose (O.fault_count out.old) (O.fault_count out.new) }
     ensures never_falls { O.fault_count out.old ≤ O.fault_count out.new }
 {
@@ -50,6 +51,7 @@ fn perform_step<O: Sink>(
     ensures system { engine.new.sys ≡ engine.old.sys }
     ensures printed { IfOk result (λ is_idle. IsStepPrinted engine.old engine.new step.now is_idle (O.taken out.old) (O.taken out.new)) }
     ensures part { OnErr result (IsStepPartPrinted engine.old step.now (O.taken out.old) (O.taken out.new)) }
+    ensures none_refused { OnOk result (O.refusal_count out.new ≡ O.refusal_count out.old) }
     ensures failed { IsErrOf result OutFault.Failed → Rose (O.fault_count out.old) (O.fault_count out.new) }
     ensures never_falls { O.fault_count out.old ≤ O.fault_count out.new }
 {
@@ -71,6 +73,7 @@ fn is_idle(stepped: &Stepped) -> bool
 fn write_line<O: Sink>(line: Option<Vec<u8>>, out: &mut O) -> Result<(), OutFault>
     ensures whole { OnOk result (Takes (O.taken out.old) (shown_bytes line) (O.taken out.new)) }
     ensures refused { OnErr result (TakesPrefix (O.taken out.old) (shown_bytes line) (O.taken out.new)) }
+    ensures none_refused { OnOk result (O.refusal_count out.new ≡ O.refusal_count out.old) }
     ensures failed { IsErrOf result OutFault.Failed → Rose (O.fault_count out.old) (O.fault_count out.new) }
     ensures never_falls { O.fault_count out.old ≤ O.fault_count out.new }
 {

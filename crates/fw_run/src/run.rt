@@ -27,6 +27,7 @@ pub(crate) fn run<F: Folder, O: Sink>(
     ensures nothing_out { status_number result ≤ 6 → (result ≡ Status.Done) ⊎ (out.new ≡ out.old) }
     ensures done { result ≡ Status.Done
         → Prints (F.texts folder.old) (text_names_of (words_in words.now)) (O.taken out.old) (O.taken out.new) }
+    ensures none_refused { result ≡ Status.Done → O.refusal_count out.new ≡ O.refusal_count out.old }
     ensures cut_off { result ≡ Status.WriteFault
         → PrintsPart (F.texts folder.old) (text_names_of (words_in words.now)) (O.taken out.old) (O.taken out.new) }
     ensures no_memory { result ≡ Status.NoMemory → (out.new ≡ out.old)

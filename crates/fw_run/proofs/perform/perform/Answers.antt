@@ -45,6 +45,7 @@ loop-step-preserved g c =
       so_far = so_far_next sys c.as_slice-step-items.result.now c.loop-step.step-index c.loop-step.engine c.perform_step.new.engine c.step-item.result was now was_idle (taken c.args.out.now) (taken c.loop-step.out) (taken c.perform_step.new.out) c.loop-step.invariant.so_far c.loop-step-test.true c.step-item.is c.in_ok-perform_step.ensures.system c.in_ok-perform_step.ensures.printed counted;
       few = counted-few was_idle was now c.loop-step.step-index counted c.loop-step.invariant.few;
       faults = omega (arith, c.loop-step.invariant.faults, c.perform_step.ensures.never_falls);
+      refusals = c.in_ok-perform_step.ensures.none_refused ∙ c.loop-step.invariant.refusals;
     }
 
 pub returns-in_err-line-clause-part : goal.returns-in_err-line-clause-part
@@ -73,6 +74,9 @@ returns-clause-part g c =
     let steps = subst (λ t. IsSoFar sys t c.loop-step.engine c.loop-step.idle (taken c.args.out.now) (taken c.loop-step.out)) c.as_slice-step-items.ensures all in
     let line : c.as_bytes.result.now ≡ done_line (length c.args.job.steps) c.loop-step.idle = c.as_bytes.ensures.value ∙ c.in_ok-line.ensures ∙ ap (λ n. done_line n c.loop-step.idle) c.len.ensures in
     on_err_from c.write.result _ _ c.write.ensures.refused (λ w. stops_at_end sys c.args.job.steps c.loop-step.engine c.loop-step.idle (taken c.args.out.now) (taken c.loop-step.out) (taken c.write.new.self) steps (subst (λ t. TakesPrefix (taken c.loop-step.out) t (taken c.write.new.self)) line w))
+
+pub returns-clause-none_refused : goal.returns-clause-none_refused
+returns-clause-none_refused g c = on_ok_from c.write.result _ _ c.write.ensures.refusals_stay (λ w. w ∙ c.loop-step.invariant.refusals)
 
 pub returns-clause-failed : goal.returns-clause-failed
 returns-clause-failed g c e =

@@ -22,6 +22,7 @@ pub mod TwoSourcesInclusions
 pub mod WellFormed
 pub mod LoggedEvents
 pub mod OneCollection
+pub mod LogsAfterCollection
 pub mod OneUndone
 pub mod TotalDone
 pub mod TotalRun

@@ -1,0 +1,12 @@
+//! A select that logs what it does, a collection, and a failure after it.
+ghost use Rattle.fw_examples.specs.LogsAfterCollection.{CollectsALoggedEvent, KeepsALogWithACheckpoint};
+
+/// An event is collected once what it sent is no longer needed, and not before.
+pub fn collects_a_logged_event()
+    ensures { CollectsALoggedEvent }
+{}
+
+/// A log has what may be sent again, and nothing that lay below the watermark when it was written.
+pub fn keeps_a_log_with_a_checkpoint()
+    ensures { KeepsALogWithACheckpoint }
+{}

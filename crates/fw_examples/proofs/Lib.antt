@@ -26,6 +26,7 @@ pub mod LogsAfterCollection
 pub mod OneUndone
 pub mod TotalDone
 pub mod TotalRun
+pub mod TotalLogged
 pub mod TotalChoices
 pub mod TotalWitnesses
 pub mod ChoiceWitnesses

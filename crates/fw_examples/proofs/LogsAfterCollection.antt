@@ -1,9 +1,9 @@
 -- The runs with a collection of what a select logged, and a failure after it.
-use Rattle.std.proofs.Common.{◌≡◌, ℕ, zero, suc, ◌&&◌, Bool, true, false, not, List, [], ◌∷◌, refl, sym, ap, ◌∙◌, subst, None, lit<, lit≤, inl, inr, ⊎_elim, arith, leb}
+use Rattle.std.proofs.Common.{◌≡◌, ℕ, ◌&&◌, true, not, [], ◌∷◌, refl, sym, ap, ◌∙◌, subst, None, lit<, lit≤, inl, inr, ⊎_elim, arith, leb}
 use Rattle.std.proofs.lemmas.Bool.{false≢true, true≢false, and_parts, and_from, le-leb}
 use Rattle.fw_time.specs.Stamp.{same}
 use Rattle.fw_frontier.specs.Frontier.{Within}
-use Rattle.fw_frontier.specs.Front.{Front, frontier_of}
+use Rattle.fw_frontier.specs.Front.{frontier_of}
 use Rattle.fw_flow.specs.declared.choice.Choice.{Choice}
 use Rattle.fw_flow.specs.declared.choice.Cut.{Cut}
 use Rattle.fw_flow.specs.declared.choice.Cut.TheVariants.{Present, At}
@@ -14,9 +14,9 @@ use Rattle.fw_flow.specs.declared.step.Step.TheVariants.{Inject, Deliver, Progre
 use Rattle.fw_flow.specs.Dataflow.{kind_of, policy_of, sender, receiver, out_edges, bounds_of, batches_of}
 use Rattle.fw_flow.specs.NodeFunction.{sends}
 use Rattle.fw_flow.specs.Projection.{phi, psi}
-use Rattle.fw_model.specs.Choice.{until, kept, cut_of, IsCandidate, IsConsistent, IsCutWithin, IsChoiceWithin, IsLargest, IsWatermark, offers_of_writes}
+use Rattle.fw_model.specs.Choice.{until, cut_of, IsConsistent, IsCutWithin, IsChoiceWithin, offers_of_writes}
 use Rattle.fw_model.specs.History.{pending, some_at, IsComplete}
-use Rattle.fw_model.specs.Machine.{Machine, Write, first_state, events, front_of, is_failed, checkpoint, logged_event, in_flight, acknowledged, collected}
+use Rattle.fw_model.specs.Machine.{Machine, Write, first_state, front_of, checkpoint, logged_event, in_flight, acknowledged, collected}
 use Rattle.fw_model.specs.Steps.{Steps, with_event, offers, did, quiet, lows, acked}
 use Rattle.fw_examples.specs.OneCollection.{selected_batches, first_epoch_everywhere}
 use Rattle.fw_examples.specs.OneSelect.{one_select_of, one_select_flow_of, rec_of}
@@ -24,7 +24,7 @@ use Rattle.fw_examples.specs.RunningTotal.{alike}
 use Rattle.fw_examples.specs.LogsAfterCollection.{first_message, second_message, one_came_through, all_but_the_last, both_come_back, events_logged, event_collected, low_but_for_the_last, CollectsALoggedEvent, checkpoints_logged, log_kept, KeepsALogWithACheckpoint}
 use Rattle.fw_examples.proofs.FrontierFacts.{is_frontier_of, within_all, within_until, one_not_same}
 use Rattle.fw_examples.proofs.StepFacts.{injects, delivers, acknowledges_first_write, acknowledges_second_write}
-use Rattle.fw_examples.proofs.ChoiceFacts.{nothing_covered, cover_within, in_all, covered_in_all, set_within, canonical, by_three, by_two}
+use Rattle.fw_examples.proofs.ChoiceFacts.{nothing_covered, cover_within, covered_in_all, set_within, canonical, by_three, by_two}
 use Rattle.fw_examples.proofs.OneSelectDone.{named, admissible, complete, below_all, progresses, none_failed}
 use Rattle.fw_examples.proofs.OneCollection.{first_complete}
 

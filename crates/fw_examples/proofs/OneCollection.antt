@@ -18,7 +18,7 @@ use Rattle.fw_flow.specs.Projection.{phi, psi}
 use Rattle.fw_flow.specs.declared.choice.Choice.{Choice}
 use Rattle.fw_model.specs.Choice.{kept, cut_of, IsCandidate, IsConsistent, IsCutWithin, IsChoiceWithin, IsLargest, offers_of_writes}
 use Rattle.fw_model.specs.History.{pending, some_at, IsComplete}
-use Rattle.fw_model.specs.Machine.{Machine, first_state, events, front_of, is_failed, checkpoint, acknowledged, in_flight}
+use Rattle.fw_model.specs.Machine.{Machine, first_state, front_of, is_failed, checkpoint, acknowledged, in_flight}
 use Rattle.fw_model.specs.Steps.{Steps, LeadsTo, Effect, CutsTo, with_event, front_of_cut, did, quiet, cuts, lows, acked}
 use Rattle.fw_examples.specs.OneSelect.{one_select_of, one_select_flow_of, rec_of}
 use Rattle.fw_examples.specs.OneCollection.{selected_batches, written_when_asked, first, first_epoch_everywhere, CollectsTheFirstEpoch}

@@ -1,6 +1,5 @@
 -- The laws of restoring, applied to the running total.
-use Rattle.std.proofs.Common.{◌≡◌, ℕ, zero, suc, ◌≤◌, ◌^◌, false, [], ◌∷◌, length, None, refl, drop, lit<, lit≤, arith}
-use Rattle.std.proofs.lemmas.Bool.{true≢false}
+use Rattle.std.proofs.Common.{[], ◌∷◌, None, refl, drop, lit<, lit≤, arith}
 use Rattle.std.specs.List.{AllByRecursion}
 use Rattle.fw_flow.specs.declared.step.Step.TheVariants.{Inject, Deliver, Progress, Persist, Fail, Recover}
 use Rattle.fw_flow.specs.Dataflow.{kind_of, policy_of, sender, receiver, bounds_of, batches_of, max_of}
@@ -17,7 +16,8 @@ use Rattle.fw_examples.specs.LoggedEvents.{each_written, two_recs, all_restored}
 use Rattle.fw_examples.specs.Flows.{two_batches}
 use Rattle.fw_examples.specs.Recovery.{counting_failed, restored}
 use Rattle.fw_examples.specs.OneCollection.{selected_batches}
-use Rattle.fw_examples.specs.LogsAfterCollection.{both_come_back, events_logged, event_collected, steps_with_events, outcomes_with_events, checkpoints_logged, log_kept, steps_with_checkpoints, outcomes_with_checkpoints}
+use Rattle.fw_examples.specs.LogsAfterCollection.{both_come_back, events_logged, event_collected, steps_with_events, outcomes_with_events, checkpoints_logged, log_kept, steps_with_checkpoints, outcomes_with_checkpoints, single_rec, total_logged, none_collected, steps_with_total, outcomes_with_total}
+use Rattle.fw_examples.proofs.TotalLogged.{keeps_events_of_a_total}
 use Rattle.fw_examples.proofs.LogsAfterCollection.{collects_a_logged_event, keeps_a_log_with_a_checkpoint}
 use Rattle.fw_examples.proofs.Largest.{restored_is_largest}
 use Rattle.fw_examples.proofs.Running.{steps_to_failure, outcomes_to_failure, runs_to_failure}
@@ -26,7 +26,7 @@ use Rattle.fw_examples.proofs.LoggedEvents.{failed_with_both, fails_after_both, 
 use Rattle.fw_examples.proofs.WellFormed.{select_of_batches_is_well_formed}
 use Rattle.fw_examples.proofs.TotalChoices.{two_epochs_are_low}
 use Rattle.fw_examples.proofs.TotalRun.{ten_acknowledged, runs_to_two}
-use Rattle.fw_examples.proofs.TotalWitnesses.{totals_are_well_formed, failure_is_reached, recovery_is_reached, something_is_chosen}
+use Rattle.fw_examples.proofs.TotalWitnesses.{totals_of_batches_are_well_formed, totals_are_well_formed, failure_is_reached, recovery_is_reached, something_is_chosen}
 
 pub restoring_applies : RestoringApplies
 unfolding bounds_of kind_of policy_of sender receiver batches_of
@@ -83,6 +83,11 @@ checkpoints_are_well_formed : IsWellFormedSystem checkpoints_logged
 unfolding kind_of
 checkpoints_are_well_formed = select_of_batches_is_well_formed policy.Eager tt selected_batches (lit≤ tt) selected_are_batches
 
+total_is_well_formed : IsWellFormedSystem total_logged
+total_is_well_formed =
+    totals_of_batches_are_well_formed policy.Full tt single_rec (lit≤ tt)
+    (record { recs = (record { key = lit< tt; value = lit< tt }, tt); ascending = (tt, tt) }, tt)
+
 pub collection_restored : CollectionRestored
 unfolding policy_of
 collection_restored =
@@ -90,6 +95,7 @@ collection_restored =
     record {
       logged = λ law. law events_logged events_are_well_formed steps_with_events outcomes_with_events event_collected reached (is_failed event_collected) both_come_back collects_a_logged_event.largest 1 [] refl refl;
       never_collected = λ law. law events_logged events_are_well_formed steps_with_events outcomes_with_events event_collected reached;
+      never_of_total = λ law. law total_logged total_is_well_formed steps_with_total outcomes_with_total none_collected keeps_events_of_a_total.reached;
       collected_below = λ law. law events_logged events_are_well_formed steps_with_events outcomes_with_events event_collected reached;
     }
 

@@ -1,25 +1,25 @@
 -- A select that logs what it does, a collection, and a failure of the select and of the output after it: which of the logged
--- events are collected, and what the logs hold.
-use Rattle.std.specs.Prelude.{◌≡◌, ℕ, true, false, List, [], ◌∷◌, None}
+-- events are collected, and what the logs hold. And a running total of whose logged events a collection takes none.
+use Rattle.std.specs.Prelude.{◌≡◌, ℕ, true, false, List, [], ◌∷◌, Some, None}
 use Rattle.fw_bag.specs.declared.rec.Rec.{Rec}
 use Rattle.fw_frontier.specs.Front.{Front, frontier_of}
 use Rattle.fw_flow.specs.declared.choice.Choice.{Choice}
 use Rattle.fw_flow.specs.declared.choice.Cut.TheVariants.{Present, At}
 use Rattle.fw_flow.specs.declared.event.Event.{Event}
-use Rattle.fw_flow.specs.declared.event.Event.TheVariants.{Inject as Injected, Deliver as Delivered}
+use Rattle.fw_flow.specs.declared.event.Event.TheVariants.{Inject as Injected, Deliver as Delivered, Notify as Notified}
 use Rattle.fw_flow.specs.declared.event.Message.{Message}
 use Rattle.fw_flow.specs.declared.kind.Policy.TheVariants as policy
 use Rattle.fw_flow.specs.declared.step.Step.{Step}
-use Rattle.fw_flow.specs.declared.step.Step.TheVariants.{Inject, Deliver, Progress, Persist, Fail, Collect, Ack}
-use Rattle.fw_flow.specs.Dataflow.{System, bounds_of}
+use Rattle.fw_flow.specs.declared.step.Step.TheVariants.{Inject, Deliver, Notify, Progress, Persist, Fail, Collect, Ack}
+use Rattle.fw_flow.specs.Dataflow.{System, out_edges, bounds_of}
 use Rattle.fw_model.specs.Choice.{until, kept_of, IsLargest}
 use Rattle.fw_model.specs.LawsOfRestoring.{logged_messages, messages_to_resend}
 use Rattle.fw_model.specs.Machine.{Machine, Write, checkpoint, logged_event, acknowledged, collected, first_state, front_of}
-use Rattle.fw_model.specs.Steps.{Outcome, Run, did, quiet, acked, lows, offers, is_given_up, lies_below}
+use Rattle.fw_model.specs.Steps.{Outcome, Run, did, quiet, acked, lows, offers, sends_inside, is_given_up, lies_below}
 use Rattle.fw_examples.specs.OneCollection.{selected_batches, first_epoch_everywhere}
 use Rattle.fw_examples.specs.OneSelect.{one_select_of, rec_of, src, big, out, src_to_big, big_to_out}
 use Rattle.fw_examples.specs.Recovery.{with_serials}
-use Rattle.fw_examples.specs.RunningTotal.{alike}
+use Rattle.fw_examples.specs.RunningTotal.{alike, totals_of, run, src_to_run, run_to_out}
 
 -- a message that comes from an event at its own epoch
 abbrev pub in_epoch : ℕ → Rec → Message
@@ -144,3 +144,54 @@ pub record KeepsALogWithACheckpoint : Type 0 where
   pub log_before : log_at (alike 0) ≡ second_message ∷ first_message ∷ []
   pub log : log_at (alike 1) ≡ second_message ∷ []
   pub sent_again : messages_to_resend checkpoints_logged log_kept both_come_back big_to_out ≡ second_message ∷ []
+
+-- ---- a running total that logs each event
+
+-- a batch of one rec
+abbrev pub single_rec : List (List Rec)
+single_rec = (rec_of 1 20 ∷ []) ∷ []
+
+-- its dataflow, with this batch
+abbrev pub total_logged : System
+total_logged = totals_of policy.Full single_rec
+
+-- epoch 0 came through, the latest event first
+abbrev pub total_came_through : List Event
+total_came_through =
+    Delivered run_to_out first_message ∷ Notified run (0 ∷ []) ∷ Delivered src_to_run first_message ∷ Injected src 0 ∷ []
+
+-- both events of the running total were logged, and after the collection both are kept
+abbrev pub none_collected : Machine
+none_collected = record {
+  history = with_serials total_came_through;
+  next = 4;
+  settled = [] ∷ [] ∷ [] ∷ [];
+  writes =
+      record { node = run; written = logged_event 1; progress = acknowledged }
+      ∷ record { node = run; written = logged_event 2; progress = acknowledged }
+      ∷ [];
+  failed = false ∷ false ∷ false ∷ [];
+  bounds = 0 ∷ 0 ∷ 1 ∷ [];
+  low = all_but_the_last;
+}
+
+-- the steps to that state
+abbrev pub steps_with_total : List Step
+steps_with_total =
+    Inject src ∷ Deliver src_to_run None ∷ Notify run (Some (0 ∷ [])) ∷ Deliver run_to_out None ∷ Progress ∷ Persist ∷ Persist ∷ Ack out
+    ∷ Collect ∷ []
+
+-- what they show
+abbrev pub outcomes_with_total : List Outcome
+outcomes_with_total =
+    did quiet ∷ did quiet ∷ did quiet ∷ did quiet ∷ did quiet ∷ did quiet ∷ did quiet
+    ∷ did (acked out (0 ∷ []) (rec_of 1 20 ∷ [])) ∷ did (lows low_but_for_the_last) ∷ []
+
+-- The collection takes no logged event of a running total, though the stamp of both lies below its watermark, and what was
+-- sent there below the output's: later epochs are summed from them.
+pub record KeepsEventsOfATotal : Type 0 where
+  pub reached : Run total_logged (first_state total_logged) steps_with_total outcomes_with_total none_collected
+  pub inside : frontier_of (bounds_of total_logged.flow run) (front_of none_collected.low run) (0 ∷ []) ≡ true
+  pub sent_inside : sends_inside total_logged none_collected.low run (0 ∷ []) (out_edges total_logged.flow run) ≡ true
+  pub first_kept : lies_below total_logged none_collected.low none_collected.history run (logged_event 1) ≡ false
+  pub second_kept : lies_below total_logged none_collected.low none_collected.history run (logged_event 2) ≡ false

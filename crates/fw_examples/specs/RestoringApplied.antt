@@ -13,7 +13,7 @@ use Rattle.fw_examples.specs.UnderWay.{message, round}
 use Rattle.fw_examples.specs.Recovery.{counting_failed, restored}
 use Rattle.fw_examples.specs.OneSelect.{big, big_to_out}
 use Rattle.fw_examples.specs.LoggedEvents.{each_written}
-use Rattle.fw_examples.specs.LogsAfterCollection.{both_come_back, events_logged, event_collected, checkpoints_logged, log_kept}
+use Rattle.fw_examples.specs.LogsAfterCollection.{both_come_back, events_logged, event_collected, checkpoints_logged, log_kept, total_logged, none_collected}
 use Rattle.fw_examples.specs.RunningTotal.{totals, total_flow, src, run, output_failed, come_back, two_epochs_kept}
 
 -- the laws of restoring, of the state of the failure, in which a checkpoint is collected, one acknowledged and one in flight,
@@ -53,13 +53,16 @@ pub record LoggingRestored : Type 0 where
   pub never_collected : restoring.EventsThatMustBeKeptAreNeverCollected
       → AllByRecursion (restoring.MayKeepNothingIfCollected each_written) failed.writes
 
--- the laws of restoring, of that select after a collection, when it fails with one of its two events collected
+-- the laws of restoring, of that select after a collection, when it fails with one of its two events collected, and of a
+-- running total of whose events none is collected
 pub record CollectionRestored : Type 0 where
   pub logged : restoring.EventsInsideCutsAreLogged
       → AllByRecursion (λ (v : Numbered). place events_logged.flow v.event ≡ big → frontier_of (bounds_of events_logged.flow big) [] (stamp v.event) ≡ true
       → restoring.IsLoggedOnce events_logged event_collected.low big v event_collected.writes) event_collected.history
   pub never_collected : restoring.EventsThatMustBeKeptAreNeverCollected
       → AllByRecursion (restoring.MayKeepNothingIfCollected events_logged) event_collected.writes
+  pub never_of_total : restoring.EventsThatMustBeKeptAreNeverCollected
+      → AllByRecursion (restoring.MayKeepNothingIfCollected total_logged) none_collected.writes
   pub collected_below : restoring.CollectedIsWhatLiesBelow
       → AllByRecursion (λ (write : Write). (write.progress ≡ collected) ↔ (lies_below events_logged event_collected.low event_collected.history write.node write.written ≡ true)) event_collected.writes
 

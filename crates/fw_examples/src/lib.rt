@@ -35,7 +35,9 @@ pub use laws_applied::{
     runs_apply, steps_apply,
 };
 pub use logged_events::{loses_an_epoch, restores_an_epoch};
-pub use logs_after_collection::{collects_a_logged_event, keeps_a_log_with_a_checkpoint};
+pub use logs_after_collection::{
+    collects_a_logged_event, keeps_a_log_with_a_checkpoint, keeps_events_of_a_total,
+};
 pub use offers_of_totals::checkpoints_are_offered;
 pub use one_collection::collects_the_first_epoch;
 pub use one_recovery::{

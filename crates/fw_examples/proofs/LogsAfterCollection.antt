@@ -294,6 +294,7 @@ collects_a_logged_event = record {
   first_below = refl;
   second_inside = refl;
   second_needed = refl;
+  log = refl;
   sent_again = refl;
 }
 

@@ -102,6 +102,7 @@ pub record CollectsALoggedEvent : Type 0 where
   pub first_below : lies_below events_logged event_collected.low event_collected.history big (logged_event 1) ≡ true
   pub second_inside : frontier_of (bounds_of events_logged.flow big) (front_of event_collected.low big) (1 ∷ []) ≡ true
   pub second_needed : is_given_up events_logged event_collected.low big (1 ∷ []) ≡ false
+  pub log : logged_messages events_logged event_collected event_collected.low big_to_out (kept_of events_logged both_come_back big) ≡ second_message ∷ []
   pub sent_again : messages_to_resend events_logged event_collected both_come_back big_to_out ≡ second_message ∷ []
 
 -- ---- a select that writes a checkpoint with its log whenever more is settled

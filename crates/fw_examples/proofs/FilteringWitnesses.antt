@@ -13,6 +13,7 @@ use Rattle.fw_flow.specs.Dataflow.{System, kind_of, policy_of, sender, receiver,
 use Rattle.fw_flow.specs.NodeFunction.{sends}
 use Rattle.fw_flow.specs.Projection.{phi}
 use Rattle.fw_flow.specs.declared.choice.Choice.{Choice}
+use Rattle.fw_flow.specs.declared.kind.Policy.TheVariants as policy
 use Rattle.fw_model.specs.Choice.{until, stamp_of_notice, IsConsistent}
 use Rattle.fw_model.specs.History.{some_at, delivered, IsQuiet}
 use Rattle.fw_model.specs.Machine.{Machine, front_of, is_failed}
@@ -21,7 +22,7 @@ use Rattle.fw_model.proofs.FilteredLaws.{set-frontier}
 use Rattle.fw_examples.specs.Flows.{loop_counts_up, regroup_by_three, two_batches}
 use Rattle.fw_examples.specs.UnderWay.{under_way}
 use Rattle.fw_examples.specs.Recovery.{counting_failed, restored}
-use Rattle.fw_examples.specs.RunningTotal.{totals, total_flow, two_epochs, next_epochs, output_failed, two_epochs_kept, alike}
+use Rattle.fw_examples.specs.RunningTotal.{totals, total_flow, five_batches, two_epochs, next_epochs, output_failed, two_epochs_kept, alike}
 use Rattle.fw_examples.specs.Numbers.{numbers, numbered_both}
 use Rattle.fw_examples.specs.WitnessesOfFiltering.{kept_totals, noted_totals, kept_rounds, kept_epoch, TotalsAreFiltered, LoopIsFiltered, SequenceIsFiltered, NumbersAreDelivered}
 use Rattle.fw_examples.proofs.FrontierFacts.{one_not_same}
@@ -89,7 +90,7 @@ totals_are_kept = record {
 
 totals_are_full : IsFull totals output_failed
 unfolding receiver bounds_of kind_of
-totals_are_full = record { quiet = quiet; paid = λ p t i. nothing_owed (next_epochs ++ two_epochs) none_owed p t }
+totals_are_full = record { quiet = quiet; paid = λ p t i. nothing_owed policy.Lazy five_batches (next_epochs ++ two_epochs) none_owed p t }
   where
     quiet : (p : ℕ) (t : Stamp) → frontier_of (bounds_of total_flow p) (front_of output_failed.settled p) t ≡ true → IsQuiet totals (next_epochs ++ two_epochs) p t
     quiet p t i zero r =
@@ -98,7 +99,7 @@ totals_are_full = record { quiet = quiet; paid = λ p t i. nothing_owed (next_ep
     quiet p t i (suc zero) r =
         ap (some_at (same t)) sum_pending
         ∙ one_not_same _ (2 ∷ []) t (subst (λ q. frontier_of (bounds_of total_flow q) (front_of output_failed.settled q) t ≡ true) (sym r) i)
-    quiet p t i (suc (suc e)) r = ap (some_at (same t)) (pending_past (next_epochs ++ two_epochs) e)
+    quiet p t i (suc (suc e)) r = ap (some_at (same t)) (pending_past policy.Lazy five_batches (next_epochs ++ two_epochs) e)
 
 pub totals_are_filtered : TotalsAreFiltered
 unfolding kind_of policy_of receiver sender bounds_of

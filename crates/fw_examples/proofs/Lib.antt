@@ -22,9 +22,11 @@ pub mod TwoSourcesInclusions
 pub mod WellFormed
 pub mod LoggedEvents
 pub mod OneCollection
+pub mod LogsAfterCollection
 pub mod OneUndone
 pub mod TotalDone
 pub mod TotalRun
+pub mod TotalLogged
 pub mod TotalChoices
 pub mod TotalWitnesses
 pub mod ChoiceWitnesses

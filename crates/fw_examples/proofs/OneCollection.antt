@@ -7,8 +7,10 @@ use Rattle.fw_frontier.specs.Front.{Front, frontier_of}
 use Rattle.fw_frontier.proofs.NamesLaws.{frontier-closed}
 use Rattle.fw_flow.specs.declared.choice.Cut.{Cut}
 use Rattle.fw_flow.specs.declared.choice.Cut.TheVariants.{Present, At}
+use Rattle.fw_flow.specs.declared.event.Event.{Event}
 use Rattle.fw_flow.specs.declared.event.Event.TheVariants.{Inject as Injected, Deliver as Delivered}
 use Rattle.fw_flow.specs.declared.event.Message.{Message}
+use Rattle.fw_flow.specs.declared.kind.Policy.{Policy}
 use Rattle.fw_flow.specs.declared.kind.Policy.TheVariants as policy
 use Rattle.fw_flow.specs.declared.step.Step.TheVariants.{Inject, Deliver, Progress, Checkpoint, Persist, Fail, Recover, Collect, Ack}
 use Rattle.fw_flow.specs.Dataflow.{kind_of, policy_of, sender, receiver, bounds_of, batches_of}
@@ -17,9 +19,9 @@ use Rattle.fw_flow.specs.Projection.{phi, psi}
 use Rattle.fw_flow.specs.declared.choice.Choice.{Choice}
 use Rattle.fw_model.specs.Choice.{kept, cut_of, IsCandidate, IsConsistent, IsCutWithin, IsChoiceWithin, IsLargest, offers_of_writes}
 use Rattle.fw_model.specs.History.{pending, some_at, IsComplete}
-use Rattle.fw_model.specs.Machine.{Machine, first_state, events, front_of, is_failed, checkpoint, acknowledged, in_flight}
+use Rattle.fw_model.specs.Machine.{Machine, first_state, front_of, is_failed, checkpoint, acknowledged, in_flight}
 use Rattle.fw_model.specs.Steps.{Steps, LeadsTo, Effect, CutsTo, with_event, front_of_cut, did, quiet, cuts, lows, acked}
-use Rattle.fw_examples.specs.OneSelect.{one_select_flow_of, rec_of}
+use Rattle.fw_examples.specs.OneSelect.{one_select_of, one_select_flow_of, rec_of}
 use Rattle.fw_examples.specs.OneCollection.{selected_batches, written_when_asked, first, first_epoch_everywhere, CollectsTheFirstEpoch}
 use Rattle.fw_examples.proofs.FrontierFacts.{within_until}
 use Rattle.fw_examples.proofs.StepFacts.{injects, delivers, acknowledges_first_write}
@@ -31,7 +33,7 @@ abbrev none : Front
 none = (0 ∷ []) ∷ []
 
 -- the rec of epoch 0
-abbrev message : Message
+abbrev pub message : Message
 message = record { at = 0 ∷ []; rec = rec_of 1 20; causes = (0 ∷ []) ∷ [] }
 
 abbrev rec_sent : Machine
@@ -56,7 +58,7 @@ persisted = record all_settled { writes = record { node = 1; written = checkpoin
 abbrev at_low : List Front → List Bool → Machine
 at_low low failed = record persisted { bounds = 0 ∷ 0 ∷ 1 ∷ []; low = low; failed = failed }
 
-abbrev all_first : List Front
+abbrev pub all_first : List Front
 all_first = first ∷ first ∷ first ∷ []
 
 abbrev none_lost : List Bool
@@ -77,24 +79,29 @@ puts_out_rec : Steps written_when_asked rec_taken (Deliver 1 None) rec_put_out (
 unfolding kind_of receiver sender sends batches_of bounds_of policy_of
 puts_out_rec = delivers written_when_asked rec_taken 1 message refl refl refl refl
 
-none_left : (e : ℕ) → e < 2 → pending written_when_asked (events rec_put_out.history) e ≡ []
-unfolding kind_of receiver sender sends batches_of bounds_of policy_of
-none_left = by_two _ refl refl
+-- epoch 0 came through, the latest event first
+abbrev pub came_through : List Event
+came_through = Delivered 1 message ∷ Delivered 0 message ∷ Injected 0 0 ∷ []
 
-first_complete : IsComplete written_when_asked (events rec_put_out.history) (named policy.Lazy all_first)
+none_left : (keeping : Policy) → (e : ℕ) → e < 2 → pending (one_select_of keeping selected_batches) came_through e ≡ []
+unfolding kind_of receiver sender sends batches_of bounds_of
+none_left keeping = by_two _ refl refl
+
+-- then it is complete, whatever the select keeps
+pub first_complete : (keeping : Policy) → IsComplete (one_select_of keeping selected_batches) came_through (named keeping all_first)
 unfolding bounds_of kind_of receiver batches_of
-first_complete =
-    complete policy.Lazy selected_batches (events rec_put_out.history) first first first
-    (admissible policy.Lazy selected_batches (events rec_put_out.history) all_first
-    (λ t i. ap (some_at (same t)) (none_left 0 (lit< tt)))
-    (λ t i. ap (some_at (same t)) (none_left 1 (lit< tt)))
+first_complete keeping =
+    complete keeping selected_batches came_through first first first
+    (admissible keeping selected_batches came_through all_first
+    (λ t i. ap (some_at (same t)) (none_left keeping 0 (lit< tt)))
+    (λ t i. ap (some_at (same t)) (none_left keeping 1 (lit< tt)))
     (λ t i. and_from _ _ (and_parts _ _ i).0 (below_epoch _ 1 t i))
     (λ t i. i)
     (λ t i. i))
     (λ other o.
-    let in_first : Within (other 0) (named policy.Lazy all_first 0) =
+    let in_first : Within (other 0) (named keeping all_first 0) =
     within_until _ (other 0) (1 ∷ []) (o.frontier 0) refl (λ i. false≢true (o.source 0 refl (1 ∷ []) i)) in
-    let follows = at_sender policy.Lazy selected_batches _ other o in
+    let follows = at_sender keeping selected_batches _ other o in
     (in_first, (λ t i. in_first t (follows.0 t i)), (λ t i. in_first t (follows.0 t (follows.1 t i)))))
 
 -- no stamp is among those of epoch 0
@@ -105,7 +112,7 @@ none_in_first p = within_until _ _ (1 ∷ []) (frontier-closed _ none) refl fals
 settles_all : Steps written_when_asked rec_put_out Progress all_settled (did quiet)
 unfolding kind_of receiver sender sends batches_of bounds_of policy_of
 settles_all =
-    progresses policy.Lazy selected_batches rec_put_out first first first first_complete
+    progresses policy.Lazy selected_batches rec_put_out first first first (first_complete policy.Lazy)
     (canonical _ (1 ∷ []) refl) (canonical _ (1 ∷ []) refl) (canonical _ (1 ∷ []) refl)
     none_failed
     (none_in_first 0) (none_in_first 1) (none_in_first 2)

@@ -1,5 +1,5 @@
--- The machine runs to the recovery.
-use Rattle.std.proofs.Common.{◌≡◌, ℕ, zero, suc, ◌<◌, true, Option, Some, None, List, [], ◌∷◌, length, refl, lit<, arith}
+-- The machine runs to the failure and to the recovery from it.
+use Rattle.std.proofs.Common.{◌≡◌, ℕ, zero, suc, ◌<◌, true, Option, Some, None, List, [], ◌∷◌, length, take, replicate, refl, lit<, arith}
 use Rattle.std.proofs.lemmas.Bool.Decides.{nat_tests}
 use Rattle.fw_time.specs.Stamp.{Stamp}
 use Rattle.fw_frontier.specs.Frontier.{join}
@@ -11,6 +11,7 @@ use Rattle.fw_flow.specs.Dataflow.{kind_of, policy_of, sender, receiver, bounds_
 use Rattle.fw_flow.specs.NodeFunction.{sends}
 use Rattle.fw_model.specs.Machine.{Machine, first_state, front_of, is_failed}
 use Rattle.fw_model.specs.Steps.{Outcome, did, LeadsTo, GrowsTo, Run, quiet, cuts, recovered, with_event}
+use Rattle.fw_model.proofs.GoingOn.{runs-go_on}
 use Rattle.fw_examples.specs.Flows.{loop_counts_up, two_batches, pair}
 use Rattle.fw_examples.specs.UnderWay.{message, round, under_way, complete_fronts, complete_at}
 use Rattle.fw_examples.specs.Recovery.{with_serials, counting_failed, restored, steps_taken, outcomes_shown}
@@ -129,40 +130,46 @@ takes_recovery = (3, restored, complete_fronts, lit< tt, refl, restored_is_large
 
 -- what is left after all deliveries
 abbrev last_steps : List Step
-last_steps = step.Progress ∷ step.Fail (3 ∷ []) ∷ step.Recover ∷ []
+last_steps = step.Progress ∷ step.Fail (3 ∷ []) ∷ []
 
 abbrev last_outcomes : List Outcome
-last_outcomes = did quiet ∷ did quiet ∷ did (cuts restored) ∷ []
+last_outcomes = did quiet ∷ did quiet ∷ []
 
-takes_last : Run two_batches (after under_way) last_steps last_outcomes (recovered two_batches counting_failed restored complete_fronts)
-takes_last = (
-  all_settled,
-  takes_progress,
-  (
-    counting_failed,
-    takes_failure,
-    (recovered two_batches counting_failed restored complete_fronts, takes_recovery, refl),
-  ),
-)
+takes_last : Run two_batches (after under_way) last_steps last_outcomes counting_failed
+takes_last = (all_settled, takes_progress, (counting_failed, takes_failure, refl))
 
 takes_second : Run two_batches (with_event two_batches one_injected (Inject 0 1))
     (steps_of second_deliveries last_steps) (outcomes_of second_deliveries last_outcomes)
-    (recovered two_batches counting_failed restored complete_fronts)
+    counting_failed
 unfolding kind_of policy_of sender receiver bounds_of batches_of max_of sends
 takes_second =
     runs_deliveries two_batches second_deliveries (with_event two_batches one_injected (Inject 0 1)) last_steps last_outcomes
-    (recovered two_batches counting_failed restored complete_fronts) refl takes_last
+    counting_failed refl takes_last
 
 takes_first : Run two_batches (with_event two_batches (first_state two_batches) (Inject 0 0))
     (steps_of first_deliveries (step.Inject 0 ∷ steps_of second_deliveries last_steps))
     (outcomes_of first_deliveries (did quiet ∷ outcomes_of second_deliveries last_outcomes))
-    (recovered two_batches counting_failed restored complete_fronts)
+    counting_failed
 unfolding kind_of policy_of sender receiver bounds_of batches_of max_of sends
 takes_first =
     runs_deliveries two_batches first_deliveries (with_event two_batches (first_state two_batches) (Inject 0 0))
     (step.Inject 0 ∷ steps_of second_deliveries last_steps) (did quiet ∷ outcomes_of second_deliveries last_outcomes)
-    (recovered two_batches counting_failed restored complete_fronts) refl
+    counting_failed refl
     (with_event two_batches one_injected (Inject 0 1), takes_second_batch, takes_second)
 
+-- the steps to the failure
+abbrev pub steps_to_failure : List Step
+steps_to_failure = take 18 steps_taken
+
+-- none of them shows something
+abbrev pub outcomes_to_failure : List Outcome
+outcomes_to_failure = replicate 18 (did quiet)
+
+pub runs_to_failure : Run two_batches (first_state two_batches) steps_to_failure outcomes_to_failure counting_failed
+runs_to_failure = (with_event two_batches (first_state two_batches) (Inject 0 0), takes_first_batch, takes_first)
+
 pub runs_to_recovery : Run two_batches (first_state two_batches) steps_taken outcomes_shown (recovered two_batches counting_failed restored complete_fronts)
-runs_to_recovery = (with_event two_batches (first_state two_batches) (Inject 0 0), takes_first_batch, takes_first)
+runs_to_recovery =
+    runs-go_on two_batches (first_state two_batches) counting_failed (recovered two_batches counting_failed restored complete_fronts)
+    steps_to_failure (step.Recover ∷ []) outcomes_to_failure (did (cuts restored) ∷ []) runs_to_failure
+    (recovered two_batches counting_failed restored complete_fronts, takes_recovery, refl)

@@ -6,6 +6,7 @@ use Rattle.fw_frontier.specs.Frontier.{Frontier, Within}
 use Rattle.fw_frontier.proofs.NamesLaws.{frontier-closed}
 use Rattle.fw_flow.specs.declared.event.Event.{Event}
 use Rattle.fw_flow.specs.declared.event.Event.TheVariants.{Inject as Injected, Deliver as Delivered, Notify as Notified}
+use Rattle.fw_flow.specs.declared.kind.Policy.TheVariants as policy
 use Rattle.fw_flow.specs.declared.step.Step.TheVariants.{Inject, Deliver, Notify, Progress, Checkpoint, Persist, Fail, Ack}
 use Rattle.fw_flow.specs.Dataflow.{kind_of, policy_of, sender, receiver, bounds_of, batches_of}
 use Rattle.fw_flow.specs.NodeFunction.{sends}
@@ -15,7 +16,7 @@ use Rattle.fw_model.specs.History.{some_at, pending, owed, injected_epochs, IsQu
 use Rattle.fw_model.specs.Machine.{Machine, Write, Progress as Written, first_state, events, checkpoint, in_flight, acknowledged, collected, is_failed}
 use Rattle.fw_model.specs.Steps.{Steps, Run, with_event, did, quiet, acked}
 use Rattle.fw_examples.specs.OneSelect.{rec_of}
-use Rattle.fw_examples.specs.RunningTotal.{totals, total_flow, at_epoch, alike, two_epochs, next_epochs, output_failed, come_back, steps_up_to_two, outcomes_up_to_two, steps_of_failure, outcomes_of_failure, steps_of_sum, outcomes_of_sum}
+use Rattle.fw_examples.specs.RunningTotal.{totals, total_flow, five_batches, at_epoch, alike, two_epochs, next_epochs, output_failed, come_back, steps_up_to_two, outcomes_up_to_two, steps_of_failure, outcomes_of_failure, steps_of_sum, outcomes_of_sum}
 use Rattle.fw_examples.proofs.FrontierFacts.{within_until, one_not_same}
 use Rattle.fw_examples.proofs.StepFacts.{injects, delivers, acknowledges_first_write, acknowledges_second_write}
 use Rattle.fw_examples.proofs.ChoiceFacts.{nothing_inside, below_epoch, canonical}
@@ -141,16 +142,16 @@ pub quiet_at_total : (h : List Event) → pending totals h 0 ≡ [] → (s : Sta
 unfolding receiver
 quiet_at_total h none s zero r = ap (some_at (same s)) none
 quiet_at_total h none s (suc zero) r = absurd (omega (arith, r))
-quiet_at_total h none s (suc (suc e)) r = ap (some_at (same s)) (pending_past h e)
+quiet_at_total h none s (suc (suc e)) r = ap (some_at (same s)) (pending_past policy.Lazy five_batches h e)
 
 -- the input alone is complete, up to what it sent
 abbrev pub sent_alone : ℕ → ℕ → Frontier
-sent_alone k = named (until k ∷ until 0 ∷ until 0 ∷ [])
+sent_alone k = named policy.Lazy (until k ∷ until 0 ∷ until 0 ∷ [])
 
 before_ten : IsAdmissible totals (events ten_taken.history) (sent_alone 2)
 unfolding kind_of bounds_of batches_of receiver
 before_ten =
-    admissible (events ten_taken.history) (until 2 ∷ until 0 ∷ until 0 ∷ [])
+    admissible policy.Lazy five_batches (events ten_taken.history) (until 2 ∷ until 0 ∷ until 0 ∷ [])
     (λ t i. absurd (nothing_inside _ t i))
     (λ t i. absurd (nothing_inside _ t i))
     (λ t i. absurd (nothing_inside _ t i))
@@ -174,7 +175,7 @@ ten_notifiable = record {
 
 sums_ten : Steps totals ten_taken (Notify 1 (Some (1 ∷ []))) ten_summed (did quiet)
 unfolding policy_of
-sums_ten = notifies ten_taken 1 (1 ∷ []) ten_notifiable refl refl
+sums_ten = notifies policy.Lazy five_batches ten_taken 1 (1 ∷ []) ten_notifiable refl refl
 
 none_failed : (p : ℕ) → is_failed (first_state totals) p ≡ false
 none_failed zero = refl
@@ -202,29 +203,29 @@ paid_second false false e = refl
 
 -- where nothing is pending and nothing is owed, all that was sent is complete
 all_done : (h : List Event) (k : ℕ) → pending totals h 0 ≡ [] → pending totals h 1 ≡ [] → ((t : Stamp) → owed totals h 1 t ≡ false)
-    → Within (named (alike k) 0) (injected_epochs totals h 0)
+    → Within (named policy.Lazy (alike k) 0) (injected_epochs totals h 0)
     → in_domain (bounds_of total_flow 0) (k ∷ []) ≡ true → injected_epochs totals h 0 (k ∷ []) ≡ false
-    → IsComplete totals h (named (alike k))
+    → IsComplete totals h (named policy.Lazy (alike k))
 unfolding bounds_of kind_of
 all_done h k at_run at_out paid from d out =
-    complete h (until k) (until k) (until k)
-    (admissible h (alike k) (λ t i. ap (some_at (same t)) at_run) (λ t i. ap (some_at (same t)) at_out) (λ t i. paid t) from (λ t i. i) (λ t i. i))
+    complete policy.Lazy five_batches h (until k) (until k) (until k)
+    (admissible policy.Lazy five_batches h (alike k) (λ t i. ap (some_at (same t)) at_run) (λ t i. ap (some_at (same t)) at_out) (λ t i. paid t) from (λ t i. i) (λ t i. i))
     (λ other o.
-    let sent : Within (other 0) (named (alike k) 0) =
+    let sent : Within (other 0) (named policy.Lazy (alike k) 0) =
     within_until _ (other 0) (k ∷ []) (o.frontier 0) d (λ i. false≢true (sym out ∙ o.source 0 refl (k ∷ []) i)) in
-    let follows = at_sender h other o in
+    let follows = at_sender policy.Lazy five_batches h other o in
     (sent, (λ t i. sent t (follows.0 t i)), (λ t i. sent t (follows.0 t (follows.1 t i)))))
 
-empty_complete : IsComplete totals (events empty_sent.history) (named (alike 1))
+empty_complete : IsComplete totals (events empty_sent.history) (named policy.Lazy (alike 1))
 unfolding kind_of receiver sender sends batches_of bounds_of
 empty_complete = all_done (events empty_sent.history) 1 refl refl (λ t. refl) (λ t i. and_from _ _ (and_parts _ _ i).0 (below_epoch _ 1 t i)) refl refl
 
-pub ten_complete : IsComplete totals (events ten_put_out.history) (named (alike 2))
+pub ten_complete : IsComplete totals (events ten_put_out.history) (named policy.Lazy (alike 2))
 unfolding kind_of receiver sender sends batches_of bounds_of
 ten_complete =
     all_done (events ten_put_out.history) 2 refl refl (λ t. paid_one (same (1 ∷ []) t)) (λ t i. and_from _ _ (and_parts _ _ i).0 (below_epoch _ 2 t i)) refl refl
 
-third_complete : IsComplete totals (events put_out.history) (named (alike 3))
+third_complete : IsComplete totals (events put_out.history) (named policy.Lazy (alike 3))
 unfolding kind_of receiver sender sends batches_of bounds_of
 third_complete =
     all_done (events put_out.history) 3 refl refl (λ t. paid_two (same (2 ∷ []) t) (same (1 ∷ []) t)) (λ t i. and_from _ _ (and_parts _ _ i).0 (below_epoch _ 3 t i)) refl refl
@@ -232,7 +233,7 @@ third_complete =
 settles_empty : Steps totals empty_sent Progress empty_settled (did quiet)
 unfolding kind_of bounds_of policy_of receiver
 settles_empty =
-    progresses empty_sent (until 1) (until 1) (until 1) empty_complete
+    progresses policy.Lazy five_batches empty_sent (until 1) (until 1) (until 1) empty_complete
     (canonical _ (1 ∷ []) refl) (canonical _ (1 ∷ []) refl) (canonical _ (1 ∷ []) refl)
     none_failed
     (within_until _ _ (1 ∷ []) (frontier-closed _ (until 0)) refl false≢true)
@@ -243,7 +244,7 @@ settles_empty =
 settles_ten : Steps totals ten_put_out Progress ten_settled (did quiet)
 unfolding kind_of bounds_of policy_of receiver
 settles_ten =
-    progresses ten_put_out (until 2) (until 2) (until 2) ten_complete
+    progresses policy.Lazy five_batches ten_put_out (until 2) (until 2) (until 2) ten_complete
     (canonical _ (2 ∷ []) refl) (canonical _ (2 ∷ []) refl) (canonical _ (2 ∷ []) refl)
     none_failed
     (within_until _ _ (2 ∷ []) (frontier-closed _ (until 1)) refl false≢true)
@@ -288,7 +289,7 @@ takes_five = delivers totals five_sent 0 (at_epoch 2 5) refl refl refl refl
 before_five : IsAdmissible totals (events five_taken.history) (sent_alone 3)
 unfolding kind_of bounds_of batches_of receiver
 before_five =
-    admissible (events five_taken.history) (until 3 ∷ until 0 ∷ until 0 ∷ [])
+    admissible policy.Lazy five_batches (events five_taken.history) (until 3 ∷ until 0 ∷ until 0 ∷ [])
     (λ t i. absurd (nothing_inside _ t i))
     (λ t i. absurd (nothing_inside _ t i))
     (λ t i. absurd (nothing_inside _ t i))
@@ -312,7 +313,7 @@ five_notifiable = record {
 
 sums_five : Steps totals five_taken (Notify 1 (Some (2 ∷ []))) five_summed (did quiet)
 unfolding policy_of
-sums_five = notifies five_taken 1 (2 ∷ []) five_notifiable refl refl
+sums_five = notifies policy.Lazy five_batches five_taken 1 (2 ∷ []) five_notifiable refl refl
 
 pending_sum : pending totals (events five_summed.history) 1 ≡ at_epoch 2 15 ∷ []
 unfolding kind_of receiver sender sends batches_of bounds_of
@@ -323,11 +324,11 @@ unfolding kind_of receiver sender sends batches_of bounds_of
 none_for_total = refl
 
 -- epoch 2 is complete but for the output, for which its sum is pending
-pub sum_complete : IsComplete totals (events five_summed.history) (named (until 3 ∷ until 3 ∷ until 2 ∷ []))
+pub sum_complete : IsComplete totals (events five_summed.history) (named policy.Lazy (until 3 ∷ until 3 ∷ until 2 ∷ []))
 unfolding kind_of receiver batches_of bounds_of
 sum_complete =
-    complete (events five_summed.history) (until 3) (until 3) (until 2)
-    (admissible (events five_summed.history) (until 3 ∷ until 3 ∷ until 2 ∷ [])
+    complete policy.Lazy five_batches (events five_summed.history) (until 3) (until 3) (until 2)
+    (admissible policy.Lazy five_batches (events five_summed.history) (until 3 ∷ until 3 ∷ until 2 ∷ [])
     (λ t i. ap (some_at (same t)) none_for_total)
     (λ t i. ap (some_at (same t)) pending_sum ∙ one_not_same _ (2 ∷ []) t i)
     (λ t i. paid_two (same (2 ∷ []) t) (same (1 ∷ []) t))
@@ -335,10 +336,10 @@ sum_complete =
     (λ t i. i)
     (within_until _ _ (3 ∷ []) (frontier-closed _ (until 2)) refl false≢true))
     (λ other o.
-    let sent : Within (other 0) (named (until 3 ∷ until 3 ∷ until 2 ∷ []) 0) =
+    let sent : Within (other 0) (named policy.Lazy (until 3 ∷ until 3 ∷ until 2 ∷ []) 0) =
     within_until _ (other 0) (3 ∷ []) (o.frontier 0) refl (λ i. false≢true (o.source 0 refl (3 ∷ []) i)) in (
       sent,
-      (λ t i. sent t ((at_sender _ other o).0 t i)),
+      (λ t i. sent t ((at_sender policy.Lazy five_batches _ other o).0 t i)),
       within_until _ (other 2) (2 ∷ []) (o.frontier 2) refl
           (λ i. true≢false (sym (ap (some_at (same (2 ∷ []))) pending_sum) ∙ o.quiet 2 (2 ∷ []) i 1 refl)),
     ))
@@ -346,7 +347,7 @@ sum_complete =
 settles_sum : Steps totals five_summed Progress sum_settled (did quiet)
 unfolding kind_of bounds_of policy_of receiver
 settles_sum =
-    progresses five_summed (until 3) (until 3) (until 2) sum_complete
+    progresses policy.Lazy five_batches five_summed (until 3) (until 3) (until 2) sum_complete
     (canonical _ (3 ∷ []) refl) (canonical _ (3 ∷ []) refl) (canonical _ (2 ∷ []) refl)
     none_failed
     (within_until _ _ (3 ∷ []) (frontier-closed _ (until 2)) refl false≢true)
@@ -375,7 +376,7 @@ puts_out = delivers totals five_summed 1 (at_epoch 2 15) refl refl refl refl
 settles_put_out : Steps totals put_out Progress put_out_settled (did quiet)
 unfolding kind_of bounds_of policy_of receiver
 settles_put_out =
-    progresses put_out (until 3) (until 3) (until 3) third_complete
+    progresses policy.Lazy five_batches put_out (until 3) (until 3) (until 3) third_complete
     (canonical _ (3 ∷ []) refl) (canonical _ (3 ∷ []) refl) (canonical _ (3 ∷ []) refl)
     none_failed
     (within_until _ _ (3 ∷ []) (frontier-closed _ (until 2)) refl false≢true)
@@ -397,7 +398,7 @@ takes_again = delivers totals again_sent 0 (at_epoch 2 5) refl refl refl refl
 
 sums_again : Steps totals again_taken (Notify 1 (Some (2 ∷ []))) again_summed (did quiet)
 unfolding policy_of
-sums_again = notifies again_taken 1 (2 ∷ []) five_notifiable refl refl
+sums_again = notifies policy.Lazy five_batches again_taken 1 (2 ∷ []) five_notifiable refl refl
 
 puts_out_again : Steps totals again_summed (Deliver 1 None) again_put_out (did quiet)
 unfolding kind_of receiver sender sends batches_of bounds_of policy_of
@@ -406,7 +407,7 @@ puts_out_again = delivers totals again_summed 1 (at_epoch 2 15) refl refl refl r
 settles_again : Steps totals again_put_out Progress again_settled (did quiet)
 unfolding kind_of bounds_of policy_of receiver
 settles_again =
-    progresses again_put_out (until 3) (until 3) (until 3) third_complete
+    progresses policy.Lazy five_batches again_put_out (until 3) (until 3) (until 3) third_complete
     (canonical _ (3 ∷ []) refl) (canonical _ (3 ∷ []) refl) (canonical _ (3 ∷ []) refl)
     none_failed
     (within_until _ _ (3 ∷ []) (frontier-closed _ (until 2)) refl false≢true)
@@ -561,11 +562,11 @@ pub none_owed : (t : Stamp) → owed totals (next_epochs ++ two_epochs) 1 t ≡ 
 unfolding kind_of receiver
 none_owed t = paid_two (same (2 ∷ []) t) (same (1 ∷ []) t)
 
-pub failed_complete : IsComplete totals (next_epochs ++ two_epochs) (named (until 4 ∷ until 3 ∷ until 2 ∷ []))
+pub failed_complete : IsComplete totals (next_epochs ++ two_epochs) (named policy.Lazy (until 4 ∷ until 3 ∷ until 2 ∷ []))
 unfolding kind_of receiver batches_of bounds_of
 failed_complete =
-    complete (next_epochs ++ two_epochs) (until 4) (until 3) (until 2)
-    (admissible (next_epochs ++ two_epochs) (until 4 ∷ until 3 ∷ until 2 ∷ [])
+    complete policy.Lazy five_batches (next_epochs ++ two_epochs) (until 4) (until 3) (until 2)
+    (admissible policy.Lazy five_batches (next_epochs ++ two_epochs) (until 4 ∷ until 3 ∷ until 2 ∷ [])
     (λ t i. ap (some_at (same t)) one_pending ∙ one_not_same _ (3 ∷ []) t i)
     (λ t i. ap (some_at (same t)) sum_pending ∙ one_not_same _ (2 ∷ []) t i)
     (λ t i. none_owed t)

@@ -1,14 +1,18 @@
 -- Witnesses for the laws of runs.
-use Rattle.std.proofs.Common.{◌≡◌, ℕ, zero, suc, ◌<◌, ◌≤◌, ◌^◌, ◌&&◌, Bool, true, false, [], ◌∷◌, ◌++◌, length, refl, lit<, lit≤, inl, inr, arith, leb}
+use Rattle.std.proofs.Common.{◌≡◌, ℕ, zero, suc, ◌<◌, ◌≤◌, ◌^◌, ◌&&◌, Bool, true, false, List, [], ◌∷◌, ◌++◌, length, refl, lit<, lit≤, inl, inr, arith, leb}
 use Rattle.std.proofs.lemmas.Bool.{false≢true, true≢false, and_parts}
 use Rattle.std.proofs.lemmas.Bool.Decides.{nat_tests}
 use Rattle.std.specs.List.{AllByRecursion}
+use Rattle.fw_bag.specs.declared.rec.Rec.{Rec}
 use Rattle.fw_bag.specs.Keyed.{sorted}
 use Rattle.fw_time.specs.Stamp.{Stamp}
 use Rattle.fw_frontier.specs.Front.{frontier_of, inside}
 use Rattle.fw_flow.specs.Dataflow.{is_input_kind, kind_of, policy_of, sender, receiver, bounds_of, batches_of, in_edges, out_edges}
 use Rattle.fw_flow.specs.NodeFunction.{sends}
-use Rattle.fw_flow.specs.WellFormed.{IsWellFormed, IsWellFormedSystem, IsBatch}
+use Rattle.fw_flow.specs.WellFormed.{IsPolicyAllowed, IsWellFormed, IsWellFormedSystem, IsBatch}
+use Rattle.fw_flow.specs.declared.kind.Kind.TheVariants.{Total}
+use Rattle.fw_flow.specs.declared.kind.Policy.{Policy}
+use Rattle.fw_flow.specs.declared.kind.Policy.TheVariants as policy
 use Rattle.fw_model.specs.Choice.{kept, ever, until}
 use Rattle.fw_model.specs.Denotation.{IsDenotation, bag_at}
 use Rattle.fw_model.specs.History.{delivered}
@@ -17,7 +21,7 @@ use Rattle.fw_model.specs.LawsOfDeliveries.{recs_at}
 use Rattle.fw_model.specs.LawsOfLegalHistories.{HasEpochs}
 use Rattle.fw_model.specs.LawsOfRecoveries.{IsDenotedInside}
 use Rattle.fw_model.specs.LawsOfSteps.{CanChoose}
-use Rattle.fw_examples.specs.RunningTotal.{totals, total_flow, totals_denoted, two_epochs, next_epochs, output_failed, two_epochs_kept}
+use Rattle.fw_examples.specs.RunningTotal.{totals, totals_of, total_flow_of, five_batches, totals_denoted, two_epochs, next_epochs, output_failed, two_epochs_kept}
 use Rattle.fw_examples.specs.WitnessesOfRuns.{TotalsAreWellFormed, FailureIsReached, RecoveryIsReached, TwoRunsMeet, SomeIsSettled, SomethingIsChosen, EachStepHasItsChoice, LowWatermarkRises, MoreIsComplete}
 use Rattle.fw_examples.proofs.ChoiceFacts.{by_two, by_three, below_epoch}
 use Rattle.fw_examples.proofs.WellFormed.{no_closed_walk}
@@ -25,51 +29,61 @@ use Rattle.fw_examples.proofs.TotalDone.{nothing_owed}
 use Rattle.fw_examples.proofs.TotalRun.{ten_acknowledged, two_collected, put_out_acknowledged, again_acknowledged, total_is_legal, none_owed, failed_complete, runs_to_two}
 use Rattle.fw_examples.proofs.TotalChoices.{collects, failed_run, run_to_recovery, run_through_recovery, run_without_failure, recovers, two_offered, kept_largest, kept_consistent, epoch_consistent, checkpoints_are_chains}
 
-total_up : (e : ℕ) → e < 2 → sender total_flow e < receiver total_flow e
+total_up : (keeping : Policy) → (e : ℕ) → e < 2 → sender (total_flow_of keeping) e < receiver (total_flow_of keeping) e
 unfolding sender receiver
-total_up = by_two _ (lit< tt) (lit< tt)
+total_up keeping = by_two _ (lit< tt) (lit< tt)
 
-flow_is_well_formed : IsWellFormed total_flow
+-- the dataflow with a policy that a running total may have
+flow_is_well_formed : (keeping : Policy) → IsPolicyAllowed Total keeping → IsWellFormed (total_flow_of keeping)
 unfolding kind_of policy_of sender receiver in_edges out_edges
-flow_is_well_formed = record {
+flow_is_well_formed keeping allowed = record {
   loops_declared = by_three _ tt tt tt;
   senders_declared = by_two _ (lit< tt) (lit< tt);
   receivers_declared = by_two _ (lit< tt) (lit< tt);
   in_degrees = by_three _ refl refl refl;
   out_degrees = by_three _ tt tt refl;
   domains = by_two _ refl refl;
-  feedback = λ p es is. absurd (no_closed_walk total_flow total_up p es is);
-  no_enter = λ p es is passes. no_closed_walk total_flow total_up p es is;
-  policies = by_three _ refl tt refl;
+  feedback = λ p es is. absurd (no_closed_walk (total_flow_of keeping) (total_up keeping) p es is);
+  no_enter = λ p es is passes. no_closed_walk (total_flow_of keeping) (total_up keeping) p es is;
+  policies = by_three _ refl allowed refl;
   limits = record { nodes = lit≤ tt; edges = lit≤ tt; loops = lit≤ tt; counters = λ l h. absurd (omega arith); groups = by_three _ tt tt tt };
   input = (0, lit< tt, refl);
   output = (2, lit< tt, refl);
 }
 
-pub system_is_well_formed : IsWellFormedSystem totals
+-- and with batches
+pub totals_of_batches_are_well_formed : (keeping : Policy) → IsPolicyAllowed Total keeping
+    → (sent : List (List Rec)) → length sent ≤ 2 ^ 20 → AllByRecursion IsBatch sent → IsWellFormedSystem (totals_of keeping sent)
 unfolding kind_of batches_of
-system_is_well_formed = record {
-  flow = flow_is_well_formed;
+totals_of_batches_are_well_formed keeping allowed sent fit are = record {
+  flow = flow_is_well_formed keeping allowed;
   one_each = refl;
   of_inputs = of_inputs;
   few = few;
   batches = batches;
 }
   where
-    of_inputs : (p : ℕ) → is_input_kind (kind_of total_flow p) ≡ false → batches_of totals p ≡ []
+    of_inputs : (p : ℕ) → is_input_kind (kind_of (total_flow_of keeping) p) ≡ false → batches_of (totals_of keeping sent) p ≡ []
     of_inputs zero k = absurd (true≢false k)
     of_inputs (suc zero) k = refl
     of_inputs (suc (suc zero)) k = refl
     of_inputs (suc (suc (suc p))) k = refl
 
-    few : (p : ℕ) → length (batches_of totals p) ≤ 2 ^ 20
-    few zero = lit≤ tt
+    few : (p : ℕ) → length (batches_of (totals_of keeping sent) p) ≤ 2 ^ 20
+    few zero = fit
     few (suc zero) = lit≤ tt
     few (suc (suc zero)) = lit≤ tt
     few (suc (suc (suc p))) = lit≤ tt
 
-    batches : (p : ℕ) → AllByRecursion IsBatch (batches_of totals p)
-    batches zero = (
+    batches : (p : ℕ) → AllByRecursion IsBatch (batches_of (totals_of keeping sent) p)
+    batches zero = are
+    batches (suc zero) = tt
+    batches (suc (suc zero)) = tt
+    batches (suc (suc (suc p))) = tt
+
+pub system_is_well_formed : IsWellFormedSystem totals
+system_is_well_formed =
+    totals_of_batches_are_well_formed policy.Lazy tt five_batches (lit≤ tt) (
       record { recs = tt; ascending = tt },
       (
         record { recs = (record { key = lit< tt; value = lit< tt }, tt); ascending = (tt, tt) },
@@ -82,9 +96,6 @@ system_is_well_formed = record {
         ),
       ),
     )
-    batches (suc zero) = tt
-    batches (suc (suc zero)) = tt
-    batches (suc (suc (suc p))) = tt
 
 pub has_epochs : HasEpochs totals
 unfolding batches_of
@@ -161,7 +172,7 @@ denoted_inside = record {
   denoted = by_two _
       (below_three (λ t. sorted (recs_at t (delivered (next_epochs ++ two_epochs) 0)) ≡ bag_at totals_denoted 0 t) refl refl refl _)
       (below_two (λ t. sorted (recs_at t (delivered (next_epochs ++ two_epochs) 1)) ≡ bag_at totals_denoted 1 t) refl refl _);
-  paid = λ p l t i. nothing_owed (next_epochs ++ two_epochs) none_owed p t;
+  paid = λ p l t i. nothing_owed policy.Lazy five_batches (next_epochs ++ two_epochs) none_owed p t;
 }
 
 pub some_is_settled : SomeIsSettled

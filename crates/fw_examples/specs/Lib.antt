@@ -10,6 +10,7 @@ pub mod TwoSources
 pub mod Inclusions
 pub mod LoggedEvents
 pub mod OneCollection
+pub mod LogsAfterCollection
 pub mod RunningTotal
 pub mod Numbers
 pub mod WitnessesOfRuns

@@ -8,9 +8,13 @@ use Rattle.fw_flow.specs.NodeFunction.{place, stamp}
 use Rattle.fw_model.specs.Machine.{Machine, Numbered, Write, acknowledged, collected, front_of}
 use Rattle.fw_model.specs.Steps.{front_of_cut, is_in_flight, lies_below}
 use Rattle.fw_model.specs.LawsOfRestoring as restoring
-use Rattle.fw_examples.specs.OneSelect.{big}
+use Rattle.fw_examples.specs.Flows.{two_batches, pair}
+use Rattle.fw_examples.specs.UnderWay.{message, round}
+use Rattle.fw_examples.specs.Recovery.{counting_failed, restored}
+use Rattle.fw_examples.specs.OneSelect.{big, big_to_out}
 use Rattle.fw_examples.specs.LoggedEvents.{each_written}
-use Rattle.fw_examples.specs.RunningTotal.{totals, total_flow, src, run, run_to_out, output_failed, come_back, two_epochs_kept}
+use Rattle.fw_examples.specs.LogsAfterCollection.{both_come_back, events_logged, event_collected, checkpoints_logged, log_kept, total_logged, none_collected}
+use Rattle.fw_examples.specs.RunningTotal.{totals, total_flow, src, run, output_failed, come_back, two_epochs_kept}
 
 -- the laws of restoring, of the state of the failure, in which a checkpoint is collected, one acknowledged and one in flight,
 -- and of the recovery that keeps two epochs
@@ -24,10 +28,6 @@ pub record RestoringApplies : Type 0 where
       → AllByRecursion (λ (write : Write). restoring.NothingComesInside totals output_failed write.node write.written) output_failed.writes
   pub at_cut : restoring.CheckpointsAtCutsAreKept
       → (only : restoring.HasOne (restoring.IsCheckpointOf run (until 2)) output_failed.writes) × (only.one.progress ≡ acknowledged)
-  pub logs : restoring.LogsHoldWhatIsSentAgain
-      → restoring.HoldsWhatIsSentAgain totals output_failed two_epochs_kept output_failed.low run_to_out
-  pub kept_logs : restoring.CheckpointLogsHoldWhatIsSentAgain
-      → AllByRecursion (λ (write : Write). restoring.LogHoldsWhatIsSentAgain totals output_failed two_epochs_kept write.node write.written) output_failed.writes
   pub watermarks : restoring.KeptWatermarksLieWithinToday
       → AllByRecursion (λ (write : Write). restoring.IsKeptWithin totals output_failed.low write.written) output_failed.writes
   pub cut_batch : restoring.BatchesOutsideCutsLieOutsideLow
@@ -52,3 +52,29 @@ pub record LoggingRestored : Type 0 where
       → restoring.IsLoggedOnce each_written failed.low big v failed.writes) failed.history
   pub never_collected : restoring.EventsThatMustBeKeptAreNeverCollected
       → AllByRecursion (restoring.MayKeepNothingIfCollected each_written) failed.writes
+
+-- the laws of restoring, of that select after a collection, when it fails with one of its two events collected, and of a
+-- running total of whose events none is collected
+pub record CollectionRestored : Type 0 where
+  pub logged : restoring.EventsInsideCutsAreLogged
+      → AllByRecursion (λ (v : Numbered). place events_logged.flow v.event ≡ big → frontier_of (bounds_of events_logged.flow big) [] (stamp v.event) ≡ true
+      → restoring.IsLoggedOnce events_logged event_collected.low big v event_collected.writes) event_collected.history
+  pub never_collected : restoring.EventsThatMustBeKeptAreNeverCollected
+      → AllByRecursion (restoring.MayKeepNothingIfCollected events_logged) event_collected.writes
+  pub never_of_total : restoring.EventsThatMustBeKeptAreNeverCollected
+      → AllByRecursion (restoring.MayKeepNothingIfCollected total_logged) none_collected.writes
+  pub collected_below : restoring.CollectedIsWhatLiesBelow
+      → AllByRecursion (λ (write : Write). (write.progress ≡ collected) ↔ (lies_below events_logged event_collected.low event_collected.history write.node write.written ≡ true)) event_collected.writes
+
+-- The laws of restoring, of logs from which something is sent again: in the loop, where nothing was collected, by the node
+-- where rounds meet to the node that counts up; and after a collection by a select to the output, from the log of each of its
+-- events and from the log that it keeps with its checkpoint.
+pub record LogsRestored : Type 0 where
+  pub two_again : restoring.messages_to_resend two_batches counting_failed restored 2
+      ≡ message (round 1 0) (pair 3 0) (round 1 0) ∷ message (round 1 0) (pair 2 0) (round 1 0) ∷ []
+  pub logs_of_loop : restoring.LogsHoldWhatIsSentAgain
+      → restoring.HoldsWhatIsSentAgain two_batches counting_failed restored counting_failed.low 2
+  pub logs_of_events : restoring.LogsHoldWhatIsSentAgain
+      → restoring.HoldsWhatIsSentAgain events_logged event_collected both_come_back event_collected.low big_to_out
+  pub kept_logs : restoring.CheckpointLogsHoldWhatIsSentAgain
+      → AllByRecursion (λ (write : Write). restoring.LogHoldsWhatIsSentAgain checkpoints_logged log_kept both_come_back write.node write.written) log_kept.writes

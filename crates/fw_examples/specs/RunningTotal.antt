@@ -1,12 +1,14 @@
 -- The running total of an input, which writes checkpoints when asked, and a run of it with a collection, a failure and a
 -- recovery.
 use Rattle.std.specs.Prelude.{ℕ, true, false, List, [], ◌∷◌, ◌++◌, Some, None, codes}
+use Rattle.fw_bag.specs.declared.rec.Rec.{Rec}
 use Rattle.fw_frontier.specs.Front.{Front}
 use Rattle.fw_flow.specs.declared.choice.Cut.TheVariants.{At}
 use Rattle.fw_flow.specs.declared.event.Event.{Event}
 use Rattle.fw_flow.specs.declared.event.Event.TheVariants.{Inject as Injected, Deliver as Delivered, Notify as Notified}
 use Rattle.fw_flow.specs.declared.event.Message.{Message}
 use Rattle.fw_flow.specs.declared.kind.Kind.TheVariants.{Input, OutputEpoch, Total}
+use Rattle.fw_flow.specs.declared.kind.Policy.{Policy}
 use Rattle.fw_flow.specs.declared.kind.Policy.TheVariants as policy
 use Rattle.fw_flow.specs.declared.step.Step.{Step}
 use Rattle.fw_flow.specs.declared.step.Step.TheVariants.{Inject, Deliver, Notify, Progress, Checkpoint, Persist, Fail, Recover, Collect, Ack}
@@ -39,13 +41,13 @@ src_to_run = 0
 abbrev pub run_to_out : ℕ
 run_to_out = 1
 
--- the dataflow
-abbrev pub total_flow : Dataflow
-total_flow = record {
+-- the dataflow with a policy of the running total
+abbrev pub total_flow_of : Policy → Dataflow
+total_flow_of keeping = record {
   loops = [];
   nodes =
       record { name = codes "src"; kind = Input; policy = policy.None }
-      ∷ record { name = codes "run"; kind = Total; policy = policy.Lazy }
+      ∷ record { name = codes "run"; kind = Total; policy = keeping }
       ∷ record { name = codes "out"; kind = OutputEpoch; policy = policy.None }
       ∷ [];
   edges =
@@ -54,12 +56,21 @@ total_flow = record {
       ∷ [];
 }
 
--- the dataflow with a batch of no rec and four of one rec each
+-- and with these batches of its input
+abbrev pub totals_of : Policy → List (List Rec) → System
+totals_of keeping batches = record { flow = total_flow_of keeping; batches = batches ∷ [] ∷ [] ∷ [] }
+
+-- the dataflow whose running total writes checkpoints when asked
+abbrev pub total_flow : Dataflow
+total_flow = total_flow_of policy.Lazy
+
+-- a batch of no rec and four of one rec each
+abbrev pub five_batches : List (List Rec)
+five_batches = [] ∷ (rec_of 1 10 ∷ []) ∷ (rec_of 1 5 ∷ []) ∷ (rec_of 1 1 ∷ []) ∷ (rec_of 1 2 ∷ []) ∷ []
+
+-- the dataflow with them
 abbrev pub totals : System
-totals = record {
-  flow = total_flow;
-  batches = ([] ∷ (rec_of 1 10 ∷ []) ∷ (rec_of 1 5 ∷ []) ∷ (rec_of 1 1 ∷ []) ∷ (rec_of 1 2 ∷ []) ∷ []) ∷ [] ∷ [] ∷ [];
-}
+totals = totals_of policy.Lazy five_batches
 
 -- what the batches denote
 abbrev pub totals_denoted : Family

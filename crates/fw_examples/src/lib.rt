@@ -6,6 +6,7 @@ mod inclusions;
 mod kinds_send;
 mod laws_applied;
 mod logged_events;
+mod logs_after_collection;
 mod loop_counts_up;
 mod offers_of_totals;
 mod one_collection;
@@ -34,6 +35,9 @@ pub use laws_applied::{
     runs_apply, steps_apply,
 };
 pub use logged_events::{loses_an_epoch, restores_an_epoch};
+pub use logs_after_collection::{
+    collects_a_logged_event, keeps_a_log_with_a_checkpoint, keeps_events_of_a_total,
+};
 pub use offers_of_totals::checkpoints_are_offered;
 pub use one_collection::collects_the_first_epoch;
 pub use one_recovery::{
@@ -43,7 +47,9 @@ pub use one_select_runs::{
     acknowledges_what_is_settled, is_idle_too_early, is_idle_without_batches,
     is_idle_without_steps, one_select_is_well_formed, waits_for_the_rest,
 };
-pub use restoring_applied::{logging_restored, restoring_applies};
+pub use restoring_applied::{
+    collection_restored, logging_restored, logs_restored, restoring_applies,
+};
 pub use sending_applied::{denotation_applies, projections_apply, sending_applies};
 pub use witnesses_of_choices::{choices_unite, cuts_unite, join_is_a_frontier, less_is_consistent};
 pub use witnesses_of_deliveries::{

@@ -1,5 +1,10 @@
-//! What the laws of restoring say of the running total.
-ghost use Rattle.fw_examples.specs.RestoringApplied.{LoggingRestored, RestoringApplies};
+//! What the laws of restoring say of the running total, of the loop, and of a select that logs.
+ghost use Rattle.fw_examples.specs.RestoringApplied.{
+  CollectionRestored,
+  LoggingRestored,
+  LogsRestored,
+  RestoringApplies,
+};
 
 /// The laws of restoring.
 pub fn restoring_applies()
@@ -9,4 +14,14 @@ pub fn restoring_applies()
 /// The laws of restoring of a node that logs each event.
 pub fn logging_restored()
     ensures { LoggingRestored }
+{}
+
+/// The laws of restoring of that node after a collection.
+pub fn collection_restored()
+    ensures { CollectionRestored }
+{}
+
+/// The laws of restoring of logs from which something is sent again.
+pub fn logs_restored()
+    ensures { LogsRestored }
 {}

@@ -2,6 +2,7 @@
 use Rattle.std.proofs.Common.{◌≡◌, ℕ, ◌&&◌, true, not, [], ◌∷◌, refl, sym, ap, ◌∙◌, subst, None, lit<, lit≤, inl, inr, ⊎_elim, arith, leb}
 use Rattle.std.proofs.lemmas.Bool.{false≢true, true≢false, and_parts, and_from, le-leb}
 use Rattle.fw_time.specs.Stamp.{same}
+use Rattle.fw_frontier.proofs.NamesLaws.{frontier-closed}
 use Rattle.fw_frontier.specs.Frontier.{Within}
 use Rattle.fw_frontier.specs.Front.{frontier_of}
 use Rattle.fw_flow.specs.declared.choice.Choice.{Choice}
@@ -22,7 +23,7 @@ use Rattle.fw_examples.specs.OneCollection.{selected_batches, first_epoch_everyw
 use Rattle.fw_examples.specs.OneSelect.{one_select_of, one_select_flow_of, rec_of}
 use Rattle.fw_examples.specs.RunningTotal.{alike}
 use Rattle.fw_examples.specs.LogsAfterCollection.{first_message, second_message, one_came_through, all_but_the_last, both_come_back, events_logged, event_collected, low_but_for_the_last, CollectsALoggedEvent, checkpoints_logged, log_kept, KeepsALogWithACheckpoint}
-use Rattle.fw_examples.proofs.FrontierFacts.{is_frontier_of, within_all, within_until, one_not_same}
+use Rattle.fw_examples.proofs.FrontierFacts.{within_all, within_until, one_not_same}
 use Rattle.fw_examples.proofs.StepFacts.{injects, delivers, acknowledges_first_write, acknowledges_second_write}
 use Rattle.fw_examples.proofs.ChoiceFacts.{nothing_covered, cover_within, covered_in_all, set_within, canonical, by_three, by_two}
 use Rattle.fw_examples.proofs.OneSelectDone.{named, admissible, complete, below_all, progresses, none_failed}
@@ -59,7 +60,7 @@ all_but_last_complete keeping =
 none_in_first : (keeping : Policy) (p : ℕ)
     → Within (frontier_of (bounds_of (one_select_flow_of keeping) 0) (until 0)) (frontier_of (bounds_of (one_select_flow_of keeping) 0) (until 1))
 unfolding bounds_of kind_of
-none_in_first keeping p = within_until _ _ (1 ∷ []) (is_frontier_of _ (until 0)) refl false≢true
+none_in_first keeping p = within_until _ _ (1 ∷ []) (frontier-closed _ (until 0)) refl false≢true
 
 -- ---- a select that logs each event: up to the collection
 
@@ -170,12 +171,12 @@ low_consistent = record {
 all_at_input : (cut : Cut) → offers_of_writes events_logged one_acknowledged 0 cut → IsCutWithin events_logged 0 cut (At [])
 unfolding kind_of policy_of bounds_of
 all_at_input Present o = absurd (true≢false o)
-all_at_input (At f) o = within_all _ _ (is_frontier_of _ f)
+all_at_input (At f) o = within_all _ _ (frontier-closed _ f)
 
 all_at_select : (cut : Cut) → offers_of_writes events_logged one_acknowledged 1 cut → IsCutWithin events_logged 1 cut (At [])
 unfolding kind_of policy_of bounds_of
 all_at_select Present o = absurd (true≢false o)
-all_at_select (At f) o = within_all _ _ (is_frontier_of _ f)
+all_at_select (At f) o = within_all _ _ (frontier-closed _ f)
 
 -- the output acknowledged epoch 0 alone
 first_at_output : (cut : Cut) → offers_of_writes events_logged one_acknowledged 2 cut → IsCutWithin events_logged 2 cut (At (until 1))
@@ -194,8 +195,8 @@ low_above other is =
           (all_at_select (cut_of other 1) (is.offered 1 (lit< tt)))
           at_output;
       notes = by_three _
-          (within_all _ _ (is_frontier_of _ (front_of other.notes 0)))
-          (within_all _ _ (is_frontier_of _ (front_of other.notes 1)))
+          (within_all _ _ (frontier-closed _ (front_of other.notes 0)))
+          (within_all _ _ (frontier-closed _ (front_of other.notes 1)))
           (λ t i. set_within events_logged 2 (cut_of other 2) (until 1) at_output t (is.own 2 (lit< tt) t i));
     }
 
@@ -234,7 +235,7 @@ both_consistent = record {
 back_at_select : (cut : Cut) → offers events_logged event_collected 1 cut → IsCutWithin events_logged 1 cut (At [])
 unfolding kind_of policy_of bounds_of
 back_at_select Present o = absurd (true≢false o)
-back_at_select (At f) o = within_all _ _ (is_frontier_of _ f)
+back_at_select (At f) o = within_all _ _ (frontier-closed _ f)
 
 back_at_output : (cut : Cut) → offers events_logged event_collected 2 cut → IsCutWithin events_logged 2 cut (At (until 1))
 unfolding kind_of policy_of bounds_of
@@ -249,8 +250,8 @@ both_above other is =
     record {
       cuts = by_three _ tt (back_at_select (cut_of other 1) (is.offered 1 (lit< tt))) at_output;
       notes = by_three _
-          (within_all _ _ (is_frontier_of _ (front_of other.notes 0)))
-          (within_all _ _ (is_frontier_of _ (front_of other.notes 1)))
+          (within_all _ _ (frontier-closed _ (front_of other.notes 0)))
+          (within_all _ _ (frontier-closed _ (front_of other.notes 1)))
           (λ t i. set_within events_logged 2 (cut_of other 2) (until 1) at_output t (is.own 2 (lit< tt) t i));
     }
 
@@ -382,9 +383,9 @@ first_consistent = record {
       (canonical _ (1 ∷ []) refl, ((λ t i. i), (λ t i. i)), none_in_first policy.Eager 2);
   canonical = by_three _ (canonical _ (1 ∷ []) refl) (canonical _ (1 ∷ []) refl) (canonical _ (1 ∷ []) refl);
   delivered = by_two _
-      (λ t i. and_from _ _ (and_parts _ _ i).0 (cover_within _ (0 ∷ []) _ (is_frontier_of _ (until 1)) refl t i))
+      (λ t i. and_from _ _ (and_parts _ _ i).0 (cover_within _ (0 ∷ []) _ (frontier-closed _ (until 1)) refl t i))
       (λ t i. and_from _ _ (and_parts _ _ i).0 i);
-  discarded = by_two _ (cover_within _ (0 ∷ []) _ (is_frontier_of _ (until 1)) refl) (λ t i. absurd (false≢true i));
+  discarded = by_two _ (cover_within _ (0 ∷ []) _ (frontier-closed _ (until 1)) refl) (λ t i. absurd (false≢true i));
   notified = by_three _ (λ t i. absurd (nothing_covered _ t i)) (λ t i. absurd (nothing_covered _ t i)) (λ t i. absurd (nothing_covered _ t i));
   own = by_three _ (λ t i. i) (λ t i. i) (λ t i. i);
   notes = by_two _ (λ t i. and_from _ _ (and_parts _ _ i).0 i) (λ t i. and_from _ _ (and_parts _ _ i).0 i);
@@ -395,7 +396,7 @@ first_at_input : (cut : Cut) → offers_of_writes checkpoints_logged first_ackno
 unfolding kind_of policy_of bounds_of batches_of
 first_at_input Present o = absurd (true≢false o)
 first_at_input (At f) o =
-    within_until _ _ (1 ∷ []) (is_frontier_of _ f) refl
+    within_until _ _ (1 ∷ []) (frontier-closed _ f) refl
     (λ i. ⊎_elim
     (λ k. let h : leb k.0 1 ≡ true = le-leb k.0 1 k.1 in
     let j : (not (leb k.0 1 && true) && true) ≡ true = subst (λ g. frontier_of (bounds_of (one_select_flow_of policy.Eager) 0) g (1 ∷ []) ≡ true) k.2 i in
@@ -491,7 +492,7 @@ restored_consistent = record {
 restored_at_select : (cut : Cut) → offers checkpoints_logged log_kept 1 cut → IsCutWithin checkpoints_logged 1 cut (At [])
 unfolding kind_of policy_of bounds_of
 restored_at_select Present o = absurd (true≢false o)
-restored_at_select (At f) o = within_all _ _ (is_frontier_of _ f)
+restored_at_select (At f) o = within_all _ _ (frontier-closed _ f)
 
 restored_at_output : (cut : Cut) → offers checkpoints_logged log_kept 2 cut → IsCutWithin checkpoints_logged 2 cut (At (until 1))
 unfolding kind_of policy_of bounds_of
@@ -506,8 +507,8 @@ restored_above other is =
     record {
       cuts = by_three _ tt (restored_at_select (cut_of other 1) (is.offered 1 (lit< tt))) at_output;
       notes = by_three _
-          (within_all _ _ (is_frontier_of _ (front_of other.notes 0)))
-          (within_all _ _ (is_frontier_of _ (front_of other.notes 1)))
+          (within_all _ _ (frontier-closed _ (front_of other.notes 0)))
+          (within_all _ _ (frontier-closed _ (front_of other.notes 1)))
           (λ t i. set_within checkpoints_logged 2 (cut_of other 2) (until 1) at_output t (is.own 2 (lit< tt) t i));
     }
 

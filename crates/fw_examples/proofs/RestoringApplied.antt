@@ -65,7 +65,6 @@ logging_restored =
       three_events = refl;
       two_writes = refl;
       logged = λ law. law each_written logging_is_well_formed steps outcomes failed_with_both fails_after_both (is_failed failed_with_both) all_restored all_restored_is_largest 1 [] refl refl;
-      never_collected = λ law. law each_written logging_is_well_formed steps outcomes failed_with_both fails_after_both;
     }
 
 -- both batches are bags

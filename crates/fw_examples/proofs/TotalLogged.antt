@@ -2,6 +2,7 @@
 use Rattle.std.proofs.Common.{◌≡◌, ℕ, zero, suc, ◌<◌, ◌&&◌, ◌||◌, Bool, true, false, not, [], ◌∷◌, refl, ap, Some, None, lit<, inl, inr, arith}
 use Rattle.std.proofs.lemmas.Bool.{false≢true, true≢false, and_parts, and_from}
 use Rattle.fw_time.specs.Stamp.{Stamp, same}
+use Rattle.fw_frontier.proofs.NamesLaws.{frontier-closed}
 use Rattle.fw_frontier.specs.Frontier.{Frontier}
 use Rattle.fw_flow.specs.declared.choice.Choice.{Choice}
 use Rattle.fw_flow.specs.declared.choice.Cut.{Cut}
@@ -18,7 +19,7 @@ use Rattle.fw_model.specs.Machine.{Machine, Write, first_state, events, front_of
 use Rattle.fw_model.specs.Steps.{Steps, with_event, did, quiet, lows, acked}
 use Rattle.fw_examples.specs.OneSelect.{rec_of}
 use Rattle.fw_examples.specs.LogsAfterCollection.{first_message, single_rec, low_but_for_the_last, total_logged, total_came_through, none_collected, KeepsEventsOfATotal}
-use Rattle.fw_examples.proofs.FrontierFacts.{is_frontier_of, within_all, within_until}
+use Rattle.fw_examples.proofs.FrontierFacts.{within_all, within_until}
 use Rattle.fw_examples.proofs.StepFacts.{injects, delivers, acknowledges_first_write, acknowledges_second_write}
 use Rattle.fw_examples.proofs.ChoiceFacts.{nothing_covered, nothing_inside, set_within, canonical, by_three, by_two}
 use Rattle.fw_examples.proofs.TotalDone.{named, pending_past, admissible, complete, progresses, notifies, lesser_not_same}
@@ -140,7 +141,7 @@ unfolding kind_of receiver bounds_of policy_of
 settles_all =
     progresses policy.Full single_rec one_put_out [] [] [] all_complete
     tt tt tt none_failed
-    (within_all _ _ (is_frontier_of _ (until 0))) (within_all _ _ (is_frontier_of _ (until 0))) (within_all _ _ (is_frontier_of _ (until 0)))
+    (within_all _ _ (frontier-closed _ (until 0))) (within_all _ _ (frontier-closed _ (until 0))) (within_all _ _ (frontier-closed _ (until 0)))
     (0 ∷ []) refl refl
 
 persists_one : Steps total_logged all_settled Persist one_persisted (did quiet)
@@ -161,14 +162,14 @@ low_consistent = record {
   one_cut_each = refl;
   one_note_each = refl;
   offered = by_three _
-      (tt, inr (refl, refl), within_all _ _ (is_frontier_of _ (until 0))) (
+      (tt, inr (refl, refl), within_all _ _ (frontier-closed _ (until 0))) (
         tt,
         ((λ t i. i), ((λ p i. absurd (omega arith)), ((λ p i. inr (inl (refl, refl))), ((λ p i. inl (refl, refl)), ((λ p i. absurd (omega arith)), tt))))),
-        within_all _ _ (is_frontier_of _ (until 0)),
+        within_all _ _ (frontier-closed _ (until 0)),
       ) (
         canonical _ (1 ∷ []) refl,
-        (within_all _ _ (is_frontier_of _ (until 1)), (λ t i. i)),
-        within_until _ _ (1 ∷ []) (is_frontier_of _ (until 0)) refl false≢true,
+        (within_all _ _ (frontier-closed _ (until 1)), (λ t i. i)),
+        within_until _ _ (1 ∷ []) (frontier-closed _ (until 0)) refl false≢true,
       );
   canonical = by_three _ tt tt (canonical _ (1 ∷ []) refl);
   delivered = by_two _
@@ -185,12 +186,12 @@ low_consistent = record {
 all_at_input : (cut : Cut) → offers_of_writes total_logged one_acknowledged 0 cut → IsCutWithin total_logged 0 cut (At [])
 unfolding kind_of policy_of bounds_of
 all_at_input Present o = absurd (true≢false o)
-all_at_input (At f) o = within_all _ _ (is_frontier_of _ f)
+all_at_input (At f) o = within_all _ _ (frontier-closed _ f)
 
 all_at_total : (cut : Cut) → offers_of_writes total_logged one_acknowledged 1 cut → IsCutWithin total_logged 1 cut (At [])
 unfolding kind_of policy_of bounds_of
 all_at_total Present o = absurd (true≢false o)
-all_at_total (At f) o = within_all _ _ (is_frontier_of _ f)
+all_at_total (At f) o = within_all _ _ (frontier-closed _ f)
 
 -- the output acknowledged epoch 0
 first_at_output : (cut : Cut) → offers_of_writes total_logged one_acknowledged 2 cut → IsCutWithin total_logged 2 cut (At (until 1))
@@ -209,8 +210,8 @@ low_above other is =
           (all_at_total (cut_of other 1) (is.offered 1 (lit< tt)))
           at_output;
       notes = by_three _
-          (within_all _ _ (is_frontier_of _ (front_of other.notes 0)))
-          (within_all _ _ (is_frontier_of _ (front_of other.notes 1)))
+          (within_all _ _ (frontier-closed _ (front_of other.notes 0)))
+          (within_all _ _ (frontier-closed _ (front_of other.notes 1)))
           (λ t i. set_within total_logged 2 (cut_of other 2) (until 1) at_output t (is.own 2 (lit< tt) t i));
     }
 

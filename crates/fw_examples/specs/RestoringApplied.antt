@@ -50,8 +50,6 @@ pub record LoggingRestored : Type 0 where
   pub logged : restoring.EventsInsideCutsAreLogged
       → AllByRecursion (λ (v : Numbered). place each_written.flow v.event ≡ big → frontier_of (bounds_of each_written.flow big) [] (stamp v.event) ≡ true
       → restoring.IsLoggedOnce each_written failed.low big v failed.writes) failed.history
-  pub never_collected : restoring.EventsThatMustBeKeptAreNeverCollected
-      → AllByRecursion (restoring.MayKeepNothingIfCollected each_written) failed.writes
 
 -- the laws of restoring, of that select after a collection, when it fails with one of its two events collected, and of a
 -- running total of whose events none is collected

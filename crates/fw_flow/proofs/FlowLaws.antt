@@ -1,8 +1,8 @@
 -- The names and the edges that a flow keeps for looking them up.
-use Rattle.std.proofs.Common.{◌≡◌, inl, inr, unwrap_or, ◌≤◌, ◌<◌, ℕ, zero, suc, nat_eq, List, [], ◌∷◌, ◌++◌, length, Option, Some, None, refl, sym, ◌∙◌, ap, slice_index_or, cond, position, nat_lt, ◌||◌, ◌+◌, not, arith}
+use Rattle.std.proofs.Common.{◌≡◌, inl, inr, unwrap_or, ◌≤◌, ◌<◌, ℕ, false, zero, suc, nat_eq, List, [], ◌∷◌, ◌++◌, length, Option, Some, None, refl, sym, ◌∙◌, ap, slice_index_or, cond, position, nat_lt, ◌||◌, ◌+◌, not, arith}
 use Rattle.std.proofs.lemmas.Bool.{cases_lt, lt-ltb, le-ltb, cond-true, cond-false}
 use Rattle.std.proofs.lemmas.List.Sums.{prefix_len-le-length}
-use Rattle.std.specs.List.{list_any, position_or_len}
+use Rattle.std.specs.List.{list_any, position_or_len, AllByRecursion, IsDistinct}
 use Rattle.std.specs.Cmp.Lexicographic.{pointwise}
 use Rattle.std.specs.Str.{bytes_eq}
 use Rattle.std.specs.declared.alloc.Global.{Global}
@@ -57,3 +57,14 @@ place_or_end_of name names n e =
 
 pub place_within : (name : List ℕ) (names : List (List ℕ)) → position_or_len (bytes_eq name) names ≤ length names
 place_within name names = prefix_len-le-length (λ x. not (bytes_eq name x)) names
+
+apart_bytes : (name : List ℕ) (keys : List (Vec ℕ Global)) → AllByRecursion (λ (k : Vec ℕ Global). pointwise nat_eq name k.items ≡ false) keys
+    → AllByRecursion (λ other. bytes_eq name other ≡ false) (bytes_of keys)
+apart_bytes name [] a = tt
+apart_bytes name (k ∷ ks) a = (a.0, apart_bytes name ks a.1)
+
+-- the names of distinct keys are distinct
+pub distinct_bytes : (keys : List (Vec ℕ Global)) → IsDistinct (λ (a b : Vec ℕ Global). pointwise nat_eq a.items b.items) keys → IsDistinct bytes_eq (bytes_of keys)
+unfolding IsDistinct
+distinct_bytes [] d = tt
+distinct_bytes (k ∷ ks) d = (apart_bytes k.items ks d.0, distinct_bytes ks d.1)

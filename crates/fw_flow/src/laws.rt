@@ -1,13 +1,16 @@
 //! Facts about the definitions of dataflows, each proved as a function that does nothing.
-ghost use Rattle.std.specs.Prelude.{◌≡◌, ◌⊎◌, List};
+ghost use Rattle.std.specs.Prelude.{◌≡◌, ◌⊎◌, List, map};
+ghost use Rattle.std.specs.List.{IsDistinct};
+ghost use Rattle.std.specs.Str.{bytes_eq};
 ghost use Rattle.fw_lines.specs.declared.refusal.Refusal.{Refusal};
 ghost use Rattle.fw_flow.specs.declared.raw.Declared.{Declared};
 ghost use Rattle.fw_flow.specs.Check.{IsChecked, IsFirstBroken};
 ghost use Rattle.fw_flow.specs.Dataflow.{Dataflow};
+ghost use Rattle.fw_flow.specs.Raw.{loop_names, node_names, edge_names};
 ghost use Rattle.fw_flow.specs.Walks.{RanksExist};
 ghost use Rattle.fw_flow.specs.WellFormed.{IsWellFormed};
 
-use crate::Flow;
+use crate::{Flow, RawFlow};
 
 /// The nodes of each well-formed dataflow have ranks.
 pub fn ranks_exist()
@@ -20,6 +23,26 @@ pub fn flow_is_well_formed(flow: &Flow)
 {
     // Where a field is read, what holds of each flow is known.
     let _ = &flow.nodes;
+}
+
+/// No two nodes of a flow have one name, and no two edges.
+pub fn names_are_distinct(flow: &Flow)
+    ensures nodes { IsDistinct bytes_eq (map (λ node. node.name) flow.now.nodes) }
+    ensures edges { IsDistinct bytes_eq (map (λ edge. edge.name) flow.now.edges) }
+{
+    flow.node_names.are_distinct();
+    flow.edge_names.are_distinct();
+}
+
+/// No two loops that are declared have one name, no two nodes, and no two edges.
+pub fn declared_names_are_distinct(raw: &RawFlow)
+    ensures loops { IsDistinct bytes_eq (loop_names raw.now) }
+    ensures nodes { IsDistinct bytes_eq (node_names raw.now) }
+    ensures edges { IsDistinct bytes_eq (edge_names raw.now) }
+{
+    raw.names.loops.are_distinct();
+    raw.names.nodes.are_distinct();
+    raw.names.edges.are_distinct();
 }
 
 /// Declarations are those of a well-formed dataflow or break a rule, and not both; the former have one dataflow, and the

@@ -1,5 +1,7 @@
 //! Names of loops, nodes and edges.
 ghost use Rattle.std.specs.Prelude.{◌≡◌, ◌≤◌, true, [], ◌∷◌, ◌++◌, length, not, Some, None, if◌then◌else◌, IfOk, OnOk, OnErr};
+ghost use Rattle.std.specs.List.{IsDistinct};
+ghost use Rattle.std.specs.Str.{bytes_eq};
 ghost use Rattle.fw_lines.specs.Spelling as spelling;
 ghost use Rattle.fw_flow.specs.Names.{place_of, has_name};
 ghost use Rattle.fw_flow.specs.Raw.{place_or_end};
@@ -107,5 +109,14 @@ impl Names {
         ensures within { result ≤ length self.now }
     {
         self.place_of(name).unwrap_or(self.names.len())
+    }
+
+    /// No two of them are the same.
+    #[tactic(auto, using(crate::proofs::FlowLaws::distinct_bytes))]
+    pub(crate) fn are_distinct(&self)
+        ensures { IsDistinct bytes_eq self.now }
+    {
+        // Where the set's length is told, it is told that its keys are distinct.
+        let _ = self.names.len();
     }
 }

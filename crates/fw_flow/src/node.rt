@@ -4,7 +4,7 @@ use crate::{Kind, Name, NodeId, Policy};
 /// A loop, with its greatest counter.
 #[derive(Debug, Drop)]
 pub struct Loop {
-    /// Its name, which no other loop has.
+    /// Its name. No other loop that a `RawFlow` declares has it, by `laws::declared_names_are_distinct`.
     pub name: Name,
     /// The greatest counter of a stamp of the loop, from 1 to 1024 in a well-formed flow.
     pub max: u32,
@@ -13,7 +13,7 @@ pub struct Loop {
 /// A node.
 #[derive(Debug, Drop)]
 pub struct Node {
-    /// Its name, which no other node has.
+    /// Its name. No other node of a `Flow` has it, by `laws::names_are_distinct`.
     pub name: Name,
     /// What it does.
     pub kind: Kind,
@@ -24,7 +24,7 @@ pub struct Node {
 /// An edge from a sender to a receiver.
 #[derive(Debug, Drop)]
 pub struct Edge {
-    /// Its name, which no other edge has.
+    /// Its name. No other edge of a `Flow` has it, by `laws::names_are_distinct`.
     pub name: Name,
     /// The node that sends on it.
     pub sender: NodeId,

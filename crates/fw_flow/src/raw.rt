@@ -123,7 +123,7 @@ impl NameSpaces {
 }
 
 /// The declarations of a flow, in order, of which no two have one name in a name space: loops, nodes and edges are
-/// three. Contracts see their list.
+/// three. `laws::declared_names_are_distinct` tells so. Contracts see their list.
 #[derive(Debug, Drop)]
 pub struct RawFlow {
     pub(crate) names: NameSpaces,

@@ -1,16 +1,16 @@
 -- The inputs of a flow by their names, found one after another.
-use Rattle.std.proofs.Common.{◌≡◌, ℕ, zero, suc, ◌+◌, ◌<◌, ◌≤◌, Bool, true, false, cond, List, [], ◌∷◌, ◌++◌, length, Some, None, refl, sym, ◌∙◌, ap, arith}
-use Rattle.std.proofs.lemmas.Option.{same_Some}
+use Rattle.std.proofs.Common.{◌≡◌, ℕ, zero, suc, ◌+◌, ◌<◌, ◌≤◌, Bool, true, false, cond, List, [], ◌∷◌, ◌++◌, map, length, get_or, Some, None, refl, sym, ◌∙◌, ap, arith}
+use Rattle.std.proofs.lemmas.List.{get_or-map, length-map}
+use Rattle.std.proofs.lemmas.Map.Keys.{apart_from_distinct}
 use Rattle.std.proofs.lemmas.Slice.Eq.{bytes_eq-Decides}
-use Rattle.std.specs.List.{flat_map, range_with_len}
+use Rattle.std.specs.List.{IsDistinct, flat_map, range_with_len}
 use Rattle.std.specs.Map.{lookup}
 use Rattle.std.specs.Prelude.{is_some, IsNone}
 use Rattle.std.specs.Str.{bytes_eq}
-use Rattle.fw_flow.specs.Dataflow.{Dataflow, node_at, kind_of, is_input_kind}
+use Rattle.fw_flow.specs.declared.node.Node.{Node}
+use Rattle.fw_flow.specs.Dataflow.{Dataflow, node_at, kind_of, idle_node, is_input_kind}
 use Rattle.fw_lines.specs.Sources.{node_of}
-use Rattle.fw_schedule.specs.Grammar.{node_named}
 use Rattle.fw_run.proofs.Ranges.{joined_more}
-use Rattle.fw_run.specs.Reading.{AreNamesDistinct}
 use Rattle.fw_run.specs.Texts.{source_at}
 
 same_name : (a b : List ℕ) → bytes_eq a b ≡ true → a ≡ b
@@ -20,7 +20,19 @@ passed_over : (test : List ℕ → Bool) (name : List ℕ) (place : ℕ) (rest :
 passed_over test name place rest true e = ap (λ c. cond c (Some place) (lookup test rest)) e
 passed_over test name place rest false e = refl
 
-none_among : (flow : Dataflow) (p : ℕ) → AreNamesDistinct flow → p < length flow.nodes → (a n : ℕ) → a + n ≤ p → node_of (flat_map (source_at flow) (range_with_len a n)) (node_at flow p).name ≡ None
+-- the names of two nodes are not the same
+names_differ : (flow : Dataflow) (a p : ℕ) → IsDistinct bytes_eq (map (λ (n : Node). n.name) flow.nodes) → a < p → p < length flow.nodes → bytes_eq (node_at flow a).name (node_at flow p).name ≡ false
+unfolding node_at
+names_differ flow a p distinct before below =
+    let name = λ (n : Node). n.name in
+    let names = map name flow.nodes in
+    let all : length names ≡ length flow.nodes = length-map flow.nodes name in
+    let first : get_or names a [] ≡ (get_or flow.nodes a idle_node).name = get_or-map name flow.nodes a idle_node [] (omega (arith, before, below)) in
+    let second : get_or names p [] ≡ (get_or flow.nodes p idle_node).name = get_or-map name flow.nodes p idle_node [] below in
+    sym (ap (λ x. bytes_eq x (get_or names p [])) first ∙ ap (bytes_eq (get_or flow.nodes a idle_node).name) second)
+    ∙ apart_from_distinct bytes_eq names a p [] distinct before (omega (arith, all, below))
+
+none_among : (flow : Dataflow) (p : ℕ) → IsDistinct bytes_eq (map (λ (n : Node). n.name) flow.nodes) → p < length flow.nodes → (a n : ℕ) → a + n ≤ p → node_of (flat_map (source_at flow) (range_with_len a n)) (node_at flow p).name ≡ None
 none_among flow p distinct below a zero h = refl
 none_among flow p distinct below a (suc n) h =
     passed_over (bytes_eq (node_at flow p).name) (node_at flow a).name a (flat_map (source_at flow) (range_with_len (a + 1) n)) (is_input_kind (kind_of flow a)) (by (bytes_eq (node_at flow p).name (node_at flow a).name) refl)
@@ -29,13 +41,11 @@ none_among flow p distinct below a (suc n) h =
     by : (b : Bool) → bytes_eq (node_at flow p).name (node_at flow a).name ≡ b → b ≡ false
     by false e = refl
     by true e =
-        let own = distinct p below in
-        let other = distinct a (omega (arith, h, below)) in
-        let same : p ≡ a = same_Some p a (sym own ∙ ap (node_named flow) (same_name (node_at flow p).name (node_at flow a).name e) ∙ other) in
-        absurd (omega (arith, same, h))
+        let same = same_name (node_at flow p).name (node_at flow a).name e in
+        sym ((bytes_eq-Decides (node_at flow a).name (node_at flow p).name).1 (sym same)) ∙ names_differ flow a p distinct (omega (arith, h)) below
 
 -- the next node's name is not among those of the earlier inputs
-pub name_is_new : (flow : Dataflow) (p : ℕ) → AreNamesDistinct flow → p < length flow.nodes → IsNone (node_of (flat_map (source_at flow) (range_with_len 0 p)) (node_at flow p).name)
+pub name_is_new : (flow : Dataflow) (p : ℕ) → IsDistinct bytes_eq (map (λ (n : Node). n.name) flow.nodes) → p < length flow.nodes → IsNone (node_of (flat_map (source_at flow) (range_with_len 0 p)) (node_at flow p).name)
 name_is_new flow p distinct below = ap is_some (none_among flow p distinct below 0 p (omega arith))
 
 -- the inputs among one node more

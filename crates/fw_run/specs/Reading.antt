@@ -1,5 +1,5 @@
 -- What is read before a run begins.
-use Rattle.std.specs.Prelude.{◌≡◌, ℕ, ◌<◌, List, length, Option, Some, true}
+use Rattle.std.specs.Prelude.{◌≡◌, ℕ, ◌<◌, List, length, Option, true}
 use Rattle.std.specs.List.{AllByRecursion}
 use Rattle.fw_lines.specs.declared.fault.ReadFault.{ReadFault}
 use Rattle.fw_lines.specs.declared.fault.ReadFault.TheVariants as lines
@@ -7,9 +7,8 @@ use Rattle.fw_lines.specs.declared.refusal.Code.{Code}
 use Rattle.fw_lines.specs.declared.refusal.Refusal.{Refusal}
 use Rattle.fw_lines.specs.Faults.{IsOfWhole}
 use Rattle.fw_flow.specs.declared.step.Step.{Step}
-use Rattle.fw_flow.specs.Dataflow.{Dataflow, System, node_at}
+use Rattle.fw_flow.specs.Dataflow.{System}
 use Rattle.fw_flow.specs.WellFormed.{IsWellFormedSystem}
-use Rattle.fw_schedule.specs.Grammar.{node_named}
 use Rattle.fw_model.specs.Plain.{system_of}
 use Rattle.fw_model.specs.LawsOfFiltering.{NotifiesNobody}
 use Rattle.fw_plain.specs.Engine.{KeepsNothing, is_plain_step}
@@ -33,10 +32,6 @@ job_fault lines.NoMemory = NoMemory
 -- the text under the name has more bytes than the limit, and is refused so as a whole
 abbrev pub IsTooLarge : Option (List ℕ → Option (List ℕ)) → List ℕ → ℕ → Code → Refusal → Type 0
 IsTooLarge told name limit code refusal = HasText told name (λ text. (limit < length text) × IsOfWhole code refusal)
-
--- each node is the one that is found by its name
-abbrev pub AreNamesDistinct : Dataflow → Type 0
-AreNamesDistinct flow = (p : ℕ) → p < length flow.nodes → node_named flow (node_at flow p).name ≡ Some p
 
 -- what the texts under the names spell, and they are accepted
 pub record IsJob (told : Option (List ℕ → Option (List ℕ))) (names : TextNames) (job : Job) : Type 0 where

@@ -6,12 +6,13 @@ ghost use Rattle.fw_lines.specs.Sources.{node_of};
 ghost use Rattle.fw_flow.specs.Dataflow.{node_at};
 ghost use Rattle.fw_flow_text.specs.Grammar as flows;
 ghost use Rattle.fw_schedule.specs.Grammar as schedules;
-ghost use Rattle.fw_run.specs.Reading.{IfRefused, IsTooLarge, IsJob, AreNamesDistinct};
+ghost use Rattle.fw_run.specs.Reading.{IfRefused, IsTooLarge, IsJob};
 ghost use Rattle.fw_run.specs.Texts as spec;
 ghost use Rattle.fw_run.specs.Words.{text_names_in};
 ghost use Rattle.fw_run.specs.Texts.{HasText, IsFlowRefused, AreInputsRefused, IsScheduleRefused, IsFirstRefusal, AreFetchedInTurn};
 
 use crate::words::RunWords;
+use fw_flow::laws::names_are_distinct;
 use fw_flow::{Flow, NodeId};
 use fw_flow_text::{FLOW_LIMIT, read_flow};
 use fw_lines::{Batches, Code, INPUTS_LIMIT, ReadFault, Refusal, SourceNames, read_batches};
@@ -104,7 +105,6 @@ fn fetch_inputs<F: Folder>(
     name: &str,
     flow: &Flow,
 ) -> Result<Batches, JobFault>
-    requires { AreNamesDistinct flow.now }
     ensures batches { IfOk result (λ batches. HasText (F.texts folder.old) name.now
         (λ text. inputs.IsAccepted text (spec.sources_of flow.now) batches)) }
     ensures refused { IfErr result (IfRefused (AreInputsRefused (F.texts folder.old) name.now flow.now)) }
@@ -167,9 +167,10 @@ fn fetch<F: Folder>(
 
 // The inputs of a flow by their names.
 fn sources_of(alloc: Global, flow: &Flow) -> Result<SourceNames, AllocError>
-    requires { AreNamesDistinct flow.now }
     ensures { IfOk result (λ sources. sources ≡ spec.sources_of flow.now) }
 {
+    // Each name is new among those before it.
+    names_are_distinct(flow);
     let mut sources = SourceNames::new(alloc);
     for place in 0..flow.nodes() as u32 {
         sources = with_source(sources, flow, place)?;

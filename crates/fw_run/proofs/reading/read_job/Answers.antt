@@ -1,14 +1,10 @@
 use Rattle.std.proofs.Common.{arith}
 use Rattle.std.proofs.lemmas.Result.{err_from_is_err_and}
-use Rattle.fw_run.proofs.NameLaws.{names-distinct}
 use Rattle.fw_run.proofs.Roses.{rose_last, same_fault}
 use Rattle.fw_run.proofs.TextLaws.{job_read_in_turn, fetched_second, fetched_third}
 use Rattle.fw_run.specs.declared.reading.JobFault.TheVariants.{Failed}
 use Rattle.fw_run.specs.Words.{text_names_in}
 use Rattle.fw_run.proofs.reading.read_job.Goals as goal
-
-pub fetch_inputs-requires : goal.fetch_inputs-requires
-fetch_inputs-requires g c = names-distinct c.in_ok-flow.ensures.flow.text c.in_ok-flow.flow c.in_ok-flow.ensures.flow.so
 
 pub returns-in_err-batches-clause-failed : goal.returns-in_err-batches-clause-failed
 returns-in_err-batches-clause-failed g c =

@@ -10,7 +10,7 @@ pub with_source-requires-clause-new : goal.with_source-requires-clause-new
 with_source-requires-clause-new c =
     let flow = c.args.flow.now in
     let place = c.loop-place.place in
-    subst (λ t. IsNone (node_of t (node_at flow place).name)) (sym c.loop-place.invariant) (name_is_new flow place c.requires (omega (arith, c.loop-place-test.true, c.nodes-place-end.ensures.count)))
+    subst (λ t. IsNone (node_of t (node_at flow place).name)) (sym c.loop-place.invariant) (name_is_new flow place c.names_are_distinct.ensures.nodes (omega (arith, c.loop-place-test.true, c.nodes-place-end.ensures.count)))
 
 pub loop-place-preserved : goal.loop-place-preserved
 loop-place-preserved c =

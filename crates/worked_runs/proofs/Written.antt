@@ -1,6 +1,6 @@
 -- What is written of the nodes, one after the other, is what they offer.
-use Rattle.std.proofs.Common.{◌≡◌, ℕ, zero, suc, ◌+◌, ◌<◌, ◌≤◌, List, [], ◌∷◌, ◌++◌, length, map, get_or, None, sym, subst, cases_lt, arith}
-use Rattle.std.proofs.lemmas.List.{get_or_past, length-map}
+use Rattle.std.proofs.Common.{◌≡◌, ℕ, zero, suc, ◌+◌, ◌<◌, ◌≤◌, true, List, [], ◌∷◌, ◌++◌, length, map, get_or, None, inl, inr, sym, subst, arith}
+use Rattle.std.proofs.lemmas.Bool.{cases_lt}
 use Rattle.std.specs.List.{AllByRecursion}
 use Rattle.fw_time.specs.Stamp.{in_domain}
 use Rattle.fw_flow.specs.declared.choice.Counted.{Counted}
@@ -9,6 +9,7 @@ use Rattle.fw_flow.specs.declared.kind.Kind.TheVariants.{Sequence}
 use Rattle.fw_flow.specs.Dataflow.{Dataflow, kind_of, policy_of, bounds_of}
 use Rattle.fw_model.specs.Choice.{restoring}
 use Rattle.fw_monitor.specs.Offers.{listed, range, IsRecordOf, IsRangeOf, IsListedBy, AreOnEdges, AreFromEpochs, AreOffersOf}
+use Rattle.fw_monitor.proofs.LookUpLaws.{offer_past}
 use Rattle.worked_runs.specs.Written.{IsOfferOf, AreOffersFrom}
 
 each-last : {A : Type 0} (P : A → Type 0) (xs : List A) (x : A) → AllByRecursion P xs → P x → AllByRecursion P (xs ++ x ∷ [])
@@ -55,7 +56,7 @@ offers_are flow os n a = record {
       looked-up flow (λ o. o.stamps.notified.items) [] (λ q ts. AllByRecursion (λ t. in_domain (bounds_of flow q) t ≡ true) ts) (λ q o i. i.notified) os p a n l;
   sent = λ p l. looked-up flow (λ o. o.stamps.sent.items) [] (λ q ms. AreOnEdges flow ms) (λ q o i. i.sent.edges) os p a n l;
   epochs = λ p k. elim (cases_lt p (length flow.nodes)) [
-    | l ↦ looked-up flow (λ o. o.stamps.sent.items) [] (λ q ms. kind_of flow q ≡ Sequence → AreFromEpochs ms) (λ q o i. i.sent.epochs) os p a n l k
-    | l ↦ subst (λ (ms : List Counted). AreFromEpochs ms) (sym (get_or_past (map (λ o. o.stamps.sent.items) os) p [] (omega (arith, length-map (λ (o : Offer). o.stamps.sent.items) os)))) tt
+    | inl l ↦ looked-up flow (λ o. o.stamps.sent.items) [] (λ q ms. kind_of flow q ≡ Sequence → AreFromEpochs ms) (λ q o i. i.sent.epochs) os p a n l k
+    | inr l ↦ subst (λ (ms : List Counted). AreFromEpochs ms) (sym (offer_past (λ o. o.stamps.sent.items) os p [] (omega arith))) tt
   ];
 }

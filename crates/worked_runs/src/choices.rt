@@ -170,12 +170,13 @@ fn messages(alloc: Global, flow: &Flow, text: &str) -> Result<Vec<Counted>, Allo
     Ok(messages)
 }
 
-// The stamps of a text; none, if one is past the domain.
-fn stamps_within(alloc: Global, bounds: &Bounds, text: &str) -> Result<Vec<Stamp>, AllocError>
-    ensures { IfOk result (λ stamps. AllByRecursion (λ t. in_domain bounds.now t ≡ true) stamps.items) }
+// Of what a node was notified; nothing, if one of the stamps is past its domain.
+fn notified(alloc: Global, flow: &Flow, node: NodeId, text: &str) -> Result<Vec<Stamp>, AllocError>
+    ensures { IfOk result
+        (λ stamps. AllByRecursion (λ t. in_domain (bounds_of flow.now node) t ≡ true) stamps.items) }
 {
     let stamps = stamps_of(alloc, text)?;
-    if Front::checked_until(alloc, &stamps, bounds)?.is_none() {
+    if Front::checked_until(alloc, &stamps, &flow.domain(node))?.is_none() {
         return Ok(Vec::new(alloc));
     }
     Ok(stamps)
@@ -204,14 +205,18 @@ fn offer(alloc: Global, flow: &Flow, node: NodeId, line: &str) -> Result<Offer, 
     let (state, rest) = part(line);
     let (fronts, rest) = part(rest);
     let (delivered, rest) = part(rest);
-    let (notified, sent_words) = part(rest);
+    let (noted, sent_words) = part(rest);
+    let offered = offered(alloc, flow, node, fronts)?;
+    let delivered = messages(alloc, flow, delivered)?;
+    let notified = notified(alloc, flow, node, noted)?;
+    let sent = sent(alloc, flow, node, sent_words)?;
     Ok(Offer {
         present: !state.contains("failed"),
-        offered: offered(alloc, flow, node, fronts)?,
+        offered,
         stamps: Stamps {
-            delivered: messages(alloc, flow, delivered)?,
-            notified: stamps_within(alloc, &flow.domain(node), notified)?,
-            sent: sent(alloc, flow, node, sent_words)?,
+            delivered,
+            notified,
+            sent,
         },
     })
 }

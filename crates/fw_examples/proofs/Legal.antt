@@ -1,5 +1,5 @@
 -- The loop that counts up with both batches under way: which events are legal, and what they leave pending.
-use Rattle.std.proofs.Common.{◌≡◌, ℕ, zero, suc, [], ◌∷◌, get_or, refl, lit<}
+use Rattle.std.proofs.Common.{◌≡◌, ℕ, zero, suc, [], get_or, refl, lit<}
 use Rattle.fw_flow.specs.Dataflow.{kind_of, sender, receiver, bounds_of, batches_of, max_of}
 use Rattle.fw_flow.specs.NodeFunction.{sends}
 use Rattle.fw_model.specs.History.{IsLegal, pending, delivered}

@@ -3,7 +3,7 @@ use Rattle.std.proofs.Common.{◌≡◌, sym, subst, ℕ, List, [], ◌∷◌, �
 use Rattle.std.specs.List.{AllByRecursion}
 use Rattle.fw_frontier.specs.Front.{Front, frontier_of}
 use Rattle.fw_frontier.specs.Frontier.{Within}
-use Rattle.fw_flow.specs.Dataflow.{System, bounds_of}
+use Rattle.fw_flow.specs.Dataflow.{bounds_of}
 use Rattle.fw_model.specs.Machine.{Write, Written, checkpoint}
 use Rattle.fw_model.specs.LawsOfRestoring.{CheckpointsAscend}
 use Rattle.fw_model.proofs.CheckpointLaws.{HoldsSettled}
@@ -25,8 +25,8 @@ checkpoints-ascend sys w steps outcomes last r earlier later write e there f low
     record {
       within_settled = settled there;
       within_later = each-weaker (λ (y : Write). LiesBelow sys write.node write.written y.node y.written)
-      (λ (y : Write). (g : Front) (l : List Front) → y.node ≡ write.node → y.written ≡ checkpoint g l
-      → Within (frontier_of (bounds_of sys.flow write.node) f) (frontier_of (bounds_of sys.flow write.node) g)) later
-      (λ y b g l n v. subst (λ (o : Written). LiesBelow sys write.node (checkpoint f low) y.node o) v
-      (subst (λ (o : Written). LiesBelow sys write.node o y.node y.written) k b) (sym n) there) below;
+          (λ (y : Write). (g : Front) (l : List Front) → y.node ≡ write.node → y.written ≡ checkpoint g l
+          → Within (frontier_of (bounds_of sys.flow write.node) f) (frontier_of (bounds_of sys.flow write.node) g)) later
+          (λ y b g l n v. subst (λ (o : Written). LiesBelow sys write.node (checkpoint f low) y.node o) v
+          (subst (λ (o : Written). LiesBelow sys write.node o y.node y.written) k b) (sym n) there) below;
     }

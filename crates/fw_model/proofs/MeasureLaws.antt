@@ -1,5 +1,5 @@
 -- The measure of a stamp at a node: by the rank of loops, then the counter, then the rank within rounds.
-use Rattle.std.proofs.Common.{◌≡◌, ◌⊎◌, ℕ, ◌+◌, ◌*◌, ◌<◌, ◌≤◌, min, Bool, true, false, [], ◌∷◌, length, Some, refl, sym, ap, ◌∙◌, inl, inr, arith}
+use Rattle.std.proofs.Common.{◌≡◌, ◌⊎◌, ℕ, ◌+◌, ◌*◌, ◌<◌, ◌≤◌, min, Bool, true, false, length, Some, refl, sym, ap, ◌∙◌, inl, inr, arith}
 use Rattle.std.proofs.Math.Nat.{mul-le-mul_left, min-le_right}
 use Rattle.fw_time.specs.Stamp.{Stamp, leq, nest, outer, counter}
 use Rattle.fw_time.proofs.StampLaws.{counter-nest}

@@ -1,5 +1,5 @@
 -- Three texts that are there are accepted, or one of them is the first that is refused.
-use Rattle.std.proofs.Common.{◌≡◌, List, Option, subst, ◌⊎◌, inl, inr}
+use Rattle.std.proofs.Common.{List, Option, subst, ◌⊎◌, inl, inr}
 use Rattle.std.specs.Prelude.{ℕ}
 use Rattle.fw_lines.specs.declared.refusal.Refusal.{Refusal}
 use Rattle.fw_lines.proofs.ReadLaws.{some_answer as some_inputs}

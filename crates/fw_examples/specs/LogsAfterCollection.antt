@@ -137,8 +137,8 @@ outcomes_with_checkpoints =
 abbrev pub log_at : List Front → List Message
 log_at low = logged_messages checkpoints_logged log_kept low big_to_out (kept_of checkpoints_logged both_come_back big)
 
--- The log that is kept with the checkpoint of all has what was sent of epoch 1, and no longer what was sent of epoch 0. That
--- is sent again when both come back.
+-- The log that is kept with the checkpoint of all has what was sent of epoch 1, and no longer what was sent of epoch 0. What was
+-- sent of epoch 1 is sent again when both come back.
 pub record KeepsALogWithACheckpoint : Type 0 where
   pub reached : Run checkpoints_logged (first_state checkpoints_logged) steps_with_checkpoints outcomes_with_checkpoints log_kept
   pub largest : IsLargest checkpoints_logged log_kept (offers checkpoints_logged log_kept) both_come_back

@@ -1,4 +1,5 @@
--- What the laws of restoring say of the running total: of the state of the failure and of the recovery from it.
+-- What the laws of restoring say of the running total, in the state of the failure and at the recovery from it, of the loop,
+-- and of nodes that log.
 use Rattle.std.specs.Prelude.{◌≡◌, ◌↔◌, true, false, ◌∷◌, [], map, length, drop}
 use Rattle.std.specs.List.{AllByRecursion}
 use Rattle.fw_frontier.specs.Front.{frontier_of}

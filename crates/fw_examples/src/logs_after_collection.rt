@@ -5,17 +5,18 @@ ghost use Rattle.fw_examples.specs.LogsAfterCollection.{
   KeepsEventsOfATotal,
 };
 
-/// An event is collected once what it sent is no longer needed, and not before.
+/// In a run, an event is collected once what it sent is no longer needed, and another is kept, since what it sent is
+/// sent again.
 pub fn collects_a_logged_event()
     ensures { CollectsALoggedEvent }
 {}
 
-/// A log has what may be sent again, and nothing that lay below the watermark when it was written.
+/// In a run, the log of a checkpoint has what is sent again, and nothing that lay below the watermark when it was asked.
 pub fn keeps_a_log_with_a_checkpoint()
     ensures { KeepsALogWithACheckpoint }
 {}
 
-/// No event of a running total is collected, since later epochs are summed from all of them.
+/// In a run, a collection takes no event of a running total, since later epochs are summed from all of them.
 pub fn keeps_events_of_a_total()
     ensures { KeepsEventsOfATotal }
 {}

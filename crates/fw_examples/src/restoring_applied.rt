@@ -16,7 +16,7 @@ pub fn logging_restored()
     ensures { LoggingRestored }
 {}
 
-/// The laws of restoring of that node after a collection.
+/// The laws of restoring of that node after a collection, and of a running total that logs each event.
 pub fn collection_restored()
     ensures { CollectionRestored }
 {}

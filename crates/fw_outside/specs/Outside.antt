@@ -1,7 +1,7 @@
 -- What the calls of a folder, a store and a sink promise.
 use Rattle.std.specs.Prelude.{◌≡◌, ◌⊎◌, ℕ, ◌+◌, ◌-◌, ◌^◌, ◌<◌, ◌≤◌, min, Option, List, ◌++◌, length, take, IfSome, IsSomeAnd, option_map}
 
--- a count of faults or of refusals rose, or stands at the end of its type, where it stays
+-- a count of faults or of refusals rose, or stood at the end of its type before
 abbrev pub Rose : ℕ → ℕ → Type 0
 Rose before after = (before < after) ⊎ (before ≡ 2 ^ 64 - 1)
 

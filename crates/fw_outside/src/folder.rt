@@ -9,7 +9,7 @@ pub trait Folder {
     /// The bytes under each name, none for a name that is not there; or nothing, where the folder does not tell.
     ghost texts: { Self → Option (List ℕ → Option (List ℕ)) };
 
-    /// How often a text was asked for; a count of 2^64 - 1 stands for more.
+    /// How often a text was asked for; a count of 2^64 - 1 stands for that many or more.
     ghost fetch_count: { Self → ℕ };
 
     /// How often the folder failed.
@@ -36,7 +36,7 @@ pub trait Folder {
         ensures counted { fetch_count self.new ≡ one_more (fetch_count self.old) }
         ensures texts_stay { texts self.new ≡ texts self.old };
 
-    /// How often the folder failed; a count of 2^64 - 1 stands for more.
+    /// How often the folder failed; a count of 2^64 - 1 stands for that many or more.
     fn faults(&self) -> u64
         ensures { result ≡ fault_count self.now };
 }

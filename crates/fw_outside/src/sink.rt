@@ -9,7 +9,7 @@ pub trait Sink {
     /// All bytes that it has taken; or nothing, where the sink does not tell.
     ghost taken: { Self → Option (List ℕ) };
 
-    /// How often the sink refused a write, by a fault or for want of memory; a count of 2^64 - 1 stands for more.
+    /// How often the sink refused a write, by a fault or for want of memory; a count of 2^64 - 1 stands for that many or more.
     ghost refusal_count: { Self → ℕ };
 
     /// How often the sink failed.
@@ -19,8 +19,9 @@ pub trait Sink {
     ///
     /// # Errors
     ///
-    /// `Failed` where the sink fails, `NoMemory` where memory is refused, which may come at any time. Then some first bytes
-    /// of the piece may have been taken, and the count of refusals rises. A later call may succeed.
+    /// `Failed` where the sink fails, `NoMemory` where memory is refused, which may come at any time. Then some first
+    /// bytes of the piece may have been taken, and the count of refusals rises, or stands at 2^64 - 1. A later call may
+    /// succeed.
     fn write(&mut self, piece: &[u8]) -> Result<(), OutFault>
         ensures whole { OnOk result (Takes (taken self.old) piece.now (taken self.new)) }
         ensures refused { OnErr result (TakesPrefix (taken self.old) piece.now (taken self.new)) }
@@ -30,7 +31,7 @@ pub trait Sink {
         ensures failed { IsErrOf result OutFault.Failed → Rose (fault_count self.old) (fault_count self.new) }
         ensures never_falls { fault_count self.old ≤ fault_count self.new };
 
-    /// How often the sink failed; a count of 2^64 - 1 stands for more.
+    /// How often the sink failed; a count of 2^64 - 1 stands for that many or more.
     fn faults(&self) -> u64
         ensures { result ≡ fault_count self.now };
 }

@@ -62,7 +62,7 @@ pub trait Store {
         ensures failed { IsErrOf result OutFault.Failed → Rose (fault_count self.old) (fault_count self.new) }
         ensures never_falls { fault_count self.old ≤ fault_count self.new };
 
-    /// How often the store failed; a count of 2^64 - 1 stands for more.
+    /// How often the store failed; a count of 2^64 - 1 stands for that many or more.
     fn faults(&self) -> u64
         ensures { result ≡ fault_count self.now };
 }

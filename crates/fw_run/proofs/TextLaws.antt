@@ -31,7 +31,7 @@ use Rattle.fw_run.proofs.InputLaws.{each_batch, none_given, few_batches, at_plac
 use Rattle.fw_run.proofs.KindLaws.{spelled-keeps_nothing, spelled-notifies_nobody}
 use Rattle.fw_run.specs.declared.reading.Job.{Job}
 use Rattle.fw_run.specs.Reading.{IsReady, IsJob}
-use Rattle.fw_run.specs.Texts.{Texts, spelled_flow, sources_of, spelled_batches, spelled_system, spelled_steps, AreInputsOf, AreAccepted, HasText, AreThere, AreInputsRefused, IsScheduleRefused, IsFirstRefusal, AreFetchedInTurn}
+use Rattle.fw_run.specs.Texts.{Texts, spelled_flow, sources_of, spelled_batches, spelled_system, spelled_steps, AreInputsOf, AreAccepted, HasText, AreThere, AreInputsRefused, IsScheduleRefused, IsFirstRefusal, IsAskedNoMore}
 use Rattle.fw_run.specs.Words.{TextNames}
 
 -- ---- what accepted texts spell
@@ -138,13 +138,13 @@ job_read_in_turn told second third names job e h f i s =
 
 -- a text was asked for after an accepted flow
 pub fetched_second : (told : Option (List ℕ → Option (List ℕ))) (names : TextNames) (flow : Dataflow) (before one after : ℕ)
-    → HasText told names.flow (λ text. flows.IsAccepted text flow) → one ≡ one_more before → after ≡ one_more one → AreFetchedInTurn told names before after
+    → HasText told names.flow (λ text. flows.IsAccepted text flow) → one ≡ one_more before → after ≡ one_more one → IsAskedNoMore told names before after
 fetched_second told names flow before one after f e h = inr (inr (flow, f, inl (h ∙ ap one_more e)))
 
 -- and one after accepted inputs
 pub fetched_third : (told second : Option (List ℕ → Option (List ℕ))) (names : TextNames) (flow : Dataflow) (batches : List (ℕ × List (List Rec))) (before one two after : ℕ) → second ≡ told
     → HasText told names.flow (λ text. flows.IsAccepted text flow) → HasText second names.inputs (λ text. inputs.IsAccepted text (sources_of flow) batches)
-    → one ≡ one_more before → two ≡ one_more one → after ≡ one_more two → AreFetchedInTurn told names before after
+    → one ≡ one_more before → two ≡ one_more one → after ≡ one_more two → IsAskedNoMore told names before after
 fetched_third told second names flow batches before one two after same f i e h k =
     let given : HasText told names.inputs (AreInputsOf flow) = record {
       text = i.text;

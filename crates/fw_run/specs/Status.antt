@@ -50,7 +50,7 @@ note_line ReadFault = codes "read fault\n"
 note_line WriteFault = codes "write fault\n"
 note_line NoMemory = codes "no memory\n"
 
--- a sink has taken the whole line, and its count of refusals stayed; or first bytes of it, and that count rose
+-- a sink has taken the whole line, and its count of refusals stayed; or first bytes of it, and that count rose or stands at its end
 abbrev pub IsTold : List ℕ → Option (List ℕ) → Option (List ℕ) → ℕ → ℕ → Type 0
 IsTold line before after refusals_before refusals_after =
     (Takes before line after × (refusals_after ≡ refusals_before))

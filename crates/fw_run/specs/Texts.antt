@@ -101,8 +101,8 @@ IsFirstRefusal told names refusal =
 
 -- A folder was asked no more often than this, if its calls were counted from the first number to the second: a second time only
 -- where the flow is accepted, a third only where the inputs are too, and no fourth.
-abbrev pub AreFetchedInTurn : Option (List ℕ → Option (List ℕ)) → TextNames → ℕ → ℕ → Type 0
-AreFetchedInTurn told names before after =
+abbrev pub IsAskedNoMore : Option (List ℕ → Option (List ℕ)) → TextNames → ℕ → ℕ → Type 0
+IsAskedNoMore told names before after =
     (after ≡ before)
     ⊎ ((after ≡ one_more before)
     ⊎ ((flow : Dataflow) × HasText told names.flow (λ text. flows.IsAccepted text flow)

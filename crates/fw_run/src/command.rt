@@ -3,7 +3,7 @@ ghost use Rattle.std.specs.Prelude.{◌≡◌, ◌⊎◌, ◌≤◌, ◌↔◌, 
 ghost use Rattle.fw_lines.specs.declared.refusal.Refusal as lines;
 ghost use Rattle.fw_outside.specs.Outside.{Rose};
 ghost use Rattle.fw_run.specs.Headline.{Prints, PrintsPart, IsRunEnd, StaysLegal, ShowsDenotation, AcknowledgesInOrder, HasOneRun, RecoversFailed, CutsToLargest};
-ghost use Rattle.fw_run.specs.Texts.{Texts, AreThere, AreAccepted, IsFirstRefusal, AreFetchedInTurn, spelled_system, spelled_steps};
+ghost use Rattle.fw_run.specs.Texts.{Texts, AreThere, AreAccepted, IsFirstRefusal, IsAskedNoMore, spelled_system, spelled_steps};
 ghost use Rattle.fw_run.specs.Words.{words_in, are_run_words, text_names_of};
 ghost use Rattle.fw_run.specs.Status.{status_number, note_line, IsTold, TellsRefusal};
 
@@ -31,8 +31,8 @@ pub fn falkirk<F: Folder, K: Store, O: Sink, N: Sink>(
     // At 2 to 6 nothing was written.
     ensures nothing_out { 2 ≤ status_number result → status_number result ≤ 6 → out.new ≡ out.old }
 
-    // At 0 the texts are accepted, all that their run prints was written, and no write was refused. At 7, and at 10 unless
-    // nothing was, first bytes of it were written.
+    // At 0 the texts are accepted, all that their run prints was written, and the output's count of refusals stayed. At
+    // 7, and at 10 unless nothing was, first bytes of it were written.
     ensures done { let names = text_names_of (words_in words.now) in
         result ≡ Status.Done → Prints (F.texts folder.old) names (O.taken out.old) (O.taken out.new) }
     ensures none_refused { result ≡ Status.Done → O.refusal_count out.new ≡ O.refusal_count out.old }
@@ -45,15 +45,15 @@ pub fn falkirk<F: Folder, K: Store, O: Sink, N: Sink>(
     ensures refused { (refusal : lines.Refusal) → let names = text_names_of (words_in words.now) in
         result ≡ Status.Refused refusal → IsFirstRefusal (F.texts folder.old) names refusal }
 
-    // The folder is asked a second time only where the flow is accepted, a third time only where the inputs are too, and
-    // never a fourth; at 2 it is not asked. The texts stay as they are.
-    ensures in_turn { let names = text_names_of (words_in words.now) in
-        AreFetchedInTurn (F.texts folder.old) names (F.fetch_count folder.old) (F.fetch_count folder.new) }
+    // The folder is asked a second time only where the flow is accepted, a third time only where the inputs are too,
+    // and never a fourth; at 2 it is not asked. The texts stay as they are.
+    ensures asked_no_more { let names = text_names_of (words_in words.now) in
+        IsAskedNoMore (F.texts folder.old) names (F.fetch_count folder.old) (F.fetch_count folder.new) }
     ensures nothing_read { result ≡ Status.BadWords → folder.new ≡ folder.old }
     ensures texts_stay { F.texts folder.new ≡ F.texts folder.old }
 
-    // Three texts that are there are accepted, or one of them is the first that is refused. Where the folder tells its texts,
-    // that one is refused and accepted ones are run, unless what is outside fails or memory is refused.
+    // Where the folder tells its texts: three texts that are there are accepted, or one of them is the first that is
+    // refused; that one is refused and accepted ones are run, unless what is outside fails or memory is refused.
     ensures decided { (texts : Texts) → let names = text_names_of (words_in words.now) in
         AreThere (F.texts folder.old) names texts
         → AreAccepted texts ⊎ ((refusal : lines.Refusal) × IsFirstRefusal (F.texts folder.old) names refusal) }
@@ -77,8 +77,8 @@ pub fn falkirk<F: Folder, K: Store, O: Sink, N: Sink>(
     ensures recovers { (texts : Texts) → AreAccepted texts → RecoversFailed (spelled_system texts) (spelled_steps texts) }
     ensures largest { (texts : Texts) → AreAccepted texts → CutsToLargest (spelled_system texts) (spelled_steps texts) }
 
-    // The status's line; or first bytes of it where the notes refused it, and then their count of refusals rose in this
-    // call. At 0 nothing.
+    // The status's line, and the notes' count of refusals stays; or first bytes of it where they refused it, and that
+    // count rose in this call or stands at its end. At 0 nothing.
     ensures notes { IsTold (note_line result) (N.taken notes.old) (N.taken notes.new) (N.refusal_count notes.old) (N.refusal_count notes.new) }
     ensures no_notes { result ≡ Status.Done → notes.new ≡ notes.old }
 

@@ -9,7 +9,7 @@ ghost use Rattle.fw_schedule.specs.Grammar as schedules;
 ghost use Rattle.fw_run.specs.Reading.{IfRefused, IsTooLarge, IsJob};
 ghost use Rattle.fw_run.specs.Texts as spec;
 ghost use Rattle.fw_run.specs.Words.{text_names_in};
-ghost use Rattle.fw_run.specs.Texts.{HasText, IsFlowRefused, AreInputsRefused, IsScheduleRefused, IsFirstRefusal, AreFetchedInTurn};
+ghost use Rattle.fw_run.specs.Texts.{HasText, IsFlowRefused, AreInputsRefused, IsScheduleRefused, IsFirstRefusal, IsAskedNoMore};
 
 use crate::words::RunWords;
 use fw_flow::laws::names_are_distinct;
@@ -72,7 +72,7 @@ pub(crate) fn read_job<F: Folder>(
     ensures refused { IfErr result (IfRefused (IsFirstRefusal (F.texts folder.old) (text_names_in words.now))) }
     ensures failed { IsErrOf result JobFault.Failed → Rose (F.fault_count folder.old) (F.fault_count folder.new) }
     ensures never_falls { F.fault_count folder.old ≤ F.fault_count folder.new }
-    ensures in_turn { AreFetchedInTurn (F.texts folder.old) (text_names_in words.now) (F.fetch_count folder.old) (F.fetch_count folder.new) }
+    ensures asked_no_more { IsAskedNoMore (F.texts folder.old) (text_names_in words.now) (F.fetch_count folder.old) (F.fetch_count folder.new) }
     ensures texts_stay { F.texts folder.new ≡ F.texts folder.old }
 {
     let flow = fetch_flow(alloc, folder, words.flow)?;

@@ -4,7 +4,7 @@ ghost use Rattle.fw_lines.specs.declared.refusal.Refusal as lines;
 ghost use Rattle.fw_outside.specs.Outside.{Rose};
 ghost use Rattle.fw_run.specs.Headline.{Prints, PrintsPart};
 ghost use Rattle.fw_run.specs.Status.{status_number};
-ghost use Rattle.fw_run.specs.Texts.{IsFirstRefusal, AreFetchedInTurn};
+ghost use Rattle.fw_run.specs.Texts.{IsFirstRefusal, IsAskedNoMore};
 ghost use Rattle.fw_run.specs.Words.{words_in, are_run_words, text_names_of};
 
 use crate::Status;
@@ -34,7 +34,7 @@ pub(crate) fn run<F: Folder, O: Sink>(
         ⊎ PrintsPart (F.texts folder.old) (text_names_of (words_in words.now)) (O.taken out.old) (O.taken out.new) }
     ensures refused { (refusal : lines.Refusal) → result ≡ Status.Refused refusal
         → IsFirstRefusal (F.texts folder.old) (text_names_of (words_in words.now)) refusal }
-    ensures in_turn { AreFetchedInTurn (F.texts folder.old) (text_names_of (words_in words.now)) (F.fetch_count folder.old) (F.fetch_count folder.new) }
+    ensures asked_no_more { IsAskedNoMore (F.texts folder.old) (text_names_of (words_in words.now)) (F.fetch_count folder.old) (F.fetch_count folder.new) }
     ensures nothing_read { result ≡ Status.BadWords → folder.new ≡ folder.old }
     ensures texts_stay { F.texts folder.new ≡ F.texts folder.old }
     ensures folder_count { F.fault_count folder.old ≤ F.fault_count folder.new }

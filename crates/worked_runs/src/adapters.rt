@@ -4,7 +4,7 @@ use std::fs;
 use std::io::BufWriter;
 use std::test::Fail;
 
-// Each call finds in `into` what the one before it left.
+// Each later call finds in `into` what the one before it left.
 #[test]
 fn files_are_fetched_by_path(rt: HostRuntime) -> Result<(), Fail> {
     let path = "falkirk_file_folder_test.txt";
@@ -46,7 +46,8 @@ fn pieces_are_flushed(rt: HostRuntime) -> Result<(), Fail> {
     let mut writer = BufWriter::new(alloc, Vec::new(alloc))?;
     let mut sink = StreamSink::new(&mut writer);
     assert_eq!(rt; sink.write(b"piece"), Ok(()));
-    assert_eq!(rt; writer.get_ref().as_slice(), b"piece".as_slice());
+    assert_eq!(rt; sink.write(b"s"), Ok(()));
+    assert_eq!(rt; writer.get_ref().as_slice(), b"pieces".as_slice());
     assert!(rt; writer.buffer().is_empty());
     Ok(())
 }

@@ -1,4 +1,5 @@
-//! Calls of bags, of the objects in memory and of the lines of a text that may answer want of memory, with ample memory.
+//! Calls of bags, of the objects in memory and of the lines of a text that may answer want of memory, and have ample
+//! memory.
 ghost use Rattle.std.specs.Prelude.{◌≡◌, None};
 ghost use Rattle.std.specs.Option.{ForSome};
 ghost use Rattle.std.specs.FinMap as map;

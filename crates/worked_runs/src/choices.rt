@@ -1,4 +1,4 @@
-//! To what the nodes of small flows are restored, from what they offer: checkpoints, ranges, nodes that log, and a loop.
+//! To what the nodes of small flows are restored, from what they offer: checkpoints, ranges, nodes that log, a loop.
 ghost use Rattle.std.specs.Prelude.{◌≡◌, ◌<◌, true, length, IfOk};
 ghost use Rattle.std.specs.List.{AllByRecursion};
 ghost use Rattle.std.specs.Option.{IfSome};
@@ -275,8 +275,8 @@ fn flow_of(alloc: Global, nodes: &str, edges: &str) -> Result<Flow, ReadFault> {
     Flow::check(alloc, declarations(alloc, nodes, edges)?)
 }
 
-// Four epochs came, the second of them without recs. The total wrote checkpoints after the first, the second and the fourth;
-// the output, which took three, failed.
+// Four epochs came, the second of them without recs. The total wrote checkpoints after the first, the second and the
+// fourth; the output, which took three epochs, failed.
 const OF_TOTAL: &str = "input | 0 1 2 3 4 | | | input:0 input:2 input:3
 total | 0 1 2/1 4 | input:0 input:2 input:3 | 0 2 3 | total:0 total:2 total:3
 epochs failed | 0 to 3 | total:0 total:2 | |
@@ -298,8 +298,8 @@ fn a_total_falls_to_a_checkpoint_between_others(rt: HostRuntime) -> Result<(), F
     Ok(())
 }
 
-// The same epochs, with a sum before the total: it wrote checkpoints after the second and the fourth, the total after the
-// first, the third and the fourth.
+// The same epochs, with a sum before the total: the sum wrote checkpoints after the second and the fourth, the total
+// after the first, the third and the fourth.
 const OF_SUM_AND_TOTAL: &str = "input | 0 1 2 3 4 | | | input:0 input:2 input:3
 sum | 0 2/1 4 | input:0 input:2 input:3 | 0 2 3 | sum:0 sum:2 sum:3
 total | 0 1 3 4 | sum:0 sum:2 sum:3 | 0 2 3 | total:0 total:2 total:3
@@ -311,7 +311,7 @@ sum,sum,total
 total,total,epochs
 ";
 
-// The output has the total fall to `until 3`, and that the sum to `until 2`, for which the total falls once more.
+// The output has the total fall to `until 3`, the total has the sum fall to `until 2`, and then falls once more.
 #[test]
 fn a_total_falls_again_for_the_sum_that_fell_for_it(rt: HostRuntime) -> Result<(), Fail> {
     let alloc = rt.alloc();
@@ -363,7 +363,7 @@ concat2,concat,leave
 leave,leave,epochs
 ";
 
-// Two epochs came into a loop, and the first went round three times. What the loop takes in logs each event, and failed.
+// Two epochs came into a loop, and the first went round three times. The concat logs each event, and failed.
 const CONCAT_FAILED: &str = "input | 0 1 2 | | | input:0 input:1
 enter | 0 to 2 | input:0 input:1 | | enter:0.0:0 enter:1.0:1
 concat failed | 0.0 to 0.3 1.0 | enter:0.0:0 enter:1.0:1 feedback:0.1:0.0 feedback:0.2:0.1 | | concat:0.0 concat:0.1 concat:0.2 concat:1.0 concat2:0.0 concat2:0.1 concat2:0.2 concat2:1.0

@@ -91,8 +91,8 @@ fn later_texts_play_no_part(rt: HostRuntime) -> Result<(), Fail> {
     Ok(())
 }
 
-// The number of the status of a run whose notes are refused and whose output fails; 1 where the notes were not refused
-// once or took something.
+// The number of the status of a run whose notes are refused and whose output fails; 1 where the notes did not refuse
+// exactly one write, or took something.
 fn status_without_notes(
     alloc: Global,
     words: &[&str],

@@ -143,7 +143,7 @@ fn flows_over_the_limits_are_refused(rt: HostRuntime) -> Result<(), Fail> {
         // 256 nodes, and 257
         (with_inputs(alloc, 253)?, ""),
         (with_inputs(alloc, 254)?, "refused F8 line 259\n"),
-        // 512 edges, before which no node is one too many, and 513
+        // 512 edges, none of them too many, so that the first break is node 257; and 513 edges
         (with_edges(alloc, 512)?, "refused F8 line 769\n"),
         (with_edges(alloc, 513)?, "refused F8 line 513\n"),
     ];

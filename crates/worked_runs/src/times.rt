@@ -35,8 +35,8 @@ fn cut_cover<T: Logical>(
     format!(in alloc; "{front}")
 }
 
-// The least upper bound of two stamps as times, and whether the one is at most the other, and the bound, and whether the
-// bound is in the domain.
+// The least upper bound of two stamps as times; whether the first is at most the second, whether it is at most that
+// bound, and whether the bound is in the domain.
 fn compare<T: Time>(one: &Stamp, other: &Stamp, bounds: &Bounds) -> (Stamp, [bool; 3])
     requires places { T.places ≤ 4 }
     requires one { length one.now ≡ T.places }

@@ -25,21 +25,21 @@ returns-clause-job g c =
     (record { flow = c.in_ok-flow.flow; batches = c.in_ok-batches.batches; steps = c.in_ok-steps.steps })
     c.fetch_flow.ensures.texts_stay c.fetch_inputs.ensures.texts_stay c.in_ok-flow.ensures.flow c.in_ok-batches.ensures.batches c.in_ok-steps.ensures.steps
 
-pub returns-in_err-batches-clause-in_turn : goal.returns-in_err-batches-clause-in_turn
-returns-in_err-batches-clause-in_turn g c =
+pub returns-in_err-batches-clause-asked_no_more : goal.returns-in_err-batches-clause-asked_no_more
+returns-in_err-batches-clause-asked_no_more g c =
     let count = g.F.Folder.fetch_count in
     fetched_second (g.F.Folder.texts c.args.folder.now) (text_names_in c.args.words.now) c.in_ok-flow.flow (count c.args.folder.now) (count c.fetch_flow.new.folder) (count c.fetch_inputs.new.folder)
     c.in_ok-flow.ensures.flow c.fetch_flow.ensures.counted c.fetch_inputs.ensures.counted
 
-pub returns-in_err-steps-clause-in_turn : goal.returns-in_err-steps-clause-in_turn
-returns-in_err-steps-clause-in_turn g c =
+pub returns-in_err-steps-clause-asked_no_more : goal.returns-in_err-steps-clause-asked_no_more
+returns-in_err-steps-clause-asked_no_more g c =
     let count = g.F.Folder.fetch_count in
     let told = g.F.Folder.texts in
     fetched_third (told c.args.folder.now) (told c.fetch_flow.new.folder) (text_names_in c.args.words.now) c.in_ok-flow.flow c.in_ok-batches.batches (count c.args.folder.now) (count c.fetch_flow.new.folder) (count c.fetch_inputs.new.folder) (count c.fetch_schedule.new.folder)
     c.fetch_flow.ensures.texts_stay c.in_ok-flow.ensures.flow c.in_ok-batches.ensures.batches c.fetch_flow.ensures.counted c.fetch_inputs.ensures.counted c.fetch_schedule.ensures.counted
 
-pub returns-clause-in_turn : goal.returns-clause-in_turn
-returns-clause-in_turn g c =
+pub returns-clause-asked_no_more : goal.returns-clause-asked_no_more
+returns-clause-asked_no_more g c =
     let count = g.F.Folder.fetch_count in
     let told = g.F.Folder.texts in
     fetched_third (told c.args.folder.now) (told c.fetch_flow.new.folder) (text_names_in c.args.words.now) c.in_ok-flow.flow c.in_ok-batches.batches (count c.args.folder.now) (count c.fetch_flow.new.folder) (count c.fetch_inputs.new.folder) (count c.fetch_schedule.new.folder)

@@ -1,6 +1,6 @@
 use Rattle.fw_run.proofs.HeadlineLaws.{ready_job, same_refusal}
 use Rattle.std.proofs.Common.{subst}
-use Rattle.fw_run.specs.Texts.{IsFirstRefusal, AreFetchedInTurn}
+use Rattle.fw_run.specs.Texts.{IsFirstRefusal, IsAskedNoMore}
 use Rattle.fw_run.specs.Words.{text_names_of, words_in}
 use Rattle.fw_run.proofs.run.run.Goals as goal
 
@@ -14,7 +14,7 @@ returns-in-Err-Refused-clause-refused g c refusal e =
     let one = rw c.in-Err-Refused.field-0-is at e in
     same_refusal (IsFirstRefusal told (text_names_of (words_in c.args.words.now))) c.in-Err-Refused.refusal refusal one (subst (λ names. IsFirstRefusal told names c.in-Err-Refused.refusal) c.in-Some.ensures.names first)
 
-pub returns-in-Err-Failed-perform-clause-in_turn : goal.returns-in-Err-Failed-perform-clause-in_turn
-returns-in-Err-Failed-perform-clause-in_turn g c =
+pub returns-in-Err-Failed-perform-clause-asked_no_more : goal.returns-in-Err-Failed-perform-clause-asked_no_more
+returns-in-Err-Failed-perform-clause-asked_no_more g c =
     let count = g.F.Folder.fetch_count in
-    subst (λ names. AreFetchedInTurn (g.F.Folder.texts c.args.folder.now) names (count c.args.folder.now) (count c.read_job.new.folder)) c.in-Some.ensures.names c.in-Ok.ensures.in_turn
+    subst (λ names. IsAskedNoMore (g.F.Folder.texts c.args.folder.now) names (count c.args.folder.now) (count c.read_job.new.folder)) c.in-Some.ensures.names c.in-Ok.ensures.asked_no_more

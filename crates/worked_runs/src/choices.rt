@@ -198,7 +198,7 @@ fn part(line: &str) -> (&str, &str) {
 }
 
 // What a node offers, by its line: whether it failed, its frontiers, what was delivered to it, of what it was notified, and
-// what it sent.
+// what it sent. The node is known by the line's place, and its name there is for the reader.
 fn offer(alloc: Global, flow: &Flow, node: NodeId, line: &str) -> Result<Offer, AllocError>
     ensures { IfOk result (λ o. IsOfferOf flow.now node o) }
 {
@@ -238,30 +238,35 @@ fn offers(alloc: Global, flow: &Flow, text: &str) -> Result<Vec<Offer>, AllocErr
     Ok(offers)
 }
 
-fn cut_text(alloc: Global, cut: &Cut) -> Result<String, AllocError> {
+// Adds a cut.
+fn tell_cut(alloc: Global, cut: &Cut, told: &mut String) -> Result<(), AllocError> {
     match cut {
-        Cut::Present => format!(in alloc; "present"),
-        Cut::At(front) => format!(in alloc; "{front}"),
+        Cut::Present => told.push_str("present"),
+        Cut::At(front) => tell_front(alloc, front, told),
     }
+}
+
+// Adds a frontier.
+fn tell_front(alloc: Global, front: &Front, told: &mut String) -> Result<(), AllocError> {
+    let text = format!(in alloc; "{front}")?;
+    told.push_str(text.as_str())
 }
 
 // A line for each node: its cut, and its notification frontier.
 fn choice_text(alloc: Global, choice: &Choice) -> Result<String, AllocError> {
-    let mut text = String::new(alloc);
+    let mut told = String::new(alloc);
     for (cut, note) in choice
         .cuts
         .as_slice()
         .iter()
         .zip(choice.notes.as_slice().iter())
     {
-        let cut = cut_text(alloc, cut)?;
-        let note = format!(in alloc; "{note}")?;
-        text.push_str(cut.as_str())?;
-        text.push_str(", ")?;
-        text.push_str(note.as_str())?;
-        text.push('\n')?;
+        tell_cut(alloc, cut, &mut told)?;
+        told.push_str(", ")?;
+        tell_front(alloc, note, &mut told)?;
+        told.push('\n')?;
     }
-    Ok(text)
+    Ok(told)
 }
 
 // To what the nodes of a flow are restored that offer this.
@@ -271,8 +276,11 @@ fn chosen(alloc: Global, flow: &Flow, text: &str) -> Result<String, AllocError> 
     choice_text(alloc, &choice)
 }
 
-fn flow_of(alloc: Global, nodes: &str, edges: &str) -> Result<Flow, ReadFault> {
-    Flow::check(alloc, declarations(alloc, nodes, edges)?)
+// The same, of the flow that these lines declare.
+fn restored(alloc: Global, nodes: &str, edges: &str, text: &str) -> Result<String, ReadFault> {
+    let flow = Flow::check(alloc, declarations(alloc, nodes, edges)?)?;
+    let told = chosen(alloc, &flow, text)?;
+    Ok(told)
 }
 
 // Four epochs came, the second of them without recs. The total wrote checkpoints after the first, the second and the
@@ -282,17 +290,15 @@ total | 0 1 2/1 4 | input:0 input:2 input:3 | 0 2 3 | total:0 total:2 total:3
 epochs failed | 0 to 3 | total:0 total:2 | |
 ";
 
+const TOTAL: &str = "input,input,total
+total,total,epochs
+";
+
 #[test]
 fn a_total_falls_to_a_checkpoint_between_others(rt: HostRuntime) -> Result<(), Fail> {
-    let alloc = rt.alloc();
-    let flow = flow_of(
-        alloc,
-        "input\ntotal,lazy\nepochs",
-        "input,input,total\ntotal,total,epochs",
-    )?;
-    let text = chosen(alloc, &flow, OF_TOTAL)?;
+    let told = restored(rt.alloc(), "input\ntotal,lazy\nepochs", TOTAL, OF_TOTAL)?;
     assert_eq!(rt;
-        text.as_str(),
+        told.as_str(),
         "until 2, until 2\nuntil 2, until 2\nuntil 2, until 2\n"
     );
     Ok(())
@@ -311,18 +317,23 @@ sum,sum,total
 total,total,epochs
 ";
 
-// The output has the total fall to `until 3`, the total has the sum fall to `until 2`, and then falls once more.
+// The total falls to `until 3` for the output, the sum to `until 2` for the total, and for the sum the total once more.
 #[test]
 fn a_total_falls_again_for_the_sum_that_fell_for_it(rt: HostRuntime) -> Result<(), Fail> {
-    let alloc = rt.alloc();
-    let flow = flow_of(alloc, "input\nsum,lazy\ntotal,lazy\nepochs", SUM_AND_TOTAL)?;
-    let text = chosen(alloc, &flow, OF_SUM_AND_TOTAL)?;
+    let nodes = "input\nsum,lazy\ntotal,lazy\nepochs";
+    let told = restored(rt.alloc(), nodes, SUM_AND_TOTAL, OF_SUM_AND_TOTAL)?;
     assert_eq!(rt;
-        text.as_str(),
+        told.as_str(),
         "until 2, until 2\nuntil 2, until 2\nuntil 1, until 1\nuntil 1, until 1\n"
     );
     Ok(())
 }
+
+const LOGGED_TOTAL: &str = "input
+sum,lazy
+total,full
+epochs
+";
 
 // Three epochs came. The total logs each event, those of the first two epochs so far; its output took one.
 const OUTPUT_FAILED: &str = "input | 0 1 2 3 | | | input:0 input:1 input:2
@@ -330,6 +341,16 @@ sum | 0 1 | input:0 input:1 input:2 | 0 1 2 | sum:0 sum:1 sum:2
 total | 0 to 2 | sum:0 sum:1 sum:2 | 0 1 | total:0 total:1
 epochs failed | 0 to 1 | total:0 | |
 ";
+
+#[test]
+fn a_total_that_logs_stays_when_its_output_fails(rt: HostRuntime) -> Result<(), Fail> {
+    let told = restored(rt.alloc(), LOGGED_TOTAL, SUM_AND_TOTAL, OUTPUT_FAILED)?;
+    assert_eq!(rt;
+        told.as_str(),
+        "present, all\npresent, all\npresent, all\nuntil 1, until 1\n"
+    );
+    Ok(())
+}
 
 // The same, where the sum failed.
 const SUM_FAILED: &str = "input | 0 1 2 3 | | | input:0 input:1 input:2
@@ -339,17 +360,10 @@ epochs | 0 to 1 | total:0 | |
 ";
 
 #[test]
-fn a_total_that_logs_falls_for_its_sender_alone(rt: HostRuntime) -> Result<(), Fail> {
-    let alloc = rt.alloc();
-    let flow = flow_of(alloc, "input\nsum,lazy\ntotal,full\nepochs", SUM_AND_TOTAL)?;
-    let text = chosen(alloc, &flow, OUTPUT_FAILED)?;
+fn a_total_that_logs_falls_within_its_log_for_its_sender(rt: HostRuntime) -> Result<(), Fail> {
+    let told = restored(rt.alloc(), LOGGED_TOTAL, SUM_AND_TOTAL, SUM_FAILED)?;
     assert_eq!(rt;
-        text.as_str(),
-        "present, all\npresent, all\npresent, all\nuntil 1, until 1\n"
-    );
-    let text = chosen(alloc, &flow, SUM_FAILED)?;
-    assert_eq!(rt;
-        text.as_str(),
+        told.as_str(),
         "until 1, until 1\nuntil 1, until 1\nuntil 1, until 1\npresent, until 1\n"
     );
     Ok(())
@@ -374,15 +388,10 @@ epochs | 0 to 0 | leave:0:0.0 leave:0:0.1 | |
 
 #[test]
 fn a_loop_is_cut_between_its_rounds(rt: HostRuntime) -> Result<(), Fail> {
-    let alloc = rt.alloc();
-    let flow = flow_of(
-        alloc,
-        "input\nenter\nconcat,full\nfeedback\nleave\nepochs",
-        RING,
-    )?;
-    let text = chosen(alloc, &flow, CONCAT_FAILED)?;
+    let nodes = "input\nenter\nconcat,full\nfeedback\nleave\nepochs";
+    let told = restored(rt.alloc(), nodes, RING, CONCAT_FAILED)?;
     assert_eq!(rt;
-        text.as_str(),
+        told.as_str(),
         "until 1, until 1\nuntil 1, until 1\nuntil 0.3 1.0, until 0.3 1.0\nuntil 0.2 1.0, until 0.2 1.0\npresent, until 0.3 1.0\npresent, until 0\n"
     );
     Ok(())

@@ -1,5 +1,4 @@
 pub mod Choice
-pub mod Clear
 pub mod Denotation
 pub mod History
 pub mod LawsOfChoices
@@ -16,9 +15,5 @@ pub mod LawsOfRestoring
 pub mod LawsOfRuns
 pub mod LawsOfSending
 pub mod LawsOfSteps
-pub mod Least
 pub mod Machine
-pub mod Plain
-pub mod Ready
 pub mod Steps
-pub mod Wanted

@@ -57,6 +57,11 @@ abbrev pub IsAsked : Option Stamp → Stamp → Type 0
 IsAsked None t = Unit {0}
 IsAsked (Some s) t = s ≡ t
 
+-- whether it is, as a test
+abbrev pub is_asked : Option Stamp → Stamp → Bool
+is_asked None t = true
+is_asked (Some s) t = same s t
+
 -- The message is the next one on edge e: it may be delivered, at the stamp that is asked for, and none that may comes
 -- before it in the order of stamps, recs and causes.
 pub record IsNextMessage (sys : System) (h : List Event) (e : ℕ) (at : Option Stamp) (m : Message) : Type 0 where

@@ -1,5 +1,8 @@
+pub mod Acknowledgements
 pub mod Choice
+pub mod Choosing
 pub mod Denotation
+pub mod Filtering
 pub mod History
 pub mod LawsOfChoices
 pub mod LawsOfChoosing
@@ -16,4 +19,11 @@ pub mod LawsOfRuns
 pub mod LawsOfSending
 pub mod LawsOfSteps
 pub mod Machine
+pub mod Measure
+pub mod Order
+pub mod Resending
+pub mod Sending
+pub mod Settled
 pub mod Steps
+pub mod Unions
+pub mod Writes

@@ -1,6 +1,6 @@
 -- The steps of the event-list machine: when each is enabled, to which state it leads, and what it shows.
 use Rattle.std.specs.Prelude.{◌≡◌, ◌≢◌, ◌⊎◌, ℕ, ◌+◌, ◌<◌, Bool, true, false, not, ◌&&◌, ◌||◌, ◌==◌, if◌then◌else◌, List, [], ◌∷◌, ◌++◌, map, length, Option, Some, None, slice_set, filter}
-use Rattle.std.specs.List.{list_any, list_all, flat_map}
+use Rattle.std.specs.List.{list_any, list_all, flat_map, AllByRecursion}
 use Rattle.std.specs.Ordering.{is_gt, is_eq}
 use Rattle.std.specs.Cmp.Lexicographic.{slice_cmp}
 use Rattle.fw_time.specs.Stamp.{Stamp, leq, same, stamp_cmp}
@@ -322,3 +322,17 @@ Run sys state [] (outcome ∷ outcomes) last = ⊥
 Run sys state (step ∷ steps) [] last = ⊥
 Run sys state (step ∷ steps) (outcome ∷ outcomes) last =
     (next : Machine) × Steps sys state step next outcome × Run sys next steps outcomes last
+
+-- whether the step is a recovery
+abbrev pub is_recovery : Step → Bool
+is_recovery Recover = true
+is_recovery step = false
+
+-- none of the steps is a recovery
+abbrev pub HaveNoRecovery : List Step → Type 0
+HaveNoRecovery steps = AllByRecursion (λ step. is_recovery step ≡ false) steps
+
+-- the step leads to this next state with this outcome, and to no other
+pub record IsTheNext (sys : System) (state : Machine) (step : Step) (next : Machine) (outcome : Outcome) : Type 0 where
+  pub steps : Steps sys state step next outcome
+  pub only : (other : Machine) (another : Outcome) → Steps sys state step other another → (next ≡ other) × (outcome ≡ another)

@@ -21,13 +21,13 @@ use Rattle.fw_flow.specs.WellFormed.{IsWellFormed}
 use Rattle.fw_model.specs.History.{owed, was_delivered_to, was_notified, injected_epochs, IsQuiet, IsAdmissible, IsComplete, AreAtNodes}
 use Rattle.fw_model.specs.Machine.{front_of, family_of, AreCanonical}
 use Rattle.fw_plain.specs.Clear.{lowered, notified_epoch, IsClear}
-use Rattle.fw_model.specs.LawsOfSending.{is_notification_of}
 use Rattle.fw_model.proofs.StampLaws.{in_line}
 use Rattle.fw_model.proofs.PhiLaws.{phi-monotone}
 use Rattle.fw_plain.proofs.EventSteps.{history_more}
 use Rattle.fw_model.proofs.TableLaws.{table-follows}
 use Rattle.fw_model.proofs.DescentLaws.{past_edges-joined, past_edges-quiet, past_edges-phi, total, total-less, Covers, covers-at}
 use Rattle.fw_flow.proofs.EdgeLaws.{kind-past, in_edges-at, in_edges-from}
+use Rattle.fw_model.specs.Order.{is_notification_of}
 
 -- ---- lists of one frontier for each node
 

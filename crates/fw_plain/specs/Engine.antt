@@ -1,7 +1,6 @@
 -- What the plain engine stands for.
 use Rattle.std.specs.Prelude.{◌≡◌, ℕ, ◌<◌, Bool, true, false, List, [], map, length}
 use Rattle.fw_frontier.specs.Front.{Front, IsCanonical}
-use Rattle.fw_flow.specs.declared.kind.Policy.TheVariants as policy
 use Rattle.fw_flow.specs.declared.step.Step.{Step}
 use Rattle.fw_flow.specs.declared.step.Step.TheVariants.{Inject, Deliver, Notify, Progress, Checkpoint, Persist, Fail, Recover, Collect, Ack}
 use Rattle.fw_flow.specs.Dataflow.{System, Dataflow, policy_of, bounds_of, KeepsNothing, NotifiesNobody, places}

@@ -1,14 +1,13 @@
 -- The order of stamps is a partial order, and `lub` gives least upper bounds.
 use Rattle.std.proofs.Common.{◌≡◌, ℕ, ◌≤◌, Bool, true, false, ◌&&◌, nat_le, cond, List, [], ◌∷◌, length, refl, sym, ap, ◌∙◌, zero, suc, ◌<◌, nat_lt, ◌+◌, ◌++◌, get_or, arith}
 use Rattle.std.proofs.lemmas.Bool.{leb-true, le-leb, false_from_ne_true, and_from, and_parts}
-use Rattle.std.proofs.Math.Bool.{and_assoc, and-true}
 use Rattle.std.proofs.lemmas.Bool.Decides.{nat_tests}
 use Rattle.std.specs.Ordering.{is_lt, nat_cmp, ordering_then}
 use Rattle.std.specs.Cmp.Lexicographic.{slice_cmp}
 use Rattle.std.specs.declared.cmp.Ordering.{Ordering}
 use Rattle.std.specs.declared.cmp.Ordering.TheVariants.{Less, Equal, Greater}
 use Rattle.std.proofs.lemmas.Cmp.{tied_itself, nat_list_cmp_total}
-pub use Rattle.fw_time.specs.NestLaws.{outer-nest, counter-nest, nest-outer}
+pub use Rattle.fw_time.specs.NestLaws.{outer-nest, counter-nest, nest-outer, leq-nest}
 use Rattle.fw_time.specs.Stamp.{leq, lub, glb, stamp_cmp, nest, origin, raised}
 
 -- each stamp is at most itself
@@ -153,14 +152,7 @@ before-from_leq (x ∷ s) (y ∷ t) h k =
     step : (x y : ℕ) (o : Ordering) (b : Bool) → nat_le x y ≡ true → (nat_le y x && b) ≡ false → (b ≡ false → is_lt o ≡ true) → is_lt (ordering_then (nat_cmp x y) o) ≡ true
     step x y o b h k r = grind (arith, nat_tests)
 
--- stamps of a loop are ordered by the outer stamp and the counter
-pub leq-nest : (s t : List ℕ) (c d : ℕ) → length s ≡ length t → leq (nest s c) (nest t d) ≡ (leq s t && nat_le c d)
-leq-nest [] [] c d h = and-true (nat_le c d)
-leq-nest [] (y ∷ t) c d h = cc
-leq-nest (x ∷ s) [] c d h = cc
-leq-nest (x ∷ s) (y ∷ t) c d h = ap (λ b. nat_le x y && b) (leq-nest s t c d (omega arith)) ∙ sym (and_assoc (nat_le x y) (leq s t) (nat_le c d))
-
--- and so are their greater coordinates
+-- the greater coordinates of stamps of a loop
 pub lub-nest : (s t : List ℕ) (c d : ℕ) → length s ≡ length t → lub (nest s c) (nest t d) ≡ nest (lub s t) (cond (nat_le c d) d c)
 lub-nest [] [] c d h = refl
 lub-nest [] (y ∷ t) c d h = cc

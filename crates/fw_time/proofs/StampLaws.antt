@@ -8,7 +8,7 @@ use Rattle.std.specs.declared.cmp.Ordering.{Ordering}
 use Rattle.std.specs.declared.cmp.Ordering.TheVariants.{Less, Equal, Greater}
 use Rattle.std.proofs.lemmas.Cmp.{tied_itself, nat_list_cmp_total}
 pub use Rattle.fw_time.specs.NestLaws.{outer-nest, counter-nest, nest-outer, leq-nest}
-use Rattle.fw_time.specs.Stamp.{leq, lub, glb, stamp_cmp, nest, origin, raised}
+use Rattle.fw_time.specs.Stamp.{leq, same, lub, glb, stamp_cmp, nest, origin, raised}
 
 -- each stamp is at most itself
 pub leq-refl : (s : List ℕ) → leq s s ≡ true
@@ -37,6 +37,16 @@ leq-antisym (x ∷ s) (y ∷ t) h k =
     let e : x ≡ y = omega arith in
     let f : s ≡ t = leq-antisym s t (and_parts _ _ h).1 (and_parts _ _ k).1 in
     ap (λ z. z ∷ s) e ∙ ap (λ u. y ∷ u) f
+
+-- stamps that the test finds the same are one
+pub same-is : (s t : List ℕ) → same s t ≡ true → s ≡ t
+same-is s t e = let p = and_parts (leq s t) (leq t s) e in leq-antisym s t p.0 p.1
+
+pub same-refl : (s : List ℕ) → same s s ≡ true
+same-refl s = and_from (leq s s) (leq s s) (leq-refl s) (leq-refl s)
+
+pub same-from : (s t : List ℕ) → s ≡ t → same s t ≡ true
+same-from s t e = sym (ap (same s) e) ∙ same-refl s
 
 -- only stamps of one length are comparable
 pub leq-length : (s t : List ℕ) → leq s t ≡ true → length s ≡ length t

@@ -17,10 +17,6 @@ use Rattle.fw_frontier.proofs.CanonicalLaws.{canonical-excluding, canonical-excl
 use Rattle.fw_frontier.proofs.GenericLaws.{some_above_more, no}
 use Rattle.fw_frontier.proofs.Pairs.{excluding_pairs}
 
--- the list without stamps names all of the domain
-pub names-all : (b : Bounds) → Names b [] (everything b)
-names-all b = record { canonical = tt; same = λ t. and-true (in_domain b t) }
-
 -- the list of the least stamp names the frontier without stamps
 pub names-nothing : (b : Bounds) → Names b (origin b.greatest ∷ []) nothing
 names-nothing b = record {

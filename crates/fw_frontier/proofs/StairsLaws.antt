@@ -294,11 +294,11 @@ all-short o (u ∷ os) h k = (omega (arith, leq-length u o.greatest k.0), all-sh
 -- ---- a copy of a loop's frontier
 
 pub copied-whole : {F T : Type 0} (test : F → T → Bool) (xs zs : List F) (x z : F) → length zs ≡ length xs
-    → ((c : ℕ) (t : T) (d e : F) → c < length zs → test (get_or zs c d) t ≡ test (get_or xs c e) t)
+    → ((c : ℕ) (t : T) (d : F) → c < length zs → test (get_or zs c d) t ≡ test (get_or xs c x) t)
     → ((t : T) → test z t ≡ test x t)
     → (c : ℕ) (t : T) → test (get_or zs c z) t ≡ test (get_or xs c x) t
 copied-whole test xs zs x z long each last c t = elim (cases_lt c (length zs)) [
-  | inl h ↦ each c t z x h
+  | inl h ↦ each c t z h
   | inr h ↦ ap (λ s. test s t) (get_or_past zs c z h) ∙ last t ∙ ap (λ s. test s t) (sym (get_or_past xs c x (omega arith)))
 ]
 

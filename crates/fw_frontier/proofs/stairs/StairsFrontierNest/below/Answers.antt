@@ -24,7 +24,7 @@ invariant_of-result-2 g c =
     let n = c.args.top.now.counter + 1 in
     record {
       descending = descending-below test n c.in_ok-under.under c.in_ok-steps.steps.items c.in_ok-last.last
-          (below-whole test n c.in_ok-under.under c.in_ok-steps.steps.items c.in_ok-last.last c.in_ok-steps.ensures.0 (λ k t d h. c.in_ok-steps.ensures.1 k d h t) c.in_ok-last.ensures);
+          (below-whole test n c.in_ok-under.under c.in_ok-steps.steps.items c.in_ok-last.last c.in_ok-steps.ensures.0 c.in_ok-steps.ensures.1 c.in_ok-last.ensures);
     }
 
 pub returns : goal.returns
@@ -35,7 +35,7 @@ returns g c = λ t.
     let p = g.T.Time.coords t.outer in let q = g.T.Time.coords top.outer in
     let under = c.in_ok-under.ensures t.outer ∙ ap (λ u. leq (glb p u) q) c.outer_of-outer.ensures.value in
     let count = counter-below t.counter top.counter (counter b) (omega (arith, c.counter.ensures, c.if-top-counter.false)) in
-    below-whole test n c.in_ok-under.under c.in_ok-steps.steps.items c.in_ok-last.last c.in_ok-steps.ensures.0 (λ k t d h. c.in_ok-steps.ensures.1 k d h t) c.in_ok-last.ensures t.counter t.outer
+    below-whole test n c.in_ok-under.under c.in_ok-steps.steps.items c.in_ok-last.last c.in_ok-steps.ensures.0 c.in_ok-steps.ensures.1 c.in_ok-last.ensures t.counter t.outer
     ∙ (λ i. under i && count i)
     ∙ sym (leq-glb_nest p b q t.counter top.counter (omega (arith, c.requires, g.met.T.Time.same_places t.outer)) (g.met.T.Time.same_places t.outer ∙ sym (g.met.T.Time.same_places top.outer)))
 

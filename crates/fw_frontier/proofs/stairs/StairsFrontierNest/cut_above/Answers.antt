@@ -13,7 +13,7 @@ invariant_of-result g c =
     let e = c.in_ok-steps.ensures in
     record {
       descending = descending-cut test (λ s. leq p (g.T.Time.coords s)) from xs zs x z c.args.self.now.descending
-          (cut-whole test (λ s. leq p (g.T.Time.coords s)) from xs zs x z (e.0 ∙ c.max.ensures ∙ ap (λ n. max n c.args.t.now.counter) c.len.ensures) (λ k s d h. e.1 k d h s) c.in_ok-last.ensures);
+          (cut-whole test (λ s. leq p (g.T.Time.coords s)) from xs zs x z (e.0 ∙ c.max.ensures ∙ ap (λ n. max n c.args.t.now.counter) c.len.ensures) e.1 c.in_ok-last.ensures);
     }
 
 pub returns : goal.returns
@@ -24,6 +24,6 @@ returns g c = λ s.
     let t = c.args.t.now in
     let p = g.T.Time.coords t.outer in let q = g.T.Time.coords s.outer in
     let e = c.in_ok-steps.ensures in
-    cut-whole test (λ s. leq p (g.T.Time.coords s)) t.counter xs zs x z (e.0 ∙ c.max.ensures ∙ ap (λ n. max n c.args.t.now.counter) c.len.ensures) (λ k s d h. e.1 k d h s) c.in_ok-last.ensures s.counter s.outer
+    cut-whole test (λ s. leq p (g.T.Time.coords s)) t.counter xs zs x z (e.0 ∙ c.max.ensures ∙ ap (λ n. max n c.args.t.now.counter) c.len.ensures) e.1 c.in_ok-last.ensures s.counter s.outer
     ∙ ap (λ b. test (get_or xs s.counter x) s.outer && not b)
     (and-swap (nat_le t.counter s.counter) (leq p q) ∙ sym (leq-nest p q t.counter s.counter (g.met.T.Time.same_places t.outer ∙ sym (g.met.T.Time.same_places s.outer))))

@@ -10,5 +10,5 @@ invariant_of-result g c =
     let e = c.in_ok-steps.ensures in
     record {
       descending = descending-pairwise test f one.steps.items other.steps.items c.in_ok-steps.steps.items one.last other.last c.in_ok-last.last and-grows one.descending other.descending
-          (pairwise test f one.steps.items other.steps.items c.in_ok-steps.steps.items one.last other.last c.in_ok-last.last (e.0 ∙ c.max.ensures ∙ (λ i. max (c.len.ensures i) (c.len-2.ensures i))) (λ k t d h. e.1 k d h t) c.in_ok-last.ensures);
+          (pairwise test f one.steps.items other.steps.items c.in_ok-steps.steps.items one.last other.last c.in_ok-last.last (e.0 ∙ c.max.ensures ∙ (λ i. max (c.len.ensures i) (c.len-2.ensures i))) e.1 c.in_ok-last.ensures);
     }

@@ -9,9 +9,8 @@ use Rattle.fw_flow.specs.declared.step.Step.TheVariants as step
 use Rattle.fw_flow.specs.Dataflow.{System, receiver, is_numbered}
 use Rattle.fw_model.specs.History.{IsDeliverable, is_among, pending}
 use Rattle.fw_model.specs.Machine.{Machine, events, is_failed}
-use Rattle.fw_model.specs.Steps.{Outcome, did, quiet, Run, with_event}
-use Rattle.fw_model.proofs.LeastSteps.{asked-is}
-use Rattle.fw_model.specs.Least.{is_asked}
+use Rattle.fw_model.specs.Steps.{Outcome, did, quiet, Run, with_event, is_asked}
+use Rattle.fw_model.proofs.EnabledLaws.{asked-is}
 use Rattle.fw_examples.proofs.First.{is_first, next_message}
 
 -- a delivery: its edge, the stamp that is asked for, and the message

@@ -7,10 +7,9 @@ use Rattle.fw_flow.specs.declared.event.Event.{Event}
 use Rattle.fw_flow.specs.declared.event.Message.{Message}
 use Rattle.fw_flow.specs.Dataflow.{System}
 use Rattle.fw_model.specs.History.{IsDeliverable, message_cmp, is_among, pending}
-use Rattle.fw_model.specs.Steps.{IsAsked, IsNextMessage}
+use Rattle.fw_model.specs.Steps.{IsAsked, IsNextMessage, is_asked}
 use Rattle.fw_model.proofs.CmpLaws.{message_cmp-equal}
-use Rattle.fw_model.specs.Least.{is_asked}
-use Rattle.fw_model.proofs.LeastSteps.{asked-from}
+use Rattle.fw_model.proofs.EnabledLaws.{asked-from}
 
 -- whether the message is not greater than one of these that is asked for
 abbrev pub is_first : Option Stamp → Message → List Message → Bool

@@ -7,14 +7,13 @@ use Rattle.fw_frontier.specs.Front.{frontier_of}
 use Rattle.fw_frontier.proofs.NamesLaws.{frontier-closed}
 use Rattle.fw_flow.specs.declared.event.Event.{Event}
 use Rattle.fw_flow.specs.declared.event.Event.TheVariants.{Inject, Deliver}
-use Rattle.fw_flow.specs.Dataflow.{kind_of, policy_of, sender, receiver, bounds_of, batches_of, in_edges, out_edges, is_input_kind}
+use Rattle.fw_flow.specs.Dataflow.{kind_of, policy_of, sender, receiver, bounds_of, batches_of, in_edges, out_edges, is_input_kind, HasEpochs}
 use Rattle.fw_flow.specs.NodeFunction.{sends}
 use Rattle.fw_flow.specs.Projection.{phi}
 use Rattle.fw_flow.specs.WellFormed.{IsWellFormed}
 use Rattle.fw_model.specs.Choice.{until}
 use Rattle.fw_model.specs.History.{some_at, pending, owed, injected_epochs, IsQuiet, IsAdmissible, IsNotifiable, IsLegal}
 use Rattle.fw_model.specs.Machine.{front_of}
-use Rattle.fw_model.specs.LawsOfLegalHistories.{HasEpochs}
 use Rattle.fw_examples.specs.Flows.{regroup_by_three}
 use Rattle.fw_examples.specs.Numbers.{numbers, value_at, numbered_epoch, numbered_both}
 use Rattle.fw_examples.proofs.ChoiceFacts.{nothing_inside, below_epoch, by_three}

@@ -16,8 +16,6 @@ use Rattle.fw_flow.specs.declared.choice.Choice.{Choice}
 use Rattle.fw_model.specs.Choice.{View, kept, ever, until, by_checkpoints, cut_of, note_of, discarded_cover, IsRestorable, IsCandidate, IsConsistent, IsCutWithin, IsChoiceWithin, IsLargest, IsWatermark}
 use Rattle.fw_model.specs.Machine.{Machine, first_state, is_failed}
 use Rattle.fw_model.specs.Steps.{Steps, Run, CutsTo, did, cuts, lows, offers}
-use Rattle.fw_model.specs.LawsOfChoices.{IsUnionOfChoices}
-use Rattle.fw_model.specs.LawsOfExistence.{AreCheckpointsChains}
 use Rattle.fw_model.proofs.GoingOn.{runs-go_on}
 use Rattle.fw_examples.specs.RunningTotal.{totals, total_flow, alike, output_failed, come_back, two_epochs_kept, two_kept_noting, epoch_kept, steps_to_failure, outcomes_to_failure, steps_through_recovery, outcomes_through_recovery, steps_without_failure, outcomes_without_failure, steps_up_to_two, outcomes_up_to_two, steps_of_failure, outcomes_of_failure, steps_of_sum, outcomes_of_sum}
 use Rattle.fw_examples.proofs.Orders.{within_one}
@@ -25,6 +23,8 @@ use Rattle.fw_examples.proofs.FrontierFacts.{within_until}
 use Rattle.fw_examples.proofs.ChoiceFacts.{nothing_covered, cover_within, meet_within, within_meet, set_within, canonical, by_three, by_two}
 use Rattle.fw_examples.proofs.TotalDone.{join_within}
 use Rattle.fw_examples.proofs.TotalRun.{ten_acknowledged, two_collected, put_out_acknowledged, again_acknowledged, runs_to_two, runs_to_failure, runs_without_failure, runs_again}
+use Rattle.fw_model.specs.Unions.{IsUnionOfChoices}
+use Rattle.fw_model.specs.Choosing.{AreCheckpointsChains}
 
 -- fewer epochs lie within more
 pub until_within : (n j k : ℕ) → j ≤ k → Within (frontier_of (record { greatest = n ∷ [] }) (until j)) (frontier_of (record { greatest = n ∷ [] }) (until k))

@@ -7,7 +7,7 @@ use Rattle.fw_bag.specs.declared.rec.Rec.{Rec}
 use Rattle.fw_bag.specs.Keyed.{sorted}
 use Rattle.fw_time.specs.Stamp.{Stamp}
 use Rattle.fw_frontier.specs.Front.{frontier_of, inside}
-use Rattle.fw_flow.specs.Dataflow.{is_input_kind, kind_of, policy_of, sender, receiver, bounds_of, batches_of, in_edges, out_edges}
+use Rattle.fw_flow.specs.Dataflow.{is_input_kind, kind_of, policy_of, sender, receiver, bounds_of, batches_of, in_edges, out_edges, HasEpochs}
 use Rattle.fw_flow.specs.NodeFunction.{sends}
 use Rattle.fw_flow.specs.WellFormed.{IsPolicyAllowed, IsWellFormed, IsWellFormedSystem, IsBatch}
 use Rattle.fw_flow.specs.declared.kind.Kind.TheVariants.{Total}
@@ -15,12 +15,8 @@ use Rattle.fw_flow.specs.declared.kind.Policy.{Policy}
 use Rattle.fw_flow.specs.declared.kind.Policy.TheVariants as policy
 use Rattle.fw_model.specs.Choice.{kept, ever, until}
 use Rattle.fw_model.specs.Denotation.{IsDenotation, bag_at}
-use Rattle.fw_model.specs.History.{delivered}
+use Rattle.fw_model.specs.History.{delivered, recs_at}
 use Rattle.fw_model.specs.Machine.{is_failed}
-use Rattle.fw_model.specs.LawsOfDeliveries.{recs_at}
-use Rattle.fw_model.specs.LawsOfLegalHistories.{HasEpochs}
-use Rattle.fw_model.specs.LawsOfRecoveries.{IsDenotedInside}
-use Rattle.fw_model.specs.LawsOfSteps.{CanChoose}
 use Rattle.fw_examples.specs.RunningTotal.{totals, totals_of, total_flow_of, five_batches, totals_denoted, two_epochs, next_epochs, output_failed, two_epochs_kept}
 use Rattle.fw_examples.specs.WitnessesOfRuns.{TotalsAreWellFormed, FailureIsReached, RecoveryIsReached, TwoRunsMeet, SomeIsSettled, SomethingIsChosen, EachStepHasItsChoice, LowWatermarkRises, MoreIsComplete}
 use Rattle.fw_examples.proofs.ChoiceFacts.{by_two, by_three, below_epoch}
@@ -28,6 +24,8 @@ use Rattle.fw_examples.proofs.WellFormed.{no_closed_walk}
 use Rattle.fw_examples.proofs.TotalDone.{nothing_owed}
 use Rattle.fw_examples.proofs.TotalRun.{ten_acknowledged, two_collected, put_out_acknowledged, again_acknowledged, total_is_legal, none_owed, failed_complete, runs_to_two}
 use Rattle.fw_examples.proofs.TotalChoices.{collects, failed_run, run_to_recovery, run_through_recovery, run_without_failure, recovers, two_offered, kept_largest, kept_consistent, epoch_consistent, checkpoints_are_chains}
+use Rattle.fw_model.specs.Settled.{IsDenotedInside}
+use Rattle.fw_model.specs.Choosing.{CanChoose}
 
 total_up : (keeping : Policy) → (e : ℕ) → e < 2 → sender (total_flow_of keeping) e < receiver (total_flow_of keeping) e
 unfolding sender receiver

@@ -10,14 +10,12 @@ use Rattle.fw_frontier.specs.Frontier.{Frontier}
 use Rattle.fw_flow.specs.declared.event.Event.{Event}
 use Rattle.fw_flow.specs.declared.event.Event.TheVariants.{Inject, Deliver, Notify}
 use Rattle.fw_flow.specs.declared.event.Message.{Message}
-use Rattle.fw_flow.specs.Dataflow.{System, Dataflow, kind_of, sender, receiver, bounds_of, is_notified_kind}
+use Rattle.fw_flow.specs.Dataflow.{System, Dataflow, kind_of, sender, receiver, bounds_of, is_notified_kind, NotifiesNobody, HasEpochs}
 use Rattle.fw_flow.specs.NodeFunction.{place, stamp, sends, sent_by}
 use Rattle.fw_flow.specs.Projection.{events_at, all_inside, phi}
 use Rattle.fw_flow.specs.WellFormed.{IsWellFormed}
 use Rattle.fw_model.specs.History.{message_cmp, is_among, less, sent, message_on, delivered, pending, is_delivery_to, is_notification, was_delivered_to, was_notified, owed, is_injection, injected_count, IsQuiet, IsEnabled, IsLegal}
-use Rattle.fw_model.specs.LawsOfLegalHistories.{HasEpochs}
-use Rattle.fw_model.specs.LawsOfDeliveries.{AreNumberedInOrder}
-use Rattle.fw_model.specs.LawsOfFiltering.{AreFrontiers, kept_events, messages_from, messages_inside, HaveKeptCauses, KeptDeliveriesHaveKeptCauses, NotifiesNobody, KeptEventsAreLegalWithoutNotices}
+use Rattle.fw_model.specs.LawsOfFiltering.{KeptDeliveriesHaveKeptCauses, KeptEventsAreLegalWithoutNotices}
 use Rattle.fw_model.proofs.Decisions.{two_ways}
 use Rattle.fw_model.proofs.StampLaws.{leq_from, leq_to, line-leq, same-is}
 use Rattle.fw_model.proofs.CmpLaws.{among-each, message_cmp-equal}
@@ -26,6 +24,8 @@ use Rattle.fw_model.proofs.OrderLaws.{legal-inside_phi}
 use Rattle.fw_model.proofs.ClosedLaws.{numbered-ascend}
 use Rattle.fw_model.proofs.FilterLaws.{filter-all, any-filter, any_filter-none, how_many-filter, pending-kept}
 use Rattle.fw_model.proofs.LocalityLaws.{sends-same, delivers-same}
+use Rattle.fw_model.specs.Order.{AreNumberedInOrder}
+use Rattle.fw_model.specs.Filtering.{AreFrontiers, kept_events, messages_from, messages_inside, HaveKeptCauses}
 
 -- ---- kept deliveries have kept causes
 

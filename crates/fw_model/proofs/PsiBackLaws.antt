@@ -9,12 +9,12 @@ use Rattle.fw_time.proofs.StampLaws.{leq-refl, leq-trans}
 use Rattle.fw_frontier.specs.Frontier.{Frontier, IsFrontier}
 use Rattle.fw_flow.specs.declared.kind.Kind.{Kind}
 use Rattle.fw_flow.specs.declared.kind.Kind.TheVariants.{OutputEpoch, OutputNumber, Enter, Feedback, Leave, Sequence, Regroup}
-use Rattle.fw_flow.specs.Dataflow.{System, kind_of, sender, max_of, greatest_number, domain_of_kind, out_domain_of_kind, greatest_of_kind, bounds_of, bounds_of_domain, send_stamp_of_kind}
+use Rattle.fw_flow.specs.Dataflow.{System, kind_of, sender, max_of, greatest_number, domain_of_kind, out_domain_of_kind, greatest_of_kind, bounds_of, bounds_of_domain, send_stamp_of_kind, bounds_of_edge}
 use Rattle.fw_flow.specs.Projection.{first_number_of, psi, psi_back_of_kind, psi_back}
-use Rattle.fw_model.specs.LawsOfProjections.{bounds_of_edge}
-use Rattle.fw_model.specs.LawsOfSending.{SendsByStamp, SendsWithin, PsiBackBySendStamps, PsiBackIsLargest}
+use Rattle.fw_model.specs.LawsOfSending.{PsiBackBySendStamps, PsiBackIsLargest}
 use Rattle.fw_model.proofs.StampLaws.{loop-leq, nest-leq, in_loop, leq_from, leq_to, in_line, line-leq, leq-line}
 use Rattle.fw_model.proofs.SendingLaws.{some_is, fed_back-some, fed_back-nest, div-monotone, psi-by_stamp, send_stamp-in_domain}
+use Rattle.fw_model.specs.Sending.{SendsByStamp, SendsWithin}
 
 -- the domain with this greatest stamp
 abbrev up_to : Stamp → Bounds

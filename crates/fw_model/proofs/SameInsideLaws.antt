@@ -15,22 +15,21 @@ use Rattle.fw_flow.specs.declared.choice.Cut.TheVariants.{Present, At}
 use Rattle.fw_flow.specs.declared.event.Event.{Event}
 use Rattle.fw_flow.specs.declared.event.Event.TheVariants.{Inject, Deliver, Notify}
 use Rattle.fw_flow.specs.declared.event.Message.{Message}
-use Rattle.fw_flow.specs.Dataflow.{System, Dataflow, kind_of, policy_of, sender, receiver, bounds_of}
+use Rattle.fw_flow.specs.Dataflow.{System, Dataflow, kind_of, policy_of, sender, receiver, bounds_of, HasEpochs}
 use Rattle.fw_flow.specs.NodeFunction.{place, stamp, sends, sent_by}
 use Rattle.fw_flow.specs.Projection.{events_at, all_inside, phi}
 use Rattle.fw_flow.specs.WellFormed.{IsWellFormed}
 use Rattle.fw_model.specs.History.{sent, delivered, IsLegal}
 use Rattle.fw_model.specs.Machine.{Machine, events, front_of, bound_of}
 use Rattle.fw_model.specs.Choice.{kept, Restoring, by_batches, by_bound, by_anything, by_checkpoints, by_events, until, HasCheckpoint, AllLogged, IsRestorable, IsCandidate, restoring, can_resend, cut_of, kept_of, set_of, takes_its_cut, takes_its_notes, stamps_inside, stamps_from, stamp_of_notice, notified_inside, delivered_cover, notified_cover, discarded_at, discarded_cover, IsConsistent}
-use Rattle.fw_model.specs.LawsOfLegalHistories.{HasEpochs}
-use Rattle.fw_model.specs.LawsOfFiltering.{AreFrontiers, kept_events, messages_from, messages_inside}
-use Rattle.fw_model.specs.LawsOfChoosing.{low_choice}
 use Rattle.fw_model.proofs.Decisions.{two_ways}
 use Rattle.fw_model.proofs.StampLaws.{line-leq}
 use Rattle.fw_model.proofs.FilterLaws.{passes-not, filter-in, filter-out, filter-none}
 use Rattle.fw_model.proofs.PhiLaws.{phi-longer}
 use Rattle.fw_model.proofs.LocalityLaws.{sends-causes, delivers-same, sends-same_within, phi-same}
 use Rattle.fw_model.proofs.SequenceLaws.{one_inside}
+use Rattle.fw_model.specs.Filtering.{AreFrontiers, kept_events, messages_from, messages_inside}
+use Rattle.fw_model.specs.Choosing.{low_choice}
 
 -- the frontier that the list has at node p
 abbrev pub at_node : System → List Front → ℕ → Frontier

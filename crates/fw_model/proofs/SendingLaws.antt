@@ -10,12 +10,12 @@ use Rattle.fw_time.proofs.StampLaws.{leq-refl, leq-trans, outer-nest, counter-ne
 use Rattle.fw_frontier.specs.Frontier.{Frontier, IsFrontier}
 use Rattle.fw_flow.specs.declared.kind.Kind.{Kind}
 use Rattle.fw_flow.specs.declared.kind.Kind.TheVariants.{OutputEpoch, OutputNumber, Enter, Feedback, Leave, Sequence, Regroup}
-use Rattle.fw_flow.specs.Dataflow.{greatest_of_kind, System, Dataflow, kind_of, sender, max_of, greatest_number, domain_of_kind, out_domain_of_kind, bounds_of, bounds_of_domain, send_stamp, send_stamp_of_kind}
+use Rattle.fw_flow.specs.Dataflow.{greatest_of_kind, System, Dataflow, kind_of, sender, max_of, greatest_number, domain_of_kind, out_domain_of_kind, bounds_of, bounds_of_domain, send_stamp, send_stamp_of_kind, bounds_of_edge}
 use Rattle.fw_flow.specs.declared.event.Event.{Event}
 use Rattle.fw_flow.specs.Projection.{sent_count, each_counter, some_counter, phi_of_kind, phi, psi_of_kind, psi}
-use Rattle.fw_model.specs.LawsOfProjections.{bounds_of_edge}
-use Rattle.fw_model.specs.LawsOfSending.{SendsByStamp, IsSentFrom, SendsAbove, PhiBySendStamps, PsiBySendStamps, SendStampIsMonotone}
+use Rattle.fw_model.specs.LawsOfSending.{PhiBySendStamps, PsiBySendStamps, SendStampIsMonotone}
 use Rattle.fw_model.proofs.StampLaws.{IsInLoop, loop-leq, nest-leq, leq-nest, in_loop, leq_from, leq_to, in_line, line-leq, leq-line}
+use Rattle.fw_model.specs.Sending.{SendsByStamp, IsSentFrom, SendsAbove}
 
 -- the domain with this greatest stamp
 abbrev up_to : Stamp → Bounds

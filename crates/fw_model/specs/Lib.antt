@@ -1,6 +1,8 @@
+pub mod Acknowledgements
 pub mod Choice
-pub mod Clear
+pub mod Choosing
 pub mod Denotation
+pub mod Filtering
 pub mod History
 pub mod LawsOfChoices
 pub mod LawsOfChoosing
@@ -16,9 +18,12 @@ pub mod LawsOfRestoring
 pub mod LawsOfRuns
 pub mod LawsOfSending
 pub mod LawsOfSteps
-pub mod Least
 pub mod Machine
-pub mod Plain
-pub mod Ready
+pub mod Measure
+pub mod Order
+pub mod Resending
+pub mod Sending
+pub mod Settled
 pub mod Steps
-pub mod Wanted
+pub mod Unions
+pub mod Writes

@@ -1,5 +1,5 @@
 //! The laws of the definitions. Of each function that stands here the `ensures` is one law, and the body is empty; beside
-//! them are the laws of the crates below, and `complete_frontiers`, which computes what some of the laws speak of.
+//! them are the laws of the crates below.
 //!
 //! In the comments a flow is well formed by `IsWellFormed`, and with epochs where each node has at most 2^32 batches
 //! (`HasEpochs`); a system is well formed by `IsWellFormedSystem`, which says both and more. A node sends at the send
@@ -21,8 +21,6 @@ ghost use Rattle.fw_model.specs.LawsOfRuns.{AcknowledgementsAreInOrder, Acknowle
 ghost use Rattle.fw_model.specs.LawsOfSending.{InsidePhiComesFromInside, InsidePhiOfSequenceComesFromInside, PhiBySendStamps, PsiBackBySendStamps, PsiBackIsLargest, PsiBySendStamps, SendStampIsMonotone, SendersOfWellFormed, SendsAreInsidePsi, SendsAtSendStamp, SentFromInsideIsInsidePsi, SentTableFollowsHistory};
 ghost use Rattle.fw_model.specs.LawsOfSteps.{ExactlyOneNextState, OneNextState, SomeNextState};
 
-// What is complete, computed from a list of events.
-pub use crate::plain::complete_frontiers;
 // The laws of times and of frontiers, each over every type of times, and that of dataflows.
 pub use fw_flow::laws::ranks_exist;
 pub use fw_frontier::laws::{

@@ -17,14 +17,12 @@ use Rattle.fw_flow.specs.declared.event.Message.{Message}
 use Rattle.fw_flow.specs.declared.kind.Kind.{Kind}
 use Rattle.fw_flow.specs.declared.kind.Kind.TheVariants.{Input, OutputEpoch, OutputNumber}
 use Rattle.fw_flow.specs.declared.kind.Policy.TheVariants as policy
-use Rattle.fw_flow.specs.Dataflow.{System, kind_of, policy_of, sender, receiver, bounds_of, greatest_number, is_notified_kind}
+use Rattle.fw_flow.specs.Dataflow.{System, kind_of, policy_of, sender, receiver, bounds_of, greatest_number, is_notified_kind, bounds_of_edge}
 use Rattle.fw_flow.specs.Projection.{all_inside, phi, phi_by_count}
 use Rattle.fw_model.specs.Choice as machine
 use Rattle.fw_model.specs.Choice.{kept, Restoring, by_batches, by_bound, by_anything, by_checkpoints, by_events, restoring, takes_its_cut, takes_its_notes, can_resend, covers_in, IsCandidate, IsRestorable, stamp_of_notice}
-use Rattle.fw_model.specs.History.{delivered, sent, injected_count}
-use Rattle.fw_model.specs.LawsOfProjections.{bounds_of_edge}
+use Rattle.fw_model.specs.History.{delivered, sent, injected_count, AreAtNodes}
 use Rattle.fw_model.specs.Machine.{Machine, events, is_failed, no_stamps, front_of, bound_of}
-use Rattle.fw_model.specs.Plain.{AreAtNodes}
 use Rattle.fw_model.proofs.ChoiceLaws.{by_batches-input, bounds-input}
 use Rattle.fw_model.proofs.DomainLaws.{edge-bounds, has_epochs}
 use Rattle.fw_model.proofs.InputLaws.{injected-few}

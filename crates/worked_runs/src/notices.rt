@@ -3,13 +3,13 @@ ghost use Rattle.std.specs.Prelude.{◌≡◌, reverse};
 ghost use Rattle.fw_time.specs.Stamp.{in_domain};
 ghost use Rattle.fw_flow.specs.Dataflow.{bounds_of};
 ghost use Rattle.fw_flow.specs.NodeFunction.{place, stamp};
-ghost use Rattle.fw_model.specs.Plain.{AreAtNodes};
+ghost use Rattle.fw_model.specs.History.{AreAtNodes};
 
 use crate::projections::every_kind;
 use fw_bag::Rec;
 use fw_flow::{Causes, Event, Flow, Message, NodeId};
 use fw_lines::{Batches, ReadFault, SourceNames, read_batches};
-use fw_model::plain::next_notice;
+use fw_plain::scan::next_notice;
 use fw_time::Stamp;
 use std::alloc::{AllocError, Global};
 use std::test::Fail;

@@ -42,6 +42,7 @@ pub mod MeasureLaws
 pub mod MeetLaws
 pub mod NotifiedLaws
 pub mod NumberedLaws
+pub mod OfferLaws
 pub mod OncePerNumberLaws
 pub mod OneByOneLaws
 pub mod OneNextLaws
@@ -76,6 +77,7 @@ pub mod StampMeasures
 pub mod SubBagLaws
 pub mod SumLaws
 pub mod TableLaws
+pub mod TallyLaws
 pub mod TimedCounts
 pub mod TimedLaws
 pub mod WaitingSteps

@@ -6,13 +6,15 @@ use Rattle.fw_frontier.specs.Frontier.{Frontier, IsFrontier}
 use Rattle.fw_frontier.specs.Front.{Front, frontier_of, Names}
 use Rattle.fw_flow.specs.declared.choice.Cut.{Cut}
 use Rattle.fw_flow.specs.declared.event.Event.{Event}
-use Rattle.fw_flow.specs.Dataflow.{System, kind_of, policy_of, bounds_of}
+use Rattle.fw_flow.specs.Dataflow.{System, bounds_of}
 use Rattle.fw_flow.specs.WellFormed.{IsWellFormed}
 use Rattle.fw_model.specs.History.{IsComplete}
 use Rattle.fw_model.specs.Machine.{Machine, events, front_of, is_failed}
 use Rattle.fw_flow.specs.declared.choice.Choice.{Choice}
-use Rattle.fw_model.specs.Choice.{View, by_checkpoints, restoring, IsCandidate, IsConsistent, IsCutWithin, IsLargest}
+use Rattle.fw_model.specs.Choice.{View, IsCandidate, IsConsistent, IsCutWithin, IsLargest}
+use Rattle.fw_flow.specs.declared.restoring.Restoring.TheVariants.{Checkpoints}
 use Rattle.fw_model.specs.Steps.{GrowsTo}
+use Rattle.fw_flow.specs.Restoring.{way_of}
 
 -- each frontier of a domain has a list of outside stamps that names it
 abbrev pub FrontierHasFront : Type 0
@@ -44,9 +46,9 @@ SettledCanGrow = (sys : System) (state : Machine) (done : ℕ → Frontier) → 
 -- where a node is restored by its checkpoints, of two cuts that it offers one lies within the other
 abbrev pub AreCheckpointsChains : System → Machine → (ℕ → Bool) → View → Type 0
 AreCheckpointsChains sys state lost view =
-    (p : ℕ) (one other : Cut) → p < length sys.flow.nodes → restoring (kind_of sys.flow p) (policy_of sys.flow p) ≡ by_checkpoints
+    (p : ℕ) (one other : Cut) → p < length sys.flow.nodes → way_of sys.flow p ≡ Checkpoints
     → IsCandidate sys state lost view p one → IsCandidate sys state lost view p other
-    → IsCutWithin sys p one other ⊎ IsCutWithin sys p other one
+    → IsCutWithin sys.flow p one other ⊎ IsCutWithin sys.flow p other one
 
 -- where some choice of the restore candidates is consistent and checkpoints are chains, there is a largest choice
 abbrev pub LargestChoiceExists : Type 0

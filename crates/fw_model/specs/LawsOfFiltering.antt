@@ -14,7 +14,9 @@ use Rattle.fw_flow.specs.WellFormed.{IsWellFormed}
 use Rattle.fw_model.specs.History.{IsLegal, IsQuiet, sent, delivered, pending, owed}
 use Rattle.fw_model.specs.Machine.{Machine, events, front_of}
 use Rattle.fw_flow.specs.declared.choice.Choice.{Choice}
-use Rattle.fw_model.specs.Choice.{View, IsCandidate, IsConsistent, ComesFromSender, LiesInReceiver, HasItsNotices, IsNoteKept, NoteComesFromSender, covers_in, stamp_of_notice, can_resend, cut_of, kept_of, filtered}
+use Rattle.fw_model.specs.Choice.{View, IsCandidate, IsConsistent, ComesFromSender, LiesInReceiver, HasItsNotices, IsNoteKept, NoteComesFromSender, cut_of, kept_of, filtered}
+use Rattle.fw_model.specs.Covers.{covers_in, stamp_of_notice}
+use Rattle.fw_flow.specs.Restoring.{can_resend}
 use Rattle.fw_model.specs.LawsOfLegalHistories.{HasEpochs}
 
 -- the stamps that each node keeps are a frontier of its domain
@@ -113,10 +115,10 @@ KeptEventsAreLegal = (sys : System) (h : List Event) (keep note : ℕ → Fronti
 pub record MeetsInclusions (sys : System) (state : Machine) (choice : Choice) : Type 0 where
   pub one_cut_each : length choice.cuts ≡ length sys.flow.nodes
   pub one_note_each : length choice.notes ≡ length sys.flow.nodes
-  pub delivered : (d : ℕ) → d < length sys.flow.edges → ComesFromSender sys (covers_in sys state) choice d
-  pub notified : (p : ℕ) → p < length sys.flow.nodes → HasItsNotices sys (covers_in sys state) choice p
-  pub own : (p : ℕ) → p < length sys.flow.nodes → IsNoteKept sys choice p
-  pub notes : (d : ℕ) → d < length sys.flow.edges → NoteComesFromSender sys (covers_in sys state) choice d
+  pub delivered : (d : ℕ) → d < length sys.flow.edges → ComesFromSender sys.flow (covers_in sys state) choice d
+  pub notified : (p : ℕ) → p < length sys.flow.nodes → HasItsNotices sys.flow (covers_in sys state) choice p
+  pub own : (p : ℕ) → p < length sys.flow.nodes → IsNoteKept sys.flow choice p
+  pub notes : (d : ℕ) → d < length sys.flow.edges → NoteComesFromSender sys.flow (covers_in sys state) choice d
 
 -- a consistent choice of the restore candidates meets the inclusions
 abbrev pub ConsistentMeetsInclusions : Type 0
@@ -156,7 +158,7 @@ PendingForPresent = (sys : System) (state : Machine) (choice : Choice) → IsWel
     → IsLegal sys (events state.history) → MeetsInclusions sys state choice → (e : ℕ)
     → cut_of choice (receiver sys.flow e) ≡ Present
     → pending sys (events (filtered sys choice state.history)) e
-    ≡ messages_from (kept_of sys choice (sender sys.flow e)) (pending sys (events state.history) e)
+    ≡ messages_from (kept_of sys.flow choice (sender sys.flow e)) (pending sys (events state.history) e)
 
 -- fullness: inside what is settled all has come, so that nothing is pending and nothing is owed
 pub record IsFull (sys : System) (state : Machine) : Type 0 where
@@ -168,7 +170,7 @@ pub record IsFull (sys : System) (state : Machine) : Type 0 where
 -- a node is cut to what is settled, or to less
 abbrev pub IsCutWithinSettled : System → Machine → Choice → ℕ → Type 0
 IsCutWithinSettled sys state choice p =
-    Within (kept_of sys choice p) (frontier_of (bounds_of sys.flow p) (front_of state.settled p))
+    Within (kept_of sys.flow choice p) (frontier_of (bounds_of sys.flow p) (front_of state.settled p))
 
 -- A legal history of a well-formed flow with epochs, full inside what is settled, is filtered by a choice that meets the
 -- inclusions. For a receiver that is cut within what is settled, what is pending in the filtered history is the part with
@@ -178,12 +180,12 @@ PendingForCut = (sys : System) (state : Machine) (choice : Choice) → IsWellFor
     → IsLegal sys (events state.history) → IsFull sys state → MeetsInclusions sys state choice → (e : ℕ)
     → IsCutWithinSettled sys state choice (receiver sys.flow e)
     → pending sys (events (filtered sys choice state.history)) e
-    ≡ messages_outside (kept_of sys choice (receiver sys.flow e))
-    (messages_from (kept_of sys choice (sender sys.flow e)) (sent sys (events state.history) e))
+    ≡ messages_outside (kept_of sys.flow choice (receiver sys.flow e))
+    (messages_from (kept_of sys.flow choice (sender sys.flow e)) (sent sys (events state.history) e))
 
 -- what the sender of an edge sent inside its cut and cannot send again lies in what the receiver keeps
 abbrev pub KeepsDiscarded : System → Machine → Choice → ℕ → Type 0
-KeepsDiscarded sys state choice e = LiesInReceiver sys (covers_in sys state) choice e
+KeepsDiscarded sys state choice e = LiesInReceiver sys.flow (covers_in sys state) choice e
 
 -- A legal history of a well-formed flow with epochs, full inside what is settled, is filtered by a choice that meets the
 -- inclusions. For a receiver that is cut within what is settled nothing is pending from a sender whose policy cannot send

@@ -17,9 +17,10 @@ use Rattle.fw_flow.specs.WellFormed.{IsWellFormedSystem, may_keep_nothing}
 use Rattle.fw_model.specs.History.{sent, injected_count, IsEnabled}
 use Rattle.fw_model.specs.Machine.{Machine, Numbered, Write, Written, checkpoint, logged_event, acknowledged, collected, events, no_stamps, first_state, front_of}
 use Rattle.fw_flow.specs.declared.choice.Choice.{Choice}
-use Rattle.fw_model.specs.Choice.{kept, ever, counts, IsCandidate, delivered_cover, notified_cover, discarded_cover, cut_of, kept_of, IsLargest, IsWatermark}
+use Rattle.fw_model.specs.Choice.{kept, ever, counts, IsCandidate, cut_of, kept_of, IsLargest, IsWatermark}
 use Rattle.fw_model.specs.Steps.{Outcome, Steps, Run, checkpoint_front, is_in_flight, front_of_cut, is_given_up, lies_below}
 use Rattle.fw_model.specs.LawsOfFiltering.{events_inside, messages_from, messages_outside}
+use Rattle.fw_model.specs.Covers.{covers_in}
 
 -- whether the policy takes checkpoints, asked or of its own
 abbrev pub takes_checkpoints : Policy → Bool
@@ -37,9 +38,9 @@ pub record IsSamePart (sys : System) (h k : List Event) (p : ℕ) (f : Frontier)
 -- of it, and as what it cannot send again.
 pub record CountsTheSame (sys : System) (state next : Machine) (p : ℕ) (f : Front) : Type 0 where
   pub part : IsSamePart sys (events state.history) (events next.history) p (frontier_of (bounds_of sys.flow p) f)
-  pub delivered : (d : ℕ) → receiver sys.flow d ≡ p → delivered_cover sys next p d (At f) ≡ delivered_cover sys state p d (At f)
-  pub notified : notified_cover sys next p (At f) ≡ notified_cover sys state p (At f)
-  pub discarded : (e : ℕ) → sender sys.flow e ≡ p → discarded_cover sys next p e (At f) ≡ discarded_cover sys state p e (At f)
+  pub delivered : (d : ℕ) → receiver sys.flow d ≡ p → (covers_in sys next).delivered d (At f) ≡ (covers_in sys state).delivered d (At f)
+  pub notified : (covers_in sys next).notified p (At f) ≡ (covers_in sys state).notified p (At f)
+  pub discarded : (e : ℕ) → sender sys.flow e ≡ p → (covers_in sys next).discarded e (At f) ≡ (covers_in sys state).discarded e (At f)
 
 -- what is written of node p counts the same in two states, if it is a checkpoint
 abbrev pub CountsWritten : System → Machine → Machine → ℕ → Written → Type 0
@@ -137,12 +138,12 @@ logged_messages sys state low e f = messages_outside (at_receiver sys low e) (me
 -- what is to be sent again on edge e: what the sender's kept events sent outside the receiver's cut
 abbrev pub messages_to_resend : System → Machine → Choice → ℕ → List Message
 messages_to_resend sys state choice e =
-    messages_outside (kept_of sys choice (receiver sys.flow e)) (messages_from (kept_of sys choice (sender sys.flow e)) (sent sys (events state.history) e))
+    messages_outside (kept_of sys.flow choice (receiver sys.flow e)) (messages_from (kept_of sys.flow choice (sender sys.flow e)) (sent sys (events state.history) e))
 
 -- What is to be sent again on edge e lies outside low at the receiver, so that the log without what lies inside holds it.
 pub record HoldsWhatIsSentAgain (sys : System) (state : Machine) (choice : Choice) (low : List Front) (e : ℕ) : Type 0 where
   pub outside : AllByRecursion (λ (m : Message). at_receiver sys low e m.at ≡ false) (messages_to_resend sys state choice e)
-  pub logged : messages_outside (kept_of sys choice (receiver sys.flow e)) (logged_messages sys state low e (kept_of sys choice (sender sys.flow e)))
+  pub logged : messages_outside (kept_of sys.flow choice (receiver sys.flow e)) (logged_messages sys state low e (kept_of sys.flow choice (sender sys.flow e)))
       ≡ messages_to_resend sys state choice e
 
 -- in each state to which steps of a well-formed system lead from the first one, with each largest choice among what is
@@ -181,7 +182,7 @@ KeptWatermarksLieWithinToday = (sys : System) → IsWellFormedSystem sys → (st
 abbrev pub BatchesOutsideCutsLieOutsideLow : Type 0
 BatchesOutsideCutsLieOutsideLow = (sys : System) → IsWellFormedSystem sys → (steps : List Step) (outcomes : List Outcome) (last : Machine)
     → Run sys (first_state sys) steps outcomes last → (lost : ℕ → Bool) (choice : Choice) → IsLargest sys last (IsCandidate sys last lost kept) choice
-    → (s x : ℕ) → s < length sys.flow.nodes → kept_of sys choice s (x ∷ []) ≡ false
+    → (s x : ℕ) → s < length sys.flow.nodes → kept_of sys.flow choice s (x ∷ []) ≡ false
     → frontier_of (bounds_of sys.flow s) (front_of last.low s) (x ∷ []) ≡ false
 
 -- a batch of an input that is not injected in some state of a run of a well-formed system, and so is to come, lies outside

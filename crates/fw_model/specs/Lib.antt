@@ -1,5 +1,6 @@
 pub mod Choice
 pub mod Clear
+pub mod Covers
 pub mod Denotation
 pub mod History
 pub mod LawsOfChoices
@@ -10,6 +11,7 @@ pub mod LawsOfDenotation
 pub mod LawsOfExistence
 pub mod LawsOfFiltering
 pub mod LawsOfLegalHistories
+pub mod LawsOfOffers
 pub mod LawsOfProjections
 pub mod LawsOfRecoveries
 pub mod LawsOfRestoring
@@ -18,6 +20,7 @@ pub mod LawsOfSending
 pub mod LawsOfSteps
 pub mod Least
 pub mod Machine
+pub mod Offers
 pub mod Plain
 pub mod Ready
 pub mod Steps

@@ -7,10 +7,11 @@ ghost use Rattle.fw_frontier.specs.Front.{frontier_of, IsCanonical, Names};
 ghost use Rattle.fw_flow.specs.declared.kind.Policy.TheVariants as policy;
 ghost use Rattle.fw_flow.specs.Dataflow.{kind_of, bounds_of, greatest_number};
 ghost use Rattle.fw_model.specs.Choice as choices;
-ghost use Rattle.fw_model.specs.Choice.{restoring, stamp_of_notice};
+ghost use Rattle.fw_flow.specs.Restoring.{restoring};
+ghost use Rattle.fw_model.specs.Covers.{stamp_of_notice};
 ghost use Rattle.fw_model.specs.Machine.{Machine, is_failed, front_of};
 ghost use Rattle.fw_model.specs.Plain.{system_of, AreAtNodes};
-ghost use Rattle.fw_monitor.specs.Offers.{AreOffersIn};
+ghost use Rattle.fw_model.specs.Offers.{AreOffersIn};
 ghost use Rattle.fw_plain.specs.Offered as spec;
 ghost use Rattle.fw_plain.specs.Offered.{StandsBy, OffersBy, AreBare, IsBare};
 

@@ -9,7 +9,8 @@ use Rattle.fw_flow.specs.declared.choice.Cut.{Cut}
 use Rattle.fw_flow.specs.declared.choice.Cut.TheVariants.{Present, At}
 use Rattle.fw_flow.specs.Dataflow.{System, bounds_of}
 use Rattle.fw_flow.specs.Projection.{first_number_of}
-use Rattle.fw_model.specs.Choice.{set_of, IsCutWithin}
+use Rattle.fw_model.specs.Covers.{set_of}
+use Rattle.fw_model.specs.Choice.{IsCutWithin}
 
 -- no stamp is covered by none
 pub nothing_covered : (bounds : Bounds) (t : Stamp) → cover bounds [] t ≡ true → ⊥
@@ -57,8 +58,8 @@ within_meet f g w t = go (f t) (g t) refl refl
     go false true p q = sym (sym p ∙ w t q)
 
 -- a cut within a list holds no more than the list
-pub set_within : (sys : System) (p : ℕ) (cut : Cut) (g : Front) → IsCutWithin sys p cut (At g)
-    → Within (set_of sys p cut) (frontier_of (bounds_of sys.flow p) g)
+pub set_within : (sys : System) (p : ℕ) (cut : Cut) (g : Front) → IsCutWithin sys.flow p cut (At g)
+    → Within (set_of sys.flow p cut) (frontier_of (bounds_of sys.flow p) g)
 set_within sys p Present g h = absurd h
 set_within sys p (At f) g h = h
 

@@ -14,7 +14,8 @@ use Rattle.fw_flow.specs.NodeFunction.{sends}
 use Rattle.fw_flow.specs.Projection.{phi}
 use Rattle.fw_flow.specs.declared.choice.Choice.{Choice}
 use Rattle.fw_flow.specs.declared.kind.Policy.TheVariants as policy
-use Rattle.fw_model.specs.Choice.{until, stamp_of_notice, IsConsistent}
+use Rattle.fw_model.specs.Choice.{until, IsConsistent}
+use Rattle.fw_model.specs.Covers.{stamp_of_notice}
 use Rattle.fw_model.specs.History.{some_at, delivered, IsQuiet}
 use Rattle.fw_model.specs.Machine.{Machine, front_of, is_failed}
 use Rattle.fw_model.proofs.FilteredLaws.{set-frontier}

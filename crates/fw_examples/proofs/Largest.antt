@@ -11,7 +11,8 @@ use Rattle.fw_flow.specs.Dataflow.{kind_of, policy_of, sender, receiver, bounds_
 use Rattle.fw_flow.specs.Projection.{phi, psi}
 use Rattle.fw_model.specs.Machine.{events, front_of}
 use Rattle.fw_flow.specs.declared.choice.Choice.{Choice}
-use Rattle.fw_model.specs.Choice.{IsConsistent, IsCutWithin, IsLargest, set_of, cut_of, note_of, kept_of, delivered_cover, discarded_cover, notified_cover}
+use Rattle.fw_model.specs.Choice.{IsConsistent, IsCutWithin, IsLargest, cut_of, note_of, kept_of}
+use Rattle.fw_model.specs.Covers.{set_of, covers_in}
 use Rattle.fw_model.specs.Steps.{CutsTo, IsSettledCut, offers}
 use Rattle.fw_examples.specs.Flows.{loop_counts_up, two_batches}
 use Rattle.fw_examples.specs.UnderWay.{under_way, counted_rounds, complete_fronts}
@@ -42,7 +43,7 @@ canonical (suc (suc (suc (suc (suc (suc zero)))))) h = (record { in_the_domain =
 canonical (suc (suc (suc (suc (suc (suc (suc p))))))) h = absurd (omega arith)
 
 delivered_kept : (d : ℕ) → d < 7
-    → Within (delivered_cover two_batches counting_failed (receiver loop_counts_up d) d (cut_of restored (receiver loop_counts_up d))) (phi two_batches (events (with_serials under_way)) d (kept_of two_batches restored (sender loop_counts_up d)))
+    → Within ((covers_in two_batches counting_failed).delivered d (cut_of restored (receiver loop_counts_up d))) (phi two_batches (events (with_serials under_way)) d (kept_of loop_counts_up restored (sender loop_counts_up d)))
 unfolding phi kind_of policy_of sender receiver bounds_of max_of
 delivered_kept zero h = within_one 4294967295 _ _ (λ x hx k. grind (arith, nat_tests))
 delivered_kept (suc zero) h = within_two 4294967295 3 _ _ (λ x y hx hy k. grind (arith, nat_tests))
@@ -54,7 +55,7 @@ delivered_kept (suc (suc (suc (suc (suc (suc zero)))))) h = within_one 429496729
 delivered_kept (suc (suc (suc (suc (suc (suc (suc d))))))) h = absurd (omega arith)
 
 discarded_kept : (e : ℕ) → e < 7
-    → Within (discarded_cover two_batches counting_failed (sender loop_counts_up e) e (cut_of restored (sender loop_counts_up e))) (kept_of two_batches restored (receiver loop_counts_up e))
+    → Within ((covers_in two_batches counting_failed).discarded e (cut_of restored (sender loop_counts_up e))) (kept_of loop_counts_up restored (receiver loop_counts_up e))
 unfolding psi kind_of policy_of sender receiver bounds_of max_of
 discarded_kept zero h = λ t k. (and_parts _ _ k).0
 discarded_kept (suc zero) h = λ t k. (and_parts _ _ k).0
@@ -65,7 +66,7 @@ discarded_kept (suc (suc (suc (suc (suc zero))))) h = λ t k. (and_parts _ _ k).
 discarded_kept (suc (suc (suc (suc (suc (suc zero)))))) h = λ t k. (and_parts _ _ k).0
 discarded_kept (suc (suc (suc (suc (suc (suc (suc e))))))) h = absurd (omega arith)
 
-notified_kept : (p : ℕ) → p < 7 → Within (notified_cover two_batches counting_failed p (cut_of restored p)) (note_of two_batches restored p)
+notified_kept : (p : ℕ) → p < 7 → Within ((covers_in two_batches counting_failed).notified p (cut_of restored p)) (note_of loop_counts_up restored p)
 unfolding kind_of policy_of sender receiver bounds_of max_of
 notified_kept zero h = within_one 4294967295 _ _ (λ x hx k. grind (arith, nat_tests))
 notified_kept (suc zero) h = within_one 4294967295 _ _ (λ x hx k. grind (arith, nat_tests))
@@ -76,7 +77,7 @@ notified_kept (suc (suc (suc (suc (suc zero))))) h = within_two 4294967295 3 _ _
 notified_kept (suc (suc (suc (suc (suc (suc zero)))))) h = within_one 4294967295 _ _ (λ x hx k. grind (arith, nat_tests))
 notified_kept (suc (suc (suc (suc (suc (suc (suc p))))))) h = absurd (omega arith)
 
-own : (p : ℕ) → p < 7 → Within (note_of two_batches restored p) (kept_of two_batches restored p)
+own : (p : ℕ) → p < 7 → Within (note_of loop_counts_up restored p) (kept_of loop_counts_up restored p)
 unfolding kind_of policy_of sender receiver bounds_of max_of
 own zero h = λ t k. (and_parts _ _ k).0
 own (suc zero) h = λ t k. (and_parts _ _ k).0
@@ -88,7 +89,7 @@ own (suc (suc (suc (suc (suc (suc zero)))))) h = λ t k. (and_parts _ _ k).0
 own (suc (suc (suc (suc (suc (suc (suc p))))))) h = absurd (omega arith)
 
 notes_kept : (d : ℕ) → d < 7
-    → Within (note_of two_batches restored (receiver loop_counts_up d)) (phi two_batches (events (with_serials under_way)) d (note_of two_batches restored (sender loop_counts_up d)))
+    → Within (note_of loop_counts_up restored (receiver loop_counts_up d)) (phi two_batches (events (with_serials under_way)) d (note_of loop_counts_up restored (sender loop_counts_up d)))
 unfolding phi kind_of policy_of sender receiver bounds_of max_of
 notes_kept zero h = within_one 4294967295 _ _ (λ x hx k. grind (arith, nat_tests))
 notes_kept (suc zero) h = within_two 4294967295 3 _ _ (λ x y hx hy k. grind (arith, nat_tests))
@@ -118,19 +119,19 @@ consistent = record {
 }
 
 -- a cut that is offered at the failed node lies within what is settled of it
-cut_within : (cut : Cut) → offers two_batches counting_failed 3 cut → IsCutWithin two_batches 3 cut (At counted_rounds)
+cut_within : (cut : Cut) → offers two_batches counting_failed 3 cut → IsCutWithin loop_counts_up 3 cut (At counted_rounds)
 unfolding kind_of policy_of sender receiver bounds_of max_of
 cut_within Present h = cc
 cut_within (At f) h = h.1
 
 -- and so does what it keeps
-kept_within : (cut : Cut) → offers two_batches counting_failed 3 cut → Within (set_of two_batches 3 cut) (frontier_of (bounds_of loop_counts_up 3) counted_rounds)
+kept_within : (cut : Cut) → offers two_batches counting_failed 3 cut → Within (set_of loop_counts_up 3 cut) (frontier_of (bounds_of loop_counts_up 3) counted_rounds)
 unfolding kind_of policy_of sender receiver bounds_of max_of
 kept_within Present h = cc
 kept_within (At f) h = h.1
 
 cuts_within : (other : Choice) → IsConsistent two_batches counting_failed (offers two_batches counting_failed) other
-    → (p : ℕ) → p < 7 → IsCutWithin two_batches p (cut_of other p) (cut_of restored p)
+    → (p : ℕ) → p < 7 → IsCutWithin loop_counts_up p (cut_of other p) (cut_of restored p)
 cuts_within other ok zero h = tt
 cuts_within other ok (suc zero) h = tt
 cuts_within other ok (suc (suc zero)) h = tt
@@ -142,41 +143,41 @@ cuts_within other ok (suc (suc (suc (suc (suc (suc (suc p))))))) h = absurd (ome
 
 -- the notes of a consistent choice at the failed node lie within what it keeps, and others within what that projects to
 counting_note : (other : Choice) → IsConsistent two_batches counting_failed (offers two_batches counting_failed) other
-    → Within (note_of two_batches other 3) (note_of two_batches restored 3)
+    → Within (note_of loop_counts_up other 3) (note_of loop_counts_up restored 3)
 counting_note other ok t h = kept_within (cut_of other 3) (ok.offered 3 (lit< tt)) t (ok.own 3 (lit< tt) t h)
 
 feedback_note : (other : Choice) → IsConsistent two_batches counting_failed (offers two_batches counting_failed) other
-    → Within (note_of two_batches other 4) (note_of two_batches restored 4)
+    → Within (note_of loop_counts_up other 4) (note_of loop_counts_up restored 4)
 unfolding phi kind_of policy_of sender receiver bounds_of max_of
-feedback_note other ok t h = counting_note other ok t (and_parts (in_domain (bounds_of loop_counts_up 4) t) (note_of two_batches other 3 t) (ok.notes 3 (lit< tt) t h)).1
+feedback_note other ok t h = counting_note other ok t (and_parts (in_domain (bounds_of loop_counts_up 4) t) (note_of loop_counts_up other 3 t) (ok.notes 3 (lit< tt) t h)).1
 
 leaving_note : (other : Choice) → IsConsistent two_batches counting_failed (offers two_batches counting_failed) other
-    → Within (note_of two_batches other 5) (note_of two_batches restored 5)
+    → Within (note_of loop_counts_up other 5) (note_of loop_counts_up restored 5)
 unfolding phi kind_of policy_of sender receiver bounds_of max_of
-leaving_note other ok t h = counting_note other ok t (and_parts (in_domain (bounds_of loop_counts_up 5) t) (note_of two_batches other 3 t) (ok.notes 5 (lit< tt) t h)).1
+leaving_note other ok t h = counting_note other ok t (and_parts (in_domain (bounds_of loop_counts_up 5) t) (note_of loop_counts_up other 3 t) (ok.notes 5 (lit< tt) t h)).1
 
-fed_back_within : Within (phi two_batches under_way 4 (note_of two_batches restored 4)) (note_of two_batches restored 2)
+fed_back_within : Within (phi two_batches under_way 4 (note_of loop_counts_up restored 4)) (note_of loop_counts_up restored 2)
 unfolding phi kind_of policy_of sender receiver bounds_of max_of
 fed_back_within = within_two 4294967295 3 _ _ (λ x y hx hy k. grind (arith, nat_tests))
 
-left_within : Within (phi two_batches under_way 6 (note_of two_batches restored 5)) (note_of two_batches restored 6)
+left_within : Within (phi two_batches under_way 6 (note_of loop_counts_up restored 5)) (note_of loop_counts_up restored 6)
 unfolding phi kind_of policy_of sender receiver bounds_of max_of
 left_within = within_one 4294967295 _ _ (λ x hx k. grind (arith, nat_tests))
 
 mixing_note : (other : Choice) → IsConsistent two_batches counting_failed (offers two_batches counting_failed) other
-    → Within (note_of two_batches other 2) (note_of two_batches restored 2)
+    → Within (note_of loop_counts_up other 2) (note_of loop_counts_up restored 2)
 unfolding kind_of policy_of sender receiver bounds_of max_of
 mixing_note other ok t h =
-    fed_back_within t (feeds_more (note_of two_batches other 4) (note_of two_batches restored 4) (feedback_note other ok) t (ok.notes 4 (lit< tt) t h))
+    fed_back_within t (feeds_more (note_of loop_counts_up other 4) (note_of loop_counts_up restored 4) (feedback_note other ok) t (ok.notes 4 (lit< tt) t h))
 
 output_note : (other : Choice) → IsConsistent two_batches counting_failed (offers two_batches counting_failed) other
-    → Within (note_of two_batches other 6) (note_of two_batches restored 6)
+    → Within (note_of loop_counts_up other 6) (note_of loop_counts_up restored 6)
 unfolding kind_of policy_of sender receiver bounds_of max_of
 output_note other ok t h =
-    left_within t (leaves_more (note_of two_batches other 5) (note_of two_batches restored 5) (leaving_note other ok) t (ok.notes 6 (lit< tt) t h))
+    left_within t (leaves_more (note_of loop_counts_up other 5) (note_of loop_counts_up restored 5) (leaving_note other ok) t (ok.notes 6 (lit< tt) t h))
 
 notes_within : (other : Choice) → IsConsistent two_batches counting_failed (offers two_batches counting_failed) other
-    → (p : ℕ) → p < 7 → Within (note_of two_batches other p) (note_of two_batches restored p)
+    → (p : ℕ) → p < 7 → Within (note_of loop_counts_up other p) (note_of loop_counts_up restored p)
 notes_within other ok zero h = λ t k. and_from _ _ (and_parts (in_domain (bounds_of loop_counts_up 0) t) _ k).0 refl
 notes_within other ok (suc zero) h = λ t k. and_from _ _ (and_parts (in_domain (bounds_of loop_counts_up 1) t) _ k).0 refl
 notes_within other ok (suc (suc zero)) h = mixing_note other ok

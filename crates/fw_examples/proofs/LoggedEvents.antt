@@ -15,7 +15,7 @@ use Rattle.fw_flow.specs.Dataflow.{kind_of, policy_of, sender, receiver, bounds_
 use Rattle.fw_flow.specs.NodeFunction.{sends}
 use Rattle.fw_flow.specs.Projection.{phi, psi}
 use Rattle.fw_flow.specs.declared.choice.Choice.{Choice}
-use Rattle.fw_model.specs.Choice.{cut_of, note_of, discarded_cover, IsLogged, IsConsistent, IsCutWithin, IsChoiceWithin, IsLargest}
+use Rattle.fw_model.specs.Choice.{cut_of, note_of, IsLogged, IsConsistent, IsCutWithin, IsChoiceWithin, IsLargest}
 use Rattle.fw_model.specs.History.{pending, some_at, IsComplete}
 use Rattle.fw_model.specs.Machine.{Machine, Write, first_state, events, front_of, logged_event, in_flight, acknowledged}
 use Rattle.fw_model.specs.Steps.{Steps, CutsTo, with_event, offers, did, quiet, cuts, acked, Run}
@@ -25,6 +25,7 @@ use Rattle.fw_examples.proofs.FrontierFacts.{within_all, within_until, not_same}
 use Rattle.fw_examples.proofs.StepFacts.{injects, delivers, acknowledges_first_write, acknowledges_second_write}
 use Rattle.fw_examples.proofs.ChoiceFacts.{nothing_covered, covered_in_all, meet_within, within_meet, set_within, canonical, by_three, by_two}
 use Rattle.fw_examples.proofs.OneSelectDone.{named, admissible, complete, all_complete, below_all, progresses, none_failed}
+use Rattle.fw_model.specs.Covers.{covers_in}
 
 -- a rec of epoch 0
 abbrev message : ℕ → ℕ → Message
@@ -139,26 +140,26 @@ one_consistent = record {
 }
 
 -- a frontier with epoch 0 holds the event that is not written
-select_with_one : (cut : Cut) → OfferedWithOne 1 cut → IsCutWithin each_written 1 cut (At none)
+select_with_one : (cut : Cut) → OfferedWithOne 1 cut → IsCutWithin each_written.flow 1 cut (At none)
 unfolding kind_of policy_of bounds_of receiver
 select_with_one Present o = absurd (true≢false o)
 select_with_one (At f) o = within_until _ _ (0 ∷ []) (frontier-closed _ f) refl (λ i. not_logged (o.1.1.0 refl i))
 
-input_with_one : (cut : Cut) → Within (discarded_cover each_written failed_with_one 0 0 cut) (frontier_of (bounds_of (one_select_flow_of policy.Full) 1) none)
-    → IsCutWithin each_written 0 cut (At none)
+input_with_one : (cut : Cut) → Within ((covers_in each_written failed_with_one).discarded 0 cut) (frontier_of (bounds_of (one_select_flow_of policy.Full) 1) none)
+    → IsCutWithin each_written.flow 0 cut (At none)
 unfolding kind_of receiver sender sends batches_of bounds_of policy_of
 input_with_one Present w = false≢true (w (0 ∷ []) refl)
 input_with_one (At f) w =
     within_until _ _ (0 ∷ []) (frontier-closed _ f) refl
-    (λ i. let sent : discarded_cover each_written failed_with_one 0 0 (At f) (0 ∷ []) ≡ true = rw i refl in false≢true (w (0 ∷ []) sent))
+    (λ i. let sent : (covers_in each_written failed_with_one).discarded 0 (At f) (0 ∷ []) ≡ true = rw i refl in false≢true (w (0 ∷ []) sent))
 
-one_largest : (other : Choice) → IsConsistent each_written failed_with_one OfferedWithOne other → IsChoiceWithin each_written other nothing_restored
+one_largest : (other : Choice) → IsConsistent each_written failed_with_one OfferedWithOne other → IsChoiceWithin each_written.flow other nothing_restored
 unfolding kind_of receiver sender bounds_of phi
 one_largest other is =
     let at_select = select_with_one (cut_of other 1) (is.offered 1 (lit< tt)) in
     let kept_by_select = set_within each_written 1 (cut_of other 1) none at_select in
     let at_input = input_with_one (cut_of other 0) (λ t i. kept_by_select t (is.discarded 0 (lit< tt) t i)) in
-    let noted_at_select : Within (note_of each_written other 1) (frontier_of (bounds_of (one_select_flow_of policy.Full) 1) none) = λ t i. kept_by_select t (is.own 1 (lit< tt) t i) in
+    let noted_at_select : Within (note_of each_written.flow other 1) (frontier_of (bounds_of (one_select_flow_of policy.Full) 1) none) = λ t i. kept_by_select t (is.own 1 (lit< tt) t i) in
     record {
       cuts = by_three _ at_input at_select tt;
       notes = by_three _
@@ -258,12 +259,12 @@ both_consistent = record {
   notes = by_two _ (λ t i. and_from _ _ (and_parts _ _ i).0 i) (λ t i. and_from _ _ (and_parts _ _ i).0 i);
 }
 
-select_with_both : (cut : Cut) → OfferedWithBoth 1 cut → IsCutWithin each_written 1 cut (At [])
+select_with_both : (cut : Cut) → OfferedWithBoth 1 cut → IsCutWithin each_written.flow 1 cut (At [])
 unfolding kind_of policy_of bounds_of
 select_with_both Present o = absurd (true≢false o)
 select_with_both (At f) o = within_all _ _ (frontier-closed _ f)
 
-both_largest : (other : Choice) → IsConsistent each_written failed_with_both OfferedWithBoth other → IsChoiceWithin each_written other all_restored
+both_largest : (other : Choice) → IsConsistent each_written failed_with_both OfferedWithBoth other → IsChoiceWithin each_written.flow other all_restored
 unfolding bounds_of
 both_largest other is = record {
   cuts = by_three _ tt (select_with_both (cut_of other 1) (is.offered 1 (lit< tt))) tt;

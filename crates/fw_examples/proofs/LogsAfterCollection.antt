@@ -168,24 +168,24 @@ low_consistent = record {
 }
 
 -- a cut that is offered where each node counts as failed is no state as it is
-all_at_input : (cut : Cut) → offers_of_writes events_logged one_acknowledged 0 cut → IsCutWithin events_logged 0 cut (At [])
+all_at_input : (cut : Cut) → offers_of_writes events_logged one_acknowledged 0 cut → IsCutWithin events_logged.flow 0 cut (At [])
 unfolding kind_of policy_of bounds_of
 all_at_input Present o = absurd (true≢false o)
 all_at_input (At f) o = within_all _ _ (frontier-closed _ f)
 
-all_at_select : (cut : Cut) → offers_of_writes events_logged one_acknowledged 1 cut → IsCutWithin events_logged 1 cut (At [])
+all_at_select : (cut : Cut) → offers_of_writes events_logged one_acknowledged 1 cut → IsCutWithin events_logged.flow 1 cut (At [])
 unfolding kind_of policy_of bounds_of
 all_at_select Present o = absurd (true≢false o)
 all_at_select (At f) o = within_all _ _ (frontier-closed _ f)
 
 -- the output acknowledged epoch 0 alone
-first_at_output : (cut : Cut) → offers_of_writes events_logged one_acknowledged 2 cut → IsCutWithin events_logged 2 cut (At (until 1))
+first_at_output : (cut : Cut) → offers_of_writes events_logged one_acknowledged 2 cut → IsCutWithin events_logged.flow 2 cut (At (until 1))
 unfolding kind_of policy_of bounds_of
 first_at_output Present o = absurd (true≢false o)
 first_at_output (At f) o = o.1.1
 
 low_above : (other : Choice) → IsConsistent events_logged one_acknowledged (offers_of_writes events_logged one_acknowledged) other
-    → IsChoiceWithin events_logged other low_but_for_the_last
+    → IsChoiceWithin events_logged.flow other low_but_for_the_last
 unfolding bounds_of kind_of
 low_above other is =
     let at_output = first_at_output (cut_of other 2) (is.offered 2 (lit< tt)) in
@@ -232,18 +232,18 @@ both_consistent = record {
       (λ t i. let d = (and_parts _ _ i).0 in and_from _ _ d (and_from _ _ d refl));
 }
 
-back_at_select : (cut : Cut) → offers events_logged event_collected 1 cut → IsCutWithin events_logged 1 cut (At [])
+back_at_select : (cut : Cut) → offers events_logged event_collected 1 cut → IsCutWithin events_logged.flow 1 cut (At [])
 unfolding kind_of policy_of bounds_of
 back_at_select Present o = absurd (true≢false o)
 back_at_select (At f) o = within_all _ _ (frontier-closed _ f)
 
-back_at_output : (cut : Cut) → offers events_logged event_collected 2 cut → IsCutWithin events_logged 2 cut (At (until 1))
+back_at_output : (cut : Cut) → offers events_logged event_collected 2 cut → IsCutWithin events_logged.flow 2 cut (At (until 1))
 unfolding kind_of policy_of bounds_of
 back_at_output Present o = absurd (true≢false o)
 back_at_output (At f) o = o.1.1
 
 both_above : (other : Choice) → IsConsistent events_logged event_collected (offers events_logged event_collected) other
-    → IsChoiceWithin events_logged other both_come_back
+    → IsChoiceWithin events_logged.flow other both_come_back
 unfolding bounds_of kind_of
 both_above other is =
     let at_output = back_at_output (cut_of other 2) (is.offered 2 (lit< tt)) in
@@ -392,7 +392,7 @@ first_consistent = record {
 }
 
 -- one batch was sent
-first_at_input : (cut : Cut) → offers_of_writes checkpoints_logged first_acknowledged 0 cut → IsCutWithin checkpoints_logged 0 cut (At (until 1))
+first_at_input : (cut : Cut) → offers_of_writes checkpoints_logged first_acknowledged 0 cut → IsCutWithin checkpoints_logged.flow 0 cut (At (until 1))
 unfolding kind_of policy_of bounds_of batches_of
 first_at_input Present o = absurd (true≢false o)
 first_at_input (At f) o =
@@ -405,7 +405,7 @@ first_at_input (At f) o =
     o.1)
 
 -- one checkpoint was written
-first_at_select : (cut : Cut) → offers_of_writes checkpoints_logged first_acknowledged 1 cut → IsCutWithin checkpoints_logged 1 cut (At (until 1))
+first_at_select : (cut : Cut) → offers_of_writes checkpoints_logged first_acknowledged 1 cut → IsCutWithin checkpoints_logged.flow 1 cut (At (until 1))
 unfolding kind_of policy_of bounds_of
 first_at_select Present o = absurd (true≢false o)
 first_at_select (At f) o =
@@ -417,13 +417,13 @@ first_at_select (At f) o =
     e)
     o.1
 
-low_at_output : (cut : Cut) → offers_of_writes checkpoints_logged first_acknowledged 2 cut → IsCutWithin checkpoints_logged 2 cut (At (until 1))
+low_at_output : (cut : Cut) → offers_of_writes checkpoints_logged first_acknowledged 2 cut → IsCutWithin checkpoints_logged.flow 2 cut (At (until 1))
 unfolding kind_of policy_of bounds_of
 low_at_output Present o = absurd (true≢false o)
 low_at_output (At f) o = o.1.0
 
 first_above : (other : Choice) → IsConsistent checkpoints_logged first_acknowledged (offers_of_writes checkpoints_logged first_acknowledged) other
-    → IsChoiceWithin checkpoints_logged other first_epoch_everywhere
+    → IsChoiceWithin checkpoints_logged.flow other first_epoch_everywhere
 unfolding kind_of bounds_of
 first_above other is =
     let at_input = first_at_input (cut_of other 0) (is.offered 0 (lit< tt)) in
@@ -489,18 +489,18 @@ restored_consistent = record {
       (λ t i. let d = (and_parts _ _ i).0 in and_from _ _ d (and_from _ _ d refl));
 }
 
-restored_at_select : (cut : Cut) → offers checkpoints_logged log_kept 1 cut → IsCutWithin checkpoints_logged 1 cut (At [])
+restored_at_select : (cut : Cut) → offers checkpoints_logged log_kept 1 cut → IsCutWithin checkpoints_logged.flow 1 cut (At [])
 unfolding kind_of policy_of bounds_of
 restored_at_select Present o = absurd (true≢false o)
 restored_at_select (At f) o = within_all _ _ (frontier-closed _ f)
 
-restored_at_output : (cut : Cut) → offers checkpoints_logged log_kept 2 cut → IsCutWithin checkpoints_logged 2 cut (At (until 1))
+restored_at_output : (cut : Cut) → offers checkpoints_logged log_kept 2 cut → IsCutWithin checkpoints_logged.flow 2 cut (At (until 1))
 unfolding kind_of policy_of bounds_of
 restored_at_output Present o = absurd (true≢false o)
 restored_at_output (At f) o = o.1.1
 
 restored_above : (other : Choice) → IsConsistent checkpoints_logged log_kept (offers checkpoints_logged log_kept) other
-    → IsChoiceWithin checkpoints_logged other both_come_back
+    → IsChoiceWithin checkpoints_logged.flow other both_come_back
 unfolding bounds_of kind_of
 restored_above other is =
     let at_output = restored_at_output (cut_of other 2) (is.offered 2 (lit< tt)) in

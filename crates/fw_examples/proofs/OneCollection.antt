@@ -155,7 +155,7 @@ first_consistent low failed lost below = record {
 
 -- one batch was sent
 at_input : (low : List Front) (failed : List Bool) (lost : ℕ → Bool) → lost 0 ≡ true
-    → (cut : Cut) → IsCandidate written_when_asked (at_low low failed) lost kept 0 cut → IsCutWithin written_when_asked 0 cut (At first)
+    → (cut : Cut) → IsCandidate written_when_asked (at_low low failed) lost kept 0 cut → IsCutWithin written_when_asked.flow 0 cut (At first)
 unfolding kind_of policy_of bounds_of batches_of
 at_input low failed lost gone Present o = absurd (true≢false (sym gone ∙ o))
 at_input low failed lost gone (At f) o =
@@ -169,7 +169,7 @@ at_input low failed lost gone (At f) o =
 
 -- one checkpoint was written
 at_select : (low : List Front) (failed : List Bool) (lost : ℕ → Bool) → lost 1 ≡ true
-    → (cut : Cut) → IsCandidate written_when_asked (at_low low failed) lost kept 1 cut → IsCutWithin written_when_asked 1 cut (At first)
+    → (cut : Cut) → IsCandidate written_when_asked (at_low low failed) lost kept 1 cut → IsCutWithin written_when_asked.flow 1 cut (At first)
 unfolding kind_of policy_of bounds_of
 at_select low failed lost gone Present o = absurd (true≢false (sym gone ∙ o))
 at_select low failed lost gone (At f) o =
@@ -182,14 +182,14 @@ at_select low failed lost gone (At f) o =
     o.1
 
 at_output : (low : List Front) (failed : List Bool) (lost : ℕ → Bool) → lost 2 ≡ true
-    → (cut : Cut) → IsCandidate written_when_asked (at_low low failed) lost kept 2 cut → IsCutWithin written_when_asked 2 cut (At first)
+    → (cut : Cut) → IsCandidate written_when_asked (at_low low failed) lost kept 2 cut → IsCutWithin written_when_asked.flow 2 cut (At first)
 unfolding kind_of policy_of bounds_of
 at_output low failed lost gone Present o = absurd (true≢false (sym gone ∙ o))
 at_output low failed lost gone (At f) o = o.1.0
 
 first_above : (low : List Front) (failed : List Bool) (lost : ℕ → Bool) → lost 0 ≡ true → lost 1 ≡ true → lost 2 ≡ true
     → (other : Choice) → IsConsistent written_when_asked (at_low low failed) (IsCandidate written_when_asked (at_low low failed) lost kept) other
-    → IsChoiceWithin written_when_asked other first_epoch_everywhere
+    → IsChoiceWithin written_when_asked.flow other first_epoch_everywhere
 unfolding kind_of bounds_of
 first_above low failed lost a b c other is =
     let zero_in = at_input low failed lost a (cut_of other 0) (is.offered 0 (lit< tt)) in
@@ -224,7 +224,7 @@ collects = (
 
 -- a cut within epoch 0 that has it is at epoch 0
 at_first : (p : ℕ) → p < 3 → (cut : Cut) → IsCandidate written_when_asked (at_low all_first none_lost) (λ q. true) kept p cut
-    → IsCutWithin written_when_asked p cut (At first) → IsCutWithin written_when_asked p (At first) cut → cut ≡ At first
+    → IsCutWithin written_when_asked.flow p cut (At first) → IsCutWithin written_when_asked.flow p (At first) cut → cut ≡ At first
 unfolding kind_of bounds_of
 at_first p l Present o below above = absurd (true≢false o)
 at_first zero l (At f) o below above = ap At (epoch_named _ 1 f o.0 refl below above)
@@ -247,8 +247,8 @@ same_cuts choice is =
     let above = is.largest first_epoch_everywhere (first_consistent all_first none_lost (λ p. true) first_in_first) in
     let below = first_above all_first none_lost (λ p. true) refl refl refl choice is.consistent in
     let at : (p : ℕ) → p < 3 → cut_of choice p ≡ At first =
-    λ p l. at_first p l (cut_of choice p) (is.consistent.offered p l) (by_three (λ q. IsCutWithin written_when_asked q (cut_of choice q) (At first)) (below.cuts 0 (lit< tt)) (below.cuts 1 (lit< tt)) (below.cuts 2 (lit< tt)) p l)
-    (by_three (λ q. IsCutWithin written_when_asked q (At first) (cut_of choice q)) (above.cuts 0 (lit< tt)) (above.cuts 1 (lit< tt)) (above.cuts 2 (lit< tt)) p l) in
+    λ p l. at_first p l (cut_of choice p) (is.consistent.offered p l) (by_three (λ q. IsCutWithin written_when_asked.flow q (cut_of choice q) (At first)) (below.cuts 0 (lit< tt)) (below.cuts 1 (lit< tt)) (below.cuts 2 (lit< tt)) p l)
+    (by_three (λ q. IsCutWithin written_when_asked.flow q (At first) (cut_of choice q)) (above.cuts 0 (lit< tt)) (above.cuts 1 (lit< tt)) (above.cuts 2 (lit< tt)) p l) in
     three_cuts choice.cuts is.consistent.one_cut_each (At first) (At first) (At first) (at 0 (lit< tt)) (at 1 (lit< tt)) (at 2 (lit< tt))
 
 collects_once : (other : Machine) (effect : Effect) → LeadsTo written_when_asked (at_low all_first none_lost) Collect other effect → ⊥

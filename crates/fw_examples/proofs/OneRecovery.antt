@@ -15,7 +15,7 @@ use Rattle.fw_flow.specs.Dataflow.{kind_of, policy_of, sender, receiver, bounds_
 use Rattle.fw_flow.specs.NodeFunction.{sends}
 use Rattle.fw_flow.specs.Projection.{phi, psi}
 use Rattle.fw_flow.specs.declared.choice.Choice.{Choice}
-use Rattle.fw_model.specs.Choice.{cut_of, note_of, discarded_cover, IsConsistent, IsCutWithin, IsChoiceWithin}
+use Rattle.fw_model.specs.Choice.{cut_of, note_of, IsConsistent, IsCutWithin, IsChoiceWithin}
 use Rattle.fw_model.specs.History.{pending, some_at, IsComplete}
 use Rattle.fw_model.specs.Machine.{Machine, first_state, events, front_of, is_failed}
 use Rattle.fw_model.specs.Steps.{Steps, CutsTo, with_event, offers, did, quiet, cuts, acked}
@@ -25,6 +25,7 @@ use Rattle.fw_examples.proofs.FrontierFacts.{within_all, within_until, one_not_s
 use Rattle.fw_examples.proofs.StepFacts.{injects, delivers}
 use Rattle.fw_examples.proofs.ChoiceFacts.{nothing_covered, in_all, cover_within, meet_within, set_within, canonical, below_epoch, by_three, by_two}
 use Rattle.fw_examples.proofs.OneSelectDone.{named, admissible, complete, at_sender, all_complete, below_all, progresses, progresses_where_live, none_failed}
+use Rattle.fw_model.specs.Covers.{covers_in}
 
 -- the frontier of no stamp
 abbrev none : Front
@@ -130,28 +131,28 @@ first_consistent = record {
 }
 
 -- the select failed, and can have no more than it settled
-select_within : (cut : Cut) → Offered 1 cut → IsCutWithin select_of_two_batches 1 cut (At first)
+select_within : (cut : Cut) → Offered 1 cut → IsCutWithin select_of_two_batches.flow 1 cut (At first)
 unfolding kind_of policy_of
 select_within Present o = absurd (true≢false o)
 select_within (At f) o = o.1
 
 -- the input cannot keep an epoch that it sent and that the select does not keep
-input_within : (cut : Cut) → Within (discarded_cover select_of_two_batches select_failed 0 0 cut) (frontier_of (bounds_of one_select_flow 1) first)
-    → IsCutWithin select_of_two_batches 0 cut (At first)
+input_within : (cut : Cut) → Within ((covers_in select_of_two_batches select_failed).discarded 0 cut) (frontier_of (bounds_of one_select_flow 1) first)
+    → IsCutWithin select_of_two_batches.flow 0 cut (At first)
 unfolding kind_of receiver sender sends batches_of bounds_of policy_of
 input_within Present w = false≢true (w (1 ∷ []) refl)
 input_within (At f) w =
     within_until _ _ (1 ∷ []) (frontier-closed _ f) refl
-    (λ i. let sent : discarded_cover select_of_two_batches select_failed 0 0 (At f) (1 ∷ []) ≡ true = rw i refl in false≢true (w (1 ∷ []) sent))
+    (λ i. let sent : (covers_in select_of_two_batches select_failed).discarded 0 (At f) (1 ∷ []) ≡ true = rw i refl in false≢true (w (1 ∷ []) sent))
 
-first_above : (other : Choice) → IsConsistent select_of_two_batches select_failed Offered other → IsChoiceWithin select_of_two_batches other first_epoch_kept
+first_above : (other : Choice) → IsConsistent select_of_two_batches select_failed Offered other → IsChoiceWithin select_of_two_batches.flow other first_epoch_kept
 unfolding kind_of receiver sender bounds_of phi
 first_above other is =
     let at_select = select_within (cut_of other 1) (is.offered 1 (lit< tt)) in
     let kept_by_select = set_within select_of_two_batches 1 (cut_of other 1) first at_select in
     let at_input = input_within (cut_of other 0) (λ t i. kept_by_select t (is.discarded 0 (lit< tt) t i)) in
     let kept_by_input = set_within select_of_two_batches 0 (cut_of other 0) first at_input in
-    let noted_at_select : Within (note_of select_of_two_batches other 1) (frontier_of (bounds_of one_select_flow 1) first) = λ t i. kept_by_select t (is.own 1 (lit< tt) t i) in
+    let noted_at_select : Within (note_of select_of_two_batches.flow other 1) (frontier_of (bounds_of one_select_flow 1) first) = λ t i. kept_by_select t (is.own 1 (lit< tt) t i) in
     record {
       cuts = by_three _ at_input at_select tt;
       notes = by_three _
@@ -318,17 +319,17 @@ both_consistent = record {
       (λ t i. and_from _ _ (and_parts _ _ i).0 i);
 }
 
-select_below : (cut : Cut) → BothOffered 1 cut → IsCutWithin select_of_two_batches 1 cut (At first)
+select_below : (cut : Cut) → BothOffered 1 cut → IsCutWithin select_of_two_batches.flow 1 cut (At first)
 unfolding kind_of policy_of
 select_below Present o = absurd (true≢false o)
 select_below (At f) o = o.1
 
-output_below : (cut : Cut) → BothOffered 2 cut → IsCutWithin select_of_two_batches 2 cut (At first)
+output_below : (cut : Cut) → BothOffered 2 cut → IsCutWithin select_of_two_batches.flow 2 cut (At first)
 unfolding kind_of policy_of
 output_below Present o = absurd (true≢false o)
 output_below (At f) o = o.1.0
 
-both_above : (other : Choice) → IsConsistent select_of_two_batches both_failed BothOffered other → IsChoiceWithin select_of_two_batches other acknowledged_epoch_kept
+both_above : (other : Choice) → IsConsistent select_of_two_batches both_failed BothOffered other → IsChoiceWithin select_of_two_batches.flow other acknowledged_epoch_kept
 unfolding bounds_of
 both_above other is =
     let at_select = select_below (cut_of other 1) (is.offered 1 (lit< tt)) in

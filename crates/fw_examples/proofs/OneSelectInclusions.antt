@@ -13,7 +13,7 @@ use Rattle.fw_flow.specs.Dataflow.{kind_of, policy_of, sender, receiver, bounds_
 use Rattle.fw_flow.specs.NodeFunction.{sends}
 use Rattle.fw_flow.specs.Projection.{phi, psi}
 use Rattle.fw_flow.specs.declared.choice.Choice.{Choice}
-use Rattle.fw_model.specs.Choice.{filtered, cut_of, note_of, delivered_cover, discarded_cover, IsConsistent, IsCutWithin, IsChoiceWithin}
+use Rattle.fw_model.specs.Choice.{filtered, cut_of, note_of, IsConsistent, IsCutWithin, IsChoiceWithin}
 use Rattle.fw_model.specs.History.{pending}
 use Rattle.fw_model.specs.Machine.{Machine, first_state, events}
 use Rattle.fw_model.specs.Steps.{Steps, with_event, offers, did, quiet}
@@ -22,6 +22,7 @@ use Rattle.fw_examples.specs.Inclusions.{Inclusion, of_delivered, of_discarded, 
 use Rattle.fw_examples.proofs.FrontierFacts.{within_until}
 use Rattle.fw_examples.proofs.StepFacts.{injects, delivers}
 use Rattle.fw_examples.proofs.ChoiceFacts.{nothing_covered, in_all, set_within, canonical, by_three, by_two}
+use Rattle.fw_model.specs.Covers.{covers_in}
 
 -- the rec that is selected
 abbrev message : Message
@@ -85,27 +86,27 @@ nothing_consistent = record {
   notes = by_two _ (λ t i. and_from _ _ (and_parts _ _ i).0 i) (λ t i. and_from _ _ (and_parts _ _ i).0 i);
 }
 
-late_at_select : (cut : Cut) → Late 1 cut → IsCutWithin one_selected 1 cut (At none)
+late_at_select : (cut : Cut) → Late 1 cut → IsCutWithin one_selected.flow 1 cut (At none)
 unfolding kind_of policy_of bounds_of
 late_at_select Present o = absurd (true≢false o)
 late_at_select (At f) o = o.1
 
-late_at_input : (cut : Cut) → Within (discarded_cover one_selected failed_late 0 0 cut) (frontier_of (bounds_of one_select_flow 1) none)
-    → IsCutWithin one_selected 0 cut (At none)
+late_at_input : (cut : Cut) → Within ((covers_in one_selected failed_late).discarded 0 cut) (frontier_of (bounds_of one_select_flow 1) none)
+    → IsCutWithin one_selected.flow 0 cut (At none)
 unfolding kind_of receiver sender sends batches_of bounds_of policy_of
 late_at_input Present w = false≢true (w (0 ∷ []) refl)
 late_at_input (At f) w =
     within_until _ _ (0 ∷ []) (frontier-closed _ f) refl
-    (λ i. let sent : discarded_cover one_selected failed_late 0 0 (At f) (0 ∷ []) ≡ true = rw i refl in false≢true (w (0 ∷ []) sent))
+    (λ i. let sent : (covers_in one_selected failed_late).discarded 0 (At f) (0 ∷ []) ≡ true = rw i refl in false≢true (w (0 ∷ []) sent))
 
 -- the output has what the select does not keep, and acknowledged nothing
-late_at_output : (cut : Cut) → Late 2 cut → Within (delivered_cover one_selected failed_late 2 1 cut) (frontier_of (bounds_of one_select_flow 1) none)
-    → IsCutWithin one_selected 2 cut (At none)
+late_at_output : (cut : Cut) → Late 2 cut → Within ((covers_in one_selected failed_late).delivered 1 cut) (frontier_of (bounds_of one_select_flow 1) none)
+    → IsCutWithin one_selected.flow 2 cut (At none)
 unfolding kind_of receiver policy_of bounds_of
 late_at_output Present o w = false≢true (w (0 ∷ []) refl)
 late_at_output (At f) o w = o.1.0
 
-nothing_largest : (other : Choice) → IsConsistent one_selected failed_late Late other → IsChoiceWithin one_selected other nothing_kept
+nothing_largest : (other : Choice) → IsConsistent one_selected failed_late Late other → IsChoiceWithin one_selected.flow other nothing_kept
 unfolding kind_of receiver sender bounds_of phi
 nothing_largest other is =
     let at_select = late_at_select (cut_of other 1) (is.offered 1 (lit< tt)) in
@@ -183,26 +184,26 @@ output_kept_consistent = record {
   notes = by_two _ (λ t i. and_from _ _ (and_parts _ _ i).0 i) (λ t i. and_from _ _ (and_parts _ _ i).0 i);
 }
 
-early_at_select : (cut : Cut) → Early 1 cut → IsCutWithin one_selected 1 cut (At none)
+early_at_select : (cut : Cut) → Early 1 cut → IsCutWithin one_selected.flow 1 cut (At none)
 unfolding kind_of policy_of bounds_of
 early_at_select Present o = absurd (true≢false o)
 early_at_select (At f) o = o.1
 
-early_at_input : (cut : Cut) → Within (discarded_cover one_selected failed_early 0 0 cut) (frontier_of (bounds_of one_select_flow 1) none)
-    → IsCutWithin one_selected 0 cut (At none)
+early_at_input : (cut : Cut) → Within ((covers_in one_selected failed_early).discarded 0 cut) (frontier_of (bounds_of one_select_flow 1) none)
+    → IsCutWithin one_selected.flow 0 cut (At none)
 unfolding kind_of receiver sender sends batches_of bounds_of policy_of
 early_at_input Present w = false≢true (w (0 ∷ []) refl)
 early_at_input (At f) w =
     within_until _ _ (0 ∷ []) (frontier-closed _ f) refl
-    (λ i. let sent : discarded_cover one_selected failed_early 0 0 (At f) (0 ∷ []) ≡ true = rw i refl in false≢true (w (0 ∷ []) sent))
+    (λ i. let sent : (covers_in one_selected failed_early).discarded 0 (At f) (0 ∷ []) ≡ true = rw i refl in false≢true (w (0 ∷ []) sent))
 
-output_kept_largest : (other : Choice) → IsConsistent one_selected failed_early Early other → IsChoiceWithin one_selected other output_kept
+output_kept_largest : (other : Choice) → IsConsistent one_selected failed_early Early other → IsChoiceWithin one_selected.flow other output_kept
 unfolding kind_of receiver sender bounds_of phi
 output_kept_largest other is =
     let at_select = early_at_select (cut_of other 1) (is.offered 1 (lit< tt)) in
     let kept_by_select = set_within one_selected 1 (cut_of other 1) none at_select in
     let at_input = early_at_input (cut_of other 0) (λ t i. kept_by_select t (is.discarded 0 (lit< tt) t i)) in
-    let noted_at_select : Within (note_of one_selected other 1) (frontier_of (bounds_of one_select_flow 1) none) = λ t i. kept_by_select t (is.own 1 (lit< tt) t i) in
+    let noted_at_select : Within (note_of one_selected.flow other 1) (frontier_of (bounds_of one_select_flow 1) none) = λ t i. kept_by_select t (is.own 1 (lit< tt) t i) in
     record {
       cuts = by_three _ at_input at_select tt;
       notes = by_three _

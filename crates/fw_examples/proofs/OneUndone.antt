@@ -14,7 +14,7 @@ use Rattle.fw_flow.specs.Dataflow.{kind_of, policy_of, sender, receiver, bounds_
 use Rattle.fw_flow.specs.NodeFunction.{sends}
 use Rattle.fw_flow.specs.Projection.{phi, psi}
 use Rattle.fw_flow.specs.declared.choice.Choice.{Choice}
-use Rattle.fw_model.specs.Choice.{cut_of, note_of, discarded_cover, IsConsistent, IsCutWithin, IsChoiceWithin}
+use Rattle.fw_model.specs.Choice.{cut_of, note_of, IsConsistent, IsCutWithin, IsChoiceWithin}
 use Rattle.fw_model.specs.Machine.{Machine, first_state, events}
 use Rattle.fw_model.specs.Steps.{Steps, CutsTo, GrowsTo, with_event, offers, did, quiet, cuts, acked}
 use Rattle.fw_examples.specs.OneSelect.{one_select_flow, rec_of}
@@ -23,6 +23,7 @@ use Rattle.fw_examples.proofs.FrontierFacts.{within_until}
 use Rattle.fw_examples.proofs.StepFacts.{injects, delivers}
 use Rattle.fw_examples.proofs.ChoiceFacts.{nothing_covered, meet_within, within_meet, set_within, canonical, by_three, by_two}
 use Rattle.fw_examples.proofs.OneSelectDone.{named, all_complete, below_all, names_join}
+use Rattle.fw_model.specs.Covers.{covers_in}
 
 -- the frontier of no stamp
 abbrev none : Front
@@ -100,26 +101,26 @@ alone_consistent = record {
   notes = by_two _ (λ t i. and_from _ _ (and_parts _ _ i).0 i) (λ t i. and_from _ _ (and_parts _ _ i).0 i);
 }
 
-at_select : (cut : Cut) → Offered 1 cut → IsCutWithin one_dropped 1 cut (At none)
+at_select : (cut : Cut) → Offered 1 cut → IsCutWithin one_dropped.flow 1 cut (At none)
 unfolding kind_of policy_of bounds_of
 at_select Present o = absurd (true≢false o)
 at_select (At f) o = o.1
 
-at_input : (cut : Cut) → Within (discarded_cover one_dropped others_settled 0 0 cut) (frontier_of (bounds_of one_select_flow 1) none)
-    → IsCutWithin one_dropped 0 cut (At none)
+at_input : (cut : Cut) → Within ((covers_in one_dropped others_settled).discarded 0 cut) (frontier_of (bounds_of one_select_flow 1) none)
+    → IsCutWithin one_dropped.flow 0 cut (At none)
 unfolding kind_of receiver sender sends batches_of bounds_of policy_of
 at_input Present w = false≢true (w (0 ∷ []) refl)
 at_input (At f) w =
     within_until _ _ (0 ∷ []) (frontier-closed _ f) refl
-    (λ i. let sent : discarded_cover one_dropped others_settled 0 0 (At f) (0 ∷ []) ≡ true = rw i refl in false≢true (w (0 ∷ []) sent))
+    (λ i. let sent : (covers_in one_dropped others_settled).discarded 0 (At f) (0 ∷ []) ≡ true = rw i refl in false≢true (w (0 ∷ []) sent))
 
-alone_above : (other : Choice) → IsConsistent one_dropped others_settled Offered other → IsChoiceWithin one_dropped other output_alone
+alone_above : (other : Choice) → IsConsistent one_dropped others_settled Offered other → IsChoiceWithin one_dropped.flow other output_alone
 unfolding kind_of receiver sender bounds_of phi
 alone_above other is =
     let cut_select = at_select (cut_of other 1) (is.offered 1 (lit< tt)) in
     let kept_by_select = set_within one_dropped 1 (cut_of other 1) none cut_select in
     let cut_input = at_input (cut_of other 0) (λ t i. kept_by_select t (is.discarded 0 (lit< tt) t i)) in
-    let noted_at_select : Within (note_of one_dropped other 1) (frontier_of (bounds_of one_select_flow 1) none) = λ t i. kept_by_select t (is.own 1 (lit< tt) t i) in
+    let noted_at_select : Within (note_of one_dropped.flow other 1) (frontier_of (bounds_of one_select_flow 1) none) = λ t i. kept_by_select t (is.own 1 (lit< tt) t i) in
     record {
       cuts = by_three _ cut_input cut_select tt;
       notes = by_three _

@@ -221,7 +221,7 @@ below_two : (y : ℕ) → (nat_le y 4294967295 && true) && (not (nat_le 2 y && t
 below_two y h k = grind (arith, nat_tests)
 
 pub regroup_no_larger : (f : Frontier) → IsFrontier (bounds_of regroup_by_three 2) f
-    → Within (psi no_batches regrouped_edge f) (frontier_of (bounds_of regroup_by_three 3) ((2 ∷ []) ∷ []))
+    → Within (psi regroup_by_three regrouped_edge f) (frontier_of (bounds_of regroup_by_three 3) ((2 ∷ []) ∷ []))
     → Within f (frontier_of (bounds_of regroup_by_three 2) ((6 ∷ []) ∷ []))
 unfolding psi kind_of sender receiver bounds_of max_of
 regroup_no_larger f is_f h [] k = let d : false ≡ true = is_f.inside_domain [] k in cc

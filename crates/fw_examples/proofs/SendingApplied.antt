@@ -52,11 +52,11 @@ projections_apply = record {
   phi_ignores_history = λ law u. law two_batches under_way [] fed_back_edge counted u refl;
   phi_of_meet = λ law. law two_batches under_way fed_back_edge counted begun counted_is_frontier begun_is_frontier;
   phi_of_everything = λ law. law numbers numbered_both 1;
-  psi_is_frontier = λ law. law two_batches fed_back_edge counted counted_is_frontier;
-  psi_is_monotone = λ law. law two_batches fed_back_edge (meet counted begun) counted both_are_counted;
-  psi_of_union = λ law. law two_batches fed_back_edge one_or_other (join counted begun) one_or_other_joined;
-  psi_of_join = λ law. law two_batches fed_back_edge counted begun;
-  psi_of_nothing = λ law. law two_batches fed_back_edge;
+  psi_is_frontier = λ law. law loop_counts_up fed_back_edge counted counted_is_frontier;
+  psi_is_monotone = λ law. law loop_counts_up fed_back_edge (meet counted begun) counted both_are_counted;
+  psi_of_union = λ law. law loop_counts_up fed_back_edge one_or_other (join counted begun) one_or_other_joined;
+  psi_of_join = λ law. law loop_counts_up fed_back_edge counted begun;
+  psi_of_nothing = λ law. law loop_counts_up fed_back_edge;
 }
 
 fed_back_in_domain : AreEventsInDomain loop_counts_up under_way 4
@@ -77,9 +77,9 @@ sending_applies = record {
   senders = λ law. law loop_counts_up is_well_formed;
   monotone = λ law. law loop_counts_up 4 (round 0 0) (round 0 1) (round 0 2) refl refl refl;
   phi_by_send_stamps = λ law. law two_batches under_way fed_back_edge counted (lit≤ tt) counted_is_frontier (round 0 1) refl;
-  psi_by_send_stamps = λ law. law two_batches fed_back_edge counted (lit≤ tt) counted_is_frontier (round 0 1) refl;
-  psi_back_by_send_stamps = λ law. law two_batches fed_back_edge counted (lit≤ tt) counted_is_frontier (round 0 1) refl;
-  psi_back_is_largest = λ law. law two_batches fed_back_edge counted (lit≤ tt) counted_is_frontier;
+  psi_by_send_stamps = λ law. law loop_counts_up fed_back_edge counted (lit≤ tt) counted_is_frontier (round 0 1) refl;
+  psi_back_by_send_stamps = λ law. law loop_counts_up fed_back_edge counted (lit≤ tt) counted_is_frontier (round 0 1) refl;
+  psi_back_is_largest = λ law. law loop_counts_up fed_back_edge counted (lit≤ tt) counted_is_frontier;
   sends_at = λ law. law two_batches 4 refl [] (Deliver 3 (message (round 0 0) (pair 1 1) (round 0 0)));
   sends_inside = λ law. law two_batches fed_back_edge counted (lit≤ tt) counted_is_frontier [] (Deliver 3 (message (round 0 0) (pair 1 1) (round 0 0))) refl;
   sent_inside = λ law. law two_batches under_way fed_back_edge counted (lit≤ tt) counted_is_frontier;

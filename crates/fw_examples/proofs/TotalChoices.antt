@@ -13,7 +13,8 @@ use Rattle.fw_flow.specs.Dataflow.{kind_of, policy_of, sender, receiver, bounds_
 use Rattle.fw_flow.specs.NodeFunction.{sends}
 use Rattle.fw_flow.specs.Projection.{phi, psi}
 use Rattle.fw_flow.specs.declared.choice.Choice.{Choice}
-use Rattle.fw_model.specs.Choice.{View, kept, ever, until, by_checkpoints, cut_of, note_of, discarded_cover, IsRestorable, IsCandidate, IsConsistent, IsCutWithin, IsChoiceWithin, IsLargest, IsWatermark}
+use Rattle.fw_model.specs.Choice.{View, kept, ever, until, cut_of, note_of, IsRestorable, IsCandidate, IsConsistent, IsCutWithin, IsChoiceWithin, IsLargest, IsWatermark}
+use Rattle.fw_flow.specs.declared.restoring.Restoring.TheVariants.{Checkpoints}
 use Rattle.fw_model.specs.Machine.{Machine, first_state, is_failed}
 use Rattle.fw_model.specs.Steps.{Steps, Run, CutsTo, did, cuts, lows, offers}
 use Rattle.fw_model.proofs.GoingOn.{runs-go_on}
@@ -25,6 +26,7 @@ use Rattle.fw_examples.proofs.TotalDone.{join_within}
 use Rattle.fw_examples.proofs.TotalRun.{ten_acknowledged, two_collected, put_out_acknowledged, again_acknowledged, runs_to_two, runs_to_failure, runs_without_failure, runs_again}
 use Rattle.fw_model.specs.Unions.{IsUnionOfChoices}
 use Rattle.fw_model.specs.Choosing.{AreCheckpointsChains}
+use Rattle.fw_model.specs.Covers.{covers_in}
 
 -- fewer epochs lie within more
 pub until_within : (n j k : ℕ) → j ≤ k → Within (frontier_of (record { greatest = n ∷ [] }) (until j)) (frontier_of (record { greatest = n ∷ [] }) (until k))
@@ -66,7 +68,7 @@ first_consistent = record {
 }
 
 -- the input sent two epochs
-at_input : (cut : Cut) → IsCandidate totals ten_acknowledged (λ p. true) kept 0 cut → IsCutWithin totals 0 cut (At (until 2))
+at_input : (cut : Cut) → IsCandidate totals ten_acknowledged (λ p. true) kept 0 cut → IsCutWithin total_flow 0 cut (At (until 2))
 unfolding kind_of policy_of bounds_of batches_of
 at_input Present o = absurd (true≢false o)
 at_input (At f) o =
@@ -83,7 +85,7 @@ same_within (suc zero) j f e l h = subst (λ g. Within (frontier_of (bounds_of t
 same_within (suc (suc zero)) j f e l h = subst (λ g. Within (frontier_of (bounds_of total_flow 2) g) (frontier_of (bounds_of total_flow 2) (until 2))) e (until_within _ j 2 l)
 same_within (suc (suc (suc p))) j f e l h = absurd (omega arith)
 
-at_total : (cut : Cut) → IsCandidate totals ten_acknowledged (λ p. true) kept 1 cut → IsCutWithin totals 1 cut (At (until 2))
+at_total : (cut : Cut) → IsCandidate totals ten_acknowledged (λ p. true) kept 1 cut → IsCutWithin total_flow 1 cut (At (until 2))
 unfolding kind_of policy_of bounds_of
 at_total Present o = absurd (true≢false o)
 at_total (At f) o =
@@ -95,15 +97,15 @@ at_total (At f) o =
     e)
     o.1
 
-at_output : (cut : Cut) → IsCandidate totals ten_acknowledged (λ p. true) kept 2 cut → IsCutWithin totals 2 cut (At (until 2))
+at_output : (cut : Cut) → IsCandidate totals ten_acknowledged (λ p. true) kept 2 cut → IsCutWithin total_flow 2 cut (At (until 2))
 unfolding kind_of policy_of bounds_of
 at_output Present o = absurd (true≢false o)
 at_output (At f) o = o.1.0
 
 -- a choice whose cuts lie within epochs 0 and 1 lies within the one that keeps them
-within_two : (other : Choice) → ((p : ℕ) → p < 3 → IsCutWithin totals p (cut_of other p) (At (until 2)))
-    → ((p : ℕ) → p < 3 → Within (note_of totals other p) (frontier_of (bounds_of total_flow p) (until 2)))
-    → IsChoiceWithin totals other two_epochs_kept
+within_two : (other : Choice) → ((p : ℕ) → p < 3 → IsCutWithin total_flow p (cut_of other p) (At (until 2)))
+    → ((p : ℕ) → p < 3 → Within (note_of total_flow other p) (frontier_of (bounds_of total_flow p) (until 2)))
+    → IsChoiceWithin total_flow other two_epochs_kept
 unfolding bounds_of kind_of
 within_two other at noted = record {
   cuts = by_three _ (at 0 (lit< tt)) (at 1 (lit< tt)) (at 2 (lit< tt));
@@ -112,14 +114,14 @@ within_two other at noted = record {
 
 -- what is noted lies within what is kept
 noted_within : (state : Machine) (offered : ℕ → Cut → Type 0) (other : Choice) → IsConsistent totals state offered other
-    → ((p : ℕ) → p < 3 → IsCutWithin totals p (cut_of other p) (At (until 2)))
-    → (p : ℕ) → p < 3 → Within (note_of totals other p) (frontier_of (bounds_of total_flow p) (until 2))
+    → ((p : ℕ) → p < 3 → IsCutWithin total_flow p (cut_of other p) (At (until 2)))
+    → (p : ℕ) → p < 3 → Within (note_of total_flow other p) (frontier_of (bounds_of total_flow p) (until 2))
 noted_within state offered other is at p l t i = set_within totals p (cut_of other p) (until 2) (at p l) t (is.own p l t i)
 
 first_above : (other : Choice) → IsConsistent totals ten_acknowledged (IsCandidate totals ten_acknowledged (λ p. true) kept) other
-    → IsChoiceWithin totals other two_epochs_kept
+    → IsChoiceWithin total_flow other two_epochs_kept
 first_above other is =
-    let at = by_three (λ p. IsCutWithin totals p (cut_of other p) (At (until 2)))
+    let at = by_three (λ p. IsCutWithin total_flow p (cut_of other p) (At (until 2)))
     (at_input (cut_of other 0) (is.offered 0 (lit< tt))) (at_total (cut_of other 1) (is.offered 1 (lit< tt))) (at_output (cut_of other 2) (is.offered 2 (lit< tt))) in
     within_two other at (noted_within ten_acknowledged _ other is at)
 
@@ -175,15 +177,15 @@ pub kept_consistent : (lost : ℕ → Bool) → IsConsistent totals output_faile
 unfolding bounds_of kind_of
 kept_consistent lost = two_consistent lost kept (until 2) (two_offered lost) (canonical _ (2 ∷ []) refl) (λ t i. i)
 
-failed_within : (cut : Cut) → offers totals output_failed 2 cut → IsCutWithin totals 2 cut (At (until 2))
+failed_within : (cut : Cut) → offers totals output_failed 2 cut → IsCutWithin total_flow 2 cut (At (until 2))
 unfolding kind_of policy_of bounds_of
 failed_within Present o = absurd (true≢false o)
 failed_within (At f) o = o.1.0
 
 -- the running total cannot keep an epoch that it sent and that the output does not keep
 total_within : (cut : Cut) → offers totals output_failed 1 cut
-    → Within (discarded_cover totals output_failed 1 1 cut) (frontier_of (bounds_of total_flow 2) (until 2))
-    → IsCutWithin totals 1 cut (At (until 2))
+    → Within ((covers_in totals output_failed).discarded 1 cut) (frontier_of (bounds_of total_flow 2) (until 2))
+    → IsCutWithin total_flow 1 cut (At (until 2))
 unfolding kind_of receiver sender sends batches_of bounds_of policy_of
 total_within Present o w = false≢true (w (2 ∷ []) refl)
 total_within (At f) o w =
@@ -199,8 +201,8 @@ total_within (At f) o w =
     o.1
 
 -- nor can the input keep one that the running total does not keep
-input_within : (cut : Cut) → Within (discarded_cover totals output_failed 0 0 cut) (frontier_of (bounds_of total_flow 1) (until 2))
-    → IsCutWithin totals 0 cut (At (until 2))
+input_within : (cut : Cut) → Within ((covers_in totals output_failed).discarded 0 cut) (frontier_of (bounds_of total_flow 1) (until 2))
+    → IsCutWithin total_flow 0 cut (At (until 2))
 unfolding kind_of receiver sender sends batches_of bounds_of policy_of
 input_within Present w = false≢true (w (2 ∷ []) refl)
 input_within (At f) w =
@@ -208,11 +210,11 @@ input_within (At f) w =
     (λ i. false≢true (w (2 ∷ []) (sent i (frontier_of (bounds_of total_flow 0) f (3 ∷ [])) refl)))
   where
     sent : frontier_of (bounds_of total_flow 0) f (2 ∷ []) ≡ true → (b : Bool) → frontier_of (bounds_of total_flow 0) f (3 ∷ []) ≡ b
-        → discarded_cover totals output_failed 0 0 (At f) (2 ∷ []) ≡ true
+        → (covers_in totals output_failed).discarded 0 (At f) (2 ∷ []) ≡ true
     sent i true e = rw e refl
     sent i false e = rw e (rw i refl)
 
-kept_above : (other : Choice) → IsConsistent totals output_failed (offers totals output_failed) other → IsChoiceWithin totals other two_epochs_kept
+kept_above : (other : Choice) → IsConsistent totals output_failed (offers totals output_failed) other → IsChoiceWithin total_flow other two_epochs_kept
 unfolding kind_of receiver sender bounds_of
 kept_above other is =
     let at_out = failed_within (cut_of other 2) (is.offered 2 (lit< tt)) in
@@ -220,7 +222,7 @@ kept_above other is =
     let at_run = total_within (cut_of other 1) (is.offered 1 (lit< tt)) (λ t i. in_out t (is.discarded 1 (lit< tt) t i)) in
     let in_run = set_within totals 1 (cut_of other 1) (until 2) at_run in
     let at_src = input_within (cut_of other 0) (λ t i. in_run t (is.discarded 0 (lit< tt) t i)) in
-    let at = by_three (λ p. IsCutWithin totals p (cut_of other p) (At (until 2))) at_src at_run at_out in
+    let at = by_three (λ p. IsCutWithin total_flow p (cut_of other p) (At (until 2))) at_src at_run at_out in
     within_two other at (noted_within output_failed _ other is at)
 
 pub kept_largest : IsLargest totals output_failed (offers totals output_failed) two_epochs_kept
@@ -290,7 +292,7 @@ union_of_both = record {
 -- ---- checkpoints are chains
 
 -- the running total can be restored to what some checkpoint holds, or to nothing
-named_checkpoint : (view : View) (f : Front) → IsRestorable totals output_failed view 1 by_checkpoints f → (k : ℕ) × (until k ≡ f)
+named_checkpoint : (view : View) (f : Front) → IsRestorable totals output_failed view 1 Checkpoints f → (k : ℕ) × (until k ≡ f)
 unfolding bounds_of kind_of
 named_checkpoint view f (inl e) = (0, sym e)
 named_checkpoint view f (inr (inl is)) = (1, is.1)
@@ -300,16 +302,16 @@ named_checkpoint view f (inr (inr (inr (inr is)))) = absurd is
 
 -- so of two of them one lies within the other
 one_within : (f g : Front) → (j : ℕ) × (until j ≡ f) → (k : ℕ) × (until k ≡ g)
-    → IsCutWithin totals 1 (At f) (At g) ⊎ IsCutWithin totals 1 (At g) (At f)
+    → IsCutWithin total_flow 1 (At f) (At g) ⊎ IsCutWithin total_flow 1 (At g) (At f)
 unfolding bounds_of kind_of
 one_within f g j k = go (leb j.0 k.0) refl
   where
-    go : (b : Bool) → leb j.0 k.0 ≡ b → IsCutWithin totals 1 (At f) (At g) ⊎ IsCutWithin totals 1 (At g) (At f)
+    go : (b : Bool) → leb j.0 k.0 ≡ b → IsCutWithin total_flow 1 (At f) (At g) ⊎ IsCutWithin total_flow 1 (At g) (At f)
     go true e = inl (subst₂ (λ x y. Within (frontier_of (bounds_of total_flow 1) x) (frontier_of (bounds_of total_flow 1) y)) j.1 k.1 (until_within _ j.0 k.0 (leb-true j.0 k.0 e)))
     go false e = inr (subst₂ (λ x y. Within (frontier_of (bounds_of total_flow 1) x) (frontier_of (bounds_of total_flow 1) y)) k.1 j.1 (until_within _ k.0 j.0 (let l = leb-false j.0 k.0 e in omega arith)))
 
 chain_at_total : (lost : ℕ → Bool) (view : View) (one other : Cut) → IsCandidate totals output_failed lost view 1 one
-    → IsCandidate totals output_failed lost view 1 other → IsCutWithin totals 1 one other ⊎ IsCutWithin totals 1 other one
+    → IsCandidate totals output_failed lost view 1 other → IsCutWithin total_flow 1 one other ⊎ IsCutWithin total_flow 1 other one
 unfolding kind_of policy_of
 chain_at_total lost view Present other a b = inr tt
 chain_at_total lost view (At f) Present a b = inl tt

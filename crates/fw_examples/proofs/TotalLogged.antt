@@ -183,24 +183,24 @@ low_consistent = record {
       (λ t i. let d = (and_parts _ _ i).0 in and_from _ _ d (and_from _ _ d refl));
 }
 
-all_at_input : (cut : Cut) → offers_of_writes total_logged one_acknowledged 0 cut → IsCutWithin total_logged 0 cut (At [])
+all_at_input : (cut : Cut) → offers_of_writes total_logged one_acknowledged 0 cut → IsCutWithin total_logged.flow 0 cut (At [])
 unfolding kind_of policy_of bounds_of
 all_at_input Present o = absurd (true≢false o)
 all_at_input (At f) o = within_all _ _ (frontier-closed _ f)
 
-all_at_total : (cut : Cut) → offers_of_writes total_logged one_acknowledged 1 cut → IsCutWithin total_logged 1 cut (At [])
+all_at_total : (cut : Cut) → offers_of_writes total_logged one_acknowledged 1 cut → IsCutWithin total_logged.flow 1 cut (At [])
 unfolding kind_of policy_of bounds_of
 all_at_total Present o = absurd (true≢false o)
 all_at_total (At f) o = within_all _ _ (frontier-closed _ f)
 
 -- the output acknowledged epoch 0
-first_at_output : (cut : Cut) → offers_of_writes total_logged one_acknowledged 2 cut → IsCutWithin total_logged 2 cut (At (until 1))
+first_at_output : (cut : Cut) → offers_of_writes total_logged one_acknowledged 2 cut → IsCutWithin total_logged.flow 2 cut (At (until 1))
 unfolding kind_of policy_of bounds_of
 first_at_output Present o = absurd (true≢false o)
 first_at_output (At f) o = o.1.1
 
 low_above : (other : Choice) → IsConsistent total_logged one_acknowledged (offers_of_writes total_logged one_acknowledged) other
-    → IsChoiceWithin total_logged other low_but_for_the_last
+    → IsChoiceWithin total_logged.flow other low_but_for_the_last
 unfolding bounds_of kind_of
 low_above other is =
     let at_output = first_at_output (cut_of other 2) (is.offered 2 (lit< tt)) in

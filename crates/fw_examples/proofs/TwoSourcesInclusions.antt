@@ -10,7 +10,7 @@ use Rattle.fw_flow.specs.Dataflow.{kind_of, policy_of, sender, receiver, bounds_
 use Rattle.fw_flow.specs.NodeFunction.{sends}
 use Rattle.fw_flow.specs.Projection.{phi, psi}
 use Rattle.fw_flow.specs.declared.choice.Choice.{Choice}
-use Rattle.fw_model.specs.Choice.{cut_of, note_of, discarded_cover, notified_cover, IsConsistent, IsCutWithin, IsChoiceWithin, IsLargest}
+use Rattle.fw_model.specs.Choice.{cut_of, note_of, IsConsistent, IsCutWithin, IsChoiceWithin, IsLargest}
 use Rattle.fw_model.specs.Machine.{front_of}
 use Rattle.fw_model.specs.Steps.{offers}
 use Rattle.fw_examples.specs.TwoSources.{two_sources_flow}
@@ -18,6 +18,7 @@ use Rattle.fw_examples.specs.Inclusions.{Inclusion, of_delivered, of_discarded, 
 use Rattle.fw_examples.proofs.FrontierFacts.{within_all, within_until}
 use Rattle.fw_examples.proofs.ChoiceFacts.{nothing_covered, nothing_inside, covered_in_all, set_within, canonical, by_six, by_five}
 use Rattle.fw_examples.proofs.TwoSourcesRun.{select_failed, failed_after_notice}
+use Rattle.fw_model.specs.Covers.{covers_in}
 
 abbrev Offered : ℕ → Cut → Type 0
 Offered = offers one_comes select_failed
@@ -69,35 +70,35 @@ undone_consistent = record {
       (λ t i. absurd (nothing_inside _ t i));
 }
 
-at_select : (cut : Cut) → Offered 2 cut → IsCutWithin one_comes 2 cut (At none)
+at_select : (cut : Cut) → Offered 2 cut → IsCutWithin one_comes.flow 2 cut (At none)
 unfolding kind_of policy_of bounds_of
 at_select Present o = absurd (true≢false o)
 at_select (At f) o = o.1
 
-at_second : (cut : Cut) → Within (discarded_cover one_comes select_failed 1 1 cut) (frontier_of (bounds_of two_sources_flow 2) none)
-    → IsCutWithin one_comes 1 cut (At none)
+at_second : (cut : Cut) → Within ((covers_in one_comes select_failed).discarded 1 cut) (frontier_of (bounds_of two_sources_flow 2) none)
+    → IsCutWithin one_comes.flow 1 cut (At none)
 unfolding kind_of receiver sender sends batches_of bounds_of policy_of
 at_second Present w = false≢true (w (0 ∷ []) refl)
 at_second (At f) w =
     within_until _ _ (0 ∷ []) (frontier-closed _ f) refl
-    (λ i. let sent : discarded_cover one_comes select_failed 1 1 (At f) (0 ∷ []) ≡ true = rw i refl in false≢true (w (0 ∷ []) sent))
+    (λ i. let sent : (covers_in one_comes select_failed).discarded 1 (At f) (0 ∷ []) ≡ true = rw i refl in false≢true (w (0 ∷ []) sent))
 
 -- the sum settled nothing, and was notified of what it cannot count as notified
-at_sum : (cut : Cut) → Offered 4 cut → Within (notified_cover one_comes select_failed 4 cut) (frontier_of (bounds_of two_sources_flow 4) none)
-    → IsCutWithin one_comes 4 cut (At none)
+at_sum : (cut : Cut) → Offered 4 cut → Within ((covers_in one_comes select_failed).notified 4 cut) (frontier_of (bounds_of two_sources_flow 4) none)
+    → IsCutWithin one_comes.flow 4 cut (At none)
 unfolding kind_of policy_of bounds_of
 at_sum Present o w = false≢true (w (0 ∷ []) refl)
 at_sum (At f) o w = o.1
 
-undone_largest : (other : Choice) → IsConsistent one_comes select_failed Offered other → IsChoiceWithin one_comes other sum_undone
+undone_largest : (other : Choice) → IsConsistent one_comes select_failed Offered other → IsChoiceWithin one_comes.flow other sum_undone
 unfolding kind_of receiver sender bounds_of phi
 undone_largest other is =
     let cut_select = at_select (cut_of other 2) (is.offered 2 (lit< tt)) in
     let kept_by_select = set_within one_comes 2 (cut_of other 2) none cut_select in
     let cut_second = at_second (cut_of other 1) (λ t i. kept_by_select t (is.discarded 1 (lit< tt) t i)) in
-    let note_select : Within (note_of one_comes other 2) (frontier_of (bounds_of two_sources_flow 2) none) = λ t i. kept_by_select t (is.own 2 (lit< tt) t i) in
-    let note_mix : Within (note_of one_comes other 3) (frontier_of (bounds_of two_sources_flow 2) none) = λ t i. note_select t (and_parts _ _ (is.notes 2 (lit< tt) t i)).1 in
-    let note_sum : Within (note_of one_comes other 4) (frontier_of (bounds_of two_sources_flow 2) none) = λ t i. note_mix t (and_parts _ _ (is.notes 3 (lit< tt) t i)).1 in
+    let note_select : Within (note_of one_comes.flow other 2) (frontier_of (bounds_of two_sources_flow 2) none) = λ t i. kept_by_select t (is.own 2 (lit< tt) t i) in
+    let note_mix : Within (note_of one_comes.flow other 3) (frontier_of (bounds_of two_sources_flow 2) none) = λ t i. note_select t (and_parts _ _ (is.notes 2 (lit< tt) t i)).1 in
+    let note_sum : Within (note_of one_comes.flow other 4) (frontier_of (bounds_of two_sources_flow 2) none) = λ t i. note_mix t (and_parts _ _ (is.notes 3 (lit< tt) t i)).1 in
     record {
       cuts = by_six _ tt cut_second cut_select tt (at_sum (cut_of other 4) (is.offered 4 (lit< tt)) (λ t i. note_sum t (is.notified 4 (lit< tt) t i))) tt;
       notes = by_six _

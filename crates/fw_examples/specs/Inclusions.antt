@@ -6,7 +6,8 @@ use Rattle.fw_flow.specs.declared.choice.Cut.TheVariants.{Present, At}
 use Rattle.fw_flow.specs.declared.step.Step.TheVariants.{Inject, Deliver, Notify, Fail}
 use Rattle.fw_flow.specs.Dataflow.{System, bounds_of}
 use Rattle.fw_flow.specs.declared.choice.Choice.{Choice}
-use Rattle.fw_model.specs.Choice.{ComesFromSender, LiesInReceiver, HasItsNotices, IsNoteKept, NoteComesFromSender, covers_in, cut_of, filtered, IsConsistent, IsLargest, IsChoiceWithin}
+use Rattle.fw_model.specs.Choice.{ComesFromSender, LiesInReceiver, HasItsNotices, IsNoteKept, NoteComesFromSender, cut_of, filtered, IsConsistent, IsLargest, IsChoiceWithin}
+use Rattle.fw_model.specs.Covers.{covers_in}
 use Rattle.fw_model.specs.History.{pending, IsLegal}
 use Rattle.fw_model.specs.Machine.{Machine, events, first_state, front_of}
 use Rattle.fw_model.specs.Steps.{Run, offers, did, quiet}
@@ -23,11 +24,11 @@ pub data Inclusion : Type 0 where
 
 -- the choice meets the inclusion
 abbrev pub Meets : System → Machine → Choice → Inclusion → Type 0
-Meets sys state choice of_delivered = (d : ℕ) → d < length sys.flow.edges → ComesFromSender sys (covers_in sys state) choice d
-Meets sys state choice of_discarded = (e : ℕ) → e < length sys.flow.edges → LiesInReceiver sys (covers_in sys state) choice e
-Meets sys state choice of_notified = (p : ℕ) → p < length sys.flow.nodes → HasItsNotices sys (covers_in sys state) choice p
-Meets sys state choice of_own = (p : ℕ) → p < length sys.flow.nodes → IsNoteKept sys choice p
-Meets sys state choice of_notes = (d : ℕ) → d < length sys.flow.edges → NoteComesFromSender sys (covers_in sys state) choice d
+Meets sys state choice of_delivered = (d : ℕ) → d < length sys.flow.edges → ComesFromSender sys.flow (covers_in sys state) choice d
+Meets sys state choice of_discarded = (e : ℕ) → e < length sys.flow.edges → LiesInReceiver sys.flow (covers_in sys state) choice e
+Meets sys state choice of_notified = (p : ℕ) → p < length sys.flow.nodes → HasItsNotices sys.flow (covers_in sys state) choice p
+Meets sys state choice of_own = (p : ℕ) → p < length sys.flow.nodes → IsNoteKept sys.flow choice p
+Meets sys state choice of_notes = (d : ℕ) → d < length sys.flow.edges → NoteComesFromSender sys.flow (covers_in sys state) choice d
 
 -- the choice is from what is offered, and meets each inclusion but perhaps this one
 pub record IsConsistentWithout (left_out : Inclusion) (sys : System) (state : Machine) (offers : ℕ → Cut → Type 0) (choice : Choice) : Type 0 where
@@ -49,7 +50,7 @@ abbrev pub IsNeeded : Inclusion → System → Machine → Choice → Choice →
 IsNeeded left_out sys state choice other =
     IsLargest sys state (offers sys state) choice
     × IsConsistentWithout left_out sys state (offers sys state) other
-    × (IsChoiceWithin sys other choice → ⊥)
+    × (IsChoiceWithin sys.flow other choice → ⊥)
 
 -- the history that a recovery to the choice leaves could have come without a failure
 abbrev pub LeavesAHistory : System → Machine → Choice → Type 0

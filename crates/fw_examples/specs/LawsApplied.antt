@@ -16,7 +16,7 @@ use Rattle.fw_flow.specs.Dataflow.{sender, receiver, bounds_of, bounds_of_edge}
 use Rattle.fw_flow.specs.NodeFunction.{place, stamp}
 use Rattle.fw_flow.specs.Projection.{phi}
 use Rattle.fw_flow.specs.declared.choice.Choice.{Choice}
-use Rattle.fw_model.specs.Choice.{View, ever, kept, until, cut_of, kept_of, IsCandidate, IsConsistent, IsCutWithin, IsChoiceWithin, IsLargest, delivered_cover, notified_cover, discarded_cover, filtered}
+use Rattle.fw_model.specs.Choice.{View, ever, kept, until, cut_of, kept_of, IsCandidate, IsConsistent, IsCutWithin, IsChoiceWithin, IsLargest, filtered}
 use Rattle.fw_model.specs.Denotation.{bag_at}
 use Rattle.fw_model.specs.History.{IsAdmissible, IsComplete, IsLegal, pending, sent, delivered, injected_count, AreEventsInDomain, recs_at, IsClosedFor}
 use Rattle.fw_model.specs.Machine.{Machine, events, first_state, is_failed}
@@ -48,6 +48,7 @@ use Rattle.fw_model.specs.Choosing.{low_choice, AreCheckpointsChains, CanChoose}
 use Rattle.fw_model.specs.Acknowledgements.{Shows, IsDenoted, stamps_acknowledged, first_stamps}
 use Rattle.fw_model.specs.Settled.{IsFull, IsDenotedInside}
 use Rattle.fw_model.specs.Filtering.{kept_events, messages_inside, messages_outside, messages_from, HaveKeptCauses, MeetsInclusions}
+use Rattle.fw_model.specs.Covers.{covers_in}
 
 -- the laws of runs and of recoveries, of the runs of the running total
 pub record RunsApply : Type 0 where
@@ -75,7 +76,7 @@ pub record ChoosingApplies : Type 0 where
   pub recovered : choosing.FailedNodesAreRecovered → (next : Machine) × (choice : Choice) × Steps totals output_failed Recover next (did (cuts choice))
   pub next : choosing.ReachedStatesHaveOneNextState → (step : Step)
       → (next : Machine) × (outcome : Outcome) × IsTheNext totals output_failed step next outcome
-  pub holds : choosing.LargestChoiceHoldsLowWatermark → IsCutWithin totals run (At (until 2)) (cut_of two_epochs_kept run)
+  pub holds : choosing.LargestChoiceHoldsLowWatermark → IsCutWithin total_flow run (At (until 2)) (cut_of two_epochs_kept run)
   pub rises : choosing.LowWatermarkNeverFalls
       → Within (frontier_of (bounds_of total_flow run) (until 0)) (frontier_of (bounds_of total_flow run) (until 2))
   pub ever_largest : choosing.LargestOfKeptIsLargestOfEver
@@ -105,18 +106,18 @@ pub record ChoicesApply : Type 0 where
   pub have_union : choices.ConsistentChoicesHaveUnion
       → (union : Choice) × IsUnionOfChoices totals (two_kept_noting (until 0)) epoch_kept union
   pub each_within : choices.EachLiesWithinUnion
-      → IsChoiceWithin totals (two_kept_noting (until 0)) (two_kept_noting (until 1)) × IsChoiceWithin totals epoch_kept (two_kept_noting (until 1))
+      → IsChoiceWithin total_flow (two_kept_noting (until 0)) (two_kept_noting (until 1)) × IsChoiceWithin total_flow epoch_kept (two_kept_noting (until 1))
   pub candidate : choices.UnionOfCandidatesIsCandidate
       → IsCandidate totals output_failed (is_failed output_failed) ever run (At (until 2))
   pub delivered : choices.DeliveredOfUnion
-      → Within (delivered_cover two_batches counting_failed inc 2 (At both_rounds))
-      (join (delivered_cover two_batches counting_failed inc 2 (At counted_rounds)) (delivered_cover two_batches counting_failed inc 2 (At first_rounds)))
+      → Within ((covers_in two_batches counting_failed).delivered 2 (At both_rounds))
+      (join ((covers_in two_batches counting_failed).delivered 2 (At counted_rounds)) ((covers_in two_batches counting_failed).delivered 2 (At first_rounds)))
   pub notified : choices.NotifiedOfUnion
-      → Within (notified_cover totals output_failed run (At (until 2)))
-      (join (notified_cover totals output_failed run (At (until 2))) (notified_cover totals output_failed run (At (until 1))))
+      → Within ((covers_in totals output_failed).notified run (At (until 2)))
+      (join ((covers_in totals output_failed).notified run (At (until 2))) ((covers_in totals output_failed).notified run (At (until 1))))
   pub discarded : choices.DiscardedOfUnion
-      → Within (discarded_cover two_batches counting_failed (sender loop_counts_up 3) 3 (At both_rounds))
-      (join (discarded_cover two_batches counting_failed (sender loop_counts_up 3) 3 (At counted_rounds)) (discarded_cover two_batches counting_failed (sender loop_counts_up 3) 3 (At first_rounds)))
+      → Within ((covers_in two_batches counting_failed).discarded 3 (At both_rounds))
+      (join ((covers_in two_batches counting_failed).discarded 3 (At counted_rounds)) ((covers_in two_batches counting_failed).discarded 3 (At first_rounds)))
   pub consistent : choices.UnionOfConsistentIsConsistent
       → IsConsistent totals output_failed (IsCandidate totals output_failed (is_failed output_failed) ever) (two_kept_noting (until 1))
 
@@ -171,7 +172,7 @@ pub record FilteringApplies : Type 0 where
   pub kept_causes : filtering.KeptDeliveriesHaveKeptCauses → HaveKeptCauses loop_counts_up under_way kept_rounds
   pub legal_without_notices : filtering.KeptEventsAreLegalWithoutNotices → IsLegal two_batches (kept_events loop_counts_up kept_rounds under_way)
   pub legal : filtering.KeptEventsAreLegal
-      → IsLegal totals (kept_events total_flow (kept_of totals two_epochs_kept) (next_epochs ++ two_epochs))
+      → IsLegal totals (kept_events total_flow (kept_of total_flow two_epochs_kept) (next_epochs ++ two_epochs))
   pub inclusions : filtering.ConsistentMeetsInclusions → MeetsInclusions totals output_failed two_epochs_kept
   pub filtered_is_legal : filtering.FilteredHistoryIsLegal → IsLegal totals (events (filtered totals two_epochs_kept output_failed.history))
   pub at_kept : filtering.PendingAtKeptStamps

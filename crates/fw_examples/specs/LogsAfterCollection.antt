@@ -102,7 +102,7 @@ pub record CollectsALoggedEvent : Type 0 where
   pub first_below : lies_below events_logged event_collected.low event_collected.history big (logged_event 1) ≡ true
   pub second_inside : frontier_of (bounds_of events_logged.flow big) (front_of event_collected.low big) (1 ∷ []) ≡ true
   pub second_needed : is_given_up events_logged event_collected.low big (1 ∷ []) ≡ false
-  pub log : logged_messages events_logged event_collected event_collected.low big_to_out (kept_of events_logged both_come_back big) ≡ second_message ∷ []
+  pub log : logged_messages events_logged event_collected event_collected.low big_to_out (kept_of events_logged.flow both_come_back big) ≡ second_message ∷ []
   pub sent_again : messages_to_resend events_logged event_collected both_come_back big_to_out ≡ second_message ∷ []
 
 -- ---- a select that writes a checkpoint with its log whenever more is settled
@@ -135,7 +135,7 @@ outcomes_with_checkpoints =
 
 -- what the log of the checkpoint of all holds of the edge to the output, if it was asked at this low watermark
 abbrev pub log_at : List Front → List Message
-log_at low = logged_messages checkpoints_logged log_kept low big_to_out (kept_of checkpoints_logged both_come_back big)
+log_at low = logged_messages checkpoints_logged log_kept low big_to_out (kept_of checkpoints_logged.flow both_come_back big)
 
 -- The log that is kept with the checkpoint of all has what was sent of epoch 1, and no longer what was sent of epoch 0. What was
 -- sent of epoch 1 is sent again when both come back.

@@ -18,14 +18,14 @@ PhiTakes sys e before after = (h : List Event)
 abbrev pub PsiTakes : System → ℕ → Front → Front → Type 0
 PsiTakes sys e before after =
     Names (bounds_of sys.flow (receiver sys.flow e)) after
-    (psi sys e (frontier_of (bounds_of sys.flow (sender sys.flow e)) before))
+    (psi sys.flow e (frontier_of (bounds_of sys.flow (sender sys.flow e)) before))
 
 -- psi backwards on the edge takes the frontier of its receiver with these outside stamps to that of its sender with
 -- those
 abbrev pub PsiBackTakes : System → ℕ → Front → Front → Type 0
 PsiBackTakes sys e before after =
     Names (bounds_of sys.flow (sender sys.flow e)) after
-    (psi_back sys e (frontier_of (bounds_of sys.flow (receiver sys.flow e)) before))
+    (psi_back sys.flow e (frontier_of (bounds_of sys.flow (receiver sys.flow e)) before))
 
 -- the edge out of the feedback
 abbrev pub fed_back_edge : ℕ
@@ -95,5 +95,5 @@ pub record RegroupProjects : Type 0 where
   pub psi_back_of_last : PsiBackTakes no_batches regrouped_edge ((1431655765 ∷ []) ∷ []) ((4294967295 ∷ []) ∷ [])
   pub psi_back_past_last : PsiBackTakes no_batches regrouped_edge ((1431655766 ∷ []) ∷ []) []
   pub no_larger : (f : Frontier) → IsFrontier (bounds_of regroup_by_three 2) f
-      → Within (psi no_batches regrouped_edge f) (frontier_of (bounds_of regroup_by_three 3) ((2 ∷ []) ∷ []))
+      → Within (psi regroup_by_three regrouped_edge f) (frontier_of (bounds_of regroup_by_three 3) ((2 ∷ []) ∷ []))
       → Within f (frontier_of (bounds_of regroup_by_three 2) ((6 ∷ []) ∷ []))

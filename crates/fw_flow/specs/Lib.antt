@@ -9,6 +9,7 @@ pub mod Parts
 pub mod ProjectedStamps
 pub mod Projection
 pub mod Raw
+pub mod Restoring
 pub mod Walks
 pub mod WellFormed
 pub mod WholeBags

@@ -6,11 +6,11 @@ use Rattle.fw_time.specs.Stamp.{in_domain}
 use Rattle.fw_flow.specs.declared.choice.Counted.{Counted}
 use Rattle.fw_flow.specs.declared.choice.Offer.{Offer}
 use Rattle.fw_flow.specs.declared.kind.Kind.TheVariants.{Sequence}
-use Rattle.fw_flow.specs.Dataflow.{Dataflow, kind_of, policy_of, bounds_of}
-use Rattle.fw_model.specs.Choice.{restoring}
-use Rattle.fw_monitor.specs.Offers.{listed, range, IsRecordOf, IsRangeOf, IsListedBy, AreOnEdges, AreFromEpochs, AreOffersOf}
+use Rattle.fw_flow.specs.Dataflow.{Dataflow, kind_of, bounds_of}
+use Rattle.fw_model.specs.Offers.{listed, range, IsRecordOf, IsRangeOf, IsListedBy, AreOnEdges, AreFromEpochs, AreOffersOf}
 use Rattle.fw_monitor.proofs.LookUpLaws.{offer_past}
 use Rattle.worked_runs.specs.Written.{IsOfferOf, AreOffersFrom}
+use Rattle.fw_flow.specs.Restoring.{way_of}
 
 each-last : {A : Type 0} (P : A → Type 0) (xs : List A) (x : A) → AllByRecursion P xs → P x → AllByRecursion P (xs ++ x ∷ [])
 each-last P [] x a i = (i, tt)
@@ -50,7 +50,7 @@ offers_are flow os n a = record {
   records = λ p l. looked-up flow (λ o. listed o.offered) [] (λ q rs. AllByRecursion (IsRecordOf flow q) rs) (λ q o i. i.offered.records) os p a n l;
   range = λ p l. looked-up flow (λ o. range o.offered) None (λ q r. IsRangeOf (bounds_of flow q) r) (λ q o i. i.offered.ends) os p a n l;
   listed = λ p l.
-      looked-up flow (λ o. range o.offered) None (λ q r. IsListedBy (restoring (kind_of flow q) (policy_of flow q)) r) (λ q o i. i.offered.way) os p a n l;
+      looked-up flow (λ o. range o.offered) None (λ q r. IsListedBy (way_of flow q) r) (λ q o i. i.offered.way) os p a n l;
   delivered = λ p l. looked-up flow (λ o. o.stamps.delivered.items) [] (λ q ms. AreOnEdges flow ms) (λ q o i. i.delivered) os p a n l;
   notified = λ p l.
       looked-up flow (λ o. o.stamps.notified.items) [] (λ q ts. AllByRecursion (λ t. in_domain (bounds_of flow q) t ≡ true) ts) (λ q o i. i.notified) os p a n l;

@@ -4,16 +4,15 @@ ghost use Rattle.std.specs.List.{AllByRecursion};
 ghost use Rattle.std.specs.Option.{IfSome};
 ghost use Rattle.fw_time.specs.Stamp.{in_domain};
 ghost use Rattle.fw_frontier.specs.Front.{IsCanonical};
-ghost use Rattle.fw_flow.specs.Dataflow.{kind_of, policy_of, receiver, bounds_of};
-ghost use Rattle.fw_model.specs.Choice as model;
-ghost use Rattle.fw_monitor.specs.Offers.{AreFrontsOfEdges, AreOffersOf, AreOnEdges, IsRecordOf};
+ghost use Rattle.fw_flow.specs.Dataflow.{receiver, bounds_of};
+ghost use Rattle.fw_model.specs.Offers.{AreFrontsOfEdges, AreOffersOf, AreOnEdges, IsRecordOf};
 ghost use Rattle.worked_runs.specs.Written as spec;
 ghost use Rattle.worked_runs.specs.Written.{IsOfferOf, IsOfferedBy};
 
 use crate::projections::{declarations, stamp_of, stamps_of};
 use fw_flow::{
-    Causes, Choice, Counted, Cut, EdgeId, Flow, Kind, NodeId, OfEdge, Offer, Offered, Policy,
-    Recorded, Stamps,
+    Causes, Choice, Counted, Cut, EdgeId, Flow, Kind, NodeId, OfEdge, Offer, Offered, Recorded,
+    Restoring, Stamps,
 };
 use fw_frontier::Front;
 use fw_lines::ReadFault;
@@ -82,38 +81,13 @@ fn records(
     Ok(records)
 }
 
-// Whether a node lists its frontiers.
-fn is_listed(kind: Kind, policy: Policy) -> bool
-    ensures { result ≡ spec.is_listed (model.restoring kind policy) }
+// Whether a node that is restored so lists its frontiers.
+fn is_listed(way: Restoring) -> bool
+    ensures { result ≡ spec.is_listed way }
 {
-    match kind {
-        Kind::Input => true,
-        Kind::OutputEpoch => false,
-        Kind::OutputNumber => false,
-        Kind::Select { .. } => writes_checkpoints(policy),
-        Kind::Concat { .. } => writes_checkpoints(policy),
-        Kind::Distinct { .. } => writes_checkpoints(policy),
-        Kind::Join { .. } => writes_checkpoints(policy),
-        Kind::Sum { .. } => writes_checkpoints(policy),
-        Kind::Enter(_) => writes_checkpoints(policy),
-        Kind::Feedback(_) => writes_checkpoints(policy),
-        Kind::Leave(_) => writes_checkpoints(policy),
-        Kind::Total => writes_checkpoints(policy),
-        Kind::Sequence => writes_checkpoints(policy),
-        Kind::Ledger => writes_checkpoints(policy),
-        Kind::Regroup(_) => writes_checkpoints(policy),
-    }
-}
-
-fn writes_checkpoints(policy: Policy) -> bool
-    ensures { result ≡ spec.is_listed (model.restoring_of_policy policy) }
-{
-    match policy {
-        Policy::None => false,
-        Policy::Lazy => true,
-        Policy::Logged => true,
-        Policy::Eager => true,
-        Policy::Full => false,
+    match way {
+        Restoring::Batches | Restoring::Checkpoints => true,
+        Restoring::Bound | Restoring::Anything | Restoring::Events => false,
     }
 }
 
@@ -121,7 +95,7 @@ fn writes_checkpoints(policy: Policy) -> bool
 fn offered(alloc: Global, flow: &Flow, node: NodeId, text: &str) -> Result<Offered, AllocError>
     ensures { IfOk result (λ o. IsOfferedBy flow.now node o) }
 {
-    if is_listed(flow.kind(node), flow.policy(node)) {
+    if is_listed(flow.restoring(node)) {
         return Ok(Offered::Listed(records(alloc, flow, node, text)?));
     }
     let (least, greatest) = text.split_once("to").unwrap_or((text, text));

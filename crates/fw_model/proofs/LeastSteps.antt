@@ -15,10 +15,12 @@ use Rattle.fw_bag.proofs.OrderingLaws.{le_not_gt, gt_of}
 use Rattle.fw_flow.specs.declared.event.Event.{Event}
 use Rattle.fw_flow.specs.declared.event.Message.{Message}
 use Rattle.fw_flow.specs.Dataflow.{System, is_numbered}
-use Rattle.fw_model.specs.History.{IsDeliverable, message_cmp, is_among, pending, delivered}
+use Rattle.fw_flow.specs.Message.{message_cmp, is_among}
+use Rattle.fw_model.specs.History.{IsDeliverable, pending, delivered}
 use Rattle.fw_model.specs.Least.{is_number, is_asked, is_wanted_message, IsLeastWanted, IsLeastBy, lesser_by}
+use Rattle.fw_flow.proofs.MessageLaws.{among-each}
 use Rattle.fw_model.specs.Steps.{IsAsked, IsNextMessage}
-use Rattle.fw_model.proofs.CmpLaws.{among-each, not_greater}
+use Rattle.fw_model.proofs.CmpLaws.{not_greater}
 use Rattle.fw_model.proofs.StampLaws.{same-is, same-from}
 
 -- ---- one element more

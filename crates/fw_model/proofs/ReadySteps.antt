@@ -24,7 +24,8 @@ use Rattle.fw_model.proofs.LeastSteps.{asked-is, asked-from}
 use Rattle.fw_model.proofs.ClearSteps.{any-reverse, in_edges-at, in_edges-from, quiet-inside, inside-quiet}
 use Rattle.fw_model.proofs.CompleteSteps.{not_past}
 use Rattle.fw_model.proofs.StampLaws.{same-is, same-from}
-use Rattle.fw_model.proofs.CmpLaws.{each-among, stamp_cmp-same}
+use Rattle.fw_flow.proofs.MessageLaws.{each-among}
+use Rattle.fw_model.proofs.CmpLaws.{stamp_cmp-same}
 
 -- ---- among the stamps of a list
 

@@ -1,5 +1,6 @@
 use Rattle.std.proofs.Common.{◌≡◌, reverse, take}
-use Rattle.fw_model.specs.History.{sent, delivered, less}
+use Rattle.fw_flow.specs.Message.{less}
+use Rattle.fw_model.specs.History.{sent, delivered}
 use Rattle.fw_model.specs.Plain.{system_of}
 use Rattle.fw_model.proofs.plain.waiting.pending.Given as goal
 

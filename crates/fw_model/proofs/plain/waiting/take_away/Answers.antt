@@ -1,7 +1,7 @@
 use Rattle.std.proofs.Common.{◌≡◌, None, position, sym}
 use Rattle.std.specs.Ordering.{is_eq}
-use Rattle.fw_model.specs.History.{message_cmp}
-use Rattle.fw_model.proofs.WaitingSteps.{without_nowhere}
+use Rattle.fw_flow.specs.Message.{message_cmp}
+use Rattle.fw_flow.proofs.MessageLaws.{without_nowhere}
 use Rattle.fw_model.proofs.plain.waiting.take_away.Goals as goal
 
 pub returns-in_default : goal.returns-in_default

@@ -7,7 +7,8 @@ use Rattle.fw_flow.specs.declared.event.Message.{Message}
 use Rattle.fw_flow.specs.declared.step.Step.{Step}
 use Rattle.fw_flow.specs.declared.step.Step.TheVariants as step
 use Rattle.fw_flow.specs.Dataflow.{System, receiver, is_numbered}
-use Rattle.fw_model.specs.History.{IsDeliverable, is_among, pending}
+use Rattle.fw_flow.specs.Message.{is_among}
+use Rattle.fw_model.specs.History.{IsDeliverable, pending}
 use Rattle.fw_model.specs.Machine.{Machine, events, is_failed}
 use Rattle.fw_model.specs.Steps.{Outcome, did, quiet, Run, with_event, is_asked}
 use Rattle.fw_model.proofs.EnabledLaws.{asked-is}

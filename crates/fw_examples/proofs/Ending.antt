@@ -15,7 +15,7 @@ use Rattle.fw_flow.specs.Projection.{phi}
 use Rattle.fw_model.specs.History.{IsComplete, injected_epochs, owed, delivered, pending, some_at}
 use Rattle.fw_model.specs.Machine.{Machine, events, front_of, is_failed}
 use Rattle.fw_model.specs.Steps.{Outcome, did, LeadsTo, GrowsTo, Run, quiet, acked, recovered}
-use Rattle.fw_model.proofs.DescentLaws.{less-none}
+use Rattle.fw_flow.proofs.MessageLaws.{less-none}
 use Rattle.fw_examples.specs.Flows.{loop_counts_up, two_batches, pair}
 use Rattle.fw_examples.specs.UnderWay.{message, round, complete_fronts}
 use Rattle.fw_examples.specs.Recovery.{counting_failed, restored, RunsToTheEnd}

@@ -6,10 +6,11 @@ use Rattle.fw_time.specs.Stamp.{Stamp}
 use Rattle.fw_flow.specs.declared.event.Event.{Event}
 use Rattle.fw_flow.specs.declared.event.Message.{Message}
 use Rattle.fw_flow.specs.Dataflow.{System}
-use Rattle.fw_model.specs.History.{IsDeliverable, message_cmp, is_among, pending}
+use Rattle.fw_model.specs.History.{IsDeliverable, pending}
 use Rattle.fw_model.specs.Steps.{IsAsked, IsNextMessage, is_asked}
-use Rattle.fw_model.proofs.CmpLaws.{message_cmp-equal}
 use Rattle.fw_model.proofs.EnabledLaws.{asked-from}
+use Rattle.fw_flow.specs.Message.{message_cmp, is_among}
+use Rattle.fw_flow.proofs.MessageLaws.{message_cmp-equal}
 
 -- whether the message is not greater than one of these that is asked for
 abbrev pub is_first : Option Stamp → Message → List Message → Bool

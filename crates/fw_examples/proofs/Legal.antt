@@ -5,7 +5,7 @@ use Rattle.fw_flow.specs.NodeFunction.{sends}
 use Rattle.fw_model.specs.History.{IsLegal, pending, delivered}
 use Rattle.fw_model.specs.Machine.{events}
 use Rattle.fw_model.specs.Choice.{filtered}
-use Rattle.fw_model.proofs.DescentLaws.{less-none}
+use Rattle.fw_flow.proofs.MessageLaws.{less-none}
 use Rattle.fw_examples.specs.Flows.{two_batches}
 use Rattle.fw_examples.specs.UnderWay.{under_way, still_pending}
 use Rattle.fw_examples.specs.Recovery.{without_the_second, with_serials, pending_again, restored}

@@ -8,7 +8,8 @@ use Rattle.fw_flow.specs.declared.event.Event.TheVariants.{Inject as Injected, D
 use Rattle.fw_flow.specs.declared.event.Message.{Message}
 use Rattle.fw_flow.specs.declared.step.Step.TheVariants.{Inject, Deliver}
 use Rattle.fw_flow.specs.Dataflow.{System, kind_of, receiver, is_input_kind, is_numbered, batches_of}
-use Rattle.fw_model.specs.History.{message_cmp, is_among, pending, injected_count}
+use Rattle.fw_flow.specs.Message.{message_cmp, is_among}
+use Rattle.fw_model.specs.History.{pending, injected_count}
 use Rattle.fw_model.specs.Machine.{Machine, Write, acknowledged, events, is_failed}
 use Rattle.fw_model.specs.Steps.{Steps, with_event, did, quiet, AcknowledgesOldest, is_in_flight}
 use Rattle.fw_bag.proofs.OrderingLaws.{equal_from_is_eq}

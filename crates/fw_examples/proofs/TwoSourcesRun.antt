@@ -13,10 +13,11 @@ use Rattle.fw_flow.specs.declared.step.Step.TheVariants.{Inject, Deliver, Notify
 use Rattle.fw_flow.specs.Dataflow.{kind_of, policy_of, sender, receiver, bounds_of, batches_of, is_input_kind}
 use Rattle.fw_flow.specs.NodeFunction.{sends, sent_by}
 use Rattle.fw_flow.specs.Projection.{phi, events_at}
-use Rattle.fw_model.specs.History.{less, delivered, some_at, pending, owed, injected_epochs, IsQuiet, IsAdmissible, IsNotifiable}
+use Rattle.fw_flow.specs.Message.{less}
+use Rattle.fw_model.specs.History.{delivered, some_at, pending, owed, injected_epochs, IsQuiet, IsAdmissible, IsNotifiable}
 use Rattle.fw_model.specs.Machine.{Machine, first_state, events, front_of}
+use Rattle.fw_flow.proofs.MessageLaws.{less-none}
 use Rattle.fw_model.specs.Steps.{Steps, with_event, did, quiet}
-use Rattle.fw_model.proofs.DescentLaws.{less-none}
 use Rattle.fw_examples.specs.OneSelect.{rec_of}
 use Rattle.fw_examples.specs.TwoSources.{two_sources_flow}
 use Rattle.fw_examples.specs.Inclusions.{none, all, one_comes, IsFailedAfterNotice}

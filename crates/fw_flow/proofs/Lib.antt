@@ -2,12 +2,13 @@ pub mod AnswerLaws
 pub mod Capped
 pub mod Checks
 pub mod Drafts
-pub mod Ends
 pub mod EdgeLaws
+pub mod Ends
 pub mod FlowLaws
 pub mod Flows
 pub mod Givers
 pub mod Marks
+pub mod MessageLaws
 pub mod Named
 pub mod Peel
 pub mod ProjectionLaws

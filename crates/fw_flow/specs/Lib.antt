@@ -3,6 +3,7 @@ pub mod Counting
 pub mod Dataflow
 pub mod Draft
 pub mod Flow
+pub mod Message
 pub mod Names
 pub mod NodeFunction
 pub mod Parts

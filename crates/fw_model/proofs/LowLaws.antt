@@ -34,7 +34,7 @@ use Rattle.fw_model.specs.Covers.{takes_its_cut, takes_its_notes, set_of, discar
 use Rattle.fw_model.proofs.Decisions.{two_ways}
 use Rattle.fw_model.proofs.StampLaws.{line-leq, leq-line, same-refl}
 use Rattle.fw_model.proofs.WeightLaws.{weigh}
-use Rattle.fw_model.proofs.CmpLaws.{among-each}
+use Rattle.fw_flow.proofs.MessageLaws.{among-each}
 use Rattle.fw_model.proofs.ArrivalLaws.{at_edge, in_edges-once}
 use Rattle.fw_model.proofs.ChoiceLaws.{by_batches-input, bounds-input}
 use Rattle.fw_model.proofs.FilteredLaws.{filtered-events, set-frontier}

@@ -245,19 +245,19 @@ fn add_sent(sent: &mut Vec<Counted>, edge: EdgeId, messages: &[Message]) -> Resu
     ensures { OnOk result (sent.new.items ≡ sent.old.items ++ map (spec.alone edge) messages.now) }
 {
     for message in messages {
-        sent.push(alone(edge, message)?)?;
+        sent.push(alone(edge, message))?;
     }
     Ok(())
 }
 
 /// A message on an edge, alone.
-fn alone(edge: EdgeId, message: &Message) -> Result<Counted, AllocError>
-    ensures { IfOk result (λ c. c ≡ spec.alone edge message.now) }
+fn alone(edge: EdgeId, message: &Message) -> Counted
+    ensures { result ≡ spec.alone edge message.now }
 {
-    Ok(Counted {
+    Counted {
         edge,
         at: message.at.copy(),
-        causes: message.causes.copy()?,
+        causes: message.causes.copy(),
         count: 1,
-    })
+    }
 }

@@ -107,9 +107,8 @@ fn offered(alloc: Global, flow: &Flow, node: NodeId, text: &str) -> Result<Offer
 }
 
 // A message by its edge, its stamp and its cause, which is its stamp if none is written.
-fn message(alloc: Global, flow: &Flow, word: &str) -> Result<Option<Counted>, AllocError>
-    ensures { IfOk result (λ message. IfSome message
-        (λ m. in_domain (bounds_of flow.now (receiver flow.now m.edge)) m.at ≡ true)) }
+fn message(flow: &Flow, word: &str) -> Option<Counted>
+    ensures { IfSome result (λ m. in_domain (bounds_of flow.now (receiver flow.now m.edge)) m.at ≡ true) }
 {
     let (edge, rest) = word.split_once(':').unwrap_or((word, ""));
     let (at, cause) = rest.split_once(':').unwrap_or((rest, rest));
@@ -118,18 +117,17 @@ fn message(alloc: Global, flow: &Flow, word: &str) -> Result<Option<Counted>, Al
         stamp_of(at),
         stamp_of(cause),
     ) else {
-        return Ok(None);
+        return None;
     };
     if !at.in_domain(&flow.domain(flow.dst(edge))) {
-        return Ok(None);
+        return None;
     }
-    let causes = Causes::of(alloc, cause)?;
-    Ok(Some(Counted {
+    Some(Counted {
         edge,
         at,
-        causes,
+        causes: Causes::of(cause),
         count: 1,
-    }))
+    })
 }
 
 fn messages(alloc: Global, flow: &Flow, text: &str) -> Result<Vec<Counted>, AllocError>
@@ -137,7 +135,7 @@ fn messages(alloc: Global, flow: &Flow, text: &str) -> Result<Vec<Counted>, Allo
 {
     let mut messages = Vec::new(alloc);
     for word in text.split_whitespace() {
-        if let Some(message) = message(alloc, flow, word)? {
+        if let Some(message) = message(flow, word) {
             messages.push(message)?;
         }
     }

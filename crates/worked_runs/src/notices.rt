@@ -63,7 +63,7 @@ fn deliver(
     let Some(edge) = flow.edge_named(edge.as_bytes()) else {
         return Ok(());
     };
-    let causes = Causes::of(alloc, Stamp::new(&[0]))?;
+    let causes = Causes::of(Stamp::new(&[0]));
     let message = Message {
         at: Stamp::new(&[0]),
         rec,

@@ -9,7 +9,7 @@ use Rattle.fw_frontier.specs.Frontier.{Within}
 use Rattle.fw_frontier.specs.Front.{frontier_of}
 use Rattle.fw_frontier.proofs.NamesLaws.{frontier-closed}
 use Rattle.fw_flow.specs.declared.choice.Cut.{Cut}
-use Rattle.fw_flow.specs.Dataflow.{System, kind_of, policy_of, sender, receiver, bounds_of, batches_of, max_of}
+use Rattle.fw_flow.specs.Dataflow.{System, kind_of, policy_of, sender, receiver, bounds_of, batches_of, max_of, NotifiesNobody}
 use Rattle.fw_flow.specs.NodeFunction.{sends}
 use Rattle.fw_flow.specs.Projection.{phi}
 use Rattle.fw_flow.specs.declared.choice.Choice.{Choice}
@@ -17,7 +17,7 @@ use Rattle.fw_flow.specs.declared.kind.Policy.TheVariants as policy
 use Rattle.fw_model.specs.Choice.{until, stamp_of_notice, IsConsistent}
 use Rattle.fw_model.specs.History.{some_at, delivered, IsQuiet}
 use Rattle.fw_model.specs.Machine.{Machine, front_of, is_failed}
-use Rattle.fw_model.specs.LawsOfFiltering.{ComeFromKept, IsConsistentlyKept, IsFull, MeetsInclusions, NotifiesNobody}
+use Rattle.fw_model.specs.LawsOfFiltering.{ComeFromKept, IsConsistentlyKept, IsFull, MeetsInclusions}
 use Rattle.fw_model.proofs.FilteredLaws.{set-frontier}
 use Rattle.fw_examples.specs.Flows.{loop_counts_up, regroup_by_three, two_batches}
 use Rattle.fw_examples.specs.UnderWay.{under_way}

@@ -11,11 +11,11 @@ use Rattle.fw_flow.specs.declared.event.Event.{Event}
 use Rattle.fw_flow.specs.declared.event.Event.TheVariants.{Notify as Notified}
 use Rattle.fw_flow.specs.declared.kind.Policy.{Policy}
 use Rattle.fw_flow.specs.declared.step.Step.TheVariants.{Progress, Notify}
-use Rattle.fw_flow.specs.Dataflow.{kind_of, policy_of, sender, receiver, bounds_of, is_input_kind}
+use Rattle.fw_flow.specs.Dataflow.{kind_of, policy_of, sender, receiver, bounds_of, is_input_kind, places}
 use Rattle.fw_flow.specs.NodeFunction.{sends, sent_by}
 use Rattle.fw_flow.specs.Projection.{phi, events_at}
 use Rattle.fw_model.specs.History.{less, some_at, delivered, pending, owed, injected_epochs, IsQuiet, IsAdmissible, IsComplete, IsNotifiable}
-use Rattle.fw_model.specs.Machine.{Machine, events, front_of, is_failed, places}
+use Rattle.fw_model.specs.Machine.{Machine, events, front_of, is_failed}
 use Rattle.fw_model.specs.Steps.{Steps, did, quiet, with_event, eager_writes}
 use Rattle.fw_model.proofs.DescentLaws.{less-none}
 use Rattle.fw_examples.specs.RunningTotal.{totals_of, total_flow_of}

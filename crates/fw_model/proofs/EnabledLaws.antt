@@ -15,12 +15,12 @@ use Rattle.fw_flow.specs.declared.kind.Kind.{Kind}
 use Rattle.fw_flow.specs.declared.kind.Kind.TheVariants.{OutputNumber}
 use Rattle.fw_flow.specs.declared.step.Step.{Step}
 use Rattle.fw_flow.specs.declared.step.Step.TheVariants.{Inject, Deliver, Notify, Progress as ProgressStep, Checkpoint, Persist, Fail, Ack}
-use Rattle.fw_flow.specs.Dataflow.{System, Dataflow, kind_of, policy_of, sender, receiver, bounds_of, batches_of, is_input_kind, is_notified_kind, is_output_kind, is_numbered}
+use Rattle.fw_flow.specs.Dataflow.{System, Dataflow, kind_of, policy_of, sender, receiver, bounds_of, batches_of, is_input_kind, is_notified_kind, is_output_kind, is_numbered, places}
 use Rattle.fw_flow.specs.NodeFunction.{delivered_recs}
 use Rattle.fw_flow.specs.Projection.{phi}
 use Rattle.fw_flow.specs.WellFormed.{IsWellFormed}
 use Rattle.fw_model.specs.History.{is_among, pending, delivered, was_delivered_to, was_notified, owed, injected_count, message_cmp, IsAdmissible, IsComplete, IsDeliverable, IsNotifiable}
-use Rattle.fw_model.specs.Machine.{Machine, Write, acknowledged, events, no_stamps, places, front_of, is_failed, bound_of}
+use Rattle.fw_model.specs.Machine.{Machine, Write, acknowledged, events, no_stamps, front_of, is_failed, bound_of}
 use Rattle.fw_model.specs.Steps.{Effect, quiet, acked, with_event, IsAsked, eager_writes, is_asked_for_checkpoints, newest_checkpoint, checkpoint_of, is_in_flight, AcknowledgesOldest, is_one_of, without_lost, with_failed, HasEpoch, HasDelivery, HasSomethingAt, MayAcknowledge, recs_at_output, LeadsTo}
 use Rattle.fw_model.proofs.CmpLaws.{decided-stamp, decided-front, stamp_total, message_total, among-each, find_least}
 use Rattle.fw_model.proofs.Decisions.{two_ways, Decided, decided-test, decided-or, decided-below, find_place}

@@ -10,13 +10,12 @@ use Rattle.fw_lines.specs.Batches.{batches_at}
 use Rattle.fw_flow.specs.declared.event.Event.{Event}
 use Rattle.fw_flow.specs.declared.event.Event.TheVariants.{Inject, Deliver, Notify}
 use Rattle.fw_flow.specs.declared.event.Message.{Message}
-use Rattle.fw_flow.specs.Dataflow.{Dataflow, receiver, batches_of}
+use Rattle.fw_flow.specs.Dataflow.{Dataflow, receiver, batches_of, batches_of_nodes, system_of}
 use Rattle.fw_flow.specs.NodeFunction.{place, rec_of_delivery, delivered_recs}
 use Rattle.fw_flow.specs.Projection.{events_at}
 use Rattle.fw_model.specs.History.{is_injection, injected_count}
 use Rattle.fw_model.specs.declared.plain.arrivals.Wanted.TheVariants.{At}
 use Rattle.fw_model.specs.Wanted.{is_wanted}
-use Rattle.fw_model.specs.Plain.{batches_of_nodes, system_of}
 
 -- the history of a list with one more event
 pub history_last : (events rest : List Event) (v : Event) → events ≡ rest ++ v ∷ [] → reverse events ≡ v ∷ reverse rest

@@ -10,14 +10,14 @@ use Rattle.fw_frontier.specs.Frontier.{Frontier}
 use Rattle.fw_flow.specs.declared.event.Event.{Event}
 use Rattle.fw_flow.specs.declared.event.Event.TheVariants.{Inject, Deliver, Notify}
 use Rattle.fw_flow.specs.declared.event.Message.{Message}
-use Rattle.fw_flow.specs.Dataflow.{System, Dataflow, kind_of, sender, receiver, bounds_of, is_notified_kind}
+use Rattle.fw_flow.specs.Dataflow.{System, Dataflow, kind_of, sender, receiver, bounds_of, is_notified_kind, NotifiesNobody}
 use Rattle.fw_flow.specs.NodeFunction.{place, stamp, sends, sent_by}
 use Rattle.fw_flow.specs.Projection.{events_at, all_inside, phi}
 use Rattle.fw_flow.specs.WellFormed.{IsWellFormed}
 use Rattle.fw_model.specs.History.{message_cmp, is_among, less, sent, message_on, delivered, pending, is_delivery_to, is_notification, was_delivered_to, was_notified, owed, is_injection, injected_count, IsQuiet, IsEnabled, IsLegal}
 use Rattle.fw_model.specs.LawsOfLegalHistories.{HasEpochs}
 use Rattle.fw_model.specs.LawsOfDeliveries.{AreNumberedInOrder}
-use Rattle.fw_model.specs.LawsOfFiltering.{AreFrontiers, kept_events, messages_from, messages_inside, HaveKeptCauses, KeptDeliveriesHaveKeptCauses, NotifiesNobody, KeptEventsAreLegalWithoutNotices}
+use Rattle.fw_model.specs.LawsOfFiltering.{AreFrontiers, kept_events, messages_from, messages_inside, HaveKeptCauses, KeptDeliveriesHaveKeptCauses, KeptEventsAreLegalWithoutNotices}
 use Rattle.fw_model.proofs.Decisions.{two_ways}
 use Rattle.fw_model.proofs.StampLaws.{leq_from, leq_to, line-leq, same-is}
 use Rattle.fw_model.proofs.CmpLaws.{among-each, message_cmp-equal}

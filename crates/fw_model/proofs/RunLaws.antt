@@ -20,7 +20,7 @@ use Rattle.fw_flow.specs.declared.kind.Kind.TheVariants.{OutputEpoch, OutputNumb
 use Rattle.fw_flow.specs.declared.step.Step.{Step}
 use Rattle.fw_flow.specs.declared.step.Step.TheVariants.{Inject, Deliver, Notify, Progress as ProgressStep, Checkpoint, Persist, Fail, Recover, Collect, Ack}
 use Rattle.fw_time.specs.declared.stamp.Bounds.{Bounds}
-use Rattle.fw_flow.specs.Dataflow.{System, Dataflow, bounds_of, kind_of, receiver, in_edges, is_output_kind}
+use Rattle.fw_flow.specs.Dataflow.{System, Dataflow, bounds_of, kind_of, receiver, in_edges, is_output_kind, places}
 use Rattle.fw_flow.specs.WellFormed.{IsWellFormed, IsWellFormedSystem, IsInDegree}
 use Rattle.fw_model.specs.History.{IsLegal, IsEnabled, IsAdmissible, delivered}
 use Rattle.fw_flow.specs.NodeFunction.{delivered_recs}
@@ -33,7 +33,7 @@ use Rattle.fw_model.specs.LawsOfLegalHistories.{HasEpochs}
 use Rattle.fw_model.specs.LawsOfRuns.{is_recovery, HaveNoRecovery, RunsStayLegal, IsDenotedEffect, IsDenoted, AcknowledgementsShowDenotation, stamp_shown, stamp_acknowledged, stamps_acknowledged, first_stamps, AcknowledgementsAreInOrder}
 use Rattle.fw_model.specs.LawsOfDeliveries.{recs_at}
 use Rattle.fw_model.specs.Denotation.{Family, IsDenotation}
-use Rattle.fw_model.specs.Machine.{Machine, Numbered, events, no_stamps, first_state, front_of, bound_of, is_failed, places}
+use Rattle.fw_model.specs.Machine.{Machine, Numbered, events, no_stamps, first_state, front_of, bound_of, is_failed}
 use Rattle.fw_model.specs.Steps.{Effect, acked, Outcome, did, idle, LeadsTo, Steps, Run, with_event, GrowsTo, recs_at_output}
 use Rattle.fw_model.proofs.DomainLaws.{has_epochs}
 

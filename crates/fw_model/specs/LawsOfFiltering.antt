@@ -7,7 +7,7 @@ use Rattle.fw_frontier.specs.Front.{frontier_of}
 use Rattle.fw_flow.specs.declared.choice.Cut.TheVariants.{Present}
 use Rattle.fw_flow.specs.declared.event.Event.{Event}
 use Rattle.fw_flow.specs.declared.event.Message.{Message}
-use Rattle.fw_flow.specs.Dataflow.{System, Dataflow, kind_of, policy_of, sender, receiver, bounds_of, is_notified_kind}
+use Rattle.fw_flow.specs.Dataflow.{System, Dataflow, kind_of, policy_of, sender, receiver, bounds_of, is_notified_kind, NotifiesNobody}
 use Rattle.fw_flow.specs.NodeFunction.{place, stamp}
 use Rattle.fw_flow.specs.Projection.{all_inside, phi}
 use Rattle.fw_flow.specs.WellFormed.{IsWellFormed}
@@ -80,10 +80,6 @@ HaveKeptCauses flow h keep = (e : ℕ)
 abbrev pub KeptDeliveriesHaveKeptCauses : Type 0
 KeptDeliveriesHaveKeptCauses = (sys : System) (h : List Event) (keep : ℕ → Frontier) → IsWellFormed sys.flow → HasEpochs sys
     → IsLegal sys h → AreFrontiers sys.flow keep → ComeFromKept sys h keep → HaveKeptCauses sys.flow h keep
-
--- no node is notified
-abbrev pub NotifiesNobody : Dataflow → Type 0
-NotifiesNobody flow = (p : ℕ) → is_notified_kind (kind_of flow p) ≡ false
 
 -- where no node is of a notified kind, the kept events of a legal history of a well-formed flow with epochs, of which each
 -- node keeps those inside a frontier, are a legal history, if on each edge what was delivered inside what the receiver

@@ -4,7 +4,7 @@ use Rattle.std.specs.List.{range_with_len}
 use Rattle.fw_time.specs.declared.stamp.Bounds.{Bounds}
 use Rattle.fw_frontier.specs.Front.{Front}
 use Rattle.fw_flow.specs.declared.event.Event.{Event}
-use Rattle.fw_flow.specs.Dataflow.{System, Dataflow, bounds_of}
+use Rattle.fw_flow.specs.Dataflow.{System, Dataflow, bounds_of, places}
 
 -- an event with its serial number, which no other event ever has
 pub record Numbered : Type 0 where
@@ -47,10 +47,6 @@ events (v ∷ h) = v.event ∷ events h
 -- the frontier of a domain with no stamp: its least stamp is outside
 abbrev pub no_stamps : Bounds → Front
 no_stamps bounds = map (λ c. 0) bounds.greatest ∷ []
-
--- the places of the nodes, in order
-abbrev pub places : Dataflow → List ℕ
-places flow = range_with_len 0 (length flow.nodes)
 
 -- the first state: nothing has happened
 abbrev pub first_state : System → Machine

@@ -7,17 +7,9 @@ use Rattle.fw_frontier.specs.Frontier.{Frontier}
 use Rattle.fw_frontier.specs.Front.{Front, frontier_of, IsCanonical}
 use Rattle.fw_lines.specs.Batches.{batches_at}
 use Rattle.fw_flow.specs.declared.event.Event.{Event}
-use Rattle.fw_flow.specs.Dataflow.{Dataflow, System, bounds_of}
+use Rattle.fw_flow.specs.Dataflow.{Dataflow, System, bounds_of, places}
 use Rattle.fw_flow.specs.NodeFunction.{place, stamp}
-use Rattle.fw_model.specs.Machine.{places, front_of}
-
--- for each node its batches, by epoch
-unfoldable pub batches_of_nodes : Dataflow → List (ℕ × List (List Rec)) → List (List (List Rec))
-batches_of_nodes flow batches = map (batches_at batches) (places flow)
-
--- a dataflow with the batches that were given for its nodes
-abbrev pub system_of : Dataflow → List (ℕ × List (List Rec)) → System
-system_of flow batches = record { flow = flow; batches = batches_of_nodes flow batches }
+use Rattle.fw_model.specs.Machine.{front_of}
 
 -- each event is at a stamp of its node's domain
 abbrev pub AreAtNodes : Dataflow → List Event → Type 0

@@ -19,11 +19,11 @@ use Rattle.fw_flow.specs.declared.kind.Policy.{Policy}
 use Rattle.fw_flow.specs.declared.kind.Policy.TheVariants as policy
 use Rattle.fw_flow.specs.declared.step.Step.{Step}
 use Rattle.fw_flow.specs.declared.step.Step.TheVariants.{Inject, Deliver, Notify, Progress as ProgressStep, Checkpoint, Persist, Fail, Recover, Collect, Ack}
-use Rattle.fw_flow.specs.Dataflow.{System, kind_of, policy_of, receiver, out_edges, bounds_of, send_stamp, is_output_kind}
+use Rattle.fw_flow.specs.Dataflow.{System, kind_of, policy_of, receiver, out_edges, bounds_of, send_stamp, is_output_kind, places}
 use Rattle.fw_flow.specs.WellFormed.{may_keep_nothing}
 use Rattle.fw_flow.specs.NodeFunction.{place, stamp, delivered_recs}
 use Rattle.fw_model.specs.History.{IsEnabled, IsComplete, message_cmp}
-use Rattle.fw_model.specs.Machine.{Machine, Numbered, Write, Written, checkpoint, logged_event, Progress, in_flight, acknowledged, collected, events, no_stamps, places, front_of, is_failed, bound_of}
+use Rattle.fw_model.specs.Machine.{Machine, Numbered, Write, Written, checkpoint, logged_event, Progress, in_flight, acknowledged, collected, events, no_stamps, front_of, is_failed, bound_of}
 use Rattle.fw_flow.specs.declared.choice.Choice.{Choice}
 use Rattle.fw_model.specs.Choice.{kept, cut_of, filtered, IsCandidate, IsLargest, IsWatermark}
 

@@ -20,11 +20,10 @@ use Rattle.fw_flow.specs.declared.event.Event.{Event}
 use Rattle.fw_flow.specs.declared.kind.Kind.{Kind}
 use Rattle.fw_flow.specs.declared.kind.Kind.TheVariants.{Input, OutputEpoch, OutputNumber}
 use Rattle.fw_flow.specs.declared.kind.Policy.TheVariants as policy
-use Rattle.fw_flow.specs.Dataflow.{System, Dataflow, kind_of, bounds_of, batches_of, greatest_number}
+use Rattle.fw_flow.specs.Dataflow.{System, Dataflow, kind_of, bounds_of, batches_of, greatest_number, system_of}
 use Rattle.fw_model.specs.Choice.{Restoring, by_bound, restoring, until, stamp_of_notice}
 use Rattle.fw_model.specs.History.{injected_count}
 use Rattle.fw_model.specs.Machine.{front_of}
-use Rattle.fw_model.specs.Plain.{system_of}
 use Rattle.fw_model.proofs.EventSteps.{history_last, batches_there}
 use Rattle.fw_model.proofs.StampLaws.{line-leq}
 use Rattle.fw_plain.specs.Offered.{delivery_to, deliveries_to, sent_from, batch_fronts, IsBare, AreBare, OffersBy, IsOfferOf, AreOffersFrom}

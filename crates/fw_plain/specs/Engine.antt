@@ -4,10 +4,9 @@ use Rattle.fw_frontier.specs.Front.{Front, IsCanonical}
 use Rattle.fw_flow.specs.declared.kind.Policy.TheVariants as policy
 use Rattle.fw_flow.specs.declared.step.Step.{Step}
 use Rattle.fw_flow.specs.declared.step.Step.TheVariants.{Inject, Deliver, Notify, Progress, Checkpoint, Persist, Fail, Recover, Collect, Ack}
-use Rattle.fw_flow.specs.Dataflow.{System, Dataflow, policy_of, bounds_of}
+use Rattle.fw_flow.specs.Dataflow.{System, Dataflow, policy_of, bounds_of, KeepsNothing, NotifiesNobody, places}
 use Rattle.fw_flow.specs.WellFormed.{IsWellFormedSystem}
-use Rattle.fw_model.specs.LawsOfFiltering.{NotifiesNobody}
-use Rattle.fw_model.specs.Machine.{Machine, first_state, no_stamps, places, front_of}
+use Rattle.fw_model.specs.Machine.{Machine, first_state, no_stamps, front_of}
 use Rattle.fw_model.specs.Steps.{Effect, quiet, acked, cuts, Outcome, did, idle, Run}
 use Rattle.fw_plain.specs.declared.stepped.Effect.{Effect as Shown}
 use Rattle.fw_plain.specs.declared.stepped.Effect.TheVariants.{Quiet, Acked, Cuts}
@@ -20,10 +19,6 @@ pub record Standing : Type 0 where
   pub sys : System
   pub state : Machine
   pub refused : Bool
-
--- no node keeps anything for its recovery
-abbrev pub KeepsNothing : Dataflow → Type 0
-KeepsNothing flow = (p : ℕ) → policy_of flow p ≡ policy.None
 
 -- The state of a machine in which nothing was written or collected: by its events, what is settled, which nodes are failed,
 -- and how many stamps each output acknowledged.

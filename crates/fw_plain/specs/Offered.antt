@@ -13,15 +13,13 @@ use Rattle.fw_flow.specs.declared.event.Event.{Event}
 use Rattle.fw_flow.specs.declared.event.Event.TheVariants.{Inject, Deliver, Notify}
 use Rattle.fw_flow.specs.declared.event.Message.{Message}
 use Rattle.fw_flow.specs.declared.kind.Policy.TheVariants as policy
-use Rattle.fw_flow.specs.Dataflow.{System, Dataflow, kind_of, receiver, out_edges, bounds_of, greatest_number}
+use Rattle.fw_flow.specs.Dataflow.{System, Dataflow, kind_of, receiver, out_edges, bounds_of, greatest_number, NotifiesNobody, KeepsNothing}
 use Rattle.fw_flow.specs.NodeFunction.{sent_by}
 use Rattle.fw_flow.specs.Projection.{events_at}
 use Rattle.fw_flow.specs.WellFormed.{IsWellFormedSystem}
 use Rattle.fw_model.specs.Choice.{Restoring, by_batches, by_bound, by_anything, by_checkpoints, by_events, restoring, until, stamp_of_notice}
 use Rattle.fw_model.specs.History.{IsLegal, injected_count, is_exhausted}
-use Rattle.fw_model.specs.LawsOfFiltering.{NotifiesNobody}
 use Rattle.fw_model.specs.Machine.{Machine, events, no_stamps, front_of}
-use Rattle.fw_plain.specs.Engine.{KeepsNothing}
 
 -- The state is that of a plain machine in which these events happened, the oldest first, and in which this is settled, was
 -- acknowledged and is failed: nothing was ever written or collected.

@@ -13,7 +13,6 @@ use Rattle.fw_model.specs.Choice.{View, kept, ever, IsCandidate, IsLargest}
 use Rattle.fw_model.specs.Denotation.{rounds}
 use Rattle.fw_model.specs.LawsOfDenotation.{enough_rounds}
 use Rattle.fw_model.specs.Machine.{is_failed}
-use Rattle.fw_model.specs.Plain.{system_of}
 use Rattle.fw_model.specs.Steps.{Effect, cuts}
 use Rattle.fw_run.proofs.RunLaws.{one_run}
 use Rattle.fw_run.proofs.TextLaws.{ready, well_formed_system, one_first_refusal, accepted_or_refused}
@@ -25,6 +24,7 @@ use Rattle.fw_run.specs.Reading.{IsReady, IsJob}
 use Rattle.fw_run.specs.Status.{TellsRefusal}
 use Rattle.fw_run.specs.Texts.{Texts, AreThere, AreAccepted, IsFirstRefusal, spelled_system, spelled_steps}
 use Rattle.fw_run.specs.Words.{TextNames}
+use Rattle.fw_flow.specs.Dataflow.{system_of}
 
 -- a job is one that the plain engine runs
 pub ready_job : (told : Option (List ℕ → Option (List ℕ))) (names : TextNames) (job : Job) → IsJob told names job → IsReady (system_of job.flow job.batches) job.steps

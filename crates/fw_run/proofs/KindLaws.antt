@@ -13,14 +13,12 @@ use Rattle.fw_flow.specs.declared.raw.Declaration.{Declaration}
 use Rattle.fw_flow.specs.declared.raw.Declaration.TheVariants.{Loop as ALoop, Node as ANode, Edge as AnEdge}
 use Rattle.fw_flow.specs.declared.raw.Declared.{Declared}
 use Rattle.fw_flow.specs.declared.raw.RawKind.{RawKind}
-use Rattle.fw_flow.specs.Dataflow.{kind_of, policy_of, idle_node, is_notified_kind}
+use Rattle.fw_flow.specs.Dataflow.{kind_of, policy_of, idle_node, is_notified_kind, NotifiesNobody, KeepsNothing}
 use Rattle.fw_flow.specs.Raw.{node_in, loop_names, resolved_kind}
 use Rattle.fw_flow_text.specs.Forms.{policy_at_end, input_form, output_form, select_form, node_form, node_declaration, edge_declaration, declaration_of, name_of}
 use Rattle.fw_flow_text.specs.Forms as forms
 use Rattle.fw_flow_text.specs.Grammar.{declared_by}
 use Rattle.fw_flow_text.specs.Select.{condition_of, assignment_part}
-use Rattle.fw_model.specs.LawsOfFiltering.{NotifiesNobody}
-use Rattle.fw_plain.specs.Engine.{KeepsNothing}
 use Rattle.fw_run.specs.Texts.{spelled_flow}
 
 -- ---- readings that may fail

@@ -13,7 +13,7 @@ use Rattle.fw_lines.proofs.FaultLaws.{sound_or_first}
 use Rattle.fw_lines.proofs.ReadLaws as input_texts
 use Rattle.fw_flow.specs.declared.step.Step.{Step}
 use Rattle.fw_flow.specs.declared.step.Step.TheVariants.{Inject, Deliver, Notify, Progress, Checkpoint, Persist, Fail, Recover, Collect, Ack}
-use Rattle.fw_flow.specs.Dataflow.{Dataflow, System}
+use Rattle.fw_flow.specs.Dataflow.{Dataflow, System, places, system_of, batches_of_nodes}
 use Rattle.fw_flow.specs.Dataflow as dataflow
 use Rattle.fw_flow.specs.WellFormed.{IsWellFormedSystem, IsBatch}
 use Rattle.fw_flow_text.specs.Grammar as flows
@@ -24,8 +24,6 @@ use Rattle.fw_schedule.specs.Steps.{IsStepOf}
 use Rattle.fw_schedule.proofs.ReadLaws as schedule_texts
 use Rattle.fw_schedule.proofs.StepLaws.{steps_sound}
 use Rattle.fw_time.proofs.EachLaws.{each-weaker}
-use Rattle.fw_model.specs.Machine.{places}
-use Rattle.fw_model.specs.Plain.{system_of, batches_of_nodes}
 use Rattle.fw_plain.specs.Engine.{is_plain_step}
 use Rattle.fw_run.proofs.InputLaws.{each_batch, none_given, few_batches, at_place}
 use Rattle.fw_run.proofs.KindLaws.{spelled-keeps_nothing, spelled-notifies_nobody}

@@ -9,13 +9,12 @@ use Rattle.fw_lines.specs.Inputs.{line_fault, size_limit}
 use Rattle.fw_lines.specs.Inputs as inputs
 use Rattle.fw_lines.specs.Lines.{said_lines}
 use Rattle.fw_flow.specs.declared.step.Step.{Step}
-use Rattle.fw_flow.specs.Dataflow.{Dataflow, System, node_at, kind_of, is_input_kind}
+use Rattle.fw_flow.specs.Dataflow.{Dataflow, System, node_at, kind_of, is_input_kind, places}
 use Rattle.fw_flow.specs.Raw.{flow_of}
 use Rattle.fw_flow_text.specs.Grammar.{declared_by}
 use Rattle.fw_flow_text.specs.Grammar as flows
 use Rattle.fw_schedule.specs.Grammar.{steps_of}
 use Rattle.fw_schedule.specs.Grammar as schedules
-use Rattle.fw_model.specs.Machine.{places}
 use Rattle.fw_run.specs.Words.{TextNames}
 
 -- the three texts of a run

@@ -4,8 +4,8 @@ ghost use Rattle.fw_time.specs.Stamp as time;
 ghost use Rattle.fw_flow.specs.Dataflow as dataflow;
 ghost use Rattle.fw_flow.specs.NodeFunction as function;
 ghost use Rattle.fw_flow.specs.Projection.{events_at};
-ghost use Rattle.fw_model.specs.Plain.{system_of};
 ghost use Rattle.fw_model.specs.Wanted.{is_wanted};
+ghost use Rattle.fw_flow.specs.Dataflow.{system_of};
 
 use super::keyed::recs_of;
 use fw_bag::{Bag, Rec};

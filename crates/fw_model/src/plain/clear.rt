@@ -4,11 +4,11 @@ ghost use Rattle.std.specs.List.{list_any};
 ghost use Rattle.fw_time.specs.declared.stamp.Bounds.{Bounds as Domain};
 ghost use Rattle.fw_frontier.specs.Frontier.{without_above};
 ghost use Rattle.fw_frontier.specs.Front.{inside, frontier_of, IsCanonical, Names};
-ghost use Rattle.fw_flow.specs.Dataflow.{receiver, bounds_of};
+ghost use Rattle.fw_flow.specs.Dataflow.{receiver, bounds_of, system_of};
 ghost use Rattle.fw_model.specs.History as history;
 ghost use Rattle.fw_model.specs.Clear as spec;
 ghost use Rattle.fw_model.specs.Clear.{given, IsClear};
-ghost use Rattle.fw_model.specs.Plain.{system_of, AreAtNodes};
+ghost use Rattle.fw_model.specs.Plain.{AreAtNodes};
 
 use super::arrivals::{batches_of, is_same};
 use super::next::injected_count;

@@ -3,14 +3,14 @@ ghost use Rattle.std.specs.Prelude.{◌≡◌, ◌&&◌, ℕ, ◌<◌, ◌↔◌
 ghost use Rattle.fw_frontier.specs.Front.{inside, frontier_of, IsCanonical, Names};
 ghost use Rattle.fw_frontier.specs.Frontier.{Within};
 ghost use Rattle.fw_flow.specs.WellFormed.{IsWellFormed};
-ghost use Rattle.fw_flow.specs.Dataflow.{kind_of, sender, receiver, bounds_of};
+ghost use Rattle.fw_flow.specs.Dataflow.{kind_of, sender, receiver, bounds_of, system_of};
 ghost use Rattle.fw_flow.specs.Projection as projection;
 ghost use Rattle.fw_flow.specs.Projection.{IsSentTable};
 ghost use Rattle.fw_model.specs.History.{IsComplete};
 ghost use Rattle.fw_model.specs.Machine.{front_of};
 ghost use Rattle.fw_model.specs.Clear as spec;
 ghost use Rattle.fw_model.specs.Clear.{IsClear};
-ghost use Rattle.fw_model.specs.Plain.{system_of, family_of, AreAtNodes, AreCanonical};
+ghost use Rattle.fw_model.specs.Plain.{family_of, AreAtNodes, AreCanonical};
 
 use super::clear::clear;
 use super::sending::sends;

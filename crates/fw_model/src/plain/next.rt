@@ -3,14 +3,14 @@ ghost use Rattle.std.specs.Prelude.{◌≡◌, ℕ, length, reverse, if◌then�
 ghost use Rattle.std.specs.Option.{option_copied};
 ghost use Rattle.fw_time.specs.Stamp.{Stamp as Time};
 ghost use Rattle.fw_flow.specs.declared.event.Message.{Message as Sent};
-ghost use Rattle.fw_flow.specs.Dataflow.{is_numbered};
+ghost use Rattle.fw_flow.specs.Dataflow.{is_numbered, system_of};
 ghost use Rattle.fw_model.specs.History as history;
 ghost use Rattle.fw_model.specs.History.{IsNextBatch};
 ghost use Rattle.fw_model.specs.Least as least;
 ghost use Rattle.fw_model.specs.Least.{is_wanted_message, IsLeastBy, lesser_by};
 ghost use Rattle.fw_model.specs.LawsOfLegalHistories.{HasEpochs};
 ghost use Rattle.fw_model.specs.Steps.{IsNextMessage, IsNextNotice};
-ghost use Rattle.fw_model.specs.Plain.{system_of, AreAtNodes};
+ghost use Rattle.fw_model.specs.Plain.{AreAtNodes};
 
 use super::arrivals::{batches_of, is_same};
 use super::clear::{owed_stamps, pending_stamps};

@@ -2,11 +2,11 @@
 ghost use Rattle.std.specs.Prelude.{◌≡◌, ◌≤◌, ◌+◌, true, [], ◌∷◌, length, reverse, if◌then◌else◌, option_to_list, IfOk};
 ghost use Rattle.fw_time.specs.Stamp.{in_domain, same};
 ghost use Rattle.fw_bag.specs.Keyed as keyed;
-ghost use Rattle.fw_flow.specs.Dataflow.{kind_of, bounds_of, bounds_of_domain, domain_of_kind, greatest_number, send_stamp_of_kind};
+ghost use Rattle.fw_flow.specs.Dataflow.{kind_of, bounds_of, bounds_of_domain, domain_of_kind, greatest_number, send_stamp_of_kind, system_of};
 ghost use Rattle.fw_flow.specs.NodeFunction as function;
 ghost use Rattle.fw_flow.specs.Projection.{events_at};
 ghost use Rattle.fw_flow.specs.WellFormed.{IsGroupSize};
-ghost use Rattle.fw_model.specs.Plain.{system_of, AreAtNodes};
+ghost use Rattle.fw_model.specs.Plain.{AreAtNodes};
 ghost use Rattle.fw_model.specs.Wanted.{is_wanted};
 
 use super::arrivals::{Wanted, batch, delivered_to, place, stamp};

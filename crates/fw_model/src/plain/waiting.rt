@@ -2,7 +2,8 @@
 ghost use Rattle.std.specs.Prelude.{◌≡◌, length, position, reverse, IfOk};
 ghost use Rattle.std.specs.Ordering.{is_eq};
 ghost use Rattle.fw_model.specs.History as history;
-ghost use Rattle.fw_model.specs.Plain.{system_of, AreAtNodes};
+ghost use Rattle.fw_model.specs.Plain.{AreAtNodes};
+ghost use Rattle.fw_flow.specs.Dataflow.{system_of};
 
 use super::sending::sent_by;
 use fw_flow::{EdgeId, Event, Flow, Message};

@@ -1,8 +1,8 @@
 use Rattle.std.proofs.Common.{◌∙◌}
 use Rattle.std.proofs.lemmas.Result.{IfOk-weaker}
-use Rattle.fw_model.specs.Plain.{system_of}
 use Rattle.fw_model.proofs.ClearSteps.{clear_is}
 use Rattle.fw_model.proofs.plain.clear.clear.Goals as goal
+use Rattle.fw_flow.specs.Dataflow.{system_of}
 
 pub returns : goal.returns
 returns c =

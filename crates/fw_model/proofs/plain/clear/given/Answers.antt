@@ -1,9 +1,8 @@
 use Rattle.std.proofs.Common.{◌≡◌, ◌^◌, ◌≤◌, true, false, sym, ap, ◌∙◌, reverse, inl, inr, arith}
 use Rattle.std.proofs.lemmas.Bool.{cases_lt}
 use Rattle.std.proofs.lemmas.Result.{IfOk-weaker}
-use Rattle.fw_flow.specs.Dataflow.{bounds_of, kind_of, is_input_kind}
+use Rattle.fw_flow.specs.Dataflow.{bounds_of, kind_of, is_input_kind, system_of}
 use Rattle.fw_model.specs.History.{is_exhausted}
-use Rattle.fw_model.specs.Plain.{system_of}
 use Rattle.fw_model.proofs.ClearSteps.{given_until, given_past, not_exhausted, epoch-in_domain}
 use Rattle.fw_model.proofs.plain.clear.given.Goals as goal
 

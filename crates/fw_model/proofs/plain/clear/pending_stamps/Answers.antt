@@ -1,7 +1,7 @@
 use Rattle.std.proofs.Common.{reverse}
-use Rattle.fw_model.specs.Plain.{system_of}
 use Rattle.fw_model.proofs.ClearSteps.{pending_more}
 use Rattle.fw_model.proofs.plain.clear.pending_stamps.Goals as goal
+use Rattle.fw_flow.specs.Dataflow.{system_of}
 
 pub loop-edge-preserved : goal.loop-edge-preserved
 loop-edge-preserved c =

@@ -2,8 +2,8 @@ use Rattle.std.proofs.Common.{◌≡◌, map, reverse, take}
 use Rattle.std.specs.List.{flat_map}
 use Rattle.fw_flow.specs.declared.event.Message.{Message}
 use Rattle.fw_model.specs.History.{pending}
-use Rattle.fw_model.specs.Plain.{system_of}
 use Rattle.fw_model.proofs.plain.clear.pending_stamps.Given as goal
+use Rattle.fw_flow.specs.Dataflow.{system_of}
 
 abbrev pub invariant-loop-edge : goal.invariant-loop-edge
 invariant-loop-edge l =

@@ -1,7 +1,7 @@
 use Rattle.std.proofs.Common.{◌≡◌, true, reverse, sym}
-use Rattle.fw_model.specs.Plain.{system_of}
 use Rattle.fw_model.proofs.CompleteSteps.{complete_is, fewer_left, above_lowered, above_clear, lowered_read, within_read}
 use Rattle.fw_model.proofs.plain.complete.complete_frontiers.Goals as goal
+use Rattle.fw_flow.specs.Dataflow.{system_of}
 
 pub pass-init : goal.pass-init
 pass-init c =

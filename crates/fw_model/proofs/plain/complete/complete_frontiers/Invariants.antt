@@ -1,6 +1,6 @@
 use Rattle.std.proofs.Common.{◌≡◌, length, reverse}
-use Rattle.fw_flow.specs.Dataflow.{bounds_of}
-use Rattle.fw_model.specs.Plain.{system_of, family_of}
+use Rattle.fw_flow.specs.Dataflow.{bounds_of, system_of}
+use Rattle.fw_model.specs.Plain.{family_of}
 use Rattle.fw_model.proofs.DescentLaws.{total}
 use Rattle.fw_model.proofs.CompleteSteps.{IsAbove, AreLowered}
 use Rattle.fw_model.proofs.plain.complete.complete_frontiers.Given as goal

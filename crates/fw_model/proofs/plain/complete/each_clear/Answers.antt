@@ -1,8 +1,8 @@
 use Rattle.std.proofs.Common.{reverse, subst}
 use Rattle.fw_model.specs.Clear.{IsClear}
-use Rattle.fw_model.specs.Plain.{system_of}
 use Rattle.fw_model.proofs.CompleteSteps.{each_more, length_more}
 use Rattle.fw_model.proofs.plain.complete.each_clear.Goals as goal
+use Rattle.fw_flow.specs.Dataflow.{system_of}
 
 pub loop-place-preserved : goal.loop-place-preserved
 loop-place-preserved c =

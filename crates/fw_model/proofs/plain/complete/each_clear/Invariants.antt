@@ -1,8 +1,8 @@
 use Rattle.std.proofs.Common.{◌≡◌, ◌<◌, ℕ, length, reverse}
 use Rattle.fw_model.specs.Machine.{front_of}
 use Rattle.fw_model.specs.Clear.{IsClear}
-use Rattle.fw_model.specs.Plain.{system_of}
 use Rattle.fw_model.proofs.plain.complete.each_clear.Given as goal
+use Rattle.fw_flow.specs.Dataflow.{system_of}
 
 abbrev pub invariant-loop-place : goal.invariant-loop-place
 invariant-loop-place l = record {

@@ -1,8 +1,8 @@
 use Rattle.std.proofs.Common.{reverse, refl}
 use Rattle.fw_frontier.specs.Front.{Names}
-use Rattle.fw_flow.specs.Dataflow.{bounds_of}
+use Rattle.fw_flow.specs.Dataflow.{bounds_of, system_of}
 use Rattle.fw_model.specs.Clear.{lowered}
-use Rattle.fw_model.specs.Plain.{system_of, family_of}
+use Rattle.fw_model.specs.Plain.{family_of}
 use Rattle.fw_model.proofs.CompleteSteps.{each_more, length_more, canonical_at, lowered_at}
 use Rattle.fw_model.proofs.plain.complete.each_lowered.Goals as goal
 

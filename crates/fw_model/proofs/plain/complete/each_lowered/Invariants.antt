@@ -1,9 +1,9 @@
 use Rattle.std.proofs.Common.{◌≡◌, ◌<◌, ℕ, length, reverse}
 use Rattle.fw_frontier.specs.Front.{Names}
-use Rattle.fw_flow.specs.Dataflow.{bounds_of}
+use Rattle.fw_flow.specs.Dataflow.{bounds_of, system_of}
 use Rattle.fw_model.specs.Machine.{front_of}
 use Rattle.fw_model.specs.Clear.{lowered}
-use Rattle.fw_model.specs.Plain.{system_of, family_of}
+use Rattle.fw_model.specs.Plain.{family_of}
 use Rattle.fw_model.proofs.plain.complete.each_lowered.Given as goal
 
 abbrev pub invariant-loop-place : goal.invariant-loop-place

@@ -1,7 +1,7 @@
 use Rattle.std.proofs.Common.{reverse}
 use Rattle.fw_frontier.specs.Front.{frontier_of}
-use Rattle.fw_flow.specs.Dataflow.{bounds_of}
-use Rattle.fw_model.specs.Plain.{system_of, family_of}
+use Rattle.fw_flow.specs.Dataflow.{bounds_of, system_of}
+use Rattle.fw_model.specs.Plain.{family_of}
 use Rattle.fw_model.proofs.CompleteSteps.{arrived_here, lowered_more}
 use Rattle.fw_model.proofs.plain.complete.lowered.Goals as goal
 use Rattle.fw_model.proofs.ClearSteps.{names_first}

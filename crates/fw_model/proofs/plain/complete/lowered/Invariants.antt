@@ -1,7 +1,7 @@
 use Rattle.std.proofs.Common.{reverse, take}
 use Rattle.fw_frontier.specs.Front.{frontier_of, Names}
-use Rattle.fw_flow.specs.Dataflow.{bounds_of}
-use Rattle.fw_model.specs.Plain.{system_of, family_of}
+use Rattle.fw_flow.specs.Dataflow.{bounds_of, system_of}
+use Rattle.fw_model.specs.Plain.{family_of}
 use Rattle.fw_model.proofs.CompleteSteps.{left_by}
 use Rattle.fw_model.proofs.plain.complete.lowered.Given as goal
 

@@ -1,9 +1,8 @@
 use Rattle.std.proofs.Common.{◌≡◌, reverse, refl, subst}
 use Rattle.std.proofs.lemmas.Result.{IfOk-weaker}
-use Rattle.fw_flow.specs.Dataflow.{kind_of}
+use Rattle.fw_flow.specs.Dataflow.{kind_of, system_of}
 use Rattle.fw_flow.specs.Projection.{IsSentTable}
 use Rattle.fw_flow.specs.declared.kind.Kind.TheVariants.{Sequence}
-use Rattle.fw_model.specs.Plain.{system_of}
 use Rattle.fw_model.proofs.CompleteSteps.{canonical_at, phi_at}
 use Rattle.fw_model.proofs.plain.complete.phi.Goals as goal
 

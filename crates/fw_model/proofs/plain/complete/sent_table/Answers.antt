@@ -1,8 +1,8 @@
 use Rattle.std.proofs.Common.{◌++◌, ◌∷◌, [], sym, ap, ◌∙◌, arith}
-use Rattle.fw_model.specs.Plain.{system_of}
 use Rattle.fw_model.proofs.CompleteSteps.{table_more, table_same, at_nodes_at}
 use Rattle.fw_model.proofs.plain.complete.sent_table.Goals.{in-Some+in_ok-sent+in_ok-push, in_default}
 use Rattle.fw_model.proofs.plain.complete.sent_table.Goals as goal
+use Rattle.fw_flow.specs.Dataflow.{system_of}
 
 pub sends-requires : goal.sends-requires
 sends-requires c = at_nodes_at c.args.flow.now c.args.events.now c.loop-i.i c.index-events-i.result c.requires c.loop-i-test.true c.index-events-i.is

@@ -1,8 +1,7 @@
 use Rattle.std.proofs.Common.{◌≡◌, reverse, take}
-use Rattle.fw_flow.specs.Dataflow.{kind_of}
+use Rattle.fw_flow.specs.Dataflow.{kind_of, system_of}
 use Rattle.fw_flow.specs.declared.kind.Kind.TheVariants.{Sequence}
 use Rattle.fw_flow.specs.Projection.{IsSentTable}
-use Rattle.fw_model.specs.Plain.{system_of}
 use Rattle.fw_model.proofs.plain.complete.sent_table.Given as goal
 
 abbrev pub invariant-loop-i : goal.invariant-loop-i

@@ -1,8 +1,8 @@
 use Rattle.std.proofs.Common.{reverse, ◌∙◌}
 use Rattle.std.specs.Option.{option_copied}
-use Rattle.fw_model.specs.Plain.{system_of}
 use Rattle.fw_model.proofs.ReadySteps.{notice_is, arrived_read}
 use Rattle.fw_model.proofs.plain.next.next_notice.Goals as goal
+use Rattle.fw_flow.specs.Dataflow.{system_of}
 
 pub returns : goal.returns
 returns c =

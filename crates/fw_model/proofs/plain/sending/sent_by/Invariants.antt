@@ -1,8 +1,9 @@
 use Rattle.std.proofs.Common.{◌≡◌, ◌++◌, length, reverse}
 use Rattle.fw_flow.specs.NodeFunction.{sent_by}
 use Rattle.fw_flow.specs.Projection.{events_at}
-use Rattle.fw_model.specs.Plain.{system_of, AreAtNodes}
+use Rattle.fw_model.specs.Plain.{AreAtNodes}
 use Rattle.fw_model.proofs.plain.sending.sent_by.Given as goal
+use Rattle.fw_flow.specs.Dataflow.{system_of}
 
 abbrev pub invariant-loop-event : goal.invariant-loop-event
 invariant-loop-event l = record {

@@ -1,7 +1,7 @@
 use Rattle.std.proofs.Common.{◌≡◌, reverse, take}
 use Rattle.fw_model.specs.History.{sent, delivered, less}
-use Rattle.fw_model.specs.Plain.{system_of}
 use Rattle.fw_model.proofs.plain.waiting.pending.Given as goal
+use Rattle.fw_flow.specs.Dataflow.{system_of}
 
 abbrev pub invariant-loop-event : goal.invariant-loop-event
 invariant-loop-event l =

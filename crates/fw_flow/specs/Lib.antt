@@ -9,6 +9,8 @@ pub mod Parts
 pub mod ProjectedStamps
 pub mod Projection
 pub mod Raw
+pub mod Sources
+pub mod Step
 pub mod Walks
 pub mod WellFormed
 pub mod WholeBags

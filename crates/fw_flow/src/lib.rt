@@ -19,6 +19,7 @@ mod node;
 mod parts;
 mod projection;
 mod raw;
+mod sources;
 mod step;
 mod walks;
 

@@ -18,12 +18,12 @@ use Rattle.fw_lines.specs.declared.refusal.Code.{Code}
 use Rattle.fw_lines.specs.declared.refusal.Code.TheVariants.{I1, I4, I5}
 use Rattle.fw_lines.specs.Batches.{batches_at, IsRec, IsBatch, AreBatchesOf}
 use Rattle.fw_lines.specs.Faults.{BreakNoRule}
-use Rattle.fw_lines.specs.Inputs.{is_colon, record_of, record_from, spelled_rec, batch_of, batches_of, is_batch_of, is_batch_of_words, form_fault, value_fault, number_fault, count_fault, fault_of, count_of, line_fault, IsAccepted}
-use Rattle.fw_lines.specs.Lines.{Said, said_lines, is_allowed}
+use Rattle.fw_lines.specs.Inputs.{is_colon, record_of, record_from, spelled_rec, batch_of, batches_of, is_batch_of, is_batch_of_words, form_fault, value_fault, number_fault, count_fault, fault_of, count_of, line_fault}
+use Rattle.fw_lines.specs.Lines.{Said, is_allowed}
 use Rattle.fw_lines.specs.Sources.{node_of, is_source}
 use Rattle.fw_lines.specs.Spelling.{number_of, is_numeral}
 use Rattle.fw_lines.proofs.FaultLaws.{fault_next}
-use Rattle.fw_lines.proofs.ReadLaws.{batches_of-push}
+use Rattle.fw_lines.proofs.ReadLaws.{IsRead, read_all, batches_of-push}
 
 -- ---- the recs of a batch
 
@@ -99,11 +99,11 @@ among_more name place rest (Some node) h = by (place == node)
 -- the node of a name is a source
 found_source : (test : List ℕ → Bool) (sources : List (List ℕ × ℕ)) → IfSome (lookup test sources) (IsSource sources)
 found_source test [] = tt
-found_source test ((name, place) ∷ rest) = by (test name)
+found_source test ((name, place) ∷ rest) = by (test name) (among_more name place rest (lookup test rest) (found_source test rest))
   where
-    by : (b : Bool) → IfSome (cond b (Some place) (lookup test rest)) (IsSource ((name, place) ∷ rest))
-    by true = ap (λ b. b || is_source rest place) (eq-eqb place place refl)
-    by false = among_more name place rest (lookup test rest) (found_source test rest)
+    by : (b : Bool) → IfSome (lookup test rest) (IsSource ((name, place) ∷ rest)) → IfSome (cond b (Some place) (lookup test rest)) (IsSource ((name, place) ∷ rest))
+    by true h = ap (λ b. b || is_source rest place) (eq-eqb place place refl)
+    by false h = h
 
 not_of : (sources : List (List ℕ × ℕ)) (node : ℕ) (source : Option ℕ) → IfSome source (IsSource sources) → is_source sources node ≡ false → option_map_or (λ s. s == node) source false ≡ false
 not_of sources node None i e = refl
@@ -188,19 +188,15 @@ few_batches sources lines node sound = few_from sources lines [] lines node soun
 -- ---- together
 
 -- what lines that break no rule give are batches of the sources
-pub sound-batches : (sources : List (List ℕ × ℕ)) (lines : List Said) → BreakNoRule (line_fault sources) lines → AreBatchesOf sources (batches_of sources lines)
-sound-batches sources lines sound = record {
-  of_sources = none_given sources lines;
-  few = λ node. few_batches sources lines node sound;
-  bags = each_batch sources lines;
+pub sound-batches : (sources : List (List ℕ × ℕ)) (lines : List Said) (given : ℕ → List (List Rec)) → BreakNoRule (line_fault sources) lines → ((node : ℕ) → given node ≡ batches_of sources lines node) → AreBatchesOf sources given
+sound-batches sources lines given sound value = record {
+  of_sources = λ node e. value node ∙ none_given sources lines node e;
+  few = λ node. subst (λ b. length b ≤ 2 ^ 20) (sym (value node)) (few_batches sources lines node sound);
+  bags = λ node. subst (AllByRecursion IsBatch) (sym (value node)) (each_batch sources lines node);
 }
 
--- what an accepted text gives are batches of the sources
-pub accepted-batches : (text : List ℕ) (sources : List (List ℕ × ℕ)) (batches : List (ℕ × List (List Rec))) → IsAccepted text sources batches → AreBatchesOf sources (batches_at batches)
-accepted-batches text sources batches a =
-    let given = sound-batches sources (said_lines text) a.sound in
-    record {
-      of_sources = λ node e. a.value node ∙ given.of_sources node e;
-      few = λ node. subst (λ b. length b ≤ 2 ^ 20) (sym (a.value node)) (given.few node);
-      bags = λ node. subst (AllByRecursion IsBatch) (sym (a.value node)) (given.bags node);
-    }
+-- and so are those that are read when no line is left
+pub read-batches : (sources : List (List ℕ × ℕ)) (lines left : List Said) (batches : List (ℕ × List (List Rec))) → IsRead sources lines left batches → left ≡ [] → AreBatchesOf sources (batches_at batches)
+read-batches sources lines left batches read e =
+    let all = read_all sources lines batches (subst (λ ls. IsRead sources lines ls batches) e read) in
+    sound-batches sources lines (batches_at batches) all.0 all.1

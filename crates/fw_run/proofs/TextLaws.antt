@@ -24,7 +24,7 @@ use Rattle.fw_schedule.specs.Steps.{IsStepOf}
 use Rattle.fw_schedule.proofs.ReadLaws as schedule_texts
 use Rattle.fw_schedule.proofs.StepLaws.{steps_sound}
 use Rattle.fw_time.proofs.EachLaws.{each-weaker}
-use Rattle.fw_plain.specs.Engine.{is_plain_step}
+use Rattle.fw_flow.specs.Step.{is_plain_step}
 use Rattle.fw_run.proofs.InputLaws.{each_batch, none_given, few_batches, at_place}
 use Rattle.fw_run.proofs.KindLaws.{spelled-keeps_nothing, spelled-notifies_nobody}
 use Rattle.fw_run.specs.declared.reading.Job.{Job}

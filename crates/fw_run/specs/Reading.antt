@@ -9,7 +9,7 @@ use Rattle.fw_lines.specs.Faults.{IsOfWhole}
 use Rattle.fw_flow.specs.declared.step.Step.{Step}
 use Rattle.fw_flow.specs.Dataflow.{System, NotifiesNobody, KeepsNothing, system_of}
 use Rattle.fw_flow.specs.WellFormed.{IsWellFormedSystem}
-use Rattle.fw_plain.specs.Engine.{is_plain_step}
+use Rattle.fw_flow.specs.Step.{is_plain_step}
 use Rattle.fw_run.specs.declared.reading.JobFault.{JobFault}
 use Rattle.fw_run.specs.declared.reading.JobFault.TheVariants.{Failed, Refused, NoMemory}
 use Rattle.fw_run.specs.declared.reading.Job.{Job}

@@ -28,7 +28,7 @@ use std::alloc::{AllocError, Global};
 /// The most bytes that inputs may have.
 pub const INPUTS_LIMIT: usize = 16_777_216;
 
-/// How many batches a text may give to an input.
+/// How many batches a text may give to a source.
 const BATCH_LIMIT: usize = 1 << 20;
 
 /// Reads inputs: the batches of these sources.

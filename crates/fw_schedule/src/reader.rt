@@ -156,7 +156,7 @@ fn step_of_form(text: &[u8], form: Form<Span>, flow: &Flow) -> Result<Step, Code
     ensures { result ≡ spec.step_of_form flow.now (form_in text.now form) }
 {
     match form {
-        Form::Inject(name) => match input(flow, name.of(text)) {
+        Form::Inject(name) => match source(flow, name.of(text)) {
             Some(node) => Ok(Step::Inject(node)),
             None => Err(Code::S2),
         },
@@ -210,8 +210,8 @@ fn told(text: &[u8], stamp: Option<Span>, bounds: &Bounds) -> Option<Option<Stam
     }
 }
 
-// The input with a name.
-fn input(flow: &Flow, name: &[u8]) -> Option<NodeId>
+// The source with a name.
+fn source(flow: &Flow, name: &[u8]) -> Option<NodeId>
     ensures { result ≡ node_of_kind flow.now is_input_kind name.now }
 {
     let node = flow.node_named(name)?;

@@ -3,7 +3,8 @@ use Rattle.std.proofs.Common.{◌≡◌, ℕ, zero, suc, ◌≤◌, ◌^◌, fal
 use Rattle.std.proofs.lemmas.Bool.{true≢false}
 use Rattle.std.specs.List.{AllByRecursion}
 use Rattle.fw_flow.specs.Dataflow.{is_input_kind, kind_of, batches_of, HasEpochs}
-use Rattle.fw_flow.specs.WellFormed.{IsWellFormedSystem, IsBatch}
+use Rattle.fw_flow.specs.WellFormed.{IsWellFormedSystem}
+use Rattle.fw_lines.specs.Batches.{IsBatch}
 use Rattle.fw_model.specs.Machine.{first_state}
 use Rattle.fw_model.specs.Steps.{recovered}
 use Rattle.fw_model.proofs.GoingOn.{runs-go_on}

@@ -5,7 +5,8 @@ use Rattle.fw_flow.specs.declared.step.Step.TheVariants.{Inject, Deliver, Progre
 use Rattle.fw_flow.specs.Dataflow.{kind_of, policy_of, sender, receiver, bounds_of, batches_of, max_of}
 use Rattle.fw_flow.specs.NodeFunction.{sends}
 use Rattle.fw_flow.specs.declared.kind.Policy.TheVariants as policy
-use Rattle.fw_flow.specs.WellFormed.{IsWellFormedSystem, IsBatch}
+use Rattle.fw_lines.specs.Batches.{IsBatch}
+use Rattle.fw_flow.specs.WellFormed.{IsWellFormedSystem}
 use Rattle.fw_model.specs.Choice.{until}
 use Rattle.fw_model.specs.Machine.{is_failed, checkpoint, collected}
 use Rattle.fw_model.specs.Steps.{did, quiet, cuts}

@@ -9,7 +9,8 @@ use Rattle.fw_time.specs.Stamp.{Stamp}
 use Rattle.fw_frontier.specs.Front.{frontier_of, inside}
 use Rattle.fw_flow.specs.Dataflow.{is_input_kind, kind_of, policy_of, sender, receiver, bounds_of, batches_of, in_edges, out_edges, HasEpochs}
 use Rattle.fw_flow.specs.NodeFunction.{sends}
-use Rattle.fw_flow.specs.WellFormed.{IsPolicyAllowed, IsWellFormed, IsWellFormedSystem, IsBatch}
+use Rattle.fw_lines.specs.Batches.{IsBatch}
+use Rattle.fw_flow.specs.WellFormed.{IsPolicyAllowed, IsWellFormed, IsWellFormedSystem}
 use Rattle.fw_flow.specs.declared.kind.Kind.TheVariants.{Total}
 use Rattle.fw_flow.specs.declared.kind.Policy.{Policy}
 use Rattle.fw_flow.specs.declared.kind.Policy.TheVariants as policy

@@ -4,7 +4,8 @@ use Rattle.std.proofs.lemmas.Bool.{true≢false}
 use Rattle.std.specs.List.{AllByRecursion}
 use Rattle.fw_bag.specs.declared.rec.Rec.{Rec}
 use Rattle.fw_flow.specs.Dataflow.{Dataflow, kind_of, policy_of, sender, receiver, in_edges, out_edges, is_input_kind, batches_of}
-use Rattle.fw_flow.specs.WellFormed.{IsWalk, IsClosedWalk, IsPolicyAllowed, IsWellFormed, IsBatch, IsWellFormedSystem}
+use Rattle.fw_lines.specs.Batches.{IsBatch}
+use Rattle.fw_flow.specs.WellFormed.{IsWalk, IsClosedWalk, IsPolicyAllowed, IsWellFormed, IsWellFormedSystem}
 use Rattle.fw_flow.specs.declared.kind.Policy.{Policy}
 use Rattle.fw_flow.specs.declared.kind.Policy.TheVariants as policy
 use Rattle.fw_examples.specs.OneSelect.{one_select_flow, one_select_flow_of, one_select_of}

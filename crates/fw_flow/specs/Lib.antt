@@ -11,6 +11,8 @@ pub mod ProjectedStamps
 pub mod Projection
 pub mod Raw
 pub mod Restoring
+pub mod Sources
+pub mod Step
 pub mod Walks
 pub mod WellFormed
 pub mod WholeBags

@@ -20,6 +20,7 @@ mod parts;
 mod projection;
 mod raw;
 mod restoring;
+mod sources;
 mod step;
 mod walks;
 

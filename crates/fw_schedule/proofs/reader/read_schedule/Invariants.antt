@@ -2,7 +2,7 @@ use Rattle.std.proofs.Common.{◌+◌, ◌-◌, length, IfSome}
 use Rattle.std.specs.Option.{option_map_or}
 use Rattle.fw_lines.specs.Lines.{lines_left, IsPlace, said_lines}
 use Rattle.fw_schedule.proofs.ReadLaws.{IsRead}
-use Rattle.fw_schedule.proofs.schedule.read_schedule.Given as goal
+use Rattle.fw_schedule.proofs.reader.read_schedule.Given as goal
 
 abbrev pub invariant-loop-place : goal.invariant-loop-place
 invariant-loop-place l = record {

@@ -17,7 +17,7 @@ abbrev pub IsNodeOfKind : Dataflow → (Kind → Bool) → ℕ → Type 0
 IsNodeOfKind flow is_such node = (node < length flow.nodes) × (is_such (kind_of flow node) ≡ true)
 
 -- The step is one that a schedule of the flow can ask for: an injection, a delivery, a notification, progress, a failure, a
--- recovery or an acknowledgement, of an input, an edge, a node or an output of the flow, at a stamp of the domain. Some node
+-- recovery or an acknowledgement, of a source, an edge, a node or an output of the flow, at a stamp of the domain. Some node
 -- fails.
 abbrev pub IsStepOf : Dataflow → Step → Type 0
 IsStepOf flow (Inject source) = IsNodeOfKind flow is_input_kind source

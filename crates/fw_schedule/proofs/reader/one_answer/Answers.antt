@@ -1,5 +1,5 @@
 use Rattle.fw_schedule.proofs.ReadLaws.{accepted_or_refused, one_value, one_refusal, some_answer}
-use Rattle.fw_schedule.proofs.schedule.one_answer.Goals as goal
+use Rattle.fw_schedule.proofs.reader.one_answer.Goals as goal
 
 pub returns-clause-some_answer : goal.returns-clause-some_answer
 returns-clause-some_answer c = some_answer

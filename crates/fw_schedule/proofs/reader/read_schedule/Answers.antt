@@ -4,9 +4,10 @@ use Rattle.std.specs.List.{AllByRecursion}
 use Rattle.fw_lines.specs.Lines.{lines_left, said_lines}
 use Rattle.fw_lines.proofs.FaultLaws.{if_refused-weaker}
 use Rattle.fw_schedule.proofs.ReadLaws.{read_more, read_broken}
-use Rattle.fw_schedule.proofs.StepLaws.{steps_sound}
-use Rattle.fw_schedule.specs.Steps.{IsStepOf}
-use Rattle.fw_schedule.proofs.schedule.read_schedule.Goals as goal
+use Rattle.fw_schedule.proofs.StepLaws.{steps_sound, steps_plain}
+use Rattle.fw_flow.specs.Step.{ArePlain}
+use Rattle.fw_schedule.specs.Schedule.{IsStepOf}
+use Rattle.fw_schedule.proofs.reader.read_schedule.Goals as goal
 
 pub loop-place-preserved : goal.loop-place-preserved
 loop-place-preserved c = record {
@@ -23,3 +24,8 @@ pub returns-clause-steps : goal.returns-clause-steps
 returns-clause-steps c =
     let read = c.loop-place.invariant.read in
     subst (AllByRecursion (IsStepOf c.args.flow.now)) (sym read.value) (steps_sound c.args.flow.now read.done)
+
+pub returns-clause-plain : goal.returns-clause-plain
+returns-clause-plain c =
+    let read = c.loop-place.invariant.read in
+    subst ArePlain (sym read.value) (steps_plain c.args.flow.now _ (steps_sound c.args.flow.now read.done))

@@ -1,10 +1,9 @@
--- The batches that inputs give: of inputs alone, at most 2^20 each, and bags of recs of 64 bits.
-use Rattle.std.proofs.Common.{◌≡◌, ℕ, ◌+◌, ◌^◌, ◌<◌, ◌≤◌, ◌==◌, nat_lt, nat_le, Bool, true, false, cond, List, [], ◌∷◌, ◌++◌, map, length, filter, Option, Some, None, IfSome, refl, sym, ◌∙◌, ap, subst, arith, append_assoc, inl, inr, get_or}
-use Rattle.std.proofs.lemmas.Bool.{cases_lt, ltb-true, eqb-true, false≢true}
+-- The batches that inputs give: of sources alone, at most 2^20 each, and bags of recs of 64 bits.
+use Rattle.std.proofs.Common.{◌≡◌, ℕ, ◌+◌, ◌^◌, ◌<◌, ◌≤◌, ◌==◌, ◌||◌, nat_lt, nat_le, Bool, true, false, cond, List, [], ◌∷◌, ◌++◌, map, length, filter, Option, Some, None, IfSome, refl, sym, ◌∙◌, ap, subst, arith, append_assoc}
+use Rattle.std.proofs.lemmas.Bool.{ltb-true, eqb-true, eq-eqb, false≢true}
 use Rattle.std.proofs.lemmas.Bool.Decides.{nat_tests}
-use Rattle.std.proofs.lemmas.List.{append-nil, length-append, get_or_past}
-use Rattle.std.proofs.lemmas.List.FromFn.{get_or-map-range_with_len, length-map-range_with_len}
-use Rattle.std.specs.List.{AllByRecursion, list_any, list_all, before_first, after_first, filter_map, cons_option, flat_map, range_with_len}
+use Rattle.std.proofs.lemmas.List.{append-nil, length-append}
+use Rattle.std.specs.List.{AllByRecursion, list_any, list_all, before_first, after_first, filter_map, cons_option}
 use Rattle.std.specs.Map.{lookup}
 use Rattle.std.specs.Option.{option_or, option_map_or}
 use Rattle.std.specs.Str.Parse.{digits_value}
@@ -17,16 +16,14 @@ use Rattle.fw_lines.specs.declared.record.RecordWord.{RecordWord}
 use Rattle.fw_lines.specs.declared.record.RecordWord.TheVariants.{Broken}
 use Rattle.fw_lines.specs.declared.refusal.Code.{Code}
 use Rattle.fw_lines.specs.declared.refusal.Code.TheVariants.{I1, I4, I5}
+use Rattle.fw_lines.specs.Batches.{batches_at, IsRec, IsBatch, AreBatchesOf}
 use Rattle.fw_lines.specs.Faults.{BreakNoRule}
 use Rattle.fw_lines.specs.Inputs.{is_colon, record_of, record_from, spelled_rec, batch_of, batches_of, is_batch_of, is_batch_of_words, form_fault, value_fault, number_fault, count_fault, fault_of, count_of, line_fault}
 use Rattle.fw_lines.specs.Lines.{Said, is_allowed}
-use Rattle.fw_lines.specs.Sources.{node_of}
+use Rattle.fw_lines.specs.Sources.{node_of, is_source}
 use Rattle.fw_lines.specs.Spelling.{number_of, is_numeral}
 use Rattle.fw_lines.proofs.FaultLaws.{fault_next}
-use Rattle.fw_lines.proofs.ReadLaws.{batches_of-push}
-use Rattle.fw_flow.specs.Dataflow.{Dataflow, kind_of, node_at, is_input_kind}
-use Rattle.fw_flow.specs.WellFormed.{IsRec, IsBatch}
-use Rattle.fw_run.specs.Texts.{source_at}
+use Rattle.fw_lines.proofs.ReadLaws.{IsRead, read_all, batches_of-push}
 
 -- ---- the recs of a batch
 
@@ -79,7 +76,7 @@ is_batch (first ∷ name ∷ records) = record {
   ascending = IsAscending-bag_sum (filter_map (λ word. spelled_rec (record_of word)) records) [] tt;
 }
 
-pub each_batch : (sources : List (List ℕ × ℕ)) (lines : List Said) (node : ℕ) → AllByRecursion IsBatch (batches_of sources lines node)
+each_batch : (sources : List (List ℕ × ℕ)) (lines : List Said) (node : ℕ) → AllByRecursion IsBatch (batches_of sources lines node)
 each_batch sources lines node = each (filter (is_batch_of sources node) lines)
   where
     each : (ls : List Said) → AllByRecursion IsBatch (map (λ (line : Said). batch_of line.words) ls)
@@ -88,43 +85,46 @@ each_batch sources lines node = each (filter (is_batch_of sources node) lines)
 
 -- ---- which nodes have batches
 
-abbrev IsInput : Dataflow → ℕ → Type 0
-IsInput flow node = is_input_kind (kind_of flow node) ≡ true
+abbrev IsSource : List (List ℕ × ℕ) → ℕ → Type 0
+IsSource sources node = is_source sources node ≡ true
 
-found_more : (flow : Dataflow) (test : List ℕ → Bool) (place : ℕ) (name : List ℕ) (rest : List (List ℕ × ℕ)) (b : Bool) → is_input_kind (kind_of flow place) ≡ b
-    → IfSome (lookup test rest) (IsInput flow) → IfSome (lookup test (cond b ((name, place) ∷ []) [] ++ rest)) (IsInput flow)
-found_more flow test place name rest false e h = h
-found_more flow test place name rest true e h = by (test name)
+among_more : (name : List ℕ) (place : ℕ) (rest : List (List ℕ × ℕ)) (found : Option ℕ) → IfSome found (IsSource rest) → IfSome found (IsSource ((name, place) ∷ rest))
+among_more name place rest None h = tt
+among_more name place rest (Some node) h = by (place == node)
   where
-    by : (b : Bool) → IfSome (cond b (Some place) (lookup test rest)) (IsInput flow)
-    by true = e
+    by : (b : Bool) → (b || is_source rest node) ≡ true
+    by true = refl
     by false = h
 
--- the node of a name is an input
-found_input : (flow : Dataflow) (test : List ℕ → Bool) (nodes : List ℕ) → IfSome (lookup test (flat_map (source_at flow) nodes)) (IsInput flow)
-found_input flow test [] = tt
-found_input flow test (p ∷ nodes) = found_more flow test p (node_at flow p).name (flat_map (source_at flow) nodes) (is_input_kind (kind_of flow p)) refl (found_input flow test nodes)
+-- the node of a name is a source
+found_source : (test : List ℕ → Bool) (sources : List (List ℕ × ℕ)) → IfSome (lookup test sources) (IsSource sources)
+found_source test [] = tt
+found_source test ((name, place) ∷ rest) = by (test name) (among_more name place rest (lookup test rest) (found_source test rest))
+  where
+    by : (b : Bool) → IfSome (lookup test rest) (IsSource ((name, place) ∷ rest)) → IfSome (cond b (Some place) (lookup test rest)) (IsSource ((name, place) ∷ rest))
+    by true h = ap (λ b. b || is_source rest place) (eq-eqb place place refl)
+    by false h = h
 
-not_of : (flow : Dataflow) (node : ℕ) (source : Option ℕ) → IfSome source (IsInput flow) → is_input_kind (kind_of flow node) ≡ false → option_map_or (λ s. s == node) source false ≡ false
-not_of flow node None i e = refl
-not_of flow node (Some s) i e = by (s == node) refl
+not_of : (sources : List (List ℕ × ℕ)) (node : ℕ) (source : Option ℕ) → IfSome source (IsSource sources) → is_source sources node ≡ false → option_map_or (λ s. s == node) source false ≡ false
+not_of sources node None i e = refl
+not_of sources node (Some s) i e = by (s == node) refl
   where
     by : (b : Bool) → (s == node) ≡ b → b ≡ false
-    by true h = absurd (false≢true (sym e ∙ ap (λ p. is_input_kind (kind_of flow p)) (sym (eqb-true s node h)) ∙ i))
+    by true h = absurd (false≢true (sym e ∙ ap (is_source sources) (sym (eqb-true s node h)) ∙ i))
     by false h = refl
 
-no_line_of : (flow : Dataflow) (nodes : List ℕ) (node : ℕ) (words : List (List ℕ)) → is_input_kind (kind_of flow node) ≡ false → is_batch_of_words (flat_map (source_at flow) nodes) node words ≡ false
-no_line_of flow nodes node [] e = refl
-no_line_of flow nodes node (word ∷ []) e = refl
-no_line_of flow nodes node (first ∷ name ∷ records) e = not_of flow node (node_of (flat_map (source_at flow) nodes) name) (found_input flow _ nodes) e
+no_line_of : (sources : List (List ℕ × ℕ)) (node : ℕ) (words : List (List ℕ)) → is_source sources node ≡ false → is_batch_of_words sources node words ≡ false
+no_line_of sources node [] e = refl
+no_line_of sources node (word ∷ []) e = refl
+no_line_of sources node (first ∷ name ∷ records) e = not_of sources node (node_of sources name) (found_source _ sources) e
 
--- a node that is no input has no batches
-pub none_given : (flow : Dataflow) (nodes : List ℕ) (lines : List Said) (node : ℕ) → is_input_kind (kind_of flow node) ≡ false → batches_of (flat_map (source_at flow) nodes) lines node ≡ []
-none_given flow nodes [] node e = refl
-none_given flow nodes (line ∷ lines) node e =
+-- a node that is no source has no batches
+none_given : (sources : List (List ℕ × ℕ)) (lines : List Said) (node : ℕ) → is_source sources node ≡ false → batches_of sources lines node ≡ []
+none_given sources [] node e = refl
+none_given sources (line ∷ lines) node e =
     let given : List Said → List (List Rec) = λ ls. map (λ (l : Said). batch_of l.words) ls in
-    ap (λ b. given (cond b (line ∷ filter (is_batch_of (flat_map (source_at flow) nodes) node) lines) (filter (is_batch_of (flat_map (source_at flow) nodes) node) lines))) (no_line_of flow nodes node line.words e)
-    ∙ none_given flow nodes lines node e
+    ap (λ b. given (cond b (line ∷ filter (is_batch_of sources node) lines) (filter (is_batch_of sources node) lines))) (no_line_of sources node line.words e)
+    ∙ none_given sources lines node e
 
 -- ---- how many batches a node has
 
@@ -182,15 +182,21 @@ few_from sources lines done (line ∷ left) node sound parts h =
     below [] y ys = omega arith
     below (x ∷ xs) y ys = omega (arith, below xs y ys)
 
-pub few_batches : (sources : List (List ℕ × ℕ)) (lines : List Said) (node : ℕ) → BreakNoRule (line_fault sources) lines → length (batches_of sources lines node) ≤ 2 ^ 20
+few_batches : (sources : List (List ℕ × ℕ)) (lines : List Said) (node : ℕ) → BreakNoRule (line_fault sources) lines → length (batches_of sources lines node) ≤ 2 ^ 20
 few_batches sources lines node sound = few_from sources lines [] lines node sound refl (omega arith)
 
--- ---- the batches of each node, in a list
+-- ---- together
 
--- what is true of no batches and of the batches of a node is true of those at its place
-pub at_place : (Q : List (List Rec) → Type 0) (f : ℕ → List (List Rec)) (n p : ℕ) → Q [] → Q (f p) → Q (get_or (map f (range_with_len 0 n)) p [])
-at_place Q f n p none some =
-    elim (cases_lt p n) [
-      | inl lt ↦ subst Q (sym (get_or-map-range_with_len f 0 n p p [] lt (omega arith))) some
-      | inr ge ↦ subst Q (sym (get_or_past (map f (range_with_len 0 n)) p [] (omega (arith, ge, length-map-range_with_len f 0 n)))) none
-    ]
+-- what lines that break no rule give are batches of the sources
+pub sound-batches : (sources : List (List ℕ × ℕ)) (lines : List Said) (given : ℕ → List (List Rec)) → BreakNoRule (line_fault sources) lines → ((node : ℕ) → given node ≡ batches_of sources lines node) → AreBatchesOf sources given
+sound-batches sources lines given sound value = record {
+  of_sources = λ node e. value node ∙ none_given sources lines node e;
+  few = λ node. subst (λ b. length b ≤ 2 ^ 20) (sym (value node)) (few_batches sources lines node sound);
+  bags = λ node. subst (AllByRecursion IsBatch) (sym (value node)) (each_batch sources lines node);
+}
+
+-- and so are those that are read when no line is left
+pub read-batches : (sources : List (List ℕ × ℕ)) (lines left : List Said) (batches : List (ℕ × List (List Rec))) → IsRead sources lines left batches → left ≡ [] → AreBatchesOf sources (batches_at batches)
+read-batches sources lines left batches read e =
+    let all = read_all sources lines batches (subst (λ ls. IsRead sources lines ls batches) e read) in
+    sound-batches sources lines (batches_at batches) all.0 all.1

@@ -1,4 +1,4 @@
--- The inputs of a flow by their names, found one after another.
+-- The sources of a dataflow by their names, found one after another.
 use Rattle.std.proofs.Common.{◌≡◌, ℕ, zero, suc, ◌+◌, ◌<◌, ◌≤◌, Bool, true, false, cond, List, [], ◌∷◌, ◌++◌, map, length, get_or, Some, None, refl, sym, ◌∙◌, ap, arith}
 use Rattle.std.proofs.lemmas.List.{get_or-map, length-map}
 use Rattle.std.proofs.lemmas.Map.Keys.{apart_from_distinct}
@@ -10,8 +10,8 @@ use Rattle.std.specs.Str.{bytes_eq}
 use Rattle.fw_flow.specs.declared.node.Node.{Node}
 use Rattle.fw_flow.specs.Dataflow.{Dataflow, node_at, kind_of, idle_node, is_input_kind}
 use Rattle.fw_lines.specs.Sources.{node_of}
-use Rattle.fw_run.proofs.Ranges.{joined_more}
-use Rattle.fw_run.specs.Texts.{source_at}
+use Rattle.fw_flow.proofs.Ranges.{joined_more}
+use Rattle.fw_flow.specs.Sources.{source_at}
 
 same_name : (a b : List ℕ) → bytes_eq a b ≡ true → a ≡ b
 same_name a b e = (bytes_eq-Decides a b).0 e
@@ -44,10 +44,10 @@ none_among flow p distinct below a (suc n) h =
         let same = same_name (node_at flow p).name (node_at flow a).name e in
         sym ((bytes_eq-Decides (node_at flow a).name (node_at flow p).name).1 (sym same)) ∙ names_differ flow a p distinct (omega (arith, h)) below
 
--- the next node's name is not among those of the earlier inputs
+-- the next node's name is not among those of the earlier sources
 pub name_is_new : (flow : Dataflow) (p : ℕ) → IsDistinct bytes_eq (map (λ (n : Node). n.name) flow.nodes) → p < length flow.nodes → IsNone (node_of (flat_map (source_at flow) (range_with_len 0 p)) (node_at flow p).name)
 name_is_new flow p distinct below = ap is_some (none_among flow p distinct below 0 p (omega arith))
 
--- the inputs among one node more
+-- the sources among one node more
 pub sources_more : (flow : Dataflow) (p : ℕ) → flat_map (source_at flow) (range_with_len 0 (p + 1)) ≡ flat_map (source_at flow) (range_with_len 0 p) ++ source_at flow p
 sources_more flow p = joined_more (source_at flow) p

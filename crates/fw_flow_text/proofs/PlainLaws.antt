@@ -1,11 +1,14 @@
--- What the nodes of a flow that a text spells do and keep.
-use Rattle.std.proofs.Common.{◌≡◌, ℕ, zero, suc, Bool, true, false, cond, List, [], ◌∷◌, Option, Some, None, option_map, IfSome, refl, get_or}
+-- A flow that a text spells keeps nothing and notifies nobody.
+use Rattle.std.proofs.Common.{◌≡◌, ℕ, zero, suc, Bool, true, false, cond, List, [], ◌∷◌, Option, Some, None, option_map, IfSome, IfOk, Result, Ok, Err, MatchResult, refl, sym, ◌∙◌, ap, subst, get_or}
 use Rattle.std.specs.List.{AllByRecursion, cons_option, flat_map}
 use Rattle.std.specs.Option.{option_and_then}
 use Rattle.std.specs.Str.{bytes_eq}
 use Rattle.std.specs.Prelude.{codes}
 use Rattle.fw_time.proofs.EachLaws.{each-append}
-use Rattle.fw_lines.specs.Lines.{Said, said_lines}
+use Rattle.fw_lines.specs.Lines.{Said}
+use Rattle.fw_lines.specs.declared.fault.ReadFault.{ReadFault}
+use Rattle.fw_lines.specs.Faults.{IfRefused}
+use Rattle.fw_flow.specs.Check.{IsChecked, IsFirstBroken}
 use Rattle.fw_flow.specs.declared.kind.Policy.{Policy}
 use Rattle.fw_flow.specs.declared.kind.Policy.TheVariants as policy
 use Rattle.fw_flow.specs.declared.node.Node.{Node}
@@ -13,13 +16,13 @@ use Rattle.fw_flow.specs.declared.raw.Declaration.{Declaration}
 use Rattle.fw_flow.specs.declared.raw.Declaration.TheVariants.{Loop as ALoop, Node as ANode, Edge as AnEdge}
 use Rattle.fw_flow.specs.declared.raw.Declared.{Declared}
 use Rattle.fw_flow.specs.declared.raw.RawKind.{RawKind}
-use Rattle.fw_flow.specs.Dataflow.{kind_of, policy_of, idle_node, is_notified_kind, NotifiesNobody, KeepsNothing}
-use Rattle.fw_flow.specs.Raw.{node_in, loop_names, resolved_kind}
+use Rattle.fw_flow.specs.Dataflow.{Dataflow, kind_of, policy_of, idle_node, is_notified_kind, NotifiesNobody, KeepsNothing}
+use Rattle.fw_flow.specs.Raw.{node_in, loop_names, resolved_kind, flow_of}
 use Rattle.fw_flow_text.specs.Forms.{policy_at_end, input_form, output_form, select_form, node_form, node_declaration, edge_declaration, declaration_of, name_of}
 use Rattle.fw_flow_text.specs.Forms as forms
 use Rattle.fw_flow_text.specs.Grammar.{declared_by}
 use Rattle.fw_flow_text.specs.Select.{condition_of, assignment_part}
-use Rattle.fw_run.specs.Texts.{spelled_flow}
+use Rattle.fw_flow_text.proofs.ReadLaws.{IsRead, read_all}
 
 -- ---- readings that may fail
 
@@ -140,12 +143,19 @@ plain_at [] p a = record { keeps_nothing = refl; unnotified = refl }
 plain_at (n ∷ nodes) zero a = a.0
 plain_at (n ∷ nodes) (suc p) a = plain_at nodes p a.1
 
--- a flow that a text spells keeps nothing
-pub spelled-keeps_nothing : (text : List ℕ) → KeepsNothing (spelled_flow text)
+pub declared-keeps_nothing : (lines : List Said) → KeepsNothing (flow_of (declared_by lines))
 unfolding policy_of
-spelled-keeps_nothing text p = (plain_at (spelled_flow text).nodes p (plain_nodes (loop_names (declared_by (said_lines text))) (said_lines text))).keeps_nothing
+declared-keeps_nothing lines p = (plain_at (flow_of (declared_by lines)).nodes p (plain_nodes (loop_names (declared_by lines)) lines)).keeps_nothing
 
--- no node of it is notified
-pub spelled-notifies_nobody : (text : List ℕ) → NotifiesNobody (spelled_flow text)
+pub declared-notifies_nobody : (lines : List Said) → NotifiesNobody (flow_of (declared_by lines))
 unfolding kind_of
-spelled-notifies_nobody text p = (plain_at (spelled_flow text).nodes p (plain_nodes (loop_names (declared_by (said_lines text))) (said_lines text))).unnotified
+declared-notifies_nobody lines p = (plain_at (flow_of (declared_by lines)).nodes p (plain_nodes (loop_names (declared_by lines)) lines)).unnotified
+
+-- what is true of the dataflow that lines declare is true of the one that is read when no line is left
+pub read_flow-is : (P : Dataflow → Type 0) → ((lines : List Said) → P (flow_of (declared_by lines)))
+    → (lines left : List Said) (raw : List Declared) (result : Result Dataflow ReadFault) → IsRead lines left raw → left ≡ []
+    → MatchResult result (IsChecked raw) (IfRefused (IsFirstBroken raw)) → IfOk result P
+read_flow-is P h lines left raw (Ok flow) read e checked =
+    let all = read_all lines raw (subst (λ ls. IsRead lines ls raw) e read) in
+    subst P (sym (checked.value ∙ ap flow_of all.1)) (h lines)
+read_flow-is P h lines left raw (Err fault) read e broken = tt

@@ -119,17 +119,6 @@ totals_are_filtered = record {
 
 -- ---- the loop
 
-loop_notifies_nobody : NotifiesNobody loop_counts_up
-unfolding kind_of
-loop_notifies_nobody zero = refl
-loop_notifies_nobody (suc zero) = refl
-loop_notifies_nobody (suc (suc zero)) = refl
-loop_notifies_nobody (suc (suc (suc zero))) = refl
-loop_notifies_nobody (suc (suc (suc (suc zero)))) = refl
-loop_notifies_nobody (suc (suc (suc (suc (suc zero))))) = refl
-loop_notifies_nobody (suc (suc (suc (suc (suc (suc zero)))))) = refl
-loop_notifies_nobody (suc (suc (suc (suc (suc (suc (suc p))))))) = refl
-
 loop_comes_from_kept : ComeFromKept two_batches under_way kept_rounds
 unfolding kind_of receiver sender bounds_of max_of phi
 loop_comes_from_kept zero = ((λ k. refl), ((λ k. refl), ((λ k. refl), tt)))
@@ -147,7 +136,6 @@ unfolding kind_of receiver sender sends bounds_of batches_of max_of
 loop_is_filtered = record {
   well_formed = is_well_formed;
   epochs = loop_is_reached.epochs;
-  nobody = loop_notifies_nobody;
   legal = under_way_is_legal;
   frontiers = λ p. set-frontier two_batches p _;
   come = loop_comes_from_kept;

@@ -35,7 +35,6 @@ runs_apply =
       goes_on = λ law. law totals (first_state totals) output_failed come_back steps_to_failure (Recover ∷ []) outcomes_to_failure (did (cuts two_epochs_kept) ∷ []) reached
           (come_back, recovery_is_reached.step, refl);
       legal = λ law. law totals steps_to_failure outcomes_to_failure output_failed failure_is_reached.no_recovery reached;
-      denoted = λ law. law totals totals_denoted system.well_formed system.denoted steps_to_failure outcomes_to_failure output_failed failure_is_reached.no_recovery reached;
       in_order = λ law. law totals steps_through_recovery outcomes_through_recovery again_acknowledged run_through_recovery out;
       step = λ law. law totals output_failed Recover come_back (did (cuts two_epochs_kept)) system.well_formed.flow system.epochs recovery_is_reached.legal recovery_is_reached.step;
       through = λ law. law totals (steps_to_failure ++ Recover ∷ []) (outcomes_to_failure ++ did (cuts two_epochs_kept) ∷ []) come_back system.well_formed.flow system.epochs recovery_is_reached.reached;
@@ -146,7 +145,6 @@ filtering_applies =
       deliver_the_same = λ law. law loop_counts_up under_way kept_rounds 2;
       phi_of_kept = λ law. law numbers numbered_both kept_epoch sequence.well_formed sequence.epochs sequence.legal sequence.frontiers 1 (kept_epoch 1) (λ t i. i) (1 ∷ []);
       kept_causes = λ law. law two_batches under_way kept_rounds lp.well_formed lp.epochs lp.legal lp.frontiers lp.come;
-      legal_without_notices = λ law. law two_batches under_way kept_rounds lp.well_formed lp.epochs lp.nobody lp.legal lp.frontiers lp.come;
       legal = λ law. law totals (next_epochs ++ two_epochs) kept_totals noted_totals flow system.epochs total.legal total.consistently;
       inclusions = λ law. law totals output_failed (is_failed output_failed) kept two_epochs_kept something_is_chosen.largest.consistent;
       filtered_is_legal = λ law. law totals output_failed two_epochs_kept flow system.epochs total.legal total.inclusions;

@@ -55,7 +55,6 @@ pub record RunsApply : Type 0 where
   pub goes_on : runs.RunsGoOn
       → Run totals (first_state totals) (steps_to_failure ++ Recover ∷ []) (outcomes_to_failure ++ did (cuts two_epochs_kept) ∷ []) come_back
   pub legal : runs.RunsStayLegal → IsLegal totals (events output_failed.history)
-  pub denoted : runs.AcknowledgementsShowDenotation → AllByRecursion (IsDenoted totals totals_denoted) outcomes_to_failure
   pub in_order : runs.AcknowledgementsAreInOrder → stamps_acknowledged out outcomes_through_recovery ≡ first_stamps 3
   pub step : recoveries.StepsKeepHistoriesLegal → IsLegal totals (events come_back.history)
   pub through : recoveries.RunsStayLegalThroughRecoveries → IsLegal totals (events come_back.history)
@@ -170,7 +169,6 @@ pub record FilteringApplies : Type 0 where
       → phi numbers (kept_events regroup_by_three kept_epoch numbered_both) 1 (kept_epoch 1) (1 ∷ [])
       ≡ phi numbers numbered_both 1 (kept_epoch 1) (1 ∷ [])
   pub kept_causes : filtering.KeptDeliveriesHaveKeptCauses → HaveKeptCauses loop_counts_up under_way kept_rounds
-  pub legal_without_notices : filtering.KeptEventsAreLegalWithoutNotices → IsLegal two_batches (kept_events loop_counts_up kept_rounds under_way)
   pub legal : filtering.KeptEventsAreLegal
       → IsLegal totals (kept_events total_flow (kept_of total_flow two_epochs_kept) (next_epochs ++ two_epochs))
   pub inclusions : filtering.ConsistentMeetsInclusions → MeetsInclusions totals output_failed two_epochs_kept

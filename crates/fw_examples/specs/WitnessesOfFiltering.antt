@@ -55,7 +55,6 @@ two_rounds = frontier_of (bounds_of loop_counts_up (sender loop_counts_up 3)) (r
 pub record LoopIsFiltered : Type 0 where
   pub well_formed : IsWellFormed loop_counts_up
   pub epochs : HasEpochs two_batches
-  pub nobody : NotifiesNobody loop_counts_up
   pub legal : IsLegal two_batches under_way
   pub frontiers : AreFrontiers loop_counts_up kept_rounds
   pub come : ComeFromKept two_batches under_way kept_rounds

@@ -90,10 +90,6 @@ one_of-join f g = record { each_within = λ i. within i; from_one = λ t k. foun
     found t (inl k) = (0, k)
     found t (inr k) = (1, k)
 
-one_of-or : (f g : Frontier) (u : Stamp) (i : ℕ) → one_of f g i u ≡ true → join f g u ≡ true
-one_of-or f g u zero k = or_left (f u) (g u) k
-one_of-or f g u (suc i) k = or_right (f u) (g u) k
-
 psi-one_of : (flow : Dataflow) (e : ℕ) (f g : Frontier) (i : ℕ) (u : Stamp) → psi flow e (one_of f g i) u ≡ true → join (psi flow e f) (psi flow e g) u ≡ true
 psi-one_of flow e f g zero u k = or_left (psi flow e f u) (psi flow e g u) k
 psi-one_of flow e f g (suc i) u k = or_right (psi flow e f u) (psi flow e g u) k

@@ -4,7 +4,7 @@ use Rattle.fw_time.specs.Stamp.{Stamp}
 use Rattle.fw_frontier.specs.Frontier.{Frontier, Within}
 use Rattle.fw_flow.specs.declared.choice.Cut.TheVariants.{Present}
 use Rattle.fw_flow.specs.declared.event.Event.{Event}
-use Rattle.fw_flow.specs.Dataflow.{System, Dataflow, policy_of, sender, receiver, NotifiesNobody, HasEpochs}
+use Rattle.fw_flow.specs.Dataflow.{System, Dataflow, policy_of, sender, receiver, HasEpochs}
 use Rattle.fw_flow.specs.Projection.{phi}
 use Rattle.fw_flow.specs.WellFormed.{IsWellFormed}
 use Rattle.fw_model.specs.History.{IsLegal, sent, delivered, pending}
@@ -46,14 +46,6 @@ PhiOfKeptEvents = (sys : System) (h : List Event) (keep : ℕ → Frontier) → 
 abbrev pub KeptDeliveriesHaveKeptCauses : Type 0
 KeptDeliveriesHaveKeptCauses = (sys : System) (h : List Event) (keep : ℕ → Frontier) → IsWellFormed sys.flow → HasEpochs sys
     → IsLegal sys h → AreFrontiers sys.flow keep → ComeFromKept sys h keep → HaveKeptCauses sys.flow h keep
-
--- where no node is of a notified kind, the kept events of a legal history of a well-formed flow with epochs, of which each
--- node keeps those inside a frontier, are a legal history, if on each edge what was delivered inside what the receiver
--- keeps is inside phi of what the sender keeps
-abbrev pub KeptEventsAreLegalWithoutNotices : Type 0
-KeptEventsAreLegalWithoutNotices = (sys : System) (h : List Event) (keep : ℕ → Frontier) → IsWellFormed sys.flow
-    → HasEpochs sys → NotifiesNobody sys.flow → IsLegal sys h → AreFrontiers sys.flow keep → ComeFromKept sys h keep
-    → IsLegal sys (kept_events sys.flow keep h)
 
 -- the consistently kept events of a legal history of a well-formed flow with epochs are a legal history
 abbrev pub KeptEventsAreLegal : Type 0

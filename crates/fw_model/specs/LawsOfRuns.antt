@@ -1,14 +1,11 @@
 -- Laws of runs: what holds of each state to which steps lead from the first one, and of what they show.
 use Rattle.std.specs.Prelude.{◌≡◌, ℕ, List, ◌++◌}
-use Rattle.std.specs.List.{AllByRecursion}
 use Rattle.fw_flow.specs.declared.step.Step.{Step}
 use Rattle.fw_flow.specs.Dataflow.{System}
-use Rattle.fw_flow.specs.WellFormed.{IsWellFormedSystem}
-use Rattle.fw_model.specs.Denotation.{Family, IsDenotation}
 use Rattle.fw_model.specs.History.{IsLegal}
 use Rattle.fw_model.specs.Machine.{Machine, events, first_state, bound_of}
 use Rattle.fw_model.specs.Steps.{Outcome, Run, HaveNoRecovery}
-use Rattle.fw_model.specs.Acknowledgements.{IsDenoted, stamps_acknowledged, first_stamps}
+use Rattle.fw_model.specs.Acknowledgements.{stamps_acknowledged, first_stamps}
 
 -- a run that goes on where another ended is one run with it, from whatever state
 abbrev pub RunsGoOn : Type 0
@@ -19,13 +16,6 @@ RunsGoOn = (sys : System) (state between last : Machine) (steps more : List Step
 abbrev pub RunsStayLegal : Type 0
 RunsStayLegal = (sys : System) (steps : List Step) (outcomes : List Outcome) (last : Machine) → HaveNoRecovery steps
     → Run sys (first_state sys) steps outcomes last → IsLegal sys (events last.history)
-
--- each acknowledgement of a run of a well-formed system without a recovery shows the denotation of the output's in-edge at
--- its stamp
-abbrev pub AcknowledgementsShowDenotation : Type 0
-AcknowledgementsShowDenotation = (sys : System) (family : Family) → IsWellFormedSystem sys
-    → IsDenotation sys family → (steps : List Step) (outcomes : List Outcome) (last : Machine) → HaveNoRecovery steps
-    → Run sys (first_state sys) steps outcomes last → AllByRecursion (IsDenoted sys family) outcomes
 
 -- A run acknowledges at each output the stamps below its bound, in order and each once: the bound goes up by one with each
 -- acknowledgement and never falls.

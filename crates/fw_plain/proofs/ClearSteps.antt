@@ -1,8 +1,8 @@
 -- Up to where nothing is missing at a node alone: what loops over stamps, edges and events find, and what it comes to.
-use Rattle.std.proofs.Common.{◌≡◌, ℕ, zero, suc, ◌+◌, ◌^◌, ◌<◌, ◌≤◌, nat_le, nat_lt, Bool, true, false, not, ◌&&◌, ◌||◌, ◌==◌, cond, List, [], ◌∷◌, ◌++◌, length, reverse, map, Some, None, option_to_list, refl, sym, ap, subst, ◌∙◌, get_or, take, inl, inr, ◌⊎◌, arith}
+use Rattle.std.proofs.Common.{◌≡◌, ℕ, ◌+◌, ◌^◌, ◌<◌, ◌≤◌, nat_le, nat_lt, Bool, true, false, not, ◌&&◌, ◌||◌, ◌==◌, cond, List, [], ◌∷◌, ◌++◌, length, reverse, map, Some, None, option_to_list, refl, sym, ap, subst, ◌∙◌, get_or, take, inl, inr, arith}
 use Rattle.std.proofs.Math.Bool.{and-true, and_assoc}
 use Rattle.std.specs.List.{AllByRecursion, flat_map, list_any}
-use Rattle.std.proofs.lemmas.Bool.{and_parts, and_from, cond-true, cond-false, cases_lt, eqb-true, eq-eqb, or_left, or_right, not-true, false_from_ne_true, true≢false}
+use Rattle.std.proofs.lemmas.Bool.{and_parts, and_from, cond-true, cond-false, cases_lt, eqb-true, or_left, or_right, not-true, false_from_ne_true, true≢false}
 use Rattle.std.proofs.lemmas.List.Folds.{list_any-append}
 use Rattle.std.proofs.lemmas.Grind.{flat_map-append}
 use Rattle.std.proofs.lemmas.List.{reverse-append, take_more, append-nil, length-map}
@@ -16,11 +16,10 @@ use Rattle.fw_bag.specs.declared.rec.Rec.{Rec}
 use Rattle.fw_flow.specs.declared.event.Event.{Event}
 use Rattle.fw_flow.specs.declared.event.Event.TheVariants.{Inject, Deliver, Notify}
 use Rattle.fw_flow.specs.declared.event.Message.{Message}
-use Rattle.fw_flow.specs.declared.node.Edge.{Edge}
 use Rattle.fw_flow.specs.declared.kind.Kind.{Kind}
 use Rattle.fw_flow.specs.declared.kind.Kind.TheVariants.{Input}
 use Rattle.fw_flow.specs.Projection.{first_number_of}
-use Rattle.fw_flow.specs.Dataflow.{System, Dataflow, kind_of, receiver, in_edges, edges_into, bounds_of, bounds_of_domain, domain_of_kind, greatest_number, is_input_kind, is_notified_kind, batches_of}
+use Rattle.fw_flow.specs.Dataflow.{System, Dataflow, kind_of, receiver, in_edges, bounds_of, bounds_of_domain, domain_of_kind, greatest_number, is_input_kind, is_notified_kind, batches_of}
 use Rattle.fw_flow.proofs.EdgeLaws.{in_edges-at, in_edges-from}
 use Rattle.fw_model.specs.History.{pending, owed, is_delivery_to, is_notification, was_notified, was_delivered_to, some_at, injected_count, is_exhausted, injected_epochs, IsQuiet}
 use Rattle.fw_plain.specs.Clear.{given, pending_stamps, is_unnotified, owed_by, owed_stamps, IsClear}
@@ -28,10 +27,6 @@ use Rattle.fw_model.proofs.StampLaws.{in_line, same-is}
 use Rattle.fw_model.proofs.DescentLaws.{past_edges-quiet}
 
 -- ---- tests
-
-or_parts : (a b : Bool) → (a || b) ≡ true → (a ≡ true) ⊎ (b ≡ true)
-or_parts true b e = inl refl
-or_parts false b e = inr e
 
 or_neither : (a b : Bool) → (a || b) ≡ false → (a ≡ false) × (b ≡ false)
 or_neither true b e = absurd (cc)
@@ -262,27 +257,6 @@ input-epoch flow k e = absurd (cc)
 pub input-bounds : (flow : Dataflow) (p : ℕ) → is_input_kind (kind_of flow p) ≡ true → bounds_of flow p ≡ record { greatest = greatest_number ∷ [] }
 unfolding bounds_of
 input-bounds flow p e = input-epoch flow (kind_of flow p) e
-
-pub given_no_input : (sys : System) (h : List Event) (p : ℕ) (f : Front) → f ≡ [] → is_input_kind (kind_of sys.flow p) ≡ false → Names (bounds_of sys.flow p) f (given sys h p)
-given_no_input sys h p f e k = record {
-  canonical = subst (IsCanonical (bounds_of sys.flow p)) (sym e) tt;
-  same = λ t. ap (λ os. frontier_of (bounds_of sys.flow p) os t) e ∙ ap (λ c. in_domain (bounds_of sys.flow p) t && (not c || injected_epochs sys h p t)) (sym k);
-}
-
-pub given_exhausted : (sys : System) (h : List Event) (p : ℕ) (f : Front) → f ≡ [] → is_exhausted sys h p ≡ true → Names (bounds_of sys.flow p) f (given sys h p)
-given_exhausted sys h p f e k = record {
-  canonical = subst (IsCanonical (bounds_of sys.flow p)) (sym e) tt;
-  same = λ t. ap (λ os. frontier_of (bounds_of sys.flow p) os t) e ∙ all (in_domain (bounds_of sys.flow p) t) (is_input_kind (kind_of sys.flow p)) (is_exhausted sys h p) (nat_lt (first_number_of t) (injected_count p h)) k;
-}
-  where
-    all : (d i x n : Bool) → x ≡ true → (d && true) ≡ (d && (not i || (d && (x || n))))
-    all false i x n k = refl
-    all true i true n k = last i
-      where
-        last : (i : Bool) → true ≡ (not i || true)
-        last true = refl
-        last false = refl
-    all true i false n k = absurd (cc)
 
 epoch-before : (n : ℕ) (t : Stamp) → leq t (greatest_number ∷ []) ≡ true → (not (leq (n ∷ []) t) && true) ≡ nat_lt (first_number_of t) n
 epoch-before n t l =

@@ -207,12 +207,6 @@ pub record IsAbove (sys : System) (h : List Event) (fronts : List Front) : Type 
 past-inside : (flow : Dataflow) (fronts : List Front) (p : ℕ) (t : Stamp) → length fronts ≤ p → in_domain (bounds_of flow p) t ≡ true → family_of flow fronts p t ≡ true
 past-inside flow fronts p t l d = and_from (in_domain (bounds_of flow p) t) (inside (front_of fronts p) t) d (ap (λ os. inside os t) (front-past fronts p l))
 
-pub canonical_each : (sys : System) (h : List Event) (fronts : List Front) → IsAbove sys h fronts → AreCanonical sys.flow fronts
-canonical_each sys h fronts a p = elim (cases_lt p (length sys.flow.nodes)) [
-  | inl l ↦ a.canonical p l
-  | inr l ↦ let c = a.one_each in subst (IsCanonical (bounds_of sys.flow p)) (sym (front-past fronts p (omega arith))) tt
-]
-
 pub above_clear : (sys : System) (h : List Event) (fronts : List Front) → length fronts ≡ length sys.flow.nodes
     → ((p : ℕ) → p < length sys.flow.nodes → IsClear sys h p (front_of fronts p)) → IsAbove sys h fronts
 above_clear sys h fronts c k = record {
@@ -327,9 +321,6 @@ fewer_left sys h fronts lower a c n k =
 
 pub lowered_read : (sys : System) (h : List Event) (read fronts lower : List Front) → read ≡ fronts → AreLowered sys h read lower → AreLowered sys h fronts lower
 lowered_read sys h read fronts lower e n = subst (λ xs. AreLowered sys h xs lower) e n
-
-pub canonical_read : (sys : System) (h : List Event) (read fronts : List Front) → read ≡ fronts → IsAbove sys h fronts → AreCanonical sys.flow read
-canonical_read sys h read fronts e a = subst (AreCanonical sys.flow) (sym e) (canonical_each sys h fronts a)
 
 -- a frontier of the list by its place
 front_there : (xs : List Front) (i : ℕ) (x : Front) → i < length xs → x ≡ get_or xs i x → x ≡ front_of xs i

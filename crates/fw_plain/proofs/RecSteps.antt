@@ -1,5 +1,5 @@
 -- What loops over recs find, one rec at a time.
-use Rattle.std.proofs.Common.{◌≡◌, ℕ, ◌+◌, ◌%◌, ◌^◌, ◌<◌, ◌≤◌, ◌==◌, Bool, true, false, cond, List, [], ◌∷◌, ◌++◌, length, refl, sym, ap, ◌∙◌, get_or, drop, add_assoc, append_assoc, arith}
+use Rattle.std.proofs.Common.{◌≡◌, ℕ, ◌+◌, ◌%◌, ◌^◌, ◌<◌, ◌≤◌, ◌==◌, Bool, true, false, cond, List, [], ◌∷◌, length, refl, sym, ap, ◌∙◌, get_or, drop, add_assoc, arith}
 use Rattle.std.specs.declared.cmp.Ordering.{Ordering}
 use Rattle.std.specs.declared.cmp.Ordering.TheVariants.{Less, Equal, Greater}
 use Rattle.std.specs.Ordering.{is_le, is_gt}
@@ -10,7 +10,7 @@ use Rattle.std.proofs.lemmas.Nat.{mod_below}
 use Rattle.fw_bag.specs.declared.rec.Rec.{Rec}
 use Rattle.fw_bag.specs.Rec.{rec_cmp, IsAscending}
 use Rattle.fw_bag.specs.Bag.{with_rec, bag_sum}
-use Rattle.fw_bag.specs.Keyed.{plus, sorted, value_sum, has_key, distinct_keys}
+use Rattle.fw_bag.specs.Keyed.{plus, sorted, value_sum}
 use Rattle.fw_bag.proofs.BagLaws.{with_rec-le, bag_sum-with_rec}
 
 -- ---- the sum of the values of a key
@@ -52,15 +52,6 @@ pub value_sum_all : (key s x : ℕ) (rs : List Rec) (i : ℕ) → s < 2 ^ 64 →
 value_sum_all key s x rs i f l e = sym (plus-none s f) ∙ sym (ap (plus s) (at_drop_all (value_sum key) rs i l)) ∙ e
 
 -- ---- keys, each once
-
-distinct-cond : (b : Bool) (keys rest all : List ℕ) (k : ℕ) → keys ++ cond b rest (k ∷ rest) ≡ all → cond b keys (keys ++ k ∷ []) ++ rest ≡ all
-distinct-cond true keys rest all k e = e
-distinct-cond false keys rest all k e = append_assoc keys (k ∷ []) rest ∙ e
-
-pub distinct_more : (keys all : List ℕ) (rs later : List Rec) (r : Rec) → rs ≡ r ∷ later → keys ++ distinct_keys rs ≡ all
-    → cond (has_key r.key later) keys (keys ++ r.key ∷ []) ++ distinct_keys later ≡ all
-distinct_more keys all rs later r e h =
-    distinct-cond (has_key r.key later) keys (distinct_keys later) all r.key (sym (ap (λ xs. keys ++ distinct_keys xs) e) ∙ h)
 
 -- ---- recs in order
 

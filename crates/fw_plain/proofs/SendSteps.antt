@@ -2,7 +2,7 @@
 use Rattle.std.proofs.Common.{◌≡◌, ℕ, ◌+◌, ◌/◌, ◌^◌, ◌<◌, ◌≤◌, ◌==◌, nat_le, min, true, false, cond, List, [], ◌∷◌, ◌++◌, length, reverse, Option, Some, option_to_list, refl, sym, ap, ◌∙◌, get_or, take, append_assoc, slice_index, arith, inl, inr}
 use Rattle.std.proofs.lemmas.Bool.{cond-true, cond-false, cases_lt, eq-eqb}
 use Rattle.std.proofs.lemmas.Bool.Decides.{nat_tests}
-use Rattle.std.proofs.lemmas.List.{get_or_past, take_more, map-append, length-append, append-nil}
+use Rattle.std.proofs.lemmas.List.{take_more, map-append, length-append, append-nil}
 use Rattle.fw_time.specs.Stamp.{Stamp, in_domain}
 use Rattle.fw_time.specs.Sending.{regrouped}
 use Rattle.fw_time.proofs.StampLaws.{leq-length}
@@ -14,7 +14,7 @@ use Rattle.fw_flow.specs.declared.event.Message.{Message}
 use Rattle.fw_flow.specs.declared.kind.Domain.{Domain}
 use Rattle.fw_flow.specs.declared.kind.Domain.TheVariants.{Epoch, Number, Loop as InLoop}
 use Rattle.fw_flow.specs.declared.kind.Kind.{Kind}
-use Rattle.fw_flow.specs.declared.kind.Kind.TheVariants.{Distinct, Total, Sequence, OutputEpoch}
+use Rattle.fw_flow.specs.declared.kind.Kind.TheVariants.{Distinct, Total, Sequence}
 use Rattle.fw_flow.specs.Dataflow.{System, Dataflow, kind_of, bounds_of_domain, domain_of_kind, greatest_number, send_stamp_of_kind}
 use Rattle.fw_flow.specs.NodeFunction.{place, stamp, delivered_recs, recs_on_delivery, recs_on_notification, recs_on, messages_at, numbered_messages, sequence_sent, messages_at_some, sends_of_kind, sends, sent_by}
 use Rattle.fw_flow.specs.Projection.{events_at}

@@ -43,7 +43,7 @@ pub struct Engine {
 }
 
 impl Model for Engine {
-    ghost use Rattle.fw_model.specs.Plain.{system_of};
+    ghost use Rattle.fw_flow.specs.Dataflow.{system_of};
     ghost use Rattle.fw_plain.specs.Engine.{Standing, state_of, IsSound};
 
     ghost Value = { Standing };

@@ -9,7 +9,7 @@ use Rattle.std.proofs.lemmas.List.FromFn.{get_or-map-range_with_len}
 use Rattle.fw_time.specs.Stamp.{Stamp}
 use Rattle.fw_time.proofs.EachLaws.{each-weaker, each-both, each-append, each-one, each-map}
 use Rattle.fw_frontier.specs.Frontier.{Frontier, Within}
-use Rattle.fw_frontier.specs.Front.{Front, frontier_of, IsCanonical}
+use Rattle.fw_frontier.specs.Front.{Front, frontier_of, IsCanonical, same_front}
 use Rattle.fw_flow.specs.declared.choice.Cut.{Cut}
 use Rattle.fw_flow.specs.declared.choice.Cut.TheVariants.{Present, At}
 use Rattle.fw_flow.specs.declared.event.Event.{Event}
@@ -30,7 +30,7 @@ use Rattle.fw_flow.specs.declared.choice.Choice.{Choice}
 use Rattle.fw_model.specs.Choice.{kept, cut_of, kept_of, IsCandidate, IsLargest, filtered}
 use Rattle.fw_flow.specs.declared.restoring.Restoring.TheVariants.{Checkpoints}
 use Rattle.fw_flow.specs.Restoring.{restoring_of_policy, restoring}
-use Rattle.fw_model.specs.Steps.{Effect, Outcome, did, idle, LeadsTo, Run, write_of_event, with_event, same_front, checkpoint_of, is_eager, GrowsTo, is_asked_for_checkpoints, checkpoint_front, checkpoints_of, last_or, newest_checkpoint, AcknowledgesOldest, is_one_of, is_in_flight, with_failed, is_kept_write, IsSettledCut, CutsTo, recovered, front_of_cut, inside_if_some, sends_inside, is_given_up, is_serial_given_up, lies_below, after_collection, collected_writes}
+use Rattle.fw_model.specs.Steps.{Effect, Outcome, did, idle, LeadsTo, Run, write_of_event, with_event, checkpoint_of, is_eager, GrowsTo, is_asked_for_checkpoints, checkpoint_front, checkpoints_of, last_or, newest_checkpoint, AcknowledgesOldest, is_one_of, is_in_flight, with_failed, is_kept_write, IsSettledCut, CutsTo, recovered, front_of_cut, inside_if_some, sends_inside, is_given_up, is_serial_given_up, lies_below, after_collection, collected_writes}
 use Rattle.fw_model.specs.LawsOfDenotation.{enough_rounds}
 use Rattle.fw_model.specs.LawsOfRestoring.{takes_checkpoints}
 use Rattle.fw_model.proofs.Decisions.{two_ways}

@@ -6,7 +6,7 @@ use Rattle.fw_time.specs.Stamp.{leq, in_domain}
 use Rattle.fw_time.specs.declared.stamp.Bounds.{Bounds}
 use Rattle.fw_time.proofs.EachLaws.{each-weaker, each-append, each-one, each-map}
 use Rattle.fw_frontier.specs.Frontier.{Frontier, Within}
-use Rattle.fw_frontier.specs.Front.{Front, inside, frontier_of}
+use Rattle.fw_frontier.specs.Front.{Front, inside, frontier_of, same_front, is_within}
 use Rattle.fw_frontier.proofs.InsideLaws.{inside-closed}
 use Rattle.fw_flow.specs.declared.choice.Cut.{Cut}
 use Rattle.fw_flow.specs.declared.choice.Cut.TheVariants.{Present, At}
@@ -23,7 +23,7 @@ use Rattle.fw_model.specs.Choice.{View, HasCheckpoint, IsRestorable, cut_of, fil
 use Rattle.fw_flow.specs.declared.restoring.Restoring.{Restoring}
 use Rattle.fw_flow.specs.declared.restoring.Restoring.TheVariants.{Batches, Bound, Anything, Checkpoints, Events}
 use Rattle.fw_flow.specs.Restoring.{restoring, way_of}
-use Rattle.fw_model.specs.Steps.{Effect, Outcome, did, idle, LeadsTo, Steps, Run, write_of_event, checkpoint_of, is_eager, same_front, is_within, GrowsTo, AcknowledgesOldest, is_one_of, is_in_flight, is_kept_write, kept_writes, IsSettledCut, CutsTo, lies_below, after_collection, front_of_cut}
+use Rattle.fw_model.specs.Steps.{Effect, Outcome, did, idle, LeadsTo, Steps, Run, write_of_event, checkpoint_of, is_eager, GrowsTo, AcknowledgesOldest, is_one_of, is_in_flight, is_kept_write, kept_writes, IsSettledCut, CutsTo, lies_below, after_collection, front_of_cut}
 use Rattle.fw_model.specs.LawsOfRecoveries.{CandidatesLieWithinSettled}
 use Rattle.fw_model.proofs.Decisions.{two_ways}
 use Rattle.fw_model.proofs.RunLaws.{none-inside}
@@ -83,20 +83,6 @@ settled-grows sys state done settled g p l t i = elim (cases_Bool (is_failed sta
   | inl lost ↦ subst (λ os. frontier_of (bounds_of sys.flow p) os t ≡ true) (sym (g.failed p l lost)) i
   | inr live ↦ (g.each p l live).same t ∙ or_left (frontier_of (bounds_of sys.flow p) (front_of state.settled p) t) (done p t) i
 ]
-
--- a front all of whose outside stamps are outside another holds it
-pub is_within-holds : (b : Bounds) (g f : Front) → is_within g f ≡ true → Within (frontier_of b g) (frontier_of b f)
-is_within-holds b g f k t i =
-    let a = and_parts (in_domain b t) (inside g t) i in
-    and_from (in_domain b t) (inside f t) a.0 (all_outside f k)
-  where
-    all_outside : (os : Front) → list_all (λ o. not (inside g o)) os ≡ true → inside os t ≡ true
-    all_outside [] k = refl
-    all_outside (o ∷ os) k =
-        let x = and_parts (not (inside g o)) (list_all (λ o. not (inside g o)) os) k in
-        let above : leq o t ≡ false = false_from_ne_true (leq o t) (λ l.
-        two_ways (not (inside g o)) x.0 (ap not (inside-closed g o t l (and_parts (in_domain b t) (inside g t) i).1))) in
-        and_from (not (leq o t)) (inside os t) (ap not above) (all_outside os x.1)
 
 cut-settled : (sys : System) (p : ℕ) (cut : Cut) (before after g : Front) (low : List Front) (h : List Numbered) → IsSettledCut sys p cut before after
     → is_kept_write cut (checkpoint g low) h ≡ true → Within (frontier_of (bounds_of sys.flow p) g) (frontier_of (bounds_of sys.flow p) before)

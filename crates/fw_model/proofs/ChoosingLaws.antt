@@ -3,7 +3,7 @@ use Rattle.std.proofs.Common.{◌≡◌, ℕ, ◌+◌, ◌<◌, Bool, true, not,
 use Rattle.std.specs.List.{AllByRecursion}
 use Rattle.std.proofs.lemmas.Bool.{and_parts, cond_both}
 use Rattle.fw_frontier.specs.Frontier.{Within}
-use Rattle.fw_frontier.specs.Front.{Front, frontier_of, IsCanonical}
+use Rattle.fw_frontier.specs.Front.{Front, frontier_of, IsCanonical, same_front, is_within}
 use Rattle.fw_flow.specs.declared.choice.Cut.{Cut}
 use Rattle.fw_flow.specs.declared.choice.Cut.TheVariants.{Present, At}
 use Rattle.fw_flow.specs.declared.event.Event.TheVariants.{Inject as Injected, Deliver as Delivered, Notify as Notified}
@@ -19,7 +19,7 @@ use Rattle.fw_flow.specs.declared.choice.Choice.{Choice}
 use Rattle.fw_model.specs.Choice.{View, kept, ever, IsRestorable, IsCandidate, cut_of, IsConsistent, IsCutWithin, IsLargest, filtered}
 use Rattle.fw_flow.specs.declared.restoring.Restoring.{Restoring}
 use Rattle.fw_flow.specs.declared.restoring.Restoring.TheVariants.{Batches, Bound, Anything, Checkpoints, Events}
-use Rattle.fw_model.specs.Steps.{Effect, Outcome, did, idle, LeadsTo, Run, write_of_event, checkpoint_of, is_eager, same_front, is_within, eager_writes, is_one_of, is_in_flight, without_lost, with_failed, is_kept_write, lies_below, after_collection, front_of_cut}
+use Rattle.fw_model.specs.Steps.{Effect, Outcome, did, idle, LeadsTo, Run, write_of_event, checkpoint_of, is_eager, eager_writes, is_one_of, is_in_flight, without_lost, with_failed, is_kept_write, lies_below, after_collection, front_of_cut}
 use Rattle.fw_model.specs.LawsOfDenotation.{enough_rounds}
 use Rattle.fw_model.specs.LawsOfExistence.{AreCheckpointsChains}
 use Rattle.fw_model.specs.LawsOfFiltering.{IsFull}
@@ -34,7 +34,8 @@ use Rattle.fw_model.proofs.RecoveryLaws.{IsLegalAndDenoted, all_kinds-denote, fi
 use Rattle.fw_model.proofs.SomeNextLaws.{exactly_one_next, recover-enabled}
 use Rattle.fw_model.proofs.SameInsideLaws.{at_node, IsLowConsistent}
 use Rattle.fw_model.proofs.WriteLaws.{some-checkpoint, checkpoint-some, pairs-append, pairs-passed, pairs-mapped, pairs-replaced, LiesBelow, IsWriteBelow, AreAscending, settled-below, ascending-chain, IsCollectedBelow, IsWriteCollectedBelow, kept-from_ever}
-use Rattle.fw_model.proofs.LowLaws.{event-low, same-low, keep-append, keep-all, keep-acknowledged, keep-failed, set-grows, at_most-refl, candidate-ever, offered-consistent, low-any, low-within, within-is, recovery-low, watermark-front, collection-low, first-low}
+use Rattle.fw_frontier.proofs.NamesLaws.{within-is}
+use Rattle.fw_model.proofs.LowLaws.{event-low, same-low, keep-append, keep-all, keep-acknowledged, keep-failed, set-grows, at_most-refl, candidate-ever, offered-consistent, low-any, low-within, recovery-low, watermark-front, collection-low, first-low}
 use Rattle.fw_model.proofs.DomainLaws.{has_epochs}
 use Rattle.fw_time.proofs.EachLaws.{each-weaker, each-append, each-one, each-map}
 use Rattle.fw_flow.specs.Restoring.{way_of}

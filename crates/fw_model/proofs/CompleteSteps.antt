@@ -9,7 +9,7 @@ use Rattle.fw_time.specs.declared.stamp.Bounds.{Bounds}
 use Rattle.fw_time.proofs.EachLaws.{each-prefix, each-suffix, each-of_all, all-of_each}
 use Rattle.fw_frontier.specs.Frontier.{Frontier, Within, meet}
 use Rattle.fw_frontier.specs.Front.{Front, inside, frontier_of, IsCanonical, Names}
-use Rattle.fw_frontier.proofs.NamesLaws.{frontier-closed, none_inside-within, within_domain-none_inside}
+use Rattle.fw_frontier.proofs.NamesLaws.{frontier-closed, is_within-inside, within-is}
 use Rattle.fw_flow.specs.declared.event.Event.{Event}
 use Rattle.fw_flow.specs.declared.event.Event.TheVariants.{Inject, Deliver, Notify}
 use Rattle.fw_flow.specs.declared.event.Message.{Message}
@@ -318,8 +318,8 @@ fewer_left sys h fronts lower a c n k =
     elim (total-less top (family_of sys.flow lower) (family_of sys.flow fronts) within (length sys.flow.nodes)) [
       | inr l ↦ l
       | inl s ↦ absurd (k (λ p l.
-          none_inside-within (front_of fronts p) (front_of lower p)
-          (within_domain-none_inside (bounds_of sys.flow p) (front_of fronts p) (front_of lower p) (n p (omega arith)).canonical
+          is_within-inside (front_of fronts p) (front_of lower p)
+          (within-is (bounds_of sys.flow p) (front_of fronts p) (front_of lower p) (n p (omega arith)).canonical
           (λ t i. covered sys fronts lower s.0 p (omega arith) t i))))
     ]
   where

@@ -3,7 +3,7 @@ use Rattle.std.proofs.Common.{◌≡◌, ◌↔◌, ℕ, ◌<◌, Bool, true, fa
 use Rattle.std.specs.List.{AllByRecursion, list_any}
 use Rattle.std.proofs.lemmas.Bool.{not-true, and_parts, and_from, or_parts, or_cases, or_left, or_right, cond_both, eqb-true, false_from_ne_true}
 use Rattle.fw_frontier.specs.Frontier.{Within}
-use Rattle.fw_frontier.specs.Front.{Front, frontier_of, IsCanonical}
+use Rattle.fw_frontier.specs.Front.{Front, frontier_of, IsCanonical, same_front, is_within}
 use Rattle.fw_flow.specs.declared.choice.Cut.TheVariants.{At}
 use Rattle.fw_flow.specs.declared.event.Event.{Event}
 use Rattle.fw_flow.specs.declared.event.Event.TheVariants.{Inject as Injected, Deliver as Delivered, Notify as Notified}
@@ -18,14 +18,15 @@ use Rattle.fw_model.specs.History.{IsEnabled}
 use Rattle.fw_model.specs.Machine.{Machine, Numbered, Write, Written, checkpoint, logged_event, Progress, in_flight, acknowledged, collected, events, places, first_state, front_of, is_failed}
 use Rattle.fw_flow.specs.declared.choice.Choice.{Choice}
 use Rattle.fw_model.specs.Choice.{kept, ever, counts, IsLogged, IsRestorable, IsCandidate, cut_of, kept_of, IsConsistent, filtered}
-use Rattle.fw_model.specs.Steps.{Effect, Outcome, did, idle, LeadsTo, Run, write_of_event, with_event, same_front, is_within, checkpoint_of, is_eager, is_one_of, is_in_flight, is_kept_write, front_of_cut, is_given_up, is_serial_given_up, lies_below, after_collection}
+use Rattle.fw_model.specs.Steps.{Effect, Outcome, did, idle, LeadsTo, Run, write_of_event, with_event, checkpoint_of, is_eager, is_one_of, is_in_flight, is_kept_write, front_of_cut, is_given_up, is_serial_given_up, lies_below, after_collection}
 use Rattle.fw_model.specs.LawsOfRestoring.{WhatIsForgottenWasAcknowledged, CollectedIsWhatLiesBelow}
 use Rattle.fw_model.proofs.Decisions.{two_ways}
 use Rattle.fw_model.proofs.FilterLaws.{any-filter}
-use Rattle.fw_model.proofs.CheckpointLaws.{is_within-holds, each-passed, each-replaced}
+use Rattle.fw_frontier.proofs.NamesLaws.{is_within-holds, within-is}
+use Rattle.fw_model.proofs.CheckpointLaws.{each-passed, each-replaced}
 use Rattle.fw_model.proofs.SameInsideLaws.{at_node}
 use Rattle.fw_model.proofs.WriteLaws.{HoldsOfOne, IsCheckpointAt, IsItsCheckpoint, NamesEvent, LogsEvent, some-checkpoint, some-logged, ArePairs, LiesBelow, AreAscending}
-use Rattle.fw_model.proofs.LowLaws.{at_most-refl, low-within_settled, event-outside, within-is, none-within, watermark-front, kept-counts}
+use Rattle.fw_model.proofs.LowLaws.{at_most-refl, low-within_settled, event-outside, none-within, watermark-front, kept-counts}
 use Rattle.fw_model.proofs.ChoosingLaws.{settled_writes}
 use Rattle.fw_model.proofs.AskedLaws.{takes-declared, takes-restoring, takes-not_input, AreSerialsBelow, serials-each, any-find, LowGrows, given-stamp, given-grows, IsAskedWell, IsWriteAskedWell, IsApart, low-grows, CanRecoverAndRestore, took-reached, first-reached, reached-all}
 use Rattle.fw_model.proofs.RestoringLaws.{full-reached, low-kept, apart-events, all-logged, full-restoring, full-declared}

@@ -8,7 +8,7 @@ use Rattle.fw_time.specs.Stamp.{Stamp, leq, same, in_domain, origin}
 use Rattle.fw_time.specs.declared.stamp.Bounds.{Bounds}
 use Rattle.fw_time.proofs.EachLaws.{each-weaker, each-both, all-of_each}
 use Rattle.fw_frontier.specs.Frontier.{Frontier, Within, nothing, cover}
-use Rattle.fw_frontier.specs.Front.{Front, inside, frontier_of, IsCanonical}
+use Rattle.fw_frontier.specs.Front.{Front, inside, frontier_of, IsCanonical, is_within}
 use Rattle.fw_frontier.proofs.CanonicalLaws.{in_domain-canonical}
 use Rattle.fw_frontier.proofs.NamesLaws.{names-nothing, all-outside}
 use Rattle.fw_flow.specs.declared.choice.Cut.{Cut}
@@ -30,7 +30,7 @@ use Rattle.fw_flow.specs.declared.restoring.Restoring.{Restoring}
 use Rattle.fw_flow.specs.declared.restoring.Restoring.TheVariants.{Batches, Bound, Anything, Checkpoints, Events}
 use Rattle.fw_flow.specs.Restoring.{restoring, can_resend, way_of}
 use Rattle.fw_model.specs.Covers.{takes_its_cut, takes_its_notes, set_of, discarded_at, covers_in, tallies_in}
-use Rattle.fw_model.specs.Steps.{write_of_event, with_event, is_within, AcknowledgesOldest, is_one_of, is_in_flight, has_serial, is_kept_write, IsSettledCut, CutsTo, recovered, lies_below, after_collection, collected_writes, front_of_cut}
+use Rattle.fw_model.specs.Steps.{write_of_event, with_event, AcknowledgesOldest, is_one_of, is_in_flight, has_serial, is_kept_write, IsSettledCut, CutsTo, recovered, lies_below, after_collection, collected_writes, front_of_cut}
 use Rattle.fw_model.specs.LawsOfLegalHistories.{HasEpochs}
 use Rattle.fw_model.specs.LawsOfFiltering.{IsFull, AreFrontiers, kept_events}
 use Rattle.fw_model.specs.LawsOfChoosing.{low_choice}
@@ -360,15 +360,6 @@ within-set sys p f Present k t i = (and_parts (in_domain (bounds_of sys.flow p) 
 within-set sys p f (At g) k t i = k t i
 
 -- ---- a recovery
-
--- a front within a canonical one passes the test
-pub within-is : (b : Bounds) (f g : Front) → IsCanonical b g → Within (frontier_of b f) (frontier_of b g) → is_within f g ≡ true
-within-is b f g c w =
-    all-of_each (λ o. not (inside f o)) g
-    (each-weaker (λ o. (in_domain b o ≡ true) × (inside g o ≡ false)) (λ o. not (inside f o) ≡ true) g
-    (λ o a. ap not (false_from_ne_true (inside f o) (λ k.
-    two_ways (inside g o) (and_parts (in_domain b o) (inside g o) (w o (and_from (in_domain b o) (inside f o) a.0 k))).1 a.1)))
-    (each-both (λ o. in_domain b o ≡ true) (λ o. inside g o ≡ false) g (in_domain-canonical b g c) (all-outside g)))
 
 -- a checkpoint within a cut that is offered is kept
 checkpoint-kept : (sys : System) (state : Machine) (lost : ℕ → Bool) (view : View) (h : List Numbered) (p : ℕ) (f : Front) (low : List Front) (cut : Cut)

@@ -39,7 +39,8 @@ use Rattle.fw_model.proofs.Decisions.{two_ways}
 use Rattle.fw_model.proofs.DenotationLaws.{denotation-exists}
 use Rattle.fw_model.proofs.FilterLaws.{filter-inner}
 use Rattle.fw_model.proofs.FilteredLaws.{filtered-events, set-frontier}
-use Rattle.fw_model.proofs.CheckpointLaws.{HoldsSettled, IsWriteSettled, is_within-holds, each-passed}
+use Rattle.fw_frontier.proofs.NamesLaws.{is_within-holds}
+use Rattle.fw_model.proofs.CheckpointLaws.{HoldsSettled, IsWriteSettled, each-passed}
 use Rattle.fw_model.proofs.SameInsideLaws.{at_node, low-offered}
 use Rattle.fw_model.proofs.WriteLaws.{HoldsOfOne, some-weaker, IsCheckpointAt, IsItsCheckpoint, NamesEvent, LogsEvent, some-checkpoint, some-logged, ArePairs}
 use Rattle.fw_model.proofs.LowLaws.{input-is, batch-outside, settled-outside, low-within, within-set}

@@ -7,7 +7,7 @@ use Rattle.fw_time.specs.Stamp.{Stamp, leq, same, stamp_cmp}
 use Rattle.fw_bag.specs.declared.rec.Rec.{Rec}
 use Rattle.fw_bag.specs.Keyed.{sorted}
 use Rattle.fw_frontier.specs.Frontier.{Frontier, meet, join}
-use Rattle.fw_frontier.specs.Front.{Front, inside, frontier_of, Names}
+use Rattle.fw_frontier.specs.Front.{Front, frontier_of, same_front, is_within, Names}
 use Rattle.fw_flow.specs.declared.choice.Cut.{Cut}
 use Rattle.fw_flow.specs.declared.choice.Cut.TheVariants.{Present, At}
 use Rattle.fw_flow.specs.declared.event.Event.{Event}
@@ -69,14 +69,6 @@ pub record IsNextNotice (sys : System) (h : List Event) (p : ℕ) (at : Option S
   pub enabled : IsEnabled sys h (Notified p t)
   pub asked : IsAsked at t
   pub least : (other : Stamp) → IsEnabled sys h (Notified p other) → IsAsked at other → is_gt (stamp_cmp t other) ≡ false
-
--- whether the frontiers have one list of outside stamps: for canonical fronts of one domain, whether they are one
-abbrev pub same_front : Front → Front → Bool
-same_front f g = is_eq (slice_cmp stamp_cmp f g)
-
--- whether each outside stamp of f is outside g: for canonical fronts of one domain, whether g lies within f
-abbrev pub is_within : Front → Front → Bool
-is_within g f = list_all (λ o. not (inside g o)) f
 
 -- the checkpoint that node p asks of f
 abbrev pub checkpoint_of : Machine → ℕ → Front → Write

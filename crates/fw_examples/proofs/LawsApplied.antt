@@ -77,7 +77,7 @@ steps_apply =
     }
 
 pub choices_apply : ChoicesApply
-unfolding bounds_of kind_of sender
+unfolding bounds_of kind_of sender receiver
 choices_apply = record {
   one = λ law other is. law totals output_failed (is_failed output_failed) kept two_epochs_kept other something_is_chosen.largest is;
   have_union = λ law. law totals output_failed (is_failed output_failed) ever (two_kept_noting (until 0)) epoch_kept choices_unite.one choices_unite.other;
@@ -86,7 +86,7 @@ choices_apply = record {
       (choices_unite.one.offered 1 (lit< tt)) (choices_unite.other.offered 1 (lit< tt)) (choices_unite.union.cuts 1 (lit< tt))
       (λ way. something_is_chosen.chains 1 (At (until 2)) (At (until 1)) (lit< tt) way
       (choices_unite.one.offered 1 (lit< tt)) (choices_unite.other.offered 1 (lit< tt)));
-  delivered = λ law. law two_batches counting_failed inc 2 (At counted_rounds) (At first_rounds) (At both_rounds) cuts_unite.union;
+  delivered = λ law. law two_batches counting_failed 2 (At counted_rounds) (At first_rounds) (At both_rounds) cuts_unite.union;
   notified = λ law. law totals output_failed 1 (At (until 2)) (At (until 1)) (At (until 2)) (choices_unite.union.cuts 1 (lit< tt));
   discarded = λ law. law two_batches counting_failed 3 (At counted_rounds) (At first_rounds) (At both_rounds) cuts_unite.union;
   consistent = λ law. law totals output_failed (is_failed output_failed) ever (two_kept_noting (until 0)) epoch_kept (two_kept_noting (until 1))

@@ -14,11 +14,10 @@ use Rattle.fw_flow.specs.declared.kind.Kind.TheVariants.{Sequence}
 use Rattle.fw_flow.specs.Dataflow.{kind_of, policy_of, sender, receiver, bounds_of, batches_of, greatest_number}
 use Rattle.fw_flow.specs.NodeFunction.{sends}
 use Rattle.fw_flow.specs.Projection.{all_inside, phi, phi_by_count}
-use Rattle.fw_model.specs.Choice as machine
 use Rattle.fw_model.specs.Choice.{kept, until, IsCandidate}
-use Rattle.fw_model.specs.Covers.{covers_in}
+use Rattle.fw_model.specs.Covers.{stamps_from, covers_in}
 use Rattle.fw_model.specs.Machine.{is_failed}
-use Rattle.fw_model.specs.Offers.{covers_of, stamps_from, AreAscending, AreFromEpochs, AreOffersOf, AreOffersIn, IsOffered, sent_by}
+use Rattle.fw_model.specs.Offers.{covers_of, stamps_on_from, AreAscending, AreFromEpochs, AreOffersOf, AreOffersIn, IsOffered, sent_by}
 use Rattle.fw_examples.specs.OffersOfTotals.{offers_of_totals, CheckpointsAreOffered}
 use Rattle.fw_examples.specs.RunningTotal.{totals, total_flow, output_failed, two_epochs_kept, two_kept_noting, at_epoch}
 use Rattle.fw_examples.proofs.ChoiceFacts.{by_three, canonical}
@@ -183,7 +182,7 @@ one_sent true m xs ms e = ap (λ ts. m.at ∷ ts) e
 one_sent false m xs ms e = e
 
 -- what comes from a frontier among them
-sent_from_input : (f : Frontier) (ms : List Message) → stamps_from 0 f (map alone_from_input ms) ≡ machine.stamps_from f ms
+sent_from_input : (f : Frontier) (ms : List Message) → stamps_on_from 0 f (map alone_from_input ms) ≡ stamps_from f ms
 sent_from_input f [] = refl
 sent_from_input f (m ∷ ms) =
     one_sent (all_inside f m.causes) m (filter (λ (x : Counted). x.edge == 0 && all_inside f x.causes) (map alone_from_input ms))

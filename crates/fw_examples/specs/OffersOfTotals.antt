@@ -9,13 +9,12 @@ use Rattle.fw_flow.specs.declared.choice.Cut.TheVariants.{Present, At}
 use Rattle.fw_flow.specs.declared.choice.Offer.{Offer}
 use Rattle.fw_flow.specs.declared.choice.Offered.TheVariants.{Listed, Between}
 use Rattle.fw_flow.specs.declared.choice.Recorded.{Recorded}
-use Rattle.fw_flow.specs.declared.restoring.Restoring.TheVariants.{Checkpoints}
-use Rattle.fw_model.specs.Choice.{until, IsConsistentBy, IsLargestBy}
+use Rattle.fw_flow.specs.Dataflow.{kind_of, policy_of}
+use Rattle.fw_model.specs.Choice.{by_checkpoints, restoring, until, IsConsistentBy, IsLargestBy}
 use Rattle.fw_model.specs.Machine.{is_failed}
-use Rattle.fw_model.specs.LawsOfOffers.{ConsistentByOffersIsConsistent, LargestByOffersIsLargest}
-use Rattle.fw_model.specs.Offers.{AreAscending, AreOffersIn, IsOffered, covers_of, records_of}
+use Rattle.fw_monitor.specs.LawsOfOffers.{ConsistentByOffersIsConsistent, LargestByOffersIsLargest}
+use Rattle.fw_monitor.specs.Offers.{AreAscending, AreOffersIn, IsOffered, covers_of, records_of}
 use Rattle.fw_examples.specs.RunningTotal.{totals, total_flow, run, src_to_run, run_to_out, output_failed, two_kept_noting, two_epochs_kept}
-use Rattle.fw_flow.specs.Restoring.{way_of}
 
 -- A vector of these elements. Where they lie in memory plays no part: here they have no place.
 abbrev pub vec_of : {X : Type 0} (xs : List X) → length xs < 2 ^ 63 → Vec X Global
@@ -95,13 +94,13 @@ offers_of_totals = offer_of_input ∷ offer_of_total ∷ offer_of_output ∷ []
 -- The data are what the machine offers in the state of the failure, with an acknowledged checkpoint as a record. So the laws
 -- of offers give what is consistent and what is largest by the data.
 pub record CheckpointsAreOffered : Type 0 where
-  pub way : way_of total_flow run ≡ Checkpoints
+  pub way : restoring (kind_of total_flow run) (policy_of total_flow run) ≡ by_checkpoints
   pub recorded : records_of offers_of_totals run ≡ record_of_checkpoint ∷ []
   pub offered : IsOffered total_flow offers_of_totals run (At (until 2))
   pub present : IsOffered total_flow offers_of_totals run Present
   pub ascending : AreAscending total_flow offers_of_totals
   pub same : AreOffersIn totals output_failed (is_failed output_failed) offers_of_totals
   pub consistent : ConsistentByOffersIsConsistent
-      → IsConsistentBy total_flow (covers_of total_flow offers_of_totals) (IsOffered total_flow offers_of_totals) (two_kept_noting (until 0))
+      → IsConsistentBy totals (covers_of totals offers_of_totals) (IsOffered total_flow offers_of_totals) (two_kept_noting (until 0))
   pub largest : LargestByOffersIsLargest
-      → IsLargestBy total_flow (covers_of total_flow offers_of_totals) (IsOffered total_flow offers_of_totals) two_epochs_kept
+      → IsLargestBy totals (covers_of totals offers_of_totals) (IsOffered total_flow offers_of_totals) two_epochs_kept

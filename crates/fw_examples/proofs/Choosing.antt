@@ -6,7 +6,7 @@ use Rattle.std.proofs.lemmas.Bool.Decides.{nat_tests}
 use Rattle.fw_bag.proofs.OrderingLaws.{equal_from_is_eq}
 use Rattle.fw_time.specs.Stamp.{Stamp, in_domain, leq, same}
 use Rattle.fw_time.specs.declared.stamp.Bounds.{Bounds}
-use Rattle.fw_frontier.specs.Front.{Front, IsCanonical, Names, frontier_of}
+use Rattle.fw_frontier.specs.Front.{Front, IsCanonical, Names, frontier_of, same_front}
 use Rattle.fw_frontier.specs.Frontier.{Frontier, IsFrontier, Within, cover, everything, meet, nothing, some_above}
 use Rattle.fw_frontier.specs.Outside.{none_inside}
 use Rattle.fw_frontier.proofs.NamesLaws.{frontier-closed, none_inside-within_domain}
@@ -20,10 +20,10 @@ use Rattle.fw_flow.specs.declared.choice.Cut.TheVariants.{At, Present}
 use Rattle.fw_flow.specs.declared.event.Event.{Event}
 use Rattle.fw_flow.specs.declared.event.Message.{Message}
 use Rattle.fw_flow.specs.declared.step.Step.TheVariants.{Recover}
-use Rattle.fw_model.specs.Choice.{AllLogged, ComesFromSender, HasCheckpoint, HasItsNotices, HoldsLow, IsCandidate, IsChoiceWithin, IsConsistent, IsCutWithin, IsLargest, IsLogged, IsNoteKept, IsRestorable, LiesInReceiver, NoteComesFromSender, Restoring, View, by_anything, by_batches, by_bound, by_checkpoints, by_events, can_resend, counts, covers_in, cut_of, delivered_cover, discarded_at, discarded_cover, ever, kept, kept_of, notified_cover, notified_inside, restoring, sent_cover, set_of, stamps_from, stamps_inside, takes_its_cut, takes_its_notes, until}
+use Rattle.fw_model.specs.Choice.{AllLogged, ComesFromSender, HasCheckpoint, HasItsNotices, HoldsLow, IsCandidate, IsChoiceWithin, IsConsistent, IsCutWithin, IsLargest, IsLogged, IsNoteKept, IsRestorable, LiesInReceiver, NoteComesFromSender, View, by_anything, by_batches, by_bound, by_checkpoints, by_events, counts, cut_of, ever, kept, kept_of, sent_cover, until}
 use Rattle.fw_model.specs.History.{delivered, injected_count, is_exhausted, sent}
 use Rattle.fw_model.specs.Machine.{Machine, Numbered, Write, Written, bound_of, checkpoint, events, front_of, is_failed, logged_event, no_stamps}
-use Rattle.fw_model.specs.Steps.{IsSettledCut, Steps, checkpoint_front, cuts, did, front_of_cut, offers, recovered, same_front}
+use Rattle.fw_model.specs.Steps.{IsSettledCut, Steps, checkpoint_front, cuts, did, front_of_cut, offers, recovered}
 use Rattle.fw_model.proofs.CmpLaws.{fronts_cmp-same}
 use Rattle.fw_model.proofs.Decisions.{two_ways}
 use Rattle.fw_model.proofs.FilteredLaws.{set-frontier}
@@ -32,6 +32,9 @@ use Rattle.fw_model.proofs.StampLaws.{same-is}
 use Rattle.fw_examples.proofs.Fronts.{canonical_by, cover_within_by, is_canonical, meet_by, meet_other, within_outside}
 use Rattle.fw_examples.proofs.Places.{each_below, each_below-at}
 use Rattle.fw_examples.proofs.Settling.{from_psi, from_sender, into_phi, is_from_sender, is_plain, one_domain}
+use Rattle.fw_flow.specs.Lib.{Restoring}
+use Rattle.fw_flow.specs.Restoring.{can_resend, restoring}
+use Rattle.fw_model.specs.Covers.{covers_in, delivered_cover, discarded_at, discarded_cover, notified_cover, notified_inside, set_of, stamps_from, stamps_inside, takes_its_cut, takes_its_notes}
 
 fronts_equal : (f g : Front) → same_front f g ≡ true → f ≡ g
 fronts_equal f g e = fronts_cmp-same f g (equal_from_is_eq _ e)

@@ -4,12 +4,11 @@ use Rattle.std.proofs.lemmas.Bool.{and_from, and_parts, false≢true}
 use Rattle.std.proofs.lemmas.Bool.Decides.{nat_tests}
 use Rattle.fw_time.proofs.EachLaws.{each-one}
 use Rattle.fw_frontier.proofs.NamesLaws.{frontier-closed}
-use Rattle.fw_flow.specs.Dataflow.{batches_of, bounds_of, kind_of, max_of, policy_of, receiver, sender}
+use Rattle.fw_flow.specs.Dataflow.{batches_of, bounds_of, kind_of, max_of, policy_of, receiver, sender, NotifiesNobody}
 use Rattle.fw_flow.specs.NodeFunction.{sends}
 use Rattle.fw_flow.specs.Projection.{phi}
 use Rattle.fw_model.specs.Choice.{kept, until}
 use Rattle.fw_model.specs.History.{delivered}
-use Rattle.fw_model.specs.LawsOfFiltering.{ComeFromKept, MeetsInclusions, NotifiesNobody}
 use Rattle.fw_model.specs.Machine.{front_of, is_failed}
 use Rattle.fw_model.proofs.FilteredLaws.{choice-consistent, consistent-meets, set-frontier}
 use Rattle.fw_model.proofs.RecoveryLaws.{denoted-full}
@@ -29,6 +28,7 @@ use Rattle.fw_examples.proofs.TotalChoices.{kept_consistent}
 use Rattle.fw_examples.proofs.TotalRun.{totals_formed}
 use Rattle.fw_examples.proofs.TotalWitnesses.{some_is_settled, total_is_legal, totals_are_well_formed}
 use Rattle.fw_examples.proofs.Walks.{is_well_formed}
+use Rattle.fw_model.specs.Filtering.{ComeFromKept, MeetsInclusions}
 
 -- ---- the running total
 

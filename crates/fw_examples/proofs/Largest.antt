@@ -10,7 +10,7 @@ use Rattle.fw_flow.specs.declared.choice.Choice.{Choice}
 use Rattle.fw_flow.specs.declared.choice.Cut.{Cut}
 use Rattle.fw_flow.specs.declared.choice.Cut.TheVariants.{At}
 use Rattle.fw_flow.specs.declared.step.Step.TheVariants.{Recover}
-use Rattle.fw_model.specs.Choice.{IsConsistent, IsCutWithin, IsLargest, cut_of, delivered_cover, discarded_cover, kept, kept_of, note_of}
+use Rattle.fw_model.specs.Choice.{IsConsistent, IsCutWithin, IsLargest, cut_of, kept, kept_of, note_of}
 use Rattle.fw_model.specs.Machine.{events, is_failed}
 use Rattle.fw_model.specs.Steps.{Steps, cuts, did, offers, recovered}
 use Rattle.fw_examples.specs.Flows.{loop_counts_up, two_batches}
@@ -20,6 +20,7 @@ use Rattle.fw_examples.proofs.Choosing.{canonical_notes, notified_by, offered_by
 use Rattle.fw_examples.proofs.Complete.{feeds_more, leaves_more}
 use Rattle.fw_examples.proofs.Orders.{within_one, within_two}
 use Rattle.fw_examples.proofs.Places.{by_seven}
+use Rattle.fw_model.specs.Covers.{delivered_cover, discarded_cover}
 
 delivered_kept : (d : ℕ) → d < 7
     → Within (delivered_cover two_batches counting_failed (receiver loop_counts_up d) d (cut_of restored (receiver loop_counts_up d))) (phi two_batches (events (with_serials under_way)) d (kept_of two_batches restored (sender loop_counts_up d)))

@@ -1,13 +1,13 @@
 -- The runs with a collection of what nodes log, and the failure after two of them.
 use Rattle.std.proofs.Common.{List, None, [], drop, lit<, refl, true, ◌++◌, ◌∷◌}
 use Rattle.fw_frontier.specs.Front.{Front}
-use Rattle.fw_flow.specs.Dataflow.{batches_of, bounds_of, kind_of, out_edges, policy_of, receiver, sender}
+use Rattle.fw_flow.specs.Dataflow.{batches_of, bounds_of, kind_of, out_edges, policy_of, receiver, sender, places}
 use Rattle.fw_flow.specs.NodeFunction.{sends}
 use Rattle.fw_flow.specs.Projection.{phi, psi}
 use Rattle.fw_flow.specs.WellFormed.{IsWellFormed}
 use Rattle.fw_flow.specs.declared.event.Event.TheVariants.{Notify as Notified}
 use Rattle.fw_model.specs.Choice.{IsWatermark, kept, until}
-use Rattle.fw_model.specs.Machine.{Machine, first_state, is_failed, places}
+use Rattle.fw_model.specs.Machine.{Machine, first_state, is_failed}
 use Rattle.fw_model.specs.Steps.{collected_writes, eager_writes, with_event}
 use Rattle.fw_examples.specs.LogsAfterCollection.{CollectsALoggedEvent, KeepsALogWithACheckpoint, KeepsEventsOfATotal, all_but_the_last, both_come_back, checkpoints_logged, event_collected, events_logged, first_epoch_everywhere, first_message, log_kept, low_but_for_the_last, none_collected, outcomes_with_checkpoints, outcomes_with_events, outcomes_with_total, second_message, steps_with_checkpoints, steps_with_events, steps_with_total, total_logged}
 use Rattle.fw_examples.specs.RunningTotal.{alike}

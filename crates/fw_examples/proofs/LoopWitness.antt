@@ -5,7 +5,6 @@ use Rattle.fw_flow.specs.NodeFunction.{sends}
 use Rattle.fw_flow.specs.WellFormed.{IsWellFormedSystem}
 use Rattle.fw_model.specs.History.{IsLegal, delivered, pending}
 use Rattle.fw_model.specs.Steps.{recovered}
-use Rattle.fw_model.proofs.DescentLaws.{less-none}
 use Rattle.fw_model.proofs.DomainLaws.{has_epochs}
 use Rattle.fw_model.proofs.RecoveryLaws.{runs-legal}
 use Rattle.fw_examples.specs.Flows.{two_batches}
@@ -17,6 +16,7 @@ use Rattle.fw_examples.proofs.Rounds.{two_batches_solves}
 use Rattle.fw_examples.proofs.Running.{loop_outcomes, loop_steps, runs_to_failure, runs_to_recovery, runs_to_the_end}
 use Rattle.fw_examples.proofs.Walks.{is_well_formed}
 use Rattle.fw_examples.proofs.WellFormed.{system_by}
+use Rattle.fw_flow.proofs.MessageLaws.{less-none}
 
 loop_system : IsWellFormedSystem two_batches
 unfolding kind_of batches_of

@@ -1,6 +1,6 @@
 -- The sequence whose numbers are regrouped: the dataflow is well formed, and the history is legal.
 use Rattle.std.proofs.Common.{List, None, Some, [], arith, drop, lit<, lit≤, refl, replicate, ℕ, ◌<◌, ◌∷◌}
-use Rattle.fw_flow.specs.Dataflow.{batches_of, bounds_of, in_edges, kind_of, out_edges, policy_of, receiver, sender}
+use Rattle.fw_flow.specs.Dataflow.{batches_of, bounds_of, in_edges, kind_of, out_edges, policy_of, receiver, sender, HasEpochs}
 use Rattle.fw_flow.specs.NodeFunction.{sends}
 use Rattle.fw_flow.specs.Projection.{phi}
 use Rattle.fw_flow.specs.WellFormed.{IsWellFormed, IsWellFormedSystem}
@@ -8,7 +8,6 @@ use Rattle.fw_flow.specs.declared.event.Event.TheVariants.{Notify as Notified}
 use Rattle.fw_flow.specs.declared.step.Step.{Step}
 use Rattle.fw_model.specs.Choice.{until}
 use Rattle.fw_model.specs.History.{IsLegal}
-use Rattle.fw_model.specs.LawsOfLegalHistories.{HasEpochs}
 use Rattle.fw_model.specs.Machine.{Machine, first_state}
 use Rattle.fw_model.specs.Steps.{Outcome, Run, did, quiet, with_event}
 use Rattle.fw_model.proofs.DomainLaws.{has_epochs}

@@ -17,7 +17,7 @@ use Rattle.fw_flow.specs.declared.choice.Cut.{Cut}
 use Rattle.fw_flow.specs.declared.choice.Cut.TheVariants.{At, Present}
 use Rattle.fw_flow.specs.declared.event.Message.{Message}
 use Rattle.fw_flow.specs.declared.kind.Kind.TheVariants.{Sequence}
-use Rattle.fw_model.specs.Choice.{IsCandidate, covers_in, kept, until}
+use Rattle.fw_model.specs.Choice.{IsCandidate, kept, until}
 use Rattle.fw_model.specs.Machine.{is_failed}
 use Rattle.fw_examples.specs.OffersOfTotals.{CheckpointsAreOffered, offers_of_totals}
 use Rattle.fw_examples.specs.RunningTotal.{at_epoch, output_failed, total_flow, totals, two_epochs_kept, two_kept_noting}
@@ -25,6 +25,7 @@ use Rattle.fw_examples.proofs.ChoiceWitnesses.{less_is_consistent}
 use Rattle.fw_examples.proofs.Fronts.{canonical_by}
 use Rattle.fw_examples.proofs.Places.{by_three}
 use Rattle.fw_examples.proofs.TotalWitnesses.{something_is_chosen, totals_are_well_formed}
+use Rattle.fw_model.specs.Covers.{covers_in}
 
 -- ---- covers of epoch 1
 

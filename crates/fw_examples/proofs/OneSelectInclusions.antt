@@ -11,7 +11,7 @@ use Rattle.fw_flow.specs.declared.choice.Choice.{Choice}
 use Rattle.fw_flow.specs.declared.choice.Cut.{Cut}
 use Rattle.fw_flow.specs.declared.choice.Cut.TheVariants.{At, Present}
 use Rattle.fw_flow.specs.declared.event.Message.{Message}
-use Rattle.fw_model.specs.Choice.{IsChoiceWithin, IsConsistent, IsCutWithin, cut_of, delivered_cover, kept, note_of}
+use Rattle.fw_model.specs.Choice.{IsChoiceWithin, IsConsistent, IsCutWithin, cut_of, kept, note_of}
 use Rattle.fw_model.specs.Machine.{Machine, events, first_state, is_failed}
 use Rattle.fw_model.specs.Steps.{offers}
 use Rattle.fw_examples.specs.Flows.{pair}
@@ -25,6 +25,7 @@ use Rattle.fw_examples.proofs.Plays.{Move, after_all, deliver, fail, inject, pla
 use Rattle.fw_examples.proofs.Settling.{from_phi}
 use Rattle.fw_examples.proofs.WellFormed.{select_is_well_formed}
 use Rattle.fw_flow.specs.declared.kind.Policy.TheVariants as policy
+use Rattle.fw_model.specs.Covers.{delivered_cover}
 
 -- the rec that is selected
 abbrev message : Message

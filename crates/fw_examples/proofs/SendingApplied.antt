@@ -6,10 +6,7 @@ use Rattle.fw_frontier.specs.Frontier.{IsFrontier, Within, join, meet}
 use Rattle.fw_frontier.proofs.NamesLaws.{frontier-closed}
 use Rattle.fw_flow.specs.Dataflow.{batches_of, bounds_of, in_edges, kind_of, max_of, receiver, sender}
 use Rattle.fw_flow.specs.declared.event.Event.TheVariants.{Deliver, Inject, Notify}
-use Rattle.fw_model.specs.Denotation.{IsDenotation, rounds}
-use Rattle.fw_model.specs.LawsOfDenotation.{AreInOrder}
-use Rattle.fw_model.specs.LawsOfProjections.{IsUnion}
-use Rattle.fw_model.specs.LawsOfSending.{AreEventsInDomain, IsNotifiedInOrder}
+use Rattle.fw_model.specs.Denotation.{IsDenotation, rounds, AreInOrder}
 use Rattle.fw_examples.specs.Flows.{loop_counts_up, pair, regroup_by_three, two_batches}
 use Rattle.fw_examples.specs.Numbers.{numbered_both, numbered_epoch, numbers, value_at}
 use Rattle.fw_examples.specs.Projections.{fed_back_edge}
@@ -21,6 +18,9 @@ use Rattle.fw_examples.specs.WitnessesOfFiltering.{kept_epoch}
 use Rattle.fw_examples.proofs.FilteringWitnesses.{sequence_is_filtered}
 use Rattle.fw_examples.proofs.TotalWitnesses.{totals_are_well_formed}
 use Rattle.fw_examples.proofs.Walks.{is_well_formed}
+use Rattle.fw_model.specs.Unions.{IsUnion}
+use Rattle.fw_model.specs.History.{AreEventsInDomain}
+use Rattle.fw_model.specs.Order.{IsNotifiedInOrder}
 
 counted_is_frontier : IsFrontier (bounds_of loop_counts_up (sender loop_counts_up fed_back_edge)) counted
 counted_is_frontier = frontier-closed _ counted_rounds

@@ -13,7 +13,7 @@ use Rattle.fw_frontier.specs.Front.{Front, all_in_domain, frontier_of, inside}
 use Rattle.fw_frontier.specs.Frontier.{Frontier, IsFrontier, Within, everything}
 use Rattle.fw_frontier.specs.Outside.{none_inside}
 use Rattle.fw_frontier.proofs.NamesLaws.{frontier-closed, none_inside-within_domain}
-use Rattle.fw_flow.specs.Dataflow.{Dataflow, System, bounds_of, bounds_of_domain, domain_of_kind, greatest_number, greatest_of_kind, is_input_kind, is_notified_kind, kind_of, out_domain_of_kind, receiver, sender}
+use Rattle.fw_flow.specs.Dataflow.{Dataflow, System, bounds_of, bounds_of_domain, domain_of_kind, greatest_number, greatest_of_kind, is_input_kind, is_notified_kind, kind_of, out_domain_of_kind, receiver, sender, places}
 use Rattle.fw_flow.specs.Projection.{first_number_of, phi, phi_of_kind, psi, psi_of_kind, sent_count}
 use Rattle.fw_flow.specs.WellFormed.{IsWellFormed}
 use Rattle.fw_flow.specs.declared.event.Event.{Event}
@@ -22,9 +22,8 @@ use Rattle.fw_flow.specs.declared.kind.Kind.{Kind}
 use Rattle.fw_flow.specs.declared.kind.Kind.TheVariants.{Enter, Feedback, Leave, Regroup, Sequence}
 use Rattle.fw_flow.specs.declared.node.Edge.{Edge}
 use Rattle.fw_flow.specs.declared.step.Step.TheVariants.{Progress}
-use Rattle.fw_model.specs.History.{IsAdmissible, IsComplete, IsNotifiable, IsQuiet, injected_count, injected_epochs, is_exhausted, owed, pending, some_at, was_delivered_to, was_notified}
-use Rattle.fw_model.specs.LawsOfDeliveries.{IsClosedFor}
-use Rattle.fw_model.specs.Machine.{Machine, events, front_of, is_failed, no_stamps, places}
+use Rattle.fw_model.specs.History.{IsAdmissible, IsComplete, IsNotifiable, IsQuiet, injected_count, injected_epochs, is_exhausted, owed, pending, some_at, was_delivered_to, was_notified, IsClosedFor}
+use Rattle.fw_model.specs.Machine.{Machine, events, front_of, is_failed, no_stamps}
 use Rattle.fw_model.specs.Plain.{family_of}
 use Rattle.fw_model.specs.Steps.{Steps, did, eager_writes, quiet, with_event}
 use Rattle.fw_model.proofs.ClearSteps.{input-bounds}

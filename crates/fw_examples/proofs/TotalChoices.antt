@@ -11,7 +11,6 @@ use Rattle.fw_flow.specs.declared.event.Event.TheVariants.{Notify as Notified}
 use Rattle.fw_flow.specs.declared.step.Step.{Step}
 use Rattle.fw_flow.specs.declared.step.Step.TheVariants.{Collect, Progress, Recover}
 use Rattle.fw_model.specs.Choice.{IsCandidate, IsChoiceWithin, IsConsistent, IsLargest, IsWatermark, cut_of, ever, kept, until}
-use Rattle.fw_model.specs.LawsOfChoices.{IsUnionOfChoices}
 use Rattle.fw_model.specs.Machine.{Machine, first_state, is_failed}
 use Rattle.fw_model.specs.Steps.{Outcome, Run, Steps, acked, collected_writes, cuts, did, lows, offers, quiet, recs_at_output, with_event}
 use Rattle.fw_model.proofs.GoingOn.{runs-go_on}
@@ -24,6 +23,7 @@ use Rattle.fw_examples.proofs.Plays.{Move, acknowledge, after_all, are_taken, as
 use Rattle.fw_examples.proofs.Settling.{notifies, settles}
 use Rattle.fw_examples.proofs.TotalRun.{runs_to_two, ten_acknowledged, totals_formed}
 use Rattle.fw_flow.specs.declared.step.Step.TheVariants as step
+use Rattle.fw_model.specs.Unions.{IsUnionOfChoices}
 
 -- ---- the collection
 

@@ -8,7 +8,6 @@ use Rattle.fw_flow.specs.declared.step.Step.TheVariants.{Recover}
 use Rattle.fw_model.specs.Choice.{ever, kept, until}
 use Rattle.fw_model.specs.Denotation.{IsDenotation}
 use Rattle.fw_model.specs.History.{IsLegal}
-use Rattle.fw_model.specs.LawsOfSteps.{CanChoose}
 use Rattle.fw_model.specs.Machine.{is_failed}
 use Rattle.fw_model.specs.Steps.{cuts, did}
 use Rattle.fw_model.proofs.ChoosingLaws.{checkpoints-chains}
@@ -20,6 +19,7 @@ use Rattle.fw_examples.proofs.Settling.{complete_by}
 use Rattle.fw_examples.proofs.TotalChoices.{after_failure, collects, epoch_consistent, failed_run, kept_consistent, kept_largest, recovers, run_through_recovery, run_without_failure, sum_acknowledged, two_collected, two_offered}
 use Rattle.fw_examples.proofs.TotalRun.{runs_to_two, ten_acknowledged, totals_formed}
 use Rattle.fw_examples.proofs.WellFormed.{system_by}
+use Rattle.fw_model.specs.Choosing.{CanChoose}
 
 totals_system : IsWellFormedSystem totals
 unfolding kind_of batches_of

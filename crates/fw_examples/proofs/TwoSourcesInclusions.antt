@@ -12,8 +12,7 @@ use Rattle.fw_flow.specs.declared.choice.Cut.{Cut}
 use Rattle.fw_flow.specs.declared.choice.Cut.TheVariants.{At, Present}
 use Rattle.fw_flow.specs.declared.event.Event.TheVariants.{Notify as Notified}
 use Rattle.fw_flow.specs.declared.event.Message.{Message}
-use Rattle.fw_model.specs.Choice.{IsChoiceWithin, IsConsistent, IsCutWithin, cut_of, kept, note_of, notified_cover}
-use Rattle.fw_model.specs.History.{without}
+use Rattle.fw_model.specs.Choice.{IsChoiceWithin, IsConsistent, IsCutWithin, cut_of, kept, note_of}
 use Rattle.fw_model.specs.Machine.{Machine, events, first_state, is_failed}
 use Rattle.fw_model.specs.Steps.{did, offers, quiet, with_event}
 use Rattle.fw_examples.specs.Flows.{pair}
@@ -27,6 +26,8 @@ use Rattle.fw_examples.proofs.Plays.{Move, after_all, deliver, fail, inject, pla
 use Rattle.fw_examples.proofs.Settling.{from_phi, notifies}
 use Rattle.fw_examples.proofs.WellFormed.{two_sources_is_well_formed}
 use Rattle.fw_flow.specs.declared.step.Step.TheVariants as step
+use Rattle.fw_model.specs.Covers.{notified_cover}
+use Rattle.fw_flow.specs.Message.{without}
 
 -- the recs, each at epoch 0
 abbrev first_rec : Message

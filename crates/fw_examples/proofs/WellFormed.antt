@@ -8,7 +8,7 @@ use Rattle.fw_bag.specs.Rec.{rec_cmp}
 use Rattle.fw_bag.specs.declared.rec.Rec.{Rec}
 use Rattle.fw_time.proofs.EachLaws.{each-of_all, each-weaker}
 use Rattle.fw_flow.specs.Dataflow.{Dataflow, System, batches_of, domain_of_kind, in_edges, is_input_kind, kind_of, out_domain_of_kind, out_edges, policy_of, receiver, sender}
-use Rattle.fw_flow.specs.WellFormed.{IsBatch, IsClosedWalk, IsGroupSize, IsInDegree, IsLoopDeclared, IsOutDegree, IsPolicyAllowed, IsWalk, IsWellFormed, IsWellFormedSystem}
+use Rattle.fw_flow.specs.WellFormed.{IsClosedWalk, IsGroupSize, IsInDegree, IsLoopDeclared, IsOutDegree, IsPolicyAllowed, IsWalk, IsWellFormed, IsWellFormedSystem}
 use Rattle.fw_flow.specs.declared.kind.Domain.TheVariants.{Epoch}
 use Rattle.fw_flow.specs.declared.kind.Kind.TheVariants.{Select, Total}
 use Rattle.fw_flow.specs.declared.kind.Policy.{Policy}
@@ -20,6 +20,7 @@ use Rattle.fw_examples.specs.RunningTotal.{summing, total_flow_of}
 use Rattle.fw_examples.specs.TwoSources.{two_sources_flow}
 use Rattle.fw_examples.proofs.Places.{by_five, by_six, by_three, by_two, each_below, each_below-at}
 use Rattle.fw_flow.specs.declared.kind.Policy.TheVariants as policy
+use Rattle.fw_lines.specs.Batches.{IsBatch}
 
 -- where each edge leads to a later node, a walk does
 walk_up : (flow : Dataflow) → ((e : ℕ) → e < length flow.edges → sender flow e < receiver flow e)

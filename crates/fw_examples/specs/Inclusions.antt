@@ -6,13 +6,14 @@ use Rattle.fw_flow.specs.declared.choice.Cut.TheVariants.{Present, At}
 use Rattle.fw_flow.specs.declared.step.Step.TheVariants.{Inject, Deliver, Notify, Fail}
 use Rattle.fw_flow.specs.Dataflow.{System, bounds_of}
 use Rattle.fw_flow.specs.declared.choice.Choice.{Choice}
-use Rattle.fw_model.specs.Choice.{ComesFromSender, LiesInReceiver, HasItsNotices, IsNoteKept, NoteComesFromSender, covers_in, cut_of, filtered, IsConsistent, IsLargest, IsChoiceWithin}
+use Rattle.fw_model.specs.Choice.{ComesFromSender, LiesInReceiver, HasItsNotices, IsNoteKept, NoteComesFromSender, cut_of, filtered, IsConsistent, IsLargest, IsChoiceWithin}
 use Rattle.fw_model.specs.History.{pending, IsLegal}
 use Rattle.fw_model.specs.Machine.{Machine, events, first_state, front_of}
 use Rattle.fw_model.specs.Steps.{Run, offers, did, quiet}
 use Rattle.fw_examples.specs.Flows.{pair}
 use Rattle.fw_examples.specs.OneSelect.{one_select, src, big, src_to_big, big_to_out}
 use Rattle.fw_examples.specs.TwoSources.{two_sources, first_source, second_source, low, tot, first_to_mix, second_to_low, mix_to_tot}
+use Rattle.fw_model.specs.Covers.{covers_in}
 
 -- the five inclusions of a consistent choice
 pub data Inclusion : Type 0 where

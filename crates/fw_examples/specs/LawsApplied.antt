@@ -12,13 +12,13 @@ use Rattle.fw_flow.specs.declared.event.Event.TheVariants.{Inject as Injected, D
 use Rattle.fw_flow.specs.declared.event.Message.{Message}
 use Rattle.fw_flow.specs.declared.step.Step.{Step}
 use Rattle.fw_flow.specs.declared.step.Step.TheVariants.{Recover, Collect}
-use Rattle.fw_flow.specs.Dataflow.{sender, receiver, bounds_of}
+use Rattle.fw_flow.specs.Dataflow.{sender, receiver, bounds_of, bounds_of_edge}
 use Rattle.fw_flow.specs.NodeFunction.{place, stamp}
 use Rattle.fw_flow.specs.Projection.{phi}
 use Rattle.fw_flow.specs.declared.choice.Choice.{Choice}
-use Rattle.fw_model.specs.Choice.{View, ever, kept, until, cut_of, kept_of, IsCandidate, IsConsistent, IsCutWithin, IsChoiceWithin, IsLargest, delivered_cover, notified_cover, discarded_cover, filtered}
+use Rattle.fw_model.specs.Choice.{View, ever, kept, until, cut_of, kept_of, IsCandidate, IsConsistent, IsCutWithin, IsChoiceWithin, IsLargest, filtered}
 use Rattle.fw_model.specs.Denotation.{bag_at}
-use Rattle.fw_model.specs.History.{IsAdmissible, IsComplete, IsLegal, pending, sent, delivered, injected_count}
+use Rattle.fw_model.specs.History.{IsAdmissible, IsComplete, IsLegal, pending, sent, delivered, injected_count, AreEventsInDomain}
 use Rattle.fw_model.specs.Machine.{Machine, events, first_state, is_failed}
 use Rattle.fw_model.specs.Steps.{Outcome, Steps, Run, GrowsTo, did, cuts}
 use Rattle.fw_model.specs.LawsOfChoices as choices
@@ -28,10 +28,8 @@ use Rattle.fw_model.specs.LawsOfDeliveries as deliveries
 use Rattle.fw_model.specs.LawsOfExistence as existence
 use Rattle.fw_model.specs.LawsOfFiltering as filtering
 use Rattle.fw_model.specs.LawsOfLegalHistories as legal
-use Rattle.fw_model.specs.LawsOfProjections.{bounds_of_edge}
 use Rattle.fw_model.specs.LawsOfRecoveries as recoveries
 use Rattle.fw_model.specs.LawsOfRuns as runs
-use Rattle.fw_model.specs.LawsOfSending.{AreEventsInDomain, ComesFromInside, IsNotifiedInOrder}
 use Rattle.fw_model.specs.LawsOfSteps as steps
 use Rattle.fw_examples.specs.Flows.{loop_counts_up, regroup_by_three, two_batches, pair}
 use Rattle.fw_examples.specs.UnderWay.{under_way, counted_rounds}
@@ -42,6 +40,9 @@ use Rattle.fw_examples.specs.WitnessesOfRuns.{complete_then}
 use Rattle.fw_examples.specs.WitnessesOfChoices.{inc, first_rounds, both_rounds, joined_rounds}
 use Rattle.fw_examples.specs.WitnessesOfDeliveries.{complete_two}
 use Rattle.fw_examples.specs.WitnessesOfFiltering.{kept_rounds, kept_epoch, two_rounds}
+use Rattle.fw_model.specs.Covers.{delivered_cover, notified_cover, discarded_cover}
+use Rattle.fw_model.specs.Sending.{ComesFromInside}
+use Rattle.fw_model.specs.Order.{IsNotifiedInOrder}
 
 -- the laws of runs and of recoveries, of the runs of the running total
 pub record RunsApply : Type 0 where

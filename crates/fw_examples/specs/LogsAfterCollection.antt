@@ -13,13 +13,13 @@ use Rattle.fw_flow.specs.declared.step.Step.{Step}
 use Rattle.fw_flow.specs.declared.step.Step.TheVariants.{Inject, Deliver, Notify, Progress, Persist, Fail, Collect, Ack}
 use Rattle.fw_flow.specs.Dataflow.{System, out_edges, bounds_of}
 use Rattle.fw_model.specs.Choice.{until, kept_of, IsLargest}
-use Rattle.fw_model.specs.LawsOfRestoring.{logged_messages, messages_to_resend}
 use Rattle.fw_model.specs.Machine.{Machine, Write, checkpoint, logged_event, acknowledged, collected, first_state, front_of}
 use Rattle.fw_model.specs.Steps.{Outcome, Run, did, quiet, acked, lows, offers, sends_inside, is_given_up, lies_below}
 use Rattle.fw_examples.specs.Flows.{pair}
 use Rattle.fw_examples.specs.OneSelect.{one_select_of, src, big, out, src_to_big, big_to_out}
 use Rattle.fw_examples.specs.Recovery.{with_serials}
 use Rattle.fw_examples.specs.RunningTotal.{alike, totals_of, run, src_to_run, run_to_out}
+use Rattle.fw_model.specs.Resending.{logged_messages, messages_to_resend}
 
 -- two batches of a rec that is selected
 abbrev pub selected_batches : List (List Rec)

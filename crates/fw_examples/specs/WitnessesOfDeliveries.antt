@@ -7,9 +7,8 @@ use Rattle.fw_flow.specs.declared.event.Event.TheVariants.{Inject as Injected, D
 use Rattle.fw_flow.specs.Dataflow.{bounds_of}
 use Rattle.fw_flow.specs.Projection.{phi}
 use Rattle.fw_model.specs.Denotation.{bag_at}
-use Rattle.fw_model.specs.History.{IsAdmissible, IsEnabled, IsLegal, sent, delivered}
+use Rattle.fw_model.specs.History.{IsAdmissible, IsEnabled, IsLegal, sent, delivered, IsClosedFor, recs_at}
 use Rattle.fw_model.specs.Machine.{front_of}
-use Rattle.fw_model.specs.LawsOfDeliveries.{IsClosedFor, recs_at}
 use Rattle.fw_examples.specs.Flows.{pair}
 use Rattle.fw_examples.specs.RunningTotal.{totals, total_flow, totals_denoted, src, run, out, src_to_run, run_to_out, at_epoch, two_epochs, next_epochs, alike}
 

@@ -5,23 +5,19 @@ use Rattle.fw_frontier.specs.Frontier.{Frontier}
 use Rattle.fw_frontier.specs.Front.{frontier_of}
 use Rattle.fw_flow.specs.declared.choice.Cut.TheVariants.{At}
 use Rattle.fw_flow.specs.declared.step.Step.TheVariants.{Recover, Collect}
-use Rattle.fw_flow.specs.Dataflow.{bounds_of}
+use Rattle.fw_flow.specs.Dataflow.{bounds_of, HasEpochs}
 use Rattle.fw_flow.specs.WellFormed.{IsWellFormedSystem}
 use Rattle.fw_model.specs.Choice.{kept, ever, until, IsCandidate, IsLargest}
 use Rattle.fw_model.specs.Denotation.{IsDenotation, rounds, bag_at}
-use Rattle.fw_model.specs.History.{IsComplete, IsLegal, pending, delivered}
+use Rattle.fw_model.specs.History.{IsComplete, IsLegal, pending, delivered, recs_at}
 use Rattle.fw_model.specs.Machine.{Machine, Write, in_flight, acknowledged, collected, events, first_state, front_of, is_failed}
-use Rattle.fw_model.specs.Steps.{Steps, Run, did, cuts, lows}
-use Rattle.fw_model.specs.LawsOfChoosing.{Shows}
-use Rattle.fw_model.specs.LawsOfDeliveries.{recs_at}
-use Rattle.fw_model.specs.LawsOfExistence.{AreCheckpointsChains, HasMoreToSettle}
-use Rattle.fw_model.specs.LawsOfLegalHistories.{HasEpochs}
-use Rattle.fw_model.specs.LawsOfRecoveries.{IsDenotedInside}
-use Rattle.fw_model.specs.LawsOfRuns.{HaveNoRecovery, stamps_acknowledged}
-use Rattle.fw_model.specs.LawsOfSteps.{HasItsChoice}
+use Rattle.fw_model.specs.Steps.{Steps, Run, did, cuts, lows, HaveNoRecovery}
 use Rattle.fw_examples.specs.Flows.{two_batches, pair}
 use Rattle.fw_examples.specs.Recovery.{steps_taken, outcomes_shown, steps_left, outcomes_left}
 use Rattle.fw_examples.specs.RunningTotal.{totals, total_flow, totals_denoted, run, out, src_to_run, run_to_out, at_epoch, two_epochs, next_epochs, alike, output_failed, come_back, two_epochs_kept, steps_up_to_two, outcomes_up_to_two, steps_to_failure, outcomes_to_failure, steps_through_recovery, outcomes_through_recovery, steps_without_failure, outcomes_without_failure}
+use Rattle.fw_model.specs.Acknowledgements.{Shows, stamps_acknowledged}
+use Rattle.fw_model.specs.Choosing.{AreCheckpointsChains, HasItsChoice}
+use Rattle.fw_model.specs.Settled.{HasMoreToSettle, IsDenotedInside}
 
 -- The running total is well formed, its batches have epochs, and the rounds are its denotation.
 pub record TotalsAreWellFormed : Type 0 where

@@ -1,6 +1,6 @@
 use Rattle.std.proofs.Common.{◌≡◌, ℕ, List, Some, None, subst, nat_cmp}
 use Rattle.std.specs.FinMap.{FinMap, empty, get, get-empty}
-use Rattle.worked_runs.proofs.faults.stores_fail_when_told.Goals as goal
+use Rattle.worked_runs.proofs.ample_memory.stores_fail_when_told.Goals as goal
 
 -- nothing is in an empty map
 nothing : (x : FinMap nat_cmp (List ℕ)) → Some (empty {X = List ℕ} {R = nat_cmp}) ≡ Some x → get x 3 ≡ None

@@ -1,0 +1,2 @@
+pub mod AtNodes
+pub mod Written

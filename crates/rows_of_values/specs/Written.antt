@@ -1,0 +1,42 @@
+-- For src/choices.rt: what nodes offer, as it is written there, is of the dataflow.
+use Rattle.std.specs.Prelude.{◌≡◌, ℕ, ◌+◌, Bool, true, false, List, [], ◌∷◌}
+use Rattle.std.specs.List.{AllByRecursion}
+use Rattle.fw_time.specs.Stamp.{in_domain}
+use Rattle.fw_flow.specs.declared.choice.Counted.{Counted}
+use Rattle.fw_flow.specs.declared.choice.Offer.{Offer}
+use Rattle.fw_flow.specs.declared.choice.Offered.{Offered}
+use Rattle.fw_flow.specs.declared.kind.Kind.TheVariants.{Sequence}
+use Rattle.fw_flow.specs.Dataflow.{Dataflow, kind_of, policy_of, bounds_of}
+use Rattle.fw_model.specs.Choice.{Restoring, by_batches, by_bound, by_anything, by_checkpoints, by_events, restoring}
+use Rattle.fw_monitor.specs.Offers.{listed, range, IsRecordOf, IsRangeOf, IsListedBy, AreOnEdges, AreFromEpochs}
+
+-- whether a node that is restored so lists its frontiers
+abbrev pub is_listed : Restoring → Bool
+is_listed by_batches = true
+is_listed by_bound = false
+is_listed by_anything = false
+is_listed by_checkpoints = true
+is_listed by_events = false
+
+-- the frontiers are of node p
+pub record IsOfferedBy (flow : Dataflow) (p : ℕ) (offered : Offered) : Type 0 where
+  pub records : AllByRecursion (IsRecordOf flow p) (listed offered)
+  pub ends : IsRangeOf (bounds_of flow p) (range offered)
+  pub way : IsListedBy (restoring (kind_of flow p) (policy_of flow p)) (range offered)
+
+-- the messages are on edges, and of a sequence they have epochs as causes
+pub record AreSentBy (flow : Dataflow) (p : ℕ) (sent : List Counted) : Type 0 where
+  pub edges : AreOnEdges flow sent
+  pub epochs : kind_of flow p ≡ Sequence → AreFromEpochs sent
+
+-- the offer is of node p
+pub record IsOfferOf (flow : Dataflow) (p : ℕ) (offer : Offer) : Type 0 where
+  pub offered : IsOfferedBy flow p offer.offered
+  pub delivered : AreOnEdges flow offer.stamps.delivered.items
+  pub notified : AllByRecursion (λ t. in_domain (bounds_of flow p) t ≡ true) offer.stamps.notified.items
+  pub sent : AreSentBy flow p offer.stamps.sent.items
+
+-- the offers are those of the nodes from p on
+abbrev pub AreOffersFrom : Dataflow → ℕ → List Offer → Type 0
+AreOffersFrom flow p [] = Unit {0}
+AreOffersFrom flow p (offer ∷ offers) = IsOfferOf flow p offer × AreOffersFrom flow (p + 1) offers

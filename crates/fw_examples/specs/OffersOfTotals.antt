@@ -10,11 +10,12 @@ use Rattle.fw_flow.specs.declared.choice.Offer.{Offer}
 use Rattle.fw_flow.specs.declared.choice.Offered.TheVariants.{Listed, Between}
 use Rattle.fw_flow.specs.declared.choice.Recorded.{Recorded}
 use Rattle.fw_flow.specs.Dataflow.{kind_of, policy_of}
-use Rattle.fw_model.specs.Choice.{by_checkpoints, restoring, until, IsConsistentBy, IsLargestBy}
+use Rattle.fw_model.specs.Choice.{by_checkpoints, until, IsConsistentBy, IsLargestBy}
 use Rattle.fw_model.specs.Machine.{is_failed}
 use Rattle.fw_monitor.specs.LawsOfOffers.{ConsistentByOffersIsConsistent, LargestByOffersIsLargest}
 use Rattle.fw_monitor.specs.Offers.{AreAscending, AreOffersIn, IsOffered, covers_of, records_of}
 use Rattle.fw_examples.specs.RunningTotal.{totals, total_flow, run, src_to_run, run_to_out, output_failed, two_kept_noting, two_epochs_kept}
+use Rattle.fw_flow.specs.Restoring.{restoring}
 
 -- A vector of these elements. Where they lie in memory plays no part: here they have no place.
 abbrev pub vec_of : {X : Type 0} (xs : List X) → length xs < 2 ^ 63 → Vec X Global

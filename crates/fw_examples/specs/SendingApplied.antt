@@ -7,12 +7,12 @@ use Rattle.fw_frontier.specs.Front.{frontier_of}
 use Rattle.fw_flow.specs.declared.event.Event.TheVariants.{Deliver}
 use Rattle.fw_flow.specs.declared.event.Message.{Message}
 use Rattle.fw_flow.specs.declared.kind.Kind.TheVariants.{Sequence}
-use Rattle.fw_flow.specs.Dataflow.{kind_of, sender, receiver, bounds_of, send_stamp, bounds_of_edge}
+use Rattle.fw_flow.specs.Dataflow.{kind_of, sender, receiver, bounds_of, send_stamp}
 use Rattle.fw_flow.specs.NodeFunction.{sends}
-use Rattle.fw_flow.specs.Projection.{all_inside, phi, phi_by_count, psi, psi_back, IsSenderFrontier}
+use Rattle.fw_flow.specs.Projection.{all_inside, phi, phi_by_count, psi, psi_back}
 use Rattle.fw_flow.specs.WholeBags.{Timed, recs_where, in_order, outputs_of}
 use Rattle.fw_model.specs.Choice.{until}
-use Rattle.fw_model.specs.Denotation.{Family, IsDenotation, rounds, AreInOrder, AreNumberedFrom}
+use Rattle.fw_model.specs.Denotation.{Family, IsDenotation, rounds}
 use Rattle.fw_model.specs.History.{sent}
 use Rattle.fw_model.specs.LawsOfDenotation as denotation
 use Rattle.fw_model.specs.LawsOfProjections as projections
@@ -24,9 +24,6 @@ use Rattle.fw_examples.specs.RunningTotal.{totals, total_flow, totals_denoted, s
 use Rattle.fw_examples.specs.Numbers.{numbers, numbered_epoch, numbered_both}
 use Rattle.fw_examples.specs.WitnessesOfChoices.{first_rounds}
 use Rattle.fw_examples.specs.WitnessesOfFiltering.{kept_epoch}
-use Rattle.fw_model.specs.Measure.{enough_rounds, Measure}
-use Rattle.fw_model.specs.Unions.{IsUnion}
-use Rattle.fw_model.specs.Sending.{SendsByStamp, IsSentFrom, SendsAbove, SendsWithin, ComesFromInside, FollowsHistory}
 
 -- three rounds of epoch 0, at the feedback
 abbrev pub counted : Frontier
@@ -48,7 +45,7 @@ both_epochs = frontier_of (bounds_of regroup_by_three (sender regroup_by_three 1
 -- the laws of projections, of the edge that is fed back, and of the edge out of the sequence
 pub record ProjectionsApply : Type 0 where
   pub phi_is_frontier : projections.PhiIsFrontier
-      → IsFrontier (bounds_of_edge loop_counts_up fed_back_edge) (phi two_batches under_way fed_back_edge counted)
+      → IsFrontier (projections.bounds_of_edge loop_counts_up fed_back_edge) (phi two_batches under_way fed_back_edge counted)
   pub phi_is_monotone : projections.PhiIsMonotone
       → Within (phi two_batches under_way fed_back_edge (meet counted begun)) (phi two_batches under_way fed_back_edge counted)
   pub phi_by_count : projections.PhiByCountIsMonotone
@@ -61,13 +58,13 @@ pub record ProjectionsApply : Type 0 where
       ≡ meet (phi two_batches under_way fed_back_edge counted) (phi two_batches under_way fed_back_edge begun) u
   pub phi_of_everything : projections.PhiOfEverything → (u : Stamp)
       → phi numbers numbered_both 1 (everything (bounds_of regroup_by_three (sender regroup_by_three 1))) u
-      ≡ everything (bounds_of_edge regroup_by_three 1) u
+      ≡ everything (projections.bounds_of_edge regroup_by_three 1) u
   pub psi_is_frontier : projections.PsiIsFrontier
-      → IsFrontier (bounds_of_edge loop_counts_up fed_back_edge) (psi two_batches fed_back_edge counted)
+      → IsFrontier (projections.bounds_of_edge loop_counts_up fed_back_edge) (psi two_batches fed_back_edge counted)
   pub psi_is_monotone : projections.PsiIsMonotone
       → Within (psi two_batches fed_back_edge (meet counted begun)) (psi two_batches fed_back_edge counted)
   pub psi_of_union : projections.PsiOfUnion
-      → IsUnion (λ i. psi two_batches fed_back_edge (one_or_other i)) (psi two_batches fed_back_edge (join counted begun))
+      → projections.IsUnion (λ i. psi two_batches fed_back_edge (one_or_other i)) (psi two_batches fed_back_edge (join counted begun))
   pub psi_of_join : projections.PsiOfJoin → (u : Stamp)
       → psi two_batches fed_back_edge (join counted begun) u ≡ join (psi two_batches fed_back_edge counted) (psi two_batches fed_back_edge begun) u
   pub psi_of_nothing : projections.PsiOfNothing → (u : Stamp) → psi two_batches fed_back_edge nothing u ≡ nothing u
@@ -75,21 +72,21 @@ pub record ProjectionsApply : Type 0 where
 -- the laws of sending, of the same
 pub record SendingApplies : Type 0 where
   pub senders : sending.SendersOfWellFormed → (e : ℕ) → e < length loop_counts_up.edges
-      → (kind_of loop_counts_up (sender loop_counts_up e) ≡ Sequence) ⊎ SendsByStamp loop_counts_up (kind_of loop_counts_up (sender loop_counts_up e))
+      → (kind_of loop_counts_up (sender loop_counts_up e) ≡ Sequence) ⊎ sending.SendsByStamp loop_counts_up (kind_of loop_counts_up (sender loop_counts_up e))
   pub monotone : sending.SendStampIsMonotone
       → (v : Stamp) × (send_stamp loop_counts_up 4 (round 0 0) ≡ Some v) × (leq v (round 0 2) ≡ true)
   pub phi_by_send_stamps : sending.PhiBySendStamps
       → (phi two_batches under_way fed_back_edge counted (round 0 1) ≡ true)
-      ↔ IsSentFrom (bounds_of loop_counts_up (sender loop_counts_up fed_back_edge)) (send_stamp loop_counts_up (sender loop_counts_up fed_back_edge)) counted (round 0 1)
+      ↔ sending.IsSentFrom (bounds_of loop_counts_up (sender loop_counts_up fed_back_edge)) (send_stamp loop_counts_up (sender loop_counts_up fed_back_edge)) counted (round 0 1)
   pub psi_by_send_stamps : sending.PsiBySendStamps
       → (psi two_batches fed_back_edge counted (round 0 1) ≡ true)
-      ↔ SendsAbove (send_stamp loop_counts_up (sender loop_counts_up fed_back_edge)) counted (round 0 1)
+      ↔ sending.SendsAbove (send_stamp loop_counts_up (sender loop_counts_up fed_back_edge)) counted (round 0 1)
   pub psi_back_by_send_stamps : sending.PsiBackBySendStamps
       → (psi_back two_batches fed_back_edge counted (round 0 1) ≡ true)
-      ↔ SendsWithin (send_stamp loop_counts_up (sender loop_counts_up fed_back_edge)) counted (round 0 1)
+      ↔ sending.SendsWithin (send_stamp loop_counts_up (sender loop_counts_up fed_back_edge)) counted (round 0 1)
   pub psi_back_is_largest : sending.PsiBackIsLargest
-      → IsSenderFrontier loop_counts_up fed_back_edge (psi_back two_batches fed_back_edge counted)
-      × ((f : Frontier) → IsSenderFrontier loop_counts_up fed_back_edge f
+      → projections.IsSenderFrontier loop_counts_up fed_back_edge (psi_back two_batches fed_back_edge counted)
+      × ((f : Frontier) → projections.IsSenderFrontier loop_counts_up fed_back_edge f
       → Within (psi two_batches fed_back_edge f) counted ↔ Within f (psi_back two_batches fed_back_edge counted))
   pub sends_at : sending.SendsAtSendStamp
       → AllByRecursion (λ (m : Message). (send_stamp loop_counts_up 4 (round 0 0) ≡ Some m.at) × (m.causes ≡ round 0 0 ∷ []))
@@ -99,24 +96,24 @@ pub record SendingApplies : Type 0 where
       (sends two_batches (sender loop_counts_up fed_back_edge) [] (Deliver 3 (message (round 0 0) (pair 1 1) (round 0 0))))
   pub sent_inside : sending.SentFromInsideIsInsidePsi
       → AllByRecursion (λ (m : Message). all_inside counted m.causes ≡ true → psi two_batches fed_back_edge counted m.at ≡ true) (sent two_batches under_way fed_back_edge)
-  pub from_inside : sending.InsidePhiComesFromInside → ComesFromInside two_batches under_way fed_back_edge counted
-  pub sequence_from_inside : sending.InsidePhiOfSequenceComesFromInside → ComesFromInside numbers numbered_both 1 (kept_epoch 1)
-  pub table : sending.SentTableFollowsHistory → FollowsHistory numbers 1
+  pub from_inside : sending.InsidePhiComesFromInside → sending.ComesFromInside two_batches under_way fed_back_edge counted
+  pub sequence_from_inside : sending.InsidePhiOfSequenceComesFromInside → sending.ComesFromInside numbers numbered_both 1 (kept_epoch 1)
+  pub table : sending.SentTableFollowsHistory → sending.FollowsHistory numbers 1
 
 -- the laws of the denotation
 pub record DenotationApplies : Type 0 where
-  pub measure : denotation.MeasureExists → Measure loop_counts_up
+  pub measure : denotation.MeasureExists → denotation.Measure loop_counts_up
   pub decided : denotation.RecsAtStampsDecideBag → (other : List Timed) → in_order other ≡ other
       → ((t : Stamp) → recs_where (same t) (totals_denoted src_to_run) ≡ recs_where (same t) other) → totals_denoted src_to_run ≡ other
-  pub depends : denotation.OutBagsDependOnLesserMeasure → Measure total_flow → (t : Stamp)
+  pub depends : denotation.OutBagsDependOnLesserMeasure → denotation.Measure total_flow → (t : Stamp)
       → recs_where (same t) (outputs_of totals totals_denoted (sender total_flow src_to_run))
       ≡ recs_where (same t) (outputs_of totals (λ e. []) (sender total_flow src_to_run))
   pub only : denotation.DenotationIsTheOnlyOne → (other : Family) → IsDenotation totals other → (e : ℕ) → other e ≡ totals_denoted e
-  pub exists : denotation.DenotationExists → IsDenotation two_batches (rounds two_batches (enough_rounds loop_counts_up))
+  pub exists : denotation.DenotationExists → IsDenotation two_batches (rounds two_batches (denotation.enough_rounds loop_counts_up))
   pub unchanged : denotation.UnchangedRoundIsDenotation → IsDenotation totals totals_denoted
   pub later : denotation.LaterRoundsAreTheSame → (e : ℕ) → rounds totals 9 e ≡ totals_denoted e
-  pub ordered : denotation.DenotationIsInOrder → AreInOrder totals_denoted
+  pub ordered : denotation.DenotationIsInOrder → denotation.AreInOrder totals_denoted
   pub in_the_domain : denotation.DenotationIsInDomain → (e : ℕ)
       → AllByRecursion (λ (r : Timed). in_domain (bounds_of total_flow (receiver total_flow e)) r.at ≡ true) (totals_denoted e)
-  pub numbered : denotation.DenotationIsNumbered → AreNumberedFrom 0 (rounds numbers 4 1)
+  pub numbered : denotation.DenotationIsNumbered → denotation.AreNumberedFrom 0 (rounds numbers 4 1)
   pub three_numbers : length (rounds numbers 4 1) ≡ 3

@@ -8,7 +8,7 @@ use Rattle.fw_flow.specs.declared.kind.Kind.TheVariants.{Sequence}
 use Rattle.fw_flow.specs.Dataflow.{kind_of, policy_of, sender, receiver, bounds_of, is_numbered, NotifiesNobody, HasEpochs}
 use Rattle.fw_flow.specs.Projection.{phi}
 use Rattle.fw_flow.specs.WellFormed.{IsWellFormed}
-use Rattle.fw_model.specs.Choice.{until, cut_of, note_of, kept_of, can_resend, filtered}
+use Rattle.fw_model.specs.Choice.{until, cut_of, note_of, kept_of, filtered}
 use Rattle.fw_model.specs.History.{IsLegal, pending, sent, delivered}
 use Rattle.fw_model.specs.Machine.{events, front_of}
 use Rattle.fw_examples.specs.Flows.{loop_counts_up, regroup_by_three, two_batches, pair}
@@ -16,6 +16,7 @@ use Rattle.fw_examples.specs.UnderWay.{message, round, under_way}
 use Rattle.fw_examples.specs.Recovery.{counting_failed, restored, without_the_second}
 use Rattle.fw_examples.specs.RunningTotal.{totals, total_flow, src, run, src_to_run, at_epoch, two_epochs, output_failed, two_epochs_kept}
 use Rattle.fw_examples.specs.Numbers.{numbers, value_at, numbered_epoch, numbered_both}
+use Rattle.fw_flow.specs.Restoring.{can_resend}
 use Rattle.fw_model.specs.Filtering.{AreFrontiers, ComeFromKept, IsConsistentlyKept, KeepsDiscarded, MeetsInclusions, kept_events, messages_from}
 use Rattle.fw_model.specs.Settled.{IsCutWithinSettled, IsFull}
 
@@ -54,6 +55,7 @@ two_rounds = frontier_of (bounds_of loop_counts_up (sender loop_counts_up 3)) (r
 pub record LoopIsFiltered : Type 0 where
   pub well_formed : IsWellFormed loop_counts_up
   pub epochs : HasEpochs two_batches
+  pub nobody : NotifiesNobody loop_counts_up
   pub legal : IsLegal two_batches under_way
   pub frontiers : AreFrontiers loop_counts_up kept_rounds
   pub come : ComeFromKept two_batches under_way kept_rounds

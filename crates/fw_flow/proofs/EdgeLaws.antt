@@ -103,46 +103,25 @@ phi-counted flow w e os g count n =
     (phi_by_count flow count e f) n
     (λ u. ap (λ d. in_domain (bounds_of_domain flow d) u && phi_of_kind (greatest_of_kind flow kind) kind count f u) (sym (edge-domains flow w e)))
 
-pub psi-named : (flow : Dataflow) → IsWellFormed flow → (e : ℕ) (os g : Front) (sys : System) → sys.flow ≡ flow
+pub psi-named : (flow : Dataflow) → IsWellFormed flow → (e : ℕ) (os g : Front)
     → Names (bounds_of flow (receiver flow e)) g (λ u. in_domain (bounds_of flow (receiver flow e)) u
     && psi_of_kind (bounds_of flow (sender flow e)).greatest (kind_of flow (sender flow e)) (frontier_of (bounds_of flow (sender flow e)) os) u)
-    → Names (bounds_of flow (receiver flow e)) g (psi sys e (frontier_of (bounds_of flow (sender flow e)) os))
+    → Names (bounds_of flow (receiver flow e)) g (psi flow e (frontier_of (bounds_of flow (sender flow e)) os))
 unfolding bounds_of psi
-psi-named flow w e os g sys same =
-    let P : Dataflow → Type 0 = λ flow. IsWellFormed flow
-    → Names (bounds_of flow (receiver flow e)) g (λ u. in_domain (bounds_of flow (receiver flow e)) u
-    && psi_of_kind (bounds_of flow (sender flow e)).greatest (kind_of flow (sender flow e)) (frontier_of (bounds_of flow (sender flow e)) os) u)
-    → Names (bounds_of flow (receiver flow e)) g (psi sys e (frontier_of (bounds_of flow (sender flow e)) os)) in
-    of_flow P flow sys.flow same here w
-  where
-    here : IsWellFormed sys.flow
-        → Names (bounds_of sys.flow (receiver sys.flow e)) g (λ u. in_domain (bounds_of sys.flow (receiver sys.flow e)) u
-        && psi_of_kind (bounds_of sys.flow (sender sys.flow e)).greatest (kind_of sys.flow (sender sys.flow e)) (frontier_of (bounds_of sys.flow (sender sys.flow e)) os) u)
-        → Names (bounds_of sys.flow (receiver sys.flow e)) g (psi sys e (frontier_of (bounds_of sys.flow (sender sys.flow e)) os))
-    here w n =
-        let f = frontier_of (bounds_of sys.flow (sender sys.flow e)) os in
-        let kind = kind_of sys.flow (sender sys.flow e) in
-        names-as (bounds_of sys.flow (receiver sys.flow e)) g
-        (λ u. in_domain (bounds_of sys.flow (receiver sys.flow e)) u && psi_of_kind (bounds_of sys.flow (sender sys.flow e)).greatest kind f u)
-        (psi sys e f) n
-        (λ u. ap (λ d. in_domain (bounds_of_domain sys.flow d) u && psi_of_kind (greatest_of_kind sys.flow kind) kind f u) (sym (edge-domains sys.flow w e)))
+psi-named flow w e os g n =
+    let f = frontier_of (bounds_of flow (sender flow e)) os in
+    let kind = kind_of flow (sender flow e) in
+    names-as (bounds_of flow (receiver flow e)) g
+    (λ u. in_domain (bounds_of flow (receiver flow e)) u && psi_of_kind (bounds_of flow (sender flow e)).greatest kind f u)
+    (psi flow e f) n
+    (λ u. ap (λ d. in_domain (bounds_of_domain flow d) u && psi_of_kind (greatest_of_kind flow kind) kind f u) (sym (edge-domains flow w e)))
 
-pub psi_back-named : (flow : Dataflow) (e : ℕ) (os g : Front) (sys : System) → sys.flow ≡ flow
+pub psi_back-named : (flow : Dataflow) (e : ℕ) (os g : Front)
     → Names (bounds_of flow (sender flow e)) g (λ t. in_domain (bounds_of flow (sender flow e)) t
     && psi_back_of_kind (bounds_of flow (sender flow e)).greatest (kind_of flow (sender flow e)) (frontier_of (bounds_of flow (receiver flow e)) os) t)
-    → Names (bounds_of flow (sender flow e)) g (psi_back sys e (frontier_of (bounds_of flow (receiver flow e)) os))
+    → Names (bounds_of flow (sender flow e)) g (psi_back flow e (frontier_of (bounds_of flow (receiver flow e)) os))
 unfolding bounds_of psi_back
-psi_back-named flow e os g sys same =
-    let P : Dataflow → Type 0 = λ flow.
-    Names (bounds_of flow (sender flow e)) g (λ t. in_domain (bounds_of flow (sender flow e)) t
-    && psi_back_of_kind (bounds_of flow (sender flow e)).greatest (kind_of flow (sender flow e)) (frontier_of (bounds_of flow (receiver flow e)) os) t)
-    → Names (bounds_of flow (sender flow e)) g (psi_back sys e (frontier_of (bounds_of flow (receiver flow e)) os)) in
-    of_flow P flow sys.flow same here
-  where
-    here : Names (bounds_of sys.flow (sender sys.flow e)) g (λ t. in_domain (bounds_of sys.flow (sender sys.flow e)) t
-        && psi_back_of_kind (bounds_of sys.flow (sender sys.flow e)).greatest (kind_of sys.flow (sender sys.flow e)) (frontier_of (bounds_of sys.flow (receiver sys.flow e)) os) t)
-        → Names (bounds_of sys.flow (sender sys.flow e)) g (psi_back sys e (frontier_of (bounds_of sys.flow (receiver sys.flow e)) os))
-    here n = n
+psi_back-named flow e os g n = n
 
 -- ---- the in-edges of a node are the edges that it receives on
 

@@ -86,10 +86,10 @@ psi_of_kind greatest (Regroup n) f u = f ((first_number_of u * n) ∷ [])
 psi_of_kind greatest kind f u = f u
 
 -- the cover of the stamps at which an event of the sender of e inside f can send on e, for a kind that may keep nothing
-unfoldable pub psi : System → ℕ → Frontier → Frontier
-psi sys e f u =
-    in_domain (bounds_of_domain sys.flow (out_domain_of_kind sys.flow (kind_of sys.flow (sender sys.flow e)))) u
-    && psi_of_kind (greatest_of_kind sys.flow (kind_of sys.flow (sender sys.flow e))) (kind_of sys.flow (sender sys.flow e)) f u
+unfoldable pub psi : Dataflow → ℕ → Frontier → Frontier
+psi flow e f u =
+    in_domain (bounds_of_domain flow (out_domain_of_kind flow (kind_of flow (sender flow e)))) u
+    && psi_of_kind (greatest_of_kind flow (kind_of flow (sender flow e))) (kind_of flow (sender flow e)) f u
 
 -- At which stamps, and below which, events send inside g alone, by the kind of the sender and the greatest stamp of its
 -- domain, for the kinds that may keep nothing: the last counter of a loop sends nothing that a lesser one does not.
@@ -101,10 +101,10 @@ psi_back_of_kind greatest (Regroup n) g t = g ((first_number_of t / n) ∷ [])
 psi_back_of_kind greatest kind g t = g t
 
 -- the largest frontier of the sender of e whose psi lies within g, for a kind that may keep nothing
-unfoldable pub psi_back : System → ℕ → Frontier → Frontier
-psi_back sys e g t =
-    in_domain (bounds_of_domain sys.flow (domain_of_kind sys.flow (kind_of sys.flow (sender sys.flow e)))) t
-    && psi_back_of_kind (greatest_of_kind sys.flow (kind_of sys.flow (sender sys.flow e))) (kind_of sys.flow (sender sys.flow e)) g t
+unfoldable pub psi_back : Dataflow → ℕ → Frontier → Frontier
+psi_back flow e g t =
+    in_domain (bounds_of_domain flow (domain_of_kind flow (kind_of flow (sender flow e)))) t
+    && psi_back_of_kind (greatest_of_kind flow (kind_of flow (sender flow e))) (kind_of flow (sender flow e)) g t
 
 -- the frontier is one of the sender's domain
 abbrev pub IsSenderFrontier : Dataflow → ℕ → Frontier → Type 0

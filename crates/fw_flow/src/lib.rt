@@ -19,6 +19,8 @@ mod node;
 mod parts;
 mod projection;
 mod raw;
+mod restoring;
+mod sources;
 mod step;
 mod walks;
 
@@ -31,4 +33,5 @@ pub use name::Name;
 pub use node::{Edge, Loop, Node};
 pub use projection::SentTable;
 pub use raw::{Declaration, Declared, RawFlow, RawKind};
+pub use restoring::Restoring;
 pub use step::{Nodes, Step};

@@ -1,13 +1,11 @@
 -- Checkpoints lie within what is settled, and so does each frontier to which a node can be restored.
 use Rattle.std.proofs.Common.{◌≡◌, ℕ, ◌<◌, Bool, true, false, not, ◌&&◌, List, [], ◌∷◌, ◌++◌, length, filter, map, refl, sym, ap, subst, ◌∙◌, inl, inr}
-use Rattle.std.specs.List.{AllByRecursion, list_all}
-use Rattle.std.proofs.lemmas.Bool.{and_parts, and_from, or_left, cond_both, cases_Bool, false_from_ne_true}
-use Rattle.fw_time.specs.Stamp.{leq, in_domain}
-use Rattle.fw_time.specs.declared.stamp.Bounds.{Bounds}
+use Rattle.std.specs.List.{AllByRecursion}
+use Rattle.std.proofs.lemmas.Bool.{and_from, or_left, cond_both, cases_Bool}
 use Rattle.fw_time.proofs.EachLaws.{each-weaker, each-append, each-one, each-map}
 use Rattle.fw_frontier.specs.Frontier.{Frontier, Within}
-use Rattle.fw_frontier.specs.Front.{Front, inside, frontier_of, same_front, is_within}
-use Rattle.fw_frontier.proofs.InsideLaws.{inside-closed}
+use Rattle.fw_frontier.specs.Front.{Front, frontier_of, same_front}
+use Rattle.fw_frontier.proofs.NamesLaws.{is_within-holds}
 use Rattle.fw_flow.specs.declared.choice.Cut.{Cut}
 use Rattle.fw_flow.specs.declared.choice.Cut.TheVariants.{Present, At}
 use Rattle.fw_flow.specs.declared.kind.Kind.{Kind}
@@ -19,8 +17,11 @@ use Rattle.fw_flow.specs.declared.step.Step.TheVariants.{Inject, Deliver, Notify
 use Rattle.fw_flow.specs.Dataflow.{System, kind_of, policy_of, receiver, bounds_of, is_input_kind, places}
 use Rattle.fw_model.specs.Machine.{Machine, Numbered, Write, Written, checkpoint, logged_event, Progress, acknowledged, first_state, front_of, is_failed}
 use Rattle.fw_flow.specs.declared.choice.Choice.{Choice}
-use Rattle.fw_model.specs.Choice.{View, Restoring, by_batches, by_bound, by_anything, by_checkpoints, by_events, restoring, HasCheckpoint, IsRestorable, cut_of, filtered}
+use Rattle.fw_model.specs.Choice.{View, HasCheckpoint, IsRestorable, cut_of, filtered}
 use Rattle.fw_model.specs.Steps.{Effect, Outcome, did, idle, LeadsTo, Steps, Run, write_of_event, checkpoint_of, is_eager, GrowsTo, AcknowledgesOldest, is_one_of, is_in_flight, is_kept_write, kept_writes, IsSettledCut, CutsTo, lies_below, after_collection, front_of_cut}
+use Rattle.fw_flow.specs.declared.restoring.Restoring.{Restoring}
+use Rattle.fw_flow.specs.declared.restoring.Restoring.TheVariants.{Batches, Bound, Anything, Checkpoints, Events}
+use Rattle.fw_flow.specs.Restoring.{restoring, way_of}
 use Rattle.fw_model.specs.LawsOfRecoveries.{CandidatesLieWithinSettled}
 use Rattle.fw_model.proofs.Decisions.{two_ways}
 use Rattle.fw_model.proofs.RunLaws.{none-inside}
@@ -173,18 +174,18 @@ checkpoint-within sys settled view p f (write ∷ writes) a k =
     ]
     by n (logged_event serial) far h rest k = elim k [ inl c ↦ absurd c | inr c ↦ rest c ]
 
-pub restorable-within : (sys : System) (state : Machine) (view : View) (p : ℕ) (way : Restoring) (f : Front) → p < length sys.flow.nodes → (way ≡ by_batches → ⊥)
+pub restorable-within : (sys : System) (state : Machine) (view : View) (p : ℕ) (way : Restoring) (f : Front) → p < length sys.flow.nodes → (way ≡ Batches → ⊥)
     → HasWritesSettled sys state → IsRestorable sys state view p way f → IsSettled sys state.settled p f
-restorable-within sys state view p by_batches f l n a k = absurd (n refl)
-restorable-within sys state view p by_bound f l n a k = λ _. k.0
-restorable-within sys state view p by_anything f l n a k = λ _. k
-restorable-within sys state view p by_checkpoints f l n a k = elim k [
+restorable-within sys state view p Batches f l n a k = absurd (n refl)
+restorable-within sys state view p Bound f l n a k = λ _. k.0
+restorable-within sys state view p Anything f l n a k = λ _. k
+restorable-within sys state view p Checkpoints f l n a k = elim k [
   | inl e ↦ λ _ t i. absurd (none-inside (bounds_of sys.flow p) t (subst (λ os. frontier_of (bounds_of sys.flow p) os t ≡ true) e i))
   | inr c ↦ checkpoint-within sys state.settled view p f state.writes a c
 ]
-restorable-within sys state view p by_events f l n a k = λ _. k.0
+restorable-within sys state view p Events f l n a k = λ _. k.0
 
-pub not_batches : (kind : Kind) (p : Policy) → is_input_kind kind ≡ false → restoring kind p ≡ by_batches → ⊥
+pub not_batches : (kind : Kind) (p : Policy) → is_input_kind kind ≡ false → restoring kind p ≡ Batches → ⊥
 not_batches Input p n e = two_ways true refl n
 not_batches OutputEpoch p n e = cc
 not_batches OutputNumber p n e = cc
@@ -192,5 +193,5 @@ not_batches kind p n e = not_by_batches p e
 
 pub candidates-within_settled : CandidatesLieWithinSettled
 candidates-within_settled sys steps outcomes last r lost view p f l n k =
-    restorable-within sys last view p (restoring (kind_of sys.flow p) (policy_of sys.flow p)) f l (not_batches (kind_of sys.flow p) (policy_of sys.flow p) n)
+    restorable-within sys last view p (way_of sys.flow p) f l (not_batches (kind_of sys.flow p) (policy_of sys.flow p) n)
     (run-writes sys steps outcomes (first_state sys) last r tt) k.1 l

@@ -16,7 +16,8 @@ use Rattle.fw_flow.specs.Dataflow.{System, Dataflow, idle_node, kind_of, sender,
 use Rattle.fw_flow.specs.NodeFunction.{place, stamp, recs_on, numbered_messages, sequence_sent, sends_of_kind, sends, sent_by}
 use Rattle.fw_flow.specs.Projection.{events_at, count_from, first_number_of, phi, IsSenderFrontier}
 use Rattle.fw_flow.specs.WellFormed.{IsWellFormed}
-use Rattle.fw_model.specs.History.{less, some_at, sent, delivered, pending, was_delivered_to, was_notified, owed, injected_count, is_exhausted, injected_epochs, IsAdmissible, IsEnabled, IsLegal}
+use Rattle.fw_model.specs.History.{some_at, sent, delivered, pending, was_delivered_to, was_notified, owed, injected_count, is_exhausted, injected_epochs, IsAdmissible, IsEnabled, IsLegal}
+use Rattle.fw_flow.specs.Message.{less}
 use Rattle.fw_model.specs.LawsOfCompleteFrontiers.{EnabledIsOutside, AdmissibleStaysAdmissible}
 use Rattle.fw_model.proofs.PhiLaws.{phi-longer}
 use Rattle.fw_model.proofs.FrontierLaws.{phi-frontier}

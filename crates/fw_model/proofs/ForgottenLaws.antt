@@ -355,7 +355,7 @@ acknowledged-exact sys low h p w acknowledged i a = a
 acknowledged-exact sys low h p w collected i a = absurd (cc)
 
 -- a recovery keeps each event that is given up
-kept-below : (sys : System) (state : Machine) (choice : Choice) → ((p : ℕ) → p < length sys.flow.nodes → Within (at_node sys state.low p) (kept_of sys choice p))
+kept-below : (sys : System) (state : Machine) (choice : Choice) → ((p : ℕ) → p < length sys.flow.nodes → Within (at_node sys state.low p) (kept_of sys.flow choice p))
     → (p : ℕ) (w : Written) (far : Progress) → IsAskedWell sys state.low state.next state.history p w far
     → lies_below sys state.low (filtered sys choice state.history) p w ≡ lies_below sys state.low state.history p w
 kept-below sys state choice k p (checkpoint g l) far a = refl
@@ -363,14 +363,14 @@ kept-below sys state choice k p (logged_event s) far a =
     let low = state.low in
     let given : Numbered → Bool = λ v. is_given_up sys low (place sys.flow v.event) (stamp v.event) in
     let test : Numbered → Bool = λ v. v.serial == s && given v in
-    let keeps : Numbered → Bool = λ v. kept_of sys choice (place sys.flow v.event) (stamp v.event) in
+    let keeps : Numbered → Bool = λ v. kept_of sys.flow choice (place sys.flow v.event) (stamp v.event) in
     any-filter test keeps state.history
     (each-weaker (λ (v : Numbered). v.serial ≡ s → place sys.flow v.event ≡ p) (λ v. test v ≡ true → keeps v ≡ true) state.history
     (λ v at e.
     let i = and_parts (v.serial == s) (given v) e in
     let is = at (eqb-true v.serial s i.0) in
     let t = stamp v.event in
-    subst (λ q. kept_of sys choice q t ≡ true) (sym is)
+    subst (λ q. kept_of sys.flow choice q t ≡ true) (sym is)
     (k p (full-declared sys.flow p a.3) t (given-stamp sys low p t (subst (λ q. is_given_up sys low q t ≡ true) is i.1)))) a.1)
 
 any-weaker : {X : Type 0} (test more : X → Bool) (xs : List X) → ((x : X) → test x ≡ true → more x ≡ true) → list_any test xs ≡ true → list_any more xs ≡ true

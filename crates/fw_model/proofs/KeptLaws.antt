@@ -14,11 +14,11 @@ use Rattle.fw_flow.specs.Dataflow.{System, Dataflow, kind_of, sender, receiver, 
 use Rattle.fw_flow.specs.NodeFunction.{place, stamp, sends, sent_by}
 use Rattle.fw_flow.specs.Projection.{events_at, all_inside, phi}
 use Rattle.fw_flow.specs.WellFormed.{IsWellFormed}
-use Rattle.fw_model.specs.History.{message_cmp, is_among, less, sent, message_on, delivered, pending, is_delivery_to, is_notification, was_delivered_to, was_notified, owed, is_injection, injected_count, IsQuiet, IsEnabled, IsLegal}
+use Rattle.fw_model.specs.History.{sent, message_on, delivered, pending, is_delivery_to, is_notification, was_delivered_to, was_notified, owed, is_injection, injected_count, IsQuiet, IsEnabled, IsLegal}
 use Rattle.fw_model.specs.LawsOfFiltering.{KeptDeliveriesHaveKeptCauses}
+use Rattle.fw_flow.specs.Message.{message_cmp, is_among, less}
+use Rattle.fw_flow.proofs.MessageLaws.{among-each, message_cmp-equal, less-each}
 use Rattle.fw_model.proofs.StampLaws.{leq_from, leq_to, line-leq, same-is}
-use Rattle.fw_model.proofs.CmpLaws.{among-each, message_cmp-equal}
-use Rattle.fw_model.proofs.LegalLaws.{less-each}
 use Rattle.fw_model.proofs.OrderLaws.{legal-inside_phi}
 use Rattle.fw_model.proofs.ClosedLaws.{numbered-ascend}
 use Rattle.fw_model.proofs.FilterLaws.{filter-all, any-filter, any_filter-none, how_many-filter, pending-kept}

@@ -38,6 +38,7 @@ pub mod MeasureLaws
 pub mod MeetLaws
 pub mod NotifiedLaws
 pub mod NumberedLaws
+pub mod OfferLaws
 pub mod OncePerNumberLaws
 pub mod OneByOneLaws
 pub mod OneNextLaws
@@ -69,6 +70,7 @@ pub mod StampMeasures
 pub mod SubBagLaws
 pub mod SumLaws
 pub mod TableLaws
+pub mod TallyLaws
 pub mod TimedCounts
 pub mod TimedLaws
 pub mod WeightLaws

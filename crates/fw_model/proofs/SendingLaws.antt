@@ -252,21 +252,21 @@ phi_of_kind-by_stamp sys (Regroup r) n f p fr u i =
     subst P (sym v.1) (regroup_phi greatest_number r v.0 f p fr)
 phi_of_kind-by_stamp sys kind n f p fr u i = same_phi _ f fr u i
 
-psi_of_kind-by_stamp : (sys : System) (kind : Kind) (f : Frontier) → SendsByStamp sys.flow kind
-    → IsFrontier (bounds_of_domain sys.flow (domain_of_kind sys.flow kind)) f
-    → (u : Stamp) → in_domain (bounds_of_domain sys.flow (out_domain_of_kind sys.flow kind)) u ≡ true
-    → (psi_of_kind (greatest_of_kind sys.flow kind) kind f u ≡ true) ↔ SendsAbove (send_stamp_of_kind sys.flow kind) f u
-psi_of_kind-by_stamp sys OutputEpoch f p fr u i = absurd p
-psi_of_kind-by_stamp sys OutputNumber f p fr u i = absurd p
-psi_of_kind-by_stamp sys Sequence f p fr u i = absurd p
-psi_of_kind-by_stamp sys (Enter l) f p fr u i = enter_psi (greatest_number ∷ []) (max_of sys.flow l) f fr u i
-psi_of_kind-by_stamp sys (Feedback l) f p fr u i = feedback_psi (greatest_number ∷ []) (max_of sys.flow l) f p fr u i
-psi_of_kind-by_stamp sys (Leave l) f p fr u i = leave_psi (greatest_number ∷ []) (max_of sys.flow l) f fr u i
-psi_of_kind-by_stamp sys (Regroup r) f p fr u i =
+psi_of_kind-by_stamp : (flow : Dataflow) (kind : Kind) (f : Frontier) → SendsByStamp flow kind
+    → IsFrontier (bounds_of_domain flow (domain_of_kind flow kind)) f
+    → (u : Stamp) → in_domain (bounds_of_domain flow (out_domain_of_kind flow kind)) u ≡ true
+    → (psi_of_kind (greatest_of_kind flow kind) kind f u ≡ true) ↔ SendsAbove (send_stamp_of_kind flow kind) f u
+psi_of_kind-by_stamp flow OutputEpoch f p fr u i = absurd p
+psi_of_kind-by_stamp flow OutputNumber f p fr u i = absurd p
+psi_of_kind-by_stamp flow Sequence f p fr u i = absurd p
+psi_of_kind-by_stamp flow (Enter l) f p fr u i = enter_psi (greatest_number ∷ []) (max_of flow l) f fr u i
+psi_of_kind-by_stamp flow (Feedback l) f p fr u i = feedback_psi (greatest_number ∷ []) (max_of flow l) f p fr u i
+psi_of_kind-by_stamp flow (Leave l) f p fr u i = leave_psi (greatest_number ∷ []) (max_of flow l) f fr u i
+psi_of_kind-by_stamp flow (Regroup r) f p fr u i =
     let v = in_line u greatest_number i in
-    let P : Stamp → Type 0 = λ w. (psi_of_kind (greatest_of_kind sys.flow (Regroup r)) (Regroup r) f w ≡ true) ↔ SendsAbove (regrouped r) f w in
+    let P : Stamp → Type 0 = λ w. (psi_of_kind (greatest_of_kind flow (Regroup r)) (Regroup r) f w ≡ true) ↔ SendsAbove (regrouped r) f w in
     subst P (sym v.1) (regroup_psi greatest_number r v.0 f p fr)
-psi_of_kind-by_stamp sys kind f p fr u i = same_psi _ f fr u i
+psi_of_kind-by_stamp flow kind f p fr u i = same_psi _ f fr u i
 
 -- ---- the laws
 
@@ -281,7 +281,7 @@ phi-by_stamp sys h e f p fr u i =
 
 pub psi-by_stamp : PsiBySendStamps
 unfolding psi bounds_of
-psi-by_stamp sys e f p fr u i = test_in_domain _ _ i (psi_of_kind-by_stamp sys (kind_of sys.flow (sender sys.flow e)) f p fr u i)
+psi-by_stamp flow e f p fr u i = test_in_domain _ _ i (psi_of_kind-by_stamp flow (kind_of flow (sender flow e)) f p fr u i)
 
 pub phi-in_domain : (sys : System) (h : List Event) (e : ℕ) (f : Frontier) (u : Stamp) → phi sys h e f u ≡ true → in_domain (bounds_of_edge sys.flow e) u ≡ true
 unfolding phi

@@ -7,15 +7,17 @@ use Rattle.fw_flow.specs.declared.choice.Cut.TheVariants.{At}
 use Rattle.fw_flow.specs.declared.step.Step.{Step}
 use Rattle.fw_flow.specs.declared.step.Step.TheVariants.{Recover, Collect}
 use Rattle.fw_flow.specs.Dataflow.{System, policy_of, kind_of}
-use Rattle.fw_model.specs.Choice.{View, restoring, IsCutWithin, by_checkpoints, IsCandidate, kept, IsConsistent}
+use Rattle.fw_flow.specs.declared.restoring.Restoring.TheVariants.{Checkpoints}
+use Rattle.fw_flow.specs.Restoring.{way_of}
+use Rattle.fw_model.specs.Choice.{View, IsCutWithin, IsCandidate, kept, IsConsistent}
 use Rattle.fw_model.specs.Machine.{Machine, is_failed}
 
 -- where a node is restored by its checkpoints, of two cuts that it offers one lies within the other
 abbrev pub AreCheckpointsChains : System → Machine → (ℕ → Bool) → View → Type 0
 AreCheckpointsChains sys state lost view =
-    (p : ℕ) (one other : Cut) → p < length sys.flow.nodes → restoring (kind_of sys.flow p) (policy_of sys.flow p) ≡ by_checkpoints
+    (p : ℕ) (one other : Cut) → p < length sys.flow.nodes → way_of sys.flow p ≡ Checkpoints
     → IsCandidate sys state lost view p one → IsCandidate sys state lost view p other
-    → IsCutWithin sys p one other ⊎ IsCutWithin sys p other one
+    → IsCutWithin sys.flow p one other ⊎ IsCutWithin sys.flow p other one
 
 -- where these nodes count as failed some choice is consistent, and checkpoints are chains
 pub record CanChoose (sys : System) (state : Machine) (lost : ℕ → Bool) : Type 0 where

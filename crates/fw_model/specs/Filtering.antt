@@ -8,7 +8,8 @@ use Rattle.fw_flow.specs.declared.event.Message.{Message}
 use Rattle.fw_flow.specs.Dataflow.{bounds_of, Dataflow, System, sender, receiver}
 use Rattle.fw_flow.specs.NodeFunction.{stamp, place}
 use Rattle.fw_flow.specs.Projection.{all_inside, phi}
-use Rattle.fw_model.specs.Choice.{stamp_of_notice, IsNoteKept, HasItsNotices, NoteComesFromSender, ComesFromSender, covers_in, LiesInReceiver}
+use Rattle.fw_model.specs.Choice.{IsNoteKept, HasItsNotices, NoteComesFromSender, ComesFromSender, LiesInReceiver}
+use Rattle.fw_model.specs.Covers.{covers_in, stamp_of_notice}
 use Rattle.fw_model.specs.History.{delivered}
 use Rattle.fw_model.specs.Machine.{Machine}
 
@@ -63,11 +64,11 @@ pub record IsConsistentlyKept (sys : System) (h : List Event) (keep note : ℕ �
 pub record MeetsInclusions (sys : System) (state : Machine) (choice : Choice) : Type 0 where
   pub one_cut_each : length choice.cuts ≡ length sys.flow.nodes
   pub one_note_each : length choice.notes ≡ length sys.flow.nodes
-  pub delivered : (d : ℕ) → d < length sys.flow.edges → ComesFromSender sys (covers_in sys state) choice d
-  pub notified : (p : ℕ) → p < length sys.flow.nodes → HasItsNotices sys (covers_in sys state) choice p
-  pub own : (p : ℕ) → p < length sys.flow.nodes → IsNoteKept sys choice p
-  pub notes : (d : ℕ) → d < length sys.flow.edges → NoteComesFromSender sys (covers_in sys state) choice d
+  pub delivered : (d : ℕ) → d < length sys.flow.edges → ComesFromSender sys.flow (covers_in sys state) choice d
+  pub notified : (p : ℕ) → p < length sys.flow.nodes → HasItsNotices sys.flow (covers_in sys state) choice p
+  pub own : (p : ℕ) → p < length sys.flow.nodes → IsNoteKept sys.flow choice p
+  pub notes : (d : ℕ) → d < length sys.flow.edges → NoteComesFromSender sys.flow (covers_in sys state) choice d
 
 -- what the sender of an edge sent inside its cut and cannot send again lies in what the receiver keeps
 abbrev pub KeepsDiscarded : System → Machine → Choice → ℕ → Type 0
-KeepsDiscarded sys state choice e = LiesInReceiver sys (covers_in sys state) choice e
+KeepsDiscarded sys state choice e = LiesInReceiver sys.flow (covers_in sys state) choice e

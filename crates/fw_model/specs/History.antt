@@ -1,38 +1,17 @@
 -- The machine without failures: a history of events, the latest first, and which event may come next.
 use Rattle.std.specs.Prelude.{◌≡◌, ℕ, ◌<◌, Bool, true, false, not, ◌&&◌, ◌||◌, ◌==◌, nat_lt, if◌then◌else◌, List, [], ◌∷◌, length, filter, map}
-use Rattle.std.specs.List.{flat_map, list_any, AllByRecursion}
-use Rattle.std.specs.Ordering.{is_eq, ordering_then}
-use Rattle.std.specs.Cmp.Lexicographic.{slice_cmp}
-use Rattle.std.specs.declared.cmp.Ordering.{Ordering}
-use Rattle.fw_time.specs.Stamp.{Stamp, leq, lesser, same, stamp_cmp, in_domain}
-use Rattle.fw_bag.specs.Rec.{rec_cmp}
-use Rattle.fw_bag.specs.declared.rec.Rec.{Rec}
-use Rattle.fw_frontier.specs.Frontier.{Frontier, IsFrontier, Within}
 use Rattle.fw_flow.specs.Counting.{how_many}
+use Rattle.std.specs.List.{flat_map, list_any, AllByRecursion}
+use Rattle.fw_time.specs.Stamp.{Stamp, leq, lesser, same, in_domain}
+use Rattle.fw_frontier.specs.Frontier.{Frontier, IsFrontier, Within}
 use Rattle.fw_flow.specs.declared.event.Event.{Event}
 use Rattle.fw_flow.specs.declared.event.Event.TheVariants.{Inject, Deliver, Notify}
 use Rattle.fw_flow.specs.declared.event.Message.{Message}
 use Rattle.fw_flow.specs.Dataflow.{System, Dataflow, kind_of, sender, receiver, bounds_of, is_notified_kind, is_input_kind, is_numbered, batches_of}
 use Rattle.fw_flow.specs.NodeFunction.{sent_by, place, stamp}
+use Rattle.fw_flow.specs.Message.{is_among, less}
 use Rattle.fw_flow.specs.Projection.{events_at, phi, first_number_of}
-
--- messages are ordered by stamp, rec and causes
-abbrev pub message_cmp : Message → Message → Ordering
-message_cmp a b = ordering_then (stamp_cmp a.at b.at) (ordering_then (rec_cmp a.rec b.rec) (slice_cmp stamp_cmp a.causes b.causes))
-
--- whether the message is among these
-abbrev pub is_among : Message → List Message → Bool
-is_among m xs = list_any (λ x. is_eq (message_cmp m x)) xs
-
--- the messages without the first that is this one
-abbrev pub without : Message → List Message → List Message
-without m [] = []
-without m (x ∷ xs) = if is_eq (message_cmp m x) then xs else x ∷ without m xs
-
--- the messages less those of the second list, each as often as it stands there
-abbrev pub less : List Message → List Message → List Message
-less ms [] = ms
-less ms (d ∷ ds) = without d (less ms ds)
+use Rattle.fw_bag.specs.declared.rec.Rec.{Rec}
 
 -- whether one of the messages is at a stamp that passes the test
 abbrev pub some_at : (Stamp → Bool) → List Message → Bool

@@ -55,7 +55,7 @@ abbrev pub LargestChoiceHoldsLowWatermark : Type 0
 LargestChoiceHoldsLowWatermark = (sys : System) → IsWellFormedSystem sys → (steps : List Step) (outcomes : List Outcome) (last : Machine)
     → Run sys (first_state sys) steps outcomes last → (lost : ℕ → Bool) (view : View) (choice : Choice)
     → IsLargest sys last (IsCandidate sys last lost view) choice
-    → (p : ℕ) → p < length sys.flow.nodes → IsCutWithin sys p (At (front_of last.low p)) (cut_of choice p)
+    → (p : ℕ) → p < length sys.flow.nodes → IsCutWithin sys.flow p (At (front_of last.low p)) (cut_of choice p)
 
 -- a step from a state to which steps of a well-formed system lead from the first one lowers the low watermark at no node
 abbrev pub LowWatermarkNeverFalls : Type 0

@@ -10,7 +10,8 @@ use Rattle.fw_flow.specs.WellFormed.{IsWellFormed}
 use Rattle.fw_model.specs.History.{IsLegal, sent, delivered, pending}
 use Rattle.fw_model.specs.Machine.{Machine, events}
 use Rattle.fw_flow.specs.declared.choice.Choice.{Choice}
-use Rattle.fw_model.specs.Choice.{View, IsCandidate, IsConsistent, can_resend, cut_of, kept_of, filtered}
+use Rattle.fw_flow.specs.Restoring.{can_resend}
+use Rattle.fw_model.specs.Choice.{View, IsCandidate, IsConsistent, cut_of, kept_of, filtered}
 use Rattle.fw_model.specs.Settled.{IsFull, IsCutWithinSettled}
 use Rattle.fw_model.specs.Filtering.{AreFrontiers, kept_events, messages_inside, messages_outside, messages_from, ComeFromKept, HaveKeptCauses, IsConsistentlyKept, MeetsInclusions, KeepsDiscarded}
 
@@ -85,7 +86,7 @@ PendingForPresent = (sys : System) (state : Machine) (choice : Choice) → IsWel
     → IsLegal sys (events state.history) → MeetsInclusions sys state choice → (e : ℕ)
     → cut_of choice (receiver sys.flow e) ≡ Present
     → pending sys (events (filtered sys choice state.history)) e
-    ≡ messages_from (kept_of sys choice (sender sys.flow e)) (pending sys (events state.history) e)
+    ≡ messages_from (kept_of sys.flow choice (sender sys.flow e)) (pending sys (events state.history) e)
 
 -- A legal history of a well-formed flow with epochs, full inside what is settled, is filtered by a choice that meets the
 -- inclusions. For a receiver that is cut within what is settled, what is pending in the filtered history is the part with
@@ -95,8 +96,8 @@ PendingForCut = (sys : System) (state : Machine) (choice : Choice) → IsWellFor
     → IsLegal sys (events state.history) → IsFull sys state → MeetsInclusions sys state choice → (e : ℕ)
     → IsCutWithinSettled sys state choice (receiver sys.flow e)
     → pending sys (events (filtered sys choice state.history)) e
-    ≡ messages_outside (kept_of sys choice (receiver sys.flow e))
-    (messages_from (kept_of sys choice (sender sys.flow e)) (sent sys (events state.history) e))
+    ≡ messages_outside (kept_of sys.flow choice (receiver sys.flow e))
+    (messages_from (kept_of sys.flow choice (sender sys.flow e)) (sent sys (events state.history) e))
 
 -- A legal history of a well-formed flow with epochs, full inside what is settled, is filtered by a choice that meets the
 -- inclusions. For a receiver that is cut within what is settled nothing is pending from a sender whose policy cannot send

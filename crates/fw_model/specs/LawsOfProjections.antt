@@ -44,23 +44,23 @@ PhiOfEverything = (sys : System) (h : List Event) (e : ℕ) (u : Stamp)
 
 -- psi of a frontier of the sender is a frontier of the edge
 abbrev pub PsiIsFrontier : Type 0
-PsiIsFrontier = (sys : System) (e : ℕ) (f : Frontier) → IsSenderFrontier sys.flow e f
-    → IsFrontier (bounds_of_edge sys.flow e) (psi sys e f)
+PsiIsFrontier = (flow : Dataflow) (e : ℕ) (f : Frontier) → IsSenderFrontier flow e f
+    → IsFrontier (bounds_of_edge flow e) (psi flow e f)
 
 -- psi is monotone: what is inside a larger frontier can send at more stamps
 abbrev pub PsiIsMonotone : Type 0
-PsiIsMonotone = (sys : System) (e : ℕ) (f g : Frontier) → Within f g → Within (psi sys e f) (psi sys e g)
+PsiIsMonotone = (flow : Dataflow) (e : ℕ) (f g : Frontier) → Within f g → Within (psi flow e f) (psi flow e g)
 
 -- psi of the union of any family is the union of the psis
 abbrev pub PsiOfUnion : Type 0
-PsiOfUnion = (sys : System) (e : ℕ) (family : ℕ → Frontier) (f : Frontier) → IsUnion family f
-    → IsUnion (λ i. psi sys e (family i)) (psi sys e f)
+PsiOfUnion = (flow : Dataflow) (e : ℕ) (family : ℕ → Frontier) (f : Frontier) → IsUnion family f
+    → IsUnion (λ i. psi flow e (family i)) (psi flow e f)
 
 -- psi of what is inside one of two frontiers is what is inside one of their psis
 abbrev pub PsiOfJoin : Type 0
-PsiOfJoin = (sys : System) (e : ℕ) (f g : Frontier) (u : Stamp)
-    → psi sys e (join f g) u ≡ join (psi sys e f) (psi sys e g) u
+PsiOfJoin = (flow : Dataflow) (e : ℕ) (f g : Frontier) (u : Stamp)
+    → psi flow e (join f g) u ≡ join (psi flow e f) (psi flow e g) u
 
 -- psi of nothing is nothing
 abbrev pub PsiOfNothing : Type 0
-PsiOfNothing = (sys : System) (e : ℕ) (u : Stamp) → psi sys e nothing u ≡ nothing u
+PsiOfNothing = (flow : Dataflow) (e : ℕ) (u : Stamp) → psi flow e nothing u ≡ nothing u

@@ -76,7 +76,7 @@ KeptWatermarksLieWithinToday = (sys : System) → IsWellFormedSystem sys → (st
 abbrev pub BatchesOutsideCutsLieOutsideLow : Type 0
 BatchesOutsideCutsLieOutsideLow = (sys : System) → IsWellFormedSystem sys → (steps : List Step) (outcomes : List Outcome) (last : Machine)
     → Run sys (first_state sys) steps outcomes last → (lost : ℕ → Bool) (choice : Choice) → IsLargest sys last (IsCandidate sys last lost kept) choice
-    → (s x : ℕ) → s < length sys.flow.nodes → kept_of sys choice s (x ∷ []) ≡ false
+    → (s x : ℕ) → s < length sys.flow.nodes → kept_of sys.flow choice s (x ∷ []) ≡ false
     → frontier_of (bounds_of sys.flow s) (front_of last.low s) (x ∷ []) ≡ false
 
 -- a batch of an input that is not injected in some state of a run of a well-formed system, and so is to come, lies outside

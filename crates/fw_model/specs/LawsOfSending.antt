@@ -37,26 +37,26 @@ PhiBySendStamps = (sys : System) (h : List Event) (e : ℕ) (f : Frontier)
 -- where the sender sends at the send stamps of its events, a stamp u of the edge is inside psi of a frontier of the sender
 -- exactly where some stamp inside the frontier sends at u or above
 abbrev pub PsiBySendStamps : Type 0
-PsiBySendStamps = (sys : System) (e : ℕ) (f : Frontier)
-    → SendsByStamp sys.flow (kind_of sys.flow (sender sys.flow e)) → IsSenderFrontier sys.flow e f
-    → (u : Stamp) → in_domain (bounds_of_edge sys.flow e) u ≡ true
-    → (psi sys e f u ≡ true) ↔ SendsAbove (send_stamp sys.flow (sender sys.flow e)) f u
+PsiBySendStamps = (flow : Dataflow) (e : ℕ) (f : Frontier)
+    → SendsByStamp flow (kind_of flow (sender flow e)) → IsSenderFrontier flow e f
+    → (u : Stamp) → in_domain (bounds_of_edge flow e) u ≡ true
+    → (psi flow e f u ≡ true) ↔ SendsAbove (send_stamp flow (sender flow e)) f u
 
 -- where the sender sends at the send stamps of its events, a stamp t of the sender is inside psi_back of a frontier of the
 -- edge exactly where each stamp at t or below that sends, sends inside the frontier
 abbrev pub PsiBackBySendStamps : Type 0
-PsiBackBySendStamps = (sys : System) (e : ℕ) (g : Frontier)
-    → SendsByStamp sys.flow (kind_of sys.flow (sender sys.flow e)) → IsFrontier (bounds_of_edge sys.flow e) g
-    → (t : Stamp) → in_domain (bounds_of sys.flow (sender sys.flow e)) t ≡ true
-    → (psi_back sys e g t ≡ true) ↔ SendsWithin (send_stamp sys.flow (sender sys.flow e)) g t
+PsiBackBySendStamps = (flow : Dataflow) (e : ℕ) (g : Frontier)
+    → SendsByStamp flow (kind_of flow (sender flow e)) → IsFrontier (bounds_of_edge flow e) g
+    → (t : Stamp) → in_domain (bounds_of flow (sender flow e)) t ≡ true
+    → (psi_back flow e g t ≡ true) ↔ SendsWithin (send_stamp flow (sender flow e)) g t
 
 -- where the sender sends at the send stamps of its events, psi_back of a frontier g of the edge is a frontier of the
 -- sender, and the frontiers of the sender within it are those whose psi lies within g
 abbrev pub PsiBackIsLargest : Type 0
-PsiBackIsLargest = (sys : System) (e : ℕ) (g : Frontier)
-    → SendsByStamp sys.flow (kind_of sys.flow (sender sys.flow e)) → IsFrontier (bounds_of_edge sys.flow e) g
-    → IsSenderFrontier sys.flow e (psi_back sys e g)
-    × ((f : Frontier) → IsSenderFrontier sys.flow e f → Within (psi sys e f) g ↔ Within f (psi_back sys e g))
+PsiBackIsLargest = (flow : Dataflow) (e : ℕ) (g : Frontier)
+    → SendsByStamp flow (kind_of flow (sender flow e)) → IsFrontier (bounds_of_edge flow e) g
+    → IsSenderFrontier flow e (psi_back flow e g)
+    × ((f : Frontier) → IsSenderFrontier flow e f → Within (psi flow e f) g ↔ Within f (psi_back flow e g))
 
 -- each message that an event makes a node send that is no sequence is at the send stamp of the event, and its one cause is
 -- the event's stamp
@@ -72,14 +72,14 @@ abbrev pub SendsAreInsidePsi : Type 0
 SendsAreInsidePsi = (sys : System) (e : ℕ) (f : Frontier)
     → SendsByStamp sys.flow (kind_of sys.flow (sender sys.flow e)) → IsSenderFrontier sys.flow e f
     → (before : List Event) (v : Event) → f (stamp v) ≡ true
-    → AllByRecursion (λ (m : Message). psi sys e f m.at ≡ true) (sends sys (sender sys.flow e) before v)
+    → AllByRecursion (λ (m : Message). psi sys.flow e f m.at ≡ true) (sends sys (sender sys.flow e) before v)
 
 -- where the sender sends at the send stamps of its events, each message on an edge that comes from events inside a frontier
 -- of the sender is at a stamp inside psi
 abbrev pub SentFromInsideIsInsidePsi : Type 0
 SentFromInsideIsInsidePsi = (sys : System) (h : List Event) (e : ℕ) (f : Frontier)
     → SendsByStamp sys.flow (kind_of sys.flow (sender sys.flow e)) → IsSenderFrontier sys.flow e f
-    → AllByRecursion (λ (m : Message). all_inside f m.causes ≡ true → psi sys e f m.at ≡ true) (sent sys h e)
+    → AllByRecursion (λ (m : Message). all_inside f m.causes ≡ true → psi sys.flow e f m.at ≡ true) (sent sys h e)
 
 -- where the sender sends at the send stamps of its events, and its events are at stamps of its domain, each message on an
 -- edge at a stamp inside phi of a frontier of the sender comes from events inside

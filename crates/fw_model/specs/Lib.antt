@@ -1,6 +1,7 @@
 pub mod Acknowledgements
 pub mod Choice
 pub mod Choosing
+pub mod Covers
 pub mod Denotation
 pub mod Filtering
 pub mod History
@@ -12,6 +13,7 @@ pub mod LawsOfDenotation
 pub mod LawsOfExistence
 pub mod LawsOfFiltering
 pub mod LawsOfLegalHistories
+pub mod LawsOfOffers
 pub mod LawsOfProjections
 pub mod LawsOfRecoveries
 pub mod LawsOfRestoring
@@ -20,6 +22,7 @@ pub mod LawsOfSending
 pub mod LawsOfSteps
 pub mod Machine
 pub mod Measure
+pub mod Offers
 pub mod Order
 pub mod Resending
 pub mod Sending

@@ -22,12 +22,12 @@ logged_messages sys state low e f = messages_outside (at_receiver sys low e) (me
 -- what is to be sent again on edge e: what the sender's kept events sent outside the receiver's cut
 abbrev pub messages_to_resend : System → Machine → Choice → ℕ → List Message
 messages_to_resend sys state choice e =
-    messages_outside (kept_of sys choice (receiver sys.flow e)) (messages_from (kept_of sys choice (sender sys.flow e)) (sent sys (events state.history) e))
+    messages_outside (kept_of sys.flow choice (receiver sys.flow e)) (messages_from (kept_of sys.flow choice (sender sys.flow e)) (sent sys (events state.history) e))
 
 -- What is to be sent again on edge e lies outside low at the receiver, so that the log without what lies inside holds it.
 pub record HoldsWhatIsSentAgain (sys : System) (state : Machine) (choice : Choice) (low : List Front) (e : ℕ) : Type 0 where
   pub outside : AllByRecursion (λ (m : Message). at_receiver sys low e m.at ≡ false) (messages_to_resend sys state choice e)
-  pub logged : messages_outside (kept_of sys choice (receiver sys.flow e)) (logged_messages sys state low e (kept_of sys choice (sender sys.flow e)))
+  pub logged : messages_outside (kept_of sys.flow choice (receiver sys.flow e)) (logged_messages sys state low e (kept_of sys.flow choice (sender sys.flow e)))
       ≡ messages_to_resend sys state choice e
 
 -- the log that is kept with what is written of node p holds what is to be sent again on the node's edges, if it is a checkpoint

@@ -30,7 +30,7 @@ pub record IsFull (sys : System) (state : Machine) : Type 0 where
 -- a node is cut to what is settled, or to less
 abbrev pub IsCutWithinSettled : System → Machine → Choice → ℕ → Type 0
 IsCutWithinSettled sys state choice p =
-    Within (kept_of sys choice p) (frontier_of (bounds_of sys.flow p) (front_of state.settled p))
+    Within (kept_of sys.flow choice p) (frontier_of (bounds_of sys.flow p) (front_of state.settled p))
 
 -- Inside what is settled, what was delivered on each edge is what the family has there, and no node is owed a notification.
 pub record IsDenotedInside (sys : System) (family : Family) (state : Machine) : Type 0 where

@@ -1,8 +1,7 @@
 -- The steps of the event-list machine: when each is enabled, to which state it leads, and what it shows.
 use Rattle.std.specs.Prelude.{◌≡◌, ◌≢◌, ◌⊎◌, ℕ, ◌+◌, ◌<◌, Bool, true, false, not, ◌&&◌, ◌||◌, ◌==◌, if◌then◌else◌, List, [], ◌∷◌, ◌++◌, map, length, Option, Some, None, slice_set, filter}
 use Rattle.std.specs.List.{list_any, list_all, flat_map, AllByRecursion}
-use Rattle.std.specs.Ordering.{is_gt, is_eq}
-use Rattle.std.specs.Cmp.Lexicographic.{slice_cmp}
+use Rattle.std.specs.Ordering.{is_gt}
 use Rattle.fw_time.specs.Stamp.{Stamp, leq, same, stamp_cmp}
 use Rattle.fw_bag.specs.declared.rec.Rec.{Rec}
 use Rattle.fw_bag.specs.Keyed.{sorted}
@@ -22,8 +21,9 @@ use Rattle.fw_flow.specs.declared.step.Step.TheVariants.{Inject, Deliver, Notify
 use Rattle.fw_flow.specs.Dataflow.{System, kind_of, policy_of, receiver, out_edges, bounds_of, send_stamp, is_output_kind, places}
 use Rattle.fw_flow.specs.WellFormed.{may_keep_nothing}
 use Rattle.fw_flow.specs.NodeFunction.{place, stamp, delivered_recs}
-use Rattle.fw_model.specs.History.{IsEnabled, IsComplete, message_cmp}
+use Rattle.fw_model.specs.History.{IsEnabled, IsComplete}
 use Rattle.fw_model.specs.Machine.{Machine, Numbered, Write, Written, checkpoint, logged_event, Progress, in_flight, acknowledged, collected, events, no_stamps, front_of, is_failed, bound_of}
+use Rattle.fw_flow.specs.Message.{message_cmp}
 use Rattle.fw_flow.specs.declared.choice.Choice.{Choice}
 use Rattle.fw_model.specs.Choice.{kept, cut_of, filtered, IsCandidate, IsLargest, IsWatermark}
 

@@ -29,4 +29,4 @@ pub record IsUnionOfChoices (sys : System) (one other union : Choice) : Type 0 w
   pub one_note_each : length union.notes ≡ length sys.flow.nodes
   pub cuts : (p : ℕ) → p < length sys.flow.nodes → IsUnionOfCuts sys p (cut_of one p) (cut_of other p) (cut_of union p)
   pub notes : (p : ℕ) → p < length sys.flow.nodes
-      → Names (bounds_of sys.flow p) (front_of union.notes p) (join (note_of sys one p) (note_of sys other p))
+      → Names (bounds_of sys.flow p) (front_of union.notes p) (join (note_of sys.flow one p) (note_of sys.flow other p))

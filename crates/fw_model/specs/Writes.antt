@@ -12,7 +12,8 @@ use Rattle.fw_flow.specs.Dataflow.{System, sender, bounds_of, receiver, kind_of}
 use Rattle.fw_flow.specs.NodeFunction.{stamp, place}
 use Rattle.fw_flow.specs.Projection.{events_at}
 use Rattle.fw_flow.specs.WellFormed.{may_keep_nothing}
-use Rattle.fw_model.specs.Choice.{discarded_cover, notified_cover, delivered_cover, ever, counts}
+use Rattle.fw_model.specs.Choice.{ever, counts}
+use Rattle.fw_model.specs.Covers.{covers_in}
 use Rattle.fw_model.specs.Filtering.{events_inside, messages_from}
 use Rattle.fw_model.specs.History.{sent, IsEnabled}
 use Rattle.fw_model.specs.Machine.{events, Machine, Written, checkpoint, logged_event, Write, front_of, first_state, Numbered, collected}
@@ -34,9 +35,9 @@ pub record IsSamePart (sys : System) (h k : List Event) (p : ℕ) (f : Frontier)
 -- of it, and as what it cannot send again.
 pub record CountsTheSame (sys : System) (state next : Machine) (p : ℕ) (f : Front) : Type 0 where
   pub part : IsSamePart sys (events state.history) (events next.history) p (frontier_of (bounds_of sys.flow p) f)
-  pub delivered : (d : ℕ) → receiver sys.flow d ≡ p → delivered_cover sys next p d (At f) ≡ delivered_cover sys state p d (At f)
-  pub notified : notified_cover sys next p (At f) ≡ notified_cover sys state p (At f)
-  pub discarded : (e : ℕ) → sender sys.flow e ≡ p → discarded_cover sys next p e (At f) ≡ discarded_cover sys state p e (At f)
+  pub delivered : (d : ℕ) → receiver sys.flow d ≡ p → (covers_in sys next).delivered d (At f) ≡ (covers_in sys state).delivered d (At f)
+  pub notified : (covers_in sys next).notified p (At f) ≡ (covers_in sys state).notified p (At f)
+  pub discarded : (e : ℕ) → sender sys.flow e ≡ p → (covers_in sys next).discarded e (At f) ≡ (covers_in sys state).discarded e (At f)
 
 -- what is written of node p counts the same in two states, if it is a checkpoint
 abbrev pub CountsWritten : System → Machine → Machine → ℕ → Written → Type 0

@@ -14,6 +14,7 @@ ghost use Rattle.fw_model.specs.LawsOfDenotation.{DenotationExists, DenotationIs
 ghost use Rattle.fw_model.specs.LawsOfExistence.{CompleteExists, CompleteIsTheOnlyOne, FrontierHasFront, LargestChoiceExists, SettledCanGrow};
 ghost use Rattle.fw_model.specs.LawsOfFiltering.{ConsistentMeetsInclusions, FilteredHistoryIsLegal, KeptDeliveriesHaveKeptCauses, KeptEventsAreLegal, KeptEventsDeliverTheSame, KeptEventsSendTheSame, KeptEventsSendTheSameFromWithin, NothingPendingWithoutLog, PendingAtKeptStamps, PendingAtOtherStamps, PendingForCut, PendingForPresent, PhiOfKeptEvents};
 ghost use Rattle.fw_model.specs.LawsOfLegalHistories.{LegalEventsAreInDomain, LegalMessagesAreInDomain, OnlyInputsInject};
+ghost use Rattle.fw_model.specs.LawsOfOffers.{ConsistentByOffersIsConsistent, LargestByOffersIsLargest};
 ghost use Rattle.fw_model.specs.LawsOfProjections.{PhiByCountIsMonotone, PhiGrowsWithHistory, PhiIgnoresHistory, PhiIsFrontier, PhiIsMonotone, PhiOfEverything, PhiOfMeet, PsiIsFrontier, PsiIsMonotone, PsiOfJoin, PsiOfNothing, PsiOfUnion};
 ghost use Rattle.fw_model.specs.LawsOfRecoveries.{AcknowledgementsShowDenotationThroughRecoveries, CandidatesLieWithinSettled, DenotedIsFull, RunsStayLegalThroughRecoveries, SettledStaysDenoted, StepsKeepHistoriesLegal};
 ghost use Rattle.fw_model.specs.LawsOfRestoring.{BatchesOutsideCutsLieOutsideLow, BatchesToComeLieOutsideLow, CheckpointLogsHoldWhatIsSentAgain, CheckpointsAreAsTheyWereAsked, CheckpointsAscend, CheckpointsAtCutsAreKept, CheckpointsStayTrue, CollectedIsWhatLiesBelow, EventsInsideCutsAreLogged, EventsThatMustBeKeptAreNeverCollected, KeptWatermarksLieWithinToday, LogsHoldWhatIsSentAgain, NothingComesInsideCheckpoints, WhatIsForgottenWasAcknowledged};
@@ -650,4 +651,14 @@ pub fn collected_is_what_lies_below()
 /// now as it did then.
 pub fn checkpoints_are_as_they_were_asked()
     ensures { CheckpointsAreAsTheyWereAsked }
+{}
+
+/// Where data are what the machine offers in a state, the choices that are consistent by the data are those of the machine.
+pub fn consistent_by_offers_is_consistent()
+    ensures { ConsistentByOffersIsConsistent }
+{}
+
+/// Where data are what the machine offers in a state, the largest choice by the data is that of the machine.
+pub fn largest_by_offers_is_largest()
+    ensures { LargestByOffersIsLargest }
 {}

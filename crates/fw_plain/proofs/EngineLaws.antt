@@ -29,7 +29,8 @@ use Rattle.fw_model.proofs.DomainLaws.{has_epochs}
 use Rattle.fw_model.proofs.GoingOn.{runs-go_on}
 use Rattle.fw_model.proofs.LegalLaws.{legal_events-in_domain}
 use Rattle.fw_model.proofs.RecoveryLaws.{runs-legal}
-use Rattle.fw_plain.specs.Engine.{Standing, state_of, IsReached, IsOfEachNode, IsSound, is_plain_step}
+use Rattle.fw_flow.specs.Step.{is_plain_step}
+use Rattle.fw_plain.specs.Engine.{Standing, state_of, IsReached, IsOfEachNode, IsSound}
 use Rattle.fw_plain.specs.Past.{Past, with_one_more}
 use Rattle.fw_plain.proofs.FrontsLaws.{names-no_stamps}
 

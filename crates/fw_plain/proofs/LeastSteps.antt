@@ -15,11 +15,13 @@ use Rattle.fw_bag.proofs.OrderingLaws.{le_not_gt, gt_of}
 use Rattle.fw_flow.specs.declared.event.Event.{Event}
 use Rattle.fw_flow.specs.declared.event.Message.{Message}
 use Rattle.fw_flow.specs.Dataflow.{System, is_numbered}
-use Rattle.fw_model.specs.History.{IsDeliverable, message_cmp, is_among, pending, delivered}
+use Rattle.fw_model.specs.History.{IsDeliverable, pending, delivered}
 use Rattle.fw_plain.specs.Least.{is_number, is_wanted_message, IsLeastWanted, IsLeastBy, lesser_by}
 use Rattle.fw_model.specs.Steps.{IsAsked, IsNextMessage, is_asked}
-use Rattle.fw_model.proofs.CmpLaws.{among-each, not_greater}
+use Rattle.fw_model.proofs.CmpLaws.{not_greater}
 use Rattle.fw_model.proofs.EnabledLaws.{asked-is, asked-from}
+use Rattle.fw_flow.specs.Message.{message_cmp, is_among}
+use Rattle.fw_flow.proofs.MessageLaws.{among-each}
 use Rattle.fw_model.proofs.StampLaws.{same-is, same-from}
 
 -- ---- one element more

@@ -18,10 +18,10 @@ use Rattle.fw_flow.specs.Dataflow.{System, Dataflow, sender, receiver, out_edges
 use Rattle.fw_flow.specs.NodeFunction.{sent_by}
 use Rattle.fw_flow.specs.Projection.{all_inside, events_at}
 use Rattle.fw_flow.specs.Projection as projection
-use Rattle.fw_model.specs.Choice.{stamp_of_notice}
 use Rattle.fw_model.specs.History.{delivered, sent, AreAtNodes}
+use Rattle.fw_model.specs.Covers.{stamp_of_notice}
 use Rattle.fw_model.proofs.FilterLaws.{filter-in, filter-out}
-use Rattle.fw_monitor.specs.Offers.{stamps_from, count_from, AreOnEdges}
+use Rattle.fw_model.specs.Offers.{stamps_on_from, count_from, AreOnEdges}
 use Rattle.fw_plain.specs.Offered.{alone, delivery_to, deliveries_to, on_each, sent_from}
 
 -- the stamps of the messages
@@ -179,7 +179,7 @@ one-counted : (b : Bool) (m : Counted) (n : ℕ) (ms : List Counted) → m.count
 one-counted true m n ms k h = omega arith
 one-counted false m n ms k h = h
 
-counted : (e : ℕ) (f : Frontier) (ms : List Counted) → AllByRecursion (λ (m : Counted). m.count ≡ 1) ms → count_from e f ms ≡ length (stamps_from e f ms)
+counted : (e : ℕ) (f : Frontier) (ms : List Counted) → AllByRecursion (λ (m : Counted). m.count ≡ 1) ms → count_from e f ms ≡ length (stamps_on_from e f ms)
 counted e f [] a = refl
 counted e f (m ∷ ms) a =
     one-counted (m.edge == e && all_inside f m.causes) m (count_from e f ms) (filter (λ (x : Counted). x.edge == e && all_inside f x.causes) ms) a.0 (counted e f ms a.1)

@@ -5,37 +5,7 @@ use Rattle.std.proofs.lemmas.List.Quantifiers.{position-Some}
 use Rattle.std.specs.Ordering.{is_eq}
 use Rattle.std.proofs.lemmas.Bool.{cond-true, cond-false, cases_lt}
 use Rattle.fw_flow.specs.declared.event.Message.{Message}
-use Rattle.fw_model.specs.History.{message_cmp, without}
+use Rattle.fw_flow.specs.Message.{message_cmp, without}
 
 -- ---- one message taken away
 
-without_at : (m : Message) (xs : List Message) (i : ℕ) (d : Message) → i < length xs → is_eq (message_cmp m (get_or xs i d)) ≡ true
-    → ((k : ℕ) → k < i → is_eq (message_cmp m (get_or xs k d)) ≡ false) → without m xs ≡ remove xs i
-without_at m [] i d l e b = absurd (omega arith)
-without_at m (x ∷ xs) zero d l e b = cond-true (is_eq (message_cmp m x)) xs (x ∷ without m xs) e
-without_at m (x ∷ xs) (suc i) d l e b =
-    cond-false (is_eq (message_cmp m x)) xs (x ∷ without m xs) (b 0 (omega arith))
-    ∙ ap (λ ys. x ∷ ys) (without_at m xs i d (omega arith) e (λ k h. b (suc k) (omega arith)))
-
-pub without_there : (m : Message) (xs : List Message) (i : ℕ) → position (λ x. is_eq (message_cmp m x)) xs ≡ Some i → without m xs ≡ remove xs i
-without_there m xs i e =
-    let a = position-Some (λ x. is_eq (message_cmp m x)) xs i m e in
-    without_at m xs i m a.0 a.1 a.2
-
-past_cons : (m x : Message) (xs : List Message) → (length xs ≤ position_or_len (λ y. is_eq (message_cmp m y)) xs → without m xs ≡ xs)
-    → (b : Bool) → suc (length xs) ≤ cond (not b) (1 + position_or_len (λ y. is_eq (message_cmp m y)) xs) 0 → cond b xs (x ∷ without m xs) ≡ x ∷ xs
-past_cons m x xs ih true k = absurd (omega arith)
-past_cons m x xs ih false k = ap (λ ys. x ∷ ys) (ih (omega arith))
-
-without_past : (m : Message) (xs : List Message) → length xs ≤ position_or_len (λ x. is_eq (message_cmp m x)) xs → without m xs ≡ xs
-without_past m [] l = refl
-without_past m (x ∷ xs) l = past_cons m x xs (without_past m xs) (is_eq (message_cmp m x)) l
-
-none_past : (n p : ℕ) → cond (nat_lt p n) (Some p) None ≡ None → n ≤ p
-none_past n p e = elim (cases_lt p n) [
-  | inl l ↦ let a : Some p ≡ None = sym (cond-true (nat_lt p n) (Some p) None (lt-ltb p n l)) ∙ e in absurd (cc)
-  | inr l ↦ l
-]
-
-pub without_nowhere : (m : Message) (xs : List Message) → position (λ x. is_eq (message_cmp m x)) xs ≡ None → without m xs ≡ xs
-without_nowhere m xs e = without_past m xs (none_past (length xs) (position_or_len (λ x. is_eq (message_cmp m x)) xs) e)

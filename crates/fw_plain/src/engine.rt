@@ -9,7 +9,8 @@ ghost use Rattle.fw_model.specs.History.{IsLegal};
 ghost use Rattle.fw_model.specs.Machine.{first_state, events, front_of};
 ghost use Rattle.fw_frontier.specs.Front.{frontier_of};
 ghost use Rattle.fw_model.specs.Steps.{Steps, MayAcknowledge, HasSomethingAt, offers as spec_offers};
-ghost use Rattle.fw_plain.specs.Engine.{Standing, is_plain_step, outcome_of};
+ghost use Rattle.fw_flow.specs.Step.{is_plain_step};
+ghost use Rattle.fw_plain.specs.Engine.{Standing, outcome_of};
 
 use crate::events::Events;
 use crate::failed::{any_failed, any_live, is_failed, none_failed, with_failed};

@@ -7,9 +7,10 @@ ghost use Rattle.fw_frontier.specs.Front.{frontier_of, IsCanonical, Names};
 ghost use Rattle.fw_flow.specs.declared.kind.Policy.TheVariants as policy;
 ghost use Rattle.fw_flow.specs.Dataflow.{kind_of, bounds_of, greatest_number, system_of};
 ghost use Rattle.fw_model.specs.Choice as choices;
-ghost use Rattle.fw_model.specs.Choice.{restoring, stamp_of_notice};
+ghost use Rattle.fw_flow.specs.Restoring.{restoring};
+ghost use Rattle.fw_model.specs.Covers.{stamp_of_notice};
 ghost use Rattle.fw_model.specs.Machine.{Machine, is_failed, front_of};
-ghost use Rattle.fw_monitor.specs.Offers.{AreOffersIn};
+ghost use Rattle.fw_model.specs.Offers.{AreOffersIn};
 ghost use Rattle.fw_plain.specs.Offered as spec;
 ghost use Rattle.fw_plain.specs.Offered.{StandsBy, OffersBy, AreBare, IsBare};
 ghost use Rattle.fw_model.specs.History.{AreAtNodes};
@@ -244,19 +245,19 @@ fn add_sent(sent: &mut Vec<Counted>, edge: EdgeId, messages: &[Message]) -> Resu
     ensures { OnOk result (sent.new.items ≡ sent.old.items ++ map (spec.alone edge) messages.now) }
 {
     for message in messages {
-        sent.push(alone(edge, message)?)?;
+        sent.push(alone(edge, message))?;
     }
     Ok(())
 }
 
 /// A message on an edge, alone.
-fn alone(edge: EdgeId, message: &Message) -> Result<Counted, AllocError>
-    ensures { IfOk result (λ c. c ≡ spec.alone edge message.now) }
+fn alone(edge: EdgeId, message: &Message) -> Counted
+    ensures { result ≡ spec.alone edge message.now }
 {
-    Ok(Counted {
+    Counted {
         edge,
         at: message.at.copy(),
-        causes: message.causes.copy()?,
+        causes: message.causes.copy(),
         count: 1,
-    })
+    }
 }

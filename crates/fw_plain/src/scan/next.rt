@@ -4,6 +4,7 @@ ghost use Rattle.std.specs.Option.{option_copied};
 ghost use Rattle.fw_time.specs.Stamp.{Stamp as Time};
 ghost use Rattle.fw_flow.specs.declared.event.Message.{Message as Sent};
 ghost use Rattle.fw_flow.specs.Dataflow.{is_numbered, system_of, HasEpochs};
+ghost use Rattle.fw_flow.specs.Message.{message_cmp};
 ghost use Rattle.fw_model.specs.History as history;
 ghost use Rattle.fw_model.specs.History.{IsNextBatch, AreAtNodes};
 ghost use Rattle.fw_plain.specs.Least as least;
@@ -15,7 +16,7 @@ use super::arrivals::{batches_of, is_same};
 use super::clear::{owed_stamps, pending_stamps};
 use super::complete::{complete_frontiers, lowered};
 use super::ready::least_ready;
-use super::waiting::{compare, delivered_count, pending};
+use super::waiting::{delivered_count, pending};
 use fw_flow::{Domain, EdgeId, Event, Flow, Message, NodeId};
 use fw_frontier::Front;
 use fw_lines::Batches;
@@ -134,7 +135,7 @@ fn least_wanted(
     number: Option<usize>,
     at: Option<&Stamp>,
 ) -> Option<Message>
-    ensures { IsLeastBy history.message_cmp (is_wanted_message number (option_copied at.entry)) messages.items result }
+    ensures { IsLeastBy message_cmp (is_wanted_message number (option_copied at.entry)) messages.items result }
 {
     let mut rest = messages;
     let mut least = None;
@@ -148,12 +149,12 @@ fn least_wanted(
 
 /// The message, unless the other one comes before it.
 fn lesser(message: Message, other: Option<Message>) -> Message
-    ensures { result ≡ lesser_by history.message_cmp message other }
+    ensures { result ≡ lesser_by message_cmp message other }
 {
     match other {
         None => message,
         Some(other) => {
-            if compare(&message, &other).is_le() {
+            if message.cmp(&other).is_le() {
                 message
             } else {
                 other

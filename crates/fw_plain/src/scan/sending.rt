@@ -183,11 +183,14 @@ fn send_stamp(flow: &Flow, kind: Kind, t: &Stamp) -> Option<Stamp>
 }
 
 /// The message at the stamp, of one cause.
-fn message(alloc: Global, at: Stamp, rec: Rec, cause: &Stamp) -> Result<Message, AllocError>
-    ensures { IfOk result (λ m. m ≡ record { at = at; rec = rec; causes = cause.now ∷ [] }) }
+fn message(at: Stamp, rec: Rec, cause: &Stamp) -> Message
+    ensures { result ≡ record { at = at; rec = rec; causes = cause.now ∷ [] } }
 {
-    let causes = Causes::of(alloc, cause.copy())?;
-    Ok(Message { at, rec, causes })
+    Message {
+        at,
+        rec,
+        causes: Causes::of(cause.copy()),
+    }
 }
 
 /// The recs as messages at one stamp, of one cause.
@@ -202,7 +205,7 @@ fn messages_at(
 {
     let mut messages = Vec::new(alloc);
     for rec in recs {
-        messages.push(message(alloc, at.copy(), *rec, cause)?)?;
+        messages.push(message(at.copy(), *rec, cause))?;
     }
     Ok(messages)
 }
@@ -224,7 +227,7 @@ fn numbered_messages(
         if number >= NUMBERS {
             return Ok(messages);
         }
-        messages.push(message(alloc, Stamp::new(&[number as u32]), *rec, cause)?)?;
+        messages.push(message(Stamp::new(&[number as u32]), *rec, cause))?;
         number += 1;
         rest = later;
     }

@@ -1,6 +1,7 @@
 //! What is pending on an edge.
 ghost use Rattle.std.specs.Prelude.{◌≡◌, length, position, reverse, IfOk};
 ghost use Rattle.std.specs.Ordering.{is_eq};
+ghost use Rattle.fw_flow.specs.Message.{message_cmp, without};
 ghost use Rattle.fw_model.specs.History as history;
 ghost use Rattle.fw_flow.specs.Dataflow.{system_of};
 ghost use Rattle.fw_model.specs.History.{AreAtNodes};
@@ -9,29 +10,20 @@ use super::sending::sent_by;
 use fw_flow::{EdgeId, Event, Flow, Message};
 use fw_lines::Batches;
 use std::alloc::{AllocError, Global};
-use std::cmp::Ordering;
-
-/// The order of messages by stamp, rec and causes.
-pub(super) fn compare(a: &Message, b: &Message) -> Ordering
-    ensures { result ≡ history.message_cmp a.now b.now }
-{
-    let by_causes = a.causes.stamps().cmp(&b.causes.stamps());
-    a.at.compare(&b.at).then(a.rec.cmp(&b.rec).then(by_causes))
-}
 
 /// The first place of the message among these.
 fn place_among(messages: &[Message], message: &Message) -> Option<usize>
-    ensures { result ≡ position (λ other. is_eq (history.message_cmp message.now other)) messages.now }
+    ensures { result ≡ position (λ other. is_eq (message_cmp message.now other)) messages.now }
 {
     messages
         .iter()
-        .position(|other| compare(message, other).is_eq())
+        .position(|other| message.cmp(other).is_eq())
 }
 
 /// Takes the first message away that is this one, if there is one.
-#[tactic(auto, using(crate::proofs::WaitingSteps::without_there))]
+#[tactic(auto, using(fw_flow::proofs::MessageLaws::without_there))]
 fn take_away(messages: &mut Vec<Message>, message: &Message)
-    ensures { messages.new.items ≡ history.without message.now messages.old.items }
+    ensures { messages.new.items ≡ without message.now messages.old.items }
 {
     if let Some(place) = place_among(messages, message) {
         messages.remove(place);

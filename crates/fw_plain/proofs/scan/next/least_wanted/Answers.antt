@@ -3,8 +3,8 @@ use Rattle.fw_plain.specs.Least.{is_wanted_message, IsLeastWanted}
 use Rattle.std.specs.Option.{option_copied}
 use Rattle.fw_plain.proofs.LeastSteps.{rest_seen, least_wanted, least_other}
 use Rattle.fw_plain.proofs.scan.next.least_wanted.Goals as goal
-use Rattle.fw_model.specs.History.{message_cmp}
-use Rattle.fw_model.proofs.CmpLaws.{message_total}
+use Rattle.fw_flow.specs.Message.{message_cmp}
+use Rattle.fw_flow.proofs.MessageLaws.{message_total}
 
 pub loop-message-preserved-then-is_wanted : goal.loop-message-preserved-then-is_wanted
 loop-message-preserved-then-is_wanted c =

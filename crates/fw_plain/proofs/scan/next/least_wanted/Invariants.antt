@@ -3,7 +3,7 @@ use Rattle.std.specs.Option.{option_copied}
 use Rattle.fw_flow.specs.declared.event.Message.{Message}
 use Rattle.fw_plain.specs.Least.{is_wanted_message, IsLeastBy}
 use Rattle.fw_plain.proofs.scan.next.least_wanted.Given as goal
-use Rattle.fw_model.specs.History.{message_cmp}
+use Rattle.fw_flow.specs.Message.{message_cmp}
 
 abbrev pub invariant-loop-message : goal.invariant-loop-message
 invariant-loop-message l =

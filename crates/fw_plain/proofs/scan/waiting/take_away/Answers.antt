@@ -1,8 +1,8 @@
 use Rattle.std.proofs.Common.{◌≡◌, None, position, sym}
 use Rattle.std.specs.Ordering.{is_eq}
-use Rattle.fw_model.specs.History.{message_cmp}
-use Rattle.fw_plain.proofs.WaitingSteps.{without_nowhere}
 use Rattle.fw_plain.proofs.scan.waiting.take_away.Goals as goal
+use Rattle.fw_flow.specs.Message.{message_cmp}
+use Rattle.fw_flow.proofs.MessageLaws.{without_nowhere}
 
 pub returns-in_default : goal.returns-in_default
 returns-in_default c =

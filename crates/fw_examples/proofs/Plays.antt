@@ -14,12 +14,11 @@ use Rattle.fw_flow.specs.declared.kind.Kind.{Kind}
 use Rattle.fw_flow.specs.declared.kind.Kind.TheVariants.{OutputEpoch}
 use Rattle.fw_flow.specs.declared.step.Step.{Step}
 use Rattle.fw_model.specs.History.{delivered, injected_count, is_among, pending}
-use Rattle.fw_model.specs.Least.{is_asked}
 use Rattle.fw_model.specs.Machine.{Machine, Write, acknowledged, bound_of, events, front_of, is_failed, no_stamps}
-use Rattle.fw_model.specs.Steps.{AcknowledgesOldest, Effect, HasEpoch, HasSomethingAt, IsAsked, LeadsTo, Outcome, Run, acked, checkpoint_of, did, is_asked_for_checkpoints, is_in_flight, newest_checkpoint, quiet, recs_at_output, with_event, with_failed, without_lost}
+use Rattle.fw_model.specs.Steps.{AcknowledgesOldest, Effect, HasEpoch, HasSomethingAt, IsAsked, LeadsTo, Outcome, Run, acked, checkpoint_of, did, is_asked_for_checkpoints, is_in_flight, newest_checkpoint, quiet, recs_at_output, with_event, with_failed, without_lost, is_asked}
 use Rattle.fw_model.proofs.CmpLaws.{stamp_total}
 use Rattle.fw_model.proofs.Decisions.{two_ways}
-use Rattle.fw_model.proofs.LeastSteps.{asked-from, asked-is}
+use Rattle.fw_model.proofs.EnabledLaws.{asked-from, asked-is}
 use Rattle.fw_model.proofs.StampLaws.{same-is}
 use Rattle.fw_flow.specs.declared.step.Step.TheVariants as step
 use Rattle.fw_flow.specs.Message.{message_cmp}

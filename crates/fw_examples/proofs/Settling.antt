@@ -23,17 +23,16 @@ use Rattle.fw_flow.specs.declared.kind.Kind.TheVariants.{Enter, Feedback, Leave,
 use Rattle.fw_flow.specs.declared.node.Edge.{Edge}
 use Rattle.fw_flow.specs.declared.step.Step.TheVariants.{Progress}
 use Rattle.fw_model.specs.History.{IsAdmissible, IsComplete, IsNotifiable, IsQuiet, injected_count, injected_epochs, is_exhausted, owed, pending, some_at, was_delivered_to, was_notified, IsClosedFor}
-use Rattle.fw_model.specs.Machine.{Machine, events, front_of, is_failed, no_stamps}
-use Rattle.fw_model.specs.Plain.{family_of}
+use Rattle.fw_model.specs.Machine.{Machine, events, front_of, is_failed, no_stamps, family_of}
 use Rattle.fw_model.specs.Steps.{Steps, did, eager_writes, quiet, with_event}
-use Rattle.fw_model.proofs.ClearSteps.{input-bounds}
-use Rattle.fw_model.proofs.CompleteSteps.{not_past}
+use Rattle.fw_model.proofs.InputLaws.{input-bounds}
+use Rattle.fw_model.proofs.CompleteLaws.{not_past}
 use Rattle.fw_model.proofs.Decisions.{two_ways}
 use Rattle.fw_model.proofs.DescentLaws.{past_edges-joined, past_edges-phi, past_edges-quiet}
 use Rattle.fw_model.proofs.LowLaws.{none-within}
 use Rattle.fw_model.proofs.MeetLaws.{phi-everything}
 use Rattle.fw_model.proofs.PhiLaws.{phi-monotone}
-use Rattle.fw_model.proofs.SendSteps.{kind-past}
+use Rattle.fw_flow.proofs.EdgeLaws.{kind-past}
 use Rattle.fw_model.proofs.StampLaws.{same-is}
 use Rattle.fw_examples.specs.RunningTotal.{alike}
 use Rattle.fw_examples.proofs.Fronts.{canonical_by, is_canonical, join_by, none_at, within_outside}

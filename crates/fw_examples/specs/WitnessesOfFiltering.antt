@@ -8,7 +8,7 @@ use Rattle.fw_flow.specs.declared.kind.Kind.TheVariants.{Sequence}
 use Rattle.fw_flow.specs.Dataflow.{kind_of, policy_of, sender, receiver, bounds_of, is_numbered, NotifiesNobody, HasEpochs}
 use Rattle.fw_flow.specs.Projection.{phi}
 use Rattle.fw_flow.specs.WellFormed.{IsWellFormed}
-use Rattle.fw_model.specs.Choice.{until, cut_of, note_of, kept_of, filtered}
+use Rattle.fw_model.specs.Choice.{until, cut_of, note_of, kept_of, filtered, LiesInReceiver}
 use Rattle.fw_model.specs.History.{IsLegal, pending, sent, delivered}
 use Rattle.fw_model.specs.Machine.{events, front_of}
 use Rattle.fw_examples.specs.Flows.{loop_counts_up, regroup_by_three, two_batches, pair}
@@ -17,8 +17,9 @@ use Rattle.fw_examples.specs.Recovery.{counting_failed, restored, without_the_se
 use Rattle.fw_examples.specs.RunningTotal.{totals, total_flow, src, run, src_to_run, at_epoch, two_epochs, output_failed, two_epochs_kept}
 use Rattle.fw_examples.specs.Numbers.{numbers, value_at, numbered_epoch, numbered_both}
 use Rattle.fw_flow.specs.Restoring.{can_resend}
-use Rattle.fw_model.specs.Filtering.{AreFrontiers, ComeFromKept, IsConsistentlyKept, KeepsDiscarded, MeetsInclusions, kept_events, messages_from}
+use Rattle.fw_model.specs.Filtering.{AreFrontiers, ComeFromKept, IsConsistentlyKept, MeetsInclusions, kept_events, messages_from}
 use Rattle.fw_model.specs.Settled.{IsCutWithinSettled, IsFull}
+use Rattle.fw_model.specs.Covers.{covers_in}
 
 -- what each node of the running total keeps in the recovery
 abbrev pub kept_totals : ℕ → Frontier
@@ -38,7 +39,7 @@ pub record TotalsAreFiltered : Type 0 where
   pub remains : events (filtered totals two_epochs_kept output_failed.history) ≡ two_epochs
   pub full : IsFull totals output_failed
   pub cut : IsCutWithinSettled totals output_failed two_epochs_kept run
-  pub discarded : KeepsDiscarded totals output_failed two_epochs_kept src_to_run
+  pub discarded : LiesInReceiver total_flow (covers_in totals output_failed) two_epochs_kept src_to_run
   pub no_log : can_resend (policy_of total_flow src) ≡ false
   pub was_pending : pending totals (events output_failed.history) src_to_run ≡ at_epoch 3 1 ∷ []
 

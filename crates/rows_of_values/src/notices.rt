@@ -3,7 +3,7 @@ ghost use Rattle.std.specs.Prelude.{◌≡◌, reverse};
 ghost use Rattle.fw_time.specs.Stamp.{in_domain};
 ghost use Rattle.fw_flow.specs.Dataflow.{bounds_of};
 ghost use Rattle.fw_flow.specs.NodeFunction.{place, stamp};
-ghost use Rattle.fw_model.specs.Plain.{AreAtNodes};
+ghost use Rattle.fw_model.specs.History.{AreAtNodes};
 
 use crate::spell::{part, stamp_of};
 use fw_bag::Rec;

@@ -188,7 +188,7 @@ fn add_delivery(
 {
     if let Event::Deliver { edge, message } = event {
         if flow.dst(*edge) == node {
-            delivered.push(alone(*edge, message)?)?;
+            delivered.push(alone(*edge, message))?;
         }
     }
     Ok(())

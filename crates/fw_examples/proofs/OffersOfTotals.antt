@@ -17,7 +17,7 @@ use Rattle.fw_flow.specs.Projection.{all_inside, phi, phi_by_count}
 use Rattle.fw_model.specs.Choice as machine
 use Rattle.fw_model.specs.Choice.{kept, until, covers_in, IsCandidate}
 use Rattle.fw_model.specs.Machine.{is_failed}
-use Rattle.fw_monitor.specs.Offers.{covers_of, stamps_from, AreAscending, AreFromEpochs, AreOffersOf, AreOffersIn, IsOffered, sent_by}
+use Rattle.fw_monitor.specs.Offers.{covers_of, stamps_from, AreAscending, AreOffersOf, AreOffersIn, IsOffered, sent_by}
 use Rattle.fw_examples.specs.OffersOfTotals.{offers_of_totals, CheckpointsAreOffered}
 use Rattle.fw_examples.specs.RunningTotal.{totals, total_flow, output_failed, two_epochs_kept, two_kept_noting, at_epoch}
 use Rattle.fw_examples.proofs.ChoiceFacts.{by_three, canonical}
@@ -140,14 +140,7 @@ of_flow = record {
   delivered = by_three _ tt (refl, (refl, tt)) (refl, tt);
   notified = by_three _ tt (refl, (refl, tt)) tt;
   sent = by_three _ (refl, (refl, (refl, tt))) (refl, (refl, tt)) tt;
-  epochs = epochs;
 }
-  where
-    epochs : (p : ℕ) → kind_of total_flow p ≡ Sequence → AreFromEpochs (sent_by offers_of_totals p)
-    epochs zero e = absurd (cc)
-    epochs (suc zero) e = absurd (cc)
-    epochs (suc (suc zero)) e = absurd (cc)
-    epochs (suc (suc (suc p))) e = absurd (cc)
 
 -- the epochs below different numbers are different frontiers
 until_apart : (j k : ℕ) → j < k → until j ≢ until k

@@ -14,4 +14,5 @@ pub mod Peel
 pub mod ProjectionLaws
 pub mod Ranks
 pub mod Reach
+pub mod SentTableLaws
 pub mod Tests

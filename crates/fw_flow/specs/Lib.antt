@@ -10,6 +10,7 @@ pub mod Parts
 pub mod ProjectedStamps
 pub mod Projection
 pub mod Raw
+pub mod SentTable
 pub mod Walks
 pub mod WellFormed
 pub mod WholeBags

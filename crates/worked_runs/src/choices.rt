@@ -12,8 +12,8 @@ ghost use Rattle.worked_runs.specs.Written.{IsOfferOf, IsOfferedBy};
 
 use crate::projections::{declarations, stamp_of, stamps_of};
 use fw_flow::{
-    Causes, Choice, Counted, Cut, EdgeId, Flow, Kind, NodeId, OfEdge, Offer, Offered, Policy,
-    Recorded, Stamps,
+    Causes, Choice, Counted, CountedMessages, Cut, EdgeId, Flow, Kind, NodeId, Notices, OfEdge, OfEdges,
+    Offer, Offered, Policy, Recorded, Records, SentTable, Stamps,
 };
 use fw_frontier::Front;
 use fw_lines::ReadFault;
@@ -61,8 +61,8 @@ fn record(alloc: Global, flow: &Flow, node: NodeId, word: &str) -> Result<Record
     Ok(Recorded {
         front: front(alloc, &domain, outside)?,
         notified: front(alloc, &domain, held)?,
-        delivered: of_edges(alloc, flow, flow.in_edges(node), held)?,
-        discarded: of_edges(alloc, flow, flow.out_edges(node), held)?,
+        delivered: OfEdges::of(of_edges(alloc, flow, flow.in_edges(node), held)?),
+        discarded: OfEdges::of(of_edges(alloc, flow, flow.out_edges(node), held)?),
     })
 }
 
@@ -122,7 +122,8 @@ fn offered(alloc: Global, flow: &Flow, node: NodeId, text: &str) -> Result<Offer
     ensures { IfOk result (λ o. IsOfferedBy flow.now node o) }
 {
     if is_listed(flow.kind(node), flow.policy(node)) {
-        return Ok(Offered::Listed(records(alloc, flow, node, text)?));
+        let records = records(alloc, flow, node, text)?;
+        return Ok(Offered::Listed(Records::of(records)));
     }
     let (least, greatest) = text.split_once("to").unwrap_or((text, text));
     let domain = flow.domain(node);
@@ -180,16 +181,6 @@ fn notified(alloc: Global, flow: &Flow, node: NodeId, text: &str) -> Result<Vec<
     Ok(stamps)
 }
 
-// What a node sent; of a sequence, which these flows do not have, nothing.
-fn sent(alloc: Global, flow: &Flow, node: NodeId, text: &str) -> Result<Vec<Counted>, AllocError>
-    ensures { IfOk result (λ sent. spec.AreSentBy flow.now node sent.items) }
-{
-    if matches!(flow.kind(node), Kind::Sequence) {
-        return Ok(Vec::new(alloc));
-    }
-    messages(alloc, flow, text)
-}
-
 // A part of a line, and the rest.
 fn part(line: &str) -> (&str, &str) {
     line.split_once('|').unwrap_or((line, ""))
@@ -203,19 +194,21 @@ fn offer(alloc: Global, flow: &Flow, node: NodeId, line: &str) -> Result<Offer, 
     let (state, rest) = part(line);
     let (fronts, rest) = part(rest);
     let (delivered, rest) = part(rest);
-    let (noted, sent_words) = part(rest);
+    let (noted, sent) = part(rest);
     let offered = offered(alloc, flow, node, fronts)?;
     let delivered = messages(alloc, flow, delivered)?;
     let notified = notified(alloc, flow, node, noted)?;
-    let sent = sent(alloc, flow, node, sent_words)?;
+    let sent = messages(alloc, flow, sent)?;
     Ok(Offer {
         present: !state.contains("failed"),
         offered,
         stamps: Stamps {
-            delivered,
-            notified,
-            sent,
+            delivered: CountedMessages::of(delivered),
+            notified: Notices::of(notified),
+            sent: CountedMessages::of(sent),
         },
+        // None of these flows has a sequence.
+        table: SentTable::new(alloc),
     })
 }
 

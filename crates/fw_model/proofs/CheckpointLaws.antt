@@ -8,6 +8,7 @@ use Rattle.fw_time.proofs.EachLaws.{each-weaker, each-append, each-one, each-map
 use Rattle.fw_frontier.specs.Frontier.{Frontier, Within}
 use Rattle.fw_frontier.specs.Front.{Front, inside, frontier_of, same_front, is_within}
 use Rattle.fw_frontier.proofs.InsideLaws.{inside-closed}
+use Rattle.fw_frontier.proofs.NamesLaws.{is_within-holds}
 use Rattle.fw_flow.specs.declared.choice.Cut.{Cut}
 use Rattle.fw_flow.specs.declared.choice.Cut.TheVariants.{Present, At}
 use Rattle.fw_flow.specs.declared.kind.Kind.{Kind}

@@ -76,7 +76,7 @@ fn delivery(
     let (Some(edge), Some(rec)) = (flow.edge_named(name.as_bytes()), rec_of(rec)) else {
         return Ok(None);
     };
-    let causes = Causes::of(alloc, at.copy())?;
+    let causes = Causes::of(at.copy());
     let message = Message { at, rec, causes };
     Ok(Some(Event::Deliver { edge, message }))
 }

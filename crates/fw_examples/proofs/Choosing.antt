@@ -6,10 +6,9 @@ use Rattle.std.proofs.lemmas.Bool.Decides.{nat_tests}
 use Rattle.fw_bag.proofs.OrderingLaws.{equal_from_is_eq}
 use Rattle.fw_time.specs.Stamp.{Stamp, in_domain, leq, same}
 use Rattle.fw_time.specs.declared.stamp.Bounds.{Bounds}
-use Rattle.fw_frontier.specs.Front.{Front, IsCanonical, Names, frontier_of, same_front}
+use Rattle.fw_frontier.specs.Front.{Front, IsCanonical, Names, frontier_of, same_front, is_within}
 use Rattle.fw_frontier.specs.Frontier.{Frontier, IsFrontier, Within, cover, everything, meet, nothing, some_above}
-use Rattle.fw_frontier.specs.Outside.{none_inside}
-use Rattle.fw_frontier.proofs.NamesLaws.{frontier-closed, none_inside-within_domain}
+use Rattle.fw_frontier.proofs.NamesLaws.{frontier-closed, is_within-holds}
 use Rattle.fw_flow.specs.Dataflow.{System, bounds_of, kind_of, policy_of, receiver, sender}
 use Rattle.fw_flow.specs.NodeFunction.{place, stamp}
 use Rattle.fw_flow.specs.Projection.{all_inside}
@@ -40,13 +39,13 @@ fronts_equal : (f g : Front) → same_front f g ≡ true → f ≡ g
 fronts_equal f g e = fronts_cmp-same f g (equal_from_is_eq _ e)
 
 -- where no outside stamp of the second list is inside the first, the first lies within the second
-pub lies : (b : Bounds) (xs ys : Front) → none_inside xs ys ≡ true → Within (frontier_of b xs) (frontier_of b ys)
-lies b xs ys h = none_inside-within_domain b xs ys h
+pub lies : (b : Bounds) (xs ys : Front) → is_within xs ys ≡ true → Within (frontier_of b xs) (frontier_of b ys)
+lies b xs ys h = is_within-holds b xs ys h
 
 -- whether what a list of outside stamps has inside lies in a cut
 abbrev pub is_in_cut : Front → Cut → Bool
 is_in_cut f Present = true
-is_in_cut f (At g) = none_inside f g
+is_in_cut f (At g) = is_within f g
 
 in_cut : (sys : System) (p : ℕ) (f : Front) (cut : Cut) → is_in_cut f cut ≡ true → Within (frontier_of (bounds_of sys.flow p) f) (set_of sys p cut)
 in_cut sys p f Present h = λ t i. (and_parts _ _ i).0
@@ -140,7 +139,7 @@ discarded_by sys state choice formed h e l =
 abbrev pub is_notified_in : System → Machine → ℕ → Cut → Front → Bool
 is_notified_in sys state p Present note = list_all (frontier_of (bounds_of sys.flow p) note) (notified_inside p (everything (bounds_of sys.flow p)) (events state.history))
 is_notified_in sys state p (At f) note =
-    if takes_its_notes (kind_of sys.flow p) (policy_of sys.flow p) then none_inside f note
+    if takes_its_notes (kind_of sys.flow p) (policy_of sys.flow p) then is_within f note
     else list_all (frontier_of (bounds_of sys.flow p) note) (notified_inside p (frontier_of (bounds_of sys.flow p) f) (events state.history))
 
 notified_in : (sys : System) (state : Machine) (p : ℕ) (cut : Cut) (note : Front) → is_notified_in sys state p cut note ≡ true
@@ -149,7 +148,7 @@ notified_in sys state p Present note h = cover_within_by (bounds_of sys.flow p) 
 notified_in sys state p (At f) note h = go (takes_its_notes (kind_of sys.flow p) (policy_of sys.flow p)) h
   where
     go : (b : Bool)
-        → (if b then none_inside f note else list_all (frontier_of (bounds_of sys.flow p) note) (notified_inside p (frontier_of (bounds_of sys.flow p) f) (events state.history))) ≡ true
+        → (if b then is_within f note else list_all (frontier_of (bounds_of sys.flow p) note) (notified_inside p (frontier_of (bounds_of sys.flow p) f) (events state.history))) ≡ true
         → Within
         (if b then frontier_of (bounds_of sys.flow p) f else cover (bounds_of sys.flow p) (notified_inside p (frontier_of (bounds_of sys.flow p) f) (events state.history)))
         (frontier_of (bounds_of sys.flow p) note)
@@ -265,17 +264,17 @@ all_logged_by sys p f writes (v ∷ h) k =
 -- whether node p can be restored to f in this way
 abbrev pub is_restorable : System → Machine → View → ℕ → Restoring → Front → Bool
 is_restorable sys state view p by_batches f = has_batches sys (events state.history) p f
-is_restorable sys state view p by_bound f = none_inside f (front_of state.settled p) && none_inside f (until (bound_of state p))
-is_restorable sys state view p by_anything f = none_inside f (front_of state.settled p)
+is_restorable sys state view p by_bound f = is_within f (front_of state.settled p) && is_within f (until (bound_of state p))
+is_restorable sys state view p by_anything f = is_within f (front_of state.settled p)
 is_restorable sys state view p by_checkpoints f = same_front f (no_stamps (bounds_of sys.flow p)) || has_checkpoint view p f state.writes
 is_restorable sys state view p by_events f =
-    none_inside f (front_of state.settled p) && are_logged sys p (frontier_of (bounds_of sys.flow p) f) state.writes state.history
+    is_within f (front_of state.settled p) && are_logged sys p (frontier_of (bounds_of sys.flow p) f) state.writes state.history
 
 restorable_by : (sys : System) (state : Machine) (view : View) (p : ℕ) (way : Restoring) (f : Front) → is_restorable sys state view p way f ≡ true
     → IsRestorable sys state view p way f
 restorable_by sys state view p by_batches f h = batches_by sys (events state.history) p f h
 restorable_by sys state view p by_bound f h =
-    let a = and_parts (none_inside f (front_of state.settled p)) (none_inside f (until (bound_of state p))) h in
+    let a = and_parts (is_within f (front_of state.settled p)) (is_within f (until (bound_of state p))) h in
     (lies (bounds_of sys.flow p) f (front_of state.settled p) a.0, lies (bounds_of sys.flow p) f (until (bound_of state p)) a.1)
 restorable_by sys state view p by_anything f h = lies (bounds_of sys.flow p) f (front_of state.settled p) h
 restorable_by sys state view p by_checkpoints f h =
@@ -286,7 +285,7 @@ restorable_by sys state view p by_events f h =
 
 -- whether the frontier holds the low watermark, if it has to
 abbrev pub holds_low : View → Front → Front → Bool
-holds_low kept low f = none_inside low f
+holds_low kept low f = is_within low f
 holds_low ever low f = true
 
 low_by : (b : Bounds) (view : View) (low f : Front) → holds_low view low f ≡ true → HoldsLow view (frontier_of b low) (frontier_of b f)
@@ -346,7 +345,7 @@ until_more b k n l = lies b (until k) (until n) (grind (arith, nat_tests))
 
 -- whether each checkpoint of node p that counts lies within
 abbrev pub are_checkpoints_within : View → ℕ → Front → List Write → Bool
-are_checkpoints_within view p g writes = list_all (λ (write : Write). not (write.node == p && counts view write.progress) || list_all (λ f. none_inside f g) (checkpoint_front write.written)) writes
+are_checkpoints_within view p g writes = list_all (λ (write : Write). not (write.node == p && counts view write.progress) || list_all (λ f. is_within f g) (checkpoint_front write.written)) writes
 
 checkpoint_within : (b : Bounds) (view : View) (p : ℕ) (f g : Front) (writes : List Write) → are_checkpoints_within view p g writes ≡ true → HasCheckpoint view p f writes
     → Within (frontier_of b f) (frontier_of b g)
@@ -354,7 +353,7 @@ checkpoint_within b view p f g [] h c = absurd c
 checkpoint_within b view p f g (w ∷ ws) h (inr c) = checkpoint_within b view p f g ws (and_parts _ _ h).1 c
 checkpoint_within b view p f g (w ∷ ws) h (inl c) = at w.written (inl c) (and_parts _ _ h).0
   where
-    at : (written : Written) → HasCheckpoint view p f (record w { written = written } ∷ []) → (not (w.node == p && counts view w.progress) || list_all (λ x. none_inside x g) (checkpoint_front written)) ≡ true
+    at : (written : Written) → HasCheckpoint view p f (record w { written = written } ∷ []) → (not (w.node == p && counts view w.progress) || list_all (λ x. is_within x g) (checkpoint_front written)) ≡ true
         → Within (frontier_of b f) (frontier_of b g)
     at (checkpoint x low) (inr c) k = absurd c
     at (checkpoint x low) (inl c) k =
@@ -370,17 +369,17 @@ checkpoint_within b view p f g (w ∷ ws) h (inl c) = at w.written (inl c) (and_
 -- whether what node p can be restored to, in this way, lies within
 abbrev pub is_restorable_within : System → Machine → View → ℕ → Restoring → Front → Bool
 is_restorable_within sys state view p by_batches g =
-    none_inside (until (injected_count p (events state.history))) g && (not (is_exhausted sys (events state.history) p) || none_inside [] g)
-is_restorable_within sys state view p by_bound g = none_inside (front_of state.settled p) g || none_inside (until (bound_of state p)) g
-is_restorable_within sys state view p by_anything g = none_inside (front_of state.settled p) g
+    is_within (until (injected_count p (events state.history))) g && (not (is_exhausted sys (events state.history) p) || is_within [] g)
+is_restorable_within sys state view p by_bound g = is_within (front_of state.settled p) g || is_within (until (bound_of state p)) g
+is_restorable_within sys state view p by_anything g = is_within (front_of state.settled p) g
 is_restorable_within sys state view p by_checkpoints g = are_checkpoints_within view p g state.writes
-is_restorable_within sys state view p by_events g = none_inside (front_of state.settled p) g
+is_restorable_within sys state view p by_events g = is_within (front_of state.settled p) g
 
 restorable_within : (sys : System) (state : Machine) (view : View) (p : ℕ) (way : Restoring) (g f : Front) → is_restorable_within sys state view p way g ≡ true
     → IsRestorable sys state view p way f → Within (frontier_of (bounds_of sys.flow p) f) (frontier_of (bounds_of sys.flow p) g)
 restorable_within sys state view p by_batches g f h (inl k) =
     subst (λ x. Within (frontier_of (bounds_of sys.flow p) x) (frontier_of (bounds_of sys.flow p) g)) (sym k.2)
-    (λ t i. lies (bounds_of sys.flow p) (until (injected_count p (events state.history))) g (and_parts (none_inside (until (injected_count p (events state.history))) g) _ h).0 t
+    (λ t i. lies (bounds_of sys.flow p) (until (injected_count p (events state.history))) g (and_parts (is_within (until (injected_count p (events state.history))) g) _ h).0 t
     (until_more (bounds_of sys.flow p) k.0 (injected_count p (events state.history)) k.1 t i))
 restorable_within sys state view p by_batches g f h (inr e) =
     subst (λ x. Within (frontier_of (bounds_of sys.flow p) x) (frontier_of (bounds_of sys.flow p) g)) (sym e.1)
@@ -408,11 +407,11 @@ set_within sys p (At f) g h = h
 -- a consistent choice whose cuts lie within those of a choice lies within it, where each note of that is all of its cut
 pub above_by : (sys : System) (state : Machine) (offered : ℕ → Cut → Type 0) (choice other : Choice) → IsConsistent sys state offered other
     → ((p : ℕ) → p < length sys.flow.nodes → IsCutWithin sys p (cut_of other p) (cut_of choice p))
-    → each_below (λ p. none_inside (front_of_cut (cut_of choice p)) (front_of choice.notes p)) (length sys.flow.nodes) ≡ true → IsChoiceWithin sys other choice
+    → each_below (λ p. is_within (front_of_cut (cut_of choice p)) (front_of choice.notes p)) (length sys.flow.nodes) ≡ true → IsChoiceWithin sys other choice
 above_by sys state offered choice other is at h = record {
   cuts = at;
   notes = λ p l t i.
-      lies (bounds_of sys.flow p) _ (front_of choice.notes p) (each_below-at (λ p. none_inside (front_of_cut (cut_of choice p)) (front_of choice.notes p)) (length sys.flow.nodes) h p l) t
+      lies (bounds_of sys.flow p) _ (front_of choice.notes p) (each_below-at (λ p. is_within (front_of_cut (cut_of choice p)) (front_of choice.notes p)) (length sys.flow.nodes) h p l) t
       (held p (cut_of choice p) (at p l) t (is.own p l t i));
 }
   where
@@ -428,7 +427,7 @@ is_above_offers sys state lost view p (At g) = lost p && is_restorable_within sy
 -- a consistent choice is the largest where each of its cuts is above what is offered, and each note is all of its cut
 pub largest_by : (sys : System) (state : Machine) (lost : ℕ → Bool) (view : View) (choice : Choice) → IsConsistent sys state (IsCandidate sys state lost view) choice
     → each_below (λ p. is_above_offers sys state lost view p (cut_of choice p)) (length sys.flow.nodes) ≡ true
-    → each_below (λ p. none_inside (front_of_cut (cut_of choice p)) (front_of choice.notes p)) (length sys.flow.nodes) ≡ true
+    → each_below (λ p. is_within (front_of_cut (cut_of choice p)) (front_of choice.notes p)) (length sys.flow.nodes) ≡ true
     → IsLargest sys state (IsCandidate sys state lost view) choice
 largest_by sys state lost view choice is h n = record {
   consistent = is;
@@ -484,19 +483,19 @@ sender_within sys state offered other is e l g o u at out no_log by_sending d du
 -- what is settled at a node once it is cut, where one of the two lies within the other
 abbrev pub front_after : Cut → Front → Front
 front_after Present before = before
-front_after (At f) before = if none_inside f before then f else before
+front_after (At f) before = if is_within f before then f else before
 
 -- whether this is so, and the list of the cut canonical
 abbrev pub is_cut : System → ℕ → Cut → Front → Bool
 is_cut sys p Present before = true
 is_cut sys p (At f) before =
-    is_canonical (bounds_of sys.flow p) f && (is_canonical (bounds_of sys.flow p) before && (none_inside f before || none_inside before f))
+    is_canonical (bounds_of sys.flow p) f && (is_canonical (bounds_of sys.flow p) before && (is_within f before || is_within before f))
 
 settled_by : (sys : System) (p : ℕ) (cut : Cut) (before : Front) → is_cut sys p cut before ≡ true → IsSettledCut sys p cut before (front_after cut before)
 settled_by sys p Present before h = refl
-settled_by sys p (At f) before h = go (none_inside f before) refl
+settled_by sys p (At f) before h = go (is_within f before) refl
   where
-    go : (b : Bool) → none_inside f before ≡ b
+    go : (b : Bool) → is_within f before ≡ b
         → Names (bounds_of sys.flow p) (if b then f else before) (meet (frontier_of (bounds_of sys.flow p) before) (frontier_of (bounds_of sys.flow p) f))
     go true e = record { canonical = canonical_by _ _ (and_parts _ _ h).0; same = meet_other _ before f e }
     go false e =

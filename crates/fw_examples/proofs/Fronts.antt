@@ -6,10 +6,9 @@ use Rattle.std.proofs.lemmas.Bool.{and_from, and_parts, false_from_ne_true, fals
 use Rattle.fw_time.specs.Stamp.{Stamp, in_domain, leq, same, stamp_cmp}
 use Rattle.fw_time.specs.declared.stamp.Bounds.{Bounds}
 use Rattle.fw_time.proofs.EachLaws.{each-of_all}
-use Rattle.fw_frontier.specs.Front.{Front, IsCanonical, all_in_domain, frontier_of, inside}
+use Rattle.fw_frontier.specs.Front.{Front, IsCanonical, all_in_domain, frontier_of, inside, is_within}
 use Rattle.fw_frontier.specs.Frontier.{Frontier, IsFrontier, Within, cover, join, meet, some_above}
-use Rattle.fw_frontier.specs.Outside.{none_inside}
-use Rattle.fw_frontier.proofs.NamesLaws.{none_inside-within_domain}
+use Rattle.fw_frontier.proofs.NamesLaws.{is_within-holds}
 use Rattle.fw_flow.specs.declared.event.Message.{Message}
 use Rattle.fw_model.specs.History.{some_at}
 use Rattle.fw_model.proofs.StampLaws.{same-is}
@@ -64,16 +63,16 @@ none_at test (m ∷ ms) t h k =
     rw other (none_at test ms t a.1 k)
 
 -- a frontier of the stamps below two others is their meet, where it is one of them
-pub meet_by : (b : Bounds) (xs ys : Front) → none_inside xs ys ≡ true → (t : Stamp) → frontier_of b xs t ≡ meet (frontier_of b xs) (frontier_of b ys) t
-meet_by b xs ys h t = go (frontier_of b xs t) (frontier_of b ys t) (none_inside-within_domain b xs ys h t)
+pub meet_by : (b : Bounds) (xs ys : Front) → is_within xs ys ≡ true → (t : Stamp) → frontier_of b xs t ≡ meet (frontier_of b xs) (frontier_of b ys) t
+meet_by b xs ys h t = go (frontier_of b xs t) (frontier_of b ys t) (is_within-holds b xs ys h t)
   where
     go : (x y : Bool) → (x ≡ true → y ≡ true) → x ≡ (x && y)
     go false y w = refl
     go true y w = sym (w refl)
 
 -- and the other way round
-pub meet_other : (b : Bounds) (xs ys : Front) → none_inside ys xs ≡ true → (t : Stamp) → frontier_of b ys t ≡ meet (frontier_of b xs) (frontier_of b ys) t
-meet_other b xs ys h t = go (frontier_of b xs t) (frontier_of b ys t) (none_inside-within_domain b ys xs h t)
+pub meet_other : (b : Bounds) (xs ys : Front) → is_within ys xs ≡ true → (t : Stamp) → frontier_of b ys t ≡ meet (frontier_of b xs) (frontier_of b ys) t
+meet_other b xs ys h t = go (frontier_of b xs t) (frontier_of b ys t) (is_within-holds b ys xs h t)
   where
     go : (x y : Bool) → (y ≡ true → x ≡ true) → y ≡ (x && y)
     go true y w = refl

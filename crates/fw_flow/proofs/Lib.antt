@@ -12,7 +12,10 @@ pub mod MessageLaws
 pub mod Named
 pub mod Peel
 pub mod ProjectionLaws
+pub mod Ranges
 pub mod Ranks
 pub mod Reach
 pub mod SentTableLaws
+pub mod SourceLaws
+pub mod SystemLaws
 pub mod Tests

@@ -10,7 +10,10 @@ pub mod Parts
 pub mod ProjectedStamps
 pub mod Projection
 pub mod Raw
+pub mod Restoring
 pub mod SentTable
+pub mod Sources
+pub mod Step
 pub mod Walks
 pub mod WellFormed
 pub mod WholeBags

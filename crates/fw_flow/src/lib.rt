@@ -20,7 +20,9 @@ mod node;
 mod parts;
 mod projection;
 mod raw;
+mod restoring;
 mod sent_table;
+mod sources;
 mod step;
 mod walks;
 
@@ -33,5 +35,6 @@ pub use lists::{CountedMessages, Cuts, Fronts, Notices, OfEdges, Records};
 pub use name::Name;
 pub use node::{Edge, Loop, Node};
 pub use raw::{Declaration, Declared, RawFlow, RawKind};
+pub use restoring::Restoring;
 pub use sent_table::SentTable;
 pub use step::{Nodes, Step};

@@ -46,9 +46,8 @@ impl Flow {
     /// answer is in that of the receiver. The only error is want of memory.
     pub fn psi(&self, alloc: Global, edge: EdgeId, f: &Front) -> Result<Front, AllocError>
         requires { IsCanonical (bounds_of self.now (sender self.now edge)) f.now }
-        ensures { (sys : System) → sys.flow ≡ self.now
-            → IfOk result (λ g. Names (bounds_of self.now (receiver self.now edge)) g
-            (psi sys edge (frontier_of (bounds_of self.now (sender self.now edge)) f.now))) }
+        ensures { IfOk result (λ g. Names (bounds_of self.now (receiver self.now edge)) g
+            (psi self.now edge (frontier_of (bounds_of self.now (sender self.now edge)) f.now))) }
     {
         let (kind, sender, receiver) = self.ends(edge);
         psi(alloc, kind, f, &sender, &receiver)
@@ -59,9 +58,8 @@ impl Flow {
     /// in that of the sender. The only error is want of memory.
     pub fn psi_back(&self, alloc: Global, edge: EdgeId, g: &Front) -> Result<Front, AllocError>
         requires { IsCanonical (bounds_of self.now (receiver self.now edge)) g.now }
-        ensures { (sys : System) → sys.flow ≡ self.now
-            → IfOk result (λ f. Names (bounds_of self.now (sender self.now edge)) f
-            (psi_back sys edge (frontier_of (bounds_of self.now (receiver self.now edge)) g.now))) }
+        ensures { IfOk result (λ f. Names (bounds_of self.now (sender self.now edge)) f
+            (psi_back self.now edge (frontier_of (bounds_of self.now (receiver self.now edge)) g.now))) }
     {
         let (kind, sender, receiver) = self.ends(edge);
         psi_back(alloc, kind, g, &sender, &receiver)

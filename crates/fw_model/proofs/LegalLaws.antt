@@ -17,16 +17,14 @@ use Rattle.fw_flow.specs.declared.event.Event.TheVariants.{Inject, Deliver, Noti
 use Rattle.fw_flow.specs.declared.event.Message.{Message}
 use Rattle.fw_flow.specs.declared.kind.Kind.{Kind}
 use Rattle.fw_flow.specs.declared.kind.Kind.TheVariants.{Input, Sequence}
-use Rattle.fw_flow.specs.Dataflow.{System, Dataflow, idle_node, kind_of, sender, receiver, greatest_number, domain_of, domain_of_kind, out_domain_of, out_domain_of_kind, bounds_of, bounds_of_domain, is_input_kind, is_notified_kind, send_stamp_of_kind, is_sequence_kind}
+use Rattle.fw_flow.specs.Dataflow.{System, Dataflow, idle_node, kind_of, sender, receiver, greatest_number, domain_of, domain_of_kind, out_domain_of, out_domain_of_kind, bounds_of, bounds_of_domain, is_input_kind, is_notified_kind, send_stamp_of_kind, is_sequence_kind, bounds_of_edge, HasEpochs}
 use Rattle.fw_flow.specs.NodeFunction.{place, stamp, recs_on, numbered_messages, sequence_sent, sends_of_kind, sends, sent_by}
 use Rattle.fw_flow.specs.Projection.{events_at}
 use Rattle.fw_flow.specs.WellFormed.{IsWellFormed}
+use Rattle.fw_model.specs.History.{sent, delivered, pending, was_delivered_to, was_notified, injected_count, IsLegal, IsEnabled, AreEventsInDomain}
+use Rattle.fw_model.specs.LawsOfLegalHistories.{LegalEventsAreInDomain, LegalMessagesAreInDomain, OnlyInputsInject}
 use Rattle.fw_flow.proofs.MessageLaws.{less-each, among-each}
 use Rattle.fw_flow.specs.Message.{message_cmp, is_among, without, less}
-use Rattle.fw_model.specs.History.{sent, delivered, pending, was_delivered_to, was_notified, injected_count, IsLegal, IsEnabled}
-use Rattle.fw_model.specs.LawsOfProjections.{bounds_of_edge}
-use Rattle.fw_model.specs.LawsOfSending.{AreEventsInDomain}
-use Rattle.fw_model.specs.LawsOfLegalHistories.{HasEpochs, LegalEventsAreInDomain, LegalMessagesAreInDomain, OnlyInputsInject}
 use Rattle.fw_model.proofs.StampLaws.{line-leq}
 use Rattle.fw_model.proofs.SendingLaws.{send_stamp_of_kind-in_domain}
 use Rattle.fw_model.proofs.SendsLaws.{IsAt, sends_of_kind-each}

@@ -9,7 +9,6 @@ pub mod HeldLaws
 pub mod LastLaws
 pub mod LookUpLaws
 pub mod LowerLaws
-pub mod OfferLaws
 pub mod PassLaws
 pub mod RecordLaws
 pub mod StartLaws

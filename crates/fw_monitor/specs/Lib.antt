@@ -1,5 +1,3 @@
-pub mod Offers
 pub mod Held
 pub mod Kept
 pub mod Descent
-pub mod LawsOfOffers

@@ -4,12 +4,13 @@ ghost use Rattle.fw_frontier.specs.Front.{frontier_of, IsCanonical, Names};
 ghost use Rattle.fw_frontier.specs.Frontier.{Within};
 ghost use Rattle.fw_flow.specs.declared.choice.Choice as choices;
 ghost use Rattle.fw_flow.specs.declared.choice.Cut.TheVariants as variants;
-ghost use Rattle.fw_flow.specs.Dataflow.{System, Dataflow, bounds_of, sender, receiver};
-ghost use Rattle.fw_model.specs.Choice.{IsConsistentBy, IsLargestBy, IsChoiceWithin, cut_of, note_of, set_of};
+ghost use Rattle.fw_flow.specs.Dataflow.{bounds_of, sender, receiver};
+ghost use Rattle.fw_model.specs.Choice.{IsConsistentBy, IsLargestBy, IsChoiceWithin, cut_of, note_of};
+ghost use Rattle.fw_model.specs.Covers.{set_of};
 ghost use Rattle.fw_model.specs.Machine.{front_of};
-ghost use Rattle.fw_monitor.specs.Offers as spec;
-ghost use Rattle.fw_monitor.specs.Offers.{IsOffered, AreOffersOf, AreAscending, covers_of};
-ghost use Rattle.fw_monitor.specs.Descent.{bare, choice_of, owner, reach, right_of, IsOfFlow, IsCanonicalCut, IsConsistentOf, EnclosesConsistent, IsStep, HasConsistent, IsMet, IsMetAtEdge, IsMetAtNode, IsNoteLowered, IsPass};
+ghost use Rattle.fw_model.specs.Offers as spec;
+ghost use Rattle.fw_model.specs.Offers.{IsOffered, AreOffersOf, AreAscending, covers_of};
+ghost use Rattle.fw_monitor.specs.Descent.{choice_of, owner, reach, right_of, IsOfFlow, IsCanonicalCut, IsConsistentOf, EnclosesConsistent, IsStep, HasConsistent, IsMet, IsMetAtEdge, IsMetAtNode, IsNoteLowered, IsPass};
 
 use crate::arrived::arrived;
 use crate::lower::lowered;
@@ -27,9 +28,9 @@ use std::alloc::{AllocError, Global};
 /// It begins with the greatest cut of each node, and lowers what does not hold, pass by pass, until a pass lowers nothing.
 pub fn largest(alloc: Global, flow: &Flow, offers: &[Offer]) -> Result<Choice, AllocError>
     requires { AreOffersOf flow.now offers.now }
-    ensures { (sys : System) (some : choices.Choice) → sys.flow ≡ flow.now → AreAscending flow.now offers.now
-        → IsConsistentBy sys (covers_of sys offers.now) (IsOffered flow.now offers.now) some
-        → IfOk result (IsLargestBy sys (covers_of sys offers.now) (IsOffered flow.now offers.now)) }
+    ensures { (some : choices.Choice) → AreAscending flow.now offers.now
+        → IsConsistentBy flow.now (covers_of flow.now offers.now) (IsOffered flow.now offers.now) some
+        → IfOk result (IsLargestBy flow.now (covers_of flow.now offers.now) (IsOffered flow.now offers.now)) }
 {
     let mut cuts = greatest_cuts(alloc, flow, offers)?;
     let mut notes = all_kept(alloc, flow, &cuts)?;
@@ -95,7 +96,7 @@ fn arrived_from_cut(
 ) -> Result<Front, AllocError>
     requires { IsCanonicalCut (bounds_of flow.now (sender flow.now edge)) cut.now }
     ensures { IfOk result (λ g. Names (bounds_of flow.now (receiver flow.now edge)) g
-        (spec.arrived_from flow.now offers.now edge (set_of (bare flow.now) (sender flow.now edge) cut.now))) }
+        (spec.arrived_from flow.now offers.now edge (set_of flow.now (sender flow.now edge) cut.now))) }
 {
     let front = kept(alloc, cut)?;
     arrived(alloc, flow, offers, edge, &front)

@@ -17,11 +17,10 @@ use Rattle.fw_flow.specs.Dataflow.{System, Dataflow, sender, receiver, out_edges
 use Rattle.fw_flow.specs.NodeFunction.{sent_by}
 use Rattle.fw_flow.specs.Projection.{all_inside, events_at}
 use Rattle.fw_flow.specs.Projection as projection
-use Rattle.fw_model.specs.Choice.{stamp_of_notice}
-use Rattle.fw_model.specs.History.{delivered, sent}
-use Rattle.fw_model.specs.Plain.{AreAtNodes}
+use Rattle.fw_model.specs.History.{delivered, sent, AreAtNodes}
+use Rattle.fw_model.specs.Covers.{stamp_of_notice}
 use Rattle.fw_model.proofs.FilterLaws.{filter-in, filter-out}
-use Rattle.fw_monitor.specs.Offers.{stamps_from, AreOnEdges}
+use Rattle.fw_model.specs.Offers.{stamps_on_from, AreOnEdges}
 use Rattle.fw_plain.specs.Offered.{alone, delivery_to, deliveries_to, on_each, sent_from}
 
 -- the stamps of the messages

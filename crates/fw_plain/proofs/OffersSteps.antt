@@ -20,12 +20,15 @@ use Rattle.fw_flow.specs.declared.event.Event.{Event}
 use Rattle.fw_flow.specs.declared.kind.Kind.{Kind}
 use Rattle.fw_flow.specs.declared.kind.Kind.TheVariants.{Input, OutputEpoch, OutputNumber}
 use Rattle.fw_flow.specs.declared.kind.Policy.TheVariants as policy
-use Rattle.fw_flow.specs.Dataflow.{System, Dataflow, kind_of, bounds_of, batches_of, greatest_number}
-use Rattle.fw_model.specs.Choice.{Restoring, by_bound, restoring, until, stamp_of_notice}
+use Rattle.fw_flow.specs.Dataflow.{System, Dataflow, kind_of, bounds_of, batches_of, greatest_number, system_of}
+use Rattle.fw_model.specs.Choice.{until}
+use Rattle.fw_flow.specs.declared.restoring.Restoring.{Restoring}
+use Rattle.fw_flow.specs.declared.restoring.Restoring.TheVariants.{Bound}
+use Rattle.fw_flow.specs.Restoring.{restoring}
+use Rattle.fw_model.specs.Covers.{stamp_of_notice}
 use Rattle.fw_model.specs.History.{injected_count}
 use Rattle.fw_model.specs.Machine.{front_of}
-use Rattle.fw_model.specs.Plain.{system_of}
-use Rattle.fw_model.proofs.EventSteps.{history_last, batches_there}
+use Rattle.fw_plain.proofs.EventSteps.{history_last, batches_there}
 use Rattle.fw_model.proofs.StampLaws.{line-leq}
 use Rattle.fw_plain.specs.Offered.{delivery_to, deliveries_to, sent_from, batch_fronts, IsBare, AreBare, OffersBy, IsOfferOf, AreOffersFrom}
 use Rattle.fw_plain.proofs.OffersFronts.{numbers, bounds-output_epoch, bounds-output_number, canonical-until, bare-more}
@@ -91,7 +94,7 @@ input_offers flow batches h p settled bound kind records n m q l k is c b e a =
     (subst (λ x. AreBare (batch_fronts (min x greatest_number) (x == m)) records) c a))
 
 -- what an output offers, by the bounds of its domain
-output-by : (sys : System) (h : List Event) (p : ℕ) (settled least greatest : Front) (bound : ℕ) (way : Restoring) → way ≡ by_bound
+output-by : (sys : System) (h : List Event) (p : ℕ) (settled least greatest : Front) (bound : ℕ) (way : Restoring) → way ≡ Bound
     → Names (bounds_of sys.flow p) least nothing
     → Names (bounds_of sys.flow p) greatest (meet (frontier_of (bounds_of sys.flow p) settled) (frontier_of (bounds_of sys.flow p) (until bound)))
     → OffersBy sys h p settled bound way (Between least greatest)

@@ -5,14 +5,15 @@ ghost use Rattle.fw_time.specs.declared.stamp.Bounds.{Bounds as Domain};
 ghost use Rattle.fw_frontier.specs.Frontier.{meet};
 ghost use Rattle.fw_frontier.specs.Front.{frontier_of, IsCanonical, Names};
 ghost use Rattle.fw_flow.specs.declared.kind.Policy.TheVariants as policy;
-ghost use Rattle.fw_flow.specs.Dataflow.{kind_of, bounds_of, greatest_number};
+ghost use Rattle.fw_flow.specs.Dataflow.{kind_of, bounds_of, greatest_number, system_of};
 ghost use Rattle.fw_model.specs.Choice as choices;
-ghost use Rattle.fw_model.specs.Choice.{restoring, stamp_of_notice};
+ghost use Rattle.fw_flow.specs.Restoring.{restoring};
+ghost use Rattle.fw_model.specs.Covers.{stamp_of_notice};
 ghost use Rattle.fw_model.specs.Machine.{Machine, is_failed, front_of};
-ghost use Rattle.fw_model.specs.Plain.{system_of, AreAtNodes};
-ghost use Rattle.fw_monitor.specs.Offers.{AreOffersIn};
+ghost use Rattle.fw_model.specs.Offers.{AreOffersIn};
 ghost use Rattle.fw_plain.specs.Offered as spec;
 ghost use Rattle.fw_plain.specs.Offered.{StandsBy, OffersBy, AreBare, IsBare};
+ghost use Rattle.fw_model.specs.History.{AreAtNodes};
 
 use fw_flow::{
     Counted, CountedMessages, EdgeId, Event, Flow, Kind, Message, NodeId, Notices, OfEdges, Offer,
@@ -20,7 +21,7 @@ use fw_flow::{
 };
 use fw_frontier::Front;
 use fw_lines::Batches;
-use fw_model::plain::{injected_count, sent_by};
+use crate::scan::{injected_count, sent_by};
 use fw_time::Stamp;
 use std::alloc::{AllocError, Global};
 

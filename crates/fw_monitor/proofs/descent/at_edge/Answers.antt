@@ -3,7 +3,7 @@ use Rattle.fw_frontier.specs.Front.{frontier_of, Names}
 use Rattle.fw_flow.specs.Dataflow.{sender, receiver, bounds_of}
 use Rattle.fw_model.specs.Machine.{front_of}
 use Rattle.fw_monitor.specs.declared.side.Side.TheVariants.{Delivered, Discarded}
-use Rattle.fw_monitor.specs.Offers.{arrived_from}
+use Rattle.fw_model.specs.Offers.{arrived_from}
 use Rattle.fw_monitor.specs.Descent.{choice_of, IsStep, HasConsistent, IsMet, IsNoteLowered}
 use Rattle.fw_monitor.proofs.StepLaws.{edge_done}
 use Rattle.fw_monitor.proofs.descent.at_edge.Goals as goal

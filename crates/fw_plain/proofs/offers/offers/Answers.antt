@@ -1,11 +1,11 @@
 use Rattle.std.proofs.Common.{false, not, List, [], reverse, length, get_or, refl, sym, ap, subst, arith}
 use Rattle.std.proofs.lemmas.List.{get_or_read, length-append}
 use Rattle.fw_flow.specs.declared.choice.Offer.{Offer}
-use Rattle.fw_model.specs.Plain.{system_of}
 use Rattle.fw_plain.specs.Offered.{AreOffersFrom}
 use Rattle.fw_plain.proofs.OffersLaws.{offers-in}
 use Rattle.fw_plain.proofs.OffersSteps.{offer_is, offers_more}
 use Rattle.fw_plain.proofs.offers.offers.Goals as goal
+use Rattle.fw_flow.specs.Dataflow.{system_of}
 
 pub loop-place-preserved : goal.loop-place-preserved
 loop-place-preserved c =

@@ -1,8 +1,8 @@
 use Rattle.std.proofs.Common.{ap, ◌∙◌}
 use Rattle.std.proofs.lemmas.List.{take_all}
 use Rattle.fw_flow.specs.Projection.{table_count}
-use Rattle.fw_model.proofs.CompleteSteps.{table_count-reordered}
-use Rattle.fw_model.proofs.plain.complete.table_of.Goals as goal
+use Rattle.fw_plain.proofs.CompleteSteps.{table_count-reordered}
+use Rattle.fw_plain.proofs.scan.complete.table_of.Goals as goal
 
 pub returns : goal.returns
 returns c = λ f.

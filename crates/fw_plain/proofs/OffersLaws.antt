@@ -18,21 +18,22 @@ use Rattle.fw_flow.specs.declared.kind.Kind.{Kind}
 use Rattle.fw_flow.specs.declared.kind.Kind.TheVariants.{Input, OutputEpoch, OutputNumber, Sequence}
 use Rattle.fw_flow.specs.declared.kind.Policy.TheVariants as policy
 use Rattle.fw_flow.specs.Dataflow.{System, kind_of, policy_of, sender, receiver, bounds_of, greatest_number, is_notified_kind, bounds_of_edge}
-use Rattle.fw_flow.specs.Projection.{all_inside, phi_by_count, IsSentTable}
-use Rattle.fw_flow.proofs.ProjectionLaws.{phi-by_table}
+use Rattle.fw_flow.specs.Projection.{all_inside, phi_by_count, IsSentTable, count_from}
 use Rattle.fw_model.specs.Choice.{kept, IsCandidate, IsRestorable}
 use Rattle.fw_model.specs.History.{delivered, sent, injected_count, AreAtNodes}
 use Rattle.fw_flow.specs.declared.restoring.Restoring.{Restoring}
 use Rattle.fw_flow.specs.declared.restoring.Restoring.TheVariants.{Batches, Bound, Anything, Checkpoints, Events}
 use Rattle.fw_flow.specs.Restoring.{restoring, way_of}
 use Rattle.fw_model.specs.Covers.{stamps_from, stamp_of_notice, tallies_in, covers_in}
+use Rattle.fw_flow.proofs.ProjectionLaws.{phi-by_table}
 use Rattle.fw_model.specs.Machine.{Machine, events, is_failed, no_stamps, front_of, bound_of}
 use Rattle.fw_model.proofs.ChoiceLaws.{by_batches-input, bounds-input}
 use Rattle.fw_model.proofs.DomainLaws.{edge-bounds, has_epochs}
 use Rattle.fw_model.proofs.InputLaws.{injected-few}
 use Rattle.fw_model.proofs.LegalLaws.{legal_messages-in_domain}
 use Rattle.fw_model.proofs.TallyLaws.{delivered_cover-same, discarded_cover-same, notified_cover-same}
-use Rattle.fw_model.specs.Offers.{can_stay, listed, records_of, range, range_of, delivered_to, notified_of, sent_by, table_of, IsOffered, IsListed, IsBetween, stamps_on_from, is_by_records, tallies_of, covers_of, Ascend, IsRecordOf, IsRangeOf, IsListedBy, AreOnEdges, AreOffersOf, AreOffersIn}
+use Rattle.fw_model.specs.Offers.{can_stay, listed, records_of, range, range_of, delivered_to, notified_of, sent_by, IsOffered, IsListed, IsBetween, stamps_on_from, is_by_records, tallies_of, covers_of, Ascend, IsRecordOf, IsRangeOf, IsListedBy, AreOnEdges, AreOffersOf, AreOffersIn}
+use Rattle.fw_model.specs.Offers.{table_of}
 use Rattle.fw_plain.specs.Offered.{StandsBy, deliveries_to, sent_from, IsOfferOf, AreOffersFrom}
 use Rattle.fw_plain.proofs.FrontsLaws.{names-no_stamps}
 use Rattle.fw_plain.proofs.OffersFronts.{offered-restorable, offered-records, offered-ascend, offered-range, offered-listed}
@@ -284,7 +285,7 @@ notified-same sys state offers a p l cut =
 
 arrived-same : (sys : System) (state : Machine) (offers : List Offer) → Are sys state offers → (e : ℕ) → e < length sys.flow.edges → (f : Frontier)
     → (covers_of sys.flow offers).arrived e f ≡ (covers_in sys state).arrived e f
-unfolding phi phi_by_count
+unfolding phi_by_count
 arrived-same sys state offers a e l f =
     let p = sender sys.flow e in
     let no_sequence : kind_of sys.flow p ≡ Sequence → IsSentTable sys (events state.history) p (table_of offers p) =

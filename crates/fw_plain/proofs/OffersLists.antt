@@ -15,7 +15,7 @@ use Rattle.fw_flow.specs.declared.event.Message.{Message}
 use Rattle.fw_flow.specs.declared.node.Edge.{Edge}
 use Rattle.fw_flow.specs.Dataflow.{System, Dataflow, sender, receiver, out_edges, edges_from, bounds_of}
 use Rattle.fw_flow.specs.NodeFunction.{sent_by}
-use Rattle.fw_flow.specs.Projection.{all_inside, events_at}
+use Rattle.fw_flow.specs.Projection.{all_inside, events_at, count_from}
 use Rattle.fw_flow.specs.Projection as projection
 use Rattle.fw_model.specs.History.{delivered, sent, AreAtNodes}
 use Rattle.fw_model.specs.Covers.{stamp_of_notice}

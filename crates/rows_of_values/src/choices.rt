@@ -97,8 +97,7 @@ fn offered(alloc: Global, flow: &Flow, node: NodeId, text: &str) -> Result<Offer
     ensures { IfOk result (λ o. IsOfferedBy flow.now node o) }
 {
     if is_listed(flow.restoring(node)) {
-        let records = records(alloc, flow, node, text)?;
-        return Ok(Offered::Listed(Records::of(records)));
+        return Ok(Offered::Listed(Records::of(records(alloc, flow, node, text)?)));
     }
     let (least, greatest) = text.split_once("to").unwrap_or((text, text));
     let domain = flow.domain(node);
@@ -173,11 +172,11 @@ fn offer(alloc: Global, flow: &Flow, node: NodeId, line: &str) -> Result<Offer, 
     let (state, rest) = column(line);
     let (fronts, rest) = column(rest);
     let (delivered, rest) = column(rest);
-    let (noted, sent) = column(rest);
+    let (noted, sent_words) = column(rest);
     let offered = offered(alloc, flow, node, fronts)?;
     let delivered = messages(alloc, flow, delivered)?;
     let notified = notified(alloc, flow, node, noted)?;
-    let sent = messages(alloc, flow, sent)?;
+    let sent = messages(alloc, flow, sent_words)?;
     Ok(Offer {
         present: !state.contains("failed"),
         offered,
@@ -186,7 +185,6 @@ fn offer(alloc: Global, flow: &Flow, node: NodeId, line: &str) -> Result<Offer, 
             notified: Notices::of(notified),
             sent: CountedMessages::of(sent),
         },
-        // The rows have no column for what a sequence sent.
         table: SentTable::new(alloc),
     })
 }

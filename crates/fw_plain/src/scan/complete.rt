@@ -6,12 +6,12 @@ ghost use Rattle.fw_frontier.specs.Frontier.{Frontier, Within};
 ghost use Rattle.fw_flow.specs.WellFormed.{IsWellFormed};
 ghost use Rattle.fw_flow.specs.Dataflow.{kind_of, sender, receiver, bounds_of, system_of};
 ghost use Rattle.fw_flow.specs.Projection as projection;
-ghost use Rattle.fw_flow.specs.Projection.{table_count, IsSentTable};
-ghost use Rattle.fw_flow.specs.SentTable.{AreInOrder};
+ghost use Rattle.fw_flow.specs.Projection.{IsSentTable, table_count};
 ghost use Rattle.fw_model.specs.History.{IsComplete, AreAtNodes};
 ghost use Rattle.fw_model.specs.Machine.{front_of, family_of, AreCanonical};
 ghost use Rattle.fw_plain.specs.Clear as spec;
 ghost use Rattle.fw_plain.specs.Clear.{IsClear};
+ghost use Rattle.fw_flow.specs.SentTable.{AreInOrder};
 
 use super::clear::clear;
 use super::sending::sends;

@@ -1,13 +1,10 @@
 -- Checkpoints lie within what is settled, and so does each frontier to which a node can be restored.
 use Rattle.std.proofs.Common.{◌≡◌, ℕ, ◌<◌, Bool, true, false, not, ◌&&◌, List, [], ◌∷◌, ◌++◌, length, filter, map, refl, sym, ap, subst, ◌∙◌, inl, inr}
-use Rattle.std.specs.List.{AllByRecursion, list_all}
-use Rattle.std.proofs.lemmas.Bool.{and_parts, and_from, or_left, cond_both, cases_Bool, false_from_ne_true}
-use Rattle.fw_time.specs.Stamp.{leq, in_domain}
-use Rattle.fw_time.specs.declared.stamp.Bounds.{Bounds}
+use Rattle.std.specs.List.{AllByRecursion}
+use Rattle.std.proofs.lemmas.Bool.{and_from, or_left, cond_both, cases_Bool}
 use Rattle.fw_time.proofs.EachLaws.{each-weaker, each-append, each-one, each-map}
 use Rattle.fw_frontier.specs.Frontier.{Frontier, Within}
-use Rattle.fw_frontier.specs.Front.{Front, inside, frontier_of, same_front, is_within}
-use Rattle.fw_frontier.proofs.InsideLaws.{inside-closed}
+use Rattle.fw_frontier.specs.Front.{Front, frontier_of, same_front}
 use Rattle.fw_frontier.proofs.NamesLaws.{is_within-holds}
 use Rattle.fw_flow.specs.declared.choice.Cut.{Cut}
 use Rattle.fw_flow.specs.declared.choice.Cut.TheVariants.{Present, At}

@@ -6,11 +6,9 @@ use Rattle.std.proofs.lemmas.List.{get_or-map, length-map}
 use Rattle.std.proofs.lemmas.List.FromFn.{get_or-map-range_with_len, length-map-range_with_len}
 use Rattle.fw_time.specs.Stamp.{Stamp, leq, same, in_domain, origin}
 use Rattle.fw_time.specs.declared.stamp.Bounds.{Bounds}
-use Rattle.fw_time.proofs.EachLaws.{each-weaker, each-both, all-of_each}
 use Rattle.fw_frontier.specs.Frontier.{Frontier, Within, nothing, cover}
 use Rattle.fw_frontier.specs.Front.{Front, inside, frontier_of, IsCanonical, is_within}
-use Rattle.fw_frontier.proofs.CanonicalLaws.{in_domain-canonical}
-use Rattle.fw_frontier.proofs.NamesLaws.{names-nothing, all-outside, within-is}
+use Rattle.fw_frontier.proofs.NamesLaws.{names-nothing, within-is}
 use Rattle.fw_flow.specs.declared.choice.Cut.{Cut}
 use Rattle.fw_flow.specs.declared.choice.Cut.TheVariants.{Present, At}
 use Rattle.fw_flow.specs.declared.event.Event.{Event}

@@ -1,8 +1,7 @@
 -- The steps of the event-list machine: when each is enabled, to which state it leads, and what it shows.
 use Rattle.std.specs.Prelude.{◌≡◌, ◌≢◌, ◌⊎◌, ℕ, ◌+◌, ◌<◌, Bool, true, false, not, ◌&&◌, ◌||◌, ◌==◌, if◌then◌else◌, List, [], ◌∷◌, ◌++◌, map, length, Option, Some, None, slice_set, filter}
 use Rattle.std.specs.List.{list_any, list_all, flat_map}
-use Rattle.std.specs.Ordering.{is_gt, is_eq}
-use Rattle.std.specs.Cmp.Lexicographic.{slice_cmp}
+use Rattle.std.specs.Ordering.{is_gt}
 use Rattle.fw_time.specs.Stamp.{Stamp, leq, same, stamp_cmp}
 use Rattle.fw_bag.specs.declared.rec.Rec.{Rec}
 use Rattle.fw_bag.specs.Keyed.{sorted}

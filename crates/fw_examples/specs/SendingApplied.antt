@@ -60,14 +60,14 @@ pub record ProjectionsApply : Type 0 where
       → phi numbers numbered_both 1 (everything (bounds_of regroup_by_three (sender regroup_by_three 1))) u
       ≡ everything (projections.bounds_of_edge regroup_by_three 1) u
   pub psi_is_frontier : projections.PsiIsFrontier
-      → IsFrontier (projections.bounds_of_edge loop_counts_up fed_back_edge) (psi loop_counts_up fed_back_edge counted)
+      → IsFrontier (projections.bounds_of_edge loop_counts_up fed_back_edge) (psi two_batches fed_back_edge counted)
   pub psi_is_monotone : projections.PsiIsMonotone
-      → Within (psi loop_counts_up fed_back_edge (meet counted begun)) (psi loop_counts_up fed_back_edge counted)
+      → Within (psi two_batches fed_back_edge (meet counted begun)) (psi two_batches fed_back_edge counted)
   pub psi_of_union : projections.PsiOfUnion
-      → projections.IsUnion (λ i. psi loop_counts_up fed_back_edge (one_or_other i)) (psi loop_counts_up fed_back_edge (join counted begun))
+      → projections.IsUnion (λ i. psi two_batches fed_back_edge (one_or_other i)) (psi two_batches fed_back_edge (join counted begun))
   pub psi_of_join : projections.PsiOfJoin → (u : Stamp)
-      → psi loop_counts_up fed_back_edge (join counted begun) u ≡ join (psi loop_counts_up fed_back_edge counted) (psi loop_counts_up fed_back_edge begun) u
-  pub psi_of_nothing : projections.PsiOfNothing → (u : Stamp) → psi loop_counts_up fed_back_edge nothing u ≡ nothing u
+      → psi two_batches fed_back_edge (join counted begun) u ≡ join (psi two_batches fed_back_edge counted) (psi two_batches fed_back_edge begun) u
+  pub psi_of_nothing : projections.PsiOfNothing → (u : Stamp) → psi two_batches fed_back_edge nothing u ≡ nothing u
 
 -- the laws of sending, of the same
 pub record SendingApplies : Type 0 where
@@ -79,23 +79,23 @@ pub record SendingApplies : Type 0 where
       → (phi two_batches under_way fed_back_edge counted (round 0 1) ≡ true)
       ↔ sending.IsSentFrom (bounds_of loop_counts_up (sender loop_counts_up fed_back_edge)) (send_stamp loop_counts_up (sender loop_counts_up fed_back_edge)) counted (round 0 1)
   pub psi_by_send_stamps : sending.PsiBySendStamps
-      → (psi loop_counts_up fed_back_edge counted (round 0 1) ≡ true)
+      → (psi two_batches fed_back_edge counted (round 0 1) ≡ true)
       ↔ sending.SendsAbove (send_stamp loop_counts_up (sender loop_counts_up fed_back_edge)) counted (round 0 1)
   pub psi_back_by_send_stamps : sending.PsiBackBySendStamps
-      → (psi_back loop_counts_up fed_back_edge counted (round 0 1) ≡ true)
+      → (psi_back two_batches fed_back_edge counted (round 0 1) ≡ true)
       ↔ sending.SendsWithin (send_stamp loop_counts_up (sender loop_counts_up fed_back_edge)) counted (round 0 1)
   pub psi_back_is_largest : sending.PsiBackIsLargest
-      → projections.IsSenderFrontier loop_counts_up fed_back_edge (psi_back loop_counts_up fed_back_edge counted)
+      → projections.IsSenderFrontier loop_counts_up fed_back_edge (psi_back two_batches fed_back_edge counted)
       × ((f : Frontier) → projections.IsSenderFrontier loop_counts_up fed_back_edge f
-      → Within (psi loop_counts_up fed_back_edge f) counted ↔ Within f (psi_back loop_counts_up fed_back_edge counted))
+      → Within (psi two_batches fed_back_edge f) counted ↔ Within f (psi_back two_batches fed_back_edge counted))
   pub sends_at : sending.SendsAtSendStamp
       → AllByRecursion (λ (m : Message). (send_stamp loop_counts_up 4 (round 0 0) ≡ Some m.at) × (m.causes ≡ round 0 0 ∷ []))
       (sends two_batches 4 [] (Deliver 3 (message (round 0 0) (pair 1 1) (round 0 0))))
   pub sends_inside : sending.SendsAreInsidePsi
-      → AllByRecursion (λ (m : Message). psi loop_counts_up fed_back_edge counted m.at ≡ true)
+      → AllByRecursion (λ (m : Message). psi two_batches fed_back_edge counted m.at ≡ true)
       (sends two_batches (sender loop_counts_up fed_back_edge) [] (Deliver 3 (message (round 0 0) (pair 1 1) (round 0 0))))
   pub sent_inside : sending.SentFromInsideIsInsidePsi
-      → AllByRecursion (λ (m : Message). all_inside counted m.causes ≡ true → psi loop_counts_up fed_back_edge counted m.at ≡ true) (sent two_batches under_way fed_back_edge)
+      → AllByRecursion (λ (m : Message). all_inside counted m.causes ≡ true → psi two_batches fed_back_edge counted m.at ≡ true) (sent two_batches under_way fed_back_edge)
   pub from_inside : sending.InsidePhiComesFromInside → sending.ComesFromInside two_batches under_way fed_back_edge counted
   pub sequence_from_inside : sending.InsidePhiOfSequenceComesFromInside → sending.ComesFromInside numbers numbered_both 1 (kept_epoch 1)
   pub table : sending.SentTableFollowsHistory → sending.FollowsHistory numbers 1

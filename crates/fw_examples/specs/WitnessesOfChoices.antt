@@ -3,32 +3,31 @@ use Rattle.std.specs.Prelude.{◌≡◌, ◌≢◌, ℕ, ◌<◌, true, [], ◌�
 use Rattle.fw_frontier.specs.Frontier.{Frontier, IsFrontier, join}
 use Rattle.fw_frontier.specs.Front.{Front, frontier_of}
 use Rattle.fw_flow.specs.declared.choice.Cut.TheVariants.{At}
-use Rattle.fw_flow.specs.Dataflow.{bounds_of}
-use Rattle.fw_model.specs.Choice.{kept, ever, until, cut_of, IsCandidate, IsConsistent, IsCutWithin, IsChoiceWithin}
-use Rattle.fw_flow.specs.declared.restoring.Restoring.TheVariants.{Checkpoints}
+use Rattle.fw_flow.specs.Dataflow.{kind_of, policy_of, bounds_of}
+use Rattle.fw_model.specs.Choice.{kept, ever, until, by_checkpoints, cut_of, IsCandidate, IsConsistent, IsCutWithin, IsChoiceWithin}
 use Rattle.fw_model.specs.Machine.{is_failed}
-use Rattle.fw_model.specs.LawsOfChoices.{IsUnionOfChoices, IsUnionOfCuts}
 use Rattle.fw_examples.specs.Flows.{loop_counts_up, two_batches}
 use Rattle.fw_examples.specs.UnderWay.{round, counted_rounds}
 use Rattle.fw_examples.specs.Recovery.{counting_failed}
 use Rattle.fw_examples.specs.RunningTotal.{totals, total_flow, run, src_to_run, run_to_out, output_failed, two_kept_noting, two_epochs_kept, epoch_kept}
-use Rattle.fw_flow.specs.Restoring.{way_of}
-use Rattle.fw_model.specs.Covers.{covers_in}
+use Rattle.fw_flow.specs.Restoring.{restoring}
+use Rattle.fw_model.specs.Covers.{delivered_cover, notified_cover, discarded_cover}
+use Rattle.fw_model.specs.Unions.{IsUnionOfChoices, IsUnionOfCuts}
 
 -- Counting what was collected, two choices of the running total are consistent of which none lies within the other, their
 -- union is offered, and in it something counts as delivered to the running total, as notified of it and as sent by it.
 pub record ChoicesUnite : Type 0 where
   pub one : IsConsistent totals output_failed (IsCandidate totals output_failed (is_failed output_failed) ever) (two_kept_noting (until 0))
   pub other : IsConsistent totals output_failed (IsCandidate totals output_failed (is_failed output_failed) ever) epoch_kept
-  pub one_not_within : IsChoiceWithin total_flow (two_kept_noting (until 0)) epoch_kept → ⊥
-  pub other_not_within : IsChoiceWithin total_flow epoch_kept (two_kept_noting (until 0)) → ⊥
+  pub one_not_within : IsChoiceWithin totals (two_kept_noting (until 0)) epoch_kept → ⊥
+  pub other_not_within : IsChoiceWithin totals epoch_kept (two_kept_noting (until 0)) → ⊥
   pub union : IsUnionOfChoices totals (two_kept_noting (until 0)) epoch_kept (two_kept_noting (until 1))
   pub offered : (p : ℕ) → p < length total_flow.nodes
       → IsCandidate totals output_failed (is_failed output_failed) ever p (cut_of (two_kept_noting (until 1)) p)
-  pub checkpoints : way_of total_flow run ≡ Checkpoints
-  pub delivered : (covers_in totals output_failed).delivered src_to_run (At (until 2)) (1 ∷ []) ≡ true
-  pub notified : (covers_in totals output_failed).notified run (At (until 2)) (1 ∷ []) ≡ true
-  pub discarded : (covers_in totals output_failed).discarded run_to_out (At (until 2)) (1 ∷ []) ≡ true
+  pub checkpoints : restoring (kind_of total_flow run) (policy_of total_flow run) ≡ by_checkpoints
+  pub delivered : delivered_cover totals output_failed run src_to_run (At (until 2)) (1 ∷ []) ≡ true
+  pub notified : notified_cover totals output_failed run (At (until 2)) (1 ∷ []) ≡ true
+  pub discarded : discarded_cover totals output_failed run run_to_out (At (until 2)) (1 ∷ []) ≡ true
 
 -- Not each consistent choice is the largest: what is kept offers another one too.
 pub record LessIsConsistent : Type 0 where
@@ -55,12 +54,12 @@ joined_rounds = join (frontier_of (bounds_of loop_counts_up inc) counted_rounds)
 -- not all inside one of them.
 pub record CutsUnite : Type 0 where
   pub union : IsUnionOfCuts two_batches inc (At counted_rounds) (At first_rounds) (At both_rounds)
-  pub one_not_within : IsCutWithin loop_counts_up inc (At counted_rounds) (At first_rounds) → ⊥
-  pub other_not_within : IsCutWithin loop_counts_up inc (At first_rounds) (At counted_rounds) → ⊥
-  pub delivered_of_one : (covers_in two_batches counting_failed).delivered 2 (At both_rounds) (round 0 2) ≡ true
-  pub delivered_of_other : (covers_in two_batches counting_failed).delivered 2 (At both_rounds) (round 1 0) ≡ true
-  pub discarded_of_one : (covers_in two_batches counting_failed).discarded 3 (At both_rounds) (round 0 2) ≡ true
-  pub discarded_of_other : (covers_in two_batches counting_failed).discarded 3 (At both_rounds) (round 1 0) ≡ true
+  pub one_not_within : IsCutWithin two_batches inc (At counted_rounds) (At first_rounds) → ⊥
+  pub other_not_within : IsCutWithin two_batches inc (At first_rounds) (At counted_rounds) → ⊥
+  pub delivered_of_one : delivered_cover two_batches counting_failed inc 2 (At both_rounds) (round 0 2) ≡ true
+  pub delivered_of_other : delivered_cover two_batches counting_failed inc 2 (At both_rounds) (round 1 0) ≡ true
+  pub discarded_of_one : discarded_cover two_batches counting_failed inc 3 (At both_rounds) (round 0 2) ≡ true
+  pub discarded_of_other : discarded_cover two_batches counting_failed inc 3 (At both_rounds) (round 1 0) ≡ true
 
 -- What is in one of the two frontiers or in the other is a frontier, which is given without a list.
 abbrev pub JoinIsAFrontier : Type 0

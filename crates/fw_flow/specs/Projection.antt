@@ -3,12 +3,12 @@ use Rattle.std.specs.Prelude.{◌≡◌, ℕ, suc, zero, ◌+◌, ◌-◌, ◌*�
 use Rattle.fw_flow.specs.Counting.{how_many}
 use Rattle.std.specs.List.{list_all}
 use Rattle.fw_time.specs.Stamp.{Stamp, nest, outer, counter}
-use Rattle.fw_frontier.specs.Frontier.{Frontier}
+use Rattle.fw_frontier.specs.Frontier.{Frontier, IsFrontier}
 use Rattle.fw_flow.specs.declared.event.Event.{Event}
 use Rattle.fw_flow.specs.declared.event.Message.{Message}
 use Rattle.fw_flow.specs.declared.kind.Kind.{Kind}
 use Rattle.fw_flow.specs.declared.kind.Kind.TheVariants.{Enter, Feedback, Leave, Sequence, Regroup}
-use Rattle.fw_flow.specs.Dataflow.{System, Dataflow, kind_of, sender, domain_of_kind, out_domain_of_kind, greatest_of_kind, bounds_of_domain}
+use Rattle.fw_flow.specs.Dataflow.{System, Dataflow, kind_of, sender, domain_of_kind, out_domain_of_kind, greatest_of_kind, bounds_of_domain, bounds_of}
 use Rattle.fw_time.specs.Stamp.{in_domain}
 use Rattle.fw_flow.specs.NodeFunction.{place, sent_by}
 
@@ -105,3 +105,7 @@ unfoldable pub psi_back : Dataflow → ℕ → Frontier → Frontier
 psi_back flow e g t =
     in_domain (bounds_of_domain flow (domain_of_kind flow (kind_of flow (sender flow e)))) t
     && psi_back_of_kind (greatest_of_kind flow (kind_of flow (sender flow e))) (kind_of flow (sender flow e)) g t
+
+-- the frontier is one of the sender's domain
+abbrev pub IsSenderFrontier : Dataflow → ℕ → Frontier → Type 0
+IsSenderFrontier flow e f = IsFrontier (bounds_of flow (sender flow e)) f

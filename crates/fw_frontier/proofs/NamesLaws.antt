@@ -1,7 +1,7 @@
 -- Which list names a frontier, and that there is only one.
 use Rattle.std.proofs.Common.{◌≡◌, ℕ, Bool, true, false, not, ◌&&◌, ◌||◌, List, [], ◌∷◌, length, get_or, take, map, ◌+◌, ◌<◌, refl, sym, ap, ◌∙◌, subst, arith}
 use Rattle.std.proofs.lemmas.Bool.{and_from, and_parts}
-use Rattle.std.proofs.Math.Bool.{and-false, and_assoc, and-true, and-or_distrib_left, or-false}
+use Rattle.std.proofs.Math.Bool.{and-false, and_assoc, and-or_distrib_left, or-false}
 use Rattle.std.proofs.lemmas.List.{take_all}
 use Rattle.std.specs.List.{AllByRecursion}
 use Rattle.std.specs.Ordering.{is_lt}
@@ -9,7 +9,7 @@ use Rattle.fw_time.specs.declared.stamp.Bounds.{Bounds}
 use Rattle.fw_time.specs.Stamp.{leq, stamp_cmp, origin, in_domain}
 use Rattle.fw_time.proofs.StampLaws.{leq-refl, leq-antisym, leq-length, origin-leq, before-leq, before-trans, before-irrefl}
 use Rattle.fw_time.proofs.EachLaws.{each-weaker}
-use Rattle.fw_frontier.specs.Frontier.{nothing, everything, meet, join, cover, some_above, without_above, Within, IsFrontier}
+use Rattle.fw_frontier.specs.Frontier.{nothing, meet, join, cover, some_above, without_above, Within, IsFrontier}
 use Rattle.fw_frontier.specs.Front.{inside, frontier_of, is_within, IsCanonical, IsLeastBefore, Names}
 use Rattle.fw_frontier.specs.Outside.{excluding, excluding_all, below_at}
 use Rattle.fw_frontier.proofs.InsideLaws.{inside-closed, inside-excluding, inside-excluding_all, inside-excluding_pairs, inside-below_at}

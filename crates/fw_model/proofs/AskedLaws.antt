@@ -21,18 +21,16 @@ use Rattle.fw_flow.specs.declared.kind.Policy.TheVariants as policy
 use Rattle.fw_flow.specs.declared.node.Node.{Node}
 use Rattle.fw_flow.specs.declared.step.Step.{Step}
 use Rattle.fw_flow.specs.declared.step.Step.TheVariants.{Inject, Deliver, Notify, Progress as ProgressStep, Checkpoint, Persist, Fail, Recover, Collect, Ack}
-use Rattle.fw_flow.specs.Dataflow.{System, Dataflow, idle_node, kind_of, policy_of, receiver, out_edges, bounds_of, send_stamp}
+use Rattle.fw_flow.specs.Dataflow.{System, Dataflow, idle_node, kind_of, policy_of, receiver, out_edges, bounds_of, send_stamp, places}
 use Rattle.fw_flow.specs.NodeFunction.{place, stamp}
 use Rattle.fw_flow.specs.WellFormed.{IsWellFormed, IsWellFormedSystem, IsPolicyAllowed, may_keep_nothing}
 use Rattle.fw_model.specs.Denotation.{Family, rounds}
-use Rattle.fw_model.specs.Machine.{Machine, Numbered, Write, Written, checkpoint, logged_event, Progress, in_flight, acknowledged, collected, no_stamps, places, first_state, front_of, is_failed}
+use Rattle.fw_model.specs.Machine.{Machine, Numbered, Write, Written, checkpoint, logged_event, Progress, in_flight, acknowledged, collected, no_stamps, first_state, front_of, is_failed}
 use Rattle.fw_flow.specs.declared.choice.Choice.{Choice}
 use Rattle.fw_model.specs.Choice.{kept, cut_of, kept_of, IsCandidate, IsLargest, filtered}
+use Rattle.fw_model.specs.Steps.{Effect, Outcome, did, idle, LeadsTo, Run, write_of_event, with_event, checkpoint_of, is_eager, GrowsTo, is_asked_for_checkpoints, checkpoint_front, checkpoints_of, last_or, newest_checkpoint, AcknowledgesOldest, is_one_of, is_in_flight, with_failed, is_kept_write, IsSettledCut, CutsTo, recovered, front_of_cut, inside_if_some, sends_inside, is_given_up, is_serial_given_up, lies_below, after_collection, collected_writes}
 use Rattle.fw_flow.specs.declared.restoring.Restoring.TheVariants.{Checkpoints}
 use Rattle.fw_flow.specs.Restoring.{restoring_of_policy, restoring}
-use Rattle.fw_model.specs.Steps.{Effect, Outcome, did, idle, LeadsTo, Run, write_of_event, with_event, checkpoint_of, is_eager, GrowsTo, is_asked_for_checkpoints, checkpoint_front, checkpoints_of, last_or, newest_checkpoint, AcknowledgesOldest, is_one_of, is_in_flight, with_failed, is_kept_write, IsSettledCut, CutsTo, recovered, front_of_cut, inside_if_some, sends_inside, is_given_up, is_serial_given_up, lies_below, after_collection, collected_writes}
-use Rattle.fw_model.specs.LawsOfDenotation.{enough_rounds}
-use Rattle.fw_model.specs.LawsOfRestoring.{takes_checkpoints}
 use Rattle.fw_model.proofs.Decisions.{two_ways}
 use Rattle.fw_model.proofs.CmpLaws.{stamp_total}
 use Rattle.fw_model.proofs.ChoiceLaws.{same_fronts}
@@ -42,6 +40,8 @@ use Rattle.fw_model.proofs.SameInsideLaws.{at_node, IsLowConsistent, low_length}
 use Rattle.fw_model.proofs.WriteLaws.{ArePairs, pairs-append, pairs-passed, pairs-mapped, pairs-replaced, LiesBelow, AreAscending}
 use Rattle.fw_model.proofs.LowLaws.{at_most-refl, none-canonical}
 use Rattle.fw_model.proofs.ChoosingLaws.{CanRecover, settled_writes, watermark-grows, took-recover, first-recover}
+use Rattle.fw_model.specs.Measure.{enough_rounds}
+use Rattle.fw_model.specs.Writes.{takes_checkpoints}
 
 -- ---- nodes that take checkpoints
 

@@ -27,16 +27,17 @@ use Rattle.fw_model.specs.History.{delivered, sent}
 use Rattle.fw_model.specs.Machine.{Machine, Numbered, Write, bound_of, events, front_of}
 use Rattle.fw_flow.specs.declared.choice.Choice.{Choice}
 use Rattle.fw_model.specs.Choice.{View, kept, ever, until, AllLogged, IsRestorable, HoldsLow, IsCandidate, IsCutWithin, cut_of, note_of, kept_of}
+use Rattle.fw_model.specs.LawsOfChoices.{ConsistentChoicesHaveUnion, EachLiesWithinUnion, LargestChoiceIsOne, DeliveredOfUnion, NotifiedOfUnion, DiscardedOfUnion, UnionOfCandidatesIsCandidate, UnionOfConsistentIsConsistent}
 use Rattle.fw_flow.specs.declared.restoring.Restoring.{Restoring}
 use Rattle.fw_flow.specs.declared.restoring.Restoring.TheVariants.{Batches, Bound, Anything, Checkpoints, Events}
 use Rattle.fw_flow.specs.Restoring.{restoring_of_policy, restoring, can_resend, way_of}
 use Rattle.fw_model.specs.Covers.{stamp_of_notice, stamps_from, set_of, takes_its_cut, takes_its_notes, discarded_at, covers_in, tallies_in}
-use Rattle.fw_model.specs.LawsOfChoices.{ConsistentChoicesHaveUnion, EachLiesWithinUnion, LargestChoiceIsOne, IsUnionOfCuts, IsUnionOfChoices, DeliveredOfUnion, NotifiedOfUnion, DiscardedOfUnion, UnionOfCandidatesIsCandidate, UnionOfConsistentIsConsistent}
 use Rattle.fw_model.proofs.PhiLaws.{phi-monotone, all_inside-monotone}
 use Rattle.fw_model.proofs.PsiLaws.{same_tests, psi-monotone, psi-join}
 use Rattle.fw_model.proofs.MeetLaws.{one_within}
 use Rattle.fw_model.proofs.SendsLaws.{IsOfCause, sent_by-of_cause}
 use Rattle.fw_model.proofs.SequenceLaws.{bounds-sequence}
+use Rattle.fw_model.specs.Unions.{IsUnionOfCuts, IsUnionOfChoices}
 
 -- ---- the largest choice
 

@@ -11,20 +11,16 @@ use Rattle.fw_flow.specs.declared.kind.Policy.{Policy}
 use Rattle.fw_flow.specs.declared.kind.Policy.TheVariants as policy
 use Rattle.fw_flow.specs.declared.step.Step.{Step}
 use Rattle.fw_flow.specs.declared.step.Step.TheVariants.{Inject, Deliver, Notify, Progress as ProgressStep, Checkpoint, Persist, Fail, Recover, Collect, Ack}
-use Rattle.fw_flow.specs.Dataflow.{System, policy_of, receiver, bounds_of}
+use Rattle.fw_flow.specs.Dataflow.{System, policy_of, receiver, bounds_of, places}
 use Rattle.fw_flow.specs.WellFormed.{IsWellFormedSystem}
 use Rattle.fw_model.specs.Denotation.{Family, IsDenotation, rounds}
-use Rattle.fw_model.specs.Machine.{Machine, Numbered, Write, Written, checkpoint, logged_event, Progress, in_flight, acknowledged, collected, places, first_state, front_of, is_failed, bound_of}
+use Rattle.fw_model.specs.Machine.{Machine, Numbered, Write, Written, checkpoint, logged_event, Progress, in_flight, acknowledged, collected, first_state, front_of, is_failed, bound_of}
 use Rattle.fw_flow.specs.declared.choice.Choice.{Choice}
 use Rattle.fw_model.specs.Choice.{View, kept, ever, IsRestorable, IsCandidate, cut_of, IsConsistent, IsCutWithin, IsLargest, filtered}
+use Rattle.fw_model.specs.Steps.{Effect, Outcome, did, idle, LeadsTo, Run, write_of_event, checkpoint_of, is_eager, eager_writes, is_one_of, is_in_flight, without_lost, with_failed, is_kept_write, lies_below, after_collection, front_of_cut}
+use Rattle.fw_model.specs.LawsOfChoosing.{LowWatermarkIsConsistent, CheckpointsAreChains, RecoveryHasAChoice, FailedNodesAreRecovered, ReachedStatesHaveOneNextState, LargestChoiceHoldsLowWatermark, LowWatermarkNeverFalls, LargestOfKeptIsLargestOfEver}
 use Rattle.fw_flow.specs.declared.restoring.Restoring.{Restoring}
 use Rattle.fw_flow.specs.declared.restoring.Restoring.TheVariants.{Batches, Bound, Anything, Checkpoints, Events}
-use Rattle.fw_model.specs.Steps.{Effect, Outcome, did, idle, LeadsTo, Run, write_of_event, checkpoint_of, is_eager, eager_writes, is_one_of, is_in_flight, without_lost, with_failed, is_kept_write, lies_below, after_collection, front_of_cut}
-use Rattle.fw_model.specs.LawsOfDenotation.{enough_rounds}
-use Rattle.fw_model.specs.LawsOfExistence.{AreCheckpointsChains}
-use Rattle.fw_model.specs.LawsOfFiltering.{IsFull}
-use Rattle.fw_model.specs.LawsOfSteps.{CanChoose, HasItsChoice}
-use Rattle.fw_model.specs.LawsOfChoosing.{low_choice, LowWatermarkIsConsistent, CheckpointsAreChains, RecoveryHasAChoice, FailedNodesAreRecovered, ReachedStatesHaveOneNextState, LargestChoiceHoldsLowWatermark, LowWatermarkNeverFalls, LargestOfKeptIsLargestOfEver}
 use Rattle.fw_model.proofs.Decisions.{two_ways}
 use Rattle.fw_model.proofs.DenotationLaws.{denotation-exists}
 use Rattle.fw_model.proofs.CheckpointLaws.{HoldsSettled, IsWriteSettled, AreWritesSettled, HasWritesSettled, grown-writes, settled-grows, each-passed, each-replaced, took-writes}
@@ -38,6 +34,9 @@ use Rattle.fw_frontier.proofs.NamesLaws.{within-is}
 use Rattle.fw_model.proofs.LowLaws.{event-low, same-low, keep-append, keep-all, keep-acknowledged, keep-failed, set-grows, at_most-refl, candidate-ever, offered-consistent, low-any, low-within, recovery-low, watermark-front, collection-low, first-low}
 use Rattle.fw_model.proofs.DomainLaws.{has_epochs}
 use Rattle.fw_time.proofs.EachLaws.{each-weaker, each-append, each-one, each-map}
+use Rattle.fw_model.specs.Measure.{enough_rounds}
+use Rattle.fw_model.specs.Choosing.{AreCheckpointsChains, CanChoose, HasItsChoice, low_choice}
+use Rattle.fw_model.specs.Settled.{IsFull}
 use Rattle.fw_flow.specs.Restoring.{way_of}
 
 -- what holds of each state of a run

@@ -9,11 +9,10 @@ use Rattle.fw_frontier.specs.Frontier.{Frontier, Within, nothing, everything, co
 use Rattle.fw_frontier.specs.Front.{Front, inside, frontier_of, IsLeastBefore, IsCanonical}
 use Rattle.fw_flow.specs.declared.choice.Cut.{Cut}
 use Rattle.fw_flow.specs.declared.choice.Cut.TheVariants.{Present, At}
-use Rattle.fw_flow.specs.Dataflow.{greatest_of_kind, System, kind_of, policy_of, sender, receiver, bounds_of}
+use Rattle.fw_flow.specs.Dataflow.{greatest_of_kind, System, kind_of, policy_of, sender, receiver, bounds_of, bounds_of_edge}
 use Rattle.fw_flow.specs.NodeFunction.{place, stamp}
 use Rattle.fw_flow.specs.Projection.{phi, psi_of_kind, psi}
 use Rattle.fw_model.specs.History.{delivered, sent, injected_count, is_exhausted}
-use Rattle.fw_model.specs.LawsOfProjections.{bounds_of_edge}
 use Rattle.fw_model.specs.Machine.{Machine, Numbered, Write, Written, checkpoint, logged_event, Progress, events, no_stamps, front_of, bound_of}
 use Rattle.fw_flow.specs.declared.choice.Choice.{Choice}
 use Rattle.fw_model.specs.Choice.{View, kept, ever, counts, until, HasCheckpoint, IsLogged, AllLogged, IsRestorable, HoldsLow, IsCandidate, cut_of, note_of, kept_of, IsConsistent}

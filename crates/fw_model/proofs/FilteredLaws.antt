@@ -21,13 +21,14 @@ use Rattle.fw_flow.specs.WellFormed.{IsWellFormed}
 use Rattle.fw_model.specs.History.{delivered, IsLegal}
 use Rattle.fw_model.specs.Machine.{Machine, Numbered, events, front_of}
 use Rattle.fw_flow.specs.declared.choice.Choice.{Choice}
-use Rattle.fw_model.specs.Covers.{stamp_of_notice, set_of, takes_its_cut, takes_its_notes, covers_in}
 use Rattle.fw_model.specs.Choice.{cut_of, note_of, kept_of, filtered}
-use Rattle.fw_model.specs.LawsOfFiltering.{kept_events, IsConsistentlyKept, MeetsInclusions, ConsistentMeetsInclusions, FilteredHistoryIsLegal}
+use Rattle.fw_model.specs.LawsOfFiltering.{ConsistentMeetsInclusions, FilteredHistoryIsLegal}
+use Rattle.fw_model.specs.Covers.{stamp_of_notice, set_of, takes_its_cut, takes_its_notes, covers_in}
 use Rattle.fw_model.proofs.PhiLaws.{phi-monotone}
 use Rattle.fw_model.proofs.MeetLaws.{phi-everything}
 use Rattle.fw_model.proofs.LegalLaws.{edge_domains}
 use Rattle.fw_model.proofs.RewritingLaws.{kept-legal}
+use Rattle.fw_model.specs.Filtering.{kept_events, IsConsistentlyKept, MeetsInclusions}
 use Rattle.fw_flow.specs.Restoring.{way_of}
 
 -- ---- the kept events

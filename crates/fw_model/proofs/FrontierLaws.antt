@@ -6,9 +6,9 @@ use Rattle.fw_time.specs.Stamp.{Stamp, leq, nest, outer, counter, in_domain}
 use Rattle.fw_frontier.specs.Frontier.{Frontier, IsFrontier}
 use Rattle.fw_flow.specs.declared.kind.Kind.{Kind}
 use Rattle.fw_flow.specs.declared.kind.Kind.TheVariants.{Enter, Feedback, Leave, Sequence, Regroup}
-use Rattle.fw_flow.specs.Dataflow.{greatest_of_kind, System, Dataflow, kind_of, sender, max_of, greatest_number, domain_of_kind, out_domain_of_kind, bounds_of, bounds_of_domain, is_sequence_kind}
+use Rattle.fw_flow.specs.Dataflow.{greatest_of_kind, System, kind_of, sender, max_of, greatest_number, domain_of_kind, out_domain_of_kind, bounds_of, bounds_of_domain, is_sequence_kind, bounds_of_edge, Dataflow}
 use Rattle.fw_flow.specs.Projection.{sent_count, first_number_of, phi_of_kind, phi, psi_of_kind, psi}
-use Rattle.fw_model.specs.LawsOfProjections.{PhiIsFrontier, PsiIsFrontier, PhiIgnoresHistory, bounds_of_edge}
+use Rattle.fw_model.specs.LawsOfProjections.{PhiIsFrontier, PsiIsFrontier, PhiIgnoresHistory}
 use Rattle.fw_model.proofs.StampLaws.{nest-leq, in_loop, loop-leq, leq_from, leq_to, in_line, line-leq, leq-line}
 use Rattle.fw_model.proofs.SendingLaws.{each_counter-at, each_counter-from, some_counter-at, some_counter-from}
 

@@ -8,10 +8,11 @@ use Rattle.fw_flow.specs.Dataflow.{System, bounds_of}
 use Rattle.fw_model.specs.Machine.{Machine, front_of}
 use Rattle.fw_flow.specs.declared.choice.Choice.{Choice}
 use Rattle.fw_model.specs.Choice.{View, IsCandidate, cut_of, IsConsistent, IsCutWithin, IsChoiceWithin}
-use Rattle.fw_model.specs.LawsOfExistence.{AreCheckpointsChains, LargestChoiceExists}
+use Rattle.fw_model.specs.LawsOfExistence.{LargestChoiceExists}
 use Rattle.fw_model.proofs.ChoiceLaws.{candidates-union, union-consistent, have-union, within-union}
 use Rattle.fw_model.proofs.ConsistentLaws.{consistent-decided}
 use Rattle.fw_model.proofs.ListedLaws.{IsIn, each-in, in-map, pairs_of, in-pairs, lists_of, in-lists, each-of_places, fronts_below, in-fronts_below}
+use Rattle.fw_model.specs.Choosing.{AreCheckpointsChains}
 
 -- ---- choices within choices
 

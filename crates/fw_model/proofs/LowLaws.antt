@@ -16,7 +16,7 @@ use Rattle.fw_flow.specs.declared.event.Event.TheVariants.{Inject as Injected, D
 use Rattle.fw_flow.specs.declared.event.Message.{Message}
 use Rattle.fw_flow.specs.declared.kind.Kind.{Kind}
 use Rattle.fw_flow.specs.declared.kind.Kind.TheVariants.{Input}
-use Rattle.fw_flow.specs.Dataflow.{System, Dataflow, kind_of, policy_of, sender, receiver, in_edges, bounds_of, batches_of, greatest_number, is_input_kind, is_notified_kind}
+use Rattle.fw_flow.specs.Dataflow.{System, Dataflow, kind_of, policy_of, sender, receiver, in_edges, bounds_of, batches_of, greatest_number, is_input_kind, is_notified_kind, HasEpochs}
 use Rattle.fw_flow.specs.NodeFunction.{place, stamp}
 use Rattle.fw_flow.specs.Projection.{phi}
 use Rattle.fw_flow.specs.WellFormed.{IsWellFormed, IsInDegree}
@@ -24,18 +24,15 @@ use Rattle.fw_model.specs.History.{some_at, pending, was_delivered_to, was_notif
 use Rattle.fw_model.specs.Machine.{Machine, Numbered, Write, Written, checkpoint, logged_event, Progress, in_flight, acknowledged, collected, events, no_stamps, first_state, front_of, bound_of}
 use Rattle.fw_flow.specs.declared.choice.Choice.{Choice}
 use Rattle.fw_model.specs.Choice.{View, kept, ever, counts, until, HasCheckpoint, IsLogged, AllLogged, IsRestorable, HoldsLow, IsCandidate, cut_of, note_of, kept_of, IsConsistent, IsCutWithin, IsLargest, filtered}
+use Rattle.fw_model.specs.Steps.{write_of_event, with_event, AcknowledgesOldest, is_one_of, is_in_flight, has_serial, is_kept_write, IsSettledCut, CutsTo, recovered, lies_below, after_collection, collected_writes, front_of_cut}
 use Rattle.fw_flow.specs.declared.restoring.Restoring.{Restoring}
 use Rattle.fw_flow.specs.declared.restoring.Restoring.TheVariants.{Batches, Bound, Anything, Checkpoints, Events}
 use Rattle.fw_flow.specs.Restoring.{restoring, can_resend, way_of}
 use Rattle.fw_model.specs.Covers.{takes_its_cut, takes_its_notes, set_of, discarded_at, covers_in, tallies_in}
-use Rattle.fw_model.specs.Steps.{write_of_event, with_event, AcknowledgesOldest, is_one_of, is_in_flight, has_serial, is_kept_write, IsSettledCut, CutsTo, recovered, lies_below, after_collection, collected_writes, front_of_cut}
-use Rattle.fw_model.specs.LawsOfLegalHistories.{HasEpochs}
-use Rattle.fw_model.specs.LawsOfFiltering.{IsFull, AreFrontiers, kept_events}
-use Rattle.fw_model.specs.LawsOfChoosing.{low_choice}
 use Rattle.fw_model.proofs.Decisions.{two_ways}
 use Rattle.fw_model.proofs.StampLaws.{line-leq, leq-line, same-refl}
 use Rattle.fw_model.proofs.WeightLaws.{weigh}
-use Rattle.fw_model.proofs.CmpLaws.{among-each}
+use Rattle.fw_flow.proofs.MessageLaws.{among-each}
 use Rattle.fw_model.proofs.ArrivalLaws.{at_edge, in_edges-once}
 use Rattle.fw_model.proofs.ChoiceLaws.{by_batches-input, bounds-input}
 use Rattle.fw_model.proofs.FilteredLaws.{filtered-events, set-frontier}
@@ -48,6 +45,9 @@ use Rattle.fw_model.proofs.RunLaws.{none-inside}
 use Rattle.fw_model.proofs.RecoveryLaws.{edge-there}
 use Rattle.fw_model.proofs.SameInsideLaws.{at_node, IsSameInside, inside-refl, inside-event, inside-kept, IsLowConsistent, low_length, low_cut, low-offered, low-stays}
 use Rattle.fw_model.proofs.WriteLaws.{some-weaker, some-append, some-passed, some-mapped, some-replaced, IsCheckpointAt, IsItsCheckpoint, NamesEvent, LogsEvent, some-checkpoint, checkpoint-some, some-logged, logged-some}
+use Rattle.fw_model.specs.Settled.{IsFull}
+use Rattle.fw_model.specs.Filtering.{AreFrontiers, kept_events}
+use Rattle.fw_model.specs.Choosing.{low_choice}
 
 pub at_most-refl : (n : ℕ) → n ≤ n
 at_most-refl n = omega arith

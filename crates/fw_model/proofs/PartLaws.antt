@@ -11,20 +11,19 @@ use Rattle.fw_frontier.specs.Front.{Front, frontier_of}
 use Rattle.fw_flow.specs.declared.event.Event.{Event}
 use Rattle.fw_flow.specs.declared.event.Event.TheVariants.{Inject, Deliver, Notify}
 use Rattle.fw_flow.specs.declared.event.Message.{Message}
-use Rattle.fw_flow.specs.Dataflow.{System, Dataflow, receiver, bounds_of}
+use Rattle.fw_flow.specs.Dataflow.{System, Dataflow, receiver, bounds_of, HasEpochs}
 use Rattle.fw_flow.specs.NodeFunction.{place, stamp}
 use Rattle.fw_flow.specs.Projection.{events_at}
 use Rattle.fw_flow.specs.WellFormed.{IsWellFormed}
 use Rattle.fw_model.specs.History.{sent, message_on, delivered, IsLegal}
 use Rattle.fw_model.specs.Machine.{Machine, events}
 use Rattle.fw_model.specs.Covers.{stamps_from, stamps_inside, stamp_of_notice, notified_inside}
-use Rattle.fw_model.specs.LawsOfLegalHistories.{HasEpochs}
-use Rattle.fw_model.specs.LawsOfFiltering.{AreFrontiers, kept_events, events_inside}
-use Rattle.fw_model.specs.LawsOfRestoring.{IsSamePart, CountsTheSame}
 use Rattle.fw_model.proofs.Decisions.{two_ways}
 use Rattle.fw_model.proofs.FilterLaws.{filter-out, filter-inner, flat_map-filter}
 use Rattle.fw_model.proofs.LocalityLaws.{events_at-kept, sends-same_within}
 use Rattle.fw_model.proofs.SameInsideLaws.{sent-outside, delivered-same, notified-same, discarded-same}
+use Rattle.fw_model.specs.Filtering.{AreFrontiers, kept_events, events_inside}
+use Rattle.fw_model.specs.Writes.{IsSamePart, CountsTheSame}
 
 -- ---- the part of a node
 

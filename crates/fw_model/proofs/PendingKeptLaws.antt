@@ -15,29 +15,30 @@ use Rattle.fw_flow.specs.declared.event.Message.{Message}
 use Rattle.fw_flow.specs.declared.kind.Kind.TheVariants.{OutputEpoch, Sequence}
 use Rattle.fw_flow.specs.declared.kind.Policy.{Policy}
 use Rattle.fw_flow.specs.declared.kind.Policy.TheVariants as policy
-use Rattle.fw_flow.specs.Dataflow.{System, Dataflow, kind_of, policy_of, sender, receiver, bounds_of, bounds_of_domain}
+use Rattle.fw_flow.specs.Dataflow.{System, Dataflow, kind_of, policy_of, sender, receiver, bounds_of, bounds_of_domain, bounds_of_edge, HasEpochs}
 use Rattle.fw_flow.specs.Projection.{all_inside}
 use Rattle.fw_flow.specs.WellFormed.{IsWellFormed, IsPolicyAllowed}
-use Rattle.fw_model.specs.History.{less, some_at, sent, delivered, pending, IsLegal}
+use Rattle.fw_flow.specs.Message.{less}
+use Rattle.fw_model.specs.History.{some_at, sent, delivered, pending, IsLegal}
 use Rattle.fw_model.specs.Machine.{Machine, events}
 use Rattle.fw_flow.specs.declared.choice.Choice.{Choice}
+use Rattle.fw_model.specs.Choice.{cut_of, kept_of}
+use Rattle.fw_model.specs.LawsOfFiltering.{PendingAtKeptStamps, PendingAtOtherStamps, PendingForPresent, PendingForCut, NothingPendingWithoutLog}
 use Rattle.fw_flow.specs.declared.restoring.Restoring.{Restoring}
 use Rattle.fw_flow.specs.declared.restoring.Restoring.TheVariants.{Bound, Anything}
 use Rattle.fw_flow.specs.Restoring.{restoring_of_policy, restoring, can_resend, way_of}
 use Rattle.fw_model.specs.Covers.{stamps_from, set_of, discarded_at, covers_in, tallies_in}
-use Rattle.fw_model.specs.Choice.{cut_of, kept_of}
-use Rattle.fw_model.specs.LawsOfProjections.{bounds_of_edge}
-use Rattle.fw_model.specs.LawsOfSending.{SendsByStamp}
-use Rattle.fw_model.specs.LawsOfLegalHistories.{HasEpochs}
-use Rattle.fw_model.specs.LawsOfFiltering.{kept_events, messages_from, messages_inside, messages_outside, PendingAtKeptStamps, PendingAtOtherStamps, PendingForPresent, PendingForCut, NothingPendingWithoutLog}
+use Rattle.fw_flow.proofs.MessageLaws.{less-each, filter-less}
 use Rattle.fw_model.proofs.Decisions.{two_ways}
-use Rattle.fw_model.proofs.LegalLaws.{less-each, edge_domains, legal_messages-in_domain}
+use Rattle.fw_model.proofs.LegalLaws.{edge_domains, legal_messages-in_domain}
 use Rattle.fw_model.proofs.CompleteLaws.{past_edges-idle, sender_sorts}
 use Rattle.fw_model.proofs.SendsLaws.{sent_from_inside-inside_psi}
-use Rattle.fw_model.proofs.FilterLaws.{filter-in, filter-out, filter-all, filter-none, filter-less}
+use Rattle.fw_model.proofs.FilterLaws.{filter-in, filter-out, filter-all, filter-none}
 use Rattle.fw_model.proofs.LocalityLaws.{sends-same, delivers-same}
 use Rattle.fw_model.proofs.KeptLaws.{kept-causes, pending-inside}
 use Rattle.fw_model.proofs.FilteredLaws.{filtered-events, choice-consistent}
+use Rattle.fw_model.specs.Sending.{SendsByStamp}
+use Rattle.fw_model.specs.Filtering.{kept_events, messages_from, messages_inside, messages_outside}
 
 -- ---- messages inside and outside
 

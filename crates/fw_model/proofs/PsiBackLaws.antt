@@ -1,6 +1,6 @@
 -- Psi backwards, by the send stamps of the sender, and that it is the largest.
 use Rattle.std.proofs.Common.{◌≡◌, ◌↔◌, ℕ, ◌+◌, ◌-◌, ◌/◌, ◌<◌, ◌≤◌, min, true, [], ◌∷◌, Some, refl, sym, ap, ◌∙◌, arith}
-use Rattle.std.proofs.lemmas.Bool.{and_parts, and_from}
+use Rattle.std.proofs.lemmas.Bool.{and_parts}
 use Rattle.std.proofs.Math.Nat.{div-le_self, min-le_left, min-le_right, le-min}
 use Rattle.fw_time.specs.declared.stamp.Bounds.{Bounds}
 use Rattle.fw_time.specs.Stamp.{Stamp, leq, nest, outer, counter, in_domain}
@@ -9,12 +9,12 @@ use Rattle.fw_time.proofs.StampLaws.{leq-refl, leq-trans}
 use Rattle.fw_frontier.specs.Frontier.{Frontier, IsFrontier}
 use Rattle.fw_flow.specs.declared.kind.Kind.{Kind}
 use Rattle.fw_flow.specs.declared.kind.Kind.TheVariants.{OutputEpoch, OutputNumber, Enter, Feedback, Leave, Sequence, Regroup}
-use Rattle.fw_flow.specs.Dataflow.{Dataflow, kind_of, sender, max_of, greatest_number, domain_of_kind, out_domain_of_kind, greatest_of_kind, bounds_of, bounds_of_domain, send_stamp_of_kind}
+use Rattle.fw_flow.specs.Dataflow.{kind_of, sender, max_of, greatest_number, domain_of_kind, out_domain_of_kind, greatest_of_kind, bounds_of, bounds_of_domain, send_stamp_of_kind, bounds_of_edge, Dataflow}
 use Rattle.fw_flow.specs.Projection.{first_number_of, psi, psi_back_of_kind, psi_back}
-use Rattle.fw_model.specs.LawsOfProjections.{bounds_of_edge}
-use Rattle.fw_model.specs.LawsOfSending.{SendsByStamp, SendsWithin, PsiBackBySendStamps, PsiBackIsLargest}
+use Rattle.fw_model.specs.LawsOfSending.{PsiBackBySendStamps, PsiBackIsLargest}
 use Rattle.fw_model.proofs.StampLaws.{loop-leq, nest-leq, in_loop, leq_from, leq_to, in_line, line-leq, leq-line}
-use Rattle.fw_model.proofs.SendingLaws.{some_is, fed_back-some, fed_back-nest, div-monotone, psi-by_stamp, send_stamp-in_domain}
+use Rattle.fw_model.proofs.SendingLaws.{some_is, fed_back-some, fed_back-nest, div-monotone, test_in_domain, psi-by_stamp, send_stamp-in_domain}
+use Rattle.fw_model.specs.Sending.{SendsByStamp, SendsWithin}
 
 -- the domain with this greatest stamp
 abbrev up_to : Stamp → Bounds
@@ -110,12 +110,7 @@ psi_back_of_kind-by_stamp flow kind g p fr t i = same_back _ g fr t i
 
 pub psi_back-by_stamp : PsiBackBySendStamps
 unfolding psi_back bounds_of
-psi_back-by_stamp flow e g p fr t i =
-    let kind = kind_of flow (sender flow e) in
-    let row = psi_back_of_kind-by_stamp flow kind g p fr t i in (
-      λ k. row.0 (and_parts _ (psi_back_of_kind (greatest_of_kind flow kind) kind g t) k).1,
-      λ w. and_from _ (psi_back_of_kind (greatest_of_kind flow kind) kind g t) i (row.1 w),
-    )
+psi_back-by_stamp flow e g p fr t i = test_in_domain _ _ i (psi_back_of_kind-by_stamp flow (kind_of flow (sender flow e)) g p fr t i)
 
 psi_back-in_domain : (flow : Dataflow) (e : ℕ) (g : Frontier) (t : Stamp) → psi_back flow e g t ≡ true → in_domain (bounds_of flow (sender flow e)) t ≡ true
 unfolding psi_back bounds_of

@@ -7,7 +7,8 @@ use Rattle.fw_flow.specs.declared.kind.Kind.{Kind}
 use Rattle.fw_flow.specs.declared.kind.Kind.TheVariants.{Enter, Feedback, Leave, Regroup}
 use Rattle.fw_flow.specs.Dataflow.{greatest_of_kind, Dataflow, kind_of, sender, max_of, out_domain_of_kind, bounds_of_domain}
 use Rattle.fw_flow.specs.Projection.{some_counter, psi_of_kind, psi}
-use Rattle.fw_model.specs.LawsOfProjections.{PsiIsMonotone, PsiOfJoin, PsiOfNothing, PsiOfUnion, IsUnion}
+use Rattle.fw_model.specs.LawsOfProjections.{PsiIsMonotone, PsiOfJoin, PsiOfNothing, PsiOfUnion}
+use Rattle.fw_model.specs.Unions.{IsUnion}
 
 pub same_tests : (a b : Bool) → (a ≡ true → b ≡ true) → (b ≡ true → a ≡ true) → a ≡ b
 same_tests true true p q = refl
@@ -88,10 +89,6 @@ one_of-join f g = record { each_within = λ i. within i; from_one = λ t k. foun
     found : (t : Stamp) → (f t ≡ true) ⊎ (g t ≡ true) → (i : ℕ) × (one_of f g i t ≡ true)
     found t (inl k) = (0, k)
     found t (inr k) = (1, k)
-
-one_of-or : (f g : Frontier) (u : Stamp) (i : ℕ) → one_of f g i u ≡ true → join f g u ≡ true
-one_of-or f g u zero k = or_left (f u) (g u) k
-one_of-or f g u (suc i) k = or_right (f u) (g u) k
 
 psi-one_of : (flow : Dataflow) (e : ℕ) (f g : Frontier) (i : ℕ) (u : Stamp) → psi flow e (one_of f g i) u ≡ true → join (psi flow e f) (psi flow e g) u ≡ true
 psi-one_of flow e f g zero u k = or_left (psi flow e f u) (psi flow e g u) k

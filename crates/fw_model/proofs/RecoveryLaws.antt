@@ -23,24 +23,20 @@ use Rattle.fw_flow.specs.declared.event.Message.{Message}
 use Rattle.fw_flow.specs.declared.node.Node.{Node}
 use Rattle.fw_flow.specs.declared.step.Step.{Step}
 use Rattle.fw_flow.specs.declared.step.Step.TheVariants.{Inject, Deliver, Notify, Progress as ProgressStep, Checkpoint, Persist, Fail, Recover, Collect, Ack}
-use Rattle.fw_flow.specs.Dataflow.{System, Dataflow, idle_node, kind_of, sender, receiver, bounds_of, is_notified_kind, send_stamp_of_kind, is_sequence_kind}
+use Rattle.fw_flow.specs.Dataflow.{System, Dataflow, idle_node, kind_of, sender, receiver, bounds_of, is_notified_kind, send_stamp_of_kind, is_sequence_kind, HasEpochs}
 use Rattle.fw_flow.specs.Projection.{events_at}
 use Rattle.fw_flow.specs.WellFormed.{IsWellFormed, IsWellFormedSystem}
 use Rattle.fw_model.specs.Denotation.{Family, IsDenotation, bag_at}
-use Rattle.fw_model.specs.History.{some_at, sent, delivered, pending, was_delivered_to, was_notified, owed, IsAdmissible, IsEnabled, IsLegal}
+use Rattle.fw_model.specs.History.{some_at, sent, delivered, pending, was_delivered_to, was_notified, owed, IsAdmissible, IsEnabled, IsLegal, recs_at}
 use Rattle.fw_model.specs.Machine.{Machine, Numbered, events, no_stamps, first_state, front_of, is_failed}
 use Rattle.fw_flow.specs.declared.choice.Choice.{Choice}
 use Rattle.fw_model.specs.Choice.{kept, cut_of, kept_of, filtered}
 use Rattle.fw_model.specs.Covers.{set_of}
 use Rattle.fw_model.specs.Steps.{Effect, Outcome, did, idle, LeadsTo, Steps, Run, with_event, GrowsTo, IsSettledCut, CutsTo, recovered}
-use Rattle.fw_model.specs.LawsOfLegalHistories.{HasEpochs}
-use Rattle.fw_model.specs.LawsOfDeliveries.{recs_at}
-use Rattle.fw_model.specs.LawsOfFiltering.{messages_inside}
-use Rattle.fw_model.specs.LawsOfRuns.{IsDenotedEffect, IsDenoted}
 use Rattle.fw_model.specs.LawsOfRecoveries.{StepsKeepHistoriesLegal, RunsStayLegalThroughRecoveries, SettledStaysDenoted, DenotedIsFull, AcknowledgementsShowDenotationThroughRecoveries}
 use Rattle.fw_model.proofs.Decisions.{two_ways}
 use Rattle.fw_model.proofs.CompleteLaws.{past_edges-idle, not_owed-notified, not_owed-delivered}
-use Rattle.fw_model.proofs.LegalLaws.{less-each}
+use Rattle.fw_flow.proofs.MessageLaws.{less-each}
 use Rattle.fw_model.proofs.SendsLaws.{IsOfCause, sent_by-of_cause}
 use Rattle.fw_model.proofs.PrefixLaws.{delivered-is_denoted}
 use Rattle.fw_model.proofs.SubBagLaws.{sent-is_sub, delivered-is_sub}
@@ -54,6 +50,8 @@ use Rattle.fw_model.proofs.TimedCounts.{how_often-recs_at}
 use Rattle.fw_model.proofs.RunLaws.{legal-takes, none-inside, delivered-to, same-test}
 use Rattle.fw_model.proofs.StampLaws.{same-is}
 use Rattle.fw_model.proofs.DomainLaws.{has_epochs}
+use Rattle.fw_model.specs.Filtering.{messages_inside}
+use Rattle.fw_model.specs.Acknowledgements.{IsDenotedEffect, IsDenoted}
 
 -- ---- legal histories
 

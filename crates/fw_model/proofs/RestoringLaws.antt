@@ -19,7 +19,7 @@ use Rattle.fw_flow.specs.declared.kind.Policy.TheVariants as policy
 use Rattle.fw_flow.specs.declared.node.Node.{Node}
 use Rattle.fw_flow.specs.declared.step.Step.{Step}
 use Rattle.fw_flow.specs.declared.step.Step.TheVariants.{Inject, Deliver, Notify, Progress as ProgressStep, Checkpoint, Persist, Fail, Recover, Collect, Ack}
-use Rattle.fw_flow.specs.Dataflow.{System, Dataflow, idle_node, kind_of, policy_of, sender, receiver, bounds_of, is_input_kind}
+use Rattle.fw_flow.specs.Dataflow.{System, Dataflow, idle_node, kind_of, policy_of, sender, receiver, bounds_of, is_input_kind, HasEpochs}
 use Rattle.fw_flow.specs.NodeFunction.{place, stamp}
 use Rattle.fw_flow.specs.WellFormed.{IsWellFormed, IsWellFormedSystem, IsPolicyAllowed, may_keep_nothing}
 use Rattle.fw_model.specs.Denotation.{rounds}
@@ -31,10 +31,7 @@ use Rattle.fw_flow.specs.declared.restoring.Restoring.TheVariants.{Batches, Even
 use Rattle.fw_flow.specs.Restoring.{restoring_of_policy, restoring, way_of}
 use Rattle.fw_model.specs.Covers.{set_of}
 use Rattle.fw_model.specs.Steps.{Effect, Outcome, did, idle, LeadsTo, Run, with_event, checkpoint_front, is_kept_write, recovered, is_given_up}
-use Rattle.fw_model.specs.LawsOfDenotation.{enough_rounds}
-use Rattle.fw_model.specs.LawsOfFiltering.{IsFull, AreFrontiers, kept_events, messages_from, messages_outside}
-use Rattle.fw_model.specs.LawsOfLegalHistories.{HasEpochs}
-use Rattle.fw_model.specs.LawsOfRestoring.{IsSamePart, CountsWritten, CheckpointsStayTrue, NothingComesInside, NothingComesInsideCheckpoints, HasOne, IsCheckpointOf, CheckpointsAtCutsAreKept, at_receiver, HoldsWhatIsSentAgain, LogsHoldWhatIsSentAgain, LogHoldsWhatIsSentAgain, CheckpointLogsHoldWhatIsSentAgain, IsKeptWithin, KeptWatermarksLieWithinToday, BatchesOutsideCutsLieOutsideLow, BatchesToComeLieOutsideLow, LogsSerial, IsLoggedOnce, EventsInsideCutsAreLogged, MayKeepNothingIfCollected, EventsThatMustBeKeptAreNeverCollected}
+use Rattle.fw_model.specs.LawsOfRestoring.{CheckpointsStayTrue, NothingComesInsideCheckpoints, CheckpointsAtCutsAreKept, LogsHoldWhatIsSentAgain, CheckpointLogsHoldWhatIsSentAgain, KeptWatermarksLieWithinToday, BatchesOutsideCutsLieOutsideLow, BatchesToComeLieOutsideLow, EventsInsideCutsAreLogged, EventsThatMustBeKeptAreNeverCollected}
 use Rattle.fw_model.proofs.Decisions.{two_ways}
 use Rattle.fw_model.proofs.DenotationLaws.{denotation-exists}
 use Rattle.fw_model.proofs.FilterLaws.{filter-inner}
@@ -48,6 +45,11 @@ use Rattle.fw_model.proofs.PartLaws.{part-same, part-event, part-kept, part-coun
 use Rattle.fw_model.proofs.ChoosingLaws.{full-of, took-grows}
 use Rattle.fw_model.proofs.AskedLaws.{takes-declared, takes-restoring, takes-not_input, IsAskedWell, IsWriteAskedWell, IsApart, each-each, CanRecoverAndRestore, took-reached, run-reached, reached-all}
 use Rattle.fw_model.proofs.DomainLaws.{has_epochs}
+use Rattle.fw_model.specs.Measure.{enough_rounds}
+use Rattle.fw_model.specs.Settled.{IsFull}
+use Rattle.fw_model.specs.Filtering.{AreFrontiers, kept_events, messages_from, messages_outside}
+use Rattle.fw_model.specs.Writes.{IsSamePart, CountsWritten, NothingComesInside, HasOne, IsCheckpointOf, IsKeptWithin, LogsSerial, IsLoggedOnce, MayKeepNothingIfCollected}
+use Rattle.fw_model.specs.Resending.{at_receiver, HoldsWhatIsSentAgain, LogHoldsWhatIsSentAgain}
 
 -- ---- nothing comes inside a checkpoint
 

@@ -1,13 +1,12 @@
 -- Laws of choices: there is one largest choice, and the union of two consistent choices is consistent where it is offered.
 use Rattle.std.specs.Prelude.{◌≡◌, ◌⊎◌, ℕ, ◌<◌, Bool, length}
 use Rattle.fw_frontier.specs.Frontier.{Within, join}
-use Rattle.fw_frontier.specs.Front.{frontier_of, Names}
 use Rattle.fw_flow.specs.declared.choice.Cut.{Cut}
-use Rattle.fw_flow.specs.declared.choice.Cut.TheVariants.{Present, At}
-use Rattle.fw_flow.specs.Dataflow.{System, sender, receiver, bounds_of}
-use Rattle.fw_model.specs.Machine.{Machine, front_of}
+use Rattle.fw_flow.specs.Dataflow.{System, sender, receiver}
+use Rattle.fw_model.specs.Machine.{Machine}
 use Rattle.fw_flow.specs.declared.choice.Choice.{Choice}
-use Rattle.fw_model.specs.Choice.{View, IsCandidate, IsConsistent, IsCutWithin, IsChoiceWithin, IsLargest, cut_of, note_of}
+use Rattle.fw_model.specs.Choice.{View, IsCandidate, IsConsistent, IsCutWithin, IsChoiceWithin, IsLargest, cut_of}
+use Rattle.fw_model.specs.Unions.{IsUnionOfCuts, IsUnionOfChoices}
 use Rattle.fw_flow.specs.declared.restoring.Restoring.TheVariants.{Checkpoints}
 use Rattle.fw_flow.specs.Restoring.{way_of}
 use Rattle.fw_model.specs.Covers.{covers_in}
@@ -17,22 +16,6 @@ abbrev pub LargestChoiceIsOne : Type 0
 LargestChoiceIsOne = (sys : System) (state : Machine) (lost : ℕ → Bool) (view : View) (one other : Choice)
     → IsLargest sys state (IsCandidate sys state lost view) one → IsLargest sys state (IsCandidate sys state lost view) other
     → one ≡ other
-
--- a cut of node p is the union of two: its state as it is where one of them is, else what is inside one of them
-abbrev pub IsUnionOfCuts : System → ℕ → Cut → Cut → Cut → Type 0
-IsUnionOfCuts sys p Present other union = union ≡ Present
-IsUnionOfCuts sys p (At f) Present union = union ≡ Present
-IsUnionOfCuts sys p (At f) (At g) Present = ⊥
-IsUnionOfCuts sys p (At f) (At g) (At u) =
-    Names (bounds_of sys.flow p) u (join (frontier_of (bounds_of sys.flow p) f) (frontier_of (bounds_of sys.flow p) g))
-
--- a choice is the union of two at every node
-pub record IsUnionOfChoices (sys : System) (one other union : Choice) : Type 0 where
-  pub one_cut_each : length union.cuts ≡ length sys.flow.nodes
-  pub one_note_each : length union.notes ≡ length sys.flow.nodes
-  pub cuts : (p : ℕ) → p < length sys.flow.nodes → IsUnionOfCuts sys p (cut_of one p) (cut_of other p) (cut_of union p)
-  pub notes : (p : ℕ) → p < length sys.flow.nodes
-      → Names (bounds_of sys.flow p) (front_of union.notes p) (join (note_of sys.flow one p) (note_of sys.flow other p))
 
 -- two consistent choices of the restore candidates have a union
 abbrev pub ConsistentChoicesHaveUnion : Type 0

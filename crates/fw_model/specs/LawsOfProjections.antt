@@ -1,19 +1,11 @@
 -- Laws of projections: in its frontier, in the history, and under meets and unions.
-use Rattle.std.specs.Prelude.{◌≡◌, ℕ, ◌≤◌, true, false, List, ◌++◌}
+use Rattle.std.specs.Prelude.{◌≡◌, ℕ, ◌≤◌, false, List, ◌++◌}
 use Rattle.fw_time.specs.Stamp.{Stamp}
-use Rattle.fw_time.specs.declared.stamp.Bounds.{Bounds}
 use Rattle.fw_frontier.specs.Frontier.{Frontier, IsFrontier, Within, nothing, everything, meet, join}
 use Rattle.fw_flow.specs.declared.event.Event.{Event}
-use Rattle.fw_flow.specs.Dataflow.{System, Dataflow, kind_of, sender, bounds_of, bounds_of_domain, out_domain_of, is_sequence_kind}
-use Rattle.fw_flow.specs.Projection.{phi, phi_by_count, psi}
-
--- the bounds of an edge: which lists are stamps of its messages
-abbrev pub bounds_of_edge : Dataflow → ℕ → Bounds
-bounds_of_edge flow e = bounds_of_domain flow (out_domain_of flow (sender flow e))
-
--- the frontier is one of the sender's domain
-abbrev pub IsSenderFrontier : Dataflow → ℕ → Frontier → Type 0
-IsSenderFrontier flow e f = IsFrontier (bounds_of flow (sender flow e)) f
+use Rattle.fw_flow.specs.Dataflow.{System, Dataflow, kind_of, sender, bounds_of, is_sequence_kind, bounds_of_edge}
+use Rattle.fw_flow.specs.Projection.{phi, phi_by_count, psi, IsSenderFrontier}
+use Rattle.fw_model.specs.Unions.{IsUnion}
 
 -- phi of a frontier of the sender is a frontier of the edge
 abbrev pub PhiIsFrontier : Type 0
@@ -58,11 +50,6 @@ PsiIsFrontier = (flow : Dataflow) (e : ℕ) (f : Frontier) → IsSenderFrontier 
 -- psi is monotone: what is inside a larger frontier can send at more stamps
 abbrev pub PsiIsMonotone : Type 0
 PsiIsMonotone = (flow : Dataflow) (e : ℕ) (f g : Frontier) → Within f g → Within (psi flow e f) (psi flow e g)
-
--- what is inside some frontier of a family of frontiers
-pub record IsUnion (family : ℕ → Frontier) (f : Frontier) : Type 0 where
-  pub each_within : (i : ℕ) → Within (family i) f
-  pub from_one : (t : Stamp) → f t ≡ true → (i : ℕ) × (family i t ≡ true)
 
 -- psi of the union of any family is the union of the psis
 abbrev pub PsiOfUnion : Type 0

@@ -47,8 +47,8 @@ found e (x ∷ xs) = if x.edge == e then Some x.front else found e xs
 
 -- what a record lists of a side
 abbrev pub recorded : Side → Recorded → Option Front
-recorded (Delivered d) r = found d r.delivered.items
-recorded (Discarded e) r = found e r.discarded.items
+recorded (Delivered d) r = found d r.delivered
+recorded (Discarded e) r = found e r.discarded
 recorded (Notified p) r = Some r.notified
 
 -- the frontier, without stamps where there is none

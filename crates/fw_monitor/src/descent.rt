@@ -94,8 +94,7 @@ fn arrived_from_cut(
     edge: EdgeId,
     cut: &Cut,
 ) -> Result<Front, AllocError>
-    requires offers { AreOffersOf flow.now offers.now }
-    requires cut { IsCanonicalCut (bounds_of flow.now (sender flow.now edge)) cut.now }
+    requires { IsCanonicalCut (bounds_of flow.now (sender flow.now edge)) cut.now }
     ensures { IfOk result (λ g. Names (bounds_of flow.now (receiver flow.now edge)) g
         (spec.arrived_from flow.now offers.now edge (set_of flow.now (sender flow.now edge) cut.now))) }
 {

@@ -7,7 +7,6 @@ use Rattle.fw_flow.specs.declared.choice.Offer.{Offer}
 use Rattle.fw_flow.specs.declared.event.Event.{Event}
 use Rattle.fw_flow.specs.Dataflow.{System, bounds_of}
 use Rattle.fw_model.specs.Choice.{IsConsistentBy, IsLargestBy, IsLargest}
-use Rattle.fw_model.specs.LawsOfSteps.{CanChoose}
 use Rattle.fw_model.specs.Machine.{Machine, events, is_failed, no_stamps}
 use Rattle.fw_model.specs.Steps.{offers}
 use Rattle.fw_model.proofs.ChoosingLaws.{recovery-has_choice}
@@ -17,6 +16,7 @@ use Rattle.fw_plain.specs.Engine.{state_of, IsSound}
 use Rattle.fw_plain.specs.Offered.{StandsBy}
 use Rattle.fw_plain.specs.Past.{Past}
 use Rattle.fw_plain.proofs.EngineLaws.{legal_of}
+use Rattle.fw_model.specs.Choosing.{CanChoose}
 
 -- the state that an engine stands for is that of its lists
 pub stands_by : (sys : System) (past : Past) (settled fs : List Front) (failed ds : List Bool) (bounds ns : List ℕ) (vs : List Event)

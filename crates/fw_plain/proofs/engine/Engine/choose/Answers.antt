@@ -2,16 +2,16 @@ use Rattle.std.proofs.Common.{◌≡◌, List, IfOk, sym, subst}
 use Rattle.fw_flow.specs.declared.choice.Choice.{Choice}
 use Rattle.fw_flow.specs.declared.choice.Offer.{Offer}
 use Rattle.fw_flow.specs.declared.event.Event.{Event}
-use Rattle.fw_flow.specs.Dataflow.{System}
+use Rattle.fw_flow.specs.Dataflow.{System, system_of}
 use Rattle.fw_model.specs.Choice.{IsConsistentBy, IsLargestBy, IsLargest}
 use Rattle.fw_model.specs.Machine.{is_failed}
-use Rattle.fw_model.specs.Plain.{system_of, AreAtNodes}
 use Rattle.fw_model.specs.Steps.{offers}
 use Rattle.fw_model.specs.Offers.{AreOffersIn, AreOffersOf, AreAscending, IsOffered, covers_of}
 use Rattle.fw_plain.specs.Engine.{Standing, state_of}
 use Rattle.fw_plain.proofs.EngineLaws.{at_nodes}
 use Rattle.fw_plain.proofs.RecoveryLaws.{stands_by, chosen}
 use Rattle.fw_plain.proofs.engine.Engine.choose.Goals as goal
+use Rattle.fw_model.specs.History.{AreAtNodes}
 
 pub offers-requires-clause-at_nodes : goal.offers-requires-clause-at_nodes
 offers-requires-clause-at_nodes c =

@@ -1,5 +1,5 @@
 -- A dataflow as its lists of loops, nodes and edges, its batches, and how these are looked up.
-use Rattle.std.specs.Prelude.{◌≡◌, ℕ, ◌+◌, ◌-◌, ◌^◌, Bool, true, false, ◌==◌, if◌then◌else◌, List, [], ◌∷◌, length, Option, Some, None, slice_index_or, map}
+use Rattle.std.specs.Prelude.{◌≡◌, ℕ, ◌+◌, ◌-◌, ◌^◌, ◌≤◌, Bool, true, false, ◌==◌, if◌then◌else◌, List, [], ◌∷◌, length, Option, Some, None, slice_index_or, map}
 use Rattle.std.specs.List.{range_with_len}
 use Rattle.fw_time.specs.Stamp.{Stamp, nest}
 use Rattle.fw_time.specs.declared.stamp.Bounds.{Bounds}
@@ -142,6 +142,10 @@ bounds_of_domain flow domain = record { greatest = greatest_of flow domain }
 unfoldable pub bounds_of : Dataflow → ℕ → Bounds
 bounds_of flow p = bounds_of_domain flow (domain_of flow p)
 
+-- the bounds of an edge: which lists are stamps of its messages
+abbrev pub bounds_of_edge : Dataflow → ℕ → Bounds
+bounds_of_edge flow e = bounds_of_domain flow (out_domain_of flow (sender flow e))
+
 -- the stamp at which an event at t sends, for every kind but a sequence; none where it sends nothing
 abbrev pub send_stamp_of_kind : Dataflow → Kind → Stamp → Option Stamp
 send_stamp_of_kind flow OutputEpoch t = None
@@ -200,6 +204,10 @@ is_numbered flow e = is_of_numbers (domain_of flow (receiver flow e))
 -- the batches of a node, by epoch
 unfoldable pub batches_of : System → ℕ → List (List Rec)
 batches_of sys s = slice_index_or sys.batches s []
+
+-- each batch has an epoch
+abbrev pub HasEpochs : System → Type 0
+HasEpochs sys = (s : ℕ) → length (batches_of sys s) ≤ greatest_number + 1
 
 -- for each node its batches, by epoch
 unfoldable pub batches_of_nodes : Dataflow → List (ℕ × List (List Rec)) → List (List (List Rec))

@@ -1,9 +1,8 @@
 -- What the plain engine stands for.
 use Rattle.std.specs.Prelude.{◌≡◌, ℕ, ◌<◌, Bool, true, false, List, [], map, length}
 use Rattle.fw_frontier.specs.Front.{Front, IsCanonical}
-use Rattle.fw_flow.specs.declared.kind.Policy.TheVariants as policy
+use Rattle.fw_flow.specs.Dataflow.{System, Dataflow, bounds_of, KeepsNothing, NotifiesNobody, places}
 use Rattle.fw_flow.specs.declared.step.Step.{Step}
-use Rattle.fw_flow.specs.Dataflow.{System, Dataflow, policy_of, bounds_of, KeepsNothing, NotifiesNobody, places}
 use Rattle.fw_flow.specs.WellFormed.{IsWellFormedSystem}
 use Rattle.fw_model.specs.Machine.{Machine, first_state, no_stamps, front_of}
 use Rattle.fw_model.specs.Steps.{Effect, quiet, acked, cuts, Outcome, did, idle, Run}

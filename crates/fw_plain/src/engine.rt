@@ -21,7 +21,7 @@ use crate::{Effect, Stepped};
 use fw_flow::{Choice, EdgeId, Event, Flow, Kind, NodeId, Step};
 use fw_frontier::Front;
 use fw_lines::Batches;
-use fw_model::plain::{complete_frontiers, next_batch, next_message, recs_at};
+use crate::scan::{complete_frontiers, next_batch, next_message, recs_at};
 use fw_monitor::largest;
 use fw_time::Stamp;
 use std::alloc::{AllocError, Global};

@@ -11,7 +11,6 @@ use Rattle.fw_model.proofs.RunLaws.{acknowledgements-in_order}
 use Rattle.fw_flow.specs.declared.choice.Choice.{Choice}
 use Rattle.fw_model.specs.Choice.{View, kept, ever, IsCandidate, IsLargest}
 use Rattle.fw_model.specs.Denotation.{rounds}
-use Rattle.fw_model.specs.LawsOfDenotation.{enough_rounds}
 use Rattle.fw_model.specs.Machine.{is_failed}
 use Rattle.fw_model.specs.Steps.{Effect, cuts}
 use Rattle.fw_run.proofs.RunLaws.{one_run}
@@ -25,6 +24,7 @@ use Rattle.fw_run.specs.Status.{TellsRefusal}
 use Rattle.fw_run.specs.Texts.{Texts, AreThere, AreAccepted, IsFirstRefusal, spelled_system, spelled_steps}
 use Rattle.fw_run.specs.Words.{TextNames}
 use Rattle.fw_flow.specs.Dataflow.{system_of}
+use Rattle.fw_model.specs.Measure.{enough_rounds}
 
 -- what is printed of a job is printed of its texts
 pub prints_job : (told : Option (List ℕ → Option (List ℕ))) (names : TextNames) (job : Job) (before after : Option (List ℕ)) → IsJob told names job

@@ -2,9 +2,8 @@ use Rattle.std.proofs.Common.{◌≡◌, Bool, List, false, true, refl, sym, ◌
 use Rattle.fw_flow.specs.declared.event.Event.{Event}
 use Rattle.fw_flow.specs.declared.step.Step.TheVariants.{Progress}
 use Rattle.fw_frontier.specs.Front.{Front}
-use Rattle.fw_model.specs.History.{IsComplete}
-use Rattle.fw_model.specs.Machine.{events}
-use Rattle.fw_model.specs.Plain.{family_of, AreAtNodes}
+use Rattle.fw_model.specs.History.{IsComplete, AreAtNodes}
+use Rattle.fw_model.specs.Machine.{events, family_of}
 use Rattle.fw_model.specs.Steps.{quiet, did}
 use Rattle.fw_plain.specs.Engine.{state_of}
 use Rattle.fw_plain.specs.Fronts.{any_grows, AreGrown}

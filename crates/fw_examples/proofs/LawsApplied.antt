@@ -9,21 +9,13 @@ use Rattle.fw_model.specs.Machine.{events, first_state, is_failed}
 use Rattle.fw_model.specs.Steps.{cuts, did, lows}
 use Rattle.fw_examples.specs.Flows.{loop_counts_up, pair, two_batches}
 use Rattle.fw_examples.specs.LawsApplied.{ChoicesApply, ChoosingApplies, DeliveriesApply, FilteringApplies, LegalHistoriesApply, RunsApply, StepsApply}
+use Rattle.fw_examples.specs.Loop.{counted_rounds, counting_failed, restored, under_way}
 use Rattle.fw_examples.specs.Numbers.{numbered_both, numbers}
 use Rattle.fw_examples.specs.OneSelect.{out}
-use Rattle.fw_examples.specs.Recovery.{counting_failed, restored}
 use Rattle.fw_examples.specs.RunningTotal.{at_epoch, come_back, epoch_kept, next_epochs, outcomes_through_recovery, outcomes_to_failure, outcomes_up_to_two, outcomes_without_failure, output_failed, steps_through_recovery, steps_to_failure, steps_up_to_two, steps_without_failure, totals, totals_denoted, two_epochs, two_epochs_kept, two_kept_noting}
-use Rattle.fw_examples.specs.UnderWay.{counted_rounds, under_way}
-use Rattle.fw_examples.specs.WitnessesOfChoices.{both_rounds, first_rounds, inc, joined_rounds}
-use Rattle.fw_examples.specs.WitnessesOfDeliveries.{complete_two}
-use Rattle.fw_examples.specs.WitnessesOfFiltering.{kept_epoch, kept_rounds, kept_totals, noted_totals, two_rounds}
-use Rattle.fw_examples.specs.WitnessesOfRuns.{complete_then}
-use Rattle.fw_examples.proofs.ChoiceWitnesses.{choices_unite, cuts_unite, join_is_a_frontier}
-use Rattle.fw_examples.proofs.DeliveryWitnesses.{an_epoch_is_closed, notified_and_goes_on, one_is_on_its_way, two_epochs_are_complete}
-use Rattle.fw_examples.proofs.FilteringWitnesses.{loop_is_filtered, numbers_are_delivered, sequence_is_filtered, totals_are_filtered}
-use Rattle.fw_examples.proofs.TotalChoices.{collects, run_through_recovery, sum_acknowledged, two_collected}
-use Rattle.fw_examples.proofs.TotalRun.{runs_to_two, ten_acknowledged}
-use Rattle.fw_examples.proofs.TotalWitnesses.{each_step_has_its_choice, failure_is_reached, more_is_complete, recovery_is_reached, some_is_settled, something_is_chosen, totals_are_well_formed, two_runs_meet}
+use Rattle.fw_examples.specs.Witnesses.{both_rounds, complete_then, complete_two, first_rounds, joined_rounds, kept_epoch, kept_rounds, kept_totals, noted_totals, two_rounds}
+use Rattle.fw_examples.proofs.TotalRuns.{collects, run_through_recovery, runs_to_two, sum_acknowledged, ten_acknowledged, two_collected}
+use Rattle.fw_examples.proofs.Witnesses.{an_epoch_is_closed, choices_unite, cuts_unite, each_step_has_its_choice, failure_is_reached, join_is_a_frontier, loop_is_filtered, more_is_complete, notified_and_goes_on, numbers_are_delivered, one_is_on_its_way, recovery_is_reached, sequence_is_filtered, some_is_settled, something_is_chosen, totals_are_filtered, totals_are_well_formed, two_epochs_are_complete, two_runs_meet}
 
 pub runs_apply : RunsApply
 unfolding kind_of
@@ -35,7 +27,6 @@ runs_apply =
       goes_on = λ law. law totals (first_state totals) output_failed come_back steps_to_failure (Recover ∷ []) outcomes_to_failure (did (cuts two_epochs_kept) ∷ []) reached
           (come_back, recovery_is_reached.step, refl);
       legal = λ law. law totals steps_to_failure outcomes_to_failure output_failed failure_is_reached.no_recovery reached;
-      denoted = λ law. law totals totals_denoted system.well_formed system.denoted steps_to_failure outcomes_to_failure output_failed failure_is_reached.no_recovery reached;
       in_order = λ law. law totals steps_through_recovery outcomes_through_recovery (sum_acknowledged come_back) run_through_recovery out;
       step = λ law. law totals output_failed Recover come_back (did (cuts two_epochs_kept)) system.well_formed.flow system.epochs recovery_is_reached.legal recovery_is_reached.step;
       through = λ law. law totals (steps_to_failure ++ Recover ∷ []) (outcomes_to_failure ++ did (cuts two_epochs_kept) ∷ []) come_back system.well_formed.flow system.epochs recovery_is_reached.reached;
@@ -78,7 +69,7 @@ steps_apply =
     }
 
 pub choices_apply : ChoicesApply
-unfolding bounds_of kind_of sender
+unfolding bounds_of kind_of sender receiver
 choices_apply = record {
   one = λ law other is. law totals output_failed (is_failed output_failed) kept two_epochs_kept other something_is_chosen.largest is;
   have_union = λ law. law totals output_failed (is_failed output_failed) ever (two_kept_noting (until 0)) epoch_kept choices_unite.one choices_unite.other;
@@ -87,7 +78,7 @@ choices_apply = record {
       (choices_unite.one.offered 1 (lit< tt)) (choices_unite.other.offered 1 (lit< tt)) (choices_unite.union.cuts 1 (lit< tt))
       (λ way. something_is_chosen.chains 1 (At (until 2)) (At (until 1)) (lit< tt) way
       (choices_unite.one.offered 1 (lit< tt)) (choices_unite.other.offered 1 (lit< tt)));
-  delivered = λ law. law two_batches counting_failed inc 2 (At counted_rounds) (At first_rounds) (At both_rounds) cuts_unite.union;
+  delivered = λ law. law two_batches counting_failed 2 (At counted_rounds) (At first_rounds) (At both_rounds) cuts_unite.union;
   notified = λ law. law totals output_failed 1 (At (until 2)) (At (until 1)) (At (until 2)) (choices_unite.union.cuts 1 (lit< tt));
   discarded = λ law. law two_batches counting_failed 3 (At counted_rounds) (At first_rounds) (At both_rounds) cuts_unite.union;
   consistent = λ law. law totals output_failed (is_failed output_failed) ever (two_kept_noting (until 0)) epoch_kept (two_kept_noting (until 1))
@@ -146,7 +137,6 @@ filtering_applies =
       deliver_the_same = λ law. law loop_counts_up under_way kept_rounds 2;
       phi_of_kept = λ law. law numbers numbered_both kept_epoch sequence.well_formed sequence.epochs sequence.legal sequence.frontiers 1 (kept_epoch 1) (λ t i. i) (1 ∷ []);
       kept_causes = λ law. law two_batches under_way kept_rounds lp.well_formed lp.epochs lp.legal lp.frontiers lp.come;
-      legal_without_notices = λ law. law two_batches under_way kept_rounds lp.well_formed lp.epochs lp.nobody lp.legal lp.frontiers lp.come;
       legal = λ law. law totals (next_epochs ++ two_epochs) kept_totals noted_totals flow system.epochs total.legal total.consistently;
       inclusions = λ law. law totals output_failed (is_failed output_failed) kept two_epochs_kept something_is_chosen.largest.consistent;
       filtered_is_legal = λ law. law totals output_failed two_epochs_kept flow system.epochs total.legal total.inclusions;

@@ -1,15 +1,50 @@
--- What each kind projects a frontier to.
+-- Frontiers of one coordinate and of two by their stamps, and what each kind projects a frontier to.
 use Rattle.std.proofs.Common.{Bool, [], arith, false, nat_le, not, refl, true, ℕ, ◌&&◌, ◌*◌, ◌/◌, ◌∷◌, ◌≡◌, ◌≤◌}
-use Rattle.std.proofs.lemmas.Bool.{and_from, and_parts}
+use Rattle.std.proofs.lemmas.Bool.{and_from, and_parts, false_from_ne_true, not_from_false}
 use Rattle.std.proofs.lemmas.Bool.Decides.{nat_tests}
-use Rattle.fw_time.specs.Stamp.{Stamp, in_domain}
+use Rattle.fw_time.specs.Stamp.{Stamp, in_domain, leq}
+use Rattle.fw_time.specs.declared.stamp.Bounds.{Bounds}
 use Rattle.fw_frontier.specs.Front.{Front, Names, frontier_of, inside}
 use Rattle.fw_frontier.specs.Frontier.{Frontier, IsFrontier, Within}
 use Rattle.fw_flow.specs.Dataflow.{bounds_of, kind_of, max_of, receiver, sender}
 use Rattle.fw_flow.specs.Projection.{phi, psi, psi_back}
 use Rattle.fw_examples.specs.Flows.{no_batches, regroup_by_three}
+use Rattle.fw_examples.specs.OneSelect.{out}
 use Rattle.fw_examples.specs.Projections.{EnterProjects, FeedbackProjects, LeaveProjects, RegroupProjects, regrouped_edge}
 use Rattle.fw_examples.proofs.Fronts.{canonical_by, is_canonical}
+
+-- a frontier with nothing pending inside has no stamp from a pending one on
+pub not_above : (bounds : Bounds) (f : Frontier) → IsFrontier bounds f → (o : Stamp) → in_domain bounds o ≡ true
+    → (f o ≡ true → ⊥) → (t : Stamp) → f t ≡ true → not (leq o t) ≡ true
+not_above bounds f isf o d out t h = not_from_false _ (false_from_ne_true _ (λ g. out (isf.closed o t d g h)))
+
+-- a test behind a domain of two coordinates holds where another does, if so at its stamps
+pub within_two : (m n : ℕ) (f g : Stamp → Bool)
+    → ((x y : ℕ) → x ≤ m → y ≤ n → f (x ∷ y ∷ []) ≡ true → g (x ∷ y ∷ []) ≡ true)
+    → Within (λ t. in_domain (record { greatest = m ∷ n ∷ [] }) t && f t) (λ t. in_domain (record { greatest = m ∷ n ∷ [] }) t && g t)
+within_two m n f g h [] k = cc
+within_two m n f g h (x ∷ []) k = grind (arith, nat_tests)
+within_two m n f g h (x ∷ y ∷ []) k = grind (arith, nat_tests, h x y)
+within_two m n f g h (x ∷ y ∷ z ∷ t) k = grind (arith, nat_tests)
+
+-- the same for one coordinate
+pub within_one : (m : ℕ) (f g : Stamp → Bool)
+    → ((x : ℕ) → x ≤ m → f (x ∷ []) ≡ true → g (x ∷ []) ≡ true)
+    → Within (λ t. in_domain (record { greatest = m ∷ [] }) t && f t) (λ t. in_domain (record { greatest = m ∷ [] }) t && g t)
+within_one m f g h [] k = cc
+within_one m f g h (x ∷ []) k = grind (arith, nat_tests, h x)
+within_one m f g h (x ∷ y ∷ t) k = grind (arith, nat_tests)
+
+-- what holds behind a test, where what held there brings it
+pub and_more : (a b c : Bool) → (b ≡ true → c ≡ true) → (a && b) ≡ true → (a && c) ≡ true
+and_more true b c f h = f h
+and_more false b c f h = h
+
+-- the same of two
+pub both_more : (a b c d : Bool) → (a ≡ true → c ≡ true) → (b ≡ true → d ≡ true) → (a && b) ≡ true → (c && d) ≡ true
+both_more a b c d f g h = let k : (a ≡ true) × (b ≡ true) = and_parts a b h in and_from c d (f k.0) (g k.1)
+
+-- ---- what each kind projects a frontier to
 
 -- two tests behind a domain of two coordinates are one where they are one at its stamps
 in_two : (m n : ℕ) (f g : Stamp → Bool)
@@ -93,7 +128,7 @@ below_two : (y : ℕ) → (nat_le y 4294967295 && true) && (not (nat_le 2 y && t
 below_two y h k = grind (arith, nat_tests)
 
 regroup_no_larger : (f : Frontier) → IsFrontier (bounds_of regroup_by_three 2) f
-    → Within (psi no_batches regrouped_edge f) (frontier_of (bounds_of regroup_by_three 3) ((2 ∷ []) ∷ []))
+    → Within (psi no_batches.flow regrouped_edge f) (frontier_of (bounds_of regroup_by_three 3) ((2 ∷ []) ∷ []))
     → Within f (frontier_of (bounds_of regroup_by_three 2) ((6 ∷ []) ∷ []))
 unfolding psi kind_of sender receiver bounds_of max_of
 regroup_no_larger f is_f h [] k = let d : false ≡ true = is_f.inside_domain [] k in cc

@@ -8,18 +8,15 @@ use Rattle.fw_model.specs.Choice.{until}
 use Rattle.fw_model.specs.Machine.{checkpoint, collected, is_failed}
 use Rattle.fw_model.specs.Steps.{cuts, did}
 use Rattle.fw_examples.specs.Flows.{two_batches}
-use Rattle.fw_examples.specs.LogsAfterCollection.{both_come_back, checkpoints_logged, event_collected, events_logged, log_kept, none_collected, outcomes_with_checkpoints, outcomes_with_events, outcomes_with_total, steps_with_checkpoints, steps_with_events, steps_with_total, total_logged}
-use Rattle.fw_examples.specs.Recovery.{counting_failed, restored}
+use Rattle.fw_examples.specs.Logs.{both_come_back, checkpoints_logged, event_collected, events_logged, log_kept, none_collected, outcomes_with_checkpoints, outcomes_with_events, outcomes_with_total, steps_with_checkpoints, steps_with_events, steps_with_total, total_logged}
+use Rattle.fw_examples.specs.Loop.{counting_failed, restored}
 use Rattle.fw_examples.specs.RestoringApplied.{CollectionRestored, LogsRestored, RestoringApplies}
 use Rattle.fw_examples.specs.RunningTotal.{alike, come_back, outcomes_up_to_two, output_failed, steps_up_to_two, totals, two_epochs_kept}
-use Rattle.fw_examples.proofs.Largest.{restored_is_largest}
-use Rattle.fw_examples.proofs.LogsAfterCollection.{checkpoints_formed, collects_a_logged_event, events_formed, keeps_a_log_with_a_checkpoint, keeps_events_of_a_total, total_formed}
-use Rattle.fw_examples.proofs.LoopWitness.{loop_is_reached}
-use Rattle.fw_examples.proofs.Running.{loop_outcomes, loop_steps, runs_to_failure}
-use Rattle.fw_examples.proofs.TotalChoices.{two_epochs_are_low}
-use Rattle.fw_examples.proofs.TotalRun.{runs_to_two, ten_acknowledged}
-use Rattle.fw_examples.proofs.TotalWitnesses.{failure_is_reached, recovery_is_reached, something_is_chosen, totals_are_well_formed}
+use Rattle.fw_examples.proofs.Logs.{checkpoints_formed, collects_a_logged_event, events_formed, keeps_a_log_with_a_checkpoint, keeps_events_of_a_total, total_formed}
+use Rattle.fw_examples.proofs.Loop.{loop_is_reached, loop_outcomes, loop_steps, restored_is_largest, runs_to_failure}
+use Rattle.fw_examples.proofs.TotalRuns.{runs_to_two, ten_acknowledged, two_epochs_are_low}
 use Rattle.fw_examples.proofs.WellFormed.{system_by}
+use Rattle.fw_examples.proofs.Witnesses.{failure_is_reached, recovery_is_reached, something_is_chosen, totals_are_well_formed}
 use Rattle.fw_examples.specs.RunningTotal as total
 
 pub restoring_applies : RestoringApplies

@@ -6,21 +6,19 @@ use Rattle.fw_frontier.specs.Frontier.{IsFrontier, Within, join, meet}
 use Rattle.fw_frontier.proofs.NamesLaws.{frontier-closed}
 use Rattle.fw_flow.specs.Dataflow.{batches_of, bounds_of, in_edges, kind_of, max_of, receiver, sender}
 use Rattle.fw_flow.specs.declared.event.Event.TheVariants.{Deliver, Inject, Notify}
-use Rattle.fw_model.specs.Denotation.{IsDenotation, rounds, AreInOrder}
+use Rattle.fw_model.specs.Denotation.{AreInOrder, IsDenotation, rounds}
+use Rattle.fw_model.specs.History.{AreEventsInDomain}
+use Rattle.fw_model.specs.Order.{IsNotifiedInOrder}
+use Rattle.fw_model.specs.Unions.{IsUnion}
 use Rattle.fw_examples.specs.Flows.{loop_counts_up, pair, regroup_by_three, two_batches}
+use Rattle.fw_examples.specs.Loop.{counted_rounds, message, round, under_way}
 use Rattle.fw_examples.specs.Numbers.{numbered_both, numbered_epoch, numbers, value_at}
 use Rattle.fw_examples.specs.Projections.{fed_back_edge}
 use Rattle.fw_examples.specs.RunningTotal.{total_flow, totals, totals_denoted}
 use Rattle.fw_examples.specs.SendingApplied.{DenotationApplies, ProjectionsApply, SendingApplies, begun, both_epochs, counted, one_or_other}
-use Rattle.fw_examples.specs.UnderWay.{counted_rounds, message, round, under_way}
-use Rattle.fw_examples.specs.WitnessesOfChoices.{first_rounds}
-use Rattle.fw_examples.specs.WitnessesOfFiltering.{kept_epoch}
-use Rattle.fw_examples.proofs.FilteringWitnesses.{sequence_is_filtered}
-use Rattle.fw_examples.proofs.TotalWitnesses.{totals_are_well_formed}
+use Rattle.fw_examples.specs.Witnesses.{first_rounds, kept_epoch}
 use Rattle.fw_examples.proofs.Walks.{is_well_formed}
-use Rattle.fw_model.specs.Unions.{IsUnion}
-use Rattle.fw_model.specs.History.{AreEventsInDomain}
-use Rattle.fw_model.specs.Order.{IsNotifiedInOrder}
+use Rattle.fw_examples.proofs.Witnesses.{sequence_is_filtered, totals_are_well_formed}
 
 counted_is_frontier : IsFrontier (bounds_of loop_counts_up (sender loop_counts_up fed_back_edge)) counted
 counted_is_frontier = frontier-closed _ counted_rounds
@@ -52,11 +50,11 @@ projections_apply = record {
   phi_ignores_history = λ law u. law two_batches under_way [] fed_back_edge counted u refl;
   phi_of_meet = λ law. law two_batches under_way fed_back_edge counted begun counted_is_frontier begun_is_frontier;
   phi_of_everything = λ law. law numbers numbered_both 1;
-  psi_is_frontier = λ law. law two_batches fed_back_edge counted counted_is_frontier;
-  psi_is_monotone = λ law. law two_batches fed_back_edge (meet counted begun) counted both_are_counted;
-  psi_of_union = λ law. law two_batches fed_back_edge one_or_other (join counted begun) one_or_other_joined;
-  psi_of_join = λ law. law two_batches fed_back_edge counted begun;
-  psi_of_nothing = λ law. law two_batches fed_back_edge;
+  psi_is_frontier = λ law. law loop_counts_up fed_back_edge counted counted_is_frontier;
+  psi_is_monotone = λ law. law loop_counts_up fed_back_edge (meet counted begun) counted both_are_counted;
+  psi_of_union = λ law. law loop_counts_up fed_back_edge one_or_other (join counted begun) one_or_other_joined;
+  psi_of_join = λ law. law loop_counts_up fed_back_edge counted begun;
+  psi_of_nothing = λ law. law loop_counts_up fed_back_edge;
 }
 
 fed_back_in_domain : AreEventsInDomain loop_counts_up under_way 4
@@ -77,9 +75,9 @@ sending_applies = record {
   senders = λ law. law loop_counts_up is_well_formed;
   monotone = λ law. law loop_counts_up 4 (round 0 0) (round 0 1) (round 0 2) refl refl refl;
   phi_by_send_stamps = λ law. law two_batches under_way fed_back_edge counted (lit≤ tt) counted_is_frontier (round 0 1) refl;
-  psi_by_send_stamps = λ law. law two_batches fed_back_edge counted (lit≤ tt) counted_is_frontier (round 0 1) refl;
-  psi_back_by_send_stamps = λ law. law two_batches fed_back_edge counted (lit≤ tt) counted_is_frontier (round 0 1) refl;
-  psi_back_is_largest = λ law. law two_batches fed_back_edge counted (lit≤ tt) counted_is_frontier;
+  psi_by_send_stamps = λ law. law loop_counts_up fed_back_edge counted (lit≤ tt) counted_is_frontier (round 0 1) refl;
+  psi_back_by_send_stamps = λ law. law loop_counts_up fed_back_edge counted (lit≤ tt) counted_is_frontier (round 0 1) refl;
+  psi_back_is_largest = λ law. law loop_counts_up fed_back_edge counted (lit≤ tt) counted_is_frontier;
   sends_at = λ law. law two_batches 4 refl [] (Deliver 3 (message (round 0 0) (pair 1 1) (round 0 0)));
   sends_inside = λ law. law two_batches fed_back_edge counted (lit≤ tt) counted_is_frontier [] (Deliver 3 (message (round 0 0) (pair 1 1) (round 0 0))) refl;
   sent_inside = λ law. law two_batches under_way fed_back_edge counted (lit≤ tt) counted_is_frontier;

@@ -3,8 +3,9 @@ use Rattle.std.proofs.Common.{List, [], ap, arith, inl, inr, length, lit<, lit�
 use Rattle.fw_flow.specs.Dataflow.{Dataflow, in_edges, kind_of, max_of, out_edges, policy_of, receiver, sender}
 use Rattle.fw_flow.specs.WellFormed.{IsClosedWalk, IsWalk, IsWellFormed, Passes, is_enter_kind, is_feedback_kind}
 use Rattle.fw_flow.proofs.Ranks.{rank}
+use Rattle.fw_flow.proofs.Reach.{leads}
 use Rattle.fw_examples.specs.Flows.{loop_counts_up}
-use Rattle.fw_examples.proofs.Places.{by_seven}
+use Rattle.fw_examples.proofs.Fronts.{by_seven}
 
 -- each edge comes from a feedback, or leads to a node of greater rank
 pub record Ascends (flow : Dataflow) (rank : ℕ → ℕ) : Type 0 where

@@ -15,12 +15,12 @@ use Rattle.fw_flow.specs.declared.kind.Policy.{Policy}
 use Rattle.fw_flow.specs.declared.node.Node.{Node}
 use Rattle.fw_model.proofs.Decisions.{two_ways}
 use Rattle.fw_examples.specs.Flows.{in_a_row}
-use Rattle.fw_examples.specs.OneSelect.{at_least_ten, one_select_flow, one_select_flow_of, selecting}
-use Rattle.fw_examples.specs.RunningTotal.{summing, total_flow_of}
+use Rattle.fw_examples.specs.OneSelect.{at_least_ten, one_select_flow, selecting}
+use Rattle.fw_examples.specs.RunningTotal.{summing}
 use Rattle.fw_examples.specs.TwoSources.{two_sources_flow}
-use Rattle.fw_examples.proofs.Places.{by_five, by_six, by_three, by_two, each_below, each_below-at}
-use Rattle.fw_flow.specs.declared.kind.Policy.TheVariants as policy
 use Rattle.fw_lines.specs.Batches.{IsBatch}
+use Rattle.fw_examples.proofs.Fronts.{by_five, by_six, by_three, by_two, each_below, each_below-at}
+use Rattle.fw_flow.specs.declared.kind.Policy.TheVariants as policy
 
 -- where each edge leads to a later node, a walk does
 walk_up : (flow : Dataflow) → ((e : ℕ) → e < length flow.edges → sender flow e < receiver flow e)
@@ -61,10 +61,10 @@ row_is_well_formed inner declared one_in one_out epochs out_epochs group allowed
 }
 
 -- the dataflows of one select and of a running total, with a policy that they may have
-pub select_is_well_formed : (keeping : Policy) → IsPolicyAllowed (Select at_least_ten None) keeping → IsWellFormed (one_select_flow_of keeping)
+pub select_is_well_formed : (keeping : Policy) → IsPolicyAllowed (Select at_least_ten None) keeping → IsWellFormed (in_a_row (selecting keeping))
 select_is_well_formed keeping allowed = row_is_well_formed (selecting keeping) tt refl tt refl refl tt allowed
 
-pub total_is_well_formed : (keeping : Policy) → IsPolicyAllowed Total keeping → IsWellFormed (total_flow_of keeping)
+pub total_is_well_formed : (keeping : Policy) → IsPolicyAllowed Total keeping → IsWellFormed (in_a_row (summing keeping))
 total_is_well_formed keeping allowed = row_is_well_formed (summing keeping) tt refl tt refl refl tt allowed
 
 pub one_select_is_well_formed : IsWellFormed one_select_flow

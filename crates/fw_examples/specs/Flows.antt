@@ -1,18 +1,18 @@
 -- The dataflows of the examples, with their batches.
-use Rattle.std.specs.Prelude.{ℕ, List, [], ◌∷◌, Some, codes}
+use Rattle.std.specs.Prelude.{List, Some, [], codes, ℕ, ◌∷◌}
 use Rattle.fw_bag.specs.declared.rec.Rec.{Rec}
 use Rattle.fw_bag.specs.declared.select.Comparison.TheVariants.{Less}
 use Rattle.fw_bag.specs.declared.select.Field.TheVariants.{Value}
-use Rattle.fw_bag.specs.declared.select.NewValue.TheVariants as new
 use Rattle.fw_bag.specs.declared.select.Selection.{Selection}
-use Rattle.fw_bag.specs.declared.select.Term.TheVariants as term
+use Rattle.fw_flow.specs.Dataflow.{Dataflow, System, receiver, sender}
 use Rattle.fw_flow.specs.declared.kind.Kind.{Kind}
-use Rattle.fw_flow.specs.declared.kind.Kind.TheVariants.{Input, OutputEpoch, Select, Concat, Enter, Feedback, Leave, Sequence, Regroup}
+use Rattle.fw_flow.specs.declared.kind.Kind.TheVariants.{Concat, Enter, Feedback, Input, Leave, OutputEpoch, Regroup, Select, Sequence}
 use Rattle.fw_flow.specs.declared.kind.Policy.{Policy}
-use Rattle.fw_flow.specs.declared.kind.Policy.TheVariants as policy
-use Rattle.fw_flow.specs.declared.node.Node.{Node}
 use Rattle.fw_flow.specs.declared.node.Edge.{Edge}
-use Rattle.fw_flow.specs.Dataflow.{Dataflow, System}
+use Rattle.fw_flow.specs.declared.node.Node.{Node}
+use Rattle.fw_bag.specs.declared.select.NewValue.TheVariants as new
+use Rattle.fw_bag.specs.declared.select.Term.TheVariants as term
+use Rattle.fw_flow.specs.declared.kind.Policy.TheVariants as policy
 
 -- a rec
 abbrev pub pair : ℕ → ℕ → Rec

@@ -1,11 +1,11 @@
 -- What phi and psi of each kind make of frontiers, by their outside stamps.
-use Rattle.std.specs.Prelude.{ℕ, List, [], ◌∷◌}
+use Rattle.std.specs.Prelude.{List, [], ℕ, ◌∷◌}
+use Rattle.fw_frontier.specs.Front.{Front, Names, frontier_of}
 use Rattle.fw_frontier.specs.Frontier.{Frontier, IsFrontier, Within}
-use Rattle.fw_frontier.specs.Front.{Front, frontier_of, Names}
-use Rattle.fw_flow.specs.declared.event.Event.{Event}
-use Rattle.fw_flow.specs.Dataflow.{System, sender, receiver, bounds_of}
+use Rattle.fw_flow.specs.Dataflow.{System, bounds_of, receiver, sender}
 use Rattle.fw_flow.specs.Projection.{phi, psi, psi_back}
-use Rattle.fw_examples.specs.Flows.{two_batches, no_batches, regroup_by_three}
+use Rattle.fw_flow.specs.declared.event.Event.{Event}
+use Rattle.fw_examples.specs.Flows.{no_batches, regroup_by_three, two_batches}
 
 -- after each history, phi of the edge takes the frontier of its sender with these outside stamps to that of its
 -- receiver with those
@@ -18,14 +18,14 @@ PhiTakes sys e before after = (h : List Event)
 abbrev pub PsiTakes : System → ℕ → Front → Front → Type 0
 PsiTakes sys e before after =
     Names (bounds_of sys.flow (receiver sys.flow e)) after
-    (psi sys e (frontier_of (bounds_of sys.flow (sender sys.flow e)) before))
+    (psi sys.flow e (frontier_of (bounds_of sys.flow (sender sys.flow e)) before))
 
 -- psi backwards on the edge takes the frontier of its receiver with these outside stamps to that of its sender with
 -- those
 abbrev pub PsiBackTakes : System → ℕ → Front → Front → Type 0
 PsiBackTakes sys e before after =
     Names (bounds_of sys.flow (sender sys.flow e)) after
-    (psi_back sys e (frontier_of (bounds_of sys.flow (receiver sys.flow e)) before))
+    (psi_back sys.flow e (frontier_of (bounds_of sys.flow (receiver sys.flow e)) before))
 
 -- the edge out of the feedback
 abbrev pub fed_back_edge : ℕ
@@ -87,5 +87,5 @@ pub record RegroupProjects : Type 0 where
   pub psi_back_of_last : PsiBackTakes no_batches regrouped_edge ((1431655765 ∷ []) ∷ []) ((4294967295 ∷ []) ∷ [])
   pub psi_back_past_last : PsiBackTakes no_batches regrouped_edge ((1431655766 ∷ []) ∷ []) []
   pub no_larger : (f : Frontier) → IsFrontier (bounds_of regroup_by_three 2) f
-      → Within (psi no_batches regrouped_edge f) (frontier_of (bounds_of regroup_by_three 3) ((2 ∷ []) ∷ []))
+      → Within (psi no_batches.flow regrouped_edge f) (frontier_of (bounds_of regroup_by_three 3) ((2 ∷ []) ∷ []))
       → Within f (frontier_of (bounds_of regroup_by_three 2) ((6 ∷ []) ∷ []))

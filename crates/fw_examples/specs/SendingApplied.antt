@@ -1,29 +1,31 @@
 -- What the laws of projections, of sending and of the denotation say of the loop, of the sequence and of the running total.
-use Rattle.std.specs.Prelude.{◌≡◌, ◌⊎◌, ◌↔◌, ℕ, zero, suc, ◌<◌, true, List, [], ◌∷◌, Some, length}
 use Rattle.std.specs.List.{AllByRecursion}
-use Rattle.fw_time.specs.Stamp.{Stamp, leq, same, in_domain}
-use Rattle.fw_frontier.specs.Frontier.{Frontier, IsFrontier, Within, nothing, everything, meet, join}
+use Rattle.std.specs.Prelude.{List, Some, [], length, zero, suc, true, ℕ, ◌<◌, ◌↔◌, ◌∷◌, ◌≡◌, ◌⊎◌}
+use Rattle.fw_time.specs.Stamp.{Stamp, in_domain, leq, same}
 use Rattle.fw_frontier.specs.Front.{frontier_of}
+use Rattle.fw_frontier.specs.Frontier.{Frontier, IsFrontier, Within, everything, join, meet, nothing}
+use Rattle.fw_flow.specs.Dataflow.{bounds_of, bounds_of_edge, kind_of, receiver, send_stamp, sender}
+use Rattle.fw_flow.specs.NodeFunction.{sends}
+use Rattle.fw_flow.specs.Projection.{IsSenderFrontier, all_inside, phi, phi_by_count, psi, psi_back}
+use Rattle.fw_flow.specs.WholeBags.{Timed, in_order, outputs_of, recs_where}
 use Rattle.fw_flow.specs.declared.event.Event.TheVariants.{Deliver}
 use Rattle.fw_flow.specs.declared.event.Message.{Message}
 use Rattle.fw_flow.specs.declared.kind.Kind.TheVariants.{Sequence}
-use Rattle.fw_flow.specs.Dataflow.{kind_of, sender, receiver, bounds_of, send_stamp}
-use Rattle.fw_flow.specs.NodeFunction.{sends}
-use Rattle.fw_flow.specs.Projection.{all_inside, phi, phi_by_count, psi, psi_back}
-use Rattle.fw_flow.specs.WholeBags.{Timed, recs_where, in_order, outputs_of}
 use Rattle.fw_model.specs.Choice.{until}
-use Rattle.fw_model.specs.Denotation.{Family, IsDenotation, rounds}
+use Rattle.fw_model.specs.Denotation.{AreInOrder, AreNumberedFrom, Family, IsDenotation, rounds}
 use Rattle.fw_model.specs.History.{sent}
+use Rattle.fw_model.specs.Measure.{Measure, enough_rounds}
+use Rattle.fw_model.specs.Sending.{ComesFromInside, FollowsHistory, IsSentFrom, SendsAbove, SendsByStamp, SendsWithin}
+use Rattle.fw_model.specs.Unions.{IsUnion}
+use Rattle.fw_examples.specs.Flows.{loop_counts_up, pair, regroup_by_three, two_batches}
+use Rattle.fw_examples.specs.Loop.{counted_rounds, message, round, under_way}
+use Rattle.fw_examples.specs.Numbers.{numbered_both, numbered_epoch, numbers}
+use Rattle.fw_examples.specs.Projections.{fed_back_edge}
+use Rattle.fw_examples.specs.RunningTotal.{src_to_run, total_flow, totals, totals_denoted}
+use Rattle.fw_examples.specs.Witnesses.{first_rounds, kept_epoch}
 use Rattle.fw_model.specs.LawsOfDenotation as denotation
 use Rattle.fw_model.specs.LawsOfProjections as projections
 use Rattle.fw_model.specs.LawsOfSending as sending
-use Rattle.fw_examples.specs.Flows.{loop_counts_up, regroup_by_three, two_batches, pair}
-use Rattle.fw_examples.specs.UnderWay.{message, round, under_way, counted_rounds}
-use Rattle.fw_examples.specs.Projections.{fed_back_edge}
-use Rattle.fw_examples.specs.RunningTotal.{totals, total_flow, totals_denoted, src_to_run}
-use Rattle.fw_examples.specs.Numbers.{numbers, numbered_epoch, numbered_both}
-use Rattle.fw_examples.specs.WitnessesOfChoices.{first_rounds}
-use Rattle.fw_examples.specs.WitnessesOfFiltering.{kept_epoch}
 
 -- three rounds of epoch 0, at the feedback
 abbrev pub counted : Frontier
@@ -45,7 +47,7 @@ both_epochs = frontier_of (bounds_of regroup_by_three (sender regroup_by_three 1
 -- the laws of projections, of the edge that is fed back, and of the edge out of the sequence
 pub record ProjectionsApply : Type 0 where
   pub phi_is_frontier : projections.PhiIsFrontier
-      → IsFrontier (projections.bounds_of_edge loop_counts_up fed_back_edge) (phi two_batches under_way fed_back_edge counted)
+      → IsFrontier (bounds_of_edge loop_counts_up fed_back_edge) (phi two_batches under_way fed_back_edge counted)
   pub phi_is_monotone : projections.PhiIsMonotone
       → Within (phi two_batches under_way fed_back_edge (meet counted begun)) (phi two_batches under_way fed_back_edge counted)
   pub phi_by_count : projections.PhiByCountIsMonotone
@@ -58,62 +60,62 @@ pub record ProjectionsApply : Type 0 where
       ≡ meet (phi two_batches under_way fed_back_edge counted) (phi two_batches under_way fed_back_edge begun) u
   pub phi_of_everything : projections.PhiOfEverything → (u : Stamp)
       → phi numbers numbered_both 1 (everything (bounds_of regroup_by_three (sender regroup_by_three 1))) u
-      ≡ everything (projections.bounds_of_edge regroup_by_three 1) u
+      ≡ everything (bounds_of_edge regroup_by_three 1) u
   pub psi_is_frontier : projections.PsiIsFrontier
-      → IsFrontier (projections.bounds_of_edge loop_counts_up fed_back_edge) (psi two_batches fed_back_edge counted)
+      → IsFrontier (bounds_of_edge loop_counts_up fed_back_edge) (psi two_batches.flow fed_back_edge counted)
   pub psi_is_monotone : projections.PsiIsMonotone
-      → Within (psi two_batches fed_back_edge (meet counted begun)) (psi two_batches fed_back_edge counted)
+      → Within (psi two_batches.flow fed_back_edge (meet counted begun)) (psi two_batches.flow fed_back_edge counted)
   pub psi_of_union : projections.PsiOfUnion
-      → projections.IsUnion (λ i. psi two_batches fed_back_edge (one_or_other i)) (psi two_batches fed_back_edge (join counted begun))
+      → IsUnion (λ i. psi two_batches.flow fed_back_edge (one_or_other i)) (psi two_batches.flow fed_back_edge (join counted begun))
   pub psi_of_join : projections.PsiOfJoin → (u : Stamp)
-      → psi two_batches fed_back_edge (join counted begun) u ≡ join (psi two_batches fed_back_edge counted) (psi two_batches fed_back_edge begun) u
-  pub psi_of_nothing : projections.PsiOfNothing → (u : Stamp) → psi two_batches fed_back_edge nothing u ≡ nothing u
+      → psi two_batches.flow fed_back_edge (join counted begun) u ≡ join (psi two_batches.flow fed_back_edge counted) (psi two_batches.flow fed_back_edge begun) u
+  pub psi_of_nothing : projections.PsiOfNothing → (u : Stamp) → psi two_batches.flow fed_back_edge nothing u ≡ nothing u
 
 -- the laws of sending, of the same
 pub record SendingApplies : Type 0 where
   pub senders : sending.SendersOfWellFormed → (e : ℕ) → e < length loop_counts_up.edges
-      → (kind_of loop_counts_up (sender loop_counts_up e) ≡ Sequence) ⊎ sending.SendsByStamp loop_counts_up (kind_of loop_counts_up (sender loop_counts_up e))
+      → (kind_of loop_counts_up (sender loop_counts_up e) ≡ Sequence) ⊎ SendsByStamp loop_counts_up (kind_of loop_counts_up (sender loop_counts_up e))
   pub monotone : sending.SendStampIsMonotone
       → (v : Stamp) × (send_stamp loop_counts_up 4 (round 0 0) ≡ Some v) × (leq v (round 0 2) ≡ true)
   pub phi_by_send_stamps : sending.PhiBySendStamps
       → (phi two_batches under_way fed_back_edge counted (round 0 1) ≡ true)
-      ↔ sending.IsSentFrom (bounds_of loop_counts_up (sender loop_counts_up fed_back_edge)) (send_stamp loop_counts_up (sender loop_counts_up fed_back_edge)) counted (round 0 1)
+      ↔ IsSentFrom (bounds_of loop_counts_up (sender loop_counts_up fed_back_edge)) (send_stamp loop_counts_up (sender loop_counts_up fed_back_edge)) counted (round 0 1)
   pub psi_by_send_stamps : sending.PsiBySendStamps
-      → (psi two_batches fed_back_edge counted (round 0 1) ≡ true)
-      ↔ sending.SendsAbove (send_stamp loop_counts_up (sender loop_counts_up fed_back_edge)) counted (round 0 1)
+      → (psi two_batches.flow fed_back_edge counted (round 0 1) ≡ true)
+      ↔ SendsAbove (send_stamp loop_counts_up (sender loop_counts_up fed_back_edge)) counted (round 0 1)
   pub psi_back_by_send_stamps : sending.PsiBackBySendStamps
-      → (psi_back two_batches fed_back_edge counted (round 0 1) ≡ true)
-      ↔ sending.SendsWithin (send_stamp loop_counts_up (sender loop_counts_up fed_back_edge)) counted (round 0 1)
+      → (psi_back two_batches.flow fed_back_edge counted (round 0 1) ≡ true)
+      ↔ SendsWithin (send_stamp loop_counts_up (sender loop_counts_up fed_back_edge)) counted (round 0 1)
   pub psi_back_is_largest : sending.PsiBackIsLargest
-      → projections.IsSenderFrontier loop_counts_up fed_back_edge (psi_back two_batches fed_back_edge counted)
-      × ((f : Frontier) → projections.IsSenderFrontier loop_counts_up fed_back_edge f
-      → Within (psi two_batches fed_back_edge f) counted ↔ Within f (psi_back two_batches fed_back_edge counted))
+      → IsSenderFrontier loop_counts_up fed_back_edge (psi_back two_batches.flow fed_back_edge counted)
+      × ((f : Frontier) → IsSenderFrontier loop_counts_up fed_back_edge f
+      → Within (psi two_batches.flow fed_back_edge f) counted ↔ Within f (psi_back two_batches.flow fed_back_edge counted))
   pub sends_at : sending.SendsAtSendStamp
       → AllByRecursion (λ (m : Message). (send_stamp loop_counts_up 4 (round 0 0) ≡ Some m.at) × (m.causes ≡ round 0 0 ∷ []))
       (sends two_batches 4 [] (Deliver 3 (message (round 0 0) (pair 1 1) (round 0 0))))
   pub sends_inside : sending.SendsAreInsidePsi
-      → AllByRecursion (λ (m : Message). psi two_batches fed_back_edge counted m.at ≡ true)
+      → AllByRecursion (λ (m : Message). psi two_batches.flow fed_back_edge counted m.at ≡ true)
       (sends two_batches (sender loop_counts_up fed_back_edge) [] (Deliver 3 (message (round 0 0) (pair 1 1) (round 0 0))))
   pub sent_inside : sending.SentFromInsideIsInsidePsi
-      → AllByRecursion (λ (m : Message). all_inside counted m.causes ≡ true → psi two_batches fed_back_edge counted m.at ≡ true) (sent two_batches under_way fed_back_edge)
-  pub from_inside : sending.InsidePhiComesFromInside → sending.ComesFromInside two_batches under_way fed_back_edge counted
-  pub sequence_from_inside : sending.InsidePhiOfSequenceComesFromInside → sending.ComesFromInside numbers numbered_both 1 (kept_epoch 1)
-  pub table : sending.SentTableFollowsHistory → sending.FollowsHistory numbers 1
+      → AllByRecursion (λ (m : Message). all_inside counted m.causes ≡ true → psi two_batches.flow fed_back_edge counted m.at ≡ true) (sent two_batches under_way fed_back_edge)
+  pub from_inside : sending.InsidePhiComesFromInside → ComesFromInside two_batches under_way fed_back_edge counted
+  pub sequence_from_inside : sending.InsidePhiOfSequenceComesFromInside → ComesFromInside numbers numbered_both 1 (kept_epoch 1)
+  pub table : sending.SentTableFollowsHistory → FollowsHistory numbers 1
 
 -- the laws of the denotation
 pub record DenotationApplies : Type 0 where
-  pub measure : denotation.MeasureExists → denotation.Measure loop_counts_up
+  pub measure : denotation.MeasureExists → Measure loop_counts_up
   pub decided : denotation.RecsAtStampsDecideBag → (other : List Timed) → in_order other ≡ other
       → ((t : Stamp) → recs_where (same t) (totals_denoted src_to_run) ≡ recs_where (same t) other) → totals_denoted src_to_run ≡ other
-  pub depends : denotation.OutBagsDependOnLesserMeasure → denotation.Measure total_flow → (t : Stamp)
+  pub depends : denotation.OutBagsDependOnLesserMeasure → Measure total_flow → (t : Stamp)
       → recs_where (same t) (outputs_of totals totals_denoted (sender total_flow src_to_run))
       ≡ recs_where (same t) (outputs_of totals (λ e. []) (sender total_flow src_to_run))
   pub only : denotation.DenotationIsTheOnlyOne → (other : Family) → IsDenotation totals other → (e : ℕ) → other e ≡ totals_denoted e
-  pub exists : denotation.DenotationExists → IsDenotation two_batches (rounds two_batches (denotation.enough_rounds loop_counts_up))
+  pub exists : denotation.DenotationExists → IsDenotation two_batches (rounds two_batches (enough_rounds loop_counts_up))
   pub unchanged : denotation.UnchangedRoundIsDenotation → IsDenotation totals totals_denoted
   pub later : denotation.LaterRoundsAreTheSame → (e : ℕ) → rounds totals 9 e ≡ totals_denoted e
-  pub ordered : denotation.DenotationIsInOrder → denotation.AreInOrder totals_denoted
+  pub ordered : denotation.DenotationIsInOrder → AreInOrder totals_denoted
   pub in_the_domain : denotation.DenotationIsInDomain → (e : ℕ)
       → AllByRecursion (λ (r : Timed). in_domain (bounds_of total_flow (receiver total_flow e)) r.at ≡ true) (totals_denoted e)
-  pub numbered : denotation.DenotationIsNumbered → denotation.AreNumberedFrom 0 (rounds numbers 4 1)
+  pub numbered : denotation.DenotationIsNumbered → AreNumberedFrom 0 (rounds numbers 4 1)
   pub three_numbers : length (rounds numbers 4 1) ≡ 3

@@ -1,13 +1,13 @@
 -- The dataflow of two inputs, the second through a select that keeps nothing, put together at a logged concat, summed by a
 -- node that keeps nothing, and an output of epochs.
-use Rattle.std.specs.Prelude.{ℕ, List, [], ◌∷◌, None, codes}
+use Rattle.std.specs.Prelude.{List, None, [], codes, ℕ, ◌∷◌}
 use Rattle.fw_bag.specs.declared.rec.Rec.{Rec}
 use Rattle.fw_bag.specs.declared.select.Comparison.TheVariants.{Less}
 use Rattle.fw_bag.specs.declared.select.Field.TheVariants.{Value}
+use Rattle.fw_flow.specs.Dataflow.{Dataflow, System}
+use Rattle.fw_flow.specs.declared.kind.Kind.TheVariants.{Concat, Input, OutputEpoch, Select, Sum}
 use Rattle.fw_bag.specs.declared.select.Term.TheVariants as term
-use Rattle.fw_flow.specs.declared.kind.Kind.TheVariants.{Input, OutputEpoch, Select, Concat, Sum}
 use Rattle.fw_flow.specs.declared.kind.Policy.TheVariants as policy
-use Rattle.fw_flow.specs.Dataflow.{System, Dataflow}
 
 -- the first input
 abbrev pub first_source : ℕ

@@ -1,6 +1,5 @@
 //! Nodes that log what they do: what is not written is lost, and what is collected.
-ghost use Rattle.fw_examples.specs.LoggedEvents.{LosesAnEpoch};
-ghost use Rattle.fw_examples.specs.LogsAfterCollection.{CollectsALoggedEvent, KeepsALogWithACheckpoint, KeepsEventsOfATotal};
+ghost use Rattle.fw_examples.specs.Logs.{LosesAnEpoch, CollectsALoggedEvent, KeepsALogWithACheckpoint, KeepsEventsOfATotal};
 
 /// A frontier with an event that is not written is none to which a node is restored.
 pub fn loses_an_epoch()

@@ -1,8 +1,6 @@
 //! A loop that counts up to its greatest counter: what it denotes, a run with both batches under way, and a recovery after the
 //! node that counts up failed.
-ghost use Rattle.fw_examples.specs.LoopCountsUp.{TwoBatchesCountUp};
-ghost use Rattle.fw_examples.specs.Recovery.{IsRestored};
-ghost use Rattle.fw_examples.specs.UnderWay.{IsCompleteUnderWay, IsUnderWay};
+ghost use Rattle.fw_examples.specs.Loop.{TwoBatchesCountUp, IsRestored, IsCompleteUnderWay, IsUnderWay};
 
 /// Two batches denote a value for each counter and rec, each at its own epoch.
 pub fn two_batches_count_up()

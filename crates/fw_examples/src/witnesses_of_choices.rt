@@ -1,5 +1,5 @@
 //! That the laws of choices say something: where what they ask holds.
-ghost use Rattle.fw_examples.specs.WitnessesOfChoices.{ChoicesUnite, CutsUnite, JoinIsAFrontier, LessIsConsistent};
+ghost use Rattle.fw_examples.specs.Witnesses.{ChoicesUnite, CutsUnite, JoinIsAFrontier, LessIsConsistent};
 
 /// Two consistent choices have a union, and none of the two lies within the other.
 pub fn choices_unite()

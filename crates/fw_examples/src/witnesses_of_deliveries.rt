@@ -1,5 +1,5 @@
 //! That the laws of deliveries say something: where what they ask holds.
-ghost use Rattle.fw_examples.specs.WitnessesOfDeliveries.{AnEpochIsClosed, NotifiedAndGoesOn, OneIsOnItsWay, TwoEpochsAreComplete};
+ghost use Rattle.fw_examples.specs.Witnesses.{AnEpochIsClosed, NotifiedAndGoesOn, OneIsOnItsWay, TwoEpochsAreComplete};
 
 /// An epoch is closed for a node to which more is delivered later.
 pub fn an_epoch_is_closed()

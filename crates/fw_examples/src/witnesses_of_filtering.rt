@@ -1,5 +1,5 @@
 //! That the laws of filtering say something: where what they ask holds.
-ghost use Rattle.fw_examples.specs.WitnessesOfFiltering.{LoopIsFiltered, NumbersAreDelivered, SequenceIsFiltered, TotalsAreFiltered};
+ghost use Rattle.fw_examples.specs.Witnesses.{LoopIsFiltered, NumbersAreDelivered, SequenceIsFiltered, TotalsAreFiltered};
 
 /// A recovery keeps some deliveries and a notification, and filters out others.
 pub fn totals_are_filtered()

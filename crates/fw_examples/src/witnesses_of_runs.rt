@@ -1,5 +1,5 @@
 //! That the laws of runs, recoveries, choosing and steps say something: where what they ask holds.
-ghost use Rattle.fw_examples.specs.WitnessesOfRuns.{EachStepHasItsChoice, FailureIsReached, LoopIsReached, LowWatermarkRises, MoreIsComplete, RecoveryIsReached, SomeIsSettled, SomethingIsChosen, TotalsAreWellFormed, TwoRunsMeet};
+ghost use Rattle.fw_examples.specs.Witnesses.{EachStepHasItsChoice, FailureIsReached, LoopIsReached, LowWatermarkRises, MoreIsComplete, RecoveryIsReached, SomeIsSettled, SomethingIsChosen, TotalsAreWellFormed, TwoRunsMeet};
 
 /// The running total is a system that the laws are about.
 pub fn totals_are_well_formed()

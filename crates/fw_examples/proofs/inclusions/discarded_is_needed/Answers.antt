@@ -1,4 +1,4 @@
-use Rattle.fw_examples.proofs.OneSelectInclusions.{discarded_is_needed}
+use Rattle.fw_examples.proofs.LeavingOut.{discarded_is_needed}
 use Rattle.fw_examples.proofs.inclusions.discarded_is_needed.Goals as goal
 
 pub returns : goal.returns

@@ -1,4 +1,4 @@
-use Rattle.fw_examples.proofs.InclusionFacts.{leaves_out_one}
+use Rattle.fw_examples.proofs.LeavingOut.{leaves_out_one}
 use Rattle.fw_examples.proofs.inclusions.leaves_out_one.Goals as goal
 
 pub returns : goal.returns

@@ -1,4 +1,4 @@
-use Rattle.fw_examples.proofs.TwoSourcesInclusions.{notes_are_needed}
+use Rattle.fw_examples.proofs.LeavingOut.{notes_are_needed}
 use Rattle.fw_examples.proofs.inclusions.notes_are_needed.Goals as goal
 
 pub returns : goal.returns

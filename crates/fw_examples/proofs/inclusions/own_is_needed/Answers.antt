@@ -1,4 +1,4 @@
-use Rattle.fw_examples.proofs.TwoSourcesInclusions.{own_is_needed}
+use Rattle.fw_examples.proofs.LeavingOut.{own_is_needed}
 use Rattle.fw_examples.proofs.inclusions.own_is_needed.Goals as goal
 
 pub returns : goal.returns

@@ -1,4 +1,4 @@
-use Rattle.fw_examples.proofs.LogsAfterCollection.{keeps_a_log_with_a_checkpoint}
+use Rattle.fw_examples.proofs.Logs.{keeps_a_log_with_a_checkpoint}
 use Rattle.fw_examples.proofs.logs_after_collection.keeps_a_log_with_a_checkpoint.Goals as goal
 
 pub returns : goal.returns

@@ -1,4 +1,4 @@
-use Rattle.fw_examples.proofs.ChoiceWitnesses.{less_is_consistent}
+use Rattle.fw_examples.proofs.Witnesses.{less_is_consistent}
 use Rattle.fw_examples.proofs.witnesses_of_choices.less_is_consistent.Goals as goal
 
 pub returns : goal.returns

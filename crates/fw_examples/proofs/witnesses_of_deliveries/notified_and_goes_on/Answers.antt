@@ -1,4 +1,4 @@
-use Rattle.fw_examples.proofs.DeliveryWitnesses.{notified_and_goes_on}
+use Rattle.fw_examples.proofs.Witnesses.{notified_and_goes_on}
 use Rattle.fw_examples.proofs.witnesses_of_deliveries.notified_and_goes_on.Goals as goal
 
 pub returns : goal.returns

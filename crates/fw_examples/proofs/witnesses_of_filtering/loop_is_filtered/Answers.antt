@@ -1,4 +1,4 @@
-use Rattle.fw_examples.proofs.FilteringWitnesses.{loop_is_filtered}
+use Rattle.fw_examples.proofs.Witnesses.{loop_is_filtered}
 use Rattle.fw_examples.proofs.witnesses_of_filtering.loop_is_filtered.Goals as goal
 
 pub returns : goal.returns

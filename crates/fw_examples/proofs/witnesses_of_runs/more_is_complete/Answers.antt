@@ -1,4 +1,4 @@
-use Rattle.fw_examples.proofs.TotalWitnesses.{more_is_complete}
+use Rattle.fw_examples.proofs.Witnesses.{more_is_complete}
 use Rattle.fw_examples.proofs.witnesses_of_runs.more_is_complete.Goals as goal
 
 pub returns : goal.returns

@@ -1,4 +1,4 @@
--- What is chosen in the runs of the running total.
+-- The runs of the running total, and what is chosen in them.
 use Rattle.std.proofs.Common.{Bool, List, None, Some, [], drop, lit<, refl, replicate, true, ℕ, ◌++◌, ◌<◌, ◌∷◌, ◌≡◌}
 use Rattle.fw_time.specs.declared.stamp.Bounds.{Bounds}
 use Rattle.fw_frontier.specs.Front.{Names, frontier_of}
@@ -6,6 +6,7 @@ use Rattle.fw_frontier.specs.Frontier.{join}
 use Rattle.fw_flow.specs.Dataflow.{batches_of, bounds_of, greatest_number, kind_of, policy_of, receiver, sender}
 use Rattle.fw_flow.specs.NodeFunction.{sends}
 use Rattle.fw_flow.specs.Projection.{phi, psi}
+use Rattle.fw_flow.specs.WellFormed.{IsWellFormed}
 use Rattle.fw_flow.specs.declared.choice.Choice.{Choice}
 use Rattle.fw_flow.specs.declared.event.Event.TheVariants.{Notify as Notified}
 use Rattle.fw_flow.specs.declared.step.Step.{Step}
@@ -13,17 +14,71 @@ use Rattle.fw_flow.specs.declared.step.Step.TheVariants.{Collect, Progress, Reco
 use Rattle.fw_model.specs.Choice.{IsCandidate, IsChoiceWithin, IsConsistent, IsLargest, IsWatermark, cut_of, ever, kept, until}
 use Rattle.fw_model.specs.Machine.{Machine, first_state, is_failed}
 use Rattle.fw_model.specs.Steps.{Outcome, Run, Steps, acked, collected_writes, cuts, did, lows, offers, quiet, recs_at_output, with_event}
+use Rattle.fw_model.specs.Unions.{IsUnionOfChoices}
 use Rattle.fw_model.proofs.GoingOn.{runs-go_on}
 use Rattle.fw_examples.specs.OneSelect.{out}
-use Rattle.fw_examples.specs.RunningTotal.{alike, at_epoch, come_back, epoch_kept, outcomes_of_failure, outcomes_of_sum, outcomes_through_recovery, outcomes_to_failure, outcomes_up_to_two, outcomes_without_failure, output_failed, run, steps_of_failure, steps_of_sum, steps_through_recovery, steps_to_failure, steps_up_to_two, steps_without_failure, totals, two_epochs_kept, two_kept_noting}
+use Rattle.fw_examples.specs.RunningTotal.{alike, at_epoch, come_back, epoch_kept, outcomes_of_failure, outcomes_of_sum, outcomes_through_recovery, outcomes_to_failure, outcomes_up_to_two, outcomes_without_failure, output_failed, run, steps_of_failure, steps_of_sum, steps_through_recovery, steps_to_failure, steps_up_to_two, steps_without_failure, total_flow, totals, two_epochs_kept, two_kept_noting}
 use Rattle.fw_examples.proofs.Choosing.{above_by, consistent_by, largest_by, lies, offered_by, offered_within, recovers_to, sender_within}
-use Rattle.fw_examples.proofs.Fronts.{canonical_by, join_by, join_other}
-use Rattle.fw_examples.proofs.Places.{by_three}
-use Rattle.fw_examples.proofs.Plays.{Move, acknowledge, after_all, are_taken, ask, deliver, fail, inject, plays}
+use Rattle.fw_examples.proofs.Fronts.{by_three, canonical_by, join_by, join_other}
+use Rattle.fw_examples.proofs.Plays.{Move, acknowledge, after_all, are_taken, ask, deliver, fail, inject, persist, plays}
 use Rattle.fw_examples.proofs.Settling.{notifies, settles}
-use Rattle.fw_examples.proofs.TotalRun.{runs_to_two, ten_acknowledged, totals_formed}
+use Rattle.fw_examples.proofs.WellFormed.{total_is_well_formed}
+use Rattle.fw_flow.specs.declared.kind.Policy.TheVariants as policy
 use Rattle.fw_flow.specs.declared.step.Step.TheVariants as step
-use Rattle.fw_model.specs.Unions.{IsUnionOfChoices}
+
+pub totals_formed : IsWellFormed total_flow
+totals_formed = total_is_well_formed policy.Lazy tt
+
+-- ---- epochs 0 and 1
+
+-- the input sends an empty epoch
+abbrev empty_sent : Machine
+empty_sent = after_all totals (first_state totals) (inject 0 0 ∷ [])
+
+abbrev empty_settled : Machine
+empty_settled = record empty_sent { settled = alike 1 }
+
+-- a checkpoint of it is written, and epoch 1 delivered to the running total
+abbrev ten_moves : List Move
+ten_moves = ask 1 ∷ persist ∷ inject 0 1 ∷ deliver 0 None (at_epoch 1 10) ∷ []
+
+abbrev ten_taken : Machine
+ten_taken = after_all totals empty_settled ten_moves
+
+abbrev ten_summed : Machine
+ten_summed = with_event totals ten_taken (Notified 1 (1 ∷ []))
+
+abbrev ten_put_out : Machine
+ten_put_out = after_all totals ten_summed (deliver 1 None (at_epoch 1 10) ∷ [])
+
+abbrev ten_settled : Machine
+ten_settled = record ten_put_out { settled = alike 2 }
+
+-- a checkpoint of both is written, and both are acknowledged
+abbrev ten_last : List Move
+ten_last = ask 1 ∷ persist ∷ acknowledge 2 0 ∷ acknowledge 2 1 ∷ []
+
+abbrev pub ten_acknowledged : Machine
+ten_acknowledged = after_all totals ten_settled ten_last
+
+pub runs_to_two : Run totals (first_state totals) steps_up_to_two outcomes_up_to_two ten_acknowledged
+unfolding kind_of receiver sender sends batches_of bounds_of policy_of phi
+runs_to_two =
+    plays totals (inject 0 0 ∷ []) (first_state totals) (drop 1 steps_up_to_two) (drop 1 outcomes_up_to_two) ten_acknowledged refl (
+      empty_settled,
+      settles totals empty_sent (alike 1) totals_formed refl refl refl 0 (0 ∷ []) (lit< tt) refl refl,
+      plays totals ten_moves empty_settled (drop 6 steps_up_to_two) (drop 6 outcomes_up_to_two) ten_acknowledged refl (
+        ten_summed,
+        notifies totals ten_taken 1 (1 ∷ []) (until 2 ∷ until 0 ∷ until 0 ∷ []) totals_formed (lit< tt) refl refl refl,
+        plays totals (deliver 1 None (at_epoch 1 10) ∷ []) ten_summed (drop 8 steps_up_to_two) (drop 8 outcomes_up_to_two) ten_acknowledged refl (
+          ten_settled,
+          settles totals ten_put_out (alike 2) totals_formed refl refl refl 0 (1 ∷ []) (lit< tt) refl refl,
+          plays totals ten_last ten_settled [] [] ten_acknowledged refl refl,
+        ),
+      ),
+    )
+
+-- ---- what is chosen in the runs of the running total
 
 -- ---- the collection
 
@@ -146,12 +201,12 @@ epoch_consistent lost = consistent_by totals output_failed lost ever epoch_kept 
 
 -- The output settled no more; neither the running total nor the input can keep an epoch that it sent and that the receiver does
 -- not keep.
-kept_above : (other : Choice) → IsConsistent totals output_failed (offers totals output_failed) other → IsChoiceWithin totals other two_epochs_kept
+kept_above : (other : Choice) → IsConsistent totals output_failed (offers totals output_failed) other → IsChoiceWithin totals.flow other two_epochs_kept
 unfolding kind_of receiver sender sends batches_of bounds_of policy_of
 kept_above other is =
     let at_out = offered_within totals output_failed (is_failed output_failed) kept 2 (until 2) refl refl (cut_of other 2) (is.offered 2 (lit< tt)) in
-    let at_run = sender_within totals output_failed _ other is 1 (lit< tt) (until 2) (2 ∷ []) (2 ∷ []) at_out refl refl (λ f. refl) refl refl refl in
-    let at_src = sender_within totals output_failed _ other is 0 (lit< tt) (until 2) (2 ∷ []) (2 ∷ []) at_run refl refl (λ f. refl) refl refl refl in
+    let at_run = sender_within totals output_failed _ other is 1 (lit< tt) (until 2) (2 ∷ []) (2 ∷ []) at_out refl refl (λ sent f. refl) refl refl refl in
+    let at_src = sender_within totals output_failed _ other is 0 (lit< tt) (until 2) (2 ∷ []) (2 ∷ []) at_run refl refl (λ sent f. refl) refl refl refl in
     above_by totals output_failed _ two_epochs_kept other is (by_three _ at_src at_run at_out) refl
 
 pub kept_largest : IsLargest totals output_failed (offers totals output_failed) two_epochs_kept

@@ -1,25 +1,64 @@
--- A select that logs what it does, a collection, and a failure of the select and of the output after it: which of the logged
--- events are collected, and what the logs hold. And a running total of whose logged events a collection takes none.
-use Rattle.std.specs.Prelude.{◌≡◌, ℕ, true, false, List, [], ◌∷◌, Some, None}
+-- Nodes that log what they do: a select that writes each event, of which one is not written; a collection, and a failure of the
+-- select and of the output after it: which of the logged events are collected, and what the logs hold; and a running total of whose
+-- logged events a collection takes none.
+use Rattle.std.specs.Prelude.{List, None, Some, [], false, true, ℕ, ◌∷◌, ◌≡◌}
 use Rattle.fw_bag.specs.declared.rec.Rec.{Rec}
 use Rattle.fw_frontier.specs.Front.{Front, frontier_of}
+use Rattle.fw_flow.specs.Dataflow.{System, bounds_of, out_edges}
 use Rattle.fw_flow.specs.declared.choice.Choice.{Choice}
-use Rattle.fw_flow.specs.declared.choice.Cut.TheVariants.{Present, At}
+use Rattle.fw_flow.specs.declared.choice.Cut.TheVariants.{At, Present}
 use Rattle.fw_flow.specs.declared.event.Event.{Event}
-use Rattle.fw_flow.specs.declared.event.Event.TheVariants.{Inject as Injected, Deliver as Delivered, Notify as Notified}
+use Rattle.fw_flow.specs.declared.event.Event.TheVariants.{Deliver as Delivered, Inject as Injected, Notify as Notified}
 use Rattle.fw_flow.specs.declared.event.Message.{Message}
-use Rattle.fw_flow.specs.declared.kind.Policy.TheVariants as policy
 use Rattle.fw_flow.specs.declared.step.Step.{Step}
-use Rattle.fw_flow.specs.declared.step.Step.TheVariants.{Inject, Deliver, Notify, Progress, Persist, Fail, Collect, Ack}
-use Rattle.fw_flow.specs.Dataflow.{System, out_edges, bounds_of}
-use Rattle.fw_model.specs.Choice.{until, kept_of, IsLargest}
-use Rattle.fw_model.specs.Machine.{Machine, Write, checkpoint, logged_event, acknowledged, collected, first_state, front_of}
-use Rattle.fw_model.specs.Steps.{Outcome, Run, did, quiet, acked, lows, offers, sends_inside, is_given_up, lies_below}
-use Rattle.fw_examples.specs.Flows.{pair}
-use Rattle.fw_examples.specs.OneSelect.{one_select_of, src, big, out, src_to_big, big_to_out}
-use Rattle.fw_examples.specs.Recovery.{with_serials}
-use Rattle.fw_examples.specs.RunningTotal.{alike, totals_of, run, src_to_run, run_to_out}
+use Rattle.fw_flow.specs.declared.step.Step.TheVariants.{Ack, Collect, Deliver, Fail, Inject, Notify, Persist, Progress, Recover}
+use Rattle.fw_model.specs.Choice.{IsLargest, kept_of, until}
+use Rattle.fw_model.specs.Machine.{Machine, Write, acknowledged, checkpoint, collected, first_state, front_of, logged_event}
 use Rattle.fw_model.specs.Resending.{logged_messages, messages_to_resend}
+use Rattle.fw_model.specs.Steps.{Outcome, Run, acked, cuts, did, is_given_up, lies_below, lows, offers, quiet, sends_inside}
+use Rattle.fw_examples.specs.Flows.{fed, pair}
+use Rattle.fw_examples.specs.Loop.{with_serials}
+use Rattle.fw_examples.specs.OneSelect.{big, big_to_out, out, selecting, src, src_to_big}
+use Rattle.fw_examples.specs.RunningTotal.{alike, run, run_to_out, src_to_run, summing}
+use Rattle.fw_flow.specs.declared.kind.Policy.TheVariants as policy
+
+-- one batch of two recs that are selected
+abbrev pub two_recs : List (List Rec)
+two_recs = (pair 1 20 ∷ pair 2 30 ∷ []) ∷ []
+
+-- the dataflow with this batch, whose select writes each event
+abbrev pub each_written : System
+each_written = fed (selecting policy.Full) two_recs
+
+-- the frontier of no stamp
+abbrev pub none : Front
+none = (0 ∷ []) ∷ []
+
+-- the input and the select keep nothing
+abbrev pub nothing_restored : Choice
+nothing_restored = record { cuts = At none ∷ At none ∷ Present ∷ []; notes = none ∷ none ∷ none ∷ [] }
+
+-- nothing has happened, but for the three serials that were drawn
+abbrev pub nothing_left : Machine
+nothing_left = record {
+  history = [];
+  next = 3;
+  settled = none ∷ none ∷ none ∷ [];
+  writes = [];
+  failed = false ∷ false ∷ false ∷ [];
+  bounds = 0 ∷ 0 ∷ 0 ∷ [];
+  low = none ∷ none ∷ none ∷ [];
+}
+
+-- Of two events of the settled epoch one is acknowledged when the select fails: it comes back without the epoch.
+abbrev pub LosesAnEpoch : Type 0
+LosesAnEpoch =
+    Run each_written (first_state each_written)
+    (Inject src ∷ Deliver src_to_big None ∷ Deliver src_to_big None ∷ Progress ∷ Persist ∷ Fail (big ∷ []) ∷ Recover ∷ [])
+    (did quiet ∷ did quiet ∷ did quiet ∷ did quiet ∷ did quiet ∷ did quiet ∷ did (cuts nothing_restored) ∷ [])
+    nothing_left
+
+-- ---- a select that logs what it does, a collection, and a failure of the select and of the output after it: which of the logged
 
 -- two batches of a rec that is selected
 abbrev pub selected_batches : List (List Rec)
@@ -75,7 +114,7 @@ both_failed writes low = record {
 
 -- its dataflow, with two batches
 abbrev pub events_logged : System
-events_logged = one_select_of policy.Full selected_batches
+events_logged = fed (selecting policy.Full) selected_batches
 
 -- both of its events were logged, and the first is collected
 abbrev pub event_collected : Machine
@@ -110,14 +149,14 @@ pub record CollectsALoggedEvent : Type 0 where
   pub first_below : lies_below events_logged event_collected.low event_collected.history big (logged_event 1) ≡ true
   pub second_inside : frontier_of (bounds_of events_logged.flow big) (front_of event_collected.low big) (1 ∷ []) ≡ true
   pub second_needed : is_given_up events_logged event_collected.low big (1 ∷ []) ≡ false
-  pub log : logged_messages events_logged event_collected event_collected.low big_to_out (kept_of events_logged both_come_back big) ≡ second_message ∷ []
+  pub log : logged_messages events_logged event_collected event_collected.low big_to_out (kept_of events_logged.flow both_come_back big) ≡ second_message ∷ []
   pub sent_again : messages_to_resend events_logged event_collected both_come_back big_to_out ≡ second_message ∷ []
 
 -- ---- a select that writes a checkpoint with its log whenever more is settled
 
 -- its dataflow, with the same batches
 abbrev pub checkpoints_logged : System
-checkpoints_logged = one_select_of policy.Eager selected_batches
+checkpoints_logged = fed (selecting policy.Eager) selected_batches
 
 -- a checkpoint of epoch 0 was written before the collection, and one of all after it
 abbrev pub log_kept : Machine
@@ -143,7 +182,7 @@ outcomes_with_checkpoints =
 
 -- what the log of the checkpoint of all holds of the edge to the output, if it was asked at this low watermark
 abbrev pub log_at : List Front → List Message
-log_at low = logged_messages checkpoints_logged log_kept low big_to_out (kept_of checkpoints_logged both_come_back big)
+log_at low = logged_messages checkpoints_logged log_kept low big_to_out (kept_of checkpoints_logged.flow both_come_back big)
 
 -- The log that is kept with the checkpoint of all has what was sent of epoch 1, and no longer what was sent of epoch 0. What was
 -- sent of epoch 1 is sent again when both come back.
@@ -162,7 +201,7 @@ single_rec = (pair 1 20 ∷ []) ∷ []
 
 -- its dataflow, with this batch
 abbrev pub total_logged : System
-total_logged = totals_of policy.Full single_rec
+total_logged = fed (summing policy.Full) single_rec
 
 -- epoch 0 came through, the latest event first
 abbrev pub total_came_through : List Event

@@ -139,14 +139,7 @@ of_flow = record {
   delivered = by_three _ tt (refl, (refl, tt)) (refl, tt);
   notified = by_three _ tt (refl, (refl, tt)) tt;
   sent = by_three _ (refl, (refl, (refl, tt))) (refl, (refl, tt)) tt;
-  epochs = epochs;
 }
-  where
-    epochs : (p : ℕ) → kind_of total_flow p ≡ Sequence → AreFromEpochs (sent_by offers_of_totals p)
-    epochs zero e = absurd (cc)
-    epochs (suc zero) e = absurd (cc)
-    epochs (suc (suc zero)) e = absurd (cc)
-    epochs (suc (suc (suc p))) e = absurd (cc)
 
 -- the epochs below different numbers are different frontiers
 until_apart : (j k : ℕ) → j < k → until j ≢ until k

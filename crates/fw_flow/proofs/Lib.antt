@@ -15,6 +15,7 @@ pub mod ProjectionLaws
 pub mod Ranges
 pub mod Ranks
 pub mod Reach
+pub mod SentTableLaws
 pub mod SourceLaws
 pub mod SystemLaws
 pub mod Tests

@@ -11,6 +11,7 @@ pub mod ProjectedStamps
 pub mod Projection
 pub mod Raw
 pub mod Restoring
+pub mod SentTable
 pub mod Sources
 pub mod Step
 pub mod Walks

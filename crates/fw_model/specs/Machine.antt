@@ -2,9 +2,9 @@
 use Rattle.std.specs.Prelude.{ℕ, Bool, false, List, [], ◌∷◌, map, slice_index_or}
 use Rattle.fw_time.specs.declared.stamp.Bounds.{Bounds}
 use Rattle.fw_frontier.specs.Front.{Front, frontier_of, IsCanonical}
+use Rattle.fw_frontier.specs.Frontier.{Frontier}
 use Rattle.fw_flow.specs.declared.event.Event.{Event}
 use Rattle.fw_flow.specs.Dataflow.{System, Dataflow, bounds_of, places}
-use Rattle.fw_frontier.specs.Frontier.{Frontier}
 
 -- an event with its serial number, which no other event ever has
 pub record Numbered : Type 0 where

@@ -1,5 +1,4 @@
 pub mod ArrivedLaws
-pub mod CountLaws
 pub mod CoverLaws
 pub mod CutDownLaws
 pub mod DescentLaws

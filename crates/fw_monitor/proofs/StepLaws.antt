@@ -17,7 +17,7 @@ use Rattle.fw_model.specs.Covers.{set_of}
 use Rattle.fw_monitor.specs.declared.side.Side.{Side}
 use Rattle.fw_monitor.specs.declared.side.Side.TheVariants.{Delivered, Discarded, Notified}
 use Rattle.fw_model.specs.Offers.{arrived_from}
-use Rattle.fw_monitor.specs.Descent.{choice_of, owner, reach, IsOfFlow, right_of, IsMet, IsMetAtEdge, IsMetAtNode, IsCanonicalCut, IsLower, IsLowered, IsConsistentOf, EnclosesConsistent, HasConsistent, weight, IsStep, IsNoteLowered, IsPass, IsDescent, left_over}
+use Rattle.fw_monitor.specs.Descent.{choice_of, owner, reach, IsOfFlow, right_of, IsMet, IsMetAtEdge, IsMetAtNode, IsCanonicalCut, IsLower, IsLowered, IsConsistentOf, EnclosesConsistent, HasConsistent, weight, IsStep, IsDone, IsNoteLowered, IsPass, IsDescent, left_over}
 use Rattle.fw_monitor.proofs.DescentLaws.{lower_step, same_step, none_holds, note_step, own_keeps, edge_keeps, then_step}
 
 -- ---- right sides
@@ -131,47 +131,44 @@ note_lowered_within flow old new p bound right true n low k = absurd (cc)
 
 -- ---- all that speaks of an edge, and of a node alone
 
-abbrev pub IsDone : Dataflow → List Offer → Choice → Choice → Bool → (Choice → Type 0) → Type 0
-IsDone flow offers old new b P = IsStep flow offers old new b × (b ≡ false → HasConsistent flow offers → P new)
-
 pub edge_done : (flow : Dataflow) (offers : List Offer) (cuts0 cuts1 cuts2 : List Cut) (notes0 notes1 : List Front) (e : ℕ) (bound : Front) (a b n ab all : Bool) → IsWellFormed flow → e < length flow.edges
     → IsStep flow offers (choice_of cuts0 notes0) (choice_of cuts1 notes0) a → (a ≡ false → HasConsistent flow offers → IsMet flow offers (choice_of cuts1 notes0) (Delivered e))
     → IsStep flow offers (choice_of cuts1 notes0) (choice_of cuts2 notes0) b → (b ≡ false → HasConsistent flow offers → IsMet flow offers (choice_of cuts2 notes0) (Discarded e))
     → Names (bounds_of flow (receiver flow e)) bound (arrived_from flow offers e (note_of flow (choice_of cuts2 notes0) (sender flow e)))
     → IsNoteLowered notes0 notes1 (receiver flow e) bound n → ab ≡ (a || b) → all ≡ (ab || n)
-    → IsDone flow offers (choice_of cuts0 notes0) (choice_of cuts2 notes1) all (λ v. IsMetAtEdge flow offers v e)
+    → IsDone flow offers (choice_of cuts0 notes0) (choice_of cuts2 notes1) (λ v. IsMetAtEdge flow offers v e) all
 edge_done flow offers cuts0 cuts1 cuts2 notes0 notes1 e bound a b n ab all well l s1 h1 s2 h2 names low ea eb =
     let p = receiver flow e in
     let right = arrived_from flow offers e (note_of flow (choice_of cuts2 notes0) (sender flow e)) in
-    let s3 = note_lowered_step flow offers cuts2 notes0 notes1 p bound right n (well.receivers_declared e l) s2.encloses names (edge_keeps flow offers (choice_of cuts2 notes0) e well l) low in (
-      either_step flow offers (choice_of cuts0 notes0) (choice_of cuts2 notes0) (choice_of cuts2 notes1) ab n all eb
-          (either_step flow offers (choice_of cuts0 notes0) (choice_of cuts1 notes0) (choice_of cuts2 notes0) a b ab ea s1 s2) s3,
-      λ k has.
+    let s3 = note_lowered_step flow offers cuts2 notes0 notes1 p bound right n (well.receivers_declared e l) s2.encloses names (edge_keeps flow offers (choice_of cuts2 notes0) e well l) low in record {
+      step = either_step flow offers (choice_of cuts0 notes0) (choice_of cuts2 notes0) (choice_of cuts2 notes1) ab n all eb
+          (either_step flow offers (choice_of cuts0 notes0) (choice_of cuts1 notes0) (choice_of cuts2 notes0) a b ab ea s1 s2) s3;
+      holds = λ k has.
           let u = or_parts ab n (sym eb ∙ k) in
           let v = or_parts a b (sym ea ∙ u.0) in
           still flow offers (choice_of cuts2 notes0) (choice_of cuts2 notes1) n (λ w. IsMetAtEdge flow offers w e) s3 u.1 (record {
             delivered = still flow offers (choice_of cuts1 notes0) (choice_of cuts2 notes0) b (λ w. IsMet flow offers w (Delivered e)) s2 v.1 (h1 v.0 has);
             discarded = h2 v.1 has;
             note = note_lowered_within flow notes0 notes1 p bound right n names low u.1;
-          }),
-    )
+          });
+    }
 
 pub node_done : (flow : Dataflow) (offers : List Offer) (cuts0 cuts1 : List Cut) (notes0 notes1 : List Front) (p : ℕ) (bound : Front) (a n all : Bool) → p < length flow.nodes
     → IsStep flow offers (choice_of cuts0 notes0) (choice_of cuts1 notes0) a → (a ≡ false → HasConsistent flow offers → IsMet flow offers (choice_of cuts1 notes0) (Notified p))
     → Names (bounds_of flow p) bound (kept_of flow (choice_of cuts1 notes0) p)
     → IsNoteLowered notes0 notes1 p bound n → all ≡ (a || n)
-    → IsDone flow offers (choice_of cuts0 notes0) (choice_of cuts1 notes1) all (λ v. IsMetAtNode flow offers v p)
+    → IsDone flow offers (choice_of cuts0 notes0) (choice_of cuts1 notes1) (λ v. IsMetAtNode flow offers v p) all
 node_done flow offers cuts0 cuts1 notes0 notes1 p bound a n all l s1 h1 names low ea =
     let right = kept_of flow (choice_of cuts1 notes0) p in
-    let s2 = note_lowered_step flow offers cuts1 notes0 notes1 p bound right n l s1.encloses names (own_keeps flow offers (choice_of cuts1 notes0) p l) low in (
-      either_step flow offers (choice_of cuts0 notes0) (choice_of cuts1 notes0) (choice_of cuts1 notes1) a n all ea s1 s2,
-      λ k has.
+    let s2 = note_lowered_step flow offers cuts1 notes0 notes1 p bound right n l s1.encloses names (own_keeps flow offers (choice_of cuts1 notes0) p l) low in record {
+      step = either_step flow offers (choice_of cuts0 notes0) (choice_of cuts1 notes0) (choice_of cuts1 notes1) a n all ea s1 s2;
+      holds = λ k has.
           let u = or_parts a n (sym ea ∙ k) in
           still flow offers (choice_of cuts1 notes0) (choice_of cuts1 notes1) n (λ w. IsMetAtNode flow offers w p) s2 u.1 (record {
             notified = h1 u.0 has;
             own = note_lowered_within flow notes0 notes1 p bound right n names low u.1;
-          }),
-    )
+          });
+    }
 
 -- ---- passes
 

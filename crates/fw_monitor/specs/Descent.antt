@@ -12,7 +12,7 @@ use Rattle.fw_flow.specs.declared.choice.Recorded.{Recorded}
 use Rattle.fw_flow.specs.declared.choice.Offer.{Offer}
 use Rattle.fw_flow.specs.Dataflow.{Dataflow, sender, receiver, bounds_of}
 use Rattle.fw_model.specs.Machine.{front_of}
-use Rattle.fw_model.specs.Choice.{cut_of, note_of, kept_of, IsConsistentBy, IsCutWithin, IsChoiceWithin}
+use Rattle.fw_model.specs.Choice.{cut_of, note_of, kept_of, IsNoteKept, NoteComesFromSender, IsConsistentBy, IsCutWithin, IsChoiceWithin}
 use Rattle.fw_monitor.specs.declared.side.Side.{Side}
 use Rattle.fw_monitor.specs.declared.side.Side.TheVariants.{Delivered, Discarded, Notified}
 use Rattle.fw_monitor.specs.Held.{held, sum_below}
@@ -47,8 +47,8 @@ found e (x ∷ xs) = if x.edge == e then Some x.front else found e xs
 
 -- what a record lists of a side
 abbrev pub recorded : Side → Recorded → Option Front
-recorded (Delivered d) r = found d r.delivered.items
-recorded (Discarded e) r = found e r.discarded.items
+recorded (Delivered d) r = found d r.delivered
+recorded (Discarded e) r = found e r.discarded
 recorded (Notified p) r = Some r.notified
 
 -- the frontier, without stamps where there is none
@@ -78,25 +78,16 @@ right_of flow offers (Notified p) choice = note_of flow choice p
 abbrev pub IsMet : Dataflow → List Offer → Choice → Side → Type 0
 IsMet flow offers choice side = Within (left_of flow offers side (cut_of choice (owner flow side))) (right_of flow offers side choice)
 
--- a node's notification frontier lies in what it keeps
-abbrev pub IsOwnMet : Dataflow → Choice → ℕ → Type 0
-IsOwnMet flow choice p = Within (note_of flow choice p) (kept_of flow choice p)
-
--- the notification frontier of an edge's receiver comes from that of its sender
-abbrev pub IsNoteMet : Dataflow → List Offer → Choice → ℕ → Type 0
-IsNoteMet flow offers choice d =
-    Within (note_of flow choice (receiver flow d)) (arrived_from flow offers d (note_of flow choice (sender flow d)))
-
 -- all that speaks of an edge is met
 pub record IsMetAtEdge (flow : Dataflow) (offers : List Offer) (choice : Choice) (e : ℕ) : Type 0 where
   pub delivered : IsMet flow offers choice (Delivered e)
   pub discarded : IsMet flow offers choice (Discarded e)
-  pub note : IsNoteMet flow offers choice e
+  pub note : NoteComesFromSender flow (covers_of flow offers) choice e
 
 -- all that speaks of a node alone is met
 pub record IsMetAtNode (flow : Dataflow) (offers : List Offer) (choice : Choice) (p : ℕ) : Type 0 where
   pub notified : IsMet flow offers choice (Notified p)
-  pub own : IsOwnMet flow choice p
+  pub own : IsNoteKept flow choice p
 
 -- the frontier of a cut is canonical, if it has one
 abbrev pub IsCanonicalCut : Bounds → Cut → Type 0
@@ -169,6 +160,11 @@ pub record IsStep (flow : Dataflow) (offers : List Offer) (old new : Choice) (lo
   pub encloses : EnclosesConsistent flow offers new
   pub fewer : lowered ≡ true → weight flow new < weight flow old
   pub same : lowered ≡ false → new ≡ old
+
+-- a step of the descent, after which something is met if it lowered nothing and there is a consistent choice
+pub record IsDone (flow : Dataflow) (offers : List Offer) (old new : Choice) (met : Choice → Type 0) (lowered : Bool) : Type 0 where
+  pub step : IsStep flow offers old new lowered
+  pub holds : lowered ≡ false → HasConsistent flow offers → met new
 
 -- A notification frontier lies within a bound, and all stays; or else it is cut to what is inside the bound.
 abbrev pub IsNoteLowered : List Front → List Front → ℕ → Front → Bool → Type 0

@@ -1,4 +1,3 @@
 pub mod Held
 pub mod Kept
-pub mod Counts
 pub mod Descent

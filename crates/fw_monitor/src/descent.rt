@@ -10,7 +10,7 @@ ghost use Rattle.fw_model.specs.Covers.{set_of};
 ghost use Rattle.fw_model.specs.Machine.{front_of};
 ghost use Rattle.fw_model.specs.Offers as spec;
 ghost use Rattle.fw_model.specs.Offers.{IsOffered, AreOffersOf, AreAscending, covers_of};
-ghost use Rattle.fw_monitor.specs.Descent.{choice_of, owner, reach, right_of, IsOfFlow, IsCanonicalCut, IsConsistentOf, EnclosesConsistent, IsStep, HasConsistent, IsMet, IsMetAtEdge, IsMetAtNode, IsNoteLowered, IsPass};
+ghost use Rattle.fw_monitor.specs.Descent.{choice_of, owner, reach, right_of, IsOfFlow, IsCanonicalCut, IsConsistentOf, EnclosesConsistent, IsStep, IsDone, HasConsistent, IsMet, IsMetAtEdge, IsMetAtNode, IsNoteLowered, IsPass};
 
 use crate::arrived::arrived;
 use crate::lower::lowered;
@@ -94,8 +94,7 @@ fn arrived_from_cut(
     edge: EdgeId,
     cut: &Cut,
 ) -> Result<Front, AllocError>
-    requires offers { AreOffersOf flow.now offers.now }
-    requires cut { IsCanonicalCut (bounds_of flow.now (sender flow.now edge)) cut.now }
+    requires { IsCanonicalCut (bounds_of flow.now (sender flow.now edge)) cut.now }
     ensures { IfOk result (λ g. Names (bounds_of flow.now (receiver flow.now edge)) g
         (spec.arrived_from flow.now offers.now edge (set_of flow.now (sender flow.now edge) cut.now))) }
 {
@@ -160,9 +159,8 @@ fn at_edge(
     requires offers { AreOffersOf flow.now offers.now }
     requires there { edge < length flow.now.edges }
     requires encloses { EnclosesConsistent flow.now offers.now (choice_of cuts.old.items notes.old.items) }
-    ensures step { IfOk result (IsStep flow.now offers.now (choice_of cuts.old.items notes.old.items) (choice_of cuts.new.items notes.new.items)) }
-    ensures holds { IfOk result (λ b. b ≡ false → HasConsistent flow.now offers.now
-        → IsMetAtEdge flow.now offers.now (choice_of cuts.new.items notes.new.items) edge) }
+    ensures { IfOk result (IsDone flow.now offers.now (choice_of cuts.old.items notes.old.items) (choice_of cuts.new.items notes.new.items)
+        (λ choice. IsMetAtEdge flow.now offers.now choice edge)) }
 {
     flow_is_well_formed(flow);
     let delivered = lower_cut(alloc, flow, offers, &Side::Delivered(edge), cuts, notes)?;
@@ -184,9 +182,8 @@ fn at_node(
     requires offers { AreOffersOf flow.now offers.now }
     requires there { node < length flow.now.nodes }
     requires encloses { EnclosesConsistent flow.now offers.now (choice_of cuts.old.items notes.old.items) }
-    ensures step { IfOk result (IsStep flow.now offers.now (choice_of cuts.old.items notes.old.items) (choice_of cuts.new.items notes.new.items)) }
-    ensures holds { IfOk result (λ b. b ≡ false → HasConsistent flow.now offers.now
-        → IsMetAtNode flow.now offers.now (choice_of cuts.new.items notes.new.items) node) }
+    ensures { IfOk result (IsDone flow.now offers.now (choice_of cuts.old.items notes.old.items) (choice_of cuts.new.items notes.new.items)
+        (λ choice. IsMetAtNode flow.now offers.now choice node)) }
 {
     let notified = lower_cut(alloc, flow, offers, &Side::Notified(node), cuts, notes)?;
     let bound = kept(alloc, cut_at(cuts, node))?;
@@ -204,9 +201,8 @@ fn pass_edges(
 ) -> Result<bool, AllocError>
     requires offers { AreOffersOf flow.now offers.now }
     requires encloses { EnclosesConsistent flow.now offers.now (choice_of cuts.old.items notes.old.items) }
-    ensures step { IfOk result (IsStep flow.now offers.now (choice_of cuts.old.items notes.old.items) (choice_of cuts.new.items notes.new.items)) }
-    ensures holds { IfOk result (λ b. b ≡ false → HasConsistent flow.now offers.now
-        → (e : ℕ) → e < length flow.now.edges → IsMetAtEdge flow.now offers.now (choice_of cuts.new.items notes.new.items) e) }
+    ensures { IfOk result (IsDone flow.now offers.now (choice_of cuts.old.items notes.old.items) (choice_of cuts.new.items notes.new.items)
+        (λ choice. (e : ℕ) → e < length flow.now.edges → IsMetAtEdge flow.now offers.now choice e)) }
 {
     flow_is_well_formed(flow);
     let mut lowered = false;
@@ -228,9 +224,8 @@ fn pass_nodes(
 ) -> Result<bool, AllocError>
     requires offers { AreOffersOf flow.now offers.now }
     requires encloses { EnclosesConsistent flow.now offers.now (choice_of cuts.old.items notes.old.items) }
-    ensures step { IfOk result (IsStep flow.now offers.now (choice_of cuts.old.items notes.old.items) (choice_of cuts.new.items notes.new.items)) }
-    ensures holds { IfOk result (λ b. b ≡ false → HasConsistent flow.now offers.now
-        → (p : ℕ) → p < length flow.now.nodes → IsMetAtNode flow.now offers.now (choice_of cuts.new.items notes.new.items) p) }
+    ensures { IfOk result (IsDone flow.now offers.now (choice_of cuts.old.items notes.old.items) (choice_of cuts.new.items notes.new.items)
+        (λ choice. (p : ℕ) → p < length flow.now.nodes → IsMetAtNode flow.now offers.now choice p)) }
 {
     let mut lowered = false;
     for place in 0..flow.nodes() {

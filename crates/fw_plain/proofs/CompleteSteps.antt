@@ -1,8 +1,12 @@
 -- The descent to the complete frontiers: what each pass keeps, when it ends, and what it comes to.
 use Rattle.std.proofs.Common.{◌≡◌, ℕ, zero, suc, ◌+◌, ◌<◌, ◌≤◌, Bool, true, false, not, ◌&&◌, ◌==◌, cond, List, [], ◌∷◌, ◌++◌, length, reverse, Some, None, refl, sym, ap, subst, ◌∙◌, get_or, take, inl, inr, arith}
+use Rattle.std.specs.List.{sum_by}
+use Rattle.std.specs.List.Sorted.{IsPermutation}
 use Rattle.std.proofs.Math.Bool.{and-true, and_assoc}
 use Rattle.std.specs.List.{AllByRecursion, list_all}
 use Rattle.std.proofs.lemmas.Bool.{and_parts, and_from, cases_lt, eqb-true}
+use Rattle.std.proofs.lemmas.List.Sorted.{sum_by-IsPermutation}
+use Rattle.std.proofs.lemmas.List.Sums.{sum_by-cons}
 use Rattle.std.proofs.lemmas.List.{take_more, get_or_past, length-append, reverse-append}
 use Rattle.fw_time.specs.Stamp.{Stamp, in_domain}
 use Rattle.fw_time.specs.declared.stamp.Bounds.{Bounds}
@@ -16,7 +20,7 @@ use Rattle.fw_flow.specs.declared.event.Message.{Message}
 use Rattle.fw_flow.specs.declared.kind.Kind.TheVariants.{Sequence, OutputEpoch}
 use Rattle.fw_flow.specs.Dataflow.{System, Dataflow, kind_of, sender, receiver, in_edges, bounds_of, bounds_of_domain, domain_of_kind, greatest_number, is_input_kind, is_notified_kind}
 use Rattle.fw_flow.specs.NodeFunction.{place, stamp, sends}
-use Rattle.fw_flow.specs.Projection.{events_at, phi, IsSentTable}
+use Rattle.fw_flow.specs.Projection.{events_at, phi, table_count, IsSentTable}
 use Rattle.fw_flow.specs.WellFormed.{IsWellFormed}
 use Rattle.fw_model.specs.History.{owed, was_delivered_to, was_notified, injected_epochs, IsQuiet, IsAdmissible, IsComplete, AreAtNodes}
 use Rattle.fw_model.specs.Machine.{front_of, family_of, AreCanonical}
@@ -191,6 +195,25 @@ table_same sys p events i v table new a l is e same old k =
     subst (λ xs. IsSentTable sys (reverse (take (i + 1) events)) p xs) (sym same)
     (subst (λ xs. IsSentTable sys xs p table) (sym (history_more events i v l ∙ ap (λ w. w ∷ h) (sym is)))
     ((table-follows sys p k).stays h table v n (old k)))
+
+-- ---- a table in order
+
+-- what an entry counts
+abbrev counted : Frontier → ℕ × ℕ → ℕ
+counted f e = cond (f (e.0 ∷ [])) e.1 0
+
+table_count-sum : (f : Frontier) (table : List (ℕ × ℕ)) → table_count f table ≡ sum_by (counted f) table
+table_count-sum f [] = refl
+table_count-sum f (e ∷ table) = by (f (e.0 ∷ [])) (table_count-sum f table) ∙ sym (sum_by-cons (counted f) e table)
+  where
+    by : (b : Bool) → table_count f table ≡ sum_by (counted f) table
+        → cond b (e.1 + table_count f table) (table_count f table) ≡ cond b e.1 0 + sum_by (counted f) table
+    by true h = ap (λ n. e.1 + n) h
+    by false h = h ∙ omega arith
+
+-- entries in another order count the same
+pub table_count-reordered : (f : Frontier) (table other : List (ℕ × ℕ)) → IsPermutation table other → table_count f other ≡ table_count f table
+table_count-reordered f table other p = table_count-sum f other ∙ sum_by-IsPermutation (counted f) table other p ∙ sym (table_count-sum f table)
 
 -- ---- the passes
 

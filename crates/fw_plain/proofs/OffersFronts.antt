@@ -256,7 +256,7 @@ pub offered-restorable : (sys : System) (state : Machine) (p : ℕ) (f : Front) 
 offered-restorable sys state p f Batches (Listed records) l a =
     let n = injected_count p (events state.history) in
     let x = is_exhausted sys (events state.history) p in
-    let k = batches-offered n x f records.items (subst (λ m. AreBare (batch_fronts m x) records.items) (min-few n l) a) in
+    let k = batches-offered n x f records (subst (λ m. AreBare (batch_fronts m x) records) (min-few n l) a) in
     ((λ i. elim i [ inl r ↦ k.0 r | inr b ↦ absurd b ]), (λ r. inl (k.1 r)))
 offered-restorable sys state p f Batches (Between least greatest) l a = absurd a
 offered-restorable sys state p f Bound (Listed records) l a = absurd a
@@ -279,7 +279,7 @@ pub offered-records : (sys : System) (h : List Event) (p : ℕ) (settled : Front
 offered-records sys h p settled bound Batches (Listed records) d a =
     let n = min (injected_count p h) greatest_number in
     let x = is_exhausted sys h p in
-    bare-records sys.flow p (batch_fronts n x) records.items a (batches-canonical (bounds_of sys.flow p) n x (d refl) (few-min (injected_count p h)))
+    bare-records sys.flow p (batch_fronts n x) records a (batches-canonical (bounds_of sys.flow p) n x (d refl) (few-min (injected_count p h)))
 offered-records sys h p settled bound Batches (Between least greatest) d a = absurd a
 offered-records sys h p settled bound Bound (Listed records) d a = absurd a
 offered-records sys h p settled bound Bound (Between least greatest) d a = tt
@@ -294,7 +294,7 @@ pub offered-ascend : (sys : System) (h : List Event) (p : ℕ) (settled : Front)
 offered-ascend sys h p settled bound Batches (Listed records) a =
     let n = min (injected_count p h) greatest_number in
     let x = is_exhausted sys h p in
-    bare-ascend (bounds_of sys.flow p) (batch_fronts n x) records.items a (batches-rise (bounds_of sys.flow p) x 0 (n + 1))
+    bare-ascend (bounds_of sys.flow p) (batch_fronts n x) records a (batches-rise (bounds_of sys.flow p) x 0 (n + 1))
 offered-ascend sys h p settled bound Batches (Between least greatest) a = absurd a
 offered-ascend sys h p settled bound Bound (Listed records) a = absurd a
 offered-ascend sys h p settled bound Bound (Between least greatest) a = tt

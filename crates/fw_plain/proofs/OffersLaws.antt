@@ -15,27 +15,29 @@ use Rattle.fw_flow.specs.declared.choice.Recorded.{Recorded}
 use Rattle.fw_flow.specs.declared.event.Event.{Event}
 use Rattle.fw_flow.specs.declared.event.Message.{Message}
 use Rattle.fw_flow.specs.declared.kind.Kind.{Kind}
-use Rattle.fw_flow.specs.declared.kind.Kind.TheVariants.{Input, OutputEpoch, OutputNumber}
+use Rattle.fw_flow.specs.declared.kind.Kind.TheVariants.{Input, OutputEpoch, OutputNumber, Sequence}
 use Rattle.fw_flow.specs.declared.kind.Policy.TheVariants as policy
 use Rattle.fw_flow.specs.Dataflow.{System, kind_of, policy_of, sender, receiver, bounds_of, greatest_number, is_notified_kind, bounds_of_edge}
-use Rattle.fw_flow.specs.Projection.{all_inside, phi, phi_by_count}
+use Rattle.fw_flow.specs.Projection.{all_inside, phi_by_count, IsSentTable, count_from}
 use Rattle.fw_model.specs.Choice.{kept, IsCandidate, IsRestorable}
 use Rattle.fw_model.specs.History.{delivered, sent, injected_count, AreAtNodes}
 use Rattle.fw_flow.specs.declared.restoring.Restoring.{Restoring}
 use Rattle.fw_flow.specs.declared.restoring.Restoring.TheVariants.{Batches, Bound, Anything, Checkpoints, Events}
 use Rattle.fw_flow.specs.Restoring.{restoring, way_of}
 use Rattle.fw_model.specs.Covers.{stamps_from, stamp_of_notice, tallies_in, covers_in}
+use Rattle.fw_flow.proofs.ProjectionLaws.{phi-by_table}
 use Rattle.fw_model.specs.Machine.{Machine, events, is_failed, no_stamps, front_of, bound_of}
 use Rattle.fw_model.proofs.ChoiceLaws.{by_batches-input, bounds-input}
 use Rattle.fw_model.proofs.DomainLaws.{edge-bounds, has_epochs}
 use Rattle.fw_model.proofs.InputLaws.{injected-few}
 use Rattle.fw_model.proofs.LegalLaws.{legal_messages-in_domain}
 use Rattle.fw_model.proofs.TallyLaws.{delivered_cover-same, discarded_cover-same, notified_cover-same}
-use Rattle.fw_model.specs.Offers.{can_stay, listed, records_of, range, range_of, delivered_to, notified_of, sent_by, IsOffered, IsListed, IsBetween, stamps_on_from, count_from, is_by_records, tallies_of, covers_of, Ascend, IsRecordOf, IsRangeOf, IsListedBy, AreOnEdges, AreOffersOf, AreOffersIn}
+use Rattle.fw_model.specs.Offers.{can_stay, listed, records_of, range, range_of, delivered_to, notified_of, sent_by, IsOffered, IsListed, IsBetween, stamps_on_from, is_by_records, tallies_of, covers_of, Ascend, IsRecordOf, IsRangeOf, IsListedBy, AreOnEdges, AreOffersOf, AreOffersIn}
+use Rattle.fw_model.specs.Offers.{table_of}
 use Rattle.fw_plain.specs.Offered.{StandsBy, deliveries_to, sent_from, IsOfferOf, AreOffersFrom}
 use Rattle.fw_plain.proofs.FrontsLaws.{names-no_stamps}
 use Rattle.fw_plain.proofs.OffersFronts.{offered-restorable, offered-records, offered-ascend, offered-range, offered-listed}
-use Rattle.fw_plain.proofs.OffersLists.{delivered-on_edge, deliveries-on_edges, notices-in_domain, sent-on_edge, count-on_edge, sent-on_edges}
+use Rattle.fw_plain.proofs.OffersLists.{delivered-on_edge, deliveries-on_edges, notices-in_domain, sent-on_edge, sent-on_edges}
 
 -- ---- the offer of a node
 
@@ -129,15 +131,15 @@ are-there sys vs settled bounds failed state offers d n a s =
 
 delivered-is : (sys : System) (state : Machine) (offers : List Offer) (p : ℕ) → Offers sys state offers p
     → delivered_to offers p ≡ deliveries_to sys.flow p (events state.history)
-delivered-is sys state offers p o = at-map (λ (x : Offer). x.stamps.delivered.items) [] offers p o.offer o.there ∙ o.is.delivered
+delivered-is sys state offers p o = at-map (λ (x : Offer). x.stamps.delivered) [] offers p o.offer o.there ∙ o.is.delivered
 
 notified-is : (sys : System) (state : Machine) (offers : List Offer) (p : ℕ) → Offers sys state offers p
     → notified_of offers p ≡ flat_map (stamp_of_notice p) (events state.history)
-notified-is sys state offers p o = at-map (λ (x : Offer). x.stamps.notified.items) [] offers p o.offer o.there ∙ o.is.notified
+notified-is sys state offers p o = at-map (λ (x : Offer). x.stamps.notified) [] offers p o.offer o.there ∙ o.is.notified
 
 sent-is : (sys : System) (state : Machine) (offers : List Offer) (p : ℕ) → Offers sys state offers p
     → sent_by offers p ≡ sent_from sys (events state.history) p
-sent-is sys state offers p o = at-map (λ (x : Offer). x.stamps.sent.items) [] offers p o.offer o.there ∙ o.is.sent
+sent-is sys state offers p o = at-map (λ (x : Offer). x.stamps.sent) [] offers p o.offer o.there ∙ o.is.sent
 
 records-are : (sys : System) (state : Machine) (offers : List Offer) (p : ℕ) (o : Offers sys state offers p) → records_of offers p ≡ listed o.offer.offered
 records-are sys state offers p o = at-map (λ (x : Offer). listed x.offered) [] offers p o.offer o.there
@@ -170,7 +172,6 @@ of_flow sys state offers a =
           (notices-in_domain sys.flow p h a.at_nodes);
       sent = λ p l.
           subst (λ (ms : List Counted). AreOnEdges sys.flow ms) (sym (sent-is sys state offers p (a.each p l))) (sent-on_edges sys h p a.messages);
-      epochs = λ p k. absurd (true≢false (sym (ap is_notified_kind k) ∙ a.nobody p));
     }
 
 ascending : (sys : System) (state : Machine) (offers : List Offer) → Are sys state offers
@@ -284,11 +285,12 @@ notified-same sys state offers a p l cut =
 
 arrived-same : (sys : System) (state : Machine) (offers : List Offer) → Are sys state offers → (e : ℕ) → e < length sys.flow.edges → (f : Frontier)
     → (covers_of sys.flow offers).arrived e f ≡ (covers_in sys state).arrived e f
-unfolding phi phi_by_count
+unfolding phi_by_count
 arrived-same sys state offers a e l f =
     let p = sender sys.flow e in
-    ap (λ n. phi_by_count sys.flow n e f)
-    (ap (λ (ms : List Counted). count_from e f ms) (sent-is sys state offers p (a.each p (a.senders e l))) ∙ count-on_edge sys (events state.history) e f l)
+    let no_sequence : kind_of sys.flow p ≡ Sequence → IsSentTable sys (events state.history) p (table_of offers p) =
+    λ k. absurd (true≢false (sym (ap is_notified_kind k) ∙ a.nobody p)) in
+    λ i u. sym (phi-by_table sys (events state.history) e f (table_of offers p) no_sequence u) i
 
 -- what is offered is what the machine offers in the state
 pub offers-in : (sys : System) (vs : List Event) (settled : List Front) (bounds : List ℕ) (failed : List Bool) (state : Machine) (offers : List Offer)

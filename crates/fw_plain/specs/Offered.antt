@@ -69,8 +69,8 @@ batch_fronts injected exhausted = map until (range_with_len 0 (injected + 1)) ++
 pub record IsBare (f : Front) (r : Recorded) : Type 0 where
   pub front : r.front ≡ f
   pub notified : r.notified ≡ []
-  pub delivered : r.delivered.items ≡ []
-  pub discarded : r.discarded.items ≡ []
+  pub delivered : r.delivered ≡ []
+  pub discarded : r.discarded ≡ []
 
 -- the records are of these frontiers, and hold nothing else
 abbrev pub AreBare : List Front → List Recorded → Type 0
@@ -81,7 +81,7 @@ AreBare (f ∷ fs) (r ∷ rs) = IsBare f r × AreBare fs rs
 
 -- these frontiers are offered, and no others
 abbrev pub AreListed : List Front → Offered → Type 0
-AreListed fs (Listed records) = AreBare fs records.items
+AreListed fs (Listed records) = AreBare fs records
 AreListed fs (Between least greatest) = ⊥
 
 -- all up to the frontier is offered
@@ -104,9 +104,9 @@ OffersBy sys h p settled bound Events offered = ⊥
 pub record IsOfferOf (sys : System) (h : List Event) (settled : List Front) (bounds : List ℕ) (failed : List Bool) (p : ℕ) (offer : Offer) : Type 0 where
   pub present : offer.present ≡ not (slice_index_or failed p false)
   pub offered : OffersBy sys h p (front_of settled p) (slice_index_or bounds p 0) (restoring (kind_of sys.flow p) policy.None) offer.offered
-  pub delivered : offer.stamps.delivered.items ≡ deliveries_to sys.flow p h
-  pub notified : offer.stamps.notified.items ≡ flat_map (stamp_of_notice p) h
-  pub sent : offer.stamps.sent.items ≡ sent_from sys h p
+  pub delivered : offer.stamps.delivered ≡ deliveries_to sys.flow p h
+  pub notified : offer.stamps.notified ≡ flat_map (stamp_of_notice p) h
+  pub sent : offer.stamps.sent ≡ sent_from sys h p
 
 -- the offers are those of the nodes from p on
 abbrev pub AreOffersFrom : System → List Event → List Front → List ℕ → List Bool → ℕ → List Offer → Type 0

@@ -16,7 +16,8 @@ ghost use Rattle.fw_plain.specs.Offered.{StandsBy, OffersBy, AreBare, IsBare};
 ghost use Rattle.fw_model.specs.History.{AreAtNodes};
 
 use fw_flow::{
-    Counted, EdgeId, Event, Flow, Kind, Message, NodeId, Offer, Offered, Recorded, Stamps,
+    Counted, CountedMessages, EdgeId, Event, Flow, Kind, Message, NodeId, Notices, OfEdges, Offer,
+    Offered, Recorded, Records, SentTable, Stamps,
 };
 use fw_frontier::Front;
 use fw_lines::Batches;
@@ -50,10 +51,13 @@ pub(crate) fn offers(
         let (front, bound) = (&settled[place], bounds[place]);
         let offered = offered(alloc, flow, batches, events, node, front, bound)?;
         let stamps = stamps(alloc, flow, batches, events, node)?;
+        // No node is notified, so there is no sequence.
+        let table = SentTable::new(alloc);
         offers.push(Offer {
             present: !failed[place],
             offered,
             stamps,
+            table,
         })?;
     }
     Ok(offers)
@@ -78,7 +82,8 @@ fn offered(
         Kind::Input => {
             let injected = injected_count(events, node);
             let exhausted = injected == batches.count(node.place());
-            Ok(Offered::Listed(records(alloc, injected, exhausted)?))
+            let records = records(alloc, injected, exhausted)?;
+            Ok(Offered::Listed(Records::of(records)))
         }
         Kind::OutputEpoch | Kind::OutputNumber => Ok(Offered::Between {
             least: Front::empty(alloc, &flow.domain(node))?,
@@ -133,8 +138,8 @@ fn bare(alloc: Global, front: Front) -> Recorded
     Recorded {
         front,
         notified: Front::all(alloc),
-        delivered: Vec::new(alloc),
-        discarded: Vec::new(alloc),
+        delivered: OfEdges::of(Vec::new(alloc)),
+        discarded: OfEdges::of(Vec::new(alloc)),
     }
 }
 
@@ -147,15 +152,15 @@ fn stamps(
     node: NodeId,
 ) -> Result<Stamps, AllocError>
     requires { AreAtNodes flow.now (reverse events.now) }
-    ensures delivered { IfOk result (λ s. s.delivered.items ≡ spec.deliveries_to flow.now node (reverse events.now)) }
-    ensures notified { IfOk result (λ s. s.notified.items ≡ flat_map (stamp_of_notice node) (reverse events.now)) }
+    ensures delivered { IfOk result (λ s. s.delivered ≡ spec.deliveries_to flow.now node (reverse events.now)) }
+    ensures notified { IfOk result (λ s. s.notified ≡ flat_map (stamp_of_notice node) (reverse events.now)) }
     ensures sent { IfOk result
-        (λ s. s.sent.items ≡ spec.sent_from (system_of flow.now batches.now) (reverse events.now) node) }
+        (λ s. s.sent ≡ spec.sent_from (system_of flow.now batches.now) (reverse events.now) node) }
 {
     Ok(Stamps {
-        delivered: delivered(alloc, flow, events, node)?,
-        notified: notified(alloc, events, node)?,
-        sent: sent(alloc, flow, batches, events, node)?,
+        delivered: CountedMessages::of(delivered(alloc, flow, events, node)?),
+        notified: Notices::of(notified(alloc, events, node)?),
+        sent: CountedMessages::of(sent(alloc, flow, batches, events, node)?),
     })
 }
 
@@ -189,7 +194,7 @@ fn add_delivery(
 {
     if let Event::Deliver { edge, message } = event {
         if flow.dst(*edge) == node {
-            delivered.push(alone(*edge, message)?)?;
+            delivered.push(alone(*edge, message))?;
         }
     }
     Ok(())

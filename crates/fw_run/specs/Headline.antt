@@ -11,12 +11,12 @@ use Rattle.fw_model.specs.Denotation.{Family, IsDenotation}
 use Rattle.fw_model.specs.History.{IsLegal}
 use Rattle.fw_model.specs.Machine.{Machine, events, first_state, bound_of, is_failed}
 use Rattle.fw_model.specs.Steps.{cuts, Outcome, did, Steps, Run}
+use Rattle.fw_model.specs.Acknowledgements.{IsDenoted, stamps_acknowledged, first_stamps}
 use Rattle.fw_run.specs.declared.status.Status.{Status}
 use Rattle.fw_run.specs.declared.status.Status.TheVariants.{Done, ReadFault, WriteFault, NoMemory}
 use Rattle.fw_run.specs.Printed.{text_of}
 use Rattle.fw_run.specs.Texts.{Texts, spelled_system, spelled_steps, AreAccepted, AreThere}
 use Rattle.fw_run.specs.Words.{TextNames}
-use Rattle.fw_model.specs.Acknowledgements.{IsDenoted, stamps_acknowledged, first_stamps}
 
 -- the machine takes the steps from its first state, and this is the text of what comes of them
 pub record PrintsRun (sys : System) (steps : List Step) (printed : List ℕ) : Type 0 where

@@ -11,8 +11,8 @@ ghost use Rattle.rows_of_values.specs.Written.{IsOfferOf, IsOfferedBy};
 
 use crate::spell::{part, stamp_of, stamps_of};
 use fw_flow::{
-    Causes, Choice, Counted, Cut, EdgeId, Flow, Kind, NodeId, OfEdge, Offer, Offered, Recorded,
-    Restoring, Stamps,
+    Causes, Choice, Counted, CountedMessages, Cut, EdgeId, Flow, NodeId, Notices, OfEdge, OfEdges,
+    Offer, Offered, Recorded, Records, Restoring, SentTable, Stamps,
 };
 use fw_frontier::Front;
 use fw_monitor::largest;
@@ -61,8 +61,8 @@ fn record(alloc: Global, flow: &Flow, node: NodeId, word: &str) -> Result<Record
     Ok(Recorded {
         front: front(alloc, &domain, outside)?,
         notified: front(alloc, &domain, held)?,
-        delivered: of_edges(alloc, flow, flow.in_edges(node), held)?,
-        discarded: of_edges(alloc, flow, flow.out_edges(node), held)?,
+        delivered: OfEdges::of(of_edges(alloc, flow, flow.in_edges(node), held)?),
+        discarded: OfEdges::of(of_edges(alloc, flow, flow.out_edges(node), held)?),
     })
 }
 
@@ -97,7 +97,7 @@ fn offered(alloc: Global, flow: &Flow, node: NodeId, text: &str) -> Result<Offer
     ensures { IfOk result (λ o. IsOfferedBy flow.now node o) }
 {
     if is_listed(flow.restoring(node)) {
-        return Ok(Offered::Listed(records(alloc, flow, node, text)?));
+        return Ok(Offered::Listed(Records::of(records(alloc, flow, node, text)?)));
     }
     let (least, greatest) = text.split_once("to").unwrap_or((text, text));
     let domain = flow.domain(node);
@@ -108,8 +108,9 @@ fn offered(alloc: Global, flow: &Flow, node: NodeId, text: &str) -> Result<Offer
 }
 
 // A message by its edge, its stamp and its cause, which is its stamp if none is written.
-fn message(flow: &Flow, word: &str) -> Option<Counted>
-    ensures { IfSome result (λ m. in_domain (bounds_of flow.now (receiver flow.now m.edge)) m.at ≡ true) }
+fn message(alloc: Global, flow: &Flow, word: &str) -> Result<Option<Counted>, AllocError>
+    ensures { IfOk result (λ message. IfSome message
+        (λ m. in_domain (bounds_of flow.now (receiver flow.now m.edge)) m.at ≡ true)) }
 {
     let (edge, rest) = word.split_once(':').unwrap_or((word, ""));
     let (at, cause) = rest.split_once(':').unwrap_or((rest, rest));
@@ -118,17 +119,17 @@ fn message(flow: &Flow, word: &str) -> Option<Counted>
         stamp_of(alloc, at)?,
         stamp_of(alloc, cause)?,
     ) else {
-        return None;
+        return Ok(None);
     };
     if !at.in_domain(&flow.domain(flow.dst(edge))) {
-        return None;
+        return Ok(None);
     }
-    Some(Counted {
+    Ok(Some(Counted {
         edge,
         at,
         causes: Causes::of(cause),
         count: 1,
-    })
+    }))
 }
 
 fn messages(alloc: Global, flow: &Flow, text: &str) -> Result<Vec<Counted>, AllocError>
@@ -136,7 +137,7 @@ fn messages(alloc: Global, flow: &Flow, text: &str) -> Result<Vec<Counted>, Allo
 {
     let mut messages = Vec::new(alloc);
     for word in text.split_whitespace() {
-        if let Some(message) = message(flow, word) {
+        if let Some(message) = message(alloc, flow, word)? {
             messages.push(message)?;
         }
     }
@@ -158,16 +159,6 @@ fn notified(alloc: Global, flow: &Flow, node: NodeId, text: &str) -> Result<Vec<
     Ok(stamps)
 }
 
-// What a node sent; of a sequence nothing, since its messages would have to come from epochs alone.
-fn sent(alloc: Global, flow: &Flow, node: NodeId, text: &str) -> Result<Vec<Counted>, AllocError>
-    ensures { IfOk result (λ sent. spec.AreSentBy flow.now node sent.items) }
-{
-    if matches!(flow.kind(node), Kind::Sequence) {
-        return Ok(Vec::new(alloc));
-    }
-    messages(alloc, flow, text)
-}
-
 // A column of a line, and the rest.
 fn column(line: &str) -> (&str, &str) {
     line.split_once('|').unwrap_or((line, ""))
@@ -185,15 +176,16 @@ fn offer(alloc: Global, flow: &Flow, node: NodeId, line: &str) -> Result<Offer, 
     let offered = offered(alloc, flow, node, fronts)?;
     let delivered = messages(alloc, flow, delivered)?;
     let notified = notified(alloc, flow, node, noted)?;
-    let sent = sent(alloc, flow, node, sent_words)?;
+    let sent = messages(alloc, flow, sent_words)?;
     Ok(Offer {
         present: !state.contains("failed"),
         offered,
         stamps: Stamps {
-            delivered,
-            notified,
-            sent,
+            delivered: CountedMessages::of(delivered),
+            notified: Notices::of(notified),
+            sent: CountedMessages::of(sent),
         },
+        table: SentTable::new(alloc),
     })
 }
 

@@ -1,15 +1,17 @@
 //! The complete frontiers.
 ghost use Rattle.std.specs.Prelude.{◌≡◌, ◌&&◌, ℕ, ◌<◌, ◌↔◌, [], length, reverse, IsTrue, IfOk};
+ghost use Rattle.std.specs.List.Sorted.{IsPermutation};
 ghost use Rattle.fw_frontier.specs.Front.{inside, frontier_of, IsCanonical, Names};
-ghost use Rattle.fw_frontier.specs.Frontier.{Within};
+ghost use Rattle.fw_frontier.specs.Frontier.{Frontier, Within};
 ghost use Rattle.fw_flow.specs.WellFormed.{IsWellFormed};
 ghost use Rattle.fw_flow.specs.Dataflow.{kind_of, sender, receiver, bounds_of, system_of};
 ghost use Rattle.fw_flow.specs.Projection as projection;
-ghost use Rattle.fw_flow.specs.Projection.{IsSentTable};
+ghost use Rattle.fw_flow.specs.Projection.{IsSentTable, table_count};
 ghost use Rattle.fw_model.specs.History.{IsComplete, AreAtNodes};
 ghost use Rattle.fw_model.specs.Machine.{front_of, family_of, AreCanonical};
 ghost use Rattle.fw_plain.specs.Clear as spec;
 ghost use Rattle.fw_plain.specs.Clear.{IsClear};
+ghost use Rattle.fw_flow.specs.SentTable.{AreInOrder};
 
 use super::clear::clear;
 use super::sending::sends;
@@ -163,7 +165,7 @@ fn sent_table(
     ensures others { (kind_of flow.now node ≡ Kind.Sequence → ⊥) → IfOk result (λ table. table ≡ []) }
 {
     if !flow.kind(node).is_sequence() {
-        return Ok(SentTable::new(Vec::new(alloc)));
+        return Ok(SentTable::new(alloc));
     }
     let mut entries = Vec::new(alloc);
     for (i, event) in events.iter().enumerate() {
@@ -172,7 +174,29 @@ fn sent_table(
             entries.push((epoch, sent.len() as u64))?;
         }
     }
-    Ok(SentTable::new(entries))
+    table_of(alloc, entries)
+}
+
+/// The table of these epochs with their counts, which may come in any order.
+fn table_of(alloc: Global, entries: Vec<(u32, u64)>) -> Result<SentTable, AllocError>
+    ensures { IfOk result (λ table. (f : Frontier) → table_count f table ≡ table_count f entries.items) }
+{
+    let entries = in_order(entries);
+    let mut table = SentTable::new(alloc);
+    for entry in &entries {
+        let (epoch, count) = *entry;
+        table.push(epoch, count)?;
+    }
+    Ok(table)
+}
+
+/// The entries in the order of their epochs.
+fn in_order(mut entries: Vec<(u32, u64)>) -> Vec<(u32, u64)>
+    ensures same { IsPermutation entries.items result.items }
+    ensures in_order { AreInOrder result.items }
+{
+    entries.sort_unstable_by_key(|entry| entry.0);
+    entries
 }
 
 /// The first number of the stamp of which an event notifies the node, if it does.

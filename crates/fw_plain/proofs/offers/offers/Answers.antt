@@ -13,7 +13,7 @@ loop-place-preserved c =
     let h = reverse c.args.events.now in
     let n = c.loop-place.place in
     let offers = c.loop-place.offers.items in
-    let o : Offer = record { present = not (get_or c.args.failed.now n false); offered = c.in_ok-offered.offered; stamps = c.in_ok-stamps.stamps } in
+    let o : Offer = record { present = not (get_or c.args.failed.now n false); offered = c.in_ok-offered.offered; stamps = c.in_ok-stamps.stamps; table = c.new-table.result } in
     record {
       one_each = omega (arith, ap length c.in_ok-push.ensures.items, length-append {A = Offer}, c.loop-place.invariant.one_each);
       each = subst (λ (os : List Offer). AreOffersFrom sys h c.args.settled.now c.args.bounds.now c.args.failed.now 0 os) (sym c.in_ok-push.ensures.items)

@@ -20,11 +20,9 @@ use Rattle.fw_model.specs.Choice.{IsChoiceWithin, IsConsistent, IsCutWithin, cut
 use Rattle.fw_model.specs.Covers.{covers_in}
 use Rattle.fw_model.specs.Machine.{Machine, events, first_state, front_of, is_failed}
 use Rattle.fw_model.specs.Steps.{did, offers, quiet, with_event}
-use Rattle.fw_examples.specs.Flows.{pair}
+use Rattle.fw_examples.specs.Flows.{pair, one_select_flow, two_sources_flow}
 use Rattle.fw_examples.specs.Inclusions.{DeliveredIsNeeded, DiscardedIsNeeded, Inclusion, IsConsistentWithout, IsFailedAfterNotice, IsNeededForHistories, LeavesAHistory, LeavesOutOne, Meets, NotesAreNeeded, NotifiedIsNeeded, OwnIsNeeded, all, input_kept, nothing_kept, of_delivered, of_discarded, of_notes, of_notified, of_own, one_comes, one_selected, output_kept, sum_kept, sum_undone}
 use Rattle.fw_examples.specs.Logs.{none}
-use Rattle.fw_examples.specs.OneSelect.{one_select_flow}
-use Rattle.fw_examples.specs.TwoSources.{two_sources_flow}
 use Rattle.fw_examples.proofs.Choosing.{above_by, are_offered, canonical_notes, consistent_by, delivered_by, discarded_by, is_delivered_kept, is_discarded_kept, is_in_cut, is_note_kept, is_notified_kept, notes_by, notified_by, offered_by, offered_within, own_by, sender_within, set_within}
 use Rattle.fw_examples.proofs.Fronts.{by_six, by_three, each_below, is_canonical}
 use Rattle.fw_examples.proofs.Plays.{Move, after_all, deliver, fail, inject, plays}

@@ -8,10 +8,6 @@ pub mod Logs
 pub mod Witnesses
 pub mod LeavingOut
 pub mod NumbersRun
-pub mod Walks
 pub mod Loop
-pub mod Projecting
-pub mod RestoringApplied
-pub mod LawsApplied
-pub mod SendingApplied
+pub mod Applied
 pub mod OffersOfTotals

@@ -32,12 +32,10 @@ use Rattle.fw_examples.specs.Flows.{loop_counts_up, pair, two_batches}
 use Rattle.fw_examples.specs.Loop.{IsRestored, IsUnderWay, complete_at, complete_fronts, counted_rounds, counting_failed, message, outcomes_left, outcomes_shown, restored, round, steps_left, steps_taken, still_pending, under_way, with_serials, without_the_second}
 use Rattle.fw_examples.specs.Witnesses.{LoopIsReached}
 use Rattle.fw_examples.proofs.Choosing.{canonical_notes, notified_by, offered_by, offered_within, own_by, recovers_to, set_within}
-use Rattle.fw_examples.proofs.Fronts.{all_seven, by_seven}
+use Rattle.fw_examples.proofs.Fronts.{all_seven, by_seven, and_more, both_more, not_above, within_one, within_two}
 use Rattle.fw_examples.proofs.Plays.{Move, acknowledge, after_all, deliver, fail, inject, plays}
-use Rattle.fw_examples.proofs.Projecting.{and_more, both_more, feedback_projects, leave_projects, not_above, within_one, within_two}
 use Rattle.fw_examples.proofs.Settling.{admissible_with, settles, settles_complete}
-use Rattle.fw_examples.proofs.Walks.{is_well_formed}
-use Rattle.fw_examples.proofs.WellFormed.{system_by}
+use Rattle.fw_examples.proofs.WellFormed.{is_well_formed, system_by}
 use Rattle.fw_flow.specs.declared.step.Step.TheVariants as step
 
 -- what comes of the first batch
@@ -112,10 +110,14 @@ pub feeds_more : (f g : Frontier) → Within f g → (t : Stamp) → phi two_bat
 unfolding phi kind_of sender receiver bounds_of max_of
 feeds_more f g w t h = and_more _ _ _ (or_monotone _ _ _ (w (nest (outer t) (counter t - 1)))) h
 
+fed_back : Within (phi two_batches under_way 4 (complete_at 4)) (complete_at 2)
+unfolding phi kind_of sender receiver bounds_of max_of
+fed_back = within_two 4294967295 3 _ _ (λ x y hx hy k. grind (arith, nat_tests))
+
 most_mixing : (other : ℕ → Frontier) → IsAdmissible two_batches under_way other → Within (other 2) (complete_at 2)
 unfolding kind_of sender receiver bounds_of max_of
 most_mixing other adm t h =
-    (feedback_projects.phi_of_some under_way).same t ∙ feeds_more (other 4) (complete_at 4) (most_feedback other adm) t (adm.follows 4 t h)
+    fed_back t (feeds_more (other 4) (complete_at 4) (most_feedback other adm) t (adm.follows 4 t h))
 
 most_counting : (other : ℕ → Frontier) → IsAdmissible two_batches under_way other → Within (other 3) (complete_at 3)
 unfolding phi kind_of sender receiver bounds_of max_of sends batches_of
@@ -141,10 +143,14 @@ leaves_more f g w t h =
     and_more _ _ _
     (both_more _ _ _ _ (w (nest t 3)) (both_more _ _ _ _ (w (nest t 2)) (both_more _ _ _ _ (w (nest t 1)) (w (nest t 0))))) h
 
+left : Within (phi two_batches under_way 6 (complete_at 5)) (complete_at 6)
+unfolding phi kind_of sender receiver bounds_of max_of
+left = within_one 4294967295 _ _ (λ x hx k. grind (arith, nat_tests))
+
 most_output : (other : ℕ → Frontier) → IsAdmissible two_batches under_way other → Within (other 6) (complete_at 6)
 unfolding kind_of sender receiver bounds_of max_of
 most_output other adm t h =
-    (leave_projects.phi_of_nothing under_way).same t ∙ leaves_more (other 5) (complete_at 5) (most_leaving other adm) t (adm.follows 6 t h)
+    left t (leaves_more (other 5) (complete_at 5) (most_leaving other adm) t (adm.follows 6 t h))
 
 most : (other : ℕ → Frontier) → IsAdmissible two_batches under_way other → (p : ℕ) → Within (other p) (complete_at p)
 most other adm = all_seven _

@@ -13,11 +13,10 @@ use Rattle.fw_flow.specs.declared.choice.Counted.{Counted}
 use Rattle.fw_flow.specs.declared.choice.Cut.{Cut}
 use Rattle.fw_flow.specs.declared.choice.Cut.TheVariants.{At, Present}
 use Rattle.fw_flow.specs.declared.event.Message.{Message}
-use Rattle.fw_flow.specs.declared.kind.Kind.TheVariants.{Sequence}
 use Rattle.fw_model.specs.Choice.{IsCandidate, kept, until}
 use Rattle.fw_model.specs.Covers.{covers_in, stamps_from}
 use Rattle.fw_model.specs.Machine.{is_failed}
-use Rattle.fw_model.specs.Offers.{AreAscending, AreFromEpochs, AreOffersIn, AreOffersOf, IsOffered, covers_of, sent_by, stamps_on_from}
+use Rattle.fw_model.specs.Offers.{AreAscending, AreOffersIn, AreOffersOf, IsOffered, covers_of, stamps_on_from}
 use Rattle.fw_examples.specs.OffersOfTotals.{CheckpointsAreOffered, offers_of_totals}
 use Rattle.fw_examples.specs.RunningTotal.{at_epoch, output_failed, total_flow, totals, two_epochs_kept, two_kept_noting}
 use Rattle.fw_examples.proofs.Choosing.{until_more}

@@ -16,7 +16,7 @@ use Rattle.fw_model.specs.Machine.{Machine, first_state, is_failed}
 use Rattle.fw_model.specs.Steps.{Outcome, Run, Steps, acked, collected_writes, cuts, did, lows, offers, quiet, recs_at_output, with_event}
 use Rattle.fw_model.specs.Unions.{IsUnionOfChoices}
 use Rattle.fw_model.proofs.GoingOn.{runs-go_on}
-use Rattle.fw_examples.specs.OneSelect.{out}
+use Rattle.fw_examples.specs.Flows.{out}
 use Rattle.fw_examples.specs.RunningTotal.{alike, at_epoch, come_back, epoch_kept, outcomes_of_failure, outcomes_of_sum, outcomes_through_recovery, outcomes_to_failure, outcomes_up_to_two, outcomes_without_failure, output_failed, run, steps_of_failure, steps_of_sum, steps_through_recovery, steps_to_failure, steps_up_to_two, steps_without_failure, total_flow, totals, two_epochs_kept, two_kept_noting}
 use Rattle.fw_examples.proofs.Choosing.{above_by, consistent_by, largest_by, lies, offered_by, offered_within, recovers_to, sender_within}
 use Rattle.fw_examples.proofs.Fronts.{by_three, canonical_by, join_by, join_other}

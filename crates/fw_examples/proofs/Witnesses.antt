@@ -30,14 +30,12 @@ use Rattle.fw_examples.specs.Numbers.{numbered_both, numbers}
 use Rattle.fw_examples.specs.RunningTotal.{alike, come_back, next_epochs, outcomes_to_failure, output_failed, steps_to_failure, totals, totals_denoted, two_epochs, two_epochs_kept}
 use Rattle.fw_examples.specs.Witnesses.{AnEpochIsClosed, ChoicesUnite, CutsUnite, EachStepHasItsChoice, FailureIsReached, JoinIsAFrontier, LessIsConsistent, LoopIsFiltered, LowWatermarkRises, MoreIsComplete, NotifiedAndGoesOn, NumbersAreDelivered, OneIsOnItsWay, RecoveryIsReached, SequenceIsFiltered, SomeIsSettled, SomethingIsChosen, TotalsAreFiltered, TotalsAreWellFormed, TwoEpochsAreComplete, TwoRunsMeet, both_rounds, first_rounds, kept_epoch}
 use Rattle.fw_examples.proofs.Choosing.{lies}
-use Rattle.fw_examples.proofs.Fronts.{all_seven, canonical_by}
+use Rattle.fw_examples.proofs.Fronts.{all_seven, canonical_by, within_two}
 use Rattle.fw_examples.proofs.Loop.{loop_is_reached, loop_is_restored, restored_is_largest, under_way_is_complete, under_way_is_legal, under_way_leaves}
 use Rattle.fw_examples.proofs.NumbersRun.{numbers_are_legal, numbers_have_epochs, regroup_is_well_formed}
-use Rattle.fw_examples.proofs.Projecting.{within_two}
 use Rattle.fw_examples.proofs.Settling.{admissible_by, closed_by, complete_by}
 use Rattle.fw_examples.proofs.TotalRuns.{after_failure, collects, epoch_consistent, failed_run, kept_consistent, kept_largest, noting_less, noting_none, recovers, run_through_recovery, run_without_failure, runs_to_two, sum_acknowledged, ten_acknowledged, totals_formed, two_collected, two_offered, union_of_both}
-use Rattle.fw_examples.proofs.Walks.{is_well_formed}
-use Rattle.fw_examples.proofs.WellFormed.{system_by}
+use Rattle.fw_examples.proofs.WellFormed.{is_well_formed, system_by}
 
 totals_system : IsWellFormedSystem totals
 unfolding kind_of batches_of

@@ -11,9 +11,7 @@ use Rattle.fw_model.specs.Covers.{covers_in}
 use Rattle.fw_model.specs.History.{IsLegal, pending}
 use Rattle.fw_model.specs.Machine.{Machine, events, first_state, front_of}
 use Rattle.fw_model.specs.Steps.{Run, did, offers, quiet}
-use Rattle.fw_examples.specs.Flows.{pair}
-use Rattle.fw_examples.specs.OneSelect.{big, big_to_out, one_select, src, src_to_big}
-use Rattle.fw_examples.specs.TwoSources.{first_source, first_to_mix, low, mix_to_tot, second_source, second_to_low, tot, two_sources}
+use Rattle.fw_examples.specs.Flows.{pair, big, big_to_out, one_select, src, src_to_big, first_source, first_to_mix, low, mix_to_tot, second_source, second_to_low, tot, two_sources}
 
 -- the five inclusions of a consistent choice
 pub data Inclusion : Type 0 where

@@ -1,15 +1,10 @@
 pub mod Flows
 pub mod Loop
-pub mod Projections
-pub mod OneSelect
-pub mod TwoSources
 pub mod Inclusions
 pub mod Logs
 pub mod RunningTotal
 pub mod Numbers
 pub mod Witnesses
-pub mod LawsApplied
-pub mod RestoringApplied
-pub mod SendingApplied
+pub mod Applied
 pub mod KindsSend
 pub mod OffersOfTotals

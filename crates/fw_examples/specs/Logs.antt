@@ -16,9 +16,8 @@ use Rattle.fw_model.specs.Choice.{IsLargest, kept_of, until}
 use Rattle.fw_model.specs.Machine.{Machine, Write, acknowledged, checkpoint, collected, first_state, front_of, logged_event}
 use Rattle.fw_model.specs.Resending.{logged_messages, messages_to_resend}
 use Rattle.fw_model.specs.Steps.{Outcome, Run, acked, cuts, did, is_given_up, lies_below, lows, offers, quiet, sends_inside}
-use Rattle.fw_examples.specs.Flows.{fed, pair}
+use Rattle.fw_examples.specs.Flows.{fed, pair, big, big_to_out, out, selecting, src, src_to_big}
 use Rattle.fw_examples.specs.Loop.{with_serials}
-use Rattle.fw_examples.specs.OneSelect.{big, big_to_out, out, selecting, src, src_to_big}
 use Rattle.fw_examples.specs.RunningTotal.{alike, run, run_to_out, src_to_run, summing}
 use Rattle.fw_flow.specs.declared.kind.Policy.TheVariants as policy
 

@@ -20,6 +20,10 @@ use Rattle.fw_model.specs.Steps.{Outcome, acked, cuts, did, quiet}
 use Rattle.fw_examples.specs.Flows.{loop_counts_up, pair, two_batches}
 use Rattle.fw_flow.specs.declared.step.Step.TheVariants as step
 
+-- the edge out of the feedback
+abbrev pub fed_back_edge : ℕ
+fed_back_edge = 4
+
 -- the edge to the output
 abbrev pub output_edge : ℕ
 output_edge = 6

@@ -18,9 +18,8 @@ use Rattle.fw_model.specs.Choice.{until}
 use Rattle.fw_model.specs.Denotation.{Family, rounds}
 use Rattle.fw_model.specs.Machine.{Machine, acknowledged, checkpoint, collected, in_flight}
 use Rattle.fw_model.specs.Steps.{Outcome, acked, cuts, did, lows, quiet}
-use Rattle.fw_examples.specs.Flows.{fed, in_a_row, node, pair}
+use Rattle.fw_examples.specs.Flows.{fed, in_a_row, node, pair, out, src}
 use Rattle.fw_examples.specs.Loop.{with_serials}
-use Rattle.fw_examples.specs.OneSelect.{out, src}
 use Rattle.fw_flow.specs.declared.kind.Policy.TheVariants as policy
 
 -- the running total

@@ -1,7 +1,6 @@
 //! Why a consistent choice has to meet each of its five inclusions.
 ghost use Rattle.fw_flow.specs.WellFormed.{IsWellFormed};
-ghost use Rattle.fw_examples.specs.OneSelect.{one_select_flow};
-ghost use Rattle.fw_examples.specs.TwoSources.{two_sources_flow};
+ghost use Rattle.fw_examples.specs.Flows.{one_select_flow, two_sources_flow};
 ghost use Rattle.fw_examples.specs.Inclusions.{LeavesOutOne, DeliveredIsNeeded, DiscardedIsNeeded, NotifiedIsNeeded, OwnIsNeeded, NotesAreNeeded};
 
 /// Leaving out one inclusion leaves out nothing else.

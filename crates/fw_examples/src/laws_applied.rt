@@ -1,5 +1,5 @@
 //! What the laws say of their witnesses.
-ghost use Rattle.fw_examples.specs.LawsApplied.{ChoicesApply, ChoosingApplies, DeliveriesApply, FilteringApplies, LegalHistoriesApply, RunsApply, StepsApply};
+ghost use Rattle.fw_examples.specs.Applied.{ChoicesApply, ChoosingApplies, DeliveriesApply, FilteringApplies, LegalHistoriesApply, RunsApply, StepsApply};
 
 /// The laws of runs and of recoveries.
 pub fn runs_apply()

@@ -1,5 +1,5 @@
 //! What the laws of restoring say of the running total, of the loop, and of a select that logs.
-ghost use Rattle.fw_examples.specs.RestoringApplied.{CollectionRestored, LogsRestored, RestoringApplies};
+ghost use Rattle.fw_examples.specs.Applied.{CollectionRestored, LogsRestored, RestoringApplies};
 
 /// The laws of restoring.
 pub fn restoring_applies()

@@ -1,5 +1,5 @@
 //! What the laws of projections, of sending and of the denotation say of what meets what they ask.
-ghost use Rattle.fw_examples.specs.SendingApplied.{DenotationApplies, ProjectionsApply, SendingApplies};
+ghost use Rattle.fw_examples.specs.Applied.{DenotationApplies, ProjectionsApply, SendingApplies};
 
 /// The laws of projections.
 pub fn projections_apply()

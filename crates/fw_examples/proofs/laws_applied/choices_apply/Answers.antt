@@ -1,4 +1,4 @@
-use Rattle.fw_examples.proofs.LawsApplied.{choices_apply}
+use Rattle.fw_examples.proofs.Applied.{choices_apply}
 use Rattle.fw_examples.proofs.laws_applied.choices_apply.Goals as goal
 
 pub returns : goal.returns

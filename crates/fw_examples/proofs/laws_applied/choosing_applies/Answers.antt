@@ -1,4 +1,4 @@
-use Rattle.fw_examples.proofs.LawsApplied.{choosing_applies}
+use Rattle.fw_examples.proofs.Applied.{choosing_applies}
 use Rattle.fw_examples.proofs.laws_applied.choosing_applies.Goals as goal
 
 pub returns : goal.returns

@@ -1,4 +1,4 @@
-use Rattle.fw_examples.proofs.LawsApplied.{runs_apply}
+use Rattle.fw_examples.proofs.Applied.{runs_apply}
 use Rattle.fw_examples.proofs.laws_applied.runs_apply.Goals as goal
 
 pub returns : goal.returns

@@ -1,4 +1,4 @@
-use Rattle.fw_examples.proofs.LawsApplied.{steps_apply}
+use Rattle.fw_examples.proofs.Applied.{steps_apply}
 use Rattle.fw_examples.proofs.laws_applied.steps_apply.Goals as goal
 
 pub returns : goal.returns

@@ -1,4 +1,4 @@
-use Rattle.fw_examples.proofs.RestoringApplied.{logs_restored}
+use Rattle.fw_examples.proofs.Applied.{logs_restored}
 use Rattle.fw_examples.proofs.restoring_applied.logs_restored.Goals as goal
 
 pub returns : goal.returns

@@ -1,4 +1,4 @@
-use Rattle.fw_examples.proofs.RestoringApplied.{restoring_applies}
+use Rattle.fw_examples.proofs.Applied.{restoring_applies}
 use Rattle.fw_examples.proofs.restoring_applied.restoring_applies.Goals as goal
 
 pub returns : goal.returns

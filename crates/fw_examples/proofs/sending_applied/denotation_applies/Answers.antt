@@ -1,4 +1,4 @@
-use Rattle.fw_examples.proofs.SendingApplied.{denotation_applies}
+use Rattle.fw_examples.proofs.Applied.{denotation_applies}
 use Rattle.fw_examples.proofs.sending_applied.denotation_applies.Goals as goal
 
 pub returns : goal.returns

@@ -29,7 +29,7 @@ use Rattle.fw_model.proofs.GoingOn.{runs-go_on}
 use Rattle.fw_model.proofs.PhiLaws.{or_monotone}
 use Rattle.fw_model.proofs.RecoveryLaws.{runs-legal}
 use Rattle.fw_examples.specs.Flows.{loop_counts_up, pair, two_batches}
-use Rattle.fw_examples.specs.Loop.{IsRestored, IsUnderWay, complete_at, complete_fronts, counted_rounds, counting_failed, message, outcomes_left, outcomes_shown, restored, round, steps_left, steps_taken, still_pending, under_way, with_serials, without_the_second}
+use Rattle.fw_examples.specs.Loop.{TwoBatchesCountUp, IsRestored, IsUnderWay, complete_at, complete_fronts, counted_rounds, counting_failed, message, outcomes_left, outcomes_shown, restored, round, steps_left, steps_taken, still_pending, under_way, with_serials, without_the_second}
 use Rattle.fw_examples.specs.Witnesses.{LoopIsReached}
 use Rattle.fw_examples.proofs.Choosing.{canonical_notes, notified_by, offered_by, offered_within, own_by, recovers_to, set_within}
 use Rattle.fw_examples.proofs.Fronts.{all_seven, by_seven, and_more, both_more, not_above, within_one, within_two}
@@ -73,6 +73,9 @@ pub two_batches_no_more : (t : Stamp) → same t (0 ∷ []) ≡ false → same t
 two_batches_no_more t h k =
     ap (recs_where (same t)) two_batches_at_output
     ∙ recs_where-none t (0 ∷ []) first_values (timed (1 ∷ []) second_values ++ []) h (recs_where-none t (1 ∷ []) second_values [] k refl)
+
+pub two_batches_count_up : TwoBatchesCountUp
+two_batches_count_up = record { solves = two_batches_solves; first = two_batches_first; second = two_batches_second; no_more = two_batches_no_more }
 
 -- ---- the complete frontiers of the loop with both batches under way
 

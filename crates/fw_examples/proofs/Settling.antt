@@ -8,11 +8,11 @@ use Rattle.std.proofs.lemmas.List.{get_or_past}
 use Rattle.fw_time.specs.Stamp.{Stamp, in_domain, leq, lesser, same, stamp_cmp}
 use Rattle.fw_time.specs.declared.stamp.Bounds.{Bounds}
 use Rattle.fw_time.proofs.EachLaws.{each-of_all, each-weaker}
-use Rattle.fw_time.proofs.StampLaws.{leq-trans}
+use Rattle.fw_time.proofs.StampLaws.{leq-trans, same-is}
 use Rattle.fw_frontier.specs.Front.{Front, all_in_domain, frontier_of, inside, is_within}
 use Rattle.fw_frontier.specs.Frontier.{Frontier, IsFrontier, Within, everything}
 use Rattle.fw_frontier.proofs.NamesLaws.{frontier-closed, is_within-holds}
-use Rattle.fw_flow.specs.Dataflow.{Dataflow, System, bounds_of, bounds_of_domain, domain_of_kind, greatest_number, greatest_of_kind, is_input_kind, is_notified_kind, kind_of, out_domain_of_kind, receiver, sender, places}
+use Rattle.fw_flow.specs.Dataflow.{Dataflow, System, bounds_of, bounds_of_domain, domain_of_kind, greatest_number, greatest_of_kind, is_input_kind, is_notified_kind, kind_of, out_domain_of_kind, places, receiver, sender}
 use Rattle.fw_flow.specs.Projection.{first_number_of, phi, phi_of_kind, psi, psi_of_kind, sent_count}
 use Rattle.fw_flow.specs.WellFormed.{IsWellFormed}
 use Rattle.fw_flow.specs.declared.event.Event.{Event}
@@ -21,22 +21,16 @@ use Rattle.fw_flow.specs.declared.kind.Kind.{Kind}
 use Rattle.fw_flow.specs.declared.kind.Kind.TheVariants.{Enter, Feedback, Leave, Regroup, Sequence}
 use Rattle.fw_flow.specs.declared.node.Edge.{Edge}
 use Rattle.fw_flow.specs.declared.step.Step.TheVariants.{Progress}
-use Rattle.fw_model.specs.History.{IsAdmissible, IsComplete, IsNotifiable, IsQuiet, injected_count, injected_epochs, is_exhausted, owed, pending, some_at, was_delivered_to, was_notified, IsClosedFor}
-use Rattle.fw_model.specs.Machine.{Machine, events, front_of, is_failed, no_stamps}
-use Rattle.fw_model.specs.Plain.{family_of}
+use Rattle.fw_flow.proofs.EdgeLaws.{kind-past}
+use Rattle.fw_model.specs.History.{IsAdmissible, IsClosedFor, IsComplete, IsNotifiable, IsQuiet, injected_count, injected_epochs, is_exhausted, owed, pending, some_at, was_delivered_to, was_notified}
+use Rattle.fw_model.specs.Machine.{Machine, events, family_of, front_of, is_failed, no_stamps}
 use Rattle.fw_model.specs.Steps.{Steps, did, eager_writes, quiet, with_event}
-use Rattle.fw_model.proofs.ClearSteps.{input-bounds}
-use Rattle.fw_model.proofs.CompleteSteps.{not_past}
 use Rattle.fw_model.proofs.Decisions.{two_ways}
 use Rattle.fw_model.proofs.DescentLaws.{past_edges-joined, past_edges-phi, past_edges-quiet}
-use Rattle.fw_model.proofs.LowLaws.{none-within}
+use Rattle.fw_model.proofs.LowLaws.{input-is, none-within}
 use Rattle.fw_model.proofs.MeetLaws.{phi-everything}
 use Rattle.fw_model.proofs.PhiLaws.{phi-monotone}
-use Rattle.fw_model.proofs.SendSteps.{kind-past}
-use Rattle.fw_model.proofs.StampLaws.{same-is}
-use Rattle.fw_examples.specs.RunningTotal.{alike}
-use Rattle.fw_examples.proofs.Fronts.{canonical_by, is_canonical, join_by, none_at, within_outside}
-use Rattle.fw_examples.proofs.Places.{each_below, each_below-at}
+use Rattle.fw_examples.proofs.Fronts.{canonical_by, each_below, each_below-at, is_canonical, join_by, none_at, within_outside}
 use Rattle.fw_flow.specs.declared.step.Step.TheVariants as step
 
 -- a kind whose messages are at the stamps of its events, so that phi and psi of a frontier are the frontier
@@ -85,7 +79,7 @@ pub from_phi : (sys : System) (h : List Event) (e : ℕ) (f : Frontier) → is_p
 unfolding phi
 from_phi sys h e f k u i = sym (plain_phi (greatest_of_kind sys.flow (kind_of sys.flow (sender sys.flow e))) (kind_of sys.flow (sender sys.flow e)) (sent_count sys h (sender sys.flow e) f) f u k) ∙ (and_parts _ _ i).1
 
-pub from_psi : (sys : System) (e : ℕ) (f : Frontier) → is_plain (kind_of sys.flow (sender sys.flow e)) ≡ true → Within (psi sys e f) f
+pub from_psi : (sys : System) (e : ℕ) (f : Frontier) → is_plain (kind_of sys.flow (sender sys.flow e)) ≡ true → Within (psi sys.flow e f) f
 unfolding psi
 from_psi sys e f k u i = sym (plain_psi (greatest_of_kind sys.flow (kind_of sys.flow (sender sys.flow e))) (kind_of sys.flow (sender sys.flow e)) f u k) ∙ (and_parts _ _ i).1
 
@@ -184,6 +178,10 @@ quiet_where sys h p test a t k e r = elim (cases_lt e (length sys.flow.edges)) [
 abbrev pub is_injected : System → List Event → ℕ → Front → Bool
 is_injected sys h s os = not (is_input_kind (kind_of sys.flow s)) || (is_exhausted sys h s || list_any (λ o. leq o (injected_count s h ∷ [])) os)
 
+input-bounds : (flow : Dataflow) (p : ℕ) → is_input_kind (kind_of flow p) ≡ true → bounds_of flow p ≡ record { greatest = greatest_number ∷ [] }
+unfolding bounds_of
+input-bounds flow p k = ap (λ kind. bounds_of_domain flow (domain_of_kind flow kind)) (input-is (kind_of flow p) k)
+
 -- an epoch that is not at or past a number is below it
 below_number : (n k : ℕ) (t : Stamp) → in_domain (record { greatest = n ∷ [] }) t ≡ true → leq (k ∷ []) t ≡ false → nat_lt (first_number_of t) k ≡ true
 below_number n k [] d l = absurd (false≢true d)
@@ -229,7 +227,7 @@ is_admissible sys h fronts = are_clear sys h fronts && do_follow sys fronts
 
 -- nothing is missing at a node past the last one
 past_node : (sys : System) (h : List Event) (p : ℕ) (t : Stamp) → length sys.flow.nodes ≤ p → owed sys h p t ≡ false
-past_node sys h p t l = not_past sys h p t (kind-past sys.flow p l)
+past_node sys h p t l = ap (λ kind. is_notified_kind kind && was_delivered_to sys.flow p t h && not (was_notified p t h)) (kind-past sys.flow p l)
 
 pub admissible_with : (sys : System) (h : List Event) (fronts : List Front) → IsWellFormed sys.flow → are_clear sys h fronts ≡ true
     → ((e : ℕ) → e < length sys.flow.edges → Within (family_of sys.flow fronts (receiver sys.flow e)) (phi sys h e (family_of sys.flow fronts (sender sys.flow e))))

@@ -11,25 +11,20 @@ use Rattle.fw_model.proofs.RunLaws.{acknowledgements-in_order}
 use Rattle.fw_flow.specs.declared.choice.Choice.{Choice}
 use Rattle.fw_model.specs.Choice.{View, kept, ever, IsCandidate, IsLargest}
 use Rattle.fw_model.specs.Denotation.{rounds}
-use Rattle.fw_model.specs.LawsOfDenotation.{enough_rounds}
 use Rattle.fw_model.specs.Machine.{is_failed}
-use Rattle.fw_model.specs.Plain.{system_of}
 use Rattle.fw_model.specs.Steps.{Effect, cuts}
 use Rattle.fw_run.proofs.RunLaws.{one_run}
-use Rattle.fw_run.proofs.TextLaws.{ready, well_formed_system, one_first_refusal, accepted_or_refused}
+use Rattle.fw_run.proofs.TextLaws.{well_formed_system, one_first_refusal, accepted_or_refused}
 use Rattle.fw_run.specs.declared.reading.Job.{Job}
 use Rattle.fw_run.specs.declared.status.Status.{Status}
 use Rattle.fw_run.specs.declared.status.Status.TheVariants.{Done, BadWords, Refused, ReadFault, WriteFault, NoMemory}
 use Rattle.fw_run.specs.Headline.{Prints, PrintsPart, IsPrinted, IsPartPrinted, IsRunEnd, StaysLegal, AcknowledgesInOrder, ShowsDenotation, HasOneRun, RecoversFailed, CutsToLargest}
-use Rattle.fw_run.specs.Reading.{IsReady, IsJob}
+use Rattle.fw_run.specs.Reading.{IsJob}
 use Rattle.fw_run.specs.Status.{TellsRefusal}
 use Rattle.fw_run.specs.Texts.{Texts, AreThere, AreAccepted, IsFirstRefusal, spelled_system, spelled_steps}
 use Rattle.fw_run.specs.Words.{TextNames}
-
--- a job is one that the plain engine runs
-pub ready_job : (told : Option (List ℕ → Option (List ℕ))) (names : TextNames) (job : Job) → IsJob told names job → IsReady (system_of job.flow job.batches) job.steps
-ready_job told names job j =
-    subst (λ sys. IsReady sys job.steps) (sym j.system) (subst (λ steps. IsReady (spelled_system j.texts) steps) (sym j.steps) (ready j.texts j.accepted))
+use Rattle.fw_flow.specs.Dataflow.{system_of}
+use Rattle.fw_model.specs.Measure.{enough_rounds}
 
 -- what is printed of a job is printed of its texts
 pub prints_job : (told : Option (List ℕ → Option (List ℕ))) (names : TextNames) (job : Job) (before after : Option (List ℕ)) → IsJob told names job
@@ -80,8 +75,8 @@ completes (Some folder) names NoMemory texts s t a bad refused = inr (inr (inr r
 
 pub texts-stay_legal : (texts : Texts) → AreAccepted texts → StaysLegal (spelled_system texts) (spelled_steps texts)
 texts-stay_legal texts a count outcomes state r =
-    let fit = ready texts a in
-    runs-legal (spelled_system texts) (take count (spelled_steps texts)) outcomes state fit.well_formed.flow (has_epochs (spelled_system texts) fit.well_formed) r
+    let w = well_formed_system texts a in
+    runs-legal (spelled_system texts) (take count (spelled_steps texts)) outcomes state w.flow (has_epochs (spelled_system texts) w) r
 
 pub texts-in_order : (texts : Texts) → AcknowledgesInOrder (spelled_system texts) (spelled_steps texts)
 texts-in_order texts outcomes last r = acknowledgements-in_order (spelled_system texts) (spelled_steps texts) outcomes last r

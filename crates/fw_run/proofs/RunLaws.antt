@@ -14,7 +14,8 @@ use Rattle.fw_model.proofs.GoingOn.{runs-go_on}
 use Rattle.fw_model.proofs.OneNextLaws.{one_next}
 use Rattle.fw_model.specs.Machine.{Machine, first_state}
 use Rattle.fw_model.specs.Steps.{Effect, Outcome, did, idle, LeadsTo, Steps, Run}
-use Rattle.fw_plain.specs.Engine.{Standing, is_plain_step}
+use Rattle.fw_flow.specs.Step.{is_plain_step, ArePlain}
+use Rattle.fw_plain.specs.Engine.{Standing}
 use Rattle.fw_run.specs.Headline.{IsPrinted, IsPartPrinted}
 use Rattle.fw_run.specs.Performing.{IsShownOf, IsStepPrinted, IsStepPartPrinted}
 use Rattle.fw_run.specs.Printed.{outcome_text, outcomes_text, is_idle, idle_count, done_line, text_of}
@@ -27,10 +28,6 @@ run_length sys state last [] [] r = refl
 run_length sys state last [] (o ∷ outcomes) r = absurd r
 run_length sys state last (step ∷ steps) [] r = absurd r
 run_length sys state last (step ∷ steps) (o ∷ outcomes) r = ap suc (run_length sys r.0 last steps outcomes r.2)
-
--- each of the steps is one that the plain engine takes
-abbrev pub ArePlain : List Step → Type 0
-ArePlain steps = AllByRecursion (λ step. is_plain_step step ≡ true) steps
 
 -- steps are a run from each state to which steps lead from the first one
 run_exists : (sys : System) → IsWellFormedSystem sys → (before : List Step) (earlier : List Outcome) (state : Machine) → Run sys (first_state sys) before earlier state → (steps : List Step)

@@ -1,12 +1,13 @@
 //! The steps are taken and what comes of them is printed.
 ghost use Rattle.std.specs.Prelude.{◌≡◌, ◌≤◌, true, IfOk, OnOk, OnErr, IsErrOf};
 ghost use Rattle.fw_outside.specs.Outside.{Rose, Takes, TakesPrefix};
-ghost use Rattle.fw_model.specs.Plain.{system_of};
-ghost use Rattle.fw_plain.specs.Engine.{is_plain_step, outcome_of};
+ghost use Rattle.fw_flow.specs.Step.{is_plain_step};
+ghost use Rattle.fw_plain.specs.Engine.{outcome_of};
 ghost use Rattle.fw_run.specs.Headline.{IsPrinted, IsPartPrinted};
 ghost use Rattle.fw_run.specs.Performing.{IsStepPrinted, IsStepPartPrinted, shown_bytes};
 ghost use Rattle.fw_run.specs.Printed as spec;
 ghost use Rattle.fw_run.specs.Reading.{IsReady};
+ghost use Rattle.fw_flow.specs.Dataflow.{system_of};
 
 use crate::reading::Job;
 use crate::text::{done_line, line_of};

@@ -6,10 +6,10 @@ use Rattle.fw_time.specs.Stamp.{in_domain}
 use Rattle.fw_flow.specs.declared.choice.Counted.{Counted}
 use Rattle.fw_flow.specs.declared.choice.Offer.{Offer}
 use Rattle.fw_flow.specs.declared.kind.Kind.TheVariants.{Sequence}
-use Rattle.fw_flow.specs.Dataflow.{Dataflow, kind_of, policy_of, bounds_of}
-use Rattle.fw_model.specs.Choice.{restoring}
-use Rattle.fw_monitor.specs.Offers.{listed, range, IsRecordOf, IsRangeOf, IsListedBy, AreOnEdges, AreFromEpochs, AreOffersOf}
+use Rattle.fw_flow.specs.Dataflow.{Dataflow, kind_of, bounds_of}
+use Rattle.fw_model.specs.Offers.{listed, range, IsRecordOf, IsRangeOf, IsListedBy, AreOnEdges, AreOffersOf}
 use Rattle.fw_monitor.proofs.LookUpLaws.{offer_past}
+use Rattle.fw_flow.specs.Restoring.{way_of}
 use Rattle.rows_of_values.specs.Written.{IsOfferOf, AreOffersFrom}
 
 each-last : {A : Type 0} (P : A → Type 0) (xs : List A) (x : A) → AllByRecursion P xs → P x → AllByRecursion P (xs ++ x ∷ [])
@@ -50,13 +50,9 @@ offers_are flow os n a = record {
   records = λ p l. looked-up flow (λ o. listed o.offered) [] (λ q rs. AllByRecursion (IsRecordOf flow q) rs) (λ q o i. i.offered.records) os p a n l;
   range = λ p l. looked-up flow (λ o. range o.offered) None (λ q r. IsRangeOf (bounds_of flow q) r) (λ q o i. i.offered.ends) os p a n l;
   listed = λ p l.
-      looked-up flow (λ o. range o.offered) None (λ q r. IsListedBy (restoring (kind_of flow q) (policy_of flow q)) r) (λ q o i. i.offered.way) os p a n l;
-  delivered = λ p l. looked-up flow (λ o. o.stamps.delivered.items) [] (λ q ms. AreOnEdges flow ms) (λ q o i. i.delivered) os p a n l;
+      looked-up flow (λ o. range o.offered) None (λ q r. IsListedBy (way_of flow q) r) (λ q o i. i.offered.way) os p a n l;
+  delivered = λ p l. looked-up flow (λ o. o.stamps.delivered) [] (λ q ms. AreOnEdges flow ms) (λ q o i. i.delivered) os p a n l;
   notified = λ p l.
-      looked-up flow (λ o. o.stamps.notified.items) [] (λ q ts. AllByRecursion (λ t. in_domain (bounds_of flow q) t ≡ true) ts) (λ q o i. i.notified) os p a n l;
-  sent = λ p l. looked-up flow (λ o. o.stamps.sent.items) [] (λ q ms. AreOnEdges flow ms) (λ q o i. i.sent.edges) os p a n l;
-  epochs = λ p k. elim (cases_lt p (length flow.nodes)) [
-    | inl l ↦ looked-up flow (λ o. o.stamps.sent.items) [] (λ q ms. kind_of flow q ≡ Sequence → AreFromEpochs ms) (λ q o i. i.sent.epochs) os p a n l k
-    | inr l ↦ subst (λ (ms : List Counted). AreFromEpochs ms) (sym (offer_past (λ o. o.stamps.sent.items) os p [] (omega arith))) tt
-  ];
+      looked-up flow (λ o. o.stamps.notified) [] (λ q ts. AllByRecursion (λ t. in_domain (bounds_of flow q) t ≡ true) ts) (λ q o i. i.notified) os p a n l;
+  sent = λ p l. looked-up flow (λ o. o.stamps.sent) [] (λ q ms. AreOnEdges flow ms) (λ q o i. i.sent) os p a n l;
 }

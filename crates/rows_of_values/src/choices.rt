@@ -4,16 +4,15 @@ ghost use Rattle.std.specs.List.{AllByRecursion};
 ghost use Rattle.std.specs.Option.{IfSome};
 ghost use Rattle.fw_time.specs.Stamp.{in_domain};
 ghost use Rattle.fw_frontier.specs.Front.{IsCanonical};
-ghost use Rattle.fw_flow.specs.Dataflow.{kind_of, policy_of, receiver, bounds_of};
-ghost use Rattle.fw_model.specs.Choice as model;
-ghost use Rattle.fw_monitor.specs.Offers.{AreFrontsOfEdges, AreOffersOf, AreOnEdges, IsRecordOf};
+ghost use Rattle.fw_flow.specs.Dataflow.{receiver, bounds_of};
+ghost use Rattle.fw_model.specs.Offers.{AreFrontsOfEdges, AreOffersOf, AreOnEdges, IsRecordOf};
 ghost use Rattle.rows_of_values.specs.Written as spec;
 ghost use Rattle.rows_of_values.specs.Written.{IsOfferOf, IsOfferedBy};
 
 use crate::spell::{part, stamp_of, stamps_of};
 use fw_flow::{
-    Causes, Choice, Counted, Cut, EdgeId, Flow, Kind, NodeId, OfEdge, Offer, Offered, Policy,
-    Recorded, Stamps,
+    Causes, Choice, Counted, CountedMessages, Cut, EdgeId, Flow, NodeId, Notices, OfEdge, OfEdges,
+    Offer, Offered, Recorded, Records, Restoring, SentTable, Stamps,
 };
 use fw_frontier::Front;
 use fw_monitor::largest;
@@ -62,8 +61,8 @@ fn record(alloc: Global, flow: &Flow, node: NodeId, word: &str) -> Result<Record
     Ok(Recorded {
         front: front(alloc, &domain, outside)?,
         notified: front(alloc, &domain, held)?,
-        delivered: of_edges(alloc, flow, flow.in_edges(node), held)?,
-        discarded: of_edges(alloc, flow, flow.out_edges(node), held)?,
+        delivered: OfEdges::of(of_edges(alloc, flow, flow.in_edges(node), held)?),
+        discarded: OfEdges::of(of_edges(alloc, flow, flow.out_edges(node), held)?),
     })
 }
 
@@ -83,38 +82,13 @@ fn records(
     Ok(records)
 }
 
-// Whether a node lists its frontiers.
-fn is_listed(kind: Kind, policy: Policy) -> bool
-    ensures { result ≡ spec.is_listed (model.restoring kind policy) }
+// Whether a node that is restored so lists its frontiers.
+fn is_listed(way: Restoring) -> bool
+    ensures { result ≡ spec.is_listed way }
 {
-    match kind {
-        Kind::Input => true,
-        Kind::OutputEpoch => false,
-        Kind::OutputNumber => false,
-        Kind::Select { .. } => writes_checkpoints(policy),
-        Kind::Concat { .. } => writes_checkpoints(policy),
-        Kind::Distinct { .. } => writes_checkpoints(policy),
-        Kind::Join { .. } => writes_checkpoints(policy),
-        Kind::Sum { .. } => writes_checkpoints(policy),
-        Kind::Enter(_) => writes_checkpoints(policy),
-        Kind::Feedback(_) => writes_checkpoints(policy),
-        Kind::Leave(_) => writes_checkpoints(policy),
-        Kind::Total => writes_checkpoints(policy),
-        Kind::Sequence => writes_checkpoints(policy),
-        Kind::Ledger => writes_checkpoints(policy),
-        Kind::Regroup(_) => writes_checkpoints(policy),
-    }
-}
-
-fn writes_checkpoints(policy: Policy) -> bool
-    ensures { result ≡ spec.is_listed (model.restoring_of_policy policy) }
-{
-    match policy {
-        Policy::None => false,
-        Policy::Lazy => true,
-        Policy::Logged => true,
-        Policy::Eager => true,
-        Policy::Full => false,
+    match way {
+        Restoring::Batches | Restoring::Checkpoints => true,
+        Restoring::Bound | Restoring::Anything | Restoring::Events => false,
     }
 }
 
@@ -122,8 +96,8 @@ fn writes_checkpoints(policy: Policy) -> bool
 fn offered(alloc: Global, flow: &Flow, node: NodeId, text: &str) -> Result<Offered, AllocError>
     ensures { IfOk result (λ o. IsOfferedBy flow.now node o) }
 {
-    if is_listed(flow.kind(node), flow.policy(node)) {
-        return Ok(Offered::Listed(records(alloc, flow, node, text)?));
+    if is_listed(flow.restoring(node)) {
+        return Ok(Offered::Listed(Records::of(records(alloc, flow, node, text)?)));
     }
     let (least, greatest) = text.split_once("to").unwrap_or((text, text));
     let domain = flow.domain(node);
@@ -150,11 +124,10 @@ fn message(alloc: Global, flow: &Flow, word: &str) -> Result<Option<Counted>, Al
     if !at.in_domain(&flow.domain(flow.dst(edge))) {
         return Ok(None);
     }
-    let causes = Causes::of(alloc, cause)?;
     Ok(Some(Counted {
         edge,
         at,
-        causes,
+        causes: Causes::of(cause),
         count: 1,
     }))
 }
@@ -186,16 +159,6 @@ fn notified(alloc: Global, flow: &Flow, node: NodeId, text: &str) -> Result<Vec<
     Ok(stamps)
 }
 
-// What a node sent; of a sequence nothing, since its messages would have to come from epochs alone.
-fn sent(alloc: Global, flow: &Flow, node: NodeId, text: &str) -> Result<Vec<Counted>, AllocError>
-    ensures { IfOk result (λ sent. spec.AreSentBy flow.now node sent.items) }
-{
-    if matches!(flow.kind(node), Kind::Sequence) {
-        return Ok(Vec::new(alloc));
-    }
-    messages(alloc, flow, text)
-}
-
 // A column of a line, and the rest.
 fn column(line: &str) -> (&str, &str) {
     line.split_once('|').unwrap_or((line, ""))
@@ -213,15 +176,16 @@ fn offer(alloc: Global, flow: &Flow, node: NodeId, line: &str) -> Result<Offer, 
     let offered = offered(alloc, flow, node, fronts)?;
     let delivered = messages(alloc, flow, delivered)?;
     let notified = notified(alloc, flow, node, noted)?;
-    let sent = sent(alloc, flow, node, sent_words)?;
+    let sent = messages(alloc, flow, sent_words)?;
     Ok(Offer {
         present: !state.contains("failed"),
         offered,
         stamps: Stamps {
-            delivered,
-            notified,
-            sent,
+            delivered: CountedMessages::of(delivered),
+            notified: Notices::of(notified),
+            sent: CountedMessages::of(sent),
         },
+        table: SentTable::new(alloc),
     })
 }
 

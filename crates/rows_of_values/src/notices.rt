@@ -3,13 +3,13 @@ ghost use Rattle.std.specs.Prelude.{◌≡◌, reverse};
 ghost use Rattle.fw_time.specs.Stamp.{in_domain};
 ghost use Rattle.fw_flow.specs.Dataflow.{bounds_of};
 ghost use Rattle.fw_flow.specs.NodeFunction.{place, stamp};
-ghost use Rattle.fw_model.specs.Plain.{AreAtNodes};
+ghost use Rattle.fw_model.specs.History.{AreAtNodes};
 
 use crate::spell::{part, stamp_of};
 use fw_bag::Rec;
 use fw_flow::{Causes, Event, Flow, Kind, Message, NodeId};
 use fw_lines::{Batches, ReadFault, SourceNames, read_batches};
-use fw_model::plain::next_notice;
+use fw_plain::scan::next_notice;
 use fw_time::Stamp;
 use std::alloc::{AllocError, Global};
 
@@ -48,7 +48,7 @@ fn event(alloc: Global, flow: &Flow, line: &str) -> Result<Option<Event>, AllocE
     };
     match word {
         "inject" => Ok(injection(flow, name, &at)),
-        "deliver" => delivery(alloc, flow, name, at, rec),
+        "deliver" => Ok(delivery(flow, name, at, rec)),
         "notify" => Ok(
             flow.node_named(name.as_bytes())
                 .map(|node| Event::Notify { node, at }),
@@ -66,19 +66,12 @@ fn injection(flow: &Flow, name: &str, at: &Stamp) -> Option<Event> {
     Some(Event::Inject { source, epoch })
 }
 
-fn delivery(
-    alloc: Global,
-    flow: &Flow,
-    name: &str,
-    at: Stamp,
-    rec: &str,
-) -> Result<Option<Event>, AllocError> {
-    let (Some(edge), Some(rec)) = (flow.edge_named(name.as_bytes()), rec_of(rec)) else {
-        return Ok(None);
-    };
-    let causes = Causes::of(alloc, at.copy())?;
+fn delivery(flow: &Flow, name: &str, at: Stamp, rec: &str) -> Option<Event> {
+    let edge = flow.edge_named(name.as_bytes())?;
+    let rec = rec_of(rec)?;
+    let causes = Causes::of(at.copy());
     let message = Message { at, rec, causes };
-    Ok(Some(Event::Deliver { edge, message }))
+    Some(Event::Deliver { edge, message })
 }
 
 fn rec_of(word: &str) -> Option<Rec> {

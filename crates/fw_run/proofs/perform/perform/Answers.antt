@@ -1,7 +1,6 @@
 use Rattle.std.proofs.Common.{◌≡◌, ◌+◌, arith, ◌∙◌, ap, subst, cond, length}
 use Rattle.std.proofs.lemmas.Result.{err_from_is_err_and}
 use Rattle.fw_lines.proofs.BatchLaws.{on_err}
-use Rattle.fw_model.specs.Plain.{system_of}
 use Rattle.fw_outside.specs.declared.fault.OutFault.TheVariants.{Failed}
 use Rattle.fw_run.proofs.Roses.{rose_last, same_fault, on_ok_from, on_err_from}
 use Rattle.fw_run.proofs.RunLaws.{IsSoFar, stops_at_start, stops_at, so_far_next, counted_idle, counted_taken, counted-few, all_so_far, stops_after_steps, stops_at_end, ends}
@@ -10,6 +9,7 @@ use Rattle.fw_run.specs.Headline.{IsPartPrinted}
 use Rattle.fw_run.specs.Printed.{done_line}
 use Rattle.fw_run.proofs.perform.perform.Goals.{then-branch, else-branch}
 use Rattle.fw_run.proofs.perform.perform.Goals as goal
+use Rattle.fw_flow.specs.Dataflow.{system_of}
 
 pub returns-in_err-engine-clause-part : goal.returns-in_err-engine-clause-part
 returns-in_err-engine-clause-part g c =

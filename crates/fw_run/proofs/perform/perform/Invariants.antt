@@ -1,7 +1,7 @@
 use Rattle.std.proofs.Common.{◌≡◌, ◌≤◌, take}
-use Rattle.fw_model.specs.Plain.{system_of}
 use Rattle.fw_run.proofs.RunLaws.{IsSoFar}
 use Rattle.fw_run.proofs.perform.perform.Given as goal
+use Rattle.fw_flow.specs.Dataflow.{system_of}
 
 -- what was printed is the lines of the steps so far; the count of faults has not fallen, and no write was refused
 abbrev pub invariant-loop-step : goal.invariant-loop-step

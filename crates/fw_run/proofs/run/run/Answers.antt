@@ -1,11 +1,8 @@
-use Rattle.fw_run.proofs.HeadlineLaws.{ready_job, same_refusal}
+use Rattle.fw_run.proofs.HeadlineLaws.{same_refusal}
 use Rattle.std.proofs.Common.{subst}
 use Rattle.fw_run.specs.Texts.{IsFirstRefusal, IsAskedNoMore}
 use Rattle.fw_run.specs.Words.{text_names_of, words_in}
 use Rattle.fw_run.proofs.run.run.Goals as goal
-
-pub perform-requires : goal.perform-requires
-perform-requires g c = ready_job (g.F.Folder.texts c.args.folder.now) _ c.in-Ok.job c.in-Ok.ensures.job
 
 pub returns-in-Err-Refused-clause-refused : goal.returns-in-Err-Refused-clause-refused
 returns-in-Err-Refused-clause-refused g c refusal e =

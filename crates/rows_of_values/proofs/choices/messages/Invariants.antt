@@ -1,4 +1,4 @@
-use Rattle.fw_monitor.specs.Offers.{AreOnEdges}
+use Rattle.fw_model.specs.Offers.{AreOnEdges}
 use Rattle.rows_of_values.proofs.choices.messages.Given as goal
 
 abbrev pub invariant-loop-word : goal.invariant-loop-word

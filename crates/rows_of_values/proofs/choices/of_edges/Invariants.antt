@@ -1,4 +1,4 @@
-use Rattle.fw_monitor.specs.Offers.{AreFrontsOfEdges}
+use Rattle.fw_model.specs.Offers.{AreFrontsOfEdges}
 use Rattle.rows_of_values.proofs.choices.of_edges.Given as goal
 
 abbrev pub invariant-loop-edge : goal.invariant-loop-edge

@@ -1,5 +1,5 @@
 use Rattle.std.specs.List.{AllByRecursion}
-use Rattle.fw_monitor.specs.Offers.{IsRecordOf}
+use Rattle.fw_model.specs.Offers.{IsRecordOf}
 use Rattle.rows_of_values.proofs.choices.records.Given as goal
 
 abbrev pub invariant-loop-word : goal.invariant-loop-word

@@ -1,5 +1,5 @@
 use Rattle.std.proofs.Common.{reverse}
-use Rattle.fw_model.specs.Plain.{AreAtNodes}
+use Rattle.fw_model.specs.History.{AreAtNodes}
 use Rattle.rows_of_values.proofs.notices.tell_notices.Given as goal
 
 abbrev pub invariant-loop-line : goal.invariant-loop-line

@@ -133,17 +133,25 @@ fn projected(
     Ok(Some(flow.phi(alloc, edge, &front, sent)?))
 }
 
-/// How many messages the line `sent` says that a sequence sent, each word an epoch, a colon and their number.
-fn sent_table(alloc: Global, lines: &str) -> Result<SentTable, AllocError> {
-    let mut entries = Vec::new(alloc);
+/// How many messages the lines `sent` say that a sequence sent, each word an epoch, a colon and their number. An epoch before
+/// the last one is left out.
+pub fn sent_table(alloc: Global, lines: &str) -> Result<SentTable, AllocError> {
+    let mut table = SentTable::new(alloc);
     for line in lines.lines() {
         if let ("sent", words) = part(line) {
             for word in words.split_whitespace() {
-                entries.extend(entry(word))?;
+                add_entry(&mut table, word)?;
             }
         }
     }
-    Ok(SentTable::new(entries))
+    Ok(table)
+}
+
+fn add_entry(table: &mut SentTable, word: &str) -> Result<(), AllocError> {
+    match entry(word) {
+        Some((epoch, count)) if table.takes(epoch) => table.push(epoch, count),
+        _ => Ok(()),
+    }
 }
 
 fn entry(word: &str) -> Option<(u32, u64)> {

@@ -13,11 +13,11 @@ use Rattle.fw_flow.specs.declared.kind.Kind.TheVariants.{Sequence}
 use Rattle.fw_flow.specs.declared.restoring.Restoring.TheVariants.{Checkpoints}
 use Rattle.fw_flow.specs.declared.step.Step.TheVariants.{Collect, Recover}
 use Rattle.fw_model.specs.Acknowledgements.{Shows, stamps_acknowledged}
-use Rattle.fw_model.specs.Choice.{IsCandidate, IsChoiceWithin, IsConsistent, IsCutWithin, IsLargest, cut_of, ever, filtered, kept, kept_of, note_of, until}
+use Rattle.fw_model.specs.Choice.{IsCandidate, LiesInReceiver, IsChoiceWithin, IsConsistent, IsCutWithin, IsLargest, cut_of, ever, filtered, kept, kept_of, note_of, until}
 use Rattle.fw_model.specs.Choosing.{AreCheckpointsChains, HasItsChoice}
 use Rattle.fw_model.specs.Covers.{covers_in}
 use Rattle.fw_model.specs.Denotation.{IsDenotation, bag_at, rounds}
-use Rattle.fw_model.specs.Filtering.{AreFrontiers, ComeFromKept, IsConsistentlyKept, KeepsDiscarded, MeetsInclusions, kept_events, messages_from}
+use Rattle.fw_model.specs.Filtering.{AreFrontiers, ComeFromKept, IsConsistentlyKept, MeetsInclusions, kept_events, messages_from}
 use Rattle.fw_model.specs.History.{IsAdmissible, IsClosedFor, IsComplete, IsEnabled, IsLegal, delivered, pending, recs_at, sent}
 use Rattle.fw_model.specs.Machine.{Machine, Write, acknowledged, collected, events, first_state, front_of, in_flight, is_failed}
 use Rattle.fw_model.specs.Settled.{HasMoreToSettle, IsCutWithinSettled, IsDenotedInside, IsFull}
@@ -226,7 +226,7 @@ pub record TotalsAreFiltered : Type 0 where
   pub remains : events (filtered totals two_epochs_kept output_failed.history) ≡ two_epochs
   pub full : IsFull totals output_failed
   pub cut : IsCutWithinSettled totals output_failed two_epochs_kept run
-  pub discarded : KeepsDiscarded totals output_failed two_epochs_kept src_to_run
+  pub discarded : LiesInReceiver total_flow (covers_in totals output_failed) two_epochs_kept src_to_run
   pub no_log : can_resend (policy_of total_flow src) ≡ false
   pub was_pending : pending totals (events output_failed.history) src_to_run ≡ at_epoch 3 1 ∷ []
 

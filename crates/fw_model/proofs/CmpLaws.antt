@@ -1,22 +1,18 @@
 -- The orders of stamps and messages are total, and of what satisfies a decided property one is least.
-use Rattle.std.proofs.Common.{◌≡◌, true, false, ◌&&◌, List, [], ◌∷◌, refl, sym, ap, subst, ◌∙◌, inl, inr, ◌⊎◌}
-use Rattle.std.specs.List.{AllByRecursion, list_any}
+use Rattle.std.proofs.Common.{◌≡◌, true, false, ◌&&◌, List, [], ◌∷◌, refl, sym, ap, ◌∙◌, inl, inr, ◌⊎◌}
+use Rattle.std.specs.List.{AllByRecursion}
 use Rattle.std.specs.Cmp.{IsTotalOrder}
 use Rattle.std.specs.declared.cmp.Ordering.{Ordering}
 use Rattle.std.specs.declared.cmp.Ordering.TheVariants.{Less, Equal, Greater}
 use Rattle.std.specs.Ordering.{ordering_then, ordering_reverse, is_eq, is_gt}
 use Rattle.std.specs.Cmp.Lexicographic.{slice_cmp}
-use Rattle.std.proofs.lemmas.Bool.{cases_Bool, or_cases}
-use Rattle.std.proofs.lemmas.Cmp.{nat_list_cmp_total, lists_total, on_total, then_total, tied_itself, upto}
+use Rattle.std.proofs.lemmas.Bool.{cases_Bool}
+use Rattle.std.proofs.lemmas.Cmp.{nat_list_cmp_total, lists_total, tied_itself, upto}
 use Rattle.std.proofs.lemmas.Map.Lookups.{exact_bytes}
 use Rattle.fw_time.specs.Stamp.{Stamp, stamp_cmp}
 use Rattle.fw_time.proofs.EachLaws.{each-weaker}
 use Rattle.fw_frontier.specs.Front.{Front}
-use Rattle.fw_bag.specs.Rec.{rec_cmp}
-use Rattle.fw_bag.proofs.RecLaws.{rec_order, rec_cmp-same}
-use Rattle.fw_bag.proofs.OrderingLaws.{equal_from_is_eq, then_equal, slice_cmp-same}
-use Rattle.fw_flow.specs.declared.event.Message.{Message}
-use Rattle.fw_flow.specs.Message.{message_cmp, is_among}
+use Rattle.fw_bag.proofs.OrderingLaws.{equal_from_is_eq, slice_cmp-same}
 use Rattle.fw_model.proofs.Decisions.{Decided}
 
 -- ---- elements that an order finds equal are one

@@ -48,6 +48,10 @@ enabled-outside sys h done a (Notify p t) k = false_from_ne_true (done p t) (λ 
 
 -- ---- what an event outside sends is outside phi
 
+-- an output is owed nothing
+pub not_past : (sys : System) (h : List Event) (p : ℕ) (t : Stamp) → kind_of sys.flow p ≡ OutputEpoch → owed sys h p t ≡ false
+not_past sys h p t k = ap (λ kind. is_notified_kind kind && was_delivered_to sys.flow p t h && not (was_notified p t h)) k
+
 pub past_edges-idle : (flow : Dataflow) (e : ℕ) → length flow.edges ≤ e → kind_of flow (sender flow e) ≡ OutputEpoch
 unfolding sender kind_of
 past_edges-idle flow e l =

@@ -1,11 +1,10 @@
 -- Lists of which some elements are kept, and what is pending of them.
 use Rattle.std.proofs.Common.{◌≡◌, ◌+◌, Bool, ◌||◌, true, false, cond, List, [], ◌∷◌, ◌++◌, filter, refl, sym, ap, ◌∙◌, inl, inr}
-use Rattle.std.specs.Ordering.{is_eq}
 use Rattle.std.specs.List.{AllByRecursion, list_any, flat_map}
 use Rattle.std.proofs.lemmas.Bool.{or_parts, or_from, cond-true, cond-false, cond_both, cases_Bool}
 use Rattle.fw_flow.specs.Counting.{how_many}
 use Rattle.fw_flow.specs.declared.event.Message.{Message}
-use Rattle.fw_flow.specs.Message.{message_cmp, without, less}
+use Rattle.fw_flow.specs.Message.{less}
 use Rattle.fw_flow.proofs.MessageLaws.{filter-less}
 use Rattle.fw_time.proofs.EachLaws.{each-one}
 

@@ -11,7 +11,7 @@ use Rattle.fw_flow.specs.declared.event.Event.TheVariants.{Inject, Deliver, Noti
 use Rattle.fw_flow.specs.declared.event.Message.{Message}
 use Rattle.fw_flow.specs.declared.kind.Kind.{Kind}
 use Rattle.fw_flow.specs.declared.kind.Kind.TheVariants.{Input}
-use Rattle.fw_flow.specs.Dataflow.{System, kind_of, batches_of, bounds_of}
+use Rattle.fw_flow.specs.Dataflow.{System, kind_of, batches_of, bounds_of, Dataflow, bounds_of_domain, domain_of_kind, greatest_number, is_input_kind}
 use Rattle.fw_flow.specs.NodeFunction.{place, messages_at, messages_at_some, sends_of_kind, sends, sent_by}
 use Rattle.fw_flow.specs.Projection.{events_at, first_number_of}
 use Rattle.fw_flow.specs.WholeBags.{Timed, timed, timed_at_some, timed_batches}
@@ -205,3 +205,13 @@ input-equal sys p is h l t k q =
           let d = ap (λ j. sum_to j f) e in
           omega arith
     ]
+
+-- ---- the domain of an input
+
+input-epoch : (flow : Dataflow) (k : Kind) → is_input_kind k ≡ true → bounds_of_domain flow (domain_of_kind flow k) ≡ record { greatest = greatest_number ∷ [] }
+input-epoch flow Input e = refl
+input-epoch flow k e = absurd (cc)
+
+pub input-bounds : (flow : Dataflow) (p : ℕ) → is_input_kind (kind_of flow p) ≡ true → bounds_of flow p ≡ record { greatest = greatest_number ∷ [] }
+unfolding bounds_of
+input-bounds flow p e = input-epoch flow (kind_of flow p) e

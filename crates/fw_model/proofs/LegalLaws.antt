@@ -1,15 +1,10 @@
 -- At which stamps the events and messages of a legal history are.
-use Rattle.std.proofs.Common.{◌≡◌, ℕ, ◌+◌, ◌≤◌, Bool, true, false, not, ◌==◌, ◌&&◌, nat_le, List, [], ◌∷◌, length, get_or, refl, sym, ap, subst, ◌∙◌, inl, inr, arith}
-use Rattle.std.specs.declared.cmp.Ordering.{Ordering}
-use Rattle.std.specs.declared.cmp.Ordering.TheVariants.{Less, Equal, Greater}
-use Rattle.std.specs.Ordering.{is_eq, ordering_then}
+use Rattle.std.proofs.Common.{◌≡◌, ℕ, ◌+◌, ◌≤◌, Bool, true, false, not, ◌==◌, ◌&&◌, nat_le, List, [], ◌∷◌, length, get_or, refl, sym, ap, ◌∙◌, inl, inr, arith}
 use Rattle.std.specs.List.{AllByRecursion}
 use Rattle.std.proofs.lemmas.Bool.{and_parts, and_from, or_cases, cond_both, eqb-true, cases_lt, both_ways}
 use Rattle.std.proofs.lemmas.List.{get_or_past}
-use Rattle.std.proofs.lemmas.Map.Text.{is_eq-slice_cmp}
-use Rattle.std.proofs.lemmas.Slice.Eq.{bytes_eq-Decides}
 use Rattle.fw_bag.specs.declared.rec.Rec.{Rec}
-use Rattle.fw_time.specs.Stamp.{Stamp, leq, same, stamp_cmp, in_domain}
+use Rattle.fw_time.specs.Stamp.{Stamp, leq, same, in_domain}
 use Rattle.fw_time.proofs.EachLaws.{each-weaker, each-append}
 use Rattle.fw_time.proofs.StampLaws.{leq-trans}
 use Rattle.fw_flow.specs.declared.event.Event.{Event}
@@ -24,7 +19,6 @@ use Rattle.fw_flow.specs.WellFormed.{IsWellFormed}
 use Rattle.fw_model.specs.History.{sent, delivered, pending, was_delivered_to, was_notified, injected_count, IsLegal, IsEnabled, AreEventsInDomain}
 use Rattle.fw_model.specs.LawsOfLegalHistories.{LegalEventsAreInDomain, LegalMessagesAreInDomain, OnlyInputsInject}
 use Rattle.fw_flow.proofs.MessageLaws.{less-each, among-each}
-use Rattle.fw_flow.specs.Message.{message_cmp, is_among, without, less}
 use Rattle.fw_model.proofs.StampLaws.{line-leq}
 use Rattle.fw_model.proofs.SendingLaws.{send_stamp_of_kind-in_domain}
 use Rattle.fw_model.proofs.SendsLaws.{IsAt, sends_of_kind-each}

@@ -8,7 +8,7 @@ use Rattle.fw_flow.specs.declared.event.Message.{Message}
 use Rattle.fw_flow.specs.Dataflow.{bounds_of, Dataflow, System, sender, receiver}
 use Rattle.fw_flow.specs.NodeFunction.{stamp, place}
 use Rattle.fw_flow.specs.Projection.{all_inside, phi}
-use Rattle.fw_model.specs.Choice.{IsNoteKept, HasItsNotices, NoteComesFromSender, ComesFromSender, LiesInReceiver}
+use Rattle.fw_model.specs.Choice.{IsNoteKept, HasItsNotices, NoteComesFromSender, ComesFromSender}
 use Rattle.fw_model.specs.Covers.{covers_in, stamp_of_notice}
 use Rattle.fw_model.specs.History.{delivered}
 use Rattle.fw_model.specs.Machine.{Machine}
@@ -68,7 +68,3 @@ pub record MeetsInclusions (sys : System) (state : Machine) (choice : Choice) : 
   pub notified : (p : ℕ) → p < length sys.flow.nodes → HasItsNotices sys.flow (covers_in sys state) choice p
   pub own : (p : ℕ) → p < length sys.flow.nodes → IsNoteKept sys.flow choice p
   pub notes : (d : ℕ) → d < length sys.flow.edges → NoteComesFromSender sys.flow (covers_in sys state) choice d
-
--- what the sender of an edge sent inside its cut and cannot send again lies in what the receiver keeps
-abbrev pub KeepsDiscarded : System → Machine → Choice → ℕ → Type 0
-KeepsDiscarded sys state choice e = LiesInReceiver sys.flow (covers_in sys state) choice e

@@ -10,11 +10,9 @@ use Rattle.fw_model.specs.History.{IsComplete}
 use Rattle.fw_model.specs.Machine.{Machine, events}
 use Rattle.fw_flow.specs.declared.choice.Choice.{Choice}
 use Rattle.fw_model.specs.Choice.{View, IsCandidate, IsConsistent, IsLargest}
-use Rattle.fw_flow.specs.declared.restoring.Restoring.TheVariants.{Checkpoints}
 use Rattle.fw_model.specs.Steps.{GrowsTo}
 use Rattle.fw_model.specs.Settled.{HasMoreToSettle}
 use Rattle.fw_model.specs.Choosing.{AreCheckpointsChains}
-use Rattle.fw_flow.specs.Restoring.{way_of}
 
 -- each frontier of a domain has a list of outside stamps that names it
 abbrev pub FrontierHasFront : Type 0

@@ -11,9 +11,10 @@ use Rattle.fw_model.specs.History.{IsLegal, sent, delivered, pending}
 use Rattle.fw_model.specs.Machine.{Machine, events}
 use Rattle.fw_flow.specs.declared.choice.Choice.{Choice}
 use Rattle.fw_flow.specs.Restoring.{can_resend}
-use Rattle.fw_model.specs.Choice.{View, IsCandidate, IsConsistent, cut_of, kept_of, filtered}
+use Rattle.fw_model.specs.Choice.{View, IsCandidate, IsConsistent, cut_of, kept_of, filtered, LiesInReceiver}
 use Rattle.fw_model.specs.Settled.{IsFull, IsCutWithinSettled}
-use Rattle.fw_model.specs.Filtering.{AreFrontiers, kept_events, messages_inside, messages_outside, messages_from, ComeFromKept, HaveKeptCauses, IsConsistentlyKept, MeetsInclusions, KeepsDiscarded}
+use Rattle.fw_model.specs.Filtering.{AreFrontiers, kept_events, messages_inside, messages_outside, messages_from, ComeFromKept, HaveKeptCauses, IsConsistentlyKept, MeetsInclusions}
+use Rattle.fw_model.specs.Covers.{covers_in}
 
 -- in a legal history of a well-formed flow with epochs, of which each node keeps the events inside a frontier, the kept
 -- events alone send on each edge what they send among all: the messages whose causes are kept
@@ -105,6 +106,6 @@ PendingForCut = (sys : System) (state : Machine) (choice : Choice) → IsWellFor
 abbrev pub NothingPendingWithoutLog : Type 0
 NothingPendingWithoutLog = (sys : System) (state : Machine) (choice : Choice) → IsWellFormed sys.flow → HasEpochs sys
     → IsLegal sys (events state.history) → IsFull sys state → MeetsInclusions sys state choice → (e : ℕ)
-    → IsCutWithinSettled sys state choice (receiver sys.flow e) → KeepsDiscarded sys state choice e
+    → IsCutWithinSettled sys state choice (receiver sys.flow e) → LiesInReceiver sys.flow (covers_in sys state) choice e
     → can_resend (policy_of sys.flow (sender sys.flow e)) ≡ false
     → pending sys (events (filtered sys choice state.history)) e ≡ []

@@ -25,6 +25,7 @@ use Rattle.fw_model.specs.History.{pending, owed, is_delivery_to, is_notificatio
 use Rattle.fw_plain.specs.Clear.{given, pending_stamps, is_unnotified, owed_by, owed_stamps, IsClear}
 use Rattle.fw_model.proofs.StampLaws.{in_line, same-is}
 use Rattle.fw_model.proofs.DescentLaws.{past_edges-quiet}
+use Rattle.fw_model.proofs.InputLaws.{input-bounds}
 
 -- ---- tests
 
@@ -249,14 +250,6 @@ clear_is sys events p b f quiet front waiting unpaid be n w u m k =
     source_at false b h = refl
 
 -- ---- what is given
-
-input-epoch : (flow : Dataflow) (k : Kind) → is_input_kind k ≡ true → bounds_of_domain flow (domain_of_kind flow k) ≡ record { greatest = greatest_number ∷ [] }
-input-epoch flow Input e = refl
-input-epoch flow k e = absurd (cc)
-
-pub input-bounds : (flow : Dataflow) (p : ℕ) → is_input_kind (kind_of flow p) ≡ true → bounds_of flow p ≡ record { greatest = greatest_number ∷ [] }
-unfolding bounds_of
-input-bounds flow p e = input-epoch flow (kind_of flow p) e
 
 epoch-before : (n : ℕ) (t : Stamp) → leq t (greatest_number ∷ []) ≡ true → (not (leq (n ∷ []) t) && true) ≡ nat_lt (first_number_of t) n
 epoch-before n t l =

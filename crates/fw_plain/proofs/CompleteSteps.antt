@@ -32,6 +32,7 @@ use Rattle.fw_model.proofs.TableLaws.{table-follows}
 use Rattle.fw_model.proofs.DescentLaws.{past_edges-joined, past_edges-quiet, past_edges-phi, total, total-less, Covers, covers-at}
 use Rattle.fw_flow.proofs.EdgeLaws.{kind-past, in_edges-at, in_edges-from}
 use Rattle.fw_model.specs.Order.{is_notification_of}
+use Rattle.fw_model.proofs.CompleteLaws.{not_past}
 
 -- ---- lists of one frontier for each node
 
@@ -273,9 +274,6 @@ above_lowered sys h fronts lower a c n = record {
         (k.follows e t (ap (λ q. other q t) r ∙ i)))))
   ];
 }
-
-pub not_past : (sys : System) (h : List Event) (p : ℕ) (t : Stamp) → kind_of sys.flow p ≡ OutputEpoch → owed sys h p t ≡ false
-not_past sys h p t k = ap (λ kind. is_notified_kind kind && was_delivered_to sys.flow p t h && not (was_notified p t h)) k
 
 -- where a pass takes nothing away, the frontiers are complete
 pub complete_is : (sys : System) (h : List Event) (fronts lower : List Front) → IsWellFormed sys.flow → IsAbove sys h fronts → AreLowered sys h fronts lower

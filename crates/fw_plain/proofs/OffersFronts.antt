@@ -1,11 +1,10 @@
 -- The frontiers that plain nodes offer.
-use Rattle.std.proofs.Common.{◌≡◌, ◌≢◌, ◌⊎◌, ◌↔◌, inl, inr, ℕ, zero, suc, ◌+◌, ◌<◌, ◌≤◌, min, ◌==◌, Bool, true, false, not, ◌&&◌, cond, List, [], ◌∷◌, ◌++◌, map, Some, refl, sym, ◌∙◌, ap, subst, arith}
-use Rattle.std.proofs.Math.Bool.{and-true}
+use Rattle.std.proofs.Common.{◌≡◌, ◌≢◌, ◌⊎◌, ◌↔◌, inl, inr, ℕ, zero, suc, ◌+◌, ◌<◌, ◌≤◌, min, ◌==◌, Bool, true, false, cond, List, [], ◌∷◌, ◌++◌, map, Some, refl, sym, ◌∙◌, ap, subst, arith}
 use Rattle.std.specs.List.{AllByRecursion, range_with_len}
 use Rattle.std.proofs.lemmas.Bool.{and_parts, and_from, cases_Bool, both_ways, eqb-true}
 use Rattle.std.proofs.lemmas.Bool.Decides.{nat_tests}
 use Rattle.fw_time.specs.declared.stamp.Bounds.{Bounds}
-use Rattle.fw_time.specs.Stamp.{Stamp, leq, in_domain}
+use Rattle.fw_time.specs.Stamp.{Stamp, in_domain}
 use Rattle.fw_time.proofs.EachLaws.{each-append}
 use Rattle.fw_frontier.specs.Frontier.{Frontier, Within, nothing, meet}
 use Rattle.fw_frontier.specs.Front.{Front, inside, frontier_of, IsCanonical, Names}
@@ -45,13 +44,6 @@ canonical-until k l = (record { in_the_domain = line-leq k greatest_number l; as
 
 within-all : (b : Bounds) (f : Front) → Within (frontier_of b f) (frontier_of b [])
 within-all b f t i = and_from (in_domain b t) true (and_parts (in_domain b t) (inside f t) i).0 refl
-
--- ---- what is settled and acknowledged
-
-    at : (t : Stamp) (d : Bool) → in_domain numbers t ≡ d
-        → (d && inside settled t) ≡ ((d && inside settled t) && (d && (not (leq (k ∷ []) t) && true)))
-    at t false i = refl
-    at t true i = sym (and-true (inside settled t)) ∙ ap (λ x. inside settled t && (not x && true)) (sym (beyond t i))
 
 -- ---- records of frontiers
 

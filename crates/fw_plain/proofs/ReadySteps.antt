@@ -22,7 +22,7 @@ use Rattle.fw_model.proofs.DescentLaws.{past_edges-receiver}
 use Rattle.fw_model.proofs.EnabledLaws.{asked-is, asked-from}
 use Rattle.fw_flow.proofs.EdgeLaws.{in_edges-at, in_edges-from}
 use Rattle.fw_plain.proofs.ClearSteps.{any-reverse, quiet-inside, inside-quiet}
-use Rattle.fw_plain.proofs.CompleteSteps.{not_past}
+use Rattle.fw_model.proofs.CompleteLaws.{not_past}
 use Rattle.fw_model.proofs.StampLaws.{same-is, same-from}
 use Rattle.fw_model.proofs.CmpLaws.{stamp_cmp-same}
 use Rattle.fw_model.specs.Machine.{family_of}

@@ -261,9 +261,3 @@ same_from_how_often [] [] s t h = refl
 same_from_how_often [] (y ∷ ys) s t h = absurd (omega (arith, h y, how_often-self y ys))
 same_from_how_often (x ∷ xs) [] s t h = absurd (omega (arith, h x, how_often-self x xs))
 same_from_how_often (x ∷ xs) (y ∷ ys) s t h = same_cases x y xs ys s t h (same_from_how_often xs ys s.1 t.1) (rec_cmp x y) refl
-
--- two bags have one sum, in either order
-pub bag_sum_comm : (xs ys : List Rec) → IsAscending xs → IsAscending ys → bag_sum xs ys ≡ bag_sum ys xs
-bag_sum_comm xs ys s t =
-    same_from_how_often (bag_sum xs ys) (bag_sum ys xs) (IsAscending-bag_sum xs ys t) (IsAscending-bag_sum ys xs s)
-    (λ q. omega (arith, how_often-bag_sum q xs ys, how_often-bag_sum q ys xs))

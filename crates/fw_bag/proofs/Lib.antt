@@ -1,3 +1,4 @@
+pub mod ArrivalLaws
 pub mod BagLaws
 pub mod CountLaws
 pub mod OrderingLaws

@@ -2,3 +2,4 @@ pub mod Bag
 pub mod Rec
 pub mod Select
 pub mod Keyed
+pub mod Arrivals

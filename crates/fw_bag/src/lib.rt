@@ -6,5 +6,5 @@ mod rec;
 mod select;
 
 pub use bag::Bag;
-pub use rec::Rec;
+pub use rec::{Rec, Recs};
 pub use select::{Assignment, Comparison, Condition, Field, NewValue, Selection, Term};

@@ -1,22 +1,23 @@
 -- Witnesses for the laws of choices.
-use Rattle.std.proofs.Common.{◌≡◌, ℕ, [], ◌∷◌, refl, ap, ⊎_elim, lit<, arith}
+use Rattle.std.proofs.Common.{[], ap, arith, lit<, refl, ℕ, ⊎_elim, ◌∷◌, ◌≡◌}
 use Rattle.std.proofs.lemmas.Bool.{false≢true, or_cases, or_left, or_right}
 use Rattle.std.proofs.lemmas.Bool.Decides.{nat_tests}
 use Rattle.fw_time.specs.Stamp.{Stamp}
-use Rattle.fw_frontier.specs.Frontier.{IsFrontier, join}
 use Rattle.fw_frontier.specs.Front.{frontier_of}
+use Rattle.fw_frontier.specs.Frontier.{IsFrontier, join}
 use Rattle.fw_frontier.proofs.NamesLaws.{frontier-closed}
-use Rattle.fw_flow.specs.Dataflow.{kind_of, policy_of, sender, receiver, bounds_of, batches_of, max_of}
+use Rattle.fw_flow.specs.Dataflow.{batches_of, bounds_of, kind_of, max_of, policy_of, receiver, sender}
 use Rattle.fw_flow.specs.NodeFunction.{sends}
 use Rattle.fw_flow.specs.Projection.{psi}
 use Rattle.fw_flow.specs.declared.choice.Choice.{Choice}
 use Rattle.fw_model.specs.Choice.{until}
 use Rattle.fw_model.specs.Machine.{front_of, is_failed}
 use Rattle.fw_examples.specs.Flows.{loop_counts_up}
-use Rattle.fw_examples.specs.UnderWay.{counted_rounds}
 use Rattle.fw_examples.specs.RunningTotal.{output_failed}
-use Rattle.fw_examples.specs.WitnessesOfChoices.{ChoicesUnite, LessIsConsistent, CutsUnite, JoinIsAFrontier, first_rounds, both_rounds}
-use Rattle.fw_examples.proofs.TotalChoices.{noting_none, noting_epoch, noting_less, epoch_consistent, union_of_both}
+use Rattle.fw_examples.specs.UnderWay.{counted_rounds}
+use Rattle.fw_examples.specs.WitnessesOfChoices.{ChoicesUnite, CutsUnite, JoinIsAFrontier, LessIsConsistent, both_rounds, first_rounds}
+use Rattle.fw_examples.proofs.Fronts.{canonical_by}
+use Rattle.fw_examples.proofs.TotalChoices.{epoch_consistent, noting_less, noting_none, union_of_both}
 
 pub choices_unite : ChoicesUnite
 unfolding kind_of policy_of sender receiver sends bounds_of batches_of
@@ -26,7 +27,7 @@ choices_unite = record {
   one_not_within = λ w. false≢true (w.cuts 0 (lit< tt) (1 ∷ []) refl);
   other_not_within = λ w. false≢true (w.notes 2 (lit< tt) (0 ∷ []) refl);
   union = union_of_both;
-  offered = (noting_epoch (is_failed output_failed)).offered;
+  offered = (noting_none (is_failed output_failed)).offered;
   checkpoints = refl;
   delivered = refl;
   notified = refl;
@@ -47,7 +48,7 @@ same_stamps m n (x ∷ y ∷ z ∷ t) = grind (arith, nat_tests)
 pub cuts_unite : CutsUnite
 unfolding kind_of policy_of sender receiver bounds_of max_of psi
 cuts_unite = record {
-  union = record { canonical = (record { in_the_domain = refl; ascending = (refl, tt); incomparable = (refl, tt) }, (record { in_the_domain = refl; ascending = tt; incomparable = tt }, tt)); same = same_stamps 4294967295 3 };
+  union = record { canonical = canonical_by _ both_rounds refl; same = same_stamps 4294967295 3 };
   one_not_within = λ w. false≢true (w (0 ∷ 2 ∷ []) refl);
   other_not_within = λ w. false≢true (w (1 ∷ 0 ∷ []) refl);
   delivered_of_one = refl;

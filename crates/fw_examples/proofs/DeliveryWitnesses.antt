@@ -1,25 +1,18 @@
 -- Witnesses for the laws of deliveries.
-use Rattle.std.proofs.Common.{◌≡◌, ℕ, zero, suc, true, [], ◌∷◌, refl, lit<, arith}
-use Rattle.fw_flow.specs.Dataflow.{kind_of, sender, receiver, bounds_of, batches_of, in_edges}
+use Rattle.std.proofs.Common.{[], lit<, refl, ◌∷◌}
+use Rattle.fw_flow.specs.Dataflow.{batches_of, bounds_of, in_edges, kind_of, receiver, sender}
 use Rattle.fw_flow.specs.NodeFunction.{sends}
 use Rattle.fw_flow.specs.Projection.{phi}
-use Rattle.fw_examples.specs.RunningTotal.{totals, total_flow, two_epochs}
-use Rattle.fw_examples.specs.WitnessesOfDeliveries.{complete_two, AnEpochIsClosed, NotifiedAndGoesOn, TwoEpochsAreComplete, OneIsOnItsWay}
-use Rattle.fw_examples.proofs.TotalRun.{quiet_at_total, ten_complete, two_are_legal, total_is_legal}
-
-complete_before : (d : ℕ) → receiver total_flow d ≡ 1 → phi totals two_epochs d (complete_two (sender total_flow d)) (1 ∷ []) ≡ true
-unfolding kind_of receiver sender bounds_of phi
-complete_before zero r = refl
-complete_before (suc zero) r = absurd (omega (arith, r))
-complete_before (suc (suc d)) r = absurd (omega (arith, r))
+use Rattle.fw_examples.specs.RunningTotal.{alike, totals, two_epochs}
+use Rattle.fw_examples.specs.WitnessesOfDeliveries.{AnEpochIsClosed, NotifiedAndGoesOn, OneIsOnItsWay, TwoEpochsAreComplete}
+use Rattle.fw_examples.proofs.Settling.{admissible_by, closed_by}
+use Rattle.fw_examples.proofs.TotalRun.{totals_formed}
+use Rattle.fw_examples.proofs.TotalWitnesses.{total_is_legal, two_are_legal}
 
 pub an_epoch_is_closed : AnEpochIsClosed
-unfolding kind_of receiver sender sends batches_of bounds_of in_edges
+unfolding kind_of receiver sender sends batches_of bounds_of in_edges phi
 an_epoch_is_closed = record {
-  closed = record {
-    quiet = λ s l. quiet_at_total two_epochs refl s;
-    complete = (complete_two, ten_complete.admissible, complete_before);
-  };
+  closed = closed_by totals two_epochs 1 (1 ∷ []) (alike 2) totals_formed (lit< tt) refl;
   goes_on = total_is_legal;
   delivered_there = refl;
   bag = refl;
@@ -33,7 +26,7 @@ pub two_epochs_are_complete : TwoEpochsAreComplete
 unfolding kind_of receiver sender sends batches_of bounds_of in_edges phi
 two_epochs_are_complete = record {
   legal = two_are_legal;
-  admissible = ten_complete.admissible;
+  admissible = admissible_by totals two_epochs (alike 2) totals_formed refl;
   inside = refl;
   inside_phi = refl;
   was_sent = refl;

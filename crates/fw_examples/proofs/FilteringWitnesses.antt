@@ -1,144 +1,62 @@
 -- Witnesses for the laws of filtering.
-use Rattle.std.proofs.Common.{◌≡◌, ℕ, zero, suc, true, [], ◌∷◌, ◌++◌, refl, sym, ap, ◌∙◌, subst, lit<, lit≤, arith}
-use Rattle.std.proofs.lemmas.Bool.{false≢true, and_parts, and_from}
+use Rattle.std.proofs.Common.{[], arith, lit<, refl, suc, zero, ◌∷◌}
+use Rattle.std.proofs.lemmas.Bool.{and_from, and_parts, false≢true}
 use Rattle.std.proofs.lemmas.Bool.Decides.{nat_tests}
-use Rattle.std.specs.List.{AllByRecursion, flat_map}
-use Rattle.fw_time.specs.Stamp.{Stamp, same}
 use Rattle.fw_time.proofs.EachLaws.{each-one}
-use Rattle.fw_frontier.specs.Frontier.{Within}
-use Rattle.fw_frontier.specs.Front.{frontier_of}
 use Rattle.fw_frontier.proofs.NamesLaws.{frontier-closed}
-use Rattle.fw_flow.specs.declared.choice.Cut.{Cut}
-use Rattle.fw_flow.specs.Dataflow.{System, kind_of, policy_of, sender, receiver, bounds_of, batches_of, max_of}
+use Rattle.fw_flow.specs.Dataflow.{batches_of, bounds_of, kind_of, max_of, policy_of, receiver, sender, NotifiesNobody}
 use Rattle.fw_flow.specs.NodeFunction.{sends}
 use Rattle.fw_flow.specs.Projection.{phi}
-use Rattle.fw_flow.specs.declared.choice.Choice.{Choice}
-use Rattle.fw_flow.specs.declared.kind.Policy.TheVariants as policy
-use Rattle.fw_model.specs.Choice.{until, stamp_of_notice, IsConsistent}
-use Rattle.fw_model.specs.History.{some_at, delivered, IsQuiet}
-use Rattle.fw_model.specs.Machine.{Machine, front_of, is_failed}
-use Rattle.fw_model.specs.LawsOfFiltering.{ComeFromKept, IsConsistentlyKept, IsFull, MeetsInclusions, NotifiesNobody}
-use Rattle.fw_model.proofs.FilteredLaws.{set-frontier}
+use Rattle.fw_model.specs.Choice.{kept, until}
+use Rattle.fw_model.specs.History.{delivered}
+use Rattle.fw_model.specs.Machine.{front_of, is_failed}
+use Rattle.fw_model.proofs.FilteredLaws.{choice-consistent, consistent-meets, set-frontier}
+use Rattle.fw_model.proofs.RecoveryLaws.{denoted-full}
 use Rattle.fw_examples.specs.Flows.{loop_counts_up, regroup_by_three, two_batches}
-use Rattle.fw_examples.specs.UnderWay.{under_way}
+use Rattle.fw_examples.specs.Numbers.{numbered_both, numbers}
 use Rattle.fw_examples.specs.Recovery.{counting_failed, restored}
-use Rattle.fw_examples.specs.RunningTotal.{totals, total_flow, five_batches, two_epochs, next_epochs, output_failed, two_epochs_kept, alike}
-use Rattle.fw_examples.specs.Numbers.{numbers, numbered_both}
-use Rattle.fw_examples.specs.WitnessesOfFiltering.{kept_totals, noted_totals, kept_rounds, kept_epoch, TotalsAreFiltered, LoopIsFiltered, SequenceIsFiltered, NumbersAreDelivered}
-use Rattle.fw_examples.proofs.FrontierFacts.{one_not_same}
+use Rattle.fw_examples.specs.RunningTotal.{output_failed, totals, totals_denoted, two_epochs_kept}
+use Rattle.fw_examples.specs.WitnessesOfFiltering.{LoopIsFiltered, NumbersAreDelivered, SequenceIsFiltered, TotalsAreFiltered, kept_epoch}
+use Rattle.fw_examples.proofs.Choosing.{lies}
 use Rattle.fw_examples.proofs.Complete.{under_way_is_complete}
-use Rattle.fw_examples.proofs.Legal.{under_way_is_legal, under_way_leaves, restored_leaves}
 use Rattle.fw_examples.proofs.Largest.{restored_is_largest}
-use Rattle.fw_examples.proofs.Walks.{is_well_formed}
-use Rattle.fw_examples.proofs.TotalDone.{pending_past, nothing_owed}
-use Rattle.fw_examples.proofs.TotalRun.{total_is_legal, one_pending, sum_pending, none_owed}
-use Rattle.fw_examples.proofs.TotalChoices.{until_within, kept_consistent}
-use Rattle.fw_examples.proofs.LoopWitness.{loop_is_reached}
+use Rattle.fw_examples.proofs.LoopWitness.{loop_is_reached, loop_is_restored, under_way_is_legal, under_way_leaves}
+use Rattle.fw_examples.proofs.NumbersRun.{numbers_are_legal, numbers_have_epochs, regroup_is_well_formed}
 use Rattle.fw_examples.proofs.Orders.{within_two}
-use Rattle.fw_examples.proofs.NumbersRun.{regroup_is_well_formed, numbers_have_epochs, numbers_are_legal}
-
--- a consistent choice meets the inclusions
-inclusions_of : (sys : System) (state : Machine) (offered : ℕ → Cut → Type 0) (choice : Choice) → IsConsistent sys state offered choice
-    → MeetsInclusions sys state choice
-inclusions_of sys state offered choice is = record {
-  one_cut_each = is.one_cut_each;
-  one_note_each = is.one_note_each;
-  delivered = is.delivered;
-  notified = is.notified;
-  own = is.own;
-  notes = is.notes;
-}
+use Rattle.fw_examples.proofs.Places.{all_seven}
+use Rattle.fw_examples.proofs.TotalChoices.{kept_consistent}
+use Rattle.fw_examples.proofs.TotalRun.{totals_formed}
+use Rattle.fw_examples.proofs.TotalWitnesses.{some_is_settled, total_is_legal, totals_are_well_formed}
+use Rattle.fw_examples.proofs.Walks.{is_well_formed}
+use Rattle.fw_model.specs.Filtering.{ComeFromKept, MeetsInclusions}
 
 -- ---- the running total
 
-totals_come_from_kept : ComeFromKept totals (next_epochs ++ two_epochs) kept_totals
-unfolding kind_of receiver sender sends batches_of bounds_of phi
-totals_come_from_kept zero = ((λ k. absurd (false≢true k)), ((λ k. refl), tt))
-totals_come_from_kept (suc zero) = ((λ k. refl), tt)
-totals_come_from_kept (suc (suc e)) = each-one _ (delivered (next_epochs ++ two_epochs) (suc (suc e))) (λ m k. and_from _ _ k k)
-
-totals_are_noted : (p : ℕ)
-    → AllByRecursion (λ t. kept_totals p t ≡ true → noted_totals p t ≡ true) (flat_map (stamp_of_notice p) (next_epochs ++ two_epochs))
-unfolding kind_of bounds_of
-totals_are_noted zero = tt
-totals_are_noted (suc zero) = ((λ k. absurd (false≢true k)), ((λ k. refl), tt))
-totals_are_noted (suc (suc zero)) = tt
-totals_are_noted (suc (suc (suc p))) = each-one _ (flat_map (stamp_of_notice (suc (suc (suc p)))) (next_epochs ++ two_epochs)) (λ t k. and_from _ _ k refl)
-
-noted_is_kept : (p : ℕ) → Within (noted_totals p) (kept_totals p)
-unfolding kind_of bounds_of
-noted_is_kept zero t i = i
-noted_is_kept (suc zero) t i = i
-noted_is_kept (suc (suc zero)) t i = i
-noted_is_kept (suc (suc (suc p))) t i = (and_parts _ _ i).0
-
-notes_follow : (e : ℕ) → Within (noted_totals (receiver total_flow e)) (phi totals (next_epochs ++ two_epochs) e (noted_totals (sender total_flow e)))
-unfolding kind_of receiver sender bounds_of phi
-notes_follow zero t i = and_from _ _ (and_parts _ _ i).0 i
-notes_follow (suc zero) t i = and_from _ _ (and_parts _ _ i).0 i
-notes_follow (suc (suc e)) t i = and_from _ _ (and_parts _ _ i).0 i
-
-totals_are_kept : IsConsistentlyKept totals (next_epochs ++ two_epochs) kept_totals noted_totals
-totals_are_kept = record {
-  kept = λ p. set-frontier totals p _;
-  noted = λ p. frontier-closed (bounds_of total_flow p) (front_of (alike 2) p);
-  delivered = totals_come_from_kept;
-  notified = totals_are_noted;
-  own = noted_is_kept;
-  notes = notes_follow;
-}
-
-totals_are_full : IsFull totals output_failed
-unfolding receiver bounds_of kind_of
-totals_are_full = record { quiet = quiet; paid = λ p t i. nothing_owed policy.Lazy five_batches (next_epochs ++ two_epochs) none_owed p t }
-  where
-    quiet : (p : ℕ) (t : Stamp) → frontier_of (bounds_of total_flow p) (front_of output_failed.settled p) t ≡ true → IsQuiet totals (next_epochs ++ two_epochs) p t
-    quiet p t i zero r =
-        ap (some_at (same t)) one_pending
-        ∙ one_not_same _ (3 ∷ []) t (subst (λ q. frontier_of (bounds_of total_flow q) (front_of output_failed.settled q) t ≡ true) (sym r) i)
-    quiet p t i (suc zero) r =
-        ap (some_at (same t)) sum_pending
-        ∙ one_not_same _ (2 ∷ []) t (subst (λ q. frontier_of (bounds_of total_flow q) (front_of output_failed.settled q) t ≡ true) (sym r) i)
-    quiet p t i (suc (suc e)) r = ap (some_at (same t)) (pending_past policy.Lazy five_batches (next_epochs ++ two_epochs) e)
+totals_meet : MeetsInclusions totals output_failed two_epochs_kept
+totals_meet = consistent-meets totals output_failed (is_failed output_failed) kept two_epochs_kept (kept_consistent (is_failed output_failed))
 
 pub totals_are_filtered : TotalsAreFiltered
-unfolding kind_of policy_of receiver sender bounds_of
+unfolding kind_of policy_of receiver sender sends batches_of bounds_of
 totals_are_filtered = record {
   legal = total_is_legal;
-  consistently = totals_are_kept;
-  inclusions = inclusions_of totals output_failed _ two_epochs_kept (kept_consistent (is_failed output_failed));
+  consistently = choice-consistent totals output_failed two_epochs_kept totals_formed totals_meet;
+  inclusions = totals_meet;
   remains = refl;
-  full = totals_are_full;
-  cut = until_within _ 2 3 (lit≤ tt);
+  full = denoted-full totals totals_denoted output_failed totals_are_well_formed.well_formed totals_are_well_formed.denoted total_is_legal some_is_settled.denoted;
+  cut = lies _ (until 2) (until 3) refl;
   discarded = (kept_consistent (is_failed output_failed)).discarded 0 (lit< tt);
   no_log = refl;
-  was_pending = one_pending;
+  was_pending = refl;
 }
 
 -- ---- the loop
 
 loop_notifies_nobody : NotifiesNobody loop_counts_up
 unfolding kind_of
-loop_notifies_nobody zero = refl
-loop_notifies_nobody (suc zero) = refl
-loop_notifies_nobody (suc (suc zero)) = refl
-loop_notifies_nobody (suc (suc (suc zero))) = refl
-loop_notifies_nobody (suc (suc (suc (suc zero)))) = refl
-loop_notifies_nobody (suc (suc (suc (suc (suc zero))))) = refl
-loop_notifies_nobody (suc (suc (suc (suc (suc (suc zero)))))) = refl
-loop_notifies_nobody (suc (suc (suc (suc (suc (suc (suc p))))))) = refl
+loop_notifies_nobody = all_seven _ refl refl refl refl refl refl refl (λ p. refl)
 
-loop_comes_from_kept : ComeFromKept two_batches under_way kept_rounds
-unfolding kind_of receiver sender bounds_of max_of phi
-loop_comes_from_kept zero = ((λ k. refl), ((λ k. refl), ((λ k. refl), tt)))
-loop_comes_from_kept (suc zero) = ((λ k. refl), ((λ k. refl), ((λ k. refl), tt)))
-loop_comes_from_kept (suc (suc zero)) = ((λ k. refl), ((λ k. refl), ((λ k. refl), ((λ k. refl), tt))))
-loop_comes_from_kept (suc (suc (suc zero))) = ((λ k. refl), ((λ k. refl), tt))
-loop_comes_from_kept (suc (suc (suc (suc zero)))) = ((λ k. refl), ((λ k. refl), tt))
-loop_comes_from_kept (suc (suc (suc (suc (suc zero))))) = tt
-loop_comes_from_kept (suc (suc (suc (suc (suc (suc zero)))))) = tt
-loop_comes_from_kept (suc (suc (suc (suc (suc (suc (suc e))))))) =
-    each-one _ (delivered under_way (suc (suc (suc (suc (suc (suc (suc e)))))))) (λ m k. and_from _ _ k k)
+loop_meets : MeetsInclusions two_batches counting_failed restored
+loop_meets = consistent-meets two_batches counting_failed (is_failed counting_failed) kept restored restored_is_largest.consistent
 
 pub loop_is_filtered : LoopIsFiltered
 unfolding kind_of receiver sender sends bounds_of batches_of max_of
@@ -148,18 +66,18 @@ loop_is_filtered = record {
   nobody = loop_notifies_nobody;
   legal = under_way_is_legal;
   frontiers = λ p. set-frontier two_batches p _;
-  come = loop_comes_from_kept;
+  come = (choice-consistent two_batches counting_failed restored is_well_formed loop_meets).delivered;
   remains = refl;
-  inclusions = inclusions_of two_batches counting_failed _ restored restored_is_largest.consistent;
+  inclusions = loop_meets;
   full = record { quiet = under_way_is_complete.admissible.quiet; paid = under_way_is_complete.admissible.paid };
   present = refl;
   two_were_pending = under_way_leaves 3;
-  one_is_pending = restored_leaves 3;
+  one_is_pending = loop_is_restored.waiting 3;
   fewer = within_two 4294967295 3 _ _ (λ x y hx hy k. grind (arith, nat_tests));
   sent_from_fewer = refl;
   cut = λ t i. i;
   one_was_pending = under_way_leaves 2;
-  two_are_pending = restored_leaves 2;
+  two_are_pending = loop_is_restored.waiting 2;
 }
 
 -- ---- the sequence

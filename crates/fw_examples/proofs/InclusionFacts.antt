@@ -1,13 +1,19 @@
 -- Leaving out one inclusion.
-use Rattle.std.proofs.Common.{◌≡◌, ◌≢◌, ◌⊎◌, ℕ, zero, suc, refl, sym, ap, ◌∙◌, subst, inl, inr, ⊎_elim}
-use Rattle.std.proofs.lemmas.Bool.{cases_eq}
-use Rattle.fw_flow.specs.declared.choice.Cut.{Cut}
-use Rattle.fw_flow.specs.Dataflow.{System}
+use Rattle.std.specs.List.{AllByRecursion, list_all}
+use Rattle.std.proofs.Common.{Bool, List, [], ap, eqb-true, inl, inr, length, refl, subst, suc, sym, true, zero, ℕ, ⊎_elim, ◌==◌, ◌||◌, ◌∙◌, ◌∷◌, ◌≡◌, ◌≢◌, ◌⊎◌}
+use Rattle.std.proofs.lemmas.Bool.{cases_eq, or_cases}
+use Rattle.fw_time.proofs.EachLaws.{each-of_all}
+use Rattle.fw_flow.specs.Dataflow.{System, bounds_of}
+use Rattle.fw_flow.specs.WellFormed.{IsWellFormed}
 use Rattle.fw_flow.specs.declared.choice.Choice.{Choice}
-use Rattle.fw_model.specs.Choice.{IsConsistent}
-use Rattle.fw_model.specs.Machine.{Machine}
+use Rattle.fw_flow.specs.declared.choice.Cut.{Cut}
+use Rattle.fw_model.specs.Choice.{IsConsistent, cut_of, kept}
+use Rattle.fw_model.specs.Machine.{Machine, front_of, is_failed}
 use Rattle.fw_model.specs.Steps.{offers}
-use Rattle.fw_examples.specs.Inclusions.{Inclusion, of_delivered, of_discarded, of_notified, of_own, of_notes, Meets, IsConsistentWithout, LeavesOutOne}
+use Rattle.fw_examples.specs.Inclusions.{Inclusion, IsConsistentWithout, LeavesOutOne, Meets, of_delivered, of_discarded, of_notes, of_notified, of_own}
+use Rattle.fw_examples.proofs.Choosing.{are_offered, canonical_notes, delivered_by, discarded_by, is_delivered_kept, is_discarded_kept, is_in_cut, is_note_kept, is_notified_kept, notes_by, notified_by, offered_by, own_by}
+use Rattle.fw_examples.proofs.Fronts.{is_canonical}
+use Rattle.fw_examples.proofs.Places.{each_below}
 
 -- the place of an inclusion
 abbrev place : Inclusion → ℕ
@@ -79,3 +85,57 @@ leaves_out_one left_out sys state choice = (
     notes = with_one left_out sys state (offers sys state) choice both.0 both.1 of_notes;
   },
 )
+
+-- ---- a choice that meets all but one, by tests that compute
+
+-- whether the choice meets the inclusion
+abbrev pub is_met : System → Machine → Choice → Inclusion → Bool
+is_met sys state choice of_delivered = each_below (is_delivered_kept sys state choice) (length sys.flow.edges)
+is_met sys state choice of_discarded = each_below (is_discarded_kept sys state choice) (length sys.flow.edges)
+is_met sys state choice of_notified = each_below (is_notified_kept sys state choice) (length sys.flow.nodes)
+is_met sys state choice of_own = each_below (λ p. is_in_cut (front_of choice.notes p) (cut_of choice p)) (length sys.flow.nodes)
+is_met sys state choice of_notes = each_below (is_note_kept sys choice) (length sys.flow.edges)
+
+met_by : (sys : System) (state : Machine) (choice : Choice) → IsWellFormed sys.flow → (i : Inclusion) → is_met sys state choice i ≡ true → Meets sys state choice i
+met_by sys state choice formed of_delivered h = delivered_by sys state choice formed h
+met_by sys state choice formed of_discarded h = discarded_by sys state choice formed h
+met_by sys state choice formed of_notified h = notified_by sys state choice h
+met_by sys state choice formed of_own h = own_by sys choice h
+met_by sys state choice formed of_notes h = notes_by sys state choice formed h
+
+-- the five
+abbrev pub inclusions : List Inclusion
+inclusions = of_delivered ∷ of_discarded ∷ of_notified ∷ of_own ∷ of_notes ∷ []
+
+-- whether the choice meets each but perhaps this one
+abbrev pub is_met_but : Inclusion → System → Machine → Choice → Bool
+is_met_but left_out sys state choice = list_all (λ i. (place i == place left_out) || is_met sys state choice i) inclusions
+
+pub without_by : (left_out : Inclusion) (sys : System) (state : Machine) (choice : Choice) → IsWellFormed sys.flow
+    → length choice.cuts ≡ length sys.flow.nodes → length choice.notes ≡ length sys.flow.nodes → are_offered sys state (is_failed state) kept choice ≡ true
+    → each_below (λ p. is_canonical (bounds_of sys.flow p) (front_of choice.notes p)) (length sys.flow.nodes) ≡ true
+    → is_met_but left_out sys state choice ≡ true → IsConsistentWithout left_out sys state (offers sys state) choice
+without_by left_out sys state choice formed one_cut one_note o c h = record {
+  one_cut_each = one_cut;
+  one_note_each = one_note;
+  offered = offered_by sys state (is_failed state) kept choice o;
+  canonical = canonical_notes sys choice c;
+  others = λ i n. met_by sys state choice formed i (at i n);
+}
+  where
+    met : AllByRecursion (λ i. ((place i == place left_out) || is_met sys state choice i) ≡ true) inclusions
+    met = each-of_all (λ i. (place i == place left_out) || is_met sys state choice i) inclusions h
+
+    by_one : (i : Inclusion) → (i ≡ left_out → ⊥) → ((place i == place left_out) || is_met sys state choice i) ≡ true → is_met sys state choice i ≡ true
+    by_one i n k =
+        ⊎_elim
+        (λ e. absurd (n (sym (at_its_place i) ∙ ap at_place (eqb-true (place i) (place left_out) e) ∙ at_its_place left_out)))
+        (λ m. m)
+        (or_cases _ _ k)
+
+    at : (i : Inclusion) → (i ≡ left_out → ⊥) → is_met sys state choice i ≡ true
+    at of_delivered n = by_one of_delivered n met.0
+    at of_discarded n = by_one of_discarded n met.1.0
+    at of_notified n = by_one of_notified n met.1.1.0
+    at of_own n = by_one of_own n met.1.1.1.0
+    at of_notes n = by_one of_notes n met.1.1.1.1.0

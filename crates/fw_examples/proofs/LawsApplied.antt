@@ -1,29 +1,29 @@
 -- The laws applied to their witnesses, which meet what they ask.
-use Rattle.std.proofs.Common.{[], ◌∷◌, ◌++◌, refl, lit<}
-use Rattle.fw_flow.specs.declared.event.Event.TheVariants.{Inject as Injected, Deliver as Delivered}
-use Rattle.fw_flow.specs.declared.step.Step.TheVariants.{Recover, Collect}
+use Rattle.std.proofs.Common.{[], lit<, refl, ◌++◌, ◌∷◌}
+use Rattle.fw_flow.specs.Dataflow.{bounds_of, kind_of, receiver, sender}
 use Rattle.fw_flow.specs.declared.choice.Cut.TheVariants.{At}
-use Rattle.fw_flow.specs.Dataflow.{kind_of, sender, receiver, bounds_of}
+use Rattle.fw_flow.specs.declared.event.Event.TheVariants.{Deliver as Delivered, Inject as Injected}
+use Rattle.fw_flow.specs.declared.step.Step.TheVariants.{Collect, Recover}
 use Rattle.fw_model.specs.Choice.{ever, kept, until}
 use Rattle.fw_model.specs.Machine.{events, first_state, is_failed}
-use Rattle.fw_model.specs.Steps.{did, cuts, lows}
-use Rattle.fw_examples.specs.Flows.{loop_counts_up, two_batches}
-use Rattle.fw_examples.specs.OneSelect.{rec_of}
-use Rattle.fw_examples.specs.UnderWay.{under_way, counted_rounds}
+use Rattle.fw_model.specs.Steps.{cuts, did, lows}
+use Rattle.fw_examples.specs.Flows.{loop_counts_up, pair, two_batches}
+use Rattle.fw_examples.specs.LawsApplied.{ChoicesApply, ChoosingApplies, DeliveriesApply, FilteringApplies, LegalHistoriesApply, RunsApply, StepsApply}
+use Rattle.fw_examples.specs.Numbers.{numbered_both, numbers}
+use Rattle.fw_examples.specs.OneSelect.{out}
 use Rattle.fw_examples.specs.Recovery.{counting_failed, restored}
-use Rattle.fw_examples.specs.RunningTotal.{totals, totals_denoted, out, at_epoch, two_epochs, next_epochs, output_failed, come_back, two_epochs_kept, two_kept_noting, epoch_kept, steps_up_to_two, outcomes_up_to_two, steps_to_failure, outcomes_to_failure, steps_through_recovery, outcomes_through_recovery, steps_without_failure, outcomes_without_failure}
-use Rattle.fw_examples.specs.Numbers.{numbers, numbered_both}
-use Rattle.fw_examples.specs.WitnessesOfRuns.{complete_then}
-use Rattle.fw_examples.specs.WitnessesOfChoices.{inc, first_rounds, both_rounds, joined_rounds}
+use Rattle.fw_examples.specs.RunningTotal.{at_epoch, come_back, epoch_kept, next_epochs, outcomes_through_recovery, outcomes_to_failure, outcomes_up_to_two, outcomes_without_failure, output_failed, steps_through_recovery, steps_to_failure, steps_up_to_two, steps_without_failure, totals, totals_denoted, two_epochs, two_epochs_kept, two_kept_noting}
+use Rattle.fw_examples.specs.UnderWay.{counted_rounds, under_way}
+use Rattle.fw_examples.specs.WitnessesOfChoices.{both_rounds, first_rounds, inc, joined_rounds}
 use Rattle.fw_examples.specs.WitnessesOfDeliveries.{complete_two}
-use Rattle.fw_examples.specs.WitnessesOfFiltering.{kept_rounds, kept_epoch, kept_totals, noted_totals, two_rounds}
-use Rattle.fw_examples.specs.LawsApplied.{RunsApply, ChoosingApplies, StepsApply, ChoicesApply, DeliveriesApply, LegalHistoriesApply, FilteringApplies}
-use Rattle.fw_examples.proofs.TotalWitnesses.{totals_are_well_formed, failure_is_reached, recovery_is_reached, two_runs_meet, some_is_settled, something_is_chosen, each_step_has_its_choice, more_is_complete}
-use Rattle.fw_examples.proofs.TotalRun.{again_acknowledged, ten_acknowledged, two_collected, runs_to_two}
-use Rattle.fw_examples.proofs.TotalChoices.{collects, run_through_recovery}
+use Rattle.fw_examples.specs.WitnessesOfFiltering.{kept_epoch, kept_rounds, kept_totals, noted_totals, two_rounds}
+use Rattle.fw_examples.specs.WitnessesOfRuns.{complete_then}
 use Rattle.fw_examples.proofs.ChoiceWitnesses.{choices_unite, cuts_unite, join_is_a_frontier}
-use Rattle.fw_examples.proofs.DeliveryWitnesses.{an_epoch_is_closed, notified_and_goes_on, two_epochs_are_complete, one_is_on_its_way}
-use Rattle.fw_examples.proofs.FilteringWitnesses.{totals_are_filtered, loop_is_filtered, sequence_is_filtered, numbers_are_delivered}
+use Rattle.fw_examples.proofs.DeliveryWitnesses.{an_epoch_is_closed, notified_and_goes_on, one_is_on_its_way, two_epochs_are_complete}
+use Rattle.fw_examples.proofs.FilteringWitnesses.{loop_is_filtered, numbers_are_delivered, sequence_is_filtered, totals_are_filtered}
+use Rattle.fw_examples.proofs.TotalChoices.{collects, run_through_recovery, sum_acknowledged, two_collected}
+use Rattle.fw_examples.proofs.TotalRun.{runs_to_two, ten_acknowledged}
+use Rattle.fw_examples.proofs.TotalWitnesses.{each_step_has_its_choice, failure_is_reached, more_is_complete, recovery_is_reached, some_is_settled, something_is_chosen, totals_are_well_formed, two_runs_meet}
 
 pub runs_apply : RunsApply
 unfolding kind_of
@@ -36,7 +36,7 @@ runs_apply =
           (come_back, recovery_is_reached.step, refl);
       legal = λ law. law totals steps_to_failure outcomes_to_failure output_failed failure_is_reached.no_recovery reached;
       denoted = λ law. law totals totals_denoted system.well_formed system.denoted steps_to_failure outcomes_to_failure output_failed failure_is_reached.no_recovery reached;
-      in_order = λ law. law totals steps_through_recovery outcomes_through_recovery again_acknowledged run_through_recovery out;
+      in_order = λ law. law totals steps_through_recovery outcomes_through_recovery (sum_acknowledged come_back) run_through_recovery out;
       step = λ law. law totals output_failed Recover come_back (did (cuts two_epochs_kept)) system.well_formed.flow system.epochs recovery_is_reached.legal recovery_is_reached.step;
       through = λ law. law totals (steps_to_failure ++ Recover ∷ []) (outcomes_to_failure ++ did (cuts two_epochs_kept) ∷ []) come_back system.well_formed.flow system.epochs recovery_is_reached.reached;
       candidates = λ law. law totals steps_to_failure outcomes_to_failure output_failed reached (is_failed output_failed) kept 1 (until 2) (lit< tt) refl some_is_settled.candidate;
@@ -60,7 +60,7 @@ choosing_applies =
       rises = λ law. law totals formed steps_up_to_two outcomes_up_to_two ten_acknowledged runs_to_two Collect two_collected (did (lows two_epochs_kept)) collects 1 (lit< tt);
       ever_largest = λ law. (law totals formed steps_to_failure outcomes_to_failure output_failed reached (is_failed output_failed) two_epochs_kept).0 something_is_chosen.largest;
       one_bag = λ law recs shown. law totals formed steps_without_failure steps_through_recovery outcomes_without_failure outcomes_through_recovery two_runs_meet.without.0 two_runs_meet.through.0
-          two_runs_meet.without.1 two_runs_meet.through.1 2 (2 ∷ []) recs (rec_of 1 15 ∷ []) shown two_runs_meet.shown_through;
+          two_runs_meet.without.1 two_runs_meet.through.1 2 (2 ∷ []) recs (pair 1 15 ∷ []) shown two_runs_meet.shown_through;
     }
 
 pub steps_apply : StepsApply
@@ -112,8 +112,8 @@ deliveries_apply =
       sent_denoted = λ law. law totals two_epochs totals_denoted system.well_formed two.legal system.denoted complete_two two.admissible 1 (1 ∷ []) two.inside_phi;
       delivered_denoted = λ law. law totals two_epochs totals_denoted system.well_formed two.legal system.denoted complete_two two.admissible 1 (1 ∷ []) two.inside;
       delivered_final = λ law. law totals two_epochs flow system.epochs complete_two two.admissible next_epochs goes_on 1 (1 ∷ []) two.inside;
-      sent_sub_bag = λ law. law totals (next_epochs ++ two_epochs) totals_denoted system.well_formed one_is_on_its_way.legal system.denoted 1 (2 ∷ []) (rec_of 1 15);
-      delivered_sub_bag = λ law. law totals (next_epochs ++ two_epochs) totals_denoted system.well_formed one_is_on_its_way.legal system.denoted 1 (2 ∷ []) (rec_of 1 15);
+      sent_sub_bag = λ law. law totals (next_epochs ++ two_epochs) totals_denoted system.well_formed one_is_on_its_way.legal system.denoted 1 (2 ∷ []) (pair 1 15);
+      delivered_sub_bag = λ law. law totals (next_epochs ++ two_epochs) totals_denoted system.well_formed one_is_on_its_way.legal system.denoted 1 (2 ∷ []) (pair 1 15);
       enabled_outside = λ law. law totals two_epochs complete_two two.admissible (Injected 0 2) two.enabled;
       stays_admissible = λ law. law totals two_epochs flow system.epochs two.legal complete_two two.admissible (Injected 0 2) two.enabled;
     }

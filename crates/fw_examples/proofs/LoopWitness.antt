@@ -1,85 +1,52 @@
 -- The loop that counts up as a witness for the laws of runs.
-use Rattle.std.proofs.Common.{◌≡◌, ℕ, zero, suc, ◌≤◌, ◌^◌, false, [], length, refl, lit<, lit≤}
-use Rattle.std.proofs.lemmas.Bool.{true≢false}
-use Rattle.std.specs.List.{AllByRecursion}
-use Rattle.fw_flow.specs.Dataflow.{is_input_kind, kind_of, batches_of}
-use Rattle.fw_flow.specs.WellFormed.{IsWellFormedSystem, IsBatch}
-use Rattle.fw_model.specs.LawsOfLegalHistories.{HasEpochs}
-use Rattle.fw_model.specs.Machine.{first_state}
+use Rattle.std.proofs.Common.{[], get_or, refl, suc, ℕ, ◌≡◌}
+use Rattle.fw_flow.specs.Dataflow.{batches_of, bounds_of, kind_of, max_of, receiver, sender}
+use Rattle.fw_flow.specs.NodeFunction.{sends}
+use Rattle.fw_flow.specs.WellFormed.{IsWellFormedSystem}
+use Rattle.fw_model.specs.History.{IsLegal, delivered, pending}
 use Rattle.fw_model.specs.Steps.{recovered}
-use Rattle.fw_model.proofs.GoingOn.{runs-go_on}
-use Rattle.fw_examples.specs.Flows.{loop_counts_up, two_batches}
-use Rattle.fw_examples.specs.UnderWay.{complete_fronts}
-use Rattle.fw_examples.specs.Recovery.{counting_failed, restored, steps_taken, outcomes_shown, steps_left, outcomes_left}
+use Rattle.fw_model.proofs.DomainLaws.{has_epochs}
+use Rattle.fw_model.proofs.RecoveryLaws.{runs-legal}
+use Rattle.fw_examples.specs.Flows.{two_batches}
+use Rattle.fw_examples.specs.Recovery.{IsRestored, counting_failed, outcomes_shown, restored, steps_taken, without_the_second}
+use Rattle.fw_examples.specs.UnderWay.{IsUnderWay, complete_fronts, still_pending, under_way}
 use Rattle.fw_examples.specs.WitnessesOfRuns.{LoopIsReached}
-use Rattle.fw_examples.proofs.Walks.{is_well_formed}
+use Rattle.fw_examples.proofs.Places.{all_seven}
 use Rattle.fw_examples.proofs.Rounds.{two_batches_solves}
-use Rattle.fw_examples.proofs.Running.{runs_to_recovery}
-use Rattle.fw_examples.proofs.Ending.{runs_to_the_end}
+use Rattle.fw_examples.proofs.Running.{loop_outcomes, loop_steps, runs_to_failure, runs_to_recovery, runs_to_the_end}
+use Rattle.fw_examples.proofs.Walks.{is_well_formed}
+use Rattle.fw_examples.proofs.WellFormed.{system_by}
+use Rattle.fw_flow.proofs.MessageLaws.{less-none}
 
-loop_is_well_formed : IsWellFormedSystem two_batches
+loop_system : IsWellFormedSystem two_batches
 unfolding kind_of batches_of
-loop_is_well_formed = record { flow = is_well_formed; one_each = refl; of_inputs = of_inputs; few = few; batches = batches }
-  where
-    of_inputs : (p : ℕ) → is_input_kind (kind_of loop_counts_up p) ≡ false → batches_of two_batches p ≡ []
-    of_inputs zero k = absurd (true≢false k)
-    of_inputs (suc zero) k = refl
-    of_inputs (suc (suc zero)) k = refl
-    of_inputs (suc (suc (suc zero))) k = refl
-    of_inputs (suc (suc (suc (suc zero)))) k = refl
-    of_inputs (suc (suc (suc (suc (suc zero))))) k = refl
-    of_inputs (suc (suc (suc (suc (suc (suc zero)))))) k = refl
-    of_inputs (suc (suc (suc (suc (suc (suc (suc p))))))) k = refl
-
-    few : (p : ℕ) → length (batches_of two_batches p) ≤ 2 ^ 20
-    few zero = lit≤ tt
-    few (suc zero) = lit≤ tt
-    few (suc (suc zero)) = lit≤ tt
-    few (suc (suc (suc zero))) = lit≤ tt
-    few (suc (suc (suc (suc zero)))) = lit≤ tt
-    few (suc (suc (suc (suc (suc zero))))) = lit≤ tt
-    few (suc (suc (suc (suc (suc (suc zero)))))) = lit≤ tt
-    few (suc (suc (suc (suc (suc (suc (suc p))))))) = lit≤ tt
-
-    batches : (p : ℕ) → AllByRecursion IsBatch (batches_of two_batches p)
-    batches zero = (
-      record { recs = (record { key = lit< tt; value = lit< tt }, tt); ascending = (tt, tt) },
-      (
-        record {
-          recs = (record { key = lit< tt; value = lit< tt }, (record { key = lit< tt; value = lit< tt }, tt));
-          ascending = ((refl, tt), (tt, tt));
-        },
-        tt,
-      ),
-    )
-    batches (suc zero) = tt
-    batches (suc (suc zero)) = tt
-    batches (suc (suc (suc zero))) = tt
-    batches (suc (suc (suc (suc zero)))) = tt
-    batches (suc (suc (suc (suc (suc zero))))) = tt
-    batches (suc (suc (suc (suc (suc (suc zero)))))) = tt
-    batches (suc (suc (suc (suc (suc (suc (suc p))))))) = tt
-
-loop_has_epochs : HasEpochs two_batches
-unfolding batches_of
-loop_has_epochs zero = lit≤ tt
-loop_has_epochs (suc zero) = lit≤ tt
-loop_has_epochs (suc (suc zero)) = lit≤ tt
-loop_has_epochs (suc (suc (suc zero))) = lit≤ tt
-loop_has_epochs (suc (suc (suc (suc zero)))) = lit≤ tt
-loop_has_epochs (suc (suc (suc (suc (suc zero))))) = lit≤ tt
-loop_has_epochs (suc (suc (suc (suc (suc (suc zero)))))) = lit≤ tt
-loop_has_epochs (suc (suc (suc (suc (suc (suc (suc s))))))) = lit≤ tt
+loop_system = system_by two_batches is_well_formed refl refl
 
 pub loop_is_reached : LoopIsReached
 loop_is_reached = record {
-  well_formed = loop_is_well_formed;
-  epochs = loop_has_epochs;
+  well_formed = loop_system;
+  epochs = has_epochs two_batches loop_system;
   denoted = two_batches_solves;
-  runs = (
-    runs_to_the_end.0,
-    runs-go_on two_batches (first_state two_batches) (recovered two_batches counting_failed restored complete_fronts) runs_to_the_end.0
-        steps_taken steps_left outcomes_shown outcomes_left runs_to_recovery runs_to_the_end.1,
-  );
+  runs = (_, runs_to_the_end);
   acknowledged = refl;
+}
+
+-- ---- which events are legal, and what they leave pending
+
+pub under_way_is_legal : IsLegal two_batches under_way
+under_way_is_legal = runs-legal two_batches loop_steps loop_outcomes counting_failed is_well_formed (has_epochs two_batches loop_system) runs_to_failure
+
+pub under_way_leaves : (e : ℕ) → pending two_batches under_way e ≡ get_or still_pending e []
+unfolding kind_of sender receiver bounds_of batches_of max_of sends
+under_way_leaves = all_seven _ refl refl refl refl refl refl refl (λ e. less-none (delivered under_way (suc (suc (suc (suc (suc (suc (suc e)))))))))
+
+pub loop_under_way : IsUnderWay
+loop_under_way = record { legal = under_way_is_legal; waiting = under_way_leaves }
+
+pub loop_is_restored : IsRestored
+unfolding kind_of sender receiver bounds_of batches_of max_of sends
+loop_is_restored = record {
+  remains = refl;
+  legal = runs-legal two_batches steps_taken outcomes_shown (recovered two_batches counting_failed restored complete_fronts) is_well_formed (has_epochs two_batches loop_system) runs_to_recovery;
+  waiting = all_seven _ refl refl refl refl refl refl refl (λ e. less-none (delivered without_the_second (suc (suc (suc (suc (suc (suc (suc e)))))))));
 }

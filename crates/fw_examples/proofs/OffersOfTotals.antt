@@ -1,29 +1,31 @@
 -- What the nodes of the running total offer as data is what the machine offers.
-use Rattle.std.proofs.Common.{◌≡◌, ◌≢◌, ◌⊎◌, ◌↔◌, ℕ, zero, suc, ◌<◌, ◌≤◌, Bool, true, false, ◌&&◌, ◌==◌, cond, List, [], ◌∷◌, map, filter, refl, sym, subst, ap, inl, inr, lit<, lit≤, arith}
+use Rattle.fw_model.specs.Choice as machine
+use Rattle.fw_monitor.specs.Offers.{covers_of, stamps_from, AreAscending, AreFromEpochs, AreOffersOf, AreOffersIn, IsOffered, sent_by}
+use Rattle.fw_examples.proofs.Choosing.{until_more}
+use Rattle.std.proofs.Common.{Bool, List, [], ap, arith, cond, false, filter, inl, inr, lit<, lit≤, map, refl, subst, suc, sym, true, zero, ℕ, ◌&&◌, ◌<◌, ◌==◌, ◌↔◌, ◌∷◌, ◌≡◌, ◌≢◌, ◌≤◌, ◌⊎◌}
 use Rattle.std.proofs.lemmas.Bool.{false≢true, true≢false}
 use Rattle.std.proofs.lemmas.Bool.Decides.{nat_tests}
 use Rattle.fw_time.specs.Stamp.{Stamp}
 use Rattle.fw_time.specs.declared.stamp.Bounds.{Bounds}
-use Rattle.fw_frontier.specs.Frontier.{Frontier, Within, cover}
 use Rattle.fw_frontier.specs.Front.{Front, frontier_of}
-use Rattle.fw_flow.specs.declared.choice.Counted.{Counted}
-use Rattle.fw_flow.specs.declared.choice.Cut.{Cut}
-use Rattle.fw_flow.specs.declared.choice.Cut.TheVariants.{Present, At}
-use Rattle.fw_flow.specs.declared.event.Message.{Message}
-use Rattle.fw_flow.specs.declared.kind.Kind.TheVariants.{Sequence}
-use Rattle.fw_flow.specs.Dataflow.{kind_of, policy_of, sender, receiver, bounds_of, batches_of, greatest_number}
+use Rattle.fw_frontier.specs.Frontier.{Frontier, Within, cover}
+use Rattle.fw_flow.specs.Dataflow.{batches_of, bounds_of, greatest_number, kind_of, policy_of, receiver, sender}
 use Rattle.fw_flow.specs.NodeFunction.{sends}
 use Rattle.fw_flow.specs.Projection.{all_inside, phi, phi_by_count}
-use Rattle.fw_model.specs.Choice as machine
-use Rattle.fw_model.specs.Choice.{kept, until, covers_in, IsCandidate}
+use Rattle.fw_flow.specs.declared.choice.Counted.{Counted}
+use Rattle.fw_flow.specs.declared.choice.Cut.{Cut}
+use Rattle.fw_flow.specs.declared.choice.Cut.TheVariants.{At, Present}
+use Rattle.fw_flow.specs.declared.event.Message.{Message}
+use Rattle.fw_flow.specs.declared.kind.Kind.TheVariants.{Sequence}
+use Rattle.fw_model.specs.Choice.{IsCandidate, kept, until}
 use Rattle.fw_model.specs.Machine.{is_failed}
-use Rattle.fw_monitor.specs.Offers.{covers_of, stamps_from, AreAscending, AreFromEpochs, AreOffersOf, AreOffersIn, IsOffered, sent_by}
-use Rattle.fw_examples.specs.OffersOfTotals.{offers_of_totals, CheckpointsAreOffered}
-use Rattle.fw_examples.specs.RunningTotal.{totals, total_flow, output_failed, two_epochs_kept, two_kept_noting, at_epoch}
-use Rattle.fw_examples.proofs.ChoiceFacts.{by_three, canonical}
-use Rattle.fw_examples.proofs.TotalChoices.{until_within}
+use Rattle.fw_examples.specs.OffersOfTotals.{CheckpointsAreOffered, offers_of_totals}
+use Rattle.fw_examples.specs.RunningTotal.{at_epoch, output_failed, total_flow, totals, two_epochs_kept, two_kept_noting}
 use Rattle.fw_examples.proofs.ChoiceWitnesses.{less_is_consistent}
-use Rattle.fw_examples.proofs.TotalWitnesses.{totals_are_well_formed, something_is_chosen}
+use Rattle.fw_examples.proofs.Fronts.{canonical_by}
+use Rattle.fw_examples.proofs.Places.{by_three}
+use Rattle.fw_examples.proofs.TotalWitnesses.{something_is_chosen, totals_are_well_formed}
+use Rattle.fw_model.specs.Covers.{covers_in}
 
 -- ---- covers of epoch 1
 
@@ -46,7 +48,7 @@ epochs = record { greatest = greatest_number ∷ [] }
 
 -- the epochs below 2 lie within those below k, unless k is less
 holds_two : (f : Front) (k : ℕ) → 2 ≤ k → until k ≡ f → Within (frontier_of epochs (until 2)) (frontier_of epochs f)
-holds_two f k l e = subst (λ g. Within (frontier_of epochs (until 2)) (frontier_of epochs g)) e (until_within greatest_number 2 k l)
+holds_two f k l e = subst (λ g. Within (frontier_of epochs (until 2)) (frontier_of epochs g)) e (until_more epochs 2 k l)
 
 lacks_one : (f : Front) (k : ℕ) → k < 2 → f ≡ until k → Within (frontier_of epochs (until 2)) (frontier_of epochs f) → ⊥
 lacks_one f k l e w = go k l (subst (λ g. Within (frontier_of epochs (until 2)) (frontier_of epochs g)) e w)
@@ -120,34 +122,27 @@ unfolding kind_of policy_of bounds_of receiver
 of_flow = record {
   one_each = refl;
   records = by_three _ (
-    record { front = canonical _ (2 ∷ []) refl; notified = tt; delivered = tt; discarded = tt },
+    record { front = canonical_by _ (until 2) refl; notified = tt; delivered = tt; discarded = tt },
     (
-      record { front = canonical _ (3 ∷ []) refl; notified = tt; delivered = tt; discarded = tt },
-      (record { front = canonical _ (4 ∷ []) refl; notified = tt; delivered = tt; discarded = tt }, tt),
+      record { front = canonical_by _ (until 3) refl; notified = tt; delivered = tt; discarded = tt },
+      (record { front = canonical_by _ (until 4) refl; notified = tt; delivered = tt; discarded = tt }, tt),
     ),
   ) (
     record {
-      front = canonical _ (2 ∷ []) refl;
-      notified = canonical _ (2 ∷ []) refl;
-      delivered = (canonical _ (2 ∷ []) refl, tt);
-      discarded = (canonical _ (2 ∷ []) refl, tt);
+      front = canonical_by _ (until 2) refl;
+      notified = canonical_by _ (until 2) refl;
+      delivered = (canonical_by _ (until 2) refl, tt);
+      discarded = (canonical_by _ (until 2) refl, tt);
     },
     tt,
   )
       tt;
-  range = by_three _ tt tt (canonical _ (2 ∷ []) refl, canonical _ (2 ∷ []) refl);
+  range = by_three _ tt tt (canonical_by _ (until 2) refl, canonical_by _ (until 2) refl);
   listed = by_three _ refl refl tt;
   delivered = by_three _ tt (refl, (refl, tt)) (refl, tt);
   notified = by_three _ tt (refl, (refl, tt)) tt;
   sent = by_three _ (refl, (refl, (refl, tt))) (refl, (refl, tt)) tt;
-  epochs = epochs;
 }
-  where
-    epochs : (p : ℕ) → kind_of total_flow p ≡ Sequence → AreFromEpochs (sent_by offers_of_totals p)
-    epochs zero e = absurd (cc)
-    epochs (suc zero) e = absurd (cc)
-    epochs (suc (suc zero)) e = absurd (cc)
-    epochs (suc (suc (suc p))) e = absurd (cc)
 
 -- the epochs below different numbers are different frontiers
 until_apart : (j k : ℕ) → j < k → until j ≢ until k
@@ -164,8 +159,8 @@ until_apart j k l e = let here : j ≡ k = ap first e in absurd (omega arith)
 ascending : AreAscending total_flow offers_of_totals
 unfolding kind_of bounds_of
 ascending = by_three _ (
-  ((until_within _ 2 3 (lit≤ tt), until_apart 2 3 (lit< tt)), ((until_within _ 2 4 (lit≤ tt), until_apart 2 4 (lit< tt)), tt)),
-  (((until_within _ 3 4 (lit≤ tt), until_apart 3 4 (lit< tt)), tt), (tt, tt)),
+  ((until_more _ 2 3 (lit≤ tt), until_apart 2 3 (lit< tt)), ((until_more _ 2 4 (lit≤ tt), until_apart 2 4 (lit< tt)), tt)),
+  (((until_more _ 3 4 (lit≤ tt), until_apart 3 4 (lit< tt)), tt), (tt, tt)),
 )
     (tt, tt)
     tt
@@ -254,7 +249,7 @@ checkpoints_are_offered =
     record {
       way = refl;
       recorded = refl;
-      offered = (canonical _ (2 ∷ []) refl, inl (inl refl));
+      offered = (canonical_by _ (until 2) refl, inl (inl refl));
       present = refl;
       ascending = ascending;
       same = same;

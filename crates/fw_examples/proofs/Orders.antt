@@ -1,29 +1,11 @@
--- Frontiers by their outside stamps are frontiers, and what is pending outside them is not inside.
-use Rattle.std.proofs.Common.{◌≡◌, ℕ, ◌≤◌, Bool, true, false, not, ◌&&◌, List, [], ◌∷◌, refl, arith}
-use Rattle.std.proofs.lemmas.Bool.{and_parts, and_from, not-true, not_from_false, false_from_ne_true, both_ways}
+-- Frontiers of one coordinate and of two, by their stamps.
+use Rattle.std.proofs.Common.{Bool, [], arith, false, not, true, ℕ, ◌&&◌, ◌∷◌, ◌≡◌, ◌≤◌}
+use Rattle.std.proofs.lemmas.Bool.{and_from, and_parts, false_from_ne_true, not_from_false}
 use Rattle.std.proofs.lemmas.Bool.Decides.{nat_tests}
-use Rattle.fw_time.specs.Stamp.{Stamp, leq, same, in_domain}
+use Rattle.fw_time.specs.Stamp.{Stamp, in_domain, leq}
 use Rattle.fw_time.specs.declared.stamp.Bounds.{Bounds}
 use Rattle.fw_frontier.specs.Frontier.{Frontier, IsFrontier, Within}
-use Rattle.fw_frontier.specs.Front.{Front, inside}
-use Rattle.fw_frontier.proofs.InsideLaws.{inside-closed}
-use Rattle.fw_flow.specs.declared.event.Message.{Message}
-use Rattle.fw_model.specs.History.{some_at}
-
--- whether no message is at a stamp inside
-abbrev pub none_inside : Front → List Message → Bool
-none_inside os [] = true
-none_inside os (m ∷ ms) = not (inside os m.at) && none_inside os ms
-
--- at a stamp inside there is no message, where none is inside
-pub some_at-inside : (os : Front) (t : Stamp) → inside os t ≡ true → (ms : List Message) → none_inside os ms ≡ true
-    → some_at (same t) ms ≡ false
-some_at-inside os t h [] k = refl
-some_at-inside os t h (m ∷ ms) k =
-    let a : (not (inside os m.at) ≡ true) × (none_inside os ms ≡ true) = and_parts _ _ k in
-    let not_same : same t m.at ≡ false =
-    false_from_ne_true _ (λ e. both_ways _ (not-true _ a.0) (inside-closed os m.at t (and_parts (leq t m.at) (leq m.at t) e).1 h)) in
-    rw not_same (some_at-inside os t h ms a.1)
+use Rattle.fw_examples.specs.OneSelect.{out}
 
 -- a frontier with nothing pending inside has no stamp from a pending one on
 pub not_above : (bounds : Bounds) (f : Frontier) → IsFrontier bounds f → (o : Stamp) → in_domain bounds o ≡ true

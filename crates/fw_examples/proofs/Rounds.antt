@@ -1,11 +1,12 @@
 -- What the rounds of the loop that counts up come to.
-use Rattle.std.proofs.Common.{◌≡◌, zero, suc, false, List, [], ◌∷◌, ◌++◌, refl, ap, ◌∙◌}
-use Rattle.fw_time.specs.Stamp.{Stamp, same}
+use Rattle.std.proofs.Common.{List, [], ap, false, refl, ◌++◌, ◌∙◌, ◌∷◌, ◌≡◌}
 use Rattle.fw_bag.specs.declared.rec.Rec.{Rec}
-use Rattle.fw_flow.specs.Dataflow.{kind_of, sender, in_edges, batches_of, max_of}
-use Rattle.fw_flow.specs.WholeBags.{Timed, timed, recs_where}
-use Rattle.fw_model.specs.Denotation.{IsDenotation, rounds, bag_at}
-use Rattle.fw_examples.specs.Flows.{one_batch, two_batches, pair}
+use Rattle.fw_time.specs.Stamp.{Stamp, same}
+use Rattle.fw_flow.specs.Dataflow.{batches_of, in_edges, kind_of, max_of, sender}
+use Rattle.fw_flow.specs.WholeBags.{Timed, recs_where, timed}
+use Rattle.fw_model.specs.Denotation.{IsDenotation, bag_at, rounds}
+use Rattle.fw_examples.specs.Flows.{pair, two_batches}
+use Rattle.fw_examples.proofs.Places.{all_seven}
 
 -- what comes of the first batch
 first_values : List Rec
@@ -21,42 +22,13 @@ recs_where-none : (t at : Stamp) (rs : List Rec) (later : List Timed) → same t
 recs_where-none t at [] later h e = e
 recs_where-none t at (r ∷ rs) later h e = rw h (recs_where-none t at rs later h e)
 
-pub one_batch_solves : IsDenotation one_batch (rounds one_batch 14)
-unfolding kind_of sender in_edges batches_of max_of
-one_batch_solves zero = refl
-one_batch_solves (suc zero) = refl
-one_batch_solves (suc (suc zero)) = refl
-one_batch_solves (suc (suc (suc zero))) = refl
-one_batch_solves (suc (suc (suc (suc zero)))) = refl
-one_batch_solves (suc (suc (suc (suc (suc zero))))) = refl
-one_batch_solves (suc (suc (suc (suc (suc (suc zero)))))) = refl
-one_batch_solves (suc (suc (suc (suc (suc (suc (suc e))))))) = refl
-
-one_batch_at_output : rounds one_batch 14 6 ≡ timed (0 ∷ []) first_values ++ []
-unfolding kind_of sender in_edges batches_of max_of first_values second_values
-one_batch_at_output = refl
-
 pub two_batches_solves : IsDenotation two_batches (rounds two_batches 14)
 unfolding kind_of sender in_edges batches_of max_of
-two_batches_solves zero = refl
-two_batches_solves (suc zero) = refl
-two_batches_solves (suc (suc zero)) = refl
-two_batches_solves (suc (suc (suc zero))) = refl
-two_batches_solves (suc (suc (suc (suc zero)))) = refl
-two_batches_solves (suc (suc (suc (suc (suc zero))))) = refl
-two_batches_solves (suc (suc (suc (suc (suc (suc zero)))))) = refl
-two_batches_solves (suc (suc (suc (suc (suc (suc (suc e))))))) = refl
+two_batches_solves = all_seven _ refl refl refl refl refl refl refl (λ e. refl)
 
 two_batches_at_output : rounds two_batches 14 6 ≡ timed (0 ∷ []) first_values ++ (timed (1 ∷ []) second_values ++ [])
 unfolding kind_of sender in_edges batches_of max_of first_values second_values
 two_batches_at_output = refl
-
-pub one_batch_output : bag_at (rounds one_batch 14) 6 (0 ∷ []) ≡ (pair 1 1 ∷ pair 1 2 ∷ pair 1 3 ∷ pair 1 4 ∷ [])
-unfolding first_values
-one_batch_output = ap (recs_where (same (0 ∷ []))) one_batch_at_output
-
-pub one_batch_no_more : (t : Stamp) → same t (0 ∷ []) ≡ false → bag_at (rounds one_batch 14) 6 t ≡ []
-one_batch_no_more t h = ap (recs_where (same t)) one_batch_at_output ∙ recs_where-none t (0 ∷ []) first_values [] h refl
 
 pub two_batches_first : bag_at (rounds two_batches 14) 6 (0 ∷ []) ≡ (pair 1 1 ∷ pair 1 2 ∷ pair 1 3 ∷ pair 1 4 ∷ [])
 unfolding first_values second_values

@@ -1,26 +1,26 @@
 -- The laws of projections, of sending and of the denotation, applied to what meets what they ask.
-use Rattle.std.proofs.Common.{◌≡◌, ◌⊎◌, ℕ, zero, suc, true, [], ◌∷◌, refl, sym, inl, inr, lit<, lit≤, arith}
+use Rattle.std.proofs.Common.{[], arith, inl, inr, lit<, lit≤, refl, suc, sym, true, zero, ℕ, ◌∷◌, ◌≡◌, ◌⊎◌}
 use Rattle.std.proofs.lemmas.Bool.{and_parts, or_cases, or_left, or_right}
 use Rattle.fw_time.specs.Stamp.{Stamp}
-use Rattle.fw_frontier.specs.Frontier.{IsFrontier, Within, meet, join}
+use Rattle.fw_frontier.specs.Frontier.{IsFrontier, Within, join, meet}
 use Rattle.fw_frontier.proofs.NamesLaws.{frontier-closed}
-use Rattle.fw_flow.specs.declared.event.Event.TheVariants.{Inject, Deliver, Notify}
-use Rattle.fw_flow.specs.Dataflow.{kind_of, sender, receiver, bounds_of, batches_of, in_edges, max_of}
-use Rattle.fw_model.specs.Denotation.{IsDenotation, rounds}
-use Rattle.fw_model.specs.LawsOfDenotation.{AreInOrder}
-use Rattle.fw_model.specs.LawsOfProjections.{IsUnion}
-use Rattle.fw_model.specs.LawsOfSending.{AreEventsInDomain, IsNotifiedInOrder}
-use Rattle.fw_examples.specs.Flows.{loop_counts_up, regroup_by_three, two_batches, pair}
-use Rattle.fw_examples.specs.UnderWay.{message, round, under_way, counted_rounds}
+use Rattle.fw_flow.specs.Dataflow.{batches_of, bounds_of, in_edges, kind_of, max_of, receiver, sender}
+use Rattle.fw_flow.specs.declared.event.Event.TheVariants.{Deliver, Inject, Notify}
+use Rattle.fw_model.specs.Denotation.{IsDenotation, rounds, AreInOrder}
+use Rattle.fw_examples.specs.Flows.{loop_counts_up, pair, regroup_by_three, two_batches}
+use Rattle.fw_examples.specs.Numbers.{numbered_both, numbered_epoch, numbers, value_at}
 use Rattle.fw_examples.specs.Projections.{fed_back_edge}
-use Rattle.fw_examples.specs.RunningTotal.{totals, total_flow, totals_denoted}
-use Rattle.fw_examples.specs.Numbers.{numbers, numbered_epoch, numbered_both, value_at}
+use Rattle.fw_examples.specs.RunningTotal.{total_flow, totals, totals_denoted}
+use Rattle.fw_examples.specs.SendingApplied.{DenotationApplies, ProjectionsApply, SendingApplies, begun, both_epochs, counted, one_or_other}
+use Rattle.fw_examples.specs.UnderWay.{counted_rounds, message, round, under_way}
 use Rattle.fw_examples.specs.WitnessesOfChoices.{first_rounds}
 use Rattle.fw_examples.specs.WitnessesOfFiltering.{kept_epoch}
-use Rattle.fw_examples.specs.SendingApplied.{counted, begun, one_or_other, both_epochs, ProjectionsApply, SendingApplies, DenotationApplies}
-use Rattle.fw_examples.proofs.Walks.{is_well_formed}
-use Rattle.fw_examples.proofs.TotalWitnesses.{totals_are_well_formed}
 use Rattle.fw_examples.proofs.FilteringWitnesses.{sequence_is_filtered}
+use Rattle.fw_examples.proofs.TotalWitnesses.{totals_are_well_formed}
+use Rattle.fw_examples.proofs.Walks.{is_well_formed}
+use Rattle.fw_model.specs.Unions.{IsUnion}
+use Rattle.fw_model.specs.History.{AreEventsInDomain}
+use Rattle.fw_model.specs.Order.{IsNotifiedInOrder}
 
 counted_is_frontier : IsFrontier (bounds_of loop_counts_up (sender loop_counts_up fed_back_edge)) counted
 counted_is_frontier = frontier-closed _ counted_rounds

@@ -1,8 +1,10 @@
 -- The loop that counts up is well formed.
-use Rattle.std.proofs.Common.{◌≡◌, ◌⊎◌, inl, inr, ℕ, zero, suc, ◌+◌, ◌<◌, ◌≤◌, List, [], ◌∷◌, length, true, refl, ap, lit<, lit≤, arith}
-use Rattle.fw_flow.specs.Dataflow.{Dataflow, kind_of, policy_of, sender, receiver, in_edges, out_edges, domain_of, out_domain_of, max_of}
-use Rattle.fw_flow.specs.WellFormed.{IsLoopDeclared, IsInDegree, IsOutDegree, IsPolicyAllowed, IsGroupSize, IsWellFormed, IsWalk, IsClosedWalk, Passes, is_feedback_kind, is_enter_kind}
+use Rattle.std.proofs.Common.{List, [], ap, arith, inl, inr, length, lit<, lit≤, refl, suc, true, zero, ℕ, ◌+◌, ◌<◌, ◌∷◌, ◌≡◌, ◌≤◌, ◌⊎◌}
+use Rattle.fw_flow.specs.Dataflow.{Dataflow, in_edges, kind_of, max_of, out_edges, policy_of, receiver, sender}
+use Rattle.fw_flow.specs.WellFormed.{IsClosedWalk, IsWalk, IsWellFormed, Passes, is_enter_kind, is_feedback_kind}
+use Rattle.fw_flow.proofs.Ranks.{rank}
 use Rattle.fw_examples.specs.Flows.{loop_counts_up}
+use Rattle.fw_examples.proofs.Places.{by_seven}
 
 -- each edge comes from a feedback, or leads to a node of greater rank
 pub record Ascends (flow : Dataflow) (rank : ℕ → ℕ) : Type 0 where
@@ -69,147 +71,32 @@ depth (suc (suc (suc zero))) = 2
 depth (suc (suc (suc (suc zero)))) = 2
 depth (suc (suc (suc (suc (suc p))))) = 3 + p
 
-loops_declared : (p : ℕ) → p < 7 → IsLoopDeclared loop_counts_up (kind_of loop_counts_up p)
-unfolding kind_of
-loops_declared zero h = tt
-loops_declared (suc zero) h = lit< tt
-loops_declared (suc (suc zero)) h = lit< tt
-loops_declared (suc (suc (suc zero))) h = lit< tt
-loops_declared (suc (suc (suc (suc zero)))) h = lit< tt
-loops_declared (suc (suc (suc (suc (suc zero))))) h = lit< tt
-loops_declared (suc (suc (suc (suc (suc (suc zero)))))) h = tt
-loops_declared (suc (suc (suc (suc (suc (suc (suc p))))))) h = absurd (omega arith)
-
-senders_declared : (e : ℕ) → e < 7 → sender loop_counts_up e < 7
-unfolding sender
-senders_declared zero h = lit< tt
-senders_declared (suc zero) h = lit< tt
-senders_declared (suc (suc zero)) h = lit< tt
-senders_declared (suc (suc (suc zero))) h = lit< tt
-senders_declared (suc (suc (suc (suc zero)))) h = lit< tt
-senders_declared (suc (suc (suc (suc (suc zero))))) h = lit< tt
-senders_declared (suc (suc (suc (suc (suc (suc zero)))))) h = lit< tt
-senders_declared (suc (suc (suc (suc (suc (suc (suc e))))))) h = absurd (omega arith)
-
-receivers_declared : (e : ℕ) → e < 7 → receiver loop_counts_up e < 7
-unfolding receiver
-receivers_declared zero h = lit< tt
-receivers_declared (suc zero) h = lit< tt
-receivers_declared (suc (suc zero)) h = lit< tt
-receivers_declared (suc (suc (suc zero))) h = lit< tt
-receivers_declared (suc (suc (suc (suc zero)))) h = lit< tt
-receivers_declared (suc (suc (suc (suc (suc zero))))) h = lit< tt
-receivers_declared (suc (suc (suc (suc (suc (suc zero)))))) h = lit< tt
-receivers_declared (suc (suc (suc (suc (suc (suc (suc e))))))) h = absurd (omega arith)
-
-in_degrees : (p : ℕ) → p < 7 → IsInDegree (kind_of loop_counts_up p) (length (in_edges loop_counts_up p))
-unfolding kind_of in_edges
-in_degrees zero h = refl
-in_degrees (suc zero) h = refl
-in_degrees (suc (suc zero)) h = lit≤ tt
-in_degrees (suc (suc (suc zero))) h = refl
-in_degrees (suc (suc (suc (suc zero)))) h = refl
-in_degrees (suc (suc (suc (suc (suc zero))))) h = refl
-in_degrees (suc (suc (suc (suc (suc (suc zero)))))) h = refl
-in_degrees (suc (suc (suc (suc (suc (suc (suc p))))))) h = absurd (omega arith)
-
-out_degrees : (p : ℕ) → p < 7 → IsOutDegree (kind_of loop_counts_up p) (length (out_edges loop_counts_up p))
-unfolding kind_of out_edges
-out_degrees zero h = tt
-out_degrees (suc zero) h = tt
-out_degrees (suc (suc zero)) h = tt
-out_degrees (suc (suc (suc zero))) h = tt
-out_degrees (suc (suc (suc (suc zero)))) h = tt
-out_degrees (suc (suc (suc (suc (suc zero))))) h = tt
-out_degrees (suc (suc (suc (suc (suc (suc zero)))))) h = refl
-out_degrees (suc (suc (suc (suc (suc (suc (suc p))))))) h = absurd (omega arith)
-
-domains : (e : ℕ) → e < 7 → out_domain_of loop_counts_up (sender loop_counts_up e) ≡ domain_of loop_counts_up (receiver loop_counts_up e)
-unfolding kind_of sender receiver
-domains zero h = refl
-domains (suc zero) h = refl
-domains (suc (suc zero)) h = refl
-domains (suc (suc (suc zero))) h = refl
-domains (suc (suc (suc (suc zero)))) h = refl
-domains (suc (suc (suc (suc (suc zero))))) h = refl
-domains (suc (suc (suc (suc (suc (suc zero)))))) h = refl
-domains (suc (suc (suc (suc (suc (suc (suc e))))))) h = absurd (omega arith)
-
-policies : (p : ℕ) → p < 7 → IsPolicyAllowed (kind_of loop_counts_up p) (policy_of loop_counts_up p)
-unfolding kind_of policy_of
-policies zero h = refl
-policies (suc zero) h = refl
-policies (suc (suc zero)) h = tt
-policies (suc (suc (suc zero))) h = refl
-policies (suc (suc (suc (suc zero)))) h = refl
-policies (suc (suc (suc (suc (suc zero))))) h = refl
-policies (suc (suc (suc (suc (suc (suc zero)))))) h = refl
-policies (suc (suc (suc (suc (suc (suc (suc p))))))) h = absurd (omega arith)
-
-groups : (p : ℕ) → p < 7 → IsGroupSize (kind_of loop_counts_up p)
-unfolding kind_of
-groups zero h = tt
-groups (suc zero) h = tt
-groups (suc (suc zero)) h = tt
-groups (suc (suc (suc zero))) h = tt
-groups (suc (suc (suc (suc zero)))) h = tt
-groups (suc (suc (suc (suc (suc zero))))) h = tt
-groups (suc (suc (suc (suc (suc (suc zero)))))) h = tt
-groups (suc (suc (suc (suc (suc (suc (suc p))))))) h = absurd (omega arith)
-
-ascends : (e : ℕ) → e < 7
-    → (is_feedback_kind (kind_of loop_counts_up (sender loop_counts_up e)) ≡ true) ⊎ (sender loop_counts_up e < receiver loop_counts_up e)
-unfolding kind_of sender receiver
-ascends zero h = inr (lit< tt)
-ascends (suc zero) h = inr (lit< tt)
-ascends (suc (suc zero)) h = inr (lit< tt)
-ascends (suc (suc (suc zero))) h = inr (lit< tt)
-ascends (suc (suc (suc (suc zero)))) h = inl refl
-ascends (suc (suc (suc (suc (suc zero))))) h = inr (lit< tt)
-ascends (suc (suc (suc (suc (suc (suc zero)))))) h = inr (lit< tt)
-ascends (suc (suc (suc (suc (suc (suc (suc e))))))) h = absurd (omega arith)
-
 leads_in : (e : ℕ) → e < 7 → depth (sender loop_counts_up e) ≤ depth (receiver loop_counts_up e)
 unfolding sender receiver
-leads_in zero h = lit≤ tt
-leads_in (suc zero) h = lit≤ tt
-leads_in (suc (suc zero)) h = lit≤ tt
-leads_in (suc (suc (suc zero))) h = lit≤ tt
-leads_in (suc (suc (suc (suc zero)))) h = lit≤ tt
-leads_in (suc (suc (suc (suc (suc zero))))) h = lit≤ tt
-leads_in (suc (suc (suc (suc (suc (suc zero)))))) h = lit≤ tt
-leads_in (suc (suc (suc (suc (suc (suc (suc e))))))) h = absurd (omega arith)
+leads_in = by_seven _ (lit≤ tt) (lit≤ tt) (lit≤ tt) (lit≤ tt) (lit≤ tt) (lit≤ tt) (lit≤ tt)
 
 enters : (e : ℕ) → e < 7 → is_enter_kind (kind_of loop_counts_up (sender loop_counts_up e)) ≡ true
     → depth (sender loop_counts_up e) < depth (receiver loop_counts_up e)
 unfolding kind_of sender receiver
-enters zero h k = cc
-enters (suc zero) h k = lit< tt
-enters (suc (suc zero)) h k = cc
-enters (suc (suc (suc zero))) h k = cc
-enters (suc (suc (suc (suc zero)))) h k = cc
-enters (suc (suc (suc (suc (suc zero))))) h k = cc
-enters (suc (suc (suc (suc (suc (suc zero)))))) h k = cc
-enters (suc (suc (suc (suc (suc (suc (suc e))))))) h k = absurd (omega arith)
-
-counters : (l : ℕ) → l < 1 → (1 ≤ max_of loop_counts_up l) × (max_of loop_counts_up l ≤ 1024)
-unfolding max_of
-counters zero h = (lit≤ tt, lit≤ tt)
-counters (suc l) h = absurd (omega arith)
+enters = by_seven _ (λ k. cc) (λ k. lit< tt) (λ k. cc) (λ k. cc) (λ k. cc) (λ k. cc) (λ k. cc)
 
 pub is_well_formed : IsWellFormed loop_counts_up
-unfolding kind_of
+unfolding kind_of policy_of sender receiver in_edges out_edges max_of
 is_well_formed = record {
-  loops_declared = loops_declared;
-  senders_declared = senders_declared;
-  receivers_declared = receivers_declared;
-  in_degrees = in_degrees;
-  out_degrees = out_degrees;
-  domains = domains;
-  feedback = passes_feedback loop_counts_up (λ p. p) (record { each = ascends });
+  loops_declared = by_seven _ tt (lit< tt) (lit< tt) (lit< tt) (lit< tt) (lit< tt) tt;
+  senders_declared = by_seven _ (lit< tt) (lit< tt) (lit< tt) (lit< tt) (lit< tt) (lit< tt) (lit< tt);
+  receivers_declared = by_seven _ (lit< tt) (lit< tt) (lit< tt) (lit< tt) (lit< tt) (lit< tt) (lit< tt);
+  in_degrees = by_seven _ refl refl (lit≤ tt) refl refl refl refl;
+  out_degrees = by_seven _ tt tt tt tt tt tt refl;
+  domains = by_seven _ refl refl refl refl refl refl refl;
+  feedback = passes_feedback loop_counts_up (λ p. p) (record { each = by_seven _ (inr (lit< tt)) (inr (lit< tt)) (inr (lit< tt)) (inr (lit< tt)) (inl refl) (inr (lit< tt)) (inr (lit< tt)) });
   no_enter = passes_no_enter loop_counts_up depth (record { each = leads_in; enters = enters });
-  policies = policies;
-  limits = record { nodes = lit≤ tt; edges = lit≤ tt; loops = lit≤ tt; counters = counters; groups = groups };
+  policies = by_seven _ refl refl tt refl refl refl refl;
+  limits = record { nodes = lit≤ tt; edges = lit≤ tt; loops = lit≤ tt; counters = counters; groups = by_seven _ tt tt tt tt tt tt tt };
   input = (0, lit< tt, refl);
   output = (6, lit< tt, refl);
 }
+  where
+    counters : (l : ℕ) → l < 1 → (1 ≤ max_of loop_counts_up l) × (max_of loop_counts_up l ≤ 1024)
+    counters zero h = (lit≤ tt, lit≤ tt)
+    counters (suc l) h = absurd (omega arith)

@@ -1,15 +1,26 @@
 -- The dataflows of the examples are well formed.
-use Rattle.std.proofs.Common.{◌≡◌, ℕ, zero, suc, ◌+◌, ◌<◌, ◌≤◌, ◌^◌, false, List, [], ◌∷◌, length, refl, arith, lit<, lit≤}
-use Rattle.std.proofs.lemmas.Bool.{true≢false}
-use Rattle.std.specs.List.{AllByRecursion}
+use Rattle.std.specs.List.{list_all}
+use Rattle.std.specs.Ordering.{is_gt}
+use Rattle.std.proofs.Common.{Bool, List, None, [], ap, arith, eqb-true, false, inl, inr, length, lit<, lit≤, nat_le, nat_lt, not, refl, suc, sym, true, ℕ, ⊎_elim, ◌&&◌, ◌+◌, ◌<◌, ◌==◌, ◌^◌, ◌||◌, ◌∷◌, ◌≡◌, ◌≤◌}
+use Rattle.std.proofs.lemmas.Bool.{and_from, and_parts, cases_lt, leb-true, ltb-true, not-true, or_cases, or_right}
+use Rattle.std.proofs.lemmas.List.{get_or_past}
+use Rattle.fw_bag.specs.Rec.{rec_cmp}
 use Rattle.fw_bag.specs.declared.rec.Rec.{Rec}
-use Rattle.fw_flow.specs.Dataflow.{Dataflow, kind_of, policy_of, sender, receiver, in_edges, out_edges, is_input_kind, batches_of}
-use Rattle.fw_flow.specs.WellFormed.{IsWalk, IsClosedWalk, IsPolicyAllowed, IsWellFormed, IsBatch, IsWellFormedSystem}
+use Rattle.fw_time.proofs.EachLaws.{each-of_all, each-weaker}
+use Rattle.fw_flow.specs.Dataflow.{Dataflow, System, batches_of, domain_of_kind, in_edges, is_input_kind, kind_of, out_domain_of_kind, out_edges, policy_of, receiver, sender}
+use Rattle.fw_flow.specs.WellFormed.{IsClosedWalk, IsGroupSize, IsInDegree, IsLoopDeclared, IsOutDegree, IsPolicyAllowed, IsWalk, IsWellFormed, IsWellFormedSystem}
+use Rattle.fw_flow.specs.declared.kind.Domain.TheVariants.{Epoch}
+use Rattle.fw_flow.specs.declared.kind.Kind.TheVariants.{Select, Total}
 use Rattle.fw_flow.specs.declared.kind.Policy.{Policy}
-use Rattle.fw_flow.specs.declared.kind.Policy.TheVariants as policy
-use Rattle.fw_examples.specs.OneSelect.{one_select_flow, one_select_flow_of, one_select_of}
+use Rattle.fw_flow.specs.declared.node.Node.{Node}
+use Rattle.fw_model.proofs.Decisions.{two_ways}
+use Rattle.fw_examples.specs.Flows.{in_a_row}
+use Rattle.fw_examples.specs.OneSelect.{at_least_ten, one_select_flow, one_select_flow_of, selecting}
+use Rattle.fw_examples.specs.RunningTotal.{summing, total_flow_of}
 use Rattle.fw_examples.specs.TwoSources.{two_sources_flow}
-use Rattle.fw_examples.proofs.ChoiceFacts.{by_two, by_three, by_five, by_six}
+use Rattle.fw_examples.proofs.Places.{by_five, by_six, by_three, by_two, each_below, each_below-at}
+use Rattle.fw_flow.specs.declared.kind.Policy.TheVariants as policy
+use Rattle.fw_lines.specs.Batches.{IsBatch}
 
 -- where each edge leads to a later node, a walk does
 walk_up : (flow : Dataflow) → ((e : ℕ) → e < length flow.edges → sender flow e < receiver flow e)
@@ -25,61 +36,90 @@ pub no_closed_walk : (flow : Dataflow) → ((e : ℕ) → e < length flow.edges 
     → (p : ℕ) (es : List ℕ) → IsClosedWalk flow p es → ⊥
 no_closed_walk flow up p es is = let some = is.some in let far = walk_up flow up p es p is.walk in omega arith
 
-select_up : (keeping : Policy) → (e : ℕ) → e < 2 → sender (one_select_flow_of keeping) e < receiver (one_select_flow_of keeping) e
+row_up : (inner : Node) (e : ℕ) → e < 2 → sender (in_a_row inner) e < receiver (in_a_row inner) e
 unfolding sender receiver
-select_up keeping = by_two _ (lit< tt) (lit< tt)
+row_up inner = by_two _ (lit< tt) (lit< tt)
 
--- the dataflow of one select, with a policy that a select may have
-select_is_well_formed : (keeping : Policy) → IsPolicyAllowed (kind_of (one_select_flow_of keeping) 1) keeping → IsWellFormed (one_select_flow_of keeping)
+-- a node that has one in-edge and sends at its epochs, between an input and an output
+pub row_is_well_formed : (inner : Node) → IsLoopDeclared (in_a_row inner) inner.kind → IsInDegree inner.kind 1 → IsOutDegree inner.kind 1
+    → domain_of_kind (in_a_row inner) inner.kind ≡ Epoch → out_domain_of_kind (in_a_row inner) inner.kind ≡ Epoch → IsGroupSize inner.kind
+    → IsPolicyAllowed inner.kind inner.policy → IsWellFormed (in_a_row inner)
 unfolding kind_of policy_of sender receiver in_edges out_edges
-select_is_well_formed keeping allowed = record {
-  loops_declared = by_three _ tt tt tt;
+row_is_well_formed inner declared one_in one_out epochs out_epochs group allowed = record {
+  loops_declared = by_three _ tt declared tt;
   senders_declared = by_two _ (lit< tt) (lit< tt);
   receivers_declared = by_two _ (lit< tt) (lit< tt);
-  in_degrees = by_three _ refl refl refl;
-  out_degrees = by_three _ tt tt refl;
-  domains = by_two _ refl refl;
-  feedback = λ p es is. absurd (no_closed_walk (one_select_flow_of keeping) (select_up keeping) p es is);
-  no_enter = λ p es is passes. no_closed_walk (one_select_flow_of keeping) (select_up keeping) p es is;
+  in_degrees = by_three _ refl one_in refl;
+  out_degrees = by_three _ tt one_out refl;
+  domains = by_two _ (sym epochs) out_epochs;
+  feedback = λ p es is. absurd (no_closed_walk (in_a_row inner) (row_up inner) p es is);
+  no_enter = λ p es is passes. no_closed_walk (in_a_row inner) (row_up inner) p es is;
   policies = by_three _ refl allowed refl;
-  limits = record { nodes = lit≤ tt; edges = lit≤ tt; loops = lit≤ tt; counters = λ l h. absurd (omega arith); groups = by_three _ tt tt tt };
+  limits = record { nodes = lit≤ tt; edges = lit≤ tt; loops = lit≤ tt; counters = λ l h. absurd (omega arith); groups = by_three _ tt group tt };
   input = (0, lit< tt, refl);
   output = (2, lit< tt, refl);
 }
 
+-- the dataflows of one select and of a running total, with a policy that they may have
+pub select_is_well_formed : (keeping : Policy) → IsPolicyAllowed (Select at_least_ten None) keeping → IsWellFormed (one_select_flow_of keeping)
+select_is_well_formed keeping allowed = row_is_well_formed (selecting keeping) tt refl tt refl refl tt allowed
+
+pub total_is_well_formed : (keeping : Policy) → IsPolicyAllowed Total keeping → IsWellFormed (total_flow_of keeping)
+total_is_well_formed keeping allowed = row_is_well_formed (summing keeping) tt refl tt refl refl tt allowed
+
 pub one_select_is_well_formed : IsWellFormed one_select_flow
-unfolding kind_of
 one_select_is_well_formed = select_is_well_formed policy.None refl
 
--- and with batches
-pub select_of_batches_is_well_formed : (keeping : Policy) → IsPolicyAllowed (kind_of (one_select_flow_of keeping) 1) keeping
-    → (sent : List (List Rec)) → length sent ≤ 2 ^ 20 → AllByRecursion IsBatch sent → IsWellFormedSystem (one_select_of keeping sent)
-unfolding kind_of batches_of
-select_of_batches_is_well_formed keeping allowed sent fit are = record {
-  flow = select_is_well_formed keeping allowed;
-  one_each = refl;
-  of_inputs = of_inputs;
-  few = few;
-  batches = batches;
+-- ---- systems
+
+-- whether recs are a batch
+abbrev pub is_batch : List Rec → Bool
+is_batch [] = true
+is_batch (r ∷ rs) = nat_lt r.key (2 ^ 64) && (nat_lt r.value (2 ^ 64) && (list_all (λ s. not (is_gt (rec_cmp r s))) rs && is_batch rs))
+
+batch_by : (rs : List Rec) → is_batch rs ≡ true → IsBatch rs
+batch_by [] h = record { recs = tt; ascending = tt }
+batch_by (r ∷ rs) h =
+    let a = and_parts _ _ h in
+    let b = and_parts _ _ a.1 in
+    let c = and_parts _ _ b.1 in
+    let later = batch_by rs c.1 in
+    record {
+      recs = (record { key = ltb-true r.key (2 ^ 64) a.0; value = ltb-true r.value (2 ^ 64) b.0 }, later.recs);
+      ascending = (each-weaker _ (λ s. is_gt (rec_cmp r s) ≡ false) rs (λ s n. not-true _ n) (each-of_all (λ s. not (is_gt (rec_cmp r s))) rs c.0), later.ascending);
+    }
+
+-- whether a node has batches only if it is an input, few of them, and each a batch
+abbrev pub has_its_batches : System → ℕ → Bool
+has_its_batches sys p =
+    (is_input_kind (kind_of sys.flow p) || (length (batches_of sys p) == 0)) && (nat_le (length (batches_of sys p)) (2 ^ 20) && list_all is_batch (batches_of sys p))
+
+past-batches : (sys : System) (p : ℕ) → length sys.batches ≤ p → batches_of sys p ≡ []
+unfolding batches_of
+past-batches sys p l = get_or_past sys.batches p [] l
+
+pub system_by : (sys : System) → IsWellFormed sys.flow → length sys.batches ≡ length sys.flow.nodes → each_below (has_its_batches sys) (length sys.flow.nodes) ≡ true
+    → IsWellFormedSystem sys
+system_by sys formed one_each h = record {
+  flow = formed;
+  one_each = one_each;
+  of_inputs = λ p k. none_of (batches_of sys p) (⊎_elim (λ i. absurd (two_ways _ i k)) (λ n. n) (or_cases _ _ (and_parts _ _ (at p)).0));
+  few = λ p. leb-true _ (2 ^ 20) (and_parts _ _ (and_parts _ _ (at p)).1).0;
+  batches = λ p. each-weaker (λ rs. is_batch rs ≡ true) IsBatch (batches_of sys p) batch_by (each-of_all is_batch (batches_of sys p) (and_parts _ _ (and_parts _ _ (at p)).1).1);
 }
   where
-    of_inputs : (p : ℕ) → is_input_kind (kind_of (one_select_flow_of keeping) p) ≡ false → batches_of (one_select_of keeping sent) p ≡ []
-    of_inputs zero k = absurd (true≢false k)
-    of_inputs (suc zero) k = refl
-    of_inputs (suc (suc zero)) k = refl
-    of_inputs (suc (suc (suc p))) k = refl
+    none_of : (xs : List (List Rec)) → (length xs == 0) ≡ true → xs ≡ []
+    none_of [] n = refl
+    none_of (x ∷ xs) n = let e : suc (length xs) ≡ 0 = eqb-true (suc (length xs)) 0 n in absurd (omega arith)
 
-    few : (p : ℕ) → length (batches_of (one_select_of keeping sent) p) ≤ 2 ^ 20
-    few zero = fit
-    few (suc zero) = lit≤ tt
-    few (suc (suc zero)) = lit≤ tt
-    few (suc (suc (suc p))) = lit≤ tt
-
-    batches : (p : ℕ) → AllByRecursion IsBatch (batches_of (one_select_of keeping sent) p)
-    batches zero = are
-    batches (suc zero) = tt
-    batches (suc (suc zero)) = tt
-    batches (suc (suc (suc p))) = tt
+    at : (p : ℕ) → has_its_batches sys p ≡ true
+    at p = elim (cases_lt p (length sys.flow.nodes)) [
+      | inl l ↦ each_below-at (has_its_batches sys) (length sys.flow.nodes) h p l
+      | inr l ↦
+          let none = past-batches sys p (omega arith) in
+          and_from _ _ (or_right _ _ (ap (λ (xs : List (List Rec)). length xs == 0) none))
+          (and_from _ _ (ap (λ (xs : List (List Rec)). nat_le (length xs) (2 ^ 20)) none) (ap (list_all is_batch) none))
+    ]
 
 two_sources_up : (e : ℕ) → e < 5 → sender two_sources_flow e < receiver two_sources_flow e
 unfolding sender receiver

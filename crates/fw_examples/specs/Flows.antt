@@ -26,6 +26,18 @@ node name kind policy = record { name = name; kind = kind; policy = policy }
 abbrev pub edge : List ℕ → ℕ → ℕ → Edge
 edge name sender receiver = record { name = name; sender = sender; receiver = receiver }
 
+-- an input, a node and an output of epochs, each leading to the next
+abbrev pub in_a_row : Node → Dataflow
+in_a_row inner = record {
+  loops = [];
+  nodes = node (codes "src") Input policy.None ∷ inner ∷ node (codes "out") OutputEpoch policy.None ∷ [];
+  edges = edge (codes "a") 0 1 ∷ edge (codes "b") 1 2 ∷ [];
+}
+
+-- the same with these batches of the input
+abbrev pub fed : Node → List (List Rec) → System
+fed inner batches = record { flow = in_a_row inner; batches = batches ∷ [] ∷ [] ∷ [] }
+
 -- the next value, where the value is below 9
 abbrev pub counted_up : Selection
 counted_up = record {
@@ -56,10 +68,6 @@ loop_counts_up = record {
       ∷ edge (codes "g") 5 6
       ∷ [];
 }
-
--- the loop with a batch of one rec
-abbrev pub one_batch : System
-one_batch = record { flow = loop_counts_up; batches = ((pair 1 0 ∷ []) ∷ []) ∷ [] ∷ [] ∷ [] ∷ [] ∷ [] ∷ [] ∷ [] }
 
 -- the loop with two batches, of one rec and of two
 abbrev pub two_batches : System

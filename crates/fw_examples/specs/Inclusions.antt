@@ -1,17 +1,19 @@
 -- The inclusions of a consistent choice one by one, and for each a short run after which a choice that lacks it alone is wrong.
-use Rattle.std.specs.Prelude.{◌≡◌, ◌≢◌, ◌↔◌, ℕ, ◌<◌, List, [], ◌∷◌, length, None}
+use Rattle.std.specs.Prelude.{◌≡◌, ◌≢◌, ◌↔◌, ℕ, ◌<◌, List, [], ◌∷◌, length, Some, None}
 use Rattle.fw_frontier.specs.Front.{Front, IsCanonical}
 use Rattle.fw_flow.specs.declared.choice.Cut.{Cut}
 use Rattle.fw_flow.specs.declared.choice.Cut.TheVariants.{Present, At}
 use Rattle.fw_flow.specs.declared.step.Step.TheVariants.{Inject, Deliver, Notify, Fail}
 use Rattle.fw_flow.specs.Dataflow.{System, bounds_of}
 use Rattle.fw_flow.specs.declared.choice.Choice.{Choice}
-use Rattle.fw_model.specs.Choice.{ComesFromSender, LiesInReceiver, HasItsNotices, IsNoteKept, NoteComesFromSender, covers_in, cut_of, filtered, IsConsistent, IsLargest, IsChoiceWithin}
+use Rattle.fw_model.specs.Choice.{ComesFromSender, LiesInReceiver, HasItsNotices, IsNoteKept, NoteComesFromSender, cut_of, filtered, IsConsistent, IsLargest, IsChoiceWithin}
 use Rattle.fw_model.specs.History.{pending, IsLegal}
 use Rattle.fw_model.specs.Machine.{Machine, events, first_state, front_of}
 use Rattle.fw_model.specs.Steps.{Run, offers, did, quiet}
-use Rattle.fw_examples.specs.OneSelect.{one_select, rec_of, src, big, src_to_big, big_to_out}
+use Rattle.fw_examples.specs.Flows.{pair}
+use Rattle.fw_examples.specs.OneSelect.{one_select, src, big, src_to_big, big_to_out}
 use Rattle.fw_examples.specs.TwoSources.{two_sources, first_source, second_source, low, tot, first_to_mix, second_to_low, mix_to_tot}
+use Rattle.fw_model.specs.Covers.{covers_in}
 
 -- the five inclusions of a consistent choice
 pub data Inclusion : Type 0 where
@@ -72,7 +74,7 @@ all = []
 
 -- one select with one batch of a rec that is selected
 abbrev pub one_selected : System
-one_selected = one_select ((rec_of 1 20 ∷ []) ∷ [])
+one_selected = one_select ((pair 1 20 ∷ []) ∷ [])
 
 -- nothing is kept
 abbrev pub nothing_kept : Choice
@@ -108,18 +110,18 @@ DiscardedIsNeeded =
     × LeavesAHistory one_selected state input_kept
     × (pending one_selected (events (filtered one_selected output_kept state.history)) src_to_big ≡ [])
     × (pending one_selected (events (filtered one_selected input_kept state.history)) src_to_big
-    ≡ record { at = 0 ∷ []; rec = rec_of 1 20; causes = (0 ∷ []) ∷ [] } ∷ [])
+    ≡ record { at = 0 ∷ []; rec = pair 1 20; causes = (0 ∷ []) ∷ [] } ∷ [])
 
 -- two inputs with one batch each, of a rec that comes to the sum and one that does not
 abbrev pub one_comes : System
-one_comes = two_sources ((rec_of 1 5 ∷ []) ∷ []) ((rec_of 2 50 ∷ []) ∷ [])
+one_comes = two_sources ((pair 1 5 ∷ []) ∷ []) ((pair 2 50 ∷ []) ∷ [])
 
 -- The sum was notified of epoch 0 when both recs had come where they go, and then the select failed.
 abbrev pub IsFailedAfterNotice : Machine → Type 0
 IsFailedAfterNotice state =
     Run one_comes (first_state one_comes)
     (Inject first_source ∷ Inject second_source ∷ Deliver first_to_mix None ∷ Deliver second_to_low None ∷ Deliver mix_to_tot None
-    ∷ Notify tot None ∷ Fail (low ∷ []) ∷ [])
+    ∷ Notify tot (Some (0 ∷ [])) ∷ Fail (low ∷ []) ∷ [])
     (did quiet ∷ did quiet ∷ did quiet ∷ did quiet ∷ did quiet ∷ did quiet ∷ did quiet ∷ [])
     state
 

@@ -12,13 +12,13 @@ use Rattle.fw_flow.specs.declared.event.Event.TheVariants.{Inject as Injected, D
 use Rattle.fw_flow.specs.declared.event.Message.{Message}
 use Rattle.fw_flow.specs.declared.step.Step.{Step}
 use Rattle.fw_flow.specs.declared.step.Step.TheVariants.{Recover, Collect}
-use Rattle.fw_flow.specs.Dataflow.{sender, receiver, bounds_of}
+use Rattle.fw_flow.specs.Dataflow.{sender, receiver, bounds_of, bounds_of_edge}
 use Rattle.fw_flow.specs.NodeFunction.{place, stamp}
 use Rattle.fw_flow.specs.Projection.{phi}
 use Rattle.fw_flow.specs.declared.choice.Choice.{Choice}
-use Rattle.fw_model.specs.Choice.{View, ever, kept, until, cut_of, kept_of, IsCandidate, IsConsistent, IsCutWithin, IsChoiceWithin, IsLargest, delivered_cover, notified_cover, discarded_cover, filtered}
+use Rattle.fw_model.specs.Choice.{View, ever, kept, until, cut_of, kept_of, IsCandidate, IsConsistent, IsCutWithin, IsChoiceWithin, IsLargest, filtered}
 use Rattle.fw_model.specs.Denotation.{bag_at}
-use Rattle.fw_model.specs.History.{IsAdmissible, IsComplete, IsLegal, pending, sent, delivered, injected_count}
+use Rattle.fw_model.specs.History.{IsAdmissible, IsComplete, IsLegal, pending, sent, delivered, injected_count, AreEventsInDomain}
 use Rattle.fw_model.specs.Machine.{Machine, events, first_state, is_failed}
 use Rattle.fw_model.specs.Steps.{Outcome, Steps, Run, GrowsTo, did, cuts}
 use Rattle.fw_model.specs.LawsOfChoices as choices
@@ -28,21 +28,21 @@ use Rattle.fw_model.specs.LawsOfDeliveries as deliveries
 use Rattle.fw_model.specs.LawsOfExistence as existence
 use Rattle.fw_model.specs.LawsOfFiltering as filtering
 use Rattle.fw_model.specs.LawsOfLegalHistories as legal
-use Rattle.fw_model.specs.LawsOfProjections.{bounds_of_edge}
 use Rattle.fw_model.specs.LawsOfRecoveries as recoveries
 use Rattle.fw_model.specs.LawsOfRuns as runs
-use Rattle.fw_model.specs.LawsOfSending.{AreEventsInDomain, ComesFromInside, IsNotifiedInOrder}
 use Rattle.fw_model.specs.LawsOfSteps as steps
-use Rattle.fw_examples.specs.Flows.{loop_counts_up, regroup_by_three, two_batches}
+use Rattle.fw_examples.specs.Flows.{loop_counts_up, regroup_by_three, two_batches, pair}
 use Rattle.fw_examples.specs.UnderWay.{under_way, counted_rounds}
 use Rattle.fw_examples.specs.Recovery.{counting_failed, restored}
-use Rattle.fw_examples.specs.OneSelect.{rec_of}
 use Rattle.fw_examples.specs.RunningTotal.{totals, total_flow, totals_denoted, src, run, out, src_to_run, run_to_out, at_epoch, two_epochs, next_epochs, output_failed, come_back, two_epochs_kept, two_kept_noting, epoch_kept, steps_to_failure, outcomes_to_failure, outcomes_through_recovery, outcomes_without_failure}
 use Rattle.fw_examples.specs.Numbers.{numbers, numbered_both}
 use Rattle.fw_examples.specs.WitnessesOfRuns.{complete_then}
 use Rattle.fw_examples.specs.WitnessesOfChoices.{inc, first_rounds, both_rounds, joined_rounds}
 use Rattle.fw_examples.specs.WitnessesOfDeliveries.{complete_two}
 use Rattle.fw_examples.specs.WitnessesOfFiltering.{kept_rounds, kept_epoch, two_rounds}
+use Rattle.fw_model.specs.Covers.{delivered_cover, notified_cover, discarded_cover}
+use Rattle.fw_model.specs.Sending.{ComesFromInside}
+use Rattle.fw_model.specs.Order.{IsNotifiedInOrder}
 
 -- the laws of runs and of recoveries, of the runs of the running total
 pub record RunsApply : Type 0 where
@@ -76,7 +76,7 @@ pub record ChoosingApplies : Type 0 where
   pub ever_largest : choosing.LargestOfKeptIsLargestOfEver
       → IsLargest totals output_failed (IsCandidate totals output_failed (is_failed output_failed) ever) two_epochs_kept
   pub one_bag : choosing.TwoRunsShowOneBag → (recs : List Rec) → choosing.Shows out (2 ∷ []) recs outcomes_without_failure
-      → recs ≡ rec_of 1 15 ∷ []
+      → recs ≡ pair 1 15 ∷ []
 
 -- the laws of existence and of steps, of the state of the failure
 pub record StepsApply : Type 0 where
@@ -132,11 +132,11 @@ pub record DeliveriesApply : Type 0 where
   pub delivered_final : deliveries.DeliveredInsideCompleteIsFinal
       → deliveries.recs_at (1 ∷ []) (delivered (next_epochs ++ two_epochs) run_to_out) ≡ deliveries.recs_at (1 ∷ []) (delivered two_epochs run_to_out)
   pub sent_sub_bag : deliveries.SentIsSubBagOfDenotation
-      → how_often (rec_of 1 15) (deliveries.recs_at (2 ∷ []) (sent totals (next_epochs ++ two_epochs) run_to_out))
-      ≤ how_often (rec_of 1 15) (bag_at totals_denoted run_to_out (2 ∷ []))
+      → how_often (pair 1 15) (deliveries.recs_at (2 ∷ []) (sent totals (next_epochs ++ two_epochs) run_to_out))
+      ≤ how_often (pair 1 15) (bag_at totals_denoted run_to_out (2 ∷ []))
   pub delivered_sub_bag : deliveries.DeliveredIsSubBagOfDenotation
-      → how_often (rec_of 1 15) (deliveries.recs_at (2 ∷ []) (delivered (next_epochs ++ two_epochs) run_to_out))
-      ≤ how_often (rec_of 1 15) (bag_at totals_denoted run_to_out (2 ∷ []))
+      → how_often (pair 1 15) (deliveries.recs_at (2 ∷ []) (delivered (next_epochs ++ two_epochs) run_to_out))
+      ≤ how_often (pair 1 15) (bag_at totals_denoted run_to_out (2 ∷ []))
   pub enabled_outside : complete.EnabledIsOutside → complete_two src (2 ∷ []) ≡ false
   pub stays_admissible : complete.AdmissibleStaysAdmissible → IsAdmissible totals (Injected src 2 ∷ two_epochs) complete_two
 

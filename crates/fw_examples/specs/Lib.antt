@@ -4,12 +4,9 @@ pub mod Projections
 pub mod Recovery
 pub mod UnderWay
 pub mod OneSelect
-pub mod OneSelectRuns
-pub mod OneRecovery
 pub mod TwoSources
 pub mod Inclusions
 pub mod LoggedEvents
-pub mod OneCollection
 pub mod LogsAfterCollection
 pub mod RunningTotal
 pub mod Numbers

@@ -4,16 +4,17 @@ use Rattle.fw_frontier.specs.Front.{Front}
 use Rattle.fw_bag.specs.declared.rec.Rec.{Rec}
 use Rattle.fw_flow.specs.declared.choice.Cut.TheVariants.{Present, At}
 use Rattle.fw_flow.specs.declared.kind.Policy.TheVariants as policy
-use Rattle.fw_flow.specs.declared.step.Step.TheVariants.{Inject, Deliver, Progress, Persist, Fail, Recover, Ack}
+use Rattle.fw_flow.specs.declared.step.Step.TheVariants.{Inject, Deliver, Progress, Persist, Fail, Recover}
 use Rattle.fw_flow.specs.Dataflow.{System}
 use Rattle.fw_flow.specs.declared.choice.Choice.{Choice}
 use Rattle.fw_model.specs.Machine.{Machine, first_state}
-use Rattle.fw_model.specs.Steps.{Run, did, quiet, cuts, acked}
-use Rattle.fw_examples.specs.OneSelect.{one_select_of, rec_of, src, big, out, src_to_big, big_to_out}
+use Rattle.fw_model.specs.Steps.{Run, did, quiet, cuts}
+use Rattle.fw_examples.specs.Flows.{pair}
+use Rattle.fw_examples.specs.OneSelect.{one_select_of, src, big, src_to_big}
 
 -- one batch of two recs that are selected
 abbrev pub two_recs : List (List Rec)
-two_recs = (rec_of 1 20 ∷ rec_of 2 30 ∷ []) ∷ []
+two_recs = (pair 1 20 ∷ pair 2 30 ∷ []) ∷ []
 
 -- the dataflow with this batch, whose select writes each event
 abbrev pub each_written : System
@@ -46,18 +47,3 @@ LosesAnEpoch =
     (Inject src ∷ Deliver src_to_big None ∷ Deliver src_to_big None ∷ Progress ∷ Persist ∷ Fail (big ∷ []) ∷ Recover ∷ [])
     (did quiet ∷ did quiet ∷ did quiet ∷ did quiet ∷ did quiet ∷ did quiet ∷ did (cuts nothing_restored) ∷ [])
     nothing_left
-
--- the select is restored, and the others stay as they are
-abbrev pub all_restored : Choice
-all_restored = record { cuts = Present ∷ At [] ∷ Present ∷ []; notes = [] ∷ [] ∷ [] ∷ [] }
-
--- Both events are acknowledged when the select fails: it comes back with both, and sends again what it sent.
-abbrev pub RestoresAnEpoch : Type 0
-RestoresAnEpoch =
-    (last : Machine)
-    × Run each_written (first_state each_written)
-    (Inject src ∷ Deliver src_to_big None ∷ Deliver src_to_big None ∷ Progress ∷ Persist ∷ Persist ∷ Fail (big ∷ []) ∷ Recover
-    ∷ Deliver big_to_out None ∷ Deliver big_to_out None ∷ Progress ∷ Ack out ∷ [])
-    (did quiet ∷ did quiet ∷ did quiet ∷ did quiet ∷ did quiet ∷ did quiet ∷ did quiet ∷ did (cuts all_restored)
-    ∷ did quiet ∷ did quiet ∷ did quiet ∷ did (acked out (0 ∷ []) (rec_of 1 20 ∷ rec_of 2 30 ∷ [])) ∷ [])
-    last

@@ -13,13 +13,21 @@ use Rattle.fw_flow.specs.declared.step.Step.{Step}
 use Rattle.fw_flow.specs.declared.step.Step.TheVariants.{Inject, Deliver, Notify, Progress, Persist, Fail, Collect, Ack}
 use Rattle.fw_flow.specs.Dataflow.{System, out_edges, bounds_of}
 use Rattle.fw_model.specs.Choice.{until, kept_of, IsLargest}
-use Rattle.fw_model.specs.LawsOfRestoring.{logged_messages, messages_to_resend}
 use Rattle.fw_model.specs.Machine.{Machine, Write, checkpoint, logged_event, acknowledged, collected, first_state, front_of}
 use Rattle.fw_model.specs.Steps.{Outcome, Run, did, quiet, acked, lows, offers, sends_inside, is_given_up, lies_below}
-use Rattle.fw_examples.specs.OneCollection.{selected_batches, first_epoch_everywhere}
-use Rattle.fw_examples.specs.OneSelect.{one_select_of, rec_of, src, big, out, src_to_big, big_to_out}
+use Rattle.fw_examples.specs.Flows.{pair}
+use Rattle.fw_examples.specs.OneSelect.{one_select_of, src, big, out, src_to_big, big_to_out}
 use Rattle.fw_examples.specs.Recovery.{with_serials}
 use Rattle.fw_examples.specs.RunningTotal.{alike, totals_of, run, src_to_run, run_to_out}
+use Rattle.fw_model.specs.Resending.{logged_messages, messages_to_resend}
+
+-- two batches of a rec that is selected
+abbrev pub selected_batches : List (List Rec)
+selected_batches = (pair 1 20 ∷ []) ∷ (pair 2 30 ∷ []) ∷ []
+
+-- each node keeps epoch 0
+abbrev pub first_epoch_everywhere : Choice
+first_epoch_everywhere = record { cuts = At (until 1) ∷ At (until 1) ∷ At (until 1) ∷ []; notes = alike 1 }
 
 -- a message that comes from an event at its own epoch
 abbrev pub in_epoch : ℕ → Rec → Message
@@ -27,11 +35,11 @@ in_epoch x rec = record { at = x ∷ []; rec = rec; causes = (x ∷ []) ∷ [] }
 
 -- what is sent of epoch 0, by the input and by the select
 abbrev pub first_message : Message
-first_message = in_epoch 0 (rec_of 1 20)
+first_message = in_epoch 0 (pair 1 20)
 
 -- and of epoch 1
 abbrev pub second_message : Message
-second_message = in_epoch 1 (rec_of 2 30)
+second_message = in_epoch 1 (pair 2 30)
 
 -- epoch 0 came through to the output, and epoch 1 to the select, the latest event first
 abbrev pub one_came_through : List Event
@@ -92,7 +100,7 @@ steps_with_events =
 abbrev pub outcomes_with_events : List Outcome
 outcomes_with_events =
     did quiet ∷ did quiet ∷ did quiet ∷ did quiet ∷ did quiet ∷ did quiet ∷ did quiet ∷ did quiet
-    ∷ did (acked out (0 ∷ []) (rec_of 1 20 ∷ [])) ∷ did (lows low_but_for_the_last) ∷ did quiet ∷ []
+    ∷ did (acked out (0 ∷ []) (pair 1 20 ∷ [])) ∷ did (lows low_but_for_the_last) ∷ did quiet ∷ []
 
 -- Of two logged events the one is collected, since its stamp lies below the select's watermark and what it sent below the
 -- output's. The other is kept: its stamp lies below too, but what it sent does not, and is sent again when both come back.
@@ -130,7 +138,7 @@ steps_with_checkpoints =
 abbrev pub outcomes_with_checkpoints : List Outcome
 outcomes_with_checkpoints =
     did quiet ∷ did quiet ∷ did quiet ∷ did quiet ∷ did quiet
-    ∷ did (acked out (0 ∷ []) (rec_of 1 20 ∷ [])) ∷ did (lows first_epoch_everywhere)
+    ∷ did (acked out (0 ∷ []) (pair 1 20 ∷ [])) ∷ did (lows first_epoch_everywhere)
     ∷ did quiet ∷ did quiet ∷ did quiet ∷ did quiet ∷ did quiet ∷ []
 
 -- what the log of the checkpoint of all holds of the edge to the output, if it was asked at this low watermark
@@ -150,7 +158,7 @@ pub record KeepsALogWithACheckpoint : Type 0 where
 
 -- a batch of one rec
 abbrev pub single_rec : List (List Rec)
-single_rec = (rec_of 1 20 ∷ []) ∷ []
+single_rec = (pair 1 20 ∷ []) ∷ []
 
 -- its dataflow, with this batch
 abbrev pub total_logged : System
@@ -186,7 +194,7 @@ steps_with_total =
 abbrev pub outcomes_with_total : List Outcome
 outcomes_with_total =
     did quiet ∷ did quiet ∷ did quiet ∷ did quiet ∷ did quiet ∷ did quiet ∷ did quiet
-    ∷ did (acked out (0 ∷ []) (rec_of 1 20 ∷ [])) ∷ did (lows low_but_for_the_last) ∷ []
+    ∷ did (acked out (0 ∷ []) (pair 1 20 ∷ [])) ∷ did (lows low_but_for_the_last) ∷ []
 
 -- The collection takes no logged event of a running total, though the stamp of both lies below its watermark, and what was
 -- sent there below the output's: later epochs are summed from them.

@@ -1,26 +1,15 @@
 -- What is claimed of the loop that counts up.
 use Rattle.std.specs.Prelude.{◌≡◌, ℕ, false, [], ◌∷◌}
 use Rattle.fw_time.specs.Stamp.{Stamp, same}
-use Rattle.fw_flow.specs.WellFormed.{IsWellFormed}
 use Rattle.fw_model.specs.Denotation.{IsDenotation, rounds, bag_at}
-use Rattle.fw_examples.specs.Flows.{loop_counts_up, one_batch, two_batches, pair}
-
--- it is well formed
-abbrev pub LoopIsWellFormed : Type 0
-LoopIsWellFormed = IsWellFormed loop_counts_up
+use Rattle.fw_examples.specs.Flows.{two_batches, pair}
 
 -- the edge to the output
 abbrev pub output_edge : ℕ
 output_edge = 6
 
--- Fourteen rounds solve the equations of one batch: its rec reaches the output once for each counter, with the values
--- from 1 to 4.
-pub record OneBatchCountsUp : Type 0 where
-  pub solves : IsDenotation one_batch (rounds one_batch 14)
-  pub output : bag_at (rounds one_batch 14) output_edge (0 ∷ []) ≡ (pair 1 1 ∷ pair 1 2 ∷ pair 1 3 ∷ pair 1 4 ∷ [])
-  pub no_more : (t : Stamp) → same t (0 ∷ []) ≡ false → bag_at (rounds one_batch 14) output_edge t ≡ []
-
--- Fourteen rounds solve the equations of two batches, and each epoch of the output holds the values of its own batch.
+-- Fourteen rounds solve the equations of two batches: each rec reaches the output once for each counter, with the values from 1
+-- to 4 at the epoch of its batch.
 pub record TwoBatchesCountUp : Type 0 where
   pub solves : IsDenotation two_batches (rounds two_batches 14)
   pub first : bag_at (rounds two_batches 14) output_edge (0 ∷ []) ≡ (pair 1 1 ∷ pair 1 2 ∷ pair 1 3 ∷ pair 1 4 ∷ [])

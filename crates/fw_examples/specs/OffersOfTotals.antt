@@ -1,32 +1,17 @@
 -- What the nodes of the running total offer to the recovery after the output failed, as data, with its checkpoint as a record.
-use denote.RawPtr.{null_ptr}
-use Rattle.std.specs.Prelude.{◌≡◌, refl, ℕ, ◌<◌, ◌^◌, true, false, List, [], ◌∷◌, length, Vec}
-use Rattle.std.specs.declared.alloc.Global.{Global}
-use Rattle.std.proofs.Common.{lit<}
-use Rattle.std.proofs.Math.Nat.{le_refl}
+use Rattle.std.specs.Prelude.{◌≡◌, ℕ, true, false, List, [], ◌∷◌}
 use Rattle.fw_flow.specs.declared.choice.Counted.{Counted}
 use Rattle.fw_flow.specs.declared.choice.Cut.TheVariants.{Present, At}
 use Rattle.fw_flow.specs.declared.choice.Offer.{Offer}
 use Rattle.fw_flow.specs.declared.choice.Offered.TheVariants.{Listed, Between}
 use Rattle.fw_flow.specs.declared.choice.Recorded.{Recorded}
 use Rattle.fw_flow.specs.Dataflow.{kind_of, policy_of}
-use Rattle.fw_model.specs.Choice.{by_checkpoints, restoring, until, IsConsistentBy, IsLargestBy}
+use Rattle.fw_model.specs.Choice.{by_checkpoints, until, IsConsistentBy, IsLargestBy}
 use Rattle.fw_model.specs.Machine.{is_failed}
 use Rattle.fw_monitor.specs.LawsOfOffers.{ConsistentByOffersIsConsistent, LargestByOffersIsLargest}
 use Rattle.fw_monitor.specs.Offers.{AreAscending, AreOffersIn, IsOffered, covers_of, records_of}
 use Rattle.fw_examples.specs.RunningTotal.{totals, total_flow, run, src_to_run, run_to_out, output_failed, two_kept_noting, two_epochs_kept}
-
--- A vector of these elements. Where they lie in memory plays no part: here they have no place.
-abbrev pub vec_of : {X : Type 0} (xs : List X) → length xs < 2 ^ 63 → Vec X Global
-vec_of xs few = record {
-  ptr = null_ptr;
-  len = length xs;
-  cap = length xs;
-  alloc = record { memory = record { seal = tt } };
-  items = xs;
-  ok = (refl, le_refl (length xs));
-  small = few;
-}
+use Rattle.fw_flow.specs.Restoring.{restoring}
 
 -- a message on an edge, alone, that comes from an event at its own epoch
 abbrev pub alone_at : ℕ → ℕ → Counted
@@ -37,8 +22,8 @@ abbrev pub record_of_batches : ℕ → Recorded
 record_of_batches k = record {
   front = until k;
   notified = [];
-  delivered = vec_of [] (lit< tt);
-  discarded = vec_of [] (lit< tt);
+  delivered = [];
+  discarded = [];
 }
 
 -- The record of the checkpoint that is acknowledged: of epochs 0 and 1, up to which the running total received, was notified
@@ -47,32 +32,34 @@ abbrev pub record_of_checkpoint : Recorded
 record_of_checkpoint = record {
   front = until 2;
   notified = until 2;
-  delivered = vec_of (record { edge = src_to_run; front = until 2 } ∷ []) (lit< tt);
-  discarded = vec_of (record { edge = run_to_out; front = until 2 } ∷ []) (lit< tt);
+  delivered = record { edge = src_to_run; front = until 2 } ∷ [];
+  discarded = record { edge = run_to_out; front = until 2 } ∷ [];
 }
 
 -- The input lists what it injected from the low watermark on.
 abbrev pub offer_of_input : Offer
 offer_of_input = record {
   present = true;
-  offered = Listed (vec_of (record_of_batches 2 ∷ record_of_batches 3 ∷ record_of_batches 4 ∷ []) (lit< tt));
+  offered = Listed (record_of_batches 2 ∷ record_of_batches 3 ∷ record_of_batches 4 ∷ []);
   stamps = record {
-    delivered = vec_of [] (lit< tt);
-    notified = vec_of [] (lit< tt);
-    sent = vec_of (alone_at src_to_run 3 ∷ alone_at src_to_run 2 ∷ alone_at src_to_run 1 ∷ []) (lit< tt);
+    delivered = [];
+    notified = [];
+    sent = alone_at src_to_run 3 ∷ alone_at src_to_run 2 ∷ alone_at src_to_run 1 ∷ [];
   };
+  table = [];
 }
 
 -- The running total lists its one checkpoint that is acknowledged and not collected.
 abbrev pub offer_of_total : Offer
 offer_of_total = record {
   present = true;
-  offered = Listed (vec_of (record_of_checkpoint ∷ []) (lit< tt));
+  offered = Listed (record_of_checkpoint ∷ []);
   stamps = record {
-    delivered = vec_of (alone_at src_to_run 2 ∷ alone_at src_to_run 1 ∷ []) (lit< tt);
-    notified = vec_of ((2 ∷ []) ∷ (1 ∷ []) ∷ []) (lit< tt);
-    sent = vec_of (alone_at run_to_out 2 ∷ alone_at run_to_out 1 ∷ []) (lit< tt);
+    delivered = alone_at src_to_run 2 ∷ alone_at src_to_run 1 ∷ [];
+    notified = (2 ∷ []) ∷ (1 ∷ []) ∷ [];
+    sent = alone_at run_to_out 2 ∷ alone_at run_to_out 1 ∷ [];
   };
+  table = [];
 }
 
 -- The output failed. It offers what lies between the low watermark and what is settled and acknowledged.
@@ -81,10 +68,11 @@ offer_of_output = record {
   present = false;
   offered = Between (until 2) (until 2);
   stamps = record {
-    delivered = vec_of (alone_at run_to_out 1 ∷ []) (lit< tt);
-    notified = vec_of [] (lit< tt);
-    sent = vec_of [] (lit< tt);
+    delivered = alone_at run_to_out 1 ∷ [];
+    notified = [];
+    sent = [];
   };
+  table = [];
 }
 
 -- what each node offers

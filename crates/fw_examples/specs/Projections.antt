@@ -34,11 +34,9 @@ fed_back_edge = 4
 -- feeding back moves each stamp to its next counter, and lets each counter 0 come from nothing
 pub record FeedbackProjects : Type 0 where
   pub phi_of_some : PhiTakes two_batches fed_back_edge ((0 ∷ 2 ∷ []) ∷ (1 ∷ 0 ∷ []) ∷ []) ((0 ∷ 3 ∷ []) ∷ (1 ∷ 1 ∷ []) ∷ [])
-  pub phi_of_all : PhiTakes two_batches fed_back_edge [] []
   pub phi_of_nothing : PhiTakes two_batches fed_back_edge ((0 ∷ 0 ∷ []) ∷ []) ((0 ∷ 1 ∷ []) ∷ [])
   pub psi_of_some : PsiTakes two_batches fed_back_edge ((0 ∷ 2 ∷ []) ∷ (1 ∷ 0 ∷ []) ∷ []) ((0 ∷ 3 ∷ []) ∷ (1 ∷ 0 ∷ []) ∷ [])
   pub psi_of_all : PsiTakes two_batches fed_back_edge [] []
-  pub psi_of_nothing : PsiTakes two_batches fed_back_edge ((0 ∷ 0 ∷ []) ∷ []) ((0 ∷ 0 ∷ []) ∷ [])
   pub psi_back_of_some : PsiBackTakes two_batches fed_back_edge ((0 ∷ 3 ∷ []) ∷ (1 ∷ 0 ∷ []) ∷ []) ((0 ∷ 2 ∷ []) ∷ (1 ∷ 0 ∷ []) ∷ [])
   pub psi_back_of_all : PsiBackTakes two_batches fed_back_edge [] []
   pub psi_back_of_nothing : PsiBackTakes two_batches fed_back_edge ((0 ∷ 0 ∷ []) ∷ []) ((0 ∷ 0 ∷ []) ∷ [])
@@ -50,11 +48,9 @@ entered_edge = 1
 -- entering gives each epoch all of its counters, and sends at counter 0 alone
 pub record EnterProjects : Type 0 where
   pub phi_of_some : PhiTakes two_batches entered_edge ((2 ∷ []) ∷ []) ((2 ∷ 0 ∷ []) ∷ [])
-  pub phi_of_all : PhiTakes two_batches entered_edge [] []
   pub phi_of_nothing : PhiTakes two_batches entered_edge ((0 ∷ []) ∷ []) ((0 ∷ 0 ∷ []) ∷ [])
   pub psi_of_some : PsiTakes two_batches entered_edge ((2 ∷ []) ∷ []) ((0 ∷ 1 ∷ []) ∷ (2 ∷ 0 ∷ []) ∷ [])
   pub psi_of_all : PsiTakes two_batches entered_edge [] ((0 ∷ 1 ∷ []) ∷ [])
-  pub psi_of_nothing : PsiTakes two_batches entered_edge ((0 ∷ []) ∷ []) ((0 ∷ 0 ∷ []) ∷ [])
   pub psi_back_of_some : PsiBackTakes two_batches entered_edge ((0 ∷ 1 ∷ []) ∷ (2 ∷ 0 ∷ []) ∷ []) ((2 ∷ []) ∷ [])
   pub psi_back_of_all : PsiBackTakes two_batches entered_edge [] []
   pub psi_back_of_nothing : PsiBackTakes two_batches entered_edge ((0 ∷ 0 ∷ []) ∷ []) ((0 ∷ []) ∷ [])
@@ -66,11 +62,9 @@ left_edge = 6
 -- leaving wants all counters of an epoch, and may send from each one of them
 pub record LeaveProjects : Type 0 where
   pub phi_of_some : PhiTakes two_batches left_edge ((0 ∷ 3 ∷ []) ∷ (1 ∷ 0 ∷ []) ∷ []) ((0 ∷ []) ∷ [])
-  pub phi_of_all : PhiTakes two_batches left_edge [] []
   pub phi_of_nothing : PhiTakes two_batches left_edge ((0 ∷ 0 ∷ []) ∷ []) ((0 ∷ []) ∷ [])
   pub psi_of_some : PsiTakes two_batches left_edge ((0 ∷ 3 ∷ []) ∷ (1 ∷ 0 ∷ []) ∷ []) ((1 ∷ []) ∷ [])
   pub psi_of_all : PsiTakes two_batches left_edge [] []
-  pub psi_of_nothing : PsiTakes two_batches left_edge ((0 ∷ 0 ∷ []) ∷ []) ((0 ∷ []) ∷ [])
   pub psi_back_of_some : PsiBackTakes two_batches left_edge ((1 ∷ []) ∷ []) ((1 ∷ 0 ∷ []) ∷ [])
   pub psi_back_of_all : PsiBackTakes two_batches left_edge [] []
   pub psi_back_of_nothing : PsiBackTakes two_batches left_edge ((0 ∷ []) ∷ []) ((0 ∷ 0 ∷ []) ∷ [])
@@ -83,11 +77,9 @@ regrouped_edge = 2
 -- largest frontier that sends in the first two epochs alone.
 pub record RegroupProjects : Type 0 where
   pub phi_of_some : PhiTakes no_batches regrouped_edge ((7 ∷ []) ∷ []) ((2 ∷ []) ∷ [])
-  pub phi_of_all : PhiTakes no_batches regrouped_edge [] []
   pub phi_of_nothing : PhiTakes no_batches regrouped_edge ((0 ∷ []) ∷ []) ((0 ∷ []) ∷ [])
   pub psi_of_some : PsiTakes no_batches regrouped_edge ((7 ∷ []) ∷ []) ((3 ∷ []) ∷ [])
   pub psi_of_all : PsiTakes no_batches regrouped_edge [] ((1431655766 ∷ []) ∷ [])
-  pub psi_of_nothing : PsiTakes no_batches regrouped_edge ((0 ∷ []) ∷ []) ((0 ∷ []) ∷ [])
   pub psi_of_whole_epochs : PsiTakes no_batches regrouped_edge ((6 ∷ []) ∷ []) ((2 ∷ []) ∷ [])
   pub psi_back_of_some : PsiBackTakes no_batches regrouped_edge ((2 ∷ []) ∷ []) ((6 ∷ []) ∷ [])
   pub psi_back_of_all : PsiBackTakes no_batches regrouped_edge [] []

@@ -2,17 +2,16 @@
 use Rattle.std.specs.Prelude.{◌≡◌, ℕ, true, false, List, [], ◌∷◌, ◌++◌, length, map, replicate, Some, None, slice_index_or}
 use Rattle.fw_flow.specs.declared.choice.Cut.TheVariants.{Present, At}
 use Rattle.fw_flow.specs.declared.event.Event.{Event}
-use Rattle.fw_flow.specs.declared.event.Event.TheVariants.{Inject, Deliver}
 use Rattle.fw_flow.specs.declared.event.Message.{Message}
 use Rattle.fw_flow.specs.declared.step.Step.{Step}
 use Rattle.fw_flow.specs.declared.step.Step.TheVariants as step
 use Rattle.fw_model.specs.History.{IsLegal, pending}
 use Rattle.fw_model.specs.Machine.{Machine, Numbered, events, first_state}
 use Rattle.fw_flow.specs.declared.choice.Choice.{Choice}
-use Rattle.fw_model.specs.Choice.{filtered, IsLargest}
-use Rattle.fw_model.specs.Steps.{Outcome, did, quiet, acked, cuts, CutsTo, Run, offers, recovered}
+use Rattle.fw_model.specs.Choice.{filtered}
+use Rattle.fw_model.specs.Steps.{Outcome, did, quiet, acked, cuts}
 use Rattle.fw_examples.specs.Flows.{two_batches, pair}
-use Rattle.fw_examples.specs.UnderWay.{message, round, under_way, counted_rounds, complete_fronts}
+use Rattle.fw_examples.specs.UnderWay.{message, round, rounds_of_the_first, both_entered, under_way, counted_rounds, complete_fronts}
 
 -- the events with their serials, from 0 on
 abbrev pub with_serials : List Event → List Numbered
@@ -35,30 +34,9 @@ restored = record {
   notes = [] ∷ [] ∷ (round 1 1 ∷ []) ∷ counted_rounds ∷ counted_rounds ∷ counted_rounds ∷ ((0 ∷ []) ∷ []) ∷ [];
 }
 
--- this is the largest choice from what is offered, and leaves settled as it is
-pub record IsRestoredChoice : Type 0 where
-  pub largest : IsLargest two_batches counting_failed (offers two_batches counting_failed) restored
-  pub settled : CutsTo two_batches counting_failed restored complete_fronts
-
 -- the events of the run without the delivery of the rec of the second batch that was counted up
 abbrev pub without_the_second : List Event
-without_the_second =
-    Deliver 2 (message (round 0 2) (pair 1 2) (round 0 2))
-    ∷ Deliver 4 (message (round 0 2) (pair 1 2) (round 0 1))
-    ∷ Deliver 3 (message (round 0 1) (pair 1 2) (round 0 1))
-    ∷ Deliver 2 (message (round 0 1) (pair 1 1) (round 0 1))
-    ∷ Deliver 4 (message (round 0 1) (pair 1 1) (round 0 0))
-    ∷ Deliver 3 (message (round 0 0) (pair 1 1) (round 0 0))
-    ∷ Deliver 2 (message (round 0 0) (pair 1 0) (round 0 0))
-    ∷ Deliver 1 (message (round 1 0) (pair 3 0) (1 ∷ []))
-    ∷ Deliver 1 (message (round 1 0) (pair 2 0) (1 ∷ []))
-    ∷ Deliver 0 (message (1 ∷ []) (pair 3 0) (1 ∷ []))
-    ∷ Deliver 0 (message (1 ∷ []) (pair 2 0) (1 ∷ []))
-    ∷ Inject 0 1
-    ∷ Deliver 1 (message (round 0 0) (pair 1 0) (0 ∷ []))
-    ∷ Deliver 0 (message (0 ∷ []) (pair 1 0) (0 ∷ []))
-    ∷ Inject 0 0
-    ∷ []
+without_the_second = rounds_of_the_first ++ both_entered
 
 -- what is pending on each edge after the recovery
 abbrev pub pending_again : List (List Message)
@@ -108,11 +86,6 @@ steps_taken =
 abbrev pub outcomes_shown : List Outcome
 outcomes_shown = replicate 18 (did quiet) ++ did (cuts restored) ∷ []
 
--- from its first state the machine takes these steps, with these outcomes, to the recovered state
-abbrev pub RunsToRecovery : Type 0
-RunsToRecovery =
-    Run two_batches (first_state two_batches) steps_taken outcomes_shown (recovered two_batches counting_failed restored complete_fronts)
-
 -- the edges of the deliveries after the recovery, always the first edge on which something is pending
 abbrev pub edges_delivered : List ℕ
 edges_delivered =
@@ -130,9 +103,3 @@ outcomes_left =
     ++ did (acked 6 (0 ∷ []) (pair 1 1 ∷ pair 1 2 ∷ pair 1 3 ∷ pair 1 4 ∷ []))
     ∷ did (acked 6 (1 ∷ []) (pair 2 1 ∷ pair 2 2 ∷ pair 2 3 ∷ pair 2 4 ∷ pair 3 1 ∷ pair 3 2 ∷ pair 3 3 ∷ pair 3 4 ∷ []))
     ∷ []
-
--- from the recovered state the machine takes these steps, with these outcomes
-abbrev pub RunsToTheEnd : Type 0
-RunsToTheEnd =
-    (last : Machine)
-    × Run two_batches (recovered two_batches counting_failed restored complete_fronts) steps_left outcomes_left last

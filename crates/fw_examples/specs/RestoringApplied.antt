@@ -13,7 +13,6 @@ use Rattle.fw_examples.specs.Flows.{two_batches, pair}
 use Rattle.fw_examples.specs.UnderWay.{message, round}
 use Rattle.fw_examples.specs.Recovery.{counting_failed, restored}
 use Rattle.fw_examples.specs.OneSelect.{big, big_to_out}
-use Rattle.fw_examples.specs.LoggedEvents.{each_written}
 use Rattle.fw_examples.specs.LogsAfterCollection.{both_come_back, events_logged, event_collected, checkpoints_logged, log_kept, total_logged, none_collected}
 use Rattle.fw_examples.specs.RunningTotal.{totals, total_flow, src, run, output_failed, come_back, two_epochs_kept}
 
@@ -43,17 +42,8 @@ pub record RestoringApplies : Type 0 where
       → AllByRecursion (λ (write : Write). lies_below totals (map front_of_cut two_epochs_kept.cuts) before.history write.node write.written ≡ true
       → is_in_flight write.progress ≡ false) before.writes
 
--- the laws of restoring, of a select that writes each event, when it fails with both of its events acknowledged
-pub record LoggingRestored : Type 0 where
-  pub failed : Machine
-  pub three_events : length failed.history ≡ 3
-  pub two_writes : length failed.writes ≡ 2
-  pub logged : restoring.EventsInsideCutsAreLogged
-      → AllByRecursion (λ (v : Numbered). place each_written.flow v.event ≡ big → frontier_of (bounds_of each_written.flow big) [] (stamp v.event) ≡ true
-      → restoring.IsLoggedOnce each_written failed.low big v failed.writes) failed.history
-
--- the laws of restoring, of that select after a collection, when it fails with one of its two events collected, and of a
--- running total of whose events none is collected
+-- the laws of restoring, of a select that writes each event, when it fails with one of its two events collected, and of a running
+-- total of whose events none is collected
 pub record CollectionRestored : Type 0 where
   pub logged : restoring.EventsInsideCutsAreLogged
       → AllByRecursion (λ (v : Numbered). place events_logged.flow v.event ≡ big → frontier_of (bounds_of events_logged.flow big) [] (stamp v.event) ≡ true

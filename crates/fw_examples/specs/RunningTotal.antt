@@ -7,7 +7,7 @@ use Rattle.fw_flow.specs.declared.choice.Cut.TheVariants.{At}
 use Rattle.fw_flow.specs.declared.event.Event.{Event}
 use Rattle.fw_flow.specs.declared.event.Event.TheVariants.{Inject as Injected, Deliver as Delivered, Notify as Notified}
 use Rattle.fw_flow.specs.declared.event.Message.{Message}
-use Rattle.fw_flow.specs.declared.kind.Kind.TheVariants.{Input, OutputEpoch, Total}
+use Rattle.fw_flow.specs.declared.kind.Kind.TheVariants.{Total}
 use Rattle.fw_flow.specs.declared.kind.Policy.{Policy}
 use Rattle.fw_flow.specs.declared.kind.Policy.TheVariants as policy
 use Rattle.fw_flow.specs.declared.step.Step.{Step}
@@ -18,7 +18,8 @@ use Rattle.fw_model.specs.Choice.{until}
 use Rattle.fw_model.specs.Denotation.{Family, rounds}
 use Rattle.fw_model.specs.Machine.{Machine, checkpoint, in_flight, acknowledged, collected}
 use Rattle.fw_model.specs.Steps.{Outcome, did, quiet, acked, cuts, lows}
-use Rattle.fw_examples.specs.OneSelect.{rec_of}
+use Rattle.fw_flow.specs.declared.node.Node.{Node}
+use Rattle.fw_examples.specs.Flows.{node, in_a_row, fed, pair}
 use Rattle.fw_examples.specs.Recovery.{with_serials}
 
 -- the input
@@ -41,24 +42,17 @@ src_to_run = 0
 abbrev pub run_to_out : ℕ
 run_to_out = 1
 
+-- the running total, with a policy
+abbrev pub summing : Policy → Node
+summing keeping = node (codes "run") Total keeping
+
 -- the dataflow with a policy of the running total
 abbrev pub total_flow_of : Policy → Dataflow
-total_flow_of keeping = record {
-  loops = [];
-  nodes =
-      record { name = codes "src"; kind = Input; policy = policy.None }
-      ∷ record { name = codes "run"; kind = Total; policy = keeping }
-      ∷ record { name = codes "out"; kind = OutputEpoch; policy = policy.None }
-      ∷ [];
-  edges =
-      record { name = codes "a"; sender = src; receiver = run }
-      ∷ record { name = codes "b"; sender = run; receiver = out }
-      ∷ [];
-}
+total_flow_of keeping = in_a_row (summing keeping)
 
 -- and with these batches of its input
 abbrev pub totals_of : Policy → List (List Rec) → System
-totals_of keeping batches = record { flow = total_flow_of keeping; batches = batches ∷ [] ∷ [] ∷ [] }
+totals_of keeping batches = fed (summing keeping) batches
 
 -- the dataflow whose running total writes checkpoints when asked
 abbrev pub total_flow : Dataflow
@@ -66,7 +60,7 @@ total_flow = total_flow_of policy.Lazy
 
 -- a batch of no rec and four of one rec each
 abbrev pub five_batches : List (List Rec)
-five_batches = [] ∷ (rec_of 1 10 ∷ []) ∷ (rec_of 1 5 ∷ []) ∷ (rec_of 1 1 ∷ []) ∷ (rec_of 1 2 ∷ []) ∷ []
+five_batches = [] ∷ (pair 1 10 ∷ []) ∷ (pair 1 5 ∷ []) ∷ (pair 1 1 ∷ []) ∷ (pair 1 2 ∷ []) ∷ []
 
 -- the dataflow with them
 abbrev pub totals : System
@@ -78,7 +72,7 @@ totals_denoted = rounds totals 4
 
 -- a message with this value that comes from an event at its own epoch
 abbrev pub at_epoch : ℕ → ℕ → Message
-at_epoch x value = record { at = x ∷ []; rec = rec_of 1 value; causes = (x ∷ []) ∷ [] }
+at_epoch x value = record { at = x ∷ []; rec = pair 1 value; causes = (x ∷ []) ∷ [] }
 
 -- epochs 0 and 1 came through, the latest event first
 abbrev pub two_epochs : List Event
@@ -150,7 +144,7 @@ abbrev pub outcomes_up_to_two : List Outcome
 outcomes_up_to_two =
     did quiet ∷ did quiet ∷ did quiet ∷ did quiet
     ∷ did quiet ∷ did quiet ∷ did quiet ∷ did quiet ∷ did quiet ∷ did quiet ∷ did quiet
-    ∷ did (acked out (0 ∷ []) []) ∷ did (acked out (1 ∷ []) (rec_of 1 10 ∷ [])) ∷ []
+    ∷ did (acked out (0 ∷ []) []) ∷ did (acked out (1 ∷ []) (pair 1 10 ∷ [])) ∷ []
 
 -- the steps after the collection in which epoch 2 is summed and a checkpoint asked, epoch 3 is sent, and the output fails
 abbrev pub steps_of_failure : List Step
@@ -168,7 +162,7 @@ steps_of_sum =
 
 -- what they show
 abbrev pub outcomes_of_sum : List Outcome
-outcomes_of_sum = did quiet ∷ did quiet ∷ did quiet ∷ did quiet ∷ did quiet ∷ did (acked out (2 ∷ []) (rec_of 1 15 ∷ [])) ∷ []
+outcomes_of_sum = did quiet ∷ did quiet ∷ did quiet ∷ did quiet ∷ did quiet ∷ did (acked out (2 ∷ []) (pair 1 15 ∷ [])) ∷ []
 
 -- the steps up to the failure, with the collection
 abbrev pub steps_to_failure : List Step

@@ -1,5 +1,5 @@
 -- A run of the loop that counts up, with both batches under way.
-use Rattle.std.specs.Prelude.{◌≡◌, ℕ, List, [], ◌∷◌, slice_index_or}
+use Rattle.std.specs.Prelude.{◌≡◌, ℕ, List, [], ◌∷◌, ◌++◌, slice_index_or}
 use Rattle.fw_time.specs.Stamp.{Stamp}
 use Rattle.fw_bag.specs.declared.rec.Rec.{Rec}
 use Rattle.fw_frontier.specs.Frontier.{Frontier}
@@ -20,10 +20,9 @@ message at rec cause = record { at = at; rec = rec; causes = cause ∷ [] }
 abbrev pub round : ℕ → ℕ → Stamp
 round x c = x ∷ c ∷ []
 
--- What happened, the latest event first: the first batch went round twice and was counted up thrice, and of the second
--- batch one rec was counted up.
-abbrev pub under_way : List Event
-under_way =
+-- the latest events: the first batch went round twice and was counted up thrice
+abbrev pub rounds_of_the_first : List Event
+rounds_of_the_first =
     Deliver 2 (message (round 0 2) (pair 1 2) (round 0 2))
     ∷ Deliver 4 (message (round 0 2) (pair 1 2) (round 0 1))
     ∷ Deliver 3 (message (round 0 1) (pair 1 2) (round 0 1))
@@ -31,8 +30,12 @@ under_way =
     ∷ Deliver 4 (message (round 0 1) (pair 1 1) (round 0 0))
     ∷ Deliver 3 (message (round 0 0) (pair 1 1) (round 0 0))
     ∷ Deliver 2 (message (round 0 0) (pair 1 0) (round 0 0))
-    ∷ Deliver 2 (message (round 1 0) (pair 2 0) (round 1 0))
-    ∷ Deliver 1 (message (round 1 0) (pair 3 0) (1 ∷ []))
+    ∷ []
+
+-- the events before: both batches entered the loop
+abbrev pub both_entered : List Event
+both_entered =
+    Deliver 1 (message (round 1 0) (pair 3 0) (1 ∷ []))
     ∷ Deliver 1 (message (round 1 0) (pair 2 0) (1 ∷ []))
     ∷ Deliver 0 (message (1 ∷ []) (pair 3 0) (1 ∷ []))
     ∷ Deliver 0 (message (1 ∷ []) (pair 2 0) (1 ∷ []))
@@ -41,6 +44,10 @@ under_way =
     ∷ Deliver 0 (message (0 ∷ []) (pair 1 0) (0 ∷ []))
     ∷ Inject 0 0
     ∷ []
+
+-- What happened: between the two one rec of the second batch was counted up.
+abbrev pub under_way : List Event
+under_way = rounds_of_the_first ++ Deliver 2 (message (round 1 0) (pair 2 0) (round 1 0)) ∷ both_entered
 
 -- what is pending on each edge
 abbrev pub still_pending : List (List Message)

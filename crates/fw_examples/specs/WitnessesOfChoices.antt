@@ -4,13 +4,15 @@ use Rattle.fw_frontier.specs.Frontier.{Frontier, IsFrontier, join}
 use Rattle.fw_frontier.specs.Front.{Front, frontier_of}
 use Rattle.fw_flow.specs.declared.choice.Cut.TheVariants.{At}
 use Rattle.fw_flow.specs.Dataflow.{kind_of, policy_of, bounds_of}
-use Rattle.fw_model.specs.Choice.{kept, ever, until, by_checkpoints, restoring, cut_of, delivered_cover, notified_cover, discarded_cover, IsCandidate, IsConsistent, IsCutWithin, IsChoiceWithin}
+use Rattle.fw_model.specs.Choice.{kept, ever, until, by_checkpoints, cut_of, IsCandidate, IsConsistent, IsCutWithin, IsChoiceWithin}
 use Rattle.fw_model.specs.Machine.{is_failed}
-use Rattle.fw_model.specs.LawsOfChoices.{IsUnionOfChoices, IsUnionOfCuts}
 use Rattle.fw_examples.specs.Flows.{loop_counts_up, two_batches}
 use Rattle.fw_examples.specs.UnderWay.{round, counted_rounds}
 use Rattle.fw_examples.specs.Recovery.{counting_failed}
 use Rattle.fw_examples.specs.RunningTotal.{totals, total_flow, run, src_to_run, run_to_out, output_failed, two_kept_noting, two_epochs_kept, epoch_kept}
+use Rattle.fw_flow.specs.Restoring.{restoring}
+use Rattle.fw_model.specs.Covers.{delivered_cover, notified_cover, discarded_cover}
+use Rattle.fw_model.specs.Unions.{IsUnionOfChoices, IsUnionOfCuts}
 
 -- Counting what was collected, two choices of the running total are consistent of which none lies within the other, their
 -- union is offered, and in it something counts as delivered to the running total, as notified of it and as sent by it.

@@ -5,19 +5,20 @@ use Rattle.fw_frontier.specs.Frontier.{Frontier, Within}
 use Rattle.fw_frontier.specs.Front.{frontier_of}
 use Rattle.fw_flow.specs.declared.choice.Cut.TheVariants.{Present}
 use Rattle.fw_flow.specs.declared.kind.Kind.TheVariants.{Sequence}
-use Rattle.fw_flow.specs.Dataflow.{kind_of, policy_of, sender, receiver, bounds_of, is_numbered}
+use Rattle.fw_flow.specs.Dataflow.{kind_of, policy_of, sender, receiver, bounds_of, is_numbered, NotifiesNobody, HasEpochs}
 use Rattle.fw_flow.specs.Projection.{phi}
 use Rattle.fw_flow.specs.WellFormed.{IsWellFormed}
-use Rattle.fw_model.specs.Choice.{until, cut_of, note_of, kept_of, can_resend, filtered}
+use Rattle.fw_model.specs.Choice.{until, cut_of, note_of, kept_of, filtered}
 use Rattle.fw_model.specs.History.{IsLegal, pending, sent, delivered}
 use Rattle.fw_model.specs.Machine.{events, front_of}
-use Rattle.fw_model.specs.LawsOfFiltering.{AreFrontiers, ComeFromKept, IsConsistentlyKept, IsCutWithinSettled, IsFull, KeepsDiscarded, MeetsInclusions, NotifiesNobody, kept_events, messages_from}
-use Rattle.fw_model.specs.LawsOfLegalHistories.{HasEpochs}
 use Rattle.fw_examples.specs.Flows.{loop_counts_up, regroup_by_three, two_batches, pair}
 use Rattle.fw_examples.specs.UnderWay.{message, round, under_way}
 use Rattle.fw_examples.specs.Recovery.{counting_failed, restored, without_the_second}
 use Rattle.fw_examples.specs.RunningTotal.{totals, total_flow, src, run, src_to_run, at_epoch, two_epochs, output_failed, two_epochs_kept}
 use Rattle.fw_examples.specs.Numbers.{numbers, value_at, numbered_epoch, numbered_both}
+use Rattle.fw_flow.specs.Restoring.{can_resend}
+use Rattle.fw_model.specs.Filtering.{AreFrontiers, ComeFromKept, IsConsistentlyKept, KeepsDiscarded, MeetsInclusions, kept_events, messages_from}
+use Rattle.fw_model.specs.Settled.{IsCutWithinSettled, IsFull}
 
 -- what each node of the running total keeps in the recovery
 abbrev pub kept_totals : ℕ → Frontier

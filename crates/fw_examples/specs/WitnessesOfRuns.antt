@@ -5,24 +5,19 @@ use Rattle.fw_frontier.specs.Frontier.{Frontier}
 use Rattle.fw_frontier.specs.Front.{frontier_of}
 use Rattle.fw_flow.specs.declared.choice.Cut.TheVariants.{At}
 use Rattle.fw_flow.specs.declared.step.Step.TheVariants.{Recover, Collect}
-use Rattle.fw_flow.specs.Dataflow.{bounds_of}
+use Rattle.fw_flow.specs.Dataflow.{bounds_of, HasEpochs}
 use Rattle.fw_flow.specs.WellFormed.{IsWellFormedSystem}
 use Rattle.fw_model.specs.Choice.{kept, ever, until, IsCandidate, IsLargest}
 use Rattle.fw_model.specs.Denotation.{IsDenotation, rounds, bag_at}
-use Rattle.fw_model.specs.History.{IsComplete, IsLegal, pending, delivered}
+use Rattle.fw_model.specs.History.{IsComplete, IsLegal, pending, delivered, recs_at}
 use Rattle.fw_model.specs.Machine.{Machine, Write, in_flight, acknowledged, collected, events, first_state, front_of, is_failed}
-use Rattle.fw_model.specs.Steps.{Steps, Run, did, cuts, lows}
-use Rattle.fw_model.specs.LawsOfChoosing.{Shows}
-use Rattle.fw_model.specs.LawsOfDeliveries.{recs_at}
-use Rattle.fw_model.specs.LawsOfExistence.{AreCheckpointsChains, HasMoreToSettle}
-use Rattle.fw_model.specs.LawsOfLegalHistories.{HasEpochs}
-use Rattle.fw_model.specs.LawsOfRecoveries.{IsDenotedInside}
-use Rattle.fw_model.specs.LawsOfRuns.{HaveNoRecovery, stamps_acknowledged}
-use Rattle.fw_model.specs.LawsOfSteps.{HasItsChoice}
-use Rattle.fw_examples.specs.OneSelect.{rec_of}
-use Rattle.fw_examples.specs.Flows.{two_batches}
+use Rattle.fw_model.specs.Steps.{Steps, Run, did, cuts, lows, HaveNoRecovery}
+use Rattle.fw_examples.specs.Flows.{two_batches, pair}
 use Rattle.fw_examples.specs.Recovery.{steps_taken, outcomes_shown, steps_left, outcomes_left}
 use Rattle.fw_examples.specs.RunningTotal.{totals, total_flow, totals_denoted, run, out, src_to_run, run_to_out, at_epoch, two_epochs, next_epochs, alike, output_failed, come_back, two_epochs_kept, steps_up_to_two, outcomes_up_to_two, steps_to_failure, outcomes_to_failure, steps_through_recovery, outcomes_through_recovery, steps_without_failure, outcomes_without_failure}
+use Rattle.fw_model.specs.Acknowledgements.{Shows, stamps_acknowledged}
+use Rattle.fw_model.specs.Choosing.{AreCheckpointsChains, HasItsChoice}
+use Rattle.fw_model.specs.Settled.{HasMoreToSettle, IsDenotedInside}
 
 -- The running total is well formed, its batches have epochs, and the rounds are its denotation.
 pub record TotalsAreWellFormed : Type 0 where
@@ -40,7 +35,7 @@ pub record FailureIsReached : Type 0 where
   pub pending_for_total : pending totals (events output_failed.history) src_to_run ≡ at_epoch 3 1 ∷ []
   pub pending_for_output : pending totals (events output_failed.history) run_to_out ≡ at_epoch 2 15 ∷ []
   pub acknowledged : stamps_acknowledged out outcomes_to_failure ≡ (0 ∷ []) ∷ (1 ∷ []) ∷ []
-  pub bag : bag_at totals_denoted run_to_out (1 ∷ []) ≡ rec_of 1 10 ∷ []
+  pub bag : bag_at totals_denoted run_to_out (1 ∷ []) ≡ pair 1 10 ∷ []
 
 -- A recovery is a step from that state, filters out some events and keeps others, and one more epoch is acknowledged after it.
 pub record RecoveryIsReached : Type 0 where
@@ -51,21 +46,21 @@ pub record RecoveryIsReached : Type 0 where
   pub reached : Run totals (first_state totals) (steps_to_failure ++ Recover ∷ []) (outcomes_to_failure ++ did (cuts two_epochs_kept) ∷ []) come_back
   pub goes_on : (last : Machine) × Run totals (first_state totals) steps_through_recovery outcomes_through_recovery last
   pub acknowledged : stamps_acknowledged out outcomes_through_recovery ≡ (0 ∷ []) ∷ (1 ∷ []) ∷ (2 ∷ []) ∷ []
-  pub bag : bag_at totals_denoted run_to_out (2 ∷ []) ≡ rec_of 1 15 ∷ []
+  pub bag : bag_at totals_denoted run_to_out (2 ∷ []) ≡ pair 1 15 ∷ []
 
 -- Two runs, one of them through a failure and a recovery, acknowledge one epoch after the steps in which they differ.
 pub record TwoRunsMeet : Type 0 where
   pub through : (last : Machine) × Run totals (first_state totals) steps_through_recovery outcomes_through_recovery last
   pub without : (last : Machine) × Run totals (first_state totals) steps_without_failure outcomes_without_failure last
-  pub shown_through : Shows out (2 ∷ []) (rec_of 1 15 ∷ []) outcomes_through_recovery
-  pub shown_without : Shows out (2 ∷ []) (rec_of 1 15 ∷ []) outcomes_without_failure
+  pub shown_through : Shows out (2 ∷ []) (pair 1 15 ∷ []) outcomes_through_recovery
+  pub shown_without : Shows out (2 ∷ []) (pair 1 15 ∷ []) outcomes_without_failure
 
 -- In the state of the failure some epochs are settled and others not, what was delivered in them is denoted, and a node can be
 -- restored to less than it settled.
 pub record SomeIsSettled : Type 0 where
   pub denoted : IsDenotedInside totals totals_denoted output_failed
   pub settled : output_failed.settled ≡ until 3 ∷ until 3 ∷ until 2 ∷ []
-  pub delivered : recs_at (1 ∷ []) (delivered (events output_failed.history) run_to_out) ≡ rec_of 1 10 ∷ []
+  pub delivered : recs_at (1 ∷ []) (delivered (events output_failed.history) run_to_out) ≡ pair 1 10 ∷ []
   pub candidate : IsCandidate totals output_failed (is_failed output_failed) kept run (At (until 2))
 
 -- There the largest choice keeps two epochs of four, as the low watermark does, and checkpoints are chains; a checkpoint that

@@ -1,11 +1,17 @@
 //! Why a consistent choice has to meet each of its five inclusions.
 ghost use Rattle.fw_flow.specs.WellFormed.{IsWellFormed};
+ghost use Rattle.fw_examples.specs.OneSelect.{one_select_flow};
 ghost use Rattle.fw_examples.specs.TwoSources.{two_sources_flow};
 ghost use Rattle.fw_examples.specs.Inclusions.{LeavesOutOne, DeliveredIsNeeded, DiscardedIsNeeded, NotifiedIsNeeded, OwnIsNeeded, NotesAreNeeded};
 
 /// Leaving out one inclusion leaves out nothing else.
 pub fn leaves_out_one()
     ensures { LeavesOutOne }
+{}
+
+/// The dataflow of the two that follow is well formed.
+pub fn one_select_is_well_formed()
+    ensures { IsWellFormed one_select_flow }
 {}
 
 /// A sender has to keep what its receiver has from it.

@@ -5,18 +5,12 @@
 mod inclusions;
 mod kinds_send;
 mod laws_applied;
-mod logged_events;
 mod logs_after_collection;
 mod loop_counts_up;
 mod offers_of_totals;
-mod one_collection;
-mod one_recovery;
-mod one_select_runs;
 mod projections;
-mod recovery;
 mod restoring_applied;
 mod sending_applied;
-mod under_way;
 mod witnesses_of_choices;
 mod witnesses_of_deliveries;
 mod witnesses_of_filtering;
@@ -24,7 +18,7 @@ mod witnesses_of_runs;
 
 pub use inclusions::{
     delivered_is_needed, discarded_is_needed, leaves_out_one, notes_are_needed, notified_is_needed,
-    own_is_needed, two_sources_is_well_formed,
+    one_select_is_well_formed, own_is_needed, two_sources_is_well_formed,
 };
 pub use kinds_send::{
     distinct_sends_the_first, join_sends_each_pair, ledger_sends_running_totals,
@@ -34,22 +28,13 @@ pub use laws_applied::{
     choices_apply, choosing_applies, deliveries_apply, filtering_applies, legal_histories_apply,
     runs_apply, steps_apply,
 };
-pub use logged_events::{loses_an_epoch, restores_an_epoch};
 pub use logs_after_collection::{
-    collects_a_logged_event, keeps_a_log_with_a_checkpoint, keeps_events_of_a_total,
+    collects_a_logged_event, keeps_a_log_with_a_checkpoint, keeps_events_of_a_total, loses_an_epoch,
 };
+pub use loop_counts_up::{is_complete, is_restored, is_under_way, two_batches_count_up};
 pub use offers_of_totals::checkpoints_are_offered;
-pub use one_collection::collects_the_first_epoch;
-pub use one_recovery::{
-    acknowledges_what_is_to_come, keeps_the_settled_epoch, resumes_after_both_failed,
-};
-pub use one_select_runs::{
-    acknowledges_what_is_settled, is_idle_too_early, is_idle_without_batches,
-    is_idle_without_steps, one_select_is_well_formed, waits_for_the_rest,
-};
-pub use restoring_applied::{
-    collection_restored, logging_restored, logs_restored, restoring_applies,
-};
+pub use projections::{enter_projects, feedback_projects, leave_projects, regroup_projects};
+pub use restoring_applied::{collection_restored, logs_restored, restoring_applies};
 pub use sending_applied::{denotation_applies, projections_apply, sending_applies};
 pub use witnesses_of_choices::{choices_unite, cuts_unite, join_is_a_frontier, less_is_consistent};
 pub use witnesses_of_deliveries::{

@@ -1,9 +1,11 @@
-//! Nodes that log what they do, a collection, and a failure after it.
-ghost use Rattle.fw_examples.specs.LogsAfterCollection.{
-  CollectsALoggedEvent,
-  KeepsALogWithACheckpoint,
-  KeepsEventsOfATotal,
-};
+//! Nodes that log what they do: what is not written is lost, and what is collected.
+ghost use Rattle.fw_examples.specs.LoggedEvents.{LosesAnEpoch};
+ghost use Rattle.fw_examples.specs.LogsAfterCollection.{CollectsALoggedEvent, KeepsALogWithACheckpoint, KeepsEventsOfATotal};
+
+/// A frontier with an event that is not written is none to which a node is restored.
+pub fn loses_an_epoch()
+    ensures { LosesAnEpoch }
+{}
 
 /// In a run, an event is collected once what it sent is no longer needed, and another is kept, since what it sent is
 /// sent again.

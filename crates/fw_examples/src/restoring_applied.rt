@@ -1,22 +1,12 @@
 //! What the laws of restoring say of the running total, of the loop, and of a select that logs.
-ghost use Rattle.fw_examples.specs.RestoringApplied.{
-  CollectionRestored,
-  LoggingRestored,
-  LogsRestored,
-  RestoringApplies,
-};
+ghost use Rattle.fw_examples.specs.RestoringApplied.{CollectionRestored, LogsRestored, RestoringApplies};
 
 /// The laws of restoring.
 pub fn restoring_applies()
     ensures { RestoringApplies }
 {}
 
-/// The laws of restoring of a node that logs each event.
-pub fn logging_restored()
-    ensures { LoggingRestored }
-{}
-
-/// The laws of restoring of that node after a collection, and of a running total that logs each event.
+/// The laws of restoring of a node that logs each event, after a collection, and of a running total that does.
 pub fn collection_restored()
     ensures { CollectionRestored }
 {}

@@ -2,6 +2,7 @@
 use Rattle.std.proofs.Common.{◌≡◌, inr, ◌↔◌, ℕ, ◌<◌, ◌^◌, Bool, true, false, List, length, map, Option, Some, None, refl, sym, ap, ◌∙◌, subst, arith, get_or, IsNone}
 use Rattle.std.proofs.lemmas.Bool.{false≢true, true≢false}
 use Rattle.std.proofs.lemmas.List.{length-map, get_or-map}
+use Rattle.std.specs.Prelude.{Result, Ok, Err, IfOk}
 use Rattle.std.specs.Bool.{OnTrue, OnFalse}
 use Rattle.fw_lines.specs.declared.fault.ReadFault.{ReadFault}
 use Rattle.fw_lines.specs.declared.fault.ReadFault.TheVariants.{Refused, NoMemory}
@@ -200,19 +201,21 @@ policies_first draft raw of_draft line nodes lines are_nodes are_lines first =
     (first_break_same (HasAllowedPolicy (capped_flow flow)) (HasAllowedPolicy flow) (HasAllowedPolicy-capped flow) lines line
     (first (capped_flow flow) ((made_of draft raw of_draft).nodes ∙ sym are_nodes)))
 
-pub walks_right : (draft : Draft) (raw : List Declared) → IsDraftOf draft raw → (b : Bool) (nodes : List Node) (links : List Link)
-    → nodes ≡ draft.parts.nodes.items → links ≡ draft.links.items → b ≡ true
-    → ((flow : Dataflow) → IsMadeOf flow nodes links → OnTrue b (AreWalksRight flow)) → AreWalksRight (flow_of raw)
-walks_right draft raw of_draft true nodes links are_nodes are_links e right =
+pub walks_right : {E : Type 0} (draft : Draft) (raw : List Declared) → IsDraftOf draft raw → (r : Result Bool E) (nodes : List Node) (links : List Link)
+    → nodes ≡ draft.parts.nodes.items → links ≡ draft.links.items
+    → ((flow : Dataflow) → IsMadeOf flow nodes links → IfOk r (λ b. OnTrue b (AreWalksRight flow))) → IfOk r (λ b. b ≡ true → AreWalksRight (flow_of raw))
+walks_right draft raw of_draft (Ok true) nodes links are_nodes are_links right = λ e.
     AreWalksRight-capped (flow_of raw) (right (capped_flow (flow_of raw)) (made_of_lists draft raw of_draft nodes links are_nodes are_links))
-walks_right draft raw of_draft false nodes links are_nodes are_links e right = absurd (false≢true e)
+walks_right draft raw of_draft (Ok false) nodes links are_nodes are_links right = λ e. absurd (false≢true e)
+walks_right draft raw of_draft (Err fault) nodes links are_nodes are_links right = tt
 
-pub walk_wrong : (draft : Draft) (raw : List Declared) → IsDraftOf draft raw → (b : Bool) (nodes : List Node) (links : List Link)
-    → nodes ≡ draft.parts.nodes.items → links ≡ draft.links.items → b ≡ false
-    → ((flow : Dataflow) → IsMadeOf flow nodes links → OnFalse b (IsWalkWrong flow)) → IsWalkWrong (flow_of raw)
-walk_wrong draft raw of_draft true nodes links are_nodes are_links e wrong = absurd (true≢false e)
-walk_wrong draft raw of_draft false nodes links are_nodes are_links e wrong =
+pub walk_wrong : {E : Type 0} (draft : Draft) (raw : List Declared) → IsDraftOf draft raw → (r : Result Bool E) (nodes : List Node) (links : List Link)
+    → nodes ≡ draft.parts.nodes.items → links ≡ draft.links.items
+    → ((flow : Dataflow) → IsMadeOf flow nodes links → IfOk r (λ b. OnFalse b (IsWalkWrong flow))) → IfOk r (λ b. b ≡ false → IsWalkWrong (flow_of raw))
+walk_wrong draft raw of_draft (Ok true) nodes links are_nodes are_links wrong = λ e. absurd (true≢false e)
+walk_wrong draft raw of_draft (Ok false) nodes links are_nodes are_links wrong = λ e.
     IsWalkWrong-capped (flow_of raw) (wrong (capped_flow (flow_of raw)) (made_of_lists draft raw of_draft nodes links are_nodes are_links))
+walk_wrong draft raw of_draft (Err fault) nodes links are_nodes are_links wrong = tt
 
 pub borders_same : (draft : Draft) (raw : List Declared) → IsDraftOf draft raw → (b : Bool) (nodes : List Node) → nodes ≡ draft.parts.nodes.items
     → ((flow : Dataflow) → flow.nodes ≡ nodes → (b ≡ true) ↔ HasBorders flow) → (b ≡ true) ↔ HasBorders (flow_of raw)

@@ -1,5 +1,7 @@
--- What an edge of a well-formed dataflow joins, and its projections by the kind of its sender.
-use Rattle.std.proofs.Common.{◌≡◌, ℕ, ◌≤◌, ◌<◌, Bool, true, false, ◌&&◌, nat_lt, List, [], length, refl, sym, ap, subst, ◌∙◌, arith}
+-- What an edge of a well-formed dataflow joins, its projections by the kind of its sender, and the in-edges of a node.
+use Rattle.std.proofs.Common.{◌≡◌, ℕ, zero, suc, ◌+◌, ◌≤◌, ◌<◌, Bool, true, false, ◌&&◌, ◌==◌, cond, nat_lt, List, [], ◌∷◌, length, get_or, refl, sym, ap, subst, ◌∙◌, arith}
+use Rattle.std.specs.List.{AllByRecursion}
+use Rattle.std.proofs.lemmas.Bool.{eqb-true, eq-eqb}
 use Rattle.std.proofs.lemmas.Bool.Decides.{nat_tests}
 use Rattle.std.proofs.lemmas.List.{get_or_past}
 use Rattle.fw_time.specs.Stamp.{in_domain}
@@ -7,14 +9,15 @@ use Rattle.fw_frontier.specs.Front.{Front, frontier_of, Names}
 use Rattle.fw_frontier.proofs.BelowLaws.{names-as}
 use Rattle.fw_flow.specs.declared.event.Event.{Event}
 use Rattle.fw_flow.specs.declared.kind.Kind.TheVariants.{OutputEpoch, Sequence}
-use Rattle.fw_flow.specs.Dataflow.{System, Dataflow, idle_node, kind_of, sender, receiver, domain_of, domain_of_kind, out_domain_of, out_domain_of_kind, greatest_of_kind, bounds_of, bounds_of_domain}
+use Rattle.fw_flow.specs.declared.node.Edge.{Edge}
+use Rattle.fw_flow.specs.Dataflow.{System, Dataflow, idle_node, kind_of, sender, receiver, edges_into, in_edges, domain_of, domain_of_kind, out_domain_of, out_domain_of_kind, greatest_of_kind, bounds_of, bounds_of_domain}
 use Rattle.fw_flow.specs.WellFormed.{IsWellFormed, IsGroupSize}
 use Rattle.fw_flow.specs.Projection.{phi_of_kind, psi_of_kind, psi_back_of_kind, phi, phi_by_count, psi, psi_back, table_count, IsSentTable}
 use Rattle.fw_flow.specs.ProjectedStamps.{AreDomainsOf}
 use Rattle.fw_flow.proofs.ProjectionLaws.{phi-by_table}
 
 -- past the last node stand idle outputs
-kind-past : (flow : Dataflow) (p : ℕ) → length flow.nodes ≤ p → kind_of flow p ≡ OutputEpoch
+pub kind-past : (flow : Dataflow) (p : ℕ) → length flow.nodes ≤ p → kind_of flow p ≡ OutputEpoch
 unfolding kind_of
 kind-past flow p h = ap (λ node. node.kind) (get_or_past flow.nodes p idle_node h)
 
@@ -100,43 +103,60 @@ phi-counted flow w e os g count n =
     (phi_by_count flow count e f) n
     (λ u. ap (λ d. in_domain (bounds_of_domain flow d) u && phi_of_kind (greatest_of_kind flow kind) kind count f u) (sym (edge-domains flow w e)))
 
-pub psi-named : (flow : Dataflow) → IsWellFormed flow → (e : ℕ) (os g : Front) (sys : System) → sys.flow ≡ flow
+pub psi-named : (flow : Dataflow) → IsWellFormed flow → (e : ℕ) (os g : Front)
     → Names (bounds_of flow (receiver flow e)) g (λ u. in_domain (bounds_of flow (receiver flow e)) u
     && psi_of_kind (bounds_of flow (sender flow e)).greatest (kind_of flow (sender flow e)) (frontier_of (bounds_of flow (sender flow e)) os) u)
-    → Names (bounds_of flow (receiver flow e)) g (psi sys e (frontier_of (bounds_of flow (sender flow e)) os))
+    → Names (bounds_of flow (receiver flow e)) g (psi flow e (frontier_of (bounds_of flow (sender flow e)) os))
 unfolding bounds_of psi
-psi-named flow w e os g sys same =
-    let P : Dataflow → Type 0 = λ flow. IsWellFormed flow
-    → Names (bounds_of flow (receiver flow e)) g (λ u. in_domain (bounds_of flow (receiver flow e)) u
-    && psi_of_kind (bounds_of flow (sender flow e)).greatest (kind_of flow (sender flow e)) (frontier_of (bounds_of flow (sender flow e)) os) u)
-    → Names (bounds_of flow (receiver flow e)) g (psi sys e (frontier_of (bounds_of flow (sender flow e)) os)) in
-    of_flow P flow sys.flow same here w
-  where
-    here : IsWellFormed sys.flow
-        → Names (bounds_of sys.flow (receiver sys.flow e)) g (λ u. in_domain (bounds_of sys.flow (receiver sys.flow e)) u
-        && psi_of_kind (bounds_of sys.flow (sender sys.flow e)).greatest (kind_of sys.flow (sender sys.flow e)) (frontier_of (bounds_of sys.flow (sender sys.flow e)) os) u)
-        → Names (bounds_of sys.flow (receiver sys.flow e)) g (psi sys e (frontier_of (bounds_of sys.flow (sender sys.flow e)) os))
-    here w n =
-        let f = frontier_of (bounds_of sys.flow (sender sys.flow e)) os in
-        let kind = kind_of sys.flow (sender sys.flow e) in
-        names-as (bounds_of sys.flow (receiver sys.flow e)) g
-        (λ u. in_domain (bounds_of sys.flow (receiver sys.flow e)) u && psi_of_kind (bounds_of sys.flow (sender sys.flow e)).greatest kind f u)
-        (psi sys e f) n
-        (λ u. ap (λ d. in_domain (bounds_of_domain sys.flow d) u && psi_of_kind (greatest_of_kind sys.flow kind) kind f u) (sym (edge-domains sys.flow w e)))
+psi-named flow w e os g n =
+    let f = frontier_of (bounds_of flow (sender flow e)) os in
+    let kind = kind_of flow (sender flow e) in
+    names-as (bounds_of flow (receiver flow e)) g
+    (λ u. in_domain (bounds_of flow (receiver flow e)) u && psi_of_kind (bounds_of flow (sender flow e)).greatest kind f u)
+    (psi flow e f) n
+    (λ u. ap (λ d. in_domain (bounds_of_domain flow d) u && psi_of_kind (greatest_of_kind flow kind) kind f u) (sym (edge-domains flow w e)))
 
-pub psi_back-named : (flow : Dataflow) (e : ℕ) (os g : Front) (sys : System) → sys.flow ≡ flow
+pub psi_back-named : (flow : Dataflow) (e : ℕ) (os g : Front)
     → Names (bounds_of flow (sender flow e)) g (λ t. in_domain (bounds_of flow (sender flow e)) t
     && psi_back_of_kind (bounds_of flow (sender flow e)).greatest (kind_of flow (sender flow e)) (frontier_of (bounds_of flow (receiver flow e)) os) t)
-    → Names (bounds_of flow (sender flow e)) g (psi_back sys e (frontier_of (bounds_of flow (receiver flow e)) os))
+    → Names (bounds_of flow (sender flow e)) g (psi_back flow e (frontier_of (bounds_of flow (receiver flow e)) os))
 unfolding bounds_of psi_back
-psi_back-named flow e os g sys same =
-    let P : Dataflow → Type 0 = λ flow.
-    Names (bounds_of flow (sender flow e)) g (λ t. in_domain (bounds_of flow (sender flow e)) t
-    && psi_back_of_kind (bounds_of flow (sender flow e)).greatest (kind_of flow (sender flow e)) (frontier_of (bounds_of flow (receiver flow e)) os) t)
-    → Names (bounds_of flow (sender flow e)) g (psi_back sys e (frontier_of (bounds_of flow (receiver flow e)) os)) in
-    of_flow P flow sys.flow same here
+psi_back-named flow e os g n = n
+
+-- ---- the in-edges of a node are the edges that it receives on
+
+into-at : (P : ℕ → Type 0) (n : ℕ) (es : List Edge) (p : ℕ) (d : Edge) → AllByRecursion P (edges_into n es p) → (i : ℕ) → i < length es
+    → (get_or es i d).receiver ≡ p → P (n + i)
+into-at P n [] p d a i l r = absurd (omega arith)
+into-at P n (e ∷ es) p d a zero l r =
+    let b : AllByRecursion P (n ∷ edges_into (n + 1) es p) = subst (λ x. AllByRecursion P (cond x (n ∷ edges_into (n + 1) es p) (edges_into (n + 1) es p))) (eq-eqb e.receiver p r) a in
+    subst P (omega arith) b.0
+into-at P n (e ∷ es) p d a (suc i) l r =
+    subst P (omega arith) (into-at P (n + 1) es p d (rest (e.receiver == p) a) i (omega arith) r)
   where
-    here : Names (bounds_of sys.flow (sender sys.flow e)) g (λ t. in_domain (bounds_of sys.flow (sender sys.flow e)) t
-        && psi_back_of_kind (bounds_of sys.flow (sender sys.flow e)).greatest (kind_of sys.flow (sender sys.flow e)) (frontier_of (bounds_of sys.flow (receiver sys.flow e)) os) t)
-        → Names (bounds_of sys.flow (sender sys.flow e)) g (psi_back sys e (frontier_of (bounds_of sys.flow (receiver sys.flow e)) os))
-    here n = n
+    rest : (b : Bool) → AllByRecursion P (cond b (n ∷ edges_into (n + 1) es p) (edges_into (n + 1) es p)) → AllByRecursion P (edges_into (n + 1) es p)
+    rest true k = k.1
+    rest false k = k
+
+pub into-from : (P : ℕ → Type 0) (n : ℕ) (es : List Edge) (p : ℕ) (d : Edge) → ((i : ℕ) → i < length es → (get_or es i d).receiver ≡ p → P (n + i))
+    → AllByRecursion P (edges_into n es p)
+into-from P n [] p d h = tt
+into-from P n (e ∷ es) p d h =
+    let rest : AllByRecursion P (edges_into (n + 1) es p) = into-from P (n + 1) es p d (λ i l r. subst P (omega arith) (h (suc i) (omega arith) r)) in
+    both (e.receiver == p) refl rest
+  where
+    both : (b : Bool) → e.receiver == p ≡ b → AllByRecursion P (edges_into (n + 1) es p) → AllByRecursion P (cond b (n ∷ edges_into (n + 1) es p) (edges_into (n + 1) es p))
+    both true k a = (subst P (omega arith) (h 0 (omega arith) (eqb-true e.receiver p k)), a)
+    both false k a = a
+
+-- what holds of each in-edge of a node holds of each edge that it receives on
+pub in_edges-at : (P : ℕ → Type 0) (flow : Dataflow) (p : ℕ) → AllByRecursion P (in_edges flow p) → (e : ℕ) → e < length flow.edges → receiver flow e ≡ p → P e
+unfolding in_edges receiver
+in_edges-at P flow p a e l r =
+    let at : P (0 + e) = into-at P 0 flow.edges p (record { name = []; sender = length flow.nodes; receiver = length flow.nodes }) a e l r in
+    subst P (omega arith) at
+
+pub in_edges-from : (P : ℕ → Type 0) (flow : Dataflow) (p : ℕ) → ((e : ℕ) → e < length flow.edges → receiver flow e ≡ p → P e) → AllByRecursion P (in_edges flow p)
+unfolding in_edges receiver
+in_edges-from P flow p h =
+    into-from P 0 flow.edges p (record { name = []; sender = length flow.nodes; receiver = length flow.nodes }) (λ e l r. subst P (omega arith) (h e l r))

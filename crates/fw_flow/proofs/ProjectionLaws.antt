@@ -1,5 +1,5 @@
 -- What projections do to the outside stamps of a frontier.
-use Rattle.std.proofs.Common.{◌≡◌, ℕ, zero, suc, ◌+◌, ◌-◌, ◌*◌, ◌/◌, ◌%◌, ◌<◌, ◌≤◌, min, Bool, true, false, not, cond, ◌&&◌, ◌||◌, ◌==◌, nat_lt, nat_le, ◌^◌, List, [], ◌∷◌, ◌++◌, length, get_or, drop, Option, Some, None, add-one, refl, sym, ap, subst, ◌∙◌, arith}
+use Rattle.std.proofs.Common.{◌≡◌, ℕ, zero, suc, ◌+◌, ◌-◌, ◌*◌, ◌/◌, ◌%◌, ◌<◌, ◌≤◌, min, Bool, true, false, not, cond, ◌&&◌, ◌||◌, ◌==◌, nat_lt, nat_le, ◌^◌, List, [], ◌∷◌, ◌++◌, length, get_or, drop, Option, Some, None, add-one, lit<, refl, sym, ap, subst, ◌∙◌, arith}
 use Rattle.std.proofs.Math.Bool.{or-true, and_comm}
 use Rattle.std.proofs.lemmas.Option.{cond_some}
 use Rattle.std.proofs.lemmas.Bool.{and_from, and_parts, le-leb, leb-true, ltb-true}
@@ -620,13 +620,16 @@ psi-regroup_ok n end s r os g p d f named =
     (λ u l. psi-regroup n end (first_number_of u) p ∙ sym (f (first_number_of u * n)))
 
 -- the numbers inside, by where they end
-pub end-limit : (n limit : ℕ) (s r : Bounds) (os : Front) → AreDomainsOf (Regroup n) s r → IsCanonical s os → os ≡ front_until (Some limit) → (x : ℕ) → frontier_of s os (x ∷ []) ≡ nat_lt x limit
-end-limit n limit s r os d h f x =
-    let e = regroup-domains n s r d in
-    (λ j. frontier_of s (f j) (x ∷ [])) ∙ below-limit s greatest_number limit x e.0 ∙ by x greatest_number limit (limit-in s greatest_number limit os e.0 f h)
+below-end : (limit : ℕ) (s : Bounds) (os : Front) → s.greatest ≡ greatest_number ∷ [] → IsCanonical s os → os ≡ front_until (Some limit)
+    → (x : ℕ) → frontier_of s os (x ∷ []) ≡ nat_lt x limit
+below-end limit s os e h f x =
+    (λ j. frontier_of s (f j) (x ∷ [])) ∙ below-limit s greatest_number limit x e ∙ by x greatest_number limit (limit-in s greatest_number limit os e f h)
   where
     by : (x g limit : ℕ) → limit ≤ g → (nat_le x g && nat_lt x limit) ≡ nat_lt x limit
     by x g limit l = grind (arith, nat_tests)
+
+pub end-limit : (n limit : ℕ) (s r : Bounds) (os : Front) → AreDomainsOf (Regroup n) s r → IsCanonical s os → os ≡ front_until (Some limit) → (x : ℕ) → frontier_of s os (x ∷ []) ≡ nat_lt x limit
+end-limit n limit s r os d h f x = below-end limit s os (regroup-domains n s r d).0 h f x
 
 pub end-all : (n end : ℕ) (s r : Bounds) (os : Front) → AreDomainsOf (Regroup n) s r → os ≡ front_until None → end ≡ slice_index s.greatest 0 + 1 → (x : ℕ) → frontier_of s os (x ∷ []) ≡ nat_lt x end
 end-all n end s r os d f k x =
@@ -654,30 +657,34 @@ psi_back-regroup_ok n limit s r os g p d f named =
 
 -- ---- a table of what was sent
 
-pub table-drop : (f : Frontier) (es : List (ℕ × ℕ)) (i : ℕ) → i < length es
-    → table_count f (drop i es) ≡ cond (f ((get_or es i (0, 0)).0 ∷ [])) ((get_or es i (0, 0)).1 + table_count f (drop (i + 1) es)) (table_count f (drop (i + 1) es))
-table-drop f es i h = rw add-one (by es i h)
-  where
-    by : (es : List (ℕ × ℕ)) (i : ℕ) → i < length es
-        → table_count f (drop i es) ≡ cond (f ((get_or es i (0, 0)).0 ∷ [])) ((get_or es i (0, 0)).1 + table_count f (drop (suc i) es)) (table_count f (drop (suc i) es))
-    by [] i h = absurd (omega arith)
-    by (e ∷ es) zero h = refl
-    by (e ∷ es) (suc i) h = by es i (omega arith)
+table_count-same : (f g : Frontier) → ((x : ℕ) → f (x ∷ []) ≡ g (x ∷ [])) → (table : List (ℕ × ℕ)) → table_count f table ≡ table_count g table
+table_count-same f g e [] = refl
+table_count-same f g e (x ∷ table) = λ i. cond (e x.0 i) (x.1 + table_count-same f g e table i) (table_count-same f g e table i)
 
--- an entry more is counted
-pub counted-then : (t t2 x rest all : ℕ) → t2 ≡ min (t + x) (2 ^ 64 - 1) → min (t + (x + rest)) (2 ^ 64 - 1) ≡ min all (2 ^ 64 - 1) → min (t2 + rest) (2 ^ 64 - 1) ≡ min all (2 ^ 64 - 1)
-counted-then t t2 x rest all e h = ap (λ n. min (n + rest) (2 ^ 64 - 1)) e ∙ by t x rest ∙ h
+-- what the messages of a sequence come from, by the count of those of the epochs below a limit
+pub phi-sequence_ok : (limit count : ℕ) (s r : Bounds) (os g : Front) (table : List (ℕ × ℕ)) → AreDomainsOf Sequence s r → IsCanonical s os
+    → os ≡ front_until (Some limit) → count ≡ min (table_count (λ t. nat_lt (first_number_of t) limit) table) (2 ^ 64 - 1)
+    → Names r g (λ u. in_domain r u && nat_lt (first_number_of u) count)
+    → Names r g (λ u. in_domain r u && phi_of_kind s.greatest Sequence (table_count (frontier_of s os) table) (frontier_of s os) u)
+phi-sequence_ok limit count s r os g table d h f c named =
+    let e = sequence-domains s r d in
+    let below = below-end limit s os e.0 h f in
+    let test : Frontier = frontier_of s os in
+    let all : ℕ = table_count (λ t. nat_lt (first_number_of t) limit) table in
+    let same : all ≡ table_count test table = table_count-same (λ t. nat_lt (first_number_of t) limit) test (λ x. sym (below x)) table in
+    let some : test s.greatest ≡ false = ap test e.0 ∙ below greatest_number ∙ past greatest_number limit (limit-in s greatest_number limit os e.0 f h) in
+    names-numbers_by r greatest_number g (λ k. nat_lt k count) (phi_of_kind s.greatest Sequence (table_count test table) test) e.1 named
+    (λ u l.
+    ap (nat_lt (first_number_of u)) c
+    ∙ capped (first_number_of u) all greatest_number (2 ^ 64 - 1) l (lit< tt)
+    ∙ ap (nat_lt (first_number_of u)) same
+    ∙ sym (ap (λ b. b || nat_lt (first_number_of u) (table_count test table)) some))
   where
-    by : (t x rest : ℕ) → min (min (t + x) (2 ^ 64 - 1) + rest) (2 ^ 64 - 1) ≡ min (t + (x + rest)) (2 ^ 64 - 1)
-    by t x rest = grind (arith, nat_tests)
+    past : (g limit : ℕ) → limit ≤ g → nat_lt g limit ≡ false
+    past g limit l = grind (arith, nat_tests)
 
--- all entries are counted
-pub counted-all : (f : Frontier) (es : List (ℕ × ℕ)) (i t : ℕ) → length es ≤ i → t ≤ 2 ^ 64 - 1
-    → min (t + table_count f (drop i es)) (2 ^ 64 - 1) ≡ min (table_count f es) (2 ^ 64 - 1) → t ≡ min (table_count f es) (2 ^ 64 - 1)
-counted-all f es i t l h e = by t h ∙ ap (λ us. min (t + table_count f us) (2 ^ 64 - 1)) (sym (drop_all i es l)) ∙ e
-  where
-    by : (t : ℕ) → t ≤ 2 ^ 64 - 1 → t ≡ min (t + 0) (2 ^ 64 - 1)
-    by t h = grind (arith, nat_tests)
+    capped : (x n g m : ℕ) → x ≤ g → g < m → nat_lt x (min n m) ≡ nat_lt x n
+    capped x n g m l k = grind (arith, nat_tests)
 
 -- phi of a kind reads the count for a sequence alone
 phi_of_kind-counted : (greatest : Stamp) (kind : Kind) (m n : ℕ) (f : Frontier) (u : Stamp) → (kind ≡ Sequence → m ≡ n) → phi_of_kind greatest kind m f u ≡ phi_of_kind greatest kind n f u

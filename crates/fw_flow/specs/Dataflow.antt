@@ -1,9 +1,11 @@
 -- A dataflow as its lists of loops, nodes and edges, its batches, and how these are looked up.
-use Rattle.std.specs.Prelude.{ℕ, ◌+◌, ◌-◌, ◌^◌, Bool, true, false, ◌==◌, if◌then◌else◌, List, [], ◌∷◌, length, Option, Some, None, slice_index_or}
+use Rattle.std.specs.Prelude.{◌≡◌, ℕ, ◌+◌, ◌-◌, ◌^◌, ◌≤◌, Bool, true, false, ◌==◌, if◌then◌else◌, List, [], ◌∷◌, length, Option, Some, None, slice_index_or, map}
+use Rattle.std.specs.List.{range_with_len}
 use Rattle.fw_time.specs.Stamp.{Stamp, nest}
 use Rattle.fw_time.specs.declared.stamp.Bounds.{Bounds}
 use Rattle.fw_time.specs.Sending.{entered, fed_back, left, regrouped}
 use Rattle.fw_bag.specs.declared.rec.Rec.{Rec}
+use Rattle.fw_lines.specs.Batches.{batches_at}
 use Rattle.fw_flow.specs.declared.kind.Domain.{Domain}
 use Rattle.fw_flow.specs.declared.kind.Domain.TheVariants.{Epoch, Number, Loop as InLoop}
 use Rattle.fw_flow.specs.declared.kind.Kind.{Kind}
@@ -28,6 +30,10 @@ pub record System : Type 0 where
 -- what stands past the last node: an idle output
 abbrev pub idle_node : Node
 idle_node = record { name = []; kind = OutputEpoch; policy = policy.None }
+
+-- the places of the nodes, in order
+abbrev pub places : Dataflow → List ℕ
+places flow = range_with_len 0 (length flow.nodes)
 
 -- the node at a place
 unfoldable pub node_at : Dataflow → ℕ → Node
@@ -136,6 +142,10 @@ bounds_of_domain flow domain = record { greatest = greatest_of flow domain }
 unfoldable pub bounds_of : Dataflow → ℕ → Bounds
 bounds_of flow p = bounds_of_domain flow (domain_of flow p)
 
+-- the bounds of an edge: which lists are stamps of its messages
+abbrev pub bounds_of_edge : Dataflow → ℕ → Bounds
+bounds_of_edge flow e = bounds_of_domain flow (out_domain_of flow (sender flow e))
+
 -- the stamp at which an event at t sends, for every kind but a sequence; none where it sends nothing
 abbrev pub send_stamp_of_kind : Dataflow → Kind → Stamp → Option Stamp
 send_stamp_of_kind flow OutputEpoch t = None
@@ -156,6 +166,14 @@ is_notified_kind (Sum within) = true
 is_notified_kind Total = true
 is_notified_kind Sequence = true
 is_notified_kind kind = false
+
+-- no node is notified
+abbrev pub NotifiesNobody : Dataflow → Type 0
+NotifiesNobody flow = (p : ℕ) → is_notified_kind (kind_of flow p) ≡ false
+
+-- no node keeps anything for its recovery
+abbrev pub KeepsNothing : Dataflow → Type 0
+KeepsNothing flow = (p : ℕ) → policy_of flow p ≡ policy.None
 
 -- whether the node is an input
 abbrev pub is_input_kind : Kind → Bool
@@ -186,3 +204,15 @@ is_numbered flow e = is_of_numbers (domain_of flow (receiver flow e))
 -- the batches of a node, by epoch
 unfoldable pub batches_of : System → ℕ → List (List Rec)
 batches_of sys s = slice_index_or sys.batches s []
+
+-- each batch has an epoch
+abbrev pub HasEpochs : System → Type 0
+HasEpochs sys = (s : ℕ) → length (batches_of sys s) ≤ greatest_number + 1
+
+-- for each node its batches, by epoch
+unfoldable pub batches_of_nodes : Dataflow → List (ℕ × List (List Rec)) → List (List (List Rec))
+batches_of_nodes flow batches = map (batches_at batches) (places flow)
+
+-- a dataflow with the batches that were given for its nodes
+abbrev pub system_of : Dataflow → List (ℕ × List (List Rec)) → System
+system_of flow batches = record { flow = flow; batches = batches_of_nodes flow batches }

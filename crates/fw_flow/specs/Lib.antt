@@ -3,12 +3,17 @@ pub mod Counting
 pub mod Dataflow
 pub mod Draft
 pub mod Flow
+pub mod Message
 pub mod Names
 pub mod NodeFunction
 pub mod Parts
 pub mod ProjectedStamps
 pub mod Projection
 pub mod Raw
+pub mod Restoring
+pub mod SentTable
+pub mod Sources
+pub mod Step
 pub mod Walks
 pub mod WellFormed
 pub mod WholeBags

@@ -3,12 +3,12 @@ use Rattle.std.specs.Prelude.{◌≡◌, ℕ, suc, zero, ◌+◌, ◌-◌, ◌*�
 use Rattle.fw_flow.specs.Counting.{how_many}
 use Rattle.std.specs.List.{list_all}
 use Rattle.fw_time.specs.Stamp.{Stamp, nest, outer, counter}
-use Rattle.fw_frontier.specs.Frontier.{Frontier}
+use Rattle.fw_frontier.specs.Frontier.{Frontier, IsFrontier}
 use Rattle.fw_flow.specs.declared.event.Event.{Event}
 use Rattle.fw_flow.specs.declared.event.Message.{Message}
 use Rattle.fw_flow.specs.declared.kind.Kind.{Kind}
 use Rattle.fw_flow.specs.declared.kind.Kind.TheVariants.{Enter, Feedback, Leave, Sequence, Regroup}
-use Rattle.fw_flow.specs.Dataflow.{System, Dataflow, kind_of, sender, domain_of_kind, out_domain_of_kind, greatest_of_kind, bounds_of_domain}
+use Rattle.fw_flow.specs.Dataflow.{System, Dataflow, kind_of, sender, domain_of_kind, out_domain_of_kind, greatest_of_kind, bounds_of_domain, bounds_of}
 use Rattle.fw_time.specs.Stamp.{in_domain}
 use Rattle.fw_flow.specs.NodeFunction.{place, sent_by}
 
@@ -86,10 +86,10 @@ psi_of_kind greatest (Regroup n) f u = f ((first_number_of u * n) ∷ [])
 psi_of_kind greatest kind f u = f u
 
 -- the cover of the stamps at which an event of the sender of e inside f can send on e, for a kind that may keep nothing
-unfoldable pub psi : System → ℕ → Frontier → Frontier
-psi sys e f u =
-    in_domain (bounds_of_domain sys.flow (out_domain_of_kind sys.flow (kind_of sys.flow (sender sys.flow e)))) u
-    && psi_of_kind (greatest_of_kind sys.flow (kind_of sys.flow (sender sys.flow e))) (kind_of sys.flow (sender sys.flow e)) f u
+unfoldable pub psi : Dataflow → ℕ → Frontier → Frontier
+psi flow e f u =
+    in_domain (bounds_of_domain flow (out_domain_of_kind flow (kind_of flow (sender flow e)))) u
+    && psi_of_kind (greatest_of_kind flow (kind_of flow (sender flow e))) (kind_of flow (sender flow e)) f u
 
 -- At which stamps, and below which, events send inside g alone, by the kind of the sender and the greatest stamp of its
 -- domain, for the kinds that may keep nothing: the last counter of a loop sends nothing that a lesser one does not.
@@ -101,7 +101,11 @@ psi_back_of_kind greatest (Regroup n) g t = g ((first_number_of t / n) ∷ [])
 psi_back_of_kind greatest kind g t = g t
 
 -- the largest frontier of the sender of e whose psi lies within g, for a kind that may keep nothing
-unfoldable pub psi_back : System → ℕ → Frontier → Frontier
-psi_back sys e g t =
-    in_domain (bounds_of_domain sys.flow (domain_of_kind sys.flow (kind_of sys.flow (sender sys.flow e)))) t
-    && psi_back_of_kind (greatest_of_kind sys.flow (kind_of sys.flow (sender sys.flow e))) (kind_of sys.flow (sender sys.flow e)) g t
+unfoldable pub psi_back : Dataflow → ℕ → Frontier → Frontier
+psi_back flow e g t =
+    in_domain (bounds_of_domain flow (domain_of_kind flow (kind_of flow (sender flow e)))) t
+    && psi_back_of_kind (greatest_of_kind flow (kind_of flow (sender flow e))) (kind_of flow (sender flow e)) g t
+
+-- the frontier is one of the sender's domain
+abbrev pub IsSenderFrontier : Dataflow → ℕ → Frontier → Type 0
+IsSenderFrontier flow e f = IsFrontier (bounds_of flow (sender flow e)) f

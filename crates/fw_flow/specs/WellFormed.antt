@@ -4,9 +4,8 @@ use Rattle.fw_flow.specs.declared.kind.Kind.{Kind}
 use Rattle.fw_flow.specs.declared.kind.Kind.TheVariants.{Input, OutputEpoch, OutputNumber, Select, Concat, Distinct, Join, Sum, Enter, Feedback, Leave, Total, Sequence, Ledger, Regroup}
 use Rattle.fw_flow.specs.declared.kind.Policy.{Policy}
 use Rattle.fw_flow.specs.declared.kind.Policy.TheVariants as policy
-use Rattle.fw_bag.specs.declared.rec.Rec.{Rec}
-use Rattle.fw_bag.specs.Rec.{IsAscending}
 use Rattle.std.specs.List.{AllByRecursion}
+use Rattle.fw_lines.specs.Batches.{IsBatch}
 use Rattle.fw_flow.specs.Dataflow.{System, batches_of, Dataflow, kind_of, policy_of, sender, receiver, in_edges, out_edges, domain_of, out_domain_of, max_of, is_input_kind, is_output_kind}
 
 -- the loop of a kind is declared, if it has one
@@ -106,16 +105,6 @@ pub record IsWellFormed (flow : Dataflow) : Type 0 where
   pub limits : IsWithinLimits flow
   pub input : (p : ℕ) × (p < length flow.nodes) × (is_input_kind (kind_of flow p) ≡ true)
   pub output : (p : ℕ) × (p < length flow.nodes) × (is_output_kind (kind_of flow p) ≡ true)
-
--- the key and the value of a rec are numbers of 64 bits
-pub record IsRec (r : Rec) : Type 0 where
-  pub key : r.key < 2 ^ 64
-  pub value : r.value < 2 ^ 64
-
--- a batch is a bag as its ascending list
-pub record IsBatch (batch : List Rec) : Type 0 where
-  pub recs : AllByRecursion IsRec batch
-  pub ascending : IsAscending batch
 
 -- The system is well formed: its dataflow is, there is a list of batches for each node, the inputs alone have batches, at most
 -- 2^20 each, and each batch is a bag of recs.

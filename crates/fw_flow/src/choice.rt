@@ -1,10 +1,7 @@
 //! To what nodes are restored after a failure, and what each of them offers.
-ghost use Rattle.std.specs.Prelude.{◌≡◌};
-
-use crate::{Causes, EdgeId};
+use crate::{Causes, CountedMessages, Cuts, EdgeId, Fronts, Notices, OfEdges, Records, SentTable};
 use fw_frontier::Front;
 use fw_time::Stamp;
-use std::marker::Model;
 
 /// To what a node is cut.
 #[derive(Debug, Drop)]
@@ -13,67 +10,6 @@ pub enum Cut {
     Present,
     /// It keeps what its events in the frontier made.
     At(Front),
-}
-
-/// Cuts, one for each node. Contracts see their list.
-#[derive(Debug, Drop)]
-pub struct Cuts {
-    cuts: Vec<Cut>,
-}
-
-impl Model for Cuts {
-    ghost use Rattle.std.specs.Prelude.{List};
-    ghost use Rattle.fw_flow.specs.declared.choice.Cut.{Cut};
-
-    ghost Value = { List Cut };
-
-    ghost view = { λ cuts. cuts.cuts.items };
-}
-
-impl Cuts {
-    /// These cuts.
-    pub fn of(cuts: Vec<Cut>) -> Self
-        ensures { result ≡ cuts.items }
-    {
-        Cuts { cuts }
-    }
-
-    /// The cuts, in order of the nodes.
-    pub fn as_slice(&self) -> &[Cut]
-        ensures { result.now ≡ self.now }
-    {
-        &self.cuts
-    }
-}
-
-/// Frontiers, one for each node. Contracts see their list.
-#[derive(Debug, Drop)]
-pub struct Fronts {
-    fronts: Vec<Front>,
-}
-
-impl Model for Fronts {
-    ghost use Rattle.std.specs.Prelude.{ℕ, List};
-
-    ghost Value = { List (List (List ℕ)) };
-
-    ghost view = { λ fronts. fronts.fronts.items };
-}
-
-impl Fronts {
-    /// These frontiers.
-    pub fn of(fronts: Vec<Front>) -> Self
-        ensures { result ≡ fronts.items }
-    {
-        Fronts { fronts }
-    }
-
-    /// The frontiers, in order of the nodes.
-    pub fn as_slice(&self) -> &[Front]
-        ensures { result.now ≡ self.now }
-    {
-        &self.fronts
-    }
 }
 
 /// For each node to what it is cut, and its notification frontier.
@@ -102,11 +38,11 @@ pub struct Counted {
 #[derive(Debug, Drop)]
 pub struct Stamps {
     /// What was delivered to it, on its in-edges.
-    pub delivered: Vec<Counted>,
+    pub delivered: CountedMessages,
     /// Of what it was notified.
-    pub notified: Vec<Stamp>,
+    pub notified: Notices,
     /// What it sent, on its out-edges.
-    pub sent: Vec<Counted>,
+    pub sent: CountedMessages,
 }
 
 /// A frontier of an edge.
@@ -127,16 +63,16 @@ pub struct Recorded {
     /// The cover of what it was notified of.
     pub notified: Front,
     /// The cover of what was delivered to it, for each in-edge; nothing on an edge that is not listed.
-    pub delivered: Vec<OfEdge>,
+    pub delivered: OfEdges,
     /// The cover of what it sent and cannot send again, for each out-edge; nothing on an edge that is not listed.
-    pub discarded: Vec<OfEdge>,
+    pub discarded: OfEdges,
 }
 
 /// The frontiers to which a node can be restored.
 #[derive(Debug, Drop)]
 pub enum Offered {
     /// These.
-    Listed(Vec<Recorded>),
+    Listed(Records),
     /// All from a least one to a greatest one.
     Between { least: Front, greatest: Front },
 }
@@ -150,4 +86,6 @@ pub struct Offer {
     pub offered: Offered,
     /// Where its events are, and where they sent, as it stands now.
     pub stamps: Stamps,
+    /// How many messages it sent, by epoch, if it is a sequence; else nothing.
+    pub table: SentTable,
 }

@@ -1,11 +1,11 @@
 //! A flow whose parts have their places, and whose rules are not tested yet.
-ghost use Rattle.std.specs.Prelude.{◌≡◌, ◌^◌, ◌<◌, List, map, length, OnOk, IfOk, IfErr};
+ghost use Rattle.std.specs.Prelude.{◌≡◌, ◌^◌, ◌<◌, ◌↔◌, true, false, List, map, length, IsTrue, OnOk, IfOk, IfErr};
 ghost use Rattle.fw_lines.specs.Faults.{IfRefused};
 ghost use Rattle.fw_lines.specs.declared.refusal.Code.TheVariants as code;
 ghost use Rattle.fw_flow.specs.declared.raw.Declared.{Declared};
-ghost use Rattle.fw_flow.specs.Check.{all_lines, StaysWithinLimits, IsFirstBreakIfAny, KeepsRule, later_rules, IsFirstBrokenOf};
+ghost use Rattle.fw_flow.specs.Check.{all_lines, node_lines, edge_lines, HasItsDegrees, JoinsDomains, AreWalksRight, IsWalkWrong, HasAllowedPolicy, StaysWithinLimits, HasBorders, IsFirstBreakIfAny, KeepsRule, later_rules, IsFirstBrokenOf};
 ghost use Rattle.fw_flow.specs.Draft.{FitsTogether, IsDraftOf, LaterRulesHold};
-ghost use Rattle.fw_flow.specs.Raw.{names_of};
+ghost use Rattle.fw_flow.specs.Raw.{names_of, flow_of};
 
 use crate::check::{
     are_walks_right, degree_line, domain_line, edges_by_end, has_borders, links_of, policy_line,
@@ -64,25 +64,65 @@ impl Draft {
             → IsFirstBreakIfAny (StaysWithinLimits raw) (all_lines raw) limit_line
             → IfErr result (IfRefused (IsFirstBrokenOf later_rules raw)) }
     {
-        let nodes = self.parts.nodes.as_slice();
-        let node_lines = self.parts.node_lines.as_slice();
-        refuse(
-            Code::F4,
-            degree_line(nodes, &self.incoming, &self.outgoing, node_lines),
-        )?;
-        refuse(
-            Code::F5,
-            domain_line(nodes, &self.links, &self.parts.edge_lines),
-        )?;
-        if !are_walks_right(alloc, nodes, &self.links)? {
+        refuse(Code::F4, self.degree_line())?;
+        refuse(Code::F5, self.domain_line())?;
+        if !self.are_walks_right(alloc)? {
             return Err(ReadFault::of_whole(Code::F6));
         }
-        refuse(Code::F7, policy_line(nodes, node_lines))?;
+        refuse(Code::F7, self.policy_line())?;
         refuse(Code::F8, limit_line)?;
-        if !has_borders(nodes) {
+        if !self.has_borders() {
             return Err(ReadFault::of_whole(Code::F9));
         }
         Ok(())
+    }
+
+    /// The line of the first node that has not the edges of its kind.
+    fn degree_line(&self) -> Option<u32>
+        requires { FitsTogether self.now }
+        ensures { (raw : List Declared) → IsDraftOf self.now raw
+            → IsFirstBreakIfAny (HasItsDegrees (flow_of raw)) (node_lines raw) result }
+    {
+        let lines = self.parts.node_lines.as_slice();
+        degree_line(self.parts.nodes.as_slice(), &self.incoming, &self.outgoing, lines)
+    }
+
+    /// The line of the first edge that joins different domains.
+    #[tactic(auto, using(crate::proofs::Drafts::domains_first))]
+    fn domain_line(&self) -> Option<u32>
+        requires { FitsTogether self.now }
+        ensures { (raw : List Declared) → IsDraftOf self.now raw
+            → IsFirstBreakIfAny (JoinsDomains (flow_of raw)) (edge_lines raw) result }
+    {
+        domain_line(self.parts.nodes.as_slice(), &self.links, &self.parts.edge_lines)
+    }
+
+    /// Whether each closed walk passes a feedback, and none an enter. The only error is want of memory.
+    fn are_walks_right(&self, alloc: Global) -> Result<bool, AllocError>
+        requires { FitsTogether self.now }
+        ensures right { (raw : List Declared) → IsDraftOf self.now raw
+            → IfOk result (λ right. right ≡ true → AreWalksRight (flow_of raw)) }
+        ensures wrong { (raw : List Declared) → IsDraftOf self.now raw
+            → IfOk result (λ right. right ≡ false → IsWalkWrong (flow_of raw)) }
+    {
+        are_walks_right(alloc, self.parts.nodes.as_slice(), &self.links)
+    }
+
+    /// The line of the first node whose policy its kind does not have.
+    #[tactic(auto, using(crate::proofs::Drafts::policies_first))]
+    fn policy_line(&self) -> Option<u32>
+        requires { FitsTogether self.now }
+        ensures { (raw : List Declared) → IsDraftOf self.now raw
+            → IsFirstBreakIfAny (HasAllowedPolicy (flow_of raw)) (node_lines raw) result }
+    {
+        policy_line(self.parts.nodes.as_slice(), self.parts.node_lines.as_slice())
+    }
+
+    /// Whether there are an input and an output.
+    fn has_borders(&self) -> bool
+        ensures { (raw : List Declared) → IsDraftOf self.now raw → IsTrue result ↔ HasBorders (flow_of raw) }
+    {
+        has_borders(self.parts.nodes.as_slice())
     }
 }
 

@@ -1,16 +1,17 @@
 //! What happens in a run, and what is sent.
-ghost use Rattle.std.specs.Prelude.{◌≡◌, [], ◌∷◌, IfOk};
+ghost use Rattle.std.specs.Prelude.{◌≡◌, ◌≤◌, [], ◌∷◌, length};
 
 use crate::{EdgeId, NodeId};
+use arrayvec::ArrayVec;
 use fw_bag::Rec;
 use fw_time::Stamp;
-use std::alloc::{AllocError, Global};
 use std::marker::Model;
 
-/// The stamps of the events that a message comes from. Contracts see their list.
-#[derive(Debug, Drop)]
+/// The stamps of the events that a message comes from: one, or two of a kind that joins across stamps. They lie in the value
+/// itself, so that no call takes memory. Contracts see their list.
+#[derive(Debug, PartialEq, Eq, PartialOrd, Ord, Drop)]
 pub struct Causes {
-    stamps: Vec<Stamp>,
+    stamps: ArrayVec<Stamp, 2>,
 }
 
 impl Model for Causes {
@@ -19,47 +20,51 @@ impl Model for Causes {
     ghost Value = { List (List ℕ) };
 
     ghost view = { λ causes. causes.stamps.items };
+
+    ghost inverse = { λ stamps. record { stamps = record { items = stamps } } };
 }
 
 impl Causes {
-    /// One cause alone. The error is want of memory.
-    pub fn of(alloc: Global, stamp: Stamp) -> Result<Self, AllocError>
-        ensures { IfOk result (λ causes. causes ≡ stamp ∷ []) }
+    /// One cause alone.
+    pub fn of(stamp: Stamp) -> Self
+        ensures { result ≡ stamp ∷ [] }
     {
-        let mut stamps = Vec::new(alloc);
-        stamps.push(stamp)?;
-        Ok(Causes { stamps })
+        let mut stamps = ArrayVec::new();
+        stamps.push(stamp);
+        Causes { stamps }
     }
 
-    /// The same causes once more. The error is want of memory.
-    pub fn copy(&self) -> Result<Self, AllocError>
-        ensures { IfOk result (λ causes. causes ≡ self.now) }
+    /// The same causes once more.
+    pub fn copy(&self) -> Self
+        ensures { result ≡ self.now }
     {
-        let stamps = copied(*self.stamps.allocator(), &self.stamps)?;
-        Ok(Causes { stamps })
+        Causes {
+            stamps: copied(self.stamps.as_slice()),
+        }
     }
 
     /// The stamps.
     pub fn stamps(&self) -> &[Stamp]
         ensures { result.now ≡ self.now }
     {
-        &self.stamps
+        self.stamps.as_slice()
     }
 }
 
 /// The same stamps once more.
-fn copied(alloc: Global, stamps: &[Stamp]) -> Result<Vec<Stamp>, AllocError>
-    ensures { IfOk result (λ copy. copy.items ≡ stamps.now) }
+fn copied(stamps: &[Stamp]) -> ArrayVec<Stamp, 2>
+    requires { length stamps.now ≤ 2 }
+    ensures { result.items ≡ stamps.now }
 {
-    let mut copy = Vec::with_capacity(alloc, stamps.len())?;
+    let mut copy = ArrayVec::new();
     for stamp in stamps {
-        copy.push(stamp.copy())?;
+        copy.push(stamp.copy());
     }
-    Ok(copy)
+    copy
 }
 
-/// A message on an edge.
-#[derive(Debug, Drop)]
+/// A message on an edge. Messages are ordered by stamp, rec and causes.
+#[derive(Debug, PartialEq, Eq, PartialOrd, Ord, Drop)]
 pub struct Message {
     /// Its stamp, in the receiver's domain.
     pub at: Stamp,

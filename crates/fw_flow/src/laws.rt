@@ -3,14 +3,17 @@ ghost use Rattle.std.specs.Prelude.{◌≡◌, ◌⊎◌, List, map};
 ghost use Rattle.std.specs.List.{IsDistinct};
 ghost use Rattle.std.specs.Str.{bytes_eq};
 ghost use Rattle.fw_lines.specs.declared.refusal.Refusal.{Refusal};
+ghost use Rattle.fw_lines.specs.Batches.{batches_at, AreBatchesOf};
 ghost use Rattle.fw_flow.specs.declared.raw.Declared.{Declared};
 ghost use Rattle.fw_flow.specs.Check.{IsChecked, IsFirstBroken};
-ghost use Rattle.fw_flow.specs.Dataflow.{Dataflow};
+ghost use Rattle.fw_flow.specs.Dataflow.{Dataflow, system_of};
 ghost use Rattle.fw_flow.specs.Raw.{loop_names, node_names, edge_names};
+ghost use Rattle.fw_flow.specs.Sources.{sources_of};
 ghost use Rattle.fw_flow.specs.Walks.{RanksExist};
-ghost use Rattle.fw_flow.specs.WellFormed.{IsWellFormed};
+ghost use Rattle.fw_flow.specs.WellFormed.{IsWellFormed, IsWellFormedSystem};
 
 use crate::{Flow, RawFlow};
+use fw_lines::Batches;
 
 /// The nodes of each well-formed dataflow have ranks.
 pub fn ranks_exist()
@@ -23,6 +26,14 @@ pub fn flow_is_well_formed(flow: &Flow)
 {
     // Where a field is read, what holds of each flow is known.
     let _ = &flow.nodes;
+}
+
+/// A flow and batches of its sources, as `read_batches` gives them, are a well-formed system.
+pub fn system_is_well_formed(flow: &Flow, batches: &Batches)
+    requires { AreBatchesOf (sources_of flow.now) (batches_at batches.now) }
+    ensures { IsWellFormedSystem (system_of flow.now batches.now) }
+{
+    flow_is_well_formed(flow);
 }
 
 /// No two nodes of a flow have one name, and no two edges.

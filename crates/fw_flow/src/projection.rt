@@ -1,68 +1,20 @@
 //! What of an edge comes from a frontier of its sender, and where a frontier of its sender can send.
-ghost use Rattle.std.specs.Prelude.{◌≡◌, ℕ, ◌+◌, ◌^◌, ◌-◌, ◌<◌, ◌≤◌, ◌&&◌, true, nat_lt, min, List, [], ◌∷◌, ◌++◌, length, if◌then◌else◌, is_ok, IfOk};
+ghost use Rattle.std.specs.Prelude.{◌≡◌, ℕ, ◌+◌, ◌<◌, ◌≤◌, ◌&&◌, true, nat_lt, List, [], ◌∷◌, ◌++◌, length, if◌then◌else◌, is_ok, IfOk};
 ghost use Rattle.std.specs.List.{AllByRecursion};
 ghost use Rattle.fw_time.specs.declared.stamp.Bounds.{Bounds as Domain};
 ghost use Rattle.fw_time.specs.Stamp.{in_domain};
 ghost use Rattle.fw_time.specs.Sending.{fed_back};
 ghost use Rattle.fw_frontier.specs.Front.{frontier_of, IsCanonical, Names};
 ghost use Rattle.fw_flow.specs.declared.event.Event.{Event};
-ghost use Rattle.fw_flow.specs.Dataflow.{System, greatest_number, kind_of, sender, receiver, bounds_of};
+ghost use Rattle.fw_flow.specs.Dataflow.{System, kind_of, sender, receiver, bounds_of};
 ghost use Rattle.fw_flow.specs.Projection.{first_number_of, phi, phi_by_count, psi, psi_back, phi_of_kind, psi_of_kind, psi_back_of_kind, table_count, IsSentTable};
 ghost use Rattle.fw_flow.specs.ProjectedStamps.{IsNest, image, images, entered_outside, front_until, AreDomainsOf};
 ghost use Rattle.fw_flow.specs.WellFormed.{IsWellFormed, IsGroupSize};
 
-use crate::{EdgeId, Flow, Kind};
+use crate::{EdgeId, Flow, Kind, SentTable};
 use fw_frontier::Front;
 use fw_time::{Bounds, Stamp};
 use std::alloc::{AllocError, Global};
-use std::marker::Model;
-
-/// How many messages a sequence sent, by epoch. Contracts see the list of epochs and counts.
-#[derive(Debug, Drop)]
-pub struct SentTable {
-    entries: Vec<(u32, u64)>,
-}
-
-impl Model for SentTable {
-    ghost use Rattle.std.specs.Prelude.{ℕ, List};
-
-    ghost Value = { List (ℕ × ℕ) };
-
-    ghost view = { λ table. table.entries.items };
-}
-
-impl SentTable {
-    /// The table with these entries: an epoch of which the sequence was notified, and how many messages it sent then. An
-    /// epoch that stands there twice counts twice.
-    pub fn new(entries: Vec<(u32, u64)>) -> Self
-        ensures { result ≡ entries.items }
-    {
-        SentTable { entries }
-    }
-
-    /// How many messages were sent in the epochs inside, or `u64::MAX` where they were more.
-    fn count_inside(&self, f: &Front) -> u64
-        ensures { (bounds : Domain) → bounds.greatest ≡ greatest_number ∷ []
-            → result ≡ min (table_count (frontier_of bounds f.now) self.now) (2 ^ 64 - 1) }
-    {
-        let mut total: u64 = 0;
-        for entry in &self.entries {
-            let (epoch, count) = *entry;
-            if has_epoch(f, epoch) {
-                total = total.saturating_add(count);
-            }
-        }
-        total
-    }
-}
-
-/// Whether an epoch is inside.
-fn has_epoch(f: &Front, epoch: u32) -> bool
-    ensures { (bounds : Domain) → bounds.greatest ≡ greatest_number ∷ []
-        → result ≡ frontier_of bounds f.now (epoch ∷ []) }
-{
-    f.contains(&Stamp::new(&[epoch]))
-}
 
 impl Flow {
     /// If the sender of the edge keeps its events in `f`, each message on the edge at a stamp inside the answer comes from
@@ -94,9 +46,8 @@ impl Flow {
     /// answer is in that of the receiver. The only error is want of memory.
     pub fn psi(&self, alloc: Global, edge: EdgeId, f: &Front) -> Result<Front, AllocError>
         requires { IsCanonical (bounds_of self.now (sender self.now edge)) f.now }
-        ensures { (sys : System) → sys.flow ≡ self.now
-            → IfOk result (λ g. Names (bounds_of self.now (receiver self.now edge)) g
-            (psi sys edge (frontier_of (bounds_of self.now (sender self.now edge)) f.now))) }
+        ensures { IfOk result (λ g. Names (bounds_of self.now (receiver self.now edge)) g
+            (psi self.now edge (frontier_of (bounds_of self.now (sender self.now edge)) f.now))) }
     {
         let (kind, sender, receiver) = self.ends(edge);
         psi(alloc, kind, f, &sender, &receiver)
@@ -107,9 +58,8 @@ impl Flow {
     /// in that of the sender. The only error is want of memory.
     pub fn psi_back(&self, alloc: Global, edge: EdgeId, g: &Front) -> Result<Front, AllocError>
         requires { IsCanonical (bounds_of self.now (receiver self.now edge)) g.now }
-        ensures { (sys : System) → sys.flow ≡ self.now
-            → IfOk result (λ f. Names (bounds_of self.now (sender self.now edge)) f
-            (psi_back sys edge (frontier_of (bounds_of self.now (receiver self.now edge)) g.now))) }
+        ensures { IfOk result (λ f. Names (bounds_of self.now (sender self.now edge)) f
+            (psi_back self.now edge (frontier_of (bounds_of self.now (receiver self.now edge)) g.now))) }
     {
         let (kind, sender, receiver) = self.ends(edge);
         psi_back(alloc, kind, g, &sender, &receiver)
@@ -282,7 +232,7 @@ pub(crate) fn phi(
         Kind::Leave(_) => moved(alloc, f, Way::Outer),
         Kind::Sequence => match limit(f, sender) {
             None => Ok(Front::all(alloc)),
-            Some(_) => below(alloc, sent.count_inside(f), receiver),
+            Some(limit) => below(alloc, sent.count_below(limit), receiver),
         },
         Kind::Regroup(n) => match limit(f, sender) {
             None => Ok(Front::all(alloc)),

@@ -1,3 +1,4 @@
 pub mod ByteLaws
+pub mod PlainLaws
 pub mod ReadLaws
 pub mod SpelledLaws

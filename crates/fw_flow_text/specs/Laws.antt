@@ -20,7 +20,7 @@ is_in_texts b = is_line_feed b || is_allowed b
 abbrev pub AcceptedTextsHaveAllowedBytes : Type 0
 AcceptedTextsHaveAllowedBytes = (text : List ℕ) (flow : Dataflow) → IsAccepted text flow → list_all is_in_texts text ≡ true
 
--- `node N input` declares an input of this name
+-- `node N input` declares a source of this name
 abbrev pub InputsAreRead : Type 0
 InputsAreRead = (name : List ℕ) → is_name name ≡ true
     → declaration_of (codes "node" ∷ name ∷ codes "input" ∷ []) ≡ Some (Node name Input NoPolicy, false)

@@ -34,27 +34,6 @@ within-some a b h = by (nat_le a b) refl
 pub names-as : (b : Bounds) (os : List (List ℕ)) (f g : List ℕ → Bool) → Names b os f → ((t : List ℕ) → f t ≡ g t) → Names b os g
 names-as b os f g h e = record { canonical = h.canonical; same = λ t. h.same t ∙ e t }
 
--- a limit past the domain
-pub names-past : (b : Bounds) (g : ℕ) (until : Option ℕ) → b.greatest ≡ g ∷ [] → ((n : ℕ) → nat_le n g ≡ true → is_below until n ≡ true) → Names b [] (λ t. in_domain b t && is_below until (slice_index t 0))
-names-past b g until e h = record { canonical = tt; same = λ t. by t (in_domain b t) refl (ap (leq t) e) }
-  where
-    head : (t : List ℕ) → leq t (g ∷ []) ≡ true → nat_le (slice_index t 0) g ≡ true
-    head [] k = cc
-    head (x ∷ []) k = drop-true (nat_le x g) k
-      where
-        drop-true : (c : Bool) → (c && true) ≡ true → c ≡ true
-        drop-true true k = refl
-        drop-true false k = k
-    head (x ∷ y ∷ t) k = lost (nat_le x g) k
-      where
-        lost : (c : Bool) → (c && false) ≡ true → c ≡ true
-        lost true k = refl
-        lost false k = k
-
-    by : (t : List ℕ) (c : Bool) → in_domain b t ≡ c → leq t b.greatest ≡ leq t (g ∷ []) → (c && true) ≡ (c && is_below until (slice_index t 0))
-    by t true k l = sym (h (slice_index t 0) (head t (sym l ∙ k)))
-    by t false k l = refl
-
 -- a limit in the domain
 pub names-limit : (b : Bounds) (g k : ℕ) (os : List (List ℕ)) → b.greatest ≡ g ∷ [] → Names b os (frontier_of b ((k ∷ []) ∷ [])) → Names b os (λ t. in_domain b t && is_below (Some k) (slice_index t 0))
 names-limit b g k os e h = names-as b os _ _ h (λ t. by t (in_domain b t) refl)

@@ -1,7 +1,7 @@
 -- Which list names a frontier, and that there is only one.
 use Rattle.std.proofs.Common.{◌≡◌, ℕ, Bool, true, false, not, ◌&&◌, ◌||◌, List, [], ◌∷◌, length, get_or, take, map, ◌+◌, ◌<◌, refl, sym, ap, ◌∙◌, subst, arith}
 use Rattle.std.proofs.lemmas.Bool.{and_from, and_parts}
-use Rattle.std.proofs.Math.Bool.{and-false, and_assoc, and-true, and-or_distrib_left, or-false}
+use Rattle.std.proofs.Math.Bool.{and-false, and_assoc, and-or_distrib_left, or-false}
 use Rattle.std.proofs.lemmas.List.{take_all}
 use Rattle.std.specs.List.{AllByRecursion}
 use Rattle.std.specs.Ordering.{is_lt}
@@ -9,17 +9,13 @@ use Rattle.fw_time.specs.declared.stamp.Bounds.{Bounds}
 use Rattle.fw_time.specs.Stamp.{leq, stamp_cmp, origin, in_domain}
 use Rattle.fw_time.proofs.StampLaws.{leq-refl, leq-antisym, leq-length, origin-leq, before-leq, before-trans, before-irrefl}
 use Rattle.fw_time.proofs.EachLaws.{each-weaker}
-use Rattle.fw_frontier.specs.Frontier.{nothing, everything, meet, join, cover, some_above, without_above, Within, IsFrontier}
-use Rattle.fw_frontier.specs.Front.{inside, frontier_of, IsCanonical, IsLeastBefore, Names}
-use Rattle.fw_frontier.specs.Outside.{excluding, excluding_all, below_at, none_inside}
+use Rattle.fw_frontier.specs.Frontier.{nothing, meet, join, cover, some_above, without_above, Within, IsFrontier}
+use Rattle.fw_frontier.specs.Front.{inside, frontier_of, is_within, IsCanonical, IsLeastBefore, Names}
+use Rattle.fw_frontier.specs.Outside.{excluding, excluding_all, below_at}
 use Rattle.fw_frontier.proofs.InsideLaws.{inside-closed, inside-excluding, inside-excluding_all, inside-excluding_pairs, inside-below_at}
 use Rattle.fw_frontier.proofs.CanonicalLaws.{canonical-excluding, canonical-excluding_all, canonical-excluding_pairs, canonical-below_at, in_domain-canonical, lengths}
 use Rattle.fw_frontier.proofs.GenericLaws.{some_above_more, no}
 use Rattle.fw_frontier.proofs.Pairs.{excluding_pairs}
-
--- the list without stamps names all of the domain
-pub names-all : (b : Bounds) → Names b [] (everything b)
-names-all b = record { canonical = tt; same = λ t. and-true (in_domain b t) }
 
 -- the list of the least stamp names the frontier without stamps
 pub names-nothing : (b : Bounds) → Names b (origin b.greatest ∷ []) nothing
@@ -208,10 +204,10 @@ names-same b xs ys f h k = same-from b [] xs ys h.canonical k.canonical (any xs)
         part false e g = no e
 
 -- none of the second list's stamps is inside the first exactly where the first lies within the second
-pub none_inside-within : (os ps : List (List ℕ)) → none_inside os ps ≡ true → Within (inside os) (inside ps)
-none_inside-within os [] h t k = refl
-none_inside-within os (p ∷ ps) h t k =
-    and_from (not (leq p t)) (inside ps t) (by (leq p t) (λ e. inside-closed os p t e k) (and_parts _ _ h).0) (none_inside-within os ps (and_parts _ _ h).1 t k)
+pub is_within-inside : (os ps : List (List ℕ)) → is_within os ps ≡ true → Within (inside os) (inside ps)
+is_within-inside os [] h t k = refl
+is_within-inside os (p ∷ ps) h t k =
+    and_from (not (leq p t)) (inside ps t) (by (leq p t) (λ e. inside-closed os p t e k) (and_parts _ _ h).0) (is_within-inside os ps (and_parts _ _ h).1 t k)
   where
     by : (c : Bool) → (c ≡ true → inside os p ≡ true) → not (inside os p) ≡ true → not c ≡ true
     by true f e = let g = f refl in no (sym (ap not g) ∙ e)
@@ -230,25 +226,25 @@ all-outside (x ∷ ps) = (outside-self x ps, more x ps ps (all-outside ps))
     more x ps [] h = tt
     more x ps (q ∷ qs) h = (late (leq x q) (inside ps q) h.0, more x ps qs h.1)
 
-none_inside-all : (os ps : List (List ℕ)) → AllByRecursion (λ p. inside os p ≡ false) ps → none_inside os ps ≡ true
-none_inside-all os [] h = refl
-none_inside-all os (p ∷ ps) h = and_from (not (inside os p)) (none_inside os ps) (ap not h.0) (none_inside-all os ps h.1)
+is_within-all : (os ps : List (List ℕ)) → AllByRecursion (λ p. inside os p ≡ false) ps → is_within os ps ≡ true
+is_within-all os [] h = refl
+is_within-all os (p ∷ ps) h = and_from (not (inside os p)) (is_within os ps) (ap not h.0) (is_within-all os ps h.1)
 
 kept-out : (c d : Bool) → (c ≡ true → d ≡ true) → d ≡ false → c ≡ false
 kept-out true d f e = no (sym e ∙ f refl)
 kept-out false d f e = refl
 
 -- and where it does, none of them is
-pub within-none_inside : (os ps : List (List ℕ)) → Within (inside os) (inside ps) → none_inside os ps ≡ true
-within-none_inside os ps h = none_inside-all os ps (each-weaker (λ p. inside ps p ≡ false) (λ p. inside os p ≡ false) ps (λ p e. kept-out (inside os p) (inside ps p) (h p) e) (all-outside ps))
+pub inside-is_within : (os ps : List (List ℕ)) → Within (inside os) (inside ps) → is_within os ps ≡ true
+inside-is_within os ps h = is_within-all os ps (each-weaker (λ p. inside ps p ≡ false) (λ p. inside os p ≡ false) ps (λ p e. kept-out (inside os p) (inside ps p) (h p) e) (all-outside ps))
 
 -- the same of the stamps of a domain
-pub none_inside-within_domain : (b : Bounds) (os ps : List (List ℕ)) → none_inside os ps ≡ true → Within (frontier_of b os) (frontier_of b ps)
-none_inside-within_domain b os ps h t k = and_from (in_domain b t) (inside ps t) (and_parts _ _ k).0 (none_inside-within os ps h t (and_parts _ _ k).1)
+pub is_within-holds : (b : Bounds) (os ps : List (List ℕ)) → is_within os ps ≡ true → Within (frontier_of b os) (frontier_of b ps)
+is_within-holds b os ps h t k = and_from (in_domain b t) (inside ps t) (and_parts _ _ k).0 (is_within-inside os ps h t (and_parts _ _ k).1)
 
-pub within_domain-none_inside : (b : Bounds) (os ps : List (List ℕ)) → IsCanonical b ps → Within (frontier_of b os) (frontier_of b ps) → none_inside os ps ≡ true
-within_domain-none_inside b os ps k h =
-    none_inside-all os ps (join-all ps (all-outside ps) (in_domain-canonical b ps k))
+pub within-is : (b : Bounds) (os ps : List (List ℕ)) → IsCanonical b ps → Within (frontier_of b os) (frontier_of b ps) → is_within os ps ≡ true
+within-is b os ps k h =
+    is_within-all os ps (join-all ps (all-outside ps) (in_domain-canonical b ps k))
   where
     step : (p : List ℕ) → inside ps p ≡ false → in_domain b p ≡ true → inside os p ≡ false
     step p e d = kept-out (inside os p) (inside ps p) (λ f. (and_parts (in_domain b p) (inside ps p) (h p (and_from (in_domain b p) (inside os p) d f))).1) e

@@ -20,11 +20,11 @@ use Rattle.fw_frontier.proofs.GenericLaws.{no}
 -- the steps past the last one too
 pub pairwise : {F T : Type 0} (test : F → T → Bool) (f : Bool → Bool → Bool) (xs ys zs : List F) (x y z : F)
     → length zs ≡ max (length xs) (length ys)
-    → ((c : ℕ) (t : T) (d : F) → c < length zs → test (get_or zs c d) t ≡ f (test (get_or xs c x) t) (test (get_or ys c y) t))
+    → ((c : ℕ) (d : F) → c < length zs → (t : T) → test (get_or zs c d) t ≡ f (test (get_or xs c x) t) (test (get_or ys c y) t))
     → ((t : T) → test z t ≡ f (test x t) (test y t))
     → (c : ℕ) (t : T) → test (get_or zs c z) t ≡ f (test (get_or xs c x) t) (test (get_or ys c y) t)
 pairwise test f xs ys zs x y z long each last c t = elim (cases_lt c (length zs)) [
-  | inl h ↦ each c t z h
+  | inl h ↦ each c z h t
   | inr h ↦
       ap (λ s. test s t) (get_or_past zs c z h)
       ∙ last t
@@ -55,11 +55,11 @@ or-grows false b m n f g h = right m (g h)
 
 pub cut-whole : {F T : Type 0} (test : F → T → Bool) (q : T → Bool) (from : ℕ) (xs zs : List F) (x z : F)
     → length zs ≡ max (length xs) from
-    → ((c : ℕ) (s : T) (d : F) → c < length zs → test (get_or zs c d) s ≡ (test (get_or xs c x) s && not (nat_le from c && q s)))
+    → ((c : ℕ) (d : F) → c < length zs → (s : T) → test (get_or zs c d) s ≡ (test (get_or xs c x) s && not (nat_le from c && q s)))
     → ((s : T) → test z s ≡ (test x s && not (q s)))
     → (c : ℕ) (s : T) → test (get_or zs c z) s ≡ (test (get_or xs c x) s && not (nat_le from c && q s))
 cut-whole test q from xs zs x z long each last c s = elim (cases_lt c (length zs)) [
-  | inl h ↦ each c s z h
+  | inl h ↦ each c z h s
   | inr h ↦
       ap (λ f. test f s) (get_or_past zs c z h)
       ∙ last s
@@ -85,11 +85,11 @@ descending-cut test q from xs zs x z down each c d s h k =
 
 pub below-whole : {F T : Type 0} (test : F → T → Bool) (n : ℕ) (u : F) (zs : List F) (z : F)
     → length zs ≡ n
-    → ((c : ℕ) (t : T) (d : F) → c < length zs → test (get_or zs c d) t ≡ test u t)
+    → ((c : ℕ) (d : F) → c < length zs → (t : T) → test (get_or zs c d) t ≡ test u t)
     → ((t : T) → test z t ≡ false)
     → (c : ℕ) (t : T) → test (get_or zs c z) t ≡ (test u t && nat_lt c n)
 below-whole test n u zs z long each last c t = elim (cases_lt c (length zs)) [
-  | inl h ↦ each c t z h ∙ whole (test u t) (nat_lt c n) (lt-ltb c n (omega arith))
+  | inl h ↦ each c z h t ∙ whole (test u t) (nat_lt c n) (lt-ltb c n (omega arith))
   | inr h ↦ ap (λ f. test f t) (get_or_past zs c z h) ∙ last t ∙ sym (and_right (test u t) (nat_lt c n) (le-ltb c n (omega arith)))
 ]
   where
@@ -294,11 +294,11 @@ all-short o (u ∷ os) h k = (omega (arith, leq-length u o.greatest k.0), all-sh
 -- ---- a copy of a loop's frontier
 
 pub copied-whole : {F T : Type 0} (test : F → T → Bool) (xs zs : List F) (x z : F) → length zs ≡ length xs
-    → ((c : ℕ) (t : T) (d e : F) → c < length zs → test (get_or zs c d) t ≡ test (get_or xs c e) t)
+    → ((c : ℕ) (d : F) → c < length zs → (t : T) → test (get_or zs c d) t ≡ test (get_or xs c x) t)
     → ((t : T) → test z t ≡ test x t)
     → (c : ℕ) (t : T) → test (get_or zs c z) t ≡ test (get_or xs c x) t
 copied-whole test xs zs x z long each last c t = elim (cases_lt c (length zs)) [
-  | inl h ↦ each c t z x h
+  | inl h ↦ each c z h t
   | inr h ↦ ap (λ s. test s t) (get_or_past zs c z h) ∙ last t ∙ ap (λ s. test s t) (sym (get_or_past xs c x (omega arith)))
 ]
 

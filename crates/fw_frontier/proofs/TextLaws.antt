@@ -22,8 +22,3 @@ front_text-until os all i e h k = ap (λ u. codes "until" ++ spaced u) (take_all
     by : (os : List (List ℕ)) → 0 < length os → codes "until" ++ spaced os ≡ front_text os
     by [] k = absurd (omega arith)
     by (o ∷ os) k = refl
-
--- nothing outside
-pub front_text-all : (os : List (List ℕ)) → length os ≡ 0 → codes "all" ≡ front_text os
-front_text-all [] h = refl
-front_text-all (o ∷ os) h = cc

@@ -1,7 +1,8 @@
 -- Frontiers by their least outside stamps, and which list names a frontier.
 use Rattle.std.specs.Prelude.{◌≡◌, Bool, true, false, not, ◌&&◌, ◌||◌, List, [], ◌∷◌}
-use Rattle.std.specs.List.{AllByRecursion}
-use Rattle.std.specs.Ordering.{is_lt}
+use Rattle.std.specs.List.{AllByRecursion, list_all}
+use Rattle.std.specs.Ordering.{is_lt, is_eq}
+use Rattle.std.specs.Cmp.Lexicographic.{slice_cmp}
 use Rattle.fw_time.specs.Stamp.{Stamp, leq, in_domain, stamp_cmp}
 use Rattle.fw_time.specs.declared.stamp.Bounds.{Bounds}
 use Rattle.fw_frontier.specs.Frontier.{Frontier}
@@ -23,6 +24,14 @@ frontier_of bounds os t = in_domain bounds t && inside os t
 abbrev pub all_in_domain : Bounds → Front → Bool
 all_in_domain bounds [] = true
 all_in_domain bounds (o ∷ os) = in_domain bounds o && all_in_domain bounds os
+
+-- whether the frontiers have one list of outside stamps: for canonical fronts of one domain, whether they are one
+abbrev pub same_front : Front → Front → Bool
+same_front f g = is_eq (slice_cmp stamp_cmp f g)
+
+-- whether each outside stamp of f is outside g: for canonical fronts of one domain, whether g lies within f
+abbrev pub is_within : Front → Front → Bool
+is_within g f = list_all (λ o. not (inside g o)) f
 
 -- the stamp is a domain's, comes before each of these in order and is not comparable with one
 pub record IsLeastBefore (bounds : Bounds) (o : Stamp) (os : Front) : Type 0 where

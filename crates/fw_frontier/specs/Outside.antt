@@ -1,5 +1,5 @@
 -- For the proofs of src/outside.rt: what the calls do to a list of outside stamps.
-use Rattle.std.specs.Prelude.{ℕ, zero, suc, Bool, true, not, ◌&&◌, ◌+◌, if◌then◌else◌, nat_lt, nat_le, slice_index, List, [], ◌∷◌, filter}
+use Rattle.std.specs.Prelude.{ℕ, zero, suc, not, ◌+◌, if◌then◌else◌, nat_lt, nat_le, slice_index, [], ◌∷◌, filter}
 use Rattle.std.specs.Ordering.{is_lt}
 use Rattle.fw_time.specs.Stamp.{Stamp, leq, lub, raised, stamp_cmp}
 use Rattle.fw_frontier.specs.Front.{Front, inside}
@@ -43,8 +43,3 @@ excluding_all_near (s ∷ ss) ps os = excluding_all_near ss ps (excluding_all (e
 abbrev pub below_at : Stamp → Stamp → ℕ → Front
 below_at s greatest zero = []
 below_at s greatest (suc i) = if nat_lt (slice_index s i) (slice_index greatest i) then excluding (raised s i) (below_at s greatest i) else below_at s greatest i
-
--- whether none of these stamps is inside
-abbrev pub none_inside : Front → List Stamp → Bool
-none_inside os [] = true
-none_inside os (s ∷ ss) = not (inside os s) && none_inside os ss

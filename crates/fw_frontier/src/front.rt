@@ -4,7 +4,7 @@ ghost use Rattle.std.specs.List.{AllByRecursion};
 ghost use Rattle.fw_time.specs.declared.stamp.Bounds.{Bounds as Domain};
 ghost use Rattle.fw_time.specs.Stamp.{leq, in_domain};
 ghost use Rattle.fw_frontier.specs.Frontier.{nothing, meet, join, cover, without_above, Within};
-ghost use Rattle.fw_frontier.specs.Front.{inside, frontier_of, IsCanonical, Names};
+ghost use Rattle.fw_frontier.specs.Front.{inside, frontier_of, same_front, is_within, IsCanonical, Names};
 ghost use Rattle.fw_frontier.specs.Least.{AreLeastOf};
 
 use crate::outside;
@@ -43,6 +43,13 @@ impl Front {
         Front {
             outside: Vec::new(alloc),
         }
+    }
+
+    /// The frontier that is known by these stamps outside. Its list is canonical where they are the least, in ascending order.
+    pub fn of_outside(outside: Vec<Stamp>) -> Self
+        ensures { result ≡ outside.items }
+    {
+        Front { outside }
     }
 
     /// The frontier without stamps.
@@ -121,8 +128,16 @@ impl Front {
         outside::has_inside(&self.outside, t)
     }
 
+    /// Whether it has the same outside stamps as the other frontier.
+    pub fn same(&self, other: &Self) -> bool
+        ensures { result ≡ same_front self.now other.now }
+    {
+        self.outside.cmp(&other.outside).is_eq()
+    }
+
     /// Whether each stamp inside is inside the other frontier.
     pub fn subset(&self, other: &Self) -> bool
+        ensures test { result ≡ is_within self.now other.now }
         ensures within { IsTrue result ↔ Within (inside self.now) (inside other.now) }
         ensures domain { (bounds : Domain) → IsCanonical bounds other.now
             → (IsTrue result ↔ Within (frontier_of bounds self.now) (frontier_of bounds other.now)) }

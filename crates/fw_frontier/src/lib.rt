@@ -8,8 +8,10 @@ pub mod laws;
 mod outside;
 mod planes;
 mod stairs;
+mod state;
 
 pub use below::Below;
 pub use front::Front;
 pub use frontier::{Frontier, Logical};
 pub use stairs::Stairs;
+pub use state::{Entries, SentCount, SentCounts, State};

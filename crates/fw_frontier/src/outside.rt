@@ -3,9 +3,9 @@ ghost use Rattle.std.specs.Prelude.{◌≡◌, true, [], ◌<◌, ◌≤◌, not
 ghost use Rattle.std.specs.List.{AllByRecursion};
 ghost use Rattle.fw_time.specs.declared.stamp.Bounds.{Bounds as Domain};
 ghost use Rattle.fw_time.specs.Stamp.{leq, lub, raised, in_domain};
-ghost use Rattle.fw_frontier.specs.Front.{inside, all_in_domain, frontier_of, Names};
+ghost use Rattle.fw_frontier.specs.Front.{inside, is_within, all_in_domain, frontier_of, Names};
 ghost use Rattle.fw_frontier.specs.Frontier.{join, cover};
-ghost use Rattle.fw_frontier.specs.Outside.{place, placed, excluding, excluding_all, rises, excluding_near, excluding_all_near, below_at, none_inside};
+ghost use Rattle.fw_frontier.specs.Outside.{place, placed, excluding, excluding_all, rises, excluding_near, excluding_all_near, below_at};
 
 use crate::planes;
 use fw_time::{Bounds, Stamp};
@@ -28,7 +28,7 @@ pub fn has_inside(outside: &[Stamp], t: &Stamp) -> bool
 
 // Whether none of these stamps is inside.
 pub fn has_none_inside(outside: &[Stamp], stamps: &[Stamp]) -> bool
-    ensures { result ≡ none_inside outside.now stamps.now }
+    ensures { result ≡ is_within outside.now stamps.now }
 {
     for s in stamps {
         if has_inside(outside, s) {

@@ -1,5 +1,5 @@
 //! The frontier of a loop's times: a frontier of the outer times for each counter.
-ghost use Rattle.std.specs.Prelude.{◌≡◌, ℕ, ◌+◌, ◌<◌, ◌≤◌, ◌↔◌, Bool, true, false, not, ◌&&◌, ◌||◌, max, nat_le, List, length, slice_index_or, map, ◌++◌, IsTrue, IfOk, OnOk};
+ghost use Rattle.std.specs.Prelude.{◌≡◌, ℕ, ◌+◌, ◌<◌, ◌≤◌, ◌↔◌, Bool, true, false, not, ◌&&◌, ◌||◌, max, nat_le, List, length, slice_index_or, map, ◌++◌, IsTrue, IfOk, OnOk, Ok};
 ghost use Rattle.std.specs.List.{AllByRecursion};
 ghost use Rattle.fw_time.specs.Stamp.{leq, in_domain, nest, outer, counter};
 ghost use Rattle.fw_frontier.specs.Front.{inside};
@@ -20,6 +20,55 @@ pub struct Stairs<T: Logical> {
 
 impl<T: Logical> Logical for Nest<T> {
     type Frontier = Stairs<T>;
+}
+
+impl<T: Logical> Stairs<T> {
+    // The step of a counter.
+    fn at(&self, counter: usize) -> &T::Frontier
+        ensures { result.now ≡ slice_index_or self.now.steps.items counter self.now.last }
+    {
+        self.steps.get(counter).unwrap_or(&self.last)
+    }
+
+    // How many first counters have a step of their own.
+    fn len(&self) -> usize
+        ensures { result ≡ length self.now.steps.items }
+    {
+        self.steps.len()
+    }
+
+    // Stamps of the domain outside of which, with the greater ones, its times are inside.
+    fn nested(&self, alloc: Global, bounds: &Bounds) -> Result<Vec<Stamp>, AllocError>
+        requires { length bounds.now.greatest ≡ T.places + 1 }
+        ensures in_domain { IfOk result (λ stamps. AllByRecursion (λ s. in_domain bounds.now s ≡ true) stamps.items) }
+        ensures test { IfOk result (λ stamps. (t : List ℕ) → in_domain bounds.now t ≡ true → inside stamps.items t
+            ≡ T.Frontier.inside (slice_index_or self.now.steps.items (counter t) self.now.last) (T.of_coords (outer t))) }
+    {
+        let outer = outer_of(bounds);
+        let mut stamps = Vec::new(alloc);
+        for c in 0..self.len().min(bounds.greatest.counter() as usize) + 1 {
+            let front = self.at(c).to_front(alloc, &outer)?;
+            push_nested(&mut stamps, front.outside(), c as u32)?;
+        }
+        Ok(stamps)
+    }
+}
+
+// So many steps, each made for its counter.
+fn made_steps<F: Drop, M: Fn(usize) -> Result<F, AllocError>>(
+    alloc: Global,
+    len: usize,
+    make: M,
+) -> Result<Vec<F>, AllocError>
+    requires { M.IsAlwaysCallable make }
+    ensures { IfOk result (λ steps. (length steps.items ≡ len)
+        × ((c : ℕ) (d : F) → c < length steps.items → M.post make c (Ok (slice_index_or steps.items c d)))) }
+{
+    let mut steps = Vec::new(alloc);
+    for c in 0..len {
+        steps.push(make(c)?)?;
+    }
+    Ok(steps)
 }
 
 impl<T: Logical> Frontier<Nest<T>> for Stairs<T> {
@@ -44,29 +93,46 @@ impl<T: Logical> Frontier<Nest<T>> for Stairs<T> {
     }
 
     fn copy(&self) -> Result<Self, AllocError> {
-        let steps = copied_steps::<T>(&self.steps, *self.steps.allocator())?;
+        let make = |c: usize| -> Result<T::Frontier, AllocError>
+            ensures { IfOk result (λ f. (t : T) → T.Frontier.inside f t
+                ≡ T.Frontier.inside (slice_index_or self.entry.now.steps.items c self.entry.now.last) t) }
+        { self.at(c).copy() };
+        let steps = made_steps(*self.steps.allocator(), self.len(), make)?;
         let last = self.last.copy()?;
         Ok(Stairs { steps, last })
     }
 
     fn contains(&self, t: &Nest<T>) -> bool {
-        step(&self.steps, &self.last, t.counter as usize).contains(&t.outer)
+        self.at(t.counter as usize).contains(&t.outer)
     }
 
     fn subset(&self, other: &Self) -> bool {
-        are_within::<T>(&self.steps, &self.last, &other.steps, &other.last)
+        for c in 0..self.len().max(other.len()) {
+            if !self.at(c).subset(other.at(c)) {
+                return false;
+            }
+        }
+        self.last.subset(&other.last)
     }
 
     fn meet(&self, other: &Self) -> Result<Self, AllocError> {
-        let alloc = *self.steps.allocator();
-        let steps = meet_steps::<T>(&self.steps, &self.last, &other.steps, &other.last, alloc)?;
+        let make = |c: usize| -> Result<T::Frontier, AllocError>
+            ensures { IfOk result (λ f. (t : T) → T.Frontier.inside f t
+                ≡ (T.Frontier.inside (slice_index_or self.entry.now.steps.items c self.entry.now.last) t
+                && T.Frontier.inside (slice_index_or other.entry.now.steps.items c other.entry.now.last) t)) }
+        { self.at(c).meet(other.at(c)) };
+        let steps = made_steps(*self.steps.allocator(), self.len().max(other.len()), make)?;
         let last = self.last.meet(&other.last)?;
         Ok(Stairs { steps, last })
     }
 
     fn join(&self, other: &Self) -> Result<Self, AllocError> {
-        let alloc = *self.steps.allocator();
-        let steps = join_steps::<T>(&self.steps, &self.last, &other.steps, &other.last, alloc)?;
+        let make = |c: usize| -> Result<T::Frontier, AllocError>
+            ensures { IfOk result (λ f. (t : T) → T.Frontier.inside f t
+                ≡ (T.Frontier.inside (slice_index_or self.entry.now.steps.items c self.entry.now.last) t
+                || T.Frontier.inside (slice_index_or other.entry.now.steps.items c other.entry.now.last) t)) }
+        { self.at(c).join(other.at(c)) };
+        let steps = made_steps(*self.steps.allocator(), self.len().max(other.len()), make)?;
         let last = self.last.join(&other.last)?;
         Ok(Stairs { steps, last })
     }
@@ -80,20 +146,28 @@ impl<T: Logical> Frontier<Nest<T>> for Stairs<T> {
                 last: under,
             });
         }
-        let steps = copies::<T>(alloc, &under, top.counter as usize + 1)?;
+        let make = |_: usize| -> Result<T::Frontier, AllocError>
+            ensures { IfOk result (λ f. (t : T) → T.Frontier.inside f t ≡ T.Frontier.inside under t) }
+        { under.copy() };
+        let steps = made_steps(alloc, top.counter as usize + 1, make)?;
         let last = T::Frontier::empty(alloc, &outer)?;
         Ok(Stairs { steps, last })
     }
 
     fn cut_above(&self, t: &Nest<T>) -> Result<Self, AllocError> {
-        let alloc = *self.steps.allocator();
-        let steps = cut_steps::<T>(&self.steps, &self.last, &t.outer, t.counter as usize, alloc)?;
+        let from = t.counter as usize;
+        let make = |c: usize| -> Result<T::Frontier, AllocError>
+            ensures { IfOk result (λ f. (s : T) → T.Frontier.inside f s
+                ≡ (T.Frontier.inside (slice_index_or self.entry.now.steps.items c self.entry.now.last) s
+                && not (nat_le from c && leq (T.coords t.entry.now.outer) (T.coords s)))) }
+        { cut_step::<T>(self.at(c), &t.outer, from <= c) };
+        let steps = made_steps(*self.steps.allocator(), self.len().max(from), make)?;
         let last = self.last.cut_above(&t.outer)?;
         Ok(Stairs { steps, last })
     }
 
     fn to_front(&self, alloc: Global, bounds: &Bounds) -> Result<Front, AllocError> {
-        let stamps = nested::<T>(&self.steps, &self.last, bounds, alloc)?;
+        let stamps = self.nested(alloc, bounds)?;
         let front = Front::until(alloc, &stamps)?;
         Ok(front)
     }
@@ -113,110 +187,6 @@ fn outer_of(bounds: &Bounds) -> Bounds
     }
 }
 
-// The step of a counter.
-fn step<'a, F>(steps: &'a [F], last: &'a F, counter: usize) -> &'a F
-    ensures { result.now ≡ slice_index_or steps.now counter last.now }
-{
-    if counter < steps.len() {
-        &steps[counter]
-    } else {
-        last
-    }
-}
-
-// The same steps once more.
-fn copied_steps<T: Logical>(
-    steps: &[T::Frontier],
-    alloc: Global,
-) -> Result<Vec<T::Frontier>, AllocError>
-    ensures { IfOk result (λ copy. (length copy.items ≡ length steps.now)
-        × ((c : ℕ) (t : T) (d e : T.Frontier) → c < length copy.items → T.Frontier.inside (slice_index_or copy.items c d) t
-        ≡ T.Frontier.inside (slice_index_or steps.now c e) t)) }
-{
-    let mut copy = Vec::with_capacity(alloc, steps.len())?;
-    for step in steps {
-        copy.push(step.copy()?)?;
-    }
-    Ok(copy)
-}
-
-// The steps of what is inside both, up to those that stand for all later counters.
-fn meet_steps<T: Logical>(
-    mine: &[T::Frontier],
-    my_last: &T::Frontier,
-    others: &[T::Frontier],
-    other_last: &T::Frontier,
-    alloc: Global,
-) -> Result<Vec<T::Frontier>, AllocError>
-    ensures { IfOk result (λ both. (length both.items ≡ max (length mine.now) (length others.now))
-        × ((c : ℕ) (t : T) (d : T.Frontier) → c < length both.items → T.Frontier.inside (slice_index_or both.items c d) t
-        ≡ (T.Frontier.inside (slice_index_or mine.now c my_last.now) t
-        && T.Frontier.inside (slice_index_or others.now c other_last.now) t))) }
-{
-    let mut both = Vec::new(alloc);
-    for c in 0..mine.len().max(others.len()) {
-        let met = step(mine, my_last, c).meet(step(others, other_last, c))?;
-        both.push(met)?;
-    }
-    Ok(both)
-}
-
-// The steps of what is inside one of the two, up to those that stand for all later counters.
-fn join_steps<T: Logical>(
-    mine: &[T::Frontier],
-    my_last: &T::Frontier,
-    others: &[T::Frontier],
-    other_last: &T::Frontier,
-    alloc: Global,
-) -> Result<Vec<T::Frontier>, AllocError>
-    ensures { IfOk result (λ both. (length both.items ≡ max (length mine.now) (length others.now))
-        × ((c : ℕ) (t : T) (d : T.Frontier) → c < length both.items → T.Frontier.inside (slice_index_or both.items c d) t
-        ≡ (T.Frontier.inside (slice_index_or mine.now c my_last.now) t
-        || T.Frontier.inside (slice_index_or others.now c other_last.now) t))) }
-{
-    let mut both = Vec::new(alloc);
-    for c in 0..mine.len().max(others.len()) {
-        let joined = step(mine, my_last, c).join(step(others, other_last, c))?;
-        both.push(joined)?;
-    }
-    Ok(both)
-}
-
-// Whether each step is within the other of its counter.
-fn are_within<T: Logical>(
-    mine: &[T::Frontier],
-    my_last: &T::Frontier,
-    others: &[T::Frontier],
-    other_last: &T::Frontier,
-) -> bool
-    ensures { IsTrue result ↔ ((c : ℕ) (t : T) → T.Frontier.inside (slice_index_or mine.now c my_last.now) t ≡ true
-        → T.Frontier.inside (slice_index_or others.now c other_last.now) t ≡ true) }
-{
-    for c in 0..mine.len().max(others.len()) {
-        if !step(mine, my_last, c).subset(step(others, other_last, c)) {
-            return false;
-        }
-    }
-    my_last.subset(other_last)
-}
-
-// A step as often as asked for.
-fn copies<T: Logical>(
-    alloc: Global,
-    step: &T::Frontier,
-    len: usize,
-) -> Result<Vec<T::Frontier>, AllocError>
-    ensures { IfOk result (λ all. (length all.items ≡ len)
-        × ((c : ℕ) (t : T) (d : T.Frontier) → c < length all.items → T.Frontier.inside (slice_index_or all.items c d) t
-        ≡ T.Frontier.inside step.now t)) }
-{
-    let mut all = Vec::new(alloc);
-    for _ in 0..len {
-        all.push(step.copy()?)?;
-    }
-    Ok(all)
-}
-
 // A step without what is at least `t`, if it is cut.
 fn cut_step<T: Logical>(step: &T::Frontier, t: &T, is_cut: bool) -> Result<T::Frontier, AllocError>
     ensures { IfOk result (λ cut. (s : T) → T.Frontier.inside cut s
@@ -228,26 +198,6 @@ fn cut_step<T: Logical>(step: &T::Frontier, t: &T, is_cut: bool) -> Result<T::Fr
     step.copy()
 }
 
-// The steps, from a counter on without what is at least `t`.
-fn cut_steps<T: Logical>(
-    steps: &[T::Frontier],
-    last: &T::Frontier,
-    t: &T,
-    from: usize,
-    alloc: Global,
-) -> Result<Vec<T::Frontier>, AllocError>
-    ensures { IfOk result (λ cut. (length cut.items ≡ max (length steps.now) from)
-        × ((c : ℕ) (s : T) (d : T.Frontier) → c < length cut.items → T.Frontier.inside (slice_index_or cut.items c d) s
-        ≡ (T.Frontier.inside (slice_index_or steps.now c last.now) s
-        && not (nat_le from c && leq (T.coords t.now) (T.coords s))))) }
-{
-    let mut cut = Vec::new(alloc);
-    for c in 0..steps.len().max(from) {
-        cut.push(cut_step::<T>(step(steps, last, c), t, from <= c)?)?;
-    }
-    Ok(cut)
-}
-
 // These stamps with a counter, after others.
 fn push_nested(stamps: &mut Vec<Stamp>, outer: &[Stamp], counter: u32) -> Result<(), AllocError>
     requires { AllByRecursion (λ o. length o < 4) outer.now }
@@ -257,26 +207,4 @@ fn push_nested(stamps: &mut Vec<Stamp>, outer: &[Stamp], counter: u32) -> Result
         stamps.push(o.nest(counter))?;
     }
     Ok(())
-}
-
-// Stamps of the domain outside of which, with the greater ones, the steps' times are inside.
-fn nested<T: Logical>(
-    steps: &[T::Frontier],
-    last: &T::Frontier,
-    bounds: &Bounds,
-    alloc: Global,
-) -> Result<Vec<Stamp>, AllocError>
-    requires shape { length bounds.now.greatest ≡ T.places + 1 }
-    requires descending { IsDescending T.Frontier.inside steps.now last.now }
-    ensures in_domain { IfOk result (λ stamps. AllByRecursion (λ s. in_domain bounds.now s ≡ true) stamps.items) }
-    ensures test { IfOk result (λ stamps. (t : List ℕ) → in_domain bounds.now t ≡ true → inside stamps.items t
-        ≡ T.Frontier.inside (slice_index_or steps.now (counter t) last.now) (T.of_coords (outer t))) }
-{
-    let outer = outer_of(bounds);
-    let mut stamps = Vec::new(alloc);
-    for c in 0..steps.len().min(bounds.greatest.counter() as usize) + 1 {
-        let front = step(steps, last, c).to_front(alloc, &outer)?;
-        push_nested(&mut stamps, front.outside(), c as u32)?;
-    }
-    Ok(stamps)
 }

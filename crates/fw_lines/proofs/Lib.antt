@@ -1,5 +1,6 @@
 pub mod BatchLaws
 pub mod FaultLaws
+pub mod GivenLaws
 pub mod InputLaws
 pub mod NumberLaws
 pub mod PartLaws

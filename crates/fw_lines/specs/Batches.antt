@@ -1,11 +1,14 @@
 -- The batches of nodes.
-use Rattle.std.specs.Prelude.{◌≡◌, ℕ, ◌==◌, List, [], ◌∷◌, ◌++◌, length, map, Option, if◌then◌else◌, unwrap_or}
+use Rattle.std.specs.Prelude.{◌≡◌, ℕ, ◌^◌, ◌<◌, ◌≤◌, ◌==◌, false, List, [], ◌∷◌, ◌++◌, length, map, Option, if◌then◌else◌, unwrap_or}
+use Rattle.std.specs.List.{AllByRecursion}
 use Rattle.std.specs.Option.{option_map_or}
 use Rattle.std.specs.declared.alloc.Global.{Global}
 use Rattle.std.specs.Map.{lookup}
 use Rattle.std.specs.declared.vec.Vec.{Vec}
 use Rattle.fw_bag.specs.Bag.{BagState}
 use Rattle.fw_bag.specs.declared.rec.Rec.{Rec}
+use Rattle.fw_bag.specs.Rec.{IsAscending}
+use Rattle.fw_lines.specs.Sources.{is_source}
 
 -- the batches of a node, none where nothing is kept for it
 abbrev pub batches_at : List (ℕ × List (List Rec)) → ℕ → List (List Rec)
@@ -32,3 +35,19 @@ recs_of bags = map (λ b. b.recs) bags
 abbrev pub batches_of_entries : List (ℕ × Vec BagState Global) → List (ℕ × List (List Rec))
 batches_of_entries [] = []
 batches_of_entries (e ∷ es) = (e.0, recs_of e.1.items) ∷ batches_of_entries es
+
+-- the key and the value of a rec are numbers of 64 bits
+pub record IsRec (r : Rec) : Type 0 where
+  pub key : r.key < 2 ^ 64
+  pub value : r.value < 2 ^ 64
+
+-- a batch is a bag as its ascending list
+pub record IsBatch (batch : List Rec) : Type 0 where
+  pub recs : AllByRecursion IsRec batch
+  pub ascending : IsAscending batch
+
+-- the sources alone have batches, at most 2^20 each, and each batch is a bag of recs
+pub record AreBatchesOf (sources : List (List ℕ × ℕ)) (batches : ℕ → List (List Rec)) : Type 0 where
+  pub of_sources : (node : ℕ) → is_source sources node ≡ false → batches node ≡ []
+  pub few : (node : ℕ) → length (batches node) ≤ 2 ^ 20
+  pub bags : (node : ℕ) → AllByRecursion IsBatch (batches node)

@@ -66,7 +66,7 @@ words_fault (word ∷ words) = option_or (broken_rule (record_of word)) (words_f
 abbrev pub form_fault : List ℕ → List ℕ → List (List ℕ) → Option Code
 form_fault first name records = if bytes_eq first (codes "batch") && is_name name then words_fault records else Some I1
 
--- I2, unless the name is that of an input
+-- I2, unless the name is that of a source
 abbrev pub source_fault : Option ℕ → Option Code
 source_fault None = Some I2
 source_fault (Some node) = None
@@ -91,7 +91,7 @@ fault_of sources count (word ∷ []) = Some I1
 fault_of sources count (first ∷ name ∷ records) =
     option_or (form_fault first name records) (value_fault (node_of sources name) records count)
 
--- the node of the input that a line names
+-- the source that a line names
 abbrev pub source_of : List (List ℕ × ℕ) → List (List ℕ) → Option ℕ
 source_of sources [] = None
 source_of sources (word ∷ []) = None

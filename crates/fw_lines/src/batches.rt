@@ -1,4 +1,4 @@
-//! The batches of the inputs.
+//! The batches of the sources.
 ghost use Rattle.std.specs.Prelude.{◌≡◌, [], length, map, OnOk, OnErr};
 ghost use Rattle.fw_lines.specs.Batches.{batches_at, batches_of_entries, AddsBatch, KeepsBatches};
 
@@ -7,7 +7,7 @@ use indexmap::IndexMap;
 use std::alloc::{AllocError, Global};
 use std::marker::Model;
 
-/// The batches of the inputs: for each node its batches, of which the x-th, counted from 0, is that
+/// The batches of the sources: for each node its batches, of which the x-th, counted from 0, is that
 /// of epoch x.
 #[derive(Debug, Drop)]
 pub struct Batches {

@@ -6,7 +6,7 @@ ghost use Rattle.std.specs.Str.{bytes_eq};
 ghost use Rattle.fw_bag.specs.Bag.{bag_sum, with_rec};
 ghost use Rattle.fw_bag.specs.declared.rec.Rec.{Rec};
 ghost use Rattle.fw_lines.specs.declared.refusal.Refusal.{Refusal};
-ghost use Rattle.fw_lines.specs.Batches.{batches_at, count_at};
+ghost use Rattle.fw_lines.specs.Batches.{batches_at, count_at, AreBatchesOf};
 ghost use Rattle.fw_lines.specs.Faults.{IfRefused};
 ghost use Rattle.fw_lines.specs.Inputs as spec;
 ghost use Rattle.fw_lines.specs.Inputs.{record_of, spelled_rec, fault_in, batches_of, IsAccepted, IsRefused};
@@ -28,16 +28,18 @@ use std::alloc::{AllocError, Global};
 /// The most bytes that inputs may have.
 pub const INPUTS_LIMIT: usize = 16_777_216;
 
-/// How many batches a text may give to an input.
+/// How many batches a text may give to a source.
 const BATCH_LIMIT: usize = 1 << 20;
 
 /// Reads inputs: the batches of these sources.
 ///
 /// It takes the memory of the batches and of the words of one line. Where no memory is refused it
-/// answers `Ok` exactly for the texts of the grammar, and else the first rule that is broken.
+/// answers `Ok` exactly for the texts of the grammar, and else the first rule that is broken. Its batches are those of
+/// these sources alone, at most 2^20 of each, and each is a bag of recs of 64 bits.
 pub fn read_batches(alloc: Global, text: &[u8], sources: &SourceNames) -> Result<Batches, ReadFault>
-    ensures { MatchResult result (IsAccepted text.now sources.now)
+    ensures answer { MatchResult result (IsAccepted text.now sources.now)
         (IfRefused (IsRefused text.now sources.now)) }
+    ensures given { IfOk result (λ batches. AreBatchesOf sources.now (batches_at batches)) }
 {
     if text.len() > INPUTS_LIMIT {
         return Err(ReadFault::of_whole(Code::I5));

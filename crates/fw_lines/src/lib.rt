@@ -1,4 +1,5 @@
-//! What the readers of texts share, and the reader of the inputs.
+//! What the readers of texts share, and the reader of the inputs: the text that gives the sources, a flow's nodes of the kind
+//! `input`, their batches.
 #![tactic(auto)]
 
 mod batches;

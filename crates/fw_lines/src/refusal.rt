@@ -20,7 +20,7 @@ pub enum Code {
     F7,
     /// There are too many nodes, edges or loops, or the `max` of a loop or the number of a regroup is out of range.
     F8,
-    /// There is no input or no output.
+    /// There is no source or no output.
     F9,
     /// A number of a flow is 2^64 or more.
     F10,
@@ -28,17 +28,17 @@ pub enum Code {
     F11,
     /// A line of the inputs has no form of the grammar, a word of it is badly spelled, or a byte is not allowed.
     I1,
-    /// The name of a batch is not that of an input.
+    /// The name of a batch is not that of a source.
     I2,
     /// A number of the inputs is 2^64 or more.
     I3,
     /// A record word has no colon.
     I4,
-    /// The text of the inputs is too long, or an input has too many batches.
+    /// The text of the inputs is too long, or a source has too many batches.
     I5,
     /// A line of a schedule has no form of the grammar, a word of it is badly spelled, or a byte is not allowed.
     S1,
-    /// A name is not that of an input, an edge, a node or an output, as the step wants.
+    /// A name is not that of a source, an edge, a node or an output, as the step wants.
     S2,
     /// A stamp is not of the domain.
     S3,

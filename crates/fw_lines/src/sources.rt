@@ -1,4 +1,4 @@
-//! The names of the inputs.
+//! The names of the sources.
 ghost use Rattle.std.specs.Prelude.{◌≡◌, [], ◌∷◌, ◌++◌, IfOk, IsNone};
 ghost use Rattle.indexmap.specs.IndexMap.{IndexMap};
 ghost use Rattle.fw_lines.specs.Sources.{node_of, named};
@@ -7,7 +7,7 @@ use indexmap::IndexMap;
 use std::alloc::{AllocError, Global};
 use std::marker::Model;
 
-/// The names of the inputs, each with the number of its node, in the order of their adding.
+/// The names of the sources, each with the number of its node, in the order of their adding.
 #[derive(Debug, Drop)]
 pub struct SourceNames {
     alloc: Global,

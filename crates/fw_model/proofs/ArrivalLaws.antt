@@ -13,7 +13,7 @@ use Rattle.fw_flow.specs.WholeBags.{Timed, together}
 use Rattle.fw_model.specs.History.{delivered}
 use Rattle.fw_model.proofs.WeightLaws.{weigh, weigh-append, weigh-none, weigh-same}
 use Rattle.fw_model.proofs.SentLaws.{timed_message, timed_of}
-use Rattle.fw_model.proofs.ClearSteps.{into-from}
+use Rattle.fw_flow.proofs.EdgeLaws.{into-from}
 use Rattle.fw_time.proofs.EachLaws.{each-weaker}
 
 -- ---- sums over in-edges

@@ -9,7 +9,7 @@ use Rattle.std.proofs.lemmas.List.FromFn.{get_or-map-range_with_len}
 use Rattle.fw_time.specs.Stamp.{Stamp}
 use Rattle.fw_time.proofs.EachLaws.{each-weaker, each-both, each-append, each-one, each-map}
 use Rattle.fw_frontier.specs.Frontier.{Frontier, Within}
-use Rattle.fw_frontier.specs.Front.{Front, frontier_of, IsCanonical}
+use Rattle.fw_frontier.specs.Front.{Front, frontier_of, IsCanonical, same_front}
 use Rattle.fw_flow.specs.declared.choice.Cut.{Cut}
 use Rattle.fw_flow.specs.declared.choice.Cut.TheVariants.{Present, At}
 use Rattle.fw_flow.specs.declared.event.Event.{Event}
@@ -21,16 +21,16 @@ use Rattle.fw_flow.specs.declared.kind.Policy.TheVariants as policy
 use Rattle.fw_flow.specs.declared.node.Node.{Node}
 use Rattle.fw_flow.specs.declared.step.Step.{Step}
 use Rattle.fw_flow.specs.declared.step.Step.TheVariants.{Inject, Deliver, Notify, Progress as ProgressStep, Checkpoint, Persist, Fail, Recover, Collect, Ack}
-use Rattle.fw_flow.specs.Dataflow.{System, Dataflow, idle_node, kind_of, policy_of, receiver, out_edges, bounds_of, send_stamp}
+use Rattle.fw_flow.specs.Dataflow.{System, Dataflow, idle_node, kind_of, policy_of, receiver, out_edges, bounds_of, send_stamp, places}
 use Rattle.fw_flow.specs.NodeFunction.{place, stamp}
 use Rattle.fw_flow.specs.WellFormed.{IsWellFormed, IsWellFormedSystem, IsPolicyAllowed, may_keep_nothing}
 use Rattle.fw_model.specs.Denotation.{Family, rounds}
-use Rattle.fw_model.specs.Machine.{Machine, Numbered, Write, Written, checkpoint, logged_event, Progress, in_flight, acknowledged, collected, no_stamps, places, first_state, front_of, is_failed}
+use Rattle.fw_model.specs.Machine.{Machine, Numbered, Write, Written, checkpoint, logged_event, Progress, in_flight, acknowledged, collected, no_stamps, first_state, front_of, is_failed}
 use Rattle.fw_flow.specs.declared.choice.Choice.{Choice}
-use Rattle.fw_model.specs.Choice.{kept, by_checkpoints, restoring_of_policy, restoring, cut_of, kept_of, IsCandidate, IsLargest, filtered}
-use Rattle.fw_model.specs.Steps.{Effect, Outcome, did, idle, LeadsTo, Run, write_of_event, with_event, same_front, checkpoint_of, is_eager, GrowsTo, is_asked_for_checkpoints, checkpoint_front, checkpoints_of, last_or, newest_checkpoint, AcknowledgesOldest, is_one_of, is_in_flight, with_failed, is_kept_write, IsSettledCut, CutsTo, recovered, front_of_cut, inside_if_some, sends_inside, is_given_up, is_serial_given_up, lies_below, after_collection, collected_writes}
-use Rattle.fw_model.specs.LawsOfDenotation.{enough_rounds}
-use Rattle.fw_model.specs.LawsOfRestoring.{takes_checkpoints}
+use Rattle.fw_model.specs.Choice.{kept, cut_of, kept_of, IsCandidate, IsLargest, filtered}
+use Rattle.fw_model.specs.Steps.{Effect, Outcome, did, idle, LeadsTo, Run, write_of_event, with_event, checkpoint_of, is_eager, GrowsTo, is_asked_for_checkpoints, checkpoint_front, checkpoints_of, last_or, newest_checkpoint, AcknowledgesOldest, is_one_of, is_in_flight, with_failed, is_kept_write, IsSettledCut, CutsTo, recovered, front_of_cut, inside_if_some, sends_inside, is_given_up, is_serial_given_up, lies_below, after_collection, collected_writes}
+use Rattle.fw_flow.specs.declared.restoring.Restoring.TheVariants.{Checkpoints}
+use Rattle.fw_flow.specs.Restoring.{restoring_of_policy, restoring}
 use Rattle.fw_model.proofs.Decisions.{two_ways}
 use Rattle.fw_model.proofs.CmpLaws.{stamp_total}
 use Rattle.fw_model.proofs.ChoiceLaws.{same_fronts}
@@ -40,6 +40,8 @@ use Rattle.fw_model.proofs.SameInsideLaws.{at_node, IsLowConsistent, low_length}
 use Rattle.fw_model.proofs.WriteLaws.{ArePairs, pairs-append, pairs-passed, pairs-mapped, pairs-replaced, LiesBelow, AreAscending}
 use Rattle.fw_model.proofs.LowLaws.{at_most-refl, none-canonical}
 use Rattle.fw_model.proofs.ChoosingLaws.{CanRecover, settled_writes, watermark-grows, took-recover, first-recover}
+use Rattle.fw_model.specs.Measure.{enough_rounds}
+use Rattle.fw_model.specs.Writes.{takes_checkpoints}
 
 -- ---- nodes that take checkpoints
 
@@ -60,14 +62,14 @@ takes-declared flow p k = elim (cases_lt p (length flow.nodes)) [
   | inr past ↦ absurd (two_ways false (sym (ap (λ (n : Node). takes_checkpoints n.policy) (get_or_past flow.nodes p idle_node past)) ∙ k) refl)
 ]
 
-policy-restoring : (p : Policy) → takes_checkpoints p ≡ true → restoring_of_policy p ≡ by_checkpoints
+policy-restoring : (p : Policy) → takes_checkpoints p ≡ true → restoring_of_policy p ≡ Checkpoints
 policy-restoring policy.Lazy k = refl
 policy-restoring policy.Logged k = refl
 policy-restoring policy.Eager k = refl
 policy-restoring p k = absurd (cc)
 
 -- it is restored by them
-pub takes-restoring : (kind : Kind) (p : Policy) → IsPolicyAllowed kind p → takes_checkpoints p ≡ true → restoring kind p ≡ by_checkpoints
+pub takes-restoring : (kind : Kind) (p : Policy) → IsPolicyAllowed kind p → takes_checkpoints p ≡ true → restoring kind p ≡ Checkpoints
 takes-restoring Input p a k = absurd (two_ways (takes_checkpoints p) k (ap takes_checkpoints a))
 takes-restoring OutputEpoch p a k = absurd (two_ways (takes_checkpoints p) k (ap takes_checkpoints a))
 takes-restoring OutputNumber p a k = absurd (two_ways (takes_checkpoints p) k (ap takes_checkpoints a))
@@ -532,7 +534,7 @@ cut-canonical sys p (At f) before after n c = n.canonical
 recovered-restore : (sys : System) (state : Machine) (choice : Choice) (settled : List Front) → CutsTo sys state choice settled → CanRestore sys state
     → CanRestore sys (recovered sys state choice settled)
 recovered-restore sys state choice settled k c =
-    let keeps : Numbered → Bool = λ v. kept_of sys choice (place sys.flow v.event) (stamp v.event) in
+    let keeps : Numbered → Bool = λ v. kept_of sys.flow choice (place sys.flow v.event) (stamp v.event) in
     let h = filtered sys choice state.history in
     let test : Write → Bool = λ write. is_kept_write (cut_of choice write.node) write.written h in
     record {

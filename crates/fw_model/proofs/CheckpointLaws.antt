@@ -1,13 +1,11 @@
 -- Checkpoints lie within what is settled, and so does each frontier to which a node can be restored.
 use Rattle.std.proofs.Common.{◌≡◌, ℕ, ◌<◌, Bool, true, false, not, ◌&&◌, List, [], ◌∷◌, ◌++◌, length, filter, map, refl, sym, ap, subst, ◌∙◌, inl, inr}
-use Rattle.std.specs.List.{AllByRecursion, list_all}
-use Rattle.std.proofs.lemmas.Bool.{and_parts, and_from, or_left, cond_both, cases_Bool, false_from_ne_true}
-use Rattle.fw_time.specs.Stamp.{leq, in_domain}
-use Rattle.fw_time.specs.declared.stamp.Bounds.{Bounds}
+use Rattle.std.specs.List.{AllByRecursion}
+use Rattle.std.proofs.lemmas.Bool.{and_from, or_left, cond_both, cases_Bool}
 use Rattle.fw_time.proofs.EachLaws.{each-weaker, each-append, each-one, each-map}
 use Rattle.fw_frontier.specs.Frontier.{Frontier, Within}
-use Rattle.fw_frontier.specs.Front.{Front, inside, frontier_of}
-use Rattle.fw_frontier.proofs.InsideLaws.{inside-closed}
+use Rattle.fw_frontier.specs.Front.{Front, frontier_of, same_front}
+use Rattle.fw_frontier.proofs.NamesLaws.{is_within-holds}
 use Rattle.fw_flow.specs.declared.choice.Cut.{Cut}
 use Rattle.fw_flow.specs.declared.choice.Cut.TheVariants.{Present, At}
 use Rattle.fw_flow.specs.declared.kind.Kind.{Kind}
@@ -16,11 +14,14 @@ use Rattle.fw_flow.specs.declared.kind.Policy.{Policy}
 use Rattle.fw_flow.specs.declared.kind.Policy.TheVariants as policy
 use Rattle.fw_flow.specs.declared.step.Step.{Step}
 use Rattle.fw_flow.specs.declared.step.Step.TheVariants.{Inject, Deliver, Notify, Progress as ProgressStep, Checkpoint, Persist, Fail, Recover, Collect, Ack}
-use Rattle.fw_flow.specs.Dataflow.{System, kind_of, policy_of, receiver, bounds_of, is_input_kind}
-use Rattle.fw_model.specs.Machine.{Machine, Numbered, Write, Written, checkpoint, logged_event, Progress, acknowledged, places, first_state, front_of, is_failed}
+use Rattle.fw_flow.specs.Dataflow.{System, kind_of, policy_of, receiver, bounds_of, is_input_kind, places}
+use Rattle.fw_model.specs.Machine.{Machine, Numbered, Write, Written, checkpoint, logged_event, Progress, acknowledged, first_state, front_of, is_failed}
 use Rattle.fw_flow.specs.declared.choice.Choice.{Choice}
-use Rattle.fw_model.specs.Choice.{View, Restoring, by_batches, by_bound, by_anything, by_checkpoints, by_events, restoring, HasCheckpoint, IsRestorable, cut_of, filtered}
-use Rattle.fw_model.specs.Steps.{Effect, Outcome, did, idle, LeadsTo, Steps, Run, write_of_event, checkpoint_of, is_eager, same_front, is_within, GrowsTo, AcknowledgesOldest, is_one_of, is_in_flight, is_kept_write, kept_writes, IsSettledCut, CutsTo, lies_below, after_collection, front_of_cut}
+use Rattle.fw_model.specs.Choice.{View, HasCheckpoint, IsRestorable, cut_of, filtered}
+use Rattle.fw_model.specs.Steps.{Effect, Outcome, did, idle, LeadsTo, Steps, Run, write_of_event, checkpoint_of, is_eager, GrowsTo, AcknowledgesOldest, is_one_of, is_in_flight, is_kept_write, kept_writes, IsSettledCut, CutsTo, lies_below, after_collection, front_of_cut}
+use Rattle.fw_flow.specs.declared.restoring.Restoring.{Restoring}
+use Rattle.fw_flow.specs.declared.restoring.Restoring.TheVariants.{Batches, Bound, Anything, Checkpoints, Events}
+use Rattle.fw_flow.specs.Restoring.{restoring, way_of}
 use Rattle.fw_model.specs.LawsOfRecoveries.{CandidatesLieWithinSettled}
 use Rattle.fw_model.proofs.Decisions.{two_ways}
 use Rattle.fw_model.proofs.RunLaws.{none-inside}
@@ -80,20 +81,6 @@ settled-grows sys state done settled g p l t i = elim (cases_Bool (is_failed sta
   | inl lost ↦ subst (λ os. frontier_of (bounds_of sys.flow p) os t ≡ true) (sym (g.failed p l lost)) i
   | inr live ↦ (g.each p l live).same t ∙ or_left (frontier_of (bounds_of sys.flow p) (front_of state.settled p) t) (done p t) i
 ]
-
--- a front all of whose outside stamps are outside another holds it
-pub is_within-holds : (b : Bounds) (g f : Front) → is_within g f ≡ true → Within (frontier_of b g) (frontier_of b f)
-is_within-holds b g f k t i =
-    let a = and_parts (in_domain b t) (inside g t) i in
-    and_from (in_domain b t) (inside f t) a.0 (all_outside f k)
-  where
-    all_outside : (os : Front) → list_all (λ o. not (inside g o)) os ≡ true → inside os t ≡ true
-    all_outside [] k = refl
-    all_outside (o ∷ os) k =
-        let x = and_parts (not (inside g o)) (list_all (λ o. not (inside g o)) os) k in
-        let above : leq o t ≡ false = false_from_ne_true (leq o t) (λ l.
-        two_ways (not (inside g o)) x.0 (ap not (inside-closed g o t l (and_parts (in_domain b t) (inside g t) i).1))) in
-        and_from (not (leq o t)) (inside os t) (ap not above) (all_outside os x.1)
 
 cut-settled : (sys : System) (p : ℕ) (cut : Cut) (before after g : Front) (low : List Front) (h : List Numbered) → IsSettledCut sys p cut before after
     → is_kept_write cut (checkpoint g low) h ≡ true → Within (frontier_of (bounds_of sys.flow p) g) (frontier_of (bounds_of sys.flow p) before)
@@ -187,18 +174,18 @@ checkpoint-within sys settled view p f (write ∷ writes) a k =
     ]
     by n (logged_event serial) far h rest k = elim k [ inl c ↦ absurd c | inr c ↦ rest c ]
 
-pub restorable-within : (sys : System) (state : Machine) (view : View) (p : ℕ) (way : Restoring) (f : Front) → p < length sys.flow.nodes → (way ≡ by_batches → ⊥)
+pub restorable-within : (sys : System) (state : Machine) (view : View) (p : ℕ) (way : Restoring) (f : Front) → p < length sys.flow.nodes → (way ≡ Batches → ⊥)
     → HasWritesSettled sys state → IsRestorable sys state view p way f → IsSettled sys state.settled p f
-restorable-within sys state view p by_batches f l n a k = absurd (n refl)
-restorable-within sys state view p by_bound f l n a k = λ _. k.0
-restorable-within sys state view p by_anything f l n a k = λ _. k
-restorable-within sys state view p by_checkpoints f l n a k = elim k [
+restorable-within sys state view p Batches f l n a k = absurd (n refl)
+restorable-within sys state view p Bound f l n a k = λ _. k.0
+restorable-within sys state view p Anything f l n a k = λ _. k
+restorable-within sys state view p Checkpoints f l n a k = elim k [
   | inl e ↦ λ _ t i. absurd (none-inside (bounds_of sys.flow p) t (subst (λ os. frontier_of (bounds_of sys.flow p) os t ≡ true) e i))
   | inr c ↦ checkpoint-within sys state.settled view p f state.writes a c
 ]
-restorable-within sys state view p by_events f l n a k = λ _. k.0
+restorable-within sys state view p Events f l n a k = λ _. k.0
 
-pub not_batches : (kind : Kind) (p : Policy) → is_input_kind kind ≡ false → restoring kind p ≡ by_batches → ⊥
+pub not_batches : (kind : Kind) (p : Policy) → is_input_kind kind ≡ false → restoring kind p ≡ Batches → ⊥
 not_batches Input p n e = two_ways true refl n
 not_batches OutputEpoch p n e = cc
 not_batches OutputNumber p n e = cc
@@ -206,5 +193,5 @@ not_batches kind p n e = not_by_batches p e
 
 pub candidates-within_settled : CandidatesLieWithinSettled
 candidates-within_settled sys steps outcomes last r lost view p f l n k =
-    restorable-within sys last view p (restoring (kind_of sys.flow p) (policy_of sys.flow p)) f l (not_batches (kind_of sys.flow p) (policy_of sys.flow p) n)
+    restorable-within sys last view p (way_of sys.flow p) f l (not_batches (kind_of sys.flow p) (policy_of sys.flow p) n)
     (run-writes sys steps outcomes (first_state sys) last r tt) k.1 l

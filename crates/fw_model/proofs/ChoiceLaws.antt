@@ -26,13 +26,18 @@ use Rattle.fw_flow.specs.Projection.{events_at, all_inside, phi}
 use Rattle.fw_model.specs.History.{delivered, sent}
 use Rattle.fw_model.specs.Machine.{Machine, Numbered, Write, bound_of, events, front_of}
 use Rattle.fw_flow.specs.declared.choice.Choice.{Choice}
-use Rattle.fw_model.specs.Choice.{View, kept, ever, Restoring, by_batches, by_bound, by_anything, by_checkpoints, by_events, until, AllLogged, IsRestorable, HoldsLow, restoring_of_policy, restoring, can_resend, IsCandidate, IsCutWithin, stamp_of_notice, stamps_from, set_of, takes_its_cut, takes_its_notes, cut_of, note_of, kept_of, delivered_cover, notified_cover, sent_cover, discarded_at, discarded_cover}
-use Rattle.fw_model.specs.LawsOfChoices.{ConsistentChoicesHaveUnion, EachLiesWithinUnion, LargestChoiceIsOne, IsUnionOfCuts, IsUnionOfChoices, DeliveredOfUnion, NotifiedOfUnion, DiscardedOfUnion, UnionOfCandidatesIsCandidate, UnionOfConsistentIsConsistent}
+use Rattle.fw_model.specs.Choice.{View, kept, ever, until, AllLogged, IsRestorable, HoldsLow, IsCandidate, IsCutWithin, cut_of, note_of, kept_of}
+use Rattle.fw_model.specs.LawsOfChoices.{ConsistentChoicesHaveUnion, EachLiesWithinUnion, LargestChoiceIsOne, DeliveredOfUnion, NotifiedOfUnion, DiscardedOfUnion, UnionOfCandidatesIsCandidate, UnionOfConsistentIsConsistent}
+use Rattle.fw_flow.specs.declared.restoring.Restoring.{Restoring}
+use Rattle.fw_flow.specs.declared.restoring.Restoring.TheVariants.{Batches, Bound, Anything, Checkpoints, Events}
+use Rattle.fw_flow.specs.Restoring.{restoring_of_policy, restoring, can_resend, way_of}
+use Rattle.fw_model.specs.Covers.{stamp_of_notice, stamps_from, set_of, takes_its_cut, takes_its_notes, discarded_at, covers_in, tallies_in}
 use Rattle.fw_model.proofs.PhiLaws.{phi-monotone, all_inside-monotone}
 use Rattle.fw_model.proofs.PsiLaws.{same_tests, psi-monotone, psi-join}
 use Rattle.fw_model.proofs.MeetLaws.{one_within}
 use Rattle.fw_model.proofs.SendsLaws.{IsOfCause, sent_by-of_cause}
 use Rattle.fw_model.proofs.SequenceLaws.{bounds-sequence}
+use Rattle.fw_model.specs.Unions.{IsUnionOfCuts, IsUnionOfChoices}
 
 -- ---- the largest choice
 
@@ -45,7 +50,7 @@ same_fronts b f g cf cg v w =
 
 -- candidates that lie within each other are one cut
 same_cuts : (sys : System) (state : Machine) (lost : ℕ → Bool) (view : View) (p : ℕ) (x y : Cut) → IsCandidate sys state lost view p x
-    → IsCandidate sys state lost view p y → IsCutWithin sys p x y → IsCutWithin sys p y x → x ≡ y
+    → IsCandidate sys state lost view p y → IsCutWithin sys.flow p x y → IsCutWithin sys.flow p y x → x ≡ y
 same_cuts sys state lost view p Present Present i j v w = refl
 same_cuts sys state lost view p Present (At g) i j v w = absurd v
 same_cuts sys state lost view p (At f) Present i j v w = absurd w
@@ -136,24 +141,25 @@ union-within : (b : Bounds) (u : Front) (f : Frontier) → Names b u f → Withi
 union-within b u f n t k = sym (n.same t) ∙ k
 
 pub delivered-union : DeliveredOfUnion
-delivered-union sys state p d Present y z w t k =
-    or_left (delivered_cover sys state p d Present t) (delivered_cover sys state p d y t) (sym (ap (λ c. delivered_cover sys state p d c t) w) ∙ k)
-delivered-union sys state p d (At f) Present z w t k =
-    or_right (delivered_cover sys state p d (At f) t) (delivered_cover sys state p d Present t) (sym (ap (λ c. delivered_cover sys state p d c t) w) ∙ k)
-delivered-union sys state p d (At f) (At g) Present w t k = absurd w
-delivered-union sys state p d (At f) (At g) (At u) w t k =
+delivered-union sys state d Present y z w t k =
+    or_left ((covers_in sys state).delivered d Present t) ((covers_in sys state).delivered d y t) (sym (ap (λ c. (covers_in sys state).delivered d c t) w) ∙ k)
+delivered-union sys state d (At f) Present z w t k =
+    or_right ((covers_in sys state).delivered d (At f) t) ((covers_in sys state).delivered d Present t) (sym (ap (λ c. (covers_in sys state).delivered d c t) w) ∙ k)
+delivered-union sys state d (At f) (At g) Present w t k = absurd w
+delivered-union sys state d (At f) (At g) (At u) w t k =
+    let p = receiver sys.flow d in
     let b = bounds_of sys.flow p in
     let ss = map (λ m. m.at) (delivered (events state.history) d) in
     let v = union-within b u (join (frontier_of b f) (frontier_of b g)) w in
-    flag-divides (takes_its_cut (restoring (kind_of sys.flow p) (policy_of sys.flow p))) (frontier_of b u) (frontier_of b f) (frontier_of b g)
+    flag-divides (takes_its_cut (way_of sys.flow p)) (frontier_of b u) (frontier_of b f) (frontier_of b g)
     (cover b (filter (frontier_of b u) ss)) (cover b (filter (frontier_of b f) ss)) (cover b (filter (frontier_of b g) ss))
     v (cover-divides b (frontier_of b u) (frontier_of b f) (frontier_of b g) ss v) t k
 
 pub notified-union : NotifiedOfUnion
 notified-union sys state p Present y z w t k =
-    or_left (notified_cover sys state p Present t) (notified_cover sys state p y t) (sym (ap (λ c. notified_cover sys state p c t) w) ∙ k)
+    or_left ((covers_in sys state).notified p Present t) ((covers_in sys state).notified p y t) (sym (ap (λ c. (covers_in sys state).notified p c t) w) ∙ k)
 notified-union sys state p (At f) Present z w t k =
-    or_right (notified_cover sys state p (At f) t) (notified_cover sys state p Present t) (sym (ap (λ c. notified_cover sys state p c t) w) ∙ k)
+    or_right ((covers_in sys state).notified p (At f) t) ((covers_in sys state).notified p Present t) (sym (ap (λ c. (covers_in sys state).notified p c t) w) ∙ k)
 notified-union sys state p (At f) (At g) Present w t k = absurd w
 notified-union sys state p (At f) (At g) (At u) w t k =
     let b = bounds_of sys.flow p in
@@ -201,39 +207,41 @@ sent-divides sys state e h f g ff fg w =
           ]
     ]
 
-sent_cover-divides : (sys : System) (state : Machine) (e : ℕ) (h f g : Frontier) → IsFrontier (bounds_of sys.flow (sender sys.flow e)) f
-    → IsFrontier (bounds_of sys.flow (sender sys.flow e)) g → Within h (join f g)
-    → Within (sent_cover sys state (sender sys.flow e) e h) (join (sent_cover sys state (sender sys.flow e) e f) (sent_cover sys state (sender sys.flow e) e g))
-sent_cover-divides sys state e h f g ff fg w t k =
+sent-divides_cover : (sys : System) (state : Machine) (e : ℕ) (h f g : Front)
+    → (let b = bounds_of sys.flow (sender sys.flow e) in Within (frontier_of b h) (join (frontier_of b f) (frontier_of b g)))
+    → Within ((tallies_in sys state).sent e (At h)) (join ((tallies_in sys state).sent e (At f)) ((tallies_in sys state).sent e (At g)))
+sent-divides_cover sys state e hs fs gs w t k =
     let ms = sent sys (events state.history) e in
+    let b = bounds_of sys.flow (sender sys.flow e) in
+    let h = frontier_of b hs in
+    let f = frontier_of b fs in
+    let g = frontier_of b gs in
     let from : Frontier → Message → Bool = λ x m. all_inside x m.causes in
     and_divides (in_domain (bounds_of sys.flow (receiver sys.flow e)) t) (some_above (stamps_from h ms) t) (some_above (stamps_from f ms) t) (some_above (stamps_from g ms) t)
     (λ i. ap (λ c. c || some_above (stamps_from g ms) t) (sent-some (from f) ms t) ∙ ap (λ c. some_of (from f) (λ m. m.at) ms t || c) (sent-some (from g) ms t)
-    ∙ some-divides (from h) (from f) (from g) (λ m. m.at) ms t (sent-divides sys state e h f g ff fg w) (sym (sent-some (from h) ms t) ∙ i)) k
+    ∙ some-divides (from h) (from f) (from g) (λ m. m.at) ms t (sent-divides sys state e h f g (frontier-closed b fs) (frontier-closed b gs) w) (sym (sent-some (from h) ms t) ∙ i)) k
 
-discarded_at-divides : (sys : System) (state : Machine) (e : ℕ) (way : Restoring) (h f g : Frontier) → IsFrontier (bounds_of sys.flow (sender sys.flow e)) f
-    → IsFrontier (bounds_of sys.flow (sender sys.flow e)) g → Within h (join f g)
-    → Within (discarded_at sys state (sender sys.flow e) e way h) (join (discarded_at sys state (sender sys.flow e) e way f) (discarded_at sys state (sender sys.flow e) e way g))
-discarded_at-divides sys state e by_anything h f g ff fg w t k = sym (psi-join sys e f g t) ∙ psi-monotone sys e h (join f g) w t k
-discarded_at-divides sys state e way h f g ff fg w t k = sent_cover-divides sys state e h f g ff fg w t k
+discarded_at-divides : (sys : System) (state : Machine) (e : ℕ) (way : Restoring) (h f g : Front)
+    → (let b = bounds_of sys.flow (sender sys.flow e) in Within (frontier_of b h) (join (frontier_of b f) (frontier_of b g)))
+    → (let ts = tallies_in sys state in Within (discarded_at sys.flow e way (ts.sent e (At h)) h) (join (discarded_at sys.flow e way (ts.sent e (At f)) f) (discarded_at sys.flow e way (ts.sent e (At g)) g)))
+discarded_at-divides sys state e Anything h f g w t k =
+    let b = bounds_of sys.flow (sender sys.flow e) in
+    sym (psi-join sys.flow e (frontier_of b f) (frontier_of b g) t) ∙ psi-monotone sys.flow e (frontier_of b h) (join (frontier_of b f) (frontier_of b g)) w t k
+discarded_at-divides sys state e way h f g w t k = sent-divides_cover sys state e h f g w t k
 
 pub discarded-union : DiscardedOfUnion
 discarded-union sys state e Present y z w t k =
-    let p = sender sys.flow e in
-    or_left (discarded_cover sys state p e Present t) (discarded_cover sys state p e y t) (sym (ap (λ c. discarded_cover sys state p e c t) w) ∙ k)
+    or_left ((covers_in sys state).discarded e Present t) ((covers_in sys state).discarded e y t) (sym (ap (λ c. (covers_in sys state).discarded e c t) w) ∙ k)
 discarded-union sys state e (At f) Present z w t k =
-    let p = sender sys.flow e in
-    or_right (discarded_cover sys state p e (At f) t) (discarded_cover sys state p e Present t) (sym (ap (λ c. discarded_cover sys state p e c t) w) ∙ k)
+    or_right ((covers_in sys state).discarded e (At f) t) ((covers_in sys state).discarded e Present t) (sym (ap (λ c. (covers_in sys state).discarded e c t) w) ∙ k)
 discarded-union sys state e (At f) (At g) Present w t k = absurd w
 discarded-union sys state e (At f) (At g) (At u) w t k =
     let p = sender sys.flow e in
     let b = bounds_of sys.flow p in
-    let way = restoring (kind_of sys.flow p) (policy_of sys.flow p) in
-    let v = union-within b u (join (frontier_of b f) (frontier_of b g)) w in
-    flag-divides (can_resend (policy_of sys.flow p)) nothing nothing nothing
-    (discarded_at sys state p e way (frontier_of b u)) (discarded_at sys state p e way (frontier_of b f)) (discarded_at sys state p e way (frontier_of b g))
-    (λ s i. i)
-    (discarded_at-divides sys state e way (frontier_of b u) (frontier_of b f) (frontier_of b g) (frontier-closed b f) (frontier-closed b g) v) t k
+    let way = way_of sys.flow p in
+    let at : Front → Frontier = λ x. discarded_at sys.flow e way ((tallies_in sys state).sent e (At x)) x in
+    flag-divides (can_resend (policy_of sys.flow p)) nothing nothing nothing (at u) (at f) (at g) (λ s i. i)
+    (discarded_at-divides sys state e way u f g (union-within b u (join (frontier_of b f) (frontier_of b g)) w)) t k
 
 -- ---- the union of two candidates
 
@@ -275,21 +283,21 @@ chain-union sys state view p way f g u cf cg n one a b = elim (greater-union (bo
 
 restorable-union : (sys : System) (state : Machine) (view : View) (p : ℕ) (way : Restoring) (f g u : Front) → IsCanonical (bounds_of sys.flow p) f
     → IsCanonical (bounds_of sys.flow p) g → Names (bounds_of sys.flow p) u (join (frontier_of (bounds_of sys.flow p) f) (frontier_of (bounds_of sys.flow p) g))
-    → (way ≡ by_batches → OneWithin (bounds_of sys.flow p) f g) → (way ≡ by_checkpoints → OneWithin (bounds_of sys.flow p) f g)
+    → (way ≡ Batches → OneWithin (bounds_of sys.flow p) f g) → (way ≡ Checkpoints → OneWithin (bounds_of sys.flow p) f g)
     → IsRestorable sys state view p way f → IsRestorable sys state view p way g → IsRestorable sys state view p way u
-restorable-union sys state view p by_batches f g u cf cg n m c a b = chain-union sys state view p by_batches f g u cf cg n (m refl) a b
-restorable-union sys state view p by_bound f g u cf cg n m c a b =
+restorable-union sys state view p Batches f g u cf cg n m c a b = chain-union sys state view p Batches f g u cf cg n (m refl) a b
+restorable-union sys state view p Bound f g u cf cg n m c a b =
     let s = bounds_of sys.flow p in
     let v = union-within s u (join (frontier_of s f) (frontier_of s g)) n in (
       divided (frontier_of s u) (frontier_of s f) (frontier_of s g) (frontier_of s (front_of state.settled p)) v a.0 b.0,
       divided (frontier_of s u) (frontier_of s f) (frontier_of s g) (frontier_of s (until (bound_of state p))) v a.1 b.1,
     )
-restorable-union sys state view p by_anything f g u cf cg n m c a b =
+restorable-union sys state view p Anything f g u cf cg n m c a b =
     let s = bounds_of sys.flow p in
     divided (frontier_of s u) (frontier_of s f) (frontier_of s g) (frontier_of s (front_of state.settled p))
     (union-within s u (join (frontier_of s f) (frontier_of s g)) n) a b
-restorable-union sys state view p by_checkpoints f g u cf cg n m c a b = chain-union sys state view p by_checkpoints f g u cf cg n (c refl) a b
-restorable-union sys state view p by_events f g u cf cg n m c a b =
+restorable-union sys state view p Checkpoints f g u cf cg n m c a b = chain-union sys state view p Checkpoints f g u cf cg n (c refl) a b
+restorable-union sys state view p Events f g u cf cg n m c a b =
     let s = bounds_of sys.flow p in
     let v = union-within s u (join (frontier_of s f) (frontier_of s g)) n in (
       divided (frontier_of s u) (frontier_of s f) (frontier_of s g) (frontier_of s (front_of state.settled p)) v a.0 b.0,
@@ -301,14 +309,14 @@ low-union kept low f u w h = λ t k. w t (h t k)
 low-union ever low f u w h = tt
 
 -- only an input is restored by its batches
-pub not_by_batches : (p : Policy) → restoring_of_policy p ≡ by_batches → ⊥
+pub not_by_batches : (p : Policy) → restoring_of_policy p ≡ Batches → ⊥
 not_by_batches policy.None e = cc
 not_by_batches policy.Lazy e = cc
 not_by_batches policy.Logged e = cc
 not_by_batches policy.Eager e = cc
 not_by_batches policy.Full e = cc
 
-pub by_batches-input : (kind : Kind) (p : Policy) → restoring kind p ≡ by_batches → kind ≡ Input
+pub by_batches-input : (kind : Kind) (p : Policy) → restoring kind p ≡ Batches → kind ≡ Input
 by_batches-input Input p e = refl
 by_batches-input OutputEpoch p e = absurd (cc)
 by_batches-input OutputNumber p e = absurd (cc)
@@ -318,7 +326,7 @@ pub bounds-input : (flow : Dataflow) (p : ℕ) → kind_of flow p ≡ Input → 
 unfolding bounds_of
 bounds-input flow p is = ap (λ k. bounds_of_domain flow (domain_of_kind flow k)) is
 
-batches-chain : (sys : System) (p : ℕ) (f g : Front) → restoring (kind_of sys.flow p) (policy_of sys.flow p) ≡ by_batches → OneWithin (bounds_of sys.flow p) f g
+batches-chain : (sys : System) (p : ℕ) (f g : Front) → way_of sys.flow p ≡ Batches → OneWithin (bounds_of sys.flow p) f g
 unfolding OneWithin
 batches-chain sys p f g e =
     let b = bounds_of sys.flow p in
@@ -334,7 +342,7 @@ candidates-union sys state lost view p (At f) (At g) Present i j w c = absurd w
 candidates-union sys state lost view p (At f) (At g) (At u) i j w c =
     let b = bounds_of sys.flow p in (
       w.canonical,
-      restorable-union sys state view p (restoring (kind_of sys.flow p) (policy_of sys.flow p)) f g u i.0 j.0 w (batches-chain sys p f g) c i.1 j.1,
+      restorable-union sys state view p (way_of sys.flow p) f g u i.0 j.0 w (batches-chain sys p f g) c i.1 j.1,
       low-union view (frontier_of b (front_of state.low p)) (frontier_of b f) (frontier_of b u)
           (λ t k. w.same t ∙ or_left (frontier_of b f t) (frontier_of b g t) k) i.2,
     )
@@ -342,19 +350,19 @@ candidates-union sys state lost view p (At f) (At g) (At u) i j w c =
 -- ---- the union of two choices
 
 -- each of two cuts lies within their union
-left-within : (sys : System) (p : ℕ) (x y z : Cut) → IsUnionOfCuts sys p x y z → Within (set_of sys p x) (set_of sys p z)
-left-within sys p Present y z w t k = ap (λ c. set_of sys p c t) w ∙ k
+left-within : (sys : System) (p : ℕ) (x y z : Cut) → IsUnionOfCuts sys p x y z → Within (set_of sys.flow p x) (set_of sys.flow p z)
+left-within sys p Present y z w t k = ap (λ c. set_of sys.flow p c t) w ∙ k
 left-within sys p (At f) Present z w t k =
-    ap (λ c. set_of sys p c t) w ∙ (and_parts (in_domain (bounds_of sys.flow p) t) (inside f t) k).0
+    ap (λ c. set_of sys.flow p c t) w ∙ (and_parts (in_domain (bounds_of sys.flow p) t) (inside f t) k).0
 left-within sys p (At f) (At g) Present w t k = absurd w
 left-within sys p (At f) (At g) (At u) w t k =
     w.same t ∙ or_left (frontier_of (bounds_of sys.flow p) f t) (frontier_of (bounds_of sys.flow p) g t) k
 
-right-within : (sys : System) (p : ℕ) (x y z : Cut) → IsUnionOfCuts sys p x y z → Within (set_of sys p y) (set_of sys p z)
-right-within sys p Present Present z w t k = ap (λ c. set_of sys p c t) w ∙ k
+right-within : (sys : System) (p : ℕ) (x y z : Cut) → IsUnionOfCuts sys p x y z → Within (set_of sys.flow p y) (set_of sys.flow p z)
+right-within sys p Present Present z w t k = ap (λ c. set_of sys.flow p c t) w ∙ k
 right-within sys p Present (At g) z w t k =
-    ap (λ c. set_of sys p c t) w ∙ (and_parts (in_domain (bounds_of sys.flow p) t) (inside g t) k).0
-right-within sys p (At f) Present z w t k = ap (λ c. set_of sys p c t) w ∙ k
+    ap (λ c. set_of sys.flow p c t) w ∙ (and_parts (in_domain (bounds_of sys.flow p) t) (inside g t) k).0
+right-within sys p (At f) Present z w t k = ap (λ c. set_of sys.flow p c t) w ∙ k
 right-within sys p (At f) (At g) Present w t k = absurd w
 right-within sys p (At f) (At g) (At u) w t k =
     w.same t ∙ or_right (frontier_of (bounds_of sys.flow p) f t) (frontier_of (bounds_of sys.flow p) g t) k
@@ -378,15 +386,15 @@ same_bits false b c p q = sym (ap (λ x. x || c) p ∙ q)
 
 -- and so are the notification frontiers
 notes-union : (sys : System) (one other union : Choice) → length one.notes ≡ length sys.flow.nodes → length other.notes ≡ length sys.flow.nodes
-    → IsUnionOfChoices sys one other union → (p : ℕ) (t : Stamp) → note_of sys union p t ≡ join (note_of sys one p) (note_of sys other p) t
+    → IsUnionOfChoices sys one other union → (p : ℕ) (t : Stamp) → note_of sys.flow union p t ≡ join (note_of sys.flow one p) (note_of sys.flow other p) t
 notes-union sys one other union a b w p t = elim (cases_lt p (length sys.flow.nodes)) [
   | inl l ↦ (w.notes p l).same t
   | inr l ↦
       let past = frontier_of (bounds_of sys.flow p) [] t in
-      let i : note_of sys one p t ≡ past = ap (λ os. frontier_of (bounds_of sys.flow p) os t) (get_or_past one.notes p [] (omega arith)) in
-      let j : note_of sys other p t ≡ past = ap (λ os. frontier_of (bounds_of sys.flow p) os t) (get_or_past other.notes p [] (omega arith)) in
-      let k : note_of sys union p t ≡ past = ap (λ os. frontier_of (bounds_of sys.flow p) os t) (get_or_past union.notes p [] (omega (arith, w.one_note_each))) in
-      k ∙ same_bits past (note_of sys one p t) (note_of sys other p t) i j
+      let i : note_of sys.flow one p t ≡ past = ap (λ os. frontier_of (bounds_of sys.flow p) os t) (get_or_past one.notes p [] (omega arith)) in
+      let j : note_of sys.flow other p t ≡ past = ap (λ os. frontier_of (bounds_of sys.flow p) os t) (get_or_past other.notes p [] (omega arith)) in
+      let k : note_of sys.flow union p t ≡ past = ap (λ os. frontier_of (bounds_of sys.flow p) os t) (get_or_past union.notes p [] (omega (arith, w.one_note_each))) in
+      k ∙ same_bits past (note_of sys.flow one p t) (note_of sys.flow other p t) i j
 ]
 
 -- the union of consistent choices is consistent
@@ -395,11 +403,11 @@ union-consistent sys state lost view one other union a b w offered =
     let h = events state.history in
     let cut = cuts-union sys one other union a.one_cut_each b.one_cut_each w in
     let note = notes-union sys one other union a.one_note_each b.one_note_each w in
-    let left : (p : ℕ) → Within (kept_of sys one p) (kept_of sys union p) = λ p. left-within sys p (cut_of one p) (cut_of other p) (cut_of union p) (cut p) in
-    let right : (p : ℕ) → Within (kept_of sys other p) (kept_of sys union p) = λ p. right-within sys p (cut_of one p) (cut_of other p) (cut_of union p) (cut p) in
-    let note_left : (p : ℕ) → Within (note_of sys one p) (note_of sys union p) = λ p t k. note p t ∙ or_left (note_of sys one p t) (note_of sys other p t) k in
-    let note_right : (p : ℕ) → Within (note_of sys other p) (note_of sys union p) = λ p t k. note p t ∙ or_right (note_of sys one p t) (note_of sys other p t) k in
-    let note_parts : (p : ℕ) → Within (note_of sys union p) (join (note_of sys one p) (note_of sys other p)) = λ p t k. sym (note p t) ∙ k in
+    let left : (p : ℕ) → Within (kept_of sys.flow one p) (kept_of sys.flow union p) = λ p. left-within sys p (cut_of one p) (cut_of other p) (cut_of union p) (cut p) in
+    let right : (p : ℕ) → Within (kept_of sys.flow other p) (kept_of sys.flow union p) = λ p. right-within sys p (cut_of one p) (cut_of other p) (cut_of union p) (cut p) in
+    let note_left : (p : ℕ) → Within (note_of sys.flow one p) (note_of sys.flow union p) = λ p t k. note p t ∙ or_left (note_of sys.flow one p t) (note_of sys.flow other p t) k in
+    let note_right : (p : ℕ) → Within (note_of sys.flow other p) (note_of sys.flow union p) = λ p t k. note p t ∙ or_right (note_of sys.flow one p t) (note_of sys.flow other p t) k in
+    let note_parts : (p : ℕ) → Within (note_of sys.flow union p) (join (note_of sys.flow one p) (note_of sys.flow other p)) = λ p t k. sym (note p t) ∙ k in
     record {
       one_cut_each = w.one_cut_each;
       one_note_each = w.one_note_each;
@@ -408,28 +416,28 @@ union-consistent sys state lost view one other union a b w offered =
       delivered = λ d l.
           let p = receiver sys.flow d in
           let q = sender sys.flow d in
-          divided (delivered_cover sys state p d (cut_of union p)) (delivered_cover sys state p d (cut_of one p)) (delivered_cover sys state p d (cut_of other p)) (phi sys h d (kept_of sys union q))
-          (delivered-union sys state p d (cut_of one p) (cut_of other p) (cut_of union p) (cut p))
-          (λ t i. phi-monotone sys h d (kept_of sys one q) (kept_of sys union q) (left q) t (a.delivered d l t i))
-          (λ t i. phi-monotone sys h d (kept_of sys other q) (kept_of sys union q) (right q) t (b.delivered d l t i));
+          divided ((covers_in sys state).delivered d (cut_of union p)) ((covers_in sys state).delivered d (cut_of one p)) ((covers_in sys state).delivered d (cut_of other p)) (phi sys h d (kept_of sys.flow union q))
+          (delivered-union sys state d (cut_of one p) (cut_of other p) (cut_of union p) (cut p))
+          (λ t i. phi-monotone sys h d (kept_of sys.flow one q) (kept_of sys.flow union q) (left q) t (a.delivered d l t i))
+          (λ t i. phi-monotone sys h d (kept_of sys.flow other q) (kept_of sys.flow union q) (right q) t (b.delivered d l t i));
       discarded = λ e l.
           let p = receiver sys.flow e in
           let q = sender sys.flow e in
-          divided (discarded_cover sys state q e (cut_of union q)) (discarded_cover sys state q e (cut_of one q)) (discarded_cover sys state q e (cut_of other q)) (kept_of sys union p)
+          divided ((covers_in sys state).discarded e (cut_of union q)) ((covers_in sys state).discarded e (cut_of one q)) ((covers_in sys state).discarded e (cut_of other q)) (kept_of sys.flow union p)
           (discarded-union sys state e (cut_of one q) (cut_of other q) (cut_of union q) (cut q))
           (λ t i. left p t (a.discarded e l t i)) (λ t i. right p t (b.discarded e l t i));
       notified = λ p l.
-          divided (notified_cover sys state p (cut_of union p)) (notified_cover sys state p (cut_of one p)) (notified_cover sys state p (cut_of other p)) (note_of sys union p)
+          divided ((covers_in sys state).notified p (cut_of union p)) ((covers_in sys state).notified p (cut_of one p)) ((covers_in sys state).notified p (cut_of other p)) (note_of sys.flow union p)
           (notified-union sys state p (cut_of one p) (cut_of other p) (cut_of union p) (cut p))
           (λ t i. note_left p t (a.notified p l t i)) (λ t i. note_right p t (b.notified p l t i));
-      own = λ p l. divided (note_of sys union p) (note_of sys one p) (note_of sys other p) (kept_of sys union p) (note_parts p)
+      own = λ p l. divided (note_of sys.flow union p) (note_of sys.flow one p) (note_of sys.flow other p) (kept_of sys.flow union p) (note_parts p)
           (λ t i. left p t (a.own p l t i)) (λ t i. right p t (b.own p l t i));
       notes = λ d l.
           let p = receiver sys.flow d in
           let q = sender sys.flow d in
-          divided (note_of sys union p) (note_of sys one p) (note_of sys other p) (phi sys h d (note_of sys union q)) (note_parts p)
-          (λ t i. phi-monotone sys h d (note_of sys one q) (note_of sys union q) (note_left q) t (a.notes d l t i))
-          (λ t i. phi-monotone sys h d (note_of sys other q) (note_of sys union q) (note_right q) t (b.notes d l t i));
+          divided (note_of sys.flow union p) (note_of sys.flow one p) (note_of sys.flow other p) (phi sys h d (note_of sys.flow union q)) (note_parts p)
+          (λ t i. phi-monotone sys h d (note_of sys.flow one q) (note_of sys.flow union q) (note_left q) t (a.notes d l t i))
+          (λ t i. phi-monotone sys h d (note_of sys.flow other q) (note_of sys.flow union q) (note_right q) t (b.notes d l t i));
     }
 
 -- ---- each two choices have a union, which they lie within
@@ -457,7 +465,7 @@ have-union sys state lost view one other a b =
         one_note_each = length-map-range_with_len note 0 n;
         cuts = λ p l. subst (λ z. IsUnionOfCuts sys p (cut_of one p) (cut_of other p) z) (sym (get_or-map-range_with_len cut 0 n p p Present l (omega arith)))
             (union_cut-union sys state lost view p (cut_of one p) (cut_of other p) (a.offered p l) (b.offered p l));
-        notes = λ p l. subst (λ os. Names (bounds_of sys.flow p) os (join (note_of sys one p) (note_of sys other p)))
+        notes = λ p l. subst (λ os. Names (bounds_of sys.flow p) os (join (note_of sys.flow one p) (note_of sys.flow other p)))
             (sym (get_or-map-range_with_len note 0 n p p [] l (omega arith)))
             (names-join (bounds_of sys.flow p) (front_of one.notes p) (front_of other.notes p)
             (in_domain-canonical (bounds_of sys.flow p) (front_of one.notes p) (a.canonical p l))
@@ -465,16 +473,16 @@ have-union sys state lost view one other a b =
       },
     )
 
-left-cut : (sys : System) (p : ℕ) (x y z : Cut) → IsUnionOfCuts sys p x y z → IsCutWithin sys p x z
-left-cut sys p Present y z w = subst (λ c. IsCutWithin sys p Present c) (sym w) tt
-left-cut sys p (At f) Present z w = subst (λ c. IsCutWithin sys p (At f) c) (sym w) tt
+left-cut : (sys : System) (p : ℕ) (x y z : Cut) → IsUnionOfCuts sys p x y z → IsCutWithin sys.flow p x z
+left-cut sys p Present y z w = subst (λ c. IsCutWithin sys.flow p Present c) (sym w) tt
+left-cut sys p (At f) Present z w = subst (λ c. IsCutWithin sys.flow p (At f) c) (sym w) tt
 left-cut sys p (At f) (At g) Present w = tt
 left-cut sys p (At f) (At g) (At u) w = left-within sys p (At f) (At g) (At u) w
 
-right-cut : (sys : System) (p : ℕ) (x y z : Cut) → IsUnionOfCuts sys p x y z → IsCutWithin sys p y z
-right-cut sys p Present Present z w = subst (λ c. IsCutWithin sys p Present c) (sym w) tt
-right-cut sys p Present (At g) z w = subst (λ c. IsCutWithin sys p (At g) c) (sym w) tt
-right-cut sys p (At f) Present z w = subst (λ c. IsCutWithin sys p Present c) (sym w) tt
+right-cut : (sys : System) (p : ℕ) (x y z : Cut) → IsUnionOfCuts sys p x y z → IsCutWithin sys.flow p y z
+right-cut sys p Present Present z w = subst (λ c. IsCutWithin sys.flow p Present c) (sym w) tt
+right-cut sys p Present (At g) z w = subst (λ c. IsCutWithin sys.flow p (At g) c) (sym w) tt
+right-cut sys p (At f) Present z w = subst (λ c. IsCutWithin sys.flow p Present c) (sym w) tt
 right-cut sys p (At f) (At g) Present w = tt
 right-cut sys p (At f) (At g) (At u) w = right-within sys p (At f) (At g) (At u) w
 
@@ -482,10 +490,10 @@ pub within-union : EachLiesWithinUnion
 within-union sys one other union w = (
   record {
     cuts = λ p l. left-cut sys p (cut_of one p) (cut_of other p) (cut_of union p) (w.cuts p l);
-    notes = λ p l t k. (w.notes p l).same t ∙ or_left (note_of sys one p t) (note_of sys other p t) k;
+    notes = λ p l t k. (w.notes p l).same t ∙ or_left (note_of sys.flow one p t) (note_of sys.flow other p t) k;
   },
   record {
     cuts = λ p l. right-cut sys p (cut_of one p) (cut_of other p) (cut_of union p) (w.cuts p l);
-    notes = λ p l t k. (w.notes p l).same t ∙ or_right (note_of sys one p t) (note_of sys other p t) k;
+    notes = λ p l t k. (w.notes p l).same t ∙ or_right (note_of sys.flow one p t) (note_of sys.flow other p t) k;
   },
 )

@@ -3,7 +3,7 @@ use Rattle.std.proofs.Common.{◌≡◌, ℕ, ◌+◌, ◌<◌, Bool, true, not,
 use Rattle.std.specs.List.{AllByRecursion}
 use Rattle.std.proofs.lemmas.Bool.{and_parts, cond_both}
 use Rattle.fw_frontier.specs.Frontier.{Within}
-use Rattle.fw_frontier.specs.Front.{Front, frontier_of, IsCanonical}
+use Rattle.fw_frontier.specs.Front.{Front, frontier_of, IsCanonical, same_front, is_within}
 use Rattle.fw_flow.specs.declared.choice.Cut.{Cut}
 use Rattle.fw_flow.specs.declared.choice.Cut.TheVariants.{Present, At}
 use Rattle.fw_flow.specs.declared.event.Event.TheVariants.{Inject as Injected, Deliver as Delivered, Notify as Notified}
@@ -11,18 +11,16 @@ use Rattle.fw_flow.specs.declared.kind.Policy.{Policy}
 use Rattle.fw_flow.specs.declared.kind.Policy.TheVariants as policy
 use Rattle.fw_flow.specs.declared.step.Step.{Step}
 use Rattle.fw_flow.specs.declared.step.Step.TheVariants.{Inject, Deliver, Notify, Progress as ProgressStep, Checkpoint, Persist, Fail, Recover, Collect, Ack}
-use Rattle.fw_flow.specs.Dataflow.{System, kind_of, policy_of, receiver, bounds_of}
+use Rattle.fw_flow.specs.Dataflow.{System, policy_of, receiver, bounds_of, places}
 use Rattle.fw_flow.specs.WellFormed.{IsWellFormedSystem}
 use Rattle.fw_model.specs.Denotation.{Family, IsDenotation, rounds}
-use Rattle.fw_model.specs.Machine.{Machine, Numbered, Write, Written, checkpoint, logged_event, Progress, in_flight, acknowledged, collected, places, first_state, front_of, is_failed, bound_of}
+use Rattle.fw_model.specs.Machine.{Machine, Numbered, Write, Written, checkpoint, logged_event, Progress, in_flight, acknowledged, collected, first_state, front_of, is_failed, bound_of}
 use Rattle.fw_flow.specs.declared.choice.Choice.{Choice}
-use Rattle.fw_model.specs.Choice.{View, kept, ever, Restoring, by_batches, by_bound, by_anything, by_checkpoints, by_events, restoring, IsRestorable, IsCandidate, cut_of, IsConsistent, IsCutWithin, IsLargest, filtered}
-use Rattle.fw_model.specs.Steps.{Effect, Outcome, did, idle, LeadsTo, Run, write_of_event, checkpoint_of, is_eager, same_front, is_within, eager_writes, is_one_of, is_in_flight, without_lost, with_failed, is_kept_write, lies_below, after_collection, front_of_cut}
-use Rattle.fw_model.specs.LawsOfDenotation.{enough_rounds}
-use Rattle.fw_model.specs.LawsOfExistence.{AreCheckpointsChains}
-use Rattle.fw_model.specs.LawsOfFiltering.{IsFull}
-use Rattle.fw_model.specs.LawsOfSteps.{CanChoose, HasItsChoice}
-use Rattle.fw_model.specs.LawsOfChoosing.{low_choice, LowWatermarkIsConsistent, CheckpointsAreChains, RecoveryHasAChoice, FailedNodesAreRecovered, ReachedStatesHaveOneNextState, LargestChoiceHoldsLowWatermark, LowWatermarkNeverFalls, LargestOfKeptIsLargestOfEver}
+use Rattle.fw_model.specs.Choice.{View, kept, ever, IsRestorable, IsCandidate, cut_of, IsConsistent, IsCutWithin, IsLargest, filtered}
+use Rattle.fw_model.specs.Steps.{Effect, Outcome, did, idle, LeadsTo, Run, write_of_event, checkpoint_of, is_eager, eager_writes, is_one_of, is_in_flight, without_lost, with_failed, is_kept_write, lies_below, after_collection, front_of_cut}
+use Rattle.fw_model.specs.LawsOfChoosing.{LowWatermarkIsConsistent, CheckpointsAreChains, RecoveryHasAChoice, FailedNodesAreRecovered, ReachedStatesHaveOneNextState, LargestChoiceHoldsLowWatermark, LowWatermarkNeverFalls, LargestOfKeptIsLargestOfEver}
+use Rattle.fw_flow.specs.declared.restoring.Restoring.{Restoring}
+use Rattle.fw_flow.specs.declared.restoring.Restoring.TheVariants.{Batches, Bound, Anything, Checkpoints, Events}
 use Rattle.fw_model.proofs.Decisions.{two_ways}
 use Rattle.fw_model.proofs.DenotationLaws.{denotation-exists}
 use Rattle.fw_model.proofs.CheckpointLaws.{HoldsSettled, IsWriteSettled, AreWritesSettled, HasWritesSettled, grown-writes, settled-grows, each-passed, each-replaced, took-writes}
@@ -32,9 +30,14 @@ use Rattle.fw_model.proofs.RecoveryLaws.{IsLegalAndDenoted, all_kinds-denote, fi
 use Rattle.fw_model.proofs.SomeNextLaws.{exactly_one_next, recover-enabled}
 use Rattle.fw_model.proofs.SameInsideLaws.{at_node, IsLowConsistent}
 use Rattle.fw_model.proofs.WriteLaws.{some-checkpoint, checkpoint-some, pairs-append, pairs-passed, pairs-mapped, pairs-replaced, LiesBelow, IsWriteBelow, AreAscending, settled-below, ascending-chain, IsCollectedBelow, IsWriteCollectedBelow, kept-from_ever}
-use Rattle.fw_model.proofs.LowLaws.{event-low, same-low, keep-append, keep-all, keep-acknowledged, keep-failed, set-grows, at_most-refl, candidate-ever, offered-consistent, low-any, low-within, within-is, recovery-low, watermark-front, collection-low, first-low}
+use Rattle.fw_frontier.proofs.NamesLaws.{within-is}
+use Rattle.fw_model.proofs.LowLaws.{event-low, same-low, keep-append, keep-all, keep-acknowledged, keep-failed, set-grows, at_most-refl, candidate-ever, offered-consistent, low-any, low-within, recovery-low, watermark-front, collection-low, first-low}
 use Rattle.fw_model.proofs.DomainLaws.{has_epochs}
 use Rattle.fw_time.proofs.EachLaws.{each-weaker, each-append, each-one, each-map}
+use Rattle.fw_model.specs.Measure.{enough_rounds}
+use Rattle.fw_model.specs.Choosing.{AreCheckpointsChains, CanChoose, HasItsChoice, low_choice}
+use Rattle.fw_model.specs.Settled.{IsFull}
+use Rattle.fw_flow.specs.Restoring.{way_of}
 
 -- what holds of each state of a run
 pub record CanRecover (sys : System) (family : Family) (state : Machine) : Type 0 where
@@ -209,7 +212,7 @@ pub watermark-grows : (sys : System) (state : Machine) (notes : List Front) (cho
     → IsLargest sys state (IsCandidate sys state (λ p. true) kept) choice
     → (p : ℕ) → p < length sys.flow.nodes → Within (at_node sys state.low p) (at_node sys (map front_of_cut choice.cuts) p)
 watermark-grows sys state notes choice c m p l =
-    subst (IsCutWithin sys p (At (front_of state.low p))) (sym (watermark-front sys state choice m.consistent p l))
+    subst (IsCutWithin sys.flow p (At (front_of state.low p))) (sym (watermark-front sys state choice m.consistent p l))
     (low-within sys state notes c (λ q. true) kept choice m p l)
 
 took-below : (sys : System) (family : Family) (state : Machine) (step : Step) (next : Machine) (effect : Effect) → CanRecover sys family state
@@ -305,7 +308,7 @@ low-consistent sys w steps outcomes last r =
 -- ---- checkpoints are chains
 
 chain-of : (sys : System) (state : Machine) (view : View) (p : ℕ) (f g : Front) → p < length sys.flow.nodes → AreAscending sys state.writes
-    → IsRestorable sys state view p by_checkpoints f → IsRestorable sys state view p by_checkpoints g
+    → IsRestorable sys state view p Checkpoints f → IsRestorable sys state view p Checkpoints g
     → Within (frontier_of (bounds_of sys.flow p) f) (frontier_of (bounds_of sys.flow p) g) ⊎ Within (frontier_of (bounds_of sys.flow p) g) (frontier_of (bounds_of sys.flow p) f)
 chain-of sys state view p f g l a b c =
     let bounds = bounds_of sys.flow p in
@@ -383,21 +386,21 @@ never-falls sys w steps outcomes last r step next idle t p l = same-node sys las
 restorable-kept : (sys : System) (state : Machine) (p : ℕ) (way : Restoring) (f : Front) → p < length sys.flow.nodes → HasCollectedBelow sys state
     → IsCanonical (bounds_of sys.flow p) f → Within (at_node sys state.low p) (frontier_of (bounds_of sys.flow p) f)
     → IsRestorable sys state ever p way f → IsRestorable sys state kept p way f
-restorable-kept sys state p by_batches f l b c v a = a
-restorable-kept sys state p by_bound f l b c v a = a
-restorable-kept sys state p by_anything f l b c v a = a
-restorable-kept sys state p by_checkpoints f l b c v a = elim a [
+restorable-kept sys state p Batches f l b c v a = a
+restorable-kept sys state p Bound f l b c v a = a
+restorable-kept sys state p Anything f l b c v a = a
+restorable-kept sys state p Checkpoints f l b c v a = elim a [
   | inl n ↦ inl n
   | inr k ↦ inr (checkpoint-some kept p f state.writes (kept-from_ever sys state.low p f state.writes l c v b (some-checkpoint ever p f state.writes k)))
 ]
-restorable-kept sys state p by_events f l b c v a = a
+restorable-kept sys state p Events f l b c v a = a
 
 -- a cut that contains the low watermark is offered among what is kept
 candidate-kept : (sys : System) (state : Machine) (lost : ℕ → Bool) (p : ℕ) (cut : Cut) → p < length sys.flow.nodes → HasCollectedBelow sys state
-    → IsCutWithin sys p (At (front_of state.low p)) cut → IsCandidate sys state lost ever p cut → IsCandidate sys state lost kept p cut
+    → IsCutWithin sys.flow p (At (front_of state.low p)) cut → IsCandidate sys state lost ever p cut → IsCandidate sys state lost kept p cut
 candidate-kept sys state lost p Present l b v a = a
 candidate-kept sys state lost p (At f) l b v a =
-    (a.0, restorable-kept sys state p (restoring (kind_of sys.flow p) (policy_of sys.flow p)) f l b a.0 v a.1, v)
+    (a.0, restorable-kept sys state p (way_of sys.flow p) f l b a.0 v a.1, v)
 
 ever-of_kept : (sys : System) (state : Machine) (lost : ℕ → Bool) (choice : Choice) → IsConsistent sys state (IsCandidate sys state lost kept) choice
     → IsConsistent sys state (IsCandidate sys state lost ever) choice

@@ -11,13 +11,11 @@ use Rattle.fw_flow.specs.declared.event.Event.TheVariants.{Inject, Deliver, Noti
 use Rattle.fw_flow.specs.declared.event.Message.{Message}
 use Rattle.fw_flow.specs.declared.kind.Kind.{Kind}
 use Rattle.fw_flow.specs.declared.kind.Kind.TheVariants.{Input}
-use Rattle.fw_flow.specs.Dataflow.{System, kind_of, sender, receiver, is_input_kind, is_notified_kind, is_numbered}
+use Rattle.fw_flow.specs.Dataflow.{System, kind_of, sender, receiver, is_input_kind, is_notified_kind, is_numbered, bounds_of_edge, HasEpochs}
 use Rattle.fw_flow.specs.NodeFunction.{place, stamp}
 use Rattle.fw_flow.specs.WellFormed.{IsWellFormed}
-use Rattle.fw_model.specs.History.{sent, delivered, pending, was_delivered_to, was_notified, owed, IsAdmissible, IsEnabled, IsLegal, IsNotifiable}
-use Rattle.fw_model.specs.LawsOfProjections.{bounds_of_edge}
-use Rattle.fw_model.specs.LawsOfLegalHistories.{HasEpochs}
-use Rattle.fw_model.specs.LawsOfDeliveries.{IsClosedFor, ClosedStampsStayClosed, DeliveredUpToClosedIsFinal, NotificationsComeLast, AreNumberedInOrder, NumberedDeliveriesAscend, recs_at, DeliveredInsideCompleteIsFinal}
+use Rattle.fw_model.specs.History.{sent, delivered, pending, was_delivered_to, was_notified, owed, IsAdmissible, IsEnabled, IsLegal, IsNotifiable, IsClosedFor, recs_at}
+use Rattle.fw_model.specs.LawsOfDeliveries.{ClosedStampsStayClosed, DeliveredUpToClosedIsFinal, NotificationsComeLast, NumberedDeliveriesAscend, DeliveredInsideCompleteIsFinal}
 use Rattle.fw_model.proofs.PhiLaws.{phi-longer}
 use Rattle.fw_model.proofs.FrontierLaws.{phi-frontier}
 use Rattle.fw_model.proofs.PendingLaws.{is_among-some_at}
@@ -25,6 +23,7 @@ use Rattle.fw_model.proofs.CompleteLaws.{enabled-outside, admissible-stays, quie
 use Rattle.fw_model.proofs.OrderLaws.{raised-paid}
 use Rattle.fw_model.proofs.StampLaws.{same-is}
 use Rattle.fw_model.proofs.Decisions.{two_ways}
+use Rattle.fw_model.specs.Order.{AreNumberedInOrder}
 
 pub legal-before : (sys : System) (more h : List Event) → IsLegal sys (more ++ h) → IsLegal sys h
 legal-before sys [] h l = l

@@ -16,7 +16,7 @@ use Rattle.fw_bag.specs.Rec.{rec_cmp}
 use Rattle.fw_bag.proofs.RecLaws.{rec_order, rec_cmp-same}
 use Rattle.fw_bag.proofs.OrderingLaws.{equal_from_is_eq, then_equal, slice_cmp-same}
 use Rattle.fw_flow.specs.declared.event.Message.{Message}
-use Rattle.fw_model.specs.History.{message_cmp, is_among}
+use Rattle.fw_flow.specs.Message.{message_cmp, is_among}
 use Rattle.fw_model.proofs.Decisions.{Decided}
 
 -- ---- elements that an order finds equal are one
@@ -30,25 +30,8 @@ fronts_cmp-same = slice_cmp-same stamp_cmp stamp_cmp-same
 pub stamp_total : IsTotalOrder stamp_cmp
 stamp_total = nat_list_cmp_total
 
-pub message_total : IsTotalOrder message_cmp
-message_total =
-    then_total (on_total (λ (m : Message). m.at) stamp_total)
-    (then_total (on_total (λ (m : Message). m.rec) rec_order) (on_total (λ (m : Message). m.causes) (lists_total stamp_total)))
-
-pub message_cmp-same : (m x : Message) → message_cmp m x ≡ Equal → m ≡ x
-message_cmp-same m x e =
-    let a = then_equal (stamp_cmp m.at x.at) (ordering_then (rec_cmp m.rec x.rec) (slice_cmp stamp_cmp m.causes x.causes)) e in
-    let b = then_equal (rec_cmp m.rec x.rec) (slice_cmp stamp_cmp m.causes x.causes) a.1 in
-    let p = stamp_cmp-same m.at x.at a.0 in
-    let q = rec_cmp-same m.rec x.rec b.0 in
-    let r = fronts_cmp-same m.causes x.causes b.1 in
-    λ i. record { at = p i; rec = q i; causes = r i }
-
 pub stamp_cmp-equal : (s t : Stamp) → is_eq (stamp_cmp s t) ≡ true → s ≡ t
 stamp_cmp-equal s t e = stamp_cmp-same s t (equal_from_is_eq (stamp_cmp s t) e)
-
-pub message_cmp-equal : (m x : Message) → is_eq (message_cmp m x) ≡ true → m ≡ x
-message_cmp-equal m x e = message_cmp-same m x (equal_from_is_eq (message_cmp m x) e)
 
 pub then_parts : (o p : Ordering) → is_eq (ordering_then o p) ≡ (is_eq o && is_eq p)
 then_parts Less p = refl
@@ -76,18 +59,6 @@ not_greater {R} o x y h = by (R x y) (R y x) (o.antisymm x y) h
     by Less Greater e h = absurd (cc)
     by Equal Greater e h = absurd (cc)
     by Greater Greater e h = absurd (cc)
-
--- what holds of each listed element holds of each one among them
-pub each-among : {K : Type 0} {R : K → K → Ordering} → ((x y : K) → R x y ≡ Equal → x ≡ y)
-    → (P : K → Type 0) (x : K) (xs : List K) → list_any (λ y. is_eq (R x y)) xs ≡ true → AllByRecursion P xs → P x
-each-among h P x [] k a = absurd (cc)
-each-among {R} h P x (y ∷ ys) k a = elim (or_cases (is_eq (R x y)) (list_any (λ z. is_eq (R x z)) ys) k) [
-  | inl e ↦ subst P (sym (h x y (equal_from_is_eq (R x y) e))) a.0
-  | inr l ↦ each-among h P x ys l a.1
-]
-
-pub among-each : (P : Message → Type 0) (m : Message) (ms : List Message) → is_among m ms ≡ true → AllByRecursion P ms → P m
-among-each = each-among message_cmp-same
 
 -- ---- the least element with a property
 

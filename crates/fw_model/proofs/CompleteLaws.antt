@@ -12,14 +12,12 @@ use Rattle.fw_flow.specs.declared.event.Event.{Event}
 use Rattle.fw_flow.specs.declared.event.Event.TheVariants.{Inject, Deliver, Notify}
 use Rattle.fw_flow.specs.declared.event.Message.{Message}
 use Rattle.fw_flow.specs.declared.kind.Kind.TheVariants.{OutputEpoch, Sequence}
-use Rattle.fw_flow.specs.Dataflow.{System, Dataflow, idle_node, kind_of, sender, receiver, greatest_number, bounds_of, is_input_kind, is_notified_kind, batches_of, send_stamp, send_stamp_of_kind, is_sequence_kind}
+use Rattle.fw_flow.specs.Dataflow.{System, Dataflow, idle_node, kind_of, sender, receiver, greatest_number, bounds_of, is_input_kind, is_notified_kind, batches_of, send_stamp, send_stamp_of_kind, is_sequence_kind, bounds_of_edge, HasEpochs}
 use Rattle.fw_flow.specs.NodeFunction.{place, stamp, recs_on, numbered_messages, sequence_sent, sends_of_kind, sends, sent_by}
-use Rattle.fw_flow.specs.Projection.{events_at, count_from, first_number_of, phi}
+use Rattle.fw_flow.specs.Projection.{events_at, count_from, first_number_of, phi, IsSenderFrontier}
 use Rattle.fw_flow.specs.WellFormed.{IsWellFormed}
-use Rattle.fw_model.specs.History.{less, some_at, sent, delivered, pending, was_delivered_to, was_notified, owed, injected_count, is_exhausted, injected_epochs, IsAdmissible, IsEnabled, IsLegal}
-use Rattle.fw_model.specs.LawsOfProjections.{bounds_of_edge, IsSenderFrontier}
-use Rattle.fw_model.specs.LawsOfSending.{SendsByStamp}
-use Rattle.fw_model.specs.LawsOfLegalHistories.{HasEpochs}
+use Rattle.fw_model.specs.History.{some_at, sent, delivered, pending, was_delivered_to, was_notified, owed, injected_count, is_exhausted, injected_epochs, IsAdmissible, IsEnabled, IsLegal}
+use Rattle.fw_flow.specs.Message.{less}
 use Rattle.fw_model.specs.LawsOfCompleteFrontiers.{EnabledIsOutside, AdmissibleStaysAdmissible}
 use Rattle.fw_model.proofs.PhiLaws.{phi-longer}
 use Rattle.fw_model.proofs.FrontierLaws.{phi-frontier}
@@ -30,6 +28,7 @@ use Rattle.fw_model.proofs.WellFormedLaws.{senders_well_formed}
 use Rattle.fw_model.proofs.LegalLaws.{enabled-in_domain, legal-in_domain, only_inputs_inject}
 use Rattle.fw_model.proofs.PendingLaws.{quiet-new, quiet-without, is_among-some_at}
 use Rattle.fw_model.proofs.Decisions.{two_ways}
+use Rattle.fw_model.specs.Sending.{SendsByStamp}
 
 -- ---- an enabled event is outside
 

@@ -9,14 +9,17 @@ use Rattle.fw_frontier.specs.Frontier.{Frontier, Within, nothing, everything, co
 use Rattle.fw_frontier.specs.Front.{Front, inside, frontier_of, IsLeastBefore, IsCanonical}
 use Rattle.fw_flow.specs.declared.choice.Cut.{Cut}
 use Rattle.fw_flow.specs.declared.choice.Cut.TheVariants.{Present, At}
-use Rattle.fw_flow.specs.Dataflow.{greatest_of_kind, System, kind_of, policy_of, sender, receiver, bounds_of}
+use Rattle.fw_flow.specs.Dataflow.{greatest_of_kind, System, kind_of, policy_of, sender, receiver, bounds_of, bounds_of_edge}
 use Rattle.fw_flow.specs.NodeFunction.{place, stamp}
 use Rattle.fw_flow.specs.Projection.{phi, psi_of_kind, psi}
 use Rattle.fw_model.specs.History.{delivered, sent, injected_count, is_exhausted}
-use Rattle.fw_model.specs.LawsOfProjections.{bounds_of_edge}
 use Rattle.fw_model.specs.Machine.{Machine, Numbered, Write, Written, checkpoint, logged_event, Progress, events, no_stamps, front_of, bound_of}
 use Rattle.fw_flow.specs.declared.choice.Choice.{Choice}
-use Rattle.fw_model.specs.Choice.{View, kept, ever, Restoring, by_batches, by_bound, by_anything, by_checkpoints, by_events, counts, until, HasCheckpoint, IsLogged, AllLogged, IsRestorable, HoldsLow, IsCandidate, restoring, can_resend, cut_of, note_of, kept_of, takes_its_cut, takes_its_notes, stamps_inside, stamps_from, notified_inside, delivered_cover, notified_cover, sent_cover, discarded_at, discarded_cover, IsConsistent}
+use Rattle.fw_model.specs.Choice.{View, kept, ever, counts, until, HasCheckpoint, IsLogged, AllLogged, IsRestorable, HoldsLow, IsCandidate, cut_of, note_of, kept_of, IsConsistent}
+use Rattle.fw_flow.specs.declared.restoring.Restoring.{Restoring}
+use Rattle.fw_flow.specs.declared.restoring.Restoring.TheVariants.{Batches, Bound, Anything, Checkpoints, Events}
+use Rattle.fw_flow.specs.Restoring.{can_resend, way_of}
+use Rattle.fw_model.specs.Covers.{takes_its_cut, takes_its_notes, stamps_inside, stamps_from, notified_inside, discarded_at, covers_in, set_of, tallies_in}
 use Rattle.fw_model.proofs.CmpLaws.{decided-front}
 use Rattle.fw_model.proofs.Decisions.{two_ways, Decided, decided-test, decided-or, decided-as, decided-and, decided-if, decided-number, decided-places, decided-each, find_place}
 use Rattle.fw_model.proofs.StampLists.{find_stamp}
@@ -92,7 +95,7 @@ all_logged-decided sys p f writes (v ∷ h) =
     (all_logged-decided sys p f writes h)
 
 restorable-decided : (sys : System) (state : Machine) (view : View) (p : ℕ) (way : Restoring) (f : Front) → Decided (IsRestorable sys state view p way f)
-restorable-decided sys state view p by_batches f =
+restorable-decided sys state view p Batches f =
     let n = injected_count p (events state.history) in
     decided-or (until-decided n)
     (decided-and (decided-test (is_exhausted sys (events state.history) p) true) (decided-front f []))
@@ -102,13 +105,13 @@ restorable-decided sys state view p by_batches f =
       | inl w ↦ let l = w.1 in inl (w.0, omega arith, w.2)
       | inr none ↦ inr (λ w. let l = w.1 in none w.0 (omega arith) w.2)
     ]
-restorable-decided sys state view p by_bound f =
+restorable-decided sys state view p Bound f =
     let b = bounds_of sys.flow p in
     decided-and (within-front b f (frontier_of b (front_of state.settled p))) (within-front b f (frontier_of b (until (bound_of state p))))
-restorable-decided sys state view p by_anything f = within-front (bounds_of sys.flow p) f (frontier_of (bounds_of sys.flow p) (front_of state.settled p))
-restorable-decided sys state view p by_checkpoints f =
+restorable-decided sys state view p Anything f = within-front (bounds_of sys.flow p) f (frontier_of (bounds_of sys.flow p) (front_of state.settled p))
+restorable-decided sys state view p Checkpoints f =
     decided-or (decided-front f (no_stamps (bounds_of sys.flow p))) (has_checkpoint-decided view p f state.writes)
-restorable-decided sys state view p by_events f =
+restorable-decided sys state view p Events f =
     let b = bounds_of sys.flow p in
     decided-and (within-front b f (frontier_of b (front_of state.settled p))) (all_logged-decided sys p (frontier_of b f) state.writes state.history)
 
@@ -120,7 +123,7 @@ candidate-decided : (sys : System) (state : Machine) (lost : ℕ → Bool) (view
 candidate-decided sys state lost view p Present = decided-test (lost p) false
 candidate-decided sys state lost view p (At f) =
     let b = bounds_of sys.flow p in
-    let way = restoring (kind_of sys.flow p) (policy_of sys.flow p) in
+    let way = way_of sys.flow p in
     decided-as
     (λ (a : IsCanonical b f × (IsRestorable sys state view p way f × HoldsLow view (frontier_of b (front_of state.low p)) (frontier_of b f))). (a.0, a.1.0, a.1.1))
     (λ (a : IsCanonical b f × IsRestorable sys state view p way f × HoldsLow view (frontier_of b (front_of state.low p)) (frontier_of b f)). (a.0, (a.1, a.2)))
@@ -128,15 +131,17 @@ candidate-decided sys state lost view p (At f) =
 
 -- ---- the inclusions of a choice
 
-delivered-decided : (sys : System) (state : Machine) (p d : ℕ) (cut : Cut) (g : Frontier) → Decided (Within (delivered_cover sys state p d cut) g)
-delivered-decided sys state p d Present g =
-    within-cover (bounds_of sys.flow p) (stamps_inside (everything (bounds_of sys.flow p)) (delivered (events state.history) d)) g
-delivered-decided sys state p d (At f) g =
+delivered-decided : (sys : System) (state : Machine) (d : ℕ) (cut : Cut) (g : Frontier) → Decided (Within ((covers_in sys state).delivered d cut) g)
+delivered-decided sys state d Present g =
+    let b = bounds_of sys.flow (receiver sys.flow d) in
+    within-cover b (stamps_inside (everything b) (delivered (events state.history) d)) g
+delivered-decided sys state d (At f) g =
+    let p = receiver sys.flow d in
     let b = bounds_of sys.flow p in
     let ss = stamps_inside (frontier_of b f) (delivered (events state.history) d) in
-    within-flag (takes_its_cut (restoring (kind_of sys.flow p) (policy_of sys.flow p))) (frontier_of b f) (cover b ss) g (within-front b f g) (within-cover b ss g)
+    within-flag (takes_its_cut (way_of sys.flow p)) (frontier_of b f) (cover b ss) g (within-front b f g) (within-cover b ss g)
 
-notified-decided : (sys : System) (state : Machine) (p : ℕ) (cut : Cut) (g : Frontier) → Decided (Within (notified_cover sys state p cut) g)
+notified-decided : (sys : System) (state : Machine) (p : ℕ) (cut : Cut) (g : Frontier) → Decided (Within ((covers_in sys state).notified p cut) g)
 notified-decided sys state p Present g =
     within-cover (bounds_of sys.flow p) (notified_inside p (everything (bounds_of sys.flow p)) (events state.history)) g
 notified-decided sys state p (At f) g =
@@ -144,30 +149,31 @@ notified-decided sys state p (At f) g =
     let ss = notified_inside p (frontier_of b f) (events state.history) in
     within-flag (takes_its_notes (kind_of sys.flow p) (policy_of sys.flow p)) (frontier_of b f) (cover b ss) g (within-front b f g) (within-cover b ss g)
 
-sent-decided : (sys : System) (state : Machine) (p e : ℕ) (f g : Frontier) → Decided (Within (sent_cover sys state p e f) g)
-sent-decided sys state p e f g = within-cover (bounds_of sys.flow (receiver sys.flow e)) (stamps_from f (sent sys (events state.history) e)) g
+sent-decided : (sys : System) (state : Machine) (e : ℕ) (cut : Cut) (g : Frontier) → Decided (Within ((tallies_in sys state).sent e cut) g)
+sent-decided sys state e cut g =
+    within-cover (bounds_of sys.flow (receiver sys.flow e)) (stamps_from (set_of sys.flow (sender sys.flow e) cut) (sent sys (events state.history) e)) g
 
-psi-decided : (sys : System) (e : ℕ) (f g : Frontier) → Decided (Within (psi sys e f) g)
+psi-decided : (sys : System) (e : ℕ) (f g : Frontier) → Decided (Within (psi sys.flow e f) g)
 unfolding psi
 psi-decided sys e f g =
-    decided-within (bounds_of_edge sys.flow e) (psi sys e f) g
+    decided-within (bounds_of_edge sys.flow e) (psi sys.flow e f) g
     (λ t i. (and_parts (in_domain (bounds_of_edge sys.flow e) t) (psi_of_kind (greatest_of_kind sys.flow (kind_of sys.flow (sender sys.flow e))) (kind_of sys.flow (sender sys.flow e)) f t) i).0)
 
-discarded_at-decided : (sys : System) (state : Machine) (p e : ℕ) (way : Restoring) (f g : Frontier) → Decided (Within (discarded_at sys state p e way f) g)
-discarded_at-decided sys state p e by_anything f g = psi-decided sys e f g
-discarded_at-decided sys state p e way f g = sent-decided sys state p e f g
+discarded_at-decided : (sys : System) (state : Machine) (e : ℕ) (way : Restoring) (f : Front) (g : Frontier)
+    → Decided (Within (discarded_at sys.flow e way ((tallies_in sys state).sent e (At f)) f) g)
+discarded_at-decided sys state e Anything f g = psi-decided sys e (frontier_of (bounds_of sys.flow (sender sys.flow e)) f) g
+discarded_at-decided sys state e way f g = sent-decided sys state e (At f) g
 
 none-within : (g : Frontier) → Decided (Within nothing g)
 none-within g = inl (λ t i. absurd (two_ways false i refl))
 
-discarded-decided : (sys : System) (state : Machine) (p e : ℕ) (cut : Cut) (g : Frontier) → Decided (Within (discarded_cover sys state p e cut) g)
-discarded-decided sys state p e Present g =
-    let f = everything (bounds_of sys.flow p) in
-    within-flag (can_resend (policy_of sys.flow p)) nothing (sent_cover sys state p e f) g (none-within g) (sent-decided sys state p e f g)
-discarded-decided sys state p e (At os) g =
-    let f = frontier_of (bounds_of sys.flow p) os in
-    let way = restoring (kind_of sys.flow p) (policy_of sys.flow p) in
-    within-flag (can_resend (policy_of sys.flow p)) nothing (discarded_at sys state p e way f) g (none-within g) (discarded_at-decided sys state p e way f g)
+discarded-decided : (sys : System) (state : Machine) (e : ℕ) (cut : Cut) (g : Frontier) → Decided (Within ((covers_in sys state).discarded e cut) g)
+discarded-decided sys state e Present g =
+    within-flag (can_resend (policy_of sys.flow (sender sys.flow e))) nothing ((tallies_in sys state).sent e Present) g (none-within g) (sent-decided sys state e Present g)
+discarded-decided sys state e (At f) g =
+    let way = way_of sys.flow (sender sys.flow e) in
+    within-flag (can_resend (policy_of sys.flow (sender sys.flow e))) nothing (discarded_at sys.flow e way ((tallies_in sys state).sent e (At f)) f) g
+    (none-within g) (discarded_at-decided sys state e way f g)
 
 -- ---- consistency
 
@@ -175,22 +181,22 @@ discarded-decided sys state p e (At os) g =
 record IsInclusive (sys : System) (state : Machine) (lost : ℕ → Bool) (view : View) (choice : Choice) (p : ℕ) : Type 0 where
   pub offered : IsCandidate sys state lost view p (cut_of choice p)
   pub canonical : IsCanonical (bounds_of sys.flow p) (front_of choice.notes p)
-  pub notified : Within (notified_cover sys state p (cut_of choice p)) (note_of sys choice p)
-  pub own : Within (note_of sys choice p) (kept_of sys choice p)
+  pub notified : Within ((covers_in sys state).notified p (cut_of choice p)) (note_of sys.flow choice p)
+  pub own : Within (note_of sys.flow choice p) (kept_of sys.flow choice p)
 
 record IsCarried (sys : System) (state : Machine) (choice : Choice) (d : ℕ) : Type 0 where
-  pub delivered : Within (delivered_cover sys state (receiver sys.flow d) d (cut_of choice (receiver sys.flow d))) (phi sys (events state.history) d (kept_of sys choice (sender sys.flow d)))
-  pub discarded : Within (discarded_cover sys state (sender sys.flow d) d (cut_of choice (sender sys.flow d))) (kept_of sys choice (receiver sys.flow d))
-  pub notes : Within (note_of sys choice (receiver sys.flow d)) (phi sys (events state.history) d (note_of sys choice (sender sys.flow d)))
+  pub delivered : Within ((covers_in sys state).delivered d (cut_of choice (receiver sys.flow d))) (phi sys (events state.history) d (kept_of sys.flow choice (sender sys.flow d)))
+  pub discarded : Within ((covers_in sys state).discarded d (cut_of choice (sender sys.flow d))) (kept_of sys.flow choice (receiver sys.flow d))
+  pub notes : Within (note_of sys.flow choice (receiver sys.flow d)) (phi sys (events state.history) d (note_of sys.flow choice (sender sys.flow d)))
 
 inclusive-decided : (sys : System) (state : Machine) (lost : ℕ → Bool) (view : View) (choice : Choice) (p : ℕ) → Decided (IsInclusive sys state lost view choice p)
 inclusive-decided sys state lost view choice p = elim (candidate-decided sys state lost view p (cut_of choice p)) [
   | inr n ↦ inr (λ k. n k.offered)
   | inl a ↦ elim (canonical-decided (bounds_of sys.flow p) (front_of choice.notes p)) [
     | inr n ↦ inr (λ k. n k.canonical)
-    | inl b ↦ elim (notified-decided sys state p (cut_of choice p) (note_of sys choice p)) [
+    | inl b ↦ elim (notified-decided sys state p (cut_of choice p) (note_of sys.flow choice p)) [
       | inr n ↦ inr (λ k. n k.notified)
-      | inl c ↦ elim (within-front (bounds_of sys.flow p) (front_of choice.notes p) (kept_of sys choice p)) [
+      | inl c ↦ elim (within-front (bounds_of sys.flow p) (front_of choice.notes p) (kept_of sys.flow choice p)) [
         | inr n ↦ inr (λ k. n k.own)
         | inl d ↦ inl (record { offered = a; canonical = b; notified = c; own = d })
       ]
@@ -203,11 +209,11 @@ carried-decided sys state choice d =
     let p = receiver sys.flow d in
     let q = sender sys.flow d in
     let h = events state.history in
-    elim (delivered-decided sys state p d (cut_of choice p) (phi sys h d (kept_of sys choice q))) [
+    elim (delivered-decided sys state d (cut_of choice p) (phi sys h d (kept_of sys.flow choice q))) [
       | inr n ↦ inr (λ k. n k.delivered)
-      | inl a ↦ elim (discarded-decided sys state q d (cut_of choice q) (kept_of sys choice p)) [
+      | inl a ↦ elim (discarded-decided sys state d (cut_of choice q) (kept_of sys.flow choice p)) [
         | inr n ↦ inr (λ k. n k.discarded)
-        | inl b ↦ elim (within-front (bounds_of sys.flow p) (front_of choice.notes p) (phi sys h d (note_of sys choice q))) [
+        | inl b ↦ elim (within-front (bounds_of sys.flow p) (front_of choice.notes p) (phi sys h d (note_of sys.flow choice q))) [
           | inr n ↦ inr (λ k. n k.notes)
           | inl c ↦ inl (record { delivered = a; discarded = b; notes = c })
         ]

@@ -7,18 +7,18 @@ use Rattle.fw_time.specs.Stamp.{Stamp, leq, in_domain}
 use Rattle.fw_time.proofs.EachLaws.{each-weaker, each-append}
 use Rattle.fw_flow.specs.declared.kind.Kind.{Kind}
 use Rattle.fw_flow.specs.declared.kind.Kind.TheVariants.{Input, OutputEpoch, OutputNumber, Distinct, Join, Sum, Total, Sequence, Ledger}
-use Rattle.fw_flow.specs.Dataflow.{System, Dataflow, kind_of, sender, receiver, in_edges, batches_of, greatest_number, domain_of_kind, out_domain_of_kind, bounds_of, bounds_of_domain, send_stamp_of_kind}
+use Rattle.fw_flow.specs.Dataflow.{System, Dataflow, kind_of, sender, receiver, in_edges, batches_of, greatest_number, domain_of_kind, out_domain_of_kind, bounds_of, bounds_of_domain, send_stamp_of_kind, HasEpochs}
 use Rattle.fw_flow.specs.WellFormed.{IsWellFormed}
 use Rattle.fw_flow.specs.WholeBags.{Timed, in_order, timed, timed_at_some, timed_batches, recs_for_one, one_by_one, is_among_timed, distinct_timed, joined_timed, has_stamp, distinct_stamps, numbered, together, outputs_of_kind}
 use Rattle.fw_model.specs.Denotation.{Family, rounds}
-use Rattle.fw_model.specs.LawsOfDenotation.{enough_rounds, DenotationIsInDomain}
-use Rattle.fw_model.specs.LawsOfLegalHistories.{HasEpochs}
+use Rattle.fw_model.specs.LawsOfDenotation.{DenotationIsInDomain}
 use Rattle.fw_model.proofs.StampLaws.{line-leq}
 use Rattle.fw_model.proofs.SendingLaws.{send_stamp_of_kind-in_domain}
 use Rattle.fw_model.proofs.LegalLaws.{edge_domains}
 use Rattle.fw_model.proofs.TimedLaws.{each-in_order}
 use Rattle.fw_model.proofs.DependenceLaws.{in_edges-each}
 use Rattle.fw_model.proofs.DenotationLaws.{denotation-only, denotation-exists}
+use Rattle.fw_model.specs.Measure.{enough_rounds}
 
 -- the timed rec is at a stamp that holds
 abbrev At : (Stamp → Type 0) → Timed → Type 0

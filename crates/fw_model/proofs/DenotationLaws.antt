@@ -8,11 +8,12 @@ use Rattle.fw_flow.specs.Dataflow.{System, Dataflow, idle_node, kind_of, sender,
 use Rattle.fw_flow.specs.WellFormed.{IsWellFormed}
 use Rattle.fw_flow.specs.WholeBags.{Timed, in_order, outputs_of_kind, outputs_of}
 use Rattle.fw_model.specs.Denotation.{Family, IsDenotation, rounds}
-use Rattle.fw_model.specs.LawsOfDenotation.{Measure, DenotationIsTheOnlyOne, enough_rounds, DenotationExists, UnchangedRoundIsDenotation, LaterRoundsAreTheSame, DenotationIsInOrder}
+use Rattle.fw_model.specs.LawsOfDenotation.{DenotationIsTheOnlyOne, DenotationExists, UnchangedRoundIsDenotation, LaterRoundsAreTheSame, DenotationIsInOrder}
 use Rattle.fw_model.proofs.TimedLaws.{IsAscendingTimed, ascending-in_order, how_often_timed, same_from_how_often, in_order-twice}
 use Rattle.fw_model.proofs.MeasureLaws.{measure-exists}
 use Rattle.fw_model.proofs.DependenceLaws.{AreAscending, map-agree, outputs-agree}
 use Rattle.fw_time.proofs.EachLaws.{each-one}
+use Rattle.fw_model.specs.Measure.{Measure, enough_rounds}
 
 -- ---- past the last edge
 

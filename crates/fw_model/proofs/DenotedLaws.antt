@@ -22,7 +22,6 @@ use Rattle.fw_flow.specs.WellFormed.{IsWellFormed, IsWellFormedSystem}
 use Rattle.fw_flow.specs.WholeBags.{Timed, timed_cmp, outputs_of_kind, in_order, numbered, together}
 use Rattle.fw_model.specs.Denotation.{Family, IsDenotation}
 use Rattle.fw_model.specs.History.{was_delivered_to, was_notified, owed, sent, delivered, IsAdmissible, IsLegal}
-use Rattle.fw_model.specs.LawsOfSending.{SendsByStamp}
 use Rattle.fw_model.proofs.SendingLaws.{phi-by_stamp, phi-in_domain}
 use Rattle.fw_model.proofs.SequenceLaws.{bounds-sequence, count-le_length, no_inject, sent_by-sequence, phi-sequence}
 use Rattle.fw_model.proofs.LegalLaws.{edge_domains, only_inputs_inject}
@@ -41,6 +40,7 @@ use Rattle.fw_model.proofs.SequencedLaws.{IsMember, each_member, filter-parts, P
 use Rattle.fw_model.proofs.DomainLaws.{sort_of, inner_edge, sequence_edge, output-sent, output-outputs, edge-bounds, EdgeStamp, along, from_earlier, each_in_edge, denoted-in_domain, delivered-in_domain, has_epochs}
 use Rattle.fw_model.proofs.FilterLaws.{filter-none, filter-all}
 use Rattle.fw_model.proofs.Decisions.{two_ways}
+use Rattle.fw_model.specs.Sending.{SendsByStamp}
 
 -- what was sent on the edge at the stamp is what the family has there
 abbrev pub IsDenotedAt : System → List Event → Family → (ℕ → Frontier) → EdgeStamp → Type 0

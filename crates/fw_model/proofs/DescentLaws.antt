@@ -15,7 +15,9 @@ use Rattle.fw_flow.specs.Dataflow.{greatest_of_kind, System, Dataflow, kind_of, 
 use Rattle.fw_flow.specs.NodeFunction.{sends_of_kind, sends, sent_by}
 use Rattle.fw_flow.specs.Projection.{events_at, sent_count, phi_of_kind, phi}
 use Rattle.fw_flow.specs.WellFormed.{IsWellFormed}
-use Rattle.fw_model.specs.History.{without, less, some_at, delivered, pending, owed, injected_epochs, IsQuiet, IsAdmissible}
+use Rattle.fw_flow.specs.Message.{without, less}
+use Rattle.fw_flow.proofs.MessageLaws.{less-none}
+use Rattle.fw_model.specs.History.{some_at, delivered, pending, owed, injected_epochs, IsQuiet, IsAdmissible}
 use Rattle.fw_model.specs.LawsOfExistence.{CompleteExists, CompleteIsTheOnlyOne}
 use Rattle.fw_model.proofs.CompleteLaws.{past_edges-idle}
 use Rattle.fw_model.proofs.PhiLaws.{phi-monotone}
@@ -138,10 +140,6 @@ idle-sends_none : (sys : System) (p : ℕ) → kind_of sys.flow p ≡ OutputEpoc
 unfolding sends
 idle-sends_none sys p is [] = refl
 idle-sends_none sys p is (v ∷ vs) = ap (λ k. sends_of_kind sys k vs v ++ sent_by sys p vs) is ∙ idle-sends_none sys p is vs
-
-pub less-none : (ds : List Message) → less [] ds ≡ []
-less-none [] = refl
-less-none (d ∷ ds) = ap (λ ms. without d ms) (less-none ds)
 
 pub past_edges-quiet : (sys : System) (h : List Event) (e : ℕ) (t : Stamp) → length sys.flow.edges ≤ e → some_at (same t) (pending sys h e) ≡ false
 past_edges-quiet sys h e t l =

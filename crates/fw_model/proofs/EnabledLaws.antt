@@ -15,14 +15,17 @@ use Rattle.fw_flow.specs.declared.kind.Kind.{Kind}
 use Rattle.fw_flow.specs.declared.kind.Kind.TheVariants.{OutputNumber}
 use Rattle.fw_flow.specs.declared.step.Step.{Step}
 use Rattle.fw_flow.specs.declared.step.Step.TheVariants.{Inject, Deliver, Notify, Progress as ProgressStep, Checkpoint, Persist, Fail, Ack}
-use Rattle.fw_flow.specs.Dataflow.{System, Dataflow, kind_of, policy_of, sender, receiver, bounds_of, batches_of, is_input_kind, is_notified_kind, is_output_kind, is_numbered}
+use Rattle.fw_flow.specs.Dataflow.{System, Dataflow, kind_of, policy_of, sender, receiver, bounds_of, batches_of, is_input_kind, is_notified_kind, is_output_kind, is_numbered, places}
 use Rattle.fw_flow.specs.NodeFunction.{delivered_recs}
 use Rattle.fw_flow.specs.Projection.{phi}
 use Rattle.fw_flow.specs.WellFormed.{IsWellFormed}
-use Rattle.fw_model.specs.History.{is_among, pending, delivered, was_delivered_to, was_notified, owed, injected_count, message_cmp, IsAdmissible, IsComplete, IsDeliverable, IsNotifiable}
-use Rattle.fw_model.specs.Machine.{Machine, Write, acknowledged, events, no_stamps, places, front_of, is_failed, bound_of}
-use Rattle.fw_model.specs.Steps.{Effect, quiet, acked, with_event, IsAsked, eager_writes, is_asked_for_checkpoints, newest_checkpoint, checkpoint_of, is_in_flight, AcknowledgesOldest, is_one_of, without_lost, with_failed, HasEpoch, HasDelivery, HasSomethingAt, MayAcknowledge, recs_at_output, LeadsTo}
-use Rattle.fw_model.proofs.CmpLaws.{decided-stamp, decided-front, stamp_total, message_total, among-each, find_least}
+use Rattle.fw_model.specs.History.{pending, delivered, was_delivered_to, was_notified, owed, injected_count, IsAdmissible, IsComplete, IsDeliverable, IsNotifiable}
+use Rattle.fw_model.specs.Machine.{Machine, Write, acknowledged, events, no_stamps, front_of, is_failed, bound_of}
+use Rattle.fw_model.specs.Steps.{Effect, quiet, acked, with_event, IsAsked, is_asked, eager_writes, is_asked_for_checkpoints, newest_checkpoint, checkpoint_of, is_in_flight, AcknowledgesOldest, is_one_of, without_lost, with_failed, HasEpoch, HasDelivery, HasSomethingAt, MayAcknowledge, recs_at_output, LeadsTo}
+use Rattle.fw_model.proofs.StampLaws.{same-is, same-from}
+use Rattle.fw_model.proofs.CmpLaws.{decided-stamp, decided-front, stamp_total, find_least}
+use Rattle.fw_flow.specs.Message.{is_among, message_cmp}
+use Rattle.fw_flow.proofs.MessageLaws.{message_total, among-each}
 use Rattle.fw_model.proofs.Decisions.{two_ways, Decided, decided-test, decided-or, decided-below, find_place}
 use Rattle.fw_model.proofs.DescentLaws.{is_quiet, quiet-at, quiet-from, past_edges-receiver, follows_all, follows_all-at, follows_all-from, complete-exists, complete-one}
 use Rattle.fw_model.proofs.PhiLaws.{phi-monotone}
@@ -30,6 +33,14 @@ use Rattle.fw_model.proofs.SettleLaws.{settled-grows}
 use Rattle.fw_model.proofs.StampLists.{each_up_to, each_up_to-at, each_up_to-from, find_stamp}
 
 -- ---- which stamps are asked for
+
+pub asked-is : (at : Option Stamp) (t : Stamp) → is_asked at t ≡ true → IsAsked at t
+asked-is None t e = tt
+asked-is (Some s) t e = same-is s t e
+
+pub asked-from : (at : Option Stamp) (t : Stamp) → IsAsked at t → is_asked at t ≡ true
+asked-from None t e = refl
+asked-from (Some s) t e = same-from s t e
 
 decided-asked : (at : Option Stamp) (t : Stamp) → Decided (IsAsked at t)
 decided-asked None t = inl tt

@@ -5,9 +5,8 @@ use Rattle.std.specs.List.{AllByRecursion, list_any, flat_map}
 use Rattle.std.proofs.lemmas.Bool.{or_parts, or_from, cond-true, cond-false, cond_both, cases_Bool}
 use Rattle.fw_flow.specs.Counting.{how_many}
 use Rattle.fw_flow.specs.declared.event.Message.{Message}
-use Rattle.fw_model.specs.History.{message_cmp, without, less}
-use Rattle.fw_model.proofs.CmpLaws.{message_cmp-equal}
-use Rattle.fw_model.proofs.PendingLaws.{without-here, without-later}
+use Rattle.fw_flow.specs.Message.{message_cmp, without, less}
+use Rattle.fw_flow.proofs.MessageLaws.{filter-less}
 use Rattle.fw_time.proofs.EachLaws.{each-one}
 
 -- what the wider of two tests leaves out, the narrower one leaves out
@@ -92,43 +91,6 @@ flat_map-filter g k (x ∷ xs) a = elim (cases_Bool (k x)) [
 ]
 
 -- ---- what is pending of it
-
--- the messages without one that may be kept
-abbrev without_if : Bool → Message → List Message → List Message
-without_if b d ms = cond b (without d ms) ms
-
-without_if-later : (b : Bool) (d x : Message) (ms : List Message) → is_eq (message_cmp d x) ≡ false → without_if b d (x ∷ ms) ≡ x ∷ without_if b d ms
-without_if-later true d x ms e = without-later d x ms e
-without_if-later false d x ms e = refl
-
-without_if-here : (k : Message → Bool) (d x : Message) (ms : List Message) → is_eq (message_cmp d x) ≡ true → k d ≡ k x → filter k ms ≡ without_if (k d) d (filter k (x ∷ ms))
-without_if-here k d x ms e s = elim (cases_Bool (k d)) [
-  | inl i ↦ sym (cond-true (k d) (without d (filter k (x ∷ ms))) (filter k (x ∷ ms)) i ∙ ap (without d) (filter-in k x ms (sym s ∙ i)) ∙ without-here d x (filter k ms) e)
-  | inr i ↦ sym (cond-false (k d) (without d (filter k (x ∷ ms))) (filter k (x ∷ ms)) i ∙ filter-out k x ms (sym s ∙ i))
-]
-
-filter-without : (k : Message → Bool) (d : Message) (ms : List Message) → filter k (without d ms) ≡ without_if (k d) d (filter k ms)
-filter-without k d [] = cond_both (k d) (without d []) [] (λ l. [] ≡ l) (λ e. refl) (λ e. refl)
-filter-without k d (x ∷ xs) = elim (cases_Bool (is_eq (message_cmp d x))) [
-  | inl e ↦ ap (filter k) (without-here d x xs e) ∙ without_if-here k d x xs e (ap k (message_cmp-equal d x e))
-  | inr e ↦
-      let later = ap (filter k) (without-later d x xs e) in
-      let h = filter-without k d xs in
-      elim (cases_Bool (k x)) [
-        | inl i ↦ later ∙ filter-in k x (without d xs) i ∙ ap (λ l. x ∷ l) h ∙ sym (ap (without_if (k d) d) (filter-in k x xs i) ∙ without_if-later (k d) d x (filter k xs) e)
-        | inr i ↦ later ∙ filter-out k x (without d xs) i ∙ h ∙ sym (ap (without_if (k d) d) (filter-out k x xs i))
-      ]
-]
-
--- what is kept of what is left is left of what is kept
-pub filter-less : (k : Message → Bool) (ms ds : List Message) → filter k (less ms ds) ≡ less (filter k ms) (filter k ds)
-filter-less k ms [] = refl
-filter-less k ms (d ∷ ds) =
-    let rest = filter-without k d (less ms ds) ∙ ap (without_if (k d) d) (filter-less k ms ds) in
-    elim (cases_Bool (k d)) [
-      | inl e ↦ rest ∙ cond-true (k d) _ _ e ∙ sym (ap (less (filter k ms)) (filter-in k d ds e))
-      | inr e ↦ rest ∙ cond-false (k d) _ _ e ∙ sym (ap (less (filter k ms)) (filter-out k d ds e))
-    ]
 
 -- Of what was sent one test keeps some, of what was delivered another, which keeps less there: of what is pending then, the
 -- second keeps what both keep of what was pending.

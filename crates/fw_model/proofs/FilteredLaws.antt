@@ -21,21 +21,24 @@ use Rattle.fw_flow.specs.WellFormed.{IsWellFormed}
 use Rattle.fw_model.specs.History.{delivered, IsLegal}
 use Rattle.fw_model.specs.Machine.{Machine, Numbered, events, front_of}
 use Rattle.fw_flow.specs.declared.choice.Choice.{Choice}
-use Rattle.fw_model.specs.Choice.{stamp_of_notice, restoring, set_of, takes_its_cut, takes_its_notes, cut_of, note_of, kept_of, delivered_cover, notified_cover, filtered}
-use Rattle.fw_model.specs.LawsOfFiltering.{kept_events, IsConsistentlyKept, MeetsInclusions, ConsistentMeetsInclusions, FilteredHistoryIsLegal}
+use Rattle.fw_model.specs.Choice.{cut_of, note_of, kept_of, filtered}
+use Rattle.fw_model.specs.LawsOfFiltering.{ConsistentMeetsInclusions, FilteredHistoryIsLegal}
+use Rattle.fw_model.specs.Covers.{stamp_of_notice, set_of, takes_its_cut, takes_its_notes, covers_in}
 use Rattle.fw_model.proofs.PhiLaws.{phi-monotone}
 use Rattle.fw_model.proofs.MeetLaws.{phi-everything}
 use Rattle.fw_model.proofs.LegalLaws.{edge_domains}
 use Rattle.fw_model.proofs.RewritingLaws.{kept-legal}
+use Rattle.fw_model.specs.Filtering.{kept_events, IsConsistentlyKept, MeetsInclusions}
+use Rattle.fw_flow.specs.Restoring.{way_of}
 
 -- ---- the kept events
 
-pub filtered-events : (sys : System) (choice : Choice) (h : List Numbered) → events (filtered sys choice h) ≡ kept_events sys.flow (kept_of sys choice) (events h)
+pub filtered-events : (sys : System) (choice : Choice) (h : List Numbered) → events (filtered sys choice h) ≡ kept_events sys.flow (kept_of sys.flow choice) (events h)
 filtered-events sys choice [] = refl
-filtered-events sys choice (v ∷ h) = by (kept_of sys choice (place sys.flow v.event) (stamp v.event)) (filtered-events sys choice h)
+filtered-events sys choice (v ∷ h) = by (kept_of sys.flow choice (place sys.flow v.event) (stamp v.event)) (filtered-events sys choice h)
   where
-    by : (b : Bool) → events (filtered sys choice h) ≡ kept_events sys.flow (kept_of sys choice) (events h)
-        → events (cond b (v ∷ filtered sys choice h) (filtered sys choice h)) ≡ cond b (v.event ∷ kept_events sys.flow (kept_of sys choice) (events h)) (kept_events sys.flow (kept_of sys choice) (events h))
+    by : (b : Bool) → events (filtered sys choice h) ≡ kept_events sys.flow (kept_of sys.flow choice) (events h)
+        → events (cond b (v ∷ filtered sys choice h) (filtered sys choice h)) ≡ cond b (v.event ∷ kept_events sys.flow (kept_of sys.flow choice) (events h)) (kept_events sys.flow (kept_of sys.flow choice) (events h))
     by true e = ap (λ vs. v.event ∷ vs) e
     by false e = e
 
@@ -47,7 +50,7 @@ everything-frontier b = record {
   closed = λ s t d l k. d;
 }
 
-pub set-frontier : (sys : System) (p : ℕ) (cut : Cut) → IsFrontier (bounds_of sys.flow p) (set_of sys p cut)
+pub set-frontier : (sys : System) (p : ℕ) (cut : Cut) → IsFrontier (bounds_of sys.flow p) (set_of sys.flow p cut)
 set-frontier sys p Present = everything-frontier (bounds_of sys.flow p)
 set-frontier sys p (At f) = frontier-closed (bounds_of sys.flow p) f
 
@@ -81,20 +84,21 @@ flagged true b f fr ss = each-any ss
     each-any (x ∷ xs) = (λ i. i, each-any xs)
 flagged false b f fr ss = covered b f fr ss
 
-delivered-covered : (sys : System) (state : Machine) (p d : ℕ) (cut : Cut)
-    → AllByRecursion (λ (m : Message). set_of sys p cut m.at ≡ true → delivered_cover sys state p d cut m.at ≡ true) (delivered (events state.history) d)
-delivered-covered sys state p d Present =
-    let b = bounds_of sys.flow p in
-    each-at (λ s. everything b s ≡ true → delivered_cover sys state p d Present s ≡ true) (delivered (events state.history) d)
+delivered-covered : (sys : System) (state : Machine) (d : ℕ) (cut : Cut)
+    → AllByRecursion (λ (m : Message). set_of sys.flow (receiver sys.flow d) cut m.at ≡ true → (covers_in sys state).delivered d cut m.at ≡ true) (delivered (events state.history) d)
+delivered-covered sys state d Present =
+    let b = bounds_of sys.flow (receiver sys.flow d) in
+    each-at (λ s. everything b s ≡ true → (covers_in sys state).delivered d Present s ≡ true) (delivered (events state.history) d)
     (covered b (everything b) (everything-frontier b) (map (λ (m : Message). m.at) (delivered (events state.history) d)))
-delivered-covered sys state p d (At f) =
+delivered-covered sys state d (At f) =
+    let p = receiver sys.flow d in
     let b = bounds_of sys.flow p in
-    each-at (λ s. frontier_of b f s ≡ true → delivered_cover sys state p d (At f) s ≡ true) (delivered (events state.history) d)
-    (flagged (takes_its_cut (restoring (kind_of sys.flow p) (policy_of sys.flow p))) b (frontier_of b f) (frontier-closed b f)
+    each-at (λ s. frontier_of b f s ≡ true → (covers_in sys state).delivered d (At f) s ≡ true) (delivered (events state.history) d)
+    (flagged (takes_its_cut (way_of sys.flow p)) b (frontier_of b f) (frontier-closed b f)
     (map (λ (m : Message). m.at) (delivered (events state.history) d)))
 
 notified-covered : (sys : System) (state : Machine) (p : ℕ) (cut : Cut)
-    → AllByRecursion (λ t. set_of sys p cut t ≡ true → notified_cover sys state p cut t ≡ true) (flat_map (stamp_of_notice p) (events state.history))
+    → AllByRecursion (λ t. set_of sys.flow p cut t ≡ true → (covers_in sys state).notified p cut t ≡ true) (flat_map (stamp_of_notice p) (events state.history))
 notified-covered sys state p Present =
     let b = bounds_of sys.flow p in
     covered b (everything b) (everything-frontier b) (flat_map (stamp_of_notice p) (events state.history))
@@ -110,10 +114,10 @@ past-edge flow e l =
     let past = ap (λ d. d.sender) (get_or_past flow.edges e (record { name = []; sender = length flow.nodes; receiver = length flow.nodes }) l) in
     omega arith
 
-past-kept : (sys : System) (choice : Choice) (p : ℕ) → length choice.cuts ≤ p → Within (everything (bounds_of sys.flow p)) (kept_of sys choice p)
-past-kept sys choice p l t k = ap (λ c. set_of sys p c t) (get_or_past choice.cuts p Present l) ∙ k
+past-kept : (sys : System) (choice : Choice) (p : ℕ) → length choice.cuts ≤ p → Within (everything (bounds_of sys.flow p)) (kept_of sys.flow choice p)
+past-kept sys choice p l t k = ap (λ c. set_of sys.flow p c t) (get_or_past choice.cuts p Present l) ∙ k
 
-past-note : (sys : System) (choice : Choice) (p : ℕ) → length choice.notes ≤ p → Within (everything (bounds_of sys.flow p)) (note_of sys choice p)
+past-note : (sys : System) (choice : Choice) (p : ℕ) → length choice.notes ≤ p → Within (everything (bounds_of sys.flow p)) (note_of sys.flow choice p)
 past-note sys choice p l t k =
     ap (λ os. frontier_of (bounds_of sys.flow p) os t) (get_or_past choice.notes p [] l) ∙ and_from (in_domain (bounds_of sys.flow p) t) true k refl
 
@@ -138,27 +142,27 @@ consistent-meets sys state lost view choice c = record {
 }
 
 pub choice-consistent : (sys : System) (state : Machine) (choice : Choice) → IsWellFormed sys.flow → MeetsInclusions sys state choice
-    → IsConsistentlyKept sys (events state.history) (kept_of sys choice) (note_of sys choice)
+    → IsConsistentlyKept sys (events state.history) (kept_of sys.flow choice) (note_of sys.flow choice)
 choice-consistent sys state choice w c =
     let flow = sys.flow in
     let h = events state.history in
-    let frontier : (p : ℕ) → IsFrontier (bounds_of flow p) (kept_of sys choice p) = λ p. set-frontier sys p (cut_of choice p) in
-    let noted : (p : ℕ) → IsFrontier (bounds_of flow p) (note_of sys choice p) = λ p. frontier-closed (bounds_of flow p) (front_of choice.notes p) in
+    let frontier : (p : ℕ) → IsFrontier (bounds_of flow p) (kept_of sys.flow choice p) = λ p. set-frontier sys p (cut_of choice p) in
+    let noted : (p : ℕ) → IsFrontier (bounds_of flow p) (note_of sys.flow choice p) = λ p. frontier-closed (bounds_of flow p) (front_of choice.notes p) in
     record {
       kept = frontier;
       noted = noted;
       delivered = λ e.
           let r = receiver flow e in
           let q = sender flow e in
-          each-weaker (λ (m : Message). kept_of sys choice r m.at ≡ true → delivered_cover sys state r e (cut_of choice r) m.at ≡ true)
-          (λ m. kept_of sys choice r m.at ≡ true → phi sys h e (kept_of sys choice q) m.at ≡ true) (delivered h e)
+          each-weaker (λ (m : Message). kept_of sys.flow choice r m.at ≡ true → (covers_in sys state).delivered e (cut_of choice r) m.at ≡ true)
+          (λ m. kept_of sys.flow choice r m.at ≡ true → phi sys h e (kept_of sys.flow choice q) m.at ≡ true) (delivered h e)
           (λ m a i. elim (cases_lt e (length flow.edges)) [
             | inl l ↦ c.delivered e l m.at (a i)
-            | inr l ↦ all-phi sys h w e (kept_of sys choice q) (past-kept sys choice q (omega (arith, past-edge flow e l, c.one_cut_each))) m.at ((frontier r).inside_domain m.at i)
+            | inr l ↦ all-phi sys h w e (kept_of sys.flow choice q) (past-kept sys choice q (omega (arith, past-edge flow e l, c.one_cut_each))) m.at ((frontier r).inside_domain m.at i)
           ])
-          (delivered-covered sys state r e (cut_of choice r));
+          (delivered-covered sys state e (cut_of choice r));
       notified = λ p.
-          each-weaker (λ t. kept_of sys choice p t ≡ true → notified_cover sys state p (cut_of choice p) t ≡ true) (λ t. kept_of sys choice p t ≡ true → note_of sys choice p t ≡ true)
+          each-weaker (λ t. kept_of sys.flow choice p t ≡ true → (covers_in sys state).notified p (cut_of choice p) t ≡ true) (λ t. kept_of sys.flow choice p t ≡ true → note_of sys.flow choice p t ≡ true)
           (flat_map (stamp_of_notice p) h)
           (λ t a i. elim (cases_lt p (length flow.nodes)) [
             | inl l ↦ c.notified p l t (a i)
@@ -173,11 +177,11 @@ choice-consistent sys state choice w c =
         | inl l ↦ c.notes e l u i
         | inr l ↦
             let q = sender flow e in
-            all-phi sys h w e (note_of sys choice q) (past-note sys choice q (omega (arith, past-edge flow e l, c.one_note_each))) u ((noted (receiver flow e)).inside_domain u i)
+            all-phi sys h w e (note_of sys.flow choice q) (past-note sys choice q (omega (arith, past-edge flow e l, c.one_note_each))) u ((noted (receiver flow e)).inside_domain u i)
       ];
     }
 
 pub filtered-legal : FilteredHistoryIsLegal
 filtered-legal sys state choice w b l c =
     subst (IsLegal sys) (sym (filtered-events sys choice state.history))
-    (kept-legal sys (events state.history) (kept_of sys choice) (note_of sys choice) w b l (choice-consistent sys state choice w c))
+    (kept-legal sys (events state.history) (kept_of sys.flow choice) (note_of sys.flow choice) w b l (choice-consistent sys state choice w c))

@@ -3,7 +3,7 @@ use Rattle.std.proofs.Common.{◌≡◌, ◌↔◌, ℕ, ◌<◌, Bool, true, fa
 use Rattle.std.specs.List.{AllByRecursion, list_any}
 use Rattle.std.proofs.lemmas.Bool.{not-true, and_parts, and_from, or_parts, or_cases, or_left, or_right, cond_both, eqb-true, false_from_ne_true}
 use Rattle.fw_frontier.specs.Frontier.{Within}
-use Rattle.fw_frontier.specs.Front.{Front, frontier_of, IsCanonical}
+use Rattle.fw_frontier.specs.Front.{Front, frontier_of, IsCanonical, same_front, is_within}
 use Rattle.fw_flow.specs.declared.choice.Cut.TheVariants.{At}
 use Rattle.fw_flow.specs.declared.event.Event.{Event}
 use Rattle.fw_flow.specs.declared.event.Event.TheVariants.{Inject as Injected, Deliver as Delivered, Notify as Notified}
@@ -11,21 +11,22 @@ use Rattle.fw_flow.specs.declared.kind.Policy.{Policy}
 use Rattle.fw_flow.specs.declared.kind.Policy.TheVariants as policy
 use Rattle.fw_flow.specs.declared.step.Step.{Step}
 use Rattle.fw_flow.specs.declared.step.Step.TheVariants.{Inject, Deliver, Notify, Progress as ProgressStep, Checkpoint, Persist, Fail, Recover, Collect, Ack}
-use Rattle.fw_flow.specs.Dataflow.{System, kind_of, policy_of, receiver, bounds_of}
+use Rattle.fw_flow.specs.Dataflow.{System, kind_of, policy_of, receiver, bounds_of, places}
 use Rattle.fw_flow.specs.NodeFunction.{place, stamp}
 use Rattle.fw_flow.specs.WellFormed.{IsWellFormed, IsWellFormedSystem}
 use Rattle.fw_model.specs.History.{IsEnabled}
-use Rattle.fw_model.specs.Machine.{Machine, Numbered, Write, Written, checkpoint, logged_event, Progress, in_flight, acknowledged, collected, events, places, first_state, front_of, is_failed}
+use Rattle.fw_model.specs.Machine.{Machine, Numbered, Write, Written, checkpoint, logged_event, Progress, in_flight, acknowledged, collected, events, first_state, front_of, is_failed}
 use Rattle.fw_flow.specs.declared.choice.Choice.{Choice}
 use Rattle.fw_model.specs.Choice.{kept, ever, counts, IsLogged, IsRestorable, IsCandidate, cut_of, kept_of, IsConsistent, filtered}
-use Rattle.fw_model.specs.Steps.{Effect, Outcome, did, idle, LeadsTo, Run, write_of_event, with_event, same_front, is_within, checkpoint_of, is_eager, is_one_of, is_in_flight, is_kept_write, front_of_cut, is_given_up, is_serial_given_up, lies_below, after_collection}
+use Rattle.fw_model.specs.Steps.{Effect, Outcome, did, idle, LeadsTo, Run, write_of_event, with_event, checkpoint_of, is_eager, is_one_of, is_in_flight, is_kept_write, front_of_cut, is_given_up, is_serial_given_up, lies_below, after_collection}
 use Rattle.fw_model.specs.LawsOfRestoring.{WhatIsForgottenWasAcknowledged, CollectedIsWhatLiesBelow}
 use Rattle.fw_model.proofs.Decisions.{two_ways}
 use Rattle.fw_model.proofs.FilterLaws.{any-filter}
-use Rattle.fw_model.proofs.CheckpointLaws.{is_within-holds, each-passed, each-replaced}
+use Rattle.fw_frontier.proofs.NamesLaws.{is_within-holds, within-is}
+use Rattle.fw_model.proofs.CheckpointLaws.{each-passed, each-replaced}
 use Rattle.fw_model.proofs.SameInsideLaws.{at_node}
 use Rattle.fw_model.proofs.WriteLaws.{HoldsOfOne, IsCheckpointAt, IsItsCheckpoint, NamesEvent, LogsEvent, some-checkpoint, some-logged, ArePairs, LiesBelow, AreAscending}
-use Rattle.fw_model.proofs.LowLaws.{at_most-refl, low-within_settled, event-outside, within-is, none-within, watermark-front, kept-counts}
+use Rattle.fw_model.proofs.LowLaws.{at_most-refl, low-within_settled, event-outside, none-within, watermark-front, kept-counts}
 use Rattle.fw_model.proofs.ChoosingLaws.{settled_writes}
 use Rattle.fw_model.proofs.AskedLaws.{takes-declared, takes-restoring, takes-not_input, AreSerialsBelow, serials-each, any-find, LowGrows, given-stamp, given-grows, IsAskedWell, IsWriteAskedWell, IsApart, low-grows, CanRecoverAndRestore, took-reached, first-reached, reached-all}
 use Rattle.fw_model.proofs.RestoringLaws.{full-reached, low-kept, apart-events, all-logged, full-restoring, full-declared}
@@ -354,7 +355,7 @@ acknowledged-exact sys low h p w acknowledged i a = a
 acknowledged-exact sys low h p w collected i a = absurd (cc)
 
 -- a recovery keeps each event that is given up
-kept-below : (sys : System) (state : Machine) (choice : Choice) → ((p : ℕ) → p < length sys.flow.nodes → Within (at_node sys state.low p) (kept_of sys choice p))
+kept-below : (sys : System) (state : Machine) (choice : Choice) → ((p : ℕ) → p < length sys.flow.nodes → Within (at_node sys state.low p) (kept_of sys.flow choice p))
     → (p : ℕ) (w : Written) (far : Progress) → IsAskedWell sys state.low state.next state.history p w far
     → lies_below sys state.low (filtered sys choice state.history) p w ≡ lies_below sys state.low state.history p w
 kept-below sys state choice k p (checkpoint g l) far a = refl
@@ -362,14 +363,14 @@ kept-below sys state choice k p (logged_event s) far a =
     let low = state.low in
     let given : Numbered → Bool = λ v. is_given_up sys low (place sys.flow v.event) (stamp v.event) in
     let test : Numbered → Bool = λ v. v.serial == s && given v in
-    let keeps : Numbered → Bool = λ v. kept_of sys choice (place sys.flow v.event) (stamp v.event) in
+    let keeps : Numbered → Bool = λ v. kept_of sys.flow choice (place sys.flow v.event) (stamp v.event) in
     any-filter test keeps state.history
     (each-weaker (λ (v : Numbered). v.serial ≡ s → place sys.flow v.event ≡ p) (λ v. test v ≡ true → keeps v ≡ true) state.history
     (λ v at e.
     let i = and_parts (v.serial == s) (given v) e in
     let is = at (eqb-true v.serial s i.0) in
     let t = stamp v.event in
-    subst (λ q. kept_of sys choice q t ≡ true) (sym is)
+    subst (λ q. kept_of sys.flow choice q t ≡ true) (sym is)
     (k p (full-declared sys.flow p a.3) t (given-stamp sys low p t (subst (λ q. is_given_up sys low q t ≡ true) is i.1)))) a.1)
 
 any-weaker : {X : Type 0} (test more : X → Bool) (xs : List X) → ((x : X) → test x ≡ true → more x ≡ true) → list_any test xs ≡ true → list_any more xs ≡ true

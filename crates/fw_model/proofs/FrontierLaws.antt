@@ -6,9 +6,9 @@ use Rattle.fw_time.specs.Stamp.{Stamp, leq, nest, outer, counter, in_domain}
 use Rattle.fw_frontier.specs.Frontier.{Frontier, IsFrontier}
 use Rattle.fw_flow.specs.declared.kind.Kind.{Kind}
 use Rattle.fw_flow.specs.declared.kind.Kind.TheVariants.{Enter, Feedback, Leave, Sequence, Regroup}
-use Rattle.fw_flow.specs.Dataflow.{greatest_of_kind, System, kind_of, sender, max_of, greatest_number, domain_of_kind, out_domain_of_kind, bounds_of, bounds_of_domain, is_sequence_kind}
+use Rattle.fw_flow.specs.Dataflow.{greatest_of_kind, System, kind_of, sender, max_of, greatest_number, domain_of_kind, out_domain_of_kind, bounds_of, bounds_of_domain, is_sequence_kind, bounds_of_edge, Dataflow}
 use Rattle.fw_flow.specs.Projection.{sent_count, first_number_of, phi_of_kind, phi, psi_of_kind, psi}
-use Rattle.fw_model.specs.LawsOfProjections.{PhiIsFrontier, PsiIsFrontier, PhiIgnoresHistory, bounds_of_edge}
+use Rattle.fw_model.specs.LawsOfProjections.{PhiIsFrontier, PsiIsFrontier, PhiIgnoresHistory}
 use Rattle.fw_model.proofs.StampLaws.{nest-leq, in_loop, loop-leq, leq_from, leq_to, in_line, line-leq, leq-line}
 use Rattle.fw_model.proofs.SendingLaws.{each_counter-at, each_counter-from, some_counter-at, some_counter-from}
 
@@ -73,32 +73,32 @@ phi_of_kind-closed sys (Regroup r) n f fr s u i j l k =
     (line-leq x y (group-monotone (first_number_of s) (first_number_of u) r greatest_number (line-numbers greatest_number s u i j l))) k
 phi_of_kind-closed sys kind n f fr s u i j l k = fr.closed s u i l k
 
-psi_of_kind-closed : (sys : System) (kind : Kind) (f : Frontier) → IsFrontier (bounds_of_domain sys.flow (domain_of_kind sys.flow kind)) f
-    → (s u : Stamp) → in_domain (bounds_of_domain sys.flow (out_domain_of_kind sys.flow kind)) s ≡ true
-    → in_domain (bounds_of_domain sys.flow (out_domain_of_kind sys.flow kind)) u ≡ true → leq s u ≡ true
-    → psi_of_kind (greatest_of_kind sys.flow kind) kind f u ≡ true → psi_of_kind (greatest_of_kind sys.flow kind) kind f s ≡ true
-psi_of_kind-closed sys (Enter r) f fr s u i j l k =
+psi_of_kind-closed : (flow : Dataflow) (kind : Kind) (f : Frontier) → IsFrontier (bounds_of_domain flow (domain_of_kind flow kind)) f
+    → (s u : Stamp) → in_domain (bounds_of_domain flow (out_domain_of_kind flow kind)) s ≡ true
+    → in_domain (bounds_of_domain flow (out_domain_of_kind flow kind)) u ≡ true → leq s u ≡ true
+    → psi_of_kind (greatest_of_kind flow kind) kind f u ≡ true → psi_of_kind (greatest_of_kind flow kind) kind f s ≡ true
+psi_of_kind-closed flow (Enter r) f fr s u i j l k =
     let b = greatest_number ∷ [] in
-    let m = max_of sys.flow r in
+    let m = max_of flow r in
     let v = in_loop s b m i in
     let q = loop-leq b m s u v (in_loop u b m j) l in
     let a = and_parts (counter u == 0) (f (outer u)) k in
     let y = eqb-true (counter u) 0 a.0 in
     let z = q.1 in
     and_from (counter s == 0) (f (outer s)) (eq-eqb (counter s) 0 (omega arith)) (fr.closed (outer s) (outer u) v.outside q.0 a.1)
-psi_of_kind-closed sys (Feedback r) f fr s u i j l k = feedback-closed (greatest_number ∷ []) (max_of sys.flow r) f fr s u i j l k
-psi_of_kind-closed sys (Leave r) f fr s u i j l k =
-    let m = max_of sys.flow r in
+psi_of_kind-closed flow (Feedback r) f fr s u i j l k = feedback-closed (greatest_number ∷ []) (max_of flow r) f fr s u i j l k
+psi_of_kind-closed flow (Leave r) f fr s u i j l k =
+    let m = max_of flow r in
     let w = some_counter-at f u m k in
     some_counter-from f s m w.0 w.1
     (fr.closed (nest s w.0) (nest u w.0) (nest-leq s (greatest_number ∷ []) w.0 m i w.1) (nest-leq s u w.0 w.0 l (omega arith)) w.2)
-psi_of_kind-closed sys (Regroup r) f fr s u i j l k =
+psi_of_kind-closed flow (Regroup r) f fr s u i j l k =
     let x = first_number_of s * r in
     let y = first_number_of u * r in
     let h = mul-le-mul_right {m = first_number_of s} {n = first_number_of u} r (line-numbers greatest_number s u i j l) in
     let g = leq-line y greatest_number (fr.inside_domain (y ∷ []) k) in
     fr.closed (x ∷ []) (y ∷ []) (line-leq x greatest_number (omega arith)) (line-leq x y h) k
-psi_of_kind-closed sys kind f fr s u i j l k = fr.closed s u i l k
+psi_of_kind-closed flow kind f fr s u i j l k = fr.closed s u i l k
 
 -- ---- the laws
 
@@ -116,13 +116,13 @@ phi-frontier sys h e f fr =
 
 pub psi-frontier : PsiIsFrontier
 unfolding psi bounds_of
-psi-frontier sys e f fr =
-    let kind = kind_of sys.flow (sender sys.flow e) in
+psi-frontier flow e f fr =
+    let kind = kind_of flow (sender flow e) in
     record {
-      inside_domain = λ u k. (and_parts _ (psi_of_kind (greatest_of_kind sys.flow kind) kind f u) k).0;
+      inside_domain = λ u k. (and_parts _ (psi_of_kind (greatest_of_kind flow kind) kind f u) k).0;
       closed = λ s u i l k.
-          let a = and_parts (in_domain (bounds_of_edge sys.flow e) u) (psi_of_kind (greatest_of_kind sys.flow kind) kind f u) k in
-          and_from _ (psi_of_kind (greatest_of_kind sys.flow kind) kind f s) i (psi_of_kind-closed sys kind f fr s u i a.0 l a.1);
+          let a = and_parts (in_domain (bounds_of_edge flow e) u) (psi_of_kind (greatest_of_kind flow kind) kind f u) k in
+          and_from _ (psi_of_kind (greatest_of_kind flow kind) kind f s) i (psi_of_kind-closed flow kind f fr s u i a.0 l a.1);
     }
 
 phi_of_kind-ignores_count : (sys : System) (kind : Kind) (m n : ℕ) (f : Frontier) (u : Stamp) → is_sequence_kind kind ≡ false

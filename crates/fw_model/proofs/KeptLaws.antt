@@ -10,22 +10,21 @@ use Rattle.fw_frontier.specs.Frontier.{Frontier}
 use Rattle.fw_flow.specs.declared.event.Event.{Event}
 use Rattle.fw_flow.specs.declared.event.Event.TheVariants.{Inject, Deliver, Notify}
 use Rattle.fw_flow.specs.declared.event.Message.{Message}
-use Rattle.fw_flow.specs.Dataflow.{System, Dataflow, kind_of, sender, receiver, bounds_of, is_notified_kind}
+use Rattle.fw_flow.specs.Dataflow.{System, Dataflow, kind_of, sender, receiver, bounds_of, is_notified_kind, HasEpochs}
 use Rattle.fw_flow.specs.NodeFunction.{place, stamp, sends, sent_by}
 use Rattle.fw_flow.specs.Projection.{events_at, all_inside, phi}
 use Rattle.fw_flow.specs.WellFormed.{IsWellFormed}
-use Rattle.fw_model.specs.History.{message_cmp, is_among, less, sent, message_on, delivered, pending, is_delivery_to, is_notification, was_delivered_to, was_notified, owed, is_injection, injected_count, IsQuiet, IsEnabled, IsLegal}
-use Rattle.fw_model.specs.LawsOfLegalHistories.{HasEpochs}
-use Rattle.fw_model.specs.LawsOfDeliveries.{AreNumberedInOrder}
-use Rattle.fw_model.specs.LawsOfFiltering.{AreFrontiers, kept_events, messages_from, messages_inside, HaveKeptCauses, KeptDeliveriesHaveKeptCauses, NotifiesNobody, KeptEventsAreLegalWithoutNotices}
-use Rattle.fw_model.proofs.Decisions.{two_ways}
+use Rattle.fw_model.specs.History.{sent, message_on, delivered, pending, is_delivery_to, is_notification, was_delivered_to, was_notified, owed, is_injection, injected_count, IsQuiet, IsEnabled, IsLegal}
+use Rattle.fw_model.specs.LawsOfFiltering.{KeptDeliveriesHaveKeptCauses}
+use Rattle.fw_flow.specs.Message.{message_cmp, is_among, less}
+use Rattle.fw_flow.proofs.MessageLaws.{among-each, message_cmp-equal, less-each}
 use Rattle.fw_model.proofs.StampLaws.{leq_from, leq_to, line-leq, same-is}
-use Rattle.fw_model.proofs.CmpLaws.{among-each, message_cmp-equal}
-use Rattle.fw_model.proofs.LegalLaws.{less-each}
 use Rattle.fw_model.proofs.OrderLaws.{legal-inside_phi}
 use Rattle.fw_model.proofs.ClosedLaws.{numbered-ascend}
 use Rattle.fw_model.proofs.FilterLaws.{filter-all, any-filter, any_filter-none, how_many-filter, pending-kept}
 use Rattle.fw_model.proofs.LocalityLaws.{sends-same, delivers-same}
+use Rattle.fw_model.specs.Order.{AreNumberedInOrder}
+use Rattle.fw_model.specs.Filtering.{AreFrontiers, kept_events, messages_from, messages_inside, HaveKeptCauses}
 
 -- ---- kept deliveries have kept causes
 
@@ -236,12 +235,7 @@ causes-now flow keep h e m c i =
     let a = subst (λ b. AllByRecursion P (cond b (m ∷ []) [] ++ delivered h e)) (eq-eqb e e refl) (c e) in
     a.0 i
 
--- ---- where no node is notified
-
-not_notifiable : (sys : System) (h : List Event) (p : ℕ) (t : Stamp) → NotifiesNobody sys.flow → IsEnabled sys h (Notify p t) → ⊥
-not_notifiable sys h p t n k =
-    let a = and_parts (is_notified_kind (kind_of sys.flow p) && was_delivered_to sys.flow p t h) (not (was_notified p t h)) k.is_owed in
-    two_ways (is_notified_kind (kind_of sys.flow p)) (and_parts (is_notified_kind (kind_of sys.flow p)) (was_delivered_to sys.flow p t h) a.0).0 (n p)
+-- ---- one event more
 
 -- an event more, if it is kept
 pub legal-with : (sys : System) (h : List Event) (keep : ℕ → Frontier) (v : Event) → IsLegal sys (kept_events sys.flow keep h)
@@ -259,20 +253,3 @@ filtering-before sys v h keep c = record {
   frontiers = c.frontiers;
   causes = causes-before sys.flow keep v h c.causes;
 }
-
-without_notices : (sys : System) (h : List Event) (keep : ℕ → Frontier) → NotifiesNobody sys.flow → IsFiltering sys h keep → IsLegal sys (kept_events sys.flow keep h)
-without_notices sys [] keep n c = tt
-without_notices sys (v ∷ h) keep n c =
-    let l = c.legal in
-    let before = filtering-before sys v h keep c in
-    legal-with sys h keep v (without_notices sys h keep n before) (enabled v l.0 before c.causes)
-  where
-    enabled : (v : Event) → IsEnabled sys h v → IsFiltering sys h keep → HaveKeptCauses sys.flow (v ∷ h) keep → keep (place sys.flow v) (stamp v) ≡ true
-        → IsEnabled sys (kept_events sys.flow keep h) v
-    enabled (Inject s x) k c a i = inject-enabled sys h keep c.legal c.frontiers s x k i
-    enabled (Deliver e m) k c a i = deliver-enabled sys h keep c e m k i (causes-now sys.flow keep h e m a i)
-    enabled (Notify p t) k c a i = absurd (not_notifiable sys h p t n k)
-
-pub kept-legal_without_notices : KeptEventsAreLegalWithoutNotices
-kept-legal_without_notices sys h keep w b n l fr c =
-    without_notices sys h keep n (record { well_formed = w; epochs = b; legal = l; frontiers = fr; causes = kept-causes sys h keep w b l fr c })

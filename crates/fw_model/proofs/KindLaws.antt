@@ -14,13 +14,12 @@ use Rattle.fw_flow.specs.declared.event.Event.{Event}
 use Rattle.fw_flow.specs.declared.event.Event.TheVariants.{Inject, Deliver, Notify}
 use Rattle.fw_flow.specs.declared.kind.Kind.{Kind}
 use Rattle.fw_flow.specs.declared.kind.Kind.TheVariants.{Input, OutputEpoch, OutputNumber, Select, Concat, Distinct, Join, Sum, Enter, Feedback, Leave, Total, Sequence, Ledger, Regroup}
-use Rattle.fw_flow.specs.Dataflow.{System, Dataflow, kind_of, receiver, in_edges, domain_of_kind, is_of_numbers, is_numbered, is_notified_kind, send_stamp_of_kind}
+use Rattle.fw_flow.specs.Dataflow.{System, Dataflow, kind_of, receiver, in_edges, domain_of_kind, is_of_numbers, is_numbered, is_notified_kind, send_stamp_of_kind, HasEpochs}
 use Rattle.fw_flow.specs.NodeFunction.{delivered_recs, recs_on_notification, sent_by}
 use Rattle.fw_flow.specs.Projection.{events_at}
 use Rattle.fw_flow.specs.WellFormed.{IsWellFormed, IsInDegree}
 use Rattle.fw_flow.specs.WholeBags.{Timed, recs_where, outputs_of_kind, together}
 use Rattle.fw_model.specs.History.{was_delivered_to, was_notified, owed, delivered, IsLegal}
-use Rattle.fw_model.specs.LawsOfLegalHistories.{HasEpochs}
 use Rattle.fw_model.proofs.WeightLaws.{weigh, weigh-same, weigh-lighter, weigh-equal, how_often-where, one, at_stamp}
 use Rattle.fw_model.proofs.SentLaws.{timed_of, timed_message}
 use Rattle.fw_model.proofs.ArrivalLaws.{at_edge, in_edges-once, in_edges-receive, deliveries, deliveries-weigh, together-weigh}

@@ -8,27 +8,28 @@ use Rattle.fw_flow.specs.Dataflow.{System, bounds_of}
 use Rattle.fw_model.specs.Machine.{Machine, front_of}
 use Rattle.fw_flow.specs.declared.choice.Choice.{Choice}
 use Rattle.fw_model.specs.Choice.{View, IsCandidate, cut_of, IsConsistent, IsCutWithin, IsChoiceWithin}
-use Rattle.fw_model.specs.LawsOfExistence.{AreCheckpointsChains, LargestChoiceExists}
+use Rattle.fw_model.specs.LawsOfExistence.{LargestChoiceExists}
 use Rattle.fw_model.proofs.ChoiceLaws.{candidates-union, union-consistent, have-union, within-union}
 use Rattle.fw_model.proofs.ConsistentLaws.{consistent-decided}
 use Rattle.fw_model.proofs.ListedLaws.{IsIn, each-in, in-map, pairs_of, in-pairs, lists_of, in-lists, each-of_places, fronts_below, in-fronts_below}
+use Rattle.fw_model.specs.Choosing.{AreCheckpointsChains}
 
 -- ---- choices within choices
 
-cut_within-refl : (sys : System) (p : ℕ) (x : Cut) → IsCutWithin sys p x x
+cut_within-refl : (sys : System) (p : ℕ) (x : Cut) → IsCutWithin sys.flow p x x
 cut_within-refl sys p Present = tt
 cut_within-refl sys p (At f) = λ t i. i
 
-cut_within-trans : (sys : System) (p : ℕ) (x y z : Cut) → IsCutWithin sys p x y → IsCutWithin sys p y z → IsCutWithin sys p x z
+cut_within-trans : (sys : System) (p : ℕ) (x y z : Cut) → IsCutWithin sys.flow p x y → IsCutWithin sys.flow p y z → IsCutWithin sys.flow p x z
 cut_within-trans sys p x y Present v w = tt
 cut_within-trans sys p x Present (At h) v w = absurd w
 cut_within-trans sys p Present (At g) (At h) v w = absurd v
 cut_within-trans sys p (At f) (At g) (At h) v w = λ t i. w t (v t i)
 
-within-refl : (sys : System) (x : Choice) → IsChoiceWithin sys x x
+within-refl : (sys : System) (x : Choice) → IsChoiceWithin sys.flow x x
 within-refl sys x = record { cuts = λ p l. cut_within-refl sys p (cut_of x p); notes = λ p l t i. i }
 
-pub within-trans : (sys : System) (x y z : Choice) → IsChoiceWithin sys x y → IsChoiceWithin sys y z → IsChoiceWithin sys x z
+pub within-trans : (sys : System) (x y z : Choice) → IsChoiceWithin sys.flow x y → IsChoiceWithin sys.flow y z → IsChoiceWithin sys.flow x z
 within-trans sys x y z v w = record {
   cuts = λ p l. cut_within-trans sys p (cut_of x p) (cut_of y p) (cut_of z p) (v.cuts p l) (w.cuts p l);
   notes = λ p l t i. w.notes p l t (v.notes p l t i);
@@ -43,12 +44,12 @@ Consistent sys state lost view choice = IsConsistent sys state (IsCandidate sys 
 -- a consistent choice that encloses another one, and each consistent one of the list
 record EnclosesEach (sys : System) (state : Machine) (lost : ℕ → Bool) (view : View) (one : Choice) (cs : List Choice) (union : Choice) : Type 0 where
   pub consistent : Consistent sys state lost view union
-  pub encloses : IsChoiceWithin sys one union
-  pub each : AllByRecursion (λ c. Consistent sys state lost view c → IsChoiceWithin sys c union) cs
+  pub encloses : IsChoiceWithin sys.flow one union
+  pub each : AllByRecursion (λ c. Consistent sys state lost view c → IsChoiceWithin sys.flow c union) cs
 
 both : (sys : System) (state : Machine) (lost : ℕ → Bool) (view : View) → AreCheckpointsChains sys state lost view → (one other : Choice)
     → Consistent sys state lost view one → Consistent sys state lost view other
-    → (union : Choice) × Consistent sys state lost view union × IsChoiceWithin sys one union × IsChoiceWithin sys other union
+    → (union : Choice) × Consistent sys state lost view union × IsChoiceWithin sys.flow one union × IsChoiceWithin sys.flow other union
 both sys state lost view chains one other a b =
     let u = have-union sys state lost view one other a b in
     let v = u.1 in
@@ -126,6 +127,6 @@ largest-exists sys state lost view chains choice a =
       g.0,
       record {
         consistent = h.consistent;
-        largest = λ other b. each-in (λ c. Consistent sys state lost view c → IsChoiceWithin sys c g.0) other (choices sys) (in-choices sys state lost view other b) h.each b;
+        largest = λ other b. each-in (λ c. Consistent sys state lost view c → IsChoiceWithin sys.flow c g.0) other (choices sys) (in-choices sys state lost view other b) h.each b;
       },
     )

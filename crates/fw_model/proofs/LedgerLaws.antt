@@ -16,13 +16,13 @@ use Rattle.fw_flow.specs.declared.kind.Kind.TheVariants.{Ledger}
 use Rattle.fw_flow.specs.Dataflow.{System, kind_of}
 use Rattle.fw_flow.specs.NodeFunction.{delivered_recs, sends_of_kind, sends, sent_by}
 use Rattle.fw_flow.specs.WholeBags.{Timed, recs_where, running_totals}
-use Rattle.fw_model.specs.LawsOfDeliveries.{AreNumberedInOrder}
 use Rattle.fw_model.proofs.StampLaws.{line-leq, same-is}
 use Rattle.fw_model.proofs.WeightLaws.{weigh, weigh-map, weigh-same, weigh-equal, one, one-out, at_stamp}
 use Rattle.fw_model.proofs.SentLaws.{timed_of, timed_message}
 use Rattle.fw_model.proofs.ArrivalLaws.{deliveries}
 use Rattle.fw_model.proofs.InputLaws.{sent-weigh}
 use Rattle.fw_model.proofs.SumLaws.{AreSameBags, value_sum-same}
+use Rattle.fw_model.specs.Order.{AreNumberedInOrder}
 
 -- ---- numbered recs
 

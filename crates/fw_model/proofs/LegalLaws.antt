@@ -17,14 +17,14 @@ use Rattle.fw_flow.specs.declared.event.Event.TheVariants.{Inject, Deliver, Noti
 use Rattle.fw_flow.specs.declared.event.Message.{Message}
 use Rattle.fw_flow.specs.declared.kind.Kind.{Kind}
 use Rattle.fw_flow.specs.declared.kind.Kind.TheVariants.{Input, Sequence}
-use Rattle.fw_flow.specs.Dataflow.{System, Dataflow, idle_node, kind_of, sender, receiver, greatest_number, domain_of, domain_of_kind, out_domain_of, out_domain_of_kind, bounds_of, bounds_of_domain, is_input_kind, is_notified_kind, send_stamp_of_kind, is_sequence_kind}
+use Rattle.fw_flow.specs.Dataflow.{System, Dataflow, idle_node, kind_of, sender, receiver, greatest_number, domain_of, domain_of_kind, out_domain_of, out_domain_of_kind, bounds_of, bounds_of_domain, is_input_kind, is_notified_kind, send_stamp_of_kind, is_sequence_kind, bounds_of_edge, HasEpochs}
 use Rattle.fw_flow.specs.NodeFunction.{place, stamp, recs_on, numbered_messages, sequence_sent, sends_of_kind, sends, sent_by}
 use Rattle.fw_flow.specs.Projection.{events_at}
 use Rattle.fw_flow.specs.WellFormed.{IsWellFormed}
-use Rattle.fw_model.specs.History.{message_cmp, is_among, without, less, sent, delivered, pending, was_delivered_to, was_notified, injected_count, IsLegal, IsEnabled}
-use Rattle.fw_model.specs.LawsOfProjections.{bounds_of_edge}
-use Rattle.fw_model.specs.LawsOfSending.{AreEventsInDomain}
-use Rattle.fw_model.specs.LawsOfLegalHistories.{HasEpochs, LegalEventsAreInDomain, LegalMessagesAreInDomain, OnlyInputsInject}
+use Rattle.fw_model.specs.History.{sent, delivered, pending, was_delivered_to, was_notified, injected_count, IsLegal, IsEnabled, AreEventsInDomain}
+use Rattle.fw_model.specs.LawsOfLegalHistories.{LegalEventsAreInDomain, LegalMessagesAreInDomain, OnlyInputsInject}
+use Rattle.fw_flow.proofs.MessageLaws.{less-each, among-each}
+use Rattle.fw_flow.specs.Message.{message_cmp, is_among, without, less}
 use Rattle.fw_model.proofs.StampLaws.{line-leq}
 use Rattle.fw_model.proofs.SendingLaws.{send_stamp_of_kind-in_domain}
 use Rattle.fw_model.proofs.SendsLaws.{IsAt, sends_of_kind-each}
@@ -66,32 +66,6 @@ sent_by-in_domain sys p (v ∷ vs) d =
     (sends_of_kind-in_domain sys (kind_of sys.flow p) vs v d.0) (sent_by-in_domain sys p vs d.1)
 
 -- ---- what is pending was sent
-
-without-each : (P : Message → Type 0) (m : Message) (ms : List Message) → AllByRecursion P ms → AllByRecursion P (without m ms)
-without-each P m [] a = tt
-without-each P m (x ∷ xs) a =
-    cond_both (is_eq (message_cmp m x)) xs (x ∷ without m xs) (AllByRecursion P) (λ e. a.1) (λ e. (a.0, without-each P m xs a.1))
-
-pub less-each : (P : Message → Type 0) (ms ds : List Message) → AllByRecursion P ms → AllByRecursion P (less ms ds)
-less-each P ms [] a = a
-less-each P ms (d ∷ ds) a = without-each P d (less ms ds) (less-each P ms ds a)
-
-then_eq : (o q : Ordering) → is_eq (ordering_then o q) ≡ true → is_eq o ≡ true
-then_eq Less q e = e
-then_eq Equal q e = refl
-then_eq Greater q e = e
-
--- messages that the order finds the same are at one stamp
-pub message_cmp-at : (m x : Message) → is_eq (message_cmp m x) ≡ true → m.at ≡ x.at
-message_cmp-at m x e =
-    (bytes_eq-Decides m.at x.at).0 (sym (is_eq-slice_cmp m.at x.at) ∙ then_eq (stamp_cmp m.at x.at) _ e)
-
-pub is_among-at : (P : Stamp → Type 0) (m : Message) (ms : List Message) → is_among m ms ≡ true → AllByRecursion (λ (x : Message). P x.at) ms → P m.at
-is_among-at P m [] k a = absurd (cc)
-is_among-at P m (x ∷ xs) k a = elim (or_cases (is_eq (message_cmp m x)) (is_among m xs) k) [
-  | inl e ↦ subst P (sym (message_cmp-at m x e)) a.0
-  | inr l ↦ is_among-at P m xs l a.1
-]
 
 -- ---- edges join equal domains
 
@@ -161,7 +135,7 @@ enabled-in_domain sys h w b d (Inject s x) k =
 enabled-in_domain sys h w b d (Deliver e m) k =
     let p = sender sys.flow e in
     edge-receiver sys.flow w e m.at
-    (is_among-at (λ t. out_bounds sys.flow p t ≡ true) m (pending sys h e) k.is_pending
+    (among-each (λ x. out_bounds sys.flow p x.at ≡ true) m (pending sys h e) k.is_pending
     (less-each (λ x. out_bounds sys.flow p x.at ≡ true) (sent sys h e) (delivered h e)
     (sent_by-in_domain sys p (events_at sys.flow p h) (events_at-in_domain sys.flow p h d))))
 enabled-in_domain sys h w b d (Notify p t) k =

@@ -5,11 +5,9 @@ pub mod AskedStateLaws
 pub mod CheckpointLaws
 pub mod ChoiceLaws
 pub mod ChoosingLaws
-pub mod ClearSteps
 pub mod ClosedLaws
 pub mod CmpLaws
 pub mod CompleteLaws
-pub mod CompleteSteps
 pub mod ConsistentLaws
 pub mod Decisions
 pub mod DenotationDomainLaws
@@ -20,7 +18,6 @@ pub mod DescentLaws
 pub mod DistinctLaws
 pub mod DomainLaws
 pub mod EnabledLaws
-pub mod EventSteps
 pub mod FilterLaws
 pub mod FilteredLaws
 pub mod ForgottenLaws
@@ -32,7 +29,6 @@ pub mod JoinLaws
 pub mod KeptLaws
 pub mod KindLaws
 pub mod LargestLaws
-pub mod LeastSteps
 pub mod LedgerLaws
 pub mod LegalLaws
 pub mod ListedLaws
@@ -42,6 +38,7 @@ pub mod MeasureLaws
 pub mod MeetLaws
 pub mod NotifiedLaws
 pub mod NumberedLaws
+pub mod OfferLaws
 pub mod OncePerNumberLaws
 pub mod OneByOneLaws
 pub mod OneNextLaws
@@ -54,14 +51,11 @@ pub mod PhiLaws
 pub mod PrefixLaws
 pub mod PsiBackLaws
 pub mod PsiLaws
-pub mod ReadySteps
-pub mod RecSteps
 pub mod RecoveryLaws
 pub mod RestoringLaws
 pub mod RewritingLaws
 pub mod RunLaws
 pub mod SameInsideLaws
-pub mod SendSteps
 pub mod SendingLaws
 pub mod SendsLaws
 pub mod SentLaws
@@ -76,9 +70,9 @@ pub mod StampMeasures
 pub mod SubBagLaws
 pub mod SumLaws
 pub mod TableLaws
+pub mod TallyLaws
 pub mod TimedCounts
 pub mod TimedLaws
-pub mod WaitingSteps
 pub mod WeightLaws
 pub mod WellFormedLaws
 pub mod WriteLaws

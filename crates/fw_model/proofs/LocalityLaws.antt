@@ -15,14 +15,12 @@ use Rattle.fw_flow.specs.declared.event.Message.{Message}
 use Rattle.fw_flow.specs.declared.kind.Kind.{Kind}
 use Rattle.fw_flow.specs.declared.kind.Kind.TheVariants.{OutputEpoch, Distinct, Join, Sum, Total, Sequence, Ledger}
 use Rattle.fw_flow.specs.declared.node.Edge.{Edge}
-use Rattle.fw_flow.specs.Dataflow.{greatest_of_kind, System, Dataflow, idle_node, kind_of, sender, receiver, edges_into, in_edges, domain_of_kind, bounds_of, bounds_of_domain, is_input_kind, is_notified_kind, is_of_numbers, out_domain_of_kind, send_stamp_of_kind}
+use Rattle.fw_flow.specs.Dataflow.{greatest_of_kind, System, Dataflow, idle_node, kind_of, sender, receiver, edges_into, in_edges, domain_of_kind, bounds_of, bounds_of_domain, is_input_kind, is_notified_kind, is_of_numbers, out_domain_of_kind, send_stamp_of_kind, HasEpochs}
 use Rattle.fw_flow.specs.NodeFunction.{place, stamp, rec_of_delivery, delivered_recs, recs_on_delivery, recs_on_notification, recs_on, numbered_messages, sequence_sent, messages_at_some, sends_of_kind, sends, sent_by}
 use Rattle.fw_flow.specs.Projection.{events_at, all_inside, count_from, sent_count, phi_of_kind, phi}
 use Rattle.fw_flow.specs.WellFormed.{IsWellFormed, IsInDegree}
 use Rattle.fw_model.specs.History.{message_on, sent, delivered, was_delivered_to, was_notified, IsEnabled, IsLegal}
-use Rattle.fw_model.specs.LawsOfSending.{notified_stamps, AreDescending}
-use Rattle.fw_model.specs.LawsOfLegalHistories.{HasEpochs}
-use Rattle.fw_model.specs.LawsOfFiltering.{AreFrontiers, kept_events, events_inside, messages_from, messages_inside, KeptEventsSendTheSame, KeptEventsSendTheSameFromWithin, KeptEventsDeliverTheSame, PhiOfKeptEvents}
+use Rattle.fw_model.specs.LawsOfFiltering.{KeptEventsSendTheSame, KeptEventsSendTheSameFromWithin, KeptEventsDeliverTheSame, PhiOfKeptEvents}
 use Rattle.fw_model.proofs.Decisions.{two_ways}
 use Rattle.fw_model.proofs.StampLaws.{leq_from, leq_to, line-leq, same-is}
 use Rattle.fw_model.proofs.FilterLaws.{filter-in, filter-out, filter-inner, filter-all, filter-none, filter-swap, how_many-filter, flat_map-filter}
@@ -30,6 +28,8 @@ use Rattle.fw_model.proofs.SendsLaws.{IsAt, sends_of_kind-each}
 use Rattle.fw_model.proofs.SequenceLaws.{IsNumbered, numbered-each, one_inside}
 use Rattle.fw_model.proofs.OrderLaws.{sequences-in_order}
 use Rattle.fw_model.proofs.PhiLaws.{all_inside-monotone}
+use Rattle.fw_model.specs.Order.{notified_stamps, AreDescending}
+use Rattle.fw_model.specs.Filtering.{AreFrontiers, kept_events, events_inside, messages_from, messages_inside}
 
 -- with the stamp each lesser one is inside
 abbrev IsInsideUpTo : Frontier → Stamp → Type 0

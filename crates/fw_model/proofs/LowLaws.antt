@@ -6,11 +6,9 @@ use Rattle.std.proofs.lemmas.List.{get_or-map, length-map}
 use Rattle.std.proofs.lemmas.List.FromFn.{get_or-map-range_with_len, length-map-range_with_len}
 use Rattle.fw_time.specs.Stamp.{Stamp, leq, same, in_domain, origin}
 use Rattle.fw_time.specs.declared.stamp.Bounds.{Bounds}
-use Rattle.fw_time.proofs.EachLaws.{each-weaker, each-both, all-of_each}
 use Rattle.fw_frontier.specs.Frontier.{Frontier, Within, nothing, cover}
-use Rattle.fw_frontier.specs.Front.{Front, inside, frontier_of, IsCanonical}
-use Rattle.fw_frontier.proofs.CanonicalLaws.{in_domain-canonical}
-use Rattle.fw_frontier.proofs.NamesLaws.{names-nothing, all-outside}
+use Rattle.fw_frontier.specs.Front.{Front, inside, frontier_of, IsCanonical, is_within}
+use Rattle.fw_frontier.proofs.NamesLaws.{names-nothing, within-is}
 use Rattle.fw_flow.specs.declared.choice.Cut.{Cut}
 use Rattle.fw_flow.specs.declared.choice.Cut.TheVariants.{Present, At}
 use Rattle.fw_flow.specs.declared.event.Event.{Event}
@@ -18,22 +16,23 @@ use Rattle.fw_flow.specs.declared.event.Event.TheVariants.{Inject as Injected, D
 use Rattle.fw_flow.specs.declared.event.Message.{Message}
 use Rattle.fw_flow.specs.declared.kind.Kind.{Kind}
 use Rattle.fw_flow.specs.declared.kind.Kind.TheVariants.{Input}
-use Rattle.fw_flow.specs.Dataflow.{System, Dataflow, kind_of, policy_of, sender, receiver, in_edges, bounds_of, batches_of, greatest_number, is_input_kind, is_notified_kind}
+use Rattle.fw_flow.specs.Dataflow.{System, Dataflow, kind_of, policy_of, sender, receiver, in_edges, bounds_of, batches_of, greatest_number, is_input_kind, is_notified_kind, HasEpochs}
 use Rattle.fw_flow.specs.NodeFunction.{place, stamp}
 use Rattle.fw_flow.specs.Projection.{phi}
 use Rattle.fw_flow.specs.WellFormed.{IsWellFormed, IsInDegree}
 use Rattle.fw_model.specs.History.{some_at, pending, was_delivered_to, was_notified, is_injection, injected_count, is_exhausted, IsEnabled, IsLegal}
 use Rattle.fw_model.specs.Machine.{Machine, Numbered, Write, Written, checkpoint, logged_event, Progress, in_flight, acknowledged, collected, events, no_stamps, first_state, front_of, bound_of}
 use Rattle.fw_flow.specs.declared.choice.Choice.{Choice}
-use Rattle.fw_model.specs.Choice.{View, kept, ever, Restoring, by_batches, by_bound, by_anything, by_checkpoints, by_events, restoring, can_resend, takes_its_cut, takes_its_notes, counts, until, HasCheckpoint, IsLogged, AllLogged, IsRestorable, HoldsLow, IsCandidate, cut_of, note_of, kept_of, set_of, IsConsistent, IsCutWithin, IsLargest, filtered, delivered_cover, notified_cover, discarded_at, discarded_cover}
-use Rattle.fw_model.specs.Steps.{write_of_event, with_event, is_within, AcknowledgesOldest, is_one_of, is_in_flight, has_serial, is_kept_write, IsSettledCut, CutsTo, recovered, lies_below, after_collection, collected_writes, front_of_cut}
-use Rattle.fw_model.specs.LawsOfLegalHistories.{HasEpochs}
-use Rattle.fw_model.specs.LawsOfFiltering.{IsFull, AreFrontiers, kept_events}
-use Rattle.fw_model.specs.LawsOfChoosing.{low_choice}
+use Rattle.fw_model.specs.Choice.{View, kept, ever, counts, until, HasCheckpoint, IsLogged, AllLogged, IsRestorable, HoldsLow, IsCandidate, cut_of, note_of, kept_of, IsConsistent, IsCutWithin, IsLargest, filtered}
+use Rattle.fw_model.specs.Steps.{write_of_event, with_event, AcknowledgesOldest, is_one_of, is_in_flight, has_serial, is_kept_write, IsSettledCut, CutsTo, recovered, lies_below, after_collection, collected_writes, front_of_cut}
+use Rattle.fw_flow.specs.declared.restoring.Restoring.{Restoring}
+use Rattle.fw_flow.specs.declared.restoring.Restoring.TheVariants.{Batches, Bound, Anything, Checkpoints, Events}
+use Rattle.fw_flow.specs.Restoring.{restoring, can_resend, way_of}
+use Rattle.fw_model.specs.Covers.{takes_its_cut, takes_its_notes, set_of, discarded_at, covers_in, tallies_in}
 use Rattle.fw_model.proofs.Decisions.{two_ways}
 use Rattle.fw_model.proofs.StampLaws.{line-leq, leq-line, same-refl}
 use Rattle.fw_model.proofs.WeightLaws.{weigh}
-use Rattle.fw_model.proofs.CmpLaws.{among-each}
+use Rattle.fw_flow.proofs.MessageLaws.{among-each}
 use Rattle.fw_model.proofs.ArrivalLaws.{at_edge, in_edges-once}
 use Rattle.fw_model.proofs.ChoiceLaws.{by_batches-input, bounds-input}
 use Rattle.fw_model.proofs.FilteredLaws.{filtered-events, set-frontier}
@@ -46,6 +45,9 @@ use Rattle.fw_model.proofs.RunLaws.{none-inside}
 use Rattle.fw_model.proofs.RecoveryLaws.{edge-there}
 use Rattle.fw_model.proofs.SameInsideLaws.{at_node, IsSameInside, inside-refl, inside-event, inside-kept, IsLowConsistent, low_length, low_cut, low-offered, low-stays}
 use Rattle.fw_model.proofs.WriteLaws.{some-weaker, some-append, some-passed, some-mapped, some-replaced, IsCheckpointAt, IsItsCheckpoint, NamesEvent, LogsEvent, some-checkpoint, checkpoint-some, some-logged, logged-some}
+use Rattle.fw_model.specs.Settled.{IsFull}
+use Rattle.fw_model.specs.Filtering.{AreFrontiers, kept_events}
+use Rattle.fw_model.specs.Choosing.{low_choice}
 
 pub at_most-refl : (n : ℕ) → n ≤ n
 at_most-refl n = omega arith
@@ -79,7 +81,7 @@ quiet-each test (m ∷ ms) q = let a = or_parts (test m.at) (some_at test ms) q 
 pub low-within_settled : (sys : System) (state : Machine) (notes : List Front) → HasWritesSettled sys state → IsLowConsistent sys state notes
     → (p : ℕ) → p < length sys.flow.nodes → (kind_of sys.flow p ≡ Input → ⊥) → Within (at_node sys state.low p) (at_node sys state.settled p)
 low-within_settled sys state notes a c p l n =
-    restorable-within sys state kept p (restoring (kind_of sys.flow p) (policy_of sys.flow p)) (front_of state.low p) l
+    restorable-within sys state kept p (way_of sys.flow p) (front_of state.low p) l
     (λ b. n (by_batches-input (kind_of sys.flow p) (policy_of sys.flow p) b)) a (low-offered sys state notes c p l).1 l
 
 -- what is outside that is outside it
@@ -90,7 +92,7 @@ outside_low sys state notes a c p l n t o =
 
 -- a batch that was not injected lies outside
 pub batch-outside : (sys : System) (state : Machine) (s x : ℕ) (f : Front) → injected_count s (events state.history) ≤ x → x < length (batches_of sys s)
-    → IsRestorable sys state kept s by_batches f → frontier_of (bounds_of sys.flow s) f (x ∷ []) ≡ false
+    → IsRestorable sys state kept s Batches f → frontier_of (bounds_of sys.flow s) f (x ∷ []) ≡ false
 batch-outside sys state s x f next there a = elim a [
   | inl b ↦ false_from_ne_true (frontier_of (bounds_of sys.flow s) f (x ∷ [])) (λ i.
       let j = (and_parts (in_domain (bounds_of sys.flow s) (x ∷ [])) (inside f (x ∷ [])) i).1 in
@@ -118,7 +120,7 @@ pub event-outside : (sys : System) (state : Machine) (notes : List Front) (v : E
     → at_node sys state.low p (stamp v) ≡ false
 event-outside sys state notes (Injected s x) w f a c k p l e =
     let m : s < length sys.flow.nodes = subst (λ n. n < length sys.flow.nodes) (sym e) l in
-    let way : restoring (kind_of sys.flow s) (policy_of sys.flow s) ≡ by_batches = ap (λ kind. restoring kind (policy_of sys.flow s)) (input-is (kind_of sys.flow s) k.input) in
+    let way : way_of sys.flow s ≡ Batches = ap (λ kind. restoring kind (policy_of sys.flow s)) (input-is (kind_of sys.flow s) k.input) in
     let next = k.next in
     subst (λ n. at_node sys state.low n (x ∷ []) ≡ false) e
     (batch-outside sys state s x (front_of state.low s) (omega arith) k.there (subst (λ r. IsRestorable sys state kept s r (front_of state.low s)) way (low-offered sys state notes c s m).1))
@@ -170,7 +172,7 @@ still-exhausted sys h (Delivered d m) p k e = e
 still-exhausted sys h (Notified q t) p k e = e
 
 batches-event : (sys : System) (state : Machine) (v : Event) → IsEnabled sys (events state.history) v → (p : ℕ) (f : Front)
-    → IsRestorable sys state kept p by_batches f → IsRestorable sys (with_event sys state v) kept p by_batches f
+    → IsRestorable sys state kept p Batches f → IsRestorable sys (with_event sys state v) kept p Batches f
 batches-event sys state v k p f a = elim a [
   | inl b ↦ inl (b.0, count-grows (is_injection p v) b.0 (injected_count p (events state.history)) b.1, b.2)
   | inr b ↦ inr (still-exhausted sys (events state.history) v p k b.0, b.1)
@@ -294,16 +296,16 @@ checkpoint-ever ever p f n (checkpoint g l) far a = (a.0, a.1, kept-counts far a
 checkpoint-ever ever p f n (logged_event s) far a = absurd a
 
 restorable-ever : (sys : System) (state : Machine) (view : View) (p : ℕ) (way : Restoring) (f : Front) → IsRestorable sys state kept p way f → IsRestorable sys state view p way f
-restorable-ever sys state view p by_batches f a = a
-restorable-ever sys state view p by_bound f a = a
-restorable-ever sys state view p by_anything f a = a
-restorable-ever sys state view p by_checkpoints f a = elim a [
+restorable-ever sys state view p Batches f a = a
+restorable-ever sys state view p Bound f a = a
+restorable-ever sys state view p Anything f a = a
+restorable-ever sys state view p Checkpoints f a = elim a [
   | inl n ↦ inl n
   | inr c ↦ inr (checkpoint-some view p f state.writes
       (some-weaker (IsItsCheckpoint kept p f) (IsItsCheckpoint view p f) state.writes (λ x b. checkpoint-ever view p f x.node x.written x.progress b)
       (some-checkpoint kept p f state.writes c)))
 ]
-restorable-ever sys state view p by_events f a = a
+restorable-ever sys state view p Events f a = a
 
 low-ever : (view : View) (low f : Frontier) → Within low f → HoldsLow view low f
 low-ever kept low f w = w
@@ -314,7 +316,7 @@ pub candidate-ever : (sys : System) (state : Machine) (lost : ℕ → Bool) (vie
 candidate-ever sys state lost view p Present a = a
 candidate-ever sys state lost view p (At f) a = (
   a.0,
-  restorable-ever sys state view p (restoring (kind_of sys.flow p) (policy_of sys.flow p)) f a.1,
+  restorable-ever sys state view p (way_of sys.flow p) f a.1,
   low-ever view (at_node sys state.low p) (frontier_of (bounds_of sys.flow p) f) a.2,
 )
 
@@ -345,30 +347,21 @@ low-any sys state notes c lost view =
 
 -- the largest choice contains the low watermark
 pub low-within : (sys : System) (state : Machine) (notes : List Front) → IsLowConsistent sys state notes → (lost : ℕ → Bool) (view : View) (choice : Choice)
-    → IsLargest sys state (IsCandidate sys state lost view) choice → (p : ℕ) → p < length sys.flow.nodes → IsCutWithin sys p (At (front_of state.low p)) (cut_of choice p)
+    → IsLargest sys state (IsCandidate sys state lost view) choice → (p : ℕ) → p < length sys.flow.nodes → IsCutWithin sys.flow p (At (front_of state.low p)) (cut_of choice p)
 low-within sys state notes c lost view choice m p l =
-    subst (λ x. IsCutWithin sys p x (cut_of choice p)) (low_cut state notes p (omega (arith, low_length sys state notes c)))
+    subst (λ x. IsCutWithin sys.flow p x (cut_of choice p)) (low_cut state notes p (omega (arith, low_length sys state notes c)))
     ((m.largest (low_choice state notes) (low-any sys state notes c lost view)).cuts p l)
 
 -- a cut that lies within another keeps no more
-pub within-set : (sys : System) (p : ℕ) (f : Front) (cut : Cut) → IsCutWithin sys p (At f) cut → Within (frontier_of (bounds_of sys.flow p) f) (set_of sys p cut)
+pub within-set : (sys : System) (p : ℕ) (f : Front) (cut : Cut) → IsCutWithin sys.flow p (At f) cut → Within (frontier_of (bounds_of sys.flow p) f) (set_of sys.flow p cut)
 within-set sys p f Present k t i = (and_parts (in_domain (bounds_of sys.flow p) t) (inside f t) i).0
 within-set sys p f (At g) k t i = k t i
 
 -- ---- a recovery
 
--- a front within a canonical one passes the test
-pub within-is : (b : Bounds) (f g : Front) → IsCanonical b g → Within (frontier_of b f) (frontier_of b g) → is_within f g ≡ true
-within-is b f g c w =
-    all-of_each (λ o. not (inside f o)) g
-    (each-weaker (λ o. (in_domain b o ≡ true) × (inside g o ≡ false)) (λ o. not (inside f o) ≡ true) g
-    (λ o a. ap not (false_from_ne_true (inside f o) (λ k.
-    two_ways (inside g o) (and_parts (in_domain b o) (inside g o) (w o (and_from (in_domain b o) (inside f o) a.0 k))).1 a.1)))
-    (each-both (λ o. in_domain b o ≡ true) (λ o. inside g o ≡ false) g (in_domain-canonical b g c) (all-outside g)))
-
 -- a checkpoint within a cut that is offered is kept
 checkpoint-kept : (sys : System) (state : Machine) (lost : ℕ → Bool) (view : View) (h : List Numbered) (p : ℕ) (f : Front) (low : List Front) (cut : Cut)
-    → IsCandidate sys state lost view p cut → IsCutWithin sys p (At f) cut → is_kept_write cut (checkpoint f low) h ≡ true
+    → IsCandidate sys state lost view p cut → IsCutWithin sys.flow p (At f) cut → is_kept_write cut (checkpoint f low) h ≡ true
 checkpoint-kept sys state lost view h p f low Present a k = refl
 checkpoint-kept sys state lost view h p f low (At g) a k = within-is (bounds_of sys.flow p) f g a.0 k
 
@@ -433,7 +426,7 @@ kept-fewer sys h keep l fr s = elim (injections-kept sys h keep l fr s) [ inl e 
 
 batches-kept : (sys : System) (state next : Machine) (keep : ℕ → Frontier) → HasEpochs sys → IsLegal sys (events state.history) → AreFrontiers sys.flow keep
     → events next.history ≡ kept_events sys.flow keep (events state.history) → (s : ℕ) → kind_of sys.flow s ≡ Input → (f : Front)
-    → Within (frontier_of (bounds_of sys.flow s) f) (keep s) → IsRestorable sys state kept s by_batches f → IsRestorable sys next kept s by_batches f
+    → Within (frontier_of (bounds_of sys.flow s) f) (keep s) → IsRestorable sys state kept s Batches f → IsRestorable sys next kept s Batches f
 batches-kept sys state next keep b l fr same s is f w a =
     let h = events state.history in
     let now : injected_count s (events next.history) ≡ injected_count s (kept_events sys.flow keep h) = ap (injected_count s) same in
@@ -454,7 +447,7 @@ batches-kept sys state next keep b l fr same s is f w a =
 
 -- what was settled and is kept is settled
 cut-within : (sys : System) (p : ℕ) (cut : Cut) (before after f : Front) → IsSettledCut sys p cut before after
-    → Within (frontier_of (bounds_of sys.flow p) f) (set_of sys p cut) → Within (frontier_of (bounds_of sys.flow p) f) (frontier_of (bounds_of sys.flow p) before)
+    → Within (frontier_of (bounds_of sys.flow p) f) (set_of sys.flow p cut) → Within (frontier_of (bounds_of sys.flow p) f) (frontier_of (bounds_of sys.flow p) before)
     → Within (frontier_of (bounds_of sys.flow p) f) (frontier_of (bounds_of sys.flow p) after)
 cut-within sys p Present before after f c w v t i = ap (λ os. frontier_of (bounds_of sys.flow p) os t) c ∙ v t i
 cut-within sys p (At g) before after f c w v t i =
@@ -465,11 +458,11 @@ pub recovery-low : (sys : System) (state : Machine) (notes : List Front) (choice
     → CutsTo sys state choice settled → IsLowConsistent sys (recovered sys state choice settled) notes
 recovery-low sys state notes choice settled w b l c lost m cuts =
     let h = events state.history in
-    let keep = kept_of sys choice in
+    let keep = kept_of sys.flow choice in
     let next = recovered sys state choice settled in
     let fr : AreFrontiers sys.flow keep = λ p. set-frontier sys p (cut_of choice p) in
     let same_events : events next.history ≡ kept_events sys.flow keep h = filtered-events sys choice state.history in
-    let lies : (p : ℕ) → p < length sys.flow.nodes → IsCutWithin sys p (At (front_of state.low p)) (cut_of choice p) = low-within sys state notes c lost kept choice m in
+    let lies : (p : ℕ) → p < length sys.flow.nodes → IsCutWithin sys.flow p (At (front_of state.low p)) (cut_of choice p) = low-within sys state notes c lost kept choice m in
     let within : (p : ℕ) → p < length sys.flow.nodes → Within (at_node sys state.low p) (keep p) = λ p i. within-set sys p (front_of state.low p) (cut_of choice p) (lies p i) in
     let after = filtered sys choice state.history in
     let test : Write → Bool = λ write. is_kept_write (cut_of choice write.node) write.written after in
@@ -487,7 +480,7 @@ recovery-low sys state notes choice settled w b l c lost m cuts =
       logs = λ r. logs-serials sys p (at_node sys state.low p) state.writes (filter test state.writes) after after (λ s k. k)
           (λ s k a. logged-some s (filter test state.writes) (some-passed (LogsEvent s) test state.writes
           (λ x n. named-kept (cut_of choice x.node) after s x.written x.progress k n) (some-logged s state.writes a)))
-          (logs-passed sys p (at_node sys state.low p) state.writes (λ v. kept_of sys choice (place sys.flow v.event) (stamp v.event)) state.history r);
+          (logs-passed sys p (at_node sys state.low p) state.writes (λ v. kept_of sys.flow choice (place sys.flow v.event) (stamp v.event)) state.history r);
     }) c
 
 -- ---- a collection
@@ -512,28 +505,6 @@ watermark-cuts sys state choice c =
 abbrev with_low : Machine → List Front → List Write → Machine
 with_low state low writes = record state { low = low; writes = writes }
 
-delivered-unchanged : (sys : System) (state : Machine) (low : List Front) (writes : List Write) (p d : ℕ) (cut : Cut)
-    → delivered_cover sys (with_low state low writes) p d cut ≡ delivered_cover sys state p d cut
-delivered-unchanged sys state low writes p d Present = refl
-delivered-unchanged sys state low writes p d (At f) = refl
-
-notified-unchanged : (sys : System) (state : Machine) (low : List Front) (writes : List Write) (p : ℕ) (cut : Cut)
-    → notified_cover sys (with_low state low writes) p cut ≡ notified_cover sys state p cut
-notified-unchanged sys state low writes p Present = refl
-notified-unchanged sys state low writes p (At f) = refl
-
-discarded_at-unchanged : (sys : System) (state : Machine) (low : List Front) (writes : List Write) (p e : ℕ) (way : Restoring) (f : Frontier)
-    → discarded_at sys (with_low state low writes) p e way f ≡ discarded_at sys state p e way f
-discarded_at-unchanged sys state low writes p e by_anything f = refl
-discarded_at-unchanged sys state low writes p e way f = refl
-
-discarded-unchanged : (sys : System) (state : Machine) (low : List Front) (writes : List Write) (p e : ℕ) (cut : Cut)
-    → discarded_cover sys (with_low state low writes) p e cut ≡ discarded_cover sys state p e cut
-discarded-unchanged sys state low writes p e Present = refl
-discarded-unchanged sys state low writes p e (At f) =
-    ap (λ g. cond (can_resend (policy_of sys.flow p)) nothing g)
-    (discarded_at-unchanged sys state low writes p e (restoring (kind_of sys.flow p) (policy_of sys.flow p)) (frontier_of (bounds_of sys.flow p) f))
-
 unchanged-consistent : (sys : System) (state : Machine) (low : List Front) (writes : List Write) (choice : Choice)
     → ((p : ℕ) → p < length sys.flow.nodes → IsCandidate sys (with_low state low writes) (λ q. true) kept p (cut_of choice p))
     → IsConsistent sys state (IsCandidate sys state (λ p. true) kept) choice
@@ -543,13 +514,9 @@ unchanged-consistent sys state low writes choice offered c = record {
   one_note_each = c.one_note_each;
   offered = offered;
   canonical = c.canonical;
-  delivered = λ d l t k.
-      let r = receiver sys.flow d in
-      c.delivered d l t (sym (ap (λ f. f t) (delivered-unchanged sys state low writes r d (cut_of choice r))) ∙ k);
-  discarded = λ e l t k.
-      let q = sender sys.flow e in
-      c.discarded e l t (sym (ap (λ f. f t) (discarded-unchanged sys state low writes q e (cut_of choice q))) ∙ k);
-  notified = λ p l t k. c.notified p l t (sym (ap (λ f. f t) (notified-unchanged sys state low writes p (cut_of choice p))) ∙ k);
+  delivered = c.delivered;
+  discarded = c.discarded;
+  notified = c.notified;
   own = c.own;
   notes = c.notes;
 }
@@ -589,10 +556,10 @@ far_after sys low h x = after_collection (lies_below sys low h x.node x.written)
 
 collected-restorable : (sys : System) (state : Machine) (low : List Front) (p : ℕ) (way : Restoring) → IsRestorable sys state kept p way (front_of low p)
     → IsRestorable sys (with_low state low (collected_writes sys low state.history state.writes)) kept p way (front_of low p)
-collected-restorable sys state low p by_batches a = a
-collected-restorable sys state low p by_bound a = a
-collected-restorable sys state low p by_anything a = a
-collected-restorable sys state low p by_checkpoints a = elim a [
+collected-restorable sys state low p Batches a = a
+collected-restorable sys state low p Bound a = a
+collected-restorable sys state low p Anything a = a
+collected-restorable sys state low p Checkpoints a = elim a [
   | inl n ↦ inl n
   | inr c ↦
       let f = front_of low p in
@@ -600,7 +567,7 @@ collected-restorable sys state low p by_checkpoints a = elim a [
       (some-mapped (IsItsCheckpoint kept p f) (IsItsCheckpoint kept p f) (λ (x : Write). record x { progress = far_after sys low state.history x }) state.writes
       (λ x b. checkpoint-stays sys low state.history p x.node x.written x.progress b) (some-checkpoint kept p f state.writes c)))
 ]
-collected-restorable sys state low p by_events a = (
+collected-restorable sys state low p Events a = (
   a.0,
   logs-weaker sys p (frontier_of (bounds_of sys.flow p) (front_of low p)) state.writes (collected_writes sys low state.history state.writes)
       (λ s k. logged-some s (collected_writes sys low state.history state.writes)
@@ -616,7 +583,7 @@ collected-offered sys state low p cut e a =
     let b = subst (λ x. IsCandidate sys state (λ q. true) kept p x) (sym e) a in
     subst (λ x. IsCandidate sys next (λ q. true) kept p x) e (
       b.0,
-      collected-restorable sys state low p (restoring (kind_of sys.flow p) (policy_of sys.flow p)) b.1,
+      collected-restorable sys state low p (way_of sys.flow p) b.1,
       λ t i. i,
     )
 
@@ -652,30 +619,30 @@ none-canonical b = subst (λ t. IsCanonical b (t ∷ [])) (origin-zeros b.greate
 pub none-within : (b : Bounds) (g : Frontier) → Within (frontier_of b (no_stamps b)) g
 none-within b g t i = absurd (none-inside b t i)
 
-none-restorable : (sys : System) (p : ℕ) (way : Restoring) → restoring (kind_of sys.flow p) (policy_of sys.flow p) ≡ way
+none-restorable : (sys : System) (p : ℕ) (way : Restoring) → way_of sys.flow p ≡ way
     → IsRestorable sys (first_state sys) kept p way (no_stamps (bounds_of sys.flow p))
-none-restorable sys p by_batches e =
+none-restorable sys p Batches e =
     inl (0, at_most-refl 0, ap no_stamps (bounds-input sys.flow p (by_batches-input (kind_of sys.flow p) (policy_of sys.flow p) e)))
-none-restorable sys p by_bound e = (none-within (bounds_of sys.flow p) _, none-within (bounds_of sys.flow p) _)
-none-restorable sys p by_anything e = none-within (bounds_of sys.flow p) _
-none-restorable sys p by_checkpoints e = inl refl
-none-restorable sys p by_events e = (none-within (bounds_of sys.flow p) _, tt)
+none-restorable sys p Bound e = (none-within (bounds_of sys.flow p) _, none-within (bounds_of sys.flow p) _)
+none-restorable sys p Anything e = none-within (bounds_of sys.flow p) _
+none-restorable sys p Checkpoints e = inl refl
+none-restorable sys p Events e = (none-within (bounds_of sys.flow p) _, tt)
 
 nothing-covered : (flag : Bool) (b : Bounds) (g : Frontier) (t : Stamp) → cond flag (frontier_of b (no_stamps b)) (cover b []) t ≡ true → g t ≡ true
 nothing-covered true b g t i = none-within b g t i
 nothing-covered false b g t i = absurd (two_ways false (and_parts (in_domain b t) false i).1 refl)
 
-nothing-discarded : (sys : System) (p e : ℕ) (way : Restoring) (g : Frontier) (t : Stamp)
-    → discarded_at sys (first_state sys) p e way (frontier_of (bounds_of sys.flow p) (no_stamps (bounds_of sys.flow p))) t ≡ true → g t ≡ true
-nothing-discarded sys p e by_anything g t i =
-    absurd (two_ways false (sym (psi-nothing sys e t)
-    ∙ psi-monotone sys e (frontier_of (bounds_of sys.flow p) (no_stamps (bounds_of sys.flow p))) nothing (none-within (bounds_of sys.flow p) nothing) t i) refl)
-nothing-discarded sys p e way g t i = nothing-covered false (bounds_of sys.flow (receiver sys.flow e)) g t i
+nothing-discarded : (sys : System) (e : ℕ) (way : Restoring) (g : Frontier) (t : Stamp)
+    → discarded_at sys.flow e way ((tallies_in sys (first_state sys)).sent e (At (no_stamps (bounds_of sys.flow (sender sys.flow e))))) (no_stamps (bounds_of sys.flow (sender sys.flow e))) t ≡ true → g t ≡ true
+nothing-discarded sys e Anything g t i =
+    let b = bounds_of sys.flow (sender sys.flow e) in
+    absurd (two_ways false (sym (psi-nothing sys.flow e t) ∙ psi-monotone sys.flow e (frontier_of b (no_stamps b)) nothing (none-within b nothing) t i) refl)
+nothing-discarded sys e way g t i = nothing-covered false (bounds_of sys.flow (receiver sys.flow e)) g t i
 
-nothing-lost : (sys : System) (p e : ℕ) (flag : Bool) (way : Restoring) (g : Frontier) (t : Stamp)
-    → cond flag nothing (discarded_at sys (first_state sys) p e way (frontier_of (bounds_of sys.flow p) (no_stamps (bounds_of sys.flow p)))) t ≡ true → g t ≡ true
-nothing-lost sys p e true way g t i = absurd (two_ways false i refl)
-nothing-lost sys p e false way g t i = nothing-discarded sys p e way g t i
+nothing-lost : (sys : System) (e : ℕ) (flag : Bool) (way : Restoring) (g : Frontier) (t : Stamp)
+    → cond flag nothing (discarded_at sys.flow e way ((tallies_in sys (first_state sys)).sent e (At (no_stamps (bounds_of sys.flow (sender sys.flow e))))) (no_stamps (bounds_of sys.flow (sender sys.flow e)))) t ≡ true → g t ≡ true
+nothing-lost sys e true way g t i = absurd (two_ways false i refl)
+nothing-lost sys e false way g t i = nothing-discarded sys e way g t i
 
 pub first-low : (sys : System) → IsWellFormed sys.flow → IsLowConsistent sys (first_state sys) (first_state sys).low
 first-low sys w =
@@ -693,23 +660,23 @@ first-low sys w =
       one_note_each = long;
       offered = λ p l. subst (λ x. IsCandidate sys state (λ q. true) kept p x) (sym (cut p l)) (
         none-canonical (bounds_of sys.flow p),
-        none-restorable sys p (restoring (kind_of sys.flow p) (policy_of sys.flow p)) refl,
+        none-restorable sys p (way_of sys.flow p) refl,
         note p l (frontier_of (bounds_of sys.flow p) (none p)),
       );
       canonical = λ p l. subst (IsCanonical (bounds_of sys.flow p)) (sym (front p l)) (none-canonical (bounds_of sys.flow p));
       delivered = λ d l t i.
           let r = receiver sys.flow d in
-          nothing-covered (takes_its_cut (restoring (kind_of sys.flow r) (policy_of sys.flow r))) (bounds_of sys.flow r)
-          (phi sys [] d (kept_of sys (low_choice state state.low) (sender sys.flow d))) t
-          (sym (ap (λ x. delivered_cover sys state r d x t) (cut r (w.receivers_declared d l))) ∙ i);
+          nothing-covered (takes_its_cut (way_of sys.flow r)) (bounds_of sys.flow r)
+          (phi sys [] d (kept_of sys.flow (low_choice state state.low) (sender sys.flow d))) t
+          (sym (ap (λ x. (covers_in sys state).delivered d x t) (cut r (w.receivers_declared d l))) ∙ i);
       discarded = λ e l t i.
           let q = sender sys.flow e in
-          nothing-lost sys q e (can_resend (policy_of sys.flow q)) (restoring (kind_of sys.flow q) (policy_of sys.flow q))
-          (kept_of sys (low_choice state state.low) (receiver sys.flow e)) t
-          (sym (ap (λ x. discarded_cover sys state q e x t) (cut q (w.senders_declared e l))) ∙ i);
+          nothing-lost sys e (can_resend (policy_of sys.flow q)) (way_of sys.flow q)
+          (kept_of sys.flow (low_choice state state.low) (receiver sys.flow e)) t
+          (sym (ap (λ x. (covers_in sys state).discarded e x t) (cut q (w.senders_declared e l))) ∙ i);
       notified = λ p l t i.
-          nothing-covered (takes_its_notes (kind_of sys.flow p) (policy_of sys.flow p)) (bounds_of sys.flow p) (note_of sys (low_choice state state.low) p) t
-          (sym (ap (λ x. notified_cover sys state p x t) (cut p l)) ∙ i);
-      own = λ p l. note p l (kept_of sys (low_choice state state.low) p);
-      notes = λ d l. note (receiver sys.flow d) (w.receivers_declared d l) (phi sys [] d (note_of sys (low_choice state state.low) (sender sys.flow d)));
+          nothing-covered (takes_its_notes (kind_of sys.flow p) (policy_of sys.flow p)) (bounds_of sys.flow p) (note_of sys.flow (low_choice state state.low) p) t
+          (sym (ap (λ x. (covers_in sys state).notified p x t) (cut p l)) ∙ i);
+      own = λ p l. note p l (kept_of sys.flow (low_choice state state.low) p);
+      notes = λ d l. note (receiver sys.flow d) (w.receivers_declared d l) (phi sys [] d (note_of sys.flow (low_choice state state.low) (sender sys.flow d)));
     }

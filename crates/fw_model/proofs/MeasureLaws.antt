@@ -11,10 +11,11 @@ use Rattle.fw_flow.specs.Dataflow.{Dataflow, kind_of, sender, receiver, max_of, 
 use Rattle.fw_flow.specs.WellFormed.{IsWellFormed, IsLoopDeclared, is_feedback_kind}
 use Rattle.fw_flow.specs.Walks.{is_same_loop, is_looped, Ranks}
 use Rattle.fw_flow.proofs.Ranks.{ranks-exist}
-use Rattle.fw_model.specs.LawsOfDenotation.{enough_rounds, MeasureExists}
+use Rattle.fw_model.specs.LawsOfDenotation.{MeasureExists}
 use Rattle.fw_model.proofs.StampLaws.{counter-leq}
 use Rattle.fw_model.proofs.SendingLaws.{some_is, fed_back-some}
 use Rattle.fw_model.proofs.OutputLaws.{is_local_kind}
+use Rattle.fw_model.specs.Measure.{enough_rounds}
 
 -- ---- the measure
 

@@ -14,13 +14,12 @@ use Rattle.fw_flow.specs.declared.event.Event.TheVariants.{Inject, Deliver, Noti
 use Rattle.fw_flow.specs.declared.event.Message.{Message}
 use Rattle.fw_flow.specs.declared.kind.Kind.{Kind}
 use Rattle.fw_flow.specs.declared.kind.Kind.TheVariants.{Sum, Total}
-use Rattle.fw_flow.specs.Dataflow.{System, Dataflow, kind_of, receiver, is_notified_kind}
+use Rattle.fw_flow.specs.Dataflow.{System, Dataflow, kind_of, receiver, is_notified_kind, HasEpochs}
 use Rattle.fw_flow.specs.NodeFunction.{place, delivered_recs, recs_on_notification, sends_of_kind, sends, sent_by}
 use Rattle.fw_flow.specs.Projection.{events_at}
 use Rattle.fw_flow.specs.WellFormed.{IsWellFormed}
 use Rattle.fw_flow.specs.WholeBags.{Timed}
 use Rattle.fw_model.specs.History.{is_notification, was_delivered_to, was_notified, IsEnabled, IsLegal}
-use Rattle.fw_model.specs.LawsOfLegalHistories.{HasEpochs}
 use Rattle.fw_model.proofs.WeightLaws.{weigh, one, one-out}
 use Rattle.fw_model.proofs.SentLaws.{timed_of, timed_message}
 use Rattle.fw_model.proofs.ArrivalLaws.{deliveries}

@@ -15,13 +15,14 @@ use Rattle.fw_flow.specs.Dataflow.{System, Dataflow, kind_of, sender, receiver, 
 use Rattle.fw_flow.specs.WellFormed.{IsWellFormed, IsInDegree}
 use Rattle.fw_flow.specs.Walks.{is_same_loop}
 use Rattle.fw_flow.specs.WholeBags.{Timed, timed_cmp, in_order, numbered, running_totals, together, outputs_of_kind}
-use Rattle.fw_model.specs.Denotation.{Family, IsDenotation}
-use Rattle.fw_model.specs.LawsOfDenotation.{Measure, AreNumberedFrom, DenotationIsNumbered}
+use Rattle.fw_model.specs.Denotation.{Family, IsDenotation, AreNumberedFrom}
+use Rattle.fw_model.specs.LawsOfDenotation.{DenotationIsNumbered}
 use Rattle.fw_model.proofs.LegalLaws.{edge_domains}
 use Rattle.fw_model.proofs.TimedLaws.{IsAscendingTimed, ascending-cons, ascending-nil, in_order-ascending}
 use Rattle.fw_model.proofs.MeasureLaws.{measure-exists}
 use Rattle.fw_model.proofs.DependenceLaws.{in_edges-each}
 use Rattle.fw_model.proofs.DenotationLaws.{past-outputs}
+use Rattle.fw_model.specs.Measure.{Measure}
 
 -- ---- numbered lists
 

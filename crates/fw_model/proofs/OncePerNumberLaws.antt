@@ -11,8 +11,7 @@ use Rattle.fw_flow.specs.Dataflow.{System, is_numbered}
 use Rattle.fw_flow.specs.Projection.{first_number_of}
 use Rattle.fw_flow.specs.WellFormed.{IsWellFormed}
 use Rattle.fw_flow.specs.WholeBags.{Timed}
-use Rattle.fw_model.specs.Denotation.{Family, IsDenotation}
-use Rattle.fw_model.specs.LawsOfDenotation.{AreNumberedFrom}
+use Rattle.fw_model.specs.Denotation.{Family, IsDenotation, AreNumberedFrom}
 use Rattle.fw_model.proofs.NumberedLaws.{denotation-numbered}
 use Rattle.fw_model.proofs.StampLaws.{in_line, same-is}
 use Rattle.fw_model.proofs.WeightLaws.{weigh, weigh-lighter, one, one-in, one-out, is_at, is_at-is, is_at-self}

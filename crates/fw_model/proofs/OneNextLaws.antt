@@ -13,14 +13,15 @@ use Rattle.fw_flow.specs.declared.event.Event.TheVariants.{Inject as Injected, D
 use Rattle.fw_flow.specs.declared.event.Message.{Message}
 use Rattle.fw_flow.specs.declared.step.Step.{Step}
 use Rattle.fw_flow.specs.declared.step.Step.TheVariants.{Inject, Deliver, Notify, Progress as ProgressStep, Checkpoint, Persist, Fail, Recover, Collect, Ack}
-use Rattle.fw_flow.specs.Dataflow.{System, bounds_of}
-use Rattle.fw_model.specs.Machine.{Machine, Write, acknowledged, events, places, front_of, is_failed}
+use Rattle.fw_flow.specs.Dataflow.{System, bounds_of, places}
+use Rattle.fw_model.specs.Machine.{Machine, Write, acknowledged, events, front_of, is_failed}
 use Rattle.fw_flow.specs.declared.choice.Choice.{Choice}
 use Rattle.fw_model.specs.Choice.{kept, cut_of}
 use Rattle.fw_model.specs.Steps.{Effect, acked, cuts, lows, did, idle, with_event, eager_writes, GrowsTo, is_in_flight, AcknowledgesOldest, IsSettledCut, CutsTo, recovered, front_of_cut, collected_writes, recs_at_output, LeadsTo}
 use Rattle.fw_model.specs.LawsOfSteps.{OneNextState}
 use Rattle.fw_model.proofs.ChoiceLaws.{largest-one}
-use Rattle.fw_model.proofs.CmpLaws.{stamp_cmp-same, stamp_total, message_cmp-same, message_total, tied}
+use Rattle.fw_flow.proofs.MessageLaws.{message_cmp-same, message_total}
+use Rattle.fw_model.proofs.CmpLaws.{stamp_cmp-same, stamp_total, tied}
 use Rattle.fw_model.proofs.Decisions.{two_ways}
 use Rattle.fw_model.proofs.DescentLaws.{complete-one}
 

@@ -11,14 +11,12 @@ use Rattle.fw_flow.specs.declared.event.Event.{Event}
 use Rattle.fw_flow.specs.declared.event.Event.TheVariants.{Inject, Deliver, Notify}
 use Rattle.fw_flow.specs.declared.kind.Domain.TheVariants.{Epoch, Number}
 use Rattle.fw_flow.specs.declared.kind.Kind.TheVariants.{OutputEpoch, Sequence}
-use Rattle.fw_flow.specs.Dataflow.{System, Dataflow, kind_of, sender, receiver, greatest_number, domain_of_kind, out_domain_of_kind, bounds_of, is_input_kind, is_notified_kind, send_stamp_of_kind, is_sequence_kind}
+use Rattle.fw_flow.specs.Dataflow.{System, Dataflow, kind_of, sender, receiver, greatest_number, domain_of_kind, out_domain_of_kind, bounds_of, is_input_kind, is_notified_kind, send_stamp_of_kind, is_sequence_kind, bounds_of_edge, HasEpochs}
 use Rattle.fw_flow.specs.NodeFunction.{sent_by}
 use Rattle.fw_flow.specs.Projection.{events_at, all_inside, phi}
 use Rattle.fw_flow.specs.WellFormed.{IsWellFormed}
-use Rattle.fw_model.specs.History.{less, some_at, delivered, was_delivered_to, was_notified, owed, IsAdmissible, IsNotifiable, IsEnabled, IsLegal}
-use Rattle.fw_model.specs.LawsOfProjections.{bounds_of_edge}
-use Rattle.fw_model.specs.LawsOfSending.{ComesFromInside, notified_stamps, AreDescending}
-use Rattle.fw_model.specs.LawsOfLegalHistories.{HasEpochs}
+use Rattle.fw_model.specs.History.{some_at, delivered, was_delivered_to, was_notified, owed, IsAdmissible, IsNotifiable, IsEnabled, IsLegal}
+use Rattle.fw_flow.specs.Message.{less}
 use Rattle.fw_model.specs.LawsOfCompleteFrontiers.{SequencesAreNotifiedInOrder, LegalInsidePhiComesFromInside}
 use Rattle.fw_model.proofs.StampLaws.{in_line, line-leq, leq_from, leq_to}
 use Rattle.fw_model.proofs.PhiLaws.{phi-monotone, phi-longer}
@@ -28,6 +26,8 @@ use Rattle.fw_model.proofs.SequenceLaws.{bounds-sequence, notified_in_domain, in
 use Rattle.fw_model.proofs.LegalLaws.{enabled-in_domain, legal-in_domain, legal_events-in_domain, only_inputs_inject, edge_domains}
 use Rattle.fw_model.proofs.CompleteLaws.{admissible-stays, sender_sorts, not_owed-notified}
 use Rattle.fw_model.proofs.Decisions.{two_ways}
+use Rattle.fw_model.specs.Sending.{ComesFromInside}
+use Rattle.fw_model.specs.Order.{notified_stamps, AreDescending}
 
 -- ---- a family with a notified stamp in it
 

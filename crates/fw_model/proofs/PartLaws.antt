@@ -11,20 +11,19 @@ use Rattle.fw_frontier.specs.Front.{Front, frontier_of}
 use Rattle.fw_flow.specs.declared.event.Event.{Event}
 use Rattle.fw_flow.specs.declared.event.Event.TheVariants.{Inject, Deliver, Notify}
 use Rattle.fw_flow.specs.declared.event.Message.{Message}
-use Rattle.fw_flow.specs.Dataflow.{System, Dataflow, receiver, bounds_of}
+use Rattle.fw_flow.specs.Dataflow.{System, Dataflow, receiver, bounds_of, HasEpochs}
 use Rattle.fw_flow.specs.NodeFunction.{place, stamp}
 use Rattle.fw_flow.specs.Projection.{events_at}
 use Rattle.fw_flow.specs.WellFormed.{IsWellFormed}
-use Rattle.fw_model.specs.History.{message_on, delivered, IsLegal}
+use Rattle.fw_model.specs.History.{sent, message_on, delivered, IsLegal}
 use Rattle.fw_model.specs.Machine.{Machine, events}
-use Rattle.fw_model.specs.Choice.{stamps_inside, stamp_of_notice, notified_inside}
-use Rattle.fw_model.specs.LawsOfLegalHistories.{HasEpochs}
-use Rattle.fw_model.specs.LawsOfFiltering.{AreFrontiers, kept_events, events_inside}
-use Rattle.fw_model.specs.LawsOfRestoring.{IsSamePart, CountsTheSame}
+use Rattle.fw_model.specs.Covers.{stamps_from, stamps_inside, stamp_of_notice, notified_inside}
 use Rattle.fw_model.proofs.Decisions.{two_ways}
 use Rattle.fw_model.proofs.FilterLaws.{filter-out, filter-inner, flat_map-filter}
 use Rattle.fw_model.proofs.LocalityLaws.{events_at-kept, sends-same_within}
 use Rattle.fw_model.proofs.SameInsideLaws.{sent-outside, delivered-same, notified-same, discarded-same}
+use Rattle.fw_model.specs.Filtering.{AreFrontiers, kept_events, events_inside}
+use Rattle.fw_model.specs.Writes.{IsSamePart, CountsTheSame}
 
 -- ---- the part of a node
 
@@ -112,11 +111,14 @@ part-counts sys state next p f same =
     let k = events next.history in
     record {
       part = same;
-      delivered = λ d r. delivered-same sys state next p d f
+      delivered = λ d r. delivered-same sys state next d f
+          (subst (λ q. let x = frontier_of (bounds_of sys.flow q) f in stamps_inside x (delivered k d) ≡ stamps_inside x (delivered h d)) (sym r)
           (deliveries-of_part sys.flow d g k
           ∙ ap (flat_map (λ v. stamps_inside g (message_on d v))) (subst (λ q. events_inside g (events_at sys.flow q k) ≡ events_inside g (events_at sys.flow q h)) (sym r) same.events)
-          ∙ sym (deliveries-of_part sys.flow d g h));
+          ∙ sym (deliveries-of_part sys.flow d g h)));
       notified = notified-same sys state next p f
           (notices-of_part sys.flow p g k ∙ ap (flat_map (λ v. filter g (stamp_of_notice p v))) same.events ∙ sym (notices-of_part sys.flow p g h));
-      discarded = λ e s. discarded-same sys state next p e f (ap (map (λ (m : Message). m.at)) (same.sent e s));
+      discarded = λ e s. discarded-same sys state next e f
+          (subst (λ q. let x = frontier_of (bounds_of sys.flow q) f in stamps_from x (sent sys k e) ≡ stamps_from x (sent sys h e)) (sym s)
+          (ap (map (λ (m : Message). m.at)) (same.sent e s)));
     }

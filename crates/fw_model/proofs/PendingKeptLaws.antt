@@ -6,7 +6,7 @@ use Rattle.fw_time.specs.Stamp.{Stamp, leq, same, in_domain}
 use Rattle.fw_time.proofs.EachLaws.{each-weaker, each-both, each-kept}
 use Rattle.fw_time.proofs.StampLaws.{leq-refl}
 use Rattle.fw_frontier.specs.Frontier.{Frontier, IsFrontier, everything, nothing, cover, some_above}
-use Rattle.fw_frontier.specs.Front.{frontier_of}
+use Rattle.fw_frontier.specs.Front.{Front, frontier_of}
 use Rattle.fw_frontier.proofs.NamesLaws.{frontier-closed}
 use Rattle.fw_flow.specs.declared.choice.Cut.{Cut}
 use Rattle.fw_flow.specs.declared.choice.Cut.TheVariants.{Present, At}
@@ -15,25 +15,30 @@ use Rattle.fw_flow.specs.declared.event.Message.{Message}
 use Rattle.fw_flow.specs.declared.kind.Kind.TheVariants.{OutputEpoch, Sequence}
 use Rattle.fw_flow.specs.declared.kind.Policy.{Policy}
 use Rattle.fw_flow.specs.declared.kind.Policy.TheVariants as policy
-use Rattle.fw_flow.specs.Dataflow.{System, Dataflow, kind_of, policy_of, sender, receiver, bounds_of, bounds_of_domain}
+use Rattle.fw_flow.specs.Dataflow.{System, Dataflow, kind_of, policy_of, sender, receiver, bounds_of, bounds_of_domain, bounds_of_edge, HasEpochs}
 use Rattle.fw_flow.specs.Projection.{all_inside}
 use Rattle.fw_flow.specs.WellFormed.{IsWellFormed, IsPolicyAllowed}
-use Rattle.fw_model.specs.History.{less, some_at, sent, delivered, pending, IsLegal}
+use Rattle.fw_flow.specs.Message.{less}
+use Rattle.fw_model.specs.History.{some_at, sent, delivered, pending, IsLegal}
 use Rattle.fw_model.specs.Machine.{Machine, events}
 use Rattle.fw_flow.specs.declared.choice.Choice.{Choice}
-use Rattle.fw_model.specs.Choice.{Restoring, by_bound, by_anything, restoring_of_policy, restoring, can_resend, stamps_from, set_of, cut_of, kept_of, sent_cover, discarded_at, discarded_cover}
-use Rattle.fw_model.specs.LawsOfProjections.{bounds_of_edge}
-use Rattle.fw_model.specs.LawsOfSending.{SendsByStamp}
-use Rattle.fw_model.specs.LawsOfLegalHistories.{HasEpochs}
-use Rattle.fw_model.specs.LawsOfFiltering.{kept_events, messages_from, messages_inside, messages_outside, PendingAtKeptStamps, PendingAtOtherStamps, PendingForPresent, PendingForCut, NothingPendingWithoutLog}
+use Rattle.fw_model.specs.Choice.{cut_of, kept_of}
+use Rattle.fw_model.specs.LawsOfFiltering.{PendingAtKeptStamps, PendingAtOtherStamps, PendingForPresent, PendingForCut, NothingPendingWithoutLog}
+use Rattle.fw_flow.specs.declared.restoring.Restoring.{Restoring}
+use Rattle.fw_flow.specs.declared.restoring.Restoring.TheVariants.{Bound, Anything}
+use Rattle.fw_flow.specs.Restoring.{restoring_of_policy, restoring, can_resend, way_of}
+use Rattle.fw_model.specs.Covers.{stamps_from, set_of, discarded_at, covers_in, tallies_in}
+use Rattle.fw_flow.proofs.MessageLaws.{less-each, filter-less}
 use Rattle.fw_model.proofs.Decisions.{two_ways}
-use Rattle.fw_model.proofs.LegalLaws.{less-each, edge_domains, legal_messages-in_domain}
+use Rattle.fw_model.proofs.LegalLaws.{edge_domains, legal_messages-in_domain}
 use Rattle.fw_model.proofs.CompleteLaws.{past_edges-idle, sender_sorts}
 use Rattle.fw_model.proofs.SendsLaws.{sent_from_inside-inside_psi}
-use Rattle.fw_model.proofs.FilterLaws.{filter-in, filter-out, filter-all, filter-none, filter-less}
+use Rattle.fw_model.proofs.FilterLaws.{filter-in, filter-out, filter-all, filter-none}
 use Rattle.fw_model.proofs.LocalityLaws.{sends-same, delivers-same}
 use Rattle.fw_model.proofs.KeptLaws.{kept-causes, pending-inside}
 use Rattle.fw_model.proofs.FilteredLaws.{filtered-events, choice-consistent}
+use Rattle.fw_model.specs.Sending.{SendsByStamp}
+use Rattle.fw_model.specs.Filtering.{kept_events, messages_from, messages_inside, messages_outside}
 
 -- ---- messages inside and outside
 
@@ -80,15 +85,15 @@ sent-in_domain sys h w b l e =
     (λ m i. sym (ap (λ d. in_domain (bounds_of_domain sys.flow d) m.at) (edge_domains sys.flow w e)) ∙ i) (legal_messages-in_domain sys h w b l e)
 
 present-all : (sys : System) (choice : Choice) (p : ℕ) (ms : List Message) → cut_of choice p ≡ Present
-    → AllByRecursion (λ (m : Message). in_domain (bounds_of sys.flow p) m.at ≡ true) ms → messages_inside (kept_of sys choice p) ms ≡ ms
+    → AllByRecursion (λ (m : Message). in_domain (bounds_of sys.flow p) m.at ≡ true) ms → messages_inside (kept_of sys.flow choice p) ms ≡ ms
 present-all sys choice p ms is a =
-    filter-all (λ (m : Message). kept_of sys choice p m.at) ms
-    (each-weaker (λ (m : Message). in_domain (bounds_of sys.flow p) m.at ≡ true) (λ m. kept_of sys choice p m.at ≡ true) ms (λ m i. ap (λ c. set_of sys p c m.at) is ∙ i) a)
+    filter-all (λ (m : Message). kept_of sys.flow choice p m.at) ms
+    (each-weaker (λ (m : Message). in_domain (bounds_of sys.flow p) m.at ≡ true) (λ m. kept_of sys.flow choice p m.at ≡ true) ms (λ m i. ap (λ c. set_of sys.flow p c m.at) is ∙ i) a)
 
 pub pending-present : PendingForPresent
 pending-present sys state choice w b l c e is =
     let h = events state.history in
-    let keep = kept_of sys choice in
+    let keep = kept_of sys.flow choice in
     let r = receiver sys.flow e in
     let f = keep (sender sys.flow e) in
     let k = choice-consistent sys state choice w c in
@@ -116,7 +121,7 @@ none-inside g (m ∷ ms) q = (
 pub pending-cut : PendingForCut
 pending-cut sys state choice w b l full c e within =
     let h = events state.history in
-    let keep = kept_of sys choice in
+    let keep = kept_of sys.flow choice in
     let r = receiver sys.flow e in
     let g = keep r in
     let f = keep (sender sys.flow e) in
@@ -145,9 +150,10 @@ above-from test (m ∷ ms) =
 abbrev IsSentInside : System → List Event → ℕ → Frontier → Frontier → Type 0
 IsSentInside sys h e f cover = AllByRecursion (λ (m : Message). all_inside f m.causes ≡ true → cover m.at ≡ true) (sent sys h e)
 
-sent-covered : (sys : System) (state : Machine) → IsWellFormed sys.flow → HasEpochs sys → IsLegal sys (events state.history) → (e : ℕ) (f : Frontier)
-    → IsSentInside sys (events state.history) e f (sent_cover sys state (sender sys.flow e) e f)
-sent-covered sys state w b l e f =
+sent-covered : (sys : System) (state : Machine) → IsWellFormed sys.flow → HasEpochs sys → IsLegal sys (events state.history) → (e : ℕ) (cut : Cut)
+    → IsSentInside sys (events state.history) e (set_of sys.flow (sender sys.flow e) cut) ((tallies_in sys state).sent e cut)
+sent-covered sys state w b l e cut =
+    let f = set_of sys.flow (sender sys.flow e) cut in
     let h = events state.history in
     let bounds = bounds_of sys.flow (receiver sys.flow e) in
     let ss = stamps_from f (sent sys h e) in
@@ -158,7 +164,7 @@ sent-covered sys state w b l e f =
     (sent-in_domain sys h w b l e) (above-from (λ (m : Message). all_inside f m.causes) (sent sys h e)))
 
 -- a sequence keeps something
-keeps_something : (p : Policy) → IsPolicyAllowed Sequence p → restoring_of_policy p ≡ by_anything → ⊥
+keeps_something : (p : Policy) → IsPolicyAllowed Sequence p → restoring_of_policy p ≡ Anything → ⊥
 keeps_something policy.None a e = cc
 keeps_something policy.Lazy a e = cc
 keeps_something policy.Logged a e = cc
@@ -166,40 +172,41 @@ keeps_something policy.Eager a e = cc
 keeps_something policy.Full a e = cc
 
 -- a sender that is restored by anything settled sends by stamp
-restored-by_stamp : (flow : Dataflow) → IsWellFormed flow → (e : ℕ) → restoring (kind_of flow (sender flow e)) (policy_of flow (sender flow e)) ≡ by_anything
+restored-by_stamp : (flow : Dataflow) → IsWellFormed flow → (e : ℕ) → way_of flow (sender flow e) ≡ Anything
     → SendsByStamp flow (kind_of flow (sender flow e))
 restored-by_stamp flow w e way =
     let q = sender flow e in
     let p = policy_of flow q in
     elim (sender_sorts flow w e) [
       | inl (inr by) ↦ by
-      | inr is ↦ let no_way : by_bound ≡ by_anything = sym (ap (λ kind. restoring kind p) is) ∙ way in absurd (cc no_way)
+      | inr is ↦ let no_way : Bound ≡ Anything = sym (ap (λ kind. restoring kind p) is) ∙ way in absurd (cc no_way)
       | inl (inl is) ↦ elim (cases_lt e (length flow.edges)) [
         | inl l ↦ absurd (keeps_something p (subst (λ kind. IsPolicyAllowed kind p) is (w.policies q (w.senders_declared e l))) (sym (ap (λ kind. restoring kind p) is) ∙ way))
         | inr l ↦ let no_kind : Sequence ≡ OutputEpoch = sym is ∙ past_edges-idle flow e l in absurd (cc no_kind)
       ]
     ]
 
-discarded-way : (sys : System) (state : Machine) → IsWellFormed sys.flow → HasEpochs sys → IsLegal sys (events state.history) → (e : ℕ) (f : Frontier)
-    → IsFrontier (bounds_of sys.flow (sender sys.flow e)) f → (way : Restoring) → (way ≡ by_anything → SendsByStamp sys.flow (kind_of sys.flow (sender sys.flow e)))
-    → IsSentInside sys (events state.history) e f (discarded_at sys state (sender sys.flow e) e way f)
-discarded-way sys state w b l e f fr by_anything by = sent_from_inside-inside_psi sys (events state.history) e f (by refl) fr
-discarded-way sys state w b l e f fr way by = sent-covered sys state w b l e f
+discarded-way : (sys : System) (state : Machine) → IsWellFormed sys.flow → HasEpochs sys → IsLegal sys (events state.history) → (e : ℕ) (f : Front) (way : Restoring)
+    → (way ≡ Anything → SendsByStamp sys.flow (kind_of sys.flow (sender sys.flow e)))
+    → IsSentInside sys (events state.history) e (frontier_of (bounds_of sys.flow (sender sys.flow e)) f) (discarded_at sys.flow e way ((tallies_in sys state).sent e (At f)) f)
+discarded-way sys state w b l e f Anything by =
+    let bounds = bounds_of sys.flow (sender sys.flow e) in
+    sent_from_inside-inside_psi sys (events state.history) e (frontier_of bounds f) (by refl) (frontier-closed bounds f)
+discarded-way sys state w b l e f way by = sent-covered sys state w b l e (At f)
 
 discarded-sent : (sys : System) (state : Machine) → IsWellFormed sys.flow → HasEpochs sys → IsLegal sys (events state.history) → (e : ℕ) (cut : Cut)
     → can_resend (policy_of sys.flow (sender sys.flow e)) ≡ false
-    → IsSentInside sys (events state.history) e (set_of sys (sender sys.flow e) cut) (discarded_cover sys state (sender sys.flow e) e cut)
+    → IsSentInside sys (events state.history) e (set_of sys.flow (sender sys.flow e) cut) ((covers_in sys state).discarded e cut)
 discarded-sent sys state w b l e Present no_log =
     let q = sender sys.flow e in
-    let f = everything (bounds_of sys.flow q) in
-    subst (IsSentInside sys (events state.history) e f) (sym (cond-false (can_resend (policy_of sys.flow q)) nothing (sent_cover sys state q e f) no_log))
-    (sent-covered sys state w b l e f)
+    subst (IsSentInside sys (events state.history) e (everything (bounds_of sys.flow q)))
+    (sym (cond-false (can_resend (policy_of sys.flow q)) nothing ((tallies_in sys state).sent e Present) no_log)) (sent-covered sys state w b l e Present)
 discarded-sent sys state w b l e (At g) no_log =
     let q = sender sys.flow e in
-    let f = frontier_of (bounds_of sys.flow q) g in
-    let way = restoring (kind_of sys.flow q) (policy_of sys.flow q) in
-    subst (IsSentInside sys (events state.history) e f) (sym (cond-false (can_resend (policy_of sys.flow q)) nothing (discarded_at sys state q e way f) no_log))
-    (discarded-way sys state w b l e f (frontier-closed (bounds_of sys.flow q) g) way (restored-by_stamp sys.flow w e))
+    let way = way_of sys.flow q in
+    subst (IsSentInside sys (events state.history) e (frontier_of (bounds_of sys.flow q) g))
+    (sym (cond-false (can_resend (policy_of sys.flow q)) nothing (discarded_at sys.flow e way ((tallies_in sys state).sent e (At g)) g) no_log))
+    (discarded-way sys state w b l e g way (restored-by_stamp sys.flow w e))
 
 -- what all passes one test, that passes another, leaves nothing to the rest
 none-left : {X : Type 0} (j k : X → Bool) (xs : List X) → AllByRecursion (λ x. k x ≡ true → j x ≡ true) xs → filter (λ x. not (j x)) (filter k xs) ≡ []
@@ -213,10 +220,10 @@ pub pending-without_log : NothingPendingWithoutLog
 pending-without_log sys state choice w b l full c e within keeps no_log =
     let h = events state.history in
     let q = sender sys.flow e in
-    let g = kept_of sys choice (receiver sys.flow e) in
-    let f = kept_of sys choice q in
+    let g = kept_of sys.flow choice (receiver sys.flow e) in
+    let f = kept_of sys.flow choice q in
     pending-cut sys state choice w b l full c e within
     ∙ none-left (λ (m : Message). g m.at) (λ m. all_inside f m.causes) (sent sys h e)
-    (each-weaker (λ (m : Message). all_inside f m.causes ≡ true → discarded_cover sys state q e (cut_of choice q) m.at ≡ true)
+    (each-weaker (λ (m : Message). all_inside f m.causes ≡ true → (covers_in sys state).discarded e (cut_of choice q) m.at ≡ true)
     (λ m. all_inside f m.causes ≡ true → g m.at ≡ true) (sent sys h e) (λ m a i. keeps m.at (a i))
     (discarded-sent sys state w b l e (cut_of choice q) no_log))

@@ -6,8 +6,9 @@ use Rattle.std.proofs.lemmas.Bool.{and_from, or_cases, or_left, or_right, or_par
 use Rattle.fw_time.specs.Stamp.{Stamp, leq, same}
 use Rattle.fw_time.proofs.StampLaws.{leq-refl}
 use Rattle.fw_flow.specs.declared.event.Message.{Message}
-use Rattle.fw_model.specs.History.{message_cmp, is_among, without, less, some_at}
-use Rattle.fw_model.proofs.LegalLaws.{message_cmp-at}
+use Rattle.fw_flow.specs.Message.{message_cmp, is_among, without, less}
+use Rattle.fw_flow.proofs.MessageLaws.{message_cmp-equal, without-here, without-later}
+use Rattle.fw_model.specs.History.{some_at}
 
 -- the messages at a stamp
 abbrev part : Stamp → List Message → List Message
@@ -20,12 +21,6 @@ part-in t m ms e = cond-true (same t m.at) (m ∷ part t ms) (part t ms) e
 part-out : (t : Stamp) (m : Message) (ms : List Message) → same t m.at ≡ false → part t (m ∷ ms) ≡ part t ms
 part-out t m ms e = cond-false (same t m.at) (m ∷ part t ms) (part t ms) e
 
-pub without-here : (d x : Message) (ms : List Message) → is_eq (message_cmp d x) ≡ true → without d (x ∷ ms) ≡ ms
-without-here d x ms e = cond-true (is_eq (message_cmp d x)) ms (x ∷ without d ms) e
-
-pub without-later : (d x : Message) (ms : List Message) → is_eq (message_cmp d x) ≡ false → without d (x ∷ ms) ≡ x ∷ without d ms
-without-later d x ms e = cond-false (is_eq (message_cmp d x)) ms (x ∷ without d ms) e
-
 -- what is left of the messages at a stamp, when one message is taken away
 abbrev left_of : Bool → Message → List Message → List Message
 left_of a d ms = cond a (without d ms) ms
@@ -33,7 +28,7 @@ left_of a d ms = cond a (without d ms) ms
 part_without-here : (t : Stamp) (d x : Message) (xs : List Message) → is_eq (message_cmp d x) ≡ true
     → part t (without d (x ∷ xs)) ≡ left_of (same t d.at) d (part t (x ∷ xs))
 part_without-here t d x xs e =
-    let at = ap (same t) (message_cmp-at d x e) in
+    let at = ap (λ (y : Message). same t y.at) (message_cmp-equal d x e) in
     let gone = ap (part t) (without-here d x xs e) in
     elim (cases_Bool (same t d.at)) [
       | inl k ↦ gone ∙ sym (cond-true (same t d.at) (without d (part t (x ∷ xs))) (part t (x ∷ xs)) k
@@ -105,6 +100,6 @@ is_among-some_at m [] k = k
 is_among-some_at m (x ∷ xs) k = elim (or_cases (is_eq (message_cmp m x)) (is_among m xs) k) [
   | inl e ↦
       let self = and_from (leq m.at m.at) (leq m.at m.at) (leq-refl m.at) (leq-refl m.at) in
-      or_left (same m.at x.at) (some_at (same m.at) xs) (sym (ap (same m.at) (message_cmp-at m x e)) ∙ self)
+      or_left (same m.at x.at) (some_at (same m.at) xs) (sym (ap (λ (y : Message). same m.at y.at) (message_cmp-equal m x e)) ∙ self)
   | inr l ↦ or_right (same m.at x.at) (some_at (same m.at) xs) (is_among-some_at m xs l)
 ]

@@ -11,15 +11,14 @@ use Rattle.fw_frontier.specs.Frontier.{Frontier}
 use Rattle.fw_flow.specs.declared.event.Event.{Event}
 use Rattle.fw_flow.specs.declared.event.Event.TheVariants.{Inject, Deliver, Notify}
 use Rattle.fw_flow.specs.declared.kind.Kind.TheVariants.{OutputEpoch, Sequence}
-use Rattle.fw_flow.specs.Dataflow.{System, Dataflow, idle_node, kind_of, sender, receiver, is_notified_kind}
+use Rattle.fw_flow.specs.Dataflow.{System, Dataflow, idle_node, kind_of, sender, receiver, is_notified_kind, bounds_of_edge}
 use Rattle.fw_flow.specs.NodeFunction.{sequence_sent, numbered_messages, recs_on_notification}
 use Rattle.fw_flow.specs.Projection.{events_at}
 use Rattle.fw_flow.specs.WellFormed.{IsWellFormedSystem}
 use Rattle.fw_flow.specs.WholeBags.{Timed, in_order, numbered}
 use Rattle.fw_model.specs.Denotation.{Family, IsDenotation, bag_at}
-use Rattle.fw_model.specs.History.{was_notified, sent, delivered, IsAdmissible, IsEnabled, IsNotifiable, IsLegal}
-use Rattle.fw_model.specs.LawsOfProjections.{bounds_of_edge}
-use Rattle.fw_model.specs.LawsOfDeliveries.{IsClosedFor, recs_at, SentInsidePhiIsDenoted, DeliveredInsideCompleteIsDenoted, DeliveredUpToClosedIsDenoted}
+use Rattle.fw_model.specs.History.{was_notified, sent, delivered, IsAdmissible, IsEnabled, IsNotifiable, IsLegal, IsClosedFor, recs_at}
+use Rattle.fw_model.specs.LawsOfDeliveries.{SentInsidePhiIsDenoted, DeliveredInsideCompleteIsDenoted, DeliveredUpToClosedIsDenoted}
 use Rattle.fw_model.proofs.FrontierLaws.{phi-frontier}
 use Rattle.fw_model.proofs.LegalLaws.{enabled-in_domain, legal-in_domain}
 use Rattle.fw_model.proofs.WeightLaws.{weigh, weigh-append, how_often-where, one}

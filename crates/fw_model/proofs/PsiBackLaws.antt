@@ -1,6 +1,6 @@
 -- Psi backwards, by the send stamps of the sender, and that it is the largest.
 use Rattle.std.proofs.Common.{◌≡◌, ◌↔◌, ℕ, ◌+◌, ◌-◌, ◌/◌, ◌<◌, ◌≤◌, min, true, [], ◌∷◌, Some, refl, sym, ap, ◌∙◌, arith}
-use Rattle.std.proofs.lemmas.Bool.{and_parts, and_from}
+use Rattle.std.proofs.lemmas.Bool.{and_parts}
 use Rattle.std.proofs.Math.Nat.{div-le_self, min-le_left, min-le_right, le-min}
 use Rattle.fw_time.specs.declared.stamp.Bounds.{Bounds}
 use Rattle.fw_time.specs.Stamp.{Stamp, leq, nest, outer, counter, in_domain}
@@ -9,12 +9,12 @@ use Rattle.fw_time.proofs.StampLaws.{leq-refl, leq-trans}
 use Rattle.fw_frontier.specs.Frontier.{Frontier, IsFrontier}
 use Rattle.fw_flow.specs.declared.kind.Kind.{Kind}
 use Rattle.fw_flow.specs.declared.kind.Kind.TheVariants.{OutputEpoch, OutputNumber, Enter, Feedback, Leave, Sequence, Regroup}
-use Rattle.fw_flow.specs.Dataflow.{System, kind_of, sender, max_of, greatest_number, domain_of_kind, out_domain_of_kind, greatest_of_kind, bounds_of, bounds_of_domain, send_stamp_of_kind}
+use Rattle.fw_flow.specs.Dataflow.{kind_of, sender, max_of, greatest_number, domain_of_kind, out_domain_of_kind, greatest_of_kind, bounds_of, bounds_of_domain, send_stamp_of_kind, bounds_of_edge, Dataflow}
 use Rattle.fw_flow.specs.Projection.{first_number_of, psi, psi_back_of_kind, psi_back}
-use Rattle.fw_model.specs.LawsOfProjections.{bounds_of_edge}
-use Rattle.fw_model.specs.LawsOfSending.{SendsByStamp, SendsWithin, PsiBackBySendStamps, PsiBackIsLargest}
+use Rattle.fw_model.specs.LawsOfSending.{PsiBackBySendStamps, PsiBackIsLargest}
 use Rattle.fw_model.proofs.StampLaws.{loop-leq, nest-leq, in_loop, leq_from, leq_to, in_line, line-leq, leq-line}
-use Rattle.fw_model.proofs.SendingLaws.{some_is, fed_back-some, fed_back-nest, div-monotone, psi-by_stamp, send_stamp-in_domain}
+use Rattle.fw_model.proofs.SendingLaws.{some_is, fed_back-some, fed_back-nest, div-monotone, test_in_domain, psi-by_stamp, send_stamp-in_domain}
+use Rattle.fw_model.specs.Sending.{SendsByStamp, SendsWithin}
 
 -- the domain with this greatest stamp
 abbrev up_to : Stamp → Bounds
@@ -93,61 +93,56 @@ regroup_back g n f fr t i =
       λ all. all t ((first_number_of t / n) ∷ []) (leq-refl t) (ap (regrouped n) v.1 ∙ ap (λ k. Some ((k / n) ∷ [])) (sym here)),
     )
 
-psi_back_of_kind-by_stamp : (sys : System) (kind : Kind) (g : Frontier) → SendsByStamp sys.flow kind
-    → IsFrontier (bounds_of_domain sys.flow (out_domain_of_kind sys.flow kind)) g
-    → (t : Stamp) → in_domain (bounds_of_domain sys.flow (domain_of_kind sys.flow kind)) t ≡ true
-    → (psi_back_of_kind (greatest_of_kind sys.flow kind) kind g t ≡ true) ↔ SendsWithin (send_stamp_of_kind sys.flow kind) g t
-psi_back_of_kind-by_stamp sys OutputEpoch g p fr t i = absurd p
-psi_back_of_kind-by_stamp sys OutputNumber g p fr t i = absurd p
-psi_back_of_kind-by_stamp sys Sequence g p fr t i = absurd p
-psi_back_of_kind-by_stamp sys (Enter l) g p fr t i = enter_back (greatest_number ∷ []) (max_of sys.flow l) g fr t i
-psi_back_of_kind-by_stamp sys (Feedback l) g p fr t i = feedback_back (greatest_number ∷ []) (max_of sys.flow l) g p fr t i
-psi_back_of_kind-by_stamp sys (Leave l) g p fr t i = leave_back (greatest_number ∷ []) (max_of sys.flow l) g fr t i
-psi_back_of_kind-by_stamp sys (Regroup n) g p fr t i = regroup_back greatest_number n g fr t i
-psi_back_of_kind-by_stamp sys kind g p fr t i = same_back _ g fr t i
+psi_back_of_kind-by_stamp : (flow : Dataflow) (kind : Kind) (g : Frontier) → SendsByStamp flow kind
+    → IsFrontier (bounds_of_domain flow (out_domain_of_kind flow kind)) g
+    → (t : Stamp) → in_domain (bounds_of_domain flow (domain_of_kind flow kind)) t ≡ true
+    → (psi_back_of_kind (greatest_of_kind flow kind) kind g t ≡ true) ↔ SendsWithin (send_stamp_of_kind flow kind) g t
+psi_back_of_kind-by_stamp flow OutputEpoch g p fr t i = absurd p
+psi_back_of_kind-by_stamp flow OutputNumber g p fr t i = absurd p
+psi_back_of_kind-by_stamp flow Sequence g p fr t i = absurd p
+psi_back_of_kind-by_stamp flow (Enter l) g p fr t i = enter_back (greatest_number ∷ []) (max_of flow l) g fr t i
+psi_back_of_kind-by_stamp flow (Feedback l) g p fr t i = feedback_back (greatest_number ∷ []) (max_of flow l) g p fr t i
+psi_back_of_kind-by_stamp flow (Leave l) g p fr t i = leave_back (greatest_number ∷ []) (max_of flow l) g fr t i
+psi_back_of_kind-by_stamp flow (Regroup n) g p fr t i = regroup_back greatest_number n g fr t i
+psi_back_of_kind-by_stamp flow kind g p fr t i = same_back _ g fr t i
 
 -- ---- the laws
 
 pub psi_back-by_stamp : PsiBackBySendStamps
 unfolding psi_back bounds_of
-psi_back-by_stamp sys e g p fr t i =
-    let kind = kind_of sys.flow (sender sys.flow e) in
-    let row = psi_back_of_kind-by_stamp sys kind g p fr t i in (
-      λ k. row.0 (and_parts _ (psi_back_of_kind (greatest_of_kind sys.flow kind) kind g t) k).1,
-      λ w. and_from _ (psi_back_of_kind (greatest_of_kind sys.flow kind) kind g t) i (row.1 w),
-    )
+psi_back-by_stamp flow e g p fr t i = test_in_domain _ _ i (psi_back_of_kind-by_stamp flow (kind_of flow (sender flow e)) g p fr t i)
 
-psi_back-in_domain : (sys : System) (e : ℕ) (g : Frontier) (t : Stamp) → psi_back sys e g t ≡ true → in_domain (bounds_of sys.flow (sender sys.flow e)) t ≡ true
+psi_back-in_domain : (flow : Dataflow) (e : ℕ) (g : Frontier) (t : Stamp) → psi_back flow e g t ≡ true → in_domain (bounds_of flow (sender flow e)) t ≡ true
 unfolding psi_back bounds_of
-psi_back-in_domain sys e g t k =
-    let kind = kind_of sys.flow (sender sys.flow e) in
-    (and_parts _ (psi_back_of_kind (greatest_of_kind sys.flow kind) kind g t) k).0
+psi_back-in_domain flow e g t k =
+    let kind = kind_of flow (sender flow e) in
+    (and_parts _ (psi_back_of_kind (greatest_of_kind flow kind) kind g t) k).0
 
-psi-in_domain : (sys : System) (e : ℕ) (f : Frontier) (u : Stamp) → psi sys e f u ≡ true → in_domain (bounds_of_edge sys.flow e) u ≡ true
+psi-in_domain : (flow : Dataflow) (e : ℕ) (f : Frontier) (u : Stamp) → psi flow e f u ≡ true → in_domain (bounds_of_edge flow e) u ≡ true
 unfolding psi
-psi-in_domain sys e f u k = (and_parts (in_domain (bounds_of_edge sys.flow e) u) _ k).0
+psi-in_domain flow e f u k = (and_parts (in_domain (bounds_of_edge flow e) u) _ k).0
 
 pub psi_back-largest : PsiBackIsLargest
-psi_back-largest sys e g p fg = (
+psi_back-largest flow e g p fg = (
   record {
-    inside_domain = psi_back-in_domain sys e g;
+    inside_domain = psi_back-in_domain flow e g;
     closed = λ s t i l k.
-        let within = (psi_back-by_stamp sys e g p fg t (psi_back-in_domain sys e g t k)).0 k in
-        (psi_back-by_stamp sys e g p fg s i).1 (λ r w m. within r w (leq-trans r s t m l));
+        let within = (psi_back-by_stamp flow e g p fg t (psi_back-in_domain flow e g t k)).0 k in
+        (psi_back-by_stamp flow e g p fg s i).1 (λ r w m. within r w (leq-trans r s t m l));
   },
   λ f ff. (
     λ h t k.
         let i = ff.inside_domain t k in
-        (psi_back-by_stamp sys e g p fg t i).1
+        (psi_back-by_stamp flow e g p fg t i).1
         (λ s w l x.
-        let j = leq-trans s t (bounds_of sys.flow (sender sys.flow e)).greatest l i in
-        let d = send_stamp-in_domain sys.flow (sender sys.flow e) s w j x in
-        h w ((psi-by_stamp sys e f p ff w d).1 (s, w, ff.closed s t j l k, x, leq-refl w))),
+        let j = leq-trans s t (bounds_of flow (sender flow e)).greatest l i in
+        let d = send_stamp-in_domain flow (sender flow e) s w j x in
+        h w ((psi-by_stamp flow e f p ff w d).1 (s, w, ff.closed s t j l k, x, leq-refl w))),
     λ h u k.
-        let d = psi-in_domain sys e f u k in
-        let y = (psi-by_stamp sys e f p ff u d).0 k in
+        let d = psi-in_domain flow e f u k in
+        let y = (psi-by_stamp flow e f p ff u d).0 k in
         let i = ff.inside_domain y.0 y.2 in
-        let within = (psi_back-by_stamp sys e g p fg y.0 i).0 (h y.0 y.2) in
+        let within = (psi_back-by_stamp flow e g p fg y.0 i).0 (h y.0 y.2) in
         fg.closed u y.1 d y.4 (within y.0 y.1 (leq-refl y.0) y.3),
   ),
 )

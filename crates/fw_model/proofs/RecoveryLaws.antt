@@ -23,23 +23,20 @@ use Rattle.fw_flow.specs.declared.event.Message.{Message}
 use Rattle.fw_flow.specs.declared.node.Node.{Node}
 use Rattle.fw_flow.specs.declared.step.Step.{Step}
 use Rattle.fw_flow.specs.declared.step.Step.TheVariants.{Inject, Deliver, Notify, Progress as ProgressStep, Checkpoint, Persist, Fail, Recover, Collect, Ack}
-use Rattle.fw_flow.specs.Dataflow.{System, Dataflow, idle_node, kind_of, sender, receiver, bounds_of, is_notified_kind, send_stamp_of_kind, is_sequence_kind}
+use Rattle.fw_flow.specs.Dataflow.{System, Dataflow, idle_node, kind_of, sender, receiver, bounds_of, is_notified_kind, send_stamp_of_kind, is_sequence_kind, HasEpochs}
 use Rattle.fw_flow.specs.Projection.{events_at}
 use Rattle.fw_flow.specs.WellFormed.{IsWellFormed, IsWellFormedSystem}
 use Rattle.fw_model.specs.Denotation.{Family, IsDenotation, bag_at}
-use Rattle.fw_model.specs.History.{some_at, sent, delivered, pending, was_delivered_to, was_notified, owed, IsAdmissible, IsEnabled, IsLegal}
+use Rattle.fw_model.specs.History.{some_at, sent, delivered, pending, was_delivered_to, was_notified, owed, IsAdmissible, IsEnabled, IsLegal, recs_at}
 use Rattle.fw_model.specs.Machine.{Machine, Numbered, events, no_stamps, first_state, front_of, is_failed}
 use Rattle.fw_flow.specs.declared.choice.Choice.{Choice}
-use Rattle.fw_model.specs.Choice.{kept, set_of, cut_of, kept_of, filtered}
+use Rattle.fw_model.specs.Choice.{kept, cut_of, kept_of, filtered}
+use Rattle.fw_model.specs.Covers.{set_of}
 use Rattle.fw_model.specs.Steps.{Effect, Outcome, did, idle, LeadsTo, Steps, Run, with_event, GrowsTo, IsSettledCut, CutsTo, recovered}
-use Rattle.fw_model.specs.LawsOfLegalHistories.{HasEpochs}
-use Rattle.fw_model.specs.LawsOfDeliveries.{recs_at}
-use Rattle.fw_model.specs.LawsOfFiltering.{messages_inside}
-use Rattle.fw_model.specs.LawsOfRuns.{IsDenotedEffect, IsDenoted}
 use Rattle.fw_model.specs.LawsOfRecoveries.{StepsKeepHistoriesLegal, RunsStayLegalThroughRecoveries, SettledStaysDenoted, DenotedIsFull, AcknowledgementsShowDenotationThroughRecoveries}
 use Rattle.fw_model.proofs.Decisions.{two_ways}
 use Rattle.fw_model.proofs.CompleteLaws.{past_edges-idle, not_owed-notified, not_owed-delivered}
-use Rattle.fw_model.proofs.LegalLaws.{less-each}
+use Rattle.fw_flow.proofs.MessageLaws.{less-each}
 use Rattle.fw_model.proofs.SendsLaws.{IsOfCause, sent_by-of_cause}
 use Rattle.fw_model.proofs.PrefixLaws.{delivered-is_denoted}
 use Rattle.fw_model.proofs.SubBagLaws.{sent-is_sub, delivered-is_sub}
@@ -53,6 +50,8 @@ use Rattle.fw_model.proofs.TimedCounts.{how_often-recs_at}
 use Rattle.fw_model.proofs.RunLaws.{legal-takes, none-inside, delivered-to, same-test}
 use Rattle.fw_model.proofs.StampLaws.{same-is}
 use Rattle.fw_model.proofs.DomainLaws.{has_epochs}
+use Rattle.fw_model.specs.Filtering.{messages_inside}
+use Rattle.fw_model.specs.Acknowledgements.{IsDenotedEffect, IsDenoted}
 
 -- ---- legal histories
 
@@ -212,7 +211,7 @@ progress-holds sys family w b state next done settled f g h s =
 
 -- what is settled after a recovery was settled, and is kept
 settled-cut : (sys : System) (p : ℕ) (cut : Cut) (before after : Front) → IsSettledCut sys p cut before after → (t : Stamp)
-    → frontier_of (bounds_of sys.flow p) after t ≡ true → (frontier_of (bounds_of sys.flow p) before t ≡ true) × (set_of sys p cut t ≡ true)
+    → frontier_of (bounds_of sys.flow p) after t ≡ true → (frontier_of (bounds_of sys.flow p) before t ≡ true) × (set_of sys.flow p cut t ≡ true)
 settled-cut sys p Present before after e t i =
     let j = subst (λ os. frontier_of (bounds_of sys.flow p) os t ≡ true) e i in
     (j, (and_parts (in_domain (bounds_of sys.flow p) t) (inside before t) j).0)
@@ -228,7 +227,7 @@ recovery-holds : (sys : System) (family : Family) → IsWellFormed sys.flow → 
     → IsLegal sys (events (filtered sys choice state.history)) → CutsTo sys state choice settled → IsLegalAndDenoted sys family (recovered sys state choice settled)
 recovery-holds sys family w state choice settled f l c =
     let old = events state.history in
-    let keep = kept_of sys choice in
+    let keep = kept_of sys.flow choice in
     let same_events = filtered-events sys choice state.history in
     let cut : (p : ℕ) → p < length sys.flow.nodes → (t : Stamp) → settled_at sys settled p t ≡ true → (settled_at sys state.settled p t ≡ true) × (keep p t ≡ true) =
     λ p q. settled-cut sys p (cut_of choice p) (front_of state.settled p) (front_of settled p) (c.each p q) in

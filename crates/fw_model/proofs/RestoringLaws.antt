@@ -19,24 +19,25 @@ use Rattle.fw_flow.specs.declared.kind.Policy.TheVariants as policy
 use Rattle.fw_flow.specs.declared.node.Node.{Node}
 use Rattle.fw_flow.specs.declared.step.Step.{Step}
 use Rattle.fw_flow.specs.declared.step.Step.TheVariants.{Inject, Deliver, Notify, Progress as ProgressStep, Checkpoint, Persist, Fail, Recover, Collect, Ack}
-use Rattle.fw_flow.specs.Dataflow.{System, Dataflow, idle_node, kind_of, policy_of, sender, receiver, bounds_of, is_input_kind}
+use Rattle.fw_flow.specs.Dataflow.{System, Dataflow, idle_node, kind_of, policy_of, sender, receiver, bounds_of, is_input_kind, HasEpochs}
 use Rattle.fw_flow.specs.NodeFunction.{place, stamp}
 use Rattle.fw_flow.specs.WellFormed.{IsWellFormed, IsWellFormedSystem, IsPolicyAllowed, may_keep_nothing}
 use Rattle.fw_model.specs.Denotation.{rounds}
 use Rattle.fw_model.specs.History.{IsEnabled, IsLegal, sent}
 use Rattle.fw_model.specs.Machine.{Machine, Numbered, Write, Written, checkpoint, logged_event, Progress, in_flight, acknowledged, collected, events, front_of}
 use Rattle.fw_flow.specs.declared.choice.Choice.{Choice}
-use Rattle.fw_model.specs.Choice.{kept, ever, by_batches, by_events, restoring_of_policy, restoring, counts, IsLogged, AllLogged, IsRestorable, IsCandidate, set_of, cut_of, kept_of, IsLargest, filtered}
+use Rattle.fw_model.specs.Choice.{kept, ever, counts, IsLogged, AllLogged, IsRestorable, IsCandidate, cut_of, kept_of, IsLargest, filtered}
+use Rattle.fw_flow.specs.declared.restoring.Restoring.TheVariants.{Batches, Events}
+use Rattle.fw_flow.specs.Restoring.{restoring_of_policy, restoring, way_of}
+use Rattle.fw_model.specs.Covers.{set_of}
 use Rattle.fw_model.specs.Steps.{Effect, Outcome, did, idle, LeadsTo, Run, with_event, checkpoint_front, is_kept_write, recovered, is_given_up}
-use Rattle.fw_model.specs.LawsOfDenotation.{enough_rounds}
-use Rattle.fw_model.specs.LawsOfFiltering.{IsFull, AreFrontiers, kept_events, messages_from, messages_outside}
-use Rattle.fw_model.specs.LawsOfLegalHistories.{HasEpochs}
-use Rattle.fw_model.specs.LawsOfRestoring.{IsSamePart, CountsWritten, CheckpointsStayTrue, NothingComesInside, NothingComesInsideCheckpoints, HasOne, IsCheckpointOf, CheckpointsAtCutsAreKept, at_receiver, HoldsWhatIsSentAgain, LogsHoldWhatIsSentAgain, LogHoldsWhatIsSentAgain, CheckpointLogsHoldWhatIsSentAgain, IsKeptWithin, KeptWatermarksLieWithinToday, BatchesOutsideCutsLieOutsideLow, BatchesToComeLieOutsideLow, LogsSerial, IsLoggedOnce, EventsInsideCutsAreLogged, MayKeepNothingIfCollected, EventsThatMustBeKeptAreNeverCollected}
+use Rattle.fw_model.specs.LawsOfRestoring.{CheckpointsStayTrue, NothingComesInsideCheckpoints, CheckpointsAtCutsAreKept, LogsHoldWhatIsSentAgain, CheckpointLogsHoldWhatIsSentAgain, KeptWatermarksLieWithinToday, BatchesOutsideCutsLieOutsideLow, BatchesToComeLieOutsideLow, EventsInsideCutsAreLogged, EventsThatMustBeKeptAreNeverCollected}
 use Rattle.fw_model.proofs.Decisions.{two_ways}
 use Rattle.fw_model.proofs.DenotationLaws.{denotation-exists}
 use Rattle.fw_model.proofs.FilterLaws.{filter-inner}
 use Rattle.fw_model.proofs.FilteredLaws.{filtered-events, set-frontier}
-use Rattle.fw_model.proofs.CheckpointLaws.{HoldsSettled, IsWriteSettled, is_within-holds, each-passed}
+use Rattle.fw_frontier.proofs.NamesLaws.{is_within-holds}
+use Rattle.fw_model.proofs.CheckpointLaws.{HoldsSettled, IsWriteSettled, each-passed}
 use Rattle.fw_model.proofs.SameInsideLaws.{at_node, low-offered}
 use Rattle.fw_model.proofs.WriteLaws.{HoldsOfOne, some-weaker, IsCheckpointAt, IsItsCheckpoint, NamesEvent, LogsEvent, some-checkpoint, some-logged, ArePairs}
 use Rattle.fw_model.proofs.LowLaws.{input-is, batch-outside, settled-outside, low-within, within-set}
@@ -44,6 +45,11 @@ use Rattle.fw_model.proofs.PartLaws.{part-same, part-event, part-kept, part-coun
 use Rattle.fw_model.proofs.ChoosingLaws.{full-of, took-grows}
 use Rattle.fw_model.proofs.AskedLaws.{takes-declared, takes-restoring, takes-not_input, IsAskedWell, IsWriteAskedWell, IsApart, each-each, CanRecoverAndRestore, took-reached, run-reached, reached-all}
 use Rattle.fw_model.proofs.DomainLaws.{has_epochs}
+use Rattle.fw_model.specs.Measure.{enough_rounds}
+use Rattle.fw_model.specs.Settled.{IsFull}
+use Rattle.fw_model.specs.Filtering.{AreFrontiers, kept_events, messages_from, messages_outside}
+use Rattle.fw_model.specs.Writes.{IsSamePart, CountsWritten, NothingComesInside, HasOne, IsCheckpointOf, IsKeptWithin, LogsSerial, IsLoggedOnce, MayKeepNothingIfCollected}
+use Rattle.fw_model.specs.Resending.{at_receiver, HoldsWhatIsSentAgain, LogHoldsWhatIsSentAgain}
 
 -- ---- nothing comes inside a checkpoint
 
@@ -102,7 +108,7 @@ event-each sys state next v w f g k e =
 
 -- a checkpoint within the cut of its node lies within what the node keeps
 kept-within : (sys : System) (p : ℕ) (cut : Cut) (f : Front) (l : List Front) (h : List Numbered) → is_kept_write cut (checkpoint f l) h ≡ true
-    → Within (frontier_of (bounds_of sys.flow p) f) (set_of sys p cut)
+    → Within (frontier_of (bounds_of sys.flow p) f) (set_of sys.flow p cut)
 kept-within sys p Present f l h k t i = (and_parts (in_domain (bounds_of sys.flow p) t) (inside f t) i).0
 kept-within sys p (At g) f l h k t i = is_within-holds (bounds_of sys.flow p) f g k t i
 
@@ -112,7 +118,7 @@ recovered-written : (sys : System) (state next : Machine) (choice : Choice) → 
 recovered-written sys state next choice w b l e p (checkpoint f low) k =
     let h = events state.history in
     let g = frontier_of (bounds_of sys.flow p) f in
-    let keep = kept_of sys choice in
+    let keep = kept_of sys.flow choice in
     let fr : AreFrontiers sys.flow keep = λ q. set-frontier sys q (cut_of choice q) in
     let now : events next.history ≡ kept_events sys.flow keep h = ap events e ∙ filtered-events sys choice state.history in
     part-counts sys state next p f
@@ -233,16 +239,16 @@ outside-each g (m ∷ ms) =
 
 -- the low watermark lies within what a largest choice keeps
 pub low-kept : (sys : System) (state : Machine) → CanRecoverAndRestore sys state → (lost : ℕ → Bool) (choice : Choice) → IsLargest sys state (IsCandidate sys state lost kept) choice
-    → (p : ℕ) → p < length sys.flow.nodes → Within (at_node sys state.low p) (kept_of sys choice p)
+    → (p : ℕ) → p < length sys.flow.nodes → Within (at_node sys state.low p) (kept_of sys.flow choice p)
 low-kept sys state f lost choice m p l =
     within-set sys p (front_of state.low p) (cut_of choice p) (low-within sys state f.recover.notes f.recover.watermark lost kept choice m p l)
 
-resent-held : (sys : System) (state : Machine) (choice : Choice) (low : List Front) (e : ℕ) → Within (at_receiver sys low e) (kept_of sys choice (receiver sys.flow e))
+resent-held : (sys : System) (state : Machine) (choice : Choice) (low : List Front) (e : ℕ) → Within (at_receiver sys low e) (kept_of sys.flow choice (receiver sys.flow e))
     → HoldsWhatIsSentAgain sys state choice low e
 resent-held sys state choice low e w =
-    let g = kept_of sys choice (receiver sys.flow e) in
+    let g = kept_of sys.flow choice (receiver sys.flow e) in
     let f = at_receiver sys low e in
-    let ms = messages_from (kept_of sys choice (sender sys.flow e)) (sent sys (events state.history) e) in
+    let ms = messages_from (kept_of sys.flow choice (sender sys.flow e)) (sent sys (events state.history) e) in
     record {
       outside = each-weaker (λ (m : Message). g m.at ≡ false) (λ m. f m.at ≡ false) (messages_outside g ms) (λ m o. within-not f g w m.at o) (outside-each g ms);
       logged = filter-inner (λ (m : Message). not (g m.at)) (λ m. not (f m.at)) ms
@@ -258,7 +264,7 @@ logs-hold sys w steps outcomes last r lost choice m e l =
     resent-held sys last choice last.low e (low-kept sys last (reached-all sys w steps outcomes last r) lost choice m (receiver sys.flow e) (w.flow.receivers_declared e l))
 
 checkpoint-log : (sys : System) (state : Machine) (choice : Choice) → IsWellFormed sys.flow → (next : ℕ) (h : List Numbered)
-    → ((p : ℕ) → p < length sys.flow.nodes → Within (at_node sys state.low p) (kept_of sys choice p)) → (p : ℕ) (w : Written) (far : Progress)
+    → ((p : ℕ) → p < length sys.flow.nodes → Within (at_node sys state.low p) (kept_of sys.flow choice p)) → (p : ℕ) (w : Written) (far : Progress)
     → IsAskedWell sys state.low next h p w far → LogHoldsWhatIsSentAgain sys state choice p w
 checkpoint-log sys state choice w next h k p (checkpoint f low) far a = λ e l s.
     let q = receiver sys.flow e in
@@ -284,7 +290,7 @@ watermarks-today sys w steps outcomes last r =
 
 pub cut_batches-outside : BatchesOutsideCutsLieOutsideLow
 cut_batches-outside sys w steps outcomes last r lost choice m s x l o =
-    within-not (at_node sys last.low s) (kept_of sys choice s) (low-kept sys last (reached-all sys w steps outcomes last r) lost choice m s l) (x ∷ []) o
+    within-not (at_node sys last.low s) (kept_of sys.flow choice s) (low-kept sys last (reached-all sys w steps outcomes last r) lost choice m s l) (x ∷ []) o
 
 -- an input is there
 input-declared : (flow : Dataflow) (s : ℕ) → is_input_kind (kind_of flow s) ≡ true → s < length flow.nodes
@@ -311,7 +317,7 @@ batches-outside sys w steps outcomes last r more also later a s x k n there =
     let f = reached-all sys w steps outcomes last r in
     let g = run-reached sys w more also last later f a in
     let l = input-declared sys.flow s k in
-    let way : restoring (kind_of sys.flow s) (policy_of sys.flow s) ≡ by_batches = ap (λ kind. restoring kind (policy_of sys.flow s)) (input-is (kind_of sys.flow s) k) in
+    let way : way_of sys.flow s ≡ Batches = ap (λ kind. restoring kind (policy_of sys.flow s)) (input-is (kind_of sys.flow s) k) in
     let low = low-offered sys later g.recover.notes g.recover.watermark s l in
     within-not (at_node sys last.low s) (at_node sys later.low s) (run-grows sys w more also last later f a s l) (x ∷ [])
     (batch-outside sys later s x (front_of later.low s) n there (subst (λ r. IsRestorable sys later kept s r (front_of later.low s)) way low.1))
@@ -372,7 +378,7 @@ pub all-logged : (sys : System) (p : ℕ) (f : Frontier) (writes : List Write) (
 all-logged sys p f writes [] a = tt
 all-logged sys p f writes (v ∷ h) a = (a.0, all-logged sys p f writes h a.1)
 
-pub full-restoring : (kind : Kind) (p : Policy) → IsPolicyAllowed kind p → p ≡ policy.Full → restoring kind p ≡ by_events
+pub full-restoring : (kind : Kind) (p : Policy) → IsPolicyAllowed kind p → p ≡ policy.Full → restoring kind p ≡ Events
 full-restoring Input p a k = absurd (let e : policy.None ≡ policy.Full = sym a ∙ k in cc)
 full-restoring OutputEpoch p a k = absurd (let e : policy.None ≡ policy.Full = sym a ∙ k in cc)
 full-restoring OutputNumber p a k = absurd (let e : policy.None ≡ policy.Full = sym a ∙ k in cc)

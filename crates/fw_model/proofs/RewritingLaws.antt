@@ -16,8 +16,8 @@ use Rattle.fw_flow.specs.Dataflow.{greatest_of_kind, System, Dataflow, kind_of, 
 use Rattle.fw_flow.specs.NodeFunction.{place, stamp, sends, sent_by}
 use Rattle.fw_flow.specs.Projection.{events_at, all_inside, first_number_of, count_from, sent_count, phi_of_kind, phi}
 use Rattle.fw_model.specs.History.{injected_count, injected_epochs, IsAdmissible, IsEnabled, IsLegal}
-use Rattle.fw_model.specs.Choice.{stamp_of_notice}
-use Rattle.fw_model.specs.LawsOfFiltering.{AreFrontiers, kept_events, HaveKeptCauses, KeptEventsAreLegal}
+use Rattle.fw_model.specs.LawsOfFiltering.{KeptEventsAreLegal}
+use Rattle.fw_model.specs.Covers.{stamp_of_notice}
 use Rattle.fw_model.proofs.Decisions.{two_ways}
 use Rattle.fw_model.proofs.StampLaws.{leq_to, in_line, line-leq}
 use Rattle.fw_model.proofs.PhiLaws.{phi-monotone, count-append}
@@ -28,6 +28,7 @@ use Rattle.fw_model.proofs.CompleteLaws.{enabled-outside, admissible-stays}
 use Rattle.fw_model.proofs.LocalityLaws.{sends-causes, phi-same}
 use Rattle.fw_model.proofs.KeptLaws.{IsFiltering, filtering-before, kept-causes, kept-quiet, kept-owed, inject-enabled, deliver-enabled, causes-now, legal-with}
 use Rattle.fw_model.proofs.SettleLaws.{meet-frontier}
+use Rattle.fw_model.specs.Filtering.{AreFrontiers, kept_events, HaveKeptCauses}
 
 -- ---- which injections are kept
 

@@ -1,18 +1,14 @@
 -- What holds along a run.
 use Rattle.std.proofs.Common.{◌≡◌, ℕ, zero, suc, ◌+◌, ◌<◌, Bool, true, false, ◌==◌, ◌&&◌, List, [], ◌∷◌, ◌++◌, length, map, refl, sym, ◌∙◌, ap, subst, cond, slice_index_or, slice_set, append_assoc, nat_le, not, filter, inl, inr, arith}
-use Rattle.std.specs.List.{AllByRecursion}
 use Rattle.std.proofs.lemmas.List.{append-nil, map-append, get_or-set_same, get_or-set_other, length-set}
-use Rattle.std.proofs.lemmas.List.FromFn.{map-range_with_len_more, length-map-range_with_len, get_or-map-range_with_len}
+use Rattle.std.proofs.lemmas.List.FromFn.{map-range_with_len_more, length-map-range_with_len}
 use Rattle.fw_bag.specs.declared.rec.Rec.{Rec}
-use Rattle.std.proofs.lemmas.Bool.{eqb-true, eq-eqb, and_parts, and_from, or_cases, cases_Bool}
+use Rattle.std.proofs.lemmas.Bool.{eqb-true, eq-eqb, and_parts, and_from, cases_Bool}
 use Rattle.fw_model.proofs.ArrivalLaws.{at_edge, in_edges-once}
-use Rattle.fw_model.proofs.CompleteLaws.{admissible-stays}
 use Rattle.fw_model.proofs.Decisions.{two_ways}
-use Rattle.fw_model.proofs.DescentLaws.{complete-exists}
 use Rattle.fw_model.proofs.WeightLaws.{weigh}
 use Rattle.fw_time.specs.Stamp.{Stamp, leq, same, in_domain}
-use Rattle.fw_frontier.specs.Frontier.{Frontier, Within}
-use Rattle.fw_frontier.specs.Front.{Front, inside, frontier_of}
+use Rattle.fw_frontier.specs.Front.{inside, frontier_of}
 use Rattle.fw_flow.specs.declared.event.Event.{Event}
 use Rattle.fw_flow.specs.declared.event.Event.TheVariants.{Inject as Injected, Deliver as Delivered, Notify as Notified}
 use Rattle.fw_flow.specs.declared.kind.Kind.{Kind}
@@ -20,22 +16,17 @@ use Rattle.fw_flow.specs.declared.kind.Kind.TheVariants.{OutputEpoch, OutputNumb
 use Rattle.fw_flow.specs.declared.step.Step.{Step}
 use Rattle.fw_flow.specs.declared.step.Step.TheVariants.{Inject, Deliver, Notify, Progress as ProgressStep, Checkpoint, Persist, Fail, Recover, Collect, Ack}
 use Rattle.fw_time.specs.declared.stamp.Bounds.{Bounds}
-use Rattle.fw_flow.specs.Dataflow.{System, Dataflow, bounds_of, kind_of, receiver, in_edges, is_output_kind}
-use Rattle.fw_flow.specs.WellFormed.{IsWellFormed, IsWellFormedSystem, IsInDegree}
-use Rattle.fw_model.specs.History.{IsLegal, IsEnabled, IsAdmissible, delivered}
+use Rattle.fw_flow.specs.Dataflow.{System, Dataflow, kind_of, receiver, in_edges, is_output_kind, places}
+use Rattle.fw_flow.specs.WellFormed.{IsWellFormed, IsInDegree}
+use Rattle.fw_model.specs.History.{IsLegal, delivered, recs_at}
 use Rattle.fw_flow.specs.NodeFunction.{delivered_recs}
 use Rattle.fw_flow.specs.declared.event.Message.{Message}
-use Rattle.fw_bag.specs.Keyed.{sorted}
 use Rattle.std.proofs.lemmas.List.Elements.{filter-append}
 use Rattle.std.proofs.Math.Bool.{and_comm}
-use Rattle.fw_model.proofs.PrefixLaws.{delivered-is_denoted}
-use Rattle.fw_model.specs.LawsOfLegalHistories.{HasEpochs}
-use Rattle.fw_model.specs.LawsOfRuns.{is_recovery, HaveNoRecovery, RunsStayLegal, IsDenotedEffect, IsDenoted, AcknowledgementsShowDenotation, stamp_shown, stamp_acknowledged, stamps_acknowledged, first_stamps, AcknowledgementsAreInOrder}
-use Rattle.fw_model.specs.LawsOfDeliveries.{recs_at}
-use Rattle.fw_model.specs.Denotation.{Family, IsDenotation}
-use Rattle.fw_model.specs.Machine.{Machine, Numbered, events, no_stamps, first_state, front_of, bound_of, is_failed, places}
-use Rattle.fw_model.specs.Steps.{Effect, acked, Outcome, did, idle, LeadsTo, Steps, Run, with_event, GrowsTo, recs_at_output}
-use Rattle.fw_model.proofs.DomainLaws.{has_epochs}
+use Rattle.fw_model.specs.LawsOfRuns.{RunsStayLegal, AcknowledgementsAreInOrder}
+use Rattle.fw_model.specs.Machine.{Machine, events, no_stamps, first_state, bound_of}
+use Rattle.fw_model.specs.Steps.{Effect, acked, Outcome, did, idle, LeadsTo, Steps, Run, recs_at_output, is_recovery, HaveNoRecovery}
+use Rattle.fw_model.specs.Acknowledgements.{stamp_shown, stamp_acknowledged, stamps_acknowledged, first_stamps}
 
 -- ---- legal histories
 
@@ -167,13 +158,6 @@ acknowledgements-in_order sys steps outcomes last r o =
 
 -- ---- acknowledgements show the denotation
 
--- what is settled lies within some admissible family
-record IsFull (sys : System) (state : Machine) : Type 0 where
-  legal : IsLegal sys (events state.history)
-  done : ℕ → Frontier
-  admissible : IsAdmissible sys (events state.history) done
-  within : (p : ℕ) → p < length sys.flow.nodes → Within (frontier_of (bounds_of sys.flow p) (front_of state.settled p)) (done p)
-
 zero-le : (x : ℕ) → nat_le 0 x ≡ true
 zero-le x = grind arith
 
@@ -189,68 +173,6 @@ none-inside bounds t h =
     let a = and_parts (in_domain bounds t) (inside (no_stamps bounds) t) h in
     let low : leq (map (λ c. 0) bounds.greatest) t ≡ true = origin-leq t bounds.greatest a.0 in
     two_ways (inside (no_stamps bounds) t) a.1 (ap (λ b. not b && true) low)
-
-first-full : (sys : System) → IsWellFormed sys.flow → IsFull sys (first_state sys)
-first-full sys w =
-    let c = complete-exists sys [] w in record {
-      legal = tt;
-      done = c.0;
-      admissible = c.1.admissible;
-      within = λ p l t h. absurd (none-inside (bounds_of sys.flow p) t
-          (subst (λ f. frontier_of (bounds_of sys.flow p) f t ≡ true)
-          (get_or-map-range_with_len (λ q. no_stamps (bounds_of sys.flow q)) 0 (length sys.flow.nodes) p p [] l (omega arith)) h));
-    }
-
-event-full : (sys : System) (state : Machine) (v : Event) → IsWellFormed sys.flow → HasEpochs sys → IsFull sys state
-    → IsEnabled sys (events state.history) v → IsFull sys (with_event sys state v)
-event-full sys state v w b f e = record {
-  legal = (e, f.legal);
-  done = f.done;
-  admissible = admissible-stays sys (events state.history) w b f.legal f.done f.admissible v e;
-  within = f.within;
-}
-
--- what is settled anew lies within what is complete
-settled-within : (sys : System) (state : Machine) (done : ℕ → Frontier) (settled : List Front) → IsFull sys state
-    → GrowsTo sys state done settled → (p : ℕ) → p < length sys.flow.nodes → Within (frontier_of (bounds_of sys.flow p) (front_of settled p)) (done p)
-settled-within sys state done settled f g p l t h =
-    let old : (frontier_of (bounds_of sys.flow p) (front_of state.settled p) t ≡ true) → done p t ≡ true =
-    λ k. g.complete.largest f.done f.admissible p t (f.within p l t k) in
-    elim (cases_Bool (is_failed state p)) [
-      | inl lost ↦ old (subst (λ os. frontier_of (bounds_of sys.flow p) os t ≡ true) (g.failed p l lost) h)
-      | inr live ↦ elim (or_cases (frontier_of (bounds_of sys.flow p) (front_of state.settled p) t) (done p t) (sym ((g.each p l live).same t) ∙ h)) [
-        | inl a ↦ old a
-        | inr b ↦ b
-      ]
-    ]
-
-same-full : (sys : System) (state next : Machine) → IsFull sys state → next.history ≡ state.history → next.settled ≡ state.settled → IsFull sys next
-same-full sys state next f h s = record {
-  legal = subst (λ (x : List Numbered). IsLegal sys (events x)) (sym h) f.legal;
-  done = f.done;
-  admissible = subst (λ (x : List Numbered). IsAdmissible sys (events x) f.done) (sym h) f.admissible;
-  within = λ p l. subst (λ (x : List Front). Within (frontier_of (bounds_of sys.flow p) (front_of x p)) (f.done p)) (sym s) (f.within p l);
-}
-
-takes-full : (sys : System) (state : Machine) (step : Step) (next : Machine) (effect : Effect) → IsWellFormed sys.flow → HasEpochs sys
-    → is_recovery step ≡ false → IsFull sys state → LeadsTo sys state step next effect → IsFull sys next
-takes-full sys state (Inject s) next effect w b k f t = subst (IsFull sys) (sym t.3) (event-full sys state (Injected s t.0) w b f t.1)
-takes-full sys state (Deliver e at) next effect w b k f t = subst (IsFull sys) (sym t.3) (event-full sys state (Delivered e t.0) w b f t.1.enabled)
-takes-full sys state (Notify p at) next effect w b k f t = subst (IsFull sys) (sym t.3) (event-full sys state (Notified p t.0) w b f t.1.enabled)
-takes-full sys state ProgressStep next effect w b k f t =
-    let h = ap (λ (m : Machine). m.history) t.3 in record {
-      legal = subst (λ (x : List Numbered). IsLegal sys (events x)) (sym h) f.legal;
-      done = t.0;
-      admissible = subst (λ (x : List Numbered). IsAdmissible sys (events x) t.0) (sym h) t.2.complete.admissible;
-      within = λ p l. subst (λ (x : List Front). Within (frontier_of (bounds_of sys.flow p) (front_of x p)) (t.0 p)) (sym (ap (λ (m : Machine). m.settled) t.3))
-          (settled-within sys state t.0 t.1 f t.2 p l);
-    }
-takes-full sys state (Checkpoint p) next effect w b k f t = same-full sys state next f (ap (λ (m : Machine). m.history) t.3) (ap (λ (m : Machine). m.settled) t.3)
-takes-full sys state Persist next effect w b k f t = same-full sys state next f (ap (λ (m : Machine). m.history) t.2) (ap (λ (m : Machine). m.settled) t.2)
-takes-full sys state (Fail ps) next effect w b k f t = same-full sys state next f (ap (λ (m : Machine). m.history) t.4) (ap (λ (m : Machine). m.settled) t.4)
-takes-full sys state Recover next effect w b k f t = absurd (two_ways true refl k)
-takes-full sys state Collect next effect w b k f t = same-full sys state next f (ap (λ (m : Machine). m.history) t.3) (ap (λ (m : Machine). m.settled) t.3)
-takes-full sys state (Ack o) next effect w b k f t = same-full sys state next f (ap (λ (m : Machine). m.history) t.2) (ap (λ (m : Machine). m.settled) t.2)
 
 -- an output has one in-edge
 one-zero : (n : ℕ) → n ≡ 1 → n ≡ 0 → ⊥
@@ -317,38 +239,3 @@ same-test flow w o d l k r e = elim (cases_Bool (e == d)) [
     | inr c ↦ c ∙ sym b
   ]
 ]
-
-takes-denoted : (sys : System) (family : Family) → IsWellFormedSystem sys → IsDenotation sys family
-    → (state : Machine) (step : Step) (next : Machine) (effect : Effect) → IsFull sys state → LeadsTo sys state step next effect → IsDenotedEffect sys family effect
-takes-denoted sys family w u state (Inject s) next effect f t = subst (IsDenotedEffect sys family) (sym t.4) tt
-takes-denoted sys family w u state (Deliver e at) next effect f t = subst (IsDenotedEffect sys family) (sym t.4) tt
-takes-denoted sys family w u state (Notify p at) next effect f t = subst (IsDenotedEffect sys family) (sym t.4) tt
-takes-denoted sys family w u state ProgressStep next effect f t = subst (IsDenotedEffect sys family) (sym t.4) tt
-takes-denoted sys family w u state (Checkpoint p) next effect f t = subst (IsDenotedEffect sys family) (sym t.4) tt
-takes-denoted sys family w u state Persist next effect f t = subst (IsDenotedEffect sys family) (sym t.3) tt
-takes-denoted sys family w u state (Fail ps) next effect f t = subst (IsDenotedEffect sys family) (sym t.5) tt
-takes-denoted sys family w u state Recover next effect f t = subst (IsDenotedEffect sys family) (sym t.8) tt
-takes-denoted sys family w u state Collect next effect f t = subst (IsDenotedEffect sys family) (sym t.4) tt
-takes-denoted sys family w u state (Ack o) next effect f t =
-    let at : Stamp = t.0 ∷ [] in
-    subst (IsDenotedEffect sys family) (sym t.3) (λ d l r.
-    let inside : f.done (receiver sys.flow d) at ≡ true = subst (λ p. f.done p at ≡ true) (sym r) (f.within o t.1.declared at t.1.settled) in
-    ap sorted (delivered-to sys.flow o d at (same-test sys.flow w.flow o d t.1.declared t.1.output r) (events state.history))
-    ∙ delivered-is_denoted sys (events state.history) family w f.legal u f.done f.admissible d at inside)
-
-run-denoted : (sys : System) (family : Family) → IsWellFormedSystem sys → IsDenotation sys family
-    → (steps : List Step) (outcomes : List Outcome) (state last : Machine) → HaveNoRecovery steps → IsFull sys state → Run sys state steps outcomes last
-    → AllByRecursion (IsDenoted sys family) outcomes
-run-denoted sys family w u [] [] state last n f r = tt
-run-denoted sys family w u [] (x ∷ os) state last n f r = absurd r
-run-denoted sys family w u (s ∷ ss) [] state last n f r = absurd r
-run-denoted sys family w u (s ∷ ss) (did effect ∷ os) state last n f r = (
-  takes-denoted sys family w u state s r.0 effect f r.1,
-  run-denoted sys family w u ss os r.0 last n.1 (takes-full sys state s r.0 effect w.flow (has_epochs sys w) n.0 f r.1) r.2,
-)
-run-denoted sys family w u (s ∷ ss) (idle ∷ os) state last n f r =
-    (tt, run-denoted sys family w u ss os r.0 last n.1 (subst (IsFull sys) (sym r.1.1) f) r.2)
-
-pub acknowledgements-denoted : AcknowledgementsShowDenotation
-acknowledgements-denoted sys family w u steps outcomes last n r =
-    run-denoted sys family w u steps outcomes (first_state sys) last n (first-full sys w.flow) r

@@ -15,22 +15,26 @@ use Rattle.fw_flow.specs.declared.choice.Cut.TheVariants.{Present, At}
 use Rattle.fw_flow.specs.declared.event.Event.{Event}
 use Rattle.fw_flow.specs.declared.event.Event.TheVariants.{Inject, Deliver, Notify}
 use Rattle.fw_flow.specs.declared.event.Message.{Message}
-use Rattle.fw_flow.specs.Dataflow.{System, Dataflow, kind_of, policy_of, sender, receiver, bounds_of}
+use Rattle.fw_flow.specs.Dataflow.{System, Dataflow, kind_of, policy_of, sender, receiver, bounds_of, HasEpochs}
 use Rattle.fw_flow.specs.NodeFunction.{place, stamp, sends, sent_by}
 use Rattle.fw_flow.specs.Projection.{events_at, all_inside, phi}
 use Rattle.fw_flow.specs.WellFormed.{IsWellFormed}
 use Rattle.fw_model.specs.History.{sent, delivered, IsLegal}
 use Rattle.fw_model.specs.Machine.{Machine, events, front_of, bound_of}
-use Rattle.fw_model.specs.Choice.{kept, Restoring, by_batches, by_bound, by_anything, by_checkpoints, by_events, until, HasCheckpoint, AllLogged, IsRestorable, IsCandidate, restoring, can_resend, cut_of, kept_of, set_of, takes_its_cut, takes_its_notes, stamps_inside, stamps_from, stamp_of_notice, notified_inside, delivered_cover, notified_cover, discarded_at, discarded_cover, IsConsistent}
-use Rattle.fw_model.specs.LawsOfLegalHistories.{HasEpochs}
-use Rattle.fw_model.specs.LawsOfFiltering.{AreFrontiers, kept_events, messages_from, messages_inside}
-use Rattle.fw_model.specs.LawsOfChoosing.{low_choice}
+use Rattle.fw_model.specs.Choice.{kept, until, HasCheckpoint, AllLogged, IsRestorable, IsCandidate, cut_of, kept_of, IsConsistent}
+use Rattle.fw_flow.specs.declared.restoring.Restoring.{Restoring}
+use Rattle.fw_flow.specs.declared.restoring.Restoring.TheVariants.{Batches, Bound, Anything, Checkpoints, Events}
+use Rattle.fw_flow.specs.Restoring.{can_resend, way_of}
+use Rattle.fw_model.specs.Covers.{set_of, takes_its_cut, takes_its_notes, stamps_inside, stamps_from, stamp_of_notice, notified_inside, discarded_at, covers_in, tallies_in}
 use Rattle.fw_model.proofs.Decisions.{two_ways}
 use Rattle.fw_model.proofs.StampLaws.{line-leq}
 use Rattle.fw_model.proofs.FilterLaws.{passes-not, filter-in, filter-out, filter-none}
 use Rattle.fw_model.proofs.PhiLaws.{phi-longer}
 use Rattle.fw_model.proofs.LocalityLaws.{sends-causes, delivers-same, sends-same_within, phi-same}
 use Rattle.fw_model.proofs.SequenceLaws.{one_inside}
+use Rattle.fw_model.specs.Filtering.{AreFrontiers, kept_events, messages_from, messages_inside}
+use Rattle.fw_model.specs.Choosing.{low_choice}
+use Rattle.fw_model.proofs.TallyLaws.{delivered_cover-same, discarded_cover-same, notified_cover-same}
 
 -- the frontier that the list has at node p
 abbrev pub at_node : System → List Front → ℕ → Frontier
@@ -170,32 +174,23 @@ pub low-offered : (sys : System) (state : Machine) (notes : List Front) → IsLo
 low-offered sys state notes c p l =
     subst (λ x. IsCandidate sys state (λ q. true) kept p x) (low_cut state notes p (omega (arith, low_length sys state notes c))) (c.offered p l)
 
-pub delivered-same : (sys : System) (state next : Machine) (p d : ℕ) (f : Front)
-    → stamps_inside (frontier_of (bounds_of sys.flow p) f) (delivered (events next.history) d) ≡ stamps_inside (frontier_of (bounds_of sys.flow p) f) (delivered (events state.history) d)
-    → delivered_cover sys next p d (At f) ≡ delivered_cover sys state p d (At f)
-delivered-same sys state next p d f e =
-    let b = bounds_of sys.flow p in
-    ap (λ ss. cond (takes_its_cut (restoring (kind_of sys.flow p) (policy_of sys.flow p))) (frontier_of b f) (cover b ss)) e
+pub delivered-same : (sys : System) (state next : Machine) (d : ℕ) (f : Front)
+    → (let b = bounds_of sys.flow (receiver sys.flow d) in stamps_inside (frontier_of b f) (delivered (events next.history) d) ≡ stamps_inside (frontier_of b f) (delivered (events state.history) d))
+    → (covers_in sys next).delivered d (At f) ≡ (covers_in sys state).delivered d (At f)
+delivered-same sys state next d f e =
+    delivered_cover-same sys.flow (tallies_in sys next) (tallies_in sys state) d (At f) (ap (λ ss. cover (bounds_of sys.flow (receiver sys.flow d)) ss) e)
 
 pub notified-same : (sys : System) (state next : Machine) (p : ℕ) (f : Front)
     → notified_inside p (frontier_of (bounds_of sys.flow p) f) (events next.history) ≡ notified_inside p (frontier_of (bounds_of sys.flow p) f) (events state.history)
-    → notified_cover sys next p (At f) ≡ notified_cover sys state p (At f)
+    → (covers_in sys next).notified p (At f) ≡ (covers_in sys state).notified p (At f)
 notified-same sys state next p f e =
-    let b = bounds_of sys.flow p in
-    ap (λ ss. cond (takes_its_notes (kind_of sys.flow p) (policy_of sys.flow p)) (frontier_of b f) (cover b ss)) e
+    notified_cover-same sys.flow (tallies_in sys next) (tallies_in sys state) p (At f) (ap (λ ss. cover (bounds_of sys.flow p) ss) e)
 
-discarded_at-same : (sys : System) (state next : Machine) (q e : ℕ) (way : Restoring) (f : Frontier)
-    → stamps_from f (sent sys (events next.history) e) ≡ stamps_from f (sent sys (events state.history) e)
-    → discarded_at sys next q e way f ≡ discarded_at sys state q e way f
-discarded_at-same sys state next q e by_anything f same = refl
-discarded_at-same sys state next q e way f same = ap (λ ss. cover (bounds_of sys.flow (receiver sys.flow e)) ss) same
-
-pub discarded-same : (sys : System) (state next : Machine) (q e : ℕ) (f : Front)
-    → stamps_from (frontier_of (bounds_of sys.flow q) f) (sent sys (events next.history) e) ≡ stamps_from (frontier_of (bounds_of sys.flow q) f) (sent sys (events state.history) e)
-    → discarded_cover sys next q e (At f) ≡ discarded_cover sys state q e (At f)
-discarded-same sys state next q e f same =
-    ap (λ g. cond (can_resend (policy_of sys.flow q)) nothing g)
-    (discarded_at-same sys state next q e (restoring (kind_of sys.flow q) (policy_of sys.flow q)) (frontier_of (bounds_of sys.flow q) f) same)
+pub discarded-same : (sys : System) (state next : Machine) (e : ℕ) (f : Front)
+    → (let g = frontier_of (bounds_of sys.flow (sender sys.flow e)) f in stamps_from g (sent sys (events next.history) e) ≡ stamps_from g (sent sys (events state.history) e))
+    → (covers_in sys next).discarded e (At f) ≡ (covers_in sys state).discarded e (At f)
+discarded-same sys state next e f same =
+    discarded_cover-same sys.flow (tallies_in sys next) (tallies_in sys state) e (At f) (ap (λ ss. cover (bounds_of sys.flow (receiver sys.flow e)) ss) same)
 
 -- a value at two cuts that are one
 at-cut : (f g : Cut → Frontier) (cut low : Cut) → cut ≡ low → f low ≡ g low → (t : Stamp) → f cut t ≡ true → g cut t ≡ true
@@ -209,7 +204,7 @@ low-moves_at sys state next notes w same offered c =
     let choice = low_choice state notes in
     let long = low_length sys state notes c in
     let cut : (p : ℕ) → p < length sys.flow.nodes → cut_of choice p ≡ At (front_of state.low p) = λ p l. low_cut state notes p (omega (arith, long)) in
-    let lies : (p : ℕ) → p < length sys.flow.nodes → Within (kept_of sys choice p) (at_node sys state.low p) = λ p l t k. sym (ap (λ x. set_of sys p x t) (cut p l)) ∙ k in
+    let lies : (p : ℕ) → p < length sys.flow.nodes → Within (kept_of sys.flow choice p) (at_node sys state.low p) = λ p l t k. sym (ap (λ x. set_of sys.flow p x t) (cut p l)) ∙ k in
     record {
       one_cut_each = c.one_cut_each;
       one_note_each = c.one_note_each;
@@ -219,15 +214,15 @@ low-moves_at sys state next notes w same offered c =
           let r = receiver sys.flow d in
           let q = sender sys.flow d in
           let m = w.receivers_declared d l in
-          same.reach d l (kept_of sys choice q) (lies q (w.senders_declared d l)) t
-          (c.delivered d l t (at-cut (delivered_cover sys next r d) (delivered_cover sys state r d) (cut_of choice r) (At (front_of state.low r)) (cut r m)
-          (delivered-same sys state next r d (front_of state.low r) (same.deliveries d l)) t k));
+          same.reach d l (kept_of sys.flow choice q) (lies q (w.senders_declared d l)) t
+          (c.delivered d l t (at-cut ((covers_in sys next).delivered d) ((covers_in sys state).delivered d) (cut_of choice r) (At (front_of state.low r)) (cut r m)
+          (delivered-same sys state next d (front_of state.low r) (same.deliveries d l)) t k));
       discarded = λ e l t k.
           let q = sender sys.flow e in
-          c.discarded e l t (at-cut (discarded_cover sys next q e) (discarded_cover sys state q e) (cut_of choice q) (At (front_of state.low q)) (cut q (w.senders_declared e l))
-          (discarded-same sys state next q e (front_of state.low q) (same.sendings e l)) t k);
+          c.discarded e l t (at-cut ((covers_in sys next).discarded e) ((covers_in sys state).discarded e) (cut_of choice q) (At (front_of state.low q)) (cut q (w.senders_declared e l))
+          (discarded-same sys state next e (front_of state.low q) (same.sendings e l)) t k);
       notified = λ p l t k.
-          c.notified p l t (at-cut (notified_cover sys next p) (notified_cover sys state p) (cut_of choice p) (At (front_of state.low p)) (cut p l)
+          c.notified p l t (at-cut ((covers_in sys next).notified p) ((covers_in sys state).notified p) (cut_of choice p) (At (front_of state.low p)) (cut p l)
           (notified-same sys state next p (front_of state.low p) (same.notices p l)) t k);
       own = c.own;
       notes = λ d l t k.
@@ -238,8 +233,8 @@ low-moves_at sys state next notes w same offered c =
 
 -- what restores a node to the frontier does so in the next state
 pub record Keeps (sys : System) (state next : Machine) (p : ℕ) (f : Front) : Type 0 where
-  pub batches : restoring (kind_of sys.flow p) (policy_of sys.flow p) ≡ by_batches → IsRestorable sys state kept p by_batches f
-      → IsRestorable sys next kept p by_batches f
+  pub batches : way_of sys.flow p ≡ Batches → IsRestorable sys state kept p Batches f
+      → IsRestorable sys next kept p Batches f
   pub settled : Within (frontier_of (bounds_of sys.flow p) f) (at_node sys state.settled p) → Within (frontier_of (bounds_of sys.flow p) f) (at_node sys next.settled p)
   pub bound : bound_of state p ≤ bound_of next p
   pub checkpoints : HasCheckpoint kept p f state.writes → HasCheckpoint kept p f next.writes
@@ -255,14 +250,14 @@ until-more b m n l t i =
     (ap not (false_from_ne_true (leq (n ∷ []) t) (λ k.
     two_ways (inside (until m) t) a.1 (ap (λ c. not c && true) (leq-trans (m ∷ []) (n ∷ []) t (line-leq m n l) k))))) refl)
 
-restorable-stays : (sys : System) (state next : Machine) (p : ℕ) (way : Restoring) (f : Front) → restoring (kind_of sys.flow p) (policy_of sys.flow p) ≡ way
+restorable-stays : (sys : System) (state next : Machine) (p : ℕ) (way : Restoring) (f : Front) → way_of sys.flow p ≡ way
     → Keeps sys state next p f → IsRestorable sys state kept p way f → IsRestorable sys next kept p way f
-restorable-stays sys state next p by_batches f e k a = k.batches e a
-restorable-stays sys state next p by_bound f e k a =
+restorable-stays sys state next p Batches f e k a = k.batches e a
+restorable-stays sys state next p Bound f e k a =
     (k.settled a.0, λ t i. until-more (bounds_of sys.flow p) (bound_of state p) (bound_of next p) k.bound t (a.1 t i))
-restorable-stays sys state next p by_anything f e k a = k.settled a
-restorable-stays sys state next p by_checkpoints f e k a = elim a [ inl n ↦ inl n | inr c ↦ inr (k.checkpoints c) ]
-restorable-stays sys state next p by_events f e k a = (k.settled a.0, k.logs a.1)
+restorable-stays sys state next p Anything f e k a = k.settled a
+restorable-stays sys state next p Checkpoints f e k a = elim a [ inl n ↦ inl n | inr c ↦ inr (k.checkpoints c) ]
+restorable-stays sys state next p Events f e k a = (k.settled a.0, k.logs a.1)
 
 pub low-stays : (sys : System) (state next : Machine) (notes : List Front) → IsWellFormed sys.flow → next.low ≡ state.low
     → IsSameInside sys (events state.history) (events next.history) state.low
@@ -274,6 +269,6 @@ low-stays sys state next notes w low same keeps c =
     (λ p l.
     let a = low-offered sys state notes c p l in (
       a.0,
-      restorable-stays sys state next p (restoring (kind_of sys.flow p) (policy_of sys.flow p)) (front_of state.low p) refl (keeps p l) a.1,
+      restorable-stays sys state next p (way_of sys.flow p) (front_of state.low p) refl (keeps p l) a.1,
       λ t i. sym (ap (λ fs. at_node sys fs p t) low) ∙ i,
     )) c)

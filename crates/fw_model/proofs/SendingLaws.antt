@@ -1,5 +1,5 @@
 -- Phi and psi by the send stamps of the sender, kind by kind.
-use Rattle.std.proofs.Common.{◌≡◌, ◌↔◌, ℕ, zero, suc, ◌+◌, ◌-◌, ◌*◌, ◌/◌, ◌<◌, ◌≤◌, min, true, ◌&&◌, ◌||◌, ◌==◌, nat_lt, List, [], ◌∷◌, Some, None, refl, sym, ap, subst, ◌∙◌, inl, inr, ◌⊎◌, arith}
+use Rattle.std.proofs.Common.{◌≡◌, ◌↔◌, ℕ, zero, suc, ◌+◌, ◌-◌, ◌*◌, ◌/◌, ◌<◌, ◌≤◌, min, Bool, true, ◌&&◌, ◌||◌, ◌==◌, nat_lt, List, [], ◌∷◌, Some, None, refl, sym, ap, subst, ◌∙◌, inl, inr, ◌⊎◌, arith}
 use Rattle.std.proofs.lemmas.Option.{cond_some}
 use Rattle.std.proofs.lemmas.Bool.{and_parts, and_from, or_cases, or_left, or_right, ltb-true, lt-ltb, eqb-true, eqb-false, eq-eqb, cond-true, cases_Bool}
 use Rattle.std.proofs.Math.Nat.{div-le_self, div-mul-le_self, div-lt_iff_lt-mul, le-div_iff_mul-le, mul-div_left, min-le_left, min-le_right, le-min}
@@ -10,12 +10,12 @@ use Rattle.fw_time.proofs.StampLaws.{leq-refl, leq-trans, outer-nest, counter-ne
 use Rattle.fw_frontier.specs.Frontier.{Frontier, IsFrontier}
 use Rattle.fw_flow.specs.declared.kind.Kind.{Kind}
 use Rattle.fw_flow.specs.declared.kind.Kind.TheVariants.{OutputEpoch, OutputNumber, Enter, Feedback, Leave, Sequence, Regroup}
-use Rattle.fw_flow.specs.Dataflow.{greatest_of_kind, System, Dataflow, kind_of, sender, max_of, greatest_number, domain_of_kind, out_domain_of_kind, bounds_of, bounds_of_domain, send_stamp, send_stamp_of_kind}
+use Rattle.fw_flow.specs.Dataflow.{greatest_of_kind, System, Dataflow, kind_of, sender, max_of, greatest_number, domain_of_kind, out_domain_of_kind, bounds_of, bounds_of_domain, send_stamp, send_stamp_of_kind, bounds_of_edge}
 use Rattle.fw_flow.specs.declared.event.Event.{Event}
 use Rattle.fw_flow.specs.Projection.{sent_count, each_counter, some_counter, phi_of_kind, phi, psi_of_kind, psi}
-use Rattle.fw_model.specs.LawsOfProjections.{bounds_of_edge}
-use Rattle.fw_model.specs.LawsOfSending.{SendsByStamp, IsSentFrom, SendsAbove, PhiBySendStamps, PsiBySendStamps, SendStampIsMonotone}
+use Rattle.fw_model.specs.LawsOfSending.{PhiBySendStamps, PsiBySendStamps, SendStampIsMonotone}
 use Rattle.fw_model.proofs.StampLaws.{IsInLoop, loop-leq, nest-leq, leq-nest, in_loop, leq_from, leq_to, in_line, line-leq, leq-line}
+use Rattle.fw_model.specs.Sending.{SendsByStamp, IsSentFrom, SendsAbove}
 
 -- the domain with this greatest stamp
 abbrev up_to : Stamp → Bounds
@@ -252,42 +252,36 @@ phi_of_kind-by_stamp sys (Regroup r) n f p fr u i =
     subst P (sym v.1) (regroup_phi greatest_number r v.0 f p fr)
 phi_of_kind-by_stamp sys kind n f p fr u i = same_phi _ f fr u i
 
-psi_of_kind-by_stamp : (sys : System) (kind : Kind) (f : Frontier) → SendsByStamp sys.flow kind
-    → IsFrontier (bounds_of_domain sys.flow (domain_of_kind sys.flow kind)) f
-    → (u : Stamp) → in_domain (bounds_of_domain sys.flow (out_domain_of_kind sys.flow kind)) u ≡ true
-    → (psi_of_kind (greatest_of_kind sys.flow kind) kind f u ≡ true) ↔ SendsAbove (send_stamp_of_kind sys.flow kind) f u
-psi_of_kind-by_stamp sys OutputEpoch f p fr u i = absurd p
-psi_of_kind-by_stamp sys OutputNumber f p fr u i = absurd p
-psi_of_kind-by_stamp sys Sequence f p fr u i = absurd p
-psi_of_kind-by_stamp sys (Enter l) f p fr u i = enter_psi (greatest_number ∷ []) (max_of sys.flow l) f fr u i
-psi_of_kind-by_stamp sys (Feedback l) f p fr u i = feedback_psi (greatest_number ∷ []) (max_of sys.flow l) f p fr u i
-psi_of_kind-by_stamp sys (Leave l) f p fr u i = leave_psi (greatest_number ∷ []) (max_of sys.flow l) f fr u i
-psi_of_kind-by_stamp sys (Regroup r) f p fr u i =
+psi_of_kind-by_stamp : (flow : Dataflow) (kind : Kind) (f : Frontier) → SendsByStamp flow kind
+    → IsFrontier (bounds_of_domain flow (domain_of_kind flow kind)) f
+    → (u : Stamp) → in_domain (bounds_of_domain flow (out_domain_of_kind flow kind)) u ≡ true
+    → (psi_of_kind (greatest_of_kind flow kind) kind f u ≡ true) ↔ SendsAbove (send_stamp_of_kind flow kind) f u
+psi_of_kind-by_stamp flow OutputEpoch f p fr u i = absurd p
+psi_of_kind-by_stamp flow OutputNumber f p fr u i = absurd p
+psi_of_kind-by_stamp flow Sequence f p fr u i = absurd p
+psi_of_kind-by_stamp flow (Enter l) f p fr u i = enter_psi (greatest_number ∷ []) (max_of flow l) f fr u i
+psi_of_kind-by_stamp flow (Feedback l) f p fr u i = feedback_psi (greatest_number ∷ []) (max_of flow l) f p fr u i
+psi_of_kind-by_stamp flow (Leave l) f p fr u i = leave_psi (greatest_number ∷ []) (max_of flow l) f fr u i
+psi_of_kind-by_stamp flow (Regroup r) f p fr u i =
     let v = in_line u greatest_number i in
-    let P : Stamp → Type 0 = λ w. (psi_of_kind (greatest_of_kind sys.flow (Regroup r)) (Regroup r) f w ≡ true) ↔ SendsAbove (regrouped r) f w in
+    let P : Stamp → Type 0 = λ w. (psi_of_kind (greatest_of_kind flow (Regroup r)) (Regroup r) f w ≡ true) ↔ SendsAbove (regrouped r) f w in
     subst P (sym v.1) (regroup_psi greatest_number r v.0 f p fr)
-psi_of_kind-by_stamp sys kind f p fr u i = same_psi _ f fr u i
+psi_of_kind-by_stamp flow kind f p fr u i = same_psi _ f fr u i
 
 -- ---- the laws
+
+-- what a test beside that of the domain says, where that one is passed
+pub test_in_domain : {A : Type 0} (d test : Bool) → d ≡ true → (test ≡ true) ↔ A → ((d && test) ≡ true) ↔ A
+test_in_domain d test i row = (λ k. row.0 (and_parts d test k).1, λ w. and_from d test i (row.1 w))
 
 pub phi-by_stamp : PhiBySendStamps
 unfolding phi bounds_of
 phi-by_stamp sys h e f p fr u i =
-    let kind = kind_of sys.flow (sender sys.flow e) in
-    let count = sent_count sys h (sender sys.flow e) f in
-    let row = phi_of_kind-by_stamp sys kind count f p fr u i in (
-      λ k. row.0 (and_parts _ (phi_of_kind (greatest_of_kind sys.flow kind) kind count f u) k).1,
-      λ all. and_from _ (phi_of_kind (greatest_of_kind sys.flow kind) kind count f u) i (row.1 all),
-    )
+    test_in_domain _ _ i (phi_of_kind-by_stamp sys (kind_of sys.flow (sender sys.flow e)) (sent_count sys h (sender sys.flow e) f) f p fr u i)
 
 pub psi-by_stamp : PsiBySendStamps
 unfolding psi bounds_of
-psi-by_stamp sys e f p fr u i =
-    let kind = kind_of sys.flow (sender sys.flow e) in
-    let row = psi_of_kind-by_stamp sys kind f p fr u i in (
-      λ k. row.0 (and_parts _ (psi_of_kind (greatest_of_kind sys.flow kind) kind f u) k).1,
-      λ w. and_from _ (psi_of_kind (greatest_of_kind sys.flow kind) kind f u) i (row.1 w),
-    )
+psi-by_stamp flow e f p fr u i = test_in_domain _ _ i (psi_of_kind-by_stamp flow (kind_of flow (sender flow e)) f p fr u i)
 
 pub phi-in_domain : (sys : System) (h : List Event) (e : ℕ) (f : Frontier) (u : Stamp) → phi sys h e f u ≡ true → in_domain (bounds_of_edge sys.flow e) u ≡ true
 unfolding phi

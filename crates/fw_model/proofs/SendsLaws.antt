@@ -13,8 +13,9 @@ use Rattle.fw_flow.specs.declared.kind.Kind.TheVariants.{Sequence}
 use Rattle.fw_flow.specs.Dataflow.{System, Dataflow, kind_of, sender, bounds_of, send_stamp, send_stamp_of_kind, is_sequence_kind}
 use Rattle.fw_flow.specs.NodeFunction.{stamp, recs_on, messages_at, messages_at_some, sends_of_kind, sends, sent_by}
 use Rattle.fw_flow.specs.Projection.{events_at, all_inside, phi, psi}
-use Rattle.fw_model.specs.LawsOfSending.{SendsByStamp, SendsAtSendStamp, SendsAreInsidePsi, SentFromInsideIsInsidePsi, InsidePhiComesFromInside}
+use Rattle.fw_model.specs.LawsOfSending.{SendsAtSendStamp, SendsAreInsidePsi, SentFromInsideIsInsidePsi, InsidePhiComesFromInside}
 use Rattle.fw_model.proofs.SendingLaws.{phi-by_stamp, psi-by_stamp, phi-in_domain, send_stamp-in_domain}
+use Rattle.fw_model.specs.Sending.{SendsByStamp}
 
 -- the message is at this stamp, if there is one, and has one cause
 abbrev pub IsAt : Option Stamp → Stamp → Message → Type 0
@@ -45,8 +46,8 @@ by_stamp-no_sequence flow kind p = refl
 pub sends-inside_psi : SendsAreInsidePsi
 sends-inside_psi sys e f p fr before v k =
     let q = sender sys.flow e in
-    each-weaker (IsAt (send_stamp sys.flow q (stamp v)) (stamp v)) (λ m. psi sys e f m.at ≡ true) (sends sys q before v)
-    (λ m a. (psi-by_stamp sys e f p fr m.at (send_stamp-in_domain sys.flow q (stamp v) m.at (fr.inside_domain (stamp v) k) a.0)).1
+    each-weaker (IsAt (send_stamp sys.flow q (stamp v)) (stamp v)) (λ m. psi sys.flow e f m.at ≡ true) (sends sys q before v)
+    (λ m a. (psi-by_stamp sys.flow e f p fr m.at (send_stamp-in_domain sys.flow q (stamp v) m.at (fr.inside_domain (stamp v) k) a.0)).1
     (stamp v, m.at, k, a.0, leq-refl m.at))
     (sends-each sys q (by_stamp-no_sequence sys.flow (kind_of sys.flow q) p) before v)
 
@@ -89,9 +90,9 @@ pub sent_from_inside-inside_psi : SentFromInsideIsInsidePsi
 unfolding IsOfCause
 sent_from_inside-inside_psi sys h e f p fr =
     let q = sender sys.flow e in
-    each-weaker (IsOfCause sys.flow q) (λ m. all_inside f m.causes ≡ true → psi sys e f m.at ≡ true) (sent_by sys q (events_at sys.flow q h))
+    each-weaker (IsOfCause sys.flow q) (λ m. all_inside f m.causes ≡ true → psi sys.flow e f m.at ≡ true) (sent_by sys q (events_at sys.flow q h))
     (λ m w k.
     let i = (and_parts (f w.0) true (sym (ap (all_inside f) w.2) ∙ k)).0 in
-    (psi-by_stamp sys e f p fr m.at (send_stamp-in_domain sys.flow q w.0 m.at (fr.inside_domain w.0 i) w.1)).1
+    (psi-by_stamp sys.flow e f p fr m.at (send_stamp-in_domain sys.flow q w.0 m.at (fr.inside_domain w.0 i) w.1)).1
     (w.0, m.at, i, w.1, leq-refl m.at))
     (sent_by-of_cause sys q (by_stamp-no_sequence sys.flow (kind_of sys.flow q) p) (events_at sys.flow q h))

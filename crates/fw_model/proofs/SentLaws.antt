@@ -17,19 +17,12 @@ use Rattle.fw_flow.specs.WholeBags.{Timed}
 use Rattle.fw_flow.specs.Dataflow.{System, sender}
 use Rattle.fw_flow.specs.NodeFunction.{place, sends, sent_by}
 use Rattle.fw_flow.specs.Projection.{events_at}
-use Rattle.fw_model.specs.History.{message_cmp, is_among, without, less, some_at, sent, delivered, pending, IsEnabled, IsLegal}
+use Rattle.fw_flow.specs.Message.{message_cmp, is_among, without, less}
+use Rattle.fw_model.specs.History.{some_at, sent, delivered, pending, IsEnabled, IsLegal}
+use Rattle.fw_flow.proofs.MessageLaws.{message_cmp-equal, message_cmp-self}
 use Rattle.fw_model.proofs.WeightLaws.{weigh, weigh-append, one, one-out}
-use Rattle.fw_model.proofs.CmpLaws.{message_cmp-equal}
 
 -- ---- messages that the order finds the same
-
-three_equal : (o p q : Ordering) → o ≡ Equal → p ≡ Equal → q ≡ Equal → is_eq (ordering_then o (ordering_then p q)) ≡ true
-three_equal o p q a b c = ap (λ x. is_eq (ordering_then x (ordering_then p q))) a ∙ ap (λ x. is_eq (ordering_then x q)) b ∙ ap is_eq c
-
-message_cmp-self : (m : Message) → is_eq (message_cmp m m) ≡ true
-message_cmp-self m =
-    three_equal (stamp_cmp m.at m.at) (rec_cmp m.rec m.rec) (slice_cmp stamp_cmp m.causes m.causes)
-    (tied_itself nat_list_cmp_total m.at) (rec_cmp-refl m.rec) (tied_itself (lists_total nat_list_cmp_total) m.causes)
 
 -- ---- how often a message is there
 

@@ -15,8 +15,9 @@ use Rattle.fw_flow.specs.Dataflow.{greatest_of_kind, System, Dataflow, kind_of, 
 use Rattle.fw_flow.specs.NodeFunction.{stamp, recs_on_notification, numbered_messages, sequence_sent, sends_of_kind, sends, sent_by}
 use Rattle.fw_flow.specs.Projection.{events_at, all_inside, count_from, sent_count, first_number_of, phi_of_kind, phi}
 use Rattle.fw_model.specs.History.{injected_count}
-use Rattle.fw_model.specs.LawsOfSending.{notified_stamps, AreDescending, InsidePhiOfSequenceComesFromInside}
+use Rattle.fw_model.specs.LawsOfSending.{InsidePhiOfSequenceComesFromInside}
 use Rattle.fw_model.proofs.PhiLaws.{count-append}
+use Rattle.fw_model.specs.Order.{notified_stamps, AreDescending}
 
 -- ---- counts
 

@@ -11,13 +11,13 @@ use Rattle.fw_model.specs.Denotation.{Family, rounds}
 use Rattle.fw_model.specs.Machine.{Machine, first_state}
 use Rattle.fw_flow.specs.declared.choice.Choice.{Choice}
 use Rattle.fw_model.specs.Steps.{quiet, acked, cuts, lows, Outcome, LeadsTo, Steps, Run}
-use Rattle.fw_model.specs.LawsOfDenotation.{enough_rounds}
-use Rattle.fw_model.specs.LawsOfRuns.{IsDenotedEffect, IsDenoted}
-use Rattle.fw_model.specs.LawsOfChoosing.{Shows, TwoRunsShowOneBag}
+use Rattle.fw_model.specs.LawsOfChoosing.{TwoRunsShowOneBag}
 use Rattle.fw_model.proofs.DenotationLaws.{denotation-exists}
 use Rattle.fw_model.proofs.DependenceLaws.{in_edges-each}
 use Rattle.fw_model.proofs.RunLaws.{output-degree}
 use Rattle.fw_model.proofs.RecoveryLaws.{acknowledged-denoted}
+use Rattle.fw_model.specs.Measure.{enough_rounds}
+use Rattle.fw_model.specs.Acknowledgements.{IsDenotedEffect, IsDenoted, Shows}
 
 -- the output is declared
 record IsOutput (flow : Dataflow) (o : ℕ) : Type 0 where

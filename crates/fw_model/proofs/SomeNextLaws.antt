@@ -16,7 +16,7 @@ use Rattle.fw_model.specs.Machine.{Machine, front_of, is_failed}
 use Rattle.fw_flow.specs.declared.choice.Choice.{Choice}
 use Rattle.fw_model.specs.Choice.{kept, cut_of}
 use Rattle.fw_model.specs.Steps.{cuts, lows, did, idle, IsSettledCut, CutsTo, LeadsTo, recovered, front_of_cut, collected_writes}
-use Rattle.fw_model.specs.LawsOfSteps.{CanChoose, HasItsChoice, SomeNextState, ExactlyOneNextState}
+use Rattle.fw_model.specs.LawsOfSteps.{SomeNextState, ExactlyOneNextState}
 use Rattle.fw_model.proofs.ChoiceLaws.{largest-one}
 use Rattle.fw_model.proofs.CmpLaws.{decided-same, stamp_total, fronts_cmp-same}
 use Rattle.fw_model.proofs.Decisions.{Decided, decided-test, find_place}
@@ -26,6 +26,7 @@ use Rattle.fw_model.proofs.LargestLaws.{largest-exists}
 use Rattle.fw_model.proofs.OneNextLaws.{one_next}
 use Rattle.fw_model.proofs.SettleLaws.{meet-frontier, fronts-each}
 use Rattle.fw_bag.proofs.OrderingLaws.{slice_cmp-same}
+use Rattle.fw_model.specs.Choosing.{CanChoose, HasItsChoice}
 
 settled_cut : (sys : System) (p : ℕ) (cut : Cut) (before : Front) → (after : Front) × IsSettledCut sys p cut before after
 settled_cut sys p Present before = (before, refl)

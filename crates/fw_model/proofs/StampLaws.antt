@@ -1,8 +1,8 @@
 -- The order of stamps, and the stamps of a loop.
 use Rattle.std.proofs.Common.{◌≡◌, ℕ, ◌≤◌, true, false, nat_le, [], ◌∷◌, refl, sym, ap, ◌∙◌, arith}
 use Rattle.std.proofs.lemmas.Bool.{and_parts, and_from, leb-true, le-leb}
-use Rattle.fw_time.specs.Stamp.{Stamp, leq, nest, outer, counter, same}
-use Rattle.fw_time.proofs.StampLaws.{leq-refl, leq-antisym}
+use Rattle.fw_time.specs.Stamp.{Stamp, leq, nest, outer, counter}
+pub use Rattle.fw_time.proofs.StampLaws.{same-is, same-refl, same-from}
 
 nest-outer : (x : ℕ) (s : Stamp) → x ∷ s ≡ nest (outer (x ∷ s)) (counter (x ∷ s))
 nest-outer x [] = refl
@@ -77,14 +77,3 @@ counter-leq (x ∷ []) (y ∷ []) k = leb-true x y (and_parts (nat_le x y) true 
 counter-leq (x ∷ []) (y ∷ z ∷ t) k = let a = and_parts (nat_le x y) false k in absurd (cc)
 counter-leq (x ∷ z ∷ s) (y ∷ []) k = let a = and_parts (nat_le x y) false k in absurd (cc)
 counter-leq (x ∷ w ∷ s) (y ∷ z ∷ t) k = counter-leq (w ∷ s) (z ∷ t) (and_parts (nat_le x y) (leq (w ∷ s) (z ∷ t)) k).1
-
--- ---- stamps that are one
-
-pub same-is : (s t : Stamp) → same s t ≡ true → s ≡ t
-same-is s t e = let p = and_parts (leq s t) (leq t s) e in leq-antisym s t p.0 p.1
-
-pub same-refl : (s : Stamp) → same s s ≡ true
-same-refl s = and_from (leq s s) (leq s s) (leq-refl s) (leq-refl s)
-
-pub same-from : (s t : Stamp) → s ≡ t → same s t ≡ true
-same-from s t e = sym (ap (same s) e) ∙ same-refl s

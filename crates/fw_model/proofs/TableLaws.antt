@@ -13,9 +13,10 @@ use Rattle.fw_flow.specs.declared.kind.Kind.TheVariants.{Sequence}
 use Rattle.fw_flow.specs.Dataflow.{System, kind_of}
 use Rattle.fw_flow.specs.NodeFunction.{place, stamp, recs_on, numbered_messages, sequence_sent, sends_of_kind, sends, sent_by}
 use Rattle.fw_flow.specs.Projection.{events_at, all_inside, count_from, table_count}
-use Rattle.fw_model.specs.LawsOfSending.{is_notification_of, SentTableFollowsHistory}
+use Rattle.fw_model.specs.LawsOfSending.{SentTableFollowsHistory}
 use Rattle.fw_model.proofs.PhiLaws.{count-append}
 use Rattle.fw_model.proofs.SequenceLaws.{IsNumbered, numbered-each, one_inside, count-none}
+use Rattle.fw_model.specs.Order.{is_notification_of}
 
 count-all : (f : Frontier) (ms : List Message) → AllByRecursion (λ (m : Message). all_inside f m.causes ≡ true) ms → count_from f ms ≡ length ms
 count-all f [] a = refl

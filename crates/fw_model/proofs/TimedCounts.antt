@@ -17,11 +17,11 @@ use Rattle.fw_flow.specs.WholeBags.{Timed, timed_cmp, with_timed, in_order, recs
 use Rattle.fw_flow.specs.declared.event.Message.{Message}
 use Rattle.fw_flow.specs.Dataflow.{System, sender, kind_of, in_edges, batches_of}
 use Rattle.fw_model.specs.Denotation.{Family, IsDenotation, bag_at}
-use Rattle.fw_model.specs.LawsOfDeliveries.{recs_at}
 use Rattle.fw_model.proofs.TimedLaws.{IsAscendingTimed, ascending-in_order}
 use Rattle.fw_model.proofs.WeightLaws.{weigh, one, how_often-where}
 use Rattle.fw_model.proofs.SentLaws.{timed_message, timed_of}
 use Rattle.fw_model.proofs.StampLaws.{same-is}
+use Rattle.fw_model.specs.History.{recs_at}
 
 -- ---- the same recs
 

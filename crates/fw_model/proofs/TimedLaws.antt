@@ -1,5 +1,5 @@
 -- The order of timed recs: a bag has one list in order, which the counts of its timed recs decide.
-use Rattle.std.proofs.Common.{◌≡◌, ℕ, ◌+◌, Bool, true, false, cond, List, [], ◌∷◌, filter, refl, sym, ap, ◌∙◌, subst, arith}
+use Rattle.std.proofs.Common.{◌≡◌, ℕ, ◌+◌, Bool, true, false, cond, List, [], ◌∷◌, filter, refl, ap, ◌∙◌, subst, arith}
 use Rattle.std.proofs.lemmas.Bool.{cond_both}
 use Rattle.std.proofs.lemmas.Cmp.{nat_list_cmp_total, on_total, then_total, tied_itself, upto}
 use Rattle.std.specs.Cmp.{IsTotalOrder}
@@ -173,12 +173,6 @@ same_from_how_often [] [] s t h = refl
 same_from_how_often [] (y ∷ ys) s t h = absurd (omega (arith, h y, how_often-cons y y ys, one_if-self y))
 same_from_how_often (x ∷ xs) [] s t h = absurd (omega (arith, h x, how_often-cons x x xs, one_if-self x))
 same_from_how_often (x ∷ xs) (y ∷ ys) s t h = same_cases x y xs ys s t h (same_from_how_often xs ys s.1 t.1) (timed_cmp x y) refl
-
--- lists that have each timed rec equally often are one list in order
-pub same_in_order : (xs ys : List Timed) → ((q : Timed) → how_often_timed q xs ≡ how_often_timed q ys) → in_order xs ≡ in_order ys
-same_in_order xs ys h =
-    same_from_how_often (in_order xs) (in_order ys) (ascending-in_order xs) (ascending-in_order ys)
-    (λ q. how_often-in_order q xs ∙ h q ∙ sym (how_often-in_order q ys))
 
 -- what ascends is in order
 pub in_order-ascending : (xs : List Timed) → IsAscendingTimed xs → in_order xs ≡ xs

@@ -6,7 +6,8 @@ use Rattle.fw_flow.specs.declared.kind.Kind.TheVariants.{OutputEpoch, OutputNumb
 use Rattle.fw_flow.specs.declared.node.Edge.{Edge}
 use Rattle.fw_flow.specs.Dataflow.{Dataflow, kind_of, sender, max_of, edges_from, out_edges}
 use Rattle.fw_flow.specs.WellFormed.{IsLoopDeclared, IsOutDegree, IsGroupSize}
-use Rattle.fw_model.specs.LawsOfSending.{SendsByStamp, SendersOfWellFormed}
+use Rattle.fw_model.specs.LawsOfSending.{SendersOfWellFormed}
+use Rattle.fw_model.specs.Sending.{SendsByStamp}
 
 edges_from-some : (es : List Edge) (n e p : ℕ) (d : Edge) → e < length es → (get_or es e d).sender ≡ p → 1 ≤ length (edges_from n es p)
 edges_from-some [] n e p d l k = absurd (omega arith)

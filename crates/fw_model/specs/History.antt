@@ -1,37 +1,17 @@
 -- The machine without failures: a history of events, the latest first, and which event may come next.
-use Rattle.std.specs.Prelude.{◌≡◌, ℕ, ◌<◌, Bool, true, false, not, ◌&&◌, ◌||◌, ◌==◌, nat_lt, if◌then◌else◌, List, [], ◌∷◌, length}
+use Rattle.std.specs.Prelude.{◌≡◌, ℕ, ◌<◌, Bool, true, false, not, ◌&&◌, ◌||◌, ◌==◌, nat_lt, if◌then◌else◌, List, [], ◌∷◌, length, filter, map}
 use Rattle.fw_flow.specs.Counting.{how_many}
-use Rattle.std.specs.List.{flat_map, list_any}
-use Rattle.std.specs.Ordering.{is_eq, ordering_then}
-use Rattle.std.specs.Cmp.Lexicographic.{slice_cmp}
-use Rattle.std.specs.declared.cmp.Ordering.{Ordering}
-use Rattle.fw_time.specs.Stamp.{Stamp, leq, lesser, same, stamp_cmp, in_domain}
-use Rattle.fw_bag.specs.Rec.{rec_cmp}
+use Rattle.std.specs.List.{flat_map, list_any, AllByRecursion}
+use Rattle.fw_time.specs.Stamp.{Stamp, leq, lesser, same, in_domain}
 use Rattle.fw_frontier.specs.Frontier.{Frontier, IsFrontier, Within}
 use Rattle.fw_flow.specs.declared.event.Event.{Event}
 use Rattle.fw_flow.specs.declared.event.Event.TheVariants.{Inject, Deliver, Notify}
 use Rattle.fw_flow.specs.declared.event.Message.{Message}
 use Rattle.fw_flow.specs.Dataflow.{System, Dataflow, kind_of, sender, receiver, bounds_of, is_notified_kind, is_input_kind, is_numbered, batches_of}
-use Rattle.fw_flow.specs.NodeFunction.{sent_by}
+use Rattle.fw_flow.specs.NodeFunction.{sent_by, place, stamp}
+use Rattle.fw_flow.specs.Message.{is_among, less}
 use Rattle.fw_flow.specs.Projection.{events_at, phi, first_number_of}
-
--- messages are ordered by stamp, rec and causes
-abbrev pub message_cmp : Message → Message → Ordering
-message_cmp a b = ordering_then (stamp_cmp a.at b.at) (ordering_then (rec_cmp a.rec b.rec) (slice_cmp stamp_cmp a.causes b.causes))
-
--- whether the message is among these
-abbrev pub is_among : Message → List Message → Bool
-is_among m xs = list_any (λ x. is_eq (message_cmp m x)) xs
-
--- the messages without the first that is this one
-abbrev pub without : Message → List Message → List Message
-without m [] = []
-without m (x ∷ xs) = if is_eq (message_cmp m x) then xs else x ∷ without m xs
-
--- the messages less those of the second list, each as often as it stands there
-abbrev pub less : List Message → List Message → List Message
-less ms [] = ms
-less ms (d ∷ ds) = without d (less ms ds)
+use Rattle.fw_bag.specs.declared.rec.Rec.{Rec}
 
 -- whether one of the messages is at a stamp that passes the test
 abbrev pub some_at : (Stamp → Bool) → List Message → Bool
@@ -147,3 +127,22 @@ IsEnabled sys h (Notify p t) = IsNotifiable sys h p t
 abbrev pub IsLegal : System → List Event → Type 0
 IsLegal sys [] = Unit {0}
 IsLegal sys (v ∷ h) = IsEnabled sys h v × IsLegal sys h
+
+-- each event is at a stamp of its node's domain
+abbrev pub AreAtNodes : Dataflow → List Event → Type 0
+AreAtNodes flow h = AllByRecursion (λ v. in_domain (bounds_of flow (place flow v)) (stamp v) ≡ true) h
+
+-- the recs of the messages at a stamp
+abbrev pub recs_at : Stamp → List Message → List Rec
+recs_at t ms = map (λ (m : Message). m.rec) (filter (λ (m : Message). same t m.at) ms)
+
+-- A stamp is closed for a node: nothing is pending for the node up to it, and it is complete before the node.
+pub record IsClosedFor (sys : System) (h : List Event) (p : ℕ) (t : Stamp) : Type 0 where
+  pub quiet : (s : Stamp) → leq s t ≡ true → IsQuiet sys h p s
+  pub complete : (done : ℕ → Frontier) × IsAdmissible sys h done
+      × ((d : ℕ) → receiver sys.flow d ≡ p → phi sys h d (done (sender sys.flow d)) t ≡ true)
+
+-- each event of the node is at a stamp of its domain
+abbrev pub AreEventsInDomain : Dataflow → List Event → ℕ → Type 0
+AreEventsInDomain flow h p =
+    AllByRecursion (λ v. in_domain (bounds_of flow p) (stamp v) ≡ true) (events_at flow p h)

@@ -1,5 +1,5 @@
 -- Laws of choosing: in each state of a run there is something to choose, and what was collected changes no choice.
-use Rattle.std.specs.Prelude.{◌≡◌, ◌↔◌, ◌⊎◌, ℕ, ◌<◌, Bool, true, List, [], ◌∷◌, map, length}
+use Rattle.std.specs.Prelude.{◌≡◌, ◌↔◌, ℕ, ◌<◌, Bool, true, List, length}
 use Rattle.fw_time.specs.Stamp.{Stamp}
 use Rattle.fw_bag.specs.declared.rec.Rec.{Rec}
 use Rattle.fw_frontier.specs.Frontier.{Within}
@@ -12,13 +12,9 @@ use Rattle.fw_flow.specs.WellFormed.{IsWellFormedSystem}
 use Rattle.fw_model.specs.Machine.{Machine, first_state, front_of, is_failed}
 use Rattle.fw_flow.specs.declared.choice.Choice.{Choice}
 use Rattle.fw_model.specs.Choice.{View, kept, ever, cut_of, IsCandidate, IsConsistent, IsCutWithin, IsLargest}
-use Rattle.fw_model.specs.Steps.{acked, cuts, Outcome, did, Steps, Run}
-use Rattle.fw_model.specs.LawsOfExistence.{AreCheckpointsChains}
-use Rattle.fw_model.specs.LawsOfSteps.{CanChoose, IsTheNext}
-
--- the low watermark as a choice, with these notification frontiers
-abbrev pub low_choice : Machine → List Front → Choice
-low_choice state notes = record { cuts = map (λ f. At f) state.low; notes = notes }
+use Rattle.fw_model.specs.Steps.{cuts, Outcome, did, Steps, Run, IsTheNext}
+use Rattle.fw_model.specs.Choosing.{low_choice, AreCheckpointsChains, CanChoose}
+use Rattle.fw_model.specs.Acknowledgements.{Shows}
 
 -- in each state to which steps of a well-formed system lead from the first one, the low watermark is a consistent choice
 -- with some notification frontiers, whichever nodes count as failed, with what was collected and without it
@@ -59,7 +55,7 @@ abbrev pub LargestChoiceHoldsLowWatermark : Type 0
 LargestChoiceHoldsLowWatermark = (sys : System) → IsWellFormedSystem sys → (steps : List Step) (outcomes : List Outcome) (last : Machine)
     → Run sys (first_state sys) steps outcomes last → (lost : ℕ → Bool) (view : View) (choice : Choice)
     → IsLargest sys last (IsCandidate sys last lost view) choice
-    → (p : ℕ) → p < length sys.flow.nodes → IsCutWithin sys p (At (front_of last.low p)) (cut_of choice p)
+    → (p : ℕ) → p < length sys.flow.nodes → IsCutWithin sys.flow p (At (front_of last.low p)) (cut_of choice p)
 
 -- a step from a state to which steps of a well-formed system lead from the first one lowers the low watermark at no node
 abbrev pub LowWatermarkNeverFalls : Type 0
@@ -74,11 +70,6 @@ abbrev pub LargestOfKeptIsLargestOfEver : Type 0
 LargestOfKeptIsLargestOfEver = (sys : System) → IsWellFormedSystem sys → (steps : List Step) (outcomes : List Outcome) (last : Machine)
     → Run sys (first_state sys) steps outcomes last → (lost : ℕ → Bool) (choice : Choice)
     → IsLargest sys last (IsCandidate sys last lost kept) choice ↔ IsLargest sys last (IsCandidate sys last lost ever) choice
-
--- one of the outcomes acknowledges output o at this stamp, and shows these recs
-abbrev pub Shows : ℕ → Stamp → List Rec → List Outcome → Type 0
-Shows o t recs [] = ⊥
-Shows o t recs (outcome ∷ outcomes) = (outcome ≡ did (acked o t recs)) ⊎ Shows o t recs outcomes
 
 -- two runs of one well-formed system that acknowledge an output at a stamp show the same recs there
 abbrev pub TwoRunsShowOneBag : Type 0

@@ -3,13 +3,13 @@ use Rattle.std.specs.Prelude.{◌≡◌, ℕ, false, List, ◌∷◌}
 use Rattle.fw_frontier.specs.Frontier.{Frontier}
 use Rattle.fw_flow.specs.declared.event.Event.{Event}
 use Rattle.fw_flow.specs.declared.kind.Kind.TheVariants.{Sequence}
-use Rattle.fw_flow.specs.Dataflow.{System, kind_of}
+use Rattle.fw_flow.specs.Dataflow.{System, kind_of, HasEpochs}
 use Rattle.fw_flow.specs.NodeFunction.{place, stamp}
 use Rattle.fw_flow.specs.WellFormed.{IsWellFormed}
 use Rattle.fw_model.specs.History.{IsAdmissible, IsEnabled, IsLegal}
-use Rattle.fw_model.specs.LawsOfLegalHistories.{HasEpochs}
-use Rattle.fw_model.specs.LawsOfProjections.{IsSenderFrontier}
-use Rattle.fw_model.specs.LawsOfSending.{ComesFromInside, IsNotifiedInOrder}
+use Rattle.fw_flow.specs.Projection.{IsSenderFrontier}
+use Rattle.fw_model.specs.Sending.{ComesFromInside}
+use Rattle.fw_model.specs.Order.{IsNotifiedInOrder}
 
 -- after any history, legal or not, an enabled event is outside each admissible family: nothing comes where all has come
 abbrev pub EnabledIsOutside : Type 0

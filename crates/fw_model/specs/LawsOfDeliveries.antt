@@ -1,31 +1,20 @@
 -- Laws of deliveries: in which order they come, and that they are those of the denotation where all has come.
-use Rattle.std.specs.Prelude.{◌≡◌, ℕ, ◌≤◌, true, false, ◌&&◌, ◌==◌, List, [], ◌∷◌, ◌++◌, length, map, filter}
+use Rattle.std.specs.Prelude.{◌≡◌, ℕ, ◌≤◌, true, false, ◌&&◌, ◌==◌, List, ◌∷◌, ◌++◌}
 use Rattle.std.specs.List.{AllByRecursion}
-use Rattle.fw_time.specs.Stamp.{Stamp, leq, same}
+use Rattle.fw_time.specs.Stamp.{Stamp, leq}
 use Rattle.fw_frontier.specs.Frontier.{Frontier}
 use Rattle.fw_bag.specs.declared.rec.Rec.{Rec}
 use Rattle.fw_flow.specs.declared.event.Event.{Event}
 use Rattle.fw_flow.specs.declared.event.Event.TheVariants.{Notify}
-use Rattle.fw_flow.specs.declared.event.Message.{Message}
-use Rattle.fw_flow.specs.Dataflow.{System, is_numbered, sender, receiver}
+use Rattle.fw_flow.specs.Dataflow.{System, is_numbered, sender, receiver, HasEpochs}
 use Rattle.fw_flow.specs.NodeFunction.{place, stamp}
 use Rattle.fw_flow.specs.Projection.{phi}
 use Rattle.fw_flow.specs.WellFormed.{IsWellFormed, IsWellFormedSystem}
 use Rattle.fw_bag.specs.Bag.{how_often}
 use Rattle.fw_bag.specs.Keyed.{sorted}
 use Rattle.fw_model.specs.Denotation.{Family, IsDenotation, bag_at}
-use Rattle.fw_model.specs.History.{IsQuiet, IsAdmissible, IsLegal, sent, delivered}
-use Rattle.fw_model.specs.LawsOfLegalHistories.{HasEpochs}
-
--- the recs of the messages at a stamp
-abbrev pub recs_at : Stamp → List Message → List Rec
-recs_at t ms = map (λ (m : Message). m.rec) (filter (λ (m : Message). same t m.at) ms)
-
--- A stamp is closed for a node: nothing is pending for the node up to it, and it is complete before the node.
-pub record IsClosedFor (sys : System) (h : List Event) (p : ℕ) (t : Stamp) : Type 0 where
-  pub quiet : (s : Stamp) → leq s t ≡ true → IsQuiet sys h p s
-  pub complete : (done : ℕ → Frontier) × IsAdmissible sys h done
-      × ((d : ℕ) → receiver sys.flow d ≡ p → phi sys h d (done (sender sys.flow d)) t ≡ true)
+use Rattle.fw_model.specs.History.{IsAdmissible, IsLegal, sent, delivered, recs_at, IsClosedFor}
+use Rattle.fw_model.specs.Order.{AreNumberedInOrder}
 
 -- a stamp that is closed for a node of a well-formed flow with epochs stays closed as the history goes on legally
 abbrev pub ClosedStampsStayClosed : Type 0
@@ -45,11 +34,6 @@ abbrev pub NotificationsComeLast : Type 0
 NotificationsComeLast = (sys : System) (h : List Event) → IsWellFormed sys.flow → HasEpochs sys
     → (p : ℕ) (t : Stamp) (more : List Event) → IsLegal sys (more ++ Notify p t ∷ h)
     → AllByRecursion (λ v. (place sys.flow v == p && leq (stamp v) t) ≡ false) more
-
--- the messages, the latest first, have the numbers from 0 on
-abbrev pub AreNumberedInOrder : List Message → Type 0
-AreNumberedInOrder [] = Unit {0}
-AreNumberedInOrder (m ∷ ms) = (m.at ≡ length ms ∷ []) × AreNumberedInOrder ms
 
 -- in a legal history the deliveries on a numbered edge have the numbers 0, 1, 2 and so on in this order
 abbrev pub NumberedDeliveriesAscend : Type 0

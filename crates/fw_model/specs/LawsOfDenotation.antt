@@ -1,37 +1,17 @@
 -- Laws of the denotation: what an out bag depends on, that there is exactly one denotation, which rounds reach, and at
 -- which stamps its recs are.
-use Rattle.std.specs.Prelude.{◌≡◌, ℕ, suc, ◌+◌, ◌*◌, ◌<◌, ◌≤◌, true, false, List, [], ◌∷◌, length, Some}
+use Rattle.std.specs.Prelude.{◌≡◌, ℕ, suc, ◌<◌, ◌≤◌, true, List, length}
 use Rattle.std.specs.List.{AllByRecursion}
-use Rattle.fw_time.specs.Stamp.{Stamp, leq, same, in_domain}
-use Rattle.fw_flow.specs.Dataflow.{System, Dataflow, sender, receiver, bounds_of, send_stamp, is_numbered}
+use Rattle.fw_time.specs.Stamp.{Stamp, same, in_domain}
+use Rattle.fw_flow.specs.Dataflow.{System, Dataflow, sender, receiver, bounds_of, is_numbered, HasEpochs}
 use Rattle.fw_flow.specs.WellFormed.{IsWellFormed}
-use Rattle.fw_flow.specs.Walks.{is_looped}
 use Rattle.fw_flow.specs.WholeBags.{Timed, recs_where, in_order, outputs_of}
-use Rattle.fw_model.specs.Denotation.{Family, IsDenotation, rounds, bag_at}
-use Rattle.fw_model.specs.LawsOfLegalHistories.{HasEpochs}
-
--- how many rounds reach the denotation: for a rank of loops up to the number of nodes, a counter up to 1024, and a rank
--- below the number of nodes within each
-unfoldable pub enough_rounds : Dataflow → ℕ
-enough_rounds flow = (length flow.nodes + 1) * 1025 * length flow.nodes
-
--- A measure of the stamps of each node's domain, which is bounded and falls towards the sender of each edge: into a node
--- that is not looped whatever the stamps, and into a looped one towards each stamp that sends at this one or below.
-pub record Measure (flow : Dataflow) : Type 0 where
-  pub measure : ℕ → Stamp → ℕ
-  pub bound : (p : ℕ) → p < length flow.nodes → (t : Stamp) → measure p t < enough_rounds flow
-  pub into_unlooped : (e : ℕ) → e < length flow.edges → is_looped flow (receiver flow e) ≡ false → (s t : Stamp)
-      → measure (sender flow e) s < measure (receiver flow e) t
-  pub into_looped : (e : ℕ) → e < length flow.edges → is_looped flow (receiver flow e) ≡ true → (s t u : Stamp)
-      → send_stamp flow (sender flow e) s ≡ Some u → leq u t ≡ true → measure (sender flow e) s < measure (receiver flow e) t
+use Rattle.fw_model.specs.Denotation.{Family, IsDenotation, rounds, bag_at, AreInOrder, AreNumberedFrom}
+use Rattle.fw_model.specs.Measure.{enough_rounds, Measure}
 
 -- each well-formed dataflow has a measure
 abbrev pub MeasureExists : Type 0
 MeasureExists = (flow : Dataflow) → IsWellFormed flow → Measure flow
-
--- each bag of the family is in order
-abbrev pub AreInOrder : Family → Type 0
-AreInOrder family = (e : ℕ) → in_order (family e) ≡ family e
 
 -- two bags in order that have the same recs at each stamp are the same
 abbrev pub RecsAtStampsDecideBag : Type 0
@@ -74,11 +54,6 @@ DenotationIsInOrder = (sys : System) (family : Family) → IsDenotation sys fami
 abbrev pub DenotationIsInDomain : Type 0
 DenotationIsInDomain = (sys : System) (family : Family) → IsWellFormed sys.flow → HasEpochs sys → IsDenotation sys family
     → (e : ℕ) → AllByRecursion (λ (r : Timed). in_domain (bounds_of sys.flow (receiver sys.flow e)) r.at ≡ true) (family e)
-
--- the timed recs are at the numbers from n on, one at each, in order
-abbrev pub AreNumberedFrom : ℕ → List Timed → Type 0
-AreNumberedFrom n [] = Unit {0}
-AreNumberedFrom n (r ∷ rs) = (r.at ≡ n ∷ []) × AreNumberedFrom (n + 1) rs
 
 -- the timed recs of the denotation of a well-formed flow on a numbered edge are at the numbers from 0 on, one at each, in
 -- order

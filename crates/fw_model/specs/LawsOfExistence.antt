@@ -1,18 +1,20 @@
 -- Laws of existence: complete frontiers, lists of outside stamps, and largest choices.
-use Rattle.std.specs.Prelude.{◌≡◌, ◌⊎◌, ℕ, ◌<◌, Bool, false, true, List, length}
-use Rattle.fw_time.specs.Stamp.{Stamp}
+use Rattle.std.specs.Prelude.{◌≡◌, ℕ, Bool, List}
 use Rattle.fw_time.specs.declared.stamp.Bounds.{Bounds}
 use Rattle.fw_frontier.specs.Frontier.{Frontier, IsFrontier}
-use Rattle.fw_frontier.specs.Front.{Front, frontier_of, Names}
-use Rattle.fw_flow.specs.declared.choice.Cut.{Cut}
+use Rattle.fw_frontier.specs.Front.{Front, Names}
 use Rattle.fw_flow.specs.declared.event.Event.{Event}
-use Rattle.fw_flow.specs.Dataflow.{System, kind_of, policy_of, bounds_of}
+use Rattle.fw_flow.specs.Dataflow.{System}
 use Rattle.fw_flow.specs.WellFormed.{IsWellFormed}
 use Rattle.fw_model.specs.History.{IsComplete}
-use Rattle.fw_model.specs.Machine.{Machine, events, front_of, is_failed}
+use Rattle.fw_model.specs.Machine.{Machine, events}
 use Rattle.fw_flow.specs.declared.choice.Choice.{Choice}
-use Rattle.fw_model.specs.Choice.{View, by_checkpoints, restoring, IsCandidate, IsConsistent, IsCutWithin, IsLargest}
+use Rattle.fw_model.specs.Choice.{View, IsCandidate, IsConsistent, IsLargest}
+use Rattle.fw_flow.specs.declared.restoring.Restoring.TheVariants.{Checkpoints}
 use Rattle.fw_model.specs.Steps.{GrowsTo}
+use Rattle.fw_model.specs.Settled.{HasMoreToSettle}
+use Rattle.fw_model.specs.Choosing.{AreCheckpointsChains}
+use Rattle.fw_flow.specs.Restoring.{way_of}
 
 -- each frontier of a domain has a list of outside stamps that names it
 abbrev pub FrontierHasFront : Type 0
@@ -27,26 +29,10 @@ abbrev pub CompleteIsTheOnlyOne : Type 0
 CompleteIsTheOnlyOne = (sys : System) (h : List Event) (one other : ℕ → Frontier) → IsComplete sys h one → IsComplete sys h other
     → one ≡ other
 
--- more is complete than is settled, at some node that is not failed
-pub record HasMoreToSettle (sys : System) (state : Machine) (done : ℕ → Frontier) : Type 0 where
-  pub node : ℕ
-  pub at : Stamp
-  pub declared : node < length sys.flow.nodes
-  pub live : is_failed state node ≡ false
-  pub complete : done node at ≡ true
-  pub unsettled : frontier_of (bounds_of sys.flow node) (front_of state.settled node) at ≡ false
-
 -- settled can grow to what is complete where more is complete at some node that is not failed
 abbrev pub SettledCanGrow : Type 0
 SettledCanGrow = (sys : System) (state : Machine) (done : ℕ → Frontier) → IsComplete sys (events state.history) done
     → HasMoreToSettle sys state done → (settled : List Front) × GrowsTo sys state done settled
-
--- where a node is restored by its checkpoints, of two cuts that it offers one lies within the other
-abbrev pub AreCheckpointsChains : System → Machine → (ℕ → Bool) → View → Type 0
-AreCheckpointsChains sys state lost view =
-    (p : ℕ) (one other : Cut) → p < length sys.flow.nodes → restoring (kind_of sys.flow p) (policy_of sys.flow p) ≡ by_checkpoints
-    → IsCandidate sys state lost view p one → IsCandidate sys state lost view p other
-    → IsCutWithin sys p one other ⊎ IsCutWithin sys p other one
 
 -- where some choice of the restore candidates is consistent and checkpoints are chains, there is a largest choice
 abbrev pub LargestChoiceExists : Type 0

@@ -1,18 +1,12 @@
 -- Laws of legal histories: at which stamps their events and messages are.
-use Rattle.std.specs.Prelude.{◌≡◌, ℕ, ◌+◌, ◌≤◌, true, false, List, length}
+use Rattle.std.specs.Prelude.{◌≡◌, ℕ, true, false, List}
 use Rattle.std.specs.List.{AllByRecursion}
 use Rattle.fw_time.specs.Stamp.{in_domain}
 use Rattle.fw_flow.specs.declared.event.Event.{Event}
 use Rattle.fw_flow.specs.declared.event.Message.{Message}
-use Rattle.fw_flow.specs.Dataflow.{System, kind_of, greatest_number, is_input_kind, batches_of}
+use Rattle.fw_flow.specs.Dataflow.{System, kind_of, is_input_kind, HasEpochs, bounds_of_edge}
 use Rattle.fw_flow.specs.WellFormed.{IsWellFormed}
-use Rattle.fw_model.specs.History.{IsLegal, sent, injected_count}
-use Rattle.fw_model.specs.LawsOfProjections.{bounds_of_edge}
-use Rattle.fw_model.specs.LawsOfSending.{AreEventsInDomain}
-
--- each batch has an epoch
-abbrev pub HasEpochs : System → Type 0
-HasEpochs sys = (s : ℕ) → length (batches_of sys s) ≤ greatest_number + 1
+use Rattle.fw_model.specs.History.{IsLegal, sent, injected_count, AreEventsInDomain}
 
 -- in a legal history of a well-formed flow with epochs each event is at a stamp of its node's domain
 abbrev pub LegalEventsAreInDomain : Type 0

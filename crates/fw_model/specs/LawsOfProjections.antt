@@ -1,19 +1,11 @@
 -- Laws of projections: in its frontier, in the history, and under meets and unions.
-use Rattle.std.specs.Prelude.{◌≡◌, ℕ, ◌≤◌, true, false, List, ◌++◌}
+use Rattle.std.specs.Prelude.{◌≡◌, ℕ, ◌≤◌, false, List, ◌++◌}
 use Rattle.fw_time.specs.Stamp.{Stamp}
-use Rattle.fw_time.specs.declared.stamp.Bounds.{Bounds}
 use Rattle.fw_frontier.specs.Frontier.{Frontier, IsFrontier, Within, nothing, everything, meet, join}
 use Rattle.fw_flow.specs.declared.event.Event.{Event}
-use Rattle.fw_flow.specs.Dataflow.{System, Dataflow, kind_of, sender, bounds_of, bounds_of_domain, out_domain_of, is_sequence_kind}
-use Rattle.fw_flow.specs.Projection.{phi, phi_by_count, psi}
-
--- the bounds of an edge: which lists are stamps of its messages
-abbrev pub bounds_of_edge : Dataflow → ℕ → Bounds
-bounds_of_edge flow e = bounds_of_domain flow (out_domain_of flow (sender flow e))
-
--- the frontier is one of the sender's domain
-abbrev pub IsSenderFrontier : Dataflow → ℕ → Frontier → Type 0
-IsSenderFrontier flow e f = IsFrontier (bounds_of flow (sender flow e)) f
+use Rattle.fw_flow.specs.Dataflow.{System, Dataflow, kind_of, sender, bounds_of, is_sequence_kind, bounds_of_edge}
+use Rattle.fw_flow.specs.Projection.{phi, phi_by_count, psi, IsSenderFrontier}
+use Rattle.fw_model.specs.Unions.{IsUnion}
 
 -- phi of a frontier of the sender is a frontier of the edge
 abbrev pub PhiIsFrontier : Type 0
@@ -52,28 +44,23 @@ PhiOfEverything = (sys : System) (h : List Event) (e : ℕ) (u : Stamp)
 
 -- psi of a frontier of the sender is a frontier of the edge
 abbrev pub PsiIsFrontier : Type 0
-PsiIsFrontier = (sys : System) (e : ℕ) (f : Frontier) → IsSenderFrontier sys.flow e f
-    → IsFrontier (bounds_of_edge sys.flow e) (psi sys e f)
+PsiIsFrontier = (flow : Dataflow) (e : ℕ) (f : Frontier) → IsSenderFrontier flow e f
+    → IsFrontier (bounds_of_edge flow e) (psi flow e f)
 
 -- psi is monotone: what is inside a larger frontier can send at more stamps
 abbrev pub PsiIsMonotone : Type 0
-PsiIsMonotone = (sys : System) (e : ℕ) (f g : Frontier) → Within f g → Within (psi sys e f) (psi sys e g)
-
--- what is inside some frontier of a family of frontiers
-pub record IsUnion (family : ℕ → Frontier) (f : Frontier) : Type 0 where
-  pub each_within : (i : ℕ) → Within (family i) f
-  pub from_one : (t : Stamp) → f t ≡ true → (i : ℕ) × (family i t ≡ true)
+PsiIsMonotone = (flow : Dataflow) (e : ℕ) (f g : Frontier) → Within f g → Within (psi flow e f) (psi flow e g)
 
 -- psi of the union of any family is the union of the psis
 abbrev pub PsiOfUnion : Type 0
-PsiOfUnion = (sys : System) (e : ℕ) (family : ℕ → Frontier) (f : Frontier) → IsUnion family f
-    → IsUnion (λ i. psi sys e (family i)) (psi sys e f)
+PsiOfUnion = (flow : Dataflow) (e : ℕ) (family : ℕ → Frontier) (f : Frontier) → IsUnion family f
+    → IsUnion (λ i. psi flow e (family i)) (psi flow e f)
 
 -- psi of what is inside one of two frontiers is what is inside one of their psis
 abbrev pub PsiOfJoin : Type 0
-PsiOfJoin = (sys : System) (e : ℕ) (f g : Frontier) (u : Stamp)
-    → psi sys e (join f g) u ≡ join (psi sys e f) (psi sys e g) u
+PsiOfJoin = (flow : Dataflow) (e : ℕ) (f g : Frontier) (u : Stamp)
+    → psi flow e (join f g) u ≡ join (psi flow e f) (psi flow e g) u
 
 -- psi of nothing is nothing
 abbrev pub PsiOfNothing : Type 0
-PsiOfNothing = (sys : System) (e : ℕ) (u : Stamp) → psi sys e nothing u ≡ nothing u
+PsiOfNothing = (flow : Dataflow) (e : ℕ) (u : Stamp) → psi flow e nothing u ≡ nothing u

@@ -1,23 +1,19 @@
 -- Laws of recoveries: what holds of each state to which steps lead from the first one, recoveries among them.
-use Rattle.std.specs.Prelude.{◌≡◌, ℕ, ◌<◌, Bool, true, false, List, length}
+use Rattle.std.specs.Prelude.{◌≡◌, ℕ, ◌<◌, Bool, false, List, length}
 use Rattle.std.specs.List.{AllByRecursion}
-use Rattle.fw_time.specs.Stamp.{Stamp}
-use Rattle.fw_bag.specs.Keyed.{sorted}
 use Rattle.fw_frontier.specs.Frontier.{Within}
 use Rattle.fw_frontier.specs.Front.{Front, frontier_of}
 use Rattle.fw_flow.specs.declared.choice.Cut.TheVariants.{At}
 use Rattle.fw_flow.specs.declared.step.Step.{Step}
-use Rattle.fw_flow.specs.Dataflow.{System, kind_of, receiver, bounds_of, is_input_kind}
+use Rattle.fw_flow.specs.Dataflow.{System, kind_of, bounds_of, is_input_kind, HasEpochs}
 use Rattle.fw_flow.specs.WellFormed.{IsWellFormed, IsWellFormedSystem}
-use Rattle.fw_model.specs.Denotation.{Family, IsDenotation, bag_at}
-use Rattle.fw_model.specs.History.{IsLegal, delivered, owed}
+use Rattle.fw_model.specs.Denotation.{Family, IsDenotation}
+use Rattle.fw_model.specs.History.{IsLegal}
 use Rattle.fw_model.specs.Machine.{Machine, events, first_state, front_of}
 use Rattle.fw_model.specs.Choice.{View, IsCandidate}
 use Rattle.fw_model.specs.Steps.{Outcome, Steps, Run}
-use Rattle.fw_model.specs.LawsOfLegalHistories.{HasEpochs}
-use Rattle.fw_model.specs.LawsOfDeliveries.{recs_at}
-use Rattle.fw_model.specs.LawsOfFiltering.{IsFull}
-use Rattle.fw_model.specs.LawsOfRuns.{IsDenoted}
+use Rattle.fw_model.specs.Settled.{IsDenotedInside, IsFull}
+use Rattle.fw_model.specs.Acknowledgements.{IsDenoted}
 
 -- each step from a state of a well-formed flow with epochs with a legal history leads to one, a recovery too
 abbrev pub StepsKeepHistoriesLegal : Type 0
@@ -38,14 +34,6 @@ CandidatesLieWithinSettled = (sys : System) (steps : List Step) (outcomes : List
     → Run sys (first_state sys) steps outcomes last → (lost : ℕ → Bool) (view : View) (p : ℕ) (f : Front) → p < length sys.flow.nodes
     → is_input_kind (kind_of sys.flow p) ≡ false → IsCandidate sys last lost view p (At f)
     → Within (frontier_of (bounds_of sys.flow p) f) (frontier_of (bounds_of sys.flow p) (front_of last.settled p))
-
--- Inside what is settled, what was delivered on each edge is what the family has there, and no node is owed a notification.
-pub record IsDenotedInside (sys : System) (family : Family) (state : Machine) : Type 0 where
-  pub denoted : (e : ℕ) → e < length sys.flow.edges → (t : Stamp)
-      → frontier_of (bounds_of sys.flow (receiver sys.flow e)) (front_of state.settled (receiver sys.flow e)) t ≡ true
-      → sorted (recs_at t (delivered (events state.history) e)) ≡ bag_at family e t
-  pub paid : (p : ℕ) → p < length sys.flow.nodes → (t : Stamp) → frontier_of (bounds_of sys.flow p) (front_of state.settled p) t ≡ true
-      → owed sys (events state.history) p t ≡ false
 
 -- in each state to which steps of a well-formed system lead from the first one, what is settled is denoted
 abbrev pub SettledStaysDenoted : Type 0

@@ -1,10 +1,10 @@
 -- The state of the event-list machine.
-use Rattle.std.specs.Prelude.{ℕ, Bool, false, List, [], ◌∷◌, map, length, slice_index_or}
-use Rattle.std.specs.List.{range_with_len}
+use Rattle.std.specs.Prelude.{ℕ, Bool, false, List, [], ◌∷◌, map, slice_index_or}
 use Rattle.fw_time.specs.declared.stamp.Bounds.{Bounds}
-use Rattle.fw_frontier.specs.Front.{Front}
+use Rattle.fw_frontier.specs.Front.{Front, frontier_of, IsCanonical}
+use Rattle.fw_frontier.specs.Frontier.{Frontier}
 use Rattle.fw_flow.specs.declared.event.Event.{Event}
-use Rattle.fw_flow.specs.Dataflow.{System, Dataflow, bounds_of}
+use Rattle.fw_flow.specs.Dataflow.{System, Dataflow, bounds_of, places}
 
 -- an event with its serial number, which no other event ever has
 pub record Numbered : Type 0 where
@@ -48,10 +48,6 @@ events (v ∷ h) = v.event ∷ events h
 abbrev pub no_stamps : Bounds → Front
 no_stamps bounds = map (λ c. 0) bounds.greatest ∷ []
 
--- the places of the nodes, in order
-abbrev pub places : Dataflow → List ℕ
-places flow = range_with_len 0 (length flow.nodes)
-
 -- the first state: nothing has happened
 abbrev pub first_state : System → Machine
 first_state sys = record {
@@ -75,3 +71,11 @@ is_failed state p = slice_index_or state.failed p false
 -- how many stamps output o acknowledged
 abbrev pub bound_of : Machine → ℕ → ℕ
 bound_of state o = slice_index_or state.bounds o 0
+
+-- the frontiers of nodes that are in a list, all past its end
+abbrev pub family_of : Dataflow → List Front → ℕ → Frontier
+family_of flow fronts p = frontier_of (bounds_of flow p) (front_of fronts p)
+
+-- each of the frontiers is the one list of its node's domain that names it
+abbrev pub AreCanonical : Dataflow → List Front → Type 0
+AreCanonical flow fronts = (p : ℕ) → IsCanonical (bounds_of flow p) (front_of fronts p)

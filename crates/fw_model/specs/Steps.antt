@@ -1,13 +1,12 @@
 -- The steps of the event-list machine: when each is enabled, to which state it leads, and what it shows.
 use Rattle.std.specs.Prelude.{◌≡◌, ◌≢◌, ◌⊎◌, ℕ, ◌+◌, ◌<◌, Bool, true, false, not, ◌&&◌, ◌||◌, ◌==◌, if◌then◌else◌, List, [], ◌∷◌, ◌++◌, map, length, Option, Some, None, slice_set, filter}
-use Rattle.std.specs.List.{list_any, list_all, flat_map}
-use Rattle.std.specs.Ordering.{is_gt, is_eq}
-use Rattle.std.specs.Cmp.Lexicographic.{slice_cmp}
+use Rattle.std.specs.List.{list_any, list_all, flat_map, AllByRecursion}
+use Rattle.std.specs.Ordering.{is_gt}
 use Rattle.fw_time.specs.Stamp.{Stamp, leq, same, stamp_cmp}
 use Rattle.fw_bag.specs.declared.rec.Rec.{Rec}
 use Rattle.fw_bag.specs.Keyed.{sorted}
 use Rattle.fw_frontier.specs.Frontier.{Frontier, meet, join}
-use Rattle.fw_frontier.specs.Front.{Front, inside, frontier_of, Names}
+use Rattle.fw_frontier.specs.Front.{Front, frontier_of, same_front, is_within, Names}
 use Rattle.fw_flow.specs.declared.choice.Cut.{Cut}
 use Rattle.fw_flow.specs.declared.choice.Cut.TheVariants.{Present, At}
 use Rattle.fw_flow.specs.declared.event.Event.{Event}
@@ -19,11 +18,12 @@ use Rattle.fw_flow.specs.declared.kind.Policy.{Policy}
 use Rattle.fw_flow.specs.declared.kind.Policy.TheVariants as policy
 use Rattle.fw_flow.specs.declared.step.Step.{Step}
 use Rattle.fw_flow.specs.declared.step.Step.TheVariants.{Inject, Deliver, Notify, Progress as ProgressStep, Checkpoint, Persist, Fail, Recover, Collect, Ack}
-use Rattle.fw_flow.specs.Dataflow.{System, kind_of, policy_of, receiver, out_edges, bounds_of, send_stamp, is_output_kind}
+use Rattle.fw_flow.specs.Dataflow.{System, kind_of, policy_of, receiver, out_edges, bounds_of, send_stamp, is_output_kind, places}
 use Rattle.fw_flow.specs.WellFormed.{may_keep_nothing}
 use Rattle.fw_flow.specs.NodeFunction.{place, stamp, delivered_recs}
-use Rattle.fw_model.specs.History.{IsEnabled, IsComplete, message_cmp}
-use Rattle.fw_model.specs.Machine.{Machine, Numbered, Write, Written, checkpoint, logged_event, Progress, in_flight, acknowledged, collected, events, no_stamps, places, front_of, is_failed, bound_of}
+use Rattle.fw_model.specs.History.{IsEnabled, IsComplete}
+use Rattle.fw_model.specs.Machine.{Machine, Numbered, Write, Written, checkpoint, logged_event, Progress, in_flight, acknowledged, collected, events, no_stamps, front_of, is_failed, bound_of}
+use Rattle.fw_flow.specs.Message.{message_cmp}
 use Rattle.fw_flow.specs.declared.choice.Choice.{Choice}
 use Rattle.fw_model.specs.Choice.{kept, cut_of, filtered, IsCandidate, IsLargest, IsWatermark}
 
@@ -57,6 +57,11 @@ abbrev pub IsAsked : Option Stamp → Stamp → Type 0
 IsAsked None t = Unit {0}
 IsAsked (Some s) t = s ≡ t
 
+-- whether it is, as a test
+abbrev pub is_asked : Option Stamp → Stamp → Bool
+is_asked None t = true
+is_asked (Some s) t = same s t
+
 -- The message is the next one on edge e: it may be delivered, at the stamp that is asked for, and none that may comes
 -- before it in the order of stamps, recs and causes.
 pub record IsNextMessage (sys : System) (h : List Event) (e : ℕ) (at : Option Stamp) (m : Message) : Type 0 where
@@ -69,14 +74,6 @@ pub record IsNextNotice (sys : System) (h : List Event) (p : ℕ) (at : Option S
   pub enabled : IsEnabled sys h (Notified p t)
   pub asked : IsAsked at t
   pub least : (other : Stamp) → IsEnabled sys h (Notified p other) → IsAsked at other → is_gt (stamp_cmp t other) ≡ false
-
--- whether the frontiers have one list of outside stamps: for canonical fronts of one domain, whether they are one
-abbrev pub same_front : Front → Front → Bool
-same_front f g = is_eq (slice_cmp stamp_cmp f g)
-
--- whether each outside stamp of f is outside g: for canonical fronts of one domain, whether g lies within f
-abbrev pub is_within : Front → Front → Bool
-is_within g f = list_all (λ o. not (inside g o)) f
 
 -- the checkpoint that node p asks of f
 abbrev pub checkpoint_of : Machine → ℕ → Front → Write
@@ -317,3 +314,17 @@ Run sys state [] (outcome ∷ outcomes) last = ⊥
 Run sys state (step ∷ steps) [] last = ⊥
 Run sys state (step ∷ steps) (outcome ∷ outcomes) last =
     (next : Machine) × Steps sys state step next outcome × Run sys next steps outcomes last
+
+-- whether the step is a recovery
+abbrev pub is_recovery : Step → Bool
+is_recovery Recover = true
+is_recovery step = false
+
+-- none of the steps is a recovery
+abbrev pub HaveNoRecovery : List Step → Type 0
+HaveNoRecovery steps = AllByRecursion (λ step. is_recovery step ≡ false) steps
+
+-- the step leads to this next state with this outcome, and to no other
+pub record IsTheNext (sys : System) (state : Machine) (step : Step) (next : Machine) (outcome : Outcome) : Type 0 where
+  pub steps : Steps sys state step next outcome
+  pub only : (other : Machine) (another : Outcome) → Steps sys state step other another → (next ≡ other) × (outcome ≡ another)

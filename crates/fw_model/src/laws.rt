@@ -1,5 +1,5 @@
 //! The laws of the definitions. Of each function that stands here the `ensures` is one law, and the body is empty; beside
-//! them are the laws of the crates below, and `complete_frontiers`, which computes what some of the laws speak of.
+//! them are the laws of the crates below.
 //!
 //! In the comments a flow is well formed by `IsWellFormed`, and with epochs where each node has at most 2^32 batches
 //! (`HasEpochs`); a system is well formed by `IsWellFormedSystem`, which says both and more. A node sends at the send
@@ -12,17 +12,16 @@ ghost use Rattle.fw_model.specs.LawsOfCompleteFrontiers.{AdmissibleStaysAdmissib
 ghost use Rattle.fw_model.specs.LawsOfDeliveries.{ClosedStampsStayClosed, DeliveredInsideCompleteIsDenoted, DeliveredInsideCompleteIsFinal, DeliveredIsSubBagOfDenotation, DeliveredUpToClosedIsDenoted, DeliveredUpToClosedIsFinal, NotificationsComeLast, NumberedDeliveriesAscend, SentInsidePhiIsDenoted, SentIsSubBagOfDenotation};
 ghost use Rattle.fw_model.specs.LawsOfDenotation.{DenotationExists, DenotationIsInDomain, DenotationIsInOrder, DenotationIsNumbered, DenotationIsTheOnlyOne, LaterRoundsAreTheSame, MeasureExists, OutBagsDependOnLesserMeasure, RecsAtStampsDecideBag, UnchangedRoundIsDenotation};
 ghost use Rattle.fw_model.specs.LawsOfExistence.{CompleteExists, CompleteIsTheOnlyOne, FrontierHasFront, LargestChoiceExists, SettledCanGrow};
-ghost use Rattle.fw_model.specs.LawsOfFiltering.{ConsistentMeetsInclusions, FilteredHistoryIsLegal, KeptDeliveriesHaveKeptCauses, KeptEventsAreLegal, KeptEventsAreLegalWithoutNotices, KeptEventsDeliverTheSame, KeptEventsSendTheSame, KeptEventsSendTheSameFromWithin, NothingPendingWithoutLog, PendingAtKeptStamps, PendingAtOtherStamps, PendingForCut, PendingForPresent, PhiOfKeptEvents};
+ghost use Rattle.fw_model.specs.LawsOfFiltering.{ConsistentMeetsInclusions, FilteredHistoryIsLegal, KeptDeliveriesHaveKeptCauses, KeptEventsAreLegal, KeptEventsDeliverTheSame, KeptEventsSendTheSame, KeptEventsSendTheSameFromWithin, NothingPendingWithoutLog, PendingAtKeptStamps, PendingAtOtherStamps, PendingForCut, PendingForPresent, PhiOfKeptEvents};
 ghost use Rattle.fw_model.specs.LawsOfLegalHistories.{LegalEventsAreInDomain, LegalMessagesAreInDomain, OnlyInputsInject};
+ghost use Rattle.fw_model.specs.LawsOfOffers.{ConsistentByOffersIsConsistent, LargestByOffersIsLargest};
 ghost use Rattle.fw_model.specs.LawsOfProjections.{PhiByCountIsMonotone, PhiGrowsWithHistory, PhiIgnoresHistory, PhiIsFrontier, PhiIsMonotone, PhiOfEverything, PhiOfMeet, PsiIsFrontier, PsiIsMonotone, PsiOfJoin, PsiOfNothing, PsiOfUnion};
 ghost use Rattle.fw_model.specs.LawsOfRecoveries.{AcknowledgementsShowDenotationThroughRecoveries, CandidatesLieWithinSettled, DenotedIsFull, RunsStayLegalThroughRecoveries, SettledStaysDenoted, StepsKeepHistoriesLegal};
 ghost use Rattle.fw_model.specs.LawsOfRestoring.{BatchesOutsideCutsLieOutsideLow, BatchesToComeLieOutsideLow, CheckpointLogsHoldWhatIsSentAgain, CheckpointsAreAsTheyWereAsked, CheckpointsAscend, CheckpointsAtCutsAreKept, CheckpointsStayTrue, CollectedIsWhatLiesBelow, EventsInsideCutsAreLogged, EventsThatMustBeKeptAreNeverCollected, KeptWatermarksLieWithinToday, LogsHoldWhatIsSentAgain, NothingComesInsideCheckpoints, WhatIsForgottenWasAcknowledged};
-ghost use Rattle.fw_model.specs.LawsOfRuns.{AcknowledgementsAreInOrder, AcknowledgementsShowDenotation, RunsGoOn, RunsStayLegal};
+ghost use Rattle.fw_model.specs.LawsOfRuns.{AcknowledgementsAreInOrder, RunsGoOn, RunsStayLegal};
 ghost use Rattle.fw_model.specs.LawsOfSending.{InsidePhiComesFromInside, InsidePhiOfSequenceComesFromInside, PhiBySendStamps, PsiBackBySendStamps, PsiBackIsLargest, PsiBySendStamps, SendStampIsMonotone, SendersOfWellFormed, SendsAreInsidePsi, SendsAtSendStamp, SentFromInsideIsInsidePsi, SentTableFollowsHistory};
 ghost use Rattle.fw_model.specs.LawsOfSteps.{ExactlyOneNextState, OneNextState, SomeNextState};
 
-// What is complete, computed from a list of events.
-pub use crate::plain::complete_frontiers;
 // The laws of times and of frontiers, each over every type of times, and that of dataflows.
 pub use fw_flow::laws::ranks_exist;
 pub use fw_frontier::laws::{
@@ -353,13 +352,6 @@ pub fn kept_deliveries_have_kept_causes()
     ensures { KeptDeliveriesHaveKeptCauses }
 {}
 
-/// Where no node is of a notified kind, the kept events of a legal history of a well-formed flow with epochs, of
-/// which each node keeps those inside a frontier, are a legal history, if on each edge what was delivered inside what
-/// the receiver keeps is inside phi of what the sender keeps.
-pub fn kept_events_are_legal_without_notices()
-    ensures { KeptEventsAreLegalWithoutNotices }
-{}
-
 /// The consistently kept events of a legal history of a well-formed flow with epochs are a legal history.
 pub fn kept_events_are_legal()
     ensures { KeptEventsAreLegal }
@@ -492,12 +484,6 @@ pub fn runs_go_on()
 /// The history of each state to which steps without a recovery lead from the first one is legal.
 pub fn runs_stay_legal()
     ensures { RunsStayLegal }
-{}
-
-/// Each acknowledgement of a run of a well-formed system without a recovery shows the denotation of the output's
-/// in-edge at its stamp.
-pub fn acknowledgements_show_denotation()
-    ensures { AcknowledgementsShowDenotation }
 {}
 
 /// A run acknowledges at each output the stamps below its bound, in order and each once.
@@ -665,4 +651,14 @@ pub fn collected_is_what_lies_below()
 /// now as it did then.
 pub fn checkpoints_are_as_they_were_asked()
     ensures { CheckpointsAreAsTheyWereAsked }
+{}
+
+/// Where data are what the machine offers in a state, the choices that are consistent by the data are those of the machine.
+pub fn consistent_by_offers_is_consistent()
+    ensures { ConsistentByOffersIsConsistent }
+{}
+
+/// Where data are what the machine offers in a state, the largest choice by the data is that of the machine.
+pub fn largest_by_offers_is_largest()
+    ensures { LargestByOffersIsLargest }
 {}

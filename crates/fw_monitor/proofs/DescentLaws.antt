@@ -8,36 +8,36 @@ use Rattle.fw_flow.specs.declared.choice.Choice.{Choice}
 use Rattle.fw_flow.specs.declared.choice.Cut.{Cut}
 use Rattle.fw_flow.specs.declared.choice.Cut.TheVariants.{Present, At}
 use Rattle.fw_flow.specs.declared.choice.Offer.{Offer}
-use Rattle.fw_flow.specs.Dataflow.{System, Dataflow, sender, receiver, bounds_of}
-use Rattle.fw_flow.specs.Projection.{psi}
+use Rattle.fw_flow.specs.Dataflow.{Dataflow, sender, receiver, bounds_of}
 use Rattle.fw_flow.specs.WellFormed.{IsWellFormed}
 use Rattle.fw_model.specs.Machine.{front_of}
-use Rattle.fw_model.specs.Choice.{cut_of, note_of, kept_of, set_of, IsConsistentBy, IsLargestBy, IsCutWithin, IsChoiceWithin}
+use Rattle.fw_model.specs.Choice.{cut_of, note_of, kept_of, IsConsistentBy, IsLargestBy, IsCutWithin, IsChoiceWithin}
+use Rattle.fw_model.specs.Covers.{set_of}
 use Rattle.fw_monitor.specs.declared.side.Side.{Side}
 use Rattle.fw_monitor.specs.declared.side.Side.TheVariants.{Delivered, Discarded, Notified}
 use Rattle.fw_monitor.specs.Held.{held}
-use Rattle.fw_monitor.specs.Offers.{IsOffered, AreAscending, covers_of, arrived_from}
-use Rattle.fw_monitor.specs.Descent.{bare, choice_of, owner, reach, IsOfFlow, right_of, IsMet, IsMetAtEdge, IsMetAtNode, IsCanonicalCut, IsLower, IsLowered, IsConsistentOf, EnclosesConsistent, HasConsistent, cut_weight, node_weight, weight, IsStep}
+use Rattle.fw_model.specs.Offers.{IsOffered, AreAscending, covers_of, arrived_from}
+use Rattle.fw_monitor.specs.Descent.{choice_of, owner, reach, IsOfFlow, right_of, IsMet, IsMetAtEdge, IsMetAtNode, IsCanonicalCut, IsLower, IsLowered, IsConsistentOf, EnclosesConsistent, HasConsistent, cut_weight, node_weight, weight, IsStep}
 use Rattle.fw_monitor.proofs.HeldLaws.{sum_below-less, held-most}
 use Rattle.fw_monitor.proofs.FrontLaws.{held-less, within_everything, meet-left, meet-right, meet-largest}
 use Rattle.fw_monitor.proofs.ArrivedLaws.{arrived-monotone}
 
 -- ---- what lies within
 
-pub set-monotone : (sys : System) (p : ℕ) (c d : Cut) → IsCutWithin sys p c d → Within (set_of sys p c) (set_of sys p d)
-set-monotone sys p Present Present w t k = k
-set-monotone sys p (At f) Present w t k = within_everything (bounds_of sys.flow p) f t k
-set-monotone sys p Present (At g) w t k = absurd w
-set-monotone sys p (At f) (At g) w t k = w t k
+pub set-monotone : (flow : Dataflow) (p : ℕ) (c d : Cut) → IsCutWithin flow p c d → Within (set_of flow p c) (set_of flow p d)
+set-monotone flow p Present Present w t k = k
+set-monotone flow p (At f) Present w t k = within_everything (bounds_of flow p) f t k
+set-monotone flow p Present (At g) w t k = absurd w
+set-monotone flow p (At f) (At g) w t k = w t k
 
 -- the right sides grow with the choice
-right-monotone : (flow : Dataflow) (offers : List Offer) (side : Side) (small large : Choice) → IsWellFormed flow → IsOfFlow flow side → IsChoiceWithin (bare flow) small large
+right-monotone : (flow : Dataflow) (offers : List Offer) (side : Side) (small large : Choice) → IsWellFormed flow → IsOfFlow flow side → IsChoiceWithin flow small large
     → Within (right_of flow offers side small) (right_of flow offers side large)
 right-monotone flow offers (Delivered d) small large well there w =
-    arrived-monotone flow offers d (kept_of (bare flow) small (sender flow d)) (kept_of (bare flow) large (sender flow d))
-    (set-monotone (bare flow) (sender flow d) (cut_of small (sender flow d)) (cut_of large (sender flow d)) (w.cuts (sender flow d) (well.senders_declared d there)))
+    arrived-monotone flow offers d (kept_of flow small (sender flow d)) (kept_of flow large (sender flow d))
+    (set-monotone flow (sender flow d) (cut_of small (sender flow d)) (cut_of large (sender flow d)) (w.cuts (sender flow d) (well.senders_declared d there)))
 right-monotone flow offers (Discarded e) small large well there w =
-    set-monotone (bare flow) (receiver flow e) (cut_of small (receiver flow e)) (cut_of large (receiver flow e)) (w.cuts (receiver flow e) (well.receivers_declared e there))
+    set-monotone flow (receiver flow e) (cut_of small (receiver flow e)) (cut_of large (receiver flow e)) (w.cuts (receiver flow e) (well.receivers_declared e there))
 right-monotone flow offers (Notified p) small large well there w = w.notes p there
 
 -- in a consistent choice each side holds
@@ -68,7 +68,7 @@ each_cut flow choice p c P l h k q m = elim (cases_eq q p) [
 ]
 
 cut_encloses : (flow : Dataflow) (offers : List Offer) (choice : Choice) (p : ℕ) (c : Cut) → EnclosesConsistent flow offers choice → p < length flow.nodes → IsCanonicalCut (bounds_of flow p) c
-    → (AreAscending flow offers → (other : Choice) → IsConsistentOf flow offers other → IsOffered flow offers p c × IsCutWithin (bare flow) p (cut_of other p) c)
+    → (AreAscending flow offers → (other : Choice) → IsConsistentOf flow offers other → IsOffered flow offers p c × IsCutWithin flow p (cut_of other p) c)
     → EnclosesConsistent flow offers (choice_of (set choice.cuts p c) choice.notes)
 cut_encloses flow offers choice p c r l canonical keeps =
     let one = r.one_cut_each in
@@ -79,13 +79,13 @@ cut_encloses flow offers choice p c r l canonical keeps =
       cuts = each_cut flow choice p c (λ q d. IsCanonicalCut (bounds_of flow q) d) there r.cuts canonical;
       notes = r.notes;
       within = λ a other k. record {
-        cuts = each_cut flow choice p c (λ q d. IsCutWithin (bare flow) q (cut_of other q) d) there (λ q m. (r.within a other k).cuts q m) (keeps a other k).1;
+        cuts = each_cut flow choice p c (λ q d. IsCutWithin flow q (cut_of other q) d) there (λ q m. (r.within a other k).cuts q m) (keeps a other k).1;
         notes = λ q m. (r.within a other k).notes q m;
       };
       offered = λ a other k. each_cut flow choice p c (IsOffered flow offers) there (r.offered a other k) (keeps a other k).0;
     }
 
-cut_weight-less : (flow : Dataflow) (p : ℕ) (c d : Cut) → IsCanonicalCut (bounds_of flow p) c → IsCanonicalCut (bounds_of flow p) d → IsCutWithin (bare flow) p c d → c ≢ d
+cut_weight-less : (flow : Dataflow) (p : ℕ) (c d : Cut) → IsCanonicalCut (bounds_of flow p) c → IsCanonicalCut (bounds_of flow p) d → IsCutWithin flow p c d → c ≢ d
     → cut_weight (bounds_of flow p) c < cut_weight (bounds_of flow p) d
 unfolding cut_weight
 cut_weight-less flow p Present Present cc1 cd w n = absurd (n refl)
@@ -170,7 +170,7 @@ each_note flow choice p f P l h k q m = elim (cases_eq q p) [
 ]
 
 note_encloses : (flow : Dataflow) (offers : List Offer) (choice : Choice) (p : ℕ) (f : Front) → EnclosesConsistent flow offers choice → p < length flow.nodes → IsCanonical (bounds_of flow p) f
-    → (AreAscending flow offers → (other : Choice) → IsConsistentOf flow offers other → Within (note_of (bare flow) other p) (frontier_of (bounds_of flow p) f))
+    → (AreAscending flow offers → (other : Choice) → IsConsistentOf flow offers other → Within (note_of flow other p) (frontier_of (bounds_of flow p) f))
     → EnclosesConsistent flow offers (choice_of choice.cuts (set choice.notes p f))
 note_encloses flow offers choice p f r l canonical keeps =
     let one = r.one_note_each in
@@ -182,7 +182,7 @@ note_encloses flow offers choice p f r l canonical keeps =
       notes = each_note flow choice p f (λ q g. IsCanonical (bounds_of flow q) g) there r.notes canonical;
       within = λ a other k. record {
         cuts = λ q m. (r.within a other k).cuts q m;
-        notes = each_note flow choice p f (λ q g. Within (note_of (bare flow) other q) (frontier_of (bounds_of flow q) g)) there (λ q m. (r.within a other k).notes q m) (keeps a other k);
+        notes = each_note flow choice p f (λ q g. Within (note_of flow other q) (frontier_of (bounds_of flow q) g)) there (λ q m. (r.within a other k).notes q m) (keeps a other k);
       };
       offered = r.offered;
     }
@@ -210,8 +210,8 @@ weight_note flow choice p f l m k =
 -- a notification frontier is cut to what is inside a bound, in which each consistent choice's lies
 pub note_step : (flow : Dataflow) (offers : List Offer) (choice : Choice) (p : ℕ) (bound f : Front) → p < length flow.nodes → EnclosesConsistent flow offers choice
     → Names (bounds_of flow p) f (meet (frontier_of (bounds_of flow p) (front_of choice.notes p)) (frontier_of (bounds_of flow p) bound))
-    → (Within (note_of (bare flow) choice p) (frontier_of (bounds_of flow p) bound) → ⊥)
-    → ((other : Choice) → IsConsistentOf flow offers other → IsChoiceWithin (bare flow) other choice → Within (note_of (bare flow) other p) (frontier_of (bounds_of flow p) bound))
+    → (Within (note_of flow choice p) (frontier_of (bounds_of flow p) bound) → ⊥)
+    → ((other : Choice) → IsConsistentOf flow offers other → IsChoiceWithin flow other choice → Within (note_of flow other p) (frontier_of (bounds_of flow p) bound))
     → IsStep flow offers choice (choice_of choice.cuts (set choice.notes p f)) true
 note_step flow offers choice p bound f l r names fails keeps =
     let b = bounds_of flow p in
@@ -219,21 +219,21 @@ note_step flow offers choice p bound f l r names fails keeps =
     record {
       encloses = note_encloses flow offers choice p f r l names.canonical (λ a other k.
           let inner = r.within a other k in
-          meet-largest b f (frontier_of b (front_of choice.notes p)) (frontier_of b bound) (note_of (bare flow) other p) names (inner.notes p l) (keeps other k inner));
+          meet-largest b f (frontier_of b (front_of choice.notes p)) (frontier_of b bound) (note_of flow other p) names (inner.notes p l) (keeps other k inner));
       fewer = λ e. weight_note flow choice p f l (omega arith) (held-less b f (front_of choice.notes p) names.canonical (r.notes p l)
           (meet-left b f (frontier_of b (front_of choice.notes p)) (frontier_of b bound) names)
           (λ e. fails (subst (λ g. Within (frontier_of b g) (frontier_of b bound)) e (meet-right b f (frontier_of b (front_of choice.notes p)) (frontier_of b bound) names))));
       same = λ e. absurd (cc);
     }
 
-pub own_keeps : (flow : Dataflow) (offers : List Offer) (choice : Choice) (p : ℕ) → p < length flow.nodes → (other : Choice) → IsConsistentOf flow offers other → IsChoiceWithin (bare flow) other choice
-    → Within (note_of (bare flow) other p) (kept_of (bare flow) choice p)
-own_keeps flow offers choice p l other k w t i = set-monotone (bare flow) p (cut_of other p) (cut_of choice p) (w.cuts p l) t (k.own p l t i)
+pub own_keeps : (flow : Dataflow) (offers : List Offer) (choice : Choice) (p : ℕ) → p < length flow.nodes → (other : Choice) → IsConsistentOf flow offers other → IsChoiceWithin flow other choice
+    → Within (note_of flow other p) (kept_of flow choice p)
+own_keeps flow offers choice p l other k w t i = set-monotone flow p (cut_of other p) (cut_of choice p) (w.cuts p l) t (k.own p l t i)
 
-pub edge_keeps : (flow : Dataflow) (offers : List Offer) (choice : Choice) (d : ℕ) → IsWellFormed flow → d < length flow.edges → (other : Choice) → IsConsistentOf flow offers other → IsChoiceWithin (bare flow) other choice
-    → Within (note_of (bare flow) other (receiver flow d)) (arrived_from flow offers d (note_of (bare flow) choice (sender flow d)))
+pub edge_keeps : (flow : Dataflow) (offers : List Offer) (choice : Choice) (d : ℕ) → IsWellFormed flow → d < length flow.edges → (other : Choice) → IsConsistentOf flow offers other → IsChoiceWithin flow other choice
+    → Within (note_of flow other (receiver flow d)) (arrived_from flow offers d (note_of flow choice (sender flow d)))
 edge_keeps flow offers choice d well l other k w t i =
-    arrived-monotone flow offers d (note_of (bare flow) other (sender flow d)) (note_of (bare flow) choice (sender flow d)) (w.notes (sender flow d) (well.senders_declared d l)) t (k.notes d l t i)
+    arrived-monotone flow offers d (note_of flow other (sender flow d)) (note_of flow choice (sender flow d)) (w.notes (sender flow d) (well.senders_declared d l)) t (k.notes d l t i)
 
 -- ---- steps in turn
 
@@ -257,7 +257,7 @@ then_step flow offers old mid new a b c none some first second = record {
 -- where all holds, the choice is the largest consistent one
 pub largest_of : (flow : Dataflow) (offers : List Offer) (choice : Choice) → EnclosesConsistent flow offers choice → HasConsistent flow offers
     → ((e : ℕ) → e < length flow.edges → IsMetAtEdge flow offers choice e) → ((p : ℕ) → p < length flow.nodes → IsMetAtNode flow offers choice p)
-    → IsLargestBy (bare flow) (covers_of (bare flow) offers) (IsOffered flow offers) choice
+    → IsLargestBy flow (covers_of flow offers) (IsOffered flow offers) choice
 largest_of flow offers choice r has edges nodes = record {
   consistent = record {
     one_cut_each = r.one_cut_each;
@@ -271,37 +271,4 @@ largest_of flow offers choice r has edges nodes = record {
     notes = λ d l. (edges d l).note;
   };
   largest = λ other k. r.within has.0 other k;
-}
-
--- a choice that is consistent in a system is so in its dataflow alone
-pub consistent-bare : (sys : System) (offers : List Offer) (choice : Choice) → IsConsistentBy sys (covers_of sys offers) (IsOffered sys.flow offers) choice → IsConsistentOf sys.flow offers choice
-unfolding psi
-consistent-bare sys offers choice c = record {
-  one_cut_each = c.one_cut_each;
-  one_note_each = c.one_note_each;
-  offered = c.offered;
-  canonical = c.canonical;
-  delivered = c.delivered;
-  discarded = c.discarded;
-  notified = c.notified;
-  own = c.own;
-  notes = c.notes;
-}
-
-pub largest-whole : (sys : System) (offers : List Offer) (choice : Choice) → IsLargestBy (bare sys.flow) (covers_of (bare sys.flow) offers) (IsOffered sys.flow offers) choice
-    → IsLargestBy sys (covers_of sys offers) (IsOffered sys.flow offers) choice
-unfolding psi
-largest-whole sys offers choice l = record {
-  consistent = record {
-    one_cut_each = l.consistent.one_cut_each;
-    one_note_each = l.consistent.one_note_each;
-    offered = l.consistent.offered;
-    canonical = l.consistent.canonical;
-    delivered = l.consistent.delivered;
-    discarded = l.consistent.discarded;
-    notified = l.consistent.notified;
-    own = l.consistent.own;
-    notes = l.consistent.notes;
-  };
-  largest = λ other k. let w = l.largest other (consistent-bare sys offers other k) in record { cuts = w.cuts; notes = w.notes };
 }

@@ -1,5 +1,4 @@
 pub mod ArrivedLaws
-pub mod CountLaws
 pub mod CoverLaws
 pub mod CutDownLaws
 pub mod DescentLaws
@@ -10,7 +9,6 @@ pub mod HeldLaws
 pub mod LastLaws
 pub mod LookUpLaws
 pub mod LowerLaws
-pub mod OfferLaws
 pub mod PassLaws
 pub mod RecordLaws
 pub mod StartLaws

@@ -9,13 +9,14 @@ use Rattle.fw_flow.specs.declared.choice.Cut.{Cut}
 use Rattle.fw_flow.specs.declared.choice.Cut.TheVariants.{Present, At}
 use Rattle.fw_flow.specs.declared.choice.Recorded.{Recorded}
 use Rattle.fw_flow.specs.declared.choice.Offer.{Offer}
-use Rattle.fw_flow.specs.Dataflow.{System, Dataflow, bounds_of}
+use Rattle.fw_flow.specs.Dataflow.{Dataflow, bounds_of}
 use Rattle.fw_model.specs.Machine.{front_of}
-use Rattle.fw_model.specs.Choice.{cut_of, set_of, IsCutWithin, IsConsistentBy, IsLargestBy}
-use Rattle.fw_monitor.specs.Offers.{IsListed, IsBetween, IsOffered, Ascend, AreAscending, IsRangeOf, IsRecordOf, can_stay, records_of, range_of, AreOffersOf, covers_of}
-use Rattle.fw_monitor.specs.Descent.{bare, choice_of, IsCanonicalCut, EnclosesConsistent, IsGreatest, IsDescent, HasConsistent}
-use Rattle.fw_monitor.proofs.LowerLaws.{below_last, listed-there, between-offered, offered-between}
-use Rattle.fw_monitor.proofs.DescentLaws.{set-monotone, largest_of, consistent-bare, largest-whole}
+use Rattle.fw_model.specs.Choice.{cut_of, IsCutWithin, IsLargestBy}
+use Rattle.fw_model.specs.Covers.{set_of}
+use Rattle.fw_model.specs.Offers.{IsListed, IsBetween, IsOffered, Ascend, AreAscending, IsRangeOf, IsRecordOf, can_stay, records_of, range_of, AreOffersOf, covers_of}
+use Rattle.fw_monitor.specs.Descent.{choice_of, IsCanonicalCut, IsConsistentOf, EnclosesConsistent, IsGreatest, IsDescent, HasConsistent}
+use Rattle.fw_model.proofs.OfferLaws.{below_last, listed-there, between-offered, offered-between}
+use Rattle.fw_monitor.proofs.DescentLaws.{set-monotone, largest_of}
 use Rattle.fw_monitor.proofs.CutDownLaws.{split_at}
 
 pub greatest_present : (flow : Dataflow) (offers : List Offer) (p : ℕ) (r : Bool) → r ≡ true → r ≡ can_stay offers p → IsGreatest flow offers p Present
@@ -29,7 +30,7 @@ greatest_between flow offers p r greatest f a l e is ends same =
     canonical : IsCanonical (bounds_of flow p) greatest
     canonical = (subst (IsRangeOf (bounds_of flow p)) ends.1 (a.range p l)).1
 
-    at : (x : Cut) → IsOffered flow offers p x → IsOffered flow offers p (At greatest) × IsCutWithin (bare flow) p x (At greatest)
+    at : (x : Cut) → IsOffered flow offers p x → IsOffered flow offers p (At greatest) × IsCutWithin flow p x (At greatest)
     at Present o = let k = sym e ∙ is ∙ o in absurd (cc)
     at (At g) o =
         let j = between-offered flow offers p ends.0 greatest g ends.1 o in
@@ -39,7 +40,7 @@ pub greatest_none : (flow : Dataflow) (offers : List Offer) (p : ℕ) (r : Bool)
 greatest_none flow offers p r f e is none empty same =
     subst (λ g. IsGreatest flow offers p (At g)) (sym same) (record { canonical = tt; largest = λ asc x o. at x o })
   where
-    at : (x : Cut) → IsOffered flow offers p x → IsOffered flow offers p (At []) × IsCutWithin (bare flow) p x (At [])
+    at : (x : Cut) → IsOffered flow offers p x → IsOffered flow offers p (At []) × IsCutWithin flow p x (At [])
     at Present o = let k = sym e ∙ is ∙ o in absurd (cc)
     at (At g) o = elim (o.1) [
       | inl i ↦ absurd (subst (IsListed g) empty i)
@@ -58,7 +59,7 @@ greatest_last flow offers p r f before last a l e is none split same =
     canonical : IsCanonical (bounds_of flow p) last.front
     canonical = (end before (subst (AllByRecursion (IsRecordOf flow p)) split (a.records p l))).front
 
-    at : Ascend (bounds_of flow p) (records_of offers p) → (x : Cut) → IsOffered flow offers p x → IsOffered flow offers p (At last.front) × IsCutWithin (bare flow) p x (At last.front)
+    at : Ascend (bounds_of flow p) (records_of offers p) → (x : Cut) → IsOffered flow offers p x → IsOffered flow offers p (At last.front) × IsCutWithin flow p x (At last.front)
     at asc Present o = let k = sym e ∙ is ∙ o in absurd (cc)
     at asc (At g) o = elim (o.1) [
       | inl i ↦ (
@@ -90,9 +91,9 @@ each_more P xs ys x n q d e c same h k p l = elim (cases_lt p n) [
       subst (P p) (sym is) (subst (λ i. P i x) there k)
 ]
 
-pub kept_here : (flow : Dataflow) (cuts : List Cut) (i : ℕ) (x : Cut) (f : Front) → i < length cuts → x ≡ get_or cuts i x → Names (bounds_of flow i) f (set_of (bare flow) i x)
-    → Names (bounds_of flow i) f (set_of (bare flow) i (cut_of (choice_of cuts []) i))
-kept_here flow cuts i x f l is n = subst (λ c. Names (bounds_of flow i) f (set_of (bare flow) i c)) (get_or_read cuts i x l is Present) n
+pub kept_here : (flow : Dataflow) (cuts : List Cut) (i : ℕ) (x : Cut) (f : Front) → i < length cuts → x ≡ get_or cuts i x → Names (bounds_of flow i) f (set_of flow i x)
+    → Names (bounds_of flow i) f (set_of flow i (cut_of (choice_of cuts []) i))
+kept_here flow cuts i x f l is n = subst (λ c. Names (bounds_of flow i) f (set_of flow i c)) (get_or_read cuts i x l is Present) n
 
 pub canonical_here : (flow : Dataflow) (cuts : List Cut) (i : ℕ) (x : Cut) → i < length cuts → x ≡ get_or cuts i x → IsCanonicalCut (bounds_of flow i) (cut_of (choice_of cuts []) i) → IsCanonicalCut (bounds_of flow i) x
 canonical_here flow cuts i x l is c = subst (IsCanonicalCut (bounds_of flow i)) (sym (get_or_read cuts i x l is Present)) c
@@ -129,7 +130,7 @@ greatest_records flow offers p r (x ∷ rs) f a l e is none same empty some =
 
 pub start_encloses : (flow : Dataflow) (offers : List Offer) (cuts : List Cut) (notes : List Front) → length cuts ≡ length flow.nodes → length notes ≡ length flow.nodes
     → ((p : ℕ) → p < length flow.nodes → IsGreatest flow offers p (cut_of (choice_of cuts notes) p))
-    → ((p : ℕ) → p < length flow.nodes → Names (bounds_of flow p) (front_of notes p) (set_of (bare flow) p (cut_of (choice_of cuts notes) p)))
+    → ((p : ℕ) → p < length flow.nodes → Names (bounds_of flow p) (front_of notes p) (set_of flow p (cut_of (choice_of cuts notes) p)))
     → EnclosesConsistent flow offers (choice_of cuts notes)
 start_encloses flow offers cuts notes one each greatest kept = record {
   one_cut_each = one;
@@ -138,18 +139,15 @@ start_encloses flow offers cuts notes one each greatest kept = record {
   notes = λ p l. (kept p l).canonical;
   within = λ a other k. record {
     cuts = λ p l. ((greatest p l).largest a (cut_of other p) (k.offered p l)).1;
-    notes = λ p l t i. (kept p l).same t ∙ set-monotone (bare flow) p (cut_of other p) (cut_of (choice_of cuts notes) p) ((greatest p l).largest a (cut_of other p) (k.offered p l)).1 t (k.own p l t i);
+    notes = λ p l t i. (kept p l).same t ∙ set-monotone flow p (cut_of other p) (cut_of (choice_of cuts notes) p) ((greatest p l).largest a (cut_of other p) (k.offered p l)).1 t (k.own p l t i);
   };
   offered = λ a other k p l. ((greatest p l).largest a (cut_of other p) (k.offered p l)).0;
 }
 
 -- ---- the end
 
-pub largest_end : (flow : Dataflow) (offers : List Offer) (choice : Choice) (sys : System) (some : Choice) → sys.flow ≡ flow → IsDescent flow offers choice false → AreAscending flow offers
-    → IsConsistentBy sys (covers_of sys offers) (IsOffered flow offers) some → IsLargestBy sys (covers_of sys offers) (IsOffered flow offers) choice
-largest_end flow offers choice sys some e =
-    subst (λ fl. IsDescent fl offers choice false → AreAscending fl offers → IsConsistentBy sys (covers_of sys offers) (IsOffered fl offers) some → IsLargestBy sys (covers_of sys offers) (IsOffered fl offers) choice)
-    e (λ d a k. at d (a, (some, consistent-bare sys offers some k)))
-  where
-    at : IsDescent sys.flow offers choice false → HasConsistent sys.flow offers → IsLargestBy sys (covers_of sys offers) (IsOffered sys.flow offers) choice
-    at d has = largest-whole sys offers choice (largest_of sys.flow offers choice d.encloses has (d.edges refl has) (d.nodes refl has))
+pub largest_end : (flow : Dataflow) (offers : List Offer) (choice some : Choice) → IsDescent flow offers choice false → AreAscending flow offers
+    → IsConsistentOf flow offers some → IsLargestBy flow (covers_of flow offers) (IsOffered flow offers) choice
+largest_end flow offers choice some d a k =
+    let has : HasConsistent flow offers = (a, (some, k)) in
+    largest_of flow offers choice d.encloses has (d.edges refl has) (d.nodes refl has)

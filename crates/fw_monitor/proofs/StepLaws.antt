@@ -12,21 +12,22 @@ use Rattle.fw_flow.specs.declared.choice.Offer.{Offer}
 use Rattle.fw_flow.specs.Dataflow.{Dataflow, sender, receiver, bounds_of}
 use Rattle.fw_flow.specs.WellFormed.{IsWellFormed}
 use Rattle.fw_model.specs.Machine.{front_of}
-use Rattle.fw_model.specs.Choice.{cut_of, note_of, kept_of, set_of, IsChoiceWithin}
+use Rattle.fw_model.specs.Choice.{cut_of, note_of, kept_of, IsChoiceWithin}
+use Rattle.fw_model.specs.Covers.{set_of}
 use Rattle.fw_monitor.specs.declared.side.Side.{Side}
 use Rattle.fw_monitor.specs.declared.side.Side.TheVariants.{Delivered, Discarded, Notified}
-use Rattle.fw_monitor.specs.Offers.{arrived_from}
-use Rattle.fw_monitor.specs.Descent.{bare, choice_of, owner, reach, IsOfFlow, right_of, IsMet, IsMetAtEdge, IsMetAtNode, IsCanonicalCut, IsLower, IsLowered, IsConsistentOf, EnclosesConsistent, HasConsistent, weight, IsStep, IsNoteLowered, IsPass, IsDescent, left_over}
+use Rattle.fw_model.specs.Offers.{arrived_from}
+use Rattle.fw_monitor.specs.Descent.{choice_of, owner, reach, IsOfFlow, right_of, IsMet, IsMetAtEdge, IsMetAtNode, IsCanonicalCut, IsLower, IsLowered, IsConsistentOf, EnclosesConsistent, HasConsistent, weight, IsStep, IsDone, IsNoteLowered, IsPass, IsDescent, left_over}
 use Rattle.fw_monitor.proofs.DescentLaws.{lower_step, same_step, none_holds, note_step, own_keeps, edge_keeps, then_step}
 
 -- ---- right sides
 
 pub right_delivered : (flow : Dataflow) (offers : List Offer) (side : Side) (d : ℕ) (choice : Choice) (g : Front) → side ≡ Delivered d
-    → Names (bounds_of flow (receiver flow d)) g (arrived_from flow offers d (kept_of (bare flow) choice (sender flow d))) → Names (reach flow side) g (right_of flow offers side choice)
+    → Names (bounds_of flow (receiver flow d)) g (arrived_from flow offers d (kept_of flow choice (sender flow d))) → Names (reach flow side) g (right_of flow offers side choice)
 right_delivered flow offers side d choice g e n = subst (λ s. Names (reach flow s) g (right_of flow offers s choice)) (sym e) n
 
 pub right_discarded : (flow : Dataflow) (offers : List Offer) (side : Side) (d : ℕ) (choice : Choice) (g : Front) → side ≡ Discarded d
-    → Names (bounds_of flow (receiver flow d)) g (kept_of (bare flow) choice (receiver flow d)) → Names (reach flow side) g (right_of flow offers side choice)
+    → Names (bounds_of flow (receiver flow d)) g (kept_of flow choice (receiver flow d)) → Names (reach flow side) g (right_of flow offers side choice)
 right_discarded flow offers side d choice g e n = subst (λ s. Names (reach flow s) g (right_of flow offers s choice)) (sym e) n
 
 pub right_notified : (flow : Dataflow) (offers : List Offer) (side : Side) (p : ℕ) (choice : Choice) (g : Front) → side ≡ Notified p → EnclosesConsistent flow offers choice → p < length flow.nodes
@@ -79,7 +80,7 @@ note_cut notes p q bound f x y r e l i j k test cut =
 
 pub note_lowered_step : (flow : Dataflow) (offers : List Offer) (cuts : List Cut) (old new : List Front) (p : ℕ) (bound : Front) (right : Frontier) (b : Bool) → p < length flow.nodes → EnclosesConsistent flow offers (choice_of cuts old)
     → Names (bounds_of flow p) bound right
-    → ((other : Choice) → IsConsistentOf flow offers other → IsChoiceWithin (bare flow) other (choice_of cuts old) → Within (note_of (bare flow) other p) right)
+    → ((other : Choice) → IsConsistentOf flow offers other → IsChoiceWithin flow other (choice_of cuts old) → Within (note_of flow other p) right)
     → IsNoteLowered old new p bound b → IsStep flow offers (choice_of cuts old) (choice_of cuts new) b
 note_lowered_step flow offers cuts old new p bound right false l r n keeps (e, w) = subst (λ xs. IsStep flow offers (choice_of cuts old) (choice_of cuts xs) false) (sym e) (same_step flow offers (choice_of cuts old) r)
 note_lowered_step flow offers cuts old new p bound right true l r n keeps (f, e, cut) =
@@ -88,7 +89,7 @@ note_lowered_step flow offers cuts old new p bound right true l r n keeps (f, e,
     (note_step flow offers (choice_of cuts old) p bound f l r here.0 here.1 (λ other k w t i. n.same t ∙ keeps other k w t i))
 
 pub note_lowered_holds : (flow : Dataflow) (cuts : List Cut) (old new : List Front) (p : ℕ) (bound : Front) (right : Frontier) (b : Bool) → Names (bounds_of flow p) bound right
-    → IsNoteLowered old new p bound b → b ≡ false → Within (note_of (bare flow) (choice_of cuts new) p) right
+    → IsNoteLowered old new p bound b → b ≡ false → Within (note_of flow (choice_of cuts new) p) right
 note_lowered_holds flow cuts old new p bound right false n (e, w) k =
     λ t i. sym (n.same t) ∙ w (bounds_of flow p) n.canonical t (ap (λ xs. frontier_of (bounds_of flow p) (front_of xs p) t) (sym e) ∙ i)
 note_lowered_holds flow cuts old new p bound right true n low k = absurd (cc)
@@ -112,16 +113,16 @@ pub there_at : (flow : Dataflow) (side other : Side) → IsOfFlow flow side → 
 there_at flow side other l e = subst (IsOfFlow flow) e l
 
 pub delivered_at_cut : (flow : Dataflow) (offers : List Offer) (side : Side) (d q : ℕ) (choice : Choice) (g : Front) (c : Cut) → side ≡ Delivered d → c ≡ cut_of choice q → q ≡ sender flow d
-    → Names (bounds_of flow (receiver flow d)) g (arrived_from flow offers d (set_of (bare flow) (sender flow d) c)) → Names (reach flow side) g (right_of flow offers side choice)
+    → Names (bounds_of flow (receiver flow d)) g (arrived_from flow offers d (set_of flow (sender flow d) c)) → Names (reach flow side) g (right_of flow offers side choice)
 delivered_at_cut flow offers side d q choice g c e is k n =
     right_delivered flow offers side d choice g e
-    (subst (λ x. Names (bounds_of flow (receiver flow d)) g (arrived_from flow offers d (set_of (bare flow) (sender flow d) x))) (is ∙ ap (cut_of choice) k) n)
+    (subst (λ x. Names (bounds_of flow (receiver flow d)) g (arrived_from flow offers d (set_of flow (sender flow d) x))) (is ∙ ap (cut_of choice) k) n)
 
 pub discarded_at_cut : (flow : Dataflow) (offers : List Offer) (side : Side) (d q : ℕ) (choice : Choice) (g : Front) (c : Cut) → side ≡ Discarded d → c ≡ cut_of choice q → q ≡ receiver flow d
-    → Names (bounds_of flow (receiver flow d)) g (set_of (bare flow) (receiver flow d) c) → Names (reach flow side) g (right_of flow offers side choice)
+    → Names (bounds_of flow (receiver flow d)) g (set_of flow (receiver flow d) c) → Names (reach flow side) g (right_of flow offers side choice)
 discarded_at_cut flow offers side d q choice g c e is k n =
     right_discarded flow offers side d choice g e
-    (subst (λ x. Names (bounds_of flow (receiver flow d)) g (set_of (bare flow) (receiver flow d) x)) (is ∙ ap (cut_of choice) k) n)
+    (subst (λ x. Names (bounds_of flow (receiver flow d)) g (set_of flow (receiver flow d) x)) (is ∙ ap (cut_of choice) k) n)
 
 note_lowered_within : (flow : Dataflow) (old new : List Front) (p : ℕ) (bound : Front) (right : Frontier) (b : Bool) → Names (bounds_of flow p) bound right
     → IsNoteLowered old new p bound b → b ≡ false → Within (frontier_of (bounds_of flow p) (front_of old p)) right
@@ -130,47 +131,44 @@ note_lowered_within flow old new p bound right true n low k = absurd (cc)
 
 -- ---- all that speaks of an edge, and of a node alone
 
-abbrev pub IsDone : Dataflow → List Offer → Choice → Choice → Bool → (Choice → Type 0) → Type 0
-IsDone flow offers old new b P = IsStep flow offers old new b × (b ≡ false → HasConsistent flow offers → P new)
-
 pub edge_done : (flow : Dataflow) (offers : List Offer) (cuts0 cuts1 cuts2 : List Cut) (notes0 notes1 : List Front) (e : ℕ) (bound : Front) (a b n ab all : Bool) → IsWellFormed flow → e < length flow.edges
     → IsStep flow offers (choice_of cuts0 notes0) (choice_of cuts1 notes0) a → (a ≡ false → HasConsistent flow offers → IsMet flow offers (choice_of cuts1 notes0) (Delivered e))
     → IsStep flow offers (choice_of cuts1 notes0) (choice_of cuts2 notes0) b → (b ≡ false → HasConsistent flow offers → IsMet flow offers (choice_of cuts2 notes0) (Discarded e))
-    → Names (bounds_of flow (receiver flow e)) bound (arrived_from flow offers e (note_of (bare flow) (choice_of cuts2 notes0) (sender flow e)))
+    → Names (bounds_of flow (receiver flow e)) bound (arrived_from flow offers e (note_of flow (choice_of cuts2 notes0) (sender flow e)))
     → IsNoteLowered notes0 notes1 (receiver flow e) bound n → ab ≡ (a || b) → all ≡ (ab || n)
-    → IsDone flow offers (choice_of cuts0 notes0) (choice_of cuts2 notes1) all (λ v. IsMetAtEdge flow offers v e)
+    → IsDone flow offers (choice_of cuts0 notes0) (choice_of cuts2 notes1) (λ v. IsMetAtEdge flow offers v e) all
 edge_done flow offers cuts0 cuts1 cuts2 notes0 notes1 e bound a b n ab all well l s1 h1 s2 h2 names low ea eb =
     let p = receiver flow e in
-    let right = arrived_from flow offers e (note_of (bare flow) (choice_of cuts2 notes0) (sender flow e)) in
-    let s3 = note_lowered_step flow offers cuts2 notes0 notes1 p bound right n (well.receivers_declared e l) s2.encloses names (edge_keeps flow offers (choice_of cuts2 notes0) e well l) low in (
-      either_step flow offers (choice_of cuts0 notes0) (choice_of cuts2 notes0) (choice_of cuts2 notes1) ab n all eb
-          (either_step flow offers (choice_of cuts0 notes0) (choice_of cuts1 notes0) (choice_of cuts2 notes0) a b ab ea s1 s2) s3,
-      λ k has.
+    let right = arrived_from flow offers e (note_of flow (choice_of cuts2 notes0) (sender flow e)) in
+    let s3 = note_lowered_step flow offers cuts2 notes0 notes1 p bound right n (well.receivers_declared e l) s2.encloses names (edge_keeps flow offers (choice_of cuts2 notes0) e well l) low in record {
+      step = either_step flow offers (choice_of cuts0 notes0) (choice_of cuts2 notes0) (choice_of cuts2 notes1) ab n all eb
+          (either_step flow offers (choice_of cuts0 notes0) (choice_of cuts1 notes0) (choice_of cuts2 notes0) a b ab ea s1 s2) s3;
+      holds = λ k has.
           let u = or_parts ab n (sym eb ∙ k) in
           let v = or_parts a b (sym ea ∙ u.0) in
           still flow offers (choice_of cuts2 notes0) (choice_of cuts2 notes1) n (λ w. IsMetAtEdge flow offers w e) s3 u.1 (record {
             delivered = still flow offers (choice_of cuts1 notes0) (choice_of cuts2 notes0) b (λ w. IsMet flow offers w (Delivered e)) s2 v.1 (h1 v.0 has);
             discarded = h2 v.1 has;
             note = note_lowered_within flow notes0 notes1 p bound right n names low u.1;
-          }),
-    )
+          });
+    }
 
 pub node_done : (flow : Dataflow) (offers : List Offer) (cuts0 cuts1 : List Cut) (notes0 notes1 : List Front) (p : ℕ) (bound : Front) (a n all : Bool) → p < length flow.nodes
     → IsStep flow offers (choice_of cuts0 notes0) (choice_of cuts1 notes0) a → (a ≡ false → HasConsistent flow offers → IsMet flow offers (choice_of cuts1 notes0) (Notified p))
-    → Names (bounds_of flow p) bound (kept_of (bare flow) (choice_of cuts1 notes0) p)
+    → Names (bounds_of flow p) bound (kept_of flow (choice_of cuts1 notes0) p)
     → IsNoteLowered notes0 notes1 p bound n → all ≡ (a || n)
-    → IsDone flow offers (choice_of cuts0 notes0) (choice_of cuts1 notes1) all (λ v. IsMetAtNode flow offers v p)
+    → IsDone flow offers (choice_of cuts0 notes0) (choice_of cuts1 notes1) (λ v. IsMetAtNode flow offers v p) all
 node_done flow offers cuts0 cuts1 notes0 notes1 p bound a n all l s1 h1 names low ea =
-    let right = kept_of (bare flow) (choice_of cuts1 notes0) p in
-    let s2 = note_lowered_step flow offers cuts1 notes0 notes1 p bound right n l s1.encloses names (own_keeps flow offers (choice_of cuts1 notes0) p l) low in (
-      either_step flow offers (choice_of cuts0 notes0) (choice_of cuts1 notes0) (choice_of cuts1 notes1) a n all ea s1 s2,
-      λ k has.
+    let right = kept_of flow (choice_of cuts1 notes0) p in
+    let s2 = note_lowered_step flow offers cuts1 notes0 notes1 p bound right n l s1.encloses names (own_keeps flow offers (choice_of cuts1 notes0) p l) low in record {
+      step = either_step flow offers (choice_of cuts0 notes0) (choice_of cuts1 notes0) (choice_of cuts1 notes1) a n all ea s1 s2;
+      holds = λ k has.
           let u = or_parts a n (sym ea ∙ k) in
           still flow offers (choice_of cuts1 notes0) (choice_of cuts1 notes1) n (λ w. IsMetAtNode flow offers w p) s2 u.1 (record {
             notified = h1 u.0 has;
             own = note_lowered_within flow notes0 notes1 p bound right n names low u.1;
-          }),
-    )
+          });
+    }
 
 -- ---- passes
 

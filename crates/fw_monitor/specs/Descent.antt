@@ -10,28 +10,13 @@ use Rattle.fw_flow.specs.declared.choice.Cut.TheVariants.{Present, At}
 use Rattle.fw_flow.specs.declared.choice.OfEdge.{OfEdge}
 use Rattle.fw_flow.specs.declared.choice.Recorded.{Recorded}
 use Rattle.fw_flow.specs.declared.choice.Offer.{Offer}
-use Rattle.fw_flow.specs.Dataflow.{System, Dataflow, sender, receiver, bounds_of}
+use Rattle.fw_flow.specs.Dataflow.{Dataflow, sender, receiver, bounds_of}
 use Rattle.fw_model.specs.Machine.{front_of}
-use Rattle.fw_model.specs.Choice as model
-use Rattle.fw_model.specs.Choice.{cut_of, note_of, kept_of, IsConsistentBy, IsCutWithin, IsChoiceWithin, by_batches, by_bound, by_anything, by_checkpoints, by_events}
-use Rattle.fw_monitor.specs.declared.side.Restoring.{Restoring}
-use Rattle.fw_monitor.specs.declared.side.Restoring.TheVariants as restored
+use Rattle.fw_model.specs.Choice.{cut_of, note_of, kept_of, IsNoteKept, NoteComesFromSender, IsConsistentBy, IsCutWithin, IsChoiceWithin}
 use Rattle.fw_monitor.specs.declared.side.Side.{Side}
 use Rattle.fw_monitor.specs.declared.side.Side.TheVariants.{Delivered, Discarded, Notified}
 use Rattle.fw_monitor.specs.Held.{held, sum_below}
-use Rattle.fw_monitor.specs.Offers.{IsOffered, AreAscending, delivered_cover, discarded_cover, notified_cover, recorded_delivered, recorded_discarded, recorded_notified, arrived_from, covers_of}
-
--- the way in which a node is restored, as the model names it
-abbrev pub modelled : Restoring → model.Restoring
-modelled restored.Batches = by_batches
-modelled restored.Bound = by_bound
-modelled restored.Anything = by_anything
-modelled restored.Checkpoints = by_checkpoints
-modelled restored.Events = by_events
-
--- a dataflow alone, without batches
-abbrev pub bare : Dataflow → System
-bare flow = record { flow = flow; batches = [] }
+use Rattle.fw_model.specs.Offers.{IsOffered, AreAscending, recorded_delivered, recorded_discarded, recorded_notified, arrived_from, covers_of}
 
 -- these cuts and notification frontiers
 abbrev pub choice_of : List Cut → List Front → Choice
@@ -62,8 +47,8 @@ found e (x ∷ xs) = if x.edge == e then Some x.front else found e xs
 
 -- what a record lists of a side
 abbrev pub recorded : Side → Recorded → Option Front
-recorded (Delivered d) r = found d r.delivered.items
-recorded (Discarded e) r = found e r.discarded.items
+recorded (Delivered d) r = found d r.delivered
+recorded (Discarded e) r = found e r.discarded
 recorded (Notified p) r = Some r.notified
 
 -- the frontier, without stamps where there is none
@@ -79,39 +64,30 @@ recorded_left bounds (Notified p) r = recorded_notified bounds r
 
 -- what it is in a cut
 abbrev pub left_of : Dataflow → List Offer → Side → Cut → Frontier
-left_of flow offers (Delivered d) cut = delivered_cover flow offers (receiver flow d) d cut
-left_of flow offers (Discarded e) cut = discarded_cover (bare flow) offers (sender flow e) e cut
-left_of flow offers (Notified p) cut = notified_cover flow offers p cut
+left_of flow offers (Delivered d) cut = (covers_of flow offers).delivered d cut
+left_of flow offers (Discarded e) cut = (covers_of flow offers).discarded e cut
+left_of flow offers (Notified p) cut = (covers_of flow offers).notified p cut
 
 -- in what it has to lie
 abbrev pub right_of : Dataflow → List Offer → Side → Choice → Frontier
-right_of flow offers (Delivered d) choice = arrived_from flow offers d (kept_of (bare flow) choice (sender flow d))
-right_of flow offers (Discarded e) choice = kept_of (bare flow) choice (receiver flow e)
-right_of flow offers (Notified p) choice = note_of (bare flow) choice p
+right_of flow offers (Delivered d) choice = arrived_from flow offers d (kept_of flow choice (sender flow d))
+right_of flow offers (Discarded e) choice = kept_of flow choice (receiver flow e)
+right_of flow offers (Notified p) choice = note_of flow choice p
 
 -- what it is lies in what it has to lie in
 abbrev pub IsMet : Dataflow → List Offer → Choice → Side → Type 0
 IsMet flow offers choice side = Within (left_of flow offers side (cut_of choice (owner flow side))) (right_of flow offers side choice)
 
--- a node's notification frontier lies in what it keeps
-abbrev pub IsOwnMet : Dataflow → Choice → ℕ → Type 0
-IsOwnMet flow choice p = Within (note_of (bare flow) choice p) (kept_of (bare flow) choice p)
-
--- the notification frontier of an edge's receiver comes from that of its sender
-abbrev pub IsNoteMet : Dataflow → List Offer → Choice → ℕ → Type 0
-IsNoteMet flow offers choice d =
-    Within (note_of (bare flow) choice (receiver flow d)) (arrived_from flow offers d (note_of (bare flow) choice (sender flow d)))
-
 -- all that speaks of an edge is met
 pub record IsMetAtEdge (flow : Dataflow) (offers : List Offer) (choice : Choice) (e : ℕ) : Type 0 where
   pub delivered : IsMet flow offers choice (Delivered e)
   pub discarded : IsMet flow offers choice (Discarded e)
-  pub note : IsNoteMet flow offers choice e
+  pub note : NoteComesFromSender flow (covers_of flow offers) choice e
 
 -- all that speaks of a node alone is met
 pub record IsMetAtNode (flow : Dataflow) (offers : List Offer) (choice : Choice) (p : ℕ) : Type 0 where
   pub notified : IsMet flow offers choice (Notified p)
-  pub own : IsOwnMet flow choice p
+  pub own : IsNoteKept flow choice p
 
 -- the frontier of a cut is canonical, if it has one
 abbrev pub IsCanonicalCut : Bounds → Cut → Type 0
@@ -121,16 +97,16 @@ IsCanonicalCut bounds (At f) = IsCanonical bounds f
 -- a cut is offered, lies within another, and its side lies within a frontier
 pub record IsLeft (flow : Dataflow) (offers : List Offer) (side : Side) (cut : Cut) (bound : Front) (x : Cut) : Type 0 where
   pub offered : IsOffered flow offers (owner flow side) x
-  pub within : IsCutWithin (bare flow) (owner flow side) x cut
+  pub within : IsCutWithin flow (owner flow side) x cut
   pub passes : Within (left_of flow offers side x) (frontier_of (reach flow side) bound)
 
 -- a lower cut, within which lies each that is left; it is offered if one is left
 pub record IsLower (flow : Dataflow) (offers : List Offer) (side : Side) (cut : Cut) (bound : Front) (new : Cut) : Type 0 where
   pub canonical : IsCanonicalCut (bounds_of flow (owner flow side)) new
-  pub within : IsCutWithin (bare flow) (owner flow side) new cut
+  pub within : IsCutWithin flow (owner flow side) new cut
   pub other : new ≢ cut
   pub largest : AreAscending flow offers → IsOffered flow offers (owner flow side) cut → (x : Cut) → IsLeft flow offers side cut bound x
-      → IsOffered flow offers (owner flow side) new × IsCutWithin (bare flow) (owner flow side) x new
+      → IsOffered flow offers (owner flow side) new × IsCutWithin flow (owner flow side) x new
 
 -- a lower cut; or else the side lies within the frontier, if some cut is left
 abbrev pub IsLowered : Dataflow → List Offer → Side → Cut → Front → Option Cut → Type 0
@@ -150,7 +126,7 @@ pub record IsCutDown (flow : Dataflow) (offers : List Offer) (side : Side) (fron
 
 -- the choice is consistent by what the nodes offer
 abbrev pub IsConsistentOf : Dataflow → List Offer → Choice → Type 0
-IsConsistentOf flow offers choice = IsConsistentBy (bare flow) (covers_of (bare flow) offers) (IsOffered flow offers) choice
+IsConsistentOf flow offers choice = IsConsistentBy flow (covers_of flow offers) (IsOffered flow offers) choice
 
 -- cuts and notification frontiers of the nodes, within which each consistent choice lies, and offered if there is one
 pub record EnclosesConsistent (flow : Dataflow) (offers : List Offer) (choice : Choice) : Type 0 where
@@ -158,7 +134,7 @@ pub record EnclosesConsistent (flow : Dataflow) (offers : List Offer) (choice : 
   pub one_note_each : length choice.notes ≡ length flow.nodes
   pub cuts : (p : ℕ) → p < length flow.nodes → IsCanonicalCut (bounds_of flow p) (cut_of choice p)
   pub notes : (p : ℕ) → p < length flow.nodes → IsCanonical (bounds_of flow p) (front_of choice.notes p)
-  pub within : AreAscending flow offers → (other : Choice) → IsConsistentOf flow offers other → IsChoiceWithin (bare flow) other choice
+  pub within : AreAscending flow offers → (other : Choice) → IsConsistentOf flow offers other → IsChoiceWithin flow other choice
   pub offered : AreAscending flow offers → (other : Choice) → IsConsistentOf flow offers other
       → (p : ℕ) → p < length flow.nodes → IsOffered flow offers p (cut_of choice p)
 
@@ -173,7 +149,7 @@ cut_weight bounds (At f) = held bounds.greatest (frontier_of bounds f)
 
 -- the same of a node's cut, and how many stamps its notification frontier holds
 unfoldable pub node_weight : Dataflow → Choice → ℕ → ℕ
-node_weight flow choice p = cut_weight (bounds_of flow p) (cut_of choice p) + held (bounds_of flow p).greatest (note_of (bare flow) choice p)
+node_weight flow choice p = cut_weight (bounds_of flow p) (cut_of choice p) + held (bounds_of flow p).greatest (note_of flow choice p)
 
 -- the sum of the nodes'
 unfoldable pub weight : Dataflow → Choice → ℕ
@@ -184,6 +160,11 @@ pub record IsStep (flow : Dataflow) (offers : List Offer) (old new : Choice) (lo
   pub encloses : EnclosesConsistent flow offers new
   pub fewer : lowered ≡ true → weight flow new < weight flow old
   pub same : lowered ≡ false → new ≡ old
+
+-- a step of the descent, after which something is met if it lowered nothing and there is a consistent choice
+pub record IsDone (flow : Dataflow) (offers : List Offer) (old new : Choice) (met : Choice → Type 0) (lowered : Bool) : Type 0 where
+  pub step : IsStep flow offers old new lowered
+  pub holds : lowered ≡ false → HasConsistent flow offers → met new
 
 -- A notification frontier lies within a bound, and all stays; or else it is cut to what is inside the bound.
 abbrev pub IsNoteLowered : List Front → List Front → ℕ → Front → Bool → Type 0
@@ -212,4 +193,4 @@ left_over flow choice lowered = weight flow choice + weight flow choice + (if lo
 -- a node's greatest cut: each that it offers lies within it, and it is offered if some cut is
 pub record IsGreatest (flow : Dataflow) (offers : List Offer) (p : ℕ) (cut : Cut) : Type 0 where
   pub canonical : IsCanonicalCut (bounds_of flow p) cut
-  pub largest : AreAscending flow offers → (x : Cut) → IsOffered flow offers p x → IsOffered flow offers p cut × IsCutWithin (bare flow) p x cut
+  pub largest : AreAscending flow offers → (x : Cut) → IsOffered flow offers p x → IsOffered flow offers p cut × IsCutWithin flow p x cut

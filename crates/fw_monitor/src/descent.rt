@@ -4,12 +4,13 @@ ghost use Rattle.fw_frontier.specs.Front.{frontier_of, IsCanonical, Names};
 ghost use Rattle.fw_frontier.specs.Frontier.{Within};
 ghost use Rattle.fw_flow.specs.declared.choice.Choice as choices;
 ghost use Rattle.fw_flow.specs.declared.choice.Cut.TheVariants as variants;
-ghost use Rattle.fw_flow.specs.Dataflow.{System, Dataflow, bounds_of, sender, receiver};
-ghost use Rattle.fw_model.specs.Choice.{IsConsistentBy, IsLargestBy, IsChoiceWithin, cut_of, note_of, set_of};
+ghost use Rattle.fw_flow.specs.Dataflow.{bounds_of, sender, receiver};
+ghost use Rattle.fw_model.specs.Choice.{IsConsistentBy, IsLargestBy, IsChoiceWithin, cut_of, note_of};
+ghost use Rattle.fw_model.specs.Covers.{set_of};
 ghost use Rattle.fw_model.specs.Machine.{front_of};
-ghost use Rattle.fw_monitor.specs.Offers as spec;
-ghost use Rattle.fw_monitor.specs.Offers.{IsOffered, AreOffersOf, AreAscending, covers_of};
-ghost use Rattle.fw_monitor.specs.Descent.{bare, choice_of, owner, reach, right_of, IsOfFlow, IsCanonicalCut, IsConsistentOf, EnclosesConsistent, IsStep, HasConsistent, IsMet, IsMetAtEdge, IsMetAtNode, IsNoteLowered, IsPass};
+ghost use Rattle.fw_model.specs.Offers as spec;
+ghost use Rattle.fw_model.specs.Offers.{IsOffered, AreOffersOf, AreAscending, covers_of};
+ghost use Rattle.fw_monitor.specs.Descent.{choice_of, owner, reach, right_of, IsOfFlow, IsCanonicalCut, IsConsistentOf, EnclosesConsistent, IsStep, IsDone, HasConsistent, IsMet, IsMetAtEdge, IsMetAtNode, IsNoteLowered, IsPass};
 
 use crate::arrived::arrived;
 use crate::lower::lowered;
@@ -27,9 +28,9 @@ use std::alloc::{AllocError, Global};
 /// It begins with the greatest cut of each node, and lowers what does not hold, pass by pass, until a pass lowers nothing.
 pub fn largest(alloc: Global, flow: &Flow, offers: &[Offer]) -> Result<Choice, AllocError>
     requires { AreOffersOf flow.now offers.now }
-    ensures { (sys : System) (some : choices.Choice) → sys.flow ≡ flow.now → AreAscending flow.now offers.now
-        → IsConsistentBy sys (covers_of sys offers.now) (IsOffered flow.now offers.now) some
-        → IfOk result (IsLargestBy sys (covers_of sys offers.now) (IsOffered flow.now offers.now)) }
+    ensures { (some : choices.Choice) → AreAscending flow.now offers.now
+        → IsConsistentBy flow.now (covers_of flow.now offers.now) (IsOffered flow.now offers.now) some
+        → IfOk result (IsLargestBy flow.now (covers_of flow.now offers.now) (IsOffered flow.now offers.now)) }
 {
     let mut cuts = greatest_cuts(alloc, flow, offers)?;
     let mut notes = all_kept(alloc, flow, &cuts)?;
@@ -93,10 +94,9 @@ fn arrived_from_cut(
     edge: EdgeId,
     cut: &Cut,
 ) -> Result<Front, AllocError>
-    requires offers { AreOffersOf flow.now offers.now }
-    requires cut { IsCanonicalCut (bounds_of flow.now (sender flow.now edge)) cut.now }
+    requires { IsCanonicalCut (bounds_of flow.now (sender flow.now edge)) cut.now }
     ensures { IfOk result (λ g. Names (bounds_of flow.now (receiver flow.now edge)) g
-        (spec.arrived_from flow.now offers.now edge (set_of (bare flow.now) (sender flow.now edge) cut.now))) }
+        (spec.arrived_from flow.now offers.now edge (set_of flow.now (sender flow.now edge) cut.now))) }
 {
     let front = kept(alloc, cut)?;
     arrived(alloc, flow, offers, edge, &front)
@@ -159,9 +159,8 @@ fn at_edge(
     requires offers { AreOffersOf flow.now offers.now }
     requires there { edge < length flow.now.edges }
     requires encloses { EnclosesConsistent flow.now offers.now (choice_of cuts.old.items notes.old.items) }
-    ensures step { IfOk result (IsStep flow.now offers.now (choice_of cuts.old.items notes.old.items) (choice_of cuts.new.items notes.new.items)) }
-    ensures holds { IfOk result (λ b. b ≡ false → HasConsistent flow.now offers.now
-        → IsMetAtEdge flow.now offers.now (choice_of cuts.new.items notes.new.items) edge) }
+    ensures { IfOk result (IsDone flow.now offers.now (choice_of cuts.old.items notes.old.items) (choice_of cuts.new.items notes.new.items)
+        (λ choice. IsMetAtEdge flow.now offers.now choice edge)) }
 {
     flow_is_well_formed(flow);
     let delivered = lower_cut(alloc, flow, offers, &Side::Delivered(edge), cuts, notes)?;
@@ -183,9 +182,8 @@ fn at_node(
     requires offers { AreOffersOf flow.now offers.now }
     requires there { node < length flow.now.nodes }
     requires encloses { EnclosesConsistent flow.now offers.now (choice_of cuts.old.items notes.old.items) }
-    ensures step { IfOk result (IsStep flow.now offers.now (choice_of cuts.old.items notes.old.items) (choice_of cuts.new.items notes.new.items)) }
-    ensures holds { IfOk result (λ b. b ≡ false → HasConsistent flow.now offers.now
-        → IsMetAtNode flow.now offers.now (choice_of cuts.new.items notes.new.items) node) }
+    ensures { IfOk result (IsDone flow.now offers.now (choice_of cuts.old.items notes.old.items) (choice_of cuts.new.items notes.new.items)
+        (λ choice. IsMetAtNode flow.now offers.now choice node)) }
 {
     let notified = lower_cut(alloc, flow, offers, &Side::Notified(node), cuts, notes)?;
     let bound = kept(alloc, cut_at(cuts, node))?;
@@ -203,9 +201,8 @@ fn pass_edges(
 ) -> Result<bool, AllocError>
     requires offers { AreOffersOf flow.now offers.now }
     requires encloses { EnclosesConsistent flow.now offers.now (choice_of cuts.old.items notes.old.items) }
-    ensures step { IfOk result (IsStep flow.now offers.now (choice_of cuts.old.items notes.old.items) (choice_of cuts.new.items notes.new.items)) }
-    ensures holds { IfOk result (λ b. b ≡ false → HasConsistent flow.now offers.now
-        → (e : ℕ) → e < length flow.now.edges → IsMetAtEdge flow.now offers.now (choice_of cuts.new.items notes.new.items) e) }
+    ensures { IfOk result (IsDone flow.now offers.now (choice_of cuts.old.items notes.old.items) (choice_of cuts.new.items notes.new.items)
+        (λ choice. (e : ℕ) → e < length flow.now.edges → IsMetAtEdge flow.now offers.now choice e)) }
 {
     flow_is_well_formed(flow);
     let mut lowered = false;
@@ -227,9 +224,8 @@ fn pass_nodes(
 ) -> Result<bool, AllocError>
     requires offers { AreOffersOf flow.now offers.now }
     requires encloses { EnclosesConsistent flow.now offers.now (choice_of cuts.old.items notes.old.items) }
-    ensures step { IfOk result (IsStep flow.now offers.now (choice_of cuts.old.items notes.old.items) (choice_of cuts.new.items notes.new.items)) }
-    ensures holds { IfOk result (λ b. b ≡ false → HasConsistent flow.now offers.now
-        → (p : ℕ) → p < length flow.now.nodes → IsMetAtNode flow.now offers.now (choice_of cuts.new.items notes.new.items) p) }
+    ensures { IfOk result (IsDone flow.now offers.now (choice_of cuts.old.items notes.old.items) (choice_of cuts.new.items notes.new.items)
+        (λ choice. (p : ℕ) → p < length flow.now.nodes → IsMetAtNode flow.now offers.now choice p)) }
 {
     let mut lowered = false;
     for place in 0..flow.nodes() {

@@ -3,7 +3,6 @@
 
 mod arrived;
 mod descent;
-pub mod laws;
 mod lower;
 mod offers;
 mod passes;

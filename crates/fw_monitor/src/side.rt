@@ -11,18 +11,3 @@ pub(crate) enum Side {
     /// Of what the node was notified.
     Notified(NodeId),
 }
-
-/// By what a node can be restored.
-#[derive(Clone, Copy, Debug)]
-pub(crate) enum Restoring {
-    /// Its batches.
-    Batches,
-    /// What it acknowledged.
-    Bound,
-    /// Anything settled.
-    Anything,
-    /// Its checkpoints.
-    Checkpoints,
-    /// Its events.
-    Events,
-}

@@ -17,22 +17,20 @@ use Rattle.fw_flow.specs.declared.kind.Policy.{Policy}
 use Rattle.fw_flow.specs.declared.kind.Policy.TheVariants as policy
 use Rattle.fw_flow.specs.declared.step.Step.{Step}
 use Rattle.fw_flow.specs.declared.step.Step.TheVariants.{Inject, Deliver, Notify, Progress, Checkpoint, Persist, Fail, Recover, Collect, Ack}
-use Rattle.fw_flow.specs.Dataflow.{System, Dataflow, policy_of, receiver, bounds_of}
+use Rattle.fw_flow.specs.Dataflow.{System, Dataflow, policy_of, receiver, bounds_of, NotifiesNobody, KeepsNothing, places, HasEpochs}
 use Rattle.fw_flow.specs.NodeFunction.{place, stamp}
 use Rattle.fw_flow.specs.Projection.{events_at}
 use Rattle.fw_flow.specs.WellFormed.{IsWellFormedSystem}
 use Rattle.fw_model.specs.Choice.{cut_of}
-use Rattle.fw_model.specs.History.{IsLegal, IsNextBatch}
-use Rattle.fw_model.specs.LawsOfFiltering.{NotifiesNobody}
-use Rattle.fw_model.specs.LawsOfLegalHistories.{HasEpochs}
-use Rattle.fw_model.specs.Machine.{Machine, Write, events, first_state, front_of, is_failed, no_stamps, places}
-use Rattle.fw_model.specs.Plain.{AreAtNodes}
+use Rattle.fw_model.specs.History.{IsLegal, IsNextBatch, AreAtNodes}
+use Rattle.fw_model.specs.Machine.{Machine, Write, events, first_state, front_of, is_failed, no_stamps}
 use Rattle.fw_model.specs.Steps.{Effect, quiet, Outcome, did, idle, with_event, write_of_event, LeadsTo, Steps, IsNextMessage, GrowsTo, CutsTo, IsSettledCut}
 use Rattle.fw_model.proofs.DomainLaws.{has_epochs}
 use Rattle.fw_model.proofs.GoingOn.{runs-go_on}
 use Rattle.fw_model.proofs.LegalLaws.{legal_events-in_domain}
 use Rattle.fw_model.proofs.RecoveryLaws.{runs-legal}
-use Rattle.fw_plain.specs.Engine.{Standing, KeepsNothing, state_of, IsReached, IsOfEachNode, IsSound, is_plain_step}
+use Rattle.fw_flow.specs.Step.{is_plain_step}
+use Rattle.fw_plain.specs.Engine.{Standing, state_of, IsReached, IsOfEachNode, IsSound}
 use Rattle.fw_plain.specs.Past.{Past, with_one_more}
 use Rattle.fw_plain.proofs.FrontsLaws.{names-no_stamps}
 

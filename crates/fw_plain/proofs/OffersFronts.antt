@@ -1,13 +1,12 @@
 -- The frontiers that plain nodes offer.
-use Rattle.std.proofs.Common.{◌≡◌, ◌≢◌, ◌⊎◌, ◌↔◌, inl, inr, ℕ, zero, suc, ◌+◌, ◌^◌, ◌<◌, ◌≤◌, min, ◌==◌, Bool, true, false, not, ◌&&◌, cond, List, [], ◌∷◌, ◌++◌, map, Some, refl, sym, ◌∙◌, ap, subst, arith}
+use Rattle.std.proofs.Common.{◌≡◌, ◌≢◌, ◌⊎◌, ◌↔◌, inl, inr, ℕ, zero, suc, ◌+◌, ◌<◌, ◌≤◌, min, ◌==◌, Bool, true, false, not, ◌&&◌, cond, List, [], ◌∷◌, ◌++◌, map, Some, refl, sym, ◌∙◌, ap, subst, arith}
 use Rattle.std.proofs.Math.Bool.{and-true}
 use Rattle.std.specs.List.{AllByRecursion, range_with_len}
-use Rattle.std.proofs.lemmas.Bool.{and_parts, and_from, cases_Bool, false≢true, both_ways, eqb-true}
+use Rattle.std.proofs.lemmas.Bool.{and_parts, and_from, cases_Bool, both_ways, eqb-true}
 use Rattle.std.proofs.lemmas.Bool.Decides.{nat_tests}
 use Rattle.fw_time.specs.declared.stamp.Bounds.{Bounds}
 use Rattle.fw_time.specs.Stamp.{Stamp, leq, in_domain}
 use Rattle.fw_time.proofs.EachLaws.{each-append}
-use Rattle.fw_time.proofs.StampLaws.{leq-trans}
 use Rattle.fw_frontier.specs.Frontier.{Frontier, Within, nothing, meet}
 use Rattle.fw_frontier.specs.Front.{Front, inside, frontier_of, IsCanonical, Names}
 use Rattle.fw_flow.specs.declared.event.Event.{Event}
@@ -17,12 +16,14 @@ use Rattle.fw_flow.specs.declared.choice.OfEdge.{OfEdge}
 use Rattle.fw_flow.specs.declared.choice.Recorded.{Recorded}
 use Rattle.fw_flow.specs.declared.kind.Kind.TheVariants.{OutputEpoch, OutputNumber}
 use Rattle.fw_flow.specs.Dataflow.{System, Dataflow, kind_of, bounds_of, bounds_of_domain, domain_of_kind, greatest_number}
-use Rattle.fw_model.specs.Choice.{kept, Restoring, by_batches, by_bound, by_anything, by_checkpoints, by_events, IsRestorable, until}
+use Rattle.fw_model.specs.Choice.{kept, IsRestorable, until}
+use Rattle.fw_flow.specs.declared.restoring.Restoring.{Restoring}
+use Rattle.fw_flow.specs.declared.restoring.Restoring.TheVariants.{Batches, Bound, Anything, Checkpoints, Events}
 use Rattle.fw_model.specs.History.{injected_count, is_exhausted}
 use Rattle.fw_model.specs.Machine.{Machine, events, front_of, bound_of}
-use Rattle.fw_model.proofs.StampLaws.{line-leq, leq-line}
+use Rattle.fw_model.proofs.StampLaws.{line-leq}
 use Rattle.fw_model.proofs.SameInsideLaws.{until-more}
-use Rattle.fw_monitor.specs.Offers.{listed, range, IsListed, IsBetween, Ascend, IsRecordOf, IsRangeOf, IsListedBy, AreFrontsOfEdges}
+use Rattle.fw_model.specs.Offers.{listed, range, IsListed, IsBetween, Ascend, IsRecordOf, IsRangeOf, IsListedBy, AreFrontsOfEdges}
 use Rattle.fw_plain.specs.Offered.{batch_fronts, IsBare, AreBare, OffersBy}
 
 -- ---- frontiers of numbers
@@ -42,34 +43,10 @@ bounds-output_number flow p is = ap (λ k. bounds_of_domain flow (domain_of_kind
 pub canonical-until : (k : ℕ) → k ≤ greatest_number → IsCanonical numbers (until k)
 canonical-until k l = (record { in_the_domain = line-leq k greatest_number l; ascending = tt; incomparable = tt }, tt)
 
-stays : (a b : Bool) → (b ≡ true → a ≡ true) → (not a && true) ≡ true → (not b && true) ≡ true
-stays true b k i = absurd (cc)
-stays false true k i = absurd (false≢true (k refl))
-stays false false k i = refl
-
 within-all : (b : Bounds) (f : Front) → Within (frontier_of b f) (frontier_of b [])
 within-all b f t i = and_from (in_domain b t) true (and_parts (in_domain b t) (inside f t) i).0 refl
 
 -- ---- what is settled and acknowledged
-
--- what is settled, where a list names what was acknowledged
-pub up_to-meet : (b : Bounds) (settled u f : Front) (k : ℕ) → u ≡ until k → Names b f (meet (frontier_of b settled) (frontier_of b u))
-    → Names b f (meet (frontier_of b settled) (frontier_of b (until k)))
-up_to-meet b settled u f k e n = subst (λ (v : Front). Names b f (meet (frontier_of b settled) (frontier_of b v))) e n
-
--- all that is settled, where more was acknowledged than there are numbers
-pub up_to-all : (settled f : Front) (k : ℕ) → 2 ^ 32 ≤ k → IsCanonical numbers settled → f ≡ settled
-    → Names numbers f (meet (frontier_of numbers settled) (frontier_of numbers (until k)))
-up_to-all settled f k l c e = record {
-  canonical = subst (IsCanonical numbers) (sym e) c;
-  same = λ t. ap (λ (g : Front). frontier_of numbers g t) e ∙ at t (in_domain numbers t) refl;
-}
-  where
-    beyond : (t : Stamp) → in_domain numbers t ≡ true → leq (k ∷ []) t ≡ false
-    beyond t i = elim (cases_Bool (leq (k ∷ []) t)) [
-      | inl y ↦ absurd (omega (arith, l, leq-line k greatest_number (leq-trans (k ∷ []) t (greatest_number ∷ []) y i)))
-      | inr n ↦ n
-    ]
 
     at : (t : Stamp) (d : Bool) → in_domain numbers t ≡ d
         → (d && inside settled t) ≡ ((d && inside settled t) && (d && (not (leq (k ∷ []) t) && true)))
@@ -276,76 +253,76 @@ within-both f g h = (
 pub offered-restorable : (sys : System) (state : Machine) (p : ℕ) (f : Front) (way : Restoring) (o : Offered) → injected_count p (events state.history) ≤ greatest_number
     → OffersBy sys (events state.history) p (front_of state.settled p) (bound_of state p) way o
     → (IsListed f (listed o) ⊎ IsBetween (bounds_of sys.flow p) (range o) f) ↔ IsRestorable sys state kept p way f
-offered-restorable sys state p f by_batches (Listed records) l a =
+offered-restorable sys state p f Batches (Listed records) l a =
     let n = injected_count p (events state.history) in
     let x = is_exhausted sys (events state.history) p in
-    let k = batches-offered n x f records.items (subst (λ m. AreBare (batch_fronts m x) records.items) (min-few n l) a) in
+    let k = batches-offered n x f records (subst (λ m. AreBare (batch_fronts m x) records) (min-few n l) a) in
     ((λ i. elim i [ inl r ↦ k.0 r | inr b ↦ absurd b ]), (λ r. inl (k.1 r)))
-offered-restorable sys state p f by_batches (Between least greatest) l a = absurd a
-offered-restorable sys state p f by_bound (Listed records) l a = absurd a
-offered-restorable sys state p f by_bound (Between least greatest) l a =
+offered-restorable sys state p f Batches (Between least greatest) l a = absurd a
+offered-restorable sys state p f Bound (Listed records) l a = absurd a
+offered-restorable sys state p f Bound (Between least greatest) l a =
     let b = bounds_of sys.flow p in
     let g = frontier_of b (front_of state.settled p) in
     let h = frontier_of b (until (bound_of state p)) in
     let k = between-up_to b (meet g h) least greatest f a.0 a.1 in
     let w = within-both (frontier_of b f) g h in
     ((λ i. w.0 (k.0 i)), (λ r. k.1 (w.1 r)))
-offered-restorable sys state p f by_anything (Listed records) l a = absurd a
-offered-restorable sys state p f by_anything (Between least greatest) l a =
+offered-restorable sys state p f Anything (Listed records) l a = absurd a
+offered-restorable sys state p f Anything (Between least greatest) l a =
     between-up_to (bounds_of sys.flow p) (frontier_of (bounds_of sys.flow p) (front_of state.settled p)) least greatest f a.0 a.1
-offered-restorable sys state p f by_checkpoints o l a = absurd a
-offered-restorable sys state p f by_events o l a = absurd a
+offered-restorable sys state p f Checkpoints o l a = absurd a
+offered-restorable sys state p f Events o l a = absurd a
 
 -- the records are the domain's
 pub offered-records : (sys : System) (h : List Event) (p : ℕ) (settled : Front) (bound : ℕ) (way : Restoring) (o : Offered)
-    → (way ≡ by_batches → bounds_of sys.flow p ≡ numbers) → OffersBy sys h p settled bound way o → AllByRecursion (IsRecordOf sys.flow p) (listed o)
-offered-records sys h p settled bound by_batches (Listed records) d a =
+    → (way ≡ Batches → bounds_of sys.flow p ≡ numbers) → OffersBy sys h p settled bound way o → AllByRecursion (IsRecordOf sys.flow p) (listed o)
+offered-records sys h p settled bound Batches (Listed records) d a =
     let n = min (injected_count p h) greatest_number in
     let x = is_exhausted sys h p in
-    bare-records sys.flow p (batch_fronts n x) records.items a (batches-canonical (bounds_of sys.flow p) n x (d refl) (few-min (injected_count p h)))
-offered-records sys h p settled bound by_batches (Between least greatest) d a = absurd a
-offered-records sys h p settled bound by_bound (Listed records) d a = absurd a
-offered-records sys h p settled bound by_bound (Between least greatest) d a = tt
-offered-records sys h p settled bound by_anything (Listed records) d a = absurd a
-offered-records sys h p settled bound by_anything (Between least greatest) d a = tt
-offered-records sys h p settled bound by_checkpoints o d a = absurd a
-offered-records sys h p settled bound by_events o d a = absurd a
+    bare-records sys.flow p (batch_fronts n x) records a (batches-canonical (bounds_of sys.flow p) n x (d refl) (few-min (injected_count p h)))
+offered-records sys h p settled bound Batches (Between least greatest) d a = absurd a
+offered-records sys h p settled bound Bound (Listed records) d a = absurd a
+offered-records sys h p settled bound Bound (Between least greatest) d a = tt
+offered-records sys h p settled bound Anything (Listed records) d a = absurd a
+offered-records sys h p settled bound Anything (Between least greatest) d a = tt
+offered-records sys h p settled bound Checkpoints o d a = absurd a
+offered-records sys h p settled bound Events o d a = absurd a
 
 -- and ascend
 pub offered-ascend : (sys : System) (h : List Event) (p : ℕ) (settled : Front) (bound : ℕ) (way : Restoring) (o : Offered)
     → OffersBy sys h p settled bound way o → Ascend (bounds_of sys.flow p) (listed o)
-offered-ascend sys h p settled bound by_batches (Listed records) a =
+offered-ascend sys h p settled bound Batches (Listed records) a =
     let n = min (injected_count p h) greatest_number in
     let x = is_exhausted sys h p in
-    bare-ascend (bounds_of sys.flow p) (batch_fronts n x) records.items a (batches-rise (bounds_of sys.flow p) x 0 (n + 1))
-offered-ascend sys h p settled bound by_batches (Between least greatest) a = absurd a
-offered-ascend sys h p settled bound by_bound (Listed records) a = absurd a
-offered-ascend sys h p settled bound by_bound (Between least greatest) a = tt
-offered-ascend sys h p settled bound by_anything (Listed records) a = absurd a
-offered-ascend sys h p settled bound by_anything (Between least greatest) a = tt
-offered-ascend sys h p settled bound by_checkpoints o a = absurd a
-offered-ascend sys h p settled bound by_events o a = absurd a
+    bare-ascend (bounds_of sys.flow p) (batch_fronts n x) records a (batches-rise (bounds_of sys.flow p) x 0 (n + 1))
+offered-ascend sys h p settled bound Batches (Between least greatest) a = absurd a
+offered-ascend sys h p settled bound Bound (Listed records) a = absurd a
+offered-ascend sys h p settled bound Bound (Between least greatest) a = tt
+offered-ascend sys h p settled bound Anything (Listed records) a = absurd a
+offered-ascend sys h p settled bound Anything (Between least greatest) a = tt
+offered-ascend sys h p settled bound Checkpoints o a = absurd a
+offered-ascend sys h p settled bound Events o a = absurd a
 
 -- the ends of a range are the domain's
 pub offered-range : (sys : System) (h : List Event) (p : ℕ) (settled : Front) (bound : ℕ) (way : Restoring) (o : Offered)
     → OffersBy sys h p settled bound way o → IsRangeOf (bounds_of sys.flow p) (range o)
-offered-range sys h p settled bound by_batches (Listed records) a = tt
-offered-range sys h p settled bound by_batches (Between least greatest) a = absurd a
-offered-range sys h p settled bound by_bound (Listed records) a = absurd a
-offered-range sys h p settled bound by_bound (Between least greatest) a = (a.0.canonical, a.1.canonical)
-offered-range sys h p settled bound by_anything (Listed records) a = absurd a
-offered-range sys h p settled bound by_anything (Between least greatest) a = (a.0.canonical, a.1.canonical)
-offered-range sys h p settled bound by_checkpoints o a = absurd a
-offered-range sys h p settled bound by_events o a = absurd a
+offered-range sys h p settled bound Batches (Listed records) a = tt
+offered-range sys h p settled bound Batches (Between least greatest) a = absurd a
+offered-range sys h p settled bound Bound (Listed records) a = absurd a
+offered-range sys h p settled bound Bound (Between least greatest) a = (a.0.canonical, a.1.canonical)
+offered-range sys h p settled bound Anything (Listed records) a = absurd a
+offered-range sys h p settled bound Anything (Between least greatest) a = (a.0.canonical, a.1.canonical)
+offered-range sys h p settled bound Checkpoints o a = absurd a
+offered-range sys h p settled bound Events o a = absurd a
 
 -- what is restored by its batches lists its frontiers
 pub offered-listed : (sys : System) (h : List Event) (p : ℕ) (settled : Front) (bound : ℕ) (way : Restoring) (o : Offered)
     → OffersBy sys h p settled bound way o → IsListedBy way (range o)
-offered-listed sys h p settled bound by_batches (Listed records) a = refl
-offered-listed sys h p settled bound by_batches (Between least greatest) a = absurd a
-offered-listed sys h p settled bound by_bound (Listed records) a = absurd a
-offered-listed sys h p settled bound by_bound (Between least greatest) a = tt
-offered-listed sys h p settled bound by_anything (Listed records) a = absurd a
-offered-listed sys h p settled bound by_anything (Between least greatest) a = tt
-offered-listed sys h p settled bound by_checkpoints o a = absurd a
-offered-listed sys h p settled bound by_events o a = absurd a
+offered-listed sys h p settled bound Batches (Listed records) a = refl
+offered-listed sys h p settled bound Batches (Between least greatest) a = absurd a
+offered-listed sys h p settled bound Bound (Listed records) a = absurd a
+offered-listed sys h p settled bound Bound (Between least greatest) a = tt
+offered-listed sys h p settled bound Anything (Listed records) a = absurd a
+offered-listed sys h p settled bound Anything (Between least greatest) a = tt
+offered-listed sys h p settled bound Checkpoints o a = absurd a
+offered-listed sys h p settled bound Events o a = absurd a

@@ -1,6 +1,6 @@
 -- What plain nodes offer is what the machine offers.
 use Rattle.std.proofs.Common.{◌≡◌, ◌⊎◌, ◌↔◌, ℕ, zero, suc, ◌+◌, ◌<◌, ◌≤◌, Bool, true, false, not, cond, List, [], ◌∷◌, length, map, reverse, slice_index_or, Option, None, ◌==◌, refl, sym, ◌∙◌, ap, subst, arith}
-use Rattle.std.proofs.lemmas.Bool.{both_ways, true≢false}
+use Rattle.std.proofs.lemmas.Bool.{both_ways, true≢false, cond-false}
 use Rattle.std.specs.List.{AllByRecursion, flat_map, filter}
 use Rattle.fw_time.specs.declared.stamp.Bounds.{Bounds}
 use Rattle.fw_time.specs.Stamp.{Stamp, in_domain}
@@ -15,25 +15,29 @@ use Rattle.fw_flow.specs.declared.choice.Recorded.{Recorded}
 use Rattle.fw_flow.specs.declared.event.Event.{Event}
 use Rattle.fw_flow.specs.declared.event.Message.{Message}
 use Rattle.fw_flow.specs.declared.kind.Kind.{Kind}
-use Rattle.fw_flow.specs.declared.kind.Kind.TheVariants.{Input, OutputEpoch, OutputNumber}
+use Rattle.fw_flow.specs.declared.kind.Kind.TheVariants.{Input, OutputEpoch, OutputNumber, Sequence}
 use Rattle.fw_flow.specs.declared.kind.Policy.TheVariants as policy
-use Rattle.fw_flow.specs.Dataflow.{System, kind_of, policy_of, sender, receiver, bounds_of, greatest_number, is_notified_kind}
-use Rattle.fw_flow.specs.Projection.{all_inside, phi, phi_by_count}
-use Rattle.fw_model.specs.Choice as machine
-use Rattle.fw_model.specs.Choice.{kept, Restoring, by_batches, by_bound, by_anything, by_checkpoints, by_events, restoring, takes_its_cut, takes_its_notes, can_resend, covers_in, IsCandidate, IsRestorable, stamp_of_notice}
-use Rattle.fw_model.specs.History.{delivered, sent, injected_count}
-use Rattle.fw_model.specs.LawsOfProjections.{bounds_of_edge}
+use Rattle.fw_flow.specs.Dataflow.{System, kind_of, policy_of, sender, receiver, bounds_of, greatest_number, is_notified_kind, bounds_of_edge}
+use Rattle.fw_flow.specs.Projection.{all_inside, phi_by_count, IsSentTable, count_from}
+use Rattle.fw_model.specs.Choice.{kept, IsCandidate, IsRestorable}
+use Rattle.fw_model.specs.History.{delivered, sent, injected_count, AreAtNodes}
+use Rattle.fw_flow.specs.declared.restoring.Restoring.{Restoring}
+use Rattle.fw_flow.specs.declared.restoring.Restoring.TheVariants.{Batches, Bound, Anything, Checkpoints, Events}
+use Rattle.fw_flow.specs.Restoring.{restoring, way_of}
+use Rattle.fw_model.specs.Covers.{stamps_from, stamp_of_notice, tallies_in, covers_in}
+use Rattle.fw_flow.proofs.ProjectionLaws.{phi-by_table}
 use Rattle.fw_model.specs.Machine.{Machine, events, is_failed, no_stamps, front_of, bound_of}
-use Rattle.fw_model.specs.Plain.{AreAtNodes}
 use Rattle.fw_model.proofs.ChoiceLaws.{by_batches-input, bounds-input}
 use Rattle.fw_model.proofs.DomainLaws.{edge-bounds, has_epochs}
 use Rattle.fw_model.proofs.InputLaws.{injected-few}
 use Rattle.fw_model.proofs.LegalLaws.{legal_messages-in_domain}
-use Rattle.fw_monitor.specs.Offers.{can_stay, listed, records_of, range, range_of, delivered_to, notified_of, sent_by, IsOffered, IsListed, IsBetween, stamps_from, count_from, is_by_records, recorded_notified, record_at, delivered_at, sent_cover, discarded_at, covers_of, Ascend, IsRecordOf, IsRangeOf, IsListedBy, AreOnEdges, AreOffersOf, AreOffersIn}
+use Rattle.fw_model.proofs.TallyLaws.{delivered_cover-same, discarded_cover-same, notified_cover-same}
+use Rattle.fw_model.specs.Offers.{can_stay, listed, records_of, range, range_of, delivered_to, notified_of, sent_by, IsOffered, IsListed, IsBetween, stamps_on_from, is_by_records, tallies_of, covers_of, Ascend, IsRecordOf, IsRangeOf, IsListedBy, AreOnEdges, AreOffersOf, AreOffersIn}
+use Rattle.fw_model.specs.Offers.{table_of}
 use Rattle.fw_plain.specs.Offered.{StandsBy, deliveries_to, sent_from, IsOfferOf, AreOffersFrom}
 use Rattle.fw_plain.proofs.FrontsLaws.{names-no_stamps}
 use Rattle.fw_plain.proofs.OffersFronts.{offered-restorable, offered-records, offered-ascend, offered-range, offered-listed}
-use Rattle.fw_plain.proofs.OffersLists.{delivered-on_edge, deliveries-on_edges, notices-in_domain, sent-on_edge, count-on_edge, sent-on_edges}
+use Rattle.fw_plain.proofs.OffersLists.{delivered-on_edge, deliveries-on_edges, notices-in_domain, sent-on_edge, sent-on_edges}
 
 -- ---- the offer of a node
 
@@ -75,15 +79,15 @@ record Are (sys : System) (state : Machine) (offers : List Offer) : Type 0 where
   pub each : (p : ℕ) → p < length sys.flow.nodes → Offers sys state offers p
   pub at_nodes : AreAtNodes sys.flow (events state.history)
   pub few : (p : ℕ) → injected_count p (events state.history) ≤ greatest_number
-  pub way : (p : ℕ) → restoring (kind_of sys.flow p) policy.None ≡ restoring (kind_of sys.flow p) (policy_of sys.flow p)
-  pub unwritten : (p : ℕ) → restoring (kind_of sys.flow p) (policy_of sys.flow p) ≡ by_checkpoints → ⊥
+  pub way : (p : ℕ) → restoring (kind_of sys.flow p) policy.None ≡ way_of sys.flow p
+  pub unwritten : (p : ℕ) → way_of sys.flow p ≡ Checkpoints → ⊥
   pub low : (p : ℕ) → p < length sys.flow.nodes → front_of state.low p ≡ no_stamps (bounds_of sys.flow p)
   pub nobody : (p : ℕ) → is_notified_kind (kind_of sys.flow p) ≡ false
   pub messages : (e : ℕ) → AllByRecursion (λ (m : Message). in_domain (bounds_of sys.flow (receiver sys.flow e)) m.at ≡ true) (sent sys (events state.history) e)
   pub senders : (e : ℕ) → e < length sys.flow.edges → sender sys.flow e < length sys.flow.nodes
   pub receivers : (e : ℕ) → e < length sys.flow.edges → receiver sys.flow e < length sys.flow.nodes
 
-not-by_checkpoints : (kind : Kind) → restoring kind policy.None ≡ by_checkpoints → ⊥
+not-by_checkpoints : (kind : Kind) → restoring kind policy.None ≡ Checkpoints → ⊥
 not-by_checkpoints Input e = cc
 not-by_checkpoints OutputEpoch e = cc
 not-by_checkpoints OutputNumber e = cc
@@ -127,15 +131,15 @@ are-there sys vs settled bounds failed state offers d n a s =
 
 delivered-is : (sys : System) (state : Machine) (offers : List Offer) (p : ℕ) → Offers sys state offers p
     → delivered_to offers p ≡ deliveries_to sys.flow p (events state.history)
-delivered-is sys state offers p o = at-map (λ (x : Offer). x.stamps.delivered.items) [] offers p o.offer o.there ∙ o.is.delivered
+delivered-is sys state offers p o = at-map (λ (x : Offer). x.stamps.delivered) [] offers p o.offer o.there ∙ o.is.delivered
 
 notified-is : (sys : System) (state : Machine) (offers : List Offer) (p : ℕ) → Offers sys state offers p
     → notified_of offers p ≡ flat_map (stamp_of_notice p) (events state.history)
-notified-is sys state offers p o = at-map (λ (x : Offer). x.stamps.notified.items) [] offers p o.offer o.there ∙ o.is.notified
+notified-is sys state offers p o = at-map (λ (x : Offer). x.stamps.notified) [] offers p o.offer o.there ∙ o.is.notified
 
 sent-is : (sys : System) (state : Machine) (offers : List Offer) (p : ℕ) → Offers sys state offers p
     → sent_by offers p ≡ sent_from sys (events state.history) p
-sent-is sys state offers p o = at-map (λ (x : Offer). x.stamps.sent.items) [] offers p o.offer o.there ∙ o.is.sent
+sent-is sys state offers p o = at-map (λ (x : Offer). x.stamps.sent) [] offers p o.offer o.there ∙ o.is.sent
 
 records-are : (sys : System) (state : Machine) (offers : List Offer) (p : ℕ) (o : Offers sys state offers p) → records_of offers p ≡ listed o.offer.offered
 records-are sys state offers p o = at-map (λ (x : Offer). listed x.offered) [] offers p o.offer o.there
@@ -168,7 +172,6 @@ of_flow sys state offers a =
           (notices-in_domain sys.flow p h a.at_nodes);
       sent = λ p l.
           subst (λ (ms : List Counted). AreOnEdges sys.flow ms) (sym (sent-is sys state offers p (a.each p l))) (sent-on_edges sys h p a.messages);
-      epochs = λ p k. absurd (true≢false (sym (ap is_notified_kind k) ∙ a.nobody p));
     }
 
 ascending : (sys : System) (state : Machine) (offers : List Offer) → Are sys state offers
@@ -219,81 +222,75 @@ stamps-delivered sys state offers a d l =
     (delivered-is sys state offers (receiver sys.flow d) (a.each (receiver sys.flow d) (a.receivers d l)))
     ∙ delivered-on_edge sys.flow d (events state.history)
 
-delivered-by : (sys : System) (offers : List Offer) (p d : ℕ) (way : Restoring) (f : Front) (ts : List Stamp) → (way ≡ by_checkpoints → ⊥)
-    → map (λ (m : Counted). m.at) (filter (λ (m : Counted). m.edge == d) (delivered_to offers p)) ≡ ts
-    → delivered_at sys.flow offers p d way f
-    ≡ cond (takes_its_cut way) (frontier_of (bounds_of sys.flow p) f) (cover (bounds_of sys.flow p) (filter (frontier_of (bounds_of sys.flow p) f) ts))
-delivered-by sys offers p d by_batches f ts n e = ap (λ (us : List Stamp). cover (bounds_of sys.flow p) (filter (frontier_of (bounds_of sys.flow p) f) us)) e
-delivered-by sys offers p d by_bound f ts n e = refl
-delivered-by sys offers p d by_anything f ts n e = refl
-delivered-by sys offers p d by_checkpoints f ts n e = absurd (n refl)
-delivered-by sys offers p d by_events f ts n e = ap (λ (us : List Stamp). cover (bounds_of sys.flow p) (filter (frontier_of (bounds_of sys.flow p) f) us)) e
+-- a node that is not restored by its checkpoints counts by its stamps
+not-by_records : (way : Restoring) → (way ≡ Checkpoints → ⊥) → is_by_records way ≡ false
+not-by_records Batches n = refl
+not-by_records Bound n = refl
+not-by_records Anything n = refl
+not-by_records Checkpoints n = absurd (n refl)
+not-by_records Events n = refl
 
-delivered-same : (sys : System) (state : Machine) (offers : List Offer) → Are sys state offers → (d : ℕ) → d < length sys.flow.edges → (cut : Cut)
-    → (covers_of sys offers).delivered d cut ≡ (covers_in sys state).delivered d cut
-delivered-same sys state offers a d l Present =
+delivered-counted : (sys : System) (state : Machine) (offers : List Offer) → Are sys state offers → (d : ℕ) → d < length sys.flow.edges → (cut : Cut)
+    → (tallies_of sys.flow offers).delivered d cut ≡ (tallies_in sys state).delivered d cut
+delivered-counted sys state offers a d l Present =
     let b = bounds_of sys.flow (receiver sys.flow d) in
     ap (λ (ts : List Stamp). cover b (filter (everything b) ts)) (stamps-delivered sys state offers a d l)
-delivered-same sys state offers a d l (At f) =
+delivered-counted sys state offers a d l (At f) =
     let p = receiver sys.flow d in
-    delivered-by sys offers p d (restoring (kind_of sys.flow p) (policy_of sys.flow p)) f (map (λ (m : Message). m.at) (delivered (events state.history) d))
-    (a.unwritten p) (stamps-delivered sys state offers a d l)
+    let b = bounds_of sys.flow p in
+    cond-false (is_by_records (way_of sys.flow p)) _ _ (not-by_records (way_of sys.flow p) (a.unwritten p))
+    ∙ ap (λ (ts : List Stamp). cover b (filter (frontier_of b f) ts)) (stamps-delivered sys state offers a d l)
+
+delivered-same : (sys : System) (state : Machine) (offers : List Offer) → Are sys state offers → (d : ℕ) → d < length sys.flow.edges → (cut : Cut)
+    → (covers_of sys.flow offers).delivered d cut ≡ (covers_in sys state).delivered d cut
+delivered-same sys state offers a d l cut =
+    delivered_cover-same sys.flow (tallies_of sys.flow offers) (tallies_in sys state) d cut (delivered-counted sys state offers a d l cut)
 
 sent-cover : (sys : System) (state : Machine) (offers : List Offer) → Are sys state offers → (e : ℕ) → e < length sys.flow.edges → (f : Frontier)
-    → sent_cover sys.flow offers (sender sys.flow e) e f ≡ machine.sent_cover sys state (sender sys.flow e) e f
+    → cover (bounds_of sys.flow (receiver sys.flow e)) (stamps_on_from e f (sent_by offers (sender sys.flow e)))
+    ≡ cover (bounds_of sys.flow (receiver sys.flow e)) (stamps_from f (sent sys (events state.history) e))
 sent-cover sys state offers a e l f =
     let p = sender sys.flow e in
     let b = bounds_of sys.flow (receiver sys.flow e) in
-    ap (λ (ms : List Counted). cover b (stamps_from e f ms)) (sent-is sys state offers p (a.each p (a.senders e l)))
+    ap (λ (ms : List Counted). cover b (stamps_on_from e f ms)) (sent-is sys state offers p (a.each p (a.senders e l)))
     ∙ ap (λ (ts : List Stamp). cover b ts) (sent-on_edge sys (events state.history) e (all_inside f) l)
 
-discarded-by : (sys : System) (state : Machine) (offers : List Offer) (p e : ℕ) (way : Restoring) (f : Front) → (way ≡ by_checkpoints → ⊥)
-    → sent_cover sys.flow offers p e (frontier_of (bounds_of sys.flow p) f) ≡ machine.sent_cover sys state p e (frontier_of (bounds_of sys.flow p) f)
-    → discarded_at sys offers p e way f ≡ machine.discarded_at sys state p e way (frontier_of (bounds_of sys.flow p) f)
-discarded-by sys state offers p e by_batches f n s = s
-discarded-by sys state offers p e by_bound f n s = s
-discarded-by sys state offers p e by_anything f n s = refl
-discarded-by sys state offers p e by_checkpoints f n s = absurd (n refl)
-discarded-by sys state offers p e by_events f n s = s
+sent-counted : (sys : System) (state : Machine) (offers : List Offer) → Are sys state offers → (e : ℕ) → e < length sys.flow.edges → (cut : Cut)
+    → (tallies_of sys.flow offers).sent e cut ≡ (tallies_in sys state).sent e cut
+sent-counted sys state offers a e l Present = sent-cover sys state offers a e l (everything (bounds_of sys.flow (sender sys.flow e)))
+sent-counted sys state offers a e l (At f) =
+    let p = sender sys.flow e in
+    cond-false (is_by_records (way_of sys.flow p)) _ _ (not-by_records (way_of sys.flow p) (a.unwritten p))
+    ∙ sent-cover sys state offers a e l (frontier_of (bounds_of sys.flow p) f)
 
 discarded-same : (sys : System) (state : Machine) (offers : List Offer) → Are sys state offers → (e : ℕ) → e < length sys.flow.edges → (cut : Cut)
-    → (covers_of sys offers).discarded e cut ≡ (covers_in sys state).discarded e cut
-discarded-same sys state offers a e l Present =
-    let p = sender sys.flow e in
-    ap (λ (g : Frontier). cond (can_resend (policy_of sys.flow p)) nothing g) (sent-cover sys state offers a e l (everything (bounds_of sys.flow p)))
-discarded-same sys state offers a e l (At f) =
-    let p = sender sys.flow e in
-    ap (λ (g : Frontier). cond (can_resend (policy_of sys.flow p)) nothing g)
-    (discarded-by sys state offers p e (restoring (kind_of sys.flow p) (policy_of sys.flow p)) f (a.unwritten p)
-    (sent-cover sys state offers a e l (frontier_of (bounds_of sys.flow p) f)))
+    → (covers_of sys.flow offers).discarded e cut ≡ (covers_in sys state).discarded e cut
+discarded-same sys state offers a e l cut =
+    discarded_cover-same sys.flow (tallies_of sys.flow offers) (tallies_in sys state) e cut (sent-counted sys state offers a e l cut)
 
-not-by_records : (way : Restoring) → (way ≡ by_checkpoints → ⊥) → is_by_records way ≡ false
-not-by_records by_batches n = refl
-not-by_records by_bound n = refl
-not-by_records by_anything n = refl
-not-by_records by_checkpoints n = absurd (n refl)
-not-by_records by_events n = refl
-
-notified-same : (sys : System) (state : Machine) (offers : List Offer) → Are sys state offers → (p : ℕ) → p < length sys.flow.nodes → (cut : Cut)
-    → (covers_of sys offers).notified p cut ≡ (covers_in sys state).notified p cut
-notified-same sys state offers a p l Present =
+notified-counted : (sys : System) (state : Machine) (offers : List Offer) → Are sys state offers → (p : ℕ) → p < length sys.flow.nodes → (cut : Cut)
+    → (tallies_of sys.flow offers).notified p cut ≡ (tallies_in sys state).notified p cut
+notified-counted sys state offers a p l Present =
     let b = bounds_of sys.flow p in
     ap (λ (ts : List Stamp). cover b (filter (everything b) ts)) (notified-is sys state offers p (a.each p l))
-notified-same sys state offers a p l (At f) =
+notified-counted sys state offers a p l (At f) =
     let b = bounds_of sys.flow p in
-    let way = restoring (kind_of sys.flow p) (policy_of sys.flow p) in
-    let notes = takes_its_notes (kind_of sys.flow p) (policy_of sys.flow p) in
-    let ours : Frontier = cover b (filter (frontier_of b f) (notified_of offers p)) in
-    ap (λ (r : Bool). cond notes (frontier_of b f) (cond r (recorded_notified b (record_at f (records_of offers p))) ours)) (not-by_records way (a.unwritten p))
-    ∙ ap (λ (ts : List Stamp). cond notes (frontier_of b f) (cover b (filter (frontier_of b f) ts))) (notified-is sys state offers p (a.each p l))
+    cond-false (is_by_records (way_of sys.flow p)) _ _ (not-by_records (way_of sys.flow p) (a.unwritten p))
+    ∙ ap (λ (ts : List Stamp). cover b (filter (frontier_of b f) ts)) (notified-is sys state offers p (a.each p l))
+
+notified-same : (sys : System) (state : Machine) (offers : List Offer) → Are sys state offers → (p : ℕ) → p < length sys.flow.nodes → (cut : Cut)
+    → (covers_of sys.flow offers).notified p cut ≡ (covers_in sys state).notified p cut
+notified-same sys state offers a p l cut =
+    notified_cover-same sys.flow (tallies_of sys.flow offers) (tallies_in sys state) p cut (notified-counted sys state offers a p l cut)
 
 arrived-same : (sys : System) (state : Machine) (offers : List Offer) → Are sys state offers → (e : ℕ) → e < length sys.flow.edges → (f : Frontier)
-    → (covers_of sys offers).arrived e f ≡ (covers_in sys state).arrived e f
-unfolding phi phi_by_count
+    → (covers_of sys.flow offers).arrived e f ≡ (covers_in sys state).arrived e f
+unfolding phi_by_count
 arrived-same sys state offers a e l f =
     let p = sender sys.flow e in
-    ap (λ n. phi_by_count sys.flow n e f)
-    (ap (λ (ms : List Counted). count_from e f ms) (sent-is sys state offers p (a.each p (a.senders e l))) ∙ count-on_edge sys (events state.history) e f l)
+    let no_sequence : kind_of sys.flow p ≡ Sequence → IsSentTable sys (events state.history) p (table_of offers p) =
+    λ k. absurd (true≢false (sym (ap is_notified_kind k) ∙ a.nobody p)) in
+    λ i u. sym (phi-by_table sys (events state.history) e f (table_of offers p) no_sequence u) i
 
 -- what is offered is what the machine offers in the state
 pub offers-in : (sys : System) (vs : List Event) (settled : List Front) (bounds : List ℕ) (failed : List Bool) (state : Machine) (offers : List Offer)

@@ -8,7 +8,6 @@ use Rattle.std.proofs.lemmas.List.Elements.{filter-append}
 use Rattle.fw_time.specs.Stamp.{Stamp, in_domain}
 use Rattle.fw_time.proofs.EachLaws.{each-append}
 use Rattle.fw_frontier.specs.Frontier.{Frontier}
-use Rattle.fw_flow.specs.Counting.{how_many}
 use Rattle.fw_flow.specs.declared.choice.Counted.{Counted}
 use Rattle.fw_flow.specs.declared.event.Event.{Event}
 use Rattle.fw_flow.specs.declared.event.Event.TheVariants.{Inject, Deliver, Notify}
@@ -16,13 +15,12 @@ use Rattle.fw_flow.specs.declared.event.Message.{Message}
 use Rattle.fw_flow.specs.declared.node.Edge.{Edge}
 use Rattle.fw_flow.specs.Dataflow.{System, Dataflow, sender, receiver, out_edges, edges_from, bounds_of}
 use Rattle.fw_flow.specs.NodeFunction.{sent_by}
-use Rattle.fw_flow.specs.Projection.{all_inside, events_at}
+use Rattle.fw_flow.specs.Projection.{all_inside, events_at, count_from}
 use Rattle.fw_flow.specs.Projection as projection
-use Rattle.fw_model.specs.Choice.{stamp_of_notice}
-use Rattle.fw_model.specs.History.{delivered, sent}
-use Rattle.fw_model.specs.Plain.{AreAtNodes}
+use Rattle.fw_model.specs.History.{delivered, sent, AreAtNodes}
+use Rattle.fw_model.specs.Covers.{stamp_of_notice}
 use Rattle.fw_model.proofs.FilterLaws.{filter-in, filter-out}
-use Rattle.fw_monitor.specs.Offers.{stamps_from, count_from, AreOnEdges}
+use Rattle.fw_model.specs.Offers.{stamps_on_from, AreOnEdges}
 use Rattle.fw_plain.specs.Offered.{alone, delivery_to, deliveries_to, on_each, sent_from}
 
 -- the stamps of the messages
@@ -164,42 +162,6 @@ pub sent-on_edge : (sys : System) (h : List Event) (e : ℕ) (test : List Stamp 
     → stamps_of (filter (is_from e test) (sent_from sys h (sender sys.flow e))) ≡ stamps_with test (sent sys h e)
 sent-on_edge sys h e test l =
     sent-of_edges e test (sent sys h e) (out_edges sys.flow (sender sys.flow e)) ∙ out_edge-once sys.flow (stamps_with test (sent sys h e)) e l
-
--- ---- how many were sent
-
-each-alone : (d : ℕ) (ms : List Message) → AllByRecursion (λ (m : Counted). m.count ≡ 1) (map (alone d) ms)
-each-alone d [] = tt
-each-alone d (m ∷ ms) = (refl, each-alone d ms)
-
-all-alone : (es : List ℕ) (ms : List Message) → AllByRecursion (λ (m : Counted). m.count ≡ 1) (on_each es ms)
-all-alone [] ms = tt
-all-alone (d ∷ es) ms = each-append (λ (m : Counted). m.count ≡ 1) (map (alone d) ms) (on_each es ms) (each-alone d ms) (all-alone es ms)
-
-one-counted : (b : Bool) (m : Counted) (n : ℕ) (ms : List Counted) → m.count ≡ 1 → n ≡ length (stamps_of ms)
-    → cond b (m.count + n) n ≡ length (stamps_of (cond b (m ∷ ms) ms))
-one-counted true m n ms k h = omega arith
-one-counted false m n ms k h = h
-
-counted : (e : ℕ) (f : Frontier) (ms : List Counted) → AllByRecursion (λ (m : Counted). m.count ≡ 1) ms → count_from e f ms ≡ length (stamps_from e f ms)
-counted e f [] a = refl
-counted e f (m ∷ ms) a =
-    one-counted (m.edge == e && all_inside f m.causes) m (count_from e f ms) (filter (λ (x : Counted). x.edge == e && all_inside f x.causes) ms) a.0 (counted e f ms a.1)
-
-one-many : (b : Bool) (m : Message) (n : ℕ) (ms : List Message) → n ≡ length (map (λ (x : Message). x.at) ms)
-    → cond b (n + 1) n ≡ length (map (λ (x : Message). x.at) (cond b (m ∷ ms) ms))
-one-many true m n ms h = omega arith
-one-many false m n ms h = h
-
-many : (test : Message → Bool) (ms : List Message) → how_many test ms ≡ length (map (λ (x : Message). x.at) (filter test ms))
-many test [] = refl
-many test (m ∷ ms) = one-many (test m) m (how_many test ms) (filter test ms) (many test ms)
-
--- how many messages of an edge come from inside, among what its sender sent
-pub count-on_edge : (sys : System) (h : List Event) (e : ℕ) (f : Frontier) → e < length sys.flow.edges
-    → count_from e f (sent_from sys h (sender sys.flow e)) ≡ projection.count_from f (sent sys h e)
-count-on_edge sys h e f l =
-    counted e f (sent_from sys h (sender sys.flow e)) (all-alone (out_edges sys.flow (sender sys.flow e)) (sent sys h e))
-    ∙ ap length (sent-on_edge sys h e (all_inside f) l) ∙ sym (many (λ (m : Message). all_inside f m.causes) (sent sys h e))
 
 -- ---- where it was sent
 

@@ -20,12 +20,15 @@ use Rattle.fw_flow.specs.declared.event.Event.{Event}
 use Rattle.fw_flow.specs.declared.kind.Kind.{Kind}
 use Rattle.fw_flow.specs.declared.kind.Kind.TheVariants.{Input, OutputEpoch, OutputNumber}
 use Rattle.fw_flow.specs.declared.kind.Policy.TheVariants as policy
-use Rattle.fw_flow.specs.Dataflow.{System, Dataflow, kind_of, bounds_of, batches_of, greatest_number}
-use Rattle.fw_model.specs.Choice.{Restoring, by_bound, restoring, until, stamp_of_notice}
+use Rattle.fw_flow.specs.Dataflow.{System, Dataflow, kind_of, bounds_of, batches_of, greatest_number, system_of}
+use Rattle.fw_model.specs.Choice.{until}
+use Rattle.fw_flow.specs.declared.restoring.Restoring.{Restoring}
+use Rattle.fw_flow.specs.declared.restoring.Restoring.TheVariants.{Bound}
+use Rattle.fw_flow.specs.Restoring.{restoring}
+use Rattle.fw_model.specs.Covers.{stamp_of_notice}
 use Rattle.fw_model.specs.History.{injected_count}
 use Rattle.fw_model.specs.Machine.{front_of}
-use Rattle.fw_model.specs.Plain.{system_of}
-use Rattle.fw_model.proofs.EventSteps.{history_last, batches_there}
+use Rattle.fw_plain.proofs.EventSteps.{history_last, batches_there}
 use Rattle.fw_model.proofs.StampLaws.{line-leq}
 use Rattle.fw_plain.specs.Offered.{delivery_to, deliveries_to, sent_from, batch_fronts, IsBare, AreBare, OffersBy, IsOfferOf, AreOffersFrom}
 use Rattle.fw_plain.proofs.OffersFronts.{numbers, bounds-output_epoch, bounds-output_number, canonical-until, bare-more}
@@ -80,18 +83,18 @@ records_some n x rs a k =
 -- ---- what a node offers
 
 pub input_offers : (flow : Dataflow) (batches : List (ℕ × List (List Rec))) (h : List Event) (p : ℕ) (settled : Front) (bound : ℕ) (kind : Kind)
-    (records : Vec Recorded Global) (n m q : ℕ) → p < length flow.nodes → kind ≡ kind_of flow p → kind ≡ Input → n ≡ injected_count p h
-    → m ≡ length (batches_at batches q) → q ≡ p → AreBare (batch_fronts (min n greatest_number) (n == m)) records.items
+    (records : List Recorded) (n m q : ℕ) → p < length flow.nodes → kind ≡ kind_of flow p → kind ≡ Input → n ≡ injected_count p h
+    → m ≡ length (batches_at batches q) → q ≡ p → AreBare (batch_fronts (min n greatest_number) (n == m)) records
     → OffersBy (system_of flow batches) h p settled bound (restoring (kind_of flow p) policy.None) (Listed records)
 input_offers flow batches h p settled bound kind records n m q l k is c b e a =
     let sys : System = system_of flow batches in
     let there : m ≡ length (batches_of sys p) = b ∙ ap (λ x. length (batches_at batches x)) e ∙ sym (ap length (batches_there flow batches p l)) in
     subst (λ (x : Kind). OffersBy sys h p settled bound (restoring x policy.None) (Listed records)) (sym is ∙ k)
-    (subst (λ x. AreBare (batch_fronts (min (injected_count p h) greatest_number) (injected_count p h == x)) records.items) there
-    (subst (λ x. AreBare (batch_fronts (min x greatest_number) (x == m)) records.items) c a))
+    (subst (λ x. AreBare (batch_fronts (min (injected_count p h) greatest_number) (injected_count p h == x)) records) there
+    (subst (λ x. AreBare (batch_fronts (min x greatest_number) (x == m)) records) c a))
 
 -- what an output offers, by the bounds of its domain
-output-by : (sys : System) (h : List Event) (p : ℕ) (settled least greatest : Front) (bound : ℕ) (way : Restoring) → way ≡ by_bound
+output-by : (sys : System) (h : List Event) (p : ℕ) (settled least greatest : Front) (bound : ℕ) (way : Restoring) → way ≡ Bound
     → Names (bounds_of sys.flow p) least nothing
     → Names (bounds_of sys.flow p) greatest (meet (frontier_of (bounds_of sys.flow p) settled) (frontier_of (bounds_of sys.flow p) (until bound)))
     → OffersBy sys h p settled bound way (Between least greatest)
@@ -126,8 +129,8 @@ offers_more sys h settled bounds failed n m (q ∷ os) o a e i = (a.0, offers_mo
 pub offer_is : (sys : System) (h : List Event) (settled : List Front) (bounds : List ℕ) (failed : List Bool) (p node : ℕ) (front : Front) (o : Offer) → node ≡ p
     → front ≡ front_of settled p → o.present ≡ not (slice_index_or failed p false)
     → OffersBy sys h node front (slice_index_or bounds p 0) (restoring (kind_of sys.flow node) policy.None) o.offered
-    → o.stamps.delivered.items ≡ deliveries_to sys.flow node h → o.stamps.notified.items ≡ flat_map (stamp_of_notice node) h
-    → o.stamps.sent.items ≡ sent_from sys h node → IsOfferOf sys h settled bounds failed p o
+    → o.stamps.delivered ≡ deliveries_to sys.flow node h → o.stamps.notified ≡ flat_map (stamp_of_notice node) h
+    → o.stamps.sent ≡ sent_from sys h node → IsOfferOf sys h settled bounds failed p o
 offer_is sys h settled bounds failed p node front o e f present offered delivered notified sent =
     let along = subst (λ q. OffersBy sys h q front (slice_index_or bounds p 0) (restoring (kind_of sys.flow q) policy.None) o.offered) e offered in record {
       present = present;

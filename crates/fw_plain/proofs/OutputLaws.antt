@@ -11,11 +11,10 @@ use Rattle.fw_flow.specs.declared.event.Event.{Event}
 use Rattle.fw_flow.specs.declared.event.Event.TheVariants.{Inject, Deliver, Notify}
 use Rattle.fw_flow.specs.declared.kind.Kind.{Kind}
 use Rattle.fw_flow.specs.declared.kind.Kind.TheVariants.{OutputNumber}
-use Rattle.fw_flow.specs.Dataflow.{System, Dataflow, kind_of, receiver}
+use Rattle.fw_flow.specs.Dataflow.{System, Dataflow, kind_of, receiver, batches_of_nodes}
 use Rattle.fw_model.specs.Machine.{Machine, events}
 use Rattle.fw_plain.specs.Engine.{Standing}
 use Rattle.fw_flow.specs.NodeFunction.{delivered_recs}
-use Rattle.fw_model.specs.Plain.{batches_of_nodes}
 use Rattle.fw_model.specs.Steps.{HasEpoch, HasDelivery, HasSomethingAt}
 use Rattle.fw_plain.specs.Output.{has_epoch, is_delivery, has_delivery}
 

@@ -9,7 +9,8 @@ use Rattle.fw_flow.specs.declared.choice.Cut.TheVariants.{Present, At}
 use Rattle.fw_flow.specs.Dataflow.{System, Dataflow, bounds_of}
 use Rattle.fw_flow.specs.NodeFunction.{place, stamp}
 use Rattle.fw_time.specs.Stamp.{Stamp}
-use Rattle.fw_model.specs.Choice.{cut_of, kept_of, set_of, filtered}
+use Rattle.fw_model.specs.Choice.{cut_of, kept_of, filtered}
+use Rattle.fw_model.specs.Covers.{set_of}
 use Rattle.fw_plain.specs.Past.{Past, under_serials, is_inside_cut, is_kept, kept_serials, with_one_more, cut_past}
 
 -- the events of a list under serial numbers are the list
@@ -104,7 +105,7 @@ pub past_cut : (test : Event → Bool) (ns : List ℕ) (vs : List Event) → len
 past_cut test ns vs e = ap reverse (kept_numbered test ns vs e) ∙ filter_reverse (λ w. test w.event) (under_serials ns vs)
 
 -- the events that a choice keeps are those inside its cuts
-inside_set : (sys : System) (p : ℕ) (cut : Cut) (t : Stamp) → is_inside_cut (bounds_of sys.flow p) cut t ≡ set_of sys p cut t
+inside_set : (sys : System) (p : ℕ) (cut : Cut) (t : Stamp) → is_inside_cut (bounds_of sys.flow p) cut t ≡ set_of sys.flow p cut t
 inside_set sys p Present t = refl
 inside_set sys p (At f) t = refl
 
@@ -117,7 +118,7 @@ pub cut_is_filtered : (sys : System) (choice : Choice) (past : Past)
     → cut_past sys.flow choice.cuts past ≡ record { history = filtered sys choice past.history; next = past.next }
 cut_is_filtered sys choice past =
     ap (λ h. record { history = h; next = past.next })
-    (filter_same (λ v. is_kept sys.flow choice.cuts v.event) (λ v. kept_of sys choice (place sys.flow v.event) (stamp v.event))
+    (filter_same (λ v. is_kept sys.flow choice.cuts v.event) (λ v. kept_of sys.flow choice (place sys.flow v.event) (stamp v.event))
     (λ v. inside_set sys (place sys.flow v.event) (cut_of choice (place sys.flow v.event)) (stamp v.event)) past.history)
 
 -- ---- what the events of an engine stand for

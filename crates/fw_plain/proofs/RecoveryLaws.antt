@@ -7,16 +7,16 @@ use Rattle.fw_flow.specs.declared.choice.Offer.{Offer}
 use Rattle.fw_flow.specs.declared.event.Event.{Event}
 use Rattle.fw_flow.specs.Dataflow.{System, bounds_of}
 use Rattle.fw_model.specs.Choice.{IsConsistentBy, IsLargestBy, IsLargest}
-use Rattle.fw_model.specs.LawsOfSteps.{CanChoose}
 use Rattle.fw_model.specs.Machine.{Machine, events, is_failed, no_stamps}
 use Rattle.fw_model.specs.Steps.{offers}
 use Rattle.fw_model.proofs.ChoosingLaws.{recovery-has_choice}
-use Rattle.fw_monitor.specs.Offers.{IsOffered, AreOffersIn, AreAscending, covers_of}
-use Rattle.fw_monitor.proofs.OfferLaws.{consistent-same, largest-same}
+use Rattle.fw_model.specs.Offers.{IsOffered, AreOffersIn, AreAscending, covers_of}
+use Rattle.fw_model.proofs.OfferLaws.{consistent-same, largest-same}
 use Rattle.fw_plain.specs.Engine.{state_of, IsSound}
 use Rattle.fw_plain.specs.Offered.{StandsBy}
 use Rattle.fw_plain.specs.Past.{Past}
 use Rattle.fw_plain.proofs.EngineLaws.{legal_of}
+use Rattle.fw_model.specs.Choosing.{CanChoose}
 
 -- the state that an engine stands for is that of its lists
 pub stands_by : (sys : System) (past : Past) (settled fs : List Front) (failed ds : List Bool) (bounds ns : List ℕ) (vs : List Event)
@@ -43,8 +43,8 @@ if_ok_also (Err e) P Q h p = tt
 
 -- some choice is consistent in a sound state, so the largest of what is offered is the machine's
 pub chosen : {E : Type 0} (sys : System) (state : Machine) (os : List Offer) (r : Result Choice E) → IsSound sys state → AreOffersIn sys state (is_failed state) os
-    → ((s : System) (some : Choice) → s.flow ≡ sys.flow → AreAscending sys.flow os → IsConsistentBy s (covers_of s os) (IsOffered sys.flow os) some
-    → IfOk r (IsLargestBy s (covers_of s os) (IsOffered sys.flow os)))
+    → ((some : Choice) → AreAscending sys.flow os → IsConsistentBy sys.flow (covers_of sys.flow os) (IsOffered sys.flow os) some
+    → IfOk r (IsLargestBy sys.flow (covers_of sys.flow os) (IsOffered sys.flow os)))
     → IfOk r (λ choice. IsLargest sys state (offers sys state) choice)
 chosen sys state os r i a give =
     let reached = i.reached in
@@ -52,5 +52,5 @@ chosen sys state os r i a give =
     let can : CanChoose sys state lost = recovery-has_choice sys i.well_formed reached.0 reached.1 state reached.2 lost in
     let some = can.choice in
     let by_offers = (consistent-same sys state lost os some i.well_formed.flow a).1 can.consistent in
-    if_ok_also r (IsLargestBy sys (covers_of sys os) (IsOffered sys.flow os)) (λ choice. IsLargest sys state (offers sys state) choice)
-    (λ choice g. (largest-same sys state lost os choice i.well_formed.flow a).0 g) (give sys some refl a.ascending by_offers)
+    if_ok_also r (IsLargestBy sys.flow (covers_of sys.flow os) (IsOffered sys.flow os)) (λ choice. IsLargest sys state (offers sys state) choice)
+    (λ choice g. (largest-same sys state lost os choice i.well_formed.flow a).0 g) (give some a.ascending by_offers)

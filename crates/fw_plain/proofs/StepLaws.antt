@@ -7,23 +7,22 @@ use Rattle.fw_time.specs.declared.stamp.Bounds.{Bounds}
 use Rattle.fw_time.specs.Stamp.{Stamp, leq, same, in_domain}
 use Rattle.fw_bag.specs.declared.rec.Rec.{Rec}
 use Rattle.fw_bag.specs.Keyed.{sorted}
-use Rattle.fw_frontier.specs.Front.{Front, inside, frontier_of}
+use Rattle.fw_frontier.specs.Front.{Front, inside, frontier_of, same_front}
 use Rattle.fw_flow.specs.declared.choice.Choice.{Choice}
 use Rattle.fw_flow.specs.declared.choice.Cut.{Cut}
 use Rattle.fw_flow.specs.declared.choice.Cut.TheVariants.{Present, At}
 use Rattle.fw_flow.specs.declared.kind.Kind.{Kind}
 use Rattle.fw_flow.specs.declared.kind.Kind.TheVariants.{OutputEpoch, OutputNumber}
 use Rattle.fw_flow.specs.declared.step.Step.TheVariants.{Progress, Fail, Recover, Ack}
-use Rattle.fw_flow.specs.Dataflow.{System, Dataflow, kind_of, policy_of, receiver, bounds_of, greatest_of, greatest_number, domain_of_kind, is_output_kind}
+use Rattle.fw_flow.specs.Dataflow.{System, Dataflow, kind_of, policy_of, receiver, bounds_of, greatest_of, greatest_number, domain_of_kind, is_output_kind, KeepsNothing, places}
 use Rattle.fw_flow.specs.NodeFunction.{delivered_recs}
 use Rattle.fw_model.specs.Choice.{cut_of, filtered, IsLargest}
 use Rattle.fw_model.specs.History.{IsComplete}
-use Rattle.fw_model.specs.Machine.{Machine, events, front_of, is_failed, bound_of, places}
-use Rattle.fw_model.specs.Steps.{MayAcknowledge, HasSomethingAt, Steps, CutsTo, IsSettledCut, checkpoint_of, eager_writes, is_eager, is_one_of, same_front, offers, quiet, acked, cuts, did, idle}
-use Rattle.fw_model.specs.Plain.{family_of, AreCanonical}
+use Rattle.fw_model.specs.Machine.{Machine, events, front_of, is_failed, bound_of, family_of, AreCanonical}
+use Rattle.fw_model.specs.Steps.{MayAcknowledge, HasSomethingAt, Steps, CutsTo, IsSettledCut, checkpoint_of, eager_writes, is_eager, is_one_of, offers, quiet, acked, cuts, did, idle}
 use Rattle.fw_model.proofs.Decisions.{two_ways}
 use Rattle.fw_model.proofs.DescentLaws.{complete-one}
-use Rattle.fw_plain.specs.Engine.{Standing, KeepsNothing, state_of, IsOfEachNode, IsSound}
+use Rattle.fw_plain.specs.Engine.{Standing, state_of, IsOfEachNode, IsSound}
 use Rattle.fw_plain.specs.Failed.{any_failed, any_live, with_failed}
 use Rattle.fw_plain.specs.Fronts.{grows, any_grows, IsGrown, AreGrown, IsCut, AreCut}
 use Rattle.fw_plain.specs.Past.{Past}

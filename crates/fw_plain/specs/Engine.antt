@@ -1,13 +1,10 @@
 -- What the plain engine stands for.
 use Rattle.std.specs.Prelude.{◌≡◌, ℕ, ◌<◌, Bool, true, false, List, [], map, length}
 use Rattle.fw_frontier.specs.Front.{Front, IsCanonical}
-use Rattle.fw_flow.specs.declared.kind.Policy.TheVariants as policy
+use Rattle.fw_flow.specs.Dataflow.{System, Dataflow, bounds_of, KeepsNothing, NotifiesNobody, places}
 use Rattle.fw_flow.specs.declared.step.Step.{Step}
-use Rattle.fw_flow.specs.declared.step.Step.TheVariants.{Inject, Deliver, Notify, Progress, Checkpoint, Persist, Fail, Recover, Collect, Ack}
-use Rattle.fw_flow.specs.Dataflow.{System, Dataflow, policy_of, bounds_of}
 use Rattle.fw_flow.specs.WellFormed.{IsWellFormedSystem}
-use Rattle.fw_model.specs.LawsOfFiltering.{NotifiesNobody}
-use Rattle.fw_model.specs.Machine.{Machine, first_state, no_stamps, places, front_of}
+use Rattle.fw_model.specs.Machine.{Machine, first_state, no_stamps, front_of}
 use Rattle.fw_model.specs.Steps.{Effect, quiet, acked, cuts, Outcome, did, idle, Run}
 use Rattle.fw_plain.specs.declared.stepped.Effect.{Effect as Shown}
 use Rattle.fw_plain.specs.declared.stepped.Effect.TheVariants.{Quiet, Acked, Cuts}
@@ -20,10 +17,6 @@ pub record Standing : Type 0 where
   pub sys : System
   pub state : Machine
   pub refused : Bool
-
--- no node keeps anything for its recovery
-abbrev pub KeepsNothing : Dataflow → Type 0
-KeepsNothing flow = (p : ℕ) → policy_of flow p ≡ policy.None
 
 -- The state of a machine in which nothing was written or collected: by its events, what is settled, which nodes are failed,
 -- and how many stamps each output acknowledged.
@@ -56,19 +49,6 @@ pub record IsSound (sys : System) (state : Machine) : Type 0 where
   pub notifies_nobody : NotifiesNobody sys.flow
   pub reached : IsReached sys state
   pub of_each_node : IsOfEachNode sys state
-
--- whether the plain engine takes the step: all but those of writes and collections
-abbrev pub is_plain_step : Step → Bool
-is_plain_step (Inject s) = true
-is_plain_step (Deliver e at) = true
-is_plain_step (Notify p at) = true
-is_plain_step Progress = true
-is_plain_step (Checkpoint p) = false
-is_plain_step Persist = false
-is_plain_step (Fail ps) = true
-is_plain_step Recover = true
-is_plain_step Collect = false
-is_plain_step (Ack o) = true
 
 -- the machine's effect that an engine shows
 abbrev pub effect_of : Shown → Effect

@@ -1,6 +1,10 @@
+pub mod Clear
 pub mod Engine
 pub mod Failed
 pub mod Fronts
+pub mod Least
 pub mod Offered
 pub mod Output
 pub mod Past
+pub mod Ready
+pub mod Wanted

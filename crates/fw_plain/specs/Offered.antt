@@ -13,15 +13,17 @@ use Rattle.fw_flow.specs.declared.event.Event.{Event}
 use Rattle.fw_flow.specs.declared.event.Event.TheVariants.{Inject, Deliver, Notify}
 use Rattle.fw_flow.specs.declared.event.Message.{Message}
 use Rattle.fw_flow.specs.declared.kind.Policy.TheVariants as policy
-use Rattle.fw_flow.specs.Dataflow.{System, Dataflow, kind_of, receiver, out_edges, bounds_of, greatest_number}
+use Rattle.fw_flow.specs.Dataflow.{System, Dataflow, kind_of, receiver, out_edges, bounds_of, greatest_number, NotifiesNobody, KeepsNothing}
 use Rattle.fw_flow.specs.NodeFunction.{sent_by}
 use Rattle.fw_flow.specs.Projection.{events_at}
 use Rattle.fw_flow.specs.WellFormed.{IsWellFormedSystem}
-use Rattle.fw_model.specs.Choice.{Restoring, by_batches, by_bound, by_anything, by_checkpoints, by_events, restoring, until, stamp_of_notice}
+use Rattle.fw_flow.specs.declared.restoring.Restoring.{Restoring}
+use Rattle.fw_flow.specs.declared.restoring.Restoring.TheVariants.{Batches, Bound, Anything, Checkpoints, Events}
+use Rattle.fw_flow.specs.Restoring.{restoring}
+use Rattle.fw_model.specs.Choice.{until}
+use Rattle.fw_model.specs.Covers.{stamp_of_notice}
 use Rattle.fw_model.specs.History.{IsLegal, injected_count, is_exhausted}
-use Rattle.fw_model.specs.LawsOfFiltering.{NotifiesNobody}
 use Rattle.fw_model.specs.Machine.{Machine, events, no_stamps, front_of}
-use Rattle.fw_plain.specs.Engine.{KeepsNothing}
 
 -- The state is that of a plain machine in which these events happened, the oldest first, and in which this is settled, was
 -- acknowledged and is failed: nothing was ever written or collected.
@@ -67,8 +69,8 @@ batch_fronts injected exhausted = map until (range_with_len 0 (injected + 1)) ++
 pub record IsBare (f : Front) (r : Recorded) : Type 0 where
   pub front : r.front ≡ f
   pub notified : r.notified ≡ []
-  pub delivered : r.delivered.items ≡ []
-  pub discarded : r.discarded.items ≡ []
+  pub delivered : r.delivered ≡ []
+  pub discarded : r.discarded ≡ []
 
 -- the records are of these frontiers, and hold nothing else
 abbrev pub AreBare : List Front → List Recorded → Type 0
@@ -79,7 +81,7 @@ AreBare (f ∷ fs) (r ∷ rs) = IsBare f r × AreBare fs rs
 
 -- these frontiers are offered, and no others
 abbrev pub AreListed : List Front → Offered → Type 0
-AreListed fs (Listed records) = AreBare fs records.items
+AreListed fs (Listed records) = AreBare fs records
 AreListed fs (Between least greatest) = ⊥
 
 -- all up to the frontier is offered
@@ -90,21 +92,21 @@ IsUpTo bounds f (Between least greatest) = Names bounds least nothing × Names b
 -- What node p offers, by the way in which it is restored, where so much is settled and so many stamps were acknowledged: an
 -- input what it injected, an output what is settled and acknowledged, any other node what is settled.
 abbrev pub OffersBy : System → List Event → ℕ → Front → ℕ → Restoring → Offered → Type 0
-OffersBy sys h p settled bound by_batches offered =
+OffersBy sys h p settled bound Batches offered =
     AreListed (batch_fronts (min (injected_count p h) greatest_number) (is_exhausted sys h p)) offered
-OffersBy sys h p settled bound by_bound offered =
+OffersBy sys h p settled bound Bound offered =
     IsUpTo (bounds_of sys.flow p) (meet (frontier_of (bounds_of sys.flow p) settled) (frontier_of (bounds_of sys.flow p) (until bound))) offered
-OffersBy sys h p settled bound by_anything offered = IsUpTo (bounds_of sys.flow p) (frontier_of (bounds_of sys.flow p) settled) offered
-OffersBy sys h p settled bound by_checkpoints offered = ⊥
-OffersBy sys h p settled bound by_events offered = ⊥
+OffersBy sys h p settled bound Anything offered = IsUpTo (bounds_of sys.flow p) (frontier_of (bounds_of sys.flow p) settled) offered
+OffersBy sys h p settled bound Checkpoints offered = ⊥
+OffersBy sys h p settled bound Events offered = ⊥
 
 -- what node p offers after a history, the latest event first, where these are settled, acknowledged and failed
 pub record IsOfferOf (sys : System) (h : List Event) (settled : List Front) (bounds : List ℕ) (failed : List Bool) (p : ℕ) (offer : Offer) : Type 0 where
   pub present : offer.present ≡ not (slice_index_or failed p false)
   pub offered : OffersBy sys h p (front_of settled p) (slice_index_or bounds p 0) (restoring (kind_of sys.flow p) policy.None) offer.offered
-  pub delivered : offer.stamps.delivered.items ≡ deliveries_to sys.flow p h
-  pub notified : offer.stamps.notified.items ≡ flat_map (stamp_of_notice p) h
-  pub sent : offer.stamps.sent.items ≡ sent_from sys h p
+  pub delivered : offer.stamps.delivered ≡ deliveries_to sys.flow p h
+  pub notified : offer.stamps.notified ≡ flat_map (stamp_of_notice p) h
+  pub sent : offer.stamps.sent ≡ sent_from sys h p
 
 -- the offers are those of the nodes from p on
 abbrev pub AreOffersFrom : System → List Event → List Front → List ℕ → List Bool → ℕ → List Offer → Type 0

@@ -2,16 +2,15 @@
 ghost use Rattle.std.specs.Prelude.{◌≡◌, ◌↔◌, ◌<◌, ℕ, [], ◌∷◌, length, true, false, IfOk, IsErr, OnErr, OnOk, IsTrue, MatchOption};
 ghost use Rattle.std.specs.Option.{option_copied};
 ghost use Rattle.fw_flow.specs.declared.step.Step.TheVariants.{Inject, Deliver, Notify, Progress, Fail, Recover, Ack};
-ghost use Rattle.fw_flow.specs.Dataflow.{kind_of, bounds_of};
+ghost use Rattle.fw_flow.specs.Dataflow.{kind_of, bounds_of, NotifiesNobody, KeepsNothing, system_of};
 ghost use Rattle.fw_flow.specs.WellFormed.{IsWellFormedSystem};
 ghost use Rattle.fw_model.specs.Choice.{IsLargest};
 ghost use Rattle.fw_model.specs.History.{IsLegal};
-ghost use Rattle.fw_model.specs.LawsOfFiltering.{NotifiesNobody};
-ghost use Rattle.fw_model.specs.Plain.{system_of};
 ghost use Rattle.fw_model.specs.Machine.{first_state, events, front_of};
 ghost use Rattle.fw_frontier.specs.Front.{frontier_of};
 ghost use Rattle.fw_model.specs.Steps.{Steps, MayAcknowledge, HasSomethingAt, offers as spec_offers};
-ghost use Rattle.fw_plain.specs.Engine.{Standing, KeepsNothing, is_plain_step, outcome_of};
+ghost use Rattle.fw_flow.specs.Step.{is_plain_step};
+ghost use Rattle.fw_plain.specs.Engine.{Standing, outcome_of};
 
 use crate::events::Events;
 use crate::failed::{any_failed, any_live, is_failed, none_failed, with_failed};
@@ -22,7 +21,7 @@ use crate::{Effect, Stepped};
 use fw_flow::{Choice, EdgeId, Event, Flow, Kind, NodeId, Step};
 use fw_frontier::Front;
 use fw_lines::Batches;
-use fw_model::plain::{complete_frontiers, next_batch, next_message, recs_at};
+use crate::scan::{complete_frontiers, next_batch, next_message, recs_at};
 use fw_monitor::largest;
 use fw_time::Stamp;
 use std::alloc::{AllocError, Global};
@@ -44,7 +43,7 @@ pub struct Engine {
 }
 
 impl Model for Engine {
-    ghost use Rattle.fw_model.specs.Plain.{system_of};
+    ghost use Rattle.fw_flow.specs.Dataflow.{system_of};
     ghost use Rattle.fw_plain.specs.Engine.{Standing, state_of, IsSound};
 
     ghost Value = { Standing };

@@ -1,8 +1,8 @@
 //! Which nodes are failed: one flag for each node.
 ghost use Rattle.std.specs.Prelude.{◌≡◌, false, true, not, ◌||◌, map, slice_index_or, IfOk};
-ghost use Rattle.fw_model.specs.Machine.{places};
 ghost use Rattle.fw_model.specs.Steps.{is_one_of};
 ghost use Rattle.fw_plain.specs.Failed as spec;
+ghost use Rattle.fw_flow.specs.Dataflow.{places};
 
 use fw_flow::{Flow, NodeId};
 use std::alloc::{AllocError, Global};

@@ -1,7 +1,7 @@
 //! A frontier for each node.
 ghost use Rattle.std.specs.Prelude.{◌≡◌, not, ◌&&◌, map, length, IfOk};
-ghost use Rattle.fw_flow.specs.Dataflow.{bounds_of};
-ghost use Rattle.fw_model.specs.Machine.{no_stamps, places};
+ghost use Rattle.fw_flow.specs.Dataflow.{bounds_of, places};
+ghost use Rattle.fw_model.specs.Machine.{no_stamps};
 ghost use Rattle.fw_plain.specs.Fronts as spec;
 ghost use Rattle.fw_plain.specs.Fronts.{IsGrown, AreGrown, IsCut, AreCut};
 

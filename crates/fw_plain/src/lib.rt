@@ -1,4 +1,4 @@
-//! The plain engine: it keeps the list of events and finds everything by scanning it.
+//! The plain engine: it keeps the list of events and finds everything by scanning it (`scan`).
 #![tactic(auto)]
 
 mod engine;
@@ -8,6 +8,7 @@ mod fronts;
 mod offers;
 mod output;
 mod restoring;
+pub mod scan;
 mod stepped;
 
 pub use engine::Engine;

@@ -5,21 +5,23 @@ ghost use Rattle.fw_time.specs.declared.stamp.Bounds.{Bounds as Domain};
 ghost use Rattle.fw_frontier.specs.Frontier.{meet};
 ghost use Rattle.fw_frontier.specs.Front.{frontier_of, IsCanonical, Names};
 ghost use Rattle.fw_flow.specs.declared.kind.Policy.TheVariants as policy;
-ghost use Rattle.fw_flow.specs.Dataflow.{kind_of, bounds_of, greatest_number};
+ghost use Rattle.fw_flow.specs.Dataflow.{kind_of, bounds_of, greatest_number, system_of};
 ghost use Rattle.fw_model.specs.Choice as choices;
-ghost use Rattle.fw_model.specs.Choice.{restoring, stamp_of_notice};
+ghost use Rattle.fw_flow.specs.Restoring.{restoring};
+ghost use Rattle.fw_model.specs.Covers.{stamp_of_notice};
 ghost use Rattle.fw_model.specs.Machine.{Machine, is_failed, front_of};
-ghost use Rattle.fw_model.specs.Plain.{system_of, AreAtNodes};
-ghost use Rattle.fw_monitor.specs.Offers.{AreOffersIn};
+ghost use Rattle.fw_model.specs.Offers.{AreOffersIn};
 ghost use Rattle.fw_plain.specs.Offered as spec;
 ghost use Rattle.fw_plain.specs.Offered.{StandsBy, OffersBy, AreBare, IsBare};
+ghost use Rattle.fw_model.specs.History.{AreAtNodes};
 
 use fw_flow::{
-    Counted, EdgeId, Event, Flow, Kind, Message, NodeId, Offer, Offered, Recorded, Stamps,
+    Counted, CountedMessages, EdgeId, Event, Flow, Kind, Message, NodeId, Notices, OfEdges, Offer,
+    Offered, Recorded, Records, SentTable, Stamps,
 };
 use fw_frontier::Front;
 use fw_lines::Batches;
-use fw_model::plain::{injected_count, sent_by};
+use crate::scan::{injected_count, sent_by};
 use fw_time::Stamp;
 use std::alloc::{AllocError, Global};
 
@@ -49,10 +51,13 @@ pub(crate) fn offers(
         let (front, bound) = (&settled[place], bounds[place]);
         let offered = offered(alloc, flow, batches, events, node, front, bound)?;
         let stamps = stamps(alloc, flow, batches, events, node)?;
+        // No node is notified, so there is no sequence.
+        let table = SentTable::new(alloc);
         offers.push(Offer {
             present: !failed[place],
             offered,
             stamps,
+            table,
         })?;
     }
     Ok(offers)
@@ -77,7 +82,8 @@ fn offered(
         Kind::Input => {
             let injected = injected_count(events, node);
             let exhausted = injected == batches.count(node.place());
-            Ok(Offered::Listed(records(alloc, injected, exhausted)?))
+            let records = records(alloc, injected, exhausted)?;
+            Ok(Offered::Listed(Records::of(records)))
         }
         Kind::OutputEpoch | Kind::OutputNumber => Ok(Offered::Between {
             least: Front::empty(alloc, &flow.domain(node))?,
@@ -132,8 +138,8 @@ fn bare(alloc: Global, front: Front) -> Recorded
     Recorded {
         front,
         notified: Front::all(alloc),
-        delivered: Vec::new(alloc),
-        discarded: Vec::new(alloc),
+        delivered: OfEdges::of(Vec::new(alloc)),
+        discarded: OfEdges::of(Vec::new(alloc)),
     }
 }
 
@@ -146,15 +152,15 @@ fn stamps(
     node: NodeId,
 ) -> Result<Stamps, AllocError>
     requires { AreAtNodes flow.now (reverse events.now) }
-    ensures delivered { IfOk result (λ s. s.delivered.items ≡ spec.deliveries_to flow.now node (reverse events.now)) }
-    ensures notified { IfOk result (λ s. s.notified.items ≡ flat_map (stamp_of_notice node) (reverse events.now)) }
+    ensures delivered { IfOk result (λ s. s.delivered ≡ spec.deliveries_to flow.now node (reverse events.now)) }
+    ensures notified { IfOk result (λ s. s.notified ≡ flat_map (stamp_of_notice node) (reverse events.now)) }
     ensures sent { IfOk result
-        (λ s. s.sent.items ≡ spec.sent_from (system_of flow.now batches.now) (reverse events.now) node) }
+        (λ s. s.sent ≡ spec.sent_from (system_of flow.now batches.now) (reverse events.now) node) }
 {
     Ok(Stamps {
-        delivered: delivered(alloc, flow, events, node)?,
-        notified: notified(alloc, events, node)?,
-        sent: sent(alloc, flow, batches, events, node)?,
+        delivered: CountedMessages::of(delivered(alloc, flow, events, node)?),
+        notified: Notices::of(notified(alloc, events, node)?),
+        sent: CountedMessages::of(sent(alloc, flow, batches, events, node)?),
     })
 }
 
@@ -188,7 +194,7 @@ fn add_delivery(
 {
     if let Event::Deliver { edge, message } = event {
         if flow.dst(*edge) == node {
-            delivered.push(alone(*edge, message)?)?;
+            delivered.push(alone(*edge, message))?;
         }
     }
     Ok(())
@@ -244,19 +250,19 @@ fn add_sent(sent: &mut Vec<Counted>, edge: EdgeId, messages: &[Message]) -> Resu
     ensures { OnOk result (sent.new.items ≡ sent.old.items ++ map (spec.alone edge) messages.now) }
 {
     for message in messages {
-        sent.push(alone(edge, message)?)?;
+        sent.push(alone(edge, message))?;
     }
     Ok(())
 }
 
 /// A message on an edge, alone.
-fn alone(edge: EdgeId, message: &Message) -> Result<Counted, AllocError>
-    ensures { IfOk result (λ c. c ≡ spec.alone edge message.now) }
+fn alone(edge: EdgeId, message: &Message) -> Counted
+    ensures { result ≡ spec.alone edge message.now }
 {
-    Ok(Counted {
+    Counted {
         edge,
         at: message.at.copy(),
-        causes: message.causes.copy()?,
+        causes: message.causes.copy(),
         count: 1,
-    })
+    }
 }

@@ -1,8 +1,8 @@
 //! What an output may acknowledge.
 ghost use Rattle.std.specs.Prelude.{◌≡◌};
 ghost use Rattle.fw_time.specs.Stamp.{leq, same};
-ghost use Rattle.fw_model.specs.Plain.{system_of};
 ghost use Rattle.fw_plain.specs.Output as spec;
+ghost use Rattle.fw_flow.specs.Dataflow.{system_of};
 
 use fw_flow::{Event, Flow, NodeId};
 use fw_lines::Batches;

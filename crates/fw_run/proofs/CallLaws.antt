@@ -5,26 +5,21 @@ use Rattle.std.specs.Prelude.{IsSome}
 use Rattle.fw_outside.specs.declared.fault.OutFault.{OutFault}
 use Rattle.fw_outside.specs.Outside.{SinkView}
 use Rattle.fw_lines.specs.declared.refusal.Refusal.{Refusal}
-use Rattle.fw_model.specs.Plain.{system_of}
+use Rattle.fw_flow.specs.Dataflow.{system_of}
 use Rattle.fw_run.proofs.DecidedLaws.{texts-decided}
-use Rattle.fw_run.proofs.TextLaws.{ready, one_first_refusal, accepted_or_refused}
+use Rattle.fw_run.proofs.TextLaws.{one_first_refusal, accepted_or_refused}
 use Rattle.fw_run.specs.declared.reading.Job.{Job}
 use Rattle.fw_run.specs.declared.status.Status.{Status}
 use Rattle.fw_run.specs.declared.status.Status.TheVariants.{Done, BadWords, Refused, ReadFault, WriteFault, NoMemory}
 use Rattle.fw_run.specs.Call.{Call, HasAccepted, HasRefused, IsPrintout, PrintsAll, PrintsPart, KeepsFolder, AnswersTexts, IsRunEnd, IsRefusalEnd}
 use Rattle.fw_run.specs.Headline.{PrintsRun}
 use Rattle.fw_run.specs.Performing.{Performs}
-use Rattle.fw_run.specs.Reading.{IsReady, IsJob}
+use Rattle.fw_run.specs.Reading.{IsJob}
 use Rattle.fw_run.specs.Status.{IsTellingOf}
 use Rattle.fw_run.specs.Texts.{Texts, AreThere, IsFirstRefusal, IsAskedNoMore, spelled_system}
 use Rattle.fw_run.specs.Words.{Command, run, TextNames}
 
 -- ---- what was printed
-
--- a job is one that the plain engine runs
-pub ready_job : (told : Option (List ℕ → Option (List ℕ))) (names : TextNames) (job : Job) → IsJob told names job → IsReady (system_of job.flow job.batches) job.steps
-ready_job told names job j =
-    subst (λ sys. IsReady sys job.steps) (sym j.system) (subst (λ steps. IsReady (spelled_system j.texts) steps) (sym j.steps) (ready j.texts j.accepted))
 
 -- the text of a job's run is what the call prints that asked for it
 printout_of_job : (call : Call) (names : TextNames) (job : Job) (printed : List ℕ) → call.command ≡ Some (run names) → IsJob call.told names job

@@ -3,11 +3,12 @@ use Rattle.std.proofs.Common.{List, Option, subst, ◌⊎◌, inl, inr}
 use Rattle.std.specs.Prelude.{ℕ}
 use Rattle.fw_lines.specs.declared.refusal.Refusal.{Refusal}
 use Rattle.fw_lines.proofs.ReadLaws.{some_answer as some_inputs}
+use Rattle.fw_flow.specs.Sources.{sources_of}
 use Rattle.fw_flow_text.specs.Grammar as flows
 use Rattle.fw_flow_text.proofs.ReadLaws.{some_answer as some_flow}
 use Rattle.fw_schedule.specs.Grammar as schedules
 use Rattle.fw_schedule.proofs.ReadLaws.{some_answer as some_schedule}
-use Rattle.fw_run.specs.Texts.{Texts, spelled_flow, sources_of, IsFlow, AreInputsOf, AreAccepted, HasText, AreThere, IsFirstRefusal}
+use Rattle.fw_run.specs.Texts.{Texts, spelled_flow, IsFlow, AreInputsOf, AreAccepted, HasText, AreThere, IsFirstRefusal}
 use Rattle.fw_run.specs.Words.{TextNames}
 
 -- where the flow is accepted

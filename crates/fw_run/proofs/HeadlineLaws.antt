@@ -8,18 +8,18 @@ use Rattle.fw_model.proofs.RunLaws.{acknowledgements-in_order}
 use Rattle.fw_flow.specs.declared.choice.Choice.{Choice}
 use Rattle.fw_model.specs.Choice.{View, kept, ever, IsCandidate, IsLargest}
 use Rattle.fw_model.specs.Denotation.{rounds}
-use Rattle.fw_model.specs.LawsOfDenotation.{enough_rounds}
+use Rattle.fw_model.specs.Measure.{enough_rounds}
 use Rattle.fw_model.specs.Machine.{is_failed}
 use Rattle.fw_model.specs.Steps.{Effect, cuts}
 use Rattle.fw_run.proofs.RunLaws.{one_run}
-use Rattle.fw_run.proofs.TextLaws.{ready, well_formed_system}
+use Rattle.fw_run.proofs.TextLaws.{well_formed_system}
 use Rattle.fw_run.specs.Headline.{StaysLegal, AcknowledgesInOrder, ShowsDenotation, HasOneRun, RecoversFailed, CutsToLargest, Headline}
 use Rattle.fw_run.specs.Texts.{Texts, AreAccepted, spelled_system, spelled_steps}
 
 texts-stay_legal : (texts : Texts) → AreAccepted texts → StaysLegal (spelled_system texts) (spelled_steps texts)
 texts-stay_legal texts a count outcomes state r =
-    let fit = ready texts a in
-    runs-legal (spelled_system texts) (take count (spelled_steps texts)) outcomes state fit.well_formed.flow (has_epochs (spelled_system texts) fit.well_formed) r
+    let w = well_formed_system texts a in
+    runs-legal (spelled_system texts) (take count (spelled_steps texts)) outcomes state w.flow (has_epochs (spelled_system texts) w) r
 
 texts-in_order : (texts : Texts) → AcknowledgesInOrder (spelled_system texts) (spelled_steps texts)
 texts-in_order texts outcomes last r = acknowledgements-in_order (spelled_system texts) (spelled_steps texts) outcomes last r

@@ -1,8 +1,6 @@
--- What accepted texts spell is fit for a run, and texts have one answer.
-use Rattle.std.proofs.Common.{◌≡◌, ◌⊎◌, inl, inr, ℕ, ◌^◌, ◌≤◌, true, false, List, [], ◌∷◌, map, length, Option, Some, refl, sym, ◌∙◌, ap, subst, arith}
-use Rattle.std.proofs.lemmas.List.FromFn.{length-map-range_with_len}
+-- What accepted texts spell is a well-formed system, and texts have one answer.
+use Rattle.std.proofs.Common.{◌≡◌, ◌⊎◌, inl, inr, ℕ, List, [], ◌∷◌, map, Option, Some, refl, sym, ◌∙◌, ap, subst, arith}
 use Rattle.std.proofs.lemmas.Option.{same_Some}
-use Rattle.std.specs.List.{AllByRecursion}
 use Rattle.fw_outside.specs.Outside.{IsText, one_more}
 use Rattle.fw_bag.specs.declared.rec.Rec.{Rec}
 use Rattle.fw_lines.specs.declared.refusal.Refusal.{Refusal}
@@ -10,85 +8,31 @@ use Rattle.fw_lines.specs.Batches.{batches_at}
 use Rattle.fw_lines.specs.Inputs as inputs
 use Rattle.fw_lines.specs.Lines.{said_lines}
 use Rattle.fw_lines.proofs.FaultLaws.{sound_or_first}
+use Rattle.fw_lines.proofs.GivenLaws.{sound-batches}
 use Rattle.fw_lines.proofs.ReadLaws as input_texts
-use Rattle.fw_flow.specs.declared.step.Step.{Step}
-use Rattle.fw_flow.specs.declared.step.Step.TheVariants.{Inject, Deliver, Notify, Progress, Checkpoint, Persist, Fail, Recover, Collect, Ack}
-use Rattle.fw_flow.specs.Dataflow.{Dataflow, System}
-use Rattle.fw_flow.specs.Dataflow as dataflow
-use Rattle.fw_flow.specs.WellFormed.{IsWellFormedSystem, IsBatch}
+use Rattle.fw_flow.specs.Dataflow.{Dataflow, System, places, system_of, batches_of_nodes}
+use Rattle.fw_flow.specs.Sources.{sources_of}
+use Rattle.fw_flow.proofs.SystemLaws.{well_formed-given}
+use Rattle.fw_flow.specs.WellFormed.{IsWellFormedSystem}
 use Rattle.fw_flow_text.specs.Grammar as flows
 use Rattle.fw_flow_text.proofs.ReadLaws as flow_texts
 use Rattle.fw_schedule.specs.Grammar.{steps_of}
 use Rattle.fw_schedule.specs.Grammar as schedules
-use Rattle.fw_schedule.specs.Steps.{IsStepOf}
 use Rattle.fw_schedule.proofs.ReadLaws as schedule_texts
-use Rattle.fw_schedule.proofs.StepLaws.{steps_sound}
-use Rattle.fw_time.proofs.EachLaws.{each-weaker}
-use Rattle.fw_model.specs.Machine.{places}
-use Rattle.fw_model.specs.Plain.{system_of, batches_of_nodes}
-use Rattle.fw_plain.specs.Engine.{is_plain_step}
-use Rattle.fw_run.proofs.InputLaws.{each_batch, none_given, few_batches, at_place}
-use Rattle.fw_run.proofs.KindLaws.{spelled-keeps_nothing, spelled-notifies_nobody}
 use Rattle.fw_run.specs.declared.reading.Job.{Job}
-use Rattle.fw_run.specs.Reading.{IsReady, IsJob}
-use Rattle.fw_run.specs.Texts.{Texts, spelled_flow, sources_of, spelled_batches, spelled_system, spelled_steps, AreInputsOf, AreAccepted, HasText, AreThere, AreInputsRefused, IsScheduleRefused, IsFirstRefusal, IsAskedNoMore}
+use Rattle.fw_run.specs.Reading.{IsJob}
+use Rattle.fw_run.specs.Texts.{Texts, spelled_flow, spelled_batches, spelled_system, spelled_steps, AreInputsOf, AreAccepted, HasText, AreThere, AreInputsRefused, IsScheduleRefused, IsFirstRefusal, IsAskedNoMore}
 use Rattle.fw_run.specs.Words.{TextNames}
 
 -- ---- what accepted texts spell
-
--- a step of a schedule is one that the plain engine takes
-plain_step : (flow : Dataflow) (step : Step) → IsStepOf flow step → is_plain_step step ≡ true
-plain_step flow (Inject s) h = refl
-plain_step flow (Deliver e at) h = refl
-plain_step flow (Notify p at) h = refl
-plain_step flow Progress h = refl
-plain_step flow (Checkpoint p) h = absurd h
-plain_step flow Persist h = absurd h
-plain_step flow (Fail ps) h = refl
-plain_step flow Recover h = refl
-plain_step flow Collect h = absurd h
-plain_step flow (Ack o) h = refl
-
-few_epochs : (texts : Texts) → AreInputsOf (spelled_flow texts.flow) texts.inputs → (p : ℕ) → length (dataflow.batches_of (spelled_system texts) p) ≤ 2 ^ 20
-unfolding dataflow.batches_of
-few_epochs texts a p =
-    let flow = spelled_flow texts.flow in
-    at_place (λ b. length b ≤ 2 ^ 20) (inputs.batches_of (sources_of flow) (said_lines texts.inputs)) (length flow.nodes) p (omega arith) (few_batches (sources_of flow) (said_lines texts.inputs) p a.sound)
-
-batches-of_inputs : (texts : Texts) (p : ℕ) → dataflow.is_input_kind (dataflow.kind_of (spelled_flow texts.flow) p) ≡ false → dataflow.batches_of (spelled_system texts) p ≡ []
-unfolding dataflow.batches_of
-batches-of_inputs texts p e =
-    let flow = spelled_flow texts.flow in
-    at_place (λ b. b ≡ []) (inputs.batches_of (sources_of flow) (said_lines texts.inputs)) (length flow.nodes) p refl (none_given flow (places flow) (said_lines texts.inputs) p e)
-
-bags-of_inputs : (texts : Texts) (p : ℕ) → AllByRecursion IsBatch (dataflow.batches_of (spelled_system texts) p)
-unfolding dataflow.batches_of
-bags-of_inputs texts p =
-    let flow = spelled_flow texts.flow in
-    at_place (AllByRecursion IsBatch) (inputs.batches_of (sources_of flow) (said_lines texts.inputs)) (length flow.nodes) p tt (each_batch (sources_of flow) (said_lines texts.inputs) p)
 
 -- the system of accepted texts is well formed
 pub well_formed_system : (texts : Texts) → AreAccepted texts → IsWellFormedSystem (spelled_system texts)
 well_formed_system texts a =
     let flow = spelled_flow texts.flow in
-    record {
-      flow = a.flow.checked.well_formed;
-      one_each = length-map-range_with_len (inputs.batches_of (sources_of flow) (said_lines texts.inputs)) 0 (length flow.nodes);
-      of_inputs = batches-of_inputs texts;
-      few = few_epochs texts a.inputs;
-      batches = bags-of_inputs texts;
-    }
-
--- what accepted texts spell is fit for the plain engine
-pub ready : (texts : Texts) → AreAccepted texts → IsReady (spelled_system texts) (spelled_steps texts)
-ready texts a =
-    let flow = spelled_flow texts.flow in
-    record {
-      well_formed = well_formed_system texts a;
-      keeps_nothing = spelled-keeps_nothing texts.flow;
-      notifies_nobody = spelled-notifies_nobody texts.flow;
-      plain = each-weaker (IsStepOf flow) (λ step. is_plain_step step ≡ true) (spelled_steps texts) (plain_step flow) (steps_sound flow (said_lines texts.schedule));
-    }
+    let lines = said_lines texts.inputs in
+    let given = inputs.batches_of (sources_of flow) lines in
+    well_formed-given flow given a.flow.checked.well_formed (sound-batches (sources_of flow) lines given a.inputs.sound (λ node. refl))
 
 -- ---- what was read
 

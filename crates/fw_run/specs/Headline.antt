@@ -8,7 +8,7 @@ use Rattle.fw_flow.specs.Dataflow.{System}
 use Rattle.fw_model.specs.Choice.{View, IsCandidate, IsLargest}
 use Rattle.fw_model.specs.Denotation.{Family, IsDenotation}
 use Rattle.fw_model.specs.History.{IsLegal}
-use Rattle.fw_model.specs.LawsOfRuns.{IsDenoted, stamps_acknowledged, first_stamps}
+use Rattle.fw_model.specs.Acknowledgements.{IsDenoted, stamps_acknowledged, first_stamps}
 use Rattle.fw_model.specs.Machine.{Machine, events, first_state, bound_of, is_failed}
 use Rattle.fw_model.specs.Steps.{cuts, Outcome, did, Steps, Run}
 use Rattle.fw_run.specs.Printed.{text_of}

@@ -11,9 +11,8 @@ use Rattle.fw_flow.specs.declared.choice.Cut.TheVariants.{Present, At}
 use Rattle.fw_flow.specs.declared.kind.Kind.{Kind}
 use Rattle.fw_flow.specs.declared.kind.Kind.TheVariants.{OutputNumber}
 use Rattle.fw_flow.specs.Counting.{how_many}
-use Rattle.fw_flow.specs.Dataflow.{Dataflow, node_at, kind_of}
+use Rattle.fw_flow.specs.Dataflow.{Dataflow, node_at, kind_of, places}
 use Rattle.fw_model.specs.Choice.{cut_of}
-use Rattle.fw_model.specs.Machine.{places}
 use Rattle.fw_model.specs.Steps.{Effect, quiet, acked, cuts, lows, Outcome, did, idle, front_of_cut}
 
 -- ` KEY:VALUE`

@@ -1,17 +1,14 @@
 -- What is read before a run begins.
-use Rattle.std.specs.Prelude.{◌≡◌, ℕ, ◌<◌, List, length, Option, true}
-use Rattle.std.specs.List.{AllByRecursion}
+use Rattle.std.specs.Prelude.{◌≡◌, ℕ, ◌<◌, List, length, Option}
 use Rattle.fw_lines.specs.declared.fault.ReadFault.{ReadFault}
 use Rattle.fw_lines.specs.declared.fault.ReadFault.TheVariants as lines
 use Rattle.fw_lines.specs.declared.refusal.Code.{Code}
 use Rattle.fw_lines.specs.declared.refusal.Refusal.{Refusal}
 use Rattle.fw_lines.specs.Faults.{IsOfWhole}
 use Rattle.fw_flow.specs.declared.step.Step.{Step}
-use Rattle.fw_flow.specs.Dataflow.{System}
+use Rattle.fw_flow.specs.Dataflow.{System, NotifiesNobody, KeepsNothing, system_of}
 use Rattle.fw_flow.specs.WellFormed.{IsWellFormedSystem}
-use Rattle.fw_model.specs.Plain.{system_of}
-use Rattle.fw_model.specs.LawsOfFiltering.{NotifiesNobody}
-use Rattle.fw_plain.specs.Engine.{KeepsNothing, is_plain_step}
+use Rattle.fw_flow.specs.Step.{ArePlain}
 use Rattle.fw_run.specs.declared.reading.JobFault.{JobFault}
 use Rattle.fw_run.specs.declared.reading.JobFault.TheVariants.{Failed, Refused, NoMemory}
 use Rattle.fw_run.specs.declared.reading.Job.{Job}
@@ -46,4 +43,4 @@ pub record IsReady (sys : System) (steps : List Step) : Type 0 where
   pub well_formed : IsWellFormedSystem sys
   pub keeps_nothing : KeepsNothing sys.flow
   pub notifies_nobody : NotifiesNobody sys.flow
-  pub plain : AllByRecursion (λ step. is_plain_step step ≡ true) steps
+  pub plain : ArePlain steps

@@ -1,6 +1,5 @@
 -- What the three texts of a run spell, and which of them is refused.
-use Rattle.std.specs.Prelude.{◌≡◌, ◌⊎◌, ℕ, ◌≤◌, if◌then◌else◌, List, [], ◌∷◌, map, length, Option}
-use Rattle.std.specs.List.{flat_map}
+use Rattle.std.specs.Prelude.{◌≡◌, ◌⊎◌, ℕ, ◌≤◌, List, map, length, Option}
 use Rattle.fw_bag.specs.declared.rec.Rec.{Rec}
 use Rattle.fw_outside.specs.Outside.{IsText, one_more}
 use Rattle.fw_lines.specs.declared.refusal.Refusal.{Refusal}
@@ -9,13 +8,13 @@ use Rattle.fw_lines.specs.Inputs.{line_fault, size_limit}
 use Rattle.fw_lines.specs.Inputs as inputs
 use Rattle.fw_lines.specs.Lines.{said_lines}
 use Rattle.fw_flow.specs.declared.step.Step.{Step}
-use Rattle.fw_flow.specs.Dataflow.{Dataflow, System, node_at, kind_of, is_input_kind}
+use Rattle.fw_flow.specs.Dataflow.{Dataflow, System, places}
 use Rattle.fw_flow.specs.Raw.{flow_of}
+use Rattle.fw_flow.specs.Sources.{sources_of}
 use Rattle.fw_flow_text.specs.Grammar.{declared_by}
 use Rattle.fw_flow_text.specs.Grammar as flows
 use Rattle.fw_schedule.specs.Grammar.{steps_of}
 use Rattle.fw_schedule.specs.Grammar as schedules
-use Rattle.fw_model.specs.Machine.{places}
 use Rattle.fw_run.specs.Words.{TextNames}
 
 -- the three texts of a run
@@ -27,14 +26,6 @@ pub record Texts : Type 0 where
 -- the dataflow that a text declares
 abbrev pub spelled_flow : List ℕ → Dataflow
 spelled_flow text = flow_of (declared_by (said_lines text))
-
--- the node at a place by its name, if it is an input
-abbrev pub source_at : Dataflow → ℕ → List (List ℕ × ℕ)
-source_at flow place = if is_input_kind (kind_of flow place) then ((node_at flow place).name, place) ∷ [] else []
-
--- the inputs of a dataflow by their names, in order of the nodes
-abbrev pub sources_of : Dataflow → List (List ℕ × ℕ)
-sources_of flow = flat_map (source_at flow) (places flow)
 
 -- for each node of a dataflow the batches that a text gives it, by epoch
 abbrev pub spelled_batches : Dataflow → List ℕ → List (List (List Rec))
@@ -52,7 +43,7 @@ spelled_steps texts = steps_of (spelled_flow texts.flow) (said_lines texts.sched
 abbrev pub IsFlow : List ℕ → Type 0
 IsFlow text = flows.IsAccepted text (spelled_flow text)
 
--- the text gives batches to inputs of the dataflow
+-- the text gives batches to sources of the dataflow
 pub record AreInputsOf (flow : Dataflow) (text : List ℕ) : Type 0 where
   pub size : length text ≤ size_limit
   pub sound : BreakNoRule (line_fault (sources_of flow)) (said_lines text)

@@ -1,7 +1,8 @@
 //! The steps are taken and what comes of them is printed.
 ghost use Rattle.std.specs.Prelude.{◌≡◌, true};
-ghost use Rattle.fw_model.specs.Plain.{system_of};
-ghost use Rattle.fw_plain.specs.Engine.{is_plain_step, outcome_of};
+ghost use Rattle.fw_flow.specs.Dataflow.{system_of};
+ghost use Rattle.fw_flow.specs.Step.{is_plain_step};
+ghost use Rattle.fw_plain.specs.Engine.{outcome_of};
 ghost use Rattle.fw_run.specs.Performing.{PrintsStep, Performs, shown_bytes};
 ghost use Rattle.fw_run.specs.Printed as spec;
 ghost use Rattle.fw_run.specs.Reading.{IsReady};

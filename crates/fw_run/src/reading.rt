@@ -1,23 +1,24 @@
 //! The three texts are fetched and read, each before the next one is fetched.
-ghost use Rattle.std.specs.Prelude.{◌≡◌, ◌++◌, ◌^◌, ◌<◌, ◌≤◌, length, IsNone, IfOk, IfErr, IsErrOf};
+ghost use Rattle.std.specs.Prelude.{◌≡◌, ◌^◌, ◌<◌, ◌≤◌, IfOk, IfErr, IsErrOf};
 ghost use Rattle.fw_outside.specs.Outside.{Rose, IsText, one_more};
 ghost use Rattle.fw_lines.specs.Inputs as inputs;
-ghost use Rattle.fw_lines.specs.Sources.{node_of};
-ghost use Rattle.fw_flow.specs.Dataflow.{node_at};
+ghost use Rattle.fw_flow.specs.Dataflow.{KeepsNothing, NotifiesNobody, system_of};
+ghost use Rattle.fw_flow.specs.Sources.{sources_of};
+ghost use Rattle.fw_flow.specs.Step.{ArePlain};
+ghost use Rattle.fw_flow.specs.WellFormed.{IsWellFormedSystem};
 ghost use Rattle.fw_flow_text.specs.Grammar as flows;
 ghost use Rattle.fw_schedule.specs.Grammar as schedules;
-ghost use Rattle.fw_run.specs.Reading.{IfRefused, IsTooLarge, IsJob};
-ghost use Rattle.fw_run.specs.Texts as spec;
+ghost use Rattle.fw_run.specs.Reading.{IfRefused, IsTooLarge, IsJob, IsReady};
 ghost use Rattle.fw_run.specs.Words.{text_names_in};
 ghost use Rattle.fw_run.specs.Texts.{HasText, IsFlowRefused, AreInputsRefused, IsScheduleRefused, IsFirstRefusal, IsAskedNoMore};
 
 use crate::words::RunWords;
-use fw_flow::laws::names_are_distinct;
-use fw_flow::{Flow, NodeId};
+use fw_flow::Flow;
+use fw_flow::laws::system_is_well_formed;
 use fw_flow_text::{FLOW_LIMIT, read_flow};
-use fw_lines::{Batches, Code, INPUTS_LIMIT, ReadFault, Refusal, SourceNames, read_batches};
+use fw_lines::{Batches, Code, INPUTS_LIMIT, ReadFault, Refusal, read_batches};
 use fw_outside::{FetchFault, Folder};
-use fw_schedule::{SCHEDULE_LIMIT, Steps, read_schedule};
+use fw_schedule::{SCHEDULE_LIMIT, Schedule, read_schedule};
 use std::alloc::{AllocError, Global};
 
 /// What the three texts spell.
@@ -25,7 +26,7 @@ use std::alloc::{AllocError, Global};
 pub struct Job {
     pub flow: Flow,
     pub batches: Batches,
-    pub steps: Steps,
+    pub steps: Schedule,
 }
 
 /// Why no run begins.
@@ -69,6 +70,7 @@ pub(crate) fn read_job<F: Folder>(
     folder: &mut F,
 ) -> Result<Job, JobFault>
     ensures job { IfOk result (IsJob (F.texts folder.old) (text_names_in words.now)) }
+    ensures ready { IfOk result (λ job. IsReady (system_of job.flow job.batches) job.steps) }
     ensures refused { IfErr result (IfRefused (IsFirstRefusal (F.texts folder.old) (text_names_in words.now))) }
     ensures failed { IsErrOf result JobFault.Failed → Rose (F.fault_count folder.old) (F.fault_count folder.new) }
     ensures never_falls { F.fault_count folder.old ≤ F.fault_count folder.new }
@@ -88,6 +90,8 @@ pub(crate) fn read_job<F: Folder>(
 // The flow of the text under a name.
 fn fetch_flow<F: Folder>(alloc: Global, folder: &mut F, name: &str) -> Result<Flow, JobFault>
     ensures flow { IfOk result (λ flow. HasText (F.texts folder.old) name.now (λ text. flows.IsAccepted text flow)) }
+    ensures keeps_nothing { IfOk result KeepsNothing }
+    ensures notifies_nobody { IfOk result NotifiesNobody }
     ensures refused { IfErr result (IfRefused (IsFlowRefused (F.texts folder.old) name.now)) }
     ensures failed { IsErrOf result JobFault.Failed → Rose (F.fault_count folder.old) (F.fault_count folder.new) }
     ensures never_falls { F.fault_count folder.old ≤ F.fault_count folder.new }
@@ -106,7 +110,8 @@ fn fetch_inputs<F: Folder>(
     flow: &Flow,
 ) -> Result<Batches, JobFault>
     ensures batches { IfOk result (λ batches. HasText (F.texts folder.old) name.now
-        (λ text. inputs.IsAccepted text (spec.sources_of flow.now) batches)) }
+        (λ text. inputs.IsAccepted text (sources_of flow.now) batches)) }
+    ensures well_formed { IfOk result (λ batches. IsWellFormedSystem (system_of flow.now batches)) }
     ensures refused { IfErr result (IfRefused (AreInputsRefused (F.texts folder.old) name.now flow.now)) }
     ensures failed { IsErrOf result JobFault.Failed → Rose (F.fault_count folder.old) (F.fault_count folder.new) }
     ensures never_falls { F.fault_count folder.old ≤ F.fault_count folder.new }
@@ -114,8 +119,10 @@ fn fetch_inputs<F: Folder>(
     ensures texts_stay { F.texts folder.new ≡ F.texts folder.old }
 {
     let text = fetch(alloc, folder, name, INPUTS_LIMIT, Code::I5)?;
-    let sources = sources_of(alloc, flow)?;
-    Ok(read_batches(alloc, &text, &sources)?)
+    let sources = flow.source_names(alloc)?;
+    let batches = read_batches(alloc, &text, &sources)?;
+    system_is_well_formed(flow, &batches);
+    Ok(batches)
 }
 
 // The steps of the text under a name.
@@ -124,9 +131,10 @@ fn fetch_schedule<F: Folder>(
     folder: &mut F,
     name: &str,
     flow: &Flow,
-) -> Result<Steps, JobFault>
+) -> Result<Schedule, JobFault>
     ensures steps { IfOk result (λ steps. HasText (F.texts folder.old) name.now
         (λ text. schedules.IsAccepted text flow.now steps)) }
+    ensures plain { IfOk result ArePlain }
     ensures refused { IfErr result (IfRefused (IsScheduleRefused (F.texts folder.old) name.now flow.now)) }
     ensures failed { IsErrOf result JobFault.Failed → Rose (F.fault_count folder.old) (F.fault_count folder.new) }
     ensures never_falls { F.fault_count folder.old ≤ F.fault_count folder.new }
@@ -163,30 +171,4 @@ fn fetch<F: Folder>(
         })),
         Err(FetchFault::NoMemory) => Err(JobFault::NoMemory),
     }
-}
-
-// The inputs of a flow by their names.
-fn sources_of(alloc: Global, flow: &Flow) -> Result<SourceNames, AllocError>
-    ensures { IfOk result (λ sources. sources ≡ spec.sources_of flow.now) }
-{
-    // Each name is new among those before it.
-    names_are_distinct(flow);
-    let mut sources = SourceNames::new(alloc);
-    for place in 0..flow.nodes() as u32 {
-        sources = with_source(sources, flow, place)?;
-    }
-    Ok(sources)
-}
-
-// These inputs, and the node at a place if it is one.
-fn with_source(sources: SourceNames, flow: &Flow, place: u32) -> Result<SourceNames, AllocError>
-    requires there { place < length flow.now.nodes }
-    requires new { IsNone (node_of sources (node_at flow.now place).name) }
-    ensures { IfOk result (λ more. more ≡ sources ++ spec.source_at flow.now place) }
-{
-    let node = NodeId::at(place);
-    if flow.kind(node).is_input() {
-        return sources.with(place, flow.node_name(node).as_bytes());
-    }
-    Ok(sources)
 }

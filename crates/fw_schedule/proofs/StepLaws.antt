@@ -7,6 +7,7 @@ use Rattle.std.specs.List.{AllByRecursion, cons_option}
 use Rattle.std.specs.Option.{option_map, option_and_then, option_map_or, ok_or}
 use Rattle.std.specs.Result.{result_ok}
 use Rattle.std.specs.Str.{bytes_eq}
+use Rattle.fw_time.proofs.EachLaws.{each-weaker}
 use Rattle.fw_time.specs.Stamp.{in_domain}
 use Rattle.fw_time.specs.declared.stamp.Bounds.{Bounds}
 use Rattle.fw_lines.specs.declared.refusal.Code.{Code}
@@ -18,13 +19,14 @@ use Rattle.fw_flow.specs.declared.node.Edge.{Edge}
 use Rattle.fw_flow.specs.declared.step.Step.{Step}
 use Rattle.fw_flow.specs.declared.step.Step.TheVariants as step
 use Rattle.fw_flow.specs.Dataflow.{Dataflow, kind_of, receiver, bounds_of, is_input_kind, is_output_kind}
+use Rattle.fw_flow.specs.Step.{is_plain_step, ArePlain}
 use Rattle.fw_flow.specs.Names.{place_of}
 use Rattle.fw_schedule.specs.declared.form.Form.{Form}
 use Rattle.fw_schedule.specs.declared.form.Form.TheVariants as form
 use Rattle.fw_schedule.specs.Forms.{are_names, form_of}
 use Rattle.fw_schedule.specs.Grammar.{node_named, edge_named, nodes_named, if_kind, node_of_kind, told_in, delivery_of, notification_of, step_of_form, failure_of, step_of, steps_of}
 use Rattle.fw_schedule.specs.Stamps.{stamp_of}
-use Rattle.fw_schedule.specs.Steps.{IsTimeIn, IsNodeOfKind, IsStepOf}
+use Rattle.fw_schedule.specs.Schedule.{IsTimeIn, IsNodeOfKind, IsStepOf}
 
 -- a name stands below the end
 below : (name : List ℕ) (names : List (List ℕ)) (o : Option ℕ) → place_of name names ≡ o → IfSome o (λ place. place < length names)
@@ -112,3 +114,19 @@ one_more flow (Err code) steps h k = k
 pub steps_sound : (flow : Dataflow) (lines : List Said) → AllByRecursion (IsStepOf flow) (steps_of flow lines)
 steps_sound flow [] = tt
 steps_sound flow (line ∷ lines) = one_more flow (step_of flow line.words) (steps_of flow lines) (words_sound flow line.words) (steps_sound flow lines)
+
+-- a step of a schedule is one that the plain engine takes
+plain_step : (flow : Dataflow) (s : Step) → IsStepOf flow s → is_plain_step s ≡ true
+plain_step flow (step.Inject source) h = refl
+plain_step flow (step.Deliver e at) h = refl
+plain_step flow (step.Notify p at) h = refl
+plain_step flow step.Progress h = refl
+plain_step flow (step.Checkpoint p) h = absurd h
+plain_step flow step.Persist h = absurd h
+plain_step flow (step.Fail ps) h = refl
+plain_step flow step.Recover h = refl
+plain_step flow step.Collect h = absurd h
+plain_step flow (step.Ack o) h = refl
+
+pub steps_plain : (flow : Dataflow) (steps : List Step) → AllByRecursion (IsStepOf flow) steps → ArePlain steps
+steps_plain flow steps sound = each-weaker (IsStepOf flow) (λ s. is_plain_step s ≡ true) steps (plain_step flow) sound

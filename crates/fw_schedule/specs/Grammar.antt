@@ -58,7 +58,7 @@ delivery_of flow stamp edge = ok_or (option_map (step.Deliver edge) (told_in (bo
 abbrev pub notification_of : Dataflow → Option (List ℕ) → ℕ → Result Step Code
 notification_of flow stamp node = ok_or (option_map (step.Notify node) (told_in (bounds_of flow node) stamp)) S3
 
--- the step of a form; S2, unless its name is that of an input, an edge, a node or an output
+-- the step of a form; S2, unless its name is that of a source, an edge, a node or an output
 abbrev pub step_of_form : Dataflow → Form (List ℕ) → Result Step Code
 step_of_form flow (form.Inject name) = ok_or (option_map step.Inject (node_of_kind flow is_input_kind name)) S2
 step_of_form flow (form.Deliver name stamp) = option_map_or (delivery_of flow stamp) (edge_named flow name) (Err S2)

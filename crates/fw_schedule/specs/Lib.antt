@@ -1,4 +1,4 @@
 pub mod Forms
 pub mod Grammar
+pub mod Schedule
 pub mod Stamps
-pub mod Steps

@@ -15,7 +15,7 @@ use fw_lines::{Span, is_name};
 /// apart.
 #[derive(Clone, Copy, Debug, PartialEq, Eq)]
 pub enum Form<W> {
-    /// `inject` and an input.
+    /// `inject` and a source.
     Inject(W),
     /// `deliver` and an edge, and perhaps `at` and a stamp.
     Deliver(W, Option<W>),

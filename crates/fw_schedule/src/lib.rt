@@ -3,8 +3,8 @@
 
 mod coordinates;
 mod form;
+mod reader;
 mod schedule;
-mod steps;
 
-pub use schedule::{SCHEDULE_LIMIT, one_answer, read_schedule};
-pub use steps::Steps;
+pub use reader::{SCHEDULE_LIMIT, one_answer, read_schedule};
+pub use schedule::Schedule;

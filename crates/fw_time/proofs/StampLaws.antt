@@ -1,15 +1,14 @@
 -- The order of stamps is a partial order, and `lub` gives least upper bounds.
 use Rattle.std.proofs.Common.{◌≡◌, ℕ, ◌≤◌, Bool, true, false, ◌&&◌, nat_le, cond, List, [], ◌∷◌, length, refl, sym, ap, ◌∙◌, zero, suc, ◌<◌, nat_lt, ◌+◌, ◌++◌, get_or, arith}
 use Rattle.std.proofs.lemmas.Bool.{leb-true, le-leb, false_from_ne_true, and_from, and_parts}
-use Rattle.std.proofs.Math.Bool.{and_assoc, and-true}
 use Rattle.std.proofs.lemmas.Bool.Decides.{nat_tests}
 use Rattle.std.specs.Ordering.{is_lt, nat_cmp, ordering_then}
 use Rattle.std.specs.Cmp.Lexicographic.{slice_cmp}
 use Rattle.std.specs.declared.cmp.Ordering.{Ordering}
 use Rattle.std.specs.declared.cmp.Ordering.TheVariants.{Less, Equal, Greater}
 use Rattle.std.proofs.lemmas.Cmp.{tied_itself, nat_list_cmp_total}
-pub use Rattle.fw_time.specs.NestLaws.{outer-nest, counter-nest, nest-outer}
-use Rattle.fw_time.specs.Stamp.{leq, lub, glb, stamp_cmp, nest, origin, raised}
+pub use Rattle.fw_time.specs.NestLaws.{outer-nest, counter-nest, nest-outer, leq-nest}
+use Rattle.fw_time.specs.Stamp.{leq, same, lub, glb, stamp_cmp, nest, origin, raised}
 
 -- each stamp is at most itself
 pub leq-refl : (s : List ℕ) → leq s s ≡ true
@@ -38,6 +37,16 @@ leq-antisym (x ∷ s) (y ∷ t) h k =
     let e : x ≡ y = omega arith in
     let f : s ≡ t = leq-antisym s t (and_parts _ _ h).1 (and_parts _ _ k).1 in
     ap (λ z. z ∷ s) e ∙ ap (λ u. y ∷ u) f
+
+-- stamps that the test finds the same are one
+pub same-is : (s t : List ℕ) → same s t ≡ true → s ≡ t
+same-is s t e = let p = and_parts (leq s t) (leq t s) e in leq-antisym s t p.0 p.1
+
+pub same-refl : (s : List ℕ) → same s s ≡ true
+same-refl s = and_from (leq s s) (leq s s) (leq-refl s) (leq-refl s)
+
+pub same-from : (s t : List ℕ) → s ≡ t → same s t ≡ true
+same-from s t e = sym (ap (same s) e) ∙ same-refl s
 
 -- only stamps of one length are comparable
 pub leq-length : (s t : List ℕ) → leq s t ≡ true → length s ≡ length t
@@ -153,14 +162,7 @@ before-from_leq (x ∷ s) (y ∷ t) h k =
     step : (x y : ℕ) (o : Ordering) (b : Bool) → nat_le x y ≡ true → (nat_le y x && b) ≡ false → (b ≡ false → is_lt o ≡ true) → is_lt (ordering_then (nat_cmp x y) o) ≡ true
     step x y o b h k r = grind (arith, nat_tests)
 
--- stamps of a loop are ordered by the outer stamp and the counter
-pub leq-nest : (s t : List ℕ) (c d : ℕ) → length s ≡ length t → leq (nest s c) (nest t d) ≡ (leq s t && nat_le c d)
-leq-nest [] [] c d h = and-true (nat_le c d)
-leq-nest [] (y ∷ t) c d h = cc
-leq-nest (x ∷ s) [] c d h = cc
-leq-nest (x ∷ s) (y ∷ t) c d h = ap (λ b. nat_le x y && b) (leq-nest s t c d (omega arith)) ∙ sym (and_assoc (nat_le x y) (leq s t) (nat_le c d))
-
--- and so are their greater coordinates
+-- the greater coordinates of stamps of a loop
 pub lub-nest : (s t : List ℕ) (c d : ℕ) → length s ≡ length t → lub (nest s c) (nest t d) ≡ nest (lub s t) (cond (nat_le c d) d c)
 lub-nest [] [] c d h = refl
 lub-nest [] (y ∷ t) c d h = cc

@@ -13,10 +13,6 @@ leq_suc (x ∷ a) [] i h k = absurd (omega arith)
 leq_suc (x ∷ a) (y ∷ b) zero h k = refl
 leq_suc (x ∷ a) (y ∷ b) (suc i) h k = leq_suc a b i (omega arith) (omega arith)
 
--- one more place compared
-pub leq_more : (a b : List ℕ) (i : ℕ) → i < length a → i < length b → leq (drop i a) (drop i b) ≡ (nat_le (get_or a i 0) (get_or b i 0) && leq (drop (i + 1) a) (drop (i + 1) b))
-leq_more a b i h k = rw add-one (leq_suc a b i h k)
-
 pub length-origin : (s : List ℕ) → length (origin s) ≡ length s
 length-origin [] = refl
 length-origin (x ∷ s) = ap suc (length-origin s)
@@ -85,14 +81,6 @@ raised_more s i k h = take_more (raised s i) k 0 (omega (arith, length-raised s 
 pub origin-replicate : (s : List ℕ) → origin s ≡ replicate (length s) 0
 origin-replicate [] = refl
 origin-replicate (x ∷ s) = ap (λ u. 0 ∷ u) (origin-replicate s)
-
--- what is left without the last coordinate
-pub outer_front : (s front : List ℕ) (c : ℕ) → s ≡ front ++ c ∷ [] → outer s ≡ front
-outer_front s front c e = ap outer e ∙ outer-nest front c
-
--- the last coordinate
-pub counter_last : (s front : List ℕ) (c : ℕ) → s ≡ front ++ c ∷ [] → counter s ≡ c
-counter_last s front c e = ap counter e ∙ counter-nest front c
 
 -- one more coordinate printed after its dot
 pub dotted_more : (xs : List ℕ) (i x : ℕ) → i < length xs → x ≡ get_or xs i 0 → dotted (take i xs) ++ (46 ∷ decimal x) ≡ dotted (take (i + 1) xs)

@@ -11,7 +11,7 @@ use std::marker::Model;
 /// A logical time of any domain: its coordinates, up to four, outermost first. Contracts see it as their list.
 ///
 /// It holds its coordinates in itself, so that no call takes memory.
-#[derive(Debug, PartialEq, Eq, PartialOrd, Ord, Drop)]
+#[derive(Debug, Default, PartialEq, Eq, PartialOrd, Ord, Drop)]
 pub struct Stamp {
     coords: ArrayVec<u32, 4>,
 }

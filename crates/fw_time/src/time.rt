@@ -1,14 +1,15 @@
 //! Logical times of one type per depth of loops.
 ghost use Rattle.std.specs.Prelude.{◌≡◌, ℕ, ◌+◌, ◌<◌, ◌≤◌, List, [], ◌∷◌, length, slice_index, refl};
-ghost use Rattle.fw_time.specs.Stamp.{leq, lub, in_domain, nest};
+ghost use Rattle.std.specs.Ordering.{is_eq};
+ghost use Rattle.fw_time.specs.Stamp.{leq, lub, same, in_domain, nest};
 
 use crate::{Bounds, Stamp};
 
 /// A logical time, which contracts see by its coordinates, outermost first.
 ///
-/// The order is that of the coordinates at each place, a partial order. `lub` gives the least upper bound. No call
-/// takes memory.
-pub trait Time: Copy {
+/// `leq` is the order of the coordinates at each place, a partial order, and `lub` gives the least upper bound in it.
+/// `Ord` is a total order, so that a time may be a key of a map. No call takes memory.
+pub trait Time: Copy + Ord {
     // the coordinates, outermost first
     ghost coords: { Self → List ℕ };
 
@@ -43,6 +44,9 @@ pub trait Time: Copy {
     // times with equal coordinates are equal
     ghost same_coords: { (x y : Self) → coords x ≡ coords y → x ≡ y };
 
+    // the total order finds equal exactly times with equal coordinates
+    ghost told_apart: { (x y : Self) → is_eq (Self.cmp x y) ≡ same (coords x) (coords y) };
+
     // each list of as many coordinates is that of a time
     ghost all_coords: { (s : List ℕ) → length s ≡ places → coords (of_coords s) ≡ s };
 
@@ -75,7 +79,7 @@ pub struct Epoch(pub u32);
 
 impl Time for Epoch {
     ghost use Rattle.std.proofs.Common.{rules};
-    ghost use Rattle.fw_time.specs.NestLaws.{single, one-place};
+    ghost use Rattle.fw_time.specs.NestLaws.{single, single-apart, one-place};
 
     ghost coords = { λ t. t.0 ∷ [] };
 
@@ -105,6 +109,8 @@ impl Time for Epoch {
 
     ghost same_coords = { λ x y e. let h = single x.0 y.0 e in λ i. record { 0 = h i } };
 
+    ghost told_apart = { λ x y. single-apart x.0 y.0 };
+
     ghost all_coords = { one-place };
 
     ghost same_places = { λ x. refl };
@@ -130,7 +136,7 @@ pub struct SeqNo(pub u32);
 
 impl Time for SeqNo {
     ghost use Rattle.std.proofs.Common.{rules};
-    ghost use Rattle.fw_time.specs.NestLaws.{single, one-place};
+    ghost use Rattle.fw_time.specs.NestLaws.{single, single-apart, one-place};
 
     ghost coords = { λ t. t.0 ∷ [] };
 
@@ -159,6 +165,8 @@ impl Time for SeqNo {
     }
 
     ghost same_coords = { λ x y e. let h = single x.0 y.0 e in λ i. record { 0 = h i } };
+
+    ghost told_apart = { λ x y. single-apart x.0 y.0 };
 
     ghost all_coords = { one-place };
 
@@ -189,9 +197,9 @@ pub struct Nest<T> {
 }
 
 impl<T: Time> Time for Nest<T> {
-    ghost use Rattle.std.proofs.Common.{ap, ◌∙◌};
+    ghost use Rattle.std.proofs.Common.{ap, sym, ◌∙◌};
     ghost use Rattle.fw_time.specs.Stamp.{outer, counter};
-    ghost use Rattle.fw_time.specs.NestLaws.{outer-same, counter-same, places-nest, some-nest, places-outer, nest-outer, some_place-from};
+    ghost use Rattle.fw_time.specs.NestLaws.{outer-same, counter-same, nest-apart, places-nest, some-nest, places-outer, nest-outer, some_place-from};
 
     ghost coords = { λ t. nest (T.coords t.outer) t.counter };
 
@@ -235,6 +243,10 @@ impl<T: Time> Time for Nest<T> {
         let o = T.same_coords x.outer y.outer (outer-same (T.coords x.outer) (T.coords y.outer) x.counter y.counter e) in
         let c = counter-same (T.coords x.outer) (T.coords y.outer) x.counter y.counter e in
         λ i. record { outer = o i; counter = c i } };
+
+    ghost told_apart = { λ x y.
+        nest-apart (T.cmp x.outer y.outer) (T.coords x.outer) (T.coords y.outer) x.counter y.counter
+        (T.same_places x.outer ∙ sym (T.same_places y.outer)) (T.told_apart x.outer y.outer) };
 
     ghost all_coords = { λ s h.
         ap (λ u. nest u (counter s)) (T.all_coords (outer s) (places-outer s T.places h))

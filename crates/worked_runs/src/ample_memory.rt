@@ -1,5 +1,5 @@
 //! Calls of bags, of the objects in memory and of the lines of a text that may answer want of memory, and have ample
-//! memory.
+//! memory; and stores that fail at the calls that they are told to.
 ghost use Rattle.std.specs.Prelude.{◌≡◌, None};
 ghost use Rattle.std.specs.Option.{ForSome};
 ghost use Rattle.std.specs.FinMap as map;
@@ -30,8 +30,8 @@ fn bags_add_unite_count_and_take(rt: HostRuntime) -> Result<(), Fail> {
     Ok(())
 }
 
-/// Puts a record, gets it and takes it out.
-pub fn keep_a_record<K: Store>(store: &mut K, into: &mut Vec<u8>) -> Result<(), OutFault>
+// Puts a record, gets it and takes it out.
+fn keep_a_record<K: Store>(store: &mut K, into: &mut Vec<u8>) -> Result<(), OutFault>
     requires { ForSome (K.records store.old) (λ held. map.get held 3 ≡ None) }
 {
     store.put(3, b"record")?;
@@ -58,6 +58,24 @@ fn objects_in_memory_give_what_they_have(rt: HostRuntime) -> Result<(), Fail> {
     let mut sink = FaultlessSink::new(alloc);
     assert_eq!(rt; sink.write(b"piece"), Ok(()));
     assert_eq!(rt; sink.taken(), b"piece".as_slice());
+    Ok(())
+}
+
+#[test]
+fn stores_fail_when_told(rt: HostRuntime) -> Result<(), Fail> {
+    let alloc = rt.alloc();
+    // a put, a get and a removal, and none of the three
+    for (call, kept, faults) in [
+        (0, Err(OutFault::Failed), 1),
+        (1, Err(OutFault::Failed), 1),
+        (2, Err(OutFault::Failed), 1),
+        (3, Ok(()), 0),
+    ] {
+        let mut store = MemStore::new(alloc, vec![in alloc; call]?);
+        let mut into = Vec::new(alloc);
+        assert_eq!(rt; keep_a_record(&mut store, &mut into), kept, "at {call}");
+        assert_eq!(rt; store.faults(), faults, "at {call}");
+    }
     Ok(())
 }
 

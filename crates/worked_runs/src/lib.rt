@@ -1,5 +1,5 @@
-//! Runs of the whole program over memory, one call of each kind over real files, streams and ample memory, and worked
-//! values of times, frontiers, projections and notifications.
+//! What tests need the language for: one call of each kind over real files, streams and ample memory, and the calls of times
+//! and frontiers by their types. Whole runs and other values are rows of `rows_of_runs` and `rows_of_values`.
 #![tactic(auto)]
 
 #[cfg(test)]
@@ -7,24 +7,4 @@ mod adapters;
 #[cfg(test)]
 mod ample_memory;
 #[cfg(test)]
-mod choices;
-#[cfg(test)]
-mod failures;
-#[cfg(test)]
-mod faults;
-#[cfg(test)]
-mod joins;
-#[cfg(test)]
-mod notices;
-#[cfg(test)]
-mod one_select;
-#[cfg(test)]
-mod projections;
-#[cfg(test)]
-mod refusals;
-#[cfg(test)]
-mod runs;
-#[cfg(test)]
 mod times;
-#[cfg(test)]
-mod two_consumers;

@@ -72,47 +72,6 @@ fn below<T: Logical>(
 }
 
 #[test]
-fn cuts_above_a_stamp(rt: HostRuntime) -> Result<(), Fail> {
-    let alloc = rt.alloc();
-    let stairs = Front::until(alloc, &[Stamp::new(&[1, 0]), Stamp::new(&[0, 3])])?;
-    let cut = stairs.cut_above(&Stamp::new(&[0, 1]))?;
-    let text = format!(in alloc; "{stairs}, {cut}")?;
-    assert_eq!(rt; text.as_str(), "until 0.3 1.0, until 0.1 1.0");
-    assert!(rt; cut.subset(&stairs));
-    assert!(rt; !stairs.subset(&cut));
-    assert!(rt; stairs.contains(&Stamp::new(&[0, 2])));
-    assert!(rt; !cut.contains(&Stamp::new(&[0, 2])));
-    let union = cut.join(&stairs)?;
-    let common = cut.meet(&stairs)?;
-    let text = format!(in alloc; "{union}, {common}")?;
-    assert_eq!(rt; text.as_str(), "until 0.3 1.0, until 0.1 1.0");
-    Ok(())
-}
-
-#[test]
-fn ends_with_the_domain(rt: HostRuntime) -> Result<(), Fail> {
-    let alloc = rt.alloc();
-    let bounds = Bounds {
-        greatest: Stamp::new(&[u32::MAX, 3]),
-    };
-    let covers = [
-        ([Stamp::new(&[u32::MAX, 3])], "all"),
-        ([Stamp::new(&[0, 3])], "until 1.0"),
-        ([Stamp::new(&[1, 2])], "until 0.3 2.0"),
-        ([Stamp::new(&[u32::MAX, 0])], "until 0.1"),
-    ];
-    for (stamps, text) in covers {
-        let cover = Front::cover_of(alloc, &stamps, &bounds)?;
-        let printed = format!(in alloc; "{cover}")?;
-        assert_eq!(rt; printed.as_str(), text);
-    }
-    let empty = Front::empty(alloc, &bounds)?;
-    let printed = format!(in alloc; "{empty}")?;
-    assert_eq!(rt; printed.as_str(), "until 0.0");
-    Ok(())
-}
-
-#[test]
 fn comes_back_at_every_depth(rt: HostRuntime) -> Result<(), Fail> {
     let alloc = rt.alloc();
     let one = Bounds {

@@ -2,9 +2,10 @@ use Rattle.std.proofs.Common.{ℕ, ◌<◌, [], length, sym, subst}
 use Rattle.fw_frontier.specs.Front.{Names}
 use Rattle.fw_flow.specs.Dataflow.{bounds_of}
 use Rattle.fw_model.specs.Machine.{front_of}
-use Rattle.fw_model.specs.Choice.{set_of, cut_of, IsLargestBy}
-use Rattle.fw_monitor.specs.Offers.{IsOffered, covers_of}
-use Rattle.fw_monitor.specs.Descent.{bare, choice_of, IsDescent, left_over}
+use Rattle.fw_model.specs.Covers.{set_of}
+use Rattle.fw_model.specs.Choice.{cut_of, IsLargestBy}
+use Rattle.fw_model.specs.Offers.{IsOffered, covers_of}
+use Rattle.fw_monitor.specs.Descent.{choice_of, IsDescent, left_over}
 use Rattle.fw_monitor.proofs.StepLaws.{pass_falls}
 use Rattle.fw_monitor.proofs.StartLaws.{start_encloses, largest_end}
 use Rattle.fw_monitor.proofs.descent.largest.Goals as goal
@@ -14,7 +15,7 @@ pass-requires-clause-encloses c =
     let flow = c.args.flow.now in
     let notes = c.in_ok-notes.notes.items in
     start_encloses flow c.args.offers.now c.in_ok-cuts.cuts.items notes c.in_ok-cuts.ensures.one_each c.in_ok-notes.ensures.one_each c.in_ok-cuts.ensures.greatest
-    (subst (λ xs. (p : ℕ) → p < length flow.nodes → Names (bounds_of flow p) (front_of notes p) (set_of (bare flow) p (cut_of (choice_of xs []) p))) c.deref.ensures.value c.in_ok-notes.ensures.kept)
+    (subst (λ xs. (p : ℕ) → p < length flow.nodes → Names (bounds_of flow p) (front_of notes p) (set_of flow p (cut_of (choice_of xs []) p))) c.deref.ensures.value c.in_ok-notes.ensures.kept)
 
 pub pass-smaller : goal.pass-smaller
 pass-smaller c =
@@ -25,12 +26,12 @@ pass-smaller c =
     subst (λ t. left_over flow new b < left_over flow old t) (sym c.pass-test.true) (pass_falls flow c.args.offers.now old new b c.in_ok-lowered-2.ensures)
 
 pub returns : goal.returns
-returns c = λ sys some e a k.
+returns c = λ some a k.
     let flow = c.args.flow.now in
     let offers = c.args.offers.now in
     let cuts = c.pass.cuts.items in
     let notes = c.pass.notes.items in
     let done = subst (IsDescent flow offers (choice_of cuts notes)) c.pass-test.false c.pass.invariant in
-    let whole = largest_end flow offers (choice_of cuts notes) sys some e done a k in
-    subst (λ xs. IsLargestBy sys (covers_of sys offers) (IsOffered flow offers) (choice_of xs c.of-2.result)) (sym c.of.ensures)
-    (subst (λ ys. IsLargestBy sys (covers_of sys offers) (IsOffered flow offers) (choice_of cuts ys)) (sym c.of-2.ensures) whole)
+    let whole = largest_end flow offers (choice_of cuts notes) some done a k in
+    subst (λ xs. IsLargestBy flow (covers_of flow offers) (IsOffered flow offers) (choice_of xs c.of-2.result)) (sym c.of.ensures)
+    (subst (λ ys. IsLargestBy flow (covers_of flow offers) (IsOffered flow offers) (choice_of cuts ys)) (sym c.of-2.ensures) whole)

@@ -20,8 +20,11 @@ loop-place-preserved c =
     old.step c.in_ok-more.ensures.step refl c.at-node.ensures c.in_ok-more.ensures.holds old.holds in
     record { step = done.0; holds = done.1 }
 
-pub returns-clause-holds : goal.returns-clause-holds
-returns-clause-holds c = λ k has e l.
-    let end = c.nodes-place-end.ensures.count in
-    let past = c.loop-place-test.false in
-    c.loop-place.invariant.holds k has e (omega arith)
+pub returns : goal.returns
+returns c = record {
+  step = c.loop-place.invariant.step;
+  holds = λ k has e l.
+      let end = c.nodes-place-end.ensures.count in
+      let past = c.loop-place-test.false in
+      c.loop-place.invariant.holds k has e (omega arith);
+}

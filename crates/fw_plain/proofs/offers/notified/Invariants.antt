@@ -1,6 +1,6 @@
 use Rattle.std.proofs.Common.{◌≡◌, ◌++◌, length, reverse}
 use Rattle.std.specs.List.{flat_map}
-use Rattle.fw_model.specs.Choice.{stamp_of_notice}
+use Rattle.fw_model.specs.Covers.{stamp_of_notice}
 use Rattle.fw_plain.proofs.offers.notified.Given as goal
 
 abbrev pub invariant-loop-event : goal.invariant-loop-event

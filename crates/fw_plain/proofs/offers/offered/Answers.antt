@@ -1,7 +1,7 @@
 use Rattle.std.proofs.Common.{reverse}
-use Rattle.fw_model.specs.Plain.{system_of}
 use Rattle.fw_plain.proofs.OffersSteps.{input_offers, output_offers}
 use Rattle.fw_plain.proofs.offers.offered.Goals as goal
+use Rattle.fw_flow.specs.Dataflow.{system_of}
 
 pub returns-in_ok-records-in-Input : goal.returns-in_ok-records-in-Input
 returns-in_ok-records-in-Input c =

@@ -1,11 +1,11 @@
 use Rattle.std.proofs.Common.{false, not, List, [], reverse, length, get_or, refl, sym, ap, subst, arith}
 use Rattle.std.proofs.lemmas.List.{get_or_read, length-append}
 use Rattle.fw_flow.specs.declared.choice.Offer.{Offer}
-use Rattle.fw_model.specs.Plain.{system_of}
 use Rattle.fw_plain.specs.Offered.{AreOffersFrom}
 use Rattle.fw_plain.proofs.OffersLaws.{offers-in}
 use Rattle.fw_plain.proofs.OffersSteps.{offer_is, offers_more}
 use Rattle.fw_plain.proofs.offers.offers.Goals as goal
+use Rattle.fw_flow.specs.Dataflow.{system_of}
 
 pub loop-place-preserved : goal.loop-place-preserved
 loop-place-preserved c =
@@ -13,7 +13,7 @@ loop-place-preserved c =
     let h = reverse c.args.events.now in
     let n = c.loop-place.place in
     let offers = c.loop-place.offers.items in
-    let o : Offer = record { present = not (get_or c.args.failed.now n false); offered = c.in_ok-offered.offered; stamps = c.in_ok-stamps.stamps } in
+    let o : Offer = record { present = not (get_or c.args.failed.now n false); offered = c.in_ok-offered.offered; stamps = c.in_ok-stamps.stamps; table = c.new-table.result } in
     record {
       one_each = omega (arith, ap length c.in_ok-push.ensures.items, length-append {A = Offer}, c.loop-place.invariant.one_each);
       each = subst (λ (os : List Offer). AreOffersFrom sys h c.args.settled.now c.args.bounds.now c.args.failed.now 0 os) (sym c.in_ok-push.ensures.items)

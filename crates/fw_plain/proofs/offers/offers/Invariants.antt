@@ -1,7 +1,7 @@
 use Rattle.std.proofs.Common.{◌≡◌, length, reverse}
-use Rattle.fw_model.specs.Plain.{system_of}
 use Rattle.fw_plain.specs.Offered.{AreOffersFrom}
 use Rattle.fw_plain.proofs.offers.offers.Given as goal
+use Rattle.fw_flow.specs.Dataflow.{system_of}
 
 abbrev pub invariant-loop-place : goal.invariant-loop-place
 invariant-loop-place l = record {

@@ -1,6 +1,6 @@
 use Rattle.std.proofs.Common.{◌≡◌, ◌+◌, ◌∙◌, cond, length, ap, subst}
 use Rattle.std.proofs.lemmas.Result.{err_from_is_err_and}
-use Rattle.fw_model.specs.Plain.{system_of}
+use Rattle.fw_flow.specs.Dataflow.{system_of}
 use Rattle.fw_run.specs.Printed.{done_line}
 use Rattle.fw_run.specs.Writing.{Writes}
 use Rattle.fw_run.proofs.RunLaws.{IsSoFar, stops_at_start, stops_at, so_far_next, counted_idle, counted_taken, counted-few, all_so_far, stops_after_steps, writes, ends}

@@ -1,5 +1,5 @@
 use Rattle.std.proofs.Common.{◌≤◌, take}
-use Rattle.fw_model.specs.Plain.{system_of}
+use Rattle.fw_flow.specs.Dataflow.{system_of}
 use Rattle.fw_run.proofs.RunLaws.{IsSoFar}
 use Rattle.fw_run.proofs.perform.perform.Given as goal
 

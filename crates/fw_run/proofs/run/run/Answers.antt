@@ -1,11 +1,8 @@
 use Rattle.std.proofs.Common.{sym}
-use Rattle.fw_run.proofs.CallLaws.{ready_job, same_refusal, keeps_folder}
+use Rattle.fw_run.proofs.CallLaws.{same_refusal, keeps_folder}
 use Rattle.fw_run.specs.Texts.{IsFirstRefusal}
 use Rattle.fw_run.specs.Words.{command_of, text_names_in, words_in}
 use Rattle.fw_run.proofs.run.run.Goals as goal
-
-pub perform-requires : goal.perform-requires
-perform-requires g c = ready_job (g.F.Folder.texts c.args.folder.now) _ c.in-Ok.job c.in-Ok.ensures.job
 
 pub returns-in-Err-Refused-clause-refused : goal.returns-in-Err-Refused-clause-refused
 returns-in-Err-Refused-clause-refused g c refusal e =

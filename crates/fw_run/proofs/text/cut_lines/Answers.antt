@@ -4,7 +4,7 @@ use Rattle.std.specs.List.{flat_map, range_with_len}
 use Rattle.fw_flow.specs.Dataflow.{node_at}
 use Rattle.fw_flow.specs.declared.choice.Cut.TheVariants.{Present}
 use Rattle.fw_run.specs.Printed.{cut_line}
-use Rattle.fw_run.proofs.Ranges.{joined_more}
+use Rattle.fw_flow.proofs.Ranges.{joined_more}
 use Rattle.fw_run.proofs.text.cut_lines.Goals as goal
 
 pub loop-place-preserved : goal.loop-place-preserved

@@ -16,13 +16,13 @@ psi-requires-clause-domains c =
     rw (c.ends-kind.ensures.kind, c.ends-kind.ensures.sender, c.ends-kind.ensures.receiver) (edge-joins c.args.self.now c.ends-kind.ensures.well_formed c.args.edge)
 
 pub returns : goal.returns
-returns c = λ sys same.
+returns c =
     let flow = c.args.self.now in
     let e = c.args.edge in
     let os = c.args.f.now in
     let ends = c.ends-kind.result in
     let is = c.ends-kind.ensures in
     IfOk-weaker c.psi.result (λ g. Names ends.2 g (λ u. in_domain ends.2 u && psi_of_kind ends.1.greatest ends.0 (frontier_of ends.1 os) u))
-    (λ g. Names (bounds_of flow (receiver flow e)) g (psi sys e (frontier_of (bounds_of flow (sender flow e)) os)))
-    (λ g n. psi-named flow is.well_formed e os g sys same (rw (sym is.kind, sym is.sender, sym is.receiver) n))
+    (λ g. Names (bounds_of flow (receiver flow e)) g (psi flow e (frontier_of (bounds_of flow (sender flow e)) os)))
+    (λ g n. psi-named flow is.well_formed e os g (rw (sym is.kind, sym is.sender, sym is.receiver) n))
     c.psi.ensures

@@ -16,13 +16,13 @@ psi_back-requires-clause-domains c =
     rw (c.ends-kind.ensures.kind, c.ends-kind.ensures.sender, c.ends-kind.ensures.receiver) (edge-joins c.args.self.now c.ends-kind.ensures.well_formed c.args.edge)
 
 pub returns : goal.returns
-returns c = λ sys same.
+returns c =
     let flow = c.args.self.now in
     let e = c.args.edge in
     let os = c.args.g.now in
     let ends = c.ends-kind.result in
     let is = c.ends-kind.ensures in
     IfOk-weaker c.psi_back.result (λ g. Names ends.1 g (λ t. in_domain ends.1 t && psi_back_of_kind ends.1.greatest ends.0 (frontier_of ends.2 os) t))
-    (λ g. Names (bounds_of flow (sender flow e)) g (psi_back sys e (frontier_of (bounds_of flow (receiver flow e)) os)))
-    (λ g n. psi_back-named flow e os g sys same (rw (sym is.kind, sym is.sender, sym is.receiver) n))
+    (λ g. Names (bounds_of flow (sender flow e)) g (psi_back flow e (frontier_of (bounds_of flow (receiver flow e)) os)))
+    (λ g n. psi_back-named flow e os g (rw (sym is.kind, sym is.sender, sym is.receiver) n))
     c.psi_back.ensures

@@ -4,10 +4,9 @@ use Rattle.fw_time.specs.Stamp.{Stamp, same}
 use Rattle.fw_bag.specs.Keyed.{sorted}
 use Rattle.fw_flow.specs.declared.event.Event.{Event}
 use Rattle.fw_flow.specs.declared.step.Step.TheVariants.{Ack}
-use Rattle.fw_flow.specs.Dataflow.{receiver}
+use Rattle.fw_flow.specs.Dataflow.{receiver, system_of}
 use Rattle.fw_flow.specs.NodeFunction.{delivered_recs}
 use Rattle.fw_model.specs.Machine.{events}
-use Rattle.fw_model.specs.Plain.{system_of}
 use Rattle.fw_model.specs.Steps.{Steps, MayAcknowledge, acked, did}
 use Rattle.fw_plain.specs.Engine.{Standing, state_of, IsSound}
 use Rattle.fw_plain.proofs.EngineLaws.{sound_after, standing}

@@ -2,16 +2,16 @@ use Rattle.std.proofs.Common.{◌≡◌, List, IfOk, sym, subst}
 use Rattle.fw_flow.specs.declared.choice.Choice.{Choice}
 use Rattle.fw_flow.specs.declared.choice.Offer.{Offer}
 use Rattle.fw_flow.specs.declared.event.Event.{Event}
-use Rattle.fw_flow.specs.Dataflow.{System}
+use Rattle.fw_flow.specs.Dataflow.{System, system_of}
 use Rattle.fw_model.specs.Choice.{IsConsistentBy, IsLargestBy, IsLargest}
 use Rattle.fw_model.specs.Machine.{is_failed}
-use Rattle.fw_model.specs.Plain.{system_of, AreAtNodes}
 use Rattle.fw_model.specs.Steps.{offers}
-use Rattle.fw_monitor.specs.Offers.{AreOffersIn, AreOffersOf, AreAscending, IsOffered, covers_of}
+use Rattle.fw_model.specs.Offers.{AreOffersIn, AreOffersOf, AreAscending, IsOffered, covers_of}
 use Rattle.fw_plain.specs.Engine.{Standing, state_of}
 use Rattle.fw_plain.proofs.EngineLaws.{at_nodes}
 use Rattle.fw_plain.proofs.RecoveryLaws.{stands_by, chosen}
 use Rattle.fw_plain.proofs.engine.Engine.choose.Goals as goal
+use Rattle.fw_model.specs.History.{AreAtNodes}
 
 pub offers-requires-clause-at_nodes : goal.offers-requires-clause-at_nodes
 offers-requires-clause-at_nodes c =
@@ -40,5 +40,5 @@ returns c =
     c.as_slice.result.now c.self.invariant c.as_slice.ensures c.deref.ensures.value c.deref-2.ensures.value c.deref-3.ensures.value) in
     subst (λ (w : Standing). IfOk c.largest.result (λ choice. IsLargest w.sys w.state (offers w.sys w.state) choice)) c.self.view_is
     (chosen sys state os c.largest.result c.self.invariant given
-    (subst (λ (xs : List Offer). (s : System) (some : Choice) → s.flow ≡ e.flow → AreAscending e.flow xs → IsConsistentBy s (covers_of s xs) (IsOffered e.flow xs) some
-    → IfOk c.largest.result (IsLargestBy s (covers_of s xs) (IsOffered e.flow xs))) c.deref-4.ensures.value c.largest.ensures))
+    (subst (λ (xs : List Offer). (some : Choice) → AreAscending e.flow xs → IsConsistentBy e.flow (covers_of e.flow xs) (IsOffered e.flow xs) some
+    → IfOk c.largest.result (IsLargestBy e.flow (covers_of e.flow xs) (IsOffered e.flow xs))) c.deref-4.ensures.value c.largest.ensures))

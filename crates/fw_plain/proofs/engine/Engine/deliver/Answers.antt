@@ -3,13 +3,13 @@ use Rattle.std.specs.Option.{option_copied}
 use Rattle.fw_flow.specs.declared.event.Event.{Event}
 use Rattle.fw_flow.specs.declared.event.Message.{Message}
 use Rattle.fw_flow.specs.declared.step.Step.TheVariants.{Deliver}
-use Rattle.fw_flow.specs.Dataflow.{receiver}
-use Rattle.fw_model.specs.Plain.{system_of, AreAtNodes}
+use Rattle.fw_flow.specs.Dataflow.{receiver, system_of}
 use Rattle.fw_model.specs.Steps.{IsNextMessage, quiet, did}
 use Rattle.fw_model.proofs.Decisions.{two_ways}
 use Rattle.fw_plain.specs.Engine.{state_of}
 use Rattle.fw_plain.proofs.EngineLaws.{delivers, delivers_nothing, at_nodes, sound_after, standing, standing_idle, at_some, at_none}
 use Rattle.fw_plain.proofs.engine.Engine.deliver.Goals as goal
+use Rattle.fw_model.specs.History.{AreAtNodes}
 
 pub next_message-requires : goal.next_message-requires
 next_message-requires c =

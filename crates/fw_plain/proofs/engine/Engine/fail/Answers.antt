@@ -1,12 +1,12 @@
 use Rattle.std.proofs.Common.{◌≡◌, Bool, List, false, true, refl, sym, ◌∙◌, ap}
 use Rattle.fw_flow.specs.declared.step.Step.TheVariants.{Fail}
-use Rattle.fw_model.specs.Plain.{system_of}
 use Rattle.fw_model.specs.Steps.{quiet, did}
 use Rattle.fw_plain.specs.Engine.{state_of}
 use Rattle.fw_plain.specs.Failed.{any_live, with_failed}
 use Rattle.fw_plain.proofs.EngineLaws.{sound_after, standing, standing_idle}
 use Rattle.fw_plain.proofs.StepLaws.{fails, fails_nothing}
 use Rattle.fw_plain.proofs.engine.Engine.fail.Goals as goal
+use Rattle.fw_flow.specs.Dataflow.{system_of}
 
 pub returns-then-not-any_live-clause-ok : goal.returns-then-not-any_live-clause-ok
 returns-then-not-any_live-clause-ok c =

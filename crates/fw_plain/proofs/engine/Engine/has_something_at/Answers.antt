@@ -1,10 +1,10 @@
 use Rattle.std.proofs.Common.{sym, ◌∙◌, ap}
 use Rattle.fw_time.specs.Stamp.{Stamp, leq, same}
-use Rattle.fw_model.specs.Plain.{system_of}
 use Rattle.fw_plain.specs.Engine.{state_of}
 use Rattle.fw_plain.specs.Output.{has_delivery}
 use Rattle.fw_plain.proofs.OutputLaws.{tells-number, tells-epoch, tells-later}
 use Rattle.fw_plain.proofs.engine.Engine.has_something_at.Goals as goal
+use Rattle.fw_flow.specs.Dataflow.{system_of}
 
 pub returns-in-OutputNumber : goal.returns-in-OutputNumber
 returns-in-OutputNumber c =

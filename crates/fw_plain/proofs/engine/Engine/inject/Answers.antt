@@ -2,12 +2,12 @@ use Rattle.std.proofs.Common.{◌≡◌, ℕ, Bool, true, false, List, reverse, 
 use Rattle.fw_flow.specs.declared.event.Event.{Event}
 use Rattle.fw_flow.specs.declared.step.Step.TheVariants.{Inject}
 use Rattle.fw_model.specs.History.{IsNextBatch}
-use Rattle.fw_model.specs.Plain.{system_of}
 use Rattle.fw_model.specs.Steps.{quiet, did}
 use Rattle.fw_model.proofs.Decisions.{two_ways}
 use Rattle.fw_plain.specs.Engine.{state_of}
 use Rattle.fw_plain.proofs.EngineLaws.{injects, injects_nothing, epochs_of, sound_after, standing, standing_idle, at_some, at_none}
 use Rattle.fw_plain.proofs.engine.Engine.inject.Goals as goal
+use Rattle.fw_flow.specs.Dataflow.{system_of}
 
 pub next_batch-requires : goal.next_batch-requires
 next_batch-requires c =

@@ -1,8 +1,7 @@
 use Rattle.std.proofs.Common.{◌≡◌, ℕ, Bool, false, List, map, replicate, sym, ◌∙◌, ap, subst}
 use Rattle.fw_frontier.specs.Front.{Front}
-use Rattle.fw_flow.specs.Dataflow.{bounds_of}
-use Rattle.fw_model.specs.Machine.{no_stamps, places}
-use Rattle.fw_model.specs.Plain.{system_of}
+use Rattle.fw_flow.specs.Dataflow.{bounds_of, places, system_of}
+use Rattle.fw_model.specs.Machine.{no_stamps}
 use Rattle.fw_plain.specs.Engine.{Standing, state_of, IsSound}
 use Rattle.fw_plain.specs.Past.{Past, nothing_past}
 use Rattle.fw_plain.proofs.EngineLaws.{sound_first, same_for_each}

@@ -1,7 +1,6 @@
 use Rattle.std.proofs.Common.{◌≡◌, ℕ, ◌<◌, ◌^◌, Bool, false, slice_index_or, List, length, get_or, Option, Some, None, Result, Ok, Err, OkIff, MatchOption, sym, ◌∙◌, ap, subst}
 use Rattle.std.specs.Result.{result_ok}
-use Rattle.fw_flow.specs.Dataflow.{is_output_kind}
-use Rattle.fw_model.specs.Plain.{system_of}
+use Rattle.fw_flow.specs.Dataflow.{is_output_kind, system_of}
 use Rattle.fw_model.specs.Steps.{MayAcknowledge}
 use Rattle.fw_plain.specs.Engine.{state_of}
 use Rattle.fw_plain.proofs.StepLaws.{may_acknowledge, may_acknowledge_none}

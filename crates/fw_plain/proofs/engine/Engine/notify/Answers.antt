@@ -1,9 +1,9 @@
 use Rattle.std.specs.Option.{option_copied}
 use Rattle.fw_flow.specs.declared.step.Step.TheVariants.{Notify}
-use Rattle.fw_model.specs.Plain.{system_of}
 use Rattle.fw_plain.specs.Engine.{state_of}
 use Rattle.fw_plain.proofs.EngineLaws.{notifies_nothing, standing_idle}
 use Rattle.fw_plain.proofs.engine.Engine.notify.Goals as goal
+use Rattle.fw_flow.specs.Dataflow.{system_of}
 
 pub returns : goal.returns
 returns c =

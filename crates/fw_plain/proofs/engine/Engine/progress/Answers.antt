@@ -2,15 +2,15 @@ use Rattle.std.proofs.Common.{◌≡◌, Bool, List, false, true, refl, sym, ◌
 use Rattle.fw_flow.specs.declared.event.Event.{Event}
 use Rattle.fw_flow.specs.declared.step.Step.TheVariants.{Progress}
 use Rattle.fw_frontier.specs.Front.{Front}
-use Rattle.fw_model.specs.History.{IsComplete}
-use Rattle.fw_model.specs.Machine.{events}
-use Rattle.fw_model.specs.Plain.{system_of, family_of, AreAtNodes}
+use Rattle.fw_model.specs.History.{IsComplete, AreAtNodes}
+use Rattle.fw_model.specs.Machine.{events, family_of}
 use Rattle.fw_model.specs.Steps.{quiet, did}
 use Rattle.fw_plain.specs.Engine.{state_of}
 use Rattle.fw_plain.specs.Fronts.{any_grows, AreGrown}
 use Rattle.fw_plain.proofs.EngineLaws.{at_nodes, sound_after, standing, standing_idle}
 use Rattle.fw_plain.proofs.StepLaws.{progresses, progresses_nothing}
 use Rattle.fw_plain.proofs.engine.Engine.progress.Goals as goal
+use Rattle.fw_flow.specs.Dataflow.{system_of}
 
 pub complete_frontiers-requires : goal.complete_frontiers-requires
 complete_frontiers-requires c =

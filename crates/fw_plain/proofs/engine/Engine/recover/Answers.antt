@@ -4,7 +4,6 @@ use Rattle.fw_flow.specs.declared.choice.Choice.{Choice}
 use Rattle.fw_flow.specs.declared.choice.Cut.{Cut}
 use Rattle.fw_flow.specs.declared.step.Step.TheVariants.{Recover}
 use Rattle.fw_model.specs.Choice.{filtered, IsLargest}
-use Rattle.fw_model.specs.Plain.{system_of}
 use Rattle.fw_model.specs.Steps.{offers, cuts, did}
 use Rattle.fw_plain.specs.Engine.{Standing, state_of}
 use Rattle.fw_plain.specs.Failed.{any_failed}
@@ -14,6 +13,7 @@ use Rattle.fw_plain.proofs.EngineLaws.{sound_after, standing, standing_idle}
 use Rattle.fw_plain.proofs.PastLaws.{cut_is_filtered}
 use Rattle.fw_plain.proofs.StepLaws.{recovers, recovers_nothing}
 use Rattle.fw_plain.proofs.engine.Engine.recover.Goals as goal
+use Rattle.fw_flow.specs.Dataflow.{system_of}
 
 pub returns-then-not-any_failed-clause-ok : goal.returns-then-not-any_failed-clause-ok
 returns-then-not-any_failed-clause-ok c =

@@ -1,7 +1,7 @@
-use Rattle.fw_model.specs.Plain.{system_of}
 use Rattle.fw_plain.specs.Engine.{state_of}
 use Rattle.fw_plain.proofs.EngineLaws.{legal_of, legal_then}
 use Rattle.fw_plain.proofs.engine.Engine.step.Goals as goal
+use Rattle.fw_flow.specs.Dataflow.{system_of}
 
 pub returns-then-self-clause-legal : goal.returns-then-self-clause-legal
 returns-then-self-clause-legal c =

@@ -1,5 +1,0 @@
-use Rattle.fw_examples.proofs.OneSelectRuns.{is_idle_without_batches}
-use Rattle.fw_examples.proofs.one_select_runs.is_idle_without_batches.Goals as goal
-
-pub returns : goal.returns
-returns c = is_idle_without_batches

@@ -1,0 +1,12 @@
+-- The sources of a dataflow by their names.
+use Rattle.std.specs.Prelude.{ℕ, if◌then◌else◌, List, [], ◌∷◌}
+use Rattle.std.specs.List.{flat_map}
+use Rattle.fw_flow.specs.Dataflow.{Dataflow, node_at, kind_of, is_input_kind, places}
+
+-- the node at a place by its name, if it is a source
+abbrev pub source_at : Dataflow → ℕ → List (List ℕ × ℕ)
+source_at flow place = if is_input_kind (kind_of flow place) then ((node_at flow place).name, place) ∷ [] else []
+
+-- the sources of a dataflow by their names, in order of the nodes
+abbrev pub sources_of : Dataflow → List (List ℕ × ℕ)
+sources_of flow = flat_map (source_at flow) (places flow)

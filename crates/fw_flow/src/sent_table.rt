@@ -1,0 +1,98 @@
+//! How many messages a sequence sent, by epoch.
+ghost use Rattle.std.specs.Prelude.{◌≡◌, ℕ, ◌^◌, ◌-◌, ◌≤◌, true, nat_lt, min, [], ◌∷◌, ◌++◌, length, take, IsTrue, OnOk, OnErr};
+ghost use Rattle.fw_flow.specs.Projection.{first_number_of, table_count};
+ghost use Rattle.fw_flow.specs.SentTable.{AreInOrder, counts_of, HasTotals};
+
+use std::alloc::{AllocError, Global};
+use std::marker::Model;
+
+/// What was sent in an epoch.
+#[derive(Clone, Copy, Debug)]
+pub(crate) struct SentInEpoch {
+    epoch: u32,
+    count: u64,
+    // With what was sent in the epochs before it, or `u64::MAX` where that is more.
+    total: u64,
+}
+
+/// How many messages a sequence sent, by epoch, with the epochs in order. Contracts see the list of epochs and counts.
+#[derive(Debug, Drop)]
+pub struct SentTable {
+    entries: Vec<SentInEpoch>,
+}
+
+impl Model for SentTable {
+    ghost use Rattle.std.specs.Prelude.{ℕ, List};
+    ghost use Rattle.fw_flow.specs.SentTable.{counts_of, IsTable};
+
+    ghost Value = { List (ℕ × ℕ) };
+
+    ghost view = { λ table. counts_of table.entries.items };
+
+    ghost invariant = { λ table. IsTable table.entries.items };
+}
+
+impl SentTable {
+    /// The table of a sequence that sent nothing yet, in memory from `alloc`.
+    pub fn new(alloc: Global) -> Self
+        ensures { result ≡ [] }
+    {
+        SentTable {
+            entries: Vec::new(alloc),
+        }
+    }
+
+    /// Whether the epoch comes after those of the table, or is the last of them.
+    pub fn takes(&self, epoch: u32) -> bool
+        ensures { IsTrue result → (count : ℕ) → AreInOrder (self.now ++ (epoch, count) ∷ []) }
+    {
+        match self.entries.last() {
+            Some(last) => last.epoch <= epoch,
+            None => true,
+        }
+    }
+
+    /// Adds how many messages the sequence sent in an epoch, which comes after those of the table (`takes`). It may be the
+    /// last of them: then both counts count. The error is want of memory.
+    pub fn push(&mut self, epoch: u32, count: u64) -> Result<(), AllocError>
+        requires { AreInOrder (self.old ++ (epoch, count) ∷ []) }
+        ensures ok { OnOk result (self.new ≡ self.old ++ (epoch, count) ∷ []) }
+        ensures err { OnErr result (self.new ≡ self.old) }
+    {
+        let total = self.total().saturating_add(count);
+        self.entries.push(SentInEpoch {
+            epoch,
+            count,
+            total,
+        })?;
+        Ok(())
+    }
+
+    /// How many messages were sent in all, or `u64::MAX` where they were more.
+    fn total(&self) -> u64
+        ensures { result ≡ min (table_count (λ t. true) self.now) (2 ^ 64 - 1) }
+    {
+        total_at(&self.entries, self.entries.len())
+    }
+
+    /// How many messages were sent in the epochs below a limit, or `u64::MAX` where they were more. It halves the table until
+    /// it finds the limit.
+    pub(crate) fn count_below(&self, limit: u32) -> u64
+        ensures { result ≡ min (table_count (λ t. nat_lt (first_number_of t) limit) self.now) (2 ^ 64 - 1) }
+    {
+        let place = self.entries.partition_point(|entry| entry.epoch < limit);
+        total_at(&self.entries, place)
+    }
+}
+
+/// What the first of the entries count, so many of them.
+fn total_at(entries: &[SentInEpoch], place: usize) -> u64
+    requires totals { HasTotals 0 entries.now }
+    requires there { place ≤ length entries.now }
+    ensures { result ≡ min (table_count (λ t. true) (counts_of (take place entries.now))) (2 ^ 64 - 1) }
+{
+    if place == 0 {
+        return 0;
+    }
+    entries[place - 1].total
+}

@@ -1,0 +1,135 @@
+-- What nodes offer as data; and where that is what the machine offers in a state, both give the same choices.
+use Rattle.std.proofs.Common.{◌≡◌, ◌≢◌, ℕ, zero, suc, ◌<◌, Bool, List, [], ◌∷◌, ◌++◌, length, Some, sym, ap, subst, ◌∙◌, inl, inr, refl}
+use Rattle.std.specs.List.{AllByRecursion}
+use Rattle.fw_time.specs.declared.stamp.Bounds.{Bounds}
+use Rattle.fw_time.proofs.EachLaws.{each-suffix}
+use Rattle.fw_frontier.specs.Frontier.{Frontier, Within}
+use Rattle.fw_frontier.specs.Front.{Front, frontier_of, IsCanonical}
+use Rattle.fw_flow.specs.declared.choice.Choice.{Choice}
+use Rattle.fw_flow.specs.declared.choice.Cut.TheVariants.{At}
+use Rattle.fw_flow.specs.declared.choice.Recorded.{Recorded}
+use Rattle.fw_flow.specs.declared.choice.Offered.{Offered}
+use Rattle.fw_flow.specs.declared.choice.Offered.TheVariants.{Listed, Between}
+use Rattle.fw_flow.specs.declared.choice.Offer.{Offer}
+use Rattle.fw_flow.specs.Dataflow.{System, Dataflow, sender, receiver, bounds_of}
+use Rattle.fw_flow.specs.WellFormed.{IsWellFormed}
+use Rattle.fw_model.specs.Machine.{Machine}
+use Rattle.fw_model.specs.Choice.{kept, cut_of, note_of, kept_of, IsCandidate, IsConsistent, IsConsistentBy}
+use Rattle.fw_model.specs.Covers.{Covers, covers_in}
+use Rattle.fw_model.specs.Offers.{IsListed, IsBetween, IsOffered, Ascend, listed, range, records_of, range_of, AreOffersIn, covers_of}
+use Rattle.fw_model.specs.LawsOfOffers.{ConsistentByOffersIsConsistent, LargestByOffersIsLargest}
+
+-- ---- what is offered
+
+pub not_listed : (xs : List Recorded) (f : Front) → IsListed f xs → AllByRecursion (λ s. s.front ≡ f → ⊥) xs → ⊥
+not_listed [] f l n = l
+not_listed (x ∷ xs) f (inl e) n = n.0 e
+not_listed (x ∷ xs) f (inr l) n = not_listed xs f l n.1
+
+pub listed-there : (pre : List Recorded) (r : Recorded) (post : List Recorded) → IsListed r.front (pre ++ r ∷ post)
+listed-there [] r post = inl refl
+listed-there (q ∷ pre) r post = inr (listed-there pre r post)
+
+-- of records that ascend, a listed frontier that is none of the later ones lies within one
+pub below_last : (b : Bounds) (pre : List Recorded) (r : Recorded) (post : List Recorded) (f : Front) → Ascend b (pre ++ r ∷ post) → IsListed f (pre ++ r ∷ post)
+    → AllByRecursion (λ s. s.front ≡ f → ⊥) post → Within (frontier_of b f) (frontier_of b r.front)
+below_last b [] r post f a (inl e) n = λ t k. ap (λ g. frontier_of b g t) e ∙ k
+below_last b [] r post f a (inr l) n = absurd (not_listed post f l n)
+below_last b (q ∷ pre) r post f a (inl e) n = λ t k.
+    ((each-suffix (λ s. Within (frontier_of b q.front) (frontier_of b s.front) × (q.front ≢ s.front)) pre (r ∷ post) a.0).0).0 t (ap (λ g. frontier_of b g t) e ∙ k)
+below_last b (q ∷ pre) r post f a (inr l) n = below_last b pre r post f a.1 l n
+
+-- where all between two are offered, no records are listed
+range-unlisted : (offers : List Offer) (p : ℕ) (ends : Front × Front) → range_of offers p ≡ Some ends → records_of offers p ≡ []
+range-unlisted [] p ends e = refl
+range-unlisted (o ∷ offers) zero ends e = at o.offered e
+  where
+    at : (x : Offered) → range x ≡ Some ends → listed x ≡ []
+    at (Listed records) k = absurd (cc)
+    at (Between least greatest) k = refl
+range-unlisted (o ∷ offers) (suc p) ends e = range-unlisted offers p ends e
+
+pub between-offered : (flow : Dataflow) (offers : List Offer) (p : ℕ) (least greatest g : Front) → range_of offers p ≡ Some (least, greatest) → IsOffered flow offers p (At g)
+    → IsBetween (bounds_of flow p) (Some (least, greatest)) g
+between-offered flow offers p least greatest g e offered = elim (offered.1) [
+  | inl i ↦ absurd (subst (IsListed g) (range-unlisted offers p (least, greatest) e) i)
+  | inr j ↦ subst (λ o. IsBetween (bounds_of flow p) o g) e j
+]
+
+pub offered-between : (flow : Dataflow) (offers : List Offer) (p : ℕ) (least greatest g : Front) → range_of offers p ≡ Some (least, greatest) → IsCanonical (bounds_of flow p) g
+    → IsBetween (bounds_of flow p) (Some (least, greatest)) g → IsOffered flow offers p (At g)
+offered-between flow offers p least greatest g e c j = (c, inr (subst (λ o. IsBetween (bounds_of flow p) o g) (sym e) j))
+
+-- ---- the choices
+
+along : (f g : Frontier) → f ≡ g → (h k : Frontier) → h ≡ k → Within f h → Within g k
+along f g e h k i w = subst (λ x. Within g x) i (subst (λ x. Within x h) e w)
+
+consistent-in : (sys : System) (state : Machine) (lost : ℕ → Bool) (offers : List Offer) (choice : Choice) → IsWellFormed sys.flow
+    → AreOffersIn sys state lost offers → IsConsistentBy sys.flow (covers_of sys.flow offers) (IsOffered sys.flow offers) choice
+    → IsConsistent sys state (IsCandidate sys state lost kept) choice
+consistent-in sys state lost offers choice w o c =
+    let ours : Covers = covers_of sys.flow offers in
+    let theirs : Covers = covers_in sys state in record {
+      one_cut_each = c.one_cut_each;
+      one_note_each = c.one_note_each;
+      offered = λ p l. (o.offered p l (cut_of choice p)).0 (c.offered p l);
+      canonical = c.canonical;
+      delivered = λ d l.
+          let k = kept_of sys.flow choice (sender sys.flow d) in
+          let cut = cut_of choice (receiver sys.flow d) in
+          along (ours.delivered d cut) (theirs.delivered d cut) (o.delivered d l cut (c.offered (receiver sys.flow d) (w.receivers_declared d l)))
+          (ours.arrived d k) (theirs.arrived d k) (o.arrived d l k) (c.delivered d l);
+      discarded = λ e l.
+          let cut = cut_of choice (sender sys.flow e) in
+          subst (λ x. Within x (kept_of sys.flow choice (receiver sys.flow e)))
+          (o.discarded e l cut (c.offered (sender sys.flow e) (w.senders_declared e l))) (c.discarded e l);
+      notified = λ p l. subst (λ x. Within x (note_of sys.flow choice p)) (o.notified p l (cut_of choice p) (c.offered p l)) (c.notified p l);
+      own = c.own;
+      notes = λ d l.
+          let n = note_of sys.flow choice (sender sys.flow d) in
+          subst (λ x. Within (note_of sys.flow choice (receiver sys.flow d)) x) (o.arrived d l n) (c.notes d l);
+    }
+
+consistent-by : (sys : System) (state : Machine) (lost : ℕ → Bool) (offers : List Offer) (choice : Choice) → IsWellFormed sys.flow
+    → AreOffersIn sys state lost offers → IsConsistent sys state (IsCandidate sys state lost kept) choice
+    → IsConsistentBy sys.flow (covers_of sys.flow offers) (IsOffered sys.flow offers) choice
+consistent-by sys state lost offers choice w o c =
+    let ours : Covers = covers_of sys.flow offers in
+    let theirs : Covers = covers_in sys state in
+    let offered : (p : ℕ) → p < length sys.flow.nodes → IsOffered sys.flow offers p (cut_of choice p) =
+    λ p l. (o.offered p l (cut_of choice p)).1 (c.offered p l) in record {
+      one_cut_each = c.one_cut_each;
+      one_note_each = c.one_note_each;
+      offered = offered;
+      canonical = c.canonical;
+      delivered = λ d l.
+          let k = kept_of sys.flow choice (sender sys.flow d) in
+          let cut = cut_of choice (receiver sys.flow d) in
+          along (theirs.delivered d cut) (ours.delivered d cut) (sym (o.delivered d l cut (offered (receiver sys.flow d) (w.receivers_declared d l))))
+          (theirs.arrived d k) (ours.arrived d k) (sym (o.arrived d l k)) (c.delivered d l);
+      discarded = λ e l.
+          let cut = cut_of choice (sender sys.flow e) in
+          subst (λ x. Within x (kept_of sys.flow choice (receiver sys.flow e)))
+          (sym (o.discarded e l cut (offered (sender sys.flow e) (w.senders_declared e l)))) (c.discarded e l);
+      notified = λ p l. subst (λ x. Within x (note_of sys.flow choice p)) (sym (o.notified p l (cut_of choice p) (offered p l))) (c.notified p l);
+      own = c.own;
+      notes = λ d l.
+          let n = note_of sys.flow choice (sender sys.flow d) in
+          subst (λ x. Within (note_of sys.flow choice (receiver sys.flow d)) x) (sym (o.arrived d l n)) (c.notes d l);
+    }
+
+pub consistent-same : ConsistentByOffersIsConsistent
+consistent-same sys state lost offers choice w o = (consistent-in sys state lost offers choice w o, consistent-by sys state lost offers choice w o)
+
+pub largest-same : LargestByOffersIsLargest
+largest-same sys state lost offers choice w o = (
+  λ c. record {
+    consistent = consistent-in sys state lost offers choice w o c.consistent;
+    largest = λ other k. c.largest other (consistent-by sys state lost offers other w o k);
+  },
+  λ c. record {
+    consistent = consistent-by sys state lost offers choice w o c.consistent;
+    largest = λ other k. c.largest other (consistent-in sys state lost offers other w o k);
+  },
+)

@@ -1,9 +1,0 @@
-use Rattle.std.proofs.Common.{◌≡◌, ◌≤◌, length, reverse, take}
-use Rattle.fw_model.specs.History.{delivered}
-use Rattle.fw_model.proofs.plain.waiting.delivered_count.Given as goal
-
-abbrev pub invariant-loop-event : goal.invariant-loop-event
-invariant-loop-event l = record {
-  few : l.count ≤ l.event-index;
-  counted : l.count ≡ length (delivered (reverse (take l.event-index l.events)) l.edge);
-}

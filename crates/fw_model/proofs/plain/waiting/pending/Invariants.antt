@@ -1,9 +1,0 @@
-use Rattle.std.proofs.Common.{◌≡◌, reverse, take}
-use Rattle.fw_model.specs.History.{sent, delivered, less}
-use Rattle.fw_model.specs.Plain.{system_of}
-use Rattle.fw_model.proofs.plain.waiting.pending.Given as goal
-
-abbrev pub invariant-loop-event : goal.invariant-loop-event
-invariant-loop-event l =
-    l.messages.items
-    ≡ less (sent (system_of l.flow l.batches) (reverse l.events) l.edge) (delivered (reverse (take l.event-index l.events)) l.edge)

@@ -1,7 +1,0 @@
-use Rattle.std.proofs.Common.{◌≡◌}
-use Rattle.std.specs.List.{flat_map, range_with_len}
-use Rattle.fw_run.specs.Texts.{source_at}
-use Rattle.fw_run.proofs.reading.sources_of.Given as goal
-
-abbrev pub invariant-loop-place : goal.invariant-loop-place
-invariant-loop-place l = l.sources ≡ flat_map (source_at l.flow) (range_with_len 0 l.place)

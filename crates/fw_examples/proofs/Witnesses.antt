@@ -276,9 +276,7 @@ join_is_a_frontier = record {
     other : IsFrontier (bounds_of loop_counts_up 3) (frontier_of (bounds_of loop_counts_up 3) first_rounds)
     other = frontier-closed _ first_rounds
 
--- ---- witnesses for the laws of filtering
-
--- ---- the running total
+-- ---- witnesses for the laws of filtering: the running total
 
 totals_meet : MeetsInclusions totals output_failed two_epochs_kept
 totals_meet = consistent-meets totals output_failed (is_failed output_failed) kept two_epochs_kept (kept_consistent (is_failed output_failed))

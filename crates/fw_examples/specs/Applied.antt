@@ -193,7 +193,7 @@ pub record FilteringApplies : Type 0 where
   pub without_log : filtering.NothingPendingWithoutLog
       → pending totals (events (filtered totals two_epochs_kept output_failed.history)) src_to_run ≡ []
 
--- ---- what the laws of restoring say of the running total, in the state of the failure and at the recovery from it, of the loop,
+-- ---- what the laws of restoring say
 
 -- the laws of restoring, of the state of the failure, in which a checkpoint is collected, one acknowledged and one in flight,
 -- and of the recovery that keeps two epochs
@@ -247,7 +247,7 @@ pub record LogsRestored : Type 0 where
   pub kept_logs : restoring.CheckpointLogsHoldWhatIsSentAgain
       → AllByRecursion (λ (write : Write). LogHoldsWhatIsSentAgain checkpoints_logged log_kept both_come_back write.node write.written) log_kept.writes
 
--- ---- what the laws of projections, of sending and of the denotation say of the loop, of the sequence and of the running total
+-- ---- what the laws of projections, of sending and of the denotation say
 
 -- three rounds of epoch 0, at the feedback
 abbrev pub counted : Frontier

@@ -134,7 +134,7 @@ one_select_flow = in_a_row (selecting policy.None)
 abbrev pub one_select : List (List Rec) → System
 one_select = fed (selecting policy.None)
 
--- ---- the dataflow of two inputs, the second through a select that keeps nothing, put together at a logged concat, summed by a
+-- ---- two inputs, the second through a select that keeps nothing, put together and summed
 
 -- the first input
 abbrev pub first_source : ℕ

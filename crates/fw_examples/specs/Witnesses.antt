@@ -205,7 +205,7 @@ pub record OneIsOnItsWay : Type 0 where
   pub sent_once : how_often (pair 1 15) (recs_at (2 ∷ []) (sent totals (next_epochs ++ two_epochs) run_to_out)) ≡ 1
   pub not_delivered : how_often (pair 1 15) (recs_at (2 ∷ []) (delivered (next_epochs ++ two_epochs) run_to_out)) ≡ 0
 
--- ---- witnesses for the laws of filtering: what they ask holds of the recoveries of the running total and of the loop, and of a
+-- ---- witnesses for the laws of filtering: what they ask holds of recoveries of the running total, the loop and a sequence
 
 -- what each node of the running total keeps in the recovery
 abbrev pub kept_totals : ℕ → Frontier

@@ -7,10 +7,9 @@ use Rattle.fw_flow.specs.declared.step.Step.TheVariants.{Collect, Recover}
 use Rattle.fw_model.specs.Choice.{ever, kept, until}
 use Rattle.fw_model.specs.Machine.{events, first_state, is_failed, checkpoint, collected}
 use Rattle.fw_model.specs.Steps.{cuts, did, lows}
-use Rattle.fw_examples.specs.Flows.{loop_counts_up, pair, two_batches, regroup_by_three, out}
+use Rattle.fw_examples.specs.Flows.{loop_counts_up, pair, two_batches, regroup_by_three, out, numbered_both, numbers, numbered_epoch, value_at}
 use Rattle.fw_examples.specs.Applied.{ChoicesApply, ChoosingApplies, DeliveriesApply, FilteringApplies, LegalHistoriesApply, RunsApply, StepsApply, CollectionRestored, LogsRestored, RestoringApplies, DenotationApplies, ProjectionsApply, SendingApplies, begun, both_epochs, counted, one_or_other}
 use Rattle.fw_examples.specs.Loop.{counted_rounds, counting_failed, restored, under_way, message, round, fed_back_edge}
-use Rattle.fw_examples.specs.Numbers.{numbered_both, numbers, numbered_epoch, value_at}
 use Rattle.fw_examples.specs.RunningTotal.{at_epoch, come_back, epoch_kept, next_epochs, outcomes_through_recovery, outcomes_to_failure, outcomes_up_to_two, outcomes_without_failure, output_failed, steps_through_recovery, steps_to_failure, steps_up_to_two, steps_without_failure, totals, totals_denoted, two_epochs, two_epochs_kept, two_kept_noting, alike, total_flow}
 use Rattle.fw_examples.specs.Witnesses.{both_rounds, complete_then, complete_two, first_rounds, joined_rounds, kept_epoch, kept_rounds, kept_totals, noted_totals, two_rounds}
 use Rattle.fw_examples.proofs.TotalRuns.{collects, run_through_recovery, runs_to_two, sum_acknowledged, ten_acknowledged, two_collected, two_epochs_are_low}

@@ -7,7 +7,6 @@ pub mod TotalRuns
 pub mod Logs
 pub mod Witnesses
 pub mod LeavingOut
-pub mod NumbersRun
 pub mod Loop
 pub mod Applied
 pub mod OffersOfTotals

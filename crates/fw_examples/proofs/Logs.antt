@@ -27,6 +27,7 @@ use Rattle.fw_examples.proofs.WellFormed.{select_is_well_formed, total_is_well_f
 use Rattle.fw_flow.specs.declared.kind.Policy.TheVariants as policy
 use Rattle.fw_flow.specs.declared.step.Step.TheVariants as step
 
+-- the message of epoch 0 with this rec
 abbrev message : ℕ → ℕ → Message
 message key value = record { at = 0 ∷ []; rec = pair key value; causes = (0 ∷ []) ∷ [] }
 
@@ -90,8 +91,6 @@ loses_an_epoch =
         refl,
       ),
     )
-
--- ---- the runs with a collection of what nodes log, and the failure after two of them
 
 -- ---- a select that logs each event
 

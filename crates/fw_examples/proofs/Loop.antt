@@ -1,5 +1,6 @@
 -- The loop that counts up: what its rounds come to, its complete frontiers, its recovery and its run.
-use Rattle.std.proofs.Common.{List, None, Some, [], ap, arith, drop, false, get_or, lit<, not, refl, replicate, suc, take, true, ℕ, ◌++◌, ◌-◌, ◌<◌, ◌∙◌, ◌∷◌, ◌≡◌}
+use Rattle.std.specs.List.{flat_map}
+use Rattle.std.proofs.Common.{List, None, Some, [], ap, arith, drop, false, get_or, lit<, map, not, refl, replicate, suc, take, true, ℕ, ◌++◌, ◌+◌, ◌-◌, ◌<◌, ◌∙◌, ◌∷◌, ◌≡◌}
 use Rattle.std.proofs.lemmas.Bool.{and_from, and_parts}
 use Rattle.std.proofs.lemmas.Bool.Decides.{nat_tests}
 use Rattle.fw_bag.specs.declared.rec.Rec.{Rec}
@@ -29,10 +30,10 @@ use Rattle.fw_model.proofs.GoingOn.{runs-go_on}
 use Rattle.fw_model.proofs.PhiLaws.{or_monotone}
 use Rattle.fw_model.proofs.RecoveryLaws.{runs-legal}
 use Rattle.fw_examples.specs.Flows.{loop_counts_up, pair, two_batches}
-use Rattle.fw_examples.specs.Loop.{TwoBatchesCountUp, IsRestored, IsUnderWay, complete_at, complete_fronts, counted_rounds, counting_failed, message, outcomes_left, outcomes_shown, restored, round, steps_left, steps_taken, still_pending, under_way, with_serials, without_the_second}
+use Rattle.fw_examples.specs.Loop.{IsRestored, IsUnderWay, TwoBatchesCountUp, complete_at, complete_fronts, counted_rounds, counting_failed, message, outcomes_left, outcomes_shown, restored, round, steps_left, steps_taken, still_pending, under_way, with_serials, without_the_second}
 use Rattle.fw_examples.specs.Witnesses.{LoopIsReached}
 use Rattle.fw_examples.proofs.Choosing.{canonical_notes, notified_by, offered_by, offered_within, own_by, recovers_to, set_within}
-use Rattle.fw_examples.proofs.Fronts.{all_seven, by_seven, and_more, both_more, not_above, within_one, within_two}
+use Rattle.fw_examples.proofs.Fronts.{all_seven, and_more, both_more, by_seven, not_above, within_one, within_two}
 use Rattle.fw_examples.proofs.Plays.{Move, acknowledge, after_all, deliver, fail, inject, plays}
 use Rattle.fw_examples.proofs.Settling.{admissible_with, settles, settles_complete}
 use Rattle.fw_examples.proofs.WellFormed.{is_well_formed, system_by}
@@ -337,6 +338,21 @@ runs_to_failure =
 abbrev come_back : Machine
 come_back = recovered two_batches counting_failed restored complete_fronts
 
+-- a rec with this value goes round to the next counter and is counted up
+abbrev goes_round : ℕ → ℕ → ℕ → ℕ → List Move
+goes_round x c key value =
+    deliver 4 None (message (round x (c + 1)) (pair key value) (round x c))
+    ∷ deliver 2 None (message (round x (c + 1)) (pair key value) (round x (c + 1)))
+    ∷ deliver 3 None (message (round x (c + 1)) (pair key (value + 1)) (round x (c + 1)))
+    ∷ []
+
+-- what was counted up at a counter leaves the loop, and comes to the output
+abbrev leaves : ℕ → ℕ → ℕ → Move
+leaves x key c = deliver 5 None (message (round x c) (pair key (c + 1)) (round x c))
+
+abbrev comes_out : ℕ → ℕ → ℕ → Move
+comes_out x key c = deliver 6 None (message (x ∷ []) (pair key (c + 1)) (round x c))
+
 -- what is taken then
 abbrev what_is_left : List Move
 what_is_left =
@@ -345,52 +361,10 @@ what_is_left =
     ∷ deliver 3 None (message (round 0 2) (pair 1 3) (round 0 2))
     ∷ deliver 3 None (message (round 1 0) (pair 2 1) (round 1 0))
     ∷ deliver 3 None (message (round 1 0) (pair 3 1) (round 1 0))
-    ∷ deliver 4 None (message (round 0 3) (pair 1 3) (round 0 2))
-    ∷ deliver 2 None (message (round 0 3) (pair 1 3) (round 0 3))
-    ∷ deliver 3 None (message (round 0 3) (pair 1 4) (round 0 3))
-    ∷ deliver 4 None (message (round 1 1) (pair 2 1) (round 1 0))
-    ∷ deliver 2 None (message (round 1 1) (pair 2 1) (round 1 1))
-    ∷ deliver 3 None (message (round 1 1) (pair 2 2) (round 1 1))
-    ∷ deliver 4 None (message (round 1 1) (pair 3 1) (round 1 0))
-    ∷ deliver 2 None (message (round 1 1) (pair 3 1) (round 1 1))
-    ∷ deliver 3 None (message (round 1 1) (pair 3 2) (round 1 1))
-    ∷ deliver 4 None (message (round 1 2) (pair 2 2) (round 1 1))
-    ∷ deliver 2 None (message (round 1 2) (pair 2 2) (round 1 2))
-    ∷ deliver 3 None (message (round 1 2) (pair 2 3) (round 1 2))
-    ∷ deliver 4 None (message (round 1 2) (pair 3 2) (round 1 1))
-    ∷ deliver 2 None (message (round 1 2) (pair 3 2) (round 1 2))
-    ∷ deliver 3 None (message (round 1 2) (pair 3 3) (round 1 2))
-    ∷ deliver 4 None (message (round 1 3) (pair 2 3) (round 1 2))
-    ∷ deliver 2 None (message (round 1 3) (pair 2 3) (round 1 3))
-    ∷ deliver 3 None (message (round 1 3) (pair 2 4) (round 1 3))
-    ∷ deliver 4 None (message (round 1 3) (pair 3 3) (round 1 2))
-    ∷ deliver 2 None (message (round 1 3) (pair 3 3) (round 1 3))
-    ∷ deliver 3 None (message (round 1 3) (pair 3 4) (round 1 3))
-    ∷ deliver 5 None (message (round 0 0) (pair 1 1) (round 0 0))
-    ∷ deliver 5 None (message (round 0 1) (pair 1 2) (round 0 1))
-    ∷ deliver 5 None (message (round 0 2) (pair 1 3) (round 0 2))
-    ∷ deliver 5 None (message (round 0 3) (pair 1 4) (round 0 3))
-    ∷ deliver 5 None (message (round 1 0) (pair 2 1) (round 1 0))
-    ∷ deliver 5 None (message (round 1 0) (pair 3 1) (round 1 0))
-    ∷ deliver 5 None (message (round 1 1) (pair 2 2) (round 1 1))
-    ∷ deliver 5 None (message (round 1 1) (pair 3 2) (round 1 1))
-    ∷ deliver 5 None (message (round 1 2) (pair 2 3) (round 1 2))
-    ∷ deliver 5 None (message (round 1 2) (pair 3 3) (round 1 2))
-    ∷ deliver 5 None (message (round 1 3) (pair 2 4) (round 1 3))
-    ∷ deliver 5 None (message (round 1 3) (pair 3 4) (round 1 3))
-    ∷ deliver 6 None (message (0 ∷ []) (pair 1 1) (round 0 0))
-    ∷ deliver 6 None (message (0 ∷ []) (pair 1 2) (round 0 1))
-    ∷ deliver 6 None (message (0 ∷ []) (pair 1 3) (round 0 2))
-    ∷ deliver 6 None (message (0 ∷ []) (pair 1 4) (round 0 3))
-    ∷ deliver 6 None (message (1 ∷ []) (pair 2 1) (round 1 0))
-    ∷ deliver 6 None (message (1 ∷ []) (pair 2 2) (round 1 1))
-    ∷ deliver 6 None (message (1 ∷ []) (pair 2 3) (round 1 2))
-    ∷ deliver 6 None (message (1 ∷ []) (pair 2 4) (round 1 3))
-    ∷ deliver 6 None (message (1 ∷ []) (pair 3 1) (round 1 0))
-    ∷ deliver 6 None (message (1 ∷ []) (pair 3 2) (round 1 1))
-    ∷ deliver 6 None (message (1 ∷ []) (pair 3 3) (round 1 2))
-    ∷ deliver 6 None (message (1 ∷ []) (pair 3 4) (round 1 3))
-    ∷ []
+    ∷ goes_round 0 2 1 3
+    ++ goes_round 1 0 2 1 ++ goes_round 1 0 3 1 ++ goes_round 1 1 2 2 ++ goes_round 1 1 3 2 ++ goes_round 1 2 2 3 ++ goes_round 1 2 3 3
+    ++ map (leaves 0 1) (0 ∷ 1 ∷ 2 ∷ 3 ∷ []) ++ flat_map (λ c. leaves 1 2 c ∷ leaves 1 3 c ∷ []) (0 ∷ 1 ∷ 2 ∷ 3 ∷ [])
+    ++ map (comes_out 0 1) (0 ∷ 1 ∷ 2 ∷ 3 ∷ []) ++ map (comes_out 1 2) (0 ∷ 1 ∷ 2 ∷ 3 ∷ []) ++ map (comes_out 1 3) (0 ∷ 1 ∷ 2 ∷ 3 ∷ [])
 
 abbrev all_delivered : Machine
 all_delivered = after_all two_batches come_back what_is_left

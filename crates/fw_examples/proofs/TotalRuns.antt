@@ -78,8 +78,6 @@ runs_to_two =
       ),
     )
 
--- ---- what is chosen in the runs of the running total
-
 -- ---- the collection
 
 pub two_epochs_are_low : IsWatermark totals ten_acknowledged two_epochs_kept

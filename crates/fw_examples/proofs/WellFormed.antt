@@ -1,25 +1,25 @@
 -- The dataflows of the examples are well formed, and so are they with their batches.
-use Rattle.std.proofs.Common.{List, [], ap, arith, inl, inr, length, lit<, lit≤, refl, suc, true, zero, ℕ, ◌+◌, ◌<◌, ◌∷◌, ◌≡◌, ◌≤◌, ◌⊎◌, Bool, None, eqb-true, false, nat_le, nat_lt, not, sym, ⊎_elim, ◌&&◌, ◌==◌, ◌^◌, ◌||◌}
-use Rattle.fw_flow.specs.Dataflow.{Dataflow, in_edges, kind_of, max_of, out_edges, policy_of, receiver, sender, System, batches_of, domain_of_kind, is_input_kind, out_domain_of_kind}
-use Rattle.fw_flow.specs.WellFormed.{IsClosedWalk, IsWalk, IsWellFormed, Passes, is_enter_kind, is_feedback_kind, IsGroupSize, IsInDegree, IsLoopDeclared, IsOutDegree, IsPolicyAllowed, IsWellFormedSystem}
-use Rattle.fw_flow.proofs.Ranks.{rank}
-use Rattle.fw_flow.proofs.Reach.{leads}
-use Rattle.fw_examples.specs.Flows.{loop_counts_up, in_a_row, at_least_ten, one_select_flow, selecting, two_sources_flow}
-use Rattle.fw_examples.proofs.Fronts.{by_seven, by_five, by_six, by_three, by_two, each_below, each_below-at}
 use Rattle.std.specs.List.{list_all}
 use Rattle.std.specs.Ordering.{is_gt}
+use Rattle.std.proofs.Common.{Bool, List, None, [], ap, arith, eqb-true, false, inl, inr, length, lit<, lit≤, nat_le, nat_lt, not, refl, suc, sym, true, zero, ℕ, ⊎_elim, ◌&&◌, ◌+◌, ◌<◌, ◌==◌, ◌^◌, ◌||◌, ◌∷◌, ◌≡◌, ◌≤◌, ◌⊎◌}
 use Rattle.std.proofs.lemmas.Bool.{and_from, and_parts, cases_lt, leb-true, ltb-true, not-true, or_cases, or_right}
 use Rattle.std.proofs.lemmas.List.{get_or_past}
 use Rattle.fw_bag.specs.Rec.{rec_cmp}
 use Rattle.fw_bag.specs.declared.rec.Rec.{Rec}
 use Rattle.fw_time.proofs.EachLaws.{each-of_all, each-weaker}
+use Rattle.fw_flow.specs.Dataflow.{Dataflow, System, batches_of, domain_of, domain_of_kind, in_edges, is_input_kind, is_output_kind, kind_of, max_of, out_domain_of, out_domain_of_kind, out_edges, policy_of, receiver, sender}
+use Rattle.fw_flow.specs.WellFormed.{IsClosedWalk, IsGroupSize, IsInDegree, IsLoopDeclared, IsOutDegree, IsPolicyAllowed, IsWalk, IsWellFormed, IsWellFormedSystem, Passes, is_enter_kind, is_feedback_kind}
 use Rattle.fw_flow.specs.declared.kind.Domain.TheVariants.{Epoch}
 use Rattle.fw_flow.specs.declared.kind.Kind.TheVariants.{Select, Total}
 use Rattle.fw_flow.specs.declared.kind.Policy.{Policy}
 use Rattle.fw_flow.specs.declared.node.Node.{Node}
+use Rattle.fw_flow.proofs.Ranks.{rank}
+use Rattle.fw_flow.proofs.Reach.{leads}
 use Rattle.fw_model.proofs.Decisions.{two_ways}
+use Rattle.fw_examples.specs.Flows.{at_least_ten, in_a_row, loop_counts_up, one_select_flow, selecting, two_sources_flow}
 use Rattle.fw_examples.specs.RunningTotal.{summing}
 use Rattle.fw_lines.specs.Batches.{IsBatch}
+use Rattle.fw_examples.proofs.Fronts.{by_five, by_seven, by_six, by_three, by_two, each_below, each_below-at}
 use Rattle.fw_flow.specs.declared.kind.Policy.TheVariants as policy
 
 -- each edge comes from a feedback, or leads to a node of greater rank
@@ -119,43 +119,57 @@ is_well_formed = record {
 
 -- ---- the dataflows of the examples are well formed
 
--- where each edge leads to a later node, a walk does
-walk_up : (flow : Dataflow) → ((e : ℕ) → e < length flow.edges → sender flow e < receiver flow e)
-    → (p : ℕ) (es : List ℕ) (q : ℕ) → IsWalk flow p es q → p + length es ≤ q
-walk_up flow up p [] q w = omega arith
-walk_up flow up p (e ∷ es) q (l, s, w) =
-    let step = up e l in
-    let rest = walk_up flow up (receiver flow e) es q w in
-    omega arith
+-- whether each edge leads to a later node, and nodes and edges are within the limits, without loops
+abbrev pub is_rising : Dataflow → Bool
+is_rising flow =
+    each_below (λ e. nat_lt (sender flow e) (receiver flow e) && nat_lt (receiver flow e) (length flow.nodes)) (length flow.edges)
+    && ((length flow.loops == 0) && (nat_le (length flow.nodes) 256 && nat_le (length flow.edges) 512))
 
--- so it does not come back
-pub no_closed_walk : (flow : Dataflow) → ((e : ℕ) → e < length flow.edges → sender flow e < receiver flow e)
-    → (p : ℕ) (es : List ℕ) → IsClosedWalk flow p es → ⊥
-no_closed_walk flow up p es is = let some = is.some in let far = walk_up flow up p es p is.walk in omega arith
-
-row_up : (inner : Node) (e : ℕ) → e < 2 → sender (in_a_row inner) e < receiver (in_a_row inner) e
-unfolding sender receiver
-row_up inner = by_two _ (lit< tt) (lit< tt)
+-- such a dataflow is well formed if its nodes and edges are: no walk comes back
+pub rising_is_well_formed : (flow : Dataflow) → is_rising flow ≡ true → ((p : ℕ) → p < length flow.nodes → IsLoopDeclared flow (kind_of flow p))
+    → ((p : ℕ) → p < length flow.nodes → IsInDegree (kind_of flow p) (length (in_edges flow p)))
+    → ((p : ℕ) → p < length flow.nodes → IsOutDegree (kind_of flow p) (length (out_edges flow p)))
+    → ((e : ℕ) → e < length flow.edges → out_domain_of flow (sender flow e) ≡ domain_of flow (receiver flow e))
+    → ((p : ℕ) → p < length flow.nodes → IsPolicyAllowed (kind_of flow p) (policy_of flow p)) → ((p : ℕ) → p < length flow.nodes → IsGroupSize (kind_of flow p))
+    → (p : ℕ) × (p < length flow.nodes) × (is_input_kind (kind_of flow p) ≡ true) → (p : ℕ) × (p < length flow.nodes) × (is_output_kind (kind_of flow p) ≡ true)
+    → IsWellFormed flow
+rising_is_well_formed flow rising declared ins outs domains policies groups input output =
+    let a = and_parts _ _ rising in
+    let b = and_parts _ _ a.1 in
+    let c = and_parts _ _ b.1 in
+    let at = λ (e : ℕ) (l : e < length flow.edges). and_parts _ _ (each_below-at (λ e. nat_lt (sender flow e) (receiver flow e) && nat_lt (receiver flow e) (length flow.nodes)) (length flow.edges) a.0 e l) in
+    let up : (e : ℕ) → e < length flow.edges → sender flow e < receiver flow e = λ e l. ltb-true (sender flow e) (receiver flow e) (at e l).0 in
+    let there : (e : ℕ) → e < length flow.edges → receiver flow e < length flow.nodes = λ e l. ltb-true (receiver flow e) (length flow.nodes) (at e l).1 in
+    let no_loops : length flow.loops ≡ 0 = eqb-true (length flow.loops) 0 b.0 in
+    record {
+      loops_declared = declared;
+      senders_declared = λ e l. (let u = up e l in let r = there e l in omega arith);
+      receivers_declared = there;
+      in_degrees = ins;
+      out_degrees = outs;
+      domains = domains;
+      feedback = passes_feedback flow (λ p. p) (record { each = λ e l. inr (up e l) });
+      no_enter = passes_no_enter flow (λ p. p) (record { each = λ e l. (let u = up e l in omega arith); enters = λ e l k. up e l });
+      policies = policies;
+      limits = record {
+        nodes = leb-true (length flow.nodes) 256 c.0;
+        edges = leb-true (length flow.edges) 512 c.1;
+        loops = omega arith;
+        counters = λ l h. absurd (omega arith);
+        groups = groups;
+      };
+      input = input;
+      output = output;
+    }
 
 -- a node that has one in-edge and sends at its epochs, between an input and an output
 pub row_is_well_formed : (inner : Node) → IsLoopDeclared (in_a_row inner) inner.kind → IsInDegree inner.kind 1 → IsOutDegree inner.kind 1
     → domain_of_kind (in_a_row inner) inner.kind ≡ Epoch → out_domain_of_kind (in_a_row inner) inner.kind ≡ Epoch → IsGroupSize inner.kind
     → IsPolicyAllowed inner.kind inner.policy → IsWellFormed (in_a_row inner)
 unfolding kind_of policy_of sender receiver in_edges out_edges
-row_is_well_formed inner declared one_in one_out epochs out_epochs group allowed = record {
-  loops_declared = by_three _ tt declared tt;
-  senders_declared = by_two _ (lit< tt) (lit< tt);
-  receivers_declared = by_two _ (lit< tt) (lit< tt);
-  in_degrees = by_three _ refl one_in refl;
-  out_degrees = by_three _ tt one_out refl;
-  domains = by_two _ (sym epochs) out_epochs;
-  feedback = λ p es is. absurd (no_closed_walk (in_a_row inner) (row_up inner) p es is);
-  no_enter = λ p es is passes. no_closed_walk (in_a_row inner) (row_up inner) p es is;
-  policies = by_three _ refl allowed refl;
-  limits = record { nodes = lit≤ tt; edges = lit≤ tt; loops = lit≤ tt; counters = λ l h. absurd (omega arith); groups = by_three _ tt group tt };
-  input = (0, lit< tt, refl);
-  output = (2, lit< tt, refl);
-}
+row_is_well_formed inner declared one_in one_out epochs out_epochs group allowed =
+    rising_is_well_formed (in_a_row inner) refl (by_three _ tt declared tt) (by_three _ refl one_in refl) (by_three _ tt one_out refl) (by_two _ (sym epochs) out_epochs)
+    (by_three _ refl allowed refl) (by_three _ tt group tt) (0, lit< tt, refl) (2, lit< tt, refl)
 
 -- the dataflows of one select and of a running total, with a policy that they may have
 pub select_is_well_formed : (keeping : Policy) → IsPolicyAllowed (Select at_least_ten None) keeping → IsWellFormed (in_a_row (selecting keeping))
@@ -218,23 +232,8 @@ system_by sys formed one_each h = record {
           (and_from _ _ (ap (λ (xs : List (List Rec)). nat_le (length xs) (2 ^ 20)) none) (ap (list_all is_batch) none))
     ]
 
-two_sources_up : (e : ℕ) → e < 5 → sender two_sources_flow e < receiver two_sources_flow e
-unfolding sender receiver
-two_sources_up = by_five _ (lit< tt) (lit< tt) (lit< tt) (lit< tt) (lit< tt)
-
 pub two_sources_is_well_formed : IsWellFormed two_sources_flow
 unfolding kind_of policy_of sender receiver in_edges out_edges
-two_sources_is_well_formed = record {
-  loops_declared = by_six _ tt tt tt tt tt tt;
-  senders_declared = by_five _ (lit< tt) (lit< tt) (lit< tt) (lit< tt) (lit< tt);
-  receivers_declared = by_five _ (lit< tt) (lit< tt) (lit< tt) (lit< tt) (lit< tt);
-  in_degrees = by_six _ refl refl refl (lit≤ tt) refl refl;
-  out_degrees = by_six _ tt tt tt tt tt refl;
-  domains = by_five _ refl refl refl refl refl;
-  feedback = λ p es is. absurd (no_closed_walk two_sources_flow two_sources_up p es is);
-  no_enter = λ p es is passes. no_closed_walk two_sources_flow two_sources_up p es is;
-  policies = by_six _ refl refl refl tt refl refl;
-  limits = record { nodes = lit≤ tt; edges = lit≤ tt; loops = lit≤ tt; counters = λ l h. absurd (omega arith); groups = by_six _ tt tt tt tt tt tt };
-  input = (0, lit< tt, refl);
-  output = (5, lit< tt, refl);
-}
+two_sources_is_well_formed =
+    rising_is_well_formed two_sources_flow refl (by_six _ tt tt tt tt tt tt) (by_six _ refl refl refl (lit≤ tt) refl refl) (by_six _ tt tt tt tt tt refl)
+    (by_five _ refl refl refl refl refl) (by_six _ refl refl refl tt refl refl) (by_six _ tt tt tt tt tt tt) (0, lit< tt, refl) (5, lit< tt, refl)

@@ -1,5 +1,5 @@
--- Witnesses for the laws of runs, of deliveries, of choices and of filtering.
-use Rattle.std.proofs.Common.{Bool, [], ap, arith, inl, inr, lit<, refl, suc, true, zero, ℕ, ⊎_elim, ◌++◌, ◌∷◌, ◌≡◌}
+-- Witnesses for the laws: of a sequence whose numbers are regrouped, of the running total and of the loop.
+use Rattle.std.proofs.Common.{Bool, List, None, Some, [], ap, arith, drop, inl, inr, lit<, lit≤, refl, replicate, suc, true, zero, ℕ, ⊎_elim, ◌++◌, ◌∷◌, ◌≡◌}
 use Rattle.std.proofs.lemmas.Bool.{and_from, and_parts, false≢true, or_cases, or_left, or_right}
 use Rattle.std.proofs.lemmas.Bool.Decides.{nat_tests}
 use Rattle.fw_time.specs.Stamp.{Stamp}
@@ -7,35 +7,94 @@ use Rattle.fw_time.proofs.EachLaws.{each-one}
 use Rattle.fw_frontier.specs.Front.{frontier_of}
 use Rattle.fw_frontier.specs.Frontier.{IsFrontier, join}
 use Rattle.fw_frontier.proofs.NamesLaws.{frontier-closed}
-use Rattle.fw_flow.specs.Dataflow.{NotifiesNobody, batches_of, bounds_of, in_edges, kind_of, max_of, policy_of, receiver, sender}
+use Rattle.fw_flow.specs.Dataflow.{HasEpochs, NotifiesNobody, batches_of, bounds_of, in_edges, kind_of, max_of, out_edges, policy_of, receiver, sender}
 use Rattle.fw_flow.specs.NodeFunction.{sends}
 use Rattle.fw_flow.specs.Projection.{phi, psi}
-use Rattle.fw_flow.specs.WellFormed.{IsWellFormedSystem}
+use Rattle.fw_flow.specs.WellFormed.{IsWellFormed, IsWellFormedSystem}
 use Rattle.fw_flow.specs.declared.choice.Choice.{Choice}
+use Rattle.fw_flow.specs.declared.event.Event.TheVariants.{Notify as Notified}
+use Rattle.fw_flow.specs.declared.step.Step.{Step}
 use Rattle.fw_flow.specs.declared.step.Step.TheVariants.{Recover}
 use Rattle.fw_model.specs.Choice.{ever, kept, until}
 use Rattle.fw_model.specs.Choosing.{CanChoose}
 use Rattle.fw_model.specs.Denotation.{IsDenotation}
 use Rattle.fw_model.specs.Filtering.{ComeFromKept, MeetsInclusions}
 use Rattle.fw_model.specs.History.{IsLegal, delivered}
-use Rattle.fw_model.specs.Machine.{front_of, is_failed}
-use Rattle.fw_model.specs.Steps.{cuts, did}
+use Rattle.fw_model.specs.Machine.{Machine, first_state, front_of, is_failed}
+use Rattle.fw_model.specs.Steps.{Outcome, Run, cuts, did, quiet, with_event}
 use Rattle.fw_model.proofs.ChoosingLaws.{checkpoints-chains}
 use Rattle.fw_model.proofs.DomainLaws.{has_epochs}
 use Rattle.fw_model.proofs.FilteredLaws.{choice-consistent, consistent-meets, set-frontier}
 use Rattle.fw_model.proofs.RecoveryLaws.{denoted-full, runs-legal, settled-stays_denoted}
-use Rattle.fw_examples.specs.Flows.{loop_counts_up, regroup_by_three, two_batches}
+use Rattle.fw_examples.specs.Flows.{loop_counts_up, numbered_both, numbers, regroup_by_three, two_batches, value_at}
 use Rattle.fw_examples.specs.Loop.{counted_rounds, counting_failed, restored}
-use Rattle.fw_examples.specs.Numbers.{numbered_both, numbers}
 use Rattle.fw_examples.specs.RunningTotal.{alike, come_back, next_epochs, outcomes_to_failure, output_failed, steps_to_failure, totals, totals_denoted, two_epochs, two_epochs_kept}
 use Rattle.fw_examples.specs.Witnesses.{AnEpochIsClosed, ChoicesUnite, CutsUnite, EachStepHasItsChoice, FailureIsReached, JoinIsAFrontier, LessIsConsistent, LoopIsFiltered, LowWatermarkRises, MoreIsComplete, NotifiedAndGoesOn, NumbersAreDelivered, OneIsOnItsWay, RecoveryIsReached, SequenceIsFiltered, SomeIsSettled, SomethingIsChosen, TotalsAreFiltered, TotalsAreWellFormed, TwoEpochsAreComplete, TwoRunsMeet, both_rounds, first_rounds, kept_epoch}
 use Rattle.fw_examples.proofs.Choosing.{lies}
-use Rattle.fw_examples.proofs.Fronts.{all_seven, canonical_by, within_two}
+use Rattle.fw_examples.proofs.Fronts.{all_seven, by_four, by_three, canonical_by, within_two}
 use Rattle.fw_examples.proofs.Loop.{loop_is_reached, loop_is_restored, restored_is_largest, under_way_is_complete, under_way_is_legal, under_way_leaves}
-use Rattle.fw_examples.proofs.NumbersRun.{numbers_are_legal, numbers_have_epochs, regroup_is_well_formed}
-use Rattle.fw_examples.proofs.Settling.{admissible_by, closed_by, complete_by}
+use Rattle.fw_examples.proofs.Plays.{Move, after_all, deliver, inject, plays, steps_of}
+use Rattle.fw_examples.proofs.Settling.{admissible_by, closed_by, complete_by, notifies}
 use Rattle.fw_examples.proofs.TotalRuns.{after_failure, collects, epoch_consistent, failed_run, kept_consistent, kept_largest, noting_less, noting_none, recovers, run_through_recovery, run_without_failure, runs_to_two, sum_acknowledged, ten_acknowledged, totals_formed, two_collected, two_offered, union_of_both}
-use Rattle.fw_examples.proofs.WellFormed.{is_well_formed, system_by}
+use Rattle.fw_examples.proofs.WellFormed.{is_well_formed, rising_is_well_formed, system_by}
+use Rattle.fw_flow.specs.declared.step.Step.TheVariants as step
+
+pub regroup_is_well_formed : IsWellFormed regroup_by_three
+unfolding kind_of policy_of sender receiver in_edges out_edges
+regroup_is_well_formed =
+    rising_is_well_formed regroup_by_three refl (by_four _ tt tt tt tt) (by_four _ refl refl refl refl) (by_four _ tt tt tt refl)
+    (by_three _ refl refl refl) (by_four _ refl tt refl refl) (by_four _ tt tt (lit≤ tt, lit< tt) tt) (0, lit< tt, refl) (3, lit< tt, refl)
+
+numbers_system : IsWellFormedSystem numbers
+unfolding kind_of batches_of
+numbers_system = system_by numbers regroup_is_well_formed refl refl
+
+pub numbers_have_epochs : HasEpochs numbers
+numbers_have_epochs = has_epochs numbers numbers_system
+
+-- the recs of epoch 0 come to the sequence
+abbrev first_moves : List Move
+first_moves = inject 0 0 ∷ deliver 0 None (value_at 0 1 0) ∷ deliver 0 None (value_at 0 2 0) ∷ []
+
+-- their numbers to the regrouping, and the rec of epoch 1 to the sequence
+abbrev second_moves : List Move
+second_moves = deliver 1 None (value_at 0 1 0) ∷ deliver 1 None (value_at 1 2 0) ∷ inject 0 1 ∷ deliver 0 None (value_at 1 3 1) ∷ []
+
+abbrev first_came : Machine
+first_came = after_all numbers (first_state numbers) first_moves
+
+abbrev first_numbered : Machine
+first_numbered = with_event numbers first_came (Notified 1 (0 ∷ []))
+
+abbrev second_came : Machine
+second_came = after_all numbers first_numbered second_moves
+
+abbrev both_numbered : Machine
+both_numbered = with_event numbers second_came (Notified 1 (1 ∷ []))
+
+abbrev steps_taken : List Step
+steps_taken = steps_of first_moves (step.Notify 1 (Some (0 ∷ [])) ∷ steps_of second_moves (step.Notify 1 (Some (1 ∷ [])) ∷ []))
+
+abbrev outcomes_shown : List Outcome
+outcomes_shown = replicate 9 (did quiet)
+
+numbers_run : Run numbers (first_state numbers) steps_taken outcomes_shown both_numbered
+unfolding kind_of receiver sender sends batches_of bounds_of policy_of phi
+numbers_run =
+    plays numbers first_moves (first_state numbers) (drop 3 steps_taken) (drop 3 outcomes_shown) both_numbered refl (
+      first_numbered,
+      notifies numbers first_came 1 (0 ∷ []) (until 1 ∷ until 0 ∷ until 0 ∷ until 0 ∷ []) regroup_is_well_formed (lit< tt) refl refl refl,
+      plays numbers second_moves first_numbered (drop 8 steps_taken) (drop 8 outcomes_shown) both_numbered refl (
+        both_numbered,
+        notifies numbers second_came 1 (1 ∷ []) (until 2 ∷ until 0 ∷ until 0 ∷ until 0 ∷ []) regroup_is_well_formed (lit< tt) refl refl refl,
+        refl,
+      ),
+    )
+
+pub numbers_are_legal : IsLegal numbers numbered_both
+numbers_are_legal = runs-legal numbers steps_taken outcomes_shown both_numbered regroup_is_well_formed numbers_have_epochs numbers_run
+
+-- ---- witnesses for the laws of runs, of deliveries, of choices and of filtering
 
 totals_system : IsWellFormedSystem totals
 unfolding kind_of batches_of
@@ -217,9 +276,7 @@ join_is_a_frontier = record {
     other : IsFrontier (bounds_of loop_counts_up 3) (frontier_of (bounds_of loop_counts_up 3) first_rounds)
     other = frontier-closed _ first_rounds
 
--- ---- witnesses for the laws of filtering
-
--- ---- the running total
+-- ---- witnesses for the laws of filtering: the running total
 
 totals_meet : MeetsInclusions totals output_failed two_epochs_kept
 totals_meet = consistent-meets totals output_failed (is_failed output_failed) kept two_epochs_kept (kept_consistent (is_failed output_failed))

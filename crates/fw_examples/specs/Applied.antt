@@ -29,9 +29,8 @@ use Rattle.fw_model.specs.Sending.{ComesFromInside, FollowsHistory, IsSentFrom, 
 use Rattle.fw_model.specs.Settled.{IsDenotedInside, IsFull}
 use Rattle.fw_model.specs.Steps.{GrowsTo, IsTheNext, Outcome, Run, Steps, cuts, did, front_of_cut, is_in_flight, lies_below}
 use Rattle.fw_model.specs.Unions.{IsUnionOfChoices, IsUnion}
-use Rattle.fw_examples.specs.Flows.{loop_counts_up, pair, regroup_by_three, two_batches, out, src, big, big_to_out}
+use Rattle.fw_examples.specs.Flows.{loop_counts_up, pair, regroup_by_three, two_batches, out, src, big, big_to_out, numbered_both, numbers, numbered_epoch}
 use Rattle.fw_examples.specs.Loop.{counted_rounds, counting_failed, restored, under_way, message, round, fed_back_edge}
-use Rattle.fw_examples.specs.Numbers.{numbered_both, numbers, numbered_epoch}
 use Rattle.fw_examples.specs.RunningTotal.{at_epoch, come_back, epoch_kept, next_epochs, outcomes_through_recovery, outcomes_to_failure, outcomes_without_failure, output_failed, run, run_to_out, src_to_run, steps_to_failure, total_flow, totals, totals_denoted, two_epochs, two_epochs_kept, two_kept_noting}
 use Rattle.fw_examples.specs.Witnesses.{both_rounds, complete_then, complete_two, first_rounds, inc, joined_rounds, kept_epoch, kept_rounds, two_rounds}
 use Rattle.fw_model.specs.Resending.{HoldsWhatIsSentAgain, LogHoldsWhatIsSentAgain, messages_to_resend}
@@ -194,7 +193,7 @@ pub record FilteringApplies : Type 0 where
   pub without_log : filtering.NothingPendingWithoutLog
       → pending totals (events (filtered totals two_epochs_kept output_failed.history)) src_to_run ≡ []
 
--- ---- what the laws of restoring say of the running total, in the state of the failure and at the recovery from it, of the loop,
+-- ---- what the laws of restoring say
 
 -- the laws of restoring, of the state of the failure, in which a checkpoint is collected, one acknowledged and one in flight,
 -- and of the recovery that keeps two epochs
@@ -248,7 +247,7 @@ pub record LogsRestored : Type 0 where
   pub kept_logs : restoring.CheckpointLogsHoldWhatIsSentAgain
       → AllByRecursion (λ (write : Write). LogHoldsWhatIsSentAgain checkpoints_logged log_kept both_come_back write.node write.written) log_kept.writes
 
--- ---- what the laws of projections, of sending and of the denotation say of the loop, of the sequence and of the running total
+-- ---- what the laws of projections, of sending and of the denotation say
 
 -- three rounds of epoch 0, at the feedback
 abbrev pub counted : Frontier

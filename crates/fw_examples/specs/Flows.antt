@@ -1,4 +1,4 @@
--- The dataflows of the examples, with their batches.
+-- The dataflows of the examples, with their batches; and a history of a sequence whose numbers are regrouped.
 use Rattle.std.specs.Prelude.{List, Some, [], codes, ℕ, ◌∷◌, None}
 use Rattle.fw_bag.specs.declared.rec.Rec.{Rec}
 use Rattle.fw_bag.specs.declared.select.Comparison.TheVariants.{Less, GreaterOrEqual}
@@ -10,6 +10,9 @@ use Rattle.fw_flow.specs.declared.kind.Kind.TheVariants.{Concat, Enter, Feedback
 use Rattle.fw_flow.specs.declared.kind.Policy.{Policy}
 use Rattle.fw_flow.specs.declared.node.Edge.{Edge}
 use Rattle.fw_flow.specs.declared.node.Node.{Node}
+use Rattle.fw_flow.specs.declared.event.Event.{Event}
+use Rattle.fw_flow.specs.declared.event.Event.TheVariants.{Deliver, Inject, Notify}
+use Rattle.fw_flow.specs.declared.event.Message.{Message}
 use Rattle.fw_bag.specs.declared.select.NewValue.TheVariants as new
 use Rattle.fw_bag.specs.declared.select.Term.TheVariants as term
 use Rattle.fw_flow.specs.declared.kind.Policy.TheVariants as policy
@@ -131,7 +134,7 @@ one_select_flow = in_a_row (selecting policy.None)
 abbrev pub one_select : List (List Rec) → System
 one_select = fed (selecting policy.None)
 
--- ---- the dataflow of two inputs, the second through a select that keeps nothing, put together at a logged concat, summed by a
+-- ---- two inputs, the second through a select that keeps nothing, put together and summed
 
 -- the first input
 abbrev pub first_source : ℕ
@@ -193,3 +196,31 @@ two_sources_flow = record {
 -- the dataflow with these batches of its inputs
 abbrev pub two_sources : List (List Rec) → List (List Rec) → System
 two_sources first second = record { flow = two_sources_flow; batches = first ∷ second ∷ [] ∷ [] ∷ [] ∷ [] ∷ [] }
+
+-- ---- a history of a sequence whose numbers are regrouped into epochs of three
+
+-- the regrouping with two batches, of two recs and of one
+abbrev pub numbers : System
+numbers = record {
+  flow = regroup_by_three;
+  batches = ((pair 1 1 ∷ pair 1 2 ∷ []) ∷ (pair 1 3 ∷ []) ∷ []) ∷ [] ∷ [] ∷ [] ∷ [];
+}
+
+-- a rec of this value at an epoch or number, from an epoch
+abbrev pub value_at : ℕ → ℕ → ℕ → Message
+value_at n value x = record { at = n ∷ []; rec = pair 1 value; causes = (x ∷ []) ∷ [] }
+
+-- the sequence numbered the recs of epoch 0, and both came to the regrouping
+abbrev pub numbered_epoch : List Event
+numbered_epoch =
+    Deliver 1 (value_at 1 2 0)
+    ∷ Deliver 1 (value_at 0 1 0)
+    ∷ Notify 1 (0 ∷ [])
+    ∷ Deliver 0 (value_at 0 2 0)
+    ∷ Deliver 0 (value_at 0 1 0)
+    ∷ Inject 0 0
+    ∷ []
+
+-- then it numbered the rec of epoch 1
+abbrev pub numbered_both : List Event
+numbered_both = Notify 1 (1 ∷ []) ∷ Deliver 0 (value_at 1 3 1) ∷ Inject 0 1 ∷ numbered_epoch

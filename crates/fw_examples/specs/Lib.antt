@@ -3,7 +3,6 @@ pub mod Loop
 pub mod Inclusions
 pub mod Logs
 pub mod RunningTotal
-pub mod Numbers
 pub mod Witnesses
 pub mod Applied
 pub mod KindsSend

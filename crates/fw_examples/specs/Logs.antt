@@ -57,7 +57,7 @@ LosesAnEpoch =
     (did quiet ∷ did quiet ∷ did quiet ∷ did quiet ∷ did quiet ∷ did quiet ∷ did (cuts nothing_restored) ∷ [])
     nothing_left
 
--- ---- a select that logs what it does, a collection, and a failure of the select and of the output after it: which of the logged
+-- ---- a select that logs what it does, a collection, and a failure of the select and of the output after it
 
 -- two batches of a rec that is selected
 abbrev pub selected_batches : List (List Rec)

@@ -13,7 +13,7 @@ use Rattle.fw_flow.specs.declared.kind.Kind.TheVariants.{Sequence}
 use Rattle.fw_flow.specs.declared.restoring.Restoring.TheVariants.{Checkpoints}
 use Rattle.fw_flow.specs.declared.step.Step.TheVariants.{Collect, Recover}
 use Rattle.fw_model.specs.Acknowledgements.{Shows, stamps_acknowledged}
-use Rattle.fw_model.specs.Choice.{IsCandidate, IsChoiceWithin, IsConsistent, IsCutWithin, IsLargest, cut_of, ever, filtered, kept, kept_of, note_of, until, LiesInReceiver}
+use Rattle.fw_model.specs.Choice.{IsCandidate, LiesInReceiver, IsChoiceWithin, IsConsistent, IsCutWithin, IsLargest, cut_of, ever, filtered, kept, kept_of, note_of, until}
 use Rattle.fw_model.specs.Choosing.{AreCheckpointsChains, HasItsChoice}
 use Rattle.fw_model.specs.Covers.{covers_in}
 use Rattle.fw_model.specs.Denotation.{IsDenotation, bag_at, rounds}
@@ -23,9 +23,8 @@ use Rattle.fw_model.specs.Machine.{Machine, Write, acknowledged, collected, even
 use Rattle.fw_model.specs.Settled.{HasMoreToSettle, IsCutWithinSettled, IsDenotedInside, IsFull}
 use Rattle.fw_model.specs.Steps.{HaveNoRecovery, Run, Steps, cuts, did, lows}
 use Rattle.fw_model.specs.Unions.{IsUnionOfChoices, IsUnionOfCuts}
-use Rattle.fw_examples.specs.Flows.{loop_counts_up, pair, regroup_by_three, two_batches, out, src}
+use Rattle.fw_examples.specs.Flows.{loop_counts_up, pair, regroup_by_three, two_batches, out, src, numbered_both, numbered_epoch, numbers, value_at}
 use Rattle.fw_examples.specs.Loop.{counted_rounds, counting_failed, message, outcomes_left, outcomes_shown, restored, round, steps_left, steps_taken, under_way, without_the_second}
-use Rattle.fw_examples.specs.Numbers.{numbered_both, numbered_epoch, numbers, value_at}
 use Rattle.fw_examples.specs.RunningTotal.{alike, at_epoch, come_back, epoch_kept, next_epochs, outcomes_through_recovery, outcomes_to_failure, outcomes_up_to_two, outcomes_without_failure, output_failed, run, run_to_out, src_to_run, steps_through_recovery, steps_to_failure, steps_up_to_two, steps_without_failure, total_flow, totals, totals_denoted, two_epochs, two_epochs_kept, two_kept_noting}
 
 -- The running total is well formed, its batches have epochs, and the rounds are its denotation.
@@ -206,7 +205,7 @@ pub record OneIsOnItsWay : Type 0 where
   pub sent_once : how_often (pair 1 15) (recs_at (2 ∷ []) (sent totals (next_epochs ++ two_epochs) run_to_out)) ≡ 1
   pub not_delivered : how_often (pair 1 15) (recs_at (2 ∷ []) (delivered (next_epochs ++ two_epochs) run_to_out)) ≡ 0
 
--- ---- witnesses for the laws of filtering: what they ask holds of the recoveries of the running total and of the loop, and of a
+-- ---- witnesses for the laws of filtering: what they ask holds of recoveries of the running total, the loop and a sequence
 
 -- what each node of the running total keeps in the recovery
 abbrev pub kept_totals : ℕ → Frontier

@@ -1,5 +1,5 @@
-//! What the laws say of their witnesses.
-ghost use Rattle.fw_examples.specs.Applied.{ChoicesApply, ChoosingApplies, DeliveriesApply, FilteringApplies, LegalHistoriesApply, RunsApply, StepsApply};
+//! What the laws say of what meets what they ask.
+ghost use Rattle.fw_examples.specs.Applied.{ChoicesApply, ChoosingApplies, DeliveriesApply, FilteringApplies, LegalHistoriesApply, RunsApply, StepsApply, CollectionRestored, LogsRestored, RestoringApplies, DenotationApplies, ProjectionsApply, SendingApplies};
 
 /// The laws of runs and of recoveries.
 #[tactic(auto, using(crate::proofs::Applied::runs_apply))]
@@ -41,4 +41,40 @@ pub fn legal_histories_apply()
 #[tactic(auto, using(crate::proofs::Applied::filtering_applies))]
 pub fn filtering_applies()
     ensures { FilteringApplies }
+{}
+
+/// The laws of restoring.
+#[tactic(auto, using(crate::proofs::Applied::restoring_applies))]
+pub fn restoring_applies()
+    ensures { RestoringApplies }
+{}
+
+/// The laws of restoring of a node that logs each event, after a collection, and of a running total that does.
+#[tactic(auto, using(crate::proofs::Applied::collection_restored))]
+pub fn collection_restored()
+    ensures { CollectionRestored }
+{}
+
+/// The laws of restoring of logs from which something is sent again.
+#[tactic(auto, using(crate::proofs::Applied::logs_restored))]
+pub fn logs_restored()
+    ensures { LogsRestored }
+{}
+
+/// The laws of projections.
+#[tactic(auto, using(crate::proofs::Applied::projections_apply))]
+pub fn projections_apply()
+    ensures { ProjectionsApply }
+{}
+
+/// The laws of sending.
+#[tactic(auto, using(crate::proofs::Applied::sending_applies))]
+pub fn sending_applies()
+    ensures { SendingApplies }
+{}
+
+/// The laws of the denotation.
+#[tactic(auto, using(crate::proofs::Applied::denotation_applies))]
+pub fn denotation_applies()
+    ensures { DenotationApplies }
 {}

@@ -18,6 +18,13 @@ abbrev pub IsCutText : Option (List ℕ → Option (List ℕ)) → List ℕ → 
 IsCutText texts name limit bytes =
     IfSome texts (λ text. IsSomeAnd (text name) (λ whole. (limit < length whole) × (bytes ≡ take (limit + 1) whole)))
 
+-- What is known of a sink: all bytes that it has taken, where it tells them; how often it refused a write, by a fault or for
+-- want of memory; and how often it failed.
+pub record SinkView : Type 0 where
+  pub taken : Option (List ℕ)
+  pub refusals : ℕ
+  pub faults : ℕ
+
 -- a sink has taken this piece after what it had taken, where it tells that
 abbrev pub Takes : Option (List ℕ) → List ℕ → Option (List ℕ) → Type 0
 Takes before piece after = after ≡ option_map (λ taken. taken ++ piece) before

@@ -15,8 +15,7 @@ pub struct FaultlessSink {
 impl FaultlessSink {
     /// A sink that has taken nothing.
     pub fn new(alloc: Global) -> Self
-        ensures taken { ⟦<FaultlessSink as Sink>⟧.taken result ≡ Some [] }
-        ensures unrefused { ⟦<FaultlessSink as Sink>⟧.refusal_count result ≡ 0 }
+        ensures { ⟦<FaultlessSink as Sink>⟧.view result ≡ record { taken = Some []; refusals = 0; faults = 0 } }
     {
         FaultlessSink {
             taken: Vec::new(alloc),
@@ -26,18 +25,14 @@ impl FaultlessSink {
 
     /// All bytes that it has taken.
     pub fn taken(&self) -> &[u8]
-        ensures { ⟦<FaultlessSink as Sink>⟧.taken self.now ≡ Some result.now }
+        ensures { (⟦<FaultlessSink as Sink>⟧.view self.now).taken ≡ Some result.now }
     {
         &self.taken
     }
 }
 
 impl Sink for FaultlessSink {
-    ghost taken = { λ sink. Some sink.taken.items };
-
-    ghost refusal_count = { λ sink. sink.refusals };
-
-    ghost fault_count = { λ _. 0 };
+    ghost view = { λ sink. record { taken = Some sink.taken.items; refusals = sink.refusals; faults = 0 } };
 
     fn write(&mut self, piece: &[u8]) -> Result<(), OutFault> {
         if self.taken.extend_from_slice(piece).is_err() {
@@ -62,9 +57,7 @@ pub struct MemSink {
 impl MemSink {
     /// A sink that has taken nothing, whose writes of these numbers are to fail.
     pub fn new(alloc: Global, failing: Vec<u64>) -> Self
-        ensures taken { ⟦<MemSink as Sink>⟧.taken result ≡ Some [] }
-        ensures unrefused { ⟦<MemSink as Sink>⟧.refusal_count result ≡ 0 }
-        ensures faultless { ⟦<MemSink as Sink>⟧.fault_count result ≡ 0 }
+        ensures { ⟦<MemSink as Sink>⟧.view result ≡ record { taken = Some []; refusals = 0; faults = 0 } }
     {
         MemSink {
             sink: FaultlessSink::new(alloc),
@@ -74,18 +67,14 @@ impl MemSink {
 
     /// All bytes that it has taken.
     pub fn taken(&self) -> &[u8]
-        ensures { ⟦<MemSink as Sink>⟧.taken self.now ≡ Some result.now }
+        ensures { (⟦<MemSink as Sink>⟧.view self.now).taken ≡ Some result.now }
     {
         self.sink.taken()
     }
 }
 
 impl Sink for MemSink {
-    ghost taken = { λ sink. Some sink.sink.taken.items };
-
-    ghost refusal_count = { λ sink. sink.sink.refusals };
-
-    ghost fault_count = { λ sink. sink.plan.faults };
+    ghost view = { λ sink. record { taken = Some sink.sink.taken.items; refusals = sink.sink.refusals; faults = sink.plan.faults } };
 
     fn write(&mut self, piece: &[u8]) -> Result<(), OutFault> {
         if self.plan.next_fails() {

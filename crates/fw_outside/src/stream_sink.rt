@@ -16,8 +16,7 @@ pub struct StreamSink<W: Write> {
 impl<W: Write> StreamSink<W> {
     /// A sink over this stream.
     pub fn new(stream: W) -> Self
-        ensures unrefused { ⟦<StreamSink<W> as Sink>⟧.refusal_count result ≡ 0 }
-        ensures faultless { ⟦<StreamSink<W> as Sink>⟧.fault_count result ≡ 0 }
+        ensures { ⟦<StreamSink<W> as Sink>⟧.view result ≡ record { taken = None; refusals = 0; faults = 0 } }
     {
         StreamSink { stream, faults: 0 }
     }
@@ -30,11 +29,7 @@ fn write_and_flush<W: Write>(stream: &mut W, piece: &[u8]) -> io::Result<()> {
 }
 
 impl<W: Write> Sink for StreamSink<W> {
-    ghost taken = { λ _. None };
-
-    ghost refusal_count = { λ sink. sink.faults };
-
-    ghost fault_count = { λ sink. sink.faults };
+    ghost view = { λ sink. record { taken = None; refusals = sink.faults; faults = sink.faults } };
 
     /// Writes the piece and flushes the stream. An error of either is a fault, want of memory too.
     fn write(&mut self, piece: &[u8]) -> Result<(), OutFault> {

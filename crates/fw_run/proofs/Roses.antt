@@ -2,7 +2,7 @@
 use Rattle.std.proofs.Common.{ℕ, ◌≤◌, inl, inr, arith}
 use Rattle.std.proofs.lemmas.Bool.{cases_lt}
 use Rattle.fw_outside.specs.Outside.{Rose}
-use Rattle.std.proofs.Common.{Result, Ok, Err, OnOk, OnErr, ap}
+use Rattle.std.proofs.Common.{Result, Ok, Err, ap}
 use Rattle.std.specs.Result.{IsErrOf}
 
 -- a count that rose in the last call rose in all of them
@@ -23,11 +23,3 @@ same_fault A B E fault other e = ap with_fault (ap fault_in e)
 
     with_fault : E → Result B E
     with_fault f = Err f
-
-pub on_ok_from : {T E : Type 0} (r : Result T E) (P Q : Type 0) → OnOk r P → (P → Q) → OnOk r Q
-on_ok_from (Ok t) P Q p f = f p
-on_ok_from (Err e) P Q p f = tt
-
-pub on_err_from : {T E : Type 0} (r : Result T E) (P Q : Type 0) → OnErr r P → (P → Q) → OnErr r Q
-on_err_from (Ok t) P Q p f = tt
-on_err_from (Err e) P Q p f = f p

@@ -1,7 +1,6 @@
--- What a command does, from its words and the folder's texts to what it writes.
-use Rattle.std.specs.Prelude.{◌≡◌, ◌⊎◌, ◌<◌, ℕ, true, List, length, Option, take}
+-- What the machine does with the steps of a schedule, and the text that its run prints.
+use Rattle.std.specs.Prelude.{◌≡◌, ◌<◌, ℕ, true, List, length, take}
 use Rattle.std.specs.List.{AllByRecursion}
-use Rattle.fw_outside.specs.Outside.{Takes, TakesPrefix}
 use Rattle.fw_flow.specs.declared.choice.Choice.{Choice}
 use Rattle.fw_flow.specs.declared.step.Step.{Step}
 use Rattle.fw_flow.specs.declared.step.Step.TheVariants.{Recover}
@@ -9,14 +8,10 @@ use Rattle.fw_flow.specs.Dataflow.{System}
 use Rattle.fw_model.specs.Choice.{View, IsCandidate, IsLargest}
 use Rattle.fw_model.specs.Denotation.{Family, IsDenotation}
 use Rattle.fw_model.specs.History.{IsLegal}
+use Rattle.fw_model.specs.Acknowledgements.{IsDenoted, stamps_acknowledged, first_stamps}
 use Rattle.fw_model.specs.Machine.{Machine, events, first_state, bound_of, is_failed}
 use Rattle.fw_model.specs.Steps.{cuts, Outcome, did, Steps, Run}
-use Rattle.fw_model.specs.Acknowledgements.{IsDenoted, stamps_acknowledged, first_stamps}
-use Rattle.fw_run.specs.declared.status.Status.{Status}
-use Rattle.fw_run.specs.declared.status.Status.TheVariants.{Done, ReadFault, WriteFault, NoMemory}
 use Rattle.fw_run.specs.Printed.{text_of}
-use Rattle.fw_run.specs.Texts.{Texts, spelled_system, spelled_steps, AreAccepted, AreThere}
-use Rattle.fw_run.specs.Words.{TextNames}
 
 -- the machine takes the steps from its first state, and this is the text of what comes of them
 pub record PrintsRun (sys : System) (steps : List Step) (printed : List ℕ) : Type 0 where
@@ -24,32 +19,6 @@ pub record PrintsRun (sys : System) (steps : List Step) (printed : List ℕ) : T
   pub last : Machine
   pub run : Run sys (first_state sys) steps outcomes last
   pub text : printed ≡ text_of sys.flow outcomes
-
--- the whole printed text of the run of these steps was taken
-abbrev pub IsPrinted : System → List Step → Option (List ℕ) → Option (List ℕ) → Type 0
-IsPrinted sys steps before after = (printed : List ℕ) × PrintsRun sys steps printed × Takes before printed after
-
--- first bytes of it were taken, none of them or all perhaps
-abbrev pub IsPartPrinted : System → List Step → Option (List ℕ) → Option (List ℕ) → Type 0
-IsPartPrinted sys steps before after = (printed : List ℕ) × PrintsRun sys steps printed × TakesPrefix before printed after
-
--- the texts under the names are accepted, and the whole printed text of their run was taken
-pub record Prints (told : Option (List ℕ → Option (List ℕ))) (names : TextNames) (before after : Option (List ℕ)) : Type 0 where
-  pub texts : Texts
-  pub there : AreThere told names texts
-  pub accepted : AreAccepted texts
-  pub whole : IsPrinted (spelled_system texts) (spelled_steps texts) before after
-
--- the texts under the names are accepted, and first bytes of the printed text of their run were taken
-pub record PrintsPart (told : Option (List ℕ → Option (List ℕ))) (names : TextNames) (before after : Option (List ℕ)) : Type 0 where
-  pub texts : Texts
-  pub there : AreThere told names texts
-  pub accepted : AreAccepted texts
-  pub part : IsPartPrinted (spelled_system texts) (spelled_steps texts) before after
-
--- the run of accepted texts was printed, or what is outside failed or memory was refused
-abbrev pub IsRunEnd : Status → Type 0
-IsRunEnd status = (status ≡ Done) ⊎ ((status ≡ ReadFault) ⊎ ((status ≡ WriteFault) ⊎ (status ≡ NoMemory)))
 
 -- after each number of the steps the machine's history is legal
 abbrev pub StaysLegal : System → List Step → Type 0
@@ -84,3 +53,18 @@ abbrev pub CutsToLargest : System → List Step → Type 0
 CutsToLargest sys steps = (count : ℕ) (outcomes : List Outcome) (state next : Machine) (choice : Choice)
     → Run sys (first_state sys) (take count steps) outcomes state → Steps sys state Recover next (did (cuts choice))
     → (view : View) → IsLargest sys state (IsCandidate sys state (is_failed state) view) choice
+
+-- what is true of the system and the steps that accepted texts spell
+pub record Headline (sys : System) (steps : List Step) : Type 0 where
+  -- each number of first steps has exactly one run, so one text can be printed
+  pub one_run : HasOneRun sys steps
+  -- its histories are legal, also right after a failure or a recovery
+  pub legal : StaysLegal sys steps
+  -- each output acknowledges its first epochs, in order and each once
+  pub in_order : AcknowledgesInOrder sys steps
+  -- each acknowledgement has the recs that the dataflow denotes there
+  pub denoted : ShowsDenotation sys steps
+  -- where a node is failed a recovery is enabled
+  pub recovers : RecoversFailed sys steps
+  -- each recovery cuts the nodes to the largest consistent choice
+  pub largest : CutsToLargest sys steps

@@ -1,3 +1,4 @@
+pub mod Call
 pub mod Headline
 pub mod Performing
 pub mod Printed
@@ -5,3 +6,4 @@ pub mod Reading
 pub mod Status
 pub mod Texts
 pub mod Words
+pub mod Writing

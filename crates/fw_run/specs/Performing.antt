@@ -1,14 +1,17 @@
 -- What was printed of a step, and how far it led.
-use Rattle.std.specs.Prelude.{◌≡◌, ◌⊎◌, ℕ, ◌<◌, Bool, List, [], length, Option, Some, None}
+use Rattle.std.specs.Prelude.{◌≡◌, ◌⊎◌, ℕ, ◌<◌, Bool, List, [], length, Option, Some, None, Result, Ok, Err}
 use Rattle.std.specs.declared.alloc.Global.{Global}
 use Rattle.std.specs.declared.vec.Vec.{Vec}
-use Rattle.fw_outside.specs.Outside.{Takes, TakesPrefix}
+use Rattle.fw_outside.specs.declared.fault.OutFault.{OutFault}
+use Rattle.fw_outside.specs.Outside.{SinkView}
 use Rattle.fw_flow.specs.declared.step.Step.{Step}
-use Rattle.fw_flow.specs.Dataflow.{Dataflow}
+use Rattle.fw_flow.specs.Dataflow.{Dataflow, System}
 use Rattle.fw_model.specs.Machine.{Machine}
 use Rattle.fw_model.specs.Steps.{acked, cuts, Outcome, did, Steps}
 use Rattle.fw_plain.specs.Engine.{Standing}
+use Rattle.fw_run.specs.Headline.{PrintsRun}
 use Rattle.fw_run.specs.Printed.{outcome_text, is_idle}
+use Rattle.fw_run.specs.Writing.{IsWritten, IsCutOff, Writes}
 
 -- the bytes of a line, none where there is no line
 abbrev pub shown_bytes : Option (Vec ℕ Global) → List ℕ
@@ -21,15 +24,26 @@ IsShownOf flow (did (acked o t recs)) = o < length flow.nodes
 IsShownOf flow (did (cuts choice)) = length choice.cuts ≡ length flow.nodes
 IsShownOf flow outcome = Unit {0}
 
--- the step was taken from one state to the next, and the lines of what came of it were taken
-pub record IsStepPrinted (old new : Standing) (step : Step) (idle : Bool) (before after : Option (List ℕ)) : Type 0 where
+-- the step was taken from one state to the next, and the lines of what came of it were written
+pub record IsStepPrinted (old new : Standing) (step : Step) (idle : Bool) (before after : SinkView) : Type 0 where
   pub outcome : Outcome
   pub steps : Steps old.sys old.state step new.state outcome
   pub is_idle : idle ≡ is_idle outcome
-  pub taken : Takes before (outcome_text old.sys.flow outcome) after
+  pub written : IsWritten (outcome_text old.sys.flow outcome) before after
 
--- nothing was taken, or first bytes of the lines of what comes of the step
-abbrev pub IsStepPartPrinted : Standing → Step → Option (List ℕ) → Option (List ℕ) → Type 0
-IsStepPartPrinted old step before after =
-    (after ≡ before)
-    ⊎ ((next : Machine) × (outcome : Outcome) × Steps old.sys old.state step next outcome × TakesPrefix before (outcome_text old.sys.flow outcome) after)
+-- nothing was written, or the lines of what comes of the step were cut off
+abbrev pub IsStepCutOff : Standing → Step → OutFault → SinkView → SinkView → Type 0
+IsStepCutOff old step fault before after =
+    IsCutOff [] fault before after
+    ⊎ ((next : Machine) × (outcome : Outcome) × Steps old.sys old.state step next outcome × IsCutOff (outcome_text old.sys.flow outcome) fault before after)
+
+-- what an answer to a step says: whether it was idle, and that it was printed, or by which fault its lines were cut off
+abbrev pub PrintsStep : Standing → Standing → Step → Result Bool OutFault → SinkView → SinkView → Type 0
+PrintsStep old new step (Ok idle) before after = IsStepPrinted old new step idle before after
+PrintsStep old new step (Err fault) before after = IsStepCutOff old step fault before after
+
+-- the steps have a run from the first state, and its text was written, or cut off by the fault that was answered
+pub record Performs {T : Type 0} (sys : System) (steps : List Step) (answer : Result T OutFault) (before after : SinkView) : Type 0 where
+  pub printed : List ℕ
+  pub text : PrintsRun sys steps printed
+  pub written : Writes printed answer before after

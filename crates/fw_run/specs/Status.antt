@@ -1,7 +1,7 @@
 -- The status of a command, and the line that stands for it.
-use Rattle.std.specs.Prelude.{◌≡◌, ◌⊎◌, ℕ, Option, List, [], ◌∷◌, ◌++◌, codes}
+use Rattle.std.specs.Prelude.{◌≡◌, ◌⊎◌, ℕ, List, [], ◌∷◌, ◌++◌, codes}
 use Rattle.std.specs.Fmt.{decimal}
-use Rattle.fw_outside.specs.Outside.{Rose, Takes, TakesPrefix}
+use Rattle.fw_outside.specs.Outside.{SinkView, Rose, Takes, TakesPrefix}
 use Rattle.fw_lines.specs.declared.refusal.Code.{Code}
 use Rattle.fw_lines.specs.declared.refusal.Code.TheVariants.{F1, F2, F3, F4, F5, F6, F7, F8, F9, F10, F11, I1, I2, I3, I4, I5, S1, S2, S3, S4}
 use Rattle.fw_lines.specs.declared.refusal.Refusal.{Refusal}
@@ -51,15 +51,15 @@ note_line WriteFault = codes "write fault\n"
 note_line NoMemory = codes "no memory\n"
 
 -- a sink has taken the whole line, and its count of refusals stayed; or first bytes of it, and that count rose or stands at its end
-abbrev pub IsTold : List ℕ → Option (List ℕ) → Option (List ℕ) → ℕ → ℕ → Type 0
-IsTold line before after refusals_before refusals_after =
-    (Takes before line after × (refusals_after ≡ refusals_before))
-    ⊎ (TakesPrefix before line after × Rose refusals_before refusals_after)
+abbrev pub IsTold : List ℕ → SinkView → SinkView → Type 0
+IsTold line before after =
+    (Takes before.taken line after.taken × (after.refusals ≡ before.refusals))
+    ⊎ (TakesPrefix before.taken line after.taken × Rose before.refusals after.refusals)
 
 -- the numbers that a status may have
 abbrev pub status_numbers : List ℕ
 status_numbers = 0 ∷ 2 ∷ 3 ∷ 4 ∷ 5 ∷ 6 ∷ 7 ∷ 10 ∷ []
 
--- a text was refused
-abbrev pub TellsRefusal : Status → Type 0
-TellsRefusal status = (refusal : Refusal) × (status ≡ Refused refusal)
+-- the status that is answered is the one that was, or that of want of memory where this was a refusal
+abbrev pub IsTellingOf : Status → Status → Type 0
+IsTellingOf status result = (result ≡ status) ⊎ (((refusal : Refusal) × (status ≡ Refused refusal)) × (result ≡ NoMemory))

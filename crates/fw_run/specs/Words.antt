@@ -1,5 +1,5 @@
 -- The words of a command.
-use Rattle.std.specs.Prelude.{ℕ, Bool, false, not, ◌&&◌, ◌==◌, List, [], ◌∷◌, map, codes}
+use Rattle.std.specs.Prelude.{ℕ, Bool, false, not, ◌&&◌, ◌==◌, if◌then◌else◌, List, [], ◌∷◌, map, Option, Some, None, codes}
 use Rattle.std.specs.Str.{bytes_eq}
 use Rattle.std.specs.Borrow.{Bor}
 use Rattle.fw_run.specs.declared.words.RunWords.{RunWords}
@@ -13,22 +13,23 @@ abbrev pub is_operand : List ℕ → Bool
 is_operand [] = false
 is_operand (byte ∷ bytes) = not (byte == 45)
 
--- the words are `run` and three operands
-abbrev pub are_run_words : List (List ℕ) → Bool
-are_run_words (command ∷ flow ∷ inputs ∷ schedule ∷ []) =
-    bytes_eq command (codes "run") && is_operand flow && is_operand inputs && is_operand schedule
-are_run_words _ = false
-
 -- the names of the three texts of a run
 pub record TextNames : Type 0 where
   pub flow : List ℕ
   pub inputs : List ℕ
   pub schedule : List ℕ
 
--- the names that the words of a run give
-abbrev pub text_names_of : List (List ℕ) → TextNames
-text_names_of (command ∷ flow ∷ inputs ∷ schedule ∷ words) = record { flow = flow; inputs = inputs; schedule = schedule }
-text_names_of words = record { flow = []; inputs = []; schedule = [] }
+-- a command with its operands
+pub data Command : Type 0 where
+  run : TextNames → Command
+
+-- the command that words are, if they are one: `run` and three operands
+abbrev pub command_of : List (List ℕ) → Option Command
+command_of (word ∷ flow ∷ inputs ∷ schedule ∷ []) =
+    if bytes_eq word (codes "run") && is_operand flow && is_operand inputs && is_operand schedule
+    then Some (run (record { flow = flow; inputs = inputs; schedule = schedule }))
+    else None
+command_of words = None
 
 -- the names that parsed words give
 abbrev pub text_names_in : RunWords → TextNames

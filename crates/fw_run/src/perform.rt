@@ -1,13 +1,12 @@
 //! The steps are taken and what comes of them is printed.
-ghost use Rattle.std.specs.Prelude.{◌≡◌, ◌≤◌, true, IfOk, OnOk, OnErr, IsErrOf};
-ghost use Rattle.fw_outside.specs.Outside.{Rose, Takes, TakesPrefix};
+ghost use Rattle.std.specs.Prelude.{◌≡◌, true};
+ghost use Rattle.fw_flow.specs.Dataflow.{system_of};
 ghost use Rattle.fw_flow.specs.Step.{is_plain_step};
 ghost use Rattle.fw_plain.specs.Engine.{outcome_of};
-ghost use Rattle.fw_run.specs.Headline.{IsPrinted, IsPartPrinted};
-ghost use Rattle.fw_run.specs.Performing.{IsStepPrinted, IsStepPartPrinted, shown_bytes};
+ghost use Rattle.fw_run.specs.Performing.{PrintsStep, Performs, shown_bytes};
 ghost use Rattle.fw_run.specs.Printed as spec;
 ghost use Rattle.fw_run.specs.Reading.{IsReady};
-ghost use Rattle.fw_flow.specs.Dataflow.{system_of};
+ghost use Rattle.fw_run.specs.Writing.{Writes};
 
 use crate::reading::Job;
 use crate::text::{done_line, line_of};
@@ -19,11 +18,7 @@ use std::alloc::Global;
 /// Takes the steps, and prints each effect and last how many steps there were and how many were idle.
 pub(crate) fn perform<O: Sink>(alloc: Global, job: Job, out: &mut O) -> Result<(), OutFault>
     requires { IsReady (system_of job.flow job.batches) job.steps }
-    ensures printed { OnOk result (IsPrinted (system_of job.flow job.batches) job.steps (O.taken out.old) (O.taken out.new)) }
-    ensures part { OnErr result (IsPartPrinted (system_of job.flow job.batches) job.steps (O.taken out.old) (O.taken out.new)) }
-    ensures none_refused { OnOk result (O.refusal_count out.new ≡ O.refusal_count out.old) }
-    ensures failed { IsErrOf result OutFault.Failed → Rose (O.fault_count out.old) (O.fault_count out.new) }
-    ensures never_falls { O.fault_count out.old ≤ O.fault_count out.new }
+    ensures { Performs (system_of job.flow job.batches) job.steps result (O.view out.old) (O.view out.new) }
 {
     let Job {
         flow,
@@ -50,11 +45,7 @@ fn perform_step<O: Sink>(
 ) -> Result<bool, OutFault>
     requires { is_plain_step step.now ≡ true }
     ensures system { engine.new.sys ≡ engine.old.sys }
-    ensures printed { IfOk result (λ is_idle. IsStepPrinted engine.old engine.new step.now is_idle (O.taken out.old) (O.taken out.new)) }
-    ensures part { OnErr result (IsStepPartPrinted engine.old step.now (O.taken out.old) (O.taken out.new)) }
-    ensures none_refused { OnOk result (O.refusal_count out.new ≡ O.refusal_count out.old) }
-    ensures failed { IsErrOf result OutFault.Failed → Rose (O.fault_count out.old) (O.fault_count out.new) }
-    ensures never_falls { O.fault_count out.old ≤ O.fault_count out.new }
+    ensures printed { PrintsStep engine.old engine.new step.now result (O.view out.old) (O.view out.new) }
 {
     let stepped = engine.step(step)?;
     let idle = is_idle(&stepped);
@@ -72,11 +63,7 @@ fn is_idle(stepped: &Stepped) -> bool
 
 // Writes the line, if there is one.
 fn write_line<O: Sink>(line: Option<Vec<u8>>, out: &mut O) -> Result<(), OutFault>
-    ensures whole { OnOk result (Takes (O.taken out.old) (shown_bytes line) (O.taken out.new)) }
-    ensures refused { OnErr result (TakesPrefix (O.taken out.old) (shown_bytes line) (O.taken out.new)) }
-    ensures none_refused { OnOk result (O.refusal_count out.new ≡ O.refusal_count out.old) }
-    ensures failed { IsErrOf result OutFault.Failed → Rose (O.fault_count out.old) (O.fault_count out.new) }
-    ensures never_falls { O.fault_count out.old ≤ O.fault_count out.new }
+    ensures { Writes (shown_bytes line) result (O.view out.old) (O.view out.new) }
 {
     match line {
         Some(line) => out.write(&line),

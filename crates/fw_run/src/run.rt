@@ -1,11 +1,10 @@
 //! The command `run`: the texts are read, and then their steps are taken and printed.
-ghost use Rattle.std.specs.Prelude.{◌≡◌, ◌⊎◌, ◌≤◌, ◌↔◌, false};
+ghost use Rattle.std.specs.Prelude.{◌≡◌, ◌⊎◌, ◌≤◌, ◌↔◌, None};
 ghost use Rattle.fw_lines.specs.declared.refusal.Refusal as lines;
 ghost use Rattle.fw_outside.specs.Outside.{Rose};
-ghost use Rattle.fw_run.specs.Headline.{Prints, PrintsPart};
+ghost use Rattle.fw_run.specs.Call.{call_of, PrintsAll, PrintsPart, HasRefused, KeepsFolder};
 ghost use Rattle.fw_run.specs.Status.{status_number};
-ghost use Rattle.fw_run.specs.Texts.{IsFirstRefusal, IsAskedNoMore};
-ghost use Rattle.fw_run.specs.Words.{words_in, are_run_words, text_names_of};
+ghost use Rattle.fw_run.specs.Words.{words_in, command_of};
 
 use crate::Status;
 use crate::perform::perform;
@@ -21,24 +20,20 @@ pub(crate) fn run<F: Folder, O: Sink>(
     folder: &mut F,
     out: &mut O,
 ) -> Status
-    ensures bad_words { (result ≡ Status.BadWords) ↔ (are_run_words (words_in words.now) ≡ false) }
-    ensures read_fault { result ≡ Status.ReadFault → Rose (F.fault_count folder.old) (F.fault_count folder.new) }
-    ensures write_fault { result ≡ Status.WriteFault → Rose (O.fault_count out.old) (O.fault_count out.new) }
-    ensures nothing_out { status_number result ≤ 6 → (result ≡ Status.Done) ⊎ (out.new ≡ out.old) }
     ensures done { result ≡ Status.Done
-        → Prints (F.texts folder.old) (text_names_of (words_in words.now)) (O.taken out.old) (O.taken out.new) }
-    ensures none_refused { result ≡ Status.Done → O.refusal_count out.new ≡ O.refusal_count out.old }
-    ensures cut_off { result ≡ Status.WriteFault
-        → PrintsPart (F.texts folder.old) (text_names_of (words_in words.now)) (O.taken out.old) (O.taken out.new) }
-    ensures no_memory { result ≡ Status.NoMemory → (out.new ≡ out.old)
-        ⊎ PrintsPart (F.texts folder.old) (text_names_of (words_in words.now)) (O.taken out.old) (O.taken out.new) }
+        → PrintsAll (call_of words.now (F.texts folder.old)) (O.view out.old) (O.view out.new) }
+    ensures bad_words { (result ≡ Status.BadWords) ↔ (command_of (words_in words.now) ≡ None) }
     ensures refused { (refusal : lines.Refusal) → result ≡ Status.Refused refusal
-        → IsFirstRefusal (F.texts folder.old) (text_names_of (words_in words.now)) refusal }
-    ensures asked_no_more { IsAskedNoMore (F.texts folder.old) (text_names_of (words_in words.now)) (F.fetch_count folder.old) (F.fetch_count folder.new) }
-    ensures nothing_read { result ≡ Status.BadWords → folder.new ≡ folder.old }
-    ensures texts_stay { F.texts folder.new ≡ F.texts folder.old }
+        → HasRefused (call_of words.now (F.texts folder.old)) refusal }
+    ensures read_fault { result ≡ Status.ReadFault → Rose (F.fault_count folder.old) (F.fault_count folder.new) }
+    ensures write_fault { result ≡ Status.WriteFault
+        → PrintsPart (call_of words.now (F.texts folder.old)) OutFault.Failed (O.view out.old) (O.view out.new) }
+    ensures no_memory { result ≡ Status.NoMemory → (out.new ≡ out.old)
+        ⊎ PrintsPart (call_of words.now (F.texts folder.old)) OutFault.NoMemory (O.view out.old) (O.view out.new) }
+    ensures nothing_out { status_number result ≤ 6 → (result ≡ Status.Done) ⊎ (out.new ≡ out.old) }
+    ensures folder { KeepsFolder F.texts F.fetch_count (command_of (words_in words.now)) folder.old folder.new }
     ensures folder_count { F.fault_count folder.old ≤ F.fault_count folder.new }
-    ensures out_count { O.fault_count out.old ≤ O.fault_count out.new }
+    ensures out_count { (O.view out.old).faults ≤ (O.view out.new).faults }
 {
     let Some(words) = parse(words) else {
         return Status::BadWords;

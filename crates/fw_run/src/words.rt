@@ -1,6 +1,7 @@
 //! The words of a command.
-ghost use Rattle.std.specs.Prelude.{◌≡◌, is_some, IfSome};
-ghost use Rattle.fw_run.specs.Words.{is_operand, are_run_words, text_names_of, text_names_in, words_in};
+ghost use Rattle.std.specs.Prelude.{◌≡◌, option_map};
+ghost use Rattle.fw_run.specs.Words as spec;
+ghost use Rattle.fw_run.specs.Words.{is_operand, command_of, text_names_in, words_in};
 
 /// The names of the three texts of a run.
 #[derive(Clone, Copy, Debug)]
@@ -21,8 +22,7 @@ fn is_operand(word: &str) -> bool
 
 /// What the words ask for, if they are `run` and three operands.
 pub(crate) fn parse<'a>(words: &[&'a str]) -> Option<RunWords<'a>>
-    ensures words { is_some result ≡ are_run_words (words_in words.now) }
-    ensures names { IfSome result (λ parsed. text_names_in parsed ≡ text_names_of (words_in words.now)) }
+    ensures { option_map (λ parsed. spec.run (text_names_in parsed)) result ≡ command_of (words_in words.now) }
 {
     let [command, flow, inputs, schedule] = words else {
         return None;

@@ -1,5 +1,5 @@
 //! The forms of lines.
-ghost use Rattle.std.specs.Prelude.{◌≡◌, IfSome};
+ghost use Rattle.std.specs.Prelude.{◌≡◌, [], ◌∷◌, IfSome};
 ghost use Rattle.std.specs.List.{list_all};
 ghost use Rattle.std.specs.Option.{option_map};
 ghost use Rattle.std.specs.Str.{bytes_eq};
@@ -13,7 +13,7 @@ use fw_lines::{Span, is_name};
 
 /// What a line asks for, with its words as they are written. A line of `fail` has as many names as it likes, and is read
 /// apart.
-#[derive(Clone, Copy, Debug, PartialEq, Eq)]
+#[derive(Debug, Drop)]
 pub enum Form<W> {
     /// `inject` and a source.
     Inject(W),
@@ -36,11 +36,35 @@ pub fn form_of(text: &[u8], words: &[Span]) -> Option<Form<Span>>
 {
     match words {
         [verb] => lone_form(verb.of(text)),
-        [verb, name] if is_name(name.of(text)) => form_of_name(verb.of(text), *name),
-        [verb, name, at, stamp] if is_name_at_stamp(text, *name, *at, *stamp) => {
-            form_of_stamp(verb.of(text), *name, Some(*stamp))
-        }
+        [verb, name] => named_form(text, *verb, *name),
+        [verb, name, at, stamp] => stamped_form(text, *verb, *name, *at, *stamp),
         _ => None,
+    }
+}
+
+// The form of a line of two words.
+fn named_form(text: &[u8], verb: Span, name: Span) -> Option<Form<Span>>
+    ensures form { option_map (form_in text.now) result
+        ≡ spec.form_of (bytes_at text.now verb ∷ bytes_at text.now name ∷ []) }
+    ensures spelled { IfSome result (λ form. IsSpelled (form_in text.now form)) }
+{
+    if is_name(name.of(text)) {
+        form_of_name(verb.of(text), name)
+    } else {
+        None
+    }
+}
+
+// The form of a line of four words.
+fn stamped_form(text: &[u8], verb: Span, name: Span, at: Span, stamp: Span) -> Option<Form<Span>>
+    ensures form { option_map (form_in text.now) result
+        ≡ spec.form_of (bytes_at text.now verb ∷ bytes_at text.now name ∷ bytes_at text.now at ∷ bytes_at text.now stamp ∷ []) }
+    ensures spelled { IfSome result (λ form. IsSpelled (form_in text.now form)) }
+{
+    if is_name_at_stamp(text, name, at, stamp) {
+        form_of_stamp(verb.of(text), name, Some(stamp))
+    } else {
+        None
     }
 }
 

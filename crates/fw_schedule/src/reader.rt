@@ -1,14 +1,14 @@
 //! The reader of schedules.
 ghost use Rattle.std.specs.Prelude.{◌≡◌, ◌⊎◌, ◌++◌, ◌∷◌, [], ℕ, List, IfOk, OnOk, IfErr, OnErr, MatchResult};
 ghost use Rattle.std.specs.List.{AllByRecursion};
-ghost use Rattle.std.specs.Option.{option_map};
+ghost use Rattle.std.specs.Option.{option_map, option_map_or};
 ghost use Rattle.fw_flow.specs.Dataflow.{Dataflow, is_input_kind, is_output_kind};
 ghost use Rattle.fw_flow.specs.declared.step.Step.{Step};
 ghost use Rattle.fw_flow.specs.Step.{ArePlain};
 ghost use Rattle.fw_lines.specs.declared.refusal.Refusal.{Refusal};
 ghost use Rattle.fw_lines.specs.Faults.{IfRefused};
 ghost use Rattle.fw_lines.specs.Lines.{bytes_at, words_at, said_in};
-ghost use Rattle.fw_schedule.specs.Forms.{form_in, IsSpelled, IsStampIfAny};
+ghost use Rattle.fw_schedule.specs.Forms.{form_in, form_of as spec_form_of, IsSpelled, IsStampIfAny};
 ghost use Rattle.fw_schedule.specs.Grammar as spec;
 ghost use Rattle.fw_schedule.specs.Grammar.{fault_of, steps_of, told_in, node_of_kind, IsAccepted, IsRefused};
 ghost use Rattle.fw_schedule.specs.Schedule.{IsStepOf};
@@ -102,14 +102,23 @@ fn step_of(
 ) -> Result<Result<Step, Code>, AllocError>
     ensures { IfOk result (λ step. step ≡ spec.step_of flow.now (words_at text.now words.now)) }
 {
-    if let [verb, names @ ..] = words
-        && is_word(verb.of(text), b"fail")
-    {
-        return failure(alloc, text, names, flow);
+    let [verb, names @ ..] = words else {
+        return Ok(Err(Code::S1));
+    };
+    if is_word(verb.of(text), b"fail") {
+        failure(alloc, text, names, flow)
+    } else {
+        Ok(formed_step(text, words, flow))
     }
+}
+
+// The step that words of another verb than `fail` spell, or the rule that they break.
+fn formed_step(text: &[u8], words: &[Span], flow: &Flow) -> Result<Step, Code>
+    ensures { result ≡ option_map_or (spec.step_of_form flow.now) (spec_form_of (words_at text.now words.now)) (Err Code.S1) }
+{
     match form_of(text, words) {
-        Some(form) => Ok(step_of_form(text, form, flow)),
-        None => Ok(Err(Code::S1)),
+        Some(form) => step_of_form(text, form, flow),
+        None => Err(Code::S1),
     }
 }
 

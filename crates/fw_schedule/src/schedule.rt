@@ -1,11 +1,9 @@
 //! The steps of a schedule.
 ghost use Rattle.std.specs.Prelude.{◌≡◌, ◌==◌, [], ◌∷◌, ◌++◌, OnOk, OnErr, length};
-ghost use Rattle.std.specs.Slice.Iter.{iter_rest};
 
 use fw_flow::Step;
 use std::alloc::{AllocError, Global};
 use std::marker::Model;
-use std::slice::Iter;
 
 /// The steps that a schedule asks for, in the order of its lines. Contracts see their list.
 #[derive(Debug, Drop)]
@@ -59,12 +57,5 @@ impl Schedule {
         ensures { result ≡ (length self.now == 0) }
     {
         self.items.is_empty()
-    }
-
-    /// The steps one after another.
-    pub fn iter(&self) -> Iter<'_, Step>
-        ensures { iter_rest result ≡ self.now }
-    {
-        self.items.iter()
     }
 }

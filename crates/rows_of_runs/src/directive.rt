@@ -1,7 +1,7 @@
 //! The directives of rows: the lines that begin with `-- `.
 
 /// What a run reaches of the outside.
-#[derive(Clone, Copy, Debug)]
+#[derive(Clone, Copy)]
 pub enum Object {
     Folder,
     Store,
@@ -10,7 +10,7 @@ pub enum Object {
 }
 
 /// What a directive asks for.
-#[derive(Clone, Copy, Debug)]
+#[derive(Clone, Copy)]
 pub enum Directive<'a> {
     /// The lines that follow are a text of this name.
     Text(&'a str),

@@ -3,7 +3,7 @@
 use std::alloc::{AllocError, Global};
 
 /// What of an escape was read.
-#[derive(Clone, Copy, Debug)]
+#[derive(Clone, Copy)]
 enum Escape {
     /// None is under way.
     No,
@@ -40,7 +40,10 @@ fn read_byte(escape: Escape, byte: u8, bytes: &mut Vec<u8>) -> Result<Escape, Al
         (Escape::Begun, b'\\') => b'\\',
         (Escape::Begun, b'n') => b'\n',
         (Escape::Begun, b'x') => return Ok(Escape::Byte),
-        (Escape::Byte, _) => return Ok(digit(byte).map_or(Escape::Bad, Escape::Half)),
+        (Escape::Byte, _) => match digit(byte) {
+            Some(high) => return Ok(Escape::Half(high)),
+            None => return Ok(Escape::Bad),
+        },
         (Escape::Half(high), _) => match digit(byte) {
             Some(low) => high << 4 | low,
             None => return Ok(Escape::Bad),

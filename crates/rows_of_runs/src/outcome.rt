@@ -1,6 +1,6 @@
 //! Runs rows, and tells what became of them.
 use crate::escape::{show, show_lines};
-use crate::row::{Row, lines_of, with_line};
+use crate::row::{Row, with_line};
 use fw_outside::{Folder, MemFolder, MemSink, MemStore, MemText, Sink, Store};
 use fw_run::falkirk;
 use std::alloc::{AllocError, Global};
@@ -9,7 +9,7 @@ use std::alloc::{AllocError, Global};
 const RUN: &str = "run flow inputs schedule";
 
 /// The objects over which the commands of a row run, one after the other.
-#[derive(Debug, Drop)]
+#[derive(Drop)]
 struct Outside {
     folder: MemFolder,
     store: MemStore,
@@ -49,23 +49,18 @@ pub fn tell_row(alloc: Global, row: &Row) -> Result<String, AllocError> {
 }
 
 /// Tells the runs with more before one line of the schedule, a run for each line.
-fn tell_family(
-    alloc: Global,
-    row: &Row,
-    more: &[u8],
-    told: &mut String,
-) -> Result<(), AllocError> {
-    let lines = row.text("schedule").map_or(0, lines_of);
-    for place in 1..=lines {
+fn tell_family(alloc: Global, row: &Row, more: &[u8], told: &mut String) -> Result<(), AllocError> {
+    let schedule = row.text("schedule").unwrap_or(&[]);
+    for place in 1..=schedule.len() {
+        let Some(longer) = with_line(alloc, schedule, place, more, true)? else {
+            break;
+        };
         let name = row.name.as_str();
         let line = format!(in alloc; "== {name}, before line {place}\n")?;
         told.push_str(&line)?;
         let mut texts = copies(alloc, row)?;
-        for text in texts.iter_mut() {
-            if text.name.as_str() == "schedule" {
-                text.bytes = with_line(alloc, &text.bytes, place, more, true)?;
-            }
-        }
+        // the first text of a name is the one that is fetched
+        texts.insert(0, MemText::new(alloc, "schedule", &longer)?)?;
         tell_runs(alloc, row, texts, told)?;
     }
     Ok(())

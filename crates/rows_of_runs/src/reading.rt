@@ -5,7 +5,7 @@ use fw_outside::MemText;
 use std::alloc::{AllocError, Global};
 
 /// The rows that were read so far.
-#[derive(Debug, Drop)]
+#[derive(Drop)]
 pub struct Reader {
     alloc: Global,
     rows: Vec<Row>,
@@ -103,13 +103,15 @@ impl Reader {
     }
 
     /// A copy of a text of the first row of a name.
-    fn copy_of(&self, text: &str, row: &str) -> Result<Option<MemText>, AllocError> {
-        let Some(row) = self.rows.iter().find(|it| it.name.as_str() == row) else {
-            return Ok(None);
-        };
-        match row.text(text) {
-            Some(bytes) => Ok(Some(MemText::new(self.alloc, text, bytes)?)),
-            None => Ok(None),
+    fn copy_of(&self, text: &str, name: &str) -> Result<Option<MemText>, AllocError> {
+        for row in &self.rows {
+            if row.name.as_str() == name {
+                return match row.text(text) {
+                    Some(bytes) => Ok(Some(MemText::new(self.alloc, text, bytes)?)),
+                    None => Ok(None),
+                };
+            }
         }
+        Ok(None)
     }
 }

@@ -5,7 +5,7 @@ use fw_outside::MemText;
 use std::alloc::{AllocError, Global};
 
 /// Which calls fail, by number from 0, of each object of the outside.
-#[derive(Debug, Drop)]
+#[derive(Drop)]
 pub struct Failing {
     pub folder: Vec<u64>,
     pub store: Vec<u64>,
@@ -14,7 +14,7 @@ pub struct Failing {
 }
 
 /// A row of data.
-#[derive(Debug, Drop)]
+#[derive(Drop)]
 pub struct Row {
     pub name: String,
     pub texts: Vec<MemText>,
@@ -50,8 +50,12 @@ impl Row {
 
     /// The bytes of the first text of a name.
     pub fn text(&self, name: &str) -> Option<&[u8]> {
-        let text = self.texts.iter().find(|text| text.name.as_str() == name)?;
-        Some(&text.bytes)
+        for text in &self.texts {
+            if text.name.as_str() == name {
+                return Some(&text.bytes);
+            }
+        }
+        None
     }
 
     /// Begins a text; the lines that follow go on with it.
@@ -83,12 +87,7 @@ impl Row {
     }
 
     /// Adds a line so often to the text.
-    pub fn add_lines(
-        &mut self,
-        alloc: Global,
-        times: u32,
-        line: &str,
-    ) -> Result<bool, AllocError> {
+    pub fn add_lines(&mut self, alloc: Global, times: u32, line: &str) -> Result<bool, AllocError> {
         let Some(text) = self.open_text() else {
             return Ok(false);
         };
@@ -117,10 +116,10 @@ impl Row {
         let Some(bytes) = spelled(alloc, line)? else {
             return Ok(false);
         };
-        if place == 0 || place > lines_of(text) {
-            return Ok(false);
+        match with_line(alloc, text, place, &bytes, false)? {
+            Some(other) => *text = other,
+            None => return Ok(false),
         }
-        *text = with_line(alloc, text, place, &bytes, false)?;
         Ok(true)
     }
 
@@ -186,27 +185,28 @@ fn numbered(alloc: Global, line: &str, i: u32) -> Result<String, AllocError> {
     Ok(text)
 }
 
-/// How many lines a text has.
-pub fn lines_of(text: &[u8]) -> usize {
-    text.split_inclusive(|byte| *byte == b'\n').count()
-}
-
-/// The text with more before one of its lines, counted from 1; or in its place, where the line does not stay.
+/// The text with more before one of its lines, counted from 1; or in its place, where the line does not stay. None where it
+/// has no such line.
 pub fn with_line(
     alloc: Global,
     text: &[u8],
     place: usize,
     more: &[u8],
     stays: bool,
-) -> Result<Vec<u8>, AllocError> {
+) -> Result<Option<Vec<u8>>, AllocError> {
     let mut result = Vec::new(alloc);
-    for (line, number) in text.split_inclusive(|byte| *byte == b'\n').zip(1..=usize::MAX) {
+    let mut is_there = false;
+    for (line, number) in text
+        .split_inclusive(|byte| *byte == b'\n')
+        .zip(1..=usize::MAX)
+    {
         if number == place {
+            is_there = true;
             result.extend_from_slice(more)?;
         }
         if stays || number != place {
             result.extend_from_slice(line)?;
         }
     }
-    Ok(result)
+    Ok(if is_there { Some(result) } else { None })
 }

@@ -9,6 +9,7 @@ ghost use Rattle.fw_model.specs.Offers.{AreFrontsOfEdges, AreOffersOf, AreOnEdge
 ghost use Rattle.rows_of_values.specs.Written as spec;
 ghost use Rattle.rows_of_values.specs.Written.{IsOfferOf, IsOfferedBy};
 
+use crate::sent::sent_table;
 use crate::spell::{part, stamp_of, stamps_of};
 use fw_flow::{
     Causes, Choice, Counted, CountedMessages, Cut, EdgeId, Flow, NodeId, Notices, OfEdge, OfEdges,
@@ -51,18 +52,19 @@ fn of_edges(
     Ok(fronts)
 }
 
-// A record by its outside stamp, and after a stroke that of what the node was notified of, what was delivered to it and what
-// it sent, if that is less.
+// A record by its outside stamp; after a stroke that of what the node was notified of and what was delivered to it, if that
+// is less; and after another that of what it sent and cannot send again, if that is another.
 fn record(alloc: Global, flow: &Flow, node: NodeId, word: &str) -> Result<Recorded, AllocError>
     ensures { IfOk result (λ r. IsRecordOf flow.now node r) }
 {
-    let (outside, held) = word.split_once('/').unwrap_or((word, word));
+    let (outside, rest) = word.split_once('/').unwrap_or((word, word));
+    let (held, discarded) = rest.split_once('/').unwrap_or((rest, rest));
     let domain = flow.domain(node);
     Ok(Recorded {
         front: front(alloc, &domain, outside)?,
         notified: front(alloc, &domain, held)?,
         delivered: OfEdges::of(of_edges(alloc, flow, flow.in_edges(node), held)?),
-        discarded: OfEdges::of(of_edges(alloc, flow, flow.out_edges(node), held)?),
+        discarded: OfEdges::of(of_edges(alloc, flow, flow.out_edges(node), discarded)?),
     })
 }
 
@@ -165,8 +167,14 @@ fn column(line: &str) -> (&str, &str) {
 }
 
 // What a node offers, by its line: whether it failed, its frontiers, what was delivered to it, of what it was notified, and
-// what it sent.
-fn offer(alloc: Global, flow: &Flow, node: NodeId, line: &str) -> Result<Offer, AllocError>
+// what it sent; a sequence also by its table.
+fn offer(
+    alloc: Global,
+    flow: &Flow,
+    node: NodeId,
+    line: &str,
+    table: SentTable,
+) -> Result<Offer, AllocError>
     ensures { IfOk result (λ o. IsOfferOf flow.now node o) }
 {
     let (state, rest) = column(line);
@@ -185,7 +193,7 @@ fn offer(alloc: Global, flow: &Flow, node: NodeId, line: &str) -> Result<Offer, 
             notified: Notices::of(notified),
             sent: CountedMessages::of(sent),
         },
-        table: SentTable::new(alloc),
+        table,
     })
 }
 
@@ -210,7 +218,8 @@ fn offers(alloc: Global, flow: &Flow, lines: &str) -> Result<Vec<Offer>, AllocEr
     for place in 0..flow.nodes() {
         let node = NodeId::at(place as u32);
         let line = line_of(lines, flow.node_name(node).as_bytes());
-        let offer = offer(alloc, flow, node, line)?;
+        let table = sent_table(alloc, lines)?;
+        let offer = offer(alloc, flow, node, line, table)?;
         offers.push(offer)?;
     }
     Ok(offers)

@@ -2,6 +2,7 @@
 use crate::choices::tell_choice;
 use crate::declare::declaration;
 use crate::notices::tell_notices;
+use crate::sent::sent_table;
 use crate::spell::{front_of, part};
 use fw_flow::{Declared, EdgeId, Flow, RawFlow, SentTable};
 use fw_frontier::Front;
@@ -131,24 +132,4 @@ fn projected(
         return Ok(Some(flow.psi(alloc, edge, &front)?));
     }
     Ok(Some(flow.phi(alloc, edge, &front, sent)?))
-}
-
-/// How many messages the line `sent` says that a sequence sent, each word an epoch, a colon and their number.
-fn sent_table(alloc: Global, lines: &str) -> Result<SentTable, AllocError> {
-    let mut entries = Vec::new(alloc);
-    for line in lines.lines() {
-        if let ("sent", words) = part(line) {
-            for word in words.split_whitespace() {
-                entries.extend(entry(word))?;
-            }
-        }
-    }
-    Ok(SentTable::new(entries))
-}
-
-fn entry(word: &str) -> Option<(u32, u64)> {
-    let (epoch, count) = word.split_once(':')?;
-    let epoch = epoch.parse::<u32>().ok()?;
-    let count = count.parse::<u64>().ok()?;
-    Some((epoch, count))
 }

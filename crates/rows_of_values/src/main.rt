@@ -7,6 +7,7 @@ mod declare;
 mod domain;
 mod flow;
 mod notices;
+mod sent;
 mod spell;
 
 use crate::domain::tell_domain;

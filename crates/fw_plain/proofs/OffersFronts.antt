@@ -46,13 +46,6 @@ canonical-until k l = (record { in_the_domain = line-leq k greatest_number l; as
 within-all : (b : Bounds) (f : Front) → Within (frontier_of b f) (frontier_of b [])
 within-all b f t i = and_from (in_domain b t) true (and_parts (in_domain b t) (inside f t) i).0 refl
 
--- ---- what is settled and acknowledged
-
-    at : (t : Stamp) (d : Bool) → in_domain numbers t ≡ d
-        → (d && inside settled t) ≡ ((d && inside settled t) && (d && (not (leq (k ∷ []) t) && true)))
-    at t false i = refl
-    at t true i = sym (and-true (inside settled t)) ∙ ap (λ x. inside settled t && (not x && true)) (sym (beyond t i))
-
 -- ---- records of frontiers
 
 -- a further record

@@ -1,6 +1,4 @@
 -- What the nodes of the running total offer as data is what the machine offers.
-use Rattle.fw_model.specs.Offers.{covers_of, stamps_on_from, AreAscending, AreOffersOf, AreOffersIn, IsOffered}
-use Rattle.fw_examples.proofs.Choosing.{until_more}
 use Rattle.std.proofs.Common.{Bool, List, [], ap, arith, cond, false, filter, inl, inr, lit<, lit≤, map, refl, subst, suc, sym, true, zero, ℕ, ◌&&◌, ◌<◌, ◌==◌, ◌↔◌, ◌∷◌, ◌≡◌, ◌≢◌, ◌≤◌, ◌⊎◌}
 use Rattle.std.proofs.lemmas.Bool.{false≢true, true≢false}
 use Rattle.std.proofs.lemmas.Bool.Decides.{nat_tests}
@@ -15,16 +13,15 @@ use Rattle.fw_flow.specs.declared.choice.Counted.{Counted}
 use Rattle.fw_flow.specs.declared.choice.Cut.{Cut}
 use Rattle.fw_flow.specs.declared.choice.Cut.TheVariants.{At, Present}
 use Rattle.fw_flow.specs.declared.event.Message.{Message}
-use Rattle.fw_flow.specs.declared.kind.Kind.TheVariants.{Sequence}
 use Rattle.fw_model.specs.Choice.{IsCandidate, kept, until}
+use Rattle.fw_model.specs.Covers.{covers_in, stamps_from}
 use Rattle.fw_model.specs.Machine.{is_failed}
+use Rattle.fw_model.specs.Offers.{AreAscending, AreOffersIn, AreOffersOf, IsOffered, covers_of, stamps_on_from}
 use Rattle.fw_examples.specs.OffersOfTotals.{CheckpointsAreOffered, offers_of_totals}
 use Rattle.fw_examples.specs.RunningTotal.{at_epoch, output_failed, total_flow, totals, two_epochs_kept, two_kept_noting}
-use Rattle.fw_examples.proofs.ChoiceWitnesses.{less_is_consistent}
-use Rattle.fw_examples.proofs.Fronts.{canonical_by}
-use Rattle.fw_examples.proofs.Places.{by_three}
-use Rattle.fw_examples.proofs.TotalWitnesses.{something_is_chosen, totals_are_well_formed}
-use Rattle.fw_model.specs.Covers.{stamps_from, covers_in}
+use Rattle.fw_examples.proofs.Choosing.{until_more}
+use Rattle.fw_examples.proofs.Fronts.{by_three, canonical_by}
+use Rattle.fw_examples.proofs.Witnesses.{less_is_consistent, something_is_chosen, totals_are_well_formed}
 
 -- ---- covers of epoch 1
 

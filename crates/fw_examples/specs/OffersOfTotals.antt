@@ -1,17 +1,17 @@
 -- What the nodes of the running total offer to the recovery after the output failed, as data, with its checkpoint as a record.
-use Rattle.std.specs.Prelude.{◌≡◌, ℕ, true, false, List, [], ◌∷◌}
+use Rattle.std.specs.Prelude.{List, [], false, true, ℕ, ◌∷◌, ◌≡◌}
+use Rattle.fw_flow.specs.Restoring.{way_of}
 use Rattle.fw_flow.specs.declared.choice.Counted.{Counted}
-use Rattle.fw_flow.specs.declared.choice.Cut.TheVariants.{Present, At}
+use Rattle.fw_flow.specs.declared.choice.Cut.TheVariants.{At, Present}
 use Rattle.fw_flow.specs.declared.choice.Offer.{Offer}
-use Rattle.fw_flow.specs.declared.choice.Offered.TheVariants.{Listed, Between}
+use Rattle.fw_flow.specs.declared.choice.Offered.TheVariants.{Between, Listed}
 use Rattle.fw_flow.specs.declared.choice.Recorded.{Recorded}
 use Rattle.fw_flow.specs.declared.restoring.Restoring.TheVariants.{Checkpoints}
-use Rattle.fw_model.specs.Choice.{until, IsConsistentBy, IsLargestBy}
-use Rattle.fw_model.specs.Machine.{is_failed}
+use Rattle.fw_model.specs.Choice.{IsConsistentBy, IsLargestBy, until}
 use Rattle.fw_model.specs.LawsOfOffers.{ConsistentByOffersIsConsistent, LargestByOffersIsLargest}
+use Rattle.fw_model.specs.Machine.{is_failed}
 use Rattle.fw_model.specs.Offers.{AreAscending, AreOffersIn, IsOffered, covers_of, records_of}
-use Rattle.fw_examples.specs.RunningTotal.{totals, total_flow, run, src_to_run, run_to_out, output_failed, two_kept_noting, two_epochs_kept}
-use Rattle.fw_flow.specs.Restoring.{way_of}
+use Rattle.fw_examples.specs.RunningTotal.{output_failed, run, run_to_out, src_to_run, total_flow, totals, two_epochs_kept, two_kept_noting}
 
 -- a message on an edge, alone, that comes from an event at its own epoch
 abbrev pub alone_at : ℕ → ℕ → Counted

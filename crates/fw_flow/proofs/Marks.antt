@@ -121,17 +121,6 @@ the_one : (q : ℕ) → Contains (q ∷ []) q
 the_one q = (0, omega arith, refl)
 
 -- a place that has a mark already
-pub AreMarked-same : (place : ℕ) (marks : List Bool) (waiting : List ℕ) → is_marked marks place ≡ true → AreMarked (place ∷ []) marks marks waiting waiting
-AreMarked-same place marks waiting h = record {
-  len = refl;
-  count = refl;
-  kept = λ p k. k;
-  each = λ p has. subst (λ x. is_marked marks x ≡ true) (sym (only_one place p has)) h;
-  only = λ p k. inl k;
-  still_waiting = λ p k. k;
-  waiting = λ p k. inl k;
-}
-
 -- a place that has none
 pub AreMarked-new : (place : ℕ) (marks : List Bool) (waiting : List ℕ) → place < length marks → is_marked marks place ≡ false
     → AreMarked (place ∷ []) marks (set marks place true) waiting (waiting ++ place ∷ [])
@@ -157,20 +146,6 @@ AreMarked-new place marks waiting lt h = record {
     here = get_or-set_same marks place true false lt
 
 -- none of no places
-pub AreMarked-none : (marks : List Bool) (waiting : List ℕ) → AreMarked [] marks marks waiting waiting
-AreMarked-none marks waiting = record {
-  len = refl;
-  count = refl;
-  kept = λ p k. k;
-  each = λ p has. absurd (nothing p has);
-  only = λ p k. inl k;
-  still_waiting = λ p k. k;
-  waiting = λ p k. inl k;
-}
-  where
-    nothing : (p : ℕ) → Contains [] p → ⊥
-    nothing p has = let lt : has.0 < length {A = ℕ} [] = has.1 in omega arith
-
 -- some places and then others
 AreMarked-join : (ps qs : List ℕ) (old between now : List Bool) (ws us vs : List ℕ) → AreMarked ps old between ws us → AreMarked qs between now us vs → AreMarked (ps ++ qs) old now ws vs
 AreMarked-join ps qs old between now ws us vs a b = record {

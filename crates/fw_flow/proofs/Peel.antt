@@ -17,12 +17,6 @@ pub record IsPeeled (g : Graph) (n k : ℕ) (left : List Bool) : Type 0 where
   pub stays : (p : ℕ) → p < n → reach g n p p ≡ true → is_marked left p ≡ true
   pub ranked : IsAcyclic g n → (p : ℕ) → is_marked left p ≡ true → k ≤ rank g n p
 
-pub IsPeeled-start : (g : Graph) (n : ℕ) → IsPeeled g n 0 (replicate n true)
-IsPeeled-start g n = record {
-  stays = λ p lt h. get_or-replicate n p true false lt;
-  ranked = λ acyclic p h. omega arith;
-}
-
 -- the last edge of a path, which the path reaches if it does not begin with it
 record LastEdge (g : Graph) (p q : ℕ) : Type 0 where
   edge : ℕ

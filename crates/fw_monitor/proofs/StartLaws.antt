@@ -1,5 +1,5 @@
 -- Where the descent starts.
-use Rattle.std.proofs.Common.{◌≡◌, ◌≢◌, ℕ, zero, suc, ◌+◌, ◌<◌, ◌≤◌, Bool, true, false, List, [], ◌∷◌, ◌++◌, length, take, get_or, ◌-◌, ◌==◌, Some, None, refl, sym, ap, subst, ◌∙◌, inl, inr, arith}
+use Rattle.std.proofs.Common.{◌≡◌, ◌≢◌, ℕ, zero, suc, ◌+◌, ◌<◌, ◌≤◌, Bool, false, List, [], ◌∷◌, ◌++◌, length, take, get_or, ◌-◌, ◌==◌, Some, None, refl, sym, ap, subst, ◌∙◌, inl, inr, arith}
 use Rattle.std.specs.List.{AllByRecursion}
 use Rattle.std.proofs.lemmas.Bool.{cases_lt, eqb-false}
 use Rattle.std.proofs.lemmas.List.{get_or_read, drop_all}
@@ -18,9 +18,6 @@ use Rattle.fw_monitor.specs.Descent.{choice_of, IsCanonicalCut, IsConsistentOf, 
 use Rattle.fw_model.proofs.OfferLaws.{below_last, listed-there, between-offered, offered-between}
 use Rattle.fw_monitor.proofs.DescentLaws.{set-monotone, largest_of}
 use Rattle.fw_monitor.proofs.CutDownLaws.{split_at}
-
-pub greatest_present : (flow : Dataflow) (offers : List Offer) (p : ℕ) (r : Bool) → r ≡ true → r ≡ can_stay offers p → IsGreatest flow offers p Present
-greatest_present flow offers p r e is = record { canonical = tt; largest = λ a x o. (sym is ∙ e, tt) }
 
 pub greatest_between : (flow : Dataflow) (offers : List Offer) (p : ℕ) (r : Bool) (greatest f : Front) → AreOffersOf flow offers → p < length flow.nodes → r ≡ false → r ≡ can_stay offers p
     → (least : Front) × (range_of offers p ≡ Some (least, greatest)) → f ≡ greatest → IsGreatest flow offers p (At f)

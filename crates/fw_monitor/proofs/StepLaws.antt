@@ -5,7 +5,6 @@ use Rattle.std.proofs.lemmas.List.{get_or_read}
 use Rattle.fw_time.specs.declared.stamp.Bounds.{Bounds}
 use Rattle.fw_frontier.specs.Frontier.{Frontier, Within, meet}
 use Rattle.fw_frontier.specs.Front.{Front, frontier_of, IsCanonical, Names}
-use Rattle.fw_frontier.proofs.NamesLaws.{names-self}
 use Rattle.fw_flow.specs.declared.choice.Choice.{Choice}
 use Rattle.fw_flow.specs.declared.choice.Cut.{Cut}
 use Rattle.fw_flow.specs.declared.choice.Offer.{Offer}
@@ -17,7 +16,7 @@ use Rattle.fw_model.specs.Covers.{set_of}
 use Rattle.fw_monitor.specs.declared.side.Side.{Side}
 use Rattle.fw_monitor.specs.declared.side.Side.TheVariants.{Delivered, Discarded, Notified}
 use Rattle.fw_model.specs.Offers.{arrived_from}
-use Rattle.fw_monitor.specs.Descent.{choice_of, owner, reach, IsOfFlow, right_of, IsMet, IsMetAtEdge, IsMetAtNode, IsCanonicalCut, IsLower, IsLowered, IsConsistentOf, EnclosesConsistent, HasConsistent, weight, IsStep, IsDone, IsNoteLowered, IsPass, IsDescent, left_over}
+use Rattle.fw_monitor.specs.Descent.{choice_of, owner, reach, IsOfFlow, right_of, IsMet, IsMetAtEdge, IsMetAtNode, IsCanonicalCut, IsLower, IsLowered, IsConsistentOf, EnclosesConsistent, HasConsistent, weight, IsStep, IsDone, IsNoteLowered, IsPass, left_over}
 use Rattle.fw_monitor.proofs.DescentLaws.{lower_step, same_step, none_holds, note_step, own_keeps, edge_keeps, then_step}
 
 -- ---- right sides
@@ -29,12 +28,6 @@ right_delivered flow offers side d choice g e n = subst (λ s. Names (reach flow
 pub right_discarded : (flow : Dataflow) (offers : List Offer) (side : Side) (d : ℕ) (choice : Choice) (g : Front) → side ≡ Discarded d
     → Names (bounds_of flow (receiver flow d)) g (kept_of flow choice (receiver flow d)) → Names (reach flow side) g (right_of flow offers side choice)
 right_discarded flow offers side d choice g e n = subst (λ s. Names (reach flow s) g (right_of flow offers s choice)) (sym e) n
-
-pub right_notified : (flow : Dataflow) (offers : List Offer) (side : Side) (p : ℕ) (choice : Choice) (g : Front) → side ≡ Notified p → EnclosesConsistent flow offers choice → p < length flow.nodes
-    → g ≡ front_of choice.notes p → Names (reach flow side) g (right_of flow offers side choice)
-right_notified flow offers side p choice g e r l is =
-    subst (λ s. Names (reach flow s) g (right_of flow offers s choice)) (sym e)
-    (subst (λ f. Names (bounds_of flow p) f (frontier_of (bounds_of flow p) (front_of choice.notes p))) (sym is) (names-self (bounds_of flow p) (front_of choice.notes p) (r.notes p l)))
 
 -- what comes from what a front names
 pub arrived_same : (flow : Dataflow) (offers : List Offer) (e : ℕ) (b c : Bounds) (f g : Front) (s : Frontier) → Names c f s → Names b g (arrived_from flow offers e (frontier_of c f)) → Names b g (arrived_from flow offers e s)
@@ -49,9 +42,6 @@ cut_step flow offers side cuts new notes bound p q c well there r n e f is lower
     subst (λ xs. IsStep flow offers (choice_of cuts notes) (choice_of xs notes) true) (ap (λ x. set cuts x c) (sym e ∙ sym f) ∙ sym is)
     (lower_step flow offers side (choice_of cuts notes) bound c well there r (λ t k. n.same t ∙ k)
     (subst (λ x. IsLower flow offers side (cut_of (choice_of cuts notes) x) bound c) e lower))
-
-pub cut_same : (flow : Dataflow) (offers : List Offer) (cuts new : List Cut) (notes : List Front) → EnclosesConsistent flow offers (choice_of cuts notes) → new ≡ cuts → IsStep flow offers (choice_of cuts notes) (choice_of new notes) false
-cut_same flow offers cuts new notes r e = subst (λ xs. IsStep flow offers (choice_of cuts notes) (choice_of xs notes) false) (sym e) (same_step flow offers (choice_of cuts notes) r)
 
 pub cut_holds : (flow : Dataflow) (offers : List Offer) (side : Side) (cuts new : List Cut) (notes : List Front) (bound : Front) (p : ℕ) → IsWellFormed flow → IsOfFlow flow side → EnclosesConsistent flow offers (choice_of cuts notes)
     → Names (reach flow side) bound (right_of flow offers side (choice_of cuts notes)) → p ≡ owner flow side → new ≡ cuts
@@ -196,10 +186,6 @@ pass_done flow offers old mid new a b c e s1 s2 edges nodes = record {
 }
 
 -- ---- the descent as a whole
-
--- what the descent keeps: a choice that encloses each consistent one, at which all is met once a pass lowered nothing
-pub pass_begun : (flow : Dataflow) (offers : List Offer) (old new : Choice) (b : Bool) → IsPass flow offers old new b → IsDescent flow offers new b
-pass_begun flow offers old new b p = record { encloses = p.step.encloses; edges = p.edges; nodes = p.nodes }
 
 -- twice the weight, and one more where another pass is needed, falls
 pub pass_falls : (flow : Dataflow) (offers : List Offer) (old new : Choice) (b : Bool) → IsPass flow offers old new b → left_over flow new b < left_over flow old true

@@ -65,13 +65,17 @@ node_declaration (word ∷ kind ∷ rest) = do
   Some (Node name form.kind form.policy, form.is_large)
 node_declaration words = None
 
--- `edge E SRC DST`, from the name on
-unfoldable pub edge_declaration : List (List ℕ) → Option (Declaration × Bool)
-edge_declaration (first ∷ second ∷ third ∷ []) = do
+-- the edge of three names, from a sender to a receiver
+abbrev pub edge_of : List ℕ → List ℕ → List ℕ → Option (Declaration × Bool)
+edge_of first second third = do
   name ← name_of first
   sender ← name_of second
   receiver ← name_of third
   Some (Edge name sender receiver, false)
+
+-- `edge E SRC DST`, from the name on
+unfoldable pub edge_declaration : List (List ℕ) → Option (Declaration × Bool)
+edge_declaration (first ∷ second ∷ third ∷ []) = edge_of first second third
 edge_declaration words = None
 
 -- what a line of these words declares

@@ -20,10 +20,13 @@ pub(crate) fn declaration(
     let [first, rest @ ..] = words else {
         return Ok(None);
     };
-    match first.of(text) {
-        b"node" => node(alloc, text, rest),
-        b"edge" => edge(alloc, text, rest),
-        _ => Ok(None),
+    let first = first.of(text);
+    if first == b"node".as_slice() {
+        node(alloc, text, rest)
+    } else if first == b"edge".as_slice() {
+        edge(alloc, text, rest)
+    } else {
+        Ok(None)
     }
 }
 
@@ -65,13 +68,25 @@ fn edge(
     let [name, sender, receiver] = words else {
         return Ok(None);
     };
-    let Some(name) = Name::new(alloc, name.of(text))? else {
+    edge_of(alloc, name.of(text), sender.of(text), receiver.of(text))
+}
+
+// The edge of these names, if they are names.
+fn edge_of(
+    alloc: Global,
+    name: &[u8],
+    sender: &[u8],
+    receiver: &[u8],
+) -> Result<Option<(Declaration, bool)>, AllocError>
+    ensures { IfOk result (λ found. found ≡ spec.edge_of name.now sender.now receiver.now) }
+{
+    let Some(name) = Name::new(alloc, name)? else {
         return Ok(None);
     };
-    let Some(sender) = Name::new(alloc, sender.of(text))? else {
+    let Some(sender) = Name::new(alloc, sender)? else {
         return Ok(None);
     };
-    let Some(receiver) = Name::new(alloc, receiver.of(text))? else {
+    let Some(receiver) = Name::new(alloc, receiver)? else {
         return Ok(None);
     };
     let declaration = Declaration::Edge {

@@ -76,6 +76,7 @@ fn select(text: &[u8], words: &[Span]) -> Option<NodeForm>
     };
     let (condition, in_condition) = condition(field.of(text), comparison.of(text), term.of(text))?;
     let (assignment, in_assignment, rest) = assignment(text, rest)?;
+    let policy = policy_at_end(text, rest)?;
     let selection = Selection {
         condition,
         assignment,
@@ -85,7 +86,7 @@ fn select(text: &[u8], words: &[Span]) -> Option<NodeForm>
             selection,
             within: None,
         },
-        policy: policy_at_end(text, rest)?,
+        policy,
         is_large: in_condition || in_assignment,
     })
 }
@@ -98,10 +99,10 @@ fn policy_at_end(text: &[u8], words: &[Span]) -> Option<Policy>
     let [policy_word, name] = words else {
         return None;
     };
-    match policy_word.of(text) {
-        b"policy" => policy(name.of(text)),
-        _ => None,
+    if policy_word.of(text) != b"policy".as_slice() {
+        return None;
     }
+    policy(name.of(text))
 }
 
 // The policy that a word names.

@@ -1,10 +1,12 @@
 //! The reader of a whole text.
-ghost use Rattle.std.specs.Prelude.{◌≡◌, ◌⊎◌, ℕ, List, [], ◌∷◌, ◌++◌, IfOk, IfErr, MatchResult};
+ghost use Rattle.std.specs.Prelude.{◌≡◌, ◌⊎◌, ℕ, List, [], ◌∷◌, ◌++◌, true, false, IfOk, IfErr, MatchResult};
 ghost use Rattle.std.specs.Option.{option_map, option_to_list};
 ghost use Rattle.fw_lines.specs.Faults.{IfRefused};
 ghost use Rattle.fw_lines.specs.Lines.{words_at, said_in};
 ghost use Rattle.fw_lines.specs.declared.refusal.Refusal.{Refusal};
 ghost use Rattle.fw_flow.specs.Dataflow.{Dataflow, KeepsNothing, NotifiesNobody};
+ghost use Rattle.fw_flow.specs.Raw.{is_new};
+ghost use Rattle.fw_flow.specs.declared.raw.Declared.{Declared};
 ghost use Rattle.fw_flow_text.specs.Grammar.{declared_by, words_fault, form_fault, IsAccepted, IsRefused};
 
 use crate::declaration::declaration;
@@ -80,17 +82,38 @@ fn declare(
     ensures broken { IfErr result (IfRefused (λ refusal.
         (form_fault raw found ≡ Some refusal.code) × (refusal.line ≡ line))) }
 {
-    let Some((declaration, is_large)) = found else {
-        return Err(refused(Code::F1, line));
-    };
-    if is_large {
-        return Err(refused(Code::F10, line));
+    match sound(found) {
+        Ok(declaration) => declare_new(Declared { line, declaration }, raw),
+        Err(code) => Err(refused(code, line)),
     }
-    let (raw, new) = raw.declare(Declared { line, declaration })?;
-    if !new {
-        return Err(refused(Code::F2, line));
+}
+
+// The declaration that was found, or the rule that it breaks, whatever was declared before.
+fn sound(found: Option<(Declaration, bool)>) -> Result<Declaration, Code>
+    ensures ok { IfOk result (λ declaration. found ≡ Some (declaration, false)) }
+    ensures err { IfErr result (λ code. (before : List Declared) → form_fault before found ≡ Some code) }
+{
+    match found {
+        None => Err(Code::F1),
+        Some((_, true)) => Err(Code::F10),
+        Some((declaration, false)) => Ok(declaration),
     }
-    Ok(raw)
+}
+
+// The declarations with one more, or F2 where its name is not new.
+fn declare_new(declared: Declared, raw: RawFlow) -> Result<RawFlow, ReadFault>
+    ensures sound { IfOk result (λ more. is_new raw declared.declaration ≡ true) }
+    ensures value { IfOk result (λ more. more ≡ raw ++ declared ∷ []) }
+    ensures broken { IfErr result (IfRefused (λ refusal.
+        (is_new raw declared.declaration ≡ false) × (refusal.code ≡ Code.F2) × (refusal.line ≡ declared.line))) }
+{
+    let line = declared.line;
+    let (raw, new) = raw.declare(declared)?;
+    if new {
+        Ok(raw)
+    } else {
+        Err(refused(Code::F2, line))
+    }
 }
 
 const fn refused(code: Code, line: u32) -> ReadFault

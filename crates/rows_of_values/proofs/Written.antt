@@ -1,14 +1,10 @@
 -- What is written of the nodes, one after the other, is what they offer.
-use Rattle.std.proofs.Common.{◌≡◌, ℕ, zero, suc, ◌+◌, ◌<◌, true, List, [], ◌∷◌, ◌++◌, length, map, get_or, None, inl, inr, sym, subst, arith}
-use Rattle.std.proofs.lemmas.Bool.{cases_lt}
+use Rattle.std.proofs.Common.{◌≡◌, ℕ, zero, suc, ◌+◌, ◌<◌, true, List, [], ◌∷◌, ◌++◌, length, map, get_or, None, sym, subst, arith}
 use Rattle.std.specs.List.{AllByRecursion}
 use Rattle.fw_time.specs.Stamp.{in_domain}
-use Rattle.fw_flow.specs.declared.choice.Counted.{Counted}
 use Rattle.fw_flow.specs.declared.choice.Offer.{Offer}
-use Rattle.fw_flow.specs.declared.kind.Kind.TheVariants.{Sequence}
-use Rattle.fw_flow.specs.Dataflow.{Dataflow, kind_of, bounds_of}
+use Rattle.fw_flow.specs.Dataflow.{Dataflow, bounds_of}
 use Rattle.fw_model.specs.Offers.{listed, range, IsRecordOf, IsRangeOf, IsListedBy, AreOnEdges, AreOffersOf}
-use Rattle.fw_monitor.proofs.LookUpLaws.{offer_past}
 use Rattle.fw_flow.specs.Restoring.{way_of}
 use Rattle.rows_of_values.specs.Written.{IsOfferOf, AreOffersFrom}
 

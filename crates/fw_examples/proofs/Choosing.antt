@@ -6,21 +6,25 @@ use Rattle.std.proofs.lemmas.Bool.Decides.{nat_tests}
 use Rattle.fw_bag.proofs.OrderingLaws.{equal_from_is_eq}
 use Rattle.fw_time.specs.Stamp.{Stamp, in_domain, leq, same}
 use Rattle.fw_time.specs.declared.stamp.Bounds.{Bounds}
-use Rattle.fw_frontier.specs.Front.{Front, IsCanonical, Names, frontier_of, same_front}
-use Rattle.fw_frontier.specs.Frontier.{Frontier, IsFrontier, Within, cover, everything, meet, nothing, some_above}
-use Rattle.fw_frontier.specs.Outside.{none_inside}
-use Rattle.fw_frontier.proofs.NamesLaws.{frontier-closed, none_inside-within_domain}
+use Rattle.fw_time.proofs.StampLaws.{same-is}
+use Rattle.fw_frontier.specs.Front.{Front, IsCanonical, Names, frontier_of, is_within, same_front}
+use Rattle.fw_frontier.specs.Frontier.{Frontier, IsFrontier, Within, cover, meet, nothing, some_above}
+use Rattle.fw_frontier.proofs.NamesLaws.{frontier-closed, is_within-holds}
 use Rattle.fw_flow.specs.Dataflow.{System, bounds_of, kind_of, policy_of, receiver, sender}
 use Rattle.fw_flow.specs.NodeFunction.{place, stamp}
 use Rattle.fw_flow.specs.Projection.{all_inside}
+use Rattle.fw_flow.specs.Restoring.{can_resend, way_of}
 use Rattle.fw_flow.specs.WellFormed.{IsWellFormed}
 use Rattle.fw_flow.specs.declared.choice.Choice.{Choice}
 use Rattle.fw_flow.specs.declared.choice.Cut.{Cut}
 use Rattle.fw_flow.specs.declared.choice.Cut.TheVariants.{At, Present}
 use Rattle.fw_flow.specs.declared.event.Event.{Event}
 use Rattle.fw_flow.specs.declared.event.Message.{Message}
+use Rattle.fw_flow.specs.declared.restoring.Restoring.{Restoring}
+use Rattle.fw_flow.specs.declared.restoring.Restoring.TheVariants.{Anything, Batches, Bound, Checkpoints, Events}
 use Rattle.fw_flow.specs.declared.step.Step.TheVariants.{Recover}
-use Rattle.fw_model.specs.Choice.{AllLogged, ComesFromSender, HasCheckpoint, HasItsNotices, HoldsLow, IsCandidate, IsChoiceWithin, IsConsistent, IsCutWithin, IsLargest, IsLogged, IsNoteKept, IsRestorable, LiesInReceiver, NoteComesFromSender, View, by_anything, by_batches, by_bound, by_checkpoints, by_events, counts, cut_of, ever, kept, kept_of, sent_cover, until}
+use Rattle.fw_model.specs.Choice.{AllLogged, ComesFromSender, HasCheckpoint, HasItsNotices, HoldsLow, IsCandidate, IsChoiceWithin, IsConsistent, IsCutWithin, IsLargest, IsLogged, IsNoteKept, IsRestorable, LiesInReceiver, NoteComesFromSender, View, counts, cut_of, ever, kept, kept_of, until}
+use Rattle.fw_model.specs.Covers.{covers_in, discarded_at, notified_inside, set_of, stamps_from, stamps_inside, takes_its_cut, takes_its_notes, tallies_in}
 use Rattle.fw_model.specs.History.{delivered, injected_count, is_exhausted, sent}
 use Rattle.fw_model.specs.Machine.{Machine, Numbered, Write, Written, bound_of, checkpoint, events, front_of, is_failed, logged_event, no_stamps}
 use Rattle.fw_model.specs.Steps.{IsSettledCut, Steps, checkpoint_front, cuts, did, front_of_cut, offers, recovered}
@@ -28,92 +32,91 @@ use Rattle.fw_model.proofs.CmpLaws.{fronts_cmp-same}
 use Rattle.fw_model.proofs.Decisions.{two_ways}
 use Rattle.fw_model.proofs.FilteredLaws.{set-frontier}
 use Rattle.fw_model.proofs.LowLaws.{none-within}
-use Rattle.fw_model.proofs.StampLaws.{same-is}
-use Rattle.fw_examples.proofs.Fronts.{canonical_by, cover_within_by, is_canonical, meet_by, meet_other, within_outside}
-use Rattle.fw_examples.proofs.Places.{each_below, each_below-at}
+use Rattle.fw_examples.proofs.Fronts.{canonical_by, cover_within_by, each_below, each_below-at, is_canonical, meet_by, meet_other, within_outside}
 use Rattle.fw_examples.proofs.Settling.{from_psi, from_sender, into_phi, is_from_sender, is_plain, one_domain}
-use Rattle.fw_flow.specs.Lib.{Restoring}
-use Rattle.fw_flow.specs.Restoring.{can_resend, restoring}
-use Rattle.fw_model.specs.Covers.{covers_in, delivered_cover, discarded_at, discarded_cover, notified_cover, notified_inside, set_of, stamps_from, stamps_inside, takes_its_cut, takes_its_notes}
 
 fronts_equal : (f g : Front) → same_front f g ≡ true → f ≡ g
 fronts_equal f g e = fronts_cmp-same f g (equal_from_is_eq _ e)
 
 -- where no outside stamp of the second list is inside the first, the first lies within the second
-pub lies : (b : Bounds) (xs ys : Front) → none_inside xs ys ≡ true → Within (frontier_of b xs) (frontier_of b ys)
-lies b xs ys h = none_inside-within_domain b xs ys h
+pub lies : (b : Bounds) (xs ys : Front) → is_within xs ys ≡ true → Within (frontier_of b xs) (frontier_of b ys)
+lies b xs ys h = is_within-holds b xs ys h
 
 -- whether what a list of outside stamps has inside lies in a cut
 abbrev pub is_in_cut : Front → Cut → Bool
 is_in_cut f Present = true
-is_in_cut f (At g) = none_inside f g
+is_in_cut f (At g) = is_within f g
 
-in_cut : (sys : System) (p : ℕ) (f : Front) (cut : Cut) → is_in_cut f cut ≡ true → Within (frontier_of (bounds_of sys.flow p) f) (set_of sys p cut)
+in_cut : (sys : System) (p : ℕ) (f : Front) (cut : Cut) → is_in_cut f cut ≡ true → Within (frontier_of (bounds_of sys.flow p) f) (set_of sys.flow p cut)
 in_cut sys p f Present h = λ t i. (and_parts _ _ i).0
 in_cut sys p f (At g) h = lies (bounds_of sys.flow p) f g h
 
 -- the set of a cut of one node is a frontier of another with the same domain
-set_at : (sys : System) (p q : ℕ) (cut : Cut) → bounds_of sys.flow p ≡ bounds_of sys.flow q → IsFrontier (bounds_of sys.flow q) (set_of sys p cut)
-set_at sys p q cut same_bounds = subst (λ b. IsFrontier b (set_of sys p cut)) same_bounds (set-frontier sys p cut)
+set_at : (sys : System) (p q : ℕ) (cut : Cut) → bounds_of sys.flow p ≡ bounds_of sys.flow q → IsFrontier (bounds_of sys.flow q) (set_of sys.flow p cut)
+set_at sys p q cut same_bounds = subst (λ b. IsFrontier b (set_of sys.flow p cut)) same_bounds (set-frontier sys p cut)
 
 -- ---- the inclusions
 
--- whether what counts as delivered on edge d of node p inside a cut lies in what the sender q keeps by a cut
-abbrev pub is_delivered_in : System → Machine → ℕ → ℕ → Cut → ℕ → Cut → Bool
-is_delivered_in sys state p d Present q from = list_all (set_of sys q from) (stamps_inside (everything (bounds_of sys.flow p)) (delivered (events state.history) d))
-is_delivered_in sys state p d (At f) q from =
-    if takes_its_cut (restoring (kind_of sys.flow p) (policy_of sys.flow p)) then is_in_cut f from
-    else list_all (set_of sys q from) (stamps_inside (frontier_of (bounds_of sys.flow p) f) (delivered (events state.history) d))
+-- whether what counts as delivered on edge d inside a cut of its receiver lies in what the sender keeps by a cut
+abbrev pub is_delivered_in : System → Machine → ℕ → Cut → Cut → Bool
+is_delivered_in sys state d Present from =
+    list_all (set_of sys.flow (sender sys.flow d) from) (stamps_inside (set_of sys.flow (receiver sys.flow d) Present) (delivered (events state.history) d))
+is_delivered_in sys state d (At f) from =
+    if takes_its_cut (way_of sys.flow (receiver sys.flow d)) then is_in_cut f from
+    else list_all (set_of sys.flow (sender sys.flow d) from) (stamps_inside (set_of sys.flow (receiver sys.flow d) (At f)) (delivered (events state.history) d))
 
-delivered_in : (sys : System) (state : Machine) (p d : ℕ) (cut : Cut) (q : ℕ) (from : Cut) → bounds_of sys.flow q ≡ bounds_of sys.flow p
-    → is_delivered_in sys state p d cut q from ≡ true → Within (delivered_cover sys state p d cut) (set_of sys q from)
-delivered_in sys state p d Present q from same_bounds h = cover_within_by (bounds_of sys.flow p) (set_of sys q from) _ (set_at sys q p from same_bounds) h
-delivered_in sys state p d (At f) q from same_bounds h = go (takes_its_cut (restoring (kind_of sys.flow p) (policy_of sys.flow p))) h
+delivered_in : (sys : System) (state : Machine) (d : ℕ) (cut from : Cut) → bounds_of sys.flow (sender sys.flow d) ≡ bounds_of sys.flow (receiver sys.flow d)
+    → is_delivered_in sys state d cut from ≡ true → Within ((covers_in sys state).delivered d cut) (set_of sys.flow (sender sys.flow d) from)
+delivered_in sys state d Present from same_bounds h =
+    cover_within_by (bounds_of sys.flow (receiver sys.flow d)) (set_of sys.flow (sender sys.flow d) from) _ (set_at sys (sender sys.flow d) (receiver sys.flow d) from same_bounds) h
+delivered_in sys state d (At f) from same_bounds h = go (takes_its_cut (way_of sys.flow (receiver sys.flow d))) h
   where
     go : (b : Bool)
-        → (if b then is_in_cut f from else list_all (set_of sys q from) (stamps_inside (frontier_of (bounds_of sys.flow p) f) (delivered (events state.history) d))) ≡ true
-        → Within
-        (if b then frontier_of (bounds_of sys.flow p) f else cover (bounds_of sys.flow p) (stamps_inside (frontier_of (bounds_of sys.flow p) f) (delivered (events state.history) d)))
-        (set_of sys q from)
-    go true k = subst (λ b. Within (frontier_of b f) (set_of sys q from)) same_bounds (in_cut sys q f from k)
-    go false k = cover_within_by (bounds_of sys.flow p) (set_of sys q from) _ (set_at sys q p from same_bounds) k
+        → (if b then is_in_cut f from
+        else list_all (set_of sys.flow (sender sys.flow d) from) (stamps_inside (set_of sys.flow (receiver sys.flow d) (At f)) (delivered (events state.history) d))) ≡ true
+        → Within (if b then frontier_of (bounds_of sys.flow (receiver sys.flow d)) f else (tallies_in sys state).delivered d (At f)) (set_of sys.flow (sender sys.flow d) from)
+    go true k = subst (λ b. Within (frontier_of b f) (set_of sys.flow (sender sys.flow d) from)) same_bounds (in_cut sys (sender sys.flow d) f from k)
+    go false k =
+        cover_within_by (bounds_of sys.flow (receiver sys.flow d)) (set_of sys.flow (sender sys.flow d) from)
+        (stamps_inside (set_of sys.flow (receiver sys.flow d) (At f)) (delivered (events state.history) d))
+        (set_at sys (sender sys.flow d) (receiver sys.flow d) from same_bounds) k
 
 -- whether the first inclusion holds on edge d, out of a node that sends at the stamps of its events
 abbrev pub is_delivered_kept : System → Machine → Choice → ℕ → Bool
 is_delivered_kept sys state choice d =
     is_plain (kind_of sys.flow (sender sys.flow d))
-    && is_delivered_in sys state (receiver sys.flow d) d (cut_of choice (receiver sys.flow d)) (sender sys.flow d) (cut_of choice (sender sys.flow d))
+    && is_delivered_in sys state d (cut_of choice (receiver sys.flow d)) (cut_of choice (sender sys.flow d))
 
 pub delivered_by : (sys : System) (state : Machine) (choice : Choice) → IsWellFormed sys.flow → each_below (is_delivered_kept sys state choice) (length sys.flow.edges) ≡ true
-    → (d : ℕ) → d < length sys.flow.edges → ComesFromSender sys (covers_in sys state) choice d
+    → (d : ℕ) → d < length sys.flow.edges → ComesFromSender sys.flow (covers_in sys state) choice d
 delivered_by sys state choice formed h d l t i =
     let a = and_parts _ _ (each_below-at (is_delivered_kept sys state choice) (length sys.flow.edges) h d l) in
     into_phi sys (events state.history) d _ a.0 (set-frontier sys (sender sys.flow d) (cut_of choice (sender sys.flow d))) t
-    (delivered_in sys state (receiver sys.flow d) d (cut_of choice (receiver sys.flow d)) (sender sys.flow d) (cut_of choice (sender sys.flow d)) (one_domain sys.flow formed d l a.0) a.1 t i)
+    (delivered_in sys state d (cut_of choice (receiver sys.flow d)) (cut_of choice (sender sys.flow d)) (one_domain sys.flow formed d l a.0) a.1 t i)
 
 -- whether what node p sent on edge e inside a set, by the way in which it is restored, lies in what the receiver q keeps by a cut
 abbrev pub is_discarded_at : System → Machine → ℕ → Restoring → Front → ℕ → Cut → Bool
-is_discarded_at sys state e by_anything f q to = is_plain (kind_of sys.flow (sender sys.flow e)) && is_in_cut f to
-is_discarded_at sys state e way f q to = list_all (set_of sys q to) (stamps_from (frontier_of (bounds_of sys.flow (sender sys.flow e)) f) (sent sys (events state.history) e))
+is_discarded_at sys state e Anything f q to = is_plain (kind_of sys.flow (sender sys.flow e)) && is_in_cut f to
+is_discarded_at sys state e way f q to = list_all (set_of sys.flow q to) (stamps_from (set_of sys.flow (sender sys.flow e) (At f)) (sent sys (events state.history) e))
 
 discarded_in : (sys : System) (state : Machine) (e : ℕ) (way : Restoring) (f : Front) (to : Cut) → IsWellFormed sys.flow → e < length sys.flow.edges
     → is_discarded_at sys state e way f (receiver sys.flow e) to ≡ true
-    → Within (discarded_at sys state (sender sys.flow e) e way (frontier_of (bounds_of sys.flow (sender sys.flow e)) f)) (set_of sys (receiver sys.flow e) to)
-discarded_in sys state e by_anything f to formed l h = λ t i.
+    → Within (discarded_at sys.flow e way ((tallies_in sys state).sent e (At f)) f) (set_of sys.flow (receiver sys.flow e) to)
+discarded_in sys state e Anything f to formed l h = λ t i.
     let a = and_parts _ _ h in
     in_cut sys (receiver sys.flow e) f to a.1 t
     (subst (λ (b : Bounds). frontier_of b f t ≡ true) (one_domain sys.flow formed e l a.0) (from_psi sys e (frontier_of (bounds_of sys.flow (sender sys.flow e)) f) a.0 t i))
 discarded_in sys state e way f to formed l h =
-    cover_within_by (bounds_of sys.flow (receiver sys.flow e)) (set_of sys (receiver sys.flow e) to) _ (set-frontier sys (receiver sys.flow e) to) h
+    cover_within_by (bounds_of sys.flow (receiver sys.flow e)) (set_of sys.flow (receiver sys.flow e) to) _ (set-frontier sys (receiver sys.flow e) to) h
 
 -- whether what counts as sent on edge e inside a cut, and can not be sent again, lies in what the receiver keeps by a cut
 abbrev pub is_discarded_in : System → Machine → ℕ → Cut → Cut → Bool
 is_discarded_in sys state e Present to =
     can_resend (policy_of sys.flow (sender sys.flow e))
-    || list_all (set_of sys (receiver sys.flow e) to) (stamps_from (everything (bounds_of sys.flow (sender sys.flow e))) (sent sys (events state.history) e))
+    || list_all (set_of sys.flow (receiver sys.flow e) to) (stamps_from (set_of sys.flow (sender sys.flow e) Present) (sent sys (events state.history) e))
 is_discarded_in sys state e (At f) to =
     can_resend (policy_of sys.flow (sender sys.flow e))
-    || is_discarded_at sys state e (restoring (kind_of sys.flow (sender sys.flow e)) (policy_of sys.flow (sender sys.flow e))) f (receiver sys.flow e) to
+    || is_discarded_at sys state e (way_of sys.flow (sender sys.flow e)) f (receiver sys.flow e) to
 
 -- nothing, or what lies within
 unless : (b c : Bool) (f g : Frontier) → (b || c) ≡ true → (c ≡ true → Within f g) → Within (if b then nothing else f) g
@@ -121,37 +124,37 @@ unless true c f g h w = λ t i. absurd (false≢true i)
 unless false c f g h w = w h
 
 discarded_cut : (sys : System) (state : Machine) (e : ℕ) (cut to : Cut) → IsWellFormed sys.flow → e < length sys.flow.edges → is_discarded_in sys state e cut to ≡ true
-    → Within (discarded_cover sys state (sender sys.flow e) e cut) (set_of sys (receiver sys.flow e) to)
+    → Within ((covers_in sys state).discarded e cut) (set_of sys.flow (receiver sys.flow e) to)
 discarded_cut sys state e Present to formed l h =
-    unless _ _ _ _ h (cover_within_by (bounds_of sys.flow (receiver sys.flow e)) (set_of sys (receiver sys.flow e) to) _ (set-frontier sys (receiver sys.flow e) to))
+    unless _ _ _ _ h (cover_within_by (bounds_of sys.flow (receiver sys.flow e)) (set_of sys.flow (receiver sys.flow e) to) _ (set-frontier sys (receiver sys.flow e) to))
 discarded_cut sys state e (At f) to formed l h =
-    unless _ _ _ _ h (discarded_in sys state e (restoring (kind_of sys.flow (sender sys.flow e)) (policy_of sys.flow (sender sys.flow e))) f to formed l)
+    unless _ _ _ _ h (discarded_in sys state e (way_of sys.flow (sender sys.flow e)) f to formed l)
 
 -- whether the second inclusion holds on edge e
 abbrev pub is_discarded_kept : System → Machine → Choice → ℕ → Bool
 is_discarded_kept sys state choice e = is_discarded_in sys state e (cut_of choice (sender sys.flow e)) (cut_of choice (receiver sys.flow e))
 
 pub discarded_by : (sys : System) (state : Machine) (choice : Choice) → IsWellFormed sys.flow → each_below (is_discarded_kept sys state choice) (length sys.flow.edges) ≡ true
-    → (e : ℕ) → e < length sys.flow.edges → LiesInReceiver sys (covers_in sys state) choice e
+    → (e : ℕ) → e < length sys.flow.edges → LiesInReceiver sys.flow (covers_in sys state) choice e
 discarded_by sys state choice formed h e l =
     discarded_cut sys state e (cut_of choice (sender sys.flow e)) (cut_of choice (receiver sys.flow e)) formed l (each_below-at (is_discarded_kept sys state choice) (length sys.flow.edges) h e l)
 
 -- whether what counts as notified of node p inside a cut has its note
 abbrev pub is_notified_in : System → Machine → ℕ → Cut → Front → Bool
-is_notified_in sys state p Present note = list_all (frontier_of (bounds_of sys.flow p) note) (notified_inside p (everything (bounds_of sys.flow p)) (events state.history))
+is_notified_in sys state p Present note = list_all (frontier_of (bounds_of sys.flow p) note) (notified_inside p (set_of sys.flow p Present) (events state.history))
 is_notified_in sys state p (At f) note =
-    if takes_its_notes (kind_of sys.flow p) (policy_of sys.flow p) then none_inside f note
-    else list_all (frontier_of (bounds_of sys.flow p) note) (notified_inside p (frontier_of (bounds_of sys.flow p) f) (events state.history))
+    if takes_its_notes (kind_of sys.flow p) (policy_of sys.flow p) then is_within f note
+    else list_all (frontier_of (bounds_of sys.flow p) note) (notified_inside p (set_of sys.flow p (At f)) (events state.history))
 
 notified_in : (sys : System) (state : Machine) (p : ℕ) (cut : Cut) (note : Front) → is_notified_in sys state p cut note ≡ true
-    → Within (notified_cover sys state p cut) (frontier_of (bounds_of sys.flow p) note)
+    → Within ((covers_in sys state).notified p cut) (frontier_of (bounds_of sys.flow p) note)
 notified_in sys state p Present note h = cover_within_by (bounds_of sys.flow p) _ _ (frontier-closed (bounds_of sys.flow p) note) h
 notified_in sys state p (At f) note h = go (takes_its_notes (kind_of sys.flow p) (policy_of sys.flow p)) h
   where
     go : (b : Bool)
-        → (if b then none_inside f note else list_all (frontier_of (bounds_of sys.flow p) note) (notified_inside p (frontier_of (bounds_of sys.flow p) f) (events state.history))) ≡ true
+        → (if b then is_within f note else list_all (frontier_of (bounds_of sys.flow p) note) (notified_inside p (set_of sys.flow p (At f)) (events state.history))) ≡ true
         → Within
-        (if b then frontier_of (bounds_of sys.flow p) f else cover (bounds_of sys.flow p) (notified_inside p (frontier_of (bounds_of sys.flow p) f) (events state.history)))
+        (if b then frontier_of (bounds_of sys.flow p) f else cover (bounds_of sys.flow p) (notified_inside p (set_of sys.flow p (At f)) (events state.history)))
         (frontier_of (bounds_of sys.flow p) note)
     go true k = lies (bounds_of sys.flow p) f note k
     go false k = cover_within_by (bounds_of sys.flow p) _ _ (frontier-closed (bounds_of sys.flow p) note) k
@@ -161,13 +164,13 @@ abbrev pub is_notified_kept : System → Machine → Choice → ℕ → Bool
 is_notified_kept sys state choice p = is_notified_in sys state p (cut_of choice p) (front_of choice.notes p)
 
 pub notified_by : (sys : System) (state : Machine) (choice : Choice) → each_below (is_notified_kept sys state choice) (length sys.flow.nodes) ≡ true
-    → (p : ℕ) → p < length sys.flow.nodes → HasItsNotices sys (covers_in sys state) choice p
+    → (p : ℕ) → p < length sys.flow.nodes → HasItsNotices sys.flow (covers_in sys state) choice p
 notified_by sys state choice h p l =
     notified_in sys state p (cut_of choice p) (front_of choice.notes p) (each_below-at (is_notified_kept sys state choice) (length sys.flow.nodes) h p l)
 
 -- the fourth inclusion
 pub own_by : (sys : System) (choice : Choice) → each_below (λ p. is_in_cut (front_of choice.notes p) (cut_of choice p)) (length sys.flow.nodes) ≡ true
-    → (p : ℕ) → p < length sys.flow.nodes → IsNoteKept sys choice p
+    → (p : ℕ) → p < length sys.flow.nodes → IsNoteKept sys.flow choice p
 own_by sys choice h p l =
     in_cut sys p (front_of choice.notes p) (cut_of choice p) (each_below-at (λ p. is_in_cut (front_of choice.notes p) (cut_of choice p)) (length sys.flow.nodes) h p l)
 
@@ -176,7 +179,7 @@ abbrev pub is_note_kept : System → Choice → ℕ → Bool
 is_note_kept sys choice d = is_from_sender sys.flow (front_of choice.notes (receiver sys.flow d)) (front_of choice.notes (sender sys.flow d)) d
 
 pub notes_by : (sys : System) (state : Machine) (choice : Choice) → IsWellFormed sys.flow → each_below (is_note_kept sys choice) (length sys.flow.edges) ≡ true
-    → (d : ℕ) → d < length sys.flow.edges → NoteComesFromSender sys (covers_in sys state) choice d
+    → (d : ℕ) → d < length sys.flow.edges → NoteComesFromSender sys.flow (covers_in sys state) choice d
 notes_by sys state choice formed h d l =
     from_sender sys (events state.history) formed d l (front_of choice.notes (receiver sys.flow d)) (front_of choice.notes (sender sys.flow d))
     (each_below-at (is_note_kept sys choice) (length sys.flow.edges) h d l)
@@ -264,29 +267,29 @@ all_logged_by sys p f writes (v ∷ h) k =
 
 -- whether node p can be restored to f in this way
 abbrev pub is_restorable : System → Machine → View → ℕ → Restoring → Front → Bool
-is_restorable sys state view p by_batches f = has_batches sys (events state.history) p f
-is_restorable sys state view p by_bound f = none_inside f (front_of state.settled p) && none_inside f (until (bound_of state p))
-is_restorable sys state view p by_anything f = none_inside f (front_of state.settled p)
-is_restorable sys state view p by_checkpoints f = same_front f (no_stamps (bounds_of sys.flow p)) || has_checkpoint view p f state.writes
-is_restorable sys state view p by_events f =
-    none_inside f (front_of state.settled p) && are_logged sys p (frontier_of (bounds_of sys.flow p) f) state.writes state.history
+is_restorable sys state view p Batches f = has_batches sys (events state.history) p f
+is_restorable sys state view p Bound f = is_within f (front_of state.settled p) && is_within f (until (bound_of state p))
+is_restorable sys state view p Anything f = is_within f (front_of state.settled p)
+is_restorable sys state view p Checkpoints f = same_front f (no_stamps (bounds_of sys.flow p)) || has_checkpoint view p f state.writes
+is_restorable sys state view p Events f =
+    is_within f (front_of state.settled p) && are_logged sys p (frontier_of (bounds_of sys.flow p) f) state.writes state.history
 
 restorable_by : (sys : System) (state : Machine) (view : View) (p : ℕ) (way : Restoring) (f : Front) → is_restorable sys state view p way f ≡ true
     → IsRestorable sys state view p way f
-restorable_by sys state view p by_batches f h = batches_by sys (events state.history) p f h
-restorable_by sys state view p by_bound f h =
-    let a = and_parts (none_inside f (front_of state.settled p)) (none_inside f (until (bound_of state p))) h in
+restorable_by sys state view p Batches f h = batches_by sys (events state.history) p f h
+restorable_by sys state view p Bound f h =
+    let a = and_parts (is_within f (front_of state.settled p)) (is_within f (until (bound_of state p))) h in
     (lies (bounds_of sys.flow p) f (front_of state.settled p) a.0, lies (bounds_of sys.flow p) f (until (bound_of state p)) a.1)
-restorable_by sys state view p by_anything f h = lies (bounds_of sys.flow p) f (front_of state.settled p) h
-restorable_by sys state view p by_checkpoints f h =
+restorable_by sys state view p Anything f h = lies (bounds_of sys.flow p) f (front_of state.settled p) h
+restorable_by sys state view p Checkpoints f h =
     ⊎_elim (λ e. inl (fronts_equal f (no_stamps (bounds_of sys.flow p)) e)) (λ c. inr (checkpoint_by view p f state.writes c)) (or_cases _ _ h)
-restorable_by sys state view p by_events f h =
+restorable_by sys state view p Events f h =
     let a = and_parts _ _ h in
     (lies (bounds_of sys.flow p) f (front_of state.settled p) a.0, all_logged_by sys p (frontier_of (bounds_of sys.flow p) f) state.writes state.history a.1)
 
 -- whether the frontier holds the low watermark, if it has to
 abbrev pub holds_low : View → Front → Front → Bool
-holds_low kept low f = none_inside low f
+holds_low kept low f = is_within low f
 holds_low ever low f = true
 
 low_by : (b : Bounds) (view : View) (low f : Front) → holds_low view low f ≡ true → HoldsLow view (frontier_of b low) (frontier_of b f)
@@ -298,7 +301,7 @@ abbrev pub is_candidate : System → Machine → (ℕ → Bool) → View → ℕ
 is_candidate sys state lost view p Present = not (lost p)
 is_candidate sys state lost view p (At f) =
     is_canonical (bounds_of sys.flow p) f
-    && (is_restorable sys state view p (restoring (kind_of sys.flow p) (policy_of sys.flow p)) f && holds_low view (front_of state.low p) f)
+    && (is_restorable sys state view p (way_of sys.flow p) f && holds_low view (front_of state.low p) f)
 
 pub candidate_by : (sys : System) (state : Machine) (lost : ℕ → Bool) (view : View) (p : ℕ) (cut : Cut) → is_candidate sys state lost view p cut ≡ true
     → IsCandidate sys state lost view p cut
@@ -306,7 +309,7 @@ candidate_by sys state lost view p Present h = not-true (lost p) h
 candidate_by sys state lost view p (At f) h =
     let a = and_parts _ _ h in
     let b = and_parts _ _ a.1 in
-    (canonical_by (bounds_of sys.flow p) f a.0, restorable_by sys state view p (restoring (kind_of sys.flow p) (policy_of sys.flow p)) f b.0, low_by (bounds_of sys.flow p) view (front_of state.low p) f b.1)
+    (canonical_by (bounds_of sys.flow p) f a.0, restorable_by sys state view p (way_of sys.flow p) f b.0, low_by (bounds_of sys.flow p) view (front_of state.low p) f b.1)
 
 -- whether each node offers its cut of the choice
 abbrev pub are_offered : System → Machine → (ℕ → Bool) → View → Choice → Bool
@@ -346,7 +349,7 @@ until_more b k n l = lies b (until k) (until n) (grind (arith, nat_tests))
 
 -- whether each checkpoint of node p that counts lies within
 abbrev pub are_checkpoints_within : View → ℕ → Front → List Write → Bool
-are_checkpoints_within view p g writes = list_all (λ (write : Write). not (write.node == p && counts view write.progress) || list_all (λ f. none_inside f g) (checkpoint_front write.written)) writes
+are_checkpoints_within view p g writes = list_all (λ (write : Write). not (write.node == p && counts view write.progress) || list_all (λ f. is_within f g) (checkpoint_front write.written)) writes
 
 checkpoint_within : (b : Bounds) (view : View) (p : ℕ) (f g : Front) (writes : List Write) → are_checkpoints_within view p g writes ≡ true → HasCheckpoint view p f writes
     → Within (frontier_of b f) (frontier_of b g)
@@ -354,7 +357,7 @@ checkpoint_within b view p f g [] h c = absurd c
 checkpoint_within b view p f g (w ∷ ws) h (inr c) = checkpoint_within b view p f g ws (and_parts _ _ h).1 c
 checkpoint_within b view p f g (w ∷ ws) h (inl c) = at w.written (inl c) (and_parts _ _ h).0
   where
-    at : (written : Written) → HasCheckpoint view p f (record w { written = written } ∷ []) → (not (w.node == p && counts view w.progress) || list_all (λ x. none_inside x g) (checkpoint_front written)) ≡ true
+    at : (written : Written) → HasCheckpoint view p f (record w { written = written } ∷ []) → (not (w.node == p && counts view w.progress) || list_all (λ x. is_within x g) (checkpoint_front written)) ≡ true
         → Within (frontier_of b f) (frontier_of b g)
     at (checkpoint x low) (inr c) k = absurd c
     at (checkpoint x low) (inl c) k =
@@ -369,66 +372,66 @@ checkpoint_within b view p f g (w ∷ ws) h (inl c) = at w.written (inl c) (and_
 
 -- whether what node p can be restored to, in this way, lies within
 abbrev pub is_restorable_within : System → Machine → View → ℕ → Restoring → Front → Bool
-is_restorable_within sys state view p by_batches g =
-    none_inside (until (injected_count p (events state.history))) g && (not (is_exhausted sys (events state.history) p) || none_inside [] g)
-is_restorable_within sys state view p by_bound g = none_inside (front_of state.settled p) g || none_inside (until (bound_of state p)) g
-is_restorable_within sys state view p by_anything g = none_inside (front_of state.settled p) g
-is_restorable_within sys state view p by_checkpoints g = are_checkpoints_within view p g state.writes
-is_restorable_within sys state view p by_events g = none_inside (front_of state.settled p) g
+is_restorable_within sys state view p Batches g =
+    is_within (until (injected_count p (events state.history))) g && (not (is_exhausted sys (events state.history) p) || is_within [] g)
+is_restorable_within sys state view p Bound g = is_within (front_of state.settled p) g || is_within (until (bound_of state p)) g
+is_restorable_within sys state view p Anything g = is_within (front_of state.settled p) g
+is_restorable_within sys state view p Checkpoints g = are_checkpoints_within view p g state.writes
+is_restorable_within sys state view p Events g = is_within (front_of state.settled p) g
 
 restorable_within : (sys : System) (state : Machine) (view : View) (p : ℕ) (way : Restoring) (g f : Front) → is_restorable_within sys state view p way g ≡ true
     → IsRestorable sys state view p way f → Within (frontier_of (bounds_of sys.flow p) f) (frontier_of (bounds_of sys.flow p) g)
-restorable_within sys state view p by_batches g f h (inl k) =
+restorable_within sys state view p Batches g f h (inl k) =
     subst (λ x. Within (frontier_of (bounds_of sys.flow p) x) (frontier_of (bounds_of sys.flow p) g)) (sym k.2)
-    (λ t i. lies (bounds_of sys.flow p) (until (injected_count p (events state.history))) g (and_parts (none_inside (until (injected_count p (events state.history))) g) _ h).0 t
+    (λ t i. lies (bounds_of sys.flow p) (until (injected_count p (events state.history))) g (and_parts (is_within (until (injected_count p (events state.history))) g) _ h).0 t
     (until_more (bounds_of sys.flow p) k.0 (injected_count p (events state.history)) k.1 t i))
-restorable_within sys state view p by_batches g f h (inr e) =
+restorable_within sys state view p Batches g f h (inr e) =
     subst (λ x. Within (frontier_of (bounds_of sys.flow p) x) (frontier_of (bounds_of sys.flow p) g)) (sym e.1)
     (lies (bounds_of sys.flow p) [] g (⊎_elim (λ n. absurd (two_ways _ e.0 (not-true _ n))) (λ n. n) (or_cases _ _ (and_parts _ _ h).1)))
-restorable_within sys state view p by_bound g f h o = λ t i.
+restorable_within sys state view p Bound g f h o = λ t i.
     ⊎_elim (λ n. lies (bounds_of sys.flow p) (front_of state.settled p) g n t (o.0 t i)) (λ n. lies (bounds_of sys.flow p) (until (bound_of state p)) g n t (o.1 t i)) (or_cases _ _ h)
-restorable_within sys state view p by_anything g f h o = λ t i. lies (bounds_of sys.flow p) (front_of state.settled p) g h t (o t i)
-restorable_within sys state view p by_checkpoints g f h (inl e) =
+restorable_within sys state view p Anything g f h o = λ t i. lies (bounds_of sys.flow p) (front_of state.settled p) g h t (o t i)
+restorable_within sys state view p Checkpoints g f h (inl e) =
     subst (λ x. Within (frontier_of (bounds_of sys.flow p) x) (frontier_of (bounds_of sys.flow p) g)) (sym e) (none-within (bounds_of sys.flow p) _)
-restorable_within sys state view p by_checkpoints g f h (inr c) = checkpoint_within (bounds_of sys.flow p) view p f g state.writes h c
-restorable_within sys state view p by_events g f h o = λ t i. lies (bounds_of sys.flow p) (front_of state.settled p) g h t (o.0 t i)
+restorable_within sys state view p Checkpoints g f h (inr c) = checkpoint_within (bounds_of sys.flow p) view p f g state.writes h c
+restorable_within sys state view p Events g f h o = λ t i. lies (bounds_of sys.flow p) (front_of state.settled p) g h t (o.0 t i)
 
 -- what a failed node offers lies within
 pub offered_within : (sys : System) (state : Machine) (lost : ℕ → Bool) (view : View) (p : ℕ) (g : Front) → lost p ≡ true
-    → is_restorable_within sys state view p (restoring (kind_of sys.flow p) (policy_of sys.flow p)) g ≡ true
-    → (cut : Cut) → IsCandidate sys state lost view p cut → IsCutWithin sys p cut (At g)
+    → is_restorable_within sys state view p (way_of sys.flow p) g ≡ true
+    → (cut : Cut) → IsCandidate sys state lost view p cut → IsCutWithin sys.flow p cut (At g)
 offered_within sys state lost view p g f h Present o = two_ways _ f o
-offered_within sys state lost view p g f h (At x) o = restorable_within sys state view p (restoring (kind_of sys.flow p) (policy_of sys.flow p)) g x h o.1
+offered_within sys state lost view p g f h (At x) o = restorable_within sys state view p (way_of sys.flow p) g x h o.1
 
 -- what a node keeps by a cut that lies within another
-pub set_within : (sys : System) (p : ℕ) (cut : Cut) (g : Front) → IsCutWithin sys p cut (At g) → Within (set_of sys p cut) (frontier_of (bounds_of sys.flow p) g)
+pub set_within : (sys : System) (p : ℕ) (cut : Cut) (g : Front) → IsCutWithin sys.flow p cut (At g) → Within (set_of sys.flow p cut) (frontier_of (bounds_of sys.flow p) g)
 set_within sys p Present g h = absurd h
 set_within sys p (At f) g h = h
 
 -- a consistent choice whose cuts lie within those of a choice lies within it, where each note of that is all of its cut
 pub above_by : (sys : System) (state : Machine) (offered : ℕ → Cut → Type 0) (choice other : Choice) → IsConsistent sys state offered other
-    → ((p : ℕ) → p < length sys.flow.nodes → IsCutWithin sys p (cut_of other p) (cut_of choice p))
-    → each_below (λ p. none_inside (front_of_cut (cut_of choice p)) (front_of choice.notes p)) (length sys.flow.nodes) ≡ true → IsChoiceWithin sys other choice
+    → ((p : ℕ) → p < length sys.flow.nodes → IsCutWithin sys.flow p (cut_of other p) (cut_of choice p))
+    → each_below (λ p. is_within (front_of_cut (cut_of choice p)) (front_of choice.notes p)) (length sys.flow.nodes) ≡ true → IsChoiceWithin sys.flow other choice
 above_by sys state offered choice other is at h = record {
   cuts = at;
   notes = λ p l t i.
-      lies (bounds_of sys.flow p) _ (front_of choice.notes p) (each_below-at (λ p. none_inside (front_of_cut (cut_of choice p)) (front_of choice.notes p)) (length sys.flow.nodes) h p l) t
+      lies (bounds_of sys.flow p) _ (front_of choice.notes p) (each_below-at (λ p. is_within (front_of_cut (cut_of choice p)) (front_of choice.notes p)) (length sys.flow.nodes) h p l) t
       (held p (cut_of choice p) (at p l) t (is.own p l t i));
 }
   where
-    held : (p : ℕ) (cut : Cut) → IsCutWithin sys p (cut_of other p) cut → Within (kept_of sys other p) (frontier_of (bounds_of sys.flow p) (front_of_cut cut))
+    held : (p : ℕ) (cut : Cut) → IsCutWithin sys.flow p (cut_of other p) cut → Within (kept_of sys.flow other p) (frontier_of (bounds_of sys.flow p) (front_of_cut cut))
     held p Present w = λ t i. and_from _ _ ((set-frontier sys p (cut_of other p)).inside_domain t i) refl
     held p (At g) w = set_within sys p (cut_of other p) g w
 
 -- whether a cut is a node as it is, or all that a failed node offers lies within it
 abbrev pub is_above_offers : System → Machine → (ℕ → Bool) → View → ℕ → Cut → Bool
 is_above_offers sys state lost view p Present = true
-is_above_offers sys state lost view p (At g) = lost p && is_restorable_within sys state view p (restoring (kind_of sys.flow p) (policy_of sys.flow p)) g
+is_above_offers sys state lost view p (At g) = lost p && is_restorable_within sys state view p (way_of sys.flow p) g
 
 -- a consistent choice is the largest where each of its cuts is above what is offered, and each note is all of its cut
 pub largest_by : (sys : System) (state : Machine) (lost : ℕ → Bool) (view : View) (choice : Choice) → IsConsistent sys state (IsCandidate sys state lost view) choice
     → each_below (λ p. is_above_offers sys state lost view p (cut_of choice p)) (length sys.flow.nodes) ≡ true
-    → each_below (λ p. none_inside (front_of_cut (cut_of choice p)) (front_of choice.notes p)) (length sys.flow.nodes) ≡ true
+    → each_below (λ p. is_within (front_of_cut (cut_of choice p)) (front_of choice.notes p)) (length sys.flow.nodes) ≡ true
     → IsLargest sys state (IsCandidate sys state lost view) choice
 largest_by sys state lost view choice is h n = record {
   consistent = is;
@@ -437,7 +440,7 @@ largest_by sys state lost view choice is h n = record {
       (λ p l. at p (cut_of choice p) (each_below-at (λ p. is_above_offers sys state lost view p (cut_of choice p)) (length sys.flow.nodes) h p l) (cut_of other p) (o.offered p l)) n;
 }
   where
-    at : (p : ℕ) (cut : Cut) → is_above_offers sys state lost view p cut ≡ true → (other : Cut) → IsCandidate sys state lost view p other → IsCutWithin sys p other cut
+    at : (p : ℕ) (cut : Cut) → is_above_offers sys state lost view p cut ≡ true → (other : Cut) → IsCandidate sys state lost view p other → IsCutWithin sys.flow p other cut
     at p Present a other o = tt
     at p (At g) a other o = let b = and_parts _ _ a in offered_within sys state lost view p g b.0 b.1 other o
 
@@ -461,42 +464,42 @@ sent_above f o u (m ∷ ms) i h = go (all_inside f m.causes) refl (or_cases _ _ 
 -- A node that cannot send again what came from events of a stamp keeps none of them, where the receiver keeps less.
 pub sender_within : (sys : System) (state : Machine) (offered : ℕ → Cut → Type 0) (other : Choice) → IsConsistent sys state offered other
     → (e : ℕ) → e < length sys.flow.edges → (g : Front) (o u : Stamp)
-    → IsCutWithin sys (receiver sys.flow e) (cut_of other (receiver sys.flow e)) (At g) → frontier_of (bounds_of sys.flow (receiver sys.flow e)) g u ≡ false
+    → IsCutWithin sys.flow (receiver sys.flow e) (cut_of other (receiver sys.flow e)) (At g) → frontier_of (bounds_of sys.flow (receiver sys.flow e)) g u ≡ false
     → can_resend (policy_of sys.flow (sender sys.flow e)) ≡ false
-    → ((f : Frontier) → discarded_at sys state (sender sys.flow e) e (restoring (kind_of sys.flow (sender sys.flow e)) (policy_of sys.flow (sender sys.flow e))) f ≡ sent_cover sys state (sender sys.flow e) e f)
+    → ((sent : Frontier) (f : Front) → discarded_at sys.flow e (way_of sys.flow (sender sys.flow e)) sent f ≡ sent)
     → in_domain (bounds_of sys.flow (sender sys.flow e)) o ≡ true → in_domain (bounds_of sys.flow (receiver sys.flow e)) u ≡ true
     → list_any (λ (m : Message). list_all (same o) m.causes && leq u m.at) (sent sys (events state.history) e) ≡ true
-    → IsCutWithin sys (sender sys.flow e) (cut_of other (sender sys.flow e)) (At (o ∷ []))
+    → IsCutWithin sys.flow (sender sys.flow e) (cut_of other (sender sys.flow e)) (At (o ∷ []))
 sender_within sys state offered other is e l g o u at out no_log by_sending d du among =
     go (cut_of other (sender sys.flow e)) (λ i. two_ways _ (set_within sys (receiver sys.flow e) (cut_of other (receiver sys.flow e)) g at u (is.discarded e l u i)) out)
   where
-    covered : (f : Frontier) → f o ≡ true → sent_cover sys state (sender sys.flow e) e f u ≡ true
-    covered f i = and_from _ _ du (sent_above f o u (sent sys (events state.history) e) i among)
+    covered : (cut : Cut) → set_of sys.flow (sender sys.flow e) cut o ≡ true → (tallies_in sys state).sent e cut u ≡ true
+    covered cut i = and_from _ _ du (sent_above (set_of sys.flow (sender sys.flow e) cut) o u (sent sys (events state.history) e) i among)
 
-    go : (cut : Cut) → (discarded_cover sys state (sender sys.flow e) e cut u ≡ true → ⊥) → IsCutWithin sys (sender sys.flow e) cut (At (o ∷ []))
-    go Present w = w (rw no_log (covered (everything (bounds_of sys.flow (sender sys.flow e))) d))
+    go : (cut : Cut) → ((covers_in sys state).discarded e cut u ≡ true → ⊥) → IsCutWithin sys.flow (sender sys.flow e) cut (At (o ∷ []))
+    go Present w = w (rw no_log (covered Present d))
     go (At f) w =
         within_outside (bounds_of sys.flow (sender sys.flow e)) _ (o ∷ []) (frontier-closed _ f) (and_from _ _ d refl)
-        ((λ i. w (rw no_log (ap (λ (c : Frontier). c u) (by_sending (frontier_of (bounds_of sys.flow (sender sys.flow e)) f)) ∙ covered _ i))), tt)
+        ((λ i. w (rw no_log (ap (λ (c : Frontier). c u) (by_sending ((tallies_in sys state).sent e (At f)) f) ∙ covered (At f) i))), tt)
 
 -- ---- the recovery
 
 -- what is settled at a node once it is cut, where one of the two lies within the other
 abbrev pub front_after : Cut → Front → Front
 front_after Present before = before
-front_after (At f) before = if none_inside f before then f else before
+front_after (At f) before = if is_within f before then f else before
 
 -- whether this is so, and the list of the cut canonical
 abbrev pub is_cut : System → ℕ → Cut → Front → Bool
 is_cut sys p Present before = true
 is_cut sys p (At f) before =
-    is_canonical (bounds_of sys.flow p) f && (is_canonical (bounds_of sys.flow p) before && (none_inside f before || none_inside before f))
+    is_canonical (bounds_of sys.flow p) f && (is_canonical (bounds_of sys.flow p) before && (is_within f before || is_within before f))
 
 settled_by : (sys : System) (p : ℕ) (cut : Cut) (before : Front) → is_cut sys p cut before ≡ true → IsSettledCut sys p cut before (front_after cut before)
 settled_by sys p Present before h = refl
-settled_by sys p (At f) before h = go (none_inside f before) refl
+settled_by sys p (At f) before h = go (is_within f before) refl
   where
-    go : (b : Bool) → none_inside f before ≡ b
+    go : (b : Bool) → is_within f before ≡ b
         → Names (bounds_of sys.flow p) (if b then f else before) (meet (frontier_of (bounds_of sys.flow p) before) (frontier_of (bounds_of sys.flow p) f))
     go true e = record { canonical = canonical_by _ _ (and_parts _ _ h).0; same = meet_other _ before f e }
     go false e =

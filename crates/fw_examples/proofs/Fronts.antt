@@ -1,18 +1,90 @@
--- Lists of outside stamps, by tests that compute: which are canonical, and which frontier lies within which.
+-- What holds at each of some places; and frontiers, by tests that compute: which lists of outside stamps are canonical, and what lies
+-- within what.
 use Rattle.std.specs.List.{AllByRecursion, list_all}
 use Rattle.std.specs.Ordering.{is_lt}
-use Rattle.std.proofs.Common.{Bool, List, [], false, not, refl, subst, sym, true, ⊎_elim, ◌&&◌, ◌||◌, ◌∙◌, ◌∷◌, ◌≡◌}
-use Rattle.std.proofs.lemmas.Bool.{and_from, and_parts, false_from_ne_true, false≢true, not-true, not_from_false, or_cases, or_parts}
+use Rattle.std.proofs.Common.{Bool, List, [], arith, false, inl, inr, not, refl, subst, suc, sym, true, zero, ℕ, ⊎_elim, ◌&&◌, ◌<◌, ◌||◌, ◌∙◌, ◌∷◌, ◌≡◌, ◌≤◌}
+use Rattle.std.proofs.lemmas.Bool.{and_from, and_parts, cases_lt, false_from_ne_true, false≢true, not-true, not_from_false, or_cases, or_parts}
 use Rattle.fw_time.specs.Stamp.{Stamp, in_domain, leq, same, stamp_cmp}
 use Rattle.fw_time.specs.declared.stamp.Bounds.{Bounds}
 use Rattle.fw_time.proofs.EachLaws.{each-of_all}
-use Rattle.fw_frontier.specs.Front.{Front, IsCanonical, all_in_domain, frontier_of, inside}
+use Rattle.fw_time.proofs.StampLaws.{same-is}
+use Rattle.fw_frontier.specs.Front.{Front, IsCanonical, all_in_domain, frontier_of, inside, is_within}
 use Rattle.fw_frontier.specs.Frontier.{Frontier, IsFrontier, Within, cover, join, meet, some_above}
-use Rattle.fw_frontier.specs.Outside.{none_inside}
-use Rattle.fw_frontier.proofs.NamesLaws.{none_inside-within_domain}
+use Rattle.fw_frontier.proofs.NamesLaws.{is_within-holds}
 use Rattle.fw_flow.specs.declared.event.Message.{Message}
 use Rattle.fw_model.specs.History.{some_at}
-use Rattle.fw_model.proofs.StampLaws.{same-is}
+use Rattle.std.proofs.lemmas.Bool.Decides.{nat_tests}
+use Rattle.fw_examples.specs.Flows.{out}
+
+-- at each of three, or of two
+pub by_three : (P : ℕ → Type 0) → P 0 → P 1 → P 2 → (p : ℕ) → p < 3 → P p
+by_three P a b c zero l = a
+by_three P a b c (suc zero) l = b
+by_three P a b c (suc (suc zero)) l = c
+by_three P a b c (suc (suc (suc p))) l = absurd (omega arith)
+
+pub by_two : (P : ℕ → Type 0) → P 0 → P 1 → (d : ℕ) → d < 2 → P d
+by_two P a b zero l = a
+by_two P a b (suc zero) l = b
+by_two P a b (suc (suc d)) l = absurd (omega arith)
+
+-- at each of six, or of five
+pub by_six : (P : ℕ → Type 0) → P 0 → P 1 → P 2 → P 3 → P 4 → P 5 → (p : ℕ) → p < 6 → P p
+by_six P a b c d e f zero l = a
+by_six P a b c d e f (suc zero) l = b
+by_six P a b c d e f (suc (suc zero)) l = c
+by_six P a b c d e f (suc (suc (suc zero))) l = d
+by_six P a b c d e f (suc (suc (suc (suc zero)))) l = e
+by_six P a b c d e f (suc (suc (suc (suc (suc zero))))) l = f
+by_six P a b c d e f (suc (suc (suc (suc (suc (suc p)))))) l = absurd (omega arith)
+
+pub by_five : (P : ℕ → Type 0) → P 0 → P 1 → P 2 → P 3 → P 4 → (p : ℕ) → p < 5 → P p
+by_five P a b c d e zero l = a
+by_five P a b c d e (suc zero) l = b
+by_five P a b c d e (suc (suc zero)) l = c
+by_five P a b c d e (suc (suc (suc zero))) l = d
+by_five P a b c d e (suc (suc (suc (suc zero)))) l = e
+by_five P a b c d e (suc (suc (suc (suc (suc p))))) l = absurd (omega arith)
+
+-- at each of four
+pub by_four : (P : ℕ → Type 0) → P 0 → P 1 → P 2 → P 3 → (p : ℕ) → p < 4 → P p
+by_four P a b c d zero l = a
+by_four P a b c d (suc zero) l = b
+by_four P a b c d (suc (suc zero)) l = c
+by_four P a b c d (suc (suc (suc zero))) l = d
+by_four P a b c d (suc (suc (suc (suc p)))) l = absurd (omega arith)
+
+-- at each of seven, and at those past them
+pub all_seven : (P : ℕ → Type 0) → P 0 → P 1 → P 2 → P 3 → P 4 → P 5 → P 6 → ((p : ℕ) → P (suc (suc (suc (suc (suc (suc (suc p)))))))) → (p : ℕ) → P p
+all_seven P a b c d e f g past zero = a
+all_seven P a b c d e f g past (suc zero) = b
+all_seven P a b c d e f g past (suc (suc zero)) = c
+all_seven P a b c d e f g past (suc (suc (suc zero))) = d
+all_seven P a b c d e f g past (suc (suc (suc (suc zero)))) = e
+all_seven P a b c d e f g past (suc (suc (suc (suc (suc zero))))) = f
+all_seven P a b c d e f g past (suc (suc (suc (suc (suc (suc zero)))))) = g
+all_seven P a b c d e f g past (suc (suc (suc (suc (suc (suc (suc p))))))) = past p
+
+-- at each of seven
+pub by_seven : (P : ℕ → Type 0) → P 0 → P 1 → P 2 → P 3 → P 4 → P 5 → P 6 → (p : ℕ) → p < 7 → P p
+by_seven P a b c d e f g =
+    all_seven (λ p. p < 7 → P p) (λ l. a) (λ l. b) (λ l. c) (λ l. d) (λ l. e) (λ l. f) (λ l. g) (λ p l. absurd (omega arith))
+
+-- whether each number below n passes the test
+abbrev pub each_below : (ℕ → Bool) → ℕ → Bool
+each_below test zero = true
+each_below test (suc n) = test n && each_below test n
+
+pub each_below-at : (test : ℕ → Bool) (n : ℕ) → each_below test n ≡ true → (i : ℕ) → i < n → test i ≡ true
+each_below-at test zero h i l = absurd (omega arith)
+each_below-at test (suc n) h i l =
+    let a = and_parts (test n) (each_below test n) h in
+    elim (cases_lt i n) [
+      | inl m ↦ each_below-at test n a.1 i m
+      | inr m ↦ let e : n ≡ i = omega arith in subst (λ j. test j ≡ true) e a.0
+    ]
+
+-- ---- lists of outside stamps, by tests that compute: which are canonical, and which frontier lies within which
 
 -- whether the stamps are a domain's, ascend, and no two of them are comparable
 abbrev pub is_canonical : Bounds → Front → Bool
@@ -64,16 +136,16 @@ none_at test (m ∷ ms) t h k =
     rw other (none_at test ms t a.1 k)
 
 -- a frontier of the stamps below two others is their meet, where it is one of them
-pub meet_by : (b : Bounds) (xs ys : Front) → none_inside xs ys ≡ true → (t : Stamp) → frontier_of b xs t ≡ meet (frontier_of b xs) (frontier_of b ys) t
-meet_by b xs ys h t = go (frontier_of b xs t) (frontier_of b ys t) (none_inside-within_domain b xs ys h t)
+pub meet_by : (b : Bounds) (xs ys : Front) → is_within xs ys ≡ true → (t : Stamp) → frontier_of b xs t ≡ meet (frontier_of b xs) (frontier_of b ys) t
+meet_by b xs ys h t = go (frontier_of b xs t) (frontier_of b ys t) (is_within-holds b xs ys h t)
   where
     go : (x y : Bool) → (x ≡ true → y ≡ true) → x ≡ (x && y)
     go false y w = refl
     go true y w = sym (w refl)
 
 -- and the other way round
-pub meet_other : (b : Bounds) (xs ys : Front) → none_inside ys xs ≡ true → (t : Stamp) → frontier_of b ys t ≡ meet (frontier_of b xs) (frontier_of b ys) t
-meet_other b xs ys h t = go (frontier_of b xs t) (frontier_of b ys t) (none_inside-within_domain b ys xs h t)
+pub meet_other : (b : Bounds) (xs ys : Front) → is_within ys xs ≡ true → (t : Stamp) → frontier_of b ys t ≡ meet (frontier_of b xs) (frontier_of b ys) t
+meet_other b xs ys h t = go (frontier_of b xs t) (frontier_of b ys t) (is_within-holds b ys xs h t)
   where
     go : (x y : Bool) → (y ≡ true → x ≡ true) → y ≡ (x && y)
     go true y w = refl
@@ -95,3 +167,36 @@ join_other f g w t = go (f t) (g t) (w t)
     go true y w = refl
     go false false w = refl
     go false true w = w refl
+
+-- ---- frontiers of one coordinate and of two, by their stamps
+
+-- a frontier with nothing pending inside has no stamp from a pending one on
+pub not_above : (bounds : Bounds) (f : Frontier) → IsFrontier bounds f → (o : Stamp) → in_domain bounds o ≡ true
+    → (f o ≡ true → ⊥) → (t : Stamp) → f t ≡ true → not (leq o t) ≡ true
+not_above bounds f isf o d out t h = not_from_false _ (false_from_ne_true _ (λ g. out (isf.closed o t d g h)))
+
+-- a test behind a domain of two coordinates holds where another does, if so at its stamps
+pub within_two : (m n : ℕ) (f g : Stamp → Bool)
+    → ((x y : ℕ) → x ≤ m → y ≤ n → f (x ∷ y ∷ []) ≡ true → g (x ∷ y ∷ []) ≡ true)
+    → Within (λ t. in_domain (record { greatest = m ∷ n ∷ [] }) t && f t) (λ t. in_domain (record { greatest = m ∷ n ∷ [] }) t && g t)
+within_two m n f g h [] k = cc
+within_two m n f g h (x ∷ []) k = grind (arith, nat_tests)
+within_two m n f g h (x ∷ y ∷ []) k = grind (arith, nat_tests, h x y)
+within_two m n f g h (x ∷ y ∷ z ∷ t) k = grind (arith, nat_tests)
+
+-- the same for one coordinate
+pub within_one : (m : ℕ) (f g : Stamp → Bool)
+    → ((x : ℕ) → x ≤ m → f (x ∷ []) ≡ true → g (x ∷ []) ≡ true)
+    → Within (λ t. in_domain (record { greatest = m ∷ [] }) t && f t) (λ t. in_domain (record { greatest = m ∷ [] }) t && g t)
+within_one m f g h [] k = cc
+within_one m f g h (x ∷ []) k = grind (arith, nat_tests, h x)
+within_one m f g h (x ∷ y ∷ t) k = grind (arith, nat_tests)
+
+-- what holds behind a test, where what held there brings it
+pub and_more : (a b c : Bool) → (b ≡ true → c ≡ true) → (a && b) ≡ true → (a && c) ≡ true
+and_more true b c f h = f h
+and_more false b c f h = h
+
+-- the same of two
+pub both_more : (a b c d : Bool) → (a ≡ true → c ≡ true) → (b ≡ true → d ≡ true) → (a && b) ≡ true → (c && d) ≡ true
+both_more a b c d f g h = let k : (a ≡ true) × (b ≡ true) = and_parts a b h in and_from c d (f k.0) (g k.1)

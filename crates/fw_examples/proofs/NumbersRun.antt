@@ -1,6 +1,6 @@
 -- The sequence whose numbers are regrouped: the dataflow is well formed, and the history is legal.
 use Rattle.std.proofs.Common.{List, None, Some, [], arith, drop, lit<, lit≤, refl, replicate, ℕ, ◌<◌, ◌∷◌}
-use Rattle.fw_flow.specs.Dataflow.{batches_of, bounds_of, in_edges, kind_of, out_edges, policy_of, receiver, sender, HasEpochs}
+use Rattle.fw_flow.specs.Dataflow.{HasEpochs, batches_of, bounds_of, in_edges, kind_of, out_edges, policy_of, receiver, sender}
 use Rattle.fw_flow.specs.NodeFunction.{sends}
 use Rattle.fw_flow.specs.Projection.{phi}
 use Rattle.fw_flow.specs.WellFormed.{IsWellFormed, IsWellFormedSystem}
@@ -14,7 +14,7 @@ use Rattle.fw_model.proofs.DomainLaws.{has_epochs}
 use Rattle.fw_model.proofs.RecoveryLaws.{runs-legal}
 use Rattle.fw_examples.specs.Flows.{regroup_by_three}
 use Rattle.fw_examples.specs.Numbers.{numbered_both, numbers, value_at}
-use Rattle.fw_examples.proofs.Places.{by_four, by_three}
+use Rattle.fw_examples.proofs.Fronts.{by_four, by_three}
 use Rattle.fw_examples.proofs.Plays.{Move, after_all, deliver, inject, plays, steps_of}
 use Rattle.fw_examples.proofs.Settling.{notifies}
 use Rattle.fw_examples.proofs.WellFormed.{no_closed_walk, system_by}

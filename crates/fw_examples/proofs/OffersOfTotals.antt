@@ -1,7 +1,4 @@
 -- What the nodes of the running total offer as data is what the machine offers.
-use Rattle.fw_model.specs.Choice as machine
-use Rattle.fw_monitor.specs.Offers.{covers_of, stamps_from, AreAscending, AreFromEpochs, AreOffersOf, AreOffersIn, IsOffered, sent_by}
-use Rattle.fw_examples.proofs.Choosing.{until_more}
 use Rattle.std.proofs.Common.{Bool, List, [], ap, arith, cond, false, filter, inl, inr, lit<, lit≤, map, refl, subst, suc, sym, true, zero, ℕ, ◌&&◌, ◌<◌, ◌==◌, ◌↔◌, ◌∷◌, ◌≡◌, ◌≢◌, ◌≤◌, ◌⊎◌}
 use Rattle.std.proofs.lemmas.Bool.{false≢true, true≢false}
 use Rattle.std.proofs.lemmas.Bool.Decides.{nat_tests}
@@ -16,16 +13,15 @@ use Rattle.fw_flow.specs.declared.choice.Counted.{Counted}
 use Rattle.fw_flow.specs.declared.choice.Cut.{Cut}
 use Rattle.fw_flow.specs.declared.choice.Cut.TheVariants.{At, Present}
 use Rattle.fw_flow.specs.declared.event.Message.{Message}
-use Rattle.fw_flow.specs.declared.kind.Kind.TheVariants.{Sequence}
 use Rattle.fw_model.specs.Choice.{IsCandidate, kept, until}
+use Rattle.fw_model.specs.Covers.{covers_in, stamps_from}
 use Rattle.fw_model.specs.Machine.{is_failed}
+use Rattle.fw_model.specs.Offers.{AreAscending, AreOffersIn, AreOffersOf, IsOffered, covers_of, stamps_on_from}
 use Rattle.fw_examples.specs.OffersOfTotals.{CheckpointsAreOffered, offers_of_totals}
 use Rattle.fw_examples.specs.RunningTotal.{at_epoch, output_failed, total_flow, totals, two_epochs_kept, two_kept_noting}
-use Rattle.fw_examples.proofs.ChoiceWitnesses.{less_is_consistent}
-use Rattle.fw_examples.proofs.Fronts.{canonical_by}
-use Rattle.fw_examples.proofs.Places.{by_three}
-use Rattle.fw_examples.proofs.TotalWitnesses.{something_is_chosen, totals_are_well_formed}
-use Rattle.fw_model.specs.Covers.{covers_in}
+use Rattle.fw_examples.proofs.Choosing.{until_more}
+use Rattle.fw_examples.proofs.Fronts.{by_three, canonical_by}
+use Rattle.fw_examples.proofs.Witnesses.{less_is_consistent, something_is_chosen, totals_are_well_formed}
 
 -- ---- covers of epoch 1
 
@@ -177,18 +173,18 @@ one_sent true m xs ms e = ap (λ ts. m.at ∷ ts) e
 one_sent false m xs ms e = e
 
 -- what comes from a frontier among them
-sent_from_input : (f : Frontier) (ms : List Message) → stamps_from 0 f (map alone_from_input ms) ≡ machine.stamps_from f ms
+sent_from_input : (f : Frontier) (ms : List Message) → stamps_on_from 0 f (map alone_from_input ms) ≡ stamps_from f ms
 sent_from_input f [] = refl
 sent_from_input f (m ∷ ms) =
     one_sent (all_inside f m.causes) m (filter (λ (x : Counted). x.edge == 0 && all_inside f x.causes) (map alone_from_input ms))
     (filter (λ (x : Message). all_inside f x.causes) ms) (sent_from_input f ms)
 
 delivered_same : (d : ℕ) → d < 2 → (cut : Cut) → IsOffered total_flow offers_of_totals (receiver total_flow d) cut
-    → (covers_of totals offers_of_totals).delivered d cut ≡ (covers_in totals output_failed).delivered d cut
+    → (covers_of total_flow offers_of_totals).delivered d cut ≡ (covers_in totals output_failed).delivered d cut
 unfolding kind_of policy_of bounds_of receiver
 delivered_same zero l Present o = refl
 delivered_same zero l (At f) (c, inl (inl e)) =
-    subst (λ g. (covers_of totals offers_of_totals).delivered 0 (At g) ≡ (covers_in totals output_failed).delivered 0 (At g)) e (two_is_cover _)
+    subst (λ g. (covers_of total_flow offers_of_totals).delivered 0 (At g) ≡ (covers_in totals output_failed).delivered 0 (At g)) e (two_is_cover _)
 delivered_same zero l (At f) (c, inl (inr e)) = absurd e
 delivered_same zero l (At f) (c, inr e) = absurd e
 delivered_same (suc zero) l Present o = refl
@@ -196,33 +192,33 @@ delivered_same (suc zero) l (At f) o = refl
 delivered_same (suc (suc d)) l cut o = absurd (omega arith)
 
 discarded_same : (e : ℕ) → e < 2 → (cut : Cut) → IsOffered total_flow offers_of_totals (sender total_flow e) cut
-    → (covers_of totals offers_of_totals).discarded e cut ≡ (covers_in totals output_failed).discarded e cut
+    → (covers_of total_flow offers_of_totals).discarded e cut ≡ (covers_in totals output_failed).discarded e cut
 unfolding kind_of policy_of bounds_of receiver sender sends batches_of
 discarded_same zero l Present o = refl
 discarded_same zero l (At f) o =
     ap (cover (bounds_of total_flow 1)) (sent_from_input (frontier_of (bounds_of total_flow 0) f) (at_epoch 3 1 ∷ at_epoch 2 5 ∷ at_epoch 1 10 ∷ []))
 discarded_same (suc zero) l Present o = refl
 discarded_same (suc zero) l (At f) (c, inl (inl e)) =
-    subst (λ g. (covers_of totals offers_of_totals).discarded 1 (At g) ≡ (covers_in totals output_failed).discarded 1 (At g)) e (two_is_cover _)
+    subst (λ g. (covers_of total_flow offers_of_totals).discarded 1 (At g) ≡ (covers_in totals output_failed).discarded 1 (At g)) e (two_is_cover _)
 discarded_same (suc zero) l (At f) (c, inl (inr e)) = absurd e
 discarded_same (suc zero) l (At f) (c, inr e) = absurd e
 discarded_same (suc (suc e)) l cut o = absurd (omega arith)
 
 notified_same : (p : ℕ) → p < 3 → (cut : Cut) → IsOffered total_flow offers_of_totals p cut
-    → (covers_of totals offers_of_totals).notified p cut ≡ (covers_in totals output_failed).notified p cut
+    → (covers_of total_flow offers_of_totals).notified p cut ≡ (covers_in totals output_failed).notified p cut
 unfolding kind_of policy_of bounds_of
 notified_same zero l Present o = refl
 notified_same zero l (At f) o = refl
 notified_same (suc zero) l Present o = refl
 notified_same (suc zero) l (At f) (c, inl (inl e)) =
-    subst (λ g. (covers_of totals offers_of_totals).notified 1 (At g) ≡ (covers_in totals output_failed).notified 1 (At g)) e (two_is_cover _)
+    subst (λ g. (covers_of total_flow offers_of_totals).notified 1 (At g) ≡ (covers_in totals output_failed).notified 1 (At g)) e (two_is_cover _)
 notified_same (suc zero) l (At f) (c, inl (inr e)) = absurd e
 notified_same (suc zero) l (At f) (c, inr e) = absurd e
 notified_same (suc (suc zero)) l Present o = refl
 notified_same (suc (suc zero)) l (At f) o = refl
 notified_same (suc (suc (suc p))) l cut o = absurd (omega arith)
 
-arrived_same : (e : ℕ) → e < 2 → (f : Frontier) → (covers_of totals offers_of_totals).arrived e f ≡ (covers_in totals output_failed).arrived e f
+arrived_same : (e : ℕ) → e < 2 → (f : Frontier) → (covers_of total_flow offers_of_totals).arrived e f ≡ (covers_in totals output_failed).arrived e f
 unfolding kind_of sender phi phi_by_count
 arrived_same zero l f = refl
 arrived_same (suc zero) l f = refl

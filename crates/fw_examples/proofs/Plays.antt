@@ -6,24 +6,23 @@ use Rattle.std.proofs.lemmas.Bool.{and_parts, eq-eqb, false≢true, ltb-true, no
 use Rattle.std.proofs.lemmas.Cmp.{lists_total, tied_itself}
 use Rattle.fw_bag.specs.declared.rec.Rec.{Rec}
 use Rattle.fw_time.specs.Stamp.{Stamp, same}
+use Rattle.fw_time.proofs.StampLaws.{same-is}
 use Rattle.fw_frontier.specs.Front.{Front, frontier_of, same_front}
 use Rattle.fw_flow.specs.Dataflow.{System, batches_of, bounds_of, is_input_kind, is_numbered, is_output_kind, kind_of, policy_of, receiver}
+use Rattle.fw_flow.specs.Message.{is_among, message_cmp}
 use Rattle.fw_flow.specs.declared.event.Event.TheVariants.{Deliver as Delivered, Inject as Injected}
 use Rattle.fw_flow.specs.declared.event.Message.{Message}
 use Rattle.fw_flow.specs.declared.kind.Kind.{Kind}
 use Rattle.fw_flow.specs.declared.kind.Kind.TheVariants.{OutputEpoch}
 use Rattle.fw_flow.specs.declared.step.Step.{Step}
-use Rattle.fw_model.specs.History.{delivered, injected_count, is_among, pending}
-use Rattle.fw_model.specs.Least.{is_asked}
+use Rattle.fw_flow.proofs.MessageLaws.{message_cmp-equal}
+use Rattle.fw_model.specs.History.{delivered, injected_count, pending}
 use Rattle.fw_model.specs.Machine.{Machine, Write, acknowledged, bound_of, events, front_of, is_failed, no_stamps}
-use Rattle.fw_model.specs.Steps.{AcknowledgesOldest, Effect, HasEpoch, HasSomethingAt, IsAsked, LeadsTo, Outcome, Run, acked, checkpoint_of, did, is_asked_for_checkpoints, is_in_flight, newest_checkpoint, quiet, recs_at_output, with_event, with_failed, without_lost}
+use Rattle.fw_model.specs.Steps.{AcknowledgesOldest, Effect, HasEpoch, HasSomethingAt, IsAsked, LeadsTo, Outcome, Run, acked, checkpoint_of, did, is_asked, is_asked_for_checkpoints, is_in_flight, newest_checkpoint, quiet, recs_at_output, with_event, with_failed, without_lost}
 use Rattle.fw_model.proofs.CmpLaws.{stamp_total}
 use Rattle.fw_model.proofs.Decisions.{two_ways}
-use Rattle.fw_model.proofs.LeastSteps.{asked-from, asked-is}
-use Rattle.fw_model.proofs.StampLaws.{same-is}
+use Rattle.fw_model.proofs.EnabledLaws.{asked-from, asked-is}
 use Rattle.fw_flow.specs.declared.step.Step.TheVariants as step
-use Rattle.fw_flow.specs.Message.{message_cmp}
-use Rattle.fw_flow.proofs.MessageLaws.{message_cmp-equal}
 
 -- ---- the next message of an edge
 

@@ -8,12 +8,11 @@ use Rattle.std.proofs.lemmas.List.{get_or_past}
 use Rattle.fw_time.specs.Stamp.{Stamp, in_domain, leq, lesser, same, stamp_cmp}
 use Rattle.fw_time.specs.declared.stamp.Bounds.{Bounds}
 use Rattle.fw_time.proofs.EachLaws.{each-of_all, each-weaker}
-use Rattle.fw_time.proofs.StampLaws.{leq-trans}
-use Rattle.fw_frontier.specs.Front.{Front, all_in_domain, frontier_of, inside}
+use Rattle.fw_time.proofs.StampLaws.{leq-trans, same-is}
+use Rattle.fw_frontier.specs.Front.{Front, all_in_domain, frontier_of, inside, is_within}
 use Rattle.fw_frontier.specs.Frontier.{Frontier, IsFrontier, Within, everything}
-use Rattle.fw_frontier.specs.Outside.{none_inside}
-use Rattle.fw_frontier.proofs.NamesLaws.{frontier-closed, none_inside-within_domain}
-use Rattle.fw_flow.specs.Dataflow.{Dataflow, System, bounds_of, bounds_of_domain, domain_of_kind, greatest_number, greatest_of_kind, is_input_kind, is_notified_kind, kind_of, out_domain_of_kind, receiver, sender, places}
+use Rattle.fw_frontier.proofs.NamesLaws.{frontier-closed, is_within-holds}
+use Rattle.fw_flow.specs.Dataflow.{Dataflow, System, bounds_of, bounds_of_domain, domain_of_kind, greatest_number, greatest_of_kind, is_input_kind, is_notified_kind, kind_of, out_domain_of_kind, places, receiver, sender}
 use Rattle.fw_flow.specs.Projection.{first_number_of, phi, phi_of_kind, psi, psi_of_kind, sent_count}
 use Rattle.fw_flow.specs.WellFormed.{IsWellFormed}
 use Rattle.fw_flow.specs.declared.event.Event.{Event}
@@ -22,22 +21,16 @@ use Rattle.fw_flow.specs.declared.kind.Kind.{Kind}
 use Rattle.fw_flow.specs.declared.kind.Kind.TheVariants.{Enter, Feedback, Leave, Regroup, Sequence}
 use Rattle.fw_flow.specs.declared.node.Edge.{Edge}
 use Rattle.fw_flow.specs.declared.step.Step.TheVariants.{Progress}
-use Rattle.fw_model.specs.History.{IsAdmissible, IsComplete, IsNotifiable, IsQuiet, injected_count, injected_epochs, is_exhausted, owed, pending, some_at, was_delivered_to, was_notified, IsClosedFor}
-use Rattle.fw_model.specs.Machine.{Machine, events, front_of, is_failed, no_stamps}
-use Rattle.fw_model.specs.Plain.{family_of}
+use Rattle.fw_flow.proofs.EdgeLaws.{kind-past}
+use Rattle.fw_model.specs.History.{IsAdmissible, IsClosedFor, IsComplete, IsNotifiable, IsQuiet, injected_count, injected_epochs, is_exhausted, owed, pending, some_at, was_delivered_to, was_notified}
+use Rattle.fw_model.specs.Machine.{Machine, events, family_of, front_of, is_failed, no_stamps}
 use Rattle.fw_model.specs.Steps.{Steps, did, eager_writes, quiet, with_event}
-use Rattle.fw_model.proofs.ClearSteps.{input-bounds}
-use Rattle.fw_model.proofs.CompleteSteps.{not_past}
 use Rattle.fw_model.proofs.Decisions.{two_ways}
 use Rattle.fw_model.proofs.DescentLaws.{past_edges-joined, past_edges-phi, past_edges-quiet}
-use Rattle.fw_model.proofs.LowLaws.{none-within}
+use Rattle.fw_model.proofs.LowLaws.{input-is, none-within}
 use Rattle.fw_model.proofs.MeetLaws.{phi-everything}
 use Rattle.fw_model.proofs.PhiLaws.{phi-monotone}
-use Rattle.fw_model.proofs.SendSteps.{kind-past}
-use Rattle.fw_model.proofs.StampLaws.{same-is}
-use Rattle.fw_examples.specs.RunningTotal.{alike}
-use Rattle.fw_examples.proofs.Fronts.{canonical_by, is_canonical, join_by, none_at, within_outside}
-use Rattle.fw_examples.proofs.Places.{each_below, each_below-at}
+use Rattle.fw_examples.proofs.Fronts.{canonical_by, each_below, each_below-at, is_canonical, join_by, none_at, within_outside}
 use Rattle.fw_flow.specs.declared.step.Step.TheVariants as step
 
 -- a kind whose messages are at the stamps of its events, so that phi and psi of a frontier are the frontier
@@ -86,7 +79,7 @@ pub from_phi : (sys : System) (h : List Event) (e : ℕ) (f : Frontier) → is_p
 unfolding phi
 from_phi sys h e f k u i = sym (plain_phi (greatest_of_kind sys.flow (kind_of sys.flow (sender sys.flow e))) (kind_of sys.flow (sender sys.flow e)) (sent_count sys h (sender sys.flow e) f) f u k) ∙ (and_parts _ _ i).1
 
-pub from_psi : (sys : System) (e : ℕ) (f : Frontier) → is_plain (kind_of sys.flow (sender sys.flow e)) ≡ true → Within (psi sys e f) f
+pub from_psi : (sys : System) (e : ℕ) (f : Frontier) → is_plain (kind_of sys.flow (sender sys.flow e)) ≡ true → Within (psi sys.flow e f) f
 unfolding psi
 from_psi sys e f k u i = sym (plain_psi (greatest_of_kind sys.flow (kind_of sys.flow (sender sys.flow e))) (kind_of sys.flow (sender sys.flow e)) f u k) ∙ (and_parts _ _ i).1
 
@@ -101,16 +94,16 @@ one_domain flow formed e l k = ap (bounds_of_domain flow) (sym (plain_domain flo
 -- whether the receiver has nothing inside, the sender all, or the sender what the receiver has on an edge out of such a node
 abbrev pub is_from_sender : Dataflow → Front → Front → ℕ → Bool
 is_from_sender flow at_receiver at_sender e =
-    none_inside at_receiver (no_stamps (bounds_of flow (receiver flow e)))
-    || (none_inside [] at_sender || (is_plain (kind_of flow (sender flow e)) && none_inside at_receiver at_sender))
+    is_within at_receiver (no_stamps (bounds_of flow (receiver flow e)))
+    || (is_within [] at_sender || (is_plain (kind_of flow (sender flow e)) && is_within at_receiver at_sender))
 
 -- what is inside no outside stamp comes from all
-all_from : (sys : System) (h : List Event) → IsWellFormed sys.flow → (e : ℕ) → e < length sys.flow.edges → (os : Front) → none_inside [] os ≡ true → (t : Stamp)
+all_from : (sys : System) (h : List Event) → IsWellFormed sys.flow → (e : ℕ) → e < length sys.flow.edges → (os : Front) → is_within [] os ≡ true → (t : Stamp)
     → in_domain (bounds_of sys.flow (receiver sys.flow e)) t ≡ true → phi sys h e (frontier_of (bounds_of sys.flow (sender sys.flow e)) os) t ≡ true
 unfolding bounds_of
 all_from sys h formed e l os n t d =
     phi-monotone sys h e (everything (bounds_of sys.flow (sender sys.flow e))) (frontier_of (bounds_of sys.flow (sender sys.flow e)) os)
-    (λ u i. none_inside-within_domain (bounds_of sys.flow (sender sys.flow e)) [] os n u (and_from _ _ i refl)) t
+    (λ u i. is_within-holds (bounds_of sys.flow (sender sys.flow e)) [] os n u (and_from _ _ i refl)) t
     (phi-everything sys h e t ∙ ap (λ domain. in_domain (bounds_of_domain sys.flow domain) t) (formed.domains e l) ∙ d)
 
 pub from_sender : (sys : System) (h : List Event) → IsWellFormed sys.flow → (e : ℕ) → e < length sys.flow.edges → (at_receiver at_sender : Front)
@@ -119,13 +112,13 @@ pub from_sender : (sys : System) (h : List Event) → IsWellFormed sys.flow → 
 from_sender sys h formed e l x y k t i =
     ⊎_elim
     (λ n. none-within (bounds_of sys.flow (receiver sys.flow e)) (phi sys h e (frontier_of (bounds_of sys.flow (sender sys.flow e)) y)) t
-    (none_inside-within_domain (bounds_of sys.flow (receiver sys.flow e)) x (no_stamps (bounds_of sys.flow (receiver sys.flow e))) n t i))
+    (is_within-holds (bounds_of sys.flow (receiver sys.flow e)) x (no_stamps (bounds_of sys.flow (receiver sys.flow e))) n t i))
     (λ o. ⊎_elim
     (λ n. all_from sys h formed e l y n t (and_parts _ _ i).0)
     (λ p. let a = and_parts _ _ p in
     into_phi sys h e _ a.0 (frontier-closed _ y) t
     (subst (λ (b : Bounds). frontier_of b y t ≡ true) (sym (one_domain sys.flow formed e l a.0))
-    (none_inside-within_domain (bounds_of sys.flow (receiver sys.flow e)) x y a.1 t i)))
+    (is_within-holds (bounds_of sys.flow (receiver sys.flow e)) x y a.1 t i)))
     (or_cases _ _ o))
     (or_cases _ _ k)
 
@@ -185,6 +178,10 @@ quiet_where sys h p test a t k e r = elim (cases_lt e (length sys.flow.edges)) [
 abbrev pub is_injected : System → List Event → ℕ → Front → Bool
 is_injected sys h s os = not (is_input_kind (kind_of sys.flow s)) || (is_exhausted sys h s || list_any (λ o. leq o (injected_count s h ∷ [])) os)
 
+input-bounds : (flow : Dataflow) (p : ℕ) → is_input_kind (kind_of flow p) ≡ true → bounds_of flow p ≡ record { greatest = greatest_number ∷ [] }
+unfolding bounds_of
+input-bounds flow p k = ap (λ kind. bounds_of_domain flow (domain_of_kind flow kind)) (input-is (kind_of flow p) k)
+
 -- an epoch that is not at or past a number is below it
 below_number : (n k : ℕ) (t : Stamp) → in_domain (record { greatest = n ∷ [] }) t ≡ true → leq (k ∷ []) t ≡ false → nat_lt (first_number_of t) k ≡ true
 below_number n k [] d l = absurd (false≢true d)
@@ -230,7 +227,7 @@ is_admissible sys h fronts = are_clear sys h fronts && do_follow sys fronts
 
 -- nothing is missing at a node past the last one
 past_node : (sys : System) (h : List Event) (p : ℕ) (t : Stamp) → length sys.flow.nodes ≤ p → owed sys h p t ≡ false
-past_node sys h p t l = not_past sys h p t (kind-past sys.flow p l)
+past_node sys h p t l = ap (λ kind. is_notified_kind kind && was_delivered_to sys.flow p t h && not (was_notified p t h)) (kind-past sys.flow p l)
 
 pub admissible_with : (sys : System) (h : List Event) (fronts : List Front) → IsWellFormed sys.flow → are_clear sys h fronts ≡ true
     → ((e : ℕ) → e < length sys.flow.edges → Within (family_of sys.flow fronts (receiver sys.flow e)) (phi sys h e (family_of sys.flow fronts (sender sys.flow e))))
@@ -353,14 +350,14 @@ complete_by sys h fronts formed one_each a = record { admissible = admissible_by
 -- whether no node is failed, each list is canonical, and what was settled lies within
 abbrev pub is_grown : System → Machine → List Front → Bool
 is_grown sys state fronts =
-    each_below (λ p. not (is_failed state p) && (is_canonical (bounds_of sys.flow p) (front_of fronts p) && none_inside (front_of state.settled p) (front_of fronts p))) (length sys.flow.nodes)
+    each_below (λ p. not (is_failed state p) && (is_canonical (bounds_of sys.flow p) (front_of fronts p) && is_within (front_of state.settled p) (front_of fronts p))) (length sys.flow.nodes)
 
 pub settles_complete : (sys : System) (state : Machine) (fronts : List Front) → IsComplete sys (events state.history) (family_of sys.flow fronts)
     → length fronts ≡ length sys.flow.nodes → is_grown sys state fronts ≡ true
     → (p : ℕ) (t : Stamp) → p < length sys.flow.nodes → family_of sys.flow fronts p t ≡ true → frontier_of (bounds_of sys.flow p) (front_of state.settled p) t ≡ false
     → Steps sys state Progress (record state { settled = fronts; writes = state.writes ++ eager_writes sys state fronts (places sys.flow) }) (did quiet)
 settles_complete sys state fronts is one_each grown p t l new old =
-    let at = each_below-at (λ p. not (is_failed state p) && (is_canonical (bounds_of sys.flow p) (front_of fronts p) && none_inside (front_of state.settled p) (front_of fronts p))) (length sys.flow.nodes) grown in (
+    let at = each_below-at (λ p. not (is_failed state p) && (is_canonical (bounds_of sys.flow p) (front_of fronts p) && is_within (front_of state.settled p) (front_of fronts p))) (length sys.flow.nodes) grown in (
       family_of sys.flow fronts,
       fronts,
       record {
@@ -369,7 +366,7 @@ settles_complete sys state fronts is one_each grown p t l new old =
         one_each = one_each;
         each = λ q m live. let a = and_parts _ _ (and_parts _ _ (at q m)).1 in record {
           canonical = canonical_by _ _ a.0;
-          same = join_by _ _ (none_inside-within_domain (bounds_of sys.flow q) (front_of state.settled q) (front_of fronts q) a.1);
+          same = join_by _ _ (is_within-holds (bounds_of sys.flow q) (front_of state.settled q) (front_of fronts q) a.1);
         };
         failed = λ q m f. absurd (both_ways _ (not-true _ (and_parts _ _ (at q m)).0) f);
       },

@@ -1,18 +1,18 @@
 -- The dataflows of the examples, with their batches.
-use Rattle.std.specs.Prelude.{ℕ, List, [], ◌∷◌, Some, codes}
+use Rattle.std.specs.Prelude.{List, Some, [], codes, ℕ, ◌∷◌, None}
 use Rattle.fw_bag.specs.declared.rec.Rec.{Rec}
-use Rattle.fw_bag.specs.declared.select.Comparison.TheVariants.{Less}
+use Rattle.fw_bag.specs.declared.select.Comparison.TheVariants.{Less, GreaterOrEqual}
 use Rattle.fw_bag.specs.declared.select.Field.TheVariants.{Value}
-use Rattle.fw_bag.specs.declared.select.NewValue.TheVariants as new
 use Rattle.fw_bag.specs.declared.select.Selection.{Selection}
-use Rattle.fw_bag.specs.declared.select.Term.TheVariants as term
+use Rattle.fw_flow.specs.Dataflow.{Dataflow, System, receiver, sender}
 use Rattle.fw_flow.specs.declared.kind.Kind.{Kind}
-use Rattle.fw_flow.specs.declared.kind.Kind.TheVariants.{Input, OutputEpoch, Select, Concat, Enter, Feedback, Leave, Sequence, Regroup}
+use Rattle.fw_flow.specs.declared.kind.Kind.TheVariants.{Concat, Enter, Feedback, Input, Leave, OutputEpoch, Regroup, Select, Sequence, Sum}
 use Rattle.fw_flow.specs.declared.kind.Policy.{Policy}
-use Rattle.fw_flow.specs.declared.kind.Policy.TheVariants as policy
-use Rattle.fw_flow.specs.declared.node.Node.{Node}
 use Rattle.fw_flow.specs.declared.node.Edge.{Edge}
-use Rattle.fw_flow.specs.Dataflow.{Dataflow, System}
+use Rattle.fw_flow.specs.declared.node.Node.{Node}
+use Rattle.fw_bag.specs.declared.select.NewValue.TheVariants as new
+use Rattle.fw_bag.specs.declared.select.Term.TheVariants as term
+use Rattle.fw_flow.specs.declared.kind.Policy.TheVariants as policy
 
 -- a rec
 abbrev pub pair : ℕ → ℕ → Rec
@@ -92,3 +92,104 @@ regroup_by_three = record {
 -- the regrouping without batches
 abbrev pub no_batches : System
 no_batches = record { flow = regroup_by_three; batches = [] ∷ [] ∷ [] ∷ [] ∷ [] }
+
+-- ---- the dataflow of an input, a select of values from 10 on, and an output of epochs
+
+-- the input
+abbrev pub src : ℕ
+src = 0
+
+-- the select
+abbrev pub big : ℕ
+big = 1
+
+-- the output
+abbrev pub out : ℕ
+out = 2
+
+-- the edge from the input to the select
+abbrev pub src_to_big : ℕ
+src_to_big = 0
+
+-- the edge from the select to the output
+abbrev pub big_to_out : ℕ
+big_to_out = 1
+
+-- values from 10 on, as they are
+abbrev pub at_least_ten : Selection
+at_least_ten = record { condition = record { field = Value; comparison = GreaterOrEqual; term = term.Number 10 }; assignment = None }
+
+-- the select, with a policy
+abbrev pub selecting : Policy → Node
+selecting keeping = node (codes "big") (Select at_least_ten None) keeping
+
+-- the dataflow whose select keeps nothing
+abbrev pub one_select_flow : Dataflow
+one_select_flow = in_a_row (selecting policy.None)
+
+-- the same with these batches of its input
+abbrev pub one_select : List (List Rec) → System
+one_select = fed (selecting policy.None)
+
+-- ---- the dataflow of two inputs, the second through a select that keeps nothing, put together at a logged concat, summed by a
+
+-- the first input
+abbrev pub first_source : ℕ
+first_source = 0
+
+-- the second input
+abbrev pub second_source : ℕ
+second_source = 1
+
+-- the select of values below 10
+abbrev pub low : ℕ
+low = 2
+
+-- the concat
+abbrev pub mix : ℕ
+mix = 3
+
+-- the sum
+abbrev pub tot : ℕ
+tot = 4
+
+-- the edge from the first input to the concat
+abbrev pub first_to_mix : ℕ
+first_to_mix = 0
+
+-- the edge from the second input to the select
+abbrev pub second_to_low : ℕ
+second_to_low = 1
+
+-- the edge from the concat to the sum
+abbrev pub mix_to_tot : ℕ
+mix_to_tot = 3
+
+-- the dataflow
+abbrev pub two_sources_flow : Dataflow
+two_sources_flow = record {
+  loops = [];
+  nodes =
+      record { name = codes "s1"; kind = Input; policy = policy.None }
+      ∷ record { name = codes "s2"; kind = Input; policy = policy.None }
+      ∷ record {
+        name = codes "low";
+        kind = Select (record { condition = record { field = Value; comparison = Less; term = term.Number 10 }; assignment = None }) None;
+        policy = policy.None;
+      }
+      ∷ record { name = codes "mix"; kind = Concat None; policy = policy.Logged }
+      ∷ record { name = codes "tot"; kind = Sum None; policy = policy.None }
+      ∷ record { name = codes "out"; kind = OutputEpoch; policy = policy.None }
+      ∷ [];
+  edges =
+      record { name = codes "a"; sender = 0; receiver = 3 }
+      ∷ record { name = codes "b"; sender = 1; receiver = 2 }
+      ∷ record { name = codes "c"; sender = 2; receiver = 3 }
+      ∷ record { name = codes "d"; sender = 3; receiver = 4 }
+      ∷ record { name = codes "e"; sender = 4; receiver = 5 }
+      ∷ [];
+}
+
+-- the dataflow with these batches of its inputs
+abbrev pub two_sources : List (List Rec) → List (List Rec) → System
+two_sources first second = record { flow = two_sources_flow; batches = first ∷ second ∷ [] ∷ [] ∷ [] ∷ [] ∷ [] }

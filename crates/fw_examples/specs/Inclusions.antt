@@ -1,19 +1,17 @@
 -- The inclusions of a consistent choice one by one, and for each a short run after which a choice that lacks it alone is wrong.
-use Rattle.std.specs.Prelude.{◌≡◌, ◌≢◌, ◌↔◌, ℕ, ◌<◌, List, [], ◌∷◌, length, Some, None}
+use Rattle.std.specs.Prelude.{List, None, Some, [], length, ℕ, ◌<◌, ◌↔◌, ◌∷◌, ◌≡◌, ◌≢◌}
 use Rattle.fw_frontier.specs.Front.{Front, IsCanonical}
-use Rattle.fw_flow.specs.declared.choice.Cut.{Cut}
-use Rattle.fw_flow.specs.declared.choice.Cut.TheVariants.{Present, At}
-use Rattle.fw_flow.specs.declared.step.Step.TheVariants.{Inject, Deliver, Notify, Fail}
 use Rattle.fw_flow.specs.Dataflow.{System, bounds_of}
 use Rattle.fw_flow.specs.declared.choice.Choice.{Choice}
-use Rattle.fw_model.specs.Choice.{ComesFromSender, LiesInReceiver, HasItsNotices, IsNoteKept, NoteComesFromSender, cut_of, filtered, IsConsistent, IsLargest, IsChoiceWithin}
-use Rattle.fw_model.specs.History.{pending, IsLegal}
-use Rattle.fw_model.specs.Machine.{Machine, events, first_state, front_of}
-use Rattle.fw_model.specs.Steps.{Run, offers, did, quiet}
-use Rattle.fw_examples.specs.Flows.{pair}
-use Rattle.fw_examples.specs.OneSelect.{one_select, src, big, src_to_big, big_to_out}
-use Rattle.fw_examples.specs.TwoSources.{two_sources, first_source, second_source, low, tot, first_to_mix, second_to_low, mix_to_tot}
+use Rattle.fw_flow.specs.declared.choice.Cut.{Cut}
+use Rattle.fw_flow.specs.declared.choice.Cut.TheVariants.{At, Present}
+use Rattle.fw_flow.specs.declared.step.Step.TheVariants.{Deliver, Fail, Inject, Notify}
+use Rattle.fw_model.specs.Choice.{ComesFromSender, HasItsNotices, IsChoiceWithin, IsConsistent, IsLargest, IsNoteKept, LiesInReceiver, NoteComesFromSender, cut_of, filtered}
 use Rattle.fw_model.specs.Covers.{covers_in}
+use Rattle.fw_model.specs.History.{IsLegal, pending}
+use Rattle.fw_model.specs.Machine.{Machine, events, first_state, front_of}
+use Rattle.fw_model.specs.Steps.{Run, did, offers, quiet}
+use Rattle.fw_examples.specs.Flows.{pair, big, big_to_out, one_select, src, src_to_big, first_source, first_to_mix, low, mix_to_tot, second_source, second_to_low, tot, two_sources}
 
 -- the five inclusions of a consistent choice
 pub data Inclusion : Type 0 where
@@ -25,11 +23,11 @@ pub data Inclusion : Type 0 where
 
 -- the choice meets the inclusion
 abbrev pub Meets : System → Machine → Choice → Inclusion → Type 0
-Meets sys state choice of_delivered = (d : ℕ) → d < length sys.flow.edges → ComesFromSender sys (covers_in sys state) choice d
-Meets sys state choice of_discarded = (e : ℕ) → e < length sys.flow.edges → LiesInReceiver sys (covers_in sys state) choice e
-Meets sys state choice of_notified = (p : ℕ) → p < length sys.flow.nodes → HasItsNotices sys (covers_in sys state) choice p
-Meets sys state choice of_own = (p : ℕ) → p < length sys.flow.nodes → IsNoteKept sys choice p
-Meets sys state choice of_notes = (d : ℕ) → d < length sys.flow.edges → NoteComesFromSender sys (covers_in sys state) choice d
+Meets sys state choice of_delivered = (d : ℕ) → d < length sys.flow.edges → ComesFromSender sys.flow (covers_in sys state) choice d
+Meets sys state choice of_discarded = (e : ℕ) → e < length sys.flow.edges → LiesInReceiver sys.flow (covers_in sys state) choice e
+Meets sys state choice of_notified = (p : ℕ) → p < length sys.flow.nodes → HasItsNotices sys.flow (covers_in sys state) choice p
+Meets sys state choice of_own = (p : ℕ) → p < length sys.flow.nodes → IsNoteKept sys.flow choice p
+Meets sys state choice of_notes = (d : ℕ) → d < length sys.flow.edges → NoteComesFromSender sys.flow (covers_in sys state) choice d
 
 -- the choice is from what is offered, and meets each inclusion but perhaps this one
 pub record IsConsistentWithout (left_out : Inclusion) (sys : System) (state : Machine) (offers : ℕ → Cut → Type 0) (choice : Choice) : Type 0 where
@@ -51,7 +49,7 @@ abbrev pub IsNeeded : Inclusion → System → Machine → Choice → Choice →
 IsNeeded left_out sys state choice other =
     IsLargest sys state (offers sys state) choice
     × IsConsistentWithout left_out sys state (offers sys state) other
-    × (IsChoiceWithin sys other choice → ⊥)
+    × (IsChoiceWithin sys.flow other choice → ⊥)
 
 -- the history that a recovery to the choice leaves could have come without a failure
 abbrev pub LeavesAHistory : System → Machine → Choice → Type 0

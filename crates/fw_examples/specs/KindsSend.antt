@@ -1,15 +1,16 @@
 -- What nodes of the kinds that look at their earlier events send at one event, and in all.
-use Rattle.std.specs.Prelude.{◌≡◌, ℕ, ◌-◌, ◌^◌, List, [], ◌∷◌, None}
-use Rattle.fw_time.specs.Stamp.{Stamp}
+use Rattle.std.specs.Prelude.{List, None, [], ℕ, ◌-◌, ◌^◌, ◌∷◌, ◌≡◌}
 use Rattle.fw_bag.specs.declared.rec.Rec.{Rec}
+use Rattle.fw_time.specs.Stamp.{Stamp}
+use Rattle.fw_flow.specs.NodeFunction.{sends_of_kind}
+use Rattle.fw_flow.specs.WholeBags.{Timed, in_order, outputs_of_kind}
 use Rattle.fw_flow.specs.declared.event.Event.{Event}
 use Rattle.fw_flow.specs.declared.event.Event.TheVariants.{Deliver, Notify}
 use Rattle.fw_flow.specs.declared.event.Message.{Message}
 use Rattle.fw_flow.specs.declared.kind.Kind.{Kind}
-use Rattle.fw_flow.specs.declared.kind.Kind.TheVariants.{Distinct, Join, Sum, Total, Sequence, Ledger, Regroup}
-use Rattle.fw_flow.specs.NodeFunction.{sends_of_kind}
-use Rattle.fw_flow.specs.WholeBags.{Timed, outputs_of_kind, in_order}
+use Rattle.fw_flow.specs.declared.kind.Kind.TheVariants.{Distinct, Join, Ledger, Regroup, Sequence, Sum, Total}
 use Rattle.fw_examples.specs.Flows.{no_batches, pair}
+use Rattle.fw_examples.specs.Inclusions.{all}
 
 -- an epoch or a number
 abbrev pub at : ℕ → Stamp

@@ -1,10 +1,10 @@
 -- A history of a sequence whose numbers are regrouped into epochs of three.
-use Rattle.std.specs.Prelude.{ℕ, List, [], ◌∷◌}
-use Rattle.fw_flow.specs.declared.event.Event.{Event}
-use Rattle.fw_flow.specs.declared.event.Event.TheVariants.{Inject, Deliver, Notify}
-use Rattle.fw_flow.specs.declared.event.Message.{Message}
+use Rattle.std.specs.Prelude.{List, [], ℕ, ◌∷◌}
 use Rattle.fw_flow.specs.Dataflow.{System}
-use Rattle.fw_examples.specs.Flows.{regroup_by_three, pair}
+use Rattle.fw_flow.specs.declared.event.Event.{Event}
+use Rattle.fw_flow.specs.declared.event.Event.TheVariants.{Deliver, Inject, Notify}
+use Rattle.fw_flow.specs.declared.event.Message.{Message}
+use Rattle.fw_examples.specs.Flows.{pair, regroup_by_three}
 
 -- the regrouping with two batches, of two recs and of one
 abbrev pub numbers : System

@@ -1,17 +1,17 @@
 -- What the nodes of the running total offer to the recovery after the output failed, as data, with its checkpoint as a record.
-use Rattle.std.specs.Prelude.{◌≡◌, ℕ, true, false, List, [], ◌∷◌}
+use Rattle.std.specs.Prelude.{List, [], false, true, ℕ, ◌∷◌, ◌≡◌}
+use Rattle.fw_flow.specs.Restoring.{way_of}
 use Rattle.fw_flow.specs.declared.choice.Counted.{Counted}
-use Rattle.fw_flow.specs.declared.choice.Cut.TheVariants.{Present, At}
+use Rattle.fw_flow.specs.declared.choice.Cut.TheVariants.{At, Present}
 use Rattle.fw_flow.specs.declared.choice.Offer.{Offer}
-use Rattle.fw_flow.specs.declared.choice.Offered.TheVariants.{Listed, Between}
+use Rattle.fw_flow.specs.declared.choice.Offered.TheVariants.{Between, Listed}
 use Rattle.fw_flow.specs.declared.choice.Recorded.{Recorded}
-use Rattle.fw_flow.specs.Dataflow.{kind_of, policy_of}
-use Rattle.fw_model.specs.Choice.{by_checkpoints, until, IsConsistentBy, IsLargestBy}
+use Rattle.fw_flow.specs.declared.restoring.Restoring.TheVariants.{Checkpoints}
+use Rattle.fw_model.specs.Choice.{IsConsistentBy, IsLargestBy, until}
+use Rattle.fw_model.specs.LawsOfOffers.{ConsistentByOffersIsConsistent, LargestByOffersIsLargest}
 use Rattle.fw_model.specs.Machine.{is_failed}
-use Rattle.fw_monitor.specs.LawsOfOffers.{ConsistentByOffersIsConsistent, LargestByOffersIsLargest}
-use Rattle.fw_monitor.specs.Offers.{AreAscending, AreOffersIn, IsOffered, covers_of, records_of}
-use Rattle.fw_examples.specs.RunningTotal.{totals, total_flow, run, src_to_run, run_to_out, output_failed, two_kept_noting, two_epochs_kept}
-use Rattle.fw_flow.specs.Restoring.{restoring}
+use Rattle.fw_model.specs.Offers.{AreAscending, AreOffersIn, IsOffered, covers_of, records_of}
+use Rattle.fw_examples.specs.RunningTotal.{output_failed, run, run_to_out, src_to_run, total_flow, totals, two_epochs_kept, two_kept_noting}
 
 -- a message on an edge, alone, that comes from an event at its own epoch
 abbrev pub alone_at : ℕ → ℕ → Counted
@@ -82,13 +82,13 @@ offers_of_totals = offer_of_input ∷ offer_of_total ∷ offer_of_output ∷ []
 -- The data are what the machine offers in the state of the failure, with an acknowledged checkpoint as a record. So the laws
 -- of offers give what is consistent and what is largest by the data.
 pub record CheckpointsAreOffered : Type 0 where
-  pub way : restoring (kind_of total_flow run) (policy_of total_flow run) ≡ by_checkpoints
+  pub way : way_of total_flow run ≡ Checkpoints
   pub recorded : records_of offers_of_totals run ≡ record_of_checkpoint ∷ []
   pub offered : IsOffered total_flow offers_of_totals run (At (until 2))
   pub present : IsOffered total_flow offers_of_totals run Present
   pub ascending : AreAscending total_flow offers_of_totals
   pub same : AreOffersIn totals output_failed (is_failed output_failed) offers_of_totals
   pub consistent : ConsistentByOffersIsConsistent
-      → IsConsistentBy totals (covers_of totals offers_of_totals) (IsOffered total_flow offers_of_totals) (two_kept_noting (until 0))
+      → IsConsistentBy total_flow (covers_of total_flow offers_of_totals) (IsOffered total_flow offers_of_totals) (two_kept_noting (until 0))
   pub largest : LargestByOffersIsLargest
-      → IsLargestBy totals (covers_of totals offers_of_totals) (IsOffered total_flow offers_of_totals) two_epochs_kept
+      → IsLargestBy total_flow (covers_of total_flow offers_of_totals) (IsOffered total_flow offers_of_totals) two_epochs_kept

@@ -1,38 +1,30 @@
 -- The running total of an input, which writes checkpoints when asked, and a run of it with a collection, a failure and a
 -- recovery.
-use Rattle.std.specs.Prelude.{ℕ, true, false, List, [], ◌∷◌, ◌++◌, Some, None, codes}
+use Rattle.std.specs.Prelude.{List, None, Some, [], codes, false, replicate, true, ℕ, ◌++◌, ◌∷◌}
 use Rattle.fw_bag.specs.declared.rec.Rec.{Rec}
 use Rattle.fw_frontier.specs.Front.{Front}
+use Rattle.fw_flow.specs.Dataflow.{Dataflow, System}
+use Rattle.fw_flow.specs.declared.choice.Choice.{Choice}
 use Rattle.fw_flow.specs.declared.choice.Cut.TheVariants.{At}
 use Rattle.fw_flow.specs.declared.event.Event.{Event}
-use Rattle.fw_flow.specs.declared.event.Event.TheVariants.{Inject as Injected, Deliver as Delivered, Notify as Notified}
+use Rattle.fw_flow.specs.declared.event.Event.TheVariants.{Deliver as Delivered, Inject as Injected, Notify as Notified}
 use Rattle.fw_flow.specs.declared.event.Message.{Message}
 use Rattle.fw_flow.specs.declared.kind.Kind.TheVariants.{Total}
 use Rattle.fw_flow.specs.declared.kind.Policy.{Policy}
-use Rattle.fw_flow.specs.declared.kind.Policy.TheVariants as policy
+use Rattle.fw_flow.specs.declared.node.Node.{Node}
 use Rattle.fw_flow.specs.declared.step.Step.{Step}
-use Rattle.fw_flow.specs.declared.step.Step.TheVariants.{Inject, Deliver, Notify, Progress, Checkpoint, Persist, Fail, Recover, Collect, Ack}
-use Rattle.fw_flow.specs.Dataflow.{Dataflow, System}
-use Rattle.fw_flow.specs.declared.choice.Choice.{Choice}
+use Rattle.fw_flow.specs.declared.step.Step.TheVariants.{Ack, Checkpoint, Collect, Deliver, Fail, Inject, Notify, Persist, Progress, Recover}
 use Rattle.fw_model.specs.Choice.{until}
 use Rattle.fw_model.specs.Denotation.{Family, rounds}
-use Rattle.fw_model.specs.Machine.{Machine, checkpoint, in_flight, acknowledged, collected}
-use Rattle.fw_model.specs.Steps.{Outcome, did, quiet, acked, cuts, lows}
-use Rattle.fw_flow.specs.declared.node.Node.{Node}
-use Rattle.fw_examples.specs.Flows.{node, in_a_row, fed, pair}
-use Rattle.fw_examples.specs.Recovery.{with_serials}
-
--- the input
-abbrev pub src : ℕ
-src = 0
+use Rattle.fw_model.specs.Machine.{Machine, acknowledged, checkpoint, collected, in_flight}
+use Rattle.fw_model.specs.Steps.{Outcome, acked, cuts, did, lows, quiet}
+use Rattle.fw_examples.specs.Flows.{fed, in_a_row, node, pair, out, src}
+use Rattle.fw_examples.specs.Loop.{with_serials}
+use Rattle.fw_flow.specs.declared.kind.Policy.TheVariants as policy
 
 -- the running total
 abbrev pub run : ℕ
 run = 1
-
--- the output
-abbrev pub out : ℕ
-out = 2
 
 -- the edge from the input to the running total
 abbrev pub src_to_run : ℕ
@@ -46,17 +38,9 @@ run_to_out = 1
 abbrev pub summing : Policy → Node
 summing keeping = node (codes "run") Total keeping
 
--- the dataflow with a policy of the running total
-abbrev pub total_flow_of : Policy → Dataflow
-total_flow_of keeping = in_a_row (summing keeping)
-
--- and with these batches of its input
-abbrev pub totals_of : Policy → List (List Rec) → System
-totals_of keeping batches = fed (summing keeping) batches
-
 -- the dataflow whose running total writes checkpoints when asked
 abbrev pub total_flow : Dataflow
-total_flow = total_flow_of policy.Lazy
+total_flow = in_a_row (summing policy.Lazy)
 
 -- a batch of no rec and four of one rec each
 abbrev pub five_batches : List (List Rec)
@@ -64,7 +48,7 @@ five_batches = [] ∷ (pair 1 10 ∷ []) ∷ (pair 1 5 ∷ []) ∷ (pair 1 1 ∷
 
 -- the dataflow with them
 abbrev pub totals : System
-totals = totals_of policy.Lazy five_batches
+totals = fed (summing policy.Lazy) five_batches
 
 -- what the batches denote
 abbrev pub totals_denoted : Family
@@ -141,10 +125,7 @@ steps_up_to_two =
 
 -- what they show
 abbrev pub outcomes_up_to_two : List Outcome
-outcomes_up_to_two =
-    did quiet ∷ did quiet ∷ did quiet ∷ did quiet
-    ∷ did quiet ∷ did quiet ∷ did quiet ∷ did quiet ∷ did quiet ∷ did quiet ∷ did quiet
-    ∷ did (acked out (0 ∷ []) []) ∷ did (acked out (1 ∷ []) (pair 1 10 ∷ [])) ∷ []
+outcomes_up_to_two = replicate 11 (did quiet) ++ did (acked out (0 ∷ []) []) ∷ did (acked out (1 ∷ []) (pair 1 10 ∷ [])) ∷ []
 
 -- the steps after the collection in which epoch 2 is summed and a checkpoint asked, epoch 3 is sent, and the output fails
 abbrev pub steps_of_failure : List Step
@@ -153,7 +134,7 @@ steps_of_failure =
 
 -- they show nothing
 abbrev pub outcomes_of_failure : List Outcome
-outcomes_of_failure = did quiet ∷ did quiet ∷ did quiet ∷ did quiet ∷ did quiet ∷ did quiet ∷ did quiet ∷ []
+outcomes_of_failure = replicate 7 (did quiet)
 
 -- the steps that bring epoch 2 through
 abbrev pub steps_of_sum : List Step
@@ -162,7 +143,7 @@ steps_of_sum =
 
 -- what they show
 abbrev pub outcomes_of_sum : List Outcome
-outcomes_of_sum = did quiet ∷ did quiet ∷ did quiet ∷ did quiet ∷ did quiet ∷ did (acked out (2 ∷ []) (pair 1 15 ∷ [])) ∷ []
+outcomes_of_sum = replicate 5 (did quiet) ++ did (acked out (2 ∷ []) (pair 1 15 ∷ [])) ∷ []
 
 -- the steps up to the failure, with the collection
 abbrev pub steps_to_failure : List Step

@@ -8,7 +8,6 @@ mod laws_applied;
 mod logs_after_collection;
 mod loop_counts_up;
 mod offers_of_totals;
-mod projections;
 mod restoring_applied;
 mod sending_applied;
 mod witnesses_of_choices;
@@ -33,7 +32,6 @@ pub use logs_after_collection::{
 };
 pub use loop_counts_up::{is_complete, is_restored, is_under_way, two_batches_count_up};
 pub use offers_of_totals::checkpoints_are_offered;
-pub use projections::{enter_projects, feedback_projects, leave_projects, regroup_projects};
 pub use restoring_applied::{collection_restored, logs_restored, restoring_applies};
 pub use sending_applied::{denotation_applies, projections_apply, sending_applies};
 pub use witnesses_of_choices::{choices_unite, cuts_unite, join_is_a_frontier, less_is_consistent};

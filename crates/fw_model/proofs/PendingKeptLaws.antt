@@ -5,7 +5,7 @@ use Rattle.std.proofs.lemmas.Bool.{and_from, or_parts, or_left, or_right, cond_b
 use Rattle.fw_time.specs.Stamp.{Stamp, leq, same, in_domain}
 use Rattle.fw_time.proofs.EachLaws.{each-weaker, each-both, each-kept}
 use Rattle.fw_time.proofs.StampLaws.{leq-refl}
-use Rattle.fw_frontier.specs.Frontier.{Frontier, IsFrontier, everything, nothing, cover, some_above}
+use Rattle.fw_frontier.specs.Frontier.{Frontier, everything, nothing, cover, some_above}
 use Rattle.fw_frontier.specs.Front.{Front, frontier_of}
 use Rattle.fw_frontier.proofs.NamesLaws.{frontier-closed}
 use Rattle.fw_flow.specs.declared.choice.Cut.{Cut}

@@ -8,14 +8,14 @@ use Rattle.fw_time.specs.Stamp.{Stamp, leq, in_domain}
 use Rattle.fw_time.specs.declared.stamp.Bounds.{Bounds}
 use Rattle.fw_time.proofs.EachLaws.{each-weaker}
 use Rattle.fw_time.proofs.StampLaws.{leq-trans}
-use Rattle.fw_frontier.specs.Frontier.{Frontier, Within, nothing, cover}
+use Rattle.fw_frontier.specs.Frontier.{Frontier, Within, cover}
 use Rattle.fw_frontier.specs.Front.{Front, inside, frontier_of}
 use Rattle.fw_flow.specs.declared.choice.Cut.{Cut}
 use Rattle.fw_flow.specs.declared.choice.Cut.TheVariants.{Present, At}
 use Rattle.fw_flow.specs.declared.event.Event.{Event}
 use Rattle.fw_flow.specs.declared.event.Event.TheVariants.{Inject, Deliver, Notify}
 use Rattle.fw_flow.specs.declared.event.Message.{Message}
-use Rattle.fw_flow.specs.Dataflow.{System, Dataflow, kind_of, policy_of, sender, receiver, bounds_of, HasEpochs}
+use Rattle.fw_flow.specs.Dataflow.{System, Dataflow, sender, receiver, bounds_of, HasEpochs}
 use Rattle.fw_flow.specs.NodeFunction.{place, stamp, sends, sent_by}
 use Rattle.fw_flow.specs.Projection.{events_at, all_inside, phi}
 use Rattle.fw_flow.specs.WellFormed.{IsWellFormed}
@@ -24,8 +24,8 @@ use Rattle.fw_model.specs.Machine.{Machine, events, front_of, bound_of}
 use Rattle.fw_model.specs.Choice.{kept, until, HasCheckpoint, AllLogged, IsRestorable, IsCandidate, cut_of, kept_of, IsConsistent}
 use Rattle.fw_flow.specs.declared.restoring.Restoring.{Restoring}
 use Rattle.fw_flow.specs.declared.restoring.Restoring.TheVariants.{Batches, Bound, Anything, Checkpoints, Events}
-use Rattle.fw_flow.specs.Restoring.{can_resend, way_of}
-use Rattle.fw_model.specs.Covers.{set_of, takes_its_cut, takes_its_notes, stamps_inside, stamps_from, stamp_of_notice, notified_inside, discarded_at, covers_in, tallies_in}
+use Rattle.fw_flow.specs.Restoring.{way_of}
+use Rattle.fw_model.specs.Covers.{set_of, stamps_inside, stamps_from, stamp_of_notice, notified_inside, covers_in, tallies_in}
 use Rattle.fw_model.proofs.Decisions.{two_ways}
 use Rattle.fw_model.proofs.StampLaws.{line-leq}
 use Rattle.fw_model.proofs.FilterLaws.{passes-not, filter-in, filter-out, filter-none}

@@ -1,7 +1,6 @@
 -- The largest cut that is left of a node: of its records the last, of a range what is cut down.
-use Rattle.std.proofs.Common.{◌≡◌, ◌≢◌, ℕ, zero, suc, ◌<◌, List, [], ◌∷◌, ◌++◌, length, Some, None, refl, sym, ap, subst, ◌∙◌, inl, inr}
+use Rattle.std.proofs.Common.{◌≡◌, ℕ, ◌<◌, List, [], ◌∷◌, ◌++◌, length, Some, None, refl, sym, subst, inl, inr}
 use Rattle.std.specs.List.{AllByRecursion}
-use Rattle.fw_time.specs.declared.stamp.Bounds.{Bounds}
 use Rattle.fw_frontier.specs.Frontier.{Within}
 use Rattle.fw_frontier.specs.Front.{Front, frontier_of, IsCanonical}
 use Rattle.fw_flow.specs.declared.choice.Cut.{Cut}

@@ -1,0 +1,459 @@
+-- The loop that counts up: what its rounds come to, its complete frontiers, its recovery and its run.
+use Rattle.std.proofs.Common.{List, None, Some, [], ap, arith, drop, false, get_or, lit<, not, refl, replicate, suc, take, true, ℕ, ◌++◌, ◌-◌, ◌<◌, ◌∙◌, ◌∷◌, ◌≡◌}
+use Rattle.std.proofs.lemmas.Bool.{and_from, and_parts}
+use Rattle.std.proofs.lemmas.Bool.Decides.{nat_tests}
+use Rattle.fw_bag.specs.declared.rec.Rec.{Rec}
+use Rattle.fw_time.specs.Stamp.{Stamp, counter, in_domain, leq, nest, outer, same}
+use Rattle.fw_frontier.specs.Front.{inside}
+use Rattle.fw_frontier.specs.Frontier.{Frontier, Within}
+use Rattle.fw_flow.specs.Dataflow.{batches_of, bounds_of, in_edges, kind_of, max_of, policy_of, receiver, sender}
+use Rattle.fw_flow.specs.NodeFunction.{sends}
+use Rattle.fw_flow.specs.Projection.{phi, psi}
+use Rattle.fw_flow.specs.WellFormed.{IsWellFormedSystem}
+use Rattle.fw_flow.specs.WholeBags.{Timed, recs_where, timed}
+use Rattle.fw_flow.specs.declared.choice.Choice.{Choice}
+use Rattle.fw_flow.specs.declared.choice.Cut.{Cut}
+use Rattle.fw_flow.specs.declared.choice.Cut.TheVariants.{At}
+use Rattle.fw_flow.specs.declared.step.Step.{Step}
+use Rattle.fw_flow.specs.declared.step.Step.TheVariants.{Recover}
+use Rattle.fw_flow.proofs.MessageLaws.{less-none}
+use Rattle.fw_model.specs.Choice.{IsConsistent, IsCutWithin, IsLargest, cut_of, kept, kept_of, note_of}
+use Rattle.fw_model.specs.Covers.{covers_in}
+use Rattle.fw_model.specs.Denotation.{IsDenotation, bag_at, rounds}
+use Rattle.fw_model.specs.History.{IsAdmissible, IsComplete, IsLegal, delivered, pending, some_at}
+use Rattle.fw_model.specs.Machine.{Machine, events, first_state, is_failed}
+use Rattle.fw_model.specs.Steps.{Outcome, Run, Steps, cuts, did, offers, quiet, recovered}
+use Rattle.fw_model.proofs.Decisions.{two_ways}
+use Rattle.fw_model.proofs.DomainLaws.{has_epochs}
+use Rattle.fw_model.proofs.GoingOn.{runs-go_on}
+use Rattle.fw_model.proofs.PhiLaws.{or_monotone}
+use Rattle.fw_model.proofs.RecoveryLaws.{runs-legal}
+use Rattle.fw_examples.specs.Flows.{loop_counts_up, pair, two_batches}
+use Rattle.fw_examples.specs.Loop.{TwoBatchesCountUp, IsRestored, IsUnderWay, complete_at, complete_fronts, counted_rounds, counting_failed, message, outcomes_left, outcomes_shown, restored, round, steps_left, steps_taken, still_pending, under_way, with_serials, without_the_second}
+use Rattle.fw_examples.specs.Witnesses.{LoopIsReached}
+use Rattle.fw_examples.proofs.Choosing.{canonical_notes, notified_by, offered_by, offered_within, own_by, recovers_to, set_within}
+use Rattle.fw_examples.proofs.Fronts.{all_seven, by_seven, and_more, both_more, not_above, within_one, within_two}
+use Rattle.fw_examples.proofs.Plays.{Move, acknowledge, after_all, deliver, fail, inject, plays}
+use Rattle.fw_examples.proofs.Settling.{admissible_with, settles, settles_complete}
+use Rattle.fw_examples.proofs.WellFormed.{is_well_formed, system_by}
+use Rattle.fw_flow.specs.declared.step.Step.TheVariants as step
+
+-- what comes of the first batch
+first_values : List Rec
+first_values = pair 1 1 ∷ pair 1 2 ∷ pair 1 3 ∷ pair 1 4 ∷ []
+
+-- what comes of the second batch
+second_values : List Rec
+second_values = pair 2 1 ∷ pair 2 2 ∷ pair 2 3 ∷ pair 2 4 ∷ pair 3 1 ∷ pair 3 2 ∷ pair 3 3 ∷ pair 3 4 ∷ []
+
+-- at no other stamp there is one of the recs of one stamp and of others
+recs_where-none : (t at : Stamp) (rs : List Rec) (later : List Timed) → same t at ≡ false
+    → recs_where (same t) later ≡ [] → recs_where (same t) (timed at rs ++ later) ≡ []
+recs_where-none t at [] later h e = e
+recs_where-none t at (r ∷ rs) later h e = rw h (recs_where-none t at rs later h e)
+
+pub two_batches_solves : IsDenotation two_batches (rounds two_batches 14)
+unfolding kind_of sender in_edges batches_of max_of
+two_batches_solves = all_seven _ refl refl refl refl refl refl refl (λ e. refl)
+
+two_batches_at_output : rounds two_batches 14 6 ≡ timed (0 ∷ []) first_values ++ (timed (1 ∷ []) second_values ++ [])
+unfolding kind_of sender in_edges batches_of max_of first_values second_values
+two_batches_at_output = refl
+
+pub two_batches_first : bag_at (rounds two_batches 14) 6 (0 ∷ []) ≡ (pair 1 1 ∷ pair 1 2 ∷ pair 1 3 ∷ pair 1 4 ∷ [])
+unfolding first_values second_values
+two_batches_first = ap (recs_where (same (0 ∷ []))) two_batches_at_output
+
+pub two_batches_second : bag_at (rounds two_batches 14) 6 (1 ∷ [])
+    ≡ (pair 2 1 ∷ pair 2 2 ∷ pair 2 3 ∷ pair 2 4 ∷ pair 3 1 ∷ pair 3 2 ∷ pair 3 3 ∷ pair 3 4 ∷ [])
+unfolding first_values second_values
+two_batches_second = ap (recs_where (same (1 ∷ []))) two_batches_at_output
+
+pub two_batches_no_more : (t : Stamp) → same t (0 ∷ []) ≡ false → same t (1 ∷ []) ≡ false → bag_at (rounds two_batches 14) 6 t ≡ []
+two_batches_no_more t h k =
+    ap (recs_where (same t)) two_batches_at_output
+    ∙ recs_where-none t (0 ∷ []) first_values (timed (1 ∷ []) second_values ++ []) h (recs_where-none t (1 ∷ []) second_values [] k refl)
+
+pub two_batches_count_up : TwoBatchesCountUp
+two_batches_count_up = record { solves = two_batches_solves; first = two_batches_first; second = two_batches_second; no_more = two_batches_no_more }
+
+-- ---- the complete frontiers of the loop with both batches under way
+
+follows : (e : ℕ) → e < 7 → Within (complete_at (receiver loop_counts_up e)) (phi two_batches under_way e (complete_at (sender loop_counts_up e)))
+unfolding phi kind_of sender receiver bounds_of max_of
+follows = by_seven _
+    (within_one 4294967295 _ _ (λ x hx h. grind (arith, nat_tests)))
+    (within_two 4294967295 3 _ _ (λ x y hx hy h. grind (arith, nat_tests)))
+    (within_two 4294967295 3 _ _ (λ x y hx hy h. grind (arith, nat_tests)))
+    (within_two 4294967295 3 _ _ (λ x y hx hy h. grind (arith, nat_tests)))
+    (within_two 4294967295 3 _ _ (λ x y hx hy h. grind (arith, nat_tests)))
+    (within_two 4294967295 3 _ _ (λ x y hx hy h. grind (arith, nat_tests)))
+    (within_one 4294967295 _ _ (λ x hx h. grind (arith, nat_tests)))
+
+-- nothing pending is inside an admissible family
+kept_out : (other : ℕ → Frontier) → IsAdmissible two_batches under_way other → (e : ℕ) (o : Stamp)
+    → some_at (same o) (pending two_batches under_way e) ≡ true → other (receiver loop_counts_up e) o ≡ true → ⊥
+kept_out other adm e o h k = two_ways _ h (adm.quiet (receiver loop_counts_up e) o k e refl)
+
+most_before : (other : ℕ → Frontier) → IsAdmissible two_batches under_way other → (p : ℕ)
+    → get_or complete_fronts p [] ≡ [] → Within (other p) (complete_at p)
+most_before other adm p e t h = and_from _ _ ((adm.frontier p).inside_domain t h) (ap (λ os. inside os t) e)
+
+most_feedback : (other : ℕ → Frontier) → IsAdmissible two_batches under_way other → Within (other 4) (complete_at 4)
+unfolding kind_of sender receiver bounds_of max_of sends batches_of
+most_feedback other adm t h =
+    let above : (o : Stamp) → in_domain (bounds_of loop_counts_up 4) o ≡ true → (other 4 o ≡ true → ⊥) → not (leq o t) ≡ true =
+    λ o d out. not_above (bounds_of loop_counts_up 4) (other 4) (adm.frontier 4) o d out t h in
+    and_from _ _ ((adm.frontier 4).inside_domain t h)
+    (and_from _ _ (above (0 ∷ 2 ∷ []) refl (kept_out other adm 3 (0 ∷ 2 ∷ []) refl))
+    (and_from _ _ (above (1 ∷ 0 ∷ []) refl (kept_out other adm 3 (1 ∷ 0 ∷ []) refl)) refl))
+
+-- phi of the feedback grows with its frontier
+pub feeds_more : (f g : Frontier) → Within f g → (t : Stamp) → phi two_batches under_way 4 f t ≡ true → phi two_batches under_way 4 g t ≡ true
+unfolding phi kind_of sender receiver bounds_of max_of
+feeds_more f g w t h = and_more _ _ _ (or_monotone _ _ _ (w (nest (outer t) (counter t - 1)))) h
+
+fed_back : Within (phi two_batches under_way 4 (complete_at 4)) (complete_at 2)
+unfolding phi kind_of sender receiver bounds_of max_of
+fed_back = within_two 4294967295 3 _ _ (λ x y hx hy k. grind (arith, nat_tests))
+
+most_mixing : (other : ℕ → Frontier) → IsAdmissible two_batches under_way other → Within (other 2) (complete_at 2)
+unfolding kind_of sender receiver bounds_of max_of
+most_mixing other adm t h =
+    fed_back t (feeds_more (other 4) (complete_at 4) (most_feedback other adm) t (adm.follows 4 t h))
+
+most_counting : (other : ℕ → Frontier) → IsAdmissible two_batches under_way other → Within (other 3) (complete_at 3)
+unfolding phi kind_of sender receiver bounds_of max_of sends batches_of
+most_counting other adm t h =
+    let met : (in_domain (bounds_of loop_counts_up 2) t ≡ true) × (other 2 t ≡ true) =
+    and_parts (in_domain (bounds_of loop_counts_up 2) t) (other 2 t) (adm.follows 2 t h) in
+    let mixed : (in_domain (bounds_of loop_counts_up 2) t ≡ true) × (inside ((0 ∷ 3 ∷ []) ∷ (1 ∷ 1 ∷ []) ∷ []) t ≡ true) =
+    and_parts (in_domain (bounds_of loop_counts_up 2) t) (inside ((0 ∷ 3 ∷ []) ∷ (1 ∷ 1 ∷ []) ∷ []) t) (most_mixing other adm t met.1) in
+    and_from _ _ ((adm.frontier 3).inside_domain t h)
+    (and_from _ _ (and_parts (not (leq (0 ∷ 3 ∷ []) t)) (inside ((1 ∷ 1 ∷ []) ∷ []) t) mixed.1).0
+    (and_from _ _ (not_above (bounds_of loop_counts_up 3) (other 3) (adm.frontier 3) (1 ∷ 0 ∷ []) refl (kept_out other adm 2 (1 ∷ 0 ∷ []) refl) t h) refl))
+
+most_leaving : (other : ℕ → Frontier) → IsAdmissible two_batches under_way other → Within (other 5) (complete_at 5)
+unfolding kind_of sender receiver bounds_of max_of sends batches_of
+most_leaving other adm t h =
+    and_from _ _ ((adm.frontier 5).inside_domain t h)
+    (and_from _ _ (not_above (bounds_of loop_counts_up 5) (other 5) (adm.frontier 5) (0 ∷ 0 ∷ []) refl (kept_out other adm 5 (0 ∷ 0 ∷ []) refl) t h) refl)
+
+-- phi of the leave grows with its frontier
+pub leaves_more : (f g : Frontier) → Within f g → (t : Stamp) → phi two_batches under_way 6 f t ≡ true → phi two_batches under_way 6 g t ≡ true
+unfolding phi kind_of sender receiver bounds_of max_of
+leaves_more f g w t h =
+    and_more _ _ _
+    (both_more _ _ _ _ (w (nest t 3)) (both_more _ _ _ _ (w (nest t 2)) (both_more _ _ _ _ (w (nest t 1)) (w (nest t 0))))) h
+
+left : Within (phi two_batches under_way 6 (complete_at 5)) (complete_at 6)
+unfolding phi kind_of sender receiver bounds_of max_of
+left = within_one 4294967295 _ _ (λ x hx k. grind (arith, nat_tests))
+
+most_output : (other : ℕ → Frontier) → IsAdmissible two_batches under_way other → Within (other 6) (complete_at 6)
+unfolding kind_of sender receiver bounds_of max_of
+most_output other adm t h =
+    left t (leaves_more (other 5) (complete_at 5) (most_leaving other adm) t (adm.follows 6 t h))
+
+most : (other : ℕ → Frontier) → IsAdmissible two_batches under_way other → (p : ℕ) → Within (other p) (complete_at p)
+most other adm = all_seven _
+    (most_before other adm 0 refl)
+    (most_before other adm 1 refl)
+    (most_mixing other adm)
+    (most_counting other adm)
+    (most_feedback other adm)
+    (most_leaving other adm)
+    (most_output other adm)
+    (λ p. most_before other adm (suc (suc (suc (suc (suc (suc (suc p))))))) refl)
+
+pub under_way_is_complete : IsComplete two_batches under_way complete_at
+unfolding kind_of sender receiver bounds_of batches_of max_of sends
+under_way_is_complete = record { admissible = admissible_with two_batches under_way complete_fronts is_well_formed refl follows; largest = most }
+
+-- ---- the choice of the recovery is the largest
+
+delivered_kept : (d : ℕ) → d < 7
+    → Within ((covers_in two_batches counting_failed).delivered d (cut_of restored (receiver loop_counts_up d))) (phi two_batches (events (with_serials under_way)) d (kept_of two_batches.flow restored (sender loop_counts_up d)))
+unfolding phi kind_of policy_of sender receiver bounds_of max_of
+delivered_kept = by_seven _
+    (within_one 4294967295 _ _ (λ x hx k. grind (arith, nat_tests)))
+    (within_two 4294967295 3 _ _ (λ x y hx hy k. grind (arith, nat_tests)))
+    (within_two 4294967295 3 _ _ (λ x y hx hy k. grind (arith, nat_tests)))
+    (within_two 4294967295 3 _ _ (λ x y hx hy k. grind (arith, nat_tests)))
+    (within_two 4294967295 3 _ _ (λ x y hx hy k. grind (arith, nat_tests)))
+    (within_two 4294967295 3 _ _ (λ x y hx hy k. grind (arith, nat_tests)))
+    (within_one 4294967295 _ _ (λ x hx k. grind (arith, nat_tests)))
+
+discarded_kept : (e : ℕ) → e < 7
+    → Within ((covers_in two_batches counting_failed).discarded e (cut_of restored (sender loop_counts_up e))) (kept_of two_batches.flow restored (receiver loop_counts_up e))
+unfolding psi kind_of policy_of sender receiver bounds_of max_of
+discarded_kept = by_seven _
+    (λ t k. (and_parts _ _ k).0)
+    (λ t k. (and_parts _ _ k).0)
+    (λ t k. cc)
+    (λ t k. (and_parts _ _ k).0)
+    (λ t k. (and_parts _ _ k).0)
+    (λ t k. (and_parts _ _ k).0)
+    (λ t k. (and_parts _ _ k).0)
+
+notes_kept : (d : ℕ) → d < 7
+    → Within (note_of two_batches.flow restored (receiver loop_counts_up d)) (phi two_batches (events (with_serials under_way)) d (note_of two_batches.flow restored (sender loop_counts_up d)))
+unfolding phi kind_of policy_of sender receiver bounds_of max_of
+notes_kept = by_seven _
+    (within_one 4294967295 _ _ (λ x hx k. grind (arith, nat_tests)))
+    (within_two 4294967295 3 _ _ (λ x y hx hy k. grind (arith, nat_tests)))
+    (within_two 4294967295 3 _ _ (λ x y hx hy k. grind (arith, nat_tests)))
+    (within_two 4294967295 3 _ _ (λ x y hx hy k. grind (arith, nat_tests)))
+    (within_two 4294967295 3 _ _ (λ x y hx hy k. grind (arith, nat_tests)))
+    (within_two 4294967295 3 _ _ (λ x y hx hy k. grind (arith, nat_tests)))
+    (within_one 4294967295 _ _ (λ x hx k. grind (arith, nat_tests)))
+
+consistent : IsConsistent two_batches counting_failed (offers two_batches counting_failed) restored
+unfolding kind_of policy_of sender receiver bounds_of max_of
+consistent = record {
+  one_cut_each = refl;
+  one_note_each = refl;
+  offered = offered_by two_batches counting_failed (is_failed counting_failed) kept restored refl;
+  canonical = canonical_notes two_batches restored refl;
+  delivered = delivered_kept;
+  discarded = discarded_kept;
+  notified = notified_by two_batches counting_failed restored refl;
+  own = own_by two_batches restored refl;
+  notes = notes_kept;
+}
+
+-- a cut that is offered at the failed node lies within what is settled of it
+cut_within : (cut : Cut) → offers two_batches counting_failed 3 cut → IsCutWithin two_batches.flow 3 cut (At counted_rounds)
+unfolding kind_of policy_of sender receiver bounds_of max_of
+cut_within = offered_within two_batches counting_failed (is_failed counting_failed) kept 3 counted_rounds refl refl
+
+cuts_within : (other : Choice) → IsConsistent two_batches counting_failed (offers two_batches counting_failed) other
+    → (p : ℕ) → p < 7 → IsCutWithin two_batches.flow p (cut_of other p) (cut_of restored p)
+cuts_within other ok = by_seven _ tt tt tt (cut_within (cut_of other 3) (ok.offered 3 (lit< tt))) tt tt tt
+
+-- the notes of a consistent choice at the failed node lie within what it keeps, and others within what that projects to
+counting_note : (other : Choice) → IsConsistent two_batches counting_failed (offers two_batches counting_failed) other
+    → Within (note_of two_batches.flow other 3) (note_of two_batches.flow restored 3)
+counting_note other ok t h = set_within two_batches 3 (cut_of other 3) counted_rounds (cut_within (cut_of other 3) (ok.offered 3 (lit< tt))) t (ok.own 3 (lit< tt) t h)
+
+feedback_note : (other : Choice) → IsConsistent two_batches counting_failed (offers two_batches counting_failed) other
+    → Within (note_of two_batches.flow other 4) (note_of two_batches.flow restored 4)
+unfolding phi kind_of policy_of sender receiver bounds_of max_of
+feedback_note other ok t h = counting_note other ok t (and_parts (in_domain (bounds_of loop_counts_up 4) t) (note_of two_batches.flow other 3 t) (ok.notes 3 (lit< tt) t h)).1
+
+leaving_note : (other : Choice) → IsConsistent two_batches counting_failed (offers two_batches counting_failed) other
+    → Within (note_of two_batches.flow other 5) (note_of two_batches.flow restored 5)
+unfolding phi kind_of policy_of sender receiver bounds_of max_of
+leaving_note other ok t h = counting_note other ok t (and_parts (in_domain (bounds_of loop_counts_up 5) t) (note_of two_batches.flow other 3 t) (ok.notes 5 (lit< tt) t h)).1
+
+fed_back_within : Within (phi two_batches under_way 4 (note_of two_batches.flow restored 4)) (note_of two_batches.flow restored 2)
+unfolding phi kind_of policy_of sender receiver bounds_of max_of
+fed_back_within = within_two 4294967295 3 _ _ (λ x y hx hy k. grind (arith, nat_tests))
+
+left_within : Within (phi two_batches under_way 6 (note_of two_batches.flow restored 5)) (note_of two_batches.flow restored 6)
+unfolding phi kind_of policy_of sender receiver bounds_of max_of
+left_within = within_one 4294967295 _ _ (λ x hx k. grind (arith, nat_tests))
+
+mixing_note : (other : Choice) → IsConsistent two_batches counting_failed (offers two_batches counting_failed) other
+    → Within (note_of two_batches.flow other 2) (note_of two_batches.flow restored 2)
+unfolding kind_of policy_of sender receiver bounds_of max_of
+mixing_note other ok t h =
+    fed_back_within t (feeds_more (note_of two_batches.flow other 4) (note_of two_batches.flow restored 4) (feedback_note other ok) t (ok.notes 4 (lit< tt) t h))
+
+output_note : (other : Choice) → IsConsistent two_batches counting_failed (offers two_batches counting_failed) other
+    → Within (note_of two_batches.flow other 6) (note_of two_batches.flow restored 6)
+unfolding kind_of policy_of sender receiver bounds_of max_of
+output_note other ok t h =
+    left_within t (leaves_more (note_of two_batches.flow other 5) (note_of two_batches.flow restored 5) (leaving_note other ok) t (ok.notes 6 (lit< tt) t h))
+
+notes_within : (other : Choice) → IsConsistent two_batches counting_failed (offers two_batches counting_failed) other
+    → (p : ℕ) → p < 7 → Within (note_of two_batches.flow other p) (note_of two_batches.flow restored p)
+notes_within other ok = by_seven _
+    (λ t k. and_from _ _ (and_parts (in_domain (bounds_of loop_counts_up 0) t) _ k).0 refl)
+    (λ t k. and_from _ _ (and_parts (in_domain (bounds_of loop_counts_up 1) t) _ k).0 refl)
+    (mixing_note other ok)
+    (counting_note other ok)
+    (feedback_note other ok)
+    (leaving_note other ok)
+    (output_note other ok)
+
+pub restored_is_largest : IsLargest two_batches counting_failed (offers two_batches counting_failed) restored
+restored_is_largest = record { consistent = consistent; largest = λ other ok. record { cuts = cuts_within other ok; notes = notes_within other ok } }
+
+pub recovers_loop : Steps two_batches counting_failed Recover (recovered two_batches counting_failed restored complete_fronts) (did (cuts restored))
+unfolding kind_of bounds_of max_of
+recovers_loop =
+    recovers_to two_batches counting_failed restored complete_fronts 3 (lit< tt) refl restored_is_largest refl (by_seven _ refl refl refl refl refl refl refl) refl
+
+-- ---- the run of the loop, to the failure, through the recovery and to both acknowledgements
+
+-- what is taken before anything is settled
+abbrev both_under_way : List Move
+both_under_way =
+    inject 0 0
+    ∷ deliver 0 None (message (0 ∷ []) (pair 1 0) (0 ∷ []))
+    ∷ deliver 1 None (message (round 0 0) (pair 1 0) (0 ∷ []))
+    ∷ inject 0 1
+    ∷ deliver 0 None (message (1 ∷ []) (pair 2 0) (1 ∷ []))
+    ∷ deliver 0 None (message (1 ∷ []) (pair 3 0) (1 ∷ []))
+    ∷ deliver 1 (Some (round 1 0)) (message (round 1 0) (pair 2 0) (1 ∷ []))
+    ∷ deliver 1 (Some (round 1 0)) (message (round 1 0) (pair 3 0) (1 ∷ []))
+    ∷ deliver 2 (Some (round 1 0)) (message (round 1 0) (pair 2 0) (round 1 0))
+    ∷ deliver 2 (Some (round 0 0)) (message (round 0 0) (pair 1 0) (round 0 0))
+    ∷ deliver 3 (Some (round 0 0)) (message (round 0 0) (pair 1 1) (round 0 0))
+    ∷ deliver 4 None (message (round 0 1) (pair 1 1) (round 0 0))
+    ∷ deliver 2 (Some (round 0 1)) (message (round 0 1) (pair 1 1) (round 0 1))
+    ∷ deliver 3 (Some (round 0 1)) (message (round 0 1) (pair 1 2) (round 0 1))
+    ∷ deliver 4 None (message (round 0 2) (pair 1 2) (round 0 1))
+    ∷ deliver 2 (Some (round 0 2)) (message (round 0 2) (pair 1 2) (round 0 2))
+    ∷ []
+
+-- the state after these events, before anything is settled
+abbrev all_taken : Machine
+all_taken = after_all two_batches (first_state two_batches) both_under_way
+
+-- and once all that is complete is settled
+abbrev all_settled : Machine
+all_settled = record all_taken { settled = complete_fronts }
+
+-- the steps to the failure, of which none shows something
+abbrev pub loop_steps : List Step
+loop_steps = take 18 steps_taken
+
+abbrev pub loop_outcomes : List Outcome
+loop_outcomes = replicate 18 (did quiet)
+
+pub runs_to_failure : Run two_batches (first_state two_batches) loop_steps loop_outcomes counting_failed
+unfolding kind_of policy_of sender receiver bounds_of batches_of max_of sends
+runs_to_failure =
+    plays two_batches both_under_way (first_state two_batches) (drop 16 loop_steps) (drop 16 loop_outcomes) counting_failed refl (
+      all_settled,
+      settles_complete two_batches all_taken complete_fronts under_way_is_complete refl refl 0 (0 ∷ []) (lit< tt) refl refl,
+      plays two_batches (fail 3 [] ∷ []) all_settled [] [] counting_failed refl refl,
+    )
+
+-- ---- after the recovery
+
+abbrev come_back : Machine
+come_back = recovered two_batches counting_failed restored complete_fronts
+
+-- what is taken then
+abbrev what_is_left : List Move
+what_is_left =
+    deliver 2 None (message (round 1 0) (pair 2 0) (round 1 0))
+    ∷ deliver 2 None (message (round 1 0) (pair 3 0) (round 1 0))
+    ∷ deliver 3 None (message (round 0 2) (pair 1 3) (round 0 2))
+    ∷ deliver 3 None (message (round 1 0) (pair 2 1) (round 1 0))
+    ∷ deliver 3 None (message (round 1 0) (pair 3 1) (round 1 0))
+    ∷ deliver 4 None (message (round 0 3) (pair 1 3) (round 0 2))
+    ∷ deliver 2 None (message (round 0 3) (pair 1 3) (round 0 3))
+    ∷ deliver 3 None (message (round 0 3) (pair 1 4) (round 0 3))
+    ∷ deliver 4 None (message (round 1 1) (pair 2 1) (round 1 0))
+    ∷ deliver 2 None (message (round 1 1) (pair 2 1) (round 1 1))
+    ∷ deliver 3 None (message (round 1 1) (pair 2 2) (round 1 1))
+    ∷ deliver 4 None (message (round 1 1) (pair 3 1) (round 1 0))
+    ∷ deliver 2 None (message (round 1 1) (pair 3 1) (round 1 1))
+    ∷ deliver 3 None (message (round 1 1) (pair 3 2) (round 1 1))
+    ∷ deliver 4 None (message (round 1 2) (pair 2 2) (round 1 1))
+    ∷ deliver 2 None (message (round 1 2) (pair 2 2) (round 1 2))
+    ∷ deliver 3 None (message (round 1 2) (pair 2 3) (round 1 2))
+    ∷ deliver 4 None (message (round 1 2) (pair 3 2) (round 1 1))
+    ∷ deliver 2 None (message (round 1 2) (pair 3 2) (round 1 2))
+    ∷ deliver 3 None (message (round 1 2) (pair 3 3) (round 1 2))
+    ∷ deliver 4 None (message (round 1 3) (pair 2 3) (round 1 2))
+    ∷ deliver 2 None (message (round 1 3) (pair 2 3) (round 1 3))
+    ∷ deliver 3 None (message (round 1 3) (pair 2 4) (round 1 3))
+    ∷ deliver 4 None (message (round 1 3) (pair 3 3) (round 1 2))
+    ∷ deliver 2 None (message (round 1 3) (pair 3 3) (round 1 3))
+    ∷ deliver 3 None (message (round 1 3) (pair 3 4) (round 1 3))
+    ∷ deliver 5 None (message (round 0 0) (pair 1 1) (round 0 0))
+    ∷ deliver 5 None (message (round 0 1) (pair 1 2) (round 0 1))
+    ∷ deliver 5 None (message (round 0 2) (pair 1 3) (round 0 2))
+    ∷ deliver 5 None (message (round 0 3) (pair 1 4) (round 0 3))
+    ∷ deliver 5 None (message (round 1 0) (pair 2 1) (round 1 0))
+    ∷ deliver 5 None (message (round 1 0) (pair 3 1) (round 1 0))
+    ∷ deliver 5 None (message (round 1 1) (pair 2 2) (round 1 1))
+    ∷ deliver 5 None (message (round 1 1) (pair 3 2) (round 1 1))
+    ∷ deliver 5 None (message (round 1 2) (pair 2 3) (round 1 2))
+    ∷ deliver 5 None (message (round 1 2) (pair 3 3) (round 1 2))
+    ∷ deliver 5 None (message (round 1 3) (pair 2 4) (round 1 3))
+    ∷ deliver 5 None (message (round 1 3) (pair 3 4) (round 1 3))
+    ∷ deliver 6 None (message (0 ∷ []) (pair 1 1) (round 0 0))
+    ∷ deliver 6 None (message (0 ∷ []) (pair 1 2) (round 0 1))
+    ∷ deliver 6 None (message (0 ∷ []) (pair 1 3) (round 0 2))
+    ∷ deliver 6 None (message (0 ∷ []) (pair 1 4) (round 0 3))
+    ∷ deliver 6 None (message (1 ∷ []) (pair 2 1) (round 1 0))
+    ∷ deliver 6 None (message (1 ∷ []) (pair 2 2) (round 1 1))
+    ∷ deliver 6 None (message (1 ∷ []) (pair 2 3) (round 1 2))
+    ∷ deliver 6 None (message (1 ∷ []) (pair 2 4) (round 1 3))
+    ∷ deliver 6 None (message (1 ∷ []) (pair 3 1) (round 1 0))
+    ∷ deliver 6 None (message (1 ∷ []) (pair 3 2) (round 1 1))
+    ∷ deliver 6 None (message (1 ∷ []) (pair 3 3) (round 1 2))
+    ∷ deliver 6 None (message (1 ∷ []) (pair 3 4) (round 1 3))
+    ∷ []
+
+abbrev all_delivered : Machine
+all_delivered = after_all two_batches come_back what_is_left
+
+abbrev all_complete : Machine
+all_complete = record all_delivered { settled = replicate 7 [] }
+
+abbrev acknowledging : List Move
+acknowledging = acknowledge 6 0 ∷ acknowledge 6 1 ∷ []
+
+abbrev both_acknowledged : Machine
+both_acknowledged = after_all two_batches all_complete acknowledging
+
+runs_on : Run two_batches come_back steps_left outcomes_left both_acknowledged
+unfolding kind_of policy_of sender receiver bounds_of batches_of max_of sends
+runs_on =
+    plays two_batches what_is_left come_back (drop 50 steps_left) (drop 50 outcomes_left) both_acknowledged refl (
+      all_complete,
+      settles two_batches all_delivered (replicate 7 []) is_well_formed refl refl refl 6 (0 ∷ []) (lit< tt) refl refl,
+      plays two_batches acknowledging all_complete [] [] both_acknowledged refl refl,
+    )
+
+-- the run to the recovery, and all of it
+pub runs_to_recovery : Run two_batches (first_state two_batches) steps_taken outcomes_shown come_back
+runs_to_recovery =
+    runs-go_on two_batches (first_state two_batches) counting_failed come_back loop_steps (step.Recover ∷ []) loop_outcomes (did (cuts restored) ∷ []) runs_to_failure
+    (come_back, recovers_loop, refl)
+
+pub runs_to_the_end : Run two_batches (first_state two_batches) (steps_taken ++ steps_left) (outcomes_shown ++ outcomes_left) both_acknowledged
+runs_to_the_end =
+    runs-go_on two_batches (first_state two_batches) come_back both_acknowledged steps_taken steps_left outcomes_shown outcomes_left runs_to_recovery runs_on
+
+-- ---- the loop that counts up as a witness for the laws of runs
+
+loop_system : IsWellFormedSystem two_batches
+unfolding kind_of batches_of
+loop_system = system_by two_batches is_well_formed refl refl
+
+pub loop_is_reached : LoopIsReached
+loop_is_reached = record {
+  well_formed = loop_system;
+  epochs = has_epochs two_batches loop_system;
+  denoted = two_batches_solves;
+  runs = (_, runs_to_the_end);
+  acknowledged = refl;
+}
+
+-- ---- which events are legal, and what they leave pending
+
+pub under_way_is_legal : IsLegal two_batches under_way
+under_way_is_legal = runs-legal two_batches loop_steps loop_outcomes counting_failed is_well_formed (has_epochs two_batches loop_system) runs_to_failure
+
+pub under_way_leaves : (e : ℕ) → pending two_batches under_way e ≡ get_or still_pending e []
+unfolding kind_of sender receiver bounds_of batches_of max_of sends
+under_way_leaves = all_seven _ refl refl refl refl refl refl refl (λ e. less-none (delivered under_way (suc (suc (suc (suc (suc (suc (suc e)))))))))
+
+pub loop_under_way : IsUnderWay
+loop_under_way = record { legal = under_way_is_legal; waiting = under_way_leaves }
+
+pub loop_is_restored : IsRestored
+unfolding kind_of sender receiver bounds_of batches_of max_of sends
+loop_is_restored = record {
+  remains = refl;
+  legal = runs-legal two_batches steps_taken outcomes_shown (recovered two_batches counting_failed restored complete_fronts) is_well_formed (has_epochs two_batches loop_system) runs_to_recovery;
+  waiting = all_seven _ refl refl refl refl refl refl refl (λ e. less-none (delivered without_the_second (suc (suc (suc (suc (suc (suc (suc e)))))))));
+}

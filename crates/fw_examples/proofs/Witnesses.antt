@@ -1,0 +1,298 @@
+-- Witnesses for the laws of runs, of deliveries, of choices and of filtering.
+use Rattle.std.proofs.Common.{Bool, [], ap, arith, inl, inr, lit<, refl, suc, true, zero, ℕ, ⊎_elim, ◌++◌, ◌∷◌, ◌≡◌}
+use Rattle.std.proofs.lemmas.Bool.{and_from, and_parts, false≢true, or_cases, or_left, or_right}
+use Rattle.std.proofs.lemmas.Bool.Decides.{nat_tests}
+use Rattle.fw_time.specs.Stamp.{Stamp}
+use Rattle.fw_time.proofs.EachLaws.{each-one}
+use Rattle.fw_frontier.specs.Front.{frontier_of}
+use Rattle.fw_frontier.specs.Frontier.{IsFrontier, join}
+use Rattle.fw_frontier.proofs.NamesLaws.{frontier-closed}
+use Rattle.fw_flow.specs.Dataflow.{NotifiesNobody, batches_of, bounds_of, in_edges, kind_of, max_of, policy_of, receiver, sender}
+use Rattle.fw_flow.specs.NodeFunction.{sends}
+use Rattle.fw_flow.specs.Projection.{phi, psi}
+use Rattle.fw_flow.specs.WellFormed.{IsWellFormedSystem}
+use Rattle.fw_flow.specs.declared.choice.Choice.{Choice}
+use Rattle.fw_flow.specs.declared.step.Step.TheVariants.{Recover}
+use Rattle.fw_model.specs.Choice.{ever, kept, until}
+use Rattle.fw_model.specs.Choosing.{CanChoose}
+use Rattle.fw_model.specs.Denotation.{IsDenotation}
+use Rattle.fw_model.specs.Filtering.{ComeFromKept, MeetsInclusions}
+use Rattle.fw_model.specs.History.{IsLegal, delivered}
+use Rattle.fw_model.specs.Machine.{front_of, is_failed}
+use Rattle.fw_model.specs.Steps.{cuts, did}
+use Rattle.fw_model.proofs.ChoosingLaws.{checkpoints-chains}
+use Rattle.fw_model.proofs.DomainLaws.{has_epochs}
+use Rattle.fw_model.proofs.FilteredLaws.{choice-consistent, consistent-meets, set-frontier}
+use Rattle.fw_model.proofs.RecoveryLaws.{denoted-full, runs-legal, settled-stays_denoted}
+use Rattle.fw_examples.specs.Flows.{loop_counts_up, regroup_by_three, two_batches}
+use Rattle.fw_examples.specs.Loop.{counted_rounds, counting_failed, restored}
+use Rattle.fw_examples.specs.Numbers.{numbered_both, numbers}
+use Rattle.fw_examples.specs.RunningTotal.{alike, come_back, next_epochs, outcomes_to_failure, output_failed, steps_to_failure, totals, totals_denoted, two_epochs, two_epochs_kept}
+use Rattle.fw_examples.specs.Witnesses.{AnEpochIsClosed, ChoicesUnite, CutsUnite, EachStepHasItsChoice, FailureIsReached, JoinIsAFrontier, LessIsConsistent, LoopIsFiltered, LowWatermarkRises, MoreIsComplete, NotifiedAndGoesOn, NumbersAreDelivered, OneIsOnItsWay, RecoveryIsReached, SequenceIsFiltered, SomeIsSettled, SomethingIsChosen, TotalsAreFiltered, TotalsAreWellFormed, TwoEpochsAreComplete, TwoRunsMeet, both_rounds, first_rounds, kept_epoch}
+use Rattle.fw_examples.proofs.Choosing.{lies}
+use Rattle.fw_examples.proofs.Fronts.{all_seven, canonical_by, within_two}
+use Rattle.fw_examples.proofs.Loop.{loop_is_reached, loop_is_restored, restored_is_largest, under_way_is_complete, under_way_is_legal, under_way_leaves}
+use Rattle.fw_examples.proofs.NumbersRun.{numbers_are_legal, numbers_have_epochs, regroup_is_well_formed}
+use Rattle.fw_examples.proofs.Settling.{admissible_by, closed_by, complete_by}
+use Rattle.fw_examples.proofs.TotalRuns.{after_failure, collects, epoch_consistent, failed_run, kept_consistent, kept_largest, noting_less, noting_none, recovers, run_through_recovery, run_without_failure, runs_to_two, sum_acknowledged, ten_acknowledged, totals_formed, two_collected, two_offered, union_of_both}
+use Rattle.fw_examples.proofs.WellFormed.{is_well_formed, system_by}
+
+totals_system : IsWellFormedSystem totals
+unfolding kind_of batches_of
+totals_system = system_by totals totals_formed refl refl
+
+rounds_solve : IsDenotation totals totals_denoted
+unfolding kind_of sender in_edges batches_of
+rounds_solve zero = refl
+rounds_solve (suc zero) = refl
+rounds_solve (suc (suc e)) = refl
+
+pub totals_are_well_formed : TotalsAreWellFormed
+totals_are_well_formed = record { well_formed = totals_system; epochs = has_epochs totals totals_system; denoted = rounds_solve }
+
+pub failure_is_reached : FailureIsReached
+unfolding kind_of sender receiver sends batches_of bounds_of in_edges
+failure_is_reached = record {
+  no_recovery = (refl, (refl, (refl, (refl, (refl, (refl, (refl, (refl, (refl, (refl, (refl, (refl, (refl, (refl, (refl, (refl, (refl, (refl, (refl, (refl, (refl, tt)))))))))))))))))))));
+  reached = failed_run;
+  failed = refl;
+  written = refl;
+  pending_for_total = refl;
+  pending_for_output = refl;
+  acknowledged = refl;
+  bag = refl;
+}
+
+-- the histories of the runs are legal
+pub total_is_legal : IsLegal totals (next_epochs ++ two_epochs)
+total_is_legal = runs-legal totals steps_to_failure outcomes_to_failure output_failed totals_formed (has_epochs totals totals_system) failed_run
+
+pub two_are_legal : IsLegal totals two_epochs
+two_are_legal =
+    runs-legal totals (steps_to_failure ++ Recover ∷ []) (outcomes_to_failure ++ did (cuts two_epochs_kept) ∷ []) come_back totals_formed (has_epochs totals totals_system)
+    (after_failure [] [] come_back refl)
+
+pub recovery_is_reached : RecoveryIsReached
+unfolding kind_of sender receiver sends batches_of bounds_of in_edges
+recovery_is_reached = record {
+  step = recovers;
+  before = refl;
+  after = refl;
+  legal = total_is_legal;
+  reached = after_failure [] [] come_back refl;
+  goes_on = (sum_acknowledged come_back, run_through_recovery);
+  acknowledged = refl;
+  bag = refl;
+}
+
+pub two_runs_meet : TwoRunsMeet
+two_runs_meet = record {
+  through = (sum_acknowledged come_back, run_through_recovery);
+  without = (sum_acknowledged two_collected, run_without_failure);
+  shown_through = inr (inr (inr (inr (inr (inr (inr (inr (inr (inr (inr (inr (inr (inr (inr (inr (inr (inr (inr (inr (inr (inr (inr (inr (inr (inr (inr (inl refl)))))))))))))))))))))))))));
+  shown_without = inr (inr (inr (inr (inr (inr (inr (inr (inr (inr (inr (inr (inr (inr (inr (inr (inr (inr (inr (inl refl)))))))))))))))))));
+}
+
+pub some_is_settled : SomeIsSettled
+unfolding receiver
+some_is_settled = record {
+  denoted = settled-stays_denoted totals totals_denoted totals_system rounds_solve steps_to_failure outcomes_to_failure output_failed failed_run;
+  settled = refl;
+  delivered = refl;
+  candidate = two_offered (is_failed output_failed) 1 (lit< tt);
+}
+
+pub something_is_chosen : SomethingIsChosen
+unfolding bounds_of kind_of
+something_is_chosen = record {
+  largest = kept_largest;
+  low = refl;
+  chains = checkpoints-chains totals totals_system steps_to_failure outcomes_to_failure output_failed failed_run (is_failed output_failed) ever;
+  offered_ever = (epoch_consistent (is_failed output_failed)).offered 1 (lit< tt);
+  not_kept = λ c. false≢true (c.2 (1 ∷ []) refl);
+}
+
+can_choose : (lost : ℕ → Bool) → CanChoose totals output_failed lost
+can_choose lost = record {
+  choice = two_epochs_kept;
+  consistent = kept_consistent lost;
+  chains = checkpoints-chains totals totals_system steps_to_failure outcomes_to_failure output_failed failed_run lost kept;
+}
+
+pub each_step_has_its_choice : EachStepHasItsChoice
+each_step_has_its_choice = record { recovery = can_choose (is_failed output_failed); collection = can_choose (λ p. true) }
+
+pub low_watermark_rises : LowWatermarkRises
+unfolding bounds_of kind_of
+low_watermark_rises = (ten_acknowledged, two_collected, runs_to_two, collects, refl, refl)
+
+pub more_is_complete : MoreIsComplete
+unfolding kind_of receiver sender sends batches_of bounds_of
+more_is_complete = record {
+  complete = complete_by totals (next_epochs ++ two_epochs) (until 4 ∷ until 3 ∷ until 2 ∷ []) totals_formed refl refl;
+  more = record { node = 0; at = 3 ∷ []; declared = lit< tt; live = refl; complete = refl; unsettled = refl };
+}
+
+-- ---- witnesses for the laws of deliveries
+
+pub an_epoch_is_closed : AnEpochIsClosed
+unfolding kind_of receiver sender sends batches_of bounds_of in_edges phi
+an_epoch_is_closed = record {
+  closed = closed_by totals two_epochs 1 (1 ∷ []) (alike 2) totals_formed (lit< tt) refl;
+  goes_on = total_is_legal;
+  delivered_there = refl;
+  bag = refl;
+  delivered_later = refl;
+}
+
+pub notified_and_goes_on : NotifiedAndGoesOn
+notified_and_goes_on = total_is_legal
+
+pub two_epochs_are_complete : TwoEpochsAreComplete
+unfolding kind_of receiver sender sends batches_of bounds_of in_edges phi
+two_epochs_are_complete = record {
+  legal = two_are_legal;
+  admissible = admissible_by totals two_epochs (alike 2) totals_formed refl;
+  inside = refl;
+  inside_phi = refl;
+  was_sent = refl;
+  was_delivered = refl;
+  bag = refl;
+  enabled = record { input = refl; next = refl; there = lit< tt };
+}
+
+pub one_is_on_its_way : OneIsOnItsWay
+unfolding kind_of receiver sender sends batches_of bounds_of in_edges
+one_is_on_its_way = record { legal = total_is_legal; denoted = refl; sent_once = refl; not_delivered = refl }
+
+-- ---- witnesses for the laws of choices
+
+pub choices_unite : ChoicesUnite
+unfolding kind_of policy_of sender receiver sends bounds_of batches_of
+choices_unite = record {
+  one = noting_none (is_failed output_failed);
+  other = epoch_consistent (is_failed output_failed);
+  one_not_within = λ w. false≢true (w.cuts 0 (lit< tt) (1 ∷ []) refl);
+  other_not_within = λ w. false≢true (w.notes 2 (lit< tt) (0 ∷ []) refl);
+  union = union_of_both;
+  offered = (noting_none (is_failed output_failed)).offered;
+  checkpoints = refl;
+  delivered = refl;
+  notified = refl;
+  discarded = refl;
+}
+
+pub less_is_consistent : LessIsConsistent
+less_is_consistent = record { consistent = noting_less (is_failed output_failed); other = λ e. let last : until 0 ≡ until 2 = ap (λ (choice : Choice). front_of choice.notes 2) e in cc }
+
+same_stamps : (m n : ℕ) (t : Stamp)
+    → frontier_of (record { greatest = m ∷ n ∷ [] }) both_rounds t
+    ≡ join (frontier_of (record { greatest = m ∷ n ∷ [] }) counted_rounds) (frontier_of (record { greatest = m ∷ n ∷ [] }) first_rounds) t
+same_stamps m n [] = refl
+same_stamps m n (x ∷ []) = grind (arith, nat_tests)
+same_stamps m n (x ∷ y ∷ []) = grind (arith, nat_tests)
+same_stamps m n (x ∷ y ∷ z ∷ t) = grind (arith, nat_tests)
+
+pub cuts_unite : CutsUnite
+unfolding kind_of policy_of sender receiver bounds_of max_of psi
+cuts_unite = record {
+  union = record { canonical = canonical_by _ both_rounds refl; same = same_stamps 4294967295 3 };
+  one_not_within = λ w. false≢true (w (0 ∷ 2 ∷ []) refl);
+  other_not_within = λ w. false≢true (w (1 ∷ 0 ∷ []) refl);
+  delivered_of_one = refl;
+  delivered_of_other = refl;
+  discarded_of_one = refl;
+  discarded_of_other = refl;
+}
+
+pub join_is_a_frontier : JoinIsAFrontier
+join_is_a_frontier = record {
+  inside_domain = λ t i. ⊎_elim (one.inside_domain t) (other.inside_domain t) (or_cases _ _ i);
+  closed = λ s t d l i. ⊎_elim (λ a. or_left _ _ (one.closed s t d l a)) (λ b. or_right _ _ (other.closed s t d l b)) (or_cases _ _ i);
+}
+  where
+    one : IsFrontier (bounds_of loop_counts_up 3) (frontier_of (bounds_of loop_counts_up 3) counted_rounds)
+    one = frontier-closed _ counted_rounds
+
+    other : IsFrontier (bounds_of loop_counts_up 3) (frontier_of (bounds_of loop_counts_up 3) first_rounds)
+    other = frontier-closed _ first_rounds
+
+-- ---- witnesses for the laws of filtering
+
+-- ---- the running total
+
+totals_meet : MeetsInclusions totals output_failed two_epochs_kept
+totals_meet = consistent-meets totals output_failed (is_failed output_failed) kept two_epochs_kept (kept_consistent (is_failed output_failed))
+
+pub totals_are_filtered : TotalsAreFiltered
+unfolding kind_of policy_of receiver sender sends batches_of bounds_of
+totals_are_filtered = record {
+  legal = total_is_legal;
+  consistently = choice-consistent totals output_failed two_epochs_kept totals_formed totals_meet;
+  inclusions = totals_meet;
+  remains = refl;
+  full = denoted-full totals totals_denoted output_failed totals_are_well_formed.well_formed totals_are_well_formed.denoted total_is_legal some_is_settled.denoted;
+  cut = lies _ (until 2) (until 3) refl;
+  discarded = (kept_consistent (is_failed output_failed)).discarded 0 (lit< tt);
+  no_log = refl;
+  was_pending = refl;
+}
+
+-- ---- the loop
+
+loop_notifies_nobody : NotifiesNobody loop_counts_up
+unfolding kind_of
+loop_notifies_nobody = all_seven _ refl refl refl refl refl refl refl (λ p. refl)
+
+loop_meets : MeetsInclusions two_batches counting_failed restored
+loop_meets = consistent-meets two_batches counting_failed (is_failed counting_failed) kept restored restored_is_largest.consistent
+
+pub loop_is_filtered : LoopIsFiltered
+unfolding kind_of receiver sender sends bounds_of batches_of max_of
+loop_is_filtered = record {
+  well_formed = is_well_formed;
+  epochs = loop_is_reached.epochs;
+  nobody = loop_notifies_nobody;
+  legal = under_way_is_legal;
+  frontiers = λ p. set-frontier two_batches p _;
+  come = (choice-consistent two_batches counting_failed restored is_well_formed loop_meets).delivered;
+  remains = refl;
+  inclusions = loop_meets;
+  full = record { quiet = under_way_is_complete.admissible.quiet; paid = under_way_is_complete.admissible.paid };
+  present = refl;
+  two_were_pending = under_way_leaves 3;
+  one_is_pending = loop_is_restored.waiting 3;
+  fewer = within_two 4294967295 3 _ _ (λ x y hx hy k. grind (arith, nat_tests));
+  sent_from_fewer = refl;
+  cut = λ t i. i;
+  one_was_pending = under_way_leaves 2;
+  two_are_pending = loop_is_restored.waiting 2;
+}
+
+-- ---- the sequence
+
+numbers_come_from_kept : ComeFromKept numbers numbered_both kept_epoch
+unfolding kind_of receiver sender sends batches_of bounds_of phi
+numbers_come_from_kept zero = ((λ k. absurd (false≢true k)), ((λ k. refl), ((λ k. refl), tt)))
+numbers_come_from_kept (suc zero) = ((λ k. refl), ((λ k. refl), tt))
+numbers_come_from_kept (suc (suc zero)) = tt
+numbers_come_from_kept (suc (suc (suc e))) = each-one _ (delivered numbered_both (suc (suc (suc e)))) (λ m k. and_from _ _ (and_parts _ _ k).0 k)
+
+pub sequence_is_filtered : SequenceIsFiltered
+unfolding kind_of receiver sender sends batches_of bounds_of phi
+sequence_is_filtered = record {
+  well_formed = regroup_is_well_formed;
+  epochs = numbers_have_epochs;
+  legal = numbers_are_legal;
+  frontiers = λ p. frontier-closed (bounds_of regroup_by_three p) (front_of (until 1 ∷ until 1 ∷ [] ∷ [] ∷ []) p);
+  come = numbers_come_from_kept;
+  remains = refl;
+  sent_before = refl;
+  sent_by_kept = refl;
+  inside = refl;
+  outside = refl;
+}
+
+pub numbers_are_delivered : NumbersAreDelivered
+unfolding kind_of receiver
+numbers_are_delivered = record { legal = numbers_are_legal; sequence = refl; numbered = refl; two = refl }

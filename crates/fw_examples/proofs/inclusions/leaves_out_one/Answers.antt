@@ -1,5 +1,0 @@
-use Rattle.fw_examples.proofs.InclusionFacts.{leaves_out_one}
-use Rattle.fw_examples.proofs.inclusions.leaves_out_one.Goals as goal
-
-pub returns : goal.returns
-returns c = leaves_out_one

@@ -1,5 +1,0 @@
-use Rattle.fw_examples.proofs.TwoSourcesInclusions.{notes_are_needed}
-use Rattle.fw_examples.proofs.inclusions.notes_are_needed.Goals as goal
-
-pub returns : goal.returns
-returns c = notes_are_needed

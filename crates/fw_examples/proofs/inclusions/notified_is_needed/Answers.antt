@@ -1,5 +1,0 @@
-use Rattle.fw_examples.proofs.TwoSourcesInclusions.{notified_is_needed}
-use Rattle.fw_examples.proofs.inclusions.notified_is_needed.Goals as goal
-
-pub returns : goal.returns
-returns c = notified_is_needed

@@ -1,5 +1,0 @@
-use Rattle.fw_examples.proofs.LawsApplied.{deliveries_apply}
-use Rattle.fw_examples.proofs.laws_applied.deliveries_apply.Goals as goal
-
-pub returns : goal.returns
-returns c = deliveries_apply

@@ -1,5 +1,0 @@
-use Rattle.fw_examples.proofs.LawsApplied.{filtering_applies}
-use Rattle.fw_examples.proofs.laws_applied.filtering_applies.Goals as goal
-
-pub returns : goal.returns
-returns c = filtering_applies

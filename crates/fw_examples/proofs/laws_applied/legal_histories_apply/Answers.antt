@@ -1,5 +1,0 @@
-use Rattle.fw_examples.proofs.LawsApplied.{legal_histories_apply}
-use Rattle.fw_examples.proofs.laws_applied.legal_histories_apply.Goals as goal
-
-pub returns : goal.returns
-returns c = legal_histories_apply

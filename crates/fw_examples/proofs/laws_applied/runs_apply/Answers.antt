@@ -1,5 +1,0 @@
-use Rattle.fw_examples.proofs.LawsApplied.{runs_apply}
-use Rattle.fw_examples.proofs.laws_applied.runs_apply.Goals as goal
-
-pub returns : goal.returns
-returns c = runs_apply

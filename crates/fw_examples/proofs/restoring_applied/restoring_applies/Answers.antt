@@ -1,5 +1,0 @@
-use Rattle.fw_examples.proofs.RestoringApplied.{restoring_applies}
-use Rattle.fw_examples.proofs.restoring_applied.restoring_applies.Goals as goal
-
-pub returns : goal.returns
-returns c = restoring_applies

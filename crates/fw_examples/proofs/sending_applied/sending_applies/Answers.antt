@@ -1,5 +1,0 @@
-use Rattle.fw_examples.proofs.SendingApplied.{sending_applies}
-use Rattle.fw_examples.proofs.sending_applied.sending_applies.Goals as goal
-
-pub returns : goal.returns
-returns c = sending_applies

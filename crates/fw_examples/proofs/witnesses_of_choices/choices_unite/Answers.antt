@@ -1,5 +1,0 @@
-use Rattle.fw_examples.proofs.ChoiceWitnesses.{choices_unite}
-use Rattle.fw_examples.proofs.witnesses_of_choices.choices_unite.Goals as goal
-
-pub returns : goal.returns
-returns c = choices_unite

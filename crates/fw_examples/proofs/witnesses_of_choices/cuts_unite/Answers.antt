@@ -1,5 +1,0 @@
-use Rattle.fw_examples.proofs.ChoiceWitnesses.{cuts_unite}
-use Rattle.fw_examples.proofs.witnesses_of_choices.cuts_unite.Goals as goal
-
-pub returns : goal.returns
-returns c = cuts_unite

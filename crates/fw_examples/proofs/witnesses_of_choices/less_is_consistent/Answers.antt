@@ -1,5 +1,0 @@
-use Rattle.fw_examples.proofs.ChoiceWitnesses.{less_is_consistent}
-use Rattle.fw_examples.proofs.witnesses_of_choices.less_is_consistent.Goals as goal
-
-pub returns : goal.returns
-returns c = less_is_consistent

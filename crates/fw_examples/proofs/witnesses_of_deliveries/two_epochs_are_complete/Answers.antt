@@ -1,5 +1,0 @@
-use Rattle.fw_examples.proofs.DeliveryWitnesses.{two_epochs_are_complete}
-use Rattle.fw_examples.proofs.witnesses_of_deliveries.two_epochs_are_complete.Goals as goal
-
-pub returns : goal.returns
-returns c = two_epochs_are_complete

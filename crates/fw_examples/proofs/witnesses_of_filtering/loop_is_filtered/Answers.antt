@@ -1,5 +1,0 @@
-use Rattle.fw_examples.proofs.FilteringWitnesses.{loop_is_filtered}
-use Rattle.fw_examples.proofs.witnesses_of_filtering.loop_is_filtered.Goals as goal
-
-pub returns : goal.returns
-returns c = loop_is_filtered

@@ -1,5 +1,0 @@
-use Rattle.fw_examples.proofs.FilteringWitnesses.{numbers_are_delivered}
-use Rattle.fw_examples.proofs.witnesses_of_filtering.numbers_are_delivered.Goals as goal
-
-pub returns : goal.returns
-returns c = numbers_are_delivered

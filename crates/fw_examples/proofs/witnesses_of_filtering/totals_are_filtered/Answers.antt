@@ -1,5 +1,0 @@
-use Rattle.fw_examples.proofs.FilteringWitnesses.{totals_are_filtered}
-use Rattle.fw_examples.proofs.witnesses_of_filtering.totals_are_filtered.Goals as goal
-
-pub returns : goal.returns
-returns c = totals_are_filtered

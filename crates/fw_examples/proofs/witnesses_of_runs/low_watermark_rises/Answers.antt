@@ -1,5 +1,0 @@
-use Rattle.fw_examples.proofs.TotalWitnesses.{low_watermark_rises}
-use Rattle.fw_examples.proofs.witnesses_of_runs.low_watermark_rises.Goals as goal
-
-pub returns : goal.returns
-returns c = low_watermark_rises

@@ -1,5 +1,0 @@
-use Rattle.fw_examples.proofs.TotalWitnesses.{something_is_chosen}
-use Rattle.fw_examples.proofs.witnesses_of_runs.something_is_chosen.Goals as goal
-
-pub returns : goal.returns
-returns c = something_is_chosen

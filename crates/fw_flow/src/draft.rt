@@ -84,7 +84,12 @@ impl Draft {
             → IsFirstBreakIfAny (HasItsDegrees (flow_of raw)) (node_lines raw) result }
     {
         let lines = self.parts.node_lines.as_slice();
-        degree_line(self.parts.nodes.as_slice(), &self.incoming, &self.outgoing, lines)
+        degree_line(
+            self.parts.nodes.as_slice(),
+            &self.incoming,
+            &self.outgoing,
+            lines,
+        )
     }
 
     /// The line of the first edge that joins different domains.
@@ -94,7 +99,11 @@ impl Draft {
         ensures { (raw : List Declared) → IsDraftOf self.now raw
             → IsFirstBreakIfAny (JoinsDomains (flow_of raw)) (edge_lines raw) result }
     {
-        domain_line(self.parts.nodes.as_slice(), &self.links, &self.parts.edge_lines)
+        domain_line(
+            self.parts.nodes.as_slice(),
+            &self.links,
+            &self.parts.edge_lines,
+        )
     }
 
     /// Whether each closed walk passes a feedback, and none an enter. The only error is want of memory.
@@ -115,7 +124,10 @@ impl Draft {
         ensures { (raw : List Declared) → IsDraftOf self.now raw
             → IsFirstBreakIfAny (HasAllowedPolicy (flow_of raw)) (node_lines raw) result }
     {
-        policy_line(self.parts.nodes.as_slice(), self.parts.node_lines.as_slice())
+        policy_line(
+            self.parts.nodes.as_slice(),
+            self.parts.node_lines.as_slice(),
+        )
     }
 
     /// Whether there are an input and an output.

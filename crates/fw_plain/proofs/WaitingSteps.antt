@@ -8,4 +8,3 @@ use Rattle.fw_flow.specs.declared.event.Message.{Message}
 use Rattle.fw_flow.specs.Message.{message_cmp, without}
 
 -- ---- one message taken away
-

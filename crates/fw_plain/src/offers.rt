@@ -15,13 +15,13 @@ ghost use Rattle.fw_plain.specs.Offered as spec;
 ghost use Rattle.fw_plain.specs.Offered.{StandsBy, OffersBy, AreBare, IsBare};
 ghost use Rattle.fw_model.specs.History.{AreAtNodes};
 
+use crate::scan::{injected_count, sent_by};
 use fw_flow::{
     Counted, CountedMessages, EdgeId, Event, Flow, Kind, Message, NodeId, Notices, OfEdges, Offer,
     Offered, Recorded, Records, SentTable, Stamps,
 };
 use fw_frontier::Front;
 use fw_lines::Batches;
-use crate::scan::{injected_count, sent_by};
 use fw_time::Stamp;
 use std::alloc::{AllocError, Global};
 

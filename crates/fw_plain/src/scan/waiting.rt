@@ -15,9 +15,7 @@ use std::alloc::{AllocError, Global};
 fn place_among(messages: &[Message], message: &Message) -> Option<usize>
     ensures { result ≡ position (λ other. is_eq (message_cmp message.now other)) messages.now }
 {
-    messages
-        .iter()
-        .position(|other| message.cmp(other).is_eq())
+    messages.iter().position(|other| message.cmp(other).is_eq())
 }
 
 /// Takes the first message away that is this one, if there is one.

@@ -133,17 +133,27 @@ fn projected(
     Ok(Some(flow.phi(alloc, edge, &front, sent)?))
 }
 
-/// How many messages the line `sent` says that a sequence sent, each word an epoch, a colon and their number.
+/// How many messages the line `sent` says that a sequence sent, each word an epoch, a colon and their number. An epoch that
+/// stands before a lesser one is told, and the lesser one left out.
 fn sent_table(alloc: Global, lines: &str) -> Result<SentTable, AllocError> {
-    let mut entries = Vec::new(alloc);
+    let mut table = SentTable::new(alloc);
     for line in lines.lines() {
         if let ("sent", words) = part(line) {
-            for word in words.split_whitespace() {
-                entries.extend(entry(word))?;
+            add_entries(&mut table, words)?;
+        }
+    }
+    Ok(table)
+}
+
+fn add_entries(table: &mut SentTable, words: &str) -> Result<(), AllocError> {
+    for word in words.split_whitespace() {
+        if let Some((epoch, count)) = entry(word) {
+            if table.takes(epoch) {
+                table.push(epoch, count)?;
             }
         }
     }
-    Ok(SentTable::new(entries))
+    Ok(())
 }
 
 fn entry(word: &str) -> Option<(u32, u64)> {

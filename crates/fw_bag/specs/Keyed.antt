@@ -11,16 +11,16 @@ abbrev pub plus : ℕ → ℕ → ℕ
 plus x y = (x + y) % 2 ^ 64
 
 -- the recs in ascending order
-abbrev pub sorted : List Rec → List Rec
-sorted rs = bag_sum rs []
+abbrev pub sorted_recs : List Rec → List Rec
+sorted_recs rs = bag_sum rs []
 
 -- whether the rec is among these
 abbrev pub is_among : Rec → List Rec → Bool
 is_among r xs = list_any (λ x. is_eq (rec_cmp r x)) xs
 
 -- the rec with each of the others of its key: the key, and the sum of both values
-abbrev pub joined : Rec → List Rec → List Rec
-joined r xs = map (λ x. record { key = r.key; value = plus r.value x.value }) (filter (λ x. r.key == x.key) xs)
+abbrev pub joined_rec : Rec → List Rec → List Rec
+joined_rec r xs = map (λ x. record { key = r.key; value = plus r.value x.value }) (filter (λ x. r.key == x.key) xs)
 
 -- the sum of the values of a key
 abbrev pub value_sum : ℕ → List Rec → ℕ

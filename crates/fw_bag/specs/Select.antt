@@ -48,14 +48,14 @@ with_field Key n r = record r { key = n }
 with_field Value n r = record r { value = n }
 
 -- the rec after the assignment
-abbrev pub assigned : Assignment → Rec → Rec
-assigned a r = with_field a.field (new_value a.value r) r
+abbrev pub assigned_rec : Assignment → Rec → Rec
+assigned_rec a r = with_field a.field (new_value a.value r) r
 
 -- the rec after the assignment, if there is one
 abbrev pub assigned_by : Option Assignment → Rec → Rec
 assigned_by None r = r
-assigned_by (Some a) r = assigned a r
+assigned_by (Some a) r = assigned_rec a r
 
 -- the rec that is sent on: none where the condition does not hold of the rec as it came, and else the rec after the assignment
-abbrev pub selected : Selection → Rec → Option Rec
-selected s r = if holds s.condition r then Some (assigned_by s.assignment r) else None
+abbrev pub selected_rec : Selection → Rec → Option Rec
+selected_rec s r = if holds s.condition r then Some (assigned_by s.assignment r) else None

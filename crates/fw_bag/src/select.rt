@@ -1,6 +1,6 @@
 //! What a select does to a rec.
 ghost use Rattle.std.specs.Prelude.{◌≡◌};
-ghost use Rattle.fw_bag.specs.Select.{field_number, term_number, compares, holds, new_value, assigned, selected};
+ghost use Rattle.fw_bag.specs.Select.{field_number, term_number, compares, holds, new_value, assigned_rec, selected_rec};
 
 use crate::Rec;
 
@@ -145,7 +145,7 @@ impl NewValue {
 impl Assignment {
     /// The rec with the new number in the field.
     pub fn apply(&self, rec: Rec) -> Rec
-        ensures { result ≡ assigned self.now rec }
+        ensures { result ≡ assigned_rec self.now rec }
     {
         let number = self.value.of(rec);
         match self.field {
@@ -161,7 +161,7 @@ impl Assignment {
 impl Selection {
     /// The rec that is sent on for this one, or `None` where the condition does not hold of it.
     pub fn apply(&self, rec: Rec) -> Option<Rec>
-        ensures { result ≡ selected self.now rec }
+        ensures { result ≡ selected_rec self.now rec }
     {
         if !self.condition.holds(rec) {
             return None;

@@ -171,7 +171,7 @@ restoring_applies =
     record {
       stay_true = λ law. law totals formed total.steps_to_failure total.outcomes_to_failure output_failed reached Recover come_back (did (cuts two_epochs_kept)) recovery_is_reached.step;
       as_asked = λ law. law totals formed total.steps_to_failure total.outcomes_to_failure output_failed reached;
-      ascend = λ law. law totals formed total.steps_to_failure total.outcomes_to_failure output_failed reached [] (drop 1 output_failed.writes) (record { node = 1; written = checkpoint (until 1) (alike 0); progress = collected }) refl (lit< tt) (until 1) (alike 0) refl;
+      ascend = λ law. law totals formed total.steps_to_failure total.outcomes_to_failure output_failed reached [] (drop 1 output_failed.writes) (record { node = 1; written = checkpoint (until 1) (alike 0); stage = collected }) refl (lit< tt) (until 1) (alike 0) refl;
       nothing_inside = λ law. law totals formed total.steps_to_failure total.outcomes_to_failure output_failed reached;
       at_cut = λ law. law totals formed total.steps_to_failure total.outcomes_to_failure output_failed reached (is_failed output_failed) two_epochs_kept largest 1 (until 2) refl refl (λ e. absurd (cc));
       watermarks = λ law. law totals formed total.steps_to_failure total.outcomes_to_failure output_failed reached;

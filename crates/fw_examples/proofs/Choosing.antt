@@ -7,11 +7,11 @@ use Rattle.fw_bag.proofs.OrderingLaws.{equal_from_is_eq}
 use Rattle.fw_time.specs.Stamp.{Stamp, in_domain, leq, same}
 use Rattle.fw_time.specs.declared.stamp.Bounds.{Bounds}
 use Rattle.fw_time.proofs.StampLaws.{same-is}
-use Rattle.fw_frontier.specs.Front.{Front, IsCanonical, Names, frontier_of, is_within, same_front}
+use Rattle.fw_frontier.specs.Front.{Front, IsCanonical, IsFrontOf, frontier_of, is_within, same_front}
 use Rattle.fw_frontier.specs.Frontier.{Frontier, IsFrontier, Within, cover, meet, nothing, some_above}
 use Rattle.fw_frontier.proofs.NamesLaws.{frontier-closed, is_within-holds}
 use Rattle.fw_flow.specs.Dataflow.{System, bounds_of, kind_of, policy_of, receiver, sender}
-use Rattle.fw_flow.specs.NodeFunction.{place, stamp}
+use Rattle.fw_flow.specs.NodeFunction.{event_node, event_stamp}
 use Rattle.fw_flow.specs.Projection.{all_inside}
 use Rattle.fw_flow.specs.Restoring.{can_resend, way_of}
 use Rattle.fw_flow.specs.WellFormed.{IsWellFormed}
@@ -23,11 +23,11 @@ use Rattle.fw_flow.specs.declared.event.Message.{Message}
 use Rattle.fw_flow.specs.declared.restoring.Restoring.{Restoring}
 use Rattle.fw_flow.specs.declared.restoring.Restoring.TheVariants.{Anything, Batches, Bound, Checkpoints, Events}
 use Rattle.fw_flow.specs.declared.step.Step.TheVariants.{Recover}
-use Rattle.fw_model.specs.Choice.{AllLogged, ComesFromSender, HasCheckpoint, HasItsNotices, HoldsLow, IsCandidate, IsChoiceWithin, IsConsistent, IsCutWithin, IsLargest, IsLogged, IsNoteKept, IsRestorable, LiesInReceiver, NoteComesFromSender, View, counts, cut_of, ever, kept, kept_of, until}
-use Rattle.fw_model.specs.Covers.{covers_in, discarded_at, notified_inside, set_of, stamps_from, stamps_inside, takes_its_cut, takes_its_notes, tallies_in}
-use Rattle.fw_model.specs.History.{delivered, injected_count, is_exhausted, sent}
-use Rattle.fw_model.specs.Machine.{Machine, Numbered, Write, Written, bound_of, checkpoint, events, front_of, is_failed, logged_event, no_stamps}
-use Rattle.fw_model.specs.Steps.{IsSettledCut, Steps, checkpoint_front, cuts, did, front_of_cut, offers, recovered}
+use Rattle.fw_model.specs.Choice.{AllLogged, ComesFromSender, HasCheckpoint, HasItsNotices, HoldsLow, IsCandidate, IsChoiceWithin, IsConsistent, IsCutWithin, IsLargest, IsLogged, IsNoticeKept, IsRestorable, LiesInReceiver, NoticeComesFromSender, View, is_counted, cut_of, ever, kept, kept_of, until}
+use Rattle.fw_model.specs.Covers.{covers_in, discarded_at, notified_inside, set_of, stamps_from, stamps_inside, takes_its_cut, takes_its_notices, tallies_in}
+use Rattle.fw_model.specs.History.{delivered_messages, injected_count, is_exhausted, sent_messages}
+use Rattle.fw_model.specs.Machine.{Machine, SerialEvent, Write, Written, ack_count_of, checkpoint, events, front_of, is_failed, logged_event, no_stamps}
+use Rattle.fw_model.specs.Steps.{IsSettledCut, StepsTo, checkpoint_front, cuts, did, front_of_cut, offers, recovered_state}
 use Rattle.fw_model.proofs.CmpLaws.{fronts_cmp-same}
 use Rattle.fw_model.proofs.Decisions.{two_ways}
 use Rattle.fw_model.proofs.FilteredLaws.{set-frontier}
@@ -60,10 +60,10 @@ set_at sys p q cut same_bounds = subst (λ b. IsFrontier b (set_of sys.flow p cu
 -- whether what counts as delivered on edge d inside a cut of its receiver lies in what the sender keeps by a cut
 abbrev pub is_delivered_in : System → Machine → ℕ → Cut → Cut → Bool
 is_delivered_in sys state d Present from =
-    list_all (set_of sys.flow (sender sys.flow d) from) (stamps_inside (set_of sys.flow (receiver sys.flow d) Present) (delivered (events state.history) d))
+    list_all (set_of sys.flow (sender sys.flow d) from) (stamps_inside (set_of sys.flow (receiver sys.flow d) Present) (delivered_messages (events state.history) d))
 is_delivered_in sys state d (At f) from =
     if takes_its_cut (way_of sys.flow (receiver sys.flow d)) then is_in_cut f from
-    else list_all (set_of sys.flow (sender sys.flow d) from) (stamps_inside (set_of sys.flow (receiver sys.flow d) (At f)) (delivered (events state.history) d))
+    else list_all (set_of sys.flow (sender sys.flow d) from) (stamps_inside (set_of sys.flow (receiver sys.flow d) (At f)) (delivered_messages (events state.history) d))
 
 delivered_in : (sys : System) (state : Machine) (d : ℕ) (cut from : Cut) → bounds_of sys.flow (sender sys.flow d) ≡ bounds_of sys.flow (receiver sys.flow d)
     → is_delivered_in sys state d cut from ≡ true → Within ((covers_in sys state).delivered d cut) (set_of sys.flow (sender sys.flow d) from)
@@ -73,12 +73,12 @@ delivered_in sys state d (At f) from same_bounds h = go (takes_its_cut (way_of s
   where
     go : (b : Bool)
         → (if b then is_in_cut f from
-        else list_all (set_of sys.flow (sender sys.flow d) from) (stamps_inside (set_of sys.flow (receiver sys.flow d) (At f)) (delivered (events state.history) d))) ≡ true
+        else list_all (set_of sys.flow (sender sys.flow d) from) (stamps_inside (set_of sys.flow (receiver sys.flow d) (At f)) (delivered_messages (events state.history) d))) ≡ true
         → Within (if b then frontier_of (bounds_of sys.flow (receiver sys.flow d)) f else (tallies_in sys state).delivered d (At f)) (set_of sys.flow (sender sys.flow d) from)
     go true k = subst (λ b. Within (frontier_of b f) (set_of sys.flow (sender sys.flow d) from)) same_bounds (in_cut sys (sender sys.flow d) f from k)
     go false k =
         cover_within_by (bounds_of sys.flow (receiver sys.flow d)) (set_of sys.flow (sender sys.flow d) from)
-        (stamps_inside (set_of sys.flow (receiver sys.flow d) (At f)) (delivered (events state.history) d))
+        (stamps_inside (set_of sys.flow (receiver sys.flow d) (At f)) (delivered_messages (events state.history) d))
         (set_at sys (sender sys.flow d) (receiver sys.flow d) from same_bounds) k
 
 -- whether the first inclusion holds on edge d, out of a node that sends at the stamps of its events
@@ -97,7 +97,7 @@ delivered_by sys state choice formed h d l t i =
 -- whether what node p sent on edge e inside a set, by the way in which it is restored, lies in what the receiver q keeps by a cut
 abbrev pub is_discarded_at : System → Machine → ℕ → Restoring → Front → ℕ → Cut → Bool
 is_discarded_at sys state e Anything f q to = is_plain (kind_of sys.flow (sender sys.flow e)) && is_in_cut f to
-is_discarded_at sys state e way f q to = list_all (set_of sys.flow q to) (stamps_from (set_of sys.flow (sender sys.flow e) (At f)) (sent sys (events state.history) e))
+is_discarded_at sys state e way f q to = list_all (set_of sys.flow q to) (stamps_from (set_of sys.flow (sender sys.flow e) (At f)) (sent_messages sys (events state.history) e))
 
 discarded_in : (sys : System) (state : Machine) (e : ℕ) (way : Restoring) (f : Front) (to : Cut) → IsWellFormed sys.flow → e < length sys.flow.edges
     → is_discarded_at sys state e way f (receiver sys.flow e) to ≡ true
@@ -113,7 +113,7 @@ discarded_in sys state e way f to formed l h =
 abbrev pub is_discarded_in : System → Machine → ℕ → Cut → Cut → Bool
 is_discarded_in sys state e Present to =
     can_resend (policy_of sys.flow (sender sys.flow e))
-    || list_all (set_of sys.flow (receiver sys.flow e) to) (stamps_from (set_of sys.flow (sender sys.flow e) Present) (sent sys (events state.history) e))
+    || list_all (set_of sys.flow (receiver sys.flow e) to) (stamps_from (set_of sys.flow (sender sys.flow e) Present) (sent_messages sys (events state.history) e))
 is_discarded_in sys state e (At f) to =
     can_resend (policy_of sys.flow (sender sys.flow e))
     || is_discarded_at sys state e (way_of sys.flow (sender sys.flow e)) f (receiver sys.flow e) to
@@ -139,63 +139,63 @@ pub discarded_by : (sys : System) (state : Machine) (choice : Choice) → IsWell
 discarded_by sys state choice formed h e l =
     discarded_cut sys state e (cut_of choice (sender sys.flow e)) (cut_of choice (receiver sys.flow e)) formed l (each_below-at (is_discarded_kept sys state choice) (length sys.flow.edges) h e l)
 
--- whether what counts as notified of node p inside a cut has its note
+-- whether what counts as notified of node p inside a cut has its notice
 abbrev pub is_notified_in : System → Machine → ℕ → Cut → Front → Bool
-is_notified_in sys state p Present note = list_all (frontier_of (bounds_of sys.flow p) note) (notified_inside p (set_of sys.flow p Present) (events state.history))
-is_notified_in sys state p (At f) note =
-    if takes_its_notes (kind_of sys.flow p) (policy_of sys.flow p) then is_within f note
-    else list_all (frontier_of (bounds_of sys.flow p) note) (notified_inside p (set_of sys.flow p (At f)) (events state.history))
+is_notified_in sys state p Present notice = list_all (frontier_of (bounds_of sys.flow p) notice) (notified_inside p (set_of sys.flow p Present) (events state.history))
+is_notified_in sys state p (At f) notice =
+    if takes_its_notices (kind_of sys.flow p) (policy_of sys.flow p) then is_within f notice
+    else list_all (frontier_of (bounds_of sys.flow p) notice) (notified_inside p (set_of sys.flow p (At f)) (events state.history))
 
-notified_in : (sys : System) (state : Machine) (p : ℕ) (cut : Cut) (note : Front) → is_notified_in sys state p cut note ≡ true
-    → Within ((covers_in sys state).notified p cut) (frontier_of (bounds_of sys.flow p) note)
-notified_in sys state p Present note h = cover_within_by (bounds_of sys.flow p) _ _ (frontier-closed (bounds_of sys.flow p) note) h
-notified_in sys state p (At f) note h = go (takes_its_notes (kind_of sys.flow p) (policy_of sys.flow p)) h
+notified_in : (sys : System) (state : Machine) (p : ℕ) (cut : Cut) (notice : Front) → is_notified_in sys state p cut notice ≡ true
+    → Within ((covers_in sys state).notified p cut) (frontier_of (bounds_of sys.flow p) notice)
+notified_in sys state p Present notice h = cover_within_by (bounds_of sys.flow p) _ _ (frontier-closed (bounds_of sys.flow p) notice) h
+notified_in sys state p (At f) notice h = go (takes_its_notices (kind_of sys.flow p) (policy_of sys.flow p)) h
   where
     go : (b : Bool)
-        → (if b then is_within f note else list_all (frontier_of (bounds_of sys.flow p) note) (notified_inside p (set_of sys.flow p (At f)) (events state.history))) ≡ true
+        → (if b then is_within f notice else list_all (frontier_of (bounds_of sys.flow p) notice) (notified_inside p (set_of sys.flow p (At f)) (events state.history))) ≡ true
         → Within
         (if b then frontier_of (bounds_of sys.flow p) f else cover (bounds_of sys.flow p) (notified_inside p (set_of sys.flow p (At f)) (events state.history)))
-        (frontier_of (bounds_of sys.flow p) note)
-    go true k = lies (bounds_of sys.flow p) f note k
-    go false k = cover_within_by (bounds_of sys.flow p) _ _ (frontier-closed (bounds_of sys.flow p) note) k
+        (frontier_of (bounds_of sys.flow p) notice)
+    go true k = lies (bounds_of sys.flow p) f notice k
+    go false k = cover_within_by (bounds_of sys.flow p) _ _ (frontier-closed (bounds_of sys.flow p) notice) k
 
 -- whether the third inclusion holds at node p
 abbrev pub is_notified_kept : System → Machine → Choice → ℕ → Bool
-is_notified_kept sys state choice p = is_notified_in sys state p (cut_of choice p) (front_of choice.notes p)
+is_notified_kept sys state choice p = is_notified_in sys state p (cut_of choice p) (front_of choice.notices p)
 
 pub notified_by : (sys : System) (state : Machine) (choice : Choice) → each_below (is_notified_kept sys state choice) (length sys.flow.nodes) ≡ true
     → (p : ℕ) → p < length sys.flow.nodes → HasItsNotices sys.flow (covers_in sys state) choice p
 notified_by sys state choice h p l =
-    notified_in sys state p (cut_of choice p) (front_of choice.notes p) (each_below-at (is_notified_kept sys state choice) (length sys.flow.nodes) h p l)
+    notified_in sys state p (cut_of choice p) (front_of choice.notices p) (each_below-at (is_notified_kept sys state choice) (length sys.flow.nodes) h p l)
 
 -- the fourth inclusion
-pub own_by : (sys : System) (choice : Choice) → each_below (λ p. is_in_cut (front_of choice.notes p) (cut_of choice p)) (length sys.flow.nodes) ≡ true
-    → (p : ℕ) → p < length sys.flow.nodes → IsNoteKept sys.flow choice p
+pub own_by : (sys : System) (choice : Choice) → each_below (λ p. is_in_cut (front_of choice.notices p) (cut_of choice p)) (length sys.flow.nodes) ≡ true
+    → (p : ℕ) → p < length sys.flow.nodes → IsNoticeKept sys.flow choice p
 own_by sys choice h p l =
-    in_cut sys p (front_of choice.notes p) (cut_of choice p) (each_below-at (λ p. is_in_cut (front_of choice.notes p) (cut_of choice p)) (length sys.flow.nodes) h p l)
+    in_cut sys p (front_of choice.notices p) (cut_of choice p) (each_below-at (λ p. is_in_cut (front_of choice.notices p) (cut_of choice p)) (length sys.flow.nodes) h p l)
 
 -- whether the fifth inclusion holds on edge d
-abbrev pub is_note_kept : System → Choice → ℕ → Bool
-is_note_kept sys choice d = is_from_sender sys.flow (front_of choice.notes (receiver sys.flow d)) (front_of choice.notes (sender sys.flow d)) d
+abbrev pub is_notice_kept : System → Choice → ℕ → Bool
+is_notice_kept sys choice d = is_from_sender sys.flow (front_of choice.notices (receiver sys.flow d)) (front_of choice.notices (sender sys.flow d)) d
 
-pub notes_by : (sys : System) (state : Machine) (choice : Choice) → IsWellFormed sys.flow → each_below (is_note_kept sys choice) (length sys.flow.edges) ≡ true
-    → (d : ℕ) → d < length sys.flow.edges → NoteComesFromSender sys.flow (covers_in sys state) choice d
-notes_by sys state choice formed h d l =
-    from_sender sys (events state.history) formed d l (front_of choice.notes (receiver sys.flow d)) (front_of choice.notes (sender sys.flow d))
-    (each_below-at (is_note_kept sys choice) (length sys.flow.edges) h d l)
+pub notices_by : (sys : System) (state : Machine) (choice : Choice) → IsWellFormed sys.flow → each_below (is_notice_kept sys choice) (length sys.flow.edges) ≡ true
+    → (d : ℕ) → d < length sys.flow.edges → NoticeComesFromSender sys.flow (covers_in sys state) choice d
+notices_by sys state choice formed h d l =
+    from_sender sys (events state.history) formed d l (front_of choice.notices (receiver sys.flow d)) (front_of choice.notices (sender sys.flow d))
+    (each_below-at (is_notice_kept sys choice) (length sys.flow.edges) h d l)
 
-pub canonical_notes : (sys : System) (choice : Choice) → each_below (λ p. is_canonical (bounds_of sys.flow p) (front_of choice.notes p)) (length sys.flow.nodes) ≡ true
-    → (p : ℕ) → p < length sys.flow.nodes → IsCanonical (bounds_of sys.flow p) (front_of choice.notes p)
-canonical_notes sys choice h p l = canonical_by _ _ (each_below-at (λ p. is_canonical (bounds_of sys.flow p) (front_of choice.notes p)) (length sys.flow.nodes) h p l)
+pub canonical_notices : (sys : System) (choice : Choice) → each_below (λ p. is_canonical (bounds_of sys.flow p) (front_of choice.notices p)) (length sys.flow.nodes) ≡ true
+    → (p : ℕ) → p < length sys.flow.nodes → IsCanonical (bounds_of sys.flow p) (front_of choice.notices p)
+canonical_notices sys choice h p l = canonical_by _ _ (each_below-at (λ p. is_canonical (bounds_of sys.flow p) (front_of choice.notices p)) (length sys.flow.nodes) h p l)
 
--- whether a choice has a cut and a note for each node, and meets the five
+-- whether a choice has a cut and a notice for each node, and meets the five
 abbrev pub is_consistent : System → Machine → Choice → Bool
 is_consistent sys state choice =
-    each_below (λ p. is_canonical (bounds_of sys.flow p) (front_of choice.notes p)) (length sys.flow.nodes)
+    each_below (λ p. is_canonical (bounds_of sys.flow p) (front_of choice.notices p)) (length sys.flow.nodes)
     && (each_below (is_delivered_kept sys state choice) (length sys.flow.edges)
     && (each_below (is_discarded_kept sys state choice) (length sys.flow.edges)
     && (each_below (is_notified_kept sys state choice) (length sys.flow.nodes)
-    && (each_below (λ p. is_in_cut (front_of choice.notes p) (cut_of choice p)) (length sys.flow.nodes) && each_below (is_note_kept sys choice) (length sys.flow.edges)))))
+    && (each_below (λ p. is_in_cut (front_of choice.notices p) (cut_of choice p)) (length sys.flow.nodes) && each_below (is_notice_kept sys choice) (length sys.flow.edges)))))
 
 -- ---- what is offered
 
@@ -218,19 +218,19 @@ batches_by sys h p ((k ∷ x ∷ t) ∷ os) a = absurd (false≢true a)
 -- whether a checkpoint of node p at f that counts is among the writes
 abbrev pub has_checkpoint : View → ℕ → Front → List Write → Bool
 has_checkpoint view p f writes =
-    list_any (λ (write : Write). (write.node == p && counts view write.progress) && list_any (λ g. same_front g f) (checkpoint_front write.written)) writes
+    list_any (λ (write : Write). (write.node == p && is_counted view write.stage) && list_any (λ g. same_front g f) (checkpoint_front write.written)) writes
 
 checkpoint_by : (view : View) (p : ℕ) (f : Front) (writes : List Write) → has_checkpoint view p f writes ≡ true → HasCheckpoint view p f writes
 checkpoint_by view p f [] h = false≢true h
 checkpoint_by view p f (w ∷ ws) h = ⊎_elim (λ a. go w.written a) (λ a. inr (checkpoint_by view p f ws a)) (or_cases _ _ h)
   where
-    go : (written : Written) → ((w.node == p && counts view w.progress) && list_any (λ g. same_front g f) (checkpoint_front written)) ≡ true
+    go : (written : Written) → ((w.node == p && is_counted view w.stage) && list_any (λ g. same_front g f) (checkpoint_front written)) ≡ true
         → HasCheckpoint view p f (record w { written = written } ∷ ws)
     go (checkpoint g low) a =
-        let b = and_parts (w.node == p && counts view w.progress) (same_front g f || false) a in
-        let c = and_parts (w.node == p) (counts view w.progress) b.0 in
+        let b = and_parts (w.node == p && is_counted view w.stage) (same_front g f || false) a in
+        let c = and_parts (w.node == p) (is_counted view w.stage) b.0 in
         inl (eqb-true w.node p c.0, ⊎_elim (λ e. fronts_equal g f e) (λ e. absurd (false≢true e)) (or_cases (same_front g f) false b.1), c.1)
-    go (logged_event serial) a = absurd (false≢true (and_parts (w.node == p && counts view w.progress) false a).1)
+    go (logged_event serial) a = absurd (false≢true (and_parts (w.node == p && is_counted view w.stage) false a).1)
 
 -- whether a write holds the event of this serial
 abbrev pub holds_event : ℕ → Written → Bool
@@ -239,27 +239,27 @@ holds_event serial (logged_event s) = s == serial
 
 -- whether an event was logged
 abbrev pub is_logged : ℕ → List Write → Bool
-is_logged serial writes = list_any (λ (write : Write). holds_event serial write.written && counts ever write.progress) writes
+is_logged serial writes = list_any (λ (write : Write). holds_event serial write.written && is_counted ever write.stage) writes
 
 logged_by : (serial : ℕ) (writes : List Write) → is_logged serial writes ≡ true → IsLogged serial writes
 logged_by serial [] h = false≢true h
 logged_by serial (w ∷ ws) h = ⊎_elim (λ a. go w.written a) (λ a. inr (logged_by serial ws a)) (or_cases _ _ h)
   where
-    go : (written : Written) → (holds_event serial written && counts ever w.progress) ≡ true → IsLogged serial (record w { written = written } ∷ ws)
+    go : (written : Written) → (holds_event serial written && is_counted ever w.stage) ≡ true → IsLogged serial (record w { written = written } ∷ ws)
     go (checkpoint g low) a = absurd (false≢true a)
-    go (logged_event s) a = let b = and_parts (s == serial) (counts ever w.progress) a in inl (eqb-true s serial b.0, b.1)
+    go (logged_event s) a = let b = and_parts (s == serial) (is_counted ever w.stage) a in inl (eqb-true s serial b.0, b.1)
 
 -- whether each event of node p inside f was logged
-abbrev pub are_logged : System → ℕ → Frontier → List Write → List Numbered → Bool
-are_logged sys p f writes h = list_all (λ (v : Numbered). not (place sys.flow v.event == p && f (stamp v.event)) || is_logged v.serial writes) h
+abbrev pub are_logged : System → ℕ → Frontier → List Write → List SerialEvent → Bool
+are_logged sys p f writes h = list_all (λ (v : SerialEvent). not (event_node sys.flow v.event == p && f (event_stamp v.event)) || is_logged v.serial writes) h
 
-all_logged_by : (sys : System) (p : ℕ) (f : Frontier) (writes : List Write) (h : List Numbered) → are_logged sys p f writes h ≡ true → AllLogged sys p f writes h
+all_logged_by : (sys : System) (p : ℕ) (f : Frontier) (writes : List Write) (h : List SerialEvent) → are_logged sys p f writes h ≡ true → AllLogged sys p f writes h
 all_logged_by sys p f writes [] k = tt
 all_logged_by sys p f writes (v ∷ h) k =
     let a = and_parts _ _ k in (
       λ at i.
           ⊎_elim
-          (λ n. absurd (two_ways _ (and_from _ _ (eq-eqb (place sys.flow v.event) p at) i) (not-true _ n)))
+          (λ n. absurd (two_ways _ (and_from _ _ (eq-eqb (event_node sys.flow v.event) p at) i) (not-true _ n)))
           (λ l. logged_by v.serial writes l)
           (or_cases _ _ a.0),
       all_logged_by sys p f writes h a.1,
@@ -268,7 +268,7 @@ all_logged_by sys p f writes (v ∷ h) k =
 -- whether node p can be restored to f in this way
 abbrev pub is_restorable : System → Machine → View → ℕ → Restoring → Front → Bool
 is_restorable sys state view p Batches f = has_batches sys (events state.history) p f
-is_restorable sys state view p Bound f = is_within f (front_of state.settled p) && is_within f (until (bound_of state p))
+is_restorable sys state view p Bound f = is_within f (front_of state.settled p) && is_within f (until (ack_count_of state p))
 is_restorable sys state view p Anything f = is_within f (front_of state.settled p)
 is_restorable sys state view p Checkpoints f = same_front f (no_stamps (bounds_of sys.flow p)) || has_checkpoint view p f state.writes
 is_restorable sys state view p Events f =
@@ -278,8 +278,8 @@ restorable_by : (sys : System) (state : Machine) (view : View) (p : ℕ) (way : 
     → IsRestorable sys state view p way f
 restorable_by sys state view p Batches f h = batches_by sys (events state.history) p f h
 restorable_by sys state view p Bound f h =
-    let a = and_parts (is_within f (front_of state.settled p)) (is_within f (until (bound_of state p))) h in
-    (lies (bounds_of sys.flow p) f (front_of state.settled p) a.0, lies (bounds_of sys.flow p) f (until (bound_of state p)) a.1)
+    let a = and_parts (is_within f (front_of state.settled p)) (is_within f (until (ack_count_of state p))) h in
+    (lies (bounds_of sys.flow p) f (front_of state.settled p) a.0, lies (bounds_of sys.flow p) f (until (ack_count_of state p)) a.1)
 restorable_by sys state view p Anything f h = lies (bounds_of sys.flow p) f (front_of state.settled p) h
 restorable_by sys state view p Checkpoints f h =
     ⊎_elim (λ e. inl (fronts_equal f (no_stamps (bounds_of sys.flow p)) e)) (λ c. inr (checkpoint_by view p f state.writes c)) (or_cases _ _ h)
@@ -321,9 +321,9 @@ offered_by sys state lost view choice h p l =
     candidate_by sys state lost view p (cut_of choice p) (each_below-at (λ p. is_candidate sys state lost view p (cut_of choice p)) (length sys.flow.nodes) h p l)
 
 pub consistent_by : (sys : System) (state : Machine) (lost : ℕ → Bool) (view : View) (choice : Choice) → IsWellFormed sys.flow
-    → length choice.cuts ≡ length sys.flow.nodes → length choice.notes ≡ length sys.flow.nodes
+    → length choice.cuts ≡ length sys.flow.nodes → length choice.notices ≡ length sys.flow.nodes
     → are_offered sys state lost view choice ≡ true → is_consistent sys state choice ≡ true → IsConsistent sys state (IsCandidate sys state lost view) choice
-consistent_by sys state lost view choice formed one_cut one_note o h =
+consistent_by sys state lost view choice formed one_cut one_notice o h =
     let a = and_parts _ _ h in
     let b = and_parts _ _ a.1 in
     let c = and_parts _ _ b.1 in
@@ -331,14 +331,14 @@ consistent_by sys state lost view choice formed one_cut one_note o h =
     let f = and_parts _ _ d.1 in
     record {
       one_cut_each = one_cut;
-      one_note_each = one_note;
+      one_notice_each = one_notice;
       offered = offered_by sys state lost view choice o;
-      canonical = canonical_notes sys choice a.0;
+      canonical = canonical_notices sys choice a.0;
       delivered = delivered_by sys state choice formed b.0;
       discarded = discarded_by sys state choice formed c.0;
       notified = notified_by sys state choice d.0;
       own = own_by sys choice f.0;
-      notes = notes_by sys state choice formed f.1;
+      notices = notices_by sys state choice formed f.1;
     }
 
 -- ---- what lies within a choice
@@ -349,7 +349,7 @@ until_more b k n l = lies b (until k) (until n) (grind (arith, nat_tests))
 
 -- whether each checkpoint of node p that counts lies within
 abbrev pub are_checkpoints_within : View → ℕ → Front → List Write → Bool
-are_checkpoints_within view p g writes = list_all (λ (write : Write). not (write.node == p && counts view write.progress) || list_all (λ f. is_within f g) (checkpoint_front write.written)) writes
+are_checkpoints_within view p g writes = list_all (λ (write : Write). not (write.node == p && is_counted view write.stage) || list_all (λ f. is_within f g) (checkpoint_front write.written)) writes
 
 checkpoint_within : (b : Bounds) (view : View) (p : ℕ) (f g : Front) (writes : List Write) → are_checkpoints_within view p g writes ≡ true → HasCheckpoint view p f writes
     → Within (frontier_of b f) (frontier_of b g)
@@ -357,7 +357,7 @@ checkpoint_within b view p f g [] h c = absurd c
 checkpoint_within b view p f g (w ∷ ws) h (inr c) = checkpoint_within b view p f g ws (and_parts _ _ h).1 c
 checkpoint_within b view p f g (w ∷ ws) h (inl c) = at w.written (inl c) (and_parts _ _ h).0
   where
-    at : (written : Written) → HasCheckpoint view p f (record w { written = written } ∷ []) → (not (w.node == p && counts view w.progress) || list_all (λ x. is_within x g) (checkpoint_front written)) ≡ true
+    at : (written : Written) → HasCheckpoint view p f (record w { written = written } ∷ []) → (not (w.node == p && is_counted view w.stage) || list_all (λ x. is_within x g) (checkpoint_front written)) ≡ true
         → Within (frontier_of b f) (frontier_of b g)
     at (checkpoint x low) (inr c) k = absurd c
     at (checkpoint x low) (inl c) k =
@@ -374,7 +374,7 @@ checkpoint_within b view p f g (w ∷ ws) h (inl c) = at w.written (inl c) (and_
 abbrev pub is_restorable_within : System → Machine → View → ℕ → Restoring → Front → Bool
 is_restorable_within sys state view p Batches g =
     is_within (until (injected_count p (events state.history))) g && (not (is_exhausted sys (events state.history) p) || is_within [] g)
-is_restorable_within sys state view p Bound g = is_within (front_of state.settled p) g || is_within (until (bound_of state p)) g
+is_restorable_within sys state view p Bound g = is_within (front_of state.settled p) g || is_within (until (ack_count_of state p)) g
 is_restorable_within sys state view p Anything g = is_within (front_of state.settled p) g
 is_restorable_within sys state view p Checkpoints g = are_checkpoints_within view p g state.writes
 is_restorable_within sys state view p Events g = is_within (front_of state.settled p) g
@@ -389,7 +389,7 @@ restorable_within sys state view p Batches g f h (inr e) =
     subst (λ x. Within (frontier_of (bounds_of sys.flow p) x) (frontier_of (bounds_of sys.flow p) g)) (sym e.1)
     (lies (bounds_of sys.flow p) [] g (⊎_elim (λ n. absurd (two_ways _ e.0 (not-true _ n))) (λ n. n) (or_cases _ _ (and_parts _ _ h).1)))
 restorable_within sys state view p Bound g f h o = λ t i.
-    ⊎_elim (λ n. lies (bounds_of sys.flow p) (front_of state.settled p) g n t (o.0 t i)) (λ n. lies (bounds_of sys.flow p) (until (bound_of state p)) g n t (o.1 t i)) (or_cases _ _ h)
+    ⊎_elim (λ n. lies (bounds_of sys.flow p) (front_of state.settled p) g n t (o.0 t i)) (λ n. lies (bounds_of sys.flow p) (until (ack_count_of state p)) g n t (o.1 t i)) (or_cases _ _ h)
 restorable_within sys state view p Anything g f h o = λ t i. lies (bounds_of sys.flow p) (front_of state.settled p) g h t (o t i)
 restorable_within sys state view p Checkpoints g f h (inl e) =
     subst (λ x. Within (frontier_of (bounds_of sys.flow p) x) (frontier_of (bounds_of sys.flow p) g)) (sym e) (none-within (bounds_of sys.flow p) _)
@@ -408,14 +408,14 @@ pub set_within : (sys : System) (p : ℕ) (cut : Cut) (g : Front) → IsCutWithi
 set_within sys p Present g h = absurd h
 set_within sys p (At f) g h = h
 
--- a consistent choice whose cuts lie within those of a choice lies within it, where each note of that is all of its cut
+-- a consistent choice whose cuts lie within those of a choice lies within it, where each notice of that is all of its cut
 pub above_by : (sys : System) (state : Machine) (offered : ℕ → Cut → Type 0) (choice other : Choice) → IsConsistent sys state offered other
     → ((p : ℕ) → p < length sys.flow.nodes → IsCutWithin sys.flow p (cut_of other p) (cut_of choice p))
-    → each_below (λ p. is_within (front_of_cut (cut_of choice p)) (front_of choice.notes p)) (length sys.flow.nodes) ≡ true → IsChoiceWithin sys.flow other choice
+    → each_below (λ p. is_within (front_of_cut (cut_of choice p)) (front_of choice.notices p)) (length sys.flow.nodes) ≡ true → IsChoiceWithin sys.flow other choice
 above_by sys state offered choice other is at h = record {
   cuts = at;
-  notes = λ p l t i.
-      lies (bounds_of sys.flow p) _ (front_of choice.notes p) (each_below-at (λ p. is_within (front_of_cut (cut_of choice p)) (front_of choice.notes p)) (length sys.flow.nodes) h p l) t
+  notices = λ p l t i.
+      lies (bounds_of sys.flow p) _ (front_of choice.notices p) (each_below-at (λ p. is_within (front_of_cut (cut_of choice p)) (front_of choice.notices p)) (length sys.flow.nodes) h p l) t
       (held p (cut_of choice p) (at p l) t (is.own p l t i));
 }
   where
@@ -428,10 +428,10 @@ abbrev pub is_above_offers : System → Machine → (ℕ → Bool) → View → 
 is_above_offers sys state lost view p Present = true
 is_above_offers sys state lost view p (At g) = lost p && is_restorable_within sys state view p (way_of sys.flow p) g
 
--- a consistent choice is the largest where each of its cuts is above what is offered, and each note is all of its cut
+-- a consistent choice is the largest where each of its cuts is above what is offered, and each notice is all of its cut
 pub largest_by : (sys : System) (state : Machine) (lost : ℕ → Bool) (view : View) (choice : Choice) → IsConsistent sys state (IsCandidate sys state lost view) choice
     → each_below (λ p. is_above_offers sys state lost view p (cut_of choice p)) (length sys.flow.nodes) ≡ true
-    → each_below (λ p. is_within (front_of_cut (cut_of choice p)) (front_of choice.notes p)) (length sys.flow.nodes) ≡ true
+    → each_below (λ p. is_within (front_of_cut (cut_of choice p)) (front_of choice.notices p)) (length sys.flow.nodes) ≡ true
     → IsLargest sys state (IsCandidate sys state lost view) choice
 largest_by sys state lost view choice is h n = record {
   consistent = is;
@@ -468,13 +468,13 @@ pub sender_within : (sys : System) (state : Machine) (offered : ℕ → Cut → 
     → can_resend (policy_of sys.flow (sender sys.flow e)) ≡ false
     → ((sent : Frontier) (f : Front) → discarded_at sys.flow e (way_of sys.flow (sender sys.flow e)) sent f ≡ sent)
     → in_domain (bounds_of sys.flow (sender sys.flow e)) o ≡ true → in_domain (bounds_of sys.flow (receiver sys.flow e)) u ≡ true
-    → list_any (λ (m : Message). list_all (same o) m.causes && leq u m.at) (sent sys (events state.history) e) ≡ true
+    → list_any (λ (m : Message). list_all (same o) m.causes && leq u m.at) (sent_messages sys (events state.history) e) ≡ true
     → IsCutWithin sys.flow (sender sys.flow e) (cut_of other (sender sys.flow e)) (At (o ∷ []))
 sender_within sys state offered other is e l g o u at out no_log by_sending d du among =
     go (cut_of other (sender sys.flow e)) (λ i. two_ways _ (set_within sys (receiver sys.flow e) (cut_of other (receiver sys.flow e)) g at u (is.discarded e l u i)) out)
   where
     covered : (cut : Cut) → set_of sys.flow (sender sys.flow e) cut o ≡ true → (tallies_in sys state).sent e cut u ≡ true
-    covered cut i = and_from _ _ du (sent_above (set_of sys.flow (sender sys.flow e) cut) o u (sent sys (events state.history) e) i among)
+    covered cut i = and_from _ _ du (sent_above (set_of sys.flow (sender sys.flow e) cut) o u (sent_messages sys (events state.history) e) i among)
 
     go : (cut : Cut) → ((covers_in sys state).discarded e cut u ≡ true → ⊥) → IsCutWithin sys.flow (sender sys.flow e) cut (At (o ∷ []))
     go Present w = w (rw no_log (covered Present d))
@@ -500,7 +500,7 @@ settled_by sys p Present before h = refl
 settled_by sys p (At f) before h = go (is_within f before) refl
   where
     go : (b : Bool) → is_within f before ≡ b
-        → Names (bounds_of sys.flow p) (if b then f else before) (meet (frontier_of (bounds_of sys.flow p) before) (frontier_of (bounds_of sys.flow p) f))
+        → IsFrontOf (bounds_of sys.flow p) (if b then f else before) (meet (frontier_of (bounds_of sys.flow p) before) (frontier_of (bounds_of sys.flow p) f))
     go true e = record { canonical = canonical_by _ _ (and_parts _ _ h).0; same = meet_other _ before f e }
     go false e =
         let a = and_parts _ _ (and_parts _ _ h).1 in
@@ -510,7 +510,7 @@ pub recovers_to : (sys : System) (state : Machine) (choice : Choice) (settled : 
     → IsLargest sys state (offers sys state) choice → length settled ≡ length sys.flow.nodes
     → ((q : ℕ) → q < length sys.flow.nodes → front_of settled q ≡ front_after (cut_of choice q) (front_of state.settled q))
     → each_below (λ q. is_cut sys q (cut_of choice q) (front_of state.settled q)) (length sys.flow.nodes) ≡ true
-    → Steps sys state Recover (recovered sys state choice settled) (did (cuts choice))
+    → StepsTo sys state Recover (recovered_state sys state choice settled) (did (cuts choice))
 recovers_to sys state choice settled p l f is one_each same h = (p, choice, settled, l, f, is, record { one_each = one_each; each = each }, refl, refl)
   where
     each : (q : ℕ) → q < length sys.flow.nodes → IsSettledCut sys q (cut_of choice q) (front_of state.settled q) (front_of settled q)

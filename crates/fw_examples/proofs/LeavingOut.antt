@@ -7,7 +7,7 @@ use Rattle.fw_time.proofs.EachLaws.{each-of_all}
 use Rattle.fw_frontier.specs.Front.{Front, frontier_of}
 use Rattle.fw_frontier.specs.Frontier.{Within}
 use Rattle.fw_flow.specs.Dataflow.{System, batches_of, bounds_of, kind_of, policy_of, receiver, sender}
-use Rattle.fw_flow.specs.Message.{without}
+use Rattle.fw_flow.specs.Message.{messages_without}
 use Rattle.fw_flow.specs.NodeFunction.{sends}
 use Rattle.fw_flow.specs.Projection.{phi, psi}
 use Rattle.fw_flow.specs.WellFormed.{IsWellFormed}
@@ -16,14 +16,14 @@ use Rattle.fw_flow.specs.declared.choice.Cut.{Cut}
 use Rattle.fw_flow.specs.declared.choice.Cut.TheVariants.{At, Present}
 use Rattle.fw_flow.specs.declared.event.Event.TheVariants.{Notify as Notified}
 use Rattle.fw_flow.specs.declared.event.Message.{Message}
-use Rattle.fw_model.specs.Choice.{IsChoiceWithin, IsConsistent, IsCutWithin, cut_of, kept, note_of}
+use Rattle.fw_model.specs.Choice.{IsChoiceWithin, IsConsistent, IsCutWithin, cut_of, kept, notice_of}
 use Rattle.fw_model.specs.Covers.{covers_in}
 use Rattle.fw_model.specs.Machine.{Machine, events, first_state, front_of, is_failed}
-use Rattle.fw_model.specs.Steps.{did, offers, quiet, with_event}
+use Rattle.fw_model.specs.Steps.{did, offers, silent, with_event}
 use Rattle.fw_examples.specs.Flows.{pair, one_select_flow, two_sources_flow}
-use Rattle.fw_examples.specs.Inclusions.{DeliveredIsNeeded, DiscardedIsNeeded, Inclusion, IsConsistentWithout, IsFailedAfterNotice, IsNeededForHistories, LeavesAHistory, LeavesOutOne, Meets, NotesAreNeeded, NotifiedIsNeeded, OwnIsNeeded, all, input_kept, nothing_kept, of_delivered, of_discarded, of_notes, of_notified, of_own, one_comes, one_selected, output_kept, sum_kept, sum_undone}
+use Rattle.fw_examples.specs.Inclusions.{DeliveredIsNeeded, DiscardedIsNeeded, Inclusion, IsConsistentWithout, IsFailedAfterNotice, IsNeededForHistories, LeavesAHistory, LeavesOutOne, Meets, NoticesAreNeeded, NotifiedIsNeeded, OwnIsNeeded, all, input_kept, nothing_kept, of_delivered, of_discarded, of_notices, of_notified, of_own, one_comes, one_selected, output_kept, sum_kept, sum_undone}
 use Rattle.fw_examples.specs.Logs.{none}
-use Rattle.fw_examples.proofs.Choosing.{above_by, are_offered, canonical_notes, consistent_by, delivered_by, discarded_by, is_delivered_kept, is_discarded_kept, is_in_cut, is_note_kept, is_notified_kept, notes_by, notified_by, offered_by, offered_within, own_by, sender_within, set_within}
+use Rattle.fw_examples.proofs.Choosing.{above_by, are_offered, canonical_notices, consistent_by, delivered_by, discarded_by, is_delivered_kept, is_discarded_kept, is_in_cut, is_notice_kept, is_notified_kept, notices_by, notified_by, offered_by, offered_within, own_by, sender_within, set_within}
 use Rattle.fw_examples.proofs.Fronts.{by_six, by_three, each_below, is_canonical}
 use Rattle.fw_examples.proofs.Plays.{Move, after_all, deliver, fail, inject, plays}
 use Rattle.fw_examples.proofs.Settling.{from_phi, notifies}
@@ -37,7 +37,7 @@ place of_delivered = 0
 place of_discarded = 1
 place of_notified = 2
 place of_own = 3
-place of_notes = 4
+place of_notices = 4
 
 -- the inclusion at a place
 abbrev at_place : ℕ → Inclusion
@@ -45,14 +45,14 @@ at_place zero = of_delivered
 at_place (suc zero) = of_discarded
 at_place (suc (suc zero)) = of_notified
 at_place (suc (suc (suc zero))) = of_own
-at_place (suc (suc (suc (suc n)))) = of_notes
+at_place (suc (suc (suc (suc n)))) = of_notices
 
 at_its_place : (i : Inclusion) → at_place (place i) ≡ i
 at_its_place of_delivered = refl
 at_its_place of_discarded = refl
 at_its_place of_notified = refl
 at_its_place of_own = refl
-at_its_place of_notes = refl
+at_its_place of_notices = refl
 
 -- two inclusions are one or two
 one_or_two : (i j : Inclusion) → (i ≡ j) ⊎ (i ≢ j)
@@ -69,7 +69,7 @@ each sys state offers choice is of_delivered = is.delivered
 each sys state offers choice is of_discarded = is.discarded
 each sys state offers choice is of_notified = is.notified
 each sys state offers choice is of_own = is.own
-each sys state offers choice is of_notes = is.notes
+each sys state offers choice is of_notices = is.notices
 
 -- and one that meets the others and the one that is left out meets each
 with_one : (left_out : Inclusion) (sys : System) (state : Machine) (offers : ℕ → Cut → Type 0) (choice : Choice)
@@ -82,7 +82,7 @@ leaves_out_one left_out sys state choice = (
   λ is. (
     record {
       one_cut_each = is.one_cut_each;
-      one_note_each = is.one_note_each;
+      one_notice_each = is.one_notice_each;
       offered = is.offered;
       canonical = is.canonical;
       others = λ i n. each sys state (offers sys state) choice is i;
@@ -91,14 +91,14 @@ leaves_out_one left_out sys state choice = (
   ),
   λ both. record {
     one_cut_each = both.0.one_cut_each;
-    one_note_each = both.0.one_note_each;
+    one_notice_each = both.0.one_notice_each;
     offered = both.0.offered;
     canonical = both.0.canonical;
     delivered = with_one left_out sys state (offers sys state) choice both.0 both.1 of_delivered;
     discarded = with_one left_out sys state (offers sys state) choice both.0 both.1 of_discarded;
     notified = with_one left_out sys state (offers sys state) choice both.0 both.1 of_notified;
     own = with_one left_out sys state (offers sys state) choice both.0 both.1 of_own;
-    notes = with_one left_out sys state (offers sys state) choice both.0 both.1 of_notes;
+    notices = with_one left_out sys state (offers sys state) choice both.0 both.1 of_notices;
   },
 )
 
@@ -109,33 +109,33 @@ abbrev pub is_met : System → Machine → Choice → Inclusion → Bool
 is_met sys state choice of_delivered = each_below (is_delivered_kept sys state choice) (length sys.flow.edges)
 is_met sys state choice of_discarded = each_below (is_discarded_kept sys state choice) (length sys.flow.edges)
 is_met sys state choice of_notified = each_below (is_notified_kept sys state choice) (length sys.flow.nodes)
-is_met sys state choice of_own = each_below (λ p. is_in_cut (front_of choice.notes p) (cut_of choice p)) (length sys.flow.nodes)
-is_met sys state choice of_notes = each_below (is_note_kept sys choice) (length sys.flow.edges)
+is_met sys state choice of_own = each_below (λ p. is_in_cut (front_of choice.notices p) (cut_of choice p)) (length sys.flow.nodes)
+is_met sys state choice of_notices = each_below (is_notice_kept sys choice) (length sys.flow.edges)
 
 met_by : (sys : System) (state : Machine) (choice : Choice) → IsWellFormed sys.flow → (i : Inclusion) → is_met sys state choice i ≡ true → Meets sys state choice i
 met_by sys state choice formed of_delivered h = delivered_by sys state choice formed h
 met_by sys state choice formed of_discarded h = discarded_by sys state choice formed h
 met_by sys state choice formed of_notified h = notified_by sys state choice h
 met_by sys state choice formed of_own h = own_by sys choice h
-met_by sys state choice formed of_notes h = notes_by sys state choice formed h
+met_by sys state choice formed of_notices h = notices_by sys state choice formed h
 
 -- the five
 abbrev pub inclusions : List Inclusion
-inclusions = of_delivered ∷ of_discarded ∷ of_notified ∷ of_own ∷ of_notes ∷ []
+inclusions = of_delivered ∷ of_discarded ∷ of_notified ∷ of_own ∷ of_notices ∷ []
 
 -- whether the choice meets each but perhaps this one
 abbrev pub is_met_but : Inclusion → System → Machine → Choice → Bool
 is_met_but left_out sys state choice = list_all (λ i. (place i == place left_out) || is_met sys state choice i) inclusions
 
 pub without_by : (left_out : Inclusion) (sys : System) (state : Machine) (choice : Choice) → IsWellFormed sys.flow
-    → length choice.cuts ≡ length sys.flow.nodes → length choice.notes ≡ length sys.flow.nodes → are_offered sys state (is_failed state) kept choice ≡ true
-    → each_below (λ p. is_canonical (bounds_of sys.flow p) (front_of choice.notes p)) (length sys.flow.nodes) ≡ true
+    → length choice.cuts ≡ length sys.flow.nodes → length choice.notices ≡ length sys.flow.nodes → are_offered sys state (is_failed state) kept choice ≡ true
+    → each_below (λ p. is_canonical (bounds_of sys.flow p) (front_of choice.notices p)) (length sys.flow.nodes) ≡ true
     → is_met_but left_out sys state choice ≡ true → IsConsistentWithout left_out sys state (offers sys state) choice
-without_by left_out sys state choice formed one_cut one_note o c h = record {
+without_by left_out sys state choice formed one_cut one_notice o c h = record {
   one_cut_each = one_cut;
-  one_note_each = one_note;
+  one_notice_each = one_notice;
   offered = offered_by sys state (is_failed state) kept choice o;
-  canonical = canonical_notes sys choice c;
+  canonical = canonical_notices sys choice c;
   others = λ i n. met_by sys state choice formed i (at i n);
 }
   where
@@ -154,7 +154,7 @@ without_by left_out sys state choice formed one_cut one_note o c h = record {
     at of_discarded n = by_one of_discarded n met.1.0
     at of_notified n = by_one of_notified n met.1.1.0
     at of_own n = by_one of_own n met.1.1.1.0
-    at of_notes n = by_one of_notes n met.1.1.1.1.0
+    at of_notices n = by_one of_notices n met.1.1.1.1.0
 
 -- ---- the inclusions of what was delivered and of what is discarded, at one select
 
@@ -235,14 +235,14 @@ unfolding kind_of receiver sender sends batches_of bounds_of policy_of
 output_kept_above other is =
     let at_select = offered_within one_selected failed_early (is_failed failed_early) kept 1 none refl refl (cut_of other 1) (is.offered 1 (lit< tt)) in
     let at_input = sender_within one_selected failed_early _ other is 0 (lit< tt) none (0 ∷ []) (0 ∷ []) at_select refl refl (λ sent f. refl) refl refl refl in
-    let noted : Within (note_of one_selected.flow other 1) (frontier_of (bounds_of one_select_flow 1) none) =
+    let noted : Within (notice_of one_selected.flow other 1) (frontier_of (bounds_of one_select_flow 1) none) =
     λ t i. set_within one_selected 1 (cut_of other 1) none at_select t (is.own 1 (lit< tt) t i) in
     record {
       cuts = by_three _ at_input at_select tt;
-      notes = by_three _
+      notices = by_three _
           (λ t i. set_within one_selected 0 (cut_of other 0) none at_input t (is.own 0 (lit< tt) t i))
           noted
-          (λ t i. noted t (from_phi one_selected (events failed_early.history) 1 _ refl t (is.notes 1 (lit< tt) t i)));
+          (λ t i. noted t (from_phi one_selected (events failed_early.history) 1 _ refl t (is.notices 1 (lit< tt) t i)));
     }
 
 input_kept_without : IsConsistentWithout of_discarded one_selected failed_early (offers one_selected failed_early) input_kept
@@ -286,7 +286,7 @@ select_failed = after_all one_comes sum_notified (fail 2 [] ∷ [])
 failed_after_notice : IsFailedAfterNotice select_failed
 unfolding kind_of receiver sender sends batches_of bounds_of policy_of phi
 failed_after_notice =
-    plays one_comes coming (first_state one_comes) (step.Notify 4 (Some (0 ∷ [])) ∷ step.Fail (2 ∷ []) ∷ []) (did quiet ∷ did quiet ∷ []) select_failed refl (
+    plays one_comes coming (first_state one_comes) (step.Notify 4 (Some (0 ∷ [])) ∷ step.Fail (2 ∷ []) ∷ []) (did silent ∷ did silent ∷ []) select_failed refl (
       sum_notified,
       notifies one_comes both_came 4 (0 ∷ []) (all ∷ all ∷ all ∷ all ∷ none ∷ none ∷ []) two_sources_is_well_formed (lit< tt) refl refl refl,
       plays one_comes (fail 2 [] ∷ []) sum_notified [] [] select_failed refl refl,
@@ -312,18 +312,18 @@ undone_above other is =
     let at_select = offered_within one_comes select_failed (is_failed select_failed) kept 2 none refl refl (cut_of other 2) (is.offered 2 (lit< tt)) in
     let at_second = sender_within one_comes select_failed _ other is 1 (lit< tt) none (0 ∷ []) (0 ∷ []) at_select refl refl (λ sent f. refl) refl refl refl in
     let epochs : Bounds = bounds_of two_sources_flow 2 in
-    let note_select : Within (note_of one_comes.flow other 2) (frontier_of epochs none) = λ t i. set_within one_comes 2 (cut_of other 2) none at_select t (is.own 2 (lit< tt) t i) in
-    let note_mix : Within (note_of one_comes.flow other 3) (frontier_of epochs none) = λ t i. note_select t (from_phi one_comes (events select_failed.history) 2 _ refl t (is.notes 2 (lit< tt) t i)) in
-    let note_sum : Within (note_of one_comes.flow other 4) (frontier_of epochs none) = λ t i. note_mix t (from_phi one_comes (events select_failed.history) 3 _ refl t (is.notes 3 (lit< tt) t i)) in
+    let notice_select : Within (notice_of one_comes.flow other 2) (frontier_of epochs none) = λ t i. set_within one_comes 2 (cut_of other 2) none at_select t (is.own 2 (lit< tt) t i) in
+    let notice_mix : Within (notice_of one_comes.flow other 3) (frontier_of epochs none) = λ t i. notice_select t (from_phi one_comes (events select_failed.history) 2 _ refl t (is.notices 2 (lit< tt) t i)) in
+    let notice_sum : Within (notice_of one_comes.flow other 4) (frontier_of epochs none) = λ t i. notice_mix t (from_phi one_comes (events select_failed.history) 3 _ refl t (is.notices 3 (lit< tt) t i)) in
     record {
-      cuts = by_six _ tt at_second at_select tt (at_sum (cut_of other 4) (is.offered 4 (lit< tt)) (λ t i. note_sum t (is.notified 4 (lit< tt) t i))) tt;
-      notes = by_six _
+      cuts = by_six _ tt at_second at_select tt (at_sum (cut_of other 4) (is.offered 4 (lit< tt)) (λ t i. notice_sum t (is.notified 4 (lit< tt) t i))) tt;
+      notices = by_six _
           (λ t i. (and_from _ _ (and_parts _ _ i).0 refl))
           (λ t i. set_within one_comes 1 (cut_of other 1) none at_second t (is.own 1 (lit< tt) t i))
-          note_select
-          note_mix
-          note_sum
-          (λ t i. note_sum t (from_phi one_comes (events select_failed.history) 4 _ refl t (is.notes 4 (lit< tt) t i)));
+          notice_select
+          notice_mix
+          notice_sum
+          (λ t i. notice_sum t (from_phi one_comes (events select_failed.history) 4 _ refl t (is.notices 4 (lit< tt) t i)));
     }
 
 -- ---- the sum stays as it is, whatever counts as notified
@@ -333,34 +333,34 @@ unfolding kind_of receiver sender sends batches_of bounds_of
 undone_left = (record { is_pending = refl; numbered = λ n. absurd (false≢true n) }, (record { input = refl; next = refl; there = lit< tt }, tt))
 
 -- the sum would have been notified of an epoch that is not complete: the second input is still to send it
-notified_too_early : (notes : List Front) → LeavesAHistory one_comes select_failed (sum_kept notes) → ⊥
+notified_too_early : (notices : List Front) → LeavesAHistory one_comes select_failed (sum_kept notices) → ⊥
 unfolding kind_of receiver sender sends batches_of bounds_of phi
-notified_too_early notes is =
+notified_too_early notices is =
     let done = is.0.complete.0 in
     let admissible = is.0.complete.1 in
     let at_low : done 2 (0 ∷ []) ≡ true = admissible.follows 2 (0 ∷ []) (is.0.complete.2 3 refl) in
     let at_second_source : done 1 (0 ∷ []) ≡ true = admissible.follows 1 (0 ∷ []) at_low in
     false≢true (admissible.source 1 refl (0 ∷ []) at_second_source)
 
-needed : (left_out : Inclusion) (notes : List Front) → IsConsistentWithout left_out one_comes select_failed (offers one_comes select_failed) (sum_kept notes)
-    → IsNeededForHistories left_out one_comes select_failed sum_undone (sum_kept notes)
-needed left_out notes without =
-    ((record { consistent = undone_consistent; largest = undone_above }, without, λ w. w.cuts 4 (lit< tt)), undone_left, notified_too_early notes)
+needed : (left_out : Inclusion) (notices : List Front) → IsConsistentWithout left_out one_comes select_failed (offers one_comes select_failed) (sum_kept notices)
+    → IsNeededForHistories left_out one_comes select_failed sum_undone (sum_kept notices)
+needed left_out notices without =
+    ((record { consistent = undone_consistent; largest = undone_above }, without, λ w. w.cuts 4 (lit< tt)), undone_left, notified_too_early notices)
 
 pub notified_is_needed : NotifiedIsNeeded
 unfolding kind_of receiver sender sends batches_of bounds_of policy_of phi psi
 notified_is_needed =
-    let notes = all ∷ none ∷ none ∷ none ∷ none ∷ none ∷ [] in
-    (select_failed, failed_after_notice, needed of_notified notes (without_by of_notified one_comes select_failed (sum_kept notes) two_sources_is_well_formed refl refl refl refl refl))
+    let notices = all ∷ none ∷ none ∷ none ∷ none ∷ none ∷ [] in
+    (select_failed, failed_after_notice, needed of_notified notices (without_by of_notified one_comes select_failed (sum_kept notices) two_sources_is_well_formed refl refl refl refl refl))
 
 pub own_is_needed : OwnIsNeeded
 unfolding kind_of receiver sender sends batches_of bounds_of policy_of phi psi
 own_is_needed =
-    let notes = all ∷ all ∷ all ∷ all ∷ all ∷ all ∷ [] in
-    (select_failed, failed_after_notice, needed of_own notes (without_by of_own one_comes select_failed (sum_kept notes) two_sources_is_well_formed refl refl refl refl refl))
+    let notices = all ∷ all ∷ all ∷ all ∷ all ∷ all ∷ [] in
+    (select_failed, failed_after_notice, needed of_own notices (without_by of_own one_comes select_failed (sum_kept notices) two_sources_is_well_formed refl refl refl refl refl))
 
-pub notes_are_needed : NotesAreNeeded
+pub notices_are_needed : NoticesAreNeeded
 unfolding kind_of receiver sender sends batches_of bounds_of policy_of phi psi
-notes_are_needed =
-    let notes = all ∷ none ∷ none ∷ none ∷ all ∷ none ∷ [] in
-    (select_failed, failed_after_notice, needed of_notes notes (without_by of_notes one_comes select_failed (sum_kept notes) two_sources_is_well_formed refl refl refl refl refl))
+notices_are_needed =
+    let notices = all ∷ none ∷ none ∷ none ∷ all ∷ none ∷ [] in
+    (select_failed, failed_after_notice, needed of_notices notices (without_by of_notices one_comes select_failed (sum_kept notices) two_sources_is_well_formed refl refl refl refl refl))

@@ -4,7 +4,7 @@ use Rattle.std.proofs.lemmas.Bool.{false≢true}
 use Rattle.fw_frontier.specs.Front.{Front, frontier_of}
 use Rattle.fw_frontier.specs.Frontier.{Within}
 use Rattle.fw_frontier.proofs.NamesLaws.{frontier-closed}
-use Rattle.fw_flow.specs.Dataflow.{batches_of, bounds_of, kind_of, out_edges, places, policy_of, receiver, sender}
+use Rattle.fw_flow.specs.Dataflow.{batches_of, bounds_of, kind_of, out_edges, node_ids, policy_of, receiver, sender}
 use Rattle.fw_flow.specs.NodeFunction.{sends}
 use Rattle.fw_flow.specs.Projection.{phi, psi}
 use Rattle.fw_flow.specs.WellFormed.{IsWellFormed}
@@ -13,9 +13,9 @@ use Rattle.fw_flow.specs.declared.choice.Cut.{Cut}
 use Rattle.fw_flow.specs.declared.choice.Cut.TheVariants.{At, Present}
 use Rattle.fw_flow.specs.declared.event.Event.TheVariants.{Notify as Notified}
 use Rattle.fw_flow.specs.declared.event.Message.{Message}
-use Rattle.fw_model.specs.Choice.{IsChoiceWithin, IsConsistent, IsCutWithin, IsLogged, IsWatermark, cut_of, kept, note_of, until}
+use Rattle.fw_model.specs.Choice.{IsChoiceWithin, IsConsistent, IsCutWithin, IsLogged, IsWatermark, cut_of, kept, notice_of, until}
 use Rattle.fw_model.specs.Machine.{Machine, events, first_state, is_failed}
-use Rattle.fw_model.specs.Steps.{collected_writes, cuts, did, eager_writes, offers, quiet, with_event}
+use Rattle.fw_model.specs.Steps.{collected_writes, cuts, did, eager_writes, offers, silent, with_event}
 use Rattle.fw_examples.specs.Flows.{pair}
 use Rattle.fw_examples.specs.Logs.{CollectsALoggedEvent, KeepsALogWithACheckpoint, KeepsEventsOfATotal, LosesAnEpoch, all_but_the_last, both_come_back, checkpoints_logged, each_written, event_collected, events_logged, first_epoch_everywhere, first_message, log_kept, low_but_for_the_last, none, none_collected, nothing_left, nothing_restored, outcomes_with_checkpoints, outcomes_with_events, outcomes_with_total, second_message, steps_with_checkpoints, steps_with_events, steps_with_total, total_logged}
 use Rattle.fw_examples.specs.RunningTotal.{alike}
@@ -67,21 +67,21 @@ unfolding kind_of receiver sender sends batches_of bounds_of policy_of
 nothing_above other is =
     let selected = at_select (cut_of other 1) (is.offered 1 (lit< tt)) in
     let at_input = sender_within each_written select_failed _ other is 0 (lit< tt) none (0 ∷ []) (0 ∷ []) selected refl refl (λ sent f. refl) refl refl refl in
-    let noted : Within (note_of each_written.flow other 1) (frontier_of (bounds_of each_written.flow 1) none) =
+    let noted : Within (notice_of each_written.flow other 1) (frontier_of (bounds_of each_written.flow 1) none) =
     λ t i. set_within each_written 1 (cut_of other 1) none selected t (is.own 1 (lit< tt) t i) in
     record {
       cuts = by_three _ at_input selected tt;
-      notes = by_three _
+      notices = by_three _
           (λ t i. set_within each_written 0 (cut_of other 0) none at_input t (is.own 0 (lit< tt) t i))
           noted
-          (λ t i. noted t (from_phi each_written (events select_failed.history) 1 _ refl t (is.notes 1 (lit< tt) t i)));
+          (λ t i. noted t (from_phi each_written (events select_failed.history) 1 _ refl t (is.notices 1 (lit< tt) t i)));
     }
 
 pub loses_an_epoch : LosesAnEpoch
 unfolding kind_of receiver sender sends batches_of bounds_of policy_of phi psi
 loses_an_epoch =
     plays each_written coming (first_state each_written) (step.Progress ∷ step.Persist ∷ step.Fail (1 ∷ []) ∷ step.Recover ∷ [])
-    (did quiet ∷ did quiet ∷ did quiet ∷ did (cuts nothing_restored) ∷ []) nothing_left refl (
+    (did silent ∷ did silent ∷ did silent ∷ did (cuts nothing_restored) ∷ []) nothing_left refl (
       select_settled,
       settles each_written both_taken ([] ∷ [] ∷ none ∷ []) written_formed refl refl refl 0 (0 ∷ []) (lit< tt) refl refl,
       plays each_written (persist ∷ fail 1 [] ∷ []) select_settled (step.Recover ∷ []) (did (cuts nothing_restored) ∷ []) nothing_left refl (
@@ -164,7 +164,7 @@ first_put_out = after_all checkpoints_logged (first_state checkpoints_logged) fi
 
 -- and is settled, with a checkpoint of it; what is asked is kept with the low watermark
 abbrev settled_to : Machine → List Front → Machine
-settled_to state fronts = record state { settled = fronts; writes = state.writes ++ eager_writes checkpoints_logged state fronts (places checkpoints_logged.flow) }
+settled_to state fronts = record state { settled = fronts; writes = state.writes ++ eager_writes checkpoints_logged state fronts (node_ids checkpoints_logged.flow) }
 
 abbrev first_settled : Machine
 first_settled = settled_to first_put_out (alike 1)

@@ -11,19 +11,19 @@ use Rattle.fw_flow.specs.Dataflow.{batches_of, bounds_of, in_edges, kind_of, max
 use Rattle.fw_flow.specs.NodeFunction.{sends}
 use Rattle.fw_flow.specs.Projection.{phi, psi}
 use Rattle.fw_flow.specs.WellFormed.{IsWellFormedSystem}
-use Rattle.fw_flow.specs.WholeBags.{Timed, recs_where, timed}
+use Rattle.fw_flow.specs.WholeBags.{Timed, recs_where, timed_recs}
 use Rattle.fw_flow.specs.declared.choice.Choice.{Choice}
 use Rattle.fw_flow.specs.declared.choice.Cut.{Cut}
 use Rattle.fw_flow.specs.declared.choice.Cut.TheVariants.{At}
 use Rattle.fw_flow.specs.declared.step.Step.{Step}
 use Rattle.fw_flow.specs.declared.step.Step.TheVariants.{Recover}
 use Rattle.fw_flow.proofs.MessageLaws.{less-none}
-use Rattle.fw_model.specs.Choice.{IsConsistent, IsCutWithin, IsLargest, cut_of, kept, kept_of, note_of}
+use Rattle.fw_model.specs.Choice.{IsConsistent, IsCutWithin, IsLargest, cut_of, kept, kept_of, notice_of}
 use Rattle.fw_model.specs.Covers.{covers_in}
 use Rattle.fw_model.specs.Denotation.{IsDenotation, bag_at, rounds}
-use Rattle.fw_model.specs.History.{IsAdmissible, IsComplete, IsLegal, delivered, pending, some_at}
+use Rattle.fw_model.specs.History.{IsAdmissible, IsComplete, IsLegal, delivered_messages, pending_messages, some_at}
 use Rattle.fw_model.specs.Machine.{Machine, events, first_state, is_failed}
-use Rattle.fw_model.specs.Steps.{Outcome, Run, Steps, cuts, did, offers, quiet, recovered}
+use Rattle.fw_model.specs.Steps.{Outcome, Run, StepsTo, cuts, did, offers, silent, recovered_state}
 use Rattle.fw_model.proofs.Decisions.{two_ways}
 use Rattle.fw_model.proofs.DomainLaws.{has_epochs}
 use Rattle.fw_model.proofs.GoingOn.{runs-go_on}
@@ -32,7 +32,7 @@ use Rattle.fw_model.proofs.RecoveryLaws.{runs-legal}
 use Rattle.fw_examples.specs.Flows.{loop_counts_up, pair, two_batches}
 use Rattle.fw_examples.specs.Loop.{IsRestored, IsUnderWay, TwoBatchesCountUp, complete_at, complete_fronts, counted_rounds, counting_failed, message, outcomes_left, outcomes_shown, restored, round, steps_left, steps_taken, still_pending, under_way, with_serials, without_the_second}
 use Rattle.fw_examples.specs.Witnesses.{LoopIsReached}
-use Rattle.fw_examples.proofs.Choosing.{canonical_notes, notified_by, offered_by, offered_within, own_by, recovers_to, set_within}
+use Rattle.fw_examples.proofs.Choosing.{canonical_notices, notified_by, offered_by, offered_within, own_by, recovers_to, set_within}
 use Rattle.fw_examples.proofs.Fronts.{all_seven, and_more, both_more, by_seven, not_above, within_one, within_two}
 use Rattle.fw_examples.proofs.Plays.{Move, acknowledge, after_all, deliver, fail, inject, plays}
 use Rattle.fw_examples.proofs.Settling.{admissible_with, settles, settles_complete}
@@ -49,7 +49,7 @@ second_values = pair 2 1 ∷ pair 2 2 ∷ pair 2 3 ∷ pair 2 4 ∷ pair 3 1 ∷
 
 -- at no other stamp there is one of the recs of one stamp and of others
 recs_where-none : (t at : Stamp) (rs : List Rec) (later : List Timed) → same t at ≡ false
-    → recs_where (same t) later ≡ [] → recs_where (same t) (timed at rs ++ later) ≡ []
+    → recs_where (same t) later ≡ [] → recs_where (same t) (timed_recs at rs ++ later) ≡ []
 recs_where-none t at [] later h e = e
 recs_where-none t at (r ∷ rs) later h e = rw h (recs_where-none t at rs later h e)
 
@@ -57,7 +57,7 @@ pub two_batches_solves : IsDenotation two_batches (rounds two_batches 14)
 unfolding kind_of sender in_edges batches_of max_of
 two_batches_solves = all_seven _ refl refl refl refl refl refl refl (λ e. refl)
 
-two_batches_at_output : rounds two_batches 14 6 ≡ timed (0 ∷ []) first_values ++ (timed (1 ∷ []) second_values ++ [])
+two_batches_at_output : rounds two_batches 14 6 ≡ timed_recs (0 ∷ []) first_values ++ (timed_recs (1 ∷ []) second_values ++ [])
 unfolding kind_of sender in_edges batches_of max_of first_values second_values
 two_batches_at_output = refl
 
@@ -73,7 +73,7 @@ two_batches_second = ap (recs_where (same (1 ∷ []))) two_batches_at_output
 pub two_batches_no_more : (t : Stamp) → same t (0 ∷ []) ≡ false → same t (1 ∷ []) ≡ false → bag_at (rounds two_batches 14) 6 t ≡ []
 two_batches_no_more t h k =
     ap (recs_where (same t)) two_batches_at_output
-    ∙ recs_where-none t (0 ∷ []) first_values (timed (1 ∷ []) second_values ++ []) h (recs_where-none t (1 ∷ []) second_values [] k refl)
+    ∙ recs_where-none t (0 ∷ []) first_values (timed_recs (1 ∷ []) second_values ++ []) h (recs_where-none t (1 ∷ []) second_values [] k refl)
 
 pub two_batches_count_up : TwoBatchesCountUp
 two_batches_count_up = record { solves = two_batches_solves; first = two_batches_first; second = two_batches_second; no_more = two_batches_no_more }
@@ -93,7 +93,7 @@ follows = by_seven _
 
 -- nothing pending is inside an admissible family
 kept_out : (other : ℕ → Frontier) → IsAdmissible two_batches under_way other → (e : ℕ) (o : Stamp)
-    → some_at (same o) (pending two_batches under_way e) ≡ true → other (receiver loop_counts_up e) o ≡ true → ⊥
+    → some_at (same o) (pending_messages two_batches under_way e) ≡ true → other (receiver loop_counts_up e) o ≡ true → ⊥
 kept_out other adm e o h k = two_ways _ h (adm.quiet (receiver loop_counts_up e) o k e refl)
 
 most_before : (other : ℕ → Frontier) → IsAdmissible two_batches under_way other → (p : ℕ)
@@ -197,10 +197,10 @@ discarded_kept = by_seven _
     (λ t k. (and_parts _ _ k).0)
     (λ t k. (and_parts _ _ k).0)
 
-notes_kept : (d : ℕ) → d < 7
-    → Within (note_of two_batches.flow restored (receiver loop_counts_up d)) (phi two_batches (events (with_serials under_way)) d (note_of two_batches.flow restored (sender loop_counts_up d)))
+notices_kept : (d : ℕ) → d < 7
+    → Within (notice_of two_batches.flow restored (receiver loop_counts_up d)) (phi two_batches (events (with_serials under_way)) d (notice_of two_batches.flow restored (sender loop_counts_up d)))
 unfolding phi kind_of policy_of sender receiver bounds_of max_of
-notes_kept = by_seven _
+notices_kept = by_seven _
     (within_one 4294967295 _ _ (λ x hx k. grind (arith, nat_tests)))
     (within_two 4294967295 3 _ _ (λ x y hx hy k. grind (arith, nat_tests)))
     (within_two 4294967295 3 _ _ (λ x y hx hy k. grind (arith, nat_tests)))
@@ -213,14 +213,14 @@ consistent : IsConsistent two_batches counting_failed (offers two_batches counti
 unfolding kind_of policy_of sender receiver bounds_of max_of
 consistent = record {
   one_cut_each = refl;
-  one_note_each = refl;
+  one_notice_each = refl;
   offered = offered_by two_batches counting_failed (is_failed counting_failed) kept restored refl;
-  canonical = canonical_notes two_batches restored refl;
+  canonical = canonical_notices two_batches restored refl;
   delivered = delivered_kept;
   discarded = discarded_kept;
   notified = notified_by two_batches counting_failed restored refl;
   own = own_by two_batches restored refl;
-  notes = notes_kept;
+  notices = notices_kept;
 }
 
 -- a cut that is offered at the failed node lies within what is settled of it
@@ -232,56 +232,56 @@ cuts_within : (other : Choice) → IsConsistent two_batches counting_failed (off
     → (p : ℕ) → p < 7 → IsCutWithin two_batches.flow p (cut_of other p) (cut_of restored p)
 cuts_within other ok = by_seven _ tt tt tt (cut_within (cut_of other 3) (ok.offered 3 (lit< tt))) tt tt tt
 
--- the notes of a consistent choice at the failed node lie within what it keeps, and others within what that projects to
-counting_note : (other : Choice) → IsConsistent two_batches counting_failed (offers two_batches counting_failed) other
-    → Within (note_of two_batches.flow other 3) (note_of two_batches.flow restored 3)
-counting_note other ok t h = set_within two_batches 3 (cut_of other 3) counted_rounds (cut_within (cut_of other 3) (ok.offered 3 (lit< tt))) t (ok.own 3 (lit< tt) t h)
+-- the notices of a consistent choice at the failed node lie within what it keeps, and others within what that projects to
+counting_notice : (other : Choice) → IsConsistent two_batches counting_failed (offers two_batches counting_failed) other
+    → Within (notice_of two_batches.flow other 3) (notice_of two_batches.flow restored 3)
+counting_notice other ok t h = set_within two_batches 3 (cut_of other 3) counted_rounds (cut_within (cut_of other 3) (ok.offered 3 (lit< tt))) t (ok.own 3 (lit< tt) t h)
 
-feedback_note : (other : Choice) → IsConsistent two_batches counting_failed (offers two_batches counting_failed) other
-    → Within (note_of two_batches.flow other 4) (note_of two_batches.flow restored 4)
+feedback_notice : (other : Choice) → IsConsistent two_batches counting_failed (offers two_batches counting_failed) other
+    → Within (notice_of two_batches.flow other 4) (notice_of two_batches.flow restored 4)
 unfolding phi kind_of policy_of sender receiver bounds_of max_of
-feedback_note other ok t h = counting_note other ok t (and_parts (in_domain (bounds_of loop_counts_up 4) t) (note_of two_batches.flow other 3 t) (ok.notes 3 (lit< tt) t h)).1
+feedback_notice other ok t h = counting_notice other ok t (and_parts (in_domain (bounds_of loop_counts_up 4) t) (notice_of two_batches.flow other 3 t) (ok.notices 3 (lit< tt) t h)).1
 
-leaving_note : (other : Choice) → IsConsistent two_batches counting_failed (offers two_batches counting_failed) other
-    → Within (note_of two_batches.flow other 5) (note_of two_batches.flow restored 5)
+leaving_notice : (other : Choice) → IsConsistent two_batches counting_failed (offers two_batches counting_failed) other
+    → Within (notice_of two_batches.flow other 5) (notice_of two_batches.flow restored 5)
 unfolding phi kind_of policy_of sender receiver bounds_of max_of
-leaving_note other ok t h = counting_note other ok t (and_parts (in_domain (bounds_of loop_counts_up 5) t) (note_of two_batches.flow other 3 t) (ok.notes 5 (lit< tt) t h)).1
+leaving_notice other ok t h = counting_notice other ok t (and_parts (in_domain (bounds_of loop_counts_up 5) t) (notice_of two_batches.flow other 3 t) (ok.notices 5 (lit< tt) t h)).1
 
-fed_back_within : Within (phi two_batches under_way 4 (note_of two_batches.flow restored 4)) (note_of two_batches.flow restored 2)
+fed_back_within : Within (phi two_batches under_way 4 (notice_of two_batches.flow restored 4)) (notice_of two_batches.flow restored 2)
 unfolding phi kind_of policy_of sender receiver bounds_of max_of
 fed_back_within = within_two 4294967295 3 _ _ (λ x y hx hy k. grind (arith, nat_tests))
 
-left_within : Within (phi two_batches under_way 6 (note_of two_batches.flow restored 5)) (note_of two_batches.flow restored 6)
+left_within : Within (phi two_batches under_way 6 (notice_of two_batches.flow restored 5)) (notice_of two_batches.flow restored 6)
 unfolding phi kind_of policy_of sender receiver bounds_of max_of
 left_within = within_one 4294967295 _ _ (λ x hx k. grind (arith, nat_tests))
 
-mixing_note : (other : Choice) → IsConsistent two_batches counting_failed (offers two_batches counting_failed) other
-    → Within (note_of two_batches.flow other 2) (note_of two_batches.flow restored 2)
+mixing_notice : (other : Choice) → IsConsistent two_batches counting_failed (offers two_batches counting_failed) other
+    → Within (notice_of two_batches.flow other 2) (notice_of two_batches.flow restored 2)
 unfolding kind_of policy_of sender receiver bounds_of max_of
-mixing_note other ok t h =
-    fed_back_within t (feeds_more (note_of two_batches.flow other 4) (note_of two_batches.flow restored 4) (feedback_note other ok) t (ok.notes 4 (lit< tt) t h))
+mixing_notice other ok t h =
+    fed_back_within t (feeds_more (notice_of two_batches.flow other 4) (notice_of two_batches.flow restored 4) (feedback_notice other ok) t (ok.notices 4 (lit< tt) t h))
 
-output_note : (other : Choice) → IsConsistent two_batches counting_failed (offers two_batches counting_failed) other
-    → Within (note_of two_batches.flow other 6) (note_of two_batches.flow restored 6)
+output_notice : (other : Choice) → IsConsistent two_batches counting_failed (offers two_batches counting_failed) other
+    → Within (notice_of two_batches.flow other 6) (notice_of two_batches.flow restored 6)
 unfolding kind_of policy_of sender receiver bounds_of max_of
-output_note other ok t h =
-    left_within t (leaves_more (note_of two_batches.flow other 5) (note_of two_batches.flow restored 5) (leaving_note other ok) t (ok.notes 6 (lit< tt) t h))
+output_notice other ok t h =
+    left_within t (leaves_more (notice_of two_batches.flow other 5) (notice_of two_batches.flow restored 5) (leaving_notice other ok) t (ok.notices 6 (lit< tt) t h))
 
-notes_within : (other : Choice) → IsConsistent two_batches counting_failed (offers two_batches counting_failed) other
-    → (p : ℕ) → p < 7 → Within (note_of two_batches.flow other p) (note_of two_batches.flow restored p)
-notes_within other ok = by_seven _
+notices_within : (other : Choice) → IsConsistent two_batches counting_failed (offers two_batches counting_failed) other
+    → (p : ℕ) → p < 7 → Within (notice_of two_batches.flow other p) (notice_of two_batches.flow restored p)
+notices_within other ok = by_seven _
     (λ t k. and_from _ _ (and_parts (in_domain (bounds_of loop_counts_up 0) t) _ k).0 refl)
     (λ t k. and_from _ _ (and_parts (in_domain (bounds_of loop_counts_up 1) t) _ k).0 refl)
-    (mixing_note other ok)
-    (counting_note other ok)
-    (feedback_note other ok)
-    (leaving_note other ok)
-    (output_note other ok)
+    (mixing_notice other ok)
+    (counting_notice other ok)
+    (feedback_notice other ok)
+    (leaving_notice other ok)
+    (output_notice other ok)
 
 pub restored_is_largest : IsLargest two_batches counting_failed (offers two_batches counting_failed) restored
-restored_is_largest = record { consistent = consistent; largest = λ other ok. record { cuts = cuts_within other ok; notes = notes_within other ok } }
+restored_is_largest = record { consistent = consistent; largest = λ other ok. record { cuts = cuts_within other ok; notices = notices_within other ok } }
 
-pub recovers_loop : Steps two_batches counting_failed Recover (recovered two_batches counting_failed restored complete_fronts) (did (cuts restored))
+pub recovers_loop : StepsTo two_batches counting_failed Recover (recovered_state two_batches counting_failed restored complete_fronts) (did (cuts restored))
 unfolding kind_of bounds_of max_of
 recovers_loop =
     recovers_to two_batches counting_failed restored complete_fronts 3 (lit< tt) refl restored_is_largest refl (by_seven _ refl refl refl refl refl refl refl) refl
@@ -322,7 +322,7 @@ abbrev pub loop_steps : List Step
 loop_steps = take 18 steps_taken
 
 abbrev pub loop_outcomes : List Outcome
-loop_outcomes = replicate 18 (did quiet)
+loop_outcomes = replicate 18 (did silent)
 
 pub runs_to_failure : Run two_batches (first_state two_batches) loop_steps loop_outcomes counting_failed
 unfolding kind_of policy_of sender receiver bounds_of batches_of max_of sends
@@ -336,7 +336,7 @@ runs_to_failure =
 -- ---- after the recovery
 
 abbrev come_back : Machine
-come_back = recovered two_batches counting_failed restored complete_fronts
+come_back = recovered_state two_batches counting_failed restored complete_fronts
 
 -- a rec with this value goes round to the next counter and is counted up
 abbrev goes_round : ℕ → ℕ → ℕ → ℕ → List Move
@@ -417,9 +417,9 @@ loop_is_reached = record {
 pub under_way_is_legal : IsLegal two_batches under_way
 under_way_is_legal = runs-legal two_batches loop_steps loop_outcomes counting_failed is_well_formed (has_epochs two_batches loop_system) runs_to_failure
 
-pub under_way_leaves : (e : ℕ) → pending two_batches under_way e ≡ get_or still_pending e []
+pub under_way_leaves : (e : ℕ) → pending_messages two_batches under_way e ≡ get_or still_pending e []
 unfolding kind_of sender receiver bounds_of batches_of max_of sends
-under_way_leaves = all_seven _ refl refl refl refl refl refl refl (λ e. less-none (delivered under_way (suc (suc (suc (suc (suc (suc (suc e)))))))))
+under_way_leaves = all_seven _ refl refl refl refl refl refl refl (λ e. less-none (delivered_messages under_way (suc (suc (suc (suc (suc (suc (suc e)))))))))
 
 pub loop_under_way : IsUnderWay
 loop_under_way = record { legal = under_way_is_legal; waiting = under_way_leaves }
@@ -428,6 +428,6 @@ pub loop_is_restored : IsRestored
 unfolding kind_of sender receiver bounds_of batches_of max_of sends
 loop_is_restored = record {
   remains = refl;
-  legal = runs-legal two_batches steps_taken outcomes_shown (recovered two_batches counting_failed restored complete_fronts) is_well_formed (has_epochs two_batches loop_system) runs_to_recovery;
-  waiting = all_seven _ refl refl refl refl refl refl refl (λ e. less-none (delivered without_the_second (suc (suc (suc (suc (suc (suc (suc e)))))))));
+  legal = runs-legal two_batches steps_taken outcomes_shown (recovered_state two_batches counting_failed restored complete_fronts) is_well_formed (has_epochs two_batches loop_system) runs_to_recovery;
+  waiting = all_seven _ refl refl refl refl refl refl refl (λ e. less-none (delivered_messages without_the_second (suc (suc (suc (suc (suc (suc (suc e)))))))));
 }

@@ -16,9 +16,9 @@ use Rattle.fw_flow.specs.declared.kind.Kind.{Kind}
 use Rattle.fw_flow.specs.declared.kind.Kind.TheVariants.{OutputEpoch}
 use Rattle.fw_flow.specs.declared.step.Step.{Step}
 use Rattle.fw_flow.proofs.MessageLaws.{message_cmp-equal}
-use Rattle.fw_model.specs.History.{delivered, injected_count, pending}
-use Rattle.fw_model.specs.Machine.{Machine, Write, acknowledged, bound_of, events, front_of, is_failed, no_stamps}
-use Rattle.fw_model.specs.Steps.{AcknowledgesOldest, Effect, HasEpoch, HasSomethingAt, IsAsked, LeadsTo, Outcome, Run, acked, checkpoint_of, did, is_asked, is_asked_for_checkpoints, is_in_flight, newest_checkpoint, quiet, recs_at_output, with_event, with_failed, without_lost}
+use Rattle.fw_model.specs.History.{delivered_messages, injected_count, pending_messages}
+use Rattle.fw_model.specs.Machine.{Machine, Write, acknowledged, ack_count_of, events, front_of, is_failed, no_stamps}
+use Rattle.fw_model.specs.Steps.{AcknowledgesOldest, Effect, HasEpoch, HasSomethingAt, IsAsked, LeadsTo, Outcome, Run, acked, checkpoint_of, did, is_asked, is_asked_for_checkpoints, is_in_flight, newest_checkpoint, silent, recs_at_output, with_event, with_failed, without_lost}
 use Rattle.fw_model.proofs.CmpLaws.{stamp_total}
 use Rattle.fw_model.proofs.Decisions.{two_ways}
 use Rattle.fw_model.proofs.EnabledLaws.{asked-from, asked-is}
@@ -50,25 +50,25 @@ first-least at m (x ∷ xs) h other k a =
 -- the writes with the oldest in flight acknowledged
 abbrev pub with_oldest : List Write → List Write
 with_oldest [] = []
-with_oldest (w ∷ ws) = if is_in_flight w.progress then record w { progress = acknowledged } ∷ ws else w ∷ with_oldest ws
+with_oldest (w ∷ ws) = if is_in_flight w.stage then record w { stage = acknowledged } ∷ ws else w ∷ with_oldest ws
 
-acknowledges : (ws : List Write) → list_any (λ (write : Write). is_in_flight write.progress) ws ≡ true → AcknowledgesOldest ws (with_oldest ws)
+acknowledges : (ws : List Write) → list_any (λ (write : Write). is_in_flight write.stage) ws ≡ true → AcknowledgesOldest ws (with_oldest ws)
 acknowledges [] h = absurd (false≢true h)
-acknowledges (w ∷ ws) h = go (is_in_flight w.progress) refl (acknowledges ws)
+acknowledges (w ∷ ws) h = go (is_in_flight w.stage) refl (acknowledges ws)
   where
-    go : (b : Bool) → is_in_flight w.progress ≡ b
-        → (list_any (λ (write : Write). is_in_flight write.progress) ws ≡ true → AcknowledgesOldest ws (with_oldest ws))
-        → AcknowledgesOldest (w ∷ ws) (if b then record w { progress = acknowledged } ∷ ws else w ∷ with_oldest ws)
+    go : (b : Bool) → is_in_flight w.stage ≡ b
+        → (list_any (λ (write : Write). is_in_flight write.stage) ws ≡ true → AcknowledgesOldest ws (with_oldest ws))
+        → AcknowledgesOldest (w ∷ ws) (if b then record w { stage = acknowledged } ∷ ws else w ∷ with_oldest ws)
     go true e again = record { earlier = []; oldest = w; later = ws; before = refl; in_flight = e; none_earlier = refl; after = refl }
     go false e again =
-        let rest = again (ap (λ b. b || list_any (λ (write : Write). is_in_flight write.progress) ws) (sym e) ∙ h) in
+        let rest = again (ap (λ b. b || list_any (λ (write : Write). is_in_flight write.stage) ws) (sym e) ∙ h) in
         record {
           earlier = w ∷ rest.earlier;
           oldest = rest.oldest;
           later = rest.later;
           before = ap (λ xs. w ∷ xs) rest.before;
           in_flight = rest.in_flight;
-          none_earlier = ap (λ b. b || list_any (λ (write : Write). is_in_flight write.progress) rest.earlier) e ∙ rest.none_earlier;
+          none_earlier = ap (λ b. b || list_any (λ (write : Write). is_in_flight write.stage) rest.earlier) e ∙ rest.none_earlier;
           after = ap (λ xs. w ∷ xs) rest.after;
         }
 
@@ -95,7 +95,7 @@ step_of (acknowledge o x) = step.Ack o
 -- what it shows
 abbrev pub shown_by : System → Machine → Move → Effect
 shown_by sys state (acknowledge o x) = acked o (x ∷ []) (recs_at_output sys state o x)
-shown_by sys state move = quiet
+shown_by sys state move = silent
 
 -- the state after it
 abbrev pub after_one : System → Machine → Move → Machine
@@ -104,7 +104,7 @@ after_one sys state (deliver e at m) = with_event sys state (Delivered e m)
 after_one sys state (ask p) = record state { writes = state.writes ++ checkpoint_of state p (front_of state.settled p) ∷ [] }
 after_one sys state persist = record state { writes = with_oldest state.writes }
 after_one sys state (fail p ps) = record state { failed = with_failed sys state (p ∷ ps); writes = without_lost (p ∷ ps) state.writes }
-after_one sys state (acknowledge o x) = record state { bounds = slice_set state.bounds o (x + 1) }
+after_one sys state (acknowledge o x) = record state { ack_counts = slice_set state.ack_counts o (x + 1) }
 
 -- whether a node acknowledges epochs
 abbrev pub is_epoch_output : Kind → Bool
@@ -125,19 +125,19 @@ is_taken sys state (inject s x) =
     is_input_kind (kind_of sys.flow s) && (x == injected_count s (events state.history) && (nat_lt x (length (batches_of sys s)) && not (is_failed state s)))
 is_taken sys state (deliver e at m) =
     is_asked at m.at
-    && (is_among m (pending sys (events state.history) e)
-    && ((not (is_numbered sys.flow e) || list_any (same m.at) ((length (delivered (events state.history) e) ∷ []) ∷ []))
-    && (not (is_failed state (receiver sys.flow e)) && is_first at m (pending sys (events state.history) e))))
+    && (is_among m (pending_messages sys (events state.history) e)
+    && ((not (is_numbered sys.flow e) || list_any (same m.at) ((length (delivered_messages (events state.history) e) ∷ []) ∷ []))
+    && (not (is_failed state (receiver sys.flow e)) && is_first at m (pending_messages sys (events state.history) e))))
 is_taken sys state (ask p) =
     is_asked_for_checkpoints (policy_of sys.flow p)
     && (not (is_failed state p) && not (same_front (front_of state.settled p) (newest_checkpoint p (no_stamps (bounds_of sys.flow p)) state.writes)))
-is_taken sys state persist = list_any (λ (write : Write). is_in_flight write.progress) state.writes
+is_taken sys state persist = list_any (λ (write : Write). is_in_flight write.stage) state.writes
 is_taken sys state (fail p ps) = nat_lt p (length sys.flow.nodes) && not (is_failed state p)
 is_taken sys state (acknowledge o x) =
     nat_lt o (length sys.flow.nodes)
     && (is_epoch_output (kind_of sys.flow o)
     && (not (is_failed state o)
-    && (x == bound_of state o
+    && (x == ack_count_of state o
     && (frontier_of (bounds_of sys.flow o) (front_of state.settled o) (x ∷ []) && list_any (λ xs. nat_lt x (length xs)) sys.batches))))
 
 takes : (sys : System) (state : Machine) (move : Move) → is_taken sys state move ≡ true → LeadsTo sys state (step_of move) (after_one sys state move) (shown_by sys state move)
@@ -151,7 +151,7 @@ takes sys state (deliver e at m) h =
     let b = and_parts _ _ a.1 in
     let c = and_parts _ _ b.1 in
     let d = and_parts _ _ c.1 in
-    let number : is_numbered sys.flow e ≡ true → m.at ≡ length (delivered (events state.history) e) ∷ [] = λ n.
+    let number : is_numbered sys.flow e ≡ true → m.at ≡ length (delivered_messages (events state.history) e) ∷ [] = λ n.
     ⊎_elim
     (λ k. absurd (two_ways _ n (not-true _ k)))
     (λ k. ⊎_elim (λ s. same-is m.at _ s) (λ f. absurd (false≢true f)) (or_cases _ _ k))
@@ -160,7 +160,7 @@ takes sys state (deliver e at m) h =
       record {
         enabled = record { is_pending = b.0; numbered = number };
         asked = asked-is at m.at a.0;
-        least = λ other o k. first-least at m (pending sys (events state.history) e) d.1 other o.is_pending k;
+        least = λ other o k. first-least at m (pending_messages sys (events state.history) e) d.1 other o.is_pending k;
       },
       not-true _ d.0,
       refl,

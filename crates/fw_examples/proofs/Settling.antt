@@ -12,8 +12,8 @@ use Rattle.fw_time.proofs.StampLaws.{leq-trans, same-is}
 use Rattle.fw_frontier.specs.Front.{Front, all_in_domain, frontier_of, inside, is_within}
 use Rattle.fw_frontier.specs.Frontier.{Frontier, IsFrontier, Within, everything}
 use Rattle.fw_frontier.proofs.NamesLaws.{frontier-closed, is_within-holds}
-use Rattle.fw_flow.specs.Dataflow.{Dataflow, System, bounds_of, bounds_of_domain, domain_of_kind, greatest_number, greatest_of_kind, is_input_kind, is_notified_kind, kind_of, out_domain_of_kind, places, receiver, sender}
-use Rattle.fw_flow.specs.Projection.{first_number_of, phi, phi_of_kind, psi, psi_of_kind, sent_count}
+use Rattle.fw_flow.specs.Dataflow.{Dataflow, System, bounds_of, bounds_of_domain, domain_of_kind, greatest_number, greatest_of_kind, is_input_kind, is_notified_kind, kind_of, out_domain_of_kind, node_ids, receiver, sender}
+use Rattle.fw_flow.specs.Projection.{first_coordinate, phi, phi_of_kind, psi, psi_of_kind, sent_count}
 use Rattle.fw_flow.specs.WellFormed.{IsWellFormed}
 use Rattle.fw_flow.specs.declared.event.Event.{Event}
 use Rattle.fw_flow.specs.declared.event.Event.TheVariants.{Deliver, Inject, Notify, Notify as Notified}
@@ -22,9 +22,9 @@ use Rattle.fw_flow.specs.declared.kind.Kind.TheVariants.{Enter, Feedback, Leave,
 use Rattle.fw_flow.specs.declared.node.Edge.{Edge}
 use Rattle.fw_flow.specs.declared.step.Step.TheVariants.{Progress}
 use Rattle.fw_flow.proofs.EdgeLaws.{kind-past}
-use Rattle.fw_model.specs.History.{IsAdmissible, IsClosedFor, IsComplete, IsNotifiable, IsQuiet, injected_count, injected_epochs, is_exhausted, owed, pending, some_at, was_delivered_to, was_notified}
+use Rattle.fw_model.specs.History.{IsAdmissible, IsClosedFor, IsComplete, IsNotifiable, IsQuiet, injected_count, injected_epochs, is_exhausted, is_owed_notice, pending_messages, some_at, was_delivered_to, was_notified}
 use Rattle.fw_model.specs.Machine.{Machine, events, family_of, front_of, is_failed, no_stamps}
-use Rattle.fw_model.specs.Steps.{Steps, did, eager_writes, quiet, with_event}
+use Rattle.fw_model.specs.Steps.{StepsTo, did, eager_writes, silent, with_event}
 use Rattle.fw_model.proofs.Decisions.{two_ways}
 use Rattle.fw_model.proofs.DescentLaws.{past_edges-joined, past_edges-phi, past_edges-quiet}
 use Rattle.fw_model.proofs.LowLaws.{input-is, none-within}
@@ -153,7 +153,7 @@ delivered_paid flow h p test t k (Deliver e m ∷ vs) a d =
     (or_cases _ _ d)
 
 pub paid_where : (sys : System) (h : List Event) (p : ℕ) (test : Stamp → Bool) → is_paid_where sys h p test ≡ true → (t : Stamp) → test t ≡ true
-    → owed sys h p t ≡ false
+    → is_owed_notice sys h p t ≡ false
 paid_where sys h p test a t k = false_from_ne_true _ (λ o.
     let b = and_parts _ _ o in
     let c = and_parts _ _ b.0 in
@@ -161,16 +161,16 @@ paid_where sys h p test a t k = false_from_ne_true _ (λ o.
 
 -- whether nothing is pending for node p at the stamps that pass the test
 abbrev pub is_quiet_where : System → List Event → ℕ → (Stamp → Bool) → Bool
-is_quiet_where sys h p test = each_below (λ e. not (receiver sys.flow e == p) || not (some_at test (pending sys h e))) (length sys.flow.edges)
+is_quiet_where sys h p test = each_below (λ e. not (receiver sys.flow e == p) || not (some_at test (pending_messages sys h e))) (length sys.flow.edges)
 
 pub quiet_where : (sys : System) (h : List Event) (p : ℕ) (test : Stamp → Bool) → is_quiet_where sys h p test ≡ true → (t : Stamp) → test t ≡ true
     → IsQuiet sys h p t
 quiet_where sys h p test a t k e r = elim (cases_lt e (length sys.flow.edges)) [
   | inr l ↦ past_edges-quiet sys h e t l
   | inl l ↦
-      none_at test (pending sys h e) t
+      none_at test (pending_messages sys h e) t
       (⊎_elim (λ n. absurd (two_ways _ (eq-eqb (receiver sys.flow e) p r) (not-true _ n))) (λ n. not-true _ n)
-      (or_cases _ _ (each_below-at (λ d. not (receiver sys.flow d == p) || not (some_at test (pending sys h d))) (length sys.flow.edges) a e l)))
+      (or_cases _ _ (each_below-at (λ d. not (receiver sys.flow d == p) || not (some_at test (pending_messages sys h d))) (length sys.flow.edges) a e l)))
       k
 ]
 
@@ -183,7 +183,7 @@ unfolding bounds_of
 input-bounds flow p k = ap (λ kind. bounds_of_domain flow (domain_of_kind flow kind)) (input-is (kind_of flow p) k)
 
 -- an epoch that is not at or past a number is below it
-below_number : (n k : ℕ) (t : Stamp) → in_domain (record { greatest = n ∷ [] }) t ≡ true → leq (k ∷ []) t ≡ false → nat_lt (first_number_of t) k ≡ true
+below_number : (n k : ℕ) (t : Stamp) → in_domain (record { greatest = n ∷ [] }) t ≡ true → leq (k ∷ []) t ≡ false → nat_lt (first_coordinate t) k ≡ true
 below_number n k [] d l = absurd (false≢true d)
 below_number n k (x ∷ []) d l = grind (arith, nat_tests)
 below_number n k (x ∷ y ∷ t) d l = absurd (false≢true (and_parts (leb x n) false d).1)
@@ -226,7 +226,7 @@ abbrev pub is_admissible : System → List Event → List Front → Bool
 is_admissible sys h fronts = are_clear sys h fronts && do_follow sys fronts
 
 -- nothing is missing at a node past the last one
-past_node : (sys : System) (h : List Event) (p : ℕ) (t : Stamp) → length sys.flow.nodes ≤ p → owed sys h p t ≡ false
+past_node : (sys : System) (h : List Event) (p : ℕ) (t : Stamp) → length sys.flow.nodes ≤ p → is_owed_notice sys h p t ≡ false
 past_node sys h p t l = ap (λ kind. is_notified_kind kind && was_delivered_to sys.flow p t h && not (was_notified p t h)) (kind-past sys.flow p l)
 
 pub admissible_with : (sys : System) (h : List Event) (fronts : List Front) → IsWellFormed sys.flow → are_clear sys h fronts ≡ true
@@ -286,14 +286,14 @@ some_below-one test (suc n) h =
 abbrev pub is_barred_on : System → List Event → List Front → ℕ → Stamp → ℕ → Bool
 is_barred_on sys h fronts p o e =
     receiver sys.flow e == p
-    && (some_at (same o) (pending sys h e)
+    && (some_at (same o) (pending_messages sys h e)
     || (is_plain (kind_of sys.flow (sender sys.flow e)) && (nat_lt (sender sys.flow e) p && not (family_of sys.flow fronts (sender sys.flow e) o))))
 
 -- whether a stamp is outside each admissible family at node p
 abbrev pub is_barred : System → List Event → List Front → ℕ → Stamp → Bool
 is_barred sys h fronts p o =
     some_below (is_barred_on sys h fronts p o) (length sys.flow.edges)
-    || (owed sys h p o || (is_input_kind (kind_of sys.flow p) && not (injected_epochs sys h p o)))
+    || (is_owed_notice sys h p o || (is_input_kind (kind_of sys.flow p) && not (injected_epochs sys h p o)))
 
 -- whether the family of these frontiers is complete
 abbrev pub is_complete : System → List Event → List Front → Bool
@@ -355,7 +355,7 @@ is_grown sys state fronts =
 pub settles_complete : (sys : System) (state : Machine) (fronts : List Front) → IsComplete sys (events state.history) (family_of sys.flow fronts)
     → length fronts ≡ length sys.flow.nodes → is_grown sys state fronts ≡ true
     → (p : ℕ) (t : Stamp) → p < length sys.flow.nodes → family_of sys.flow fronts p t ≡ true → frontier_of (bounds_of sys.flow p) (front_of state.settled p) t ≡ false
-    → Steps sys state Progress (record state { settled = fronts; writes = state.writes ++ eager_writes sys state fronts (places sys.flow) }) (did quiet)
+    → StepsTo sys state Progress (record state { settled = fronts; writes = state.writes ++ eager_writes sys state fronts (node_ids sys.flow) }) (did silent)
 settles_complete sys state fronts is one_each grown p t l new old =
     let at = each_below-at (λ p. not (is_failed state p) && (is_canonical (bounds_of sys.flow p) (front_of fronts p) && is_within (front_of state.settled p) (front_of fronts p))) (length sys.flow.nodes) grown in (
       family_of sys.flow fronts,
@@ -377,7 +377,7 @@ settles_complete sys state fronts is one_each grown p t l new old =
 pub settles : (sys : System) (state : Machine) (fronts : List Front) → IsWellFormed sys.flow → length fronts ≡ length sys.flow.nodes
     → is_complete sys (events state.history) fronts ≡ true → is_grown sys state fronts ≡ true
     → (p : ℕ) (t : Stamp) → p < length sys.flow.nodes → family_of sys.flow fronts p t ≡ true → frontier_of (bounds_of sys.flow p) (front_of state.settled p) t ≡ false
-    → Steps sys state Progress (record state { settled = fronts; writes = state.writes ++ eager_writes sys state fronts (places sys.flow) }) (did quiet)
+    → StepsTo sys state Progress (record state { settled = fronts; writes = state.writes ++ eager_writes sys state fronts (node_ids sys.flow) }) (did silent)
 settles sys state fronts formed one_each is grown p t l new old =
     settles_complete sys state fronts (complete_by sys (events state.history) fronts formed one_each is) one_each grown p t l new old
 
@@ -414,7 +414,7 @@ closed_by sys h p t fronts formed l a =
 
 -- whether node p may be notified of the stamp
 abbrev pub is_notifiable : System → List Event → ℕ → Stamp → List Front → Bool
-is_notifiable sys h p t fronts = owed sys h p t && (is_paid_where sys h p (λ s. lesser s t) && is_closed sys h p t fronts)
+is_notifiable sys h p t fronts = is_owed_notice sys h p t && (is_paid_where sys h p (λ s. lesser s t) && is_closed sys h p t fronts)
 
 notifiable_by : (sys : System) (h : List Event) (p : ℕ) (t : Stamp) (fronts : List Front) → IsWellFormed sys.flow → p < length sys.flow.nodes → is_notifiable sys h p t fronts ≡ true
     → IsNotifiable sys h p t
@@ -426,6 +426,6 @@ notifiable_by sys h p t fronts formed l a =
 
 pub notifies : (sys : System) (state : Machine) (p : ℕ) (t : Stamp) (fronts : List Front) → IsWellFormed sys.flow → p < length sys.flow.nodes
     → is_notifiable sys (events state.history) p t fronts ≡ true → is_failed state p ≡ false → is_gt (stamp_cmp t t) ≡ false
-    → Steps sys state (step.Notify p (Some t)) (with_event sys state (Notified p t)) (did quiet)
+    → StepsTo sys state (step.Notify p (Some t)) (with_event sys state (Notified p t)) (did silent)
 notifies sys state p t fronts formed l is live alike =
     (t, record { enabled = notifiable_by sys (events state.history) p t fronts formed l is; asked = refl; least = λ other o a. subst (λ s. is_gt (stamp_cmp t s) ≡ false) a alike }, live, refl, refl)

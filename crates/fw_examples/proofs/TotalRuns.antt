@@ -1,7 +1,7 @@
 -- The runs of the running total, and what is chosen in them.
 use Rattle.std.proofs.Common.{Bool, List, None, Some, [], drop, lit<, refl, replicate, true, ℕ, ◌++◌, ◌<◌, ◌∷◌, ◌≡◌}
 use Rattle.fw_time.specs.declared.stamp.Bounds.{Bounds}
-use Rattle.fw_frontier.specs.Front.{Names, frontier_of}
+use Rattle.fw_frontier.specs.Front.{IsFrontOf, frontier_of}
 use Rattle.fw_frontier.specs.Frontier.{join}
 use Rattle.fw_flow.specs.Dataflow.{batches_of, bounds_of, greatest_number, kind_of, policy_of, receiver, sender}
 use Rattle.fw_flow.specs.NodeFunction.{sends}
@@ -13,7 +13,7 @@ use Rattle.fw_flow.specs.declared.step.Step.{Step}
 use Rattle.fw_flow.specs.declared.step.Step.TheVariants.{Collect, Progress, Recover}
 use Rattle.fw_model.specs.Choice.{IsCandidate, IsChoiceWithin, IsConsistent, IsLargest, IsWatermark, cut_of, ever, kept, until}
 use Rattle.fw_model.specs.Machine.{Machine, first_state, is_failed}
-use Rattle.fw_model.specs.Steps.{Outcome, Run, Steps, acked, collected_writes, cuts, did, lows, offers, quiet, recs_at_output, with_event}
+use Rattle.fw_model.specs.Steps.{Outcome, Run, StepsTo, acked, collected_writes, cuts, did, lows, offers, silent, recs_at_output, with_event}
 use Rattle.fw_model.specs.Unions.{IsUnionOfChoices}
 use Rattle.fw_model.proofs.GoingOn.{runs-go_on}
 use Rattle.fw_examples.specs.Flows.{out}
@@ -94,7 +94,7 @@ two_collected = record ten_acknowledged {
   writes = collected_writes totals (alike 2) ten_acknowledged.history ten_acknowledged.writes;
 }
 
-pub collects : Steps totals ten_acknowledged Collect two_collected (did (lows two_epochs_kept))
+pub collects : StepsTo totals ten_acknowledged Collect two_collected (did (lows two_epochs_kept))
 unfolding kind_of receiver bounds_of policy_of
 collects = (two_epochs_kept, two_epochs_are_low, (λ e. cc), refl, refl)
 
@@ -144,12 +144,12 @@ sum_acknowledged state = after_all totals (come_through state) (acknowledge 2 2 
 
 -- what it shows
 abbrev outcomes_from : Machine → List Outcome
-outcomes_from state = replicate 5 (did quiet) ++ did (acked 2 (2 ∷ []) (recs_at_output totals (come_through state) 2 2)) ∷ []
+outcomes_from state = replicate 5 (did silent) ++ did (acked 2 (2 ∷ []) (recs_at_output totals (come_through state) 2 2)) ∷ []
 
 -- the same steps without a failure, and from the recovered state
 runs_sum : (state : Machine) → are_taken totals state five_moves ≡ true
-    → Steps totals (after_all totals state five_moves) (step.Notify 1 (Some (2 ∷ []))) (summed state) (did quiet)
-    → are_taken totals (summed state) (deliver 1 None (at_epoch 2 15) ∷ []) ≡ true → Steps totals (put_out state) Progress (come_through state) (did quiet)
+    → StepsTo totals (after_all totals state five_moves) (step.Notify 1 (Some (2 ∷ []))) (summed state) (did silent)
+    → are_taken totals (summed state) (deliver 1 None (at_epoch 2 15) ∷ []) ≡ true → StepsTo totals (put_out state) Progress (come_through state) (did silent)
     → are_taken totals (come_through state) (acknowledge 2 2 ∷ []) ≡ true
     → Run totals state steps_of_sum (outcomes_from state) (sum_acknowledged state)
 runs_sum state five sum out settled last =
@@ -183,7 +183,7 @@ pub kept_consistent : (lost : ℕ → Bool) → IsConsistent totals output_faile
 unfolding kind_of receiver sender sends batches_of bounds_of policy_of phi psi
 kept_consistent lost = consistent_by totals output_failed lost kept two_epochs_kept totals_formed refl refl refl refl
 
--- with fewer notes at the output
+-- with fewer notices at the output
 pub noting_less : (lost : ℕ → Bool) → IsConsistent totals output_failed (IsCandidate totals output_failed lost kept) (two_kept_noting (until 0))
 unfolding kind_of receiver sender sends batches_of bounds_of policy_of phi psi
 noting_less lost = consistent_by totals output_failed lost kept (two_kept_noting (until 0)) totals_formed refl refl refl refl
@@ -210,7 +210,7 @@ kept_above other is =
 pub kept_largest : IsLargest totals output_failed (offers totals output_failed) two_epochs_kept
 kept_largest = record { consistent = kept_consistent (is_failed output_failed); largest = kept_above }
 
-pub recovers : Steps totals output_failed Recover come_back (did (cuts two_epochs_kept))
+pub recovers : StepsTo totals output_failed Recover come_back (did (cuts two_epochs_kept))
 unfolding kind_of receiver bounds_of policy_of
 recovers = recovers_to totals output_failed two_epochs_kept (alike 2) 2 (lit< tt) refl kept_largest refl (by_three _ refl refl refl) refl
 
@@ -218,15 +218,15 @@ pub union_of_both : IsUnionOfChoices totals (two_kept_noting (until 0)) epoch_ke
 unfolding kind_of bounds_of
 union_of_both = record {
   one_cut_each = refl;
-  one_note_each = refl;
+  one_notice_each = refl;
   cuts = by_three _ two two two;
-  notes = by_three _ two two (record { canonical = canonical_by epochs (until 1) refl; same = join_by _ _ (lies epochs (until 0) (until 1) refl) });
+  notices = by_three _ two two (record { canonical = canonical_by epochs (until 1) refl; same = join_by _ _ (lies epochs (until 0) (until 1) refl) });
 }
   where
     epochs : Bounds
     epochs = record { greatest = greatest_number ∷ [] }
 
-    two : Names epochs (until 2) (join (frontier_of epochs (until 2)) (frontier_of epochs (until 1)))
+    two : IsFrontOf epochs (until 2) (join (frontier_of epochs (until 2)) (frontier_of epochs (until 1)))
     two = record { canonical = canonical_by epochs (until 2) refl; same = join_other _ _ (lies epochs (until 1) (until 2) refl) }
 
 -- ---- the whole runs

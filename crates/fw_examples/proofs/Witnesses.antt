@@ -19,9 +19,9 @@ use Rattle.fw_model.specs.Choice.{ever, kept, until}
 use Rattle.fw_model.specs.Choosing.{CanChoose}
 use Rattle.fw_model.specs.Denotation.{IsDenotation}
 use Rattle.fw_model.specs.Filtering.{ComeFromKept, MeetsInclusions}
-use Rattle.fw_model.specs.History.{IsLegal, delivered}
+use Rattle.fw_model.specs.History.{IsLegal, delivered_messages}
 use Rattle.fw_model.specs.Machine.{Machine, first_state, front_of, is_failed}
-use Rattle.fw_model.specs.Steps.{Outcome, Run, cuts, did, quiet, with_event}
+use Rattle.fw_model.specs.Steps.{Outcome, Run, cuts, did, silent, with_event}
 use Rattle.fw_model.proofs.ChoosingLaws.{checkpoints-chains}
 use Rattle.fw_model.proofs.DomainLaws.{has_epochs}
 use Rattle.fw_model.proofs.FilteredLaws.{choice-consistent, consistent-meets, set-frontier}
@@ -76,7 +76,7 @@ abbrev steps_taken : List Step
 steps_taken = steps_of first_moves (step.Notify 1 (Some (0 ∷ [])) ∷ steps_of second_moves (step.Notify 1 (Some (1 ∷ [])) ∷ []))
 
 abbrev outcomes_shown : List Outcome
-outcomes_shown = replicate 9 (did quiet)
+outcomes_shown = replicate 9 (did silent)
 
 numbers_run : Run numbers (first_state numbers) steps_taken outcomes_shown both_numbered
 unfolding kind_of receiver sender sends batches_of bounds_of policy_of phi
@@ -232,7 +232,7 @@ choices_unite = record {
   one = noting_none (is_failed output_failed);
   other = epoch_consistent (is_failed output_failed);
   one_not_within = λ w. false≢true (w.cuts 0 (lit< tt) (1 ∷ []) refl);
-  other_not_within = λ w. false≢true (w.notes 2 (lit< tt) (0 ∷ []) refl);
+  other_not_within = λ w. false≢true (w.notices 2 (lit< tt) (0 ∷ []) refl);
   union = union_of_both;
   offered = (noting_none (is_failed output_failed)).offered;
   checkpoints = refl;
@@ -242,7 +242,7 @@ choices_unite = record {
 }
 
 pub less_is_consistent : LessIsConsistent
-less_is_consistent = record { consistent = noting_less (is_failed output_failed); other = λ e. let last : until 0 ≡ until 2 = ap (λ (choice : Choice). front_of choice.notes 2) e in cc }
+less_is_consistent = record { consistent = noting_less (is_failed output_failed); other = λ e. let last : until 0 ≡ until 2 = ap (λ (choice : Choice). front_of choice.notices 2) e in cc }
 
 same_stamps : (m n : ℕ) (t : Stamp)
     → frontier_of (record { greatest = m ∷ n ∷ [] }) both_rounds t
@@ -333,7 +333,7 @@ unfolding kind_of receiver sender sends batches_of bounds_of phi
 numbers_come_from_kept zero = ((λ k. absurd (false≢true k)), ((λ k. refl), ((λ k. refl), tt)))
 numbers_come_from_kept (suc zero) = ((λ k. refl), ((λ k. refl), tt))
 numbers_come_from_kept (suc (suc zero)) = tt
-numbers_come_from_kept (suc (suc (suc e))) = each-one _ (delivered numbered_both (suc (suc (suc e)))) (λ m k. and_from _ _ (and_parts _ _ k).0 k)
+numbers_come_from_kept (suc (suc (suc e))) = each-one _ (delivered_messages numbered_both (suc (suc (suc e)))) (λ m k. and_from _ _ (and_parts _ _ k).0 k)
 
 pub sequence_is_filtered : SequenceIsFiltered
 unfolding kind_of receiver sender sends batches_of bounds_of phi

@@ -2,13 +2,13 @@
 use Rattle.std.specs.List.{AllByRecursion}
 use Rattle.std.specs.Prelude.{Bool, List, [], false, true, ℕ, ◌&&◌, ◌++◌, ◌==◌, ◌∷◌, ◌≡◌, ◌≤◌, drop, length, map, ◌↔◌, Some, zero, suc, ◌<◌, ◌⊎◌}
 use Rattle.fw_bag.specs.Bag.{how_often}
-use Rattle.fw_bag.specs.Keyed.{sorted}
+use Rattle.fw_bag.specs.Keyed.{sorted_recs}
 use Rattle.fw_bag.specs.declared.rec.Rec.{Rec}
 use Rattle.fw_time.specs.Stamp.{in_domain, leq, Stamp, same}
-use Rattle.fw_frontier.specs.Front.{Front, Names, frontier_of}
+use Rattle.fw_frontier.specs.Front.{Front, IsFrontOf}
 use Rattle.fw_frontier.specs.Frontier.{Frontier, Within, join, IsFrontier, everything, meet, nothing}
-use Rattle.fw_flow.specs.Dataflow.{bounds_of, bounds_of_edge, receiver, sender, kind_of, send_stamp}
-use Rattle.fw_flow.specs.NodeFunction.{place, stamp, sends}
+use Rattle.fw_flow.specs.Dataflow.{bounds_of, bounds_of_edge, receiver, sender, kind_of, send_stamp, node_frontier}
+use Rattle.fw_flow.specs.NodeFunction.{event_node, event_stamp, sends}
 use Rattle.fw_flow.specs.Projection.{phi, IsSenderFrontier, all_inside, phi_by_count, psi, psi_back}
 use Rattle.fw_flow.specs.declared.choice.Choice.{Choice}
 use Rattle.fw_flow.specs.declared.choice.Cut.TheVariants.{At}
@@ -17,17 +17,17 @@ use Rattle.fw_flow.specs.declared.event.Message.{Message}
 use Rattle.fw_flow.specs.declared.step.Step.{Step}
 use Rattle.fw_flow.specs.declared.step.Step.TheVariants.{Collect, Recover}
 use Rattle.fw_model.specs.Acknowledgements.{IsDenoted, Shows, first_stamps, stamps_acknowledged}
-use Rattle.fw_model.specs.Choice.{IsCandidate, IsChoiceWithin, IsConsistent, IsCutWithin, IsLargest, View, cut_of, ever, filtered, kept, kept_of, until}
+use Rattle.fw_model.specs.Choice.{IsCandidate, IsChoiceWithin, IsConsistent, IsCutWithin, IsLargest, View, cut_of, ever, filtered_history, kept, kept_of, until}
 use Rattle.fw_model.specs.Choosing.{AreCheckpointsChains, CanChoose, low_choice}
 use Rattle.fw_model.specs.Covers.{covers_in}
 use Rattle.fw_model.specs.Denotation.{bag_at, AreInOrder, AreNumberedFrom, Family, IsDenotation, rounds}
 use Rattle.fw_model.specs.Filtering.{HaveKeptCauses, MeetsInclusions, kept_events, messages_from, messages_inside, messages_outside}
-use Rattle.fw_model.specs.History.{AreEventsInDomain, IsAdmissible, IsClosedFor, IsComplete, IsLegal, delivered, injected_count, pending, recs_at, sent}
-use Rattle.fw_model.specs.Machine.{Machine, events, first_state, is_failed, Numbered, Write, acknowledged, collected, front_of}
+use Rattle.fw_model.specs.History.{AreEventsInDomain, IsAdmissible, IsClosedFor, IsComplete, IsLegal, delivered_messages, injected_count, pending_messages, recs_at, sent_messages}
+use Rattle.fw_model.specs.Machine.{Machine, events, first_state, is_failed, SerialEvent, Write, acknowledged, collected, front_of}
 use Rattle.fw_model.specs.Order.{AreNumberedInOrder, IsNotifiedInOrder}
 use Rattle.fw_model.specs.Sending.{ComesFromInside, FollowsHistory, IsSentFrom, SendsAbove, SendsByStamp, SendsWithin}
 use Rattle.fw_model.specs.Settled.{IsDenotedInside, IsFull}
-use Rattle.fw_model.specs.Steps.{GrowsTo, IsTheNext, Outcome, Run, Steps, cuts, did, front_of_cut, is_in_flight, lies_below}
+use Rattle.fw_model.specs.Steps.{GrowsTo, IsTheNext, Outcome, Run, StepsTo, cuts, did, front_of_cut, is_in_flight, lies_below}
 use Rattle.fw_model.specs.Unions.{IsUnionOfChoices, IsUnion}
 use Rattle.fw_examples.specs.Flows.{loop_counts_up, pair, regroup_by_three, two_batches, out, src, big, big_to_out, numbered_both, numbers, numbered_epoch}
 use Rattle.fw_examples.specs.Loop.{counted_rounds, counting_failed, restored, under_way, message, round, fed_back_edge}
@@ -63,7 +63,7 @@ pub record RunsApply : Type 0 where
   pub step : recoveries.StepsKeepHistoriesLegal → IsLegal totals (events come_back.history)
   pub through : recoveries.RunsStayLegalThroughRecoveries → IsLegal totals (events come_back.history)
   pub candidates : recoveries.CandidatesLieWithinSettled
-      → Within (frontier_of (bounds_of total_flow run) (until 2)) (frontier_of (bounds_of total_flow run) (until 3))
+      → Within (node_frontier total_flow run (until 2)) (node_frontier total_flow run (until 3))
   pub settled : recoveries.SettledStaysDenoted → IsDenotedInside totals totals_denoted output_failed
   pub full : recoveries.DenotedIsFull → IsFull totals output_failed
   pub shown : recoveries.AcknowledgementsShowDenotationThroughRecoveries
@@ -72,16 +72,16 @@ pub record RunsApply : Type 0 where
 -- the laws of choosing, of the state of the failure, and of runs with a failure and without one
 pub record ChoosingApplies : Type 0 where
   pub low : choosing.LowWatermarkIsConsistent
-      → (notes : List Front) × ((lost : ℕ → Bool) (view : View)
-      → IsConsistent totals output_failed (IsCandidate totals output_failed lost view) (low_choice output_failed notes))
+      → (notices : List Front) × ((lost : ℕ → Bool) (view : View)
+      → IsConsistent totals output_failed (IsCandidate totals output_failed lost view) (low_choice output_failed notices))
   pub chains : choosing.CheckpointsAreChains → (lost : ℕ → Bool) (view : View) → AreCheckpointsChains totals output_failed lost view
   pub choice : choosing.RecoveryHasAChoice → (lost : ℕ → Bool) → CanChoose totals output_failed lost
-  pub recovered : choosing.FailedNodesAreRecovered → (next : Machine) × (choice : Choice) × Steps totals output_failed Recover next (did (cuts choice))
+  pub recovered : choosing.FailedNodesAreRecovered → (next : Machine) × (choice : Choice) × StepsTo totals output_failed Recover next (did (cuts choice))
   pub next : choosing.ReachedStatesHaveOneNextState → (step : Step)
       → (next : Machine) × (outcome : Outcome) × IsTheNext totals output_failed step next outcome
   pub holds : choosing.LargestChoiceHoldsLowWatermark → IsCutWithin totals.flow run (At (until 2)) (cut_of two_epochs_kept run)
   pub rises : choosing.LowWatermarkNeverFalls
-      → Within (frontier_of (bounds_of total_flow run) (until 0)) (frontier_of (bounds_of total_flow run) (until 2))
+      → Within (node_frontier total_flow run (until 0)) (node_frontier total_flow run (until 2))
   pub ever_largest : choosing.LargestOfKeptIsLargestOfEver
       → IsLargest totals output_failed (IsCandidate totals output_failed (is_failed output_failed) ever) two_epochs_kept
   pub one_bag : choosing.TwoRunsShowOneBag → (recs : List Rec) → Shows out (2 ∷ []) recs outcomes_without_failure
@@ -89,16 +89,16 @@ pub record ChoosingApplies : Type 0 where
 
 -- the laws of existence and of steps, of the state of the failure
 pub record StepsApply : Type 0 where
-  pub front : existence.FrontierHasFront → (os : Front) × Names (bounds_of loop_counts_up inc) os joined_rounds
+  pub front : existence.FrontierHasFront → (os : Front) × IsFrontOf (bounds_of loop_counts_up inc) os joined_rounds
   pub complete_exists : existence.CompleteExists → (done : ℕ → Frontier) × IsComplete totals (events output_failed.history) done
   pub only_complete : existence.CompleteIsTheOnlyOne → (done : ℕ → Frontier) → IsComplete totals (events output_failed.history) done
       → done ≡ complete_then
   pub grows : existence.SettledCanGrow → (settled : List Front) × GrowsTo totals output_failed complete_then settled
   pub largest : existence.LargestChoiceExists
       → (largest : Choice) × IsLargest totals output_failed (IsCandidate totals output_failed (is_failed output_failed) ever) largest
-  pub one_next : steps.OneNextState → (other : Machine) (outcome : Outcome) → Steps totals output_failed Recover other outcome
+  pub one_next : steps.OneNextState → (other : Machine) (outcome : Outcome) → StepsTo totals output_failed Recover other outcome
       → (come_back ≡ other) × (did (cuts two_epochs_kept) ≡ outcome)
-  pub some_next : steps.SomeNextState → (next : Machine) × (outcome : Outcome) × Steps totals output_failed Collect next outcome
+  pub some_next : steps.SomeNextState → (next : Machine) × (outcome : Outcome) × StepsTo totals output_failed Collect next outcome
   pub exactly_one_next : steps.ExactlyOneNextState
       → (next : Machine) × (outcome : Outcome) × IsTheNext totals output_failed Collect next outcome
 
@@ -128,23 +128,23 @@ pub record ChoicesApply : Type 0 where
 pub record DeliveriesApply : Type 0 where
   pub stays_closed : deliveries.ClosedStampsStayClosed → IsClosedFor totals (next_epochs ++ two_epochs) run (1 ∷ [])
   pub final : deliveries.DeliveredUpToClosedIsFinal
-      → recs_at (1 ∷ []) (delivered (next_epochs ++ two_epochs) src_to_run) ≡ recs_at (1 ∷ []) (delivered two_epochs src_to_run)
+      → recs_at (1 ∷ []) (delivered_messages (next_epochs ++ two_epochs) src_to_run) ≡ recs_at (1 ∷ []) (delivered_messages two_epochs src_to_run)
   pub denoted_up_to : deliveries.DeliveredUpToClosedIsDenoted
-      → sorted (recs_at (1 ∷ []) (delivered two_epochs src_to_run)) ≡ bag_at totals_denoted src_to_run (1 ∷ [])
+      → sorted_recs (recs_at (1 ∷ []) (delivered_messages two_epochs src_to_run)) ≡ bag_at totals_denoted src_to_run (1 ∷ [])
   pub come_last : deliveries.NotificationsComeLast
-      → AllByRecursion (λ v. (place total_flow v == run && leq (stamp v) (1 ∷ [])) ≡ false) (next_epochs ++ Delivered run_to_out (at_epoch 1 10) ∷ [])
-  pub ascend : deliveries.NumberedDeliveriesAscend → AreNumberedInOrder (delivered numbered_both 1)
+      → AllByRecursion (λ v. (event_node total_flow v == run && leq (event_stamp v) (1 ∷ [])) ≡ false) (next_epochs ++ Delivered run_to_out (at_epoch 1 10) ∷ [])
+  pub ascend : deliveries.NumberedDeliveriesAscend → AreNumberedInOrder (delivered_messages numbered_both 1)
   pub sent_denoted : deliveries.SentInsidePhiIsDenoted
-      → sorted (recs_at (1 ∷ []) (sent totals two_epochs run_to_out)) ≡ bag_at totals_denoted run_to_out (1 ∷ [])
+      → sorted_recs (recs_at (1 ∷ []) (sent_messages totals two_epochs run_to_out)) ≡ bag_at totals_denoted run_to_out (1 ∷ [])
   pub delivered_denoted : deliveries.DeliveredInsideCompleteIsDenoted
-      → sorted (recs_at (1 ∷ []) (delivered two_epochs run_to_out)) ≡ bag_at totals_denoted run_to_out (1 ∷ [])
+      → sorted_recs (recs_at (1 ∷ []) (delivered_messages two_epochs run_to_out)) ≡ bag_at totals_denoted run_to_out (1 ∷ [])
   pub delivered_final : deliveries.DeliveredInsideCompleteIsFinal
-      → recs_at (1 ∷ []) (delivered (next_epochs ++ two_epochs) run_to_out) ≡ recs_at (1 ∷ []) (delivered two_epochs run_to_out)
+      → recs_at (1 ∷ []) (delivered_messages (next_epochs ++ two_epochs) run_to_out) ≡ recs_at (1 ∷ []) (delivered_messages two_epochs run_to_out)
   pub sent_sub_bag : deliveries.SentIsSubBagOfDenotation
-      → how_often (pair 1 15) (recs_at (2 ∷ []) (sent totals (next_epochs ++ two_epochs) run_to_out))
+      → how_often (pair 1 15) (recs_at (2 ∷ []) (sent_messages totals (next_epochs ++ two_epochs) run_to_out))
       ≤ how_often (pair 1 15) (bag_at totals_denoted run_to_out (2 ∷ []))
   pub delivered_sub_bag : deliveries.DeliveredIsSubBagOfDenotation
-      → how_often (pair 1 15) (recs_at (2 ∷ []) (delivered (next_epochs ++ two_epochs) run_to_out))
+      → how_often (pair 1 15) (recs_at (2 ∷ []) (delivered_messages (next_epochs ++ two_epochs) run_to_out))
       ≤ how_often (pair 1 15) (bag_at totals_denoted run_to_out (2 ∷ []))
   pub enabled_outside : complete.EnabledIsOutside → complete_two src (2 ∷ []) ≡ false
   pub stays_admissible : complete.AdmissibleStaysAdmissible → IsAdmissible totals (Injected src 2 ∷ two_epochs) complete_two
@@ -153,7 +153,7 @@ pub record DeliveriesApply : Type 0 where
 pub record LegalHistoriesApply : Type 0 where
   pub events_in_domain : legal.LegalEventsAreInDomain → (p : ℕ) → AreEventsInDomain total_flow (next_epochs ++ two_epochs) p
   pub messages_in_domain : legal.LegalMessagesAreInDomain → (e : ℕ)
-      → AllByRecursion (λ (m : Message). in_domain (bounds_of_edge total_flow e) m.at ≡ true) (sent totals (next_epochs ++ two_epochs) e)
+      → AllByRecursion (λ (m : Message). in_domain (bounds_of_edge total_flow e) m.at ≡ true) (sent_messages totals (next_epochs ++ two_epochs) e)
   pub inputs_inject : legal.OnlyInputsInject → injected_count run (next_epochs ++ two_epochs) ≡ 0
   pub notified_in_order : complete.SequencesAreNotifiedInOrder → IsNotifiedInOrder regroup_by_three numbered_both 1
   pub from_inside : complete.LegalInsidePhiComesFromInside → ComesFromInside numbers numbered_both 1 (kept_epoch 1)
@@ -161,14 +161,14 @@ pub record LegalHistoriesApply : Type 0 where
 -- the laws of filtering, of the recoveries of the running total and of the loop, and of the sequence
 pub record FilteringApplies : Type 0 where
   pub send_the_same : filtering.KeptEventsSendTheSame
-      → sent numbers (kept_events regroup_by_three kept_epoch numbered_both) 1
-      ≡ messages_from (kept_epoch (sender regroup_by_three 1)) (sent numbers numbered_both 1)
+      → sent_messages numbers (kept_events regroup_by_three kept_epoch numbered_both) 1
+      ≡ messages_from (kept_epoch (sender regroup_by_three 1)) (sent_messages numbers numbered_both 1)
   pub send_the_same_from_within : filtering.KeptEventsSendTheSameFromWithin
-      → messages_from two_rounds (sent two_batches (kept_events loop_counts_up kept_rounds under_way) 3)
-      ≡ messages_from two_rounds (sent two_batches under_way 3)
+      → messages_from two_rounds (sent_messages two_batches (kept_events loop_counts_up kept_rounds under_way) 3)
+      ≡ messages_from two_rounds (sent_messages two_batches under_way 3)
   pub deliver_the_same : filtering.KeptEventsDeliverTheSame
-      → delivered (kept_events loop_counts_up kept_rounds under_way) 2
-      ≡ messages_inside (kept_rounds (receiver loop_counts_up 2)) (delivered under_way 2)
+      → delivered_messages (kept_events loop_counts_up kept_rounds under_way) 2
+      ≡ messages_inside (kept_rounds (receiver loop_counts_up 2)) (delivered_messages under_way 2)
   pub phi_of_kept : filtering.PhiOfKeptEvents
       → phi numbers (kept_events regroup_by_three kept_epoch numbered_both) 1 (kept_epoch 1) (1 ∷ [])
       ≡ phi numbers numbered_both 1 (kept_epoch 1) (1 ∷ [])
@@ -176,22 +176,22 @@ pub record FilteringApplies : Type 0 where
   pub legal : filtering.KeptEventsAreLegal
       → IsLegal totals (kept_events total_flow (kept_of totals.flow two_epochs_kept) (next_epochs ++ two_epochs))
   pub inclusions : filtering.ConsistentMeetsInclusions → MeetsInclusions totals output_failed two_epochs_kept
-  pub filtered_is_legal : filtering.FilteredHistoryIsLegal → IsLegal totals (events (filtered totals two_epochs_kept output_failed.history))
+  pub filtered_is_legal : filtering.FilteredHistoryIsLegal → IsLegal totals (events (filtered_history totals two_epochs_kept output_failed.history))
   pub at_kept : filtering.PendingAtKeptStamps
-      → messages_inside (kept_rounds (receiver loop_counts_up 3)) (pending two_batches (kept_events loop_counts_up kept_rounds under_way) 3)
-      ≡ messages_inside (kept_rounds (receiver loop_counts_up 3)) (messages_from (kept_rounds (sender loop_counts_up 3)) (pending two_batches under_way 3))
+      → messages_inside (kept_rounds (receiver loop_counts_up 3)) (pending_messages two_batches (kept_events loop_counts_up kept_rounds under_way) 3)
+      ≡ messages_inside (kept_rounds (receiver loop_counts_up 3)) (messages_from (kept_rounds (sender loop_counts_up 3)) (pending_messages two_batches under_way 3))
   pub at_others : filtering.PendingAtOtherStamps
-      → messages_outside (kept_rounds (receiver loop_counts_up 2)) (pending two_batches (kept_events loop_counts_up kept_rounds under_way) 2)
-      ≡ messages_outside (kept_rounds (receiver loop_counts_up 2)) (messages_from (kept_rounds (sender loop_counts_up 2)) (sent two_batches under_way 2))
+      → messages_outside (kept_rounds (receiver loop_counts_up 2)) (pending_messages two_batches (kept_events loop_counts_up kept_rounds under_way) 2)
+      ≡ messages_outside (kept_rounds (receiver loop_counts_up 2)) (messages_from (kept_rounds (sender loop_counts_up 2)) (sent_messages two_batches under_way 2))
   pub for_present : filtering.PendingForPresent
-      → pending two_batches (events (filtered two_batches restored counting_failed.history)) 3
-      ≡ messages_from (kept_rounds (sender loop_counts_up 3)) (pending two_batches (events counting_failed.history) 3)
+      → pending_messages two_batches (events (filtered_history two_batches restored counting_failed.history)) 3
+      ≡ messages_from (kept_rounds (sender loop_counts_up 3)) (pending_messages two_batches (events counting_failed.history) 3)
   pub for_cut : filtering.PendingForCut
-      → pending two_batches (events (filtered two_batches restored counting_failed.history)) 2
+      → pending_messages two_batches (events (filtered_history two_batches restored counting_failed.history)) 2
       ≡ messages_outside (kept_rounds (receiver loop_counts_up 2))
-      (messages_from (kept_rounds (sender loop_counts_up 2)) (sent two_batches (events counting_failed.history) 2))
+      (messages_from (kept_rounds (sender loop_counts_up 2)) (sent_messages two_batches (events counting_failed.history) 2))
   pub without_log : filtering.NothingPendingWithoutLog
-      → pending totals (events (filtered totals two_epochs_kept output_failed.history)) src_to_run ≡ []
+      → pending_messages totals (events (filtered_history totals two_epochs_kept output_failed.history)) src_to_run ≡ []
 
 -- ---- what the laws of restoring say
 
@@ -206,33 +206,33 @@ pub record RestoringApplies : Type 0 where
   pub nothing_inside : restoring.NothingComesInsideCheckpoints
       → AllByRecursion (λ (write : Write). NothingComesInside totals output_failed write.node write.written) output_failed.writes
   pub at_cut : restoring.CheckpointsAtCutsAreKept
-      → (only : HasOne (IsCheckpointOf run (until 2)) output_failed.writes) × (only.one.progress ≡ acknowledged)
+      → (only : HasOne (IsCheckpointOf run (until 2)) output_failed.writes) × (only.one.stage ≡ acknowledged)
   pub watermarks : restoring.KeptWatermarksLieWithinToday
       → AllByRecursion (λ (write : Write). IsKeptWithin totals output_failed.low write.written) output_failed.writes
   pub cut_batch : restoring.BatchesOutsideCutsLieOutsideLow
-      → frontier_of (bounds_of total_flow src) (front_of output_failed.low src) (2 ∷ []) ≡ false
+      → node_frontier total_flow src (front_of output_failed.low src) (2 ∷ []) ≡ false
   pub batch_to_come : restoring.BatchesToComeLieOutsideLow
-      → frontier_of (bounds_of total_flow src) (front_of output_failed.low src) (4 ∷ []) ≡ false
+      → node_frontier total_flow src (front_of output_failed.low src) (4 ∷ []) ≡ false
   pub collected_below : restoring.CollectedIsWhatLiesBelow
-      → AllByRecursion (λ (write : Write). (write.progress ≡ collected) ↔ (lies_below totals output_failed.low output_failed.history write.node write.written ≡ true)) output_failed.writes
+      → AllByRecursion (λ (write : Write). (write.stage ≡ collected) ↔ (lies_below totals output_failed.low output_failed.history write.node write.written ≡ true)) output_failed.writes
   pub before : Machine
   pub two_asked : length before.writes ≡ 2
   pub forgotten : restoring.WhatIsForgottenWasAcknowledged
       → AllByRecursion (λ (write : Write). lies_below totals (map front_of_cut two_epochs_kept.cuts) before.history write.node write.written ≡ true
-      → is_in_flight write.progress ≡ false) before.writes
+      → is_in_flight write.stage ≡ false) before.writes
 
 -- the laws of restoring, of a select that writes each event, when it fails with one of its two events collected, and of a running
 -- total of whose events none is collected
 pub record CollectionRestored : Type 0 where
   pub logged : restoring.EventsInsideCutsAreLogged
-      → AllByRecursion (λ (v : Numbered). place events_logged.flow v.event ≡ big → frontier_of (bounds_of events_logged.flow big) [] (stamp v.event) ≡ true
+      → AllByRecursion (λ (v : SerialEvent). event_node events_logged.flow v.event ≡ big → node_frontier events_logged.flow big [] (event_stamp v.event) ≡ true
       → IsLoggedOnce events_logged event_collected.low big v event_collected.writes) event_collected.history
   pub never_collected : restoring.EventsThatMustBeKeptAreNeverCollected
       → AllByRecursion (MayKeepNothingIfCollected events_logged) event_collected.writes
   pub never_of_total : restoring.EventsThatMustBeKeptAreNeverCollected
       → AllByRecursion (MayKeepNothingIfCollected total_logged) none_collected.writes
   pub collected_below : restoring.CollectedIsWhatLiesBelow
-      → AllByRecursion (λ (write : Write). (write.progress ≡ collected) ↔ (lies_below events_logged event_collected.low event_collected.history write.node write.written ≡ true)) event_collected.writes
+      → AllByRecursion (λ (write : Write). (write.stage ≡ collected) ↔ (lies_below events_logged event_collected.low event_collected.history write.node write.written ≡ true)) event_collected.writes
 
 -- The laws of restoring, of logs from which something is sent again: in the loop, where nothing was collected, by the node
 -- where rounds meet to the node that counts up; and after a collection by a select to the output, from the log of each of its
@@ -251,11 +251,11 @@ pub record LogsRestored : Type 0 where
 
 -- three rounds of epoch 0, at the feedback
 abbrev pub counted : Frontier
-counted = frontier_of (bounds_of loop_counts_up (sender loop_counts_up fed_back_edge)) counted_rounds
+counted = node_frontier loop_counts_up (sender loop_counts_up fed_back_edge) counted_rounds
 
 -- the first round of each epoch
 abbrev pub begun : Frontier
-begun = frontier_of (bounds_of loop_counts_up (sender loop_counts_up fed_back_edge)) first_rounds
+begun = node_frontier loop_counts_up (sender loop_counts_up fed_back_edge) first_rounds
 
 -- the one first, and then always the other
 abbrev pub one_or_other : ℕ → Frontier
@@ -264,7 +264,7 @@ one_or_other (suc i) = begun
 
 -- both epochs, at the sequence
 abbrev pub both_epochs : Frontier
-both_epochs = frontier_of (bounds_of regroup_by_three (sender regroup_by_three 1)) (until 2)
+both_epochs = node_frontier regroup_by_three (sender regroup_by_three 1) (until 2)
 
 -- the laws of projections, of the edge that is fed back, and of the edge out of the sequence
 pub record ProjectionsApply : Type 0 where
@@ -319,7 +319,7 @@ pub record SendingApplies : Type 0 where
       → AllByRecursion (λ (m : Message). psi two_batches.flow fed_back_edge counted m.at ≡ true)
       (sends two_batches (sender loop_counts_up fed_back_edge) [] (Deliver 3 (message (round 0 0) (pair 1 1) (round 0 0))))
   pub sent_inside : sending.SentFromInsideIsInsidePsi
-      → AllByRecursion (λ (m : Message). all_inside counted m.causes ≡ true → psi two_batches.flow fed_back_edge counted m.at ≡ true) (sent two_batches under_way fed_back_edge)
+      → AllByRecursion (λ (m : Message). all_inside counted m.causes ≡ true → psi two_batches.flow fed_back_edge counted m.at ≡ true) (sent_messages two_batches under_way fed_back_edge)
   pub from_inside : sending.InsidePhiComesFromInside → ComesFromInside two_batches under_way fed_back_edge counted
   pub sequence_from_inside : sending.InsidePhiOfSequenceComesFromInside → ComesFromInside numbers numbered_both 1 (kept_epoch 1)
   pub table : sending.SentTableFollowsHistory → FollowsHistory numbers 1

@@ -6,11 +6,11 @@ use Rattle.fw_flow.specs.declared.choice.Choice.{Choice}
 use Rattle.fw_flow.specs.declared.choice.Cut.{Cut}
 use Rattle.fw_flow.specs.declared.choice.Cut.TheVariants.{At, Present}
 use Rattle.fw_flow.specs.declared.step.Step.TheVariants.{Deliver, Fail, Inject, Notify}
-use Rattle.fw_model.specs.Choice.{ComesFromSender, HasItsNotices, IsChoiceWithin, IsConsistent, IsLargest, IsNoteKept, LiesInReceiver, NoteComesFromSender, cut_of, filtered}
+use Rattle.fw_model.specs.Choice.{ComesFromSender, HasItsNotices, IsChoiceWithin, IsConsistent, IsLargest, IsNoticeKept, LiesInReceiver, NoticeComesFromSender, cut_of, filtered_history}
 use Rattle.fw_model.specs.Covers.{covers_in}
-use Rattle.fw_model.specs.History.{IsLegal, pending}
+use Rattle.fw_model.specs.History.{IsLegal, pending_messages}
 use Rattle.fw_model.specs.Machine.{Machine, events, first_state, front_of}
-use Rattle.fw_model.specs.Steps.{Run, did, offers, quiet}
+use Rattle.fw_model.specs.Steps.{Run, did, offers, silent}
 use Rattle.fw_examples.specs.Flows.{pair, big, big_to_out, one_select, src, src_to_big, first_source, first_to_mix, low, mix_to_tot, second_source, second_to_low, tot, two_sources}
 
 -- the five inclusions of a consistent choice
@@ -19,22 +19,22 @@ pub data Inclusion : Type 0 where
   of_discarded : Inclusion
   of_notified : Inclusion
   of_own : Inclusion
-  of_notes : Inclusion
+  of_notices : Inclusion
 
 -- the choice meets the inclusion
 abbrev pub Meets : System → Machine → Choice → Inclusion → Type 0
 Meets sys state choice of_delivered = (d : ℕ) → d < length sys.flow.edges → ComesFromSender sys.flow (covers_in sys state) choice d
 Meets sys state choice of_discarded = (e : ℕ) → e < length sys.flow.edges → LiesInReceiver sys.flow (covers_in sys state) choice e
 Meets sys state choice of_notified = (p : ℕ) → p < length sys.flow.nodes → HasItsNotices sys.flow (covers_in sys state) choice p
-Meets sys state choice of_own = (p : ℕ) → p < length sys.flow.nodes → IsNoteKept sys.flow choice p
-Meets sys state choice of_notes = (d : ℕ) → d < length sys.flow.edges → NoteComesFromSender sys.flow (covers_in sys state) choice d
+Meets sys state choice of_own = (p : ℕ) → p < length sys.flow.nodes → IsNoticeKept sys.flow choice p
+Meets sys state choice of_notices = (d : ℕ) → d < length sys.flow.edges → NoticeComesFromSender sys.flow (covers_in sys state) choice d
 
 -- the choice is from what is offered, and meets each inclusion but perhaps this one
 pub record IsConsistentWithout (left_out : Inclusion) (sys : System) (state : Machine) (offers : ℕ → Cut → Type 0) (choice : Choice) : Type 0 where
   pub one_cut_each : length choice.cuts ≡ length sys.flow.nodes
-  pub one_note_each : length choice.notes ≡ length sys.flow.nodes
+  pub one_notice_each : length choice.notices ≡ length sys.flow.nodes
   pub offered : (p : ℕ) → p < length sys.flow.nodes → offers p (cut_of choice p)
-  pub canonical : (p : ℕ) → p < length sys.flow.nodes → IsCanonical (bounds_of sys.flow p) (front_of choice.notes p)
+  pub canonical : (p : ℕ) → p < length sys.flow.nodes → IsCanonical (bounds_of sys.flow p) (front_of choice.notices p)
   pub others : (inclusion : Inclusion) → inclusion ≢ left_out → Meets sys state choice inclusion
 
 -- A choice is consistent where it is so but perhaps for one inclusion, and meets that one too.
@@ -53,7 +53,7 @@ IsNeeded left_out sys state choice other =
 
 -- the history that a recovery to the choice leaves could have come without a failure
 abbrev pub LeavesAHistory : System → Machine → Choice → Type 0
-LeavesAHistory sys state choice = IsLegal sys (events (filtered sys choice state.history))
+LeavesAHistory sys state choice = IsLegal sys (events (filtered_history sys choice state.history))
 
 -- The inclusion is needed, and the choice that lacks it leaves what could not have come without a failure.
 abbrev pub IsNeededForHistories : Inclusion → System → Machine → Choice → Choice → Type 0
@@ -76,15 +76,15 @@ one_selected = one_select ((pair 1 20 ∷ []) ∷ [])
 
 -- nothing is kept
 abbrev pub nothing_kept : Choice
-nothing_kept = record { cuts = At none ∷ At none ∷ At none ∷ []; notes = none ∷ none ∷ none ∷ [] }
+nothing_kept = record { cuts = At none ∷ At none ∷ At none ∷ []; notices = none ∷ none ∷ none ∷ [] }
 
 -- the output alone stays as it is
 abbrev pub output_kept : Choice
-output_kept = record { cuts = At none ∷ At none ∷ Present ∷ []; notes = none ∷ none ∷ none ∷ [] }
+output_kept = record { cuts = At none ∷ At none ∷ Present ∷ []; notices = none ∷ none ∷ none ∷ [] }
 
 -- the input and the output stay as they are
 abbrev pub input_kept : Choice
-input_kept = record { cuts = Present ∷ At none ∷ Present ∷ []; notes = none ∷ none ∷ none ∷ [] }
+input_kept = record { cuts = Present ∷ At none ∷ Present ∷ []; notices = none ∷ none ∷ none ∷ [] }
 
 -- The output has a rec from the select, which failed and keeps nothing: without the first inclusion the output would keep
 -- the rec, though nobody sent it.
@@ -93,7 +93,7 @@ DeliveredIsNeeded =
     (state : Machine)
     × Run one_selected (first_state one_selected)
     (Inject src ∷ Deliver src_to_big None ∷ Deliver big_to_out None ∷ Fail (big ∷ []) ∷ [])
-    (did quiet ∷ did quiet ∷ did quiet ∷ did quiet ∷ [])
+    (did silent ∷ did silent ∷ did silent ∷ did silent ∷ [])
     state
     × IsNeededForHistories of_delivered one_selected state nothing_kept output_kept
 
@@ -102,12 +102,12 @@ DeliveredIsNeeded =
 abbrev pub DiscardedIsNeeded : Type 0
 DiscardedIsNeeded =
     (state : Machine)
-    × Run one_selected (first_state one_selected) (Inject src ∷ Fail (big ∷ []) ∷ []) (did quiet ∷ did quiet ∷ []) state
+    × Run one_selected (first_state one_selected) (Inject src ∷ Fail (big ∷ []) ∷ []) (did silent ∷ did silent ∷ []) state
     × IsNeeded of_discarded one_selected state output_kept input_kept
     × LeavesAHistory one_selected state output_kept
     × LeavesAHistory one_selected state input_kept
-    × (pending one_selected (events (filtered one_selected output_kept state.history)) src_to_big ≡ [])
-    × (pending one_selected (events (filtered one_selected input_kept state.history)) src_to_big
+    × (pending_messages one_selected (events (filtered_history one_selected output_kept state.history)) src_to_big ≡ [])
+    × (pending_messages one_selected (events (filtered_history one_selected input_kept state.history)) src_to_big
     ≡ record { at = 0 ∷ []; rec = pair 1 20; causes = (0 ∷ []) ∷ [] } ∷ [])
 
 -- two inputs with one batch each, of a rec that comes to the sum and one that does not
@@ -120,19 +120,19 @@ IsFailedAfterNotice state =
     Run one_comes (first_state one_comes)
     (Inject first_source ∷ Inject second_source ∷ Deliver first_to_mix None ∷ Deliver second_to_low None ∷ Deliver mix_to_tot None
     ∷ Notify tot (Some (0 ∷ [])) ∷ Fail (low ∷ []) ∷ [])
-    (did quiet ∷ did quiet ∷ did quiet ∷ did quiet ∷ did quiet ∷ did quiet ∷ did quiet ∷ [])
+    (did silent ∷ did silent ∷ did silent ∷ did silent ∷ did silent ∷ did silent ∷ did silent ∷ [])
     state
 
 -- the second input, the select and the sum keep nothing
 abbrev pub sum_undone : Choice
 sum_undone = record {
   cuts = Present ∷ At none ∷ At none ∷ Present ∷ At none ∷ Present ∷ [];
-  notes = all ∷ none ∷ none ∷ none ∷ none ∷ none ∷ [];
+  notices = all ∷ none ∷ none ∷ none ∷ none ∷ none ∷ [];
 }
 
 -- the sum stays as it is, with these frontiers of notifications
 abbrev pub sum_kept : List Front → Choice
-sum_kept notes = record { cuts = Present ∷ At none ∷ At none ∷ Present ∷ Present ∷ Present ∷ []; notes = notes }
+sum_kept notices = record { cuts = Present ∷ At none ∷ At none ∷ Present ∷ Present ∷ Present ∷ []; notices = notices }
 
 -- Without the third inclusion the sum would keep its notification, though the epoch is to be delivered anew.
 abbrev pub NotifiedIsNeeded : Type 0
@@ -147,7 +147,7 @@ OwnIsNeeded =
     × IsNeededForHistories of_own one_comes state sum_undone (sum_kept (all ∷ all ∷ all ∷ all ∷ all ∷ all ∷ []))
 
 -- Without the fifth it would keep it too, with all as its own frontier of notifications alone.
-abbrev pub NotesAreNeeded : Type 0
-NotesAreNeeded =
+abbrev pub NoticesAreNeeded : Type 0
+NoticesAreNeeded =
     (state : Machine) × IsFailedAfterNotice state
-    × IsNeededForHistories of_notes one_comes state sum_undone (sum_kept (all ∷ none ∷ none ∷ none ∷ all ∷ none ∷ []))
+    × IsNeededForHistories of_notices one_comes state sum_undone (sum_kept (all ∷ none ∷ none ∷ none ∷ all ∷ none ∷ []))

@@ -3,8 +3,8 @@
 -- logged events a collection takes none.
 use Rattle.std.specs.Prelude.{List, None, Some, [], false, true, ℕ, ◌∷◌, ◌≡◌}
 use Rattle.fw_bag.specs.declared.rec.Rec.{Rec}
-use Rattle.fw_frontier.specs.Front.{Front, frontier_of}
-use Rattle.fw_flow.specs.Dataflow.{System, bounds_of, out_edges}
+use Rattle.fw_frontier.specs.Front.{Front}
+use Rattle.fw_flow.specs.Dataflow.{System, out_edges, node_frontier}
 use Rattle.fw_flow.specs.declared.choice.Choice.{Choice}
 use Rattle.fw_flow.specs.declared.choice.Cut.TheVariants.{At, Present}
 use Rattle.fw_flow.specs.declared.event.Event.{Event}
@@ -15,7 +15,7 @@ use Rattle.fw_flow.specs.declared.step.Step.TheVariants.{Ack, Collect, Deliver, 
 use Rattle.fw_model.specs.Choice.{IsLargest, kept_of, until}
 use Rattle.fw_model.specs.Machine.{Machine, Write, acknowledged, checkpoint, collected, first_state, front_of, logged_event}
 use Rattle.fw_model.specs.Resending.{logged_messages, messages_to_resend}
-use Rattle.fw_model.specs.Steps.{Outcome, Run, acked, cuts, did, is_given_up, lies_below, lows, offers, quiet, sends_inside}
+use Rattle.fw_model.specs.Steps.{Outcome, Run, acked, cuts, did, is_given_up, lies_below, lows, offers, silent, sends_inside}
 use Rattle.fw_examples.specs.Flows.{fed, pair, big, big_to_out, out, selecting, src, src_to_big}
 use Rattle.fw_examples.specs.Loop.{with_serials}
 use Rattle.fw_examples.specs.RunningTotal.{alike, run, run_to_out, src_to_run, summing}
@@ -35,7 +35,7 @@ none = (0 ∷ []) ∷ []
 
 -- the input and the select keep nothing
 abbrev pub nothing_restored : Choice
-nothing_restored = record { cuts = At none ∷ At none ∷ Present ∷ []; notes = none ∷ none ∷ none ∷ [] }
+nothing_restored = record { cuts = At none ∷ At none ∷ Present ∷ []; notices = none ∷ none ∷ none ∷ [] }
 
 -- nothing has happened, but for the three serials that were drawn
 abbrev pub nothing_left : Machine
@@ -45,7 +45,7 @@ nothing_left = record {
   settled = none ∷ none ∷ none ∷ [];
   writes = [];
   failed = false ∷ false ∷ false ∷ [];
-  bounds = 0 ∷ 0 ∷ 0 ∷ [];
+  ack_counts = 0 ∷ 0 ∷ 0 ∷ [];
   low = none ∷ none ∷ none ∷ [];
 }
 
@@ -54,7 +54,7 @@ abbrev pub LosesAnEpoch : Type 0
 LosesAnEpoch =
     Run each_written (first_state each_written)
     (Inject src ∷ Deliver src_to_big None ∷ Deliver src_to_big None ∷ Progress ∷ Persist ∷ Fail (big ∷ []) ∷ Recover ∷ [])
-    (did quiet ∷ did quiet ∷ did quiet ∷ did quiet ∷ did quiet ∷ did quiet ∷ did (cuts nothing_restored) ∷ [])
+    (did silent ∷ did silent ∷ did silent ∷ did silent ∷ did silent ∷ did silent ∷ did (cuts nothing_restored) ∷ [])
     nothing_left
 
 -- ---- a select that logs what it does, a collection, and a failure of the select and of the output after it
@@ -65,7 +65,7 @@ selected_batches = (pair 1 20 ∷ []) ∷ (pair 2 30 ∷ []) ∷ []
 
 -- each node keeps epoch 0
 abbrev pub first_epoch_everywhere : Choice
-first_epoch_everywhere = record { cuts = At (until 1) ∷ At (until 1) ∷ At (until 1) ∷ []; notes = alike 1 }
+first_epoch_everywhere = record { cuts = At (until 1) ∷ At (until 1) ∷ At (until 1) ∷ []; notices = alike 1 }
 
 -- a message that comes from an event at its own epoch
 abbrev pub in_epoch : ℕ → Rec → Message
@@ -95,7 +95,7 @@ all_but_the_last = [] ∷ [] ∷ until 1 ∷ []
 
 -- the input stays as it is, the select comes back with all that it took, and the output with what it acknowledged
 abbrev pub both_come_back : Choice
-both_come_back = record { cuts = Present ∷ At [] ∷ At (until 1) ∷ []; notes = all_but_the_last }
+both_come_back = record { cuts = Present ∷ At [] ∷ At (until 1) ∷ []; notices = all_but_the_last }
 
 -- the select and the output failed with these writes and this low watermark, after the output acknowledged epoch 0
 abbrev pub both_failed : List Write → List Front → Machine
@@ -105,7 +105,7 @@ both_failed writes low = record {
   settled = all_but_the_last;
   writes = writes;
   failed = false ∷ true ∷ true ∷ [];
-  bounds = 0 ∷ 0 ∷ 1 ∷ [];
+  ack_counts = 0 ∷ 0 ∷ 1 ∷ [];
   low = low;
 }
 
@@ -119,14 +119,14 @@ events_logged = fed (selecting policy.Full) selected_batches
 abbrev pub event_collected : Machine
 event_collected =
     both_failed
-    (record { node = big; written = logged_event 1; progress = collected }
-    ∷ record { node = big; written = logged_event 4; progress = acknowledged }
+    (record { node = big; written = logged_event 1; stage = collected }
+    ∷ record { node = big; written = logged_event 4; stage = acknowledged }
     ∷ [])
     all_but_the_last
 
 -- the low watermark that the collection takes
 abbrev pub low_but_for_the_last : Choice
-low_but_for_the_last = record { cuts = At [] ∷ At [] ∷ At (until 1) ∷ []; notes = all_but_the_last }
+low_but_for_the_last = record { cuts = At [] ∷ At [] ∷ At (until 1) ∷ []; notices = all_but_the_last }
 
 -- the steps to that state
 abbrev pub steps_with_events : List Step
@@ -137,8 +137,8 @@ steps_with_events =
 -- what they show
 abbrev pub outcomes_with_events : List Outcome
 outcomes_with_events =
-    did quiet ∷ did quiet ∷ did quiet ∷ did quiet ∷ did quiet ∷ did quiet ∷ did quiet ∷ did quiet
-    ∷ did (acked out (0 ∷ []) (pair 1 20 ∷ [])) ∷ did (lows low_but_for_the_last) ∷ did quiet ∷ []
+    did silent ∷ did silent ∷ did silent ∷ did silent ∷ did silent ∷ did silent ∷ did silent ∷ did silent
+    ∷ did (acked out (0 ∷ []) (pair 1 20 ∷ [])) ∷ did (lows low_but_for_the_last) ∷ did silent ∷ []
 
 -- Of two logged events the one is collected, since its stamp lies below the select's watermark and what it sent below the
 -- output's. The other is kept: its stamp lies below too, but what it sent does not, and is sent again when both come back.
@@ -146,7 +146,7 @@ pub record CollectsALoggedEvent : Type 0 where
   pub reached : Run events_logged (first_state events_logged) steps_with_events outcomes_with_events event_collected
   pub largest : IsLargest events_logged event_collected (offers events_logged event_collected) both_come_back
   pub first_below : lies_below events_logged event_collected.low event_collected.history big (logged_event 1) ≡ true
-  pub second_inside : frontier_of (bounds_of events_logged.flow big) (front_of event_collected.low big) (1 ∷ []) ≡ true
+  pub second_inside : node_frontier events_logged.flow big (front_of event_collected.low big) (1 ∷ []) ≡ true
   pub second_needed : is_given_up events_logged event_collected.low big (1 ∷ []) ≡ false
   pub log : logged_messages events_logged event_collected event_collected.low big_to_out (kept_of events_logged.flow both_come_back big) ≡ second_message ∷ []
   pub sent_again : messages_to_resend events_logged event_collected both_come_back big_to_out ≡ second_message ∷ []
@@ -161,8 +161,8 @@ checkpoints_logged = fed (selecting policy.Eager) selected_batches
 abbrev pub log_kept : Machine
 log_kept =
     both_failed
-    (record { node = big; written = checkpoint (until 1) (alike 0); progress = acknowledged }
-    ∷ record { node = big; written = checkpoint [] (alike 1); progress = acknowledged }
+    (record { node = big; written = checkpoint (until 1) (alike 0); stage = acknowledged }
+    ∷ record { node = big; written = checkpoint [] (alike 1); stage = acknowledged }
     ∷ [])
     (alike 1)
 
@@ -175,9 +175,9 @@ steps_with_checkpoints =
 -- what they show
 abbrev pub outcomes_with_checkpoints : List Outcome
 outcomes_with_checkpoints =
-    did quiet ∷ did quiet ∷ did quiet ∷ did quiet ∷ did quiet
+    did silent ∷ did silent ∷ did silent ∷ did silent ∷ did silent
     ∷ did (acked out (0 ∷ []) (pair 1 20 ∷ [])) ∷ did (lows first_epoch_everywhere)
-    ∷ did quiet ∷ did quiet ∷ did quiet ∷ did quiet ∷ did quiet ∷ []
+    ∷ did silent ∷ did silent ∷ did silent ∷ did silent ∷ did silent ∷ []
 
 -- what the log of the checkpoint of all holds of the edge to the output, if it was asked at this low watermark
 abbrev pub log_at : List Front → List Message
@@ -214,11 +214,11 @@ none_collected = record {
   next = 4;
   settled = [] ∷ [] ∷ [] ∷ [];
   writes =
-      record { node = run; written = logged_event 1; progress = acknowledged }
-      ∷ record { node = run; written = logged_event 2; progress = acknowledged }
+      record { node = run; written = logged_event 1; stage = acknowledged }
+      ∷ record { node = run; written = logged_event 2; stage = acknowledged }
       ∷ [];
   failed = false ∷ false ∷ false ∷ [];
-  bounds = 0 ∷ 0 ∷ 1 ∷ [];
+  ack_counts = 0 ∷ 0 ∷ 1 ∷ [];
   low = all_but_the_last;
 }
 
@@ -231,14 +231,14 @@ steps_with_total =
 -- what they show
 abbrev pub outcomes_with_total : List Outcome
 outcomes_with_total =
-    did quiet ∷ did quiet ∷ did quiet ∷ did quiet ∷ did quiet ∷ did quiet ∷ did quiet
+    did silent ∷ did silent ∷ did silent ∷ did silent ∷ did silent ∷ did silent ∷ did silent
     ∷ did (acked out (0 ∷ []) (pair 1 20 ∷ [])) ∷ did (lows low_but_for_the_last) ∷ []
 
 -- The collection takes no logged event of a running total, though the stamp of both lies below its watermark, and what was
 -- sent there below the output's: later epochs are summed from them.
 pub record KeepsEventsOfATotal : Type 0 where
   pub reached : Run total_logged (first_state total_logged) steps_with_total outcomes_with_total none_collected
-  pub inside : frontier_of (bounds_of total_logged.flow run) (front_of none_collected.low run) (0 ∷ []) ≡ true
+  pub inside : node_frontier total_logged.flow run (front_of none_collected.low run) (0 ∷ []) ≡ true
   pub sent_inside : sends_inside total_logged none_collected.low run (0 ∷ []) (out_edges total_logged.flow run) ≡ true
   pub first_kept : lies_below total_logged none_collected.low none_collected.history run (logged_event 1) ≡ false
   pub second_kept : lies_below total_logged none_collected.low none_collected.history run (logged_event 2) ≡ false

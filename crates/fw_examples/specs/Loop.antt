@@ -3,20 +3,20 @@
 use Rattle.std.specs.Prelude.{List, None, Some, [], false, length, map, replicate, slice_index_or, true, ℕ, ◌++◌, ◌∷◌, ◌≡◌}
 use Rattle.fw_bag.specs.declared.rec.Rec.{Rec}
 use Rattle.fw_time.specs.Stamp.{Stamp, same}
-use Rattle.fw_frontier.specs.Front.{Front, frontier_of}
+use Rattle.fw_frontier.specs.Front.{Front}
 use Rattle.fw_frontier.specs.Frontier.{Frontier}
-use Rattle.fw_flow.specs.Dataflow.{bounds_of}
+use Rattle.fw_flow.specs.Dataflow.{node_frontier}
 use Rattle.fw_flow.specs.declared.choice.Choice.{Choice}
 use Rattle.fw_flow.specs.declared.choice.Cut.TheVariants.{At, Present}
 use Rattle.fw_flow.specs.declared.event.Event.{Event}
 use Rattle.fw_flow.specs.declared.event.Event.TheVariants.{Deliver, Inject}
 use Rattle.fw_flow.specs.declared.event.Message.{Message}
 use Rattle.fw_flow.specs.declared.step.Step.{Step}
-use Rattle.fw_model.specs.Choice.{filtered}
+use Rattle.fw_model.specs.Choice.{filtered_history}
 use Rattle.fw_model.specs.Denotation.{IsDenotation, bag_at, rounds}
-use Rattle.fw_model.specs.History.{IsComplete, IsLegal, pending}
-use Rattle.fw_model.specs.Machine.{Machine, Numbered, events, first_state, front_of}
-use Rattle.fw_model.specs.Steps.{Outcome, acked, cuts, did, quiet}
+use Rattle.fw_model.specs.History.{IsComplete, IsLegal, pending_messages}
+use Rattle.fw_model.specs.Machine.{Machine, SerialEvent, events, first_state, front_of}
+use Rattle.fw_model.specs.Steps.{Outcome, acked, cuts, did, silent}
 use Rattle.fw_examples.specs.Flows.{loop_counts_up, pair, two_batches}
 use Rattle.fw_flow.specs.declared.step.Step.TheVariants as step
 
@@ -99,7 +99,7 @@ counted_rounds = round 0 3 ∷ round 1 0 ∷ []
 -- each event was enabled, and just these messages are pending
 pub record IsUnderWay : Type 0 where
   pub legal : IsLegal two_batches under_way
-  pub waiting : (e : ℕ) → pending two_batches under_way e ≡ slice_index_or still_pending e []
+  pub waiting : (e : ℕ) → pending_messages two_batches under_way e ≡ slice_index_or still_pending e []
 
 -- The complete frontiers by node: all before the loop; back from what is pending, at the feedback up to what waits for
 -- it, at the node where rounds meet one counter further, at the node that counts up less than that by what waits there;
@@ -116,7 +116,7 @@ complete_fronts =
 
 -- the complete frontier of a node
 abbrev pub complete_at : ℕ → Frontier
-complete_at p = frontier_of (bounds_of loop_counts_up p) (front_of complete_fronts p)
+complete_at p = node_frontier loop_counts_up p (front_of complete_fronts p)
 
 -- the largest family inside which all has come
 abbrev pub IsCompleteUnderWay : Type 0
@@ -125,7 +125,7 @@ IsCompleteUnderWay = IsComplete two_batches under_way complete_at
 -- ---- a recovery of the loop that counts up, after the node that counts up failed with both batches under way
 
 -- the events with their serials, from 0 on
-abbrev pub with_serials : List Event → List Numbered
+abbrev pub with_serials : List Event → List SerialEvent
 with_serials [] = []
 with_serials (v ∷ h) = record { serial = length h; event = v } ∷ with_serials h
 
@@ -142,7 +142,7 @@ counting_failed = record (first_state two_batches) {
 abbrev pub restored : Choice
 restored = record {
   cuts = Present ∷ Present ∷ Present ∷ At counted_rounds ∷ Present ∷ Present ∷ Present ∷ [];
-  notes = [] ∷ [] ∷ (round 1 1 ∷ []) ∷ counted_rounds ∷ counted_rounds ∷ counted_rounds ∷ ((0 ∷ []) ∷ []) ∷ [];
+  notices = [] ∷ [] ∷ (round 1 1 ∷ []) ∷ counted_rounds ∷ counted_rounds ∷ counted_rounds ∷ ((0 ∷ []) ∷ []) ∷ [];
 }
 
 -- the events of the run without the delivery of the rec of the second batch that was counted up
@@ -165,9 +165,9 @@ pending_again =
 
 -- the recovery filters out one delivery alone, the rest is legal, and the message that was filtered out is pending again
 pub record IsRestored : Type 0 where
-  pub remains : events (filtered two_batches restored (with_serials under_way)) ≡ without_the_second
+  pub remains : events (filtered_history two_batches restored (with_serials under_way)) ≡ without_the_second
   pub legal : IsLegal two_batches without_the_second
-  pub waiting : (e : ℕ) → pending two_batches without_the_second e ≡ slice_index_or pending_again e []
+  pub waiting : (e : ℕ) → pending_messages two_batches without_the_second e ≡ slice_index_or pending_again e []
 
 -- the steps up to the recovery: the sixteen events, what is complete becomes settled, and the node that counts up fails
 abbrev pub steps_taken : List Step
@@ -195,7 +195,7 @@ steps_taken =
 
 -- none of them shows something but the recovery, which shows its choice
 abbrev pub outcomes_shown : List Outcome
-outcomes_shown = replicate 18 (did quiet) ++ did (cuts restored) ∷ []
+outcomes_shown = replicate 18 (did silent) ++ did (cuts restored) ∷ []
 
 -- the edges of the deliveries after the recovery, always the first edge on which something is pending
 abbrev pub edges_delivered : List ℕ
@@ -210,7 +210,7 @@ steps_left = map (λ e. step.Deliver e None) edges_delivered ++ step.Progress �
 -- none of them shows something but the acknowledgements, which show what the batches denote
 abbrev pub outcomes_left : List Outcome
 outcomes_left =
-    replicate 51 (did quiet)
+    replicate 51 (did silent)
     ++ did (acked 6 (0 ∷ []) (pair 1 1 ∷ pair 1 2 ∷ pair 1 3 ∷ pair 1 4 ∷ []))
     ∷ did (acked 6 (1 ∷ []) (pair 2 1 ∷ pair 2 2 ∷ pair 2 3 ∷ pair 2 4 ∷ pair 3 1 ∷ pair 3 2 ∷ pair 3 3 ∷ pair 3 4 ∷ []))
     ∷ []

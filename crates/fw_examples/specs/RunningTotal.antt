@@ -17,7 +17,7 @@ use Rattle.fw_flow.specs.declared.step.Step.TheVariants.{Ack, Checkpoint, Collec
 use Rattle.fw_model.specs.Choice.{until}
 use Rattle.fw_model.specs.Denotation.{Family, rounds}
 use Rattle.fw_model.specs.Machine.{Machine, acknowledged, checkpoint, collected, in_flight}
-use Rattle.fw_model.specs.Steps.{Outcome, acked, cuts, did, lows, quiet}
+use Rattle.fw_model.specs.Steps.{Outcome, acked, cuts, did, lows, silent}
 use Rattle.fw_examples.specs.Flows.{fed, in_a_row, node, pair, out, src}
 use Rattle.fw_examples.specs.Loop.{with_serials}
 use Rattle.fw_flow.specs.declared.kind.Policy.TheVariants as policy
@@ -83,18 +83,18 @@ output_failed = record {
   next = 9;
   settled = until 3 ∷ until 3 ∷ until 2 ∷ [];
   writes =
-      record { node = run; written = checkpoint (until 1) (alike 0); progress = collected }
-      ∷ record { node = run; written = checkpoint (until 2) (alike 0); progress = acknowledged }
-      ∷ record { node = run; written = checkpoint (until 3) (alike 2); progress = in_flight }
+      record { node = run; written = checkpoint (until 1) (alike 0); stage = collected }
+      ∷ record { node = run; written = checkpoint (until 2) (alike 0); stage = acknowledged }
+      ∷ record { node = run; written = checkpoint (until 3) (alike 2); stage = in_flight }
       ∷ [];
   failed = false ∷ false ∷ true ∷ [];
-  bounds = 0 ∷ 0 ∷ 2 ∷ [];
+  ack_counts = 0 ∷ 0 ∷ 2 ∷ [];
   low = alike 2;
 }
 
 -- each node keeps epochs 0 and 1, and the notifications of them count, at the output perhaps fewer
 abbrev pub two_kept_noting : Front → Choice
-two_kept_noting last = record { cuts = At (until 2) ∷ At (until 2) ∷ At (until 2) ∷ []; notes = until 2 ∷ until 2 ∷ last ∷ [] }
+two_kept_noting last = record { cuts = At (until 2) ∷ At (until 2) ∷ At (until 2) ∷ []; notices = until 2 ∷ until 2 ∷ last ∷ [] }
 
 -- each node keeps epochs 0 and 1
 abbrev pub two_epochs_kept : Choice
@@ -102,7 +102,7 @@ two_epochs_kept = two_kept_noting (until 2)
 
 -- each node keeps epoch 0
 abbrev pub epoch_kept : Choice
-epoch_kept = record { cuts = At (until 1) ∷ At (until 1) ∷ At (until 1) ∷ []; notes = alike 1 }
+epoch_kept = record { cuts = At (until 1) ∷ At (until 1) ∷ At (until 1) ∷ []; notices = alike 1 }
 
 -- the state after the recovery
 abbrev pub come_back : Machine
@@ -110,8 +110,8 @@ come_back = record output_failed {
   history = with_serials two_epochs;
   settled = alike 2;
   writes =
-      record { node = run; written = checkpoint (until 1) (alike 0); progress = collected }
-      ∷ record { node = run; written = checkpoint (until 2) (alike 0); progress = acknowledged }
+      record { node = run; written = checkpoint (until 1) (alike 0); stage = collected }
+      ∷ record { node = run; written = checkpoint (until 2) (alike 0); stage = acknowledged }
       ∷ [];
   failed = false ∷ false ∷ false ∷ [];
 }
@@ -125,7 +125,7 @@ steps_up_to_two =
 
 -- what they show
 abbrev pub outcomes_up_to_two : List Outcome
-outcomes_up_to_two = replicate 11 (did quiet) ++ did (acked out (0 ∷ []) []) ∷ did (acked out (1 ∷ []) (pair 1 10 ∷ [])) ∷ []
+outcomes_up_to_two = replicate 11 (did silent) ++ did (acked out (0 ∷ []) []) ∷ did (acked out (1 ∷ []) (pair 1 10 ∷ [])) ∷ []
 
 -- the steps after the collection in which epoch 2 is summed and a checkpoint asked, epoch 3 is sent, and the output fails
 abbrev pub steps_of_failure : List Step
@@ -134,7 +134,7 @@ steps_of_failure =
 
 -- they show nothing
 abbrev pub outcomes_of_failure : List Outcome
-outcomes_of_failure = replicate 7 (did quiet)
+outcomes_of_failure = replicate 7 (did silent)
 
 -- the steps that bring epoch 2 through
 abbrev pub steps_of_sum : List Step
@@ -143,7 +143,7 @@ steps_of_sum =
 
 -- what they show
 abbrev pub outcomes_of_sum : List Outcome
-outcomes_of_sum = replicate 5 (did quiet) ++ did (acked out (2 ∷ []) (pair 1 15 ∷ [])) ∷ []
+outcomes_of_sum = replicate 5 (did silent) ++ did (acked out (2 ∷ []) (pair 1 15 ∷ [])) ∷ []
 
 -- the steps up to the failure, with the collection
 abbrev pub steps_to_failure : List Step

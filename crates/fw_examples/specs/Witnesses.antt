@@ -1,9 +1,9 @@
 -- Witnesses for the laws: what they ask holds of the running total, of the loop and of a sequence, where what they say is not empty.
 use Rattle.std.specs.Prelude.{[], false, length, map, true, ℕ, ◌++◌, ◌<◌, ◌∷◌, ◌≡◌, ◌≢◌}
 use Rattle.fw_bag.specs.Bag.{how_often}
-use Rattle.fw_frontier.specs.Front.{Front, frontier_of}
+use Rattle.fw_frontier.specs.Front.{Front}
 use Rattle.fw_frontier.specs.Frontier.{Frontier, IsFrontier, Within, join}
-use Rattle.fw_flow.specs.Dataflow.{HasEpochs, NotifiesNobody, bounds_of, is_numbered, kind_of, policy_of, receiver, sender}
+use Rattle.fw_flow.specs.Dataflow.{HasEpochs, NotifiesNobody, bounds_of, is_numbered, kind_of, policy_of, receiver, sender, node_frontier}
 use Rattle.fw_flow.specs.Projection.{phi}
 use Rattle.fw_flow.specs.Restoring.{can_resend, way_of}
 use Rattle.fw_flow.specs.WellFormed.{IsWellFormed, IsWellFormedSystem}
@@ -13,15 +13,15 @@ use Rattle.fw_flow.specs.declared.kind.Kind.TheVariants.{Sequence}
 use Rattle.fw_flow.specs.declared.restoring.Restoring.TheVariants.{Checkpoints}
 use Rattle.fw_flow.specs.declared.step.Step.TheVariants.{Collect, Recover}
 use Rattle.fw_model.specs.Acknowledgements.{Shows, stamps_acknowledged}
-use Rattle.fw_model.specs.Choice.{IsCandidate, LiesInReceiver, IsChoiceWithin, IsConsistent, IsCutWithin, IsLargest, cut_of, ever, filtered, kept, kept_of, note_of, until}
+use Rattle.fw_model.specs.Choice.{IsCandidate, LiesInReceiver, IsChoiceWithin, IsConsistent, IsCutWithin, IsLargest, cut_of, ever, filtered_history, kept, kept_of, notice_of, until}
 use Rattle.fw_model.specs.Choosing.{AreCheckpointsChains, HasItsChoice}
 use Rattle.fw_model.specs.Covers.{covers_in}
 use Rattle.fw_model.specs.Denotation.{IsDenotation, bag_at, rounds}
 use Rattle.fw_model.specs.Filtering.{AreFrontiers, ComeFromKept, IsConsistentlyKept, MeetsInclusions, kept_events, messages_from}
-use Rattle.fw_model.specs.History.{IsAdmissible, IsClosedFor, IsComplete, IsEnabled, IsLegal, delivered, pending, recs_at, sent}
+use Rattle.fw_model.specs.History.{IsAdmissible, IsClosedFor, IsComplete, IsEnabled, IsLegal, delivered_messages, pending_messages, recs_at, sent_messages}
 use Rattle.fw_model.specs.Machine.{Machine, Write, acknowledged, collected, events, first_state, front_of, in_flight, is_failed}
 use Rattle.fw_model.specs.Settled.{HasMoreToSettle, IsCutWithinSettled, IsDenotedInside, IsFull}
-use Rattle.fw_model.specs.Steps.{HaveNoRecovery, Run, Steps, cuts, did, lows}
+use Rattle.fw_model.specs.Steps.{HaveNoRecovery, Run, StepsTo, cuts, did, lows}
 use Rattle.fw_model.specs.Unions.{IsUnionOfChoices, IsUnionOfCuts}
 use Rattle.fw_examples.specs.Flows.{loop_counts_up, pair, regroup_by_three, two_batches, out, src, numbered_both, numbered_epoch, numbers, value_at}
 use Rattle.fw_examples.specs.Loop.{counted_rounds, counting_failed, message, outcomes_left, outcomes_shown, restored, round, steps_left, steps_taken, under_way, without_the_second}
@@ -39,15 +39,15 @@ pub record FailureIsReached : Type 0 where
   pub no_recovery : HaveNoRecovery steps_to_failure
   pub reached : Run totals (first_state totals) steps_to_failure outcomes_to_failure output_failed
   pub failed : is_failed output_failed out ≡ true
-  pub written : map (λ (write : Write). write.progress) output_failed.writes ≡ collected ∷ acknowledged ∷ in_flight ∷ []
-  pub pending_for_total : pending totals (events output_failed.history) src_to_run ≡ at_epoch 3 1 ∷ []
-  pub pending_for_output : pending totals (events output_failed.history) run_to_out ≡ at_epoch 2 15 ∷ []
+  pub written : map (λ (write : Write). write.stage) output_failed.writes ≡ collected ∷ acknowledged ∷ in_flight ∷ []
+  pub pending_for_total : pending_messages totals (events output_failed.history) src_to_run ≡ at_epoch 3 1 ∷ []
+  pub pending_for_output : pending_messages totals (events output_failed.history) run_to_out ≡ at_epoch 2 15 ∷ []
   pub acknowledged : stamps_acknowledged out outcomes_to_failure ≡ (0 ∷ []) ∷ (1 ∷ []) ∷ []
   pub bag : bag_at totals_denoted run_to_out (1 ∷ []) ≡ pair 1 10 ∷ []
 
 -- A recovery is a step from that state, filters out some events and keeps others, and one more epoch is acknowledged after it.
 pub record RecoveryIsReached : Type 0 where
-  pub step : Steps totals output_failed Recover come_back (did (cuts two_epochs_kept))
+  pub step : StepsTo totals output_failed Recover come_back (did (cuts two_epochs_kept))
   pub before : events output_failed.history ≡ next_epochs ++ two_epochs
   pub after : events come_back.history ≡ two_epochs
   pub legal : IsLegal totals (events output_failed.history)
@@ -68,7 +68,7 @@ pub record TwoRunsMeet : Type 0 where
 pub record SomeIsSettled : Type 0 where
   pub denoted : IsDenotedInside totals totals_denoted output_failed
   pub settled : output_failed.settled ≡ until 3 ∷ until 3 ∷ until 2 ∷ []
-  pub delivered : recs_at (1 ∷ []) (delivered (events output_failed.history) run_to_out) ≡ pair 1 10 ∷ []
+  pub delivered : recs_at (1 ∷ []) (delivered_messages (events output_failed.history) run_to_out) ≡ pair 1 10 ∷ []
   pub candidate : IsCandidate totals output_failed (is_failed output_failed) kept run (At (until 2))
 
 -- There the largest choice keeps two epochs of four, as the low watermark does, and checkpoints are chains; a checkpoint that
@@ -90,13 +90,13 @@ abbrev pub LowWatermarkRises : Type 0
 LowWatermarkRises =
     (before : Machine) × (after : Machine)
     × Run totals (first_state totals) steps_up_to_two outcomes_up_to_two before
-    × Steps totals before Collect after (did (lows two_epochs_kept))
+    × StepsTo totals before Collect after (did (lows two_epochs_kept))
     × (before.low ≡ alike 0)
     × (after.low ≡ alike 2)
 
 -- what is complete in the state of the failure
 abbrev pub complete_then : ℕ → Frontier
-complete_then p = frontier_of (bounds_of total_flow p) (front_of (until 4 ∷ until 3 ∷ until 2 ∷ []) p)
+complete_then p = node_frontier total_flow p (front_of (until 4 ∷ until 3 ∷ until 2 ∷ []) p)
 
 -- Some is complete there at each node, and more than is settled at a node that is not failed.
 pub record MoreIsComplete : Type 0 where
@@ -148,7 +148,7 @@ both_rounds = round 0 3 ∷ round 1 1 ∷ []
 
 -- what is in one or the other
 abbrev pub joined_rounds : Frontier
-joined_rounds = join (frontier_of (bounds_of loop_counts_up inc) counted_rounds) (frontier_of (bounds_of loop_counts_up inc) first_rounds)
+joined_rounds = join (node_frontier loop_counts_up inc counted_rounds) (node_frontier loop_counts_up inc first_rounds)
 
 -- In the loop two cuts of a node have a union that is neither of them, and what counts as delivered and as sent inside it is
 -- not all inside one of them.
@@ -169,15 +169,15 @@ JoinIsAFrontier = IsFrontier (bounds_of loop_counts_up inc) joined_rounds
 
 -- what is complete once epochs 0 and 1 came through
 abbrev pub complete_two : ℕ → Frontier
-complete_two p = frontier_of (bounds_of total_flow p) (front_of (alike 2) p)
+complete_two p = node_frontier total_flow p (front_of (alike 2) p)
 
 -- An epoch in which a rec was delivered is closed for the running total, and the history goes on with another delivery to it.
 pub record AnEpochIsClosed : Type 0 where
   pub closed : IsClosedFor totals two_epochs run (1 ∷ [])
   pub goes_on : IsLegal totals (next_epochs ++ two_epochs)
-  pub delivered_there : recs_at (1 ∷ []) (delivered two_epochs src_to_run) ≡ pair 1 10 ∷ []
+  pub delivered_there : recs_at (1 ∷ []) (delivered_messages two_epochs src_to_run) ≡ pair 1 10 ∷ []
   pub bag : bag_at totals_denoted src_to_run (1 ∷ []) ≡ pair 1 10 ∷ []
-  pub delivered_later : delivered (next_epochs ++ two_epochs) src_to_run ≡ at_epoch 2 5 ∷ at_epoch 1 10 ∷ []
+  pub delivered_later : delivered_messages (next_epochs ++ two_epochs) src_to_run ≡ at_epoch 2 5 ∷ at_epoch 1 10 ∷ []
 
 -- The same history goes on after a notification of the running total with a delivery to it and a notification of it.
 abbrev pub NotifiedAndGoesOn : Type 0
@@ -193,8 +193,8 @@ pub record TwoEpochsAreComplete : Type 0 where
   pub admissible : IsAdmissible totals two_epochs complete_two
   pub inside : complete_two out (1 ∷ []) ≡ true
   pub inside_phi : phi totals two_epochs run_to_out (complete_two run) (1 ∷ []) ≡ true
-  pub was_sent : recs_at (1 ∷ []) (sent totals two_epochs run_to_out) ≡ pair 1 10 ∷ []
-  pub was_delivered : recs_at (1 ∷ []) (delivered two_epochs run_to_out) ≡ pair 1 10 ∷ []
+  pub was_sent : recs_at (1 ∷ []) (sent_messages totals two_epochs run_to_out) ≡ pair 1 10 ∷ []
+  pub was_delivered : recs_at (1 ∷ []) (delivered_messages two_epochs run_to_out) ≡ pair 1 10 ∷ []
   pub bag : bag_at totals_denoted run_to_out (1 ∷ []) ≡ pair 1 10 ∷ []
   pub enabled : IsEnabled totals two_epochs (Injected src 2)
 
@@ -202,8 +202,8 @@ pub record TwoEpochsAreComplete : Type 0 where
 pub record OneIsOnItsWay : Type 0 where
   pub legal : IsLegal totals (next_epochs ++ two_epochs)
   pub denoted : how_often (pair 1 15) (bag_at totals_denoted run_to_out (2 ∷ [])) ≡ 1
-  pub sent_once : how_often (pair 1 15) (recs_at (2 ∷ []) (sent totals (next_epochs ++ two_epochs) run_to_out)) ≡ 1
-  pub not_delivered : how_often (pair 1 15) (recs_at (2 ∷ []) (delivered (next_epochs ++ two_epochs) run_to_out)) ≡ 0
+  pub sent_once : how_often (pair 1 15) (recs_at (2 ∷ []) (sent_messages totals (next_epochs ++ two_epochs) run_to_out)) ≡ 1
+  pub not_delivered : how_often (pair 1 15) (recs_at (2 ∷ []) (delivered_messages (next_epochs ++ two_epochs) run_to_out)) ≡ 0
 
 -- ---- witnesses for the laws of filtering: what they ask holds of recoveries of the running total, the loop and a sequence
 
@@ -213,7 +213,7 @@ kept_totals p = kept_of totals.flow two_epochs_kept p
 
 -- and of which notifications
 abbrev pub noted_totals : ℕ → Frontier
-noted_totals p = note_of totals.flow two_epochs_kept p
+noted_totals p = notice_of totals.flow two_epochs_kept p
 
 -- The recovery of the running total keeps what is consistent, deliveries and a notification among it, and filters out others.
 -- All that was settled had come. The running total is cut within what it settled, and of what the input sent, which it cannot
@@ -222,12 +222,12 @@ pub record TotalsAreFiltered : Type 0 where
   pub legal : IsLegal totals (events output_failed.history)
   pub consistently : IsConsistentlyKept totals (events output_failed.history) kept_totals noted_totals
   pub inclusions : MeetsInclusions totals output_failed two_epochs_kept
-  pub remains : events (filtered totals two_epochs_kept output_failed.history) ≡ two_epochs
+  pub remains : events (filtered_history totals two_epochs_kept output_failed.history) ≡ two_epochs
   pub full : IsFull totals output_failed
   pub cut : IsCutWithinSettled totals output_failed two_epochs_kept run
   pub discarded : LiesInReceiver total_flow (covers_in totals output_failed) two_epochs_kept src_to_run
   pub no_log : can_resend (policy_of total_flow src) ≡ false
-  pub was_pending : pending totals (events output_failed.history) src_to_run ≡ at_epoch 3 1 ∷ []
+  pub was_pending : pending_messages totals (events output_failed.history) src_to_run ≡ at_epoch 3 1 ∷ []
 
 -- what each node of the loop keeps in its recovery
 abbrev pub kept_rounds : ℕ → Frontier
@@ -235,7 +235,7 @@ kept_rounds p = kept_of two_batches.flow restored p
 
 -- two rounds of epoch 0
 abbrev pub two_rounds : Frontier
-two_rounds = frontier_of (bounds_of loop_counts_up (sender loop_counts_up 3)) (round 0 2 ∷ round 1 0 ∷ [])
+two_rounds = node_frontier loop_counts_up (sender loop_counts_up 3) (round 0 2 ∷ round 1 0 ∷ [])
 
 -- The recovery of the loop, in which no node is notified, filters out a delivery. On an edge to a node that stays as it is one
 -- message of two stays pending, and on the edge to the node that is cut one more is pending than before.
@@ -250,20 +250,20 @@ pub record LoopIsFiltered : Type 0 where
   pub inclusions : MeetsInclusions two_batches counting_failed restored
   pub full : IsFull two_batches counting_failed
   pub present : cut_of restored (receiver loop_counts_up 3) ≡ Present
-  pub two_were_pending : pending two_batches under_way 3
+  pub two_were_pending : pending_messages two_batches under_way 3
       ≡ message (round 0 2) (pair 1 3) (round 0 2) ∷ message (round 1 0) (pair 2 1) (round 1 0) ∷ []
-  pub one_is_pending : pending two_batches without_the_second 3 ≡ message (round 0 2) (pair 1 3) (round 0 2) ∷ []
+  pub one_is_pending : pending_messages two_batches without_the_second 3 ≡ message (round 0 2) (pair 1 3) (round 0 2) ∷ []
   pub fewer : Within two_rounds (kept_rounds (sender loop_counts_up 3))
-  pub sent_from_fewer : messages_from two_rounds (sent two_batches under_way 3)
+  pub sent_from_fewer : messages_from two_rounds (sent_messages two_batches under_way 3)
       ≡ message (round 0 1) (pair 1 2) (round 0 1) ∷ message (round 0 0) (pair 1 1) (round 0 0) ∷ []
   pub cut : IsCutWithinSettled two_batches counting_failed restored (receiver loop_counts_up 2)
-  pub one_was_pending : pending two_batches under_way 2 ≡ message (round 1 0) (pair 3 0) (round 1 0) ∷ []
-  pub two_are_pending : pending two_batches without_the_second 2
+  pub one_was_pending : pending_messages two_batches under_way 2 ≡ message (round 1 0) (pair 3 0) (round 1 0) ∷ []
+  pub two_are_pending : pending_messages two_batches without_the_second 2
       ≡ message (round 1 0) (pair 3 0) (round 1 0) ∷ message (round 1 0) (pair 2 0) (round 1 0) ∷ []
 
 -- the input and the sequence keep epoch 0, and the others all
 abbrev pub kept_epoch : ℕ → Frontier
-kept_epoch p = frontier_of (bounds_of regroup_by_three p) (front_of (until 1 ∷ until 1 ∷ [] ∷ [] ∷ []) p)
+kept_epoch p = node_frontier regroup_by_three p (front_of (until 1 ∷ until 1 ∷ [] ∷ [] ∷ []) p)
 
 -- Of a history in which a sequence numbered three recs the first two numbers come from what it keeps, and nothing else is sent
 -- by the kept events.
@@ -274,8 +274,8 @@ pub record SequenceIsFiltered : Type 0 where
   pub frontiers : AreFrontiers regroup_by_three kept_epoch
   pub come : ComeFromKept numbers numbered_both kept_epoch
   pub remains : kept_events regroup_by_three kept_epoch numbered_both ≡ numbered_epoch
-  pub sent_before : sent numbers numbered_both 1 ≡ value_at 2 3 1 ∷ value_at 0 1 0 ∷ value_at 1 2 0 ∷ []
-  pub sent_by_kept : sent numbers numbered_epoch 1 ≡ value_at 0 1 0 ∷ value_at 1 2 0 ∷ []
+  pub sent_before : sent_messages numbers numbered_both 1 ≡ value_at 2 3 1 ∷ value_at 0 1 0 ∷ value_at 1 2 0 ∷ []
+  pub sent_by_kept : sent_messages numbers numbered_epoch 1 ≡ value_at 0 1 0 ∷ value_at 1 2 0 ∷ []
   pub inside : phi numbers numbered_both 1 (kept_epoch 1) (1 ∷ []) ≡ true
   pub outside : phi numbers numbered_both 1 (kept_epoch 1) (2 ∷ []) ≡ false
 
@@ -284,4 +284,4 @@ pub record NumbersAreDelivered : Type 0 where
   pub legal : IsLegal numbers numbered_both
   pub sequence : kind_of regroup_by_three 1 ≡ Sequence
   pub numbered : is_numbered regroup_by_three 1 ≡ true
-  pub two : delivered numbered_both 1 ≡ value_at 1 2 0 ∷ value_at 0 1 0 ∷ []
+  pub two : delivered_messages numbered_both 1 ≡ value_at 1 2 0 ∷ value_at 0 1 0 ∷ []

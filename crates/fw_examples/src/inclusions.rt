@@ -1,7 +1,7 @@
 //! Why a consistent choice has to meet each of its five inclusions.
 ghost use Rattle.fw_flow.specs.WellFormed.{IsWellFormed};
 ghost use Rattle.fw_examples.specs.Flows.{one_select_flow, two_sources_flow};
-ghost use Rattle.fw_examples.specs.Inclusions.{LeavesOutOne, DeliveredIsNeeded, DiscardedIsNeeded, NotifiedIsNeeded, OwnIsNeeded, NotesAreNeeded};
+ghost use Rattle.fw_examples.specs.Inclusions.{LeavesOutOne, DeliveredIsNeeded, DiscardedIsNeeded, NotifiedIsNeeded, OwnIsNeeded, NoticesAreNeeded};
 
 /// Leaving out one inclusion leaves out nothing else.
 #[tactic(auto, using(crate::proofs::LeavingOut::leaves_out_one))]
@@ -46,7 +46,7 @@ pub fn own_is_needed()
 {}
 
 /// A node's frontier of notifications has to follow those of its senders.
-#[tactic(auto, using(crate::proofs::LeavingOut::notes_are_needed))]
-pub fn notes_are_needed()
-    ensures { NotesAreNeeded }
+#[tactic(auto, using(crate::proofs::LeavingOut::notices_are_needed))]
+pub fn notices_are_needed()
+    ensures { NoticesAreNeeded }
 {}

@@ -8,7 +8,7 @@ use Rattle.fw_flow.specs.declared.node.Loop.{Loop}
 use Rattle.fw_flow.specs.declared.node.Node.{Node}
 use Rattle.fw_flow.specs.Check.{JoinsDomains, HasAllowedPolicy, AreWalksRight, IsWalkWrong, HasNodeOf, HasBorders}
 use Rattle.fw_flow.specs.Dataflow.{Dataflow, idle_node, kind_of, policy_of, sender, receiver, max_of, domain_of_kind, out_domain_of_kind, is_input_kind, is_output_kind, greatest_number}
-use Rattle.fw_flow.specs.Parts.{capped, capped_kind, capped_loop, capped_node, capped_flow}
+use Rattle.fw_flow.specs.Parts.{capped_number, capped_kind, capped_loop, capped_node, capped_flow}
 use Rattle.fw_flow.specs.WellFormed.{IsWalk, IsClosedWalk, Passes, IsPolicyAllowed, IsWithinLimits, IsGroupSize, is_feedback_kind, is_enter_kind}
 
 -- what is the same for all sizes holds of a kind where it holds of it capped
@@ -27,7 +27,7 @@ from_capped P same (Leave l) h = h
 from_capped P same Total h = h
 from_capped P same Sequence h = h
 from_capped P same Ledger h = h
-from_capped P same (Regroup n) h = same (capped n) n h
+from_capped P same (Regroup n) h = same (capped_number n) n h
 
 pub to_capped : (P : Kind → Type 0) → ((m n : ℕ) → P (Regroup m) → P (Regroup n)) → (kind : Kind) → P kind → P (capped_kind kind)
 to_capped P same kind h = from_capped (λ k. P k → P (capped_kind kind)) (λ m n f x. f (same n m x)) kind (λ x. x) h
@@ -209,7 +209,7 @@ HasBorders-capped flow =
 
 -- ---- within the limits nothing is capped
 
-capped-small : (n : ℕ) → n ≤ greatest_number → capped n ≡ n
+capped-small : (n : ℕ) → n ≤ greatest_number → capped_number n ≡ n
 capped-small n le = ap (λ b. cond b n greatest_number) (le-leb n greatest_number le)
 
 capped_kind-small : (kind : Kind) → IsGroupSize kind → capped_kind kind ≡ kind

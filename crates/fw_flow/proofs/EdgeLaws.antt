@@ -5,7 +5,7 @@ use Rattle.std.proofs.lemmas.Bool.{eqb-true, eq-eqb}
 use Rattle.std.proofs.lemmas.Bool.Decides.{nat_tests}
 use Rattle.std.proofs.lemmas.List.{get_or_past}
 use Rattle.fw_time.specs.Stamp.{in_domain}
-use Rattle.fw_frontier.specs.Front.{Front, frontier_of, Names}
+use Rattle.fw_frontier.specs.Front.{Front, frontier_of, IsFrontOf}
 use Rattle.fw_frontier.proofs.BelowLaws.{names-as}
 use Rattle.fw_flow.specs.declared.event.Event.{Event}
 use Rattle.fw_flow.specs.declared.kind.Kind.TheVariants.{OutputEpoch, Sequence}
@@ -66,21 +66,21 @@ of_flow P flow other e h = subst P e h
 
 pub phi-named : (flow : Dataflow) → IsWellFormed flow → (e : ℕ) (os g : Front) (table : List (ℕ × ℕ)) (sys : System) (h : List Event) → sys.flow ≡ flow
     → (kind_of flow (sender flow e) ≡ Sequence → IsSentTable sys h (sender flow e) table)
-    → Names (bounds_of flow (receiver flow e)) g (λ u. in_domain (bounds_of flow (receiver flow e)) u
+    → IsFrontOf (bounds_of flow (receiver flow e)) g (λ u. in_domain (bounds_of flow (receiver flow e)) u
     && phi_of_kind (bounds_of flow (sender flow e)).greatest (kind_of flow (sender flow e)) (table_count (frontier_of (bounds_of flow (sender flow e)) os) table) (frontier_of (bounds_of flow (sender flow e)) os) u)
-    → Names (bounds_of flow (receiver flow e)) g (phi sys h e (frontier_of (bounds_of flow (sender flow e)) os))
+    → IsFrontOf (bounds_of flow (receiver flow e)) g (phi sys h e (frontier_of (bounds_of flow (sender flow e)) os))
 unfolding bounds_of
 phi-named flow w e os g table sys h same =
     let P : Dataflow → Type 0 = λ flow. IsWellFormed flow → (kind_of flow (sender flow e) ≡ Sequence → IsSentTable sys h (sender flow e) table)
-    → Names (bounds_of flow (receiver flow e)) g (λ u. in_domain (bounds_of flow (receiver flow e)) u
+    → IsFrontOf (bounds_of flow (receiver flow e)) g (λ u. in_domain (bounds_of flow (receiver flow e)) u
     && phi_of_kind (bounds_of flow (sender flow e)).greatest (kind_of flow (sender flow e)) (table_count (frontier_of (bounds_of flow (sender flow e)) os) table) (frontier_of (bounds_of flow (sender flow e)) os) u)
-    → Names (bounds_of flow (receiver flow e)) g (phi sys h e (frontier_of (bounds_of flow (sender flow e)) os)) in
+    → IsFrontOf (bounds_of flow (receiver flow e)) g (phi sys h e (frontier_of (bounds_of flow (sender flow e)) os)) in
     of_flow P flow sys.flow same here w
   where
     here : IsWellFormed sys.flow → (kind_of sys.flow (sender sys.flow e) ≡ Sequence → IsSentTable sys h (sender sys.flow e) table)
-        → Names (bounds_of sys.flow (receiver sys.flow e)) g (λ u. in_domain (bounds_of sys.flow (receiver sys.flow e)) u
+        → IsFrontOf (bounds_of sys.flow (receiver sys.flow e)) g (λ u. in_domain (bounds_of sys.flow (receiver sys.flow e)) u
         && phi_of_kind (bounds_of sys.flow (sender sys.flow e)).greatest (kind_of sys.flow (sender sys.flow e)) (table_count (frontier_of (bounds_of sys.flow (sender sys.flow e)) os) table) (frontier_of (bounds_of sys.flow (sender sys.flow e)) os) u)
-        → Names (bounds_of sys.flow (receiver sys.flow e)) g (phi sys h e (frontier_of (bounds_of sys.flow (sender sys.flow e)) os))
+        → IsFrontOf (bounds_of sys.flow (receiver sys.flow e)) g (phi sys h e (frontier_of (bounds_of sys.flow (sender sys.flow e)) os))
     here w is n =
         let f = frontier_of (bounds_of sys.flow (sender sys.flow e)) os in
         let kind = kind_of sys.flow (sender sys.flow e) in
@@ -91,9 +91,9 @@ phi-named flow w e os g table sys h same =
         ∙ sym (phi-by_table sys h e f table is u))
 
 pub phi-counted : (flow : Dataflow) → IsWellFormed flow → (e : ℕ) (os g : Front) (count : ℕ)
-    → Names (bounds_of flow (receiver flow e)) g (λ u. in_domain (bounds_of flow (receiver flow e)) u
+    → IsFrontOf (bounds_of flow (receiver flow e)) g (λ u. in_domain (bounds_of flow (receiver flow e)) u
     && phi_of_kind (bounds_of flow (sender flow e)).greatest (kind_of flow (sender flow e)) count (frontier_of (bounds_of flow (sender flow e)) os) u)
-    → Names (bounds_of flow (receiver flow e)) g (phi_by_count flow count e (frontier_of (bounds_of flow (sender flow e)) os))
+    → IsFrontOf (bounds_of flow (receiver flow e)) g (phi_by_count flow count e (frontier_of (bounds_of flow (sender flow e)) os))
 unfolding bounds_of phi_by_count
 phi-counted flow w e os g count n =
     let f = frontier_of (bounds_of flow (sender flow e)) os in
@@ -104,9 +104,9 @@ phi-counted flow w e os g count n =
     (λ u. ap (λ d. in_domain (bounds_of_domain flow d) u && phi_of_kind (greatest_of_kind flow kind) kind count f u) (sym (edge-domains flow w e)))
 
 pub psi-named : (flow : Dataflow) → IsWellFormed flow → (e : ℕ) (os g : Front)
-    → Names (bounds_of flow (receiver flow e)) g (λ u. in_domain (bounds_of flow (receiver flow e)) u
+    → IsFrontOf (bounds_of flow (receiver flow e)) g (λ u. in_domain (bounds_of flow (receiver flow e)) u
     && psi_of_kind (bounds_of flow (sender flow e)).greatest (kind_of flow (sender flow e)) (frontier_of (bounds_of flow (sender flow e)) os) u)
-    → Names (bounds_of flow (receiver flow e)) g (psi flow e (frontier_of (bounds_of flow (sender flow e)) os))
+    → IsFrontOf (bounds_of flow (receiver flow e)) g (psi flow e (frontier_of (bounds_of flow (sender flow e)) os))
 unfolding bounds_of psi
 psi-named flow w e os g n =
     let f = frontier_of (bounds_of flow (sender flow e)) os in
@@ -117,9 +117,9 @@ psi-named flow w e os g n =
     (λ u. ap (λ d. in_domain (bounds_of_domain flow d) u && psi_of_kind (greatest_of_kind flow kind) kind f u) (sym (edge-domains flow w e)))
 
 pub psi_back-named : (flow : Dataflow) (e : ℕ) (os g : Front)
-    → Names (bounds_of flow (sender flow e)) g (λ t. in_domain (bounds_of flow (sender flow e)) t
+    → IsFrontOf (bounds_of flow (sender flow e)) g (λ t. in_domain (bounds_of flow (sender flow e)) t
     && psi_back_of_kind (bounds_of flow (sender flow e)).greatest (kind_of flow (sender flow e)) (frontier_of (bounds_of flow (receiver flow e)) os) t)
-    → Names (bounds_of flow (sender flow e)) g (psi_back flow e (frontier_of (bounds_of flow (receiver flow e)) os))
+    → IsFrontOf (bounds_of flow (sender flow e)) g (psi_back flow e (frontier_of (bounds_of flow (receiver flow e)) os))
 unfolding bounds_of psi_back
 psi_back-named flow e os g n = n
 

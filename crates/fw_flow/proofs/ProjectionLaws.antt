@@ -10,14 +10,14 @@ use Rattle.std.proofs.lemmas.List.{drop_all}
 use Rattle.std.specs.List.{AllByRecursion}
 use Rattle.fw_time.specs.declared.stamp.Bounds.{Bounds}
 use Rattle.fw_time.specs.Stamp.{Stamp, leq, nest, outer, counter, in_domain, origin}
-use Rattle.fw_time.specs.Sending.{entered, fed_back}
+use Rattle.fw_time.specs.Sending.{entered_stamp, fed_back_stamp}
 use Rattle.std.proofs.Math.Nat.{min-le_left, min-le_right, div-add-mod', mod-lt, le-div_iff_mul-le, div-lt_iff_lt-mul, div-le_self, mul-le-mul_right}
 use Rattle.fw_time.specs.NestLaws.{length-nest, places-outer}
 use Rattle.fw_time.proofs.StampLaws.{leq-refl, leq-length, leq-nest, origin-leq, counter-nest, nest-outer}
 use Rattle.fw_time.proofs.EachLaws.{each-append}
 use Rattle.fw_time.proofs.StampSteps.{length-origin}
 use Rattle.fw_frontier.specs.Frontier.{Frontier}
-use Rattle.fw_frontier.specs.Front.{Front, inside, frontier_of, IsCanonical, Names}
+use Rattle.fw_frontier.specs.Front.{Front, inside, frontier_of, IsCanonical, IsFrontOf}
 use Rattle.fw_frontier.proofs.CanonicalLaws.{in_domain-canonical}
 use Rattle.fw_frontier.proofs.BelowLaws.{names-as, names-by, names-numbers, names-limit}
 use Rattle.fw_frontier.proofs.NamesLaws.{frontier-closed}
@@ -25,7 +25,7 @@ use Rattle.fw_frontier.proofs.StairsLaws.{inside-append}
 use Rattle.fw_flow.specs.declared.kind.Kind.TheVariants.{Enter, Feedback, Leave, Sequence, Regroup}
 use Rattle.fw_flow.specs.declared.projection.Way.{Way}
 use Rattle.fw_flow.specs.declared.projection.Way.TheVariants.{First, Next, NextAfterFirst, Before, Outer, OuterOfFirst}
-use Rattle.fw_flow.specs.Projection.{sent_count, phi, IsSentTable, first_number_of, each_counter, some_counter, phi_of_kind, psi_of_kind, psi_back_of_kind, table_count}
+use Rattle.fw_flow.specs.Projection.{sent_count, phi, IsSentTable, first_coordinate, each_counter, some_counter, phi_of_kind, psi_of_kind, psi_back_of_kind, table_count}
 use Rattle.fw_flow.specs.ProjectedStamps.{AreDomainsOf, IsNest, image, images, entered_outside, front_until}
 use Rattle.fw_flow.specs.declared.event.Event.{Event}
 use Rattle.fw_flow.specs.declared.kind.Kind.{Kind}
@@ -106,7 +106,7 @@ is_met-else false w x u = refl
 
 -- ---- where the images of each way are met
 
-met-first : (b : Stamp) (m : ℕ) (o u : Stamp) → leq o b ≡ true → leq u (nest b m) ≡ true → is_met (entered o) u ≡ (true && leq o (outer u))
+met-first : (b : Stamp) (m : ℕ) (o u : Stamp) → leq o b ≡ true → leq u (nest b m) ≡ true → is_met (entered_stamp o) u ≡ (true && leq o (outer u))
 met-first b m o u h k =
     let w = of_loop b m u k in
     ap (leq (nest o 0)) (sym w.nested) ∙ leq-nest o (outer u) 0 (counter u) (leq-length o b h ∙ sym w.long) ∙ by (leq o (outer u)) (counter u)
@@ -115,7 +115,7 @@ met-first b m o u h k =
     by a c = grind (arith, nat_tests)
 
 met-next : (b : Stamp) (m : ℕ) (o u : Stamp) → leq o (nest b m) ≡ true → leq u (nest b m) ≡ true
-    → is_met (fed_back m o) u ≡ (not (counter u == 0) && leq o (nest (outer u) (counter u - 1)))
+    → is_met (fed_back_stamp m o) u ≡ (not (counter u == 0) && leq o (nest (outer u) (counter u - 1)))
 met-next b m o u h k =
     let v = of_loop b m o h in
     let w = of_loop b m u k in
@@ -133,7 +133,7 @@ met-next_after_first : (b : Stamp) (m : ℕ) (o u : Stamp) → leq o (nest b m) 
 met-next_after_first b m o u h k =
     let v = of_loop b m o h in
     let w = of_loop b m u k in
-    is_met-else (counter o == 0) o (fed_back m o) u
+    is_met-else (counter o == 0) o (fed_back_stamp m o) u
     ∙ (λ i. cond (counter o == 0) (same v w i) ((is_met-if (nat_lt (counter o) m) (nest (outer o) (counter o + 1)) u ∙ ap (λ x. cond (nat_lt (counter o) m) x false) (leq-nested b m o u v w (counter o + 1))) i))
     ∙ by (leq (outer o) (outer u)) (counter o) (counter u) m v.counted w.counted
     ∙ ap (λ x. true && x) (sym (nested-leq b m o u v w (counter u - 1)))
@@ -285,10 +285,10 @@ outer_of_first-moved s r m os e h = record {
 -- ---- numbers
 
 -- a stamp of one coordinate
-pub of_line : (b : Bounds) (u : Stamp) → length b.greatest ≡ 1 → in_domain b u ≡ true → u ≡ first_number_of u ∷ []
+pub of_line : (b : Bounds) (u : Stamp) → length b.greatest ≡ 1 → in_domain b u ≡ true → u ≡ first_coordinate u ∷ []
 of_line b u l h = by u (leq-length u b.greatest h ∙ l)
   where
-    by : (u : Stamp) → length u ≡ 1 → u ≡ first_number_of u ∷ []
+    by : (u : Stamp) → length u ≡ 1 → u ≡ first_coordinate u ∷ []
     by [] e = absurd (omega arith)
     by (x ∷ []) e = refl
     by (x ∷ y ∷ u) e = absurd (omega arith)
@@ -297,7 +297,7 @@ of_line b u l h = by u (leq-length u b.greatest h ∙ l)
 one-line : (b : Bounds) (o : Stamp) (os : Front) → length b.greatest ≡ 1 → IsCanonical b (o ∷ os) → os ≡ []
 one-line b o [] l h = refl
 one-line b o (q ∷ os) l h =
-    absurd (by (first_number_of o) (first_number_of q) (sym (λ i. leq (of_line b o l h.0.in_the_domain i) (of_line b q l h.1.0.in_the_domain i) || leq (of_line b q l h.1.0.in_the_domain i) (of_line b o l h.0.in_the_domain i)) ∙ h.0.incomparable.0))
+    absurd (by (first_coordinate o) (first_coordinate q) (sym (λ i. leq (of_line b o l h.0.in_the_domain i) (of_line b q l h.1.0.in_the_domain i) || leq (of_line b q l h.1.0.in_the_domain i) (of_line b o l h.0.in_the_domain i)) ∙ h.0.incomparable.0))
   where
     by : (x y : ℕ) → ((nat_le x y && true) || (nat_le y x && true)) ≡ false → ⊥
     by x y e = grind (arith, nat_tests)
@@ -309,23 +309,23 @@ one-limit b (q ∷ os) o x l h some e f =
     (λ i. line i ∷ one-line b q os l h i) ∙ ap (λ n. (n ∷ []) ∷ []) (sym (f ∙ ap (λ u. slice_index u 0) (e ∙ line)))
 
 -- the numbers below a limit of the domain
-pub names-below_limit : (b : Bounds) (g limit : ℕ) (os : Front) → b.greatest ≡ g ∷ [] → Names b os (frontier_of b ((limit ∷ []) ∷ [])) → Names b os (λ u. in_domain b u && nat_lt (first_number_of u) limit)
-names-below_limit b g limit os e n = names-numbers b os (Some limit) first_number_of by (names-limit b g limit os e n)
+pub names-below_limit : (b : Bounds) (g limit : ℕ) (os : Front) → b.greatest ≡ g ∷ [] → IsFrontOf b os (frontier_of b ((limit ∷ []) ∷ [])) → IsFrontOf b os (λ u. in_domain b u && nat_lt (first_coordinate u) limit)
+names-below_limit b g limit os e n = names-numbers b os (Some limit) first_coordinate by (names-limit b g limit os e n)
   where
-    by : (t : Stamp) → length t ≡ length b.greatest → first_number_of t ≡ slice_index t 0
+    by : (t : Stamp) → length t ≡ length b.greatest → first_coordinate t ≡ slice_index t 0
     by [] l = refl
     by (x ∷ t) l = refl
 
 -- numbers of a domain by another test
-pub names-numbers_by : (b : Bounds) (g : ℕ) (os : Front) (f : ℕ → Bool) (test : Frontier) → b.greatest ≡ g ∷ [] → Names b os (λ u. in_domain b u && f (first_number_of u))
-    → ((u : Stamp) → first_number_of u ≤ g → f (first_number_of u) ≡ test u) → Names b os (λ u. in_domain b u && test u)
-names-numbers_by b g os f test e n h = names-as b os (λ u. in_domain b u && f (first_number_of u)) (λ u. in_domain b u && test u) n (λ u. by u (in_domain b u) refl)
+pub names-numbers_by : (b : Bounds) (g : ℕ) (os : Front) (f : ℕ → Bool) (test : Frontier) → b.greatest ≡ g ∷ [] → IsFrontOf b os (λ u. in_domain b u && f (first_coordinate u))
+    → ((u : Stamp) → first_coordinate u ≤ g → f (first_coordinate u) ≡ test u) → IsFrontOf b os (λ u. in_domain b u && test u)
+names-numbers_by b g os f test e n h = names-as b os (λ u. in_domain b u && f (first_coordinate u)) (λ u. in_domain b u && test u) n (λ u. by u (in_domain b u) refl)
   where
-    small : (u : Stamp) → leq u (g ∷ []) ≡ true → first_number_of u ≤ g
+    small : (u : Stamp) → leq u (g ∷ []) ≡ true → first_coordinate u ≤ g
     small [] k = absurd (cc)
     small (x ∷ u) k = leb-true x g (and_parts _ _ k).0
 
-    by : (u : Stamp) (c : Bool) → in_domain b u ≡ c → (c && f (first_number_of u)) ≡ (c && test u)
+    by : (u : Stamp) (c : Bool) → in_domain b u ≡ c → (c && f (first_coordinate u)) ≡ (c && test u)
     by u true k = h u (small u (sym (ap (leq u) e) ∙ k))
     by u false k = refl
 
@@ -544,10 +544,10 @@ psi_back-leave l s r os d h = let e = leave-domains l s r d in first-moved r s (
 
 -- what is moved names the frontier that the test has
 pub moved-ok : {E : Type 0} (way : Way) (os : Front) (r : Bounds) (test : Frontier) (res : Result Front E) → IsMoved way os r test
-    → ((b : Bounds) → AreIn b (images way os) → IfOk res (λ g. Names b g (frontier_of b (images way os))))
-    → IfOk res (λ g. Names r g (λ u. in_domain r u && test u))
+    → ((b : Bounds) → AreIn b (images way os) → IfOk res (λ g. IsFrontOf b g (frontier_of b (images way os))))
+    → IfOk res (λ g. IsFrontOf r g (λ u. in_domain r u && test u))
 moved-ok way os r test res m h =
-    IfOk-weaker res (λ g. Names r g (frontier_of r (images way os))) (λ g. Names r g (λ u. in_domain r u && test u))
+    IfOk-weaker res (λ g. IsFrontOf r g (frontier_of r (images way os))) (λ g. IsFrontOf r g (λ u. in_domain r u && test u))
     (λ g n. names-by r g (images way os) test n m.same) (h r m.images_in)
 
 -- ---- what enters a loop is at counter 0
@@ -603,21 +603,21 @@ psi-enter_same l s r os d h u i =
 -- ---- regrouping
 
 pub phi-regroup_ok : (n limit count : ℕ) (s r : Bounds) (os g : Front) → 1 ≤ n → AreDomainsOf (Regroup n) s r → IsCanonical s os → os ≡ front_until (Some limit)
-    → Names r g (λ u. in_domain r u && nat_lt (first_number_of u) (limit / n)) → Names r g (λ u. in_domain r u && phi_of_kind s.greatest (Regroup n) count (frontier_of s os) u)
+    → IsFrontOf r g (λ u. in_domain r u && nat_lt (first_coordinate u) (limit / n)) → IsFrontOf r g (λ u. in_domain r u && phi_of_kind s.greatest (Regroup n) count (frontier_of s os) u)
 phi-regroup_ok n limit count s r os g p d h f named =
     let e = regroup-domains n s r d in
-    let x : Stamp → ℕ = λ u. min (first_number_of u * n + n - 1) (first_number_of s.greatest) in
+    let x : Stamp → ℕ = λ u. min (first_coordinate u * n + n - 1) (first_coordinate s.greatest) in
     names-numbers_by r greatest_number g (λ k. nat_lt k (limit / n)) (phi_of_kind s.greatest (Regroup n) count (frontier_of s os)) e.1 named
     (λ u l.
-    phi-regroup n greatest_number limit (first_number_of u) p (limit-in s greatest_number limit os e.0 f h)
-    ∙ sym (below-limit s greatest_number limit (min (first_number_of u * n + n - 1) greatest_number) e.0)
-    ∙ (λ j. frontier_of s (sym f j) (min (first_number_of u * n + n - 1) (first_number_of (sym e.0 j)) ∷ [])))
+    phi-regroup n greatest_number limit (first_coordinate u) p (limit-in s greatest_number limit os e.0 f h)
+    ∙ sym (below-limit s greatest_number limit (min (first_coordinate u * n + n - 1) greatest_number) e.0)
+    ∙ (λ j. frontier_of s (sym f j) (min (first_coordinate u * n + n - 1) (first_coordinate (sym e.0 j)) ∷ [])))
 
 pub psi-regroup_ok : (n end : ℕ) (s r : Bounds) (os g : Front) → 1 ≤ n → AreDomainsOf (Regroup n) s r → ((x : ℕ) → frontier_of s os (x ∷ []) ≡ nat_lt x end)
-    → Names r g (λ u. in_domain r u && nat_lt (first_number_of u) (end / n + min 1 (end % n))) → Names r g (λ u. in_domain r u && psi_of_kind s.greatest (Regroup n) (frontier_of s os) u)
+    → IsFrontOf r g (λ u. in_domain r u && nat_lt (first_coordinate u) (end / n + min 1 (end % n))) → IsFrontOf r g (λ u. in_domain r u && psi_of_kind s.greatest (Regroup n) (frontier_of s os) u)
 psi-regroup_ok n end s r os g p d f named =
     names-numbers_by r greatest_number g (λ k. nat_lt k (end / n + min 1 (end % n))) (psi_of_kind s.greatest (Regroup n) (frontier_of s os)) (regroup-domains n s r d).1 named
-    (λ u l. psi-regroup n end (first_number_of u) p ∙ sym (f (first_number_of u * n)))
+    (λ u l. psi-regroup n end (first_coordinate u) p ∙ sym (f (first_coordinate u * n)))
 
 -- the numbers inside, by where they end
 below-end : (limit : ℕ) (s : Bounds) (os : Front) → s.greatest ≡ greatest_number ∷ [] → IsCanonical s os → os ≡ front_until (Some limit)
@@ -640,15 +640,15 @@ end-all n end s r os d f k x =
     by x g end e = grind (arith, nat_tests)
 
 pub psi_back-regroup_ok : (n limit : ℕ) (s r : Bounds) (os g : Front) → 1 ≤ n → AreDomainsOf (Regroup n) s r → os ≡ front_until (Some limit)
-    → Names s g (λ u. in_domain s u && nat_lt (first_number_of u) (limit * n)) → Names s g (λ u. in_domain s u && psi_back_of_kind s.greatest (Regroup n) (frontier_of r os) u)
+    → IsFrontOf s g (λ u. in_domain s u && nat_lt (first_coordinate u) (limit * n)) → IsFrontOf s g (λ u. in_domain s u && psi_back_of_kind s.greatest (Regroup n) (frontier_of r os) u)
 psi_back-regroup_ok n limit s r os g p d f named =
     let e = regroup-domains n s r d in
     names-numbers_by s greatest_number g (λ k. nat_lt k (limit * n)) (psi_back_of_kind s.greatest (Regroup n) (frontier_of r os)) e.0 named
     (λ u l.
-    psi_back-regroup n limit (first_number_of u) p
-    ∙ by (nat_le (first_number_of u / n) greatest_number) (nat_lt (first_number_of u / n) limit) (le-leb (first_number_of u / n) greatest_number (omega (arith, div-le_self (first_number_of u) n)))
-    ∙ sym (below-limit r greatest_number limit (first_number_of u / n) e.1)
-    ∙ (λ j. frontier_of r (sym f j) ((first_number_of u / n) ∷ [])))
+    psi_back-regroup n limit (first_coordinate u) p
+    ∙ by (nat_le (first_coordinate u / n) greatest_number) (nat_lt (first_coordinate u / n) limit) (le-leb (first_coordinate u / n) greatest_number (omega (arith, div-le_self (first_coordinate u) n)))
+    ∙ sym (below-limit r greatest_number limit (first_coordinate u / n) e.1)
+    ∙ (λ j. frontier_of r (sym f j) ((first_coordinate u / n) ∷ [])))
   where
     by : (a c : Bool) → a ≡ true → c ≡ (a && c)
     by true c e = refl
@@ -663,22 +663,22 @@ table_count-same f g e (x ∷ table) = λ i. cond (e x.0 i) (x.1 + table_count-s
 
 -- what the messages of a sequence come from, by the count of those of the epochs below a limit
 pub phi-sequence_ok : (limit count : ℕ) (s r : Bounds) (os g : Front) (table : List (ℕ × ℕ)) → AreDomainsOf Sequence s r → IsCanonical s os
-    → os ≡ front_until (Some limit) → count ≡ min (table_count (λ t. nat_lt (first_number_of t) limit) table) (2 ^ 64 - 1)
-    → Names r g (λ u. in_domain r u && nat_lt (first_number_of u) count)
-    → Names r g (λ u. in_domain r u && phi_of_kind s.greatest Sequence (table_count (frontier_of s os) table) (frontier_of s os) u)
+    → os ≡ front_until (Some limit) → count ≡ min (table_count (λ t. nat_lt (first_coordinate t) limit) table) (2 ^ 64 - 1)
+    → IsFrontOf r g (λ u. in_domain r u && nat_lt (first_coordinate u) count)
+    → IsFrontOf r g (λ u. in_domain r u && phi_of_kind s.greatest Sequence (table_count (frontier_of s os) table) (frontier_of s os) u)
 phi-sequence_ok limit count s r os g table d h f c named =
     let e = sequence-domains s r d in
     let below = below-end limit s os e.0 h f in
     let test : Frontier = frontier_of s os in
-    let all : ℕ = table_count (λ t. nat_lt (first_number_of t) limit) table in
-    let same : all ≡ table_count test table = table_count-same (λ t. nat_lt (first_number_of t) limit) test (λ x. sym (below x)) table in
+    let all : ℕ = table_count (λ t. nat_lt (first_coordinate t) limit) table in
+    let same : all ≡ table_count test table = table_count-same (λ t. nat_lt (first_coordinate t) limit) test (λ x. sym (below x)) table in
     let some : test s.greatest ≡ false = ap test e.0 ∙ below greatest_number ∙ past greatest_number limit (limit-in s greatest_number limit os e.0 f h) in
     names-numbers_by r greatest_number g (λ k. nat_lt k count) (phi_of_kind s.greatest Sequence (table_count test table) test) e.1 named
     (λ u l.
-    ap (nat_lt (first_number_of u)) c
-    ∙ capped (first_number_of u) all greatest_number (2 ^ 64 - 1) l (lit< tt)
-    ∙ ap (nat_lt (first_number_of u)) same
-    ∙ sym (ap (λ b. b || nat_lt (first_number_of u) (table_count test table)) some))
+    ap (nat_lt (first_coordinate u)) c
+    ∙ capped (first_coordinate u) all greatest_number (2 ^ 64 - 1) l (lit< tt)
+    ∙ ap (nat_lt (first_coordinate u)) same
+    ∙ sym (ap (λ b. b || nat_lt (first_coordinate u) (table_count test table)) some))
   where
     past : (g limit : ℕ) → limit ≤ g → nat_lt g limit ≡ false
     past g limit l = grind (arith, nat_tests)
@@ -691,7 +691,7 @@ phi_of_kind-counted : (greatest : Stamp) (kind : Kind) (m n : ℕ) (f : Frontier
 phi_of_kind-counted greatest (Enter l) m n f u h = refl
 phi_of_kind-counted greatest (Feedback l) m n f u h = refl
 phi_of_kind-counted greatest (Leave l) m n f u h = refl
-phi_of_kind-counted greatest Sequence m n f u h = ap (λ c. f greatest || nat_lt (first_number_of u) c) (h refl)
+phi_of_kind-counted greatest Sequence m n f u h = ap (λ c. f greatest || nat_lt (first_coordinate u) c) (h refl)
 phi_of_kind-counted greatest (Regroup r) m n f u h = refl
 phi_of_kind-counted greatest kind m n f u h = refl
 

@@ -7,7 +7,7 @@ use Rattle.std.proofs.lemmas.List.Sorted.{IsNonDecreasingBy-push}
 use Rattle.std.proofs.lemmas.Option.{get_or_from_slice_get}
 use Rattle.std.proofs.lemmas.Bool.Decides.{nat_tests}
 use Rattle.fw_flow.specs.declared.sent_table.SentInEpoch.{SentInEpoch}
-use Rattle.fw_flow.specs.Projection.{first_number_of, table_count}
+use Rattle.fw_flow.specs.Projection.{first_coordinate, table_count}
 use Rattle.fw_flow.specs.SentTable.{AreInOrder, counts_of, HasTotals, IsTable}
 
 -- how many messages a table has for all epochs
@@ -46,15 +46,15 @@ total-at es (suc place) i d h p l e =
 pub count-parted : (limit : ℕ) (es : List SentInEpoch) (place : ℕ) → place ≤ length es
     → ((k : ℕ) (d : SentInEpoch) → k < place → nat_lt (get_or es k d).epoch limit ≡ true)
     → ((k : ℕ) (d : SentInEpoch) → place ≤ k → k < length es → nat_lt (get_or es k d).epoch limit ≡ false)
-    → table_count (λ t. nat_lt (first_number_of t) limit) (counts_of es) ≡ table_count (λ t. true) (counts_of (take place es))
+    → table_count (λ t. nat_lt (first_coordinate t) limit) (counts_of es) ≡ table_count (λ t. true) (counts_of (take place es))
 count-parted limit [] zero l below past = refl
 count-parted limit [] (suc p) l below past = absurd (omega arith)
 count-parted limit (e ∷ es) zero l below past =
-    let rest = table_count (λ t. nat_lt (first_number_of t) limit) (counts_of es) in
+    let rest = table_count (λ t. nat_lt (first_coordinate t) limit) (counts_of es) in
     ap (λ b. cond b (e.count + rest) rest) (past 0 e (omega arith) (omega arith))
     ∙ count-parted limit es zero (omega arith) (λ k d h. absurd (omega arith)) (λ k d h i. past (suc k) d (omega arith) (omega arith))
 count-parted limit (e ∷ es) (suc p) l below past =
-    let rest = table_count (λ t. nat_lt (first_number_of t) limit) (counts_of es) in
+    let rest = table_count (λ t. nat_lt (first_coordinate t) limit) (counts_of es) in
     ap (λ b. cond b (e.count + rest) rest) (below 0 e (omega arith))
     ∙ ap (λ n. e.count + n)
     (count-parted limit es p (omega arith) (λ k d h. below (suc k) d (omega arith)) (λ k d h i. past (suc k) d (omega arith) (omega arith)))
@@ -63,13 +63,13 @@ count-parted limit (e ∷ es) (suc p) l below past =
 pub count-below : (limit place total : ℕ) (es xs ys : List SentInEpoch) (table : List (ℕ × ℕ)) → xs ≡ es → ys ≡ es → counts_of es ≡ table → place ≤ length xs
     → IsPartitionPoint (λ (e : SentInEpoch). nat_lt e.epoch limit ≡ true) (λ (e : SentInEpoch). nat_lt e.epoch limit ≡ false) xs place
     → total ≡ min (table_count (λ t. true) (counts_of (take place ys))) (2 ^ 64 - 1)
-    → total ≡ min (table_count (λ t. nat_lt (first_number_of t) limit) table) (2 ^ 64 - 1)
+    → total ≡ min (table_count (λ t. nat_lt (first_coordinate t) limit) table) (2 ^ 64 - 1)
 count-below limit place total es xs ys table x y t l p k =
     k ∙ ap (λ n. min n (2 ^ 64 - 1))
     (ap (λ zs. table_count (λ t. true) (counts_of (take place zs))) (y ∙ sym x)
     ∙ sym (count-parted limit xs place l (λ k d h. p.0 k d (omega arith) h) p.1)
-    ∙ ap (λ zs. table_count (λ t. nat_lt (first_number_of t) limit) (counts_of zs)) x
-    ∙ ap (table_count (λ t. nat_lt (first_number_of t) limit)) t)
+    ∙ ap (λ zs. table_count (λ t. nat_lt (first_coordinate t) limit) (counts_of zs)) x
+    ∙ ap (table_count (λ t. nat_lt (first_coordinate t) limit)) t)
 
 -- ---- an entry more
 

@@ -7,7 +7,7 @@ use Rattle.std.specs.List.{AllByRecursion, flat_map, range_with_len}
 use Rattle.fw_bag.specs.declared.rec.Rec.{Rec}
 use Rattle.fw_lines.specs.Batches.{batches_at, IsBatch, AreBatchesOf}
 use Rattle.fw_lines.specs.Sources.{is_source}
-use Rattle.fw_flow.specs.Dataflow.{Dataflow, kind_of, node_at, is_input_kind, places, batches_of, batches_of_nodes, system_of}
+use Rattle.fw_flow.specs.Dataflow.{Dataflow, kind_of, node_at, is_input_kind, node_ids, batches_of, batches_of_nodes, system_of}
 use Rattle.fw_flow.specs.Sources.{source_at, sources_of}
 use Rattle.fw_flow.specs.WellFormed.{IsWellFormed, IsWellFormedSystem}
 
@@ -34,12 +34,12 @@ no_source flow p [] k = refl
 no_source flow p (q ∷ nodes) k = other_than flow p q (flat_map (source_at flow) nodes) (is_input_kind (kind_of flow q)) refl k (no_source flow p nodes k)
 
 -- the system of batches that are given for each node
-pub well_formed-given : (flow : Dataflow) (given : ℕ → List (List Rec)) → IsWellFormed flow → AreBatchesOf (sources_of flow) given → IsWellFormedSystem (record { flow = flow; batches = map given (places flow) })
+pub well_formed-given : (flow : Dataflow) (given : ℕ → List (List Rec)) → IsWellFormed flow → AreBatchesOf (sources_of flow) given → IsWellFormedSystem (record { flow = flow; batches = map given (node_ids flow) })
 unfolding batches_of
 well_formed-given flow given w a = record {
   flow = w;
   one_each = length-map-range_with_len given 0 (length flow.nodes);
-  of_inputs = λ p k. at_place (λ b. b ≡ []) given (length flow.nodes) p refl (a.of_sources p (no_source flow p (places flow) k));
+  of_inputs = λ p k. at_place (λ b. b ≡ []) given (length flow.nodes) p refl (a.of_sources p (no_source flow p (node_ids flow) k));
   few = λ p. at_place (λ b. length b ≤ 2 ^ 20) given (length flow.nodes) p (omega arith) (a.few p);
   batches = λ p. at_place (AllByRecursion IsBatch) given (length flow.nodes) p tt (a.bags p);
 }

@@ -3,8 +3,10 @@ use Rattle.std.specs.Prelude.{◌≡◌, ℕ, ◌+◌, ◌-◌, ◌^◌, ◌≤�
 use Rattle.std.specs.List.{range_with_len}
 use Rattle.fw_time.specs.Stamp.{Stamp, nest}
 use Rattle.fw_time.specs.declared.stamp.Bounds.{Bounds}
-use Rattle.fw_time.specs.Sending.{entered, fed_back, left, regrouped}
+use Rattle.fw_time.specs.Sending.{entered_stamp, fed_back_stamp, left_stamp, regrouped_stamp}
 use Rattle.fw_bag.specs.declared.rec.Rec.{Rec}
+use Rattle.fw_frontier.specs.Frontier.{Frontier}
+use Rattle.fw_frontier.specs.Front.{Front, frontier_of}
 use Rattle.fw_lines.specs.Batches.{batches_at}
 use Rattle.fw_flow.specs.declared.kind.Domain.{Domain}
 use Rattle.fw_flow.specs.declared.kind.Domain.TheVariants.{Epoch, Number, Loop as InLoop}
@@ -32,8 +34,8 @@ abbrev pub idle_node : Node
 idle_node = record { name = []; kind = OutputEpoch; policy = policy.None }
 
 -- the places of the nodes, in order
-abbrev pub places : Dataflow → List ℕ
-places flow = range_with_len 0 (length flow.nodes)
+abbrev pub node_ids : Dataflow → List ℕ
+node_ids flow = range_with_len 0 (length flow.nodes)
 
 -- the node at a place
 unfoldable pub node_at : Dataflow → ℕ → Node
@@ -142,6 +144,10 @@ bounds_of_domain flow domain = record { greatest = greatest_of flow domain }
 unfoldable pub bounds_of : Dataflow → ℕ → Bounds
 bounds_of flow p = bounds_of_domain flow (domain_of flow p)
 
+-- the frontier of node p that has these outside stamps
+abbrev pub node_frontier : Dataflow → ℕ → Front → Frontier
+node_frontier flow p f = frontier_of (bounds_of flow p) f
+
 -- the bounds of an edge: which lists are stamps of its messages
 abbrev pub bounds_of_edge : Dataflow → ℕ → Bounds
 bounds_of_edge flow e = bounds_of_domain flow (out_domain_of flow (sender flow e))
@@ -150,10 +156,10 @@ bounds_of_edge flow e = bounds_of_domain flow (out_domain_of flow (sender flow e
 abbrev pub send_stamp_of_kind : Dataflow → Kind → Stamp → Option Stamp
 send_stamp_of_kind flow OutputEpoch t = None
 send_stamp_of_kind flow OutputNumber t = None
-send_stamp_of_kind flow (Enter l) t = entered t
-send_stamp_of_kind flow (Feedback l) t = fed_back (max_of flow l) t
-send_stamp_of_kind flow (Leave l) t = left t
-send_stamp_of_kind flow (Regroup n) t = regrouped n t
+send_stamp_of_kind flow (Enter l) t = entered_stamp t
+send_stamp_of_kind flow (Feedback l) t = fed_back_stamp (max_of flow l) t
+send_stamp_of_kind flow (Leave l) t = left_stamp t
+send_stamp_of_kind flow (Regroup n) t = regrouped_stamp n t
 send_stamp_of_kind flow kind t = Some t
 
 -- the same for a node
@@ -211,7 +217,7 @@ HasEpochs sys = (s : ℕ) → length (batches_of sys s) ≤ greatest_number + 1
 
 -- for each node its batches, by epoch
 unfoldable pub batches_of_nodes : Dataflow → List (ℕ × List (List Rec)) → List (List (List Rec))
-batches_of_nodes flow batches = map (batches_at batches) (places flow)
+batches_of_nodes flow batches = map (batches_at batches) (node_ids flow)
 
 -- a dataflow with the batches that were given for its nodes
 abbrev pub system_of : Dataflow → List (ℕ × List (List Rec)) → System

@@ -17,11 +17,11 @@ abbrev pub is_among : Message → List Message → Bool
 is_among m xs = list_any (λ x. is_eq (message_cmp m x)) xs
 
 -- the messages without the first that is this one
-abbrev pub without : Message → List Message → List Message
-without m [] = []
-without m (x ∷ xs) = if is_eq (message_cmp m x) then xs else x ∷ without m xs
+abbrev pub messages_without : Message → List Message → List Message
+messages_without m [] = []
+messages_without m (x ∷ xs) = if is_eq (message_cmp m x) then xs else x ∷ messages_without m xs
 
 -- the messages less those of the second list, each as often as it stands there
-abbrev pub less : List Message → List Message → List Message
-less ms [] = ms
-less ms (d ∷ ds) = without d (less ms ds)
+abbrev pub messages_less : List Message → List Message → List Message
+messages_less ms [] = ms
+messages_less ms (d ∷ ds) = messages_without d (messages_less ms ds)

@@ -14,17 +14,17 @@ use Rattle.fw_flow.specs.Dataflow.{Dataflow, greatest_number}
 use Rattle.fw_flow.specs.Raw.{loop_names, node_names, edge_names, loop_in, node_in, edge_in}
 
 -- the number, or the greatest one of 32 bits if it is past that
-abbrev pub capped : ℕ → ℕ
-capped n = if nat_le n greatest_number then n else greatest_number
+abbrev pub capped_number : ℕ → ℕ
+capped_number n = if nat_le n greatest_number then n else greatest_number
 
 -- the kind with its size capped
 abbrev pub capped_kind : Kind → Kind
-capped_kind (Regroup n) = Regroup (capped n)
+capped_kind (Regroup n) = Regroup (capped_number n)
 capped_kind kind = kind
 
 -- the loop with its greatest counter capped
 abbrev pub capped_loop : Loop → Loop
-capped_loop l = record { name = l.name; max = capped l.max }
+capped_loop l = record { name = l.name; max = capped_number l.max }
 
 -- the node with its size capped
 abbrev pub capped_node : Node → Node

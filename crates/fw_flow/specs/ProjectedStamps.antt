@@ -2,7 +2,7 @@
 use Rattle.std.specs.Prelude.{◌≡◌, ℕ, ◌-◌, ◌<◌, ◌==◌, nat_lt, if◌then◌else◌, List, [], ◌∷◌, ◌++◌, length, Option, Some, None, option_to_list}
 use Rattle.fw_time.specs.declared.stamp.Bounds.{Bounds}
 use Rattle.fw_time.specs.Stamp.{Stamp, nest, outer, counter, origin}
-use Rattle.fw_time.specs.Sending.{entered, fed_back, left}
+use Rattle.fw_time.specs.Sending.{entered_stamp, fed_back_stamp, left_stamp}
 use Rattle.fw_frontier.specs.Front.{Front}
 use Rattle.fw_flow.specs.declared.kind.Kind.{Kind}
 use Rattle.fw_flow.specs.declared.projection.Way.{Way}
@@ -21,12 +21,12 @@ IsNest s = (0 < length s) × (length s < 4)
 
 -- where a stamp goes
 abbrev pub image : Way → Stamp → Option Stamp
-image First o = entered o
-image (Next max) o = fed_back max o
-image (NextAfterFirst max) o = if counter o == 0 then Some o else fed_back max o
+image First o = entered_stamp o
+image (Next max) o = fed_back_stamp max o
+image (NextAfterFirst max) o = if counter o == 0 then Some o else fed_back_stamp max o
 image Before o = Some (nest (outer o) (counter o - 1))
-image Outer o = left o
-image OuterOfFirst o = if counter o == 0 then left o else None
+image Outer o = left_stamp o
+image OuterOfFirst o = if counter o == 0 then left_stamp o else None
 
 -- where stamps go
 abbrev pub images : Way → List Stamp → List Stamp

@@ -10,11 +10,11 @@ use Rattle.fw_flow.specs.declared.kind.Kind.{Kind}
 use Rattle.fw_flow.specs.declared.kind.Kind.TheVariants.{Enter, Feedback, Leave, Sequence, Regroup}
 use Rattle.fw_flow.specs.Dataflow.{System, Dataflow, kind_of, sender, domain_of_kind, out_domain_of_kind, greatest_of_kind, bounds_of_domain, bounds_of}
 use Rattle.fw_time.specs.Stamp.{in_domain}
-use Rattle.fw_flow.specs.NodeFunction.{place, sent_by}
+use Rattle.fw_flow.specs.NodeFunction.{event_node, sent_by}
 
 -- the events of node p in a history, the latest first
 abbrev pub events_at : Dataflow → ℕ → List Event → List Event
-events_at flow p h = filter (λ v. place flow v == p) h
+events_at flow p h = filter (λ v. event_node flow v == p) h
 
 -- whether all causes are inside
 abbrev pub all_inside : Frontier → List Stamp → Bool
@@ -38,9 +38,9 @@ abbrev pub IsSentTable : System → List Event → ℕ → List (ℕ × ℕ) →
 IsSentTable sys h p table = (f : Frontier) → table_count f table ≡ sent_count sys h p f
 
 -- the first number of a stamp
-abbrev pub first_number_of : Stamp → ℕ
-first_number_of [] = 0
-first_number_of (n ∷ t) = n
+abbrev pub first_coordinate : Stamp → ℕ
+first_coordinate [] = 0
+first_coordinate (n ∷ t) = n
 
 -- whether each counter up to c of the stamp is inside
 abbrev pub each_counter : Frontier → Stamp → ℕ → Bool
@@ -60,8 +60,8 @@ abbrev pub phi_of_kind : Stamp → Kind → ℕ → Frontier → Frontier
 phi_of_kind greatest (Enter l) count f u = f (outer u)
 phi_of_kind greatest (Feedback l) count f u = counter u == 0 || f (nest (outer u) (counter u - 1))
 phi_of_kind greatest (Leave l) count f u = each_counter f u (counter greatest)
-phi_of_kind greatest Sequence count f u = f greatest || nat_lt (first_number_of u) count
-phi_of_kind greatest (Regroup n) count f u = f (min (first_number_of u * n + n - 1) (first_number_of greatest) ∷ [])
+phi_of_kind greatest Sequence count f u = f greatest || nat_lt (first_coordinate u) count
+phi_of_kind greatest (Regroup n) count f u = f (min (first_coordinate u * n + n - 1) (first_coordinate greatest) ∷ [])
 phi_of_kind greatest kind count f u = f u
 
 -- if the sender of e keeps f, each message on e at a stamp inside comes from an event in f
@@ -82,7 +82,7 @@ abbrev pub psi_of_kind : Stamp → Kind → Frontier → Frontier
 psi_of_kind greatest (Enter l) f u = counter u == 0 && f (outer u)
 psi_of_kind greatest (Feedback l) f u = f (nest (outer u) (counter u - 1))
 psi_of_kind greatest (Leave l) f u = some_counter f u (counter greatest)
-psi_of_kind greatest (Regroup n) f u = f ((first_number_of u * n) ∷ [])
+psi_of_kind greatest (Regroup n) f u = f ((first_coordinate u * n) ∷ [])
 psi_of_kind greatest kind f u = f u
 
 -- the cover of the stamps at which an event of the sender of e inside f can send on e, for a kind that may keep nothing
@@ -97,7 +97,7 @@ abbrev pub psi_back_of_kind : Stamp → Kind → Frontier → Frontier
 psi_back_of_kind greatest (Enter l) g t = g (nest t 0)
 psi_back_of_kind greatest (Feedback l) g t = g (nest (outer t) (min (counter t + 1) (counter greatest)))
 psi_back_of_kind greatest (Leave l) g t = g (outer t)
-psi_back_of_kind greatest (Regroup n) g t = g ((first_number_of t / n) ∷ [])
+psi_back_of_kind greatest (Regroup n) g t = g ((first_coordinate t / n) ∷ [])
 psi_back_of_kind greatest kind g t = g t
 
 -- the largest frontier of the sender of e whose psi lies within g, for a kind that may keep nothing

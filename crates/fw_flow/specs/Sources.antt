@@ -1,7 +1,7 @@
 -- The sources of a dataflow by their names.
 use Rattle.std.specs.Prelude.{ℕ, if◌then◌else◌, List, [], ◌∷◌}
 use Rattle.std.specs.List.{flat_map}
-use Rattle.fw_flow.specs.Dataflow.{Dataflow, node_at, kind_of, is_input_kind, places}
+use Rattle.fw_flow.specs.Dataflow.{Dataflow, node_at, kind_of, is_input_kind, node_ids}
 
 -- the node at a place by its name, if it is a source
 abbrev pub source_at : Dataflow → ℕ → List (List ℕ × ℕ)
@@ -9,4 +9,4 @@ source_at flow place = if is_input_kind (kind_of flow place) then ((node_at flow
 
 -- the sources of a dataflow by their names, in order of the nodes
 abbrev pub sources_of : Dataflow → List (List ℕ × ℕ)
-sources_of flow = flat_map (source_at flow) (places flow)
+sources_of flow = flat_map (source_at flow) (node_ids flow)

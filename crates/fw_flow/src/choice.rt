@@ -18,7 +18,7 @@ pub struct Choice {
     /// To what each node is cut.
     pub cuts: Cuts,
     /// The notification frontier of each node: what it was notified of inside its cut lies in it.
-    pub notes: Fronts,
+    pub notices: Fronts,
 }
 
 /// Messages of an edge with one stamp and the same causes.

@@ -97,7 +97,7 @@ impl Parts {
 
 // The number, or the greatest one of 32 bits if it is past that.
 fn capped(number: u64) -> u32
-    ensures { result ≡ spec.capped number }
+    ensures { result ≡ spec.capped_number number }
 {
     u32::try_from(number).unwrap_or(u32::MAX)
 }

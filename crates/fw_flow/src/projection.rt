@@ -3,11 +3,11 @@ ghost use Rattle.std.specs.Prelude.{◌≡◌, ℕ, ◌+◌, ◌<◌, ◌≤◌,
 ghost use Rattle.std.specs.List.{AllByRecursion};
 ghost use Rattle.fw_time.specs.declared.stamp.Bounds.{Bounds as Domain};
 ghost use Rattle.fw_time.specs.Stamp.{in_domain};
-ghost use Rattle.fw_time.specs.Sending.{fed_back};
-ghost use Rattle.fw_frontier.specs.Front.{frontier_of, IsCanonical, Names};
+ghost use Rattle.fw_time.specs.Sending.{fed_back_stamp};
+ghost use Rattle.fw_frontier.specs.Front.{frontier_of, IsCanonical, IsFrontOf};
 ghost use Rattle.fw_flow.specs.declared.event.Event.{Event};
-ghost use Rattle.fw_flow.specs.Dataflow.{System, kind_of, sender, receiver, bounds_of};
-ghost use Rattle.fw_flow.specs.Projection.{first_number_of, phi, phi_by_count, psi, psi_back, phi_of_kind, psi_of_kind, psi_back_of_kind, table_count, IsSentTable};
+ghost use Rattle.fw_flow.specs.Dataflow.{System, kind_of, sender, receiver, bounds_of, node_frontier};
+ghost use Rattle.fw_flow.specs.Projection.{first_coordinate, phi, phi_by_count, psi, psi_back, phi_of_kind, psi_of_kind, psi_back_of_kind, table_count, IsSentTable};
 ghost use Rattle.fw_flow.specs.ProjectedStamps.{IsNest, image, images, entered_outside, front_until, AreDomainsOf};
 ghost use Rattle.fw_flow.specs.WellFormed.{IsWellFormed, IsGroupSize};
 
@@ -29,13 +29,13 @@ impl Flow {
         sent: &SentTable,
     ) -> Result<Front, AllocError>
         requires { IsCanonical (bounds_of self.now (sender self.now edge)) f.now }
-        ensures by_table { let inside = frontier_of (bounds_of self.now (sender self.now edge)) f.now in IfOk result
-            (λ g. Names (bounds_of self.now (receiver self.now edge)) g
+        ensures by_table { let inside = node_frontier self.now (sender self.now edge) f.now in IfOk result
+            (λ g. IsFrontOf (bounds_of self.now (receiver self.now edge)) g
             (phi_by_count self.now (table_count inside sent.now) edge inside)) }
         ensures after_history { (sys : System) (h : List Event) → sys.flow ≡ self.now
             → (kind_of self.now (sender self.now edge) ≡ Kind.Sequence → IsSentTable sys h (sender self.now edge) sent.now)
-            → IfOk result (λ g. Names (bounds_of self.now (receiver self.now edge)) g
-            (phi sys h edge (frontier_of (bounds_of self.now (sender self.now edge)) f.now))) }
+            → IfOk result (λ g. IsFrontOf (bounds_of self.now (receiver self.now edge)) g
+            (phi sys h edge (node_frontier self.now (sender self.now edge) f.now))) }
     {
         let (kind, sender, receiver) = self.ends(edge);
         phi(alloc, kind, f, sent, &sender, &receiver)
@@ -46,8 +46,8 @@ impl Flow {
     /// answer is in that of the receiver. The only error is want of memory.
     pub fn psi(&self, alloc: Global, edge: EdgeId, f: &Front) -> Result<Front, AllocError>
         requires { IsCanonical (bounds_of self.now (sender self.now edge)) f.now }
-        ensures { IfOk result (λ g. Names (bounds_of self.now (receiver self.now edge)) g
-            (psi self.now edge (frontier_of (bounds_of self.now (sender self.now edge)) f.now))) }
+        ensures { IfOk result (λ g. IsFrontOf (bounds_of self.now (receiver self.now edge)) g
+            (psi self.now edge (node_frontier self.now (sender self.now edge) f.now))) }
     {
         let (kind, sender, receiver) = self.ends(edge);
         psi(alloc, kind, f, &sender, &receiver)
@@ -58,8 +58,8 @@ impl Flow {
     /// in that of the sender. The only error is want of memory.
     pub fn psi_back(&self, alloc: Global, edge: EdgeId, g: &Front) -> Result<Front, AllocError>
         requires { IsCanonical (bounds_of self.now (receiver self.now edge)) g.now }
-        ensures { IfOk result (λ f. Names (bounds_of self.now (sender self.now edge)) f
-            (psi_back self.now edge (frontier_of (bounds_of self.now (receiver self.now edge)) g.now))) }
+        ensures { IfOk result (λ f. IsFrontOf (bounds_of self.now (sender self.now edge)) f
+            (psi_back self.now edge (node_frontier self.now (receiver self.now edge) g.now))) }
     {
         let (kind, sender, receiver) = self.ends(edge);
         psi_back(alloc, kind, g, &sender, &receiver)
@@ -131,7 +131,7 @@ fn image(way: Way, o: &Stamp) -> Option<Stamp>
 /// The next counter of a loop's stamp, if there is one.
 fn next(max: u32, o: &Stamp) -> Option<Stamp>
     requires { 0 < length o.now }
-    ensures { result ≡ fed_back max o.now }
+    ensures { result ≡ fed_back_stamp max o.now }
 {
     if o.counter() < max {
         Some(o.outer().nest(o.counter() + 1))
@@ -158,7 +158,7 @@ fn images(alloc: Global, stamps: &[Stamp], way: Way) -> Result<Vec<Stamp>, Alloc
 fn moved(alloc: Global, f: &Front, way: Way) -> Result<Front, AllocError>
     requires { AllByRecursion IsNest f.now }
     ensures { (bounds : Domain) → AllByRecursion (λ s. in_domain bounds s ≡ true) (images way f.now)
-        → IfOk result (λ g. Names bounds g (frontier_of bounds (images way f.now))) }
+        → IfOk result (λ g. IsFrontOf bounds g (frontier_of bounds (images way f.now))) }
 {
     let stamps = images(alloc, f.outside(), way)?;
     Front::until(alloc, &stamps)
@@ -175,7 +175,7 @@ fn entered(
     requires sender { IsNest sender.now.greatest }
     requires receiver { 0 < length receiver.now.greatest }
     ensures { (bounds : Domain) → AllByRecursion (λ s. in_domain bounds s ≡ true) (entered_outside sender.now receiver.now f.now)
-        → IfOk result (λ g. Names bounds g (frontier_of bounds (entered_outside sender.now receiver.now f.now))) }
+        → IfOk result (λ g. IsFrontOf bounds g (frontier_of bounds (entered_outside sender.now receiver.now f.now))) }
 {
     let mut stamps = images(alloc, f.outside(), Way::First)?;
     if receiver.greatest.counter() > 0 {
@@ -188,7 +188,7 @@ fn entered(
 fn below(alloc: Global, limit: u64, bounds: &Bounds) -> Result<Front, AllocError>
     requires { length bounds.now.greatest ≡ 1 }
     ensures { IfOk result
-        (λ g. Names bounds.now g (λ u. in_domain bounds.now u && nat_lt (first_number_of u) limit)) }
+        (λ g. IsFrontOf bounds.now g (λ u. in_domain bounds.now u && nat_lt (first_coordinate u) limit)) }
 {
     if limit > u64::from(bounds.greatest.at(0)) {
         return Ok(Front::all(alloc));
@@ -223,7 +223,7 @@ pub(crate) fn phi(
     requires domains { AreDomainsOf kind sender.now receiver.now }
     requires front { IsCanonical sender.now f.now }
     ensures { let inside = frontier_of sender.now f.now in IfOk result
-        (λ g. Names receiver.now g (λ u. in_domain receiver.now u
+        (λ g. IsFrontOf receiver.now g (λ u. in_domain receiver.now u
         && phi_of_kind sender.now.greatest kind (table_count inside sent.now) inside u)) }
 {
     match kind {
@@ -255,7 +255,7 @@ pub(crate) fn psi(
     requires group { IsGroupSize kind }
     requires domains { AreDomainsOf kind sender.now receiver.now }
     requires front { IsCanonical sender.now f.now }
-    ensures { IfOk result (λ g. Names receiver.now g (λ u. in_domain receiver.now u
+    ensures { IfOk result (λ g. IsFrontOf receiver.now g (λ u. in_domain receiver.now u
         && psi_of_kind sender.now.greatest kind (frontier_of sender.now f.now) u)) }
 {
     match kind {
@@ -286,7 +286,7 @@ pub(crate) fn psi_back(
     requires group { IsGroupSize kind }
     requires domains { AreDomainsOf kind sender.now receiver.now }
     requires front { IsCanonical receiver.now g.now }
-    ensures { IfOk result (λ f. Names sender.now f (λ t. in_domain sender.now t
+    ensures { IfOk result (λ f. IsFrontOf sender.now f (λ t. in_domain sender.now t
         && psi_back_of_kind sender.now.greatest kind (frontier_of receiver.now g.now) t)) }
 {
     match kind {

@@ -1,6 +1,6 @@
 //! How many messages a sequence sent, by epoch.
 ghost use Rattle.std.specs.Prelude.{◌≡◌, ℕ, ◌^◌, ◌-◌, ◌≤◌, true, nat_lt, min, [], ◌∷◌, ◌++◌, length, take, IsTrue, OnOk, OnErr};
-ghost use Rattle.fw_flow.specs.Projection.{first_number_of, table_count};
+ghost use Rattle.fw_flow.specs.Projection.{first_coordinate, table_count};
 ghost use Rattle.fw_flow.specs.SentTable.{AreInOrder, counts_of, HasTotals};
 
 use std::alloc::{AllocError, Global};
@@ -78,7 +78,7 @@ impl SentTable {
     /// How many messages were sent in the epochs below a limit, or `u64::MAX` where they were more. It halves the table until
     /// it finds the limit.
     pub(crate) fn count_below(&self, limit: u32) -> u64
-        ensures { result ≡ min (table_count (λ t. nat_lt (first_number_of t) limit) self.now) (2 ^ 64 - 1) }
+        ensures { result ≡ min (table_count (λ t. nat_lt (first_coordinate t) limit) self.now) (2 ^ 64 - 1) }
     {
         let place = self.entries.partition_point(|entry| entry.epoch < limit);
         total_at(&self.entries, place)

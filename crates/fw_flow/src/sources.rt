@@ -1,6 +1,6 @@
 //! The sources of a flow by their names.
 ghost use Rattle.std.specs.Prelude.{◌≡◌, ◌++◌, ◌<◌, length, IsNone, IfOk};
-ghost use Rattle.fw_lines.specs.Sources.{node_of};
+ghost use Rattle.fw_lines.specs.Sources.{node_named};
 ghost use Rattle.fw_flow.specs.Dataflow.{node_at};
 ghost use Rattle.fw_flow.specs.Sources.{source_at, sources_of};
 
@@ -26,7 +26,7 @@ impl Flow {
     // These sources, and the node at a place if it is one.
     fn with_source(&self, sources: SourceNames, place: u32) -> Result<SourceNames, AllocError>
         requires there { place < length self.now.nodes }
-        requires new { IsNone (node_of sources (node_at self.now place).name) }
+        requires new { IsNone (node_named sources (node_at self.now place).name) }
         ensures { IfOk result (λ more. more ≡ sources ++ source_at self.now place) }
     {
         let node = NodeId::at(place);

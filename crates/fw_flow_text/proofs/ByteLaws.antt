@@ -28,7 +28,7 @@ use Rattle.fw_flow_text.specs.Forms.{name_of, policy_named, policy_at_end, input
 use Rattle.fw_flow_text.specs.Grammar.{declared_by, form_fault, words_fault, line_fault, IsAccepted}
 use Rattle.fw_flow_text.specs.Laws.{is_in_texts}
 use Rattle.fw_flow_text.specs.Select.{condition_of, sum_value, plain_value, plain_part, value_part, set_part, assignment_part}
-use Rattle.fw_flow_text.specs.Words.{marked, numeral_of, field_of, comparison_of, term_from, term_of}
+use Rattle.fw_flow_text.specs.Words.{marked_number, numeral_of, field_of, comparison_of, term_from, term_of}
 
 abbrev pub is_clean : List ℕ → Bool
 is_clean word = list_all is_allowed word
@@ -86,7 +86,7 @@ numeral_clean : (word : List ℕ) (found : ℕ × Bool) → numeral_of word ≡ 
 unfolding numeral_of number_of
 numeral_clean word found e = by_test (is_numeral word) refl e
   where
-    by_test : (b : Bool) → is_numeral word ≡ b → marked (cond b (cond (nat_lt (digits_value 10 word) (2 ^ 64)) (number.Value (digits_value 10 word)) number.TooLarge) number.NotANumber) ≡ Some found → is_clean word ≡ true
+    by_test : (b : Bool) → is_numeral word ≡ b → marked_number (cond b (cond (nat_lt (digits_value 10 word) (2 ^ 64)) (number.Value (digits_value 10 word)) number.TooLarge) number.NotANumber) ≡ Some found → is_clean word ≡ true
     by_test true t r = digits_clean word t
     by_test false t r = absurd (cc)
 

@@ -34,7 +34,7 @@ use Rattle.fw_flow_text.specs.Forms.{name_of, policy_named, policy_at_end, input
 use Rattle.fw_flow_text.specs.Laws.{InputsAreRead, OutputsAreRead, SelectsAreRead, EdgesAreRead}
 use Rattle.fw_flow_text.specs.Select.{condition_of, sum_value, plain_value, value_part, assignment_part}
 use Rattle.fw_flow_text.specs.Spelled.{field_word, comparison_word, term_word, value_words, assignment_words, selection_words, IsSmallTerm, IsSmallValue, IsSmallAssignment, IsSmall}
-use Rattle.fw_flow_text.specs.Words.{marked, numeral_of, field_of, comparison_of, term_of, term_from, value_from}
+use Rattle.fw_flow_text.specs.Words.{marked_number, numeral_of, field_of, comparison_of, term_of, term_from, value_from}
 
 named : (name : List ℕ) → is_name name ≡ true → name_of name ≡ Some name
 named name e = ap (λ b. cond b (Some name) None) e
@@ -107,9 +107,9 @@ numeral_read : (n : ℕ) → n < 2 ^ 64 → numeral_of (decimal n) ≡ Some (n, 
 unfolding numeral_of number_of
 numeral_read n h =
     let small : ℕ → Number = λ v. cond (nat_lt v (2 ^ 64)) (number.Value v) number.TooLarge in
-    ap (λ b. marked (cond b (small (digits_value 10 (decimal n))) number.NotANumber)) (decimal_numeral n h)
-    ∙ ap (λ v. marked (small v)) (decimal_is_IsNumeral n h).1
-    ∙ ap (λ b. marked (cond b (number.Value n) number.TooLarge)) (is_small n h)
+    ap (λ b. marked_number (cond b (small (digits_value 10 (decimal n))) number.NotANumber)) (decimal_numeral n h)
+    ∙ ap (λ v. marked_number (small v)) (decimal_is_IsNumeral n h).1
+    ∙ ap (λ b. marked_number (cond b (number.Value n) number.TooLarge)) (is_small n h)
 
 unequal : (word text : List ℕ) → is_numeral text ≡ false → is_numeral word ≡ true → bytes_eq word text ≡ false
 unequal word text f e = by_test (bytes_eq word text) refl

@@ -14,14 +14,14 @@ use Rattle.fw_lines.specs.declared.numeral.Number.TheVariants as number
 use Rattle.fw_lines.specs.Spelling.{number_of}
 
 -- the number, and whether it is too large
-abbrev pub marked : Number → Option (ℕ × Bool)
-marked (number.Value n) = Some (n, false)
-marked number.TooLarge = Some (0, true)
-marked number.NotANumber = None
+abbrev pub marked_number : Number → Option (ℕ × Bool)
+marked_number (number.Value n) = Some (n, false)
+marked_number number.TooLarge = Some (0, true)
+marked_number number.NotANumber = None
 
 -- the number that a word spells, and whether it is too large
 unfoldable pub numeral_of : List ℕ → Option (ℕ × Bool)
-numeral_of word = marked (number_of word)
+numeral_of word = marked_number (number_of word)
 
 -- the field that a word names
 unfoldable pub field_of : List ℕ → Option Field

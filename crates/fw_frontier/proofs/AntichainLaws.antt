@@ -6,7 +6,7 @@ use Rattle.std.specs.Ordering.{is_lt}
 use Rattle.fw_time.specs.Stamp.{leq, stamp_cmp}
 use Rattle.fw_time.proofs.StampLaws.{leq-refl, before-trans, before-total}
 use Rattle.fw_frontier.specs.Front.{inside}
-use Rattle.fw_frontier.specs.Outside.{placed, excluding, excluding_all}
+use Rattle.fw_frontier.specs.Outside.{with_stamp, front_without, front_without_all}
 use Rattle.fw_time.proofs.EachLaws.{each-at, each-kept, each-weaker}
 use Rattle.fw_frontier.proofs.GenericLaws.{no}
 
@@ -21,26 +21,26 @@ IsAntichain [] = Unit {0}
 IsAntichain (o ∷ os) = Leads o os × IsAntichain os
 
 -- what holds of each stamp holds of each after a stamp is put among them
-all-placed : (P : List ℕ → Type 0) (s : List ℕ) (os : List (List ℕ)) → P s → AllByRecursion P os → AllByRecursion P (placed s os)
+all-placed : (P : List ℕ → Type 0) (s : List ℕ) (os : List (List ℕ)) → P s → AllByRecursion P os → AllByRecursion P (with_stamp s os)
 all-placed P s [] h k = (h, tt)
 all-placed P s (o ∷ os) h k = by (is_lt (stamp_cmp s o)) (all-placed P s os h k.1)
   where
-    by : (b : Bool) → AllByRecursion P (placed s os) → AllByRecursion P (cond b (s ∷ o ∷ os) (o ∷ placed s os))
+    by : (b : Bool) → AllByRecursion P (with_stamp s os) → AllByRecursion P (cond b (s ∷ o ∷ os) (o ∷ with_stamp s os))
     by true r = (h, (k.0, k.1))
     by false r = (k.0, r)
 
 -- and of those that stay when a stamp more is outside
-pub all-excluding : (P : List ℕ → Type 0) (s : List ℕ) (os : List (List ℕ)) → P s → AllByRecursion P os → AllByRecursion P (excluding s os)
-unfolding excluding
+pub all-excluding : (P : List ℕ → Type 0) (s : List ℕ) (os : List (List ℕ)) → P s → AllByRecursion P os → AllByRecursion P (front_without s os)
+unfolding front_without
 all-excluding P s os h k = by (inside os s)
   where
-    by : (b : Bool) → AllByRecursion P (cond b (placed s (filter (λ o. not (leq s o)) os)) os)
+    by : (b : Bool) → AllByRecursion P (cond b (with_stamp s (filter (λ o. not (leq s o)) os)) os)
     by true = all-placed P s (filter (λ o. not (leq s o)) os) h (each-kept P (λ o. not (leq s o)) os k)
     by false = k
 
-pub all-excluding_all : (P : List ℕ → Type 0) (ss os : List (List ℕ)) → AllByRecursion P ss → AllByRecursion P os → AllByRecursion P (excluding_all ss os)
+pub all-excluding_all : (P : List ℕ → Type 0) (ss os : List (List ℕ)) → AllByRecursion P ss → AllByRecursion P os → AllByRecursion P (front_without_all ss os)
 all-excluding_all P [] os h k = k
-all-excluding_all P (s ∷ ss) os h k = all-excluding_all P ss (excluding s os) h.1 (all-excluding P s os h.0 k)
+all-excluding_all P (s ∷ ss) os h k = all-excluding_all P ss (front_without s os) h.1 (all-excluding P s os h.0 k)
 
 antichain-filter : (p : List ℕ → Bool) (os : List (List ℕ)) → IsAntichain os → IsAntichain (filter p os)
 antichain-filter p [] h = tt
@@ -61,7 +61,7 @@ or-swap true b h = cc
 or-swap false true h = cc
 or-swap false false h = refl
 
-antichain-placed : (s : List ℕ) (os : List (List ℕ)) → AllByRecursion (λ q. (leq s q || leq q s) ≡ false) os → IsAntichain os → IsAntichain (placed s os)
+antichain-placed : (s : List ℕ) (os : List (List ℕ)) → AllByRecursion (λ q. (leq s q || leq q s) ≡ false) os → IsAntichain os → IsAntichain (with_stamp s os)
 antichain-placed s [] k l = (record { ascending = tt; incomparable = tt }, tt)
 antichain-placed s (o ∷ os) k l = by (is_lt (stamp_cmp s o)) refl (antichain-placed s os k.1 l.1)
   where
@@ -77,7 +77,7 @@ antichain-placed s (o ∷ os) k l = by (is_lt (stamp_cmp s o)) refl (antichain-p
     other true e f = e
     other false e f = absurd (distinct (before-total o s e f))
 
-    by : (c : Bool) → is_lt (stamp_cmp s o) ≡ c → IsAntichain (placed s os) → IsAntichain (cond c (s ∷ o ∷ os) (o ∷ placed s os))
+    by : (c : Bool) → is_lt (stamp_cmp s o) ≡ c → IsAntichain (with_stamp s os) → IsAntichain (cond c (s ∷ o ∷ os) (o ∷ with_stamp s os))
     by true e r = (
       record {
         ascending = (e, each-weaker (λ q. is_lt (stamp_cmp o q) ≡ true) (λ q. is_lt (stamp_cmp s q) ≡ true) os (λ q m. before-trans s o q e m) l.0.ascending);
@@ -108,18 +108,18 @@ apart-filter s (o ∷ os) h = by (leq s o) refl (apart-filter s os (and_parts _ 
     by false e r = (none (leq s o) (leq o s) e (and_parts _ _ h).0, r)
 
 -- a stamp more is outside
-pub antichain-excluding : (s : List ℕ) (os : List (List ℕ)) → IsAntichain os → IsAntichain (excluding s os)
-unfolding excluding
+pub antichain-excluding : (s : List ℕ) (os : List (List ℕ)) → IsAntichain os → IsAntichain (front_without s os)
+unfolding front_without
 antichain-excluding s os k = by (inside os s) refl
   where
-    by : (c : Bool) → inside os s ≡ c → IsAntichain (cond c (placed s (filter (λ o. not (leq s o)) os)) os)
+    by : (c : Bool) → inside os s ≡ c → IsAntichain (cond c (with_stamp s (filter (λ o. not (leq s o)) os)) os)
     by true e = antichain-placed s (filter (λ o. not (leq s o)) os) (apart-filter s os e) (antichain-filter (λ o. not (leq s o)) os k)
     by false e = k
 
 -- these stamps more are outside
-pub antichain-excluding_all : (ss os : List (List ℕ)) → IsAntichain os → IsAntichain (excluding_all ss os)
+pub antichain-excluding_all : (ss os : List (List ℕ)) → IsAntichain os → IsAntichain (front_without_all ss os)
 antichain-excluding_all [] os k = k
-antichain-excluding_all (s ∷ ss) os k = antichain-excluding_all ss (excluding s os) (antichain-excluding s os k)
+antichain-excluding_all (s ∷ ss) os k = antichain-excluding_all ss (front_without s os) (antichain-excluding s os k)
 
 -- where one stamp is at most another, the two are one
 pub antichain-at : (os : List (List ℕ)) (i j : ℕ) → IsAntichain os → i < length os → j < length os → leq (get_or os i []) (get_or os j []) ≡ true → get_or os i [] ≡ get_or os j []

@@ -6,7 +6,7 @@ use Rattle.fw_time.specs.declared.stamp.Bounds.{Bounds}
 use Rattle.fw_time.specs.Stamp.{leq, in_domain}
 use Rattle.fw_time.proofs.StampLaws.{leq-length}
 use Rattle.fw_frontier.specs.Below.{is_below}
-use Rattle.fw_frontier.specs.Front.{inside, frontier_of, Names}
+use Rattle.fw_frontier.specs.Front.{inside, frontier_of, IsFrontOf}
 
 -- not all numbers are below a limit
 pub none-within : (k : ℕ) → ((n : ℕ) → is_below None n ≡ true → is_below (Some k) n ≡ true) → false ≡ true
@@ -31,11 +31,11 @@ within-some a b h = by (nat_le a b) refl
     by false e = never b (h b (turned a b e))
 
 -- a list that names a frontier names each with the same stamps
-pub names-as : (b : Bounds) (os : List (List ℕ)) (f g : List ℕ → Bool) → Names b os f → ((t : List ℕ) → f t ≡ g t) → Names b os g
+pub names-as : (b : Bounds) (os : List (List ℕ)) (f g : List ℕ → Bool) → IsFrontOf b os f → ((t : List ℕ) → f t ≡ g t) → IsFrontOf b os g
 names-as b os f g h e = record { canonical = h.canonical; same = λ t. h.same t ∙ e t }
 
 -- a limit in the domain
-pub names-limit : (b : Bounds) (g k : ℕ) (os : List (List ℕ)) → b.greatest ≡ g ∷ [] → Names b os (frontier_of b ((k ∷ []) ∷ [])) → Names b os (λ t. in_domain b t && is_below (Some k) (slice_index t 0))
+pub names-limit : (b : Bounds) (g k : ℕ) (os : List (List ℕ)) → b.greatest ≡ g ∷ [] → IsFrontOf b os (frontier_of b ((k ∷ []) ∷ [])) → IsFrontOf b os (λ t. in_domain b t && is_below (Some k) (slice_index t 0))
 names-limit b g k os e h = names-as b os _ _ h (λ t. by t (in_domain b t) refl)
   where
     turned : (k n : ℕ) → (not (nat_le k n && true) && true) ≡ nat_lt n k
@@ -58,7 +58,7 @@ in_domain-one b g k e h = ap (leq (k ∷ [])) e ∙ fits k g h
     fits k g h = grind (arith, nat_tests)
 
 -- the same frontier, by the number that each stamp of the domain has
-pub names-numbers : (b : Bounds) (os : List (List ℕ)) (until : Option ℕ) (f : List ℕ → ℕ) → ((t : List ℕ) → length t ≡ length b.greatest → f t ≡ slice_index t 0) → Names b os (λ t. in_domain b t && is_below until (slice_index t 0)) → Names b os (λ t. in_domain b t && is_below until (f t))
+pub names-numbers : (b : Bounds) (os : List (List ℕ)) (until : Option ℕ) (f : List ℕ → ℕ) → ((t : List ℕ) → length t ≡ length b.greatest → f t ≡ slice_index t 0) → IsFrontOf b os (λ t. in_domain b t && is_below until (slice_index t 0)) → IsFrontOf b os (λ t. in_domain b t && is_below until (f t))
 names-numbers b os until f h n = names-as b os (λ t. in_domain b t && is_below until (slice_index t 0)) (λ t. in_domain b t && is_below until (f t)) n (λ t. by t (in_domain b t) refl)
   where
     by : (t : List ℕ) (c : Bool) → in_domain b t ≡ c → (c && is_below until (slice_index t 0)) ≡ (c && is_below until (f t))
@@ -66,7 +66,7 @@ names-numbers b os until f h n = names-as b os (λ t. in_domain b t && is_below 
     by t false e = refl
 
 -- the frontier that has stamps outside, by a test that agrees with them on the domain
-pub names-by : (b : Bounds) (os ss : List (List ℕ)) (f : List ℕ → Bool) → Names b os (frontier_of b ss) → ((t : List ℕ) → in_domain b t ≡ true → inside ss t ≡ f t) → Names b os (λ t. in_domain b t && f t)
+pub names-by : (b : Bounds) (os ss : List (List ℕ)) (f : List ℕ → Bool) → IsFrontOf b os (frontier_of b ss) → ((t : List ℕ) → in_domain b t ≡ true → inside ss t ≡ f t) → IsFrontOf b os (λ t. in_domain b t && f t)
 names-by b os ss f n h = names-as b os (frontier_of b ss) (λ t. in_domain b t && f t) n (λ t. by t (in_domain b t) refl)
   where
     by : (t : List ℕ) (c : Bool) → in_domain b t ≡ c → (c && inside ss t) ≡ (c && f t)

@@ -4,10 +4,10 @@ use Rattle.std.proofs.lemmas.Bool.{and_from, and_parts}
 use Rattle.std.proofs.lemmas.Bool.Decides.{nat_tests}
 use Rattle.std.specs.List.{AllByRecursion}
 use Rattle.fw_time.specs.declared.stamp.Bounds.{Bounds}
-use Rattle.fw_time.specs.Stamp.{leq, lub, raised, in_domain}
+use Rattle.fw_time.specs.Stamp.{leq, lub, stamp_raised_at, in_domain}
 use Rattle.fw_time.proofs.StampLaws.{leq-length, lub-least, leq-raised}
 use Rattle.fw_frontier.specs.Front.{IsCanonical, all_in_domain}
-use Rattle.fw_frontier.specs.Outside.{excluding, excluding_all, below_at}
+use Rattle.fw_frontier.specs.Outside.{front_without, front_without_all, below_at}
 use Rattle.fw_time.proofs.EachLaws.{each-at, each-weaker}
 use Rattle.fw_frontier.proofs.AntichainLaws.{IsAntichain, all-excluding, antichain-excluding}
 use Rattle.fw_frontier.proofs.Pairs.{excluding_lubs, excluding_pairs}
@@ -27,19 +27,19 @@ in_domain-canonical b [] h = tt
 in_domain-canonical b (o ∷ os) h = (h.0.in_the_domain, in_domain-canonical b os h.1)
 
 -- a stamp more is outside
-pub canonical-excluding : (b : Bounds) (s : List ℕ) (os : List (List ℕ)) → in_domain b s ≡ true → IsCanonical b os → IsCanonical b (excluding s os)
+pub canonical-excluding : (b : Bounds) (s : List ℕ) (os : List (List ℕ)) → in_domain b s ≡ true → IsCanonical b os → IsCanonical b (front_without s os)
 canonical-excluding b s os h k =
-    canonical-antichain b (excluding s os) (all-excluding (λ o. in_domain b o ≡ true) s os h (in_domain-canonical b os k)) (antichain-excluding s os (antichain-canonical b os k))
+    canonical-antichain b (front_without s os) (all-excluding (λ o. in_domain b o ≡ true) s os h (in_domain-canonical b os k)) (antichain-excluding s os (antichain-canonical b os k))
 
 -- these stamps more are outside
-pub canonical-excluding_all : (b : Bounds) (ss os : List (List ℕ)) → AllByRecursion (λ s. in_domain b s ≡ true) ss → IsCanonical b os → IsCanonical b (excluding_all ss os)
+pub canonical-excluding_all : (b : Bounds) (ss os : List (List ℕ)) → AllByRecursion (λ s. in_domain b s ≡ true) ss → IsCanonical b os → IsCanonical b (front_without_all ss os)
 canonical-excluding_all b [] os h k = k
-canonical-excluding_all b (s ∷ ss) os h k = canonical-excluding_all b ss (excluding s os) h.1 (canonical-excluding b s os h.0 k)
+canonical-excluding_all b (s ∷ ss) os h k = canonical-excluding_all b ss (front_without s os) h.1 (canonical-excluding b s os h.0 k)
 
 canonical-excluding_lubs : (b : Bounds) (s : List ℕ) (ps os : List (List ℕ)) → in_domain b s ≡ true → AllByRecursion (λ p. in_domain b p ≡ true) ps → IsCanonical b os → IsCanonical b (excluding_lubs s ps os)
 canonical-excluding_lubs b s [] os h k l = l
 canonical-excluding_lubs b s (p ∷ ps) os h k l =
-    canonical-excluding_lubs b s ps (excluding (lub s p) os) h k.1 (canonical-excluding b (lub s p) os (lub-least s p b.greatest h k.0) l)
+    canonical-excluding_lubs b s ps (front_without (lub s p) os) h k.1 (canonical-excluding b (lub s p) os (lub-least s p b.greatest h k.0) l)
 
 pub canonical-excluding_pairs : (b : Bounds) (ss ps os : List (List ℕ)) → AllByRecursion (λ s. in_domain b s ≡ true) ss → AllByRecursion (λ p. in_domain b p ≡ true) ps → IsCanonical b os → IsCanonical b (excluding_pairs ss ps os)
 canonical-excluding_pairs b [] ps os h k l = l
@@ -55,7 +55,7 @@ lengths b [] ps h k = tt
 lengths b (s ∷ ss) ps h k =
     (each-weaker (λ p. in_domain b p ≡ true) (λ p. length s ≡ length p) ps (λ p e. leq-length s b.greatest h.0 ∙ sym (leq-length p b.greatest e)) k, lengths b ss ps h.1 k)
 
-leq-raised_upto : (s g : List ℕ) (i : ℕ) → leq s g ≡ true → nat_lt (get_or s i 0) (get_or g i 0) ≡ true → leq (raised s i) g ≡ true
+leq-raised_upto : (s g : List ℕ) (i : ℕ) → leq s g ≡ true → nat_lt (get_or s i 0) (get_or g i 0) ≡ true → leq (stamp_raised_at s i) g ≡ true
 leq-raised_upto [] g i h k = h
 leq-raised_upto (x ∷ s) [] i h k = cc
 leq-raised_upto (x ∷ s) (y ∷ g) zero h k = leq-raised (x ∷ s) (y ∷ g) zero (omega arith) (leq-length (x ∷ s) (y ∷ g) h) ∙ k
@@ -69,8 +69,8 @@ pub canonical-below_at : (b : Bounds) (s : List ℕ) (n : ℕ) → in_domain b s
 canonical-below_at b s zero h = tt
 canonical-below_at b s (suc n) h = by (nat_lt (get_or s n 0) (get_or b.greatest n 0)) refl (canonical-below_at b s n h)
   where
-    by : (c : Bool) → nat_lt (get_or s n 0) (get_or b.greatest n 0) ≡ c → IsCanonical b (below_at s b.greatest n) → IsCanonical b (cond c (excluding (raised s n) (below_at s b.greatest n)) (below_at s b.greatest n))
-    by true e r = canonical-excluding b (raised s n) (below_at s b.greatest n) (leq-raised_upto s b.greatest n h e) r
+    by : (c : Bool) → nat_lt (get_or s n 0) (get_or b.greatest n 0) ≡ c → IsCanonical b (below_at s b.greatest n) → IsCanonical b (cond c (front_without (stamp_raised_at s n) (below_at s b.greatest n)) (below_at s b.greatest n))
+    by true e r = canonical-excluding b (stamp_raised_at s n) (below_at s b.greatest n) (leq-raised_upto s b.greatest n h e) r
     by false e r = r
 
 -- the test of all stamps, by each

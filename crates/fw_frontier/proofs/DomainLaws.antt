@@ -4,7 +4,7 @@ use Rattle.std.specs.List.{AllByRecursion}
 use Rattle.fw_time.specs.Stamp.{leq, glb, in_domain}
 use Rattle.fw_time.specs.declared.stamp.Bounds.{Bounds}
 use Rattle.fw_time.proofs.StampLaws.{glb-left, glb-right, glb-leq, length-glb, leq-glb, leq-length}
-use Rattle.fw_frontier.specs.Front.{inside, IsCanonical, Names}
+use Rattle.fw_frontier.specs.Front.{inside, IsCanonical, IsFrontOf}
 use Rattle.fw_frontier.specs.Frontier.{some_above}
 use Rattle.fw_frontier.specs.Domain.{IsOfDomain}
 use Rattle.fw_frontier.proofs.BelowLaws.{names-by}
@@ -52,7 +52,7 @@ module _ {T : Type 0} (coords : T → List ℕ) (of_coords : List ℕ → T) (pl
       same (o ∷ os) d u e = let p = leq-glb o u b.greatest d.0 e in let q = same os d.1 u e in λ i. not (p i) && q i
 
   pub trip : (os ps : List (List ℕ)) (f : T → Bool) → IsCanonical b os → ((t : T) → f t ≡ inside os (coords t))
-      → Names b ps (λ t. in_domain b t && f (of_coords t)) → ps ≡ os
+      → IsFrontOf b ps (λ t. in_domain b t && f (of_coords t)) → ps ≡ os
   trip os ps f h each named =
       names-same b ps os (λ t. in_domain b t && f (of_coords t)) named
       (names-by b os os (λ t. f (of_coords t)) (names-self b os h) (λ t d. sym (each (of_coords t) ∙ ap (inside os) (all t (leq-length t b.greatest d ∙ shape)))))

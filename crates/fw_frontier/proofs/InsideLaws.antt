@@ -5,10 +5,10 @@ use Rattle.std.proofs.Math.Bool.{and-false, and_assoc, and-true, or-true}
 use Rattle.std.proofs.lemmas.Bool.Decides.{nat_tests}
 use Rattle.std.specs.List.{AllByRecursion}
 use Rattle.std.specs.Ordering.{is_lt}
-use Rattle.fw_time.specs.Stamp.{leq, lub, stamp_cmp, raised}
+use Rattle.fw_time.specs.Stamp.{leq, lub, stamp_cmp, stamp_raised_at}
 use Rattle.fw_time.proofs.StampLaws.{leq-trans, leq-lub, leq-length, leq-raised}
 use Rattle.fw_frontier.specs.Front.{inside}
-use Rattle.fw_frontier.specs.Outside.{place, placed, excluding, excluding_all, below_at}
+use Rattle.fw_frontier.specs.Outside.{place_among, with_stamp, front_without, front_without_all, below_at}
 use Rattle.fw_frontier.proofs.Pairs.{excluding_lubs, excluding_pairs}
 
 -- with a stamp each lesser one is inside
@@ -29,7 +29,7 @@ inside-above os s t h k = by (inside os t) (λ e. inside-closed os s t k e)
     by true r = let e = r refl in cc
     by false r = refl
 
-inside-placed : (s : List ℕ) (os : List (List ℕ)) (t : List ℕ) → inside (placed s os) t ≡ (not (leq s t) && inside os t)
+inside-placed : (s : List ℕ) (os : List (List ℕ)) (t : List ℕ) → inside (with_stamp s os) t ≡ (not (leq s t) && inside os t)
 inside-placed s [] t = refl
 inside-placed s (o ∷ os) t = by (is_lt (stamp_cmp s o)) (inside-placed s os t)
   where
@@ -39,7 +39,7 @@ inside-placed s (o ∷ os) t = by (is_lt (stamp_cmp s o)) (inside-placed s os t)
     swap false true c = refl
     swap false false c = refl
 
-    by : (b : Bool) → inside (placed s os) t ≡ (not (leq s t) && inside os t) → inside (cond b (s ∷ o ∷ os) (o ∷ placed s os)) t ≡ (not (leq s t) && (not (leq o t) && inside os t))
+    by : (b : Bool) → inside (with_stamp s os) t ≡ (not (leq s t) && inside os t) → inside (cond b (s ∷ o ∷ os) (o ∷ with_stamp s os)) t ≡ (not (leq s t) && (not (leq o t) && inside os t))
     by true e = refl
     by false e = ap (λ b. not (leq o t) && b) e ∙ swap (not (leq o t)) (not (leq s t)) (inside os t)
 
@@ -56,21 +56,21 @@ inside-filter s (o ∷ os) t h = by (leq s o) refl (inside-filter s os t h)
     by false e r = ap (λ b. not (leq o t) && b) r
 
 -- a stamp more is outside, with each greater one
-pub inside-excluding : (s : List ℕ) (os : List (List ℕ)) (t : List ℕ) → inside (excluding s os) t ≡ (inside os t && not (leq s t))
-unfolding excluding
+pub inside-excluding : (s : List ℕ) (os : List (List ℕ)) (t : List ℕ) → inside (front_without s os) t ≡ (inside os t && not (leq s t))
+unfolding front_without
 inside-excluding s os t = by (inside os s) refl (leq s t) refl
   where
-    by : (b : Bool) → inside os s ≡ b → (c : Bool) → leq s t ≡ c → inside (cond b (placed s (filter (λ o. not (leq s o)) os)) os) t ≡ (inside os t && not c)
+    by : (b : Bool) → inside os s ≡ b → (c : Bool) → leq s t ≡ c → inside (cond b (with_stamp s (filter (λ o. not (leq s o)) os)) os) t ≡ (inside os t && not c)
     by true e true f = inside-placed s (filter (λ o. not (leq s o)) os) t ∙ ap (λ b. not b && inside (filter (λ o. not (leq s o)) os) t) f ∙ sym (and-false (inside os t))
     by true e false f = inside-placed s (filter (λ o. not (leq s o)) os) t ∙ ap (λ b. not b && inside (filter (λ o. not (leq s o)) os) t) f ∙ inside-filter s os t f ∙ sym (and-true (inside os t))
     by false e true f = inside-above os s t e f ∙ sym (and-false (inside os t))
     by false e false f = sym (and-true (inside os t))
 
 -- these stamps more are outside, with each greater one
-pub inside-excluding_all : (ss os : List (List ℕ)) (t : List ℕ) → inside (excluding_all ss os) t ≡ (inside os t && inside ss t)
+pub inside-excluding_all : (ss os : List (List ℕ)) (t : List ℕ) → inside (front_without_all ss os) t ≡ (inside os t && inside ss t)
 inside-excluding_all [] os t = sym (and-true (inside os t))
 inside-excluding_all (s ∷ ss) os t =
-    inside-excluding_all ss (excluding s os) t ∙ ap (λ b. b && inside ss t) (inside-excluding s os t) ∙ and_assoc (inside os t) (not (leq s t)) (inside ss t)
+    inside-excluding_all ss (front_without s os) t ∙ ap (λ b. b && inside ss t) (inside-excluding s os t) ∙ and_assoc (inside os t) (not (leq s t)) (inside ss t)
 
 inside-excluding_lubs : (s : List ℕ) (ps os : List (List ℕ)) (t : List ℕ) → AllByRecursion (λ p. length s ≡ length p) ps → inside (excluding_lubs s ps os) t ≡ (inside os t && (not (leq s t) || inside ps t))
 inside-excluding_lubs s [] os t h = by (inside os t) (leq s t)
@@ -80,7 +80,7 @@ inside-excluding_lubs s [] os t h = by (inside os t) (leq s t)
     by true false = refl
     by false c = refl
 inside-excluding_lubs s (p ∷ ps) os t h =
-    inside-excluding_lubs s ps (excluding (lub s p) os) t h.1
+    inside-excluding_lubs s ps (front_without (lub s p) os) t h.1
     ∙ ap (λ b. b && (not (leq s t) || inside ps t)) (inside-excluding (lub s p) os t ∙ ap (λ b. inside os t && not b) (leq-lub s p t h.0))
     ∙ by (inside os t) (leq s t) (leq p t) (inside ps t)
   where
@@ -137,10 +137,10 @@ inside-below_at s g t (suc n) h k l =
     turned : (x y : ℕ) → not (nat_lt x y) ≡ nat_le y x
     turned x y = grind (arith, nat_tests)
 
-    by : (b : Bool) → nat_lt (get_or s n 0) (get_or g n 0) ≡ b → inside (below_at s g n) t ≡ leq (take n t) (take n s) → inside (cond b (excluding (raised s n) (below_at s g n)) (below_at s g n)) t ≡ (leq (take n t) (take n s) && nat_le (get_or t n 0) (get_or s n 0))
+    by : (b : Bool) → nat_lt (get_or s n 0) (get_or g n 0) ≡ b → inside (below_at s g n) t ≡ leq (take n t) (take n s) → inside (cond b (front_without (stamp_raised_at s n) (below_at s g n)) (below_at s g n)) t ≡ (leq (take n t) (take n s) && nat_le (get_or t n 0) (get_or s n 0))
     by true e r =
-        inside-excluding (raised s n) (below_at s g n) t
-        ∙ ap (λ b. b && not (leq (raised s n) t)) r
+        inside-excluding (stamp_raised_at s n) (below_at s g n) t
+        ∙ ap (λ b. b && not (leq (stamp_raised_at s n) t)) r
         ∙ ap (λ b. leq (take n t) (take n s) && not b) (leq-raised s t n (omega arith) (omega (arith, leq-length s g k, leq-length t g l)))
         ∙ ap (λ b. leq (take n t) (take n s) && b) (turned (get_or s n 0) (get_or t n 0))
     by false e r =
@@ -148,10 +148,10 @@ inside-below_at s g t (suc n) h k l =
         ∙ all (leq (take n t) (take n s)) (nat_le (get_or t n 0) (get_or s n 0)) (free (get_or s n 0) (get_or t n 0) (get_or g n 0) e (leq-at t g n l))
 
 -- the place of a stamp in the list
-pub insert-place : (s : List ℕ) (os : List (List ℕ)) → take (place s os) os ++ s ∷ drop (place s os) os ≡ placed s os
+pub insert-place : (s : List ℕ) (os : List (List ℕ)) → take (place_among s os) os ++ s ∷ drop (place_among s os) os ≡ with_stamp s os
 insert-place s [] = refl
 insert-place s (o ∷ os) = by (is_lt (stamp_cmp s o)) (insert-place s os)
   where
-    by : (b : Bool) → take (place s os) os ++ s ∷ drop (place s os) os ≡ placed s os → take (cond b 0 (suc (place s os))) (o ∷ os) ++ s ∷ drop (cond b 0 (suc (place s os))) (o ∷ os) ≡ cond b (s ∷ o ∷ os) (o ∷ placed s os)
+    by : (b : Bool) → take (place_among s os) os ++ s ∷ drop (place_among s os) os ≡ with_stamp s os → take (cond b 0 (suc (place_among s os))) (o ∷ os) ++ s ∷ drop (cond b 0 (suc (place_among s os))) (o ∷ os) ≡ cond b (s ∷ o ∷ os) (o ∷ with_stamp s os)
     by true e = refl
     by false e = ap (λ u. o ∷ u) e

@@ -9,14 +9,14 @@ use Rattle.fw_time.specs.Stamp.{leq, lub, in_domain}
 use Rattle.fw_time.proofs.StampLaws.{leq-length, leq-lub, lub-least}
 use Rattle.fw_time.proofs.EachLaws.{each-at}
 use Rattle.fw_frontier.specs.Frontier.{join}
-use Rattle.fw_frontier.specs.Front.{inside, frontier_of, IsCanonical, Names}
-use Rattle.fw_frontier.specs.Outside.{excluding, excluding_all, rises, excluding_near, excluding_all_near}
+use Rattle.fw_frontier.specs.Front.{inside, frontier_of, IsCanonical, IsFrontOf}
+use Rattle.fw_frontier.specs.Outside.{front_without, front_without_all, rise_count, front_without_near, front_without_all_near}
 use Rattle.fw_frontier.proofs.InsideLaws.{inside-excluding, inside-excluding_all}
 use Rattle.fw_frontier.proofs.CanonicalLaws.{canonical-excluding, canonical-excluding_all, in_domain-canonical, lengths}
 use Rattle.fw_frontier.proofs.GenericLaws.{no}
 
 -- of two stamps of at most three coordinates one is greater at no more than one place
-rises-sum : (s p : List ℕ) → length s ≡ length p → rises s p + rises p s ≤ length s
+rises-sum : (s p : List ℕ) → length s ≡ length p → rise_count s p + rise_count p s ≤ length s
 rises-sum [] [] e = omega arith
 rises-sum [] (y ∷ p) e = absurd (omega arith)
 rises-sum (x ∷ s) [] e = absurd (omega arith)
@@ -26,80 +26,80 @@ rises-sum (x ∷ s) (y ∷ p) e = omega (arith, step x y, rises-sum s p (omega a
     step x y = grind (arith, nat_tests)
 
 -- past the end of one of the two there is nothing more
-pub rises-past : (n : ℕ) (s p : List ℕ) → min (length s) (length p) ≤ n → rises (drop n s) (drop n p) ≡ 0
+pub rises-past : (n : ℕ) (s p : List ℕ) → min (length s) (length p) ≤ n → rise_count (drop n s) (drop n p) ≡ 0
 rises-past zero [] p h = refl
 rises-past zero (x ∷ s) [] h = refl
 rises-past zero (x ∷ s) (y ∷ p) h = absurd (omega arith)
 rises-past (suc n) [] p h = refl
 rises-past (suc n) (x ∷ s) [] h = nothing (drop n s)
   where
-    nothing : (u : List ℕ) → rises u [] ≡ 0
+    nothing : (u : List ℕ) → rise_count u [] ≡ 0
     nothing [] = refl
     nothing (z ∷ u) = refl
 rises-past (suc n) (x ∷ s) (y ∷ p) h = rises-past n s p (omega arith)
 
-one-near : (s p : List ℕ) → length s ≡ length p → length s ≤ 3 → (rises s p ≤ 1) ⊎ (rises p s ≤ 1)
+one-near : (s p : List ℕ) → length s ≡ length p → length s ≤ 3 → (rise_count s p ≤ 1) ⊎ (rise_count p s ≤ 1)
 one-near s p e few =
     let sum = rises-sum s p e in
-    elim (cases_lt (rises s p) 2) [
+    elim (cases_lt (rise_count s p) 2) [
       | inl lt ↦ inl (omega arith)
       | inr ge ↦ inr (omega arith)
     ]
 
 -- ---- the lists stay canonical
 
-canonical-excluding_near : (b : Bounds) (s : List ℕ) (ps os : List (List ℕ)) → in_domain b s ≡ true → AllByRecursion (λ p. in_domain b p ≡ true) ps → IsCanonical b os → IsCanonical b (excluding_near s ps os)
+canonical-excluding_near : (b : Bounds) (s : List ℕ) (ps os : List (List ℕ)) → in_domain b s ≡ true → AllByRecursion (λ p. in_domain b p ≡ true) ps → IsCanonical b os → IsCanonical b (front_without_near s ps os)
 canonical-excluding_near b s [] os h k l = l
 canonical-excluding_near b s (p ∷ ps) os h k l =
-    canonical-excluding_near b s ps (cond (nat_le (rises s p) 1) (excluding (lub s p) os) os) h k.1 (by (nat_le (rises s p) 1))
+    canonical-excluding_near b s ps (cond (nat_le (rise_count s p) 1) (front_without (lub s p) os) os) h k.1 (by (nat_le (rise_count s p) 1))
   where
-    by : (c : Bool) → IsCanonical b (cond c (excluding (lub s p) os) os)
+    by : (c : Bool) → IsCanonical b (cond c (front_without (lub s p) os) os)
     by true = canonical-excluding b (lub s p) os (lub-least s p b.greatest h k.0) l
     by false = l
 
-canonical-excluding_all_near : (b : Bounds) (ss ps os : List (List ℕ)) → AllByRecursion (λ s. in_domain b s ≡ true) ss → AllByRecursion (λ p. in_domain b p ≡ true) ps → IsCanonical b os → IsCanonical b (excluding_all_near ss ps os)
+canonical-excluding_all_near : (b : Bounds) (ss ps os : List (List ℕ)) → AllByRecursion (λ s. in_domain b s ≡ true) ss → AllByRecursion (λ p. in_domain b p ≡ true) ps → IsCanonical b os → IsCanonical b (front_without_all_near ss ps os)
 canonical-excluding_all_near b [] ps os h k l = l
 canonical-excluding_all_near b (s ∷ ss) ps os h k l =
-    canonical-excluding_all_near b ss ps (excluding_all (excluding_near s ps []) os) h.1 k
-    (canonical-excluding_all b (excluding_near s ps []) os (in_domain-canonical b (excluding_near s ps []) (canonical-excluding_near b s ps [] h.0 k tt)) l)
+    canonical-excluding_all_near b ss ps (front_without_all (front_without_near s ps []) os) h.1 k
+    (canonical-excluding_all b (front_without_near s ps []) os (in_domain-canonical b (front_without_near s ps []) (canonical-excluding_near b s ps [] h.0 k tt)) l)
 
 -- ---- what they have inside
 
 -- whether a stamp is at least no near least upper bound of s and the list
 free : List ℕ → List (List ℕ) → List ℕ → Bool
 free s [] t = true
-free s (p ∷ ps) t = not (nat_le (rises s p) 1 && (leq s t && leq p t)) && free s ps t
+free s (p ∷ ps) t = not (nat_le (rise_count s p) 1 && (leq s t && leq p t)) && free s ps t
 
 -- and none of the first list and the second
 all_free : List (List ℕ) → List (List ℕ) → List ℕ → Bool
 all_free [] ps t = true
 all_free (s ∷ ss) ps t = free s ps t && all_free ss ps t
 
-inside-excluding_near : (s : List ℕ) (ps os : List (List ℕ)) (t : List ℕ) → AllByRecursion (λ p. length s ≡ length p) ps → inside (excluding_near s ps os) t ≡ (inside os t && free s ps t)
+inside-excluding_near : (s : List ℕ) (ps os : List (List ℕ)) (t : List ℕ) → AllByRecursion (λ p. length s ≡ length p) ps → inside (front_without_near s ps os) t ≡ (inside os t && free s ps t)
 unfolding free
 inside-excluding_near s [] os t h = sym (and-true (inside os t))
 inside-excluding_near s (p ∷ ps) os t h =
-    inside-excluding_near s ps (cond (nat_le (rises s p) 1) (excluding (lub s p) os) os) t h.1
-    ∙ ap (λ b. b && free s ps t) (by (nat_le (rises s p) 1))
-    ∙ and_assoc (inside os t) (not (nat_le (rises s p) 1 && (leq s t && leq p t))) (free s ps t)
+    inside-excluding_near s ps (cond (nat_le (rise_count s p) 1) (front_without (lub s p) os) os) t h.1
+    ∙ ap (λ b. b && free s ps t) (by (nat_le (rise_count s p) 1))
+    ∙ and_assoc (inside os t) (not (nat_le (rise_count s p) 1 && (leq s t && leq p t))) (free s ps t)
   where
-    by : (c : Bool) → inside (cond c (excluding (lub s p) os) os) t ≡ (inside os t && not (c && (leq s t && leq p t)))
+    by : (c : Bool) → inside (cond c (front_without (lub s p) os) os) t ≡ (inside os t && not (c && (leq s t && leq p t)))
     by true = inside-excluding (lub s p) os t ∙ ap (λ b. inside os t && not b) (leq-lub s p t h.0)
     by false = sym (and-true (inside os t))
 
-inside-excluding_all_near : (ss ps os : List (List ℕ)) (t : List ℕ) → AllByRecursion (λ s. AllByRecursion (λ p. length s ≡ length p) ps) ss → inside (excluding_all_near ss ps os) t ≡ (inside os t && all_free ss ps t)
+inside-excluding_all_near : (ss ps os : List (List ℕ)) (t : List ℕ) → AllByRecursion (λ s. AllByRecursion (λ p. length s ≡ length p) ps) ss → inside (front_without_all_near ss ps os) t ≡ (inside os t && all_free ss ps t)
 unfolding all_free
 inside-excluding_all_near [] ps os t h = sym (and-true (inside os t))
 inside-excluding_all_near (s ∷ ss) ps os t h =
-    inside-excluding_all_near ss ps (excluding_all (excluding_near s ps []) os) t h.1
-    ∙ ap (λ b. b && all_free ss ps t) (inside-excluding_all (excluding_near s ps []) os t ∙ ap (λ b. inside os t && b) (inside-excluding_near s ps [] t h.0))
+    inside-excluding_all_near ss ps (front_without_all (front_without_near s ps []) os) t h.1
+    ∙ ap (λ b. b && all_free ss ps t) (inside-excluding_all (front_without_near s ps []) os t ∙ ap (λ b. inside os t && b) (inside-excluding_near s ps [] t h.0))
     ∙ and_assoc (inside os t) (free s ps t) (all_free ss ps t)
 
 -- what is inside one of the two is free
 free-apart : (s : List ℕ) (ps : List (List ℕ)) (t : List ℕ) → leq s t ≡ false → free s ps t ≡ true
 unfolding free
 free-apart s [] t h = refl
-free-apart s (p ∷ ps) t h = and_from _ _ (by (nat_le (rises s p) 1) (leq s t) (leq p t) h) (free-apart s ps t h)
+free-apart s (p ∷ ps) t h = and_from _ _ (by (nat_le (rise_count s p) 1) (leq s t) (leq p t) h) (free-apart s ps t h)
   where
     by : (n a b : Bool) → a ≡ false → not (n && (a && b)) ≡ true
     by true true b e = no (sym e)
@@ -109,7 +109,7 @@ free-apart s (p ∷ ps) t h = and_from _ _ (by (nat_le (rises s p) 1) (leq s t) 
 free-inside : (s : List ℕ) (ps : List (List ℕ)) (t : List ℕ) → inside ps t ≡ true → free s ps t ≡ true
 unfolding free
 free-inside s [] t h = refl
-free-inside s (p ∷ ps) t h = and_from _ _ (by (nat_le (rises s p) 1) (leq s t) (leq p t) (and_parts _ _ h).0) (free-inside s ps t (and_parts _ _ h).1)
+free-inside s (p ∷ ps) t h = and_from _ _ (by (nat_le (rise_count s p) 1) (leq s t) (leq p t) (and_parts _ _ h).0) (free-inside s ps t (and_parts _ _ h).1)
   where
     by : (n a b : Bool) → not b ≡ true → not (n && (a && b)) ≡ true
     by n a true e = no e
@@ -140,10 +140,10 @@ found (o ∷ os) t h = by (leq o t) refl h (found os t)
     by true e h r = (zero, (omega arith, e))
     by false e h r = later (r h)
 
-not_free : (s : List ℕ) (ps : List (List ℕ)) (t : List ℕ) (j : ℕ) → j < length ps → rises s (get_or ps j []) ≤ 1 → leq s t ≡ true → leq (get_or ps j []) t ≡ true → free s ps t ≡ false
+not_free : (s : List ℕ) (ps : List (List ℕ)) (t : List ℕ) (j : ℕ) → j < length ps → rise_count s (get_or ps j []) ≤ 1 → leq s t ≡ true → leq (get_or ps j []) t ≡ true → free s ps t ≡ false
 unfolding free
 not_free s [] t j l n h k = absurd (omega arith)
-not_free s (p ∷ ps) t zero l n h k = by (nat_le (rises s p) 1) (leq s t) (leq p t) (near (rises s p) n) h k
+not_free s (p ∷ ps) t zero l n h k = by (nat_le (rise_count s p) 1) (leq s t) (leq p t) (near (rise_count s p) n) h k
   where
     near : (m : ℕ) → m ≤ 1 → nat_le m 1 ≡ true
     near m n = grind (arith, nat_tests)
@@ -153,7 +153,7 @@ not_free s (p ∷ ps) t zero l n h k = by (nat_le (rises s p) 1) (leq s t) (leq 
     by true true false d e f = no f
     by true false b d e f = no e
     by false a b d e f = no d
-not_free s (p ∷ ps) t (suc j) l n h k = and_right (not (nat_le (rises s p) 1 && (leq s t && leq p t))) (free s ps t) (not_free s ps t j (omega arith) n h k)
+not_free s (p ∷ ps) t (suc j) l n h k = and_right (not (nat_le (rise_count s p) 1 && (leq s t && leq p t))) (free s ps t) (not_free s ps t j (omega arith) n h k)
 
 not_all_free : (ss ps : List (List ℕ)) (t : List ℕ) (i : ℕ) → i < length ss → free (get_or ss i []) ps t ≡ false → all_free ss ps t ≡ false
 unfolding all_free
@@ -177,15 +177,15 @@ covered b ss ps t few h k l m =
 
 -- what is inside one of the two, where stamps have at most three coordinates
 pub names-join_near : (b : Bounds) (ss ps : List (List ℕ)) → length b.greatest ≤ 3 → AllByRecursion (λ s. in_domain b s ≡ true) ss → AllByRecursion (λ p. in_domain b p ≡ true) ps
-    → Names b (excluding_all_near ps ss (excluding_all_near ss ps [])) (join (frontier_of b ss) (frontier_of b ps))
+    → IsFrontOf b (front_without_all_near ps ss (front_without_all_near ss ps [])) (join (frontier_of b ss) (frontier_of b ps))
 names-join_near b ss ps few h k = record {
-  canonical = canonical-excluding_all_near b ps ss (excluding_all_near ss ps []) k h (canonical-excluding_all_near b ss ps [] h k tt);
+  canonical = canonical-excluding_all_near b ps ss (front_without_all_near ss ps []) k h (canonical-excluding_all_near b ss ps [] h k tt);
   same = λ t. ap (λ c. in_domain b t && c) (whole t ∙ test t (inside ss t) refl (inside ps t) refl) ∙ and-or_distrib_left (in_domain b t) (inside ss t) (inside ps t);
 }
   where
-    whole : (t : List ℕ) → inside (excluding_all_near ps ss (excluding_all_near ss ps [])) t ≡ (all_free ss ps t && all_free ps ss t)
+    whole : (t : List ℕ) → inside (front_without_all_near ps ss (front_without_all_near ss ps [])) t ≡ (all_free ss ps t && all_free ps ss t)
     whole t =
-        inside-excluding_all_near ps ss (excluding_all_near ss ps []) t (lengths b ps ss k h)
+        inside-excluding_all_near ps ss (front_without_all_near ss ps []) t (lengths b ps ss k h)
         ∙ ap (λ c. c && all_free ps ss t) (inside-excluding_all_near ss ps [] t (lengths b ss ps h k))
 
     test : (t : List ℕ) (x : Bool) → inside ss t ≡ x → (y : Bool) → inside ps t ≡ y → (all_free ss ps t && all_free ps ss t) ≡ (inside ss t || inside ps t)

@@ -11,7 +11,7 @@ use Rattle.fw_time.specs.Stamp.{leq, stamp_cmp, in_domain}
 use Rattle.fw_time.proofs.StampLaws.{leq-trans, leq-antisym, before-irrefl, before-trans}
 use Rattle.fw_frontier.specs.Front.{inside, IsCanonical}
 use Rattle.fw_frontier.specs.Least.{IsOneOfTheLeast, AreLeastOf}
-use Rattle.fw_frontier.specs.Outside.{excluding, excluding_all}
+use Rattle.fw_frontier.specs.Outside.{front_without, front_without_all}
 use Rattle.fw_time.proofs.EachLaws.{each-at}
 use Rattle.fw_frontier.proofs.GenericLaws.{no}
 use Rattle.fw_frontier.proofs.InsideLaws.{inside-excluding, inside-excluding_all}
@@ -147,13 +147,13 @@ inside-append (o ∷ os) ss t = ap (λ c. not (leq o t) && c) (inside-append os 
     assoc true b c = refl
     assoc false b c = refl
 
-more-least : (ss os : List (List ℕ)) → IsAntichain os → AreLeastOf (os ++ ss) (excluding_all ss os)
+more-least : (ss os : List (List ℕ)) → IsAntichain os → AreLeastOf (os ++ ss) (front_without_all ss os)
 more-least ss os h =
-    least-from (os ++ ss) (excluding_all ss os) (antichain-excluding_all ss os h)
+    least-from (os ++ ss) (front_without_all ss os) (antichain-excluding_all ss os h)
     (all-excluding_all (Contains (os ++ ss)) ss os (all-from (Contains (os ++ ss)) ss (Contains-append_right os ss)) (all-from (Contains (os ++ ss)) os (Contains-append_left os ss)))
     (λ t. inside-excluding_all ss os t ∙ sym (inside-append os ss t))
 
-pub until-least : (ss : List (List ℕ)) → AreLeastOf ss (excluding_all ss [])
+pub until-least : (ss : List (List ℕ)) → AreLeastOf ss (front_without_all ss [])
 until-least ss = more-least ss [] tt
 
 -- the least of some stamps are one list
@@ -162,14 +162,14 @@ least-same ss xs ys h k =
     same-members xs ys h.ascending k.ascending (λ t c. (k.members t).1 ((h.members t).0 c)) (λ t c. (h.members t).1 ((k.members t).0 c))
 
 least-antichain : (ss os : List (List ℕ)) → AreLeastOf ss os → IsAntichain os
-least-antichain ss os h = subst IsAntichain (least-same ss (excluding_all ss []) os (until-least ss) h) (antichain-excluding_all ss [] tt)
+least-antichain ss os h = subst IsAntichain (least-same ss (front_without_all ss []) os (until-least ss) h) (antichain-excluding_all ss [] tt)
 
-pub meet-least : (ss os : List (List ℕ)) → AreLeastOf os os → AreLeastOf (os ++ ss) (excluding_all ss os)
+pub meet-least : (ss os : List (List ℕ)) → AreLeastOf os os → AreLeastOf (os ++ ss) (front_without_all ss os)
 meet-least ss os h = more-least ss os (least-antichain os os h)
 
-pub cut-least : (s : List ℕ) (os : List (List ℕ)) → AreLeastOf os os → AreLeastOf (s ∷ os) (excluding s os)
+pub cut-least : (s : List ℕ) (os : List (List ℕ)) → AreLeastOf os os → AreLeastOf (s ∷ os) (front_without s os)
 cut-least s os h =
-    least-from (s ∷ os) (excluding s os) (antichain-excluding s os (least-antichain os os h))
+    least-from (s ∷ os) (front_without s os) (antichain-excluding s os (least-antichain os os h))
     (all-excluding (Contains (s ∷ os)) s os (first s os) (all-from (Contains (s ∷ os)) os (later s os)))
     (λ t. inside-excluding s os t ∙ swap (inside os t) (not (leq s t)))
   where
@@ -182,7 +182,7 @@ cut-least s os h =
 -- ---- what they decide
 
 pub least-inside : (ss os : List (List ℕ)) (t : List ℕ) → AreLeastOf ss os → inside os t ≡ inside ss t
-least-inside ss os t h = ap (λ us. inside us t) (least-same ss os (excluding_all ss []) h (until-least ss)) ∙ inside-excluding_all ss [] t
+least-inside ss os t h = ap (λ us. inside us t) (least-same ss os (front_without_all ss []) h (until-least ss)) ∙ inside-excluding_all ss [] t
 
 of-itself : (os : List (List ℕ)) → IsAntichain os → AreLeastOf os os
 of-itself os h = least-from os os h (all-from (Contains os) os (λ t c. c)) (λ t. refl)

@@ -10,15 +10,15 @@ use Rattle.fw_time.specs.Stamp.{leq, stamp_cmp, origin, in_domain}
 use Rattle.fw_time.proofs.StampLaws.{leq-refl, leq-antisym, leq-length, origin-leq, before-leq, before-trans, before-irrefl}
 use Rattle.fw_time.proofs.EachLaws.{each-weaker}
 use Rattle.fw_frontier.specs.Frontier.{nothing, meet, join, cover, some_above, without_above, Within, IsFrontier}
-use Rattle.fw_frontier.specs.Front.{inside, frontier_of, is_within, IsCanonical, IsLeastBefore, Names}
-use Rattle.fw_frontier.specs.Outside.{excluding, excluding_all, below_at}
+use Rattle.fw_frontier.specs.Front.{inside, frontier_of, is_within, IsCanonical, IsLeastBefore, IsFrontOf}
+use Rattle.fw_frontier.specs.Outside.{front_without, front_without_all, below_at}
 use Rattle.fw_frontier.proofs.InsideLaws.{inside-closed, inside-excluding, inside-excluding_all, inside-excluding_pairs, inside-below_at}
 use Rattle.fw_frontier.proofs.CanonicalLaws.{canonical-excluding, canonical-excluding_all, canonical-excluding_pairs, canonical-below_at, in_domain-canonical, lengths}
 use Rattle.fw_frontier.proofs.GenericLaws.{some_above_more, no}
 use Rattle.fw_frontier.proofs.Pairs.{excluding_pairs}
 
 -- the list of the least stamp names the frontier without stamps
-pub names-nothing : (b : Bounds) → Names b (origin b.greatest ∷ []) nothing
+pub names-nothing : (b : Bounds) → IsFrontOf b (origin b.greatest ∷ []) nothing
 names-nothing b = record {
   canonical = (record { in_the_domain = origin-leq b.greatest b.greatest refl; ascending = tt; incomparable = tt }, tt);
   same = λ t. by t (in_domain b t) refl;
@@ -33,14 +33,14 @@ names-nothing b = record {
     by t false e = refl
 
 -- the stamps more that are outside are taken away
-pub names-excluding : (b : Bounds) (s : List ℕ) (os : List (List ℕ)) → in_domain b s ≡ true → IsCanonical b os → Names b (excluding s os) (without_above s (frontier_of b os))
+pub names-excluding : (b : Bounds) (s : List ℕ) (os : List (List ℕ)) → in_domain b s ≡ true → IsCanonical b os → IsFrontOf b (front_without s os) (without_above s (frontier_of b os))
 names-excluding b s os h k = record {
   canonical = canonical-excluding b s os h k;
   same = λ t. ap (λ c. in_domain b t && c) (inside-excluding s os t) ∙ sym (and_assoc (in_domain b t) (inside os t) (not (leq s t)));
 }
 
 -- what is inside both
-pub names-excluding_all : (b : Bounds) (ss os : List (List ℕ)) → AllByRecursion (λ s. in_domain b s ≡ true) ss → IsCanonical b os → Names b (excluding_all ss os) (meet (frontier_of b os) (frontier_of b ss))
+pub names-excluding_all : (b : Bounds) (ss os : List (List ℕ)) → AllByRecursion (λ s. in_domain b s ≡ true) ss → IsCanonical b os → IsFrontOf b (front_without_all ss os) (meet (frontier_of b os) (frontier_of b ss))
 names-excluding_all b ss os h k = record {
   canonical = canonical-excluding_all b ss os h k;
   same = λ t. ap (λ c. in_domain b t && c) (inside-excluding_all ss os t) ∙ by (in_domain b t) (inside os t) (inside ss t);
@@ -50,11 +50,11 @@ names-excluding_all b ss os h k = record {
     by true b c = refl
     by false b c = refl
 
-pub names-meet : (b : Bounds) (os ps : List (List ℕ)) → IsCanonical b os → IsCanonical b ps → Names b (excluding_all ps os) (meet (frontier_of b os) (frontier_of b ps))
+pub names-meet : (b : Bounds) (os ps : List (List ℕ)) → IsCanonical b os → IsCanonical b ps → IsFrontOf b (front_without_all ps os) (meet (frontier_of b os) (frontier_of b ps))
 names-meet b os ps h k = names-excluding_all b ps os (in_domain-canonical b ps k) h
 
 -- the frontier that has these stamps outside
-pub names-until : (b : Bounds) (ss : List (List ℕ)) → AllByRecursion (λ s. in_domain b s ≡ true) ss → Names b (excluding_all ss []) (frontier_of b ss)
+pub names-until : (b : Bounds) (ss : List (List ℕ)) → AllByRecursion (λ s. in_domain b s ≡ true) ss → IsFrontOf b (front_without_all ss []) (frontier_of b ss)
 names-until b ss h = let n = names-excluding_all b ss [] h tt in record {
   canonical = n.canonical;
   same = λ t. n.same t ∙ by (in_domain b t) (inside ss t);
@@ -65,14 +65,14 @@ names-until b ss h = let n = names-excluding_all b ss [] h tt in record {
     by false c = refl
 
 -- what is inside one of the two
-pub names-join : (b : Bounds) (os ps : List (List ℕ)) → AllByRecursion (λ s. in_domain b s ≡ true) os → AllByRecursion (λ p. in_domain b p ≡ true) ps → Names b (excluding_pairs os ps []) (join (frontier_of b os) (frontier_of b ps))
+pub names-join : (b : Bounds) (os ps : List (List ℕ)) → AllByRecursion (λ s. in_domain b s ≡ true) os → AllByRecursion (λ p. in_domain b p ≡ true) ps → IsFrontOf b (excluding_pairs os ps []) (join (frontier_of b os) (frontier_of b ps))
 names-join b os ps h k = record {
   canonical = canonical-excluding_pairs b os ps [] h k tt;
   same = λ t. ap (λ c. in_domain b t && c) (inside-excluding_pairs os ps [] t (lengths b os ps h k)) ∙ and-or_distrib_left (in_domain b t) (inside os t) (inside ps t);
 }
 
 -- what is at most one stamp
-pub names-below : (b : Bounds) (s : List ℕ) → in_domain b s ≡ true → Names b (below_at s b.greatest (length s)) (cover b (s ∷ []))
+pub names-below : (b : Bounds) (s : List ℕ) → in_domain b s ≡ true → IsFrontOf b (below_at s b.greatest (length s)) (cover b (s ∷ []))
 names-below b s h = record {
   canonical = canonical-below_at b s (length s) h;
   same = λ t. by t (in_domain b t) refl;
@@ -90,7 +90,7 @@ names-below b s h = record {
 
 -- one stamp more is covered
 pub names-cover_more : (b : Bounds) (both os under : List (List ℕ)) (s : List ℕ) (i : ℕ) (ss : List (List ℕ)) → i < length ss → s ≡ get_or ss i s
-    → Names b os (cover b (take i ss)) → Names b under (cover b (s ∷ [])) → Names b both (join (frontier_of b os) (frontier_of b under)) → Names b both (cover b (take (i + 1) ss))
+    → IsFrontOf b os (cover b (take i ss)) → IsFrontOf b under (cover b (s ∷ [])) → IsFrontOf b both (join (frontier_of b os) (frontier_of b under)) → IsFrontOf b both (cover b (take (i + 1) ss))
 names-cover_more b both os under s i ss l e n m h = record {
   canonical = h.canonical;
   same = λ t. h.same t ∙ (λ j. n.same t j || m.same t j) ∙ by (in_domain b t) (some_above (take i ss) t) (leq t s)
@@ -115,7 +115,7 @@ names-cover_more b both os under s i ss l e n m h = record {
     more t = ap (λ us. some_above us t || leq t s) (sym (plain (take i ss))) ∙ at t ∙ ap (λ us. some_above us t) (plain (take (i + 1) ss))
 
 -- no stamp is at most one of none
-pub names-cover_none : (b : Bounds) (os : List (List ℕ)) → os ≡ origin b.greatest ∷ [] → Names b os (cover b [])
+pub names-cover_none : (b : Bounds) (os : List (List ℕ)) → os ≡ origin b.greatest ∷ [] → IsFrontOf b os (cover b [])
 names-cover_none b os e = record {
   canonical = subst (IsCanonical b) (sym e) (names-nothing b).canonical;
   same = λ t. ap (λ u. frontier_of b u t) e ∙ (names-nothing b).same t ∙ sym (and-false (in_domain b t));
@@ -188,7 +188,7 @@ same-from b zs (x ∷ xs) (y ∷ ys) h k l m a =
         by false d e f = f
 
 -- only one list names a frontier
-pub names-same : (b : Bounds) (xs ys : List (List ℕ)) (f : List ℕ → Bool) → Names b xs f → Names b ys f → xs ≡ ys
+pub names-same : (b : Bounds) (xs ys : List (List ℕ)) (f : List ℕ → Bool) → IsFrontOf b xs f → IsFrontOf b ys f → xs ≡ ys
 unfolding Alike
 names-same b xs ys f h k = same-from b [] xs ys h.canonical k.canonical (any xs) (any ys) alike
   where
@@ -254,7 +254,7 @@ within-is b os ps k h =
     join-all (q ∷ qs) e d = (step q e.0 d.0, join-all qs e.1 d.1)
 
 -- the stamps outside one canonical list name a frontier, and it is closed
-pub names-self : (b : Bounds) (os : List (List ℕ)) → IsCanonical b os → Names b os (frontier_of b os)
+pub names-self : (b : Bounds) (os : List (List ℕ)) → IsCanonical b os → IsFrontOf b os (frontier_of b os)
 names-self b os h = record { canonical = h; same = λ t. refl }
 
 pub frontier-closed : (b : Bounds) (os : List (List ℕ)) → IsFrontier b (frontier_of b os)

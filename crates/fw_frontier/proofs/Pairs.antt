@@ -2,12 +2,12 @@
 use Rattle.std.specs.Prelude.{[], ◌∷◌}
 use Rattle.fw_time.specs.Stamp.{Stamp, lub}
 use Rattle.fw_frontier.specs.Front.{Front}
-use Rattle.fw_frontier.specs.Outside.{excluding}
+use Rattle.fw_frontier.specs.Outside.{front_without}
 
 -- what is at least a stamp and one of the list is outside too
 abbrev pub excluding_lubs : Stamp → Front → Front → Front
 excluding_lubs s [] os = os
-excluding_lubs s (p ∷ ps) os = excluding_lubs s ps (excluding (lub s p) os)
+excluding_lubs s (p ∷ ps) os = excluding_lubs s ps (front_without (lub s p) os)
 
 -- what is at least one of either list is outside too
 abbrev pub excluding_pairs : Front → Front → Front → Front

@@ -14,9 +14,9 @@ use Rattle.fw_time.proofs.EachLaws.{each-at, each-append}
 use Rattle.fw_frontier.specs.declared.planes.Plane.{Plane}
 use Rattle.fw_frontier.specs.declared.planes.Point.{Point}
 use Rattle.fw_frontier.specs.declared.planes.TheConstants.{PLANES}
-use Rattle.fw_frontier.specs.Front.{inside, frontier_of, IsCanonical, Names}
+use Rattle.fw_frontier.specs.Front.{inside, frontier_of, IsCanonical, IsFrontOf}
 use Rattle.fw_frontier.specs.Frontier.{join}
-use Rattle.fw_frontier.specs.Planes.{point_of, is_before, reaches, both_reach, is_least, is_least_along, bounds_with, all_bounds, plane_bounds, planes_bounds, HaveSame}
+use Rattle.fw_frontier.specs.Planes.{point_of, is_before, reaches, both_reach, is_least, is_least_along, lubs_with, all_lubs, plane_lubs, planes_lubs, HaveSame}
 use Rattle.fw_frontier.proofs.GenericLaws.{no}
 use Rattle.fw_frontier.proofs.InsideLaws.{inside-above, leq-at}
 use Rattle.fw_frontier.proofs.AntichainLaws.{antichain-at}
@@ -277,7 +277,7 @@ AllBounds : Bounds → (ss ps : List (List ℕ)) → List ℕ → List (List ℕ
 AllBounds b ss ps s qs = AllByRecursion (λ q. IsBound b ss ps (lub s q)) qs
 
 bounds_with-least : (b : Bounds) (plane : Plane) (ss ps : List (List ℕ)) (s : List ℕ) (qs : List (List ℕ)) → length b.greatest ≡ 4 → Covers plane → AllBounds b ss ps s qs
-    → AllByRecursion (IsLeastBound b ss ps) (bounds_with plane (map (point_of plane) ss) (map (point_of plane) ps) s qs)
+    → AllByRecursion (IsLeastBound b ss ps) (lubs_with plane (map (point_of plane) ss) (map (point_of plane) ps) s qs)
 unfolding AllBounds is_least_along
 bounds_with-least b plane ss ps s [] four covers h = tt
 bounds_with-least b plane ss ps s (q ∷ qs) four covers h = by
@@ -285,7 +285,7 @@ bounds_with-least b plane ss ps s (q ∷ qs) four covers h = by
     (is_least (map (point_of plane) ss) (map (point_of plane) ps) (point_of plane (lub s q))) refl (bounds_with-least b plane ss ps s qs four covers h.1)
   where
     rest : List (List ℕ)
-    rest = bounds_with plane (map (point_of plane) ss) (map (point_of plane) ps) s qs
+    rest = lubs_with plane (map (point_of plane) ss) (map (point_of plane) ps) s qs
 
     by : (c d e : Bool) → is_least (map (point_of plane) ss) (map (point_of plane) ps) (point_of plane (lub s q)) ≡ e → AllByRecursion (IsLeastBound b ss ps) rest
         → AllByRecursion (IsLeastBound b ss ps) (cond (c && (d && e)) (lub s q ∷ rest) rest)
@@ -295,10 +295,10 @@ bounds_with-least b plane ss ps s (q ∷ qs) four covers h = by
     by false d e f r = r
 
 all_bounds-least : (b : Bounds) (plane : Plane) (ss ps rs qs : List (List ℕ)) → length b.greatest ≡ 4 → Covers plane → AllByRecursion (λ s. AllBounds b ss ps s qs) rs
-    → AllByRecursion (IsLeastBound b ss ps) (all_bounds plane (map (point_of plane) ss) (map (point_of plane) ps) rs qs)
+    → AllByRecursion (IsLeastBound b ss ps) (all_lubs plane (map (point_of plane) ss) (map (point_of plane) ps) rs qs)
 all_bounds-least b plane ss ps [] qs four covers h = tt
 all_bounds-least b plane ss ps (r ∷ rs) qs four covers h =
-    each-append (IsLeastBound b ss ps) (bounds_with plane (map (point_of plane) ss) (map (point_of plane) ps) r qs) (all_bounds plane (map (point_of plane) ss) (map (point_of plane) ps) rs qs)
+    each-append (IsLeastBound b ss ps) (lubs_with plane (map (point_of plane) ss) (map (point_of plane) ps) r qs) (all_lubs plane (map (point_of plane) ss) (map (point_of plane) ps) rs qs)
     (bounds_with-least b plane ss ps r qs four covers h.0) (all_bounds-least b plane ss ps rs qs four covers h.1)
 
 -- the least upper bounds of stamps of both lists are bounds, whichever comes first
@@ -326,38 +326,38 @@ unfolding InDomain
 lubs-all_after b ss ps [] qs d h e k = tt
 lubs-all_after b ss ps (r ∷ rs) qs d h e k = (lubs-after b ss ps r qs d.0 h.0 e k, lubs-all_after b ss ps rs qs d.1 h.1 e k)
 
-plane_bounds-least : (b : Bounds) (plane : Plane) (ss ps : List (List ℕ)) → length b.greatest ≡ 4 → Covers plane → InDomain b ss → InDomain b ps → AllByRecursion (IsLeastBound b ss ps) (plane_bounds plane ss ps)
+plane_bounds-least : (b : Bounds) (plane : Plane) (ss ps : List (List ℕ)) → length b.greatest ≡ 4 → Covers plane → InDomain b ss → InDomain b ps → AllByRecursion (IsLeastBound b ss ps) (plane_lubs plane ss ps)
 plane_bounds-least b plane ss ps four covers h k =
-    each-append (IsLeastBound b ss ps) (all_bounds plane (map (point_of plane) ss) (map (point_of plane) ps) ss ps) (all_bounds plane (map (point_of plane) ss) (map (point_of plane) ps) ps ss)
+    each-append (IsLeastBound b ss ps) (all_lubs plane (map (point_of plane) ss) (map (point_of plane) ps) ss ps) (all_lubs plane (map (point_of plane) ss) (map (point_of plane) ps) ps ss)
     (all_bounds-least b plane ss ps ss ps four covers (lubs-all b ss ps ss ps h (all-outside ss) k (all-outside ps)))
     (all_bounds-least b plane ss ps ps ss four covers (lubs-all_after b ss ps ps ss k (all-outside ps) h (all-outside ss)))
 
-planes_bounds-least : (b : Bounds) (planes : List Plane) (ss ps : List (List ℕ)) → length b.greatest ≡ 4 → AllByRecursion Covers planes → InDomain b ss → InDomain b ps → AllByRecursion (IsLeastBound b ss ps) (planes_bounds planes ss ps)
+planes_bounds-least : (b : Bounds) (planes : List Plane) (ss ps : List (List ℕ)) → length b.greatest ≡ 4 → AllByRecursion Covers planes → InDomain b ss → InDomain b ps → AllByRecursion (IsLeastBound b ss ps) (planes_lubs planes ss ps)
 planes_bounds-least b [] ss ps four covers h k = tt
 planes_bounds-least b (plane ∷ planes) ss ps four covers h k =
-    each-append (IsLeastBound b ss ps) (plane_bounds plane ss ps) (planes_bounds planes ss ps) (plane_bounds-least b plane ss ps four covers.0 h k) (planes_bounds-least b planes ss ps four covers.1 h k)
+    each-append (IsLeastBound b ss ps) (plane_lubs plane ss ps) (planes_lubs planes ss ps) (plane_bounds-least b plane ss ps four covers.0 h k) (planes_bounds-least b planes ss ps four covers.1 h k)
 
 -- ---- what is least is found
 
 bounds_with-has : (plane : Plane) (ms os : List Point) (s : List ℕ) (qs : List (List ℕ)) (j : ℕ) → j < length qs
-    → is_least_along ms os (get_or s plane.z 0) (get_or s plane.w 0) (point_of plane (lub s (get_or qs j []))) ≡ true → Contains (bounds_with plane ms os s qs) (lub s (get_or qs j []))
+    → is_least_along ms os (get_or s plane.z 0) (get_or s plane.w 0) (point_of plane (lub s (get_or qs j []))) ≡ true → Contains (lubs_with plane ms os s qs) (lub s (get_or qs j []))
 bounds_with-has plane ms os s [] j l h = absurd (omega arith)
 bounds_with-has plane ms os s (q ∷ qs) zero l h = by (is_least_along ms os (get_or s plane.z 0) (get_or s plane.w 0) (point_of plane (lub s q))) h
   where
-    by : (c : Bool) → c ≡ true → Contains (cond c (lub s q ∷ bounds_with plane ms os s qs) (bounds_with plane ms os s qs)) (lub s q)
+    by : (c : Bool) → c ≡ true → Contains (cond c (lub s q ∷ lubs_with plane ms os s qs) (lubs_with plane ms os s qs)) (lub s q)
     by true e = (0, omega arith, refl)
     by false e = no e
 bounds_with-has plane ms os s (q ∷ qs) (suc j) l h =
     by (is_least_along ms os (get_or s plane.z 0) (get_or s plane.w 0) (point_of plane (lub s q))) (bounds_with-has plane ms os s qs j (omega arith) h)
   where
-    by : (c : Bool) → Contains (bounds_with plane ms os s qs) (lub s (get_or qs j [])) → Contains (cond c (lub s q ∷ bounds_with plane ms os s qs) (bounds_with plane ms os s qs)) (lub s (get_or qs j []))
-    by true r = Contains-append_right (lub s q ∷ []) (bounds_with plane ms os s qs) (lub s (get_or qs j [])) r
+    by : (c : Bool) → Contains (lubs_with plane ms os s qs) (lub s (get_or qs j [])) → Contains (cond c (lub s q ∷ lubs_with plane ms os s qs) (lubs_with plane ms os s qs)) (lub s (get_or qs j []))
+    by true r = Contains-append_right (lub s q ∷ []) (lubs_with plane ms os s qs) (lub s (get_or qs j [])) r
     by false r = r
 
-all_bounds-has : (plane : Plane) (ms os : List Point) (ss qs : List (List ℕ)) (i : ℕ) (t : List ℕ) → i < length ss → Contains (bounds_with plane ms os (get_or ss i []) qs) t → Contains (all_bounds plane ms os ss qs) t
+all_bounds-has : (plane : Plane) (ms os : List Point) (ss qs : List (List ℕ)) (i : ℕ) (t : List ℕ) → i < length ss → Contains (lubs_with plane ms os (get_or ss i []) qs) t → Contains (all_lubs plane ms os ss qs) t
 all_bounds-has plane ms os [] qs i t l h = absurd (omega arith)
-all_bounds-has plane ms os (s ∷ ss) qs zero t l h = Contains-append_left (bounds_with plane ms os s qs) (all_bounds plane ms os ss qs) t h
-all_bounds-has plane ms os (s ∷ ss) qs (suc i) t l h = Contains-append_right (bounds_with plane ms os s qs) (all_bounds plane ms os ss qs) t (all_bounds-has plane ms os ss qs i t (omega arith) h)
+all_bounds-has plane ms os (s ∷ ss) qs zero t l h = Contains-append_left (lubs_with plane ms os s qs) (all_lubs plane ms os ss qs) t h
+all_bounds-has plane ms os (s ∷ ss) qs (suc i) t l h = Contains-append_right (lubs_with plane ms os s qs) (all_lubs plane ms os ss qs) t (all_bounds-has plane ms os ss qs i t (omega arith) h)
 
 -- the bound has the stamp's coordinates across the plane
 record Agrees (plane : Plane) (t s : List ℕ) : Type 0 where
@@ -377,7 +377,7 @@ along-agrees plane ms os s t h k =
 -- a least bound of two stamps is found in a plane where it agrees with one of them
 plane_bounds-has : (b : Bounds) (plane : Plane) (ss ps : List (List ℕ)) (t : List ℕ) (i j : ℕ) → length b.greatest ≡ 4 → Covers plane → InDomain b ss → InDomain b ps → IsLeastBound b ss ps t
     → i < length ss → j < length ps → lub (get_or ss i []) (get_or ps j []) ≡ t → lub (get_or ps j []) (get_or ss i []) ≡ t
-    → Agrees plane t (get_or ss i []) ⊎ Agrees plane t (get_or ps j []) → Contains (plane_bounds plane ss ps) t
+    → Agrees plane t (get_or ss i []) ⊎ Agrees plane t (get_or ps j []) → Contains (plane_lubs plane ss ps) t
 plane_bounds-has b plane ss ps t i j four covers h k least l m e f side = by side
   where
     ms : List Point
@@ -389,21 +389,21 @@ plane_bounds-has b plane ss ps t i j four covers h k least l m e f side = by sid
     passed : is_least ms os (point_of plane t) ≡ true
     passed = test-least b plane ss ps t four covers h k least
 
-    by : Agrees plane t (get_or ss i []) ⊎ Agrees plane t (get_or ps j []) → Contains (plane_bounds plane ss ps) t
+    by : Agrees plane t (get_or ss i []) ⊎ Agrees plane t (get_or ps j []) → Contains (plane_lubs plane ss ps) t
     by (inl a) =
         let s = get_or ss i [] in
         let p = get_or ps j [] in
-        Contains-append_left (all_bounds plane ms os ss ps) (all_bounds plane ms os ps ss) t
+        Contains-append_left (all_lubs plane ms os ss ps) (all_lubs plane ms os ps ss) t
         (all_bounds-has plane ms os ss ps i t l
-        (let P : List ℕ → Type 0 = λ u. Contains (bounds_with plane ms os s ps) u in
+        (let P : List ℕ → Type 0 = λ u. Contains (lubs_with plane ms os s ps) u in
         subst P e (bounds_with-has plane ms os s ps j m
         (ap (λ u. is_least_along ms os (get_or s plane.z 0) (get_or s plane.w 0) (point_of plane u)) e ∙ along-agrees plane ms os s t a passed))))
     by (inr a) =
         let s = get_or ss i [] in
         let p = get_or ps j [] in
-        Contains-append_right (all_bounds plane ms os ss ps) (all_bounds plane ms os ps ss) t
+        Contains-append_right (all_lubs plane ms os ss ps) (all_lubs plane ms os ps ss) t
         (all_bounds-has plane ms os ps ss j t m
-        (let P : List ℕ → Type 0 = λ u. Contains (bounds_with plane ms os p ss) u in
+        (let P : List ℕ → Type 0 = λ u. Contains (lubs_with plane ms os p ss) u in
         subst P f (bounds_with-has plane ms os p ss i l
         (ap (λ u. is_least_along ms os (get_or p plane.z 0) (get_or p plane.w 0) (point_of plane u)) f ∙ along-agrees plane ms os p t a passed))))
 
@@ -457,7 +457,7 @@ covers-12 (suc (suc zero)) h = inr (inr (inr refl))
 covers-12 (suc (suc (suc zero))) h = inr (inl refl)
 covers-12 (suc (suc (suc (suc c)))) h = absurd (omega arith)
 
-planes_bounds-has : (b : Bounds) (ss ps : List (List ℕ)) (t : List ℕ) → length b.greatest ≡ 4 → InDomain b ss → InDomain b ps → IsLeastBound b ss ps t → Contains (planes_bounds PLANES ss ps) t
+planes_bounds-has : (b : Bounds) (ss ps : List (List ℕ)) (t : List ℕ) → length b.greatest ≡ 4 → InDomain b ss → InDomain b ps → IsLeastBound b ss ps t → Contains (planes_lubs PLANES ss ps) t
 unfolding InDomain
 planes_bounds-has b ss ps t four h k least = by (side-of s p t (at 0) (at 1) (at 2))
   where
@@ -495,19 +495,19 @@ planes_bounds-has b ss ps t four h k least = by (side-of s p t (at 0) (at 1) (at
     at : (c : ℕ) → (get_or t c 0 ≡ get_or s c 0) ⊎ (get_or t c 0 ≡ get_or p c 0)
     at c = let P : List ℕ → Type 0 = λ u. (get_or u c 0 ≡ get_or s c 0) ⊎ (get_or u c 0 ≡ get_or p c 0) in subst P lub-is (lub-one s p c long)
 
-    in_plane : (plane : Plane) → Covers plane → Agrees plane t s ⊎ Agrees plane t p → Contains (plane_bounds plane ss ps) t
+    in_plane : (plane : Plane) → Covers plane → Agrees plane t s ⊎ Agrees plane t p → Contains (plane_lubs plane ss ps) t
     in_plane plane covers side = plane_bounds-has b plane ss ps t x.0 y.0 four covers h k least x.1.0 y.1.0 lub-is lub-back side
 
     first : List (List ℕ)
-    first = plane_bounds (record { x = 2; y = 3; z = 0; w = 1 }) ss ps
+    first = plane_lubs (record { x = 2; y = 3; z = 0; w = 1 }) ss ps
 
     second : List (List ℕ)
-    second = plane_bounds (record { x = 1; y = 3; z = 0; w = 2 }) ss ps
+    second = plane_lubs (record { x = 1; y = 3; z = 0; w = 2 }) ss ps
 
     third : List (List ℕ)
-    third = plane_bounds (record { x = 0; y = 3; z = 1; w = 2 }) ss ps
+    third = plane_lubs (record { x = 0; y = 3; z = 1; w = 2 }) ss ps
 
-    by : Side s p t → Contains (planes_bounds PLANES ss ps) t
+    by : Side s p t → Contains (planes_lubs PLANES ss ps) t
     by (at_01 side) = Contains-append_left first (second ++ (third ++ [])) t (in_plane (record { x = 2; y = 3; z = 0; w = 1 }) covers-01 side)
     by (at_02 side) = Contains-append_right first (second ++ (third ++ [])) t (Contains-append_left second (third ++ []) t (in_plane (record { x = 1; y = 3; z = 0; w = 2 }) covers-02 side))
     by (at_12 side) =
@@ -522,7 +522,7 @@ least-under b ss ps t h k bound = (u, (record { bound = under; least = smallest 
     os : List (List ℕ)
     os = excluding_pairs ss ps []
 
-    named : Names b os (join (frontier_of b ss) (frontier_of b ps))
+    named : IsFrontOf b os (join (frontier_of b ss) (frontier_of b ps))
     named = names-join b ss ps h k
 
     outside : (v : List ℕ) → IsBound b ss ps v → inside os v ≡ false
@@ -594,7 +594,7 @@ canonical-least b ss ps (u ∷ us) h k = (record { in_the_domain = h.0.bound.in_
 
 -- the bounds found in planes name what is inside one of the two
 pub names-planes : (b : Bounds) (ss ps us : List (List ℕ)) → length b.greatest ≡ 4 → AllByRecursion (λ s. in_domain b s ≡ true) ss → AllByRecursion (λ s. in_domain b s ≡ true) ps
-    → IsStrictlySortedBy stamp_cmp us → HaveSame (planes_bounds PLANES ss ps) us → Names b us (join (frontier_of b ss) (frontier_of b ps))
+    → IsStrictlySortedBy stamp_cmp us → HaveSame (planes_lubs PLANES ss ps) us → IsFrontOf b us (join (frontier_of b ss) (frontier_of b ps))
 unfolding InDomain
 names-planes b ss ps us four h k sorted same = record {
   canonical = canonical-least b ss ps us all sorted;
@@ -602,7 +602,7 @@ names-planes b ss ps us four h k sorted same = record {
 }
   where
     all : AllByRecursion (IsLeastBound b ss ps) us
-    all = all-least b ss ps us (λ t c. each-least b ss ps (planes_bounds PLANES ss ps) t (planes_bounds-least b PLANES ss ps four (covers-01, (covers-02, (covers-12, tt))) h k) (same.none_new t c))
+    all = all-least b ss ps us (λ t c. each-least b ss ps (planes_lubs PLANES ss ps) t (planes_bounds-least b PLANES ss ps four (covers-01, (covers-02, (covers-12, tt))) h k) (same.none_new t c))
 
     -- a stamp that is not inside is at least one of the bounds
     above : (t : List ℕ) → inside us t ≡ false → (u : List ℕ) × (IsLeastBound b ss ps u × (leq u t ≡ true))

@@ -10,7 +10,7 @@ use Rattle.fw_time.specs.NestLaws.{nest-outer}
 use Rattle.fw_time.specs.declared.stamp.Bounds.{Bounds}
 use Rattle.fw_time.proofs.StampLaws.{leq-nest, leq-length}
 use Rattle.fw_time.proofs.TimeLaws.{leq-nest_bound}
-use Rattle.fw_frontier.specs.Front.{inside, Names}
+use Rattle.fw_frontier.specs.Front.{inside, IsFrontOf}
 use Rattle.fw_frontier.proofs.CanonicalLaws.{in_domain-canonical}
 use Rattle.fw_frontier.specs.Stairs.{IsDescending}
 use Rattle.fw_frontier.proofs.GenericLaws.{no}
@@ -252,7 +252,7 @@ none-at xs c d e = get_or_past xs c d (omega (arith, ap length e))
 -- one more counter
 pub nested-more : (b o : Bounds) (xs os : List (List ℕ)) (test : List ℕ → ℕ → Bool) (c : ℕ)
     → o.greatest ≡ outer b.greatest → 0 < length b.greatest → c ≤ counter b.greatest
-    → Names o os (λ t. in_domain o t && test t c)
+    → IsFrontOf o os (λ t. in_domain o t && test t c)
     → AllByRecursion (λ x. in_domain b x ≡ true) xs × ((s : List ℕ) (d : ℕ) → leq s (outer b.greatest) ≡ true → inside xs (nest s d) ≡ upto (test s) c d)
     → AllByRecursion (λ x. in_domain b x ≡ true) (xs ++ map (λ o. nest o c) os) × ((s : List ℕ) (d : ℕ) → leq s (outer b.greatest) ≡ true → inside (xs ++ map (λ o. nest o c) os) (nest s d) ≡ upto (test s) (c + 1) d)
 nested-more b o xs os test c e some fits named so_far =

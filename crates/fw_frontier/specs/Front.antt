@@ -45,6 +45,6 @@ IsCanonical bounds [] = Unit {0}
 IsCanonical bounds (o ∷ os) = IsLeastBefore bounds o os × IsCanonical bounds os
 
 -- the list names the frontier: it is canonical, and has the same stamps of the domain inside
-pub record Names (bounds : Bounds) (os : Front) (f : Frontier) : Type 0 where
+pub record IsFrontOf (bounds : Bounds) (os : Front) (f : Frontier) : Type 0 where
   pub canonical : IsCanonical bounds os
   pub same : (t : Stamp) → frontier_of bounds os t ≡ f t

@@ -45,29 +45,29 @@ unfoldable pub is_least_along : (ms os : List Point) → (z w : ℕ) → Point �
 is_least_along ms os z w t = nat_eq t.z z && (nat_eq t.w w && is_least ms os t)
 
 -- the least bounds of a stamp with those of a list that lie in the plane through it
-abbrev pub bounds_with : Plane → (ms os : List Point) → Stamp → Front → List Stamp
-bounds_with plane ms os s [] = []
-bounds_with plane ms os s (p ∷ ps) =
+abbrev pub lubs_with : Plane → (ms os : List Point) → Stamp → Front → List Stamp
+lubs_with plane ms os s [] = []
+lubs_with plane ms os s (p ∷ ps) =
     if is_least_along ms os (slice_index s plane.z) (slice_index s plane.w) (point_of plane (lub s p))
-    then lub s p ∷ bounds_with plane ms os s ps
-    else bounds_with plane ms os s ps
+    then lub s p ∷ lubs_with plane ms os s ps
+    else lubs_with plane ms os s ps
 
 -- those of each stamp of the first list with those of the second
-abbrev pub all_bounds : Plane → (ms os : List Point) → Front → Front → List Stamp
-all_bounds plane ms os [] ps = []
-all_bounds plane ms os (s ∷ ss) ps = bounds_with plane ms os s ps ++ all_bounds plane ms os ss ps
+abbrev pub all_lubs : Plane → (ms os : List Point) → Front → Front → List Stamp
+all_lubs plane ms os [] ps = []
+all_lubs plane ms os (s ∷ ss) ps = lubs_with plane ms os s ps ++ all_lubs plane ms os ss ps
 
 -- those of each stamp of either list with those of the other
-abbrev pub plane_bounds : Plane → Front → Front → List Stamp
-plane_bounds plane ss ps =
+abbrev pub plane_lubs : Plane → Front → Front → List Stamp
+plane_lubs plane ss ps =
     let ms = map (point_of plane) ss in
     let os = map (point_of plane) ps in
-    all_bounds plane ms os ss ps ++ all_bounds plane ms os ps ss
+    all_lubs plane ms os ss ps ++ all_lubs plane ms os ps ss
 
 -- in each of the planes
-abbrev pub planes_bounds : List Plane → Front → Front → List Stamp
-planes_bounds [] ss ps = []
-planes_bounds (plane ∷ planes) ss ps = plane_bounds plane ss ps ++ planes_bounds planes ss ps
+abbrev pub planes_lubs : List Plane → Front → Front → List Stamp
+planes_lubs [] ss ps = []
+planes_lubs (plane ∷ planes) ss ps = plane_lubs plane ss ps ++ planes_lubs planes ss ps
 
 -- the corners of both lists of points in a plane, before these ends across it
 pub record IsSection (ms os : List Point) (z w : ℕ) (section : Section) : Type 0 where

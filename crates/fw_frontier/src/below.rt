@@ -2,7 +2,7 @@
 ghost use Rattle.std.specs.Prelude.{◌≡◌, ℕ, true, false, not, ◌&&◌, ◌||◌, ◌↔◌, ◌∷◌, [], IsTrue, IfOk, nat_le, min, length, slice_index};
 ghost use Rattle.fw_time.specs.Stamp.{in_domain};
 ghost use Rattle.fw_frontier.specs.Below.{is_below};
-ghost use Rattle.fw_frontier.specs.Front.{Names};
+ghost use Rattle.fw_frontier.specs.Front.{IsFrontOf};
 
 use crate::{Front, Frontier, Logical};
 use fw_time::{Bounds, Epoch, Number, SeqNo, Stamp};
@@ -83,7 +83,7 @@ impl<N: Number> Frontier<N> for Below {
 // The numbers of a domain that are below the limit, by their least outside stamps.
 fn front_until(alloc: Global, until: Option<u32>, bounds: &Bounds) -> Result<Front, AllocError>
     requires { length bounds.now.greatest ≡ 1 }
-    ensures { IfOk result (λ f. Names bounds.now f
+    ensures { IfOk result (λ f. IsFrontOf bounds.now f
         (λ t. in_domain bounds.now t && is_below until (slice_index t 0))) }
 {
     let Some(limit) = until else {

@@ -4,7 +4,7 @@ ghost use Rattle.std.specs.List.{AllByRecursion};
 ghost use Rattle.fw_time.specs.declared.stamp.Bounds.{Bounds as Domain};
 ghost use Rattle.fw_time.specs.Stamp.{leq, in_domain};
 ghost use Rattle.fw_frontier.specs.Frontier.{nothing, meet, join, cover, without_above, Within};
-ghost use Rattle.fw_frontier.specs.Front.{inside, frontier_of, same_front, is_within, IsCanonical, Names};
+ghost use Rattle.fw_frontier.specs.Front.{inside, frontier_of, same_front, is_within, IsCanonical, IsFrontOf};
 ghost use Rattle.fw_frontier.specs.Least.{AreLeastOf};
 
 use crate::outside;
@@ -54,7 +54,7 @@ impl Front {
 
     /// The frontier without stamps.
     pub fn empty(alloc: Global, bounds: &Bounds) -> Result<Self, AllocError>
-        ensures { IfOk result (λ f. Names bounds.now f nothing) }
+        ensures { IfOk result (λ f. IsFrontOf bounds.now f nothing) }
     {
         let mut outside = Vec::new(alloc);
         outside.push(bounds.origin())?;
@@ -64,7 +64,7 @@ impl Front {
     /// The frontier that has these stamps of the domain outside, and with each the greater ones.
     pub fn until(alloc: Global, stamps: &[Stamp]) -> Result<Self, AllocError>
         ensures names { (bounds : Domain) → AllByRecursion (λ s. in_domain bounds s ≡ true) stamps.now
-            → IfOk result (λ f. Names bounds f (frontier_of bounds stamps.now)) }
+            → IfOk result (λ f. IsFrontOf bounds f (frontier_of bounds stamps.now)) }
         ensures list { IfOk result (λ f. AreLeastOf stamps.now f) }
     {
         let mut outside = Vec::new(alloc);
@@ -82,7 +82,7 @@ impl Front {
         ensures some { IfOk result
             (λ front. IsSome front ↔ AllByRecursion (λ s. in_domain bounds.now s ≡ true) stamps.now) }
         ensures names { IfOk result
-            (λ front. IfSome front (λ f. Names bounds.now f (frontier_of bounds.now stamps.now))) }
+            (λ front. IfSome front (λ f. IsFrontOf bounds.now f (frontier_of bounds.now stamps.now))) }
     {
         if !outside::are_in_domain(stamps, bounds) {
             return Ok(None);
@@ -93,7 +93,7 @@ impl Front {
     /// What is at most one of these stamps of the domain.
     pub fn cover_of(alloc: Global, stamps: &[Stamp], bounds: &Bounds) -> Result<Self, AllocError>
         ensures { AllByRecursion (λ s. in_domain bounds.now s ≡ true) stamps.now
-            → IfOk result (λ f. Names bounds.now f (cover bounds.now stamps.now)) }
+            → IfOk result (λ f. IsFrontOf bounds.now f (cover bounds.now stamps.now)) }
     {
         let outside = outside::covering(alloc, stamps, bounds)?;
         Ok(Front { outside })
@@ -148,7 +148,7 @@ impl Front {
     /// What is inside both.
     pub fn meet(&self, other: &Self) -> Result<Self, AllocError>
         ensures names { (bounds : Domain) → IsCanonical bounds self.now → IsCanonical bounds other.now
-            → IfOk result (λ f. Names bounds f
+            → IfOk result (λ f. IsFrontOf bounds f
             (meet (frontier_of bounds self.now) (frontier_of bounds other.now))) }
         ensures inside { IfOk result
             (λ f. (t : List ℕ) → inside f t ≡ (inside self.now t && inside other.now t)) }
@@ -163,7 +163,7 @@ impl Front {
     /// What is inside one of the two.
     pub fn join(&self, other: &Self) -> Result<Self, AllocError>
         ensures { (bounds : Domain) → IsCanonical bounds self.now → IsCanonical bounds other.now
-            → IfOk result (λ f. Names bounds f
+            → IfOk result (λ f. IsFrontOf bounds f
             (join (frontier_of bounds self.now) (frontier_of bounds other.now))) }
     {
         let outside = outside::joined(*self.outside.allocator(), &self.outside, &other.outside)?;
@@ -173,7 +173,7 @@ impl Front {
     /// The largest frontier inside that is without this stamp of the domain.
     pub fn cut_above(&self, t: &Stamp) -> Result<Self, AllocError>
         ensures names { (bounds : Domain) → IsCanonical bounds self.now → in_domain bounds t.now ≡ true
-            → IfOk result (λ f. Names bounds f (without_above t.now (frontier_of bounds self.now))) }
+            → IfOk result (λ f. IsFrontOf bounds f (without_above t.now (frontier_of bounds self.now))) }
         ensures inside { IfOk result
             (λ f. (u : List ℕ) → inside f u ≡ (inside self.now u && not (leq t.now u))) }
         ensures list { AreLeastOf self.now self.now

@@ -3,7 +3,7 @@ ghost use Rattle.std.specs.Prelude.{◌≡◌, ℕ, Bool, true, false, not, ◌&
 ghost use Rattle.std.specs.List.{AllByRecursion};
 ghost use Rattle.fw_time.specs.Stamp.{leq, glb, in_domain};
 ghost use Rattle.fw_frontier.specs.Frontier.{some_above};
-ghost use Rattle.fw_frontier.specs.Front.{inside as inside_front, Names};
+ghost use Rattle.fw_frontier.specs.Front.{inside as inside_front, IsFrontOf};
 
 use crate::Front;
 use fw_time::{Bounds, Time};
@@ -67,7 +67,7 @@ pub trait Frontier<T: Time>: Drop {
     /// What of the domain is inside, by its least outside stamps.
     fn to_front(&self, alloc: Global, bounds: &Bounds) -> Result<Front, AllocError>
         requires { length bounds.now.greatest ≡ T.places }
-        ensures { IfOk result (λ f. Names bounds.now f
+        ensures { IfOk result (λ f. IsFrontOf bounds.now f
             (λ t. in_domain bounds.now t && inside self.now (T.of_coords t))) };
 
     /// What is at most one of these times of the domain.

@@ -5,7 +5,7 @@ ghost use Rattle.std.specs.List.{AllByRecursion};
 ghost use Rattle.fw_time.specs.declared.stamp.Bounds.{Bounds as Domain};
 ghost use Rattle.fw_time.specs.Stamp.{leq, glb, in_domain};
 ghost use Rattle.fw_frontier.specs.Frontier.{IsFrontier, Within, some_above, without_above};
-ghost use Rattle.fw_frontier.specs.Front.{inside, frontier_of, IsCanonical, Names};
+ghost use Rattle.fw_frontier.specs.Front.{inside, frontier_of, IsCanonical, IsFrontOf};
 ghost use Rattle.fw_frontier.specs.Least.{AreLeastOf};
 ghost use Rattle.fw_frontier.specs.Domain.{IsOfDomain};
 
@@ -14,7 +14,7 @@ use crate::{Frontier, Logical};
 /// Only one list names a frontier.
 pub fn one_list_names_a_frontier()
     ensures { (bounds : Domain) (xs ys : List (List ℕ)) (f : List ℕ → Bool)
-        → Names bounds xs f → Names bounds ys f → xs ≡ ys }
+        → IsFrontOf bounds xs f → IsFrontOf bounds ys f → xs ≡ ys }
 {}
 
 /// Only one list has the least of some stamps.
@@ -54,7 +54,7 @@ pub fn cut_is_largest()
 pub fn round_trip<T: Logical>()
     ensures { (bounds : Domain) (os ps : List (List ℕ)) (f : T.Frontier) → length bounds.greatest ≡ T.places
         → IsCanonical bounds os → ((t : T) → T.Frontier.inside f t ≡ inside os (T.coords t))
-        → Names bounds ps (λ t. in_domain bounds t && T.Frontier.inside f (T.of_coords t)) → ps ≡ os }
+        → IsFrontOf bounds ps (λ t. in_domain bounds t && T.Frontier.inside f (T.of_coords t)) → ps ≡ os }
 {}
 
 /// A frontier without outside times past the domain has another inside where it has the other's times of the domain.

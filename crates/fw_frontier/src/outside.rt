@@ -2,10 +2,10 @@
 ghost use Rattle.std.specs.Prelude.{◌≡◌, true, [], ◌<◌, ◌≤◌, not, nat_lt, if◌then◌else◌, length, slice_index, filter, IfOk, OnOk};
 ghost use Rattle.std.specs.List.{AllByRecursion};
 ghost use Rattle.fw_time.specs.declared.stamp.Bounds.{Bounds as Domain};
-ghost use Rattle.fw_time.specs.Stamp.{leq, lub, raised, in_domain};
-ghost use Rattle.fw_frontier.specs.Front.{inside, is_within, all_in_domain, frontier_of, Names};
+ghost use Rattle.fw_time.specs.Stamp.{leq, lub, stamp_raised_at, in_domain};
+ghost use Rattle.fw_frontier.specs.Front.{inside, is_within, all_in_domain, frontier_of, IsFrontOf};
 ghost use Rattle.fw_frontier.specs.Frontier.{join, cover};
-ghost use Rattle.fw_frontier.specs.Outside.{place, placed, excluding, excluding_all, rises, excluding_near, excluding_all_near, below_at};
+ghost use Rattle.fw_frontier.specs.Outside.{place_among, with_stamp, front_without, front_without_all, rise_count, front_without_near, front_without_all_near, below_at};
 
 use crate::planes;
 use fw_time::{Bounds, Stamp};
@@ -52,7 +52,7 @@ pub fn are_in_domain(stamps: &[Stamp], bounds: &Bounds) -> bool
 
 // How many of the stamps stand before the first that comes after `s`.
 fn place_of(outside: &[Stamp], s: &Stamp) -> usize
-    ensures place { result ≡ place s.now outside.now }
+    ensures place { result ≡ place_among s.now outside.now }
     ensures within { result ≤ length outside.now }
 {
     for (i, o) in outside.iter().enumerate() {
@@ -65,7 +65,7 @@ fn place_of(outside: &[Stamp], s: &Stamp) -> usize
 
 // Puts a stamp in its place in the ascending list.
 fn insert(outside: &mut Vec<Stamp>, s: Stamp) -> Result<(), AllocError>
-    ensures { OnOk result (outside.new.items ≡ placed s outside.old.items) }
+    ensures { OnOk result (outside.new.items ≡ with_stamp s outside.old.items) }
 {
     let place = place_of(outside, &s);
     outside.insert(place, s)?;
@@ -80,9 +80,9 @@ fn remove_above(outside: &mut Vec<Stamp>, s: &Stamp)
 }
 
 // Makes a stamp more an outside one. After an error the list is of no use.
-#[tactic(auto, unfolding(crate::specs::Outside::excluding))]
+#[tactic(auto, unfolding(crate::specs::Outside::front_without))]
 pub fn exclude(outside: &mut Vec<Stamp>, s: Stamp) -> Result<(), AllocError>
-    ensures { OnOk result (outside.new.items ≡ excluding s outside.old.items) }
+    ensures { OnOk result (outside.new.items ≡ front_without s outside.old.items) }
 {
     if !has_inside(outside, &s) {
         return Ok(());
@@ -104,7 +104,7 @@ pub fn copied(alloc: Global, stamps: &[Stamp]) -> Result<Vec<Stamp>, AllocError>
 
 // Makes these stamps outside ones.
 pub fn exclude_all(outside: &mut Vec<Stamp>, stamps: &[Stamp]) -> Result<(), AllocError>
-    ensures { OnOk result (outside.new.items ≡ excluding_all stamps.now outside.old.items) }
+    ensures { OnOk result (outside.new.items ≡ front_without_all stamps.now outside.old.items) }
 {
     for s in stamps {
         exclude(outside, s.copy())?;
@@ -114,7 +114,7 @@ pub fn exclude_all(outside: &mut Vec<Stamp>, stamps: &[Stamp]) -> Result<(), All
 
 // At how many places the second stamp is greater.
 fn count_of_rises(s: &Stamp, p: &Stamp) -> usize
-    ensures { result ≡ rises s.now p.now }
+    ensures { result ≡ rise_count s.now p.now }
 {
     let mut count = 0;
     for i in 0..s.len().min(p.len()) {
@@ -128,7 +128,7 @@ fn count_of_rises(s: &Stamp, p: &Stamp) -> usize
 // Makes outside the least upper bounds of `s` with those of the stamps that are greater at no more than one place. Two of
 // them that are greater at the same place are comparable.
 fn exclude_near(outside: &mut Vec<Stamp>, s: &Stamp, stamps: &[Stamp]) -> Result<(), AllocError>
-    ensures { OnOk result (outside.new.items ≡ excluding_near s.now stamps.now outside.old.items) }
+    ensures { OnOk result (outside.new.items ≡ front_without_near s.now stamps.now outside.old.items) }
 {
     for p in stamps {
         if count_of_rises(s, p) <= 1 {
@@ -145,7 +145,7 @@ fn exclude_all_near(
     others: &[Stamp],
 ) -> Result<(), AllocError>
     ensures { OnOk result
-        (outside.new.items ≡ excluding_all_near stamps.now others.now outside.old.items) }
+        (outside.new.items ≡ front_without_all_near stamps.now others.now outside.old.items) }
 {
     for s in stamps {
         let mut near = Vec::new(*outside.allocator());
@@ -159,7 +159,7 @@ fn exclude_all_near(
 // place, so that each pair is looked at from one side at least.
 fn joined_by_near(alloc: Global, mine: &[Stamp], others: &[Stamp]) -> Result<Vec<Stamp>, AllocError>
     ensures { IfOk result (λ both. both.items
-        ≡ excluding_all_near others.now mine.now (excluding_all_near mine.now others.now [])) }
+        ≡ front_without_all_near others.now mine.now (front_without_all_near mine.now others.now [])) }
 {
     let mut both = Vec::new(alloc);
     exclude_all_near(&mut both, mine, others)?;
@@ -171,7 +171,7 @@ fn joined_by_near(alloc: Global, mine: &[Stamp], others: &[Stamp]) -> Result<Vec
 pub fn joined(alloc: Global, mine: &[Stamp], others: &[Stamp]) -> Result<Vec<Stamp>, AllocError>
     ensures { (bounds : Domain) → AllByRecursion (λ s. in_domain bounds s ≡ true) mine.now
         → AllByRecursion (λ s. in_domain bounds s ≡ true) others.now
-        → IfOk result (λ both. Names bounds both.items
+        → IfOk result (λ both. IsFrontOf bounds both.items
         (join (frontier_of bounds mine.now) (frontier_of bounds others.now))) }
 {
     let [first, ..] = mine else {
@@ -193,7 +193,7 @@ fn exclude_raised(
     requires { place < length s.now }
     ensures { OnOk result (outside.new.items
         ≡ (if nat_lt (slice_index s.now place) (slice_index greatest.now place)
-        then excluding (raised s.now place) outside.old.items
+        then front_without (stamp_raised_at s.now place) outside.old.items
         else outside.old.items)) }
 {
     if place < greatest.len() && s.at(place) < greatest.at(place) {
@@ -217,7 +217,7 @@ fn below(alloc: Global, s: &Stamp, greatest: &Stamp) -> Result<Vec<Stamp>, Alloc
 // What of a domain is at most one of the stamps, which are the domain's.
 pub fn covering(alloc: Global, stamps: &[Stamp], bounds: &Bounds) -> Result<Vec<Stamp>, AllocError>
     ensures { AllByRecursion (λ s. in_domain bounds.now s ≡ true) stamps.now
-        → IfOk result (λ outside. Names bounds.now outside.items (cover bounds.now stamps.now)) }
+        → IfOk result (λ outside. IsFrontOf bounds.now outside.items (cover bounds.now stamps.now)) }
 {
     let mut outside = Vec::new(alloc);
     outside.push(bounds.origin())?;

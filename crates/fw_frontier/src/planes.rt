@@ -7,7 +7,7 @@
 ghost use Rattle.std.specs.Prelude.{◌≡◌, ℕ, ◌≤◌, ◌++◌, List, slice_index, map, IfOk, OnOk};
 ghost use Rattle.std.specs.List.Sorted.{IsPermutation, IsNonDecreasingBy, IsStrictlySortedBy};
 ghost use Rattle.fw_time.specs.Stamp.{stamp_cmp};
-ghost use Rattle.fw_frontier.specs.Planes.{point_of, corners_of, reaches, both_reach, is_least_along, IsSection, IsAround, bounds_with, all_bounds, plane_bounds, planes_bounds, HaveSame};
+ghost use Rattle.fw_frontier.specs.Planes.{point_of, corners_of, reaches, both_reach, is_least_along, IsSection, IsAround, lubs_with, all_lubs, plane_lubs, planes_lubs, HaveSame};
 
 use fw_time::Stamp;
 use std::alloc::{AllocError, Global};
@@ -217,7 +217,7 @@ fn push_bounds(
     sides: &Sides,
 ) -> Result<(), AllocError>
     ensures { OnOk result (found.new.items ≡ found.old.items
-        ++ bounds_with plane.now sides.now.mine.items sides.now.others.items s.now stamps.now) }
+        ++ lubs_with plane.now sides.now.mine.items sides.now.others.items s.now stamps.now) }
 {
     let here = point_of(s, plane);
     let around = Around::new(*found.allocator(), sides, here.z, here.w)?;
@@ -239,7 +239,7 @@ fn push_all_bounds(
     sides: &Sides,
 ) -> Result<(), AllocError>
     ensures { OnOk result (found.new.items ≡ found.old.items
-        ++ all_bounds plane.now sides.now.mine.items sides.now.others.items firsts.now seconds.now) }
+        ++ all_lubs plane.now sides.now.mine.items sides.now.others.items firsts.now seconds.now) }
 {
     for s in firsts {
         push_bounds(found, s, seconds, plane, sides)?;
@@ -255,7 +255,7 @@ fn push_plane(
     plane: &Plane,
 ) -> Result<(), AllocError>
     ensures { OnOk result
-        (found.new.items ≡ found.old.items ++ plane_bounds plane.now mine.now others.now) }
+        (found.new.items ≡ found.old.items ++ plane_lubs plane.now mine.now others.now) }
 {
     let alloc = *found.allocator();
     let sides = Sides {
@@ -274,7 +274,7 @@ pub fn least_bounds(
 ) -> Result<Vec<Stamp>, AllocError>
     ensures ascending { IfOk result (λ bounds. IsStrictlySortedBy stamp_cmp bounds.items) }
     ensures same { IfOk result
-        (λ bounds. HaveSame (planes_bounds PLANES mine.now others.now) bounds.items) }
+        (λ bounds. HaveSame (planes_lubs PLANES mine.now others.now) bounds.items) }
 {
     let mut found = Vec::new(alloc);
     for plane in &PLANES {

@@ -20,7 +20,7 @@ use Rattle.fw_lines.specs.Batches.{batches_at, IsRec, IsBatch, AreBatchesOf}
 use Rattle.fw_lines.specs.Faults.{BreakNoRule}
 use Rattle.fw_lines.specs.Inputs.{is_colon, record_of, record_from, spelled_rec, batch_of, batches_of, is_batch_of, is_batch_of_words, form_fault, value_fault, number_fault, count_fault, fault_of, count_of, line_fault}
 use Rattle.fw_lines.specs.Lines.{Said, is_allowed}
-use Rattle.fw_lines.specs.Sources.{node_of, is_source}
+use Rattle.fw_lines.specs.Sources.{node_named, is_source}
 use Rattle.fw_lines.specs.Spelling.{number_of, is_numeral}
 use Rattle.fw_lines.proofs.FaultLaws.{fault_next}
 use Rattle.fw_lines.proofs.ReadLaws.{IsRead, read_all, batches_of-push}
@@ -116,7 +116,7 @@ not_of sources node (Some s) i e = by (s == node) refl
 no_line_of : (sources : List (List ℕ × ℕ)) (node : ℕ) (words : List (List ℕ)) → is_source sources node ≡ false → is_batch_of_words sources node words ≡ false
 no_line_of sources node [] e = refl
 no_line_of sources node (word ∷ []) e = refl
-no_line_of sources node (first ∷ name ∷ records) e = not_of sources node (node_of sources name) (found_source _ sources) e
+no_line_of sources node (first ∷ name ∷ records) e = not_of sources node (node_named sources name) (found_source _ sources) e
 
 -- a node that is no source has no batches
 none_given : (sources : List (List ℕ × ℕ)) (lines : List Said) (node : ℕ) → is_source sources node ≡ false → batches_of sources lines node ≡ []
@@ -158,7 +158,7 @@ few_line : (sources : List (List ℕ × ℕ)) (done : List Said) (node : ℕ) (w
 few_line sources done node [] e h = omega (arith, h)
 few_line sources done node (word ∷ []) e h = omega (arith, h)
 few_line sources done node (first ∷ name ∷ records) e h =
-    few_of sources done node (node_of sources name) records (none_right (form_fault first name records) _ e) h
+    few_of sources done node (node_named sources name) records (none_right (form_fault first name records) _ e) h
 
 given_by : (b : Bool) (line : Said) → length (map (λ (l : Said). batch_of l.words) (cond b (line ∷ []) [])) ≡ cond b 1 0
 given_by true line = refl

@@ -6,7 +6,7 @@ use Rattle.std.proofs.lemmas.Bool.Decides.{nat_tests}
 use Rattle.std.specs.Option.{option_or, option_map_or}
 use Rattle.fw_lines.specs.declared.refusal.Code.TheVariants.{I3, I5}
 use Rattle.fw_lines.specs.Batches.{batches_at}
-use Rattle.fw_lines.specs.Sources.{node_of}
+use Rattle.fw_lines.specs.Sources.{node_named}
 use Rattle.fw_bag.specs.Bag.{bag_sum, with_rec}
 use Rattle.fw_bag.specs.declared.rec.Rec.{Rec}
 use Rattle.fw_bag.proofs.BagLaws.{bag_sum-with_rec}
@@ -59,9 +59,9 @@ count_sound count h = grind (arith, nat_tests, h)
 
 -- the rule that a line of two words or more breaks
 pub fault_in-parts : (text : List ℕ) (sources : List (List ℕ × ℕ)) (words records : List Span) (batches : List (ℕ × List (List Rec))) (d : Span) → 2 ≤ length words → records ≡ drop 2 words
-    → option_or (form_fault (bytes_at text (get_or words 0 d)) (bytes_at text (get_or words 1 d)) (map (bytes_at text) records)) (value_fault (node_of sources (bytes_at text (get_or words 1 d))) (map (bytes_at text) records) (option_map_or (λ node. length (batches_at batches node)) (node_of sources (bytes_at text (get_or words 1 d))) 0))
+    → option_or (form_fault (bytes_at text (get_or words 0 d)) (bytes_at text (get_or words 1 d)) (map (bytes_at text) records)) (value_fault (node_named sources (bytes_at text (get_or words 1 d))) (map (bytes_at text) records) (option_map_or (λ node. length (batches_at batches node)) (node_named sources (bytes_at text (get_or words 1 d))) 0))
     ≡ fault_in text sources words batches
 fault_in-parts text sources [] records batches d h e = absurd (omega arith)
 fault_in-parts text sources (w ∷ []) records batches d h e = absurd (omega arith)
 fault_in-parts text sources (first ∷ name ∷ others) records batches d h e =
-    ap (λ rs. option_or (form_fault (bytes_at text first) (bytes_at text name) (map (bytes_at text) rs)) (value_fault (node_of sources (bytes_at text name)) (map (bytes_at text) rs) (option_map_or (λ node. length (batches_at batches node)) (node_of sources (bytes_at text name)) 0))) e
+    ap (λ rs. option_or (form_fault (bytes_at text first) (bytes_at text name) (map (bytes_at text) rs)) (value_fault (node_named sources (bytes_at text name)) (map (bytes_at text) rs) (option_map_or (λ node. length (batches_at batches node)) (node_named sources (bytes_at text name)) 0))) e

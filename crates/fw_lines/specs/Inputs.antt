@@ -16,7 +16,7 @@ use Rattle.fw_lines.specs.declared.span.Span.{Span}
 use Rattle.fw_lines.specs.Batches.{batches_at, count_at}
 use Rattle.fw_lines.specs.Faults.{BreakNoRule, IsFirstFault, IsOfWhole}
 use Rattle.fw_lines.specs.Lines.{Said, said_lines, is_allowed, words_at}
-use Rattle.fw_lines.specs.Sources.{node_of}
+use Rattle.fw_lines.specs.Sources.{node_named}
 use Rattle.fw_lines.specs.Spelling.{is_name, number_of}
 
 -- the byte between a key and its value
@@ -89,13 +89,13 @@ abbrev pub fault_of : List (List ℕ × ℕ) → ℕ → List (List ℕ) → Opt
 fault_of sources count [] = None
 fault_of sources count (word ∷ []) = Some I1
 fault_of sources count (first ∷ name ∷ records) =
-    option_or (form_fault first name records) (value_fault (node_of sources name) records count)
+    option_or (form_fault first name records) (value_fault (node_named sources name) records count)
 
 -- the source that a line names
 abbrev pub source_of : List (List ℕ × ℕ) → List (List ℕ) → Option ℕ
 source_of sources [] = None
 source_of sources (word ∷ []) = None
-source_of sources (first ∷ name ∷ records) = node_of sources name
+source_of sources (first ∷ name ∷ records) = node_named sources name
 
 -- the batch that a line gives: a bag of the recs that its record words spell
 abbrev pub batch_of : List (List ℕ) → List Rec

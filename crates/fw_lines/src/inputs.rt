@@ -11,7 +11,7 @@ ghost use Rattle.fw_lines.specs.Faults.{IfRefused};
 ghost use Rattle.fw_lines.specs.Inputs as spec;
 ghost use Rattle.fw_lines.specs.Inputs.{record_of, spelled_rec, fault_in, batches_of, IsAccepted, IsRefused};
 ghost use Rattle.fw_lines.specs.Lines.{bytes_at, words_at, said_in};
-ghost use Rattle.fw_lines.specs.Sources.{node_of};
+ghost use Rattle.fw_lines.specs.Sources.{node_named};
 
 use crate::batches::Batches;
 use crate::fault::ReadFault;
@@ -123,9 +123,9 @@ fn batch_fault(
     ensures { result ≡ option_or
         (spec.form_fault (bytes_at text.now first) (bytes_at text.now name)
         (words_at text.now records.now))
-        (spec.value_fault (node_of sources.now (bytes_at text.now name))
+        (spec.value_fault (node_named sources.now (bytes_at text.now name))
         (words_at text.now records.now)
-        (count_at batches.now (node_of sources.now (bytes_at text.now name)))) }
+        (count_at batches.now (node_named sources.now (bytes_at text.now name)))) }
 {
     match form_fault(text, first, name, records) {
         Some(code) => Some(code),
@@ -171,9 +171,9 @@ fn value_fault(
     sources: &SourceNames,
     batches: &Batches,
 ) -> Option<Code>
-    ensures { result ≡ spec.value_fault (node_of sources.now (bytes_at text.now name))
+    ensures { result ≡ spec.value_fault (node_named sources.now (bytes_at text.now name))
         (words_at text.now records.now)
-        (count_at batches.now (node_of sources.now (bytes_at text.now name))) }
+        (count_at batches.now (node_named sources.now (bytes_at text.now name))) }
 {
     let Some(node) = sources.node_of(name.of(text)) else {
         return Some(Code::I2);

@@ -1,7 +1,7 @@
 //! The names of the sources.
 ghost use Rattle.std.specs.Prelude.{◌≡◌, [], ◌∷◌, ◌++◌, IfOk, IsNone};
 ghost use Rattle.indexmap.specs.IndexMap.{IndexMap};
-ghost use Rattle.fw_lines.specs.Sources.{node_of, named};
+ghost use Rattle.fw_lines.specs.Sources.{node_named, named_sources};
 
 use indexmap::IndexMap;
 use std::alloc::{AllocError, Global};
@@ -16,11 +16,11 @@ pub struct SourceNames {
 
 impl Model for SourceNames {
     ghost use Rattle.std.specs.Prelude.{List, ℕ, ◌≡◌};
-    ghost use Rattle.fw_lines.specs.Sources.{named};
+    ghost use Rattle.fw_lines.specs.Sources.{named_sources};
 
     ghost Value = { List (List ℕ × ℕ) };
 
-    ghost view = { λ s. named s.nodes.entries };
+    ghost view = { λ s. named_sources s.nodes.entries };
 }
 
 impl SourceNames {
@@ -36,7 +36,7 @@ impl SourceNames {
 
     /// These names and one more, which is not among them. The only error is want of memory.
     pub fn with(mut self, node: u32, name: &[u8]) -> Result<Self, AllocError>
-        requires { IsNone (node_of self name.now) }
+        requires { IsNone (node_named self name.now) }
         ensures { IfOk result (λ sources. sources ≡ self ++ (name.now, node) ∷ []) }
     {
         let name = Vec::from_slice(self.alloc, name)?;
@@ -46,7 +46,7 @@ impl SourceNames {
 
     /// The node of a name; `None` where the name is not among them.
     pub fn node_of(&self, name: &[u8]) -> Option<u32>
-        ensures { result ≡ node_of self.now name.now }
+        ensures { result ≡ node_named self.now name.now }
     {
         self.nodes.get(name).copied()
     }

@@ -9,8 +9,8 @@ use Rattle.fw_flow.specs.declared.event.Message.{Message}
 use Rattle.fw_flow.specs.declared.node.Edge.{Edge}
 use Rattle.fw_flow.specs.Dataflow.{Dataflow, receiver, edges_into, in_edges}
 use Rattle.fw_flow.specs.Projection.{events_at}
-use Rattle.fw_flow.specs.WholeBags.{Timed, together}
-use Rattle.fw_model.specs.History.{delivered}
+use Rattle.fw_flow.specs.WholeBags.{Timed, joint_bag}
+use Rattle.fw_model.specs.History.{delivered_messages}
 use Rattle.fw_model.proofs.WeightLaws.{weigh, weigh-append, weigh-none, weigh-same}
 use Rattle.fw_model.proofs.SentLaws.{timed_message, timed_of}
 use Rattle.fw_flow.proofs.EdgeLaws.{into-from}
@@ -91,11 +91,11 @@ unchanged flow p v h w true e = ap (weigh w) e
 unchanged flow p v h w false e = refl
 
 edge_weight : (w : Timed → ℕ) (h : List Event) (e : ℕ) (m : Message) (d : ℕ)
-    → weigh w (timed_of (delivered (Deliver e m ∷ h) d)) ≡ at_edge e (w (timed_message m)) d + weigh w (timed_of (delivered h d))
+    → weigh w (timed_of (delivered_messages (Deliver e m ∷ h) d)) ≡ at_edge e (w (timed_message m)) d + weigh w (timed_of (delivered_messages h d))
 unfolding weigh
 edge_weight w h e m d = cases (e == d)
   where
-    cases : (b : Bool) → weigh w (timed_of (cond b (m ∷ []) [] ++ delivered h d)) ≡ cond b (w (timed_message m)) 0 + weigh w (timed_of (delivered h d))
+    cases : (b : Bool) → weigh w (timed_of (cond b (m ∷ []) [] ++ delivered_messages h d)) ≡ cond b (w (timed_message m)) 0 + weigh w (timed_of (delivered_messages h d))
     cases true = refl
     cases false = omega arith
 
@@ -107,25 +107,25 @@ delivery_weight w false e m vs = omega arith
 
 -- what was delivered to a node is what was delivered on its in-edges
 pub deliveries-weigh : (flow : Dataflow) (p : ℕ) → p < length flow.nodes → (w : Timed → ℕ) (h : List Event)
-    → weigh w (deliveries (events_at flow p h)) ≡ weigh (λ d. weigh w (timed_of (delivered h d))) (in_edges flow p)
+    → weigh w (deliveries (events_at flow p h)) ≡ weigh (λ d. weigh w (timed_of (delivered_messages h d))) (in_edges flow p)
 unfolding weigh deliveries
 deliveries-weigh flow p l w [] = sym (weigh-none (λ d. 0) (in_edges flow p) (each-weaker (λ d. (d < length flow.edges) × (receiver flow d ≡ p)) (λ d. 0 ≡ 0) (in_edges flow p) (λ d a. refl) (in_edges-receive flow p)))
 deliveries-weigh flow p l w (Inject s x ∷ h) = unchanged flow p (Inject s x) h w (s == p) refl ∙ deliveries-weigh flow p l w h
 deliveries-weigh flow p l w (Notify q t ∷ h) = unchanged flow p (Notify q t) h w (q == p) refl ∙ deliveries-weigh flow p l w h
 deliveries-weigh flow p l w (Deliver e m ∷ h) =
     let n = w (timed_message m) in
-    let old : ℕ → ℕ = λ d. weigh w (timed_of (delivered h d)) in
+    let old : ℕ → ℕ = λ d. weigh w (timed_of (delivered_messages h d)) in
     let a = delivery_weight w (receiver flow e == p) e m (events_at flow p h) in
     let b = deliveries-weigh flow p l w h in
     let c = in_edges-once flow p e n l in
     let f = weigh-both (at_edge e n) old (in_edges flow p) in
-    let g = weigh-same (λ d. weigh w (timed_of (delivered (Deliver e m ∷ h) d))) (λ d. at_edge e n d + old d) (in_edges flow p)
-    (each-weaker (λ d. (d < length flow.edges) × (receiver flow d ≡ p)) (λ d. weigh w (timed_of (delivered (Deliver e m ∷ h) d)) ≡ at_edge e n d + old d) (in_edges flow p)
+    let g = weigh-same (λ d. weigh w (timed_of (delivered_messages (Deliver e m ∷ h) d))) (λ d. at_edge e n d + old d) (in_edges flow p)
+    (each-weaker (λ d. (d < length flow.edges) × (receiver flow d ≡ p)) (λ d. weigh w (timed_of (delivered_messages (Deliver e m ∷ h) d)) ≡ at_edge e n d + old d) (in_edges flow p)
     (λ d i. edge_weight w h e m d) (in_edges-receive flow p)) in
     omega arith
 
 -- bags one after another
-pub together-weigh : (w : Timed → ℕ) (bag : ℕ → List Timed) (ds : List ℕ) → weigh w (together (map bag ds)) ≡ weigh (λ d. weigh w (bag d)) ds
+pub together-weigh : (w : Timed → ℕ) (bag : ℕ → List Timed) (ds : List ℕ) → weigh w (joint_bag (map bag ds)) ≡ weigh (λ d. weigh w (bag d)) ds
 unfolding weigh
 together-weigh w bag [] = refl
-together-weigh w bag (d ∷ ds) = let h = together-weigh w bag ds in weigh-append w (bag d) (together (map bag ds)) ∙ ap (λ n. weigh w (bag d) + n) h
+together-weigh w bag (d ∷ ds) = let h = together-weigh w bag ds in weigh-append w (bag d) (joint_bag (map bag ds)) ∙ ap (λ n. weigh w (bag d) + n) h

@@ -21,14 +21,14 @@ use Rattle.fw_flow.specs.declared.kind.Policy.TheVariants as policy
 use Rattle.fw_flow.specs.declared.node.Node.{Node}
 use Rattle.fw_flow.specs.declared.step.Step.{Step}
 use Rattle.fw_flow.specs.declared.step.Step.TheVariants.{Inject, Deliver, Notify, Progress as ProgressStep, Checkpoint, Persist, Fail, Recover, Collect, Ack}
-use Rattle.fw_flow.specs.Dataflow.{System, Dataflow, idle_node, kind_of, policy_of, receiver, out_edges, bounds_of, send_stamp, places}
-use Rattle.fw_flow.specs.NodeFunction.{place, stamp}
+use Rattle.fw_flow.specs.Dataflow.{System, Dataflow, idle_node, kind_of, policy_of, receiver, out_edges, bounds_of, send_stamp, node_ids}
+use Rattle.fw_flow.specs.NodeFunction.{event_node, event_stamp}
 use Rattle.fw_flow.specs.WellFormed.{IsWellFormed, IsWellFormedSystem, IsPolicyAllowed, may_keep_nothing}
 use Rattle.fw_model.specs.Denotation.{Family, rounds}
-use Rattle.fw_model.specs.Machine.{Machine, Numbered, Write, Written, checkpoint, logged_event, Progress, in_flight, acknowledged, collected, no_stamps, first_state, front_of, is_failed}
+use Rattle.fw_model.specs.Machine.{Machine, SerialEvent, Write, Written, checkpoint, logged_event, Stage, in_flight, acknowledged, collected, no_stamps, first_state, front_of, is_failed}
 use Rattle.fw_flow.specs.declared.choice.Choice.{Choice}
-use Rattle.fw_model.specs.Choice.{kept, cut_of, kept_of, IsCandidate, IsLargest, filtered}
-use Rattle.fw_model.specs.Steps.{Effect, Outcome, did, idle, LeadsTo, Run, write_of_event, with_event, checkpoint_of, is_eager, GrowsTo, is_asked_for_checkpoints, checkpoint_front, checkpoints_of, last_or, newest_checkpoint, AcknowledgesOldest, is_one_of, is_in_flight, with_failed, is_kept_write, IsSettledCut, CutsTo, recovered, front_of_cut, inside_if_some, sends_inside, is_given_up, is_serial_given_up, lies_below, after_collection, collected_writes}
+use Rattle.fw_model.specs.Choice.{kept, cut_of, kept_of, IsCandidate, IsLargest, filtered_history}
+use Rattle.fw_model.specs.Steps.{Effect, Outcome, did, idle, LeadsTo, Run, write_of_event, with_event, checkpoint_of, is_eager, GrowsTo, is_asked_for_checkpoints, checkpoint_front, checkpoints_of, last_or, newest_checkpoint, AcknowledgesOldest, is_one_of, is_in_flight, with_failed, is_kept_write, IsSettledCut, CutsTo, recovered_state, front_of_cut, inside_if_some, sends_inside, is_given_up, is_serial_given_up, lies_below, after_collection, collected_writes}
 use Rattle.fw_flow.specs.declared.restoring.Restoring.TheVariants.{Checkpoints}
 use Rattle.fw_flow.specs.Restoring.{restoring_of_policy, restoring}
 use Rattle.fw_model.proofs.Decisions.{two_ways}
@@ -88,19 +88,19 @@ takes-not_input flow w p k e =
 -- ---- serials
 
 -- the serials of a history lie below the number, and each event's above those of the earlier ones
-abbrev pub AreSerialsBelow : ℕ → List Numbered → Type 0
+abbrev pub AreSerialsBelow : ℕ → List SerialEvent → Type 0
 AreSerialsBelow n [] = Unit {0}
 AreSerialsBelow n (v ∷ h) = (v.serial < n) × AreSerialsBelow v.serial h
 
-pub serials-each : (n m : ℕ) (h : List Numbered) → n ≤ m → AreSerialsBelow n h → AllByRecursion (λ (v : Numbered). v.serial < m) h
+pub serials-each : (n m : ℕ) (h : List SerialEvent) → n ≤ m → AreSerialsBelow n h → AllByRecursion (λ (v : SerialEvent). v.serial < m) h
 serials-each n m [] l a = tt
 serials-each n m (v ∷ h) l a = let b = a.0 in (omega arith, serials-each v.serial m h (omega arith) a.1)
 
-serials-more : (m n : ℕ) (h : List Numbered) → m ≤ n → AreSerialsBelow m h → AreSerialsBelow n h
+serials-more : (m n : ℕ) (h : List SerialEvent) → m ≤ n → AreSerialsBelow m h → AreSerialsBelow n h
 serials-more m n [] l a = tt
 serials-more m n (v ∷ h) l a = let b = a.0 in (omega arith, a.1)
 
-serials-passed : (n : ℕ) (test : Numbered → Bool) (h : List Numbered) → AreSerialsBelow n h → AreSerialsBelow n (filter test h)
+serials-passed : (n : ℕ) (test : SerialEvent → Bool) (h : List SerialEvent) → AreSerialsBelow n h → AreSerialsBelow n (filter test h)
 serials-passed n test [] a = tt
 serials-passed n test (v ∷ h) a =
     let rest = serials-passed v.serial test h a.1 in
@@ -113,8 +113,8 @@ any-find test P [] k a = absurd (two_ways false k refl)
 any-find test P (x ∷ xs) k a = elim (or_cases (test x) (list_any test xs) k) [ inl i ↦ (x, i, a.0) | inr i ↦ any-find test P xs i a.1 ]
 
 -- what holds of some event of the serial holds of each
-serial-each : (n s : ℕ) (test : Numbered → Bool) (h : List Numbered) → AreSerialsBelow n h → list_any (λ v. v.serial == s && test v) h ≡ true
-    → AllByRecursion (λ (v : Numbered). v.serial ≡ s → test v ≡ true) h
+serial-each : (n s : ℕ) (test : SerialEvent → Bool) (h : List SerialEvent) → AreSerialsBelow n h → list_any (λ v. v.serial == s && test v) h ≡ true
+    → AllByRecursion (λ (v : SerialEvent). v.serial ≡ s → test v ≡ true) h
 serial-each n s test [] a k = tt
 serial-each n s test (v ∷ h) a k =
     let below = serials-each v.serial v.serial h (at_most-refl v.serial) a.1 in
@@ -122,9 +122,9 @@ serial-each n s test (v ∷ h) a k =
       | inl i ↦
           let b = and_parts (v.serial == s) (test v) i in
           let is = eqb-true v.serial s b.0 in
-          ((λ e. b.1), each-weaker (λ (u : Numbered). u.serial < v.serial) (λ u. u.serial ≡ s → test u ≡ true) h (λ u l e. absurd (omega arith)) below)
+          ((λ e. b.1), each-weaker (λ (u : SerialEvent). u.serial < v.serial) (λ u. u.serial ≡ s → test u ≡ true) h (λ u l e. absurd (omega arith)) below)
       | inr i ↦
-          let u = any-find (λ u. u.serial == s && test u) (λ (u : Numbered). u.serial < v.serial) h i below in
+          let u = any-find (λ u. u.serial == s && test u) (λ (u : SerialEvent). u.serial < v.serial) h i below in
           let is = eqb-true u.0.serial s (and_parts (u.0.serial == s) (test u.0) u.1).0 in
           let less = u.2 in
           ((λ e. absurd (omega arith)), serial-each v.serial s test h a.1 i)
@@ -165,87 +165,87 @@ given-grows sys old low g p t k =
 -- ---- what is written of a node
 
 -- a logged event that was collected is one of a node that may keep nothing, and is given up
-abbrev pub IsGivenUpOnce : System → List Front → List Numbered → ℕ → ℕ → Progress → Type 0
+abbrev pub IsGivenUpOnce : System → List Front → List SerialEvent → ℕ → ℕ → Stage → Type 0
 IsGivenUpOnce sys low h p s in_flight = Unit {0}
 IsGivenUpOnce sys low h p s acknowledged = Unit {0}
 IsGivenUpOnce sys low h p s collected =
-    (may_keep_nothing (kind_of sys.flow p) ≡ true) × AllByRecursion (λ (v : Numbered). v.serial ≡ s → is_given_up sys low p (stamp v.event) ≡ true) h
+    (may_keep_nothing (kind_of sys.flow p) ≡ true) × AllByRecursion (λ (v : SerialEvent). v.serial ≡ s → is_given_up sys low p (event_stamp v.event) ≡ true) h
 
 -- A checkpoint is one of a node that takes them, at a canonical front, kept with a watermark within the one of now. A logged
 -- event has a serial that was given out, is one of the node, if it was collected given up, and its node logs each event.
-abbrev pub IsAskedWell : System → List Front → ℕ → List Numbered → ℕ → Written → Progress → Type 0
+abbrev pub IsAskedWell : System → List Front → ℕ → List SerialEvent → ℕ → Written → Stage → Type 0
 IsAskedWell sys low next h p (checkpoint f kept_low) far =
     (takes_checkpoints (policy_of sys.flow p) ≡ true) × IsCanonical (bounds_of sys.flow p) f × LowGrows sys kept_low low
 IsAskedWell sys low next h p (logged_event s) far =
-    (s < next) × AllByRecursion (λ (v : Numbered). v.serial ≡ s → place sys.flow v.event ≡ p) h × IsGivenUpOnce sys low h p s far
+    (s < next) × AllByRecursion (λ (v : SerialEvent). v.serial ≡ s → event_node sys.flow v.event ≡ p) h × IsGivenUpOnce sys low h p s far
     × (policy_of sys.flow p ≡ policy.Full)
 
-abbrev pub IsWriteAskedWell : System → List Front → ℕ → List Numbered → Write → Type 0
-IsWriteAskedWell sys low next h write = IsAskedWell sys low next h write.node write.written write.progress
+abbrev pub IsWriteAskedWell : System → List Front → ℕ → List SerialEvent → Write → Type 0
+IsWriteAskedWell sys low next h write = IsAskedWell sys low next h write.node write.written write.stage
 
-abbrev pub AreAskedWell : System → List Front → ℕ → List Numbered → List Write → Type 0
+abbrev pub AreAskedWell : System → List Front → ℕ → List SerialEvent → List Write → Type 0
 AreAskedWell sys low next h writes = AllByRecursion (IsWriteAskedWell sys low next h) writes
 
-event-given : (sys : System) (low : List Front) (v : Numbered) (h : List Numbered) (p s : ℕ) (far : Progress) → s < v.serial → IsGivenUpOnce sys low h p s far
+event-given : (sys : System) (low : List Front) (v : SerialEvent) (h : List SerialEvent) (p s : ℕ) (far : Stage) → s < v.serial → IsGivenUpOnce sys low h p s far
     → IsGivenUpOnce sys low (v ∷ h) p s far
 event-given sys low v h p s in_flight l a = tt
 event-given sys low v h p s acknowledged l a = tt
 event-given sys low v h p s collected l a = (a.0, ((λ e. absurd (omega arith)), a.1))
 
-event-well : (sys : System) (low : List Front) (v : Numbered) (h : List Numbered) (p : ℕ) (w : Written) (far : Progress) → IsAskedWell sys low v.serial h p w far
+event-well : (sys : System) (low : List Front) (v : SerialEvent) (h : List SerialEvent) (p : ℕ) (w : Written) (far : Stage) → IsAskedWell sys low v.serial h p w far
     → IsAskedWell sys low (v.serial + 1) (v ∷ h) p w far
 event-well sys low v h p (checkpoint f l) far a = a
 event-well sys low v h p (logged_event s) far a =
     let less = a.0 in (omega arith, ((λ e. absurd (omega arith)), a.1), event-given sys low v h p s far less a.2, a.3)
 
-passed-given : (sys : System) (low : List Front) (test : Numbered → Bool) (h : List Numbered) (p s : ℕ) (far : Progress) → IsGivenUpOnce sys low h p s far
+passed-given : (sys : System) (low : List Front) (test : SerialEvent → Bool) (h : List SerialEvent) (p s : ℕ) (far : Stage) → IsGivenUpOnce sys low h p s far
     → IsGivenUpOnce sys low (filter test h) p s far
 passed-given sys low test h p s in_flight a = tt
 passed-given sys low test h p s acknowledged a = tt
 passed-given sys low test h p s collected a =
-    let P : Numbered → Type 0 = λ v. v.serial ≡ s → is_given_up sys low p (stamp v.event) ≡ true in
+    let P : SerialEvent → Type 0 = λ v. v.serial ≡ s → is_given_up sys low p (event_stamp v.event) ≡ true in
     (a.0, each-passed P P test h (λ v k b. b) a.1)
 
-passed-well : (sys : System) (low : List Front) (next : ℕ) (test : Numbered → Bool) (h : List Numbered) (p : ℕ) (w : Written) (far : Progress)
+passed-well : (sys : System) (low : List Front) (next : ℕ) (test : SerialEvent → Bool) (h : List SerialEvent) (p : ℕ) (w : Written) (far : Stage)
     → IsAskedWell sys low next h p w far → IsAskedWell sys low next (filter test h) p w far
 passed-well sys low next test h p (checkpoint f l) far a = a
 passed-well sys low next test h p (logged_event s) far a =
-    let P : Numbered → Type 0 = λ v. v.serial ≡ s → place sys.flow v.event ≡ p in
+    let P : SerialEvent → Type 0 = λ v. v.serial ≡ s → event_node sys.flow v.event ≡ p in
     (a.0, each-passed P P test h (λ v k b. b) a.1, passed-given sys low test h p s far a.2, a.3)
 
-acknowledged-well : (sys : System) (low : List Front) (next : ℕ) (h : List Numbered) (p : ℕ) (w : Written) (far : Progress) → IsAskedWell sys low next h p w far
+acknowledged-well : (sys : System) (low : List Front) (next : ℕ) (h : List SerialEvent) (p : ℕ) (w : Written) (far : Stage) → IsAskedWell sys low next h p w far
     → IsAskedWell sys low next h p w acknowledged
 acknowledged-well sys low next h p (checkpoint f l) far a = a
 acknowledged-well sys low next h p (logged_event s) far a = (a.0, a.1, tt, a.3)
 
-collected-given : (sys : System) (old low : List Front) (n : ℕ) (h : List Numbered) (p s : ℕ) → LowGrows sys old low → AreSerialsBelow n h
-    → AllByRecursion (λ (v : Numbered). v.serial ≡ s → place sys.flow v.event ≡ p) h → (far : Progress) → IsGivenUpOnce sys old h p s far
+collected-given : (sys : System) (old low : List Front) (n : ℕ) (h : List SerialEvent) (p s : ℕ) → LowGrows sys old low → AreSerialsBelow n h
+    → AllByRecursion (λ (v : SerialEvent). v.serial ≡ s → event_node sys.flow v.event ≡ p) h → (far : Stage) → IsGivenUpOnce sys old h p s far
     → IsGivenUpOnce sys low h p s (after_collection (is_serial_given_up sys low s h) far)
 collected-given sys old low n h p s g b c in_flight a = tt
 collected-given sys old low n h p s g b c collected a = (
   a.0,
-  each-weaker (λ (v : Numbered). v.serial ≡ s → is_given_up sys old p (stamp v.event) ≡ true) (λ v. v.serial ≡ s → is_given_up sys low p (stamp v.event) ≡ true) h
-      (λ v k e. given-grows sys old low g p (stamp v.event) (k e)) a.1,
+  each-weaker (λ (v : SerialEvent). v.serial ≡ s → is_given_up sys old p (event_stamp v.event) ≡ true) (λ v. v.serial ≡ s → is_given_up sys low p (event_stamp v.event) ≡ true) h
+      (λ v k e. given-grows sys old low g p (event_stamp v.event) (k e)) a.1,
 )
 collected-given sys old low n h p s g b c acknowledged a =
-    let N : Numbered → Type 0 = λ v. v.serial ≡ s → place sys.flow v.event ≡ p in
-    let test : Numbered → Bool = λ v. is_given_up sys low (place sys.flow v.event) (stamp v.event) in
+    let N : SerialEvent → Type 0 = λ v. v.serial ≡ s → event_node sys.flow v.event ≡ p in
+    let test : SerialEvent → Bool = λ v. is_given_up sys low (event_node sys.flow v.event) (event_stamp v.event) in
     cond_both (is_serial_given_up sys low s h) collected acknowledged (λ far. IsGivenUpOnce sys low h p s far)
     (λ e.
     let v = any-find (λ v. v.serial == s && test v) N h e c in
     let i = and_parts (v.0.serial == s) (test v.0) v.1 in
-    let is : place sys.flow v.0.event ≡ p = v.2 (eqb-true v.0.serial s i.0) in
-    let t = stamp v.0.event in
+    let is : event_node sys.flow v.0.event ≡ p = v.2 (eqb-true v.0.serial s i.0) in
+    let t = event_stamp v.0.event in
     let given : is_given_up sys low p t ≡ true = subst (λ q. is_given_up sys low q t ≡ true) is i.1 in
     let may = may_keep_nothing (kind_of sys.flow p) in (
       (and_parts may (at_node sys low p t) (and_parts (may && at_node sys low p t) (sends_inside sys low p t (out_edges sys.flow p)) given).0).0,
-      each-weaker (λ (v : Numbered). (v.serial ≡ s → test v ≡ true) × N v) (λ v. v.serial ≡ s → is_given_up sys low p (stamp v.event) ≡ true) h
-          (λ v k e. subst (λ q. is_given_up sys low q (stamp v.event) ≡ true) (k.1 e) (k.0 e))
-          (each-both (λ (v : Numbered). v.serial ≡ s → test v ≡ true) N h (serial-each n s test h b e) c),
+      each-weaker (λ (v : SerialEvent). (v.serial ≡ s → test v ≡ true) × N v) (λ v. v.serial ≡ s → is_given_up sys low p (event_stamp v.event) ≡ true) h
+          (λ v k e. subst (λ q. is_given_up sys low q (event_stamp v.event) ≡ true) (k.1 e) (k.0 e))
+          (each-both (λ (v : SerialEvent). v.serial ≡ s → test v ≡ true) N h (serial-each n s test h b e) c),
     ))
     (λ e. tt)
 
-collected-well : (sys : System) (old low : List Front) (next : ℕ) (h : List Numbered) → LowGrows sys old low → AreSerialsBelow next h → (p : ℕ) (w : Written) (far : Progress)
+collected-well : (sys : System) (old low : List Front) (next : ℕ) (h : List SerialEvent) → LowGrows sys old low → AreSerialsBelow next h → (p : ℕ) (w : Written) (far : Stage)
     → IsAskedWell sys old next h p w far → IsAskedWell sys low next h p w (after_collection (lies_below sys low h p w) far)
 collected-well sys old low next h g b p (checkpoint f l) far a = (a.0, a.1, λ q t i. g q t (a.2 q t i))
 collected-well sys old low next h g b p (logged_event s) far a = (a.0, a.1, collected-given sys old low next h p s g b a.1 far a.2, a.3)
@@ -259,7 +259,7 @@ IsApart p (checkpoint f l) q (logged_event s) = Unit {0}
 IsApart p (logged_event r) q (checkpoint g m) = Unit {0}
 IsApart p (logged_event r) q (logged_event s) = r ≡ s → ⊥
 
-new-apart : (sys : System) (low : List Front) (next : ℕ) (h : List Numbered) (p : ℕ) (w : Written) (far : Progress) (q : ℕ) → IsAskedWell sys low next h p w far
+new-apart : (sys : System) (low : List Front) (next : ℕ) (h : List SerialEvent) (p : ℕ) (w : Written) (far : Stage) (q : ℕ) → IsAskedWell sys low next h p w far
     → IsApart p w q (logged_event next)
 new-apart sys low next h p (checkpoint f l) far q a = tt
 new-apart sys low next h p (logged_event s) far q a = λ e. let less = a.0 in omega arith
@@ -274,14 +274,14 @@ pub record CanRestore (sys : System) (state : Machine) : Type 0 where
 
 -- ---- an event
 
-event-asked : (sys : System) (low : List Front) (next : ℕ) (v : Event) (h : List Numbered) → AreSerialsBelow next h → (p : Policy)
-    → policy_of sys.flow (place sys.flow v) ≡ p → AreAskedWell sys low (next + 1) (record { serial = next; event = v } ∷ h) (write_of_event p (place sys.flow v) next)
+event-asked : (sys : System) (low : List Front) (next : ℕ) (v : Event) (h : List SerialEvent) → AreSerialsBelow next h → (p : Policy)
+    → policy_of sys.flow (event_node sys.flow v) ≡ p → AreAskedWell sys low (next + 1) (record { serial = next; event = v } ∷ h) (write_of_event p (event_node sys.flow v) next)
 event-asked sys low next v h a policy.Full e = (
   (
     omega arith,
     (
       (λ e. refl),
-      each-weaker (λ (u : Numbered). u.serial < next) (λ u. u.serial ≡ next → place sys.flow u.event ≡ place sys.flow v) h (λ u l e. absurd (omega arith))
+      each-weaker (λ (u : SerialEvent). u.serial < next) (λ u. u.serial ≡ next → event_node sys.flow u.event ≡ event_node sys.flow v) h (λ u l e. absurd (omega arith))
           (serials-each next next h (at_most-refl next) a),
     ),
     tt,
@@ -295,23 +295,23 @@ event-alone : (p : Policy) (q serial : ℕ) → ArePairs IsApart (write_of_event
 event-alone policy.Full q serial = (tt, tt)
 event-alone p q serial = tt
 
-event-apart : (sys : System) (low : List Front) (next : ℕ) (h : List Numbered) (x : Write) (p : Policy) (q : ℕ) → IsWriteAskedWell sys low next h x
+event-apart : (sys : System) (low : List Front) (next : ℕ) (h : List SerialEvent) (x : Write) (p : Policy) (q : ℕ) → IsWriteAskedWell sys low next h x
     → AllByRecursion (λ (y : Write). IsApart x.node x.written y.node y.written) (write_of_event p q next)
-event-apart sys low next h x policy.Full q a = (new-apart sys low next h x.node x.written x.progress q a, tt)
+event-apart sys low next h x policy.Full q a = (new-apart sys low next h x.node x.written x.stage q a, tt)
 event-apart sys low next h x p q a = tt
 
 event-restore : (sys : System) (state : Machine) (v : Event) → CanRestore sys state → CanRestore sys (with_event sys state v)
 event-restore sys state v c =
-    let p = place sys.flow v in
+    let p = event_node sys.flow v in
     let asks = policy_of sys.flow p in
-    let now : Numbered = record { serial = state.next; event = v } in
+    let now : SerialEvent = record { serial = state.next; event = v } in
     let more = write_of_event asks p state.next in
     record {
       settled = c.settled;
       serials = (omega arith, c.serials);
       asked = each-append (IsWriteAskedWell sys state.low (state.next + 1) (now ∷ state.history)) state.writes more
           (each-weaker (IsWriteAskedWell sys state.low state.next state.history) (IsWriteAskedWell sys state.low (state.next + 1) (now ∷ state.history)) state.writes
-          (λ x a. event-well sys state.low now state.history x.node x.written x.progress a) c.asked)
+          (λ x a. event-well sys state.low now state.history x.node x.written x.stage a) c.asked)
           (event-asked sys state.low state.next v state.history c.serials asks refl);
       apart = pairs-append IsApart state.writes more c.apart (event-alone asks p state.next)
           (each-weaker (IsWriteAskedWell sys state.low state.next state.history) (λ x. AllByRecursion (λ (y : Write). IsApart x.node x.written y.node y.written) more) state.writes
@@ -405,7 +405,7 @@ progress-restore : (sys : System) (state : Machine) (done : ℕ → Frontier) (s
     → CanRestore sys (record state {
       settled = settled;
       writes = state.writes ++ settled_writes state settled
-          (filter (λ p. is_eager (policy_of sys.flow p) && not (same_front (front_of state.settled p) (front_of settled p))) (places sys.flow));
+          (filter (λ p. is_eager (policy_of sys.flow p) && not (same_front (front_of state.settled p) (front_of settled p))) (node_ids sys.flow));
     })
 progress-restore sys state done settled g h c =
     let test : ℕ → Bool = λ p. is_eager (policy_of sys.flow p) && not (same_front (front_of state.settled p) (front_of settled p)) in
@@ -413,10 +413,10 @@ progress-restore sys state done settled g h c =
       | inl lost ↦ subst (IsCanonical (bounds_of sys.flow p)) (sym (g.failed p l lost)) (c.settled p l)
       | inr live ↦ (g.each p l live).canonical
     ] in
-    asked-restore sys state settled (filter test (places sys.flow)) now (others-passed test (places sys.flow) (range-others 0 (length sys.flow.nodes)))
+    asked-restore sys state settled (filter test (node_ids sys.flow)) now (others-passed test (node_ids sys.flow) (range-others 0 (length sys.flow.nodes)))
     (each-passed (λ p. Unit {0})
     (λ p. (takes_checkpoints (policy_of sys.flow p) ≡ true) × AllByRecursion (λ (x : Write). IsApart x.node x.written p (checkpoint (front_of settled p) state.low)) state.writes)
-    test (places sys.flow)
+    test (node_ids sys.flow)
     (λ p k u.
     let differs = not (same_front (front_of state.settled p) (front_of settled p)) in
     let a = and_parts (is_eager (policy_of sys.flow p)) differs k in
@@ -427,7 +427,7 @@ progress-restore sys state done settled g h c =
           (λ x b. grown-apart sys state.settled settled p state.low l (settled-grows sys state done settled g p l) (c.settled p l) (now p l)
           (not-true (same_front (front_of state.settled p) (front_of settled p)) a.1) x.node x.written b) h,
     ))
-    (each-one (λ p. Unit {0}) (places sys.flow) (λ p. tt))) c
+    (each-one (λ p. Unit {0}) (node_ids sys.flow) (λ p. tt))) c
 
 -- ---- a checkpoint that is asked for
 
@@ -452,8 +452,8 @@ all-at p s (x ∷ xs) a =
     at (logged_event r) rest e b = rest
 
 -- after a checkpoint at what is settled, all of the node's are
-later-at : (sys : System) (settled low : List Front) (next : ℕ) (h : List Numbered) (p : ℕ) (f : Front) (l : List Front) → p < length sys.flow.nodes
-    → IsCanonical (bounds_of sys.flow p) (front_of settled p) → f ≡ front_of settled p → (n : ℕ) (w : Written) (far : Progress)
+later-at : (sys : System) (settled low : List Front) (next : ℕ) (h : List SerialEvent) (p : ℕ) (f : Front) (l : List Front) → p < length sys.flow.nodes
+    → IsCanonical (bounds_of sys.flow p) (front_of settled p) → f ≡ front_of settled p → (n : ℕ) (w : Written) (far : Stage)
     → LiesBelow sys p (checkpoint f l) n w → HoldsSettled sys settled n w → IsAskedWell sys low next h n w far → IsAt p (front_of settled p) n w
 later-at sys settled low next h p f l d c e n (checkpoint g m) far b s a = λ i.
     let bounds = bounds_of sys.flow p in
@@ -463,7 +463,7 @@ later-at sys settled low next h p f l d c e n (checkpoint g m) far b s a = λ i.
 later-at sys settled low next h p f l d c e n (logged_event r) far b s a = tt
 
 -- where the newest checkpoint of a node is not at what is settled, none is
-newest-apart : (sys : System) (settled low kept_low : List Front) (next : ℕ) (h : List Numbered) (p : ℕ) → p < length sys.flow.nodes
+newest-apart : (sys : System) (settled low kept_low : List Front) (next : ℕ) (h : List SerialEvent) (p : ℕ) → p < length sys.flow.nodes
     → IsCanonical (bounds_of sys.flow p) (front_of settled p) → (f : Front) (xs : List Write)
     → (front_of settled p ≡ last_or f (checkpoints_of p xs) → ⊥) → AreWritesSettled sys settled xs → AreAscending sys xs → AreAskedWell sys low next h xs
     → AllByRecursion (λ (x : Write). IsApart x.node x.written p (checkpoint (front_of settled p) kept_low)) xs
@@ -480,7 +480,7 @@ newest-apart sys settled low kept_low next h p d c f (x ∷ xs) n s a b =
         let rest = all-at p (front_of settled p) xs
         (each-weaker (λ (y : Write). LiesBelow sys m (checkpoint g l) y.node y.written × (IsWriteSettled sys settled y × IsWriteAskedWell sys low next h y))
         (λ y. IsAt p (front_of settled p) y.node y.written) xs
-        (λ y k. later-at sys settled low next h p g l d c i y.node y.written y.progress
+        (λ y k. later-at sys settled low next h p g l d c i y.node y.written y.stage
         (subst (λ q. LiesBelow sys q (checkpoint g l) y.node y.written) e k.0) k.1.0 k.1.1)
         (each-both (λ (y : Write). LiesBelow sys m (checkpoint g l) y.node y.written) (λ y. IsWriteSettled sys settled y × IsWriteAskedWell sys low next h y) xs a
         (each-both (IsWriteSettled sys settled) (IsWriteAskedWell sys low next h) xs s.1 b.1))) in
@@ -504,13 +504,13 @@ acknowledged-restore : (sys : System) (state : Machine) (writes : List Write) �
     → CanRestore sys (record state { writes = writes })
 acknowledged-restore sys state writes k c =
     let y = k.oldest in
-    let z : Write = record y { progress = acknowledged } in
+    let z : Write = record y { stage = acknowledged } in
     record {
       settled = c.settled;
       serials = c.serials;
       asked = subst (AreAskedWell sys state.low state.next state.history) (sym k.after)
           (each-replaced (IsWriteAskedWell sys state.low state.next state.history) k.earlier y z k.later
-          (λ a. acknowledged-well sys state.low state.next state.history y.node y.written y.progress a)
+          (λ a. acknowledged-well sys state.low state.next state.history y.node y.written y.stage a)
           (subst (AreAskedWell sys state.low state.next state.history) k.before c.asked));
       apart = subst (ArePairs IsApart) (sym k.after) (pairs-replaced IsApart k.earlier y acknowledged k.later (subst (ArePairs IsApart) k.before c.apart));
     }
@@ -532,26 +532,26 @@ cut-canonical sys p Present before after e c = subst (IsCanonical (bounds_of sys
 cut-canonical sys p (At f) before after n c = n.canonical
 
 recovered-restore : (sys : System) (state : Machine) (choice : Choice) (settled : List Front) → CutsTo sys state choice settled → CanRestore sys state
-    → CanRestore sys (recovered sys state choice settled)
+    → CanRestore sys (recovered_state sys state choice settled)
 recovered-restore sys state choice settled k c =
-    let keeps : Numbered → Bool = λ v. kept_of sys.flow choice (place sys.flow v.event) (stamp v.event) in
-    let h = filtered sys choice state.history in
+    let keeps : SerialEvent → Bool = λ v. kept_of sys.flow choice (event_node sys.flow v.event) (event_stamp v.event) in
+    let h = filtered_history sys choice state.history in
     let test : Write → Bool = λ write. is_kept_write (cut_of choice write.node) write.written h in
     record {
       settled = λ p l. cut-canonical sys p (cut_of choice p) (front_of state.settled p) (front_of settled p) (k.each p l) (c.settled p l);
       serials = serials-passed state.next keeps state.history c.serials;
       asked = each-passed (IsWriteAskedWell sys state.low state.next state.history) (IsWriteAskedWell sys state.low state.next h) test state.writes
-          (λ x e a. passed-well sys state.low state.next keeps state.history x.node x.written x.progress a) c.asked;
+          (λ x e a. passed-well sys state.low state.next keeps state.history x.node x.written x.stage a) c.asked;
       apart = pairs-passed IsApart test state.writes c.apart;
     }
 
 -- the new watermark contains the old one, also past the last node
-pub low-grows : (sys : System) (state : Machine) (notes : List Front) (choice : Choice) → IsLowConsistent sys state notes
+pub low-grows : (sys : System) (state : Machine) (notices : List Front) (choice : Choice) → IsLowConsistent sys state notices
     → IsLargest sys state (IsCandidate sys state (λ p. true) kept) choice → LowGrows sys state.low (map front_of_cut choice.cuts)
-low-grows sys state notes choice c m p = elim (cases_lt p (length sys.flow.nodes)) [
-  | inl l ↦ watermark-grows sys state notes choice c m p l
+low-grows sys state notices choice c m p = elim (cases_lt p (length sys.flow.nodes)) [
+  | inl l ↦ watermark-grows sys state notices choice c m p l
   | inr past ↦
-      let few = low_length sys state notes c in
+      let few = low_length sys state notices c in
       let many = length-map choice.cuts front_of_cut in
       let cuts = m.consistent.one_cut_each in
       let old : front_of state.low p ≡ [] = get_or_past state.low p [] (omega arith) in
@@ -565,11 +565,11 @@ collected-restore sys state low g c = record {
   settled = c.settled;
   serials = c.serials;
   asked = each-map (IsWriteAskedWell sys low state.next state.history)
-      (λ (x : Write). record x { progress = after_collection (lies_below sys low state.history x.node x.written) x.progress }) state.writes
+      (λ (x : Write). record x { stage = after_collection (lies_below sys low state.history x.node x.written) x.stage }) state.writes
       (each-weaker (IsWriteAskedWell sys state.low state.next state.history)
-      (λ (x : Write). IsAskedWell sys low state.next state.history x.node x.written (after_collection (lies_below sys low state.history x.node x.written) x.progress)) state.writes
-      (λ x a. collected-well sys state.low low state.next state.history g c.serials x.node x.written x.progress a) c.asked);
-  apart = pairs-mapped IsApart (λ x. after_collection (lies_below sys low state.history x.node x.written) x.progress) state.writes c.apart;
+      (λ (x : Write). IsAskedWell sys low state.next state.history x.node x.written (after_collection (lies_below sys low state.history x.node x.written) x.stage)) state.writes
+      (λ x a. collected-well sys state.low low state.next state.history g c.serials x.node x.written x.stage a) c.asked);
+  apart = pairs-mapped IsApart (λ x. after_collection (lies_below sys low state.history x.node x.written) x.stage) state.writes c.apart;
 }
 
 -- ---- each state of a run
@@ -584,10 +584,10 @@ took-restore sys family state (Checkpoint p) next effect f t c =
     subst (CanRestore sys) (sym t.3) (checkpoint-restore sys state p t.0 t.2 f.lie_settled f.ascend c)
 took-restore sys family state Persist next effect f t c = subst (CanRestore sys) (sym t.2) (acknowledged-restore sys state t.0 t.1 c)
 took-restore sys family state (Fail ps) next effect f t c =
-    subst (CanRestore sys) (sym t.4) (failed-restore sys state (with_failed sys state ps) (λ write. not (is_one_of write.node ps && is_in_flight write.progress)) c)
+    subst (CanRestore sys) (sym t.4) (failed-restore sys state (with_failed sys state ps) (λ write. not (is_one_of write.node ps && is_in_flight write.stage)) c)
 took-restore sys family state Recover next effect f t c = subst (CanRestore sys) (sym t.7) (recovered-restore sys state t.1 t.2 t.6 c)
 took-restore sys family state Collect next effect f t c =
-    subst (CanRestore sys) (sym t.3) (collected-restore sys state (map front_of_cut t.0.cuts) (low-grows sys state f.notes t.0 f.watermark t.1) c)
+    subst (CanRestore sys) (sym t.3) (collected-restore sys state (map front_of_cut t.0.cuts) (low-grows sys state f.notices t.0 f.watermark t.1) c)
 took-restore sys family state (Ack o) next effect f t c = subst (CanRestore sys) (sym t.2) (record { settled = c.settled; serials = c.serials; asked = c.asked; apart = c.apart })
 
 -- what holds of each state that steps lead to: what a recovery needs, and what a restoration needs

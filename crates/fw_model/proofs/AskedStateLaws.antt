@@ -7,11 +7,11 @@ use Rattle.fw_flow.specs.declared.kind.Policy.{Policy}
 use Rattle.fw_flow.specs.declared.kind.Policy.TheVariants as policy
 use Rattle.fw_flow.specs.declared.step.Step.{Step}
 use Rattle.fw_flow.specs.declared.step.Step.TheVariants.{Inject, Deliver, Notify, Progress as ProgressStep, Checkpoint, Persist, Fail, Recover, Collect, Ack}
-use Rattle.fw_flow.specs.Dataflow.{System, policy_of, receiver, places}
+use Rattle.fw_flow.specs.Dataflow.{System, policy_of, receiver, node_ids}
 use Rattle.fw_flow.specs.WellFormed.{IsWellFormedSystem}
 use Rattle.fw_model.specs.Machine.{Machine, Write, Written, checkpoint, logged_event, acknowledged, first_state, front_of}
-use Rattle.fw_model.specs.Choice.{cut_of, filtered}
-use Rattle.fw_model.specs.Steps.{Effect, Outcome, did, idle, LeadsTo, Steps, Run, write_of_event, with_event, checkpoint_of, is_eager, is_one_of, is_in_flight, is_kept_write, front_of_cut, lies_below, after_collection}
+use Rattle.fw_model.specs.Choice.{cut_of, filtered_history}
+use Rattle.fw_model.specs.Steps.{Effect, Outcome, did, idle, LeadsTo, StepsTo, Run, write_of_event, with_event, checkpoint_of, is_eager, is_one_of, is_in_flight, is_kept_write, front_of_cut, lies_below, after_collection}
 use Rattle.fw_model.specs.LawsOfRestoring.{CheckpointsAreAsTheyWereAsked}
 use Rattle.fw_model.proofs.CheckpointLaws.{each-passed, each-replaced}
 use Rattle.fw_model.proofs.ChoosingLaws.{settled_writes}
@@ -71,7 +71,7 @@ took-was_or_new sys P state (Notify p at) next effect t a =
     subst (EachWasOrIsNew P) (sym t.3) (event-each P (with_event sys state (Notified p t.0)) state.writes (policy_of sys.flow p) p state.next a)
 took-was_or_new sys P state ProgressStep next effect t a =
     let settled = t.1 in
-    let ps = filter (λ p. is_eager (policy_of sys.flow p) && not (same_front (front_of state.settled p) (front_of settled p))) (places sys.flow) in
+    let ps = filter (λ p. is_eager (policy_of sys.flow p) && not (same_front (front_of state.settled p) (front_of settled p))) (node_ids sys.flow) in
     subst (EachWasOrIsNew P) (sym t.3) (asked-each P state settled ps a)
 took-was_or_new sys P state (Checkpoint p) next effect t a = subst (EachWasOrIsNew P) (sym t.3) (asked-each P state state.settled (p ∷ []) a)
 took-was_or_new sys P state Persist next effect t a =
@@ -80,29 +80,29 @@ took-was_or_new sys P state Persist next effect t a =
     let W : Write → Type 0 = λ x. P x.node x.written in
     each-weaker W (WasOrIsNew P next) next.writes (λ x b. inl b)
     (subst (λ (m : Machine). AllByRecursion W m.writes) (sym t.2)
-    (subst (AllByRecursion W) (sym k.after) (each-replaced W k.earlier y (record y { progress = acknowledged }) k.later (λ b. b) (subst (AllByRecursion W) k.before a))))
+    (subst (AllByRecursion W) (sym k.after) (each-replaced W k.earlier y (record y { stage = acknowledged }) k.later (λ b. b) (subst (AllByRecursion W) k.before a))))
 took-was_or_new sys P state (Fail ps) next effect t a =
     let W : Write → Type 0 = λ x. P x.node x.written in
     each-weaker W (WasOrIsNew P next) next.writes (λ x b. inl b)
-    (subst (λ (m : Machine). AllByRecursion W m.writes) (sym t.4) (each-passed W W (λ write. not (is_one_of write.node ps && is_in_flight write.progress)) state.writes (λ x k b. b) a))
+    (subst (λ (m : Machine). AllByRecursion W m.writes) (sym t.4) (each-passed W W (λ write. not (is_one_of write.node ps && is_in_flight write.stage)) state.writes (λ x k b. b) a))
 took-was_or_new sys P state Recover next effect t a =
     let W : Write → Type 0 = λ x. P x.node x.written in
     each-weaker W (WasOrIsNew P next) next.writes (λ x b. inl b)
     (subst (λ (m : Machine). AllByRecursion W m.writes) (sym t.7)
-    (each-passed W W (λ write. is_kept_write (cut_of t.1 write.node) write.written (filtered sys t.1 state.history)) state.writes (λ x k b. b) a))
+    (each-passed W W (λ write. is_kept_write (cut_of t.1 write.node) write.written (filtered_history sys t.1 state.history)) state.writes (λ x k b. b) a))
 took-was_or_new sys P state Collect next effect t a =
     let W : Write → Type 0 = λ x. P x.node x.written in
     let low = map front_of_cut t.0.cuts in
     each-weaker W (WasOrIsNew P next) next.writes (λ x b. inl b)
     (subst (λ (m : Machine). AllByRecursion W m.writes) (sym t.3)
-    (each-map W (λ (x : Write). record x { progress = after_collection (lies_below sys low state.history x.node x.written) x.progress }) state.writes a))
+    (each-map W (λ (x : Write). record x { stage = after_collection (lies_below sys low state.history x.node x.written) x.stage }) state.writes a))
 took-was_or_new sys P state (Ack o) next effect t a =
     let W : Write → Type 0 = λ x. P x.node x.written in
     each-weaker W (WasOrIsNew P next) next.writes (λ x b. inl b) (subst (λ (m : Machine). AllByRecursion W m.writes) (sym t.2) a)
 
 -- a step after the state in which it was asked, or the step in which it is asked
 asked-on : (sys : System) (steps : List Step) (outcomes : List Outcome) (state : Machine) → Run sys (first_state sys) steps outcomes state → (step : Step) (next : Machine)
-    → (outcome : Outcome) → Steps sys state step next outcome → (p : ℕ) (w : Written) → IsWrittenAsAsked sys state p w ⊎ IsNew next p w → CountsWritten sys state next p w
+    → (outcome : Outcome) → StepsTo sys state step next outcome → (p : ℕ) (w : Written) → IsWrittenAsAsked sys state p w ⊎ IsNew next p w → CountsWritten sys state next p w
     → CountsWritten sys next next p w → IsWrittenAsAsked sys next p w
 asked-on sys steps outcomes state r step next outcome t p (checkpoint f low) (inl a) c d = record {
   steps = a.steps;

@@ -14,11 +14,11 @@ use Rattle.fw_flow.specs.declared.kind.Policy.{Policy}
 use Rattle.fw_flow.specs.declared.kind.Policy.TheVariants as policy
 use Rattle.fw_flow.specs.declared.step.Step.{Step}
 use Rattle.fw_flow.specs.declared.step.Step.TheVariants.{Inject, Deliver, Notify, Progress as ProgressStep, Checkpoint, Persist, Fail, Recover, Collect, Ack}
-use Rattle.fw_flow.specs.Dataflow.{System, kind_of, policy_of, receiver, bounds_of, is_input_kind, places}
-use Rattle.fw_model.specs.Machine.{Machine, Numbered, Write, Written, checkpoint, logged_event, Progress, acknowledged, first_state, front_of, is_failed}
+use Rattle.fw_flow.specs.Dataflow.{System, kind_of, policy_of, receiver, bounds_of, is_input_kind, node_ids}
+use Rattle.fw_model.specs.Machine.{Machine, SerialEvent, Write, Written, checkpoint, logged_event, Stage, acknowledged, first_state, front_of, is_failed}
 use Rattle.fw_flow.specs.declared.choice.Choice.{Choice}
-use Rattle.fw_model.specs.Choice.{View, HasCheckpoint, IsRestorable, cut_of, filtered}
-use Rattle.fw_model.specs.Steps.{Effect, Outcome, did, idle, LeadsTo, Steps, Run, write_of_event, checkpoint_of, is_eager, GrowsTo, AcknowledgesOldest, is_one_of, is_in_flight, is_kept_write, kept_writes, IsSettledCut, CutsTo, lies_below, after_collection, front_of_cut}
+use Rattle.fw_model.specs.Choice.{View, HasCheckpoint, IsRestorable, cut_of, filtered_history}
+use Rattle.fw_model.specs.Steps.{Effect, Outcome, did, idle, LeadsTo, StepsTo, Run, write_of_event, checkpoint_of, is_eager, GrowsTo, AcknowledgesOldest, is_one_of, is_in_flight, is_kept_write, kept_writes, IsSettledCut, CutsTo, lies_below, after_collection, front_of_cut}
 use Rattle.fw_flow.specs.declared.restoring.Restoring.{Restoring}
 use Rattle.fw_flow.specs.declared.restoring.Restoring.TheVariants.{Batches, Bound, Anything, Checkpoints, Events}
 use Rattle.fw_flow.specs.Restoring.{restoring, way_of}
@@ -82,7 +82,7 @@ settled-grows sys state done settled g p l t i = elim (cases_Bool (is_failed sta
   | inr live ↦ (g.each p l live).same t ∙ or_left (frontier_of (bounds_of sys.flow p) (front_of state.settled p) t) (done p t) i
 ]
 
-cut-settled : (sys : System) (p : ℕ) (cut : Cut) (before after g : Front) (low : List Front) (h : List Numbered) → IsSettledCut sys p cut before after
+cut-settled : (sys : System) (p : ℕ) (cut : Cut) (before after g : Front) (low : List Front) (h : List SerialEvent) → IsSettledCut sys p cut before after
     → is_kept_write cut (checkpoint g low) h ≡ true → Within (frontier_of (bounds_of sys.flow p) g) (frontier_of (bounds_of sys.flow p) before)
     → Within (frontier_of (bounds_of sys.flow p) g) (frontier_of (bounds_of sys.flow p) after)
 cut-settled sys p Present before after g low h c k w = subst (λ os. Within (frontier_of (bounds_of sys.flow p) g) (frontier_of (bounds_of sys.flow p) os)) (sym c) w
@@ -90,7 +90,7 @@ cut-settled sys p (At f) before after g low h c k w = λ t i.
     let b = bounds_of sys.flow p in
     c.same t ∙ and_from (frontier_of b before t) (frontier_of b f t) (w t i) (is_within-holds b g f k t i)
 
-recovered-writes : (sys : System) (state : Machine) (choice : Choice) (settled : List Front) (h : List Numbered) → CutsTo sys state choice settled
+recovered-writes : (sys : System) (state : Machine) (choice : Choice) (settled : List Front) (h : List SerialEvent) → CutsTo sys state choice settled
     → AreWritesSettled sys state.settled state.writes → AreWritesSettled sys settled (kept_writes choice h state.writes)
 recovered-writes sys state choice settled h c a =
     each-passed (IsWriteSettled sys state.settled) (IsWriteSettled sys settled) (λ write. is_kept_write (cut_of choice write.node) write.written h) state.writes
@@ -102,7 +102,7 @@ acknowledged-writes : (sys : System) (settled : List Front) (writes next : List 
 acknowledged-writes sys settled writes next k a =
     let oldest = k.oldest in
     subst (AreWritesSettled sys settled) (sym k.after)
-    (each-replaced (IsWriteSettled sys settled) k.earlier oldest (record oldest { progress = acknowledged }) k.later (λ x. x)
+    (each-replaced (IsWriteSettled sys settled) k.earlier oldest (record oldest { stage = acknowledged }) k.later (λ x. x)
     (subst (AreWritesSettled sys settled) k.before a))
 
 -- the checkpoints of a state lie within what is settled
@@ -124,7 +124,7 @@ took-writes sys state (Notify p at) next effect t a =
     subst (HasWritesSettled sys) (sym t.3) (with-settled sys state (write_of_event (policy_of sys.flow p) p state.next) a (event-writes sys state.settled (policy_of sys.flow p) p state.next))
 took-writes sys state ProgressStep next effect t a =
     let settled = t.1 in
-    let ps = filter (λ p. is_eager (policy_of sys.flow p) && not (same_front (front_of state.settled p) (front_of settled p))) (places sys.flow) in
+    let ps = filter (λ p. is_eager (policy_of sys.flow p) && not (same_front (front_of state.settled p) (front_of settled p))) (node_ids sys.flow) in
     subst (HasWritesSettled sys) (sym t.3)
     (each-append (IsWriteSettled sys settled) state.writes (map (λ p. checkpoint_of state p (front_of settled p)) ps)
     (grown-writes sys state.settled settled (settled-grows sys state t.0 settled t.2) state.writes a)
@@ -136,17 +136,17 @@ took-writes sys state Persist next effect t a =
     subst (HasWritesSettled sys) (sym t.2) (acknowledged-writes sys state.settled state.writes t.0 t.1 a)
 took-writes sys state (Fail ps) next effect t a =
     subst (HasWritesSettled sys) (sym t.4)
-    (each-passed (IsWriteSettled sys state.settled) (IsWriteSettled sys state.settled) (λ write. not (is_one_of write.node ps && is_in_flight write.progress)) state.writes (λ w k x. x) a)
+    (each-passed (IsWriteSettled sys state.settled) (IsWriteSettled sys state.settled) (λ write. not (is_one_of write.node ps && is_in_flight write.stage)) state.writes (λ w k x. x) a)
 took-writes sys state Recover next effect t a =
-    subst (HasWritesSettled sys) (sym t.7) (recovered-writes sys state t.1 t.2 (filtered sys t.1 state.history) t.6 a)
+    subst (HasWritesSettled sys) (sym t.7) (recovered-writes sys state t.1 t.2 (filtered_history sys t.1 state.history) t.6 a)
 took-writes sys state Collect next effect t a =
     let low = map front_of_cut t.0.cuts in
     subst (HasWritesSettled sys) (sym t.3)
     (each-map (IsWriteSettled sys state.settled)
-    (λ (write : Write). record write { progress = after_collection (lies_below sys low state.history write.node write.written) write.progress }) state.writes a)
+    (λ (write : Write). record write { stage = after_collection (lies_below sys low state.history write.node write.written) write.stage }) state.writes a)
 took-writes sys state (Ack o) next effect t a = subst (HasWritesSettled sys) (sym t.2) a
 
-steps-writes : (sys : System) (state : Machine) (step : Step) (next : Machine) (outcome : Outcome) → Steps sys state step next outcome
+steps-writes : (sys : System) (state : Machine) (step : Step) (next : Machine) (outcome : Outcome) → StepsTo sys state step next outcome
     → HasWritesSettled sys state → HasWritesSettled sys next
 steps-writes sys state step next (did effect) t a = took-writes sys state step next effect t a
 steps-writes sys state step next idle t a = subst (HasWritesSettled sys) (sym t.1) a
@@ -164,10 +164,10 @@ checkpoint-within : (sys : System) (settled : List Front) (view : View) (p : ℕ
     → HasCheckpoint view p f writes → IsSettled sys settled p f
 checkpoint-within sys settled view p f [] a k = absurd k
 checkpoint-within sys settled view p f (write ∷ writes) a k =
-    by write.node write.written write.progress a.0 (checkpoint-within sys settled view p f writes a.1) k
+    by write.node write.written write.stage a.0 (checkpoint-within sys settled view p f writes a.1) k
   where
-    by : (n : ℕ) (w : Written) (far : Progress) → HoldsSettled sys settled n w → (HasCheckpoint view p f writes → IsSettled sys settled p f)
-        → HasCheckpoint view p f (record { node = n; written = w; progress = far } ∷ writes) → IsSettled sys settled p f
+    by : (n : ℕ) (w : Written) (far : Stage) → HoldsSettled sys settled n w → (HasCheckpoint view p f writes → IsSettled sys settled p f)
+        → HasCheckpoint view p f (record { node = n; written = w; stage = far } ∷ writes) → IsSettled sys settled p f
     by n (checkpoint g low) far h rest k = elim k [
       | inl c ↦ subst (λ q. IsSettled sys settled q f) c.0 (subst (λ x. IsSettled sys settled n x) c.1 h)
       | inr c ↦ rest c

@@ -10,7 +10,7 @@ use Rattle.fw_time.specs.Stamp.{Stamp, leq, in_domain}
 use Rattle.fw_time.specs.declared.stamp.Bounds.{Bounds}
 use Rattle.fw_time.proofs.EachLaws.{each-weaker, each-one}
 use Rattle.fw_frontier.specs.Frontier.{Frontier, IsFrontier, Within, nothing, join, cover, some_above}
-use Rattle.fw_frontier.specs.Front.{Front, inside, frontier_of, IsCanonical, Names}
+use Rattle.fw_frontier.specs.Front.{Front, inside, frontier_of, IsCanonical, IsFrontOf}
 use Rattle.fw_frontier.proofs.CanonicalLaws.{in_domain-canonical}
 use Rattle.fw_frontier.proofs.NamesLaws.{names-join, names-self, names-same, frontier-closed}
 use Rattle.fw_flow.specs.declared.choice.Cut.{Cut}
@@ -21,17 +21,17 @@ use Rattle.fw_flow.specs.declared.kind.Kind.TheVariants.{Input, OutputEpoch, Out
 use Rattle.fw_flow.specs.declared.kind.Policy.{Policy}
 use Rattle.fw_flow.specs.declared.kind.Policy.TheVariants as policy
 use Rattle.fw_flow.specs.Dataflow.{System, Dataflow, kind_of, policy_of, sender, receiver, domain_of_kind, bounds_of, bounds_of_domain, greatest_number, is_sequence_kind}
-use Rattle.fw_flow.specs.NodeFunction.{stamp}
+use Rattle.fw_flow.specs.NodeFunction.{event_stamp}
 use Rattle.fw_flow.specs.Projection.{events_at, all_inside, phi}
-use Rattle.fw_model.specs.History.{delivered, sent}
-use Rattle.fw_model.specs.Machine.{Machine, Numbered, Write, bound_of, events, front_of}
+use Rattle.fw_model.specs.History.{delivered_messages, sent_messages}
+use Rattle.fw_model.specs.Machine.{Machine, SerialEvent, Write, ack_count_of, events, front_of}
 use Rattle.fw_flow.specs.declared.choice.Choice.{Choice}
-use Rattle.fw_model.specs.Choice.{View, kept, ever, until, AllLogged, IsRestorable, HoldsLow, IsCandidate, IsCutWithin, cut_of, note_of, kept_of}
+use Rattle.fw_model.specs.Choice.{View, kept, ever, until, AllLogged, IsRestorable, HoldsLow, IsCandidate, IsCutWithin, cut_of, notice_of, kept_of}
 use Rattle.fw_model.specs.LawsOfChoices.{ConsistentChoicesHaveUnion, EachLiesWithinUnion, LargestChoiceIsOne, DeliveredOfUnion, NotifiedOfUnion, DiscardedOfUnion, UnionOfCandidatesIsCandidate, UnionOfConsistentIsConsistent}
 use Rattle.fw_flow.specs.declared.restoring.Restoring.{Restoring}
 use Rattle.fw_flow.specs.declared.restoring.Restoring.TheVariants.{Batches, Bound, Anything, Checkpoints, Events}
 use Rattle.fw_flow.specs.Restoring.{restoring_of_policy, restoring, can_resend, way_of}
-use Rattle.fw_model.specs.Covers.{stamp_of_notice, stamps_from, set_of, takes_its_cut, takes_its_notes, discarded_at, covers_in, tallies_in}
+use Rattle.fw_model.specs.Covers.{stamp_of_notice, stamps_from, set_of, takes_its_cut, takes_its_notices, discarded_at, covers_in, tallies_in}
 use Rattle.fw_model.proofs.PhiLaws.{phi-monotone, all_inside-monotone}
 use Rattle.fw_model.proofs.PsiLaws.{same_tests, psi-monotone, psi-join}
 use Rattle.fw_model.proofs.MeetLaws.{one_within}
@@ -66,10 +66,10 @@ largest-one sys state lost view one other m n =
     let cuts = ext_get_or Present one.cuts other.cuts (a.one_cut_each ∙ sym b.one_cut_each) (λ p l.
     let k : p < length sys.flow.nodes = omega (arith, a.one_cut_each) in
     same_cuts sys state lost view p (cut_of one p) (cut_of other p) (a.offered p k) (b.offered p k) (v.cuts p k) (w.cuts p k)) in
-    let notes = ext_get_or [] one.notes other.notes (a.one_note_each ∙ sym b.one_note_each) (λ p l.
-    let k : p < length sys.flow.nodes = omega (arith, a.one_note_each) in
-    same_fronts (bounds_of sys.flow p) (front_of one.notes p) (front_of other.notes p) (a.canonical p k) (b.canonical p k) (v.notes p k) (w.notes p k)) in
-    λ j. record { cuts = cuts j; notes = notes j }
+    let notices = ext_get_or [] one.notices other.notices (a.one_notice_each ∙ sym b.one_notice_each) (λ p l.
+    let k : p < length sys.flow.nodes = omega (arith, a.one_notice_each) in
+    same_fronts (bounds_of sys.flow p) (front_of one.notices p) (front_of other.notices p) (a.canonical p k) (b.canonical p k) (v.notices p k) (w.notices p k)) in
+    λ j. record { cuts = cuts j; notices = notices j }
 
 -- ---- covers of what passes one of two tests
 
@@ -137,7 +137,7 @@ flag-divides true h f g k m n v w = v
 flag-divides false h f g k m n v w = w
 
 -- what the list of a union has inside
-union-within : (b : Bounds) (u : Front) (f : Frontier) → Names b u f → Within (frontier_of b u) f
+union-within : (b : Bounds) (u : Front) (f : Frontier) → IsFrontOf b u f → Within (frontier_of b u) f
 union-within b u f n t k = sym (n.same t) ∙ k
 
 pub delivered-union : DeliveredOfUnion
@@ -149,7 +149,7 @@ delivered-union sys state d (At f) (At g) Present w t k = absurd w
 delivered-union sys state d (At f) (At g) (At u) w t k =
     let p = receiver sys.flow d in
     let b = bounds_of sys.flow p in
-    let ss = map (λ m. m.at) (delivered (events state.history) d) in
+    let ss = map (λ m. m.at) (delivered_messages (events state.history) d) in
     let v = union-within b u (join (frontier_of b f) (frontier_of b g)) w in
     flag-divides (takes_its_cut (way_of sys.flow p)) (frontier_of b u) (frontier_of b f) (frontier_of b g)
     (cover b (filter (frontier_of b u) ss)) (cover b (filter (frontier_of b f) ss)) (cover b (filter (frontier_of b g) ss))
@@ -165,7 +165,7 @@ notified-union sys state p (At f) (At g) (At u) w t k =
     let b = bounds_of sys.flow p in
     let ss = flat_map (stamp_of_notice p) (events state.history) in
     let v = union-within b u (join (frontier_of b f) (frontier_of b g)) w in
-    flag-divides (takes_its_notes (kind_of sys.flow p) (policy_of sys.flow p)) (frontier_of b u) (frontier_of b f) (frontier_of b g)
+    flag-divides (takes_its_notices (kind_of sys.flow p) (policy_of sys.flow p)) (frontier_of b u) (frontier_of b f) (frontier_of b g)
     (cover b (filter (frontier_of b u) ss)) (cover b (filter (frontier_of b f) ss)) (cover b (filter (frontier_of b g) ss))
     v (cover-divides b (frontier_of b u) (frontier_of b f) (frontier_of b g) ss v) t k
 
@@ -184,14 +184,14 @@ within_either false b p k = p k
 -- the messages on an edge all of whose causes are inside come from inside one of two frontiers, as they come from inside both
 sent-divides : (sys : System) (state : Machine) (e : ℕ) (h f g : Frontier) → IsFrontier (bounds_of sys.flow (sender sys.flow e)) f
     → IsFrontier (bounds_of sys.flow (sender sys.flow e)) g → Within h (join f g)
-    → AllByRecursion (Divides (λ (m : Message). all_inside h m.causes) (λ m. all_inside f m.causes) (λ m. all_inside g m.causes)) (sent sys (events state.history) e)
+    → AllByRecursion (Divides (λ (m : Message). all_inside h m.causes) (λ m. all_inside f m.causes) (λ m. all_inside g m.causes)) (sent_messages sys (events state.history) e)
 unfolding IsOfCause
 sent-divides sys state e h f g ff fg w =
     let p = sender sys.flow e in
     let vs = events_at sys.flow p (events state.history) in
     let one = Divides (λ (m : Message). all_inside h m.causes) (λ m. all_inside f m.causes) (λ m. all_inside g m.causes) in
     elim (cases_Bool (is_sequence_kind (kind_of sys.flow p))) [
-      | inr n ↦ each-weaker (IsOfCause sys.flow p) one (sent sys (events state.history) e)
+      | inr n ↦ each-weaker (IsOfCause sys.flow p) one (sent_messages sys (events state.history) e)
           (λ m c k.
           let i = (and_parts (h c.0) true (sym (ap (all_inside h) c.2) ∙ k)).0 in
           elim (or_cases (f c.0) (g c.0) (w c.0 i)) [
@@ -202,8 +202,8 @@ sent-divides sys state e h f g ff fg w =
       | inl s ↦
           let bounds = bounds-sequence sys.flow p (is_sequence (kind_of sys.flow p) s) in
           elim (one_within greatest_number f g (subst (λ b. IsFrontier b f) bounds ff) (subst (λ b. IsFrontier b g) bounds fg)) [
-            | inl v ↦ each-one one (sent sys (events state.history) e) (λ m k. inr (all_inside-monotone h g (λ t i. within_or (f t) (g t) (v t) (w t i)) m.causes k))
-            | inr v ↦ each-one one (sent sys (events state.history) e) (λ m k. inl (all_inside-monotone h f (λ t i. within_either (f t) (g t) (v t) (w t i)) m.causes k))
+            | inl v ↦ each-one one (sent_messages sys (events state.history) e) (λ m k. inr (all_inside-monotone h g (λ t i. within_or (f t) (g t) (v t) (w t i)) m.causes k))
+            | inr v ↦ each-one one (sent_messages sys (events state.history) e) (λ m k. inl (all_inside-monotone h f (λ t i. within_either (f t) (g t) (v t) (w t i)) m.causes k))
           ]
     ]
 
@@ -211,7 +211,7 @@ sent-divides_cover : (sys : System) (state : Machine) (e : ℕ) (h f g : Front)
     → (let b = bounds_of sys.flow (sender sys.flow e) in Within (frontier_of b h) (join (frontier_of b f) (frontier_of b g)))
     → Within ((tallies_in sys state).sent e (At h)) (join ((tallies_in sys state).sent e (At f)) ((tallies_in sys state).sent e (At g)))
 sent-divides_cover sys state e hs fs gs w t k =
-    let ms = sent sys (events state.history) e in
+    let ms = sent_messages sys (events state.history) e in
     let b = bounds_of sys.flow (sender sys.flow e) in
     let h = frontier_of b hs in
     let f = frontier_of b fs in
@@ -250,16 +250,16 @@ divided : (h f g whole : Frontier) → Within h (join f g) → Within f whole �
 divided h f g whole w v u t k = elim (or_cases (f t) (g t) (w t k)) [ inl i ↦ v t i | inr i ↦ u t i ]
 
 -- each event inside the union is logged, as each inside one of the two is
-logged-union : (sys : System) (p : ℕ) (h f g : Frontier) → Within h (join f g) → (writes : List Write) (vs : List Numbered)
+logged-union : (sys : System) (p : ℕ) (h f g : Frontier) → Within h (join f g) → (writes : List Write) (vs : List SerialEvent)
     → AllLogged sys p f writes vs → AllLogged sys p g writes vs → AllLogged sys p h writes vs
 logged-union sys p h f g w writes [] a b = tt
 logged-union sys p h f g w writes (v ∷ vs) a b = (
-  λ e k. elim (or_cases (f (stamp v.event)) (g (stamp v.event)) (w (stamp v.event) k)) [ inl i ↦ a.0 e i | inr i ↦ b.0 e i ],
+  λ e k. elim (or_cases (f (event_stamp v.event)) (g (event_stamp v.event)) (w (event_stamp v.event) k)) [ inl i ↦ a.0 e i | inr i ↦ b.0 e i ],
   logged-union sys p h f g w writes vs a.1 b.1,
 )
 
 -- of two fronts one of which lies within the other, the union is one
-greater-union : (b : Bounds) (f g u : Front) → IsCanonical b f → IsCanonical b g → Names b u (join (frontier_of b f) (frontier_of b g))
+greater-union : (b : Bounds) (f g u : Front) → IsCanonical b f → IsCanonical b g → IsFrontOf b u (join (frontier_of b f) (frontier_of b g))
     → Within (frontier_of b f) (frontier_of b g) ⊎ Within (frontier_of b g) (frontier_of b f) → (u ≡ f) ⊎ (u ≡ g)
 greater-union b f g u cf cg n way = elim way [
   | inl v ↦ inr (same_fronts b u g n.canonical cg (λ t k. within_or (frontier_of b f t) (frontier_of b g t) (v t) (sym (n.same t) ∙ k))
@@ -273,7 +273,7 @@ OneWithin : Bounds → Front → Front → Type 0
 OneWithin b f g = Within (frontier_of b f) (frontier_of b g) ⊎ Within (frontier_of b g) (frontier_of b f)
 
 chain-union : (sys : System) (state : Machine) (view : View) (p : ℕ) (way : Restoring) (f g u : Front) → IsCanonical (bounds_of sys.flow p) f
-    → IsCanonical (bounds_of sys.flow p) g → Names (bounds_of sys.flow p) u (join (frontier_of (bounds_of sys.flow p) f) (frontier_of (bounds_of sys.flow p) g))
+    → IsCanonical (bounds_of sys.flow p) g → IsFrontOf (bounds_of sys.flow p) u (join (frontier_of (bounds_of sys.flow p) f) (frontier_of (bounds_of sys.flow p) g))
     → OneWithin (bounds_of sys.flow p) f g → IsRestorable sys state view p way f → IsRestorable sys state view p way g → IsRestorable sys state view p way u
 unfolding OneWithin
 chain-union sys state view p way f g u cf cg n one a b = elim (greater-union (bounds_of sys.flow p) f g u cf cg n one) [
@@ -282,7 +282,7 @@ chain-union sys state view p way f g u cf cg n one a b = elim (greater-union (bo
 ]
 
 restorable-union : (sys : System) (state : Machine) (view : View) (p : ℕ) (way : Restoring) (f g u : Front) → IsCanonical (bounds_of sys.flow p) f
-    → IsCanonical (bounds_of sys.flow p) g → Names (bounds_of sys.flow p) u (join (frontier_of (bounds_of sys.flow p) f) (frontier_of (bounds_of sys.flow p) g))
+    → IsCanonical (bounds_of sys.flow p) g → IsFrontOf (bounds_of sys.flow p) u (join (frontier_of (bounds_of sys.flow p) f) (frontier_of (bounds_of sys.flow p) g))
     → (way ≡ Batches → OneWithin (bounds_of sys.flow p) f g) → (way ≡ Checkpoints → OneWithin (bounds_of sys.flow p) f g)
     → IsRestorable sys state view p way f → IsRestorable sys state view p way g → IsRestorable sys state view p way u
 restorable-union sys state view p Batches f g u cf cg n m c a b = chain-union sys state view p Batches f g u cf cg n (m refl) a b
@@ -290,7 +290,7 @@ restorable-union sys state view p Bound f g u cf cg n m c a b =
     let s = bounds_of sys.flow p in
     let v = union-within s u (join (frontier_of s f) (frontier_of s g)) n in (
       divided (frontier_of s u) (frontier_of s f) (frontier_of s g) (frontier_of s (front_of state.settled p)) v a.0 b.0,
-      divided (frontier_of s u) (frontier_of s f) (frontier_of s g) (frontier_of s (until (bound_of state p))) v a.1 b.1,
+      divided (frontier_of s u) (frontier_of s f) (frontier_of s g) (frontier_of s (until (ack_count_of state p))) v a.1 b.1,
     )
 restorable-union sys state view p Anything f g u cf cg n m c a b =
     let s = bounds_of sys.flow p in
@@ -385,16 +385,16 @@ same_bits true b c p q = sym (or_left b c p)
 same_bits false b c p q = sym (ap (λ x. x || c) p ∙ q)
 
 -- and so are the notification frontiers
-notes-union : (sys : System) (one other union : Choice) → length one.notes ≡ length sys.flow.nodes → length other.notes ≡ length sys.flow.nodes
-    → IsUnionOfChoices sys one other union → (p : ℕ) (t : Stamp) → note_of sys.flow union p t ≡ join (note_of sys.flow one p) (note_of sys.flow other p) t
-notes-union sys one other union a b w p t = elim (cases_lt p (length sys.flow.nodes)) [
-  | inl l ↦ (w.notes p l).same t
+notices-union : (sys : System) (one other union : Choice) → length one.notices ≡ length sys.flow.nodes → length other.notices ≡ length sys.flow.nodes
+    → IsUnionOfChoices sys one other union → (p : ℕ) (t : Stamp) → notice_of sys.flow union p t ≡ join (notice_of sys.flow one p) (notice_of sys.flow other p) t
+notices-union sys one other union a b w p t = elim (cases_lt p (length sys.flow.nodes)) [
+  | inl l ↦ (w.notices p l).same t
   | inr l ↦
       let past = frontier_of (bounds_of sys.flow p) [] t in
-      let i : note_of sys.flow one p t ≡ past = ap (λ os. frontier_of (bounds_of sys.flow p) os t) (get_or_past one.notes p [] (omega arith)) in
-      let j : note_of sys.flow other p t ≡ past = ap (λ os. frontier_of (bounds_of sys.flow p) os t) (get_or_past other.notes p [] (omega arith)) in
-      let k : note_of sys.flow union p t ≡ past = ap (λ os. frontier_of (bounds_of sys.flow p) os t) (get_or_past union.notes p [] (omega (arith, w.one_note_each))) in
-      k ∙ same_bits past (note_of sys.flow one p t) (note_of sys.flow other p t) i j
+      let i : notice_of sys.flow one p t ≡ past = ap (λ os. frontier_of (bounds_of sys.flow p) os t) (get_or_past one.notices p [] (omega arith)) in
+      let j : notice_of sys.flow other p t ≡ past = ap (λ os. frontier_of (bounds_of sys.flow p) os t) (get_or_past other.notices p [] (omega arith)) in
+      let k : notice_of sys.flow union p t ≡ past = ap (λ os. frontier_of (bounds_of sys.flow p) os t) (get_or_past union.notices p [] (omega (arith, w.one_notice_each))) in
+      k ∙ same_bits past (notice_of sys.flow one p t) (notice_of sys.flow other p t) i j
 ]
 
 -- the union of consistent choices is consistent
@@ -402,17 +402,17 @@ pub union-consistent : UnionOfConsistentIsConsistent
 union-consistent sys state lost view one other union a b w offered =
     let h = events state.history in
     let cut = cuts-union sys one other union a.one_cut_each b.one_cut_each w in
-    let note = notes-union sys one other union a.one_note_each b.one_note_each w in
+    let notice = notices-union sys one other union a.one_notice_each b.one_notice_each w in
     let left : (p : ℕ) → Within (kept_of sys.flow one p) (kept_of sys.flow union p) = λ p. left-within sys p (cut_of one p) (cut_of other p) (cut_of union p) (cut p) in
     let right : (p : ℕ) → Within (kept_of sys.flow other p) (kept_of sys.flow union p) = λ p. right-within sys p (cut_of one p) (cut_of other p) (cut_of union p) (cut p) in
-    let note_left : (p : ℕ) → Within (note_of sys.flow one p) (note_of sys.flow union p) = λ p t k. note p t ∙ or_left (note_of sys.flow one p t) (note_of sys.flow other p t) k in
-    let note_right : (p : ℕ) → Within (note_of sys.flow other p) (note_of sys.flow union p) = λ p t k. note p t ∙ or_right (note_of sys.flow one p t) (note_of sys.flow other p t) k in
-    let note_parts : (p : ℕ) → Within (note_of sys.flow union p) (join (note_of sys.flow one p) (note_of sys.flow other p)) = λ p t k. sym (note p t) ∙ k in
+    let notice_left : (p : ℕ) → Within (notice_of sys.flow one p) (notice_of sys.flow union p) = λ p t k. notice p t ∙ or_left (notice_of sys.flow one p t) (notice_of sys.flow other p t) k in
+    let notice_right : (p : ℕ) → Within (notice_of sys.flow other p) (notice_of sys.flow union p) = λ p t k. notice p t ∙ or_right (notice_of sys.flow one p t) (notice_of sys.flow other p t) k in
+    let notice_parts : (p : ℕ) → Within (notice_of sys.flow union p) (join (notice_of sys.flow one p) (notice_of sys.flow other p)) = λ p t k. sym (notice p t) ∙ k in
     record {
       one_cut_each = w.one_cut_each;
-      one_note_each = w.one_note_each;
+      one_notice_each = w.one_notice_each;
       offered = offered;
-      canonical = λ p l. (w.notes p l).canonical;
+      canonical = λ p l. (w.notices p l).canonical;
       delivered = λ d l.
           let p = receiver sys.flow d in
           let q = sender sys.flow d in
@@ -427,17 +427,17 @@ union-consistent sys state lost view one other union a b w offered =
           (discarded-union sys state e (cut_of one q) (cut_of other q) (cut_of union q) (cut q))
           (λ t i. left p t (a.discarded e l t i)) (λ t i. right p t (b.discarded e l t i));
       notified = λ p l.
-          divided ((covers_in sys state).notified p (cut_of union p)) ((covers_in sys state).notified p (cut_of one p)) ((covers_in sys state).notified p (cut_of other p)) (note_of sys.flow union p)
+          divided ((covers_in sys state).notified p (cut_of union p)) ((covers_in sys state).notified p (cut_of one p)) ((covers_in sys state).notified p (cut_of other p)) (notice_of sys.flow union p)
           (notified-union sys state p (cut_of one p) (cut_of other p) (cut_of union p) (cut p))
-          (λ t i. note_left p t (a.notified p l t i)) (λ t i. note_right p t (b.notified p l t i));
-      own = λ p l. divided (note_of sys.flow union p) (note_of sys.flow one p) (note_of sys.flow other p) (kept_of sys.flow union p) (note_parts p)
+          (λ t i. notice_left p t (a.notified p l t i)) (λ t i. notice_right p t (b.notified p l t i));
+      own = λ p l. divided (notice_of sys.flow union p) (notice_of sys.flow one p) (notice_of sys.flow other p) (kept_of sys.flow union p) (notice_parts p)
           (λ t i. left p t (a.own p l t i)) (λ t i. right p t (b.own p l t i));
-      notes = λ d l.
+      notices = λ d l.
           let p = receiver sys.flow d in
           let q = sender sys.flow d in
-          divided (note_of sys.flow union p) (note_of sys.flow one p) (note_of sys.flow other p) (phi sys h d (note_of sys.flow union q)) (note_parts p)
-          (λ t i. phi-monotone sys h d (note_of sys.flow one q) (note_of sys.flow union q) (note_left q) t (a.notes d l t i))
-          (λ t i. phi-monotone sys h d (note_of sys.flow other q) (note_of sys.flow union q) (note_right q) t (b.notes d l t i));
+          divided (notice_of sys.flow union p) (notice_of sys.flow one p) (notice_of sys.flow other p) (phi sys h d (notice_of sys.flow union q)) (notice_parts p)
+          (λ t i. phi-monotone sys h d (notice_of sys.flow one q) (notice_of sys.flow union q) (notice_left q) t (a.notices d l t i))
+          (λ t i. phi-monotone sys h d (notice_of sys.flow other q) (notice_of sys.flow union q) (notice_right q) t (b.notices d l t i));
     }
 
 -- ---- each two choices have a union, which they lie within
@@ -458,18 +458,18 @@ pub have-union : ConsistentChoicesHaveUnion
 have-union sys state lost view one other a b =
     let n = length sys.flow.nodes in
     let cut : ℕ → Cut = λ p. union_cut (cut_of one p) (cut_of other p) in
-    let note : ℕ → Front = λ p. excluding_pairs (front_of one.notes p) (front_of other.notes p) [] in (
-      record { cuts = map cut (range_with_len 0 n); notes = map note (range_with_len 0 n) },
+    let notice : ℕ → Front = λ p. excluding_pairs (front_of one.notices p) (front_of other.notices p) [] in (
+      record { cuts = map cut (range_with_len 0 n); notices = map notice (range_with_len 0 n) },
       record {
         one_cut_each = length-map-range_with_len cut 0 n;
-        one_note_each = length-map-range_with_len note 0 n;
+        one_notice_each = length-map-range_with_len notice 0 n;
         cuts = λ p l. subst (λ z. IsUnionOfCuts sys p (cut_of one p) (cut_of other p) z) (sym (get_or-map-range_with_len cut 0 n p p Present l (omega arith)))
             (union_cut-union sys state lost view p (cut_of one p) (cut_of other p) (a.offered p l) (b.offered p l));
-        notes = λ p l. subst (λ os. Names (bounds_of sys.flow p) os (join (note_of sys.flow one p) (note_of sys.flow other p)))
-            (sym (get_or-map-range_with_len note 0 n p p [] l (omega arith)))
-            (names-join (bounds_of sys.flow p) (front_of one.notes p) (front_of other.notes p)
-            (in_domain-canonical (bounds_of sys.flow p) (front_of one.notes p) (a.canonical p l))
-            (in_domain-canonical (bounds_of sys.flow p) (front_of other.notes p) (b.canonical p l)));
+        notices = λ p l. subst (λ os. IsFrontOf (bounds_of sys.flow p) os (join (notice_of sys.flow one p) (notice_of sys.flow other p)))
+            (sym (get_or-map-range_with_len notice 0 n p p [] l (omega arith)))
+            (names-join (bounds_of sys.flow p) (front_of one.notices p) (front_of other.notices p)
+            (in_domain-canonical (bounds_of sys.flow p) (front_of one.notices p) (a.canonical p l))
+            (in_domain-canonical (bounds_of sys.flow p) (front_of other.notices p) (b.canonical p l)));
       },
     )
 
@@ -490,10 +490,10 @@ pub within-union : EachLiesWithinUnion
 within-union sys one other union w = (
   record {
     cuts = λ p l. left-cut sys p (cut_of one p) (cut_of other p) (cut_of union p) (w.cuts p l);
-    notes = λ p l t k. (w.notes p l).same t ∙ or_left (note_of sys.flow one p t) (note_of sys.flow other p t) k;
+    notices = λ p l t k. (w.notices p l).same t ∙ or_left (notice_of sys.flow one p t) (notice_of sys.flow other p t) k;
   },
   record {
     cuts = λ p l. right-cut sys p (cut_of one p) (cut_of other p) (cut_of union p) (w.cuts p l);
-    notes = λ p l t k. (w.notes p l).same t ∙ or_right (note_of sys.flow one p t) (note_of sys.flow other p t) k;
+    notices = λ p l t k. (w.notices p l).same t ∙ or_right (notice_of sys.flow one p t) (notice_of sys.flow other p t) k;
   },
 )

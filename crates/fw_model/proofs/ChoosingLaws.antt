@@ -11,12 +11,12 @@ use Rattle.fw_flow.specs.declared.kind.Policy.{Policy}
 use Rattle.fw_flow.specs.declared.kind.Policy.TheVariants as policy
 use Rattle.fw_flow.specs.declared.step.Step.{Step}
 use Rattle.fw_flow.specs.declared.step.Step.TheVariants.{Inject, Deliver, Notify, Progress as ProgressStep, Checkpoint, Persist, Fail, Recover, Collect, Ack}
-use Rattle.fw_flow.specs.Dataflow.{System, policy_of, receiver, bounds_of, places}
+use Rattle.fw_flow.specs.Dataflow.{System, policy_of, receiver, bounds_of, node_ids}
 use Rattle.fw_flow.specs.WellFormed.{IsWellFormedSystem}
 use Rattle.fw_model.specs.Denotation.{Family, IsDenotation, rounds}
-use Rattle.fw_model.specs.Machine.{Machine, Numbered, Write, Written, checkpoint, logged_event, Progress, in_flight, acknowledged, collected, first_state, front_of, is_failed, bound_of}
+use Rattle.fw_model.specs.Machine.{Machine, SerialEvent, Write, Written, checkpoint, logged_event, Stage, in_flight, acknowledged, collected, first_state, front_of, is_failed, ack_count_of}
 use Rattle.fw_flow.specs.declared.choice.Choice.{Choice}
-use Rattle.fw_model.specs.Choice.{View, kept, ever, IsRestorable, IsCandidate, cut_of, IsConsistent, IsCutWithin, IsLargest, filtered}
+use Rattle.fw_model.specs.Choice.{View, kept, ever, IsRestorable, IsCandidate, cut_of, IsConsistent, IsCutWithin, IsLargest, filtered_history}
 use Rattle.fw_model.specs.Steps.{Effect, Outcome, did, idle, LeadsTo, Run, write_of_event, checkpoint_of, is_eager, eager_writes, is_one_of, is_in_flight, without_lost, with_failed, is_kept_write, lies_below, after_collection, front_of_cut}
 use Rattle.fw_model.specs.LawsOfChoosing.{LowWatermarkIsConsistent, CheckpointsAreChains, RecoveryHasAChoice, FailedNodesAreRecovered, ReachedStatesHaveOneNextState, LargestChoiceHoldsLowWatermark, LowWatermarkNeverFalls, LargestOfKeptIsLargestOfEver}
 use Rattle.fw_flow.specs.declared.restoring.Restoring.{Restoring}
@@ -45,8 +45,8 @@ pub record CanRecover (sys : System) (family : Family) (state : Machine) : Type 
   pub lie_settled : HasWritesSettled sys state
   pub ascend : AreAscending sys state.writes
   pub lie_below : AllByRecursion (IsWriteCollectedBelow sys state.low) state.writes
-  pub notes : List Front
-  pub watermark : IsLowConsistent sys state notes
+  pub notices : List Front
+  pub watermark : IsLowConsistent sys state notices
 
 pub full-of : (sys : System) (family : Family) (state : Machine) → IsWellFormedSystem sys → IsDenotation sys family → IsLegalAndDenoted sys family state → IsFull sys state
 full-of sys family state w u f = denoted-full sys family state w u f.legal (record { denoted = f.denoted; paid = f.paid })
@@ -55,53 +55,53 @@ full-of sys family state w u f = denoted-full sys family state w u f.legal (reco
 
 -- with some notification frontiers the low watermark is a consistent choice
 abbrev HasLow : System → Machine → Type 0
-HasLow sys state = (notes : List Front) × IsLowConsistent sys state notes
+HasLow sys state = (notices : List Front) × IsLowConsistent sys state notices
 
 took-low : (sys : System) (family : Family) → IsWellFormedSystem sys → IsDenotation sys family → (state : Machine) (step : Step) (next : Machine) (effect : Effect)
     → CanRecover sys family state → LeadsTo sys state step next effect → HasLow sys next
 took-low sys family w u state (Inject s) next effect f t =
-    subst (HasLow sys) (sym t.3) (f.notes, event-low sys state f.notes (Injected s t.0) w.flow (full-of sys family state w u f.holds) f.lie_settled f.watermark t.1)
+    subst (HasLow sys) (sym t.3) (f.notices, event-low sys state f.notices (Injected s t.0) w.flow (full-of sys family state w u f.holds) f.lie_settled f.watermark t.1)
 took-low sys family w u state (Deliver e at) next effect f t =
-    subst (HasLow sys) (sym t.3) (f.notes, event-low sys state f.notes (Delivered e t.0) w.flow (full-of sys family state w u f.holds) f.lie_settled f.watermark t.1.enabled)
+    subst (HasLow sys) (sym t.3) (f.notices, event-low sys state f.notices (Delivered e t.0) w.flow (full-of sys family state w u f.holds) f.lie_settled f.watermark t.1.enabled)
 took-low sys family w u state (Notify p at) next effect f t =
-    subst (HasLow sys) (sym t.3) (f.notes, event-low sys state f.notes (Notified p t.0) w.flow (full-of sys family state w u f.holds) f.lie_settled f.watermark t.1.enabled)
+    subst (HasLow sys) (sym t.3) (f.notices, event-low sys state f.notices (Notified p t.0) w.flow (full-of sys family state w u f.holds) f.lie_settled f.watermark t.1.enabled)
 took-low sys family w u state ProgressStep next effect f t =
-    let writes = state.writes ++ eager_writes sys state t.1 (places sys.flow) in
+    let writes = state.writes ++ eager_writes sys state t.1 (node_ids sys.flow) in
     subst (HasLow sys) (sym t.3) (
-      f.notes,
-      same-low sys state f.notes t.1 writes state.failed state.bounds w.flow (settled-grows sys state t.0 t.1 t.2)
-          (keep-append state.writes (eager_writes sys state t.1 (places sys.flow))) (λ p. at_most-refl (bound_of state p)) f.watermark,
+      f.notices,
+      same-low sys state f.notices t.1 writes state.failed state.ack_counts w.flow (settled-grows sys state t.0 t.1 t.2)
+          (keep-append state.writes (eager_writes sys state t.1 (node_ids sys.flow))) (λ p. at_most-refl (ack_count_of state p)) f.watermark,
     )
 took-low sys family w u state (Checkpoint p) next effect f t =
     let more = checkpoint_of state p (front_of state.settled p) ∷ [] in
     subst (HasLow sys) (sym t.3) (
-      f.notes,
-      same-low sys state f.notes state.settled (state.writes ++ more) state.failed state.bounds w.flow (λ q l s i. i)
-          (keep-append state.writes more) (λ q. at_most-refl (bound_of state q)) f.watermark,
+      f.notices,
+      same-low sys state f.notices state.settled (state.writes ++ more) state.failed state.ack_counts w.flow (λ q l s i. i)
+          (keep-append state.writes more) (λ q. at_most-refl (ack_count_of state q)) f.watermark,
     )
 took-low sys family w u state Persist next effect f t =
     subst (HasLow sys) (sym t.2) (
-      f.notes,
-      same-low sys state f.notes state.settled t.0 state.failed state.bounds w.flow (λ q l s i. i)
-          (keep-acknowledged state.writes t.0 t.1) (λ q. at_most-refl (bound_of state q)) f.watermark,
+      f.notices,
+      same-low sys state f.notices state.settled t.0 state.failed state.ack_counts w.flow (λ q l s i. i)
+          (keep-acknowledged state.writes t.0 t.1) (λ q. at_most-refl (ack_count_of state q)) f.watermark,
     )
 took-low sys family w u state (Fail ps) next effect f t =
     subst (HasLow sys) (sym t.4) (
-      f.notes,
-      same-low sys state f.notes state.settled (without_lost ps state.writes) (with_failed sys state ps) state.bounds w.flow (λ q l s i. i)
-          (keep-failed ps state.writes) (λ q. at_most-refl (bound_of state q)) f.watermark,
+      f.notices,
+      same-low sys state f.notices state.settled (without_lost ps state.writes) (with_failed sys state ps) state.ack_counts w.flow (λ q l s i. i)
+          (keep-failed ps state.writes) (λ q. at_most-refl (ack_count_of state q)) f.watermark,
     )
 took-low sys family w u state Recover next effect f t =
-    subst (HasLow sys) (sym t.7) (f.notes, recovery-low sys state f.notes t.1 t.2 w.flow (has_epochs sys w) f.holds.legal f.watermark (is_failed state) t.5 t.6)
+    subst (HasLow sys) (sym t.7) (f.notices, recovery-low sys state f.notices t.1 t.2 w.flow (has_epochs sys w) f.holds.legal f.watermark (is_failed state) t.5 t.6)
 took-low sys family w u state Collect next effect f t =
-    subst (HasLow sys) (sym t.3) (t.0.notes, collection-low sys state t.0 t.1.consistent)
+    subst (HasLow sys) (sym t.3) (t.0.notices, collection-low sys state t.0 t.1.consistent)
 took-low sys family w u state (Ack o) next effect f t =
     let x = t.0 in
     let at_bound = t.1.next in
     subst (HasLow sys) (sym t.2) (
-      f.notes,
-      same-low sys state f.notes state.settled state.writes state.failed (slice_set state.bounds o (x + 1)) w.flow (λ q l s i. i)
-          (keep-all state.writes) (λ q. set-grows state.bounds o q (x + 1) (omega arith)) f.watermark,
+      f.notices,
+      same-low sys state f.notices state.settled state.writes state.failed (slice_set state.ack_counts o (x + 1)) w.flow (λ q l s i. i)
+          (keep-all state.writes) (λ q. set-grows state.ack_counts o q (x + 1) (omega arith)) f.watermark,
     )
 
 -- ---- checkpoints ascend at each step
@@ -157,7 +157,7 @@ took-ascend sys state (Notify p at) next effect h a t =
     subst (HasAscending sys) (sym t.3) (event-ascend sys state.writes (policy_of sys.flow p) p state.next a)
 took-ascend sys state ProgressStep next effect h a t =
     let settled = t.1 in
-    let ps = filter (λ p. is_eager (policy_of sys.flow p) && not (same_front (front_of state.settled p) (front_of settled p))) (places sys.flow) in
+    let ps = filter (λ p. is_eager (policy_of sys.flow p) && not (same_front (front_of state.settled p) (front_of settled p))) (node_ids sys.flow) in
     subst (HasAscending sys) (sym t.3)
     (settled-ascend sys state settled ps (grown-writes sys state.settled settled (settled-grows sys state t.0 settled t.2) state.writes h) a)
 took-ascend sys state (Checkpoint p) next effect h a t = subst (HasAscending sys) (sym t.3) (settled-ascend sys state state.settled (p ∷ []) h a)
@@ -166,13 +166,13 @@ took-ascend sys state Persist next effect h a t =
     subst (HasAscending sys) (sym t.2)
     (subst (AreAscending sys) (sym k.after) (pairs-replaced (LiesBelow sys) k.earlier k.oldest acknowledged k.later (subst (AreAscending sys) k.before a)))
 took-ascend sys state (Fail ps) next effect h a t =
-    subst (HasAscending sys) (sym t.4) (pairs-passed (LiesBelow sys) (λ write. not (is_one_of write.node ps && is_in_flight write.progress)) state.writes a)
+    subst (HasAscending sys) (sym t.4) (pairs-passed (LiesBelow sys) (λ write. not (is_one_of write.node ps && is_in_flight write.stage)) state.writes a)
 took-ascend sys state Recover next effect h a t =
     subst (HasAscending sys) (sym t.7)
-    (pairs-passed (LiesBelow sys) (λ write. is_kept_write (cut_of t.1 write.node) write.written (filtered sys t.1 state.history)) state.writes a)
+    (pairs-passed (LiesBelow sys) (λ write. is_kept_write (cut_of t.1 write.node) write.written (filtered_history sys t.1 state.history)) state.writes a)
 took-ascend sys state Collect next effect h a t =
     let low = map front_of_cut t.0.cuts in
-    subst (HasAscending sys) (sym t.3) (pairs-mapped (LiesBelow sys) (λ write. after_collection (lies_below sys low state.history write.node write.written) write.progress) state.writes a)
+    subst (HasAscending sys) (sym t.3) (pairs-mapped (LiesBelow sys) (λ write. after_collection (lies_below sys low state.history write.node write.written) write.stage) state.writes a)
 took-ascend sys state (Ack o) next effect h a t = subst (HasAscending sys) (sym t.2) a
 
 -- ---- collected checkpoints lie below at each step
@@ -196,8 +196,8 @@ acknowledged-below sys low p (checkpoint f l) = tt
 acknowledged-below sys low p (logged_event s) = tt
 
 -- what is collected lies below the new low watermark, and so does what lay below the old one
-collected-below : (sys : System) (old low : List Front) (h : List Numbered) → ((p : ℕ) → p < length sys.flow.nodes → Within (at_node sys old p) (at_node sys low p))
-    → (p : ℕ) (w : Written) (far : Progress) → IsCollectedBelow sys old p w far → IsCollectedBelow sys low p w (after_collection (lies_below sys low h p w) far)
+collected-below : (sys : System) (old low : List Front) (h : List SerialEvent) → ((p : ℕ) → p < length sys.flow.nodes → Within (at_node sys old p) (at_node sys low p))
+    → (p : ℕ) (w : Written) (far : Stage) → IsCollectedBelow sys old p w far → IsCollectedBelow sys low p w (after_collection (lies_below sys low h p w) far)
 collected-below sys old low h grows p (checkpoint g l) in_flight a = tt
 collected-below sys old low h grows p (checkpoint g l) collected a = λ i c v. a i c (λ t k. v t (grows p i t k))
 collected-below sys old low h grows p (checkpoint g l) acknowledged a =
@@ -208,12 +208,12 @@ collected-below sys old low h grows p (checkpoint g l) acknowledged a =
 collected-below sys old low h grows p (logged_event s) far a = tt
 
 -- the new low watermark contains the old one
-pub watermark-grows : (sys : System) (state : Machine) (notes : List Front) (choice : Choice) → IsLowConsistent sys state notes
+pub watermark-grows : (sys : System) (state : Machine) (notices : List Front) (choice : Choice) → IsLowConsistent sys state notices
     → IsLargest sys state (IsCandidate sys state (λ p. true) kept) choice
     → (p : ℕ) → p < length sys.flow.nodes → Within (at_node sys state.low p) (at_node sys (map front_of_cut choice.cuts) p)
-watermark-grows sys state notes choice c m p l =
+watermark-grows sys state notices choice c m p l =
     subst (IsCutWithin sys.flow p (At (front_of state.low p))) (sym (watermark-front sys state choice m.consistent p l))
-    (low-within sys state notes c (λ q. true) kept choice m p l)
+    (low-within sys state notices c (λ q. true) kept choice m p l)
 
 took-below : (sys : System) (family : Family) (state : Machine) (step : Step) (next : Machine) (effect : Effect) → CanRecover sys family state
     → LeadsTo sys state step next effect → HasCollectedBelow sys next
@@ -229,7 +229,7 @@ took-below sys family state (Notify p at) next effect f t =
     (each-append (IsWriteCollectedBelow sys state.low) state.writes (write_of_event (policy_of sys.flow p) p state.next) f.lie_below (event-below sys state.low (policy_of sys.flow p) p state.next))
 took-below sys family state ProgressStep next effect f t =
     let settled = t.1 in
-    let ps = filter (λ p. is_eager (policy_of sys.flow p) && not (same_front (front_of state.settled p) (front_of settled p))) (places sys.flow) in
+    let ps = filter (λ p. is_eager (policy_of sys.flow p) && not (same_front (front_of state.settled p) (front_of settled p))) (node_ids sys.flow) in
     subst (HasCollectedBelow sys) (sym t.3)
     (each-append (IsWriteCollectedBelow sys state.low) state.writes (settled_writes state settled ps) f.lie_below (asked-below sys state settled ps))
 took-below sys family state (Checkpoint p) next effect f t =
@@ -240,23 +240,23 @@ took-below sys family state Persist next effect f t =
     let y = k.oldest in
     subst (HasCollectedBelow sys) (sym t.2)
     (subst (AreCollectedBelow sys state.low) (sym k.after)
-    (each-replaced (IsWriteCollectedBelow sys state.low) k.earlier y (record y { progress = acknowledged }) k.later (λ b. acknowledged-below sys state.low y.node y.written)
+    (each-replaced (IsWriteCollectedBelow sys state.low) k.earlier y (record y { stage = acknowledged }) k.later (λ b. acknowledged-below sys state.low y.node y.written)
     (subst (AreCollectedBelow sys state.low) k.before f.lie_below)))
 took-below sys family state (Fail ps) next effect f t =
     subst (HasCollectedBelow sys) (sym t.4)
-    (each-passed (IsWriteCollectedBelow sys state.low) (IsWriteCollectedBelow sys state.low) (λ write. not (is_one_of write.node ps && is_in_flight write.progress)) state.writes (λ x k b. b) f.lie_below)
+    (each-passed (IsWriteCollectedBelow sys state.low) (IsWriteCollectedBelow sys state.low) (λ write. not (is_one_of write.node ps && is_in_flight write.stage)) state.writes (λ x k b. b) f.lie_below)
 took-below sys family state Recover next effect f t =
     subst (HasCollectedBelow sys) (sym t.7)
     (each-passed (IsWriteCollectedBelow sys state.low) (IsWriteCollectedBelow sys state.low)
-    (λ write. is_kept_write (cut_of t.1 write.node) write.written (filtered sys t.1 state.history)) state.writes (λ x k b. b) f.lie_below)
+    (λ write. is_kept_write (cut_of t.1 write.node) write.written (filtered_history sys t.1 state.history)) state.writes (λ x k b. b) f.lie_below)
 took-below sys family state Collect next effect f t =
     let choice = t.0 in
     let low = map front_of_cut choice.cuts in
-    let grows = watermark-grows sys state f.notes choice f.watermark t.1 in
+    let grows = watermark-grows sys state f.notices choice f.watermark t.1 in
     subst (HasCollectedBelow sys) (sym t.3)
-    (each-map (IsWriteCollectedBelow sys low) (λ (x : Write). record x { progress = after_collection (lies_below sys low state.history x.node x.written) x.progress }) state.writes
-    (each-weaker (IsWriteCollectedBelow sys state.low) (λ (x : Write). IsCollectedBelow sys low x.node x.written (after_collection (lies_below sys low state.history x.node x.written) x.progress)) state.writes
-    (λ x b. collected-below sys state.low low state.history grows x.node x.written x.progress b) f.lie_below))
+    (each-map (IsWriteCollectedBelow sys low) (λ (x : Write). record x { stage = after_collection (lies_below sys low state.history x.node x.written) x.stage }) state.writes
+    (each-weaker (IsWriteCollectedBelow sys state.low) (λ (x : Write). IsCollectedBelow sys low x.node x.written (after_collection (lies_below sys low state.history x.node x.written) x.stage)) state.writes
+    (λ x b. collected-below sys state.low low state.history grows x.node x.written x.stage b) f.lie_below))
 took-below sys family state (Ack o) next effect f t = subst (HasCollectedBelow sys) (sym t.2) f.lie_below
 
 -- ---- each state of a run
@@ -270,7 +270,7 @@ took-recover sys family w u state step next effect f t =
       lie_settled = took-writes sys state step next effect t f.lie_settled;
       ascend = took-ascend sys state step next effect f.lie_settled f.ascend t;
       lie_below = took-below sys family state step next effect f t;
-      notes = low.0;
+      notices = low.0;
       watermark = low.1;
     }
 
@@ -290,7 +290,7 @@ first-recover sys family w = record {
   lie_settled = tt;
   ascend = tt;
   lie_below = tt;
-  notes = (first_state sys).low;
+  notices = (first_state sys).low;
   watermark = first-low sys w.flow;
 }
 
@@ -303,7 +303,7 @@ reached sys w steps outcomes last r =
 pub low-consistent : LowWatermarkIsConsistent
 low-consistent sys w steps outcomes last r =
     let f = reached sys w steps outcomes last r in
-    (f.notes, λ lost view. low-any sys last f.notes f.watermark lost view)
+    (f.notices, λ lost view. low-any sys last f.notices f.watermark lost view)
 
 -- ---- checkpoints are chains
 
@@ -335,8 +335,8 @@ pub recovery-has_choice : RecoveryHasAChoice
 recovery-has_choice sys w steps outcomes last r lost =
     let f = reached sys w steps outcomes last r in
     record {
-      choice = low_choice last f.notes;
-      consistent = low-any sys last f.notes f.watermark lost kept;
+      choice = low_choice last f.notices;
+      consistent = low-any sys last f.notices f.watermark lost kept;
       chains = ascending-chains sys last f.ascend lost kept;
     }
 
@@ -356,29 +356,29 @@ reached-one_next sys w steps outcomes last r step =
 pub largest-holds_low : LargestChoiceHoldsLowWatermark
 largest-holds_low sys w steps outcomes last r lost view choice m =
     let f = reached sys w steps outcomes last r in
-    low-within sys last f.notes f.watermark lost view choice m
+    low-within sys last f.notices f.watermark lost view choice m
 
 same-node : (sys : System) (state next : Machine) → next.low ≡ state.low → (p : ℕ) → Within (at_node sys state.low p) (at_node sys next.low p)
 same-node sys state next e p t i = ap (λ fs. at_node sys fs p t) e ∙ i
 
-pub took-grows : (sys : System) (state : Machine) (notes : List Front) (step : Step) (next : Machine) (effect : Effect) → IsLowConsistent sys state notes
+pub took-grows : (sys : System) (state : Machine) (notices : List Front) (step : Step) (next : Machine) (effect : Effect) → IsLowConsistent sys state notices
     → LeadsTo sys state step next effect → (p : ℕ) → p < length sys.flow.nodes → Within (at_node sys state.low p) (at_node sys next.low p)
-took-grows sys state notes (Inject s) next effect c t p l = same-node sys state next (ap (λ (m : Machine). m.low) t.3) p
-took-grows sys state notes (Deliver e at) next effect c t p l = same-node sys state next (ap (λ (m : Machine). m.low) t.3) p
-took-grows sys state notes (Notify q at) next effect c t p l = same-node sys state next (ap (λ (m : Machine). m.low) t.3) p
-took-grows sys state notes ProgressStep next effect c t p l = same-node sys state next (ap (λ (m : Machine). m.low) t.3) p
-took-grows sys state notes (Checkpoint q) next effect c t p l = same-node sys state next (ap (λ (m : Machine). m.low) t.3) p
-took-grows sys state notes Persist next effect c t p l = same-node sys state next (ap (λ (m : Machine). m.low) t.2) p
-took-grows sys state notes (Fail ps) next effect c t p l = same-node sys state next (ap (λ (m : Machine). m.low) t.4) p
-took-grows sys state notes Recover next effect c t p l = same-node sys state next (ap (λ (m : Machine). m.low) t.7) p
-took-grows sys state notes Collect next effect c t p l =
-    subst (λ (m : Machine). Within (at_node sys state.low p) (at_node sys m.low p)) (sym t.3) (watermark-grows sys state notes t.0 c t.1 p l)
-took-grows sys state notes (Ack o) next effect c t p l = same-node sys state next (ap (λ (m : Machine). m.low) t.2) p
+took-grows sys state notices (Inject s) next effect c t p l = same-node sys state next (ap (λ (m : Machine). m.low) t.3) p
+took-grows sys state notices (Deliver e at) next effect c t p l = same-node sys state next (ap (λ (m : Machine). m.low) t.3) p
+took-grows sys state notices (Notify q at) next effect c t p l = same-node sys state next (ap (λ (m : Machine). m.low) t.3) p
+took-grows sys state notices ProgressStep next effect c t p l = same-node sys state next (ap (λ (m : Machine). m.low) t.3) p
+took-grows sys state notices (Checkpoint q) next effect c t p l = same-node sys state next (ap (λ (m : Machine). m.low) t.3) p
+took-grows sys state notices Persist next effect c t p l = same-node sys state next (ap (λ (m : Machine). m.low) t.2) p
+took-grows sys state notices (Fail ps) next effect c t p l = same-node sys state next (ap (λ (m : Machine). m.low) t.4) p
+took-grows sys state notices Recover next effect c t p l = same-node sys state next (ap (λ (m : Machine). m.low) t.7) p
+took-grows sys state notices Collect next effect c t p l =
+    subst (λ (m : Machine). Within (at_node sys state.low p) (at_node sys m.low p)) (sym t.3) (watermark-grows sys state notices t.0 c t.1 p l)
+took-grows sys state notices (Ack o) next effect c t p l = same-node sys state next (ap (λ (m : Machine). m.low) t.2) p
 
 pub never-falls : LowWatermarkNeverFalls
 never-falls sys w steps outcomes last r step next (did effect) t p l =
     let f = reached sys w steps outcomes last r in
-    took-grows sys last f.notes step next effect f.watermark t p l
+    took-grows sys last f.notices step next effect f.watermark t p l
 never-falls sys w steps outcomes last r step next idle t p l = same-node sys last next (ap (λ (m : Machine). m.low) t.1) p
 
 -- ---- what was collected changes no choice
@@ -407,11 +407,11 @@ ever-of_kept : (sys : System) (state : Machine) (lost : ℕ → Bool) (choice : 
 ever-of_kept sys state lost choice c = offered-consistent sys state lost lost kept ever choice (λ p l a. candidate-ever sys state lost ever p (cut_of choice p) a) c
 
 -- the largest with what was collected is consistent among what is kept
-kept-of_ever : (sys : System) (state : Machine) (lost : ℕ → Bool) (notes : List Front) (choice : Choice) → IsLowConsistent sys state notes → HasCollectedBelow sys state
+kept-of_ever : (sys : System) (state : Machine) (lost : ℕ → Bool) (notices : List Front) (choice : Choice) → IsLowConsistent sys state notices → HasCollectedBelow sys state
     → IsLargest sys state (IsCandidate sys state lost ever) choice → IsConsistent sys state (IsCandidate sys state lost kept) choice
-kept-of_ever sys state lost notes choice c b m =
+kept-of_ever sys state lost notices choice c b m =
     offered-consistent sys state lost lost ever kept choice
-    (λ p l a. candidate-kept sys state lost p (cut_of choice p) l b (low-within sys state notes c lost ever choice m p l) a) m.consistent
+    (λ p l a. candidate-kept sys state lost p (cut_of choice p) l b (low-within sys state notices c lost ever choice m p l) a) m.consistent
 
 pub kept-is_ever : LargestOfKeptIsLargestOfEver
 kept-is_ever sys w steps outcomes last r lost choice =
@@ -419,13 +419,13 @@ kept-is_ever sys w steps outcomes last r lost choice =
       λ m.
           let c = ever-of_kept sys last lost choice m.consistent in
           let g = largest-exists sys last lost ever (ascending-chains sys last f.ascend lost ever) choice c in
-          let k = kept-of_ever sys last lost f.notes g.0 f.watermark f.lie_below g.1 in
+          let k = kept-of_ever sys last lost f.notices g.0 f.watermark f.lie_below g.1 in
           record {
             consistent = c;
             largest = λ other o. within-trans sys other g.0 choice (g.1.largest other o) (m.largest g.0 k);
           },
       λ m. record {
-        consistent = kept-of_ever sys last lost f.notes choice f.watermark f.lie_below m;
+        consistent = kept-of_ever sys last lost f.notices choice f.watermark f.lie_below m;
         largest = λ other o. m.largest other (ever-of_kept sys last lost other o);
       },
     )

@@ -13,11 +13,11 @@ use Rattle.fw_flow.specs.declared.event.Event.TheVariants.{Inject, Deliver, Noti
 use Rattle.fw_flow.specs.declared.event.Message.{Message}
 use Rattle.fw_flow.specs.declared.kind.Kind.TheVariants.{OutputEpoch, Sequence}
 use Rattle.fw_flow.specs.Dataflow.{System, Dataflow, idle_node, kind_of, sender, receiver, greatest_number, bounds_of, is_input_kind, is_notified_kind, batches_of, send_stamp, send_stamp_of_kind, is_sequence_kind, bounds_of_edge, HasEpochs}
-use Rattle.fw_flow.specs.NodeFunction.{place, stamp, recs_on, numbered_messages, sequence_sent, sends_of_kind, sends, sent_by}
-use Rattle.fw_flow.specs.Projection.{events_at, count_from, first_number_of, phi, IsSenderFrontier}
+use Rattle.fw_flow.specs.NodeFunction.{event_node, event_stamp, recs_on, numbered_messages, sequence_sent, sends_of_kind, sends, sent_by}
+use Rattle.fw_flow.specs.Projection.{events_at, count_from, first_coordinate, phi, IsSenderFrontier}
 use Rattle.fw_flow.specs.WellFormed.{IsWellFormed}
-use Rattle.fw_model.specs.History.{some_at, sent, delivered, pending, was_delivered_to, was_notified, owed, injected_count, is_exhausted, injected_epochs, IsAdmissible, IsEnabled, IsLegal}
-use Rattle.fw_flow.specs.Message.{less}
+use Rattle.fw_model.specs.History.{some_at, sent_messages, delivered_messages, pending_messages, was_delivered_to, was_notified, is_owed_notice, injected_count, is_exhausted, injected_epochs, IsAdmissible, IsEnabled, IsLegal}
+use Rattle.fw_flow.specs.Message.{messages_less}
 use Rattle.fw_model.specs.LawsOfCompleteFrontiers.{EnabledIsOutside, AdmissibleStaysAdmissible}
 use Rattle.fw_model.proofs.PhiLaws.{phi-longer}
 use Rattle.fw_model.proofs.FrontierLaws.{phi-frontier}
@@ -43,13 +43,13 @@ enabled-outside sys h done a (Inject s x) k = false_from_ne_true (done s (x ∷ 
       | inr e ↦ let z = ltb-true x (injected_count s h) e in omega arith
     ])
 enabled-outside sys h done a (Deliver e m) k = false_from_ne_true (done (receiver sys.flow e) m.at) (λ i.
-    two_ways _ (is_among-some_at m (pending sys h e) k.is_pending) (a.quiet (receiver sys.flow e) m.at i e refl))
+    two_ways _ (is_among-some_at m (pending_messages sys h e) k.is_pending) (a.quiet (receiver sys.flow e) m.at i e refl))
 enabled-outside sys h done a (Notify p t) k = false_from_ne_true (done p t) (λ i. two_ways _ k.is_owed (a.paid p t i))
 
 -- ---- what an event outside sends is outside phi
 
 -- an output is owed nothing
-pub not_past : (sys : System) (h : List Event) (p : ℕ) (t : Stamp) → kind_of sys.flow p ≡ OutputEpoch → owed sys h p t ≡ false
+pub not_past : (sys : System) (h : List Event) (p : ℕ) (t : Stamp) → kind_of sys.flow p ≡ OutputEpoch → is_owed_notice sys h p t ≡ false
 not_past sys h p t k = ap (λ kind. is_notified_kind kind && was_delivered_to sys.flow p t h && not (was_notified p t h)) k
 
 pub past_edges-idle : (flow : Dataflow) (e : ℕ) → length flow.edges ≤ e → kind_of flow (sender flow e) ≡ OutputEpoch
@@ -69,26 +69,26 @@ abbrev AreOutsidePhi : System → List Event → ℕ → Frontier → List Messa
 AreOutsidePhi sys h e f ms = AllByRecursion (λ (m : Message). phi sys h e f m.at ≡ true → ⊥) ms
 
 by_stamp-outside : (sys : System) (h : List Event) (e : ℕ) (f : Frontier) (v : Event) → SendsByStamp sys.flow (kind_of sys.flow (sender sys.flow e))
-    → IsSenderFrontier sys.flow e f → in_domain (bounds_of sys.flow (sender sys.flow e)) (stamp v) ≡ true → f (stamp v) ≡ false
+    → IsSenderFrontier sys.flow e f → in_domain (bounds_of sys.flow (sender sys.flow e)) (event_stamp v) ≡ true → f (event_stamp v) ≡ false
     → AreOutsidePhi sys h e f (sends sys (sender sys.flow e) (events_at sys.flow (sender sys.flow e) h) v)
 by_stamp-outside sys h e f v p fr d o =
     let q = sender sys.flow e in
-    each-weaker (IsAt (send_stamp sys.flow q (stamp v)) (stamp v)) (λ m. phi sys h e f m.at ≡ true → ⊥) (sends sys q (events_at sys.flow q h) v)
+    each-weaker (IsAt (send_stamp sys.flow q (event_stamp v)) (event_stamp v)) (λ m. phi sys h e f m.at ≡ true → ⊥) (sends sys q (events_at sys.flow q h) v)
     (λ m a k.
     let all = (phi-by_stamp sys h e f p fr m.at (phi-in_domain sys h e f m.at k)).0 k in
-    two_ways (f (stamp v)) (all (stamp v) m.at d a.0 (leq-refl m.at)) o)
+    two_ways (f (event_stamp v)) (all (event_stamp v) m.at d a.0 (leq-refl m.at)) o)
     (sends-each sys q (by_stamp-no_sequence sys.flow (kind_of sys.flow q) p) (events_at sys.flow q h) v)
 
 idle-outside : (sys : System) (h : List Event) (e : ℕ) (f : Frontier) (v : Event) → kind_of sys.flow (sender sys.flow e) ≡ OutputEpoch
     → AreOutsidePhi sys h e f (sends sys (sender sys.flow e) (events_at sys.flow (sender sys.flow e) h) v)
 idle-outside sys h e f v is =
     let q = sender sys.flow e in
-    each-weaker (IsAt (send_stamp sys.flow q (stamp v)) (stamp v)) (λ m. phi sys h e f m.at ≡ true → ⊥) (sends sys q (events_at sys.flow q h) v)
-    (λ m a k. let r : None ≡ Some m.at = sym (ap (λ kind. send_stamp_of_kind sys.flow kind (stamp v)) is) ∙ a.0 in cc r)
+    each-weaker (IsAt (send_stamp sys.flow q (event_stamp v)) (event_stamp v)) (λ m. phi sys h e f m.at ≡ true → ⊥) (sends sys q (events_at sys.flow q h) v)
+    (λ m a k. let r : None ≡ Some m.at = sym (ap (λ kind. send_stamp_of_kind sys.flow kind (event_stamp v)) is) ∙ a.0 in cc r)
     (sends-each sys q (ap is_sequence_kind is) (events_at sys.flow q h) v)
 
 sequence-outside : (sys : System) (h : List Event) (e : ℕ) (f : Frontier) (v : Event) → kind_of sys.flow (sender sys.flow e) ≡ Sequence
-    → IsSenderFrontier sys.flow e f → in_domain (bounds_of sys.flow (sender sys.flow e)) (stamp v) ≡ true → f (stamp v) ≡ false
+    → IsSenderFrontier sys.flow e f → in_domain (bounds_of sys.flow (sender sys.flow e)) (event_stamp v) ≡ true → f (event_stamp v) ≡ false
     → injected_count (sender sys.flow e) h ≡ 0
     → AreOutsidePhi sys h e f (sends sys (sender sys.flow e) (events_at sys.flow (sender sys.flow e) h) v)
 unfolding sends
@@ -101,16 +101,16 @@ sequence-outside sys h e f v is fr d o n =
     let sent_is = ap (count_from f) (sent_by-sequence sys q is vs (no_inject sys.flow q h n)) in
     let fewer = count-le_length f before in
     subst P (sym (ap (λ kind. sends_of_kind sys kind vs v) is))
-    (each-weaker (IsNumbered (length before) (stamp v)) (λ m. phi sys h e f m.at ≡ true → ⊥) (numbered_messages (length before) (stamp v) rs)
+    (each-weaker (IsNumbered (length before) (event_stamp v)) (λ m. phi sys h e f m.at ≡ true → ⊥) (numbered_messages (length before) (event_stamp v) rs)
     (λ m a k. elim (phi-sequence sys h e f m.at is k) [
-      | inl top ↦ two_ways (f (stamp v))
-          (fr.closed (stamp v) (greatest_number ∷ []) d (sym (ap (λ b. in_domain b (stamp v)) (bounds-sequence sys.flow q is)) ∙ d) top) o
+      | inl top ↦ two_ways (f (event_stamp v))
+          (fr.closed (event_stamp v) (greatest_number ∷ []) d (sym (ap (λ b. in_domain b (event_stamp v)) (bounds-sequence sys.flow q is)) ∙ d) top) o
       | inr l ↦ let c = a.0 in omega arith
     ])
-    (numbered-each (length before) (stamp v) rs))
+    (numbered-each (length before) (event_stamp v) rs))
 
 fresh-outside : (sys : System) (h : List Event) → IsWellFormed sys.flow → IsLegal sys h → (e : ℕ) (f : Frontier) (v : Event)
-    → IsSenderFrontier sys.flow e f → in_domain (bounds_of sys.flow (sender sys.flow e)) (stamp v) ≡ true → f (stamp v) ≡ false
+    → IsSenderFrontier sys.flow e f → in_domain (bounds_of sys.flow (sender sys.flow e)) (event_stamp v) ≡ true → f (event_stamp v) ≡ false
     → AreOutsidePhi sys h e f (sends sys (sender sys.flow e) (events_at sys.flow (sender sys.flow e) h) v)
 fresh-outside sys h w l e f v fr d o = elim (sender_sorts sys.flow w e) [
   | inl (inl is) ↦ sequence-outside sys h e f v is fr d o (only_inputs_inject sys h l (sender sys.flow e) (ap is_input_kind is))
@@ -131,29 +131,29 @@ outside-other sys h e f t fr i ms o =
 
 pub quiet-sent : (sys : System) (h : List Event) → IsWellFormed sys.flow → HasEpochs sys → IsLegal sys h
     → (done : ℕ → Frontier) → IsAdmissible sys h done → (v : Event) → IsEnabled sys h v
-    → (e : ℕ) (t : Stamp) → phi sys h e (done (sender sys.flow e)) t ≡ true → some_at (same t) (pending sys h e) ≡ false
-    → some_at (same t) (less (sent sys (v ∷ h) e) (delivered h e)) ≡ false
+    → (e : ℕ) (t : Stamp) → phi sys h e (done (sender sys.flow e)) t ≡ true → some_at (same t) (pending_messages sys h e) ≡ false
+    → some_at (same t) (messages_less (sent_messages sys (v ∷ h) e) (delivered_messages h e)) ≡ false
 quiet-sent sys h w b l done a v k e t i quiet =
     let q = sender sys.flow e in
     let vs = events_at sys.flow q h in
-    cond_both (place sys.flow v == q) (v ∷ vs) vs (λ ws. some_at (same t) (less (sent_by sys q ws) (delivered h e)) ≡ false)
+    cond_both (event_node sys.flow v == q) (v ∷ vs) vs (λ ws. some_at (same t) (messages_less (sent_by sys q ws) (delivered_messages h e)) ≡ false)
     (λ c.
-    let here = eqb-true (place sys.flow v) q c in
+    let here = eqb-true (event_node sys.flow v) q c in
     let d = enabled-in_domain sys h w b (legal-in_domain sys h w b l) v k in
     let o = enabled-outside sys h done a v k in
-    quiet-new t (sends sys q vs v) (sent_by sys q vs) (delivered h e)
+    quiet-new t (sends sys q vs v) (sent_by sys q vs) (delivered_messages h e)
     (outside-other sys h e (done q) t (a.frontier q) i (sends sys q vs v)
     (fresh-outside sys h w l e (done q) v (a.frontier q)
-    (sym (ap (λ n. in_domain (bounds_of sys.flow n) (stamp v)) here) ∙ d) (sym (ap (λ n. done n (stamp v)) here) ∙ o)))
+    (sym (ap (λ n. in_domain (bounds_of sys.flow n) (event_stamp v)) here) ∙ d) (sym (ap (λ n. done n (event_stamp v)) here) ∙ o)))
     quiet)
     (λ c. quiet)
 
 pub quiet-event : (v : Event) (h : List Event) (e : ℕ) (t : Stamp) (ms : List Message)
-    → some_at (same t) (less ms (delivered h e)) ≡ false → some_at (same t) (less ms (delivered (v ∷ h) e)) ≡ false
+    → some_at (same t) (messages_less ms (delivered_messages h e)) ≡ false → some_at (same t) (messages_less ms (delivered_messages (v ∷ h) e)) ≡ false
 quiet-event (Inject s x) h e t ms k = k
 quiet-event (Deliver d m) h e t ms k =
-    cond_both (d == e) (m ∷ []) [] (λ ds. some_at (same t) (less ms (ds ++ delivered h e)) ≡ false)
-    (λ c. quiet-without t m (less ms (delivered h e)) k) (λ c. k)
+    cond_both (d == e) (m ∷ []) [] (λ ds. some_at (same t) (messages_less ms (ds ++ delivered_messages h e)) ≡ false)
+    (λ c. quiet-without t m (messages_less ms (delivered_messages h e)) k) (λ c. k)
 quiet-event (Notify p s) h e t ms k = k
 
 pub not_owed-notified : (a b c d : Bool) → (a && b && not d) ≡ false → (a && b && not (c || d)) ≡ false
@@ -165,7 +165,7 @@ not_owed-delivered a b true d e k = cc
 not_owed-delivered a b false d e k = k
 
 paid-event : (sys : System) (h : List Event) (done : ℕ → Frontier) → IsAdmissible sys h done → (v : Event)
-    → done (place sys.flow v) (stamp v) ≡ false → (p : ℕ) (t : Stamp) → done p t ≡ true → owed sys (v ∷ h) p t ≡ false
+    → done (event_node sys.flow v) (event_stamp v) ≡ false → (p : ℕ) (t : Stamp) → done p t ≡ true → is_owed_notice sys (v ∷ h) p t ≡ false
 paid-event sys h done a (Inject s x) o p t i = a.paid p t i
 paid-event sys h done a (Deliver e m) o p t i =
     not_owed-delivered (is_notified_kind (kind_of sys.flow p)) (was_delivered_to sys.flow p t h) (receiver sys.flow e == p && same m.at t) (was_notified p t h)
@@ -185,9 +185,9 @@ injected-grows sys h (Notify p u) k s = λ t i. i
 injected-grows sys h (Inject q x) k s = λ t i.
     let d = in_domain (bounds_of sys.flow s) t in
     let n = injected_count s h in
-    let a = and_parts d (is_exhausted sys h s || nat_lt (first_number_of t) n) i in
-    cond_both (q == s) (n + 1) n (λ c. (d && (c == length (batches_of sys s) || nat_lt (first_number_of t) c)) ≡ true)
-    (λ e. and_from d _ a.0 (elim (or_cases (is_exhausted sys h s) (nat_lt (first_number_of t) n) a.1) [
+    let a = and_parts d (is_exhausted sys h s || nat_lt (first_coordinate t) n) i in
+    cond_both (q == s) (n + 1) n (λ c. (d && (c == length (batches_of sys s) || nat_lt (first_coordinate t) c)) ≡ true)
+    (λ e. and_from d _ a.0 (elim (or_cases (is_exhausted sys h s) (nat_lt (first_coordinate t) n) a.1) [
       | inl j ↦
           let z = eqb-true n (length (batches_of sys s)) j in
           let y = k.next in
@@ -196,14 +196,14 @@ injected-grows sys h (Inject q x) k s = λ t i.
           let u = ap (λ r. injected_count r h) same_node in
           let g = ap (λ r. length (batches_of sys r)) same_node in
           absurd (omega arith)
-      | inr j ↦ let z = ltb-true (first_number_of t) n j in or_right _ (nat_lt (first_number_of t) (n + 1)) (lt-ltb (first_number_of t) (n + 1) (omega arith))
+      | inr j ↦ let z = ltb-true (first_coordinate t) n j in or_right _ (nat_lt (first_coordinate t) (n + 1)) (lt-ltb (first_coordinate t) (n + 1) (omega arith))
     ]))
     (λ e. i)
 
 pub admissible-stays : AdmissibleStaysAdmissible
 admissible-stays sys h w b l done a v k = record {
   frontier = a.frontier;
-  quiet = λ p t i e r. quiet-event v h e t (sent sys (v ∷ h) e)
+  quiet = λ p t i e r. quiet-event v h e t (sent_messages sys (v ∷ h) e)
       (quiet-sent sys h w b l done a v k e t (a.follows e t (ap (λ n. done n t) r ∙ i)) (a.quiet p t i e r));
   paid = λ p t i. paid-event sys h done a v (enabled-outside sys h done a v k) p t i;
   follows = λ e t i. phi-longer sys h (v ∷ []) e (done (sender sys.flow e)) t (a.follows e t i);

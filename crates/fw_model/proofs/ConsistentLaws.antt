@@ -10,16 +10,16 @@ use Rattle.fw_frontier.specs.Front.{Front, inside, frontier_of, IsLeastBefore, I
 use Rattle.fw_flow.specs.declared.choice.Cut.{Cut}
 use Rattle.fw_flow.specs.declared.choice.Cut.TheVariants.{Present, At}
 use Rattle.fw_flow.specs.Dataflow.{greatest_of_kind, System, kind_of, policy_of, sender, receiver, bounds_of, bounds_of_edge}
-use Rattle.fw_flow.specs.NodeFunction.{place, stamp}
+use Rattle.fw_flow.specs.NodeFunction.{event_node, event_stamp}
 use Rattle.fw_flow.specs.Projection.{phi, psi_of_kind, psi}
-use Rattle.fw_model.specs.History.{delivered, sent, injected_count, is_exhausted}
-use Rattle.fw_model.specs.Machine.{Machine, Numbered, Write, Written, checkpoint, logged_event, Progress, events, no_stamps, front_of, bound_of}
+use Rattle.fw_model.specs.History.{delivered_messages, sent_messages, injected_count, is_exhausted}
+use Rattle.fw_model.specs.Machine.{Machine, SerialEvent, Write, Written, checkpoint, logged_event, Stage, events, no_stamps, front_of, ack_count_of}
 use Rattle.fw_flow.specs.declared.choice.Choice.{Choice}
-use Rattle.fw_model.specs.Choice.{View, kept, ever, counts, until, HasCheckpoint, IsLogged, AllLogged, IsRestorable, HoldsLow, IsCandidate, cut_of, note_of, kept_of, IsConsistent}
+use Rattle.fw_model.specs.Choice.{View, kept, ever, is_counted, until, HasCheckpoint, IsLogged, AllLogged, IsRestorable, HoldsLow, IsCandidate, cut_of, notice_of, kept_of, IsConsistent}
 use Rattle.fw_flow.specs.declared.restoring.Restoring.{Restoring}
 use Rattle.fw_flow.specs.declared.restoring.Restoring.TheVariants.{Batches, Bound, Anything, Checkpoints, Events}
 use Rattle.fw_flow.specs.Restoring.{can_resend, way_of}
-use Rattle.fw_model.specs.Covers.{takes_its_cut, takes_its_notes, stamps_inside, stamps_from, notified_inside, discarded_at, covers_in, set_of, tallies_in}
+use Rattle.fw_model.specs.Covers.{takes_its_cut, takes_its_notices, stamps_inside, stamps_from, notified_inside, discarded_at, covers_in, set_of, tallies_in}
 use Rattle.fw_model.proofs.CmpLaws.{decided-front}
 use Rattle.fw_model.proofs.Decisions.{two_ways, Decided, decided-test, decided-or, decided-as, decided-and, decided-if, decided-number, decided-places, decided-each, find_place}
 use Rattle.fw_model.proofs.StampLists.{find_stamp}
@@ -65,33 +65,33 @@ canonical-decided b (o ∷ os) =
 
 has_checkpoint-decided : (view : View) (p : ℕ) (f : Front) (writes : List Write) → Decided (HasCheckpoint view p f writes)
 has_checkpoint-decided view p f [] = inr (λ k. k)
-has_checkpoint-decided view p f (write ∷ writes) = by write.node write.written write.progress (has_checkpoint-decided view p f writes)
+has_checkpoint-decided view p f (write ∷ writes) = by write.node write.written write.stage (has_checkpoint-decided view p f writes)
   where
-    by : (n : ℕ) (w : Written) (far : Progress) → Decided (HasCheckpoint view p f writes)
-        → Decided (HasCheckpoint view p f (record { node = n; written = w; progress = far } ∷ writes))
+    by : (n : ℕ) (w : Written) (far : Stage) → Decided (HasCheckpoint view p f writes)
+        → Decided (HasCheckpoint view p f (record { node = n; written = w; stage = far } ∷ writes))
     by n (checkpoint g low) far rest =
         decided-or
-        (decided-as (λ (a : (n ≡ p) × ((g ≡ f) × (counts view far ≡ true))). (a.0, a.1.0, a.1.1))
-        (λ (a : (n ≡ p) × (g ≡ f) × (counts view far ≡ true)). (a.0, (a.1, a.2)))
-        (decided-and (decided-number n p) (decided-and (decided-front g f) (decided-test (counts view far) true))))
+        (decided-as (λ (a : (n ≡ p) × ((g ≡ f) × (is_counted view far ≡ true))). (a.0, a.1.0, a.1.1))
+        (λ (a : (n ≡ p) × (g ≡ f) × (is_counted view far ≡ true)). (a.0, (a.1, a.2)))
+        (decided-and (decided-number n p) (decided-and (decided-front g f) (decided-test (is_counted view far) true))))
         rest
     by n (logged_event serial) far rest = decided-or (inr (λ k. k)) rest
 
 logged-decided : (serial : ℕ) (writes : List Write) → Decided (IsLogged serial writes)
 logged-decided serial [] = inr (λ k. k)
-logged-decided serial (write ∷ writes) = by write.node write.written write.progress (logged-decided serial writes)
+logged-decided serial (write ∷ writes) = by write.node write.written write.stage (logged-decided serial writes)
   where
-    by : (n : ℕ) (w : Written) (far : Progress) → Decided (IsLogged serial writes)
-        → Decided (IsLogged serial (record { node = n; written = w; progress = far } ∷ writes))
+    by : (n : ℕ) (w : Written) (far : Stage) → Decided (IsLogged serial writes)
+        → Decided (IsLogged serial (record { node = n; written = w; stage = far } ∷ writes))
     by n (checkpoint g low) far rest = decided-or (inr (λ k. k)) rest
-    by n (logged_event s) far rest = decided-or (decided-and (decided-number s serial) (decided-test (counts ever far) true)) rest
+    by n (logged_event s) far rest = decided-or (decided-and (decided-number s serial) (decided-test (is_counted ever far) true)) rest
 
-all_logged-decided : (sys : System) (p : ℕ) (f : Frontier) (writes : List Write) (h : List Numbered) → Decided (AllLogged sys p f writes h)
+all_logged-decided : (sys : System) (p : ℕ) (f : Frontier) (writes : List Write) (h : List SerialEvent) → Decided (AllLogged sys p f writes h)
 all_logged-decided sys p f writes [] = inl tt
 all_logged-decided sys p f writes (v ∷ h) =
     decided-and
-    (decided-if (decided-number (place sys.flow v.event) p)
-    (decided-if (decided-test (f (stamp v.event)) true) (logged-decided v.serial writes)))
+    (decided-if (decided-number (event_node sys.flow v.event) p)
+    (decided-if (decided-test (f (event_stamp v.event)) true) (logged-decided v.serial writes)))
     (all_logged-decided sys p f writes h)
 
 restorable-decided : (sys : System) (state : Machine) (view : View) (p : ℕ) (way : Restoring) (f : Front) → Decided (IsRestorable sys state view p way f)
@@ -107,7 +107,7 @@ restorable-decided sys state view p Batches f =
     ]
 restorable-decided sys state view p Bound f =
     let b = bounds_of sys.flow p in
-    decided-and (within-front b f (frontier_of b (front_of state.settled p))) (within-front b f (frontier_of b (until (bound_of state p))))
+    decided-and (within-front b f (frontier_of b (front_of state.settled p))) (within-front b f (frontier_of b (until (ack_count_of state p))))
 restorable-decided sys state view p Anything f = within-front (bounds_of sys.flow p) f (frontier_of (bounds_of sys.flow p) (front_of state.settled p))
 restorable-decided sys state view p Checkpoints f =
     decided-or (decided-front f (no_stamps (bounds_of sys.flow p))) (has_checkpoint-decided view p f state.writes)
@@ -134,11 +134,11 @@ candidate-decided sys state lost view p (At f) =
 delivered-decided : (sys : System) (state : Machine) (d : ℕ) (cut : Cut) (g : Frontier) → Decided (Within ((covers_in sys state).delivered d cut) g)
 delivered-decided sys state d Present g =
     let b = bounds_of sys.flow (receiver sys.flow d) in
-    within-cover b (stamps_inside (everything b) (delivered (events state.history) d)) g
+    within-cover b (stamps_inside (everything b) (delivered_messages (events state.history) d)) g
 delivered-decided sys state d (At f) g =
     let p = receiver sys.flow d in
     let b = bounds_of sys.flow p in
-    let ss = stamps_inside (frontier_of b f) (delivered (events state.history) d) in
+    let ss = stamps_inside (frontier_of b f) (delivered_messages (events state.history) d) in
     within-flag (takes_its_cut (way_of sys.flow p)) (frontier_of b f) (cover b ss) g (within-front b f g) (within-cover b ss g)
 
 notified-decided : (sys : System) (state : Machine) (p : ℕ) (cut : Cut) (g : Frontier) → Decided (Within ((covers_in sys state).notified p cut) g)
@@ -147,11 +147,11 @@ notified-decided sys state p Present g =
 notified-decided sys state p (At f) g =
     let b = bounds_of sys.flow p in
     let ss = notified_inside p (frontier_of b f) (events state.history) in
-    within-flag (takes_its_notes (kind_of sys.flow p) (policy_of sys.flow p)) (frontier_of b f) (cover b ss) g (within-front b f g) (within-cover b ss g)
+    within-flag (takes_its_notices (kind_of sys.flow p) (policy_of sys.flow p)) (frontier_of b f) (cover b ss) g (within-front b f g) (within-cover b ss g)
 
 sent-decided : (sys : System) (state : Machine) (e : ℕ) (cut : Cut) (g : Frontier) → Decided (Within ((tallies_in sys state).sent e cut) g)
 sent-decided sys state e cut g =
-    within-cover (bounds_of sys.flow (receiver sys.flow e)) (stamps_from (set_of sys.flow (sender sys.flow e) cut) (sent sys (events state.history) e)) g
+    within-cover (bounds_of sys.flow (receiver sys.flow e)) (stamps_from (set_of sys.flow (sender sys.flow e) cut) (sent_messages sys (events state.history) e)) g
 
 psi-decided : (sys : System) (e : ℕ) (f g : Frontier) → Decided (Within (psi sys.flow e f) g)
 unfolding psi
@@ -180,23 +180,23 @@ discarded-decided sys state e (At f) g =
 -- the inclusions of a choice at each node, and on each edge
 record IsInclusive (sys : System) (state : Machine) (lost : ℕ → Bool) (view : View) (choice : Choice) (p : ℕ) : Type 0 where
   pub offered : IsCandidate sys state lost view p (cut_of choice p)
-  pub canonical : IsCanonical (bounds_of sys.flow p) (front_of choice.notes p)
-  pub notified : Within ((covers_in sys state).notified p (cut_of choice p)) (note_of sys.flow choice p)
-  pub own : Within (note_of sys.flow choice p) (kept_of sys.flow choice p)
+  pub canonical : IsCanonical (bounds_of sys.flow p) (front_of choice.notices p)
+  pub notified : Within ((covers_in sys state).notified p (cut_of choice p)) (notice_of sys.flow choice p)
+  pub own : Within (notice_of sys.flow choice p) (kept_of sys.flow choice p)
 
 record IsCarried (sys : System) (state : Machine) (choice : Choice) (d : ℕ) : Type 0 where
   pub delivered : Within ((covers_in sys state).delivered d (cut_of choice (receiver sys.flow d))) (phi sys (events state.history) d (kept_of sys.flow choice (sender sys.flow d)))
   pub discarded : Within ((covers_in sys state).discarded d (cut_of choice (sender sys.flow d))) (kept_of sys.flow choice (receiver sys.flow d))
-  pub notes : Within (note_of sys.flow choice (receiver sys.flow d)) (phi sys (events state.history) d (note_of sys.flow choice (sender sys.flow d)))
+  pub notices : Within (notice_of sys.flow choice (receiver sys.flow d)) (phi sys (events state.history) d (notice_of sys.flow choice (sender sys.flow d)))
 
 inclusive-decided : (sys : System) (state : Machine) (lost : ℕ → Bool) (view : View) (choice : Choice) (p : ℕ) → Decided (IsInclusive sys state lost view choice p)
 inclusive-decided sys state lost view choice p = elim (candidate-decided sys state lost view p (cut_of choice p)) [
   | inr n ↦ inr (λ k. n k.offered)
-  | inl a ↦ elim (canonical-decided (bounds_of sys.flow p) (front_of choice.notes p)) [
+  | inl a ↦ elim (canonical-decided (bounds_of sys.flow p) (front_of choice.notices p)) [
     | inr n ↦ inr (λ k. n k.canonical)
-    | inl b ↦ elim (notified-decided sys state p (cut_of choice p) (note_of sys.flow choice p)) [
+    | inl b ↦ elim (notified-decided sys state p (cut_of choice p) (notice_of sys.flow choice p)) [
       | inr n ↦ inr (λ k. n k.notified)
-      | inl c ↦ elim (within-front (bounds_of sys.flow p) (front_of choice.notes p) (kept_of sys.flow choice p)) [
+      | inl c ↦ elim (within-front (bounds_of sys.flow p) (front_of choice.notices p) (kept_of sys.flow choice p)) [
         | inr n ↦ inr (λ k. n k.own)
         | inl d ↦ inl (record { offered = a; canonical = b; notified = c; own = d })
       ]
@@ -213,9 +213,9 @@ carried-decided sys state choice d =
       | inr n ↦ inr (λ k. n k.delivered)
       | inl a ↦ elim (discarded-decided sys state d (cut_of choice q) (kept_of sys.flow choice p)) [
         | inr n ↦ inr (λ k. n k.discarded)
-        | inl b ↦ elim (within-front (bounds_of sys.flow p) (front_of choice.notes p) (phi sys h d (note_of sys.flow choice q))) [
-          | inr n ↦ inr (λ k. n k.notes)
-          | inl c ↦ inl (record { delivered = a; discarded = b; notes = c })
+        | inl b ↦ elim (within-front (bounds_of sys.flow p) (front_of choice.notices p) (phi sys h d (notice_of sys.flow choice q))) [
+          | inr n ↦ inr (λ k. n k.notices)
+          | inl c ↦ inl (record { delivered = a; discarded = b; notices = c })
         ]
       ]
     ]
@@ -226,22 +226,22 @@ consistent-decided sys state lost view choice =
     let n = length sys.flow.nodes in
     elim (decided-number (length choice.cuts) n) [
       | inr no_cuts ↦ inr (λ k. no_cuts k.one_cut_each)
-      | inl a ↦ elim (decided-number (length choice.notes) n) [
-        | inr no_notes ↦ inr (λ k. no_notes k.one_note_each)
+      | inl a ↦ elim (decided-number (length choice.notices) n) [
+        | inr no_notices ↦ inr (λ k. no_notices k.one_notice_each)
         | inl b ↦ elim (decided-places n (IsInclusive sys state lost view choice) (inclusive-decided sys state lost view choice)) [
           | inr r ↦ inr (λ k. r (λ p l. record { offered = k.offered p l; canonical = k.canonical p l; notified = k.notified p l; own = k.own p l }))
           | inl c ↦ elim (decided-places (length sys.flow.edges) (IsCarried sys state choice) (carried-decided sys state choice)) [
-            | inr r ↦ inr (λ k. r (λ d l. record { delivered = k.delivered d l; discarded = k.discarded d l; notes = k.notes d l }))
+            | inr r ↦ inr (λ k. r (λ d l. record { delivered = k.delivered d l; discarded = k.discarded d l; notices = k.notices d l }))
             | inl d ↦ inl (record {
               one_cut_each = a;
-              one_note_each = b;
+              one_notice_each = b;
               offered = λ p l. (c p l).offered;
               canonical = λ p l. (c p l).canonical;
               delivered = λ e l. (d e l).delivered;
               discarded = λ e l. (d e l).discarded;
               notified = λ p l. (c p l).notified;
               own = λ p l. (c p l).own;
-              notes = λ e l. (d e l).notes;
+              notices = λ e l. (d e l).notices;
             })
           ]
         ]

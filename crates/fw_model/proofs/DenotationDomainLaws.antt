@@ -9,7 +9,7 @@ use Rattle.fw_flow.specs.declared.kind.Kind.{Kind}
 use Rattle.fw_flow.specs.declared.kind.Kind.TheVariants.{Input, OutputEpoch, OutputNumber, Distinct, Join, Sum, Total, Sequence, Ledger}
 use Rattle.fw_flow.specs.Dataflow.{System, Dataflow, kind_of, sender, receiver, in_edges, batches_of, greatest_number, domain_of_kind, out_domain_of_kind, bounds_of, bounds_of_domain, send_stamp_of_kind, HasEpochs}
 use Rattle.fw_flow.specs.WellFormed.{IsWellFormed}
-use Rattle.fw_flow.specs.WholeBags.{Timed, in_order, timed, timed_at_some, timed_batches, recs_for_one, one_by_one, is_among_timed, distinct_timed, joined_timed, has_stamp, distinct_stamps, numbered, together, outputs_of_kind}
+use Rattle.fw_flow.specs.WholeBags.{Timed, in_order, timed_recs, timed_at_some, timed_batches, recs_for_one, one_by_one, is_among_timed, distinct_timed, joined_timed, has_stamp, distinct_stamps, numbered_recs, joint_bag, outputs_of_kind}
 use Rattle.fw_model.specs.Denotation.{Family, rounds}
 use Rattle.fw_model.specs.LawsOfDenotation.{DenotationIsInDomain}
 use Rattle.fw_model.proofs.StampLaws.{line-leq}
@@ -24,7 +24,7 @@ use Rattle.fw_model.specs.Measure.{enough_rounds}
 abbrev At : (Stamp → Type 0) → Timed → Type 0
 At P r = P r.at
 
-each-timed : (P : Stamp → Type 0) (at : Stamp) → P at → (rs : List Rec) → AllByRecursion (At P) (timed at rs)
+each-timed : (P : Stamp → Type 0) (at : Stamp) → P at → (rs : List Rec) → AllByRecursion (At P) (timed_recs at rs)
 each-timed P at p [] = tt
 each-timed P at p (r ∷ rs) = (p, each-timed P at p rs)
 
@@ -57,16 +57,16 @@ each-stamp P (r ∷ rs) a =
 abbrev IsNumber : Stamp → Type 0
 IsNumber t = leq t (greatest_number ∷ []) ≡ true
 
-each-numbered : (n : ℕ) (rs : List Timed) → AllByRecursion (At IsNumber) (numbered n rs)
+each-numbered : (n : ℕ) (rs : List Timed) → AllByRecursion (At IsNumber) (numbered_recs n rs)
 each-numbered n [] = tt
 each-numbered n (r ∷ rs) =
-    cond_both (nat_le n greatest_number) (record { at = n ∷ []; rec = r.rec } ∷ numbered (n + 1) rs) [] (AllByRecursion (At IsNumber))
+    cond_both (nat_le n greatest_number) (record { at = n ∷ []; rec = r.rec } ∷ numbered_recs (n + 1) rs) [] (AllByRecursion (At IsNumber))
     (λ e. (and_from (nat_le n greatest_number) true e refl, each-numbered (n + 1) rs)) (λ e. tt)
 
 each-batch : (x : ℕ) (batches : List (List Rec)) → x + length batches ≤ greatest_number + 1 → AllByRecursion (At IsNumber) (timed_batches x batches)
 each-batch x [] l = tt
 each-batch x (batch ∷ batches) l =
-    each-append (At IsNumber) (timed (x ∷ []) batch) (timed_batches (x + 1) batches)
+    each-append (At IsNumber) (timed_recs (x ∷ []) batch) (timed_batches (x + 1) batches)
     (each-timed IsNumber (x ∷ []) (line-leq x greatest_number (omega arith)) batch)
     (each-batch (x + 1) batches (omega arith))
 
@@ -86,7 +86,7 @@ each-one_by_one flow kind rs a =
 each-joined : (P : Stamp → Type 0) (xs ys : List Timed) → AllByRecursion (At P) xs → AllByRecursion (At P) (joined_timed xs ys)
 each-joined P xs ys a = each-flat_map (At P) (At P) _ (λ r i. each-timed P r.at i _) xs a
 
-each-together : (P : Timed → Type 0) (bags : List (List Timed)) → AllByRecursion (AllByRecursion P) bags → AllByRecursion P (together bags)
+each-together : (P : Timed → Type 0) (bags : List (List Timed)) → AllByRecursion (AllByRecursion P) bags → AllByRecursion P (joint_bag bags)
 each-together P bags a = each-flat_map (AllByRecursion P) P (λ xs. xs) (λ xs b. b) bags a
 
 outputs-in_domain : (flow : Dataflow) (kind : Kind) (batches : List (List Rec)) (bags : List (List Timed)) → length batches ≤ greatest_number + 1
@@ -95,21 +95,21 @@ outputs-in_domain flow Input batches bags l a = each-batch 0 batches (omega arit
 outputs-in_domain flow OutputEpoch batches bags l a = tt
 outputs-in_domain flow OutputNumber batches bags l a = tt
 outputs-in_domain flow (Distinct within) batches bags l a =
-    let P = At (IsIn flow (Distinct within)) in each-distinct P (together bags) (each-together P bags a)
+    let P = At (IsIn flow (Distinct within)) in each-distinct P (joint_bag bags) (each-together P bags a)
 outputs-in_domain flow (Join within) batches [] l a = tt
 outputs-in_domain flow (Join within) batches (xs ∷ []) l a = tt
 outputs-in_domain flow (Join within) batches (xs ∷ ys ∷ rest) l a = each-joined (IsIn flow (Join within)) xs ys a.0
 outputs-in_domain flow (Sum within) batches bags l a =
     let P = IsIn flow (Sum within) in
-    each-flat_map P (At P) _ (λ t i. each-timed P t i _) (distinct_stamps (together bags)) (each-stamp P (together bags) (each-together (At P) bags a))
+    each-flat_map P (At P) _ (λ t i. each-timed P t i _) (distinct_stamps (joint_bag bags)) (each-stamp P (joint_bag bags) (each-together (At P) bags a))
 outputs-in_domain flow Total batches bags l a =
     let P = IsIn flow Total in
-    each-flat_map P (At P) _ (λ t i. each-timed P t i _) (distinct_stamps (together bags)) (each-stamp P (together bags) (each-together (At P) bags a))
-outputs-in_domain flow Sequence batches bags l a = each-numbered 0 (in_order (together bags))
+    each-flat_map P (At P) _ (λ t i. each-timed P t i _) (distinct_stamps (joint_bag bags)) (each-stamp P (joint_bag bags) (each-together (At P) bags a))
+outputs-in_domain flow Sequence batches bags l a = each-numbered 0 (in_order (joint_bag bags))
 outputs-in_domain flow Ledger batches bags l a =
-    let P = At (IsIn flow Ledger) in each-map P P _ (λ r i. i) (together bags) (each-together P bags a)
+    let P = At (IsIn flow Ledger) in each-map P P _ (λ r i. i) (joint_bag bags) (each-together P bags a)
 outputs-in_domain flow kind batches bags l a =
-    each-one_by_one flow kind (together bags) (each-together (At (IsIn flow kind)) bags a)
+    each-one_by_one flow kind (joint_bag bags) (each-together (At (IsIn flow kind)) bags a)
 
 -- ---- rounds
 

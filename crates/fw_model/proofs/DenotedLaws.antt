@@ -19,9 +19,9 @@ use Rattle.fw_flow.specs.NodeFunction.{sequence_sent, sent_by}
 use Rattle.fw_flow.specs.Projection.{events_at, phi, phi_of_kind, sent_count}
 use Rattle.fw_flow.specs.Walks.{Ranks, is_same_loop, is_looped}
 use Rattle.fw_flow.specs.WellFormed.{IsWellFormed, IsWellFormedSystem}
-use Rattle.fw_flow.specs.WholeBags.{Timed, timed_cmp, outputs_of_kind, in_order, numbered, together}
+use Rattle.fw_flow.specs.WholeBags.{Timed, timed_cmp, outputs_of_kind, in_order, numbered_recs, joint_bag}
 use Rattle.fw_model.specs.Denotation.{Family, IsDenotation}
-use Rattle.fw_model.specs.History.{was_delivered_to, was_notified, owed, sent, delivered, IsAdmissible, IsLegal}
+use Rattle.fw_model.specs.History.{was_delivered_to, was_notified, is_owed_notice, sent_messages, delivered_messages, IsAdmissible, IsLegal}
 use Rattle.fw_model.proofs.SendingLaws.{phi-by_stamp, phi-in_domain}
 use Rattle.fw_model.proofs.SequenceLaws.{bounds-sequence, count-le_length, no_inject, sent_by-sequence, phi-sequence}
 use Rattle.fw_model.proofs.LegalLaws.{edge_domains, only_inputs_inject}
@@ -45,12 +45,12 @@ use Rattle.fw_model.specs.Sending.{SendsByStamp}
 -- what was sent on the edge at the stamp is what the family has there
 abbrev pub IsDenotedAt : System → List Event → Family → (ℕ → Frontier) → EdgeStamp → Type 0
 IsDenotedAt sys h family done x =
-    phi sys h x.0 (done (sender sys.flow x.0)) x.1 ≡ true → (q : Rec) → weigh (one x.1 q) (timed_of (sent sys h x.0)) ≡ weigh (one x.1 q) (family x.0)
+    phi sys h x.0 (done (sender sys.flow x.0)) x.1 ≡ true → (q : Rec) → weigh (one x.1 q) (timed_of (sent_messages sys h x.0)) ≡ weigh (one x.1 q) (family x.0)
 
 -- what was delivered at a stamp inside is what was sent, and so what the family has
 pub delivered-denoted : (sys : System) (h : List Event) (family : Family) → IsLegal sys h → (done : ℕ → Frontier) → IsAdmissible sys h done
     → (d : ℕ) (u : Stamp) → IsDenotedAt sys h family done (d, u) → done (receiver sys.flow d) u ≡ true
-    → (q : Rec) → weigh (one u q) (timed_of (delivered h d)) ≡ weigh (one u q) (family d)
+    → (q : Rec) → weigh (one u q) (timed_of (delivered_messages h d)) ≡ weigh (one u q) (family d)
 delivered-denoted sys h family l done a d u k i q =
     quiet-delivered sys h l d u (a.quiet (receiver sys.flow d) u i d refl) q ∙ k (a.follows d u i) q
 
@@ -58,7 +58,7 @@ delivered-denoted sys h family l done a d u k i q =
 
 -- the whole bag that comes to a node
 abbrev pub whole : System → Family → ℕ → List Timed
-whole sys family p = together (map family (in_edges sys.flow p))
+whole sys family p = joint_bag (map family (in_edges sys.flow p))
 
 -- whether the node was notified of the stamp of a timed rec
 abbrev pub is_numbered_in : List Event → ℕ → Timed → Bool
@@ -68,7 +68,7 @@ is_numbered_in h p r = was_notified p r.at h
 -- no stamp with recs was left out.
 pub record IsSequenced (sys : System) (h : List Event) (family : Family) (p : ℕ) : Type 0 where
   pub sure : (s u : Stamp) (r : Rec) → was_notified p s h ≡ true → leq u s ≡ true → 0 < weigh (one u r) (whole sys family p) → was_notified p u h ≡ true
-  pub sent : (w : Timed → ℕ) → weigh w (timed_of (sequence_sent (events_at sys.flow p h))) ≡ weigh w (numbered 0 (filter (is_numbered_in h p) (in_order (whole sys family p))))
+  pub sent : (w : Timed → ℕ) → weigh w (timed_of (sequence_sent (events_at sys.flow p h))) ≡ weigh w (numbered_recs 0 (filter (is_numbered_in h p) (in_order (whole sys family p))))
 
 pub whole-in_domain : (sys : System) (family : Family) → IsWellFormedSystem sys → IsDenotation sys family → (p : ℕ) (u : Stamp) (r : Rec)
     → 0 < weigh (one u r) (whole sys family p) → in_domain (bounds_of sys.flow p) u ≡ true
@@ -159,8 +159,8 @@ record SequenceParts (sys : System) (h : List Event) (family : Family) (e : ℕ)
   pub next : ℕ
   pub rest : ℕ
   pub counted : next ≡ length (sent_by sys (sender sys.flow e) (events_at sys.flow (sender sys.flow e) h))
-  pub rested : rest ≡ weigh w (numbered next (rest_of sys h family (sender sys.flow e)))
-  pub parts : weigh w (family e) ≡ weigh w (timed_of (sent sys h e)) + rest
+  pub rested : rest ≡ weigh w (numbered_recs next (rest_of sys h family (sender sys.flow e)))
+  pub parts : weigh w (family e) ≡ weigh w (timed_of (sent_messages sys h e)) + rest
 
 sequence-parts : (sys : System) (h : List Event) (family : Family) → IsWellFormedSystem sys → IsLegal sys h → IsDenotation sys family
     → (e : ℕ) → kind_of sys.flow (sender sys.flow e) ≡ Sequence → IsSequenced sys h family (sender sys.flow e) → (w : Timed → ℕ) → SequenceParts sys h family e w
@@ -171,40 +171,40 @@ sequence-parts sys h family w l den e is s f =
     let xs = in_order (whole sys family p) in
     let first = filter (is_numbered_in h p) xs in
     let rest = filter (not_numbered h p) xs in
-    let n = length (numbered 0 first) in
+    let n = length (numbered_recs 0 first) in
     let z : 0 + n ≡ n = omega arith in
     let as_sent = sequence-sent_by sys h l p is in
     let a = family-weigh sys family den e f
     ∙ ap (λ k. weigh f (outputs_of_kind flow k (batches_of sys p) (map family (in_edges flow p)))) is
-    ∙ ap (λ ys. weigh f (numbered 0 ys)) (numbered_parts sys h family w den p is s)
+    ∙ ap (λ ys. weigh f (numbered_recs 0 ys)) (numbered_parts sys h family w den p is s)
     ∙ ap (weigh f) (numbered-append 0 first rest)
-    ∙ weigh-append f (numbered 0 first) (numbered (0 + n) rest) in
-    let b = ap (λ k. weigh f (numbered k rest)) z in
+    ∙ weigh-append f (numbered_recs 0 first) (numbered_recs (0 + n) rest) in
+    let b = ap (λ k. weigh f (numbered_recs k rest)) z in
     let c = ap (λ ms. weigh f (timed_of ms)) as_sent ∙ s.sent f in
     let counted : n ≡ length (sent_by sys p (events_at flow p h)) =
-    sym (length-weigh (numbered 0 first)) ∙ sym (s.sent (λ r. 1)) ∙ length-messages (sequence_sent (events_at flow p h)) ∙ sym (ap (λ ms. length ms) as_sent) in
-    record { next = n; rest = weigh f (numbered n rest); counted = counted; rested = refl; parts = omega arith }
+    sym (length-weigh (numbered_recs 0 first)) ∙ sym (s.sent (λ r. 1)) ∙ length-messages (sequence_sent (events_at flow p h)) ∙ sym (ap (λ ms. length ms) as_sent) in
+    record { next = n; rest = weigh f (numbered_recs n rest); counted = counted; rested = refl; parts = omega arith }
 
 -- what a sequence sent is a part of what the family has
 pub sequence-fewer : (sys : System) (h : List Event) (family : Family) → IsWellFormedSystem sys → IsLegal sys h → IsDenotation sys family
     → (e : ℕ) → kind_of sys.flow (sender sys.flow e) ≡ Sequence → IsSequenced sys h family (sender sys.flow e) → (w : Timed → ℕ)
-    → weigh w (timed_of (sent sys h e)) ≤ weigh w (family e)
+    → weigh w (timed_of (sent_messages sys h e)) ≤ weigh w (family e)
 sequence-fewer sys h family w l den e is s f = let a = (sequence-parts sys h family w l den e is s f).parts in omega arith
 
 -- what was delivered to a node, and its whole bag
 pub came_as_denoted : (sys : System) (h : List Event) (family : Family) (p : ℕ) → p < length sys.flow.nodes → (u : Stamp)
-    → ((d : ℕ) → receiver sys.flow d ≡ p → (q : Rec) → weigh (one u q) (timed_of (delivered h d)) ≡ weigh (one u q) (family d))
+    → ((d : ℕ) → receiver sys.flow d ≡ p → (q : Rec) → weigh (one u q) (timed_of (delivered_messages h d)) ≡ weigh (one u q) (family d))
     → (q : Rec) → weigh (one u q) (deliveries (events_at sys.flow p h)) ≡ weigh (one u q) (whole sys family p)
 came_as_denoted sys h family p l u k q =
     let flow = sys.flow in
     deliveries-weigh flow p l (one u q) h
-    ∙ weigh-same (λ d. weigh (one u q) (timed_of (delivered h d))) (λ d. weigh (one u q) (family d)) (in_edges flow p)
-    (each_in_edge flow p (λ d. weigh (one u q) (timed_of (delivered h d)) ≡ weigh (one u q) (family d)) (λ d at. k d at q))
+    ∙ weigh-same (λ d. weigh (one u q) (timed_of (delivered_messages h d))) (λ d. weigh (one u q) (family d)) (in_edges flow p)
+    (each_in_edge flow p (λ d. weigh (one u q) (timed_of (delivered_messages h d)) ≡ weigh (one u q) (family d)) (λ d at. k d at q))
     ∙ sym (together-weigh (one u q) family (in_edges flow p))
 
 -- a node that is owed nothing at a stamp where a rec came was notified
 pub paid-notified : (sys : System) (h : List Event) (p : ℕ) (u : Stamp) (q : Rec) → is_notified_kind (kind_of sys.flow p) ≡ true
-    → owed sys h p u ≡ false → 0 < weigh (one u q) (deliveries (events_at sys.flow p h)) → was_notified p u h ≡ true
+    → is_owed_notice sys h p u ≡ false → 0 < weigh (one u q) (deliveries (events_at sys.flow p h)) → was_notified p u h ≡ true
 paid-notified sys h p u q n o l = elim (cases_Bool (was_delivered_to sys.flow p u h)) [
   | inl i ↦ cases (is_notified_kind (kind_of sys.flow p)) (was_delivered_to sys.flow p u h) (was_notified p u h) n i o
   | inr i ↦ let z = none_came sys.flow p u h i q in absurd (omega arith)
@@ -221,7 +221,7 @@ sequence-step : (sys : System) (h : List Event) (family : Family) → IsWellForm
     → (done : ℕ → Frontier) → IsAdmissible sys h done → (e : ℕ) → kind_of sys.flow (sender sys.flow e) ≡ Sequence → IsSequenced sys h family (sender sys.flow e)
     → ((d : ℕ) (u : Stamp) → receiver sys.flow d ≡ sender sys.flow e → IsDenotedAt sys h family done (d, u))
     → (t : Stamp) → phi sys h e (done (sender sys.flow e)) t ≡ true
-    → (q : Rec) → weigh (one t q) (timed_of (sent sys h e)) ≡ weigh (one t q) (family e)
+    → (q : Rec) → weigh (one t q) (timed_of (sent_messages sys h e)) ≡ weigh (one t q) (family e)
 unfolding rest_of not_numbered weigh
 sequence-step sys h family w l den done a e is s ih t i q =
     let flow = sys.flow in
@@ -245,7 +245,7 @@ sequence-step sys h family w l den done a e is s ih t i q =
           let came = came_as_denoted sys h family p (w.flow.senders_declared e (sequence_edge flow e is)) r.at
           (λ k at x. delivered-denoted sys h family l done a k r.at (ih k r.at at) (ap (λ n. done n r.at) at ∙ inside) x) r.rec in
           ap not (paid-notified sys h p r.at r.rec (ap is_notified_kind is) (a.paid p r.at inside) (omega arith)))) in
-          let z : weigh (one t q) (numbered b.next (rest_of sys h family p)) ≡ 0 = ap (λ ys. weigh (one t q) (numbered b.next ys)) none in
+          let z : weigh (one t q) (numbered_recs b.next (rest_of sys h family p)) ≡ 0 = ap (λ ys. weigh (one t q) (numbered_recs b.next ys)) none in
           omega arith
     ]
 
@@ -272,7 +272,7 @@ delivered-read : (sys : System) (h : List Event) (family : Family) → IsWellFor
     → (done : ℕ → Frontier) → IsAdmissible sys h done → (e : ℕ) (t : Stamp) → SendsByStamp sys.flow (kind_of sys.flow (sender sys.flow e))
     → phi sys h e (done (sender sys.flow e)) t ≡ true
     → (d : ℕ) (u s : Stamp) → IsDenotedAt sys h family done (d, u) → receiver sys.flow d ≡ sender sys.flow e → send_stamp sys.flow (sender sys.flow e) u ≡ Some s → leq s t ≡ true
-    → (q : Rec) → weigh (one u q) (timed_of (delivered h d)) ≡ weigh (one u q) (family d)
+    → (q : Rec) → weigh (one u q) (timed_of (delivered_messages h d)) ≡ weigh (one u q) (family d)
 delivered-read sys h family w l den done a e t by i d u s before at sends_at below q =
     let flow = sys.flow in
     let p = sender flow e in
@@ -302,7 +302,7 @@ notified-phi sys h e f t kind is n k i =
 
 -- the sender of the edge is owed nothing at a stamp inside phi, where it is no sequence
 inner-paid : (sys : System) (h : List Event) → (done : ℕ → Frontier) → IsAdmissible sys h done → (e : ℕ) (t : Stamp)
-    → is_inner (kind_of sys.flow (sender sys.flow e)) ≡ true → phi sys h e (done (sender sys.flow e)) t ≡ true → owed sys h (sender sys.flow e) t ≡ false
+    → is_inner (kind_of sys.flow (sender sys.flow e)) ≡ true → phi sys h e (done (sender sys.flow e)) t ≡ true → is_owed_notice sys h (sender sys.flow e) t ≡ false
 inner-paid sys h done a e t is i =
     let p = sender sys.flow e in
     elim (cases_Bool (is_notified_kind (kind_of sys.flow p))) [

@@ -9,7 +9,7 @@ use Rattle.fw_flow.specs.declared.node.Edge.{Edge}
 use Rattle.fw_flow.specs.Dataflow.{System, Dataflow, kind_of, sender, receiver, edges_into, in_edges, batches_of, send_stamp_of_kind}
 use Rattle.fw_flow.specs.WellFormed.{IsWellFormed}
 use Rattle.fw_flow.specs.Walks.{is_looped}
-use Rattle.fw_flow.specs.WholeBags.{Timed, timed, recs_where, in_order, outputs_of_kind, outputs_of}
+use Rattle.fw_flow.specs.WholeBags.{Timed, timed_recs, recs_where, in_order, outputs_of_kind, outputs_of}
 use Rattle.fw_model.specs.Denotation.{Family}
 use Rattle.fw_model.specs.LawsOfDenotation.{RecsAtStampsDecideBag, OutBagsDependOnLesserMeasure}
 use Rattle.fw_model.proofs.TimedLaws.{IsAscendingTimed, ascending-in_order, ascending-filter, how_often_timed, how_often-in_order, same_from_how_often, how_often-filter_in, how_often-filter_out}
@@ -141,12 +141,12 @@ ascending-from_in_order : (xs : List Timed) → in_order xs ≡ xs → IsAscendi
 ascending-from_in_order xs e = subst IsAscendingTimed e (ascending-in_order xs)
 
 -- the part at a stamp is its recs at the stamp
-part-recs : (t : Stamp) (xs : List Timed) → part (same t) xs ≡ timed t (recs_where (same t) xs)
+part-recs : (t : Stamp) (xs : List Timed) → part (same t) xs ≡ timed_recs t (recs_where (same t) xs)
 part-recs t [] = refl
 part-recs t (x ∷ xs) = step (part-recs t xs) (same t x.at) refl
   where
-    step : part (same t) xs ≡ timed t (recs_where (same t) xs) → (b : Bool) → same t x.at ≡ b
-        → cond b (x ∷ part (same t) xs) (part (same t) xs) ≡ timed t (map (λ (r : Timed). r.rec) (cond b (x ∷ part (same t) xs) (part (same t) xs)))
+    step : part (same t) xs ≡ timed_recs t (recs_where (same t) xs) → (b : Bool) → same t x.at ≡ b
+        → cond b (x ∷ part (same t) xs) (part (same t) xs) ≡ timed_recs t (map (λ (r : Timed). r.rec) (cond b (x ∷ part (same t) xs) (part (same t) xs)))
     step ih true e =
         let at : Stamp → Timed = λ s. record { at = s; rec = x.rec } in
         ap (λ y. y ∷ part (same t) xs) (sym (ap at (same-is t x.at e))) ∙ ap (λ ys. at t ∷ ys) ih
@@ -156,7 +156,7 @@ how_often-at : (t : Stamp) (xs ys : List Timed) → recs_where (same t) xs ≡ r
 how_often-at t xs ys e y i =
     let same_recs : recs_where (same y.at) xs ≡ recs_where (same y.at) ys =
     ap (λ s. recs_where (same s) xs) i ∙ e ∙ sym (ap (λ s. recs_where (same s) ys) i) in
-    how_often-part y xs ys (part-recs y.at xs ∙ ap (timed y.at) same_recs ∙ sym (part-recs y.at ys))
+    how_often-part y xs ys (part-recs y.at xs ∙ ap (timed_recs y.at) same_recs ∙ sym (part-recs y.at ys))
 
 pub recs_decide : RecsAtStampsDecideBag
 recs_decide xs ys a b h =

@@ -14,9 +14,9 @@ use Rattle.fw_flow.specs.Dataflow.{greatest_of_kind, System, Dataflow, kind_of, 
 use Rattle.fw_flow.specs.NodeFunction.{sends_of_kind, sends, sent_by}
 use Rattle.fw_flow.specs.Projection.{events_at, sent_count, phi_of_kind, phi}
 use Rattle.fw_flow.specs.WellFormed.{IsWellFormed}
-use Rattle.fw_flow.specs.Message.{less}
+use Rattle.fw_flow.specs.Message.{messages_less}
 use Rattle.fw_flow.proofs.MessageLaws.{less-none}
-use Rattle.fw_model.specs.History.{some_at, delivered, pending, owed, injected_epochs, IsQuiet, IsAdmissible}
+use Rattle.fw_model.specs.History.{some_at, delivered_messages, pending_messages, is_owed_notice, injected_epochs, IsQuiet, IsAdmissible}
 use Rattle.fw_model.specs.LawsOfExistence.{CompleteExists, CompleteIsTheOnlyOne}
 use Rattle.fw_model.proofs.CompleteLaws.{past_edges-idle}
 use Rattle.fw_model.proofs.PhiLaws.{phi-monotone}
@@ -104,11 +104,11 @@ settles top sequence w n (suc fuel) k l = elim (total-less top (sequence (suc k)
 
 -- whether nothing is pending for node p at a stamp
 pub is_quiet : System → List Event → ℕ → Stamp → Bool
-is_quiet sys h p t = each_below (λ e. not (receiver sys.flow e == p) || not (some_at (same t) (pending sys h e))) (length sys.flow.edges)
+is_quiet sys h p t = each_below (λ e. not (receiver sys.flow e == p) || not (some_at (same t) (pending_messages sys h e))) (length sys.flow.edges)
 
 -- whether nothing is owed to node p at a stamp, and a source injected it
 is_paid : System → List Event → ℕ → Stamp → Bool
-is_paid sys h p t = not (owed sys h p t) && (not (is_input_kind (kind_of sys.flow p)) || injected_epochs sys h p t)
+is_paid sys h p t = not (is_owed_notice sys h p t) && (not (is_input_kind (kind_of sys.flow p)) || injected_epochs sys h p t)
 
 -- whether nothing is pending and nothing owed for node p at a stamp, and a source injected it
 is_clear : System → List Event → ℕ → Stamp → Bool
@@ -140,11 +140,11 @@ unfolding sends
 idle-sends_none sys p is [] = refl
 idle-sends_none sys p is (v ∷ vs) = ap (λ k. sends_of_kind sys k vs v ++ sent_by sys p vs) is ∙ idle-sends_none sys p is vs
 
-pub past_edges-quiet : (sys : System) (h : List Event) (e : ℕ) (t : Stamp) → length sys.flow.edges ≤ e → some_at (same t) (pending sys h e) ≡ false
+pub past_edges-quiet : (sys : System) (h : List Event) (e : ℕ) (t : Stamp) → length sys.flow.edges ≤ e → some_at (same t) (pending_messages sys h e) ≡ false
 past_edges-quiet sys h e t l =
     let q = sender sys.flow e in
-    ap (λ ms. some_at (same t) (less ms (delivered h e))) (idle-sends_none sys q (past_edges-idle sys.flow e l) (events_at sys.flow q h))
-    ∙ ap (λ ms. some_at (same t) ms) (less-none (delivered h e))
+    ap (λ ms. some_at (same t) (messages_less ms (delivered_messages h e))) (idle-sends_none sys q (past_edges-idle sys.flow e l) (events_at sys.flow q h))
+    ∙ ap (λ ms. some_at (same t) ms) (less-none (delivered_messages h e))
 
 pub past_edges-phi : (sys : System) (h : List Event) (e : ℕ) (f : Frontier) (t : Stamp) → length sys.flow.edges ≤ e
     → in_domain (bounds_of sys.flow (sender sys.flow e)) t ≡ true → f t ≡ true → phi sys h e f t ≡ true
@@ -165,26 +165,26 @@ unfolding is_quiet
 quiet-at sys h p t k e r = elim (cases_lt e (length sys.flow.edges)) [
   | inr l ↦ past_edges-quiet sys h e t l
   | inl l ↦
-      not-true (some_at (same t) (pending sys h e)) (implies-at (receiver sys.flow e == p) (not (some_at (same t) (pending sys h e)))
-      (each_below-at (λ d. not (receiver sys.flow d == p) || not (some_at (same t) (pending sys h d))) (length sys.flow.edges) k e l)
+      not-true (some_at (same t) (pending_messages sys h e)) (implies-at (receiver sys.flow e == p) (not (some_at (same t) (pending_messages sys h e)))
+      (each_below-at (λ d. not (receiver sys.flow d == p) || not (some_at (same t) (pending_messages sys h d))) (length sys.flow.edges) k e l)
       (eq-eqb (receiver sys.flow e) p r))
 ]
 
 pub quiet-from : (sys : System) (h : List Event) (p : ℕ) (t : Stamp) → IsQuiet sys h p t → is_quiet sys h p t ≡ true
 unfolding is_quiet
 quiet-from sys h p t q =
-    each_below-from (λ d. not (receiver sys.flow d == p) || not (some_at (same t) (pending sys h d))) (length sys.flow.edges)
-    (λ e l. implies-from (receiver sys.flow e == p) (not (some_at (same t) (pending sys h e))) (λ r. ap not (q e (eqb-true (receiver sys.flow e) p r))))
+    each_below-from (λ d. not (receiver sys.flow d == p) || not (some_at (same t) (pending_messages sys h d))) (length sys.flow.edges)
+    (λ e l. implies-from (receiver sys.flow e == p) (not (some_at (same t) (pending_messages sys h e))) (λ r. ap not (q e (eqb-true (receiver sys.flow e) p r))))
 
 clear-quiet : (sys : System) (h : List Event) (p : ℕ) (t : Stamp) → is_clear sys h p t ≡ true → IsQuiet sys h p t
 unfolding is_clear
 clear-quiet sys h p t k = quiet-at sys h p t (and_parts (is_quiet sys h p t) (is_paid sys h p t) k).0
 
-clear-paid : (sys : System) (h : List Event) (p : ℕ) (t : Stamp) → is_clear sys h p t ≡ true → owed sys h p t ≡ false
+clear-paid : (sys : System) (h : List Event) (p : ℕ) (t : Stamp) → is_clear sys h p t ≡ true → is_owed_notice sys h p t ≡ false
 unfolding is_clear is_paid
 clear-paid sys h p t k =
     let a = and_parts (is_quiet sys h p t) (is_paid sys h p t) k in
-    not-true (owed sys h p t) (and_parts (not (owed sys h p t)) (not (is_input_kind (kind_of sys.flow p)) || injected_epochs sys h p t) a.1).0
+    not-true (is_owed_notice sys h p t) (and_parts (not (is_owed_notice sys h p t)) (not (is_input_kind (kind_of sys.flow p)) || injected_epochs sys h p t) a.1).0
 
 clear-source : (sys : System) (h : List Event) (p : ℕ) (t : Stamp) → is_clear sys h p t ≡ true → is_input_kind (kind_of sys.flow p) ≡ true
     → injected_epochs sys h p t ≡ true
@@ -192,14 +192,14 @@ unfolding is_clear is_paid
 clear-source sys h p t k i =
     let a = and_parts (is_quiet sys h p t) (is_paid sys h p t) k in
     implies-at (is_input_kind (kind_of sys.flow p)) (injected_epochs sys h p t)
-    (and_parts (not (owed sys h p t)) (not (is_input_kind (kind_of sys.flow p)) || injected_epochs sys h p t) a.1).1 i
+    (and_parts (not (is_owed_notice sys h p t)) (not (is_input_kind (kind_of sys.flow p)) || injected_epochs sys h p t) a.1).1 i
 
-clear-from : (sys : System) (h : List Event) (p : ℕ) (t : Stamp) → IsQuiet sys h p t → owed sys h p t ≡ false
+clear-from : (sys : System) (h : List Event) (p : ℕ) (t : Stamp) → IsQuiet sys h p t → is_owed_notice sys h p t ≡ false
     → (is_input_kind (kind_of sys.flow p) ≡ true → injected_epochs sys h p t ≡ true) → is_clear sys h p t ≡ true
 unfolding is_clear is_paid
 clear-from sys h p t q o s =
     and_from (is_quiet sys h p t) (is_paid sys h p t) (quiet-from sys h p t q)
-    (and_from (not (owed sys h p t)) (not (is_input_kind (kind_of sys.flow p)) || injected_epochs sys h p t) (ap not o)
+    (and_from (not (is_owed_notice sys h p t)) (not (is_input_kind (kind_of sys.flow p)) || injected_epochs sys h p t) (ap not o)
     (implies-from (is_input_kind (kind_of sys.flow p)) (injected_epochs sys h p t) s))
 
 -- ---- the descent

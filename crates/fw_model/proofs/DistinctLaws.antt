@@ -14,7 +14,7 @@ use Rattle.fw_flow.specs.declared.event.Event.TheVariants.{Inject, Deliver, Noti
 use Rattle.fw_flow.specs.declared.kind.Kind.TheVariants.{Distinct}
 use Rattle.fw_flow.specs.Dataflow.{System, kind_of}
 use Rattle.fw_flow.specs.NodeFunction.{delivered_recs, rec_of_delivery, sends_of_kind, sends, sent_by}
-use Rattle.fw_flow.specs.WholeBags.{Timed, timed, timed_cmp, is_among_timed, distinct_timed}
+use Rattle.fw_flow.specs.WholeBags.{Timed, timed_recs, timed_cmp, is_among_timed, distinct_timed}
 use Rattle.fw_model.proofs.WeightLaws.{weigh, one, one-in, one-out, is_at, is_at-is, at_stamp}
 use Rattle.fw_model.proofs.SentLaws.{timed_of, timed_message}
 use Rattle.fw_model.proofs.ArrivalLaws.{deliveries}
@@ -111,7 +111,7 @@ sign-more zero k false f g e = let i : k + 0 ≡ 1 = omega arith in let s : sign
 sign-more (suc n) k true f g e = let i : k + suc n ≡ suc (suc n) = omega arith in let s : sign (k + suc n) ≡ sign (suc (suc n)) = ap sign i in omega arith
 sign-more (suc n) k false f g e = let a = g refl in absurd (omega arith)
 
-weigh-if_none : (w : Timed → ℕ) (b : Bool) (at : Stamp) (r : Rec) → weigh w (timed at (cond b [] (r ∷ []))) ≡ cond b 0 (w (at_stamp at r))
+weigh-if_none : (w : Timed → ℕ) (b : Bool) (at : Stamp) (r : Rec) → weigh w (timed_recs at (cond b [] (r ∷ []))) ≡ cond b 0 (w (at_stamp at r))
 unfolding weigh
 weigh-if_none w true at r = refl
 weigh-if_none w false at r = omega arith

@@ -18,7 +18,7 @@ use Rattle.fw_flow.specs.WellFormed.{IsWellFormed, IsWellFormedSystem}
 use Rattle.fw_flow.specs.WholeBags.{Timed, outputs_of_kind}
 use Rattle.fw_flow.proofs.Ranks.{ranks-exist}
 use Rattle.fw_model.specs.Denotation.{Family, IsDenotation}
-use Rattle.fw_model.specs.History.{sent, delivered, IsLegal}
+use Rattle.fw_model.specs.History.{sent_messages, delivered_messages, IsLegal}
 use Rattle.fw_model.proofs.LegalLaws.{edge_domains, legal_messages-in_domain}
 use Rattle.fw_model.proofs.CompleteLaws.{past_edges-idle}
 use Rattle.fw_model.proofs.WeightLaws.{weigh, one, one-out}
@@ -160,8 +160,8 @@ messages-weigh_none flow e t q o (m ∷ ms) a =
 
 -- in a legal history nothing was delivered outside the domain of an edge
 pub delivered-in_domain : (sys : System) (h : List Event) → IsWellFormedSystem sys → IsLegal sys h → (e : ℕ) (t : Stamp)
-    → in_domain (bounds_of_edge sys.flow e) t ≡ false → HasNoneAt (timed_of (delivered h e)) t
+    → in_domain (bounds_of_edge sys.flow e) t ≡ false → HasNoneAt (timed_of (delivered_messages h e)) t
 delivered-in_domain sys h w l e t o q =
     let a = delivered-lighter sys h l e (one t q) in
-    let b = messages-weigh_none sys.flow e t q o (sent sys h e) (legal_messages-in_domain sys h w.flow (has_epochs sys w) l e) in
+    let b = messages-weigh_none sys.flow e t q o (sent_messages sys h e) (legal_messages-in_domain sys h w.flow (has_epochs sys w) l e) in
     omega arith

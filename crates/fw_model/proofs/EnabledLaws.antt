@@ -15,13 +15,13 @@ use Rattle.fw_flow.specs.declared.kind.Kind.{Kind}
 use Rattle.fw_flow.specs.declared.kind.Kind.TheVariants.{OutputNumber}
 use Rattle.fw_flow.specs.declared.step.Step.{Step}
 use Rattle.fw_flow.specs.declared.step.Step.TheVariants.{Inject, Deliver, Notify, Progress as ProgressStep, Checkpoint, Persist, Fail, Ack}
-use Rattle.fw_flow.specs.Dataflow.{System, Dataflow, kind_of, policy_of, sender, receiver, bounds_of, batches_of, is_input_kind, is_notified_kind, is_output_kind, is_numbered, places}
+use Rattle.fw_flow.specs.Dataflow.{System, Dataflow, kind_of, policy_of, sender, receiver, bounds_of, batches_of, is_input_kind, is_notified_kind, is_output_kind, is_numbered, node_ids}
 use Rattle.fw_flow.specs.NodeFunction.{delivered_recs}
 use Rattle.fw_flow.specs.Projection.{phi}
 use Rattle.fw_flow.specs.WellFormed.{IsWellFormed}
-use Rattle.fw_model.specs.History.{pending, delivered, was_delivered_to, was_notified, owed, injected_count, IsAdmissible, IsComplete, IsDeliverable, IsNotifiable}
-use Rattle.fw_model.specs.Machine.{Machine, Write, acknowledged, events, no_stamps, front_of, is_failed, bound_of}
-use Rattle.fw_model.specs.Steps.{Effect, quiet, acked, with_event, IsAsked, is_asked, eager_writes, is_asked_for_checkpoints, newest_checkpoint, checkpoint_of, is_in_flight, AcknowledgesOldest, is_one_of, without_lost, with_failed, HasEpoch, HasDelivery, HasSomethingAt, MayAcknowledge, recs_at_output, LeadsTo}
+use Rattle.fw_model.specs.History.{pending_messages, delivered_messages, was_delivered_to, was_notified, is_owed_notice, injected_count, IsAdmissible, IsComplete, IsDeliverable, IsNotifiable}
+use Rattle.fw_model.specs.Machine.{Machine, Write, acknowledged, events, no_stamps, front_of, is_failed, ack_count_of}
+use Rattle.fw_model.specs.Steps.{Effect, silent, acked, with_event, IsAsked, is_asked, eager_writes, is_asked_for_checkpoints, newest_checkpoint, checkpoint_of, is_in_flight, AcknowledgesOldest, is_one_of, without_lost, with_failed, HasEpoch, HasDelivery, HasSomethingAt, MayAcknowledge, recs_at_output, LeadsTo}
 use Rattle.fw_model.proofs.StampLaws.{same-is, same-from}
 use Rattle.fw_model.proofs.CmpLaws.{decided-stamp, decided-front, stamp_total, find_least}
 use Rattle.fw_flow.specs.Message.{is_among, message_cmp}
@@ -62,7 +62,7 @@ inject-decided sys state s =
         | inr l ↦ inr (λ next effect t. let a = t.1.next in let b = t.1.there in omega arith)
         | inl l ↦ elim (cases_Bool (is_failed state s)) [
           | inl e ↦ inr (λ next effect t. two_ways _ e t.2)
-          | inr e ↦ inl (with_event sys state (Injected s x), quiet, (x, record { input = i; next = refl; there = l }, e, refl, refl))
+          | inr e ↦ inl (with_event sys state (Injected s x), silent, (x, record { input = i; next = refl; there = l }, e, refl, refl))
         ]
       ]
     ]
@@ -72,11 +72,11 @@ abbrev MayDeliver : System → List Event → ℕ → Option Stamp → Message �
 MayDeliver sys h e at m = IsDeliverable sys h e m × IsAsked at m.at
 
 deliverable-decided : (sys : System) (h : List Event) (e : ℕ) (m : Message) → Decided (IsDeliverable sys h e m)
-deliverable-decided sys h e m = elim (cases_Bool (is_among m (pending sys h e))) [
+deliverable-decided sys h e m = elim (cases_Bool (is_among m (pending_messages sys h e))) [
   | inr k ↦ inr (λ d. two_ways _ d.is_pending k)
   | inl k ↦ elim (cases_Bool (is_numbered sys.flow e)) [
     | inr n ↦ inl (record { is_pending = k; numbered = λ j. absurd (two_ways _ j n) })
-    | inl n ↦ elim (decided-stamp m.at (length (delivered h e) ∷ [])) [
+    | inl n ↦ elim (decided-stamp m.at (length (delivered_messages h e) ∷ [])) [
       | inl q ↦ inl (record { is_pending = k; numbered = λ j. q })
       | inr q ↦ inr (λ d. q (d.numbered n))
     ]
@@ -95,22 +95,22 @@ deliver-decided sys state e at =
     let P : Message → Type 0 = λ m. MayDeliver sys h e at m in
     elim (cases_Bool (is_failed state (receiver sys.flow e))) [
       | inl f ↦ inr (λ next effect t. two_ways _ f t.2)
-      | inr f ↦ elim (find_least message_total P (may_deliver-decided sys h e at) (pending sys h e)) [
+      | inr f ↦ elim (find_least message_total P (may_deliver-decided sys h e at) (pending_messages sys h e)) [
         | inr none ↦ inr (λ next effect t.
             let k = t.1 in
-            among-each (λ m. P m → ⊥) t.0 (pending sys h e) k.enabled.is_pending none (k.enabled, k.asked))
+            among-each (λ m. P m → ⊥) t.0 (pending_messages sys h e) k.enabled.is_pending none (k.enabled, k.asked))
         | inl w ↦
             let m = w.0 in
             let l = w.1 in
             inl (
               with_event sys state (Delivered e m),
-              quiet,
+              silent,
               (
                 m,
                 record {
                   enabled = l.has.0;
                   asked = l.has.1;
-                  least = λ other i a. among-each (λ y. P y → is_gt (message_cmp m y) ≡ false) other (pending sys h e) i.is_pending l.least (i, a);
+                  least = λ other i a. among-each (λ y. P y → is_gt (message_cmp m y) ≡ false) other (pending_messages sys h e) i.is_pending l.least (i, a);
                 },
                 f,
                 refl,
@@ -139,14 +139,14 @@ came-each P flow p t (Delivered e m ∷ h) k a = elim (or_cases (receiver flow e
 ]
 came-each P flow p t (Notified q s ∷ h) k a = came-each P flow p t h k a
 
-owed-came : (sys : System) (h : List Event) (p : ℕ) (t : Stamp) → owed sys h p t ≡ true
+owed-came : (sys : System) (h : List Event) (p : ℕ) (t : Stamp) → is_owed_notice sys h p t ≡ true
     → (is_notified_kind (kind_of sys.flow p) ≡ true) × (was_delivered_to sys.flow p t h ≡ true)
 owed-came sys h p t k =
     and_parts (is_notified_kind (kind_of sys.flow p)) (was_delivered_to sys.flow p t h)
     (and_parts (is_notified_kind (kind_of sys.flow p) && was_delivered_to sys.flow p t h) (not (was_notified p t h)) k).0
 
 -- what is complete before a node decides whether some admissible family has the stamp complete before it
-complete_before : (sys : System) (h : List Event) (done : ℕ → Frontier) → IsComplete sys h done → (p : ℕ) (t : Stamp) → owed sys h p t ≡ true
+complete_before : (sys : System) (h : List Event) (done : ℕ → Frontier) → IsComplete sys h done → (p : ℕ) (t : Stamp) → is_owed_notice sys h p t ≡ true
     → Decided ((family : ℕ → Frontier) × IsAdmissible sys h family × ((d : ℕ) → receiver sys.flow d ≡ p → phi sys h d (family (sender sys.flow d)) t ≡ true))
 complete_before sys h done c p t o = elim (cases_Bool (follows_all sys h done p t)) [
   | inl k ↦ inl (
@@ -165,11 +165,11 @@ complete_before sys h done c p t o = elim (cases_Bool (follows_all sys h done p 
 ]
 
 notifiable-decided : (sys : System) (h : List Event) (done : ℕ → Frontier) → IsComplete sys h done → (p : ℕ) (t : Stamp) → Decided (IsNotifiable sys h p t)
-notifiable-decided sys h done c p t = elim (cases_Bool (owed sys h p t)) [
+notifiable-decided sys h done c p t = elim (cases_Bool (is_owed_notice sys h p t)) [
   | inr o ↦ inr (λ k. two_ways _ k.is_owed o)
-  | inl o ↦ elim (find_stamp (λ s. lesser s t && owed sys h p s) t) [
+  | inl o ↦ elim (find_stamp (λ s. lesser s t && is_owed_notice sys h p s) t) [
     | inl w ↦
-        let a = and_parts (lesser w.0 t) (owed sys h p w.0) w.2 in
+        let a = and_parts (lesser w.0 t) (is_owed_notice sys h p w.0) w.2 in
         inr (λ k. two_ways _ a.1 (k.none_lesser w.0 a.0))
     | inr none ↦ elim (cases_Bool (each_up_to (is_quiet sys h p) t)) [
       | inr q ↦ inr (λ k. two_ways _ (each_up_to-from (is_quiet sys h p) t (λ s l. quiet-from sys h p s (k.quiet s l))) q)
@@ -177,8 +177,8 @@ notifiable-decided sys h done c p t = elim (cases_Bool (owed sys h p t)) [
         | inr n ↦ inr (λ k. n k.complete)
         | inl w ↦ inl (record {
           is_owed = o;
-          none_lesser = λ s l. false_from_ne_true (owed sys h p s) (λ i.
-              two_ways (lesser s t && owed sys h p s) (and_from (lesser s t) (owed sys h p s) l i) (none s (and_parts (leq s t) (not (leq t s)) l).0));
+          none_lesser = λ s l. false_from_ne_true (is_owed_notice sys h p s) (λ i.
+              two_ways (lesser s t && is_owed_notice sys h p s) (and_from (lesser s t) (is_owed_notice sys h p s) l i) (none s (and_parts (leq s t) (not (leq t s)) l).0));
           quiet = λ s l. quiet-at sys h p s (each_up_to-at (is_quiet sys h p) t s q l);
           complete = w;
         })
@@ -214,7 +214,7 @@ notify-decided sys state wf p at =
             let l = w.1 in
             inl (
               with_event sys state (Notified p t),
-              quiet,
+              silent,
               (
                 t,
                 record {
@@ -264,7 +264,7 @@ progress-decided sys state wf =
       | inl w ↦
           let m = w.2 in
           let g = settled-grows sys state c.0 c.1 (record { node = w.0; at = m.0; declared = w.1; live = m.1; complete = m.2; unsettled = m.3 }) in
-          inl (record state { settled = g.0; writes = state.writes ++ eager_writes sys state g.0 (places sys.flow) }, quiet, (c.0, g.0, g.1, refl, refl))
+          inl (record state { settled = g.0; writes = state.writes ++ eager_writes sys state g.0 (node_ids sys.flow) }, silent, (c.0, g.0, g.1, refl, refl))
     ]
 
 pub checkpoint-decided : (sys : System) (state : Machine) (p : ℕ) → DecidedStep sys state (Checkpoint p)
@@ -276,19 +276,19 @@ checkpoint-decided sys state p =
         | inl f ↦ inr (λ next effect t. two_ways _ f t.1)
         | inr f ↦ elim (decided-front old (newest_checkpoint p (no_stamps (bounds_of sys.flow p)) state.writes)) [
           | inl e ↦ inr (λ next effect t. t.2 e)
-          | inr n ↦ inl (record state { writes = state.writes ++ checkpoint_of state p old ∷ [] }, quiet, (a, f, n, refl, refl))
+          | inr n ↦ inl (record state { writes = state.writes ++ checkpoint_of state p old ∷ [] }, silent, (a, f, n, refl, refl))
         ]
       ]
     ]
 
 abbrev any_in_flight : List Write → Bool
-any_in_flight writes = list_any (λ write. is_in_flight write.progress) writes
+any_in_flight writes = list_any (λ write. is_in_flight write.stage) writes
 
 find_oldest : (writes : List Write) → ((next : List Write) × AcknowledgesOldest writes next) ⊎ (any_in_flight writes ≡ false)
 find_oldest [] = inr refl
-find_oldest (w ∷ ws) = elim (cases_Bool (is_in_flight w.progress)) [
+find_oldest (w ∷ ws) = elim (cases_Bool (is_in_flight w.stage)) [
   | inl f ↦ inl (
-    record w { progress = acknowledged } ∷ ws,
+    record w { stage = acknowledged } ∷ ws,
     record {
       earlier = [];
       oldest = w;
@@ -300,7 +300,7 @@ find_oldest (w ∷ ws) = elim (cases_Bool (is_in_flight w.progress)) [
     },
   )
   | inr f ↦ elim (find_oldest ws) [
-    | inr n ↦ inr (or_from (is_in_flight w.progress) (any_in_flight ws) f n)
+    | inr n ↦ inr (or_from (is_in_flight w.stage) (any_in_flight ws) f n)
     | inl g ↦
         let a = g.1 in
         inl (
@@ -311,20 +311,20 @@ find_oldest (w ∷ ws) = elim (cases_Bool (is_in_flight w.progress)) [
             later = a.later;
             before = ap (λ xs. w ∷ xs) a.before;
             in_flight = a.in_flight;
-            none_earlier = or_from (is_in_flight w.progress) (any_in_flight a.earlier) f a.none_earlier;
+            none_earlier = or_from (is_in_flight w.stage) (any_in_flight a.earlier) f a.none_earlier;
             after = ap (λ xs. w ∷ xs) a.after;
           },
         )
   ]
 ]
 
-some_in_flight : (earlier : List Write) (oldest : Write) (later : List Write) → is_in_flight oldest.progress ≡ true → any_in_flight (earlier ++ oldest ∷ later) ≡ true
-some_in_flight [] o l k = or_left (is_in_flight o.progress) (any_in_flight l) k
-some_in_flight (w ∷ ws) o l k = or_right (is_in_flight w.progress) (any_in_flight (ws ++ o ∷ l)) (some_in_flight ws o l k)
+some_in_flight : (earlier : List Write) (oldest : Write) (later : List Write) → is_in_flight oldest.stage ≡ true → any_in_flight (earlier ++ oldest ∷ later) ≡ true
+some_in_flight [] o l k = or_left (is_in_flight o.stage) (any_in_flight l) k
+some_in_flight (w ∷ ws) o l k = or_right (is_in_flight w.stage) (any_in_flight (ws ++ o ∷ l)) (some_in_flight ws o l k)
 
 pub persist-decided : (sys : System) (state : Machine) → DecidedStep sys state Persist
 persist-decided sys state = elim (find_oldest state.writes) [
-  | inl g ↦ inl (record state { writes = g.0 }, quiet, (g.0, g.1, refl, refl))
+  | inl g ↦ inl (record state { writes = g.0 }, silent, (g.0, g.1, refl, refl))
   | inr n ↦ inr (λ next effect t.
       let a = t.1 in
       two_ways (any_in_flight state.writes) (ap any_in_flight a.before ∙ some_in_flight a.earlier a.oldest a.later a.in_flight) n)
@@ -333,7 +333,7 @@ persist-decided sys state = elim (find_oldest state.writes) [
 pub fail-decided : (sys : System) (state : Machine) (ps : List ℕ) → DecidedStep sys state (Fail ps)
 fail-decided sys state ps =
     elim (find_place (length sys.flow.nodes) (λ p. (is_one_of p ps ≡ true) × (is_failed state p ≡ false)) decide) [
-      | inl w ↦ inl (record state { failed = with_failed sys state ps; writes = without_lost ps state.writes }, quiet, (w.0, w.1, w.2.0, w.2.1, refl, refl))
+      | inl w ↦ inl (record state { failed = with_failed sys state ps; writes = without_lost ps state.writes }, silent, (w.0, w.1, w.2.0, w.2.1, refl, refl))
       | inr none ↦ inr (λ next effect t. none t.0 t.1 (t.2, t.3))
     ]
   where
@@ -354,9 +354,9 @@ there-decided : (sys : System) (h : List Event) (kind : Kind) (o x : ℕ) → De
 there-decided sys h OutputNumber o x = delivery-decided sys h o (same (x ∷ []))
 there-decided sys h kind o x = decided-or (epoch-decided sys.batches x) (delivery-decided sys h o (leq (x ∷ [])))
 
-acknowledge-decided : (sys : System) (state : Machine) (o : ℕ) → Decided (MayAcknowledge sys state o (bound_of state o))
+acknowledge-decided : (sys : System) (state : Machine) (o : ℕ) → Decided (MayAcknowledge sys state o (ack_count_of state o))
 acknowledge-decided sys state o =
-    let x = bound_of state o in
+    let x = ack_count_of state o in
     elim (decided-below o (length sys.flow.nodes)) [
       | inr n ↦ inr (λ k. n k.declared)
       | inl d ↦ elim (cases_Bool (is_output_kind (kind_of sys.flow o))) [
@@ -376,8 +376,8 @@ acknowledge-decided sys state o =
 
 pub ack-decided : (sys : System) (state : Machine) (o : ℕ) → DecidedStep sys state (Ack o)
 ack-decided sys state o =
-    let x = bound_of state o in
+    let x = ack_count_of state o in
     elim (acknowledge-decided sys state o) [
-      | inl m ↦ inl (record state { bounds = slice_set state.bounds o (x + 1) }, acked o (x ∷ []) (recs_at_output sys state o x), (x, m, refl, refl))
+      | inl m ↦ inl (record state { ack_counts = slice_set state.ack_counts o (x + 1) }, acked o (x ∷ []) (recs_at_output sys state o x), (x, m, refl, refl))
       | inr n ↦ inr (λ next effect t. n (subst (λ y. MayAcknowledge sys state o y) t.1.next t.1))
     ]

@@ -4,7 +4,7 @@ use Rattle.std.specs.List.{AllByRecursion, list_any, flat_map}
 use Rattle.std.proofs.lemmas.Bool.{or_parts, or_from, cond-true, cond-false, cond_both, cases_Bool}
 use Rattle.fw_flow.specs.Counting.{how_many}
 use Rattle.fw_flow.specs.declared.event.Message.{Message}
-use Rattle.fw_flow.specs.Message.{less}
+use Rattle.fw_flow.specs.Message.{messages_less}
 use Rattle.fw_flow.proofs.MessageLaws.{filter-less}
 use Rattle.fw_time.proofs.EachLaws.{each-one}
 
@@ -94,9 +94,9 @@ flat_map-filter g k (x ∷ xs) a = elim (cases_Bool (k x)) [
 -- Of what was sent one test keeps some, of what was delivered another, which keeps less there: of what is pending then, the
 -- second keeps what both keep of what was pending.
 pub pending-kept : (inside from : Message → Bool) (ms ds : List Message) → AllByRecursion (λ d. inside d ≡ true → from d ≡ true) ds
-    → filter inside (less (filter from ms) (filter inside ds)) ≡ filter inside (filter from (less ms ds))
+    → filter inside (messages_less (filter from ms) (filter inside ds)) ≡ filter inside (filter from (messages_less ms ds))
 pending-kept inside from ms ds a =
     filter-less inside (filter from ms) (filter inside ds)
-    ∙ ap (less (filter inside (filter from ms))) (filter-inner inside inside ds (each-one (λ d. inside d ≡ true → inside d ≡ true) ds (λ d i. i)) ∙ sym (filter-inner inside from ds a))
+    ∙ ap (messages_less (filter inside (filter from ms))) (filter-inner inside inside ds (each-one (λ d. inside d ≡ true → inside d ≡ true) ds (λ d i. i)) ∙ sym (filter-inner inside from ds a))
     ∙ sym (filter-less inside (filter from ms) (filter from ds))
     ∙ ap (filter inside) (sym (filter-less from ms ds))

@@ -15,15 +15,15 @@ use Rattle.fw_flow.specs.declared.choice.Cut.TheVariants.{Present, At}
 use Rattle.fw_flow.specs.declared.event.Event.{Event}
 use Rattle.fw_flow.specs.declared.event.Message.{Message}
 use Rattle.fw_flow.specs.Dataflow.{System, Dataflow, kind_of, policy_of, sender, receiver, bounds_of, bounds_of_domain}
-use Rattle.fw_flow.specs.NodeFunction.{place, stamp}
+use Rattle.fw_flow.specs.NodeFunction.{event_node, event_stamp}
 use Rattle.fw_flow.specs.Projection.{phi}
 use Rattle.fw_flow.specs.WellFormed.{IsWellFormed}
-use Rattle.fw_model.specs.History.{delivered, IsLegal}
-use Rattle.fw_model.specs.Machine.{Machine, Numbered, events, front_of}
+use Rattle.fw_model.specs.History.{delivered_messages, IsLegal}
+use Rattle.fw_model.specs.Machine.{Machine, SerialEvent, events, front_of}
 use Rattle.fw_flow.specs.declared.choice.Choice.{Choice}
-use Rattle.fw_model.specs.Choice.{cut_of, note_of, kept_of, filtered}
+use Rattle.fw_model.specs.Choice.{cut_of, notice_of, kept_of, filtered_history}
 use Rattle.fw_model.specs.LawsOfFiltering.{ConsistentMeetsInclusions, FilteredHistoryIsLegal}
-use Rattle.fw_model.specs.Covers.{stamp_of_notice, set_of, takes_its_cut, takes_its_notes, covers_in}
+use Rattle.fw_model.specs.Covers.{stamp_of_notice, set_of, takes_its_cut, takes_its_notices, covers_in}
 use Rattle.fw_model.proofs.PhiLaws.{phi-monotone}
 use Rattle.fw_model.proofs.MeetLaws.{phi-everything}
 use Rattle.fw_model.proofs.LegalLaws.{edge_domains}
@@ -33,12 +33,12 @@ use Rattle.fw_flow.specs.Restoring.{way_of}
 
 -- ---- the kept events
 
-pub filtered-events : (sys : System) (choice : Choice) (h : List Numbered) → events (filtered sys choice h) ≡ kept_events sys.flow (kept_of sys.flow choice) (events h)
+pub filtered-events : (sys : System) (choice : Choice) (h : List SerialEvent) → events (filtered_history sys choice h) ≡ kept_events sys.flow (kept_of sys.flow choice) (events h)
 filtered-events sys choice [] = refl
-filtered-events sys choice (v ∷ h) = by (kept_of sys.flow choice (place sys.flow v.event) (stamp v.event)) (filtered-events sys choice h)
+filtered-events sys choice (v ∷ h) = by (kept_of sys.flow choice (event_node sys.flow v.event) (event_stamp v.event)) (filtered-events sys choice h)
   where
-    by : (b : Bool) → events (filtered sys choice h) ≡ kept_events sys.flow (kept_of sys.flow choice) (events h)
-        → events (cond b (v ∷ filtered sys choice h) (filtered sys choice h)) ≡ cond b (v.event ∷ kept_events sys.flow (kept_of sys.flow choice) (events h)) (kept_events sys.flow (kept_of sys.flow choice) (events h))
+    by : (b : Bool) → events (filtered_history sys choice h) ≡ kept_events sys.flow (kept_of sys.flow choice) (events h)
+        → events (cond b (v ∷ filtered_history sys choice h) (filtered_history sys choice h)) ≡ cond b (v.event ∷ kept_events sys.flow (kept_of sys.flow choice) (events h)) (kept_events sys.flow (kept_of sys.flow choice) (events h))
     by true e = ap (λ vs. v.event ∷ vs) e
     by false e = e
 
@@ -85,17 +85,17 @@ flagged true b f fr ss = each-any ss
 flagged false b f fr ss = covered b f fr ss
 
 delivered-covered : (sys : System) (state : Machine) (d : ℕ) (cut : Cut)
-    → AllByRecursion (λ (m : Message). set_of sys.flow (receiver sys.flow d) cut m.at ≡ true → (covers_in sys state).delivered d cut m.at ≡ true) (delivered (events state.history) d)
+    → AllByRecursion (λ (m : Message). set_of sys.flow (receiver sys.flow d) cut m.at ≡ true → (covers_in sys state).delivered d cut m.at ≡ true) (delivered_messages (events state.history) d)
 delivered-covered sys state d Present =
     let b = bounds_of sys.flow (receiver sys.flow d) in
-    each-at (λ s. everything b s ≡ true → (covers_in sys state).delivered d Present s ≡ true) (delivered (events state.history) d)
-    (covered b (everything b) (everything-frontier b) (map (λ (m : Message). m.at) (delivered (events state.history) d)))
+    each-at (λ s. everything b s ≡ true → (covers_in sys state).delivered d Present s ≡ true) (delivered_messages (events state.history) d)
+    (covered b (everything b) (everything-frontier b) (map (λ (m : Message). m.at) (delivered_messages (events state.history) d)))
 delivered-covered sys state d (At f) =
     let p = receiver sys.flow d in
     let b = bounds_of sys.flow p in
-    each-at (λ s. frontier_of b f s ≡ true → (covers_in sys state).delivered d (At f) s ≡ true) (delivered (events state.history) d)
+    each-at (λ s. frontier_of b f s ≡ true → (covers_in sys state).delivered d (At f) s ≡ true) (delivered_messages (events state.history) d)
     (flagged (takes_its_cut (way_of sys.flow p)) b (frontier_of b f) (frontier-closed b f)
-    (map (λ (m : Message). m.at) (delivered (events state.history) d)))
+    (map (λ (m : Message). m.at) (delivered_messages (events state.history) d)))
 
 notified-covered : (sys : System) (state : Machine) (p : ℕ) (cut : Cut)
     → AllByRecursion (λ t. set_of sys.flow p cut t ≡ true → (covers_in sys state).notified p cut t ≡ true) (flat_map (stamp_of_notice p) (events state.history))
@@ -104,7 +104,7 @@ notified-covered sys state p Present =
     covered b (everything b) (everything-frontier b) (flat_map (stamp_of_notice p) (events state.history))
 notified-covered sys state p (At f) =
     let b = bounds_of sys.flow p in
-    flagged (takes_its_notes (kind_of sys.flow p) (policy_of sys.flow p)) b (frontier_of b f) (frontier-closed b f) (flat_map (stamp_of_notice p) (events state.history))
+    flagged (takes_its_notices (kind_of sys.flow p) (policy_of sys.flow p)) b (frontier_of b f) (frontier-closed b f) (flat_map (stamp_of_notice p) (events state.history))
 
 -- ---- past the last node and the last edge
 
@@ -117,9 +117,9 @@ past-edge flow e l =
 past-kept : (sys : System) (choice : Choice) (p : ℕ) → length choice.cuts ≤ p → Within (everything (bounds_of sys.flow p)) (kept_of sys.flow choice p)
 past-kept sys choice p l t k = ap (λ c. set_of sys.flow p c t) (get_or_past choice.cuts p Present l) ∙ k
 
-past-note : (sys : System) (choice : Choice) (p : ℕ) → length choice.notes ≤ p → Within (everything (bounds_of sys.flow p)) (note_of sys.flow choice p)
-past-note sys choice p l t k =
-    ap (λ os. frontier_of (bounds_of sys.flow p) os t) (get_or_past choice.notes p [] l) ∙ and_from (in_domain (bounds_of sys.flow p) t) true k refl
+past-notice : (sys : System) (choice : Choice) (p : ℕ) → length choice.notices ≤ p → Within (everything (bounds_of sys.flow p)) (notice_of sys.flow choice p)
+past-notice sys choice p l t k =
+    ap (λ os. frontier_of (bounds_of sys.flow p) os t) (get_or_past choice.notices p [] l) ∙ and_from (in_domain (bounds_of sys.flow p) t) true k refl
 
 -- phi of all that the sender can keep holds each stamp of the receiver
 all-phi : (sys : System) (h : List Event) → IsWellFormed sys.flow → (e : ℕ) (g : Frontier) → Within (everything (bounds_of sys.flow (sender sys.flow e))) g
@@ -134,20 +134,20 @@ all-phi sys h w e g i u d =
 pub consistent-meets : ConsistentMeetsInclusions
 consistent-meets sys state lost view choice c = record {
   one_cut_each = c.one_cut_each;
-  one_note_each = c.one_note_each;
+  one_notice_each = c.one_notice_each;
   delivered = c.delivered;
   notified = c.notified;
   own = c.own;
-  notes = c.notes;
+  notices = c.notices;
 }
 
 pub choice-consistent : (sys : System) (state : Machine) (choice : Choice) → IsWellFormed sys.flow → MeetsInclusions sys state choice
-    → IsConsistentlyKept sys (events state.history) (kept_of sys.flow choice) (note_of sys.flow choice)
+    → IsConsistentlyKept sys (events state.history) (kept_of sys.flow choice) (notice_of sys.flow choice)
 choice-consistent sys state choice w c =
     let flow = sys.flow in
     let h = events state.history in
     let frontier : (p : ℕ) → IsFrontier (bounds_of flow p) (kept_of sys.flow choice p) = λ p. set-frontier sys p (cut_of choice p) in
-    let noted : (p : ℕ) → IsFrontier (bounds_of flow p) (note_of sys.flow choice p) = λ p. frontier-closed (bounds_of flow p) (front_of choice.notes p) in
+    let noted : (p : ℕ) → IsFrontier (bounds_of flow p) (notice_of sys.flow choice p) = λ p. frontier-closed (bounds_of flow p) (front_of choice.notices p) in
     record {
       kept = frontier;
       noted = noted;
@@ -155,33 +155,33 @@ choice-consistent sys state choice w c =
           let r = receiver flow e in
           let q = sender flow e in
           each-weaker (λ (m : Message). kept_of sys.flow choice r m.at ≡ true → (covers_in sys state).delivered e (cut_of choice r) m.at ≡ true)
-          (λ m. kept_of sys.flow choice r m.at ≡ true → phi sys h e (kept_of sys.flow choice q) m.at ≡ true) (delivered h e)
+          (λ m. kept_of sys.flow choice r m.at ≡ true → phi sys h e (kept_of sys.flow choice q) m.at ≡ true) (delivered_messages h e)
           (λ m a i. elim (cases_lt e (length flow.edges)) [
             | inl l ↦ c.delivered e l m.at (a i)
             | inr l ↦ all-phi sys h w e (kept_of sys.flow choice q) (past-kept sys choice q (omega (arith, past-edge flow e l, c.one_cut_each))) m.at ((frontier r).inside_domain m.at i)
           ])
           (delivered-covered sys state e (cut_of choice r));
       notified = λ p.
-          each-weaker (λ t. kept_of sys.flow choice p t ≡ true → (covers_in sys state).notified p (cut_of choice p) t ≡ true) (λ t. kept_of sys.flow choice p t ≡ true → note_of sys.flow choice p t ≡ true)
+          each-weaker (λ t. kept_of sys.flow choice p t ≡ true → (covers_in sys state).notified p (cut_of choice p) t ≡ true) (λ t. kept_of sys.flow choice p t ≡ true → notice_of sys.flow choice p t ≡ true)
           (flat_map (stamp_of_notice p) h)
           (λ t a i. elim (cases_lt p (length flow.nodes)) [
             | inl l ↦ c.notified p l t (a i)
-            | inr l ↦ past-note sys choice p (omega (arith, c.one_note_each)) t ((frontier p).inside_domain t i)
+            | inr l ↦ past-notice sys choice p (omega (arith, c.one_notice_each)) t ((frontier p).inside_domain t i)
           ])
           (notified-covered sys state p (cut_of choice p));
       own = λ p t i. elim (cases_lt p (length flow.nodes)) [
         | inl l ↦ c.own p l t i
         | inr l ↦ past-kept sys choice p (omega (arith, c.one_cut_each)) t ((noted p).inside_domain t i)
       ];
-      notes = λ e u i. elim (cases_lt e (length flow.edges)) [
-        | inl l ↦ c.notes e l u i
+      notices = λ e u i. elim (cases_lt e (length flow.edges)) [
+        | inl l ↦ c.notices e l u i
         | inr l ↦
             let q = sender flow e in
-            all-phi sys h w e (note_of sys.flow choice q) (past-note sys choice q (omega (arith, past-edge flow e l, c.one_note_each))) u ((noted (receiver flow e)).inside_domain u i)
+            all-phi sys h w e (notice_of sys.flow choice q) (past-notice sys choice q (omega (arith, past-edge flow e l, c.one_notice_each))) u ((noted (receiver flow e)).inside_domain u i)
       ];
     }
 
 pub filtered-legal : FilteredHistoryIsLegal
 filtered-legal sys state choice w b l c =
     subst (IsLegal sys) (sym (filtered-events sys choice state.history))
-    (kept-legal sys (events state.history) (kept_of sys.flow choice) (note_of sys.flow choice) w b l (choice-consistent sys state choice w c))
+    (kept-legal sys (events state.history) (kept_of sys.flow choice) (notice_of sys.flow choice) w b l (choice-consistent sys state choice w c))

@@ -11,13 +11,13 @@ use Rattle.fw_flow.specs.declared.kind.Policy.{Policy}
 use Rattle.fw_flow.specs.declared.kind.Policy.TheVariants as policy
 use Rattle.fw_flow.specs.declared.step.Step.{Step}
 use Rattle.fw_flow.specs.declared.step.Step.TheVariants.{Inject, Deliver, Notify, Progress as ProgressStep, Checkpoint, Persist, Fail, Recover, Collect, Ack}
-use Rattle.fw_flow.specs.Dataflow.{System, kind_of, policy_of, receiver, bounds_of, places}
-use Rattle.fw_flow.specs.NodeFunction.{place, stamp}
+use Rattle.fw_flow.specs.Dataflow.{System, kind_of, policy_of, receiver, bounds_of, node_ids}
+use Rattle.fw_flow.specs.NodeFunction.{event_node, event_stamp}
 use Rattle.fw_flow.specs.WellFormed.{IsWellFormed, IsWellFormedSystem}
 use Rattle.fw_model.specs.History.{IsEnabled}
-use Rattle.fw_model.specs.Machine.{Machine, Numbered, Write, Written, checkpoint, logged_event, Progress, in_flight, acknowledged, collected, events, first_state, front_of, is_failed}
+use Rattle.fw_model.specs.Machine.{Machine, SerialEvent, Write, Written, checkpoint, logged_event, Stage, in_flight, acknowledged, collected, events, first_state, front_of, is_failed}
 use Rattle.fw_flow.specs.declared.choice.Choice.{Choice}
-use Rattle.fw_model.specs.Choice.{kept, ever, counts, IsLogged, IsRestorable, IsCandidate, cut_of, kept_of, IsConsistent, filtered}
+use Rattle.fw_model.specs.Choice.{kept, ever, is_counted, IsLogged, IsRestorable, IsCandidate, cut_of, kept_of, IsConsistent, filtered_history}
 use Rattle.fw_model.specs.Steps.{Effect, Outcome, did, idle, LeadsTo, Run, write_of_event, with_event, checkpoint_of, is_eager, is_one_of, is_in_flight, is_kept_write, front_of_cut, is_given_up, is_serial_given_up, lies_below, after_collection}
 use Rattle.fw_model.specs.LawsOfRestoring.{WhatIsForgottenWasAcknowledged, CollectedIsWhatLiesBelow}
 use Rattle.fw_model.proofs.Decisions.{two_ways}
@@ -36,7 +36,7 @@ use Rattle.fw_time.proofs.EachLaws.{each-weaker, each-both, each-append, each-on
 
 -- the write is in flight
 abbrev Flies : Write → Type 0
-Flies write = is_in_flight write.progress ≡ true
+Flies write = is_in_flight write.stage ≡ true
 
 -- after a write in flight all are in flight
 abbrev AreInOrder : List Write → Type 0
@@ -57,26 +57,26 @@ order-passed test (x ∷ xs) a =
     let rest = order-passed test xs a.1 in
     cond_both (test x) (x ∷ filter test xs) (filter test xs) AreInOrder (λ e. ((λ k. each-passed Flies Flies test xs (λ y i b. b) (a.0 k)), rest)) (λ e. rest)
 
-order-acknowledged : (xs : List Write) (y : Write) (ys : List Write) → list_any (λ write. is_in_flight write.progress) xs ≡ false → AreInOrder (xs ++ y ∷ ys)
-    → AreInOrder (xs ++ record y { progress = acknowledged } ∷ ys)
+order-acknowledged : (xs : List Write) (y : Write) (ys : List Write) → list_any (λ write. is_in_flight write.stage) xs ≡ false → AreInOrder (xs ++ y ∷ ys)
+    → AreInOrder (xs ++ record y { stage = acknowledged } ∷ ys)
 order-acknowledged [] y ys n a = ((λ e. absurd (two_ways false e refl)), a.1)
 order-acknowledged (x ∷ xs) y ys n a =
-    let b = or_parts (is_in_flight x.progress) (list_any (λ write. is_in_flight write.progress) xs) n in
-    ((λ e. absurd (two_ways (is_in_flight x.progress) e b.0)), order-acknowledged xs y ys b.1 a.1)
+    let b = or_parts (is_in_flight x.stage) (list_any (λ write. is_in_flight write.stage) xs) n in
+    ((λ e. absurd (two_ways (is_in_flight x.stage) e b.0)), order-acknowledged xs y ys b.1 a.1)
 
 -- a collection changes no write in flight
-still-flies : (below : Bool) (far : Progress) → is_in_flight (after_collection below far) ≡ is_in_flight far
+still-flies : (below : Bool) (far : Stage) → is_in_flight (after_collection below far) ≡ is_in_flight far
 still-flies below in_flight = refl
 still-flies true acknowledged = refl
 still-flies false acknowledged = refl
 still-flies below collected = refl
 
-order-collected : (below : Write → Bool) (xs : List Write) → AreInOrder xs → AreInOrder (map (λ (x : Write). record x { progress = after_collection (below x) x.progress }) xs)
+order-collected : (below : Write → Bool) (xs : List Write) → AreInOrder xs → AreInOrder (map (λ (x : Write). record x { stage = after_collection (below x) x.stage }) xs)
 order-collected below [] a = tt
 order-collected below (x ∷ xs) a = (
-  λ e. each-map Flies (λ (y : Write). record y { progress = after_collection (below y) y.progress }) xs
-      (each-weaker Flies (λ y. is_in_flight (after_collection (below y) y.progress) ≡ true) xs (λ y k. still-flies (below y) y.progress ∙ k)
-      (a.0 (sym (still-flies (below x) x.progress) ∙ e))),
+  λ e. each-map Flies (λ (y : Write). record y { stage = after_collection (below y) y.stage }) xs
+      (each-weaker Flies (λ y. is_in_flight (after_collection (below y) y.stage) ≡ true) xs (λ y k. still-flies (below y) y.stage ∙ k)
+      (a.0 (sym (still-flies (below x) x.stage) ∙ e))),
   order-collected below xs a.1,
 )
 
@@ -100,16 +100,16 @@ took-order sys state (Notify p at) next effect t a =
     subst HasOrder (sym t.3) (order-append state.writes (write_of_event (policy_of sys.flow p) p state.next) a (event-flies (policy_of sys.flow p) p state.next))
 took-order sys state ProgressStep next effect t a =
     let settled = t.1 in
-    let ps = filter (λ p. is_eager (policy_of sys.flow p) && not (same_front (front_of state.settled p) (front_of settled p))) (places sys.flow) in
+    let ps = filter (λ p. is_eager (policy_of sys.flow p) && not (same_front (front_of state.settled p) (front_of settled p))) (node_ids sys.flow) in
     subst HasOrder (sym t.3) (order-append state.writes (settled_writes state settled ps) a (asked-fly state settled ps))
 took-order sys state (Checkpoint p) next effect t a = subst HasOrder (sym t.3) (order-append state.writes (settled_writes state state.settled (p ∷ [])) a (asked-fly state state.settled (p ∷ [])))
 took-order sys state Persist next effect t a =
     let k = t.1 in
     subst HasOrder (sym t.2) (subst AreInOrder (sym k.after) (order-acknowledged k.earlier k.oldest k.later k.none_earlier (subst AreInOrder k.before a)))
 took-order sys state (Fail ps) next effect t a =
-    subst HasOrder (sym t.4) (order-passed (λ write. not (is_one_of write.node ps && is_in_flight write.progress)) state.writes a)
+    subst HasOrder (sym t.4) (order-passed (λ write. not (is_one_of write.node ps && is_in_flight write.stage)) state.writes a)
 took-order sys state Recover next effect t a =
-    subst HasOrder (sym t.7) (order-passed (λ write. is_kept_write (cut_of t.1 write.node) write.written (filtered sys t.1 state.history)) state.writes a)
+    subst HasOrder (sym t.7) (order-passed (λ write. is_kept_write (cut_of t.1 write.node) write.written (filtered_history sys t.1 state.history)) state.writes a)
 took-order sys state Collect next effect t a =
     let low = map front_of_cut t.0.cuts in
     subst HasOrder (sym t.3) (order-collected (λ write. lies_below sys low state.history write.node write.written) state.writes a)
@@ -136,17 +136,17 @@ each-in P (x ∷ xs) k = (k x (inl refl), each-in P xs (λ y a. k y (inr a)))
 
 -- ---- a checkpoint in flight lies above each that is acknowledged
 
-counts-lands : (far : Progress) → counts ever far ≡ true → is_in_flight far ≡ false
+counts-lands : (far : Stage) → is_counted ever far ≡ true → is_in_flight far ≡ false
 counts-lands in_flight e = absurd (cc)
 counts-lands acknowledged e = refl
 counts-lands collected e = refl
 
 -- the checkpoint is acknowledged, so that it is not in flight
-its-lands : (p : ℕ) (f : Front) (n : ℕ) (w : Written) (far : Progress) → IsCheckpointAt kept p f n w far → is_in_flight far ≡ false
+its-lands : (p : ℕ) (f : Front) (n : ℕ) (w : Written) (far : Stage) → IsCheckpointAt kept p f n w far → is_in_flight far ≡ false
 its-lands p f n (checkpoint g l) far a = counts-lands far (kept-counts far a.2)
 its-lands p f n (logged_event s) far a = absurd a
 
-below-new : (sys : System) (p : ℕ) (f g : Front) (l : List Front) (n : ℕ) (w : Written) (far : Progress) → p < length sys.flow.nodes
+below-new : (sys : System) (p : ℕ) (f g : Front) (l : List Front) (n : ℕ) (w : Written) (far : Stage) → p < length sys.flow.nodes
     → LiesBelow sys n w p (checkpoint g l) → IsCheckpointAt kept p f n w far → Within (frontier_of (bounds_of sys.flow p) f) (frontier_of (bounds_of sys.flow p) g)
 below-new sys p f g l n (checkpoint x m) far i b a =
     subst (λ z. Within (frontier_of (bounds_of sys.flow p) z) (frontier_of (bounds_of sys.flow p) g)) a.1
@@ -154,41 +154,41 @@ below-new sys p f g l n (checkpoint x m) far i b a =
 below-new sys p f g l n (logged_event s) far i b a = absurd a
 
 flying-above : (sys : System) (p : ℕ) (f g : Front) (l : List Front) (xs : List Write) → p < length sys.flow.nodes → AreAscending sys xs → AreInOrder xs
-    → HoldsOfOne (λ (y : Write). y ≡ record { node = p; written = checkpoint g l; progress = in_flight }) xs → HoldsOfOne (IsItsCheckpoint kept p f) xs
+    → HoldsOfOne (λ (y : Write). y ≡ record { node = p; written = checkpoint g l; stage = in_flight }) xs → HoldsOfOne (IsItsCheckpoint kept p f) xs
     → Within (frontier_of (bounds_of sys.flow p) f) (frontier_of (bounds_of sys.flow p) g)
 flying-above sys p f g l [] i a o b c = absurd b
 flying-above sys p f g l (x ∷ xs) i a o (inl b) (inl c) =
-    absurd (two_ways (is_in_flight x.progress) (ap (λ (y : Write). is_in_flight y.progress) b) (its-lands p f x.node x.written x.progress c))
+    absurd (two_ways (is_in_flight x.stage) (ap (λ (y : Write). is_in_flight y.stage) b) (its-lands p f x.node x.written x.stage c))
 flying-above sys p f g l (x ∷ xs) i a o (inl b) (inr c) =
-    let y = some-find (IsItsCheckpoint kept p f) Flies xs c (o.0 (ap (λ (y : Write). is_in_flight y.progress) b)) in
-    absurd (two_ways (is_in_flight y.0.progress) y.2 (its-lands p f y.0.node y.0.written y.0.progress y.1))
+    let y = some-find (IsItsCheckpoint kept p f) Flies xs c (o.0 (ap (λ (y : Write). is_in_flight y.stage) b)) in
+    absurd (two_ways (is_in_flight y.0.stage) y.2 (its-lands p f y.0.node y.0.written y.0.stage y.1))
 flying-above sys p f g l (x ∷ xs) i a o (inr b) (inl c) =
-    let new : Write = record { node = p; written = checkpoint g l; progress = in_flight } in
+    let new : Write = record { node = p; written = checkpoint g l; stage = in_flight } in
     let y = some-find (λ (y : Write). y ≡ new) (λ y. LiesBelow sys x.node x.written y.node y.written) xs b a.0 in
-    below-new sys p f g l x.node x.written x.progress i (subst (λ (z : Write). LiesBelow sys x.node x.written z.node z.written) y.1 y.2) c
+    below-new sys p f g l x.node x.written x.stage i (subst (λ (z : Write). LiesBelow sys x.node x.written z.node z.written) y.1 y.2) c
 flying-above sys p f g l (x ∷ xs) i a o (inr b) (inr c) = flying-above sys p f g l xs i a.1 o.1 b c
 
 -- ---- an event that is logged by a write in flight is logged by no other
 
-logged-lands : (s : ℕ) (w : Written) (far : Progress) → NamesEvent s w far → is_in_flight far ≡ false
+logged-lands : (s : ℕ) (w : Written) (far : Stage) → NamesEvent s w far → is_in_flight far ≡ false
 logged-lands s (checkpoint g l) far a = absurd a
 logged-lands s (logged_event r) far a = counts-lands far a.1
 
-logged-names : (s : ℕ) (w : Written) (far : Progress) → NamesEvent s w far → w ≡ logged_event s
+logged-names : (s : ℕ) (w : Written) (far : Stage) → NamesEvent s w far → w ≡ logged_event s
 logged-names s (checkpoint g l) far a = absurd a
 logged-names s (logged_event r) far a = ap logged_event a.0
 
-flying-alone : (s p : ℕ) (xs : List Write) → ArePairs IsApart xs → HoldsOfOne (λ (y : Write). y ≡ record { node = p; written = logged_event s; progress = in_flight }) xs
+flying-alone : (s p : ℕ) (xs : List Write) → ArePairs IsApart xs → HoldsOfOne (λ (y : Write). y ≡ record { node = p; written = logged_event s; stage = in_flight }) xs
     → HoldsOfOne (LogsEvent s) xs → ⊥
 flying-alone s p [] a b c = b
-flying-alone s p (x ∷ xs) a (inl b) (inl c) = two_ways (is_in_flight x.progress) (ap (λ (y : Write). is_in_flight y.progress) b) (logged-lands s x.written x.progress c)
+flying-alone s p (x ∷ xs) a (inl b) (inl c) = two_ways (is_in_flight x.stage) (ap (λ (y : Write). is_in_flight y.stage) b) (logged-lands s x.written x.stage c)
 flying-alone s p (x ∷ xs) a (inl b) (inr c) =
     let y = some-find (LogsEvent s) (λ (y : Write). IsApart x.node x.written y.node y.written) xs c a.0 in
-    apart-events s x.node x.written y.0.node y.0.written y.2 (ap (λ (z : Write). z.written) b) (logged-names s y.0.written y.0.progress y.1)
+    apart-events s x.node x.written y.0.node y.0.written y.2 (ap (λ (z : Write). z.written) b) (logged-names s y.0.written y.0.stage y.1)
 flying-alone s p (x ∷ xs) a (inr b) (inl c) =
-    let new : Write = record { node = p; written = logged_event s; progress = in_flight } in
+    let new : Write = record { node = p; written = logged_event s; stage = in_flight } in
     let y = some-find (λ (y : Write). y ≡ new) (λ y. IsApart x.node x.written y.node y.written) xs b a.0 in
-    apart-events s x.node x.written y.0.node y.0.written y.2 (logged-names s x.written x.progress c) (ap (λ (z : Write). z.written) y.1)
+    apart-events s x.node x.written y.0.node y.0.written y.2 (logged-names s x.written x.stage c) (ap (λ (z : Write). z.written) y.1)
 flying-alone s p (x ∷ xs) a (inr b) (inr c) = flying-alone s p xs a.1 b c
 
 -- ---- nothing below is in flight
@@ -200,13 +200,13 @@ offered-low sys state choice c p l = subst (λ cut. IsCandidate sys state (λ q.
 
 below-lands : (sys : System) → IsWellFormed sys.flow → (state : Machine) → CanRecoverAndRestore sys state → HasOrder state → (choice : Choice)
     → IsConsistent sys state (IsCandidate sys state (λ p. true) kept) choice → (p : ℕ) (w : Written)
-    → HoldsOfOne (λ (y : Write). y ≡ record { node = p; written = w; progress = in_flight }) state.writes
+    → HoldsOfOne (λ (y : Write). y ≡ record { node = p; written = w; stage = in_flight }) state.writes
     → lies_below sys (map front_of_cut choice.cuts) state.history p w ≡ true → ⊥
 below-lands sys w state r o choice c p (checkpoint g l) has k =
     let low = map front_of_cut choice.cuts in
     let b = bounds_of sys.flow p in
     let f = front_of low p in
-    let y = some-find (λ (y : Write). y ≡ record { node = p; written = checkpoint g l; progress = in_flight })
+    let y = some-find (λ (y : Write). y ≡ record { node = p; written = checkpoint g l; stage = in_flight })
     (IsWriteAskedWell sys state.low state.next state.history) state.writes has r.restore.asked in
     let well = subst (λ (z : Write). IsWriteAskedWell sys state.low state.next state.history z) y.1 y.2 in
     let n = takes-declared sys.flow p well.0 in
@@ -222,35 +222,35 @@ below-lands sys w state r o choice c p (logged_event s) has k =
     let low = map front_of_cut choice.cuts in
     let b = bounds_of sys.flow p in
     let f = frontier_of b (front_of low p) in
-    let y = some-find (λ (y : Write). y ≡ record { node = p; written = logged_event s; progress = in_flight })
+    let y = some-find (λ (y : Write). y ≡ record { node = p; written = logged_event s; stage = in_flight })
     (IsWriteAskedWell sys state.low state.next state.history) state.writes has r.restore.asked in
     let well = subst (λ (z : Write). IsWriteAskedWell sys state.low state.next state.history z) y.1 y.2 in
     let n = full-declared sys.flow p well.3 in
     let offered = offered-low sys state choice c p n in
     let way = full-restoring (kind_of sys.flow p) (policy_of sys.flow p) (w.policies p n) well.3 in
     let restorable = subst (λ x. IsRestorable sys state kept p x (front_of low p)) way offered.1 in
-    let Names : Numbered → Type 0 = λ v. v.serial ≡ s → place sys.flow v.event ≡ p in
-    let Logs : Numbered → Type 0 = λ v. place sys.flow v.event ≡ p → f (stamp v.event) ≡ true → IsLogged v.serial state.writes in
-    let given : Numbered → Bool = λ v. is_given_up sys low (place sys.flow v.event) (stamp v.event) in
+    let Names : SerialEvent → Type 0 = λ v. v.serial ≡ s → event_node sys.flow v.event ≡ p in
+    let Logs : SerialEvent → Type 0 = λ v. event_node sys.flow v.event ≡ p → f (event_stamp v.event) ≡ true → IsLogged v.serial state.writes in
+    let given : SerialEvent → Bool = λ v. is_given_up sys low (event_node sys.flow v.event) (event_stamp v.event) in
     let v = any-find (λ v. v.serial == s && given v) (λ v. Names v × Logs v) state.history k
     (each-both Names Logs state.history well.1 (all-logged sys p f state.writes state.history restorable.1)) in
     let i = and_parts (v.0.serial == s) (given v.0) v.1 in
     let is = eqb-true v.0.serial s i.0 in
     let at = v.2.0 is in
-    let inside = given-stamp sys low p (stamp v.0.event) (subst (λ q. is_given_up sys low q (stamp v.0.event) ≡ true) at i.1) in
+    let inside = given-stamp sys low p (event_stamp v.0.event) (subst (λ q. is_given_up sys low q (event_stamp v.0.event) ≡ true) at i.1) in
     flying-alone s p state.writes r.restore.apart has (some-logged s state.writes (subst (λ x. IsLogged x state.writes) is (v.2.1 at inside)))
 
 -- no write below the watermark of a collection is in flight
 below-each : (sys : System) → IsWellFormed sys.flow → (state : Machine) → CanRecoverAndRestore sys state → HasOrder state → (choice : Choice)
     → IsConsistent sys state (IsCandidate sys state (λ p. true) kept) choice
-    → AllByRecursion (λ (x : Write). lies_below sys (map front_of_cut choice.cuts) state.history x.node x.written ≡ true → is_in_flight x.progress ≡ false) state.writes
+    → AllByRecursion (λ (x : Write). lies_below sys (map front_of_cut choice.cuts) state.history x.node x.written ≡ true → is_in_flight x.stage ≡ false) state.writes
 below-each sys w state f o choice c =
     let low = map front_of_cut choice.cuts in
-    each-in (λ (x : Write). lies_below sys low state.history x.node x.written ≡ true → is_in_flight x.progress ≡ false) state.writes
-    (λ x has k. false_from_ne_true (is_in_flight x.progress) (λ i. by x.node x.written x.progress f o c has k i))
+    each-in (λ (x : Write). lies_below sys low state.history x.node x.written ≡ true → is_in_flight x.stage ≡ false) state.writes
+    (λ x has k. false_from_ne_true (is_in_flight x.stage) (λ i. by x.node x.written x.stage f o c has k i))
   where
-    by : (n : ℕ) (v : Written) (far : Progress) → CanRecoverAndRestore sys state → HasOrder state → IsConsistent sys state (IsCandidate sys state (λ p. true) kept) choice
-        → HoldsOfOne (λ (y : Write). y ≡ record { node = n; written = v; progress = far }) state.writes
+    by : (n : ℕ) (v : Written) (far : Stage) → CanRecoverAndRestore sys state → HasOrder state → IsConsistent sys state (IsCandidate sys state (λ p. true) kept) choice
+        → HoldsOfOne (λ (y : Write). y ≡ record { node = n; written = v; stage = far }) state.writes
         → lies_below sys (map front_of_cut choice.cuts) state.history n v ≡ true → is_in_flight far ≡ true → ⊥
     by n v in_flight f o c has k i = below-lands sys w state f o choice c n v has k
     by n v acknowledged f o c has k i = two_ways false i refl
@@ -263,17 +263,17 @@ forgotten-acknowledged sys w steps outcomes last r choice m =
 -- ---- what is collected is what lies below
 
 -- what is written was collected exactly where it lies below the watermark
-abbrev IsExact : System → List Front → List Numbered → ℕ → Written → Progress → Type 0
+abbrev IsExact : System → List Front → List SerialEvent → ℕ → Written → Stage → Type 0
 IsExact sys low h p w far = (far ≡ collected) ↔ (lies_below sys low h p w ≡ true)
 
-abbrev IsWriteExact : System → List Front → List Numbered → Write → Type 0
-IsWriteExact sys low h x = IsExact sys low h x.node x.written x.progress
+abbrev IsWriteExact : System → List Front → List SerialEvent → Write → Type 0
+IsWriteExact sys low h x = IsExact sys low h x.node x.written x.stage
 
 abbrev AreExact : System → Machine → Type 0
 AreExact sys state = AllByRecursion (IsWriteExact sys state.low state.history) state.writes
 
 -- where it lies below in one history as in another
-exact-same : (sys : System) (low : List Front) (h k : List Numbered) (p : ℕ) (w : Written) (far : Progress) → lies_below sys low k p w ≡ lies_below sys low h p w
+exact-same : (sys : System) (low : List Front) (h k : List SerialEvent) (p : ℕ) (w : Written) (far : Stage) → lies_below sys low k p w ≡ lies_below sys low h p w
     → IsExact sys low h p w far → IsExact sys low k p w far
 exact-same sys low h k p w far e a = (λ c. e ∙ a.0 c, λ b. a.1 (sym e ∙ b))
 
@@ -281,23 +281,23 @@ exact-same sys low h k p w far e a = (λ c. e ∙ a.0 c, λ b. a.1 (sym e ∙ b)
 exact-new : (b : Bool) → (b ≡ true → ⊥) → (in_flight ≡ collected) ↔ (b ≡ true)
 exact-new b n = (λ c. absurd (cc c), λ k. absurd (n k))
 
-later-below : (sys : System) (low : List Front) (v : Numbered) (h : List Numbered) (p : ℕ) (w : Written) (far : Progress) → IsAskedWell sys low v.serial h p w far
+later-below : (sys : System) (low : List Front) (v : SerialEvent) (h : List SerialEvent) (p : ℕ) (w : Written) (far : Stage) → IsAskedWell sys low v.serial h p w far
     → lies_below sys low (v ∷ h) p w ≡ lies_below sys low h p w
 later-below sys low v h p (checkpoint g l) far a = refl
 later-below sys low v h p (logged_event s) far a =
     let less = a.0 in
-    let given = is_given_up sys low (place sys.flow v.event) (stamp v.event) in
+    let given = is_given_up sys low (event_node sys.flow v.event) (event_stamp v.event) in
     ap (λ b. b && given || is_serial_given_up sys low s h)
     (false_from_ne_true (v.serial == s) (λ e. let is = eqb-true v.serial s e in absurd (omega arith)))
 
-new-not_below : (sys : System) (low : List Front) (v : Numbered) (h : List Numbered) → AreSerialsBelow v.serial h
-    → at_node sys low (place sys.flow v.event) (stamp v.event) ≡ false → (p : ℕ) → lies_below sys low (v ∷ h) p (logged_event v.serial) ≡ true → ⊥
+new-not_below : (sys : System) (low : List Front) (v : SerialEvent) (h : List SerialEvent) → AreSerialsBelow v.serial h
+    → at_node sys low (event_node sys.flow v.event) (event_stamp v.event) ≡ false → (p : ℕ) → lies_below sys low (v ∷ h) p (logged_event v.serial) ≡ true → ⊥
 new-not_below sys low v h a out p k =
-    let given : Numbered → Bool = λ u. is_given_up sys low (place sys.flow u.event) (stamp u.event) in
+    let given : SerialEvent → Bool = λ u. is_given_up sys low (event_node sys.flow u.event) (event_stamp u.event) in
     elim (or_cases (v.serial == v.serial && given v) (is_serial_given_up sys low v.serial h) k) [
-      | inl i ↦ two_ways _ (given-stamp sys low (place sys.flow v.event) (stamp v.event) (and_parts (v.serial == v.serial) (given v) i).1) out
+      | inl i ↦ two_ways _ (given-stamp sys low (event_node sys.flow v.event) (event_stamp v.event) (and_parts (v.serial == v.serial) (given v) i).1) out
       | inr i ↦
-          let u = any-find (λ u. u.serial == v.serial && given u) (λ (u : Numbered). u.serial < v.serial) h i (serials-each v.serial v.serial h (at_most-refl v.serial) a) in
+          let u = any-find (λ u. u.serial == v.serial && given u) (λ (u : SerialEvent). u.serial < v.serial) h i (serials-each v.serial v.serial h (at_most-refl v.serial) a) in
           let is = eqb-true u.0.serial v.serial (and_parts (u.0.serial == v.serial) (given u.0) u.1).0 in
           let less = u.2 in
           absurd (omega arith)
@@ -306,32 +306,32 @@ new-not_below sys low v h a out p k =
 event-exact : (sys : System) → IsWellFormedSystem sys → (state : Machine) (v : Event) → CanRecoverAndRestore sys state → IsEnabled sys (events state.history) v → AreExact sys state
     → AreExact sys (with_event sys state v)
 event-exact sys w state v f k a =
-    let p = place sys.flow v in
-    let now : Numbered = record { serial = state.next; event = v } in
+    let p = event_node sys.flow v in
+    let now : SerialEvent = record { serial = state.next; event = v } in
     each-append (IsWriteExact sys state.low (now ∷ state.history)) state.writes (write_of_event (policy_of sys.flow p) p state.next)
     (each-weaker (λ (x : Write). IsWriteExact sys state.low state.history x × IsWriteAskedWell sys state.low state.next state.history x)
     (IsWriteExact sys state.low (now ∷ state.history)) state.writes
-    (λ x b. exact-same sys state.low state.history (now ∷ state.history) x.node x.written x.progress
-    (later-below sys state.low now state.history x.node x.written x.progress b.1) b.0)
+    (λ x b. exact-same sys state.low state.history (now ∷ state.history) x.node x.written x.stage
+    (later-below sys state.low now state.history x.node x.written x.stage b.1) b.0)
     (each-both (IsWriteExact sys state.low state.history) (IsWriteAskedWell sys state.low state.next state.history) state.writes a f.restore.asked))
     (asked (policy_of sys.flow p) refl
-    (λ full. event-outside sys state f.recover.notes v w.flow (full-reached sys state w f) f.recover.lie_settled f.recover.watermark k p (full-declared sys.flow p full) refl))
+    (λ full. event-outside sys state f.recover.notices v w.flow (full-reached sys state w f) f.recover.lie_settled f.recover.watermark k p (full-declared sys.flow p full) refl))
   where
-    asked : (pol : Policy) → policy_of sys.flow (place sys.flow v) ≡ pol
-        → (policy_of sys.flow (place sys.flow v) ≡ policy.Full → at_node sys state.low (place sys.flow v) (stamp v) ≡ false)
-        → AllByRecursion (IsWriteExact sys state.low (record { serial = state.next; event = v } ∷ state.history)) (write_of_event pol (place sys.flow v) state.next)
-    asked policy.Full e out = (exact-new _ (new-not_below sys state.low (record { serial = state.next; event = v }) state.history f.restore.serials (out e) (place sys.flow v)), tt)
+    asked : (pol : Policy) → policy_of sys.flow (event_node sys.flow v) ≡ pol
+        → (policy_of sys.flow (event_node sys.flow v) ≡ policy.Full → at_node sys state.low (event_node sys.flow v) (event_stamp v) ≡ false)
+        → AllByRecursion (IsWriteExact sys state.low (record { serial = state.next; event = v } ∷ state.history)) (write_of_event pol (event_node sys.flow v) state.next)
+    asked policy.Full e out = (exact-new _ (new-not_below sys state.low (record { serial = state.next; event = v }) state.history f.restore.serials (out e) (event_node sys.flow v)), tt)
     asked pol e out = tt
 
 -- a checkpoint of what is settled is not below
-settled-not_below : (sys : System) → IsWellFormed sys.flow → (state : Machine) → CanRecoverAndRestore sys state → (p : ℕ) (l : List Front) (far : Progress)
+settled-not_below : (sys : System) → IsWellFormed sys.flow → (state : Machine) → CanRecoverAndRestore sys state → (p : ℕ) (l : List Front) (far : Stage)
     → IsAskedWell sys state.low state.next state.history p (checkpoint (front_of state.settled p) l) far
     → lies_below sys state.low state.history p (checkpoint (front_of state.settled p) l) ≡ true → ⊥
 settled-not_below sys w state f p l far a k =
     let g = front_of state.settled p in
     let low = front_of state.low p in
     let n = takes-declared sys.flow p a.0 in
-    let within = low-within_settled sys state f.recover.notes f.recover.lie_settled f.recover.watermark p n (takes-not_input sys.flow w p a.0) in
+    let within = low-within_settled sys state f.recover.notices f.recover.lie_settled f.recover.watermark p n (takes-not_input sys.flow w p a.0) in
     two_ways (is_within low g) (within-is (bounds_of sys.flow p) low g a.1 within) (not-true (is_within low g) (and_parts (is_within g low) (not (is_within low g)) k).1)
 
 asked-exact : (sys : System) → IsWellFormed sys.flow → (state next : Machine) (settled : List Front) (ps : List ℕ) → CanRecoverAndRestore sys next
@@ -348,7 +348,7 @@ asked-exact sys w state next settled ps g e a =
     (each-weaker (λ p. W (asks p)) (λ p. IsWriteExact sys state.low state.history (asks p)) ps
     (λ p b. exact-new _ (settled-not_below sys w now f p state.low in_flight b)) more)))
 
-acknowledged-exact : (sys : System) (low : List Front) (h : List Numbered) (p : ℕ) (w : Written) (far : Progress) → is_in_flight far ≡ true → IsExact sys low h p w far
+acknowledged-exact : (sys : System) (low : List Front) (h : List SerialEvent) (p : ℕ) (w : Written) (far : Stage) → is_in_flight far ≡ true → IsExact sys low h p w far
     → IsExact sys low h p w acknowledged
 acknowledged-exact sys low h p w in_flight i a = (λ c. absurd (cc c), λ k. let c = a.1 k in absurd (cc c))
 acknowledged-exact sys low h p w acknowledged i a = a
@@ -356,20 +356,20 @@ acknowledged-exact sys low h p w collected i a = absurd (cc)
 
 -- a recovery keeps each event that is given up
 kept-below : (sys : System) (state : Machine) (choice : Choice) → ((p : ℕ) → p < length sys.flow.nodes → Within (at_node sys state.low p) (kept_of sys.flow choice p))
-    → (p : ℕ) (w : Written) (far : Progress) → IsAskedWell sys state.low state.next state.history p w far
-    → lies_below sys state.low (filtered sys choice state.history) p w ≡ lies_below sys state.low state.history p w
+    → (p : ℕ) (w : Written) (far : Stage) → IsAskedWell sys state.low state.next state.history p w far
+    → lies_below sys state.low (filtered_history sys choice state.history) p w ≡ lies_below sys state.low state.history p w
 kept-below sys state choice k p (checkpoint g l) far a = refl
 kept-below sys state choice k p (logged_event s) far a =
     let low = state.low in
-    let given : Numbered → Bool = λ v. is_given_up sys low (place sys.flow v.event) (stamp v.event) in
-    let test : Numbered → Bool = λ v. v.serial == s && given v in
-    let keeps : Numbered → Bool = λ v. kept_of sys.flow choice (place sys.flow v.event) (stamp v.event) in
+    let given : SerialEvent → Bool = λ v. is_given_up sys low (event_node sys.flow v.event) (event_stamp v.event) in
+    let test : SerialEvent → Bool = λ v. v.serial == s && given v in
+    let keeps : SerialEvent → Bool = λ v. kept_of sys.flow choice (event_node sys.flow v.event) (event_stamp v.event) in
     any-filter test keeps state.history
-    (each-weaker (λ (v : Numbered). v.serial ≡ s → place sys.flow v.event ≡ p) (λ v. test v ≡ true → keeps v ≡ true) state.history
+    (each-weaker (λ (v : SerialEvent). v.serial ≡ s → event_node sys.flow v.event ≡ p) (λ v. test v ≡ true → keeps v ≡ true) state.history
     (λ v at e.
     let i = and_parts (v.serial == s) (given v) e in
     let is = at (eqb-true v.serial s i.0) in
-    let t = stamp v.event in
+    let t = event_stamp v.event in
     subst (λ q. kept_of sys.flow choice q t ≡ true) (sym is)
     (k p (full-declared sys.flow p a.3) t (given-stamp sys low p t (subst (λ q. is_given_up sys low q t ≡ true) is i.1)))) a.1)
 
@@ -381,8 +381,8 @@ any-weaker test more (x ∷ xs) w k = elim (or_cases (test x) (list_any test xs)
 ]
 
 -- what lay below lies below the greater watermark
-below-grows : (sys : System) (old low : List Front) (next : ℕ) (h : List Numbered) → LowGrows sys old low
-    → ((p : ℕ) → p < length sys.flow.nodes → IsCanonical (bounds_of sys.flow p) (front_of low p)) → (p : ℕ) (w : Written) (far : Progress)
+below-grows : (sys : System) (old low : List Front) (next : ℕ) (h : List SerialEvent) → LowGrows sys old low
+    → ((p : ℕ) → p < length sys.flow.nodes → IsCanonical (bounds_of sys.flow p) (front_of low p)) → (p : ℕ) (w : Written) (far : Stage)
     → IsAskedWell sys old next h p w far → lies_below sys old h p w ≡ true → lies_below sys low h p w ≡ true
 below-grows sys old low next h g c p (checkpoint f l) far a k =
     let b = bounds_of sys.flow p in
@@ -397,14 +397,14 @@ below-grows sys old low next h g c p (checkpoint f l) far a k =
     let over = is_within-holds b is f e in
     two_ways (is_within was f) (within-is b was f a.1 (λ t j. over t (g p t j))) strict)))
 below-grows sys old low next h g c p (logged_event s) far a k =
-    any-weaker (λ v. v.serial == s && is_given_up sys old (place sys.flow v.event) (stamp v.event))
-    (λ v. v.serial == s && is_given_up sys low (place sys.flow v.event) (stamp v.event)) h
+    any-weaker (λ v. v.serial == s && is_given_up sys old (event_node sys.flow v.event) (event_stamp v.event))
+    (λ v. v.serial == s && is_given_up sys low (event_node sys.flow v.event) (event_stamp v.event)) h
     (λ v e.
-    let i = and_parts (v.serial == s) (is_given_up sys old (place sys.flow v.event) (stamp v.event)) e in
-    and_from (v.serial == s) (is_given_up sys low (place sys.flow v.event) (stamp v.event)) i.0 (given-grows sys old low g (place sys.flow v.event) (stamp v.event) i.1)) k
+    let i = and_parts (v.serial == s) (is_given_up sys old (event_node sys.flow v.event) (event_stamp v.event)) e in
+    and_from (v.serial == s) (is_given_up sys low (event_node sys.flow v.event) (event_stamp v.event)) i.0 (given-grows sys old low g (event_node sys.flow v.event) (event_stamp v.event) i.1)) k
 
-collected-exact : (sys : System) (old low : List Front) (h : List Numbered) (p : ℕ) (w : Written) → (lies_below sys old h p w ≡ true → lies_below sys low h p w ≡ true)
-    → (far : Progress) → (lies_below sys low h p w ≡ true → is_in_flight far ≡ false) → IsExact sys old h p w far
+collected-exact : (sys : System) (old low : List Front) (h : List SerialEvent) (p : ℕ) (w : Written) → (lies_below sys old h p w ≡ true → lies_below sys low h p w ≡ true)
+    → (far : Stage) → (lies_below sys low h p w ≡ true → is_in_flight far ≡ false) → IsExact sys old h p w far
     → IsExact sys low h p w (after_collection (lies_below sys low h p w) far)
 collected-exact sys old low h p w g in_flight n a = exact-new _ (λ k. two_ways true refl (n k))
 collected-exact sys old low h p w g acknowledged n a =
@@ -419,7 +419,7 @@ took-exact sys w state (Deliver e at) next effect f g o t a = subst (AreExact sy
 took-exact sys w state (Notify p at) next effect f g o t a = subst (AreExact sys) (sym t.3) (event-exact sys w state (Notified p t.0) f t.1.enabled a)
 took-exact sys w state ProgressStep next effect f g o t a =
     let settled = t.1 in
-    let ps = filter (λ p. is_eager (policy_of sys.flow p) && not (same_front (front_of state.settled p) (front_of settled p))) (places sys.flow) in
+    let ps = filter (λ p. is_eager (policy_of sys.flow p) && not (same_front (front_of state.settled p) (front_of settled p))) (node_ids sys.flow) in
     asked-exact sys w.flow state next settled ps g t.3 a
 took-exact sys w state (Checkpoint p) next effect f g o t a = asked-exact sys w.flow state next state.settled (p ∷ []) g t.3 a
 took-exact sys w state Persist next effect f g o t a =
@@ -428,34 +428,34 @@ took-exact sys w state Persist next effect f g o t a =
     let P : Write → Type 0 = IsWriteExact sys state.low state.history in
     subst (AreExact sys) (sym t.2)
     (subst (AllByRecursion P) (sym k.after)
-    (each-replaced P k.earlier y (record y { progress = acknowledged }) k.later
-    (λ b. acknowledged-exact sys state.low state.history y.node y.written y.progress k.in_flight b) (subst (AllByRecursion P) k.before a)))
+    (each-replaced P k.earlier y (record y { stage = acknowledged }) k.later
+    (λ b. acknowledged-exact sys state.low state.history y.node y.written y.stage k.in_flight b) (subst (AllByRecursion P) k.before a)))
 took-exact sys w state (Fail ps) next effect f g o t a =
     let P : Write → Type 0 = IsWriteExact sys state.low state.history in
-    subst (AreExact sys) (sym t.4) (each-passed P P (λ write. not (is_one_of write.node ps && is_in_flight write.progress)) state.writes (λ x k b. b) a)
+    subst (AreExact sys) (sym t.4) (each-passed P P (λ write. not (is_one_of write.node ps && is_in_flight write.stage)) state.writes (λ x k b. b) a)
 took-exact sys w state Recover next effect f g o t a =
-    let h = filtered sys t.1 state.history in
+    let h = filtered_history sys t.1 state.history in
     let keeps = low-kept sys state f (is_failed state) t.1 t.5 in
     subst (AreExact sys) (sym t.7)
     (each-passed (λ (x : Write). IsWriteExact sys state.low state.history x × IsWriteAskedWell sys state.low state.next state.history x) (IsWriteExact sys state.low h)
     (λ write. is_kept_write (cut_of t.1 write.node) write.written h) state.writes
-    (λ x k b. exact-same sys state.low state.history h x.node x.written x.progress (kept-below sys state t.1 keeps x.node x.written x.progress b.1) b.0)
+    (λ x k b. exact-same sys state.low state.history h x.node x.written x.stage (kept-below sys state t.1 keeps x.node x.written x.stage b.1) b.0)
     (each-both (IsWriteExact sys state.low state.history) (IsWriteAskedWell sys state.low state.next state.history) state.writes a f.restore.asked))
 took-exact sys w state Collect next effect f g o t a =
     let choice = t.0 in
     let low = map front_of_cut choice.cuts in
     let h = state.history in
     let c = t.1.consistent in
-    let grows = low-grows sys state f.recover.notes choice f.recover.watermark t.1 in
+    let grows = low-grows sys state f.recover.notices choice f.recover.watermark t.1 in
     let canonical : (p : ℕ) → p < length sys.flow.nodes → IsCanonical (bounds_of sys.flow p) (front_of low p) = λ p l. (offered-low sys state choice c p l).0 in
     let W : Write → Type 0 = IsWriteAskedWell sys state.low state.next h in
-    let L : Write → Type 0 = λ x. lies_below sys low h x.node x.written ≡ true → is_in_flight x.progress ≡ false in
+    let L : Write → Type 0 = λ x. lies_below sys low h x.node x.written ≡ true → is_in_flight x.stage ≡ false in
     subst (AreExact sys) (sym t.3)
-    (each-map (IsWriteExact sys low h) (λ (x : Write). record x { progress = after_collection (lies_below sys low h x.node x.written) x.progress }) state.writes
+    (each-map (IsWriteExact sys low h) (λ (x : Write). record x { stage = after_collection (lies_below sys low h x.node x.written) x.stage }) state.writes
     (each-weaker (λ (x : Write). IsWriteExact sys state.low h x × (W x × L x))
-    (λ (x : Write). IsExact sys low h x.node x.written (after_collection (lies_below sys low h x.node x.written) x.progress)) state.writes
+    (λ (x : Write). IsExact sys low h x.node x.written (after_collection (lies_below sys low h x.node x.written) x.stage)) state.writes
     (λ x b. collected-exact sys state.low low h x.node x.written
-    (below-grows sys state.low low state.next h grows canonical x.node x.written x.progress b.1.0) x.progress b.1.1 b.0)
+    (below-grows sys state.low low state.next h grows canonical x.node x.written x.stage b.1.0) x.stage b.1.1 b.0)
     (each-both (IsWriteExact sys state.low h) (λ x. W x × L x) state.writes a
     (each-both W L state.writes f.restore.asked (below-each sys w.flow state f o choice c)))))
 took-exact sys w state (Ack o) next effect f g k t a = subst (AreExact sys) (sym t.2) a

@@ -7,8 +7,8 @@ use Rattle.fw_time.specs.declared.stamp.Bounds.{Bounds}
 use Rattle.fw_time.proofs.EachLaws.{each-filter, each_of-filter}
 use Rattle.fw_time.proofs.StampLaws.{leq-refl}
 use Rattle.fw_frontier.specs.Frontier.{Frontier, IsFrontier}
-use Rattle.fw_frontier.specs.Front.{Front, inside, frontier_of, Names}
-use Rattle.fw_frontier.specs.Outside.{excluding_all}
+use Rattle.fw_frontier.specs.Front.{Front, inside, frontier_of, IsFrontOf}
+use Rattle.fw_frontier.specs.Outside.{front_without_all}
 use Rattle.fw_frontier.proofs.BelowLaws.{names-as}
 use Rattle.fw_frontier.proofs.NamesLaws.{names-until}
 use Rattle.fw_model.specs.LawsOfExistence.{FrontierHasFront}
@@ -48,13 +48,13 @@ outsiders-same b f fr t =
     (λ s d e. false_from_ne_true (leq s t) (λ l. two_ways (out s) e (ap not (fr.closed s t d l k))))))))
 
 -- and they make the list that names the frontier
-pub outsiders-name : (b : Bounds) (f : Frontier) → IsFrontier b f → Names b (excluding_all (outsiders b f) []) f
+pub outsiders-name : (b : Bounds) (f : Frontier) → IsFrontier b f → IsFrontOf b (front_without_all (outsiders b f) []) f
 outsiders-name b f fr =
     let ss = outsiders b f in
-    names-as b (excluding_all ss []) (frontier_of b ss) f
+    names-as b (front_without_all ss []) (frontier_of b ss) f
     (names-until b ss (each-filter (λ s. in_domain b s ≡ true) (λ t. not (f t)) (stamps b.greatest)
     (each_stamp-from (λ s. not (f s) ≡ true → in_domain b s ≡ true) b.greatest (λ s d e. d))))
     (outsiders-same b f fr)
 
 pub has_front : FrontierHasFront
-has_front b f fr = (excluding_all (outsiders b f) [], outsiders-name b f fr)
+has_front b f fr = (front_without_all (outsiders b f) [], outsiders-name b f fr)

@@ -7,19 +7,19 @@ use Rattle.fw_frontier.specs.Frontier.{Frontier, IsFrontier}
 use Rattle.fw_flow.specs.declared.kind.Kind.{Kind}
 use Rattle.fw_flow.specs.declared.kind.Kind.TheVariants.{Enter, Feedback, Leave, Sequence, Regroup}
 use Rattle.fw_flow.specs.Dataflow.{greatest_of_kind, System, kind_of, sender, max_of, greatest_number, domain_of_kind, out_domain_of_kind, bounds_of, bounds_of_domain, is_sequence_kind, bounds_of_edge, Dataflow}
-use Rattle.fw_flow.specs.Projection.{sent_count, first_number_of, phi_of_kind, phi, psi_of_kind, psi}
+use Rattle.fw_flow.specs.Projection.{sent_count, first_coordinate, phi_of_kind, phi, psi_of_kind, psi}
 use Rattle.fw_model.specs.LawsOfProjections.{PhiIsFrontier, PsiIsFrontier, PhiIgnoresHistory}
 use Rattle.fw_model.proofs.StampLaws.{nest-leq, in_loop, loop-leq, leq_from, leq_to, in_line, line-leq, leq-line}
 use Rattle.fw_model.proofs.SendingLaws.{each_counter-at, each_counter-from, some_counter-at, some_counter-from}
 
 -- the numbers of two stamps of one coordinate
-line-numbers : (g : ℕ) (s u : Stamp) → leq s (g ∷ []) ≡ true → leq u (g ∷ []) ≡ true → leq s u ≡ true → first_number_of s ≤ first_number_of u
+line-numbers : (g : ℕ) (s u : Stamp) → leq s (g ∷ []) ≡ true → leq u (g ∷ []) ≡ true → leq s u ≡ true → first_coordinate s ≤ first_coordinate u
 line-numbers g s u i j l =
     let v = in_line s g i in
     let w = in_line u g j in
     let q = leq-line v.0 w.0 (leq_to (v.0 ∷ []) u _ w.1 (leq_from s _ u v.1 l)) in
-    let a = ap first_number_of v.1 in
-    let b = ap first_number_of w.1 in
+    let a = ap first_coordinate v.1 in
+    let b = ap first_coordinate w.1 in
     omega arith
 
 feedback-closed : (b : Stamp) (m : ℕ) (f : Frontier) → IsFrontier (record { greatest = nest b m }) f → (s u : Stamp) → leq s (nest b m) ≡ true
@@ -65,12 +65,12 @@ phi_of_kind-closed sys (Leave r) n f fr s u i j l k =
     each_counter-from f s m
     (λ c h. fr.closed (nest s c) (nest u c) (nest-leq s (greatest_number ∷ []) c m i h) (nest-leq s u c c l (omega arith)) (each_counter-at f u m c h k))
 phi_of_kind-closed sys Sequence n f fr s u i j l k =
-    sequence-closed (f (greatest_number ∷ [])) (first_number_of s) (first_number_of u) n (line-numbers greatest_number s u i j l) k
+    sequence-closed (f (greatest_number ∷ [])) (first_coordinate s) (first_coordinate u) n (line-numbers greatest_number s u i j l) k
 phi_of_kind-closed sys (Regroup r) n f fr s u i j l k =
-    let x = min (first_number_of s * r + r - 1) greatest_number in
-    let y = min (first_number_of u * r + r - 1) greatest_number in
-    fr.closed (x ∷ []) (y ∷ []) (line-leq x greatest_number (min-le_right (first_number_of s * r + r - 1) greatest_number))
-    (line-leq x y (group-monotone (first_number_of s) (first_number_of u) r greatest_number (line-numbers greatest_number s u i j l))) k
+    let x = min (first_coordinate s * r + r - 1) greatest_number in
+    let y = min (first_coordinate u * r + r - 1) greatest_number in
+    fr.closed (x ∷ []) (y ∷ []) (line-leq x greatest_number (min-le_right (first_coordinate s * r + r - 1) greatest_number))
+    (line-leq x y (group-monotone (first_coordinate s) (first_coordinate u) r greatest_number (line-numbers greatest_number s u i j l))) k
 phi_of_kind-closed sys kind n f fr s u i j l k = fr.closed s u i l k
 
 psi_of_kind-closed : (flow : Dataflow) (kind : Kind) (f : Frontier) → IsFrontier (bounds_of_domain flow (domain_of_kind flow kind)) f
@@ -93,9 +93,9 @@ psi_of_kind-closed flow (Leave r) f fr s u i j l k =
     some_counter-from f s m w.0 w.1
     (fr.closed (nest s w.0) (nest u w.0) (nest-leq s (greatest_number ∷ []) w.0 m i w.1) (nest-leq s u w.0 w.0 l (omega arith)) w.2)
 psi_of_kind-closed flow (Regroup r) f fr s u i j l k =
-    let x = first_number_of s * r in
-    let y = first_number_of u * r in
-    let h = mul-le-mul_right {m = first_number_of s} {n = first_number_of u} r (line-numbers greatest_number s u i j l) in
+    let x = first_coordinate s * r in
+    let y = first_coordinate u * r in
+    let h = mul-le-mul_right {m = first_coordinate s} {n = first_coordinate u} r (line-numbers greatest_number s u i j l) in
     let g = leq-line y greatest_number (fr.inside_domain (y ∷ []) k) in
     fr.closed (x ∷ []) (y ∷ []) (line-leq x greatest_number (omega arith)) (line-leq x y h) k
 psi_of_kind-closed flow kind f fr s u i j l k = fr.closed s u i l k

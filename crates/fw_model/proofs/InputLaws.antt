@@ -12,9 +12,9 @@ use Rattle.fw_flow.specs.declared.event.Message.{Message}
 use Rattle.fw_flow.specs.declared.kind.Kind.{Kind}
 use Rattle.fw_flow.specs.declared.kind.Kind.TheVariants.{Input}
 use Rattle.fw_flow.specs.Dataflow.{System, kind_of, batches_of, bounds_of, Dataflow, bounds_of_domain, domain_of_kind, greatest_number, is_input_kind}
-use Rattle.fw_flow.specs.NodeFunction.{place, messages_at, messages_at_some, sends_of_kind, sends, sent_by}
-use Rattle.fw_flow.specs.Projection.{events_at, first_number_of}
-use Rattle.fw_flow.specs.WholeBags.{Timed, timed, timed_at_some, timed_batches}
+use Rattle.fw_flow.specs.NodeFunction.{event_node, messages_at, messages_at_some, sends_of_kind, sends, sent_by}
+use Rattle.fw_flow.specs.Projection.{events_at, first_coordinate}
+use Rattle.fw_flow.specs.WholeBags.{Timed, timed_recs, timed_at_some, timed_batches}
 use Rattle.fw_model.specs.History.{injected_count, is_exhausted, injected_epochs, IsLegal}
 use Rattle.fw_model.proofs.WeightLaws.{weigh, weigh-append, one, one-out}
 use Rattle.fw_model.proofs.SentLaws.{timed_of, timed_message}
@@ -52,7 +52,7 @@ pub timed_of-append : (xs ys : List Message) → timed_of (xs ++ ys) ≡ timed_o
 timed_of-append [] ys = refl
 timed_of-append (x ∷ xs) ys = ap (λ l. timed_message x ∷ l) (timed_of-append xs ys)
 
-timed_of-messages_at : (at cause : Stamp) (rs : List Rec) → timed_of (messages_at at cause rs) ≡ timed at rs
+timed_of-messages_at : (at cause : Stamp) (rs : List Rec) → timed_of (messages_at at cause rs) ≡ timed_recs at rs
 timed_of-messages_at at cause [] = refl
 timed_of-messages_at at cause (r ∷ rs) = ap (λ l. record { at = at; rec = r } ∷ l) (timed_of-messages_at at cause rs)
 
@@ -70,7 +70,7 @@ sent-weigh sys p w v vs =
 
 -- the weight of a batch at its epoch
 abbrev pub batch_weight : (Timed → ℕ) → List (List Rec) → ℕ → ℕ
-batch_weight w batches x = weigh w (timed (x ∷ []) (slice_index_or batches x []))
+batch_weight w batches x = weigh w (timed_recs (x ∷ []) (slice_index_or batches x []))
 
 batches-sum : (w : Timed → ℕ) (all batches : List (List Rec)) (k : ℕ) → ((i : ℕ) → i < length batches → slice_index_or all (k + i) [] ≡ slice_index_or batches i [])
     → weigh w (timed_batches k batches) + sum_to k (batch_weight w all) ≡ sum_to (k + length batches) (batch_weight w all)
@@ -79,13 +79,13 @@ batches-sum w all [] k a = let e : k + 0 ≡ k = omega arith in let g = ap (λ n
 batches-sum w all (b ∷ bs) k a =
     let f = batch_weight w all in
     let n : k + 0 ≡ k = omega arith in
-    let here : f k ≡ weigh w (timed (k ∷ []) b) = ap (λ rs. weigh w (timed (k ∷ []) rs)) (ap (λ i. slice_index_or all i []) (sym n) ∙ a 0 (omega arith)) in
+    let here : f k ≡ weigh w (timed_recs (k ∷ []) b) = ap (λ rs. weigh w (timed_recs (k ∷ []) rs)) (ap (λ i. slice_index_or all i []) (sym n) ∙ a 0 (omega arith)) in
     let h = batches-sum w all bs (k + 1) (λ i l. let e : k + 1 + i ≡ k + suc i = omega arith in ap (λ j. slice_index_or all j []) e ∙ a (suc i) (omega arith)) in
     let s : k + 1 ≡ suc k = omega arith in
     let g : sum_to (k + 1) f ≡ f k + sum_to k f = ap (λ j. sum_to j f) s in
     let u : k + 1 + length bs ≡ k + length (b ∷ bs) = omega arith in
     let j = ap (λ i. sum_to i f) u in
-    let c = weigh-append w (timed (k ∷ []) b) (timed_batches (k + 1) bs) in
+    let c = weigh-append w (timed_recs (k ∷ []) b) (timed_batches (k + 1) bs) in
     omega arith
 
 pub batches-weigh : (w : Timed → ℕ) (batches : List (List Rec)) → weigh w (timed_batches 0 batches) ≡ sum_to (length batches) (batch_weight w batches)
@@ -133,7 +133,7 @@ input-weigh sys p is w (Inject s x ∷ h) l =
           let here : weigh w (timed_of (sends sys p vs (Inject s x))) ≡ f n =
           input-sends sys (kind_of sys.flow p) vs (Inject s x) w is
           ∙ ap (weigh w) (timed_of-messages_at (x ∷ []) (x ∷ []) (slice_index_or (batches_of sys s) x []))
-          ∙ ap (λ q. weigh w (timed (x ∷ []) (slice_index_or (batches_of sys q) x []))) i
+          ∙ ap (λ q. weigh w (timed_recs (x ∷ []) (slice_index_or (batches_of sys q) x []))) i
           ∙ ap f (l.0.next ∙ ap (λ q. injected_count q h) i) in
           let a = sent-weigh sys p w (Inject s x) vs in
           let s1 : n + 1 ≡ suc n = omega arith in
@@ -146,7 +146,7 @@ input-weigh sys p is w (Deliver e m ∷ h) l =
     let r = input-weigh sys p is w h l.1 in
     let here = input-sends sys (kind_of sys.flow p) vs (Deliver e m) w is in
     let a = sent-weigh sys p w (Deliver e m) vs in
-    cond_both (place sys.flow (Deliver e m) == p) (Deliver e m ∷ vs) vs (λ ws. weigh w (timed_of (sent_by sys p ws)) ≡ sum_to (injected_count p h) (batch_weight w (batches_of sys p)))
+    cond_both (event_node sys.flow (Deliver e m) == p) (Deliver e m ∷ vs) vs (λ ws. weigh w (timed_of (sent_by sys p ws)) ≡ sum_to (injected_count p h) (batch_weight w (batches_of sys p)))
     (λ c. omega arith) (λ c. r)
 input-weigh sys p is w (Notify q t ∷ h) l =
     let vs = events_at sys.flow p h in
@@ -157,13 +157,13 @@ input-weigh sys p is w (Notify q t ∷ h) l =
     (λ c. omega arith) (λ c. r)
 
 -- a batch weighs nothing at the stamps of other epochs
-other_epoch : (t : Stamp) (q : Rec) (x : ℕ) (rs : List Rec) → (first_number_of t ≡ x → ⊥) → weigh (one t q) (timed (x ∷ []) rs) ≡ 0
+other_epoch : (t : Stamp) (q : Rec) (x : ℕ) (rs : List Rec) → (first_coordinate t ≡ x → ⊥) → weigh (one t q) (timed_recs (x ∷ []) rs) ≡ 0
 unfolding weigh
 other_epoch t q x [] k = refl
 other_epoch t q x (r ∷ rs) k =
     let h = other_epoch t q x rs k in
     let z = one-out t q (record { at = x ∷ []; rec = r }) (elim (cases_Bool (same t (x ∷ []))) [
-      | inl e ↦ absurd (k (ap first_number_of (same-is t (x ∷ []) e)))
+      | inl e ↦ absurd (k (ap first_coordinate (same-is t (x ∷ []) e)))
       | inr e ↦ ap (λ b. b && is_eq (rec_cmp q r)) e
     ]) in
     omega arith
@@ -194,11 +194,11 @@ input-equal sys p is h l t k q =
     let m = length (batches_of sys p) in
     let a = input-weigh sys p is w h l in
     let b = batches-weigh w (batches_of sys p) in
-    let i = and_parts (in_domain (bounds_of sys.flow p) t) (is_exhausted sys h p || nat_lt (first_number_of t) n) k in
-    elim (or_cases (is_exhausted sys h p) (nat_lt (first_number_of t) n) i.1) [
+    let i = and_parts (in_domain (bounds_of sys.flow p) t) (is_exhausted sys h p || nat_lt (first_coordinate t) n) k in
+    elim (or_cases (is_exhausted sys h p) (nat_lt (first_coordinate t) n) i.1) [
       | inl e ↦ a ∙ ap (λ j. sum_to j f) (eqb-true n m e) ∙ sym b
       | inr e ↦
-          let below = ltb-true (first_number_of t) n e in
+          let below = ltb-true (first_coordinate t) n e in
           let few = injected-few sys h l p in
           let c = sum_to-same (m - n) n f (λ x j. other_epoch t q x (slice_index_or (batches_of sys p) x []) (λ y. omega arith)) in
           let e : m - n + n ≡ m = omega arith in

@@ -10,7 +10,7 @@ use Rattle.fw_time.proofs.EachLaws.{each-one}
 use Rattle.fw_bag.specs.declared.rec.Rec.{Rec}
 use Rattle.fw_bag.specs.Rec.{rec_cmp}
 use Rattle.fw_bag.specs.Bag.{how_often}
-use Rattle.fw_bag.specs.Keyed.{joined, plus}
+use Rattle.fw_bag.specs.Keyed.{joined_rec, plus}
 use Rattle.fw_flow.specs.declared.event.Event.{Event}
 use Rattle.fw_flow.specs.declared.event.Event.TheVariants.{Inject, Deliver, Notify}
 use Rattle.fw_flow.specs.declared.event.Message.{Message}
@@ -18,8 +18,8 @@ use Rattle.fw_flow.specs.declared.kind.Kind.TheVariants.{Join}
 use Rattle.fw_flow.specs.Dataflow.{System, Dataflow, kind_of, receiver, in_edges}
 use Rattle.fw_flow.specs.NodeFunction.{delivered_recs, recs_on_delivery, sends_of_kind, sends, sent_by}
 use Rattle.fw_flow.specs.Projection.{events_at}
-use Rattle.fw_flow.specs.WholeBags.{Timed, timed, recs_where, joined_timed}
-use Rattle.fw_model.specs.History.{delivered}
+use Rattle.fw_flow.specs.WholeBags.{Timed, timed_recs, recs_where, joined_timed}
+use Rattle.fw_model.specs.History.{delivered_messages}
 use Rattle.fw_model.proofs.WeightLaws.{weigh, weigh-flat_map, weigh-same, weigh-none, weigh-lighter, weigh-less, one, at_stamp}
 use Rattle.fw_model.proofs.SentLaws.{timed_of, timed_message}
 use Rattle.fw_model.proofs.ArrivalLaws.{at_edge, in_edges-once}
@@ -31,7 +31,7 @@ use Rattle.fw_model.proofs.StampLaws.{same-is}
 
 -- how often a rec is among the joins of a rec with one other
 abbrev pub of_pair : Rec → Rec → Rec → ℕ
-of_pair x a b = how_often x (joined a (b ∷ []))
+of_pair x a b = how_often x (joined_rec a (b ∷ []))
 
 -- the same at a stamp
 abbrev pub pair : Stamp → Rec → Timed → Timed → ℕ
@@ -41,12 +41,12 @@ pair t x a b = cond (same t a.at && same t b.at) (of_pair x a.rec b.rec) 0
 abbrev pub pairs : Stamp → Rec → List Timed → List Timed → ℕ
 pairs t x ls bs = weigh (λ a. weigh (pair t x a) bs) ls
 
-joined-cons : (x r y : Rec) (ys : List Rec) → how_often x (joined r (y ∷ ys)) ≡ of_pair x r y + how_often x (joined r ys)
+joined-cons : (x r y : Rec) (ys : List Rec) → how_often x (joined_rec r (y ∷ ys)) ≡ of_pair x r y + how_often x (joined_rec r ys)
 joined-cons x r y ys = cases (r.key == y.key)
   where
     cases : (b : Bool) → how_often x (map (λ (z : Rec). record { key = r.key; value = plus r.value z.value }) (cond b (y ∷ filter (λ z. r.key == z.key) ys) (filter (λ z. r.key == z.key) ys)))
-        ≡ how_often x (map (λ (z : Rec). record { key = r.key; value = plus r.value z.value }) (cond b (y ∷ []) [])) + how_often x (joined r ys)
-    cases true = how_often-append x (record { key = r.key; value = plus r.value y.value } ∷ []) (joined r ys)
+        ≡ how_often x (map (λ (z : Rec). record { key = r.key; value = plus r.value z.value }) (cond b (y ∷ []) [])) + how_often x (joined_rec r ys)
+    cases true = how_often-append x (record { key = r.key; value = plus r.value y.value } ∷ []) (joined_rec r ys)
     cases false = omega arith
 
 of_pair-swap : (x a b : Rec) → of_pair x a b ≡ of_pair x b a
@@ -77,18 +77,18 @@ pair-swap : (t : Stamp) (x : Rec) (a b : Timed) → pair t x a b ≡ pair t x b 
 pair-swap t x a b = and_swap (same t a.at) (same t b.at) (of_pair x a.rec b.rec) ∙ ap (λ n. cond (same t b.at && same t a.at) n 0) (of_pair-swap x a.rec b.rec)
 
 joined-where : (x r : Rec) (u : Stamp) (bs : List Timed)
-    → how_often x (joined r (recs_where (same u) bs)) ≡ weigh (λ b. cond (same u b.at) (of_pair x r b.rec) 0) bs
+    → how_often x (joined_rec r (recs_where (same u) bs)) ≡ weigh (λ b. cond (same u b.at) (of_pair x r b.rec) 0) bs
 unfolding weigh
 joined-where x r u [] = refl
 joined-where x r u (b ∷ bs) = cases (same u b.at) (joined-where x r u bs)
   where
-    cases : (c : Bool) → how_often x (joined r (recs_where (same u) bs)) ≡ weigh (λ b. cond (same u b.at) (of_pair x r b.rec) 0) bs
-        → how_often x (joined r (map (λ z. z.rec) (cond c (b ∷ filter (λ z. same u z.at) bs) (filter (λ z. same u z.at) bs))))
+    cases : (c : Bool) → how_often x (joined_rec r (recs_where (same u) bs)) ≡ weigh (λ b. cond (same u b.at) (of_pair x r b.rec) 0) bs
+        → how_often x (joined_rec r (map (λ z. z.rec) (cond c (b ∷ filter (λ z. same u z.at) bs) (filter (λ z. same u z.at) bs))))
         ≡ cond c (of_pair x r b.rec) 0 + weigh (λ b. cond (same u b.at) (of_pair x r b.rec) 0) bs
     cases true h = joined-cons x r b.rec (recs_where (same u) bs) ∙ ap (λ n. of_pair x r b.rec + n) h
     cases false h = h ∙ omega arith
 
-pub weigh-timed : (t at : Stamp) (x : Rec) (rs : List Rec) → weigh (one t x) (timed at rs) ≡ cond (same t at) (how_often x rs) 0
+pub weigh-timed : (t at : Stamp) (x : Rec) (rs : List Rec) → weigh (one t x) (timed_recs at rs) ≡ cond (same t at) (how_often x rs) 0
 unfolding weigh one
 weigh-timed t at x [] = zeros (same t at)
   where
@@ -97,8 +97,8 @@ weigh-timed t at x [] = zeros (same t at)
     zeros false = refl
 weigh-timed t at x (r ∷ rs) = cases (same t at) (is_eq (rec_cmp x r)) (weigh-timed t at x rs)
   where
-    cases : (b c : Bool) → weigh (one t x) (timed at rs) ≡ cond b (how_often x rs) 0
-        → cond (b && c) 1 0 + weigh (one t x) (timed at rs) ≡ cond b (cond c (how_often x rs + 1) (how_often x rs)) 0
+    cases : (b c : Bool) → weigh (one t x) (timed_recs at rs) ≡ cond b (how_often x rs) 0
+        → cond (b && c) 1 0 + weigh (one t x) (timed_recs at rs) ≡ cond b (cond c (how_often x rs + 1) (how_often x rs)) 0
     cases true true h = omega arith
     cases true false h = omega arith
     cases false c h = omega arith
@@ -110,18 +110,18 @@ weigh-zero (b ∷ bs) = let h = weigh-zero bs in omega arith
 
 -- the joins of a rec with those at its stamp
 join-one : (t : Stamp) (x : Rec) (a : Timed) (bs : List Timed)
-    → weigh (one t x) (timed a.at (joined a.rec (recs_where (same a.at) bs))) ≡ weigh (pair t x a) bs
+    → weigh (one t x) (timed_recs a.at (joined_rec a.rec (recs_where (same a.at) bs))) ≡ weigh (pair t x a) bs
 join-one t x a bs =
-    weigh-timed t a.at x (joined a.rec (recs_where (same a.at) bs))
+    weigh-timed t a.at x (joined_rec a.rec (recs_where (same a.at) bs))
     ∙ elim (cases_Bool (same t a.at)) [
       | inl e ↦
           let i = same-is t a.at e in
-          ap (λ b. cond b (how_often x (joined a.rec (recs_where (same a.at) bs))) 0) e
+          ap (λ b. cond b (how_often x (joined_rec a.rec (recs_where (same a.at) bs))) 0) e
           ∙ joined-where x a.rec a.at bs
           ∙ ap (λ u. weigh (λ b. cond (same u b.at) (of_pair x a.rec b.rec) 0) bs) (sym i)
           ∙ sym (ap (λ c. weigh (λ b. cond (c && same t b.at) (of_pair x a.rec b.rec) 0) bs) e)
       | inr e ↦
-          ap (λ b. cond b (how_often x (joined a.rec (recs_where (same a.at) bs))) 0) e
+          ap (λ b. cond b (how_often x (joined_rec a.rec (recs_where (same a.at) bs))) 0) e
           ∙ sym (ap (λ c. weigh (λ b. cond (c && same t b.at) (of_pair x a.rec b.rec) 0) bs) e ∙ weigh-zero bs)
     ]
 
@@ -129,9 +129,9 @@ join-one t x a bs =
 
 pub join-outputs : (t : Stamp) (x : Rec) (ls bs : List Timed) → weigh (one t x) (joined_timed ls bs) ≡ pairs t x ls bs
 join-outputs t x ls bs =
-    weigh-flat_map (one t x) (λ r. timed r.at (joined r.rec (recs_where (same r.at) bs))) ls
-    ∙ weigh-same (λ a. weigh (one t x) (timed a.at (joined a.rec (recs_where (same a.at) bs)))) (λ a. weigh (pair t x a) bs) ls
-    (each-one (λ a. weigh (one t x) (timed a.at (joined a.rec (recs_where (same a.at) bs))) ≡ weigh (pair t x a) bs) ls (λ a. join-one t x a bs))
+    weigh-flat_map (one t x) (λ r. timed_recs r.at (joined_rec r.rec (recs_where (same r.at) bs))) ls
+    ∙ weigh-same (λ a. weigh (one t x) (timed_recs a.at (joined_rec a.rec (recs_where (same a.at) bs)))) (λ a. weigh (pair t x a) bs) ls
+    (each-one (λ a. weigh (one t x) (timed_recs a.at (joined_rec a.rec (recs_where (same a.at) bs))) ≡ weigh (pair t x a) bs) ls (λ a. join-one t x a bs))
 
 -- ---- fewer recs have fewer joins
 
@@ -176,7 +176,7 @@ IsOnOther c d (Notify p t) = Unit {0}
 
 -- the deliveries on the other edge
 other-is : (c d : ℕ) (t : Stamp) (vs : List Event) → AllByRecursion (IsOnOther c d) vs
-    → delivered_recs (λ e s. not (e == c) && same s t) vs ≡ recs_where (same t) (timed_of (delivered vs d))
+    → delivered_recs (λ e s. not (e == c) && same s t) vs ≡ recs_where (same t) (timed_of (delivered_messages vs d))
 other-is c d t [] a = refl
 other-is c d t (Inject s x ∷ vs) a = other-is c d t vs a.1
 other-is c d t (Notify p u ∷ vs) a = other-is c d t vs a.1
@@ -186,10 +186,10 @@ other-is c d t (Deliver e m ∷ vs) a =
     ∙ ap (λ rs. cond ((e == d) && same t m.at) (m.rec ∷ []) [] ++ rs) (other-is c d t vs a.1)
     ∙ cases (e == d) (same t m.at) refl
   where
-    cases : (b c : Bool) → same t m.at ≡ c → cond (b && c) (m.rec ∷ []) [] ++ recs_where (same t) (timed_of (delivered vs d))
-        ≡ recs_where (same t) (timed_of (cond b (m ∷ []) [] ++ delivered vs d))
-    cases true true k = sym (ap (λ z. map (λ (y : Timed). y.rec) (cond z (timed_message m ∷ filter (λ y. same t y.at) (timed_of (delivered vs d))) (filter (λ y. same t y.at) (timed_of (delivered vs d))))) k)
-    cases true false k = sym (ap (λ z. map (λ (y : Timed). y.rec) (cond z (timed_message m ∷ filter (λ y. same t y.at) (timed_of (delivered vs d))) (filter (λ y. same t y.at) (timed_of (delivered vs d))))) k)
+    cases : (b c : Bool) → same t m.at ≡ c → cond (b && c) (m.rec ∷ []) [] ++ recs_where (same t) (timed_of (delivered_messages vs d))
+        ≡ recs_where (same t) (timed_of (cond b (m ∷ []) [] ++ delivered_messages vs d))
+    cases true true k = sym (ap (λ z. map (λ (y : Timed). y.rec) (cond z (timed_message m ∷ filter (λ y. same t y.at) (timed_of (delivered_messages vs d))) (filter (λ y. same t y.at) (timed_of (delivered_messages vs d))))) k)
+    cases true false k = sym (ap (λ z. map (λ (y : Timed). y.rec) (cond z (timed_message m ∷ filter (λ y. same t y.at) (timed_of (delivered_messages vs d))) (filter (λ y. same t y.at) (timed_of (delivered_messages vs d))))) k)
     cases false c k = refl
 
 on_first : (a b : ℕ) (v : Event) → IsOnOne a b v → IsOnOther a b v
@@ -204,11 +204,11 @@ on_second a b (Notify p t) i = tt
 
 -- what a delivery makes join send
 join-sends : (sys : System) (n : _) (t : Stamp) (x : Rec) (e d : ℕ) (m : Message) (vs : List Event) → AllByRecursion (IsOnOther e d) vs
-    → weigh (one t x) (timed_of (sends_of_kind sys (Join n) vs (Deliver e m))) ≡ weigh (pair t x (timed_message m)) (timed_of (delivered vs d))
+    → weigh (one t x) (timed_of (sends_of_kind sys (Join n) vs (Deliver e m))) ≡ weigh (pair t x (timed_message m)) (timed_of (delivered_messages vs d))
 join-sends sys n t x e d m vs a =
     ap (weigh (one t x)) (timed_of-messages_at_some (Some m.at) m.at (recs_on_delivery (Join n) vs e m.at m.rec))
-    ∙ ap (λ rs. weigh (one t x) (timed m.at (joined m.rec rs))) (other-is e d m.at vs a)
-    ∙ join-one t x (timed_message m) (timed_of (delivered vs d))
+    ∙ ap (λ rs. weigh (one t x) (timed_recs m.at (joined_rec m.rec rs))) (other-is e d m.at vs a)
+    ∙ join-one t x (timed_message m) (timed_of (delivered_messages vs d))
 
 pairs-right : (t : Stamp) (x : Rec) (b : Timed) (xs ys : List Timed) → pairs t x xs (b ∷ ys) ≡ weigh (pair t x b) xs + pairs t x xs ys
 unfolding weigh
@@ -216,7 +216,7 @@ pairs-right t x b [] ys = refl
 pairs-right t x b (y ∷ xs) ys = let h = pairs-right t x b xs ys in let s = pair-swap t x y b in omega arith
 
 pub join-sent : (sys : System) (p : ℕ) (n : _) → kind_of sys.flow p ≡ Join n → (a b : ℕ) (t : Stamp) (x : Rec) (vs : List Event) → AllByRecursion (IsOnOne a b) vs
-    → weigh (one t x) (timed_of (sent_by sys p vs)) ≡ pairs t x (timed_of (delivered vs a)) (timed_of (delivered vs b))
+    → weigh (one t x) (timed_of (sent_by sys p vs)) ≡ pairs t x (timed_of (delivered_messages vs a)) (timed_of (delivered_messages vs b))
 unfolding weigh sends
 join-sent sys p n is a b t x [] o = refl
 join-sent sys p n is a b t x (Inject s y ∷ vs) o =
@@ -233,24 +233,24 @@ join-sent sys p n is a b t x (Deliver e m ∷ vs) o =
     let c = sent-weigh sys p (one t x) (Deliver e m) vs in
     let d = ap (λ k. weigh (one t x) (timed_of (sends_of_kind sys k vs (Deliver e m)))) is in
     let h = join-sent sys p n is a b t x vs o.1 in
-    let ls = timed_of (delivered vs a) in
-    let rs = timed_of (delivered vs b) in
+    let ls = timed_of (delivered_messages vs a) in
+    let rs = timed_of (delivered_messages vs b) in
     let firsts = all_on (IsOnOther a b) (on_first a b) vs o.1 in
     let seconds = all_on (IsOnOther b a) (on_second a b) vs o.1 in
     elim (cases_Bool (e == a)) [
       | inl i ↦
           let j : (e == b) ≡ false = sym o.0.0 ∙ ap not i in
           let f = ap (λ k. weigh (one t x) (timed_of (sends_of_kind sys (Join n) vs (Deliver k m)))) (eqb-true e a i) ∙ join-sends sys n t x a b m vs firsts in
-          let g : pairs t x (timed_of (cond (e == a) (m ∷ []) [] ++ delivered vs a)) (timed_of (cond (e == b) (m ∷ []) [] ++ delivered vs b)) ≡ pairs t x (timed_message m ∷ ls) rs =
-          ap (λ k. pairs t x (timed_of (cond k (m ∷ []) [] ++ delivered vs a)) (timed_of (cond (e == b) (m ∷ []) [] ++ delivered vs b))) i
-          ∙ ap (λ k. pairs t x (timed_message m ∷ ls) (timed_of (cond k (m ∷ []) [] ++ delivered vs b))) j in
+          let g : pairs t x (timed_of (cond (e == a) (m ∷ []) [] ++ delivered_messages vs a)) (timed_of (cond (e == b) (m ∷ []) [] ++ delivered_messages vs b)) ≡ pairs t x (timed_message m ∷ ls) rs =
+          ap (λ k. pairs t x (timed_of (cond k (m ∷ []) [] ++ delivered_messages vs a)) (timed_of (cond (e == b) (m ∷ []) [] ++ delivered_messages vs b))) i
+          ∙ ap (λ k. pairs t x (timed_message m ∷ ls) (timed_of (cond k (m ∷ []) [] ++ delivered_messages vs b))) j in
           omega arith
       | inr i ↦
           let j : (e == b) ≡ true = sym o.0.0 ∙ ap not i in
           let f = ap (λ k. weigh (one t x) (timed_of (sends_of_kind sys (Join n) vs (Deliver k m)))) (eqb-true e b j) ∙ join-sends sys n t x b a m vs seconds in
-          let g : pairs t x (timed_of (cond (e == a) (m ∷ []) [] ++ delivered vs a)) (timed_of (cond (e == b) (m ∷ []) [] ++ delivered vs b)) ≡ pairs t x ls (timed_message m ∷ rs) =
-          ap (λ k. pairs t x (timed_of (cond k (m ∷ []) [] ++ delivered vs a)) (timed_of (cond (e == b) (m ∷ []) [] ++ delivered vs b))) i
-          ∙ ap (λ k. pairs t x ls (timed_of (cond k (m ∷ []) [] ++ delivered vs b))) j in
+          let g : pairs t x (timed_of (cond (e == a) (m ∷ []) [] ++ delivered_messages vs a)) (timed_of (cond (e == b) (m ∷ []) [] ++ delivered_messages vs b)) ≡ pairs t x ls (timed_message m ∷ rs) =
+          ap (λ k. pairs t x (timed_of (cond k (m ∷ []) [] ++ delivered_messages vs a)) (timed_of (cond (e == b) (m ∷ []) [] ++ delivered_messages vs b))) i
+          ∙ ap (λ k. pairs t x ls (timed_of (cond k (m ∷ []) [] ++ delivered_messages vs b))) j in
           let r = pairs-right t x (timed_message m) ls rs in
           omega arith
     ]
@@ -293,17 +293,17 @@ on_one flow p a b l i (Deliver e m ∷ h) =
     (λ k. (on_one-event flow p a b l i e k, rest)) (λ k. rest)
 
 -- what was delivered to a node on one of its in-edges was delivered on that edge
-pub delivered_at : (flow : Dataflow) (p d : ℕ) → receiver flow d ≡ p → (h : List Event) → delivered (events_at flow p h) d ≡ delivered h d
+pub delivered_at : (flow : Dataflow) (p d : ℕ) → receiver flow d ≡ p → (h : List Event) → delivered_messages (events_at flow p h) d ≡ delivered_messages h d
 delivered_at flow p d r [] = refl
 delivered_at flow p d r (Inject s x ∷ h) =
-    cond_both (s == p) (Inject s x ∷ events_at flow p h) (events_at flow p h) (λ vs. delivered vs d ≡ delivered h d) (λ k. delivered_at flow p d r h) (λ k. delivered_at flow p d r h)
+    cond_both (s == p) (Inject s x ∷ events_at flow p h) (events_at flow p h) (λ vs. delivered_messages vs d ≡ delivered_messages h d) (λ k. delivered_at flow p d r h) (λ k. delivered_at flow p d r h)
 delivered_at flow p d r (Notify q t ∷ h) =
-    cond_both (q == p) (Notify q t ∷ events_at flow p h) (events_at flow p h) (λ vs. delivered vs d ≡ delivered h d) (λ k. delivered_at flow p d r h) (λ k. delivered_at flow p d r h)
+    cond_both (q == p) (Notify q t ∷ events_at flow p h) (events_at flow p h) (λ vs. delivered_messages vs d ≡ delivered_messages h d) (λ k. delivered_at flow p d r h) (λ k. delivered_at flow p d r h)
 delivered_at flow p d r (Deliver e m ∷ h) =
     let rest = delivered_at flow p d r h in
-    cond_both (receiver flow e == p) (Deliver e m ∷ events_at flow p h) (events_at flow p h) (λ vs. delivered vs d ≡ cond (e == d) (m ∷ []) [] ++ delivered h d)
+    cond_both (receiver flow e == p) (Deliver e m ∷ events_at flow p h) (events_at flow p h) (λ vs. delivered_messages vs d ≡ cond (e == d) (m ∷ []) [] ++ delivered_messages h d)
     (λ k. ap (λ ms. cond (e == d) (m ∷ []) [] ++ ms) rest)
     (λ k. elim (cases_Bool (e == d)) [
       | inl j ↦ absurd (eqb-false (receiver flow e) p k (ap (receiver flow) (eqb-true e d j) ∙ r))
-      | inr j ↦ rest ∙ sym (ap (λ c. cond c (m ∷ []) [] ++ delivered h d) j)
+      | inr j ↦ rest ∙ sym (ap (λ c. cond c (m ∷ []) [] ++ delivered_messages h d) j)
     ])

@@ -18,8 +18,8 @@ use Rattle.fw_flow.specs.Dataflow.{System, Dataflow, kind_of, receiver, in_edges
 use Rattle.fw_flow.specs.NodeFunction.{delivered_recs, recs_on_notification, sent_by}
 use Rattle.fw_flow.specs.Projection.{events_at}
 use Rattle.fw_flow.specs.WellFormed.{IsWellFormed, IsInDegree}
-use Rattle.fw_flow.specs.WholeBags.{Timed, recs_where, outputs_of_kind, together}
-use Rattle.fw_model.specs.History.{was_delivered_to, was_notified, owed, delivered, IsLegal}
+use Rattle.fw_flow.specs.WholeBags.{Timed, recs_where, outputs_of_kind, joint_bag}
+use Rattle.fw_model.specs.History.{was_delivered_to, was_notified, is_owed_notice, delivered_messages, IsLegal}
 use Rattle.fw_model.proofs.WeightLaws.{weigh, weigh-same, weigh-lighter, weigh-equal, how_often-where, one, at_stamp}
 use Rattle.fw_model.proofs.SentLaws.{timed_of, timed_message}
 use Rattle.fw_model.proofs.ArrivalLaws.{at_edge, in_edges-once, in_edges-receive, deliveries, deliveries-weigh, together-weigh}
@@ -64,13 +64,13 @@ pub outputs-fewer : (flow : Dataflow) (kind : Kind) → sends_at_once kind ≡ t
     → AllByRecursion (λ d. IsFewerAt flow kind t (bag d) (cag d)) ds
     → weigh (one t x) (outputs_of_kind flow kind batches (map bag ds)) ≤ weigh (one t x) (outputs_of_kind flow kind batches (map cag ds))
 outputs-fewer flow (Distinct n) is t x batches bag cag ds f =
-    let a = distinct-outputs t x (together (map bag ds)) in
+    let a = distinct-outputs t x (joint_bag (map bag ds)) in
     let b = together-weigh (one t x) bag ds in
     let c = weigh-lighter (λ d. weigh (one t x) (bag d)) (λ d. weigh (one t x) (cag d)) ds
     (each-weaker (λ d. IsFewerAt flow (Distinct n) t (bag d) (cag d)) (λ d. weigh (one t x) (bag d) ≤ weigh (one t x) (cag d)) ds (λ d g. g t x refl) f) in
     let d = together-weigh (one t x) cag ds in
-    let e = distinct-outputs t x (together (map cag ds)) in
-    let g = sign-less (weigh (one t x) (together (map bag ds))) (weigh (one t x) (together (map cag ds))) (omega arith) in
+    let e = distinct-outputs t x (joint_bag (map cag ds)) in
+    let g = sign-less (weigh (one t x) (joint_bag (map bag ds))) (weigh (one t x) (joint_bag (map cag ds))) (omega arith) in
     omega arith
 outputs-fewer flow (Join n) is t x batches bag cag [] f = omega arith
 outputs-fewer flow (Join n) is t x batches bag cag (a ∷ []) f = omega arith
@@ -116,9 +116,9 @@ agree_up_to t xs ys k = record {
 
 agree_together : (t : Stamp) (bag cag : ℕ → List Timed) (ds : List ℕ)
     → AllByRecursion (λ d. (u : Stamp) (r : Rec) → leq u t ≡ true → weigh (one u r) (bag d) ≡ weigh (one u r) (cag d)) ds
-    → AgreeUpTo t (together (map bag ds)) (together (map cag ds))
+    → AgreeUpTo t (joint_bag (map bag ds)) (joint_bag (map cag ds))
 agree_together t bag cag ds k =
-    agree_up_to t (together (map bag ds)) (together (map cag ds)) (λ u r l.
+    agree_up_to t (joint_bag (map bag ds)) (joint_bag (map cag ds)) (λ u r l.
     together-weigh (one u r) bag ds
     ∙ weigh-same (λ d. weigh (one u r) (bag d)) (λ d. weigh (one u r) (cag d)) ds
     (each-weaker (λ d. (u : Stamp) (r : Rec) → leq u t ≡ true → weigh (one u r) (bag d) ≡ weigh (one u r) (cag d)) (λ d. weigh (one u r) (bag d) ≡ weigh (one u r) (cag d)) ds (λ d g. g u r l) k)
@@ -143,23 +143,23 @@ pub outputs-same : (flow : Dataflow) (kind : Kind) → is_inner kind ≡ true �
 outputs-same flow (Sum n) is t x batches bag cag ds k =
     let a = agree_together t bag cag ds
     (each-weaker (λ d. AgreeFor flow (Sum n) t (bag d) (cag d)) (λ d. (u : Stamp) (r : Rec) → leq u t ≡ true → weigh (one u r) (bag d) ≡ weigh (one u r) (cag d)) ds (λ d g u r l. g u u r refl l) k) in
-    let xs = together (map bag ds) in
-    let ys = together (map cag ds) in
+    let xs = joint_bag (map bag ds) in
+    let ys = joint_bag (map cag ds) in
     sum-outputs t x xs
     ∙ sums-same x (recs_where (same t) xs) (recs_where (same t) xs) (recs_where (same t) ys) (recs_where (same t) ys) a.same_now a.same_now
     ∙ sym (sum-outputs t x ys)
 outputs-same flow Total is t x batches bag cag ds k =
     let a = agree_together t bag cag ds
     (each-weaker (λ d. AgreeFor flow Total t (bag d) (cag d)) (λ d. (u : Stamp) (r : Rec) → leq u t ≡ true → weigh (one u r) (bag d) ≡ weigh (one u r) (cag d)) ds (λ d g u r l. g u u r refl l) k) in
-    let xs = together (map bag ds) in
-    let ys = together (map cag ds) in
+    let xs = joint_bag (map bag ds) in
+    let ys = joint_bag (map cag ds) in
     total-outputs t x xs
     ∙ sums-same x (recs_where (same t) xs) (recs_where (λ s. leq s t) xs) (recs_where (same t) ys) (recs_where (λ s. leq s t) ys) a.same_now a.same_upto
     ∙ sym (total-outputs t x ys)
 outputs-same flow Ledger is t x batches bag cag ds k =
     let a = agree_together t bag cag ds
     (each-weaker (λ d. AgreeFor flow Ledger t (bag d) (cag d)) (λ d. (u : Stamp) (r : Rec) → leq u t ≡ true → weigh (one u r) (bag d) ≡ weigh (one u r) (cag d)) ds (λ d g u r l. g u u r refl l) k) in
-    totals-same t x (together (map bag ds)) (together (map cag ds)) a.same_upto a.now
+    totals-same t x (joint_bag (map bag ds)) (joint_bag (map cag ds)) a.same_upto a.now
 outputs-same flow (Distinct n) is t x batches bag cag ds k = once-same flow (Distinct n) refl t x batches bag cag ds k
 outputs-same flow (Join n) is t x batches bag cag ds k = once-same flow (Join n) refl t x batches bag cag ds k
 outputs-same flow (Select s n) is t x batches bag cag ds k = once-same flow (Select s n) refl t x batches bag cag ds k
@@ -174,7 +174,7 @@ outputs-same flow kind is t x batches bag cag ds k = absurd (cc)
 
 -- the bag that was delivered on an edge
 abbrev pub delivered_bag : List Event → ℕ → List Timed
-delivered_bag h d = timed_of (delivered h d)
+delivered_bag h d = timed_of (delivered_messages h d)
 
 -- what was sent at a stamp is what the node sends in all for what was delivered
 abbrev pub SentForDelivered : System → List Event → ℕ → Kind → List (List Rec) → Stamp → Rec → Type 0
@@ -183,7 +183,7 @@ SentForDelivered sys h p kind batches t x =
     ≡ weigh (one t x) (outputs_of_kind sys.flow kind batches (map (delivered_bag h) (in_edges sys.flow p)))
 
 deliveries_together : (flow : Dataflow) (p : ℕ) → p < length flow.nodes → (w : Timed → ℕ) (h : List Event)
-    → weigh w (deliveries (events_at flow p h)) ≡ weigh w (together (map (delivered_bag h) (in_edges flow p)))
+    → weigh w (deliveries (events_at flow p h)) ≡ weigh w (joint_bag (map (delivered_bag h) (in_edges flow p)))
 deliveries_together flow p l w h = deliveries-weigh flow p l w h ∙ sym (together-weigh w (delivered_bag h) (in_edges flow p))
 
 one-arrives : (sys : System) (h : List Event) (p : ℕ) → p < length sys.flow.nodes → sends_one_by_one (kind_of sys.flow p) ≡ true → (kind : Kind) → kind_of sys.flow p ≡ kind
@@ -197,7 +197,7 @@ one-arrives sys h p l k kind is batches t x =
 
 -- where nothing is owed, all sums were sent
 sums-arrived : (sys : System) (h : List Event) → IsWellFormed sys.flow → HasEpochs sys → IsLegal sys h → (p : ℕ) (kind : Kind) → kind_of sys.flow p ≡ kind → sends_sums kind ≡ true
-    → is_notified_kind kind ≡ true → (t : Stamp) (x : Rec) → owed sys h p t ≡ false
+    → is_notified_kind kind ≡ true → (t : Stamp) (x : Rec) → is_owed_notice sys h p t ≡ false
     → ((z : (q : Rec) → weigh (one t q) (deliveries (events_at sys.flow p h)) ≡ 0) → how_often x (recs_on_notification kind (events_at sys.flow p h) t) ≡ 0)
     → weigh (one t x) (timed_of (sent_by sys p (events_at sys.flow p h))) ≡ how_often x (recs_on_notification kind (events_at sys.flow p h) t)
 sums-arrived sys h w b l p kind is k n t x o empty =
@@ -252,13 +252,13 @@ on_edge flow p e l i (Deliver d m ∷ h) =
     cond_both (receiver flow d == p) (Deliver d m ∷ events_at flow p h) (events_at flow p h) (AllByRecursion (IsOnEdge e))
     (λ k. (on_edge-event flow p e l i d k, rest)) (λ k. rest)
 
-deliveries-on : (e : ℕ) (vs : List Event) → AllByRecursion (IsOnEdge e) vs → deliveries vs ≡ timed_of (delivered vs e)
+deliveries-on : (e : ℕ) (vs : List Event) → AllByRecursion (IsOnEdge e) vs → deliveries vs ≡ timed_of (delivered_messages vs e)
 unfolding deliveries
 deliveries-on e [] a = refl
 deliveries-on e (Inject s x ∷ vs) a = deliveries-on e vs a.1
 deliveries-on e (Notify p t ∷ vs) a = deliveries-on e vs a.1
 deliveries-on e (Deliver d m ∷ vs) a =
-    ap (λ rs. timed_message m ∷ rs) (deliveries-on e vs a.1) ∙ sym (ap (λ b. timed_of (cond b (m ∷ []) [] ++ delivered vs e)) a.0)
+    ap (λ rs. timed_message m ∷ rs) (deliveries-on e vs a.1) ∙ sym (ap (λ b. timed_of (cond b (m ∷ []) [] ++ delivered_messages vs e)) a.0)
 
 one_edge : (ds : List ℕ) → length ds ≡ 1 → (a : ℕ) × (ds ≡ a ∷ [])
 one_edge [] l = absurd (omega arith)
@@ -267,7 +267,7 @@ one_edge (a ∷ b ∷ ds) l = absurd (omega arith)
 
 -- what was delivered to a node of one in-edge was delivered on it
 pub deliveries-one : (flow : Dataflow) (p e : ℕ) → p < length flow.nodes → in_edges flow p ≡ e ∷ [] → (h : List Event)
-    → deliveries (events_at flow p h) ≡ timed_of (delivered h e)
+    → deliveries (events_at flow p h) ≡ timed_of (delivered_messages h e)
 deliveries-one flow p e l i h =
     let a = subst (AllByRecursion (λ d. (d < length flow.edges) × (receiver flow d ≡ p))) i (in_edges-receive flow p) in
     deliveries-on e (events_at flow p h) (on_edge flow p e l i h) ∙ ap timed_of (delivered_at flow p e a.0.1 h)
@@ -293,17 +293,17 @@ ledger_edge flow w p l is =
 pub ledger-numbered : (sys : System) (h : List Event) → IsLegal sys h → (p : ℕ) → p < length sys.flow.nodes → (e : LedgerEdge sys.flow p)
     → AreNumbered (deliveries (events_at sys.flow p h))
 ledger-numbered sys h l p n e =
-    subst AreNumbered (sym (deliveries-one sys.flow p e.edge n e.only h)) (numbered-timed (delivered h e.edge) (numbered-ascend sys h l e.edge e.numbered))
+    subst AreNumbered (sym (deliveries-one sys.flow p e.edge n e.only h)) (numbered-timed (delivered_messages h e.edge) (numbered-ascend sys h l e.edge e.numbered))
 
 -- ---- all of these kinds
 
 pub arrives : (sys : System) (h : List Event) → IsWellFormed sys.flow → HasEpochs sys → IsLegal sys h → (p : ℕ) → p < length sys.flow.nodes
-    → (kind : Kind) → kind_of sys.flow p ≡ kind → is_inner kind ≡ true → (batches : List (List Rec)) (t : Stamp) (x : Rec) → owed sys h p t ≡ false
+    → (kind : Kind) → kind_of sys.flow p ≡ kind → is_inner kind ≡ true → (batches : List (List Rec)) (t : Stamp) (x : Rec) → is_owed_notice sys h p t ≡ false
     → SentForDelivered sys h p kind batches t x
 arrives sys h w b l p n (Distinct m) is k batches t x o =
     distinct-sent sys p m is t x (events_at sys.flow p h)
     ∙ ap sign (deliveries_together sys.flow p n (one t x) h)
-    ∙ sym (distinct-outputs t x (together (map (delivered_bag h) (in_edges sys.flow p))))
+    ∙ sym (distinct-outputs t x (joint_bag (map (delivered_bag h) (in_edges sys.flow p))))
 arrives sys h w b l p n (Join m) is k batches t x o =
     let flow = sys.flow in
     let e = two_edges (in_edges flow p) (subst (λ z. IsInDegree z (length (in_edges flow p))) is (w.in_degrees p n)) in
@@ -311,14 +311,14 @@ arrives sys h w b l p n (Join m) is k batches t x o =
     let d = e.1 in
     let a = subst (AllByRecursion (λ z. (z < length flow.edges) × (receiver flow z ≡ p))) e.2 (in_edges-receive flow p) in
     join-sent sys p m is c d t x (events_at flow p h) (on_one flow p c d n e.2 h)
-    ∙ ap (λ ms. pairs t x (timed_of ms) (timed_of (delivered (events_at flow p h) d))) (delivered_at flow p c a.0.1 h)
-    ∙ ap (λ ms. pairs t x (timed_of (delivered h c)) (timed_of ms)) (delivered_at flow p d a.1.0.1 h)
-    ∙ sym (join-outputs t x (timed_of (delivered h c)) (timed_of (delivered h d)))
+    ∙ ap (λ ms. pairs t x (timed_of ms) (timed_of (delivered_messages (events_at flow p h) d))) (delivered_at flow p c a.0.1 h)
+    ∙ ap (λ ms. pairs t x (timed_of (delivered_messages h c)) (timed_of ms)) (delivered_at flow p d a.1.0.1 h)
+    ∙ sym (join-outputs t x (timed_of (delivered_messages h c)) (timed_of (delivered_messages h d)))
     ∙ sym (ap (λ ds. weigh (one t x) (outputs_of_kind flow (Join m) batches (map (delivered_bag h) ds))) e.2)
 arrives sys h w b l p n (Sum m) is k batches t x o =
     let flow = sys.flow in
     let vs = events_at flow p h in
-    let rs = together (map (delivered_bag h) (in_edges flow p)) in
+    let rs = joint_bag (map (delivered_bag h) (in_edges flow p)) in
     let now = delivered_recs (λ d s. same s t) vs in
     let f : AreSameBags now (recs_where (same t) rs) = λ q. how_often-delivered_at t q vs ∙ deliveries_together flow p n (one t q) h ∙ sym (how_often-where t q rs) in
     sums-arrived sys h w b l p (Sum m) is refl refl t x o (λ z. no_sums_came t x vs now z)
@@ -327,7 +327,7 @@ arrives sys h w b l p n (Sum m) is k batches t x o =
 arrives sys h w b l p n Total is k batches t x o =
     let flow = sys.flow in
     let vs = events_at flow p h in
-    let rs = together (map (delivered_bag h) (in_edges flow p)) in
+    let rs = joint_bag (map (delivered_bag h) (in_edges flow p)) in
     let now = delivered_recs (λ d s. same s t) vs in
     let upto = delivered_recs (λ d s. leq s t) vs in
     let f : AreSameBags now (recs_where (same t) rs) = λ q. how_often-delivered_at t q vs ∙ deliveries_together flow p n (one t q) h ∙ sym (how_often-where t q rs) in
@@ -339,7 +339,7 @@ arrives sys h w b l p n Total is k batches t x o =
 arrives sys h w b l p n Ledger is k batches t x o =
     let flow = sys.flow in
     let xs = deliveries (events_at flow p h) in
-    let ys = together (map (delivered_bag h) (in_edges flow p)) in
+    let ys = joint_bag (map (delivered_bag h) (in_edges flow p)) in
     let a = agree_up_to t xs ys (λ u r i. deliveries_together flow p n (one u r) h) in
     ledger-sent sys p is (one t x) (events_at flow p h) (ledger-numbered sys h l p n (ledger_edge flow w p n is))
     ∙ totals-same t x xs ys a.same_upto a.now

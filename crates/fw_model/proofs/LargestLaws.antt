@@ -27,12 +27,12 @@ cut_within-trans sys p Present (At g) (At h) v w = absurd v
 cut_within-trans sys p (At f) (At g) (At h) v w = λ t i. w t (v t i)
 
 within-refl : (sys : System) (x : Choice) → IsChoiceWithin sys.flow x x
-within-refl sys x = record { cuts = λ p l. cut_within-refl sys p (cut_of x p); notes = λ p l t i. i }
+within-refl sys x = record { cuts = λ p l. cut_within-refl sys p (cut_of x p); notices = λ p l t i. i }
 
 pub within-trans : (sys : System) (x y z : Choice) → IsChoiceWithin sys.flow x y → IsChoiceWithin sys.flow y z → IsChoiceWithin sys.flow x z
 within-trans sys x y z v w = record {
   cuts = λ p l. cut_within-trans sys p (cut_of x p) (cut_of y p) (cut_of z p) (v.cuts p l) (w.cuts p l);
-  notes = λ p l t i. w.notes p l t (v.notes p l t i);
+  notices = λ p l t i. w.notices p l t (v.notices p l t i);
 }
 
 -- ---- the union of a list's consistent choices
@@ -96,7 +96,7 @@ cuts_of sys = Present ∷ map (λ f. At f) (fronts sys)
 -- the choices of them
 choices : System → List Choice
 choices sys =
-    pairs_of (λ cuts notes. record { cuts = cuts; notes = notes }) (lists_of (cuts_of sys) (length sys.flow.nodes)) (lists_of (fronts sys) (length sys.flow.nodes))
+    pairs_of (λ cuts notices. record { cuts = cuts; notices = notices }) (lists_of (cuts_of sys) (length sys.flow.nodes)) (lists_of (fronts sys) (length sys.flow.nodes))
 
 in-fronts : (sys : System) (p : ℕ) → p < length sys.flow.nodes → (f : Front) → IsCanonical (bounds_of sys.flow p) f → IsIn f (fronts sys)
 unfolding fronts
@@ -112,13 +112,13 @@ in-choices : (sys : System) (state : Machine) (lost : ℕ → Bool) (view : View
 unfolding choices
 in-choices sys state lost view choice a =
     let n = length sys.flow.nodes in
-    in-pairs (λ cuts notes. record { cuts = cuts; notes = notes }) choice.cuts choice.notes (lists_of (cuts_of sys) n) (lists_of (fronts sys) n)
+    in-pairs (λ cuts notices. record { cuts = cuts; notices = notices }) choice.cuts choice.notices (lists_of (cuts_of sys) n) (lists_of (fronts sys) n)
     (in-lists (cuts_of sys) choice.cuts n a.one_cut_each (each-of_places (λ x. IsIn x (cuts_of sys)) Present choice.cuts (λ p l.
     let k : p < n = omega (arith, a.one_cut_each) in
     in-cuts sys state lost view p k (cut_of choice p) (a.offered p k))))
-    (in-lists (fronts sys) choice.notes n a.one_note_each (each-of_places (λ x. IsIn x (fronts sys)) [] choice.notes (λ p l.
-    let k : p < n = omega (arith, a.one_note_each) in
-    in-fronts sys p k (front_of choice.notes p) (a.canonical p k))))
+    (in-lists (fronts sys) choice.notices n a.one_notice_each (each-of_places (λ x. IsIn x (fronts sys)) [] choice.notices (λ p l.
+    let k : p < n = omega (arith, a.one_notice_each) in
+    in-fronts sys p k (front_of choice.notices p) (a.canonical p k))))
 
 pub largest-exists : LargestChoiceExists
 largest-exists sys state lost view chains choice a =

@@ -13,10 +13,10 @@ use Rattle.fw_flow.specs.declared.event.Message.{Message}
 use Rattle.fw_flow.specs.declared.kind.Kind.{Kind}
 use Rattle.fw_flow.specs.declared.kind.Kind.TheVariants.{Input, Sequence}
 use Rattle.fw_flow.specs.Dataflow.{System, Dataflow, idle_node, kind_of, sender, receiver, greatest_number, domain_of, domain_of_kind, out_domain_of, out_domain_of_kind, bounds_of, bounds_of_domain, is_input_kind, is_notified_kind, send_stamp_of_kind, is_sequence_kind, bounds_of_edge, HasEpochs}
-use Rattle.fw_flow.specs.NodeFunction.{place, stamp, recs_on, numbered_messages, sequence_sent, sends_of_kind, sends, sent_by}
+use Rattle.fw_flow.specs.NodeFunction.{event_node, event_stamp, recs_on, numbered_messages, sequence_sent, sends_of_kind, sends, sent_by}
 use Rattle.fw_flow.specs.Projection.{events_at}
 use Rattle.fw_flow.specs.WellFormed.{IsWellFormed}
-use Rattle.fw_model.specs.History.{sent, delivered, pending, was_delivered_to, was_notified, injected_count, IsLegal, IsEnabled, AreEventsInDomain}
+use Rattle.fw_model.specs.History.{sent_messages, delivered_messages, pending_messages, was_delivered_to, was_notified, injected_count, IsLegal, IsEnabled, AreEventsInDomain}
 use Rattle.fw_model.specs.LawsOfLegalHistories.{LegalEventsAreInDomain, LegalMessagesAreInDomain, OnlyInputsInject}
 use Rattle.fw_flow.proofs.MessageLaws.{less-each, among-each}
 use Rattle.fw_model.proofs.StampLaws.{line-leq}
@@ -34,24 +34,24 @@ numbered-in_domain n cause (r ∷ rs) =
     (λ e. (and_from (nat_le n greatest_number) true e refl, numbered-in_domain (n + 1) cause rs)) (λ e. tt)
 
 sends_by_stamp-in_domain : (sys : System) (kind : Kind) (before : List Event) (v : Event) → is_sequence_kind kind ≡ false
-    → in_domain (bounds_of_domain sys.flow (domain_of_kind sys.flow kind)) (stamp v) ≡ true
+    → in_domain (bounds_of_domain sys.flow (domain_of_kind sys.flow kind)) (event_stamp v) ≡ true
     → AllByRecursion (λ (m : Message). in_domain (bounds_of_domain sys.flow (out_domain_of_kind sys.flow kind)) m.at ≡ true) (sends_of_kind sys kind before v)
 sends_by_stamp-in_domain sys kind before v n i =
-    each-weaker (IsAt (send_stamp_of_kind sys.flow kind (stamp v)) (stamp v))
+    each-weaker (IsAt (send_stamp_of_kind sys.flow kind (event_stamp v)) (event_stamp v))
     (λ m. in_domain (bounds_of_domain sys.flow (out_domain_of_kind sys.flow kind)) m.at ≡ true) (sends_of_kind sys kind before v)
-    (λ m a. send_stamp_of_kind-in_domain sys.flow kind (stamp v) m.at i a.0) (sends_of_kind-each sys kind before v n)
+    (λ m a. send_stamp_of_kind-in_domain sys.flow kind (event_stamp v) m.at i a.0) (sends_of_kind-each sys kind before v n)
 
 sends_of_kind-in_domain : (sys : System) (kind : Kind) (before : List Event) (v : Event)
-    → in_domain (bounds_of_domain sys.flow (domain_of_kind sys.flow kind)) (stamp v) ≡ true
+    → in_domain (bounds_of_domain sys.flow (domain_of_kind sys.flow kind)) (event_stamp v) ≡ true
     → AllByRecursion (λ (m : Message). in_domain (bounds_of_domain sys.flow (out_domain_of_kind sys.flow kind)) m.at ≡ true) (sends_of_kind sys kind before v)
-sends_of_kind-in_domain sys Sequence before v i = numbered-in_domain (length (sequence_sent before)) (stamp v) (recs_on sys Sequence before v)
+sends_of_kind-in_domain sys Sequence before v i = numbered-in_domain (length (sequence_sent before)) (event_stamp v) (recs_on sys Sequence before v)
 sends_of_kind-in_domain sys kind before v i = sends_by_stamp-in_domain sys kind before v refl i
 
 -- what a node sends at
 abbrev out_bounds : Dataflow → ℕ → Stamp → Bool
 out_bounds flow p t = in_domain (bounds_of_domain flow (out_domain_of flow p)) t
 
-sent_by-in_domain : (sys : System) (p : ℕ) (vs : List Event) → AllByRecursion (λ v. in_domain (bounds_of sys.flow p) (stamp v) ≡ true) vs
+sent_by-in_domain : (sys : System) (p : ℕ) (vs : List Event) → AllByRecursion (λ v. in_domain (bounds_of sys.flow p) (event_stamp v) ≡ true) vs
     → AllByRecursion (λ (m : Message). out_bounds sys.flow p m.at ≡ true) (sent_by sys p vs)
 unfolding sends bounds_of
 sent_by-in_domain sys p [] d = tt
@@ -86,15 +86,15 @@ edge-receiver flow w e t i = sym (ap (λ d. in_domain (bounds_of_domain flow d) 
 
 -- each event is at a stamp of its node's domain
 abbrev pub AreAllInDomain : Dataflow → List Event → Type 0
-AreAllInDomain flow h = AllByRecursion (λ v. in_domain (bounds_of flow (place flow v)) (stamp v) ≡ true) h
+AreAllInDomain flow h = AllByRecursion (λ v. in_domain (bounds_of flow (event_node flow v)) (event_stamp v) ≡ true) h
 
 events_at-in_domain : (flow : Dataflow) (p : ℕ) (h : List Event) → AreAllInDomain flow h → AreEventsInDomain flow h p
 events_at-in_domain flow p [] d = tt
 events_at-in_domain flow p (v ∷ h) d =
     let vs = events_at flow p h in
     let rest = events_at-in_domain flow p h d.1 in
-    cond_both (place flow v == p) (v ∷ vs) vs (AllByRecursion (λ w. in_domain (bounds_of flow p) (stamp w) ≡ true))
-    (λ e. (sym (ap (λ q. in_domain (bounds_of flow q) (stamp v)) (eqb-true (place flow v) p e)) ∙ d.0, rest)) (λ e. rest)
+    cond_both (event_node flow v == p) (v ∷ vs) vs (AllByRecursion (λ w. in_domain (bounds_of flow p) (event_stamp w) ≡ true))
+    (λ e. (sym (ap (λ q. in_domain (bounds_of flow q) (event_stamp v)) (eqb-true (event_node flow v) p e)) ∙ d.0, rest)) (λ e. rest)
 
 delivered_to-in_domain : (flow : Dataflow) (p : ℕ) (t : Stamp) (h : List Event) → AreAllInDomain flow h → was_delivered_to flow p t h ≡ true
     → in_domain (bounds_of flow p) t ≡ true
@@ -121,7 +121,7 @@ input-in_domain flow s x k l =
     ap (λ kind. in_domain (bounds_of_domain flow (domain_of_kind flow kind)) (x ∷ [])) (is_input (kind_of flow s) k) ∙ line-leq x greatest_number l
 
 pub enabled-in_domain : (sys : System) (h : List Event) → IsWellFormed sys.flow → HasEpochs sys → AreAllInDomain sys.flow h → (v : Event) → IsEnabled sys h v
-    → in_domain (bounds_of sys.flow (place sys.flow v)) (stamp v) ≡ true
+    → in_domain (bounds_of sys.flow (event_node sys.flow v)) (event_stamp v) ≡ true
 enabled-in_domain sys h w b d (Inject s x) k =
     let l = k.there in
     let n = b s in
@@ -129,8 +129,8 @@ enabled-in_domain sys h w b d (Inject s x) k =
 enabled-in_domain sys h w b d (Deliver e m) k =
     let p = sender sys.flow e in
     edge-receiver sys.flow w e m.at
-    (among-each (λ x. out_bounds sys.flow p x.at ≡ true) m (pending sys h e) k.is_pending
-    (less-each (λ x. out_bounds sys.flow p x.at ≡ true) (sent sys h e) (delivered h e)
+    (among-each (λ x. out_bounds sys.flow p x.at ≡ true) m (pending_messages sys h e) k.is_pending
+    (less-each (λ x. out_bounds sys.flow p x.at ≡ true) (sent_messages sys h e) (delivered_messages h e)
     (sent_by-in_domain sys p (events_at sys.flow p h) (events_at-in_domain sys.flow p h d))))
 enabled-in_domain sys h w b d (Notify p t) k =
     let a = and_parts (is_notified_kind (kind_of sys.flow p) && was_delivered_to sys.flow p t h) (not (was_notified p t h)) k.is_owed in

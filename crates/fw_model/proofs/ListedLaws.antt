@@ -4,7 +4,7 @@ use Rattle.std.specs.List.{AllByRecursion}
 use Rattle.std.proofs.lemmas.Bool.{cond_both, cases_lt}
 use Rattle.fw_time.specs.declared.stamp.Bounds.{Bounds}
 use Rattle.fw_frontier.specs.Front.{Front, frontier_of, IsCanonical}
-use Rattle.fw_frontier.specs.Outside.{excluding_all}
+use Rattle.fw_frontier.specs.Outside.{front_without_all}
 use Rattle.fw_frontier.proofs.NamesLaws.{names-self, names-same, frontier-closed}
 use Rattle.fw_model.proofs.FrontLaws.{outsiders, outsiders-name}
 use Rattle.fw_model.proofs.StampLists.{stamps}
@@ -86,16 +86,16 @@ in-selections {A} test (x ∷ xs) =
 
 -- the fronts of a domain
 pub fronts_of : Bounds → List Front
-fronts_of b = map (λ ss. excluding_all ss []) (selections (stamps b.greatest))
+fronts_of b = map (λ ss. front_without_all ss []) (selections (stamps b.greatest))
 
 pub in-fronts : (b : Bounds) (os : Front) → IsCanonical b os → IsIn os (fronts_of b)
 unfolding fronts_of
 in-fronts b os c =
     let f = frontier_of b os in
     let ss = outsiders b f in
-    let e : os ≡ excluding_all ss [] = names-same b os (excluding_all ss []) f (names-self b os c) (outsiders-name b f (frontier-closed b os)) in
-    subst (λ (x : Front). IsIn x (map (λ xs. excluding_all xs []) (selections (stamps b.greatest)))) (sym e)
-    (in-map (λ xs. excluding_all xs []) ss (selections (stamps b.greatest)) (in-selections (λ t. not (f t)) (stamps b.greatest)))
+    let e : os ≡ front_without_all ss [] = names-same b os (front_without_all ss []) f (names-self b os c) (outsiders-name b f (frontier-closed b os)) in
+    subst (λ (x : Front). IsIn x (map (λ xs. front_without_all xs []) (selections (stamps b.greatest)))) (sym e)
+    (in-map (λ xs. front_without_all xs []) ss (selections (stamps b.greatest)) (in-selections (λ t. not (f t)) (stamps b.greatest)))
 
 -- the fronts of the first n of these domains
 pub fronts_below : (ℕ → Bounds) → ℕ → List Front

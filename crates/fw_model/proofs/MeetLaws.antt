@@ -9,7 +9,7 @@ use Rattle.fw_flow.specs.declared.kind.Kind.{Kind}
 use Rattle.fw_flow.specs.declared.kind.Kind.TheVariants.{Enter, Feedback, Leave, Sequence, Regroup}
 use Rattle.fw_flow.specs.Dataflow.{greatest_of_kind, System, kind_of, sender, max_of, greatest_number, domain_of_kind, out_domain_of_kind, bounds_of, bounds_of_domain}
 use Rattle.fw_flow.specs.NodeFunction.{sent_by}
-use Rattle.fw_flow.specs.Projection.{events_at, sent_count, first_number_of, each_counter, phi_of_kind, phi}
+use Rattle.fw_flow.specs.Projection.{events_at, sent_count, first_coordinate, each_counter, phi_of_kind, phi}
 use Rattle.fw_model.specs.LawsOfProjections.{PhiOfMeet, PhiOfEverything}
 use Rattle.fw_model.proofs.StampLaws.{nest-leq, in_loop, leq_from, in_line, line-leq}
 use Rattle.fw_model.proofs.PhiLaws.{phi_of_kind-monotone, count-monotone, phi-monotone}
@@ -112,8 +112,8 @@ phi_of_kind-everything sys (Feedback l) n u i =
     or_right (counter u == 0) _ (nest-leq (outer u) (greatest_number ∷ []) (counter u - 1) (max_of sys.flow l) v.outside (omega arith))
 phi_of_kind-everything sys (Leave l) n u i =
     each_counter-from (everything (bounds_of_domain sys.flow (domain_of_kind sys.flow (Leave l)))) u (max_of sys.flow l) (λ c h. nest-leq u (greatest_number ∷ []) c (max_of sys.flow l) i h)
-phi_of_kind-everything sys Sequence n u i = or_left _ (nat_lt (first_number_of u) n) (leq-refl (greatest_number ∷ []))
-phi_of_kind-everything sys (Regroup r) n u i = line-leq (min (first_number_of u * r + r - 1) greatest_number) greatest_number (min-le_right (first_number_of u * r + r - 1) greatest_number)
+phi_of_kind-everything sys Sequence n u i = or_left _ (nat_lt (first_coordinate u) n) (leq-refl (greatest_number ∷ []))
+phi_of_kind-everything sys (Regroup r) n u i = line-leq (min (first_coordinate u * r + r - 1) greatest_number) greatest_number (min-le_right (first_coordinate u * r + r - 1) greatest_number)
 phi_of_kind-everything sys kind n u i = i
 
 pub phi-everything : PhiOfEverything

@@ -15,7 +15,7 @@ use Rattle.fw_flow.specs.declared.event.Message.{Message}
 use Rattle.fw_flow.specs.declared.kind.Kind.{Kind}
 use Rattle.fw_flow.specs.declared.kind.Kind.TheVariants.{Sum, Total}
 use Rattle.fw_flow.specs.Dataflow.{System, Dataflow, kind_of, receiver, is_notified_kind, HasEpochs}
-use Rattle.fw_flow.specs.NodeFunction.{place, delivered_recs, recs_on_notification, sends_of_kind, sends, sent_by}
+use Rattle.fw_flow.specs.NodeFunction.{event_node, delivered_recs, recs_on_notification, sends_of_kind, sends, sent_by}
 use Rattle.fw_flow.specs.Projection.{events_at}
 use Rattle.fw_flow.specs.WellFormed.{IsWellFormed}
 use Rattle.fw_flow.specs.WholeBags.{Timed}
@@ -118,7 +118,7 @@ SentSums sys h p t x =
     ≡ cond (was_notified p t h) (how_often x (recs_on_notification (kind_of sys.flow p) (events_at sys.flow p h) t)) 0
 
 sums-step : (sys : System) (h : List Event) → IsWellFormed sys.flow → HasEpochs sys → IsLegal sys h → (p : ℕ) → sends_sums (kind_of sys.flow p) ≡ true
-    → is_notified_kind (kind_of sys.flow p) ≡ true → (v : Event) → IsEnabled sys h v → (place sys.flow v == p) ≡ true → (t : Stamp) (x : Rec) → SentSums sys h p t x
+    → is_notified_kind (kind_of sys.flow p) ≡ true → (v : Event) → IsEnabled sys h v → (event_node sys.flow v == p) ≡ true → (t : Stamp) (x : Rec) → SentSums sys h p t x
     → weigh (one t x) (timed_of (sent_by sys p (v ∷ events_at sys.flow p h)))
     ≡ cond (was_notified p t (v ∷ h)) (how_often x (recs_on_notification (kind_of sys.flow p) (v ∷ events_at sys.flow p h) t)) 0
 unfolding sends
@@ -170,7 +170,7 @@ sums-step sys h w b l p k n (Notify q s) i c t x r =
           ∙ sym (ap (λ d. cond (d || was_notified p t h) (how_often x (recs_on_notification kind (Notify q s ∷ vs) t)) 0) other)
     ]
 
-not_notified : (flow : Dataflow) (p : ℕ) (t : Stamp) (v : Event) → (place flow v == p) ≡ false → is_notification p t v ≡ false
+not_notified : (flow : Dataflow) (p : ℕ) (t : Stamp) (v : Event) → (event_node flow v == p) ≡ false → is_notification p t v ≡ false
 not_notified flow p t (Inject s x) e = refl
 not_notified flow p t (Deliver d m) e = refl
 not_notified flow p t (Notify q s) e = ap (λ b. b && same s t) e
@@ -183,7 +183,7 @@ sums-sent sys [] w b l p k n t x = refl
 sums-sent sys (v ∷ h) w b l p k n t x =
     let rest = sums-sent sys h w b l.1 p k n t x in
     let vs = events_at sys.flow p h in
-    elim (cases_Bool (place sys.flow v == p)) [
+    elim (cases_Bool (event_node sys.flow v == p)) [
       | inl c ↦
           ap (λ d. weigh (one t x) (timed_of (sent_by sys p (cond d (v ∷ vs) vs)))) c
           ∙ sums-step sys h w b l.1 p k n v l.0 c t x rest

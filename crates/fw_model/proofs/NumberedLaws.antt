@@ -14,7 +14,7 @@ use Rattle.fw_flow.specs.declared.kind.Kind.TheVariants.{Input, OutputEpoch, Out
 use Rattle.fw_flow.specs.Dataflow.{System, Dataflow, kind_of, sender, receiver, in_edges, batches_of, greatest_number, domain_within, domain_of, out_domain_of, domain_of_kind, out_domain_of_kind, is_of_numbers, is_numbered}
 use Rattle.fw_flow.specs.WellFormed.{IsWellFormed, IsInDegree}
 use Rattle.fw_flow.specs.Walks.{is_same_loop}
-use Rattle.fw_flow.specs.WholeBags.{Timed, timed_cmp, in_order, numbered, running_totals, together, outputs_of_kind}
+use Rattle.fw_flow.specs.WholeBags.{Timed, timed_cmp, in_order, numbered_recs, running_totals, joint_bag, outputs_of_kind}
 use Rattle.fw_model.specs.Denotation.{Family, IsDenotation, AreNumberedFrom}
 use Rattle.fw_model.specs.LawsOfDenotation.{DenotationIsNumbered}
 use Rattle.fw_model.proofs.LegalLaws.{edge_domains}
@@ -47,10 +47,10 @@ numbered-ascending n (x ∷ xs) a = ascending-cons x xs (numbered-above x n (n +
 numbered-in_order : (n : ℕ) (xs : List Timed) → AreNumberedFrom n xs → AreNumberedFrom n (in_order xs)
 numbered-in_order n xs a = subst (AreNumberedFrom n) (sym (in_order-ascending xs (numbered-ascending n xs a))) a
 
-numbered-are : (n : ℕ) (rs : List Timed) → AreNumberedFrom n (numbered n rs)
+numbered-are : (n : ℕ) (rs : List Timed) → AreNumberedFrom n (numbered_recs n rs)
 numbered-are n [] = tt
 numbered-are n (r ∷ rs) =
-    cond_both (nat_le n greatest_number) (record { at = n ∷ []; rec = r.rec } ∷ numbered (n + 1) rs) [] (AreNumberedFrom n)
+    cond_both (nat_le n greatest_number) (record { at = n ∷ []; rec = r.rec } ∷ numbered_recs (n + 1) rs) [] (AreNumberedFrom n)
     (λ e. (refl, numbered-are (n + 1) rs)) (λ e. tt)
 
 numbered-map : (n : ℕ) (g : Timed → Rec) (rs : List Timed) → AreNumberedFrom n rs → AreNumberedFrom n (map (λ (r : Timed). record { at = r.at; rec = g r }) rs)
@@ -103,7 +103,7 @@ numbered-by_measure sys family w by d (suc m) e l k h =
     let whose : (kind : Kind) → kind_of flow q ≡ kind → AreNumberedFrom 0 (out kind (map family (in_edges flow q))) → AreNumberedFrom 0 (family e) =
     λ kind is a. subst (AreNumberedFrom 0) (sym (here ∙ ap (λ kd. out kd (map family (in_edges flow q))) is)) a in
     elim (sends_numbers flow (kind_of flow q) (ap is_of_numbers (edge_domains flow w e) ∙ k)) [
-      | inl (inl is) ↦ whose Sequence is (numbered-in_order 0 _ (numbered-are 0 (in_order (together (map family (in_edges flow q))))))
+      | inl (inl is) ↦ whose Sequence is (numbered-in_order 0 _ (numbered-are 0 (in_order (joint_bag (map family (in_edges flow q))))))
       | inl (inr is) ↦
           let one : length (in_edges flow q) ≡ 1 = subst (λ kind. IsInDegree kind (length (in_edges flow q))) is (w.in_degrees q (w.senders_declared e l)) in
           let c = the_one (λ i. (i < length flow.edges) × (receiver flow i ≡ q)) (in_edges flow q) one (in_edges-each flow q) in
@@ -113,7 +113,7 @@ numbered-by_measure sys family w by d (suc m) e l k h =
           let less = by.into_unlooped e l (number-no_loop (domain_of flow (receiver flow e)) (out_domain_of flow (receiver flow e)) k) [] [] in
           let same : by.measure (receiver flow i) [] ≡ by.measure q [] = ap (λ p. by.measure p []) (c.2).1 in
           let before = numbered-by_measure sys family w by d m i (c.2).0 at_number (omega arith) in
-          let only : together (map family (in_edges flow q)) ≡ family i = ap (λ ds. together (map family ds)) c.1 ∙ append-nil (family i) in
+          let only : joint_bag (map family (in_edges flow q)) ≡ family i = ap (λ ds. joint_bag (map family ds)) c.1 ∙ append-nil (family i) in
           whose Ledger is (subst (λ rs. AreNumberedFrom 0 (in_order (running_totals rs))) (sym only)
           (numbered-in_order 0 (running_totals (family i)) (numbered-map 0 _ (family i) before)))
       | inr is ↦ whose OutputNumber is tt

@@ -14,9 +14,9 @@ use Rattle.fw_flow.specs.declared.choice.Offer.{Offer}
 use Rattle.fw_flow.specs.Dataflow.{System, Dataflow, sender, receiver, bounds_of}
 use Rattle.fw_flow.specs.WellFormed.{IsWellFormed}
 use Rattle.fw_model.specs.Machine.{Machine}
-use Rattle.fw_model.specs.Choice.{kept, cut_of, note_of, kept_of, IsCandidate, IsConsistent, IsConsistentBy}
+use Rattle.fw_model.specs.Choice.{kept, cut_of, notice_of, kept_of, IsCandidate, IsConsistent, IsConsistentBy}
 use Rattle.fw_model.specs.Covers.{Covers, covers_in}
-use Rattle.fw_model.specs.Offers.{IsListed, IsBetween, IsOffered, Ascend, listed, range, records_of, range_of, AreOffersIn, covers_of}
+use Rattle.fw_model.specs.Offers.{IsListed, IsBetween, IsOffered, Ascend, listed_records, offered_range, records_of, range_of, AreOffersIn, covers_of}
 use Rattle.fw_model.specs.LawsOfOffers.{ConsistentByOffersIsConsistent, LargestByOffersIsLargest}
 
 -- ---- what is offered
@@ -44,7 +44,7 @@ range-unlisted : (offers : List Offer) (p : ℕ) (ends : Front × Front) → ran
 range-unlisted [] p ends e = refl
 range-unlisted (o ∷ offers) zero ends e = at o.offered e
   where
-    at : (x : Offered) → range x ≡ Some ends → listed x ≡ []
+    at : (x : Offered) → offered_range x ≡ Some ends → listed_records x ≡ []
     at (Listed records) k = absurd (cc)
     at (Between least greatest) k = refl
 range-unlisted (o ∷ offers) (suc p) ends e = range-unlisted offers p ends e
@@ -72,7 +72,7 @@ consistent-in sys state lost offers choice w o c =
     let ours : Covers = covers_of sys.flow offers in
     let theirs : Covers = covers_in sys state in record {
       one_cut_each = c.one_cut_each;
-      one_note_each = c.one_note_each;
+      one_notice_each = c.one_notice_each;
       offered = λ p l. (o.offered p l (cut_of choice p)).0 (c.offered p l);
       canonical = c.canonical;
       delivered = λ d l.
@@ -84,11 +84,11 @@ consistent-in sys state lost offers choice w o c =
           let cut = cut_of choice (sender sys.flow e) in
           subst (λ x. Within x (kept_of sys.flow choice (receiver sys.flow e)))
           (o.discarded e l cut (c.offered (sender sys.flow e) (w.senders_declared e l))) (c.discarded e l);
-      notified = λ p l. subst (λ x. Within x (note_of sys.flow choice p)) (o.notified p l (cut_of choice p) (c.offered p l)) (c.notified p l);
+      notified = λ p l. subst (λ x. Within x (notice_of sys.flow choice p)) (o.notified p l (cut_of choice p) (c.offered p l)) (c.notified p l);
       own = c.own;
-      notes = λ d l.
-          let n = note_of sys.flow choice (sender sys.flow d) in
-          subst (λ x. Within (note_of sys.flow choice (receiver sys.flow d)) x) (o.arrived d l n) (c.notes d l);
+      notices = λ d l.
+          let n = notice_of sys.flow choice (sender sys.flow d) in
+          subst (λ x. Within (notice_of sys.flow choice (receiver sys.flow d)) x) (o.arrived d l n) (c.notices d l);
     }
 
 consistent-by : (sys : System) (state : Machine) (lost : ℕ → Bool) (offers : List Offer) (choice : Choice) → IsWellFormed sys.flow
@@ -100,7 +100,7 @@ consistent-by sys state lost offers choice w o c =
     let offered : (p : ℕ) → p < length sys.flow.nodes → IsOffered sys.flow offers p (cut_of choice p) =
     λ p l. (o.offered p l (cut_of choice p)).1 (c.offered p l) in record {
       one_cut_each = c.one_cut_each;
-      one_note_each = c.one_note_each;
+      one_notice_each = c.one_notice_each;
       offered = offered;
       canonical = c.canonical;
       delivered = λ d l.
@@ -112,11 +112,11 @@ consistent-by sys state lost offers choice w o c =
           let cut = cut_of choice (sender sys.flow e) in
           subst (λ x. Within x (kept_of sys.flow choice (receiver sys.flow e)))
           (sym (o.discarded e l cut (offered (sender sys.flow e) (w.senders_declared e l)))) (c.discarded e l);
-      notified = λ p l. subst (λ x. Within x (note_of sys.flow choice p)) (sym (o.notified p l (cut_of choice p) (offered p l))) (c.notified p l);
+      notified = λ p l. subst (λ x. Within x (notice_of sys.flow choice p)) (sym (o.notified p l (cut_of choice p) (offered p l))) (c.notified p l);
       own = c.own;
-      notes = λ d l.
-          let n = note_of sys.flow choice (sender sys.flow d) in
-          subst (λ x. Within (note_of sys.flow choice (receiver sys.flow d)) x) (sym (o.arrived d l n)) (c.notes d l);
+      notices = λ d l.
+          let n = notice_of sys.flow choice (sender sys.flow d) in
+          subst (λ x. Within (notice_of sys.flow choice (receiver sys.flow d)) x) (sym (o.arrived d l n)) (c.notices d l);
     }
 
 pub consistent-same : ConsistentByOffersIsConsistent

@@ -8,7 +8,7 @@ use Rattle.fw_bag.specs.declared.rec.Rec.{Rec}
 use Rattle.fw_bag.specs.Rec.{rec_cmp}
 use Rattle.fw_bag.proofs.RecLaws.{rec_cmp-refl, is_eq-same}
 use Rattle.fw_flow.specs.Dataflow.{System, is_numbered}
-use Rattle.fw_flow.specs.Projection.{first_number_of}
+use Rattle.fw_flow.specs.Projection.{first_coordinate}
 use Rattle.fw_flow.specs.WellFormed.{IsWellFormed}
 use Rattle.fw_flow.specs.WholeBags.{Timed}
 use Rattle.fw_model.specs.Denotation.{Family, IsDenotation, AreNumberedFrom}
@@ -25,13 +25,13 @@ any_at t r = cond (same t r.at) 1 0
 
 -- ---- at most one rec at each number
 
-above-none : (n : ℕ) (xs : List Timed) → AreNumberedFrom n xs → (t : Stamp) → first_number_of t < n → weigh (any_at t) xs ≡ 0
+above-none : (n : ℕ) (xs : List Timed) → AreNumberedFrom n xs → (t : Stamp) → first_coordinate t < n → weigh (any_at t) xs ≡ 0
 unfolding weigh
 above-none n [] a t l = refl
 above-none n (x ∷ xs) a t l =
     let h = above-none (n + 1) xs a.1 t (omega arith) in
     let o : same t x.at ≡ false = elim (cases_Bool (same t x.at)) [
-      | inl e ↦ let i = ap first_number_of (same-is t x.at e ∙ a.0) in absurd (omega arith)
+      | inl e ↦ let i = ap first_coordinate (same-is t x.at e ∙ a.0) in absurd (omega arith)
       | inr e ↦ e
     ] in
     let z : any_at t x ≡ 0 = ap (λ b. cond b 1 0) o in
@@ -42,7 +42,7 @@ unfolding weigh
 numbered-once n [] a t = omega arith
 numbered-once n (x ∷ xs) a t = elim (cases_Bool (same t x.at)) [
   | inl i ↦
-      let at = ap first_number_of (same-is t x.at i ∙ a.0) in
+      let at = ap first_coordinate (same-is t x.at i ∙ a.0) in
       let here : any_at t x ≡ 1 = ap (λ b. cond b 1 0) i in
       let later = above-none (n + 1) xs a.1 t (omega arith) in
       omega arith

@@ -11,7 +11,7 @@ use Rattle.fw_flow.specs.declared.kind.Kind.{Kind}
 use Rattle.fw_flow.specs.declared.kind.Kind.TheVariants.{Select, Concat, Enter, Feedback, Leave, Regroup}
 use Rattle.fw_flow.specs.Dataflow.{System, Dataflow, kind_of, send_stamp_of_kind}
 use Rattle.fw_flow.specs.NodeFunction.{sends_of_kind, sends, sent_by}
-use Rattle.fw_flow.specs.WholeBags.{Timed, timed, timed_at_some, recs_for_one, outputs_of_kind, together}
+use Rattle.fw_flow.specs.WholeBags.{Timed, timed_recs, timed_at_some, recs_for_one, outputs_of_kind, joint_bag}
 use Rattle.fw_model.proofs.WeightLaws.{weigh, weigh-flat_map, weigh-less, one, one-out, at_stamp}
 use Rattle.fw_model.proofs.SentLaws.{timed_of}
 use Rattle.fw_model.proofs.ArrivalLaws.{deliveries}
@@ -82,16 +82,16 @@ one-sent sys p k w (v ∷ vs) =
 
 -- what a node of such a kind sends in all
 pub one-outputs : (flow : Dataflow) (kind : Kind) → sends_one_by_one kind ≡ true → (w : Timed → ℕ) (batches : List (List Rec)) (bags : List (List Timed))
-    → weigh w (outputs_of_kind flow kind batches bags) ≡ weigh (one_weight flow kind w) (together bags)
-one-outputs flow (Select s n) k w batches bags = weigh-flat_map w _ (together bags)
-one-outputs flow (Concat n) k w batches bags = weigh-flat_map w _ (together bags)
-one-outputs flow (Enter l) k w batches bags = weigh-flat_map w _ (together bags)
-one-outputs flow (Feedback l) k w batches bags = weigh-flat_map w _ (together bags)
-one-outputs flow (Leave l) k w batches bags = weigh-flat_map w _ (together bags)
-one-outputs flow (Regroup n) k w batches bags = weigh-flat_map w _ (together bags)
+    → weigh w (outputs_of_kind flow kind batches bags) ≡ weigh (one_weight flow kind w) (joint_bag bags)
+one-outputs flow (Select s n) k w batches bags = weigh-flat_map w _ (joint_bag bags)
+one-outputs flow (Concat n) k w batches bags = weigh-flat_map w _ (joint_bag bags)
+one-outputs flow (Enter l) k w batches bags = weigh-flat_map w _ (joint_bag bags)
+one-outputs flow (Feedback l) k w batches bags = weigh-flat_map w _ (joint_bag bags)
+one-outputs flow (Leave l) k w batches bags = weigh-flat_map w _ (joint_bag bags)
+one-outputs flow (Regroup n) k w batches bags = weigh-flat_map w _ (joint_bag bags)
 one-outputs flow kind k w batches bags = absurd (cc)
 
-pub timed-at : (t at : Stamp) (q : Rec) (rs : List Rec) → 0 < weigh (one t q) (timed at rs) → t ≡ at
+pub timed-at : (t at : Stamp) (q : Rec) (rs : List Rec) → 0 < weigh (one t q) (timed_recs at rs) → t ≡ at
 unfolding weigh
 timed-at t at q [] l = absurd (omega arith)
 timed-at t at q (r ∷ rs) l = elim (cases_Bool (same t at)) [

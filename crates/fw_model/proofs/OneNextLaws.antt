@@ -5,7 +5,7 @@ use Rattle.std.proofs.lemmas.Bool.{cases_Bool, or_parts}
 use Rattle.std.proofs.lemmas.List.{ext_get_or}
 use Rattle.fw_time.specs.Stamp.{Stamp}
 use Rattle.fw_frontier.specs.Frontier.{Frontier, meet, join}
-use Rattle.fw_frontier.specs.Front.{Front, frontier_of, Names}
+use Rattle.fw_frontier.specs.Front.{Front, frontier_of, IsFrontOf}
 use Rattle.fw_frontier.proofs.NamesLaws.{names-same}
 use Rattle.fw_flow.specs.declared.choice.Cut.{Cut}
 use Rattle.fw_flow.specs.declared.choice.Cut.TheVariants.{Present, At}
@@ -13,11 +13,11 @@ use Rattle.fw_flow.specs.declared.event.Event.TheVariants.{Inject as Injected, D
 use Rattle.fw_flow.specs.declared.event.Message.{Message}
 use Rattle.fw_flow.specs.declared.step.Step.{Step}
 use Rattle.fw_flow.specs.declared.step.Step.TheVariants.{Inject, Deliver, Notify, Progress as ProgressStep, Checkpoint, Persist, Fail, Recover, Collect, Ack}
-use Rattle.fw_flow.specs.Dataflow.{System, bounds_of, places}
+use Rattle.fw_flow.specs.Dataflow.{System, bounds_of, node_ids}
 use Rattle.fw_model.specs.Machine.{Machine, Write, acknowledged, events, front_of, is_failed}
 use Rattle.fw_flow.specs.declared.choice.Choice.{Choice}
 use Rattle.fw_model.specs.Choice.{kept, cut_of}
-use Rattle.fw_model.specs.Steps.{Effect, acked, cuts, lows, did, idle, with_event, eager_writes, GrowsTo, is_in_flight, AcknowledgesOldest, IsSettledCut, CutsTo, recovered, front_of_cut, collected_writes, recs_at_output, LeadsTo}
+use Rattle.fw_model.specs.Steps.{Effect, acked, cuts, lows, did, idle, with_event, eager_writes, GrowsTo, is_in_flight, AcknowledgesOldest, IsSettledCut, CutsTo, recovered_state, front_of_cut, collected_writes, recs_at_output, LeadsTo}
 use Rattle.fw_model.specs.LawsOfSteps.{OneNextState}
 use Rattle.fw_model.proofs.ChoiceLaws.{largest-one}
 use Rattle.fw_flow.proofs.MessageLaws.{message_cmp-same, message_total}
@@ -38,7 +38,7 @@ grows-one sys state done also one other g k =
     elim (cases_Bool (is_failed state p)) [
       | inl e ↦ g.failed p m e ∙ sym (k.failed p m e)
       | inr e ↦ names-same b (front_of one p) (front_of other p) (join old (done p)) (g.each p m e)
-          (subst (λ (d : ℕ → Frontier). Names b (front_of other p) (join old (d p))) (sym same) (k.each p m e))
+          (subst (λ (d : ℕ → Frontier). IsFrontOf b (front_of other p) (join old (d p))) (sym same) (k.each p m e))
     ])
 
 head-one : (x y : Write) (xs ys : List Write) → x ∷ xs ≡ y ∷ ys → x ≡ y
@@ -48,22 +48,22 @@ tail-one : (x y : Write) (xs ys : List Write) → x ∷ xs ≡ y ∷ ys → xs �
 tail-one x y xs ys e = cc
 
 abbrev any_in_flight : List Write → Bool
-any_in_flight writes = list_any (λ write. is_in_flight write.progress) writes
+any_in_flight writes = list_any (λ write. is_in_flight write.stage) writes
 
-oldest-one : (e f : List Write) (o q : Write) (l m : List Write) → e ++ o ∷ l ≡ f ++ q ∷ m → is_in_flight o.progress ≡ true → is_in_flight q.progress ≡ true
+oldest-one : (e f : List Write) (o q : Write) (l m : List Write) → e ++ o ∷ l ≡ f ++ q ∷ m → is_in_flight o.stage ≡ true → is_in_flight q.stage ≡ true
     → any_in_flight e ≡ false → any_in_flight f ≡ false
-    → e ++ record o { progress = acknowledged } ∷ l ≡ f ++ record q { progress = acknowledged } ∷ m
+    → e ++ record o { stage = acknowledged } ∷ l ≡ f ++ record q { stage = acknowledged } ∷ m
 oldest-one [] [] o q l m s i j u v =
-    ap (λ (w : Write). record w { progress = acknowledged } ∷ l) (head-one o q l m s)
-    ∙ ap (λ ws. record q { progress = acknowledged } ∷ ws) (tail-one o q l m s)
+    ap (λ (w : Write). record w { stage = acknowledged } ∷ l) (head-one o q l m s)
+    ∙ ap (λ ws. record q { stage = acknowledged } ∷ ws) (tail-one o q l m s)
 oldest-one [] (y ∷ f) o q l m s i j u v =
-    absurd (two_ways (is_in_flight o.progress) i (ap (λ (w : Write). is_in_flight w.progress) (head-one o y l (f ++ q ∷ m) s) ∙ (or_parts (is_in_flight y.progress) (any_in_flight f) v).0))
+    absurd (two_ways (is_in_flight o.stage) i (ap (λ (w : Write). is_in_flight w.stage) (head-one o y l (f ++ q ∷ m) s) ∙ (or_parts (is_in_flight y.stage) (any_in_flight f) v).0))
 oldest-one (x ∷ e) [] o q l m s i j u v =
-    absurd (two_ways (is_in_flight q.progress) j (sym (ap (λ (w : Write). is_in_flight w.progress) (head-one x q (e ++ o ∷ l) m s)) ∙ (or_parts (is_in_flight x.progress) (any_in_flight e) u).0))
+    absurd (two_ways (is_in_flight q.stage) j (sym (ap (λ (w : Write). is_in_flight w.stage) (head-one x q (e ++ o ∷ l) m s)) ∙ (or_parts (is_in_flight x.stage) (any_in_flight e) u).0))
 oldest-one (x ∷ e) (y ∷ f) o q l m s i j u v =
-    ap (λ w. w ∷ e ++ record o { progress = acknowledged } ∷ l) (head-one x y (e ++ o ∷ l) (f ++ q ∷ m) s)
+    ap (λ w. w ∷ e ++ record o { stage = acknowledged } ∷ l) (head-one x y (e ++ o ∷ l) (f ++ q ∷ m) s)
     ∙ ap (λ ws. y ∷ ws) (oldest-one e f o q l m (tail-one x y (e ++ o ∷ l) (f ++ q ∷ m) s) i j
-    (or_parts (is_in_flight x.progress) (any_in_flight e) u).1 (or_parts (is_in_flight y.progress) (any_in_flight f) v).1)
+    (or_parts (is_in_flight x.stage) (any_in_flight e) u).1 (or_parts (is_in_flight y.stage) (any_in_flight f) v).1)
 
 acknowledges-one : (writes one other : List Write) → AcknowledgesOldest writes one → AcknowledgesOldest writes other → one ≡ other
 acknowledges-one writes one other a b =
@@ -102,7 +102,7 @@ takes-one sys state (Notify p at) one other first second t u =
     (t.3 ∙ ap (λ (x : Stamp). with_event sys state (Notified p x)) same ∙ sym u.3, t.4 ∙ sym u.4)
 takes-one sys state ProgressStep one other first second t u =
     let same = grows-one sys state t.0 u.0 t.1 u.1 t.2 u.2 in (
-      t.3 ∙ ap (λ (fs : List Front). record state { settled = fs; writes = state.writes ++ eager_writes sys state fs (places sys.flow) }) same ∙ sym u.3,
+      t.3 ∙ ap (λ (fs : List Front). record state { settled = fs; writes = state.writes ++ eager_writes sys state fs (node_ids sys.flow) }) same ∙ sym u.3,
       t.4 ∙ sym u.4,
     )
 takes-one sys state (Checkpoint p) one other first second t u = (t.3 ∙ sym u.3, t.4 ∙ sym u.4)
@@ -112,7 +112,7 @@ takes-one sys state (Fail ps) one other first second t u = (t.4 ∙ sym u.4, t.5
 takes-one sys state Recover one other first second t u =
     let same = largest-one sys state (is_failed state) kept t.1 u.1 t.5 u.5 in
     let settled = cuts-one sys state t.1 u.1 t.2 u.2 same t.6 u.6 in (
-      t.7 ∙ ap (λ c. recovered sys state c t.2) same ∙ ap (λ fs. recovered sys state u.1 fs) settled ∙ sym u.7,
+      t.7 ∙ ap (λ c. recovered_state sys state c t.2) same ∙ ap (λ fs. recovered_state sys state u.1 fs) settled ∙ sym u.7,
       t.8 ∙ ap (λ c. cuts c) same ∙ sym u.8,
     )
 takes-one sys state Collect one other first second t u =
@@ -125,7 +125,7 @@ takes-one sys state Collect one other first second t u =
     )
 takes-one sys state (Ack o) one other first second t u =
     let same : t.0 ≡ u.0 = t.1.next ∙ sym u.1.next in (
-      t.2 ∙ ap (λ x. record state { bounds = slice_set state.bounds o (x + 1) }) same ∙ sym u.2,
+      t.2 ∙ ap (λ x. record state { ack_counts = slice_set state.ack_counts o (x + 1) }) same ∙ sym u.2,
       t.3 ∙ ap (λ x. acked o (x ∷ []) (recs_at_output sys state o x)) same ∙ sym u.3,
     )
 

@@ -15,8 +15,8 @@ use Rattle.fw_flow.specs.Dataflow.{System, Dataflow, kind_of, sender, receiver, 
 use Rattle.fw_flow.specs.NodeFunction.{sent_by}
 use Rattle.fw_flow.specs.Projection.{events_at, all_inside, phi}
 use Rattle.fw_flow.specs.WellFormed.{IsWellFormed}
-use Rattle.fw_model.specs.History.{some_at, delivered, was_delivered_to, was_notified, owed, IsAdmissible, IsNotifiable, IsEnabled, IsLegal}
-use Rattle.fw_flow.specs.Message.{less}
+use Rattle.fw_model.specs.History.{some_at, delivered_messages, was_delivered_to, was_notified, is_owed_notice, IsAdmissible, IsNotifiable, IsEnabled, IsLegal}
+use Rattle.fw_flow.specs.Message.{messages_less}
 use Rattle.fw_model.specs.LawsOfCompleteFrontiers.{SequencesAreNotifiedInOrder, LegalInsidePhiComesFromInside}
 use Rattle.fw_model.proofs.StampLaws.{in_line, line-leq, leq_from, leq_to}
 use Rattle.fw_model.proofs.PhiLaws.{phi-monotone, phi-longer}
@@ -84,7 +84,7 @@ not_owed-same : (a b c d : Bool) → c ≡ true → (a && b && not (c || d)) ≡
 not_owed-same a b true d e = and-false (a && b)
 not_owed-same a b false d e = cc
 
-pub raised-paid : (sys : System) (h : List Event) (p : ℕ) (t s : Stamp) → IsNotifiable sys h p t → leq s t ≡ true → owed sys (Notify p t ∷ h) p s ≡ false
+pub raised-paid : (sys : System) (h : List Event) (p : ℕ) (t s : Stamp) → IsNotifiable sys h p t → leq s t ≡ true → is_owed_notice sys (Notify p t ∷ h) p s ≡ false
 raised-paid sys h p t s k l =
     let kind = is_notified_kind (kind_of sys.flow p) in
     let came = was_delivered_to sys.flow p s h in
@@ -96,11 +96,11 @@ raised-paid sys h p t s k l =
 
 raised-quiet : (sys : System) (h : List Event) → IsWellFormed sys.flow → (p : ℕ) (t s : Stamp) → kind_of sys.flow p ≡ Sequence → IsNotifiable sys h p t
     → leq s t ≡ true → (e : ℕ) → receiver sys.flow e ≡ p
-    → some_at (same s) (less (sent_by sys (sender sys.flow e) (events_at sys.flow (sender sys.flow e) (Notify p t ∷ h))) (delivered h e)) ≡ false
+    → some_at (same s) (messages_less (sent_by sys (sender sys.flow e) (events_at sys.flow (sender sys.flow e) (Notify p t ∷ h))) (delivered_messages h e)) ≡ false
 raised-quiet sys h w p t s is k l e r =
     let q = sender sys.flow e in
     let vs = events_at sys.flow q h in
-    cond_both (p == q) (Notify p t ∷ vs) vs (λ ws. some_at (same s) (less (sent_by sys q ws) (delivered h e)) ≡ false)
+    cond_both (p == q) (Notify p t ∷ vs) vs (λ ws. some_at (same s) (messages_less (sent_by sys q ws) (delivered_messages h e)) ≡ false)
     (λ c. absurd (no_loop sys.flow w e p is (sym (eqb-true p q c)) r)) (λ c. k.quiet s l e r)
 
 raise-admissible : (sys : System) (h : List Event) → IsWellFormed sys.flow → HasEpochs sys → IsLegal sys h
@@ -122,7 +122,7 @@ raise-admissible sys h w b l p t is k done a c =
       ];
       paid = λ q s i. elim (or_cases (done q s) (raised flow p t q s) i) [
         | inl j ↦ now.paid q s j
-        | inr j ↦ let x = is_raised flow p t q s j in ap (λ n. owed sys (v ∷ h) n s) x.node ∙ raised-paid sys h p t s k x.below
+        | inr j ↦ let x = is_raised flow p t q s j in ap (λ n. is_owed_notice sys (v ∷ h) n s) x.node ∙ raised-paid sys h p t s k x.below
       ];
       follows = λ e u i.
           let q = sender flow e in
@@ -199,14 +199,14 @@ either_way g s t i j =
       | inr l ↦ inl (leq_to s _ t (sym y.1) (leq_from (x.0 ∷ []) s _ (sym x.1) (line-leq x.0 y.0 l)))
     ]
 
-notified-below : (sys : System) (h : List Event) (p : ℕ) (t : Stamp) → kind_of sys.flow p ≡ Sequence → owed sys h p t ≡ true
+notified-below : (sys : System) (h : List Event) (p : ℕ) (t : Stamp) → kind_of sys.flow p ≡ Sequence → is_owed_notice sys h p t ≡ true
     → in_domain (bounds_of sys.flow p) t ≡ true → (s : Stamp) → in_domain (bounds_of sys.flow p) s ≡ true → IsInside sys h p s → leq s t ≡ true
 notified-below sys h p t is o i s j x =
     let line : (u : Stamp) → in_domain (bounds_of sys.flow p) u ≡ true → leq u (greatest_number ∷ []) ≡ true =
     λ u d. sym (ap (λ b. in_domain b u) (bounds-sequence sys.flow p is)) ∙ d in
     elim (either_way greatest_number s t (line s j) (line t i)) [
       | inl l ↦ l
-      | inr l ↦ absurd (two_ways (owed sys h p t) o (x.1.paid p t ((x.1.frontier p).closed t s i l x.2)))
+      | inr l ↦ absurd (two_ways (is_owed_notice sys h p t) o (x.1.paid p t ((x.1.frontier p).closed t s i l x.2)))
     ]
 
 descending : (sys : System) (h : List Event) → IsWellFormed sys.flow → HasEpochs sys → IsLegal sys h
@@ -228,7 +228,7 @@ descending sys (v ∷ h) w b l p is = after v l.0 (descending sys h w b l.1 p is
         cond_both (q == p) (Notify q t ∷ vs) vs (λ ws. AreDescending (notified_stamps ws))
         (λ e.
         let here = eqb-true q p e in
-        let o = sym (ap (λ n. owed sys h n t) here) ∙ k.is_owed in
+        let o = sym (ap (λ n. is_owed_notice sys h n t) here) ∙ k.is_owed in
         let d = sym (ap (λ n. in_domain (bounds_of sys.flow n) t) here) ∙ enabled-in_domain sys h w b (legal-in_domain sys h w b l.1) (Notify q t) k in (
           each-weaker (λ s. (in_domain bounds s ≡ true) × IsInside sys h p s) (λ s. leq s t ≡ true) (notified_stamps vs)
               (λ s x. notified-below sys h p t is o d s x.0 x.1)

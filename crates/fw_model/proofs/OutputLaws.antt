@@ -5,12 +5,12 @@ use Rattle.std.proofs.lemmas.List.Elements.{filter-append}
 use Rattle.std.specs.List.{flat_map, list_any}
 use Rattle.std.specs.Ordering.{is_eq}
 use Rattle.fw_bag.specs.declared.rec.Rec.{Rec}
-use Rattle.fw_bag.specs.Keyed.{joined, distinct_keys, sums_of}
+use Rattle.fw_bag.specs.Keyed.{joined_rec, distinct_keys, sums_of}
 use Rattle.fw_time.specs.Stamp.{Stamp, same}
 use Rattle.fw_flow.specs.declared.kind.Kind.{Kind}
 use Rattle.fw_flow.specs.declared.kind.Kind.TheVariants.{Input, OutputEpoch, OutputNumber, Distinct, Join, Sum, Total, Sequence, Ledger}
 use Rattle.fw_flow.specs.Dataflow.{Dataflow, send_stamp_of_kind}
-use Rattle.fw_flow.specs.WholeBags.{Timed, timed_cmp, recs_where, timed, timed_at_some, recs_for_one, one_by_one, is_among_timed, distinct_timed, joined_timed, has_stamp, distinct_stamps, sums_at, together, outputs_of_kind}
+use Rattle.fw_flow.specs.WholeBags.{Timed, timed_cmp, recs_where, timed_recs, timed_at_some, recs_for_one, one_by_one, is_among_timed, distinct_timed, joined_timed, has_stamp, distinct_stamps, sums_at, joint_bag, outputs_of_kind}
 use Rattle.fw_model.proofs.TimedLaws.{timed-same}
 use Rattle.fw_model.proofs.StampLaws.{same-is}
 use Rattle.fw_model.proofs.Decisions.{two_ways}
@@ -58,10 +58,10 @@ recs_where-part : (t u : Stamp) → same t u ≡ true → (rs : List Timed) → 
 recs_where-part t u e rs = sym (ap (map (λ (r : Timed). r.rec)) (part-part (same t) (same u) (λ s k. same-through t u s e k) rs))
 
 -- the part of the bags together is the parts together
-pub together-part : (p : Stamp → Bool) (bags : List (List Timed)) → together (map (part p) bags) ≡ part p (together bags)
+pub together-part : (p : Stamp → Bool) (bags : List (List Timed)) → joint_bag (map (part p) bags) ≡ part p (joint_bag bags)
 together-part p [] = refl
 together-part p (xs ∷ bags) =
-    ap (λ ys. part p xs ++ ys) (together-part p bags) ∙ sym (filter-append (λ (r : Timed). p r.at) xs (together bags))
+    ap (λ ys. part p xs ++ ys) (together-part p bags) ∙ sym (filter-append (λ (r : Timed). p r.at) xs (joint_bag bags))
 
 -- the part of what elements give, where each gives it in a part or gives nothing to it
 part-flat_map : {A : Type 0} (p : Stamp → Bool) (keep : A → Bool) (g h : A → List Timed)
@@ -81,16 +81,16 @@ part-flat_map p keep g h w (x ∷ xs) = step (part-flat_map p keep g h w xs) (ke
         ∙ ap (λ ys. ys ++ part p (flat_map g xs)) (w x ∙ cond-false (keep x) (part p (h x)) [] e)
         ∙ ih
 
-part-timed_out : (t u : Stamp) (rs : List Rec) → same t u ≡ false → part (same t) (timed u rs) ≡ []
+part-timed_out : (t u : Stamp) (rs : List Rec) → same t u ≡ false → part (same t) (timed_recs u rs) ≡ []
 part-timed_out t u [] e = refl
 part-timed_out t u (r ∷ rs) e =
-    cond-false (same t u) (record { at = u; rec = r } ∷ part (same t) (timed u rs)) (part (same t) (timed u rs)) e ∙ part-timed_out t u rs e
+    cond-false (same t u) (record { at = u; rec = r } ∷ part (same t) (timed_recs u rs)) (part (same t) (timed_recs u rs)) e ∙ part-timed_out t u rs e
 
 -- of recs at one stamp, what is at another is all or nothing
-part-timed : (t u : Stamp) (rs qs : List Rec) → (same t u ≡ true → rs ≡ qs) → part (same t) (timed u rs) ≡ cond (same t u) (part (same t) (timed u qs)) []
+part-timed : (t u : Stamp) (rs qs : List Rec) → (same t u ≡ true → rs ≡ qs) → part (same t) (timed_recs u rs) ≡ cond (same t u) (part (same t) (timed_recs u qs)) []
 part-timed t u rs qs w = elim (cases_Bool (same t u)) [
-  | inl e ↦ ap (λ xs. part (same t) (timed u xs)) (w e) ∙ sym (cond-true (same t u) (part (same t) (timed u qs)) [] e)
-  | inr e ↦ part-timed_out t u rs e ∙ sym (cond-false (same t u) (part (same t) (timed u qs)) [] e)
+  | inl e ↦ ap (λ xs. part (same t) (timed_recs u xs)) (w e) ∙ sym (cond-true (same t u) (part (same t) (timed_recs u qs)) [] e)
+  | inr e ↦ part-timed_out t u rs e ∙ sym (cond-false (same t u) (part (same t) (timed_recs u qs)) [] e)
 ]
 
 -- ---- the kinds
@@ -118,14 +118,14 @@ one_by_one-part flow kind t rs =
 joined-part : (t : Stamp) (xs ys : List Timed) → part (same t) (joined_timed xs ys) ≡ part (same t) (joined_timed (part (same t) xs) (part (same t) ys))
 joined-part t xs ys =
     part-flat_map (same t) (λ (r : Timed). same t r.at)
-    (λ r. timed r.at (joined r.rec (recs_where (same r.at) ys))) (λ r. timed r.at (joined r.rec (recs_where (same r.at) (part (same t) ys))))
-    (λ r. part-timed t r.at (joined r.rec (recs_where (same r.at) ys)) (joined r.rec (recs_where (same r.at) (part (same t) ys)))
-    (λ e. ap (joined r.rec) (recs_where-part t r.at e ys))) xs
+    (λ r. timed_recs r.at (joined_rec r.rec (recs_where (same r.at) ys))) (λ r. timed_recs r.at (joined_rec r.rec (recs_where (same r.at) (part (same t) ys))))
+    (λ r. part-timed t r.at (joined_rec r.rec (recs_where (same r.at) ys)) (joined_rec r.rec (recs_where (same r.at) (part (same t) ys)))
+    (λ e. ap (joined_rec r.rec) (recs_where-part t r.at e ys))) xs
 
 sums-part : (t : Stamp) (ts : List Stamp) (rs : List Timed) → part (same t) (sums_at ts rs) ≡ part (same t) (sums_at (filter (same t) ts) (part (same t) rs))
 sums-part t ts rs =
     let sums : List Rec → List Rec = λ qs. sums_of (distinct_keys qs) qs in
-    part-flat_map (same t) (same t) (λ u. timed u (sums (recs_where (same u) rs))) (λ u. timed u (sums (recs_where (same u) (part (same t) rs))))
+    part-flat_map (same t) (same t) (λ u. timed_recs u (sums (recs_where (same u) rs))) (λ u. timed_recs u (sums (recs_where (same u) (part (same t) rs))))
     (λ u. part-timed t u (sums (recs_where (same u) rs)) (sums (recs_where (same u) (part (same t) rs))) (λ e. ap sums (recs_where-part t u e rs))) ts
 
 distinct_stamps-part : (t : Stamp) (rs : List Timed) → filter (same t) (distinct_stamps rs) ≡ distinct_stamps (part (same t) rs)
@@ -208,7 +208,7 @@ outputs-part flow Input batches bags t k = refl
 outputs-part flow OutputEpoch batches bags t k = refl
 outputs-part flow OutputNumber batches bags t k = refl
 outputs-part flow (Distinct within) batches bags t k =
-    let rs = together bags in
+    let rs = joint_bag bags in
     distinct-part t rs
     ∙ ap distinct_timed (sym (part-part (same t) (same t) (λ s e. e) rs))
     ∙ sym (distinct-part t (part (same t) rs))
@@ -217,10 +217,10 @@ outputs-part flow (Join within) batches [] t k = refl
 outputs-part flow (Join within) batches (xs ∷ []) t k = refl
 outputs-part flow (Join within) batches (xs ∷ ys ∷ rest) t k = joined-part t xs ys
 outputs-part flow (Sum within) batches bags t k =
-    let rs = together bags in
+    let rs = joint_bag bags in
     sums-part t (distinct_stamps rs) rs
     ∙ ap (λ ts. part (same t) (sums_at ts (part (same t) rs))) (distinct_stamps-part t rs)
     ∙ ap (λ qs. part (same t) (sums_at (distinct_stamps qs) qs)) (sym (together-part (same t) bags))
 outputs-part flow kind batches bags t k =
-    one_by_one-part flow kind t (together bags)
+    one_by_one-part flow kind t (joint_bag bags)
     ∙ ap (λ rs. part (same t) (one_by_one flow kind rs)) (sym (together-part (sends_to flow kind t) bags))

@@ -18,8 +18,8 @@ use Rattle.fw_flow.specs.declared.kind.Policy.TheVariants as policy
 use Rattle.fw_flow.specs.Dataflow.{System, Dataflow, kind_of, policy_of, sender, receiver, bounds_of, bounds_of_domain, bounds_of_edge, HasEpochs}
 use Rattle.fw_flow.specs.Projection.{all_inside}
 use Rattle.fw_flow.specs.WellFormed.{IsWellFormed, IsPolicyAllowed}
-use Rattle.fw_flow.specs.Message.{less}
-use Rattle.fw_model.specs.History.{some_at, sent, delivered, pending, IsLegal}
+use Rattle.fw_flow.specs.Message.{messages_less}
+use Rattle.fw_model.specs.History.{some_at, sent_messages, delivered_messages, pending_messages, IsLegal}
 use Rattle.fw_model.specs.Machine.{Machine, events}
 use Rattle.fw_flow.specs.declared.choice.Choice.{Choice}
 use Rattle.fw_model.specs.Choice.{cut_of, kept_of}
@@ -69,19 +69,19 @@ pending-at_others sys h keep w b l fr e =
     let g = keep (receiver sys.flow e) in
     let f = keep (sender sys.flow e) in
     let outside : Message → Bool = λ m. not (g m.at) in
-    ap (λ ms. messages_outside g (less ms (delivered (kept_events sys.flow keep h) e))) (sends-same sys h keep w b l fr e)
-    ∙ ap (λ ds. messages_outside g (less (messages_from f (sent sys h e)) ds)) (delivers-same sys.flow h keep e)
-    ∙ filter-less outside (messages_from f (sent sys h e)) (messages_inside g (delivered h e))
-    ∙ ap (less (messages_outside g (messages_from f (sent sys h e)))) (none-rest (λ (m : Message). g m.at) (delivered h e))
+    ap (λ ms. messages_outside g (messages_less ms (delivered_messages (kept_events sys.flow keep h) e))) (sends-same sys h keep w b l fr e)
+    ∙ ap (λ ds. messages_outside g (messages_less (messages_from f (sent_messages sys h e)) ds)) (delivers-same sys.flow h keep e)
+    ∙ filter-less outside (messages_from f (sent_messages sys h e)) (messages_inside g (delivered_messages h e))
+    ∙ ap (messages_less (messages_outside g (messages_from f (sent_messages sys h e)))) (none-rest (λ (m : Message). g m.at) (delivered_messages h e))
 
 -- ---- a receiver that stays as it is
 
 -- what is sent is at stamps of the receiver
 sent-in_domain : (sys : System) (h : List Event) → IsWellFormed sys.flow → HasEpochs sys → IsLegal sys h → (e : ℕ)
-    → AllByRecursion (λ (m : Message). in_domain (bounds_of sys.flow (receiver sys.flow e)) m.at ≡ true) (sent sys h e)
+    → AllByRecursion (λ (m : Message). in_domain (bounds_of sys.flow (receiver sys.flow e)) m.at ≡ true) (sent_messages sys h e)
 unfolding bounds_of
 sent-in_domain sys h w b l e =
-    each-weaker (λ (m : Message). in_domain (bounds_of_edge sys.flow e) m.at ≡ true) (λ m. in_domain (bounds_of sys.flow (receiver sys.flow e)) m.at ≡ true) (sent sys h e)
+    each-weaker (λ (m : Message). in_domain (bounds_of_edge sys.flow e) m.at ≡ true) (λ m. in_domain (bounds_of sys.flow (receiver sys.flow e)) m.at ≡ true) (sent_messages sys h e)
     (λ m i. sym (ap (λ d. in_domain (bounds_of_domain sys.flow d) m.at) (edge_domains sys.flow w e)) ∙ i) (legal_messages-in_domain sys h w b l e)
 
 present-all : (sys : System) (choice : Choice) (p : ℕ) (ms : List Message) → cut_of choice p ≡ Present
@@ -100,12 +100,12 @@ pending-present sys state choice w b l c e is =
     let now = kept_events sys.flow keep h in
     let P : Message → Type 0 = λ m. in_domain (bounds_of sys.flow r) m.at ≡ true in
     let sent_before = sent-in_domain sys h w b l e in
-    let sent_now = subst (AllByRecursion P) (sym (sends-same sys h keep w b l k.kept e)) (each-kept P (λ m. all_inside f m.causes) (sent sys h e) sent_before) in
-    let before = each-kept P (λ m. all_inside f m.causes) (pending sys h e) (less-each P (sent sys h e) (delivered h e) sent_before) in
-    ap (λ vs. pending sys vs e) (filtered-events sys choice state.history)
-    ∙ sym (present-all sys choice r (pending sys now e) is (less-each P (sent sys now e) (delivered now e) sent_now))
+    let sent_now = subst (AllByRecursion P) (sym (sends-same sys h keep w b l k.kept e)) (each-kept P (λ m. all_inside f m.causes) (sent_messages sys h e) sent_before) in
+    let before = each-kept P (λ m. all_inside f m.causes) (pending_messages sys h e) (less-each P (sent_messages sys h e) (delivered_messages h e) sent_before) in
+    ap (λ vs. pending_messages sys vs e) (filtered-events sys choice state.history)
+    ∙ sym (present-all sys choice r (pending_messages sys now e) is (less-each P (sent_messages sys now e) (delivered_messages now e) sent_now))
     ∙ pending-at_kept sys h keep w b l k.kept k.delivered e
-    ∙ present-all sys choice r (messages_from f (pending sys h e)) is before
+    ∙ present-all sys choice r (messages_from f (pending_messages sys h e)) is before
 
 -- ---- a receiver that is cut within what is settled
 
@@ -127,11 +127,11 @@ pending-cut sys state choice w b l full c e within =
     let f = keep (sender sys.flow e) in
     let k = choice-consistent sys state choice w c in
     let now = kept_events sys.flow keep h in
-    let quiet = none-inside g (pending sys h e) (λ t i. full.quiet r t (within t i) e refl) in
-    let none = filter-none (λ (m : Message). g m.at) (messages_from f (pending sys h e))
-    (each-kept (λ (m : Message). g m.at ≡ false) (λ m. all_inside f m.causes) (pending sys h e) quiet) in
-    ap (λ vs. pending sys vs e) (filtered-events sys choice state.history)
-    ∙ sym (all-rest (λ (m : Message). g m.at) (pending sys now e) (pending-at_kept sys h keep w b l k.kept k.delivered e ∙ none))
+    let quiet = none-inside g (pending_messages sys h e) (λ t i. full.quiet r t (within t i) e refl) in
+    let none = filter-none (λ (m : Message). g m.at) (messages_from f (pending_messages sys h e))
+    (each-kept (λ (m : Message). g m.at ≡ false) (λ m. all_inside f m.causes) (pending_messages sys h e) quiet) in
+    ap (λ vs. pending_messages sys vs e) (filtered-events sys choice state.history)
+    ∙ sym (all-rest (λ (m : Message). g m.at) (pending_messages sys now e) (pending-at_kept sys h keep w b l k.kept k.delivered e ∙ none))
     ∙ pending-at_others sys h keep w b l k.kept e
 
 -- ---- a sender that cannot send again
@@ -148,7 +148,7 @@ above-from test (m ∷ ms) =
 
 -- what is sent from inside a frontier is in a cover
 abbrev IsSentInside : System → List Event → ℕ → Frontier → Frontier → Type 0
-IsSentInside sys h e f cover = AllByRecursion (λ (m : Message). all_inside f m.causes ≡ true → cover m.at ≡ true) (sent sys h e)
+IsSentInside sys h e f cover = AllByRecursion (λ (m : Message). all_inside f m.causes ≡ true → cover m.at ≡ true) (sent_messages sys h e)
 
 sent-covered : (sys : System) (state : Machine) → IsWellFormed sys.flow → HasEpochs sys → IsLegal sys (events state.history) → (e : ℕ) (cut : Cut)
     → IsSentInside sys (events state.history) e (set_of sys.flow (sender sys.flow e) cut) ((tallies_in sys state).sent e cut)
@@ -156,12 +156,12 @@ sent-covered sys state w b l e cut =
     let f = set_of sys.flow (sender sys.flow e) cut in
     let h = events state.history in
     let bounds = bounds_of sys.flow (receiver sys.flow e) in
-    let ss = stamps_from f (sent sys h e) in
+    let ss = stamps_from f (sent_messages sys h e) in
     each-weaker (λ (m : Message). (in_domain bounds m.at ≡ true) × (all_inside f m.causes ≡ true → some_above ss m.at ≡ true))
-    (λ m. all_inside f m.causes ≡ true → cover bounds ss m.at ≡ true) (sent sys h e)
+    (λ m. all_inside f m.causes ≡ true → cover bounds ss m.at ≡ true) (sent_messages sys h e)
     (λ m a i. and_from (in_domain bounds m.at) (some_above ss m.at) a.0 (a.1 i))
-    (each-both (λ (m : Message). in_domain bounds m.at ≡ true) (λ m. all_inside f m.causes ≡ true → some_above ss m.at ≡ true) (sent sys h e)
-    (sent-in_domain sys h w b l e) (above-from (λ (m : Message). all_inside f m.causes) (sent sys h e)))
+    (each-both (λ (m : Message). in_domain bounds m.at ≡ true) (λ m. all_inside f m.causes ≡ true → some_above ss m.at ≡ true) (sent_messages sys h e)
+    (sent-in_domain sys h w b l e) (above-from (λ (m : Message). all_inside f m.causes) (sent_messages sys h e)))
 
 -- a sequence keeps something
 keeps_something : (p : Policy) → IsPolicyAllowed Sequence p → restoring_of_policy p ≡ Anything → ⊥
@@ -223,7 +223,7 @@ pending-without_log sys state choice w b l full c e within keeps no_log =
     let g = kept_of sys.flow choice (receiver sys.flow e) in
     let f = kept_of sys.flow choice q in
     pending-cut sys state choice w b l full c e within
-    ∙ none-left (λ (m : Message). g m.at) (λ m. all_inside f m.causes) (sent sys h e)
+    ∙ none-left (λ (m : Message). g m.at) (λ m. all_inside f m.causes) (sent_messages sys h e)
     (each-weaker (λ (m : Message). all_inside f m.causes ≡ true → (covers_in sys state).discarded e (cut_of choice q) m.at ≡ true)
-    (λ m. all_inside f m.causes ≡ true → g m.at ≡ true) (sent sys h e) (λ m a i. keeps m.at (a i))
+    (λ m. all_inside f m.causes ≡ true → g m.at ≡ true) (sent_messages sys h e) (λ m a i. keeps m.at (a i))
     (discarded-sent sys state w b l e (cut_of choice q) no_log))

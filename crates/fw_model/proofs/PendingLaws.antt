@@ -6,7 +6,7 @@ use Rattle.std.proofs.lemmas.Bool.{and_from, or_cases, or_left, or_right, or_par
 use Rattle.fw_time.specs.Stamp.{Stamp, leq, same}
 use Rattle.fw_time.proofs.StampLaws.{leq-refl}
 use Rattle.fw_flow.specs.declared.event.Message.{Message}
-use Rattle.fw_flow.specs.Message.{message_cmp, is_among, without, less}
+use Rattle.fw_flow.specs.Message.{message_cmp, is_among, messages_without, messages_less}
 use Rattle.fw_flow.proofs.MessageLaws.{message_cmp-equal, without-here, without-later}
 use Rattle.fw_model.specs.History.{some_at}
 
@@ -23,25 +23,25 @@ part-out t m ms e = cond-false (same t m.at) (m ∷ part t ms) (part t ms) e
 
 -- what is left of the messages at a stamp, when one message is taken away
 abbrev left_of : Bool → Message → List Message → List Message
-left_of a d ms = cond a (without d ms) ms
+left_of a d ms = cond a (messages_without d ms) ms
 
 part_without-here : (t : Stamp) (d x : Message) (xs : List Message) → is_eq (message_cmp d x) ≡ true
-    → part t (without d (x ∷ xs)) ≡ left_of (same t d.at) d (part t (x ∷ xs))
+    → part t (messages_without d (x ∷ xs)) ≡ left_of (same t d.at) d (part t (x ∷ xs))
 part_without-here t d x xs e =
     let at = ap (λ (y : Message). same t y.at) (message_cmp-equal d x e) in
     let gone = ap (part t) (without-here d x xs e) in
     elim (cases_Bool (same t d.at)) [
-      | inl k ↦ gone ∙ sym (cond-true (same t d.at) (without d (part t (x ∷ xs))) (part t (x ∷ xs)) k
-          ∙ ap (without d) (part-in t x xs (sym at ∙ k)) ∙ without-here d x (part t xs) e)
-      | inr k ↦ gone ∙ sym (cond-false (same t d.at) (without d (part t (x ∷ xs))) (part t (x ∷ xs)) k ∙ part-out t x xs (sym at ∙ k))
+      | inl k ↦ gone ∙ sym (cond-true (same t d.at) (messages_without d (part t (x ∷ xs))) (part t (x ∷ xs)) k
+          ∙ ap (messages_without d) (part-in t x xs (sym at ∙ k)) ∙ without-here d x (part t xs) e)
+      | inr k ↦ gone ∙ sym (cond-false (same t d.at) (messages_without d (part t (x ∷ xs))) (part t (x ∷ xs)) k ∙ part-out t x xs (sym at ∙ k))
     ]
 
 left_of-later : (a : Bool) (d x : Message) (ms : List Message) → is_eq (message_cmp d x) ≡ false → left_of a d (x ∷ ms) ≡ x ∷ left_of a d ms
 left_of-later true d x ms e = without-later d x ms e
 left_of-later false d x ms e = refl
 
-part-without : (t : Stamp) (d : Message) (ms : List Message) → part t (without d ms) ≡ left_of (same t d.at) d (part t ms)
-part-without t d [] = cond_both (same t d.at) (without d []) [] (λ l. [] ≡ l) (λ e. refl) (λ e. refl)
+part-without : (t : Stamp) (d : Message) (ms : List Message) → part t (messages_without d ms) ≡ left_of (same t d.at) d (part t ms)
+part-without t d [] = cond_both (same t d.at) (messages_without d []) [] (λ l. [] ≡ l) (λ e. refl) (λ e. refl)
 part-without t d (x ∷ xs) = elim (cases_Bool (is_eq (message_cmp d x))) [
   | inl e ↦ part_without-here t d x xs e
   | inr e ↦
@@ -49,9 +49,9 @@ part-without t d (x ∷ xs) = elim (cases_Bool (is_eq (message_cmp d x))) [
       let later = ap (part t) (without-later d x xs e) in
       let h = part-without t d xs in
       elim (cases_Bool (same t x.at)) [
-        | inl k ↦ later ∙ part-in t x (without d xs) k ∙ ap (λ l. x ∷ l) h
+        | inl k ↦ later ∙ part-in t x (messages_without d xs) k ∙ ap (λ l. x ∷ l) h
             ∙ sym (ap (left_of a d) (part-in t x xs k) ∙ left_of-later a d x (part t xs) e)
-        | inr k ↦ later ∙ part-out t x (without d xs) k ∙ h ∙ sym (ap (left_of a d) (part-out t x xs k))
+        | inr k ↦ later ∙ part-out t x (messages_without d xs) k ∙ h ∙ sym (ap (left_of a d) (part-out t x xs k))
       ]
 ]
 
@@ -60,9 +60,9 @@ abbrev left_after : Stamp → List Message → List Message → List Message
 left_after t ms [] = ms
 left_after t ms (d ∷ ds) = left_of (same t d.at) d (left_after t ms ds)
 
-part-less : (t : Stamp) (ms ds : List Message) → part t (less ms ds) ≡ left_after t (part t ms) ds
+part-less : (t : Stamp) (ms ds : List Message) → part t (messages_less ms ds) ≡ left_after t (part t ms) ds
 part-less t ms [] = refl
-part-less t ms (d ∷ ds) = part-without t d (less ms ds) ∙ ap (left_of (same t d.at) d) (part-less t ms ds)
+part-less t ms (d ∷ ds) = part-without t d (messages_less ms ds) ∙ ap (left_of (same t d.at) d) (part-less t ms ds)
 
 part-new : (t : Stamp) (new old : List Message) → AllByRecursion (λ (m : Message). same t m.at ≡ false) new → part t (new ++ old) ≡ part t old
 part-new t [] old a = refl
@@ -83,17 +83,17 @@ part-none t (m ∷ ms) k = elim (cases_Bool (same t m.at)) [
 
 -- nothing comes to be pending at a stamp by messages at other stamps
 pub quiet-new : (t : Stamp) (new old ds : List Message) → AllByRecursion (λ (m : Message). same t m.at ≡ false) new
-    → some_at (same t) (less old ds) ≡ false → some_at (same t) (less (new ++ old) ds) ≡ false
+    → some_at (same t) (messages_less old ds) ≡ false → some_at (same t) (messages_less (new ++ old) ds) ≡ false
 quiet-new t new old ds a k =
-    part-none t (less (new ++ old) ds)
-    (part-less t (new ++ old) ds ∙ ap (λ l. left_after t l ds) (part-new t new old a) ∙ sym (part-less t old ds) ∙ none-part t (less old ds) k)
+    part-none t (messages_less (new ++ old) ds)
+    (part-less t (new ++ old) ds ∙ ap (λ l. left_after t l ds) (part-new t new old a) ∙ sym (part-less t old ds) ∙ none-part t (messages_less old ds) k)
 
-pub quiet-without : (t : Stamp) (d : Message) (ms : List Message) → some_at (same t) ms ≡ false → some_at (same t) (without d ms) ≡ false
+pub quiet-without : (t : Stamp) (d : Message) (ms : List Message) → some_at (same t) ms ≡ false → some_at (same t) (messages_without d ms) ≡ false
 quiet-without t d [] k = refl
 quiet-without t d (x ∷ xs) k =
     let a = or_parts (same t x.at) (some_at (same t) xs) k in
-    cond_both (is_eq (message_cmp d x)) xs (x ∷ without d xs) (λ l. some_at (same t) l ≡ false)
-    (λ e. a.1) (λ e. or_from (same t x.at) (some_at (same t) (without d xs)) a.0 (quiet-without t d xs a.1))
+    cond_both (is_eq (message_cmp d x)) xs (x ∷ messages_without d xs) (λ l. some_at (same t) l ≡ false)
+    (λ e. a.1) (λ e. or_from (same t x.at) (some_at (same t) (messages_without d xs)) a.0 (quiet-without t d xs a.1))
 
 pub is_among-some_at : (m : Message) (ms : List Message) → is_among m ms ≡ true → some_at (same m.at) ms ≡ true
 is_among-some_at m [] k = k

@@ -8,8 +8,8 @@ use Rattle.fw_flow.specs.declared.event.Message.{Message}
 use Rattle.fw_flow.specs.declared.kind.Kind.{Kind}
 use Rattle.fw_flow.specs.declared.kind.Kind.TheVariants.{Enter, Feedback, Leave, Sequence, Regroup}
 use Rattle.fw_flow.specs.Dataflow.{greatest_of_kind, System, kind_of, sender, out_domain_of_kind, bounds_of_domain}
-use Rattle.fw_flow.specs.NodeFunction.{place, sent_by, sends}
-use Rattle.fw_flow.specs.Projection.{events_at, all_inside, count_from, sent_count, first_number_of, each_counter, phi_of_kind, phi, phi_by_count}
+use Rattle.fw_flow.specs.NodeFunction.{event_node, sent_by, sends}
+use Rattle.fw_flow.specs.Projection.{events_at, all_inside, count_from, sent_count, first_coordinate, each_counter, phi_of_kind, phi, phi_by_count}
 use Rattle.fw_model.specs.LawsOfProjections.{PhiByCountIsMonotone, PhiIsMonotone, PhiGrowsWithHistory}
 
 -- ---- counts of messages
@@ -46,7 +46,7 @@ sent_count-longer sys h [] p f = omega arith
 sent_count-longer sys h (v ∷ more) p f =
     let vs = events_at sys.flow p (more ++ h) in
     let k = sent_count-longer sys h more p f in
-    cond_both (place sys.flow v == p) (v ∷ vs) vs (λ ws. sent_count sys h p f ≤ count_from f (sent_by sys p ws))
+    cond_both (event_node sys.flow v == p) (v ∷ vs) vs (λ ws. sent_count sys h p f ≤ count_from f (sent_by sys p ws))
     (λ e. omega (arith, k, sent_by-longer sys p f v vs)) (λ e. k)
 
 -- ---- phi grows
@@ -69,7 +69,7 @@ pub phi_of_kind-monotone : (greatest : Stamp) (kind : Kind) (m n : ℕ) (f g : F
 phi_of_kind-monotone greatest (Enter l) m n f g w c u k = w (outer u) k
 phi_of_kind-monotone greatest (Feedback l) m n f g w c u k = or_monotone (counter u == 0) _ _ (w (nest (outer u) (counter u - 1))) k
 phi_of_kind-monotone greatest (Leave l) m n f g w c u k = each_counter-monotone f g w u (counter greatest) k
-phi_of_kind-monotone greatest Sequence m n f g w c u k = sequence_phi-monotone _ _ (first_number_of u) m n (w greatest) c k
+phi_of_kind-monotone greatest Sequence m n f g w c u k = sequence_phi-monotone _ _ (first_coordinate u) m n (w greatest) c k
 phi_of_kind-monotone greatest (Regroup r) m n f g w c u k = w _ k
 phi_of_kind-monotone greatest kind m n f g w c u k = w u k
 

@@ -15,9 +15,9 @@ use Rattle.fw_flow.specs.Dataflow.{System, Dataflow, idle_node, kind_of, sender,
 use Rattle.fw_flow.specs.NodeFunction.{sequence_sent, numbered_messages, recs_on_notification}
 use Rattle.fw_flow.specs.Projection.{events_at}
 use Rattle.fw_flow.specs.WellFormed.{IsWellFormedSystem}
-use Rattle.fw_flow.specs.WholeBags.{Timed, in_order, numbered}
+use Rattle.fw_flow.specs.WholeBags.{Timed, in_order, numbered_recs}
 use Rattle.fw_model.specs.Denotation.{Family, IsDenotation, bag_at}
-use Rattle.fw_model.specs.History.{was_notified, sent, delivered, IsAdmissible, IsEnabled, IsNotifiable, IsLegal, IsClosedFor, recs_at}
+use Rattle.fw_model.specs.History.{was_notified, sent_messages, delivered_messages, IsAdmissible, IsEnabled, IsNotifiable, IsLegal, IsClosedFor, recs_at}
 use Rattle.fw_model.specs.LawsOfDeliveries.{SentInsidePhiIsDenoted, DeliveredInsideCompleteIsDenoted, DeliveredUpToClosedIsDenoted}
 use Rattle.fw_model.proofs.FrontierLaws.{phi-frontier}
 use Rattle.fw_model.proofs.LegalLaws.{enabled-in_domain, legal-in_domain}
@@ -42,7 +42,7 @@ AllDenoted sys h family = (done : ℕ → Frontier) → IsAdmissible sys h done 
 
 -- up to a closed stamp what was delivered is what the family has
 pub closed-denoted : (sys : System) (h : List Event) (family : Family) → IsLegal sys h → AllDenoted sys h family → (p : ℕ) (t : Stamp) → IsClosedFor sys h p t
-    → (u : Stamp) → leq u t ≡ true → (d : ℕ) → receiver sys.flow d ≡ p → (q : Rec) → weigh (one u q) (timed_of (delivered h d)) ≡ weigh (one u q) (family d)
+    → (u : Stamp) → leq u t ≡ true → (d : ℕ) → receiver sys.flow d ≡ p → (q : Rec) → weigh (one u q) (timed_of (delivered_messages h d)) ≡ weigh (one u q) (family d)
 closed-denoted sys h family l all p t c u below d at q =
     let done = c.complete.0 in
     let a = c.complete.1 in
@@ -116,7 +116,7 @@ numbered_before sys h family p t n r q i j k l =
 
 sent-now : (sys : System) (h : List Event) (family : Family) (p : ℕ) (t : Stamp) → Notifying sys h family p t → (w : Timed → ℕ)
     → weigh w (timed_of (sequence_sent (Notify p t ∷ events_at sys.flow p h)))
-    ≡ weigh w (numbered 0 (filter (is_numbered_in (Notify p t ∷ h) p) (in_order (whole sys family p))))
+    ≡ weigh w (numbered_recs 0 (filter (is_numbered_in (Notify p t ∷ h) p) (in_order (whole sys family p))))
 sent-now sys h family p t n w =
     let vs = events_at sys.flow p h in
     let bag = whole sys family p in
@@ -126,20 +126,20 @@ sent-now sys h family p t n w =
     let block = filter now xs in
     let rs = recs_on_notification Sequence vs t in
     let m = length (sequence_sent vs) in
-    let counted : m ≡ length (numbered 0 first) = sym (length-messages (sequence_sent vs)) ∙ n.before.sent (λ r. 1) ∙ length-weigh (numbered 0 first) in
-    let zero_more : 0 + length (numbered 0 first) ≡ m = omega arith in
+    let counted : m ≡ length (numbered_recs 0 first) = sym (length-messages (sequence_sent vs)) ∙ n.before.sent (λ r. 1) ∙ length-weigh (numbered_recs 0 first) in
+    let zero_more : 0 + length (numbered_recs 0 first) ≡ m = omega arith in
     let block_is : rs ≡ map (λ r. r.rec) block =
     block-is t vs bag (λ q. came_up_to sys h family p t n t (leq-refl t) q)
     ∙ ap (λ ys. map (λ (r : Timed). r.rec) ys) (filter-same (λ r. same t r.at) now xs (each_member (λ r. same t r.at ≡ now r) xs (λ r i. sym (ap (λ b. b && same t r.at) (eq-eqb p p refl))))) in
     ap (weigh w) (timed_of-append (numbered_messages m t rs) (sequence_sent vs))
     ∙ weigh-append w (timed_of (numbered_messages m t rs)) (timed_of (sequence_sent vs))
     ∙ ap (λ ys. weigh w ys + weigh w (timed_of (sequence_sent vs))) (numbered-messages m t rs block block_is)
-    ∙ ap (λ k. weigh w (numbered m block) + k) (n.before.sent w)
-    ∙ add_comm (weigh w (numbered m block)) (weigh w (numbered 0 first))
-    ∙ ap (λ k. weigh w (numbered 0 first) + weigh w (numbered k block)) (sym zero_more)
-    ∙ sym (weigh-append w (numbered 0 first) (numbered (0 + length (numbered 0 first)) block))
+    ∙ ap (λ k. weigh w (numbered_recs m block) + k) (n.before.sent w)
+    ∙ add_comm (weigh w (numbered_recs m block)) (weigh w (numbered_recs 0 first))
+    ∙ ap (λ k. weigh w (numbered_recs 0 first) + weigh w (numbered_recs k block)) (sym zero_more)
+    ∙ sym (weigh-append w (numbered_recs 0 first) (numbered_recs (0 + length (numbered_recs 0 first)) block))
     ∙ sym (ap (weigh w) (numbered-append 0 first block))
-    ∙ sym (ap (λ ys. weigh w (numbered 0 ys)) (filter-parts (is_numbered_in h p) now xs (ascending-in_order bag) (numbered_before sys h family p t n)))
+    ∙ sym (ap (λ ys. weigh w (numbered_recs 0 ys)) (filter-parts (is_numbered_in h p) now xs (ascending-in_order bag) (numbered_before sys h family p t n)))
 
 -- ---- each event
 
@@ -150,14 +150,14 @@ sequenced-step sys h family w l den all p is s (Inject q x) k =
     let xs = in_order (whole sys family p) in
     record {
       sure = s.sure;
-      sent = λ f. cond_both (q == p) (Inject q x ∷ vs) vs (λ ws. weigh f (timed_of (sequence_sent ws)) ≡ weigh f (numbered 0 (filter (is_numbered_in h p) xs))) (λ c. s.sent f) (λ c. s.sent f);
+      sent = λ f. cond_both (q == p) (Inject q x ∷ vs) vs (λ ws. weigh f (timed_of (sequence_sent ws)) ≡ weigh f (numbered_recs 0 (filter (is_numbered_in h p) xs))) (λ c. s.sent f) (λ c. s.sent f);
     }
 sequenced-step sys h family w l den all p is s (Deliver e m) k =
     let vs = events_at sys.flow p h in
     let xs = in_order (whole sys family p) in
     record {
       sure = s.sure;
-      sent = λ f. cond_both (receiver sys.flow e == p) (Deliver e m ∷ vs) vs (λ ws. weigh f (timed_of (sequence_sent ws)) ≡ weigh f (numbered 0 (filter (is_numbered_in h p) xs))) (λ c. s.sent f) (λ c. s.sent f);
+      sent = λ f. cond_both (receiver sys.flow e == p) (Deliver e m ∷ vs) vs (λ ws. weigh f (timed_of (sequence_sent ws)) ≡ weigh f (numbered_recs 0 (filter (is_numbered_in h p) xs))) (λ c. s.sent f) (λ c. s.sent f);
     }
 sequenced-step sys h family w l den all p is s (Notify q t) k = elim (cases_Bool (q == p)) [
   | inl c ↦
@@ -173,14 +173,14 @@ sequenced-step sys h family w l den all p is s (Notify q t) k = elim (cases_Bool
   | inr c ↦
       let vs = events_at sys.flow p h in
       let xs = in_order (whole sys family p) in
-      let same_note : (u : Stamp) → was_notified p u (Notify q t ∷ h) ≡ was_notified p u h = λ u. ap (λ b. (b && same t u) || was_notified p u h) c in
+      let same_notice : (u : Stamp) → was_notified p u (Notify q t ∷ h) ≡ was_notified p u h = λ u. ap (λ b. (b && same t u) || was_notified p u h) c in
       record {
-        sure = λ z u r i j m. same_note u ∙ s.sure z u r (sym (same_note z) ∙ i) j m;
+        sure = λ z u r i j m. same_notice u ∙ s.sure z u r (sym (same_notice z) ∙ i) j m;
         sent = λ f.
             ap (λ b. weigh f (timed_of (sequence_sent (cond b (Notify q t ∷ vs) vs)))) c
             ∙ s.sent f
-            ∙ sym (ap (λ ys. weigh f (numbered 0 ys)) (filter-same (is_numbered_in (Notify q t ∷ h) p) (is_numbered_in h p) xs
-            (each_member (λ r. is_numbered_in (Notify q t ∷ h) p r ≡ is_numbered_in h p r) xs (λ r i. same_note r.at))));
+            ∙ sym (ap (λ ys. weigh f (numbered_recs 0 ys)) (filter-same (is_numbered_in (Notify q t ∷ h) p) (is_numbered_in h p) xs
+            (each_member (λ r. is_numbered_in (Notify q t ∷ h) p r ≡ is_numbered_in h p r) xs (λ r i. same_notice r.at))));
       }
 ]
 
@@ -192,7 +192,7 @@ sequenced sys [] family w l den p is =
     let xs = in_order (whole sys family p) in
     record {
       sure = λ s u r i j m. absurd (two_ways false i refl);
-      sent = λ f. sym (ap (λ ys. weigh f (numbered 0 ys)) (filter-none (λ r. false) xs (each_member (λ r. false ≡ false) xs (λ r i. refl))));
+      sent = λ f. sym (ap (λ ys. weigh f (numbered_recs 0 ys)) (filter-none (λ r. false) xs (each_member (λ r. false ≡ false) xs (λ r i. refl))));
     }
 sequenced sys (v ∷ h) family w l den p is =
     sequenced-step sys h family w l.1 den (sent-denoted sys h family w l.1 den (sequenced sys h family w l.1 den)) p is (sequenced sys h family w l.1 den p is) v l.0
@@ -204,19 +204,19 @@ all_denoted sys h family w l den = sent-denoted sys h family w l den (sequenced 
 
 pub sent-is_denoted : SentInsidePhiIsDenoted
 sent-is_denoted sys h family w l den done a e t i =
-    sorted-is (recs_at t (sent sys h e)) (bag_at family e t) (bag-ascending sys family den e t)
-    (λ q. how_often-recs_at t q (sent sys h e) ∙ all_denoted sys h family w l den done a e t i q ∙ sym (how_often-where t q (family e)))
+    sorted-is (recs_at t (sent_messages sys h e)) (bag_at family e t) (bag-ascending sys family den e t)
+    (λ q. how_often-recs_at t q (sent_messages sys h e) ∙ all_denoted sys h family w l den done a e t i q ∙ sym (how_often-where t q (family e)))
 
 pub delivered-is_denoted : DeliveredInsideCompleteIsDenoted
 delivered-is_denoted sys h family w l den done a e t i =
-    sorted-is (recs_at t (delivered h e)) (bag_at family e t) (bag-ascending sys family den e t)
-    (λ q. how_often-recs_at t q (delivered h e)
+    sorted-is (recs_at t (delivered_messages h e)) (bag_at family e t) (bag-ascending sys family den e t)
+    (λ q. how_often-recs_at t q (delivered_messages h e)
     ∙ delivered-denoted sys h family l done a e t (all_denoted sys h family w l den done a e t) i q
     ∙ sym (how_often-where t q (family e)))
 
 pub closed-is_denoted : DeliveredUpToClosedIsDenoted
 closed-is_denoted sys h family w l den p t c e r s below =
-    sorted-is (recs_at s (delivered h e)) (bag_at family e s) (bag-ascending sys family den e s)
-    (λ q. how_often-recs_at s q (delivered h e)
+    sorted-is (recs_at s (delivered_messages h e)) (bag_at family e s) (bag-ascending sys family den e s)
+    (λ q. how_often-recs_at s q (delivered_messages h e)
     ∙ closed-denoted sys h family l (all_denoted sys h family w l den) p t c s below e r q
     ∙ sym (how_often-where s q (family e)))

@@ -4,13 +4,13 @@ use Rattle.std.proofs.lemmas.Bool.{and_parts}
 use Rattle.std.proofs.Math.Nat.{div-le_self, min-le_left, min-le_right, le-min}
 use Rattle.fw_time.specs.declared.stamp.Bounds.{Bounds}
 use Rattle.fw_time.specs.Stamp.{Stamp, leq, nest, outer, counter, in_domain}
-use Rattle.fw_time.specs.Sending.{entered, fed_back, left, regrouped}
+use Rattle.fw_time.specs.Sending.{entered_stamp, fed_back_stamp, left_stamp, regrouped_stamp}
 use Rattle.fw_time.proofs.StampLaws.{leq-refl, leq-trans}
 use Rattle.fw_frontier.specs.Frontier.{Frontier, IsFrontier}
 use Rattle.fw_flow.specs.declared.kind.Kind.{Kind}
 use Rattle.fw_flow.specs.declared.kind.Kind.TheVariants.{OutputEpoch, OutputNumber, Enter, Feedback, Leave, Sequence, Regroup}
 use Rattle.fw_flow.specs.Dataflow.{kind_of, sender, max_of, greatest_number, domain_of_kind, out_domain_of_kind, greatest_of_kind, bounds_of, bounds_of_domain, send_stamp_of_kind, bounds_of_edge, Dataflow}
-use Rattle.fw_flow.specs.Projection.{first_number_of, psi, psi_back_of_kind, psi_back}
+use Rattle.fw_flow.specs.Projection.{first_coordinate, psi, psi_back_of_kind, psi_back}
 use Rattle.fw_model.specs.LawsOfSending.{PsiBackBySendStamps, PsiBackIsLargest}
 use Rattle.fw_model.proofs.StampLaws.{loop-leq, nest-leq, in_loop, leq_from, leq_to, in_line, line-leq, leq-line}
 use Rattle.fw_model.proofs.SendingLaws.{some_is, fed_back-some, fed_back-nest, div-monotone, test_in_domain, psi-by_stamp, send_stamp-in_domain}
@@ -30,7 +30,7 @@ same_back b g fr t i = (
   λ all. all t t (leq-refl t) refl,
 )
 
-enter_back : (b : Stamp) (m : ℕ) (g : Frontier) → IsFrontier (up_to (nest b m)) g → (t : Stamp) → leq t b ≡ true → (g (nest t 0) ≡ true) ↔ SendsWithin entered g t
+enter_back : (b : Stamp) (m : ℕ) (g : Frontier) → IsFrontier (up_to (nest b m)) g → (t : Stamp) → leq t b ≡ true → (g (nest t 0) ≡ true) ↔ SendsWithin entered_stamp g t
 enter_back b m g fr t i = (
   λ k s w l e.
       let a = some_is (nest s 0) w e in
@@ -40,7 +40,7 @@ enter_back b m g fr t i = (
 )
 
 feedback_back : (b : Stamp) (m : ℕ) (g : Frontier) → 1 ≤ m → IsFrontier (up_to (nest b m)) g → (t : Stamp) → leq t (nest b m) ≡ true
-    → (g (nest (outer t) (min (counter t + 1) m)) ≡ true) ↔ SendsWithin (fed_back m) g t
+    → (g (nest (outer t) (min (counter t + 1) m)) ≡ true) ↔ SendsWithin (fed_back_stamp m) g t
 feedback_back b m g p fr t i =
     let v = in_loop t b m i in
     let last = min (counter t + 1) m in
@@ -65,7 +65,7 @@ feedback_back b m g p fr t i =
           (fed_back-nest m (outer t) c (omega arith)),
     )
 
-leave_back : (b : Stamp) (m : ℕ) (g : Frontier) → IsFrontier (up_to b) g → (t : Stamp) → leq t (nest b m) ≡ true → (g (outer t) ≡ true) ↔ SendsWithin left g t
+leave_back : (b : Stamp) (m : ℕ) (g : Frontier) → IsFrontier (up_to b) g → (t : Stamp) → leq t (nest b m) ≡ true → (g (outer t) ≡ true) ↔ SendsWithin left_stamp g t
 leave_back b m g fr t i =
     let v = in_loop t b m i in (
       λ k s w l e.
@@ -75,22 +75,22 @@ leave_back b m g fr t i =
       λ all. all t (outer t) (leq-refl t) refl,
     )
 
-regroup_back : (g n : ℕ) (f : Frontier) → IsFrontier (up_to (g ∷ [])) f → (t : Stamp) → leq t (g ∷ []) ≡ true → (f ((first_number_of t / n) ∷ []) ≡ true) ↔ SendsWithin (regrouped n) f t
+regroup_back : (g n : ℕ) (f : Frontier) → IsFrontier (up_to (g ∷ [])) f → (t : Stamp) → leq t (g ∷ []) ≡ true → (f ((first_coordinate t / n) ∷ []) ≡ true) ↔ SendsWithin (regrouped_stamp n) f t
 regroup_back g n f fr t i =
     let v = in_line t g i in
     let x = v.0 in
-    let here : first_number_of t ≡ x = ap first_number_of v.1 in (
+    let here : first_coordinate t ≡ x = ap first_coordinate v.1 in (
       λ k s w l e.
           let u = in_line s g (leq-trans s t (g ∷ []) l i) in
           let y = u.0 in
-          let r : Some ((y / n) ∷ []) ≡ Some w = ap (regrouped n) (sym u.1) ∙ e in
+          let r : Some ((y / n) ∷ []) ≡ Some w = ap (regrouped_stamp n) (sym u.1) ∙ e in
           let a = some_is ((y / n) ∷ []) w r in
           let q : y ≤ x = leq-line y x (leq_to (y ∷ []) t _ v.1 (leq_from s _ t u.1 l)) in
-          let h : y ≤ first_number_of t = omega arith in
+          let h : y ≤ first_coordinate t = omega arith in
           let z : y ≤ g = u.2 in
-          fr.closed w ((first_number_of t / n) ∷ []) (leq_from _ w _ a (line-leq (y / n) g (omega (arith, div-le_self y n))))
-          (leq_from _ w _ a (line-leq (y / n) (first_number_of t / n) (div-monotone n y (first_number_of t) h))) k,
-      λ all. all t ((first_number_of t / n) ∷ []) (leq-refl t) (ap (regrouped n) v.1 ∙ ap (λ k. Some ((k / n) ∷ [])) (sym here)),
+          fr.closed w ((first_coordinate t / n) ∷ []) (leq_from _ w _ a (line-leq (y / n) g (omega (arith, div-le_self y n))))
+          (leq_from _ w _ a (line-leq (y / n) (first_coordinate t / n) (div-monotone n y (first_coordinate t) h))) k,
+      λ all. all t ((first_coordinate t / n) ∷ []) (leq-refl t) (ap (regrouped_stamp n) v.1 ∙ ap (λ k. Some ((k / n) ∷ [])) (sym here)),
     )
 
 psi_back_of_kind-by_stamp : (flow : Dataflow) (kind : Kind) (g : Frontier) → SendsByStamp flow kind

@@ -10,7 +10,7 @@ use Rattle.fw_time.proofs.EachLaws.{each-weaker, each-one}
 use Rattle.fw_bag.specs.declared.rec.Rec.{Rec}
 use Rattle.fw_bag.specs.Rec.{rec_cmp}
 use Rattle.fw_bag.specs.Bag.{how_often}
-use Rattle.fw_bag.specs.Keyed.{sorted}
+use Rattle.fw_bag.specs.Keyed.{sorted_recs}
 use Rattle.fw_bag.proofs.RecLaws.{rec_cmp-refl}
 use Rattle.fw_bag.proofs.BagLaws.{how_often-bag_sum}
 use Rattle.fw_frontier.specs.Frontier.{Frontier}
@@ -27,12 +27,12 @@ use Rattle.fw_flow.specs.Dataflow.{System, Dataflow, idle_node, kind_of, sender,
 use Rattle.fw_flow.specs.Projection.{events_at}
 use Rattle.fw_flow.specs.WellFormed.{IsWellFormed, IsWellFormedSystem}
 use Rattle.fw_model.specs.Denotation.{Family, IsDenotation, bag_at}
-use Rattle.fw_model.specs.History.{some_at, sent, delivered, pending, was_delivered_to, was_notified, owed, IsAdmissible, IsEnabled, IsLegal, recs_at}
-use Rattle.fw_model.specs.Machine.{Machine, Numbered, events, no_stamps, first_state, front_of, is_failed}
+use Rattle.fw_model.specs.History.{some_at, sent_messages, delivered_messages, pending_messages, was_delivered_to, was_notified, is_owed_notice, IsAdmissible, IsEnabled, IsLegal, recs_at}
+use Rattle.fw_model.specs.Machine.{Machine, SerialEvent, events, no_stamps, first_state, front_of, is_failed}
 use Rattle.fw_flow.specs.declared.choice.Choice.{Choice}
-use Rattle.fw_model.specs.Choice.{kept, cut_of, kept_of, filtered}
+use Rattle.fw_model.specs.Choice.{kept, cut_of, kept_of, filtered_history}
 use Rattle.fw_model.specs.Covers.{set_of}
-use Rattle.fw_model.specs.Steps.{Effect, Outcome, did, idle, LeadsTo, Steps, Run, with_event, GrowsTo, IsSettledCut, CutsTo, recovered}
+use Rattle.fw_model.specs.Steps.{Effect, Outcome, did, idle, LeadsTo, StepsTo, Run, with_event, GrowsTo, IsSettledCut, CutsTo, recovered_state}
 use Rattle.fw_model.specs.LawsOfRecoveries.{StepsKeepHistoriesLegal, RunsStayLegalThroughRecoveries, SettledStaysDenoted, DenotedIsFull, AcknowledgementsShowDenotationThroughRecoveries}
 use Rattle.fw_model.proofs.Decisions.{two_ways}
 use Rattle.fw_model.proofs.CompleteLaws.{past_edges-idle, not_owed-notified, not_owed-delivered}
@@ -84,9 +84,9 @@ runs-legal sys steps outcomes last w b r = run-legal sys steps outcomes (first_s
 
 -- in each legal history no more was delivered than the family has, and all of it where it is complete
 pub record Denotes (sys : System) (family : Family) : Type 0 where
-  pub within : (h : List Event) → IsLegal sys h → (e : ℕ) (t : Stamp) (r : Rec) → how_often r (recs_at t (delivered h e)) ≤ how_often r (bag_at family e t)
+  pub within : (h : List Event) → IsLegal sys h → (e : ℕ) (t : Stamp) (r : Rec) → how_often r (recs_at t (delivered_messages h e)) ≤ how_often r (bag_at family e t)
   pub whole : (h : List Event) → IsLegal sys h → (done : ℕ → Frontier) → IsAdmissible sys h done → (e : ℕ) (t : Stamp) → done (receiver sys.flow e) t ≡ true
-      → sorted (recs_at t (delivered h e)) ≡ bag_at family e t
+      → sorted_recs (recs_at t (delivered_messages h e)) ≡ bag_at family e t
 
 -- the stamps that are settled at a node
 abbrev pub settled_at : System → List Front → ℕ → Frontier
@@ -103,31 +103,31 @@ recs-other t m ms k = ap (map (λ (x : Message). x.rec)) (cond-false (same t m.a
 
 -- where all was delivered, nothing is delivered more
 no_more : (sys : System) (family : Family) → Denotes sys family → (h : List Event) (e : ℕ) (m : Message) (t : Stamp) → IsLegal sys (Delivered e m ∷ h)
-    → sorted (recs_at t (delivered h e)) ≡ bag_at family e t → same t m.at ≡ false
+    → sorted_recs (recs_at t (delivered_messages h e)) ≡ bag_at family e t → same t m.at ≡ false
 no_more sys family b h e m t l all = false_from_ne_true (same t m.at) (λ k.
-    let now : delivered (Delivered e m ∷ h) e ≡ m ∷ delivered h e = ap (λ c. cond c (m ∷ []) [] ++ delivered h e) (eq-eqb e e refl) in
+    let now : delivered_messages (Delivered e m ∷ h) e ≡ m ∷ delivered_messages h e = ap (λ c. cond c (m ∷ []) [] ++ delivered_messages h e) (eq-eqb e e refl) in
     let few = b.within (Delivered e m ∷ h) l e t m.rec in
-    let recs = ap (how_often m.rec) (ap (recs_at t) now ∙ recs-now t m (delivered h e) k) in
-    let more = one-more m.rec (recs_at t (delivered h e)) in
+    let recs = ap (how_often m.rec) (ap (recs_at t) now ∙ recs-now t m (delivered_messages h e) k) in
+    let more = one-more m.rec (recs_at t (delivered_messages h e)) in
     let bag = ap (how_often m.rec) (sym all) in
-    let in_order = how_often-bag_sum m.rec (recs_at t (delivered h e)) [] in
+    let in_order = how_often-bag_sum m.rec (recs_at t (delivered_messages h e)) [] in
     omega arith)
 
 -- the state's settled stamps are denoted after a history
 abbrev pub AreDenoted : System → Family → List Front → List Event → Type 0
 AreDenoted sys family settled h = (e : ℕ) → e < length sys.flow.edges → (t : Stamp) → settled_at sys settled (receiver sys.flow e) t ≡ true
-    → sorted (recs_at t (delivered h e)) ≡ bag_at family e t
+    → sorted_recs (recs_at t (delivered_messages h e)) ≡ bag_at family e t
 
 event-denoted : (sys : System) (family : Family) → Denotes sys family → (settled : List Front) (h : List Event) (v : Event) → IsLegal sys (v ∷ h)
     → AreDenoted sys family settled h → AreDenoted sys family settled (v ∷ h)
 event-denoted sys family b settled h (Injected s x) l a = a
 event-denoted sys family b settled h (Notified p u) l a = a
 event-denoted sys family b settled h (Delivered d m) l a = λ e r t i.
-    cond_both (d == e) (m ∷ []) [] (λ ms. sorted (recs_at t (ms ++ delivered h e)) ≡ bag_at family e t)
+    cond_both (d == e) (m ∷ []) [] (λ ms. sorted_recs (recs_at t (ms ++ delivered_messages h e)) ≡ bag_at family e t)
     (λ c.
     let all = a e r t i in
     let here = subst (λ n. IsLegal sys (Delivered n m ∷ h)) (eqb-true d e c) l in
-    ap sorted (recs-other t m (delivered h e) (no_more sys family b h e m t here all)) ∙ all)
+    ap sorted_recs (recs-other t m (delivered_messages h e) (no_more sys family b h e m t here all)) ∙ all)
     (λ c. a e r t i)
 
 -- an edge to a node is there
@@ -142,7 +142,7 @@ edge-there flow e p r l = elim (cases_lt e (length flow.edges)) [
 
 -- what is owed at settled stamps: nothing
 abbrev pub ArePaid : System → List Front → List Event → Type 0
-ArePaid sys settled h = (p : ℕ) → p < length sys.flow.nodes → (t : Stamp) → settled_at sys settled p t ≡ true → owed sys h p t ≡ false
+ArePaid sys settled h = (p : ℕ) → p < length sys.flow.nodes → (t : Stamp) → settled_at sys settled p t ≡ true → is_owed_notice sys h p t ≡ false
 
 event-paid : (sys : System) (family : Family) → Denotes sys family → (settled : List Front) (h : List Event) (v : Event) → IsLegal sys (v ∷ h)
     → AreDenoted sys family settled h → ArePaid sys settled h → ArePaid sys settled (v ∷ h)
@@ -175,10 +175,10 @@ event-holds sys family b state v f k = record {
 
 same-holds : (sys : System) (family : Family) (state next : Machine) → IsLegalAndDenoted sys family state → next.history ≡ state.history → next.settled ≡ state.settled → IsLegalAndDenoted sys family next
 same-holds sys family state next f h s = record {
-  legal = subst (λ (x : List Numbered). IsLegal sys (events x)) (sym h) f.legal;
-  denoted = subst (λ (x : List Numbered). AreDenoted sys family next.settled (events x)) (sym h)
+  legal = subst (λ (x : List SerialEvent). IsLegal sys (events x)) (sym h) f.legal;
+  denoted = subst (λ (x : List SerialEvent). AreDenoted sys family next.settled (events x)) (sym h)
       (subst (λ (x : List Front). AreDenoted sys family x (events state.history)) (sym s) f.denoted);
-  paid = subst (λ (x : List Numbered). ArePaid sys next.settled (events x)) (sym h)
+  paid = subst (λ (x : List SerialEvent). ArePaid sys next.settled (events x)) (sym h)
       (subst (λ (x : List Front). ArePaid sys x (events state.history)) (sym s) f.paid);
 }
 
@@ -224,7 +224,7 @@ recs-kept f t ms i =
     (each-one (λ (m : Message). same t m.at ≡ true → f m.at ≡ true) ms (λ m k. ap f (sym (same-is t m.at k)) ∙ i)))
 
 recovery-holds : (sys : System) (family : Family) → IsWellFormed sys.flow → (state : Machine) (choice : Choice) (settled : List Front) → IsLegalAndDenoted sys family state
-    → IsLegal sys (events (filtered sys choice state.history)) → CutsTo sys state choice settled → IsLegalAndDenoted sys family (recovered sys state choice settled)
+    → IsLegal sys (events (filtered_history sys choice state.history)) → CutsTo sys state choice settled → IsLegalAndDenoted sys family (recovered_state sys state choice settled)
 recovery-holds sys family w state choice settled f l c =
     let old = events state.history in
     let keep = kept_of sys.flow choice in
@@ -235,13 +235,13 @@ recovery-holds sys family w state choice settled f l c =
       legal = l;
       denoted = λ e r t i.
           let both = cut (receiver sys.flow e) (w.receivers_declared e r) t i in
-          ap (λ vs. sorted (recs_at t (delivered vs e))) same_events
-          ∙ ap (λ ms. sorted (recs_at t ms)) (delivers-same sys.flow old keep e)
-          ∙ ap sorted (recs-kept (keep (receiver sys.flow e)) t (delivered old e) both.1)
+          ap (λ vs. sorted_recs (recs_at t (delivered_messages vs e))) same_events
+          ∙ ap (λ ms. sorted_recs (recs_at t ms)) (delivers-same sys.flow old keep e)
+          ∙ ap sorted_recs (recs-kept (keep (receiver sys.flow e)) t (delivered_messages old e) both.1)
           ∙ f.denoted e r t both.0;
       paid = λ p q t i.
           let both = cut p q t i in
-          ap (λ vs. owed sys vs p t) same_events ∙ kept-owed sys old keep p t both.1 ∙ f.paid p q t both.0;
+          ap (λ vs. is_owed_notice sys vs p t) same_events ∙ kept-owed sys old keep p t both.1 ∙ f.paid p q t both.0;
     }
 
 took-holds : (sys : System) (family : Family) → IsWellFormed sys.flow → HasEpochs sys → Denotes sys family → (state : Machine) (step : Step) (next : Machine) (effect : Effect)
@@ -274,7 +274,7 @@ first-holds sys family w =
     }
 
 pub steps-hold : (sys : System) (family : Family) → IsWellFormed sys.flow → HasEpochs sys → Denotes sys family → (state : Machine) (step : Step) (next : Machine) (outcome : Outcome)
-    → IsLegalAndDenoted sys family state → Steps sys state step next outcome → IsLegalAndDenoted sys family next
+    → IsLegalAndDenoted sys family state → StepsTo sys state step next outcome → IsLegalAndDenoted sys family next
 steps-hold sys family w p b state step next (did effect) f t = took-holds sys family w p b state step next effect f t
 steps-hold sys family w p b state step next idle f t = subst (IsLegalAndDenoted sys family) (sym t.1) f
 
@@ -312,7 +312,7 @@ took-denoted sys family w state Collect next effect f t = subst (IsDenotedEffect
 took-denoted sys family w state (Ack o) next effect f t =
     let at : Stamp = t.0 ∷ [] in
     subst (IsDenotedEffect sys family) (sym t.3) (λ d l r.
-    ap sorted (delivered-to sys.flow o d at (same-test sys.flow w o d t.1.declared t.1.output r) (events state.history))
+    ap sorted_recs (delivered-to sys.flow o d at (same-test sys.flow w o d t.1.declared t.1.output r) (events state.history))
     ∙ f.denoted d l at (ap (λ p. settled_at sys state.settled p at) r ∙ t.1.settled))
 
 run-denoted : (sys : System) (family : Family) → IsWellFormed sys.flow → HasEpochs sys → Denotes sys family → (steps : List Step) (outcomes : List Outcome) (state last : Machine)
@@ -323,7 +323,7 @@ run-denoted sys family w p b (s ∷ ss) [] state last f r = absurd r
 run-denoted sys family w p b (s ∷ ss) (o ∷ os) state last f r =
     (shown o r.1, run-denoted sys family w p b ss os r.0 last (steps-hold sys family w p b state s r.0 o f r.1) r.2)
   where
-    shown : (outcome : Outcome) → Steps sys state s r.0 outcome → IsDenoted sys family outcome
+    shown : (outcome : Outcome) → StepsTo sys state s r.0 outcome → IsDenoted sys family outcome
     shown (did effect) t = took-denoted sys family w state s r.0 effect f t
     shown idle t = tt
 
@@ -350,31 +350,31 @@ none-at test [] a = refl
 none-at test (m ∷ ms) a = absurd a.0
 
 -- nothing is sent on an edge past the last one
-past-nothing : (sys : System) (h : List Event) (e : ℕ) → length sys.flow.edges ≤ e → AllByRecursion (λ (m : Message). ⊥) (sent sys h e)
+past-nothing : (sys : System) (h : List Event) (e : ℕ) → length sys.flow.edges ≤ e → AllByRecursion (λ (m : Message). ⊥) (sent_messages sys h e)
 unfolding IsOfCause
 past-nothing sys h e past =
     let q = sender sys.flow e in
     let is = past_edges-idle sys.flow e past in
-    each-weaker (IsOfCause sys.flow q) (λ m. ⊥) (sent sys h e)
+    each-weaker (IsOfCause sys.flow q) (λ m. ⊥) (sent_messages sys h e)
     (λ m a. let none : None ≡ Some m.at = sym (ap (λ kind. send_stamp_of_kind sys.flow kind a.0) is) ∙ a.1 in cc none)
     (sent_by-of_cause sys q (ap is_sequence_kind is) (events_at sys.flow q h))
 
 -- where as much was delivered as can be sent, nothing is pending
 denoted-quiet : (sys : System) (family : Family) (h : List Event) → IsWellFormedSystem sys → IsDenotation sys family → IsLegal sys h
-    → (e : ℕ) (t : Stamp) → sorted (recs_at t (delivered h e)) ≡ bag_at family e t → some_at (same t) (pending sys h e) ≡ false
-denoted-quiet sys family h w u l e t all = weightless t (pending sys h e) (λ q.
+    → (e : ℕ) (t : Stamp) → sorted_recs (recs_at t (delivered_messages h e)) ≡ bag_at family e t → some_at (same t) (pending_messages sys h e) ≡ false
+denoted-quiet sys family h w u l e t all = weightless t (pending_messages sys h e) (λ q.
     let weight : Message → ℕ = λ m. one t q (timed_message m) in
     let few = sent-is_sub sys h family w l u e t q in
     let bag = ap (how_often q) all in
-    let in_order = how_often-bag_sum q (recs_at t (delivered h e)) [] in
-    let sent_now = how_often-recs_at t q (sent sys h e) in
-    let delivered_now = how_often-recs_at t q (delivered h e) in
-    let a = timed_of-weigh (one t q) (sent sys h e) in
-    let b = timed_of-weigh (one t q) (delivered h e) in
-    let c = less-weigh weight (sent sys h e) (delivered h e) (delivered-was_sent sys h l e) in
+    let in_order = how_often-bag_sum q (recs_at t (delivered_messages h e)) [] in
+    let sent_now = how_often-recs_at t q (sent_messages sys h e) in
+    let delivered_now = how_often-recs_at t q (delivered_messages h e) in
+    let a = timed_of-weigh (one t q) (sent_messages sys h e) in
+    let b = timed_of-weigh (one t q) (delivered_messages h e) in
+    let c = less-weigh weight (sent_messages sys h e) (delivered_messages h e) (delivered-was_sent sys h l e) in
     omega arith)
 
-past-paid : (sys : System) (h : List Event) (p : ℕ) (t : Stamp) → length sys.flow.nodes ≤ p → owed sys h p t ≡ false
+past-paid : (sys : System) (h : List Event) (p : ℕ) (t : Stamp) → length sys.flow.nodes ≤ p → is_owed_notice sys h p t ≡ false
 unfolding kind_of
 past-paid sys h p t past =
     ap (λ (n : Node). is_notified_kind n.kind && was_delivered_to sys.flow p t h && not (was_notified p t h)) (get_or_past sys.flow.nodes p idle_node past)
@@ -385,7 +385,7 @@ denoted-full sys family state w u l f =
     record {
       quiet = λ p t i e r. elim (cases_lt e (length sys.flow.edges)) [
         | inl real ↦ denoted-quiet sys family h w u l e t (f.denoted e real t (ap (λ n. settled_at sys state.settled n t) r ∙ i))
-        | inr past ↦ none-at (same t) (pending sys h e) (less-each (λ m. ⊥) (sent sys h e) (delivered h e) (past-nothing sys h e past))
+        | inr past ↦ none-at (same t) (pending_messages sys h e) (less-each (λ m. ⊥) (sent_messages sys h e) (delivered_messages h e) (past-nothing sys h e past))
       ];
       paid = λ p t i. elim (cases_lt p (length sys.flow.nodes)) [ inl real ↦ f.paid p real t i | inr past ↦ past-paid sys h p t past ];
     }

@@ -16,16 +16,16 @@ use Rattle.fw_flow.specs.declared.kind.Kind.TheVariants.{OutputEpoch, OutputNumb
 use Rattle.fw_flow.specs.declared.step.Step.{Step}
 use Rattle.fw_flow.specs.declared.step.Step.TheVariants.{Inject, Deliver, Notify, Progress as ProgressStep, Checkpoint, Persist, Fail, Recover, Collect, Ack}
 use Rattle.fw_time.specs.declared.stamp.Bounds.{Bounds}
-use Rattle.fw_flow.specs.Dataflow.{System, Dataflow, kind_of, receiver, in_edges, is_output_kind, places}
+use Rattle.fw_flow.specs.Dataflow.{System, Dataflow, kind_of, receiver, in_edges, is_output_kind, node_ids}
 use Rattle.fw_flow.specs.WellFormed.{IsWellFormed, IsInDegree}
-use Rattle.fw_model.specs.History.{IsLegal, delivered, recs_at}
+use Rattle.fw_model.specs.History.{IsLegal, delivered_messages, recs_at}
 use Rattle.fw_flow.specs.NodeFunction.{delivered_recs}
 use Rattle.fw_flow.specs.declared.event.Message.{Message}
 use Rattle.std.proofs.lemmas.List.Elements.{filter-append}
 use Rattle.std.proofs.Math.Bool.{and_comm}
 use Rattle.fw_model.specs.LawsOfRuns.{RunsStayLegal, AcknowledgementsAreInOrder}
-use Rattle.fw_model.specs.Machine.{Machine, events, no_stamps, first_state, bound_of}
-use Rattle.fw_model.specs.Steps.{Effect, acked, Outcome, did, idle, LeadsTo, Steps, Run, recs_at_output, is_recovery, HaveNoRecovery}
+use Rattle.fw_model.specs.Machine.{Machine, events, no_stamps, first_state, ack_count_of}
+use Rattle.fw_model.specs.Steps.{Effect, acked, Outcome, did, idle, LeadsTo, StepsTo, Run, recs_at_output, is_recovery, HaveNoRecovery}
 use Rattle.fw_model.specs.Acknowledgements.{stamp_shown, stamp_acknowledged, stamps_acknowledged, first_stamps}
 
 -- ---- legal histories
@@ -45,7 +45,7 @@ legal-takes sys state Collect next effect k t l = subst (λ (m : Machine). IsLeg
 legal-takes sys state (Ack o) next effect k t l = subst (λ (m : Machine). IsLegal sys (events m.history)) (sym t.2) l
 
 legal-steps : (sys : System) (state : Machine) (step : Step) (next : Machine) (outcome : Outcome) → is_recovery step ≡ false
-    → Steps sys state step next outcome → IsLegal sys (events state.history) → IsLegal sys (events next.history)
+    → StepsTo sys state step next outcome → IsLegal sys (events state.history) → IsLegal sys (events next.history)
 legal-steps sys state step next (did effect) k t l = legal-takes sys state step next effect k t l
 legal-steps sys state step next idle k t l = subst (λ (m : Machine). IsLegal sys (events m.history)) (sym t.1) l
 
@@ -64,11 +64,11 @@ runs-stay_legal sys steps outcomes last k r = legal-run sys steps outcomes (firs
 
 -- each node has a bound
 abbrev HasBounds : System → Machine → Type 0
-HasBounds sys state = length state.bounds ≡ length sys.flow.nodes
+HasBounds sys state = length state.ack_counts ≡ length sys.flow.nodes
 
 -- what was acknowledged before and is now is what was acknowledged after
 abbrev Goes : ℕ → Machine → Machine → List Stamp → Type 0
-Goes o state next stamps = first_stamps (bound_of state o) ++ stamps ≡ first_stamps (bound_of next o)
+Goes o state next stamps = first_stamps (ack_count_of state o) ++ stamps ≡ first_stamps (ack_count_of next o)
 
 more_stamps : (n : ℕ) → first_stamps n ++ (n ∷ []) ∷ [] ≡ first_stamps (n + 1)
 more_stamps n = sym (map-range_with_len_more (λ x. x ∷ []) 0 n n (omega arith))
@@ -82,63 +82,63 @@ bound-at false bounds q o n l e = get_or-set_other bounds q o n 0 (λ same. two_
 bound-set : (bounds : List ℕ) (q o n : ℕ) → q < length bounds → slice_index_or (slice_set bounds q n) o 0 ≡ cond (q == o) n (slice_index_or bounds o 0)
 bound-set bounds q o n l = bound-at (q == o) bounds q o n l refl
 
-acked-at : (b : Bool) (state : Machine) (q o x : ℕ) → q < length state.bounds → x ≡ bound_of state q → (q == o) ≡ b
-    → first_stamps (bound_of state o) ++ cond b ((x ∷ []) ∷ []) [] ≡ first_stamps (cond b (x + 1) (bound_of state o))
+acked-at : (b : Bool) (state : Machine) (q o x : ℕ) → q < length state.ack_counts → x ≡ ack_count_of state q → (q == o) ≡ b
+    → first_stamps (ack_count_of state o) ++ cond b ((x ∷ []) ∷ []) [] ≡ first_stamps (cond b (x + 1) (ack_count_of state o))
 acked-at true state q o x l e k =
-    let same : bound_of state o ≡ x = ap (bound_of state) (sym (eqb-true q o k)) ∙ sym e in
+    let same : ack_count_of state o ≡ x = ap (ack_count_of state) (sym (eqb-true q o k)) ∙ sym e in
     ap (λ n. first_stamps n ++ (x ∷ []) ∷ []) same ∙ more_stamps x
-acked-at false state q o x l e k = append-nil (first_stamps (bound_of state o))
+acked-at false state q o x l e k = append-nil (first_stamps (ack_count_of state o))
 
-acked-goes : (sys : System) (state : Machine) (q o x : ℕ) (recs : List Rec) → q < length state.bounds → x ≡ bound_of state q
-    → Goes o state (record state { bounds = slice_set state.bounds q (x + 1) }) (stamp_shown o (acked q (x ∷ []) recs))
+acked-goes : (sys : System) (state : Machine) (q o x : ℕ) (recs : List Rec) → q < length state.ack_counts → x ≡ ack_count_of state q
+    → Goes o state (record state { ack_counts = slice_set state.ack_counts q (x + 1) }) (stamp_shown o (acked q (x ∷ []) recs))
 acked-goes sys state q o x recs l e =
-    acked-at (q == o) state q o x l e refl ∙ ap first_stamps (sym (bound-set state.bounds q o (x + 1) l))
+    acked-at (q == o) state q o x l e refl ∙ ap first_stamps (sym (bound-set state.ack_counts q o (x + 1) l))
 
-same-goes : (state next : Machine) (o : ℕ) → next.bounds ≡ state.bounds → Goes o state next []
-same-goes state next o e = append-nil (first_stamps (bound_of state o)) ∙ ap (λ bs. first_stamps (slice_index_or bs o 0)) (sym e)
+same-goes : (state next : Machine) (o : ℕ) → next.ack_counts ≡ state.ack_counts → Goes o state next []
+same-goes state next o e = append-nil (first_stamps (ack_count_of state o)) ∙ ap (λ bs. first_stamps (slice_index_or bs o 0)) (sym e)
 
 -- the step keeps the number of bounds, and acknowledges the stamps between the old bound and the new one
 abbrev GoesOn : System → Machine → Machine → Effect → Type 0
-GoesOn sys state next effect = (length next.bounds ≡ length state.bounds) × ((o : ℕ) → Goes o state next (stamp_shown o effect))
+GoesOn sys state next effect = (length next.ack_counts ≡ length state.ack_counts) × ((o : ℕ) → Goes o state next (stamp_shown o effect))
 
-quiet-goes : (sys : System) (state next : Machine) (effect : Effect) → ((o : ℕ) → stamp_shown o effect ≡ []) → next.bounds ≡ state.bounds → GoesOn sys state next effect
+quiet-goes : (sys : System) (state next : Machine) (effect : Effect) → ((o : ℕ) → stamp_shown o effect ≡ []) → next.ack_counts ≡ state.ack_counts → GoesOn sys state next effect
 quiet-goes sys state next effect k e = (ap length e, λ o. subst (λ ss. Goes o state next ss) (sym (k o)) (same-goes state next o e))
 
 takes-goes : (sys : System) (state : Machine) (step : Step) (next : Machine) (effect : Effect) → HasBounds sys state
     → LeadsTo sys state step next effect → GoesOn sys state next effect
-takes-goes sys state (Inject s) next effect h t = quiet-goes sys state next effect (λ o. ap (stamp_shown o) t.4) (ap (λ (m : Machine). m.bounds) t.3)
-takes-goes sys state (Deliver e at) next effect h t = quiet-goes sys state next effect (λ o. ap (stamp_shown o) t.4) (ap (λ (m : Machine). m.bounds) t.3)
-takes-goes sys state (Notify p at) next effect h t = quiet-goes sys state next effect (λ o. ap (stamp_shown o) t.4) (ap (λ (m : Machine). m.bounds) t.3)
-takes-goes sys state ProgressStep next effect h t = quiet-goes sys state next effect (λ o. ap (stamp_shown o) t.4) (ap (λ (m : Machine). m.bounds) t.3)
-takes-goes sys state (Checkpoint p) next effect h t = quiet-goes sys state next effect (λ o. ap (stamp_shown o) t.4) (ap (λ (m : Machine). m.bounds) t.3)
-takes-goes sys state Persist next effect h t = quiet-goes sys state next effect (λ o. ap (stamp_shown o) t.3) (ap (λ (m : Machine). m.bounds) t.2)
-takes-goes sys state (Fail ps) next effect h t = quiet-goes sys state next effect (λ o. ap (stamp_shown o) t.5) (ap (λ (m : Machine). m.bounds) t.4)
-takes-goes sys state Recover next effect h t = quiet-goes sys state next effect (λ o. ap (stamp_shown o) t.8) (ap (λ (m : Machine). m.bounds) t.7)
-takes-goes sys state Collect next effect h t = quiet-goes sys state next effect (λ o. ap (stamp_shown o) t.4) (ap (λ (m : Machine). m.bounds) t.3)
+takes-goes sys state (Inject s) next effect h t = quiet-goes sys state next effect (λ o. ap (stamp_shown o) t.4) (ap (λ (m : Machine). m.ack_counts) t.3)
+takes-goes sys state (Deliver e at) next effect h t = quiet-goes sys state next effect (λ o. ap (stamp_shown o) t.4) (ap (λ (m : Machine). m.ack_counts) t.3)
+takes-goes sys state (Notify p at) next effect h t = quiet-goes sys state next effect (λ o. ap (stamp_shown o) t.4) (ap (λ (m : Machine). m.ack_counts) t.3)
+takes-goes sys state ProgressStep next effect h t = quiet-goes sys state next effect (λ o. ap (stamp_shown o) t.4) (ap (λ (m : Machine). m.ack_counts) t.3)
+takes-goes sys state (Checkpoint p) next effect h t = quiet-goes sys state next effect (λ o. ap (stamp_shown o) t.4) (ap (λ (m : Machine). m.ack_counts) t.3)
+takes-goes sys state Persist next effect h t = quiet-goes sys state next effect (λ o. ap (stamp_shown o) t.3) (ap (λ (m : Machine). m.ack_counts) t.2)
+takes-goes sys state (Fail ps) next effect h t = quiet-goes sys state next effect (λ o. ap (stamp_shown o) t.5) (ap (λ (m : Machine). m.ack_counts) t.4)
+takes-goes sys state Recover next effect h t = quiet-goes sys state next effect (λ o. ap (stamp_shown o) t.8) (ap (λ (m : Machine). m.ack_counts) t.7)
+takes-goes sys state Collect next effect h t = quiet-goes sys state next effect (λ o. ap (stamp_shown o) t.4) (ap (λ (m : Machine). m.ack_counts) t.3)
 takes-goes sys state (Ack q) next effect h t =
-    let l : q < length state.bounds = subst (λ n. q < n) (sym h) t.1.declared in
-    let same : next ≡ record state { bounds = slice_set state.bounds q (t.0 + 1) } = t.2 in (
-      ap (λ (m : Machine). length m.bounds) same ∙ length-set state.bounds q (t.0 + 1),
+    let l : q < length state.ack_counts = subst (λ n. q < n) (sym h) t.1.declared in
+    let same : next ≡ record state { ack_counts = slice_set state.ack_counts q (t.0 + 1) } = t.2 in (
+      ap (λ (m : Machine). length m.ack_counts) same ∙ length-set state.ack_counts q (t.0 + 1),
       λ o. subst (λ (m : Machine). Goes o state m (stamp_shown o effect)) (sym same)
-          (subst (λ e. Goes o state (record state { bounds = slice_set state.bounds q (t.0 + 1) }) (stamp_shown o e)) (sym t.3)
+          (subst (λ e. Goes o state (record state { ack_counts = slice_set state.ack_counts q (t.0 + 1) }) (stamp_shown o e)) (sym t.3)
           (acked-goes sys state q o t.0 (recs_at_output sys state q t.0) l t.1.next)),
     )
 
 steps-goes : (sys : System) (state : Machine) (step : Step) (next : Machine) (outcome : Outcome) → HasBounds sys state
-    → Steps sys state step next outcome → HasBounds sys next × ((o : ℕ) → Goes o state next (stamp_acknowledged o outcome))
+    → StepsTo sys state step next outcome → HasBounds sys next × ((o : ℕ) → Goes o state next (stamp_acknowledged o outcome))
 steps-goes sys state step next (did effect) h t = let g = takes-goes sys state step next effect h t in (g.0 ∙ h, g.1)
 steps-goes sys state step next idle h t =
-    let e = ap (λ (m : Machine). m.bounds) t.1 in
+    let e = ap (λ (m : Machine). m.ack_counts) t.1 in
     (ap length e ∙ h, λ o. same-goes state next o e)
 
 pub run-goes : (sys : System) (steps : List Step) (outcomes : List Outcome) (state last : Machine) → HasBounds sys state
     → Run sys state steps outcomes last → (o : ℕ) → Goes o state last (stamps_acknowledged o outcomes)
-run-goes sys [] [] state last h r o = same-goes state last o (ap (λ (m : Machine). m.bounds) r)
+run-goes sys [] [] state last h r o = same-goes state last o (ap (λ (m : Machine). m.ack_counts) r)
 run-goes sys [] (x ∷ os) state last h r o = absurd r
 run-goes sys (s ∷ ss) [] state last h r o = absurd r
 run-goes sys (s ∷ ss) (x ∷ os) state last h r o =
     let g = steps-goes sys state s r.0 x h r.1 in
-    sym (append_assoc (first_stamps (bound_of state o)) (stamp_acknowledged o x) (stamps_acknowledged o os))
+    sym (append_assoc (first_stamps (ack_count_of state o)) (stamp_acknowledged o x) (stamps_acknowledged o os))
     ∙ ap (λ xs. xs ++ stamps_acknowledged o os) (g.1 o)
     ∙ run-goes sys ss os r.0 last g.0 r.2 o
 
@@ -153,7 +153,7 @@ first-bounds sys (suc o) (x ∷ xs) = first-bounds sys o xs
 pub acknowledgements-in_order : AcknowledgementsAreInOrder
 acknowledgements-in_order sys steps outcomes last r o =
     let h : HasBounds sys (first_state sys) = length-map-range_with_len (λ p. 0) 0 (length sys.flow.nodes) in
-    ap (λ n. first_stamps n ++ stamps_acknowledged o outcomes) (sym (first-bounds sys o (places sys.flow)))
+    ap (λ n. first_stamps n ++ stamps_acknowledged o outcomes) (sym (first-bounds sys o (node_ids sys.flow)))
     ∙ run-goes sys steps outcomes (first_state sys) last h r o
 
 -- ---- acknowledgements show the denotation
@@ -217,7 +217,7 @@ recs-append t xs ys =
 
 -- the deliveries to a node of one in-edge are those on the edge
 pub delivered-to : (flow : Dataflow) (o d : ℕ) (t : Stamp) → ((e : ℕ) → (receiver flow e == o) ≡ (e == d)) → (h : List Event)
-    → delivered_recs (λ e s. receiver flow e == o && same s t) h ≡ recs_at t (delivered h d)
+    → delivered_recs (λ e s. receiver flow e == o && same s t) h ≡ recs_at t (delivered_messages h d)
 delivered-to flow o d t k [] = refl
 delivered-to flow o d t k (Injected s x ∷ h) = delivered-to flow o d t k h
 delivered-to flow o d t k (Delivered e m ∷ h) =
@@ -227,7 +227,7 @@ delivered-to flow o d t k (Delivered e m ∷ h) =
     ∙ sym (recs_if (e == d) t m) in
     ap (λ xs. xs ++ delivered_recs (λ e s. receiver flow e == o && same s t) h) here
     ∙ ap (λ xs. recs_at t (cond (e == d) (m ∷ []) []) ++ xs) (delivered-to flow o d t k h)
-    ∙ sym (recs-append t (cond (e == d) (m ∷ []) []) (delivered h d))
+    ∙ sym (recs-append t (cond (e == d) (m ∷ []) []) (delivered_messages h d))
 delivered-to flow o d t k (Notified p s ∷ h) = delivered-to flow o d t k h
 
 pub same-test : (flow : Dataflow) → IsWellFormed flow → (o d : ℕ) → o < length flow.nodes → is_output_kind (kind_of flow o) ≡ true

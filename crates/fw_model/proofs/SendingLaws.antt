@@ -5,7 +5,7 @@ use Rattle.std.proofs.lemmas.Bool.{and_parts, and_from, or_cases, or_left, or_ri
 use Rattle.std.proofs.Math.Nat.{div-le_self, div-mul-le_self, div-lt_iff_lt-mul, le-div_iff_mul-le, mul-div_left, min-le_left, min-le_right, le-min}
 use Rattle.fw_time.specs.declared.stamp.Bounds.{Bounds}
 use Rattle.fw_time.specs.Stamp.{Stamp, leq, nest, outer, counter, in_domain}
-use Rattle.fw_time.specs.Sending.{entered, fed_back, left, regrouped}
+use Rattle.fw_time.specs.Sending.{entered_stamp, fed_back_stamp, left_stamp, regrouped_stamp}
 use Rattle.fw_time.proofs.StampLaws.{leq-refl, leq-trans, outer-nest, counter-nest}
 use Rattle.fw_frontier.specs.Frontier.{Frontier, IsFrontier}
 use Rattle.fw_flow.specs.declared.kind.Kind.{Kind}
@@ -36,7 +36,7 @@ same_psi bounds f fr u i =
 
 -- ---- entering a loop
 
-enter_phi : (b : Stamp) (m : ℕ) (f : Frontier) → IsFrontier (up_to b) f → (u : Stamp) → leq u (nest b m) ≡ true → (f (outer u) ≡ true) ↔ IsSentFrom (up_to b) entered f u
+enter_phi : (b : Stamp) (m : ℕ) (f : Frontier) → IsFrontier (up_to b) f → (u : Stamp) → leq u (nest b m) ≡ true → (f (outer u) ≡ true) ↔ IsSentFrom (up_to b) entered_stamp f u
 enter_phi b m f fr u i =
     let v = in_loop u b m i in (
       λ k t s d e l.
@@ -46,7 +46,7 @@ enter_phi b m f fr u i =
           (leq_to (nest (outer u) 0) _ u (sym v.nested) (nest-leq (outer u) (outer u) 0 (counter u) (leq-refl (outer u)) (omega arith))),
     )
 
-enter_psi : (b : Stamp) (m : ℕ) (f : Frontier) → IsFrontier (up_to b) f → (u : Stamp) → leq u (nest b m) ≡ true → ((counter u == 0 && f (outer u)) ≡ true) ↔ SendsAbove entered f u
+enter_psi : (b : Stamp) (m : ℕ) (f : Frontier) → IsFrontier (up_to b) f → (u : Stamp) → leq u (nest b m) ≡ true → ((counter u == 0 && f (outer u)) ≡ true) ↔ SendsAbove entered_stamp f u
 enter_psi b m f fr u i =
     let v = in_loop u b m i in (
       λ k.
@@ -67,17 +67,17 @@ enter_psi b m f fr u i =
 
 -- ---- feeding a loop back
 
-pub fed_back-some : (m : ℕ) (t s : Stamp) → fed_back m t ≡ Some s → (counter t < m) × (nest (outer t) (counter t + 1) ≡ s)
+pub fed_back-some : (m : ℕ) (t s : Stamp) → fed_back_stamp m t ≡ Some s → (counter t < m) × (nest (outer t) (counter t + 1) ≡ s)
 fed_back-some m t s e =
     let a = cond_some (nat_lt (counter t) m) (nest (outer t) (counter t + 1)) s e in
     (ltb-true (counter t) m a.0, a.1)
 
-pub fed_back-nest : (m : ℕ) (x : Stamp) (c : ℕ) → c < m → fed_back m (nest x c) ≡ Some (nest x (c + 1))
+pub fed_back-nest : (m : ℕ) (x : Stamp) (c : ℕ) → c < m → fed_back_stamp m (nest x c) ≡ Some (nest x (c + 1))
 fed_back-nest m x c h =
     rw (outer-nest x c, counter-nest x c) (cond-true (nat_lt c m) (Some (nest x (c + 1))) None (lt-ltb c m h))
 
 feedback_phi : (b : Stamp) (m : ℕ) (f : Frontier) → IsFrontier (up_to (nest b m)) f → (u : Stamp) → leq u (nest b m) ≡ true
-    → ((counter u == 0 || f (nest (outer u) (counter u - 1))) ≡ true) ↔ IsSentFrom (up_to (nest b m)) (fed_back m) f u
+    → ((counter u == 0 || f (nest (outer u) (counter u - 1))) ≡ true) ↔ IsSentFrom (up_to (nest b m)) (fed_back_stamp m) f u
 feedback_phi b m f fr u i =
     let v = in_loop u b m i in (
       λ k t s d e l.
@@ -105,7 +105,7 @@ feedback_phi b m f fr u i =
     )
 
 feedback_psi : (b : Stamp) (m : ℕ) (f : Frontier) → 1 ≤ m → IsFrontier (up_to (nest b m)) f → (u : Stamp) → leq u (nest b m) ≡ true
-    → (f (nest (outer u) (counter u - 1)) ≡ true) ↔ SendsAbove (fed_back m) f u
+    → (f (nest (outer u) (counter u - 1)) ≡ true) ↔ SendsAbove (fed_back_stamp m) f u
 feedback_psi b m f p fr u i =
     let v = in_loop u b m i in
     let c = v.counted in (
@@ -163,7 +163,7 @@ some_counter-from f x (suc m) c h k = elim (cases_last c m h) [
     cases_last c m h = grind arith
 
 leave_phi : (b : Stamp) (m : ℕ) (f : Frontier) → IsFrontier (up_to (nest b m)) f → (u : Stamp) → leq u b ≡ true
-    → (each_counter f u m ≡ true) ↔ IsSentFrom (up_to (nest b m)) left f u
+    → (each_counter f u m ≡ true) ↔ IsSentFrom (up_to (nest b m)) left_stamp f u
 leave_phi b m f fr u i = (
   λ k t s d e l.
       let w = in_loop t b m d in
@@ -176,7 +176,7 @@ leave_phi b m f fr u i = (
 )
 
 leave_psi : (b : Stamp) (m : ℕ) (f : Frontier) → IsFrontier (up_to (nest b m)) f → (u : Stamp) → leq u b ≡ true
-    → (some_counter f u m ≡ true) ↔ SendsAbove left f u
+    → (some_counter f u m ≡ true) ↔ SendsAbove left_stamp f u
 leave_psi b m f fr u i = (
   λ k.
       let w = some_counter-at f u m k in
@@ -198,12 +198,12 @@ within_group : (n k x : ℕ) → 1 ≤ n → x ≤ k * n + n - 1 → x / n ≤ k
 within_group n k x p h = let a = (div-lt_iff_lt-mul {k = n} {x = x} {y = k + 1} (omega arith)).1 (omega arith) in omega arith
 
 regroup_phi : (g n k : ℕ) (f : Frontier) → 1 ≤ n → IsFrontier (up_to (g ∷ [])) f
-    → (f (min (k * n + n - 1) g ∷ []) ≡ true) ↔ IsSentFrom (up_to (g ∷ [])) (regrouped n) f (k ∷ [])
+    → (f (min (k * n + n - 1) g ∷ []) ≡ true) ↔ IsSentFrom (up_to (g ∷ [])) (regrouped_stamp n) f (k ∷ [])
 regroup_phi g n k f p fr = (
   λ h t s d e l.
       let v = in_line t g d in
       let x = v.0 in
-      let r : Some ((x / n) ∷ []) ≡ Some s = ap (regrouped n) (sym v.1) ∙ e in
+      let r : Some ((x / n) ∷ []) ≡ Some s = ap (regrouped_stamp n) (sym v.1) ∙ e in
       let q = leq-line (x / n) k (leq_from s ((x / n) ∷ []) (k ∷ []) (sym (some_is ((x / n) ∷ []) s r)) l) in
       fr.closed t (min (k * n + n - 1) g ∷ []) d
       (leq_from (x ∷ []) t _ (sym v.1) (line-leq x (min (k * n + n - 1) g) (le-min (group_within n k x p q) v.2))) h,
@@ -214,7 +214,7 @@ regroup_phi g n k f p fr = (
 )
 
 regroup_psi : (g n k : ℕ) (f : Frontier) → 1 ≤ n → IsFrontier (up_to (g ∷ [])) f
-    → (f ((k * n) ∷ []) ≡ true) ↔ SendsAbove (regrouped n) f (k ∷ [])
+    → (f ((k * n) ∷ []) ≡ true) ↔ SendsAbove (regrouped_stamp n) f (k ∷ [])
 regroup_psi g n k f p fr = (
   λ h. (
     (k * n) ∷ [],
@@ -226,7 +226,7 @@ regroup_psi g n k f p fr = (
   λ w.
       let v = in_line w.0 g (fr.inside_domain w.0 w.2) in
       let x = v.0 in
-      let r : Some ((x / n) ∷ []) ≡ Some w.1 = ap (regrouped n) (sym v.1) ∙ w.3 in
+      let r : Some ((x / n) ∷ []) ≡ Some w.1 = ap (regrouped_stamp n) (sym v.1) ∙ w.3 in
       let q = leq-line k (x / n) (leq_to (k ∷ []) w.1 ((x / n) ∷ []) (sym (some_is ((x / n) ∷ []) w.1 r)) w.4) in
       let y = (le-div_iff_mul-le {k = n} {x = k} {y = x} (omega arith)).0 q in
       let z = v.2 in
@@ -248,7 +248,7 @@ phi_of_kind-by_stamp sys (Feedback l) n f p fr u i = feedback_phi (greatest_numb
 phi_of_kind-by_stamp sys (Leave l) n f p fr u i = leave_phi (greatest_number ∷ []) (max_of sys.flow l) f fr u i
 phi_of_kind-by_stamp sys (Regroup r) n f p fr u i =
     let v = in_line u greatest_number i in
-    let P : Stamp → Type 0 = λ w. (phi_of_kind (greatest_of_kind sys.flow (Regroup r)) (Regroup r) n f w ≡ true) ↔ IsSentFrom (up_to (greatest_number ∷ [])) (regrouped r) f w in
+    let P : Stamp → Type 0 = λ w. (phi_of_kind (greatest_of_kind sys.flow (Regroup r)) (Regroup r) n f w ≡ true) ↔ IsSentFrom (up_to (greatest_number ∷ [])) (regrouped_stamp r) f w in
     subst P (sym v.1) (regroup_phi greatest_number r v.0 f p fr)
 phi_of_kind-by_stamp sys kind n f p fr u i = same_phi _ f fr u i
 
@@ -264,7 +264,7 @@ psi_of_kind-by_stamp flow (Feedback l) f p fr u i = feedback_psi (greatest_numbe
 psi_of_kind-by_stamp flow (Leave l) f p fr u i = leave_psi (greatest_number ∷ []) (max_of flow l) f fr u i
 psi_of_kind-by_stamp flow (Regroup r) f p fr u i =
     let v = in_line u greatest_number i in
-    let P : Stamp → Type 0 = λ w. (psi_of_kind (greatest_of_kind flow (Regroup r)) (Regroup r) f w ≡ true) ↔ SendsAbove (regrouped r) f w in
+    let P : Stamp → Type 0 = λ w. (psi_of_kind (greatest_of_kind flow (Regroup r)) (Regroup r) f w ≡ true) ↔ SendsAbove (regrouped_stamp r) f w in
     subst P (sym v.1) (regroup_psi greatest_number r v.0 f p fr)
 psi_of_kind-by_stamp flow kind f p fr u i = same_psi _ f fr u i
 
@@ -306,7 +306,7 @@ send_stamp_of_kind-in_domain flow (Leave l) t s i e =
 send_stamp_of_kind-in_domain flow (Regroup n) t s i e =
     let v = in_line t greatest_number i in
     let x = v.0 in
-    let r : Some ((x / n) ∷ []) ≡ Some s = ap (regrouped n) (sym v.1) ∙ e in
+    let r : Some ((x / n) ∷ []) ≡ Some s = ap (regrouped_stamp n) (sym v.1) ∙ e in
     let z = v.2 in
     leq_from ((x / n) ∷ []) s _ (some_is ((x / n) ∷ []) s r) (line-leq (x / n) greatest_number (omega (arith, div-le_self x n)))
 send_stamp_of_kind-in_domain flow kind t s i e = leq_from t s _ (some_is t s e) i
@@ -318,7 +318,7 @@ send_stamp-in_domain flow p t s i e = send_stamp_of_kind-in_domain flow (kind_of
 
 -- ---- the sending map is monotone
 
-fed_back-loop : (m : ℕ) (b t : Stamp) → IsInLoop b m t → counter t < m → fed_back m t ≡ Some (nest (outer t) (counter t + 1))
+fed_back-loop : (m : ℕ) (b t : Stamp) → IsInLoop b m t → counter t < m → fed_back_stamp m t ≡ Some (nest (outer t) (counter t + 1))
 fed_back-loop m b t v h = cond-true (nat_lt (counter t) m) (Some (nest (outer t) (counter t + 1))) None (lt-ltb (counter t) m h)
 
 pub div-monotone : (n x y : ℕ) → x ≤ y → x / n ≤ y / n
@@ -356,9 +356,9 @@ send_stamp_of_kind-monotone flow (Regroup n) s t w i l e =
     let y = in_line t g i in
     let x = in_line s g (leq-trans s t (g ∷ []) l i) in
     let q = leq-line x.0 y.0 (leq_to (x.0 ∷ []) t _ y.1 (leq_from s _ t x.1 l)) in
-    let r : Some ((y.0 / n) ∷ []) ≡ Some w = ap (regrouped n) (sym y.1) ∙ e in (
+    let r : Some ((y.0 / n) ∷ []) ≡ Some w = ap (regrouped_stamp n) (sym y.1) ∙ e in (
       (x.0 / n) ∷ [],
-      ap (regrouped n) x.1,
+      ap (regrouped_stamp n) x.1,
       leq_to ((x.0 / n) ∷ []) _ w (some_is ((y.0 / n) ∷ []) w r) (line-leq (x.0 / n) (y.0 / n) (div-monotone n x.0 y.0 q)),
     )
 send_stamp_of_kind-monotone flow kind s t w i l e = (s, refl, leq_to s t w (some_is t w e) l)

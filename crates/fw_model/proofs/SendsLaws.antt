@@ -11,7 +11,7 @@ use Rattle.fw_flow.specs.declared.event.Message.{Message}
 use Rattle.fw_flow.specs.declared.kind.Kind.{Kind}
 use Rattle.fw_flow.specs.declared.kind.Kind.TheVariants.{Sequence}
 use Rattle.fw_flow.specs.Dataflow.{System, Dataflow, kind_of, sender, bounds_of, send_stamp, send_stamp_of_kind, is_sequence_kind}
-use Rattle.fw_flow.specs.NodeFunction.{stamp, recs_on, messages_at, messages_at_some, sends_of_kind, sends, sent_by}
+use Rattle.fw_flow.specs.NodeFunction.{event_stamp, recs_on, messages_at, messages_at_some, sends_of_kind, sends, sent_by}
 use Rattle.fw_flow.specs.Projection.{events_at, all_inside, phi, psi}
 use Rattle.fw_model.specs.LawsOfSending.{SendsAtSendStamp, SendsAreInsidePsi, SentFromInsideIsInsidePsi, InsidePhiComesFromInside}
 use Rattle.fw_model.proofs.SendingLaws.{phi-by_stamp, psi-by_stamp, phi-in_domain, send_stamp-in_domain}
@@ -30,10 +30,10 @@ messages_at_some-each None cause rs = tt
 messages_at_some-each (Some at) cause rs = messages_at-each at cause rs
 
 pub sends_of_kind-each : (sys : System) (kind : Kind) (before : List Event) (v : Event) → is_sequence_kind kind ≡ false
-    → AllByRecursion (IsAt (send_stamp_of_kind sys.flow kind (stamp v)) (stamp v)) (sends_of_kind sys kind before v)
+    → AllByRecursion (IsAt (send_stamp_of_kind sys.flow kind (event_stamp v)) (event_stamp v)) (sends_of_kind sys kind before v)
 sends_of_kind-each sys Sequence before v p = absurd (cc)
 sends_of_kind-each sys kind before v p =
-    messages_at_some-each (send_stamp_of_kind sys.flow kind (stamp v)) (stamp v) (recs_on sys kind before v)
+    messages_at_some-each (send_stamp_of_kind sys.flow kind (event_stamp v)) (event_stamp v) (recs_on sys kind before v)
 
 pub sends-each : SendsAtSendStamp
 unfolding sends
@@ -46,9 +46,9 @@ by_stamp-no_sequence flow kind p = refl
 pub sends-inside_psi : SendsAreInsidePsi
 sends-inside_psi sys e f p fr before v k =
     let q = sender sys.flow e in
-    each-weaker (IsAt (send_stamp sys.flow q (stamp v)) (stamp v)) (λ m. psi sys.flow e f m.at ≡ true) (sends sys q before v)
-    (λ m a. (psi-by_stamp sys.flow e f p fr m.at (send_stamp-in_domain sys.flow q (stamp v) m.at (fr.inside_domain (stamp v) k) a.0)).1
-    (stamp v, m.at, k, a.0, leq-refl m.at))
+    each-weaker (IsAt (send_stamp sys.flow q (event_stamp v)) (event_stamp v)) (λ m. psi sys.flow e f m.at ≡ true) (sends sys q before v)
+    (λ m a. (psi-by_stamp sys.flow e f p fr m.at (send_stamp-in_domain sys.flow q (event_stamp v) m.at (fr.inside_domain (event_stamp v) k) a.0)).1
+    (event_stamp v, m.at, k, a.0, leq-refl m.at))
     (sends-each sys q (by_stamp-no_sequence sys.flow (kind_of sys.flow q) p) before v)
 
 -- the message is at the send stamp of its one cause, which is of the node's domain
@@ -56,12 +56,12 @@ IsFrom : Dataflow → ℕ → Message → Type 0
 IsFrom flow p m = (t : Stamp) × (in_domain (bounds_of flow p) t ≡ true) × (send_stamp flow p t ≡ Some m.at) × (m.causes ≡ t ∷ [])
 
 sent_by-each : (sys : System) (p : ℕ) → is_sequence_kind (kind_of sys.flow p) ≡ false → (vs : List Event)
-    → AllByRecursion (λ v. in_domain (bounds_of sys.flow p) (stamp v) ≡ true) vs → AllByRecursion (IsFrom sys.flow p) (sent_by sys p vs)
+    → AllByRecursion (λ v. in_domain (bounds_of sys.flow p) (event_stamp v) ≡ true) vs → AllByRecursion (IsFrom sys.flow p) (sent_by sys p vs)
 unfolding IsFrom
 sent_by-each sys p n [] d = tt
 sent_by-each sys p n (v ∷ vs) d =
     each-append (IsFrom sys.flow p) (sends sys p vs v) (sent_by sys p vs)
-    (each-weaker (IsAt (send_stamp sys.flow p (stamp v)) (stamp v)) (IsFrom sys.flow p) (sends sys p vs v) (λ m a. (stamp v, d.0, a.0, a.1)) (sends-each sys p n vs v))
+    (each-weaker (IsAt (send_stamp sys.flow p (event_stamp v)) (event_stamp v)) (IsFrom sys.flow p) (sends sys p vs v) (λ m a. (event_stamp v, d.0, a.0, a.1)) (sends-each sys p n vs v))
     (sent_by-each sys p n vs d.1)
 
 pub inside_phi-from_inside : InsidePhiComesFromInside
@@ -83,7 +83,7 @@ unfolding IsOfCause
 sent_by-of_cause sys p n [] = tt
 sent_by-of_cause sys p n (v ∷ vs) =
     each-append (IsOfCause sys.flow p) (sends sys p vs v) (sent_by sys p vs)
-    (each-weaker (IsAt (send_stamp sys.flow p (stamp v)) (stamp v)) (IsOfCause sys.flow p) (sends sys p vs v) (λ m a. (stamp v, a.0, a.1)) (sends-each sys p n vs v))
+    (each-weaker (IsAt (send_stamp sys.flow p (event_stamp v)) (event_stamp v)) (IsOfCause sys.flow p) (sends sys p vs v) (λ m a. (event_stamp v, a.0, a.1)) (sends-each sys p n vs v))
     (sent_by-of_cause sys p n vs)
 
 pub sent_from_inside-inside_psi : SentFromInsideIsInsidePsi

@@ -10,10 +10,10 @@ use Rattle.fw_flow.specs.declared.event.Event.TheVariants.{Inject, Deliver, Noti
 use Rattle.fw_flow.specs.declared.event.Message.{Message}
 use Rattle.fw_flow.specs.WholeBags.{Timed}
 use Rattle.fw_flow.specs.Dataflow.{System, sender}
-use Rattle.fw_flow.specs.NodeFunction.{place, sends, sent_by}
+use Rattle.fw_flow.specs.NodeFunction.{event_node, sends, sent_by}
 use Rattle.fw_flow.specs.Projection.{events_at}
-use Rattle.fw_flow.specs.Message.{message_cmp, is_among, without, less}
-use Rattle.fw_model.specs.History.{some_at, sent, delivered, pending, IsEnabled, IsLegal}
+use Rattle.fw_flow.specs.Message.{message_cmp, is_among, messages_without, messages_less}
+use Rattle.fw_model.specs.History.{some_at, sent_messages, delivered_messages, pending_messages, IsEnabled, IsLegal}
 use Rattle.fw_flow.proofs.MessageLaws.{message_cmp-equal, message_cmp-self}
 use Rattle.fw_model.proofs.WeightLaws.{weigh, weigh-append, one, one-out}
 
@@ -28,11 +28,11 @@ copy m x = cond (is_eq (message_cmp m x)) 1 0
 copy-self : (m : Message) → copy m m ≡ 1
 copy-self m = ap (λ b. cond b 1 0) (message_cmp-self m)
 
-pub without-weigh : (w : Message → ℕ) (m : Message) (ms : List Message) → 0 < weigh (copy m) ms → weigh w ms ≡ w m + weigh w (without m ms)
+pub without-weigh : (w : Message → ℕ) (m : Message) (ms : List Message) → 0 < weigh (copy m) ms → weigh w ms ≡ w m + weigh w (messages_without m ms)
 unfolding weigh
 without-weigh w m [] l = absurd (omega arith)
 without-weigh w m (x ∷ xs) l =
-    cond_both (is_eq (message_cmp m x)) xs (x ∷ without m xs) (λ ys. weigh w (x ∷ xs) ≡ w m + weigh w ys)
+    cond_both (is_eq (message_cmp m x)) xs (x ∷ messages_without m xs) (λ ys. weigh w (x ∷ xs) ≡ w m + weigh w ys)
     (λ e. let i = ap w (message_cmp-equal m x e) in omega arith)
     (λ e. let z : copy m x ≡ 0 = ap (λ b. cond b 1 0) e in let h = without-weigh w m xs (omega arith) in omega arith)
 
@@ -49,7 +49,7 @@ abbrev pub IsSub : List Message → List Message → Type 0
 IsSub ds ms = (m : Message) → weigh (copy m) ds ≤ weigh (copy m) ms
 
 -- what is left weighs what is missing
-pub less-weigh : (w : Message → ℕ) (ms ds : List Message) → IsSub ds ms → weigh w (less ms ds) + weigh w ds ≡ weigh w ms
+pub less-weigh : (w : Message → ℕ) (ms ds : List Message) → IsSub ds ms → weigh w (messages_less ms ds) + weigh w ds ≡ weigh w ms
 unfolding weigh
 less-weigh w ms [] s = omega arith
 less-weigh w ms (d ∷ ds) s =
@@ -57,41 +57,41 @@ less-weigh w ms (d ∷ ds) s =
     let a = s d in
     let b = less-weigh (copy d) ms ds rest in
     let c = copy-self d in
-    let e = without-weigh w d (less ms ds) (omega arith) in
+    let e = without-weigh w d (messages_less ms ds) (omega arith) in
     let h = less-weigh w ms ds rest in
     omega arith
 
 -- ---- what was sent grows
 
-pub sent-grows : (sys : System) (h : List Event) (v : Event) (e : ℕ) (w : Message → ℕ) → weigh w (sent sys h e) ≤ weigh w (sent sys (v ∷ h) e)
+pub sent-grows : (sys : System) (h : List Event) (v : Event) (e : ℕ) (w : Message → ℕ) → weigh w (sent_messages sys h e) ≤ weigh w (sent_messages sys (v ∷ h) e)
 sent-grows sys h v e w =
     let q = sender sys.flow e in
     let vs = events_at sys.flow q h in
-    cond_both (place sys.flow v == q) (v ∷ vs) vs (λ ws. weigh w (sent sys h e) ≤ weigh w (sent_by sys q ws))
+    cond_both (event_node sys.flow v == q) (v ∷ vs) vs (λ ws. weigh w (sent_messages sys h e) ≤ weigh w (sent_by sys q ws))
     (λ c. omega (arith, weigh-append w (sends sys q vs v) (sent_by sys q vs))) (λ c. omega arith)
 
-delivered-sub : (sys : System) (h : List Event) (v : Event) → IsEnabled sys h v → (e : ℕ) → IsSub (delivered h e) (sent sys h e)
-    → IsSub (delivered (v ∷ h) e) (sent sys h e)
+delivered-sub : (sys : System) (h : List Event) (v : Event) → IsEnabled sys h v → (e : ℕ) → IsSub (delivered_messages h e) (sent_messages sys h e)
+    → IsSub (delivered_messages (v ∷ h) e) (sent_messages sys h e)
 unfolding weigh
 delivered-sub sys h (Inject s x) k e i = i
 delivered-sub sys h (Notify p t) k e i = i
 delivered-sub sys h (Deliver d m) k e i = λ x.
-    cond_both (d == e) (m ∷ []) [] (λ ms. weigh (copy x) (ms ++ delivered h e) ≤ weigh (copy x) (sent sys h e))
+    cond_both (d == e) (m ∷ []) [] (λ ms. weigh (copy x) (ms ++ delivered_messages h e) ≤ weigh (copy x) (sent_messages sys h e))
     (λ c.
     let same_edge = eqb-true d e c in
-    let there = is_among-copies m (pending sys h e) (sym (ap (λ n. is_among m (pending sys h n)) same_edge) ∙ k.is_pending) in
-    let a = less-weigh (copy m) (sent sys h e) (delivered h e) i in
-    cond_both (is_eq (message_cmp x m)) 1 0 (λ n. n + weigh (copy x) (delivered h e) ≤ weigh (copy x) (sent sys h e))
+    let there = is_among-copies m (pending_messages sys h e) (sym (ap (λ n. is_among m (pending_messages sys h n)) same_edge) ∙ k.is_pending) in
+    let a = less-weigh (copy m) (sent_messages sys h e) (delivered_messages h e) i in
+    cond_both (is_eq (message_cmp x m)) 1 0 (λ n. n + weigh (copy x) (delivered_messages h e) ≤ weigh (copy x) (sent_messages sys h e))
     (λ z.
     let f = message_cmp-equal x m z in
-    let g = ap (λ y. weigh (copy y) (delivered h e)) f in
-    let j = ap (λ y. weigh (copy y) (sent sys h e)) f in
+    let g = ap (λ y. weigh (copy y) (delivered_messages h e)) f in
+    let j = ap (λ y. weigh (copy y) (sent_messages sys h e)) f in
     omega arith)
     (λ z. let y = i x in omega arith))
     (λ c. i x)
 
 -- in a legal history each message was delivered at most as often as it was sent
-pub delivered-was_sent : (sys : System) (h : List Event) → IsLegal sys h → (e : ℕ) → IsSub (delivered h e) (sent sys h e)
+pub delivered-was_sent : (sys : System) (h : List Event) → IsLegal sys h → (e : ℕ) → IsSub (delivered_messages h e) (sent_messages sys h e)
 unfolding weigh
 delivered-was_sent sys [] l e = λ m. omega arith
 delivered-was_sent sys (v ∷ h) l e = λ m.
@@ -116,22 +116,22 @@ timed_of-weigh w (m ∷ ms) = ap (λ n. w (timed_message m) + n) (timed_of-weigh
 
 -- what was delivered weighs no more than what was sent
 pub delivered-lighter : (sys : System) (h : List Event) → IsLegal sys h → (e : ℕ) (w : Timed → ℕ)
-    → weigh w (timed_of (delivered h e)) ≤ weigh w (timed_of (sent sys h e))
+    → weigh w (timed_of (delivered_messages h e)) ≤ weigh w (timed_of (sent_messages sys h e))
 delivered-lighter sys h l e w =
     let u : Message → ℕ = λ m. w (timed_message m) in
-    let a = less-weigh u (sent sys h e) (delivered h e) (delivered-was_sent sys h l e) in
-    let b = timed_of-weigh w (delivered h e) in
-    let c = timed_of-weigh w (sent sys h e) in
+    let a = less-weigh u (sent_messages sys h e) (delivered_messages h e) (delivered-was_sent sys h l e) in
+    let b = timed_of-weigh w (delivered_messages h e) in
+    let c = timed_of-weigh w (sent_messages sys h e) in
     omega arith
 
 -- after a legal history what is delivered next weighs, with the rest, no more than what was sent before
 pub next_delivered-lighter : (sys : System) (h : List Event) (v : Event) → IsLegal sys h → IsEnabled sys h v → (e : ℕ) (w : Timed → ℕ)
-    → weigh w (timed_of (delivered (v ∷ h) e)) ≤ weigh w (timed_of (sent sys h e))
+    → weigh w (timed_of (delivered_messages (v ∷ h) e)) ≤ weigh w (timed_of (sent_messages sys h e))
 next_delivered-lighter sys h v l k e w =
     let u : Message → ℕ = λ m. w (timed_message m) in
-    let a = less-weigh u (sent sys h e) (delivered (v ∷ h) e) (delivered-sub sys h v k e (delivered-was_sent sys h l e)) in
-    let b = timed_of-weigh w (delivered (v ∷ h) e) in
-    let c = timed_of-weigh w (sent sys h e) in
+    let a = less-weigh u (sent_messages sys h e) (delivered_messages (v ∷ h) e) (delivered-sub sys h v k e (delivered-was_sent sys h l e)) in
+    let b = timed_of-weigh w (delivered_messages (v ∷ h) e) in
+    let c = timed_of-weigh w (sent_messages sys h e) in
     omega arith
 
 none_at-weigh : (t : Stamp) (q : Rec) (ms : List Message) → some_at (same t) ms ≡ false → weigh (λ m. one t q (timed_message m)) ms ≡ 0
@@ -144,12 +144,12 @@ none_at-weigh t q (m ∷ ms) k =
     omega arith
 
 -- where nothing is pending at a stamp, what was sent at it was delivered
-pub quiet-delivered : (sys : System) (h : List Event) → IsLegal sys h → (e : ℕ) (t : Stamp) → some_at (same t) (pending sys h e) ≡ false
-    → (q : Rec) → weigh (one t q) (timed_of (delivered h e)) ≡ weigh (one t q) (timed_of (sent sys h e))
+pub quiet-delivered : (sys : System) (h : List Event) → IsLegal sys h → (e : ℕ) (t : Stamp) → some_at (same t) (pending_messages sys h e) ≡ false
+    → (q : Rec) → weigh (one t q) (timed_of (delivered_messages h e)) ≡ weigh (one t q) (timed_of (sent_messages sys h e))
 quiet-delivered sys h l e t k q =
     let u : Message → ℕ = λ m. one t q (timed_message m) in
-    let a = less-weigh u (sent sys h e) (delivered h e) (delivered-was_sent sys h l e) in
-    let z = none_at-weigh t q (pending sys h e) k in
-    let b = timed_of-weigh (one t q) (delivered h e) in
-    let c = timed_of-weigh (one t q) (sent sys h e) in
+    let a = less-weigh u (sent_messages sys h e) (delivered_messages h e) (delivered-was_sent sys h l e) in
+    let z = none_at-weigh t q (pending_messages sys h e) k in
+    let b = timed_of-weigh (one t q) (delivered_messages h e) in
+    let c = timed_of-weigh (one t q) (sent_messages sys h e) in
     omega arith

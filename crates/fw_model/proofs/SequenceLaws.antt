@@ -12,8 +12,8 @@ use Rattle.fw_flow.specs.declared.event.Event.TheVariants.{Inject, Deliver, Noti
 use Rattle.fw_flow.specs.declared.event.Message.{Message}
 use Rattle.fw_flow.specs.declared.kind.Kind.TheVariants.{Sequence}
 use Rattle.fw_flow.specs.Dataflow.{greatest_of_kind, System, Dataflow, kind_of, sender, receiver, greatest_number, domain_of_kind, bounds_of, bounds_of_domain}
-use Rattle.fw_flow.specs.NodeFunction.{stamp, recs_on_notification, numbered_messages, sequence_sent, sends_of_kind, sends, sent_by}
-use Rattle.fw_flow.specs.Projection.{events_at, all_inside, count_from, sent_count, first_number_of, phi_of_kind, phi}
+use Rattle.fw_flow.specs.NodeFunction.{event_stamp, recs_on_notification, numbered_messages, sequence_sent, sends_of_kind, sends, sent_by}
+use Rattle.fw_flow.specs.Projection.{events_at, all_inside, count_from, sent_count, first_coordinate, phi_of_kind, phi}
 use Rattle.fw_model.specs.History.{injected_count}
 use Rattle.fw_model.specs.LawsOfSending.{InsidePhiOfSequenceComesFromInside}
 use Rattle.fw_model.proofs.PhiLaws.{count-append}
@@ -35,7 +35,7 @@ count-none f (m ∷ ms) a = ap (λ b. cond b (count_from f ms + 1) (count_from f
 
 -- the message has a number from n on, and one cause
 abbrev pub IsNumbered : ℕ → Stamp → Message → Type 0
-IsNumbered n cause m = (n ≤ first_number_of m.at) × (m.causes ≡ cause ∷ [])
+IsNumbered n cause m = (n ≤ first_coordinate m.at) × (m.causes ≡ cause ∷ [])
 
 pub numbered-each : (n : ℕ) (cause : Stamp) (rs : List Rec) → AllByRecursion (IsNumbered n cause) (numbered_messages n cause rs)
 numbered-each n cause [] = tt
@@ -68,7 +68,7 @@ causes-inside f (Notify p t ∷ vs) a =
 -- the numbers below the count of messages from events inside are those of messages from events inside
 numbers-inside : (bounds : Bounds) (f : Frontier) → IsFrontier bounds f → (vs : List Event)
     → AllByRecursion (λ s. in_domain bounds s ≡ true) (notified_stamps vs) → AreDescending (notified_stamps vs)
-    → AllByRecursion (λ (m : Message). first_number_of m.at < count_from f (sequence_sent vs) → all_inside f m.causes ≡ true) (sequence_sent vs)
+    → AllByRecursion (λ (m : Message). first_coordinate m.at < count_from f (sequence_sent vs) → all_inside f m.causes ≡ true) (sequence_sent vs)
 numbers-inside bounds f fr [] d o = tt
 numbers-inside bounds f fr (Inject s x ∷ vs) d o = numbers-inside bounds f fr vs d o
 numbers-inside bounds f fr (Deliver e m ∷ vs) d o = numbers-inside bounds f fr vs d o
@@ -79,7 +79,7 @@ numbers-inside bounds f fr (Notify p t ∷ vs) d o =
     let all = sequence_sent (Notify p t ∷ vs) in
     elim (cases_Bool (f t)) [
       | inl k ↦
-          each-weaker (λ (m : Message). all_inside f m.causes ≡ true) (λ m. first_number_of m.at < count_from f all → all_inside f m.causes ≡ true) all (λ m i l. i)
+          each-weaker (λ (m : Message). all_inside f m.causes ≡ true) (λ m. first_coordinate m.at < count_from f all → all_inside f m.causes ≡ true) all (λ m i l. i)
           (causes-inside f (Notify p t ∷ vs) (
             k,
             each-weaker (λ s. (in_domain bounds s ≡ true) × (leq s t ≡ true)) (λ s. f s ≡ true) (notified_stamps vs)
@@ -90,11 +90,11 @@ numbers-inside bounds f fr (Notify p t ∷ vs) d o =
           (each-weaker (IsNumbered n t) (λ m. all_inside f m.causes ≡ false) now (λ m b. one_inside f t m false k b.1) (numbered-each n t rs)) in
           let same : count_from f all ≡ count_from f (sequence_sent vs) = omega (arith, count-append f now (sequence_sent vs)) in
           let fewer = count-le_length f (sequence_sent vs) in
-          each-append (λ (m : Message). first_number_of m.at < count_from f all → all_inside f m.causes ≡ true) now (sequence_sent vs)
-          (each-weaker (IsNumbered n t) (λ m. first_number_of m.at < count_from f all → all_inside f m.causes ≡ true) now
+          each-append (λ (m : Message). first_coordinate m.at < count_from f all → all_inside f m.causes ≡ true) now (sequence_sent vs)
+          (each-weaker (IsNumbered n t) (λ m. first_coordinate m.at < count_from f all → all_inside f m.causes ≡ true) now
           (λ m b l. let c = b.0 in absurd (omega arith)) (numbered-each n t rs))
-          (each-weaker (λ (m : Message). first_number_of m.at < count_from f (sequence_sent vs) → all_inside f m.causes ≡ true)
-          (λ m. first_number_of m.at < count_from f all → all_inside f m.causes ≡ true) (sequence_sent vs)
+          (each-weaker (λ (m : Message). first_coordinate m.at < count_from f (sequence_sent vs) → all_inside f m.causes ≡ true)
+          (λ m. first_coordinate m.at < count_from f all → all_inside f m.causes ≡ true) (sequence_sent vs)
           (λ m i l. i (omega arith)) (numbers-inside bounds f fr vs d.1 o.1))
     ]
 
@@ -138,7 +138,7 @@ sent_by-sequence sys p is (Notify q t ∷ vs) n =
     ap (λ k. sends_of_kind sys k vs (Notify q t) ++ sent_by sys p vs) is
     ∙ ap (λ ms. numbered_messages (length (sequence_sent vs)) t (recs_on_notification Sequence vs t) ++ ms) (sent_by-sequence sys p is vs n)
 
-pub notified_in_domain : (bounds : Bounds) (vs : List Event) → AllByRecursion (λ v. in_domain bounds (stamp v) ≡ true) vs
+pub notified_in_domain : (bounds : Bounds) (vs : List Event) → AllByRecursion (λ v. in_domain bounds (event_stamp v) ≡ true) vs
     → AllByRecursion (λ s. in_domain bounds s ≡ true) (notified_stamps vs)
 notified_in_domain bounds [] d = tt
 notified_in_domain bounds (Inject s x ∷ vs) d = notified_in_domain bounds vs d.1
@@ -150,13 +150,13 @@ unfolding bounds_of
 bounds-sequence flow p is = ap (λ k. bounds_of_domain flow (domain_of_kind flow k)) is
 
 pub phi-sequence : (sys : System) (h : List Event) (e : ℕ) (f : Frontier) (u : Stamp) → kind_of sys.flow (sender sys.flow e) ≡ Sequence → phi sys h e f u ≡ true
-    → (f (greatest_number ∷ []) ≡ true) ⊎ (first_number_of u < sent_count sys h (sender sys.flow e) f)
+    → (f (greatest_number ∷ []) ≡ true) ⊎ (first_coordinate u < sent_count sys h (sender sys.flow e) f)
 unfolding phi
 phi-sequence sys h e f u is k =
     let count = sent_count sys h (sender sys.flow e) f in
     let a = and_parts _ (phi_of_kind (greatest_of_kind sys.flow (kind_of sys.flow (sender sys.flow e))) (kind_of sys.flow (sender sys.flow e)) count f u) k in
     let b : phi_of_kind (greatest_of_kind sys.flow Sequence) Sequence count f u ≡ true = sym (ap (λ kind. phi_of_kind (greatest_of_kind sys.flow kind) kind count f u) is) ∙ a.1 in
-    elim (or_cases (f (greatest_number ∷ [])) (nat_lt (first_number_of u) count) b) [ inl i ↦ inl i | inr i ↦ inr (ltb-true (first_number_of u) count i) ]
+    elim (or_cases (f (greatest_number ∷ [])) (nat_lt (first_coordinate u) count) b) [ inl i ↦ inl i | inr i ↦ inr (ltb-true (first_coordinate u) count i) ]
 
 pub inside_phi_of_sequence-from_inside : InsidePhiOfSequenceComesFromInside
 inside_phi_of_sequence-from_inside sys h e f is fr d o =
@@ -174,7 +174,7 @@ inside_phi_of_sequence-from_inside sys h e f is fr d o =
           (causes-inside f vs (each-weaker (λ s. in_domain bounds s ≡ true) (λ s. f s ≡ true) (notified_stamps vs)
           (λ s i. fr.closed s top i (sym (ap (λ b. in_domain b s) (bounds-sequence sys.flow p is)) ∙ i) k) notified))
       | inr k ↦
-          each-weaker (λ (m : Message). first_number_of m.at < count_from f (sequence_sent vs) → all_inside f m.causes ≡ true) Q (sequence_sent vs)
+          each-weaker (λ (m : Message). first_coordinate m.at < count_from f (sequence_sent vs) → all_inside f m.causes ≡ true) Q (sequence_sent vs)
           (λ m i l. elim (phi-sequence sys h e f m.at is l) [
             | inl j ↦ absurd (both_ways (f top) k j)
             | inr j ↦ let same = ap (count_from f) sent_is in i (omega arith)

@@ -9,13 +9,13 @@ use Rattle.fw_time.specs.Stamp.{Stamp, same}
 use Rattle.fw_time.proofs.EachLaws.{each-weaker, each-both}
 use Rattle.fw_bag.specs.declared.rec.Rec.{Rec}
 use Rattle.fw_bag.specs.Rec.{rec_cmp}
-use Rattle.fw_bag.specs.Keyed.{sorted}
+use Rattle.fw_bag.specs.Keyed.{sorted_recs}
 use Rattle.fw_flow.specs.declared.event.Event.{Event}
 use Rattle.fw_flow.specs.declared.event.Message.{Message}
 use Rattle.fw_flow.specs.Dataflow.{greatest_number}
-use Rattle.fw_flow.specs.Projection.{first_number_of}
+use Rattle.fw_flow.specs.Projection.{first_coordinate}
 use Rattle.fw_flow.specs.NodeFunction.{delivered_recs, numbered_messages}
-use Rattle.fw_flow.specs.WholeBags.{Timed, timed_cmp, in_order, recs_where, numbered}
+use Rattle.fw_flow.specs.WholeBags.{Timed, timed_cmp, in_order, recs_where, numbered_recs}
 use Rattle.fw_model.proofs.WeightLaws.{weigh, how_often-where, one, one-in, one-out, is_at-self}
 use Rattle.fw_model.proofs.SentLaws.{timed_of}
 use Rattle.fw_model.proofs.TimedLaws.{timed_order, IsAscendingTimed, ascending-in_order}
@@ -96,55 +96,55 @@ filter-parts a b (x ∷ xs) s p =
 
 -- ---- numbering
 
-numbered-past : (n : ℕ) (xs : List Timed) → greatest_number < n → numbered n xs ≡ []
+numbered-past : (n : ℕ) (xs : List Timed) → greatest_number < n → numbered_recs n xs ≡ []
 numbered-past n [] l = refl
 numbered-past n (x ∷ xs) l =
-    cond-false (nat_le n greatest_number) (record { at = n ∷ []; rec = x.rec } ∷ numbered (n + 1) xs) [] (lt-leb n greatest_number l)
+    cond-false (nat_le n greatest_number) (record { at = n ∷ []; rec = x.rec } ∷ numbered_recs (n + 1) xs) [] (lt-leb n greatest_number l)
 
-pub numbered-append : (n : ℕ) (xs ys : List Timed) → numbered n (xs ++ ys) ≡ numbered n xs ++ numbered (n + length (numbered n xs)) ys
-numbered-append n [] ys = let e : n ≡ n + 0 = omega arith in ap (λ k. numbered k ys) e
+pub numbered-append : (n : ℕ) (xs ys : List Timed) → numbered_recs n (xs ++ ys) ≡ numbered_recs n xs ++ numbered_recs (n + length (numbered_recs n xs)) ys
+numbered-append n [] ys = let e : n ≡ n + 0 = omega arith in ap (λ k. numbered_recs k ys) e
 numbered-append n (x ∷ xs) ys = elim (cases_Bool (nat_le n greatest_number)) [
   | inl e ↦
       let head : Timed = record { at = n ∷ []; rec = x.rec } in
-      let k : n + 1 + length (numbered (n + 1) xs) ≡ n + length (head ∷ numbered (n + 1) xs) = omega arith in
-      ap (λ b. cond b (head ∷ numbered (n + 1) (xs ++ ys)) []) e
-      ∙ ap (λ zs. head ∷ zs) (numbered-append (n + 1) xs ys ∙ ap (λ j. numbered (n + 1) xs ++ numbered j ys) k)
-      ∙ sym (ap (λ b. cond b (head ∷ numbered (n + 1) xs) [] ++ numbered (n + length (cond b (head ∷ numbered (n + 1) xs) [])) ys) e)
+      let k : n + 1 + length (numbered_recs (n + 1) xs) ≡ n + length (head ∷ numbered_recs (n + 1) xs) = omega arith in
+      ap (λ b. cond b (head ∷ numbered_recs (n + 1) (xs ++ ys)) []) e
+      ∙ ap (λ zs. head ∷ zs) (numbered-append (n + 1) xs ys ∙ ap (λ j. numbered_recs (n + 1) xs ++ numbered_recs j ys) k)
+      ∙ sym (ap (λ b. cond b (head ∷ numbered_recs (n + 1) xs) [] ++ numbered_recs (n + length (cond b (head ∷ numbered_recs (n + 1) xs) [])) ys) e)
   | inr e ↦
       let head : Timed = record { at = n ∷ []; rec = x.rec } in
       let l = leb-false n greatest_number e in
       let past = numbered-past (n + 0) ys (omega arith) in
-      ap (λ b. cond b (head ∷ numbered (n + 1) (xs ++ ys)) []) e
+      ap (λ b. cond b (head ∷ numbered_recs (n + 1) (xs ++ ys)) []) e
       ∙ sym past
-      ∙ sym (ap (λ b. cond b (head ∷ numbered (n + 1) xs) [] ++ numbered (n + length (cond b (head ∷ numbered (n + 1) xs) [])) ys) e)
+      ∙ sym (ap (λ b. cond b (head ∷ numbered_recs (n + 1) xs) [] ++ numbered_recs (n + length (cond b (head ∷ numbered_recs (n + 1) xs) [])) ys) e)
 ]
 
 -- the messages of these recs are the recs at the same numbers
-pub numbered-messages : (n : ℕ) (cause : Stamp) (rs : List Rec) (xs : List Timed) → rs ≡ map (λ r. r.rec) xs → timed_of (numbered_messages n cause rs) ≡ numbered n xs
+pub numbered-messages : (n : ℕ) (cause : Stamp) (rs : List Rec) (xs : List Timed) → rs ≡ map (λ r. r.rec) xs → timed_of (numbered_messages n cause rs) ≡ numbered_recs n xs
 numbered-messages n cause rs xs e = ap (λ qs. timed_of (numbered_messages n cause qs)) e ∙ each n xs
   where
-    each : (n : ℕ) (xs : List Timed) → timed_of (numbered_messages n cause (map (λ r. r.rec) xs)) ≡ numbered n xs
+    each : (n : ℕ) (xs : List Timed) → timed_of (numbered_messages n cause (map (λ r. r.rec) xs)) ≡ numbered_recs n xs
     each n [] = refl
     each n (x ∷ xs) = cases (nat_le n greatest_number) (each (n + 1) xs)
       where
-        cases : (b : Bool) → timed_of (numbered_messages (n + 1) cause (map (λ r. r.rec) xs)) ≡ numbered (n + 1) xs
+        cases : (b : Bool) → timed_of (numbered_messages (n + 1) cause (map (λ r. r.rec) xs)) ≡ numbered_recs (n + 1) xs
             → timed_of (cond b (record { at = n ∷ []; rec = x.rec; causes = cause ∷ [] } ∷ numbered_messages (n + 1) cause (map (λ r. r.rec) xs)) [])
-            ≡ cond b (record { at = n ∷ []; rec = x.rec } ∷ numbered (n + 1) xs) []
+            ≡ cond b (record { at = n ∷ []; rec = x.rec } ∷ numbered_recs (n + 1) xs) []
         cases true h = ap (λ ys. record { at = n ∷ []; rec = x.rec } ∷ ys) h
         cases false h = refl
 
 -- nothing is numbered below the first number
-pub numbered-from : (n : ℕ) (xs : List Timed) (t : Stamp) (q : Rec) → first_number_of t < n → weigh (one t q) (numbered n xs) ≡ 0
+pub numbered-from : (n : ℕ) (xs : List Timed) (t : Stamp) (q : Rec) → first_coordinate t < n → weigh (one t q) (numbered_recs n xs) ≡ 0
 unfolding weigh
 numbered-from n [] t q l = refl
 numbered-from n (x ∷ xs) t q l =
     let h = numbered-from (n + 1) xs t q (omega arith) in
     let head : Timed = record { at = n ∷ []; rec = x.rec } in
     let z = one-out t q head (elim (cases_Bool (same t (n ∷ []))) [
-      | inl e ↦ let i = ap first_number_of (same-is t (n ∷ []) e) in absurd (omega arith)
+      | inl e ↦ let i = ap first_coordinate (same-is t (n ∷ []) e) in absurd (omega arith)
       | inr e ↦ ap (λ b. b && is_eq (rec_cmp q x.rec)) e
     ]) in
-    cond_both (nat_le n greatest_number) (head ∷ numbered (n + 1) xs) [] (λ ys. weigh (one t q) ys ≡ 0) (λ e. omega arith) (λ e. refl)
+    cond_both (nat_le n greatest_number) (head ∷ numbered_recs (n + 1) xs) [] (λ ys. weigh (one t q) ys ≡ 0) (λ e. omega arith) (λ e. refl)
 
 pub length-weigh : (xs : List Timed) → weigh (λ r. 1) xs ≡ length xs
 unfolding weigh
@@ -160,7 +160,7 @@ length-messages (m ∷ ms) = let h = length-messages ms in omega arith
 
 -- what came at a stamp, in order, is what is there in the whole bag in order
 pub block-is : (t : Stamp) (vs : List Event) (xs : List Timed) → ((q : Rec) → weigh (one t q) (deliveries vs) ≡ weigh (one t q) xs)
-    → sorted (delivered_recs (λ d s. same s t) vs) ≡ recs_where (same t) (in_order xs)
+    → sorted_recs (delivered_recs (λ d s. same s t) vs) ≡ recs_where (same t) (in_order xs)
 block-is t vs xs k =
     sorted-is (delivered_recs (λ d s. same s t) vs) (recs_where (same t) (in_order xs)) (ascending-where t (in_order xs) (ascending-in_order xs))
     (λ q. how_often-delivered_at t q vs ∙ k q ∙ sym (in_order-weigh (one t q) xs) ∙ sym (how_often-where t q (in_order xs)))

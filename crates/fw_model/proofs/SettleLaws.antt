@@ -5,7 +5,7 @@ use Rattle.std.proofs.lemmas.Bool.{and_parts, or_cases, or_left, or_right}
 use Rattle.std.proofs.lemmas.List.FromFn.{get_or-map-range_with_len, length-map-range_with_len}
 use Rattle.fw_time.specs.declared.stamp.Bounds.{Bounds}
 use Rattle.fw_frontier.specs.Frontier.{Frontier, IsFrontier, meet, join}
-use Rattle.fw_frontier.specs.Front.{Front, frontier_of, Names}
+use Rattle.fw_frontier.specs.Front.{Front, frontier_of, IsFrontOf}
 use Rattle.fw_frontier.proofs.NamesLaws.{frontier-closed}
 use Rattle.fw_flow.specs.Dataflow.{bounds_of}
 use Rattle.fw_model.specs.Machine.{front_of, is_failed}
@@ -43,7 +43,7 @@ fronts-each n P h =
 -- what the settled front of a node grows to: more, where it is not failed
 IsGrown : Bounds → Bool → Front → Frontier → Front → Type 0
 IsGrown b true old done new = new ≡ old
-IsGrown b false old done new = Names b new (join (frontier_of b old) done)
+IsGrown b false old done new = IsFrontOf b new (join (frontier_of b old) done)
 
 grown-front : (b : Bounds) (failed : Bool) (old : Front) (done : Frontier) → IsFrontier b done → (new : Front) × IsGrown b failed old done new
 unfolding IsGrown
@@ -51,7 +51,7 @@ grown-front b true old done fr = (old, refl)
 grown-front b false old done fr = has_front b (join (frontier_of b old) done) (join-frontier b (frontier_of b old) done (frontier-closed b old) fr)
 
 grown-live : (b : Bounds) (failed : Bool) (old : Front) (done : Frontier) (new : Front) → failed ≡ false → IsGrown b failed old done new
-    → Names b new (join (frontier_of b old) done)
+    → IsFrontOf b new (join (frontier_of b old) done)
 unfolding IsGrown
 grown-live b true old done new e g = absurd (cc)
 grown-live b false old done new e g = g

@@ -10,7 +10,7 @@ use Rattle.fw_flow.specs.WellFormed.{IsWellFormed}
 use Rattle.fw_model.specs.Denotation.{Family, rounds}
 use Rattle.fw_model.specs.Machine.{Machine, first_state}
 use Rattle.fw_flow.specs.declared.choice.Choice.{Choice}
-use Rattle.fw_model.specs.Steps.{quiet, acked, cuts, lows, Outcome, LeadsTo, Steps, Run}
+use Rattle.fw_model.specs.Steps.{silent, acked, cuts, lows, Outcome, LeadsTo, StepsTo, Run}
 use Rattle.fw_model.specs.LawsOfChoosing.{TwoRunsShowOneBag}
 use Rattle.fw_model.proofs.DenotationLaws.{denotation-exists}
 use Rattle.fw_model.proofs.DependenceLaws.{in_edges-each}
@@ -24,7 +24,7 @@ record IsOutput (flow : Dataflow) (o : ℕ) : Type 0 where
   declared : o < length flow.nodes
   output : is_output_kind (kind_of flow o) ≡ true
 
-quiet-other : (o : ℕ) (t : Stamp) (recs : List Rec) → acked o t recs ≡ quiet → ⊥
+quiet-other : (o : ℕ) (t : Stamp) (recs : List Rec) → acked o t recs ≡ silent → ⊥
 quiet-other o t recs e = cc
 
 cuts-other : (o : ℕ) (t : Stamp) (recs : List Rec) (choice : Choice) → acked o t recs ≡ cuts choice → ⊥
@@ -56,7 +56,7 @@ shown-output : (sys : System) (o : ℕ) (t : Stamp) (recs : List Rec) (steps : L
 shown-output sys o t recs [] [] state last r k = absurd k
 shown-output sys o t recs [] (x ∷ xs) state last r k = absurd r
 shown-output sys o t recs (s ∷ ss) [] state last r k = absurd r
-shown-output sys o t recs (s ∷ ss) (x ∷ xs) state last r (inl e) = took-output sys state s r.0 o t recs (subst (λ outcome. Steps sys state s r.0 outcome) e r.1)
+shown-output sys o t recs (s ∷ ss) (x ∷ xs) state last r (inl e) = took-output sys state s r.0 o t recs (subst (λ outcome. StepsTo sys state s r.0 outcome) e r.1)
 shown-output sys o t recs (s ∷ ss) (x ∷ xs) state last r (inr k) = shown-output sys o t recs ss xs r.0 last r.2 k
 
 shown-denoted : (sys : System) (family : Family) (o : ℕ) (t : Stamp) (recs : List Rec) (outcomes : List Outcome) → AllByRecursion (IsDenoted sys family) outcomes

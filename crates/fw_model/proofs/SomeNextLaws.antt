@@ -15,7 +15,7 @@ use Rattle.fw_flow.specs.WellFormed.{IsWellFormed}
 use Rattle.fw_model.specs.Machine.{Machine, front_of, is_failed}
 use Rattle.fw_flow.specs.declared.choice.Choice.{Choice}
 use Rattle.fw_model.specs.Choice.{kept, cut_of}
-use Rattle.fw_model.specs.Steps.{cuts, lows, did, idle, IsSettledCut, CutsTo, LeadsTo, recovered, front_of_cut, collected_writes}
+use Rattle.fw_model.specs.Steps.{cuts, lows, did, idle, IsSettledCut, CutsTo, LeadsTo, recovered_state, front_of_cut, collected_writes}
 use Rattle.fw_model.specs.LawsOfSteps.{SomeNextState, ExactlyOneNextState}
 use Rattle.fw_model.proofs.ChoiceLaws.{largest-one}
 use Rattle.fw_model.proofs.CmpLaws.{decided-same, stamp_total, fronts_cmp-same}
@@ -46,7 +46,7 @@ pub recover-enabled : (sys : System) (state : Machine) → CanChoose sys state (
 recover-enabled sys state c p there failed =
     let l = largest-exists sys state (is_failed state) kept c.chains c.choice c.consistent in
     let s = settled_cuts sys state l.0 in
-    (recovered sys state l.0 s.0, l.0, (p, l.0, s.0, there, failed, l.1, s.1, refl, refl))
+    (recovered_state sys state l.0 s.0, l.0, (p, l.0, s.0, there, failed, l.1, s.1, refl, refl))
 
 recover-decided : (sys : System) (state : Machine) → CanChoose sys state (is_failed state) → DecidedStep sys state Recover
 recover-decided sys state c = elim (find_place (length sys.flow.nodes) (λ p. is_failed state p ≡ true) (λ p. decided-test (is_failed state p) true)) [

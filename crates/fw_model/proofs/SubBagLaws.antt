@@ -13,9 +13,9 @@ use Rattle.fw_flow.specs.Dataflow.{System, kind_of, sender, in_edges, batches_of
 use Rattle.fw_flow.specs.NodeFunction.{recs_on_notification}
 use Rattle.fw_flow.specs.Projection.{events_at}
 use Rattle.fw_flow.specs.WellFormed.{IsWellFormedSystem}
-use Rattle.fw_flow.specs.WholeBags.{outputs_of_kind, together}
+use Rattle.fw_flow.specs.WholeBags.{outputs_of_kind, joint_bag}
 use Rattle.fw_model.specs.Denotation.{Family, IsDenotation}
-use Rattle.fw_model.specs.History.{was_delivered_to, was_notified, owed, sent, delivered, IsLegal}
+use Rattle.fw_model.specs.History.{was_delivered_to, was_notified, is_owed_notice, sent_messages, delivered_messages, IsLegal}
 use Rattle.fw_model.specs.LawsOfDeliveries.{SentIsSubBagOfDenotation, DeliveredIsSubBagOfDenotation}
 use Rattle.fw_model.proofs.WeightLaws.{weigh, how_often-where, one}
 use Rattle.fw_model.proofs.SentLaws.{timed_of, next_delivered-lighter}
@@ -33,7 +33,7 @@ use Rattle.fw_model.proofs.OncePerNumberLaws.{any_at, one-any, some_at_stamp, de
 
 -- each rec was delivered at most as often as it is in the family
 abbrev IsDeliveredWithin : Family → List Event → Type 0
-IsDeliveredWithin family h = (d : ℕ) (t : Stamp) (q : Rec) → weigh (one t q) (timed_of (delivered h d)) ≤ weigh (one t q) (family d)
+IsDeliveredWithin family h = (d : ℕ) (t : Stamp) (q : Rec) → weigh (one t q) (timed_of (delivered_messages h d)) ≤ weigh (one t q) (family d)
 
 -- what is known of a legal history
 record Known (sys : System) (h : List Event) (family : Family) : Type 0 where
@@ -44,7 +44,7 @@ record Known (sys : System) (h : List Event) (family : Family) : Type 0 where
 
 -- the rec was sent on the edge at the stamp at most as often as the family has it there
 abbrev IsSentWithin : System → List Event → Family → ℕ → Stamp → Rec → Type 0
-IsSentWithin sys h family e t q = weigh (one t q) (timed_of (sent sys h e)) ≤ weigh (one t q) (family e)
+IsSentWithin sys h family e t q = weigh (one t q) (timed_of (sent_messages sys h e)) ≤ weigh (one t q) (family e)
 
 -- the sorts of the kinds that are no input, no output and no sequence
 abbrev InnerSort : Kind → Type 0
@@ -65,7 +65,7 @@ inner_sort (Regroup n) k = inl refl
 inner_sort kind k = absurd (cc)
 
 -- a node that waits for no notification is owed none
-not_owed : (sys : System) (h : List Event) (p : ℕ) (t : Stamp) → is_notified_kind (kind_of sys.flow p) ≡ false → owed sys h p t ≡ false
+not_owed : (sys : System) (h : List Event) (p : ℕ) (t : Stamp) → is_notified_kind (kind_of sys.flow p) ≡ false → is_owed_notice sys h p t ≡ false
 not_owed sys h p t n = ap (λ b. b && was_delivered_to sys.flow p t h && not (was_notified p t h)) n
 
 once-not_notified : (kind : Kind) → sends_at_once kind ≡ true → is_notified_kind kind ≡ false
@@ -76,8 +76,8 @@ once-not_notified kind k = refl
 
 -- what was sent is what the node sends in all for what was delivered
 sent_for : (sys : System) (h : List Event) (family : Family) → Known sys h family → (e : ℕ) → is_inner (kind_of sys.flow (sender sys.flow e)) ≡ true
-    → (t : Stamp) (q : Rec) → owed sys h (sender sys.flow e) t ≡ false
-    → weigh (one t q) (timed_of (sent sys h e))
+    → (t : Stamp) (q : Rec) → is_owed_notice sys h (sender sys.flow e) t ≡ false
+    → weigh (one t q) (timed_of (sent_messages sys h e))
     ≡ weigh (one t q) (outputs_of_kind sys.flow (kind_of sys.flow (sender sys.flow e)) (batches_of sys (sender sys.flow e)) (map (delivered_bag h) (in_edges sys.flow (sender sys.flow e))))
 sent_for sys h family k e is t q o =
     let flow = sys.flow in
@@ -163,7 +163,7 @@ ledger-within sys h family k e ledger t q =
       | inr none ↦
           let bags = map (delivered_bag h) (in_edges flow p) in
           let b = ap (λ z. weigh (one t q) (outputs_of_kind flow z (batches_of sys p) bags)) ledger in
-          let f = totals-none t q (together bags) (λ x.
+          let f = totals-none t q (joint_bag bags) (λ x.
           let m = one-any t x came in
           let y = together-weigh (one t x) (delivered_bag h) (in_edges flow p) in
           let z : weigh (λ n. weigh (one t x) (delivered_bag h n)) (in_edges flow p) ≡ weigh (one t x) came + 0 = ap (weigh (λ n. weigh (one t x) (delivered_bag h n))) edge.only in
@@ -208,7 +208,7 @@ delivered_within sys (v ∷ h) family w l den d t q =
 
 pub sent-is_sub : SentIsSubBagOfDenotation
 sent-is_sub sys h family w l den e t r =
-    let a = how_often-recs_at t r (sent sys h e) in
+    let a = how_often-recs_at t r (sent_messages sys h e) in
     let b = how_often-where t r (family e) in
     let k : Known sys h family = record { well_formed = w; legal = l; denotation = den; within = delivered_within sys h family w l den } in
     let c = sent_within sys h family k e t r in
@@ -216,7 +216,7 @@ sent-is_sub sys h family w l den e t r =
 
 pub delivered-is_sub : DeliveredIsSubBagOfDenotation
 delivered-is_sub sys h family w l den e t r =
-    let a = how_often-recs_at t r (delivered h e) in
+    let a = how_often-recs_at t r (delivered_messages h e) in
     let b = how_often-where t r (family e) in
     let c = delivered_within sys h family w l den e t r in
     omega arith

@@ -12,7 +12,7 @@ use Rattle.fw_bag.specs.declared.rec.Rec.{Rec}
 use Rattle.fw_bag.specs.Rec.{rec_cmp}
 use Rattle.fw_bag.specs.Bag.{how_often}
 use Rattle.fw_bag.specs.Keyed.{plus, value_sum, has_key, distinct_keys, sums_of}
-use Rattle.fw_flow.specs.WholeBags.{Timed, timed, recs_where, has_stamp, distinct_stamps, sums_at, totals_at}
+use Rattle.fw_flow.specs.WholeBags.{Timed, timed_recs, recs_where, has_stamp, distinct_stamps, sums_at, totals_at}
 use Rattle.fw_model.proofs.WeightLaws.{weigh, weigh-flat_map, weigh-map, weigh-same, weigh-equal, one}
 use Rattle.fw_model.proofs.ArrivalLaws.{at_edge}
 use Rattle.fw_model.proofs.DistinctLaws.{passing, same-swap}
@@ -26,15 +26,15 @@ use Rattle.fw_model.proofs.CmpLaws.{then_parts}
 abbrev pub AreSameBags : List Rec → List Rec → Type 0
 AreSameBags xs ys = (q : Rec) → how_often q xs ≡ how_often q ys
 
-weigh-recs_timed : (w : Rec → ℕ) (rs : List Rec) → weigh (λ r. w r.rec) (timed [] rs) ≡ weigh w rs
+weigh-recs_timed : (w : Rec → ℕ) (rs : List Rec) → weigh (λ r. w r.rec) (timed_recs [] rs) ≡ weigh w rs
 weigh-recs_timed w rs = weigh-map (λ r. w r.rec) (λ r. record { at = []; rec = r }) rs
 
-one-recs : (t : Stamp) (q : Rec) (xs ys : List Rec) → AreSameBags xs ys → weigh (one t q) (timed [] xs) ≡ weigh (one t q) (timed [] ys)
+one-recs : (t : Stamp) (q : Rec) (xs ys : List Rec) → AreSameBags xs ys → weigh (one t q) (timed_recs [] xs) ≡ weigh (one t q) (timed_recs [] ys)
 one-recs t q xs ys k = weigh-timed t [] q xs ∙ ap (λ n. cond (same t []) n 0) (k q) ∙ sym (weigh-timed t [] q ys)
 
 weigh-bags : (w : Rec → ℕ) (xs ys : List Rec) → AreSameBags xs ys → weigh w xs ≡ weigh w ys
 weigh-bags w xs ys k =
-    sym (weigh-recs_timed w xs) ∙ weigh-equal (λ r. w r.rec) (timed [] xs) (timed [] ys) (λ t q l. one-recs t q xs ys k) ∙ weigh-recs_timed w ys
+    sym (weigh-recs_timed w xs) ∙ weigh-equal (λ r. w r.rec) (timed_recs [] xs) (timed_recs [] ys) (λ t q l. one-recs t q xs ys k) ∙ weigh-recs_timed w ys
 
 -- ---- sums of values
 
@@ -188,18 +188,18 @@ where-none t (r ∷ rs) k =
 
 -- what is sent at each stamp that is there, by a word for each stamp that gives nothing where no rec is
 stamped-is : (t : Stamp) (x : Rec) (f : Stamp → List Rec) (rs : List Timed) → (has_stamp t rs ≡ false → f t ≡ [])
-    → weigh (one t x) (flat_map (λ u. timed u (f u)) (distinct_stamps rs)) ≡ how_often x (f t)
+    → weigh (one t x) (flat_map (λ u. timed_recs u (f u)) (distinct_stamps rs)) ≡ how_often x (f t)
 stamped-is t x f rs z =
-    weigh-flat_map (one t x) (λ u. timed u (f u)) (distinct_stamps rs)
-    ∙ weigh-same (λ u. weigh (one t x) (timed u (f u))) (λ u. cond (same t u) (how_often x (f t)) 0) (distinct_stamps rs)
-    (each-one (λ u. weigh (one t x) (timed u (f u)) ≡ cond (same t u) (how_often x (f t)) 0) (distinct_stamps rs) each)
+    weigh-flat_map (one t x) (λ u. timed_recs u (f u)) (distinct_stamps rs)
+    ∙ weigh-same (λ u. weigh (one t x) (timed_recs u (f u))) (λ u. cond (same t u) (how_often x (f t)) 0) (distinct_stamps rs)
+    (each-one (λ u. weigh (one t x) (timed_recs u (f u)) ≡ cond (same t u) (how_often x (f t)) 0) (distinct_stamps rs) each)
     ∙ stamps-once t (how_often x (f t)) rs
     ∙ elim (cases_Bool (has_stamp t rs)) [
       | inl e ↦ ap (λ b. cond b (how_often x (f t)) 0) e
       | inr e ↦ ap (λ b. cond b (how_often x (f t)) 0) e ∙ sym (ap (how_often x) (z e))
     ]
   where
-    each : (u : Stamp) → weigh (one t x) (timed u (f u)) ≡ cond (same t u) (how_often x (f t)) 0
+    each : (u : Stamp) → weigh (one t x) (timed_recs u (f u)) ≡ cond (same t u) (how_often x (f t)) 0
     each u = weigh-timed t u x (f u) ∙ elim (cases_Bool (same t u)) [
       | inl e ↦ ap (λ v. cond (same t u) (how_often x (f v)) 0) (sym (same-is t u e))
       | inr e ↦ ap (λ b. cond b (how_often x (f u)) 0) e ∙ sym (ap (λ b. cond b (how_often x (f t)) 0) e)

@@ -11,7 +11,7 @@ use Rattle.fw_flow.specs.declared.event.Event.TheVariants.{Inject, Deliver, Noti
 use Rattle.fw_flow.specs.declared.event.Message.{Message}
 use Rattle.fw_flow.specs.declared.kind.Kind.TheVariants.{Sequence}
 use Rattle.fw_flow.specs.Dataflow.{System, kind_of}
-use Rattle.fw_flow.specs.NodeFunction.{place, stamp, recs_on, numbered_messages, sequence_sent, sends_of_kind, sends, sent_by}
+use Rattle.fw_flow.specs.NodeFunction.{event_node, event_stamp, recs_on, numbered_messages, sequence_sent, sends_of_kind, sends, sent_by}
 use Rattle.fw_flow.specs.Projection.{events_at, all_inside, count_from, table_count}
 use Rattle.fw_model.specs.LawsOfSending.{SentTableFollowsHistory}
 use Rattle.fw_model.proofs.PhiLaws.{count-append}
@@ -50,7 +50,7 @@ table-append f (e ∷ table) x c = by (f (e.0 ∷ [])) (table-append f table x c
 
 -- what an event makes a sequence send
 sends-numbered : (sys : System) (p : ℕ) (vs : List Event) (v : Event) → kind_of sys.flow p ≡ Sequence
-    → sends sys p vs v ≡ numbered_messages (length (sequence_sent vs)) (stamp v) (recs_on sys Sequence vs v)
+    → sends sys p vs v ≡ numbered_messages (length (sequence_sent vs)) (event_stamp v) (recs_on sys Sequence vs v)
 unfolding sends
 sends-numbered sys p vs v k = ap (λ kind. sends_of_kind sys kind vs v) k
 
@@ -60,10 +60,10 @@ count-more sys p f v vs = count-append f (sends sys p vs v) (sent_by sys p vs)
 
 quiet : (sys : System) (p : ℕ) (f : Frontier) (v : Event) (vs : List Event) → kind_of sys.flow p ≡ Sequence → recs_on sys Sequence vs v ≡ [] → count_from f (sent_by sys p (v ∷ vs)) ≡ count_from f (sent_by sys p vs)
 quiet sys p f v vs k e =
-    let none : count_from f (sends sys p vs v) ≡ 0 = ap (count_from f) (sends-numbered sys p vs v k ∙ ap (numbered_messages (length (sequence_sent vs)) (stamp v)) e) in
+    let none : count_from f (sends sys p vs v) ≡ 0 = ap (count_from f) (sends-numbered sys p vs v k ∙ ap (numbered_messages (length (sequence_sent vs)) (event_stamp v)) e) in
     omega (arith, count-more sys p f v vs, none)
 
-stays-at : (sys : System) (p : ℕ) (f : Frontier) (vs : List Event) (v : Event) (b : Bool) → kind_of sys.flow p ≡ Sequence → place sys.flow v == p ≡ b → is_notification_of p v ≡ false
+stays-at : (sys : System) (p : ℕ) (f : Frontier) (vs : List Event) (v : Event) (b : Bool) → kind_of sys.flow p ≡ Sequence → event_node sys.flow v == p ≡ b → is_notification_of p v ≡ false
     → count_from f (sent_by sys p (cond b (v ∷ vs) vs)) ≡ count_from f (sent_by sys p vs)
 stays-at sys p f vs v false k e n = refl
 stays-at sys p f vs (Inject s x) true k e n = quiet sys p f (Inject s x) vs k refl
@@ -86,7 +86,7 @@ table-follows sys p k = record {
       let more : count_from f (sent_by sys p (events_at sys.flow p (v ∷ h))) ≡ count_from f (sends sys p vs v) + count_from f (sent_by sys p vs) =
       ap (λ us. count_from f (sent_by sys p us)) here ∙ count-more sys p f v vs in
       table-append f table x c ∙ sym (more ∙ (λ i. now i + sym old i) ∙ swap (cond (f (x ∷ [])) c 0) (table_count f table));
-  stays = λ h table v n is f. is f ∙ sym (stays-at sys p f (events_at sys.flow p h) v (place sys.flow v == p) k refl n);
+  stays = λ h table v n is f. is f ∙ sym (stays-at sys p f (events_at sys.flow p h) v (event_node sys.flow v == p) k refl n);
 }
   where
     swap : (a b : ℕ) → a + b ≡ b + a

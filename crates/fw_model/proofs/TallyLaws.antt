@@ -6,7 +6,7 @@ use Rattle.fw_flow.specs.declared.choice.Cut.{Cut}
 use Rattle.fw_flow.specs.declared.choice.Cut.TheVariants.{Present, At}
 use Rattle.fw_flow.specs.Dataflow.{Dataflow, kind_of, policy_of, sender, receiver, bounds_of}
 use Rattle.fw_flow.specs.Restoring.{can_resend, way_of}
-use Rattle.fw_model.specs.Covers.{Tallies, takes_its_cut, takes_its_notes, discarded_at, covers_by}
+use Rattle.fw_model.specs.Covers.{Tallies, takes_its_cut, takes_its_notices, discarded_at, covers_by}
 
 pub delivered_cover-same : (flow : Dataflow) (one other : Tallies) (d : ℕ) (cut : Cut) → one.delivered d cut ≡ other.delivered d cut
     → (covers_by flow one).delivered d cut ≡ (covers_by flow other).delivered d cut
@@ -26,4 +26,4 @@ pub notified_cover-same : (flow : Dataflow) (one other : Tallies) (p : ℕ) (cut
     → (covers_by flow one).notified p cut ≡ (covers_by flow other).notified p cut
 notified_cover-same flow one other p Present e = e
 notified_cover-same flow one other p (At f) e =
-    ap (λ g. cond (takes_its_notes (kind_of flow p) (policy_of flow p)) (frontier_of (bounds_of flow p) f) g) e
+    ap (λ g. cond (takes_its_notices (kind_of flow p) (policy_of flow p)) (frontier_of (bounds_of flow p) f) g) e

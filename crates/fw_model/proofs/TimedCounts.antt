@@ -11,7 +11,7 @@ use Rattle.fw_time.specs.Stamp.{Stamp, same, stamp_cmp}
 use Rattle.fw_bag.specs.declared.rec.Rec.{Rec}
 use Rattle.fw_bag.specs.Rec.{rec_cmp, IsAscending}
 use Rattle.fw_bag.specs.Bag.{how_often}
-use Rattle.fw_bag.specs.Keyed.{sorted}
+use Rattle.fw_bag.specs.Keyed.{sorted_recs}
 use Rattle.fw_bag.proofs.BagLaws.{how_often-bag_sum, IsAscending-bag_sum, same_from_how_often}
 use Rattle.fw_flow.specs.WholeBags.{Timed, timed_cmp, with_timed, in_order, recs_where, outputs_of, outputs_of_kind}
 use Rattle.fw_flow.specs.declared.event.Message.{Message}
@@ -95,6 +95,6 @@ pub how_often-recs_at : (t : Stamp) (q : Rec) (ms : List Message) → how_often 
 how_often-recs_at t q ms = ap (how_often q) (recs_at-timed t ms) ∙ how_often-where t q (timed_of ms)
 
 -- recs that are as often in an ascending list are that list, once sorted
-pub sorted-is : (rs bag : List Rec) → IsAscending bag → ((q : Rec) → how_often q rs ≡ how_often q bag) → sorted rs ≡ bag
+pub sorted-is : (rs bag : List Rec) → IsAscending bag → ((q : Rec) → how_often q rs ≡ how_often q bag) → sorted_recs rs ≡ bag
 sorted-is rs bag a k =
-    same_from_how_often (sorted rs) bag (IsAscending-bag_sum rs [] tt) a (λ q. let s = how_often-bag_sum q rs [] in let e = k q in omega arith)
+    same_from_how_often (sorted_recs rs) bag (IsAscending-bag_sum rs [] tt) a (λ q. let s = how_often-bag_sum q rs [] in let e = k q in omega arith)

@@ -5,11 +5,11 @@ use Rattle.fw_time.specs.Stamp.{Stamp}
 use Rattle.fw_bag.specs.declared.rec.Rec.{Rec}
 use Rattle.fw_flow.specs.Dataflow.{System, receiver}
 use Rattle.fw_model.specs.Denotation.{bag_at, Family}
-use Rattle.fw_model.specs.Steps.{Effect, quiet, lows, cuts, acked, idle, Outcome, did}
+use Rattle.fw_model.specs.Steps.{Effect, silent, lows, cuts, acked, idle, Outcome, did}
 
 -- what an output acknowledges is what the family has on the output's in-edge at the stamp
 abbrev pub IsDenotedEffect : System → Family → Effect → Type 0
-IsDenotedEffect sys family quiet = Unit {0}
+IsDenotedEffect sys family silent = Unit {0}
 IsDenotedEffect sys family (acked o t recs) =
     (d : ℕ) → d < length sys.flow.edges → receiver sys.flow d ≡ o → recs ≡ bag_at family d t
 IsDenotedEffect sys family (cuts choice) = Unit {0}
@@ -22,7 +22,7 @@ IsDenoted sys family idle = Unit {0}
 
 -- the stamp that an effect acknowledges at output o, if it does
 abbrev pub stamp_shown : ℕ → Effect → List Stamp
-stamp_shown o quiet = []
+stamp_shown o silent = []
 stamp_shown o (acked q t recs) = if q == o then t ∷ [] else []
 stamp_shown o (cuts choice) = []
 stamp_shown o (lows choice) = []

@@ -1,18 +1,18 @@
 -- Restore candidates, and which choice of them is consistent and which is largest.
 use Rattle.std.specs.Prelude.{◌≡◌, ◌⊎◌, ℕ, ◌<◌, ◌≤◌, Bool, true, false, List, [], ◌∷◌, length, slice_index_or, filter}
 use Rattle.fw_frontier.specs.Frontier.{Frontier, Within}
-use Rattle.fw_frontier.specs.Front.{Front, frontier_of, IsCanonical}
+use Rattle.fw_frontier.specs.Front.{Front, IsCanonical}
 use Rattle.fw_flow.specs.declared.choice.Choice.{Choice}
 use Rattle.fw_flow.specs.declared.choice.Cut.{Cut}
 use Rattle.fw_flow.specs.declared.choice.Cut.TheVariants.{Present, At}
 use Rattle.fw_flow.specs.declared.restoring.Restoring.{Restoring}
 use Rattle.fw_flow.specs.declared.restoring.Restoring.TheVariants.{Batches, Bound, Anything, Checkpoints, Events}
-use Rattle.fw_flow.specs.Dataflow.{System, Dataflow, sender, receiver, bounds_of}
+use Rattle.fw_flow.specs.Dataflow.{System, Dataflow, sender, receiver, bounds_of, node_frontier}
 use Rattle.fw_flow.specs.Restoring.{way_of}
-use Rattle.fw_flow.specs.NodeFunction.{place, stamp}
+use Rattle.fw_flow.specs.NodeFunction.{event_node, event_stamp}
 use Rattle.fw_model.specs.Covers.{Covers, covers_in, set_of}
 use Rattle.fw_model.specs.History.{injected_count, is_exhausted}
-use Rattle.fw_model.specs.Machine.{Machine, Numbered, Write, Written, checkpoint, logged_event, Progress, in_flight, acknowledged, collected, events, no_stamps, front_of, bound_of}
+use Rattle.fw_model.specs.Machine.{Machine, SerialEvent, Write, Written, checkpoint, logged_event, Stage, in_flight, acknowledged, collected, events, no_stamps, front_of, ack_count_of}
 
 -- which writes count as candidates: those that are kept, or also those that were collected
 pub data View : Type 0 where
@@ -20,11 +20,11 @@ pub data View : Type 0 where
   ever : View
 
 -- whether a write counts in a view
-abbrev pub counts : View → Progress → Bool
-counts view in_flight = false
-counts view acknowledged = true
-counts kept collected = false
-counts ever collected = true
+abbrev pub is_counted : View → Stage → Bool
+is_counted view in_flight = false
+is_counted view acknowledged = true
+is_counted kept collected = false
+is_counted ever collected = true
 
 -- the epochs below k, as a frontier
 abbrev pub until : ℕ → Front
@@ -36,7 +36,7 @@ HasCheckpoint view p f [] = ⊥
 HasCheckpoint view p f (write ∷ writes) = IsCheckpoint write.written ⊎ HasCheckpoint view p f writes
   where
     IsCheckpoint : Written → Type 0
-    IsCheckpoint (checkpoint g low) = (write.node ≡ p) × (g ≡ f) × (counts view write.progress ≡ true)
+    IsCheckpoint (checkpoint g low) = (write.node ≡ p) × (g ≡ f) × (is_counted view write.stage ≡ true)
     IsCheckpoint (logged_event serial) = ⊥
 
 -- the event of this serial was logged by an acknowledged write, collected or not
@@ -46,13 +46,13 @@ IsLogged serial (write ∷ writes) = NamesIt write.written ⊎ IsLogged serial w
   where
     NamesIt : Written → Type 0
     NamesIt (checkpoint g low) = ⊥
-    NamesIt (logged_event s) = (s ≡ serial) × (counts ever write.progress ≡ true)
+    NamesIt (logged_event s) = (s ≡ serial) × (is_counted ever write.stage ≡ true)
 
 -- each event of node p inside f is logged
-abbrev pub AllLogged : System → ℕ → Frontier → List Write → List Numbered → Type 0
+abbrev pub AllLogged : System → ℕ → Frontier → List Write → List SerialEvent → Type 0
 AllLogged sys p f writes [] = Unit {0}
 AllLogged sys p f writes (v ∷ h) =
-    (place sys.flow v.event ≡ p → f (stamp v.event) ≡ true → IsLogged v.serial writes) × AllLogged sys p f writes h
+    (event_node sys.flow v.event ≡ p → f (event_stamp v.event) ≡ true → IsLogged v.serial writes) × AllLogged sys p f writes h
 
 -- node p can be restored to f
 abbrev pub IsRestorable : System → Machine → View → ℕ → Restoring → Front → Type 0
@@ -60,15 +60,15 @@ IsRestorable sys state view p Batches f =
     ((k : ℕ) × (k ≤ injected_count p (events state.history)) × (f ≡ until k))
     ⊎ ((is_exhausted sys (events state.history) p ≡ true) × (f ≡ []))
 IsRestorable sys state view p Bound f =
-    Within (frontier_of (bounds_of sys.flow p) f) (frontier_of (bounds_of sys.flow p) (front_of state.settled p))
-    × Within (frontier_of (bounds_of sys.flow p) f) (frontier_of (bounds_of sys.flow p) (until (bound_of state p)))
+    Within (node_frontier sys.flow p f) (node_frontier sys.flow p (front_of state.settled p))
+    × Within (node_frontier sys.flow p f) (node_frontier sys.flow p (until (ack_count_of state p)))
 IsRestorable sys state view p Anything f =
-    Within (frontier_of (bounds_of sys.flow p) f) (frontier_of (bounds_of sys.flow p) (front_of state.settled p))
+    Within (node_frontier sys.flow p f) (node_frontier sys.flow p (front_of state.settled p))
 IsRestorable sys state view p Checkpoints f =
     (f ≡ no_stamps (bounds_of sys.flow p)) ⊎ HasCheckpoint view p f state.writes
 IsRestorable sys state view p Events f =
-    Within (frontier_of (bounds_of sys.flow p) f) (frontier_of (bounds_of sys.flow p) (front_of state.settled p))
-    × AllLogged sys p (frontier_of (bounds_of sys.flow p) f) state.writes state.history
+    Within (node_frontier sys.flow p f) (node_frontier sys.flow p (front_of state.settled p))
+    × AllLogged sys p (node_frontier sys.flow p f) state.writes state.history
 
 -- only what contains the low watermark is offered among what is kept
 abbrev pub HoldsLow : View → Frontier → Frontier → Type 0
@@ -82,15 +82,15 @@ IsCandidate sys state lost view p Present = lost p ≡ false
 IsCandidate sys state lost view p (At f) =
     IsCanonical (bounds_of sys.flow p) f
     × IsRestorable sys state view p (way_of sys.flow p) f
-    × HoldsLow view (frontier_of (bounds_of sys.flow p) (front_of state.low p)) (frontier_of (bounds_of sys.flow p) f)
+    × HoldsLow view (node_frontier sys.flow p (front_of state.low p)) (node_frontier sys.flow p f)
 
 -- the cut of node p
 abbrev pub cut_of : Choice → ℕ → Cut
 cut_of choice p = slice_index_or choice.cuts p Present
 
 -- the notification frontier of node p
-abbrev pub note_of : Dataflow → Choice → ℕ → Frontier
-note_of flow choice p = frontier_of (bounds_of flow p) (front_of choice.notes p)
+abbrev pub notice_of : Dataflow → Choice → ℕ → Frontier
+notice_of flow choice p = node_frontier flow p (front_of choice.notices p)
 
 -- what node p keeps
 abbrev pub kept_of : Dataflow → Choice → ℕ → Frontier
@@ -107,29 +107,29 @@ LiesInReceiver flow covers choice e = Within (covers.discarded e (cut_of choice 
 
 -- what node p was notified of inside its cut lies in its notification frontier
 abbrev pub HasItsNotices : Dataflow → Covers → Choice → ℕ → Type 0
-HasItsNotices flow covers choice p = Within (covers.notified p (cut_of choice p)) (note_of flow choice p)
+HasItsNotices flow covers choice p = Within (covers.notified p (cut_of choice p)) (notice_of flow choice p)
 
 -- the notification frontier of node p lies in what it keeps
-abbrev pub IsNoteKept : Dataflow → Choice → ℕ → Type 0
-IsNoteKept flow choice p = Within (note_of flow choice p) (kept_of flow choice p)
+abbrev pub IsNoticeKept : Dataflow → Choice → ℕ → Type 0
+IsNoticeKept flow choice p = Within (notice_of flow choice p) (kept_of flow choice p)
 
 -- on edge d the receiver's notification frontier comes from the sender's
-abbrev pub NoteComesFromSender : Dataflow → Covers → Choice → ℕ → Type 0
-NoteComesFromSender flow covers choice d =
-    Within (note_of flow choice (receiver flow d)) (covers.arrived d (note_of flow choice (sender flow d)))
+abbrev pub NoticeComesFromSender : Dataflow → Covers → Choice → ℕ → Type 0
+NoticeComesFromSender flow covers choice d =
+    Within (notice_of flow choice (receiver flow d)) (covers.arrived d (notice_of flow choice (sender flow d)))
 
 -- A choice from what is offered is consistent: it has a cut that is offered and a notification frontier for each node, and
 -- meets the five inclusions at each edge and node.
 pub record IsConsistentBy (flow : Dataflow) (covers : Covers) (offers : ℕ → Cut → Type 0) (choice : Choice) : Type 0 where
   pub one_cut_each : length choice.cuts ≡ length flow.nodes
-  pub one_note_each : length choice.notes ≡ length flow.nodes
+  pub one_notice_each : length choice.notices ≡ length flow.nodes
   pub offered : (p : ℕ) → p < length flow.nodes → offers p (cut_of choice p)
-  pub canonical : (p : ℕ) → p < length flow.nodes → IsCanonical (bounds_of flow p) (front_of choice.notes p)
+  pub canonical : (p : ℕ) → p < length flow.nodes → IsCanonical (bounds_of flow p) (front_of choice.notices p)
   pub delivered : (d : ℕ) → d < length flow.edges → ComesFromSender flow covers choice d
   pub discarded : (e : ℕ) → e < length flow.edges → LiesInReceiver flow covers choice e
   pub notified : (p : ℕ) → p < length flow.nodes → HasItsNotices flow covers choice p
-  pub own : (p : ℕ) → p < length flow.nodes → IsNoteKept flow choice p
-  pub notes : (d : ℕ) → d < length flow.edges → NoteComesFromSender flow covers choice d
+  pub own : (p : ℕ) → p < length flow.nodes → IsNoticeKept flow choice p
+  pub notices : (d : ℕ) → d < length flow.edges → NoticeComesFromSender flow covers choice d
 
 -- in a state of the machine a choice from what is offered is consistent
 abbrev pub IsConsistent : System → Machine → (ℕ → Cut → Type 0) → Choice → Type 0
@@ -139,12 +139,12 @@ IsConsistent sys state offers choice = IsConsistentBy sys.flow (covers_in sys st
 abbrev pub IsCutWithin : Dataflow → ℕ → Cut → Cut → Type 0
 IsCutWithin flow p cut Present = Unit {0}
 IsCutWithin flow p Present (At g) = ⊥
-IsCutWithin flow p (At f) (At g) = Within (frontier_of (bounds_of flow p) f) (frontier_of (bounds_of flow p) g)
+IsCutWithin flow p (At f) (At g) = Within (node_frontier flow p f) (node_frontier flow p g)
 
 -- a choice lies within another at every node
 pub record IsChoiceWithin (flow : Dataflow) (smaller larger : Choice) : Type 0 where
   pub cuts : (p : ℕ) → p < length flow.nodes → IsCutWithin flow p (cut_of smaller p) (cut_of larger p)
-  pub notes : (p : ℕ) → p < length flow.nodes → Within (note_of flow smaller p) (note_of flow larger p)
+  pub notices : (p : ℕ) → p < length flow.nodes → Within (notice_of flow smaller p) (notice_of flow larger p)
 
 -- the choice is consistent, and each consistent choice lies within it
 pub record IsLargestBy (flow : Dataflow) (covers : Covers) (offers : ℕ → Cut → Type 0) (choice : Choice) : Type 0 where
@@ -156,8 +156,8 @@ abbrev pub IsLargest : System → Machine → (ℕ → Cut → Type 0) → Choic
 IsLargest sys state offers choice = IsLargestBy sys.flow (covers_in sys state) offers choice
 
 -- the history without the events outside the cut of their node
-abbrev pub filtered : System → Choice → List Numbered → List Numbered
-filtered sys choice h = filter (λ v. kept_of sys.flow choice (place sys.flow v.event) (stamp v.event)) h
+abbrev pub filtered_history : System → Choice → List SerialEvent → List SerialEvent
+filtered_history sys choice h = filter (λ v. kept_of sys.flow choice (event_node sys.flow v.event) (event_stamp v.event)) h
 
 -- what is offered where every node counts as failed: what acknowledged writes alone carry
 abbrev pub offers_of_writes : System → Machine → ℕ → Cut → Type 0

@@ -33,4 +33,4 @@ HasItsChoice sys state step = Unit {0}
 
 -- the low watermark as a choice, with these notification frontiers
 abbrev pub low_choice : Machine → List Front → Choice
-low_choice state notes = record { cuts = map (λ f. At f) state.low; notes = notes }
+low_choice state notices = record { cuts = map (λ f. At f) state.low; notices = notices }

@@ -3,7 +3,7 @@ use Rattle.std.specs.Prelude.{ℕ, Bool, true, false, ◌==◌, if◌then◌else
 use Rattle.std.specs.List.{flat_map}
 use Rattle.fw_time.specs.Stamp.{Stamp}
 use Rattle.fw_frontier.specs.Frontier.{Frontier, nothing, everything, cover}
-use Rattle.fw_frontier.specs.Front.{Front, frontier_of}
+use Rattle.fw_frontier.specs.Front.{Front}
 use Rattle.fw_flow.specs.declared.choice.Cut.{Cut}
 use Rattle.fw_flow.specs.declared.choice.Cut.TheVariants.{Present, At}
 use Rattle.fw_flow.specs.declared.event.Event.{Event}
@@ -14,16 +14,16 @@ use Rattle.fw_flow.specs.declared.kind.Policy.{Policy}
 use Rattle.fw_flow.specs.declared.kind.Policy.TheVariants as policy
 use Rattle.fw_flow.specs.declared.restoring.Restoring.{Restoring}
 use Rattle.fw_flow.specs.declared.restoring.Restoring.TheVariants.{Batches, Bound, Anything, Checkpoints, Events}
-use Rattle.fw_flow.specs.Dataflow.{System, Dataflow, kind_of, policy_of, sender, receiver, bounds_of, is_notified_kind}
+use Rattle.fw_flow.specs.Dataflow.{System, Dataflow, kind_of, policy_of, sender, receiver, bounds_of, is_notified_kind, node_frontier}
 use Rattle.fw_flow.specs.Restoring.{can_resend, way_of}
 use Rattle.fw_flow.specs.Projection.{all_inside, phi, psi}
-use Rattle.fw_model.specs.History.{delivered, sent}
+use Rattle.fw_model.specs.History.{delivered_messages, sent_messages}
 use Rattle.fw_model.specs.Machine.{Machine, events}
 
 -- the set of a cut: all where the node stays as it is
 abbrev pub set_of : Dataflow → ℕ → Cut → Frontier
 set_of flow p Present = everything (bounds_of flow p)
-set_of flow p (At f) = frontier_of (bounds_of flow p) f
+set_of flow p (At f) = node_frontier flow p f
 
 -- What is counted of the nodes' events, as covers: of what was delivered on an edge inside a cut of its receiver; of what was
 -- sent on an edge by events inside a cut of its sender; and of what a node was notified of inside a cut. And what of an edge
@@ -51,21 +51,21 @@ takes_its_cut Checkpoints = false
 takes_its_cut Events = false
 
 -- whether a node that keeps nothing is notified, and so takes all of its cut as notified
-abbrev pub takes_its_notes : Kind → Policy → Bool
-takes_its_notes kind policy.None = is_notified_kind kind
-takes_its_notes kind p = false
+abbrev pub takes_its_notices : Kind → Policy → Bool
+takes_its_notices kind policy.None = is_notified_kind kind
+takes_its_notices kind p = false
 
 -- what counts as delivered on edge d inside a cut of its receiver
 abbrev pub delivered_cover : Dataflow → Tallies → ℕ → Cut → Frontier
 delivered_cover flow tallies d Present = tallies.delivered d Present
 delivered_cover flow tallies d (At f) =
-    if takes_its_cut (way_of flow (receiver flow d)) then frontier_of (bounds_of flow (receiver flow d)) f
+    if takes_its_cut (way_of flow (receiver flow d)) then node_frontier flow (receiver flow d) f
     else tallies.delivered d (At f)
 
 -- what of this that was sent on edge e inside a frontier cannot be sent again, by the way in which the sender is restored:
 -- a node that is restored by anything settled counts as having sent whatever it can
 abbrev pub discarded_at : Dataflow → ℕ → Restoring → Frontier → Front → Frontier
-discarded_at flow e Anything sent f = psi flow e (frontier_of (bounds_of flow (sender flow e)) f)
+discarded_at flow e Anything sent f = psi flow e (node_frontier flow (sender flow e) f)
 discarded_at flow e way sent f = sent
 
 -- what was sent on edge e inside a cut of its sender and cannot be sent again
@@ -80,7 +80,7 @@ discarded_cover flow tallies e (At f) =
 abbrev pub notified_cover : Dataflow → Tallies → ℕ → Cut → Frontier
 notified_cover flow tallies p Present = tallies.notified p Present
 notified_cover flow tallies p (At f) =
-    if takes_its_notes (kind_of flow p) (policy_of flow p) then frontier_of (bounds_of flow p) f else tallies.notified p (At f)
+    if takes_its_notices (kind_of flow p) (policy_of flow p) then node_frontier flow p f else tallies.notified p (At f)
 
 -- what counts in a cut, by what is counted and by the policies and kinds of the nodes
 abbrev pub covers_by : Dataflow → Tallies → Covers
@@ -113,9 +113,9 @@ notified_inside p f h = filter f (flat_map (stamp_of_notice p) h)
 abbrev pub tallies_in : System → Machine → Tallies
 tallies_in sys state = record {
   delivered = λ d cut. cover (bounds_of sys.flow (receiver sys.flow d))
-      (stamps_inside (set_of sys.flow (receiver sys.flow d) cut) (delivered (events state.history) d));
+      (stamps_inside (set_of sys.flow (receiver sys.flow d) cut) (delivered_messages (events state.history) d));
   sent = λ e cut. cover (bounds_of sys.flow (receiver sys.flow e))
-      (stamps_from (set_of sys.flow (sender sys.flow e) cut) (sent sys (events state.history) e));
+      (stamps_from (set_of sys.flow (sender sys.flow e) cut) (sent_messages sys (events state.history) e));
   notified = λ p cut. cover (bounds_of sys.flow p) (notified_inside p (set_of sys.flow p cut) (events state.history));
   arrived = λ e f. phi sys (events state.history) e f;
 }

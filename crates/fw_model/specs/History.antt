@@ -8,9 +8,9 @@ use Rattle.fw_flow.specs.declared.event.Event.{Event}
 use Rattle.fw_flow.specs.declared.event.Event.TheVariants.{Inject, Deliver, Notify}
 use Rattle.fw_flow.specs.declared.event.Message.{Message}
 use Rattle.fw_flow.specs.Dataflow.{System, Dataflow, kind_of, sender, receiver, bounds_of, is_notified_kind, is_input_kind, is_numbered, batches_of}
-use Rattle.fw_flow.specs.NodeFunction.{sent_by, place, stamp}
-use Rattle.fw_flow.specs.Message.{is_among, less}
-use Rattle.fw_flow.specs.Projection.{events_at, phi, first_number_of}
+use Rattle.fw_flow.specs.NodeFunction.{sent_by, event_node, event_stamp}
+use Rattle.fw_flow.specs.Message.{is_among, messages_less}
+use Rattle.fw_flow.specs.Projection.{events_at, phi, first_coordinate}
 use Rattle.fw_bag.specs.declared.rec.Rec.{Rec}
 
 -- whether one of the messages is at a stamp that passes the test
@@ -18,8 +18,8 @@ abbrev pub some_at : (Stamp → Bool) → List Message → Bool
 some_at test ms = list_any (λ m. test m.at) ms
 
 -- what the events of a history sent on an edge
-abbrev pub sent : System → List Event → ℕ → List Message
-sent sys h e = sent_by sys (sender sys.flow e) (events_at sys.flow (sender sys.flow e) h)
+abbrev pub sent_messages : System → List Event → ℕ → List Message
+sent_messages sys h e = sent_by sys (sender sys.flow e) (events_at sys.flow (sender sys.flow e) h)
 
 -- the message that an event delivered on edge e, if it did
 abbrev pub message_on : ℕ → Event → List Message
@@ -28,12 +28,12 @@ message_on e (Deliver d m) = if d == e then m ∷ [] else []
 message_on e (Notify p t) = []
 
 -- what was delivered on an edge
-abbrev pub delivered : List Event → ℕ → List Message
-delivered h e = flat_map (message_on e) h
+abbrev pub delivered_messages : List Event → ℕ → List Message
+delivered_messages h e = flat_map (message_on e) h
 
 -- what is pending on an edge: what was sent less what was delivered
-abbrev pub pending : System → List Event → ℕ → List Message
-pending sys h e = less (sent sys h e) (delivered h e)
+abbrev pub pending_messages : System → List Event → ℕ → List Message
+pending_messages sys h e = messages_less (sent_messages sys h e) (delivered_messages h e)
 
 -- whether an event is a delivery to node p at stamp t
 abbrev pub is_delivery_to : Dataflow → ℕ → Stamp → Event → Bool
@@ -56,8 +56,8 @@ abbrev pub was_notified : ℕ → Stamp → List Event → Bool
 was_notified p t h = list_any (is_notification p t) h
 
 -- whether node p is owed a notification of stamp t: its kind waits for it, a message came at t, and it was not notified
-abbrev pub owed : System → List Event → ℕ → Stamp → Bool
-owed sys h p t =
+abbrev pub is_owed_notice : System → List Event → ℕ → Stamp → Bool
+is_owed_notice sys h p t =
     is_notified_kind (kind_of sys.flow p) && was_delivered_to sys.flow p t h && not (was_notified p t h)
 
 -- whether an event is an injection of source s
@@ -77,18 +77,18 @@ is_exhausted sys h s = injected_count s h == length (batches_of sys s)
 -- the epochs that source s injected; all once it is exhausted
 abbrev pub injected_epochs : System → List Event → ℕ → Frontier
 injected_epochs sys h s t =
-    in_domain (bounds_of sys.flow s) t && (is_exhausted sys h s || nat_lt (first_number_of t) (injected_count s h))
+    in_domain (bounds_of sys.flow s) t && (is_exhausted sys h s || nat_lt (first_coordinate t) (injected_count s h))
 
 -- nothing is pending for node p at stamp t
 abbrev pub IsQuiet : System → List Event → ℕ → Stamp → Type 0
-IsQuiet sys h p t = (e : ℕ) → receiver sys.flow e ≡ p → some_at (same t) (pending sys h e) ≡ false
+IsQuiet sys h p t = (e : ℕ) → receiver sys.flow e ≡ p → some_at (same t) (pending_messages sys h e) ≡ false
 
 -- A family of frontiers, one for each node, inside which all has come: nothing is pending, nothing is owed, and what may
 -- still come is outside.
 pub record IsAdmissible (sys : System) (h : List Event) (done : ℕ → Frontier) : Type 0 where
   pub frontier : (p : ℕ) → IsFrontier (bounds_of sys.flow p) (done p)
   pub quiet : (p : ℕ) (t : Stamp) → done p t ≡ true → IsQuiet sys h p t
-  pub paid : (p : ℕ) (t : Stamp) → done p t ≡ true → owed sys h p t ≡ false
+  pub paid : (p : ℕ) (t : Stamp) → done p t ≡ true → is_owed_notice sys h p t ≡ false
   pub follows : (e : ℕ) → Within (done (receiver sys.flow e)) (phi sys h e (done (sender sys.flow e)))
   pub source : (s : ℕ) → is_input_kind (kind_of sys.flow s) ≡ true → Within (done s) (injected_epochs sys h s)
 
@@ -105,14 +105,14 @@ pub record IsNextBatch (sys : System) (h : List Event) (s x : ℕ) : Type 0 wher
 
 -- a message may be delivered on edge e: it is pending, and on a numbered edge it is the next number
 pub record IsDeliverable (sys : System) (h : List Event) (e : ℕ) (m : Message) : Type 0 where
-  pub is_pending : is_among m (pending sys h e) ≡ true
-  pub numbered : is_numbered sys.flow e ≡ true → m.at ≡ length (delivered h e) ∷ []
+  pub is_pending : is_among m (pending_messages sys h e) ≡ true
+  pub numbered : is_numbered sys.flow e ≡ true → m.at ≡ length (delivered_messages h e) ∷ []
 
 -- Node p may be notified of stamp t: it is owed there and at no lesser stamp, nothing is pending for it up to t, and t is
 -- complete before it.
 pub record IsNotifiable (sys : System) (h : List Event) (p : ℕ) (t : Stamp) : Type 0 where
-  pub is_owed : owed sys h p t ≡ true
-  pub none_lesser : (s : Stamp) → lesser s t ≡ true → owed sys h p s ≡ false
+  pub is_owed : is_owed_notice sys h p t ≡ true
+  pub none_lesser : (s : Stamp) → lesser s t ≡ true → is_owed_notice sys h p s ≡ false
   pub quiet : (s : Stamp) → leq s t ≡ true → IsQuiet sys h p s
   pub complete : (done : ℕ → Frontier) × IsAdmissible sys h done
       × ((d : ℕ) → receiver sys.flow d ≡ p → phi sys h d (done (sender sys.flow d)) t ≡ true)
@@ -130,7 +130,7 @@ IsLegal sys (v ∷ h) = IsEnabled sys h v × IsLegal sys h
 
 -- each event is at a stamp of its node's domain
 abbrev pub AreAtNodes : Dataflow → List Event → Type 0
-AreAtNodes flow h = AllByRecursion (λ v. in_domain (bounds_of flow (place flow v)) (stamp v) ≡ true) h
+AreAtNodes flow h = AllByRecursion (λ v. in_domain (bounds_of flow (event_node flow v)) (event_stamp v) ≡ true) h
 
 -- the recs of the messages at a stamp
 abbrev pub recs_at : Stamp → List Message → List Rec
@@ -145,4 +145,4 @@ pub record IsClosedFor (sys : System) (h : List Event) (p : ℕ) (t : Stamp) : T
 -- each event of the node is at a stamp of its domain
 abbrev pub AreEventsInDomain : Dataflow → List Event → ℕ → Type 0
 AreEventsInDomain flow h p =
-    AllByRecursion (λ v. in_domain (bounds_of flow p) (stamp v) ≡ true) (events_at flow p h)
+    AllByRecursion (λ v. in_domain (bounds_of flow p) (event_stamp v) ≡ true) (events_at flow p h)

@@ -3,16 +3,16 @@ use Rattle.std.specs.Prelude.{◌≡◌, ◌↔◌, ℕ, ◌<◌, Bool, true, Li
 use Rattle.fw_time.specs.Stamp.{Stamp}
 use Rattle.fw_bag.specs.declared.rec.Rec.{Rec}
 use Rattle.fw_frontier.specs.Frontier.{Within}
-use Rattle.fw_frontier.specs.Front.{Front, frontier_of}
+use Rattle.fw_frontier.specs.Front.{Front}
 use Rattle.fw_flow.specs.declared.choice.Cut.TheVariants.{At}
 use Rattle.fw_flow.specs.declared.step.Step.{Step}
 use Rattle.fw_flow.specs.declared.step.Step.TheVariants.{Recover}
-use Rattle.fw_flow.specs.Dataflow.{System, bounds_of}
+use Rattle.fw_flow.specs.Dataflow.{System, node_frontier}
 use Rattle.fw_flow.specs.WellFormed.{IsWellFormedSystem}
 use Rattle.fw_model.specs.Machine.{Machine, first_state, front_of, is_failed}
 use Rattle.fw_flow.specs.declared.choice.Choice.{Choice}
 use Rattle.fw_model.specs.Choice.{View, kept, ever, cut_of, IsCandidate, IsConsistent, IsCutWithin, IsLargest}
-use Rattle.fw_model.specs.Steps.{cuts, Outcome, did, Steps, Run, IsTheNext}
+use Rattle.fw_model.specs.Steps.{cuts, Outcome, did, StepsTo, Run, IsTheNext}
 use Rattle.fw_model.specs.Choosing.{low_choice, AreCheckpointsChains, CanChoose}
 use Rattle.fw_model.specs.Acknowledgements.{Shows}
 
@@ -21,7 +21,7 @@ use Rattle.fw_model.specs.Acknowledgements.{Shows}
 abbrev pub LowWatermarkIsConsistent : Type 0
 LowWatermarkIsConsistent = (sys : System) → IsWellFormedSystem sys → (steps : List Step) (outcomes : List Outcome) (last : Machine)
     → Run sys (first_state sys) steps outcomes last
-    → (notes : List Front) × ((lost : ℕ → Bool) (view : View) → IsConsistent sys last (IsCandidate sys last lost view) (low_choice last notes))
+    → (notices : List Front) × ((lost : ℕ → Bool) (view : View) → IsConsistent sys last (IsCandidate sys last lost view) (low_choice last notices))
 
 -- in each state to which steps of a well-formed system lead from the first one, the checkpoints of each node are a chain
 abbrev pub CheckpointsAreChains : Type 0
@@ -40,7 +40,7 @@ abbrev pub FailedNodesAreRecovered : Type 0
 FailedNodesAreRecovered = (sys : System) → IsWellFormedSystem sys → (steps : List Step) (outcomes : List Outcome) (last : Machine)
     → Run sys (first_state sys) steps outcomes last
     → (p : ℕ) → p < length sys.flow.nodes → is_failed last p ≡ true
-    → (next : Machine) × (choice : Choice) × Steps sys last Recover next (did (cuts choice))
+    → (next : Machine) × (choice : Choice) × StepsTo sys last Recover next (did (cuts choice))
 
 -- from each state to which steps of a well-formed system lead from the first one, each step leads to exactly one next
 -- state, with one outcome
@@ -60,9 +60,9 @@ LargestChoiceHoldsLowWatermark = (sys : System) → IsWellFormedSystem sys → (
 -- a step from a state to which steps of a well-formed system lead from the first one lowers the low watermark at no node
 abbrev pub LowWatermarkNeverFalls : Type 0
 LowWatermarkNeverFalls = (sys : System) → IsWellFormedSystem sys → (steps : List Step) (outcomes : List Outcome) (last : Machine)
-    → Run sys (first_state sys) steps outcomes last → (step : Step) (next : Machine) (outcome : Outcome) → Steps sys last step next outcome
+    → Run sys (first_state sys) steps outcomes last → (step : Step) (next : Machine) (outcome : Outcome) → StepsTo sys last step next outcome
     → (p : ℕ) → p < length sys.flow.nodes
-    → Within (frontier_of (bounds_of sys.flow p) (front_of last.low p)) (frontier_of (bounds_of sys.flow p) (front_of next.low p))
+    → Within (node_frontier sys.flow p (front_of last.low p)) (node_frontier sys.flow p (front_of next.low p))
 
 -- in each state to which steps of a well-formed system lead from the first one, the largest choice among what is kept is
 -- the largest also with what was collected, whichever nodes count as failed

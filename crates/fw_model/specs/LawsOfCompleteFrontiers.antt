@@ -4,7 +4,7 @@ use Rattle.fw_frontier.specs.Frontier.{Frontier}
 use Rattle.fw_flow.specs.declared.event.Event.{Event}
 use Rattle.fw_flow.specs.declared.kind.Kind.TheVariants.{Sequence}
 use Rattle.fw_flow.specs.Dataflow.{System, kind_of, HasEpochs}
-use Rattle.fw_flow.specs.NodeFunction.{place, stamp}
+use Rattle.fw_flow.specs.NodeFunction.{event_node, event_stamp}
 use Rattle.fw_flow.specs.WellFormed.{IsWellFormed}
 use Rattle.fw_model.specs.History.{IsAdmissible, IsEnabled, IsLegal}
 use Rattle.fw_flow.specs.Projection.{IsSenderFrontier}
@@ -14,7 +14,7 @@ use Rattle.fw_model.specs.Order.{IsNotifiedInOrder}
 -- after any history, legal or not, an enabled event is outside each admissible family: nothing comes where all has come
 abbrev pub EnabledIsOutside : Type 0
 EnabledIsOutside = (sys : System) (h : List Event) (done : ℕ → Frontier) → IsAdmissible sys h done
-    → (v : Event) → IsEnabled sys h v → done (place sys.flow v) (stamp v) ≡ false
+    → (v : Event) → IsEnabled sys h v → done (event_node sys.flow v) (event_stamp v) ≡ false
 
 -- after a legal history of a well-formed flow with epochs an enabled event leaves each admissible family admissible: it
 -- lowers no complete frontier

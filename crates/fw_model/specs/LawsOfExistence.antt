@@ -2,7 +2,7 @@
 use Rattle.std.specs.Prelude.{◌≡◌, ℕ, Bool, List}
 use Rattle.fw_time.specs.declared.stamp.Bounds.{Bounds}
 use Rattle.fw_frontier.specs.Frontier.{Frontier, IsFrontier}
-use Rattle.fw_frontier.specs.Front.{Front, Names}
+use Rattle.fw_frontier.specs.Front.{Front, IsFrontOf}
 use Rattle.fw_flow.specs.declared.event.Event.{Event}
 use Rattle.fw_flow.specs.Dataflow.{System}
 use Rattle.fw_flow.specs.WellFormed.{IsWellFormed}
@@ -16,7 +16,7 @@ use Rattle.fw_model.specs.Choosing.{AreCheckpointsChains}
 
 -- each frontier of a domain has a list of outside stamps that names it
 abbrev pub FrontierHasFront : Type 0
-FrontierHasFront = (bounds : Bounds) (f : Frontier) → IsFrontier bounds f → (os : Front) × Names bounds os f
+FrontierHasFront = (bounds : Bounds) (f : Frontier) → IsFrontier bounds f → (os : Front) × IsFrontOf bounds os f
 
 -- after each history of a well-formed flow, legal or not, there are complete frontiers
 abbrev pub CompleteExists : Type 0

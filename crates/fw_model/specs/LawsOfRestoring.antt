@@ -2,18 +2,18 @@
 -- true, and what was collected is what lies below the low watermark.
 use Rattle.std.specs.Prelude.{◌≡◌, ◌≢◌, ◌↔◌, ℕ, ◌<◌, ◌≤◌, Bool, true, false, List, [], ◌∷◌, ◌++◌, map, length}
 use Rattle.std.specs.List.{AllByRecursion}
-use Rattle.fw_frontier.specs.Front.{Front, frontier_of}
+use Rattle.fw_frontier.specs.Front.{Front}
 use Rattle.fw_flow.specs.declared.choice.Cut.TheVariants.{At}
 use Rattle.fw_flow.specs.declared.kind.Policy.TheVariants as policy
 use Rattle.fw_flow.specs.declared.step.Step.{Step}
-use Rattle.fw_flow.specs.Dataflow.{System, kind_of, policy_of, bounds_of, is_input_kind, batches_of}
-use Rattle.fw_flow.specs.NodeFunction.{place, stamp}
+use Rattle.fw_flow.specs.Dataflow.{System, kind_of, policy_of, bounds_of, is_input_kind, batches_of, node_frontier}
+use Rattle.fw_flow.specs.NodeFunction.{event_node, event_stamp}
 use Rattle.fw_flow.specs.WellFormed.{IsWellFormedSystem}
 use Rattle.fw_model.specs.History.{injected_count}
-use Rattle.fw_model.specs.Machine.{Machine, Numbered, Write, checkpoint, acknowledged, collected, events, no_stamps, first_state, front_of}
+use Rattle.fw_model.specs.Machine.{Machine, SerialEvent, Write, checkpoint, acknowledged, collected, events, no_stamps, first_state, front_of}
 use Rattle.fw_flow.specs.declared.choice.Choice.{Choice}
 use Rattle.fw_model.specs.Choice.{kept, IsCandidate, cut_of, kept_of, IsLargest, IsWatermark}
-use Rattle.fw_model.specs.Steps.{Outcome, Steps, Run, is_in_flight, front_of_cut, lies_below}
+use Rattle.fw_model.specs.Steps.{Outcome, StepsTo, Run, is_in_flight, front_of_cut, lies_below}
 use Rattle.fw_model.specs.Writes.{takes_checkpoints, CountsWritten, Ascends, IsWrittenAsAsked, NothingComesInside, IsKeptWithin, HasOne, IsCheckpointOf, IsLoggedOnce, MayKeepNothingIfCollected}
 use Rattle.fw_model.specs.Resending.{HoldsWhatIsSentAgain, LogHoldsWhatIsSentAgain}
 
@@ -21,7 +21,7 @@ use Rattle.fw_model.specs.Resending.{HoldsWhatIsSentAgain, LogHoldsWhatIsSentAga
 -- that is among the writes after it: in flight, acknowledged or collected, asked in that step or before
 abbrev pub CheckpointsStayTrue : Type 0
 CheckpointsStayTrue = (sys : System) → IsWellFormedSystem sys → (steps : List Step) (outcomes : List Outcome) (last : Machine)
-    → Run sys (first_state sys) steps outcomes last → (step : Step) (next : Machine) (outcome : Outcome) → Steps sys last step next outcome
+    → Run sys (first_state sys) steps outcomes last → (step : Step) (next : Machine) (outcome : Outcome) → StepsTo sys last step next outcome
     → AllByRecursion (λ (write : Write). CountsWritten sys last next write.node write.written) next.writes
 
 -- in each state to which steps of a well-formed system lead from the first one, each checkpoint, in flight or not, lies within
@@ -50,7 +50,7 @@ abbrev pub CheckpointsAtCutsAreKept : Type 0
 CheckpointsAtCutsAreKept = (sys : System) → IsWellFormedSystem sys → (steps : List Step) (outcomes : List Outcome) (last : Machine)
     → Run sys (first_state sys) steps outcomes last → (lost : ℕ → Bool) (choice : Choice) → IsLargest sys last (IsCandidate sys last lost kept) choice
     → (p : ℕ) (f : Front) → takes_checkpoints (policy_of sys.flow p) ≡ true → cut_of choice p ≡ At f → f ≢ no_stamps (bounds_of sys.flow p)
-    → (only : HasOne (IsCheckpointOf p f) last.writes) × (only.one.progress ≡ acknowledged)
+    → (only : HasOne (IsCheckpointOf p f) last.writes) × (only.one.stage ≡ acknowledged)
 
 -- in each state to which steps of a well-formed system lead from the first one, with each largest choice among what is
 -- kept, logs that hold what lies outside the low watermark hold what is to be sent again
@@ -77,7 +77,7 @@ abbrev pub BatchesOutsideCutsLieOutsideLow : Type 0
 BatchesOutsideCutsLieOutsideLow = (sys : System) → IsWellFormedSystem sys → (steps : List Step) (outcomes : List Outcome) (last : Machine)
     → Run sys (first_state sys) steps outcomes last → (lost : ℕ → Bool) (choice : Choice) → IsLargest sys last (IsCandidate sys last lost kept) choice
     → (s x : ℕ) → s < length sys.flow.nodes → kept_of sys.flow choice s (x ∷ []) ≡ false
-    → frontier_of (bounds_of sys.flow s) (front_of last.low s) (x ∷ []) ≡ false
+    → node_frontier sys.flow s (front_of last.low s) (x ∷ []) ≡ false
 
 -- a batch of an input that is not injected in some state of a run of a well-formed system, and so is to come, lies outside
 -- the low watermark of that state and of each earlier one
@@ -85,7 +85,7 @@ abbrev pub BatchesToComeLieOutsideLow : Type 0
 BatchesToComeLieOutsideLow = (sys : System) → IsWellFormedSystem sys → (steps : List Step) (outcomes : List Outcome) (last : Machine)
     → Run sys (first_state sys) steps outcomes last → (more : List Step) (also : List Outcome) (later : Machine) → Run sys last more also later
     → (s x : ℕ) → is_input_kind (kind_of sys.flow s) ≡ true → injected_count s (events later.history) ≤ x → x < length (batches_of sys s)
-    → frontier_of (bounds_of sys.flow s) (front_of last.low s) (x ∷ []) ≡ false
+    → node_frontier sys.flow s (front_of last.low s) (x ∷ []) ≡ false
 
 -- in each state to which steps of a well-formed system lead from the first one, where the largest choice among what is kept
 -- cuts a node that logs each event, each event of the node inside its cut is logged once
@@ -93,7 +93,7 @@ abbrev pub EventsInsideCutsAreLogged : Type 0
 EventsInsideCutsAreLogged = (sys : System) → IsWellFormedSystem sys → (steps : List Step) (outcomes : List Outcome) (last : Machine)
     → Run sys (first_state sys) steps outcomes last → (lost : ℕ → Bool) (choice : Choice) → IsLargest sys last (IsCandidate sys last lost kept) choice
     → (p : ℕ) (f : Front) → policy_of sys.flow p ≡ policy.Full → cut_of choice p ≡ At f
-    → AllByRecursion (λ (v : Numbered). place sys.flow v.event ≡ p → frontier_of (bounds_of sys.flow p) f (stamp v.event) ≡ true
+    → AllByRecursion (λ (v : SerialEvent). event_node sys.flow v.event ≡ p → node_frontier sys.flow p f (event_stamp v.event) ≡ true
     → IsLoggedOnce sys last.low p v last.writes) last.history
 
 -- in each state to which steps of a well-formed system lead from the first one, no logged event of a total, a sequence or a
@@ -108,11 +108,11 @@ abbrev pub WhatIsForgottenWasAcknowledged : Type 0
 WhatIsForgottenWasAcknowledged = (sys : System) → IsWellFormedSystem sys → (steps : List Step) (outcomes : List Outcome) (last : Machine)
     → Run sys (first_state sys) steps outcomes last → (choice : Choice) → IsWatermark sys last choice
     → AllByRecursion (λ (write : Write). lies_below sys (map front_of_cut choice.cuts) last.history write.node write.written ≡ true
-    → is_in_flight write.progress ≡ false) last.writes
+    → is_in_flight write.stage ≡ false) last.writes
 
 -- in each state to which steps of a well-formed system lead from the first one, a write was collected exactly where what it
 -- holds lies below the low watermark: so the logged events of a node at a stamp are all collected, or none is
 abbrev pub CollectedIsWhatLiesBelow : Type 0
 CollectedIsWhatLiesBelow = (sys : System) → IsWellFormedSystem sys → (steps : List Step) (outcomes : List Outcome) (last : Machine)
     → Run sys (first_state sys) steps outcomes last
-    → AllByRecursion (λ (write : Write). (write.progress ≡ collected) ↔ (lies_below sys last.low last.history write.node write.written ≡ true)) last.writes
+    → AllByRecursion (λ (write : Write). (write.stage ≡ collected) ↔ (lies_below sys last.low last.history write.node write.written ≡ true)) last.writes

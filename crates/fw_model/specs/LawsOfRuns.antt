@@ -3,7 +3,7 @@ use Rattle.std.specs.Prelude.{◌≡◌, ℕ, List, ◌++◌}
 use Rattle.fw_flow.specs.declared.step.Step.{Step}
 use Rattle.fw_flow.specs.Dataflow.{System}
 use Rattle.fw_model.specs.History.{IsLegal}
-use Rattle.fw_model.specs.Machine.{Machine, events, first_state, bound_of}
+use Rattle.fw_model.specs.Machine.{Machine, events, first_state, ack_count_of}
 use Rattle.fw_model.specs.Steps.{Outcome, Run, HaveNoRecovery}
 use Rattle.fw_model.specs.Acknowledgements.{stamps_acknowledged, first_stamps}
 
@@ -21,4 +21,4 @@ RunsStayLegal = (sys : System) (steps : List Step) (outcomes : List Outcome) (la
 -- acknowledgement and never falls.
 abbrev pub AcknowledgementsAreInOrder : Type 0
 AcknowledgementsAreInOrder = (sys : System) (steps : List Step) (outcomes : List Outcome) (last : Machine)
-    → Run sys (first_state sys) steps outcomes last → (o : ℕ) → stamps_acknowledged o outcomes ≡ first_stamps (bound_of last o)
+    → Run sys (first_state sys) steps outcomes last → (o : ℕ) → stamps_acknowledged o outcomes ≡ first_stamps (ack_count_of last o)

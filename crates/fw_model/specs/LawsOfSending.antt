@@ -7,10 +7,10 @@ use Rattle.fw_flow.specs.declared.event.Event.{Event}
 use Rattle.fw_flow.specs.declared.event.Message.{Message}
 use Rattle.fw_flow.specs.declared.kind.Kind.TheVariants.{Sequence}
 use Rattle.fw_flow.specs.Dataflow.{System, Dataflow, kind_of, sender, bounds_of, send_stamp, is_sequence_kind, bounds_of_edge}
-use Rattle.fw_flow.specs.NodeFunction.{stamp, sends}
+use Rattle.fw_flow.specs.NodeFunction.{event_stamp, sends}
 use Rattle.fw_flow.specs.Projection.{all_inside, phi, psi, psi_back, IsSenderFrontier}
 use Rattle.fw_flow.specs.WellFormed.{IsWellFormed}
-use Rattle.fw_model.specs.History.{sent, AreEventsInDomain}
+use Rattle.fw_model.specs.History.{sent_messages, AreEventsInDomain}
 use Rattle.fw_model.specs.Order.{IsNotifiedInOrder}
 use Rattle.fw_model.specs.Sending.{SendsByStamp, IsSentFrom, SendsAbove, SendsWithin, ComesFromInside, FollowsHistory}
 
@@ -63,7 +63,7 @@ PsiBackIsLargest = (flow : Dataflow) (e : ℕ) (g : Frontier)
 abbrev pub SendsAtSendStamp : Type 0
 SendsAtSendStamp = (sys : System) (p : ℕ) → is_sequence_kind (kind_of sys.flow p) ≡ false
     → (before : List Event) (v : Event)
-    → AllByRecursion (λ (m : Message). (send_stamp sys.flow p (stamp v) ≡ Some m.at) × (m.causes ≡ stamp v ∷ []))
+    → AllByRecursion (λ (m : Message). (send_stamp sys.flow p (event_stamp v) ≡ Some m.at) × (m.causes ≡ event_stamp v ∷ []))
     (sends sys p before v)
 
 -- where the sender sends at the send stamps of its events, what an event inside a frontier of the sender makes it send is
@@ -71,7 +71,7 @@ SendsAtSendStamp = (sys : System) (p : ℕ) → is_sequence_kind (kind_of sys.fl
 abbrev pub SendsAreInsidePsi : Type 0
 SendsAreInsidePsi = (sys : System) (e : ℕ) (f : Frontier)
     → SendsByStamp sys.flow (kind_of sys.flow (sender sys.flow e)) → IsSenderFrontier sys.flow e f
-    → (before : List Event) (v : Event) → f (stamp v) ≡ true
+    → (before : List Event) (v : Event) → f (event_stamp v) ≡ true
     → AllByRecursion (λ (m : Message). psi sys.flow e f m.at ≡ true) (sends sys (sender sys.flow e) before v)
 
 -- where the sender sends at the send stamps of its events, each message on an edge that comes from events inside a frontier
@@ -79,7 +79,7 @@ SendsAreInsidePsi = (sys : System) (e : ℕ) (f : Frontier)
 abbrev pub SentFromInsideIsInsidePsi : Type 0
 SentFromInsideIsInsidePsi = (sys : System) (h : List Event) (e : ℕ) (f : Frontier)
     → SendsByStamp sys.flow (kind_of sys.flow (sender sys.flow e)) → IsSenderFrontier sys.flow e f
-    → AllByRecursion (λ (m : Message). all_inside f m.causes ≡ true → psi sys.flow e f m.at ≡ true) (sent sys h e)
+    → AllByRecursion (λ (m : Message). all_inside f m.causes ≡ true → psi sys.flow e f m.at ≡ true) (sent_messages sys h e)
 
 -- where the sender sends at the send stamps of its events, and its events are at stamps of its domain, each message on an
 -- edge at a stamp inside phi of a frontier of the sender comes from events inside

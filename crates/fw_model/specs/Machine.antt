@@ -1,13 +1,13 @@
 -- The state of the event-list machine.
 use Rattle.std.specs.Prelude.{ℕ, Bool, false, List, [], ◌∷◌, map, slice_index_or}
 use Rattle.fw_time.specs.declared.stamp.Bounds.{Bounds}
-use Rattle.fw_frontier.specs.Front.{Front, frontier_of, IsCanonical}
+use Rattle.fw_frontier.specs.Front.{Front, IsCanonical}
 use Rattle.fw_frontier.specs.Frontier.{Frontier}
 use Rattle.fw_flow.specs.declared.event.Event.{Event}
-use Rattle.fw_flow.specs.Dataflow.{System, Dataflow, bounds_of, places}
+use Rattle.fw_flow.specs.Dataflow.{System, Dataflow, bounds_of, node_ids, node_frontier}
 
 -- an event with its serial number, which no other event ever has
-pub record Numbered : Type 0 where
+pub record SerialEvent : Type 0 where
   pub serial : ℕ
   pub event : Event
 
@@ -17,30 +17,30 @@ pub data Written : Type 0 where
   logged_event : ℕ → Written
 
 -- how far a write is
-pub data Progress : Type 0 where
-  in_flight : Progress
-  acknowledged : Progress
-  collected : Progress
+pub data Stage : Type 0 where
+  in_flight : Stage
+  acknowledged : Stage
+  collected : Stage
 
 -- a write of a node
 pub record Write : Type 0 where
   pub node : ℕ
   pub written : Written
-  pub progress : Progress
+  pub stage : Stage
 
 -- A state: the history, the latest event first, with the next serial; for each node what is settled, whether it failed,
 -- how many stamps it acknowledged, and the low watermark; and the writes in order of asking.
 pub record Machine : Type 0 where
-  pub history : List Numbered
+  pub history : List SerialEvent
   pub next : ℕ
   pub settled : List Front
   pub writes : List Write
   pub failed : List Bool
-  pub bounds : List ℕ
+  pub ack_counts : List ℕ
   pub low : List Front
 
 -- the events of a history without their serials
-abbrev pub events : List Numbered → List Event
+abbrev pub events : List SerialEvent → List Event
 events [] = []
 events (v ∷ h) = v.event ∷ events h
 
@@ -53,11 +53,11 @@ abbrev pub first_state : System → Machine
 first_state sys = record {
   history = [];
   next = 0;
-  settled = map (λ p. no_stamps (bounds_of sys.flow p)) (places sys.flow);
+  settled = map (λ p. no_stamps (bounds_of sys.flow p)) (node_ids sys.flow);
   writes = [];
-  failed = map (λ p. false) (places sys.flow);
-  bounds = map (λ p. 0) (places sys.flow);
-  low = map (λ p. no_stamps (bounds_of sys.flow p)) (places sys.flow);
+  failed = map (λ p. false) (node_ids sys.flow);
+  ack_counts = map (λ p. 0) (node_ids sys.flow);
+  low = map (λ p. no_stamps (bounds_of sys.flow p)) (node_ids sys.flow);
 }
 
 -- the frontier of node p in a list of one for each node
@@ -69,12 +69,12 @@ abbrev pub is_failed : Machine → ℕ → Bool
 is_failed state p = slice_index_or state.failed p false
 
 -- how many stamps output o acknowledged
-abbrev pub bound_of : Machine → ℕ → ℕ
-bound_of state o = slice_index_or state.bounds o 0
+abbrev pub ack_count_of : Machine → ℕ → ℕ
+ack_count_of state o = slice_index_or state.ack_counts o 0
 
 -- the frontiers of nodes that are in a list, all past its end
 abbrev pub family_of : Dataflow → List Front → ℕ → Frontier
-family_of flow fronts p = frontier_of (bounds_of flow p) (front_of fronts p)
+family_of flow fronts p = node_frontier flow p (front_of fronts p)
 
 -- each of the frontiers is the one list of its node's domain that names it
 abbrev pub AreCanonical : Dataflow → List Front → Type 0

@@ -12,7 +12,7 @@ use Rattle.fw_flow.specs.declared.kind.Kind.TheVariants.{Sequence, OutputNumber,
 use Rattle.fw_flow.specs.Dataflow.{Dataflow, max_of, System}
 use Rattle.fw_flow.specs.NodeFunction.{sends}
 use Rattle.fw_flow.specs.Projection.{all_inside, phi, IsSentTable, events_at}
-use Rattle.fw_model.specs.History.{sent}
+use Rattle.fw_model.specs.History.{sent_messages}
 use Rattle.fw_model.specs.Order.{is_notification_of}
 
 -- A node of the kind sends at the send stamps of its events: it is no output and no sequence, a loop that it feeds back
@@ -41,7 +41,7 @@ SendsWithin send g t = (s w : Stamp) → leq s t ≡ true → send s ≡ Some w 
 -- each message on the edge at a stamp inside phi of the frontier comes from events inside it
 abbrev pub ComesFromInside : System → List Event → ℕ → Frontier → Type 0
 ComesFromInside sys h e f =
-    AllByRecursion (λ (m : Message). phi sys h e f m.at ≡ true → all_inside f m.causes ≡ true) (sent sys h e)
+    AllByRecursion (λ (m : Message). phi sys h e f m.at ≡ true → all_inside f m.causes ≡ true) (sent_messages sys h e)
 
 -- the table of what a node sent begins empty, takes each notification of an epoch with how many messages it made the
 -- node send, and stays at each other event

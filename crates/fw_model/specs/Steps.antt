@@ -4,9 +4,9 @@ use Rattle.std.specs.List.{list_any, list_all, flat_map, AllByRecursion}
 use Rattle.std.specs.Ordering.{is_gt}
 use Rattle.fw_time.specs.Stamp.{Stamp, leq, same, stamp_cmp}
 use Rattle.fw_bag.specs.declared.rec.Rec.{Rec}
-use Rattle.fw_bag.specs.Keyed.{sorted}
+use Rattle.fw_bag.specs.Keyed.{sorted_recs}
 use Rattle.fw_frontier.specs.Frontier.{Frontier, meet, join}
-use Rattle.fw_frontier.specs.Front.{Front, frontier_of, same_front, is_within, Names}
+use Rattle.fw_frontier.specs.Front.{Front, same_front, is_within, IsFrontOf}
 use Rattle.fw_flow.specs.declared.choice.Cut.{Cut}
 use Rattle.fw_flow.specs.declared.choice.Cut.TheVariants.{Present, At}
 use Rattle.fw_flow.specs.declared.event.Event.{Event}
@@ -18,18 +18,18 @@ use Rattle.fw_flow.specs.declared.kind.Policy.{Policy}
 use Rattle.fw_flow.specs.declared.kind.Policy.TheVariants as policy
 use Rattle.fw_flow.specs.declared.step.Step.{Step}
 use Rattle.fw_flow.specs.declared.step.Step.TheVariants.{Inject, Deliver, Notify, Progress as ProgressStep, Checkpoint, Persist, Fail, Recover, Collect, Ack}
-use Rattle.fw_flow.specs.Dataflow.{System, kind_of, policy_of, receiver, out_edges, bounds_of, send_stamp, is_output_kind, places}
+use Rattle.fw_flow.specs.Dataflow.{System, kind_of, policy_of, receiver, out_edges, bounds_of, send_stamp, is_output_kind, node_ids, node_frontier}
 use Rattle.fw_flow.specs.WellFormed.{may_keep_nothing}
-use Rattle.fw_flow.specs.NodeFunction.{place, stamp, delivered_recs}
+use Rattle.fw_flow.specs.NodeFunction.{event_node, event_stamp, delivered_recs}
 use Rattle.fw_model.specs.History.{IsEnabled, IsComplete}
-use Rattle.fw_model.specs.Machine.{Machine, Numbered, Write, Written, checkpoint, logged_event, Progress, in_flight, acknowledged, collected, events, no_stamps, front_of, is_failed, bound_of}
+use Rattle.fw_model.specs.Machine.{Machine, SerialEvent, Write, Written, checkpoint, logged_event, Stage, in_flight, acknowledged, collected, events, no_stamps, front_of, is_failed, ack_count_of}
 use Rattle.fw_flow.specs.Message.{message_cmp}
 use Rattle.fw_flow.specs.declared.choice.Choice.{Choice}
-use Rattle.fw_model.specs.Choice.{kept, cut_of, filtered, IsCandidate, IsLargest, IsWatermark}
+use Rattle.fw_model.specs.Choice.{kept, cut_of, filtered_history, IsCandidate, IsLargest, IsWatermark}
 
 -- what a step shows
 pub data Effect : Type 0 where
-  quiet : Effect
+  silent : Effect
   acked : ℕ → Stamp → List Rec → Effect
   cuts : Choice → Effect
   lows : Choice → Effect
@@ -41,7 +41,7 @@ pub data Outcome : Type 0 where
 
 -- the write of an event of node p, if its policy logs each event
 abbrev pub write_of_event : Policy → ℕ → ℕ → List Write
-write_of_event policy.Full p serial = record { node = p; written = logged_event serial; progress = in_flight } ∷ []
+write_of_event policy.Full p serial = record { node = p; written = logged_event serial; stage = in_flight } ∷ []
 write_of_event other p serial = []
 
 -- the state with one more event, under the next serial
@@ -49,7 +49,7 @@ abbrev pub with_event : System → Machine → Event → Machine
 with_event sys state v = record state {
   history = record { serial = state.next; event = v } ∷ state.history;
   next = state.next + 1;
-  writes = state.writes ++ write_of_event (policy_of sys.flow (place sys.flow v)) (place sys.flow v) state.next;
+  writes = state.writes ++ write_of_event (policy_of sys.flow (event_node sys.flow v)) (event_node sys.flow v) state.next;
 }
 
 -- the stamp is the one asked for, if one is
@@ -77,7 +77,7 @@ pub record IsNextNotice (sys : System) (h : List Event) (p : ℕ) (at : Option S
 
 -- the checkpoint that node p asks of f
 abbrev pub checkpoint_of : Machine → ℕ → Front → Write
-checkpoint_of state p f = record { node = p; written = checkpoint f state.low; progress = in_flight }
+checkpoint_of state p f = record { node = p; written = checkpoint f state.low; stage = in_flight }
 
 -- whether the policy asks a checkpoint whenever more is settled
 abbrev pub is_eager : Policy → Bool
@@ -94,10 +94,10 @@ eager_writes sys state settled ps =
 pub record GrowsTo (sys : System) (state : Machine) (done : ℕ → Frontier) (settled : List Front) : Type 0 where
   pub complete : IsComplete sys (events state.history) done
   pub some : (p : ℕ) × (t : Stamp) × (p < length sys.flow.nodes) × (is_failed state p ≡ false)
-      × (done p t ≡ true) × (frontier_of (bounds_of sys.flow p) (front_of state.settled p) t ≡ false)
+      × (done p t ≡ true) × (node_frontier sys.flow p (front_of state.settled p) t ≡ false)
   pub one_each : length settled ≡ length sys.flow.nodes
   pub each : (p : ℕ) → p < length sys.flow.nodes → is_failed state p ≡ false
-      → Names (bounds_of sys.flow p) (front_of settled p) (join (frontier_of (bounds_of sys.flow p) (front_of state.settled p)) (done p))
+      → IsFrontOf (bounds_of sys.flow p) (front_of settled p) (join (node_frontier sys.flow p (front_of state.settled p)) (done p))
   pub failed : (p : ℕ) → p < length sys.flow.nodes → is_failed state p ≡ true → front_of settled p ≡ front_of state.settled p
 
 -- whether the policy takes checkpoints when asked
@@ -125,7 +125,7 @@ abbrev pub newest_checkpoint : ℕ → Front → List Write → Front
 newest_checkpoint p f writes = last_or f (checkpoints_of p writes)
 
 -- whether a write is in flight
-abbrev pub is_in_flight : Progress → Bool
+abbrev pub is_in_flight : Stage → Bool
 is_in_flight in_flight = true
 is_in_flight other = false
 
@@ -135,9 +135,9 @@ pub record AcknowledgesOldest (writes next : List Write) : Type 0 where
   pub oldest : Write
   pub later : List Write
   pub before : writes ≡ earlier ++ oldest ∷ later
-  pub in_flight : is_in_flight oldest.progress ≡ true
-  pub none_earlier : list_any (λ write. is_in_flight write.progress) earlier ≡ false
-  pub after : next ≡ earlier ++ record oldest { progress = acknowledged } ∷ later
+  pub in_flight : is_in_flight oldest.stage ≡ true
+  pub none_earlier : list_any (λ write. is_in_flight write.stage) earlier ≡ false
+  pub after : next ≡ earlier ++ record oldest { stage = acknowledged } ∷ later
 
 -- whether the place is among these
 abbrev pub is_one_of : ℕ → List ℕ → Bool
@@ -145,31 +145,31 @@ is_one_of p qs = list_any (λ q. p == q) qs
 
 -- the writes without those in flight of these nodes
 abbrev pub without_lost : List ℕ → List Write → List Write
-without_lost ps writes = filter (λ write. not (is_one_of write.node ps && is_in_flight write.progress)) writes
+without_lost ps writes = filter (λ write. not (is_one_of write.node ps && is_in_flight write.stage)) writes
 
 -- for each node whether it is failed once these are
 abbrev pub with_failed : System → Machine → List ℕ → List Bool
-with_failed sys state ps = map (λ p. is_failed state p || is_one_of p ps) (places sys.flow)
+with_failed sys state ps = map (λ p. is_failed state p || is_one_of p ps) (node_ids sys.flow)
 
 -- whether an event of this serial is in the history
-abbrev pub has_serial : ℕ → List Numbered → Bool
+abbrev pub has_serial : ℕ → List SerialEvent → Bool
 has_serial serial h = list_any (λ v. v.serial == serial) h
 
 -- whether a write lies within the cut of its node, where this is the filtered history
-abbrev pub is_kept_write : Cut → Written → List Numbered → Bool
+abbrev pub is_kept_write : Cut → Written → List SerialEvent → Bool
 is_kept_write Present written h = true
 is_kept_write (At f) (checkpoint g low) h = is_within g f
 is_kept_write (At f) (logged_event serial) h = has_serial serial h
 
 -- the writes that lie within the cuts of their nodes
-abbrev pub kept_writes : Choice → List Numbered → List Write → List Write
+abbrev pub kept_writes : Choice → List SerialEvent → List Write → List Write
 kept_writes choice h writes = filter (λ write. is_kept_write (cut_of choice write.node) write.written h) writes
 
 -- Settled is cut at each node to its cut.
 abbrev pub IsSettledCut : System → ℕ → Cut → Front → Front → Type 0
 IsSettledCut sys p Present before after = after ≡ before
 IsSettledCut sys p (At f) before after =
-    Names (bounds_of sys.flow p) after (meet (frontier_of (bounds_of sys.flow p) before) (frontier_of (bounds_of sys.flow p) f))
+    IsFrontOf (bounds_of sys.flow p) after (meet (node_frontier sys.flow p before) (node_frontier sys.flow p f))
 
 -- the settled frontiers are cut at each node
 pub record CutsTo (sys : System) (state : Machine) (choice : Choice) (settled : List Front) : Type 0 where
@@ -177,12 +177,12 @@ pub record CutsTo (sys : System) (state : Machine) (choice : Choice) (settled : 
   pub each : (p : ℕ) → p < length sys.flow.nodes → IsSettledCut sys p (cut_of choice p) (front_of state.settled p) (front_of settled p)
 
 -- the state after a recovery to the choice
-abbrev pub recovered : System → Machine → Choice → List Front → Machine
-recovered sys state choice settled = record state {
-  history = filtered sys choice state.history;
+abbrev pub recovered_state : System → Machine → Choice → List Front → Machine
+recovered_state sys state choice settled = record state {
+  history = filtered_history sys choice state.history;
   settled = settled;
-  writes = kept_writes choice (filtered sys choice state.history) state.writes;
-  failed = map (λ p. false) (places sys.flow);
+  writes = kept_writes choice (filtered_history sys choice state.history) state.writes;
+  failed = map (λ p. false) (node_ids sys.flow);
 }
 
 -- the frontier of a cut; all where the node stays as it is
@@ -198,35 +198,35 @@ inside_if_some f (Some u) = f u
 -- whether the stamp at which an event at t sends, if there is one, lies inside the frontier of each edge's receiver
 abbrev pub sends_inside : System → List Front → ℕ → Stamp → List ℕ → Bool
 sends_inside sys low p t es =
-    list_all (λ e. inside_if_some (frontier_of (bounds_of sys.flow (receiver sys.flow e)) (front_of low (receiver sys.flow e))) (send_stamp sys.flow p t)) es
+    list_all (λ e. inside_if_some (node_frontier sys.flow (receiver sys.flow e) (front_of low (receiver sys.flow e))) (send_stamp sys.flow p t)) es
 
 -- Whether the logged events of node p at stamp t are given up: its kind may keep nothing, the stamp lies below the node's
 -- watermark, and what it sends from there lies below the receivers'.
 abbrev pub is_given_up : System → List Front → ℕ → Stamp → Bool
 is_given_up sys low p t =
-    may_keep_nothing (kind_of sys.flow p) && frontier_of (bounds_of sys.flow p) (front_of low p) t
+    may_keep_nothing (kind_of sys.flow p) && node_frontier sys.flow p (front_of low p) t
     && sends_inside sys low p t (out_edges sys.flow p)
 
 -- whether an event of this serial in the history is given up
-abbrev pub is_serial_given_up : System → List Front → ℕ → List Numbered → Bool
+abbrev pub is_serial_given_up : System → List Front → ℕ → List SerialEvent → Bool
 is_serial_given_up sys low serial h =
-    list_any (λ v. v.serial == serial && is_given_up sys low (place sys.flow v.event) (stamp v.event)) h
+    list_any (λ v. v.serial == serial && is_given_up sys low (event_node sys.flow v.event) (event_stamp v.event)) h
 
 -- whether what a write of node p holds lies below the watermark, so that it is not needed again
-abbrev pub lies_below : System → List Front → List Numbered → ℕ → Written → Bool
+abbrev pub lies_below : System → List Front → List SerialEvent → ℕ → Written → Bool
 lies_below sys low h p (checkpoint g kept_low) = is_within g (front_of low p) && not (is_within (front_of low p) g)
 lies_below sys low h p (logged_event serial) = is_serial_given_up sys low serial h
 
 -- how far a write is once what lies below is collected
-abbrev pub after_collection : Bool → Progress → Progress
+abbrev pub after_collection : Bool → Stage → Stage
 after_collection below in_flight = in_flight
 after_collection below acknowledged = if below then collected else acknowledged
 after_collection below collected = collected
 
 -- the writes with those below the watermark collected
-abbrev pub collected_writes : System → List Front → List Numbered → List Write → List Write
+abbrev pub collected_writes : System → List Front → List SerialEvent → List Write → List Write
 collected_writes sys low h writes =
-    map (λ (write : Write). record write { progress = after_collection (lies_below sys low h write.node write.written) write.progress }) writes
+    map (λ (write : Write). record write { stage = after_collection (lies_below sys low h write.node write.written) write.stage }) writes
 
 -- some node has a batch of epoch x
 abbrev pub HasEpoch : List (List (List Rec)) → ℕ → Type 0
@@ -248,14 +248,14 @@ pub record MayAcknowledge (sys : System) (state : Machine) (o x : ℕ) : Type 0 
   pub declared : o < length sys.flow.nodes
   pub output : is_output_kind (kind_of sys.flow o) ≡ true
   pub live : is_failed state o ≡ false
-  pub next : x ≡ bound_of state o
-  pub settled : frontier_of (bounds_of sys.flow o) (front_of state.settled o) (x ∷ []) ≡ true
+  pub next : x ≡ ack_count_of state o
+  pub settled : node_frontier sys.flow o (front_of state.settled o) (x ∷ []) ≡ true
   pub there : HasSomethingAt sys (events state.history) (kind_of sys.flow o) o x
 
 -- the recs of output o at x, ascending
 abbrev pub recs_at_output : System → Machine → ℕ → ℕ → List Rec
 recs_at_output sys state o x =
-    sorted (delivered_recs (λ e s. receiver sys.flow e == o && same s (x ∷ [])) (events state.history))
+    sorted_recs (delivered_recs (λ e s. receiver sys.flow e == o && same s (x ∷ [])) (events state.history))
 
 -- what the machine offers in a recovery
 abbrev pub offers : System → Machine → ℕ → Cut → Type 0
@@ -265,30 +265,30 @@ offers sys state = IsCandidate sys state (is_failed state) kept
 abbrev pub LeadsTo : System → Machine → Step → Machine → Effect → Type 0
 LeadsTo sys state (Inject s) next effect =
     (x : ℕ) × IsEnabled sys (events state.history) (Injected s x) × (is_failed state s ≡ false)
-    × (next ≡ with_event sys state (Injected s x)) × (effect ≡ quiet)
+    × (next ≡ with_event sys state (Injected s x)) × (effect ≡ silent)
 LeadsTo sys state (Deliver e at) next effect =
     (m : Message) × IsNextMessage sys (events state.history) e at m × (is_failed state (receiver sys.flow e) ≡ false)
-    × (next ≡ with_event sys state (Delivered e m)) × (effect ≡ quiet)
+    × (next ≡ with_event sys state (Delivered e m)) × (effect ≡ silent)
 LeadsTo sys state (Notify p at) next effect =
     (t : Stamp) × IsNextNotice sys (events state.history) p at t × (is_failed state p ≡ false)
-    × (next ≡ with_event sys state (Notified p t)) × (effect ≡ quiet)
+    × (next ≡ with_event sys state (Notified p t)) × (effect ≡ silent)
 LeadsTo sys state ProgressStep next effect =
     (done : ℕ → Frontier) × (settled : List Front) × GrowsTo sys state done settled
-    × (next ≡ record state { settled = settled; writes = state.writes ++ eager_writes sys state settled (places sys.flow) }) × (effect ≡ quiet)
+    × (next ≡ record state { settled = settled; writes = state.writes ++ eager_writes sys state settled (node_ids sys.flow) }) × (effect ≡ silent)
 LeadsTo sys state (Checkpoint p) next effect =
     (is_asked_for_checkpoints (policy_of sys.flow p) ≡ true) × (is_failed state p ≡ false)
     × (front_of state.settled p ≢ newest_checkpoint p (no_stamps (bounds_of sys.flow p)) state.writes)
-    × (next ≡ record state { writes = state.writes ++ checkpoint_of state p (front_of state.settled p) ∷ [] }) × (effect ≡ quiet)
+    × (next ≡ record state { writes = state.writes ++ checkpoint_of state p (front_of state.settled p) ∷ [] }) × (effect ≡ silent)
 LeadsTo sys state Persist next effect =
     (writes : List Write) × AcknowledgesOldest state.writes writes
-    × (next ≡ record state { writes = writes }) × (effect ≡ quiet)
+    × (next ≡ record state { writes = writes }) × (effect ≡ silent)
 LeadsTo sys state (Fail ps) next effect =
     (p : ℕ) × (p < length sys.flow.nodes) × (is_one_of p ps ≡ true) × (is_failed state p ≡ false)
-    × (next ≡ record state { failed = with_failed sys state ps; writes = without_lost ps state.writes }) × (effect ≡ quiet)
+    × (next ≡ record state { failed = with_failed sys state ps; writes = without_lost ps state.writes }) × (effect ≡ silent)
 LeadsTo sys state Recover next effect =
     (p : ℕ) × (choice : Choice) × (settled : List Front) × (p < length sys.flow.nodes) × (is_failed state p ≡ true)
     × IsLargest sys state (offers sys state) choice × CutsTo sys state choice settled
-    × (next ≡ recovered sys state choice settled) × (effect ≡ cuts choice)
+    × (next ≡ recovered_state sys state choice settled) × (effect ≡ cuts choice)
 LeadsTo sys state Collect next effect =
     (choice : Choice) × IsWatermark sys state choice
     × (map front_of_cut choice.cuts ≢ state.low)
@@ -299,12 +299,12 @@ LeadsTo sys state Collect next effect =
     × (effect ≡ lows choice)
 LeadsTo sys state (Ack o) next effect =
     (x : ℕ) × MayAcknowledge sys state o x
-    × (next ≡ record state { bounds = slice_set state.bounds o (x + 1) }) × (effect ≡ acked o (x ∷ []) (recs_at_output sys state o x))
+    × (next ≡ record state { ack_counts = slice_set state.ack_counts o (x + 1) }) × (effect ≡ acked o (x ∷ []) (recs_at_output sys state o x))
 
 -- One step of the machine: its effect where it is enabled, and else nothing changes.
-abbrev pub Steps : System → Machine → Step → Machine → Outcome → Type 0
-Steps sys state step next (did effect) = LeadsTo sys state step next effect
-Steps sys state step next idle =
+abbrev pub StepsTo : System → Machine → Step → Machine → Outcome → Type 0
+StepsTo sys state step next (did effect) = LeadsTo sys state step next effect
+StepsTo sys state step next idle =
     ((other : Machine) (effect : Effect) → LeadsTo sys state step other effect → ⊥) × (next ≡ state)
 
 -- a run: the machine takes the steps in turn, with these outcomes
@@ -313,7 +313,7 @@ Run sys state [] [] last = last ≡ state
 Run sys state [] (outcome ∷ outcomes) last = ⊥
 Run sys state (step ∷ steps) [] last = ⊥
 Run sys state (step ∷ steps) (outcome ∷ outcomes) last =
-    (next : Machine) × Steps sys state step next outcome × Run sys next steps outcomes last
+    (next : Machine) × StepsTo sys state step next outcome × Run sys next steps outcomes last
 
 -- whether the step is a recovery
 abbrev pub is_recovery : Step → Bool
@@ -326,5 +326,5 @@ HaveNoRecovery steps = AllByRecursion (λ step. is_recovery step ≡ false) step
 
 -- the step leads to this next state with this outcome, and to no other
 pub record IsTheNext (sys : System) (state : Machine) (step : Step) (next : Machine) (outcome : Outcome) : Type 0 where
-  pub steps : Steps sys state step next outcome
-  pub only : (other : Machine) (another : Outcome) → Steps sys state step other another → (next ≡ other) × (outcome ≡ another)
+  pub steps : StepsTo sys state step next outcome
+  pub only : (other : Machine) (another : Outcome) → StepsTo sys state step other another → (next ≡ other) × (outcome ≡ another)

@@ -1,13 +1,13 @@
 -- Unions of frontiers, of cuts and of choices.
 use Rattle.std.specs.Prelude.{◌≡◌, ℕ, ◌<◌, true, length}
 use Rattle.fw_time.specs.Stamp.{Stamp}
-use Rattle.fw_frontier.specs.Front.{Names, frontier_of}
+use Rattle.fw_frontier.specs.Front.{IsFrontOf}
 use Rattle.fw_frontier.specs.Frontier.{Frontier, Within, join}
 use Rattle.fw_flow.specs.declared.choice.Choice.{Choice}
 use Rattle.fw_flow.specs.declared.choice.Cut.{Cut}
 use Rattle.fw_flow.specs.declared.choice.Cut.TheVariants.{At, Present}
-use Rattle.fw_flow.specs.Dataflow.{bounds_of, System}
-use Rattle.fw_model.specs.Choice.{note_of, cut_of}
+use Rattle.fw_flow.specs.Dataflow.{bounds_of, System, node_frontier}
+use Rattle.fw_model.specs.Choice.{notice_of, cut_of}
 use Rattle.fw_model.specs.Machine.{front_of}
 
 -- what is inside some frontier of a family of frontiers
@@ -21,12 +21,12 @@ IsUnionOfCuts sys p Present other union = union ≡ Present
 IsUnionOfCuts sys p (At f) Present union = union ≡ Present
 IsUnionOfCuts sys p (At f) (At g) Present = ⊥
 IsUnionOfCuts sys p (At f) (At g) (At u) =
-    Names (bounds_of sys.flow p) u (join (frontier_of (bounds_of sys.flow p) f) (frontier_of (bounds_of sys.flow p) g))
+    IsFrontOf (bounds_of sys.flow p) u (join (node_frontier sys.flow p f) (node_frontier sys.flow p g))
 
 -- a choice is the union of two at every node
 pub record IsUnionOfChoices (sys : System) (one other union : Choice) : Type 0 where
   pub one_cut_each : length union.cuts ≡ length sys.flow.nodes
-  pub one_note_each : length union.notes ≡ length sys.flow.nodes
+  pub one_notice_each : length union.notices ≡ length sys.flow.nodes
   pub cuts : (p : ℕ) → p < length sys.flow.nodes → IsUnionOfCuts sys p (cut_of one p) (cut_of other p) (cut_of union p)
-  pub notes : (p : ℕ) → p < length sys.flow.nodes
-      → Names (bounds_of sys.flow p) (front_of union.notes p) (join (note_of sys.flow one p) (note_of sys.flow other p))
+  pub notices : (p : ℕ) → p < length sys.flow.nodes
+      → IsFrontOf (bounds_of sys.flow p) (front_of union.notices p) (join (notice_of sys.flow one p) (notice_of sys.flow other p))

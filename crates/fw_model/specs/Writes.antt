@@ -1,22 +1,22 @@
 -- What writes hold: checkpoints, as they were asked, and logged events.
 use Rattle.std.specs.Prelude.{◌≡◌, ℕ, Bool, true, false, List, [], ◌∷◌, ◌++◌}
 use Rattle.std.specs.List.{AllByRecursion}
-use Rattle.fw_frontier.specs.Front.{Front, frontier_of}
+use Rattle.fw_frontier.specs.Front.{Front}
 use Rattle.fw_frontier.specs.Frontier.{Frontier, Within}
 use Rattle.fw_flow.specs.declared.choice.Cut.TheVariants.{At}
 use Rattle.fw_flow.specs.declared.event.Event.{Event}
 use Rattle.fw_flow.specs.declared.kind.Policy.{Policy}
 use Rattle.fw_flow.specs.declared.kind.Policy.TheVariants as policy
 use Rattle.fw_flow.specs.declared.step.Step.{Step}
-use Rattle.fw_flow.specs.Dataflow.{System, sender, bounds_of, receiver, kind_of}
-use Rattle.fw_flow.specs.NodeFunction.{stamp, place}
+use Rattle.fw_flow.specs.Dataflow.{System, sender, receiver, kind_of, node_frontier}
+use Rattle.fw_flow.specs.NodeFunction.{event_stamp, event_node}
 use Rattle.fw_flow.specs.Projection.{events_at}
 use Rattle.fw_flow.specs.WellFormed.{may_keep_nothing}
-use Rattle.fw_model.specs.Choice.{ever, counts}
+use Rattle.fw_model.specs.Choice.{ever, is_counted}
 use Rattle.fw_model.specs.Covers.{covers_in}
 use Rattle.fw_model.specs.Filtering.{events_inside, messages_from}
-use Rattle.fw_model.specs.History.{sent, IsEnabled}
-use Rattle.fw_model.specs.Machine.{events, Machine, Written, checkpoint, logged_event, Write, front_of, first_state, Numbered, collected}
+use Rattle.fw_model.specs.History.{sent_messages, IsEnabled}
+use Rattle.fw_model.specs.Machine.{events, Machine, Written, checkpoint, logged_event, Write, front_of, first_state, SerialEvent, collected}
 use Rattle.fw_model.specs.Steps.{Run, Outcome, checkpoint_front, is_given_up}
 
 -- whether the policy takes checkpoints, asked or of its own
@@ -29,12 +29,12 @@ takes_checkpoints other = false
 -- Inside f node p did the same in two histories: the same events in the same order, which sent the same.
 pub record IsSamePart (sys : System) (h k : List Event) (p : ℕ) (f : Frontier) : Type 0 where
   pub events : events_inside f (events_at sys.flow p k) ≡ events_inside f (events_at sys.flow p h)
-  pub sent : (e : ℕ) → sender sys.flow e ≡ p → messages_from f (sent sys k e) ≡ messages_from f (sent sys h e)
+  pub sent : (e : ℕ) → sender sys.flow e ≡ p → messages_from f (sent_messages sys k e) ≡ messages_from f (sent_messages sys h e)
 
 -- Inside f node p did the same in the histories of two states, and the same counts there as delivered to it, as notified
 -- of it, and as what it cannot send again.
 pub record CountsTheSame (sys : System) (state next : Machine) (p : ℕ) (f : Front) : Type 0 where
-  pub part : IsSamePart sys (events state.history) (events next.history) p (frontier_of (bounds_of sys.flow p) f)
+  pub part : IsSamePart sys (events state.history) (events next.history) p (node_frontier sys.flow p f)
   pub delivered : (d : ℕ) → receiver sys.flow d ≡ p → (covers_in sys next).delivered d (At f) ≡ (covers_in sys state).delivered d (At f)
   pub notified : (covers_in sys next).notified p (At f) ≡ (covers_in sys state).notified p (At f)
   pub discarded : (e : ℕ) → sender sys.flow e ≡ p → (covers_in sys next).discarded e (At f) ≡ (covers_in sys state).discarded e (At f)
@@ -46,9 +46,9 @@ CountsWritten sys state next p (logged_event serial) = Unit {0}
 
 -- a frontier of node p lies within what is settled there, and within each checkpoint of the node among these writes
 pub record Ascends (sys : System) (settled : List Front) (p : ℕ) (f : Front) (later : List Write) : Type 0 where
-  pub within_settled : Within (frontier_of (bounds_of sys.flow p) f) (frontier_of (bounds_of sys.flow p) (front_of settled p))
+  pub within_settled : Within (node_frontier sys.flow p f) (node_frontier sys.flow p (front_of settled p))
   pub within_later : AllByRecursion (λ (write : Write). (g : Front) (low : List Front) → write.node ≡ p → write.written ≡ checkpoint g low
-      → Within (frontier_of (bounds_of sys.flow p) f) (frontier_of (bounds_of sys.flow p) g)) later
+      → Within (node_frontier sys.flow p f) (node_frontier sys.flow p g)) later
 
 -- A checkpoint of node p at f was asked in an earlier state of a run, in which f was settled and this was the low watermark,
 -- and it counts in the last state as it did in that one.
@@ -71,14 +71,14 @@ IsWrittenAsAsked sys last p (logged_event serial) = Unit {0}
 
 -- no event of node p that may come next is inside what is written of it, if it is a checkpoint
 abbrev pub NothingComesInside : System → Machine → ℕ → Written → Type 0
-NothingComesInside sys state p (checkpoint f low) = (v : Event) → IsEnabled sys (events state.history) v → place sys.flow v ≡ p
-    → frontier_of (bounds_of sys.flow p) f (stamp v) ≡ false
+NothingComesInside sys state p (checkpoint f low) = (v : Event) → IsEnabled sys (events state.history) v → event_node sys.flow v ≡ p
+    → node_frontier sys.flow p f (event_stamp v) ≡ false
 NothingComesInside sys state p (logged_event serial) = Unit {0}
 
 -- the watermark that is kept with what is written lies within this one at every node, if it is a checkpoint
 abbrev pub IsKeptWithin : System → List Front → Written → Type 0
 IsKeptWithin sys low (checkpoint f kept_low) =
-    (p : ℕ) → Within (frontier_of (bounds_of sys.flow p) (front_of kept_low p)) (frontier_of (bounds_of sys.flow p) (front_of low p))
+    (p : ℕ) → Within (node_frontier sys.flow p (front_of kept_low p)) (node_frontier sys.flow p (front_of low p))
 IsKeptWithin sys low (logged_event serial) = Unit {0}
 
 -- Exactly one of these writes is such a one.
@@ -101,13 +101,13 @@ LogsSerial serial write = write.written ≡ logged_event serial
 
 -- Exactly one write logs the event of node p. It is the node's and was acknowledged, and it is collected only where what the
 -- node logged at the event's stamp is given up.
-pub record IsLoggedOnce (sys : System) (low : List Front) (p : ℕ) (v : Numbered) (writes : List Write) : Type 0 where
+pub record IsLoggedOnce (sys : System) (low : List Front) (p : ℕ) (v : SerialEvent) (writes : List Write) : Type 0 where
   pub only : HasOne (LogsSerial v.serial) writes
   pub node : only.one.node ≡ p
-  pub acknowledged : counts ever only.one.progress ≡ true
-  pub given_up : only.one.progress ≡ collected → is_given_up sys low p (stamp v.event) ≡ true
+  pub acknowledged : is_counted ever only.one.stage ≡ true
+  pub given_up : only.one.stage ≡ collected → is_given_up sys low p (event_stamp v.event) ≡ true
 
 -- a logged event that was collected is one of a node whose kind may keep nothing: no total, sequence or ledger
 abbrev pub MayKeepNothingIfCollected : System → Write → Type 0
 MayKeepNothingIfCollected sys write =
-    (serial : ℕ) → write.written ≡ logged_event serial → write.progress ≡ collected → may_keep_nothing (kind_of sys.flow write.node) ≡ true
+    (serial : ℕ) → write.written ≡ logged_event serial → write.stage ≡ collected → may_keep_nothing (kind_of sys.flow write.node) ≡ true

@@ -12,23 +12,23 @@ use Rattle.fw_model.specs.Choice.{IsCutWithin}
 use Rattle.fw_model.proofs.OfferLaws.{not_listed, listed-there, below_last, between-offered, offered-between}
 use Rattle.fw_monitor.specs.declared.side.Side.{Side}
 use Rattle.fw_model.specs.Offers.{IsListed, IsBetween, IsOffered, Ascend, records_of, range_of}
-use Rattle.fw_monitor.specs.Descent.{owner, reach, left_of, IsLeft, IsLower, IsCutDown}
+use Rattle.fw_monitor.specs.Descent.{owner, side_bounds, left_of, IsLeft, IsLower, IsCutDown}
 
 -- ---- records
 
 -- a record's frontier is within a cut, and the side in it within the bound
 abbrev pub Fits : Dataflow → List Offer → Side → Cut → Front → Recorded → Type 0
 Fits flow offers side cut bound r =
-    IsCutWithin flow (owner flow side) (At r.front) cut × Within (left_of flow offers side (At r.front)) (frontier_of (reach flow side) bound)
+    IsCutWithin flow (owner flow side) (At r.front) cut × Within (left_of flow offers side (At r.front)) (frontier_of (side_bounds flow side) bound)
 
 others_fail : (flow : Dataflow) (offers : List Offer) (side : Side) (cut : Cut) (bound : Front) (f : Front) (post : List Recorded)
-    → IsCutWithin flow (owner flow side) (At f) cut → Within (left_of flow offers side (At f)) (frontier_of (reach flow side) bound)
+    → IsCutWithin flow (owner flow side) (At f) cut → Within (left_of flow offers side (At f)) (frontier_of (side_bounds flow side) bound)
     → AllByRecursion (λ s. Fits flow offers side cut bound s → ⊥) post → AllByRecursion (λ s. s.front ≡ f → ⊥) post
 others_fail flow offers side cut bound f [] w l a = tt
 others_fail flow offers side cut bound f (s ∷ post) w l a = (
   λ e. a.0 (
     subst (λ g. IsCutWithin flow (owner flow side) (At g) cut) (sym e) w,
-    subst (λ g. Within (left_of flow offers side (At g)) (frontier_of (reach flow side) bound)) (sym e) l,
+    subst (λ g. Within (left_of flow offers side (At g)) (frontier_of (side_bounds flow side) bound)) (sym e) l,
   ),
   others_fail flow offers side cut bound f post w l a.1,
 )
@@ -41,7 +41,7 @@ present-within flow p (At g) w = absurd w
 pub lower_listed : (flow : Dataflow) (offers : List Offer) (side : Side) (cut : Cut) (bound : Front) (pre : List Recorded) (r : Recorded) (post : List Recorded)
     → owner flow side < length flow.nodes → IsCanonical (bounds_of flow (owner flow side)) r.front
     → records_of offers (owner flow side) ≡ pre ++ r ∷ post → range_of offers (owner flow side) ≡ None
-    → (Within (left_of flow offers side cut) (frontier_of (reach flow side) bound) → ⊥)
+    → (Within (left_of flow offers side cut) (frontier_of (side_bounds flow side) bound) → ⊥)
     → Fits flow offers side cut bound r → AllByRecursion (λ s. Fits flow offers side cut bound s → ⊥) post
     → IsLower flow offers side cut bound (At r.front)
 lower_listed flow offers side cut bound pre r post l c is none fails fits others =
@@ -50,17 +50,17 @@ lower_listed flow offers side cut bound pre r post l c is none fails fits others
     record {
       canonical = c;
       within = fits.0;
-      other = λ e. fails (subst (λ x. Within (left_of flow offers side x) (frontier_of (reach flow side) bound)) e fits.1);
+      other = λ e. fails (subst (λ x. Within (left_of flow offers side x) (frontier_of (side_bounds flow side) bound)) e fits.1);
       largest = λ ascending offered x left.
           let here : IsListed r.front (records_of offers p) = subst (IsListed r.front) (sym is) (listed-there pre r post) in
           ((c, inl here), at x left.offered left.within left.passes (subst (Ascend b) is (ascending p l)));
     }
   where
     at : (x : Cut) → IsOffered flow offers (owner flow side) x → IsCutWithin flow (owner flow side) x cut
-        → Within (left_of flow offers side x) (frontier_of (reach flow side) bound) → Ascend (bounds_of flow (owner flow side)) (pre ++ r ∷ post)
+        → Within (left_of flow offers side x) (frontier_of (side_bounds flow side) bound) → Ascend (bounds_of flow (owner flow side)) (pre ++ r ∷ post)
         → IsCutWithin flow (owner flow side) x (At r.front)
     at Present offered within passes ascending =
-        absurd (fails (subst (λ x. Within (left_of flow offers side x) (frontier_of (reach flow side) bound)) (sym (present-within flow (owner flow side) cut within)) passes))
+        absurd (fails (subst (λ x. Within (left_of flow offers side x) (frontier_of (side_bounds flow side) bound)) (sym (present-within flow (owner flow side) cut within)) passes))
     at (At f) offered within passes ascending = elim (offered.1) [
       | inl i ↦ below_last (bounds_of flow (owner flow side)) pre r post f ascending (subst (IsListed f) is i) (others_fail flow offers side cut bound f post within passes others)
       | inr j ↦ absurd (subst (λ o. IsBetween (bounds_of flow (owner flow side)) o f) none j)
@@ -68,15 +68,15 @@ lower_listed flow offers side cut bound pre r post l c is none fails fits others
 
 -- where no record fits, nothing is left
 pub none_listed : (flow : Dataflow) (offers : List Offer) (side : Side) (cut : Cut) (bound : Front) → range_of offers (owner flow side) ≡ None
-    → (Within (left_of flow offers side cut) (frontier_of (reach flow side) bound) → ⊥)
+    → (Within (left_of flow offers side cut) (frontier_of (side_bounds flow side) bound) → ⊥)
     → AllByRecursion (λ s. Fits flow offers side cut bound s → ⊥) (records_of offers (owner flow side))
     → (x : Cut) → IsLeft flow offers side cut bound x → ⊥
 none_listed flow offers side cut bound none fails others x left = at x left.offered left.within left.passes
   where
     at : (x : Cut) → IsOffered flow offers (owner flow side) x → IsCutWithin flow (owner flow side) x cut
-        → Within (left_of flow offers side x) (frontier_of (reach flow side) bound) → ⊥
+        → Within (left_of flow offers side x) (frontier_of (side_bounds flow side) bound) → ⊥
     at Present offered within passes =
-        fails (subst (λ x. Within (left_of flow offers side x) (frontier_of (reach flow side) bound)) (sym (present-within flow (owner flow side) cut within)) passes)
+        fails (subst (λ x. Within (left_of flow offers side x) (frontier_of (side_bounds flow side) bound)) (sym (present-within flow (owner flow side) cut within)) passes)
     at (At f) offered within passes = elim (offered.1) [
       | inl i ↦ not_listed (records_of offers (owner flow side)) f i (others_fail flow offers side cut bound f (records_of offers (owner flow side)) within passes others)
       | inr j ↦ subst (λ o. IsBetween (bounds_of flow (owner flow side)) o f) none j
@@ -86,17 +86,17 @@ none_listed flow offers side cut bound none fails others x left = at x left.offe
 
 pub lower_range : (flow : Dataflow) (offers : List Offer) (side : Side) (front bound f least greatest : Front)
     → range_of offers (owner flow side) ≡ Some (least, greatest) → IsCutDown flow offers side front bound f
-    → (Within (left_of flow offers side (At front)) (frontier_of (reach flow side) bound) → ⊥)
+    → (Within (left_of flow offers side (At front)) (frontier_of (side_bounds flow side) bound) → ⊥)
     → IsLower flow offers side (At front) bound (At f)
 lower_range flow offers side front bound f least greatest is down fails = record {
   canonical = down.canonical;
   within = down.within;
-  other = λ e. fails (subst (λ x. Within (left_of flow offers side x) (frontier_of (reach flow side) bound)) e down.passes);
+  other = λ e. fails (subst (λ x. Within (left_of flow offers side x) (frontier_of (side_bounds flow side) bound)) e down.passes);
   largest = λ ascending offered x left. at x offered left.offered left.within left.passes;
 }
   where
     at : (x : Cut) → IsOffered flow offers (owner flow side) (At front) → IsOffered flow offers (owner flow side) x → IsCutWithin flow (owner flow side) x (At front)
-        → Within (left_of flow offers side x) (frontier_of (reach flow side) bound)
+        → Within (left_of flow offers side x) (frontier_of (side_bounds flow side) bound)
         → IsOffered flow offers (owner flow side) (At f) × IsCutWithin flow (owner flow side) x (At f)
     at Present old offered within passes = absurd within
     at (At g) old offered within passes =
@@ -109,7 +109,7 @@ lower_range flow offers side front bound f least greatest is down fails = record
 
 pub lower_present : (flow : Dataflow) (offers : List Offer) (side : Side) (bound f least greatest : Front)
     → range_of offers (owner flow side) ≡ Some (least, greatest) → IsCutDown flow offers side greatest bound f
-    → (Within (left_of flow offers side Present) (frontier_of (reach flow side) bound) → ⊥)
+    → (Within (left_of flow offers side Present) (frontier_of (side_bounds flow side) bound) → ⊥)
     → IsLower flow offers side Present bound (At f)
 lower_present flow offers side bound f least greatest is down fails = record {
   canonical = down.canonical;
@@ -118,7 +118,7 @@ lower_present flow offers side bound f least greatest is down fails = record {
   largest = λ ascending offered x left. at x left.offered left.passes;
 }
   where
-    at : (x : Cut) → IsOffered flow offers (owner flow side) x → Within (left_of flow offers side x) (frontier_of (reach flow side) bound)
+    at : (x : Cut) → IsOffered flow offers (owner flow side) x → Within (left_of flow offers side x) (frontier_of (side_bounds flow side) bound)
         → IsOffered flow offers (owner flow side) (At f) × IsCutWithin flow (owner flow side) x (At f)
     at Present offered passes = absurd (fails passes)
     at (At g) offered passes =

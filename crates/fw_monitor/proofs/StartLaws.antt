@@ -3,7 +3,7 @@ use Rattle.std.proofs.Common.{◌≡◌, ◌≢◌, ℕ, zero, suc, ◌+◌, ◌
 use Rattle.std.specs.List.{AllByRecursion}
 use Rattle.std.proofs.lemmas.Bool.{cases_lt, eqb-false}
 use Rattle.std.proofs.lemmas.List.{get_or_read, drop_all}
-use Rattle.fw_frontier.specs.Front.{Front, IsCanonical, Names}
+use Rattle.fw_frontier.specs.Front.{Front, IsCanonical, IsFrontOf}
 use Rattle.fw_flow.specs.declared.choice.Choice.{Choice}
 use Rattle.fw_flow.specs.declared.choice.Cut.{Cut}
 use Rattle.fw_flow.specs.declared.choice.Cut.TheVariants.{Present, At}
@@ -88,9 +88,9 @@ each_more P xs ys x n q d e c same h k p l = elim (cases_lt p n) [
       subst (P p) (sym is) (subst (λ i. P i x) there k)
 ]
 
-pub kept_here : (flow : Dataflow) (cuts : List Cut) (i : ℕ) (x : Cut) (f : Front) → i < length cuts → x ≡ get_or cuts i x → Names (bounds_of flow i) f (set_of flow i x)
-    → Names (bounds_of flow i) f (set_of flow i (cut_of (choice_of cuts []) i))
-kept_here flow cuts i x f l is n = subst (λ c. Names (bounds_of flow i) f (set_of flow i c)) (get_or_read cuts i x l is Present) n
+pub kept_here : (flow : Dataflow) (cuts : List Cut) (i : ℕ) (x : Cut) (f : Front) → i < length cuts → x ≡ get_or cuts i x → IsFrontOf (bounds_of flow i) f (set_of flow i x)
+    → IsFrontOf (bounds_of flow i) f (set_of flow i (cut_of (choice_of cuts []) i))
+kept_here flow cuts i x f l is n = subst (λ c. IsFrontOf (bounds_of flow i) f (set_of flow i c)) (get_or_read cuts i x l is Present) n
 
 pub canonical_here : (flow : Dataflow) (cuts : List Cut) (i : ℕ) (x : Cut) → i < length cuts → x ≡ get_or cuts i x → IsCanonicalCut (bounds_of flow i) (cut_of (choice_of cuts []) i) → IsCanonicalCut (bounds_of flow i) x
 canonical_here flow cuts i x l is c = subst (IsCanonicalCut (bounds_of flow i)) (sym (get_or_read cuts i x l is Present)) c
@@ -125,18 +125,18 @@ greatest_records flow offers p r (x ∷ rs) f a l e is none same empty some =
 
 -- ---- the start
 
-pub start_encloses : (flow : Dataflow) (offers : List Offer) (cuts : List Cut) (notes : List Front) → length cuts ≡ length flow.nodes → length notes ≡ length flow.nodes
-    → ((p : ℕ) → p < length flow.nodes → IsGreatest flow offers p (cut_of (choice_of cuts notes) p))
-    → ((p : ℕ) → p < length flow.nodes → Names (bounds_of flow p) (front_of notes p) (set_of flow p (cut_of (choice_of cuts notes) p)))
-    → EnclosesConsistent flow offers (choice_of cuts notes)
-start_encloses flow offers cuts notes one each greatest kept = record {
+pub start_encloses : (flow : Dataflow) (offers : List Offer) (cuts : List Cut) (notices : List Front) → length cuts ≡ length flow.nodes → length notices ≡ length flow.nodes
+    → ((p : ℕ) → p < length flow.nodes → IsGreatest flow offers p (cut_of (choice_of cuts notices) p))
+    → ((p : ℕ) → p < length flow.nodes → IsFrontOf (bounds_of flow p) (front_of notices p) (set_of flow p (cut_of (choice_of cuts notices) p)))
+    → EnclosesConsistent flow offers (choice_of cuts notices)
+start_encloses flow offers cuts notices one each greatest kept = record {
   one_cut_each = one;
-  one_note_each = each;
+  one_notice_each = each;
   cuts = λ p l. (greatest p l).canonical;
-  notes = λ p l. (kept p l).canonical;
+  notices = λ p l. (kept p l).canonical;
   within = λ a other k. record {
     cuts = λ p l. ((greatest p l).largest a (cut_of other p) (k.offered p l)).1;
-    notes = λ p l t i. (kept p l).same t ∙ set-monotone flow p (cut_of other p) (cut_of (choice_of cuts notes) p) ((greatest p l).largest a (cut_of other p) (k.offered p l)).1 t (k.own p l t i);
+    notices = λ p l t i. (kept p l).same t ∙ set-monotone flow p (cut_of other p) (cut_of (choice_of cuts notices) p) ((greatest p l).largest a (cut_of other p) (k.offered p l)).1 t (k.own p l t i);
   };
   offered = λ a other k p l. ((greatest p l).largest a (cut_of other p) (k.offered p l)).0;
 }

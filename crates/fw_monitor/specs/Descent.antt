@@ -3,24 +3,24 @@
 use Rattle.std.specs.Prelude.{◌≡◌, ◌≢◌, ℕ, ◌+◌, ◌<◌, Bool, true, false, ◌==◌, if◌then◌else◌, List, [], ◌∷◌, length, set, Option, Some, None}
 use Rattle.fw_time.specs.declared.stamp.Bounds.{Bounds}
 use Rattle.fw_frontier.specs.Frontier.{Frontier, Within, nothing, everything, meet}
-use Rattle.fw_frontier.specs.Front.{Front, frontier_of, IsCanonical, Names}
+use Rattle.fw_frontier.specs.Front.{Front, frontier_of, IsCanonical, IsFrontOf}
 use Rattle.fw_flow.specs.declared.choice.Choice.{Choice}
 use Rattle.fw_flow.specs.declared.choice.Cut.{Cut}
 use Rattle.fw_flow.specs.declared.choice.Cut.TheVariants.{Present, At}
 use Rattle.fw_flow.specs.declared.choice.OfEdge.{OfEdge}
 use Rattle.fw_flow.specs.declared.choice.Recorded.{Recorded}
 use Rattle.fw_flow.specs.declared.choice.Offer.{Offer}
-use Rattle.fw_flow.specs.Dataflow.{Dataflow, sender, receiver, bounds_of}
+use Rattle.fw_flow.specs.Dataflow.{Dataflow, sender, receiver, bounds_of, node_frontier}
 use Rattle.fw_model.specs.Machine.{front_of}
-use Rattle.fw_model.specs.Choice.{cut_of, note_of, kept_of, IsNoteKept, NoteComesFromSender, IsConsistentBy, IsCutWithin, IsChoiceWithin}
+use Rattle.fw_model.specs.Choice.{cut_of, notice_of, kept_of, IsNoticeKept, NoticeComesFromSender, IsConsistentBy, IsCutWithin, IsChoiceWithin}
 use Rattle.fw_monitor.specs.declared.side.Side.{Side}
 use Rattle.fw_monitor.specs.declared.side.Side.TheVariants.{Delivered, Discarded, Notified}
-use Rattle.fw_monitor.specs.Held.{held, sum_below}
+use Rattle.fw_monitor.specs.Held.{held_count, sum_below}
 use Rattle.fw_model.specs.Offers.{IsOffered, AreAscending, recorded_delivered, recorded_discarded, recorded_notified, arrived_from, covers_of}
 
 -- these cuts and notification frontiers
 abbrev pub choice_of : List Cut → List Front → Choice
-choice_of cuts notes = record { cuts = cuts; notes = notes }
+choice_of cuts notices = record { cuts = cuts; notices = notices }
 
 -- the node whose cut a side is of
 abbrev pub owner : Dataflow → Side → ℕ
@@ -29,10 +29,10 @@ owner flow (Discarded e) = sender flow e
 owner flow (Notified p) = p
 
 -- the domain in which it is
-abbrev pub reach : Dataflow → Side → Bounds
-reach flow (Delivered d) = bounds_of flow (receiver flow d)
-reach flow (Discarded e) = bounds_of flow (receiver flow e)
-reach flow (Notified p) = bounds_of flow p
+abbrev pub side_bounds : Dataflow → Side → Bounds
+side_bounds flow (Delivered d) = bounds_of flow (receiver flow d)
+side_bounds flow (Discarded e) = bounds_of flow (receiver flow e)
+side_bounds flow (Notified p) = bounds_of flow p
 
 -- its edge or its node is one of the dataflow
 abbrev pub IsOfFlow : Dataflow → Side → Type 0
@@ -41,15 +41,15 @@ IsOfFlow flow (Discarded e) = e < length flow.edges
 IsOfFlow flow (Notified p) = p < length flow.nodes
 
 -- the frontier that is listed for an edge
-abbrev pub found : ℕ → List OfEdge → Option Front
-found e [] = None
-found e (x ∷ xs) = if x.edge == e then Some x.front else found e xs
+abbrev pub front_on_edge : ℕ → List OfEdge → Option Front
+front_on_edge e [] = None
+front_on_edge e (x ∷ xs) = if x.edge == e then Some x.front else front_on_edge e xs
 
 -- what a record lists of a side
-abbrev pub recorded : Side → Recorded → Option Front
-recorded (Delivered d) r = found d r.delivered
-recorded (Discarded e) r = found e r.discarded
-recorded (Notified p) r = Some r.notified
+abbrev pub recorded_front : Side → Recorded → Option Front
+recorded_front (Delivered d) r = front_on_edge d r.delivered
+recorded_front (Discarded e) r = front_on_edge e r.discarded
+recorded_front (Notified p) r = Some r.notified
 
 -- the frontier, without stamps where there is none
 abbrev pub front_or_nothing : Bounds → Option Front → Frontier
@@ -72,7 +72,7 @@ left_of flow offers (Notified p) cut = (covers_of flow offers).notified p cut
 abbrev pub right_of : Dataflow → List Offer → Side → Choice → Frontier
 right_of flow offers (Delivered d) choice = arrived_from flow offers d (kept_of flow choice (sender flow d))
 right_of flow offers (Discarded e) choice = kept_of flow choice (receiver flow e)
-right_of flow offers (Notified p) choice = note_of flow choice p
+right_of flow offers (Notified p) choice = notice_of flow choice p
 
 -- what it is lies in what it has to lie in
 abbrev pub IsMet : Dataflow → List Offer → Choice → Side → Type 0
@@ -82,12 +82,12 @@ IsMet flow offers choice side = Within (left_of flow offers side (cut_of choice 
 pub record IsMetAtEdge (flow : Dataflow) (offers : List Offer) (choice : Choice) (e : ℕ) : Type 0 where
   pub delivered : IsMet flow offers choice (Delivered e)
   pub discarded : IsMet flow offers choice (Discarded e)
-  pub note : NoteComesFromSender flow (covers_of flow offers) choice e
+  pub notice : NoticeComesFromSender flow (covers_of flow offers) choice e
 
 -- all that speaks of a node alone is met
 pub record IsMetAtNode (flow : Dataflow) (offers : List Offer) (choice : Choice) (p : ℕ) : Type 0 where
   pub notified : IsMet flow offers choice (Notified p)
-  pub own : IsNoteKept flow choice p
+  pub own : IsNoticeKept flow choice p
 
 -- the frontier of a cut is canonical, if it has one
 abbrev pub IsCanonicalCut : Bounds → Cut → Type 0
@@ -98,7 +98,7 @@ IsCanonicalCut bounds (At f) = IsCanonical bounds f
 pub record IsLeft (flow : Dataflow) (offers : List Offer) (side : Side) (cut : Cut) (bound : Front) (x : Cut) : Type 0 where
   pub offered : IsOffered flow offers (owner flow side) x
   pub within : IsCutWithin flow (owner flow side) x cut
-  pub passes : Within (left_of flow offers side x) (frontier_of (reach flow side) bound)
+  pub passes : Within (left_of flow offers side x) (frontier_of (side_bounds flow side) bound)
 
 -- a lower cut, within which lies each that is left; it is offered if one is left
 pub record IsLower (flow : Dataflow) (offers : List Offer) (side : Side) (cut : Cut) (bound : Front) (new : Cut) : Type 0 where
@@ -112,17 +112,17 @@ pub record IsLower (flow : Dataflow) (offers : List Offer) (side : Side) (cut : 
 abbrev pub IsLowered : Dataflow → List Offer → Side → Cut → Front → Option Cut → Type 0
 IsLowered flow offers side cut bound None =
     AreAscending flow offers → (x : Cut) → IsLeft flow offers side cut bound x
-    → Within (left_of flow offers side cut) (frontier_of (reach flow side) bound)
+    → Within (left_of flow offers side cut) (frontier_of (side_bounds flow side) bound)
 IsLowered flow offers side cut bound (Some new) = IsLower flow offers side cut bound new
 
 -- a frontier of those within another, whose side lies within a bound: the largest
 pub record IsCutDown (flow : Dataflow) (offers : List Offer) (side : Side) (front bound f : Front) : Type 0 where
   pub canonical : IsCanonical (bounds_of flow (owner flow side)) f
-  pub within : Within (frontier_of (bounds_of flow (owner flow side)) f) (frontier_of (bounds_of flow (owner flow side)) front)
-  pub passes : Within (left_of flow offers side (At f)) (frontier_of (reach flow side) bound)
-  pub largest : (x : Front) → Within (frontier_of (bounds_of flow (owner flow side)) x) (frontier_of (bounds_of flow (owner flow side)) front)
-      → Within (left_of flow offers side (At x)) (frontier_of (reach flow side) bound)
-      → Within (frontier_of (bounds_of flow (owner flow side)) x) (frontier_of (bounds_of flow (owner flow side)) f)
+  pub within : Within (node_frontier flow (owner flow side) f) (node_frontier flow (owner flow side) front)
+  pub passes : Within (left_of flow offers side (At f)) (frontier_of (side_bounds flow side) bound)
+  pub largest : (x : Front) → Within (node_frontier flow (owner flow side) x) (node_frontier flow (owner flow side) front)
+      → Within (left_of flow offers side (At x)) (frontier_of (side_bounds flow side) bound)
+      → Within (node_frontier flow (owner flow side) x) (node_frontier flow (owner flow side) f)
 
 -- the choice is consistent by what the nodes offer
 abbrev pub IsConsistentOf : Dataflow → List Offer → Choice → Type 0
@@ -131,9 +131,9 @@ IsConsistentOf flow offers choice = IsConsistentBy flow (covers_of flow offers) 
 -- cuts and notification frontiers of the nodes, within which each consistent choice lies, and offered if there is one
 pub record EnclosesConsistent (flow : Dataflow) (offers : List Offer) (choice : Choice) : Type 0 where
   pub one_cut_each : length choice.cuts ≡ length flow.nodes
-  pub one_note_each : length choice.notes ≡ length flow.nodes
+  pub one_notice_each : length choice.notices ≡ length flow.nodes
   pub cuts : (p : ℕ) → p < length flow.nodes → IsCanonicalCut (bounds_of flow p) (cut_of choice p)
-  pub notes : (p : ℕ) → p < length flow.nodes → IsCanonical (bounds_of flow p) (front_of choice.notes p)
+  pub notices : (p : ℕ) → p < length flow.nodes → IsCanonical (bounds_of flow p) (front_of choice.notices p)
   pub within : AreAscending flow offers → (other : Choice) → IsConsistentOf flow offers other → IsChoiceWithin flow other choice
   pub offered : AreAscending flow offers → (other : Choice) → IsConsistentOf flow offers other
       → (p : ℕ) → p < length flow.nodes → IsOffered flow offers p (cut_of choice p)
@@ -144,12 +144,12 @@ HasConsistent flow offers = AreAscending flow offers × ((other : Choice) × IsC
 
 -- how many stamps a cut holds, and one more for a state as it is
 unfoldable pub cut_weight : Bounds → Cut → ℕ
-cut_weight bounds Present = held bounds.greatest (everything bounds) + 1
-cut_weight bounds (At f) = held bounds.greatest (frontier_of bounds f)
+cut_weight bounds Present = held_count bounds.greatest (everything bounds) + 1
+cut_weight bounds (At f) = held_count bounds.greatest (frontier_of bounds f)
 
 -- the same of a node's cut, and how many stamps its notification frontier holds
 unfoldable pub node_weight : Dataflow → Choice → ℕ → ℕ
-node_weight flow choice p = cut_weight (bounds_of flow p) (cut_of choice p) + held (bounds_of flow p).greatest (note_of flow choice p)
+node_weight flow choice p = cut_weight (bounds_of flow p) (cut_of choice p) + held_count (bounds_of flow p).greatest (notice_of flow choice p)
 
 -- the sum of the nodes'
 unfoldable pub weight : Dataflow → Choice → ℕ
@@ -167,12 +167,12 @@ pub record IsDone (flow : Dataflow) (offers : List Offer) (old new : Choice) (me
   pub holds : lowered ≡ false → HasConsistent flow offers → met new
 
 -- A notification frontier lies within a bound, and all stays; or else it is cut to what is inside the bound.
-abbrev pub IsNoteLowered : List Front → List Front → ℕ → Front → Bool → Type 0
-IsNoteLowered old new p bound false = (new ≡ old) × ((b : Bounds) → IsCanonical b bound → Within (frontier_of b (front_of old p)) (frontier_of b bound))
-IsNoteLowered old new p bound true =
+abbrev pub IsNoticeLowered : List Front → List Front → ℕ → Front → Bool → Type 0
+IsNoticeLowered old new p bound false = (new ≡ old) × ((b : Bounds) → IsCanonical b bound → Within (frontier_of b (front_of old p)) (frontier_of b bound))
+IsNoticeLowered old new p bound true =
     (f : Front) × (new ≡ set old p f)
     × ((b : Bounds) → IsCanonical b (front_of old p) → IsCanonical b bound
-    → Names b f (meet (frontier_of b (front_of old p)) (frontier_of b bound)) × (Within (frontier_of b (front_of old p)) (frontier_of b bound) → ⊥))
+    → IsFrontOf b f (meet (frontier_of b (front_of old p)) (frontier_of b bound)) × (Within (frontier_of b (front_of old p)) (frontier_of b bound) → ⊥))
 
 -- a pass over all that has to be met: where nothing was lowered all is met, if there is a consistent choice
 pub record IsPass (flow : Dataflow) (offers : List Offer) (old new : Choice) (lowered : Bool) : Type 0 where

@@ -1,16 +1,16 @@
 //! The largest consistent choice of what the nodes offer.
 ghost use Rattle.std.specs.Prelude.{◌≡◌, ◌<◌, ◌↔◌, ℕ, true, false, length, IsTrue, IfOk};
-ghost use Rattle.fw_frontier.specs.Front.{frontier_of, IsCanonical, Names};
+ghost use Rattle.fw_frontier.specs.Front.{frontier_of, IsCanonical, IsFrontOf};
 ghost use Rattle.fw_frontier.specs.Frontier.{Within};
 ghost use Rattle.fw_flow.specs.declared.choice.Choice as choices;
 ghost use Rattle.fw_flow.specs.declared.choice.Cut.TheVariants as variants;
 ghost use Rattle.fw_flow.specs.Dataflow.{bounds_of, sender, receiver};
-ghost use Rattle.fw_model.specs.Choice.{IsConsistentBy, IsLargestBy, IsChoiceWithin, cut_of, note_of};
+ghost use Rattle.fw_model.specs.Choice.{IsConsistentBy, IsLargestBy, IsChoiceWithin, cut_of, notice_of};
 ghost use Rattle.fw_model.specs.Covers.{set_of};
 ghost use Rattle.fw_model.specs.Machine.{front_of};
 ghost use Rattle.fw_model.specs.Offers as spec;
 ghost use Rattle.fw_model.specs.Offers.{IsOffered, AreOffersOf, AreAscending, covers_of};
-ghost use Rattle.fw_monitor.specs.Descent.{choice_of, owner, reach, right_of, IsOfFlow, IsCanonicalCut, IsConsistentOf, EnclosesConsistent, IsStep, IsDone, HasConsistent, IsMet, IsMetAtEdge, IsMetAtNode, IsNoteLowered, IsPass};
+ghost use Rattle.fw_monitor.specs.Descent.{choice_of, owner, side_bounds, right_of, IsOfFlow, IsCanonicalCut, IsConsistentOf, EnclosesConsistent, IsStep, IsDone, HasConsistent, IsMet, IsMetAtEdge, IsMetAtNode, IsNoticeLowered, IsPass};
 
 use crate::arrived::arrived;
 use crate::lower::lowered;
@@ -33,14 +33,14 @@ pub fn largest(alloc: Global, flow: &Flow, offers: &[Offer]) -> Result<Choice, A
         → IfOk result (IsLargestBy flow.now (covers_of flow.now offers.now) (IsOffered flow.now offers.now)) }
 {
     let mut cuts = greatest_cuts(alloc, flow, offers)?;
-    let mut notes = all_kept(alloc, flow, &cuts)?;
-    let mut lowered = pass(alloc, flow, offers, &mut cuts, &mut notes)?;
+    let mut notices = all_kept(alloc, flow, &cuts)?;
+    let mut lowered = pass(alloc, flow, offers, &mut cuts, &mut notices)?;
     'pass: while lowered {
-        lowered = pass(alloc, flow, offers, &mut cuts, &mut notes)?;
+        lowered = pass(alloc, flow, offers, &mut cuts, &mut notices)?;
     }
     Ok(Choice {
         cuts: Cuts::of(cuts),
-        notes: Fronts::of(notes),
+        notices: Fronts::of(notices),
     })
 }
 
@@ -53,11 +53,11 @@ fn cut_at(cuts: &[Cut], node: NodeId) -> &Cut
 }
 
 /// The notification frontier of a node.
-fn note_at(notes: &[Front], node: NodeId) -> &Front
-    requires { node < length notes.now }
-    ensures { result.now ≡ front_of notes.now node }
+fn notice_at(notices: &[Front], node: NodeId) -> &Front
+    requires { node < length notices.now }
+    ensures { result.now ≡ front_of notices.now node }
 {
-    &notes[node.place() as usize]
+    &notices[node.place() as usize]
 }
 
 /// In what the side has to lie. The error is want of memory.
@@ -67,13 +67,13 @@ fn right(
     offers: &[Offer],
     side: &Side,
     cuts: &[Cut],
-    notes: &[Front],
+    notices: &[Front],
 ) -> Result<Front, AllocError>
     requires offers { AreOffersOf flow.now offers.now }
     requires there { IsOfFlow flow.now side.now }
-    requires encloses { EnclosesConsistent flow.now offers.now (choice_of cuts.now notes.now) }
-    ensures { IfOk result (λ g. Names (reach flow.now side.now) g
-        (right_of flow.now offers.now side.now (choice_of cuts.now notes.now))) }
+    requires encloses { EnclosesConsistent flow.now offers.now (choice_of cuts.now notices.now) }
+    ensures { IfOk result (λ g. IsFrontOf (side_bounds flow.now side.now) g
+        (right_of flow.now offers.now side.now (choice_of cuts.now notices.now))) }
 {
     flow_is_well_formed(flow);
     match side {
@@ -82,7 +82,7 @@ fn right(
             arrived_from_cut(alloc, flow, offers, *edge, cut)
         },
         Side::Discarded(edge) => kept(alloc, cut_at(cuts, flow.dst(*edge))),
-        Side::Notified(node) => note_at(notes, *node).copy(),
+        Side::Notified(node) => notice_at(notices, *node).copy(),
     }
 }
 
@@ -95,7 +95,7 @@ fn arrived_from_cut(
     cut: &Cut,
 ) -> Result<Front, AllocError>
     requires { IsCanonicalCut (bounds_of flow.now (sender flow.now edge)) cut.now }
-    ensures { IfOk result (λ g. Names (bounds_of flow.now (receiver flow.now edge)) g
+    ensures { IfOk result (λ g. IsFrontOf (bounds_of flow.now (receiver flow.now edge)) g
         (spec.arrived_from flow.now offers.now edge (set_of flow.now (sender flow.now edge) cut.now))) }
 {
     let front = kept(alloc, cut)?;
@@ -110,17 +110,17 @@ fn lower_cut(
     offers: &[Offer],
     side: &Side,
     cuts: &mut Vec<Cut>,
-    notes: &[Front],
+    notices: &[Front],
 ) -> Result<bool, AllocError>
     requires offers { AreOffersOf flow.now offers.now }
     requires there { IsOfFlow flow.now side.now }
-    requires encloses { EnclosesConsistent flow.now offers.now (choice_of cuts.old.items notes.now) }
-    ensures step { IfOk result (IsStep flow.now offers.now (choice_of cuts.old.items notes.now) (choice_of cuts.new.items notes.now)) }
+    requires encloses { EnclosesConsistent flow.now offers.now (choice_of cuts.old.items notices.now) }
+    ensures step { IfOk result (IsStep flow.now offers.now (choice_of cuts.old.items notices.now) (choice_of cuts.new.items notices.now)) }
     ensures holds { IfOk result (λ b. b ≡ false → HasConsistent flow.now offers.now
-        → IsMet flow.now offers.now (choice_of cuts.new.items notes.now) side.now) }
+        → IsMet flow.now offers.now (choice_of cuts.new.items notices.now) side.now) }
 {
     flow_is_well_formed(flow);
-    let bound = right(alloc, flow, offers, side, cuts, notes)?;
+    let bound = right(alloc, flow, offers, side, cuts, notices)?;
     let node = owner(flow, *side);
     let lower = lowered(alloc, flow, offers, side, cut_at(cuts, node), &bound)?;
     match lower {
@@ -134,16 +134,16 @@ fn lower_cut(
 
 /// Takes from the notification frontier of a node what does not lie within a bound; whether there was any. The error is
 /// want of memory.
-fn lower_note(notes: &mut Vec<Front>, node: NodeId, bound: &Front) -> Result<bool, AllocError>
-    requires { node < length notes.old.items }
-    ensures { IfOk result (IsNoteLowered notes.old.items notes.new.items node bound.now) }
+fn lower_notice(notices: &mut Vec<Front>, node: NodeId, bound: &Front) -> Result<bool, AllocError>
+    requires { node < length notices.old.items }
+    ensures { IfOk result (IsNoticeLowered notices.old.items notices.new.items node bound.now) }
 {
     let place = node.place() as usize;
-    if notes[place].subset(bound) {
+    if notices[place].subset(bound) {
         return Ok(false);
     }
-    let left = notes[place].meet(bound)?;
-    notes[place] = left;
+    let left = notices[place].meet(bound)?;
+    notices[place] = left;
     Ok(true)
 }
 
@@ -153,21 +153,21 @@ fn at_edge(
     flow: &Flow,
     offers: &[Offer],
     cuts: &mut Vec<Cut>,
-    notes: &mut Vec<Front>,
+    notices: &mut Vec<Front>,
     edge: EdgeId,
 ) -> Result<bool, AllocError>
     requires offers { AreOffersOf flow.now offers.now }
     requires there { edge < length flow.now.edges }
-    requires encloses { EnclosesConsistent flow.now offers.now (choice_of cuts.old.items notes.old.items) }
-    ensures { IfOk result (IsDone flow.now offers.now (choice_of cuts.old.items notes.old.items) (choice_of cuts.new.items notes.new.items)
+    requires encloses { EnclosesConsistent flow.now offers.now (choice_of cuts.old.items notices.old.items) }
+    ensures { IfOk result (IsDone flow.now offers.now (choice_of cuts.old.items notices.old.items) (choice_of cuts.new.items notices.new.items)
         (λ choice. IsMetAtEdge flow.now offers.now choice edge)) }
 {
     flow_is_well_formed(flow);
-    let delivered = lower_cut(alloc, flow, offers, &Side::Delivered(edge), cuts, notes)?;
-    let discarded = lower_cut(alloc, flow, offers, &Side::Discarded(edge), cuts, notes)?;
-    let bound = arrived(alloc, flow, offers, edge, note_at(notes, flow.src(edge)))?;
-    let note = lower_note(notes, flow.dst(edge), &bound)?;
-    Ok(delivered | discarded | note)
+    let delivered = lower_cut(alloc, flow, offers, &Side::Delivered(edge), cuts, notices)?;
+    let discarded = lower_cut(alloc, flow, offers, &Side::Discarded(edge), cuts, notices)?;
+    let bound = arrived(alloc, flow, offers, edge, notice_at(notices, flow.src(edge)))?;
+    let notice = lower_notice(notices, flow.dst(edge), &bound)?;
+    Ok(delivered | discarded | notice)
 }
 
 /// Lowers what does not hold at a node alone; whether anything was lowered. The error is want of memory.
@@ -176,18 +176,18 @@ fn at_node(
     flow: &Flow,
     offers: &[Offer],
     cuts: &mut Vec<Cut>,
-    notes: &mut Vec<Front>,
+    notices: &mut Vec<Front>,
     node: NodeId,
 ) -> Result<bool, AllocError>
     requires offers { AreOffersOf flow.now offers.now }
     requires there { node < length flow.now.nodes }
-    requires encloses { EnclosesConsistent flow.now offers.now (choice_of cuts.old.items notes.old.items) }
-    ensures { IfOk result (IsDone flow.now offers.now (choice_of cuts.old.items notes.old.items) (choice_of cuts.new.items notes.new.items)
+    requires encloses { EnclosesConsistent flow.now offers.now (choice_of cuts.old.items notices.old.items) }
+    ensures { IfOk result (IsDone flow.now offers.now (choice_of cuts.old.items notices.old.items) (choice_of cuts.new.items notices.new.items)
         (λ choice. IsMetAtNode flow.now offers.now choice node)) }
 {
-    let notified = lower_cut(alloc, flow, offers, &Side::Notified(node), cuts, notes)?;
+    let notified = lower_cut(alloc, flow, offers, &Side::Notified(node), cuts, notices)?;
     let bound = kept(alloc, cut_at(cuts, node))?;
-    let own = lower_note(notes, node, &bound)?;
+    let own = lower_notice(notices, node, &bound)?;
     Ok(notified | own)
 }
 
@@ -197,18 +197,18 @@ fn pass_edges(
     flow: &Flow,
     offers: &[Offer],
     cuts: &mut Vec<Cut>,
-    notes: &mut Vec<Front>,
+    notices: &mut Vec<Front>,
 ) -> Result<bool, AllocError>
     requires offers { AreOffersOf flow.now offers.now }
-    requires encloses { EnclosesConsistent flow.now offers.now (choice_of cuts.old.items notes.old.items) }
-    ensures { IfOk result (IsDone flow.now offers.now (choice_of cuts.old.items notes.old.items) (choice_of cuts.new.items notes.new.items)
+    requires encloses { EnclosesConsistent flow.now offers.now (choice_of cuts.old.items notices.old.items) }
+    ensures { IfOk result (IsDone flow.now offers.now (choice_of cuts.old.items notices.old.items) (choice_of cuts.new.items notices.new.items)
         (λ choice. (e : ℕ) → e < length flow.now.edges → IsMetAtEdge flow.now offers.now choice e)) }
 {
     flow_is_well_formed(flow);
     let mut lowered = false;
     for place in 0..flow.edges() {
         let edge = EdgeId::at(place as u32);
-        let more = at_edge(alloc, flow, offers, cuts, notes, edge)?;
+        let more = at_edge(alloc, flow, offers, cuts, notices, edge)?;
         lowered |= more;
     }
     Ok(lowered)
@@ -220,17 +220,17 @@ fn pass_nodes(
     flow: &Flow,
     offers: &[Offer],
     cuts: &mut Vec<Cut>,
-    notes: &mut Vec<Front>,
+    notices: &mut Vec<Front>,
 ) -> Result<bool, AllocError>
     requires offers { AreOffersOf flow.now offers.now }
-    requires encloses { EnclosesConsistent flow.now offers.now (choice_of cuts.old.items notes.old.items) }
-    ensures { IfOk result (IsDone flow.now offers.now (choice_of cuts.old.items notes.old.items) (choice_of cuts.new.items notes.new.items)
+    requires encloses { EnclosesConsistent flow.now offers.now (choice_of cuts.old.items notices.old.items) }
+    ensures { IfOk result (IsDone flow.now offers.now (choice_of cuts.old.items notices.old.items) (choice_of cuts.new.items notices.new.items)
         (λ choice. (p : ℕ) → p < length flow.now.nodes → IsMetAtNode flow.now offers.now choice p)) }
 {
     let mut lowered = false;
     for place in 0..flow.nodes() {
         let node = NodeId::at(place as u32);
-        let more = at_node(alloc, flow, offers, cuts, notes, node)?;
+        let more = at_node(alloc, flow, offers, cuts, notices, node)?;
         lowered |= more;
     }
     Ok(lowered)
@@ -242,13 +242,13 @@ fn pass(
     flow: &Flow,
     offers: &[Offer],
     cuts: &mut Vec<Cut>,
-    notes: &mut Vec<Front>,
+    notices: &mut Vec<Front>,
 ) -> Result<bool, AllocError>
     requires offers { AreOffersOf flow.now offers.now }
-    requires encloses { EnclosesConsistent flow.now offers.now (choice_of cuts.old.items notes.old.items) }
-    ensures { IfOk result (IsPass flow.now offers.now (choice_of cuts.old.items notes.old.items) (choice_of cuts.new.items notes.new.items)) }
+    requires encloses { EnclosesConsistent flow.now offers.now (choice_of cuts.old.items notices.old.items) }
+    ensures { IfOk result (IsPass flow.now offers.now (choice_of cuts.old.items notices.old.items) (choice_of cuts.new.items notices.new.items)) }
 {
-    let edges = pass_edges(alloc, flow, offers, cuts, notes)?;
-    let nodes = pass_nodes(alloc, flow, offers, cuts, notes)?;
+    let edges = pass_edges(alloc, flow, offers, cuts, notices)?;
+    let nodes = pass_nodes(alloc, flow, offers, cuts, notices)?;
     Ok(edges | nodes)
 }

@@ -11,18 +11,18 @@ use Rattle.fw_time.specs.Stamp.{Stamp, leq, same, in_domain}
 use Rattle.fw_time.specs.declared.stamp.Bounds.{Bounds}
 use Rattle.fw_time.proofs.StampLaws.{leq-refl, leq-trans}
 use Rattle.fw_frontier.specs.Frontier.{without_above}
-use Rattle.fw_frontier.specs.Front.{Front, inside, frontier_of, IsCanonical, Names}
+use Rattle.fw_frontier.specs.Front.{Front, inside, frontier_of, IsCanonical, IsFrontOf}
 use Rattle.fw_bag.specs.declared.rec.Rec.{Rec}
 use Rattle.fw_flow.specs.declared.event.Event.{Event}
 use Rattle.fw_flow.specs.declared.event.Event.TheVariants.{Inject, Deliver, Notify}
 use Rattle.fw_flow.specs.declared.event.Message.{Message}
 use Rattle.fw_flow.specs.declared.kind.Kind.{Kind}
 use Rattle.fw_flow.specs.declared.kind.Kind.TheVariants.{Input}
-use Rattle.fw_flow.specs.Projection.{first_number_of}
+use Rattle.fw_flow.specs.Projection.{first_coordinate}
 use Rattle.fw_flow.specs.Dataflow.{System, Dataflow, kind_of, receiver, in_edges, bounds_of, bounds_of_domain, domain_of_kind, greatest_number, is_input_kind, is_notified_kind, batches_of}
 use Rattle.fw_flow.proofs.EdgeLaws.{in_edges-at, in_edges-from}
-use Rattle.fw_model.specs.History.{pending, owed, is_delivery_to, is_notification, was_notified, was_delivered_to, some_at, injected_count, is_exhausted, injected_epochs, IsQuiet}
-use Rattle.fw_plain.specs.Clear.{given, pending_stamps, is_unnotified, owed_by, owed_stamps, IsClear}
+use Rattle.fw_model.specs.History.{pending_messages, is_owed_notice, is_delivery_to, is_notification, was_notified, was_delivered_to, some_at, injected_count, is_exhausted, injected_epochs, IsQuiet}
+use Rattle.fw_plain.specs.Clear.{given_frontier, pending_stamps, is_unnotified, owed_by, owed_stamps, IsClear}
 use Rattle.fw_model.proofs.StampLaws.{in_line, same-is}
 use Rattle.fw_model.proofs.DescentLaws.{past_edges-quiet}
 use Rattle.fw_model.proofs.InputLaws.{input-bounds}
@@ -81,16 +81,16 @@ pub quiet-inside : (sys : System) (h : List Event) (p : ℕ) (t : Stamp) → ins
 quiet-inside sys h p t i e r = elim (cases_lt e (length sys.flow.edges)) [
   | inr l ↦ past_edges-quiet sys h e t l
   | inl l ↦
-      none_at (pending sys h e) t
-      (in_edges-at (λ d. inside (map (λ (m : Message). m.at) (pending sys h d)) t ≡ true) sys.flow p
-      (inside-each (λ d. map (λ (m : Message). m.at) (pending sys h d)) (in_edges sys.flow p) t i) e l r)
+      none_at (pending_messages sys h e) t
+      (in_edges-at (λ d. inside (map (λ (m : Message). m.at) (pending_messages sys h d)) t ≡ true) sys.flow p
+      (inside-each (λ d. map (λ (m : Message). m.at) (pending_messages sys h d)) (in_edges sys.flow p) t i) e l r)
 ]
 
 pub inside-quiet : (sys : System) (h : List Event) (p : ℕ) (t : Stamp) → ((s : Stamp) → leq s t ≡ true → IsQuiet sys h p s) → inside (pending_stamps sys h p) t ≡ true
 inside-quiet sys h p t q =
-    inside-from_each (λ d. map (λ (m : Message). m.at) (pending sys h d)) (in_edges sys.flow p) t
-    (in_edges-from (λ d. inside (map (λ (m : Message). m.at) (pending sys h d)) t ≡ true) sys.flow p
-    (λ e l r. none_below (pending sys h e) t (λ s k. q s k e r)))
+    inside-from_each (λ d. map (λ (m : Message). m.at) (pending_messages sys h d)) (in_edges sys.flow p) t
+    (in_edges-from (λ d. inside (map (λ (m : Message). m.at) (pending_messages sys h d)) t ≡ true) sys.flow p
+    (λ e l r. none_below (pending_messages sys h e) t (λ s k. q s k e r)))
 
 -- ---- what is owed
 
@@ -146,15 +146,15 @@ any-reverse test (v ∷ vs) =
     ∙ or-swap (list_any test (reverse vs)) (test v)
     ∙ ap (λ b. test v || b) (any-reverse test vs)
 
-paid-inside : (sys : System) (events : List Event) (p : ℕ) (t : Stamp) → inside (owed_stamps sys.flow events p events) t ≡ true → owed sys (reverse events) p t ≡ false
+paid-inside : (sys : System) (events : List Event) (p : ℕ) (t : Stamp) → inside (owed_stamps sys.flow events p events) t ≡ true → is_owed_notice sys (reverse events) p t ≡ false
 paid-inside sys events p t i =
-    false_from_ne_true (owed sys (reverse events) p t) (λ k.
+    false_from_ne_true (is_owed_notice sys (reverse events) p t) (λ k.
     let a = and_parts (is_notified_kind (kind_of sys.flow p) && was_delivered_to sys.flow p t (reverse events)) (not (was_notified p t (reverse events))) k in
     let b = and_parts (is_notified_kind (kind_of sys.flow p)) (was_delivered_to sys.flow p t (reverse events)) a.0 in
     let u = and_from (is_notified_kind (kind_of sys.flow p)) (not (list_any (is_notification p t) events)) b.0 (sym (ap not (any-reverse (is_notification p t) events)) ∙ a.1) in
     true≢false (sym b.1 ∙ any-reverse (is_delivery_to sys.flow p t) events ∙ no_delivery sys.flow events p t events i u))
 
-inside-paid : (sys : System) (events : List Event) (p : ℕ) (t : Stamp) → ((s : Stamp) → leq s t ≡ true → owed sys (reverse events) p s ≡ false)
+inside-paid : (sys : System) (events : List Event) (p : ℕ) (t : Stamp) → ((s : Stamp) → leq s t ≡ true → is_owed_notice sys (reverse events) p s ≡ false)
     → inside (owed_stamps sys.flow events p events) t ≡ true
 inside-paid sys events p t h =
     inside-owed sys.flow events p t events (λ s k u.
@@ -175,8 +175,8 @@ inside-more xs i d t l = ap (λ ys. inside ys t) (take_more xs i d l) ∙ inside
 
 -- one stamp of the domain less
 pub less_one : (b : Bounds) (first f new : Front) (xs : List Stamp) (i : ℕ) (x : Stamp) → i < length xs → x ≡ get_or xs i x
-    → Names b f (λ t. frontier_of b first t && inside (take i xs) t) → Names b new (without_above x (frontier_of b f))
-    → Names b new (λ t. frontier_of b first t && inside (take (i + 1) xs) t)
+    → IsFrontOf b f (λ t. frontier_of b first t && inside (take i xs) t) → IsFrontOf b new (without_above x (frontier_of b f))
+    → IsFrontOf b new (λ t. frontier_of b first t && inside (take (i + 1) xs) t)
 less_one b first f new xs i x l e m n = record {
   canonical = n.canonical;
   same = λ t.
@@ -186,7 +186,7 @@ less_one b first f new xs i x l e m n = record {
 }
 
 -- a stamp that is none of the domain's does not count
-pub names_other : (b : Bounds) (f : Front) (x : Stamp) → IsCanonical b f → in_domain b x ≡ false → Names b f (without_above x (frontier_of b f))
+pub names_other : (b : Bounds) (f : Front) (x : Stamp) → IsCanonical b f → in_domain b x ≡ false → IsFrontOf b f (without_above x (frontier_of b f))
 names_other b f x c k = record { canonical = c; same = λ t. at t (in_domain b t) refl }
   where
     at : (t : Stamp) (d : Bool) → in_domain b t ≡ d → (d && inside f t) ≡ ((d && inside f t) && not (leq x t))
@@ -194,7 +194,7 @@ names_other b f x c k = record { canonical = c; same = λ t. at t (in_domain b t
     at t true j = sym (and-true (inside f t)) ∙ ap (λ c. inside f t && not c) (sym (false_from_ne_true (leq x t) (λ l. true≢false (sym (leq-trans x t b.greatest l j) ∙ k))))
 
 -- nothing is left out at first
-pub names_first : (b : Bounds) (f : Front) → IsCanonical b f → Names b f (λ t. frontier_of b f t && true)
+pub names_first : (b : Bounds) (f : Front) → IsCanonical b f → IsFrontOf b f (λ t. frontier_of b f t && true)
 names_first b f c = record { canonical = c; same = λ t. sym (and-true (frontier_of b f t)) }
 
 -- ---- lists that grow
@@ -208,22 +208,22 @@ flat_map_more f xs i d l =
 
 -- what is left of what is given without what is pending and owed is clear
 pub clear_is : (sys : System) (events : List Event) (p : ℕ) (b : Bounds) (f quiet front : Front) (waiting unpaid : List Stamp) → b ≡ bounds_of sys.flow p
-    → Names (bounds_of sys.flow p) f (given sys (reverse events) p)
+    → IsFrontOf (bounds_of sys.flow p) f (given_frontier sys (reverse events) p)
     → waiting ≡ pending_stamps sys (reverse events) p → unpaid ≡ owed_stamps sys.flow events p events
-    → Names b quiet (λ t. frontier_of b f t && inside waiting t)
-    → Names b front (λ t. frontier_of b quiet t && inside unpaid t)
+    → IsFrontOf b quiet (λ t. frontier_of b f t && inside waiting t)
+    → IsFrontOf b front (λ t. frontier_of b quiet t && inside unpaid t)
     → IsClear sys (reverse events) p front
 clear_is sys events p b f quiet front waiting unpaid be n w u m k =
     let h = reverse events in
     let bounds = bounds_of sys.flow p in
-    let is : (t : Stamp) → frontier_of bounds front t ≡ ((given sys h p t && inside (pending_stamps sys h p) t) && inside (owed_stamps sys.flow events p events) t) = λ t.
+    let is : (t : Stamp) → frontier_of bounds front t ≡ ((given_frontier sys h p t && inside (pending_stamps sys h p) t) && inside (owed_stamps sys.flow events p events) t) = λ t.
     ap (λ c. frontier_of c front t) (sym be) ∙ k.same t ∙ ap (λ c. c && inside unpaid t) (m.same t) ∙ ap (λ c. (frontier_of c f t && inside waiting t) && inside unpaid t) be
     ∙ ap (λ c. (c && inside waiting t) && inside unpaid t) (n.same t)
-    ∙ ap (λ xs. (given sys h p t && inside xs t) && inside unpaid t) w
-    ∙ ap (λ xs. (given sys h p t && inside (pending_stamps sys h p) t) && inside xs t) u in
-    let parts : (t : Stamp) → frontier_of bounds front t ≡ true → (given sys h p t ≡ true) × (inside (pending_stamps sys h p) t ≡ true) × (inside (owed_stamps sys.flow events p events) t ≡ true) = λ t i.
-    let a = and_parts (given sys h p t && inside (pending_stamps sys h p) t) (inside (owed_stamps sys.flow events p events) t) (sym (is t) ∙ i) in
-    let c = and_parts (given sys h p t) (inside (pending_stamps sys h p) t) a.0 in
+    ∙ ap (λ xs. (given_frontier sys h p t && inside xs t) && inside unpaid t) w
+    ∙ ap (λ xs. (given_frontier sys h p t && inside (pending_stamps sys h p) t) && inside xs t) u in
+    let parts : (t : Stamp) → frontier_of bounds front t ≡ true → (given_frontier sys h p t ≡ true) × (inside (pending_stamps sys h p) t ≡ true) × (inside (owed_stamps sys.flow events p events) t ≡ true) = λ t i.
+    let a = and_parts (given_frontier sys h p t && inside (pending_stamps sys h p) t) (inside (owed_stamps sys.flow events p events) t) (sym (is t) ∙ i) in
+    let c = and_parts (given_frontier sys h p t) (inside (pending_stamps sys h p) t) a.0 in
     (c.0, c.1, a.1) in
     record {
       canonical = subst (λ c. IsCanonical c front) be k.canonical;
@@ -237,8 +237,8 @@ clear_is sys events p b f quiet front waiting unpaid be n w u m k =
           let d = fr.inside_domain t i in
           let below : (s : Stamp) → leq s t ≡ true → other p s ≡ true = λ s l. fr.closed s t (leq-trans s t bounds.greatest l d) l i in
           is t ∙
-          and_from (given sys h p t && inside (pending_stamps sys h p) t) (inside (owed_stamps sys.flow events p events) t)
-          (and_from (given sys h p t) (inside (pending_stamps sys h p) t)
+          and_from (given_frontier sys h p t && inside (pending_stamps sys h p) t) (inside (owed_stamps sys.flow events p events) t)
+          (and_from (given_frontier sys h p t) (inside (pending_stamps sys h p) t)
           (and_from (in_domain bounds t) (not (is_input_kind (kind_of sys.flow p)) || injected_epochs sys h p t) d
           (source_at (is_input_kind (kind_of sys.flow p)) (injected_epochs sys h p t) (λ s. a.source p s t i)))
           (inside-quiet sys h p t (λ s l. a.quiet p s (below s l))))
@@ -251,35 +251,35 @@ clear_is sys events p b f quiet front waiting unpaid be n w u m k =
 
 -- ---- what is given
 
-epoch-before : (n : ℕ) (t : Stamp) → leq t (greatest_number ∷ []) ≡ true → (not (leq (n ∷ []) t) && true) ≡ nat_lt (first_number_of t) n
+epoch-before : (n : ℕ) (t : Stamp) → leq t (greatest_number ∷ []) ≡ true → (not (leq (n ∷ []) t) && true) ≡ nat_lt (first_coordinate t) n
 epoch-before n t l =
     let a = in_line t greatest_number l in
-    subst (λ u. (not (leq (n ∷ []) u) && true) ≡ nat_lt (first_number_of u) n) (sym a.1) (lt a.0)
+    subst (λ u. (not (leq (n ∷ []) u) && true) ≡ nat_lt (first_coordinate u) n) (sym a.1) (lt a.0)
   where
     lt : (k : ℕ) → (not (nat_le n k && true) && true) ≡ nat_lt k n
     lt k = grind (arith, nat_tests)
 
 -- the epochs before the next one to be injected
 pub given_until : (sys : System) (h : List Event) (p n : ℕ) (s : Stamp) (f : Front) → is_input_kind (kind_of sys.flow p) ≡ true → is_exhausted sys h p ≡ false → n ≡ injected_count p h
-    → s ≡ n ∷ [] → Names (bounds_of sys.flow p) f (frontier_of (bounds_of sys.flow p) (s ∷ [])) → Names (bounds_of sys.flow p) f (given sys h p)
+    → s ≡ n ∷ [] → IsFrontOf (bounds_of sys.flow p) f (frontier_of (bounds_of sys.flow p) (s ∷ [])) → IsFrontOf (bounds_of sys.flow p) f (given_frontier sys h p)
 given_until sys h p n s f k x e q names =
     let b = bounds_of sys.flow p in
-    let m = subst (λ r. Names b f (frontier_of b (r ∷ []))) q names in
+    let m = subst (λ r. IsFrontOf b f (frontier_of b (r ∷ []))) q names in
     record {
       canonical = m.canonical;
       same = λ t. m.same t ∙ at t (in_domain b t) refl ∙ ap (λ c. in_domain b t && (not c || injected_epochs sys h p t)) (sym k);
     }
   where
-    at : (t : Stamp) (d : Bool) → in_domain (bounds_of sys.flow p) t ≡ d → (d && inside ((n ∷ []) ∷ []) t) ≡ (d && (not true || (in_domain (bounds_of sys.flow p) t && (is_exhausted sys h p || nat_lt (first_number_of t) (injected_count p h)))))
+    at : (t : Stamp) (d : Bool) → in_domain (bounds_of sys.flow p) t ≡ d → (d && inside ((n ∷ []) ∷ []) t) ≡ (d && (not true || (in_domain (bounds_of sys.flow p) t && (is_exhausted sys h p || nat_lt (first_coordinate t) (injected_count p h)))))
     at t false j = refl
     at t true j =
         epoch-before n t (sym (ap (λ (c : Bounds). in_domain c t) (input-bounds sys.flow p k)) ∙ j)
-        ∙ ap (nat_lt (first_number_of t)) e
-        ∙ (λ i. sym j i && (sym x i || nat_lt (first_number_of t) (injected_count p h)))
+        ∙ ap (nat_lt (first_coordinate t)) e
+        ∙ (λ i. sym j i && (sym x i || nat_lt (first_coordinate t) (injected_count p h)))
 
 -- an input that injected more than all epochs gives all
 pub given_past : (sys : System) (h : List Event) (p : ℕ) (f : Front) → f ≡ [] → is_input_kind (kind_of sys.flow p) ≡ true → 2 ^ 32 ≤ injected_count p h
-    → Names (bounds_of sys.flow p) f (given sys h p)
+    → IsFrontOf (bounds_of sys.flow p) f (given_frontier sys h p)
 given_past sys h p f e k l = record {
   canonical = subst (IsCanonical (bounds_of sys.flow p)) (sym e) tt;
   same = λ t. ap (λ os. frontier_of (bounds_of sys.flow p) os t) e ∙ at t (in_domain (bounds_of sys.flow p) t) refl ∙ ap (λ c. in_domain (bounds_of sys.flow p) t && (not c || injected_epochs sys h p t)) (sym k);
@@ -292,13 +292,13 @@ given_past sys h p f e k l = record {
     less : (n m : ℕ) → n ≤ greatest_number → 2 ^ 32 ≤ m → nat_lt n m ≡ true
     less n m a b = grind (arith, nat_tests)
 
-    at : (t : Stamp) (d : Bool) → in_domain (bounds_of sys.flow p) t ≡ d → (d && true) ≡ (d && (not true || (in_domain (bounds_of sys.flow p) t && (is_exhausted sys h p || nat_lt (first_number_of t) (injected_count p h)))))
+    at : (t : Stamp) (d : Bool) → in_domain (bounds_of sys.flow p) t ≡ d → (d && true) ≡ (d && (not true || (in_domain (bounds_of sys.flow p) t && (is_exhausted sys h p || nat_lt (first_coordinate t) (injected_count p h)))))
     at t false j = refl
     at t true j =
         let a = in_line t greatest_number (sym (ap (λ (c : Bounds). in_domain c t) (input-bounds sys.flow p k)) ∙ j) in
-        all (is_exhausted sys h p) (nat_lt (first_number_of t) (injected_count p h))
-        (less (first_number_of t) (injected_count p h) (subst (λ u. first_number_of u ≤ greatest_number) (sym a.1) a.2) l)
-        ∙ ap (λ c. c && (is_exhausted sys h p || nat_lt (first_number_of t) (injected_count p h))) (sym j)
+        all (is_exhausted sys h p) (nat_lt (first_coordinate t) (injected_count p h))
+        (less (first_coordinate t) (injected_count p h) (subst (λ u. first_coordinate u ≤ greatest_number) (sym a.1) a.2) l)
+        ∙ ap (λ c. c && (is_exhausted sys h p || nat_lt (first_coordinate t) (injected_count p h))) (sym j)
 
 -- the domain of an input has each epoch
 pub epoch-in_domain : (flow : Dataflow) (p n : ℕ) (s : Stamp) → is_input_kind (kind_of flow p) ≡ true → n < 2 ^ 32 → s ≡ n ∷ [] → in_domain (bounds_of flow p) s ≡ true
@@ -319,11 +319,11 @@ owed_by_none flow events p e m v b is k t =
 -- ---- what is pending on one edge more
 
 pub pending_more : (sys : System) (h : List Event) (edges : List ℕ) (i e : ℕ) (old new : List Stamp) (ms read : List Message) → i < length edges → e ≡ get_or edges i e
-    → old ≡ flat_map (λ d. map (λ (m : Message). m.at) (pending sys h d)) (take i edges) → ms ≡ pending sys h e → read ≡ ms
+    → old ≡ flat_map (λ d. map (λ (m : Message). m.at) (pending_messages sys h d)) (take i edges) → ms ≡ pending_messages sys h e → read ≡ ms
     → new ≡ old ++ map (λ (m : Message). m.at) read
-    → new ≡ flat_map (λ d. map (λ (m : Message). m.at) (pending sys h d)) (take (i + 1) edges)
+    → new ≡ flat_map (λ d. map (λ (m : Message). m.at) (pending_messages sys h d)) (take (i + 1) edges)
 pending_more sys h edges i e old new ms read l is o p r n =
-    let stamps_on : ℕ → List Stamp = λ d. map (λ (m : Message). m.at) (pending sys h d) in
+    let stamps_on : ℕ → List Stamp = λ d. map (λ (m : Message). m.at) (pending_messages sys h d) in
     n ∙ ap (λ xs. old ++ map (λ (m : Message). m.at) xs) (r ∙ p) ∙ ap (λ xs. xs ++ stamps_on e) o
     ∙ ap (λ d. flat_map stamps_on (take i edges) ++ stamps_on d) is
     ∙ sym (flat_map_more stamps_on edges i e l)

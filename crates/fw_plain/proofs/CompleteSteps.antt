@@ -12,19 +12,19 @@ use Rattle.fw_time.specs.Stamp.{Stamp, in_domain}
 use Rattle.fw_time.specs.declared.stamp.Bounds.{Bounds}
 use Rattle.fw_time.proofs.EachLaws.{each-prefix, each-suffix, each-of_all, all-of_each}
 use Rattle.fw_frontier.specs.Frontier.{Frontier, Within, meet}
-use Rattle.fw_frontier.specs.Front.{Front, inside, frontier_of, IsCanonical, Names}
+use Rattle.fw_frontier.specs.Front.{Front, inside, frontier_of, IsCanonical, IsFrontOf}
 use Rattle.fw_frontier.proofs.NamesLaws.{frontier-closed, is_within-inside, within-is}
 use Rattle.fw_flow.specs.declared.event.Event.{Event}
 use Rattle.fw_flow.specs.declared.event.Event.TheVariants.{Inject, Deliver, Notify}
 use Rattle.fw_flow.specs.declared.event.Message.{Message}
 use Rattle.fw_flow.specs.declared.kind.Kind.TheVariants.{Sequence, OutputEpoch}
 use Rattle.fw_flow.specs.Dataflow.{System, Dataflow, kind_of, sender, receiver, in_edges, bounds_of, bounds_of_domain, domain_of_kind, greatest_number, is_input_kind, is_notified_kind}
-use Rattle.fw_flow.specs.NodeFunction.{place, stamp, sends}
+use Rattle.fw_flow.specs.NodeFunction.{event_node, event_stamp, sends}
 use Rattle.fw_flow.specs.Projection.{events_at, phi, table_count, IsSentTable}
 use Rattle.fw_flow.specs.WellFormed.{IsWellFormed}
-use Rattle.fw_model.specs.History.{owed, was_delivered_to, was_notified, injected_epochs, IsQuiet, IsAdmissible, IsComplete, AreAtNodes}
+use Rattle.fw_model.specs.History.{is_owed_notice, was_delivered_to, was_notified, injected_epochs, IsQuiet, IsAdmissible, IsComplete, AreAtNodes}
 use Rattle.fw_model.specs.Machine.{front_of, family_of, AreCanonical}
-use Rattle.fw_plain.specs.Clear.{lowered, notified_epoch, IsClear}
+use Rattle.fw_plain.specs.Clear.{lowered_frontier, notified_epoch, IsClear}
 use Rattle.fw_model.proofs.StampLaws.{in_line}
 use Rattle.fw_model.proofs.PhiLaws.{phi-monotone}
 use Rattle.fw_plain.proofs.EventSteps.{history_more}
@@ -80,17 +80,17 @@ left_by sys h family edges f t = f t && list_all (λ e. phi sys h e (family (sen
 
 -- what comes on an in-edge is in the domain of the node
 pub arrived_here : (sys : System) (p : ℕ) (arrived : Front) (edges : List ℕ) (i e : ℕ) (f : Frontier) → edges ≡ in_edges sys.flow p → i < length edges → e ≡ get_or edges i e
-    → Names (bounds_of sys.flow (receiver sys.flow e)) arrived f → Names (bounds_of sys.flow p) arrived f
+    → IsFrontOf (bounds_of sys.flow (receiver sys.flow e)) arrived f → IsFrontOf (bounds_of sys.flow p) arrived f
 arrived_here sys p arrived edges i e f es l is n =
     let each : AllByRecursion (λ d. receiver sys.flow d ≡ p) (in_edges sys.flow p) = in_edges-from (λ d. receiver sys.flow d ≡ p) sys.flow p (λ d m r. r) in
     let here : receiver sys.flow e ≡ p = subst (λ d. receiver sys.flow d ≡ p) (sym is) (each_at (λ d. receiver sys.flow d ≡ p) edges i e (subst (AllByRecursion (λ d. receiver sys.flow d ≡ p)) (sym es) each) l) in
-    subst (λ q. Names (bounds_of sys.flow q) arrived f) here n
+    subst (λ q. IsFrontOf (bounds_of sys.flow q) arrived f) here n
 
 pub lowered_more : (sys : System) (h : List Event) (family : ℕ → Frontier) (p : ℕ) (f : Frontier) (old arrived new : Front) (edges : List ℕ) (i e : ℕ) → i < length edges → e ≡ get_or edges i e
-    → Names (bounds_of sys.flow p) old (left_by sys h family (take i edges) f)
-    → Names (bounds_of sys.flow p) arrived (phi sys h e (family (sender sys.flow e)))
-    → Names (bounds_of sys.flow p) new (meet (frontier_of (bounds_of sys.flow p) old) (frontier_of (bounds_of sys.flow p) arrived))
-    → Names (bounds_of sys.flow p) new (left_by sys h family (take (i + 1) edges) f)
+    → IsFrontOf (bounds_of sys.flow p) old (left_by sys h family (take i edges) f)
+    → IsFrontOf (bounds_of sys.flow p) arrived (phi sys h e (family (sender sys.flow e)))
+    → IsFrontOf (bounds_of sys.flow p) new (meet (frontier_of (bounds_of sys.flow p) old) (frontier_of (bounds_of sys.flow p) arrived))
+    → IsFrontOf (bounds_of sys.flow p) new (left_by sys h family (take (i + 1) edges) f)
 lowered_more sys h family p f old arrived new edges i e l is o a n =
     record {
       canonical = n.canonical;
@@ -107,25 +107,25 @@ pub canonical_at : (flow : Dataflow) (fronts : List Front) (p q : ℕ) (f : Fron
 canonical_at flow fronts p q f c e is = subst (IsCanonical (bounds_of flow p)) (sym (is ∙ ap (front_of fronts) e)) (c p)
 
 pub phi_at : (sys : System) (h : List Event) (e q : ℕ) (fronts : List Front) (f g : Front) → q ≡ sender sys.flow e → f ≡ front_of fronts q
-    → Names (bounds_of sys.flow (receiver sys.flow e)) g (phi sys h e (frontier_of (bounds_of sys.flow (sender sys.flow e)) f))
-    → Names (bounds_of sys.flow (receiver sys.flow e)) g (phi sys h e (family_of sys.flow fronts (sender sys.flow e)))
+    → IsFrontOf (bounds_of sys.flow (receiver sys.flow e)) g (phi sys h e (frontier_of (bounds_of sys.flow (sender sys.flow e)) f))
+    → IsFrontOf (bounds_of sys.flow (receiver sys.flow e)) g (phi sys h e (family_of sys.flow fronts (sender sys.flow e)))
 phi_at sys h e q fronts f g s is n =
-    subst (λ os. Names (bounds_of sys.flow (receiver sys.flow e)) g (phi sys h e (frontier_of (bounds_of sys.flow (sender sys.flow e)) os))) (is ∙ ap (front_of fronts) s) n
+    subst (λ os. IsFrontOf (bounds_of sys.flow (receiver sys.flow e)) g (phi sys h e (frontier_of (bounds_of sys.flow (sender sys.flow e)) os))) (is ∙ ap (front_of fronts) s) n
 
 pub lowered_at : (sys : System) (h : List Event) (fronts : List Front) (p q : ℕ) (f g : Front) → q ≡ p → f ≡ front_of fronts q
-    → Names (bounds_of sys.flow q) g (lowered sys h (family_of sys.flow fronts) q (frontier_of (bounds_of sys.flow q) f))
-    → Names (bounds_of sys.flow p) g (lowered sys h (family_of sys.flow fronts) p (family_of sys.flow fronts p))
+    → IsFrontOf (bounds_of sys.flow q) g (lowered_frontier sys h (family_of sys.flow fronts) q (frontier_of (bounds_of sys.flow q) f))
+    → IsFrontOf (bounds_of sys.flow p) g (lowered_frontier sys h (family_of sys.flow fronts) p (family_of sys.flow fronts p))
 lowered_at sys h fronts p q f g e is n =
-    subst (λ r. Names (bounds_of sys.flow r) g (lowered sys h (family_of sys.flow fronts) r (family_of sys.flow fronts r))) e
-    (subst (λ os. Names (bounds_of sys.flow q) g (lowered sys h (family_of sys.flow fronts) q (frontier_of (bounds_of sys.flow q) os))) is n)
+    subst (λ r. IsFrontOf (bounds_of sys.flow r) g (lowered_frontier sys h (family_of sys.flow fronts) r (family_of sys.flow fronts r))) e
+    (subst (λ os. IsFrontOf (bounds_of sys.flow q) g (lowered_frontier sys h (family_of sys.flow fronts) q (frontier_of (bounds_of sys.flow q) os))) is n)
 
 -- ---- what a sequence sent
 
 pub at_nodes_at : (flow : Dataflow) (events : List Event) (i : ℕ) (v : Event) → AreAtNodes flow (reverse events) → i < length events → v ≡ get_or events i v
-    → in_domain (bounds_of flow (place flow v)) (stamp v) ≡ true
+    → in_domain (bounds_of flow (event_node flow v)) (event_stamp v) ≡ true
 at_nodes_at flow events i v a l is =
-    subst (λ w. in_domain (bounds_of flow (place flow w)) (stamp w) ≡ true) (sym is)
-    (each_at (λ w. in_domain (bounds_of flow (place flow w)) (stamp w) ≡ true) events i v (unreversed _ events a) l)
+    subst (λ w. in_domain (bounds_of flow (event_node flow w)) (event_stamp w) ≡ true) (sym is)
+    (each_at (λ w. in_domain (bounds_of flow (event_node flow w)) (event_stamp w) ≡ true) events i v (unreversed _ events a) l)
   where
     unreversed : (P : Event → Type 0) (vs : List Event) → AllByRecursion P (reverse vs) → AllByRecursion P vs
     unreversed P [] b = tt
@@ -137,7 +137,7 @@ sequence-epoch : (flow : Dataflow) (p : ℕ) → kind_of flow p ≡ Sequence →
 unfolding bounds_of
 sequence-epoch flow p k = ap (λ kind. bounds_of_domain flow (domain_of_kind flow kind)) k
 
-notified_is : (flow : Dataflow) (p x : ℕ) (v : Event) → kind_of flow p ≡ Sequence → in_domain (bounds_of flow (place flow v)) (stamp v) ≡ true → Some x ≡ notified_epoch p v
+notified_is : (flow : Dataflow) (p x : ℕ) (v : Event) → kind_of flow p ≡ Sequence → in_domain (bounds_of flow (event_node flow v)) (event_stamp v) ≡ true → Some x ≡ notified_epoch p v
     → v ≡ Notify p (x ∷ [])
 notified_is flow p x (Inject s y) k d e = absurd (cc)
 notified_is flow p x (Deliver s m) k d e = absurd (cc)
@@ -152,7 +152,7 @@ notified_is flow p x (Notify q (y ∷ t)) k d e = at (q == p) refl e
         let whole = line.1 in
         cc
 
-not_notified : (flow : Dataflow) (p : ℕ) (v : Event) → kind_of flow p ≡ Sequence → in_domain (bounds_of flow (place flow v)) (stamp v) ≡ true → None ≡ notified_epoch p v
+not_notified : (flow : Dataflow) (p : ℕ) (v : Event) → kind_of flow p ≡ Sequence → in_domain (bounds_of flow (event_node flow v)) (event_stamp v) ≡ true → None ≡ notified_epoch p v
     → is_notification_of p v ≡ false
 not_notified flow p (Inject s y) k d e = refl
 not_notified flow p (Deliver s m) k d e = refl
@@ -173,14 +173,14 @@ not_notified flow p (Notify q (y ∷ t)) k d e = at (q == p) e
 -- a notification more
 pub table_more : (sys : System) (p : ℕ) (events : List Event) (i : ℕ) (v : Event) (x : ℕ) (ms : List Message) (table new : List (ℕ × ℕ)) → AreAtNodes sys.flow (reverse events)
     → i < length events → v ≡ get_or events i v → Some x ≡ notified_epoch p v
-    → ms ≡ sends sys (place sys.flow v) (events_at sys.flow (place sys.flow v) (reverse (take i events))) v → new ≡ table ++ (x, length ms) ∷ []
+    → ms ≡ sends sys (event_node sys.flow v) (events_at sys.flow (event_node sys.flow v) (reverse (take i events))) v → new ≡ table ++ (x, length ms) ∷ []
     → (kind_of sys.flow p ≡ Sequence → IsSentTable sys (reverse (take i events)) p table)
     → kind_of sys.flow p ≡ Sequence → IsSentTable sys (reverse (take (i + 1) events)) p new
 table_more sys p events i v x ms table new a l is e m n old k =
     let h = reverse (take i events) in
     let it : v ≡ Notify p (x ∷ []) = notified_is sys.flow p x v k (at_nodes_at sys.flow events i v a l is) e in
     let history : reverse (take (i + 1) events) ≡ Notify p (x ∷ []) ∷ h = history_more events i v l ∙ ap (λ w. w ∷ h) (sym is ∙ it) in
-    let sent : ms ≡ sends sys p (events_at sys.flow p h) (Notify p (x ∷ [])) = m ∙ ap (λ w. sends sys (place sys.flow w) (events_at sys.flow (place sys.flow w) h) w) it in
+    let sent : ms ≡ sends sys p (events_at sys.flow p h) (Notify p (x ∷ [])) = m ∙ ap (λ w. sends sys (event_node sys.flow w) (events_at sys.flow (event_node sys.flow w) h) w) it in
     subst (λ xs. IsSentTable sys xs p new) (sym history)
     (subst (λ xs. IsSentTable sys (Notify p (x ∷ []) ∷ h) p xs) (sym (n ∙ ap (λ xs. table ++ (x, length xs) ∷ []) sent))
     ((table-follows sys p k).grows h table x (old k)))
@@ -223,7 +223,7 @@ pub record IsAbove (sys : System) (h : List Event) (fronts : List Front) : Type 
   pub one_each : length fronts ≡ length sys.flow.nodes
   pub canonical : (p : ℕ) → p < length sys.flow.nodes → IsCanonical (bounds_of sys.flow p) (front_of fronts p)
   pub quiet : (p : ℕ) → p < length sys.flow.nodes → (t : Stamp) → family_of sys.flow fronts p t ≡ true → IsQuiet sys h p t
-  pub paid : (p : ℕ) → p < length sys.flow.nodes → (t : Stamp) → family_of sys.flow fronts p t ≡ true → owed sys h p t ≡ false
+  pub paid : (p : ℕ) → p < length sys.flow.nodes → (t : Stamp) → family_of sys.flow fronts p t ≡ true → is_owed_notice sys h p t ≡ false
   pub source : (p : ℕ) → p < length sys.flow.nodes → is_input_kind (kind_of sys.flow p) ≡ true → Within (family_of sys.flow fronts p) (injected_epochs sys h p)
   pub largest : (other : ℕ → Frontier) → IsAdmissible sys h other → (p : ℕ) → Within (other p) (family_of sys.flow fronts p)
 
@@ -247,7 +247,7 @@ above_clear sys h fronts c k = record {
 
 -- what is left after a pass over the nodes
 abbrev pub AreLowered : System → List Event → List Front → List Front → Type 0
-AreLowered sys h fronts lower = (p : ℕ) → p < length sys.flow.nodes → Names (bounds_of sys.flow p) (front_of lower p) (lowered sys h (family_of sys.flow fronts) p (family_of sys.flow fronts p))
+AreLowered sys h fronts lower = (p : ℕ) → p < length sys.flow.nodes → IsFrontOf (bounds_of sys.flow p) (front_of lower p) (lowered_frontier sys h (family_of sys.flow fronts) p (family_of sys.flow fronts p))
 
 lowered-within : (sys : System) (h : List Event) (fronts lower : List Front) → AreLowered sys h fronts lower → (p : ℕ) → p < length sys.flow.nodes
     → Within (family_of sys.flow lower p) (family_of sys.flow fronts p)

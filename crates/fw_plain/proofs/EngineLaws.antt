@@ -17,14 +17,14 @@ use Rattle.fw_flow.specs.declared.kind.Policy.{Policy}
 use Rattle.fw_flow.specs.declared.kind.Policy.TheVariants as policy
 use Rattle.fw_flow.specs.declared.step.Step.{Step}
 use Rattle.fw_flow.specs.declared.step.Step.TheVariants.{Inject, Deliver, Notify, Progress, Checkpoint, Persist, Fail, Recover, Collect, Ack}
-use Rattle.fw_flow.specs.Dataflow.{System, Dataflow, policy_of, receiver, bounds_of, NotifiesNobody, KeepsNothing, places, HasEpochs}
-use Rattle.fw_flow.specs.NodeFunction.{place, stamp}
+use Rattle.fw_flow.specs.Dataflow.{System, Dataflow, policy_of, receiver, bounds_of, NotifiesNobody, KeepsNothing, node_ids, HasEpochs}
+use Rattle.fw_flow.specs.NodeFunction.{event_node, event_stamp}
 use Rattle.fw_flow.specs.Projection.{events_at}
 use Rattle.fw_flow.specs.WellFormed.{IsWellFormedSystem}
 use Rattle.fw_model.specs.Choice.{cut_of}
 use Rattle.fw_model.specs.History.{IsLegal, IsNextBatch, AreAtNodes}
 use Rattle.fw_model.specs.Machine.{Machine, Write, events, first_state, front_of, is_failed, no_stamps}
-use Rattle.fw_model.specs.Steps.{Effect, quiet, Outcome, did, idle, with_event, write_of_event, LeadsTo, Steps, IsNextMessage, GrowsTo, CutsTo, IsSettledCut}
+use Rattle.fw_model.specs.Steps.{Effect, silent, Outcome, did, idle, with_event, write_of_event, LeadsTo, StepsTo, IsNextMessage, GrowsTo, CutsTo, IsSettledCut}
 use Rattle.fw_model.proofs.DomainLaws.{has_epochs}
 use Rattle.fw_model.proofs.GoingOn.{runs-go_on}
 use Rattle.fw_model.proofs.LegalLaws.{legal_events-in_domain}
@@ -36,14 +36,14 @@ use Rattle.fw_plain.proofs.FrontsLaws.{names-no_stamps}
 
 -- ---- runs
 
-reached_more : (sys : System) (state next : Machine) (step : Step) (outcome : Outcome) → IsReached sys state → Steps sys state step next outcome → IsReached sys next
+reached_more : (sys : System) (state next : Machine) (step : Step) (outcome : Outcome) → IsReached sys state → StepsTo sys state step next outcome → IsReached sys next
 reached_more sys state next step outcome r t =
     (r.0 ++ step ∷ [], r.1 ++ outcome ∷ [], runs-go_on sys (first_state sys) state next r.0 (step ∷ []) r.1 (outcome ∷ []) r.2 (next, t, refl))
 
 -- ---- what the state says of each node
 
--- a state with the same settled frontiers, failed nodes and bounds
-same_each : (sys : System) (state next : Machine) → next.settled ≡ state.settled → next.failed ≡ state.failed → length next.bounds ≡ length state.bounds
+-- a state with the same settled frontiers, failed nodes and ack_counts
+same_each : (sys : System) (state next : Machine) → next.settled ≡ state.settled → next.failed ≡ state.failed → length next.ack_counts ≡ length state.ack_counts
     → IsOfEachNode sys state → IsOfEachNode sys next
 same_each sys state next s f b i = record {
   one_front_each = ap length s ∙ i.one_front_each;
@@ -53,7 +53,7 @@ same_each sys state next s f b i = record {
 }
 
 grown_each : (sys : System) (state next : Machine) (done : ℕ → Stamp → Bool) → GrowsTo sys state done next.settled → next.failed ≡ state.failed
-    → next.bounds ≡ state.bounds → IsOfEachNode sys state → IsOfEachNode sys next
+    → next.ack_counts ≡ state.ack_counts → IsOfEachNode sys state → IsOfEachNode sys next
 grown_each sys state next done g f b i = record {
   one_front_each = g.one_each;
   canonical = λ p l. at p l (is_failed state p) refl;
@@ -65,7 +65,7 @@ grown_each sys state next done g f b i = record {
     at p l true e = subst (IsCanonical (bounds_of sys.flow p)) (sym (g.failed p l e)) (i.canonical p l)
     at p l false e = (g.each p l e).canonical
 
-flags_each : (sys : System) (state next : Machine) → next.settled ≡ state.settled → length next.failed ≡ length sys.flow.nodes → next.bounds ≡ state.bounds
+flags_each : (sys : System) (state next : Machine) → next.settled ≡ state.settled → length next.failed ≡ length sys.flow.nodes → next.ack_counts ≡ state.ack_counts
     → IsOfEachNode sys state → IsOfEachNode sys next
 flags_each sys state next s f b i = record {
   one_front_each = ap length s ∙ i.one_front_each;
@@ -75,7 +75,7 @@ flags_each sys state next s f b i = record {
 }
 
 cut_each : (sys : System) (state next : Machine) (choice : Choice) → CutsTo sys state choice next.settled → length next.failed ≡ length sys.flow.nodes
-    → next.bounds ≡ state.bounds → IsOfEachNode sys state → IsOfEachNode sys next
+    → next.ack_counts ≡ state.ack_counts → IsOfEachNode sys state → IsOfEachNode sys next
 cut_each sys state next choice c f b i = record {
   one_front_each = c.one_each;
   canonical = λ p l. at p l (cut_of choice p) (c.each p l);
@@ -93,30 +93,30 @@ length_set xs k y = grind (arith, common_steps)
 
 each_took : (sys : System) (state : Machine) (step : Step) (next : Machine) (effect : Effect) → is_plain_step step ≡ true → LeadsTo sys state step next effect
     → IsOfEachNode sys state → IsOfEachNode sys next
-each_took sys state (Inject s) next effect k t i = same_each sys state next (ap (λ m. m.settled) t.3) (ap (λ m. m.failed) t.3) (ap (λ m. length m.bounds) t.3) i
-each_took sys state (Deliver d at) next effect k t i = same_each sys state next (ap (λ m. m.settled) t.3) (ap (λ m. m.failed) t.3) (ap (λ m. length m.bounds) t.3) i
-each_took sys state (Notify p at) next effect k t i = same_each sys state next (ap (λ m. m.settled) t.3) (ap (λ m. m.failed) t.3) (ap (λ m. length m.bounds) t.3) i
+each_took sys state (Inject s) next effect k t i = same_each sys state next (ap (λ m. m.settled) t.3) (ap (λ m. m.failed) t.3) (ap (λ m. length m.ack_counts) t.3) i
+each_took sys state (Deliver d at) next effect k t i = same_each sys state next (ap (λ m. m.settled) t.3) (ap (λ m. m.failed) t.3) (ap (λ m. length m.ack_counts) t.3) i
+each_took sys state (Notify p at) next effect k t i = same_each sys state next (ap (λ m. m.settled) t.3) (ap (λ m. m.failed) t.3) (ap (λ m. length m.ack_counts) t.3) i
 each_took sys state Progress next effect k t i =
-    grown_each sys state next t.0 (subst (GrowsTo sys state t.0) (sym (ap (λ m. m.settled) t.3)) t.2) (ap (λ m. m.failed) t.3) (ap (λ m. m.bounds) t.3) i
+    grown_each sys state next t.0 (subst (GrowsTo sys state t.0) (sym (ap (λ m. m.settled) t.3)) t.2) (ap (λ m. m.failed) t.3) (ap (λ m. m.ack_counts) t.3) i
 each_took sys state (Checkpoint p) next effect k t i = absurd (cc)
 each_took sys state Persist next effect k t i = absurd (cc)
 each_took sys state (Fail ps) next effect k t i =
-    flags_each sys state next (ap (λ m. m.settled) t.4) (ap (λ m. length m.failed) t.4 ∙ length-map-range_with_len _ 0 (length sys.flow.nodes)) (ap (λ m. m.bounds) t.4) i
+    flags_each sys state next (ap (λ m. m.settled) t.4) (ap (λ m. length m.failed) t.4 ∙ length-map-range_with_len _ 0 (length sys.flow.nodes)) (ap (λ m. m.ack_counts) t.4) i
 each_took sys state Recover next effect k t i =
     cut_each sys state next t.1 (subst (CutsTo sys state t.1) (sym (ap (λ m. m.settled) t.7)) t.6)
-    (ap (λ m. length m.failed) t.7 ∙ length-map-range_with_len _ 0 (length sys.flow.nodes)) (ap (λ m. m.bounds) t.7) i
+    (ap (λ m. length m.failed) t.7 ∙ length-map-range_with_len _ 0 (length sys.flow.nodes)) (ap (λ m. m.ack_counts) t.7) i
 each_took sys state Collect next effect k t i = absurd (cc)
 each_took sys state (Ack o) next effect k t i =
-    same_each sys state next (ap (λ m. m.settled) t.2) (ap (λ m. m.failed) t.2) (ap (λ m. length m.bounds) t.2 ∙ length_set state.bounds o (t.0 + 1)) i
+    same_each sys state next (ap (λ m. m.settled) t.2) (ap (λ m. m.failed) t.2) (ap (λ m. length m.ack_counts) t.2 ∙ length_set state.ack_counts o (t.0 + 1)) i
 
-each_step : (sys : System) (state : Machine) (step : Step) (next : Machine) (outcome : Outcome) → is_plain_step step ≡ true → Steps sys state step next outcome
+each_step : (sys : System) (state : Machine) (step : Step) (next : Machine) (outcome : Outcome) → is_plain_step step ≡ true → StepsTo sys state step next outcome
     → IsOfEachNode sys state → IsOfEachNode sys next
 each_step sys state step next (did effect) k t i = each_took sys state step next effect k t i
 each_step sys state step next idle k t i = subst (IsOfEachNode sys) (sym t.1) i
 
 -- a step of the plain engine leads from a sound state to a sound one
 pub sound_after : (sys : System) (state : Machine) (step : Step) (next : Machine) (outcome : Outcome) → is_plain_step step ≡ true → IsSound sys state
-    → Steps sys state step next outcome → IsSound sys next
+    → StepsTo sys state step next outcome → IsSound sys next
 sound_after sys state step next outcome k i t = record {
   well_formed = i.well_formed;
   keeps_nothing = i.keeps_nothing;
@@ -149,7 +149,7 @@ same_from x a zero = refl
 same_from x a (suc n) = ap (λ xs. x ∷ xs) (same_from x (a + 1) n)
 
 -- the same for each node
-pub same_for_each : {A : Type 0} (x : A) (flow : Dataflow) → replicate (length flow.nodes) x ≡ map (λ p. x) (places flow)
+pub same_for_each : {A : Type 0} (x : A) (flow : Dataflow) → replicate (length flow.nodes) x ≡ map (λ p. x) (node_ids flow)
 same_for_each x flow = same_from x 0 (length flow.nodes)
 
 -- ---- what is true of a sound state
@@ -163,12 +163,12 @@ legal_of sys state i =
     let r = i.reached in runs-legal sys r.0 r.1 state i.well_formed.flow (epochs_of sys state i) r.2
 
 -- the events are at stamps of their nodes' domains
-first_at : (flow : Dataflow) (v : Event) (h : List Event) → AllByRecursion (λ w. in_domain (bounds_of flow (place flow v)) (stamp w) ≡ true) (events_at flow (place flow v) (v ∷ h))
-    → in_domain (bounds_of flow (place flow v)) (stamp v) ≡ true
-first_at flow v h a = by (place flow v == place flow v) (grind (arith, nat_tests)) a
+first_at : (flow : Dataflow) (v : Event) (h : List Event) → AllByRecursion (λ w. in_domain (bounds_of flow (event_node flow v)) (event_stamp w) ≡ true) (events_at flow (event_node flow v) (v ∷ h))
+    → in_domain (bounds_of flow (event_node flow v)) (event_stamp v) ≡ true
+first_at flow v h a = by (event_node flow v == event_node flow v) (grind (arith, nat_tests)) a
   where
-    by : (b : Bool) → b ≡ true → AllByRecursion (λ w. in_domain (bounds_of flow (place flow v)) (stamp w) ≡ true) (cond b (v ∷ events_at flow (place flow v) h) (events_at flow (place flow v) h))
-        → in_domain (bounds_of flow (place flow v)) (stamp v) ≡ true
+    by : (b : Bool) → b ≡ true → AllByRecursion (λ w. in_domain (bounds_of flow (event_node flow v)) (event_stamp w) ≡ true) (cond b (v ∷ events_at flow (event_node flow v) h) (events_at flow (event_node flow v) h))
+        → in_domain (bounds_of flow (event_node flow v)) (event_stamp v) ≡ true
     by true e a = a.0
     by false e a = absurd (cc)
 
@@ -178,7 +178,7 @@ at_nodes sys state i = each (events state.history) (legal_of sys state i)
     each : (h : List Event) → IsLegal sys h → AreAtNodes sys.flow h
     each [] l = tt
     each (v ∷ h) l =
-        (first_at sys.flow v h (legal_events-in_domain sys (v ∷ h) i.well_formed.flow (epochs_of sys state i) l (place sys.flow v)), each h l.1)
+        (first_at sys.flow v h (legal_events-in_domain sys (v ∷ h) i.well_formed.flow (epochs_of sys state i) l (event_node sys.flow v)), each h l.1)
 
 -- ---- the steps that add an event
 
@@ -186,43 +186,43 @@ no_write : (kept : Policy) (p n : ℕ) → kept ≡ policy.None → [] ≡ write
 no_write kept p n e = ap (λ k. write_of_event k p n) (sym e)
 
 -- an event that is added is the machine's next event
-with_event_added : (sys : System) (past : Past) (settled : List Front) (failed : List Bool) (bounds : List ℕ) (v : Event) → KeepsNothing sys.flow
-    → state_of sys.flow (with_one_more past v) settled failed bounds ≡ with_event sys (state_of sys.flow past settled failed bounds) v
-with_event_added sys past settled failed bounds v keeps =
-    let p = place sys.flow v in
-    let make : List Write → Machine = λ ws. record (state_of sys.flow (with_one_more past v) settled failed bounds) { writes = ws } in
+with_event_added : (sys : System) (past : Past) (settled : List Front) (failed : List Bool) (ack_counts : List ℕ) (v : Event) → KeepsNothing sys.flow
+    → state_of sys.flow (with_one_more past v) settled failed ack_counts ≡ with_event sys (state_of sys.flow past settled failed ack_counts) v
+with_event_added sys past settled failed ack_counts v keeps =
+    let p = event_node sys.flow v in
+    let make : List Write → Machine = λ ws. record (state_of sys.flow (with_one_more past v) settled failed ack_counts) { writes = ws } in
     ap make (no_write (policy_of sys.flow p) p past.next (keeps p))
 
-pub injects : (sys : System) (past later : Past) (settled : List Front) (failed : List Bool) (bounds : List ℕ) (s x : ℕ) → KeepsNothing sys.flow
+pub injects : (sys : System) (past later : Past) (settled : List Front) (failed : List Bool) (ack_counts : List ℕ) (s x : ℕ) → KeepsNothing sys.flow
     → IsNextBatch sys (events past.history) s x → slice_index_or failed s false ≡ false → later ≡ with_one_more past (Injected s x)
-    → Steps sys (state_of sys.flow past settled failed bounds) (Inject s) (state_of sys.flow later settled failed bounds) (did quiet)
-injects sys past later settled failed bounds s x keeps e live m = (
+    → StepsTo sys (state_of sys.flow past settled failed ack_counts) (Inject s) (state_of sys.flow later settled failed ack_counts) (did silent)
+injects sys past later settled failed ack_counts s x keeps e live m = (
   x,
   e,
   live,
-  ap (λ l. state_of sys.flow l settled failed bounds) m ∙ with_event_added sys past settled failed bounds (Injected s x) keeps,
+  ap (λ l. state_of sys.flow l settled failed ack_counts) m ∙ with_event_added sys past settled failed ack_counts (Injected s x) keeps,
   refl,
 )
 
 pub injects_nothing : (sys : System) (state : Machine) (s : ℕ) → ((x : ℕ) → IsNextBatch sys (events state.history) s x → is_failed state s ≡ false → ⊥)
-    → Steps sys state (Inject s) state idle
+    → StepsTo sys state (Inject s) state idle
 injects_nothing sys state s n = (λ other effect t. n t.0 t.1 t.2, refl)
 
-pub delivers : (sys : System) (past later : Past) (settled : List Front) (failed : List Bool) (bounds : List ℕ) (e : ℕ) (at : Option Stamp) (m : Message)
+pub delivers : (sys : System) (past later : Past) (settled : List Front) (failed : List Bool) (ack_counts : List ℕ) (e : ℕ) (at : Option Stamp) (m : Message)
     → KeepsNothing sys.flow → IsNextMessage sys (events past.history) e at m → slice_index_or failed (receiver sys.flow e) false ≡ false
     → later ≡ with_one_more past (Delivered e m)
-    → Steps sys (state_of sys.flow past settled failed bounds) (Deliver e at) (state_of sys.flow later settled failed bounds) (did quiet)
-delivers sys past later settled failed bounds e at m keeps k live l = (
+    → StepsTo sys (state_of sys.flow past settled failed ack_counts) (Deliver e at) (state_of sys.flow later settled failed ack_counts) (did silent)
+delivers sys past later settled failed ack_counts e at m keeps k live l = (
   m,
   k,
   live,
-  ap (λ l. state_of sys.flow l settled failed bounds) l ∙ with_event_added sys past settled failed bounds (Delivered e m) keeps,
+  ap (λ l. state_of sys.flow l settled failed ack_counts) l ∙ with_event_added sys past settled failed ack_counts (Delivered e m) keeps,
   refl,
 )
 
 pub delivers_nothing : (sys : System) (state : Machine) (e : ℕ) (at : Option Stamp)
     → ((m : Message) → IsNextMessage sys (events state.history) e at m → is_failed state (receiver sys.flow e) ≡ false → ⊥)
-    → Steps sys state (Deliver e at) state idle
+    → StepsTo sys state (Deliver e at) state idle
 delivers_nothing sys state e at n = (λ other effect t. n t.0 t.1 t.2, refl)
 
 first_of : (a b c : Bool) → (a && b && c) ≡ true → a ≡ true
@@ -230,7 +230,7 @@ first_of true b c h = refl
 first_of false b c h = h
 
 -- where no node is notified a notification is idle
-pub notifies_nothing : (sys : System) (state : Machine) (p : ℕ) (at : Option Stamp) → IsSound sys state → Steps sys state (Notify p at) state idle
+pub notifies_nothing : (sys : System) (state : Machine) (p : ℕ) (at : Option Stamp) → IsSound sys state → StepsTo sys state (Notify p at) state idle
 notifies_nothing sys state p at i =
     (λ other effect t. true≢false (sym (first_of _ _ _ t.1.enabled.is_owed) ∙ i.notifies_nobody p), refl)
 
@@ -238,12 +238,12 @@ notifies_nothing sys state p at i =
 
 -- a step from the state that an engine stands for
 pub standing : (was : Standing) (sys : System) (state : Machine) (refused : Bool) (step : Step) (next : Machine) (outcome : Outcome)
-    → record { sys = sys; state = state; refused = refused } ≡ was → Steps sys state step next outcome → Steps was.sys was.state step next outcome
-standing was sys state refused step next outcome e t = subst (λ (w : Standing). Steps w.sys w.state step next outcome) e t
+    → record { sys = sys; state = state; refused = refused } ≡ was → StepsTo sys state step next outcome → StepsTo was.sys was.state step next outcome
+standing was sys state refused step next outcome e t = subst (λ (w : Standing). StepsTo w.sys w.state step next outcome) e t
 
 pub standing_idle : (was : Standing) (sys : System) (state : Machine) (refused : Bool) (step : Step)
-    → record { sys = sys; state = state; refused = refused } ≡ was → Steps sys state step state idle → Steps was.sys was.state step was.state idle
-standing_idle was sys state refused step e t = subst (λ (w : Standing). Steps w.sys w.state step w.state idle) e t
+    → record { sys = sys; state = state; refused = refused } ≡ was → StepsTo sys state step state idle → StepsTo was.sys was.state step was.state idle
+standing_idle was sys state refused step e t = subst (λ (w : Standing). StepsTo w.sys w.state step w.state idle) e t
 
 pub at_some : {A : Type 0} (o : Option A) (x : A) (P : Type 0) (Q : A → Type 0) → o ≡ Some x → MatchOption o P Q → Q x
 at_some o x P Q e m = subst (λ k. MatchOption k P Q) e m

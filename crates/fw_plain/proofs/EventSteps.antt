@@ -4,14 +4,14 @@ use Rattle.std.proofs.lemmas.List.{reverse-append, take_more}
 use Rattle.std.proofs.lemmas.List.FromFn.{get_or-map-range_with_len, length-map-range_with_len}
 use Rattle.std.proofs.lemmas.List.{get_or_past}
 use Rattle.fw_time.specs.Stamp.{Stamp, same}
-use Rattle.fw_bag.specs.Keyed.{sorted}
+use Rattle.fw_bag.specs.Keyed.{sorted_recs}
 use Rattle.fw_bag.specs.declared.rec.Rec.{Rec}
 use Rattle.fw_lines.specs.Batches.{batches_at}
 use Rattle.fw_flow.specs.declared.event.Event.{Event}
 use Rattle.fw_flow.specs.declared.event.Event.TheVariants.{Inject, Deliver, Notify}
 use Rattle.fw_flow.specs.declared.event.Message.{Message}
 use Rattle.fw_flow.specs.Dataflow.{Dataflow, receiver, batches_of, batches_of_nodes, system_of}
-use Rattle.fw_flow.specs.NodeFunction.{place, rec_of_delivery, delivered_recs}
+use Rattle.fw_flow.specs.NodeFunction.{event_node, rec_of_delivery, delivered_recs}
 use Rattle.fw_flow.specs.Projection.{events_at}
 use Rattle.fw_model.specs.History.{is_injection, injected_count}
 use Rattle.fw_plain.specs.declared.scan.arrivals.Wanted.TheVariants.{At}
@@ -34,13 +34,13 @@ delivered-cond test false v vs = refl
 
 delivered-last : (flow : Dataflow) (p : ℕ) (test : ℕ → Stamp → Bool) (events rest : List Event) (v : Event) → events ≡ rest ++ v ∷ []
     → delivered_recs test (events_at flow p (reverse events))
-    ≡ cond (place flow v == p) (rec_of_delivery test v) [] ++ delivered_recs test (events_at flow p (reverse rest))
+    ≡ cond (event_node flow v == p) (rec_of_delivery test v) [] ++ delivered_recs test (events_at flow p (reverse rest))
 delivered-last flow p test events rest v e =
     ap (λ h. delivered_recs test (events_at flow p h)) (history_last events rest v e)
-    ∙ delivered-cond test (place flow v == p) v (events_at flow p (reverse rest))
+    ∙ delivered-cond test (event_node flow v == p) v (events_at flow p (reverse rest))
 
 pub delivered_more : (flow : Dataflow) (p : ℕ) (test : ℕ → Stamp → Bool) (events rest : List Event) (v : Event) (recs all : List Rec) (r : Rec)
-    → events ≡ rest ++ v ∷ [] → r ∷ [] ≡ cond (place flow v == p) (rec_of_delivery test v) []
+    → events ≡ rest ++ v ∷ [] → r ∷ [] ≡ cond (event_node flow v == p) (rec_of_delivery test v) []
     → recs ++ delivered_recs test (events_at flow p (reverse events)) ≡ all
     → (recs ++ r ∷ []) ++ delivered_recs test (events_at flow p (reverse rest)) ≡ all
 delivered_more flow p test events rest v recs all r e o h =
@@ -50,7 +50,7 @@ delivered_more flow p test events rest v recs all r e o h =
     ∙ sym (ap (λ xs. recs ++ xs) (delivered-last flow p test events rest v e)) ∙ h
 
 pub delivered_same : (flow : Dataflow) (p : ℕ) (test : ℕ → Stamp → Bool) (events rest : List Event) (v : Event) (recs all : List Rec)
-    → events ≡ rest ++ v ∷ [] → [] ≡ cond (place flow v == p) (rec_of_delivery test v) []
+    → events ≡ rest ++ v ∷ [] → [] ≡ cond (event_node flow v == p) (rec_of_delivery test v) []
     → recs ++ delivered_recs test (events_at flow p (reverse events)) ≡ all
     → recs ++ delivered_recs test (events_at flow p (reverse rest)) ≡ all
 delivered_same flow p test events rest v recs all e o h =
@@ -86,7 +86,7 @@ here-cond test true e m = refl
 here-cond test false e m = refl
 
 here-one : (flow : Dataflow) (p : ℕ) (test : ℕ → Stamp → Bool) (v : Event)
-    → cond (place flow v == p) (rec_of_delivery test v) [] ≡ rec_of_delivery (λ e s. receiver flow e == p && test e s) v
+    → cond (event_node flow v == p) (rec_of_delivery test v) [] ≡ rec_of_delivery (λ e s. receiver flow e == p && test e s) v
 here-one flow p test (Inject s x) = both (s == p)
   where
     both : (b : Bool) → cond b (rec_of_delivery test (Inject s x)) [] ≡ []
@@ -104,12 +104,12 @@ pub delivered_here : (flow : Dataflow) (p : ℕ) (test : ℕ → Stamp → Bool)
     → delivered_recs test (events_at flow p h) ≡ delivered_recs (λ e s. receiver flow e == p && test e s) h
 delivered_here flow p test [] = refl
 delivered_here flow p test (v ∷ h) =
-    delivered-cond test (place flow v == p) v (events_at flow p h)
+    delivered-cond test (event_node flow v == p) v (events_at flow p h)
     ∙ ap (λ xs. xs ++ delivered_recs test (events_at flow p h)) (here-one flow p test v)
     ∙ ap (λ xs. rec_of_delivery (λ e s. receiver flow e == p && test e s) v ++ xs) (delivered_here flow p test h)
 
 pub recs_here : (flow : Dataflow) (p : ℕ) (t at : Stamp) (h : List Event) (recs items bag : List Rec) → at ≡ t
-    → items ≡ delivered_recs (is_wanted (At at)) (events_at flow p h) → recs ≡ items → bag ≡ sorted recs
-    → bag ≡ sorted (delivered_recs (λ e s. receiver flow e == p && same s t) h)
+    → items ≡ delivered_recs (is_wanted (At at)) (events_at flow p h) → recs ≡ items → bag ≡ sorted_recs recs
+    → bag ≡ sorted_recs (delivered_recs (λ e s. receiver flow e == p && same s t) h)
 recs_here flow p t at h recs items bag a i r b =
-    b ∙ ap sorted (r ∙ i ∙ ap (λ u. delivered_recs (is_wanted (At u)) (events_at flow p h)) a ∙ delivered_here flow p (λ e s. same s t) h)
+    b ∙ ap sorted_recs (r ∙ i ∙ ap (λ u. delivered_recs (is_wanted (At u)) (events_at flow p h)) a ∙ delivered_here flow p (λ e s. same s t) h)

@@ -5,7 +5,7 @@ use Rattle.fw_time.specs.declared.stamp.Bounds.{Bounds}
 use Rattle.fw_time.specs.Stamp.{Stamp, leq, origin, in_domain}
 use Rattle.fw_time.proofs.StampLaws.{leq-refl}
 use Rattle.fw_frontier.specs.Frontier.{nothing}
-use Rattle.fw_frontier.specs.Front.{Front, inside, IsCanonical, Names}
+use Rattle.fw_frontier.specs.Front.{Front, inside, IsCanonical, IsFrontOf}
 use Rattle.fw_frontier.proofs.InsideLaws.{inside-closed}
 use Rattle.fw_frontier.proofs.NamesLaws.{names-same, names-nothing}
 use Rattle.fw_model.specs.Machine.{no_stamps, front_of}
@@ -19,10 +19,10 @@ zeros-origin [] = refl
 zeros-origin (x ∷ s) = ap (λ t. 0 ∷ t) (zeros-origin s)
 
 -- the list of the zero stamp is the one that names the frontier without stamps
-pub names-no_stamps : (b : Bounds) → Names b (no_stamps b) nothing
-names-no_stamps b = subst (λ s. Names b (s ∷ []) nothing) (sym (zeros-origin b.greatest)) (names-nothing b)
+pub names-no_stamps : (b : Bounds) → IsFrontOf b (no_stamps b) nothing
+names-no_stamps b = subst (λ s. IsFrontOf b (s ∷ []) nothing) (sym (zeros-origin b.greatest)) (names-nothing b)
 
-pub no_stamps_named : (b : Bounds) (f : Front) → Names b f nothing → f ≡ no_stamps b
+pub no_stamps_named : (b : Bounds) (f : Front) → IsFrontOf b f nothing → f ≡ no_stamps b
 no_stamps_named b f n = names-same b f (no_stamps b) nothing n (names-no_stamps b)
 
 -- ---- where a frontier grows

@@ -15,7 +15,7 @@ use Rattle.fw_bag.proofs.OrderingLaws.{le_not_gt, gt_of}
 use Rattle.fw_flow.specs.declared.event.Event.{Event}
 use Rattle.fw_flow.specs.declared.event.Message.{Message}
 use Rattle.fw_flow.specs.Dataflow.{System, is_numbered}
-use Rattle.fw_model.specs.History.{IsDeliverable, pending, delivered}
+use Rattle.fw_model.specs.History.{IsDeliverable, pending_messages, delivered_messages}
 use Rattle.fw_plain.specs.Least.{is_number, is_wanted_message, IsLeastWanted, IsLeastBy, lesser_by}
 use Rattle.fw_model.specs.Steps.{IsAsked, IsNextMessage, is_asked}
 use Rattle.fw_model.proofs.CmpLaws.{not_greater}
@@ -100,30 +100,30 @@ number-from false n t h = refl
 
 -- what may be delivered at the stamp that is asked for passes the test
 wanted-from : (sys : System) (h : List Event) (e : ℕ) (at : Option Stamp) (m : Message) → IsDeliverable sys h e m → IsAsked at m.at
-    → is_wanted_message (cond (is_numbered sys.flow e) (Some (length (delivered h e))) None) at m ≡ true
+    → is_wanted_message (cond (is_numbered sys.flow e) (Some (length (delivered_messages h e))) None) at m ≡ true
 wanted-from sys h e at m d a =
-    and_from (is_number (cond (is_numbered sys.flow e) (Some (length (delivered h e))) None) m.at) (is_asked at m.at)
-    (number-from (is_numbered sys.flow e) (length (delivered h e)) m.at d.numbered) (asked-from at m.at a)
+    and_from (is_number (cond (is_numbered sys.flow e) (Some (length (delivered_messages h e))) None) m.at) (is_asked at m.at)
+    (number-from (is_numbered sys.flow e) (length (delivered_messages h e)) m.at d.numbered) (asked-from at m.at a)
 
 -- what passes the test may be delivered
-deliverable-from : (sys : System) (h : List Event) (e : ℕ) (at : Option Stamp) (m : Message) → is_among m (pending sys h e) ≡ true
-    → is_wanted_message (cond (is_numbered sys.flow e) (Some (length (delivered h e))) None) at m ≡ true → IsDeliverable sys h e m × IsAsked at m.at
+deliverable-from : (sys : System) (h : List Event) (e : ℕ) (at : Option Stamp) (m : Message) → is_among m (pending_messages sys h e) ≡ true
+    → is_wanted_message (cond (is_numbered sys.flow e) (Some (length (delivered_messages h e))) None) at m ≡ true → IsDeliverable sys h e m × IsAsked at m.at
 deliverable-from sys h e at m among w =
-    let p = and_parts (is_number (cond (is_numbered sys.flow e) (Some (length (delivered h e))) None) m.at) (is_asked at m.at) w in
-    (record { is_pending = among; numbered = number-is (is_numbered sys.flow e) (length (delivered h e)) m.at p.0 }, asked-is at m.at p.1)
+    let p = and_parts (is_number (cond (is_numbered sys.flow e) (Some (length (delivered_messages h e))) None) m.at) (is_asked at m.at) w in
+    (record { is_pending = among; numbered = number-is (is_numbered sys.flow e) (length (delivered_messages h e)) m.at p.0 }, asked-is at m.at p.1)
 
 pub next_is : (sys : System) (h : List Event) (e : ℕ) (at : Option Stamp) (number : Option ℕ) (ms : List Message) (o : Option Message)
-    → ms ≡ pending sys h e → number ≡ cond (is_numbered sys.flow e) (Some (length (delivered h e))) None
+    → ms ≡ pending_messages sys h e → number ≡ cond (is_numbered sys.flow e) (Some (length (delivered_messages h e))) None
     → IsLeastBy message_cmp (is_wanted_message number at) ms o
     → MatchOption o ((m : Message) → IsNextMessage sys h e at m → ⊥) (λ m. IsNextMessage sys h e at m)
 next_is sys h e at number ms o p n l =
-    next_of o (subst (λ x. IsLeastBy message_cmp (is_wanted_message x at) (pending sys h e) o) n (subst (λ xs. IsLeastBy message_cmp (is_wanted_message number at) xs o) p l))
+    next_of o (subst (λ x. IsLeastBy message_cmp (is_wanted_message x at) (pending_messages sys h e) o) n (subst (λ xs. IsLeastBy message_cmp (is_wanted_message number at) xs o) p l))
   where
-    next_of : (o : Option Message) → IsLeastBy message_cmp (is_wanted_message (cond (is_numbered sys.flow e) (Some (length (delivered h e))) None) at) (pending sys h e) o
+    next_of : (o : Option Message) → IsLeastBy message_cmp (is_wanted_message (cond (is_numbered sys.flow e) (Some (length (delivered_messages h e))) None) at) (pending_messages sys h e) o
         → MatchOption o ((m : Message) → IsNextMessage sys h e at m → ⊥) (λ m. IsNextMessage sys h e at m)
     next_of None a = λ m k.
-        both_ways (is_wanted_message (cond (is_numbered sys.flow e) (Some (length (delivered h e))) None) at m)
-        (among-each (λ x. is_wanted_message (cond (is_numbered sys.flow e) (Some (length (delivered h e))) None) at x ≡ false) m (pending sys h e) k.enabled.is_pending a)
+        both_ways (is_wanted_message (cond (is_numbered sys.flow e) (Some (length (delivered_messages h e))) None) at m)
+        (among-each (λ x. is_wanted_message (cond (is_numbered sys.flow e) (Some (length (delivered_messages h e))) None) at x ≡ false) m (pending_messages sys h e) k.enabled.is_pending a)
         (wanted-from sys h e at m k.enabled k.asked)
     next_of (Some m) a =
         let d = deliverable-from sys h e at m a.among a.wanted in
@@ -131,5 +131,5 @@ next_is sys h e at number ms o p n l =
           enabled = d.0;
           asked = d.1;
           least = λ other k b.
-              among-each (λ x. is_wanted_message (cond (is_numbered sys.flow e) (Some (length (delivered h e))) None) at x ≡ true → is_gt (message_cmp m x) ≡ false) other (pending sys h e) k.is_pending a.least (wanted-from sys h e at other k b);
+              among-each (λ x. is_wanted_message (cond (is_numbered sys.flow e) (Some (length (delivered_messages h e))) None) at x ≡ true → is_gt (message_cmp m x) ≡ false) other (pending_messages sys h e) k.is_pending a.least (wanted-from sys h e at other k b);
         }

@@ -7,7 +7,7 @@ use Rattle.fw_time.specs.declared.stamp.Bounds.{Bounds}
 use Rattle.fw_time.specs.Stamp.{Stamp, in_domain}
 use Rattle.fw_time.proofs.EachLaws.{each-append}
 use Rattle.fw_frontier.specs.Frontier.{Frontier, Within, nothing, meet}
-use Rattle.fw_frontier.specs.Front.{Front, inside, frontier_of, IsCanonical, Names}
+use Rattle.fw_frontier.specs.Front.{Front, inside, frontier_of, IsCanonical, IsFrontOf}
 use Rattle.fw_flow.specs.declared.event.Event.{Event}
 use Rattle.fw_flow.specs.declared.choice.Offered.{Offered}
 use Rattle.fw_flow.specs.declared.choice.Offered.TheVariants.{Listed, Between}
@@ -19,10 +19,10 @@ use Rattle.fw_model.specs.Choice.{kept, IsRestorable, until}
 use Rattle.fw_flow.specs.declared.restoring.Restoring.{Restoring}
 use Rattle.fw_flow.specs.declared.restoring.Restoring.TheVariants.{Batches, Bound, Anything, Checkpoints, Events}
 use Rattle.fw_model.specs.History.{injected_count, is_exhausted}
-use Rattle.fw_model.specs.Machine.{Machine, events, front_of, bound_of}
+use Rattle.fw_model.specs.Machine.{Machine, events, front_of, ack_count_of}
 use Rattle.fw_model.proofs.StampLaws.{line-leq}
 use Rattle.fw_model.proofs.SameInsideLaws.{until-more}
-use Rattle.fw_model.specs.Offers.{listed, range, IsListed, IsBetween, Ascend, IsRecordOf, IsRangeOf, IsListedBy, AreFrontsOfEdges}
+use Rattle.fw_model.specs.Offers.{listed_records, offered_range, IsListed, IsBetween, Ascend, IsRecordOf, IsRangeOf, IsListedBy, AreFrontsOfEdges}
 use Rattle.fw_plain.specs.Offered.{batch_fronts, IsBare, AreBare, OffersBy}
 
 -- ---- frontiers of numbers
@@ -228,7 +228,7 @@ few-min : (n : ℕ) → min n greatest_number ≤ greatest_number
 few-min n = omega arith
 
 -- all between nothing and a frontier
-between-up_to : (b : Bounds) (g : Frontier) (least greatest f : Front) → Names b least nothing → Names b greatest g
+between-up_to : (b : Bounds) (g : Frontier) (least greatest f : Front) → IsFrontOf b least nothing → IsFrontOf b greatest g
     → (⊥ ⊎ IsBetween b (Some (least, greatest)) f) ↔ Within (frontier_of b f) g
 between-up_to b g least greatest f l m = (
   λ i. elim i [ inl a ↦ absurd a | inr k ↦ λ t e. sym (m.same t) ∙ k.1 t e ],
@@ -243,8 +243,8 @@ within-both f g h = (
 
 -- what is offered is what the node can be restored to
 pub offered-restorable : (sys : System) (state : Machine) (p : ℕ) (f : Front) (way : Restoring) (o : Offered) → injected_count p (events state.history) ≤ greatest_number
-    → OffersBy sys (events state.history) p (front_of state.settled p) (bound_of state p) way o
-    → (IsListed f (listed o) ⊎ IsBetween (bounds_of sys.flow p) (range o) f) ↔ IsRestorable sys state kept p way f
+    → OffersBy sys (events state.history) p (front_of state.settled p) (ack_count_of state p) way o
+    → (IsListed f (listed_records o) ⊎ IsBetween (bounds_of sys.flow p) (offered_range o) f) ↔ IsRestorable sys state kept p way f
 offered-restorable sys state p f Batches (Listed records) l a =
     let n = injected_count p (events state.history) in
     let x = is_exhausted sys (events state.history) p in
@@ -255,7 +255,7 @@ offered-restorable sys state p f Bound (Listed records) l a = absurd a
 offered-restorable sys state p f Bound (Between least greatest) l a =
     let b = bounds_of sys.flow p in
     let g = frontier_of b (front_of state.settled p) in
-    let h = frontier_of b (until (bound_of state p)) in
+    let h = frontier_of b (until (ack_count_of state p)) in
     let k = between-up_to b (meet g h) least greatest f a.0 a.1 in
     let w = within-both (frontier_of b f) g h in
     ((λ i. w.0 (k.0 i)), (λ r. k.1 (w.1 r)))
@@ -267,7 +267,7 @@ offered-restorable sys state p f Events o l a = absurd a
 
 -- the records are the domain's
 pub offered-records : (sys : System) (h : List Event) (p : ℕ) (settled : Front) (bound : ℕ) (way : Restoring) (o : Offered)
-    → (way ≡ Batches → bounds_of sys.flow p ≡ numbers) → OffersBy sys h p settled bound way o → AllByRecursion (IsRecordOf sys.flow p) (listed o)
+    → (way ≡ Batches → bounds_of sys.flow p ≡ numbers) → OffersBy sys h p settled bound way o → AllByRecursion (IsRecordOf sys.flow p) (listed_records o)
 offered-records sys h p settled bound Batches (Listed records) d a =
     let n = min (injected_count p h) greatest_number in
     let x = is_exhausted sys h p in
@@ -282,7 +282,7 @@ offered-records sys h p settled bound Events o d a = absurd a
 
 -- and ascend
 pub offered-ascend : (sys : System) (h : List Event) (p : ℕ) (settled : Front) (bound : ℕ) (way : Restoring) (o : Offered)
-    → OffersBy sys h p settled bound way o → Ascend (bounds_of sys.flow p) (listed o)
+    → OffersBy sys h p settled bound way o → Ascend (bounds_of sys.flow p) (listed_records o)
 offered-ascend sys h p settled bound Batches (Listed records) a =
     let n = min (injected_count p h) greatest_number in
     let x = is_exhausted sys h p in
@@ -297,7 +297,7 @@ offered-ascend sys h p settled bound Events o a = absurd a
 
 -- the ends of a range are the domain's
 pub offered-range : (sys : System) (h : List Event) (p : ℕ) (settled : Front) (bound : ℕ) (way : Restoring) (o : Offered)
-    → OffersBy sys h p settled bound way o → IsRangeOf (bounds_of sys.flow p) (range o)
+    → OffersBy sys h p settled bound way o → IsRangeOf (bounds_of sys.flow p) (offered_range o)
 offered-range sys h p settled bound Batches (Listed records) a = tt
 offered-range sys h p settled bound Batches (Between least greatest) a = absurd a
 offered-range sys h p settled bound Bound (Listed records) a = absurd a
@@ -309,7 +309,7 @@ offered-range sys h p settled bound Events o a = absurd a
 
 -- what is restored by its batches lists its frontiers
 pub offered-listed : (sys : System) (h : List Event) (p : ℕ) (settled : Front) (bound : ℕ) (way : Restoring) (o : Offered)
-    → OffersBy sys h p settled bound way o → IsListedBy way (range o)
+    → OffersBy sys h p settled bound way o → IsListedBy way (offered_range o)
 offered-listed sys h p settled bound Batches (Listed records) a = refl
 offered-listed sys h p settled bound Batches (Between least greatest) a = absurd a
 offered-listed sys h p settled bound Bound (Listed records) a = absurd a

@@ -20,19 +20,19 @@ use Rattle.fw_flow.specs.declared.kind.Policy.TheVariants as policy
 use Rattle.fw_flow.specs.Dataflow.{System, kind_of, policy_of, sender, receiver, bounds_of, greatest_number, is_notified_kind, bounds_of_edge}
 use Rattle.fw_flow.specs.Projection.{all_inside, phi_by_count, IsSentTable, count_from}
 use Rattle.fw_model.specs.Choice.{kept, IsCandidate, IsRestorable}
-use Rattle.fw_model.specs.History.{delivered, sent, injected_count, AreAtNodes}
+use Rattle.fw_model.specs.History.{delivered_messages, sent_messages, injected_count, AreAtNodes}
 use Rattle.fw_flow.specs.declared.restoring.Restoring.{Restoring}
 use Rattle.fw_flow.specs.declared.restoring.Restoring.TheVariants.{Batches, Bound, Anything, Checkpoints, Events}
 use Rattle.fw_flow.specs.Restoring.{restoring, way_of}
 use Rattle.fw_model.specs.Covers.{stamps_from, stamp_of_notice, tallies_in, covers_in}
 use Rattle.fw_flow.proofs.ProjectionLaws.{phi-by_table}
-use Rattle.fw_model.specs.Machine.{Machine, events, is_failed, no_stamps, front_of, bound_of}
+use Rattle.fw_model.specs.Machine.{Machine, events, is_failed, no_stamps, front_of, ack_count_of}
 use Rattle.fw_model.proofs.ChoiceLaws.{by_batches-input, bounds-input}
 use Rattle.fw_model.proofs.DomainLaws.{edge-bounds, has_epochs}
 use Rattle.fw_model.proofs.InputLaws.{injected-few}
 use Rattle.fw_model.proofs.LegalLaws.{legal_messages-in_domain}
 use Rattle.fw_model.proofs.TallyLaws.{delivered_cover-same, discarded_cover-same, notified_cover-same}
-use Rattle.fw_model.specs.Offers.{can_stay, listed, records_of, range, range_of, delivered_to, notified_of, sent_by, IsOffered, IsListed, IsBetween, stamps_on_from, is_by_records, tallies_of, covers_of, Ascend, IsRecordOf, IsRangeOf, IsListedBy, AreOnEdges, AreOffersOf, AreOffersIn}
+use Rattle.fw_model.specs.Offers.{can_stay, listed_records, records_of, offered_range, range_of, delivered_to, notified_of, sent_by, IsOffered, IsListed, IsBetween, stamps_on_from, is_by_records, tallies_of, covers_of, Ascend, IsRecordOf, IsRangeOf, IsListedBy, AreOnEdges, AreOffersOf, AreOffersIn}
 use Rattle.fw_model.specs.Offers.{table_of}
 use Rattle.fw_plain.specs.Offered.{StandsBy, deliveries_to, sent_from, IsOfferOf, AreOffersFrom}
 use Rattle.fw_plain.proofs.FrontsLaws.{names-no_stamps}
@@ -71,7 +71,7 @@ at-from sys h settled bounds failed n (q ∷ os) (suc p) o a i =
 record Offers (sys : System) (state : Machine) (offers : List Offer) (p : ℕ) : Type 0 where
   pub offer : Offer
   pub there : IsAt offers p offer
-  pub is : IsOfferOf sys (events state.history) state.settled state.bounds state.failed p offer
+  pub is : IsOfferOf sys (events state.history) state.settled state.ack_counts state.failed p offer
 
 -- the data are of a state
 record Are (sys : System) (state : Machine) (offers : List Offer) : Type 0 where
@@ -83,7 +83,7 @@ record Are (sys : System) (state : Machine) (offers : List Offer) : Type 0 where
   pub unwritten : (p : ℕ) → way_of sys.flow p ≡ Checkpoints → ⊥
   pub low : (p : ℕ) → p < length sys.flow.nodes → front_of state.low p ≡ no_stamps (bounds_of sys.flow p)
   pub nobody : (p : ℕ) → is_notified_kind (kind_of sys.flow p) ≡ false
-  pub messages : (e : ℕ) → AllByRecursion (λ (m : Message). in_domain (bounds_of sys.flow (receiver sys.flow e)) m.at ≡ true) (sent sys (events state.history) e)
+  pub messages : (e : ℕ) → AllByRecursion (λ (m : Message). in_domain (bounds_of sys.flow (receiver sys.flow e)) m.at ≡ true) (sent_messages sys (events state.history) e)
   pub senders : (e : ℕ) → e < length sys.flow.edges → sender sys.flow e < length sys.flow.nodes
   pub receivers : (e : ℕ) → e < length sys.flow.edges → receiver sys.flow e < length sys.flow.nodes
 
@@ -99,9 +99,9 @@ are-there : (sys : System) (vs : List Event) (settled : List Front) (bounds : Li
 are-there sys vs settled bounds failed state offers d n a s =
     let h = events state.history in
     let w = s.well_formed in
-    let moved : AreOffersFrom sys h state.settled state.bounds state.failed 0 offers =
-    subst (λ (xs : List Event). AreOffersFrom sys xs state.settled state.bounds state.failed 0 offers) (sym s.history)
-    (subst (λ (xs : List Front). AreOffersFrom sys (reverse vs) xs state.bounds state.failed 0 offers) (sym s.settled_there)
+    let moved : AreOffersFrom sys h state.settled state.ack_counts state.failed 0 offers =
+    subst (λ (xs : List Event). AreOffersFrom sys xs state.settled state.ack_counts state.failed 0 offers) (sym s.history)
+    (subst (λ (xs : List Front). AreOffersFrom sys (reverse vs) xs state.ack_counts state.failed 0 offers) (sym s.settled_there)
     (subst (λ (xs : List ℕ). AreOffersFrom sys (reverse vs) settled xs state.failed 0 offers) (sym s.bounds_there)
     (subst (λ (xs : List Bool). AreOffersFrom sys (reverse vs) settled bounds xs 0 offers) (sym s.failed_there) a))) in record {
       one_each = n;
@@ -110,8 +110,8 @@ are-there sys vs settled bounds failed state offers d n a s =
           let e : 0 + p ≡ p = omega arith in record {
             offer = o.0;
             there = o.1;
-            is = subst (λ m. IsOfferOf sys h state.settled state.bounds state.failed m o.0) e
-                (at-from sys h state.settled state.bounds state.failed 0 offers p o.0 moved o.1);
+            is = subst (λ m. IsOfferOf sys h state.settled state.ack_counts state.failed m o.0) e
+                (at-from sys h state.settled state.ack_counts state.failed 0 offers p o.0 moved o.1);
           };
       at_nodes = subst (λ (xs : List Event). AreAtNodes sys.flow xs) (sym s.history) d;
       few = λ p. omega (arith, injected-few sys h s.legal p, w.few p);
@@ -121,7 +121,7 @@ are-there sys vs settled bounds failed state offers d n a s =
       nobody = s.notifies_nobody;
       messages = λ e.
           each-weaker (λ (m : Message). in_domain (bounds_of_edge sys.flow e) m.at ≡ true)
-          (λ (m : Message). in_domain (bounds_of sys.flow (receiver sys.flow e)) m.at ≡ true) (sent sys h e)
+          (λ (m : Message). in_domain (bounds_of sys.flow (receiver sys.flow e)) m.at ≡ true) (sent_messages sys h e)
           (λ m i. sym (edge-bounds sys.flow w.flow e m.at) ∙ i) (legal_messages-in_domain sys h w.flow (has_epochs sys w) s.legal e);
       senders = w.flow.senders_declared;
       receivers = w.flow.receivers_declared;
@@ -141,11 +141,11 @@ sent-is : (sys : System) (state : Machine) (offers : List Offer) (p : ℕ) → O
     → sent_by offers p ≡ sent_from sys (events state.history) p
 sent-is sys state offers p o = at-map (λ (x : Offer). x.stamps.sent) [] offers p o.offer o.there ∙ o.is.sent
 
-records-are : (sys : System) (state : Machine) (offers : List Offer) (p : ℕ) (o : Offers sys state offers p) → records_of offers p ≡ listed o.offer.offered
-records-are sys state offers p o = at-map (λ (x : Offer). listed x.offered) [] offers p o.offer o.there
+records-are : (sys : System) (state : Machine) (offers : List Offer) (p : ℕ) (o : Offers sys state offers p) → records_of offers p ≡ listed_records o.offer.offered
+records-are sys state offers p o = at-map (λ (x : Offer). listed_records x.offered) [] offers p o.offer o.there
 
-range-is : (sys : System) (state : Machine) (offers : List Offer) (p : ℕ) (o : Offers sys state offers p) → range_of offers p ≡ range o.offer.offered
-range-is sys state offers p o = at-map (λ (x : Offer). range x.offered) None offers p o.offer o.there
+range-is : (sys : System) (state : Machine) (offers : List Offer) (p : ℕ) (o : Offers sys state offers p) → range_of offers p ≡ offered_range o.offer.offered
+range-is sys state offers p o = at-map (λ (x : Offer). offered_range x.offered) None offers p o.offer o.there
 
 of_flow : (sys : System) (state : Machine) (offers : List Offer) → Are sys state offers → AreOffersOf sys.flow offers
 of_flow sys state offers a =
@@ -154,17 +154,17 @@ of_flow sys state offers a =
       records = λ p l.
           let o = a.each p l in
           subst (λ (rs : List Recorded). AllByRecursion (IsRecordOf sys.flow p) rs) (sym (records-are sys state offers p o))
-          (offered-records sys h p (front_of state.settled p) (bound_of state p) (restoring (kind_of sys.flow p) policy.None) o.offer.offered
+          (offered-records sys h p (front_of state.settled p) (ack_count_of state p) (restoring (kind_of sys.flow p) policy.None) o.offer.offered
           (λ e. bounds-input sys.flow p (by_batches-input (kind_of sys.flow p) policy.None e)) o.is.offered);
       range = λ p l.
           let o = a.each p l in
           subst (λ (r : Option (Front × Front)). IsRangeOf (bounds_of sys.flow p) r) (sym (range-is sys state offers p o))
-          (offered-range sys h p (front_of state.settled p) (bound_of state p) (restoring (kind_of sys.flow p) policy.None) o.offer.offered o.is.offered);
+          (offered-range sys h p (front_of state.settled p) (ack_count_of state p) (restoring (kind_of sys.flow p) policy.None) o.offer.offered o.is.offered);
       listed = λ p l.
           let o = a.each p l in
           subst (λ (way : Restoring). IsListedBy way (range_of offers p)) (a.way p)
           (subst (λ (r : Option (Front × Front)). IsListedBy (restoring (kind_of sys.flow p) policy.None) r) (sym (range-is sys state offers p o))
-          (offered-listed sys h p (front_of state.settled p) (bound_of state p) (restoring (kind_of sys.flow p) policy.None) o.offer.offered o.is.offered));
+          (offered-listed sys h p (front_of state.settled p) (ack_count_of state p) (restoring (kind_of sys.flow p) policy.None) o.offer.offered o.is.offered));
       delivered = λ p l.
           subst (λ (ms : List Counted). AreOnEdges sys.flow ms) (sym (delivered-is sys state offers p (a.each p l))) (deliveries-on_edges sys.flow p h a.at_nodes);
       notified = λ p l.
@@ -179,7 +179,7 @@ ascending : (sys : System) (state : Machine) (offers : List Offer) → Are sys s
 ascending sys state offers a p l =
     let o = a.each p l in
     subst (λ (rs : List Recorded). Ascend (bounds_of sys.flow p) rs) (sym (records-are sys state offers p o))
-    (offered-ascend sys (events state.history) p (front_of state.settled p) (bound_of state p) (restoring (kind_of sys.flow p) policy.None) o.offer.offered o.is.offered)
+    (offered-ascend sys (events state.history) p (front_of state.settled p) (ack_count_of state p) (restoring (kind_of sys.flow p) policy.None) o.offer.offered o.is.offered)
 
 -- ---- the same cuts are offered
 
@@ -208,15 +208,15 @@ offered-same sys state offers a p l (At f) =
     let back = subst (λ (way : Restoring). IsRestorable sys state kept p way f) (sym (a.way p)) in
     let rs = records-are sys state offers p o in
     let r = range-is sys state offers p o in (
-      (λ i. (i.0, to (k.0 (offered-along b f (records_of offers p) (listed o.offer.offered) (range_of offers p) (range o.offer.offered) rs r i.1)), low-within b (front_of state.low p) (frontier_of b f) (a.low p l))),
-      (λ c. (c.0, offered-along b f (listed o.offer.offered) (records_of offers p) (range o.offer.offered) (range_of offers p) (sym rs) (sym r) (k.1 (back c.1)))),
+      (λ i. (i.0, to (k.0 (offered-along b f (records_of offers p) (listed_records o.offer.offered) (range_of offers p) (offered_range o.offer.offered) rs r i.1)), low-within b (front_of state.low p) (frontier_of b f) (a.low p l))),
+      (λ c. (c.0, offered-along b f (listed_records o.offer.offered) (records_of offers p) (offered_range o.offer.offered) (range_of offers p) (sym rs) (sym r) (k.1 (back c.1)))),
     )
 
 -- ---- the same counts
 
 stamps-delivered : (sys : System) (state : Machine) (offers : List Offer) → Are sys state offers → (d : ℕ) → d < length sys.flow.edges
     → map (λ (m : Counted). m.at) (filter (λ (m : Counted). m.edge == d) (delivered_to offers (receiver sys.flow d)))
-    ≡ map (λ (m : Message). m.at) (delivered (events state.history) d)
+    ≡ map (λ (m : Message). m.at) (delivered_messages (events state.history) d)
 stamps-delivered sys state offers a d l =
     ap (λ (ms : List Counted). map (λ (m : Counted). m.at) (filter (λ (m : Counted). m.edge == d) ms))
     (delivered-is sys state offers (receiver sys.flow d) (a.each (receiver sys.flow d) (a.receivers d l)))
@@ -248,7 +248,7 @@ delivered-same sys state offers a d l cut =
 
 sent-cover : (sys : System) (state : Machine) (offers : List Offer) → Are sys state offers → (e : ℕ) → e < length sys.flow.edges → (f : Frontier)
     → cover (bounds_of sys.flow (receiver sys.flow e)) (stamps_on_from e f (sent_by offers (sender sys.flow e)))
-    ≡ cover (bounds_of sys.flow (receiver sys.flow e)) (stamps_from f (sent sys (events state.history) e))
+    ≡ cover (bounds_of sys.flow (receiver sys.flow e)) (stamps_from f (sent_messages sys (events state.history) e))
 sent-cover sys state offers a e l f =
     let p = sender sys.flow e in
     let b = bounds_of sys.flow (receiver sys.flow e) in

@@ -17,11 +17,11 @@ use Rattle.fw_flow.specs.Dataflow.{System, Dataflow, sender, receiver, out_edges
 use Rattle.fw_flow.specs.NodeFunction.{sent_by}
 use Rattle.fw_flow.specs.Projection.{all_inside, events_at, count_from}
 use Rattle.fw_flow.specs.Projection as projection
-use Rattle.fw_model.specs.History.{delivered, sent, AreAtNodes}
+use Rattle.fw_model.specs.History.{delivered_messages, sent_messages, AreAtNodes}
 use Rattle.fw_model.specs.Covers.{stamp_of_notice}
 use Rattle.fw_model.proofs.FilterLaws.{filter-in, filter-out}
 use Rattle.fw_model.specs.Offers.{stamps_on_from, AreOnEdges}
-use Rattle.fw_plain.specs.Offered.{alone, delivery_to, deliveries_to, on_each, sent_from}
+use Rattle.fw_plain.specs.Offered.{single_message, delivery_to, deliveries_to, on_each, sent_from}
 
 -- the stamps of the messages
 abbrev stamps_of : List Counted → List Stamp
@@ -35,23 +35,23 @@ on_edge d ms = filter (λ m. m.edge == d) ms
 
 one-delivered : (a b : Bool) (e d : ℕ) (m : Message) (ms : List Counted) (ts : List Stamp) → (b ≡ true → a ≡ true) → (e == d) ≡ b
     → stamps_of (on_edge d ms) ≡ ts
-    → stamps_of (on_edge d (cond a (alone e m ∷ []) [] ++ ms)) ≡ map (λ (x : Message). x.at) (cond b (m ∷ []) []) ++ ts
+    → stamps_of (on_edge d (cond a (single_message e m ∷ []) [] ++ ms)) ≡ map (λ (x : Message). x.at) (cond b (m ∷ []) []) ++ ts
 one-delivered true true e d m ms ts k q h =
-    ap stamps_of (filter-in (λ (x : Counted). x.edge == d) (alone e m) ms q) ∙ ap (λ us. m.at ∷ us) h
-one-delivered true false e d m ms ts k q h = ap stamps_of (filter-out (λ (x : Counted). x.edge == d) (alone e m) ms q) ∙ h
+    ap stamps_of (filter-in (λ (x : Counted). x.edge == d) (single_message e m) ms q) ∙ ap (λ us. m.at ∷ us) h
+one-delivered true false e d m ms ts k q h = ap stamps_of (filter-out (λ (x : Counted). x.edge == d) (single_message e m) ms q) ∙ h
 one-delivered false true e d m ms ts k q h = absurd (false≢true (k refl))
 one-delivered false false e d m ms ts k q h = h
 
 -- what was delivered on an edge, among what was delivered to its receiver
 pub delivered-on_edge : (flow : Dataflow) (d : ℕ) (h : List Event)
-    → stamps_of (on_edge d (deliveries_to flow (receiver flow d) h)) ≡ map (λ (m : Message). m.at) (delivered h d)
+    → stamps_of (on_edge d (deliveries_to flow (receiver flow d) h)) ≡ map (λ (m : Message). m.at) (delivered_messages h d)
 delivered-on_edge flow d [] = refl
 delivered-on_edge flow d (Inject s x ∷ h) = delivered-on_edge flow d h
 delivered-on_edge flow d (Notify p t ∷ h) = delivered-on_edge flow d h
 delivered-on_edge flow d (Deliver e m ∷ h) =
-    one-delivered (receiver flow e == receiver flow d) (e == d) e d m (deliveries_to flow (receiver flow d) h) (map (λ (x : Message). x.at) (delivered h d))
+    one-delivered (receiver flow e == receiver flow d) (e == d) e d m (deliveries_to flow (receiver flow d) h) (map (λ (x : Message). x.at) (delivered_messages h d))
     (λ k. eq-eqb (receiver flow e) (receiver flow d) (ap (receiver flow) (eqb-true e d k))) refl (delivered-on_edge flow d h)
-    ∙ sym (map-append (λ (x : Message). x.at) (cond (e == d) (m ∷ []) []) (delivered h d))
+    ∙ sym (map-append (λ (x : Message). x.at) (cond (e == d) (m ∷ []) []) (delivered_messages h d))
 
 -- what was delivered is at stamps of the edges
 pub deliveries-on_edges : (flow : Dataflow) (p : ℕ) (h : List Event) → AreAtNodes flow h → AreOnEdges flow (deliveries_to flow p h)
@@ -60,7 +60,7 @@ deliveries-on_edges flow p (Inject s x ∷ h) a = deliveries-on_edges flow p h a
 deliveries-on_edges flow p (Notify q t ∷ h) a = deliveries-on_edges flow p h a.1
 deliveries-on_edges flow p (Deliver e m ∷ h) a =
     each-append (λ (x : Counted). in_domain (bounds_of flow (receiver flow x.edge)) x.at ≡ true) (delivery_to flow p (Deliver e m)) (deliveries_to flow p h)
-    (cond_both (receiver flow e == p) (alone e m ∷ []) [] (AllByRecursion (λ (x : Counted). in_domain (bounds_of flow (receiver flow x.edge)) x.at ≡ true))
+    (cond_both (receiver flow e == p) (single_message e m ∷ []) [] (AllByRecursion (λ (x : Counted). in_domain (bounds_of flow (receiver flow x.edge)) x.at ≡ true))
     (λ i. (a.0, tt)) (λ i. tt))
     (deliveries-on_edges flow p h a.1)
 
@@ -87,40 +87,40 @@ abbrev stamps_with : (List Stamp → Bool) → List Message → List Stamp
 stamps_with test ms = map (λ (m : Message). m.at) (filter (λ (m : Message). test m.causes) ms)
 
 one-sent : (b : Bool) (d : ℕ) (m : Message) (xs : List Counted) (ms : List Message) → stamps_of xs ≡ map (λ (x : Message). x.at) ms
-    → stamps_of (cond b (alone d m ∷ xs) xs) ≡ map (λ (x : Message). x.at) (cond b (m ∷ ms) ms)
+    → stamps_of (cond b (single_message d m ∷ xs) xs) ≡ map (λ (x : Message). x.at) (cond b (m ∷ ms) ms)
 one-sent true d m xs ms h = ap (λ us. m.at ∷ us) h
 one-sent false d m xs ms h = h
 
 sent-here : (e d : ℕ) (test : List Stamp → Bool) (ms : List Message) → (d == e) ≡ true
-    → stamps_of (filter (is_from e test) (map (alone d) ms)) ≡ stamps_with test ms
+    → stamps_of (filter (is_from e test) (map (single_message d) ms)) ≡ stamps_with test ms
 sent-here e d test [] k = refl
 sent-here e d test (m ∷ ms) k =
-    let rest = filter (is_from e test) (map (alone d) ms) in
-    ap (λ b. stamps_of (cond (b && test m.causes) (alone d m ∷ rest) rest)) k
+    let rest = filter (is_from e test) (map (single_message d) ms) in
+    ap (λ b. stamps_of (cond (b && test m.causes) (single_message d m ∷ rest) rest)) k
     ∙ one-sent (test m.causes) d m rest (filter (λ (x : Message). test x.causes) ms) (sent-here e d test ms k)
 
 sent-elsewhere : (e d : ℕ) (test : List Stamp → Bool) (ms : List Message) → (d == e) ≡ false
-    → stamps_of (filter (is_from e test) (map (alone d) ms)) ≡ []
+    → stamps_of (filter (is_from e test) (map (single_message d) ms)) ≡ []
 sent-elsewhere e d test [] k = refl
 sent-elsewhere e d test (m ∷ ms) k =
-    let rest = filter (is_from e test) (map (alone d) ms) in
-    ap (λ b. stamps_of (cond (b && test m.causes) (alone d m ∷ rest) rest)) k ∙ sent-elsewhere e d test ms k
+    let rest = filter (is_from e test) (map (single_message d) ms) in
+    ap (λ b. stamps_of (cond (b && test m.causes) (single_message d m ∷ rest) rest)) k ∙ sent-elsewhere e d test ms k
 
 -- the list where the edge is the one
 abbrev if_it : ℕ → List Stamp → ℕ → List Stamp
 if_it e ts d = cond (d == e) ts []
 
-sent-of_edge : (e d : ℕ) (test : List Stamp → Bool) (ms : List Message) → stamps_of (filter (is_from e test) (map (alone d) ms)) ≡ if_it e (stamps_with test ms) d
+sent-of_edge : (e d : ℕ) (test : List Stamp → Bool) (ms : List Message) → stamps_of (filter (is_from e test) (map (single_message d) ms)) ≡ if_it e (stamps_with test ms) d
 sent-of_edge e d test ms =
-    cond_both (d == e) (stamps_with test ms) [] (λ ts. stamps_of (filter (is_from e test) (map (alone d) ms)) ≡ ts)
+    cond_both (d == e) (stamps_with test ms) [] (λ ts. stamps_of (filter (is_from e test) (map (single_message d) ms)) ≡ ts)
     (sent-here e d test ms) (sent-elsewhere e d test ms)
 
 sent-of_edges : (e : ℕ) (test : List Stamp → Bool) (ms : List Message) (es : List ℕ)
     → stamps_of (filter (is_from e test) (on_each es ms)) ≡ flat_map (if_it e (stamps_with test ms)) es
 sent-of_edges e test ms [] = refl
 sent-of_edges e test ms (d ∷ es) =
-    ap stamps_of (filter-append (is_from e test) (map (alone d) ms) (on_each es ms))
-    ∙ map-append (λ (x : Counted). x.at) (filter (is_from e test) (map (alone d) ms)) (filter (is_from e test) (on_each es ms))
+    ap stamps_of (filter-append (is_from e test) (map (single_message d) ms) (on_each es ms))
+    ∙ map-append (λ (x : Counted). x.at) (filter (is_from e test) (map (single_message d) ms)) (filter (is_from e test) (on_each es ms))
     ∙ ap (λ us. us ++ stamps_of (filter (is_from e test) (on_each es ms))) (sent-of_edge e d test ms)
     ∙ ap (λ us. if_it e (stamps_with test ms) d ++ us) (sent-of_edges e test ms es)
 
@@ -159,9 +159,9 @@ out_edge-once flow ts e l = once ts flow.edges 0 e e _ _ (omega arith) l refl
 
 -- what was sent on an edge, among what its sender sent
 pub sent-on_edge : (sys : System) (h : List Event) (e : ℕ) (test : List Stamp → Bool) → e < length sys.flow.edges
-    → stamps_of (filter (is_from e test) (sent_from sys h (sender sys.flow e))) ≡ stamps_with test (sent sys h e)
+    → stamps_of (filter (is_from e test) (sent_from sys h (sender sys.flow e))) ≡ stamps_with test (sent_messages sys h e)
 sent-on_edge sys h e test l =
-    sent-of_edges e test (sent sys h e) (out_edges sys.flow (sender sys.flow e)) ∙ out_edge-once sys.flow (stamps_with test (sent sys h e)) e l
+    sent-of_edges e test (sent_messages sys h e) (out_edges sys.flow (sender sys.flow e)) ∙ out_edge-once sys.flow (stamps_with test (sent_messages sys h e)) e l
 
 -- ---- where it was sent
 
@@ -181,7 +181,7 @@ out_edges-send flow p =
     (λ i l e. let s : i ≡ 0 + i = omega arith in subst (λ n. sender flow n ≡ p) s e)
 
 alone-on_edge : (flow : Dataflow) (d : ℕ) (ms : List Message) → AllByRecursion (λ (m : Message). in_domain (bounds_of flow (receiver flow d)) m.at ≡ true) ms
-    → AreOnEdges flow (map (alone d) ms)
+    → AreOnEdges flow (map (single_message d) ms)
 alone-on_edge flow d [] a = tt
 alone-on_edge flow d (m ∷ ms) a = (a.0, alone-on_edge flow d ms a.1)
 
@@ -190,12 +190,12 @@ alone-on_edges : (flow : Dataflow) (p : ℕ) (ms : List Message) (es : List ℕ)
     → AreOnEdges flow (on_each es ms)
 alone-on_edges flow p ms [] a k = tt
 alone-on_edges flow p ms (d ∷ es) a k =
-    each-append (λ (x : Counted). in_domain (bounds_of flow (receiver flow x.edge)) x.at ≡ true) (map (alone d) ms) (on_each es ms)
+    each-append (λ (x : Counted). in_domain (bounds_of flow (receiver flow x.edge)) x.at ≡ true) (map (single_message d) ms) (on_each es ms)
     (alone-on_edge flow d ms (k d a.0)) (alone-on_edges flow p ms es a.1 k)
 
 -- what was sent is at stamps of the edges
 pub sent-on_edges : (sys : System) (h : List Event) (p : ℕ)
-    → ((e : ℕ) → AllByRecursion (λ (m : Message). in_domain (bounds_of sys.flow (receiver sys.flow e)) m.at ≡ true) (sent sys h e))
+    → ((e : ℕ) → AllByRecursion (λ (m : Message). in_domain (bounds_of sys.flow (receiver sys.flow e)) m.at ≡ true) (sent_messages sys h e))
     → AreOnEdges sys.flow (sent_from sys h p)
 sent-on_edges sys h p k =
     let messages : ℕ → List Message = λ q. sent_by sys q (events_at sys.flow q h) in

@@ -9,7 +9,7 @@ use Rattle.fw_time.specs.declared.stamp.Bounds.{Bounds}
 use Rattle.fw_time.specs.Stamp.{Stamp, in_domain}
 use Rattle.fw_bag.specs.declared.rec.Rec.{Rec}
 use Rattle.fw_frontier.specs.Frontier.{nothing, meet}
-use Rattle.fw_frontier.specs.Front.{Front, frontier_of, IsCanonical, Names}
+use Rattle.fw_frontier.specs.Front.{Front, frontier_of, IsCanonical, IsFrontOf}
 use Rattle.fw_frontier.proofs.NamesLaws.{names-same, names-self}
 use Rattle.fw_lines.specs.Batches.{batches_at}
 use Rattle.fw_flow.specs.declared.choice.Counted.{Counted}
@@ -54,9 +54,9 @@ pub number-in_domain : (k : ℕ) (s : Stamp) → s ≡ k ∷ [] → k < 2 ^ 32 �
 number-in_domain k s e l = ap (in_domain numbers) e ∙ line-leq k greatest_number (omega arith)
 
 -- the one list that names the numbers below
-pub until-named : (k : ℕ) (s : Stamp) (f : Front) → s ≡ k ∷ [] → k < 2 ^ 32 → Names numbers f (frontier_of numbers (s ∷ [])) → f ≡ until k
+pub until-named : (k : ℕ) (s : Stamp) (f : Front) → s ≡ k ∷ [] → k < 2 ^ 32 → IsFrontOf numbers f (frontier_of numbers (s ∷ [])) → f ≡ until k
 until-named k s f e l n =
-    names-same numbers f (until k) (frontier_of numbers (until k)) (subst (λ (x : Stamp). Names numbers f (frontier_of numbers (x ∷ []))) e n)
+    names-same numbers f (until k) (frontier_of numbers (until k)) (subst (λ (x : Stamp). IsFrontOf numbers f (frontier_of numbers (x ∷ []))) e n)
     (names-self numbers (until k) (canonical-until k (omega arith)))
 
 -- ---- records
@@ -93,23 +93,23 @@ input_offers flow batches h p settled bound kind records n m q l k is c b e a =
     (subst (λ x. AreBare (batch_fronts (min (injected_count p h) greatest_number) (injected_count p h == x)) records) there
     (subst (λ x. AreBare (batch_fronts (min x greatest_number) (x == m)) records) c a))
 
--- what an output offers, by the bounds of its domain
+-- what an output offers, by the ack_counts of its domain
 output-by : (sys : System) (h : List Event) (p : ℕ) (settled least greatest : Front) (bound : ℕ) (way : Restoring) → way ≡ Bound
-    → Names (bounds_of sys.flow p) least nothing
-    → Names (bounds_of sys.flow p) greatest (meet (frontier_of (bounds_of sys.flow p) settled) (frontier_of (bounds_of sys.flow p) (until bound)))
+    → IsFrontOf (bounds_of sys.flow p) least nothing
+    → IsFrontOf (bounds_of sys.flow p) greatest (meet (frontier_of (bounds_of sys.flow p) settled) (frontier_of (bounds_of sys.flow p) (until bound)))
     → OffersBy sys h p settled bound way (Between least greatest)
 output-by sys h p settled least greatest bound way e n m =
     subst (λ (x : Restoring). OffersBy sys h p settled bound x (Between least greatest)) (sym e) (n, m)
 
 pub output_offers : (sys : System) (h : List Event) (p : ℕ) (settled least greatest : Front) (bound : ℕ) (kind : Kind) (domain : Bounds) → kind ≡ kind_of sys.flow p
-    → (kind ≡ OutputEpoch) ⊎ (kind ≡ OutputNumber) → domain ≡ bounds_of sys.flow p → IsCanonical (bounds_of sys.flow p) settled → Names domain least nothing
-    → ((d : Bounds) → d.greatest ≡ greatest_number ∷ [] → IsCanonical d settled → Names d greatest (meet (frontier_of d settled) (frontier_of d (until bound))))
+    → (kind ≡ OutputEpoch) ⊎ (kind ≡ OutputNumber) → domain ≡ bounds_of sys.flow p → IsCanonical (bounds_of sys.flow p) settled → IsFrontOf domain least nothing
+    → ((d : Bounds) → d.greatest ≡ greatest_number ∷ [] → IsCanonical d settled → IsFrontOf d greatest (meet (frontier_of d settled) (frontier_of d (until bound))))
     → OffersBy sys h p settled bound (restoring (kind_of sys.flow p) policy.None) (Between least greatest)
 output_offers sys h p settled least greatest bound kind domain k is d c n m =
     let b = bounds_of sys.flow p in
     output-by sys h p settled least greatest bound (restoring (kind_of sys.flow p) policy.None)
     (elim is [ inl e ↦ ap (λ x. restoring x policy.None) (sym k ∙ e) | inr e ↦ ap (λ x. restoring x policy.None) (sym k ∙ e) ])
-    (subst (λ (x : Bounds). Names x least nothing) d n)
+    (subst (λ (x : Bounds). IsFrontOf x least nothing) d n)
     (m b (elim is [
       | inl e ↦ ap (λ (x : Bounds). x.greatest) (bounds-output_epoch sys.flow p (sym k ∙ e))
       | inr e ↦ ap (λ (x : Bounds). x.greatest) (bounds-output_number sys.flow p (sym k ∙ e))
@@ -118,23 +118,23 @@ output_offers sys h p settled least greatest bound kind domain k is d c n m =
 -- ---- the offers of the nodes
 
 -- a further offer
-pub offers_more : (sys : System) (h : List Event) (settled : List Front) (bounds : List ℕ) (failed : List Bool) (n m : ℕ) (os : List Offer) (o : Offer)
-    → AreOffersFrom sys h settled bounds failed n os → n + length os ≡ m → IsOfferOf sys h settled bounds failed m o
-    → AreOffersFrom sys h settled bounds failed n (os ++ o ∷ [])
-offers_more sys h settled bounds failed n m [] o a e i =
-    let same : m ≡ n = omega arith in (subst (λ k. IsOfferOf sys h settled bounds failed k o) same i, tt)
-offers_more sys h settled bounds failed n m (q ∷ os) o a e i = (a.0, offers_more sys h settled bounds failed (n + 1) m os o a.1 (omega arith) i)
+pub offers_more : (sys : System) (h : List Event) (settled : List Front) (ack_counts : List ℕ) (failed : List Bool) (n m : ℕ) (os : List Offer) (o : Offer)
+    → AreOffersFrom sys h settled ack_counts failed n os → n + length os ≡ m → IsOfferOf sys h settled ack_counts failed m o
+    → AreOffersFrom sys h settled ack_counts failed n (os ++ o ∷ [])
+offers_more sys h settled ack_counts failed n m [] o a e i =
+    let same : m ≡ n = omega arith in (subst (λ k. IsOfferOf sys h settled ack_counts failed k o) same i, tt)
+offers_more sys h settled ack_counts failed n m (q ∷ os) o a e i = (a.0, offers_more sys h settled ack_counts failed (n + 1) m os o a.1 (omega arith) i)
 
 -- an offer that was found for a node by its place
-pub offer_is : (sys : System) (h : List Event) (settled : List Front) (bounds : List ℕ) (failed : List Bool) (p node : ℕ) (front : Front) (o : Offer) → node ≡ p
+pub offer_is : (sys : System) (h : List Event) (settled : List Front) (ack_counts : List ℕ) (failed : List Bool) (p node : ℕ) (front : Front) (o : Offer) → node ≡ p
     → front ≡ front_of settled p → o.present ≡ not (slice_index_or failed p false)
-    → OffersBy sys h node front (slice_index_or bounds p 0) (restoring (kind_of sys.flow node) policy.None) o.offered
+    → OffersBy sys h node front (slice_index_or ack_counts p 0) (restoring (kind_of sys.flow node) policy.None) o.offered
     → o.stamps.delivered ≡ deliveries_to sys.flow node h → o.stamps.notified ≡ flat_map (stamp_of_notice node) h
-    → o.stamps.sent ≡ sent_from sys h node → IsOfferOf sys h settled bounds failed p o
-offer_is sys h settled bounds failed p node front o e f present offered delivered notified sent =
-    let along = subst (λ q. OffersBy sys h q front (slice_index_or bounds p 0) (restoring (kind_of sys.flow q) policy.None) o.offered) e offered in record {
+    → o.stamps.sent ≡ sent_from sys h node → IsOfferOf sys h settled ack_counts failed p o
+offer_is sys h settled ack_counts failed p node front o e f present offered delivered notified sent =
+    let along = subst (λ q. OffersBy sys h q front (slice_index_or ack_counts p 0) (restoring (kind_of sys.flow q) policy.None) o.offered) e offered in record {
       present = present;
-      offered = subst (λ (g : Front). OffersBy sys h p g (slice_index_or bounds p 0) (restoring (kind_of sys.flow p) policy.None) o.offered) f along;
+      offered = subst (λ (g : Front). OffersBy sys h p g (slice_index_or ack_counts p 0) (restoring (kind_of sys.flow p) policy.None) o.offered) f along;
       delivered = delivered ∙ ap (λ q. deliveries_to sys.flow q h) e;
       notified = notified ∙ ap (λ q. flat_map (stamp_of_notice q) h) e;
       sent = sent ∙ ap (λ q. sent_from sys h q) e;

@@ -2,19 +2,19 @@
 use Rattle.std.proofs.Common.{◌≡◌, ℕ, suc, ◌+◌, Bool, true, false, cond, List, [], ◌∷◌, ◌++◌, length, reverse, filter, refl, sym, ◌∙◌, ap, append_assoc, arith}
 use Rattle.std.proofs.lemmas.List.{append-nil, reverse-append}
 use Rattle.fw_flow.specs.declared.event.Event.{Event}
-use Rattle.fw_model.specs.Machine.{Numbered, events}
+use Rattle.fw_model.specs.Machine.{SerialEvent, events}
 use Rattle.fw_flow.specs.declared.choice.Choice.{Choice}
 use Rattle.fw_flow.specs.declared.choice.Cut.{Cut}
 use Rattle.fw_flow.specs.declared.choice.Cut.TheVariants.{Present, At}
 use Rattle.fw_flow.specs.Dataflow.{System, Dataflow, bounds_of}
-use Rattle.fw_flow.specs.NodeFunction.{place, stamp}
+use Rattle.fw_flow.specs.NodeFunction.{event_node, event_stamp}
 use Rattle.fw_time.specs.Stamp.{Stamp}
-use Rattle.fw_model.specs.Choice.{cut_of, kept_of, filtered}
+use Rattle.fw_model.specs.Choice.{cut_of, kept_of, filtered_history}
 use Rattle.fw_model.specs.Covers.{set_of}
 use Rattle.fw_plain.specs.Past.{Past, under_serials, is_inside_cut, is_kept, kept_serials, with_one_more, cut_past}
 
 -- the events of a list under serial numbers are the list
-events_append : (xs ys : List Numbered) → events (xs ++ ys) ≡ events xs ++ events ys
+events_append : (xs ys : List SerialEvent) → events (xs ++ ys) ≡ events xs ++ events ys
 events_append [] ys = refl
 events_append (x ∷ xs) ys = ap (λ vs. x.event ∷ vs) (events_append xs ys)
 
@@ -30,7 +30,7 @@ reverse_cons x xs = reverse-append (x ∷ []) xs
 reverse_more : {A : Type 0} (x : A) (xs : List A) → reverse (xs ++ x ∷ []) ≡ x ∷ reverse xs
 reverse_more x xs = reverse-append xs (x ∷ [])
 
-events_reverse : (xs : List Numbered) → events (reverse xs) ≡ reverse (events xs)
+events_reverse : (xs : List SerialEvent) → events (reverse xs) ≡ reverse (events xs)
 events_reverse [] = refl
 events_reverse (x ∷ xs) =
     ap events (reverse_cons x xs) ∙ events_append (reverse xs) (x ∷ []) ∙ ap (λ vs. vs ++ x.event ∷ []) (events_reverse xs)
@@ -81,7 +81,7 @@ kept_numbered test (n ∷ ns) (v ∷ vs) e = by (test v) (kept_numbered test ns 
     by true k = ap (λ xs. record { serial = n; event = v } ∷ xs) k
     by false k = k
 
-filter_append : (test : Numbered → Bool) (xs ys : List Numbered) → filter test (xs ++ ys) ≡ filter test xs ++ filter test ys
+filter_append : (test : SerialEvent → Bool) (xs ys : List SerialEvent) → filter test (xs ++ ys) ≡ filter test xs ++ filter test ys
 filter_append test [] ys = refl
 filter_append test (x ∷ xs) ys = by (test x) (filter_append test xs ys)
   where
@@ -90,7 +90,7 @@ filter_append test (x ∷ xs) ys = by (test x) (filter_append test xs ys)
     by true k = ap (λ zs. x ∷ zs) k
     by false k = k
 
-filter_reverse : (test : Numbered → Bool) (xs : List Numbered) → reverse (filter test xs) ≡ filter test (reverse xs)
+filter_reverse : (test : SerialEvent → Bool) (xs : List SerialEvent) → reverse (filter test xs) ≡ filter test (reverse xs)
 filter_reverse test [] = refl
 filter_reverse test (x ∷ xs) =
     by (test x) (filter_reverse test xs) ∙ sym (ap (filter test) (reverse_cons x xs) ∙ filter_append test (reverse xs) (x ∷ []))
@@ -109,17 +109,17 @@ inside_set : (sys : System) (p : ℕ) (cut : Cut) (t : Stamp) → is_inside_cut 
 inside_set sys p Present t = refl
 inside_set sys p (At f) t = refl
 
-filter_same : (one two : Numbered → Bool) → ((x : Numbered) → one x ≡ two x) → (xs : List Numbered) → filter one xs ≡ filter two xs
+filter_same : (one two : SerialEvent → Bool) → ((x : SerialEvent) → one x ≡ two x) → (xs : List SerialEvent) → filter one xs ≡ filter two xs
 filter_same one two e [] = refl
 filter_same one two e (x ∷ xs) =
     ap (λ b. cond b (x ∷ filter one xs) (filter one xs)) (e x) ∙ ap (λ ys. cond (two x) (x ∷ ys) ys) (filter_same one two e xs)
 
 pub cut_is_filtered : (sys : System) (choice : Choice) (past : Past)
-    → cut_past sys.flow choice.cuts past ≡ record { history = filtered sys choice past.history; next = past.next }
+    → cut_past sys.flow choice.cuts past ≡ record { history = filtered_history sys choice past.history; next = past.next }
 cut_is_filtered sys choice past =
     ap (λ h. record { history = h; next = past.next })
-    (filter_same (λ v. is_kept sys.flow choice.cuts v.event) (λ v. kept_of sys.flow choice (place sys.flow v.event) (stamp v.event))
-    (λ v. inside_set sys (place sys.flow v.event) (cut_of choice (place sys.flow v.event)) (stamp v.event)) past.history)
+    (filter_same (λ v. is_kept sys.flow choice.cuts v.event) (λ v. kept_of sys.flow choice (event_node sys.flow v.event) (event_stamp v.event))
+    (λ v. inside_set sys (event_node sys.flow v.event) (cut_of choice (event_node sys.flow v.event)) (event_stamp v.event)) past.history)
 
 -- ---- what the events of an engine stand for
 
@@ -131,7 +131,7 @@ pub past_pushed : (was : Past) (ns then_ns : List ℕ) (vs then_vs : List Event)
     → record { history = reverse (under_serials ns vs); next = n } ≡ was → then_ns ≡ ns ++ n ∷ [] → then_vs ≡ vs ++ v ∷ [] → next ≡ n + 1
     → record { history = reverse (under_serials then_ns then_vs); next = next } ≡ with_one_more was v
 past_pushed was ns then_ns vs then_vs n next v l e a b m =
-    let make : List Numbered → ℕ → Past = λ h k. record { history = h; next = k } in
+    let make : List SerialEvent → ℕ → Past = λ h k. record { history = h; next = k } in
     ap (λ xs. make (reverse (under_serials xs then_vs)) next) a ∙ ap (λ ws. make (reverse (under_serials (ns ++ n ∷ []) ws)) next) b
     ∙ ap (λ h. make h next) (past_more ns vs n v l) ∙ ap (λ k. make (record { serial = n; event = v } ∷ reverse (under_serials ns vs)) k) m
     ∙ ap (λ (w : Past). with_one_more w v) e
@@ -140,7 +140,7 @@ pub past_cut_to : (was : Past) (flow : Dataflow) (cuts : List Cut) (ns then_ns :
     → record { history = reverse (under_serials ns vs); next = n } ≡ was → then_ns ≡ kept_serials (is_kept flow cuts) ns vs → then_vs ≡ filter (is_kept flow cuts) vs
     → record { history = reverse (under_serials then_ns then_vs); next = n } ≡ cut_past flow cuts was
 past_cut_to was flow cuts ns then_ns vs then_vs n l e a b =
-    let make : List Numbered → Past = λ h. record { history = h; next = n } in
+    let make : List SerialEvent → Past = λ h. record { history = h; next = n } in
     ap (λ xs. make (reverse (under_serials xs then_vs))) a ∙ ap (λ ws. make (reverse (under_serials (kept_serials (is_kept flow cuts) ns vs) ws))) b
     ∙ ap make (past_cut (is_kept flow cuts) ns vs l) ∙ ap (λ (w : Past). cut_past flow cuts w) e
 

@@ -6,16 +6,16 @@ use Rattle.std.proofs.lemmas.Bool.{and_parts, and_from, or_cases, or_left, or_ri
 use Rattle.std.proofs.lemmas.List.Folds.{list_any-append}
 use Rattle.fw_time.specs.Stamp.{Stamp, leq, lesser, same, stamp_cmp, in_domain}
 use Rattle.fw_time.proofs.EachLaws.{each-append, each-of_all, all-of_each}
-use Rattle.fw_frontier.specs.Front.{Front, inside, frontier_of, Names}
+use Rattle.fw_frontier.specs.Front.{Front, inside, frontier_of, IsFrontOf}
 use Rattle.fw_frontier.proofs.InsideLaws.{inside-closed}
 use Rattle.fw_flow.specs.declared.event.Event.{Event}
 use Rattle.fw_flow.specs.declared.event.Event.TheVariants.{Inject, Deliver, Notify}
 use Rattle.fw_flow.specs.Dataflow.{System, Dataflow, kind_of, sender, receiver, in_edges, bounds_of, is_notified_kind}
 use Rattle.fw_flow.specs.Projection.{phi}
-use Rattle.fw_model.specs.History.{owed, is_delivery_to, is_notification, was_delivered_to, was_notified, IsComplete, IsNotifiable, AreAtNodes}
+use Rattle.fw_model.specs.History.{is_owed_notice, is_delivery_to, is_notification, was_delivered_to, was_notified, IsComplete, IsNotifiable, AreAtNodes}
 use Rattle.fw_model.specs.Steps.{IsAsked, IsNextNotice, is_asked}
 use Rattle.fw_plain.specs.Least.{IsLeastBy}
-use Rattle.fw_plain.specs.Clear.{pending_stamps, is_unnotified, owed_by, owed_stamps, lowered}
+use Rattle.fw_plain.specs.Clear.{pending_stamps, is_unnotified, owed_by, owed_stamps, lowered_frontier}
 use Rattle.fw_plain.specs.Ready.{is_ready}
 use Rattle.fw_model.proofs.PhiLaws.{phi-monotone}
 use Rattle.fw_model.proofs.DescentLaws.{past_edges-receiver}
@@ -100,7 +100,7 @@ record IsOwed (sys : System) (events : List Event) (p : ℕ) (t : Stamp) : Type 
   delivered : list_any (is_delivery_to sys.flow p t) events ≡ true
   unnotified : is_unnotified sys.flow events p t ≡ true
 
-owed-parts : (sys : System) (events : List Event) (p : ℕ) (t : Stamp) → owed sys (reverse events) p t ≡ true → IsOwed sys events p t
+owed-parts : (sys : System) (events : List Event) (p : ℕ) (t : Stamp) → is_owed_notice sys (reverse events) p t ≡ true → IsOwed sys events p t
 owed-parts sys events p t k =
     let a = and_parts (is_notified_kind (kind_of sys.flow p) && was_delivered_to sys.flow p t (reverse events)) (not (was_notified p t (reverse events))) k in
     let b = and_parts (is_notified_kind (kind_of sys.flow p)) (was_delivered_to sys.flow p t (reverse events)) a.0 in
@@ -110,14 +110,14 @@ owed-parts sys events p t k =
     }
 
 owed-from : (sys : System) (events : List Event) (p : ℕ) (t : Stamp) → list_any (is_delivery_to sys.flow p t) events ≡ true → is_unnotified sys.flow events p t ≡ true
-    → owed sys (reverse events) p t ≡ true
+    → is_owed_notice sys (reverse events) p t ≡ true
 owed-from sys events p t k u =
     let a = and_parts (is_notified_kind (kind_of sys.flow p)) (not (list_any (is_notification p t) events)) u in
     and_from (is_notified_kind (kind_of sys.flow p) && was_delivered_to sys.flow p t (reverse events)) (not (was_notified p t (reverse events)))
     (and_from (is_notified_kind (kind_of sys.flow p)) (was_delivered_to sys.flow p t (reverse events)) a.0 (any-reverse (is_delivery_to sys.flow p t) events ∙ k))
     (ap not (any-reverse (is_notification p t) events) ∙ a.1)
 
-owed-there : (sys : System) (events : List Event) (p : ℕ) (t : Stamp) → owed sys (reverse events) p t ≡ true → list_any (same t) (owed_stamps sys.flow events p events) ≡ true
+owed-there : (sys : System) (events : List Event) (p : ℕ) (t : Stamp) → is_owed_notice sys (reverse events) p t ≡ true → list_any (same t) (owed_stamps sys.flow events p events) ≡ true
 owed-there sys events p t k = let a = owed-parts sys events p t k in there-delivery sys.flow events p t events a.delivered a.unnotified
 
 delivered-domain : (flow : Dataflow) (p : ℕ) (t : Stamp) (h : List Event) → AreAtNodes flow h → list_any (is_delivery_to flow p t) h ≡ true → in_domain (bounds_of flow p) t ≡ true
@@ -132,7 +132,7 @@ delivered-domain flow p t (Deliver e m ∷ h) a k = elim (or_cases (receiver flo
       (subst (λ s. in_domain (bounds_of flow (receiver flow e)) s ≡ true) (same-is m.at t b.1) a.0)
 ]
 
-owed-domain : (sys : System) (h : List Event) (p : ℕ) (t : Stamp) → AreAtNodes sys.flow h → owed sys h p t ≡ true → in_domain (bounds_of sys.flow p) t ≡ true
+owed-domain : (sys : System) (h : List Event) (p : ℕ) (t : Stamp) → AreAtNodes sys.flow h → is_owed_notice sys h p t ≡ true → in_domain (bounds_of sys.flow p) t ≡ true
 owed-domain sys h p t a k =
     let b = and_parts (is_notified_kind (kind_of sys.flow p) && was_delivered_to sys.flow p t h) (not (was_notified p t h)) k in
     delivered-domain sys.flow p t h a (and_parts (is_notified_kind (kind_of sys.flow p)) (was_delivered_to sys.flow p t h) b.0).1
@@ -145,10 +145,10 @@ pub record IsRead (sys : System) (events : List Event) (p : ℕ) (owed waiting :
   pub owed_there : owed ≡ owed_stamps sys.flow events p events
   pub waiting_there : waiting ≡ pending_stamps sys (reverse events) p
   pub complete : IsComplete sys (reverse events) (family_of sys.flow fronts)
-  pub arrived_there : Names (bounds_of sys.flow p) arrived (lowered sys (reverse events) (family_of sys.flow fronts) p (frontier_of (bounds_of sys.flow p) []))
+  pub arrived_there : IsFrontOf (bounds_of sys.flow p) arrived (lowered_frontier sys (reverse events) (family_of sys.flow fronts) p (frontier_of (bounds_of sys.flow p) []))
 
 ready-notifiable : (sys : System) (events : List Event) (p : ℕ) (ts waiting : List Stamp) (arrived : Front) (fronts : List Front) (asked : Option Stamp) (t : Stamp)
-    → IsRead sys events p ts waiting arrived fronts → owed sys (reverse events) p t ≡ true → is_ready ts waiting arrived asked t ≡ true
+    → IsRead sys events p ts waiting arrived fronts → is_owed_notice sys (reverse events) p t ≡ true → is_ready ts waiting arrived asked t ≡ true
     → IsNotifiable sys (reverse events) p t × IsAsked asked t
 ready-notifiable sys events p ts waiting arrived fronts asked t r o k =
     let h = reverse events in
@@ -162,7 +162,7 @@ ready-notifiable sys events p ts waiting arrived fronts asked t r o k =
     let left = and_parts (frontier_of b [] t) (list_all test (in_edges sys.flow p)) (sym (r.arrived_there.same t) ∙ and_from (in_domain b t) (inside arrived t) (owed-domain sys h p t r.at_nodes o) a.1) in (
       record {
         is_owed = o;
-        none_lesser = λ s l. false_from_ne_true (owed sys h p s) (λ j.
+        none_lesser = λ s l. false_from_ne_true (is_owed_notice sys h p s) (λ j.
             true≢false (sym (any_there (λ u. lesser u t) s ts (subst (λ xs. list_any (same s) xs ≡ true) (sym r.owed_there) (owed-there sys events p s j)) l)
             ∙ not-true (list_any (λ u. lesser u t) ts) d.1));
         quiet = λ s l. quiet-inside sys h p s (inside-closed (pending_stamps sys h p) s t l quiet_here);
@@ -208,9 +208,9 @@ notice_is sys events p ts waiting arrived fronts asked None r a = λ t n.
     (notifiable-ready sys events p ts waiting arrived fronts asked t r n.enabled n.asked)
 notice_is sys events p ts waiting arrived fronts asked (Some t) r a =
     let h = reverse events in
-    let each : AllByRecursion (λ s. owed sys h p s ≡ true) ts = subst (AllByRecursion (λ s. owed sys h p s ≡ true)) (sym r.owed_there)
-    (owed-each (λ s. owed sys h p s ≡ true) sys.flow events p events (λ s k u. owed-from sys events p s k u)) in
-    let n = ready-notifiable sys events p ts waiting arrived fronts asked t r (each-among stamp_cmp-same (λ s. owed sys h p s ≡ true) t ts a.among each) a.wanted in
+    let each : AllByRecursion (λ s. is_owed_notice sys h p s ≡ true) ts = subst (AllByRecursion (λ s. is_owed_notice sys h p s ≡ true)) (sym r.owed_there)
+    (owed-each (λ s. is_owed_notice sys h p s ≡ true) sys.flow events p events (λ s k u. owed-from sys events p s k u)) in
+    let n = ready-notifiable sys events p ts waiting arrived fronts asked t r (each-among stamp_cmp-same (λ s. is_owed_notice sys h p s ≡ true) t ts a.among each) a.wanted in
     record {
       enabled = n.0;
       asked = n.1;
@@ -221,8 +221,8 @@ notice_is sys events p ts waiting arrived fronts asked (Some t) r a =
     }
 
 pub arrived_read : (sys : System) (h : List Event) (p : ℕ) (read fronts : List Front) (all arrived : Front) → read ≡ fronts → all ≡ []
-    → Names (bounds_of sys.flow p) arrived (lowered sys h (family_of sys.flow read) p (frontier_of (bounds_of sys.flow p) all))
-    → Names (bounds_of sys.flow p) arrived (lowered sys h (family_of sys.flow fronts) p (frontier_of (bounds_of sys.flow p) []))
+    → IsFrontOf (bounds_of sys.flow p) arrived (lowered_frontier sys h (family_of sys.flow read) p (frontier_of (bounds_of sys.flow p) all))
+    → IsFrontOf (bounds_of sys.flow p) arrived (lowered_frontier sys h (family_of sys.flow fronts) p (frontier_of (bounds_of sys.flow p) []))
 arrived_read sys h p read fronts all arrived e a n =
-    subst (λ xs. Names (bounds_of sys.flow p) arrived (lowered sys h (family_of sys.flow xs) p (frontier_of (bounds_of sys.flow p) []))) e
-    (subst (λ os. Names (bounds_of sys.flow p) arrived (lowered sys h (family_of sys.flow read) p (frontier_of (bounds_of sys.flow p) os))) a n)
+    subst (λ xs. IsFrontOf (bounds_of sys.flow p) arrived (lowered_frontier sys h (family_of sys.flow xs) p (frontier_of (bounds_of sys.flow p) []))) e
+    (subst (λ os. IsFrontOf (bounds_of sys.flow p) arrived (lowered_frontier sys h (family_of sys.flow read) p (frontier_of (bounds_of sys.flow p) os))) a n)

@@ -10,7 +10,7 @@ use Rattle.std.proofs.lemmas.Nat.{mod_below}
 use Rattle.fw_bag.specs.declared.rec.Rec.{Rec}
 use Rattle.fw_bag.specs.Rec.{rec_cmp, IsAscending}
 use Rattle.fw_bag.specs.Bag.{with_rec, bag_sum}
-use Rattle.fw_bag.specs.Keyed.{plus, sorted, value_sum}
+use Rattle.fw_bag.specs.Keyed.{plus, sorted_recs, value_sum}
 use Rattle.fw_bag.proofs.BagLaws.{with_rec-le, bag_sum-with_rec}
 
 -- ---- the sum of the values of a key
@@ -71,6 +71,6 @@ sorted_more rs bag all i d l e =
     bag_sum-with_rec (get_or rs i d) (drop (i + 1) rs) bag ∙ sym (at_drop_more (λ xs. bag_sum xs bag) rs i d l) ∙ e
 
 -- what ascends is sorted already
-pub sorted_ascending : (xs : List Rec) → IsAscending xs → sorted xs ≡ xs
+pub sorted_ascending : (xs : List Rec) → IsAscending xs → sorted_recs xs ≡ xs
 sorted_ascending [] a = refl
 sorted_ascending (x ∷ xs) a = ap (with_rec x) (sorted_ascending xs a.1) ∙ first-first x xs a.0

@@ -19,16 +19,16 @@ use Rattle.fw_plain.proofs.EngineLaws.{legal_of}
 use Rattle.fw_model.specs.Choosing.{CanChoose}
 
 -- the state that an engine stands for is that of its lists
-pub stands_by : (sys : System) (past : Past) (settled fs : List Front) (failed ds : List Bool) (bounds ns : List ℕ) (vs : List Event)
-    → IsSound sys (state_of sys.flow past settled failed bounds) → events past.history ≡ reverse vs → fs ≡ settled → ns ≡ bounds → ds ≡ failed
-    → StandsBy sys vs fs ns ds (state_of sys.flow past settled failed bounds)
-stands_by sys past settled fs failed ds bounds ns vs i h e k l =
+pub stands_by : (sys : System) (past : Past) (settled fs : List Front) (failed ds : List Bool) (ack_counts ns : List ℕ) (vs : List Event)
+    → IsSound sys (state_of sys.flow past settled failed ack_counts) → events past.history ≡ reverse vs → fs ≡ settled → ns ≡ ack_counts → ds ≡ failed
+    → StandsBy sys vs fs ns ds (state_of sys.flow past settled failed ack_counts)
+stands_by sys past settled fs failed ds ack_counts ns vs i h e k l =
     let low : ℕ → Front = λ p. no_stamps (bounds_of sys.flow p) in
     record {
       well_formed = i.well_formed;
       keeps_nothing = i.keeps_nothing;
       notifies_nobody = i.notifies_nobody;
-      legal = legal_of sys (state_of sys.flow past settled failed bounds) i;
+      legal = legal_of sys (state_of sys.flow past settled failed ack_counts) i;
       history = h;
       settled_there = sym e;
       bounds_there = sym k;

@@ -4,7 +4,7 @@ use Rattle.std.proofs.lemmas.Bool.{cond-true, cond-false, cases_lt, eq-eqb}
 use Rattle.std.proofs.lemmas.Bool.Decides.{nat_tests}
 use Rattle.std.proofs.lemmas.List.{take_more, map-append, length-append, append-nil}
 use Rattle.fw_time.specs.Stamp.{Stamp, in_domain}
-use Rattle.fw_time.specs.Sending.{regrouped}
+use Rattle.fw_time.specs.Sending.{regrouped_stamp}
 use Rattle.fw_time.proofs.StampLaws.{leq-length}
 use Rattle.fw_bag.specs.declared.rec.Rec.{Rec}
 use Rattle.fw_bag.specs.Keyed.{is_among, sums_of, distinct_keys}
@@ -16,7 +16,7 @@ use Rattle.fw_flow.specs.declared.kind.Domain.TheVariants.{Epoch, Number, Loop a
 use Rattle.fw_flow.specs.declared.kind.Kind.{Kind}
 use Rattle.fw_flow.specs.declared.kind.Kind.TheVariants.{Distinct, Total, Sequence}
 use Rattle.fw_flow.specs.Dataflow.{System, Dataflow, kind_of, bounds_of_domain, domain_of_kind, greatest_number, send_stamp_of_kind}
-use Rattle.fw_flow.specs.NodeFunction.{place, stamp, delivered_recs, recs_on_delivery, recs_on_notification, recs_on, messages_at, numbered_messages, sequence_sent, messages_at_some, sends_of_kind, sends, sent_by}
+use Rattle.fw_flow.specs.NodeFunction.{event_node, event_stamp, delivered_recs, recs_on_delivery, recs_on_notification, recs_on, messages_at, numbered_messages, sequence_sent, messages_at_some, sends_of_kind, sends, sent_by}
 use Rattle.fw_flow.specs.Projection.{events_at}
 use Rattle.fw_flow.specs.WellFormed.{IsWellFormed, IsGroupSize}
 use Rattle.fw_plain.specs.declared.scan.arrivals.Wanted.TheVariants.{At, UpTo}
@@ -40,7 +40,7 @@ word-length flow (InLoop l) t e = let k = leq-length t _ e in record { some = om
 pub domain_length : (flow : Dataflow) (kind : Kind) (t : Stamp) → in_domain (bounds_of_domain flow (domain_of_kind flow kind)) t ≡ true → IsShort t
 domain_length flow kind t e = word-length flow (domain_of_kind flow kind) t e
 
-pub regrouped_first : (n : ℕ) (t : Stamp) → 0 < length t → regrouped n t ≡ Some ((slice_index t 0 / n) ∷ [])
+pub regrouped_first : (n : ℕ) (t : Stamp) → 0 < length t → regrouped_stamp n t ≡ Some ((slice_index t 0 / n) ∷ [])
 regrouped_first n [] l = absurd (omega arith)
 regrouped_first n (x ∷ t) l = refl
 
@@ -108,7 +108,7 @@ length-numbered n cause (r ∷ rs) l = elim (cases_lt n (2 ^ 32)) [
 -- ---- sequences
 
 sequence-cons : (sys : System) (v : Event) (vs : List Event)
-    → sequence_sent (v ∷ vs) ≡ numbered_messages (length (sequence_sent vs)) (stamp v) (recs_on sys Sequence vs v) ++ sequence_sent vs
+    → sequence_sent (v ∷ vs) ≡ numbered_messages (length (sequence_sent vs)) (event_stamp v) (recs_on sys Sequence vs v) ++ sequence_sent vs
 sequence-cons sys (Inject s x) vs = refl
 sequence-cons sys (Deliver e m) vs = refl
 sequence-cons sys (Notify p t) vs = refl
@@ -116,22 +116,22 @@ sequence-cons sys (Notify p t) vs = refl
 count-cons : (sys : System) (v : Event) (vs : List Event) (n : ℕ) → n ≤ 2 ^ 32 → n ≡ length (sequence_sent vs)
     → min (n + length (recs_on sys Sequence vs v)) (2 ^ 32) ≡ length (sequence_sent (v ∷ vs))
 count-cons sys v vs n l e =
-    let new = numbered_messages (length (sequence_sent vs)) (stamp v) (recs_on sys Sequence vs v) in
+    let new = numbered_messages (length (sequence_sent vs)) (event_stamp v) (recs_on sys Sequence vs v) in
     let a : length (sequence_sent (v ∷ vs)) ≡ length new + length (sequence_sent vs) = ap length (sequence-cons sys v vs) ∙ length-append new (sequence_sent vs) in
-    let b = length-numbered (length (sequence_sent vs)) (stamp v) (recs_on sys Sequence vs v) (omega arith) in
+    let b = length-numbered (length (sequence_sent vs)) (event_stamp v) (recs_on sys Sequence vs v) (omega arith) in
     omega arith
 
 -- the events of a node, with one more
-events-here : (flow : Dataflow) (p : ℕ) (events : List Event) (i : ℕ) (d : Event) → i < length events → place flow (get_or events i d) ≡ p
+events-here : (flow : Dataflow) (p : ℕ) (events : List Event) (i : ℕ) (d : Event) → i < length events → event_node flow (get_or events i d) ≡ p
     → events_at flow p (reverse (take (i + 1) events)) ≡ get_or events i d ∷ events_at flow p (reverse (take i events))
-events-here flow p events i d l e = ap (events_at flow p) (history_more events i d l) ∙ cond-true (place flow (get_or events i d) == p) _ _ (eq-eqb _ p e)
+events-here flow p events i d l e = ap (events_at flow p) (history_more events i d l) ∙ cond-true (event_node flow (get_or events i d) == p) _ _ (eq-eqb _ p e)
 
-events-elsewhere : (flow : Dataflow) (p : ℕ) (events : List Event) (i : ℕ) (d : Event) → i < length events → (place flow (get_or events i d) == p) ≡ false
+events-elsewhere : (flow : Dataflow) (p : ℕ) (events : List Event) (i : ℕ) (d : Event) → i < length events → (event_node flow (get_or events i d) == p) ≡ false
     → events_at flow p (reverse (take (i + 1) events)) ≡ events_at flow p (reverse (take i events))
-events-elsewhere flow p events i d l e = ap (events_at flow p) (history_more events i d l) ∙ cond-false (place flow (get_or events i d) == p) _ _ e
+events-elsewhere flow p events i d l e = ap (events_at flow p) (history_more events i d l) ∙ cond-false (event_node flow (get_or events i d) == p) _ _ e
 
 pub sequence_more : (sys : System) (flow : Dataflow) (p : ℕ) (events : List Event) (i : ℕ) (d : Event) (n : ℕ) → i < length events
-    → place flow (get_or events i d) ≡ p → n ≤ 2 ^ 32 → n ≡ length (sequence_sent (events_at flow p (reverse (take i events))))
+    → event_node flow (get_or events i d) ≡ p → n ≤ 2 ^ 32 → n ≡ length (sequence_sent (events_at flow p (reverse (take i events))))
     → length (sequence_sent (events_at flow p (reverse (take (i + 1) events))))
     ≡ min (n + length (recs_on sys Sequence (events_at flow p (reverse (take i events))) (get_or events i d))) (2 ^ 32)
 sequence_more sys flow p events i d n l e f h =
@@ -139,7 +139,7 @@ sequence_more sys flow p events i d n l e f h =
     ∙ sym (count-cons sys (get_or events i d) (events_at flow p (reverse (take i events))) n f h)
 
 pub sequence_same : (flow : Dataflow) (p : ℕ) (events : List Event) (i : ℕ) (d : Event) → i < length events
-    → (place flow (get_or events i d) == p) ≡ false
+    → (event_node flow (get_or events i d) == p) ≡ false
     → length (sequence_sent (events_at flow p (reverse (take (i + 1) events)))) ≡ length (sequence_sent (events_at flow p (reverse (take i events))))
 sequence_same flow p events i d l e = ap (λ vs. length (sequence_sent vs)) (events-elsewhere flow p events i d l e)
 
@@ -151,22 +151,22 @@ sends_past sys p vs v l = ap (λ k. sends_of_kind sys k vs v) (kind-past sys.flo
 
 -- what an event of a sequence sends
 pub sends_sequence : (sys : System) (p : ℕ) (kind : Kind) (vs : List Event) (v : Event) → kind ≡ kind_of sys.flow p → kind ≡ Sequence
-    → sends sys p vs v ≡ numbered_messages (length (sequence_sent vs)) (stamp v) (recs_on sys Sequence vs v)
+    → sends sys p vs v ≡ numbered_messages (length (sequence_sent vs)) (event_stamp v) (recs_on sys Sequence vs v)
 unfolding sends
 sends_sequence sys p kind vs v k e = ap (λ x. sends_of_kind sys x vs v) (sym k ∙ e)
 
 -- what an event of another node sends
 sends-other : (sys : System) (kind : Kind) (vs : List Event) (v : Event) → (kind ≡ Sequence → ⊥)
-    → sends_of_kind sys kind vs v ≡ messages_at_some (send_stamp_of_kind sys.flow kind (stamp v)) (stamp v) (recs_on sys kind vs v)
+    → sends_of_kind sys kind vs v ≡ messages_at_some (send_stamp_of_kind sys.flow kind (event_stamp v)) (event_stamp v) (recs_on sys kind vs v)
 sends-other sys Sequence vs v h = absurd (h refl)
 sends-other sys kind vs v h = refl
 
 pub sends_some : (sys : System) (p : ℕ) (kind : Kind) (vs : List Event) (v : Event) (at : Option Stamp) → kind ≡ kind_of sys.flow p → (kind ≡ Sequence → ⊥)
-    → at ≡ send_stamp_of_kind sys.flow kind (stamp v)
-    → sends sys p vs v ≡ messages_at_some at (stamp v) (recs_on sys kind vs v)
+    → at ≡ send_stamp_of_kind sys.flow kind (event_stamp v)
+    → sends sys p vs v ≡ messages_at_some at (event_stamp v) (recs_on sys kind vs v)
 unfolding sends
 sends_some sys p kind vs v at k h e =
-    ap (λ x. sends_of_kind sys x vs v) (sym k) ∙ sends-other sys kind vs v h ∙ ap (λ o. messages_at_some o (stamp v) (recs_on sys kind vs v)) (sym e)
+    ap (λ x. sends_of_kind sys x vs v) (sym k) ∙ sends-other sys kind vs v h ∙ ap (λ o. messages_at_some o (event_stamp v) (recs_on sys kind vs v)) (sym e)
 
 pub group_size : (flow : Dataflow) (p : ℕ) → IsWellFormed flow → p < length flow.nodes → IsGroupSize (kind_of flow p)
 group_size flow p w l = w.limits.groups p l
@@ -178,17 +178,17 @@ pub at_nodes_last : (flow : Dataflow) (events rest : List Event) (v : Event) →
 at_nodes_last flow events rest v e d = rw (history_last events rest v e) at d
 
 pub sent_more : (sys : System) (flow : Dataflow) (p : ℕ) (events rest : List Event) (v : Event) (ms latest all : List Message) → events ≡ rest ++ v ∷ []
-    → place flow v ≡ p → latest ≡ sends sys p (events_at flow p (reverse rest)) v
+    → event_node flow v ≡ p → latest ≡ sends sys p (events_at flow p (reverse rest)) v
     → ms ++ sent_by sys p (events_at flow p (reverse events)) ≡ all
     → (ms ++ latest) ++ sent_by sys p (events_at flow p (reverse rest)) ≡ all
 sent_more sys flow p events rest v ms latest all e f g h =
     let vs = events_at flow p (reverse rest) in
     append_assoc ms latest (sent_by sys p vs)
     ∙ ap (λ xs. ms ++ (xs ++ sent_by sys p vs)) g
-    ∙ sym (ap (λ ws. ms ++ sent_by sys p ws) (ap (events_at flow p) (history_last events rest v e) ∙ cond-true (place flow v == p) _ _ (eq-eqb _ p f))) ∙ h
+    ∙ sym (ap (λ ws. ms ++ sent_by sys p ws) (ap (events_at flow p) (history_last events rest v e) ∙ cond-true (event_node flow v == p) _ _ (eq-eqb _ p f))) ∙ h
 
 pub sent_same : (sys : System) (flow : Dataflow) (p : ℕ) (events rest : List Event) (v : Event) (ms all : List Message) → events ≡ rest ++ v ∷ []
-    → (place flow v == p) ≡ false → ms ++ sent_by sys p (events_at flow p (reverse events)) ≡ all
+    → (event_node flow v == p) ≡ false → ms ++ sent_by sys p (events_at flow p (reverse events)) ≡ all
     → ms ++ sent_by sys p (events_at flow p (reverse rest)) ≡ all
 sent_same sys flow p events rest v ms all e f h =
-    sym (ap (λ ws. ms ++ sent_by sys p ws) (ap (events_at flow p) (history_last events rest v e) ∙ cond-false (place flow v == p) _ _ f)) ∙ h
+    sym (ap (λ ws. ms ++ sent_by sys p ws) (ap (events_at flow p) (history_last events rest v e) ∙ cond-false (event_node flow v == p) _ _ f)) ∙ h

@@ -6,7 +6,7 @@ use Rattle.std.proofs.lemmas.Bool.Decides.{nat_tests}
 use Rattle.fw_time.specs.declared.stamp.Bounds.{Bounds}
 use Rattle.fw_time.specs.Stamp.{Stamp, leq, same, in_domain}
 use Rattle.fw_bag.specs.declared.rec.Rec.{Rec}
-use Rattle.fw_bag.specs.Keyed.{sorted}
+use Rattle.fw_bag.specs.Keyed.{sorted_recs}
 use Rattle.fw_frontier.specs.Front.{Front, inside, frontier_of, same_front}
 use Rattle.fw_flow.specs.declared.choice.Choice.{Choice}
 use Rattle.fw_flow.specs.declared.choice.Cut.{Cut}
@@ -14,12 +14,12 @@ use Rattle.fw_flow.specs.declared.choice.Cut.TheVariants.{Present, At}
 use Rattle.fw_flow.specs.declared.kind.Kind.{Kind}
 use Rattle.fw_flow.specs.declared.kind.Kind.TheVariants.{OutputEpoch, OutputNumber}
 use Rattle.fw_flow.specs.declared.step.Step.TheVariants.{Progress, Fail, Recover, Ack}
-use Rattle.fw_flow.specs.Dataflow.{System, Dataflow, kind_of, policy_of, receiver, bounds_of, greatest_of, greatest_number, domain_of_kind, is_output_kind, KeepsNothing, places}
+use Rattle.fw_flow.specs.Dataflow.{System, Dataflow, kind_of, policy_of, receiver, bounds_of, greatest_of, greatest_number, domain_of_kind, is_output_kind, KeepsNothing, node_ids}
 use Rattle.fw_flow.specs.NodeFunction.{delivered_recs}
-use Rattle.fw_model.specs.Choice.{cut_of, filtered, IsLargest}
+use Rattle.fw_model.specs.Choice.{cut_of, filtered_history, IsLargest}
 use Rattle.fw_model.specs.History.{IsComplete}
-use Rattle.fw_model.specs.Machine.{Machine, events, front_of, is_failed, bound_of, family_of, AreCanonical}
-use Rattle.fw_model.specs.Steps.{MayAcknowledge, HasSomethingAt, Steps, CutsTo, IsSettledCut, checkpoint_of, eager_writes, is_eager, is_one_of, offers, quiet, acked, cuts, did, idle}
+use Rattle.fw_model.specs.Machine.{Machine, events, front_of, is_failed, ack_count_of, family_of, AreCanonical}
+use Rattle.fw_model.specs.Steps.{MayAcknowledge, HasSomethingAt, StepsTo, CutsTo, IsSettledCut, checkpoint_of, eager_writes, is_eager, is_one_of, offers, silent, acked, cuts, did, idle}
 use Rattle.fw_model.proofs.Decisions.{two_ways}
 use Rattle.fw_model.proofs.DescentLaws.{complete-one}
 use Rattle.fw_plain.specs.Engine.{Standing, state_of, IsOfEachNode, IsSound}
@@ -41,7 +41,7 @@ grows-new b c s t i o =
     by false k e l = absurd (cc)
 
 pub progresses_nothing : (sys : System) (state : Machine) (complete : List Front) → IsSound sys state → IsComplete sys (events state.history) (family_of sys.flow complete)
-    → length complete ≡ length sys.flow.nodes → any_grows state.failed complete state.settled ≡ false → Steps sys state Progress state idle
+    → length complete ≡ length sys.flow.nodes → any_grows state.failed complete state.settled ≡ false → StepsTo sys state Progress state idle
 progresses_nothing sys state complete i k n none = (
   λ other effect t.
       let g = t.2 in
@@ -70,7 +70,7 @@ pub progresses : (sys : System) (past : Past) (settled : List Front) (failed : L
     → IsSound sys (state_of sys.flow past settled failed bounds)
     → IsComplete sys (events past.history) (family_of sys.flow complete) → AreCanonical sys.flow complete → AreGrown failed settled complete both
     → any_grows failed complete settled ≡ true
-    → Steps sys (state_of sys.flow past settled failed bounds) Progress (state_of sys.flow past both failed bounds) (did quiet)
+    → StepsTo sys (state_of sys.flow past settled failed bounds) Progress (state_of sys.flow past both failed bounds) (did silent)
 progresses sys past settled failed bounds complete both i k canonical j more =
     let old : Machine = state_of sys.flow past settled failed bounds in
     let each = i.of_each_node in
@@ -97,7 +97,7 @@ progresses sys past settled failed bounds complete both i k canonical j more =
         failed = λ q m e. subst (λ flag. IsGrown flag (front_of settled q) (front_of complete q) (front_of both q)) e
             (j.each q (subst (λ n. q < n) (sym each.one_flag_each) m));
       },
-      ap (λ ws. record (state_of sys.flow past both failed bounds) { writes = ws }) (sym (none_eager sys old both (places sys.flow) i.keeps_nothing)),
+      ap (λ ws. record (state_of sys.flow past both failed bounds) { writes = ws }) (sym (none_eager sys old both (node_ids sys.flow) i.keeps_nothing)),
       refl,
     )
 
@@ -113,7 +113,7 @@ fits_of_kind flow OutputEpoch x e k = at_most x (and_parts (nat_le x greatest_nu
 fits_of_kind flow OutputNumber x e k = at_most x (and_parts (nat_le x greatest_number) true k).0
 fits_of_kind flow kind x e k = absurd (cc)
 
-pub settled_fits : (sys : System) (state : Machine) (o x : ℕ) → MayAcknowledge sys state o x → bound_of state o < 2 ^ 32
+pub settled_fits : (sys : System) (state : Machine) (o x : ℕ) → MayAcknowledge sys state o x → ack_count_of state o < 2 ^ 32
 unfolding bounds_of
 settled_fits sys state o x m =
     subst (λ n. n < 2 ^ 32) m.next
@@ -121,8 +121,8 @@ settled_fits sys state o x m =
     (and_parts (in_domain (bounds_of sys.flow o) (x ∷ [])) (inside (front_of state.settled o) (x ∷ [])) m.settled).0)
 
 pub may_acknowledge : (was : Standing) (sys : System) (state : Machine) (refused : Bool) (o x : ℕ)
-    → record { sys = sys; state = state; refused = refused } ≡ was → IsSound sys state → o < length state.bounds
-    → x ≡ bound_of state o → is_output_kind (kind_of sys.flow o) ≡ true → is_failed state o ≡ false
+    → record { sys = sys; state = state; refused = refused } ≡ was → IsSound sys state → o < length state.ack_counts
+    → x ≡ ack_count_of state o → is_output_kind (kind_of sys.flow o) ≡ true → is_failed state o ≡ false
     → frontier_of (bounds_of was.sys.flow o) (front_of was.state.settled o) (x ∷ []) ≡ true
     → HasSomethingAt was.sys (events was.state.history) (kind_of was.sys.flow o) o x → MayAcknowledge was.sys was.state o x
 may_acknowledge was sys state refused o x e i l n k live =
@@ -139,14 +139,14 @@ may_acknowledge was sys state refused o x e i l n k live =
 
 pub may_acknowledge_none : (was : Standing) (sys : System) (state : Machine) (refused : Bool) (o : ℕ)
     → record { sys = sys; state = state; refused = refused } ≡ was
-    → (bound_of state o < 2 ^ 32 → ⊥) → (x : ℕ) → MayAcknowledge was.sys was.state o x → ⊥
+    → (ack_count_of state o < 2 ^ 32 → ⊥) → (x : ℕ) → MayAcknowledge was.sys was.state o x → ⊥
 may_acknowledge_none was sys state refused o e n =
     subst (λ (w : Standing). (x : ℕ) → MayAcknowledge w.sys w.state o x → ⊥) e (λ x m. n (settled_fits sys state o x m))
 
 pub acknowledges : (sys : System) (past : Past) (settled : List Front) (failed : List Bool) (bounds : List ℕ) (o x : ℕ) (recs : List Rec)
     → MayAcknowledge sys (state_of sys.flow past settled failed bounds) o x
-    → recs ≡ sorted (delivered_recs (λ e s. receiver sys.flow e == o && same s (x ∷ [])) (events past.history))
-    → Steps sys (state_of sys.flow past settled failed bounds) (Ack o) (state_of sys.flow past settled failed (slice_set bounds o (x + 1))) (did (acked o (x ∷ []) recs))
+    → recs ≡ sorted_recs (delivered_recs (λ e s. receiver sys.flow e == o && same s (x ∷ [])) (events past.history))
+    → StepsTo sys (state_of sys.flow past settled failed bounds) (Ack o) (state_of sys.flow past settled failed (slice_set bounds o (x + 1))) (did (acked o (x ∷ []) recs))
 acknowledges sys past settled failed bounds o x recs m e = (x, m, refl, ap (λ rs. acked o (x ∷ []) rs) e)
 
 -- ---- failures
@@ -184,7 +184,7 @@ live-by failed (q ∷ ps) e = elim (or_cases (not (slice_index_or failed q true)
 
 pub fails : (sys : System) (past : Past) (settled : List Front) (failed then_failed : List Bool) (bounds : List ℕ) (ps : List ℕ)
     → IsSound sys (state_of sys.flow past settled failed bounds) → any_live failed ps ≡ true → then_failed ≡ with_failed failed ps
-    → Steps sys (state_of sys.flow past settled failed bounds) (Fail ps) (state_of sys.flow past settled then_failed bounds) (did quiet)
+    → StepsTo sys (state_of sys.flow past settled failed bounds) (Fail ps) (state_of sys.flow past settled then_failed bounds) (did silent)
 fails sys past settled failed then_failed bounds ps i l e =
     let w = live-by failed ps l in
     let n = i.of_each_node.one_flag_each in
@@ -197,7 +197,7 @@ fails sys past settled failed then_failed bounds ps i l e =
       refl,
     )
 
-pub fails_nothing : (sys : System) (state : Machine) (ps : List ℕ) → IsSound sys state → any_live state.failed ps ≡ false → Steps sys state (Fail ps) state idle
+pub fails_nothing : (sys : System) (state : Machine) (ps : List ℕ) → IsSound sys state → any_live state.failed ps ≡ false → StepsTo sys state (Fail ps) state idle
 fails_nothing sys state ps i none = (
   λ other effect t.
       two_ways (any_live state.failed ps)
@@ -235,9 +235,9 @@ cuts-to sys state choice after each g c = record {
 pub recovers : (sys : System) (past later : Past) (settled after : List Front) (failed then_failed : List Bool) (bounds : List ℕ) (choice : Choice)
     → IsSound sys (state_of sys.flow past settled failed bounds) → any_failed failed ≡ true
     → IsLargest sys (state_of sys.flow past settled failed bounds) (offers sys (state_of sys.flow past settled failed bounds)) choice
-    → AreCut choice.cuts settled after → later ≡ record { history = filtered sys choice past.history; next = past.next }
-    → then_failed ≡ map (λ p. false) (places sys.flow)
-    → Steps sys (state_of sys.flow past settled failed bounds) Recover (state_of sys.flow later after then_failed bounds) (did (cuts choice))
+    → AreCut choice.cuts settled after → later ≡ record { history = filtered_history sys choice past.history; next = past.next }
+    → then_failed ≡ map (λ p. false) (node_ids sys.flow)
+    → StepsTo sys (state_of sys.flow past settled failed bounds) Recover (state_of sys.flow later after then_failed bounds) (did (cuts choice))
 recovers sys past later settled after failed then_failed bounds choice i some g c l e =
     let state = state_of sys.flow past settled failed bounds in
     let w = failed-by failed some in (
@@ -249,9 +249,9 @@ recovers sys past later settled after failed then_failed bounds choice i some g 
       g,
       cuts-to sys state choice after i.of_each_node g c,
       ap (λ p. state_of sys.flow p after then_failed bounds) l
-          ∙ ap (λ fs. state_of sys.flow (record { history = filtered sys choice past.history; next = past.next }) after fs bounds) e,
+          ∙ ap (λ fs. state_of sys.flow (record { history = filtered_history sys choice past.history; next = past.next }) after fs bounds) e,
       refl,
     )
 
-pub recovers_nothing : (sys : System) (state : Machine) → any_failed state.failed ≡ false → Steps sys state Recover state idle
+pub recovers_nothing : (sys : System) (state : Machine) → any_failed state.failed ≡ false → StepsTo sys state Recover state idle
 recovers_nothing sys state none = (λ other effect t. two_ways (any_failed state.failed) (failed-at state.failed t.0 t.4) none, refl)

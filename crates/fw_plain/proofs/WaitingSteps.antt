@@ -5,6 +5,6 @@ use Rattle.std.proofs.lemmas.List.Quantifiers.{position-Some}
 use Rattle.std.specs.Ordering.{is_eq}
 use Rattle.std.proofs.lemmas.Bool.{cond-true, cond-false, cases_lt}
 use Rattle.fw_flow.specs.declared.event.Message.{Message}
-use Rattle.fw_flow.specs.Message.{message_cmp, without}
+use Rattle.fw_flow.specs.Message.{message_cmp, messages_without}
 
 -- ---- one message taken away

@@ -3,21 +3,21 @@ use Rattle.std.specs.Prelude.{◌≡◌, ℕ, Bool, true, false, not, ◌&&◌, 
 use Rattle.std.specs.List.{flat_map, list_any, list_all}
 use Rattle.fw_time.specs.Stamp.{Stamp, in_domain}
 use Rattle.fw_frontier.specs.Frontier.{Frontier, Within}
-use Rattle.fw_frontier.specs.Front.{Front, frontier_of, IsCanonical}
+use Rattle.fw_frontier.specs.Front.{Front, IsCanonical}
 use Rattle.fw_flow.specs.declared.event.Event.{Event}
 use Rattle.fw_flow.specs.declared.event.Event.TheVariants.{Inject, Deliver, Notify}
-use Rattle.fw_flow.specs.Dataflow.{System, Dataflow, kind_of, sender, receiver, in_edges, bounds_of, is_input_kind, is_notified_kind}
+use Rattle.fw_flow.specs.Dataflow.{System, Dataflow, kind_of, sender, receiver, in_edges, bounds_of, is_input_kind, is_notified_kind, node_frontier}
 use Rattle.fw_flow.specs.Projection.{phi}
-use Rattle.fw_model.specs.History.{pending, owed, is_notification, injected_epochs, IsQuiet, IsAdmissible}
+use Rattle.fw_model.specs.History.{pending_messages, is_owed_notice, is_notification, injected_epochs, IsQuiet, IsAdmissible}
 
 -- all stamps of a node's domain; of an input those that it injected
-abbrev pub given : System → List Event → ℕ → Frontier
-given sys h p t =
+abbrev pub given_frontier : System → List Event → ℕ → Frontier
+given_frontier sys h p t =
     in_domain (bounds_of sys.flow p) t && (not (is_input_kind (kind_of sys.flow p)) || injected_epochs sys h p t)
 
 -- the stamps of what is pending for a node
 abbrev pub pending_stamps : System → List Event → ℕ → List Stamp
-pending_stamps sys h p = flat_map (λ e. map (λ m. m.at) (pending sys h e)) (in_edges sys.flow p)
+pending_stamps sys h p = flat_map (λ e. map (λ m. m.at) (pending_messages sys h e)) (in_edges sys.flow p)
 
 -- whether a node waits for notifications and was not notified of the stamp, by these events
 abbrev pub is_unnotified : Dataflow → List Event → ℕ → Stamp → Bool
@@ -37,14 +37,14 @@ owed_stamps flow events p vs = flat_map (λ v. option_to_list (owed_by flow even
 -- family lies within it.
 pub record IsClear (sys : System) (h : List Event) (p : ℕ) (front : Front) : Type 0 where
   pub canonical : IsCanonical (bounds_of sys.flow p) front
-  pub quiet : (t : Stamp) → frontier_of (bounds_of sys.flow p) front t ≡ true → IsQuiet sys h p t
-  pub paid : (t : Stamp) → frontier_of (bounds_of sys.flow p) front t ≡ true → owed sys h p t ≡ false
-  pub source : is_input_kind (kind_of sys.flow p) ≡ true → Within (frontier_of (bounds_of sys.flow p) front) (injected_epochs sys h p)
-  pub largest : (other : ℕ → Frontier) → IsAdmissible sys h other → Within (other p) (frontier_of (bounds_of sys.flow p) front)
+  pub quiet : (t : Stamp) → node_frontier sys.flow p front t ≡ true → IsQuiet sys h p t
+  pub paid : (t : Stamp) → node_frontier sys.flow p front t ≡ true → is_owed_notice sys h p t ≡ false
+  pub source : is_input_kind (kind_of sys.flow p) ≡ true → Within (node_frontier sys.flow p front) (injected_epochs sys h p)
+  pub largest : (other : ℕ → Frontier) → IsAdmissible sys h other → Within (other p) (node_frontier sys.flow p front)
 
 -- what is inside a frontier of a node, and inside phi of the family on each in-edge
-abbrev pub lowered : System → List Event → (ℕ → Frontier) → ℕ → Frontier → Frontier
-lowered sys h family p f t = f t && list_all (λ e. phi sys h e (family (sender sys.flow e)) t) (in_edges sys.flow p)
+abbrev pub lowered_frontier : System → List Event → (ℕ → Frontier) → ℕ → Frontier → Frontier
+lowered_frontier sys h family p f t = f t && list_all (λ e. phi sys h e (family (sender sys.flow e)) t) (in_edges sys.flow p)
 
 -- the first number of the stamp of which an event notifies node p, if it does
 abbrev pub notified_epoch : ℕ → Event → Option ℕ

@@ -1,13 +1,13 @@
 -- What the plain engine stands for.
 use Rattle.std.specs.Prelude.{◌≡◌, ℕ, ◌<◌, Bool, true, false, List, [], map, length}
 use Rattle.fw_frontier.specs.Front.{Front, IsCanonical}
-use Rattle.fw_flow.specs.Dataflow.{System, Dataflow, bounds_of, KeepsNothing, NotifiesNobody, places}
+use Rattle.fw_flow.specs.Dataflow.{System, Dataflow, bounds_of, KeepsNothing, NotifiesNobody, node_ids}
 use Rattle.fw_flow.specs.declared.step.Step.{Step}
 use Rattle.fw_flow.specs.WellFormed.{IsWellFormedSystem}
 use Rattle.fw_model.specs.Machine.{Machine, first_state, no_stamps, front_of}
-use Rattle.fw_model.specs.Steps.{Effect, quiet, acked, cuts, Outcome, did, idle, Run}
+use Rattle.fw_model.specs.Steps.{Effect, silent, acked, cuts, Outcome, did, idle, Run}
 use Rattle.fw_plain.specs.declared.stepped.Effect.{Effect as Shown}
-use Rattle.fw_plain.specs.declared.stepped.Effect.TheVariants.{Quiet, Acked, Cuts}
+use Rattle.fw_plain.specs.declared.stepped.Effect.TheVariants.{Silent, Acked, Cuts}
 use Rattle.fw_plain.specs.declared.stepped.Stepped.{Stepped}
 use Rattle.fw_plain.specs.declared.stepped.Stepped.TheVariants.{Did, Idle}
 use Rattle.fw_plain.specs.Past.{Past}
@@ -21,14 +21,14 @@ pub record Standing : Type 0 where
 -- The state of a machine in which nothing was written or collected: by its events, what is settled, which nodes are failed,
 -- and how many stamps each output acknowledged.
 abbrev pub state_of : Dataflow → Past → List Front → List Bool → List ℕ → Machine
-state_of flow past settled failed bounds = record {
+state_of flow past settled failed ack_counts = record {
   history = past.history;
   next = past.next;
   settled = settled;
   writes = [];
   failed = failed;
-  bounds = bounds;
-  low = map (λ p. no_stamps (bounds_of flow p)) (places flow);
+  ack_counts = ack_counts;
+  low = map (λ p. no_stamps (bounds_of flow p)) (node_ids flow);
 }
 
 -- steps lead to the state from the first one
@@ -40,7 +40,7 @@ pub record IsOfEachNode (sys : System) (state : Machine) : Type 0 where
   pub one_front_each : length state.settled ≡ length sys.flow.nodes
   pub canonical : (p : ℕ) → p < length sys.flow.nodes → IsCanonical (bounds_of sys.flow p) (front_of state.settled p)
   pub one_flag_each : length state.failed ≡ length sys.flow.nodes
-  pub one_bound_each : length state.bounds ≡ length sys.flow.nodes
+  pub one_bound_each : length state.ack_counts ≡ length sys.flow.nodes
 
 -- what is true of each state of an engine
 pub record IsSound (sys : System) (state : Machine) : Type 0 where
@@ -52,7 +52,7 @@ pub record IsSound (sys : System) (state : Machine) : Type 0 where
 
 -- the machine's effect that an engine shows
 abbrev pub effect_of : Shown → Effect
-effect_of Quiet = quiet
+effect_of Silent = silent
 effect_of (Acked output at recs) = acked output at recs.recs
 effect_of (Cuts choice) = cuts choice
 

@@ -3,7 +3,7 @@ use Rattle.std.specs.Prelude.{◌≡◌, ℕ, ◌<◌, Bool, true, false, not, �
 use Rattle.std.specs.List.{list_any}
 use Rattle.fw_time.specs.declared.stamp.Bounds.{Bounds}
 use Rattle.fw_frontier.specs.Frontier.{meet, join}
-use Rattle.fw_frontier.specs.Front.{Front, inside, frontier_of, IsCanonical, Names}
+use Rattle.fw_frontier.specs.Front.{Front, inside, frontier_of, IsCanonical, IsFrontOf}
 use Rattle.fw_flow.specs.declared.choice.Cut.{Cut}
 use Rattle.fw_flow.specs.declared.choice.Cut.TheVariants.{Present, At}
 use Rattle.fw_model.specs.Machine.{front_of}
@@ -28,7 +28,7 @@ pub record AreAtPlaces (count : ℕ) (is_wanted : ℕ → Front → Type 0) (fro
 abbrev pub IsGrown : Bool → Front → Front → Front → Type 0
 IsGrown true f g both = both ≡ f
 IsGrown false f g both = (bounds : Bounds) → IsCanonical bounds f → IsCanonical bounds g
-    → Names bounds both (join (frontier_of bounds f) (frontier_of bounds g))
+    → IsFrontOf bounds both (join (frontier_of bounds f) (frontier_of bounds g))
 
 -- each of the frontiers is grown to the complete one at its place
 abbrev pub AreGrown : List Bool → List Front → List Front → List Front → Type 0
@@ -39,7 +39,7 @@ AreGrown failed settled complete both =
 abbrev pub IsCut : Cut → Front → Front → Type 0
 IsCut Present f after = after ≡ f
 IsCut (At g) f after = (bounds : Bounds) → IsCanonical bounds f → IsCanonical bounds g
-    → Names bounds after (meet (frontier_of bounds f) (frontier_of bounds g))
+    → IsFrontOf bounds after (meet (frontier_of bounds f) (frontier_of bounds g))
 
 -- each of the frontiers is cut by the cut at its place
 abbrev pub AreCut : List Cut → List Front → List Front → Type 0

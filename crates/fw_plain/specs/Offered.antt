@@ -3,7 +3,7 @@ use Rattle.std.specs.Prelude.{◌≡◌, ℕ, ◌+◌, ◌<◌, min, Bool, false
 use Rattle.std.specs.List.{flat_map, range_with_len}
 use Rattle.fw_time.specs.declared.stamp.Bounds.{Bounds}
 use Rattle.fw_frontier.specs.Frontier.{Frontier, nothing, meet}
-use Rattle.fw_frontier.specs.Front.{Front, frontier_of, Names}
+use Rattle.fw_frontier.specs.Front.{Front, IsFrontOf}
 use Rattle.fw_flow.specs.declared.choice.Counted.{Counted}
 use Rattle.fw_flow.specs.declared.choice.Recorded.{Recorded}
 use Rattle.fw_flow.specs.declared.choice.Offered.{Offered}
@@ -13,7 +13,7 @@ use Rattle.fw_flow.specs.declared.event.Event.{Event}
 use Rattle.fw_flow.specs.declared.event.Event.TheVariants.{Inject, Deliver, Notify}
 use Rattle.fw_flow.specs.declared.event.Message.{Message}
 use Rattle.fw_flow.specs.declared.kind.Policy.TheVariants as policy
-use Rattle.fw_flow.specs.Dataflow.{System, Dataflow, kind_of, receiver, out_edges, bounds_of, greatest_number, NotifiesNobody, KeepsNothing}
+use Rattle.fw_flow.specs.Dataflow.{System, Dataflow, kind_of, receiver, out_edges, bounds_of, greatest_number, NotifiesNobody, KeepsNothing, node_frontier}
 use Rattle.fw_flow.specs.NodeFunction.{sent_by}
 use Rattle.fw_flow.specs.Projection.{events_at}
 use Rattle.fw_flow.specs.WellFormed.{IsWellFormedSystem}
@@ -27,26 +27,26 @@ use Rattle.fw_model.specs.Machine.{Machine, events, no_stamps, front_of}
 
 -- The state is that of a plain machine in which these events happened, the oldest first, and in which this is settled, was
 -- acknowledged and is failed: nothing was ever written or collected.
-pub record StandsBy (sys : System) (vs : List Event) (settled : List Front) (bounds : List ℕ) (failed : List Bool) (state : Machine) : Type 0 where
+pub record StandsBy (sys : System) (vs : List Event) (settled : List Front) (ack_counts : List ℕ) (failed : List Bool) (state : Machine) : Type 0 where
   pub well_formed : IsWellFormedSystem sys
   pub keeps_nothing : KeepsNothing sys.flow
   pub notifies_nobody : NotifiesNobody sys.flow
   pub legal : IsLegal sys (events state.history)
   pub history : events state.history ≡ reverse vs
   pub settled_there : state.settled ≡ settled
-  pub bounds_there : state.bounds ≡ bounds
+  pub bounds_there : state.ack_counts ≡ ack_counts
   pub failed_there : state.failed ≡ failed
   pub nothing_written : state.writes ≡ []
   pub nothing_collected : (p : ℕ) → p < length sys.flow.nodes → front_of state.low p ≡ no_stamps (bounds_of sys.flow p)
 
 -- a message on an edge, alone
-abbrev pub alone : ℕ → Message → Counted
-alone e m = record { edge = e; at = m.at; causes = m.causes; count = 1 }
+abbrev pub single_message : ℕ → Message → Counted
+single_message e m = record { edge = e; at = m.at; causes = m.causes; count = 1 }
 
 -- what an event delivered to node p
 abbrev pub delivery_to : Dataflow → ℕ → Event → List Counted
 delivery_to flow p (Inject s x) = []
-delivery_to flow p (Deliver e m) = if receiver flow e == p then alone e m ∷ [] else []
+delivery_to flow p (Deliver e m) = if receiver flow e == p then single_message e m ∷ [] else []
 delivery_to flow p (Notify q t) = []
 
 -- what was delivered to node p, each message alone
@@ -55,7 +55,7 @@ deliveries_to flow p h = flat_map (delivery_to flow p) h
 
 -- the messages on each of the edges, each alone
 abbrev pub on_each : List ℕ → List Message → List Counted
-on_each es ms = flat_map (λ e. map (alone e) ms) es
+on_each es ms = flat_map (λ e. map (single_message e) ms) es
 
 -- what node p sent on its out-edges
 abbrev pub sent_from : System → List Event → ℕ → List Counted
@@ -86,8 +86,8 @@ AreListed fs (Between least greatest) = ⊥
 
 -- all up to the frontier is offered
 abbrev pub IsUpTo : Bounds → Frontier → Offered → Type 0
-IsUpTo bounds f (Listed records) = ⊥
-IsUpTo bounds f (Between least greatest) = Names bounds least nothing × Names bounds greatest f
+IsUpTo ack_counts f (Listed records) = ⊥
+IsUpTo ack_counts f (Between least greatest) = IsFrontOf ack_counts least nothing × IsFrontOf ack_counts greatest f
 
 -- What node p offers, by the way in which it is restored, where so much is settled and so many stamps were acknowledged: an
 -- input what it injected, an output what is settled and acknowledged, any other node what is settled.
@@ -95,21 +95,21 @@ abbrev pub OffersBy : System → List Event → ℕ → Front → ℕ → Restor
 OffersBy sys h p settled bound Batches offered =
     AreListed (batch_fronts (min (injected_count p h) greatest_number) (is_exhausted sys h p)) offered
 OffersBy sys h p settled bound Bound offered =
-    IsUpTo (bounds_of sys.flow p) (meet (frontier_of (bounds_of sys.flow p) settled) (frontier_of (bounds_of sys.flow p) (until bound))) offered
-OffersBy sys h p settled bound Anything offered = IsUpTo (bounds_of sys.flow p) (frontier_of (bounds_of sys.flow p) settled) offered
+    IsUpTo (bounds_of sys.flow p) (meet (node_frontier sys.flow p settled) (node_frontier sys.flow p (until bound))) offered
+OffersBy sys h p settled bound Anything offered = IsUpTo (bounds_of sys.flow p) (node_frontier sys.flow p settled) offered
 OffersBy sys h p settled bound Checkpoints offered = ⊥
 OffersBy sys h p settled bound Events offered = ⊥
 
 -- what node p offers after a history, the latest event first, where these are settled, acknowledged and failed
-pub record IsOfferOf (sys : System) (h : List Event) (settled : List Front) (bounds : List ℕ) (failed : List Bool) (p : ℕ) (offer : Offer) : Type 0 where
+pub record IsOfferOf (sys : System) (h : List Event) (settled : List Front) (ack_counts : List ℕ) (failed : List Bool) (p : ℕ) (offer : Offer) : Type 0 where
   pub present : offer.present ≡ not (slice_index_or failed p false)
-  pub offered : OffersBy sys h p (front_of settled p) (slice_index_or bounds p 0) (restoring (kind_of sys.flow p) policy.None) offer.offered
+  pub offered : OffersBy sys h p (front_of settled p) (slice_index_or ack_counts p 0) (restoring (kind_of sys.flow p) policy.None) offer.offered
   pub delivered : offer.stamps.delivered ≡ deliveries_to sys.flow p h
   pub notified : offer.stamps.notified ≡ flat_map (stamp_of_notice p) h
   pub sent : offer.stamps.sent ≡ sent_from sys h p
 
 -- the offers are those of the nodes from p on
 abbrev pub AreOffersFrom : System → List Event → List Front → List ℕ → List Bool → ℕ → List Offer → Type 0
-AreOffersFrom sys h settled bounds failed p [] = Unit {0}
-AreOffersFrom sys h settled bounds failed p (offer ∷ offers) =
-    IsOfferOf sys h settled bounds failed p offer × AreOffersFrom sys h settled bounds failed (p + 1) offers
+AreOffersFrom sys h settled ack_counts failed p [] = Unit {0}
+AreOffersFrom sys h settled ack_counts failed p (offer ∷ offers) =
+    IsOfferOf sys h settled ack_counts failed p offer × AreOffersFrom sys h settled ack_counts failed (p + 1) offers

@@ -8,16 +8,16 @@ use Rattle.fw_flow.specs.declared.choice.Cut.{Cut}
 use Rattle.fw_flow.specs.declared.choice.Cut.TheVariants.{Present, At}
 use Rattle.fw_flow.specs.declared.event.Event.{Event}
 use Rattle.fw_flow.specs.Dataflow.{Dataflow, bounds_of}
-use Rattle.fw_flow.specs.NodeFunction.{place, stamp}
-use Rattle.fw_model.specs.Machine.{Numbered}
+use Rattle.fw_flow.specs.NodeFunction.{event_node, event_stamp}
+use Rattle.fw_model.specs.Machine.{SerialEvent}
 
 -- a history, the latest event first, and the next serial number
 pub record Past : Type 0 where
-  pub history : List Numbered
+  pub history : List SerialEvent
   pub next : ℕ
 
 -- events with these serial numbers, one for each
-abbrev pub under_serials : List ℕ → List Event → List Numbered
+abbrev pub under_serials : List ℕ → List Event → List SerialEvent
 under_serials [] vs = []
 under_serials (n ∷ ns) [] = []
 under_serials (n ∷ ns) (v ∷ vs) = record { serial = n; event = v } ∷ under_serials ns vs
@@ -32,12 +32,12 @@ with_one_more past v = record { history = record { serial = past.next; event = v
 
 -- whether the stamp of a domain is inside a cut
 abbrev pub is_inside_cut : Bounds → Cut → Stamp → Bool
-is_inside_cut bounds Present t = in_domain bounds t
-is_inside_cut bounds (At f) t = frontier_of bounds f t
+is_inside_cut ack_counts Present t = in_domain ack_counts t
+is_inside_cut ack_counts (At f) t = frontier_of ack_counts f t
 
 -- whether an event is inside the cut of its node
 abbrev pub is_kept : Dataflow → List Cut → Event → Bool
-is_kept flow cuts v = is_inside_cut (bounds_of flow (place flow v)) (slice_index_or cuts (place flow v) Present) (stamp v)
+is_kept flow cuts v = is_inside_cut (bounds_of flow (event_node flow v)) (slice_index_or cuts (event_node flow v) Present) (event_stamp v)
 
 -- the serial numbers of the events that pass the test
 abbrev pub kept_serials : (Event → Bool) → List ℕ → List Event → List ℕ

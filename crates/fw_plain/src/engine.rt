@@ -2,13 +2,12 @@
 ghost use Rattle.std.specs.Prelude.{◌≡◌, ◌↔◌, ◌<◌, ℕ, [], ◌∷◌, length, true, false, IfOk, IsErr, OnErr, OnOk, IsTrue, MatchOption};
 ghost use Rattle.std.specs.Option.{option_copied};
 ghost use Rattle.fw_flow.specs.declared.step.Step.TheVariants.{Inject, Deliver, Notify, Progress, Fail, Recover, Ack};
-ghost use Rattle.fw_flow.specs.Dataflow.{kind_of, bounds_of, NotifiesNobody, KeepsNothing, system_of};
+ghost use Rattle.fw_flow.specs.Dataflow.{kind_of, NotifiesNobody, KeepsNothing, system_of, node_frontier};
 ghost use Rattle.fw_flow.specs.WellFormed.{IsWellFormedSystem};
 ghost use Rattle.fw_model.specs.Choice.{IsLargest};
 ghost use Rattle.fw_model.specs.History.{IsLegal};
 ghost use Rattle.fw_model.specs.Machine.{first_state, events, front_of};
-ghost use Rattle.fw_frontier.specs.Front.{frontier_of};
-ghost use Rattle.fw_model.specs.Steps.{Steps, MayAcknowledge, HasSomethingAt, offers as spec_offers};
+ghost use Rattle.fw_model.specs.Steps.{StepsTo, MayAcknowledge, HasSomethingAt, offers as spec_offers};
 ghost use Rattle.fw_flow.specs.Step.{is_plain_step};
 ghost use Rattle.fw_plain.specs.Engine.{Standing, outcome_of};
 
@@ -38,7 +37,7 @@ pub struct Engine {
     // For each node what is settled, whether it is failed, and how many stamps it acknowledged.
     settled: Vec<Front>,
     failed: Vec<bool>,
-    bounds: Vec<u64>,
+    ack_counts: Vec<u64>,
     refused: bool,
 }
 
@@ -50,12 +49,12 @@ impl Model for Engine {
 
     ghost view = { λ e. record {
       sys = system_of e.flow e.batches;
-      state = state_of e.flow e.history e.settled.items e.failed.items e.bounds.items;
+      state = state_of e.flow e.history e.settled.items e.failed.items e.ack_counts.items;
       refused = e.refused;
     } };
 
     ghost invariant = { λ e. IsSound (system_of e.flow e.batches)
-        (state_of e.flow e.history e.settled.items e.failed.items e.bounds.items) };
+        (state_of e.flow e.history e.settled.items e.failed.items e.ack_counts.items) };
 }
 
 impl Engine {
@@ -72,7 +71,7 @@ impl Engine {
     {
         let settled = no_stamps_each(alloc, &flow)?;
         let failed = none_failed(alloc, &flow)?;
-        let bounds = vec![in alloc; 0; flow.nodes()]?;
+        let ack_counts = vec![in alloc; 0; flow.nodes()]?;
         Ok(Engine {
             alloc,
             flow,
@@ -80,7 +79,7 @@ impl Engine {
             history: Events::new(alloc),
             settled,
             failed,
-            bounds,
+            ack_counts,
             refused: false,
         })
     }
@@ -99,7 +98,7 @@ impl Engine {
         requires { is_plain_step step.now ≡ true }
         ensures system { self.new.sys ≡ self.old.sys }
         ensures ok { IfOk result (λ stepped.
-            Steps self.old.sys self.old.state step.now self.new.state (outcome_of stepped)) }
+            StepsTo self.old.sys self.old.state step.now self.new.state (outcome_of stepped)) }
         ensures legal { IsLegal self.new.sys (events self.new.state.history) }
         ensures live { OnOk result (self.new.refused ≡ false) }
         ensures err { OnErr result (self.new.refused ≡ true) }
@@ -120,7 +119,7 @@ impl Engine {
         ensures refused { self.new.refused ≡ self.old.refused }
         ensures unchanged { OnErr result (self.new ≡ self.old) }
         ensures ok { IfOk result (λ stepped.
-            Steps self.old.sys self.old.state step.now self.new.state (outcome_of stepped)) }
+            StepsTo self.old.sys self.old.state step.now self.new.state (outcome_of stepped)) }
     {
         match step {
             Step::Inject(source) => self.inject(*source),
@@ -139,7 +138,7 @@ impl Engine {
         ensures refused { self.new.refused ≡ self.old.refused }
         ensures unchanged { OnErr result (self.new ≡ self.old) }
         ensures ok { IfOk result (λ stepped.
-            Steps self.old.sys self.old.state (Inject source) self.new.state (outcome_of stepped)) }
+            StepsTo self.old.sys self.old.state (Inject source) self.new.state (outcome_of stepped)) }
     {
         if is_failed(&self.failed, source) {
             return Ok(Stepped::Idle);
@@ -149,7 +148,7 @@ impl Engine {
             return Ok(Stepped::Idle);
         };
         self.history.push(Event::Inject { source, epoch })?;
-        Ok(Stepped::Did(Effect::Quiet))
+        Ok(Stepped::Did(Effect::Silent))
     }
 
     fn deliver(&mut self, edge: EdgeId, at: Option<&Stamp>) -> Result<Stepped, AllocError>
@@ -157,7 +156,7 @@ impl Engine {
         ensures refused { self.new.refused ≡ self.old.refused }
         ensures unchanged { OnErr result (self.new ≡ self.old) }
         ensures ok { IfOk result (λ stepped.
-            Steps self.old.sys self.old.state (Deliver edge (option_copied at.entry)) self.new.state (outcome_of stepped)) }
+            StepsTo self.old.sys self.old.state (Deliver edge (option_copied at.entry)) self.new.state (outcome_of stepped)) }
     {
         if is_failed(&self.failed, self.flow.dst(edge)) {
             return Ok(Stepped::Idle);
@@ -168,12 +167,12 @@ impl Engine {
             return Ok(Stepped::Idle);
         };
         self.history.push(Event::Deliver { edge, message })?;
-        Ok(Stepped::Did(Effect::Quiet))
+        Ok(Stepped::Did(Effect::Silent))
     }
 
     // A notification comes to nothing, since no node of the dataflow waits for one.
     fn notify(&self, _node: NodeId, _at: Option<&Stamp>) -> Stepped
-        ensures { Steps self.now.sys self.now.state (Notify _node (option_copied _at.entry)) self.now.state (outcome_of result) }
+        ensures { StepsTo self.now.sys self.now.state (Notify _node (option_copied _at.entry)) self.now.state (outcome_of result) }
     {
         // Where a field is read, what holds of each engine is known.
         let _ = &self.flow;
@@ -185,7 +184,7 @@ impl Engine {
         ensures refused { self.new.refused ≡ self.old.refused }
         ensures unchanged { OnErr result (self.new ≡ self.old) }
         ensures ok { IfOk result (λ stepped.
-            Steps self.old.sys self.old.state Progress self.new.state (outcome_of stepped)) }
+            StepsTo self.old.sys self.old.state Progress self.new.state (outcome_of stepped)) }
     {
         let events = self.history.as_slice();
         let complete = complete_frontiers(self.alloc, &self.flow, &self.batches, events)?;
@@ -193,7 +192,7 @@ impl Engine {
             return Ok(Stepped::Idle);
         }
         self.settled = grown(self.alloc, &self.failed, &self.settled, &complete)?;
-        Ok(Stepped::Did(Effect::Quiet))
+        Ok(Stepped::Did(Effect::Silent))
     }
 
     fn fail(&mut self, nodes: &[NodeId]) -> Result<Stepped, AllocError>
@@ -201,13 +200,13 @@ impl Engine {
         ensures refused { self.new.refused ≡ self.old.refused }
         ensures unchanged { OnErr result (self.new ≡ self.old) }
         ensures ok { IfOk result (λ stepped.
-            Steps self.old.sys self.old.state (Fail nodes.now) self.new.state (outcome_of stepped)) }
+            StepsTo self.old.sys self.old.state (Fail nodes.now) self.new.state (outcome_of stepped)) }
     {
         if !any_live(&self.failed, nodes) {
             return Ok(Stepped::Idle);
         }
         self.failed = with_failed(self.alloc, &self.failed, nodes)?;
-        Ok(Stepped::Did(Effect::Quiet))
+        Ok(Stepped::Did(Effect::Silent))
     }
 
     // What is outside its node's cut is filtered out, also of what is settled, and no node is failed any more.
@@ -216,7 +215,7 @@ impl Engine {
         ensures refused { self.new.refused ≡ self.old.refused }
         ensures unchanged { OnErr result (self.new ≡ self.old) }
         ensures ok { IfOk result (λ stepped.
-            Steps self.old.sys self.old.state Recover self.new.state (outcome_of stepped)) }
+            StepsTo self.old.sys self.old.state Recover self.new.state (outcome_of stepped)) }
     {
         if !any_failed(&self.failed) {
             return Ok(Stepped::Idle);
@@ -242,7 +241,7 @@ impl Engine {
             &self.batches,
             self.history.as_slice(),
             &self.settled,
-            &self.bounds,
+            &self.ack_counts,
             &self.failed,
         )?;
         largest(self.alloc, &self.flow, &offers)
@@ -253,14 +252,14 @@ impl Engine {
         ensures refused { self.new.refused ≡ self.old.refused }
         ensures unchanged { OnErr result (self.new ≡ self.old) }
         ensures ok { IfOk result (λ stepped.
-            Steps self.old.sys self.old.state (Ack output) self.new.state (outcome_of stepped)) }
+            StepsTo self.old.sys self.old.state (Ack output) self.new.state (outcome_of stepped)) }
     {
         let Some(x) = self.next_acknowledged(output) else {
             return Ok(Stepped::Idle);
         };
         let at = Stamp::new(&[x]);
         let recs = recs_at(self.alloc, &self.flow, self.history.as_slice(), output, &at)?;
-        self.bounds[output.place() as usize] += 1;
+        self.ack_counts[output.place() as usize] += 1;
         Ok(Stepped::Did(Effect::Acked { output, at, recs }))
     }
 
@@ -269,7 +268,7 @@ impl Engine {
         ensures { MatchOption result ((x : ℕ) → MayAcknowledge self.now.sys self.now.state output x → ⊥)
             (λ x. MayAcknowledge self.now.sys self.now.state output x) }
     {
-        let bound = *self.bounds.get(output.place() as usize)?;
+        let bound = *self.ack_counts.get(output.place() as usize)?;
         let x = u32::try_from(bound).ok()?;
         if self.flow.kind(output).is_output()
             && !is_failed(&self.failed, output)
@@ -285,7 +284,7 @@ impl Engine {
     // Whether a number of an output is settled.
     fn is_settled(&self, output: NodeId, x: u32) -> bool
         requires { output < length self.now.state.settled }
-        ensures { result ≡ frontier_of (bounds_of self.now.sys.flow output)
+        ensures { result ≡ node_frontier self.now.sys.flow output
             (front_of self.now.state.settled output) (x ∷ []) }
     {
         let at = Stamp::new(&[x]);

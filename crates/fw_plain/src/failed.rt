@@ -2,14 +2,14 @@
 ghost use Rattle.std.specs.Prelude.{◌≡◌, false, true, not, ◌||◌, map, slice_index_or, IfOk};
 ghost use Rattle.fw_model.specs.Steps.{is_one_of};
 ghost use Rattle.fw_plain.specs.Failed as spec;
-ghost use Rattle.fw_flow.specs.Dataflow.{places};
+ghost use Rattle.fw_flow.specs.Dataflow.{node_ids};
 
 use fw_flow::{Flow, NodeId};
 use std::alloc::{AllocError, Global};
 
 /// No node is failed. The error is want of memory.
 pub(crate) fn none_failed(alloc: Global, flow: &Flow) -> Result<Vec<bool>, AllocError>
-    ensures { IfOk result (λ flags. flags.items ≡ map (λ p. false) (places flow.now)) }
+    ensures { IfOk result (λ flags. flags.items ≡ map (λ p. false) (node_ids flow.now)) }
 {
     let flags = vec![in alloc; false; flow.nodes()]?;
     Ok(flags)

@@ -1,6 +1,6 @@
 //! A frontier for each node.
 ghost use Rattle.std.specs.Prelude.{◌≡◌, not, ◌&&◌, map, length, IfOk};
-ghost use Rattle.fw_flow.specs.Dataflow.{bounds_of, places};
+ghost use Rattle.fw_flow.specs.Dataflow.{bounds_of, node_ids};
 ghost use Rattle.fw_model.specs.Machine.{no_stamps};
 ghost use Rattle.fw_plain.specs.Fronts as spec;
 ghost use Rattle.fw_plain.specs.Fronts.{IsGrown, AreGrown, IsCut, AreCut};
@@ -11,7 +11,7 @@ use std::alloc::{AllocError, Global};
 
 /// For each node the frontier without stamps. The error is want of memory.
 pub(crate) fn no_stamps_each(alloc: Global, flow: &Flow) -> Result<Vec<Front>, AllocError>
-    ensures { IfOk result (λ fronts. fronts.items ≡ map (λ p. no_stamps (bounds_of flow.now p)) (places flow.now)) }
+    ensures { IfOk result (λ fronts. fronts.items ≡ map (λ p. no_stamps (bounds_of flow.now p)) (node_ids flow.now)) }
 {
     let mut fronts = Vec::new(alloc);
     for place in 0..flow.nodes() {

@@ -3,7 +3,7 @@ ghost use Rattle.std.specs.Prelude.{◌≡◌, ℕ, ◌<◌, ◌++◌, [], ◌�
 ghost use Rattle.std.specs.List.{flat_map};
 ghost use Rattle.fw_time.specs.declared.stamp.Bounds.{Bounds as Domain};
 ghost use Rattle.fw_frontier.specs.Frontier.{meet};
-ghost use Rattle.fw_frontier.specs.Front.{frontier_of, IsCanonical, Names};
+ghost use Rattle.fw_frontier.specs.Front.{frontier_of, IsCanonical, IsFrontOf};
 ghost use Rattle.fw_flow.specs.declared.kind.Policy.TheVariants as policy;
 ghost use Rattle.fw_flow.specs.Dataflow.{kind_of, bounds_of, greatest_number, system_of};
 ghost use Rattle.fw_model.specs.Choice as choices;
@@ -33,22 +33,22 @@ pub(crate) fn offers(
     batches: &Batches,
     events: &[Event],
     settled: &[Front],
-    bounds: &[u64],
+    ack_counts: &[u64],
     failed: &[bool],
 ) -> Result<Vec<Offer>, AllocError>
     requires at_nodes { AreAtNodes flow.now (reverse events.now) }
     requires canonical { (p : ℕ) → p < length flow.now.nodes → IsCanonical (bounds_of flow.now p) (front_of settled.now p) }
     requires one_front_each { length settled.now ≡ length flow.now.nodes }
-    requires one_bound_each { length bounds.now ≡ length flow.now.nodes }
+    requires one_bound_each { length ack_counts.now ≡ length flow.now.nodes }
     requires one_flag_each { length failed.now ≡ length flow.now.nodes }
     ensures { (state : Machine) → let sys = system_of flow.now batches.now in
-        StandsBy sys events.now settled.now bounds.now failed.now state
+        StandsBy sys events.now settled.now ack_counts.now failed.now state
         → IfOk result (λ offers. AreOffersIn sys state (is_failed state) offers.items) }
 {
     let mut offers = Vec::new(alloc);
     for place in 0..flow.nodes() {
         let node = NodeId::at(place as u32);
-        let (front, bound) = (&settled[place], bounds[place]);
+        let (front, bound) = (&settled[place], ack_counts[place]);
         let offered = offered(alloc, flow, batches, events, node, front, bound)?;
         let stamps = stamps(alloc, flow, batches, events, node)?;
         // No node is notified, so there is no sequence.
@@ -99,7 +99,7 @@ fn offered(
 /// What is settled and acknowledged of an output.
 fn acknowledged(alloc: Global, settled: &Front, bound: u64) -> Result<Front, AllocError>
     ensures { (domain : Domain) → domain.greatest ≡ greatest_number ∷ [] → IsCanonical domain settled.now
-        → IfOk result (λ f. Names domain f
+        → IfOk result (λ f. IsFrontOf domain f
         (meet (frontier_of domain settled.now) (frontier_of domain (choices.until bound)))) }
 {
     match u32::try_from(bound) {
@@ -247,7 +247,7 @@ fn sent(
 
 /// Adds the messages on the edge.
 fn add_sent(sent: &mut Vec<Counted>, edge: EdgeId, messages: &[Message]) -> Result<(), AllocError>
-    ensures { OnOk result (sent.new.items ≡ sent.old.items ++ map (spec.alone edge) messages.now) }
+    ensures { OnOk result (sent.new.items ≡ sent.old.items ++ map (spec.single_message edge) messages.now) }
 {
     for message in messages {
         sent.push(alone(edge, message))?;
@@ -257,7 +257,7 @@ fn add_sent(sent: &mut Vec<Counted>, edge: EdgeId, messages: &[Message]) -> Resu
 
 /// A message on an edge, alone.
 fn alone(edge: EdgeId, message: &Message) -> Counted
-    ensures { result ≡ spec.alone edge message.now }
+    ensures { result ≡ spec.single_message edge message.now }
 {
     Counted {
         edge,

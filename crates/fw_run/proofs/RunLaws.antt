@@ -16,7 +16,7 @@ use Rattle.fw_model.proofs.ChoosingLaws.{reached-one_next}
 use Rattle.fw_model.proofs.GoingOn.{runs-go_on}
 use Rattle.fw_model.proofs.OneNextLaws.{one_next}
 use Rattle.fw_model.specs.Machine.{Machine, first_state}
-use Rattle.fw_model.specs.Steps.{Effect, Outcome, did, idle, LeadsTo, Steps, Run}
+use Rattle.fw_model.specs.Steps.{Effect, Outcome, did, idle, LeadsTo, StepsTo, Run}
 use Rattle.fw_plain.specs.Engine.{Standing}
 use Rattle.fw_run.proofs.Roses.{rose_last}
 use Rattle.fw_run.specs.Performing.{IsShownOf, IsStepPrinted, IsStepCutOff, Performs}
@@ -75,7 +75,7 @@ shown_effect sys state Recover next effect t = subst (λ e. IsShownOf sys.flow (
 shown_effect sys state Collect next effect t = subst (λ e. IsShownOf sys.flow (did e)) (sym t.4) tt
 shown_effect sys state (Ack o) next effect t = subst (λ e. IsShownOf sys.flow (did e)) (sym t.3) t.1.declared
 
-pub shown_of : (sys : System) (state : Machine) (step : Step) (next : Machine) (outcome : Outcome) → Steps sys state step next outcome → IsShownOf sys.flow outcome
+pub shown_of : (sys : System) (state : Machine) (step : Step) (next : Machine) (outcome : Outcome) → StepsTo sys state step next outcome → IsShownOf sys.flow outcome
 shown_of sys state step next (did effect) t = shown_effect sys state step next effect t
 shown_of sys state step next idle t = tt
 
@@ -181,7 +181,7 @@ pub so_far_more : (sys : System) (steps : List Step) (old new : Standing) (step 
     → IsSoFar sys (steps ++ step ∷ []) new (cond was_idle (idle_steps + 1) idle_steps) before after
 so_far_more sys steps old new step idle_steps was_idle before mid after s e p =
     let o = p.outcome in
-    let one : Steps sys old.state step new.state o = along sys old (λ y. Steps y old.state step new.state o) s.system p.steps in
+    let one : StepsTo sys old.state step new.state o = along sys old (λ y. StepsTo y old.state step new.state o) s.system p.steps in
     let line : IsWritten (outcome_text sys.flow o) mid after = along sys old (λ y. IsWritten (outcome_text y.flow o) mid after) s.system p.written in
     record {
       system = e ∙ s.system;
@@ -229,7 +229,7 @@ stops_within : {T : Type 0} (sys : System) (steps others : List Step) (standing 
     → IsWellFormedSystem sys → IsStepCutOff standing step fault mid after → Performs {T = T} sys (steps ++ step ∷ others) (Err fault) before after
 stops_within sys steps others standing step idle_steps fault before mid after s w (inl c) = stops_before sys steps (step ∷ others) standing idle_steps fault before mid after s w c
 stops_within sys steps others standing step idle_steps fault before mid after s w (inr (next, o, t, c)) =
-    let one : Steps sys standing.state step next o = along sys standing (λ y. Steps y standing.state step next o) s.system t in
+    let one : StepsTo sys standing.state step next o = along sys standing (λ y. StepsTo y standing.state step next o) s.system t in
     let line : IsCutOff (outcome_text sys.flow o) fault mid after = along sys standing (λ y. IsCutOff (outcome_text y.flow o) fault mid after) s.system c in
     let further = runs-go_on sys (first_state sys) standing.state next steps (step ∷ []) s.outcomes (o ∷ []) s.run (next, one, refl) in
     let rest = run_exists sys w (steps ++ step ∷ []) (s.outcomes ++ o ∷ []) next further others in

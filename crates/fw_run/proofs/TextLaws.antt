@@ -10,7 +10,7 @@ use Rattle.fw_lines.specs.Lines.{said_lines}
 use Rattle.fw_lines.proofs.FaultLaws.{sound_or_first}
 use Rattle.fw_lines.proofs.GivenLaws.{sound-batches}
 use Rattle.fw_lines.proofs.ReadLaws as input_texts
-use Rattle.fw_flow.specs.Dataflow.{Dataflow, System, places, system_of, batches_of_nodes}
+use Rattle.fw_flow.specs.Dataflow.{Dataflow, System, node_ids, system_of, batches_of_nodes}
 use Rattle.fw_flow.specs.Sources.{sources_of}
 use Rattle.fw_flow.proofs.SystemLaws.{well_formed-given}
 use Rattle.fw_flow.specs.WellFormed.{IsWellFormedSystem}
@@ -46,7 +46,7 @@ unfolding batches_of_nodes
 system_read flow_text text flow batches e a =
     let make : List (List (List Rec)) → System = λ b. record { flow = flow; batches = b } in
     let spelled : Dataflow → System = λ f. record { flow = f; batches = spelled_batches f text } in
-    ap make (same_map (batches_at batches) (inputs.batches_of (sources_of flow) (said_lines text)) (places flow) a.value) ∙ ap spelled e
+    ap make (same_map (batches_at batches) (inputs.batches_of (sources_of flow) (said_lines text)) (node_ids flow) a.value) ∙ ap spelled e
 
 -- what three accepted texts spell is a job
 pub job_read : (told : Option (List ℕ → Option (List ℕ))) (names : TextNames) (job : Job)

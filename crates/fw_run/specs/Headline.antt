@@ -9,8 +9,8 @@ use Rattle.fw_model.specs.Choice.{View, IsCandidate, IsLargest}
 use Rattle.fw_model.specs.Denotation.{Family, IsDenotation}
 use Rattle.fw_model.specs.History.{IsLegal}
 use Rattle.fw_model.specs.Acknowledgements.{IsDenoted, stamps_acknowledged, first_stamps}
-use Rattle.fw_model.specs.Machine.{Machine, events, first_state, bound_of, is_failed}
-use Rattle.fw_model.specs.Steps.{cuts, Outcome, did, Steps, Run}
+use Rattle.fw_model.specs.Machine.{Machine, events, first_state, ack_count_of, is_failed}
+use Rattle.fw_model.specs.Steps.{cuts, Outcome, did, StepsTo, Run}
 use Rattle.fw_run.specs.Printed.{text_of}
 
 -- the machine takes the steps from its first state, and this is the text of what comes of them
@@ -28,7 +28,7 @@ StaysLegal sys steps = (count : ℕ) (outcomes : List Outcome) (state : Machine)
 -- each output acknowledges its first stamps, in order and each once
 abbrev pub AcknowledgesInOrder : System → List Step → Type 0
 AcknowledgesInOrder sys steps = (outcomes : List Outcome) (last : Machine) → Run sys (first_state sys) steps outcomes last
-    → (o : ℕ) → stamps_acknowledged o outcomes ≡ first_stamps (bound_of last o)
+    → (o : ℕ) → stamps_acknowledged o outcomes ≡ first_stamps (ack_count_of last o)
 
 -- the dataflow has a denotation, which each acknowledgement of the steps shows
 abbrev pub ShowsDenotation : System → List Step → Type 0
@@ -45,13 +45,13 @@ abbrev pub RecoversFailed : System → List Step → Type 0
 RecoversFailed sys steps = (count : ℕ) (outcomes : List Outcome) (state : Machine)
     → Run sys (first_state sys) (take count steps) outcomes state
     → (p : ℕ) → p < length sys.flow.nodes → is_failed state p ≡ true
-    → (next : Machine) × (choice : Choice) × Steps sys state Recover next (did (cuts choice))
+    → (next : Machine) × (choice : Choice) × StepsTo sys state Recover next (did (cuts choice))
 
 -- After each number of the steps a recovery cuts to the largest consistent choice of what is kept, which is what a recovery
 -- is, and by a law that is also the largest over all that was ever acknowledged and not undone.
 abbrev pub CutsToLargest : System → List Step → Type 0
 CutsToLargest sys steps = (count : ℕ) (outcomes : List Outcome) (state next : Machine) (choice : Choice)
-    → Run sys (first_state sys) (take count steps) outcomes state → Steps sys state Recover next (did (cuts choice))
+    → Run sys (first_state sys) (take count steps) outcomes state → StepsTo sys state Recover next (did (cuts choice))
     → (view : View) → IsLargest sys state (IsCandidate sys state (is_failed state) view) choice
 
 -- what is true of the system and the steps that accepted texts spell

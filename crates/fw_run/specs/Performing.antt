@@ -7,7 +7,7 @@ use Rattle.fw_outside.specs.Outside.{SinkView}
 use Rattle.fw_flow.specs.declared.step.Step.{Step}
 use Rattle.fw_flow.specs.Dataflow.{Dataflow, System}
 use Rattle.fw_model.specs.Machine.{Machine}
-use Rattle.fw_model.specs.Steps.{acked, cuts, Outcome, did, Steps}
+use Rattle.fw_model.specs.Steps.{acked, cuts, Outcome, did, StepsTo}
 use Rattle.fw_plain.specs.Engine.{Standing}
 use Rattle.fw_run.specs.Headline.{PrintsRun}
 use Rattle.fw_run.specs.Printed.{outcome_text, is_idle}
@@ -27,7 +27,7 @@ IsShownOf flow outcome = Unit {0}
 -- the step was taken from one state to the next, and the lines of what came of it were written
 pub record IsStepPrinted (old new : Standing) (step : Step) (idle : Bool) (before after : SinkView) : Type 0 where
   pub outcome : Outcome
-  pub steps : Steps old.sys old.state step new.state outcome
+  pub steps : StepsTo old.sys old.state step new.state outcome
   pub is_idle : idle ≡ is_idle outcome
   pub written : IsWritten (outcome_text old.sys.flow outcome) before after
 
@@ -35,7 +35,7 @@ pub record IsStepPrinted (old new : Standing) (step : Step) (idle : Bool) (befor
 abbrev pub IsStepCutOff : Standing → Step → OutFault → SinkView → SinkView → Type 0
 IsStepCutOff old step fault before after =
     IsCutOff [] fault before after
-    ⊎ ((next : Machine) × (outcome : Outcome) × Steps old.sys old.state step next outcome × IsCutOff (outcome_text old.sys.flow outcome) fault before after)
+    ⊎ ((next : Machine) × (outcome : Outcome) × StepsTo old.sys old.state step next outcome × IsCutOff (outcome_text old.sys.flow outcome) fault before after)
 
 -- what an answer to a step says: whether it was idle, and that it was printed, or by which fault its lines were cut off
 abbrev pub PrintsStep : Standing → Standing → Step → Result Bool OutFault → SinkView → SinkView → Type 0

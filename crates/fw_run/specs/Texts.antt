@@ -8,7 +8,7 @@ use Rattle.fw_lines.specs.Inputs.{line_fault, size_limit}
 use Rattle.fw_lines.specs.Inputs as inputs
 use Rattle.fw_lines.specs.Lines.{said_lines}
 use Rattle.fw_flow.specs.declared.step.Step.{Step}
-use Rattle.fw_flow.specs.Dataflow.{Dataflow, System, places}
+use Rattle.fw_flow.specs.Dataflow.{Dataflow, System, node_ids}
 use Rattle.fw_flow.specs.Raw.{flow_of}
 use Rattle.fw_flow.specs.Sources.{sources_of}
 use Rattle.fw_flow_text.specs.Grammar.{declared_by}
@@ -29,7 +29,7 @@ spelled_flow text = flow_of (declared_by (said_lines text))
 
 -- for each node of a dataflow the batches that a text gives it, by epoch
 abbrev pub spelled_batches : Dataflow → List ℕ → List (List (List Rec))
-spelled_batches flow text = map (inputs.batches_of (sources_of flow) (said_lines text)) (places flow)
+spelled_batches flow text = map (inputs.batches_of (sources_of flow) (said_lines text)) (node_ids flow)
 
 -- the dataflow with its batches
 abbrev pub spelled_system : Texts → System

@@ -38,7 +38,7 @@ fn effect_line(
         ≡ effect_text flow.now (effect_of effect.old)) }
 {
     match effect {
-        Effect::Quiet => Ok(None),
+        Effect::Silent => Ok(None),
         Effect::Acked { output, at, recs } => {
             let name = flow.node_name(*output).as_bytes();
             Ok(Some(ack_line(alloc, name, flow.kind(*output), at, recs)?))

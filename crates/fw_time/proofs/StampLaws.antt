@@ -8,7 +8,7 @@ use Rattle.std.specs.declared.cmp.Ordering.{Ordering}
 use Rattle.std.specs.declared.cmp.Ordering.TheVariants.{Less, Equal, Greater}
 use Rattle.std.proofs.lemmas.Cmp.{tied_itself, nat_list_cmp_total}
 pub use Rattle.fw_time.specs.NestLaws.{outer-nest, counter-nest, nest-outer, leq-nest}
-use Rattle.fw_time.specs.Stamp.{leq, same, lub, glb, stamp_cmp, nest, origin, raised}
+use Rattle.fw_time.specs.Stamp.{leq, same, lub, glb, stamp_cmp, nest, origin, stamp_raised_at}
 
 -- each stamp is at most itself
 pub leq-refl : (s : List ℕ) → leq s s ≡ true
@@ -190,7 +190,7 @@ origin-append [] s = refl
 origin-append (x ∷ h) s = ap (λ u. 0 ∷ u) (origin-append h s)
 
 -- the stamps of a domain with a greater coordinate at a place
-pub leq-raised : (s t : List ℕ) (i : ℕ) → i < length s → length s ≡ length t → leq (raised s i) t ≡ nat_lt (get_or s i 0) (get_or t i 0)
+pub leq-raised : (s t : List ℕ) (i : ℕ) → i < length s → length s ≡ length t → leq (stamp_raised_at s i) t ≡ nat_lt (get_or s i 0) (get_or t i 0)
 leq-raised [] t i h k = absurd (omega arith)
 leq-raised (x ∷ s) [] i h k = cc
 leq-raised (x ∷ s) (y ∷ t) zero h k = step (nat_le (x + 1) y) (leq (origin s) t) (origin-leq s t (omega arith)) ∙ same x y

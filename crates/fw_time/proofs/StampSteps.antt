@@ -3,8 +3,8 @@ use Rattle.std.proofs.Common.{◌≡◌, ℕ, ◌+◌, ◌<◌, ◌&&◌, nat_le
 use Rattle.std.proofs.lemmas.Bool.Decides.{nat_tests}
 use Rattle.std.proofs.lemmas.List.{append-nil, take_more}
 use Rattle.std.specs.Fmt.{decimal}
-use Rattle.fw_time.specs.StampText.{dotted}
-use Rattle.fw_time.specs.Stamp.{leq, lub, outer, counter, origin, raised}
+use Rattle.fw_time.specs.StampText.{dots_text}
+use Rattle.fw_time.specs.Stamp.{leq, lub, outer, counter, origin, stamp_raised_at}
 use Rattle.fw_time.proofs.StampLaws.{outer-nest, counter-nest}
 
 leq_suc : (a b : List ℕ) (i : ℕ) → i < length a → i < length b → leq (drop i a) (drop i b) ≡ (nat_le (get_or a i 0) (get_or b i 0) && leq (drop (suc i) a) (drop (suc i) b))
@@ -52,12 +52,12 @@ pub lub_more : (a b : List ℕ) (i : ℕ) → i < max (length a) (length b) → 
 lub_more a b i h = take_more (lub a b) i 0 (omega (arith, length-lub_any a b)) ∙ ap (λ z. take i (lub a b) ++ z ∷ []) (lub-at a b i)
 
 -- zeros but at one place
-pub length-raised : (s : List ℕ) (i : ℕ) → length (raised s i) ≡ length s
+pub length-raised : (s : List ℕ) (i : ℕ) → length (stamp_raised_at s i) ≡ length s
 length-raised [] i = refl
 length-raised (x ∷ s) zero = ap suc (length-origin s)
 length-raised (x ∷ s) (suc i) = ap suc (length-raised s i)
 
-raised-at : (s : List ℕ) (i k : ℕ) → k < length s → get_or (raised s i) k 0 ≡ cond (nat_eq k i) (get_or s k 0 + 1) 0
+raised-at : (s : List ℕ) (i k : ℕ) → k < length s → get_or (stamp_raised_at s i) k 0 ≡ cond (nat_eq k i) (get_or s k 0 + 1) 0
 raised-at [] i k h = absurd (omega arith)
 raised-at (x ∷ s) zero zero h = refl
 raised-at (x ∷ s) zero (suc k) h = origin-at s k ∙ sym (not_there k (get_or s k 0 + 1))
@@ -74,8 +74,8 @@ raised-at (x ∷ s) (suc i) (suc k) h = raised-at s i k (omega arith) ∙ furthe
     further i k y = grind (arith, nat_tests)
 
 -- one more place
-pub raised_more : (s : List ℕ) (i k : ℕ) → k < length s → take (k + 1) (raised s i) ≡ take k (raised s i) ++ cond (nat_eq k i) (get_or s k 0 + 1) 0 ∷ []
-raised_more s i k h = take_more (raised s i) k 0 (omega (arith, length-raised s i)) ∙ ap (λ z. take k (raised s i) ++ z ∷ []) (raised-at s i k h)
+pub raised_more : (s : List ℕ) (i k : ℕ) → k < length s → take (k + 1) (stamp_raised_at s i) ≡ take k (stamp_raised_at s i) ++ cond (nat_eq k i) (get_or s k 0 + 1) 0 ∷ []
+raised_more s i k h = take_more (stamp_raised_at s i) k 0 (omega (arith, length-raised s i)) ∙ ap (λ z. take k (stamp_raised_at s i) ++ z ∷ []) (raised-at s i k h)
 
 -- zeros at as many places, counted
 pub origin-replicate : (s : List ℕ) → origin s ≡ replicate (length s) 0
@@ -83,11 +83,11 @@ origin-replicate [] = refl
 origin-replicate (x ∷ s) = ap (λ u. 0 ∷ u) (origin-replicate s)
 
 -- one more coordinate printed after its dot
-pub dotted_more : (xs : List ℕ) (i x : ℕ) → i < length xs → x ≡ get_or xs i 0 → dotted (take i xs) ++ (46 ∷ decimal x) ≡ dotted (take (i + 1) xs)
+pub dotted_more : (xs : List ℕ) (i x : ℕ) → i < length xs → x ≡ get_or xs i 0 → dots_text (take i xs) ++ (46 ∷ decimal x) ≡ dots_text (take (i + 1) xs)
 dotted_more xs i x h e =
-    ap (λ y. dotted (take i xs) ++ (46 ∷ decimal y)) e ∙ sym (rw add-one (by xs i h))
+    ap (λ y. dots_text (take i xs) ++ (46 ∷ decimal y)) e ∙ sym (rw add-one (by xs i h))
   where
-    by : (xs : List ℕ) (i : ℕ) → i < length xs → dotted (take (suc i) xs) ≡ dotted (take i xs) ++ (46 ∷ decimal (get_or xs i 0))
+    by : (xs : List ℕ) (i : ℕ) → i < length xs → dots_text (take (suc i) xs) ≡ dots_text (take i xs) ++ (46 ∷ decimal (get_or xs i 0))
     by [] i h = absurd (omega arith)
     by (x ∷ xs) zero h = append-nil (46 ∷ decimal x)
-    by (x ∷ xs) (suc i) h = ap (λ s. (46 ∷ decimal x) ++ s) (by xs i (omega arith)) ∙ sym (append_assoc (46 ∷ decimal x) (dotted (take i xs)) (46 ∷ decimal (get_or xs i 0)))
+    by (x ∷ xs) (suc i) h = ap (λ s. (46 ∷ decimal x) ++ s) (by xs i (omega arith)) ∙ sym (append_assoc (46 ∷ decimal x) (dots_text (take i xs)) (46 ∷ decimal (get_or xs i 0)))

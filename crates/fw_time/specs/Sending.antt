@@ -3,18 +3,18 @@ use Rattle.std.specs.Prelude.{ℕ, ◌+◌, ◌/◌, nat_lt, if◌then◌else◌
 use Rattle.fw_time.specs.Stamp.{Stamp, nest, outer, counter}
 
 -- where a loop is entered: counter 0
-abbrev pub entered : Stamp → Option Stamp
-entered t = Some (nest t 0)
+abbrev pub entered_stamp : Stamp → Option Stamp
+entered_stamp t = Some (nest t 0)
 
 -- where a loop is fed back: the next counter, nothing past the last one
-abbrev pub fed_back : ℕ → Stamp → Option Stamp
-fed_back max t = if nat_lt (counter t) max then Some (nest (outer t) (counter t + 1)) else None
+abbrev pub fed_back_stamp : ℕ → Stamp → Option Stamp
+fed_back_stamp max t = if nat_lt (counter t) max then Some (nest (outer t) (counter t + 1)) else None
 
 -- where a loop is left: without the counter
-abbrev pub left : Stamp → Option Stamp
-left t = Some (outer t)
+abbrev pub left_stamp : Stamp → Option Stamp
+left_stamp t = Some (outer t)
 
 -- where numbers are regrouped into epochs of n
-abbrev pub regrouped : ℕ → Stamp → Option Stamp
-regrouped n [] = None
-regrouped n (s ∷ t) = Some ((s / n) ∷ [])
+abbrev pub regrouped_stamp : ℕ → Stamp → Option Stamp
+regrouped_stamp n [] = None
+regrouped_stamp n (s ∷ t) = Some ((s / n) ∷ [])

@@ -66,7 +66,7 @@ origin [] = []
 origin (x ∷ s) = 0 ∷ origin s
 
 -- the least stamp of as many coordinates that has a greater coordinate at a place
-abbrev pub raised : Stamp → ℕ → Stamp
-raised [] i = []
-raised (x ∷ s) zero = (x + 1) ∷ origin s
-raised (x ∷ s) (suc i) = 0 ∷ raised s i
+abbrev pub stamp_raised_at : Stamp → ℕ → Stamp
+stamp_raised_at [] i = []
+stamp_raised_at (x ∷ s) zero = (x + 1) ∷ origin s
+stamp_raised_at (x ∷ s) (suc i) = 0 ∷ stamp_raised_at s i

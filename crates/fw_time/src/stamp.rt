@@ -1,7 +1,7 @@
 //! Stamps and the bounds of their domains.
 ghost use Rattle.std.specs.Prelude.{◌≡◌, ◌+◌, ◌^◌, ◌≤◌, ◌<◌, replicate, length, slice_index};
-ghost use Rattle.fw_time.specs.StampText.{stamp_text, dotted};
-ghost use Rattle.fw_time.specs.Stamp.{leq, lub, raised, in_domain, nest, outer, counter, stamp_cmp};
+ghost use Rattle.fw_time.specs.StampText.{stamp_text, dots_text};
+ghost use Rattle.fw_time.specs.Stamp.{leq, lub, stamp_raised_at, in_domain, nest, outer, counter, stamp_cmp};
 
 use arrayvec::ArrayVec;
 use std::cmp::Ordering;
@@ -119,7 +119,7 @@ impl Stamp {
     pub fn raised(&self, place: usize) -> Self
         requires there { place < length self.now }
         requires fits { slice_index self.now place + 1 < 2 ^ 32 }
-        ensures { result ≡ raised self.now place }
+        ensures { result ≡ stamp_raised_at self.now place }
     {
         Stamp {
             coords: raised_at(self.coords.as_slice(), place),
@@ -203,7 +203,7 @@ fn raised_at(coords: &[u32], place: usize) -> ArrayVec<u32, 4>
     requires there { place < length coords.now }
     requires few { length coords.now ≤ 4 }
     requires fits { slice_index coords.now place + 1 < 2 ^ 32 }
-    ensures { result.items ≡ raised coords.now place }
+    ensures { result.items ≡ stamp_raised_at coords.now place }
 {
     let mut all = ArrayVec::new();
     for i in 0..coords.len() {

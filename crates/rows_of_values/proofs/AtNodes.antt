@@ -3,10 +3,10 @@ use Rattle.std.proofs.Common.{◌≡◌, true, List, [], ◌∷◌, ◌++◌, re
 use Rattle.fw_time.specs.Stamp.{in_domain}
 use Rattle.fw_flow.specs.declared.event.Event.{Event}
 use Rattle.fw_flow.specs.Dataflow.{Dataflow, bounds_of}
-use Rattle.fw_flow.specs.NodeFunction.{place, stamp}
+use Rattle.fw_flow.specs.NodeFunction.{event_node, event_stamp}
 use Rattle.fw_plain.proofs.EventSteps.{history_last}
 use Rattle.fw_model.specs.History.{AreAtNodes}
 
 pub at_nodes_more : (flow : Dataflow) (events more : List Event) (v : Event) → more ≡ events ++ v ∷ []
-    → in_domain (bounds_of flow (place flow v)) (stamp v) ≡ true → AreAtNodes flow (reverse events) → AreAtNodes flow (reverse more)
+    → in_domain (bounds_of flow (event_node flow v)) (event_stamp v) ≡ true → AreAtNodes flow (reverse events) → AreAtNodes flow (reverse more)
 at_nodes_more flow events more v e i d = subst (λ (h : List Event). AreAtNodes flow h) (sym (history_last more events v e)) (i, d)

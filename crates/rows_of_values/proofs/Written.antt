@@ -4,7 +4,7 @@ use Rattle.std.specs.List.{AllByRecursion}
 use Rattle.fw_time.specs.Stamp.{in_domain}
 use Rattle.fw_flow.specs.declared.choice.Offer.{Offer}
 use Rattle.fw_flow.specs.Dataflow.{Dataflow, bounds_of}
-use Rattle.fw_model.specs.Offers.{listed, range, IsRecordOf, IsRangeOf, IsListedBy, AreOnEdges, AreOffersOf}
+use Rattle.fw_model.specs.Offers.{listed_records, offered_range, IsRecordOf, IsRangeOf, IsListedBy, AreOnEdges, AreOffersOf}
 use Rattle.fw_flow.specs.Restoring.{way_of}
 use Rattle.rows_of_values.specs.Written.{IsOfferOf, AreOffersFrom}
 
@@ -43,10 +43,10 @@ looked-up flow f d Q g os p a n l = at-place flow f d Q g 0 p p os a (omega arit
 pub offers_are : (flow : Dataflow) (os : List Offer) → length os ≡ length flow.nodes → AreOffersFrom flow 0 os → AreOffersOf flow os
 offers_are flow os n a = record {
   one_each = n;
-  records = λ p l. looked-up flow (λ o. listed o.offered) [] (λ q rs. AllByRecursion (IsRecordOf flow q) rs) (λ q o i. i.offered.records) os p a n l;
-  range = λ p l. looked-up flow (λ o. range o.offered) None (λ q r. IsRangeOf (bounds_of flow q) r) (λ q o i. i.offered.ends) os p a n l;
+  records = λ p l. looked-up flow (λ o. listed_records o.offered) [] (λ q rs. AllByRecursion (IsRecordOf flow q) rs) (λ q o i. i.offered.records) os p a n l;
+  range = λ p l. looked-up flow (λ o. offered_range o.offered) None (λ q r. IsRangeOf (bounds_of flow q) r) (λ q o i. i.offered.ends) os p a n l;
   listed = λ p l.
-      looked-up flow (λ o. range o.offered) None (λ q r. IsListedBy (way_of flow q) r) (λ q o i. i.offered.way) os p a n l;
+      looked-up flow (λ o. offered_range o.offered) None (λ q r. IsListedBy (way_of flow q) r) (λ q o i. i.offered.way) os p a n l;
   delivered = λ p l. looked-up flow (λ o. o.stamps.delivered) [] (λ q ms. AreOnEdges flow ms) (λ q o i. i.delivered) os p a n l;
   notified = λ p l.
       looked-up flow (λ o. o.stamps.notified) [] (λ q ts. AllByRecursion (λ t. in_domain (bounds_of flow q) t ≡ true) ts) (λ q o i. i.notified) os p a n l;

@@ -7,7 +7,7 @@ use Rattle.fw_flow.specs.declared.choice.Offered.{Offered}
 use Rattle.fw_flow.specs.Dataflow.{Dataflow, bounds_of}
 use Rattle.fw_flow.specs.declared.restoring.Restoring.{Restoring}
 use Rattle.fw_flow.specs.declared.restoring.Restoring.TheVariants.{Batches, Bound, Anything, Checkpoints, Events}
-use Rattle.fw_model.specs.Offers.{listed, range, IsRecordOf, IsRangeOf, IsListedBy, AreOnEdges}
+use Rattle.fw_model.specs.Offers.{listed_records, offered_range, IsRecordOf, IsRangeOf, IsListedBy, AreOnEdges}
 use Rattle.fw_flow.specs.Restoring.{way_of}
 
 -- whether a node that is restored so lists its frontiers
@@ -20,9 +20,9 @@ is_listed Events = false
 
 -- the frontiers are of node p
 pub record IsOfferedBy (flow : Dataflow) (p : ℕ) (offered : Offered) : Type 0 where
-  pub records : AllByRecursion (IsRecordOf flow p) (listed offered)
-  pub ends : IsRangeOf (bounds_of flow p) (range offered)
-  pub way : IsListedBy (way_of flow p) (range offered)
+  pub records : AllByRecursion (IsRecordOf flow p) (listed_records offered)
+  pub ends : IsRangeOf (bounds_of flow p) (offered_range offered)
+  pub way : IsListedBy (way_of flow p) (offered_range offered)
 
 -- the offer is of node p
 pub record IsOfferOf (flow : Dataflow) (p : ℕ) (offer : Offer) : Type 0 where

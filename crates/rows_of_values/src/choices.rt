@@ -248,11 +248,11 @@ pub fn tell_choice(
     told: &mut String,
 ) -> Result<(), AllocError> {
     let offers = offers(alloc, flow, lines)?;
-    let Choice { cuts, notes } = largest(alloc, flow, &offers)?;
-    for (cut, note) in cuts.as_slice().iter().zip(notes.as_slice().iter()) {
+    let Choice { cuts, notices } = largest(alloc, flow, &offers)?;
+    for (cut, notice) in cuts.as_slice().iter().zip(notices.as_slice().iter()) {
         tell_cut(alloc, cut, told)?;
         told.push_str(", ")?;
-        tell_front(alloc, note, told)?;
+        tell_front(alloc, notice, told)?;
         told.push('\n')?;
     }
     Ok(())

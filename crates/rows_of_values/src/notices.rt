@@ -2,7 +2,7 @@
 ghost use Rattle.std.specs.Prelude.{◌≡◌, reverse};
 ghost use Rattle.fw_time.specs.Stamp.{in_domain};
 ghost use Rattle.fw_flow.specs.Dataflow.{bounds_of};
-ghost use Rattle.fw_flow.specs.NodeFunction.{place, stamp};
+ghost use Rattle.fw_flow.specs.NodeFunction.{event_node, event_stamp};
 ghost use Rattle.fw_model.specs.History.{AreAtNodes};
 
 use crate::spell::{part, stamp_of};
@@ -15,7 +15,7 @@ use std::alloc::{AllocError, Global};
 
 // Whether an event is at a stamp of its node's domain.
 fn is_at_node(flow: &Flow, event: &Event) -> bool
-    ensures { result ≡ in_domain (bounds_of flow.now (place flow.now event.now)) (stamp event.now) }
+    ensures { result ≡ in_domain (bounds_of flow.now (event_node flow.now event.now)) (event_stamp event.now) }
 {
     match event {
         Event::Inject { source, epoch } => {

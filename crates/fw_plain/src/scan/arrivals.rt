@@ -50,7 +50,7 @@ pub(super) fn is_same(s: &Stamp, t: &Stamp) -> bool
 
 /// The node of an event.
 pub(super) fn place(flow: &Flow, event: &Event) -> NodeId
-    ensures { result ≡ function.place flow.now event.now }
+    ensures { result ≡ function.event_node flow.now event.now }
 {
     match event {
         Event::Inject { source, .. } => *source,
@@ -61,7 +61,7 @@ pub(super) fn place(flow: &Flow, event: &Event) -> NodeId
 
 /// The stamp of an event.
 pub(super) fn stamp(event: &Event) -> Stamp
-    ensures { result ≡ function.stamp event.now }
+    ensures { result ≡ function.event_stamp event.now }
 {
     match event {
         Event::Inject { epoch, .. } => Stamp::new(&[*epoch]),
@@ -72,7 +72,7 @@ pub(super) fn stamp(event: &Event) -> Stamp
 
 /// The rec that an event delivers to a node, if it does and the delivery is wanted.
 fn rec_delivered(flow: &Flow, node: NodeId, event: &Event, wanted: &Wanted) -> Option<Rec>
-    ensures { option_to_list result ≡ (if function.place flow.now event.now == node
+    ensures { option_to_list result ≡ (if function.event_node flow.now event.now == node
         then function.rec_of_delivery (is_wanted wanted.now) event.now else []) }
 {
     match event {

@@ -3,11 +3,11 @@ ghost use Rattle.std.specs.Prelude.{◌≡◌, ◌++◌, ◌&&◌, not, ◌||◌
 ghost use Rattle.std.specs.List.{list_any};
 ghost use Rattle.fw_time.specs.declared.stamp.Bounds.{Bounds as Domain};
 ghost use Rattle.fw_frontier.specs.Frontier.{without_above};
-ghost use Rattle.fw_frontier.specs.Front.{inside, frontier_of, IsCanonical, Names};
+ghost use Rattle.fw_frontier.specs.Front.{inside, frontier_of, IsCanonical, IsFrontOf};
 ghost use Rattle.fw_flow.specs.Dataflow.{receiver, bounds_of, system_of};
 ghost use Rattle.fw_model.specs.History as history;
 ghost use Rattle.fw_plain.specs.Clear as spec;
-ghost use Rattle.fw_plain.specs.Clear.{given, IsClear};
+ghost use Rattle.fw_plain.specs.Clear.{given_frontier, IsClear};
 ghost use Rattle.fw_model.specs.History.{AreAtNodes};
 
 use super::arrivals::{batches_of, is_same};
@@ -43,7 +43,7 @@ pub(super) fn clear(
 #[tactic(auto, using(crate::proofs::ClearSteps::less_one, crate::proofs::ClearSteps::names_first))]
 fn without(front: Front, stamps: &[Stamp], bounds: &Bounds) -> Result<Front, AllocError>
     requires { IsCanonical bounds.now front }
-    ensures { IfOk result (λ f. Names bounds.now f (λ t. frontier_of bounds.now front t && inside stamps.now t)) }
+    ensures { IfOk result (λ f. IsFrontOf bounds.now f (λ t. frontier_of bounds.now front t && inside stamps.now t)) }
 {
     let mut front = front;
     for stamp in stamps {
@@ -56,7 +56,7 @@ fn without(front: Front, stamps: &[Stamp], bounds: &Bounds) -> Result<Front, All
 #[tactic(auto, using(crate::proofs::ClearSteps::names_other))]
 fn without_one(front: Front, stamp: &Stamp, bounds: &Bounds) -> Result<Front, AllocError>
     requires { IsCanonical bounds.now front }
-    ensures { IfOk result (λ f. Names bounds.now f (without_above stamp.now (frontier_of bounds.now front))) }
+    ensures { IfOk result (λ f. IsFrontOf bounds.now f (without_above stamp.now (frontier_of bounds.now front))) }
 {
     if stamp.in_domain(bounds) {
         front.cut_above(stamp)
@@ -73,8 +73,8 @@ fn given(
     events: &[Event],
     node: NodeId,
 ) -> Result<Front, AllocError>
-    ensures { IfOk result (λ f. Names (bounds_of flow.now node) f
-        (given (system_of flow.now batches.now) (reverse events.now) node)) }
+    ensures { IfOk result (λ f. IsFrontOf (bounds_of flow.now node) f
+        (given_frontier (system_of flow.now batches.now) (reverse events.now) node)) }
 {
     let injected = injected_count(events, node);
     if !flow.kind(node).is_input() || injected == batches_of(flow, batches, node).len() {

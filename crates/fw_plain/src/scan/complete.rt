@@ -1,10 +1,10 @@
 //! The complete frontiers.
 ghost use Rattle.std.specs.Prelude.{◌≡◌, ◌&&◌, ℕ, ◌<◌, ◌↔◌, [], length, reverse, IsTrue, IfOk};
 ghost use Rattle.std.specs.List.Sorted.{IsPermutation};
-ghost use Rattle.fw_frontier.specs.Front.{inside, frontier_of, IsCanonical, Names};
+ghost use Rattle.fw_frontier.specs.Front.{inside, IsCanonical, IsFrontOf};
 ghost use Rattle.fw_frontier.specs.Frontier.{Frontier, Within};
 ghost use Rattle.fw_flow.specs.WellFormed.{IsWellFormed};
-ghost use Rattle.fw_flow.specs.Dataflow.{kind_of, sender, receiver, bounds_of, system_of};
+ghost use Rattle.fw_flow.specs.Dataflow.{kind_of, sender, receiver, bounds_of, system_of, node_frontier};
 ghost use Rattle.fw_flow.specs.Projection as projection;
 ghost use Rattle.fw_flow.specs.Projection.{IsSentTable, table_count};
 ghost use Rattle.fw_model.specs.History.{IsComplete, AreAtNodes};
@@ -80,8 +80,8 @@ fn each_lowered(
     requires canonical { AreCanonical flow.now fronts.now }
     ensures one_each { IfOk result (λ lower. length lower.items ≡ length flow.now.nodes) }
     ensures lowered { IfOk result (λ lower. (p : ℕ) → p < length flow.now.nodes
-        → Names (bounds_of flow.now p) (front_of lower.items p)
-        (spec.lowered (system_of flow.now batches.now) (reverse events.now) (family_of flow.now fronts.now) p
+        → IsFrontOf (bounds_of flow.now p) (front_of lower.items p)
+        (spec.lowered_frontier (system_of flow.now batches.now) (reverse events.now) (family_of flow.now fronts.now) p
         (family_of flow.now fronts.now p))) }
 {
     let mut lower = Vec::new(alloc);
@@ -107,9 +107,9 @@ pub(super) fn lowered(
     requires at_nodes { AreAtNodes flow.now (reverse events.now) }
     requires canonical { AreCanonical flow.now fronts.now }
     requires front { IsCanonical (bounds_of flow.now node) front }
-    ensures { IfOk result (λ f. Names (bounds_of flow.now node) f
-        (spec.lowered (system_of flow.now batches.now) (reverse events.now) (family_of flow.now fronts.now) node
-        (frontier_of (bounds_of flow.now node) front))) }
+    ensures { IfOk result (λ f. IsFrontOf (bounds_of flow.now node) f
+        (spec.lowered_frontier (system_of flow.now batches.now) (reverse events.now) (family_of flow.now fronts.now) node
+        (node_frontier flow.now node front))) }
 {
     let mut left = front;
     let edges = flow.in_edges(node);
@@ -141,7 +141,7 @@ fn phi(
 ) -> Result<Front, AllocError>
     requires at_nodes { AreAtNodes flow.now (reverse events.now) }
     requires canonical { AreCanonical flow.now fronts.now }
-    ensures { IfOk result (λ g. Names (bounds_of flow.now (receiver flow.now edge)) g
+    ensures { IfOk result (λ g. IsFrontOf (bounds_of flow.now (receiver flow.now edge)) g
         (projection.phi (system_of flow.now batches.now) (reverse events.now) edge
         (family_of flow.now fronts.now (sender flow.now edge)))) }
 {

@@ -14,7 +14,7 @@ pub(super) fn is_among(rec: Rec, recs: &[Rec]) -> bool
 
 /// The rec with each of the others of its key: the key, and the sum of both values.
 pub(super) fn joined(alloc: Global, rec: Rec, others: &[Rec]) -> Result<Vec<Rec>, AllocError>
-    ensures { IfOk result (λ rs. rs.items ≡ keyed.joined rec others.now) }
+    ensures { IfOk result (λ rs. rs.items ≡ keyed.joined_rec rec others.now) }
 {
     others
         .iter()
@@ -77,7 +77,7 @@ pub(super) fn sums_of(alloc: Global, keys: &[u64], recs: &[Rec]) -> Result<Vec<R
 /// The recs as a bag.
 #[tactic(auto, using(crate::proofs::RecSteps::sorted_more))]
 pub(super) fn bag_of(alloc: Global, recs: &[Rec]) -> Result<Bag, AllocError>
-    ensures { IfOk result (λ bag. bag.recs ≡ keyed.sorted recs.now) }
+    ensures { IfOk result (λ bag. bag.recs ≡ keyed.sorted_recs recs.now) }
 {
     let mut bag = Bag::new(alloc);
     for rec in recs {
@@ -88,7 +88,7 @@ pub(super) fn bag_of(alloc: Global, recs: &[Rec]) -> Result<Bag, AllocError>
 
 /// The recs in ascending order.
 pub(super) fn sorted(alloc: Global, recs: &[Rec]) -> Result<Vec<Rec>, AllocError>
-    ensures { IfOk result (λ rs. rs.items ≡ keyed.sorted recs.now) }
+    ensures { IfOk result (λ rs. rs.items ≡ keyed.sorted_recs recs.now) }
 {
     let mut ascending = Vec::new(alloc);
     drain(bag_of(alloc, recs)?, &mut ascending)?;

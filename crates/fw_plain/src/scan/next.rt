@@ -94,7 +94,7 @@ pub fn next_message(
 /// The number at which the next message is delivered on an edge, if it is a numbered one.
 fn next_number(flow: &Flow, events: &[Event], edge: EdgeId) -> Option<usize>
     ensures { result ≡ (if is_numbered flow.now edge
-        then Some (length (history.delivered (reverse events.now) edge)) else None) }
+        then Some (length (history.delivered_messages (reverse events.now) edge)) else None) }
 {
     match flow.domain_word(flow.dst(edge)) {
         Domain::Number => Some(delivered_count(events, edge)),

@@ -1,6 +1,6 @@
 //! What an output got.
 ghost use Rattle.std.specs.Prelude.{◌≡◌, ◌==◌, ◌&&◌, reverse, IfOk};
-ghost use Rattle.fw_bag.specs.Keyed.{sorted};
+ghost use Rattle.fw_bag.specs.Keyed.{sorted_recs};
 ghost use Rattle.fw_time.specs.Stamp.{same};
 ghost use Rattle.fw_flow.specs.Dataflow.{receiver};
 ghost use Rattle.fw_flow.specs.NodeFunction.{delivered_recs};
@@ -22,7 +22,7 @@ pub fn recs_at(
     at: &Stamp,
 ) -> Result<Bag, AllocError>
     ensures { IfOk result (λ bag. bag.recs
-        ≡ sorted (delivered_recs (λ e s. receiver flow.now e == output && same s at.now) (reverse events.now))) }
+        ≡ sorted_recs (delivered_recs (λ e s. receiver flow.now e == output && same s at.now) (reverse events.now))) }
 {
     let recs = delivered_to(alloc, flow, output, events, &Wanted::At(at.copy()))?;
     bag_of(alloc, &recs)

@@ -273,8 +273,8 @@ pub(super) fn sends(
     before: &[Event],
     event: &Event,
 ) -> Result<Vec<Message>, AllocError>
-    requires { in_domain (bounds_of flow.now (function.place flow.now event.now)) (function.stamp event.now) ≡ true }
-    ensures { let node = function.place flow.now event.now in IfOk result (λ ms. ms.items
+    requires { in_domain (bounds_of flow.now (function.event_node flow.now event.now)) (function.event_stamp event.now) ≡ true }
+    ensures { let node = function.event_node flow.now event.now in IfOk result (λ ms. ms.items
         ≡ function.sends (system_of flow.now batches.now) node (events_at flow.now node (reverse before.now)) event.now) }
 {
     let node = place(flow, event);

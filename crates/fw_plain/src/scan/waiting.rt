@@ -1,7 +1,7 @@
 //! What is pending on an edge.
 ghost use Rattle.std.specs.Prelude.{◌≡◌, length, position, reverse, IfOk};
 ghost use Rattle.std.specs.Ordering.{is_eq};
-ghost use Rattle.fw_flow.specs.Message.{message_cmp, without};
+ghost use Rattle.fw_flow.specs.Message.{message_cmp, messages_without};
 ghost use Rattle.fw_model.specs.History as history;
 ghost use Rattle.fw_flow.specs.Dataflow.{system_of};
 ghost use Rattle.fw_model.specs.History.{AreAtNodes};
@@ -21,7 +21,7 @@ fn place_among(messages: &[Message], message: &Message) -> Option<usize>
 /// Takes the first message away that is this one, if there is one.
 #[tactic(auto, using(fw_flow::proofs::MessageLaws::without_there))]
 fn take_away(messages: &mut Vec<Message>, message: &Message)
-    ensures { messages.new.items ≡ without message.now messages.old.items }
+    ensures { messages.new.items ≡ messages_without message.now messages.old.items }
 {
     if let Some(place) = place_among(messages, message) {
         messages.remove(place);
@@ -30,7 +30,7 @@ fn take_away(messages: &mut Vec<Message>, message: &Message)
 
 /// How many messages were delivered on an edge.
 pub(super) fn delivered_count(events: &[Event], edge: EdgeId) -> usize
-    ensures { result ≡ length (history.delivered (reverse events.now) edge) }
+    ensures { result ≡ length (history.delivered_messages (reverse events.now) edge) }
 {
     let mut count: usize = 0;
     for event in events {
@@ -56,7 +56,7 @@ pub fn pending(
 ) -> Result<Vec<Message>, AllocError>
     requires { AreAtNodes flow.now (reverse events.now) }
     ensures { IfOk result
-        (λ ms. ms.items ≡ history.pending (system_of flow.now batches.now) (reverse events.now) edge) }
+        (λ ms. ms.items ≡ history.pending_messages (system_of flow.now batches.now) (reverse events.now) edge) }
 {
     let mut messages = sent_by(alloc, flow, batches, events, flow.src(edge))?;
     for event in events {

@@ -2,10 +2,10 @@ use Rattle.std.proofs.Common.{subst, sym}
 use Rattle.std.proofs.lemmas.Result.{IfOk-weaker}
 use Rattle.std.specs.Prelude.{◌&&◌, nat_lt}
 use Rattle.fw_time.specs.Stamp.{in_domain}
-use Rattle.fw_frontier.specs.Front.{Names, frontier_of}
+use Rattle.fw_frontier.specs.Front.{IsFrontOf, frontier_of}
 use Rattle.fw_flow.specs.declared.kind.Kind.TheVariants.{Enter, Feedback, Leave, Sequence, Regroup}
 use Rattle.fw_flow.specs.declared.projection.Way.TheVariants.{First, Next, Outer}
-use Rattle.fw_flow.specs.Projection.{first_number_of, phi_of_kind, table_count}
+use Rattle.fw_flow.specs.Projection.{first_coordinate, phi_of_kind, table_count}
 use Rattle.fw_flow.specs.ProjectedStamps.{AreDomainsOf}
 use Rattle.fw_flow.specs.WellFormed.{IsGroupSize}
 use Rattle.fw_flow.proofs.ProjectionLaws.{nests-enter_sender, nests-feedback_sender, nests-leave_sender, moved-ok, phi-enter, phi-feedback, phi-leave, phi-sequence_ok, phi-regroup_ok}
@@ -67,8 +67,8 @@ returns-in-Some-limit c =
     let size : IsGroupSize (Regroup n) = subst IsGroupSize c.in-Regroup.is c.requires.group in
     let d : AreDomainsOf (Regroup n) s r = subst (λ k. AreDomainsOf k s r) c.in-Regroup.is c.requires.domains in
     rw c.in-Regroup.is
-    (IfOk-weaker c.below-in-Some-limit.result (λ g. Names r g (λ u. in_domain r u && nat_lt (first_number_of u) c.from.result))
-    (λ g. Names r g (λ u. in_domain r u && phi_of_kind s.greatest (Regroup n) count (frontier_of s os) u))
+    (IfOk-weaker c.below-in-Some-limit.result (λ g. IsFrontOf r g (λ u. in_domain r u && nat_lt (first_coordinate u) c.from.result))
+    (λ g. IsFrontOf r g (λ u. in_domain r u && phi_of_kind s.greatest (Regroup n) count (frontier_of s os) u))
     (λ g m. phi-regroup_ok n limit count s r os g size.0 d c.requires.front c.in-Some-limit.ensures (rw (sym c.from.ensures) m))
     c.below-in-Some-limit.ensures)
 
@@ -81,7 +81,7 @@ returns-in-Some c =
     let table = c.args.sent.now in
     let d : AreDomainsOf Sequence s r = subst (λ k. AreDomainsOf k s r) c.in-Sequence.is c.requires.domains in
     rw c.in-Sequence.is
-    (IfOk-weaker c.below.result (λ g. Names r g (λ u. in_domain r u && nat_lt (first_number_of u) c.count_below.result))
-    (λ g. Names r g (λ u. in_domain r u && phi_of_kind s.greatest Sequence (table_count (frontier_of s os) table) (frontier_of s os) u))
+    (IfOk-weaker c.below.result (λ g. IsFrontOf r g (λ u. in_domain r u && nat_lt (first_coordinate u) c.count_below.result))
+    (λ g. IsFrontOf r g (λ u. in_domain r u && phi_of_kind s.greatest Sequence (table_count (frontier_of s os) table) (frontier_of s os) u))
     (λ g m. phi-sequence_ok limit c.count_below.result s r os g table d c.requires.front c.in-Some.ensures c.count_below.ensures m)
     c.below.ensures)

@@ -2,11 +2,11 @@ use Rattle.std.proofs.Common.{◌≡◌, ℕ, [], ◌∷◌, ◌+◌, min, subst
 use Rattle.std.proofs.lemmas.Result.{IfOk-weaker}
 use Rattle.std.specs.Prelude.{◌&&◌, ◌/◌, ◌%◌, nat_lt}
 use Rattle.fw_time.specs.Stamp.{in_domain}
-use Rattle.fw_frontier.specs.Front.{Names, frontier_of}
+use Rattle.fw_frontier.specs.Front.{IsFrontOf, frontier_of}
 use Rattle.fw_frontier.proofs.BelowLaws.{names-by}
 use Rattle.fw_flow.specs.declared.kind.Kind.TheVariants.{Enter, Feedback, Leave, Regroup}
 use Rattle.fw_flow.specs.declared.projection.Way.TheVariants.{NextAfterFirst, OuterOfFirst}
-use Rattle.fw_flow.specs.Projection.{first_number_of, psi_of_kind}
+use Rattle.fw_flow.specs.Projection.{first_coordinate, psi_of_kind}
 use Rattle.fw_flow.specs.ProjectedStamps.{AreDomainsOf, entered_outside}
 use Rattle.fw_flow.specs.WellFormed.{IsGroupSize}
 use Rattle.fw_flow.proofs.ProjectionLaws.{nests-enter_sender, nests-feedback_sender, nests-leave_sender, moved-ok, psi-enter_in, psi-enter_same, psi-feedback, psi-leave, psi-regroup_ok, end-limit, end-all}
@@ -33,7 +33,7 @@ returns-in-Enter c =
     let l = c.in-Enter.field-0 in
     let d : AreDomainsOf (Enter l) s r = subst (λ k. AreDomainsOf k c.args.sender.now c.args.receiver.now) c.in-Enter.is c.requires.domains in
     rw c.in-Enter.is
-    (IfOk-weaker c.entered.result (λ g. Names r g (frontier_of r (entered_outside s r os))) (λ g. Names r g (λ u. in_domain r u && psi_of_kind s.greatest (Enter l) (frontier_of s os) u))
+    (IfOk-weaker c.entered.result (λ g. IsFrontOf r g (frontier_of r (entered_outside s r os))) (λ g. IsFrontOf r g (λ u. in_domain r u && psi_of_kind s.greatest (Enter l) (frontier_of s os) u))
     (λ g n. names-by r g (entered_outside s r os) (psi_of_kind s.greatest (Enter l) (frontier_of s os)) n (psi-enter_same l s r os d c.requires.front))
     (c.entered.ensures r (psi-enter_in l s r os d c.requires.front)))
 
@@ -74,7 +74,7 @@ returns-after-limit c =
       | in-Some w ↦ λ x. end-limit n w.in-Some.limit s r os d c.requires.front w.in-Some.ensures x ∙ ap (nat_lt x) (sym (w.end-is ∙ w.from-end.ensures))
     ] in
     rw c.in-Regroup.is
-    (IfOk-weaker c.below.result (λ g. Names r g (λ u. in_domain r u && nat_lt (first_number_of u) c.div_ceil.result))
-    (λ g. Names r g (λ u. in_domain r u && psi_of_kind s.greatest (Regroup n) (frontier_of s os) u))
+    (IfOk-weaker c.below.result (λ g. IsFrontOf r g (λ u. in_domain r u && nat_lt (first_coordinate u) c.div_ceil.result))
+    (λ g. IsFrontOf r g (λ u. in_domain r u && psi_of_kind s.greatest (Regroup n) (frontier_of s os) u))
     (λ g m. psi-regroup_ok n end s r os g size.0 d inside (rw (sym e) m))
     c.below.ensures)

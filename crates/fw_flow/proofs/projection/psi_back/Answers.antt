@@ -2,10 +2,10 @@ use Rattle.std.proofs.Common.{◌≡◌, subst, sym}
 use Rattle.std.proofs.lemmas.Result.{IfOk-weaker}
 use Rattle.std.specs.Prelude.{◌&&◌, ◌*◌, nat_lt}
 use Rattle.fw_time.specs.Stamp.{in_domain}
-use Rattle.fw_frontier.specs.Front.{Names, frontier_of}
+use Rattle.fw_frontier.specs.Front.{IsFrontOf, frontier_of}
 use Rattle.fw_flow.specs.declared.kind.Kind.TheVariants.{Enter, Feedback, Leave, Regroup}
 use Rattle.fw_flow.specs.declared.projection.Way.TheVariants.{First, Before, OuterOfFirst}
-use Rattle.fw_flow.specs.Projection.{first_number_of, psi_back_of_kind}
+use Rattle.fw_flow.specs.Projection.{first_coordinate, psi_back_of_kind}
 use Rattle.fw_flow.specs.ProjectedStamps.{AreDomainsOf}
 use Rattle.fw_flow.specs.WellFormed.{IsGroupSize}
 use Rattle.fw_flow.proofs.ProjectionLaws.{nests-enter_receiver, nests-feedback_receiver, nests-leave_receiver, moved-ok, psi_back-enter, psi_back-feedback, psi_back-leave, psi_back-regroup_ok}
@@ -67,7 +67,7 @@ returns-in-Some c =
     let d : AreDomainsOf (Regroup n) s r = subst (λ k. AreDomainsOf k s r) c.in-Regroup.is c.requires.domains in
     let e : c.from.result * c.from-in-Some.result ≡ limit * n = λ i. c.from.ensures i * c.from-in-Some.ensures i in
     rw c.in-Regroup.is
-    (IfOk-weaker c.below.result (λ g. Names s g (λ u. in_domain s u && nat_lt (first_number_of u) (c.from.result * c.from-in-Some.result)))
-    (λ g. Names s g (λ u. in_domain s u && psi_back_of_kind s.greatest (Regroup n) (frontier_of r os) u))
+    (IfOk-weaker c.below.result (λ g. IsFrontOf s g (λ u. in_domain s u && nat_lt (first_coordinate u) (c.from.result * c.from-in-Some.result)))
+    (λ g. IsFrontOf s g (λ u. in_domain s u && psi_back_of_kind s.greatest (Regroup n) (frontier_of r os) u))
     (λ g m. psi_back-regroup_ok n limit s r os g size.0 d c.in-Some.ensures (rw (sym e) m))
     c.below.ensures)

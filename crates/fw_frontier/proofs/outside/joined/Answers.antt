@@ -4,11 +4,11 @@ use Rattle.std.proofs.lemmas.Result.{IfOk-weaker}
 use Rattle.std.specs.List.Sorted.{IsStrictlySortedBy}
 use Rattle.fw_time.specs.Stamp.{in_domain, stamp_cmp}
 use Rattle.fw_time.proofs.StampLaws.{leq-length}
-use Rattle.fw_frontier.specs.Front.{frontier_of, Names}
+use Rattle.fw_frontier.specs.Front.{frontier_of, IsFrontOf}
 use Rattle.fw_frontier.specs.Frontier.{join}
-use Rattle.fw_frontier.specs.Outside.{excluding_all_near}
+use Rattle.fw_frontier.specs.Outside.{front_without_all_near}
 use Rattle.fw_frontier.specs.declared.planes.TheConstants.{PLANES}
-use Rattle.fw_frontier.specs.Planes.{planes_bounds, HaveSame}
+use Rattle.fw_frontier.specs.Planes.{planes_lubs, HaveSame}
 use Rattle.fw_frontier.proofs.CanonicalLaws.{in_domain-at}
 use Rattle.fw_frontier.proofs.PlaneLaws.{names-planes}
 use Rattle.fw_frontier.proofs.JoinLaws.{names-join_near}
@@ -21,8 +21,8 @@ returns-then-len-le-FEW c = λ b h k.
     let d : in_domain b c.first-item.result ≡ true = in_domain-at b mine 0 c.first-item.result (omega (arith, c.in-len1-up.len_at_least)) c.first-item.is h in
     let few : length b.greatest ≤ 3 = omega (arith, leq-length c.first-item.result b.greatest d, c.len.ensures.value, c.if-len-le-FEW.true) in
     IfOk-weaker c.joined_by_near.result
-    (λ both. both.items ≡ excluding_all_near others mine (excluding_all_near mine others []))
-    (λ both. Names b both.items (join (frontier_of b mine) (frontier_of b others)))
+    (λ both. both.items ≡ front_without_all_near others mine (front_without_all_near mine others []))
+    (λ both. IsFrontOf b both.items (join (frontier_of b mine) (frontier_of b others)))
     (λ both e. rw e (names-join_near b mine others few h k))
     c.joined_by_near.ensures
 
@@ -38,7 +38,7 @@ returns c = λ b h k.
     let four : length b.greatest ≡ 4 = omega (arith, leq-length c.first-item.result b.greatest d, c.len.ensures.value, c.len.ensures.few, c.if-len-le-FEW.false) in
     IfOk-both c.least_bounds.result
     (λ bounds. IsStrictlySortedBy stamp_cmp bounds.items)
-    (λ bounds. HaveSame (planes_bounds PLANES mine others) bounds.items)
-    (λ bounds. Names b bounds.items (join (frontier_of b mine) (frontier_of b others)))
+    (λ bounds. HaveSame (planes_lubs PLANES mine others) bounds.items)
+    (λ bounds. IsFrontOf b bounds.items (join (frontier_of b mine) (frontier_of b others)))
     (λ bounds sorted same. names-planes b mine others bounds.items four h k sorted same)
     c.least_bounds.ensures.ascending c.least_bounds.ensures.same

@@ -1,5 +1,5 @@
 use Rattle.std.proofs.Common.{ℕ, ◌<◌, [], length, sym, subst}
-use Rattle.fw_frontier.specs.Front.{Names}
+use Rattle.fw_frontier.specs.Front.{IsFrontOf}
 use Rattle.fw_flow.specs.Dataflow.{bounds_of}
 use Rattle.fw_model.specs.Machine.{front_of}
 use Rattle.fw_model.specs.Covers.{set_of}
@@ -13,15 +13,15 @@ use Rattle.fw_monitor.proofs.descent.largest.Goals as goal
 pub pass-requires-clause-encloses : goal.pass-requires-clause-encloses
 pass-requires-clause-encloses c =
     let flow = c.args.flow.now in
-    let notes = c.in_ok-notes.notes.items in
-    start_encloses flow c.args.offers.now c.in_ok-cuts.cuts.items notes c.in_ok-cuts.ensures.one_each c.in_ok-notes.ensures.one_each c.in_ok-cuts.ensures.greatest
-    (subst (λ xs. (p : ℕ) → p < length flow.nodes → Names (bounds_of flow p) (front_of notes p) (set_of flow p (cut_of (choice_of xs []) p))) c.deref.ensures.value c.in_ok-notes.ensures.kept)
+    let notices = c.in_ok-notices.notices.items in
+    start_encloses flow c.args.offers.now c.in_ok-cuts.cuts.items notices c.in_ok-cuts.ensures.one_each c.in_ok-notices.ensures.one_each c.in_ok-cuts.ensures.greatest
+    (subst (λ xs. (p : ℕ) → p < length flow.nodes → IsFrontOf (bounds_of flow p) (front_of notices p) (set_of flow p (cut_of (choice_of xs []) p))) c.deref.ensures.value c.in_ok-notices.ensures.kept)
 
 pub pass-smaller : goal.pass-smaller
 pass-smaller c =
     let flow = c.args.flow.now in
-    let old = choice_of c.pass.cuts.items c.pass.notes.items in
-    let new = choice_of c.pass-in-pass.new.cuts.items c.pass-in-pass.new.notes.items in
+    let old = choice_of c.pass.cuts.items c.pass.notices.items in
+    let new = choice_of c.pass-in-pass.new.cuts.items c.pass-in-pass.new.notices.items in
     let b = c.in_ok-lowered-2.lowered in
     subst (λ t. left_over flow new b < left_over flow old t) (sym c.pass-test.true) (pass_falls flow c.args.offers.now old new b c.in_ok-lowered-2.ensures)
 
@@ -30,8 +30,8 @@ returns c = λ some a k.
     let flow = c.args.flow.now in
     let offers = c.args.offers.now in
     let cuts = c.pass.cuts.items in
-    let notes = c.pass.notes.items in
-    let done = subst (IsDescent flow offers (choice_of cuts notes)) c.pass-test.false c.pass.invariant in
-    let whole = largest_end flow offers (choice_of cuts notes) some done a k in
+    let notices = c.pass.notices.items in
+    let done = subst (IsDescent flow offers (choice_of cuts notices)) c.pass-test.false c.pass.invariant in
+    let whole = largest_end flow offers (choice_of cuts notices) some done a k in
     subst (λ xs. IsLargestBy flow (covers_of flow offers) (IsOffered flow offers) (choice_of xs c.of-2.result)) (sym c.of.ensures)
     (subst (λ ys. IsLargestBy flow (covers_of flow offers) (IsOffered flow offers) (choice_of cuts ys)) (sym c.of-2.ensures) whole)

@@ -6,7 +6,7 @@ use Rattle.fw_monitor.proofs.descent.pass_nodes.Goals as goal
 
 pub loop-place-init : goal.loop-place-init
 loop-place-init c = record {
-  step = same_step c.args.flow.now c.args.offers.now (choice_of c.args.cuts.now.items c.args.notes.now.items) c.requires.encloses;
+  step = same_step c.args.flow.now c.args.offers.now (choice_of c.args.cuts.now.items c.args.notices.now.items) c.requires.encloses;
   holds = λ k has e l. absurd (omega arith);
 }
 
@@ -15,7 +15,7 @@ loop-place-preserved c =
     let flow = c.args.flow.now in
     let offers = c.args.offers.now in
     let old = c.loop-place.invariant in
-    let done = more_done flow offers (choice_of c.args.cuts.now.items c.args.notes.now.items) (choice_of c.loop-place.cuts.items c.loop-place.notes.items) (choice_of c.at_node.new.cuts.items c.at_node.new.notes.items)
+    let done = more_done flow offers (choice_of c.args.cuts.now.items c.args.notices.now.items) (choice_of c.loop-place.cuts.items c.loop-place.notices.items) (choice_of c.at_node.new.cuts.items c.at_node.new.notices.items)
     c.loop-place.place c.at-node.result c.in_ok-more.more c.loop-place.lowered _ (IsMetAtNode flow offers)
     old.step c.in_ok-more.ensures.step refl c.at-node.ensures c.in_ok-more.ensures.holds old.holds in
     record { step = done.0; holds = done.1 }

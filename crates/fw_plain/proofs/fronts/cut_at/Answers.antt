@@ -1,5 +1,5 @@
 use Rattle.std.proofs.Common.{IfOk, sym, subst}
-use Rattle.fw_frontier.specs.Front.{frontier_of, Names}
+use Rattle.fw_frontier.specs.Front.{frontier_of, IsFrontOf}
 use Rattle.fw_frontier.specs.Frontier.{meet}
 use Rattle.fw_flow.specs.declared.choice.Cut.{Cut}
 use Rattle.fw_plain.specs.Fronts.{IsCut}
@@ -11,4 +11,4 @@ returns-in-At c =
     let f = c.args.settled.now in
     let g = c.in-At.front in
     subst (λ (cut : Cut). IfOk c.meet.result (λ after. IsCut cut f after)) (sym c.in-At.is)
-    (in_each_domain c.meet.result f g (λ b after. Names b after (meet (frontier_of b f) (frontier_of b g))) c.meet.ensures.names)
+    (in_each_domain c.meet.result f g (λ b after. IsFrontOf b after (meet (frontier_of b f) (frontier_of b g))) c.meet.ensures.names)

@@ -1,5 +1,5 @@
 use Rattle.std.proofs.Common.{IfOk, sym, subst}
-use Rattle.fw_frontier.specs.Front.{frontier_of, Names}
+use Rattle.fw_frontier.specs.Front.{frontier_of, IsFrontOf}
 use Rattle.fw_frontier.specs.Frontier.{join}
 use Rattle.fw_plain.specs.Fronts.{IsGrown}
 use Rattle.fw_plain.proofs.FrontsLaws.{in_each_domain}
@@ -10,4 +10,4 @@ returns-else-failed c =
     let f = c.args.settled.now in
     let g = c.args.complete.now in
     subst (λ b. IfOk c.join.result (λ both. IsGrown b f g both)) (sym c.if-failed.false)
-    (in_each_domain c.join.result f g (λ b both. Names b both (join (frontier_of b f) (frontier_of b g))) c.join.ensures)
+    (in_each_domain c.join.result f g (λ b both. IsFrontOf b both (join (frontier_of b f) (frontier_of b g))) c.join.ensures)

@@ -6,5 +6,5 @@ use Rattle.fw_flow.specs.Dataflow.{system_of}
 abbrev pub invariant-loop-place : goal.invariant-loop-place
 invariant-loop-place l = record {
   one_each : length l.offers.items ≡ l.place;
-  each : AreOffersFrom (system_of l.flow l.batches) (reverse l.events) l.settled l.bounds l.failed 0 l.offers.items;
+  each : AreOffersFrom (system_of l.flow l.batches) (reverse l.events) l.settled l.ack_counts l.failed 0 l.offers.items;
 }

@@ -2,7 +2,7 @@ use Rattle.std.proofs.Common.{sym}
 use Rattle.std.proofs.lemmas.Result.{IfOk-weaker}
 use Rattle.std.specs.Prelude.{◌&&◌}
 use Rattle.fw_time.specs.Stamp.{in_domain}
-use Rattle.fw_frontier.specs.Front.{Names, frontier_of}
+use Rattle.fw_frontier.specs.Front.{IsFrontOf, frontier_of}
 use Rattle.fw_flow.specs.Dataflow.{sender, receiver, bounds_of}
 use Rattle.fw_flow.specs.Projection.{psi_of_kind, psi}
 use Rattle.fw_flow.proofs.EdgeLaws.{group-size, edge-joins, psi-named}
@@ -22,7 +22,7 @@ returns c =
     let os = c.args.f.now in
     let ends = c.ends-kind.result in
     let is = c.ends-kind.ensures in
-    IfOk-weaker c.psi.result (λ g. Names ends.2 g (λ u. in_domain ends.2 u && psi_of_kind ends.1.greatest ends.0 (frontier_of ends.1 os) u))
-    (λ g. Names (bounds_of flow (receiver flow e)) g (psi flow e (frontier_of (bounds_of flow (sender flow e)) os)))
+    IfOk-weaker c.psi.result (λ g. IsFrontOf ends.2 g (λ u. in_domain ends.2 u && psi_of_kind ends.1.greatest ends.0 (frontier_of ends.1 os) u))
+    (λ g. IsFrontOf (bounds_of flow (receiver flow e)) g (psi flow e (frontier_of (bounds_of flow (sender flow e)) os)))
     (λ g n. psi-named flow is.well_formed e os g (rw (sym is.kind, sym is.sender, sym is.receiver) n))
     c.psi.ensures

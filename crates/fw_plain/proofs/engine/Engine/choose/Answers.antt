@@ -17,15 +17,15 @@ pub offers-requires-clause-at_nodes : goal.offers-requires-clause-at_nodes
 offers-requires-clause-at_nodes c =
     let e = c.self.inside in
     subst (λ (h : List Event). AreAtNodes e.flow h) c.as_slice.ensures
-    (at_nodes (system_of e.flow e.batches) (state_of e.flow e.history e.settled.items e.failed.items e.bounds.items) c.self.invariant)
+    (at_nodes (system_of e.flow e.batches) (state_of e.flow e.history e.settled.items e.failed.items e.ack_counts.items) c.self.invariant)
 
 pub largest-requires : goal.largest-requires
 largest-requires c =
     let e = c.self.inside in
     let sys = system_of e.flow e.batches in
-    let state = state_of e.flow e.history e.settled.items e.failed.items e.bounds.items in
+    let state = state_of e.flow e.history e.settled.items e.failed.items e.ack_counts.items in
     let given : AreOffersIn sys state (is_failed state) c.in_ok-offers.offers.items =
-    c.in_ok-offers.ensures state (stands_by sys e.history e.settled.items c.deref.result.now e.failed.items c.deref-3.result.now e.bounds.items c.deref-2.result.now
+    c.in_ok-offers.ensures state (stands_by sys e.history e.settled.items c.deref.result.now e.failed.items c.deref-3.result.now e.ack_counts.items c.deref-2.result.now
     c.as_slice.result.now c.self.invariant c.as_slice.ensures c.deref.ensures.value c.deref-2.ensures.value c.deref-3.ensures.value) in
     subst (λ (os : List Offer). AreOffersOf e.flow os) (sym c.deref-4.ensures.value) given.of_flow
 
@@ -33,10 +33,10 @@ pub returns : goal.returns
 returns c =
     let e = c.self.inside in
     let sys = system_of e.flow e.batches in
-    let state = state_of e.flow e.history e.settled.items e.failed.items e.bounds.items in
+    let state = state_of e.flow e.history e.settled.items e.failed.items e.ack_counts.items in
     let os = c.in_ok-offers.offers.items in
     let given : AreOffersIn sys state (is_failed state) os =
-    c.in_ok-offers.ensures state (stands_by sys e.history e.settled.items c.deref.result.now e.failed.items c.deref-3.result.now e.bounds.items c.deref-2.result.now
+    c.in_ok-offers.ensures state (stands_by sys e.history e.settled.items c.deref.result.now e.failed.items c.deref-3.result.now e.ack_counts.items c.deref-2.result.now
     c.as_slice.result.now c.self.invariant c.as_slice.ensures c.deref.ensures.value c.deref-2.ensures.value c.deref-3.ensures.value) in
     subst (λ (w : Standing). IfOk c.largest.result (λ choice. IsLargest w.sys w.state (offers w.sys w.state) choice)) c.self.view_is
     (chosen sys state os c.largest.result c.self.invariant given

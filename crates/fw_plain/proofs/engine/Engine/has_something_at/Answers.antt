@@ -11,14 +11,14 @@ returns-in-OutputNumber c =
     let e = c.self.inside in
     let o = c.args.output in
     let vs = c.as_slice-events.result.now in
-    tells-number c.args.self.now (system_of e.flow e.batches) (state_of e.flow e.history e.settled.items e.failed.items e.bounds.items) vs e.refused o c.args.x
+    tells-number c.args.self.now (system_of e.flow e.batches) (state_of e.flow e.history e.settled.items e.failed.items e.ack_counts.items) vs e.refused o c.args.x
     c.has_delivery_at.result c.self.view_is c.as_slice-events.ensures (sym c.kind.ensures ∙ c.in-OutputNumber.is)
     (c.has_delivery_at.ensures ∙ ap (λ (at : Stamp). has_delivery e.flow vs o (same at)) c.new-at.ensures)
 
 pub returns-then-has_epoch : goal.returns-then-has_epoch
 returns-then-has_epoch c =
     let e = c.self.inside in
-    tells-epoch c.args.self.now (system_of e.flow e.batches) (state_of e.flow e.history e.settled.items e.failed.items e.bounds.items) c.as_slice-events.result.now e.refused
+    tells-epoch c.args.self.now (system_of e.flow e.batches) (state_of e.flow e.history e.settled.items e.failed.items e.ack_counts.items) c.as_slice-events.result.now e.refused
     c.args.output c.args.x c.has_epoch.result c.self.view_is c.as_slice-events.ensures (λ k. c.in_default.not-OutputNumber (c.kind.ensures ∙ k)) c.has_epoch.ensures
     c.if-has_epoch.true
 
@@ -27,7 +27,7 @@ returns-else-has_epoch c =
     let e = c.self.inside in
     let o = c.args.output in
     let vs = c.as_slice-events.result.now in
-    tells-later c.args.self.now (system_of e.flow e.batches) (state_of e.flow e.history e.settled.items e.failed.items e.bounds.items) vs e.refused o c.args.x
+    tells-later c.args.self.now (system_of e.flow e.batches) (state_of e.flow e.history e.settled.items e.failed.items e.ack_counts.items) vs e.refused o c.args.x
     c.has_epoch.result c.has_delivery_from.result c.self.view_is c.as_slice-events.ensures (λ k. c.in_default.not-OutputNumber (c.kind.ensures ∙ k))
     c.has_epoch.ensures c.if-has_epoch.false
     (c.has_delivery_from.ensures ∙ ap (λ (at : Stamp). has_delivery e.flow vs o (leq at)) c.new-at.ensures)

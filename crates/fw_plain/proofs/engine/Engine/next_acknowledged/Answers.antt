@@ -25,12 +25,12 @@ returns-in_err-x c =
     let was = c.args.self.now in
     let o = c.args.output in
     let n = c.in_ok-bound.field-0.now in
-    let at = read c.deref.result.now e.bounds.items c.place.result o n c.deref.ensures.value c.place.ensures c.in_ok-bound.ensures.lookup.3 in
-    let not_fits : get_or e.bounds.items o 0 < 2 ^ 32 → ⊥ =
+    let at = read c.deref.result.now e.ack_counts.items c.place.result o n c.deref.ensures.value c.place.ensures c.in_ok-bound.ensures.lookup.3 in
+    let not_fits : get_or e.ack_counts.items o 0 < 2 ^ 32 → ⊥ =
     λ l. fits-not c.try_from.result (n < 2 ^ 32) n c.try_from.ensures c.in_err-x.ensures.value (subst (λ m. m < 2 ^ 32) (sym at.1) l) in
     subst (λ (r : Option ℕ). MatchOption r ((x : ℕ) → MayAcknowledge was.sys was.state o x → ⊥) (λ x. MayAcknowledge was.sys was.state o x))
     (sym c.from_residual-in_err-x.ensures)
-    (may_acknowledge_none was (system_of e.flow e.batches) (state_of e.flow e.history e.settled.items e.failed.items e.bounds.items) e.refused o c.self.view_is not_fits)
+    (may_acknowledge_none was (system_of e.flow e.batches) (state_of e.flow e.history e.settled.items e.failed.items e.ack_counts.items) e.refused o c.self.view_is not_fits)
 
 pub returns-then-has_something_at : goal.returns-then-has_something_at
 returns-then-has_something_at c =
@@ -39,8 +39,8 @@ returns-then-has_something_at c =
     let o = c.args.output in
     let n = c.in_ok-bound.field-0.now in
     let x = c.in_ok-x.x in
-    let at = read c.deref.result.now e.bounds.items c.place.result o n c.deref.ensures.value c.place.ensures c.in_ok-bound.ensures.lookup.3 in
-    may_acknowledge was (system_of e.flow e.batches) (state_of e.flow e.history e.settled.items e.failed.items e.bounds.items) e.refused o x c.self.view_is c.self.invariant at.0
+    let at = read c.deref.result.now e.ack_counts.items c.place.result o n c.deref.ensures.value c.place.ensures c.in_ok-bound.ensures.lookup.3 in
+    may_acknowledge was (system_of e.flow e.batches) (state_of e.flow e.history e.settled.items e.failed.items e.ack_counts.items) e.refused o x c.self.view_is c.self.invariant at.0
     (fits-same c.try_from.result (n < 2 ^ 32) n x c.try_from.ensures c.in_ok-x.ensures.value ∙ at.1)
     (ap is_output_kind (sym c.kind.ensures) ∙ sym c.is_output.ensures ∙ c.if-is_output.true)
     (sym (sym c.if-not-is_failed.true ∙ c.is_failed.ensures ∙ ap (λ (fs : List Bool). slice_index_or fs o false) c.deref-then-is_output.ensures.value))

@@ -9,6 +9,6 @@ pub returns : goal.returns
 returns c =
     let e = c.self.inside in
     let sys = system_of e.flow e.batches in
-    let state = state_of e.flow e.history e.settled.items e.failed.items e.bounds.items in
+    let state = state_of e.flow e.history e.settled.items e.failed.items e.ack_counts.items in
     standing_idle c.args.self.now sys state e.refused (Notify c.args._node (option_copied c.args._at)) c.self.view_is
     (notifies_nothing sys state c.args._node (option_copied c.args._at) c.self.invariant)

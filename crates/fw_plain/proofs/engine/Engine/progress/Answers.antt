@@ -4,7 +4,7 @@ use Rattle.fw_flow.specs.declared.step.Step.TheVariants.{Progress}
 use Rattle.fw_frontier.specs.Front.{Front}
 use Rattle.fw_model.specs.History.{IsComplete, AreAtNodes}
 use Rattle.fw_model.specs.Machine.{events, family_of}
-use Rattle.fw_model.specs.Steps.{quiet, did}
+use Rattle.fw_model.specs.Steps.{silent, did}
 use Rattle.fw_plain.specs.Engine.{state_of}
 use Rattle.fw_plain.specs.Fronts.{any_grows, AreGrown}
 use Rattle.fw_plain.proofs.EngineLaws.{at_nodes, sound_after, standing, standing_idle}
@@ -16,13 +16,13 @@ pub complete_frontiers-requires : goal.complete_frontiers-requires
 complete_frontiers-requires c =
     let e = c.self.inside in
     subst (λ (h : List Event). AreAtNodes e.flow h) c.as_slice-events.ensures
-    (at_nodes (system_of e.flow e.batches) (state_of e.flow e.history e.settled.items e.failed.items e.bounds.items) c.self.invariant)
+    (at_nodes (system_of e.flow e.batches) (state_of e.flow e.history e.settled.items e.failed.items e.ack_counts.items) c.self.invariant)
 
 pub returns-then-not-any_grows-clause-ok : goal.returns-then-not-any_grows-clause-ok
 returns-then-not-any_grows-clause-ok c =
     let e = c.self.inside in
     let sys = system_of e.flow e.batches in
-    let state = state_of e.flow e.history e.settled.items e.failed.items e.bounds.items in
+    let state = state_of e.flow e.history e.settled.items e.failed.items e.ack_counts.items in
     let cs = c.in_ok-complete.complete.items in
     let found : IsComplete sys (events e.history.history) (family_of e.flow cs) =
     subst (λ (h : List Event). IsComplete sys h (family_of e.flow cs)) (sym c.as_slice-events.ensures) c.in_ok-complete.ensures.complete in
@@ -39,7 +39,7 @@ invariant_of-self c =
     let sys = system_of e.flow e.batches in
     let fs = e.settled.items in
     let ds = e.failed.items in
-    let ns = e.bounds.items in
+    let ns = e.ack_counts.items in
     let cs = c.in_ok-complete.complete.items in
     let both = c.in_ok-self-inside.field-0.items in
     let found : IsComplete sys (events e.history.history) (family_of e.flow cs) =
@@ -52,7 +52,7 @@ invariant_of-self c =
     sym (sym c.if-not-any_grows.false ∙ c.any_grows.ensures ∙ ap (λ (gs : List Bool). any_grows gs c.deref-2.result.now c.deref-3.result.now) c.deref.ensures.value
     ∙ ap (λ (gs : List Front). any_grows ds gs c.deref-3.result.now) c.deref-2.ensures.value
     ∙ ap (λ (gs : List Front). any_grows ds cs gs) c.deref-3.ensures.value) in
-    sound_after sys (state_of e.flow e.history fs ds ns) Progress (state_of e.flow e.history both ds ns) (did quiet) refl c.self.invariant
+    sound_after sys (state_of e.flow e.history fs ds ns) Progress (state_of e.flow e.history both ds ns) (did silent) refl c.self.invariant
     (progresses sys e.history fs ds ns cs both c.self.invariant found c.in_ok-complete.ensures.canonical join more)
 
 pub returns-clause-ok : goal.returns-clause-ok
@@ -61,7 +61,7 @@ returns-clause-ok c =
     let sys = system_of e.flow e.batches in
     let fs = e.settled.items in
     let ds = e.failed.items in
-    let ns = e.bounds.items in
+    let ns = e.ack_counts.items in
     let cs = c.in_ok-complete.complete.items in
     let both = c.in_ok-self-inside.field-0.items in
     let found : IsComplete sys (events e.history.history) (family_of e.flow cs) =
@@ -74,5 +74,5 @@ returns-clause-ok c =
     sym (sym c.if-not-any_grows.false ∙ c.any_grows.ensures ∙ ap (λ (gs : List Bool). any_grows gs c.deref-2.result.now c.deref-3.result.now) c.deref.ensures.value
     ∙ ap (λ (gs : List Front). any_grows ds gs c.deref-3.result.now) c.deref-2.ensures.value
     ∙ ap (λ (gs : List Front). any_grows ds cs gs) c.deref-3.ensures.value) in
-    standing c.args.self.now sys (state_of e.flow e.history fs ds ns) e.refused Progress (state_of e.flow e.history both ds ns) (did quiet) c.self.view_is
+    standing c.args.self.now sys (state_of e.flow e.history fs ds ns) e.refused Progress (state_of e.flow e.history both ds ns) (did silent) c.self.view_is
     (progresses sys e.history fs ds ns cs both c.self.invariant found c.in_ok-complete.ensures.canonical join more)

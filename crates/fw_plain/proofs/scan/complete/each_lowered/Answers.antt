@@ -1,7 +1,7 @@
 use Rattle.std.proofs.Common.{reverse, refl}
-use Rattle.fw_frontier.specs.Front.{Names}
+use Rattle.fw_frontier.specs.Front.{IsFrontOf}
 use Rattle.fw_flow.specs.Dataflow.{bounds_of, system_of}
-use Rattle.fw_plain.specs.Clear.{lowered}
+use Rattle.fw_plain.specs.Clear.{lowered_frontier}
 use Rattle.fw_plain.proofs.CompleteSteps.{each_more, length_more, canonical_at, lowered_at}
 use Rattle.fw_plain.proofs.scan.complete.each_lowered.Goals as goal
 use Rattle.fw_model.specs.Machine.{family_of}
@@ -18,7 +18,7 @@ loop-place-preserved c =
     let new = c.push.new.self.items in
     record {
       one_each = length_more lower new c.in_ok-left.left c.loop-place.place c.in_ok-push.ensures.items old.one_each;
-      lowered = each_more (λ p f. Names (bounds_of c.args.flow.now p) f (lowered sys h (family_of c.args.flow.now c.args.fronts.now) p (family_of c.args.flow.now c.args.fronts.now p)))
+      lowered = each_more (λ p f. IsFrontOf (bounds_of c.args.flow.now p) f (lowered_frontier sys h (family_of c.args.flow.now c.args.fronts.now) p (family_of c.args.flow.now c.args.fronts.now p)))
           lower new c.in_ok-left.left c.loop-place.place c.in_ok-push.ensures.items old.one_each old.lowered
           (lowered_at sys h c.args.fronts.now c.loop-place.place c.at-node.result c.in_ok-front.front c.in_ok-left.left c.at-node.ensures c.in_ok-front.ensures c.in_ok-left.ensures);
     }

@@ -7,7 +7,6 @@ use Rattle.fw_time.proofs.EachLaws.{each-of_all}
 use Rattle.fw_frontier.specs.Front.{Front, frontier_of}
 use Rattle.fw_frontier.specs.Frontier.{Within}
 use Rattle.fw_flow.specs.Dataflow.{System, batches_of, bounds_of, kind_of, policy_of, receiver, sender}
-use Rattle.fw_flow.specs.Message.{messages_without}
 use Rattle.fw_flow.specs.NodeFunction.{sends}
 use Rattle.fw_flow.specs.Projection.{phi, psi}
 use Rattle.fw_flow.specs.WellFormed.{IsWellFormed}

@@ -10,8 +10,8 @@ mod loop_counts_up;
 mod witnesses_of_laws;
 
 pub use inclusions::{
-    delivered_is_needed, discarded_is_needed, leaves_out_one, notices_are_needed, notified_is_needed,
-    one_select_is_well_formed, own_is_needed, two_sources_is_well_formed,
+    delivered_is_needed, discarded_is_needed, leaves_out_one, notices_are_needed,
+    notified_is_needed, one_select_is_well_formed, own_is_needed, two_sources_is_well_formed,
 };
 pub use kinds_send::{
     distinct_sends_the_first, join_sends_each_pair, ledger_sends_running_totals,

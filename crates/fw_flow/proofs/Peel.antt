@@ -1,8 +1,7 @@
 -- Peeling: after each round the nodes are left that a longer path ends at, and after as many rounds as there are nodes
 -- only those to which a closed path leads.
-use Rattle.std.proofs.Common.{◌≡◌, ℕ, zero, suc, ◌+◌, ◌<◌, ◌≤◌, ◌⊎◌, inl, inr, Bool, true, false, List, [], ◌∷◌, length, replicate, refl, sym, ap, ◌∙◌, subst, arith}
+use Rattle.std.proofs.Common.{◌≡◌, ℕ, zero, suc, ◌+◌, ◌<◌, ◌≤◌, ◌⊎◌, inl, inr, Bool, true, false, List, [], ◌∷◌, length, refl, sym, ap, ◌∙◌, subst, arith}
 use Rattle.std.proofs.lemmas.Bool.{or_cases, or_parts, false≢true}
-use Rattle.std.proofs.lemmas.List.{get_or-replicate}
 use Rattle.std.specs.List.{list_any}
 use Rattle.fw_flow.specs.Walks.{Graph, IsPath, Path, is_marked, IsLedTo}
 use Rattle.fw_flow.proofs.Reach.{reach, reach-join, reach-from_edge, reach-from_Path, Path-from_reach, Path-of_edge, Path-append, LeadsWithin, find_below}

@@ -165,7 +165,13 @@ fn at_edge(
     flow_is_well_formed(flow);
     let delivered = lower_cut(alloc, flow, offers, &Side::Delivered(edge), cuts, notices)?;
     let discarded = lower_cut(alloc, flow, offers, &Side::Discarded(edge), cuts, notices)?;
-    let bound = arrived(alloc, flow, offers, edge, notice_at(notices, flow.src(edge)))?;
+    let bound = arrived(
+        alloc,
+        flow,
+        offers,
+        edge,
+        notice_at(notices, flow.src(edge)),
+    )?;
     let notice = lower_notice(notices, flow.dst(edge), &bound)?;
     Ok(delivered | discarded | notice)
 }

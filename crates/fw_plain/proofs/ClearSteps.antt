@@ -16,10 +16,8 @@ use Rattle.fw_bag.specs.declared.rec.Rec.{Rec}
 use Rattle.fw_flow.specs.declared.event.Event.{Event}
 use Rattle.fw_flow.specs.declared.event.Event.TheVariants.{Inject, Deliver, Notify}
 use Rattle.fw_flow.specs.declared.event.Message.{Message}
-use Rattle.fw_flow.specs.declared.kind.Kind.{Kind}
-use Rattle.fw_flow.specs.declared.kind.Kind.TheVariants.{Input}
 use Rattle.fw_flow.specs.Projection.{first_coordinate}
-use Rattle.fw_flow.specs.Dataflow.{System, Dataflow, kind_of, receiver, in_edges, bounds_of, bounds_of_domain, domain_of_kind, greatest_number, is_input_kind, is_notified_kind, batches_of}
+use Rattle.fw_flow.specs.Dataflow.{System, Dataflow, kind_of, receiver, in_edges, bounds_of, greatest_number, is_input_kind, is_notified_kind, batches_of}
 use Rattle.fw_flow.proofs.EdgeLaws.{in_edges-at, in_edges-from}
 use Rattle.fw_model.specs.History.{pending_messages, is_owed_notice, is_delivery_to, is_notification, was_notified, was_delivered_to, some_at, injected_count, is_exhausted, injected_epochs, IsQuiet}
 use Rattle.fw_plain.specs.Clear.{given_frontier, pending_stamps, is_unnotified, owed_by, owed_stamps, IsClear}

@@ -1,5 +1,5 @@
 -- The descent to the complete frontiers: what each pass keeps, when it ends, and what it comes to.
-use Rattle.std.proofs.Common.{◌≡◌, ℕ, zero, suc, ◌+◌, ◌<◌, ◌≤◌, Bool, true, false, not, ◌&&◌, ◌==◌, cond, List, [], ◌∷◌, ◌++◌, length, reverse, Some, None, refl, sym, ap, subst, ◌∙◌, get_or, take, inl, inr, arith}
+use Rattle.std.proofs.Common.{◌≡◌, ℕ, zero, suc, ◌+◌, ◌<◌, ◌≤◌, Bool, true, false, ◌&&◌, ◌==◌, cond, List, [], ◌∷◌, ◌++◌, length, reverse, Some, None, refl, sym, ap, subst, ◌∙◌, get_or, take, inl, inr, arith}
 use Rattle.std.specs.List.{sum_by}
 use Rattle.std.specs.List.Sorted.{IsPermutation}
 use Rattle.std.proofs.Math.Bool.{and-true, and_assoc}
@@ -17,12 +17,12 @@ use Rattle.fw_frontier.proofs.NamesLaws.{frontier-closed, is_within-inside, with
 use Rattle.fw_flow.specs.declared.event.Event.{Event}
 use Rattle.fw_flow.specs.declared.event.Event.TheVariants.{Inject, Deliver, Notify}
 use Rattle.fw_flow.specs.declared.event.Message.{Message}
-use Rattle.fw_flow.specs.declared.kind.Kind.TheVariants.{Sequence, OutputEpoch}
-use Rattle.fw_flow.specs.Dataflow.{System, Dataflow, kind_of, sender, receiver, in_edges, bounds_of, bounds_of_domain, domain_of_kind, greatest_number, is_input_kind, is_notified_kind}
+use Rattle.fw_flow.specs.declared.kind.Kind.TheVariants.{Sequence}
+use Rattle.fw_flow.specs.Dataflow.{System, Dataflow, kind_of, sender, receiver, in_edges, bounds_of, bounds_of_domain, domain_of_kind, greatest_number, is_input_kind}
 use Rattle.fw_flow.specs.NodeFunction.{event_node, event_stamp, sends}
 use Rattle.fw_flow.specs.Projection.{events_at, phi, table_count, IsSentTable}
 use Rattle.fw_flow.specs.WellFormed.{IsWellFormed}
-use Rattle.fw_model.specs.History.{is_owed_notice, was_delivered_to, was_notified, injected_epochs, IsQuiet, IsAdmissible, IsComplete, AreAtNodes}
+use Rattle.fw_model.specs.History.{is_owed_notice, injected_epochs, IsQuiet, IsAdmissible, IsComplete, AreAtNodes}
 use Rattle.fw_model.specs.Machine.{front_of, family_of, AreCanonical}
 use Rattle.fw_plain.specs.Clear.{lowered_frontier, notified_epoch, IsClear}
 use Rattle.fw_model.proofs.StampLaws.{in_line}

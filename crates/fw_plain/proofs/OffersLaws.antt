@@ -1,11 +1,11 @@
 -- What plain nodes offer is what the machine offers.
-use Rattle.std.proofs.Common.{◌≡◌, ◌⊎◌, ◌↔◌, ℕ, zero, suc, ◌+◌, ◌<◌, ◌≤◌, Bool, true, false, not, cond, List, [], ◌∷◌, length, map, reverse, slice_index_or, Option, None, ◌==◌, refl, sym, ◌∙◌, ap, subst, arith}
+use Rattle.std.proofs.Common.{◌≡◌, ◌⊎◌, ◌↔◌, ℕ, zero, suc, ◌+◌, ◌<◌, ◌≤◌, Bool, true, false, not, List, [], ◌∷◌, length, map, reverse, slice_index_or, Option, None, ◌==◌, refl, sym, ◌∙◌, ap, subst, arith}
 use Rattle.std.proofs.lemmas.Bool.{both_ways, true≢false, cond-false}
 use Rattle.std.specs.List.{AllByRecursion, flat_map, filter}
 use Rattle.fw_time.specs.declared.stamp.Bounds.{Bounds}
 use Rattle.fw_time.specs.Stamp.{Stamp, in_domain}
 use Rattle.fw_time.proofs.EachLaws.{each-weaker}
-use Rattle.fw_frontier.specs.Frontier.{Frontier, Within, nothing, everything, cover}
+use Rattle.fw_frontier.specs.Frontier.{Frontier, Within, everything, cover}
 use Rattle.fw_frontier.specs.Front.{Front, frontier_of}
 use Rattle.fw_flow.specs.declared.choice.Counted.{Counted}
 use Rattle.fw_flow.specs.declared.choice.Cut.{Cut}
@@ -17,8 +17,8 @@ use Rattle.fw_flow.specs.declared.event.Message.{Message}
 use Rattle.fw_flow.specs.declared.kind.Kind.{Kind}
 use Rattle.fw_flow.specs.declared.kind.Kind.TheVariants.{Input, OutputEpoch, OutputNumber, Sequence}
 use Rattle.fw_flow.specs.declared.kind.Policy.TheVariants as policy
-use Rattle.fw_flow.specs.Dataflow.{System, kind_of, policy_of, sender, receiver, bounds_of, greatest_number, is_notified_kind, bounds_of_edge}
-use Rattle.fw_flow.specs.Projection.{all_inside, phi_by_count, IsSentTable, count_from}
+use Rattle.fw_flow.specs.Dataflow.{System, kind_of, sender, receiver, bounds_of, greatest_number, is_notified_kind, bounds_of_edge}
+use Rattle.fw_flow.specs.Projection.{all_inside, phi_by_count, IsSentTable}
 use Rattle.fw_model.specs.Choice.{kept, IsCandidate, IsRestorable}
 use Rattle.fw_model.specs.History.{delivered_messages, sent_messages, injected_count, AreAtNodes}
 use Rattle.fw_flow.specs.declared.restoring.Restoring.{Restoring}

@@ -7,7 +7,6 @@ use Rattle.std.proofs.lemmas.List.{map-append, append-nil}
 use Rattle.std.proofs.lemmas.List.Elements.{filter-append}
 use Rattle.fw_time.specs.Stamp.{Stamp, in_domain}
 use Rattle.fw_time.proofs.EachLaws.{each-append}
-use Rattle.fw_frontier.specs.Frontier.{Frontier}
 use Rattle.fw_flow.specs.declared.choice.Counted.{Counted}
 use Rattle.fw_flow.specs.declared.event.Event.{Event}
 use Rattle.fw_flow.specs.declared.event.Event.TheVariants.{Inject, Deliver, Notify}
@@ -15,12 +14,11 @@ use Rattle.fw_flow.specs.declared.event.Message.{Message}
 use Rattle.fw_flow.specs.declared.node.Edge.{Edge}
 use Rattle.fw_flow.specs.Dataflow.{System, Dataflow, sender, receiver, out_edges, edges_from, bounds_of}
 use Rattle.fw_flow.specs.NodeFunction.{sent_by}
-use Rattle.fw_flow.specs.Projection.{all_inside, events_at, count_from}
-use Rattle.fw_flow.specs.Projection as projection
+use Rattle.fw_flow.specs.Projection.{events_at}
 use Rattle.fw_model.specs.History.{delivered_messages, sent_messages, AreAtNodes}
 use Rattle.fw_model.specs.Covers.{stamp_of_notice}
 use Rattle.fw_model.proofs.FilterLaws.{filter-in, filter-out}
-use Rattle.fw_model.specs.Offers.{stamps_on_from, AreOnEdges}
+use Rattle.fw_model.specs.Offers.{AreOnEdges}
 use Rattle.fw_plain.specs.Offered.{single_message, delivery_to, deliveries_to, on_each, sent_from}
 
 -- the stamps of the messages

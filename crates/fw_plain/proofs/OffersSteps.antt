@@ -1,8 +1,6 @@
 -- What loops find that collect what nodes offer.
 use Rattle.std.proofs.Common.{◌≡◌, ◌⊎◌, ℕ, ◌+◌, ◌^◌, ◌<◌, ◌==◌, min, Bool, true, false, not, inl, inr, List, [], ◌∷◌, ◌++◌, length, map, reverse, slice_index_or, sym, ◌∙◌, ap, subst, append_assoc, arith}
 use Rattle.std.specs.List.{flat_map, range_with_len}
-use Rattle.std.specs.declared.alloc.Global.{Global}
-use Rattle.std.specs.declared.vec.Vec.{Vec}
 use Rattle.std.proofs.lemmas.List.{append-nil}
 use Rattle.std.proofs.lemmas.List.FromFn.{map-range_with_len_more}
 use Rattle.fw_time.specs.declared.stamp.Bounds.{Bounds}

@@ -1,5 +1,5 @@
 -- What the plain engine stands for.
-use Rattle.std.specs.Prelude.{◌≡◌, ℕ, ◌<◌, Bool, true, false, List, [], map, length}
+use Rattle.std.specs.Prelude.{◌≡◌, ℕ, ◌<◌, Bool, List, [], map, length}
 use Rattle.fw_frontier.specs.Front.{Front, IsCanonical}
 use Rattle.fw_flow.specs.Dataflow.{System, Dataflow, bounds_of, KeepsNothing, NotifiesNobody, node_ids}
 use Rattle.fw_flow.specs.declared.step.Step.{Step}

@@ -4,8 +4,7 @@ use Rattle.std.proofs.lemmas.Bool.Decides.{nat_tests}
 use Rattle.std.proofs.lemmas.List.{append-nil, take_more}
 use Rattle.std.specs.Fmt.{decimal}
 use Rattle.fw_time.specs.StampText.{dots_text}
-use Rattle.fw_time.specs.Stamp.{leq, lub, outer, counter, origin, stamp_raised_at}
-use Rattle.fw_time.proofs.StampLaws.{outer-nest, counter-nest}
+use Rattle.fw_time.specs.Stamp.{leq, lub, origin, stamp_raised_at}
 
 leq_suc : (a b : List ℕ) (i : ℕ) → i < length a → i < length b → leq (drop i a) (drop i b) ≡ (nat_le (get_or a i 0) (get_or b i 0) && leq (drop (suc i) a) (drop (suc i) b))
 leq_suc [] b i h k = absurd (omega arith)

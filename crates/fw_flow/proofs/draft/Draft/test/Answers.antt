@@ -1,4 +1,4 @@
-use Rattle.std.proofs.Common.{◌≡◌, ◌↔◌, true, inl, inr, sym, refl, ◌∙◌, rules}
+use Rattle.std.proofs.Common.{inl, inr, sym, refl, ◌∙◌, rules}
 use Rattle.std.proofs.lemmas.Bool.{false≢true}
 use Rattle.fw_lines.specs.declared.refusal.Code.TheVariants.{F4, F5, F6, F7, F8, F9}
 use Rattle.fw_lines.specs.Faults.{IfRefused}

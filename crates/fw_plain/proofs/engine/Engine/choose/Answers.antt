@@ -1,8 +1,8 @@
-use Rattle.std.proofs.Common.{◌≡◌, List, IfOk, sym, subst}
+use Rattle.std.proofs.Common.{List, IfOk, sym, subst}
 use Rattle.fw_flow.specs.declared.choice.Choice.{Choice}
 use Rattle.fw_flow.specs.declared.choice.Offer.{Offer}
 use Rattle.fw_flow.specs.declared.event.Event.{Event}
-use Rattle.fw_flow.specs.Dataflow.{System, system_of}
+use Rattle.fw_flow.specs.Dataflow.{system_of}
 use Rattle.fw_model.specs.Choice.{IsConsistentBy, IsLargestBy, IsLargest}
 use Rattle.fw_model.specs.Machine.{is_failed}
 use Rattle.fw_model.specs.Steps.{offers}

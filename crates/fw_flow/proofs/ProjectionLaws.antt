@@ -11,7 +11,7 @@ use Rattle.fw_time.specs.declared.stamp.Bounds.{Bounds}
 use Rattle.fw_time.specs.Stamp.{Stamp, leq, nest, outer, counter, in_domain, origin}
 use Rattle.fw_time.specs.Sending.{entered_stamp, fed_back_stamp}
 use Rattle.std.proofs.Math.Nat.{min-le_left, min-le_right, div-add-mod', mod-lt, le-div_iff_mul-le, div-lt_iff_lt-mul, div-le_self, mul-le-mul_right}
-use Rattle.fw_time.specs.NestLaws.{length-nest, places-outer}
+use Rattle.fw_time.specs.NestLaws.{length-nest, dimension-outer}
 use Rattle.fw_time.proofs.StampLaws.{leq-refl, leq-length, leq-nest, origin-leq, counter-nest, nest-outer}
 use Rattle.fw_time.proofs.EachLaws.{each-append}
 use Rattle.fw_time.proofs.StampSteps.{length-origin}
@@ -77,7 +77,7 @@ pub of_loop : (b : Stamp) (m : ℕ) (u : Stamp) → leq u (nest b m) ≡ true �
 of_loop b m u h =
     let long : length u ≡ length b + 1 = leq-length u (nest b m) h ∙ length-nest b m in
     let e = nest-outer u (omega arith) in
-    let l = places-outer u (length b) long in
+    let l = dimension-outer u (length b) long in
     let q : (leq (outer u) b && nat_le (counter u) m) ≡ true = sym (leq-nest (outer u) b (counter u) m l) ∙ ap (λ w. leq w (nest b m)) e ∙ h in
     record { nested = e; outside = (and_parts _ _ q).0; counted = leb-true (counter u) m (and_parts _ _ q).1; long = l }
 

@@ -10,10 +10,10 @@ use Rattle.fw_frontier.specs.Domain.{IsOfDomain}
 use Rattle.fw_frontier.proofs.BelowLaws.{names-by}
 use Rattle.fw_frontier.proofs.NamesLaws.{names-self, names-same}
 
-module _ {T : Type 0} (coords : T → List ℕ) (of_coords : List ℕ → T) (places : ℕ)
-    (long : (t : T) → length (coords t) ≡ places)
-    (all : (s : List ℕ) → length s ≡ places → coords (of_coords s) ≡ s)
-    (b : Bounds) (shape : length b.greatest ≡ places) where
+module _ {T : Type 0} (coords : T → List ℕ) (of_coords : List ℕ → T) (dimension : ℕ)
+    (long : (t : T) → length (coords t) ≡ dimension)
+    (all : (s : List ℕ) → length s ≡ dimension → coords (of_coords s) ≡ s)
+    (b : Bounds) (shape : length b.greatest ≡ dimension) where
   -- the part of a time in the domain
   part : (t : T) → coords (of_coords (glb (coords t) b.greatest)) ≡ glb (coords t) b.greatest
   part t = all (glb (coords t) b.greatest) (length-glb (coords t) b.greatest (long t ∙ sym shape) ∙ long t)

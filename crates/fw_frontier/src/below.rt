@@ -5,7 +5,7 @@ ghost use Rattle.fw_frontier.specs.Below.{is_below};
 ghost use Rattle.fw_frontier.specs.Front.{IsFrontOf};
 
 use crate::{Front, Frontier, Logical};
-use fw_time::{Bounds, Epoch, Number, SeqNo, Stamp};
+use fw_time::{Bounds, Epoch, Scalar, SeqNo, Stamp};
 use std::alloc::{AllocError, Global};
 
 /// The times below a first one that is outside, or all times.
@@ -23,10 +23,10 @@ impl Logical for SeqNo {
     type Frontier = Below;
 }
 
-impl<N: Number> Frontier<N> for Below {
+impl<N: Scalar> Frontier<N> for Below {
     ghost use Rattle.fw_frontier.specs.BelowLaw.{is_below-closed};
 
-    ghost inside = { λ f t. is_below f.until (N.number t) };
+    ghost inside = { λ f t. is_below f.until (N.coordinate t) };
 
     fn empty(_alloc: Global, _bounds: &Bounds) -> Result<Self, AllocError> {
         Ok(Below { until: Some(0) })
@@ -41,7 +41,7 @@ impl<N: Number> Frontier<N> for Below {
     }
 
     fn contains(&self, t: &N) -> bool {
-        is_within(self.until, t.number())
+        is_within(self.until, t.coordinate())
     }
 
     fn subset(&self, other: &Self) -> bool {
@@ -62,13 +62,13 @@ impl<N: Number> Frontier<N> for Below {
 
     fn below(_alloc: Global, top: &N, bounds: &Bounds) -> Result<Self, AllocError> {
         Ok(Below {
-            until: limit_above(top.number(), greatest_of(bounds)),
+            until: limit_above(top.coordinate(), greatest_of(bounds)),
         })
     }
 
     fn cut_above(&self, t: &N) -> Result<Self, AllocError> {
         Ok(Below {
-            until: lower(self.until, Some(t.number())),
+            until: lower(self.until, Some(t.coordinate())),
         })
     }
 
@@ -77,7 +77,7 @@ impl<N: Number> Frontier<N> for Below {
     }
 
     ghost closed = { λ f s t.
-        is_below-closed f.until (N.coords s) (N.coords t) (N.number s) (N.number t) (N.one_coord s) (N.one_coord t) };
+        is_below-closed f.until (N.coords s) (N.coords t) (N.coordinate s) (N.coordinate t) (N.one_coord s) (N.one_coord t) };
 }
 
 // The numbers of a domain that are below the limit, by their least outside stamps.

@@ -25,12 +25,12 @@ pub trait Frontier<T: Time>: Drop {
 
     /// The frontier without times.
     fn empty(alloc: Global, bounds: &Bounds) -> Result<Self, AllocError>
-        requires { length bounds.now.greatest ≡ T.places }
+        requires { length bounds.now.greatest ≡ T.dimension }
         ensures { IfOk result (λ f. (t : T) → inside f t ≡ false) };
 
     /// The frontier of all times.
     fn all(alloc: Global, bounds: &Bounds) -> Result<Self, AllocError>
-        requires { length bounds.now.greatest ≡ T.places }
+        requires { length bounds.now.greatest ≡ T.dimension }
         ensures { IfOk result (λ f. (t : T) → inside f t ≡ true) };
 
     /// The same frontier once more.
@@ -55,7 +55,7 @@ pub trait Frontier<T: Time>: Drop {
 
     /// What is at most a time of the domain.
     fn below(alloc: Global, top: &T, bounds: &Bounds) -> Result<Self, AllocError>
-        requires { length bounds.now.greatest ≡ T.places }
+        requires { length bounds.now.greatest ≡ T.dimension }
         ensures { IfOk result
             (λ f. (t : T) → inside f t ≡ leq (glb (T.coords t) bounds.now.greatest) (T.coords top.now)) };
 
@@ -66,13 +66,13 @@ pub trait Frontier<T: Time>: Drop {
 
     /// What of the domain is inside, by its least outside stamps.
     fn to_front(&self, alloc: Global, bounds: &Bounds) -> Result<Front, AllocError>
-        requires { length bounds.now.greatest ≡ T.places }
+        requires { length bounds.now.greatest ≡ T.dimension }
         ensures { IfOk result (λ f. IsFrontOf bounds.now f
             (λ t. in_domain bounds.now t && inside self.now (T.of_coords t))) };
 
     /// What is at most one of these times of the domain.
     fn cover_of(alloc: Global, tops: &[T], bounds: &Bounds) -> Result<Self, AllocError>
-        requires { length bounds.now.greatest ≡ T.places }
+        requires { length bounds.now.greatest ≡ T.dimension }
         ensures { IfOk result
             (λ f. (t : T) → inside f t ≡ some_above (map T.coords tops.now) (glb (T.coords t) bounds.now.greatest)) }
     {
@@ -86,7 +86,7 @@ pub trait Frontier<T: Time>: Drop {
 
     /// What a front has inside, whose outside stamps are the domain's.
     fn from_front(alloc: Global, front: &Front, bounds: &Bounds) -> Result<Self, AllocError>
-        requires shape { length bounds.now.greatest ≡ T.places }
+        requires shape { length bounds.now.greatest ≡ T.dimension }
         requires in_domain { AllByRecursion (λ o. in_domain bounds.now o ≡ true) front.now }
         ensures { IfOk result (λ f. (t : T) → inside f t ≡ inside_front front.now (T.coords t)) }
     {

@@ -52,14 +52,14 @@ pub fn cut_is_largest()
 
 /// A front comes back from a type of times as the same list.
 pub fn round_trip<T: Logical>()
-    ensures { (bounds : Domain) (os ps : List (List ℕ)) (f : T.Frontier) → length bounds.greatest ≡ T.places
+    ensures { (bounds : Domain) (os ps : List (List ℕ)) (f : T.Frontier) → length bounds.greatest ≡ T.dimension
         → IsCanonical bounds os → ((t : T) → T.Frontier.inside f t ≡ inside os (T.coords t))
         → IsFrontOf bounds ps (λ t. in_domain bounds t && T.Frontier.inside f (T.of_coords t)) → ps ≡ os }
 {}
 
 /// A frontier without outside times past the domain has another inside where it has the other's times of the domain.
 pub fn domain_decides<T: Logical>()
-    ensures { (bounds : Domain) (f g : T.Frontier) → length bounds.greatest ≡ T.places
+    ensures { (bounds : Domain) (f g : T.Frontier) → length bounds.greatest ≡ T.dimension
         → IsOfDomain T.coords T.of_coords bounds (T.Frontier.inside g)
         → ((t : T) → in_domain bounds (T.coords t) ≡ true → T.Frontier.inside f t ≡ true → T.Frontier.inside g t ≡ true)
         → (t : T) → T.Frontier.inside f t ≡ true → T.Frontier.inside g t ≡ true }
@@ -79,15 +79,15 @@ pub fn stays_in_domain<T: Logical>()
         → IsOfDomain T.coords T.of_coords bounds (T.Frontier.inside b)
         → ((t : T) → T.Frontier.inside c t ≡ (T.Frontier.inside a t || T.Frontier.inside b t))
         → IsOfDomain T.coords T.of_coords bounds (T.Frontier.inside c) }
-    ensures cut { (bounds : Domain) (a c : T.Frontier) (s : T) → length bounds.greatest ≡ T.places
+    ensures cut { (bounds : Domain) (a c : T.Frontier) (s : T) → length bounds.greatest ≡ T.dimension
         → in_domain bounds (T.coords s) ≡ true
         → IsOfDomain T.coords T.of_coords bounds (T.Frontier.inside a)
         → ((t : T) → T.Frontier.inside c t ≡ (T.Frontier.inside a t && not (leq (T.coords s) (T.coords t))))
         → IsOfDomain T.coords T.of_coords bounds (T.Frontier.inside c) }
-    ensures cover { (bounds : Domain) (c : T.Frontier) (tops : List T) → length bounds.greatest ≡ T.places
+    ensures cover { (bounds : Domain) (c : T.Frontier) (tops : List T) → length bounds.greatest ≡ T.dimension
         → ((t : T) → T.Frontier.inside c t ≡ some_above (map T.coords tops) (glb (T.coords t) bounds.greatest))
         → IsOfDomain T.coords T.of_coords bounds (T.Frontier.inside c) }
-    ensures front { (bounds : Domain) (c : T.Frontier) (os : List (List ℕ)) → length bounds.greatest ≡ T.places
+    ensures front { (bounds : Domain) (c : T.Frontier) (os : List (List ℕ)) → length bounds.greatest ≡ T.dimension
         → AllByRecursion (λ o. in_domain bounds o ≡ true) os
         → ((t : T) → T.Frontier.inside c t ≡ inside os (T.coords t))
         → IsOfDomain T.coords T.of_coords bounds (T.Frontier.inside c) }

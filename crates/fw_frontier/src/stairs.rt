@@ -39,7 +39,7 @@ impl<T: Logical> Stairs<T> {
 
     // Stamps of the domain outside of which, with the greater ones, its times are inside.
     fn nested(&self, alloc: Global, bounds: &Bounds) -> Result<Vec<Stamp>, AllocError>
-        requires { length bounds.now.greatest ≡ T.places + 1 }
+        requires { length bounds.now.greatest ≡ T.dimension + 1 }
         ensures in_domain { IfOk result (λ stamps. AllByRecursion (λ s. in_domain bounds.now s ≡ true) stamps.items) }
         ensures test { IfOk result (λ stamps. (t : List ℕ) → in_domain bounds.now t ≡ true → inside stamps.items t
             ≡ T.Frontier.inside (slice_index_or self.now.steps.items (counter t) self.now.last) (T.of_coords (outer t))) }
@@ -173,7 +173,7 @@ impl<T: Logical> Frontier<Nest<T>> for Stairs<T> {
     }
 
     ghost closed = { λ f s t.
-        stairs-closed T.coords T.Frontier.inside T.places T.same_places T.Frontier.closed f.steps.items f.last f.descending s.outer t.outer s.counter t.counter };
+        stairs-closed T.coords T.Frontier.inside T.dimension T.same_dimension T.Frontier.closed f.steps.items f.last f.descending s.outer t.outer s.counter t.counter };
 }
 
 // The domain outside of the loop.

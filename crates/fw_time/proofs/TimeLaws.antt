@@ -3,7 +3,7 @@ use Rattle.std.proofs.Common.{◌≡◌, ℕ, ◌+◌, ◌<◌, false, ◌&&◌,
 use Rattle.std.proofs.Math.Bool.{and-false, and_assoc, and-true}
 use Rattle.std.proofs.lemmas.Bool.Decides.{nat_tests}
 use Rattle.fw_time.specs.Stamp.{leq, lub, glb, nest, outer, counter}
-use Rattle.fw_time.specs.NestLaws.{places-outer}
+use Rattle.fw_time.specs.NestLaws.{dimension-outer}
 use Rattle.fw_time.proofs.StampLaws.{lub-nest, leq-nest, length-glb}
 
 -- the greater counter
@@ -43,4 +43,4 @@ glb-nest (x ∷ s) (y ∷ z ∷ g) c h = ap (λ u. cond (nat_le x y) x y ∷ u) 
 -- what of a loop's domain is at most a stamp
 pub leq-glb_nest : (s g t : List ℕ) (c k : ℕ) → length g ≡ length s + 1 → length s ≡ length t → leq (glb (nest s c) g) (nest t k) ≡ (leq (glb s (outer g)) t && nat_le (min c (counter g)) k)
 leq-glb_nest s g t c k h e =
-    ap (λ u. leq u (nest t k)) (glb-nest s g c h) ∙ leq-nest (glb s (outer g)) t (min c (counter g)) k (length-glb s (outer g) (sym (places-outer g (length s) h)) ∙ e)
+    ap (λ u. leq u (nest t k)) (glb-nest s g c h) ∙ leq-nest (glb s (outer g)) t (min c (counter g)) k (length-glb s (outer g) (sym (dimension-outer g (length s) h)) ∙ e)

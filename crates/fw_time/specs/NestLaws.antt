@@ -38,8 +38,8 @@ pub some-nest : (s : List ℕ) (c : ℕ) → 0 < length (nest s c)
 some-nest s c = omega (arith, length-nest s c)
 
 -- as many coordinates as the outer time has, and one
-pub places-nest : (s : List ℕ) (c n : ℕ) → length s ≡ n → length (nest s c) ≡ n + 1
-places-nest s c n e = omega (arith, length-nest s c)
+pub dimension-nest : (s : List ℕ) (c n : ℕ) → length s ≡ n → length (nest s c) ≡ n + 1
+dimension-nest s c n e = omega (arith, length-nest s c)
 
 -- a loop's stamp, put together again
 pub nest-outer : (s : List ℕ) → 0 < length s → nest (outer s) (counter s) ≡ s
@@ -51,18 +51,18 @@ length-outer : (s : List ℕ) → 0 < length s → length (outer s) + 1 ≡ leng
 length-outer s h = sym (length-nest (outer s) (counter s)) ∙ ap length (nest-outer s h)
 
 -- the outer stamp has one coordinate less
-pub places-outer : (s : List ℕ) (n : ℕ) → length s ≡ n + 1 → length (outer s) ≡ n
-places-outer s n h = omega (arith, length-outer s (omega arith))
+pub dimension-outer : (s : List ℕ) (n : ℕ) → length s ≡ n + 1 → length (outer s) ≡ n
+dimension-outer s n h = omega (arith, length-outer s (omega arith))
 
 -- one coordinate is the first
-pub one-place : (s : List ℕ) → length s ≡ 1 → slice_index s 0 ∷ [] ≡ s
-one-place [] h = cc
-one-place (x ∷ []) h = refl
-one-place (x ∷ y ∷ s) h = absurd (omega arith)
+pub one-dimension : (s : List ℕ) → length s ≡ 1 → slice_index s 0 ∷ [] ≡ s
+one-dimension [] h = cc
+one-dimension (x ∷ []) h = refl
+one-dimension (x ∷ y ∷ s) h = absurd (omega arith)
 
 -- there is a coordinate where there is one more than some
-pub some_place-from : (s : List ℕ) (n : ℕ) → length s ≡ n + 1 → 0 < length s
-some_place-from s n h = omega arith
+pub positive-from : (s : List ℕ) (n : ℕ) → length s ≡ n + 1 → 0 < length s
+positive-from s n h = omega arith
 
 -- stamps of a loop are ordered by the outer stamp and the counter
 pub leq-nest : (s t : List ℕ) (c d : ℕ) → length s ≡ length t → leq (nest s c) (nest t d) ≡ (leq s t && nat_le c d)

@@ -14,7 +14,7 @@ pub trait Time: Copy + Ord {
     ghost coords: { Self → List ℕ };
 
     // how many coordinates each time of the type has
-    ghost places: { ℕ };
+    ghost dimension: { ℕ };
 
     // the time of these coordinates
     ghost of_coords: { List ℕ → Self };
@@ -29,7 +29,7 @@ pub trait Time: Copy + Ord {
 
     /// The time as a stamp.
     fn coords(&self) -> Stamp
-        requires { places ≤ 4 }
+        requires { dimension ≤ 4 }
         ensures { result ≡ coords self.now };
 
     /// Whether it is a time of the domain.
@@ -38,7 +38,7 @@ pub trait Time: Copy + Ord {
 
     /// The time that has the coordinates of a stamp.
     fn from_coords(stamp: &Stamp) -> Self
-        requires { length stamp.now ≡ places }
+        requires { length stamp.now ≡ dimension }
         ensures { coords result ≡ stamp.now };
 
     // times with equal coordinates are equal
@@ -48,29 +48,29 @@ pub trait Time: Copy + Ord {
     ghost told_apart: { (x y : Self) → is_eq (Self.cmp x y) ≡ same (coords x) (coords y) };
 
     // each list of as many coordinates is that of a time
-    ghost all_coords: { (s : List ℕ) → length s ≡ places → coords (of_coords s) ≡ s };
+    ghost all_coords: { (s : List ℕ) → length s ≡ dimension → coords (of_coords s) ≡ s };
 
     // all times of the type have as many coordinates
-    ghost same_places: { (x : Self) → length (coords x) ≡ places };
+    ghost same_dimension: { (x : Self) → length (coords x) ≡ dimension };
 
     // and at least one
-    ghost some_place: { (x : Self) → 0 < length (coords x) };
+    ghost positive_dimension: { (x : Self) → 0 < length (coords x) };
 }
 
 /// A time of one coordinate.
-pub trait Number: Time {
+pub trait Scalar: Time {
     // the coordinate
-    ghost number: { Self → ℕ };
+    ghost coordinate: { Self → ℕ };
 
     /// The coordinate.
-    fn number(&self) -> u32
-        ensures { result ≡ number self.now };
+    fn coordinate(&self) -> u32
+        ensures { result ≡ coordinate self.now };
 
     // it is the only one
-    ghost one_coord: { (x : Self) → Self.coords x ≡ number x ∷ [] };
+    ghost one_coord: { (x : Self) → Self.coords x ≡ coordinate x ∷ [] };
 
     // of each time
-    ghost one_place: { Self.places ≡ 1 };
+    ghost one_dimension: { Self.dimension ≡ 1 };
 }
 
 /// An epoch: a time outside of all loops.
@@ -79,11 +79,11 @@ pub struct Epoch(pub u32);
 
 impl Time for Epoch {
     ghost use Rattle.std.proofs.Common.{rules};
-    ghost use Rattle.fw_time.specs.NestLaws.{single, single-apart, one-place};
+    ghost use Rattle.fw_time.specs.NestLaws.{single, single-apart, one-dimension};
 
     ghost coords = { λ t. t.0 ∷ [] };
 
-    ghost places = { 1 };
+    ghost dimension = { 1 };
 
     ghost of_coords = { λ s. record { 0 = slice_index s 0 } };
 
@@ -111,23 +111,23 @@ impl Time for Epoch {
 
     ghost told_apart = { λ x y. single-apart x.0 y.0 };
 
-    ghost all_coords = { one-place };
+    ghost all_coords = { one-dimension };
 
-    ghost same_places = { λ x. refl };
+    ghost same_dimension = { λ x. refl };
 
-    ghost some_place = { λ x. Prim.search rules };
+    ghost positive_dimension = { λ x. Prim.search rules };
 }
 
-impl Number for Epoch {
-    ghost number = { λ t. t.0 };
+impl Scalar for Epoch {
+    ghost coordinate = { λ t. t.0 };
 
-    fn number(&self) -> u32 {
+    fn coordinate(&self) -> u32 {
         self.0
     }
 
     ghost one_coord = { λ x. refl };
 
-    ghost one_place = { refl };
+    ghost one_dimension = { refl };
 }
 
 /// A number of an edge that numbers its messages.
@@ -136,11 +136,11 @@ pub struct SeqNo(pub u32);
 
 impl Time for SeqNo {
     ghost use Rattle.std.proofs.Common.{rules};
-    ghost use Rattle.fw_time.specs.NestLaws.{single, single-apart, one-place};
+    ghost use Rattle.fw_time.specs.NestLaws.{single, single-apart, one-dimension};
 
     ghost coords = { λ t. t.0 ∷ [] };
 
-    ghost places = { 1 };
+    ghost dimension = { 1 };
 
     ghost of_coords = { λ s. record { 0 = slice_index s 0 } };
 
@@ -168,23 +168,23 @@ impl Time for SeqNo {
 
     ghost told_apart = { λ x y. single-apart x.0 y.0 };
 
-    ghost all_coords = { one-place };
+    ghost all_coords = { one-dimension };
 
-    ghost same_places = { λ x. refl };
+    ghost same_dimension = { λ x. refl };
 
-    ghost some_place = { λ x. Prim.search rules };
+    ghost positive_dimension = { λ x. Prim.search rules };
 }
 
-impl Number for SeqNo {
-    ghost number = { λ t. t.0 };
+impl Scalar for SeqNo {
+    ghost coordinate = { λ t. t.0 };
 
-    fn number(&self) -> u32 {
+    fn coordinate(&self) -> u32 {
         self.0
     }
 
     ghost one_coord = { λ x. refl };
 
-    ghost one_place = { refl };
+    ghost one_dimension = { refl };
 }
 
 /// A time of a loop: a time outside of it and the loop's counter.
@@ -199,11 +199,11 @@ pub struct Nest<T> {
 impl<T: Time> Time for Nest<T> {
     ghost use Rattle.std.proofs.Common.{ap, sym, ◌∙◌};
     ghost use Rattle.fw_time.specs.Stamp.{outer, counter};
-    ghost use Rattle.fw_time.specs.NestLaws.{outer-same, counter-same, nest-apart, places-nest, some-nest, places-outer, nest-outer, some_place-from};
+    ghost use Rattle.fw_time.specs.NestLaws.{outer-same, counter-same, nest-apart, dimension-nest, some-nest, dimension-outer, nest-outer, positive-from};
 
     ghost coords = { λ t. nest (T.coords t.outer) t.counter };
 
-    ghost places = { T.places + 1 };
+    ghost dimension = { T.dimension + 1 };
 
     ghost of_coords = { λ s. record { outer = T.of_coords (outer s); counter = counter s } };
 
@@ -246,13 +246,13 @@ impl<T: Time> Time for Nest<T> {
 
     ghost told_apart = { λ x y.
         nest-apart (T.cmp x.outer y.outer) (T.coords x.outer) (T.coords y.outer) x.counter y.counter
-        (T.same_places x.outer ∙ sym (T.same_places y.outer)) (T.told_apart x.outer y.outer) };
+        (T.same_dimension x.outer ∙ sym (T.same_dimension y.outer)) (T.told_apart x.outer y.outer) };
 
     ghost all_coords = { λ s h.
-        ap (λ u. nest u (counter s)) (T.all_coords (outer s) (places-outer s T.places h))
-        ∙ nest-outer s (some_place-from s T.places h) };
+        ap (λ u. nest u (counter s)) (T.all_coords (outer s) (dimension-outer s T.dimension h))
+        ∙ nest-outer s (positive-from s T.dimension h) };
 
-    ghost same_places = { λ x. places-nest (T.coords x.outer) x.counter T.places (T.same_places x.outer) };
+    ghost same_dimension = { λ x. dimension-nest (T.coords x.outer) x.counter T.dimension (T.same_dimension x.outer) };
 
-    ghost some_place = { λ x. some-nest (T.coords x.outer) x.counter };
+    ghost positive_dimension = { λ x. some-nest (T.coords x.outer) x.counter };
 }

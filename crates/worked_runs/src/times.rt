@@ -8,7 +8,7 @@ use std::test::Fail;
 
 // A front by way of the frontiers of a type of times, or all stamps where one of its outside stamps is past the domain.
 fn through<T: Logical>(alloc: Global, front: &Front, bounds: &Bounds) -> Result<Front, AllocError>
-    requires { length bounds.now.greatest ≡ T.places }
+    requires { length bounds.now.greatest ≡ T.dimension }
 {
     if !front.is_in_domain(bounds) {
         return Ok(Front::all(alloc));
@@ -24,7 +24,7 @@ fn cut_cover<T: Logical>(
     cut: &T,
     bounds: &Bounds,
 ) -> Result<String, AllocError>
-    requires { length bounds.now.greatest ≡ T.places }
+    requires { length bounds.now.greatest ≡ T.dimension }
 {
     let cover = T::Frontier::cover_of(alloc, tops, bounds)?;
     let less = cover.cut_above(cut)?;
@@ -38,9 +38,9 @@ fn cut_cover<T: Logical>(
 // The least upper bound of two stamps as times; whether the first is at most the second, whether it is at most that
 // bound, and whether the bound is in the domain.
 fn compare<T: Time>(one: &Stamp, other: &Stamp, bounds: &Bounds) -> (Stamp, [bool; 3])
-    requires places { T.places ≤ 4 }
-    requires one { length one.now ≡ T.places }
-    requires other { length other.now ≡ T.places }
+    requires dimension { T.dimension ≤ 4 }
+    requires one { length one.now ≡ T.dimension }
+    requires other { length other.now ≡ T.dimension }
 {
     let (one, other) = (T::from_coords(one), T::from_coords(other));
     let upper = one.lub(&other);
@@ -55,9 +55,9 @@ fn below<T: Logical>(
     other: &Stamp,
     bounds: &Bounds,
 ) -> Result<[bool; 4], AllocError>
-    requires shape { length bounds.now.greatest ≡ T.places }
-    requires top { length top.now ≡ T.places }
-    requires other { length other.now ≡ T.places }
+    requires shape { length bounds.now.greatest ≡ T.dimension }
+    requires top { length top.now ≡ T.dimension }
+    requires other { length other.now ≡ T.dimension }
 {
     let top = T::from_coords(top);
     let copy = T::Frontier::below(alloc, &top, bounds)?.copy()?;

@@ -2,7 +2,7 @@ use Rattle.std.proofs.Common.{◌≡◌, true, ◌≤◌, [], ◌∷◌, sym, sl
 use Rattle.std.proofs.lemmas.Result.{IfOk-weaker}
 use Rattle.std.specs.Prelude.{◌&&◌, nat_lt}
 use Rattle.fw_time.specs.Stamp.{in_domain}
-use Rattle.fw_time.specs.NestLaws.{one-place}
+use Rattle.fw_time.specs.NestLaws.{one-dimension}
 use Rattle.fw_frontier.specs.Front.{IsFrontOf, frontier_of}
 use Rattle.fw_frontier.proofs.BelowLaws.{in_domain-one}
 use Rattle.fw_flow.specs.Projection.{first_coordinate}
@@ -13,7 +13,7 @@ pub returns : goal.returns
 returns c =
     let b = c.args.bounds.now in
     let g = slice_index b.greatest 0 in
-    let e : b.greatest ≡ g ∷ [] = sym (one-place b.greatest c.requires) in
+    let e : b.greatest ≡ g ∷ [] = sym (one-dimension b.greatest c.requires) in
     let l : c.args.limit ≤ g = omega (arith, c.if-limit-from.false, c.from.ensures, c.at.ensures) in
     let i : in_domain b c.new.result ≡ true = rw c.new.ensures (in_domain-one b g c.args.limit e l) in
     IfOk-weaker c.until.result (λ f. IsFrontOf b f (frontier_of b (c.new.result ∷ []))) (λ f. IsFrontOf b f (λ u. in_domain b u && nat_lt (first_coordinate u) c.args.limit))

@@ -10,5 +10,5 @@ first false e = e
 pub returns : goal.returns
 returns g c = λ b z top e each t.
     let u = g.T.Time.coords t in
-    let long = g.met.T.Time.same_places t ∙ sym (g.met.T.Time.same_places top) ∙ ap length e in
+    let long = g.met.T.Time.same_dimension t ∙ sym (g.met.T.Time.same_dimension top) ∙ ap length e in
     each t ∙ first (leq (glb u b.greatest) (g.T.Time.coords top)) (ap (leq (glb u b.greatest)) e ∙ glb-right u b.greatest long)

@@ -13,10 +13,10 @@ pub returns-clause-join : goal.returns-clause-join
 returns-clause-join g c = λ b x y z h k e t. e t ∙ (λ i. h t i || k t i) ∙ sym (e (g.T.Time.of_coords (glb (g.T.Time.coords t) b.greatest)))
 
 pub returns-clause-cut : goal.returns-clause-cut
-returns-clause-cut g c = λ b x z s e d. cut-ends g.T.Time.coords g.T.Time.of_coords g.T.Time.places g.met.T.Time.same_places g.met.T.Time.all_coords b e (g.T.Frontier.Frontier.inside x) (g.T.Frontier.Frontier.inside z) s d
+returns-clause-cut g c = λ b x z s e d. cut-ends g.T.Time.coords g.T.Time.of_coords g.T.Time.dimension g.met.T.Time.same_dimension g.met.T.Time.all_coords b e (g.T.Frontier.Frontier.inside x) (g.T.Frontier.Frontier.inside z) s d
 
 pub returns-clause-cover : goal.returns-clause-cover
-returns-clause-cover g c = λ b z tops e. cover-ends g.T.Time.coords g.T.Time.of_coords g.T.Time.places g.met.T.Time.same_places g.met.T.Time.all_coords b e (g.T.Frontier.Frontier.inside z) (map g.T.Time.coords tops)
+returns-clause-cover g c = λ b z tops e. cover-ends g.T.Time.coords g.T.Time.of_coords g.T.Time.dimension g.met.T.Time.same_dimension g.met.T.Time.all_coords b e (g.T.Frontier.Frontier.inside z) (map g.T.Time.coords tops)
 
 pub returns-clause-front : goal.returns-clause-front
-returns-clause-front g c = λ b z os e. front-ends g.T.Time.coords g.T.Time.of_coords g.T.Time.places g.met.T.Time.same_places g.met.T.Time.all_coords b e (g.T.Frontier.Frontier.inside z) os
+returns-clause-front g c = λ b z os e. front-ends g.T.Time.coords g.T.Time.of_coords g.T.Time.dimension g.met.T.Time.same_dimension g.met.T.Time.all_coords b e (g.T.Frontier.Frontier.inside z) os

@@ -1,14 +1,14 @@
 use Rattle.std.proofs.Common.{◌∙◌, sym, ap, ℕ, List, length, get_or, arith}
 use Rattle.std.proofs.lemmas.List.{get_or_past}
 use Rattle.fw_time.specs.Stamp.{nest}
-use Rattle.fw_time.specs.NestLaws.{places-outer}
+use Rattle.fw_time.specs.NestLaws.{dimension-outer}
 use Rattle.fw_frontier.specs.Front.{inside}
 use Rattle.fw_frontier.proofs.CanonicalLaws.{in_domain-canonical}
 use Rattle.fw_frontier.proofs.StairsLaws.{upto-none, nested-more, nested-whole, all-short}
 use Rattle.fw_frontier.proofs.stairs.Stairs.nested.Goals as goal
 
 pub to_front-requires : goal.to_front-requires
-to_front-requires g c = ap length c.outer_of-outer.ensures.value ∙ places-outer c.args.bounds.now.greatest g.T.Time.places c.requires
+to_front-requires g c = ap length c.outer_of-outer.ensures.value ∙ dimension-outer c.args.bounds.now.greatest g.T.Time.dimension c.requires
 
 pub loop-c-init : goal.loop-c-init
 loop-c-init g c = (

@@ -26,4 +26,4 @@ returns g c = λ s.
     let e = c.in_ok-steps.ensures in
     cut-whole test (λ s. leq p (g.T.Time.coords s)) t.counter xs zs x z (e.0 ∙ c.max.ensures ∙ ap (λ n. max n c.args.t.now.counter) c.len.ensures) e.1 c.in_ok-last.ensures s.counter s.outer
     ∙ ap (λ b. test (get_or xs s.counter x) s.outer && not b)
-    (and-swap (nat_le t.counter s.counter) (leq p q) ∙ sym (leq-nest p q t.counter s.counter (g.met.T.Time.same_places t.outer ∙ sym (g.met.T.Time.same_places s.outer))))
+    (and-swap (nat_le t.counter s.counter) (leq p q) ∙ sym (leq-nest p q t.counter s.counter (g.met.T.Time.same_dimension t.outer ∙ sym (g.met.T.Time.same_dimension s.outer))))

@@ -29,7 +29,7 @@ use Rattle.fw_flow.specs.Draft.{IsDraftOf, LaterRulesHold}
 use Rattle.fw_flow.specs.Flow.{edges_at, IsIndexed}
 use Rattle.fw_flow.specs.Parts.{ArePartsOf, capped_kind, capped_node, capped_flow, places_from}
 use Rattle.fw_flow.specs.Raw.{names_of, loop_names, node_names, edge_names, node_name, edge_name, loop_in, node_in, edge_in, flow_of}
-use Rattle.fw_flow.specs.Walks.{AreWithin, IsMadeOf, link_of, listed_kind}
+use Rattle.fw_flow.specs.Walks.{AreWithin, IsMadeOf, link_at, link_of, listed_kind}
 use Rattle.fw_flow.specs.WellFormed.{IsInDegree, IsOutDegree, IsWellFormed}
 use Rattle.fw_flow.proofs.Capped.{from_capped, to_capped, kind_of-capped, JoinsDomains-capped, HasAllowedPolicy-capped, AreWalksRight-capped, IsWalkWrong-capped, HasBorders-capped, loops-capped, nodes-capped}
 use Rattle.fw_flow.proofs.Checks.{GivesOne-loop_in, GivesOne-node_in, GivesOne-edge_in, length-loops, length-nodes, length-node_lines, length-edge_lines, both_declared, IsWellFormed-from_rules}
@@ -51,24 +51,30 @@ few_nodes raw few =
     let most = length-given_le (node_in (loop_names raw)) (GivesOne-node_in (loop_names raw)) raw in
     omega (arith, few, count, most)
 
-pub few_edges : (raw : List Declared) → length raw < 2 ^ 32 → length (flow_of raw).edges < 2 ^ 32
+few_edges : (raw : List Declared) → length raw < 2 ^ 32 → length (flow_of raw).edges < 2 ^ 32
 few_edges raw few =
     let most = length-given_le (edge_in (node_names raw)) (GivesOne-edge_in (node_names raw)) raw in
     omega (arith, few, most)
 
 -- ---- the parts
 
-pub count_of_nodes : (parts : Parts) (raw : List Declared) → ArePartsOf parts (names_of raw) raw → length parts.nodes.items ≡ length (flow_of raw).nodes
-count_of_nodes parts raw of_parts = ap length of_parts.all_nodes ∙ length-map (flow_of raw).nodes capped_node
+-- these are the parts of the declarations with their links
+pub record AreLinkedPartsOf (parts : Parts) (links : List Link) (raw : List Declared) : Type 0 where
+  pub of_parts : ArePartsOf parts (names_of raw) raw
+  pub of_links : links ≡ map link_of parts.edges.items
+
+count_of_nodes : {parts : Parts} {links : List Link} {raw : List Declared} → AreLinkedPartsOf parts links raw → length parts.nodes.items ≡ length (flow_of raw).nodes
+count_of_nodes {raw = raw} linked = ap length linked.of_parts.all_nodes ∙ length-map (flow_of raw).nodes capped_node
+
+count_of_edges : {parts : Parts} {links : List Link} {raw : List Declared} → AreLinkedPartsOf parts links raw → length links ≡ length (flow_of raw).edges
+count_of_edges {parts} linked = ap length linked.of_links ∙ length-map {A = Edge} {B = Link} parts.edges.items link_of ∙ ap length linked.of_parts.all_edges
 
 -- the links join nodes of the flow
-pub links_within : (parts : Parts) (raw : List Declared) → ArePartsOf parts (names_of raw) raw → KeepsRule raw F3 → (links : List Link) → links ≡ map link_of parts.edges.items
-    → AreWithin (length parts.nodes.items) links
-links_within parts raw of_parts declared links is =
+pub links_within : {parts : Parts} {links : List Link} {raw : List Declared} → AreLinkedPartsOf parts links raw → KeepsRule raw F3 → AreWithin (length parts.nodes.items) links
+links_within {parts} {links} {raw} linked declared =
     let flow = flow_of raw in
-    let same : links ≡ map link_of flow.edges = is ∙ ap (map link_of) of_parts.all_edges in
+    let same : links ≡ map link_of flow.edges = linked.of_links ∙ ap (map link_of) linked.of_parts.all_edges in
     let count = length-map {A = Edge} {B = Link} flow.edges link_of in
-    let nodes = count_of_nodes parts raw of_parts in
     let here : AreWithin (length flow.nodes) (map link_of flow.edges) = record {
       senders = λ e lt.
           let below : e < length flow.edges = omega (arith, lt, count) in
@@ -77,51 +83,41 @@ links_within parts raw of_parts declared links is =
           let below : e < length flow.edges = omega (arith, lt, count) in
           subst (λ p. p < length flow.nodes) (sym (receiver-of_link flow e below)) (both_declared raw declared e below).1;
     } in
-    subst (AreWithin (length parts.nodes.items)) (sym same) (subst (λ n. AreWithin n (map link_of flow.edges)) (sym nodes) here)
+    subst (AreWithin (length parts.nodes.items)) (sym same) (subst (λ n. AreWithin n (map link_of flow.edges)) (sym (count_of_nodes linked)) here)
 
-pub receivers_below : (n : ℕ) (links : List Link) (ends : List ℕ) → AreWithin n links → ends ≡ map (λ (l : Link). l.receiver) links → (e : ℕ) → e < length ends → get_or ends e 0 < n
-receivers_below n links ends within is e lt =
-    let count = length-map links (λ (l : Link). l.receiver) in
-    let same = ap length is in
-    let below : e < length links = omega (arith, lt, count, same) in
-    subst (λ p. p < n) (sym (ap (λ es. get_or es e 0) is ∙ get_or-map (λ (l : Link). l.receiver) links e (record { sender = 0; receiver = 0 }) 0 below)) (within.receivers e below)
+-- the ends of the links are below a number where each link's is
+pub ends_below : {n : ℕ} (end : Link → ℕ) (links : List Link) (ends : List ℕ) → ends ≡ map end links → ((e : ℕ) → e < length links → end (link_at links e) < n)
+    → (e : ℕ) → e < length ends → get_or ends e 0 < n
+ends_below {n} end links ends are below e lt =
+    let count = length-map links end in
+    let same = ap length are in
+    let there : e < length links = omega (arith, lt, count, same) in
+    subst (λ p. p < n) (sym (ap (λ es. get_or es e 0) are ∙ get_or-map end links e (record { sender = 0; receiver = 0 }) 0 there)) (below e there)
 
-pub senders_below : (n : ℕ) (links : List Link) (ends : List ℕ) → AreWithin n links → ends ≡ map (λ (l : Link). l.sender) links → (e : ℕ) → e < length ends → get_or ends e 0 < n
-senders_below n links ends within is e lt =
-    let count = length-map links (λ (l : Link). l.sender) in
-    let same = ap length is in
-    let below : e < length links = omega (arith, lt, count, same) in
-    subst (λ p. p < n) (sym (ap (λ es. get_or es e 0) is ∙ get_or-map (λ (l : Link). l.sender) links e (record { sender = 0; receiver = 0 }) 0 below)) (within.senders e below)
-
-pub few_ends : (parts : Parts) (raw : List Declared) → ArePartsOf parts (names_of raw) raw → length raw < 2 ^ 32 → (links : List Link) → links ≡ map link_of parts.edges.items
+pub few_ends : {parts : Parts} {links : List Link} {raw : List Declared} → AreLinkedPartsOf parts links raw → length raw < 2 ^ 32
     → (end : Link → ℕ) (ends : List ℕ) → ends ≡ map end links → length ends < 2 ^ 32
-few_ends parts raw of_parts few links is end ends ends_are =
-    let edges = ap length of_parts.all_edges in
-    let of_edges = length-map {A = Edge} {B = Link} parts.edges.items link_of in
-    let of_links = length-map links end in
-    let count = ap length is in
-    let same = ap length ends_are in
+few_ends {links = links} {raw} linked few end ends are =
+    let edges = count_of_edges linked in
+    let count = length-map links end in
+    let same = ap length are in
     let most = few_edges raw few in
-    omega (arith, edges, of_edges, of_links, count, same, most)
+    omega (arith, edges, count, same, most)
 
-pub lines_of_nodes : (parts : Parts) (raw : List Declared) → ArePartsOf parts (names_of raw) raw → length parts.node_lines.items ≡ length parts.nodes.items
-lines_of_nodes parts raw of_parts = ap length of_parts.lines_of_nodes ∙ length-node_lines raw ∙ sym (count_of_nodes parts raw of_parts)
+pub lines_of_nodes : {parts : Parts} {links : List Link} {raw : List Declared} → AreLinkedPartsOf parts links raw → length parts.node_lines.items ≡ length parts.nodes.items
+lines_of_nodes {raw = raw} linked = ap length linked.of_parts.lines_of_nodes ∙ length-node_lines raw ∙ sym (count_of_nodes linked)
 
-pub lines_of_edges : (parts : Parts) (raw : List Declared) → ArePartsOf parts (names_of raw) raw → (links : List Link) → links ≡ map link_of parts.edges.items
-    → length parts.edge_lines.items ≡ length links
-lines_of_edges parts raw of_parts links is =
-    ap length of_parts.lines_of_edges ∙ length-edge_lines raw ∙ sym (ap length of_parts.all_edges)
-    ∙ sym (length-map {A = Edge} {B = Link} parts.edges.items link_of) ∙ sym (ap length is)
+pub lines_of_edges : {parts : Parts} {links : List Link} {raw : List Declared} → AreLinkedPartsOf parts links raw → length parts.edge_lines.items ≡ length links
+lines_of_edges {raw = raw} linked = ap length linked.of_parts.lines_of_edges ∙ length-edge_lines raw ∙ sym (count_of_edges linked)
 
-pub edges_to : (edges : List Edge) (links : List Link) (ends : List ℕ) (lists : List (Vec ℕ Global)) → links ≡ map link_of edges → ends ≡ map (λ (l : Link). l.receiver) links
-    → ((p : ℕ) → edges_at lists p ≡ places_from 0 ends p) → (p : ℕ) → edges_at lists p ≡ edges_into 0 edges p
-edges_to edges links ends lists is ends_are listed p =
-    listed p ∙ ap (λ es. places_from 0 es p) (ends_are ∙ ap (map (λ (l : Link). l.receiver)) is) ∙ places_from-receivers 0 edges p
+pub edges_to : (edges : List Edge) (links : List Link) (ends : List ℕ) → links ≡ map link_of edges → ends ≡ map (λ (l : Link). l.receiver) links
+    → (p : ℕ) → places_from 0 ends p ≡ edges_into 0 edges p
+edges_to edges links ends is are p =
+    ap (λ es. places_from 0 es p) (are ∙ ap (map (λ (l : Link). l.receiver)) is) ∙ places_from-receivers 0 edges p
 
-pub edges_out_of : (edges : List Edge) (links : List Link) (ends : List ℕ) (lists : List (Vec ℕ Global)) → links ≡ map link_of edges → ends ≡ map (λ (l : Link). l.sender) links
-    → ((p : ℕ) → edges_at lists p ≡ places_from 0 ends p) → (p : ℕ) → edges_at lists p ≡ edges_from 0 edges p
-edges_out_of edges links ends lists is ends_are listed p =
-    listed p ∙ ap (λ es. places_from 0 es p) (ends_are ∙ ap (map (λ (l : Link). l.sender)) is) ∙ places_from-senders 0 edges p
+pub edges_out_of : (edges : List Edge) (links : List Link) (ends : List ℕ) → links ≡ map link_of edges → ends ≡ map (λ (l : Link). l.sender) links
+    → (p : ℕ) → places_from 0 ends p ≡ edges_from 0 edges p
+edges_out_of edges links ends is are p =
+    ap (λ es. places_from 0 es p) (are ∙ ap (map (λ (l : Link). l.sender)) is) ∙ places_from-senders 0 edges p
 
 -- ---- the tests
 

@@ -23,7 +23,7 @@ use Rattle.fw_flow.specs.declared.raw.Declaration.TheVariants.{Loop as ALoop, No
 use Rattle.fw_flow.specs.declared.raw.Declared.{Declared}
 use Rattle.fw_flow.specs.declared.raw.NameSpaces.{NameSpaces}
 use Rattle.fw_flow.specs.declared.walks.Link.{Link}
-use Rattle.fw_flow.specs.Check.{HoldsBelow, IsFirstBreak, IsFirstBreakIfAny, HasItsDegrees, JoinsDomains, HasAllowedPolicy, AreWalksRight, IsWalkWrong, HasBorders, node_lines, edge_lines, KeepsRule, later_rules, IsFirstBrokenOf, IsFirstBroken}
+use Rattle.fw_flow.specs.Check.{HoldsBelow, IsFirstBreak, IsFirstBreakIfAny, HasItsDegrees, JoinsDomains, HasAllowedPolicy, AreWalksRight, IsWalkWrong, HasBorders, node_lines, edge_lines, KeepsRule, later_rules, IsFirstBrokenOf, IsFirstBroken, IsChecked}
 use Rattle.fw_flow.specs.Dataflow.{Dataflow, kind_of, in_edges, out_edges, edges_into, edges_from}
 use Rattle.fw_flow.specs.Draft.{IsDraftOf, LaterRulesHold}
 use Rattle.fw_flow.specs.Flow.{edges_at, IsIndexed}
@@ -245,23 +245,23 @@ IsFirstBroken-from_later raw NoMemory names first = tt
 
 -- ---- the flow
 
-pub well_formed_draft : (raw : List Declared) → KeepsRule raw F3 → LaterRulesHold raw → IsWellFormed (flow_of raw)
-well_formed_draft raw names all = IsWellFormed-from_rules raw names all.degrees all.domains all.walks all.policies all.limits all.borders
-
 -- the flow that a draft's parts make
 abbrev pub drafted : Draft → Dataflow
 drafted draft = record { loops = draft.parts.loops.items; nodes = draft.parts.nodes.items; edges = draft.parts.edges.items }
 
-pub flow_of_draft : (draft : Draft) (raw : List Declared) → IsDraftOf draft raw → IsWellFormed (flow_of raw) → drafted draft ≡ flow_of raw
+flow_of_draft : (draft : Draft) (raw : List Declared) → IsDraftOf draft raw → IsWellFormed (flow_of raw) → drafted draft ≡ flow_of raw
 flow_of_draft draft raw of_draft wf =
     let flow = flow_of raw in
     let parts = draft.parts in
     let loops : parts.loops.items ≡ flow.loops = of_draft.of_parts.all_loops ∙ loops-capped flow wf.limits in
     let nodes : parts.nodes.items ≡ flow.nodes = of_draft.of_parts.all_nodes ∙ nodes-capped flow wf.limits in
-    let with_loops : List Loop → Dataflow = λ ls. record { loops = ls; nodes = parts.nodes.items; edges = parts.edges.items } in
-    let with_nodes : List Node → Dataflow = λ ns. record { loops = flow.loops; nodes = ns; edges = parts.edges.items } in
-    let with_edges : List Edge → Dataflow = λ es. record { loops = flow.loops; nodes = flow.nodes; edges = es } in
-    ap with_loops loops ∙ ap with_nodes nodes ∙ ap with_edges of_draft.of_parts.all_edges
+    λ i. record { loops = loops i; nodes = nodes i; edges = of_draft.of_parts.all_edges i }
+
+-- the declarations of a draft that breaks no rule are those of its flow
+pub IsChecked-from_draft : (draft : Draft) (raw : List Declared) → IsDraftOf draft raw → KeepsRule raw F3 → LaterRulesHold raw → IsChecked raw (drafted draft)
+IsChecked-from_draft draft raw of_draft names all =
+    let wf = IsWellFormed-from_rules raw names all.degrees all.domains all.walks all.policies all.limits all.borders in
+    record { well_formed = wf; value = flow_of_draft draft raw of_draft wf }
 
 node_named : (loops : List (List ℕ)) (line : ℕ) (d : Declaration)
     → map (λ (n : Node). n.name) (node_in loops (record { line = line; declaration = d })) ≡ node_name (record { line = line; declaration = d })
@@ -283,17 +283,16 @@ names_of_flow raw = (
 )
 
 -- the flow of a draft that breaks no rule is kept with its names and edges
-pub IsIndexed-from_draft : (draft : Draft) (raw : List Declared) (names : NameSpaces) → names ≡ names_of raw → IsDraftOf draft raw → KeepsRule raw F3 → LaterRulesHold raw
+pub IsIndexed-from_draft : (draft : Draft) (raw : List Declared) (names : NameSpaces) → names ≡ names_of raw → IsDraftOf draft raw → IsChecked raw (drafted draft)
     → IsIndexed (drafted draft) names.nodes names.edges draft.incoming.items draft.outgoing.items
 unfolding in_edges out_edges
-IsIndexed-from_draft draft raw names taken of_draft names_hold all =
-    let wf = well_formed_draft raw names_hold all in
-    let same = flow_of_draft draft raw of_draft wf in
+IsIndexed-from_draft draft raw names taken of_draft checked =
     let named = names_of_flow raw in
+    let same = sym checked.value in
     record {
-      well_formed = subst IsWellFormed (sym same) wf;
-      names_of_nodes = ap (λ (n : NameSpaces). n.nodes) taken ∙ named.0 ∙ ap (λ (f : Dataflow). map (λ (n : Node). n.name) f.nodes) (sym same);
-      names_of_edges = ap (λ (n : NameSpaces). n.edges) taken ∙ named.1 ∙ ap (λ (f : Dataflow). map (λ (e : Edge). e.name) f.edges) (sym same);
+      well_formed = subst IsWellFormed same checked.well_formed;
+      names_of_nodes = ap (λ (n : NameSpaces). n.nodes) taken ∙ named.0 ∙ ap (λ (f : Dataflow). map (λ (n : Node). n.name) f.nodes) same;
+      names_of_edges = ap (λ (n : NameSpaces). n.edges) taken ∙ named.1 ∙ ap (λ (f : Dataflow). map (λ (e : Edge). e.name) f.edges) same;
       edges_in = of_draft.edges_in;
       edges_out = of_draft.edges_out;
     }

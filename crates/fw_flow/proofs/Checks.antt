@@ -1,5 +1,5 @@
 -- The rules of `Flow::check` against well-formedness: declarations that break one are not well formed, and those that break none are.
-use Rattle.std.proofs.Common.{◌≡◌, ◌⊎◌, inl, inr, ℕ, suc, ◌+◌, ◌<◌, ◌≤◌, Bool, true, false, not, ◌||◌, cond, List, [], ◌∷◌, length, map, take, Option, Some, None, refl, sym, ap, ◌∙◌, subst, arith, slice_get, IfSome}
+use Rattle.std.proofs.Common.{◌≡◌, ◌⊎◌, ◌↔◌, inl, inr, ℕ, suc, ◌+◌, ◌<◌, ◌≤◌, Bool, true, false, not, ◌||◌, cond, List, [], ◌∷◌, length, map, take, Option, Some, None, refl, sym, ap, ◌∙◌, subst, arith, slice_get, IfSome}
 use Rattle.std.proofs.lemmas.Bool.{and_from, and_parts, false≢true, cases_lt}
 use Rattle.std.proofs.lemmas.List.{length-map}
 use Rattle.std.proofs.lemmas.Option.{same_Some, slice_get_within, get_or_from_slice_get}
@@ -110,52 +110,21 @@ place-below [] name h = absurd (false≢true h)
 place-below (x ∷ names) name h =
     below_step (bytes_eq name x) (place_or_end names name) (length names) (has_name name names) h (λ rest. place-below names name rest)
 
--- the kind's loop is declared exactly where its name is
-loop_name_declared : (flow : Dataflow) (loops : List (List ℕ)) (kind : RawKind) → length flow.loops ≡ length loops
-    → IsLoopDeclared flow (resolved_kind loops kind) → option_map_or (λ l. has_name l loops) (loop_named kind) true ≡ true
-loop_name_declared flow loops Input e h = refl
-loop_name_declared flow loops OutputEpoch e h = refl
-loop_name_declared flow loops OutputNumber e h = refl
-loop_name_declared flow loops (Select selection None) e h = refl
-loop_name_declared flow loops (Select selection (Some l)) e h = has_name-from_below loops l (omega (arith, e, h))
-loop_name_declared flow loops (Concat None) e h = refl
-loop_name_declared flow loops (Concat (Some l)) e h = has_name-from_below loops l (omega (arith, e, h))
-loop_name_declared flow loops (Distinct None) e h = refl
-loop_name_declared flow loops (Distinct (Some l)) e h = has_name-from_below loops l (omega (arith, e, h))
-loop_name_declared flow loops (Join None) e h = refl
-loop_name_declared flow loops (Join (Some l)) e h = has_name-from_below loops l (omega (arith, e, h))
-loop_name_declared flow loops (Sum None) e h = refl
-loop_name_declared flow loops (Sum (Some l)) e h = has_name-from_below loops l (omega (arith, e, h))
-loop_name_declared flow loops (Enter l) e h = has_name-from_below loops l (omega (arith, e, h))
-loop_name_declared flow loops (Feedback l) e h = has_name-from_below loops l (omega (arith, e, h))
-loop_name_declared flow loops (Leave l) e h = has_name-from_below loops l (omega (arith, e, h))
-loop_name_declared flow loops Total e h = refl
-loop_name_declared flow loops Sequence e h = refl
-loop_name_declared flow loops Ledger e h = refl
-loop_name_declared flow loops (Regroup n) e h = refl
+named : (flow : Dataflow) (loops : List (List ℕ)) (l : List ℕ) → length flow.loops ≡ length loops → (place_or_end loops l < length flow.loops) ↔ (has_name l loops ≡ true)
+named flow loops l e = (λ h. has_name-from_below loops l (omega (arith, e, h)), λ h. omega (arith, e, place-below loops l h))
 
+-- the kind's loop is declared exactly where its name is
 loop_declared : (flow : Dataflow) (loops : List (List ℕ)) (kind : RawKind) → length flow.loops ≡ length loops
-    → option_map_or (λ l. has_name l loops) (loop_named kind) true ≡ true → IsLoopDeclared flow (resolved_kind loops kind)
-loop_declared flow loops Input e h = tt
-loop_declared flow loops OutputEpoch e h = tt
-loop_declared flow loops OutputNumber e h = tt
-loop_declared flow loops (Select selection None) e h = tt
-loop_declared flow loops (Select selection (Some l)) e h = omega (arith, e, place-below loops l h)
-loop_declared flow loops (Concat None) e h = tt
-loop_declared flow loops (Concat (Some l)) e h = omega (arith, e, place-below loops l h)
-loop_declared flow loops (Distinct None) e h = tt
-loop_declared flow loops (Distinct (Some l)) e h = omega (arith, e, place-below loops l h)
-loop_declared flow loops (Join None) e h = tt
-loop_declared flow loops (Join (Some l)) e h = omega (arith, e, place-below loops l h)
-loop_declared flow loops (Sum None) e h = tt
-loop_declared flow loops (Sum (Some l)) e h = omega (arith, e, place-below loops l h)
-loop_declared flow loops (Enter l) e h = omega (arith, e, place-below loops l h)
-loop_declared flow loops (Feedback l) e h = omega (arith, e, place-below loops l h)
-loop_declared flow loops (Leave l) e h = omega (arith, e, place-below loops l h)
-loop_declared flow loops Total e h = tt
-loop_declared flow loops Sequence e h = tt
-loop_declared flow loops Ledger e h = tt
-loop_declared flow loops (Regroup n) e h = tt
+    → IsLoopDeclared flow (resolved_kind loops kind) ↔ (option_map_or (λ l. has_name l loops) (loop_named kind) true ≡ true)
+loop_declared flow loops (Select selection (Some l)) e = named flow loops l e
+loop_declared flow loops (Concat (Some l)) e = named flow loops l e
+loop_declared flow loops (Distinct (Some l)) e = named flow loops l e
+loop_declared flow loops (Join (Some l)) e = named flow loops l e
+loop_declared flow loops (Sum (Some l)) e = named flow loops l e
+loop_declared flow loops (Enter l) e = named flow loops l e
+loop_declared flow loops (Feedback l) e = named flow loops l e
+loop_declared flow loops (Leave l) e = named flow loops l e
+loop_declared flow loops kind e = (λ h. refl, λ h. tt)
 
 -- ---- what stands at a place of the flow
 
@@ -240,7 +209,7 @@ names_declared : (raw : List Declared) → IsWellFormed (flow_of raw) → (i lin
 names_declared raw wf i line (ALoop name max) there = refl
 names_declared raw wf i line (ANode name kind policy) there =
     let at = node_place raw i line name kind policy there in
-    loop_name_declared (flow_of raw) (loop_names raw) kind (length-loops raw)
+    (loop_declared (flow_of raw) (loop_names raw) kind (length-loops raw)).0
     (subst (IsLoopDeclared (flow_of raw)) at.is_kind (wf.loops_declared (length (node_names (take i raw))) at.below))
 names_declared raw wf i line (AnEdge name s r) there =
     let at = edge_place raw i line name s r there in
@@ -252,39 +221,10 @@ names_declared raw wf i line (AnEdge name s r) there =
     (has_name-from_below (node_names raw) s (omega (arith, count, from, at.is_sender)))
     (has_name-from_below (node_names raw) r (omega (arith, count, to, at.is_receiver)))
 
-raw_size : (loops : List (List ℕ)) (kind : RawKind) → IsGroupSize (resolved_kind loops kind) → IsRawGroupSize kind
-raw_size loops Input h = tt
-raw_size loops OutputEpoch h = tt
-raw_size loops OutputNumber h = tt
-raw_size loops (Select selection within) h = tt
-raw_size loops (Concat within) h = tt
-raw_size loops (Distinct within) h = tt
-raw_size loops (Join within) h = tt
-raw_size loops (Sum within) h = tt
-raw_size loops (Enter name) h = tt
-raw_size loops (Feedback name) h = tt
-raw_size loops (Leave name) h = tt
-raw_size loops Total h = tt
-raw_size loops Sequence h = tt
-raw_size loops Ledger h = tt
-raw_size loops (Regroup n) h = h
-
-size_from_raw : (loops : List (List ℕ)) (kind : RawKind) → IsRawGroupSize kind → IsGroupSize (resolved_kind loops kind)
-size_from_raw loops Input h = tt
-size_from_raw loops OutputEpoch h = tt
-size_from_raw loops OutputNumber h = tt
-size_from_raw loops (Select selection within) h = tt
-size_from_raw loops (Concat within) h = tt
-size_from_raw loops (Distinct within) h = tt
-size_from_raw loops (Join within) h = tt
-size_from_raw loops (Sum within) h = tt
-size_from_raw loops (Enter name) h = tt
-size_from_raw loops (Feedback name) h = tt
-size_from_raw loops (Leave name) h = tt
-size_from_raw loops Total h = tt
-size_from_raw loops Sequence h = tt
-size_from_raw loops Ledger h = tt
-size_from_raw loops (Regroup n) h = h
+-- a size is one of groups as it is declared exactly where it is one in the flow
+group_size : (loops : List (List ℕ)) (kind : RawKind) → IsGroupSize (resolved_kind loops kind) ↔ IsRawGroupSize kind
+group_size loops (Regroup n) = (λ h. h, λ h. h)
+group_size loops kind = (λ h. tt, λ h. tt)
 
 within_limits : (raw : List Declared) → IsWithinLimits (flow_of raw) → (i line : ℕ) (d : Declaration)
     → slice_get raw i ≡ Some (record { line = line; declaration = d }) → IsWithinLimitsAfter (take i raw) d
@@ -294,7 +234,7 @@ within_limits raw limits i line (ALoop name max) there =
     (omega (arith, limits.loops, at.below), omega (arith, bounds.0, at.is_max), omega (arith, bounds.1, at.is_max))
 within_limits raw limits i line (ANode name kind policy) there =
     let at = node_place raw i line name kind policy there in
-    (omega (arith, limits.nodes, at.below), raw_size (loop_names raw) kind (subst IsGroupSize at.is_kind (limits.groups (length (node_names (take i raw))) at.below)))
+    (omega (arith, limits.nodes, at.below), (group_size (loop_names raw) kind).0 (subst IsGroupSize at.is_kind (limits.groups (length (node_names (take i raw))) at.below)))
 within_limits raw limits i line (AnEdge name s r) there =
     let at = edge_place raw i line name s r there in
     omega (arith, limits.edges, at.below)
@@ -421,7 +361,7 @@ loops_declared : (raw : List Declared) → KeepsRule raw F3 → (p : ℕ) → p 
 loops_declared raw h p lt =
     let g = node_giver raw p lt in
     subst (IsLoopDeclared (flow_of raw)) (sym g.is_kind)
-    (loop_declared (flow_of raw) (loop_names raw) g.kind (length-loops raw) (names_at raw h g.place g.line (ANode g.name g.kind g.policy) g.there))
+    ((loop_declared (flow_of raw) (loop_names raw) g.kind (length-loops raw)).1 (names_at raw h g.place g.line (ANode g.name g.kind g.policy) g.there))
 
 -- both ends of an edge are declared
 pub both_declared : (raw : List Declared) → KeepsRule raw F3 → (e : ℕ) → e < length (flow_of raw).edges
@@ -435,35 +375,26 @@ both_declared raw h e lt =
     let to = place-below names g.to both.1 in
     (omega (arith, count, from, g.is_sender), omega (arith, count, to, g.is_receiver))
 
+at_most : (n most : ℕ) → (most < n → ⊥) → n ≤ most
+at_most n most more = elim (cases_lt most n) [ inl over ↦ absurd (more over) | inr within ↦ within ]
+
 few_nodes : (raw : List Declared) → KeepsRule raw F8 → length (flow_of raw).nodes ≤ 256
-few_nodes raw h =
-    elim (cases_lt 256 (length (flow_of raw).nodes)) [
-      | inl over ↦
-          let g = node_giver raw 256 over in
-          let room = limits_at raw h g.place g.line (ANode g.name g.kind g.policy) g.there in
-          absurd (omega (arith, room.0, g.before))
-      | inr within ↦ within
-    ]
+few_nodes raw h = at_most (length (flow_of raw).nodes) 256 (λ over.
+    let g = node_giver raw 256 over in
+    let room = limits_at raw h g.place g.line (ANode g.name g.kind g.policy) g.there in
+    omega (arith, room.0, g.before))
 
 few_edges : (raw : List Declared) → KeepsRule raw F8 → length (flow_of raw).edges ≤ 512
-few_edges raw h =
-    elim (cases_lt 512 (length (flow_of raw).edges)) [
-      | inl over ↦
-          let g = edge_giver raw 512 over in
-          let room = limits_at raw h g.place g.line (AnEdge g.name g.from g.to) g.there in
-          absurd (omega (arith, room, g.before))
-      | inr within ↦ within
-    ]
+few_edges raw h = at_most (length (flow_of raw).edges) 512 (λ over.
+    let g = edge_giver raw 512 over in
+    let room = limits_at raw h g.place g.line (AnEdge g.name g.from g.to) g.there in
+    omega (arith, room, g.before))
 
 few_loops : (raw : List Declared) → KeepsRule raw F8 → length (flow_of raw).loops ≤ 64
-few_loops raw h =
-    elim (cases_lt 64 (length (flow_of raw).loops)) [
-      | inl over ↦
-          let g = loop_giver raw 64 over in
-          let room = limits_at raw h g.place g.line (ALoop g.name g.max) g.there in
-          absurd (omega (arith, room.0, g.before))
-      | inr within ↦ within
-    ]
+few_loops raw h = at_most (length (flow_of raw).loops) 64 (λ over.
+    let g = loop_giver raw 64 over in
+    let room = limits_at raw h g.place g.line (ALoop g.name g.max) g.there in
+    omega (arith, room.0, g.before))
 
 limits_hold : (raw : List Declared) → KeepsRule raw F8 → IsWithinLimits (flow_of raw)
 limits_hold raw h = record {
@@ -477,7 +408,7 @@ limits_hold raw h = record {
   groups = λ p lt.
       let g = node_giver raw p lt in
       let range = limits_at raw h g.place g.line (ANode g.name g.kind g.policy) g.there in
-      subst IsGroupSize (sym g.is_kind) (size_from_raw (loop_names raw) g.kind range.1);
+      subst IsGroupSize (sym g.is_kind) ((group_size (loop_names raw) g.kind).1 range.1);
 }
 
 pub IsWellFormed-from_rules : (raw : List Declared) → KeepsRule raw F3 → KeepsRule raw F4 → KeepsRule raw F5 → KeepsRule raw F6 → KeepsRule raw F7 → KeepsRule raw F8 → KeepsRule raw F9 → IsWellFormed (flow_of raw)

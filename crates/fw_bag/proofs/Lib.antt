@@ -1,5 +1,6 @@
 pub mod ArrivalLaws
 pub mod BagLaws
 pub mod CountLaws
+pub mod IterLaws
 pub mod OrderingLaws
 pub mod RecLaws

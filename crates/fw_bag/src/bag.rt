@@ -3,7 +3,7 @@ ghost use Rattle.std.specs.Prelude.{◌≡◌, ◌<◌, ◌↔◌, [], ◌∷◌
 ghost use Rattle.fw_bag.specs.Rec.{IsAscending};
 ghost use Rattle.fw_bag.specs.Bag.{with_rec, without_rec, how_often, bag_sum, with_copies, expand, IsTally};
 
-use crate::Rec;
+use crate::{Iter, Rec};
 use std::alloc::{AllocError, Global};
 use std::collections::BTreeMap;
 use std::marker::Model;
@@ -116,6 +116,25 @@ impl Bag {
         ensures { IsTrue result ↔ (self.now.recs ≡ []) }
     {
         self.len == 0
+    }
+
+    /// Goes over its recs in ascending order, and gives each as often as it is in the bag. It takes no memory.
+    pub fn iter(&self) -> Iter<'_>
+        ensures { result ≡ self.now.recs }
+    {
+        Iter::over(&self.counts, self.len)
+    }
+}
+
+impl<'a> IntoIterator for &'a Bag {
+    type Item = Rec;
+
+    type IntoIter = Iter<'a>;
+
+    ghost into_iter_gives = { λ bag rest. rest ≡ bag.now.recs };
+
+    fn into_iter(self) -> Iter<'a> {
+        self.iter()
     }
 }
 

@@ -1,6 +1,7 @@
 //! Recs.
 ghost use Rattle.std.specs.Prelude.{◌≡◌};
 
+use std::fmt;
 use std::marker::Model;
 
 /// A record: a key and a value. Recs are ordered by key, and then by value.
@@ -10,6 +11,17 @@ pub struct Rec {
     pub key: u64,
     /// The number that is added up.
     pub value: u64,
+}
+
+impl fmt::Display for Rec {
+    ghost use Rattle.std.specs.Prelude.{Some};
+    ghost use Rattle.fw_bag.specs.RecText.{rec_text};
+
+    ghost output = { λ rec. Some (rec_text rec) };
+
+    fn fmt<W: fmt::Write>(&self, f: &mut fmt::Formatter<W>) -> fmt::Result {
+        write!(f, "{}:{}", self.key, self.value)
+    }
 }
 
 /// Recs, one after the other. Contracts see their list.

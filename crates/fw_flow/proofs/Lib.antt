@@ -9,6 +9,7 @@ pub mod Flows
 pub mod Givers
 pub mod Marks
 pub mod MessageLaws
+pub mod NameLaws
 pub mod Named
 pub mod Peel
 pub mod ProjectionLaws

@@ -1,8 +1,10 @@
 pub mod Check
 pub mod Counting
+pub mod CutText
 pub mod Dataflow
 pub mod Draft
 pub mod Flow
+pub mod KindText
 pub mod Message
 pub mod Names
 pub mod NodeFunction

@@ -2,6 +2,7 @@
 use crate::{Causes, CountedMessages, Cuts, EdgeId, Fronts, Notices, OfEdges, Records, SentTable};
 use fw_frontier::Front;
 use fw_time::Stamp;
+use std::fmt;
 
 /// To what a node is cut.
 #[derive(Debug, Drop)]
@@ -10,6 +11,20 @@ pub enum Cut {
     Present,
     /// It keeps what its events in the frontier made.
     At(Front),
+}
+
+impl fmt::Display for Cut {
+    ghost use Rattle.std.specs.Prelude.{Some};
+    ghost use Rattle.fw_flow.specs.CutText.{cut_text};
+
+    ghost output = { λ cut. Some (cut_text cut) };
+
+    fn fmt<W: fmt::Write>(&self, f: &mut fmt::Formatter<W>) -> fmt::Result {
+        match self {
+            Cut::Present => write!(f, "present"),
+            Cut::At(front) => write!(f, "{front}"),
+        }
+    }
 }
 
 /// For each node to what it is cut, and its notification frontier.

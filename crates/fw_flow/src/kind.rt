@@ -1,10 +1,12 @@
 //! What a node does, at which times, and how it is restored.
 ghost use Rattle.std.specs.Prelude.{◌≡◌};
 ghost use Rattle.fw_flow.specs.Dataflow.{Dataflow, domain_within, domain_of_kind, out_domain_of_kind, is_input_kind, is_output_kind, is_notified_kind, is_sequence_kind};
+ghost use Rattle.fw_flow.specs.KindText.{kind_text, policy_text};
 ghost use Rattle.fw_flow.specs.WellFormed.{is_feedback_kind, is_enter_kind};
 
 use crate::LoopId;
 use fw_bag::Selection;
+use std::fmt;
 
 /// A domain of times, by its word.
 #[derive(Clone, Copy, Debug, PartialEq, Eq)]
@@ -64,6 +66,30 @@ pub enum Kind {
 }
 
 impl Kind {
+    /// The words for the kind in the line of a node, as `output epoch` and `enter`. The selection, loop or number that stands
+    /// behind them there is left out.
+    pub fn as_str(&self) -> &'static str
+        ensures { result.now ≡ kind_text self.now }
+    {
+        match self {
+            Kind::Input => "input",
+            Kind::OutputEpoch => "output epoch",
+            Kind::OutputNumber => "output number",
+            Kind::Select { .. } => "select",
+            Kind::Concat { .. } => "concat",
+            Kind::Distinct { .. } => "distinct",
+            Kind::Join { .. } => "join",
+            Kind::Sum { .. } => "sum",
+            Kind::Enter(_) => "enter",
+            Kind::Feedback(_) => "feedback",
+            Kind::Leave(_) => "leave",
+            Kind::Total => "total",
+            Kind::Sequence => "sequence",
+            Kind::Ledger => "ledger",
+            Kind::Regroup(_) => "regroup",
+        }
+    }
+
     /// The domain of its events.
     pub fn domain(self) -> Domain
         ensures { (flow : Dataflow) → result ≡ domain_of_kind flow self }
@@ -144,6 +170,16 @@ impl Kind {
     }
 }
 
+impl fmt::Display for Kind {
+    ghost use Rattle.std.specs.Prelude.{Some};
+
+    ghost output = { λ kind. Some (kind_text kind) };
+
+    fn fmt<W: fmt::Write>(&self, f: &mut fmt::Formatter<W>) -> fmt::Result {
+        write!(f, "{}", self.as_str())
+    }
+}
+
 impl Domain {
     /// The domain of a node that stands outside loops or within one.
     fn within(id: Option<LoopId>) -> Domain
@@ -169,4 +205,29 @@ pub enum Policy {
     Eager,
     /// It writes each event.
     Full,
+}
+
+impl Policy {
+    /// The word of the policy.
+    pub fn as_str(&self) -> &'static str
+        ensures { result.now ≡ policy_text self.now }
+    {
+        match self {
+            Policy::None => "none",
+            Policy::Lazy => "lazy",
+            Policy::Logged => "logged",
+            Policy::Eager => "eager",
+            Policy::Full => "full",
+        }
+    }
+}
+
+impl fmt::Display for Policy {
+    ghost use Rattle.std.specs.Prelude.{Some};
+
+    ghost output = { λ policy. Some (policy_text policy) };
+
+    fn fmt<W: fmt::Write>(&self, f: &mut fmt::Formatter<W>) -> fmt::Result {
+        write!(f, "{}", self.as_str())
+    }
 }

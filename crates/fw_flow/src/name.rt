@@ -10,6 +10,7 @@ use fw_lines::is_name;
 use indexmap::IndexSet;
 use std::alloc::{AllocError, Global};
 use std::marker::Model;
+use std::{fmt, str};
 
 /// A name: 1 to 32 of `a` to `z`, `0` to `9` and `_`, the first a letter. Contracts see its bytes.
 #[derive(Debug, Drop)]
@@ -46,6 +47,22 @@ impl Name {
         ensures name { spelling.is_name self.now ≡ true }
     {
         self.bytes.as_slice()
+    }
+
+    /// Its text.
+    #[tactic(auto, using(crate::proofs::NameLaws::name_is_text))]
+    pub fn as_str(&self) -> &str
+        ensures { result.now ≡ self.now }
+    {
+        str::from_utf8(&self.bytes).unwrap()
+    }
+}
+
+impl fmt::Display for Name {
+    ghost output = { λ name. Some name };
+
+    fn fmt<W: fmt::Write>(&self, f: &mut fmt::Formatter<W>) -> fmt::Result {
+        write!(f, "{}", self.as_str())
     }
 }
 

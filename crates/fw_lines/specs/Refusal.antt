@@ -1,7 +1,9 @@
 -- What refusals say.
-use Rattle.std.specs.Prelude.{ℕ, List, codes}
+use Rattle.std.specs.Prelude.{ℕ, List, ◌++◌, codes}
+use Rattle.std.specs.Fmt.{decimal}
 use Rattle.fw_lines.specs.declared.refusal.Code.{Code}
 use Rattle.fw_lines.specs.declared.refusal.Code.TheVariants.{F1, F2, F3, F4, F5, F6, F7, F8, F9, F10, F11, I1, I2, I3, I4, I5, S1, S2, S3, S4}
+use Rattle.fw_lines.specs.declared.refusal.Refusal.{Refusal}
 
 -- the code's letter and digits
 abbrev pub code_text : Code → List ℕ
@@ -25,3 +27,7 @@ code_text S1 = codes "S1"
 code_text S2 = codes "S2"
 code_text S3 = codes "S3"
 code_text S4 = codes "S4"
+
+-- `refused CODE line LINE`
+abbrev pub refusal_text : Refusal → List ℕ
+refusal_text refusal = codes "refused " ++ (code_text refusal.code ++ (codes " line " ++ decimal refusal.line))

@@ -3,13 +3,16 @@ ghost use Rattle.std.specs.Prelude.{◌≡◌};
 
 use crate::refusal::{Code, Refusal};
 use std::alloc::{AllocError, AllocFailed};
+use thiserror::Error;
 
 /// Why a text gives nothing.
-#[derive(Clone, Copy, Debug, PartialEq, Eq)]
+#[derive(Clone, Copy, Debug, PartialEq, Eq, Error)]
 pub enum ReadFault {
     /// The text is not accepted.
+    #[error("{0}")]
     Refused(Refusal),
     /// Memory was refused.
+    #[error("out of memory")]
     NoMemory,
 }
 

@@ -98,3 +98,14 @@ pub struct Refusal {
     /// Lines are counted from 1; 0 is for the text as a whole.
     pub line: u32,
 }
+
+impl fmt::Display for Refusal {
+    ghost use Rattle.fw_lines.specs.Refusal.{refusal_text};
+    ghost use Rattle.std.specs.Prelude.{Some};
+
+    ghost output = { λ refusal. Some (refusal_text refusal) };
+
+    fn fmt<W: fmt::Write>(&self, f: &mut fmt::Formatter<W>) -> fmt::Result {
+        write!(f, "refused {} line {}", self.code, self.line)
+    }
+}

@@ -6,15 +6,19 @@ ghost use Rattle.fw_outside.specs.declared.fault.FetchFault.TheVariants.{NoMemor
 ghost use Rattle.fw_outside.specs.declared.fault.OutFault.TheVariants.{NoMemory as OutNoMemory};
 
 use std::alloc::{AllocError, AllocFailed};
+use thiserror::Error;
 
 /// Why a text was not fetched.
-#[derive(Clone, Copy, Debug, PartialEq, Eq)]
+#[derive(Clone, Copy, Debug, PartialEq, Eq, Error)]
 pub enum FetchFault {
     /// The folder failed; its count of faults rose, or stands at 2^64 - 1.
+    #[error("the folder failed")]
     Failed,
     /// The text has more bytes than the limit.
+    #[error("the text is too large")]
     TooLarge,
     /// There was no memory for the text.
+    #[error("out of memory")]
     NoMemory,
 }
 
@@ -27,11 +31,13 @@ impl From<AllocError> for FetchFault {
 }
 
 /// Why a store or a sink refused a call.
-#[derive(Clone, Copy, Debug, PartialEq, Eq)]
+#[derive(Clone, Copy, Debug, PartialEq, Eq, Error)]
 pub enum OutFault {
     /// The store or the sink failed; its count of faults rose, or stands at 2^64 - 1.
+    #[error("the store or the sink failed")]
     Failed,
     /// There was no memory for the call.
+    #[error("out of memory")]
     NoMemory,
 }
 

@@ -1,4 +1,5 @@
 pub mod AnswerLaws
+pub mod BuilderLaws
 pub mod Capped
 pub mod Checks
 pub mod Drafts
@@ -11,6 +12,7 @@ pub mod Marks
 pub mod MessageLaws
 pub mod Named
 pub mod Peel
+pub mod PremiseLaws
 pub mod ProjectionLaws
 pub mod Ranges
 pub mod Ranks

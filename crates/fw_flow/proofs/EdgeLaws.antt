@@ -27,7 +27,7 @@ unfolding kind_of
 kind-past flow p h = ap (λ node. node.kind) (get_or_past flow.nodes p idle_node h)
 
 -- by whether a place is among so many
-by_place : (P : Type 0) (i n : ℕ) → (i < n → P) → (n ≤ i → P) → P
+pub by_place : (P : Type 0) (i n : ℕ) → (i < n → P) → (n ≤ i → P) → P
 by_place P i n f g = by (nat_lt i n) refl
   where
     less : nat_lt i n ≡ true → i < n

@@ -1,4 +1,5 @@
 pub mod AnswerLaws
+pub mod BuilderLaws
 pub mod Capped
 pub mod Checks
 pub mod Drafts
@@ -12,6 +13,7 @@ pub mod MessageLaws
 pub mod NameLaws
 pub mod Named
 pub mod Peel
+pub mod PremiseLaws
 pub mod ProjectionLaws
 pub mod Ranges
 pub mod Ranks

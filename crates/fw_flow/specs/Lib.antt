@@ -1,3 +1,4 @@
+pub mod Builder
 pub mod Check
 pub mod Counting
 pub mod CutText
@@ -9,6 +10,7 @@ pub mod Message
 pub mod Names
 pub mod NodeFunction
 pub mod Parts
+pub mod Premises
 pub mod ProjectedStamps
 pub mod Projection
 pub mod Raw

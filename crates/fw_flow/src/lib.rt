@@ -1,11 +1,12 @@
 //! Dataflows: nodes, edges, kinds and policies, events and messages, cuts and choices, and the steps of a run.
 //!
 //! A `RawFlow` takes declarations by names, `Flow::check` tests every rule and gives the `Flow`, or the first broken rule
-//! with its line. A `Flow` answers look-ups by places, also past its end, and projects frontiers along its edges
-//! (`Flow::phi`, `Flow::psi`, `Flow::psi_back`). The other types are the words of a run, over which `fw_model` defines
-//! what a run does.
+//! with its line; `FlowBuilder` does both for flows that are made in code. A `Flow` answers look-ups by places, also past
+//! its end, and projects frontiers along its edges (`Flow::phi`, `Flow::psi`, `Flow::psi_back`). The other types are the
+//! words of a run, over which `fw_model` defines what a run does.
 #![tactic(auto)]
 
+mod builder;
 mod check;
 mod choice;
 mod draft;
@@ -18,6 +19,7 @@ mod lists;
 mod name;
 mod node;
 mod parts;
+mod premises;
 mod projection;
 mod raw;
 mod restoring;
@@ -26,6 +28,7 @@ mod sources;
 mod step;
 mod walks;
 
+pub use builder::{BuildFault, FlowBuilder};
 pub use choice::{Choice, Counted, Cut, OfEdge, Offer, Offered, Recorded, Stamps};
 pub use event::{Causes, Event, Message};
 pub use flow::Flow;

@@ -1,12 +1,14 @@
 -- Batches of nodes, as a map keeps them.
-use Rattle.std.proofs.Common.{◌≡◌, ℕ, ◌==◌, nat_eq, Bool, true, false, cond, List, [], ◌∷◌, ◌++◌, Option, Some, None, refl, sym, ◌∙◌, ap, unwrap_or, eqb-true, IsSome, rules, Result, Ok, Err, OnErr}
+use Rattle.std.proofs.Common.{◌≡◌, ℕ, ◌==◌, nat_eq, Bool, true, false, cond, List, [], ◌∷◌, ◌++◌, Option, Some, None, refl, sym, ◌∙◌, ap, unwrap_or, eqb-true, IsSome, rules, Result, Ok, Err, OnErr, subst}
 use Rattle.std.proofs.lemmas.List.{map-append}
+use Rattle.std.specs.List.{AllByRecursion}
 use Rattle.std.specs.Map.{lookup}
 use Rattle.std.specs.declared.alloc.Global.{Global}
 use Rattle.std.specs.declared.vec.Vec.{Vec}
-use Rattle.fw_bag.specs.Bag.{BagState}
+use Rattle.fw_bag.proofs.BagLaws.{AllByRecursion-with_rec, IsAscending-with_rec}
+use Rattle.fw_bag.specs.Bag.{BagState, with_rec}
 use Rattle.fw_bag.specs.declared.rec.Rec.{Rec}
-use Rattle.fw_lines.specs.Batches.{batches_at, batches_of_entries, recs_of}
+use Rattle.fw_lines.specs.Batches.{batches_at, batches_of_entries, recs_of, AddsBatch, KeepsBatches, AreBatches, IsBatch, IsRec}
 
 -- the recs of the bags that are found
 abbrev pub recs_found : Option (Vec BagState Global) → List (List Rec)
@@ -72,3 +74,25 @@ some_found x (Some y) e = search rules
 pub on_err : {T E P : Type 0} (r : Result T E) → P → OnErr r P
 on_err (Ok x) p = tt
 on_err (Err e) p = p
+
+each_and : (batches : List (List Rec)) (batch : List Rec) → AllByRecursion IsBatch batches → IsBatch batch → AllByRecursion IsBatch (batches ++ batch ∷ [])
+each_and [] batch a b = (b, tt)
+each_and (x ∷ xs) batch a b = (a.0, each_and xs batch a.1 b)
+
+-- where one more bag of recs is a batch, each batch is one
+pub AreBatches-added : (old new : List (ℕ × List (List Rec))) (node : ℕ) (batch : List Rec) → AreBatches old → IsBatch batch → AddsBatch old new node batch → AreBatches new
+AreBatches-added old new node batch a b adds other = subst (AllByRecursion IsBatch) (sym (adds other)) (by (node == other))
+  where
+    by : (t : Bool) → AllByRecursion IsBatch (cond t (batches_at old other ++ batch ∷ []) (batches_at old other))
+    by true = each_and (batches_at old other) batch (a other) b
+    by false = a other
+
+pub AreBatches-kept : (old new : List (ℕ × List (List Rec))) → AreBatches old → KeepsBatches old new → AreBatches new
+AreBatches-kept old new a kept other = subst (AllByRecursion IsBatch) (sym (kept other)) (a other)
+
+-- a batch with one rec more is a batch
+pub IsBatch-with_rec : (r : Rec) (recs : List Rec) → IsRec r → IsBatch recs → IsBatch (with_rec r recs)
+IsBatch-with_rec r recs small b = record {
+  recs = AllByRecursion-with_rec IsRec r recs small b.recs;
+  ascending = IsAscending-with_rec r recs b.ascending;
+}

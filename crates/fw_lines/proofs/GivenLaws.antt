@@ -68,13 +68,17 @@ each_rec : (words : List (List ℕ)) → AllByRecursion IsRec (bag_sum (filter_m
 each_rec [] = tt
 each_rec (word ∷ words) = recs_more (spelled_rec (record_of word)) (filter_map (λ word. spelled_rec (record_of word)) words) (spelled_small word) (each_rec words)
 
-is_batch : (words : List (List ℕ)) → IsBatch (batch_of words)
-is_batch [] = record { recs = tt; ascending = tt }
-is_batch (word ∷ []) = record { recs = tt; ascending = tt }
-is_batch (first ∷ name ∷ records) = record {
+-- the recs that words spell are a batch
+pub is_batch_of_recs : (records : List (List ℕ)) → IsBatch (bag_sum (filter_map (λ word. spelled_rec (record_of word)) records) [])
+is_batch_of_recs records = record {
   recs = each_rec records;
   ascending = IsAscending-bag_sum (filter_map (λ word. spelled_rec (record_of word)) records) [] tt;
 }
+
+is_batch : (words : List (List ℕ)) → IsBatch (batch_of words)
+is_batch [] = record { recs = tt; ascending = tt }
+is_batch (word ∷ []) = record { recs = tt; ascending = tt }
+is_batch (first ∷ name ∷ records) = is_batch_of_recs records
 
 each_batch : (sources : List (List ℕ × ℕ)) (lines : List Said) (node : ℕ) → AllByRecursion IsBatch (batches_of sources lines node)
 each_batch sources lines node = each (filter (is_batch_of sources node) lines)

@@ -46,6 +46,10 @@ pub record IsBatch (batch : List Rec) : Type 0 where
   pub recs : AllByRecursion IsRec batch
   pub ascending : IsAscending batch
 
+-- each batch of each node is a bag of recs
+abbrev pub AreBatches : List (ℕ × List (List Rec)) → Type 0
+AreBatches batches = (node : ℕ) → AllByRecursion IsBatch (batches_at batches node)
+
 -- the sources alone have batches, at most 2^20 each, and each batch is a bag of recs
 pub record AreBatchesOf (sources : List (List ℕ × ℕ)) (batches : ℕ → List (List Rec)) : Type 0 where
   pub of_sources : (node : ℕ) → is_source sources node ≡ false → batches node ≡ []

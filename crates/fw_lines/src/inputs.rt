@@ -6,7 +6,7 @@ ghost use Rattle.std.specs.Str.{bytes_eq};
 ghost use Rattle.fw_bag.specs.Bag.{bag_sum, with_rec};
 ghost use Rattle.fw_bag.specs.declared.rec.Rec.{Rec};
 ghost use Rattle.fw_lines.specs.declared.refusal.Refusal.{Refusal};
-ghost use Rattle.fw_lines.specs.Batches.{batches_at, count_at, AreBatchesOf};
+ghost use Rattle.fw_lines.specs.Batches.{batches_at, count_at, AreBatchesOf, IsBatch};
 ghost use Rattle.fw_lines.specs.Faults.{IfRefused};
 ghost use Rattle.fw_lines.specs.Inputs as spec;
 ghost use Rattle.fw_lines.specs.Inputs.{record_of, spelled_rec, fault_in, batches_of, IsAccepted, IsRefused};
@@ -219,8 +219,9 @@ fn take_batch(
 
 // The bag of the recs that record words spell.
 fn batch(alloc: Global, text: &[u8], words: &[Span]) -> Result<Bag, AllocError>
-    ensures { IfOk result (λ bag. bag.recs
+    ensures recs { IfOk result (λ bag. bag.recs
         ≡ bag_sum (filter_map (λ word. spelled_rec (record_of word)) (words_at text.now words.now)) []) }
+    ensures batch { IfOk result (λ bag. IsBatch bag.recs) }
 {
     let mut batch = Bag::new(alloc);
     for word in words {

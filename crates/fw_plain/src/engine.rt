@@ -30,14 +30,14 @@ use std::marker::Model;
 /// Contracts see the system that it runs, the state of the machine that it stands for, and whether memory was refused.
 #[derive(Debug, Drop)]
 pub struct Engine {
-    alloc: Global,
-    flow: Flow,
-    batches: Batches,
-    history: Events,
+    pub(crate) alloc: Global,
+    pub(crate) flow: Flow,
+    pub(crate) batches: Batches,
+    pub(crate) history: Events,
     // For each node what is settled, whether it is failed, and how many stamps it acknowledged.
-    settled: Vec<Front>,
-    failed: Vec<bool>,
-    ack_counts: Vec<u64>,
+    pub(crate) settled: Vec<Front>,
+    pub(crate) failed: Vec<bool>,
+    pub(crate) ack_counts: Vec<u64>,
     refused: bool,
 }
 

@@ -5,6 +5,7 @@ mod engine;
 mod events;
 mod failed;
 mod fronts;
+mod looks;
 mod offers;
 mod output;
 mod restoring;

@@ -1,0 +1,17 @@
+pub use Rattle.fw_time.specs.Stamp
+pub use Rattle.fw_bag.specs.Bag
+pub use Rattle.fw_bag.specs.Select
+pub use Rattle.fw_lines.specs.Batches
+pub use Rattle.fw_frontier.specs.Frontier
+pub use Rattle.fw_frontier.specs.Front
+pub use Rattle.fw_flow.specs.Builder
+pub use Rattle.fw_flow.specs.Check
+pub use Rattle.fw_flow.specs.Dataflow
+pub use Rattle.fw_flow.specs.Step
+pub use Rattle.fw_flow.specs.WellFormed
+pub use Rattle.fw_model.specs.Choice
+pub use Rattle.fw_model.specs.Denotation
+pub use Rattle.fw_model.specs.History
+pub use Rattle.fw_model.specs.Machine
+pub use Rattle.fw_model.specs.Steps
+pub use Rattle.fw_plain.specs.Engine

@@ -1,0 +1,30 @@
+//! A dataflow engine whose recovery undoes as little as possible: all that a program which embeds it wants, in one crate.
+//!
+//! - A flow: `FlowBuilder` makes one in code, `read_flow` reads one from a text; `Flow` answers what its nodes and edges are.
+//! - What flows: `Rec`, a key and a value; `Batches`, for each input its batches by epoch, made by `Batches::add` or read by
+//!   `read_batches`; `Selection`, what a select does to a rec.
+//! - A run: `Engine::new` takes a flow and batches of which `Flow::keeps_nothing`, `Flow::notifies_nobody` and
+//!   `Flow::accepts` are true; `Engine::step` takes a `Step` and answers `Stepped`, with the `Effect` that it shows.
+//! - Looks at an engine: `Engine::settled`, `is_failed`, `acknowledged` and `pending`.
+//! - Times: `Stamp`; `Front`, a frontier; `Cut` and `Choice`, to what a recovery restores the nodes.
+//! - The command over texts: `falkirk`, with its `Folder`, `Store` and `Sink` in memory, over files or of your own.
+#![tactic(auto)]
+
+pub use fw_bag::{
+    Assignment, Bag, Comparison, Condition, Field, NewValue, Rec, Recs, Selection, Term,
+};
+pub use fw_flow::{
+    BuildFault, Causes, Choice, Cut, Cuts, Domain, Edge, EdgeId, Flow, FlowBuilder, Fronts, Kind,
+    Loop, LoopId, Message, Name, Node, NodeId, Nodes, Policy, RawKind, Step,
+};
+pub use fw_flow_text::{FLOW_LIMIT, read_flow};
+pub use fw_frontier::Front;
+pub use fw_lines::{Batches, Code, INPUTS_LIMIT, ReadFault, Refusal, SourceNames, read_batches};
+pub use fw_outside::{
+    FetchFault, FileFolder, Folder, MemFolder, MemSink, MemStore, MemText, OutFault, Sink, Store,
+    StreamSink,
+};
+pub use fw_plain::{Effect, Engine, Stepped};
+pub use fw_run::{Status, falkirk};
+pub use fw_schedule::{SCHEDULE_LIMIT, Schedule, read_schedule};
+pub use fw_time::{Bounds, Stamp};

@@ -1,0 +1,128 @@
+//! A program that embeds the engine: a flow and batches are made in code, and in the run a node fails and is restored.
+#![tactic(auto)]
+
+ghost use Rattle.std.specs.Prelude.{◌≡◌, true};
+ghost use Rattle.cimboery.specs.Step.{is_plain_step};
+
+use anyhow::{Context, Result, ensure};
+use cimboery::{
+    Batches, BuildFault, Comparison, Condition, Cut, EdgeId, Effect, Engine, Field, Flow,
+    FlowBuilder, NodeId, Nodes, Rec, Selection, Step, Stepped, Term,
+};
+use std::alloc::{AllocError, Global};
+
+// The nodes, in the order in which they are declared.
+const NAMES: [&str; 4] = ["orders", "cheap", "shop", "archive"];
+
+// Each order goes to the archive, and one below 100 to the shop too.
+fn shop_flow(alloc: Global) -> Result<Flow, BuildFault> {
+    let below_100 = Selection {
+        condition: Condition {
+            field: Field::Value,
+            comparison: Comparison::Less,
+            term: Term::Number(100),
+        },
+        assignment: None,
+    };
+    FlowBuilder::new(alloc)
+        .input("orders")?
+        .select("cheap", below_100)?
+        .output("shop")?
+        .output("archive")?
+        .edge("to_cheap", "orders", "cheap")?
+        .edge("to_shop", "cheap", "shop")?
+        .edge("to_archive", "orders", "archive")?
+        .build()
+}
+
+fn order(key: u64, value: u64) -> Rec {
+    Rec { key, value }
+}
+
+fn two_batches(alloc: Global, orders: NodeId) -> Result<Batches, AllocError> {
+    let mut batches = Batches::new(alloc);
+    batches.add(orders.place(), &[order(1, 20), order(2, 150)])?;
+    batches.add(orders.place(), &[order(4, 300), order(3, 70)])?;
+    Ok(batches)
+}
+
+fn node(flow: &Flow, name: &str) -> Result<NodeId> {
+    flow.node_named(name.as_bytes()).context("no such node")
+}
+
+fn edge(flow: &Flow, name: &str) -> Result<EdgeId> {
+    flow.edge_named(name.as_bytes()).context("no such edge")
+}
+
+// Takes a step, and prints what it shows.
+fn take<R: Print>(rt: &R, engine: &mut Engine, step: &Step) -> Result<()>
+    requires { is_plain_step step.now ≡ true }
+{
+    if let Stepped::Did(effect) = engine.step(step)? {
+        show(rt, &effect)?;
+    }
+    Ok(())
+}
+
+fn show<R: Print>(rt: &R, effect: &Effect) -> Result<()> {
+    match effect {
+        Effect::Silent => {}
+        Effect::Acked { output, at, recs } => {
+            let name = NAMES.get(output.place() as usize).context("no such node")?;
+            println!(rt; "ack {name} epoch {at}: {} recs", recs.len())?;
+        }
+        Effect::Cuts(choice) => {
+            for (name, cut) in NAMES.iter().zip(choice.cuts.as_slice()) {
+                match cut {
+                    Cut::Present => println!(rt; "cut {name} present")?,
+                    Cut::At(front) => println!(rt; "cut {name} {front}")?,
+                }
+            }
+        }
+    }
+    Ok(())
+}
+
+// Delivers what is pending on an edge.
+fn deliver<R: Print>(rt: &R, engine: &mut Engine, edge: EdgeId) -> Result<()> {
+    for _ in 0..engine.pending(edge)?.len() {
+        take(rt, engine, &Step::Deliver(edge, None))?;
+    }
+    Ok(())
+}
+
+// Takes the next batch in, delivers on these edges, and lets the outputs acknowledge what is settled.
+fn go_on<R: Print>(rt: &R, engine: &mut Engine, edges: &[&str]) -> Result<()> {
+    let orders = node(engine.flow(), "orders")?;
+    take(rt, engine, &Step::Inject(orders))?;
+    for name in edges {
+        let edge = edge(engine.flow(), name)?;
+        deliver(rt, engine, edge)?;
+    }
+    take(rt, engine, &Step::Progress)?;
+    for name in ["shop", "archive"] {
+        let output = node(engine.flow(), name)?;
+        take(rt, engine, &Step::Ack(output))?;
+    }
+    Ok(())
+}
+
+fn run<R: AllocGlobal + Print>(rt: &R) -> Result<()> {
+    let alloc = rt.alloc();
+    let flow = shop_flow(alloc)?;
+    let cheap = node(&flow, "cheap")?;
+    let batches = two_batches(alloc, node(&flow, "orders")?)?;
+    ensure!(flow.keeps_nothing() && flow.notifies_nobody() && flow.accepts(&batches));
+    let mut engine = Engine::new(alloc, flow, batches)?;
+    let all = ["to_cheap", "to_shop", "to_archive"];
+    go_on(rt, &mut engine, &all)?;
+    go_on(rt, &mut engine, &["to_archive"])?;
+    let failed = Nodes::new(vec![in alloc; cheap]?);
+    take(rt, &mut engine, &Step::Fail(failed))?;
+    take(rt, &mut engine, &Step::Recover)?;
+    go_on(rt, &mut engine, &all)
+}
+
+fn main(rt: HostRuntime) -> Result<()> {
+    run(&rt)
+}

@@ -41,12 +41,8 @@ impl Checkpoint {
     fn has_causes_inside(&self, flow: &Flow, node: NodeId, front: &Front) -> bool
         ensures { result ≡ has_causes_inside flow.now node front.now self.now }
     {
-        let sends = self.state.sends.as_slice();
-        let log = self.log.as_slice();
-        sends
-            .iter()
-            .all(|sent| is_inside(flow, node, front, &sent.cause))
-            && log.iter().all(|logged| can_log(flow, node, front, logged))
+        are_counts_inside(flow, node, front, self.state.sends.as_slice())
+            && can_log_each(flow, node, front, self.log.as_slice())
     }
 
     /// Whether the node's kind and policy allow its state and its log.
@@ -131,6 +127,22 @@ fn can_log(flow: &Flow, node: NodeId, front: &Front, logged: &Logged) -> bool
     is_one_of_them(flow.out_edges(node), logged.edge)
         && message.at.in_domain(&flow.domain(flow.dst(logged.edge)))
         && are_inside(flow, node, front, message.causes.stamps())
+}
+
+/// Whether each of the messages can be.
+fn can_log_each(flow: &Flow, node: NodeId, front: &Front, log: &[Logged]) -> bool
+    ensures { result ≡ list_all (can_be_logged flow.now node front.now) log.now }
+{
+    log.iter().all(|logged| can_log(flow, node, front, logged))
+}
+
+/// Whether what is counted was sent from inside.
+fn are_counts_inside(flow: &Flow, node: NodeId, front: &Front, counts: &[SentCount]) -> bool
+    ensures { result ≡ list_all (λ s. node_frontier flow.now node front.now s.cause) counts.now }
+{
+    counts
+        .iter()
+        .all(|sent| is_inside(flow, node, front, &sent.cause))
 }
 
 /// Whether the counts make this sum.

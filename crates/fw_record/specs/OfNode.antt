@@ -1,4 +1,4 @@
--- Which checkpoints are those of a node at a frontier, in a dataflow.
+-- Which records are those of a node at a frontier, in a dataflow.
 use Rattle.std.specs.Prelude.{◌≡◌, ℕ, ◌+◌, ◌^◌, Bool, true, ◌&&◌, ◌==◌, nat_le, List, [], ◌∷◌, length}
 use Rattle.std.specs.List.{list_all, list_any}
 use Rattle.fw_time.specs.Stamp.{in_domain}
@@ -15,6 +15,8 @@ use Rattle.fw_flow.specs.declared.kind.Policy.TheVariants.{Lazy}
 use Rattle.fw_flow.specs.Dataflow.{Dataflow, kind_of, policy_of, in_edges, out_edges, receiver, bounds_of, node_frontier}
 use Rattle.fw_record.specs.declared.logged.Logged.{Logged}
 use Rattle.fw_record.specs.declared.record.Checkpoint.{Checkpoint}
+use Rattle.fw_record.specs.declared.record.Record.{Record}
+use Rattle.fw_record.specs.declared.record.Record.TheVariants as tagged
 
 -- whether the edge is one of these
 abbrev pub is_one_of : List ℕ → ℕ → Bool
@@ -78,3 +80,8 @@ pub record IsCheckpointOf (flow : Dataflow) (p : ℕ) (f : Front) (c : Checkpoin
   pub covers : has_own_covers flow p c ≡ true
   pub causes : has_causes_inside flow p f c ≡ true
   pub parts : has_allowed_parts flow p c ≡ true
+
+-- it is the record of a checkpoint of node p at the frontier f
+abbrev pub IsRecordOf : Dataflow → ℕ → Front → Record → Type 0
+IsRecordOf flow p f (tagged.State c) = IsCheckpointOf flow p f c
+IsRecordOf flow p f (tagged.Event node event) = ⊥

@@ -5,7 +5,7 @@ use fw_flow::{EdgeId, Message};
 use std::marker::Model;
 
 /// A logged message. Logged messages are ordered by edge, stamp, causes and rec.
-#[derive(Debug, PartialEq, Drop)]
+#[derive(Debug, PartialEq, Eq, Drop)]
 pub struct Logged {
     /// The edge that it was sent on.
     pub edge: EdgeId,

@@ -3,7 +3,7 @@ ghost use Rattle.std.specs.Prelude.{◌≡◌, ◌↔◌, ◌==◌, IsTrue};
 ghost use Rattle.std.specs.List.{list_all};
 ghost use Rattle.fw_time.specs.Stamp.{in_domain};
 ghost use Rattle.fw_flow.specs.Dataflow.{node_frontier};
-ghost use Rattle.fw_record.specs.OfNode.{has_own_covers, has_causes_inside, has_allowed_parts, is_one_of, is_front_of, can_be_logged, count_sum, entry_count, can_be_state_of, can_be_log_of, IsCheckpointOf};
+ghost use Rattle.fw_record.specs.OfNode.{has_own_covers, has_causes_inside, has_allowed_parts, is_one_of, is_front_of, can_be_logged, count_sum, entry_count, can_be_state_of, can_be_log_of, IsCheckpointOf, IsRecordOf};
 ghost use Rattle.fw_record.specs.declared.record.Record.TheVariants.{Event as EventOf};
 
 use crate::{Checkpoint, Event, Logged, Record};
@@ -54,6 +54,16 @@ impl Checkpoint {
 }
 
 impl Record {
+    /// Whether it is the record of a checkpoint of the node at the frontier (`Checkpoint::is_of`).
+    pub fn is_checkpoint_of(&self, flow: &Flow, node: NodeId, front: &Front) -> bool
+        ensures { IsTrue result ↔ IsRecordOf flow.now node front.now self.now }
+    {
+        match self {
+            Record::State(checkpoint) => checkpoint.is_of(flow, node, front),
+            Record::Event { .. } => false,
+        }
+    }
+
     /// Whether it is the record of this event of the node.
     pub fn is_event_of(&self, node: NodeId, event: &Event) -> bool
         ensures { IsTrue result ↔ (self.now ≡ EventOf node event.now) }

@@ -21,7 +21,7 @@ pub struct Checkpoint {
 }
 
 /// An event of a node.
-#[derive(Debug, PartialEq, Drop)]
+#[derive(Debug, PartialEq, Eq, Drop)]
 pub enum Event {
     /// The rec was delivered on the edge.
     Deliver { edge: EdgeId, at: Stamp, rec: Rec },

@@ -26,11 +26,11 @@ pub checkpoint_again : (c : Checkpoint) (rest : List ℕ) → IsCheckpoint c →
 unfolding checkpoint_of
 checkpoint_again c rest sound =
     ap checkpoint_of (append_assoc (u32_bytes c.node ++ front_bytes c.recorded.front ++ front_bytes c.recorded.notified ++ of_edges_bytes c.recorded.delivered ++ of_edges_bytes c.recorded.discarded ++ state_bytes c.state) (log_bytes c.log) rest
-        ∙ append_assoc (u32_bytes c.node ++ front_bytes c.recorded.front ++ front_bytes c.recorded.notified ++ of_edges_bytes c.recorded.delivered ++ of_edges_bytes c.recorded.discarded) (state_bytes c.state) (log_bytes c.log ++ rest)
-        ∙ append_assoc (u32_bytes c.node ++ front_bytes c.recorded.front ++ front_bytes c.recorded.notified ++ of_edges_bytes c.recorded.delivered) (of_edges_bytes c.recorded.discarded) (state_bytes c.state ++ (log_bytes c.log ++ rest))
-        ∙ append_assoc (u32_bytes c.node ++ front_bytes c.recorded.front ++ front_bytes c.recorded.notified) (of_edges_bytes c.recorded.delivered) (of_edges_bytes c.recorded.discarded ++ (state_bytes c.state ++ (log_bytes c.log ++ rest)))
-        ∙ append_assoc (u32_bytes c.node ++ front_bytes c.recorded.front) (front_bytes c.recorded.notified) (of_edges_bytes c.recorded.delivered ++ (of_edges_bytes c.recorded.discarded ++ (state_bytes c.state ++ (log_bytes c.log ++ rest))))
-        ∙ append_assoc (u32_bytes c.node) (front_bytes c.recorded.front) (front_bytes c.recorded.notified ++ (of_edges_bytes c.recorded.delivered ++ (of_edges_bytes c.recorded.discarded ++ (state_bytes c.state ++ (log_bytes c.log ++ rest))))))
+    ∙ append_assoc (u32_bytes c.node ++ front_bytes c.recorded.front ++ front_bytes c.recorded.notified ++ of_edges_bytes c.recorded.delivered ++ of_edges_bytes c.recorded.discarded) (state_bytes c.state) (log_bytes c.log ++ rest)
+    ∙ append_assoc (u32_bytes c.node ++ front_bytes c.recorded.front ++ front_bytes c.recorded.notified ++ of_edges_bytes c.recorded.delivered) (of_edges_bytes c.recorded.discarded) (state_bytes c.state ++ (log_bytes c.log ++ rest))
+    ∙ append_assoc (u32_bytes c.node ++ front_bytes c.recorded.front ++ front_bytes c.recorded.notified) (of_edges_bytes c.recorded.delivered) (of_edges_bytes c.recorded.discarded ++ (state_bytes c.state ++ (log_bytes c.log ++ rest)))
+    ∙ append_assoc (u32_bytes c.node ++ front_bytes c.recorded.front) (front_bytes c.recorded.notified) (of_edges_bytes c.recorded.delivered ++ (of_edges_bytes c.recorded.discarded ++ (state_bytes c.state ++ (log_bytes c.log ++ rest))))
+    ∙ append_assoc (u32_bytes c.node) (front_bytes c.recorded.front) (front_bytes c.recorded.notified ++ (of_edges_bytes c.recorded.delivered ++ (of_edges_bytes c.recorded.discarded ++ (state_bytes c.state ++ (log_bytes c.log ++ rest))))))
     ∙ rw (any32.again c.node (front_bytes c.recorded.front ++ (front_bytes c.recorded.notified ++ (of_edges_bytes c.recorded.delivered ++ (of_edges_bytes c.recorded.discarded ++ (state_bytes c.state ++ (log_bytes c.log ++ rest)))))) sound.node, front.again c.recorded.front (front_bytes c.recorded.notified ++ (of_edges_bytes c.recorded.delivered ++ (of_edges_bytes c.recorded.discarded ++ (state_bytes c.state ++ (log_bytes c.log ++ rest))))) sound.front, front.again c.recorded.notified (of_edges_bytes c.recorded.delivered ++ (of_edges_bytes c.recorded.discarded ++ (state_bytes c.state ++ (log_bytes c.log ++ rest)))) sound.notified, of_edges.again c.recorded.delivered (of_edges_bytes c.recorded.discarded ++ (state_bytes c.state ++ (log_bytes c.log ++ rest))) sound.delivered, of_edges.again c.recorded.discarded (state_bytes c.state ++ (log_bytes c.log ++ rest)) sound.discarded, states.again c.state (log_bytes c.log ++ rest) sound.state, logs.again c.log rest sound.log) refl
 
 pub checkpoints : IsWhole checkpoint_of checkpoint_bytes IsCheckpoint

@@ -94,4 +94,3 @@ event_again (Notify at) rest sound = notice_again at rest sound
 
 pub events : IsWhole event_of event_bytes IsEvent
 events = record { takes = event_takes; again = event_again }
-

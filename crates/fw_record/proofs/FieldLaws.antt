@@ -245,9 +245,9 @@ logged_again m rest fits = with_causes m.edge m.message.at m.message.rec m.messa
     with_causes edge at rec (s ∷ t ∷ ss) rest a b c none = absurd none
     with_causes edge at rec (s ∷ []) rest a b c one =
         let regrouped : (u32_bytes edge ++ stamp_bytes at ++ stamp_bytes s ++ rec_bytes rec) ++ rest ≡ u32_bytes edge ++ (stamp_bytes at ++ (stamp_bytes s ++ (rec_bytes rec ++ rest))) =
-            append_assoc (u32_bytes edge ++ stamp_bytes at ++ stamp_bytes s) (rec_bytes rec) rest
-            ∙ append_assoc (u32_bytes edge ++ stamp_bytes at) (stamp_bytes s) (rec_bytes rec ++ rest)
-            ∙ append_assoc (u32_bytes edge) (stamp_bytes at) (stamp_bytes s ++ (rec_bytes rec ++ rest)) in
+        append_assoc (u32_bytes edge ++ stamp_bytes at ++ stamp_bytes s) (rec_bytes rec) rest
+        ∙ append_assoc (u32_bytes edge ++ stamp_bytes at) (stamp_bytes s) (rec_bytes rec ++ rest)
+        ∙ append_assoc (u32_bytes edge) (stamp_bytes at) (stamp_bytes s ++ (rec_bytes rec ++ rest)) in
         ap (λ (t : List ℕ). logged_of ((u32_bytes edge ++ stamp_bytes at ++ t ++ rec_bytes rec) ++ rest)) (one_stamp s)
         ∙ ap logged_of regrouped
         ∙ rw (form32.again edge (stamp_bytes at ++ (stamp_bytes s ++ (rec_bytes rec ++ rest))) a, stamps.again at (stamp_bytes s ++ (rec_bytes rec ++ rest)) b, stamps.again s (rec_bytes rec ++ rest) one, recs.again rec rest c) refl

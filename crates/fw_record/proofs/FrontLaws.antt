@@ -53,7 +53,7 @@ follow_in_order before (x ∷ xs) all ordered =
     let first = each-weaker (StandBefore (x ∷ xs)) (λ o. stands_before o x ≡ true) before (λ o h. h.0) all in
     let rest = each-weaker (StandBefore (x ∷ xs)) (StandBefore xs) before (λ o h. h.1) all in
     both_and (may_follow_stamps before x) (each_may_follow may_follow_stamps (before ++ x ∷ []) xs) (may_follow before x first)
-        (follow_in_order (before ++ x ∷ []) xs (each-append (StandBefore xs) before (x ∷ []) rest (ordered.0, tt)) ordered.1)
+    (follow_in_order (before ++ x ∷ []) xs (each-append (StandBefore xs) before (x ∷ []) rest (ordered.0, tt)) ordered.1)
 
 -- ---- standing in order, in a domain, is being canonical
 
@@ -76,21 +76,24 @@ AreIn bounds os = AllByRecursion (λ o. in_domain bounds o ≡ true) os
 
 canonical_in_order : (bounds : Bounds) (os : Front) → AreIn bounds os → StandInOrder os → IsCanonical bounds os
 canonical_in_order bounds [] inside ordered = tt
-canonical_in_order bounds (o ∷ os) inside ordered =
-    (record {
-      in_the_domain = inside.0;
-      ascending = each-weaker (λ q. stands_before o q ≡ true) (λ q. is_lt (stamp_cmp o q) ≡ true) os (λ q h. (apart o q h).ascending) ordered.0;
-      incomparable = each-weaker (λ q. stands_before o q ≡ true) (λ q. (leq o q || leq q o) ≡ false) os (λ q h. (apart o q h).incomparable) ordered.0
-    }, canonical_in_order bounds os inside.1 ordered.1)
+canonical_in_order bounds (o ∷ os) inside ordered = (
+  record {
+    in_the_domain = inside.0;
+    ascending = each-weaker (λ q. stands_before o q ≡ true) (λ q. is_lt (stamp_cmp o q) ≡ true) os (λ q h. (apart o q h).ascending) ordered.0;
+    incomparable = each-weaker (λ q. stands_before o q ≡ true) (λ q. (leq o q || leq q o) ≡ false) os (λ q h. (apart o q h).incomparable) ordered.0;
+  },
+  canonical_in_order bounds os inside.1 ordered.1,
+)
 
 stands : (bounds : Bounds) (o : Stamp) (os : Front) → in_domain bounds o ≡ true → AreIn bounds os
     → AllByRecursion (λ q. is_lt (stamp_cmp o q) ≡ true) os → AllByRecursion (λ q. (leq o q || leq q o) ≡ false) os → StandBefore os o
 stands bounds o [] i inside ascending incomparable = tt
 stands bounds o (q ∷ os) i inside ascending incomparable =
-    let same : length o ≡ length q = leq-length o bounds.greatest i ∙ sym (leq-length q bounds.greatest inside.0) in
-    (both_and (length o == length q) (is_lt (stamp_cmp o q) && not (leq o q || leq q o)) (eq-eqb (length o) (length q) same)
-        (both_and (is_lt (stamp_cmp o q)) (not (leq o q || leq q o)) ascending.0 (ap not incomparable.0)),
-      stands bounds o os i inside.1 ascending.1 incomparable.1)
+    let same : length o ≡ length q = leq-length o bounds.greatest i ∙ sym (leq-length q bounds.greatest inside.0) in (
+      both_and (length o == length q) (is_lt (stamp_cmp o q) && not (leq o q || leq q o)) (eq-eqb (length o) (length q) same)
+          (both_and (is_lt (stamp_cmp o q)) (not (leq o q || leq q o)) ascending.0 (ap not incomparable.0)),
+      stands bounds o os i inside.1 ascending.1 incomparable.1,
+    )
 
 ordered_of_canonical : (bounds : Bounds) (os : Front) → AreIn bounds os → IsCanonical bounds os → StandInOrder os
 ordered_of_canonical bounds [] inside canonical = tt
@@ -126,5 +129,5 @@ pub sound_of_canonical : (bounds : Bounds) (f : Front) → AreIn bounds f → Is
 sound_of_canonical bounds f inside greatest few canonical = record {
   few = few;
   parts = each-weaker (λ o. in_domain bounds o ≡ true) IsStamp f (λ o i. stamp_below o bounds.greatest i greatest) inside;
-  follow = follow_in_order [] f tt (ordered_of_canonical bounds f inside canonical)
+  follow = follow_in_order [] f tt (ordered_of_canonical bounds f inside canonical);
 }

@@ -117,7 +117,6 @@ logs = record { takes = logs_takes; again = logs_again }
 pub front : IsWhole front_of front_bytes IsFront
 front = record { takes = fronts_takes; again = fronts_again }
 
-
 -- ---- a node's table
 
 pub state_takes : (bytes : List ℕ) (x : State × List ℕ) → IsBytes bytes → state_of bytes ≡ Ok x → Takes bytes (state_bytes x.0) x.1 × IsState x.0

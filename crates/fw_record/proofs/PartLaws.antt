@@ -128,4 +128,3 @@ step {read = read} {text = text} w whole front bytes k x Goal t e go =
 -- before the first step
 pub starts : (bytes : List ℕ) → IsBytes bytes → Takes bytes [] bytes
 starts bytes fits = record { parts = refl; rest_fits = fits }
-

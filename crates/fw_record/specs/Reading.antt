@@ -122,9 +122,15 @@ checkpoint_of bytes = do
   discarded ← of_edges_of delivered.1
   state ← state_of discarded.1
   log ← log_of state.1
-  Ok (record { node = node.0;
-    recorded = record { front = front.0; notified = notified.0; delivered = delivered.0; discarded = discarded.0 };
-    state = state.0; log = log.0 }, log.1)
+  Ok (
+    record {
+      node = node.0;
+      recorded = record { front = front.0; notified = notified.0; delivered = delivered.0; discarded = discarded.0 };
+      state = state.0;
+      log = log.0;
+    },
+    log.1,
+  )
 
 -- ---- an event
 

@@ -52,8 +52,8 @@ may_follow_totals rs r = after_last (λ last next. nat_lt last.key next.key) rs 
 abbrev pub logged_cmp : Logged → Logged → Ordering
 logged_cmp x y =
     ordering_then (nat_cmp x.edge y.edge)
-        (ordering_then (stamp_cmp x.message.at y.message.at)
-            (ordering_then (slice_cmp stamp_cmp x.message.causes y.message.causes) (rec_cmp x.message.rec y.message.rec)))
+    (ordering_then (stamp_cmp x.message.at y.message.at)
+    (ordering_then (slice_cmp stamp_cmp x.message.causes y.message.causes) (rec_cmp x.message.rec y.message.rec)))
 
 -- logged messages ascend, equal ones repeated
 abbrev pub may_follow_logged : List Logged → Logged → Bool

@@ -69,7 +69,10 @@ impl Record {
         ensures { IsTrue result ↔ (self.now ≡ EventOf node event.now) }
     {
         match self {
-            Record::Event { node: of, event: what } => *of == node && *what == *event,
+            Record::Event {
+                node: of,
+                event: what,
+            } => *of == node && *what == *event,
             Record::State(_) => false,
         }
     }
@@ -101,7 +104,10 @@ fn is_of_edges(flow: &Flow, edges: &[EdgeId], of_edge: &OfEdge) -> bool
     ensures { result ≡ is_front_of flow.now edges.now of_edge.now }
 {
     is_one_of_them(edges, of_edge.edge)
-        && are_in_domain(of_edge.front.outside(), &flow.domain(flow.dst(of_edge.edge)))
+        && are_in_domain(
+            of_edge.front.outside(),
+            &flow.domain(flow.dst(of_edge.edge)),
+        )
 }
 
 /// Whether they are frontiers of these edges.

@@ -46,7 +46,11 @@ fn next_count<'a>(before: &[SentCount], bytes: &'a [u8]) -> Result<(SentCount, &
 }
 
 /// So many counts of what was sent.
-pub fn counts_at(alloc: Global, count: u32, bytes: &[u8]) -> Result<(Vec<SentCount>, &[u8]), ReadFault>
+pub fn counts_at(
+    alloc: Global,
+    count: u32,
+    bytes: &[u8],
+) -> Result<(Vec<SentCount>, &[u8]), ReadFault>
     ensures { Gives (λ x. (x.0.items, x.1.now)) result (many_of next_count_of count [] bytes.now) }
 {
     let mut parts = Vec::new(alloc);
@@ -94,7 +98,11 @@ fn next_logged<'a>(before: &[Logged], bytes: &'a [u8]) -> Result<(Logged, &'a [u
 }
 
 /// So many logged messages.
-pub fn messages_at(alloc: Global, count: u64, bytes: &[u8]) -> Result<(Vec<Logged>, &[u8]), ReadFault>
+pub fn messages_at(
+    alloc: Global,
+    count: u64,
+    bytes: &[u8],
+) -> Result<(Vec<Logged>, &[u8]), ReadFault>
     ensures { Gives (λ x. (x.0.items, x.1.now)) result (many_of next_logged_of count [] bytes.now) }
 {
     let mut parts = Vec::new(alloc);

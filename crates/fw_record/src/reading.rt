@@ -86,11 +86,7 @@ fn next_of_edge<'a>(
 }
 
 /// So many edges with their fronts.
-fn of_edges_from(
-    alloc: Global,
-    count: u32,
-    bytes: &[u8],
-) -> Result<(Vec<OfEdge>, &[u8]), ReadFault>
+fn of_edges_from(alloc: Global, count: u32, bytes: &[u8]) -> Result<(Vec<OfEdge>, &[u8]), ReadFault>
     ensures { Gives (λ x. (x.0.items, x.1.now)) result (many_of of_edge_of count [] bytes.now) }
 {
     let mut parts = Vec::new(alloc);

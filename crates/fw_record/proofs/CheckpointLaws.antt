@@ -1,11 +1,9 @@
 -- Checkpoints are read as they are spelled.
 use Rattle.std.proofs.Common.{◌≡◌, ℕ, List, [], ◌++◌, Ok, refl, ap, ◌∙◌, append_assoc, subst}
-use Rattle.std.specs.Int.{w32}
 use Rattle.fw_record.specs.declared.record.Checkpoint.{Checkpoint}
-use Rattle.fw_record.specs.Fields.{number_of}
 use Rattle.fw_record.specs.Spelling.{u32_bytes, front_bytes, of_edges_bytes, state_bytes, log_bytes, checkpoint_bytes}
 use Rattle.fw_record.specs.Sound.{IsCheckpoint}
-use Rattle.fw_record.specs.Reading.{◌>>=◌, any, front_of, of_edges_of, state_of, log_of, checkpoint_of}
+use Rattle.fw_record.specs.Reading.{◌>>=◌, front_of, of_edges_of, state_of, log_of, checkpoint_of}
 use Rattle.fw_record.proofs.FieldLaws.{IsBytes, Takes}
 use Rattle.fw_record.proofs.PartLaws.{IsWhole, ok_is, step, starts}
 use Rattle.fw_record.proofs.ListLaws.{any32, front, of_edges, states, logs}

@@ -1,5 +1,5 @@
 -- In a domain the fronts that have a spelling are the canonical ones.
-use Rattle.std.proofs.Common.{◌≡◌, ℕ, ◌^◌, ◌<◌, ◌≤◌, Bool, true, false, List, [], ◌∷◌, ◌++◌, length, refl, sym, ap, ◌∙◌, subst, arith}
+use Rattle.std.proofs.Common.{◌≡◌, ℕ, ◌^◌, ◌<◌, Bool, true, false, [], ◌∷◌, ◌++◌, length, refl, sym, ap, ◌∙◌, arith}
 use Rattle.std.specs.Prelude.{not, ◌&&◌, ◌||◌, ◌==◌, nat_le}
 use Rattle.std.specs.List.{AllByRecursion}
 use Rattle.std.specs.Ordering.{is_lt}
@@ -9,8 +9,8 @@ use Rattle.fw_time.specs.Stamp.{Stamp, leq, stamp_cmp, in_domain}
 use Rattle.fw_time.specs.declared.stamp.Bounds.{Bounds}
 use Rattle.fw_time.proofs.StampLaws.{leq-length}
 use Rattle.fw_time.proofs.EachLaws.{each-weaker, each-both, each-append, each-prefix, each-suffix}
-use Rattle.fw_frontier.specs.Front.{Front, IsCanonical, IsLeastBefore}
-use Rattle.fw_record.specs.Sound.{stands_before, may_follow_stamps, each_may_follow, IsStamp, IsFront, IsList}
+use Rattle.fw_frontier.specs.Front.{Front, IsCanonical}
+use Rattle.fw_record.specs.Sound.{stands_before, may_follow_stamps, each_may_follow, IsStamp, IsFront}
 use Rattle.fw_record.proofs.PartLaws.{and_both}
 
 -- each stamp may stand before each later one

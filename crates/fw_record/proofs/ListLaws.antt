@@ -1,7 +1,6 @@
 -- The lists of a checkpoint, its state and its log are read as they are spelled.
 use Rattle.std.proofs.Common.{◌≡◌, ℕ, ◌^◌, ◌<◌, true, List, [], ◌++◌, Ok, refl, ap, ◌∙◌, append_assoc, subst}
 use Rattle.std.specs.Int.{w32, w64}
-use Rattle.fw_time.specs.Stamp.{Stamp}
 use Rattle.fw_bag.specs.declared.rec.Rec.{Rec}
 use Rattle.fw_frontier.specs.Front.{Front}
 use Rattle.fw_frontier.specs.declared.state.SentCount.{SentCount}

@@ -1,11 +1,10 @@
 -- The first broken field begins in the bytes, or at their end.
-use Rattle.std.proofs.Common.{◌≡◌, ℕ, zero, suc, ◌≤◌, Bool, true, false, cond, eqb, ltb, List, [], ◌∷◌, ◌++◌, length, drop, take, Option, Some, None, Result, Ok, Err, refl, subst, arith}
+use Rattle.std.proofs.Common.{◌≡◌, ℕ, zero, suc, ◌≤◌, Bool, true, false, cond, eqb, List, [], ◌∷◌, ◌++◌, length, drop, take, Some, None, Result, Ok, Err, subst, arith}
 use Rattle.std.specs.Prelude.{◌&&◌, ◌==◌, nat_lt}
 use Rattle.std.specs.Int.{Width, w16, w32, w64, byte_len, from_be_bytes}
 use Rattle.std.proofs.lemmas.List.{length-drop}
 use Rattle.fw_time.specs.Stamp.{Stamp}
 use Rattle.fw_bag.specs.declared.rec.Rec.{Rec}
-use Rattle.fw_frontier.specs.declared.state.State.{State}
 use Rattle.fw_frontier.specs.declared.state.Entries.TheVariants.{Totals}
 use Rattle.fw_flow.specs.declared.choice.OfEdge.{OfEdge}
 use Rattle.fw_record.specs.declared.logged.Logged.{Logged}

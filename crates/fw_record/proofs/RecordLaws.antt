@@ -1,7 +1,7 @@
 -- A record that is read is spelled by the bytes and sound, and a sound record's spelling is read again.
 use Rattle.std.proofs.Common.{◌≡◌, ℕ, ◌^◌, ◌<◌, true, cond, eqb, List, [], ◌∷◌, ◌++◌, length, Ok, Err, refl, sym, ap, subst, ◌∙◌, append_assoc, arith, inl, inr}
 use Rattle.std.specs.Prelude.{◌||◌, ◌==◌}
-use Rattle.std.specs.Int.{w16, w32, to_be_bytes}
+use Rattle.std.specs.Int.{w16, to_be_bytes}
 use Rattle.std.proofs.lemmas.Bool.{eqb-true}
 use Rattle.std.proofs.lemmas.List.{append-nil, nil_from_length}
 use Rattle.fw_record.specs.declared.record.Checkpoint.{Checkpoint}
@@ -11,7 +11,7 @@ use Rattle.fw_record.specs.declared.record.Record.TheVariants as tagged
 use Rattle.fw_record.specs.Fields.{byte_of, number_of}
 use Rattle.fw_record.specs.Spelling.{u32_bytes, head_bytes, checkpoint_bytes, event_bytes, spelling}
 use Rattle.fw_record.specs.Sound.{IsCheckpoint, IsEvent, IsSound}
-use Rattle.fw_record.specs.Reading.{◌>>=◌, kept_if, any, is_tag, checkpoint_of, event_of, event_record_of, state_record_of, tag_of, record_of, whole_of}
+use Rattle.fw_record.specs.Reading.{◌>>=◌, kept_if, is_tag, event_of, event_record_of, state_record_of, tag_of, record_of, whole_of}
 use Rattle.fw_record.proofs.FieldLaws.{IsBytes, Takes, wide16, number_takes, number_again}
 use Rattle.fw_record.proofs.PartLaws.{bind_ok, ok, ok_is, guard_ok, kept, and_both, step}
 use Rattle.fw_record.proofs.ListLaws.{any32}

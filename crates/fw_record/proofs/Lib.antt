@@ -1,0 +1,10 @@
+pub mod PartLoops
+pub mod FieldLaws
+pub mod PartLaws
+pub mod ListLaws
+pub mod CheckpointLaws
+pub mod EventLaws
+pub mod RecordLaws
+pub mod PlaceLaws
+pub mod FrontLaws
+pub mod SameFrontLaws

@@ -1,0 +1,7 @@
+use Rattle.std.proofs.Common.{◌≡◌, ◌++◌, length, take}
+use Rattle.std.specs.List.{flat_map}
+use Rattle.fw_record.specs.Spelling.{u32_bytes, of_edge_bytes}
+use Rattle.fw_record.proofs.writing.put_of_edges.Given as goal
+
+abbrev pub invariant-loop-of_edge : goal.invariant-loop-of_edge
+invariant-loop-of_edge l = l.out.items ≡ (l.fn.out.items ++ u32_bytes (length l.fronts)) ++ flat_map of_edge_bytes (take l.of_edge-index l.fronts)

@@ -1,0 +1,103 @@
+-- The bytes of a record. All numbers are big-endian.
+use Rattle.std.specs.Prelude.{ℕ, List, [], ◌∷◌, ◌++◌, length}
+use Rattle.std.specs.Int.{w32, w64, to_be_bytes}
+use Rattle.std.specs.List.{flat_map}
+use Rattle.fw_time.specs.Stamp.{Stamp}
+use Rattle.fw_bag.specs.declared.rec.Rec.{Rec}
+use Rattle.fw_frontier.specs.Front.{Front}
+use Rattle.fw_frontier.specs.declared.state.SentCount.{SentCount}
+use Rattle.fw_frontier.specs.declared.state.Entries.{Entries}
+use Rattle.fw_frontier.specs.declared.state.Entries.TheVariants.{Totals}
+use Rattle.fw_frontier.specs.declared.state.State.{State}
+use Rattle.fw_flow.specs.declared.choice.OfEdge.{OfEdge}
+use Rattle.fw_record.specs.declared.logged.Logged.{Logged}
+use Rattle.fw_record.specs.declared.record.Checkpoint.{Checkpoint}
+use Rattle.fw_record.specs.declared.record.Event.{Event}
+use Rattle.fw_record.specs.declared.record.Event.TheVariants.{Deliver, Notify}
+use Rattle.fw_record.specs.declared.record.Record.{Record}
+use Rattle.fw_record.specs.declared.record.Record.TheVariants as tagged
+
+-- four bytes
+abbrev pub u32_bytes : ℕ → List ℕ
+u32_bytes n = to_be_bytes w32 n
+
+-- eight bytes
+abbrev pub u64_bytes : ℕ → List ℕ
+u64_bytes n = to_be_bytes w64 n
+
+-- a byte for how many coordinates, and four bytes for each
+abbrev pub stamp_bytes : Stamp → List ℕ
+stamp_bytes s = length s ∷ flat_map u32_bytes s
+
+-- key and value
+abbrev pub rec_bytes : Rec → List ℕ
+rec_bytes r = u64_bytes r.key ++ u64_bytes r.value
+
+-- how many stamps are least outside, and these; none is `all`
+abbrev pub front_bytes : Front → List ℕ
+front_bytes f = u32_bytes (length f) ++ flat_map stamp_bytes f
+
+-- an edge and its frontier
+abbrev pub of_edge_bytes : OfEdge → List ℕ
+of_edge_bytes e = u32_bytes e.edge ++ front_bytes e.front
+
+-- how many edges, and these with their frontiers
+abbrev pub of_edges_bytes : List OfEdge → List ℕ
+of_edges_bytes es = u32_bytes (length es) ++ flat_map of_edge_bytes es
+
+-- a stamp and how many messages were sent from there
+abbrev pub sent_count_bytes : SentCount → List ℕ
+sent_count_bytes s = stamp_bytes s.cause ++ u64_bytes s.count
+
+-- how many counts of what was sent, and these
+abbrev pub sent_counts_bytes : List SentCount → List ℕ
+sent_counts_bytes ss = u32_bytes (length ss) ++ flat_map sent_count_bytes ss
+
+-- how many recs, and these
+abbrev pub recs_bytes : List Rec → List ℕ
+recs_bytes rs = u64_bytes (length rs) ++ flat_map rec_bytes rs
+
+-- what a node holds: its totals
+abbrev pub entries_bytes : Entries → List ℕ
+entries_bytes (Totals totals) = recs_bytes totals
+
+-- how many messages were sent, how many from where, and what is held
+unfoldable pub state_bytes : State → List ℕ
+state_bytes s = u64_bytes s.sent ++ sent_counts_bytes s.sends ++ entries_bytes s.entries
+
+-- an edge, a stamp, the causes and a rec
+unfoldable pub logged_bytes : Logged → List ℕ
+logged_bytes m = u32_bytes m.edge ++ stamp_bytes m.message.at ++ flat_map stamp_bytes m.message.causes ++ rec_bytes m.message.rec
+
+-- how many logged messages, and these
+abbrev pub log_bytes : List Logged → List ℕ
+log_bytes ms = u64_bytes (length ms) ++ flat_map logged_bytes ms
+
+-- a node, the frontier, what it covers, the state and the log
+abbrev pub checkpoint_bytes : Checkpoint → List ℕ
+checkpoint_bytes c =
+    u32_bytes c.node
+    ++ front_bytes c.recorded.front
+    ++ front_bytes c.recorded.notified
+    ++ of_edges_bytes c.recorded.delivered
+    ++ of_edges_bytes c.recorded.discarded
+    ++ state_bytes c.state
+    ++ log_bytes c.log
+
+-- an edge, a stamp and a rec
+abbrev pub delivery_bytes : ℕ → Stamp → Rec → List ℕ
+delivery_bytes edge at rec = u32_bytes edge ++ stamp_bytes at ++ rec_bytes rec
+
+-- 1 and a delivery, or 2 and the stamp of a notification
+abbrev pub event_bytes : Event → List ℕ
+event_bytes (Deliver edge at rec) = 1 ∷ delivery_bytes edge at rec
+event_bytes (Notify at) = 2 ∷ stamp_bytes at
+
+-- the letters FW, version 1, and a tag
+abbrev pub head_bytes : ℕ → List ℕ
+head_bytes tag = 70 ∷ 87 ∷ 1 ∷ tag ∷ []
+
+-- the one spelling of a record
+abbrev pub spelling : Record → List ℕ
+spelling (tagged.State c) = head_bytes 1 ++ checkpoint_bytes c
+spelling (tagged.Event node event) = head_bytes 2 ++ u32_bytes node ++ event_bytes event

@@ -1,0 +1,31 @@
+//! What holds of records and their bytes. Each function carries its laws as clauses, and does nothing.
+ghost use Rattle.std.specs.Prelude.{◌≡◌, ◌≤◌, ◌<◌, ◌^◌, ℕ, List, true, length, Ok, Err};
+ghost use Rattle.std.specs.List.{AllByRecursion};
+ghost use Rattle.fw_time.specs.declared.stamp.Bounds.{Bounds as Domain};
+ghost use Rattle.fw_time.specs.Stamp.{in_domain};
+ghost use Rattle.fw_frontier.specs.Front.{IsCanonical};
+ghost use Rattle.fw_record.specs.declared.record.Record.{Record as Spelled};
+ghost use Rattle.fw_record.specs.Spelling.{spelling};
+ghost use Rattle.fw_record.specs.Sound.{IsStamp, IsFront, IsSound};
+ghost use Rattle.fw_record.specs.Reading.{whole_of};
+
+/// Reading gives a sound record exactly of its spelling, and no two sound records have one spelling.
+pub fn one_spelling()
+    ensures read_again { (r : Spelled) → IsSound r → whole_of (spelling r) ≡ Ok r }
+    ensures same { (q r : Spelled) → IsSound q → IsSound r → spelling q ≡ spelling r → q ≡ r }
+{}
+
+/// The first broken field begins in the bytes, or at their end.
+#[tactic(auto, using(crate::proofs::PlaceLaws::left_is_inside))]
+pub fn left_is_in_the_bytes()
+    ensures { (bytes : List ℕ) (left : ℕ) → whole_of bytes ≡ Err left → left ≤ length bytes }
+{}
+
+/// In a domain of stamps that have a spelling the fronts that have one are the canonical ones.
+pub fn sound_fronts_are_canonical()
+    ensures canonical { (bounds : Domain) (f : List (List ℕ))
+        → AllByRecursion (λ o. in_domain bounds o ≡ true) f → IsFront f → IsCanonical bounds f }
+    ensures sound { (bounds : Domain) (f : List (List ℕ))
+        → AllByRecursion (λ o. in_domain bounds o ≡ true) f → IsStamp bounds.greatest → length f < 2 ^ 32
+        → IsCanonical bounds f → IsFront f }
+{}

@@ -1,0 +1,45 @@
+//! Messages that may have to be sent again.
+ghost use Rattle.std.specs.Prelude.{◌≡◌};
+
+use fw_flow::{EdgeId, Message};
+use std::marker::Model;
+
+/// A logged message. Logged messages are ordered by edge, stamp, causes and rec.
+#[derive(Debug, PartialEq, Eq, Drop)]
+pub struct Logged {
+    /// The edge that it was sent on.
+    pub edge: EdgeId,
+    /// The message.
+    pub message: Message,
+}
+
+/// Logged messages. Contracts see their list.
+#[derive(Debug, Drop)]
+pub struct Log {
+    messages: Vec<Logged>,
+}
+
+impl Model for Log {
+    ghost use Rattle.std.specs.Prelude.{List};
+    ghost use Rattle.fw_record.specs.declared.logged.Logged.{Logged};
+
+    ghost Value = { List Logged };
+
+    ghost view = { λ log. log.messages.items };
+}
+
+impl Log {
+    /// These messages.
+    pub fn of(messages: Vec<Logged>) -> Self
+        ensures { result ≡ messages.items }
+    {
+        Log { messages }
+    }
+
+    /// The messages, in order.
+    pub fn as_slice(&self) -> &[Logged]
+        ensures { result.now ≡ self.now }
+    {
+        &self.messages
+    }
+}

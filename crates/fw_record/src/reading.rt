@@ -1,0 +1,351 @@
+//! Reading records.
+ghost use Rattle.std.specs.Prelude.{◌≡◌, ◌==◌, [], IfOk};
+ghost use Rattle.std.specs.Int.{w16, w32, w64};
+ghost use Rattle.fw_record.specs.Fields.{byte_of, number_of, stamp_of};
+ghost use Rattle.fw_record.specs.Reading.{Gives, Decodes, IsOkOrNoMemory, any, kept_if, many_of, is_event_byte, is_tag, front_of, of_edge_of, of_edges_of, sent_counts_of, totals_of, state_of, log_of, checkpoint_of, key_and_value_of, delivery_of, notice_of, event_of, event_record_of, state_record_of, tag_of, record_of, whole_of};
+ghost use Rattle.fw_record.specs.Sound.{IsSound, may_follow_edges};
+ghost use Rattle.fw_record.specs.Spelling.{spelling};
+ghost use Rattle.fw_record.specs.declared.record.Record.{Record as Spelled};
+
+use crate::codes::{CHECKPOINT, DELIVERY, EVENT, MAGIC, NOTICE, VERSION};
+use crate::fault::ReadFault;
+use crate::fields::{byte_at, stamp_at, u16_at, u32_at, u64_at};
+use crate::parts::{counts_at, messages_at, recs_at, stamps_at};
+use crate::rules::follows_edges;
+use crate::{Checkpoint, Event, Log, Record, RecordFault};
+use fw_bag::{Rec, Recs};
+use fw_flow::{EdgeId, NodeId, OfEdge, OfEdges, Recorded};
+use fw_frontier::{Entries, Front, SentCounts, State};
+use fw_time::Stamp;
+use std::alloc::Global;
+
+/// Four bytes that may be any number.
+fn any_u32(bytes: &[u8]) -> Result<(u32, &[u8]), ReadFault>
+    ensures { Gives (λ x. (x.0, x.1.now)) result (any bytes.now (number_of w32 bytes.now)) }
+{
+    match u32_at(bytes) {
+        Some(read) => Ok(read),
+        None => Err(ReadFault::Broken { left: bytes.len() }),
+    }
+}
+
+/// Eight bytes that may be any number.
+fn any_u64(bytes: &[u8]) -> Result<(u64, &[u8]), ReadFault>
+    ensures { Gives (λ x. (x.0, x.1.now)) result (any bytes.now (number_of w64 bytes.now)) }
+{
+    match u64_at(bytes) {
+        Some(read) => Ok(read),
+        None => Err(ReadFault::Broken { left: bytes.len() }),
+    }
+}
+
+/// Any stamp.
+fn any_stamp(bytes: &[u8]) -> Result<(Stamp, &[u8]), ReadFault>
+    ensures { Gives (λ x. (x.0, x.1.now)) result (any bytes.now (stamp_of bytes.now)) }
+{
+    match stamp_at(bytes) {
+        Some(read) => Ok(read),
+        None => Err(ReadFault::Broken { left: bytes.len() }),
+    }
+}
+
+/// A front: a count, and that many stamps.
+#[tactic(auto, unfolding(crate::specs::Reading::front_of))]
+fn front_at(alloc: Global, bytes: &[u8]) -> Result<(Front, &[u8]), ReadFault>
+    ensures { Gives (λ x. (x.0, x.1.now)) result (front_of bytes.now) }
+{
+    let (count, rest) = any_u32(bytes)?;
+    let (stamps, rest) = stamps_at(alloc, count, rest)?;
+    Ok((Front::of_outside(stamps), rest))
+}
+
+/// The next edge.
+fn next_edge<'a>(before: &[OfEdge], bytes: &'a [u8]) -> Result<(u32, &'a [u8]), ReadFault>
+    ensures { Gives (λ x. (x.0, x.1.now)) result
+        (kept_if (may_follow_edges before.now) bytes.now (number_of w32 bytes.now)) }
+{
+    match u32_at(bytes) {
+        Some((edge, rest)) if follows_edges(before, edge) => Ok((edge, rest)),
+        _ => Err(ReadFault::Broken { left: bytes.len() }),
+    }
+}
+
+/// The next edge and its front.
+#[tactic(auto, unfolding(crate::specs::Reading::of_edge_of))]
+fn next_of_edge<'a>(
+    alloc: Global,
+    before: &[OfEdge],
+    bytes: &'a [u8],
+) -> Result<(OfEdge, &'a [u8]), ReadFault>
+    ensures { Gives (λ x. (x.0, x.1.now)) result (of_edge_of before.now bytes.now) }
+{
+    let (edge, rest) = next_edge(before, bytes)?;
+    let (front, rest) = front_at(alloc, rest)?;
+    let edge = EdgeId::at(edge);
+    Ok((OfEdge { edge, front }, rest))
+}
+
+/// So many edges with their fronts.
+fn of_edges_from(alloc: Global, count: u32, bytes: &[u8]) -> Result<(Vec<OfEdge>, &[u8]), ReadFault>
+    ensures { Gives (λ x. (x.0.items, x.1.now)) result (many_of of_edge_of count [] bytes.now) }
+{
+    let mut parts = Vec::new(alloc);
+    let mut rest = bytes;
+    for _ in 0..count {
+        let (part, after) = next_of_edge(alloc, &parts, rest)?;
+        parts.push(part)?;
+        rest = after;
+    }
+    Ok((parts, rest))
+}
+
+/// A count, and that many edges with their fronts.
+#[tactic(auto, unfolding(crate::specs::Reading::of_edges_of))]
+fn of_edges_at(alloc: Global, bytes: &[u8]) -> Result<(OfEdges, &[u8]), ReadFault>
+    ensures { Gives (λ x. (x.0, x.1.now)) result (of_edges_of bytes.now) }
+{
+    let (count, rest) = any_u32(bytes)?;
+    let (fronts, rest) = of_edges_from(alloc, count, rest)?;
+    Ok((OfEdges::of(fronts), rest))
+}
+
+/// A count, and that many counts of what was sent.
+#[tactic(auto, unfolding(crate::specs::Reading::sent_counts_of))]
+fn sent_counts_at(alloc: Global, bytes: &[u8]) -> Result<(SentCounts, &[u8]), ReadFault>
+    ensures { Gives (λ x. (x.0, x.1.now)) result (sent_counts_of bytes.now) }
+{
+    let (count, rest) = any_u32(bytes)?;
+    let (counts, rest) = counts_at(alloc, count, rest)?;
+    Ok((SentCounts::of(counts), rest))
+}
+
+/// A count, and that many totals.
+#[tactic(auto, unfolding(crate::specs::Reading::totals_of))]
+fn totals_at(alloc: Global, bytes: &[u8]) -> Result<(Recs, &[u8]), ReadFault>
+    ensures { Gives (λ x. (x.0, x.1.now)) result (totals_of bytes.now) }
+{
+    let (count, rest) = any_u64(bytes)?;
+    let (totals, rest) = recs_at(alloc, count, rest)?;
+    Ok((Recs::of(totals), rest))
+}
+
+/// A node's table: how many messages it sent, how many from where, and its totals.
+#[tactic(auto, unfolding(crate::specs::Reading::state_of))]
+fn state_at(alloc: Global, bytes: &[u8]) -> Result<(State, &[u8]), ReadFault>
+    ensures { Gives (λ x. (x.0, x.1.now)) result (state_of bytes.now) }
+{
+    let (sent, rest) = any_u64(bytes)?;
+    let (sends, rest) = sent_counts_at(alloc, rest)?;
+    let (totals, rest) = totals_at(alloc, rest)?;
+    let entries = Entries::Totals(totals);
+    let state = State {
+        sent,
+        sends,
+        entries,
+    };
+    Ok((state, rest))
+}
+
+/// A count, and that many logged messages.
+#[tactic(auto, unfolding(crate::specs::Reading::log_of))]
+fn log_at(alloc: Global, bytes: &[u8]) -> Result<(Log, &[u8]), ReadFault>
+    ensures { Gives (λ x. (x.0, x.1.now)) result (log_of bytes.now) }
+{
+    let (count, rest) = any_u64(bytes)?;
+    let (messages, rest) = messages_at(alloc, count, rest)?;
+    Ok((Log::of(messages), rest))
+}
+
+/// A checkpoint: its node, the frontier, what it covers, the state and the log.
+#[tactic(auto, unfolding(crate::specs::Reading::checkpoint_of))]
+fn checkpoint_at(alloc: Global, bytes: &[u8]) -> Result<(Checkpoint, &[u8]), ReadFault>
+    ensures { Gives (λ x. (x.0, x.1.now)) result (checkpoint_of bytes.now) }
+{
+    let (node, rest) = any_u32(bytes)?;
+    let (front, rest) = front_at(alloc, rest)?;
+    let (notified, rest) = front_at(alloc, rest)?;
+    let (delivered, rest) = of_edges_at(alloc, rest)?;
+    let (discarded, rest) = of_edges_at(alloc, rest)?;
+    let (state, rest) = state_at(alloc, rest)?;
+    let (log, rest) = log_at(alloc, rest)?;
+    let recorded = Recorded {
+        front,
+        notified,
+        delivered,
+        discarded,
+    };
+    let checkpoint = Checkpoint {
+        node: NodeId::at(node),
+        recorded,
+        state,
+        log,
+    };
+    Ok((checkpoint, rest))
+}
+
+/// A key and a value, each a field.
+#[tactic(auto, unfolding(crate::specs::Reading::key_and_value_of))]
+fn key_and_value_at(bytes: &[u8]) -> Result<(Rec, &[u8]), ReadFault>
+    ensures { Gives (λ x. (x.0, x.1.now)) result (key_and_value_of bytes.now) }
+{
+    let (key, rest) = any_u64(bytes)?;
+    let (value, rest) = any_u64(rest)?;
+    Ok((Rec { key, value }, rest))
+}
+
+/// A delivery.
+#[tactic(auto, unfolding(crate::specs::Reading::delivery_of))]
+fn delivery_at(bytes: &[u8]) -> Result<(Event, &[u8]), ReadFault>
+    ensures { Gives (λ x. (x.0, x.1.now)) result (delivery_of bytes.now) }
+{
+    let (edge, rest) = any_u32(bytes)?;
+    let (at, rest) = any_stamp(rest)?;
+    let (rec, rest) = key_and_value_at(rest)?;
+    let edge = EdgeId::at(edge);
+    Ok((Event::Deliver { edge, at, rec }, rest))
+}
+
+/// A notification.
+#[tactic(auto, unfolding(crate::specs::Reading::notice_of))]
+fn notice_at(bytes: &[u8]) -> Result<(Event, &[u8]), ReadFault>
+    ensures { Gives (λ x. (x.0, x.1.now)) result (notice_of bytes.now) }
+{
+    let (at, rest) = any_stamp(bytes)?;
+    Ok((Event::Notify { at }, rest))
+}
+
+/// The byte that tells a delivery, 1, from a notification, 2.
+fn event_byte_at(bytes: &[u8]) -> Result<(u8, &[u8]), ReadFault>
+    ensures { Gives (λ x. (x.0, x.1.now)) result (kept_if is_event_byte bytes.now (byte_of bytes.now)) }
+{
+    match byte_at(bytes) {
+        Some((byte, rest)) if byte == DELIVERY || byte == NOTICE => Ok((byte, rest)),
+        _ => Err(ReadFault::Broken { left: bytes.len() }),
+    }
+}
+
+/// An event.
+#[tactic(auto, unfolding(crate::specs::Reading::event_of))]
+fn event_at(bytes: &[u8]) -> Result<(Event, &[u8]), ReadFault>
+    ensures { Gives (λ x. (x.0, x.1.now)) result (event_of bytes.now) }
+{
+    let (byte, rest) = event_byte_at(bytes)?;
+    if byte == DELIVERY {
+        delivery_at(rest)
+    } else {
+        notice_at(rest)
+    }
+}
+
+/// A node and one of its events.
+#[tactic(auto, unfolding(crate::specs::Reading::event_record_of))]
+fn event_record_at(bytes: &[u8]) -> Result<(Record, &[u8]), ReadFault>
+    ensures { Gives (λ x. (x.0, x.1.now)) result (event_record_of bytes.now) }
+{
+    let (node, rest) = any_u32(bytes)?;
+    let (event, rest) = event_at(rest)?;
+    let node = NodeId::at(node);
+    Ok((Record::Event { node, event }, rest))
+}
+
+/// A checkpoint as a record.
+#[tactic(auto, unfolding(crate::specs::Reading::state_record_of))]
+fn state_record_at(alloc: Global, bytes: &[u8]) -> Result<(Record, &[u8]), ReadFault>
+    ensures { Gives (λ x. (x.0, x.1.now)) result (state_record_of bytes.now) }
+{
+    let (checkpoint, rest) = checkpoint_at(alloc, bytes)?;
+    Ok((Record::State(checkpoint), rest))
+}
+
+/// The letters FW, one field.
+fn magic_at(bytes: &[u8]) -> Result<(u16, &[u8]), ReadFault>
+    ensures { Gives (λ x. (x.0, x.1.now)) result
+        (kept_if (λ m. m == 18007) bytes.now (number_of w16 bytes.now)) }
+{
+    match u16_at(bytes) {
+        Some((magic, rest)) if magic == MAGIC => Ok((magic, rest)),
+        _ => Err(ReadFault::Broken { left: bytes.len() }),
+    }
+}
+
+/// The version.
+fn version_at(bytes: &[u8]) -> Result<(u8, &[u8]), ReadFault>
+    ensures { Gives (λ x. (x.0, x.1.now)) result (kept_if (λ v. v == 1) bytes.now (byte_of bytes.now)) }
+{
+    match byte_at(bytes) {
+        Some((version, rest)) if version == VERSION => Ok((version, rest)),
+        _ => Err(ReadFault::Broken { left: bytes.len() }),
+    }
+}
+
+/// Whether a version has the tag.
+fn has_tag(version: u8, tag: u8) -> bool
+    ensures { result ≡ is_tag version tag }
+{
+    version == VERSION && (tag == CHECKPOINT || tag == EVENT)
+}
+
+/// A tag of the version.
+fn version_tag_at(version: u8, bytes: &[u8]) -> Result<(u8, &[u8]), ReadFault>
+    ensures { Gives (λ x. (x.0, x.1.now)) result (kept_if (is_tag version) bytes.now (byte_of bytes.now)) }
+{
+    match byte_at(bytes) {
+        Some((tag, rest)) if has_tag(version, tag) => Ok((tag, rest)),
+        _ => Err(ReadFault::Broken { left: bytes.len() }),
+    }
+}
+
+/// The head of a record: its tag, behind the letters and the version.
+#[tactic(auto, unfolding(crate::specs::Reading::tag_of))]
+fn tag_at(bytes: &[u8]) -> Result<(u8, &[u8]), ReadFault>
+    ensures { Gives (λ x. (x.0, x.1.now)) result (tag_of bytes.now) }
+{
+    let (_, rest) = magic_at(bytes)?;
+    let (version, rest) = version_at(rest)?;
+    version_tag_at(version, rest)
+}
+
+/// The record at the front of the bytes.
+#[tactic(auto, unfolding(crate::specs::Reading::record_of))]
+fn record_at(alloc: Global, bytes: &[u8]) -> Result<(Record, &[u8]), ReadFault>
+    ensures { Gives (λ x. (x.0, x.1.now)) result (record_of bytes.now) }
+{
+    let (tag, rest) = tag_at(bytes)?;
+    if tag == CHECKPOINT {
+        state_record_at(alloc, rest)
+    } else {
+        event_record_at(rest)
+    }
+}
+
+/// A record and no byte more.
+#[tactic(auto, unfolding(crate::specs::Reading::whole_of))]
+fn whole(alloc: Global, bytes: &[u8]) -> Result<Record, ReadFault>
+    ensures { Gives (λ r. r) result (whole_of bytes.now) }
+{
+    let (record, rest) = record_at(alloc, bytes)?;
+    if !rest.is_empty() {
+        return Err(ReadFault::Broken { left: rest.len() });
+    }
+    Ok(record)
+}
+
+/// The record that the bytes spell. It takes memory for what it read alone, whatever counts the bytes have.
+///
+/// # Errors
+///
+/// `BadRecord` where they spell none, with the place of the first broken field: one inside which the bytes end, or whose
+/// value breaks its rule. `NoMemory` where memory is refused, which may come at any time.
+pub fn decode(alloc: Global, bytes: &[u8]) -> Result<Record, RecordFault>
+    ensures found { IfOk result (λ r. IsSound r × (bytes.now ≡ spelling r)) }
+    ensures only { (r : Spelled) → IsSound r → bytes.now ≡ spelling r → IsOkOrNoMemory r result }
+    ensures exact { Decodes bytes.now result }
+{
+    match whole(alloc, bytes) {
+        Ok(record) => Ok(record),
+        Err(ReadFault::Broken { left }) => Err(RecordFault::BadRecord {
+            at: bytes.len() - left,
+        }),
+        Err(ReadFault::NoMemory) => Err(RecordFault::NoMemory),
+    }
+}

@@ -1,0 +1,39 @@
+//! What a record holds.
+use crate::Log;
+use fw_bag::Rec;
+use fw_flow::{EdgeId, NodeId, Recorded};
+use fw_frontier::State;
+use fw_time::Stamp;
+
+/// What a node's events inside a frontier made: from it the node is restored.
+///
+/// It may be one that has no spelling, as where a list is not in order: `IsCheckpoint` says which have one.
+#[derive(Debug, Drop)]
+pub struct Checkpoint {
+    /// The node.
+    pub node: NodeId,
+    /// The frontier, with what stands for the events inside.
+    pub recorded: Recorded,
+    /// The node's table.
+    pub state: State,
+    /// The messages that they sent and that may have to be sent again.
+    pub log: Log,
+}
+
+/// An event of a node.
+#[derive(Debug, PartialEq, Eq, Drop)]
+pub enum Event {
+    /// The rec was delivered on the edge.
+    Deliver { edge: EdgeId, at: Stamp, rec: Rec },
+    /// The node was notified of the stamp.
+    Notify { at: Stamp },
+}
+
+/// What a store keeps of a node.
+#[derive(Debug, Drop)]
+pub enum Record {
+    /// What its events inside a frontier made.
+    State(Checkpoint),
+    /// One of its events.
+    Event { node: NodeId, event: Event },
+}

@@ -1,0 +1,85 @@
+//! What may stand after what in a record.
+ghost use Rattle.std.specs.Prelude.{◌≡◌};
+ghost use Rattle.fw_record.specs.Sound.{stands_before, may_follow_stamps, may_follow_edges, may_follow_counts, may_follow_totals, may_follow_logged, logged_cmp};
+
+use crate::Logged;
+use fw_bag::Rec;
+use fw_flow::OfEdge;
+use fw_frontier::SentCount;
+use fw_time::Stamp;
+use std::cmp::Ordering;
+
+/// Whether one stamp may stand before another in a front.
+fn is_before(o: &Stamp, s: &Stamp) -> bool
+    ensures { result ≡ stands_before o.now s.now }
+{
+    o.len() == s.len() && o.compare(s).is_lt() && !(o.leq(s) || s.leq(o))
+}
+
+/// Whether a stamp may come next in a front.
+pub fn follows_stamps(before: &[Stamp], s: &Stamp) -> bool
+    ensures { result ≡ may_follow_stamps before.now s.now }
+{
+    for o in before {
+        if !is_before(o, s) {
+            return false;
+        }
+    }
+    true
+}
+
+/// Whether an edge may come next.
+pub fn follows_edges(before: &[OfEdge], edge: u32) -> bool
+    ensures { result ≡ may_follow_edges before.now edge }
+{
+    match before.last() {
+        None => true,
+        Some(last) => last.edge.place() < edge,
+    }
+}
+
+/// Whether a count of what was sent may come next.
+pub fn follows_counts(before: &[SentCount], next: &SentCount) -> bool
+    ensures { result ≡ may_follow_counts before.now next.now }
+{
+    if next.count == 0 {
+        return false;
+    }
+    match before.last() {
+        None => true,
+        Some(last) => last.cause.compare(&next.cause).is_lt(),
+    }
+}
+
+/// Whether a total may come next.
+pub fn follows_totals(before: &[Rec], next: &Rec) -> bool
+    ensures { result ≡ may_follow_totals before.now next.now }
+{
+    match before.last() {
+        None => true,
+        Some(last) => last.key < next.key,
+    }
+}
+
+/// The order of logged messages: by edge, stamp, causes and rec.
+fn compare_logged(x: &Logged, y: &Logged) -> Ordering
+    ensures { result ≡ logged_cmp x.now y.now }
+{
+    let (sent, other) = (&x.message, &y.message);
+    x.edge
+        .place()
+        .cmp(&y.edge.place())
+        .then(sent.at.compare(&other.at))
+        .then(sent.causes.cmp(&other.causes))
+        .then(sent.rec.cmp(&other.rec))
+}
+
+/// Whether a logged message may come next.
+pub fn follows_logged(before: &[Logged], next: &Logged) -> bool
+    ensures { result ≡ may_follow_logged before.now next.now }
+{
+    match before.last() {
+        None => true,
+        Some(last) => compare_logged(last, next).is_le(),
+    }
+}

@@ -1,0 +1,221 @@
+//! Writing records.
+ghost use Rattle.std.specs.Prelude.{◌≡◌, ◌++◌, OnOk, IfOk};
+ghost use Rattle.std.specs.List.{flat_map};
+ghost use Rattle.fw_record.specs.Spelling.{spelling, u32_bytes, u64_bytes, head_bytes, stamp_bytes, rec_bytes, front_bytes, of_edges_bytes, sent_counts_bytes, recs_bytes, entries_bytes, state_bytes, logged_bytes, log_bytes, checkpoint_bytes, delivery_bytes, event_bytes};
+
+use crate::codes::{CHECKPOINT, DELIVERY, EVENT, MAGIC, NOTICE, VERSION};
+use crate::{Checkpoint, Event, Logged, Record, size};
+use fw_bag::Rec;
+use fw_flow::{Causes, EdgeId, OfEdge};
+use fw_frontier::{Entries, Front, SentCount, State};
+use fw_time::Stamp;
+use std::alloc::{AllocError, Global};
+
+fn put_u32(out: &mut Vec<u8>, number: u32) -> Result<(), AllocError>
+    ensures { OnOk result (out.new.items ≡ out.old.items ++ u32_bytes number) }
+{
+    out.extend_from_slice(&number.to_be_bytes())?;
+    Ok(())
+}
+
+fn put_u64(out: &mut Vec<u8>, number: u64) -> Result<(), AllocError>
+    ensures { OnOk result (out.new.items ≡ out.old.items ++ u64_bytes number) }
+{
+    out.extend_from_slice(&number.to_be_bytes())?;
+    Ok(())
+}
+
+/// How many parts follow, in four bytes. A number that does not fit is answered as want of memory.
+fn put_count(out: &mut Vec<u8>, count: usize) -> Result<(), AllocError>
+    ensures { OnOk result (out.new.items ≡ out.old.items ++ u32_bytes count) }
+{
+    let Ok(count) = u32::try_from(count) else {
+        return Err(AllocError);
+    };
+    put_u32(out, count)
+}
+
+/// A stamp: the number of its coordinates, and these.
+fn put_stamp(out: &mut Vec<u8>, stamp: &Stamp) -> Result<(), AllocError>
+    ensures { OnOk result (out.new.items ≡ out.old.items ++ stamp_bytes stamp.now) }
+{
+    out.push(stamp.len() as u8)?;
+    for i in 0..stamp.len() {
+        put_u32(out, stamp.at(i))?;
+    }
+    Ok(())
+}
+
+fn put_rec(out: &mut Vec<u8>, rec: &Rec) -> Result<(), AllocError>
+    ensures { OnOk result (out.new.items ≡ out.old.items ++ rec_bytes rec.now) }
+{
+    put_u64(out, rec.key)?;
+    put_u64(out, rec.value)
+}
+
+/// A front: the number of its stamps outside, and these.
+fn put_front(out: &mut Vec<u8>, front: &Front) -> Result<(), AllocError>
+    ensures { OnOk result (out.new.items ≡ out.old.items ++ front_bytes front.now) }
+{
+    let stamps = front.outside();
+    put_count(out, stamps.len())?;
+    for stamp in stamps {
+        put_stamp(out, stamp)?;
+    }
+    Ok(())
+}
+
+/// Edges with their fronts, after their number.
+fn put_of_edges(out: &mut Vec<u8>, fronts: &[OfEdge]) -> Result<(), AllocError>
+    ensures { OnOk result (out.new.items ≡ out.old.items ++ of_edges_bytes fronts.now) }
+{
+    put_count(out, fronts.len())?;
+    for of_edge in fronts {
+        put_u32(out, of_edge.edge.place())?;
+        put_front(out, &of_edge.front)?;
+    }
+    Ok(())
+}
+
+/// Counts of what was sent, after their number.
+fn put_counts(out: &mut Vec<u8>, counts: &[SentCount]) -> Result<(), AllocError>
+    ensures { OnOk result (out.new.items ≡ out.old.items ++ sent_counts_bytes counts.now) }
+{
+    put_count(out, counts.len())?;
+    for sent in counts {
+        put_stamp(out, &sent.cause)?;
+        put_u64(out, sent.count)?;
+    }
+    Ok(())
+}
+
+/// Recs, after their number.
+fn put_recs(out: &mut Vec<u8>, recs: &[Rec]) -> Result<(), AllocError>
+    ensures { OnOk result (out.new.items ≡ out.old.items ++ recs_bytes recs.now) }
+{
+    put_u64(out, recs.len() as u64)?;
+    for rec in recs {
+        put_rec(out, rec)?;
+    }
+    Ok(())
+}
+
+/// What a node holds.
+fn put_entries(out: &mut Vec<u8>, entries: &Entries) -> Result<(), AllocError>
+    ensures { OnOk result (out.new.items ≡ out.old.items ++ entries_bytes entries.now) }
+{
+    match entries {
+        Entries::Totals(totals) => put_recs(out, totals.as_slice()),
+    }
+}
+
+/// A node's table.
+#[tactic(auto, unfolding(crate::specs::Spelling::state_bytes))]
+fn put_state(out: &mut Vec<u8>, state: &State) -> Result<(), AllocError>
+    ensures { OnOk result (out.new.items ≡ out.old.items ++ state_bytes state.now) }
+{
+    put_u64(out, state.sent)?;
+    put_counts(out, state.sends.as_slice())?;
+    put_entries(out, &state.entries)
+}
+
+/// Causes, one after the other: how many there are shows in the tag.
+fn put_causes(out: &mut Vec<u8>, causes: &Causes) -> Result<(), AllocError>
+    ensures { OnOk result (out.new.items ≡ out.old.items ++ flat_map stamp_bytes causes.now) }
+{
+    let stamps = causes.stamps();
+    for cause in stamps {
+        put_stamp(out, cause)?;
+    }
+    Ok(())
+}
+
+/// A logged message.
+#[tactic(auto, unfolding(crate::specs::Spelling::logged_bytes))]
+fn put_logged(out: &mut Vec<u8>, logged: &Logged) -> Result<(), AllocError>
+    ensures { OnOk result (out.new.items ≡ out.old.items ++ logged_bytes logged.now) }
+{
+    put_u32(out, logged.edge.place())?;
+    put_stamp(out, &logged.message.at)?;
+    put_causes(out, &logged.message.causes)?;
+    put_rec(out, &logged.message.rec)
+}
+
+/// Logged messages, after their number.
+fn put_log(out: &mut Vec<u8>, messages: &[Logged]) -> Result<(), AllocError>
+    ensures { OnOk result (out.new.items ≡ out.old.items ++ log_bytes messages.now) }
+{
+    put_u64(out, messages.len() as u64)?;
+    for message in messages {
+        put_logged(out, message)?;
+    }
+    Ok(())
+}
+
+/// A checkpoint, behind its head.
+fn put_checkpoint(out: &mut Vec<u8>, checkpoint: &Checkpoint) -> Result<(), AllocError>
+    ensures { OnOk result (out.new.items ≡ out.old.items ++ checkpoint_bytes checkpoint.now) }
+{
+    let recorded = &checkpoint.recorded;
+    put_u32(out, checkpoint.node.place())?;
+    put_front(out, &recorded.front)?;
+    put_front(out, &recorded.notified)?;
+    put_of_edges(out, recorded.delivered.as_slice())?;
+    put_of_edges(out, recorded.discarded.as_slice())?;
+    put_state(out, &checkpoint.state)?;
+    put_log(out, checkpoint.log.as_slice())
+}
+
+/// A delivery, behind its byte.
+fn put_delivery(out: &mut Vec<u8>, edge: EdgeId, at: &Stamp, rec: &Rec) -> Result<(), AllocError>
+    ensures { OnOk result (out.new.items ≡ out.old.items ++ delivery_bytes edge at.now rec.now) }
+{
+    put_u32(out, edge.place())?;
+    put_stamp(out, at)?;
+    put_rec(out, rec)
+}
+
+/// An event.
+fn put_event(out: &mut Vec<u8>, event: &Event) -> Result<(), AllocError>
+    ensures { OnOk result (out.new.items ≡ out.old.items ++ event_bytes event.now) }
+{
+    match event {
+        Event::Deliver { edge, at, rec } => {
+            out.push(DELIVERY)?;
+            put_delivery(out, *edge, at, rec)
+        }
+        Event::Notify { at } => {
+            out.push(NOTICE)?;
+            put_stamp(out, at)
+        }
+    }
+}
+
+/// The letters FW, the version and a tag.
+fn put_head(out: &mut Vec<u8>, tag: u8) -> Result<(), AllocError>
+    ensures { OnOk result (out.new.items ≡ out.old.items ++ head_bytes tag) }
+{
+    out.extend_from_slice(&MAGIC.to_be_bytes())?;
+    out.extend_from_slice(&[VERSION, tag])?;
+    Ok(())
+}
+
+/// The one spelling of a record. It asks for its memory once. The error is want of memory; a list of more parts than its
+/// count can say is answered so too.
+pub fn encode(alloc: Global, what: &Record) -> Result<Vec<u8>, AllocError>
+    ensures { IfOk result (λ bytes. bytes.items ≡ spelling what.now) }
+{
+    let mut out = Vec::with_capacity(alloc, size::of_record(what))?;
+    match what {
+        Record::State(checkpoint) => {
+            put_head(&mut out, CHECKPOINT)?;
+            put_checkpoint(&mut out, checkpoint)?;
+        }
+        Record::Event { node, event } => {
+            put_head(&mut out, EVENT)?;
+            put_u32(&mut out, node.place())?;
+            put_event(&mut out, event)?;
+        }
+    }
+    Ok(out)
+}

@@ -1,22 +1,19 @@
 -- What a lowering of a value finds: the greatest one that is left.
-use Rattle.std.proofs.Common.{◌≡◌, ℕ, ◌<◌, List, [], length, set, None, Some, Option, refl, sym, ap, subst, ◌∙◌}
-use Rattle.fw_time.specs.declared.stamp.Bounds.{Bounds}
-use Rattle.fw_frontier.specs.Frontier.{Frontier, Within, meet}
-use Rattle.fw_frontier.specs.Front.{Front, frontier_of, IsCanonical, IsFrontOf}
+use Rattle.std.proofs.Common.{◌≡◌, ℕ, List, set, None, Some, Option, refl, sym, ap, subst, ◌∙◌}
+use Rattle.fw_frontier.specs.Frontier.{Within, meet}
+use Rattle.fw_frontier.specs.Front.{Front, frontier_of, IsFrontOf}
 use Rattle.fw_flow.specs.declared.choice.Choice.{Choice}
 use Rattle.fw_flow.specs.declared.choice.Cut.{Cut}
 use Rattle.fw_flow.specs.declared.choice.Cut.TheVariants.{Present, At}
 use Rattle.fw_flow.specs.declared.choice.Offer.{Offer}
 use Rattle.fw_flow.specs.Dataflow.{Dataflow, bounds_of}
 use Rattle.fw_flow.specs.WellFormed.{IsWellFormed}
-use Rattle.fw_model.specs.Machine.{front_of}
 use Rattle.fw_model.specs.Choice.{cut_of, notice_of, IsCutWithin}
-use Rattle.fw_model.specs.Offers.{AreAscending}
 use Rattle.fw_monitor.specs.declared.side.Side.{Side}
 use Rattle.fw_monitor.specs.declared.side.Limit.{Limit}
 use Rattle.fw_monitor.specs.declared.side.Inclusion.TheVariants.{OfCut, OfNote}
-use Rattle.fw_monitor.specs.Descent.{choice_of, owner, side_bounds, right_of, IsOfFlow, IsLeft, IsLower, IsLowered, IsNoticeLowered, IsConsistentOf, EnclosesConsistent, HasConsistent}
-use Rattle.fw_monitor.specs.Inclusions.{Holds, note_node, limit_of, IsLimitOf}
+use Rattle.fw_monitor.specs.Descent.{choice_of, owner, side_bounds, right_of, IsOfFlow, IsLeft, IsLower, IsLowered, IsNoticeLowered, EnclosesConsistent, HasConsistent}
+use Rattle.fw_monitor.specs.Inclusions.{note_node, limit_of, IsLimitOf}
 use Rattle.fw_monitor.specs.Trail.{IsCutLeft, IsValueLeft, IsGreatestLeft}
 use Rattle.fw_monitor.specs.Tests.{IsLowering, IsTested}
 use Rattle.fw_monitor.proofs.DescentLaws.{owner-there, node-there, lighter_cut, lighter_notice, consistent_left, value_encloses}

@@ -14,11 +14,10 @@ use Rattle.fw_flow.specs.Dataflow.{Dataflow, bounds_of}
 use Rattle.fw_model.specs.Machine.{front_of}
 use Rattle.fw_model.specs.Choice.{cut_of, IsCutWithin}
 use Rattle.fw_model.specs.Covers.{set_of}
-use Rattle.fw_model.specs.Offers.{IsOffered}
 use Rattle.fw_model.proofs.ChoiceLaws.{same_fronts}
 use Rattle.fw_monitor.specs.declared.side.Inclusion.{Inclusion}
 use Rattle.fw_monitor.specs.declared.side.Inclusion.TheVariants.{OfCut, OfNote}
-use Rattle.fw_monitor.specs.Descent.{choice_of, owner, IsCanonicalCut, HasConsistent, IsGreatest}
+use Rattle.fw_monitor.specs.Descent.{choice_of, IsCanonicalCut, HasConsistent, IsGreatest}
 use Rattle.fw_monitor.specs.Inclusions.{Holds, node_of, inclusions}
 use Rattle.fw_monitor.specs.Trail.{IsFirstFailing, IsValueLeft, IsGreatestLeft, with_value, lowering_of, IsLoweredBy, Leads, IsStart, TrailIsOne}
 

@@ -4,7 +4,6 @@ use Rattle.std.specs.List.{AllByRecursion}
 use Rattle.std.proofs.lemmas.Bool.{cases_lt, eqb-false}
 use Rattle.std.proofs.lemmas.List.{get_or_read, drop_all}
 use Rattle.fw_frontier.specs.Front.{Front, IsCanonical, IsFrontOf}
-use Rattle.fw_flow.specs.declared.choice.Choice.{Choice}
 use Rattle.fw_flow.specs.declared.choice.Cut.{Cut}
 use Rattle.fw_flow.specs.declared.choice.Cut.TheVariants.{Present, At}
 use Rattle.fw_flow.specs.declared.choice.Recorded.{Recorded}
@@ -13,7 +12,7 @@ use Rattle.fw_flow.specs.Dataflow.{Dataflow, bounds_of}
 use Rattle.fw_model.specs.Machine.{front_of}
 use Rattle.fw_model.specs.Choice.{cut_of, IsCutWithin}
 use Rattle.fw_model.specs.Covers.{set_of}
-use Rattle.fw_model.specs.Offers.{IsListed, IsBetween, IsOffered, Ascend, AreAscending, IsRangeOf, IsRecordOf, can_stay, records_of, range_of, AreOffersOf}
+use Rattle.fw_model.specs.Offers.{IsListed, IsBetween, IsOffered, Ascend, IsRangeOf, IsRecordOf, can_stay, records_of, range_of, AreOffersOf}
 use Rattle.fw_monitor.specs.Descent.{choice_of, IsCanonicalCut, EnclosesConsistent, IsGreatest}
 use Rattle.fw_model.proofs.OfferLaws.{below_last, listed-there, between-offered, offered-between}
 use Rattle.fw_monitor.proofs.DescentLaws.{set-monotone}

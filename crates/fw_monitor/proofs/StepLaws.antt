@@ -11,7 +11,7 @@ use Rattle.fw_flow.specs.declared.choice.Cut.TheVariants.{At}
 use Rattle.fw_flow.specs.declared.choice.Offer.{Offer}
 use Rattle.fw_flow.specs.Dataflow.{Dataflow, sender, receiver, bounds_of}
 use Rattle.fw_model.specs.Machine.{front_of}
-use Rattle.fw_model.specs.Choice.{cut_of, kept_of}
+use Rattle.fw_model.specs.Choice.{cut_of}
 use Rattle.fw_model.specs.Covers.{set_of}
 use Rattle.fw_model.specs.Offers.{arrived_from}
 use Rattle.fw_monitor.specs.declared.side.Side.{Side}

@@ -59,14 +59,14 @@ taken_held flow offers i choice next trail waiting steps more l each w one (same
       rest = λ e j k. cleared-rest flow waiting i j there k;
     }
 
-pub taken_lowered : (flow : Dataflow) (offers : List Offer) (i : Inclusion) (choice next : Choice) (to : Cut) (trail more_trail : List Lowering) (waiting left : List Bool) (steps more : ℕ) → IsWellFormed flow
+pub taken_lowered : (flow : Dataflow) (offers : List Offer) (i : Inclusion) (choice next : Choice) (to : Cut) (l : Lowering) (trail more_trail : List Lowering) (waiting left : List Bool) (steps more : ℕ) → IsWellFormed flow
     → IsInclusionOf flow i → IsNext flow waiting i → waits flow waiting i ≡ true → more ≤ steps + 1 → IsTested flow offers i choice next (Some to)
-    → more_trail ≡ trail ++ lowering_of flow i to ∷ []
+    → l ≡ lowering_of flow i to → more_trail ≡ trail ++ l ∷ []
     → ArePut flow (after flow i) (set waiting (number flow i) false) left
     → IsTaken flow offers i choice next trail more_trail waiting left steps more true
-taken_lowered flow offers i choice next to trail more_trail waiting left steps more well l n w one low is put = record {
-  going = λ before g. subst (λ t. IsGoing flow offers next t left before more) (sym is)
-      (going_lowered flow offers i choice next to trail waiting left before steps more well l n w one low put g);
+taken_lowered flow offers i choice next to l trail more_trail waiting left steps more well there n w one low told is put = record {
+  going = λ before g. subst (λ t. IsGoing flow offers next t left before more) (sym (is ∙ ap (λ x. trail ++ x ∷ []) told))
+      (going_lowered flow offers i choice next to trail waiting left before steps more well there n w one low put g);
   fewer = λ e. low.fewer;
   same = λ e. absurd (cc);
   taken = λ e. absurd (cc);

@@ -1,9 +1,9 @@
 -- What one test of a descent keeps: what does not wait holds, and the trail leads to the choice.
-use Rattle.std.proofs.Common.{◌≡◌, ◌⊎◌, ℕ, ◌+◌, ◌*◌, ◌<◌, ◌≤◌, Bool, true, false, ◌||◌, ◌==◌, List, [], ◌∷◌, ◌++◌, length, set, refl, sym, ap, subst, ◌∙◌, inl, inr, arith}
+use Rattle.std.proofs.Common.{◌≡◌, ℕ, ◌+◌, ◌*◌, ◌<◌, ◌≤◌, Bool, true, false, ◌||◌, ◌==◌, List, [], ◌∷◌, ◌++◌, length, set, refl, sym, ap, subst, ◌∙◌, inl, inr, arith}
 use Rattle.std.specs.List.{AllByRecursion}
 use Rattle.std.proofs.lemmas.Bool.{eqb-false, eq-eqb, both_ways, cases_Bool}
 use Rattle.std.proofs.lemmas.List.{get_or-set_same, get_or-set_other, length-set}
-use Rattle.fw_time.proofs.EachLaws.{each-weaker, each-prefix, each-both, each-suffix}
+use Rattle.fw_time.proofs.EachLaws.{each-weaker, each-prefix, each-both}
 use Rattle.fw_frontier.specs.Front.{frontier_of}
 use Rattle.fw_flow.specs.declared.choice.Choice.{Choice}
 use Rattle.fw_flow.specs.declared.choice.Cut.{Cut}
@@ -20,7 +20,7 @@ use Rattle.fw_monitor.specs.declared.side.Limit.TheVariants.{Own, Note}
 use Rattle.fw_monitor.specs.declared.side.Inclusion.{Inclusion}
 use Rattle.fw_monitor.specs.declared.side.Inclusion.TheVariants.{OfCut, OfNote}
 use Rattle.fw_monitor.specs.Descent.{owner, HasConsistent}
-use Rattle.fw_monitor.specs.Inclusions.{Holds, IsInclusionOf, note_node, node_of, may_break, number, waits, after, inclusions, ArePut}
+use Rattle.fw_monitor.specs.Inclusions.{Holds, IsInclusionOf, note_node, node_of, may_break, number, waits, after, ArePut}
 use Rattle.fw_monitor.specs.Trail.{IsFirstFailing, IsValueLeft, with_value, lowering_of, IsLoweredBy, Leads, tests_after, degree}
 use Rattle.fw_monitor.specs.Tests.{IsLowering, IsGoing, IsNext}
 use Rattle.fw_monitor.proofs.BreakLaws.{cut_spares, note_spares}

@@ -1,9 +1,9 @@
 -- Which inclusions a dataflow has, their numbers, those that a lowering can break, and the flags of those that wait.
-use Rattle.std.proofs.Common.{◌≡◌, ◌⊎◌, ℕ, zero, suc, ◌+◌, ◌*◌, ◌<◌, ◌≤◌, Bool, true, false, ◌==◌, List, [], ◌∷◌, ◌++◌, length, map, take, drop, set, get_or, refl, sym, ap, subst, ◌∙◌, inl, inr, arith}
+use Rattle.std.proofs.Common.{◌≡◌, ◌⊎◌, ℕ, zero, suc, ◌+◌, ◌*◌, ◌<◌, ◌≤◌, Bool, true, false, ◌==◌, List, [], ◌∷◌, ◌++◌, length, map, take, set, get_or, refl, sym, ap, subst, ◌∙◌, inl, inr, arith}
 use Rattle.std.specs.List.{AllByRecursion}
 use Rattle.std.proofs.Math.Seq.{take-suc}
 use Rattle.std.proofs.lemmas.Bool.{eqb-true, or_cases, cases_eq}
-use Rattle.std.proofs.lemmas.List.{append_assoc, get_or-set_same, get_or-set_other, get_or_past, length-append, length-map, length-set}
+use Rattle.std.proofs.lemmas.List.{append_assoc, get_or-set_same, get_or-set_other, length-append, length-map, length-set}
 use Rattle.fw_time.proofs.EachLaws.{each-weaker, each-append, each-prefix, each-suffix, each-map, each_of-map}
 use Rattle.fw_flow.specs.Dataflow.{Dataflow, sender, receiver, in_edges, out_edges}
 use Rattle.fw_flow.specs.WellFormed.{IsWellFormed}

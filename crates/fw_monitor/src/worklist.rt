@@ -34,11 +34,7 @@ fn add_of_node(flow: &Flow, node: NodeId, all: &mut Vec<Inclusion>) -> Result<()
 }
 
 /// Adds the inclusions that say this of each of the edges. The error is want of memory.
-fn add_on_edges(
-    edges: &[EdgeId],
-    what: OnEdge,
-    all: &mut Vec<Inclusion>,
-) -> Result<(), AllocError>
+fn add_on_edges(edges: &[EdgeId], what: OnEdge, all: &mut Vec<Inclusion>) -> Result<(), AllocError>
     ensures { IfOk result (λ u. all.new.items ≡ all.old.items ++ map (spec.on_edge what) edges.now) }
 {
     for edge in edges {

@@ -1,4 +1,4 @@
-use Rattle.std.proofs.Common.{true, false, [], ◌∷◌, ◌++◌, set, sym, ap, subst, ◌∙◌, arith}
+use Rattle.std.proofs.Common.{true, false, set, sym, subst, ◌∙◌, arith}
 use Rattle.std.specs.List.{AllByRecursion}
 use Rattle.fw_monitor.specs.Descent.{choice_of}
 use Rattle.fw_monitor.specs.Inclusions.{IsInclusionOf, number, ArePut}
@@ -45,5 +45,5 @@ returns-in_ok-push-in-Some g c =
     let w = flag_read flow waiting i c.number-number.result c.index.result.now true c.number-number.ensures c.requires.there c.requires.one_each c.index.ensures (c.if-not-index.false) in
     let put = subst (λ xs. ArePut flow xs (set waiting (number flow i) false) left) (c.deref.ensures.value ∙ c.in_ok-broken-in-Some.ensures)
     (subst (λ n. ArePut flow c.deref.result.now (set waiting n false) left) c.number-number.ensures c.put_all.ensures) in
-    taken_lowered flow offers i old new c.in-Some.to trail c.push.new.self.items waiting left steps c.tick.new.self c.flow_is_well_formed.ensures
-    c.requires.there c.requires.next w (omega arith) (subst (IsTested flow offers i old new) c.in-Some.is c.in_ok-value.ensures) (c.in_ok-push-in-Some.ensures.items ∙ ap (λ l. trail ++ l ∷ []) c.lowering_of.ensures) put
+    taken_lowered flow offers i old new c.in-Some.to c.lowering_of.result trail c.push.new.self.items waiting left steps c.tick.new.self c.flow_is_well_formed.ensures
+    c.requires.there c.requires.next w (omega arith) (subst (IsTested flow offers i old new) c.in-Some.is c.in_ok-value.ensures) c.lowering_of.ensures c.in_ok-push-in-Some.ensures.items put

@@ -26,6 +26,8 @@ mod restoring;
 mod sent_table;
 mod sources;
 mod step;
+mod steps;
+mod trail;
 mod walks;
 
 pub use builder::{BuildFault, FlowBuilder};
@@ -41,3 +43,5 @@ pub use raw::{Declaration, Declared, RawFlow, RawKind};
 pub use restoring::Restoring;
 pub use sent_table::SentTable;
 pub use step::{Nodes, Step};
+pub use steps::Steps;
+pub use trail::{Cause, Lowering, Part, Trail};

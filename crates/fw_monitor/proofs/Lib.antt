@@ -1,4 +1,5 @@
 pub mod ArrivedLaws
+pub mod BreakLaws
 pub mod CoverLaws
 pub mod CutDownLaws
 pub mod DescentLaws
@@ -9,8 +10,14 @@ pub mod HeldLaws
 pub mod LastLaws
 pub mod LookUpLaws
 pub mod LowerLaws
+pub mod LoweringLaws
+pub mod OneTrailLaws
 pub mod PassLaws
 pub mod RecordLaws
 pub mod StartLaws
 pub mod StepLaws
+pub mod TestLaws
+pub mod TrailEndLaws
+pub mod TrailLaws
 pub mod WayLaws
+pub mod WorklistLaws

@@ -11,15 +11,10 @@ use Rattle.fw_flow.specs.Dataflow.{Dataflow, bounds_of}
 use Rattle.fw_model.specs.Choice.{IsCutWithin}
 use Rattle.fw_model.proofs.OfferLaws.{not_listed, listed-there, below_last, between-offered, offered-between}
 use Rattle.fw_monitor.specs.declared.side.Side.{Side}
-use Rattle.fw_model.specs.Offers.{IsListed, IsBetween, IsOffered, Ascend, records_of, range_of}
-use Rattle.fw_monitor.specs.Descent.{owner, side_bounds, left_of, IsLeft, IsLower, IsCutDown}
+use Rattle.fw_model.specs.Offers.{IsListed, IsBetween, IsOffered, Ascend, AreAscending, records_of, range_of}
+use Rattle.fw_monitor.specs.Descent.{owner, side_bounds, left_of, IsLeft, IsBelow, Fits, IsLower, IsCutDown}
 
 -- ---- records
-
--- a record's frontier is within a cut, and the side in it within the bound
-abbrev pub Fits : Dataflow → List Offer → Side → Cut → Front → Recorded → Type 0
-Fits flow offers side cut bound r =
-    IsCutWithin flow (owner flow side) (At r.front) cut × Within (left_of flow offers side (At r.front)) (frontier_of (side_bounds flow side) bound)
 
 others_fail : (flow : Dataflow) (offers : List Offer) (side : Side) (cut : Cut) (bound : Front) (f : Front) (post : List Recorded)
     → IsCutWithin flow (owner flow side) (At f) cut → Within (left_of flow offers side (At f)) (frontier_of (side_bounds flow side) bound)
@@ -41,27 +36,29 @@ present-within flow p (At g) w = absurd w
 pub lower_listed : (flow : Dataflow) (offers : List Offer) (side : Side) (cut : Cut) (bound : Front) (pre : List Recorded) (r : Recorded) (post : List Recorded)
     → owner flow side < length flow.nodes → IsCanonical (bounds_of flow (owner flow side)) r.front
     → records_of offers (owner flow side) ≡ pre ++ r ∷ post → range_of offers (owner flow side) ≡ None
-    → (Within (left_of flow offers side cut) (frontier_of (side_bounds flow side) bound) → ⊥)
-    → Fits flow offers side cut bound r → AllByRecursion (λ s. Fits flow offers side cut bound s → ⊥) post
+    → (Within (left_of flow offers side cut) (frontier_of (side_bounds flow side) bound) → ⊥) → IsBelow flow (owner flow side) r.front cut
+    → (AreAscending flow offers → Fits flow offers side cut bound r × AllByRecursion (λ s. Fits flow offers side cut bound s → ⊥) post)
     → IsLower flow offers side cut bound (At r.front)
-lower_listed flow offers side cut bound pre r post l c is none fails fits others =
+lower_listed flow offers side cut bound pre r post l c is none fails below last =
     let p = owner flow side in
     let b = bounds_of flow p in
     record {
+      fails = fails;
       canonical = c;
-      within = fits.0;
-      other = λ e. fails (subst (λ x. Within (left_of flow offers side x) (frontier_of (side_bounds flow side) bound)) e fits.1);
+      within = below.0;
+      other = below.1;
+      passes = λ ascending. (last ascending).0.1;
       largest = λ ascending offered x left.
           let here : IsListed r.front (records_of offers p) = subst (IsListed r.front) (sym is) (listed-there pre r post) in
-          ((c, inl here), at x left.offered left.within left.passes (subst (Ascend b) is (ascending p l)));
+          ((c, inl here), at x left.offered left.within left.passes (last ascending).1 (subst (Ascend b) is (ascending p l)));
     }
   where
     at : (x : Cut) → IsOffered flow offers (owner flow side) x → IsCutWithin flow (owner flow side) x cut
-        → Within (left_of flow offers side x) (frontier_of (side_bounds flow side) bound) → Ascend (bounds_of flow (owner flow side)) (pre ++ r ∷ post)
-        → IsCutWithin flow (owner flow side) x (At r.front)
-    at Present offered within passes ascending =
+        → Within (left_of flow offers side x) (frontier_of (side_bounds flow side) bound) → AllByRecursion (λ s. Fits flow offers side cut bound s → ⊥) post
+        → Ascend (bounds_of flow (owner flow side)) (pre ++ r ∷ post) → IsCutWithin flow (owner flow side) x (At r.front)
+    at Present offered within passes others ascending =
         absurd (fails (subst (λ x. Within (left_of flow offers side x) (frontier_of (side_bounds flow side) bound)) (sym (present-within flow (owner flow side) cut within)) passes))
-    at (At f) offered within passes ascending = elim (offered.1) [
+    at (At f) offered within passes others ascending = elim (offered.1) [
       | inl i ↦ below_last (bounds_of flow (owner flow side)) pre r post f ascending (subst (IsListed f) is i) (others_fail flow offers side cut bound f post within passes others)
       | inr j ↦ absurd (subst (λ o. IsBetween (bounds_of flow (owner flow side)) o f) none j)
     ]
@@ -89,9 +86,11 @@ pub lower_range : (flow : Dataflow) (offers : List Offer) (side : Side) (front b
     → (Within (left_of flow offers side (At front)) (frontier_of (side_bounds flow side) bound) → ⊥)
     → IsLower flow offers side (At front) bound (At f)
 lower_range flow offers side front bound f least greatest is down fails = record {
+  fails = fails;
   canonical = down.canonical;
   within = down.within;
   other = λ e. fails (subst (λ x. Within (left_of flow offers side x) (frontier_of (side_bounds flow side) bound)) e down.passes);
+  passes = λ ascending. down.passes;
   largest = λ ascending offered x left. at x offered left.offered left.within left.passes;
 }
   where
@@ -112,9 +111,11 @@ pub lower_present : (flow : Dataflow) (offers : List Offer) (side : Side) (bound
     → (Within (left_of flow offers side Present) (frontier_of (side_bounds flow side) bound) → ⊥)
     → IsLower flow offers side Present bound (At f)
 lower_present flow offers side bound f least greatest is down fails = record {
+  fails = fails;
   canonical = down.canonical;
   within = tt;
   other = λ e. absurd (cc);
+  passes = λ ascending. down.passes;
   largest = λ ascending offered x left. at x left.offered left.passes;
 }
   where

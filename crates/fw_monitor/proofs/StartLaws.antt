@@ -4,19 +4,18 @@ use Rattle.std.specs.List.{AllByRecursion}
 use Rattle.std.proofs.lemmas.Bool.{cases_lt, eqb-false}
 use Rattle.std.proofs.lemmas.List.{get_or_read, drop_all}
 use Rattle.fw_frontier.specs.Front.{Front, IsCanonical, IsFrontOf}
-use Rattle.fw_flow.specs.declared.choice.Choice.{Choice}
 use Rattle.fw_flow.specs.declared.choice.Cut.{Cut}
 use Rattle.fw_flow.specs.declared.choice.Cut.TheVariants.{Present, At}
 use Rattle.fw_flow.specs.declared.choice.Recorded.{Recorded}
 use Rattle.fw_flow.specs.declared.choice.Offer.{Offer}
 use Rattle.fw_flow.specs.Dataflow.{Dataflow, bounds_of}
 use Rattle.fw_model.specs.Machine.{front_of}
-use Rattle.fw_model.specs.Choice.{cut_of, IsCutWithin, IsLargestBy}
+use Rattle.fw_model.specs.Choice.{cut_of, IsCutWithin}
 use Rattle.fw_model.specs.Covers.{set_of}
-use Rattle.fw_model.specs.Offers.{IsListed, IsBetween, IsOffered, Ascend, AreAscending, IsRangeOf, IsRecordOf, can_stay, records_of, range_of, AreOffersOf, covers_of}
-use Rattle.fw_monitor.specs.Descent.{choice_of, IsCanonicalCut, IsConsistentOf, EnclosesConsistent, IsGreatest, IsDescent, HasConsistent}
+use Rattle.fw_model.specs.Offers.{IsListed, IsBetween, IsOffered, Ascend, IsRangeOf, IsRecordOf, can_stay, records_of, range_of, AreOffersOf}
+use Rattle.fw_monitor.specs.Descent.{choice_of, IsCanonicalCut, EnclosesConsistent, IsGreatest}
 use Rattle.fw_model.proofs.OfferLaws.{below_last, listed-there, between-offered, offered-between}
-use Rattle.fw_monitor.proofs.DescentLaws.{set-monotone, largest_of}
+use Rattle.fw_monitor.proofs.DescentLaws.{set-monotone}
 use Rattle.fw_monitor.proofs.CutDownLaws.{split_at}
 
 pub greatest_between : (flow : Dataflow) (offers : List Offer) (p : ℕ) (r : Bool) (greatest f : Front) → AreOffersOf flow offers → p < length flow.nodes → r ≡ false → r ≡ can_stay offers p
@@ -140,11 +139,3 @@ start_encloses flow offers cuts notices one each greatest kept = record {
   };
   offered = λ a other k p l. ((greatest p l).largest a (cut_of other p) (k.offered p l)).0;
 }
-
--- ---- the end
-
-pub largest_end : (flow : Dataflow) (offers : List Offer) (choice some : Choice) → IsDescent flow offers choice false → AreAscending flow offers
-    → IsConsistentOf flow offers some → IsLargestBy flow (covers_of flow offers) (IsOffered flow offers) choice
-largest_end flow offers choice some d a k =
-    let has : HasConsistent flow offers = (a, (some, k)) in
-    largest_of flow offers choice d.encloses has (d.edges refl has) (d.nodes refl has)

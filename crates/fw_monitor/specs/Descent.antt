@@ -1,6 +1,6 @@
--- For the proofs of src/descent.rt, and of start, passes, lower and offers beside it: the descent to the largest choice, what
--- it lowers and what it keeps.
-use Rattle.std.specs.Prelude.{◌≡◌, ◌≢◌, ℕ, ◌+◌, ◌<◌, Bool, true, false, ◌==◌, if◌then◌else◌, List, [], ◌∷◌, length, set, Option, Some, None}
+-- The sides of the nodes' cuts, and for the proofs of src/descent.rt, and of start, passes, lower and offers beside it, what a
+-- descent to the largest choice lowers and what it keeps.
+use Rattle.std.specs.Prelude.{◌≡◌, ◌≢◌, ℕ, ◌+◌, ◌<◌, ◌==◌, if◌then◌else◌, List, [], ◌∷◌, length, set, Option, Some, None}
 use Rattle.fw_time.specs.declared.stamp.Bounds.{Bounds}
 use Rattle.fw_frontier.specs.Frontier.{Frontier, Within, nothing, everything, meet}
 use Rattle.fw_frontier.specs.Front.{Front, frontier_of, IsCanonical, IsFrontOf}
@@ -10,13 +10,15 @@ use Rattle.fw_flow.specs.declared.choice.Cut.TheVariants.{Present, At}
 use Rattle.fw_flow.specs.declared.choice.OfEdge.{OfEdge}
 use Rattle.fw_flow.specs.declared.choice.Recorded.{Recorded}
 use Rattle.fw_flow.specs.declared.choice.Offer.{Offer}
+use Rattle.fw_flow.specs.declared.restoring.Restoring.TheVariants.{Checkpoints}
+use Rattle.fw_flow.specs.Restoring.{way_of}
 use Rattle.fw_flow.specs.Dataflow.{Dataflow, sender, receiver, bounds_of, node_frontier}
 use Rattle.fw_model.specs.Machine.{front_of}
-use Rattle.fw_model.specs.Choice.{cut_of, notice_of, kept_of, IsNoticeKept, NoticeComesFromSender, IsConsistentBy, IsCutWithin, IsChoiceWithin}
+use Rattle.fw_model.specs.Choice.{cut_of, notice_of, kept_of, IsConsistentBy, IsCutWithin, IsChoiceWithin}
 use Rattle.fw_monitor.specs.declared.side.Side.{Side}
 use Rattle.fw_monitor.specs.declared.side.Side.TheVariants.{Delivered, Discarded, Notified}
 use Rattle.fw_monitor.specs.Held.{held_count, sum_below}
-use Rattle.fw_model.specs.Offers.{IsOffered, AreAscending, recorded_delivered, recorded_discarded, recorded_notified, arrived_from, covers_of}
+use Rattle.fw_model.specs.Offers.{IsOffered, AreAscending, records_of, record_at, recorded_delivered, recorded_discarded, recorded_notified, arrived_from, covers_of}
 
 -- these cuts and notification frontiers
 abbrev pub choice_of : List Cut → List Front → Choice
@@ -62,6 +64,10 @@ recorded_left bounds (Delivered d) r = recorded_delivered bounds d r
 recorded_left bounds (Discarded e) r = recorded_discarded bounds e r
 recorded_left bounds (Notified p) r = recorded_notified bounds r
 
+-- the record is the first one of the frontier, if the node is restored by its records
+abbrev pub IsRecordAt : Dataflow → List Offer → ℕ → Front → Option Recorded → Type 0
+IsRecordAt flow offers p f r = way_of flow p ≡ Checkpoints → r ≡ record_at f (records_of offers p)
+
 -- what it is in a cut
 abbrev pub left_of : Dataflow → List Offer → Side → Cut → Frontier
 left_of flow offers (Delivered d) cut = (covers_of flow offers).delivered d cut
@@ -78,17 +84,6 @@ right_of flow offers (Notified p) choice = notice_of flow choice p
 abbrev pub IsMet : Dataflow → List Offer → Choice → Side → Type 0
 IsMet flow offers choice side = Within (left_of flow offers side (cut_of choice (owner flow side))) (right_of flow offers side choice)
 
--- all that speaks of an edge is met
-pub record IsMetAtEdge (flow : Dataflow) (offers : List Offer) (choice : Choice) (e : ℕ) : Type 0 where
-  pub delivered : IsMet flow offers choice (Delivered e)
-  pub discarded : IsMet flow offers choice (Discarded e)
-  pub notice : NoticeComesFromSender flow (covers_of flow offers) choice e
-
--- all that speaks of a node alone is met
-pub record IsMetAtNode (flow : Dataflow) (offers : List Offer) (choice : Choice) (p : ℕ) : Type 0 where
-  pub notified : IsMet flow offers choice (Notified p)
-  pub own : IsNoticeKept flow choice p
-
 -- the frontier of a cut is canonical, if it has one
 abbrev pub IsCanonicalCut : Bounds → Cut → Type 0
 IsCanonicalCut bounds Present = Unit {0}
@@ -100,11 +95,22 @@ pub record IsLeft (flow : Dataflow) (offers : List Offer) (side : Side) (cut : C
   pub within : IsCutWithin flow (owner flow side) x cut
   pub passes : Within (left_of flow offers side x) (frontier_of (side_bounds flow side) bound)
 
--- a lower cut, within which lies each that is left; it is offered if one is left
+-- a frontier lies strictly within a cut of its node
+abbrev pub IsBelow : Dataflow → ℕ → Front → Cut → Type 0
+IsBelow flow p f cut = IsCutWithin flow p (At f) cut × (At f ≢ cut)
+
+-- a record's frontier lies within a cut, and the side in it within a bound
+abbrev pub Fits : Dataflow → List Offer → Side → Cut → Front → Recorded → Type 0
+Fits flow offers side cut bound r =
+    IsCutWithin flow (owner flow side) (At r.front) cut × Within (left_of flow offers side (At r.front)) (frontier_of (side_bounds flow side) bound)
+
+-- a lower cut in place of one that fails, within which lies each that is left; it is offered if one is left
 pub record IsLower (flow : Dataflow) (offers : List Offer) (side : Side) (cut : Cut) (bound : Front) (new : Cut) : Type 0 where
+  pub fails : Within (left_of flow offers side cut) (frontier_of (side_bounds flow side) bound) → ⊥
   pub canonical : IsCanonicalCut (bounds_of flow (owner flow side)) new
   pub within : IsCutWithin flow (owner flow side) new cut
   pub other : new ≢ cut
+  pub passes : AreAscending flow offers → Within (left_of flow offers side new) (frontier_of (side_bounds flow side) bound)
   pub largest : AreAscending flow offers → IsOffered flow offers (owner flow side) cut → (x : Cut) → IsLeft flow offers side cut bound x
       → IsOffered flow offers (owner flow side) new × IsCutWithin flow (owner flow side) x new
 
@@ -155,40 +161,13 @@ node_weight flow choice p = cut_weight (bounds_of flow p) (cut_of choice p) + he
 unfoldable pub weight : Dataflow → Choice → ℕ
 weight flow choice = sum_below (length flow.nodes) (node_weight flow choice)
 
--- one step of the descent: the choice is the same, or a lower one
-pub record IsStep (flow : Dataflow) (offers : List Offer) (old new : Choice) (lowered : Bool) : Type 0 where
-  pub encloses : EnclosesConsistent flow offers new
-  pub fewer : lowered ≡ true → weight flow new < weight flow old
-  pub same : lowered ≡ false → new ≡ old
-
--- a step of the descent, after which something is met if it lowered nothing and there is a consistent choice
-pub record IsDone (flow : Dataflow) (offers : List Offer) (old new : Choice) (met : Choice → Type 0) (lowered : Bool) : Type 0 where
-  pub step : IsStep flow offers old new lowered
-  pub holds : lowered ≡ false → HasConsistent flow offers → met new
-
 -- A notification frontier lies within a bound, and all stays; or else it is cut to what is inside the bound.
-abbrev pub IsNoticeLowered : List Front → List Front → ℕ → Front → Bool → Type 0
-IsNoticeLowered old new p bound false = (new ≡ old) × ((b : Bounds) → IsCanonical b bound → Within (frontier_of b (front_of old p)) (frontier_of b bound))
-IsNoticeLowered old new p bound true =
-    (f : Front) × (new ≡ set old p f)
+abbrev pub IsNoticeLowered : List Front → List Front → ℕ → Front → Option Cut → Type 0
+IsNoticeLowered old new p bound None = (new ≡ old) × ((b : Bounds) → IsCanonical b bound → Within (frontier_of b (front_of old p)) (frontier_of b bound))
+IsNoticeLowered old new p bound (Some to) =
+    (f : Front) × (to ≡ At f) × (new ≡ set old p f)
     × ((b : Bounds) → IsCanonical b (front_of old p) → IsCanonical b bound
     → IsFrontOf b f (meet (frontier_of b (front_of old p)) (frontier_of b bound)) × (Within (frontier_of b (front_of old p)) (frontier_of b bound) → ⊥))
-
--- a pass over all that has to be met: where nothing was lowered all is met, if there is a consistent choice
-pub record IsPass (flow : Dataflow) (offers : List Offer) (old new : Choice) (lowered : Bool) : Type 0 where
-  pub step : IsStep flow offers old new lowered
-  pub edges : lowered ≡ false → HasConsistent flow offers → (e : ℕ) → e < length flow.edges → IsMetAtEdge flow offers new e
-  pub nodes : lowered ≡ false → HasConsistent flow offers → (p : ℕ) → p < length flow.nodes → IsMetAtNode flow offers new p
-
--- a choice that encloses each consistent one, at which all is met if the last pass lowered nothing and there is one
-pub record IsDescent (flow : Dataflow) (offers : List Offer) (choice : Choice) (lowered : Bool) : Type 0 where
-  pub encloses : EnclosesConsistent flow offers choice
-  pub edges : lowered ≡ false → HasConsistent flow offers → (e : ℕ) → e < length flow.edges → IsMetAtEdge flow offers choice e
-  pub nodes : lowered ≡ false → HasConsistent flow offers → (p : ℕ) → p < length flow.nodes → IsMetAtNode flow offers choice p
-
--- how much is left of the descent: twice the weight, and one more where another pass is needed
-unfoldable pub left_over : Dataflow → Choice → Bool → ℕ
-left_over flow choice lowered = weight flow choice + weight flow choice + (if lowered then 1 else 0)
 
 -- a node's greatest cut: each that it offers lies within it, and it is offered if some cut is
 pub record IsGreatest (flow : Dataflow) (offers : List Offer) (p : ℕ) (cut : Cut) : Type 0 where

@@ -1,3 +1,6 @@
 pub mod Held
 pub mod Kept
 pub mod Descent
+pub mod Inclusions
+pub mod Trail
+pub mod Tests

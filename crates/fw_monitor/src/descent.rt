@@ -1,47 +1,164 @@
-//! The largest consistent choice of what the nodes offer.
-ghost use Rattle.std.specs.Prelude.{◌≡◌, ◌<◌, ◌↔◌, ℕ, true, false, length, IsTrue, IfOk};
-ghost use Rattle.fw_frontier.specs.Front.{frontier_of, IsCanonical, IsFrontOf};
-ghost use Rattle.fw_frontier.specs.Frontier.{Within};
+//! The largest consistent choice of what the nodes offer, and the trail of the descent to it.
+ghost use Rattle.std.specs.Prelude.{◌≡◌, ◌<◌, ◌≤◌, ◌+◌, ◌*◌, length, IfOk};
+ghost use Rattle.fw_frontier.specs.Front.{IsCanonical, IsFrontOf};
 ghost use Rattle.fw_flow.specs.declared.choice.Choice as choices;
-ghost use Rattle.fw_flow.specs.declared.choice.Cut.TheVariants as variants;
 ghost use Rattle.fw_flow.specs.Dataflow.{bounds_of, sender, receiver};
-ghost use Rattle.fw_model.specs.Choice.{IsConsistentBy, IsLargestBy, IsChoiceWithin, cut_of, notice_of};
+ghost use Rattle.fw_model.specs.Choice.{IsConsistentBy, IsLargestBy, cut_of};
 ghost use Rattle.fw_model.specs.Covers.{set_of};
 ghost use Rattle.fw_model.specs.Machine.{front_of};
 ghost use Rattle.fw_model.specs.Offers as spec;
 ghost use Rattle.fw_model.specs.Offers.{IsOffered, AreOffersOf, AreAscending, covers_of};
-ghost use Rattle.fw_monitor.specs.Descent.{choice_of, owner, side_bounds, right_of, IsOfFlow, IsCanonicalCut, IsConsistentOf, EnclosesConsistent, IsStep, IsDone, HasConsistent, IsMet, IsMetAtEdge, IsMetAtNode, IsNoticeLowered, IsPass};
+ghost use Rattle.fw_monitor.specs.Descent.{choice_of, side_bounds, right_of, IsOfFlow, IsCanonicalCut, EnclosesConsistent, HasConsistent, IsNoticeLowered};
+ghost use Rattle.fw_monitor.specs.declared.side.Inclusion.TheVariants as inclusions;
+ghost use Rattle.fw_monitor.specs.Inclusions.{note_node, limit_of, IsLimitOf, IsInclusionOf, how_many};
+ghost use Rattle.fw_monitor.specs.Trail.{IsTrail, tests_after};
+ghost use Rattle.fw_monitor.specs.Tests.{IsTested, IsNext, IsTaken};
 
 use crate::arrived::arrived;
 use crate::lower::lowered;
 use crate::passes::owner;
-use crate::side::Side;
+use crate::side::{Inclusion, Limit, Side};
 use crate::start::{all_kept, greatest_cuts, kept};
+use crate::trail::lowering_of;
+use crate::worklist::{after, all_wait, inclusions, note_node, number, put_all};
 use fw_flow::laws::flow_is_well_formed;
-use fw_flow::{Choice, Cut, Cuts, EdgeId, Flow, Fronts, NodeId, Offer};
+use fw_flow::{Choice, Cut, Cuts, EdgeId, Flow, Fronts, Lowering, NodeId, Offer, Steps, Trail};
 use fw_frontier::Front;
 use std::alloc::{AllocError, Global};
+use std::marker::Brand;
+use std::sync::ledger::{Blank, Ledger};
+
+/// A choice of what nodes offer, and how it was found.
+#[derive(Debug, Drop)]
+pub struct Descent {
+    /// The choice.
+    pub choice: Choice,
+    /// What was lowered to find it, in order.
+    pub trail: Trail,
+}
 
 /// The largest consistent choice of what the nodes offer, where the records of each ascend and some choice is consistent; else
 /// some cuts and frontiers. The error is want of memory.
-///
-/// It begins with the greatest cut of each node, and lowers what does not hold, pass by pass, until a pass lowers nothing.
 pub fn largest(alloc: Global, flow: &Flow, offers: &[Offer]) -> Result<Choice, AllocError>
     requires { AreOffersOf flow.now offers.now }
     ensures { (some : choices.Choice) → AreAscending flow.now offers.now
         → IsConsistentBy flow.now (covers_of flow.now offers.now) (IsOffered flow.now offers.now) some
         → IfOk result (IsLargestBy flow.now (covers_of flow.now offers.now) (IsOffered flow.now offers.now)) }
 {
+    uncounted::<Brand>(alloc, flow, offers, Blank::new(1))
+}
+
+/// The same by a counter of its own.
+fn uncounted<L: Ledger>(
+    alloc: Global,
+    flow: &Flow,
+    offers: &[Offer],
+    blank: Blank,
+) -> Result<Choice, AllocError>
+    requires offers { AreOffersOf flow.now offers.now }
+    requires name { blank.name ≡ L.name }
+    requires parts { blank.parts ≡ L.parts }
+    requires some { 0 < L.parts }
+    ensures { (some : choices.Choice) → AreAscending flow.now offers.now
+        → IsConsistentBy flow.now (covers_of flow.now offers.now) (IsOffered flow.now offers.now) some
+        → IfOk result (IsLargestBy flow.now (covers_of flow.now offers.now) (IsOffered flow.now offers.now)) }
+{
+    let mut steps = Steps::<L>::none(blank);
+    let descent = descend(alloc, flow, offers, &mut steps)?;
+    Ok(descent.choice)
+}
+
+/// The largest consistent choice of what the nodes offer, where the records of each ascend and some choice is consistent; else
+/// some cuts and frontiers. And the trail of the descent, which tells how it was found. The error is want of memory.
+///
+/// It begins with the greatest cut of each node, and takes the inclusions that wait for their test in order: what does not
+/// hold is lowered, and what that can break waits again. Each test is one step.
+pub fn descend<L: Ledger>(
+    alloc: Global,
+    flow: &Flow,
+    offers: &[Offer],
+    steps: &mut Steps<L>,
+) -> Result<Descent, AllocError>
+    requires { AreOffersOf flow.now offers.now }
+    ensures largest { (some : choices.Choice) → AreAscending flow.now offers.now
+        → IsConsistentBy flow.now (covers_of flow.now offers.now) (IsOffered flow.now offers.now) some
+        → IfOk result (λ descent. IsLargestBy flow.now (covers_of flow.now offers.now) (IsOffered flow.now offers.now) descent.choice) }
+    ensures trail { HasConsistent flow.now offers.now → IfOk result (λ descent. IsTrail flow.now offers.now descent.trail descent.choice) }
+    ensures bound { IfOk result (λ descent. steps.new
+        ≤ steps.old + 3 * length flow.now.edges + 2 * length flow.now.nodes + tests_after flow.now descent.trail) }
+{
+    flow_is_well_formed(flow);
     let mut cuts = greatest_cuts(alloc, flow, offers)?;
     let mut notices = all_kept(alloc, flow, &cuts)?;
-    let mut lowered = pass(alloc, flow, offers, &mut cuts, &mut notices)?;
-    'pass: while lowered {
-        lowered = pass(alloc, flow, offers, &mut cuts, &mut notices)?;
+    let all = inclusions(alloc, flow)?;
+    let mut waiting = all_wait(alloc, flow)?;
+    let mut trail = Vec::new(alloc);
+    let mut place = 0;
+    'test: while place < all.len() {
+        let lowered = test(
+            alloc,
+            flow,
+            offers,
+            &all[place],
+            &mut cuts,
+            &mut notices,
+            &mut waiting,
+            &mut trail,
+            steps,
+        )?;
+        if lowered {
+            place = 0;
+        } else {
+            place += 1;
+        }
     }
-    Ok(Choice {
-        cuts: Cuts::of(cuts),
-        notices: Fronts::of(notices),
+    Ok(Descent {
+        choice: Choice {
+            cuts: Cuts::of(cuts),
+            notices: Fronts::of(notices),
+        },
+        trail: Trail::of(trail),
     })
+}
+
+/// Tests the inclusion, if it waits, and lowers what it is of, if it does not hold; whether it did. The error is want of
+/// memory.
+fn test<L: Ledger>(
+    alloc: Global,
+    flow: &Flow,
+    offers: &[Offer],
+    inclusion: &Inclusion,
+    cuts: &mut Vec<Cut>,
+    notices: &mut Vec<Front>,
+    waiting: &mut Vec<bool>,
+    trail: &mut Vec<Lowering>,
+    steps: &mut Steps<L>,
+) -> Result<bool, AllocError>
+    requires offers { AreOffersOf flow.now offers.now }
+    requires there { IsInclusionOf flow.now inclusion.now }
+    requires next { IsNext flow.now waiting.old.items inclusion.now }
+    requires one_each { length waiting.old.items ≡ how_many flow.now }
+    requires encloses { EnclosesConsistent flow.now offers.now (choice_of cuts.old.items notices.old.items) }
+    ensures { IfOk result (IsTaken flow.now offers.now inclusion.now (choice_of cuts.old.items notices.old.items) (choice_of cuts.new.items notices.new.items)
+        trail.old.items trail.new.items waiting.old.items waiting.new.items steps.old steps.new) }
+{
+    flow_is_well_formed(flow);
+    let number = number(flow, *inclusion);
+    if !waiting[number] {
+        return Ok(false);
+    }
+    waiting[number] = false;
+    steps.tick();
+    let value = lower(alloc, flow, offers, inclusion, cuts, notices)?;
+    match value {
+        None => Ok(false),
+        Some(to) => {
+            let broken = after(alloc, flow, *inclusion)?;
+            put_all(flow, waiting, &broken);
+            trail.push(lowering_of(flow, inclusion, to))?;
+            Ok(true)
+        }
+    }
 }
 
 /// The cut of a node.
@@ -102,8 +219,29 @@ fn arrived_from_cut(
     arrived(alloc, flow, offers, edge, &front)
 }
 
-/// Lowers the cut of the node of the side to the largest one left, if the side does not lie where it has to; whether it
-/// did. The error is want of memory.
+/// Lowers the value on the left of the inclusion to the greatest one that meets it, if it does not hold; the new value, then.
+/// The error is want of memory.
+fn lower(
+    alloc: Global,
+    flow: &Flow,
+    offers: &[Offer],
+    inclusion: &Inclusion,
+    cuts: &mut Vec<Cut>,
+    notices: &mut Vec<Front>,
+) -> Result<Option<Cut>, AllocError>
+    requires offers { AreOffersOf flow.now offers.now }
+    requires there { IsInclusionOf flow.now inclusion.now }
+    requires encloses { EnclosesConsistent flow.now offers.now (choice_of cuts.old.items notices.old.items) }
+    ensures { IfOk result (IsTested flow.now offers.now inclusion.now (choice_of cuts.old.items notices.old.items) (choice_of cuts.new.items notices.new.items)) }
+{
+    match inclusion {
+        Inclusion::OfCut(side) => lower_cut(alloc, flow, offers, side, cuts, notices),
+        Inclusion::OfNote(limit) => lower_note(alloc, flow, offers, limit, cuts, notices),
+    }
+}
+
+/// Lowers the cut of the node of the side to the largest one left, if the side does not lie where it has to; the new cut, then.
+/// The error is want of memory.
 fn lower_cut(
     alloc: Global,
     flow: &Flow,
@@ -111,150 +249,97 @@ fn lower_cut(
     side: &Side,
     cuts: &mut Vec<Cut>,
     notices: &[Front],
-) -> Result<bool, AllocError>
+) -> Result<Option<Cut>, AllocError>
     requires offers { AreOffersOf flow.now offers.now }
     requires there { IsOfFlow flow.now side.now }
     requires encloses { EnclosesConsistent flow.now offers.now (choice_of cuts.old.items notices.now) }
-    ensures step { IfOk result (IsStep flow.now offers.now (choice_of cuts.old.items notices.now) (choice_of cuts.new.items notices.now)) }
-    ensures holds { IfOk result (λ b. b ≡ false → HasConsistent flow.now offers.now
-        → IsMet flow.now offers.now (choice_of cuts.new.items notices.now) side.now) }
+    ensures { IfOk result (IsTested flow.now offers.now (inclusions.OfCut side.now) (choice_of cuts.old.items notices.now) (choice_of cuts.new.items notices.now)) }
 {
     flow_is_well_formed(flow);
     let bound = right(alloc, flow, offers, side, cuts, notices)?;
     let node = owner(flow, *side);
     let lower = lowered(alloc, flow, offers, side, cut_at(cuts, node), &bound)?;
     match lower {
-        None => Ok(false),
+        None => Ok(None),
         Some(cut) => {
+            let value = copied(&cut)?;
             cuts[node.place() as usize] = cut;
-            Ok(true)
+            Ok(Some(value))
         }
     }
 }
 
-/// Takes from the notification frontier of a node what does not lie within a bound; whether there was any. The error is
+/// A copy of a cut. The error is want of memory.
+fn copied(cut: &Cut) -> Result<Cut, AllocError>
+    ensures { IfOk result (λ copy. copy ≡ cut.now) }
+{
+    match cut {
+        Cut::Present => Ok(Cut::Present),
+        Cut::At(front) => Ok(Cut::At(front.copy()?)),
+    }
+}
+
+/// Takes from the notification frontier of the node of the limit what does not lie within it; the new one, if there was any. The
+/// error is want of memory.
+fn lower_note(
+    alloc: Global,
+    flow: &Flow,
+    offers: &[Offer],
+    limit: &Limit,
+    cuts: &[Cut],
+    notices: &mut Vec<Front>,
+) -> Result<Option<Cut>, AllocError>
+    requires offers { AreOffersOf flow.now offers.now }
+    requires there { IsLimitOf flow.now limit.now }
+    requires encloses { EnclosesConsistent flow.now offers.now (choice_of cuts.now notices.old.items) }
+    ensures { IfOk result (IsTested flow.now offers.now (inclusions.OfNote limit.now) (choice_of cuts.now notices.old.items) (choice_of cuts.now notices.new.items)) }
+{
+    flow_is_well_formed(flow);
+    let bound = within(alloc, flow, offers, limit, cuts, notices)?;
+    let value = lower_notice(notices, note_node(flow, *limit), &bound)?;
+    Ok(value)
+}
+
+/// In what a limit says that the notification frontier has to lie. The error is want of memory.
+fn within(
+    alloc: Global,
+    flow: &Flow,
+    offers: &[Offer],
+    limit: &Limit,
+    cuts: &[Cut],
+    notices: &[Front],
+) -> Result<Front, AllocError>
+    requires there { IsLimitOf flow.now limit.now }
+    requires encloses { EnclosesConsistent flow.now offers.now (choice_of cuts.now notices.now) }
+    ensures { IfOk result (λ g. IsFrontOf (bounds_of flow.now (note_node flow.now limit.now)) g
+        (limit_of flow.now offers.now limit.now (choice_of cuts.now notices.now))) }
+{
+    flow_is_well_formed(flow);
+    match limit {
+        Limit::Own(node) => kept(alloc, cut_at(cuts, *node)),
+        Limit::Note(edge) => {
+            let notice = notice_at(notices, flow.src(*edge));
+            arrived(alloc, flow, offers, *edge, notice)
+        },
+    }
+}
+
+/// Takes from the notification frontier of a node what does not lie within a bound; the new one, if there was any. The error is
 /// want of memory.
-fn lower_notice(notices: &mut Vec<Front>, node: NodeId, bound: &Front) -> Result<bool, AllocError>
+fn lower_notice(
+    notices: &mut Vec<Front>,
+    node: NodeId,
+    bound: &Front,
+) -> Result<Option<Cut>, AllocError>
     requires { node < length notices.old.items }
     ensures { IfOk result (IsNoticeLowered notices.old.items notices.new.items node bound.now) }
 {
     let place = node.place() as usize;
     if notices[place].subset(bound) {
-        return Ok(false);
+        return Ok(None);
     }
     let left = notices[place].meet(bound)?;
+    let value = left.copy()?;
     notices[place] = left;
-    Ok(true)
-}
-
-/// Lowers what does not hold at an edge; whether anything was lowered. The error is want of memory.
-fn at_edge(
-    alloc: Global,
-    flow: &Flow,
-    offers: &[Offer],
-    cuts: &mut Vec<Cut>,
-    notices: &mut Vec<Front>,
-    edge: EdgeId,
-) -> Result<bool, AllocError>
-    requires offers { AreOffersOf flow.now offers.now }
-    requires there { edge < length flow.now.edges }
-    requires encloses { EnclosesConsistent flow.now offers.now (choice_of cuts.old.items notices.old.items) }
-    ensures { IfOk result (IsDone flow.now offers.now (choice_of cuts.old.items notices.old.items) (choice_of cuts.new.items notices.new.items)
-        (λ choice. IsMetAtEdge flow.now offers.now choice edge)) }
-{
-    flow_is_well_formed(flow);
-    let delivered = lower_cut(alloc, flow, offers, &Side::Delivered(edge), cuts, notices)?;
-    let discarded = lower_cut(alloc, flow, offers, &Side::Discarded(edge), cuts, notices)?;
-    let bound = arrived(
-        alloc,
-        flow,
-        offers,
-        edge,
-        notice_at(notices, flow.src(edge)),
-    )?;
-    let notice = lower_notice(notices, flow.dst(edge), &bound)?;
-    Ok(delivered | discarded | notice)
-}
-
-/// Lowers what does not hold at a node alone; whether anything was lowered. The error is want of memory.
-fn at_node(
-    alloc: Global,
-    flow: &Flow,
-    offers: &[Offer],
-    cuts: &mut Vec<Cut>,
-    notices: &mut Vec<Front>,
-    node: NodeId,
-) -> Result<bool, AllocError>
-    requires offers { AreOffersOf flow.now offers.now }
-    requires there { node < length flow.now.nodes }
-    requires encloses { EnclosesConsistent flow.now offers.now (choice_of cuts.old.items notices.old.items) }
-    ensures { IfOk result (IsDone flow.now offers.now (choice_of cuts.old.items notices.old.items) (choice_of cuts.new.items notices.new.items)
-        (λ choice. IsMetAtNode flow.now offers.now choice node)) }
-{
-    let notified = lower_cut(alloc, flow, offers, &Side::Notified(node), cuts, notices)?;
-    let bound = kept(alloc, cut_at(cuts, node))?;
-    let own = lower_notice(notices, node, &bound)?;
-    Ok(notified | own)
-}
-
-/// A pass over the edges; whether anything was lowered. The error is want of memory.
-fn pass_edges(
-    alloc: Global,
-    flow: &Flow,
-    offers: &[Offer],
-    cuts: &mut Vec<Cut>,
-    notices: &mut Vec<Front>,
-) -> Result<bool, AllocError>
-    requires offers { AreOffersOf flow.now offers.now }
-    requires encloses { EnclosesConsistent flow.now offers.now (choice_of cuts.old.items notices.old.items) }
-    ensures { IfOk result (IsDone flow.now offers.now (choice_of cuts.old.items notices.old.items) (choice_of cuts.new.items notices.new.items)
-        (λ choice. (e : ℕ) → e < length flow.now.edges → IsMetAtEdge flow.now offers.now choice e)) }
-{
-    flow_is_well_formed(flow);
-    let mut lowered = false;
-    for place in 0..flow.edges() {
-        let edge = EdgeId::at(place as u32);
-        let more = at_edge(alloc, flow, offers, cuts, notices, edge)?;
-        lowered |= more;
-    }
-    Ok(lowered)
-}
-
-/// A pass over the nodes; whether anything was lowered. The error is want of memory.
-fn pass_nodes(
-    alloc: Global,
-    flow: &Flow,
-    offers: &[Offer],
-    cuts: &mut Vec<Cut>,
-    notices: &mut Vec<Front>,
-) -> Result<bool, AllocError>
-    requires offers { AreOffersOf flow.now offers.now }
-    requires encloses { EnclosesConsistent flow.now offers.now (choice_of cuts.old.items notices.old.items) }
-    ensures { IfOk result (IsDone flow.now offers.now (choice_of cuts.old.items notices.old.items) (choice_of cuts.new.items notices.new.items)
-        (λ choice. (p : ℕ) → p < length flow.now.nodes → IsMetAtNode flow.now offers.now choice p)) }
-{
-    let mut lowered = false;
-    for place in 0..flow.nodes() {
-        let node = NodeId::at(place as u32);
-        let more = at_node(alloc, flow, offers, cuts, notices, node)?;
-        lowered |= more;
-    }
-    Ok(lowered)
-}
-
-/// A pass over all that has to hold; whether anything was lowered. The error is want of memory.
-fn pass(
-    alloc: Global,
-    flow: &Flow,
-    offers: &[Offer],
-    cuts: &mut Vec<Cut>,
-    notices: &mut Vec<Front>,
-) -> Result<bool, AllocError>
-    requires offers { AreOffersOf flow.now offers.now }
-    requires encloses { EnclosesConsistent flow.now offers.now (choice_of cuts.old.items notices.old.items) }
-    ensures { IfOk result (IsPass flow.now offers.now (choice_of cuts.old.items notices.old.items) (choice_of cuts.new.items notices.new.items)) }
-{
-    let edges = pass_edges(alloc, flow, offers, cuts, notices)?;
-    let nodes = pass_nodes(alloc, flow, offers, cuts, notices)?;
-    Ok(edges | nodes)
+    Ok(Some(Cut::At(value)))
 }

@@ -3,10 +3,13 @@
 
 mod arrived;
 mod descent;
+pub mod laws;
 mod lower;
 mod offers;
 mod passes;
 mod side;
 mod start;
+mod trail;
+mod worklist;
 
-pub use descent::largest;
+pub use descent::{Descent, descend, largest};

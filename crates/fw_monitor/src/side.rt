@@ -1,7 +1,7 @@
-//! What of a node's cut has to lie within what is kept elsewhere.
+//! What has to hold at a choice.
 use fw_flow::{EdgeId, NodeId};
 
-/// What of a node's events in a cut an inclusion speaks of.
+/// What of a node's events in a cut has to lie within what is kept elsewhere.
 #[derive(Clone, Copy, Debug)]
 pub(crate) enum Side {
     /// What was delivered on the edge to its receiver.
@@ -10,4 +10,33 @@ pub(crate) enum Side {
     Discarded(EdgeId),
     /// Of what the node was notified.
     Notified(NodeId),
+}
+
+/// In what a node's notification frontier has to lie.
+#[derive(Clone, Copy, Debug)]
+pub(crate) enum Limit {
+    /// In what the node keeps.
+    Own(NodeId),
+    /// In what comes on the edge from the notification frontier of its sender.
+    Note(EdgeId),
+}
+
+/// What has to hold at a choice.
+#[derive(Clone, Copy, Debug)]
+pub(crate) enum Inclusion {
+    /// The side lies in what it has to lie in.
+    OfCut(Side),
+    /// The notification frontier lies within its limit.
+    OfNote(Limit),
+}
+
+/// What an inclusion says of an edge.
+#[derive(Clone, Copy, Debug)]
+pub(crate) enum OnEdge {
+    /// What was delivered on it.
+    Delivered,
+    /// What was sent on it and cannot be sent again.
+    Discarded,
+    /// The notification frontier of its receiver.
+    Note,
 }

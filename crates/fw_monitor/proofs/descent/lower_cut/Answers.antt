@@ -2,7 +2,8 @@ use Rattle.std.proofs.Common.{None, Some, refl, sym, subst}
 use Rattle.fw_frontier.specs.Front.{IsFrontOf}
 use Rattle.fw_monitor.specs.Descent.{choice_of, owner, side_bounds, right_of, IsLowered}
 use Rattle.fw_monitor.proofs.DescentLaws.{owner-there}
-use Rattle.fw_monitor.proofs.StepLaws.{cut_here, cut_step, cut_holds}
+use Rattle.fw_monitor.proofs.StepLaws.{cut_here}
+use Rattle.fw_monitor.proofs.LoweringLaws.{cut_stays, cut_tested}
 use Rattle.fw_monitor.proofs.descent.lower_cut.Goals as goal
 
 pub lowered-requires-clause-cut : goal.lowered-requires-clause-cut
@@ -12,8 +13,8 @@ lowered-requires-clause-cut c =
     cut_here flow c.args.offers.now choice (owner flow c.args.side.now) c.owner-node.result c.cut_at.result.now c.requires.encloses
     (owner-there flow c.args.side.now c.flow_is_well_formed.ensures c.requires.there) (c.cut_at.ensures choice (sym c.deref-2.ensures.value)) c.owner-node.ensures
 
-pub returns-in-None-clause-holds : goal.returns-in-None-clause-holds
-returns-in-None-clause-holds c = λ k has.
+pub returns-in-None : goal.returns-in-None
+returns-in-None c =
     let flow = c.args.flow.now in
     let offers = c.args.offers.now in
     let side = c.args.side.now in
@@ -23,10 +24,10 @@ returns-in-None-clause-holds c = λ k has.
     let names = subst (λ xs. IsFrontOf (side_bounds flow side) c.in_ok-bound.bound (right_of flow offers side (choice_of xs notices))) c.deref.ensures.value c.in_ok-bound.ensures in
     let low = subst (IsLowered flow offers side c.cut_at.result.now c.in_ok-bound.bound) c.in-None.is c.in_ok-lower.ensures in
     let none = subst (λ x. IsLowered flow offers side x c.in_ok-bound.bound None) (c.cut_at.ensures choice (sym c.deref-2.ensures.value)) low in
-    cut_holds flow offers side cuts cuts notices c.in_ok-bound.bound c.owner-node.result c.flow_is_well_formed.ensures c.requires.there c.requires.encloses names c.owner-node.ensures refl none has
+    cut_stays flow offers side cuts notices c.in_ok-bound.bound c.owner-node.result c.flow_is_well_formed.ensures c.requires.there c.requires.encloses names c.owner-node.ensures none
 
-pub returns-clause-step : goal.returns-clause-step
-returns-clause-step c =
+pub returns : goal.returns
+returns c =
     let flow = c.args.flow.now in
     let offers = c.args.offers.now in
     let side = c.args.side.now in
@@ -36,4 +37,5 @@ returns-clause-step c =
     let names = subst (λ xs. IsFrontOf (side_bounds flow side) c.in_ok-bound.bound (right_of flow offers side (choice_of xs notices))) c.deref.ensures.value c.in_ok-bound.ensures in
     let low = subst (IsLowered flow offers side c.cut_at.result.now c.in_ok-bound.bound) c.in-Some.is c.in_ok-lower.ensures in
     let some = subst (λ x. IsLowered flow offers side x c.in_ok-bound.bound (Some c.in-Some.cut)) (c.cut_at.ensures choice (sym c.deref-2.ensures.value)) low in
-    cut_step flow offers side cuts _ notices c.in_ok-bound.bound c.owner-node.result c.place.result c.in-Some.cut c.flow_is_well_formed.ensures c.requires.there c.requires.encloses names c.owner-node.ensures c.place.ensures refl some
+    cut_tested flow offers side cuts _ notices c.in_ok-bound.bound c.owner-node.result c.place.result c.in-Some.cut c.in_ok-value-in-Some.value c.flow_is_well_formed.ensures c.requires.there c.requires.encloses names
+    c.owner-node.ensures c.place.ensures c.in_ok-value-in-Some.ensures refl some

@@ -1,0 +1,92 @@
+use Rattle.std.proofs.Common.{ℕ, ◌<◌, ◌≤◌, [], length, sym, ap, subst, arith}
+use Rattle.fw_frontier.specs.Front.{IsFrontOf}
+use Rattle.fw_flow.specs.Dataflow.{bounds_of}
+use Rattle.fw_model.specs.Machine.{front_of}
+use Rattle.fw_model.specs.Choice.{cut_of, IsLargestBy}
+use Rattle.fw_model.specs.Covers.{set_of}
+use Rattle.fw_model.specs.Offers.{IsOffered, covers_of}
+use Rattle.fw_monitor.specs.Descent.{choice_of, HasConsistent}
+use Rattle.fw_monitor.specs.Inclusions.{inclusions}
+use Rattle.fw_monitor.specs.Trail.{IsTrail}
+use Rattle.fw_monitor.proofs.DescentLaws.{largest_of}
+use Rattle.fw_monitor.proofs.TestLaws.{IsAt, begun, next_at, there_at, again_at, further_at, again_falls, further_falls, each_holds, trail_ends}
+use Rattle.fw_monitor.proofs.descent.descend.Goals as goal
+
+pub test-init : goal.test-init
+test-init g c =
+    let flow = c.args.flow.now in
+    let offers = c.args.offers.now in
+    let cuts = c.in_ok-cuts.cuts.items in
+    let notices = c.in_ok-notices.notices.items in
+    let waiting = c.in_ok-waiting.waiting.items in
+    let steps = c.args.steps.now in
+    let kept = subst (λ xs. (p : ℕ) → p < length flow.nodes → IsFrontOf (bounds_of flow p) (front_of notices p) (set_of flow p (cut_of (choice_of xs []) p))) c.deref.ensures.value c.in_ok-notices.ensures.kept in
+    subst (λ ls. IsAt flow offers (choice_of cuts notices) ls waiting steps steps 0) (sym c.new-trail.ensures.items)
+    (begun flow offers cuts notices waiting steps c.in_ok-cuts.ensures.one_each c.in_ok-notices.ensures.one_each c.in_ok-cuts.ensures.greatest kept c.in_ok-waiting.ensures.one_each c.in_ok-waiting.ensures.all)
+
+pub test-requires-clause-there : goal.test-requires-clause-there
+test-requires-clause-there g c =
+    let t = c.test-test.true in
+    let l : c.test.place < length c.in_ok-all.all.items = omega arith in
+    there_at c.args.flow.now c.in_ok-all.all.items c.test.place c.index.result.now c.in_ok-all.ensures l c.index.ensures
+
+pub test-requires-clause-next : goal.test-requires-clause-next
+test-requires-clause-next g c =
+    let t = c.test-test.true in
+    let l : c.test.place < length c.in_ok-all.all.items = omega arith in
+    next_at c.args.flow.now c.test.waiting.items c.in_ok-all.all.items c.test.place c.index.result.now c.in_ok-all.ensures l c.index.ensures c.test.invariant.done
+
+pub test-smaller-then-lowered : goal.test-smaller-then-lowered
+test-smaller-then-lowered g c =
+    again_falls c.args.flow.now c.args.offers.now c.index.result.now (choice_of c.test.cuts.items c.test.notices.items) (choice_of c.test-in-test.new.cuts.items c.test-in-test.new.notices.items)
+    c.test.trail.items c.test-in-test.new.trail.items c.test.waiting.items c.test-in-test.new.waiting.items c.test.steps c.test-in-test.new.steps c.test.place c.in_ok-lowered.lowered
+    c.if-lowered.true c.in_ok-lowered.ensures
+
+pub test-preserved-then-lowered : goal.test-preserved-then-lowered
+test-preserved-then-lowered g c =
+    again_at c.args.flow.now c.args.offers.now c.index.result.now (choice_of c.test.cuts.items c.test.notices.items) (choice_of c.test-in-test.new.cuts.items c.test-in-test.new.notices.items)
+    c.test.trail.items c.test-in-test.new.trail.items c.test.waiting.items c.test-in-test.new.waiting.items c.args.steps.now c.test.steps c.test-in-test.new.steps c.test.place c.in_ok-lowered.lowered
+    c.in_ok-lowered.ensures c.test.invariant
+
+pub test-smaller : goal.test-smaller
+test-smaller g c =
+    let t = c.test-test.true in
+    let l : c.test.place < length c.in_ok-all.all.items = omega arith in
+    further_falls c.args.flow.now c.args.offers.now c.in_ok-all.all.items c.index.result.now (choice_of c.test.cuts.items c.test.notices.items) (choice_of c.test-in-test.new.cuts.items c.test-in-test.new.notices.items)
+    c.test.trail.items c.test-in-test.new.trail.items c.test.waiting.items c.test-in-test.new.waiting.items c.test.steps c.test-in-test.new.steps c.test.place c.in_ok-lowered.lowered
+    c.if-lowered.false c.in_ok-all.ensures l c.in_ok-lowered.ensures
+
+pub test-preserved : goal.test-preserved
+test-preserved g c =
+    let t = c.test-test.true in
+    let l : c.test.place < length c.in_ok-all.all.items = omega arith in
+    further_at c.args.flow.now c.args.offers.now c.in_ok-all.all.items c.index.result.now (choice_of c.test.cuts.items c.test.notices.items) (choice_of c.test-in-test.new.cuts.items c.test-in-test.new.notices.items)
+    c.test.trail.items c.test-in-test.new.trail.items c.test.waiting.items c.test-in-test.new.waiting.items c.args.steps.now c.test.steps c.test-in-test.new.steps c.test.place c.in_ok-lowered.lowered
+    c.if-lowered.false c.in_ok-all.ensures l c.index.ensures c.in_ok-lowered.ensures c.test.invariant
+
+pub returns-clause-largest : goal.returns-clause-largest
+returns-clause-largest g c = λ some a k.
+    let flow = c.args.flow.now in
+    let offers = c.args.offers.now in
+    let cuts = c.test.cuts.items in
+    let notices = c.test.notices.items in
+    let same = ap length c.in_ok-all.ensures in
+    let past : length (inclusions flow) ≤ c.test.place = let f = c.test-test.false in omega arith in
+    let has : HasConsistent flow offers = (a, (some, k)) in
+    let whole = largest_of flow offers (choice_of cuts notices) c.test.invariant.going.encloses has
+    (each_holds flow offers (choice_of cuts notices) c.test.trail.items c.test.waiting.items c.args.steps.now c.test.steps c.test.place c.flow_is_well_formed.ensures c.test.invariant past has) in
+    subst (λ xs. IsLargestBy flow (covers_of flow offers) (IsOffered flow offers) (choice_of xs c.of-2.result)) (sym c.of.ensures)
+    (subst (λ ys. IsLargestBy flow (covers_of flow offers) (IsOffered flow offers) (choice_of cuts ys)) (sym c.of-2.ensures) whole)
+
+pub returns-clause-trail : goal.returns-clause-trail
+returns-clause-trail g c = λ has.
+    let flow = c.args.flow.now in
+    let offers = c.args.offers.now in
+    let cuts = c.test.cuts.items in
+    let notices = c.test.notices.items in
+    let same = ap length c.in_ok-all.ensures in
+    let past : length (inclusions flow) ≤ c.test.place = let f = c.test-test.false in omega arith in
+    let whole = trail_ends flow offers (choice_of cuts notices) c.test.trail.items c.test.waiting.items c.args.steps.now c.test.steps c.test.place c.flow_is_well_formed.ensures c.test.invariant past has in
+    subst (λ ls. IsTrail flow offers ls (choice_of c.of.result c.of-2.result)) (sym c.of-3.ensures)
+    (subst (λ xs. IsTrail flow offers c.test.trail.items (choice_of xs c.of-2.result)) (sym c.of.ensures)
+    (subst (λ ys. IsTrail flow offers c.test.trail.items (choice_of cuts ys)) (sym c.of-2.ensures) whole))

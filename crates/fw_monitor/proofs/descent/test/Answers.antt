@@ -1,0 +1,49 @@
+use Rattle.std.proofs.Common.{true, false, set, sym, subst, ◌∙◌, arith}
+use Rattle.std.specs.List.{AllByRecursion}
+use Rattle.fw_monitor.specs.Descent.{choice_of}
+use Rattle.fw_monitor.specs.Inclusions.{IsInclusionOf, number, ArePut}
+use Rattle.fw_monitor.specs.Tests.{IsTested, IsTaken}
+use Rattle.fw_monitor.proofs.WorklistLaws.{after-there}
+use Rattle.fw_monitor.proofs.DescentLaws.{node-there}
+use Rattle.fw_monitor.proofs.TestLaws.{flag_read, taken_held, taken_lowered}
+use Rattle.fw_monitor.proofs.descent.test.Goals as goal
+
+pub put_all-requires-clause-there : goal.put_all-requires-clause-there
+put_all-requires-clause-there g c =
+    let flow = c.args.flow.now in
+    let i = c.args.inclusion.now in
+    subst (AllByRecursion (IsInclusionOf flow)) (sym (c.deref.ensures.value ∙ c.in_ok-broken-in-Some.ensures))
+    (after-there flow i (node-there flow i c.flow_is_well_formed.ensures c.requires.there))
+
+pub returns-in-None : goal.returns-in-None
+returns-in-None g c =
+    let flow = c.args.flow.now in
+    let offers = c.args.offers.now in
+    let i = c.args.inclusion.now in
+    let waiting = c.args.waiting.now.items in
+    let old = choice_of c.args.cuts.now.items c.args.notices.now.items in
+    let new = choice_of c.lower.new.cuts.items c.lower.new.notices.items in
+    let trail = c.args.trail.now.items in
+    let steps = c.args.steps.now in
+    let next = c.tick.ensures in
+    let w = flag_read flow waiting i c.number-number.result c.index.result.now true c.number-number.ensures c.requires.there c.requires.one_each c.index.ensures (c.if-not-index.false) in
+    subst (λ n. IsTaken flow offers i old new trail trail waiting (set waiting n false) steps c.tick.new.self false) (sym c.number-number.ensures)
+    (taken_held flow offers i old new trail waiting steps c.tick.new.self c.requires.there c.requires.one_each w (omega arith) (subst (IsTested flow offers i old new) c.in-None.is c.in_ok-value.ensures))
+
+pub returns-in_ok-push-in-Some : goal.returns-in_ok-push-in-Some
+returns-in_ok-push-in-Some g c =
+    let flow = c.args.flow.now in
+    let offers = c.args.offers.now in
+    let i = c.args.inclusion.now in
+    let waiting = c.args.waiting.now.items in
+    let left = c.put_all.new.waiting.items in
+    let old = choice_of c.args.cuts.now.items c.args.notices.now.items in
+    let new = choice_of c.lower.new.cuts.items c.lower.new.notices.items in
+    let trail = c.args.trail.now.items in
+    let steps = c.args.steps.now in
+    let next = c.tick.ensures in
+    let w = flag_read flow waiting i c.number-number.result c.index.result.now true c.number-number.ensures c.requires.there c.requires.one_each c.index.ensures (c.if-not-index.false) in
+    let put = subst (λ xs. ArePut flow xs (set waiting (number flow i) false) left) (c.deref.ensures.value ∙ c.in_ok-broken-in-Some.ensures)
+    (subst (λ n. ArePut flow c.deref.result.now (set waiting n false) left) c.number-number.ensures c.put_all.ensures) in
+    taken_lowered flow offers i old new c.in-Some.to c.lowering_of.result trail c.push.new.self.items waiting left steps c.tick.new.self c.flow_is_well_formed.ensures
+    c.requires.there c.requires.next w (omega arith) (subst (IsTested flow offers i old new) c.in-Some.is c.in_ok-value.ensures) c.lowering_of.ensures c.in_ok-push-in-Some.ensures.items put

@@ -1,0 +1,6 @@
+use Rattle.std.proofs.Common.{◌≡◌}
+use Rattle.fw_monitor.specs.Inclusions.{inclusions_to}
+use Rattle.fw_monitor.proofs.worklist.inclusions.Given as goal
+
+abbrev pub invariant-loop-place : goal.invariant-loop-place
+invariant-loop-place l = l.all.items ≡ inclusions_to l.flow l.place

@@ -1,0 +1,142 @@
+-- What has to hold at a choice, in the order in which a descent tests it, and what a lowering of one value can break.
+use Rattle.std.specs.Prelude.{◌≡◌, ℕ, zero, suc, ◌+◌, ◌<◌, ◌≤◌, Bool, true, false, ◌||◌, ◌==◌, List, [], ◌∷◌, ◌++◌, length, map, slice_index_or}
+use Rattle.std.specs.List.{AllByRecursion}
+use Rattle.fw_frontier.specs.Frontier.{Frontier, Within}
+use Rattle.fw_flow.specs.declared.choice.Choice.{Choice}
+use Rattle.fw_flow.specs.declared.choice.Offer.{Offer}
+use Rattle.fw_flow.specs.Dataflow.{Dataflow, sender, receiver, in_edges, out_edges}
+use Rattle.fw_model.specs.Choice.{notice_of, kept_of}
+use Rattle.fw_model.specs.Offers.{arrived_from}
+use Rattle.fw_monitor.specs.declared.side.Side.TheVariants.{Delivered, Discarded, Notified}
+use Rattle.fw_monitor.specs.declared.side.Limit.{Limit}
+use Rattle.fw_monitor.specs.declared.side.Limit.TheVariants.{Own, Note}
+use Rattle.fw_monitor.specs.declared.side.OnEdge.{OnEdge}
+use Rattle.fw_monitor.specs.declared.side.OnEdge.TheVariants as edge
+use Rattle.fw_monitor.specs.declared.side.Inclusion.{Inclusion}
+use Rattle.fw_monitor.specs.declared.side.Inclusion.TheVariants.{OfCut, OfNote}
+use Rattle.fw_monitor.specs.Descent.{owner, IsOfFlow, right_of, IsMet}
+
+-- the node whose notification frontier a limit is of
+abbrev pub note_node : Dataflow → Limit → ℕ
+note_node flow (Own p) = p
+note_node flow (Note d) = receiver flow d
+
+-- in what it has to lie
+abbrev pub limit_of : Dataflow → List Offer → Limit → Choice → Frontier
+limit_of flow offers (Own p) choice = kept_of flow choice p
+limit_of flow offers (Note d) choice = arrived_from flow offers d (notice_of flow choice (sender flow d))
+
+-- its edge or its node is one of the dataflow
+abbrev pub IsLimitOf : Dataflow → Limit → Type 0
+IsLimitOf flow (Own p) = p < length flow.nodes
+IsLimitOf flow (Note d) = d < length flow.edges
+
+-- the same of an inclusion
+abbrev pub IsInclusionOf : Dataflow → Inclusion → Type 0
+IsInclusionOf flow (OfCut side) = IsOfFlow flow side
+IsInclusionOf flow (OfNote limit) = IsLimitOf flow limit
+
+-- the node one of whose values stands on the left of an inclusion
+abbrev pub node_of : Dataflow → Inclusion → ℕ
+node_of flow (OfCut side) = owner flow side
+node_of flow (OfNote limit) = note_node flow limit
+
+-- what stands on the right of it
+abbrev pub right_side : Dataflow → List Offer → Inclusion → Choice → Frontier
+right_side flow offers (OfCut side) choice = right_of flow offers side choice
+right_side flow offers (OfNote limit) choice = limit_of flow offers limit choice
+
+-- the inclusion holds at a choice
+abbrev pub Holds : Dataflow → List Offer → Choice → Inclusion → Type 0
+Holds flow offers choice (OfCut side) = IsMet flow offers choice side
+Holds flow offers choice (OfNote limit) = Within (notice_of flow choice (note_node flow limit)) (limit_of flow offers limit choice)
+
+-- The inclusions of a node, in order: what was delivered on each in-edge; what it cannot send again on each out-edge; its
+-- notices; its notification frontier in what it keeps; and in what comes on each in-edge.
+abbrev pub inclusions_at : Dataflow → ℕ → List Inclusion
+inclusions_at flow p =
+    map (λ d. OfCut (Delivered d)) (in_edges flow p) ++ map (λ e. OfCut (Discarded e)) (out_edges flow p)
+    ++ OfCut (Notified p) ∷ OfNote (Own p) ∷ map (λ d. OfNote (Note d)) (in_edges flow p)
+
+-- those of the first n nodes
+unfoldable pub inclusions_to : Dataflow → ℕ → List Inclusion
+inclusions_to flow zero = []
+inclusions_to flow (suc n) = inclusions_to flow n ++ inclusions_at flow n
+
+-- those of a dataflow, by node
+abbrev pub inclusions : Dataflow → List Inclusion
+inclusions flow = inclusions_to flow (length flow.nodes)
+
+-- ---- for the proofs of src/worklist.rt
+
+-- the inclusion that says this of edge d
+abbrev pub on_edge : OnEdge → ℕ → Inclusion
+on_edge edge.Delivered d = OfCut (Delivered d)
+on_edge edge.Discarded d = OfCut (Discarded d)
+on_edge edge.Note d = OfNote (Note d)
+
+-- whether a lower cut of node p can break it
+abbrev pub reads_cut : Dataflow → ℕ → Inclusion → Bool
+reads_cut flow p (OfCut (Delivered d)) = receiver flow d == p || sender flow d == p
+reads_cut flow p (OfCut (Discarded e)) = sender flow e == p || receiver flow e == p
+reads_cut flow p (OfCut (Notified q)) = q == p
+reads_cut flow p (OfNote (Own q)) = q == p
+reads_cut flow p (OfNote (Note d)) = false
+
+-- whether a lower notification frontier of node p can break it
+abbrev pub reads_note : Dataflow → ℕ → Inclusion → Bool
+reads_note flow p (OfCut (Delivered d)) = false
+reads_note flow p (OfCut (Discarded e)) = false
+reads_note flow p (OfCut (Notified q)) = q == p
+reads_note flow p (OfNote (Own q)) = false
+reads_note flow p (OfNote (Note d)) = sender flow d == p
+
+-- whether a lower value on the left of the first inclusion can break the second one
+abbrev pub may_break : Dataflow → Inclusion → Inclusion → Bool
+may_break flow (OfCut side) i = reads_cut flow (owner flow side) i
+may_break flow (OfNote limit) i = reads_note flow (note_node flow limit) i
+
+-- those that a lower cut of a node can break
+abbrev pub after_cut : Dataflow → ℕ → List Inclusion
+after_cut flow p =
+    map (λ d. OfCut (Delivered d)) (in_edges flow p) ++ map (λ d. OfCut (Discarded d)) (in_edges flow p)
+    ++ map (λ d. OfCut (Delivered d)) (out_edges flow p) ++ map (λ d. OfCut (Discarded d)) (out_edges flow p)
+    ++ OfCut (Notified p) ∷ OfNote (Own p) ∷ []
+
+-- those that a lower notification frontier of a node can break
+abbrev pub after_note : Dataflow → ℕ → List Inclusion
+after_note flow p = (OfCut (Notified p) ∷ []) ++ map (λ d. OfNote (Note d)) (out_edges flow p)
+
+-- those that a lower value on the left of an inclusion can break
+abbrev pub after : Dataflow → Inclusion → List Inclusion
+after flow (OfCut side) = after_cut flow (owner flow side)
+after flow (OfNote limit) = after_note flow (note_node flow limit)
+
+-- the number of an inclusion: those of edges come first
+abbrev pub number : Dataflow → Inclusion → ℕ
+number flow (OfCut (Delivered d)) = d
+number flow (OfCut (Discarded e)) = length flow.edges + e
+number flow (OfNote (Note d)) = length flow.edges + length flow.edges + d
+number flow (OfCut (Notified p)) = length flow.edges + length flow.edges + length flow.edges + p
+number flow (OfNote (Own p)) = length flow.edges + length flow.edges + length flow.edges + length flow.nodes + p
+
+-- how many there are: three for each edge, two for each node
+abbrev pub how_many : Dataflow → ℕ
+how_many flow = length flow.edges + length flow.edges + length flow.edges + length flow.nodes + length flow.nodes
+
+-- whether the inclusion waits for its test, by a list of flags
+abbrev pub waits : Dataflow → List Bool → Inclusion → Bool
+waits flow waiting i = slice_index_or waiting (number flow i) true
+
+-- how many wait
+abbrev pub count : List Bool → ℕ
+count [] = 0
+count (true ∷ waiting) = suc (count waiting)
+count (false ∷ waiting) = count waiting
+
+-- these wait now, each that waited still does, and no more are added than that many
+pub record ArePut (flow : Dataflow) (is : List Inclusion) (old new : List Bool) : Type 0 where
+  pub one_each : length new ≡ length old
+  pub wait : AllByRecursion (λ i. waits flow new i ≡ true) is
+  pub still : (j : Inclusion) → waits flow old j ≡ true → waits flow new j ≡ true
+  pub few : count new ≤ count old + length is

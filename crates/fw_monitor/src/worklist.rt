@@ -1,0 +1,161 @@
+//! The worklist of a descent: the inclusions of a flow in order, and which of them wait for their test.
+ghost use Rattle.std.specs.Prelude.{◌≡◌, true, [], ◌∷◌, ◌++◌, map, length, IfOk};
+ghost use Rattle.std.specs.List.{AllByRecursion};
+ghost use Rattle.fw_monitor.specs.declared.side.Inclusion.TheVariants as variants;
+ghost use Rattle.fw_monitor.specs.Inclusions as spec;
+ghost use Rattle.fw_monitor.specs.Inclusions.{note_node, IsInclusionOf, number, how_many, ArePut};
+
+use crate::passes::owner;
+use crate::side::{Inclusion, Limit, OnEdge, Side};
+use fw_flow::laws::flow_is_well_formed;
+use fw_flow::{EdgeId, Flow, NodeId};
+use std::alloc::{AllocError, Global};
+
+/// The inclusions of a flow, by node. The error is want of memory.
+pub(crate) fn inclusions(alloc: Global, flow: &Flow) -> Result<Vec<Inclusion>, AllocError>
+    ensures { IfOk result (λ all. all.items ≡ spec.inclusions flow.now) }
+{
+    let mut all = Vec::new(alloc);
+    for place in 0..flow.nodes() {
+        add_of_node(flow, NodeId::at(place as u32), &mut all)?;
+    }
+    Ok(all)
+}
+
+/// Adds the inclusions of a node. The error is want of memory.
+fn add_of_node(flow: &Flow, node: NodeId, all: &mut Vec<Inclusion>) -> Result<(), AllocError>
+    ensures { IfOk result (λ u. all.new.items ≡ all.old.items ++ spec.inclusions_at flow.now node) }
+{
+    add_on_edges(flow.in_edges(node), OnEdge::Delivered, all)?;
+    add_on_edges(flow.out_edges(node), OnEdge::Discarded, all)?;
+    all.push(Inclusion::OfCut(Side::Notified(node)))?;
+    all.push(Inclusion::OfNote(Limit::Own(node)))?;
+    add_on_edges(flow.in_edges(node), OnEdge::Note, all)
+}
+
+/// Adds the inclusions that say this of each of the edges. The error is want of memory.
+fn add_on_edges(edges: &[EdgeId], what: OnEdge, all: &mut Vec<Inclusion>) -> Result<(), AllocError>
+    ensures { IfOk result (λ u. all.new.items ≡ all.old.items ++ map (spec.on_edge what) edges.now) }
+{
+    for edge in edges {
+        match what {
+            OnEdge::Delivered => all.push(Inclusion::OfCut(Side::Delivered(*edge)))?,
+            OnEdge::Discarded => all.push(Inclusion::OfCut(Side::Discarded(*edge)))?,
+            OnEdge::Note => all.push(Inclusion::OfNote(Limit::Note(*edge)))?,
+        }
+    }
+    Ok(())
+}
+
+/// Those that a lower value on the left of an inclusion can break. The error is want of memory.
+pub(crate) fn after(
+    alloc: Global,
+    flow: &Flow,
+    inclusion: Inclusion,
+) -> Result<Vec<Inclusion>, AllocError>
+    ensures { IfOk result (λ all. all.items ≡ spec.after flow.now inclusion) }
+{
+    let mut all = Vec::new(alloc);
+    match inclusion {
+        Inclusion::OfCut(side) => add_after_cut(flow, owner(flow, side), &mut all)?,
+        Inclusion::OfNote(limit) => {
+            let node = note_node(flow, limit);
+            all.push(Inclusion::OfCut(Side::Notified(node)))?;
+            add_on_edges(flow.out_edges(node), OnEdge::Note, &mut all)?;
+        }
+    }
+    Ok(all)
+}
+
+/// Adds those that a lower cut of a node can break. The error is want of memory.
+fn add_after_cut(flow: &Flow, node: NodeId, all: &mut Vec<Inclusion>) -> Result<(), AllocError>
+    ensures { IfOk result (λ u. all.new.items ≡ all.old.items ++ spec.after_cut flow.now node) }
+{
+    add_on_edges(flow.in_edges(node), OnEdge::Delivered, all)?;
+    add_on_edges(flow.in_edges(node), OnEdge::Discarded, all)?;
+    add_on_edges(flow.out_edges(node), OnEdge::Delivered, all)?;
+    add_on_edges(flow.out_edges(node), OnEdge::Discarded, all)?;
+    all.push(Inclusion::OfCut(Side::Notified(node)))?;
+    all.push(Inclusion::OfNote(Limit::Own(node)))?;
+    Ok(())
+}
+
+/// The node whose notification frontier a limit is of.
+pub(crate) fn note_node(flow: &Flow, limit: Limit) -> NodeId
+    ensures { result ≡ note_node flow.now limit }
+{
+    match limit {
+        Limit::Own(node) => node,
+        Limit::Note(edge) => flow.dst(edge),
+    }
+}
+
+/// The number of an inclusion: those of edges come first.
+pub(crate) fn number(flow: &Flow, inclusion: Inclusion) -> usize
+    requires { IsInclusionOf flow.now inclusion }
+    ensures { result ≡ number flow.now inclusion }
+{
+    match inclusion {
+        Inclusion::OfCut(side) => side_number(flow, side),
+        Inclusion::OfNote(limit) => limit_number(flow, limit),
+    }
+}
+
+/// The same for a side.
+fn side_number(flow: &Flow, side: Side) -> usize
+    requires { IsInclusionOf flow.now (variants.OfCut side) }
+    ensures { result ≡ number flow.now (variants.OfCut side) }
+{
+    flow_is_well_formed(flow);
+    let edges = flow.edges();
+    match side {
+        Side::Delivered(edge) => edge.place() as usize,
+        Side::Discarded(edge) => edges + edge.place() as usize,
+        Side::Notified(node) => edges + edges + edges + node.place() as usize,
+    }
+}
+
+/// The same for a limit.
+fn limit_number(flow: &Flow, limit: Limit) -> usize
+    requires { IsInclusionOf flow.now (variants.OfNote limit) }
+    ensures { result ≡ number flow.now (variants.OfNote limit) }
+{
+    flow_is_well_formed(flow);
+    let edges = flow.edges();
+    match limit {
+        Limit::Note(edge) => edges + edges + edge.place() as usize,
+        Limit::Own(node) => edges + edges + edges + flow.nodes() + node.place() as usize,
+    }
+}
+
+/// All wait. The error is want of memory.
+pub(crate) fn all_wait(alloc: Global, flow: &Flow) -> Result<Vec<bool>, AllocError>
+    ensures one_each { IfOk result (λ waiting. length waiting.items ≡ how_many flow.now) }
+    ensures all { IfOk result (λ waiting. AllByRecursion (λ w. w ≡ true) waiting.items) }
+{
+    flow_is_well_formed(flow);
+    let edges = flow.edges();
+    let nodes = flow.nodes();
+    let all = vec![in alloc; true; edges + edges + edges + nodes + nodes]?;
+    Ok(all)
+}
+
+/// Puts these inclusions back among those that wait.
+pub(crate) fn put_all(flow: &Flow, waiting: &mut Vec<bool>, inclusions: &[Inclusion])
+    requires there { AllByRecursion (IsInclusionOf flow.now) inclusions.now }
+    requires one_each { length waiting.old.items ≡ how_many flow.now }
+    ensures { ArePut flow.now inclusions.now waiting.old.items waiting.new.items }
+{
+    for inclusion in inclusions {
+        put(flow, waiting, *inclusion);
+    }
+}
+
+/// Puts an inclusion back among those that wait.
+fn put(flow: &Flow, waiting: &mut Vec<bool>, inclusion: Inclusion)
+    requires there { IsInclusionOf flow.now inclusion }
+    requires one_each { length waiting.old.items ≡ how_many flow.now }
+    ensures { ArePut flow.now (inclusion ∷ []) waiting.old.items waiting.new.items }
+{
+    waiting[number(flow, inclusion)] = true;
+}

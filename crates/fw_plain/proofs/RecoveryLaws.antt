@@ -1,4 +1,4 @@
--- What a recovery of an engine chooses.
+-- What a recovery of a course chooses.
 use Rattle.std.proofs.Common.{◌≡◌, ℕ, Bool, List, [], length, reverse, refl, sym, Result, Ok, Err, IfOk, arith}
 use Rattle.std.proofs.lemmas.List.FromFn.{get_or-map-range_with_len}
 use Rattle.fw_frontier.specs.Front.{Front}
@@ -12,29 +12,29 @@ use Rattle.fw_model.specs.Steps.{offers}
 use Rattle.fw_model.proofs.ChoosingLaws.{recovery-has_choice}
 use Rattle.fw_model.specs.Offers.{IsOffered, AreOffersIn, AreAscending, covers_of}
 use Rattle.fw_model.proofs.OfferLaws.{consistent-same, largest-same}
-use Rattle.fw_plain.specs.Engine.{state_of, IsSound}
+use Rattle.fw_plain.specs.declared.course.Course.{Course}
+use Rattle.fw_plain.specs.Engine.{IsSound, sys_of, state_of}
 use Rattle.fw_plain.specs.Offered.{StandsBy}
-use Rattle.fw_plain.specs.Past.{Past}
 use Rattle.fw_plain.proofs.EngineLaws.{legal_of}
 use Rattle.fw_model.specs.Choosing.{CanChoose}
 
--- the state that an engine stands for is that of its lists
-pub stands_by : (sys : System) (past : Past) (settled fs : List Front) (failed ds : List Bool) (ack_counts ns : List ℕ) (vs : List Event)
-    → IsSound sys (state_of sys.flow past settled failed ack_counts) → events past.history ≡ reverse vs → fs ≡ settled → ns ≡ ack_counts → ds ≡ failed
-    → StandsBy sys vs fs ns ds (state_of sys.flow past settled failed ack_counts)
-stands_by sys past settled fs failed ds ack_counts ns vs i h e k l =
-    let low : ℕ → Front = λ p. no_stamps (bounds_of sys.flow p) in
+-- the state that a course stands for is that of its lists
+pub stands_by : (course : Course) (fs : List Front) (ds : List Bool) (ns : List ℕ) (vs : List Event) → IsSound (sys_of course) (state_of course)
+    → events course.history.history ≡ reverse vs → fs ≡ course.settled.items → ns ≡ course.ack_counts.items → ds ≡ course.failed.items
+    → StandsBy (sys_of course) vs fs ns ds (state_of course)
+stands_by course fs ds ns vs i h e k l =
+    let low : ℕ → Front = λ p. no_stamps (bounds_of course.flow p) in
     record {
       well_formed = i.well_formed;
       keeps_nothing = i.keeps_nothing;
       notifies_nobody = i.notifies_nobody;
-      legal = legal_of sys (state_of sys.flow past settled failed ack_counts) i;
+      legal = legal_of (sys_of course) (state_of course) i;
       history = h;
       settled_there = sym e;
       bounds_there = sym k;
       failed_there = sym l;
       nothing_written = refl;
-      nothing_collected = λ p m. get_or-map-range_with_len low 0 (length sys.flow.nodes) p p [] m (omega arith);
+      nothing_collected = λ p m. get_or-map-range_with_len low 0 (length course.flow.nodes) p p [] m (omega arith);
     }
 
 if_ok_also : {A E : Type 0} (r : Result A E) (P Q : A → Type 0) → ((x : A) → P x → Q x) → IfOk r P → IfOk r Q

@@ -1,5 +1,6 @@
 -- What each step does to the state that a course stands for.
-use Rattle.std.proofs.Common.{◌≡◌, ℕ, zero, suc, ◌+◌, ◌<◌, ◌==◌, cond, Bool, true, false, ◌&&◌, List, [], ◌∷◌, ◌++◌, map, length, slice_set, slice_index_or, replicate, reverse, refl, sym, ◌∙◌, ap, subst, arith, Option, Some, None, MatchOption, Result, Ok, Err, IfOk, OnErr, AllocError}
+use Rattle.std.proofs.Common.{◌≡◌, ℕ, zero, suc, ◌+◌, ◌<◌, ◌==◌, cond, Bool, true, false, ◌&&◌, List, [], ◌∷◌, ◌++◌, map, length, slice_set, slice_index_or, replicate, refl, sym, ◌∙◌, ap, subst, arith, Option, Some, None, MatchOption, Result, Ok, Err, IfOk, OnErr}
+use Rattle.std.specs.declared.alloc.AllocError.{AllocError}
 use Rattle.std.proofs.lemmas.Bool.{true≢false}
 use Rattle.std.specs.List.{AllByRecursion, range_with_len}
 use Rattle.std.proofs.lemmas.Bool.Decides.{nat_tests}
@@ -51,7 +52,7 @@ same_each sys state next s f b i = record {
   one_front_each = ap length s ∙ i.one_front_each;
   canonical = λ p l. subst (λ fs. IsCanonical (bounds_of sys.flow p) (front_of fs p)) (sym s) (i.canonical p l);
   one_flag_each = ap length f ∙ i.one_flag_each;
-  one_bound_each = b ∙ i.one_bound_each;
+  one_count_each = b ∙ i.one_count_each;
 }
 
 grown_each : (sys : System) (state next : Machine) (done : ℕ → Stamp → Bool) → GrowsTo sys state done next.settled → next.failed ≡ state.failed
@@ -60,7 +61,7 @@ grown_each sys state next done g f b i = record {
   one_front_each = g.one_each;
   canonical = λ p l. at p l (is_failed state p) refl;
   one_flag_each = ap length f ∙ i.one_flag_each;
-  one_bound_each = ap length b ∙ i.one_bound_each;
+  one_count_each = ap length b ∙ i.one_count_each;
 }
   where
     at : (p : ℕ) → p < length sys.flow.nodes → (b : Bool) → is_failed state p ≡ b → IsCanonical (bounds_of sys.flow p) (front_of next.settled p)
@@ -73,7 +74,7 @@ flags_each sys state next s f b i = record {
   one_front_each = ap length s ∙ i.one_front_each;
   canonical = λ p l. subst (λ fs. IsCanonical (bounds_of sys.flow p) (front_of fs p)) (sym s) (i.canonical p l);
   one_flag_each = f;
-  one_bound_each = ap length b ∙ i.one_bound_each;
+  one_count_each = ap length b ∙ i.one_count_each;
 }
 
 cut_each : (sys : System) (state next : Machine) (choice : Choice) → CutsTo sys state choice next.settled → length next.failed ≡ length sys.flow.nodes
@@ -82,7 +83,7 @@ cut_each sys state next choice c f b i = record {
   one_front_each = c.one_each;
   canonical = λ p l. at p l (cut_of choice p) (c.each p l);
   one_flag_each = f;
-  one_bound_each = ap length b ∙ i.one_bound_each;
+  one_count_each = ap length b ∙ i.one_count_each;
 }
   where
     at : (p : ℕ) → p < length sys.flow.nodes → (cut : Cut) → IsSettledCut sys p cut (front_of state.settled p) (front_of next.settled p)
@@ -149,7 +150,7 @@ sound_first sys w keeps nobody =
         canonical = λ p l. subst (λ (os : Front). IsCanonical (bounds_of sys.flow p) os) (sym (get_or-map-range_with_len f 0 n p p [] l (omega arith)))
             (names-no_stamps (bounds_of sys.flow p)).canonical;
         one_flag_each = length-map-range_with_len (λ p. false) 0 n;
-        one_bound_each = length-map-range_with_len (λ p. 0) 0 n;
+        one_count_each = length-map-range_with_len (λ p. 0) 0 n;
       };
     }
 
@@ -181,8 +182,8 @@ first_at flow v h a = by (event_node flow v == event_node flow v) (grind (arith,
     by true e a = a.0
     by false e a = absurd (cc)
 
-pub at_nodes : (sys : System) (state : Machine) (vs : List Event) → IsSound sys state → events state.history ≡ reverse vs → AreAtNodes sys.flow (reverse vs)
-at_nodes sys state vs i e = subst (AreAtNodes sys.flow) e (each (events state.history) (legal_of sys state i))
+pub at_nodes : (sys : System) (state : Machine) → IsSound sys state → AreAtNodes sys.flow (events state.history)
+at_nodes sys state i = each (events state.history) (legal_of sys state i)
   where
     each : (h : List Event) → IsLegal sys h → AreAtNodes sys.flow h
     each [] l = tt

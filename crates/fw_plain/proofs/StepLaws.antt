@@ -127,7 +127,7 @@ pub may_acknowledge : (sys : System) (state : Machine) (o x : ℕ) → IsSound s
     → node_frontier sys.flow o (front_of state.settled o) (x ∷ []) ≡ true
     → HasSomethingAt sys (events state.history) (kind_of sys.flow o) o x → MayAcknowledge sys state o x
 may_acknowledge sys state o x i l n k live s t = record {
-  declared = subst (λ m. o < m) i.of_each_node.one_bound_each l;
+  declared = subst (λ m. o < m) i.of_each_node.one_count_each l;
   output = k;
   live = live;
   next = n;

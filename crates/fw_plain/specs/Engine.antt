@@ -43,7 +43,7 @@ pub record IsOfEachNode (sys : System) (state : Machine) : Type 0 where
   pub one_front_each : length state.settled ≡ length sys.flow.nodes
   pub canonical : (p : ℕ) → p < length sys.flow.nodes → IsCanonical (bounds_of sys.flow p) (front_of state.settled p)
   pub one_flag_each : length state.failed ≡ length sys.flow.nodes
-  pub one_bound_each : length state.ack_counts ≡ length sys.flow.nodes
+  pub one_count_each : length state.ack_counts ≡ length sys.flow.nodes
 
 -- what is true of each state of an engine
 pub record IsSound (sys : System) (state : Machine) : Type 0 where

@@ -174,15 +174,7 @@ impl Course {
         ensures { IfOk result (λ choice. IsLargest (sys_of self.now) (state_of self.now)
             (spec_offers (sys_of self.now) (state_of self.now)) choice) }
     {
-        let offers = offers(
-            self.alloc,
-            &self.flow,
-            &self.batches,
-            self.history.as_slice(),
-            &self.settled,
-            &self.ack_counts,
-            &self.failed,
-        )?;
+        let offers = offers(self)?;
         largest(self.alloc, &self.flow, &offers)
     }
 

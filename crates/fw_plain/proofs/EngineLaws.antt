@@ -1,5 +1,6 @@
--- What each step does to the state that an engine stands for.
-use Rattle.std.proofs.Common.{◌≡◌, ℕ, zero, suc, ◌+◌, ◌<◌, ◌==◌, cond, Bool, true, false, ◌&&◌, List, [], ◌∷◌, ◌++◌, map, length, slice_set, slice_index_or, replicate, refl, sym, ◌∙◌, ap, subst, arith, Option, Some, None, MatchOption}
+-- What each step does to the state that a course stands for.
+use Rattle.std.proofs.Common.{◌≡◌, ℕ, zero, suc, ◌+◌, ◌<◌, ◌==◌, cond, Bool, true, false, ◌&&◌, List, [], ◌∷◌, ◌++◌, map, length, slice_set, slice_index_or, replicate, refl, sym, ◌∙◌, ap, subst, arith, Option, Some, None, MatchOption, Result, Ok, Err, IfOk, OnErr}
+use Rattle.std.specs.declared.alloc.AllocError.{AllocError}
 use Rattle.std.proofs.lemmas.Bool.{true≢false}
 use Rattle.std.specs.List.{AllByRecursion, range_with_len}
 use Rattle.std.proofs.lemmas.Bool.Decides.{nat_tests}
@@ -30,7 +31,9 @@ use Rattle.fw_model.proofs.GoingOn.{runs-go_on}
 use Rattle.fw_model.proofs.LegalLaws.{legal_events-in_domain}
 use Rattle.fw_model.proofs.RecoveryLaws.{runs-legal}
 use Rattle.fw_flow.specs.Step.{is_plain_step}
-use Rattle.fw_plain.specs.Engine.{Standing, state_of, IsReached, IsOfEachNode, IsSound}
+use Rattle.fw_plain.specs.declared.course.Course.{Course}
+use Rattle.fw_plain.specs.declared.stepped.Stepped.{Stepped}
+use Rattle.fw_plain.specs.Engine.{IsReached, IsOfEachNode, IsSound, Takes, sys_of, state_of, outcome_of}
 use Rattle.fw_plain.specs.Past.{Past, with_one_more}
 use Rattle.fw_plain.proofs.FrontsLaws.{names-no_stamps}
 
@@ -49,7 +52,7 @@ same_each sys state next s f b i = record {
   one_front_each = ap length s ∙ i.one_front_each;
   canonical = λ p l. subst (λ fs. IsCanonical (bounds_of sys.flow p) (front_of fs p)) (sym s) (i.canonical p l);
   one_flag_each = ap length f ∙ i.one_flag_each;
-  one_bound_each = b ∙ i.one_bound_each;
+  one_count_each = b ∙ i.one_count_each;
 }
 
 grown_each : (sys : System) (state next : Machine) (done : ℕ → Stamp → Bool) → GrowsTo sys state done next.settled → next.failed ≡ state.failed
@@ -58,7 +61,7 @@ grown_each sys state next done g f b i = record {
   one_front_each = g.one_each;
   canonical = λ p l. at p l (is_failed state p) refl;
   one_flag_each = ap length f ∙ i.one_flag_each;
-  one_bound_each = ap length b ∙ i.one_bound_each;
+  one_count_each = ap length b ∙ i.one_count_each;
 }
   where
     at : (p : ℕ) → p < length sys.flow.nodes → (b : Bool) → is_failed state p ≡ b → IsCanonical (bounds_of sys.flow p) (front_of next.settled p)
@@ -71,7 +74,7 @@ flags_each sys state next s f b i = record {
   one_front_each = ap length s ∙ i.one_front_each;
   canonical = λ p l. subst (λ fs. IsCanonical (bounds_of sys.flow p) (front_of fs p)) (sym s) (i.canonical p l);
   one_flag_each = f;
-  one_bound_each = ap length b ∙ i.one_bound_each;
+  one_count_each = ap length b ∙ i.one_count_each;
 }
 
 cut_each : (sys : System) (state next : Machine) (choice : Choice) → CutsTo sys state choice next.settled → length next.failed ≡ length sys.flow.nodes
@@ -80,7 +83,7 @@ cut_each sys state next choice c f b i = record {
   one_front_each = c.one_each;
   canonical = λ p l. at p l (cut_of choice p) (c.each p l);
   one_flag_each = f;
-  one_bound_each = ap length b ∙ i.one_bound_each;
+  one_count_each = ap length b ∙ i.one_count_each;
 }
   where
     at : (p : ℕ) → p < length sys.flow.nodes → (cut : Cut) → IsSettledCut sys p cut (front_of state.settled p) (front_of next.settled p)
@@ -125,6 +128,13 @@ sound_after sys state step next outcome k i t = record {
   of_each_node = each_step sys state step next outcome k t i.of_each_node;
 }
 
+-- a course comes to a sound state by a step, and stays at one where memory is wanting
+pub sound_then : (course next : Course) (step : Step) (r : Result Stepped AllocError) → is_plain_step step ≡ true → IsSound (sys_of course) (state_of course)
+    → sys_of next ≡ sys_of course → IfOk r (λ stepped. Takes course step next stepped) → OnErr r (next ≡ course) → IsSound (sys_of next) (state_of next)
+sound_then course next step (Ok stepped) k i s t e =
+    subst (λ sys. IsSound sys (state_of next)) (sym s) (sound_after (sys_of course) (state_of course) step (state_of next) (outcome_of stepped) k i t)
+sound_then course next step (Err x) k i s t e = subst (λ (at : Course). IsSound (sys_of at) (state_of at)) (sym e) i
+
 -- the first state is sound
 pub sound_first : (sys : System) → IsWellFormedSystem sys → KeepsNothing sys.flow → NotifiesNobody sys.flow → IsSound sys (first_state sys)
 sound_first sys w keeps nobody =
@@ -140,7 +150,7 @@ sound_first sys w keeps nobody =
         canonical = λ p l. subst (λ (os : Front). IsCanonical (bounds_of sys.flow p) os) (sym (get_or-map-range_with_len f 0 n p p [] l (omega arith)))
             (names-no_stamps (bounds_of sys.flow p)).canonical;
         one_flag_each = length-map-range_with_len (λ p. false) 0 n;
-        one_bound_each = length-map-range_with_len (λ p. 0) 0 n;
+        one_count_each = length-map-range_with_len (λ p. 0) 0 n;
       };
     }
 
@@ -186,39 +196,27 @@ no_write : (kept : Policy) (p n : ℕ) → kept ≡ policy.None → [] ≡ write
 no_write kept p n e = ap (λ k. write_of_event k p n) (sym e)
 
 -- an event that is added is the machine's next event
-with_event_added : (sys : System) (past : Past) (settled : List Front) (failed : List Bool) (ack_counts : List ℕ) (v : Event) → KeepsNothing sys.flow
-    → state_of sys.flow (with_one_more past v) settled failed ack_counts ≡ with_event sys (state_of sys.flow past settled failed ack_counts) v
-with_event_added sys past settled failed ack_counts v keeps =
-    let p = event_node sys.flow v in
-    let make : List Write → Machine = λ ws. record (state_of sys.flow (with_one_more past v) settled failed ack_counts) { writes = ws } in
-    ap make (no_write (policy_of sys.flow p) p past.next (keeps p))
+with_event_added : (course : Course) (later : Past) (v : Event) → KeepsNothing course.flow → later ≡ with_one_more course.history v
+    → state_of (record course { history = later }) ≡ with_event (sys_of course) (state_of course) v
+with_event_added course later v keeps l =
+    let p = event_node course.flow v in
+    let make : List Write → Machine = λ ws. record (state_of (record course { history = with_one_more course.history v })) { writes = ws } in
+    ap (λ past. state_of (record course { history = past })) l ∙ ap make (no_write (policy_of course.flow p) p course.history.next (keeps p))
 
-pub injects : (sys : System) (past later : Past) (settled : List Front) (failed : List Bool) (ack_counts : List ℕ) (s x : ℕ) → KeepsNothing sys.flow
-    → IsNextBatch sys (events past.history) s x → slice_index_or failed s false ≡ false → later ≡ with_one_more past (Injected s x)
-    → StepsTo sys (state_of sys.flow past settled failed ack_counts) (Inject s) (state_of sys.flow later settled failed ack_counts) (did silent)
-injects sys past later settled failed ack_counts s x keeps e live m = (
-  x,
-  e,
-  live,
-  ap (λ l. state_of sys.flow l settled failed ack_counts) m ∙ with_event_added sys past settled failed ack_counts (Injected s x) keeps,
-  refl,
-)
+pub injects : (course : Course) (later : Past) (s x : ℕ) → KeepsNothing course.flow → IsNextBatch (sys_of course) (events course.history.history) s x
+    → slice_index_or course.failed.items s false ≡ false → later ≡ with_one_more course.history (Injected s x)
+    → StepsTo (sys_of course) (state_of course) (Inject s) (state_of (record course { history = later })) (did silent)
+injects course later s x keeps b live l = (x, b, live, with_event_added course later (Injected s x) keeps l, refl)
 
 pub injects_nothing : (sys : System) (state : Machine) (s : ℕ) → ((x : ℕ) → IsNextBatch sys (events state.history) s x → is_failed state s ≡ false → ⊥)
     → StepsTo sys state (Inject s) state idle
 injects_nothing sys state s n = (λ other effect t. n t.0 t.1 t.2, refl)
 
-pub delivers : (sys : System) (past later : Past) (settled : List Front) (failed : List Bool) (ack_counts : List ℕ) (e : ℕ) (at : Option Stamp) (m : Message)
-    → KeepsNothing sys.flow → IsNextMessage sys (events past.history) e at m → slice_index_or failed (receiver sys.flow e) false ≡ false
-    → later ≡ with_one_more past (Delivered e m)
-    → StepsTo sys (state_of sys.flow past settled failed ack_counts) (Deliver e at) (state_of sys.flow later settled failed ack_counts) (did silent)
-delivers sys past later settled failed ack_counts e at m keeps k live l = (
-  m,
-  k,
-  live,
-  ap (λ l. state_of sys.flow l settled failed ack_counts) l ∙ with_event_added sys past settled failed ack_counts (Delivered e m) keeps,
-  refl,
-)
+pub delivers : (course : Course) (later : Past) (e : ℕ) (at : Option Stamp) (m : Message) → KeepsNothing course.flow
+    → IsNextMessage (sys_of course) (events course.history.history) e at m → slice_index_or course.failed.items (receiver course.flow e) false ≡ false
+    → later ≡ with_one_more course.history (Delivered e m)
+    → StepsTo (sys_of course) (state_of course) (Deliver e at) (state_of (record course { history = later })) (did silent)
+delivers course later e at m keeps k live l = (m, k, live, with_event_added course later (Delivered e m) keeps l, refl)
 
 pub delivers_nothing : (sys : System) (state : Machine) (e : ℕ) (at : Option Stamp)
     → ((m : Message) → IsNextMessage sys (events state.history) e at m → is_failed state (receiver sys.flow e) ≡ false → ⊥)
@@ -234,23 +232,10 @@ pub notifies_nothing : (sys : System) (state : Machine) (p : ℕ) (at : Option S
 notifies_nothing sys state p at i =
     (λ other effect t. true≢false (sym (first_of _ _ _ t.1.enabled.is_owed) ∙ i.notifies_nobody p), refl)
 
--- ---- what an engine stands for
-
--- a step from the state that an engine stands for
-pub standing : (was : Standing) (sys : System) (state : Machine) (refused : Bool) (step : Step) (next : Machine) (outcome : Outcome)
-    → record { sys = sys; state = state; refused = refused } ≡ was → StepsTo sys state step next outcome → StepsTo was.sys was.state step next outcome
-standing was sys state refused step next outcome e t = subst (λ (w : Standing). StepsTo w.sys w.state step next outcome) e t
-
-pub standing_idle : (was : Standing) (sys : System) (state : Machine) (refused : Bool) (step : Step)
-    → record { sys = sys; state = state; refused = refused } ≡ was → StepsTo sys state step state idle → StepsTo was.sys was.state step was.state idle
-standing_idle was sys state refused step e t = subst (λ (w : Standing). StepsTo w.sys w.state step w.state idle) e t
+-- ---- what is found
 
 pub at_some : {A : Type 0} (o : Option A) (x : A) (P : Type 0) (Q : A → Type 0) → o ≡ Some x → MatchOption o P Q → Q x
 at_some o x P Q e m = subst (λ k. MatchOption k P Q) e m
 
 pub at_none : {A : Type 0} (o : Option A) (P : Type 0) (Q : A → Type 0) → o ≡ None → MatchOption o P Q → P
 at_none o P Q e m = subst (λ k. MatchOption k P Q) e m
-
-pub legal_then : (was : Standing) (sys : System) (state : Machine) (refused : Bool)
-    → record { sys = sys; state = state; refused = refused } ≡ was → IsSound sys state → IsLegal was.sys (events was.state.history)
-legal_then was sys state refused e i = subst (λ (w : Standing). IsLegal w.sys (events w.state.history)) e (legal_of sys state i)

@@ -2,6 +2,7 @@
 use Rattle.std.proofs.Common.{◌≡◌, ◌⊎◌, ◌↔◌, ℕ, zero, suc, ◌+◌, ◌<◌, ◌≤◌, Bool, true, false, not, List, [], ◌∷◌, length, map, reverse, slice_index_or, Option, None, ◌==◌, refl, sym, ◌∙◌, ap, subst, arith}
 use Rattle.std.proofs.lemmas.Bool.{both_ways, true≢false, cond-false}
 use Rattle.std.specs.List.{AllByRecursion, flat_map, filter}
+use Rattle.std.proofs.lemmas.List.FromFn.{get_or-map-range_with_len}
 use Rattle.fw_time.specs.declared.stamp.Bounds.{Bounds}
 use Rattle.fw_time.specs.Stamp.{Stamp, in_domain}
 use Rattle.fw_time.proofs.EachLaws.{each-weaker}
@@ -34,7 +35,10 @@ use Rattle.fw_model.proofs.LegalLaws.{legal_messages-in_domain}
 use Rattle.fw_model.proofs.TallyLaws.{delivered_cover-same, discarded_cover-same, notified_cover-same}
 use Rattle.fw_model.specs.Offers.{can_stay, listed_records, records_of, offered_range, range_of, delivered_to, notified_of, sent_by, IsOffered, IsListed, IsBetween, stamps_on_from, is_by_records, tallies_of, covers_of, Ascend, IsRecordOf, IsRangeOf, IsListedBy, AreOnEdges, AreOffersOf, AreOffersIn}
 use Rattle.fw_model.specs.Offers.{table_of}
-use Rattle.fw_plain.specs.Offered.{StandsBy, deliveries_to, sent_from, IsOfferOf, AreOffersFrom}
+use Rattle.fw_plain.specs.Offered.{deliveries_to, sent_from, IsOfferOf, AreOffersFrom}
+use Rattle.fw_plain.specs.declared.course.Course.{Course}
+use Rattle.fw_plain.specs.Engine.{IsSound, sys_of, state_of}
+use Rattle.fw_plain.proofs.EngineLaws.{at_nodes, legal_of}
 use Rattle.fw_plain.proofs.FrontsLaws.{names-no_stamps}
 use Rattle.fw_plain.proofs.OffersFronts.{offered-restorable, offered-records, offered-ascend, offered-range, offered-listed}
 use Rattle.fw_plain.proofs.OffersLists.{delivered-on_edge, deliveries-on_edges, notices-in_domain, sent-on_edge, sent-on_edges}
@@ -57,21 +61,19 @@ at-map g d [] p o i = absurd i
 at-map g d (q ∷ os) zero o i = ap g i
 at-map g d (q ∷ os) (suc p) o i = at-map g d os p o i
 
-at-from : (sys : System) (h : List Event) (settled : List Front) (bounds : List ℕ) (failed : List Bool) (n : ℕ) (os : List Offer) (p : ℕ) (o : Offer)
-    → AreOffersFrom sys h settled bounds failed n os → IsAt os p o → IsOfferOf sys h settled bounds failed (n + p) o
-at-from sys h settled bounds failed n [] p o a i = absurd i
-at-from sys h settled bounds failed n (q ∷ os) zero o a i =
+at-from : (sys : System) (state : Machine) (n : ℕ) (os : List Offer) (p : ℕ) (o : Offer) → AreOffersFrom sys state n os → IsAt os p o → IsOfferOf sys state (n + p) o
+at-from sys state n [] p o a i = absurd i
+at-from sys state n (q ∷ os) zero o a i =
     let e : n ≡ n + 0 = omega arith in
-    subst (λ m. IsOfferOf sys h settled bounds failed m o) e (subst (λ (x : Offer). IsOfferOf sys h settled bounds failed n x) i a.0)
-at-from sys h settled bounds failed n (q ∷ os) (suc p) o a i =
-    let e : n + 1 + p ≡ n + suc p = omega arith in
-    subst (λ m. IsOfferOf sys h settled bounds failed m o) e (at-from sys h settled bounds failed (n + 1) os p o a.1 i)
+    subst (λ m. IsOfferOf sys state m o) e (subst (λ (x : Offer). IsOfferOf sys state n x) i a.0)
+at-from sys state n (q ∷ os) (suc p) o a i =
+    let e : n + 1 + p ≡ n + suc p = omega arith in subst (λ m. IsOfferOf sys state m o) e (at-from sys state (n + 1) os p o a.1 i)
 
 -- what node p offers in a state
 record Offers (sys : System) (state : Machine) (offers : List Offer) (p : ℕ) : Type 0 where
   pub offer : Offer
   pub there : IsAt offers p offer
-  pub is : IsOfferOf sys (events state.history) state.settled state.ack_counts state.failed p offer
+  pub is : IsOfferOf sys state p offer
 
 -- the data are of a state
 record Are (sys : System) (state : Machine) (offers : List Offer) : Type 0 where
@@ -93,36 +95,33 @@ not-by_checkpoints OutputEpoch e = cc
 not-by_checkpoints OutputNumber e = cc
 not-by_checkpoints kind e = cc
 
-are-there : (sys : System) (vs : List Event) (settled : List Front) (bounds : List ℕ) (failed : List Bool) (state : Machine) (offers : List Offer)
-    → AreAtNodes sys.flow (reverse vs) → length offers ≡ length sys.flow.nodes → AreOffersFrom sys (reverse vs) settled bounds failed 0 offers
-    → StandsBy sys vs settled bounds failed state → Are sys state offers
-are-there sys vs settled bounds failed state offers d n a s =
+are-there : (course : Course) (offers : List Offer) → IsSound (sys_of course) (state_of course) → length offers ≡ length course.flow.nodes
+    → AreOffersFrom (sys_of course) (state_of course) 0 offers → Are (sys_of course) (state_of course) offers
+are-there course offers i n a =
+    let sys = sys_of course in
+    let state = state_of course in
     let h = events state.history in
-    let w = s.well_formed in
-    let moved : AreOffersFrom sys h state.settled state.ack_counts state.failed 0 offers =
-    subst (λ (xs : List Event). AreOffersFrom sys xs state.settled state.ack_counts state.failed 0 offers) (sym s.history)
-    (subst (λ (xs : List Front). AreOffersFrom sys (reverse vs) xs state.ack_counts state.failed 0 offers) (sym s.settled_there)
-    (subst (λ (xs : List ℕ). AreOffersFrom sys (reverse vs) settled xs state.failed 0 offers) (sym s.bounds_there)
-    (subst (λ (xs : List Bool). AreOffersFrom sys (reverse vs) settled bounds xs 0 offers) (sym s.failed_there) a))) in record {
+    let w = i.well_formed in
+    let legal = legal_of sys state i in
+    let low : ℕ → Front = λ p. no_stamps (bounds_of sys.flow p) in record {
       one_each = n;
       each = λ p l.
           let o = at-place offers p (subst (λ m. p < m) (sym n) l) in
           let e : 0 + p ≡ p = omega arith in record {
             offer = o.0;
             there = o.1;
-            is = subst (λ m. IsOfferOf sys h state.settled state.ack_counts state.failed m o.0) e
-                (at-from sys h state.settled state.ack_counts state.failed 0 offers p o.0 moved o.1);
+            is = subst (λ m. IsOfferOf sys state m o.0) e (at-from sys state 0 offers p o.0 a o.1);
           };
-      at_nodes = subst (λ (xs : List Event). AreAtNodes sys.flow xs) (sym s.history) d;
-      few = λ p. omega (arith, injected-few sys h s.legal p, w.few p);
-      way = λ p. ap (λ k. restoring (kind_of sys.flow p) k) (sym (s.keeps_nothing p));
-      unwritten = λ p e. not-by_checkpoints (kind_of sys.flow p) (ap (λ k. restoring (kind_of sys.flow p) k) (sym (s.keeps_nothing p)) ∙ e);
-      low = s.nothing_collected;
-      nobody = s.notifies_nobody;
+      at_nodes = at_nodes sys state i;
+      few = λ p. omega (arith, injected-few sys h legal p, w.few p);
+      way = λ p. ap (λ k. restoring (kind_of sys.flow p) k) (sym (i.keeps_nothing p));
+      unwritten = λ p e. not-by_checkpoints (kind_of sys.flow p) (ap (λ k. restoring (kind_of sys.flow p) k) (sym (i.keeps_nothing p)) ∙ e);
+      low = λ p m. get_or-map-range_with_len low 0 (length sys.flow.nodes) p p [] m (omega arith);
+      nobody = i.notifies_nobody;
       messages = λ e.
           each-weaker (λ (m : Message). in_domain (bounds_of_edge sys.flow e) m.at ≡ true)
           (λ (m : Message). in_domain (bounds_of sys.flow (receiver sys.flow e)) m.at ≡ true) (sent_messages sys h e)
-          (λ m i. sym (edge-bounds sys.flow w.flow e m.at) ∙ i) (legal_messages-in_domain sys h w.flow (has_epochs sys w) s.legal e);
+          (λ m i. sym (edge-bounds sys.flow w.flow e m.at) ∙ i) (legal_messages-in_domain sys h w.flow (has_epochs sys w) legal e);
       senders = w.flow.senders_declared;
       receivers = w.flow.receivers_declared;
     }
@@ -293,11 +292,12 @@ arrived-same sys state offers a e l f =
     λ i u. sym (phi-by_table sys (events state.history) e f (table_of offers p) no_sequence u) i
 
 -- what is offered is what the machine offers in the state
-pub offers-in : (sys : System) (vs : List Event) (settled : List Front) (bounds : List ℕ) (failed : List Bool) (state : Machine) (offers : List Offer)
-    → AreAtNodes sys.flow (reverse vs) → length offers ≡ length sys.flow.nodes → AreOffersFrom sys (reverse vs) settled bounds failed 0 offers
-    → StandsBy sys vs settled bounds failed state → AreOffersIn sys state (is_failed state) offers
-offers-in sys vs settled bounds failed state offers d n o s =
-    let a = are-there sys vs settled bounds failed state offers d n o s in record {
+pub offers-in : (course : Course) (offers : List Offer) → IsSound (sys_of course) (state_of course) → length offers ≡ length course.flow.nodes
+    → AreOffersFrom (sys_of course) (state_of course) 0 offers → AreOffersIn (sys_of course) (state_of course) (is_failed (state_of course)) offers
+offers-in course offers i n o =
+    let sys = sys_of course in
+    let state = state_of course in
+    let a = are-there course offers i n o in record {
       of_flow = of_flow sys state offers a;
       ascending = ascending sys state offers a;
       offered = offered-same sys state offers a;

@@ -25,7 +25,7 @@ use Rattle.fw_flow.specs.declared.restoring.Restoring.TheVariants.{Bound}
 use Rattle.fw_flow.specs.Restoring.{restoring}
 use Rattle.fw_model.specs.Covers.{stamp_of_notice}
 use Rattle.fw_model.specs.History.{injected_count}
-use Rattle.fw_model.specs.Machine.{front_of}
+use Rattle.fw_model.specs.Machine.{Machine, events, front_of, is_failed, ack_count_of}
 use Rattle.fw_plain.proofs.EventSteps.{history_last, batches_there}
 use Rattle.fw_model.proofs.StampLaws.{line-leq}
 use Rattle.fw_plain.specs.Offered.{delivery_to, deliveries_to, sent_from, batch_fronts, IsBare, AreBare, OffersBy, IsOfferOf, AreOffersFrom}
@@ -91,7 +91,7 @@ input_offers flow batches h p settled bound kind records n m q l k is c b e a =
     (subst (λ x. AreBare (batch_fronts (min (injected_count p h) greatest_number) (injected_count p h == x)) records) there
     (subst (λ x. AreBare (batch_fronts (min x greatest_number) (x == m)) records) c a))
 
--- what an output offers, by the ack_counts of its domain
+-- what an output offers, by the bounds of its domain
 output-by : (sys : System) (h : List Event) (p : ℕ) (settled least greatest : Front) (bound : ℕ) (way : Restoring) → way ≡ Bound
     → IsFrontOf (bounds_of sys.flow p) least nothing
     → IsFrontOf (bounds_of sys.flow p) greatest (meet (frontier_of (bounds_of sys.flow p) settled) (frontier_of (bounds_of sys.flow p) (until bound)))
@@ -116,24 +116,8 @@ output_offers sys h p settled least greatest bound kind domain k is d c n m =
 -- ---- the offers of the nodes
 
 -- a further offer
-pub offers_more : (sys : System) (h : List Event) (settled : List Front) (ack_counts : List ℕ) (failed : List Bool) (n m : ℕ) (os : List Offer) (o : Offer)
-    → AreOffersFrom sys h settled ack_counts failed n os → n + length os ≡ m → IsOfferOf sys h settled ack_counts failed m o
-    → AreOffersFrom sys h settled ack_counts failed n (os ++ o ∷ [])
-offers_more sys h settled ack_counts failed n m [] o a e i =
-    let same : m ≡ n = omega arith in (subst (λ k. IsOfferOf sys h settled ack_counts failed k o) same i, tt)
-offers_more sys h settled ack_counts failed n m (q ∷ os) o a e i = (a.0, offers_more sys h settled ack_counts failed (n + 1) m os o a.1 (omega arith) i)
-
--- an offer that was found for a node by its place
-pub offer_is : (sys : System) (h : List Event) (settled : List Front) (ack_counts : List ℕ) (failed : List Bool) (p node : ℕ) (front : Front) (o : Offer) → node ≡ p
-    → front ≡ front_of settled p → o.present ≡ not (slice_index_or failed p false)
-    → OffersBy sys h node front (slice_index_or ack_counts p 0) (restoring (kind_of sys.flow node) policy.None) o.offered
-    → o.stamps.delivered ≡ deliveries_to sys.flow node h → o.stamps.notified ≡ flat_map (stamp_of_notice node) h
-    → o.stamps.sent ≡ sent_from sys h node → IsOfferOf sys h settled ack_counts failed p o
-offer_is sys h settled ack_counts failed p node front o e f present offered delivered notified sent =
-    let along = subst (λ q. OffersBy sys h q front (slice_index_or ack_counts p 0) (restoring (kind_of sys.flow q) policy.None) o.offered) e offered in record {
-      present = present;
-      offered = subst (λ (g : Front). OffersBy sys h p g (slice_index_or ack_counts p 0) (restoring (kind_of sys.flow p) policy.None) o.offered) f along;
-      delivered = delivered ∙ ap (λ q. deliveries_to sys.flow q h) e;
-      notified = notified ∙ ap (λ q. flat_map (stamp_of_notice q) h) e;
-      sent = sent ∙ ap (λ q. sent_from sys h q) e;
-    }
+pub offers_more : (sys : System) (state : Machine) (n m : ℕ) (os : List Offer) (o : Offer) → AreOffersFrom sys state n os → n + length os ≡ m
+    → IsOfferOf sys state m o → AreOffersFrom sys state n (os ++ o ∷ [])
+offers_more sys state n m [] o a e i =
+    let same : m ≡ n = omega arith in (subst (λ k. IsOfferOf sys state k o) same i, tt)
+offers_more sys state n m (q ∷ os) o a e i = (a.0, offers_more sys state (n + 1) m os o a.1 (omega arith) i)

@@ -12,8 +12,6 @@ use Rattle.fw_flow.specs.declared.event.Event.TheVariants.{Inject, Deliver, Noti
 use Rattle.fw_flow.specs.declared.kind.Kind.{Kind}
 use Rattle.fw_flow.specs.declared.kind.Kind.TheVariants.{OutputNumber}
 use Rattle.fw_flow.specs.Dataflow.{System, Dataflow, kind_of, receiver, batches_of_nodes}
-use Rattle.fw_model.specs.Machine.{Machine, events}
-use Rattle.fw_plain.specs.Engine.{Standing}
 use Rattle.fw_flow.specs.NodeFunction.{delivered_recs}
 use Rattle.fw_model.specs.Steps.{HasEpoch, HasDelivery, HasSomethingAt}
 use Rattle.fw_plain.specs.Output.{has_epoch, is_delivery, has_delivery}
@@ -109,11 +107,15 @@ has-delivery sys vs o test h = turned sys.flow o test vs ∙ more-delivery sys.f
 
 -- ---- what there is
 
-pub there-number : (sys : System) (vs : List Event) (kind : Kind) (o x : ℕ) (b : Bool) → kind ≡ OutputNumber → b ≡ has_delivery sys.flow vs o (same (x ∷ []))
-    → ((b ≡ true → HasSomethingAt sys (reverse vs) kind o x) × (HasSomethingAt sys (reverse vs) kind o x → b ≡ true))
-there-number sys vs kind o x b k e =
-    let P : Kind → Type 0 = λ q. (b ≡ true → HasSomethingAt sys (reverse vs) q o x) × (HasSomethingAt sys (reverse vs) q o x → b ≡ true) in
-    subst P (sym k) (λ t. delivery-has sys vs o (same (x ∷ [])) (sym e ∙ t), λ h. e ∙ has-delivery sys vs o (same (x ∷ [])) h)
+-- the test says whether there is something
+abbrev pub Tells : System → List Event → Kind → ℕ → ℕ → Bool → Type 0
+Tells sys h kind o x b = (b ≡ true → HasSomethingAt sys h kind o x) × (HasSomethingAt sys h kind o x → b ≡ true)
+
+pub tells-number : (sys : System) (h vs : List Event) (kind : Kind) (o x : ℕ) (b : Bool) → h ≡ reverse vs → kind ≡ OutputNumber
+    → b ≡ has_delivery sys.flow vs o (same (x ∷ [])) → Tells sys h kind o x b
+tells-number sys h vs kind o x b t k e =
+    subst (λ g. Tells sys g kind o x b) (sym t) (subst (λ q. Tells sys (reverse vs) q o x b) (sym k)
+    (λ i. delivery-has sys vs o (same (x ∷ [])) (sym e ∙ i), λ i. e ∙ has-delivery sys vs o (same (x ∷ [])) i))
 
 -- what is there where it is not only a number that counts
 EpochOrLater : System → List Event → ℕ → ℕ → Type 0
@@ -125,63 +127,20 @@ unfolding EpochOrLater
 there-as sys h OutputNumber o x n = absurd (n refl)
 there-as sys h kind o x n = (λ i. i, λ i. i)
 
-pub there-epoch : (sys : System) (vs : List Event) (kind : Kind) (o x : ℕ) (a b : Bool) → (kind ≡ OutputNumber → ⊥) → a ≡ has_epoch sys.batches x
-    → b ≡ has_delivery sys.flow vs o (leq (x ∷ []))
-    → (((a || b) ≡ true → HasSomethingAt sys (reverse vs) kind o x) × (HasSomethingAt sys (reverse vs) kind o x → (a || b) ≡ true))
+-- an epoch, or a rec at it or a later one
+pub tells-epoch : (sys : System) (h vs : List Event) (kind : Kind) (o x : ℕ) (a : Bool) → h ≡ reverse vs → (kind ≡ OutputNumber → ⊥) → a ≡ has_epoch sys.batches x
+    → Tells sys h kind o x (a || has_delivery sys.flow vs o (leq (x ∷ [])))
 unfolding EpochOrLater
-there-epoch sys vs kind o x a b n e f =
-    let ways = there-as sys (reverse vs) kind o x n in (
-      λ t. ways.0 (elim (or_cases a b t) [
-        | inl i ↦ inl (epoch-has sys.batches x (sym e ∙ i))
-        | inr i ↦ inr (delivery-has sys vs o (leq (x ∷ [])) (sym f ∙ i))
+tells-epoch sys h vs kind o x a t n e =
+    let ways = there-as sys (reverse vs) kind o x n in
+    let b = has_delivery sys.flow vs o (leq (x ∷ [])) in
+    subst (λ g. Tells sys g kind o x (a || b)) (sym t) (
+      λ i. ways.0 (elim (or_cases a b i) [
+        | inl j ↦ inl (epoch-has sys.batches x (sym e ∙ j))
+        | inr j ↦ inr (delivery-has sys vs o (leq (x ∷ [])) j)
       ]),
-      λ h. elim (ways.1 h) [
-        | inl i ↦ or_left a b (e ∙ has-epoch sys.batches x i)
-        | inr i ↦ or_right a b (f ∙ has-delivery sys vs o (leq (x ∷ [])) i)
+      λ i. elim (ways.1 i) [
+        | inl j ↦ or_left a b (e ∙ has-epoch sys.batches x j)
+        | inr j ↦ or_right a b (has-delivery sys vs o (leq (x ∷ [])) j)
       ],
     )
-
--- ---- of the state that an engine stands for
-
--- the test says whether there is something
-abbrev pub Tells : Standing → ℕ → ℕ → Bool → Type 0
-Tells w o x b =
-    (b ≡ true → HasSomethingAt w.sys (events w.state.history) (kind_of w.sys.flow o) o x) × (HasSomethingAt w.sys (events w.state.history) (kind_of w.sys.flow o) o x → b ≡ true)
-
--- the history of that state
-tells-from : (was : Standing) (sys : System) (state : Machine) (vs : List Event) (refused : Bool) (o x : ℕ) (b : Bool)
-    → record { sys = sys; state = state; refused = refused } ≡ was → events state.history ≡ reverse vs
-    → ((b ≡ true → HasSomethingAt sys (reverse vs) (kind_of sys.flow o) o x) × (HasSomethingAt sys (reverse vs) (kind_of sys.flow o) o x → b ≡ true)) → Tells was o x b
-tells-from was sys state vs refused o x b e h t =
-    let kind = kind_of sys.flow o in
-    let P : List Event → Type 0 = λ h. (b ≡ true → HasSomethingAt sys h kind o x) × (HasSomethingAt sys h kind o x → b ≡ true) in
-    subst (λ (w : Standing). Tells w o x b) e (subst P (sym h) t)
-
-pub tells-number : (was : Standing) (sys : System) (state : Machine) (vs : List Event) (refused : Bool) (o x : ℕ) (b : Bool)
-    → record { sys = sys; state = state; refused = refused } ≡ was → events state.history ≡ reverse vs → kind_of sys.flow o ≡ OutputNumber
-    → b ≡ has_delivery sys.flow vs o (same (x ∷ [])) → Tells was o x b
-tells-number was sys state vs refused o x b e h k d =
-    tells-from was sys state vs refused o x b e h (there-number sys vs (kind_of sys.flow o) o x b k d)
-
-pub tells-epoch : (was : Standing) (sys : System) (state : Machine) (vs : List Event) (refused : Bool) (o x : ℕ) (a : Bool)
-    → record { sys = sys; state = state; refused = refused } ≡ was → events state.history ≡ reverse vs → (kind_of sys.flow o ≡ OutputNumber → ⊥)
-    → a ≡ has_epoch sys.batches x → a ≡ true → Tells was o x a
-tells-epoch was sys state vs refused o x a e h k d t =
-    let late = has_delivery sys.flow vs o (leq (x ∷ [])) in
-    subst (λ b. Tells was o x b) (or_true a late t)
-    (tells-from was sys state vs refused o x (a || late) e h (there-epoch sys vs (kind_of sys.flow o) o x a late k d refl))
-  where
-    or_true : (a b : Bool) → a ≡ true → (a || b) ≡ a
-    or_true true b t = refl
-    or_true false b t = absurd (cc)
-
-pub tells-later : (was : Standing) (sys : System) (state : Machine) (vs : List Event) (refused : Bool) (o x : ℕ) (a b : Bool)
-    → record { sys = sys; state = state; refused = refused } ≡ was → events state.history ≡ reverse vs → (kind_of sys.flow o ≡ OutputNumber → ⊥)
-    → a ≡ has_epoch sys.batches x → a ≡ false → b ≡ has_delivery sys.flow vs o (leq (x ∷ [])) → Tells was o x b
-tells-later was sys state vs refused o x a b e h k d t f =
-    subst (λ c. Tells was o x c) (or_false a b t)
-    (tells-from was sys state vs refused o x (a || b) e h (there-epoch sys vs (kind_of sys.flow o) o x a b k d f))
-  where
-    or_false : (a b : Bool) → a ≡ false → (a || b) ≡ b
-    or_false true b t = absurd (cc)
-    or_false false b t = refl

@@ -1,41 +1,16 @@
--- What a recovery of an engine chooses.
+-- What a recovery of a course chooses.
 use Rattle.std.proofs.Common.{◌≡◌, ℕ, Bool, List, [], length, reverse, refl, sym, Result, Ok, Err, IfOk, arith}
-use Rattle.std.proofs.lemmas.List.FromFn.{get_or-map-range_with_len}
-use Rattle.fw_frontier.specs.Front.{Front}
 use Rattle.fw_flow.specs.declared.choice.Choice.{Choice}
 use Rattle.fw_flow.specs.declared.choice.Offer.{Offer}
-use Rattle.fw_flow.specs.declared.event.Event.{Event}
-use Rattle.fw_flow.specs.Dataflow.{System, bounds_of}
+use Rattle.fw_flow.specs.Dataflow.{System}
 use Rattle.fw_model.specs.Choice.{IsConsistentBy, IsLargestBy, IsLargest}
-use Rattle.fw_model.specs.Machine.{Machine, events, is_failed, no_stamps}
+use Rattle.fw_model.specs.Machine.{Machine, is_failed}
 use Rattle.fw_model.specs.Steps.{offers}
 use Rattle.fw_model.proofs.ChoosingLaws.{recovery-has_choice}
 use Rattle.fw_model.specs.Offers.{IsOffered, AreOffersIn, AreAscending, covers_of}
 use Rattle.fw_model.proofs.OfferLaws.{consistent-same, largest-same}
-use Rattle.fw_plain.specs.Engine.{state_of, IsSound}
-use Rattle.fw_plain.specs.Offered.{StandsBy}
-use Rattle.fw_plain.specs.Past.{Past}
-use Rattle.fw_plain.proofs.EngineLaws.{legal_of}
+use Rattle.fw_plain.specs.Engine.{IsSound}
 use Rattle.fw_model.specs.Choosing.{CanChoose}
-
--- the state that an engine stands for is that of its lists
-pub stands_by : (sys : System) (past : Past) (settled fs : List Front) (failed ds : List Bool) (ack_counts ns : List ℕ) (vs : List Event)
-    → IsSound sys (state_of sys.flow past settled failed ack_counts) → events past.history ≡ reverse vs → fs ≡ settled → ns ≡ ack_counts → ds ≡ failed
-    → StandsBy sys vs fs ns ds (state_of sys.flow past settled failed ack_counts)
-stands_by sys past settled fs failed ds ack_counts ns vs i h e k l =
-    let low : ℕ → Front = λ p. no_stamps (bounds_of sys.flow p) in
-    record {
-      well_formed = i.well_formed;
-      keeps_nothing = i.keeps_nothing;
-      notifies_nobody = i.notifies_nobody;
-      legal = legal_of sys (state_of sys.flow past settled failed ack_counts) i;
-      history = h;
-      settled_there = sym e;
-      bounds_there = sym k;
-      failed_there = sym l;
-      nothing_written = refl;
-      nothing_collected = λ p m. get_or-map-range_with_len low 0 (length sys.flow.nodes) p p [] m (omega arith);
-    }
 
 if_ok_also : {A E : Type 0} (r : Result A E) (P Q : A → Type 0) → ((x : A) → P x → Q x) → IfOk r P → IfOk r Q
 if_ok_also (Ok x) P Q h p = h x p

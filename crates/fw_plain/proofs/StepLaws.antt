@@ -1,4 +1,4 @@
--- What progress, acknowledgements, failures and recoveries do to the state that an engine stands for.
+-- What progress, acknowledgements, failures and recoveries do to the state that a course stands for.
 use Rattle.std.proofs.Common.{◌≡◌, ℕ, zero, suc, ◌+◌, ◌<◌, ◌^◌, ◌==◌, nat_le, cond, map, Bool, true, false, ◌&&◌, ◌||◌, not, List, [], ◌∷◌, length, slice_set, slice_index_or, refl, sym, ◌∙◌, ap, subst, filter, inl, inr, arith}
 use Rattle.std.specs.List.{range_with_len}
 use Rattle.std.proofs.lemmas.Bool.{and_parts, and_from, or_cases, or_left, or_right, and_right, eqb-true}
@@ -14,18 +14,20 @@ use Rattle.fw_flow.specs.declared.choice.Cut.TheVariants.{Present, At}
 use Rattle.fw_flow.specs.declared.kind.Kind.{Kind}
 use Rattle.fw_flow.specs.declared.kind.Kind.TheVariants.{OutputEpoch, OutputNumber}
 use Rattle.fw_flow.specs.declared.step.Step.TheVariants.{Progress, Fail, Recover, Ack}
-use Rattle.fw_flow.specs.Dataflow.{System, Dataflow, kind_of, policy_of, receiver, bounds_of, greatest_of, greatest_number, domain_of_kind, is_output_kind, KeepsNothing, node_ids}
+use Rattle.fw_flow.specs.Dataflow.{System, Dataflow, kind_of, policy_of, receiver, bounds_of, greatest_of, greatest_number, domain_of_kind, is_output_kind, KeepsNothing, node_ids, node_frontier}
 use Rattle.fw_flow.specs.NodeFunction.{delivered_recs}
 use Rattle.fw_model.specs.Choice.{cut_of, filtered_history, IsLargest}
 use Rattle.fw_model.specs.History.{IsComplete}
 use Rattle.fw_model.specs.Machine.{Machine, events, front_of, is_failed, ack_count_of, family_of, AreCanonical}
-use Rattle.fw_model.specs.Steps.{MayAcknowledge, HasSomethingAt, StepsTo, CutsTo, IsSettledCut, checkpoint_of, eager_writes, is_eager, is_one_of, offers, silent, acked, cuts, did, idle}
+use Rattle.fw_model.specs.Steps.{MayAcknowledge, HasSomethingAt, StepsTo, CutsTo, IsSettledCut, checkpoint_of, eager_writes, is_eager, is_one_of, offers, recs_at_output, silent, acked, cuts, did, idle}
 use Rattle.fw_model.proofs.Decisions.{two_ways}
 use Rattle.fw_model.proofs.DescentLaws.{complete-one}
-use Rattle.fw_plain.specs.Engine.{Standing, state_of, IsOfEachNode, IsSound}
+use Rattle.fw_plain.specs.declared.course.Course.{Course}
+use Rattle.fw_plain.specs.Engine.{IsOfEachNode, IsSound, sys_of, state_of}
 use Rattle.fw_plain.specs.Failed.{any_failed, any_live, with_failed}
 use Rattle.fw_plain.specs.Fronts.{grows, any_grows, IsGrown, AreGrown, IsCut, AreCut}
-use Rattle.fw_plain.specs.Past.{Past}
+use Rattle.fw_plain.specs.Past.{Past, cut_past}
+use Rattle.fw_plain.proofs.PastLaws.{cut_is_filtered}
 use Rattle.fw_plain.proofs.FrontsLaws.{grows-at, grows-by, any_grows-at, any_grows-by}
 
 -- ---- progress
@@ -66,20 +68,20 @@ none_eager sys state settled (p ∷ ps) keeps =
     ap (λ kept. map (λ q. checkpoint_of state q (front_of settled q)) (cond (is_eager kept && grown p) (p ∷ asked) asked)) (keeps p)
     ∙ none_eager sys state settled ps keeps
 
-pub progresses : (sys : System) (past : Past) (settled : List Front) (failed : List Bool) (bounds : List ℕ) (complete both : List Front)
-    → IsSound sys (state_of sys.flow past settled failed bounds)
-    → IsComplete sys (events past.history) (family_of sys.flow complete) → AreCanonical sys.flow complete → AreGrown failed settled complete both
-    → any_grows failed complete settled ≡ true
-    → StepsTo sys (state_of sys.flow past settled failed bounds) Progress (state_of sys.flow past both failed bounds) (did silent)
-progresses sys past settled failed bounds complete both i k canonical j more =
-    let old : Machine = state_of sys.flow past settled failed bounds in
+pub progresses : (course : Course) (complete both : List Front) → IsSound (sys_of course) (state_of course)
+    → IsComplete (sys_of course) (events course.history.history) (family_of course.flow complete) → AreCanonical course.flow complete
+    → AreGrown course.failed.items course.settled.items complete both → any_grows course.failed.items complete course.settled.items ≡ true
+    → StepsTo (sys_of course) (state_of course) Progress (record (state_of course) { settled = both }) (did silent)
+progresses course complete both i k canonical j more =
+    let flow = course.flow in
+    let settled = course.settled.items in
     let each = i.of_each_node in
-    let place = any_grows-by failed complete settled more in
+    let place = any_grows-by course.failed.items complete settled more in
     let p = place.0 in
-    let l : p < length sys.flow.nodes = subst (λ n. p < n) each.one_flag_each place.1 in
-    let b = bounds_of sys.flow p in
+    let l : p < length flow.nodes = subst (λ n. p < n) each.one_flag_each place.1 in
+    let b = bounds_of flow p in
     let new = grows-by b (front_of complete p) (front_of settled p) (each.canonical p l) place.3 in (
-      family_of sys.flow complete,
+      family_of flow complete,
       both,
       record {
         complete = k;
@@ -93,11 +95,11 @@ progresses sys past settled failed bounds complete both i k canonical j more =
         );
         one_each = j.one_each ∙ each.one_flag_each;
         each = λ q m e. subst (λ flag. IsGrown flag (front_of settled q) (front_of complete q) (front_of both q)) e
-            (j.each q (subst (λ n. q < n) (sym each.one_flag_each) m)) (bounds_of sys.flow q) (each.canonical q m) (canonical q);
+            (j.each q (subst (λ n. q < n) (sym each.one_flag_each) m)) (bounds_of flow q) (each.canonical q m) (canonical q);
         failed = λ q m e. subst (λ flag. IsGrown flag (front_of settled q) (front_of complete q) (front_of both q)) e
             (j.each q (subst (λ n. q < n) (sym each.one_flag_each) m));
       },
-      ap (λ ws. record (state_of sys.flow past both failed bounds) { writes = ws }) (sym (none_eager sys old both (node_ids sys.flow) i.keeps_nothing)),
+      ap (λ ws. record (state_of course) { settled = both; writes = ws }) (sym (none_eager (sys_of course) (state_of course) both (node_ids flow) i.keeps_nothing)),
       refl,
     )
 
@@ -120,34 +122,22 @@ settled_fits sys state o x m =
     (fits_of_kind sys.flow (kind_of sys.flow o) x m.output
     (and_parts (in_domain (bounds_of sys.flow o) (x ∷ [])) (inside (front_of state.settled o) (x ∷ [])) m.settled).0)
 
-pub may_acknowledge : (was : Standing) (sys : System) (state : Machine) (refused : Bool) (o x : ℕ)
-    → record { sys = sys; state = state; refused = refused } ≡ was → IsSound sys state → o < length state.ack_counts
+pub may_acknowledge : (sys : System) (state : Machine) (o x : ℕ) → IsSound sys state → o < length state.ack_counts
     → x ≡ ack_count_of state o → is_output_kind (kind_of sys.flow o) ≡ true → is_failed state o ≡ false
-    → frontier_of (bounds_of was.sys.flow o) (front_of was.state.settled o) (x ∷ []) ≡ true
-    → HasSomethingAt was.sys (events was.state.history) (kind_of was.sys.flow o) o x → MayAcknowledge was.sys was.state o x
-may_acknowledge was sys state refused o x e i l n k live =
-    subst (λ (w : Standing). frontier_of (bounds_of w.sys.flow o) (front_of w.state.settled o) (x ∷ []) ≡ true
-    → HasSomethingAt w.sys (events w.state.history) (kind_of w.sys.flow o) o x → MayAcknowledge w.sys w.state o x) e
-    (λ s t. record {
-      declared = subst (λ m. o < m) i.of_each_node.one_bound_each l;
-      output = k;
-      live = live;
-      next = n;
-      settled = s;
-      there = t;
-    })
+    → node_frontier sys.flow o (front_of state.settled o) (x ∷ []) ≡ true
+    → HasSomethingAt sys (events state.history) (kind_of sys.flow o) o x → MayAcknowledge sys state o x
+may_acknowledge sys state o x i l n k live s t = record {
+  declared = subst (λ m. o < m) i.of_each_node.one_count_each l;
+  output = k;
+  live = live;
+  next = n;
+  settled = s;
+  there = t;
+}
 
-pub may_acknowledge_none : (was : Standing) (sys : System) (state : Machine) (refused : Bool) (o : ℕ)
-    → record { sys = sys; state = state; refused = refused } ≡ was
-    → (ack_count_of state o < 2 ^ 32 → ⊥) → (x : ℕ) → MayAcknowledge was.sys was.state o x → ⊥
-may_acknowledge_none was sys state refused o e n =
-    subst (λ (w : Standing). (x : ℕ) → MayAcknowledge w.sys w.state o x → ⊥) e (λ x m. n (settled_fits sys state o x m))
-
-pub acknowledges : (sys : System) (past : Past) (settled : List Front) (failed : List Bool) (bounds : List ℕ) (o x : ℕ) (recs : List Rec)
-    → MayAcknowledge sys (state_of sys.flow past settled failed bounds) o x
-    → recs ≡ sorted_recs (delivered_recs (λ e s. receiver sys.flow e == o && same s (x ∷ [])) (events past.history))
-    → StepsTo sys (state_of sys.flow past settled failed bounds) (Ack o) (state_of sys.flow past settled failed (slice_set bounds o (x + 1))) (did (acked o (x ∷ []) recs))
-acknowledges sys past settled failed bounds o x recs m e = (x, m, refl, ap (λ rs. acked o (x ∷ []) rs) e)
+pub acknowledges : (sys : System) (state : Machine) (o x : ℕ) (recs : List Rec) → MayAcknowledge sys state o x → recs ≡ recs_at_output sys state o x
+    → StepsTo sys state (Ack o) (record state { ack_counts = slice_set state.ack_counts o (x + 1) }) (did (acked o (x ∷ []) recs))
+acknowledges sys state o x recs m e = (x, m, refl, ap (λ rs. acked o (x ∷ []) rs) e)
 
 -- ---- failures
 
@@ -182,10 +172,10 @@ live-by failed (q ∷ ps) e = elim (or_cases (not (slice_index_or failed q true)
     flag_of (false ∷ xs) zero e = (omega arith, refl)
     flag_of (x ∷ xs) (suc k) e = let r = flag_of xs k e in (omega (arith, r.0), r.1)
 
-pub fails : (sys : System) (past : Past) (settled : List Front) (failed then_failed : List Bool) (bounds : List ℕ) (ps : List ℕ)
-    → IsSound sys (state_of sys.flow past settled failed bounds) → any_live failed ps ≡ true → then_failed ≡ with_failed failed ps
-    → StepsTo sys (state_of sys.flow past settled failed bounds) (Fail ps) (state_of sys.flow past settled then_failed bounds) (did silent)
-fails sys past settled failed then_failed bounds ps i l e =
+pub fails : (course : Course) (flags : List Bool) (ps : List ℕ) → IsSound (sys_of course) (state_of course) → any_live course.failed.items ps ≡ true
+    → flags ≡ with_failed course.failed.items ps → StepsTo (sys_of course) (state_of course) (Fail ps) (record (state_of course) { failed = flags }) (did silent)
+fails course flags ps i l e =
+    let failed = course.failed.items in
     let w = live-by failed ps l in
     let n = i.of_each_node.one_flag_each in
     let flag : ℕ → Bool = λ p. slice_index_or failed p false || is_one_of p ps in (
@@ -193,7 +183,7 @@ fails sys past settled failed then_failed bounds ps i l e =
       subst (λ m. w.0 < m) n w.1,
       w.3,
       w.2,
-      ap (λ fs. state_of sys.flow past settled fs bounds) (e ∙ ap (λ m. map flag (range_with_len 0 m)) n),
+      ap (λ fs. record (state_of course) { failed = fs }) (e ∙ ap (λ m. map flag (range_with_len 0 m)) n),
       refl,
     )
 
@@ -232,15 +222,15 @@ cuts-to sys state choice after each g c = record {
     at p l Present o e = e
     at p l (At f) o n = n (bounds_of sys.flow p) (each.canonical p l) o.0
 
-pub recovers : (sys : System) (past later : Past) (settled after : List Front) (failed then_failed : List Bool) (bounds : List ℕ) (choice : Choice)
-    → IsSound sys (state_of sys.flow past settled failed bounds) → any_failed failed ≡ true
-    → IsLargest sys (state_of sys.flow past settled failed bounds) (offers sys (state_of sys.flow past settled failed bounds)) choice
-    → AreCut choice.cuts settled after → later ≡ record { history = filtered_history sys choice past.history; next = past.next }
-    → then_failed ≡ map (λ p. false) (node_ids sys.flow)
-    → StepsTo sys (state_of sys.flow past settled failed bounds) Recover (state_of sys.flow later after then_failed bounds) (did (cuts choice))
-recovers sys past later settled after failed then_failed bounds choice i some g c l e =
-    let state = state_of sys.flow past settled failed bounds in
-    let w = failed-by failed some in (
+pub recovers : (course : Course) (left : Past) (after : List Front) (live : List Bool) (choice : Choice) → IsSound (sys_of course) (state_of course)
+    → any_failed course.failed.items ≡ true → IsLargest (sys_of course) (state_of course) (offers (sys_of course) (state_of course)) choice
+    → AreCut choice.cuts course.settled.items after → left ≡ cut_past course.flow choice.cuts course.history → live ≡ map (λ p. false) (node_ids course.flow)
+    → StepsTo (sys_of course) (state_of course) Recover
+    (record (state_of course) { history = left.history; next = left.next; settled = after; failed = live }) (did (cuts choice))
+recovers course left after live choice i some g c l e =
+    let sys = sys_of course in
+    let state = state_of course in
+    let w = failed-by course.failed.items some in (
       w.0,
       choice,
       after,
@@ -248,8 +238,8 @@ recovers sys past later settled after failed then_failed bounds choice i some g 
       w.2,
       g,
       cuts-to sys state choice after i.of_each_node g c,
-      ap (λ p. state_of sys.flow p after then_failed bounds) l
-          ∙ ap (λ fs. state_of sys.flow (record { history = filtered_history sys choice past.history; next = past.next }) after fs bounds) e,
+      ap (λ (p : Past). record state { history = p.history; next = p.next; settled = after; failed = live }) (l ∙ cut_is_filtered sys choice course.history)
+          ∙ ap (λ fs. record state { history = filtered_history sys choice course.history.history; settled = after; failed = fs }) e,
       refl,
     )
 

@@ -1,16 +1,16 @@
 -- What the plain engine stands for.
 use Rattle.std.specs.Prelude.{◌≡◌, ℕ, ◌<◌, Bool, List, [], map, length}
-use Rattle.fw_frontier.specs.Front.{Front, IsCanonical}
-use Rattle.fw_flow.specs.Dataflow.{System, Dataflow, bounds_of, KeepsNothing, NotifiesNobody, node_ids}
+use Rattle.fw_frontier.specs.Front.{IsCanonical}
+use Rattle.fw_flow.specs.Dataflow.{System, system_of, bounds_of, KeepsNothing, NotifiesNobody, node_ids}
 use Rattle.fw_flow.specs.declared.step.Step.{Step}
 use Rattle.fw_flow.specs.WellFormed.{IsWellFormedSystem}
 use Rattle.fw_model.specs.Machine.{Machine, first_state, no_stamps, front_of}
-use Rattle.fw_model.specs.Steps.{Effect, silent, acked, cuts, Outcome, did, idle, Run}
+use Rattle.fw_model.specs.Steps.{Effect, silent, acked, cuts, Outcome, did, idle, StepsTo, Run}
+use Rattle.fw_plain.specs.declared.course.Course.{Course}
 use Rattle.fw_plain.specs.declared.stepped.Effect.{Effect as Shown}
 use Rattle.fw_plain.specs.declared.stepped.Effect.TheVariants.{Silent, Acked, Cuts}
 use Rattle.fw_plain.specs.declared.stepped.Stepped.{Stepped}
 use Rattle.fw_plain.specs.declared.stepped.Stepped.TheVariants.{Did, Idle}
-use Rattle.fw_plain.specs.Past.{Past}
 
 -- what an engine stands for: the system that it runs and a state of its machine; and whether memory was refused
 pub record Standing : Type 0 where
@@ -18,17 +18,20 @@ pub record Standing : Type 0 where
   pub state : Machine
   pub refused : Bool
 
--- The state of a machine in which nothing was written or collected: by its events, what is settled, which nodes are failed,
--- and how many stamps each output acknowledged.
-abbrev pub state_of : Dataflow → Past → List Front → List Bool → List ℕ → Machine
-state_of flow past settled failed ack_counts = record {
-  history = past.history;
-  next = past.next;
-  settled = settled;
+-- the system of a course
+abbrev pub sys_of : Course → System
+sys_of course = system_of course.flow course.batches
+
+-- the state of the machine that a course stands for: nothing was written or collected
+abbrev pub state_of : Course → Machine
+state_of course = record {
+  history = course.history.history;
+  next = course.history.next;
+  settled = course.settled.items;
   writes = [];
-  failed = failed;
-  ack_counts = ack_counts;
-  low = map (λ p. no_stamps (bounds_of flow p)) (node_ids flow);
+  failed = course.failed.items;
+  ack_counts = course.ack_counts.items;
+  low = map (λ p. no_stamps (bounds_of course.flow p)) (node_ids course.flow);
 }
 
 -- steps lead to the state from the first one
@@ -40,7 +43,7 @@ pub record IsOfEachNode (sys : System) (state : Machine) : Type 0 where
   pub one_front_each : length state.settled ≡ length sys.flow.nodes
   pub canonical : (p : ℕ) → p < length sys.flow.nodes → IsCanonical (bounds_of sys.flow p) (front_of state.settled p)
   pub one_flag_each : length state.failed ≡ length sys.flow.nodes
-  pub one_bound_each : length state.ack_counts ≡ length sys.flow.nodes
+  pub one_count_each : length state.ack_counts ≡ length sys.flow.nodes
 
 -- what is true of each state of an engine
 pub record IsSound (sys : System) (state : Machine) : Type 0 where
@@ -60,3 +63,7 @@ effect_of (Cuts choice) = cuts choice
 abbrev pub outcome_of : Stepped → Outcome
 outcome_of (Did shown) = did (effect_of shown)
 outcome_of Idle = idle
+
+-- the step leads from the course to the next one, with what it shows
+abbrev pub Takes : Course → Step → Course → Stepped → Type 0
+Takes course step next stepped = StepsTo (sys_of course) (state_of course) step (state_of next) (outcome_of stepped)

@@ -13,31 +13,16 @@ use Rattle.fw_flow.specs.declared.event.Event.{Event}
 use Rattle.fw_flow.specs.declared.event.Event.TheVariants.{Inject, Deliver, Notify}
 use Rattle.fw_flow.specs.declared.event.Message.{Message}
 use Rattle.fw_flow.specs.declared.kind.Policy.TheVariants as policy
-use Rattle.fw_flow.specs.Dataflow.{System, Dataflow, kind_of, receiver, out_edges, bounds_of, greatest_number, NotifiesNobody, KeepsNothing, node_frontier}
+use Rattle.fw_flow.specs.Dataflow.{System, Dataflow, kind_of, receiver, out_edges, bounds_of, greatest_number, node_frontier}
 use Rattle.fw_flow.specs.NodeFunction.{sent_by}
 use Rattle.fw_flow.specs.Projection.{events_at}
-use Rattle.fw_flow.specs.WellFormed.{IsWellFormedSystem}
 use Rattle.fw_flow.specs.declared.restoring.Restoring.{Restoring}
 use Rattle.fw_flow.specs.declared.restoring.Restoring.TheVariants.{Batches, Bound, Anything, Checkpoints, Events}
 use Rattle.fw_flow.specs.Restoring.{restoring}
 use Rattle.fw_model.specs.Choice.{until}
 use Rattle.fw_model.specs.Covers.{stamp_of_notice}
-use Rattle.fw_model.specs.History.{IsLegal, injected_count, is_exhausted}
-use Rattle.fw_model.specs.Machine.{Machine, events, no_stamps, front_of}
-
--- The state is that of a plain machine in which these events happened, the oldest first, and in which this is settled, was
--- acknowledged and is failed: nothing was ever written or collected.
-pub record StandsBy (sys : System) (vs : List Event) (settled : List Front) (ack_counts : List ℕ) (failed : List Bool) (state : Machine) : Type 0 where
-  pub well_formed : IsWellFormedSystem sys
-  pub keeps_nothing : KeepsNothing sys.flow
-  pub notifies_nobody : NotifiesNobody sys.flow
-  pub legal : IsLegal sys (events state.history)
-  pub history : events state.history ≡ reverse vs
-  pub settled_there : state.settled ≡ settled
-  pub bounds_there : state.ack_counts ≡ ack_counts
-  pub failed_there : state.failed ≡ failed
-  pub nothing_written : state.writes ≡ []
-  pub nothing_collected : (p : ℕ) → p < length sys.flow.nodes → front_of state.low p ≡ no_stamps (bounds_of sys.flow p)
+use Rattle.fw_model.specs.History.{injected_count, is_exhausted}
+use Rattle.fw_model.specs.Machine.{Machine, events, front_of, is_failed, ack_count_of}
 
 -- a message on an edge, alone
 abbrev pub single_message : ℕ → Message → Counted
@@ -86,8 +71,8 @@ AreListed fs (Between least greatest) = ⊥
 
 -- all up to the frontier is offered
 abbrev pub IsUpTo : Bounds → Frontier → Offered → Type 0
-IsUpTo ack_counts f (Listed records) = ⊥
-IsUpTo ack_counts f (Between least greatest) = IsFrontOf ack_counts least nothing × IsFrontOf ack_counts greatest f
+IsUpTo bounds f (Listed records) = ⊥
+IsUpTo bounds f (Between least greatest) = IsFrontOf bounds least nothing × IsFrontOf bounds greatest f
 
 -- What node p offers, by the way in which it is restored, where so much is settled and so many stamps were acknowledged: an
 -- input what it injected, an output what is settled and acknowledged, any other node what is settled.
@@ -100,16 +85,15 @@ OffersBy sys h p settled bound Anything offered = IsUpTo (bounds_of sys.flow p) 
 OffersBy sys h p settled bound Checkpoints offered = ⊥
 OffersBy sys h p settled bound Events offered = ⊥
 
--- what node p offers after a history, the latest event first, where these are settled, acknowledged and failed
-pub record IsOfferOf (sys : System) (h : List Event) (settled : List Front) (ack_counts : List ℕ) (failed : List Bool) (p : ℕ) (offer : Offer) : Type 0 where
-  pub present : offer.present ≡ not (slice_index_or failed p false)
-  pub offered : OffersBy sys h p (front_of settled p) (slice_index_or ack_counts p 0) (restoring (kind_of sys.flow p) policy.None) offer.offered
-  pub delivered : offer.stamps.delivered ≡ deliveries_to sys.flow p h
-  pub notified : offer.stamps.notified ≡ flat_map (stamp_of_notice p) h
-  pub sent : offer.stamps.sent ≡ sent_from sys h p
+-- what node p offers in a state
+pub record IsOfferOf (sys : System) (state : Machine) (p : ℕ) (offer : Offer) : Type 0 where
+  pub present : offer.present ≡ not (is_failed state p)
+  pub offered : OffersBy sys (events state.history) p (front_of state.settled p) (ack_count_of state p) (restoring (kind_of sys.flow p) policy.None) offer.offered
+  pub delivered : offer.stamps.delivered ≡ deliveries_to sys.flow p (events state.history)
+  pub notified : offer.stamps.notified ≡ flat_map (stamp_of_notice p) (events state.history)
+  pub sent : offer.stamps.sent ≡ sent_from sys (events state.history) p
 
 -- the offers are those of the nodes from p on
-abbrev pub AreOffersFrom : System → List Event → List Front → List ℕ → List Bool → ℕ → List Offer → Type 0
-AreOffersFrom sys h settled ack_counts failed p [] = Unit {0}
-AreOffersFrom sys h settled ack_counts failed p (offer ∷ offers) =
-    IsOfferOf sys h settled ack_counts failed p offer × AreOffersFrom sys h settled ack_counts failed (p + 1) offers
+abbrev pub AreOffersFrom : System → Machine → ℕ → List Offer → Type 0
+AreOffersFrom sys state p [] = Unit {0}
+AreOffersFrom sys state p (offer ∷ offers) = IsOfferOf sys state p offer × AreOffersFrom sys state (p + 1) offers

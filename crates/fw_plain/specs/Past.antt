@@ -32,8 +32,8 @@ with_one_more past v = record { history = record { serial = past.next; event = v
 
 -- whether the stamp of a domain is inside a cut
 abbrev pub is_inside_cut : Bounds → Cut → Stamp → Bool
-is_inside_cut ack_counts Present t = in_domain ack_counts t
-is_inside_cut ack_counts (At f) t = frontier_of ack_counts f t
+is_inside_cut bounds Present t = in_domain bounds t
+is_inside_cut bounds (At f) t = frontier_of bounds f t
 
 -- whether an event is inside the cut of its node
 abbrev pub is_kept : Dataflow → List Cut → Event → Bool

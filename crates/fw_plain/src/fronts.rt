@@ -1,7 +1,7 @@
 //! A frontier for each node.
-ghost use Rattle.std.specs.Prelude.{◌≡◌, not, ◌&&◌, map, length, IfOk};
+ghost use Rattle.std.specs.Prelude.{◌≡◌, ◌<◌, false, not, ◌&&◌, map, length, slice_index_or, IfOk};
 ghost use Rattle.fw_flow.specs.Dataflow.{bounds_of, node_ids};
-ghost use Rattle.fw_model.specs.Machine.{no_stamps};
+ghost use Rattle.fw_model.specs.Machine.{front_of, no_stamps};
 ghost use Rattle.fw_plain.specs.Fronts as spec;
 ghost use Rattle.fw_plain.specs.Fronts.{IsGrown, AreGrown, IsCut, AreCut};
 
@@ -33,18 +33,22 @@ pub(crate) fn any_grows(failed: &[bool], complete: &[Front], settled: &[Front]) 
     requires settled { length settled.now ≡ length failed.now }
     ensures { result ≡ spec.any_grows failed.now complete.now settled.now }
 {
-    for (place, flag) in failed.iter().enumerate() {
-        if grows_at(*flag, &complete[place], &settled[place]) {
+    for place in 0..failed.len() {
+        if grows_at(failed, complete, settled, place) {
             return true;
         }
     }
     false
 }
 
-fn grows_at(failed: bool, complete: &Front, settled: &Front) -> bool
-    ensures { result ≡ (not failed && spec.grows complete.now settled.now) }
+fn grows_at(failed: &[bool], complete: &[Front], settled: &[Front], place: usize) -> bool
+    requires failed { place < length failed.now }
+    requires complete { place < length complete.now }
+    requires settled { place < length settled.now }
+    ensures { result ≡ (not (slice_index_or failed.now place false)
+        && spec.grows (front_of complete.now place) (front_of settled.now place)) }
 {
-    !failed && grows(complete, settled)
+    !failed[place] && grows(&complete[place], &settled[place])
 }
 
 /// What is settled once the nodes that are not failed settle what is complete. The error is want of memory.

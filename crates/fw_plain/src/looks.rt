@@ -17,14 +17,14 @@ impl Engine {
     pub fn settled(&self, node: NodeId) -> Option<&Front>
         ensures { option_copied result ≡ slice_get self.now.state.settled node }
     {
-        self.settled.get(node.place() as usize)
+        self.course.settled.get(node.place() as usize)
     }
 
     /// Whether a node is failed. Past the last node none is.
     pub fn is_failed(&self, node: NodeId) -> bool
         ensures { result ≡ machine.is_failed self.now.state node }
     {
-        is_failed(&self.failed, node)
+        is_failed(&self.course.failed, node)
     }
 
     /// How many stamps an output acknowledged; 0 of any other node.
@@ -32,7 +32,7 @@ impl Engine {
         ensures { result ≡ ack_count_of self.now.state output }
     {
         let place = output.place() as usize;
-        self.ack_counts.get(place).copied().unwrap_or(0)
+        self.course.ack_counts.get(place).copied().unwrap_or(0)
     }
 
     /// What is pending on an edge: what was sent on it, what the latest event sent first, less what was delivered. The error
@@ -41,7 +41,7 @@ impl Engine {
         ensures { IfOk result (λ messages. messages.items
             ≡ pending_messages self.now.sys (events self.now.state.history) edge) }
     {
-        let events = self.history.as_slice();
-        pending(self.alloc, &self.flow, &self.batches, events, edge)
+        let events = self.course.history.as_slice();
+        pending(self.course.alloc, &self.course.flow, &self.course.batches, events, edge)
     }
 }

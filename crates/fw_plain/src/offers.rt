@@ -9,12 +9,14 @@ ghost use Rattle.fw_flow.specs.Dataflow.{kind_of, bounds_of, greatest_number, sy
 ghost use Rattle.fw_model.specs.Choice as choices;
 ghost use Rattle.fw_flow.specs.Restoring.{restoring};
 ghost use Rattle.fw_model.specs.Covers.{stamp_of_notice};
-ghost use Rattle.fw_model.specs.Machine.{Machine, is_failed, front_of};
+ghost use Rattle.fw_model.specs.Machine.{is_failed};
 ghost use Rattle.fw_model.specs.Offers.{AreOffersIn};
 ghost use Rattle.fw_plain.specs.Offered as spec;
-ghost use Rattle.fw_plain.specs.Offered.{StandsBy, OffersBy, AreBare, IsBare};
+ghost use Rattle.fw_plain.specs.Offered.{IsOfferOf, OffersBy, AreBare, IsBare};
+ghost use Rattle.fw_plain.specs.Engine.{IsSound, sys_of, state_of};
 ghost use Rattle.fw_model.specs.History.{AreAtNodes};
 
+use crate::course::Course;
 use crate::scan::{injected_count, sent_by};
 use fw_flow::{
     Counted, CountedMessages, EdgeId, Event, Flow, Kind, Message, NodeId, Notices, OfEdges, Offer,
@@ -27,40 +29,35 @@ use std::alloc::{AllocError, Global};
 
 /// What each node offers to a recovery: an input what it injected, an output what is settled and acknowledged, any other node
 /// what is settled. The error is want of memory.
-pub(crate) fn offers(
-    alloc: Global,
-    flow: &Flow,
-    batches: &Batches,
-    events: &[Event],
-    settled: &[Front],
-    ack_counts: &[u64],
-    failed: &[bool],
-) -> Result<Vec<Offer>, AllocError>
-    requires at_nodes { AreAtNodes flow.now (reverse events.now) }
-    requires canonical { (p : ℕ) → p < length flow.now.nodes → IsCanonical (bounds_of flow.now p) (front_of settled.now p) }
-    requires one_front_each { length settled.now ≡ length flow.now.nodes }
-    requires one_bound_each { length ack_counts.now ≡ length flow.now.nodes }
-    requires one_flag_each { length failed.now ≡ length flow.now.nodes }
-    ensures { (state : Machine) → let sys = system_of flow.now batches.now in
-        StandsBy sys events.now settled.now ack_counts.now failed.now state
-        → IfOk result (λ offers. AreOffersIn sys state (is_failed state) offers.items) }
+pub(crate) fn offers(course: &Course) -> Result<Vec<Offer>, AllocError>
+    requires { IsSound (sys_of course.now) (state_of course.now) }
+    ensures { let state = state_of course.now in
+        IfOk result (λ offers. AreOffersIn (sys_of course.now) state (is_failed state) offers.items) }
 {
-    let mut offers = Vec::new(alloc);
-    for place in 0..flow.nodes() {
-        let node = NodeId::at(place as u32);
-        let (front, bound) = (&settled[place], ack_counts[place]);
-        let offered = offered(alloc, flow, batches, events, node, front, bound)?;
-        let stamps = stamps(alloc, flow, batches, events, node)?;
-        // No node is notified, so there is no sequence.
-        let table = SentTable::new(alloc);
-        offers.push(Offer {
-            present: !failed[place],
-            offered,
-            stamps,
-            table,
-        })?;
+    let mut offers = Vec::new(course.alloc);
+    for place in 0..course.flow.nodes() {
+        offers.push(offer(course, NodeId::at(place as u32))?)?;
     }
     Ok(offers)
+}
+
+/// What a node offers.
+fn offer(course: &Course, node: NodeId) -> Result<Offer, AllocError>
+    requires sound { IsSound (sys_of course.now) (state_of course.now) }
+    requires declared { node < length course.now.flow.nodes }
+    ensures { IfOk result (IsOfferOf (sys_of course.now) (state_of course.now) node) }
+{
+    let place = node.place() as usize;
+    let (alloc, flow, batches) = (course.alloc, &course.flow, &course.batches);
+    let events = course.history.as_slice();
+    let (front, bound) = (&course.settled[place], course.ack_counts[place]);
+    Ok(Offer {
+        present: !course.failed[place],
+        offered: offered(alloc, flow, batches, events, node, front, bound)?,
+        stamps: stamps(alloc, flow, batches, events, node)?,
+        // No node is notified, so there is no sequence.
+        table: SentTable::new(alloc),
+    })
 }
 
 /// To which frontiers a node can be restored.

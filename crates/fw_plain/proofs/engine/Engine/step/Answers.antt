@@ -1,14 +1,23 @@
-use Rattle.fw_plain.specs.Engine.{state_of}
-use Rattle.fw_plain.proofs.EngineLaws.{legal_of, legal_then}
+use Rattle.fw_plain.specs.Engine.{sys_of, state_of}
+use Rattle.fw_plain.proofs.EngineLaws.{legal_of, sound_then}
 use Rattle.fw_plain.proofs.engine.Engine.step.Goals as goal
-use Rattle.fw_flow.specs.Dataflow.{system_of}
 
 pub returns-then-self-clause-legal : goal.returns-then-self-clause-legal
 returns-then-self-clause-legal c =
     let e = c.self.inside in
-    legal_then c.args.self.now (system_of e.flow e.batches) (state_of e.flow e.history e.settled.items e.failed.items e.ack_counts.items) e.refused c.self.view_is c.self.invariant
+    rw (← c.self.view_is) (legal_of (sys_of e.course) (state_of e.course) c.self.invariant)
+
+pub invariant_of-self : goal.invariant_of-self
+invariant_of-self c =
+    sound_then c.self.inside.course c.take-stepped.new.self c.args.step.now c.take-stepped.result c.requires c.self.invariant
+    c.take-stepped.ensures.system c.take-stepped.ensures.ok c.take-stepped.ensures.err
 
 pub returns-clause-legal : goal.returns-clause-legal
 returns-clause-legal c =
-    let e = c.self-2.inside in
-    legal_of (system_of e.flow e.batches) (state_of e.flow e.history e.settled.items e.failed.items e.ack_counts.items) c.self-2.invariant
+    let next = c.take-stepped.new.self in
+    legal_of (sys_of next) (state_of next)
+    (sound_then c.self.inside.course next c.args.step.now c.take-stepped.result c.requires c.self.invariant
+    c.take-stepped.ensures.system c.take-stepped.ensures.ok c.take-stepped.ensures.err)
+
+pub returns-clause-ok : goal.returns-clause-ok
+returns-clause-ok c = rw (← c.self.view_is) c.take-stepped.ensures.ok

@@ -1,10 +1,9 @@
 use Rattle.std.proofs.Common.{◌≡◌, ℕ, ◌<◌, ◌^◌, Bool, false, slice_index_or, List, length, get_or, Option, Some, None, Result, Ok, Err, OkIff, MatchOption, sym, ◌∙◌, ap, subst}
 use Rattle.std.specs.Result.{result_ok}
-use Rattle.fw_flow.specs.Dataflow.{is_output_kind, system_of}
-use Rattle.fw_model.specs.Steps.{MayAcknowledge}
-use Rattle.fw_plain.specs.Engine.{state_of}
-use Rattle.fw_plain.proofs.StepLaws.{may_acknowledge, may_acknowledge_none}
-use Rattle.fw_plain.proofs.engine.Engine.next_acknowledged.Goals as goal
+use Rattle.fw_flow.specs.Dataflow.{is_output_kind}
+use Rattle.fw_plain.specs.Engine.{sys_of, state_of}
+use Rattle.fw_plain.proofs.StepLaws.{settled_fits, may_acknowledge}
+use Rattle.fw_plain.proofs.course.Course.next_acknowledged.Goals as goal
 
 fits-not : {E : Type 0} (r : Result ℕ E) (P : Type 0) (n : ℕ) → OkIff r P n → None ≡ result_ok r → P → ⊥
 fits-not (Ok x) P n i e = absurd (cc)
@@ -21,27 +20,22 @@ read xs ys p o x e k l =
 
 pub returns-in_err-x : goal.returns-in_err-x
 returns-in_err-x c =
-    let e = c.self.inside in
-    let was = c.args.self.now in
+    let e = c.args.self.now in
     let o = c.args.output in
     let n = c.in_ok-bound.field-0.now in
     let at = read c.deref.result.now e.ack_counts.items c.place.result o n c.deref.ensures.value c.place.ensures c.in_ok-bound.ensures.lookup.3 in
-    let not_fits : get_or e.ack_counts.items o 0 < 2 ^ 32 → ⊥ =
-    λ l. fits-not c.try_from.result (n < 2 ^ 32) n c.try_from.ensures c.in_err-x.ensures.value (subst (λ m. m < 2 ^ 32) (sym at.1) l) in
-    subst (λ (r : Option ℕ). MatchOption r ((x : ℕ) → MayAcknowledge was.sys was.state o x → ⊥) (λ x. MayAcknowledge was.sys was.state o x))
-    (sym c.from_residual-in_err-x.ensures)
-    (may_acknowledge_none was (system_of e.flow e.batches) (state_of e.flow e.history e.settled.items e.failed.items e.ack_counts.items) e.refused o c.self.view_is not_fits)
+    rw c.from_residual-in_err-x.ensures
+    (λ x m. fits-not c.try_from.result (n < 2 ^ 32) n c.try_from.ensures c.in_err-x.ensures.value
+    (subst (λ m. m < 2 ^ 32) (sym at.1) (settled_fits (sys_of e) (state_of e) o x m)))
 
 pub returns-then-has_something_at : goal.returns-then-has_something_at
 returns-then-has_something_at c =
-    let e = c.self.inside in
-    let was = c.args.self.now in
+    let e = c.args.self.now in
     let o = c.args.output in
     let n = c.in_ok-bound.field-0.now in
     let x = c.in_ok-x.x in
     let at = read c.deref.result.now e.ack_counts.items c.place.result o n c.deref.ensures.value c.place.ensures c.in_ok-bound.ensures.lookup.3 in
-    may_acknowledge was (system_of e.flow e.batches) (state_of e.flow e.history e.settled.items e.failed.items e.ack_counts.items) e.refused o x c.self.view_is c.self.invariant at.0
+    may_acknowledge (sys_of e) (state_of e) o x c.requires at.0
     (fits-same c.try_from.result (n < 2 ^ 32) n x c.try_from.ensures c.in_ok-x.ensures.value ∙ at.1)
-    (ap is_output_kind (sym c.kind.ensures) ∙ sym c.is_output.ensures ∙ c.if-is_output.true)
-    (sym (sym c.if-not-is_failed.true ∙ c.is_failed.ensures ∙ ap (λ (fs : List Bool). slice_index_or fs o false) c.deref-then-is_output.ensures.value))
+    (ap is_output_kind (sym c.kind.ensures) ∙ sym c.is_output.ensures ∙ c.if-is_output.true) (cc)
     (sym c.is_settled.ensures ∙ c.if-is_settled.true) (c.has_something_at.ensures.0 c.if-has_something_at.true)

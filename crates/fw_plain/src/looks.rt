@@ -42,6 +42,12 @@ impl Engine {
             ≡ pending_messages self.now.sys (events self.now.state.history) edge) }
     {
         let events = self.course.history.as_slice();
-        pending(self.course.alloc, &self.course.flow, &self.course.batches, events, edge)
+        pending(
+            self.course.alloc,
+            &self.course.flow,
+            &self.course.batches,
+            events,
+            edge,
+        )
     }
 }

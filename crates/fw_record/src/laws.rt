@@ -26,6 +26,6 @@ pub fn sound_fronts_are_canonical()
     ensures canonical { (bounds : Domain) (f : List (List ℕ))
         → AllByRecursion (λ o. in_domain bounds o ≡ true) f → IsFront f → IsCanonical bounds f }
     ensures sound { (bounds : Domain) (f : List (List ℕ))
-        → AllByRecursion (λ o. in_domain bounds o ≡ true) f → IsStamp bounds.greatest → length f < 2 ^ 32
-        → IsCanonical bounds f → IsFront f }
+        → AllByRecursion (λ o. in_domain bounds o ≡ true) f → IsStamp bounds.greatest
+        → length f < 2 ^ 32 → IsCanonical bounds f → IsFront f }
 {}

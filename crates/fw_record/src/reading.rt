@@ -216,7 +216,8 @@ fn notice_at(bytes: &[u8]) -> Result<(Event, &[u8]), ReadFault>
 
 /// The byte that tells a delivery, 1, from a notification, 2.
 fn event_byte_at(bytes: &[u8]) -> Result<(u8, &[u8]), ReadFault>
-    ensures { Gives (λ x. (x.0, x.1.now)) result (kept_if is_event_byte bytes.now (byte_of bytes.now)) }
+    ensures { Gives (λ x. (x.0, x.1.now)) result
+        (kept_if is_event_byte bytes.now (byte_of bytes.now)) }
 {
     match byte_at(bytes) {
         Some((byte, rest)) if byte == DELIVERY || byte == NOTICE => Ok((byte, rest)),
@@ -270,7 +271,8 @@ fn magic_at(bytes: &[u8]) -> Result<(u16, &[u8]), ReadFault>
 
 /// The version.
 fn version_at(bytes: &[u8]) -> Result<(u8, &[u8]), ReadFault>
-    ensures { Gives (λ x. (x.0, x.1.now)) result (kept_if (λ v. v == 1) bytes.now (byte_of bytes.now)) }
+    ensures { Gives (λ x. (x.0, x.1.now)) result
+        (kept_if (λ v. v == 1) bytes.now (byte_of bytes.now)) }
 {
     match byte_at(bytes) {
         Some((version, rest)) if version == VERSION => Ok((version, rest)),
@@ -287,7 +289,8 @@ fn has_tag(version: u8, tag: u8) -> bool
 
 /// A tag of the version.
 fn version_tag_at(version: u8, bytes: &[u8]) -> Result<(u8, &[u8]), ReadFault>
-    ensures { Gives (λ x. (x.0, x.1.now)) result (kept_if (is_tag version) bytes.now (byte_of bytes.now)) }
+    ensures { Gives (λ x. (x.0, x.1.now)) result
+        (kept_if (is_tag version) bytes.now (byte_of bytes.now)) }
 {
     match byte_at(bytes) {
         Some((tag, rest)) if has_tag(version, tag) => Ok((tag, rest)),

@@ -1,5 +1,5 @@
 -- What loops find that collect what nodes offer.
-use Rattle.std.proofs.Common.{◌≡◌, ◌⊎◌, ℕ, ◌+◌, ◌^◌, ◌<◌, ◌==◌, min, Bool, true, false, not, inl, inr, List, [], ◌∷◌, ◌++◌, length, map, reverse, slice_index_or, sym, ◌∙◌, ap, subst, append_assoc, arith}
+use Rattle.std.proofs.Common.{◌≡◌, ◌⊎◌, ℕ, ◌+◌, ◌^◌, ◌<◌, ◌==◌, min, Bool, true, false, inl, inr, List, [], ◌∷◌, ◌++◌, length, map, reverse, sym, ◌∙◌, ap, subst, append_assoc, arith}
 use Rattle.std.specs.List.{flat_map, range_with_len}
 use Rattle.std.proofs.lemmas.List.{append-nil}
 use Rattle.std.proofs.lemmas.List.FromFn.{map-range_with_len_more}
@@ -25,10 +25,10 @@ use Rattle.fw_flow.specs.declared.restoring.Restoring.TheVariants.{Bound}
 use Rattle.fw_flow.specs.Restoring.{restoring}
 use Rattle.fw_model.specs.Covers.{stamp_of_notice}
 use Rattle.fw_model.specs.History.{injected_count}
-use Rattle.fw_model.specs.Machine.{Machine, events, front_of, is_failed, ack_count_of}
+use Rattle.fw_model.specs.Machine.{Machine, events}
 use Rattle.fw_plain.proofs.EventSteps.{history_last, batches_there}
 use Rattle.fw_model.proofs.StampLaws.{line-leq}
-use Rattle.fw_plain.specs.Offered.{delivery_to, deliveries_to, sent_from, batch_fronts, IsBare, AreBare, OffersBy, IsOfferOf, AreOffersFrom}
+use Rattle.fw_plain.specs.Offered.{delivery_to, deliveries_to, batch_fronts, IsBare, AreBare, OffersBy, IsOfferOf, AreOffersFrom}
 use Rattle.fw_plain.proofs.OffersFronts.{numbers, bounds-output_epoch, bounds-output_number, canonical-until, bare-more}
 
 -- what the last event of a list gives comes first

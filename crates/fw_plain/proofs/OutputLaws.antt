@@ -11,7 +11,7 @@ use Rattle.fw_flow.specs.declared.event.Event.{Event}
 use Rattle.fw_flow.specs.declared.event.Event.TheVariants.{Inject, Deliver, Notify}
 use Rattle.fw_flow.specs.declared.kind.Kind.{Kind}
 use Rattle.fw_flow.specs.declared.kind.Kind.TheVariants.{OutputNumber}
-use Rattle.fw_flow.specs.Dataflow.{System, Dataflow, kind_of, receiver, batches_of_nodes}
+use Rattle.fw_flow.specs.Dataflow.{System, Dataflow, receiver, batches_of_nodes}
 use Rattle.fw_flow.specs.NodeFunction.{delivered_recs}
 use Rattle.fw_model.specs.Steps.{HasEpoch, HasDelivery, HasSomethingAt}
 use Rattle.fw_plain.specs.Output.{has_epoch, is_delivery, has_delivery}

@@ -1,5 +1,5 @@
 -- What a recovery of a course chooses.
-use Rattle.std.proofs.Common.{◌≡◌, ℕ, Bool, List, [], length, reverse, refl, sym, Result, Ok, Err, IfOk, arith}
+use Rattle.std.proofs.Common.{ℕ, Bool, List, Result, Ok, Err, IfOk}
 use Rattle.fw_flow.specs.declared.choice.Choice.{Choice}
 use Rattle.fw_flow.specs.declared.choice.Offer.{Offer}
 use Rattle.fw_flow.specs.Dataflow.{System}

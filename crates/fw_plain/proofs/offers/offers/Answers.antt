@@ -1,8 +1,8 @@
-use Rattle.std.proofs.Common.{List, ap, length, sym, subst, arith}
+use Rattle.std.proofs.Common.{ap, length, subst, arith}
 use Rattle.std.proofs.lemmas.List.{length-append}
 use Rattle.fw_flow.specs.declared.choice.Offer.{Offer}
 use Rattle.fw_plain.specs.Engine.{sys_of, state_of}
-use Rattle.fw_plain.specs.Offered.{AreOffersFrom, IsOfferOf}
+use Rattle.fw_plain.specs.Offered.{IsOfferOf}
 use Rattle.fw_plain.proofs.OffersLaws.{offers-in}
 use Rattle.fw_plain.proofs.OffersSteps.{offers_more}
 use Rattle.fw_plain.proofs.offers.offers.Goals as goal

@@ -1,4 +1,3 @@
-use Rattle.std.proofs.Common.{sym}
 use Rattle.fw_plain.specs.Engine.{sys_of, state_of}
 use Rattle.fw_plain.proofs.StepLaws.{acknowledges}
 use Rattle.fw_plain.proofs.course.Course.acknowledge.Goals as goal

@@ -1,4 +1,4 @@
-use Rattle.std.proofs.Common.{◌≡◌, ℕ, ◌<◌, ◌^◌, Bool, false, slice_index_or, List, length, get_or, Option, Some, None, Result, Ok, Err, OkIff, MatchOption, sym, ◌∙◌, ap, subst}
+use Rattle.std.proofs.Common.{◌≡◌, ℕ, ◌<◌, ◌^◌, List, length, get_or, Some, None, Result, Ok, Err, OkIff, sym, ◌∙◌, ap, subst}
 use Rattle.std.specs.Result.{result_ok}
 use Rattle.fw_flow.specs.Dataflow.{is_output_kind}
 use Rattle.fw_plain.specs.Engine.{sys_of, state_of}

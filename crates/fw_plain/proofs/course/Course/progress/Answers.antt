@@ -1,7 +1,7 @@
 use Rattle.std.proofs.Common.{List, sym, subst}
 use Rattle.fw_flow.specs.declared.event.Event.{Event}
 use Rattle.fw_model.specs.History.{IsComplete}
-use Rattle.fw_model.specs.Machine.{events, family_of}
+use Rattle.fw_model.specs.Machine.{family_of}
 use Rattle.fw_plain.specs.Engine.{sys_of, state_of}
 use Rattle.fw_plain.proofs.EngineLaws.{at_nodes}
 use Rattle.fw_plain.proofs.StepLaws.{progresses, progresses_nothing}

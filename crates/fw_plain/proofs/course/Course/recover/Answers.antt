@@ -1,4 +1,3 @@
-use Rattle.std.proofs.Common.{◌≡◌}
 use Rattle.fw_plain.specs.Engine.{sys_of, state_of}
 use Rattle.fw_plain.proofs.StepLaws.{recovers, recovers_nothing}
 use Rattle.fw_plain.proofs.course.Course.recover.Goals as goal

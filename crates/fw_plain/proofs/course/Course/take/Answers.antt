@@ -1,6 +1,3 @@
-use Rattle.std.proofs.Common.{Option, sym, ◌∙◌, ap}
-use Rattle.fw_time.specs.Stamp.{Stamp}
-use Rattle.fw_flow.specs.declared.step.Step.TheVariants.{Deliver, Notify, Fail}
 use Rattle.fw_plain.proofs.course.Course.take.Goals as goal
 
 pub returns-in-Inject-clause-ok : goal.returns-in-Inject-clause-ok

@@ -1,7 +1,4 @@
-use Rattle.std.proofs.Common.{sym, subst}
-use Rattle.fw_flow.specs.Dataflow.{System, system_of}
-use Rattle.fw_model.specs.Machine.{Machine, first_state}
-use Rattle.fw_plain.specs.Engine.{IsSound}
+use Rattle.fw_flow.specs.Dataflow.{system_of}
 use Rattle.fw_plain.proofs.EngineLaws.{sound_first}
 use Rattle.fw_plain.proofs.engine.Engine.new.Goals as goal
 

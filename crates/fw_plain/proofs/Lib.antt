@@ -15,4 +15,3 @@ pub mod RecSteps
 pub mod RecoveryLaws
 pub mod SendSteps
 pub mod StepLaws
-pub mod WaitingSteps

@@ -1,3 +1,0 @@
--- What loops find that take away what was delivered, and that look for a least message.
-
--- ---- one message taken away

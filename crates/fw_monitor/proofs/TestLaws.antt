@@ -34,16 +34,6 @@ flag_read flow waiting i n r b e l each is k =
     let there : n < length waiting = omega arith in
     ap (λ x. get_or waiting x true) (sym e) ∙ sym (get_or_read waiting n r there is true) ∙ k
 
-pub taken_idle : (flow : Dataflow) (offers : List Offer) (i : Inclusion) (choice : Choice) (trail : List Lowering) (waiting : List Bool) (steps : ℕ) → waits flow waiting i ≡ false
-    → IsTaken flow offers i choice choice trail trail waiting waiting steps steps false
-taken_idle flow offers i choice trail waiting steps w = record {
-  going = λ before g. g;
-  fewer = λ e. absurd (cc);
-  same = λ e. refl;
-  taken = λ e. w;
-  rest = λ e j k. k;
-}
-
 pub taken_held : (flow : Dataflow) (offers : List Offer) (i : Inclusion) (choice next : Choice) (trail : List Lowering) (waiting : List Bool) (steps more : ℕ) → IsInclusionOf flow i
     → length waiting ≡ how_many flow → waits flow waiting i ≡ true → more ≤ steps + 1 → IsTested flow offers i choice next None
     → IsTaken flow offers i choice next trail trail waiting (set waiting (number flow i) false) steps more false

@@ -37,6 +37,19 @@ pub struct Descent {
     pub trail: Trail,
 }
 
+/// A descent under way.
+#[derive(Drop)]
+struct Going {
+    /// The cut of each node so far.
+    cuts: Vec<Cut>,
+    /// The notification frontier of each node so far.
+    notices: Vec<Front>,
+    /// Which inclusions wait for their test, by their numbers.
+    waiting: Vec<bool>,
+    /// What was lowered, in order.
+    trail: Vec<Lowering>,
+}
+
 /// The largest consistent choice of what the nodes offer, where the records of each ascend and some choice is consistent; else
 /// some cuts and frontiers. The error is want of memory.
 pub fn largest(alloc: Global, flow: &Flow, offers: &[Offer]) -> Result<Choice, AllocError>
@@ -88,24 +101,19 @@ pub fn descend<L: Ledger>(
         ≤ steps.old + 3 * length flow.now.edges + 2 * length flow.now.nodes + tests_after flow.now descent.trail) }
 {
     flow_is_well_formed(flow);
-    let mut cuts = greatest_cuts(alloc, flow, offers)?;
-    let mut notices = all_kept(alloc, flow, &cuts)?;
+    let cuts = greatest_cuts(alloc, flow, offers)?;
+    let notices = all_kept(alloc, flow, &cuts)?;
+    let waiting = all_wait(alloc, flow)?;
+    let mut going = Going {
+        cuts,
+        notices,
+        waiting,
+        trail: Vec::new(alloc),
+    };
     let all = inclusions(alloc, flow)?;
-    let mut waiting = all_wait(alloc, flow)?;
-    let mut trail = Vec::new(alloc);
     let mut place = 0;
     'test: while place < all.len() {
-        let lowered = test(
-            alloc,
-            flow,
-            offers,
-            &all[place],
-            &mut cuts,
-            &mut notices,
-            &mut waiting,
-            &mut trail,
-            steps,
-        )?;
+        let lowered = test(alloc, flow, offers, &all[place], &mut going, steps)?;
         if lowered {
             place = 0;
         } else {
@@ -114,10 +122,10 @@ pub fn descend<L: Ledger>(
     }
     Ok(Descent {
         choice: Choice {
-            cuts: Cuts::of(cuts),
-            notices: Fronts::of(notices),
+            cuts: Cuts::of(going.cuts),
+            notices: Fronts::of(going.notices),
         },
-        trail: Trail::of(trail),
+        trail: Trail::of(going.trail),
     })
 }
 
@@ -128,34 +136,39 @@ fn test<L: Ledger>(
     flow: &Flow,
     offers: &[Offer],
     inclusion: &Inclusion,
-    cuts: &mut Vec<Cut>,
-    notices: &mut Vec<Front>,
-    waiting: &mut Vec<bool>,
-    trail: &mut Vec<Lowering>,
+    going: &mut Going,
     steps: &mut Steps<L>,
 ) -> Result<bool, AllocError>
     requires offers { AreOffersOf flow.now offers.now }
     requires there { IsInclusionOf flow.now inclusion.now }
-    requires next { IsNext flow.now waiting.old.items inclusion.now }
-    requires one_each { length waiting.old.items ≡ how_many flow.now }
-    requires encloses { EnclosesConsistent flow.now offers.now (choice_of cuts.old.items notices.old.items) }
-    ensures { IfOk result (IsTaken flow.now offers.now inclusion.now (choice_of cuts.old.items notices.old.items) (choice_of cuts.new.items notices.new.items)
-        trail.old.items trail.new.items waiting.old.items waiting.new.items steps.old steps.new) }
+    requires next { IsNext flow.now going.old.waiting.items inclusion.now }
+    requires one_each { length going.old.waiting.items ≡ how_many flow.now }
+    requires encloses { EnclosesConsistent flow.now offers.now (choice_of going.old.cuts.items going.old.notices.items) }
+    ensures { IfOk result (IsTaken flow.now offers.now inclusion.now
+        (choice_of going.old.cuts.items going.old.notices.items) (choice_of going.new.cuts.items going.new.notices.items)
+        going.old.trail.items going.new.trail.items going.old.waiting.items going.new.waiting.items steps.old steps.new) }
 {
     flow_is_well_formed(flow);
     let number = number(flow, *inclusion);
-    if !waiting[number] {
+    if !going.waiting[number] {
         return Ok(false);
     }
-    waiting[number] = false;
+    going.waiting[number] = false;
     steps.tick();
-    let value = lower(alloc, flow, offers, inclusion, cuts, notices)?;
+    let value = lower(
+        alloc,
+        flow,
+        offers,
+        inclusion,
+        &mut going.cuts,
+        &mut going.notices,
+    )?;
     match value {
         None => Ok(false),
         Some(to) => {
             let broken = after(alloc, flow, *inclusion)?;
-            put_all(flow, waiting, &broken);
-            trail.push(lowering_of(flow, inclusion, to))?;
+            put_all(flow, &mut going.waiting, &broken);
+            going.trail.push(lowering_of(flow, inclusion, to))?;
             Ok(true)
         }
     }

@@ -21,7 +21,7 @@ test-init g c =
     let waiting = c.in_ok-waiting.waiting.items in
     let steps = c.args.steps.now in
     let kept = subst (λ xs. (p : ℕ) → p < length flow.nodes → IsFrontOf (bounds_of flow p) (front_of notices p) (set_of flow p (cut_of (choice_of xs []) p))) c.deref.ensures.value c.in_ok-notices.ensures.kept in
-    subst (λ ls. IsAt flow offers (choice_of cuts notices) ls waiting steps steps 0) (sym c.new-trail.ensures.items)
+    subst (λ ls. IsAt flow offers (choice_of cuts notices) ls waiting steps steps 0) (sym c.new.ensures.items)
     (begun flow offers cuts notices waiting steps c.in_ok-cuts.ensures.one_each c.in_ok-notices.ensures.one_each c.in_ok-cuts.ensures.greatest kept c.in_ok-waiting.ensures.one_each c.in_ok-waiting.ensures.all)
 
 pub test-requires-clause-there : goal.test-requires-clause-there
@@ -34,47 +34,47 @@ pub test-requires-clause-next : goal.test-requires-clause-next
 test-requires-clause-next g c =
     let t = c.test-test.true in
     let l : c.test.place < length c.in_ok-all.all.items = omega arith in
-    next_at c.args.flow.now c.test.waiting.items c.in_ok-all.all.items c.test.place c.index.result.now c.in_ok-all.ensures l c.index.ensures c.test.invariant.done
+    next_at c.args.flow.now c.test.going.waiting.items c.in_ok-all.all.items c.test.place c.index.result.now c.in_ok-all.ensures l c.index.ensures c.test.invariant.done
 
 pub test-smaller-then-lowered : goal.test-smaller-then-lowered
 test-smaller-then-lowered g c =
-    again_falls c.args.flow.now c.args.offers.now c.index.result.now (choice_of c.test.cuts.items c.test.notices.items) (choice_of c.test-in-test.new.cuts.items c.test-in-test.new.notices.items)
-    c.test.trail.items c.test-in-test.new.trail.items c.test.waiting.items c.test-in-test.new.waiting.items c.test.steps c.test-in-test.new.steps c.test.place c.in_ok-lowered.lowered
+    again_falls c.args.flow.now c.args.offers.now c.index.result.now (choice_of c.test.going.cuts.items c.test.going.notices.items) (choice_of c.test-in-test.new.going.cuts.items c.test-in-test.new.going.notices.items)
+    c.test.going.trail.items c.test-in-test.new.going.trail.items c.test.going.waiting.items c.test-in-test.new.going.waiting.items c.test.steps c.test-in-test.new.steps c.test.place c.in_ok-lowered.lowered
     c.if-lowered.true c.in_ok-lowered.ensures
 
 pub test-preserved-then-lowered : goal.test-preserved-then-lowered
 test-preserved-then-lowered g c =
-    again_at c.args.flow.now c.args.offers.now c.index.result.now (choice_of c.test.cuts.items c.test.notices.items) (choice_of c.test-in-test.new.cuts.items c.test-in-test.new.notices.items)
-    c.test.trail.items c.test-in-test.new.trail.items c.test.waiting.items c.test-in-test.new.waiting.items c.args.steps.now c.test.steps c.test-in-test.new.steps c.test.place c.in_ok-lowered.lowered
+    again_at c.args.flow.now c.args.offers.now c.index.result.now (choice_of c.test.going.cuts.items c.test.going.notices.items) (choice_of c.test-in-test.new.going.cuts.items c.test-in-test.new.going.notices.items)
+    c.test.going.trail.items c.test-in-test.new.going.trail.items c.test.going.waiting.items c.test-in-test.new.going.waiting.items c.args.steps.now c.test.steps c.test-in-test.new.steps c.test.place c.in_ok-lowered.lowered
     c.in_ok-lowered.ensures c.test.invariant
 
 pub test-smaller : goal.test-smaller
 test-smaller g c =
     let t = c.test-test.true in
     let l : c.test.place < length c.in_ok-all.all.items = omega arith in
-    further_falls c.args.flow.now c.args.offers.now c.in_ok-all.all.items c.index.result.now (choice_of c.test.cuts.items c.test.notices.items) (choice_of c.test-in-test.new.cuts.items c.test-in-test.new.notices.items)
-    c.test.trail.items c.test-in-test.new.trail.items c.test.waiting.items c.test-in-test.new.waiting.items c.test.steps c.test-in-test.new.steps c.test.place c.in_ok-lowered.lowered
+    further_falls c.args.flow.now c.args.offers.now c.in_ok-all.all.items c.index.result.now (choice_of c.test.going.cuts.items c.test.going.notices.items) (choice_of c.test-in-test.new.going.cuts.items c.test-in-test.new.going.notices.items)
+    c.test.going.trail.items c.test-in-test.new.going.trail.items c.test.going.waiting.items c.test-in-test.new.going.waiting.items c.test.steps c.test-in-test.new.steps c.test.place c.in_ok-lowered.lowered
     c.if-lowered.false c.in_ok-all.ensures l c.in_ok-lowered.ensures
 
 pub test-preserved : goal.test-preserved
 test-preserved g c =
     let t = c.test-test.true in
     let l : c.test.place < length c.in_ok-all.all.items = omega arith in
-    further_at c.args.flow.now c.args.offers.now c.in_ok-all.all.items c.index.result.now (choice_of c.test.cuts.items c.test.notices.items) (choice_of c.test-in-test.new.cuts.items c.test-in-test.new.notices.items)
-    c.test.trail.items c.test-in-test.new.trail.items c.test.waiting.items c.test-in-test.new.waiting.items c.args.steps.now c.test.steps c.test-in-test.new.steps c.test.place c.in_ok-lowered.lowered
+    further_at c.args.flow.now c.args.offers.now c.in_ok-all.all.items c.index.result.now (choice_of c.test.going.cuts.items c.test.going.notices.items) (choice_of c.test-in-test.new.going.cuts.items c.test-in-test.new.going.notices.items)
+    c.test.going.trail.items c.test-in-test.new.going.trail.items c.test.going.waiting.items c.test-in-test.new.going.waiting.items c.args.steps.now c.test.steps c.test-in-test.new.steps c.test.place c.in_ok-lowered.lowered
     c.if-lowered.false c.in_ok-all.ensures l c.index.ensures c.in_ok-lowered.ensures c.test.invariant
 
 pub returns-clause-largest : goal.returns-clause-largest
 returns-clause-largest g c = λ some a k.
     let flow = c.args.flow.now in
     let offers = c.args.offers.now in
-    let cuts = c.test.cuts.items in
-    let notices = c.test.notices.items in
+    let cuts = c.test.going.cuts.items in
+    let notices = c.test.going.notices.items in
     let same = ap length c.in_ok-all.ensures in
     let past : length (inclusions flow) ≤ c.test.place = let f = c.test-test.false in omega arith in
     let has : HasConsistent flow offers = (a, (some, k)) in
     let whole = largest_of flow offers (choice_of cuts notices) c.test.invariant.going.encloses has
-    (each_holds flow offers (choice_of cuts notices) c.test.trail.items c.test.waiting.items c.args.steps.now c.test.steps c.test.place c.flow_is_well_formed.ensures c.test.invariant past has) in
+    (each_holds flow offers (choice_of cuts notices) c.test.going.trail.items c.test.going.waiting.items c.args.steps.now c.test.steps c.test.place c.flow_is_well_formed.ensures c.test.invariant past has) in
     subst (λ xs. IsLargestBy flow (covers_of flow offers) (IsOffered flow offers) (choice_of xs c.of-2.result)) (sym c.of.ensures)
     (subst (λ ys. IsLargestBy flow (covers_of flow offers) (IsOffered flow offers) (choice_of cuts ys)) (sym c.of-2.ensures) whole)
 
@@ -82,11 +82,11 @@ pub returns-clause-trail : goal.returns-clause-trail
 returns-clause-trail g c = λ has.
     let flow = c.args.flow.now in
     let offers = c.args.offers.now in
-    let cuts = c.test.cuts.items in
-    let notices = c.test.notices.items in
+    let cuts = c.test.going.cuts.items in
+    let notices = c.test.going.notices.items in
     let same = ap length c.in_ok-all.ensures in
     let past : length (inclusions flow) ≤ c.test.place = let f = c.test-test.false in omega arith in
-    let whole = trail_ends flow offers (choice_of cuts notices) c.test.trail.items c.test.waiting.items c.args.steps.now c.test.steps c.test.place c.flow_is_well_formed.ensures c.test.invariant past has in
+    let whole = trail_ends flow offers (choice_of cuts notices) c.test.going.trail.items c.test.going.waiting.items c.args.steps.now c.test.steps c.test.place c.flow_is_well_formed.ensures c.test.invariant past has in
     subst (λ ls. IsTrail flow offers ls (choice_of c.of.result c.of-2.result)) (sym c.of-3.ensures)
-    (subst (λ xs. IsTrail flow offers c.test.trail.items (choice_of xs c.of-2.result)) (sym c.of.ensures)
-    (subst (λ ys. IsTrail flow offers c.test.trail.items (choice_of cuts ys)) (sym c.of-2.ensures) whole))
+    (subst (λ xs. IsTrail flow offers c.test.going.trail.items (choice_of xs c.of-2.result)) (sym c.of.ensures)
+    (subst (λ ys. IsTrail flow offers c.test.going.trail.items (choice_of cuts ys)) (sym c.of-2.ensures) whole))

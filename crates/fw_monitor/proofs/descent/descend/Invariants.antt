@@ -3,7 +3,7 @@ use Rattle.fw_monitor.proofs.TestLaws.{IsAt, left_over}
 use Rattle.fw_monitor.proofs.descent.descend.Given as goal
 
 abbrev pub invariant-test : goal.invariant-test
-invariant-test g l = IsAt l.flow l.offers (choice_of l.cuts.items l.notices.items) l.trail.items l.waiting.items l.fn.steps l.steps l.place
+invariant-test g l = IsAt l.flow l.offers (choice_of l.going.cuts.items l.going.notices.items) l.going.trail.items l.going.waiting.items l.fn.steps l.steps l.place
 
 abbrev pub decreases-test : goal.decreases-test
-decreases-test g l = left_over l.flow (choice_of l.cuts.items l.notices.items) l.place
+decreases-test g l = left_over l.flow (choice_of l.going.cuts.items l.going.notices.items) l.place

@@ -1,5 +1,5 @@
 -- What projections do to the outside stamps of a frontier.
-use Rattle.std.proofs.Common.{◌≡◌, ℕ, zero, suc, ◌+◌, ◌-◌, ◌*◌, ◌/◌, ◌%◌, ◌<◌, ◌≤◌, min, Bool, true, false, not, cond, ◌&&◌, ◌||◌, ◌==◌, nat_lt, nat_le, ◌^◌, List, [], ◌∷◌, ◌++◌, length, get_or, Option, Some, None, lit<, refl, sym, ap, subst, ◌∙◌, arith}
+use Rattle.std.proofs.Common.{length-append, ◌≡◌, ℕ, zero, suc, ◌+◌, ◌-◌, ◌*◌, ◌/◌, ◌%◌, ◌<◌, ◌≤◌, min, Bool, true, false, not, cond, ◌&&◌, ◌||◌, ◌==◌, nat_lt, nat_le, ◌^◌, List, [], ◌∷◌, ◌++◌, length, get_or, Option, Some, None, lit<, refl, sym, ap, subst, ◌∙◌, arith}
 use Rattle.std.proofs.Math.Bool.{or-true, and_comm}
 use Rattle.std.proofs.lemmas.Option.{cond_some}
 use Rattle.std.proofs.lemmas.Bool.{and_from, and_parts, le-leb, leb-true, ltb-true}
@@ -25,10 +25,11 @@ use Rattle.fw_flow.specs.declared.kind.Kind.TheVariants.{Enter, Feedback, Leave,
 use Rattle.fw_flow.specs.declared.projection.Way.{Way}
 use Rattle.fw_flow.specs.declared.projection.Way.TheVariants.{First, Next, NextAfterFirst, Before, Outer, OuterOfFirst}
 use Rattle.fw_flow.specs.Projection.{sent_count, phi, IsSentTable, first_coordinate, each_counter, some_counter, phi_of_kind, psi_of_kind, psi_back_of_kind, table_count}
-use Rattle.fw_flow.specs.ProjectedStamps.{AreDomainsOf, IsNest, image, images, entered_outside, front_until}
+use Rattle.fw_flow.specs.ProjectedStamps.{AreDomainsOf, MayGo, image, images, entered_outside, front_until}
 use Rattle.fw_flow.specs.declared.event.Event.{Event}
 use Rattle.fw_flow.specs.declared.kind.Kind.{Kind}
-use Rattle.fw_flow.specs.Dataflow.{System, kind_of, sender, max_of, greatest_number, out_domain_of_kind, greatest_of_kind, bounds_of_domain}
+use Rattle.fw_flow.specs.Dataflow.{System, kind_of, sender, max_of, greatest_number, greatest_in, greatest_of, loops_of, parent_of, out_domain_of_kind, greatest_of_kind, bounds_of_domain}
+use Rattle.fw_flow.proofs.Chains.{greatest-unfold, greatest-length, parent-few}
 
 some-is : (s t : Stamp) → Some s ≡ Some t → s ≡ t
 some-is s t e = cc
@@ -407,26 +408,35 @@ psi_back-regroup n limit x p =
 -- ---- the domains of each kind
 
 -- the greatest stamps of the domains that an enter joins
-enter-domains : (l : ℕ) (s r : Bounds) → AreDomainsOf (Enter l) s r → (m : ℕ) × (s.greatest ≡ greatest_number ∷ []) × (r.greatest ≡ nest s.greatest m)
+pub enter-domains : (l : ℕ) (s r : Bounds) → AreDomainsOf (Enter l) s r
+    → (m : ℕ) × ((0 < length s.greatest) × (length s.greatest < 4)) × (r.greatest ≡ nest s.greatest m)
 enter-domains l s r d =
-    let e : s.greatest ≡ greatest_number ∷ [] = ap (λ b. b.greatest) d.1 in
-    let f : r.greatest ≡ nest (greatest_number ∷ []) (max_of d.0 l) = ap (λ b. b.greatest) d.2 in
-    (max_of d.0 l, e, f ∙ ap (λ b. nest b (max_of d.0 l)) (sym e))
+    let e : s.greatest ≡ greatest_of d.0 (parent_of d.0 l) = ap (λ b. b.greatest) d.1 in
+    let f : r.greatest ≡ nest (greatest_of d.0 (parent_of d.0 l)) (max_of d.0 l) = ap (λ b. b.greatest) d.2 ∙ greatest-unfold d.0 l in
+    let n = ap length e ∙ greatest-length d.0 (parent_of d.0 l) in
+    let k = parent-few d.0 l in
+    (max_of d.0 l, (omega arith, omega arith), f ∙ ap (λ b. nest b (max_of d.0 l)) (sym e))
 
 -- those that a leave joins
-leave-domains : (l : ℕ) (s r : Bounds) → AreDomainsOf (Leave l) s r → (s.greatest ≡ nest r.greatest (counter s.greatest)) × (r.greatest ≡ greatest_number ∷ [])
+leave-domains : (l : ℕ) (s r : Bounds) → AreDomainsOf (Leave l) s r
+    → (s.greatest ≡ nest r.greatest (counter s.greatest)) × ((0 < length r.greatest) × (length r.greatest < 4))
 leave-domains l s r d =
-    let e : s.greatest ≡ nest (greatest_number ∷ []) (max_of d.0 l) = ap (λ b. b.greatest) d.1 in
-    let f : r.greatest ≡ greatest_number ∷ [] = ap (λ b. b.greatest) d.2 in
-    (e ∙ (λ i. nest (sym f i) (sym (ap counter e) i)), f)
+    let f : r.greatest ≡ greatest_of d.0 (parent_of d.0 l) = ap (λ b. b.greatest) d.2 in
+    let e : s.greatest ≡ nest r.greatest (max_of d.0 l) =
+    ap (λ b. b.greatest) d.1 ∙ greatest-unfold d.0 l ∙ ap (λ b. nest b (max_of d.0 l)) (sym f) in
+    let n = ap length f ∙ greatest-length d.0 (parent_of d.0 l) in
+    let k = parent-few d.0 l in
+    (e ∙ ap (nest r.greatest) (sym (ap counter e ∙ counter-nest r.greatest (max_of d.0 l))), (omega arith, omega arith))
 
 -- those that a feedback joins
 feedback-domains : (l : ℕ) (s r : Bounds) → AreDomainsOf (Feedback l) s r
-    → (s.greatest ≡ nest (greatest_number ∷ []) (counter s.greatest)) × (r.greatest ≡ nest (greatest_number ∷ []) (counter s.greatest))
+    → (b : Stamp) × (s.greatest ≡ nest b (counter s.greatest)) × (r.greatest ≡ nest b (counter s.greatest))
 feedback-domains l s r d =
-    let e : s.greatest ≡ nest (greatest_number ∷ []) (max_of d.0 l) = ap (λ b. b.greatest) d.1 in
-    let f : r.greatest ≡ nest (greatest_number ∷ []) (max_of d.0 l) = ap (λ b. b.greatest) d.2 in
-    (e ∙ ap (nest (greatest_number ∷ [])) (sym (ap counter e)), f ∙ ap (nest (greatest_number ∷ [])) (sym (ap counter e)))
+    let b = greatest_in d.0 (loops_of d.0 (parent_of d.0 l)) in
+    let e : s.greatest ≡ nest b (max_of d.0 l) = ap (λ x. x.greatest) d.1 in
+    let f : r.greatest ≡ nest b (max_of d.0 l) = ap (λ x. x.greatest) d.2 in
+    let c : counter s.greatest ≡ max_of d.0 l = ap counter e ∙ counter-nest b (max_of d.0 l) in
+    (b, e ∙ ap (nest b) (sym c), f ∙ ap (nest b) (sym c))
 
 -- those that a regroup joins
 pub regroup-domains : (n : ℕ) (s r : Bounds) → AreDomainsOf (Regroup n) s r → (s.greatest ≡ greatest_number ∷ []) × (r.greatest ≡ greatest_number ∷ [])
@@ -436,34 +446,38 @@ regroup-domains n s r d = (ap (λ b. b.greatest) d.1, ap (λ b. b.greatest) d.2)
 pub sequence-domains : (s r : Bounds) → AreDomainsOf Sequence s r → (s.greatest ≡ greatest_number ∷ []) × (r.greatest ≡ greatest_number ∷ [])
 sequence-domains s r d = (ap (λ b. b.greatest) d.1, ap (λ b. b.greatest) d.2)
 
--- the stamps of a domain of one to three coordinates may be nested
-nests : (b : Bounds) (n : ℕ) (os : Front) → length b.greatest ≡ n → 0 < n → n < 4 → AreIn b os → AllByRecursion IsNest os
-nests b n [] e some few h = tt
-nests b n (o ∷ os) e some few h =
+-- stamps of a domain of one to three coordinates may get a counter
+nests : (b : Bounds) (os : Front) → 0 < length b.greatest → length b.greatest < 4 → AreIn b os → AllByRecursion (MayGo First) os
+nests b [] some few h = tt
+nests b (o ∷ os) some few h =
     let l = leq-length o b.greatest h.0 in
-    ((omega (arith, l), omega (arith, l)), nests b n os e some few h.1)
+    ((omega (arith, l), omega (arith, l)), nests b os some few h.1)
 
-pub nests-enter_sender : (l : ℕ) (s r : Bounds) (os : Front) → AreDomainsOf (Enter l) s r → IsCanonical s os → AllByRecursion IsNest os
-nests-enter_sender l s r os d h = nests s 1 os (ap length (enter-domains l s r d).1) (omega arith) (omega arith) (in_domain-canonical s os h)
+-- stamps of a domain have some coordinate
+somes : (b : Bounds) (os : Front) → 0 < length b.greatest → AreIn b os → AllByRecursion (λ o. 0 < length o) os
+somes b [] some h = tt
+somes b (o ∷ os) some h = let l = leq-length o b.greatest h.0 in (omega (arith, l), somes b os some h.1)
 
-pub nests-enter_receiver : (l : ℕ) (s r : Bounds) (os : Front) → AreDomainsOf (Enter l) s r → IsCanonical r os → AllByRecursion IsNest os
-nests-enter_receiver l s r os d h =
-    let e = enter-domains l s r d in
-    nests r 2 os (ap length (e.2 ∙ ap (λ b. nest b e.0) e.1)) (omega arith) (omega arith) (in_domain-canonical r os h)
+nest-some : (b : Stamp) (m : ℕ) (s : Stamp) → s ≡ nest b m → 0 < length s
+nest-some b m s e = let n = ap length e in let a = length-append b (m ∷ []) in omega arith
 
-pub nests-feedback_sender : (l : ℕ) (s r : Bounds) (os : Front) → AreDomainsOf (Feedback l) s r → IsCanonical s os → AllByRecursion IsNest os
-nests-feedback_sender l s r os d h = nests s 2 os (ap length (feedback-domains l s r d).0) (omega arith) (omega arith) (in_domain-canonical s os h)
+pub nests-enter_sender : (l : ℕ) (s r : Bounds) (os : Front) → AreDomainsOf (Enter l) s r → IsCanonical s os → AllByRecursion (MayGo First) os
+nests-enter_sender l s r os d h = let e = enter-domains l s r d in nests s os e.1.0 e.1.1 (in_domain-canonical s os h)
 
-pub nests-feedback_receiver : (l : ℕ) (s r : Bounds) (os : Front) → AreDomainsOf (Feedback l) s r → IsCanonical r os → AllByRecursion IsNest os
-nests-feedback_receiver l s r os d h = nests r 2 os (ap length (feedback-domains l s r d).1) (omega arith) (omega arith) (in_domain-canonical r os h)
+pub nests-enter_receiver : (l : ℕ) (s r : Bounds) (os : Front) → AreDomainsOf (Enter l) s r → IsCanonical r os → AllByRecursion (MayGo OuterOfFirst) os
+nests-enter_receiver l s r os d h = let e = enter-domains l s r d in somes r os (nest-some s.greatest e.0 r.greatest e.2) (in_domain-canonical r os h)
 
-pub nests-leave_sender : (l : ℕ) (s r : Bounds) (os : Front) → AreDomainsOf (Leave l) s r → IsCanonical s os → AllByRecursion IsNest os
-nests-leave_sender l s r os d h =
-    let e = leave-domains l s r d in
-    nests s 2 os (ap length (e.0 ∙ ap (λ b. nest b (counter s.greatest)) e.1)) (omega arith) (omega arith) (in_domain-canonical s os h)
+pub nests-feedback_sender : (l : ℕ) (s r : Bounds) (os : Front) → AreDomainsOf (Feedback l) s r → IsCanonical s os → AllByRecursion (λ o. 0 < length o) os
+nests-feedback_sender l s r os d h = let e = feedback-domains l s r d in somes s os (nest-some e.0 (counter s.greatest) s.greatest e.1) (in_domain-canonical s os h)
 
-pub nests-leave_receiver : (l : ℕ) (s r : Bounds) (os : Front) → AreDomainsOf (Leave l) s r → IsCanonical r os → AllByRecursion IsNest os
-nests-leave_receiver l s r os d h = nests r 1 os (ap length (leave-domains l s r d).1) (omega arith) (omega arith) (in_domain-canonical r os h)
+pub nests-feedback_receiver : (l : ℕ) (s r : Bounds) (os : Front) → AreDomainsOf (Feedback l) s r → IsCanonical r os → AllByRecursion (MayGo Before) os
+nests-feedback_receiver l s r os d h = let e = feedback-domains l s r d in somes r os (nest-some e.0 (counter s.greatest) r.greatest e.2) (in_domain-canonical r os h)
+
+pub nests-leave_sender : (l : ℕ) (s r : Bounds) (os : Front) → AreDomainsOf (Leave l) s r → IsCanonical s os → AllByRecursion (λ o. 0 < length o) os
+nests-leave_sender l s r os d h = let e = leave-domains l s r d in somes s os (nest-some r.greatest (counter s.greatest) s.greatest e.0) (in_domain-canonical s os h)
+
+pub nests-leave_receiver : (l : ℕ) (s r : Bounds) (os : Front) → AreDomainsOf (Leave l) s r → IsCanonical r os → AllByRecursion (MayGo First) os
+nests-leave_receiver l s r os d h = let e = leave-domains l s r d in nests r os e.1.0 e.1.1 (in_domain-canonical r os h)
 
 -- ---- phi, psi and psi backwards through a loop
 
@@ -508,7 +522,7 @@ pub phi-feedback : (l count : ℕ) (s r : Bounds) (os : Front) → AreDomainsOf 
     → IsMoved (Next (counter s.greatest)) os r (phi_of_kind s.greatest (Feedback l) count (frontier_of s os))
 phi-feedback l count s r os d h =
     let e = feedback-domains l s r d in
-    next-moved s r (greatest_number ∷ []) (counter s.greatest) os e.0 e.1 (in_domain-canonical s os h)
+    next-moved s r e.0 (counter s.greatest) os e.1 e.2 (in_domain-canonical s os h)
 
 pub phi-leave : (l count : ℕ) (s r : Bounds) (os : Front) → AreDomainsOf (Leave l) s r → IsCanonical s os → IsMoved Outer os r (phi_of_kind s.greatest (Leave l) count (frontier_of s os))
 phi-leave l count s r os d h =
@@ -521,7 +535,7 @@ pub psi-feedback : (l : ℕ) (s r : Bounds) (os : Front) → AreDomainsOf (Feedb
     → IsMoved (NextAfterFirst (counter s.greatest)) os r (psi_of_kind s.greatest (Feedback l) (frontier_of s os))
 psi-feedback l s r os d h =
     let e = feedback-domains l s r d in
-    next_after_first-moved s r (greatest_number ∷ []) (counter s.greatest) os e.0 e.1 (in_domain-canonical s os h)
+    next_after_first-moved s r e.0 (counter s.greatest) os e.1 e.2 (in_domain-canonical s os h)
 
 pub psi-leave : (l : ℕ) (s r : Bounds) (os : Front) → AreDomainsOf (Leave l) s r → IsCanonical s os → IsMoved OuterOfFirst os r (psi_of_kind s.greatest (Leave l) (frontier_of s os))
 psi-leave l s r os d h =
@@ -536,7 +550,7 @@ psi_back-enter l s r os d h = let e = enter-domains l s r d in outer_of_first-mo
 pub psi_back-feedback : (l : ℕ) (s r : Bounds) (os : Front) → AreDomainsOf (Feedback l) s r → IsCanonical r os → IsMoved Before os s (psi_back_of_kind s.greatest (Feedback l) (frontier_of r os))
 psi_back-feedback l s r os d h =
     let e = feedback-domains l s r d in
-    before-moved s r (greatest_number ∷ []) (counter s.greatest) os e.0 e.1 (in_domain-canonical r os h)
+    before-moved s r e.0 (counter s.greatest) os e.1 e.2 (in_domain-canonical r os h)
 
 pub psi_back-leave : (l : ℕ) (s r : Bounds) (os : Front) → AreDomainsOf (Leave l) s r → IsCanonical r os → IsMoved First os s (psi_back_of_kind s.greatest (Leave l) (frontier_of r os))
 psi_back-leave l s r os d h = let e = leave-domains l s r d in first-moved r s (counter s.greatest) os e.0 (in_domain-canonical r os h)

@@ -1,6 +1,7 @@
 pub mod Check
 pub mod Counting
 pub mod Dataflow
+pub mod Depths
 pub mod Draft
 pub mod Flow
 pub mod Message
@@ -9,6 +10,7 @@ pub mod NodeFunction
 pub mod Parts
 pub mod ProjectedStamps
 pub mod Projection
+pub mod Ranks
 pub mod Raw
 pub mod Restoring
 pub mod SentTable

@@ -48,12 +48,12 @@ phi_of_kind-closed : (sys : System) (kind : Kind) (count : ℕ) (f : Frontier) �
     → in_domain (bounds_of_domain sys.flow (out_domain_of_kind sys.flow kind)) u ≡ true → leq s u ≡ true
     → phi_of_kind (greatest_of_kind sys.flow kind) kind count f u ≡ true → phi_of_kind (greatest_of_kind sys.flow kind) kind count f s ≡ true
 phi_of_kind-closed sys (Enter r) n f fr s u i j l k =
-    let b = greatest_number ∷ [] in
+    let b = greatest_in sys.flow (loops_of sys.flow (parent_of sys.flow r)) in
     let m = max_of sys.flow r in
     let v = in_loop s b m i in
-    fr.closed (outer s) (outer u) v.outside (loop-leq b m s u v (in_loop u b m j) l).0 k
+    fr.closed (outer s) (outer u) (sym (ap (leq (outer s)) (greatest-in sys.flow (parent_of sys.flow r))) ∙ v.outside) (loop-leq b m s u v (in_loop u b m j) l).0 k
 phi_of_kind-closed sys (Feedback r) n f fr s u i j l k =
-    let b = greatest_number ∷ [] in
+    let b = greatest_in sys.flow (loops_of sys.flow (parent_of sys.flow r)) in
     let m = max_of sys.flow r in
     let q = (loop-leq b m s u (in_loop s b m i) (in_loop u b m j) l).1 in
     elim (or_cases (counter u == 0) (f (nest (outer u) (counter u - 1))) k) [
@@ -61,9 +61,11 @@ phi_of_kind-closed sys (Feedback r) n f fr s u i j l k =
       | inr z ↦ or_right (counter s == 0) _ (feedback-closed b m f fr s u i j l z)
     ]
 phi_of_kind-closed sys (Leave r) n f fr s u i j l k =
-    let m = max_of sys.flow r in
+    let b = greatest_in sys.flow (loops_of sys.flow (parent_of sys.flow r)) in
+    let m = counter (nest b (max_of sys.flow r)) in
+    let last : m ≡ max_of sys.flow r = counter-nest b (max_of sys.flow r) in
     each_counter-from f s m
-    (λ c h. fr.closed (nest s c) (nest u c) (nest-leq s (greatest_number ∷ []) c m i h) (nest-leq s u c c l (omega arith)) (each_counter-at f u m c h k))
+    (λ c h. fr.closed (nest s c) (nest u c) (nest-leq s b c (max_of sys.flow r) (ap (leq s) (greatest-in sys.flow (parent_of sys.flow r)) ∙ i) (omega arith)) (nest-leq s u c c l (omega arith)) (each_counter-at f u m c h k))
 phi_of_kind-closed sys Sequence n f fr s u i j l k =
     sequence-closed (f (greatest_number ∷ [])) (first_coordinate s) (first_coordinate u) n (line-numbers greatest_number s u i j l) k
 phi_of_kind-closed sys (Regroup r) n f fr s u i j l k =

@@ -3,11 +3,12 @@ use Rattle.std.proofs.Common.{◌≡◌, ℕ, zero, suc, ◌+◌, ◌-◌, ◌*�
 use Rattle.std.proofs.lemmas.Bool.{and_parts, and_from, or_left, or_right, cases_Bool, cases_lt, both_ways}
 use Rattle.std.proofs.Math.Nat.{min-le_right}
 use Rattle.fw_time.specs.Stamp.{Stamp, leq, nest, outer, counter, in_domain}
-use Rattle.fw_time.proofs.StampLaws.{leq-refl}
+use Rattle.fw_time.proofs.StampLaws.{leq-refl, counter-nest}
 use Rattle.fw_frontier.specs.Frontier.{Frontier, IsFrontier, Within, everything, meet}
 use Rattle.fw_flow.specs.declared.kind.Kind.{Kind}
 use Rattle.fw_flow.specs.declared.kind.Kind.TheVariants.{Enter, Feedback, Leave, Sequence, Regroup}
-use Rattle.fw_flow.specs.Dataflow.{greatest_of_kind, System, kind_of, sender, max_of, greatest_number, domain_of_kind, out_domain_of_kind, bounds_of, bounds_of_domain}
+use Rattle.fw_flow.specs.Dataflow.{greatest_of_kind, System, kind_of, sender, max_of, greatest_number, domain_of_kind, out_domain_of_kind, bounds_of, bounds_of_domain, greatest_in, loops_of, parent_of}
+use Rattle.fw_flow.proofs.Chains.{greatest-in}
 use Rattle.fw_flow.specs.NodeFunction.{sent_by}
 use Rattle.fw_flow.specs.Projection.{events_at, sent_count, first_coordinate, each_counter, phi_of_kind, phi}
 use Rattle.fw_model.specs.LawsOfProjections.{PhiOfMeet, PhiOfEverything}
@@ -72,7 +73,7 @@ phi_of_kind-meet : (sys : System) (kind : Kind) (count : Frontier → ℕ) → (
     → phi_of_kind (greatest_of_kind sys.flow kind) kind (count (meet f g)) (meet f g) u ≡ true
 phi_of_kind-meet sys (Enter l) count mono f g ff fg u j k = and_from (f (outer u)) (g (outer u)) j k
 phi_of_kind-meet sys (Feedback l) count mono f g ff fg u j k = or_meet (counter u == 0) _ _ j k
-phi_of_kind-meet sys (Leave l) count mono f g ff fg u j k = each_counter-meet f g u (max_of sys.flow l) j k
+phi_of_kind-meet sys (Leave l) count mono f g ff fg u j k = each_counter-meet f g u (counter (greatest_of_kind sys.flow (Leave l))) j k
 phi_of_kind-meet sys Sequence count mono f g ff fg u j k = elim (one_within greatest_number f g ff fg) [
   | inl w ↦
       let v : Within f (meet f g) = λ t i. and_from (f t) (g t) i (w t i) in

@@ -1,5 +1,5 @@
 -- On numbered edges the denotation has one rec at each number, without a gap.
-use Rattle.std.proofs.Common.{◌≡◌, ◌⊎◌, ℕ, zero, suc, ◌+◌, ◌<◌, ◌==◌, nat_le, nat_lt, true, false, cond, List, [], ◌∷◌, length, Option, Some, None, map, refl, sym, ap, subst, ◌∙◌, inl, inr, append-nil, arith}
+use Rattle.std.proofs.Common.{◌≡◌, ◌&&◌, ◌⊎◌, ℕ, zero, suc, ◌+◌, ◌<◌, ◌==◌, nat_le, nat_lt, true, false, cond, List, [], ◌∷◌, length, Option, Some, None, map, refl, sym, ap, subst, ◌∙◌, inl, inr, append-nil, arith}
 use Rattle.std.proofs.lemmas.Bool.{cond_both, cond-true, cases_lt, lt-ltb}
 use Rattle.std.specs.List.{AllByRecursion}
 use Rattle.std.specs.Ordering.{nat_cmp, ordering_then, is_gt}
@@ -74,13 +74,13 @@ sends_numbers flow (Join within) k = absurd (not_number within k)
 sends_numbers flow (Sum within) k = absurd (not_number within k)
 sends_numbers flow (Enter l) k = absurd (cc)
 sends_numbers flow (Feedback l) k = absurd (cc)
-sends_numbers flow (Leave l) k = absurd (cc)
+sends_numbers flow (Leave l) k = absurd (true≢false (sym k ∙ parent-no_number flow l))
 sends_numbers flow Total k = absurd (cc)
 sends_numbers flow Sequence k = inl (inl refl)
 sends_numbers flow Ledger k = inl (inr refl)
 sends_numbers flow (Regroup n) k = absurd (cc)
 
-number-no_loop : (d e : Domain) → is_of_numbers d ≡ true → is_same_loop d e ≡ false
+number-no_loop : (d e : Domain) → is_of_numbers d ≡ true → (is_loop d && is_loop e) ≡ false
 number-no_loop Epoch e k = refl
 number-no_loop Number e k = refl
 number-no_loop (InLoop l) e k = absurd (cc)

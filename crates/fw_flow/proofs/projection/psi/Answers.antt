@@ -9,9 +9,13 @@ use Rattle.fw_flow.specs.declared.projection.Way.TheVariants.{NextAfterFirst, Ou
 use Rattle.fw_flow.specs.Projection.{first_coordinate, psi_of_kind}
 use Rattle.fw_flow.specs.ProjectedStamps.{AreDomainsOf, entered_outside}
 use Rattle.fw_flow.specs.WellFormed.{IsGroupSize}
-use Rattle.fw_flow.proofs.ProjectionLaws.{nests-enter_sender, nests-feedback_sender, nests-leave_sender, moved-ok, psi-enter_in, psi-enter_same, psi-feedback, psi-leave, psi-regroup_ok, end-limit, end-all}
+use Rattle.fw_flow.proofs.ProjectionLaws.{enter-domains, nests-enter_sender, nests-feedback_sender, nests-leave_sender, moved-ok, psi-enter_in, psi-enter_same, psi-feedback, psi-leave, psi-regroup_ok, end-limit, end-all}
 use Rattle.fw_flow.proofs.projection.psi.Goals as goal
 use Rattle.fw_flow.proofs.projection.psi.Goals.{in-None, in-Some}
+
+pub entered-requires-clause-sender : goal.entered-requires-clause-sender
+entered-requires-clause-sender c =
+    (enter-domains c.in-Enter.field-0 c.args.sender.now c.args.receiver.now (subst (λ k. AreDomainsOf k c.args.sender.now c.args.receiver.now) c.in-Enter.is c.requires.domains)).1
 
 pub entered-requires-clause-front : goal.entered-requires-clause-front
 entered-requires-clause-front c =

@@ -1,7 +1,7 @@
 -- The loops that a domain lies in.
 use Rattle.std.proofs.Common.{◌≡◌, ℕ, zero, suc, ◌+◌, ◌<◌, ◌≤◌, Bool, true, false, ◌||◌, ◌==◌, cond, List, [], ◌∷◌, length, Option, Some, None, length-append, refl, sym, ap, ◌∙◌, inl, inr, arith}
 use Rattle.std.proofs.lemmas.Bool.{cases_Bool, or_left, or_right, or_cases, eq-eqb, eqb-true}
-use Rattle.fw_time.specs.Stamp.{nest}
+use Rattle.fw_time.specs.Stamp.{Stamp, nest}
 use Rattle.fw_flow.specs.declared.kind.Domain.{Domain}
 use Rattle.fw_flow.specs.declared.kind.Domain.TheVariants.{Epoch, Number, Loop as InLoop}
 use Rattle.fw_flow.specs.Dataflow.{Dataflow, max_of, domain_within, is_of_numbers, declared_parent, ends_within, parent_of, loops_within, loops_of, greatest_in, greatest_of, is_one_of, is_within}
@@ -63,6 +63,13 @@ unfolding loops_of
 greatest-in flow Epoch = refl
 greatest-in flow Number = refl
 greatest-in flow (InLoop l) = ap (greatest_in flow) (loops-unfold flow l)
+
+-- the greatest stamp of a loop's parent domain, as the greatest stamp of the loop has it
+abbrev pub outer_greatest : Dataflow → ℕ → Stamp
+outer_greatest flow l = greatest_in flow (loops_of flow (parent_of flow l))
+
+pub outer_greatest-is : (flow : Dataflow) (l : ℕ) → outer_greatest flow l ≡ greatest_of flow (parent_of flow l)
+outer_greatest-is flow l = greatest-in flow (parent_of flow l)
 
 -- the domain of a loop has the stamps of its parent domain, each with a counter
 pub greatest-unfold : (flow : Dataflow) (l : ℕ) → greatest_of flow (InLoop l) ≡ nest (greatest_of flow (parent_of flow l)) (max_of flow l)

@@ -14,10 +14,10 @@ use Rattle.fw_flow.specs.declared.event.Event.{Event}
 use Rattle.fw_flow.specs.declared.kind.Domain.TheVariants.{Number}
 use Rattle.fw_flow.specs.declared.kind.Kind.{Kind}
 use Rattle.fw_flow.specs.declared.kind.Kind.TheVariants.{Input, Sum, Total, Sequence}
-use Rattle.fw_flow.specs.Dataflow.{greatest_of_kind, System, kind_of, sender, receiver, in_edges, domain_of, out_domain_of, out_domain_of_kind, greatest_number, bounds_of, batches_of, is_input_kind, is_notified_kind, send_stamp}
+use Rattle.fw_flow.specs.Dataflow.{greatest_of_kind, is_loop, System, kind_of, sender, receiver, in_edges, domain_of, out_domain_of, out_domain_of_kind, greatest_number, bounds_of, batches_of, is_input_kind, is_notified_kind, send_stamp}
 use Rattle.fw_flow.specs.NodeFunction.{sequence_sent, sent_by}
 use Rattle.fw_flow.specs.Projection.{events_at, phi, phi_of_kind, sent_count}
-use Rattle.fw_flow.specs.Walks.{Ranks, is_same_loop, is_looped}
+use Rattle.fw_flow.specs.Ranks.{is_looped}
 use Rattle.fw_flow.specs.WellFormed.{IsWellFormed, IsWellFormedSystem}
 use Rattle.fw_flow.specs.WholeBags.{Timed, timed_cmp, outputs_of_kind, in_order, numbered_recs, joint_bag}
 use Rattle.fw_model.specs.Denotation.{Family, IsDenotation}
@@ -31,7 +31,7 @@ use Rattle.fw_model.proofs.WeightLaws.{weigh, weigh-append, weigh-same, weigh-no
 use Rattle.fw_model.proofs.SentLaws.{timed_of, quiet-delivered}
 use Rattle.fw_model.proofs.TimedLaws.{ascending-in_order}
 use Rattle.fw_model.proofs.TimedCounts.{in_order-weigh, family-weigh}
-use Rattle.fw_model.specs.LawsOfDenotation.{Measure}
+use Rattle.fw_model.specs.Measure.{Measure}
 use Rattle.fw_model.proofs.StampMeasures.{IsEarlier, earlier-unlooped}
 use Rattle.fw_model.proofs.ArrivalLaws.{deliveries, deliveries-weigh, together-weigh}
 use Rattle.fw_model.proofs.InputLaws.{input-equal}

@@ -21,7 +21,7 @@ use Rattle.fw_model.proofs.LegalLaws.{edge_domains, legal_messages-in_domain}
 use Rattle.fw_model.proofs.CompleteLaws.{past_edges-idle}
 use Rattle.fw_model.proofs.WeightLaws.{weigh, one, one-out}
 use Rattle.fw_model.proofs.SentLaws.{timed_of, timed_message, delivered-lighter}
-use Rattle.fw_model.specs.LawsOfDenotation.{Measure}
+use Rattle.fw_model.specs.Measure.{Measure}
 use Rattle.fw_model.proofs.MeasureLaws.{measure-exists}
 use Rattle.fw_model.proofs.StampMeasures.{by_measure, IsEarlier, earlier-sends}
 use Rattle.fw_model.proofs.DenotationDomainLaws.{denotation-in_domain}

@@ -3,8 +3,8 @@ use Rattle.std.proofs.Common.{◌≡◌, ℕ, zero, suc, ◌+◌, ◌<◌, true,
 use Rattle.std.proofs.lemmas.Bool.{cases_Bool}
 use Rattle.fw_time.specs.Stamp.{Stamp, leq}
 use Rattle.fw_flow.specs.Dataflow.{Dataflow, sender, receiver, send_stamp}
-use Rattle.fw_flow.specs.Walks.{is_looped}
-use Rattle.fw_model.specs.LawsOfDenotation.{Measure}
+use Rattle.fw_flow.specs.Ranks.{is_looped}
+use Rattle.fw_model.specs.Measure.{Measure}
 
 below : {A : Type 0} (m : A → ℕ) (P : A → Type 0) → ((x : A) → ((y : A) → m y < m x → P y) → P x) → (n : ℕ) (x : A) → m x < n → P x
 below m P step zero x l = absurd (omega arith)

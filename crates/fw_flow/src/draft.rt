@@ -80,6 +80,7 @@ impl Draft {
     }
 
     /// The line of the first loop whose chain of loops does not end within three.
+    #[tactic(auto, using(crate::proofs::Drafts::chains_first))]
     fn chain_line(&self) -> Option<u32>
         requires { FitsTogether self.now }
         ensures { (raw : List Declared) → IsDraftOf self.now raw

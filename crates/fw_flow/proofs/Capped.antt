@@ -3,7 +3,7 @@ use Rattle.std.proofs.Common.{◌≡◌, inl, inr, ◌↔◌, ℕ, zero, suc, �
 use Rattle.std.proofs.lemmas.Bool.{le-leb}
 use Rattle.std.proofs.lemmas.List.{length-map}
 use Rattle.fw_flow.specs.declared.kind.Kind.{Kind}
-use Rattle.fw_flow.specs.declared.kind.Kind.TheVariants.{Input, OutputEpoch, OutputNumber, Select, Concat, Distinct, Join, Sum, Enter, Feedback, Leave, Total, Sequence, Ledger, Regroup}
+use Rattle.fw_flow.specs.declared.kind.Kind.TheVariants.{Regroup}
 use Rattle.fw_flow.specs.declared.node.Loop.{Loop}
 use Rattle.fw_flow.specs.declared.node.Node.{Node}
 use Rattle.fw_flow.specs.Check.{JoinsDomains, HasAllowedPolicy, AreWalksRight, IsWalkWrong, HasNodeOf, HasBorders}
@@ -13,24 +13,15 @@ use Rattle.fw_flow.specs.WellFormed.{IsWalk, IsClosedWalk, Passes, IsPolicyAllow
 
 -- what is the same for all sizes holds of a kind where it holds of it capped
 pub from_capped : (P : Kind → Type 0) → ((m n : ℕ) → P (Regroup m) → P (Regroup n)) → (kind : Kind) → P (capped_kind kind) → P kind
-from_capped P same Input h = h
-from_capped P same OutputEpoch h = h
-from_capped P same OutputNumber h = h
-from_capped P same (Select selection within) h = h
-from_capped P same (Concat within) h = h
-from_capped P same (Distinct within) h = h
-from_capped P same (Join within) h = h
-from_capped P same (Sum within) h = h
-from_capped P same (Enter l) h = h
-from_capped P same (Feedback l) h = h
-from_capped P same (Leave l) h = h
-from_capped P same Total h = h
-from_capped P same Sequence h = h
-from_capped P same Ledger h = h
 from_capped P same (Regroup n) h = same (capped_number n) n h
+from_capped P same kind h = h
 
 pub to_capped : (P : Kind → Type 0) → ((m n : ℕ) → P (Regroup m) → P (Regroup n)) → (kind : Kind) → P kind → P (capped_kind kind)
 to_capped P same kind h = from_capped (λ k. P k → P (capped_kind kind)) (λ m n f x. f (same n m x)) kind (λ x. x) h
+
+-- a word of kinds that is the same for all sizes
+same_of_capped : {X : Type 0} (f : Kind → X) → ((m n : ℕ) → f (Regroup m) ≡ f (Regroup n)) → (kind : Kind) → f (capped_kind kind) ≡ f kind
+same_of_capped f same kind = to_capped (λ k. f k ≡ f kind) (λ m n h. same n m ∙ h) kind refl
 
 get_or-map_all : {X Y : Type 0} (f : X → Y) (xs : List X) (i : ℕ) (d : X) → get_or (map f xs) i (f d) ≡ f (get_or xs i d)
 get_or-map_all f [] i d = refl
@@ -66,47 +57,13 @@ HasAllowedPolicy-capped flow p =
       λ h. subst (IsPolicyAllowed (kind_of (capped_flow flow) p)) (sym policy) (subst P (sym kind) (to_capped P (λ m n x. x) (kind_of flow p) h)),
     )
 
-domain-capped : (flow : Dataflow) (kind : Kind) → domain_of_kind (capped_flow flow) (capped_kind kind) ≡ domain_of_kind flow kind
-domain-capped flow Input = refl
-domain-capped flow OutputEpoch = refl
-domain-capped flow OutputNumber = refl
-domain-capped flow (Select selection within) = refl
-domain-capped flow (Concat within) = refl
-domain-capped flow (Distinct within) = refl
-domain-capped flow (Join within) = refl
-domain-capped flow (Sum within) = refl
-domain-capped flow (Enter l) = refl
-domain-capped flow (Feedback l) = refl
-domain-capped flow (Leave l) = refl
-domain-capped flow Total = refl
-domain-capped flow Sequence = refl
-domain-capped flow Ledger = refl
-domain-capped flow (Regroup n) = refl
-
-out_domain-capped : (flow : Dataflow) (kind : Kind) → out_domain_of_kind (capped_flow flow) (capped_kind kind) ≡ out_domain_of_kind flow kind
-out_domain-capped flow Input = refl
-out_domain-capped flow OutputEpoch = refl
-out_domain-capped flow OutputNumber = refl
-out_domain-capped flow (Select selection within) = refl
-out_domain-capped flow (Concat within) = refl
-out_domain-capped flow (Distinct within) = refl
-out_domain-capped flow (Join within) = refl
-out_domain-capped flow (Sum within) = refl
-out_domain-capped flow (Enter l) = refl
-out_domain-capped flow (Feedback l) = refl
-out_domain-capped flow (Leave l) = refl
-out_domain-capped flow Total = refl
-out_domain-capped flow Sequence = refl
-out_domain-capped flow Ledger = refl
-out_domain-capped flow (Regroup n) = refl
-
 pub JoinsDomains-capped : (flow : Dataflow) (e : ℕ) → JoinsDomains (capped_flow flow) e ↔ JoinsDomains flow e
 JoinsDomains-capped flow e =
     let f = capped_flow flow in
     let from : out_domain_of_kind f (kind_of f (sender f e)) ≡ out_domain_of_kind flow (kind_of flow (sender flow e)) =
-    ap (λ p. out_domain_of_kind f (kind_of f p)) (sender-capped flow e) ∙ ap (out_domain_of_kind f) (kind_of-capped flow (sender flow e)) ∙ out_domain-capped flow (kind_of flow (sender flow e)) in
+    ap (λ p. out_domain_of_kind f (kind_of f p)) (sender-capped flow e) ∙ ap (out_domain_of_kind f) (kind_of-capped flow (sender flow e)) ∙ same_of_capped (out_domain_of_kind flow) (λ m n. refl) (kind_of flow (sender flow e)) in
     let to : domain_of_kind f (kind_of f (receiver f e)) ≡ domain_of_kind flow (kind_of flow (receiver flow e)) =
-    ap (λ p. domain_of_kind f (kind_of f p)) (receiver-capped flow e) ∙ ap (domain_of_kind f) (kind_of-capped flow (receiver flow e)) ∙ domain-capped flow (kind_of flow (receiver flow e)) in
+    ap (λ p. domain_of_kind f (kind_of f p)) (receiver-capped flow e) ∙ ap (domain_of_kind f) (kind_of-capped flow (receiver flow e)) ∙ same_of_capped (domain_of_kind flow) (λ m n. refl) (kind_of flow (receiver flow e)) in
     (λ h. sym from ∙ h ∙ to, λ h. from ∙ h ∙ sym to)
 
 -- ---- walks
@@ -147,9 +104,7 @@ same_sort flow sort same = record {
   count = refl;
   from = sender-capped flow;
   to = receiver-capped flow;
-  sorts = λ p.
-      ap sort (kind_of-capped flow p)
-      ∙ to_capped (λ k. sort k ≡ sort (kind_of flow p)) (λ m n h. same n m ∙ h) (kind_of flow p) refl;
+  sorts = λ p. ap sort (kind_of-capped flow p) ∙ same_of_capped sort same (kind_of flow p);
 }
 
 feedbacks-capped : (flow : Dataflow) → AreAlike (capped_flow flow) flow is_feedback_kind
@@ -214,20 +169,7 @@ capped-small n le = ap (λ b. cond b n greatest_number) (le-leb n greatest_numbe
 
 capped_kind-small : (kind : Kind) → IsGroupSize kind → capped_kind kind ≡ kind
 capped_kind-small (Regroup n) h = ap (λ m. Regroup m) (capped-small n (omega (arith, h.1)))
-capped_kind-small Input h = refl
-capped_kind-small OutputEpoch h = refl
-capped_kind-small OutputNumber h = refl
-capped_kind-small (Select selection within) h = refl
-capped_kind-small (Concat within) h = refl
-capped_kind-small (Distinct within) h = refl
-capped_kind-small (Join within) h = refl
-capped_kind-small (Sum within) h = refl
-capped_kind-small (Enter l) h = refl
-capped_kind-small (Feedback l) h = refl
-capped_kind-small (Leave l) h = refl
-capped_kind-small Total h = refl
-capped_kind-small Sequence h = refl
-capped_kind-small Ledger h = refl
+capped_kind-small kind h = refl
 
 map-same : {X : Type 0} (f : X → X) (xs : List X) (d : X) → ((i : ℕ) → i < length xs → f (get_or xs i d) ≡ get_or xs i d) → map f xs ≡ xs
 map-same f [] d same = refl

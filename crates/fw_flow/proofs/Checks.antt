@@ -1,5 +1,5 @@
 -- The rules of `Flow::check` against well-formedness: declarations that break one are not well formed, and those that break none are.
-use Rattle.std.proofs.Common.{◌≡◌, ◌⊎◌, inl, inr, ℕ, suc, ◌+◌, ◌<◌, ◌≤◌, Bool, true, false, not, ◌||◌, cond, List, [], ◌∷◌, length, map, take, Option, Some, None, refl, sym, ap, ◌∙◌, subst, arith, slice_get, IfSome}
+use Rattle.std.proofs.Common.{◌≡◌, ◌⊎◌, ◌↔◌, inl, inr, ℕ, suc, ◌+◌, ◌<◌, ◌≤◌, Bool, true, false, not, ◌||◌, cond, List, [], ◌∷◌, length, map, take, Option, Some, None, refl, sym, ap, ◌∙◌, subst, arith, slice_get, IfSome}
 use Rattle.std.proofs.lemmas.Bool.{and_from, and_parts, false≢true, cases_lt}
 use Rattle.std.proofs.lemmas.List.{length-map}
 use Rattle.std.proofs.lemmas.Option.{same_Some, slice_get_within, get_or_from_slice_get}
@@ -16,7 +16,7 @@ use Rattle.fw_flow.specs.declared.raw.Declaration.{Declaration}
 use Rattle.fw_flow.specs.declared.raw.Declaration.TheVariants.{Loop as ALoop, Node as ANode, Edge as AnEdge}
 use Rattle.fw_flow.specs.declared.raw.Declared.{Declared}
 use Rattle.fw_flow.specs.declared.raw.RawKind.{RawKind}
-use Rattle.fw_flow.specs.declared.raw.RawKind.TheVariants.{Input, OutputEpoch, OutputNumber, Select, Concat, Distinct, Join, Sum, Enter, Feedback, Leave, Total, Sequence, Ledger, Regroup}
+use Rattle.fw_flow.specs.declared.raw.RawKind.TheVariants.{Select, Concat, Distinct, Join, Sum, Enter, Feedback, Leave, Regroup}
 use Rattle.fw_flow.specs.Check.{loop_named, are_names_declared, NamesTheDeclared, HasItsDegrees, JoinsDomains, HasAllowedPolicy, IsWithinLimitsAfter, StaysWithinLimits, all_lines, node_lines, edge_lines, HoldsBelow, IsFirstBreak, KeepsRule, IsBroken, rules, IsFirstBrokenOf, IsFirstBroken, IsRawGroupSize, IsChecked}
 use Rattle.fw_flow.specs.Dataflow.{Dataflow, idle_node, kind_of, sender, receiver, max_of}
 use Rattle.std.specs.Str.{bytes_eq}
@@ -110,52 +110,21 @@ place-below [] name h = absurd (false≢true h)
 place-below (x ∷ names) name h =
     below_step (bytes_eq name x) (place_or_end names name) (length names) (has_name name names) h (λ rest. place-below names name rest)
 
--- the kind's loop is declared exactly where its name is
-loop_name_declared : (flow : Dataflow) (loops : List (List ℕ)) (kind : RawKind) → length flow.loops ≡ length loops
-    → IsLoopDeclared flow (resolved_kind loops kind) → option_map_or (λ l. has_name l loops) (loop_named kind) true ≡ true
-loop_name_declared flow loops Input e h = refl
-loop_name_declared flow loops OutputEpoch e h = refl
-loop_name_declared flow loops OutputNumber e h = refl
-loop_name_declared flow loops (Select selection None) e h = refl
-loop_name_declared flow loops (Select selection (Some l)) e h = has_name-from_below loops l (omega (arith, e, h))
-loop_name_declared flow loops (Concat None) e h = refl
-loop_name_declared flow loops (Concat (Some l)) e h = has_name-from_below loops l (omega (arith, e, h))
-loop_name_declared flow loops (Distinct None) e h = refl
-loop_name_declared flow loops (Distinct (Some l)) e h = has_name-from_below loops l (omega (arith, e, h))
-loop_name_declared flow loops (Join None) e h = refl
-loop_name_declared flow loops (Join (Some l)) e h = has_name-from_below loops l (omega (arith, e, h))
-loop_name_declared flow loops (Sum None) e h = refl
-loop_name_declared flow loops (Sum (Some l)) e h = has_name-from_below loops l (omega (arith, e, h))
-loop_name_declared flow loops (Enter l) e h = has_name-from_below loops l (omega (arith, e, h))
-loop_name_declared flow loops (Feedback l) e h = has_name-from_below loops l (omega (arith, e, h))
-loop_name_declared flow loops (Leave l) e h = has_name-from_below loops l (omega (arith, e, h))
-loop_name_declared flow loops Total e h = refl
-loop_name_declared flow loops Sequence e h = refl
-loop_name_declared flow loops Ledger e h = refl
-loop_name_declared flow loops (Regroup n) e h = refl
+named : (flow : Dataflow) (loops : List (List ℕ)) (l : List ℕ) → length flow.loops ≡ length loops → (place_or_end loops l < length flow.loops) ↔ (has_name l loops ≡ true)
+named flow loops l e = (λ h. has_name-from_below loops l (omega (arith, e, h)), λ h. omega (arith, e, place-below loops l h))
 
+-- the kind's loop is declared exactly where its name is
 loop_declared : (flow : Dataflow) (loops : List (List ℕ)) (kind : RawKind) → length flow.loops ≡ length loops
-    → option_map_or (λ l. has_name l loops) (loop_named kind) true ≡ true → IsLoopDeclared flow (resolved_kind loops kind)
-loop_declared flow loops Input e h = tt
-loop_declared flow loops OutputEpoch e h = tt
-loop_declared flow loops OutputNumber e h = tt
-loop_declared flow loops (Select selection None) e h = tt
-loop_declared flow loops (Select selection (Some l)) e h = omega (arith, e, place-below loops l h)
-loop_declared flow loops (Concat None) e h = tt
-loop_declared flow loops (Concat (Some l)) e h = omega (arith, e, place-below loops l h)
-loop_declared flow loops (Distinct None) e h = tt
-loop_declared flow loops (Distinct (Some l)) e h = omega (arith, e, place-below loops l h)
-loop_declared flow loops (Join None) e h = tt
-loop_declared flow loops (Join (Some l)) e h = omega (arith, e, place-below loops l h)
-loop_declared flow loops (Sum None) e h = tt
-loop_declared flow loops (Sum (Some l)) e h = omega (arith, e, place-below loops l h)
-loop_declared flow loops (Enter l) e h = omega (arith, e, place-below loops l h)
-loop_declared flow loops (Feedback l) e h = omega (arith, e, place-below loops l h)
-loop_declared flow loops (Leave l) e h = omega (arith, e, place-below loops l h)
-loop_declared flow loops Total e h = tt
-loop_declared flow loops Sequence e h = tt
-loop_declared flow loops Ledger e h = tt
-loop_declared flow loops (Regroup n) e h = tt
+    → IsLoopDeclared flow (resolved_kind loops kind) ↔ (option_map_or (λ l. has_name l loops) (loop_named kind) true ≡ true)
+loop_declared flow loops (Select selection (Some l)) e = named flow loops l e
+loop_declared flow loops (Concat (Some l)) e = named flow loops l e
+loop_declared flow loops (Distinct (Some l)) e = named flow loops l e
+loop_declared flow loops (Join (Some l)) e = named flow loops l e
+loop_declared flow loops (Sum (Some l)) e = named flow loops l e
+loop_declared flow loops (Enter l) e = named flow loops l e
+loop_declared flow loops (Feedback l) e = named flow loops l e
+loop_declared flow loops (Leave l) e = named flow loops l e
+loop_declared flow loops kind e = (λ h. refl, λ h. tt)
 
 -- ---- what stands at a place of the flow
 
@@ -240,7 +209,7 @@ names_declared : (raw : List Declared) → IsWellFormed (flow_of raw) → (i lin
 names_declared raw wf i line (ALoop name max) there = refl
 names_declared raw wf i line (ANode name kind policy) there =
     let at = node_place raw i line name kind policy there in
-    loop_name_declared (flow_of raw) (loop_names raw) kind (length-loops raw)
+    (loop_declared (flow_of raw) (loop_names raw) kind (length-loops raw)).0
     (subst (IsLoopDeclared (flow_of raw)) at.is_kind (wf.loops_declared (length (node_names (take i raw))) at.below))
 names_declared raw wf i line (AnEdge name s r) there =
     let at = edge_place raw i line name s r there in
@@ -252,39 +221,10 @@ names_declared raw wf i line (AnEdge name s r) there =
     (has_name-from_below (node_names raw) s (omega (arith, count, from, at.is_sender)))
     (has_name-from_below (node_names raw) r (omega (arith, count, to, at.is_receiver)))
 
-raw_size : (loops : List (List ℕ)) (kind : RawKind) → IsGroupSize (resolved_kind loops kind) → IsRawGroupSize kind
-raw_size loops Input h = tt
-raw_size loops OutputEpoch h = tt
-raw_size loops OutputNumber h = tt
-raw_size loops (Select selection within) h = tt
-raw_size loops (Concat within) h = tt
-raw_size loops (Distinct within) h = tt
-raw_size loops (Join within) h = tt
-raw_size loops (Sum within) h = tt
-raw_size loops (Enter name) h = tt
-raw_size loops (Feedback name) h = tt
-raw_size loops (Leave name) h = tt
-raw_size loops Total h = tt
-raw_size loops Sequence h = tt
-raw_size loops Ledger h = tt
-raw_size loops (Regroup n) h = h
-
-size_from_raw : (loops : List (List ℕ)) (kind : RawKind) → IsRawGroupSize kind → IsGroupSize (resolved_kind loops kind)
-size_from_raw loops Input h = tt
-size_from_raw loops OutputEpoch h = tt
-size_from_raw loops OutputNumber h = tt
-size_from_raw loops (Select selection within) h = tt
-size_from_raw loops (Concat within) h = tt
-size_from_raw loops (Distinct within) h = tt
-size_from_raw loops (Join within) h = tt
-size_from_raw loops (Sum within) h = tt
-size_from_raw loops (Enter name) h = tt
-size_from_raw loops (Feedback name) h = tt
-size_from_raw loops (Leave name) h = tt
-size_from_raw loops Total h = tt
-size_from_raw loops Sequence h = tt
-size_from_raw loops Ledger h = tt
-size_from_raw loops (Regroup n) h = h
+-- a size is one of groups as it is declared exactly where it is one in the flow
+group_size : (loops : List (List ℕ)) (kind : RawKind) → IsGroupSize (resolved_kind loops kind) ↔ IsRawGroupSize kind
+group_size loops (Regroup n) = (λ h. h, λ h. h)
+group_size loops kind = (λ h. tt, λ h. tt)
 
 within_limits : (raw : List Declared) → IsWithinLimits (flow_of raw) → (i line : ℕ) (d : Declaration)
     → slice_get raw i ≡ Some (record { line = line; declaration = d }) → IsWithinLimitsAfter (take i raw) d
@@ -294,191 +234,104 @@ within_limits raw limits i line (ALoop name max) there =
     (omega (arith, limits.loops, at.below), omega (arith, bounds.0, at.is_max), omega (arith, bounds.1, at.is_max))
 within_limits raw limits i line (ANode name kind policy) there =
     let at = node_place raw i line name kind policy there in
-    (omega (arith, limits.nodes, at.below), raw_size (loop_names raw) kind (subst IsGroupSize at.is_kind (limits.groups (length (node_names (take i raw))) at.below)))
+    (omega (arith, limits.nodes, at.below), (group_size (loop_names raw) kind).0 (subst IsGroupSize at.is_kind (limits.groups (length (node_names (take i raw))) at.below)))
 within_limits raw limits i line (AnEdge name s r) there =
     let at = edge_place raw i line name s r there in
     omega (arith, limits.edges, at.below)
 
--- ---- what a place of the flow was declared by
+-- ---- what the rules say of the part that a declaration gives
 
--- the declaration of the p-th node
-record NodeGiver (raw : List Declared) (p : ℕ) : Type 0 where
-  place : ℕ
-  line : ℕ
-  name : List ℕ
-  kind : RawKind
-  policy : Policy
-  there : slice_get raw place ≡ Some (record { line = line; declaration = ANode name kind policy })
-  is_kind : kind_of (flow_of raw) p ≡ resolved_kind (loop_names raw) kind
-  before : length (node_names (take place raw)) ≡ p
+node_named : (raw : List Declared) (line : ℕ) (d : Declaration) (part : Node) → node_in (loop_names raw) (record { line = line; declaration = d }) ≡ part ∷ []
+    → are_names_declared (names_of raw) d ≡ true → IsLoopDeclared (flow_of raw) part.kind
+node_named raw line (ANode name kind policy) part gives h =
+    let same : resolved_kind (loop_names raw) kind ≡ part.kind = cc in
+    subst (IsLoopDeclared (flow_of raw)) same ((loop_declared (flow_of raw) (loop_names raw) kind (length-loops raw)).1 h)
+node_named raw line d part gives h = absurd (cc)
 
-node_giver_from : (raw : List Declared) (p place line : ℕ) (d : Declaration) (part : Node)
-    → slice_get raw place ≡ Some (record { line = line; declaration = d }) → node_in (loop_names raw) (record { line = line; declaration = d }) ≡ part ∷ []
-    → slice_get (flow_of raw).nodes p ≡ Some part → length (flat_map (node_in (loop_names raw)) (take place raw)) ≡ p → NodeGiver raw p
-node_giver_from raw p place line (ALoop name max) part there gives is before = absurd (cc)
-node_giver_from raw p place line (ANode name kind policy) part there gives is before =
-    let same : record { name = name; kind = resolved_kind (loop_names raw) kind; policy = policy } ≡ part = cc in
-    record {
-      place = place;
-      line = line;
-      name = name;
-      kind = kind;
-      policy = policy;
-      there = there;
-      is_kind = kind_of-given (flow_of raw) p part is ∙ ap (λ (n : Node). n.kind) (sym same);
-      before = sym (length-nodes (loop_names raw) (take place raw)) ∙ before;
-    }
-node_giver_from raw p place line (AnEdge name s r) part there gives is before = absurd (cc)
+edge_named : (raw : List Declared) (line : ℕ) (d : Declaration) (part : Edge) → edge_in (node_names raw) (record { line = line; declaration = d }) ≡ part ∷ []
+    → are_names_declared (names_of raw) d ≡ true → (part.sender < length (node_names raw)) × (part.receiver < length (node_names raw))
+edge_named raw line (AnEdge name s r) part gives h =
+    let names = node_names raw in
+    let both = and_parts (has_name s names) (has_name r names) h in
+    let from : place_or_end names s ≡ part.sender = cc in
+    let to : place_or_end names r ≡ part.receiver = cc in
+    (subst (λ p. p < length names) from (place-below names s both.0), subst (λ p. p < length names) to (place-below names r both.1))
+edge_named raw line d part gives h = absurd (cc)
 
-node_giver : (raw : List Declared) (p : ℕ) → p < length (flow_of raw).nodes → NodeGiver raw p
-node_giver raw p lt =
-    let g = giver_of (node_in (loop_names raw)) (GivesOne-node_in (loop_names raw)) raw p lt in
-    node_giver_from raw p g.place g.giver.line g.giver.declaration g.part g.there g.gives g.is g.before
+node_within : (loops : List (List ℕ)) (before : List Declared) (line : ℕ) (d : Declaration) (part : Node) → node_in loops (record { line = line; declaration = d }) ≡ part ∷ []
+    → IsWithinLimitsAfter before d → (length (flat_map (node_in loops) before) < 256) × IsGroupSize part.kind
+node_within loops before line (ANode name kind policy) part gives h =
+    let same : resolved_kind loops kind ≡ part.kind = cc in
+    (omega (arith, length-nodes loops before, h.0), subst IsGroupSize same ((group_size loops kind).1 h.1))
+node_within loops before line d part gives h = absurd (cc)
 
--- the declaration of the e-th edge
-record EdgeGiver (raw : List Declared) (e : ℕ) : Type 0 where
-  place : ℕ
-  line : ℕ
-  name : List ℕ
-  from : List ℕ
-  to : List ℕ
-  there : slice_get raw place ≡ Some (record { line = line; declaration = AnEdge name from to })
-  is_sender : sender (flow_of raw) e ≡ place_or_end (node_names raw) from
-  is_receiver : receiver (flow_of raw) e ≡ place_or_end (node_names raw) to
-  before : length (edge_names (take place raw)) ≡ e
+edge_within : (nodes : List (List ℕ)) (before : List Declared) (line : ℕ) (d : Declaration) (part : Edge) → edge_in nodes (record { line = line; declaration = d }) ≡ part ∷ []
+    → IsWithinLimitsAfter before d → length (flat_map (edge_in nodes) before) < 512
+edge_within nodes before line (AnEdge name s r) part gives h = omega (arith, length-edges nodes before, h)
+edge_within nodes before line d part gives h = absurd (cc)
 
-edge_giver_from : (raw : List Declared) (e place line : ℕ) (d : Declaration) (part : Edge)
-    → slice_get raw place ≡ Some (record { line = line; declaration = d }) → edge_in (node_names raw) (record { line = line; declaration = d }) ≡ part ∷ []
-    → slice_get (flow_of raw).edges e ≡ Some part → length (flat_map (edge_in (node_names raw)) (take place raw)) ≡ e → EdgeGiver raw e
-edge_giver_from raw e place line (ALoop name max) part there gives is before = absurd (cc)
-edge_giver_from raw e place line (ANode name kind policy) part there gives is before = absurd (cc)
-edge_giver_from raw e place line (AnEdge name s r) part there gives is before =
-    let same : record { name = name; sender = place_or_end (node_names raw) s; receiver = place_or_end (node_names raw) r } ≡ part = cc in
-    record {
-      place = place;
-      line = line;
-      name = name;
-      from = s;
-      to = r;
-      there = there;
-      is_sender = sender-given (flow_of raw) e part is ∙ ap (λ (x : Edge). x.sender) (sym same);
-      is_receiver = receiver-given (flow_of raw) e part is ∙ ap (λ (x : Edge). x.receiver) (sym same);
-      before = sym (length-edges (node_names raw) (take place raw)) ∙ before;
-    }
-
-edge_giver : (raw : List Declared) (e : ℕ) → e < length (flow_of raw).edges → EdgeGiver raw e
-edge_giver raw e lt =
-    let g = giver_of (edge_in (node_names raw)) (GivesOne-edge_in (node_names raw)) raw e lt in
-    edge_giver_from raw e g.place g.giver.line g.giver.declaration g.part g.there g.gives g.is g.before
-
--- the declaration of the l-th loop
-record LoopGiver (raw : List Declared) (l : ℕ) : Type 0 where
-  place : ℕ
-  line : ℕ
-  name : List ℕ
-  max : ℕ
-  there : slice_get raw place ≡ Some (record { line = line; declaration = ALoop name max })
-  is_max : max_of (flow_of raw) l ≡ max
-  before : length (loop_names (take place raw)) ≡ l
-
-loop_giver_from : (raw : List Declared) (l place line : ℕ) (d : Declaration) (part : Loop)
-    → slice_get raw place ≡ Some (record { line = line; declaration = d }) → loop_in (record { line = line; declaration = d }) ≡ part ∷ []
-    → slice_get (flow_of raw).loops l ≡ Some part → length (flat_map loop_in (take place raw)) ≡ l → LoopGiver raw l
-loop_giver_from raw l place line (ALoop name max) part there gives is before =
-    let same : record { name = name; max = max } ≡ part = cc in
-    record {
-      place = place;
-      line = line;
-      name = name;
-      max = max;
-      there = there;
-      is_max = max_of-given (flow_of raw) l part is ∙ ap (λ (x : Loop). x.max) (sym same);
-      before = sym (length-loops (take place raw)) ∙ before;
-    }
-loop_giver_from raw l place line (ANode name kind policy) part there gives is before = absurd (cc)
-loop_giver_from raw l place line (AnEdge name s r) part there gives is before = absurd (cc)
-
-loop_giver : (raw : List Declared) (l : ℕ) → l < length (flow_of raw).loops → LoopGiver raw l
-loop_giver raw l lt =
-    let g = giver_of loop_in GivesOne-loop_in raw l lt in
-    loop_giver_from raw l g.place g.giver.line g.giver.declaration g.part g.there g.gives g.is g.before
+loop_within : (before : List Declared) (line : ℕ) (d : Declaration) (part : Loop) → loop_in (record { line = line; declaration = d }) ≡ part ∷ []
+    → IsWithinLimitsAfter before d → (length (flat_map loop_in before) < 64) × (1 ≤ part.max) × (part.max ≤ 1024)
+loop_within before line (ALoop name max) part gives h =
+    let same : max ≡ part.max = cc in
+    (omega (arith, length-loops before, h.0), omega (arith, same, h.1), omega (arith, same, h.2))
+loop_within before line d part gives h = absurd (cc)
 
 -- ---- declarations that break no rule are well formed
 
-names_at : (raw : List Declared) → KeepsRule raw F3 → (i line : ℕ) (d : Declaration) → slice_get raw i ≡ Some (record { line = line; declaration = d })
-    → are_names_declared (names_of raw) d ≡ true
-names_at raw h i line d there =
-    subst (λ o. IfSome o (λ (x : Declared). are_names_declared (names_of raw) x.declaration ≡ true)) there
-    (h i (omega (arith, length-all_lines raw, slice_get_within raw i (record { line = line; declaration = d }) there)))
+names_at : (raw : List Declared) → KeepsRule raw F3 → (i : ℕ) (x : Declared) → slice_get raw i ≡ Some x → are_names_declared (names_of raw) x.declaration ≡ true
+names_at raw h i x there =
+    subst (λ o. IfSome o (λ (x : Declared). are_names_declared (names_of raw) x.declaration ≡ true)) there (h i (omega (arith, length-all_lines raw, slice_get_within raw i x there)))
 
-limits_at : (raw : List Declared) → KeepsRule raw F8 → (i line : ℕ) (d : Declaration) → slice_get raw i ≡ Some (record { line = line; declaration = d })
-    → IsWithinLimitsAfter (take i raw) d
-limits_at raw h i line d there =
-    subst (λ o. IfSome o (λ (x : Declared). IsWithinLimitsAfter (take i raw) x.declaration)) there
-    (h i (omega (arith, length-all_lines raw, slice_get_within raw i (record { line = line; declaration = d }) there)))
+limits_at : (raw : List Declared) → KeepsRule raw F8 → (i : ℕ) (x : Declared) → slice_get raw i ≡ Some x → IsWithinLimitsAfter (take i raw) x.declaration
+limits_at raw h i x there =
+    subst (λ o. IfSome o (λ (x : Declared). IsWithinLimitsAfter (take i raw) x.declaration)) there (h i (omega (arith, length-all_lines raw, slice_get_within raw i x there)))
 
 loops_declared : (raw : List Declared) → KeepsRule raw F3 → (p : ℕ) → p < length (flow_of raw).nodes → IsLoopDeclared (flow_of raw) (kind_of (flow_of raw) p)
 loops_declared raw h p lt =
-    let g = node_giver raw p lt in
-    subst (IsLoopDeclared (flow_of raw)) (sym g.is_kind)
-    (loop_declared (flow_of raw) (loop_names raw) g.kind (length-loops raw) (names_at raw h g.place g.line (ANode g.name g.kind g.policy) g.there))
+    let g = giver_of (node_in (loop_names raw)) (GivesOne-node_in (loop_names raw)) raw p lt in
+    subst (IsLoopDeclared (flow_of raw)) (sym (kind_of-given (flow_of raw) p g.part g.is))
+    (node_named raw g.giver.line g.giver.declaration g.part g.gives (names_at raw h g.place g.giver g.there))
 
 -- both ends of an edge are declared
 pub both_declared : (raw : List Declared) → KeepsRule raw F3 → (e : ℕ) → e < length (flow_of raw).edges
     → (sender (flow_of raw) e < length (flow_of raw).nodes) × (receiver (flow_of raw) e < length (flow_of raw).nodes)
 both_declared raw h e lt =
-    let g = edge_giver raw e lt in
-    let names = node_names raw in
-    let both = and_parts (has_name g.from names) (has_name g.to names) (names_at raw h g.place g.line (AnEdge g.name g.from g.to) g.there) in
+    let g = giver_of (edge_in (node_names raw)) (GivesOne-edge_in (node_names raw)) raw e lt in
+    let below = edge_named raw g.giver.line g.giver.declaration g.part g.gives (names_at raw h g.place g.giver g.there) in
     let count = length-nodes (loop_names raw) raw in
-    let from = place-below names g.from both.0 in
-    let to = place-below names g.to both.1 in
-    (omega (arith, count, from, g.is_sender), omega (arith, count, to, g.is_receiver))
+    (omega (arith, count, below.0, sender-given (flow_of raw) e g.part g.is), omega (arith, count, below.1, receiver-given (flow_of raw) e g.part g.is))
 
-few_nodes : (raw : List Declared) → KeepsRule raw F8 → length (flow_of raw).nodes ≤ 256
-few_nodes raw h =
-    elim (cases_lt 256 (length (flow_of raw).nodes)) [
+-- there are at most so many parts where each stands behind fewer
+few : {A : Type 0} (f : Declared → List A) → GivesOne f → (raw : List Declared) → KeepsRule raw F8 → (most : ℕ)
+    → ((before : List Declared) (line : ℕ) (d : Declaration) (part : A) → f (record { line = line; declaration = d }) ≡ part ∷ [] → IsWithinLimitsAfter before d → length (flat_map f before) < most)
+    → length (flat_map f raw) ≤ most
+few f one raw h most fewer =
+    elim (cases_lt most (length (flat_map f raw))) [
       | inl over ↦
-          let g = node_giver raw 256 over in
-          let room = limits_at raw h g.place g.line (ANode g.name g.kind g.policy) g.there in
-          absurd (omega (arith, room.0, g.before))
-      | inr within ↦ within
-    ]
-
-few_edges : (raw : List Declared) → KeepsRule raw F8 → length (flow_of raw).edges ≤ 512
-few_edges raw h =
-    elim (cases_lt 512 (length (flow_of raw).edges)) [
-      | inl over ↦
-          let g = edge_giver raw 512 over in
-          let room = limits_at raw h g.place g.line (AnEdge g.name g.from g.to) g.there in
-          absurd (omega (arith, room, g.before))
-      | inr within ↦ within
-    ]
-
-few_loops : (raw : List Declared) → KeepsRule raw F8 → length (flow_of raw).loops ≤ 64
-few_loops raw h =
-    elim (cases_lt 64 (length (flow_of raw).loops)) [
-      | inl over ↦
-          let g = loop_giver raw 64 over in
-          let room = limits_at raw h g.place g.line (ALoop g.name g.max) g.there in
-          absurd (omega (arith, room.0, g.before))
+          let g = giver_of f one raw most over in
+          absurd (omega (arith, fewer (take g.place raw) g.giver.line g.giver.declaration g.part g.gives (limits_at raw h g.place g.giver g.there), g.before))
       | inr within ↦ within
     ]
 
 limits_hold : (raw : List Declared) → KeepsRule raw F8 → IsWithinLimits (flow_of raw)
-limits_hold raw h = record {
-  nodes = few_nodes raw h;
-  edges = few_edges raw h;
-  loops = few_loops raw h;
-  counters = λ l lt.
-      let g = loop_giver raw l lt in
-      let range = limits_at raw h g.place g.line (ALoop g.name g.max) g.there in
-      (omega (arith, range.1, g.is_max), omega (arith, range.2, g.is_max));
-  groups = λ p lt.
-      let g = node_giver raw p lt in
-      let range = limits_at raw h g.place g.line (ANode g.name g.kind g.policy) g.there in
-      subst IsGroupSize (sym g.is_kind) (size_from_raw (loop_names raw) g.kind range.1);
-}
+limits_hold raw h =
+    let loops = loop_names raw in
+    let nodes = node_names raw in
+    record {
+      nodes = few (node_in loops) (GivesOne-node_in loops) raw h 256 (λ before line d part gives w. (node_within loops before line d part gives w).0);
+      edges = few (edge_in nodes) (GivesOne-edge_in nodes) raw h 512 (edge_within nodes);
+      loops = few loop_in GivesOne-loop_in raw h 64 (λ before line d part gives w. (loop_within before line d part gives w).0);
+      counters = λ l lt.
+          let g = giver_of loop_in GivesOne-loop_in raw l lt in
+          let range = loop_within (take g.place raw) g.giver.line g.giver.declaration g.part g.gives (limits_at raw h g.place g.giver g.there) in
+          let max = max_of-given (flow_of raw) l g.part g.is in
+          (omega (arith, range.1, max), omega (arith, range.2, max));
+      groups = λ p lt.
+          let g = giver_of (node_in loops) (GivesOne-node_in loops) raw p lt in
+          subst IsGroupSize (sym (kind_of-given (flow_of raw) p g.part g.is))
+          (node_within loops (take g.place raw) g.giver.line g.giver.declaration g.part g.gives (limits_at raw h g.place g.giver g.there)).1;
+    }
 
 pub IsWellFormed-from_rules : (raw : List Declared) → KeepsRule raw F3 → KeepsRule raw F4 → KeepsRule raw F5 → KeepsRule raw F6 → KeepsRule raw F7 → KeepsRule raw F8 → KeepsRule raw F9 → IsWellFormed (flow_of raw)
 IsWellFormed-from_rules raw names degrees domains walks policies limits borders =

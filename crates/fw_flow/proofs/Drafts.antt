@@ -13,7 +13,6 @@ use Rattle.fw_lines.specs.Faults.{IfRefused}
 use Rattle.std.specs.declared.alloc.Global.{Global}
 use Rattle.std.specs.declared.vec.Vec.{Vec}
 use Rattle.fw_flow.specs.declared.kind.Kind.{Kind}
-use Rattle.fw_flow.specs.declared.node.Loop.{Loop}
 use Rattle.fw_flow.specs.declared.node.Node.{Node}
 use Rattle.fw_flow.specs.declared.node.Edge.{Edge}
 use Rattle.fw_flow.specs.declared.parts.Parts.{Parts}
@@ -23,13 +22,13 @@ use Rattle.fw_flow.specs.declared.raw.Declaration.TheVariants.{Loop as ALoop, No
 use Rattle.fw_flow.specs.declared.raw.Declared.{Declared}
 use Rattle.fw_flow.specs.declared.raw.NameSpaces.{NameSpaces}
 use Rattle.fw_flow.specs.declared.walks.Link.{Link}
-use Rattle.fw_flow.specs.Check.{HoldsBelow, IsFirstBreak, IsFirstBreakIfAny, HasItsDegrees, JoinsDomains, HasAllowedPolicy, AreWalksRight, IsWalkWrong, HasBorders, node_lines, edge_lines, KeepsRule, later_rules, IsFirstBrokenOf, IsFirstBroken}
+use Rattle.fw_flow.specs.Check.{HoldsBelow, IsFirstBreak, IsFirstBreakIfAny, HasItsDegrees, JoinsDomains, HasAllowedPolicy, AreWalksRight, IsWalkWrong, HasBorders, node_lines, edge_lines, KeepsRule, later_rules, IsFirstBrokenOf, IsFirstBroken, IsChecked}
 use Rattle.fw_flow.specs.Dataflow.{Dataflow, kind_of, in_edges, out_edges, edges_into, edges_from}
 use Rattle.fw_flow.specs.Draft.{IsDraftOf, LaterRulesHold}
 use Rattle.fw_flow.specs.Flow.{edges_at, IsIndexed}
 use Rattle.fw_flow.specs.Parts.{ArePartsOf, capped_kind, capped_node, capped_flow, places_from}
 use Rattle.fw_flow.specs.Raw.{names_of, loop_names, node_names, edge_names, node_name, edge_name, loop_in, node_in, edge_in, flow_of}
-use Rattle.fw_flow.specs.Walks.{AreWithin, IsMadeOf, link_of, listed_kind}
+use Rattle.fw_flow.specs.Walks.{AreWithin, IsMadeOf, link_at, link_of, listed_kind}
 use Rattle.fw_flow.specs.WellFormed.{IsInDegree, IsOutDegree, IsWellFormed}
 use Rattle.fw_flow.proofs.Capped.{from_capped, to_capped, kind_of-capped, JoinsDomains-capped, HasAllowedPolicy-capped, AreWalksRight-capped, IsWalkWrong-capped, HasBorders-capped, loops-capped, nodes-capped}
 use Rattle.fw_flow.proofs.Checks.{GivesOne-loop_in, GivesOne-node_in, GivesOne-edge_in, length-loops, length-nodes, length-node_lines, length-edge_lines, both_declared, IsWellFormed-from_rules}
@@ -51,24 +50,30 @@ few_nodes raw few =
     let most = length-given_le (node_in (loop_names raw)) (GivesOne-node_in (loop_names raw)) raw in
     omega (arith, few, count, most)
 
-pub few_edges : (raw : List Declared) → length raw < 2 ^ 32 → length (flow_of raw).edges < 2 ^ 32
+few_edges : (raw : List Declared) → length raw < 2 ^ 32 → length (flow_of raw).edges < 2 ^ 32
 few_edges raw few =
     let most = length-given_le (edge_in (node_names raw)) (GivesOne-edge_in (node_names raw)) raw in
     omega (arith, few, most)
 
 -- ---- the parts
 
-pub count_of_nodes : (parts : Parts) (raw : List Declared) → ArePartsOf parts (names_of raw) raw → length parts.nodes.items ≡ length (flow_of raw).nodes
-count_of_nodes parts raw of_parts = ap length of_parts.all_nodes ∙ length-map (flow_of raw).nodes capped_node
+-- these are the parts of the declarations with their links
+pub record AreLinkedPartsOf (parts : Parts) (links : List Link) (raw : List Declared) : Type 0 where
+  pub of_parts : ArePartsOf parts (names_of raw) raw
+  pub of_links : links ≡ map link_of parts.edges.items
+
+count_of_nodes : {parts : Parts} {links : List Link} {raw : List Declared} → AreLinkedPartsOf parts links raw → length parts.nodes.items ≡ length (flow_of raw).nodes
+count_of_nodes {raw = raw} linked = ap length linked.of_parts.all_nodes ∙ length-map (flow_of raw).nodes capped_node
+
+count_of_edges : {parts : Parts} {links : List Link} {raw : List Declared} → AreLinkedPartsOf parts links raw → length links ≡ length (flow_of raw).edges
+count_of_edges {parts} linked = ap length linked.of_links ∙ length-map {A = Edge} {B = Link} parts.edges.items link_of ∙ ap length linked.of_parts.all_edges
 
 -- the links join nodes of the flow
-pub links_within : (parts : Parts) (raw : List Declared) → ArePartsOf parts (names_of raw) raw → KeepsRule raw F3 → (links : List Link) → links ≡ map link_of parts.edges.items
-    → AreWithin (length parts.nodes.items) links
-links_within parts raw of_parts declared links is =
+pub links_within : {parts : Parts} {links : List Link} {raw : List Declared} → AreLinkedPartsOf parts links raw → KeepsRule raw F3 → AreWithin (length parts.nodes.items) links
+links_within {parts} {links} {raw} linked declared =
     let flow = flow_of raw in
-    let same : links ≡ map link_of flow.edges = is ∙ ap (map link_of) of_parts.all_edges in
+    let same : links ≡ map link_of flow.edges = linked.of_links ∙ ap (map link_of) linked.of_parts.all_edges in
     let count = length-map {A = Edge} {B = Link} flow.edges link_of in
-    let nodes = count_of_nodes parts raw of_parts in
     let here : AreWithin (length flow.nodes) (map link_of flow.edges) = record {
       senders = λ e lt.
           let below : e < length flow.edges = omega (arith, lt, count) in
@@ -77,51 +82,41 @@ links_within parts raw of_parts declared links is =
           let below : e < length flow.edges = omega (arith, lt, count) in
           subst (λ p. p < length flow.nodes) (sym (receiver-of_link flow e below)) (both_declared raw declared e below).1;
     } in
-    subst (AreWithin (length parts.nodes.items)) (sym same) (subst (λ n. AreWithin n (map link_of flow.edges)) (sym nodes) here)
+    subst (AreWithin (length parts.nodes.items)) (sym same) (subst (λ n. AreWithin n (map link_of flow.edges)) (sym (count_of_nodes linked)) here)
 
-pub receivers_below : (n : ℕ) (links : List Link) (ends : List ℕ) → AreWithin n links → ends ≡ map (λ (l : Link). l.receiver) links → (e : ℕ) → e < length ends → get_or ends e 0 < n
-receivers_below n links ends within is e lt =
-    let count = length-map links (λ (l : Link). l.receiver) in
-    let same = ap length is in
-    let below : e < length links = omega (arith, lt, count, same) in
-    subst (λ p. p < n) (sym (ap (λ es. get_or es e 0) is ∙ get_or-map (λ (l : Link). l.receiver) links e (record { sender = 0; receiver = 0 }) 0 below)) (within.receivers e below)
+-- the ends of the links are below a number where each link's is
+pub ends_below : {n : ℕ} (end : Link → ℕ) (links : List Link) (ends : List ℕ) → ends ≡ map end links → ((e : ℕ) → e < length links → end (link_at links e) < n)
+    → (e : ℕ) → e < length ends → get_or ends e 0 < n
+ends_below {n} end links ends are below e lt =
+    let count = length-map links end in
+    let same = ap length are in
+    let there : e < length links = omega (arith, lt, count, same) in
+    subst (λ p. p < n) (sym (ap (λ es. get_or es e 0) are ∙ get_or-map end links e (record { sender = 0; receiver = 0 }) 0 there)) (below e there)
 
-pub senders_below : (n : ℕ) (links : List Link) (ends : List ℕ) → AreWithin n links → ends ≡ map (λ (l : Link). l.sender) links → (e : ℕ) → e < length ends → get_or ends e 0 < n
-senders_below n links ends within is e lt =
-    let count = length-map links (λ (l : Link). l.sender) in
-    let same = ap length is in
-    let below : e < length links = omega (arith, lt, count, same) in
-    subst (λ p. p < n) (sym (ap (λ es. get_or es e 0) is ∙ get_or-map (λ (l : Link). l.sender) links e (record { sender = 0; receiver = 0 }) 0 below)) (within.senders e below)
-
-pub few_ends : (parts : Parts) (raw : List Declared) → ArePartsOf parts (names_of raw) raw → length raw < 2 ^ 32 → (links : List Link) → links ≡ map link_of parts.edges.items
+pub few_ends : {parts : Parts} {links : List Link} {raw : List Declared} → AreLinkedPartsOf parts links raw → length raw < 2 ^ 32
     → (end : Link → ℕ) (ends : List ℕ) → ends ≡ map end links → length ends < 2 ^ 32
-few_ends parts raw of_parts few links is end ends ends_are =
-    let edges = ap length of_parts.all_edges in
-    let of_edges = length-map {A = Edge} {B = Link} parts.edges.items link_of in
-    let of_links = length-map links end in
-    let count = ap length is in
-    let same = ap length ends_are in
+few_ends {links = links} {raw} linked few end ends are =
+    let edges = count_of_edges linked in
+    let count = length-map links end in
+    let same = ap length are in
     let most = few_edges raw few in
-    omega (arith, edges, of_edges, of_links, count, same, most)
+    omega (arith, edges, count, same, most)
 
-pub lines_of_nodes : (parts : Parts) (raw : List Declared) → ArePartsOf parts (names_of raw) raw → length parts.node_lines.items ≡ length parts.nodes.items
-lines_of_nodes parts raw of_parts = ap length of_parts.lines_of_nodes ∙ length-node_lines raw ∙ sym (count_of_nodes parts raw of_parts)
+pub lines_of_nodes : {parts : Parts} {links : List Link} {raw : List Declared} → AreLinkedPartsOf parts links raw → length parts.node_lines.items ≡ length parts.nodes.items
+lines_of_nodes {raw = raw} linked = ap length linked.of_parts.lines_of_nodes ∙ length-node_lines raw ∙ sym (count_of_nodes linked)
 
-pub lines_of_edges : (parts : Parts) (raw : List Declared) → ArePartsOf parts (names_of raw) raw → (links : List Link) → links ≡ map link_of parts.edges.items
-    → length parts.edge_lines.items ≡ length links
-lines_of_edges parts raw of_parts links is =
-    ap length of_parts.lines_of_edges ∙ length-edge_lines raw ∙ sym (ap length of_parts.all_edges)
-    ∙ sym (length-map {A = Edge} {B = Link} parts.edges.items link_of) ∙ sym (ap length is)
+pub lines_of_edges : {parts : Parts} {links : List Link} {raw : List Declared} → AreLinkedPartsOf parts links raw → length parts.edge_lines.items ≡ length links
+lines_of_edges {raw = raw} linked = ap length linked.of_parts.lines_of_edges ∙ length-edge_lines raw ∙ sym (count_of_edges linked)
 
-pub edges_to : (edges : List Edge) (links : List Link) (ends : List ℕ) (lists : List (Vec ℕ Global)) → links ≡ map link_of edges → ends ≡ map (λ (l : Link). l.receiver) links
-    → ((p : ℕ) → edges_at lists p ≡ places_from 0 ends p) → (p : ℕ) → edges_at lists p ≡ edges_into 0 edges p
-edges_to edges links ends lists is ends_are listed p =
-    listed p ∙ ap (λ es. places_from 0 es p) (ends_are ∙ ap (map (λ (l : Link). l.receiver)) is) ∙ places_from-receivers 0 edges p
+pub edges_to : (edges : List Edge) (links : List Link) (ends : List ℕ) → links ≡ map link_of edges → ends ≡ map (λ (l : Link). l.receiver) links
+    → (p : ℕ) → places_from 0 ends p ≡ edges_into 0 edges p
+edges_to edges links ends is are p =
+    ap (λ es. places_from 0 es p) (are ∙ ap (map (λ (l : Link). l.receiver)) is) ∙ places_from-receivers 0 edges p
 
-pub edges_out_of : (edges : List Edge) (links : List Link) (ends : List ℕ) (lists : List (Vec ℕ Global)) → links ≡ map link_of edges → ends ≡ map (λ (l : Link). l.sender) links
-    → ((p : ℕ) → edges_at lists p ≡ places_from 0 ends p) → (p : ℕ) → edges_at lists p ≡ edges_from 0 edges p
-edges_out_of edges links ends lists is ends_are listed p =
-    listed p ∙ ap (λ es. places_from 0 es p) (ends_are ∙ ap (map (λ (l : Link). l.sender)) is) ∙ places_from-senders 0 edges p
+pub edges_out_of : (edges : List Edge) (links : List Link) (ends : List ℕ) → links ≡ map link_of edges → ends ≡ map (λ (l : Link). l.sender) links
+    → (p : ℕ) → places_from 0 ends p ≡ edges_from 0 edges p
+edges_out_of edges links ends is are p =
+    ap (λ es. places_from 0 es p) (are ∙ ap (map (λ (l : Link). l.sender)) is) ∙ places_from-senders 0 edges p
 
 -- ---- the tests
 
@@ -249,23 +244,23 @@ IsFirstBroken-from_later raw NoMemory names first = tt
 
 -- ---- the flow
 
-pub well_formed_draft : (raw : List Declared) → KeepsRule raw F3 → LaterRulesHold raw → IsWellFormed (flow_of raw)
-well_formed_draft raw names all = IsWellFormed-from_rules raw names all.degrees all.domains all.walks all.policies all.limits all.borders
-
 -- the flow that a draft's parts make
 abbrev pub drafted : Draft → Dataflow
 drafted draft = record { loops = draft.parts.loops.items; nodes = draft.parts.nodes.items; edges = draft.parts.edges.items }
 
-pub flow_of_draft : (draft : Draft) (raw : List Declared) → IsDraftOf draft raw → IsWellFormed (flow_of raw) → drafted draft ≡ flow_of raw
+flow_of_draft : (draft : Draft) (raw : List Declared) → IsDraftOf draft raw → IsWellFormed (flow_of raw) → drafted draft ≡ flow_of raw
 flow_of_draft draft raw of_draft wf =
     let flow = flow_of raw in
     let parts = draft.parts in
     let loops : parts.loops.items ≡ flow.loops = of_draft.of_parts.all_loops ∙ loops-capped flow wf.limits in
     let nodes : parts.nodes.items ≡ flow.nodes = of_draft.of_parts.all_nodes ∙ nodes-capped flow wf.limits in
-    let with_loops : List Loop → Dataflow = λ ls. record { loops = ls; nodes = parts.nodes.items; edges = parts.edges.items } in
-    let with_nodes : List Node → Dataflow = λ ns. record { loops = flow.loops; nodes = ns; edges = parts.edges.items } in
-    let with_edges : List Edge → Dataflow = λ es. record { loops = flow.loops; nodes = flow.nodes; edges = es } in
-    ap with_loops loops ∙ ap with_nodes nodes ∙ ap with_edges of_draft.of_parts.all_edges
+    λ i. record { loops = loops i; nodes = nodes i; edges = of_draft.of_parts.all_edges i }
+
+-- the declarations of a draft that breaks no rule are those of its flow
+pub IsChecked-from_draft : (draft : Draft) (raw : List Declared) → IsDraftOf draft raw → KeepsRule raw F3 → LaterRulesHold raw → IsChecked raw (drafted draft)
+IsChecked-from_draft draft raw of_draft names all =
+    let wf = IsWellFormed-from_rules raw names all.degrees all.domains all.walks all.policies all.limits all.borders in
+    record { well_formed = wf; value = flow_of_draft draft raw of_draft wf }
 
 node_named : (loops : List (List ℕ)) (line : ℕ) (d : Declaration)
     → map (λ (n : Node). n.name) (node_in loops (record { line = line; declaration = d })) ≡ node_name (record { line = line; declaration = d })
@@ -287,17 +282,16 @@ names_of_flow raw = (
 )
 
 -- the flow of a draft that breaks no rule is kept with its names and edges
-pub IsIndexed-from_draft : (draft : Draft) (raw : List Declared) (names : NameSpaces) → names ≡ names_of raw → IsDraftOf draft raw → KeepsRule raw F3 → LaterRulesHold raw
+pub IsIndexed-from_draft : (draft : Draft) (raw : List Declared) (names : NameSpaces) → names ≡ names_of raw → IsDraftOf draft raw → IsChecked raw (drafted draft)
     → IsIndexed (drafted draft) names.nodes names.edges draft.incoming.items draft.outgoing.items
 unfolding in_edges out_edges
-IsIndexed-from_draft draft raw names taken of_draft names_hold all =
-    let wf = well_formed_draft raw names_hold all in
-    let same = flow_of_draft draft raw of_draft wf in
+IsIndexed-from_draft draft raw names taken of_draft checked =
     let named = names_of_flow raw in
+    let same = sym checked.value in
     record {
-      well_formed = subst IsWellFormed (sym same) wf;
-      names_of_nodes = ap (λ (n : NameSpaces). n.nodes) taken ∙ named.0 ∙ ap (λ (f : Dataflow). map (λ (n : Node). n.name) f.nodes) (sym same);
-      names_of_edges = ap (λ (n : NameSpaces). n.edges) taken ∙ named.1 ∙ ap (λ (f : Dataflow). map (λ (e : Edge). e.name) f.edges) (sym same);
+      well_formed = subst IsWellFormed same checked.well_formed;
+      names_of_nodes = ap (λ (n : NameSpaces). n.nodes) taken ∙ named.0 ∙ ap (λ (f : Dataflow). map (λ (n : Node). n.name) f.nodes) same;
+      names_of_edges = ap (λ (n : NameSpaces). n.edges) taken ∙ named.1 ∙ ap (λ (f : Dataflow). map (λ (e : Edge). e.name) f.edges) same;
       edges_in = of_draft.edges_in;
       edges_out = of_draft.edges_out;
     }

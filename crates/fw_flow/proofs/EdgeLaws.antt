@@ -4,16 +4,21 @@ use Rattle.std.specs.List.{AllByRecursion}
 use Rattle.std.proofs.lemmas.Bool.{eqb-true, eq-eqb}
 use Rattle.std.proofs.lemmas.Bool.Decides.{nat_tests}
 use Rattle.std.proofs.lemmas.List.{get_or_past}
-use Rattle.fw_time.specs.Stamp.{in_domain}
+use Rattle.std.specs.Prelude.{Result, IfOk}
+use Rattle.std.proofs.lemmas.Result.{IfOk-weaker}
+use Rattle.fw_time.specs.declared.stamp.Bounds.{Bounds}
+use Rattle.fw_time.specs.Stamp.{Stamp, in_domain}
+use Rattle.fw_frontier.specs.Frontier.{Frontier}
 use Rattle.fw_frontier.specs.Front.{Front, frontier_of, IsFrontOf}
 use Rattle.fw_frontier.proofs.BelowLaws.{names-as}
 use Rattle.fw_flow.specs.declared.event.Event.{Event}
+use Rattle.fw_flow.specs.declared.kind.Kind.{Kind}
 use Rattle.fw_flow.specs.declared.kind.Kind.TheVariants.{OutputEpoch, Sequence}
 use Rattle.fw_flow.specs.declared.node.Edge.{Edge}
-use Rattle.fw_flow.specs.Dataflow.{System, Dataflow, idle_node, kind_of, sender, receiver, edges_into, in_edges, domain_of, domain_of_kind, out_domain_of, out_domain_of_kind, greatest_of_kind, bounds_of, bounds_of_domain}
+use Rattle.fw_flow.specs.Dataflow.{System, Dataflow, idle_node, kind_of, sender, receiver, edges_into, in_edges, domain_of, domain_of_kind, out_domain_of, out_domain_of_kind, greatest_of_kind, bounds_of, bounds_of_domain, bounds_of_edge}
 use Rattle.fw_flow.specs.WellFormed.{IsWellFormed, IsGroupSize}
 use Rattle.fw_flow.specs.Projection.{phi_of_kind, psi_of_kind, psi_back_of_kind, phi, phi_by_count, psi, psi_back, table_count, IsSentTable}
-use Rattle.fw_flow.specs.ProjectedStamps.{AreDomainsOf}
+use Rattle.fw_flow.specs.ProjectedStamps.{AreEndsOf}
 use Rattle.fw_flow.proofs.ProjectionLaws.{phi-by_table}
 
 -- past the last node stand idle outputs
@@ -36,7 +41,7 @@ by_place P i n f g = by (nat_lt i n) refl
     by false e = g (past e)
 
 -- a node regroups by so many numbers as it may
-pub group-size : (flow : Dataflow) → IsWellFormed flow → (p : ℕ) → IsGroupSize (kind_of flow p)
+group-size : (flow : Dataflow) → IsWellFormed flow → (p : ℕ) → IsGroupSize (kind_of flow p)
 group-size flow w p = by_place (IsGroupSize (kind_of flow p)) p (length flow.nodes) (w.limits.groups p) (λ h. subst IsGroupSize (sym (kind-past flow p h)) tt)
 
 -- past the last edge stand edges between idle outputs
@@ -56,72 +61,70 @@ edge-domains flow w e = by_place (out_domain_of flow (sender flow e) ≡ domain_
         ap (out_domain_of_kind flow) (ap (kind_of flow) ends.0 ∙ kind-past flow (length flow.nodes) (omega arith))
         ∙ sym (ap (domain_of_kind flow) (ap (kind_of flow) ends.1 ∙ kind-past flow (length flow.nodes) (omega arith)))
 
-pub edge-joins : (flow : Dataflow) → IsWellFormed flow → (e : ℕ) → AreDomainsOf (kind_of flow (sender flow e)) (bounds_of flow (sender flow e)) (bounds_of flow (receiver flow e))
+-- the ends of an edge of a well-formed dataflow
+pub ends-of : (flow : Dataflow) → IsWellFormed flow → (e : ℕ) {kind : Kind} {from to : Bounds} → kind ≡ kind_of flow (sender flow e) → from ≡ bounds_of flow (sender flow e)
+    → to ≡ bounds_of flow (receiver flow e) → AreEndsOf flow e kind from to
 unfolding bounds_of
-edge-joins flow w e = (flow, refl, ap (bounds_of_domain flow) (sym (edge-domains flow w e)))
+ends-of flow w e is_kind is_from is_to =
+    let is_out = is_to ∙ ap (bounds_of_domain flow) (sym (edge-domains flow w e)) in
+    record {
+      is_kind = is_kind;
+      is_from = is_from;
+      is_to = is_to;
+      is_out = is_out;
+      group = subst IsGroupSize (sym is_kind) (group-size flow w (sender flow e));
+      domains = record {
+        flow = flow;
+        of_sender = is_from ∙ ap (λ k. bounds_of_domain flow (domain_of_kind flow k)) (sym is_kind);
+        of_receiver = is_out ∙ ap (λ k. bounds_of_domain flow (out_domain_of_kind flow k)) (sym is_kind);
+      };
+    }
 
--- the same of a dataflow that is another
-of_flow : (P : Dataflow → Type 0) (flow other : Dataflow) → other ≡ flow → P other → P flow
-of_flow P flow other e h = subst P e h
+-- ---- the projections of an edge, by its ends
 
-pub phi-named : (flow : Dataflow) → IsWellFormed flow → (e : ℕ) (os g : Front) (table : List (ℕ × ℕ)) (sys : System) (h : List Event) → sys.flow ≡ flow
-    → (kind_of flow (sender flow e) ≡ Sequence → IsSentTable sys h (sender flow e) table)
-    → IsFrontOf (bounds_of flow (receiver flow e)) g (λ u. in_domain (bounds_of flow (receiver flow e)) u
-    && phi_of_kind (bounds_of flow (sender flow e)).greatest (kind_of flow (sender flow e)) (table_count (frontier_of (bounds_of flow (sender flow e)) os) table) (frontier_of (bounds_of flow (sender flow e)) os) u)
-    → IsFrontOf (bounds_of flow (receiver flow e)) g (phi sys h e (frontier_of (bounds_of flow (sender flow e)) os))
-unfolding bounds_of
-phi-named flow w e os g table sys h same =
-    let P : Dataflow → Type 0 = λ flow. IsWellFormed flow → (kind_of flow (sender flow e) ≡ Sequence → IsSentTable sys h (sender flow e) table)
-    → IsFrontOf (bounds_of flow (receiver flow e)) g (λ u. in_domain (bounds_of flow (receiver flow e)) u
-    && phi_of_kind (bounds_of flow (sender flow e)).greatest (kind_of flow (sender flow e)) (table_count (frontier_of (bounds_of flow (sender flow e)) os) table) (frontier_of (bounds_of flow (sender flow e)) os) u)
-    → IsFrontOf (bounds_of flow (receiver flow e)) g (phi sys h e (frontier_of (bounds_of flow (sender flow e)) os)) in
-    of_flow P flow sys.flow same here w
-  where
-    here : IsWellFormed sys.flow → (kind_of sys.flow (sender sys.flow e) ≡ Sequence → IsSentTable sys h (sender sys.flow e) table)
-        → IsFrontOf (bounds_of sys.flow (receiver sys.flow e)) g (λ u. in_domain (bounds_of sys.flow (receiver sys.flow e)) u
-        && phi_of_kind (bounds_of sys.flow (sender sys.flow e)).greatest (kind_of sys.flow (sender sys.flow e)) (table_count (frontier_of (bounds_of sys.flow (sender sys.flow e)) os) table) (frontier_of (bounds_of sys.flow (sender sys.flow e)) os) u)
-        → IsFrontOf (bounds_of sys.flow (receiver sys.flow e)) g (phi sys h e (frontier_of (bounds_of sys.flow (sender sys.flow e)) os))
-    here w is n =
-        let f = frontier_of (bounds_of sys.flow (sender sys.flow e)) os in
-        let kind = kind_of sys.flow (sender sys.flow e) in
-        names-as (bounds_of sys.flow (receiver sys.flow e)) g
-        (λ u. in_domain (bounds_of sys.flow (receiver sys.flow e)) u && phi_of_kind (bounds_of sys.flow (sender sys.flow e)).greatest kind (table_count f table) f u)
-        (phi sys h e f) n
-        (λ u. ap (λ d. in_domain (bounds_of_domain sys.flow d) u && phi_of_kind (greatest_of_kind sys.flow kind) kind (table_count f table) f u) (sym (edge-domains sys.flow w e))
-        ∙ sym (phi-by_table sys h e f table is u))
+-- what names a frontier names it by other bounds and another test that are the same
+named_as : {E : Type 0} {b other : Bounds} {f : Frontier} (res : Result Front E) (g : Frontier) → b ≡ other → ((u : Stamp) → f u ≡ g u)
+    → IfOk res (λ os. IsFrontOf b os f) → IfOk res (λ os. IsFrontOf other os g)
+named_as {b = b} {other} {f} res g e same =
+    IfOk-weaker res (λ os. IsFrontOf b os f) (λ os. IsFrontOf other os g) (λ os n. subst (λ b. IsFrontOf b os g) e (names-as b os f g n same))
 
-pub phi-counted : (flow : Dataflow) → IsWellFormed flow → (e : ℕ) (os g : Front) (count : ℕ)
-    → IsFrontOf (bounds_of flow (receiver flow e)) g (λ u. in_domain (bounds_of flow (receiver flow e)) u
-    && phi_of_kind (bounds_of flow (sender flow e)).greatest (kind_of flow (sender flow e)) count (frontier_of (bounds_of flow (sender flow e)) os) u)
-    → IsFrontOf (bounds_of flow (receiver flow e)) g (phi_by_count flow count e (frontier_of (bounds_of flow (sender flow e)) os))
+pub phi-counted : {E : Type 0} {flow : Dataflow} {e : ℕ} {kind : Kind} {from to : Bounds} → AreEndsOf flow e kind from to → (os : Front) (table : List (ℕ × ℕ)) (res : Result Front E)
+    → IfOk res (λ g. IsFrontOf to g (λ u. in_domain to u && phi_of_kind from.greatest kind (table_count (frontier_of from os) table) (frontier_of from os) u))
+    → IfOk res (λ g. IsFrontOf (bounds_of flow (receiver flow e)) g
+    (phi_by_count flow (table_count (frontier_of (bounds_of flow (sender flow e)) os) table) e (frontier_of (bounds_of flow (sender flow e)) os)))
 unfolding bounds_of phi_by_count
-phi-counted flow w e os g count n =
+phi-counted {flow = flow} {e} is os table res =
     let f = frontier_of (bounds_of flow (sender flow e)) os in
-    let kind = kind_of flow (sender flow e) in
-    names-as (bounds_of flow (receiver flow e)) g
-    (λ u. in_domain (bounds_of flow (receiver flow e)) u && phi_of_kind (bounds_of flow (sender flow e)).greatest kind count f u)
-    (phi_by_count flow count e f) n
-    (λ u. ap (λ d. in_domain (bounds_of_domain flow d) u && phi_of_kind (greatest_of_kind flow kind) kind count f u) (sym (edge-domains flow w e)))
+    named_as res (phi_by_count flow (table_count f table) e f) is.is_to
+    (λ u i. in_domain (is.is_out i) u && phi_of_kind (is.is_from i).greatest (is.is_kind i) (table_count (frontier_of (is.is_from i) os) table) (frontier_of (is.is_from i) os) u)
 
-pub psi-named : (flow : Dataflow) → IsWellFormed flow → (e : ℕ) (os g : Front)
-    → IsFrontOf (bounds_of flow (receiver flow e)) g (λ u. in_domain (bounds_of flow (receiver flow e)) u
-    && psi_of_kind (bounds_of flow (sender flow e)).greatest (kind_of flow (sender flow e)) (frontier_of (bounds_of flow (sender flow e)) os) u)
-    → IsFrontOf (bounds_of flow (receiver flow e)) g (psi flow e (frontier_of (bounds_of flow (sender flow e)) os))
+pub phi-named : {E : Type 0} {flow : Dataflow} {e : ℕ} {kind : Kind} {from to : Bounds} → AreEndsOf flow e kind from to → (os : Front) (table : List (ℕ × ℕ)) (res : Result Front E)
+    → (sys : System) (h : List Event) → sys.flow ≡ flow → (kind_of flow (sender flow e) ≡ Sequence → IsSentTable sys h (sender flow e) table)
+    → IfOk res (λ g. IsFrontOf to g (λ u. in_domain to u && phi_of_kind from.greatest kind (table_count (frontier_of from os) table) (frontier_of from os) u))
+    → IfOk res (λ g. IsFrontOf (bounds_of flow (receiver flow e)) g (phi sys h e (frontier_of (bounds_of flow (sender flow e)) os)))
+unfolding bounds_of
+phi-named {flow = flow} {e} is os table res sys h same counted =
+    let f = frontier_of (bounds_of flow (sender flow e)) os in
+    named_as res (phi sys h e f) is.is_to
+    (λ u. (λ i. in_domain (is.is_out i) u && phi_of_kind (is.is_from i).greatest (is.is_kind i) (table_count (frontier_of (is.is_from i) os) table) (frontier_of (is.is_from i) os) u)
+    ∙ ap (λ flow. in_domain (bounds_of_edge flow e) u && phi_of_kind (greatest_of_kind flow (kind_of flow (sender flow e))) (kind_of flow (sender flow e)) (table_count f table) f u) (sym same)
+    ∙ sym (phi-by_table sys h e f table (subst (λ flow. kind_of flow (sender flow e) ≡ Sequence → IsSentTable sys h (sender flow e) table) (sym same) counted) u))
+
+pub psi-named : {E : Type 0} {flow : Dataflow} {e : ℕ} {kind : Kind} {from to : Bounds} → AreEndsOf flow e kind from to → (os : Front) (res : Result Front E)
+    → IfOk res (λ g. IsFrontOf to g (λ u. in_domain to u && psi_of_kind from.greatest kind (frontier_of from os) u))
+    → IfOk res (λ g. IsFrontOf (bounds_of flow (receiver flow e)) g (psi flow e (frontier_of (bounds_of flow (sender flow e)) os)))
 unfolding bounds_of psi
-psi-named flow w e os g n =
-    let f = frontier_of (bounds_of flow (sender flow e)) os in
-    let kind = kind_of flow (sender flow e) in
-    names-as (bounds_of flow (receiver flow e)) g
-    (λ u. in_domain (bounds_of flow (receiver flow e)) u && psi_of_kind (bounds_of flow (sender flow e)).greatest kind f u)
-    (psi flow e f) n
-    (λ u. ap (λ d. in_domain (bounds_of_domain flow d) u && psi_of_kind (greatest_of_kind flow kind) kind f u) (sym (edge-domains flow w e)))
+psi-named {flow = flow} {e} is os res =
+    named_as res (psi flow e (frontier_of (bounds_of flow (sender flow e)) os)) is.is_to
+    (λ u i. in_domain (is.is_out i) u && psi_of_kind (is.is_from i).greatest (is.is_kind i) (frontier_of (is.is_from i) os) u)
 
-pub psi_back-named : (flow : Dataflow) (e : ℕ) (os g : Front)
-    → IsFrontOf (bounds_of flow (sender flow e)) g (λ t. in_domain (bounds_of flow (sender flow e)) t
-    && psi_back_of_kind (bounds_of flow (sender flow e)).greatest (kind_of flow (sender flow e)) (frontier_of (bounds_of flow (receiver flow e)) os) t)
-    → IsFrontOf (bounds_of flow (sender flow e)) g (psi_back flow e (frontier_of (bounds_of flow (receiver flow e)) os))
+pub psi_back-named : {E : Type 0} {flow : Dataflow} {e : ℕ} {kind : Kind} {from to : Bounds} → AreEndsOf flow e kind from to → (os : Front) (res : Result Front E)
+    → IfOk res (λ g. IsFrontOf from g (λ t. in_domain from t && psi_back_of_kind from.greatest kind (frontier_of to os) t))
+    → IfOk res (λ g. IsFrontOf (bounds_of flow (sender flow e)) g (psi_back flow e (frontier_of (bounds_of flow (receiver flow e)) os)))
 unfolding bounds_of psi_back
-psi_back-named flow e os g n = n
+psi_back-named {flow = flow} {e} is os res =
+    named_as res (psi_back flow e (frontier_of (bounds_of flow (receiver flow e)) os)) is.is_from
+    (λ t i. in_domain (is.is_from i) t && psi_back_of_kind (is.is_from i).greatest (is.is_kind i) (frontier_of (is.is_to i) os) t)
 
 -- ---- the in-edges of a node are the edges that it receives on
 

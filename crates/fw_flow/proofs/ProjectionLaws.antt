@@ -28,7 +28,10 @@ use Rattle.fw_flow.specs.Projection.{sent_count, phi, IsSentTable, first_coordin
 use Rattle.fw_flow.specs.ProjectedStamps.{AreDomainsOf, IsNest, image, images, entered_outside, front_until}
 use Rattle.fw_flow.specs.declared.event.Event.{Event}
 use Rattle.fw_flow.specs.declared.kind.Kind.{Kind}
-use Rattle.fw_flow.specs.Dataflow.{System, kind_of, sender, max_of, greatest_number, out_domain_of_kind, greatest_of_kind, bounds_of_domain}
+use Rattle.fw_flow.specs.declared.kind.Domain.{Domain}
+use Rattle.fw_flow.specs.declared.kind.Domain.TheVariants.{Epoch, Number, Loop as InLoop}
+use Rattle.fw_flow.specs.Dataflow.{System, Dataflow, kind_of, sender, max_of, greatest_number, domain_of_kind, out_domain_of_kind, greatest_of, greatest_of_kind, bounds_of_domain}
+use Rattle.fw_flow.specs.WellFormed.{IsGroupSize}
 
 some-is : (s t : Stamp) → Some s ≡ Some t → s ≡ t
 some-is s t e = cc
@@ -406,70 +409,54 @@ psi_back-regroup n limit x p =
 
 -- ---- the domains of each kind
 
--- the greatest stamps of the domains that an enter joins
-enter-domains : (l : ℕ) (s r : Bounds) → AreDomainsOf (Enter l) s r → (m : ℕ) × (s.greatest ≡ greatest_number ∷ []) × (r.greatest ≡ nest s.greatest m)
-enter-domains l s r d =
-    let e : s.greatest ≡ greatest_number ∷ [] = ap (λ b. b.greatest) d.1 in
-    let f : r.greatest ≡ nest (greatest_number ∷ []) (max_of d.0 l) = ap (λ b. b.greatest) d.2 in
-    (max_of d.0 l, e, f ∙ ap (λ b. nest b (max_of d.0 l)) (sym e))
+-- the greatest stamps of the domains of a kind
+sender-greatest : {kind : Kind} {s r : Bounds} → (d : AreDomainsOf kind s r) → s.greatest ≡ greatest_of_kind d.flow kind
+sender-greatest d = ap (λ b. b.greatest) d.of_sender
+
+receiver-greatest : {kind : Kind} {s r : Bounds} → (d : AreDomainsOf kind s r) → r.greatest ≡ greatest_of d.flow (out_domain_of_kind d.flow kind)
+receiver-greatest d = ap (λ b. b.greatest) d.of_receiver
+
+-- those that an enter joins
+enter-domains : {l : ℕ} {s r : Bounds} → (d : AreDomainsOf (Enter l) s r) → r.greatest ≡ nest s.greatest (max_of d.flow l)
+enter-domains {l} d = receiver-greatest d ∙ ap (λ b. nest b (max_of d.flow l)) (sym (sender-greatest d))
 
 -- those that a leave joins
-leave-domains : (l : ℕ) (s r : Bounds) → AreDomainsOf (Leave l) s r → (s.greatest ≡ nest r.greatest (counter s.greatest)) × (r.greatest ≡ greatest_number ∷ [])
-leave-domains l s r d =
-    let e : s.greatest ≡ nest (greatest_number ∷ []) (max_of d.0 l) = ap (λ b. b.greatest) d.1 in
-    let f : r.greatest ≡ greatest_number ∷ [] = ap (λ b. b.greatest) d.2 in
-    (e ∙ (λ i. nest (sym f i) (sym (ap counter e) i)), f)
+leave-domains : {l : ℕ} {s r : Bounds} → AreDomainsOf (Leave l) s r → s.greatest ≡ nest r.greatest (counter s.greatest)
+leave-domains d = sender-greatest d ∙ (λ i. nest (sym (receiver-greatest d) i) (sym (ap counter (sender-greatest d)) i))
 
 -- those that a feedback joins
-feedback-domains : (l : ℕ) (s r : Bounds) → AreDomainsOf (Feedback l) s r
+feedback-domains : {l : ℕ} {s r : Bounds} → AreDomainsOf (Feedback l) s r
     → (s.greatest ≡ nest (greatest_number ∷ []) (counter s.greatest)) × (r.greatest ≡ nest (greatest_number ∷ []) (counter s.greatest))
-feedback-domains l s r d =
-    let e : s.greatest ≡ nest (greatest_number ∷ []) (max_of d.0 l) = ap (λ b. b.greatest) d.1 in
-    let f : r.greatest ≡ nest (greatest_number ∷ []) (max_of d.0 l) = ap (λ b. b.greatest) d.2 in
-    (e ∙ ap (nest (greatest_number ∷ [])) (sym (ap counter e)), f ∙ ap (nest (greatest_number ∷ [])) (sym (ap counter e)))
+feedback-domains d =
+    let same = ap (nest (greatest_number ∷ [])) (sym (ap counter (sender-greatest d))) in
+    (sender-greatest d ∙ same, receiver-greatest d ∙ same)
 
--- those that a regroup joins
-pub regroup-domains : (n : ℕ) (s r : Bounds) → AreDomainsOf (Regroup n) s r → (s.greatest ≡ greatest_number ∷ []) × (r.greatest ≡ greatest_number ∷ [])
-regroup-domains n s r d = (ap (λ b. b.greatest) d.1, ap (λ b. b.greatest) d.2)
+-- each domain has one to three coordinates
+IsNest-greatest : (flow : Dataflow) (d : Domain) → IsNest (greatest_of flow d)
+IsNest-greatest flow Epoch = (omega arith, omega arith)
+IsNest-greatest flow Number = (omega arith, omega arith)
+IsNest-greatest flow (InLoop l) = (omega arith, omega arith)
 
--- and those that a sequence joins
-pub sequence-domains : (s r : Bounds) → AreDomainsOf Sequence s r → (s.greatest ≡ greatest_number ∷ []) × (r.greatest ≡ greatest_number ∷ [])
-sequence-domains s r d = (ap (λ b. b.greatest) d.1, ap (λ b. b.greatest) d.2)
-
--- the stamps of a domain of one to three coordinates may be nested
-nests : (b : Bounds) (n : ℕ) (os : Front) → length b.greatest ≡ n → 0 < n → n < 4 → AreIn b os → AllByRecursion IsNest os
-nests b n [] e some few h = tt
-nests b n (o ∷ os) e some few h =
+-- so its stamps may be nested
+nests : (b : Bounds) (os : Front) → IsNest b.greatest → AreIn b os → AllByRecursion IsNest os
+nests b [] n h = tt
+nests b (o ∷ os) n h =
     let l = leq-length o b.greatest h.0 in
-    ((omega (arith, l), omega (arith, l)), nests b n os e some few h.1)
+    ((omega (arith, l, n.0), omega (arith, l, n.1)), nests b os n h.1)
 
-pub nests-enter_sender : (l : ℕ) (s r : Bounds) (os : Front) → AreDomainsOf (Enter l) s r → IsCanonical s os → AllByRecursion IsNest os
-nests-enter_sender l s r os d h = nests s 1 os (ap length (enter-domains l s r d).1) (omega arith) (omega arith) (in_domain-canonical s os h)
+pub nests-sender : {kind : Kind} {s r : Bounds} → AreDomainsOf kind s r → (os : Front) → IsCanonical s os → AllByRecursion IsNest os
+nests-sender {kind} {s} d os h =
+    nests s os (subst IsNest (sym (sender-greatest d)) (IsNest-greatest d.flow (domain_of_kind d.flow kind))) (in_domain-canonical s os h)
 
-pub nests-enter_receiver : (l : ℕ) (s r : Bounds) (os : Front) → AreDomainsOf (Enter l) s r → IsCanonical r os → AllByRecursion IsNest os
-nests-enter_receiver l s r os d h =
-    let e = enter-domains l s r d in
-    nests r 2 os (ap length (e.2 ∙ ap (λ b. nest b e.0) e.1)) (omega arith) (omega arith) (in_domain-canonical r os h)
-
-pub nests-feedback_sender : (l : ℕ) (s r : Bounds) (os : Front) → AreDomainsOf (Feedback l) s r → IsCanonical s os → AllByRecursion IsNest os
-nests-feedback_sender l s r os d h = nests s 2 os (ap length (feedback-domains l s r d).0) (omega arith) (omega arith) (in_domain-canonical s os h)
-
-pub nests-feedback_receiver : (l : ℕ) (s r : Bounds) (os : Front) → AreDomainsOf (Feedback l) s r → IsCanonical r os → AllByRecursion IsNest os
-nests-feedback_receiver l s r os d h = nests r 2 os (ap length (feedback-domains l s r d).1) (omega arith) (omega arith) (in_domain-canonical r os h)
-
-pub nests-leave_sender : (l : ℕ) (s r : Bounds) (os : Front) → AreDomainsOf (Leave l) s r → IsCanonical s os → AllByRecursion IsNest os
-nests-leave_sender l s r os d h =
-    let e = leave-domains l s r d in
-    nests s 2 os (ap length (e.0 ∙ ap (λ b. nest b (counter s.greatest)) e.1)) (omega arith) (omega arith) (in_domain-canonical s os h)
-
-pub nests-leave_receiver : (l : ℕ) (s r : Bounds) (os : Front) → AreDomainsOf (Leave l) s r → IsCanonical r os → AllByRecursion IsNest os
-nests-leave_receiver l s r os d h = nests r 1 os (ap length (leave-domains l s r d).1) (omega arith) (omega arith) (in_domain-canonical r os h)
+pub nests-receiver : {kind : Kind} {s r : Bounds} → AreDomainsOf kind s r → (os : Front) → IsCanonical r os → AllByRecursion IsNest os
+nests-receiver {kind} {r = r} d os h =
+    nests r os (subst IsNest (sym (receiver-greatest d)) (IsNest-greatest d.flow (out_domain_of_kind d.flow kind))) (in_domain-canonical r os h)
 
 -- ---- phi, psi and psi backwards through a loop
 
 -- the same, by a test that agrees on the domain
-moved-as : (way : Way) (os : Front) (r : Bounds) (f g : Frontier) → IsMoved way os r f → ((u : Stamp) → in_domain r u ≡ true → f u ≡ g u) → IsMoved way os r g
-moved-as way os r f g m h = record { images_in = m.images_in; same = λ u i. m.same u i ∙ h u i }
+moved-as : {way : Way} {os : Front} {r : Bounds} {f : Frontier} → IsMoved way os r f → (g : Frontier) → ((u : Stamp) → in_domain r u ≡ true → f u ≡ g u) → IsMoved way os r g
+moved-as m g h = record { images_in = m.images_in; same = λ u i. m.same u i ∙ h u i }
 
 -- a frontier has all counters of a stamp where it has the last
 each-last : (s : Bounds) (os : Front) (b : Stamp) (m c : ℕ) (u : Stamp) → s.greatest ≡ nest b m → leq u b ≡ true → c ≤ m → each_counter (frontier_of s os) u c ≡ frontier_of s os (nest u c)
@@ -501,51 +488,52 @@ some-first s os b m (suc c) u e i l =
     higher : (u : Stamp) (c : ℕ) → leq (nest u 0) (nest u (suc c)) ≡ true
     higher u c = leq-nest u u 0 (suc c) refl ∙ and_from (leq u u) (nat_le 0 (suc c)) (leq-refl u) (le-leb 0 (suc c) (omega arith))
 
-pub phi-enter : (l count : ℕ) (s r : Bounds) (os : Front) → AreDomainsOf (Enter l) s r → IsCanonical s os → IsMoved First os r (phi_of_kind s.greatest (Enter l) count (frontier_of s os))
-phi-enter l count s r os d h = let e = enter-domains l s r d in first-moved s r e.0 os e.2 (in_domain-canonical s os h)
+pub phi-enter : {l : ℕ} {s r : Bounds} → AreDomainsOf (Enter l) s r → (os : Front) → IsCanonical s os → IsMoved First os r (λ u. frontier_of s os (outer u))
+phi-enter {l} {s} {r} d os h = first-moved s r (max_of d.flow l) os (enter-domains d) (in_domain-canonical s os h)
 
-pub phi-feedback : (l count : ℕ) (s r : Bounds) (os : Front) → AreDomainsOf (Feedback l) s r → IsCanonical s os
-    → IsMoved (Next (counter s.greatest)) os r (phi_of_kind s.greatest (Feedback l) count (frontier_of s os))
-phi-feedback l count s r os d h =
-    let e = feedback-domains l s r d in
+pub phi-feedback : {l : ℕ} {s r : Bounds} → AreDomainsOf (Feedback l) s r → (os : Front) → IsCanonical s os
+    → IsMoved (Next (counter s.greatest)) os r (λ u. counter u == 0 || frontier_of s os (nest (outer u) (counter u - 1)))
+phi-feedback {l} {s} {r} d os h =
+    let e = feedback-domains d in
     next-moved s r (greatest_number ∷ []) (counter s.greatest) os e.0 e.1 (in_domain-canonical s os h)
 
-pub phi-leave : (l count : ℕ) (s r : Bounds) (os : Front) → AreDomainsOf (Leave l) s r → IsCanonical s os → IsMoved Outer os r (phi_of_kind s.greatest (Leave l) count (frontier_of s os))
-phi-leave l count s r os d h =
-    let e = leave-domains l s r d in
-    moved-as Outer os r (λ u. frontier_of s os (nest u (counter s.greatest))) (phi_of_kind s.greatest (Leave l) count (frontier_of s os))
-    (outer-moved s r (counter s.greatest) os e.0 (in_domain-canonical s os h))
-    (λ u i. sym (each-last s os r.greatest (counter s.greatest) (counter s.greatest) u e.0 i (omega arith)))
+pub phi-leave : {l : ℕ} {s r : Bounds} → AreDomainsOf (Leave l) s r → (os : Front) → IsCanonical s os
+    → IsMoved Outer os r (λ u. each_counter (frontier_of s os) u (counter s.greatest))
+phi-leave {l} {s} {r} d os h =
+    let e = leave-domains d in
+    moved-as (outer-moved s r (counter s.greatest) os e (in_domain-canonical s os h))
+    (λ u. each_counter (frontier_of s os) u (counter s.greatest))
+    (λ u i. sym (each-last s os r.greatest (counter s.greatest) (counter s.greatest) u e i (omega arith)))
 
-pub psi-feedback : (l : ℕ) (s r : Bounds) (os : Front) → AreDomainsOf (Feedback l) s r → IsCanonical s os
+pub psi-feedback : {l : ℕ} {s r : Bounds} → AreDomainsOf (Feedback l) s r → (os : Front) → IsCanonical s os
     → IsMoved (NextAfterFirst (counter s.greatest)) os r (psi_of_kind s.greatest (Feedback l) (frontier_of s os))
-psi-feedback l s r os d h =
-    let e = feedback-domains l s r d in
+psi-feedback {l} {s} {r} d os h =
+    let e = feedback-domains d in
     next_after_first-moved s r (greatest_number ∷ []) (counter s.greatest) os e.0 e.1 (in_domain-canonical s os h)
 
-pub psi-leave : (l : ℕ) (s r : Bounds) (os : Front) → AreDomainsOf (Leave l) s r → IsCanonical s os → IsMoved OuterOfFirst os r (psi_of_kind s.greatest (Leave l) (frontier_of s os))
-psi-leave l s r os d h =
-    let e = leave-domains l s r d in
-    moved-as OuterOfFirst os r (λ u. frontier_of s os (nest u 0)) (psi_of_kind s.greatest (Leave l) (frontier_of s os))
-    (outer_of_first-moved s r (counter s.greatest) os e.0 (in_domain-canonical s os h))
-    (λ u i. sym (some-first s os r.greatest (counter s.greatest) (counter s.greatest) u e.0 i (omega arith)))
+pub psi-leave : {l : ℕ} {s r : Bounds} → AreDomainsOf (Leave l) s r → (os : Front) → IsCanonical s os → IsMoved OuterOfFirst os r (psi_of_kind s.greatest (Leave l) (frontier_of s os))
+psi-leave {l} {s} {r} d os h =
+    let e = leave-domains d in
+    moved-as (outer_of_first-moved s r (counter s.greatest) os e (in_domain-canonical s os h))
+    (psi_of_kind s.greatest (Leave l) (frontier_of s os))
+    (λ u i. sym (some-first s os r.greatest (counter s.greatest) (counter s.greatest) u e i (omega arith)))
 
-pub psi_back-enter : (l : ℕ) (s r : Bounds) (os : Front) → AreDomainsOf (Enter l) s r → IsCanonical r os → IsMoved OuterOfFirst os s (psi_back_of_kind s.greatest (Enter l) (frontier_of r os))
-psi_back-enter l s r os d h = let e = enter-domains l s r d in outer_of_first-moved r s e.0 os e.2 (in_domain-canonical r os h)
+pub psi_back-enter : {l : ℕ} {s r : Bounds} → AreDomainsOf (Enter l) s r → (os : Front) → IsCanonical r os → IsMoved OuterOfFirst os s (psi_back_of_kind s.greatest (Enter l) (frontier_of r os))
+psi_back-enter {l} {s} {r} d os h = outer_of_first-moved r s (max_of d.flow l) os (enter-domains d) (in_domain-canonical r os h)
 
-pub psi_back-feedback : (l : ℕ) (s r : Bounds) (os : Front) → AreDomainsOf (Feedback l) s r → IsCanonical r os → IsMoved Before os s (psi_back_of_kind s.greatest (Feedback l) (frontier_of r os))
-psi_back-feedback l s r os d h =
-    let e = feedback-domains l s r d in
+pub psi_back-feedback : {l : ℕ} {s r : Bounds} → AreDomainsOf (Feedback l) s r → (os : Front) → IsCanonical r os → IsMoved Before os s (psi_back_of_kind s.greatest (Feedback l) (frontier_of r os))
+psi_back-feedback {l} {s} {r} d os h =
+    let e = feedback-domains d in
     before-moved s r (greatest_number ∷ []) (counter s.greatest) os e.0 e.1 (in_domain-canonical r os h)
 
-pub psi_back-leave : (l : ℕ) (s r : Bounds) (os : Front) → AreDomainsOf (Leave l) s r → IsCanonical r os → IsMoved First os s (psi_back_of_kind s.greatest (Leave l) (frontier_of r os))
-psi_back-leave l s r os d h = let e = leave-domains l s r d in first-moved r s (counter s.greatest) os e.0 (in_domain-canonical r os h)
+pub psi_back-leave : {l : ℕ} {s r : Bounds} → AreDomainsOf (Leave l) s r → (os : Front) → IsCanonical r os → IsMoved First os s (psi_back_of_kind s.greatest (Leave l) (frontier_of r os))
+psi_back-leave {l} {s} {r} d os h = first-moved r s (counter s.greatest) os (leave-domains d) (in_domain-canonical r os h)
 
 -- what is moved names the frontier that the test has
-pub moved-ok : {E : Type 0} (way : Way) (os : Front) (r : Bounds) (test : Frontier) (res : Result Front E) → IsMoved way os r test
+pub moved-ok : {E : Type 0} {way : Way} {os : Front} {r : Bounds} {test : Frontier} (res : Result Front E) → IsMoved way os r test
     → ((b : Bounds) → AreIn b (images way os) → IfOk res (λ g. IsFrontOf b g (frontier_of b (images way os))))
     → IfOk res (λ g. IsFrontOf r g (λ u. in_domain r u && test u))
-moved-ok way os r test res m h =
+moved-ok {way = way} {os} {r} {test} res m h =
     IfOk-weaker res (λ g. IsFrontOf r g (frontier_of r (images way os))) (λ g. IsFrontOf r g (λ u. in_domain r u && test u))
     (λ g n. names-by r g (images way os) test n m.same) (h r m.images_in)
 
@@ -575,12 +563,10 @@ from_one b m u h = by (nat_lt 0 m) refl
     by true e = ap (λ c. not c && true) at ∙ some (counter u)
     by false e = none m (counter u) e v.counted
 
-pub psi-enter_in : (l : ℕ) (s r : Bounds) (os : Front) → AreDomainsOf (Enter l) s r → IsCanonical s os → AreIn r (entered_outside s r os)
-psi-enter_in l s r os d h =
-    let e = enter-domains l s r d in
-    let m = first-moved s r e.0 os e.2 (in_domain-canonical s os h) in
+pub psi-enter_in : {l : ℕ} {s r : Bounds} → AreDomainsOf (Enter l) s r → (os : Front) → IsCanonical s os → AreIn r (entered_outside s r os)
+psi-enter_in {l} {s} {r} d os h =
     each-append (λ o. in_domain r o ≡ true) (images First os) (cond (nat_lt 0 (counter r.greatest)) (nest (origin s.greatest) 1 ∷ []) [])
-    m.images_in (one e.0 e.2 (nat_lt 0 (counter r.greatest)) refl)
+    (phi-enter d os h).images_in (one (max_of d.flow l) (enter-domains d) (nat_lt 0 (counter r.greatest)) refl)
   where
     one : (m : ℕ) → r.greatest ≡ nest s.greatest m → (x : Bool) → nat_lt 0 (counter r.greatest) ≡ x → AreIn r (cond x (nest (origin s.greatest) 1 ∷ []) [])
     one m e true f =
@@ -589,34 +575,57 @@ psi-enter_in l s r os d h =
         (ap (leq (nest (origin s.greatest) 1)) e ∙ nest-in s.greatest m (origin s.greatest) 1 (origin-leq s.greatest s.greatest refl) (omega (arith, c)), tt)
     one m e false f = tt
 
-pub psi-enter_same : (l : ℕ) (s r : Bounds) (os : Front) → AreDomainsOf (Enter l) s r → IsCanonical s os → (u : Stamp) → in_domain r u ≡ true
+psi-enter_same : {l : ℕ} {s r : Bounds} → AreDomainsOf (Enter l) s r → (os : Front) → IsCanonical s os → (u : Stamp) → in_domain r u ≡ true
     → inside (entered_outside s r os) u ≡ psi_of_kind s.greatest (Enter l) (frontier_of s os) u
-psi-enter_same l s r os d h u i =
-    let e = enter-domains l s r d in
-    let m = first-moved s r e.0 os e.2 (in_domain-canonical s os h) in
-    let c : counter r.greatest ≡ e.0 = ap counter e.2 ∙ counter-nest s.greatest e.0 in
+psi-enter_same {l} {s} {r} d os h u i =
+    let m = max_of d.flow l in
+    let e = enter-domains d in
+    let c : counter r.greatest ≡ m = ap counter e ∙ counter-nest s.greatest m in
     inside-append (images First os) (cond (nat_lt 0 (counter r.greatest)) (nest (origin s.greatest) 1 ∷ []) []) u
-    ∙ (λ j. m.same u i j && (ap (λ n. inside (cond (nat_lt 0 n) (nest (origin s.greatest) 1 ∷ []) []) u) c ∙ from_one s.greatest e.0 u (sym (ap (leq u) e.2) ∙ i)) j)
+    ∙ (λ j. (phi-enter d os h).same u i j && (ap (λ n. inside (cond (nat_lt 0 n) (nest (origin s.greatest) 1 ∷ []) []) u) c ∙ from_one s.greatest m u (sym (ap (leq u) e) ∙ i)) j)
     ∙ and_comm (frontier_of s os (outer u)) (counter u == 0)
+
+pub entered-ok : {E : Type 0} {l : ℕ} {s r : Bounds} → AreDomainsOf (Enter l) s r → (os : Front) → IsCanonical s os → (res : Result Front E)
+    → ((b : Bounds) → AreIn b (entered_outside s r os) → IfOk res (λ g. IsFrontOf b g (frontier_of b (entered_outside s r os))))
+    → IfOk res (λ g. IsFrontOf r g (λ u. in_domain r u && psi_of_kind s.greatest (Enter l) (frontier_of s os) u))
+entered-ok {l = l} {s} {r} d os h res all =
+    IfOk-weaker res (λ g. IsFrontOf r g (frontier_of r (entered_outside s r os))) (λ g. IsFrontOf r g (λ u. in_domain r u && psi_of_kind s.greatest (Enter l) (frontier_of s os) u))
+    (λ g n. names-by r g (entered_outside s r os) (psi_of_kind s.greatest (Enter l) (frontier_of s os)) n (psi-enter_same d os h))
+    (all r (psi-enter_in d os h))
 
 -- ---- regrouping
 
-pub phi-regroup_ok : (n limit count : ℕ) (s r : Bounds) (os g : Front) → 1 ≤ n → AreDomainsOf (Regroup n) s r → IsCanonical s os → os ≡ front_until (Some limit)
-    → IsFrontOf r g (λ u. in_domain r u && nat_lt (first_coordinate u) (limit / n)) → IsFrontOf r g (λ u. in_domain r u && phi_of_kind s.greatest (Regroup n) count (frontier_of s os) u)
-phi-regroup_ok n limit count s r os g p d h f named =
-    let e = regroup-domains n s r d in
-    let x : Stamp → ℕ = λ u. min (first_coordinate u * n + n - 1) (first_coordinate s.greatest) in
-    names-numbers_by r greatest_number g (λ k. nat_lt k (limit / n)) (phi_of_kind s.greatest (Regroup n) count (frontier_of s os)) e.1 named
-    (λ u l.
-    phi-regroup n greatest_number limit (first_coordinate u) p (limit-in s greatest_number limit os e.0 f h)
-    ∙ sym (below-limit s greatest_number limit (min (first_coordinate u * n + n - 1) greatest_number) e.0)
-    ∙ (λ j. frontier_of s (sym f j) (min (first_coordinate u * n + n - 1) (first_coordinate (sym e.0 j)) ∷ [])))
+-- the test is that of the numbers below a limit
+pub record IsBelow (limit : ℕ) (b : Bounds) (test : Frontier) : Type 0 where
+  pub line : b.greatest ≡ greatest_number ∷ []
+  pub same : (u : Stamp) → first_coordinate u ≤ greatest_number → nat_lt (first_coordinate u) limit ≡ test u
 
-pub psi-regroup_ok : (n end : ℕ) (s r : Bounds) (os g : Front) → 1 ≤ n → AreDomainsOf (Regroup n) s r → ((x : ℕ) → frontier_of s os (x ∷ []) ≡ nat_lt x end)
-    → IsFrontOf r g (λ u. in_domain r u && nat_lt (first_coordinate u) (end / n + min 1 (end % n))) → IsFrontOf r g (λ u. in_domain r u && psi_of_kind s.greatest (Regroup n) (frontier_of s os) u)
-psi-regroup_ok n end s r os g p d f named =
-    names-numbers_by r greatest_number g (λ k. nat_lt k (end / n + min 1 (end % n))) (psi_of_kind s.greatest (Regroup n) (frontier_of s os)) (regroup-domains n s r d).1 named
-    (λ u l. psi-regroup n end (first_coordinate u) p ∙ sym (f (first_coordinate u * n)))
+-- the numbers below a limit name the frontier that the test has
+pub below-ok : {E : Type 0} {limit : ℕ} {b : Bounds} {test : Frontier} (res : Result Front E) → IsBelow limit b test
+    → IfOk res (λ g. IsFrontOf b g (λ u. in_domain b u && nat_lt (first_coordinate u) limit)) → IfOk res (λ g. IsFrontOf b g (λ u. in_domain b u && test u))
+below-ok {limit = limit} {b} {test} res m h =
+    IfOk-weaker res (λ g. IsFrontOf b g (λ u. in_domain b u && nat_lt (first_coordinate u) limit)) (λ g. IsFrontOf b g (λ u. in_domain b u && test u))
+    (λ g n. names-numbers_by b greatest_number g (λ k. nat_lt k limit) test m.line n m.same) h
+
+pub phi-regroup_ok : {n : ℕ} {s r : Bounds} → AreDomainsOf (Regroup n) s r → IsGroupSize (Regroup n) → (os : Front) → IsCanonical s os → (limit k : ℕ) → os ≡ front_until (Some limit)
+    → k ≡ limit / n → IsBelow k r (λ u. frontier_of s os (min (first_coordinate u * n + n - 1) (first_coordinate s.greatest) ∷ []))
+phi-regroup_ok {n} {s} {r} d size os h limit k f is = record {
+  line = receiver-greatest d;
+  same = λ u l.
+      let e = sender-greatest d in
+      let x : Stamp → ℕ = λ t. min (first_coordinate u * n + n - 1) (first_coordinate t) in
+      ap (nat_lt (first_coordinate u)) is
+      ∙ phi-regroup n greatest_number limit (first_coordinate u) size.0 (limit-in s greatest_number limit os e f h)
+      ∙ sym (below-limit s greatest_number limit (x (greatest_number ∷ [])) e)
+      ∙ (λ j. frontier_of s (sym f j) (x (sym e j) ∷ []));
+}
+
+pub psi-regroup_ok : {n : ℕ} {s r : Bounds} → AreDomainsOf (Regroup n) s r → IsGroupSize (Regroup n) → (os : Front) (end k : ℕ) → ((x : ℕ) → frontier_of s os (x ∷ []) ≡ nat_lt x end)
+    → k ≡ end / n + min 1 (end % n) → IsBelow k r (psi_of_kind s.greatest (Regroup n) (frontier_of s os))
+psi-regroup_ok {n} d size os end k f is = record {
+  line = receiver-greatest d;
+  same = λ u l. ap (nat_lt (first_coordinate u)) is ∙ psi-regroup n end (first_coordinate u) size.0 ∙ sym (f (first_coordinate u * n));
+}
 
 -- the numbers inside, by where they end
 below-end : (limit : ℕ) (s : Bounds) (os : Front) → s.greatest ≡ greatest_number ∷ [] → IsCanonical s os → os ≡ front_until (Some limit)
@@ -627,27 +636,29 @@ below-end limit s os e h f x =
     by : (x g limit : ℕ) → limit ≤ g → (nat_le x g && nat_lt x limit) ≡ nat_lt x limit
     by x g limit l = grind (arith, nat_tests)
 
-pub end-limit : (n limit : ℕ) (s r : Bounds) (os : Front) → AreDomainsOf (Regroup n) s r → IsCanonical s os → os ≡ front_until (Some limit) → (x : ℕ) → frontier_of s os (x ∷ []) ≡ nat_lt x limit
-end-limit n limit s r os d h f x = below-end limit s os (regroup-domains n s r d).0 h f x
+pub end-limit : {n : ℕ} {s r : Bounds} → AreDomainsOf (Regroup n) s r → (limit : ℕ) (os : Front) → IsCanonical s os → os ≡ front_until (Some limit) → (x : ℕ) → frontier_of s os (x ∷ []) ≡ nat_lt x limit
+end-limit {s = s} d limit os h f x = below-end limit s os (sender-greatest d) h f x
 
-pub end-all : (n end : ℕ) (s r : Bounds) (os : Front) → AreDomainsOf (Regroup n) s r → os ≡ front_until None → end ≡ slice_index s.greatest 0 + 1 → (x : ℕ) → frontier_of s os (x ∷ []) ≡ nat_lt x end
-end-all n end s r os d f k x =
-    let e = (regroup-domains n s r d).0 in
+pub end-all : {n : ℕ} {s r : Bounds} → AreDomainsOf (Regroup n) s r → (end : ℕ) (os : Front) → os ≡ front_until None → end ≡ slice_index s.greatest 0 + 1 → (x : ℕ) → frontier_of s os (x ∷ []) ≡ nat_lt x end
+end-all {s = s} d end os f k x =
+    let e = sender-greatest d in
     (λ j. frontier_of s (f j) (x ∷ [])) ∙ ap (λ t. leq (x ∷ []) t && true) e ∙ by x greatest_number end (k ∙ ap (λ t. slice_index t 0 + 1) e)
   where
     by : (x g end : ℕ) → end ≡ g + 1 → ((nat_le x g && true) && true) ≡ nat_lt x end
     by x g end e = grind (arith, nat_tests)
 
-pub psi_back-regroup_ok : (n limit : ℕ) (s r : Bounds) (os g : Front) → 1 ≤ n → AreDomainsOf (Regroup n) s r → os ≡ front_until (Some limit)
-    → IsFrontOf s g (λ u. in_domain s u && nat_lt (first_coordinate u) (limit * n)) → IsFrontOf s g (λ u. in_domain s u && psi_back_of_kind s.greatest (Regroup n) (frontier_of r os) u)
-psi_back-regroup_ok n limit s r os g p d f named =
-    let e = regroup-domains n s r d in
-    names-numbers_by s greatest_number g (λ k. nat_lt k (limit * n)) (psi_back_of_kind s.greatest (Regroup n) (frontier_of r os)) e.0 named
-    (λ u l.
-    psi_back-regroup n limit (first_coordinate u) p
-    ∙ by (nat_le (first_coordinate u / n) greatest_number) (nat_lt (first_coordinate u / n) limit) (le-leb (first_coordinate u / n) greatest_number (omega (arith, div-le_self (first_coordinate u) n)))
-    ∙ sym (below-limit r greatest_number limit (first_coordinate u / n) e.1)
-    ∙ (λ j. frontier_of r (sym f j) ((first_coordinate u / n) ∷ [])))
+pub psi_back-regroup_ok : {n : ℕ} {s r : Bounds} → AreDomainsOf (Regroup n) s r → IsGroupSize (Regroup n) → (os : Front) (limit k : ℕ) → os ≡ front_until (Some limit)
+    → k ≡ limit * n → IsBelow k s (psi_back_of_kind s.greatest (Regroup n) (frontier_of r os))
+psi_back-regroup_ok {n} {s} {r} d size os limit k f is = record {
+  line = sender-greatest d;
+  same = λ u l.
+      let x = first_coordinate u / n in
+      ap (nat_lt (first_coordinate u)) is
+      ∙ psi_back-regroup n limit (first_coordinate u) size.0
+      ∙ by (nat_le x greatest_number) (nat_lt x limit) (le-leb x greatest_number (omega (arith, div-le_self (first_coordinate u) n)))
+      ∙ sym (below-limit r greatest_number limit x (receiver-greatest d))
+      ∙ (λ j. frontier_of r (sym f j) (x ∷ []));
+}
   where
     by : (a c : Bool) → a ≡ true → c ≡ (a && c)
     by true c e = refl
@@ -661,23 +672,24 @@ table_count-same f g e [] = refl
 table_count-same f g e (x ∷ table) = λ i. cond (e x.0 i) (x.1 + table_count-same f g e table i) (table_count-same f g e table i)
 
 -- what the messages of a sequence come from, by the count of those of the epochs below a limit
-pub phi-sequence_ok : (limit count : ℕ) (s r : Bounds) (os g : Front) (table : List (ℕ × ℕ)) → AreDomainsOf Sequence s r → IsCanonical s os
-    → os ≡ front_until (Some limit) → count ≡ min (table_count (λ t. nat_lt (first_coordinate t) limit) table) (2 ^ 64 - 1)
-    → IsFrontOf r g (λ u. in_domain r u && nat_lt (first_coordinate u) count)
-    → IsFrontOf r g (λ u. in_domain r u && phi_of_kind s.greatest Sequence (table_count (frontier_of s os) table) (frontier_of s os) u)
-phi-sequence_ok limit count s r os g table d h f c named =
-    let e = sequence-domains s r d in
-    let below = below-end limit s os e.0 h f in
+pub phi-sequence_ok : {s r : Bounds} → AreDomainsOf Sequence s r → (os : Front) → IsCanonical s os → (limit count : ℕ) (table : List (ℕ × ℕ)) → os ≡ front_until (Some limit)
+    → count ≡ min (table_count (λ t. nat_lt (first_coordinate t) limit) table) (2 ^ 64 - 1)
+    → IsBelow count r (phi_of_kind s.greatest Sequence (table_count (frontier_of s os) table) (frontier_of s os))
+phi-sequence_ok {s} {r} d os h limit count table f c =
+    let e = sender-greatest d in
+    let below = below-end limit s os e h f in
     let test : Frontier = frontier_of s os in
     let all : ℕ = table_count (λ t. nat_lt (first_coordinate t) limit) table in
     let same : all ≡ table_count test table = table_count-same (λ t. nat_lt (first_coordinate t) limit) test (λ x. sym (below x)) table in
-    let some : test s.greatest ≡ false = ap test e.0 ∙ below greatest_number ∙ past greatest_number limit (limit-in s greatest_number limit os e.0 f h) in
-    names-numbers_by r greatest_number g (λ k. nat_lt k count) (phi_of_kind s.greatest Sequence (table_count test table) test) e.1 named
-    (λ u l.
-    ap (nat_lt (first_coordinate u)) c
-    ∙ capped (first_coordinate u) all greatest_number (2 ^ 64 - 1) l (lit< tt)
-    ∙ ap (nat_lt (first_coordinate u)) same
-    ∙ sym (ap (λ b. b || nat_lt (first_coordinate u) (table_count test table)) some))
+    let some : test s.greatest ≡ false = ap test e ∙ below greatest_number ∙ past greatest_number limit (limit-in s greatest_number limit os e f h) in
+    record {
+      line = receiver-greatest d;
+      same = λ u l.
+          ap (nat_lt (first_coordinate u)) c
+          ∙ capped (first_coordinate u) all greatest_number (2 ^ 64 - 1) l (lit< tt)
+          ∙ ap (nat_lt (first_coordinate u)) same
+          ∙ sym (ap (λ b. b || nat_lt (first_coordinate u) (table_count test table)) some);
+    }
   where
     past : (g limit : ℕ) → limit ≤ g → nat_lt g limit ≡ false
     past g limit l = grind (arith, nat_tests)

@@ -1,10 +1,11 @@
 -- What a table of what a sequence sent counts.
-use Rattle.std.proofs.Common.{◌≡◌, ℕ, zero, suc, ◌+◌, ◌-◌, ◌^◌, ◌<◌, ◌≤◌, true, false, cond, min, nat_lt, add-one, Some, List, [], ◌∷◌, ◌++◌, length, get_or, take, refl, sym, ap, subst, ◌∙◌, arith}
+use Rattle.std.proofs.Common.{◌≡◌, ◌↔◌, ℕ, zero, suc, ◌+◌, ◌-◌, ◌^◌, ◌<◌, ◌≤◌, true, false, cond, min, nat_lt, add-one, Some, List, [], ◌∷◌, ◌++◌, length, get_or, take, refl, sym, ap, subst, ◌∙◌, arith}
 use Rattle.std.specs.Prelude.{slice_get}
 use Rattle.std.specs.List.Sorted.{IsNonDecreasingBy, IsPartitionPoint}
-use Rattle.std.proofs.lemmas.List.{map-append, get_or-map, length-map}
+use Rattle.std.proofs.lemmas.List.{map-append, get_or-map, length-map, length-append, get_or_append_left}
+use Rattle.std.proofs.Math.Seq.{get_or-append_seam}
 use Rattle.std.proofs.lemmas.List.Sorted.{IsNonDecreasingBy-push}
-use Rattle.std.proofs.lemmas.Option.{get_or_from_slice_get}
+use Rattle.std.proofs.lemmas.Option.{get_or_from_slice_get, slice_get_within}
 use Rattle.std.proofs.lemmas.Bool.Decides.{nat_tests}
 use Rattle.fw_flow.specs.declared.sent_table.SentInEpoch.{SentInEpoch}
 use Rattle.fw_flow.specs.Projection.{first_coordinate, table_count}
@@ -113,18 +114,39 @@ entries-in_order es h = λ i j d p q.
     let k = h i j (f d) p (omega (arith, same, q)) in
     omega (arith, a, b, k)
 
--- an epoch that is the last one or comes after it
-pub takes-epoch : (es xs : List SentInEpoch) (table : List (ℕ × ℕ)) (last : SentInEpoch) (epoch : ℕ) → xs ≡ es → counts_of es ≡ table → AreInOrder (counts_of es)
-    → Some last ≡ slice_get xs (length xs - 1) → last.epoch ≤ epoch → (count : ℕ) → AreInOrder (table ++ (epoch, count) ∷ [])
-takes-epoch es xs table last epoch x t o s l count =
-    IsNonDecreasingBy-push (λ (e : ℕ × ℕ). e.0) table (epoch, count) (subst AreInOrder t o)
-    (λ d some.
+-- the last epoch of a table is that of the last entry
+record HasLast (table : List (ℕ × ℕ)) (epoch : ℕ) : Type 0 where
+  some : 0 < length table
+  is_last : (d : ℕ × ℕ) → (get_or table (length table - 1) d).0 ≡ epoch
+
+last-epoch : (es xs : List SentInEpoch) (table : List (ℕ × ℕ)) (last : SentInEpoch) → xs ≡ es → counts_of es ≡ table → Some last ≡ slice_get xs (length xs - 1) → HasLast table last.epoch
+last-epoch es xs table last x t s =
     let f : SentInEpoch → ℕ × ℕ = λ e. (e.epoch, e.count) in
-    let n = length table - 1 in
+    let i = length xs - 1 in
     let same : length xs ≡ length table = sym (length-map xs f) ∙ ap (λ zs. length (counts_of zs)) x ∙ ap length t in
-    let there : n < length xs = omega (arith, same, some) in
-    let found : get_or xs n last ≡ last = get_or_from_slice_get xs n last last (ap (λ k. slice_get xs (k - 1)) (sym same) ∙ sym s) in
-    let at : get_or table n d ≡ f last =
-    ap (λ zs. get_or zs n d) (sym t ∙ ap counts_of (sym x)) ∙ get_or-map f xs n last d there ∙ ap f found in
-    let first = ap (λ (e : ℕ × ℕ). e.0) at in
-    omega (arith, first, l))
+    let there : i < length xs = slice_get_within xs i last (sym s) in
+    record {
+      some = omega (arith, same, there);
+      is_last = λ d.
+          (λ j. (get_or (sym t j) (sym same j - 1) d).0) ∙ ap (λ zs. (get_or (counts_of zs) i d).0) (sym x) ∙ ap (λ z. z.0) (get_or-map f xs i last d there)
+          ∙ ap (λ e. e.epoch) (get_or_from_slice_get xs i last last (sym s));
+    }
+
+-- an epoch is the last one or comes after it exactly where it may stand next
+pub takes-epoch : (es xs : List SentInEpoch) (table : List (ℕ × ℕ)) (last : SentInEpoch) (epoch : ℕ) → xs ≡ es → counts_of es ≡ table → AreInOrder (counts_of es)
+    → Some last ≡ slice_get xs (length xs - 1) → (last.epoch ≤ epoch) ↔ ((count : ℕ) → AreInOrder (table ++ (epoch, count) ∷ []))
+takes-epoch es xs table last epoch x t o s = (
+  λ l count. IsNonDecreasingBy-push (λ (e : ℕ × ℕ). e.0) table (epoch, count) (subst AreInOrder t o)
+      (λ d some. let e = (last-epoch es xs table last x t s).is_last d in omega (arith, e, l)),
+  λ h.
+      let d : ℕ × ℕ = (epoch, 0) in
+      let n = length table in
+      let has = last-epoch es xs table last x t s in
+      let some = has.some in
+      let long = length-append table (d ∷ []) in
+      let k = h 0 (n - 1) n d (omega arith) (omega (arith, long)) in
+      let before = ap (λ z. z.0) (get_or_append_left table (d ∷ []) d (n - 1) (omega (arith, some))) in
+      let next = ap (λ z. z.0) (get_or-append_seam table d [] d) in
+      let e = has.is_last d in
+      omega (arith, k, before, next, e),
+)

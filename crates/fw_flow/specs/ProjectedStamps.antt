@@ -7,13 +7,23 @@ use Rattle.fw_frontier.specs.Front.{Front}
 use Rattle.fw_flow.specs.declared.kind.Kind.{Kind}
 use Rattle.fw_flow.specs.declared.projection.Way.{Way}
 use Rattle.fw_flow.specs.declared.projection.Way.TheVariants.{First, Next, NextAfterFirst, Before, Outer, OuterOfFirst}
-use Rattle.fw_flow.specs.Dataflow.{Dataflow, domain_of_kind, out_domain_of_kind, bounds_of_domain}
+use Rattle.fw_flow.specs.Dataflow.{Dataflow, kind_of, sender, receiver, domain_of_kind, out_domain_of_kind, bounds_of, bounds_of_domain, bounds_of_edge}
+use Rattle.fw_flow.specs.WellFormed.{IsGroupSize}
 
 -- the bounds are those of the domain and the out domain of a node of the kind, in some dataflow
-abbrev pub AreDomainsOf : Kind → Bounds → Bounds → Type 0
-AreDomainsOf kind sender receiver = (flow : Dataflow)
-    × (sender ≡ bounds_of_domain flow (domain_of_kind flow kind))
-    × (receiver ≡ bounds_of_domain flow (out_domain_of_kind flow kind))
+pub record AreDomainsOf (kind : Kind) (from to : Bounds) : Type 0 where
+  pub flow : Dataflow
+  pub of_sender : from ≡ bounds_of_domain flow (domain_of_kind flow kind)
+  pub of_receiver : to ≡ bounds_of_domain flow (out_domain_of_kind flow kind)
+
+-- the kind of the sender of an edge, and the bounds of the domains of its sender and its receiver, which the edge joins
+pub record AreEndsOf (flow : Dataflow) (edge : ℕ) (kind : Kind) (from to : Bounds) : Type 0 where
+  pub is_kind : kind ≡ kind_of flow (sender flow edge)
+  pub is_from : from ≡ bounds_of flow (sender flow edge)
+  pub is_to : to ≡ bounds_of flow (receiver flow edge)
+  pub is_out : to ≡ bounds_of_edge flow edge
+  pub group : IsGroupSize kind
+  pub domains : AreDomainsOf kind from to
 
 -- a stamp that has a counter or may get one
 abbrev pub IsNest : Stamp → Type 0

@@ -43,8 +43,9 @@ impl Draft {
     {
         let parts = Parts::of(alloc, names, declared)?;
         let links = links_of(alloc, &parts.edges)?;
-        let incoming = edges_by_end(alloc, parts.nodes.len(), &receivers(alloc, &links)?)?;
-        let outgoing = edges_by_end(alloc, parts.nodes.len(), &senders(alloc, &links)?)?;
+        let nodes = parts.nodes.len();
+        let incoming = edges_by_end(alloc, nodes, &receivers(alloc, &links)?)?;
+        let outgoing = edges_by_end(alloc, nodes, &senders(alloc, &links)?)?;
         Ok(Draft {
             parts,
             links,

@@ -8,8 +8,8 @@ ghost use Rattle.fw_frontier.specs.Front.{frontier_of, IsCanonical, IsFrontOf};
 ghost use Rattle.fw_flow.specs.declared.event.Event.{Event};
 ghost use Rattle.fw_flow.specs.Dataflow.{System, kind_of, sender, receiver, bounds_of, node_frontier};
 ghost use Rattle.fw_flow.specs.Projection.{first_coordinate, phi, phi_by_count, psi, psi_back, phi_of_kind, psi_of_kind, psi_back_of_kind, table_count, IsSentTable};
-ghost use Rattle.fw_flow.specs.ProjectedStamps.{IsNest, image, images, entered_outside, front_until, AreDomainsOf};
-ghost use Rattle.fw_flow.specs.WellFormed.{IsWellFormed, IsGroupSize};
+ghost use Rattle.fw_flow.specs.ProjectedStamps.{IsNest, image, images, entered_outside, front_until, AreDomainsOf, AreEndsOf};
+ghost use Rattle.fw_flow.specs.WellFormed.{IsGroupSize};
 
 use crate::{EdgeId, Flow, Kind, SentTable};
 use fw_frontier::Front;
@@ -67,10 +67,7 @@ impl Flow {
 
     /// The kind of an edge's sender, and the bounds of the sender's domain and of the receiver's.
     fn ends(&self, edge: EdgeId) -> (Kind, Bounds, Bounds)
-        ensures kind { result.0 ≡ kind_of self.now (sender self.now edge) }
-        ensures sender { result.1 ≡ bounds_of self.now (sender self.now edge) }
-        ensures receiver { result.2 ≡ bounds_of self.now (receiver self.now edge) }
-        ensures well_formed { IsWellFormed self.now }
+        ensures { AreEndsOf self.now edge result.0 result.1 result.2 }
     {
         // Where a field is read, the flow is known to be well formed.
         let _ = &self.edges;

@@ -1,5 +1,5 @@
 //! How many messages a sequence sent, by epoch.
-ghost use Rattle.std.specs.Prelude.{◌≡◌, ℕ, ◌^◌, ◌-◌, ◌≤◌, true, nat_lt, min, [], ◌∷◌, ◌++◌, length, take, IsTrue, OnOk, OnErr};
+ghost use Rattle.std.specs.Prelude.{◌≡◌, ◌↔◌, ℕ, ◌^◌, ◌-◌, ◌≤◌, true, nat_lt, min, [], ◌∷◌, ◌++◌, length, take, IsTrue, OnOk, OnErr};
 ghost use Rattle.fw_flow.specs.Projection.{first_coordinate, table_count};
 ghost use Rattle.fw_flow.specs.SentTable.{AreInOrder, counts_of, HasTotals};
 
@@ -44,7 +44,7 @@ impl SentTable {
 
     /// Whether the epoch comes after those of the table, or is the last of them.
     pub fn takes(&self, epoch: u32) -> bool
-        ensures { IsTrue result → (count : ℕ) → AreInOrder (self.now ++ (epoch, count) ∷ []) }
+        ensures { IsTrue result ↔ ((count : ℕ) → AreInOrder (self.now ++ (epoch, count) ∷ [])) }
     {
         match self.entries.last() {
             Some(last) => last.epoch <= epoch,

@@ -5,7 +5,7 @@ use Rattle.std.proofs.lemmas.List.{length-map}
 use Rattle.fw_flow.specs.declared.kind.Domain.{Domain}
 use Rattle.fw_flow.specs.declared.kind.Domain.TheVariants.{Epoch, Number, Loop as InLoop}
 use Rattle.fw_flow.specs.declared.kind.Kind.{Kind}
-use Rattle.fw_flow.specs.declared.kind.Kind.TheVariants.{Input, OutputEpoch, OutputNumber, Select, Concat, Distinct, Join, Sum, Enter, Feedback, Leave, Total, Sequence, Ledger, Regroup}
+use Rattle.fw_flow.specs.declared.kind.Kind.TheVariants.{Regroup}
 use Rattle.fw_flow.specs.declared.node.Loop.{Loop}
 use Rattle.fw_flow.specs.declared.node.Node.{Node}
 use Rattle.fw_flow.specs.Check.{JoinsDomains, HasAllowedPolicy, AreWalksRight, IsWalkWrong, HasNodeOf, HasBorders}

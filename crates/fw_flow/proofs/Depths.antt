@@ -182,7 +182,11 @@ path-stays : (flow : Dataflow) → HoldsBelow (JoinsDomains flow) (length flow.e
 path-stays flow joins l p [] q h w = tt
 path-stays flow joins l p (e ∷ es) q h w =
     let here : is_within flow l (domain_of flow (sender flow e)) ≡ true = ap (λ x. is_within flow l (domain_of flow x)) h.2 ∙ w in
-    let deep : length (loops_of flow (InLoop l)) ≤ depth_of flow (receiver flow e) = leb-true (length (loops_of flow (InLoop l))) (depth_of flow (receiver flow e)) (and_parts _ _ (and_parts _ _ h.1).1).0 in
+    let j = length (loops_of flow (InLoop l)) in
+    let both = and_parts (nat_le j (depth_of flow (sender flow e)))
+    (nat_le j (depth_of flow (receiver flow e)) && not (is_feedback_at flow j (kind_of flow (sender flow e)))) h.1 in
+    let to = and_parts (nat_le j (depth_of flow (receiver flow e))) (not (is_feedback_at flow j (kind_of flow (sender flow e)))) both.1 in
+    let deep : j ≤ depth_of flow (receiver flow e) = leb-true j (depth_of flow (receiver flow e)) to.0 in
     let same : length (loops_of flow (out_domain_of flow (sender flow e))) ≡ depth_of flow (receiver flow e) = ap (λ d. length (loops_of flow d)) (joins e h.0) in
     let long : length (loops_of flow (InLoop l)) ≤ length (loops_of flow (out_domain_of flow (sender flow e))) = omega (arith, deep, same) in
     let next = kind-within flow l (kind_of flow (sender flow e)) here long in

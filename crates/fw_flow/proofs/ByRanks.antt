@@ -1,17 +1,16 @@
 -- Ranks make the rule on closed walks true, and by the rule each closed walk passes a feedback.
-use Rattle.std.proofs.Common.{◌≡◌, ◌⊎◌, inl, inr, ℕ, zero, suc, ◌+◌, ◌<◌, ◌≤◌, Bool, true, false, not, ◌&&◌, ◌||◌, ◌==◌, nat_le, List, [], ◌∷◌, length, refl, sym, ap, ◌∙◌, subst, arith}
-use Rattle.std.proofs.lemmas.Bool.{and_parts, and_from, eqb-true, eqb-false, le-leb, cases_Bool, false_from_ne_true, not-true, not_from_false}
+use Rattle.std.proofs.Common.{◌≡◌, ◌⊎◌, inl, inr, ℕ, suc, ◌<◌, ◌≤◌, Bool, true, false, ◌&&◌, ◌==◌, List, [], ◌∷◌, length, refl, sym, ap, ◌∙◌, arith}
+use Rattle.std.proofs.lemmas.Bool.{and_from, eqb-true, eqb-false, le-leb, cases_Bool, not-true, not_from_false}
 use Rattle.fw_flow.specs.declared.kind.Domain.TheVariants.{Loop as InLoop}
 use Rattle.fw_flow.specs.declared.kind.Kind.{Kind}
 use Rattle.fw_flow.specs.declared.kind.Kind.TheVariants.{Feedback}
-use Rattle.fw_flow.specs.Dataflow.{Dataflow, kind_of, sender, receiver, loops_of, domain_of, domain_of_kind, out_domain_of, is_loop, is_within, is_domain_of}
+use Rattle.fw_flow.specs.Dataflow.{Dataflow, kind_of, sender, receiver, loops_of, domain_of, domain_of_kind, out_domain_of, is_loop, is_within}
 use Rattle.fw_flow.specs.WellFormed.{IsWalk, IsClosedWalk, Passes, StaysWithin, is_feedback_kind, is_feedback_of, is_kind_in, is_outside_kind}
-use Rattle.fw_flow.specs.Walks.{IsPath}
-use Rattle.fw_flow.specs.Ranks.{is_looped, IsWithinRound, Ranks}
-use Rattle.fw_flow.specs.Depths.{depth_of, is_feedback_at, depth_graph}
+use Rattle.fw_flow.specs.Ranks.{is_looped, IsWithinRound}
+use Rattle.fw_flow.specs.Depths.{depth_of, is_feedback_at}
 use Rattle.fw_flow.specs.Check.{AreWalksRight, IsWalkWrong, JoinsDomains, HoldsBelow}
 use Rattle.fw_flow.proofs.Chains.{loops-few}
-use Rattle.fw_flow.proofs.Depths.{AreFree, Turned, turn, path-from_walk, in_domain-is, return-wrong}
+use Rattle.fw_flow.proofs.Depths.{AreFree, turn, path-from_walk, in_domain-is, return-wrong}
 
 -- ---- a rank along a walk
 
@@ -100,26 +99,41 @@ begins_within : (flow : Dataflow) (l p : ℕ) (es : List ℕ) (q : ℕ) → 0 < 
 begins_within flow l p [] q some h s = absurd (omega arith)
 begins_within flow l p (e ∷ es) q some h s = sym (ap (λ x. is_within flow l (domain_of flow x)) h.1) ∙ s.0
 
-own-is : (l : ℕ) (flow : Dataflow) (p : ℕ) → is_domain_of l (domain_of flow p) ≡ true → domain_of flow p ≡ InLoop l
-own-is l flow p h = in_domain-is l (domain_of flow p) h
+-- ranks that show the closed walks of a dataflow right: one that falls along no edge and rises along each into a node that is not
+-- looped; and for each loop one that falls along no edge within a round of it, and rises along each of these into a node of its own
+-- domain
+pub record AreRanked (flow : Dataflow) (lambda : ℕ → ℕ) (sigma : ℕ → ℕ → ℕ) : Type 0 where
+  pub declared : (l e : ℕ) → e < length flow.edges → domain_of flow (sender flow e) ≡ InLoop l → l < length flow.loops
+  pub keeps : (e : ℕ) → e < length flow.edges → lambda (sender flow e) ≤ lambda (receiver flow e)
+  pub rises : (e : ℕ) → e < length flow.edges → is_looped flow (receiver flow e) ≡ false → lambda (sender flow e) < lambda (receiver flow e)
+  pub round_keeps : (l e : ℕ) → l < length flow.loops → e < length flow.edges → IsWithinRound flow l e → sigma l (sender flow e) ≤ sigma l (receiver flow e)
+  pub round_rises : (l e : ℕ) → l < length flow.loops → e < length flow.edges → IsWithinRound flow l e → domain_of flow (receiver flow e) ≡ InLoop l
+      → sigma l (sender flow e) < sigma l (receiver flow e)
 
--- where there are ranks, the closed walks are right: so there are ranks exactly where they are
-pub ranks-right : (flow : Dataflow) → Ranks flow → AreWalksRight flow
-ranks-right flow r = record {
+-- a loop whose own domain a walk passes is declared
+passes-declared : (flow : Dataflow) (lambda : ℕ → ℕ) (sigma : ℕ → ℕ → ℕ) → AreRanked flow lambda sigma → (l p : ℕ) (es : List ℕ) (q : ℕ) → IsWalk flow p es q
+    → Passes flow (is_kind_in flow l) es → l < length flow.loops
+passes-declared flow lambda sigma r l p [] q h passes = absurd passes
+passes-declared flow lambda sigma r l p (e ∷ es) q h (inl here) = r.declared l e h.0 (in_domain-is l (domain_of flow (sender flow e)) here)
+passes-declared flow lambda sigma r l p (e ∷ es) q h (inr later) = passes-declared flow lambda sigma r l (receiver flow e) es q h.2 later
+
+pub walks-ranked : (flow : Dataflow) (lambda : ℕ → ℕ) (sigma : ℕ → ℕ → ℕ) → AreRanked flow lambda sigma → AreWalksRight flow
+walks-ranked flow lambda sigma r = record {
   in_loops = λ p es closed passes.
-      no_climb flow (λ e. Unit {0}) (is_outside_kind flow) r.lambda
+      no_climb flow (λ e. Unit {0}) (is_outside_kind flow) lambda
       (record {
-        keeps = λ e l u. r.of_loops.keeps e l;
-        rises = λ e l u out. r.of_loops.rises e l
+        keeps = λ e l u. r.keeps e l;
+        rises = λ e l u out. r.rises e l
             (ap (λ b. b && is_loop (out_domain_of flow (receiver flow e))) (not-true (is_loop (domain_of flow (receiver flow e))) out));
       }) p es closed.walk (all es) passes;
   fed_back = λ l p es closed stays passes.
+      let declared = passes-declared flow lambda sigma r l p es p closed.walk passes in
       elim (rounds_or_fed_back flow l p es p closed.walk stays (begins_within flow l p es p closed.some closed.walk stays)) [
         | inr fed ↦ fed
-        | inl rounds ↦ absurd (no_climb flow (IsWithinRound flow l) (is_kind_in flow l) (r.sigma l)
+        | inl rounds ↦ absurd (no_climb flow (IsWithinRound flow l) (is_kind_in flow l) (sigma l)
             (record {
-              keeps = λ e k u. (r.of_rounds l).keeps e k u;
-              rises = λ e k u own. (r.of_rounds l).rises e k u (own-is l flow (receiver flow e) own);
+              keeps = λ e k u. r.round_keeps l e declared k u;
+              rises = λ e k u own. r.round_rises l e declared k u (in_domain-is l (domain_of flow (receiver flow e)) own);
             }) p es closed.walk rounds passes)
       ];
 }
@@ -153,8 +167,8 @@ free-deep : (flow : Dataflow) (j p : ℕ) (es : List ℕ) (q : ℕ) → IsWalk f
 free-deep flow j p [] q h d last = tt
 free-deep flow j p (e ∷ es) q h d last = (
   and_from _ _ (le-leb _ _ d.0)
-  (and_from _ _ (le-leb _ _ (starts_deep flow j (receiver flow e) es q h.2 d.1.1 last))
-  (not_from_false _ (no_feedback_at flow j (kind_of flow (sender flow e)) d.1.0))),
+      (and_from _ _ (le-leb _ _ (starts_deep flow j (receiver flow e) es q h.2 d.1.1 last))
+      (not_from_false _ (no_feedback_at flow j (kind_of flow (sender flow e)) d.1.0))),
   free-deep flow j (receiver flow e) es q h.2 d.1.1 last,
 )
 

@@ -1,11 +1,11 @@
 -- Sizes do not matter to the rules but the limits: what holds of a flow with its sizes capped holds of the flow.
-use Rattle.std.proofs.Common.{◌≡◌, inl, inr, ◌↔◌, ℕ, zero, suc, ◌<◌, ◌≤◌, Bool, true, false, not, cond, List, [], ◌∷◌, length, map, Option, Some, None, refl, sym, ap, ◌∙◌, subst, arith, get_or}
+use Rattle.std.proofs.Common.{◌≡◌, inl, inr, ◌↔◌, ℕ, zero, suc, ◌<◌, ◌≤◌, Bool, not, cond, List, [], ◌∷◌, length, map, Option, Some, None, refl, sym, ap, ◌∙◌, subst, arith, get_or}
 use Rattle.std.proofs.lemmas.Bool.{le-leb}
 use Rattle.std.proofs.lemmas.List.{length-map}
 use Rattle.fw_flow.specs.declared.kind.Domain.{Domain}
 use Rattle.fw_flow.specs.declared.kind.Domain.TheVariants.{Epoch, Number, Loop as InLoop}
 use Rattle.fw_flow.specs.declared.kind.Kind.{Kind}
-use Rattle.fw_flow.specs.declared.kind.Kind.TheVariants.{Regroup}
+use Rattle.fw_flow.specs.declared.kind.Kind.TheVariants.{Enter, Leave, Regroup}
 use Rattle.fw_flow.specs.declared.node.Loop.{Loop}
 use Rattle.fw_flow.specs.declared.node.Node.{Node}
 use Rattle.fw_flow.specs.Check.{JoinsDomains, HasAllowedPolicy, AreWalksRight, IsWalkWrong, HasNodeOf, HasBorders}
@@ -194,15 +194,18 @@ IsWalkWrong-capped flow (inr slip) =
     let f = capped_flow flow in
     let l = slip.0 in
     let walk = slip.1 in
-    inr (l, record {
-      node = walk.node;
-      edges = walk.edges;
-      closed = IsClosedWalk-same f flow (same_edges flow) walk.node walk.edges walk.closed;
-      stays = StaysWithin-same f flow (same_edges flow) l (within-capped flow l) walk.edges walk.stays;
-      passes = Passes-same f flow (same_edges flow) (is_kind_in f l) (is_kind_in flow l) (inside-capped flow l) walk.edges walk.passes;
-      avoids = λ passes. walk.avoids
-          (Passes-same flow f (edges_back flow) (is_feedback_of l) (is_feedback_of l) (λ q. sym (feedbacks-capped flow l q)) walk.edges passes);
-    })
+    inr (
+      l,
+      record {
+        node = walk.node;
+        edges = walk.edges;
+        closed = IsClosedWalk-same f flow (same_edges flow) walk.node walk.edges walk.closed;
+        stays = StaysWithin-same f flow (same_edges flow) l (within-capped flow l) walk.edges walk.stays;
+        passes = Passes-same f flow (same_edges flow) (is_kind_in f l) (is_kind_in flow l) (inside-capped flow l) walk.edges walk.passes;
+        avoids = λ passes. walk.avoids
+            (Passes-same flow f (edges_back flow) (is_feedback_of l) (is_feedback_of l) (λ q. sym (feedbacks-capped flow l q)) walk.edges passes);
+      },
+    )
 
 -- ---- an input and an output
 

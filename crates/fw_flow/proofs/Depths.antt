@@ -1,12 +1,12 @@
 -- The rule on closed walks holds exactly where at each depth no walk comes back to a node of that depth.
-use Rattle.std.proofs.Common.{◌≡◌, ◌⊎◌, inl, inr, ℕ, zero, suc, ◌+◌, ◌<◌, ◌≤◌, Bool, true, false, not, ◌&&◌, ◌||◌, ◌==◌, nat_le, List, [], ◌∷◌, ◌++◌, length, Option, Some, None, refl, sym, ap, ◌∙◌, subst, arith}
-use Rattle.std.proofs.lemmas.Bool.{and_parts, and_from, or_cases, or_left, or_right, eqb-true, eq-eqb, le-leb, leb-true, cases_Bool, false_from_ne_true, true≢false, false≢true, not-true, not_from_false}
+use Rattle.std.proofs.Common.{◌≡◌, ◌⊎◌, inl, inr, ℕ, ◌<◌, ◌≤◌, Bool, true, false, not, ◌&&◌, ◌==◌, nat_le, List, [], ◌∷◌, ◌++◌, length, refl, sym, ap, ◌∙◌, subst, arith}
+use Rattle.std.proofs.lemmas.Bool.{and_parts, and_from, or_cases, or_left, or_right, eqb-true, eq-eqb, le-leb, leb-true, cases_Bool, false_from_ne_true, true≢false, not-true, not_from_false}
 use Rattle.fw_flow.specs.declared.kind.Domain.{Domain}
 use Rattle.fw_flow.specs.declared.kind.Domain.TheVariants.{Epoch, Number, Loop as InLoop}
 use Rattle.fw_flow.specs.declared.kind.Kind.{Kind}
 use Rattle.fw_flow.specs.declared.kind.Kind.TheVariants.{Enter, Feedback, Leave, Regroup, Sequence}
 use Rattle.fw_flow.specs.Dataflow.{Dataflow, kind_of, sender, receiver, parent_of, loops_of, domain_of, domain_of_kind, out_domain_of, out_domain_of_kind, is_loop, is_one_of, is_within, is_domain_of}
-use Rattle.fw_flow.specs.WellFormed.{IsWalk, IsClosedWalk, Passes, StaysWithin, is_feedback_of, is_kind_in, is_outside_kind}
+use Rattle.fw_flow.specs.WellFormed.{IsWalk, Passes, StaysWithin, is_feedback_of, is_kind_in, is_outside_kind}
 use Rattle.fw_flow.specs.Walks.{IsPath, Path}
 use Rattle.fw_flow.specs.Depths.{depth_of, is_feedback_at, depth_graph, ReturningPath}
 use Rattle.fw_flow.specs.Check.{AreWalksRight, IsWalkWrong, JoinsDomains, HoldsBelow}
@@ -66,10 +66,11 @@ no_feedback_at_zero flow kind = refl
 
 all_free-zero : (flow : Dataflow) (es : List ℕ) → AreFree flow 0 es
 all_free-zero flow [] = tt
-all_free-zero flow (e ∷ es) =
-    (and_from _ _ (at_least_zero (depth_of flow (sender flow e)))
-    (and_from _ _ (at_least_zero (depth_of flow (receiver flow e))) (not_from_false _ (no_feedback_at_zero flow (kind_of flow (sender flow e))))),
-    all_free-zero flow es)
+all_free-zero flow (e ∷ es) = (
+  and_from _ _ (at_least_zero (depth_of flow (sender flow e)))
+      (and_from _ _ (at_least_zero (depth_of flow (receiver flow e))) (not_from_false _ (no_feedback_at_zero flow (kind_of flow (sender flow e))))),
+  all_free-zero flow es,
+)
 
 outside-depth : (flow : Dataflow) (d : Domain) → not (is_loop d) ≡ true → length (loops_of flow d) ≡ 0
 unfolding loops_of
@@ -115,7 +116,7 @@ free_or_fed_back flow l p (e ∷ es) q h s last =
             let to = within-depth flow l (domain_of flow (receiver flow e)) (next_within flow l (receiver flow e) es q h.2 s.1 last) in
             inl (
               and_from _ _ (le-leb _ _ from)
-              (and_from _ _ (le-leb _ _ to) (not_from_false _ (not_at_depth flow l (kind_of flow (sender flow e)) s.0 onward))),
+                  (and_from _ _ (le-leb _ _ to) (not_from_false _ (not_at_depth flow l (kind_of flow (sender flow e)) s.0 onward))),
               rest,
             )
       ]
@@ -214,14 +215,17 @@ wrong_at flow joins p (InLoop l) e path =
     let walk = walk-from_path flow j p path.edges p path.path in
     let own : is_within flow l (InLoop l) ≡ true =
     ap (λ ls. is_one_of ls l) (loops-unfold flow l) ∙ or_left (l == l) (is_one_of (loops_of flow (parent_of flow l)) l) (eq-eqb l l refl) in
-    inr (l, record {
-      node = p;
-      edges = path.edges;
-      closed = record { some = path.some; walk = walk };
-      stays = path-stays flow joins l p path.edges p path.path (ap (is_within flow l) e ∙ own);
-      passes = passes_first flow (is_kind_in flow l) p path.edges p path.some walk (ap (is_domain_of l) e ∙ eq-eqb l l refl);
-      avoids = path-avoids flow l p path.edges p path.path;
-    })
+    inr (
+      l,
+      record {
+        node = p;
+        edges = path.edges;
+        closed = record { some = path.some; walk = walk };
+        stays = path-stays flow joins l p path.edges p path.path (ap (is_within flow l) e ∙ own);
+        passes = passes_first flow (is_kind_in flow l) p path.edges p path.some walk (ap (is_domain_of l) e ∙ eq-eqb l l refl);
+        avoids = path-avoids flow l p path.edges p path.path;
+      },
+    )
 wrong_at flow joins p d e path =
     let walk = walk-from_path flow (length (loops_of flow d)) p path.edges p path.path in
     inl (record {

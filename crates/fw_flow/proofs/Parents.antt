@@ -1,13 +1,10 @@
 -- For the proofs of src/flow.rt and src/walks.rt: greatest stamps and depths, loop by loop.
-use Rattle.std.proofs.Common.{◌≡◌, ℕ, ◌+◌, ◌<◌, ◌≤◌, List, [], ◌∷◌, length, true, get_or, Option, Some, None, refl, sym, ap, ◌∙◌, inl, inr, arith}
-use Rattle.std.proofs.lemmas.Bool.{cases_lt, cond_both}
-use Rattle.std.proofs.lemmas.List.{get_or_past}
-use Rattle.fw_time.specs.Stamp.{Stamp, nest}
+use Rattle.std.proofs.Common.{◌≡◌, ℕ, [], ◌∷◌, length, refl, sym, ap, ◌∙◌, arith}
+use Rattle.fw_time.specs.Stamp.{nest}
 use Rattle.fw_flow.specs.declared.kind.Domain.{Domain}
 use Rattle.fw_flow.specs.declared.kind.Domain.TheVariants.{Epoch, Number, Loop as InLoop}
-use Rattle.fw_flow.specs.declared.node.Loop.{Loop}
-use Rattle.fw_flow.specs.Dataflow.{Dataflow, max_of, greatest_number, greatest_of, loops_of, parent_of, declared_parent, ends_within, domain_within}
-use Rattle.fw_flow.proofs.Chains.{parent-declared, loops-unfold, loops-few, greatest-unfold}
+use Rattle.fw_flow.specs.Dataflow.{Dataflow, max_of, greatest_number, greatest_of, loops_of, parent_of}
+use Rattle.fw_flow.proofs.Chains.{loops-unfold, loops-few, greatest-unfold}
 
 -- the domain is no loop's
 abbrev pub IsFlat : Domain → Type 0

@@ -1,5 +1,5 @@
 -- What projections do to the outside stamps of a frontier.
-use Rattle.std.proofs.Common.{length-append, ◌≡◌, ℕ, zero, suc, ◌+◌, ◌-◌, ◌*◌, ◌/◌, ◌%◌, ◌<◌, ◌≤◌, min, Bool, true, false, not, cond, ◌&&◌, ◌||◌, ◌==◌, nat_lt, nat_le, ◌^◌, List, [], ◌∷◌, ◌++◌, length, get_or, Option, Some, None, lit<, refl, sym, ap, subst, ◌∙◌, arith}
+use Rattle.std.proofs.Common.{◌≡◌, ℕ, zero, suc, ◌+◌, ◌-◌, ◌*◌, ◌/◌, ◌%◌, ◌<◌, ◌≤◌, min, Bool, true, false, not, cond, ◌&&◌, ◌||◌, ◌==◌, nat_lt, nat_le, ◌^◌, List, [], ◌∷◌, ◌++◌, length, get_or, Option, Some, None, lit<, refl, sym, ap, subst, ◌∙◌, arith}
 use Rattle.std.proofs.Math.Bool.{or-true, and_comm}
 use Rattle.std.proofs.lemmas.Option.{cond_some}
 use Rattle.std.proofs.lemmas.Bool.{and_from, and_parts, le-leb, leb-true, ltb-true}
@@ -29,7 +29,6 @@ use Rattle.fw_flow.specs.ProjectedStamps.{AreDomainsOf, MayGo, image, images, en
 use Rattle.fw_flow.specs.declared.event.Event.{Event}
 use Rattle.fw_flow.specs.declared.kind.Kind.{Kind}
 use Rattle.fw_flow.specs.declared.kind.Domain.{Domain}
-use Rattle.fw_flow.specs.declared.kind.Domain.TheVariants.{Epoch, Number, Loop as InLoop}
 use Rattle.fw_flow.specs.Dataflow.{System, Dataflow, kind_of, sender, max_of, greatest_number, parent_of, domain_of_kind, out_domain_of_kind, greatest_of, greatest_of_kind, bounds_of_domain}
 use Rattle.fw_flow.proofs.Chains.{outer_greatest, greatest-unfold, greatest-length, parent-few}
 use Rattle.fw_flow.specs.WellFormed.{IsGroupSize}

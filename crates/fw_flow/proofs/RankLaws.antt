@@ -1,15 +1,14 @@
 -- The ranks of a well-formed dataflow with nested loops, by counting the nodes that reach a node.
-use Rattle.std.proofs.Common.{◌≡◌, ℕ, zero, suc, ◌+◌, ◌<◌, ◌≤◌, ◌⊎◌, inl, inr, Bool, true, false, not, ◌&&◌, ◌||◌, ◌==◌, cond, List, [], ◌∷◌, length, refl, sym, ap, ◌∙◌, subst, arith}
-use Rattle.std.proofs.lemmas.Bool.{and_parts, and_from, eqb-true, eq-eqb, cases_Bool, false_from_ne_true, true≢false, false≢true, not-true, not_from_false}
+use Rattle.std.proofs.Common.{◌≡◌, ℕ, ◌<◌, inl, inr, Bool, true, false, not, ◌&&◌, ◌||◌, ◌==◌, List, [], ◌∷◌, length, refl, sym, ap, ◌∙◌, arith}
+use Rattle.std.proofs.lemmas.Bool.{and_parts, and_from, eq-eqb, cases_Bool, false_from_ne_true, false≢true, not-true, not_from_false}
 use Rattle.fw_flow.specs.declared.kind.Domain.TheVariants.{Loop as InLoop}
-use Rattle.fw_flow.specs.declared.kind.Kind.{Kind}
-use Rattle.fw_flow.specs.Dataflow.{Dataflow, kind_of, sender, receiver, domain_of, domain_of_kind, out_domain_of, is_loop, is_within, is_domain_of}
+use Rattle.fw_flow.specs.Dataflow.{Dataflow, kind_of, sender, receiver, domain_of, out_domain_of, is_loop, is_within, is_domain_of}
 use Rattle.fw_flow.specs.WellFormed.{IsWalk, IsClosedWalk, Passes, is_feedback_kind, StaysWithin, IsWellFormed, is_feedback_of, is_kind_in, is_outside_kind}
-use Rattle.fw_flow.specs.Walks.{Graph, IsPath, Path}
+use Rattle.fw_flow.specs.Walks.{Graph, IsPath}
 use Rattle.fw_flow.proofs.Reach.{reach, Path-from_reach}
 use Rattle.fw_flow.proofs.Ranks.{count_below, count_below-strict, level, level-bound, level-keeps, level-rises, IsAcyclic, rank, rank-bound, rank-rises, flow_graph, no_kind, IsClosedWalk-from_Path, Passes-not_path}
 use Rattle.fw_flow.proofs.ByRanks.{each-fed_back}
-use Rattle.fw_flow.specs.Ranks.{is_looped, IsWithinRound, IsRankOfLoops, IsRankOfRounds, RanksExist}
+use Rattle.fw_flow.specs.Ranks.{is_looped, IsWithinRound, IsRankOfRounds, RanksExist}
 
 -- ---- the nodes of closed walks
 

@@ -1,14 +1,11 @@
 -- Ranks of a graph's nodes by counting the nodes that reach them, and the ranks of a dataflow's nodes.
-use Rattle.std.proofs.Common.{◌≡◌, ℕ, zero, suc, ◌+◌, ◌<◌, ◌≤◌, ◌⊎◌, inl, inr, Bool, true, false, not, ◌&&◌, ◌||◌, ◌==◌, cond, List, [], ◌∷◌, length, Option, Some, None, refl, sym, ap, ◌∙◌, subst, arith}
+use Rattle.std.proofs.Common.{◌≡◌, ℕ, zero, suc, ◌+◌, ◌<◌, ◌≤◌, ◌⊎◌, inl, inr, Bool, true, false, not, ◌&&◌, ◌||◌, ◌==◌, cond, List, [], ◌∷◌, length, refl, sym, ap, ◌∙◌, subst, arith}
 use Rattle.std.proofs.lemmas.Bool.{or_cases, or_left, or_right, and_parts, and_from, eqb-true, eq-eqb, cases_Bool, cases_lt, false_from_ne_true, true≢false, false≢true, not-true, not_from_false}
-use Rattle.fw_flow.specs.declared.kind.Domain.TheVariants.{Loop as InLoop}
 use Rattle.fw_flow.specs.declared.kind.Kind.{Kind}
-use Rattle.fw_flow.specs.declared.kind.Kind.TheVariants.{Input, OutputEpoch, OutputNumber, Select, Concat, Distinct, Join, Sum, Enter, Feedback, Leave, Total, Sequence, Ledger, Regroup}
-use Rattle.fw_flow.specs.Dataflow.{Dataflow, kind_of, sender, receiver, domain_of, domain_of_kind, out_domain_of_kind, domain_within}
-use Rattle.fw_flow.specs.WellFormed.{IsWalk, IsClosedWalk, Passes, IsWellFormed, is_feedback_kind}
+use Rattle.fw_flow.specs.Dataflow.{Dataflow, kind_of, sender, receiver}
+use Rattle.fw_flow.specs.WellFormed.{IsWalk, IsClosedWalk, Passes}
 use Rattle.fw_flow.specs.Walks.{Graph, IsPath, Path}
-use Rattle.fw_flow.specs.Ranks.{is_looped, RanksExist}
-use Rattle.fw_flow.proofs.Reach.{reach, reach-join, reach-from_edge, Path-from_reach}
+use Rattle.fw_flow.proofs.Reach.{reach, reach-join, reach-from_edge}
 
 -- ---- counts of the numbers below n that pass a test
 
@@ -165,4 +162,3 @@ path_or_passes flow sort p (e ∷ es) q h =
 
 pub IsClosedWalk-from_Path : (flow : Dataflow) (sort : Kind → Bool) (p : ℕ) (path : Path (flow_graph flow sort) p p) → IsClosedWalk flow p path.edges
 IsClosedWalk-from_Path flow sort p path = record { some = path.some; walk = IsWalk-from_path flow sort p path.edges p path.path }
-

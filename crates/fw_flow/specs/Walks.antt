@@ -132,4 +132,3 @@ pub record SlippingWalk (flow : Dataflow) (l : ℕ) : Type 0 where
   pub stays : StaysWithin flow l edges
   pub passes : Passes flow (is_kind_in flow l) edges
   pub avoids : Passes flow (is_feedback_of l) edges → ⊥
-

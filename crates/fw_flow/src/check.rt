@@ -13,9 +13,9 @@ ghost use Rattle.fw_flow.specs.Raw.{names_of};
 ghost use Rattle.fw_flow.specs.Walks.{AreWithin, IsMadeOf, link_of, listed_kind};
 ghost use Rattle.fw_flow.specs.WellFormed.{IsInDegree, IsOutDegree, IsPolicyAllowed, HasShortChain};
 
+use crate::kind::is_chain_short;
 use crate::raw::NameSpaces;
 use crate::walks::Link;
-use crate::kind::is_chain_short;
 use crate::{Declaration, Declared, Edge, EdgeId, Kind, Loop, Name, Node, Policy, RawKind};
 use fw_lines::{Code, ReadFault, Refusal};
 use std::alloc::{AllocError, Global};

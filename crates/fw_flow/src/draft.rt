@@ -86,7 +86,10 @@ impl Draft {
         ensures { (raw : List Declared) → IsDraftOf self.now raw
             → IsFirstBreakIfAny (HasShortChain (flow_of raw)) (loop_lines raw) result }
     {
-        chain_line(self.parts.loops.as_slice(), self.parts.loop_lines.as_slice())
+        chain_line(
+            self.parts.loops.as_slice(),
+            self.parts.loop_lines.as_slice(),
+        )
     }
 
     /// The line of the first node that has not the edges of its kind.

@@ -1,6 +1,5 @@
-use Rattle.std.proofs.Common.{◌≡◌, length, sym, subst}
+use Rattle.std.proofs.Common.{length, sym, subst}
 use Rattle.std.proofs.lemmas.Result.{IfOk-weaker}
-use Rattle.fw_flow.specs.declared.walks.Link.{Link}
 use Rattle.fw_flow.specs.Depths.{stays_deep, AreKept}
 use Rattle.fw_flow.specs.Walks.{AreWithin}
 use Rattle.fw_flow.proofs.Kept.{kept-within, ReturningPath-from_kept, ClosedPath-from_returning, OnTrue-by, OnFalse-by}

@@ -1,4 +1,4 @@
-use Rattle.std.proofs.Common.{Bool, List, [], sym, subst}
+use Rattle.std.proofs.Common.{Bool, List, sym, subst}
 use Rattle.std.proofs.lemmas.Bool.{OnTrue_at, OnTrue_from, OnFalse_at, OnFalse_from}
 use Rattle.fw_flow.specs.Walks.{Path, graph_of, IsReachOf}
 use Rattle.fw_flow.proofs.Marks.{Path-from_back, LeadsBack-from_Path, AreOnwardWithin-from}

@@ -1,4 +1,4 @@
-use Rattle.std.proofs.Common.{◌≡◌, ℕ, ◌+◌, ◌<◌, inl, inr, sym, ap, ◌∙◌, subst, arith}
+use Rattle.std.proofs.Common.{◌≡◌, inl, inr, sym, ap, ◌∙◌, subst, arith}
 use Rattle.std.proofs.lemmas.Bool.{OnFalse_at, cases_lt}
 use Rattle.fw_flow.specs.Depths.{listed_depth}
 use Rattle.fw_flow.specs.Walks.{Path, graph_of}

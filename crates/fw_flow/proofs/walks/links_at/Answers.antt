@@ -1,5 +1,4 @@
-use Rattle.std.proofs.Common.{◌≡◌, ◌+◌, length, List, refl, sym, ap, ◌∙◌, subst, arith}
-use Rattle.fw_flow.specs.declared.walks.Link.{Link}
+use Rattle.std.proofs.Common.{◌≡◌, ◌+◌, length, sym, ap, ◌∙◌, subst, arith}
 use Rattle.fw_flow.specs.Depths.{AreKept, stays_deep}
 use Rattle.fw_flow.proofs.Kept.{kept-none, kept-skip, kept-more}
 use Rattle.fw_flow.proofs.walks.links_at.Goals as goal

@@ -198,9 +198,9 @@ impl Flow {
         Some(EdgeId::at(place as u32))
     }
 
-    /// The flow of these declarations, where no rule is broken; else the first broken rule, in order of their numbers,
-    /// with the line of the first declaration that breaks it, or line 0 where it is broken by the flow as a whole. The rules
-    /// are F3 to F9; those of words and names were tested before. The other error is want of memory.
+    /// The flow of these declarations, where no rule is broken; else the first broken rule, with the line of the first
+    /// declaration that breaks it, or line 0 where it is broken by the flow as a whole. The rules are F3, F12, and F4 to F9,
+    /// in this order; those of words and names were tested before. The other error is want of memory.
     pub fn check(alloc: Global, raw: RawFlow) -> Result<Flow, ReadFault>
         ensures checked { MatchResult result (IsChecked raw) (IfRefused (IsFirstBroken raw)) }
         ensures well_formed { IfOk result IsWellFormed }

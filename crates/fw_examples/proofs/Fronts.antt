@@ -28,6 +28,11 @@ by_two P a b zero l = a
 by_two P a b (suc zero) l = b
 by_two P a b (suc (suc d)) l = absurd (omega arith)
 
+-- at each of one
+pub by_one : (P : ℕ → Type 0) → P 0 → (d : ℕ) → d < 1 → P d
+by_one P a zero l = a
+by_one P a (suc d) l = absurd (omega arith)
+
 -- at each of six, or of five
 pub by_six : (P : ℕ → Type 0) → P 0 → P 1 → P 2 → P 3 → P 4 → P 5 → (p : ℕ) → p < 6 → P p
 by_six P a b c d e f zero l = a

@@ -1,112 +1,139 @@
 -- The dataflows of the examples are well formed, and so are they with their batches.
 use Rattle.std.specs.List.{list_all}
 use Rattle.std.specs.Ordering.{is_gt}
-use Rattle.std.proofs.Common.{Bool, List, None, [], ap, arith, eqb-true, false, inl, inr, length, lit<, lit≤, nat_le, nat_lt, not, refl, suc, sym, true, zero, ℕ, ⊎_elim, ◌&&◌, ◌+◌, ◌<◌, ◌==◌, ◌^◌, ◌||◌, ◌∷◌, ◌≡◌, ◌≤◌, ◌⊎◌}
+use Rattle.std.proofs.Common.{Bool, List, None, [], ap, arith, eq-eqb, eqb-true, false, get_or, length, lit<, lit≤, nat_le, nat_lt, not, refl, suc, sym, true, zero, ℕ, ⊎_elim, ◌&&◌, ◌+◌, ◌<◌, ◌==◌, ◌^◌, ◌||◌, ◌∙◌, ◌∷◌, ◌≡◌, ◌≤◌}
 use Rattle.std.proofs.lemmas.Bool.{and_from, and_parts, cases_lt, leb-true, ltb-true, not-true, or_cases, or_right}
 use Rattle.std.proofs.lemmas.List.{get_or_past}
 use Rattle.fw_bag.specs.Rec.{rec_cmp}
 use Rattle.fw_bag.specs.declared.rec.Rec.{Rec}
 use Rattle.fw_time.proofs.EachLaws.{each-of_all, each-weaker}
-use Rattle.fw_flow.specs.Dataflow.{Dataflow, System, batches_of, domain_of, domain_of_kind, in_edges, is_input_kind, is_output_kind, kind_of, max_of, out_domain_of, out_domain_of_kind, out_edges, policy_of, receiver, sender}
-use Rattle.fw_flow.specs.WellFormed.{IsClosedWalk, IsGroupSize, IsInDegree, IsLoopDeclared, IsOutDegree, IsPolicyAllowed, IsWalk, IsWellFormed, IsWellFormedSystem, Passes, is_enter_kind, is_feedback_kind}
-use Rattle.fw_flow.specs.declared.kind.Domain.TheVariants.{Epoch}
+use Rattle.fw_flow.specs.Check.{AreWalksRight}
+use Rattle.fw_flow.specs.Ranks.{IsWithinRound, is_looped}
+use Rattle.fw_flow.specs.Dataflow.{Dataflow, System, batches_of, declared_parent, domain_of, domain_of_kind, in_edges, is_domain_of, is_input_kind, is_output_kind, is_within, kind_of, loops_of, max_of, out_domain_of, out_domain_of_kind, out_edges, parent_of, policy_of, receiver, sender}
+use Rattle.fw_flow.specs.WellFormed.{IsClosedWalk, IsGroupSize, IsInDegree, IsLoopDeclared, IsOutDegree, IsPolicyAllowed, IsWalk, IsWellFormed, IsWellFormedSystem, is_feedback_of}
+use Rattle.fw_flow.specs.declared.kind.Domain.{Domain}
+use Rattle.fw_flow.specs.declared.kind.Domain.TheVariants.{Epoch, Number, Loop as InLoop}
 use Rattle.fw_flow.specs.declared.kind.Kind.TheVariants.{Select, Total}
 use Rattle.fw_flow.specs.declared.kind.Policy.{Policy}
 use Rattle.fw_flow.specs.declared.node.Node.{Node}
-use Rattle.fw_flow.proofs.Ranks.{rank}
-use Rattle.fw_flow.proofs.Reach.{leads}
+use Rattle.fw_flow.proofs.ByRanks.{walks-ranked}
 use Rattle.fw_model.proofs.Decisions.{two_ways}
 use Rattle.fw_examples.specs.Flows.{at_least_ten, in_a_row, loop_counts_up, one_select_flow, selecting, two_sources_flow}
 use Rattle.fw_examples.specs.RunningTotal.{summing}
 use Rattle.fw_lines.specs.Batches.{IsBatch}
-use Rattle.fw_examples.proofs.Fronts.{by_five, by_seven, by_six, by_three, by_two, each_below, each_below-at}
+use Rattle.fw_examples.proofs.Fronts.{by_five, by_one, by_seven, by_six, by_three, by_two, each_below, each_below-at}
 use Rattle.fw_flow.specs.declared.kind.Policy.TheVariants as policy
 
--- each edge comes from a feedback, or leads to a node of greater rank
-pub record Ascends (flow : Dataflow) (rank : ℕ → ℕ) : Type 0 where
-  pub each : (e : ℕ) → e < length flow.edges
-      → (is_feedback_kind (kind_of flow (sender flow e)) ≡ true) ⊎ (rank (sender flow e) < rank (receiver flow e))
+-- ---- closed walks
 
--- no edge leads to a node of lesser rank, and one from an enter leads to a node of greater rank
-pub record LeadsIn (flow : Dataflow) (rank : ℕ → ℕ) : Type 0 where
-  pub each : (e : ℕ) → e < length flow.edges → rank (sender flow e) ≤ rank (receiver flow e)
-  pub enters : (e : ℕ) → e < length flow.edges → is_enter_kind (kind_of flow (sender flow e)) ≡ true
-      → rank (sender flow e) < rank (receiver flow e)
+-- a walk along edges that all lead to later nodes rises by its length
+rises : (flow : Dataflow) → ((e : ℕ) → e < length flow.edges → sender flow e < receiver flow e) → (p : ℕ) (es : List ℕ) (q : ℕ) → IsWalk flow p es q → p + length es ≤ q
+rises flow up p [] q w = let h : p ≡ q = w in omega arith
+rises flow up p (e ∷ es) q w =
+    let g : sender flow e ≡ p = w.1 in
+    omega (arith, up e w.0, rises flow up (receiver flow e) es q w.2)
 
--- a walk passes a feedback, or rises by its length
-rises : (flow : Dataflow) (rank : ℕ → ℕ) → Ascends flow rank → (p : ℕ) (es : List ℕ) (q : ℕ) → IsWalk flow p es q
-    → Passes flow is_feedback_kind es ⊎ (rank p + length es ≤ rank q)
-rises flow rank up p [] q w = inr (let h : rank p ≡ rank q = ap rank w in omega arith)
-rises flow rank up p (e ∷ es) q w = by_cases (up.each e w.0) (rises flow rank up (receiver flow e) es q w.2)
-  where
-    by_cases : (is_feedback_kind (kind_of flow (sender flow e)) ≡ true) ⊎ (rank (sender flow e) < rank (receiver flow e))
-        → Passes flow is_feedback_kind es ⊎ (rank (receiver flow e) + length es ≤ rank q)
-        → Passes flow is_feedback_kind (e ∷ es) ⊎ (rank p + length (e ∷ es) ≤ rank q)
-    by_cases (inl f) later = inl (inl f)
-    by_cases (inr h) (inl f) = inl (inr f)
-    by_cases (inr h) (inr k) = inr (let g : rank (sender flow e) ≡ rank p = ap rank w.1 in omega arith)
+-- so none comes back
+never_back : (flow : Dataflow) → ((e : ℕ) → e < length flow.edges → sender flow e < receiver flow e) → (p : ℕ) (es : List ℕ) → IsClosedWalk flow p es → ⊥
+never_back flow up p es w = omega (arith, w.some, rises flow up p es p w.walk)
 
--- a closed walk passes a feedback
-pub passes_feedback : (flow : Dataflow) (rank : ℕ → ℕ) → Ascends flow rank → (p : ℕ) (es : List ℕ) → IsClosedWalk flow p es
-    → Passes flow is_feedback_kind es
-passes_feedback flow rank up p es w = from_rise (rises flow rank up p es p w.walk)
-  where
-    from_rise : Passes flow is_feedback_kind es ⊎ (rank p + length es ≤ rank p) → Passes flow is_feedback_kind es
-    from_rise (inl f) = f
-    from_rise (inr h) = absurd (let some : 0 < length es = w.some in omega arith)
+-- whether the rank falls along no edge, and rises along it into a node that is not looped
+abbrev climbs_along : Dataflow → (ℕ → ℕ) → ℕ → Bool
+climbs_along flow lambda e =
+    nat_le (lambda (sender flow e)) (lambda (receiver flow e)) && (is_looped flow (receiver flow e) || nat_lt (lambda (sender flow e)) (lambda (receiver flow e)))
 
--- no walk falls
-stays : (flow : Dataflow) (rank : ℕ → ℕ) → LeadsIn flow rank → (p : ℕ) (es : List ℕ) (q : ℕ) → IsWalk flow p es q → rank p ≤ rank q
-stays flow rank leads p [] q w = let h : rank p ≡ rank q = ap rank w in omega arith
-stays flow rank leads p (e ∷ es) q w =
-    let g : rank (sender flow e) ≡ rank p = ap rank w.1 in
-    omega (arith, leads.each e w.0, stays flow rank leads (receiver flow e) es q w.2)
+-- whether the edge stays within the loop, and leaves no feedback of it
+abbrev is_within_round : Dataflow → ℕ → ℕ → Bool
+is_within_round flow l e =
+    is_within flow l (domain_of flow (sender flow e))
+    && (is_within flow l (domain_of flow (receiver flow e)) && not (is_feedback_of l (kind_of flow (sender flow e))))
 
--- a walk that passes an enter rises
-goes_in : (flow : Dataflow) (rank : ℕ → ℕ) → LeadsIn flow rank → (p : ℕ) (es : List ℕ) (q : ℕ) → IsWalk flow p es q
-    → Passes flow is_enter_kind es → rank p < rank q
-goes_in flow rank leads p [] q w h = absurd h
-goes_in flow rank leads p (e ∷ es) q w (inl f) =
-    let g : rank (sender flow e) ≡ rank p = ap rank w.1 in
-    omega (arith, leads.enters e w.0 f, stays flow rank leads (receiver flow e) es q w.2)
-goes_in flow rank leads p (e ∷ es) q w (inr f) =
-    let g : rank (sender flow e) ≡ rank p = ap rank w.1 in
-    omega (arith, leads.each e w.0, goes_in flow rank leads (receiver flow e) es q w.2 f)
+-- whether the rank does not fall along the edge, if that is within a round of the loop, and rises into a node of its own domain
+abbrev climbs_in_round : Dataflow → (ℕ → ℕ) → ℕ → ℕ → Bool
+climbs_in_round flow sigma l e =
+    not (is_within_round flow l e)
+    || (nat_le (sigma (sender flow e)) (sigma (receiver flow e))
+    && (not (is_domain_of l (domain_of flow (receiver flow e))) || nat_lt (sigma (sender flow e)) (sigma (receiver flow e))))
 
--- no closed walk passes an enter
-pub passes_no_enter : (flow : Dataflow) (rank : ℕ → ℕ) → LeadsIn flow rank → (p : ℕ) (es : List ℕ) → IsClosedWalk flow p es
-    → Passes flow is_enter_kind es → ⊥
-passes_no_enter flow rank leads p es w h = omega (arith, goes_in flow rank leads p es p w.walk h)
+-- whether the loop of a domain is one of so many, if it is a loop's
+abbrev is_declared_in : ℕ → Domain → Bool
+is_declared_in n Epoch = true
+is_declared_in n Number = true
+is_declared_in n (InLoop l) = nat_lt l n
 
--- how far within the loop a node stands: before it, in it, and after it
-abbrev depth : ℕ → ℕ
-depth zero = 0
-depth (suc zero) = 1
-depth (suc (suc zero)) = 2
-depth (suc (suc (suc zero))) = 2
-depth (suc (suc (suc (suc zero)))) = 2
-depth (suc (suc (suc (suc (suc p))))) = 3 + p
+-- whether the ranks show the closed walks right
+abbrev pub are_ranks : Dataflow → (ℕ → ℕ) → (ℕ → ℕ → ℕ) → Bool
+are_ranks flow lambda sigma =
+    each_below (λ e. is_declared_in (length flow.loops) (domain_of flow (sender flow e))) (length flow.edges)
+    && (each_below (climbs_along flow lambda) (length flow.edges)
+    && each_below (λ l. each_below (climbs_in_round flow (sigma l) l) (length flow.edges)) (length flow.loops))
 
-leads_in : (e : ℕ) → e < 7 → depth (sender loop_counts_up e) ≤ depth (receiver loop_counts_up e)
-unfolding sender receiver
-leads_in = by_seven _ (lit≤ tt) (lit≤ tt) (lit≤ tt) (lit≤ tt) (lit≤ tt) (lit≤ tt) (lit≤ tt)
+declared_by : (n : ℕ) (d : Domain) (l : ℕ) → is_declared_in n d ≡ true → d ≡ InLoop l → l < n
+declared_by n Epoch l h e = absurd (cc)
+declared_by n Number l h e = absurd (cc)
+declared_by n (InLoop k) l h e = let same : k ≡ l = cc in omega (arith, ltb-true k n h)
 
-enters : (e : ℕ) → e < 7 → is_enter_kind (kind_of loop_counts_up (sender loop_counts_up e)) ≡ true
-    → depth (sender loop_counts_up e) < depth (receiver loop_counts_up e)
-unfolding kind_of sender receiver
-enters = by_seven _ (λ k. cc) (λ k. lit< tt) (λ k. cc) (λ k. cc) (λ k. cc) (λ k. cc) (λ k. cc)
+within_round : (flow : Dataflow) (l e : ℕ) → IsWithinRound flow l e → is_within_round flow l e ≡ true
+within_round flow l e r =
+    and_from (is_within flow l (domain_of flow (sender flow e)))
+    (is_within flow l (domain_of flow (receiver flow e)) && not (is_feedback_of l (kind_of flow (sender flow e)))) r.from
+    (and_from (is_within flow l (domain_of flow (receiver flow e))) (not (is_feedback_of l (kind_of flow (sender flow e)))) r.to
+    (ap not r.onward))
+
+-- what the test of a loop's rank says of an edge within a round of it
+in_round : (flow : Dataflow) (sigma : ℕ → ℕ) (l e : ℕ) → climbs_in_round flow sigma l e ≡ true → IsWithinRound flow l e
+    → (nat_le (sigma (sender flow e)) (sigma (receiver flow e)) ≡ true)
+    × ((not (is_domain_of l (domain_of flow (receiver flow e))) || nat_lt (sigma (sender flow e)) (sigma (receiver flow e))) ≡ true)
+in_round flow sigma l e h r =
+    let climbs = nat_le (sigma (sender flow e)) (sigma (receiver flow e)) in
+    let own = not (is_domain_of l (domain_of flow (receiver flow e))) || nat_lt (sigma (sender flow e)) (sigma (receiver flow e)) in
+    and_parts climbs own (sym (ap (λ b. not b || (climbs && own)) (within_round flow l e r)) ∙ h)
+
+-- such ranks show it
+pub walks_by : (flow : Dataflow) (lambda : ℕ → ℕ) (sigma : ℕ → ℕ → ℕ) → are_ranks flow lambda sigma ≡ true → AreWalksRight flow
+walks_by flow lambda sigma h =
+    let a = and_parts _ _ h in
+    let b = and_parts _ _ a.1 in
+    let along = λ (e : ℕ) (k : e < length flow.edges). and_parts (nat_le (lambda (sender flow e)) (lambda (receiver flow e)))
+    (is_looped flow (receiver flow e) || nat_lt (lambda (sender flow e)) (lambda (receiver flow e))) (each_below-at (climbs_along flow lambda) (length flow.edges) b.0 e k) in
+    let rounds = λ (l e : ℕ) (k : l < length flow.loops) (i : e < length flow.edges) (r : IsWithinRound flow l e).
+    in_round flow (sigma l) l e
+    (each_below-at (climbs_in_round flow (sigma l) l) (length flow.edges)
+    (each_below-at (λ l. each_below (climbs_in_round flow (sigma l) l) (length flow.edges)) (length flow.loops) b.1 l k) e i) r in
+    walks-ranked flow lambda sigma (record {
+      declared = λ l e k d. declared_by (length flow.loops) (domain_of flow (sender flow e)) l
+          (each_below-at (λ e. is_declared_in (length flow.loops) (domain_of flow (sender flow e))) (length flow.edges) a.0 e k) d;
+      keeps = λ e k. leb-true (lambda (sender flow e)) (lambda (receiver flow e)) (along e k).0;
+      rises = λ e k out. ltb-true (lambda (sender flow e)) (lambda (receiver flow e))
+          (sym (ap (λ x. x || nat_lt (lambda (sender flow e)) (lambda (receiver flow e))) out) ∙ (along e k).1);
+      round_keeps = λ l e k i r. leb-true (sigma l (sender flow e)) (sigma l (receiver flow e)) (rounds l e k i r).0;
+      round_rises = λ l e k i r d. ltb-true (sigma l (sender flow e)) (sigma l (receiver flow e))
+          (sym (ap (λ x. not (is_domain_of l x) || nat_lt (sigma l (sender flow e)) (sigma l (receiver flow e))) d
+          ∙ ap (λ x. not x || nat_lt (sigma l (sender flow e)) (sigma l (receiver flow e))) (eq-eqb l l refl)) ∙ (rounds l e k i r).1);
+    })
+
+-- the ranks of nodes as a list
+abbrev pub ranked : List ℕ → ℕ → ℕ
+ranked ranks p = get_or ranks p 0
+
+-- the walks of the loop that counts up: how far within it a node stands, and where in a round
+loop_walks : AreWalksRight loop_counts_up
+unfolding kind_of sender receiver parent_of declared_parent loops_of
+loop_walks = walks_by loop_counts_up (ranked (0 ∷ 1 ∷ 2 ∷ 2 ∷ 2 ∷ 3 ∷ 4 ∷ [])) (λ l. ranked (0 ∷ 0 ∷ 1 ∷ 2 ∷ 3 ∷ 3 ∷ 3 ∷ [])) refl
 
 pub is_well_formed : IsWellFormed loop_counts_up
-unfolding kind_of policy_of sender receiver in_edges out_edges max_of
+unfolding kind_of policy_of sender receiver in_edges out_edges max_of declared_parent parent_of
 is_well_formed = record {
   loops_declared = by_seven _ tt (lit< tt) (lit< tt) (lit< tt) (lit< tt) (lit< tt) tt;
+  parents_declared = by_one _ tt;
+  chains = by_one _ refl;
   senders_declared = by_seven _ (lit< tt) (lit< tt) (lit< tt) (lit< tt) (lit< tt) (lit< tt) (lit< tt);
   receivers_declared = by_seven _ (lit< tt) (lit< tt) (lit< tt) (lit< tt) (lit< tt) (lit< tt) (lit< tt);
   in_degrees = by_seven _ refl refl (lit≤ tt) refl refl refl refl;
   out_degrees = by_seven _ tt tt tt tt tt tt refl;
   domains = by_seven _ refl refl refl refl refl refl refl;
-  feedback = passes_feedback loop_counts_up (λ p. p) (record { each = by_seven _ (inr (lit< tt)) (inr (lit< tt)) (inr (lit< tt)) (inr (lit< tt)) (inl refl) (inr (lit< tt)) (inr (lit< tt)) });
-  no_enter = passes_no_enter loop_counts_up depth (record { each = leads_in; enters = enters });
+  in_loops = loop_walks.in_loops;
+  fed_back = loop_walks.fed_back;
   policies = by_seven _ refl refl tt refl refl refl refl;
   limits = record { nodes = lit≤ tt; edges = lit≤ tt; loops = lit≤ tt; counters = counters; groups = by_seven _ tt tt tt tt tt tt tt };
   input = (0, lit< tt, refl);
@@ -143,13 +170,15 @@ rising_is_well_formed flow rising declared ins outs domains policies groups inpu
     let no_loops : length flow.loops ≡ 0 = eqb-true (length flow.loops) 0 b.0 in
     record {
       loops_declared = declared;
+      parents_declared = λ l h. absurd (omega arith);
+      chains = λ l h. absurd (omega arith);
       senders_declared = λ e l. (let u = up e l in let r = there e l in omega arith);
       receivers_declared = there;
       in_degrees = ins;
       out_degrees = outs;
       domains = domains;
-      feedback = passes_feedback flow (λ p. p) (record { each = λ e l. inr (up e l) });
-      no_enter = passes_no_enter flow (λ p. p) (record { each = λ e l. (let u = up e l in omega arith); enters = λ e l k. up e l });
+      in_loops = λ p es w passes. never_back flow up p es w;
+      fed_back = λ l p es w stays passes. absurd (never_back flow up p es w);
       policies = policies;
       limits = record {
         nodes = leb-true (length flow.nodes) 256 c.0;

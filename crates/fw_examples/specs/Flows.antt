@@ -51,7 +51,7 @@ counted_up = record {
 -- a loop of greatest counter 3, in which each rec goes round with its value counted up, and each such rec leaves
 abbrev pub loop_counts_up : Dataflow
 loop_counts_up = record {
-  loops = record { name = codes "lp"; max = 3 } ∷ [];
+  loops = record { name = codes "lp"; max = 3; parent = None } ∷ [];
   nodes =
       node (codes "src") Input policy.None
       ∷ node (codes "ent") (Enter 0) policy.None

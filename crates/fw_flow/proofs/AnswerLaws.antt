@@ -1,12 +1,11 @@
 -- Each rule of a flow's declarations is kept or broken, first on some line: so declarations are those of a well-formed dataflow, or
 -- break a rule first.
-use Rattle.std.proofs.Common.{◌≡◌, ℕ, zero, suc, ◌<◌, ◌≤◌, ◌⊎◌, inl, inr, Bool, true, false, ◌&&◌, List, [], ◌∷◌, length, map, take, Option, Some, None, ◌^◌, refl, sym, ap, ◌∙◌, subst, arith, slice_get, IfSome}
-use Rattle.std.proofs.lemmas.Bool.{cases_lt, cases_eq, and_parts, and_from, true≢false, false≢true}
+use Rattle.std.proofs.Common.{◌≡◌, ℕ, zero, suc, ◌<◌, ◌≤◌, ◌⊎◌, inl, inr, Bool, true, false, ◌&&◌, ◌==◌, List, [], ◌∷◌, length, take, Option, Some, None, ◌^◌, refl, sym, ap, ◌∙◌, subst, arith, slice_get, IfSome}
+use Rattle.std.proofs.lemmas.Bool.{cases_lt, cases_eq, and_parts, and_from, eqb-true, eq-eqb, true≢false, false≢true}
 use Rattle.std.specs.List.{AllByRecursion}
 use Rattle.std.specs.Prelude.{IsTrue}
-use Rattle.std.proofs.lemmas.List.{length-map}
 use Rattle.fw_lines.specs.declared.refusal.Code.{Code}
-use Rattle.fw_lines.specs.declared.refusal.Code.TheVariants.{F3, F4, F5, F6, F7, F8, F9}
+use Rattle.fw_lines.specs.declared.refusal.Code.TheVariants.{F3, F4, F5, F6, F7, F8, F9, F12}
 use Rattle.fw_lines.specs.declared.refusal.Refusal.{Refusal}
 use Rattle.fw_flow.specs.declared.kind.Domain.{Domain}
 use Rattle.fw_flow.specs.declared.kind.Domain.TheVariants.{Epoch, Number, Loop as InLoop}
@@ -19,14 +18,14 @@ use Rattle.fw_flow.specs.declared.raw.Declaration.TheVariants.{Loop as ALoop, No
 use Rattle.fw_flow.specs.declared.raw.Declared.{Declared}
 use Rattle.fw_flow.specs.declared.raw.RawKind.{RawKind}
 use Rattle.fw_flow.specs.declared.raw.RawKind.TheVariants.{Regroup}
-use Rattle.fw_flow.specs.Check.{are_names_declared, IsRawGroupSize, IsWithinLimitsAfter, NamesTheDeclared, HasItsDegrees, JoinsDomains, AreWalksRight, IsWalkWrong, HasAllowedPolicy, StaysWithinLimits, HasNodeOf, all_lines, node_lines, edge_lines, HoldsBelow, IsFirstBreak, KeepsRule, IsBroken, later_rules, IsFirstBrokenOf, IsFirstBroken, IsChecked}
-use Rattle.fw_flow.specs.Dataflow.{Dataflow, kind_of, policy_of, sender, receiver, in_edges, out_edges, domain_of, out_domain_of, is_input_kind, is_output_kind}
+use Rattle.fw_flow.specs.Check.{are_names_declared, IsRawGroupSize, IsWithinLimitsAfter, NamesTheDeclared, HasItsDegrees, JoinsDomains, AreWalksRight, IsWalkWrong, HasAllowedPolicy, StaysWithinLimits, HasNodeOf, all_lines, loop_lines, node_lines, edge_lines, HoldsBelow, IsFirstBreak, KeepsRule, IsBroken, rules, later_rules, IsFirstBrokenOf, IsFirstBroken, IsChecked}
+use Rattle.fw_flow.specs.Dataflow.{Dataflow, ends_within, kind_of, policy_of, sender, receiver, in_edges, out_edges, domain_of, out_domain_of, is_input_kind, is_output_kind}
 use Rattle.fw_flow.specs.Raw.{names_of, loop_names, node_names, edge_names, flow_of}
-use Rattle.fw_flow.specs.Walks.{IsMadeOf, AreWithin, EachClosedWalkPasses, NoClosedWalkPasses, AvoidingWalk, PassingWalk, graph_of, link_of, listed_kind}
-use Rattle.fw_flow.specs.WellFormed.{IsInDegree, IsOutDegree, IsPolicyAllowed, IsWalk, may_keep_nothing, is_feedback_kind, is_enter_kind}
-use Rattle.fw_flow.proofs.Checks.{both_declared, IsWellFormed-from_rules}
-use Rattle.fw_flow.proofs.Flows.{NoClosedWalkPasses-from_nodes, PassingWalk-from_node, sender-of_link, receiver-of_link}
-use Rattle.fw_flow.proofs.Ranks.{flow_graph, IsClosedWalk-from_Path, Passes-not_path, path_or_passes}
+use Rattle.fw_flow.specs.Depths.{depth_of, depth_graph, ReturningPath}
+use Rattle.fw_flow.specs.Walks.{IsPath}
+use Rattle.fw_flow.specs.WellFormed.{HasShortChain, IsInDegree, IsOutDegree, IsPolicyAllowed, may_keep_nothing}
+use Rattle.fw_flow.proofs.Checks.{both_declared, length-edge_lines, IsWellFormed-from_rules}
+use Rattle.fw_flow.proofs.Depths.{no_return-right, return-wrong}
 use Rattle.fw_flow.proofs.Reach.{reach, Path-from_reach, reach-from_Path, find_below}
 
 -- it is so, or it is not
@@ -107,7 +106,7 @@ decided_group (Regroup n) = decided_both (1 ≤ n) (n < 2 ^ 32) (decided_le 1 n)
 decided_group kind = inl tt
 
 decided_limits : (before : List Declared) (d : Declaration) → Decided (IsWithinLimitsAfter before d)
-decided_limits before (ALoop name max) =
+decided_limits before (ALoop name max parent) =
     decided_three (length (loop_names before) < 64) (1 ≤ max) (max ≤ 1024) (decided_lt (length (loop_names before)) 64) (decided_le 1 max) (decided_le max 1024)
 decided_limits before (ANode name kind p) =
     decided_both (length (node_names before) < 256) (IsRawGroupSize kind) (decided_lt (length (node_names before)) 256) (decided_group kind)
@@ -147,63 +146,47 @@ first_break Rule lines decide = elim (broken_below Rule decide (length lines)) [
 abbrev AreEndsDeclared : Dataflow → Type 0
 AreEndsDeclared flow = (e : ℕ) → e < length flow.edges → (sender flow e < length flow.nodes) × (receiver flow e < length flow.nodes)
 
--- a closed walk begins at a node
-begins_within : (flow : Dataflow) → AreEndsDeclared flow → (p : ℕ) (es : List ℕ) (q : ℕ) → 0 < length es → IsWalk flow p es q → p < length flow.nodes
-begins_within flow ends p [] q some walk = absurd (omega arith)
-begins_within flow ends p (e ∷ es) q some walk = subst (λ x. x < length flow.nodes) walk.1 (ends e walk.0).0
+-- a path of some edges begins at a node
+starts_at : (flow : Dataflow) → AreEndsDeclared flow → (depth p : ℕ) (es : List ℕ) (q : ℕ) → 0 < length es → IsPath (depth_graph flow depth) p es q → p < length flow.nodes
+starts_at flow ends depth p [] q some path = absurd (omega arith)
+starts_at flow ends depth p (e ∷ es) q some path = subst (λ x. x < length flow.nodes) path.2 (ends e path.0).0
 
-walks_fed_back : (flow : Dataflow) → AreEndsDeclared flow → EachClosedWalkPasses flow is_feedback_kind ⊎ AvoidingWalk flow is_feedback_kind
-walks_fed_back flow ends =
-    let g = flow_graph flow is_feedback_kind in
+-- at a depth a path comes back, or none does
+return_at : (flow : Dataflow) → AreEndsDeclared flow → (depth : ℕ) → ReturningPath flow depth ⊎ (ReturningPath flow depth → ⊥)
+return_at flow ends depth =
+    let g = depth_graph flow depth in
     let n = length flow.nodes in
-    elim (find_below (λ p. reach g n p p) n) [
+    elim (find_below (λ p. (depth_of flow p == depth) && reach g n p p) n) [
       | inl found ↦
-          let path = Path-from_reach g n found.0 found.0 found.2 in
-          inr (record {
-            node = found.0;
-            edges = path.edges;
-            closed = IsClosedWalk-from_Path flow is_feedback_kind found.0 path;
-            avoids = Passes-not_path flow is_feedback_kind found.0 path.edges found.0 path.path;
-          })
-      | inr none ↦ inl (λ p es closed. elim (path_or_passes flow is_feedback_kind p es p closed.walk) [
-        | inl path ↦
-            let again = reach-from_Path g n p p (λ e lt. (ends e lt).1) (record { edges = es; some = closed.some; path = path }) in
-            absurd (true≢false (sym again ∙ none p (begins_within flow ends p es p closed.some closed.walk)))
-        | inr passes ↦ passes
-      ])
+          let p = found.0 in
+          let parts = and_parts (depth_of flow p == depth) (reach g n p p) found.2 in
+          inl (record { node = p; at = eqb-true (depth_of flow p) depth parts.0; path = Path-from_reach g n p p parts.1 })
+      | inr none ↦ inr (λ back.
+          let p = back.node in
+          let lt = starts_at flow ends depth p back.path.edges p back.path.some back.path.path in
+          true≢false (sym (and_from (depth_of flow p == depth) (reach g n p p) (eq-eqb (depth_of flow p) depth back.at)
+          (reach-from_Path g n p p (λ e l. (ends e l).1) back.path)) ∙ none p lt))
     ]
 
-links_within : (flow : Dataflow) → AreEndsDeclared flow → AreWithin (length flow.nodes) (map link_of flow.edges)
-links_within flow ends =
-    let same = length-map flow.edges link_of in
-    record {
-      senders = λ e lt. let l : e < length flow.edges = omega (arith, same, lt) in subst (λ x. x < length flow.nodes) (sym (sender-of_link flow e l)) (ends e l).0;
-      receivers = λ e lt. let l : e < length flow.edges = omega (arith, same, lt) in subst (λ x. x < length flow.nodes) (sym (receiver-of_link flow e l)) (ends e l).1;
-    }
-
-walks_never_enter : (flow : Dataflow) → AreEndsDeclared flow → NoClosedWalkPasses flow is_enter_kind ⊎ PassingWalk flow is_enter_kind
-walks_never_enter flow ends =
-    let links = map link_of flow.edges in
-    let g = graph_of links [] in
-    let n = length flow.nodes in
-    let made : IsMadeOf flow flow.nodes links = record { nodes = refl; links = refl } in
-    let within = links_within flow ends in
-    elim (find_below (λ p. is_enter_kind (listed_kind flow.nodes p) && reach g n p p) n) [
-      | inl found ↦
-          let parts = and_parts (is_enter_kind (listed_kind flow.nodes found.0)) (reach g n found.0 found.0) found.2 in
-          inr (PassingWalk-from_node flow flow.nodes links is_enter_kind found.0 made parts.0 (Path-from_reach g n found.0 found.0 parts.1))
-      | inr none ↦ inl (NoClosedWalkPasses-from_nodes flow flow.nodes links is_enter_kind made within (λ p lt enters path.
-          true≢false (sym (and_from (is_enter_kind (listed_kind flow.nodes p)) (reach g n p p) enters
-          (reach-from_Path g n p p (λ e l. within.receivers e l) path)) ∙ none p lt)))
-    ]
-
-walks_right : (flow : Dataflow) → AreEndsDeclared flow → AreWalksRight flow ⊎ IsWalkWrong flow
-walks_right flow ends = elim (walks_fed_back flow ends) [
-  | inl fed ↦ elim (walks_never_enter flow ends) [
-    | inl never ↦ inl (record { fed_back = fed; never_entered = never })
-    | inr wrong ↦ inr (inr wrong)
+-- at one of these depths a path comes back, or at none
+return_below : (flow : Dataflow) → AreEndsDeclared flow → (n : ℕ) → ((depth : ℕ) × ReturningPath flow depth) ⊎ ((depth : ℕ) → depth < n → ReturningPath flow depth → ⊥)
+return_below flow ends zero = inr (λ depth lt. absurd (omega arith))
+return_below flow ends (suc n) = elim (return_below flow ends n) [
+  | inl found ↦ inl found
+  | inr none ↦ elim (return_at flow ends n) [
+    | inl back ↦ inl (n, back)
+    | inr no_return ↦ inr (λ depth lt back. elim (cases_eq depth n) [
+      | inl same ↦ no_return (subst (ReturningPath flow) same back)
+      | inr other ↦ none depth (omega (arith, lt, other)) back
+    ])
   ]
-  | inr wrong ↦ inr (inl wrong)
+]
+
+-- where edges join equal domains, the closed walks are right, or one is wrong
+walks_right : (flow : Dataflow) → AreEndsDeclared flow → HoldsBelow (JoinsDomains flow) (length flow.edges) → AreWalksRight flow ⊎ IsWalkWrong flow
+walks_right flow ends joins = elim (return_below flow ends 4) [
+  | inl found ↦ inr (return-wrong flow joins found.0 found.1)
+  | inr none ↦ inl (no_return-right flow (λ depth le. none depth (omega arith)))
 ]
 
 decided_node : (flow : Dataflow) (sort : Kind → Bool) → Decided (HasNodeOf flow sort)
@@ -214,45 +197,81 @@ decided_node flow sort = elim (find_below (λ p. sort (kind_of flow p)) (length 
 
 -- ---- each rule, and the first that is broken
 
-names_kept : (raw : List Declared) → KeepsRule raw F3 ⊎ ((line : ℕ) × IsBroken raw F3 line)
+-- the rule is kept, or broken first on some line
+abbrev IsKeptOrBroken : List Declared → Code → Type 0
+IsKeptOrBroken raw code = KeepsRule raw code ⊎ ((line : ℕ) × IsBroken raw code line)
+
+names_kept : (raw : List Declared) → IsKeptOrBroken raw F3
 names_kept raw = first_break (NamesTheDeclared raw) (all_lines raw)
     (λ p. decided_some (λ d. IsTrue (are_names_declared (names_of raw) d.declaration)) (λ d. decided_true (are_names_declared (names_of raw) d.declaration)) (slice_get raw p))
 
-kept_or_broken : (raw : List Declared) → KeepsRule raw F3 → (code : Code) → KeepsRule raw code ⊎ ((line : ℕ) × IsBroken raw code line)
-kept_or_broken raw names F3 = inl names
-kept_or_broken raw names F4 = first_break (HasItsDegrees (flow_of raw)) (node_lines raw) (λ p.
-    decided_both (IsInDegree (kind_of (flow_of raw) p) (length (in_edges (flow_of raw) p))) (IsOutDegree (kind_of (flow_of raw) p) (length (out_edges (flow_of raw) p)))
-    (decided_in (kind_of (flow_of raw) p) (length (in_edges (flow_of raw) p))) (decided_out (kind_of (flow_of raw) p) (length (out_edges (flow_of raw) p))))
-kept_or_broken raw names F5 = first_break (JoinsDomains (flow_of raw)) (edge_lines raw) (λ e.
-    decided_domains (out_domain_of (flow_of raw) (sender (flow_of raw) e)) (domain_of (flow_of raw) (receiver (flow_of raw) e)))
-kept_or_broken raw names F6 = elim (walks_right (flow_of raw) (both_declared raw names)) [ inl right ↦ inl right | inr wrong ↦ inr (0, (wrong, refl)) ]
-kept_or_broken raw names F7 = first_break (HasAllowedPolicy (flow_of raw)) (node_lines raw) (λ p. decided_policy (kind_of (flow_of raw) p) (policy_of (flow_of raw) p))
-kept_or_broken raw names F8 = first_break (StaysWithinLimits raw) (all_lines raw)
+chains_kept : (raw : List Declared) → IsKeptOrBroken raw F12
+chains_kept raw = first_break (HasShortChain (flow_of raw)) (loop_lines raw) (λ l. decided_true (ends_within 3 (flow_of raw) (Some l)))
+
+degrees_kept : (raw : List Declared) → IsKeptOrBroken raw F4
+degrees_kept raw =
+    let flow = flow_of raw in
+    first_break (HasItsDegrees flow) (node_lines raw) (λ p.
+    decided_both (IsInDegree (kind_of flow p) (length (in_edges flow p))) (IsOutDegree (kind_of flow p) (length (out_edges flow p)))
+    (decided_in (kind_of flow p) (length (in_edges flow p))) (decided_out (kind_of flow p) (length (out_edges flow p))))
+
+domains_kept : (raw : List Declared) → IsKeptOrBroken raw F5
+domains_kept raw =
+    let flow = flow_of raw in
+    first_break (JoinsDomains flow) (edge_lines raw) (λ e. decided_domains (out_domain_of flow (sender flow e)) (domain_of flow (receiver flow e)))
+
+-- the walks are decided where the ends of the edges are declared and joined
+walks_kept : (raw : List Declared) → KeepsRule raw F3 → KeepsRule raw F5 → IsKeptOrBroken raw F6
+walks_kept raw names domains =
+    elim (walks_right (flow_of raw) (both_declared raw names) (λ e lt. domains e (omega (arith, lt, length-edge_lines raw)))) [
+      | inl right ↦ inl right
+      | inr wrong ↦ inr (0, (wrong, refl))
+    ]
+
+policies_kept : (raw : List Declared) → IsKeptOrBroken raw F7
+policies_kept raw = first_break (HasAllowedPolicy (flow_of raw)) (node_lines raw) (λ p. decided_policy (kind_of (flow_of raw) p) (policy_of (flow_of raw) p))
+
+limits_kept : (raw : List Declared) → IsKeptOrBroken raw F8
+limits_kept raw = first_break (StaysWithinLimits raw) (all_lines raw)
     (λ p. decided_some (λ d. IsWithinLimitsAfter (take p raw) d.declaration) (λ d. decided_limits (take p raw) d.declaration) (slice_get raw p))
-kept_or_broken raw names F9 =
-    elim (decided_both (HasNodeOf (flow_of raw) is_input_kind) (HasNodeOf (flow_of raw) is_output_kind) (decided_node (flow_of raw) is_input_kind) (decided_node (flow_of raw) is_output_kind)) [
+
+borders_kept : (raw : List Declared) → IsKeptOrBroken raw F9
+borders_kept raw =
+    let flow = flow_of raw in
+    elim (decided_both (HasNodeOf flow is_input_kind) (HasNodeOf flow is_output_kind) (decided_node flow is_input_kind) (decided_node flow is_output_kind)) [
       | inl has ↦ inl has
       | inr lacks ↦ inr (0, (lacks, refl))
     ]
-kept_or_broken raw names code = inl tt
 
 -- these rules are kept, or one of them is the first that is broken
-first_of : (codes : List Code) (raw : List Declared) → KeepsRule raw F3 → AllByRecursion (KeepsRule raw) codes ⊎ ((refusal : Refusal) × IsFirstBrokenOf codes raw refusal)
-first_of [] raw names = inl tt
-first_of (code ∷ codes) raw names = elim (kept_or_broken raw names code) [
-  | inl kept ↦ elim (first_of codes raw names) [
-    | inl all ↦ inl (kept, all)
-    | inr later ↦ inr (later.0, inr (kept, later.1))
-  ]
-  | inr broken ↦ inr (record { code = code; line = broken.0 }, inl (refl, broken.1))
+abbrev HaveAnswer : List Code → List Declared → Type 0
+HaveAnswer codes raw = AllByRecursion (KeepsRule raw) codes ⊎ ((refusal : Refusal) × IsFirstBrokenOf codes raw refusal)
+
+-- so it is with one more before them
+answer_more : (raw : List Declared) (code : Code) (codes : List Code) → IsKeptOrBroken raw code → (KeepsRule raw code → HaveAnswer codes raw) → HaveAnswer (code ∷ codes) raw
+answer_more raw code codes (inl kept) rest = elim (rest kept) [
+  | inl all ↦ inl (kept, all)
+  | inr later ↦ inr (later.0, inr (kept, later.1))
 ]
+answer_more raw code codes (inr broken) rest = inr (record { code = code; line = broken.0 }, inl (refl, broken.1))
+
+rules_answer : (raw : List Declared) → HaveAnswer rules raw
+rules_answer raw =
+    answer_more raw F3 later_rules (names_kept raw) (λ names.
+    answer_more raw F12 (F4 ∷ F5 ∷ F6 ∷ F7 ∷ F8 ∷ F9 ∷ []) (chains_kept raw) (λ chains.
+    answer_more raw F4 (F5 ∷ F6 ∷ F7 ∷ F8 ∷ F9 ∷ []) (degrees_kept raw) (λ degrees.
+    answer_more raw F5 (F6 ∷ F7 ∷ F8 ∷ F9 ∷ []) (domains_kept raw) (λ domains.
+    answer_more raw F6 (F7 ∷ F8 ∷ F9 ∷ []) (walks_kept raw names domains) (λ walks.
+    answer_more raw F7 (F8 ∷ F9 ∷ []) (policies_kept raw) (λ policies.
+    answer_more raw F8 (F9 ∷ []) (limits_kept raw) (λ limits.
+    answer_more raw F9 [] (borders_kept raw) (λ borders. inl tt))))))))
 
 -- declarations are those of a well-formed dataflow, or break a rule first
 pub some_answer : (raw : List Declared) → ((flow : Dataflow) × IsChecked raw flow) ⊎ ((refusal : Refusal) × IsFirstBroken raw refusal)
-some_answer raw = elim (names_kept raw) [
-  | inl names ↦ elim (first_of later_rules raw names) [
-    | inl all ↦ inl (flow_of raw, record { well_formed = IsWellFormed-from_rules raw names all.0 all.1.0 all.1.1.0 all.1.1.1.0 all.1.1.1.1.0 all.1.1.1.1.1.0; value = refl })
-    | inr later ↦ inr (later.0, inr (names, later.1))
-  ]
-  | inr broken ↦ inr (record { code = F3; line = broken.0 }, inl (refl, broken.1))
+some_answer raw = elim (rules_answer raw) [
+  | inl all ↦
+      let later = all.1 in
+      let wf = IsWellFormed-from_rules raw all.0 later.0 later.1.0 later.1.1.0 later.1.1.1.0 later.1.1.1.1.0 later.1.1.1.1.1.0 later.1.1.1.1.1.1.0 in
+      inl (flow_of raw, record { well_formed = wf; value = refl })
+  | inr refused ↦ inr refused
 ]

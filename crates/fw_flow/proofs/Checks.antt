@@ -5,8 +5,9 @@ use Rattle.std.proofs.lemmas.List.{length-map}
 use Rattle.std.proofs.lemmas.Option.{same_Some, slice_get_within, get_or_from_slice_get}
 use Rattle.std.specs.List.{flat_map}
 use Rattle.std.specs.Option.{option_map_or}
+use Rattle.std.specs.Prelude.{option_map}
 use Rattle.fw_lines.specs.declared.refusal.Code.{Code}
-use Rattle.fw_lines.specs.declared.refusal.Code.TheVariants.{F3, F4, F5, F6, F7, F8, F9}
+use Rattle.fw_lines.specs.declared.refusal.Code.TheVariants.{F3, F4, F5, F6, F7, F8, F9, F12}
 use Rattle.fw_lines.specs.declared.refusal.Refusal.{Refusal}
 use Rattle.fw_flow.specs.declared.kind.Policy.{Policy}
 use Rattle.fw_flow.specs.declared.node.Loop.{Loop}
@@ -17,26 +18,26 @@ use Rattle.fw_flow.specs.declared.raw.Declaration.TheVariants.{Loop as ALoop, No
 use Rattle.fw_flow.specs.declared.raw.Declared.{Declared}
 use Rattle.fw_flow.specs.declared.raw.RawKind.{RawKind}
 use Rattle.fw_flow.specs.declared.raw.RawKind.TheVariants.{Select, Concat, Distinct, Join, Sum, Enter, Feedback, Leave, Regroup}
-use Rattle.fw_flow.specs.Check.{loop_named, are_names_declared, NamesTheDeclared, HasItsDegrees, JoinsDomains, HasAllowedPolicy, IsWithinLimitsAfter, StaysWithinLimits, all_lines, node_lines, edge_lines, HoldsBelow, IsFirstBreak, KeepsRule, IsBroken, rules, IsFirstBrokenOf, IsFirstBroken, IsRawGroupSize, IsChecked}
-use Rattle.fw_flow.specs.Dataflow.{Dataflow, idle_node, kind_of, sender, receiver, max_of}
+use Rattle.fw_flow.specs.Check.{loop_named, are_names_declared, NamesTheDeclared, HasItsDegrees, JoinsDomains, HasAllowedPolicy, IsWithinLimitsAfter, StaysWithinLimits, all_lines, loop_lines, node_lines, edge_lines, HoldsBelow, IsFirstBreak, KeepsRule, IsBroken, rules, IsFirstBrokenOf, IsFirstBroken, IsRawGroupSize, IsChecked}
+use Rattle.fw_flow.specs.Dataflow.{Dataflow, idle_node, kind_of, sender, receiver, max_of, declared_parent}
 use Rattle.std.specs.Str.{bytes_eq}
 use Rattle.fw_flow.specs.Names.{has_name}
 use Rattle.fw_flow.specs.Raw.{names_of, loop_name, node_name, edge_name, loop_names, node_names, edge_names, place_or_end, resolved_kind, loop_in, node_in, edge_in, flow_of}
-use Rattle.fw_flow.specs.WellFormed.{IsWellFormed, IsWithinLimits, IsLoopDeclared, IsGroupSize}
+use Rattle.fw_flow.specs.WellFormed.{IsWellFormed, IsWithinLimits, IsLoopDeclared, IsParentDeclared, HasShortChain, IsGroupSize}
 use Rattle.fw_flow.proofs.Givers.{GivesOne, giver_of, slice_get-given, length-given}
 
 -- ---- what a declaration gives
 
-loop_part : (line : ℕ) (d : Declaration) → (loop_in (record { line = line; declaration = d }) ≡ []) ⊎ ((a : Loop) × (loop_in (record { line = line; declaration = d }) ≡ a ∷ []))
-loop_part line (ALoop name max) = inr (record { name = name; max = max }, refl)
-loop_part line (ANode name kind policy) = inl refl
-loop_part line (AnEdge name s r) = inl refl
+loop_part : (loops : List (List ℕ)) (line : ℕ) (d : Declaration) → (loop_in loops (record { line = line; declaration = d }) ≡ []) ⊎ ((a : Loop) × (loop_in loops (record { line = line; declaration = d }) ≡ a ∷ []))
+loop_part loops line (ALoop name max parent) = inr (record { name = name; max = max; parent = option_map (place_or_end loops) parent }, refl)
+loop_part loops line (ANode name kind policy) = inl refl
+loop_part loops line (AnEdge name s r) = inl refl
 
-pub GivesOne-loop_in : GivesOne loop_in
-GivesOne-loop_in d = loop_part d.line d.declaration
+pub GivesOne-loop_in : (loops : List (List ℕ)) → GivesOne (loop_in loops)
+GivesOne-loop_in loops d = loop_part loops d.line d.declaration
 
 node_part : (loops : List (List ℕ)) (line : ℕ) (d : Declaration) → (node_in loops (record { line = line; declaration = d }) ≡ []) ⊎ ((a : Node) × (node_in loops (record { line = line; declaration = d }) ≡ a ∷ []))
-node_part loops line (ALoop name max) = inl refl
+node_part loops line (ALoop name max parent) = inl refl
 node_part loops line (ANode name kind policy) = inr (record { name = name; kind = resolved_kind loops kind; policy = policy }, refl)
 node_part loops line (AnEdge name s r) = inl refl
 
@@ -44,7 +45,7 @@ pub GivesOne-node_in : (loops : List (List ℕ)) → GivesOne (node_in loops)
 GivesOne-node_in loops d = node_part loops d.line d.declaration
 
 edge_part : (nodes : List (List ℕ)) (line : ℕ) (d : Declaration) → (edge_in nodes (record { line = line; declaration = d }) ≡ []) ⊎ ((a : Edge) × (edge_in nodes (record { line = line; declaration = d }) ≡ a ∷ []))
-edge_part nodes line (ALoop name max) = inl refl
+edge_part nodes line (ALoop name max parent) = inl refl
 edge_part nodes line (ANode name kind policy) = inl refl
 edge_part nodes line (AnEdge name s r) = inr (record { name = name; sender = place_or_end nodes s; receiver = place_or_end nodes r }, refl)
 
@@ -53,29 +54,34 @@ GivesOne-edge_in nodes d = edge_part nodes d.line d.declaration
 
 -- ---- as many names and lines as parts
 
-loop_name_count : (line : ℕ) (d : Declaration) → length (loop_in (record { line = line; declaration = d })) ≡ length (loop_name (record { line = line; declaration = d }))
-loop_name_count line (ALoop name max) = refl
-loop_name_count line (ANode name kind policy) = refl
-loop_name_count line (AnEdge name s r) = refl
+loop_name_count : (loops : List (List ℕ)) (line : ℕ) (d : Declaration) → length (loop_in loops (record { line = line; declaration = d })) ≡ length (loop_name (record { line = line; declaration = d }))
+loop_name_count loops line (ALoop name max parent) = refl
+loop_name_count loops line (ANode name kind policy) = refl
+loop_name_count loops line (AnEdge name s r) = refl
 
 node_name_count : (loops : List (List ℕ)) (line : ℕ) (d : Declaration) → length (node_in loops (record { line = line; declaration = d })) ≡ length (node_name (record { line = line; declaration = d }))
-node_name_count loops line (ALoop name max) = refl
+node_name_count loops line (ALoop name max parent) = refl
 node_name_count loops line (ANode name kind policy) = refl
 node_name_count loops line (AnEdge name s r) = refl
 
 edge_name_count : (nodes : List (List ℕ)) (line : ℕ) (d : Declaration) → length (edge_in nodes (record { line = line; declaration = d })) ≡ length (edge_name (record { line = line; declaration = d }))
-edge_name_count nodes line (ALoop name max) = refl
+edge_name_count nodes line (ALoop name max parent) = refl
 edge_name_count nodes line (ANode name kind policy) = refl
 edge_name_count nodes line (AnEdge name s r) = refl
 
-pub length-loops : (raw : List Declared) → length (flat_map loop_in raw) ≡ length (loop_names raw)
-length-loops raw = length-given loop_in loop_name (λ d. loop_name_count d.line d.declaration) raw
+pub length-loops : (loops : List (List ℕ)) (raw : List Declared) → length (flat_map (loop_in loops) raw) ≡ length (loop_names raw)
+length-loops loops raw = length-given (loop_in loops) loop_name (λ d. loop_name_count loops d.line d.declaration) raw
 
 pub length-nodes : (loops : List (List ℕ)) (raw : List Declared) → length (flat_map (node_in loops) raw) ≡ length (node_names raw)
 length-nodes loops raw = length-given (node_in loops) node_name (λ d. node_name_count loops d.line d.declaration) raw
 
 pub length-edges : (nodes : List (List ℕ)) (raw : List Declared) → length (flat_map (edge_in nodes) raw) ≡ length (edge_names raw)
 length-edges nodes raw = length-given (edge_in nodes) edge_name (λ d. edge_name_count nodes d.line d.declaration) raw
+
+pub length-loop_lines : (raw : List Declared) → length (loop_lines raw) ≡ length (flow_of raw).loops
+length-loop_lines raw =
+    length-given (λ (d : Declared). map (λ name. d.line) (loop_name d)) loop_name (λ d. length-map (loop_name d) (λ name. d.line)) raw
+    ∙ sym (length-loops (loop_names raw) raw)
 
 pub length-node_lines : (raw : List Declared) → length (node_lines raw) ≡ length (flow_of raw).nodes
 length-node_lines raw =
@@ -126,6 +132,12 @@ loop_declared flow loops (Feedback l) e = named flow loops l e
 loop_declared flow loops (Leave l) e = named flow loops l e
 loop_declared flow loops kind e = (λ h. refl, λ h. tt)
 
+-- so is the loop in which a loop is declared
+parent_declared : (flow : Dataflow) (loops : List (List ℕ)) (parent : Option (List ℕ)) → length flow.loops ≡ length loops
+    → IfSome (option_map (place_or_end loops) parent) (λ k. k < length flow.loops) ↔ (option_map_or (λ l. has_name l loops) parent true ≡ true)
+parent_declared flow loops None e = (λ h. refl, λ h. tt)
+parent_declared flow loops (Some l) e = named flow loops l e
+
 -- ---- what stands at a place of the flow
 
 kind_of-given : (flow : Dataflow) (p : ℕ) (node : Node) → slice_get flow.nodes p ≡ Some node → kind_of flow p ≡ node.kind
@@ -145,7 +157,12 @@ receiver-given flow e edge there =
 max_of-given : (flow : Dataflow) (l : ℕ) (a_loop : Loop) → slice_get flow.loops l ≡ Some a_loop → max_of flow l ≡ a_loop.max
 unfolding max_of
 max_of-given flow l a_loop there =
-    ap (λ (x : Loop). x.max) (get_or_from_slice_get flow.loops l a_loop (record { name = []; max = 0 }) there)
+    ap (λ (x : Loop). x.max) (get_or_from_slice_get flow.loops l a_loop (record { name = []; max = 0; parent = None }) there)
+
+parent-given : (flow : Dataflow) (l : ℕ) (a_loop : Loop) → slice_get flow.loops l ≡ Some a_loop → declared_parent flow l ≡ a_loop.parent
+unfolding declared_parent
+parent-given flow l a_loop there =
+    ap (λ (x : Loop). x.parent) (get_or_from_slice_get flow.loops l a_loop (record { name = []; max = 0; parent = None }) there)
 
 -- a declared node, at its place of the flow
 record NodePlace (raw : List Declared) (name : List ℕ) (kind : RawKind) (before : List Declared) : Type 0 where
@@ -186,30 +203,36 @@ edge_place raw i line name s r there =
     }
 
 -- a declared loop, at its place of the flow
-record LoopPlace (raw : List Declared) (max : ℕ) (before : List Declared) : Type 0 where
+record LoopPlace (raw : List Declared) (max : ℕ) (parent : Option (List ℕ)) (before : List Declared) : Type 0 where
   below : length (loop_names before) < length (flow_of raw).loops
   is_max : max_of (flow_of raw) (length (loop_names before)) ≡ max
+  is_parent : declared_parent (flow_of raw) (length (loop_names before)) ≡ option_map (place_or_end (loop_names raw)) parent
 
-loop_place : (raw : List Declared) (i line : ℕ) (name : List ℕ) (max : ℕ)
-    → slice_get raw i ≡ Some (record { line = line; declaration = ALoop name max }) → LoopPlace raw max (take i raw)
-loop_place raw i line name max there =
-    let a_loop : Loop = record { name = name; max = max } in
-    let count = length-loops (take i raw) in
-    let given = subst (λ n. slice_get (flat_map loop_in raw) n ≡ Some a_loop) count
-    (slice_get-given loop_in GivesOne-loop_in raw i (record { line = line; declaration = ALoop name max }) a_loop there refl) in
+loop_place : (raw : List Declared) (i line : ℕ) (name : List ℕ) (max : ℕ) (parent : Option (List ℕ))
+    → slice_get raw i ≡ Some (record { line = line; declaration = ALoop name max parent }) → LoopPlace raw max parent (take i raw)
+loop_place raw i line name max parent there =
+    let loops = loop_names raw in
+    let a_loop : Loop = record { name = name; max = max; parent = option_map (place_or_end loops) parent } in
+    let count = length-loops loops (take i raw) in
+    let given = subst (λ n. slice_get (flat_map (loop_in loops) raw) n ≡ Some a_loop) count
+    (slice_get-given (loop_in loops) (GivesOne-loop_in loops) raw i (record { line = line; declaration = ALoop name max parent }) a_loop there refl) in
     record {
       below = slice_get_within (flow_of raw).loops (length (loop_names (take i raw))) a_loop given;
       is_max = max_of-given (flow_of raw) (length (loop_names (take i raw))) a_loop given;
+      is_parent = parent-given (flow_of raw) (length (loop_names (take i raw))) a_loop given;
     }
 
 -- ---- a well-formed flow breaks no rule
 
 names_declared : (raw : List Declared) → IsWellFormed (flow_of raw) → (i line : ℕ) (d : Declaration)
     → slice_get raw i ≡ Some (record { line = line; declaration = d }) → are_names_declared (names_of raw) d ≡ true
-names_declared raw wf i line (ALoop name max) there = refl
+names_declared raw wf i line (ALoop name max parent) there =
+    let at = loop_place raw i line name max parent there in
+    (parent_declared (flow_of raw) (loop_names raw) parent (length-loops (loop_names raw) raw)).0
+    (subst (λ o. IfSome o (λ k. k < length (flow_of raw).loops)) at.is_parent (wf.parents_declared (length (loop_names (take i raw))) at.below))
 names_declared raw wf i line (ANode name kind policy) there =
     let at = node_place raw i line name kind policy there in
-    (loop_declared (flow_of raw) (loop_names raw) kind (length-loops raw)).0
+    (loop_declared (flow_of raw) (loop_names raw) kind (length-loops (loop_names raw) raw)).0
     (subst (IsLoopDeclared (flow_of raw)) at.is_kind (wf.loops_declared (length (node_names (take i raw))) at.below))
 names_declared raw wf i line (AnEdge name s r) there =
     let at = edge_place raw i line name s r there in
@@ -228,8 +251,8 @@ group_size loops kind = (λ h. tt, λ h. tt)
 
 within_limits : (raw : List Declared) → IsWithinLimits (flow_of raw) → (i line : ℕ) (d : Declaration)
     → slice_get raw i ≡ Some (record { line = line; declaration = d }) → IsWithinLimitsAfter (take i raw) d
-within_limits raw limits i line (ALoop name max) there =
-    let at = loop_place raw i line name max there in
+within_limits raw limits i line (ALoop name max parent) there =
+    let at = loop_place raw i line name max parent there in
     let bounds = limits.counters (length (loop_names (take i raw))) at.below in
     (omega (arith, limits.loops, at.below), omega (arith, bounds.0, at.is_max), omega (arith, bounds.1, at.is_max))
 within_limits raw limits i line (ANode name kind policy) there =
@@ -245,8 +268,15 @@ node_named : (raw : List Declared) (line : ℕ) (d : Declaration) (part : Node) 
     → are_names_declared (names_of raw) d ≡ true → IsLoopDeclared (flow_of raw) part.kind
 node_named raw line (ANode name kind policy) part gives h =
     let same : resolved_kind (loop_names raw) kind ≡ part.kind = cc in
-    subst (IsLoopDeclared (flow_of raw)) same ((loop_declared (flow_of raw) (loop_names raw) kind (length-loops raw)).1 h)
+    subst (IsLoopDeclared (flow_of raw)) same ((loop_declared (flow_of raw) (loop_names raw) kind (length-loops (loop_names raw) raw)).1 h)
 node_named raw line d part gives h = absurd (cc)
+
+loop_named_in : (raw : List Declared) (line : ℕ) (d : Declaration) (part : Loop) → loop_in (loop_names raw) (record { line = line; declaration = d }) ≡ part ∷ []
+    → are_names_declared (names_of raw) d ≡ true → IfSome part.parent (λ k. k < length (flow_of raw).loops)
+loop_named_in raw line (ALoop name max parent) part gives h =
+    let same : option_map (place_or_end (loop_names raw)) parent ≡ part.parent = cc in
+    subst (λ o. IfSome o (λ k. k < length (flow_of raw).loops)) same ((parent_declared (flow_of raw) (loop_names raw) parent (length-loops (loop_names raw) raw)).1 h)
+loop_named_in raw line d part gives h = absurd (cc)
 
 edge_named : (raw : List Declared) (line : ℕ) (d : Declaration) (part : Edge) → edge_in (node_names raw) (record { line = line; declaration = d }) ≡ part ∷ []
     → are_names_declared (names_of raw) d ≡ true → (part.sender < length (node_names raw)) × (part.receiver < length (node_names raw))
@@ -270,12 +300,12 @@ edge_within : (nodes : List (List ℕ)) (before : List Declared) (line : ℕ) (d
 edge_within nodes before line (AnEdge name s r) part gives h = omega (arith, length-edges nodes before, h)
 edge_within nodes before line d part gives h = absurd (cc)
 
-loop_within : (before : List Declared) (line : ℕ) (d : Declaration) (part : Loop) → loop_in (record { line = line; declaration = d }) ≡ part ∷ []
-    → IsWithinLimitsAfter before d → (length (flat_map loop_in before) < 64) × (1 ≤ part.max) × (part.max ≤ 1024)
-loop_within before line (ALoop name max) part gives h =
+loop_within : (loops : List (List ℕ)) (before : List Declared) (line : ℕ) (d : Declaration) (part : Loop) → loop_in loops (record { line = line; declaration = d }) ≡ part ∷ []
+    → IsWithinLimitsAfter before d → (length (flat_map (loop_in loops) before) < 64) × (1 ≤ part.max) × (part.max ≤ 1024)
+loop_within loops before line (ALoop name max parent) part gives h =
     let same : max ≡ part.max = cc in
-    (omega (arith, length-loops before, h.0), omega (arith, same, h.1), omega (arith, same, h.2))
-loop_within before line d part gives h = absurd (cc)
+    (omega (arith, length-loops loops before, h.0), omega (arith, same, h.1), omega (arith, same, h.2))
+loop_within loops before line d part gives h = absurd (cc)
 
 -- ---- declarations that break no rule are well formed
 
@@ -292,6 +322,13 @@ loops_declared raw h p lt =
     let g = giver_of (node_in (loop_names raw)) (GivesOne-node_in (loop_names raw)) raw p lt in
     subst (IsLoopDeclared (flow_of raw)) (sym (kind_of-given (flow_of raw) p g.part g.is))
     (node_named raw g.giver.line g.giver.declaration g.part g.gives (names_at raw h g.place g.giver g.there))
+
+parents_declared : (raw : List Declared) → KeepsRule raw F3 → (l : ℕ) → l < length (flow_of raw).loops → IsParentDeclared (flow_of raw) l
+parents_declared raw h l lt =
+    let loops = loop_names raw in
+    let g = giver_of (loop_in loops) (GivesOne-loop_in loops) raw l lt in
+    subst (λ o. IfSome o (λ k. k < length (flow_of raw).loops)) (sym (parent-given (flow_of raw) l g.part g.is))
+    (loop_named_in raw g.giver.line g.giver.declaration g.part g.gives (names_at raw h g.place g.giver g.there))
 
 -- both ends of an edge are declared
 pub both_declared : (raw : List Declared) → KeepsRule raw F3 → (e : ℕ) → e < length (flow_of raw).edges
@@ -321,10 +358,10 @@ limits_hold raw h =
     record {
       nodes = few (node_in loops) (GivesOne-node_in loops) raw h 256 (λ before line d part gives w. (node_within loops before line d part gives w).0);
       edges = few (edge_in nodes) (GivesOne-edge_in nodes) raw h 512 (edge_within nodes);
-      loops = few loop_in GivesOne-loop_in raw h 64 (λ before line d part gives w. (loop_within before line d part gives w).0);
+      loops = few (loop_in loops) (GivesOne-loop_in loops) raw h 64 (λ before line d part gives w. (loop_within loops before line d part gives w).0);
       counters = λ l lt.
-          let g = giver_of loop_in GivesOne-loop_in raw l lt in
-          let range = loop_within (take g.place raw) g.giver.line g.giver.declaration g.part g.gives (limits_at raw h g.place g.giver g.there) in
+          let g = giver_of (loop_in loops) (GivesOne-loop_in loops) raw l lt in
+          let range = loop_within loops (take g.place raw) g.giver.line g.giver.declaration g.part g.gives (limits_at raw h g.place g.giver g.there) in
           let max = max_of-given (flow_of raw) l g.part g.is in
           (omega (arith, range.1, max), omega (arith, range.2, max));
       groups = λ p lt.
@@ -333,19 +370,22 @@ limits_hold raw h =
           (node_within loops (take g.place raw) g.giver.line g.giver.declaration g.part g.gives (limits_at raw h g.place g.giver g.there)).1;
     }
 
-pub IsWellFormed-from_rules : (raw : List Declared) → KeepsRule raw F3 → KeepsRule raw F4 → KeepsRule raw F5 → KeepsRule raw F6 → KeepsRule raw F7 → KeepsRule raw F8 → KeepsRule raw F9 → IsWellFormed (flow_of raw)
-IsWellFormed-from_rules raw names degrees domains walks policies limits borders =
+pub IsWellFormed-from_rules : (raw : List Declared) → KeepsRule raw F3 → KeepsRule raw F12 → KeepsRule raw F4 → KeepsRule raw F5 → KeepsRule raw F6 → KeepsRule raw F7 → KeepsRule raw F8 → KeepsRule raw F9 → IsWellFormed (flow_of raw)
+IsWellFormed-from_rules raw names chains degrees domains walks policies limits borders =
+    let loops = length-loop_lines raw in
     let nodes = length-node_lines raw in
     let edges = length-edge_lines raw in
     record {
       loops_declared = loops_declared raw names;
+      parents_declared = parents_declared raw names;
+      chains = λ l lt. chains l (omega (arith, loops));
       senders_declared = λ e lt. (both_declared raw names e lt).0;
       receivers_declared = λ e lt. (both_declared raw names e lt).1;
       in_degrees = λ p lt. (degrees p (omega (arith, nodes))).0;
       out_degrees = λ p lt. (degrees p (omega (arith, nodes))).1;
       domains = λ e lt. domains e (omega (arith, edges));
-      feedback = walks.fed_back;
-      no_enter = walks.never_entered;
+      in_loops = walks.in_loops;
+      fed_back = walks.fed_back;
       policies = λ p lt. policies p (omega (arith, nodes));
       limits = limits_hold raw limits;
       input = borders.0;
@@ -369,10 +409,11 @@ pub KeepsRule-from_IsWellFormed : (raw : List Declared) → IsWellFormed (flow_o
 KeepsRule-from_IsWellFormed raw wf F3 = λ i lt. names_rule_at raw wf i (slice_get raw i) refl
 KeepsRule-from_IsWellFormed raw wf F4 = λ p lt. (wf.in_degrees p (omega (arith, length-node_lines raw)), wf.out_degrees p (omega (arith, length-node_lines raw)))
 KeepsRule-from_IsWellFormed raw wf F5 = λ e lt. wf.domains e (omega (arith, length-edge_lines raw))
-KeepsRule-from_IsWellFormed raw wf F6 = record { fed_back = wf.feedback; never_entered = wf.no_enter }
+KeepsRule-from_IsWellFormed raw wf F6 = record { in_loops = wf.in_loops; fed_back = wf.fed_back }
 KeepsRule-from_IsWellFormed raw wf F7 = λ p lt. wf.policies p (omega (arith, length-node_lines raw))
 KeepsRule-from_IsWellFormed raw wf F8 = λ i lt. limits_rule_at raw wf i (slice_get raw i) refl
 KeepsRule-from_IsWellFormed raw wf F9 = (wf.input, wf.output)
+KeepsRule-from_IsWellFormed raw wf F12 = λ l lt. wf.chains l (omega (arith, length-loop_lines raw))
 KeepsRule-from_IsWellFormed raw wf code = tt
 
 first_break-false : (Rule : ℕ → Type 0) (lines : List ℕ) (line : ℕ) → IsFirstBreak Rule lines line → HoldsBelow Rule (length lines) → ⊥
@@ -385,12 +426,13 @@ broken_or_holds raw F4 line broken holds = first_break-false (HasItsDegrees (flo
 broken_or_holds raw F5 line broken holds = first_break-false (JoinsDomains (flow_of raw)) (edge_lines raw) line broken holds
 broken_or_holds raw F6 line broken holds =
     elim broken.0 [
-      | inl walk ↦ walk.avoids (holds.fed_back walk.node walk.edges walk.closed)
-      | inr walk ↦ holds.never_entered walk.node walk.edges walk.closed walk.passes
+      | inl walk ↦ holds.in_loops walk.node walk.edges walk.closed walk.passes
+      | inr slip ↦ let walk = slip.1 in walk.avoids (holds.fed_back slip.0 walk.node walk.edges walk.closed walk.stays walk.passes)
     ]
 broken_or_holds raw F7 line broken holds = first_break-false (HasAllowedPolicy (flow_of raw)) (node_lines raw) line broken holds
 broken_or_holds raw F8 line broken holds = first_break-false (StaysWithinLimits raw) (all_lines raw) line broken holds
 broken_or_holds raw F9 line broken holds = broken.0 holds
+broken_or_holds raw F12 line broken holds = first_break-false (HasShortChain (flow_of raw)) (loop_lines raw) line broken holds
 broken_or_holds raw code line broken holds = broken
 
 one_first_break : (Rule : ℕ → Type 0) (lines : List ℕ) (m n : ℕ) → IsFirstBreak Rule lines m → IsFirstBreak Rule lines n → m ≡ n
@@ -414,6 +456,7 @@ one_line raw F6 m n first second = first.1 ∙ sym second.1
 one_line raw F7 m n first second = one_first_break (HasAllowedPolicy (flow_of raw)) (node_lines raw) m n first second
 one_line raw F8 m n first second = one_first_break (StaysWithinLimits raw) (all_lines raw) m n first second
 one_line raw F9 m n first second = first.1 ∙ sym second.1
+one_line raw F12 m n first second = one_first_break (HasShortChain (flow_of raw)) (loop_lines raw) m n first second
 one_line raw code m n first second = absurd first
 
 -- a first broken rule is broken

@@ -7,12 +7,13 @@ use Rattle.std.specs.Bool.{OnTrue, OnFalse}
 use Rattle.fw_lines.specs.declared.fault.ReadFault.{ReadFault}
 use Rattle.fw_lines.specs.declared.fault.ReadFault.TheVariants.{Refused, NoMemory}
 use Rattle.fw_lines.specs.declared.refusal.Code.{Code}
-use Rattle.fw_lines.specs.declared.refusal.Code.TheVariants.{F3}
+use Rattle.fw_lines.specs.declared.refusal.Code.TheVariants.{F3, F5}
 use Rattle.fw_lines.specs.declared.refusal.Refusal.{Refusal}
 use Rattle.fw_lines.specs.Faults.{IfRefused}
 use Rattle.std.specs.declared.alloc.Global.{Global}
 use Rattle.std.specs.declared.vec.Vec.{Vec}
 use Rattle.fw_flow.specs.declared.kind.Kind.{Kind}
+use Rattle.fw_flow.specs.declared.node.Loop.{Loop}
 use Rattle.fw_flow.specs.declared.node.Node.{Node}
 use Rattle.fw_flow.specs.declared.node.Edge.{Edge}
 use Rattle.fw_flow.specs.declared.parts.Parts.{Parts}
@@ -22,16 +23,16 @@ use Rattle.fw_flow.specs.declared.raw.Declaration.TheVariants.{Loop as ALoop, No
 use Rattle.fw_flow.specs.declared.raw.Declared.{Declared}
 use Rattle.fw_flow.specs.declared.raw.NameSpaces.{NameSpaces}
 use Rattle.fw_flow.specs.declared.walks.Link.{Link}
-use Rattle.fw_flow.specs.Check.{HoldsBelow, IsFirstBreak, IsFirstBreakIfAny, HasItsDegrees, JoinsDomains, HasAllowedPolicy, AreWalksRight, IsWalkWrong, HasBorders, node_lines, edge_lines, KeepsRule, later_rules, IsFirstBrokenOf, IsFirstBroken, IsChecked}
+use Rattle.fw_flow.specs.Check.{HoldsBelow, IsFirstBreak, IsFirstBreakIfAny, HasItsDegrees, JoinsDomains, HasAllowedPolicy, AreWalksRight, IsWalkWrong, HasBorders, loop_lines, node_lines, edge_lines, KeepsRule, later_rules, IsFirstBrokenOf, IsFirstBroken, IsChecked}
 use Rattle.fw_flow.specs.Dataflow.{Dataflow, kind_of, in_edges, out_edges, edges_into, edges_from}
 use Rattle.fw_flow.specs.Draft.{IsDraftOf, LaterRulesHold}
 use Rattle.fw_flow.specs.Flow.{edges_at, IsIndexed}
-use Rattle.fw_flow.specs.Parts.{ArePartsOf, capped_kind, capped_node, capped_flow, places_from}
+use Rattle.fw_flow.specs.Parts.{ArePartsOf, capped_kind, capped_loop, capped_node, capped_flow, places_from}
 use Rattle.fw_flow.specs.Raw.{names_of, loop_names, node_names, edge_names, node_name, edge_name, loop_in, node_in, edge_in, flow_of}
 use Rattle.fw_flow.specs.Walks.{AreWithin, IsMadeOf, link_at, link_of, listed_kind}
-use Rattle.fw_flow.specs.WellFormed.{IsInDegree, IsOutDegree, IsWellFormed}
-use Rattle.fw_flow.proofs.Capped.{from_capped, to_capped, kind_of-capped, JoinsDomains-capped, HasAllowedPolicy-capped, AreWalksRight-capped, IsWalkWrong-capped, HasBorders-capped, loops-capped, nodes-capped}
-use Rattle.fw_flow.proofs.Checks.{GivesOne-loop_in, GivesOne-node_in, GivesOne-edge_in, length-loops, length-nodes, length-node_lines, length-edge_lines, both_declared, IsWellFormed-from_rules}
+use Rattle.fw_flow.specs.WellFormed.{HasShortChain, IsInDegree, IsOutDegree, IsWellFormed}
+use Rattle.fw_flow.proofs.Capped.{from_capped, to_capped, kind_of-capped, HasShortChain-capped, JoinsDomains-capped, HasAllowedPolicy-capped, AreWalksRight-capped, IsWalkWrong-capped, HasBorders-capped, loops-capped, nodes-capped}
+use Rattle.fw_flow.proofs.Checks.{GivesOne-loop_in, GivesOne-node_in, GivesOne-edge_in, length-loops, length-nodes, length-loop_lines, length-node_lines, length-edge_lines, both_declared, IsWellFormed-from_rules}
 use Rattle.fw_flow.proofs.Ends.{places_from-receivers, places_from-senders}
 use Rattle.fw_flow.proofs.Flows.{sender-of_link, receiver-of_link, kinds_of}
 use Rattle.fw_flow.proofs.Givers.{length-given_le, map-flat_map}
@@ -40,8 +41,9 @@ use Rattle.fw_flow.proofs.Givers.{length-given_le, map-flat_map}
 
 pub few_loops : (raw : List Declared) → length raw < 2 ^ 32 → length (loop_names raw) < 2 ^ 32
 few_loops raw few =
-    let count = length-loops raw in
-    let most = length-given_le loop_in GivesOne-loop_in raw in
+    let loops = loop_names raw in
+    let count = length-loops loops raw in
+    let most = length-given_le (loop_in loops) (GivesOne-loop_in loops) raw in
     omega (arith, few, count, most)
 
 pub few_nodes : (raw : List Declared) → length raw < 2 ^ 32 → length (node_names raw) < 2 ^ 32
@@ -102,6 +104,10 @@ few_ends {links = links} {raw} linked few end ends are =
     let most = few_edges raw few in
     omega (arith, edges, count, same, most)
 
+pub lines_of_loops : {parts : Parts} {links : List Link} {raw : List Declared} → AreLinkedPartsOf parts links raw → length parts.loop_lines.items ≡ length parts.loops.items
+lines_of_loops {raw = raw} linked =
+    ap length linked.of_parts.lines_of_loops ∙ length-loop_lines raw ∙ sym (ap length linked.of_parts.all_loops ∙ length-map (flow_of raw).loops capped_loop)
+
 pub lines_of_nodes : {parts : Parts} {links : List Link} {raw : List Declared} → AreLinkedPartsOf parts links raw → length parts.node_lines.items ≡ length parts.nodes.items
 lines_of_nodes {raw = raw} linked = ap length linked.of_parts.lines_of_nodes ∙ length-node_lines raw ∙ sym (count_of_nodes linked)
 
@@ -120,10 +126,12 @@ edges_out_of edges links ends is are p =
 
 -- ---- the tests
 
-pub made_of : (draft : Draft) (raw : List Declared) → IsDraftOf draft raw → IsMadeOf (capped_flow (flow_of raw)) draft.parts.nodes.items draft.links.items
+pub made_of : (draft : Draft) (raw : List Declared) → IsDraftOf draft raw
+    → IsMadeOf (capped_flow (flow_of raw)) draft.parts.loops.items draft.parts.nodes.items draft.links.items
 made_of draft raw of_draft = record {
-  nodes = sym of_draft.of_parts.all_nodes;
-  links = ap (map link_of) (sym of_draft.of_parts.all_edges) ∙ sym of_draft.of_links;
+  of_loops = sym of_draft.of_parts.all_loops;
+  of_nodes = sym of_draft.of_parts.all_nodes;
+  of_links = ap (map link_of) (sym of_draft.of_parts.all_edges) ∙ sym of_draft.of_links;
 }
 
 first_break_same : (R S : ℕ → Type 0) → ((p : ℕ) → R p ↔ S p) → (lines : List ℕ) (line : Option ℕ) → IsFirstBreakIfAny R lines line → IsFirstBreakIfAny S lines line
@@ -142,7 +150,7 @@ unfolding in_edges out_edges
 degrees_same draft raw of_draft p =
     let flow = flow_of raw in
     let kind : listed_kind draft.parts.nodes.items p ≡ capped_kind (kind_of flow p) =
-    sym (kinds_of (capped_flow flow) draft.parts.nodes.items draft.links.items (made_of draft raw of_draft) p) ∙ kind_of-capped flow p in
+    sym (kinds_of (capped_flow flow) draft.parts.loops.items draft.parts.nodes.items draft.links.items (made_of draft raw of_draft) p) ∙ kind_of-capped flow p in
     let into : edges_at draft.incoming.items p ≡ edges_into 0 flow.edges p = of_draft.edges_in p ∙ ap (λ (es : List Edge). edges_into 0 es p) of_draft.of_parts.all_edges in
     let from : edges_at draft.outgoing.items p ≡ edges_from 0 flow.edges p = of_draft.edges_out p ∙ ap (λ (es : List Edge). edges_from 0 es p) of_draft.of_parts.all_edges in
     let Degrees : Kind → List ℕ → List ℕ → Type 0 = λ k i o. IsInDegree k (length i) × IsOutDegree k (length o) in
@@ -170,21 +178,37 @@ degrees_first draft raw of_draft line nodes incoming outgoing lines are_nodes ar
     subst (λ ls. IsFirstBreakIfAny (HasItsDegrees (flow_of raw)) ls line) (are_lines ∙ of_draft.of_parts.lines_of_nodes)
     (first_break_same (ListedDegrees draft.parts.nodes.items draft.incoming.items draft.outgoing.items) (HasItsDegrees (flow_of raw)) (degrees_same draft raw of_draft) lines line own_out)
 
-made_of_lists : (draft : Draft) (raw : List Declared) → IsDraftOf draft raw → (nodes : List Node) (links : List Link)
-    → nodes ≡ draft.parts.nodes.items → links ≡ draft.links.items → IsMadeOf (capped_flow (flow_of raw)) nodes links
-made_of_lists draft raw of_draft nodes links are_nodes are_links =
-    let made = made_of draft raw of_draft in
-    record { nodes = made.nodes ∙ sym are_nodes; links = made.links ∙ sym are_links }
+-- lists that are those of a draft
+pub record AreListsOf (draft : Draft) (loops : List Loop) (nodes : List Node) (links : List Link) : Type 0 where
+  pub of_loops : loops ≡ draft.parts.loops.items
+  pub of_nodes : nodes ≡ draft.parts.nodes.items
+  pub of_links : links ≡ draft.links.items
 
-pub domains_first : (draft : Draft) (raw : List Declared) → IsDraftOf draft raw → (line : Option ℕ) (nodes : List Node) (links : List Link) (lines : List ℕ)
-    → nodes ≡ draft.parts.nodes.items → links ≡ draft.links.items → lines ≡ draft.parts.edge_lines.items
-    → ((flow : Dataflow) → IsMadeOf flow nodes links → IsFirstBreakIfAny (JoinsDomains flow) lines line)
+made_of_lists : (draft : Draft) (raw : List Declared) → IsDraftOf draft raw → (loops : List Loop) (nodes : List Node) (links : List Link)
+    → AreListsOf draft loops nodes links → IsMadeOf (capped_flow (flow_of raw)) loops nodes links
+made_of_lists draft raw of_draft loops nodes links are =
+    let made = made_of draft raw of_draft in
+    record { of_loops = made.of_loops ∙ sym are.of_loops; of_nodes = made.of_nodes ∙ sym are.of_nodes; of_links = made.of_links ∙ sym are.of_links }
+
+pub chains_first : (draft : Draft) (raw : List Declared) → IsDraftOf draft raw → (line : Option ℕ) (loops : List Loop) (lines : List ℕ)
+    → loops ≡ draft.parts.loops.items → lines ≡ draft.parts.loop_lines.items
+    → ((flow : Dataflow) → flow.loops ≡ loops → IsFirstBreakIfAny (HasShortChain flow) lines line)
+    → IsFirstBreakIfAny (HasShortChain (flow_of raw)) (loop_lines raw) line
+chains_first draft raw of_draft line loops lines are_loops are_lines first =
+    let flow = flow_of raw in
+    subst (λ ls. IsFirstBreakIfAny (HasShortChain flow) ls line) (are_lines ∙ of_draft.of_parts.lines_of_loops)
+    (first_break_same (HasShortChain (capped_flow flow)) (HasShortChain flow) (HasShortChain-capped flow) lines line
+    (first (capped_flow flow) ((made_of draft raw of_draft).of_loops ∙ sym are_loops)))
+
+pub domains_first : (draft : Draft) (raw : List Declared) → IsDraftOf draft raw → (line : Option ℕ) (loops : List Loop) (nodes : List Node) (links : List Link) (lines : List ℕ)
+    → loops ≡ draft.parts.loops.items → nodes ≡ draft.parts.nodes.items → links ≡ draft.links.items → lines ≡ draft.parts.edge_lines.items
+    → ((flow : Dataflow) → IsMadeOf flow loops nodes links → IsFirstBreakIfAny (JoinsDomains flow) lines line)
     → IsFirstBreakIfAny (JoinsDomains (flow_of raw)) (edge_lines raw) line
-domains_first draft raw of_draft line nodes links lines are_nodes are_links are_lines first =
+domains_first draft raw of_draft line loops nodes links lines are_loops are_nodes are_links are_lines first =
     let flow = flow_of raw in
     subst (λ ls. IsFirstBreakIfAny (JoinsDomains flow) ls line) (are_lines ∙ of_draft.of_parts.lines_of_edges)
     (first_break_same (JoinsDomains (capped_flow flow)) (JoinsDomains flow) (JoinsDomains-capped flow) lines line
-    (first (capped_flow flow) (made_of_lists draft raw of_draft nodes links are_nodes are_links)))
+    (first (capped_flow flow) (made_of_lists draft raw of_draft loops nodes links (record { of_loops = are_loops; of_nodes = are_nodes; of_links = are_links }))))
 
 pub policies_first : (draft : Draft) (raw : List Declared) → IsDraftOf draft raw → (line : Option ℕ) (nodes : List Node) (lines : List ℕ)
     → nodes ≡ draft.parts.nodes.items → lines ≡ draft.parts.node_lines.items
@@ -194,28 +218,37 @@ policies_first draft raw of_draft line nodes lines are_nodes are_lines first =
     let flow = flow_of raw in
     subst (λ ls. IsFirstBreakIfAny (HasAllowedPolicy flow) ls line) (are_lines ∙ of_draft.of_parts.lines_of_nodes)
     (first_break_same (HasAllowedPolicy (capped_flow flow)) (HasAllowedPolicy flow) (HasAllowedPolicy-capped flow) lines line
-    (first (capped_flow flow) ((made_of draft raw of_draft).nodes ∙ sym are_nodes)))
+    (first (capped_flow flow) ((made_of draft raw of_draft).of_nodes ∙ sym are_nodes)))
 
-pub walks_right : {E : Type 0} (draft : Draft) (raw : List Declared) → IsDraftOf draft raw → (r : Result Bool E) (nodes : List Node) (links : List Link)
-    → nodes ≡ draft.parts.nodes.items → links ≡ draft.links.items
-    → ((flow : Dataflow) → IsMadeOf flow nodes links → IfOk r (λ b. OnTrue b (AreWalksRight flow))) → IfOk r (λ b. b ≡ true → AreWalksRight (flow_of raw))
-walks_right draft raw of_draft (Ok true) nodes links are_nodes are_links right = λ e.
-    AreWalksRight-capped (flow_of raw) (right (capped_flow (flow_of raw)) (made_of_lists draft raw of_draft nodes links are_nodes are_links))
-walks_right draft raw of_draft (Ok false) nodes links are_nodes are_links right = λ e. absurd (false≢true e)
-walks_right draft raw of_draft (Err fault) nodes links are_nodes are_links right = tt
+pub walks_right : {E : Type 0} (draft : Draft) (raw : List Declared) → IsDraftOf draft raw → (r : Result Bool E) (loops : List Loop) (nodes : List Node) (links : List Link)
+    → AreListsOf draft loops nodes links
+    → ((flow : Dataflow) → IsMadeOf flow loops nodes links → IfOk r (λ b. OnTrue b (AreWalksRight flow))) → IfOk r (λ b. b ≡ true → AreWalksRight (flow_of raw))
+walks_right draft raw of_draft (Ok true) loops nodes links are right = λ e.
+    AreWalksRight-capped (flow_of raw) (right (capped_flow (flow_of raw)) (made_of_lists draft raw of_draft loops nodes links are))
+walks_right draft raw of_draft (Ok false) loops nodes links are right = λ e. absurd (false≢true e)
+walks_right draft raw of_draft (Err fault) loops nodes links are right = tt
 
-pub walk_wrong : {E : Type 0} (draft : Draft) (raw : List Declared) → IsDraftOf draft raw → (r : Result Bool E) (nodes : List Node) (links : List Link)
-    → nodes ≡ draft.parts.nodes.items → links ≡ draft.links.items
-    → ((flow : Dataflow) → IsMadeOf flow nodes links → IfOk r (λ b. OnFalse b (IsWalkWrong flow))) → IfOk r (λ b. b ≡ false → IsWalkWrong (flow_of raw))
-walk_wrong draft raw of_draft (Ok true) nodes links are_nodes are_links wrong = λ e. absurd (true≢false e)
-walk_wrong draft raw of_draft (Ok false) nodes links are_nodes are_links wrong = λ e.
-    IsWalkWrong-capped (flow_of raw) (wrong (capped_flow (flow_of raw)) (made_of_lists draft raw of_draft nodes links are_nodes are_links))
-walk_wrong draft raw of_draft (Err fault) nodes links are_nodes are_links wrong = tt
+-- where the edges join domains, the links of the flow with its sizes capped do
+joins-capped : (draft : Draft) (raw : List Declared) → IsDraftOf draft raw → (links : List Link) → links ≡ draft.links.items → KeepsRule raw F5
+    → HoldsBelow (JoinsDomains (capped_flow (flow_of raw))) (length links)
+joins-capped draft raw of_draft links are joins = λ e lt.
+    let count = ap length are ∙ count_of_edges (record { of_parts = of_draft.of_parts; of_links = of_draft.of_links }) in
+    (JoinsDomains-capped (flow_of raw) e).1 (joins e (omega (arith, count, length-edge_lines raw, lt)))
+
+pub walk_wrong : {E : Type 0} (draft : Draft) (raw : List Declared) → IsDraftOf draft raw → (r : Result Bool E) (loops : List Loop) (nodes : List Node) (links : List Link)
+    → AreListsOf draft loops nodes links → KeepsRule raw F5
+    → ((flow : Dataflow) → IsMadeOf flow loops nodes links → HoldsBelow (JoinsDomains flow) (length links) → IfOk r (λ b. OnFalse b (IsWalkWrong flow)))
+    → IfOk r (λ b. b ≡ false → IsWalkWrong (flow_of raw))
+walk_wrong draft raw of_draft (Ok true) loops nodes links are joins wrong = λ e. absurd (true≢false e)
+walk_wrong draft raw of_draft (Ok false) loops nodes links are joins wrong = λ e.
+    IsWalkWrong-capped (flow_of raw)
+    (wrong (capped_flow (flow_of raw)) (made_of_lists draft raw of_draft loops nodes links are) (joins-capped draft raw of_draft links are.of_links joins))
+walk_wrong draft raw of_draft (Err fault) loops nodes links are joins wrong = tt
 
 pub borders_same : (draft : Draft) (raw : List Declared) → IsDraftOf draft raw → (b : Bool) (nodes : List Node) → nodes ≡ draft.parts.nodes.items
     → ((flow : Dataflow) → flow.nodes ≡ nodes → (b ≡ true) ↔ HasBorders flow) → (b ≡ true) ↔ HasBorders (flow_of raw)
 borders_same draft raw of_draft b nodes are_nodes same =
-    let here = same (capped_flow (flow_of raw)) ((made_of draft raw of_draft).nodes ∙ sym are_nodes) in
+    let here = same (capped_flow (flow_of raw)) ((made_of draft raw of_draft).of_nodes ∙ sym are_nodes) in
     let capped = HasBorders-capped (flow_of raw) in
     (λ e. capped.0 (here.0 e), λ h. here.1 (capped.1 h))
 
@@ -259,18 +292,18 @@ flow_of_draft draft raw of_draft wf =
 -- the declarations of a draft that breaks no rule are those of its flow
 pub IsChecked-from_draft : (draft : Draft) (raw : List Declared) → IsDraftOf draft raw → KeepsRule raw F3 → LaterRulesHold raw → IsChecked raw (drafted draft)
 IsChecked-from_draft draft raw of_draft names all =
-    let wf = IsWellFormed-from_rules raw names all.degrees all.domains all.walks all.policies all.limits all.borders in
+    let wf = IsWellFormed-from_rules raw names all.chains all.degrees all.domains all.walks all.policies all.limits all.borders in
     record { well_formed = wf; value = flow_of_draft draft raw of_draft wf }
 
 node_named : (loops : List (List ℕ)) (line : ℕ) (d : Declaration)
     → map (λ (n : Node). n.name) (node_in loops (record { line = line; declaration = d })) ≡ node_name (record { line = line; declaration = d })
-node_named loops line (ALoop name max) = refl
+node_named loops line (ALoop name max parent) = refl
 node_named loops line (ANode name kind policy) = refl
 node_named loops line (AnEdge name s r) = refl
 
 edge_named : (nodes : List (List ℕ)) (line : ℕ) (d : Declaration)
     → map (λ (e : Edge). e.name) (edge_in nodes (record { line = line; declaration = d })) ≡ edge_name (record { line = line; declaration = d })
-edge_named nodes line (ALoop name max) = refl
+edge_named nodes line (ALoop name max parent) = refl
 edge_named nodes line (ANode name kind policy) = refl
 edge_named nodes line (AnEdge name s r) = refl
 

@@ -305,9 +305,9 @@ IsReachOf-from_visited links onward node marks waiting none lists v = record {
 
 -- a link back from a reached node closes a walk
 pub Path-from_back : (links : List Link) (n node : ℕ) (marks : List Bool) → AreWithin n links → node < n → IsReachOf links node marks → LeadsBack links marks node
-    → Path (graph_of links []) node node
+    → Path (graph_of links) node node
 Path-from_back links n node marks within inside reached back =
-    let g = graph_of links [] in
+    let g = graph_of links in
     let source_in = reached.only (λ q. (node == q) || reach g n node q)
     (λ e lt h. or_right (node == (link_at links e).receiver) (reach g n node (link_at links e).receiver) (reach-past g n e node lt refl (within.senders e lt) h))
     (or_left (node == node) (reach g n node node) (eq-eqb node node refl))
@@ -316,17 +316,17 @@ Path-from_back links n node marks within inside reached back =
     (subst (λ x. reach g n node x ≡ true) back.3 (reach-past g n back.0 node back.1 refl (within.senders back.0 back.1) source_in))
 
 back_from_path : (links : List Link) (marks : List Bool) → IsClosedUnder links (length links) (is_marked marks)
-    → (p e : ℕ) (es : List ℕ) (q : ℕ) → IsPath (graph_of links []) p (e ∷ es) q → is_marked marks p ≡ true → LeadsBack links marks q
+    → (p e : ℕ) (es : List ℕ) (q : ℕ) → IsPath (graph_of links) p (e ∷ es) q → is_marked marks p ≡ true → LeadsBack links marks q
 back_from_path links marks closed p e [] q h marked = (e, h.0, subst (λ x. is_marked marks x ≡ true) (sym h.2) marked, h.3)
 back_from_path links marks closed p e (f ∷ fs) q h marked =
     back_from_path links marks closed (link_at links e).receiver f fs q h.3
     (closed e h.0 (subst (λ x. is_marked marks x ≡ true) (sym h.2) marked))
 
 back_from_list : (links : List Link) (marks : List Bool) → IsClosedUnder links (length links) (is_marked marks)
-    → (p : ℕ) (es : List ℕ) (q : ℕ) → 0 < length es → IsPath (graph_of links []) p es q → is_marked marks p ≡ true → LeadsBack links marks q
+    → (p : ℕ) (es : List ℕ) (q : ℕ) → 0 < length es → IsPath (graph_of links) p es q → is_marked marks p ≡ true → LeadsBack links marks q
 back_from_list links marks closed p [] q some h marked = absurd (omega arith)
 back_from_list links marks closed p (e ∷ es) q some h marked = back_from_path links marks closed p e es q h marked
 
 -- a closed walk comes back over a link from a reached node
-pub LeadsBack-from_Path : (links : List Link) (node : ℕ) (marks : List Bool) → IsReachOf links node marks → Path (graph_of links []) node node → LeadsBack links marks node
+pub LeadsBack-from_Path : (links : List Link) (node : ℕ) (marks : List Bool) → IsReachOf links node marks → Path (graph_of links) node node → LeadsBack links marks node
 LeadsBack-from_Path links node marks reached path = back_from_list links marks reached.closed node path.edges node path.some path.path reached.start

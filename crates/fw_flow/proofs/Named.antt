@@ -16,7 +16,7 @@ with_names names raw = spaces (names.loops ++ loop_names raw) (names.nodes ++ no
 
 with_one : (names : NameSpaces) (line : ℕ) (d : Declaration)
     → with_names names (record { line = line; declaration = d } ∷ []) ≡ with_name names d
-with_one names line (ALoop name max) =
+with_one names line (ALoop name max parent) =
     ap (λ x. spaces (names.loops ++ name ∷ []) x (names.edges ++ [])) (append-nil names.nodes) ∙ ap (λ x. spaces (names.loops ++ name ∷ []) names.nodes x) (append-nil names.edges)
 with_one names line (ANode name kind policy) =
     ap (λ x. spaces x (names.nodes ++ name ∷ []) (names.edges ++ [])) (append-nil names.loops) ∙ ap (λ x. spaces names.loops (names.nodes ++ name ∷ []) x) (append-nil names.edges)

@@ -25,12 +25,12 @@ use Rattle.fw_flow.specs.declared.kind.Kind.TheVariants.{Enter, Feedback, Leave,
 use Rattle.fw_flow.specs.declared.projection.Way.{Way}
 use Rattle.fw_flow.specs.declared.projection.Way.TheVariants.{First, Next, NextAfterFirst, Before, Outer, OuterOfFirst}
 use Rattle.fw_flow.specs.Projection.{sent_count, phi, IsSentTable, first_coordinate, each_counter, some_counter, phi_of_kind, psi_of_kind, psi_back_of_kind, table_count}
-use Rattle.fw_flow.specs.ProjectedStamps.{AreDomainsOf, IsNest, image, images, entered_outside, front_until}
+use Rattle.fw_flow.specs.ProjectedStamps.{AreDomainsOf, MayGo, image, images, entered_outside, front_until}
 use Rattle.fw_flow.specs.declared.event.Event.{Event}
 use Rattle.fw_flow.specs.declared.kind.Kind.{Kind}
 use Rattle.fw_flow.specs.declared.kind.Domain.{Domain}
-use Rattle.fw_flow.specs.declared.kind.Domain.TheVariants.{Epoch, Number, Loop as InLoop}
-use Rattle.fw_flow.specs.Dataflow.{System, Dataflow, kind_of, sender, max_of, greatest_number, domain_of_kind, out_domain_of_kind, greatest_of, greatest_of_kind, bounds_of_domain}
+use Rattle.fw_flow.specs.Dataflow.{System, Dataflow, kind_of, sender, max_of, greatest_number, parent_of, domain_of_kind, out_domain_of_kind, greatest_of, greatest_of_kind, bounds_of_domain}
+use Rattle.fw_flow.proofs.Chains.{outer_greatest, greatest-unfold, greatest-length, parent-few}
 use Rattle.fw_flow.specs.WellFormed.{IsGroupSize}
 
 some-is : (s t : Stamp) → Some s ≡ Some t → s ≡ t
@@ -418,39 +418,60 @@ receiver-greatest d = ap (λ b. b.greatest) d.of_receiver
 
 -- those that an enter joins
 enter-domains : {l : ℕ} {s r : Bounds} → (d : AreDomainsOf (Enter l) s r) → r.greatest ≡ nest s.greatest (max_of d.flow l)
-enter-domains {l} d = receiver-greatest d ∙ ap (λ b. nest b (max_of d.flow l)) (sym (sender-greatest d))
+enter-domains {l} d = receiver-greatest d ∙ greatest-unfold d.flow l ∙ ap (λ b. nest b (max_of d.flow l)) (sym (sender-greatest d))
 
 -- those that a leave joins
 leave-domains : {l : ℕ} {s r : Bounds} → AreDomainsOf (Leave l) s r → s.greatest ≡ nest r.greatest (counter s.greatest)
-leave-domains d = sender-greatest d ∙ (λ i. nest (sym (receiver-greatest d) i) (sym (ap counter (sender-greatest d)) i))
+leave-domains {l} {s} {r} d =
+    let own : s.greatest ≡ nest r.greatest (max_of d.flow l) =
+    sender-greatest d ∙ greatest-unfold d.flow l ∙ ap (λ b. nest b (max_of d.flow l)) (sym (receiver-greatest d)) in
+    own ∙ ap (nest r.greatest) (sym (ap counter own ∙ counter-nest r.greatest (max_of d.flow l)))
 
 -- those that a feedback joins
-feedback-domains : {l : ℕ} {s r : Bounds} → AreDomainsOf (Feedback l) s r
-    → (s.greatest ≡ nest (greatest_number ∷ []) (counter s.greatest)) × (r.greatest ≡ nest (greatest_number ∷ []) (counter s.greatest))
-feedback-domains d =
-    let same = ap (nest (greatest_number ∷ [])) (sym (ap counter (sender-greatest d))) in
+feedback-domains : {l : ℕ} {s r : Bounds} → (d : AreDomainsOf (Feedback l) s r)
+    → (s.greatest ≡ nest (outer_greatest d.flow l) (counter s.greatest)) × (r.greatest ≡ nest (outer_greatest d.flow l) (counter s.greatest))
+feedback-domains {l} d =
+    let b = outer_greatest d.flow l in
+    let same = ap (nest b) (sym (ap counter (sender-greatest d) ∙ counter-nest b (max_of d.flow l))) in
     (sender-greatest d ∙ same, receiver-greatest d ∙ same)
 
--- each domain has one to three coordinates
-IsNest-greatest : (flow : Dataflow) (d : Domain) → IsNest (greatest_of flow d)
-IsNest-greatest flow Epoch = (omega arith, omega arith)
-IsNest-greatest flow Number = (omega arith, omega arith)
-IsNest-greatest flow (InLoop l) = (omega arith, omega arith)
+-- stamps of a domain have some coordinate
+somes : (b : Bounds) (os : Front) → 0 < length b.greatest → AreIn b os → AllByRecursion (λ o. 0 < length o) os
+somes b [] some h = tt
+somes b (o ∷ os) some h = let l = leq-length o b.greatest h.0 in (omega (arith, l), somes b os some h.1)
 
--- so its stamps may be nested
-nests : (b : Bounds) (os : Front) → IsNest b.greatest → AreIn b os → AllByRecursion IsNest os
+some-greatest : (flow : Dataflow) (d : Domain) → 0 < length (greatest_of flow d)
+some-greatest flow d = let n = greatest-length flow d in omega arith
+
+pub somes-sender : {kind : Kind} {s r : Bounds} → AreDomainsOf kind s r → (os : Front) → IsCanonical s os → AllByRecursion (λ o. 0 < length o) os
+somes-sender {kind} {s} d os h =
+    somes s os (subst (λ (g : Stamp). 0 < length g) (sym (sender-greatest d)) (some-greatest d.flow (domain_of_kind d.flow kind))) (in_domain-canonical s os h)
+
+pub somes-receiver : {kind : Kind} {s r : Bounds} → AreDomainsOf kind s r → (os : Front) → IsCanonical r os → AllByRecursion (λ o. 0 < length o) os
+somes-receiver {kind} {r = r} d os h =
+    somes r os (subst (λ (g : Stamp). 0 < length g) (sym (receiver-greatest d)) (some-greatest d.flow (out_domain_of_kind d.flow kind))) (in_domain-canonical r os h)
+
+-- those of a domain of one to three coordinates may get a counter
+nests : (b : Bounds) (os : Front) → MayGo First b.greatest → AreIn b os → AllByRecursion (MayGo First) os
 nests b [] n h = tt
 nests b (o ∷ os) n h =
     let l = leq-length o b.greatest h.0 in
     ((omega (arith, l, n.0), omega (arith, l, n.1)), nests b os n h.1)
 
-pub nests-sender : {kind : Kind} {s r : Bounds} → AreDomainsOf kind s r → (os : Front) → IsCanonical s os → AllByRecursion IsNest os
-nests-sender {kind} {s} d os h =
-    nests s os (subst IsNest (sym (sender-greatest d)) (IsNest-greatest d.flow (domain_of_kind d.flow kind))) (in_domain-canonical s os h)
+nest-parent : (flow : Dataflow) (l : ℕ) → MayGo First (greatest_of flow (parent_of flow l))
+nest-parent flow l =
+    let n = greatest-length flow (parent_of flow l) in
+    let few = parent-few flow l in
+    (omega arith, omega arith)
 
-pub nests-receiver : {kind : Kind} {s r : Bounds} → AreDomainsOf kind s r → (os : Front) → IsCanonical r os → AllByRecursion IsNest os
-nests-receiver {kind} {r = r} d os h =
-    nests r os (subst IsNest (sym (receiver-greatest d)) (IsNest-greatest d.flow (out_domain_of_kind d.flow kind))) (in_domain-canonical r os h)
+pub nest-enter : {l : ℕ} {s r : Bounds} → AreDomainsOf (Enter l) s r → MayGo First s.greatest
+nest-enter {l} d = subst (MayGo First) (sym (sender-greatest d)) (nest-parent d.flow l)
+
+pub nests-enter : {l : ℕ} {s r : Bounds} → AreDomainsOf (Enter l) s r → (os : Front) → IsCanonical s os → AllByRecursion (MayGo First) os
+nests-enter {s = s} d os h = nests s os (nest-enter d) (in_domain-canonical s os h)
+
+pub nests-leave : {l : ℕ} {s r : Bounds} → AreDomainsOf (Leave l) s r → (os : Front) → IsCanonical r os → AllByRecursion (MayGo First) os
+nests-leave {l} {r = r} d os h = nests r os (subst (MayGo First) (sym (receiver-greatest d)) (nest-parent d.flow l)) (in_domain-canonical r os h)
 
 -- ---- phi, psi and psi backwards through a loop
 
@@ -495,7 +516,7 @@ pub phi-feedback : {l : ℕ} {s r : Bounds} → AreDomainsOf (Feedback l) s r �
     → IsMoved (Next (counter s.greatest)) os r (λ u. counter u == 0 || frontier_of s os (nest (outer u) (counter u - 1)))
 phi-feedback {l} {s} {r} d os h =
     let e = feedback-domains d in
-    next-moved s r (greatest_number ∷ []) (counter s.greatest) os e.0 e.1 (in_domain-canonical s os h)
+    next-moved s r (outer_greatest d.flow l) (counter s.greatest) os e.0 e.1 (in_domain-canonical s os h)
 
 pub phi-leave : {l : ℕ} {s r : Bounds} → AreDomainsOf (Leave l) s r → (os : Front) → IsCanonical s os
     → IsMoved Outer os r (λ u. each_counter (frontier_of s os) u (counter s.greatest))
@@ -509,7 +530,7 @@ pub psi-feedback : {l : ℕ} {s r : Bounds} → AreDomainsOf (Feedback l) s r �
     → IsMoved (NextAfterFirst (counter s.greatest)) os r (psi_of_kind s.greatest (Feedback l) (frontier_of s os))
 psi-feedback {l} {s} {r} d os h =
     let e = feedback-domains d in
-    next_after_first-moved s r (greatest_number ∷ []) (counter s.greatest) os e.0 e.1 (in_domain-canonical s os h)
+    next_after_first-moved s r (outer_greatest d.flow l) (counter s.greatest) os e.0 e.1 (in_domain-canonical s os h)
 
 pub psi-leave : {l : ℕ} {s r : Bounds} → AreDomainsOf (Leave l) s r → (os : Front) → IsCanonical s os → IsMoved OuterOfFirst os r (psi_of_kind s.greatest (Leave l) (frontier_of s os))
 psi-leave {l} {s} {r} d os h =
@@ -524,7 +545,7 @@ psi_back-enter {l} {s} {r} d os h = outer_of_first-moved r s (max_of d.flow l) o
 pub psi_back-feedback : {l : ℕ} {s r : Bounds} → AreDomainsOf (Feedback l) s r → (os : Front) → IsCanonical r os → IsMoved Before os s (psi_back_of_kind s.greatest (Feedback l) (frontier_of r os))
 psi_back-feedback {l} {s} {r} d os h =
     let e = feedback-domains d in
-    before-moved s r (greatest_number ∷ []) (counter s.greatest) os e.0 e.1 (in_domain-canonical r os h)
+    before-moved s r (outer_greatest d.flow l) (counter s.greatest) os e.0 e.1 (in_domain-canonical r os h)
 
 pub psi_back-leave : {l : ℕ} {s r : Bounds} → AreDomainsOf (Leave l) s r → (os : Front) → IsCanonical r os → IsMoved First os s (psi_back_of_kind s.greatest (Leave l) (frontier_of r os))
 psi_back-leave {l} {s} {r} d os h = first-moved r s (counter s.greatest) os (leave-domains d) (in_domain-canonical r os h)

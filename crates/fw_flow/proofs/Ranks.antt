@@ -1,13 +1,11 @@
 -- Ranks of a graph's nodes by counting the nodes that reach them, and the ranks of a dataflow's nodes.
-use Rattle.std.proofs.Common.{◌≡◌, ℕ, zero, suc, ◌+◌, ◌<◌, ◌≤◌, ◌⊎◌, inl, inr, Bool, true, false, not, ◌&&◌, ◌||◌, ◌==◌, cond, List, [], ◌∷◌, length, Option, Some, None, refl, sym, ap, ◌∙◌, subst, arith}
+use Rattle.std.proofs.Common.{◌≡◌, ℕ, zero, suc, ◌+◌, ◌<◌, ◌≤◌, ◌⊎◌, inl, inr, Bool, true, false, not, ◌&&◌, ◌||◌, ◌==◌, cond, List, [], ◌∷◌, length, refl, sym, ap, ◌∙◌, subst, arith}
 use Rattle.std.proofs.lemmas.Bool.{or_cases, or_left, or_right, and_parts, and_from, eqb-true, eq-eqb, cases_Bool, cases_lt, false_from_ne_true, true≢false, false≢true, not-true, not_from_false}
-use Rattle.fw_flow.specs.declared.kind.Domain.TheVariants.{Loop as InLoop}
 use Rattle.fw_flow.specs.declared.kind.Kind.{Kind}
-use Rattle.fw_flow.specs.declared.kind.Kind.TheVariants.{Input, OutputEpoch, OutputNumber, Select, Concat, Distinct, Join, Sum, Enter, Feedback, Leave, Total, Sequence, Ledger, Regroup}
-use Rattle.fw_flow.specs.Dataflow.{Dataflow, kind_of, sender, receiver, domain_of, domain_of_kind, out_domain_of_kind, domain_within}
-use Rattle.fw_flow.specs.WellFormed.{IsWalk, IsClosedWalk, Passes, IsWellFormed, is_feedback_kind, is_enter_kind}
-use Rattle.fw_flow.specs.Walks.{Graph, IsPath, Path, is_same_loop, is_looped, RanksExist}
-use Rattle.fw_flow.proofs.Reach.{reach, reach-join, reach-from_edge, Path-from_reach}
+use Rattle.fw_flow.specs.Dataflow.{Dataflow, kind_of, sender, receiver}
+use Rattle.fw_flow.specs.WellFormed.{IsWalk, IsClosedWalk, Passes}
+use Rattle.fw_flow.specs.Walks.{Graph, IsPath, Path}
+use Rattle.fw_flow.proofs.Reach.{reach, reach-join, reach-from_edge}
 
 -- ---- counts of the numbers below n that pass a test
 
@@ -162,93 +160,5 @@ path_or_passes flow sort p (e ∷ es) q h =
           ]
     ]
 
--- ---- the nodes of closed walks
-
--- outside loops or within one, the domain and the out domain are one
-within_loop : (w : Option ℕ) (l : ℕ) → domain_within w ≡ InLoop l → (domain_within w ≡ InLoop l) × (is_same_loop (domain_within w) (domain_within w) ≡ true)
-within_loop None l e = absurd (cc)
-within_loop (Some k) l e = (e, eq-eqb k k refl)
-
--- where a kind that is no enter sends into a loop, it stands in that loop
-looped_kind : (flow : Dataflow) (k : Kind) (l : ℕ) → is_enter_kind k ≡ false → out_domain_of_kind flow k ≡ InLoop l
-    → (domain_of_kind flow k ≡ InLoop l) × (is_same_loop (domain_of_kind flow k) (out_domain_of_kind flow k) ≡ true)
-looped_kind flow Input l h e = absurd (cc)
-looped_kind flow OutputEpoch l h e = absurd (cc)
-looped_kind flow OutputNumber l h e = absurd (cc)
-looped_kind flow (Select selection w) l h e = within_loop w l e
-looped_kind flow (Concat w) l h e = within_loop w l e
-looped_kind flow (Distinct w) l h e = within_loop w l e
-looped_kind flow (Join w) l h e = within_loop w l e
-looped_kind flow (Sum w) l h e = within_loop w l e
-looped_kind flow (Enter k) l h e = absurd (true≢false h)
-looped_kind flow (Feedback k) l h e = (e, eq-eqb k k refl)
-looped_kind flow (Leave k) l h e = absurd (cc)
-looped_kind flow Total l h e = absurd (cc)
-looped_kind flow Sequence l h e = absurd (cc)
-looped_kind flow Ledger l h e = absurd (cc)
-looped_kind flow (Regroup n) l h e = absurd (cc)
-
--- a feedback stands in its loop
-feedback_kind : (flow : Dataflow) (k : Kind) → is_feedback_kind k ≡ true
-    → (l : ℕ) × (domain_of_kind flow k ≡ InLoop l) × (is_same_loop (domain_of_kind flow k) (out_domain_of_kind flow k) ≡ true)
-feedback_kind flow (Feedback l) h = (l, refl, eq-eqb l l refl)
-feedback_kind flow k h = absurd (false≢true h)
-
--- the node is looped, in some loop
-abbrev pub StandsInLoop : Dataflow → ℕ → Type 0
-StandsInLoop flow p = (l : ℕ) × (domain_of flow p ≡ InLoop l) × (is_looped flow p ≡ true)
-
--- a walk that passes a feedback and no enter begins in a loop
-pub begins_in_loop : (flow : Dataflow) → IsWellFormed flow → (p : ℕ) (es : List ℕ) (q : ℕ) → IsWalk flow p es q
-    → Passes flow is_feedback_kind es → (Passes flow is_enter_kind es → ⊥) → StandsInLoop flow p
-begins_in_loop flow well p [] q h passes no_enter = absurd passes
-begins_in_loop flow well p (e ∷ es) q h (inl here) no_enter =
-    subst (StandsInLoop flow) h.1 (feedback_kind flow (kind_of flow (sender flow e)) here)
-begins_in_loop flow well p (e ∷ es) q h (inr later) no_enter =
-    let next = begins_in_loop flow well (receiver flow e) es q h.2 later (λ x. no_enter (inr x)) in
-    let here = looped_kind flow (kind_of flow (sender flow e)) next.0
-    (false_from_ne_true (is_enter_kind (kind_of flow (sender flow e))) (λ x. no_enter (inl x)))
-    (well.domains e h.0 ∙ next.1) in
-    subst (StandsInLoop flow) h.1 (next.0, here.0, here.1)
-
--- ---- the ranks of a well-formed dataflow
-
 pub IsClosedWalk-from_Path : (flow : Dataflow) (sort : Kind → Bool) (p : ℕ) (path : Path (flow_graph flow sort) p p) → IsClosedWalk flow p path.edges
 IsClosedWalk-from_Path flow sort p path = record { some = path.some; walk = IsWalk-from_path flow sort p path.edges p path.path }
-
-acyclic_but_feedback : (flow : Dataflow) → IsWellFormed flow → IsAcyclic (flow_graph flow is_feedback_kind) (length flow.nodes)
-acyclic_but_feedback flow well p lt =
-    false_from_ne_true (reach (flow_graph flow is_feedback_kind) (length flow.nodes) p p)
-    (λ h.
-    let path = Path-from_reach (flow_graph flow is_feedback_kind) (length flow.nodes) p p h in
-    Passes-not_path flow is_feedback_kind p path.edges p path.path (well.feedback p path.edges (IsClosedWalk-from_Path flow is_feedback_kind p path)))
-
-looped_if_again : (flow : Dataflow) → IsWellFormed flow → (p : ℕ) → reach (flow_graph flow no_kind) (length flow.nodes) p p ≡ true → is_looped flow p ≡ true
-looped_if_again flow well p h =
-    let path = Path-from_reach (flow_graph flow no_kind) (length flow.nodes) p p h in
-    let closed = IsClosedWalk-from_Path flow no_kind p path in
-    (begins_in_loop flow well p path.edges p closed.walk (well.feedback p path.edges closed) (well.no_enter p path.edges closed)).2
-
--- each well-formed dataflow has ranks
-pub ranks-exist : RanksExist
-ranks-exist flow well =
-    let n = length flow.nodes in
-    record {
-      rho = rank (flow_graph flow is_feedback_kind) n;
-      lambda = level (flow_graph flow no_kind) (λ p. not (is_looped flow p)) n;
-      within_rounds = record {
-        bound = λ p lt. rank-bound (flow_graph flow is_feedback_kind) n p (acyclic_but_feedback flow well) lt;
-        rises = λ e lt h.
-            rank-rises (flow_graph flow is_feedback_kind) n e (acyclic_but_feedback flow well) lt
-            (not_from_false (is_feedback_kind (kind_of flow (sender flow e))) h) (well.senders_declared e lt);
-      };
-      of_loops = record {
-        bound = λ p lt. level-bound (flow_graph flow no_kind) (λ q. not (is_looped flow q)) n p;
-        keeps = λ e lt. level-keeps (flow_graph flow no_kind) (λ q. not (is_looped flow q)) n e lt refl (well.senders_declared e lt);
-        rises = λ e lt h.
-            level-rises (flow_graph flow no_kind) (λ q. not (is_looped flow q)) n e lt refl (well.senders_declared e lt) (well.receivers_declared e lt)
-            (not_from_false (is_looped flow (receiver flow e)) h)
-            (false_from_ne_true (reach (flow_graph flow no_kind) n (receiver flow e) (receiver flow e))
-            (λ again. false≢true (sym h ∙ looped_if_again flow well (receiver flow e) again)));
-      };
-    }

@@ -1,14 +1,15 @@
 -- The tests of the rules, place by place.
-use Rattle.std.proofs.Common.{◌≡◌, ◌↔◌, ℕ, zero, suc, ◌<◌, Bool, true, List, [], ◌∷◌, length, sym, ap, ◌∙◌, subst, arith, get_or, inl, inr}
+use Rattle.std.proofs.Common.{◌≡◌, ◌↔◌, ℕ, zero, suc, ◌<◌, Bool, true, List, [], ◌∷◌, length, sym, ap, ◌∙◌, subst, arith, get_or, inl, inr, Some, None}
 use Rattle.std.proofs.lemmas.Bool.{or_cases, or_left, or_right, false≢true}
 use Rattle.std.proofs.lemmas.List.{get_or_default}
 use Rattle.std.proofs.lemmas.Option.{slice_get-get_or}
 use Rattle.std.specs.List.{list_any}
 use Rattle.fw_flow.specs.declared.kind.Kind.{Kind}
+use Rattle.fw_flow.specs.declared.node.Loop.{Loop}
 use Rattle.fw_flow.specs.declared.node.Node.{Node}
 use Rattle.fw_flow.specs.declared.walks.Link.{Link}
 use Rattle.fw_flow.specs.Check.{HoldsBelow, IsFirstBreak, JoinsDomains, HasAllowedPolicy, HasNodeOf}
-use Rattle.fw_flow.specs.Dataflow.{Dataflow, idle_node, kind_of, policy_of, sender, receiver, domain_of_kind, out_domain_of_kind}
+use Rattle.fw_flow.specs.Dataflow.{Dataflow, idle_node, declared_parent, ends_within, kind_of, policy_of, sender, receiver, domain_of_kind, out_domain_of_kind}
 use Rattle.fw_flow.specs.Walks.{AreWithin, IsMadeOf, link_at, listed_kind}
 use Rattle.fw_flow.specs.WellFormed.{IsInDegree, IsOutDegree, IsPolicyAllowed}
 use Rattle.std.specs.declared.alloc.Global.{Global}
@@ -47,20 +48,30 @@ HasAllowedPolicy-at_node flow nodes e p node is lt h =
     let parts = policies_of flow nodes e p node is lt in
     subst (IsPolicyAllowed node.kind) parts.1 (subst (λ k. IsPolicyAllowed k (policy_of flow p)) parts.0 h)
 
+-- ---- chains
+
+-- the chain from a loop is short where that from its parent is
+pub chain_at : (flow : Dataflow) (loops : List Loop) → flow.loops ≡ loops → (l : ℕ) (a_loop : Loop) → a_loop ≡ get_or loops l a_loop → l < length loops
+    → ends_within 3 flow (Some l) ≡ ends_within 2 flow a_loop.parent
+unfolding declared_parent
+chain_at flow loops e l a_loop is lt =
+    let past : Loop = record { name = []; max = 0; parent = None } in
+    ap (λ (x : Loop). ends_within 2 flow x.parent) (ap (λ ls. get_or ls l past) e ∙ get_or_default loops l past a_loop lt ∙ sym is)
+
 -- ---- domains
 
 -- an edge joins domains exactly where the kinds of the nodes of its link do
-pub JoinsDomains-iff_kinds : (flow : Dataflow) (nodes : List Node) (links : List Link) → IsMadeOf flow nodes links → AreWithin (length nodes) links → (e : ℕ) → e < length links
+pub JoinsDomains-iff_kinds : (flow : Dataflow) (loops : List Loop) (nodes : List Node) (links : List Link) → IsMadeOf flow loops nodes links → AreWithin (length nodes) links → (e : ℕ) → e < length links
     → (d₁ d₂ : Node)
     → (out_domain_of_kind flow (get_or nodes (link_at links e).sender d₁).kind ≡ domain_of_kind flow (get_or nodes (link_at links e).receiver d₂).kind) ↔ JoinsDomains flow e
-JoinsDomains-iff_kinds flow nodes links made within e lt d₁ d₂ =
-    let edges = edges_of flow nodes links made in
+JoinsDomains-iff_kinds flow loops nodes links made within e lt d₁ d₂ =
+    let edges = edges_of flow loops nodes links made in
     let s = (link_at links e).sender in
     let r = (link_at links e).receiver in
     let from : kind_of flow (sender flow e) ≡ (get_or nodes s d₁).kind =
-    ap (kind_of flow) (sym (edges.senders e lt)) ∙ kinds_of flow nodes links made s ∙ ap (λ (n : Node). n.kind) (get_or_default nodes s idle_node d₁ (within.senders e lt)) in
+    ap (kind_of flow) (sym (edges.senders e lt)) ∙ kinds_of flow loops nodes links made s ∙ ap (λ (n : Node). n.kind) (get_or_default nodes s idle_node d₁ (within.senders e lt)) in
     let to : kind_of flow (receiver flow e) ≡ (get_or nodes r d₂).kind =
-    ap (kind_of flow) (sym (edges.receivers e lt)) ∙ kinds_of flow nodes links made r ∙ ap (λ (n : Node). n.kind) (get_or_default nodes r idle_node d₂ (within.receivers e lt)) in (
+    ap (kind_of flow) (sym (edges.receivers e lt)) ∙ kinds_of flow loops nodes links made r ∙ ap (λ (n : Node). n.kind) (get_or_default nodes r idle_node d₂ (within.receivers e lt)) in (
       λ h. ap (out_domain_of_kind flow) from ∙ h ∙ ap (domain_of_kind flow) (sym to),
       λ h. ap (out_domain_of_kind flow) (sym from) ∙ h ∙ ap (domain_of_kind flow) to,
     )

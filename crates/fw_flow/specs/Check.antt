@@ -3,7 +3,7 @@ use Rattle.std.specs.Prelude.{◌≡◌, ◌⊎◌, ℕ, ◌^◌, ◌<◌, ◌�
 use Rattle.std.specs.List.{flat_map}
 use Rattle.std.specs.Option.{option_map_or}
 use Rattle.fw_lines.specs.declared.refusal.Code.{Code}
-use Rattle.fw_lines.specs.declared.refusal.Code.TheVariants.{F3, F4, F5, F6, F7, F8, F9}
+use Rattle.fw_lines.specs.declared.refusal.Code.TheVariants.{F3, F4, F5, F6, F7, F8, F9, F12}
 use Rattle.fw_lines.specs.declared.refusal.Refusal.{Refusal}
 use Rattle.fw_flow.specs.declared.kind.Kind.{Kind}
 use Rattle.fw_flow.specs.declared.raw.Declaration.{Declaration}
@@ -14,9 +14,9 @@ use Rattle.fw_flow.specs.declared.raw.RawKind.{RawKind}
 use Rattle.fw_flow.specs.declared.raw.RawKind.TheVariants.{Select, Concat, Distinct, Join, Sum, Enter, Feedback, Leave, Regroup}
 use Rattle.fw_flow.specs.Dataflow.{Dataflow, kind_of, policy_of, sender, receiver, in_edges, out_edges, domain_of, out_domain_of, is_input_kind, is_output_kind}
 use Rattle.fw_flow.specs.Names.{has_name}
-use Rattle.fw_flow.specs.Raw.{names_of, loop_names, node_names, edge_names, node_name, edge_name, flow_of}
-use Rattle.fw_flow.specs.Walks.{EachClosedWalkPasses, NoClosedWalkPasses, AvoidingWalk, PassingWalk}
-use Rattle.fw_flow.specs.WellFormed.{IsInDegree, IsOutDegree, IsPolicyAllowed, IsWellFormed, is_feedback_kind, is_enter_kind}
+use Rattle.fw_flow.specs.Raw.{names_of, loop_names, node_names, edge_names, loop_name, node_name, edge_name, flow_of}
+use Rattle.fw_flow.specs.Walks.{NoClosedWalkPasses, EachWalkWithinIsFedBack, SlippingWalk, PassingWalk}
+use Rattle.fw_flow.specs.WellFormed.{HasShortChain, IsInDegree, IsOutDegree, IsPolicyAllowed, IsWellFormed, is_outside_kind}
 
 -- ---- what each rule asks
 
@@ -32,9 +32,10 @@ loop_named (Feedback name) = Some name
 loop_named (Leave name) = Some name
 loop_named kind = None
 
--- whether what the declaration names is declared: the loop of a node's kind, the sender and the receiver of an edge
+-- whether what the declaration names is declared: the loop in which a loop is, the loop of a node's kind, the sender and the
+-- receiver of an edge
 abbrev pub are_names_declared : NameSpaces → Declaration → Bool
-are_names_declared names (ALoop name max) = true
+are_names_declared names (ALoop name max parent) = option_map_or (λ l. has_name l names.loops) parent true
 are_names_declared names (ANode name kind policy) = option_map_or (λ l. has_name l names.loops) (loop_named kind) true
 are_names_declared names (AnEdge name sender receiver) = has_name sender names.nodes && has_name receiver names.nodes
 
@@ -45,13 +46,15 @@ IsRawGroupSize kind = Unit {0}
 
 -- after these declarations there is room for one more, and its numbers are in range
 abbrev pub IsWithinLimitsAfter : List Declared → Declaration → Type 0
-IsWithinLimitsAfter before (ALoop name max) = (length (loop_names before) < 64) × (1 ≤ max) × (max ≤ 1024)
+IsWithinLimitsAfter before (ALoop name max parent) = (length (loop_names before) < 64) × (1 ≤ max) × (max ≤ 1024)
 IsWithinLimitsAfter before (ANode name kind policy) = (length (node_names before) < 256) × IsRawGroupSize kind
 IsWithinLimitsAfter before (AnEdge name sender receiver) = length (edge_names before) < 512
 
 -- F3, of the declaration at a place: what it names is declared
 abbrev pub NamesTheDeclared : List Declared → ℕ → Type 0
 NamesTheDeclared raw i = IfSome (slice_get raw i) (λ d. IsTrue (are_names_declared (names_of raw) d.declaration))
+
+-- F12, of a loop, is `HasShortChain`
 
 -- F4, of a node: it has as many in-edges as its kind wants, and no out-edge if it is an output
 abbrev pub HasItsDegrees : Dataflow → ℕ → Type 0
@@ -61,14 +64,15 @@ HasItsDegrees flow p = IsInDegree (kind_of flow p) (length (in_edges flow p)) ×
 abbrev pub JoinsDomains : Dataflow → ℕ → Type 0
 JoinsDomains flow e = out_domain_of flow (sender flow e) ≡ domain_of flow (receiver flow e)
 
--- F6: every closed walk passes a feedback, and none passes an enter
+-- F6: no closed walk passes a node outside loops, and for each loop, each closed walk through a node of its own domain that stays
+-- in it passes a feedback of it
 pub record AreWalksRight (flow : Dataflow) : Type 0 where
-  pub fed_back : EachClosedWalkPasses flow is_feedback_kind
-  pub never_entered : NoClosedWalkPasses flow is_enter_kind
+  pub in_loops : NoClosedWalkPasses flow (is_outside_kind flow)
+  pub fed_back : (l : ℕ) → EachWalkWithinIsFedBack flow l
 
--- a closed walk passes no feedback, or one passes an enter
+-- a closed walk passes a node outside loops, or one that stays in a loop passes no feedback of it
 abbrev pub IsWalkWrong : Dataflow → Type 0
-IsWalkWrong flow = AvoidingWalk flow is_feedback_kind ⊎ PassingWalk flow is_enter_kind
+IsWalkWrong flow = PassingWalk flow (is_outside_kind flow) ⊎ ((l : ℕ) × SlippingWalk flow l)
 
 -- F7, of a node: its policy is allowed for its kind
 abbrev pub HasAllowedPolicy : Dataflow → ℕ → Type 0
@@ -91,6 +95,10 @@ HasBorders flow = HasNodeOf flow is_input_kind × HasNodeOf flow is_output_kind
 -- the lines of the declarations
 abbrev pub all_lines : List Declared → List ℕ
 all_lines raw = map (λ d. d.line) raw
+
+-- the lines of the loops, in order
+abbrev pub loop_lines : List Declared → List ℕ
+loop_lines raw = flat_map (λ d. map (λ name. d.line) (loop_name d)) raw
 
 -- the lines of the nodes, in order
 abbrev pub node_lines : List Declared → List ℕ
@@ -126,6 +134,7 @@ KeepsRule raw F6 = AreWalksRight (flow_of raw)
 KeepsRule raw F7 = HoldsBelow (HasAllowedPolicy (flow_of raw)) (length (node_lines raw))
 KeepsRule raw F8 = HoldsBelow (StaysWithinLimits raw) (length (all_lines raw))
 KeepsRule raw F9 = HasBorders (flow_of raw)
+KeepsRule raw F12 = HoldsBelow (HasShortChain (flow_of raw)) (length (loop_lines raw))
 KeepsRule raw code = Unit {0}
 
 -- the rule of this code is broken, first on this line; line 0 stands for the flow as a whole
@@ -137,11 +146,12 @@ IsBroken raw F6 line = IsWalkWrong (flow_of raw) × (line ≡ 0)
 IsBroken raw F7 line = IsFirstBreak (HasAllowedPolicy (flow_of raw)) (node_lines raw) line
 IsBroken raw F8 line = IsFirstBreak (StaysWithinLimits raw) (all_lines raw) line
 IsBroken raw F9 line = (HasBorders (flow_of raw) → ⊥) × (line ≡ 0)
+IsBroken raw F12 line = IsFirstBreak (HasShortChain (flow_of raw)) (loop_lines raw) line
 IsBroken raw code line = ⊥
 
 -- the rules that are tested once the names are declared, in their order
 abbrev pub later_rules : List Code
-later_rules = F4 ∷ F5 ∷ F6 ∷ F7 ∷ F8 ∷ F9 ∷ []
+later_rules = F12 ∷ F4 ∷ F5 ∷ F6 ∷ F7 ∷ F8 ∷ F9 ∷ []
 
 -- the rules, in the order in which they are tested
 abbrev pub rules : List Code

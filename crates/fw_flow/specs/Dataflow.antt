@@ -1,5 +1,5 @@
 -- A dataflow as its lists of loops, nodes and edges, its batches, and how these are looked up.
-use Rattle.std.specs.Prelude.{◌≡◌, ℕ, ◌+◌, ◌-◌, ◌^◌, ◌≤◌, Bool, true, false, ◌==◌, if◌then◌else◌, List, [], ◌∷◌, length, Option, Some, None, slice_index_or, map}
+use Rattle.std.specs.Prelude.{◌≡◌, ℕ, zero, suc, ◌+◌, ◌-◌, ◌^◌, ◌≤◌, Bool, true, false, ◌||◌, ◌==◌, if◌then◌else◌, List, [], ◌∷◌, length, Option, Some, None, slice_index_or, map}
 use Rattle.std.specs.List.{range_with_len}
 use Rattle.fw_time.specs.Stamp.{Stamp, nest}
 use Rattle.fw_time.specs.declared.stamp.Bounds.{Bounds}
@@ -81,16 +81,58 @@ greatest_number = 2 ^ 32 - 1
 
 -- the greatest counter of a loop
 unfoldable pub max_of : Dataflow → ℕ → ℕ
-max_of flow l = (slice_index_or flow.loops l (record { name = []; max = 0 })).max
+max_of flow l = (slice_index_or flow.loops l (record { name = []; max = 0; parent = None })).max
 
--- the parent domain of a loop
-abbrev pub parent_of : Dataflow → ℕ → Domain
-parent_of flow l = Epoch
+-- the loop in which a loop is declared, if in any
+unfoldable pub declared_parent : Dataflow → ℕ → Option ℕ
+declared_parent flow l = (slice_index_or flow.loops l (record { name = []; max = 0; parent = None })).parent
+
+-- whether the chain of loops, each declared in the next, ends within so many
+abbrev pub ends_within : ℕ → Dataflow → Option ℕ → Bool
+ends_within n flow None = true
+ends_within zero flow (Some l) = false
+ends_within (suc n) flow (Some l) = ends_within n flow (declared_parent flow l)
 
 -- the domain of a node that stands outside loops or within one
 abbrev pub domain_within : Option ℕ → Domain
 domain_within None = Epoch
 domain_within (Some l) = InLoop l
+
+-- the parent domain of a loop: that of the loop in which it is declared; the epochs, where it is in none, and where its
+-- chain does not end within three
+unfoldable pub parent_of : Dataflow → ℕ → Domain
+parent_of flow l = if ends_within 3 flow (Some l) then domain_within (declared_parent flow l) else Epoch
+
+-- the loops that a domain lies in, the innermost first, at most so many
+abbrev pub loops_within : ℕ → Dataflow → Domain → List ℕ
+loops_within n flow Epoch = []
+loops_within n flow Number = []
+loops_within zero flow (InLoop l) = []
+loops_within (suc n) flow (InLoop l) = l ∷ loops_within n flow (parent_of flow l)
+
+-- the loops that a domain lies in, the innermost first
+unfoldable pub loops_of : Dataflow → Domain → List ℕ
+loops_of flow domain = loops_within 3 flow domain
+
+-- whether the domain is a loop's
+abbrev pub is_loop : Domain → Bool
+is_loop Epoch = false
+is_loop Number = false
+is_loop (InLoop l) = true
+
+-- whether the domain is this loop's own
+abbrev pub is_domain_of : ℕ → Domain → Bool
+is_domain_of l (InLoop k) = k == l
+is_domain_of l domain = false
+
+-- whether the loop is one of these
+abbrev pub is_one_of : List ℕ → ℕ → Bool
+is_one_of [] l = false
+is_one_of (k ∷ ks) l = (k == l) || is_one_of ks l
+
+-- whether the domain is the loop's own, or that of a loop within it
+abbrev pub is_within : Dataflow → ℕ → Domain → Bool
+is_within flow l domain = is_one_of (loops_of flow domain) l
 
 -- the domain of a kind: at which times its events are
 abbrev pub domain_of_kind : Dataflow → Kind → Domain
@@ -126,11 +168,16 @@ domain_of flow p = domain_of_kind flow (kind_of flow p)
 abbrev pub out_domain_of : Dataflow → ℕ → Domain
 out_domain_of flow p = out_domain_of_kind flow (kind_of flow p)
 
+-- the greatest stamp of the innermost of these loops, each in the next; the greatest epoch or number where there is none
+abbrev pub greatest_in : Dataflow → List ℕ → Stamp
+greatest_in flow [] = greatest_number ∷ []
+greatest_in flow (l ∷ ls) = nest (greatest_in flow ls) (max_of flow l)
+
 -- the greatest stamp of a domain
 abbrev pub greatest_of : Dataflow → Domain → Stamp
 greatest_of flow Epoch = greatest_number ∷ []
 greatest_of flow Number = greatest_number ∷ []
-greatest_of flow (InLoop l) = nest (greatest_number ∷ []) (max_of flow l)
+greatest_of flow (InLoop l) = nest (greatest_in flow (loops_of flow (parent_of flow l))) (max_of flow l)
 
 -- the greatest stamp of a kind's domain
 abbrev pub greatest_of_kind : Dataflow → Kind → Stamp

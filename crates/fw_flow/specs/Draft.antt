@@ -1,6 +1,6 @@
 -- For the proofs of src/draft.rt: a flow whose parts have their places, and whose rules are not tested yet.
 use Rattle.std.specs.Prelude.{◌≡◌, ℕ, List, length, map}
-use Rattle.fw_lines.specs.declared.refusal.Code.TheVariants.{F4, F5, F6, F7, F8, F9}
+use Rattle.fw_lines.specs.declared.refusal.Code.TheVariants.{F4, F5, F6, F7, F8, F9, F12}
 use Rattle.fw_flow.specs.declared.draft.Draft.{Draft}
 use Rattle.fw_flow.specs.declared.raw.Declared.{Declared}
 use Rattle.fw_flow.specs.Check.{KeepsRule}
@@ -13,6 +13,7 @@ use Rattle.fw_flow.specs.Walks.{AreWithin, link_of}
 -- the lists of a draft are as long as each other asks, and its links join its nodes
 pub record FitsTogether (draft : Draft) : Type 0 where
   pub within : AreWithin (length draft.parts.nodes.items) draft.links.items
+  pub lines_of_loops : length draft.parts.loop_lines.items ≡ length draft.parts.loops.items
   pub lines_of_nodes : length draft.parts.node_lines.items ≡ length draft.parts.nodes.items
   pub lines_of_edges : length draft.parts.edge_lines.items ≡ length draft.links.items
   pub lists_in : length draft.incoming.items ≡ length draft.parts.nodes.items
@@ -27,6 +28,7 @@ pub record IsDraftOf (draft : Draft) (raw : List Declared) : Type 0 where
 
 -- the rules that are tested once the names are declared hold
 pub record LaterRulesHold (raw : List Declared) : Type 0 where
+  pub chains : KeepsRule raw F12
   pub degrees : KeepsRule raw F4
   pub domains : KeepsRule raw F5
   pub walks : KeepsRule raw F6

@@ -3,6 +3,7 @@ pub mod Check
 pub mod Counting
 pub mod CutText
 pub mod Dataflow
+pub mod Depths
 pub mod Draft
 pub mod Flow
 pub mod KindText
@@ -13,6 +14,7 @@ pub mod Parts
 pub mod Premises
 pub mod ProjectedStamps
 pub mod Projection
+pub mod Ranks
 pub mod Raw
 pub mod Restoring
 pub mod SentTable

@@ -9,7 +9,7 @@ use Rattle.fw_flow.specs.declared.node.Node.{Node}
 use Rattle.fw_flow.specs.declared.parts.Parts.{Parts}
 use Rattle.fw_flow.specs.declared.raw.Declared.{Declared}
 use Rattle.fw_flow.specs.declared.raw.NameSpaces.{NameSpaces}
-use Rattle.fw_flow.specs.Check.{node_lines, edge_lines}
+use Rattle.fw_flow.specs.Check.{loop_lines, node_lines, edge_lines}
 use Rattle.fw_flow.specs.Dataflow.{Dataflow, greatest_number}
 use Rattle.fw_flow.specs.Raw.{loop_names, node_names, edge_names, loop_in, node_in, edge_in}
 
@@ -24,7 +24,7 @@ capped_kind kind = kind
 
 -- the loop with its greatest counter capped
 abbrev pub capped_loop : Loop → Loop
-capped_loop l = record { name = l.name; max = capped_number l.max }
+capped_loop l = record { name = l.name; max = capped_number l.max; parent = l.parent }
 
 -- the node with its size capped
 abbrev pub capped_node : Node → Node
@@ -36,9 +36,10 @@ capped_flow flow = record { loops = map capped_loop flow.loops; nodes = map capp
 
 -- these are the parts that the declarations give, with these names
 pub record ArePartsOf (parts : Parts) (names : NameSpaces) (raw : List Declared) : Type 0 where
-  pub all_loops : parts.loops.items ≡ map capped_loop (flat_map loop_in raw)
+  pub all_loops : parts.loops.items ≡ map capped_loop (flat_map (loop_in names.loops) raw)
   pub all_nodes : parts.nodes.items ≡ map capped_node (flat_map (node_in names.loops) raw)
   pub all_edges : parts.edges.items ≡ flat_map (edge_in names.nodes) raw
+  pub lines_of_loops : parts.loop_lines.items ≡ loop_lines raw
   pub lines_of_nodes : parts.node_lines.items ≡ node_lines raw
   pub lines_of_edges : parts.edge_lines.items ≡ edge_lines raw
 

@@ -25,9 +25,10 @@ pub record AreEndsOf (flow : Dataflow) (edge : ℕ) (kind : Kind) (from to : Bou
   pub group : IsGroupSize kind
   pub domains : AreDomainsOf kind from to
 
--- a stamp that has a counter or may get one
-abbrev pub IsNest : Stamp → Type 0
-IsNest s = (0 < length s) × (length s < 4)
+-- a stamp that can go this way: into a loop, one that may get a counter
+abbrev pub MayGo : Way → Stamp → Type 0
+MayGo First s = (0 < length s) × (length s < 4)
+MayGo way s = 0 < length s
 
 -- where a stamp goes
 abbrev pub image : Way → Stamp → Option Stamp

@@ -21,7 +21,7 @@ abbrev pub loop_name : Declared → List (List ℕ)
 loop_name declared = name_in declared.declaration
   where
     name_in : Declaration → List (List ℕ)
-    name_in (ALoop name max) = name ∷ []
+    name_in (ALoop name max parent) = name ∷ []
     name_in (ANode name kind policy) = []
     name_in (AnEdge name sender receiver) = []
 
@@ -30,7 +30,7 @@ abbrev pub node_name : Declared → List (List ℕ)
 node_name declared = name_in declared.declaration
   where
     name_in : Declaration → List (List ℕ)
-    name_in (ALoop name max) = []
+    name_in (ALoop name max parent) = []
     name_in (ANode name kind policy) = name ∷ []
     name_in (AnEdge name sender receiver) = []
 
@@ -39,7 +39,7 @@ abbrev pub edge_name : Declared → List (List ℕ)
 edge_name declared = name_in declared.declaration
   where
     name_in : Declaration → List (List ℕ)
-    name_in (ALoop name max) = []
+    name_in (ALoop name max parent) = []
     name_in (ANode name kind policy) = []
     name_in (AnEdge name sender receiver) = name ∷ []
 
@@ -61,13 +61,13 @@ names_of raw = record { loops = loop_names raw; nodes = node_names raw; edges = 
 
 -- whether the name of a declaration is not taken in its name space
 abbrev pub is_new_among : NameSpaces → Declaration → Bool
-is_new_among names (ALoop name max) = not (has_name name names.loops)
+is_new_among names (ALoop name max parent) = not (has_name name names.loops)
 is_new_among names (ANode name kind policy) = not (has_name name names.nodes)
 is_new_among names (AnEdge name sender receiver) = not (has_name name names.edges)
 
 -- the names with that of a declaration
 abbrev pub with_name : NameSpaces → Declaration → NameSpaces
-with_name names (ALoop name max) = record names { loops = names.loops ++ name ∷ [] }
+with_name names (ALoop name max parent) = record names { loops = names.loops ++ name ∷ [] }
 with_name names (ANode name kind policy) = record names { nodes = names.nodes ++ name ∷ [] }
 with_name names (AnEdge name sender receiver) = record names { edges = names.edges ++ name ∷ [] }
 
@@ -102,12 +102,12 @@ resolved_kind loops Sequence = kind.Sequence
 resolved_kind loops Ledger = kind.Ledger
 resolved_kind loops (Regroup size) = kind.Regroup size
 
--- the loop that is declared, if one is
-abbrev pub loop_in : Declared → List Loop
-loop_in declared = the_loop declared.declaration
+-- the loop that is declared, if one is, with these names of loops
+abbrev pub loop_in : List (List ℕ) → Declared → List Loop
+loop_in loops declared = the_loop declared.declaration
   where
     the_loop : Declaration → List Loop
-    the_loop (ALoop name max) = record { name = name; max = max } ∷ []
+    the_loop (ALoop name max parent) = record { name = name; max = max; parent = option_map (place_or_end loops) parent } ∷ []
     the_loop (ANode name kind policy) = []
     the_loop (AnEdge name sender receiver) = []
 
@@ -116,7 +116,7 @@ abbrev pub node_in : List (List ℕ) → Declared → List Node
 node_in loops declared = the_node declared.declaration
   where
     the_node : Declaration → List Node
-    the_node (ALoop name max) = []
+    the_node (ALoop name max parent) = []
     the_node (ANode name kind policy) = record { name = name; kind = resolved_kind loops kind; policy = policy } ∷ []
     the_node (AnEdge name sender receiver) = []
 
@@ -125,7 +125,7 @@ abbrev pub edge_in : List (List ℕ) → Declared → List Edge
 edge_in nodes declared = the_edge declared.declaration
   where
     the_edge : Declaration → List Edge
-    the_edge (ALoop name max) = []
+    the_edge (ALoop name max parent) = []
     the_edge (ANode name kind policy) = []
     the_edge (AnEdge name sender receiver) =
         record { name = name; sender = place_or_end nodes sender; receiver = place_or_end nodes receiver } ∷ []
@@ -133,7 +133,7 @@ edge_in nodes declared = the_edge declared.declaration
 -- the dataflow of these declarations, each of its parts in their order; a name that is not declared is a place past the end
 abbrev pub flow_of : List Declared → Dataflow
 flow_of raw = record {
-  loops = flat_map loop_in raw;
+  loops = flat_map (loop_in (loop_names raw)) raw;
   nodes = flat_map (node_in (loop_names raw)) raw;
   edges = flat_map (edge_in (node_names raw)) raw;
 }

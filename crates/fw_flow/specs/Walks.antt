@@ -1,17 +1,16 @@
--- Walks over plain links, and the ranks of a dataflow's nodes.
-use Rattle.std.specs.Prelude.{◌≡◌, ℕ, ◌<◌, ◌≤◌, Bool, true, false, not, ◌⊎◌, ◌==◌, if◌then◌else◌, ◌+◌, List, [], ◌∷◌, length, map, slice_index_or}
+-- Walks over plain links, and which closed walks are wrong.
+use Rattle.std.specs.Prelude.{◌≡◌, ℕ, ◌<◌, Bool, true, false, ◌⊎◌, if◌then◌else◌, ◌+◌, List, [], ◌∷◌, length, map, slice_index_or}
 use Rattle.std.specs.List.{Contains}
 use Rattle.std.specs.declared.alloc.Global.{Global}
 use Rattle.std.specs.declared.vec.Vec.{Vec}
-use Rattle.fw_flow.specs.declared.kind.Domain.{Domain}
-use Rattle.fw_flow.specs.declared.kind.Domain.TheVariants.{Loop as InLoop}
 use Rattle.fw_flow.specs.declared.kind.Kind.{Kind}
 use Rattle.fw_flow.specs.declared.node.Edge.{Edge}
+use Rattle.fw_flow.specs.declared.node.Loop.{Loop}
 use Rattle.fw_flow.specs.declared.node.Node.{Node}
 use Rattle.fw_flow.specs.declared.walks.Link.{Link}
-use Rattle.fw_flow.specs.Dataflow.{Dataflow, idle_node, kind_of, sender, receiver, domain_of, out_domain_of}
+use Rattle.fw_flow.specs.Dataflow.{Dataflow, idle_node}
 use Rattle.fw_flow.specs.Flow.{edges_at}
-use Rattle.fw_flow.specs.WellFormed.{IsClosedWalk, Passes, IsWellFormed, is_feedback_kind}
+use Rattle.fw_flow.specs.WellFormed.{IsClosedWalk, Passes, StaysWithin, is_feedback_of, is_kind_in}
 
 -- edges by their places, each from its source to its target, of which only the free ones are passed
 pub record Graph : Type 0 where
@@ -43,24 +42,19 @@ link_at links e = slice_index_or links e (record { sender = 0; receiver = 0 })
 abbrev pub is_marked : List Bool → ℕ → Bool
 is_marked marks p = slice_index_or marks p false
 
--- the links as a graph, in which the links that leave a marked node are barred
-abbrev pub graph_of : List Link → List Bool → Graph
-graph_of links barred = record {
+-- the links as a graph, each of whose edges is passed
+abbrev pub graph_of : List Link → Graph
+graph_of links = record {
   size = length links;
   source = λ e. (link_at links e).sender;
   target = λ e. (link_at links e).receiver;
-  is_free = λ e. not (is_marked barred (link_at links e).sender);
+  is_free = λ e. true;
 }
 
 -- the links join nodes among so many
 pub record AreWithin (places : ℕ) (links : List Link) : Type 0 where
   pub senders : (e : ℕ) → e < length links → (link_at links e).sender < places
   pub receivers : (e : ℕ) → e < length links → (link_at links e).receiver < places
-
--- the free edges among the first m that leave a node marked in `from` lead to exactly the nodes marked in `to`
-pub record IsLedTo (g : Graph) (m : ℕ) (from to : List Bool) : Type 0 where
-  pub each : (e : ℕ) → e < m → g.is_free e ≡ true → is_marked from (g.source e) ≡ true → is_marked to (g.target e) ≡ true
-  pub only : (q : ℕ) → is_marked to q ≡ true → (e : ℕ) × (e < m) × (g.is_free e ≡ true) × (is_marked from (g.source e) ≡ true) × (g.target e ≡ q)
 
 -- how many nodes are not marked
 abbrev pub unmarked_count : List Bool → ℕ
@@ -108,25 +102,15 @@ LeadsBack links marks node = (e : ℕ) × (e < length links) × (is_marked marks
 abbrev pub listed_kind : List Node → ℕ → Kind
 listed_kind nodes p = (slice_index_or nodes p idle_node).kind
 
--- the dataflow has these nodes, and edges with these links
-pub record IsMadeOf (flow : Dataflow) (ns : List Node) (ls : List Link) : Type 0 where
-  pub nodes : flow.nodes ≡ ns
-  pub links : map link_of flow.edges ≡ ls
-
--- each closed walk passes a node of a kind of this sort
-abbrev pub EachClosedWalkPasses : Dataflow → (Kind → Bool) → Type 0
-EachClosedWalkPasses flow sort = (p : ℕ) (es : List ℕ) → IsClosedWalk flow p es → Passes flow sort es
+-- the dataflow has these loops, these nodes, and edges with these links
+pub record IsMadeOf (flow : Dataflow) (loops : List Loop) (nodes : List Node) (links : List Link) : Type 0 where
+  pub of_loops : flow.loops ≡ loops
+  pub of_nodes : flow.nodes ≡ nodes
+  pub of_links : map link_of flow.edges ≡ links
 
 -- no closed walk passes a node of a kind of this sort
 abbrev pub NoClosedWalkPasses : Dataflow → (Kind → Bool) → Type 0
 NoClosedWalkPasses flow sort = (p : ℕ) (es : List ℕ) → IsClosedWalk flow p es → Passes flow sort es → ⊥
-
--- a closed walk that passes no node of a kind of this sort
-pub record AvoidingWalk (flow : Dataflow) (sort : Kind → Bool) : Type 0 where
-  pub node : ℕ
-  pub edges : List ℕ
-  pub closed : IsClosedWalk flow node edges
-  pub avoids : Passes flow sort edges → ⊥
 
 -- a closed walk that passes a node of a kind of this sort
 pub record PassingWalk (flow : Dataflow) (sort : Kind → Bool) : Type 0 where
@@ -135,35 +119,16 @@ pub record PassingWalk (flow : Dataflow) (sort : Kind → Bool) : Type 0 where
   pub closed : IsClosedWalk flow node edges
   pub passes : Passes flow sort edges
 
--- whether both are the same loop's
-abbrev pub is_same_loop : Domain → Domain → Bool
-is_same_loop (InLoop l) (InLoop k) = l == k
-is_same_loop d e = false
+-- each closed walk through a node of the loop's own domain that stays in the loop passes a feedback of it
+abbrev pub EachWalkWithinIsFedBack : Dataflow → ℕ → Type 0
+EachWalkWithinIsFedBack flow l = (p : ℕ) (es : List ℕ) → IsClosedWalk flow p es → StaysWithin flow l es
+    → Passes flow (is_kind_in flow l) es → Passes flow (is_feedback_of l) es
 
--- whether the node is looped: its domain and its out domain are the same loop's
-abbrev pub is_looped : Dataflow → ℕ → Bool
-is_looped flow p = is_same_loop (domain_of flow p) (out_domain_of flow p)
-
--- a rank below the number of nodes that rises along each edge, but for those from a feedback
-pub record IsRankWithinRounds (flow : Dataflow) (rho : ℕ → ℕ) : Type 0 where
-  pub bound : (p : ℕ) → p < length flow.nodes → rho p < length flow.nodes
-  pub rises : (e : ℕ) → e < length flow.edges → is_feedback_kind (kind_of flow (sender flow e)) ≡ false
-      → rho (sender flow e) < rho (receiver flow e)
-
--- a rank of at most the number of nodes that falls along no edge, and rises along each edge into a node that is not looped
-pub record IsRankOfLoops (flow : Dataflow) (lambda : ℕ → ℕ) : Type 0 where
-  pub bound : (p : ℕ) → p < length flow.nodes → lambda p ≤ length flow.nodes
-  pub keeps : (e : ℕ) → e < length flow.edges → lambda (sender flow e) ≤ lambda (receiver flow e)
-  pub rises : (e : ℕ) → e < length flow.edges → is_looped flow (receiver flow e) ≡ false
-      → lambda (sender flow e) < lambda (receiver flow e)
-
--- the ranks of a dataflow's nodes
-pub record Ranks (flow : Dataflow) : Type 0 where
-  pub rho : ℕ → ℕ
-  pub lambda : ℕ → ℕ
-  pub within_rounds : IsRankWithinRounds flow rho
-  pub of_loops : IsRankOfLoops flow lambda
-
--- each well-formed dataflow has ranks
-abbrev pub RanksExist : Type 0
-RanksExist = (flow : Dataflow) → IsWellFormed flow → Ranks flow
+-- a closed walk through a node of the loop's own domain that stays in the loop, and passes no feedback of it
+pub record SlippingWalk (flow : Dataflow) (l : ℕ) : Type 0 where
+  pub node : ℕ
+  pub edges : List ℕ
+  pub closed : IsClosedWalk flow node edges
+  pub stays : StaysWithin flow l edges
+  pub passes : Passes flow (is_kind_in flow l) edges
+  pub avoids : Passes flow (is_feedback_of l) edges → ⊥

@@ -1,22 +1,22 @@
 //! Whether declarations are a well-formed flow, and which rule they break first.
 ghost use Rattle.std.specs.Prelude.{◌≡◌, ◌↔◌, ℕ, ◌^◌, ◌<◌, List, [], ◌∷◌, ◌++◌, map, length, slice_index, Some, IsTrue, IsNone, IfSome, IfNone, OnOk, IfOk, IfErr};
-ghost use Rattle.std.specs.Bool.{OnTrue, OnFalse};
 ghost use Rattle.std.specs.List.{list_any};
 ghost use Rattle.std.specs.Option.{option_copied};
 ghost use Rattle.fw_lines.specs.Faults.{IfRefused};
 ghost use Rattle.fw_flow.specs.declared.raw.Declared.{Declared};
 ghost use Rattle.fw_flow.specs.Check as spec;
-ghost use Rattle.fw_flow.specs.Check.{loop_named, AreWalksRight, IsWalkWrong, IsRawGroupSize, IsWithinLimitsAfter, HasBorders, all_lines, IsFirstBreakIfAny};
+ghost use Rattle.fw_flow.specs.Check.{loop_named, IsRawGroupSize, IsWithinLimitsAfter, HasBorders, all_lines, IsFirstBreakIfAny};
 ghost use Rattle.fw_flow.specs.Dataflow.{Dataflow, domain_of_kind, out_domain_of_kind, is_input_kind, is_output_kind};
 ghost use Rattle.fw_flow.specs.Flow.{edges_at};
 ghost use Rattle.fw_flow.specs.Parts.{AreCountsOf, places_from};
 ghost use Rattle.fw_flow.specs.Raw.{names_of};
 ghost use Rattle.fw_flow.specs.Walks.{AreWithin, IsMadeOf, link_of, listed_kind};
-ghost use Rattle.fw_flow.specs.WellFormed.{IsInDegree, IsOutDegree, IsPolicyAllowed};
+ghost use Rattle.fw_flow.specs.WellFormed.{IsInDegree, IsOutDegree, IsPolicyAllowed, HasShortChain};
 
+use crate::kind::is_chain_short;
 use crate::raw::NameSpaces;
-use crate::walks::{Link, each_closed_walk_is_fed_back, no_closed_walk_enters};
-use crate::{Declaration, Declared, Edge, EdgeId, Kind, Name, Node, Policy, RawKind};
+use crate::walks::Link;
+use crate::{Declaration, Declared, Edge, EdgeId, Kind, Loop, Name, Node, Policy, RawKind};
 use fw_lines::{Code, ReadFault, Refusal};
 use std::alloc::{AllocError, Global};
 
@@ -61,7 +61,10 @@ fn are_names_declared(names: &NameSpaces, declaration: &Declaration) -> bool
     ensures { result ≡ spec.are_names_declared names.now declaration.now }
 {
     match declaration {
-        Declaration::Loop { .. } => true,
+        Declaration::Loop { parent, .. } => match parent {
+            Some(name) => names.loops.has(name.as_bytes()),
+            None => true,
+        },
         Declaration::Node { kind, .. } => match loop_named(kind) {
             Some(name) => names.loops.has(name.as_bytes()),
             None => true,
@@ -87,6 +90,20 @@ fn loop_named(kind: &RawKind) -> Option<&Name>
         RawKind::Enter(name) | RawKind::Feedback(name) | RawKind::Leave(name) => Some(name),
         _ => None,
     }
+}
+
+/// The line of the first loop whose chain of loops, each declared in the next, does not end within three.
+pub(crate) fn chain_line(loops: &[Loop], lines: &[u32]) -> Option<u32>
+    requires lines { length lines.now ≡ length loops.now }
+    ensures { (flow : Dataflow) → flow.loops ≡ loops.now
+        → IsFirstBreakIfAny (HasShortChain flow) lines.now result }
+{
+    for (place, a_loop) in loops.iter().enumerate() {
+        if !is_chain_short(loops, &a_loop.parent) {
+            return Some(lines[place]);
+        }
+    }
+    None
 }
 
 /// The line of the first node that has other degrees than its kind wants. These are the edges to
@@ -143,14 +160,19 @@ fn is_out_degree(kind: &Kind, count: usize) -> bool
 }
 
 /// The line of the first edge that joins two domains.
-pub(crate) fn domain_line(nodes: &[Node], links: &[Link], lines: &[u32]) -> Option<u32>
+pub(crate) fn domain_line(
+    loops: &[Loop],
+    nodes: &[Node],
+    links: &[Link],
+    lines: &[u32],
+) -> Option<u32>
     requires within { AreWithin (length nodes.now) links.now }
     requires lines { length lines.now ≡ length links.now }
-    ensures { (flow : Dataflow) → IsMadeOf flow nodes.now links.now
+    ensures { (flow : Dataflow) → IsMadeOf flow loops.now nodes.now links.now
         → IsFirstBreakIfAny (spec.JoinsDomains flow) lines.now result }
 {
     for (place, link) in links.iter().enumerate() {
-        if !can_join(nodes[link.sender].kind, nodes[link.receiver].kind) {
+        if !can_join(loops, nodes[link.sender].kind, nodes[link.receiver].kind) {
             return Some(lines[place]);
         }
     }
@@ -158,30 +180,11 @@ pub(crate) fn domain_line(nodes: &[Node], links: &[Link], lines: &[u32]) -> Opti
 }
 
 // Whether the out domain of the one kind is the domain of the other.
-fn can_join(from: Kind, to: Kind) -> bool
-    ensures { (flow : Dataflow)
+fn can_join(loops: &[Loop], from: Kind, to: Kind) -> bool
+    ensures { (flow : Dataflow) → flow.loops ≡ loops.now
         → (IsTrue result ↔ (out_domain_of_kind flow from ≡ domain_of_kind flow to)) }
 {
-    from.out_domain() == to.domain()
-}
-
-/// Whether every closed walk passes a feedback and none an enter. The links are those of the
-/// dataflow's edges, in order; the only error is want of memory.
-pub(crate) fn are_walks_right(
-    alloc: Global,
-    nodes: &[Node],
-    links: &[Link],
-) -> Result<bool, AllocError>
-    requires { AreWithin (length nodes.now) links.now }
-    ensures right { (flow : Dataflow) → IsMadeOf flow nodes.now links.now
-        → IfOk result (λ b. OnTrue b (AreWalksRight flow)) }
-    ensures wrong { (flow : Dataflow) → IsMadeOf flow nodes.now links.now
-        → IfOk result (λ b. OnFalse b (IsWalkWrong flow)) }
-{
-    if !each_closed_walk_is_fed_back(alloc, nodes, links)? {
-        return Ok(false);
-    }
-    no_closed_walk_enters(alloc, nodes, links)
+    from.out_domain(loops) == to.domain(loops)
 }
 
 /// The line of the first node whose policy is not allowed for its kind.

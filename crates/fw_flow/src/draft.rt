@@ -3,17 +3,17 @@ ghost use Rattle.std.specs.Prelude.{◌≡◌, ◌^◌, ◌<◌, ◌↔◌, true
 ghost use Rattle.fw_lines.specs.Faults.{IfRefused};
 ghost use Rattle.fw_lines.specs.declared.refusal.Code.TheVariants as code;
 ghost use Rattle.fw_flow.specs.declared.raw.Declared.{Declared};
-ghost use Rattle.fw_flow.specs.Check.{all_lines, node_lines, edge_lines, HasItsDegrees, JoinsDomains, AreWalksRight, IsWalkWrong, HasAllowedPolicy, StaysWithinLimits, HasBorders, IsFirstBreakIfAny, KeepsRule, later_rules, IsFirstBrokenOf};
+ghost use Rattle.fw_flow.specs.Check.{all_lines, loop_lines, node_lines, edge_lines, HasItsDegrees, JoinsDomains, AreWalksRight, IsWalkWrong, HasAllowedPolicy, StaysWithinLimits, HasBorders, IsFirstBreakIfAny, KeepsRule, later_rules, IsFirstBrokenOf};
 ghost use Rattle.fw_flow.specs.Draft.{FitsTogether, IsDraftOf, LaterRulesHold};
 ghost use Rattle.fw_flow.specs.Raw.{names_of, flow_of};
+ghost use Rattle.fw_flow.specs.WellFormed.{HasShortChain};
 
 use crate::check::{
-    are_walks_right, degree_line, domain_line, edges_by_end, has_borders, links_of, policy_line,
-    refuse,
+    chain_line, degree_line, domain_line, edges_by_end, has_borders, links_of, policy_line, refuse,
 };
 use crate::parts::Parts;
 use crate::raw::NameSpaces;
-use crate::walks::Link;
+use crate::walks::{Link, are_walks_right};
 use crate::{Declared, EdgeId};
 use fw_lines::{Code, ReadFault};
 use std::alloc::{AllocError, Global};
@@ -54,7 +54,7 @@ impl Draft {
         })
     }
 
-    /// Tests the rules from F4 on, in their order, where this is the line of the first declaration
+    /// Tests the rules from F12 on, in their order, where this is the line of the first declaration
     /// past the limits.
     pub(crate) fn test(&self, alloc: Global, limit_line: Option<u32>) -> Result<(), ReadFault>
         requires { FitsTogether self.now }
@@ -65,6 +65,7 @@ impl Draft {
             → IsFirstBreakIfAny (StaysWithinLimits raw) (all_lines raw) limit_line
             → IfErr result (IfRefused (IsFirstBrokenOf later_rules raw)) }
     {
+        refuse(Code::F12, self.chain_line())?;
         refuse(Code::F4, self.degree_line())?;
         refuse(Code::F5, self.domain_line())?;
         if !self.are_walks_right(alloc)? {
@@ -76,6 +77,19 @@ impl Draft {
             return Err(ReadFault::of_whole(Code::F9));
         }
         Ok(())
+    }
+
+    /// The line of the first loop whose chain of loops does not end within three.
+    #[tactic(auto, using(crate::proofs::Drafts::chains_first))]
+    fn chain_line(&self) -> Option<u32>
+        requires { FitsTogether self.now }
+        ensures { (raw : List Declared) → IsDraftOf self.now raw
+            → IsFirstBreakIfAny (HasShortChain (flow_of raw)) (loop_lines raw) result }
+    {
+        chain_line(
+            self.parts.loops.as_slice(),
+            self.parts.loop_lines.as_slice(),
+        )
     }
 
     /// The line of the first node that has not the edges of its kind.
@@ -101,21 +115,28 @@ impl Draft {
             → IsFirstBreakIfAny (JoinsDomains (flow_of raw)) (edge_lines raw) result }
     {
         domain_line(
+            &self.parts.loops,
             self.parts.nodes.as_slice(),
             &self.links,
             &self.parts.edge_lines,
         )
     }
 
-    /// Whether each closed walk passes a feedback, and none an enter. The only error is want of memory.
+    /// Whether no closed walk passes a node outside loops, and each that stays in a loop passes a feedback of it. The only
+    /// error is want of memory.
     fn are_walks_right(&self, alloc: Global) -> Result<bool, AllocError>
         requires { FitsTogether self.now }
         ensures right { (raw : List Declared) → IsDraftOf self.now raw
             → IfOk result (λ right. right ≡ true → AreWalksRight (flow_of raw)) }
-        ensures wrong { (raw : List Declared) → IsDraftOf self.now raw
+        ensures wrong { (raw : List Declared) → IsDraftOf self.now raw → KeepsRule raw code.F5
             → IfOk result (λ right. right ≡ false → IsWalkWrong (flow_of raw)) }
     {
-        are_walks_right(alloc, self.parts.nodes.as_slice(), &self.links)
+        are_walks_right(
+            alloc,
+            &self.parts.loops,
+            self.parts.nodes.as_slice(),
+            &self.links,
+        )
     }
 
     /// The line of the first node whose policy its kind does not have.

@@ -1,13 +1,14 @@
 //! A well-formed dataflow, and what is looked up in it.
 ghost use Rattle.std.specs.Prelude.{◌≡◌, ◌<◌, length, map, MatchResult, IfOk};
 ghost use Rattle.fw_lines.specs.Faults.{IfRefused};
-ghost use Rattle.fw_flow.specs.Dataflow.{kind_of, policy_of, sender, receiver, in_edges, out_edges, domain_of, bounds_of, max_of, node_at};
+ghost use Rattle.fw_flow.specs.Dataflow.{kind_of, policy_of, sender, receiver, in_edges, out_edges, domain_of, bounds_of, greatest_of, max_of, node_at};
 ghost use Rattle.fw_flow.specs.WellFormed.{IsWellFormed};
 ghost use Rattle.fw_flow.specs.Names.{place_of};
 ghost use Rattle.fw_flow.specs.Check.{IsChecked, IsFirstBroken};
 
 use crate::check::{limit_line, refuse, undeclared_line};
 use crate::draft::Draft;
+use crate::kind::parent_of;
 use crate::name::Names;
 use crate::{Domain, Edge, EdgeId, Kind, Loop, LoopId, Name, Node, NodeId, Policy, RawFlow};
 use fw_lines::{Code, ReadFault};
@@ -82,7 +83,7 @@ impl Flow {
     pub fn domain_word(&self, node: NodeId) -> Domain
         ensures { result ≡ domain_of self.now node }
     {
-        self.kind(node).domain()
+        self.kind(node).domain(&self.loops)
     }
 
     /// The bounds of the domain of a node's events; those of epochs past the last node.
@@ -90,11 +91,25 @@ impl Flow {
     pub fn domain(&self, node: NodeId) -> Bounds
         ensures { result ≡ bounds_of self.now node }
     {
-        let greatest = match self.domain_word(node) {
-            Domain::Epoch | Domain::Number => Stamp::new(&[u32::MAX]),
-            Domain::Loop(id) => Stamp::new(&[u32::MAX, self.max(id)]),
+        Bounds {
+            greatest: self.greatest(self.domain_word(node)),
+        }
+    }
+
+    /// The greatest stamp of a domain.
+    fn greatest(&self, domain: Domain) -> Stamp
+        ensures { result ≡ greatest_of self.now domain }
+    {
+        let Domain::Loop(inner) = domain else {
+            return Stamp::new(&[u32::MAX]);
         };
-        Bounds { greatest }
+        let Domain::Loop(middle) = parent_of(&self.loops, inner) else {
+            return Stamp::new(&[u32::MAX, self.max(inner)]);
+        };
+        let Domain::Loop(outer) = parent_of(&self.loops, middle) else {
+            return Stamp::new(&[u32::MAX, self.max(middle), self.max(inner)]);
+        };
+        Stamp::new(&[u32::MAX, self.max(outer), self.max(middle), self.max(inner)])
     }
 
     /// The greatest counter of a loop, 0 past the last one.
@@ -183,9 +198,9 @@ impl Flow {
         Some(EdgeId::at(place as u32))
     }
 
-    /// The flow of these declarations, where no rule is broken; else the first broken rule, in order of their numbers,
-    /// with the line of the first declaration that breaks it, or line 0 where it is broken by the flow as a whole. The rules
-    /// are F3 to F9; those of words and names were tested before. The other error is want of memory.
+    /// The flow of these declarations, where no rule is broken; else the first broken rule, with the line of the first
+    /// declaration that breaks it, or line 0 where it is broken by the flow as a whole. The rules are F3, F12, and F4 to F9,
+    /// in this order; those of words and names were tested before. The other error is want of memory.
     pub fn check(alloc: Global, raw: RawFlow) -> Result<Flow, ReadFault>
         ensures checked { MatchResult result (IsChecked raw) (IfRefused (IsFirstBroken raw)) }
         ensures well_formed { IfOk result IsWellFormed }

@@ -1,10 +1,10 @@
 //! What a node does, at which times, and how it is restored.
 ghost use Rattle.std.specs.Prelude.{◌≡◌};
-ghost use Rattle.fw_flow.specs.Dataflow.{Dataflow, domain_within, domain_of_kind, out_domain_of_kind, is_input_kind, is_output_kind, is_notified_kind, is_sequence_kind};
+ghost use Rattle.fw_flow.specs.Dataflow.{Dataflow, domain_within, domain_of_kind, out_domain_of_kind, is_input_kind, is_output_kind, is_notified_kind, is_sequence_kind, declared_parent, ends_within, parent_of};
 ghost use Rattle.fw_flow.specs.KindText.{kind_text, policy_text};
 ghost use Rattle.fw_flow.specs.WellFormed.{is_feedback_kind, is_enter_kind};
 
-use crate::LoopId;
+use crate::{Loop, LoopId};
 use fw_bag::Selection;
 use std::fmt;
 
@@ -91,13 +91,12 @@ impl Kind {
     }
 
     /// The domain of its events.
-    pub fn domain(self) -> Domain
-        ensures { (flow : Dataflow) → result ≡ domain_of_kind flow self }
+    pub(crate) fn domain(self, loops: &[Loop]) -> Domain
+        ensures { (flow : Dataflow) → flow.loops ≡ loops.now → result ≡ domain_of_kind flow self }
     {
         match self {
-            Kind::Input | Kind::OutputEpoch | Kind::Total | Kind::Sequence | Kind::Enter(_) => {
-                Domain::Epoch
-            }
+            Kind::Enter(id) => parent_of(loops, id),
+            Kind::Input | Kind::OutputEpoch | Kind::Total | Kind::Sequence => Domain::Epoch,
             Kind::OutputNumber | Kind::Ledger | Kind::Regroup(_) => Domain::Number,
             Kind::Select { within, .. }
             | Kind::Concat { within }
@@ -109,12 +108,13 @@ impl Kind {
     }
 
     /// The domain of its messages.
-    pub fn out_domain(self) -> Domain
-        ensures { (flow : Dataflow) → result ≡ out_domain_of_kind flow self }
+    pub(crate) fn out_domain(self, loops: &[Loop]) -> Domain
+        ensures { (flow : Dataflow) → flow.loops ≡ loops.now → result ≡ out_domain_of_kind flow self }
     {
         match self {
             Kind::Enter(id) => Domain::Loop(id),
-            Kind::Leave(_) | Kind::Regroup(_) => Domain::Epoch,
+            Kind::Leave(id) => parent_of(loops, id),
+            Kind::Regroup(_) => Domain::Epoch,
             Kind::Sequence => Domain::Number,
             Kind::Input | Kind::OutputEpoch | Kind::Total => Domain::Epoch,
             Kind::OutputNumber | Kind::Ledger => Domain::Number,
@@ -155,13 +155,6 @@ impl Kind {
         matches!(self, Kind::Feedback(_))
     }
 
-    /// Whether a node of the kind leads into a loop.
-    pub fn is_enter(self) -> bool
-        ensures { result ≡ is_enter_kind self }
-    {
-        matches!(self, Kind::Enter(_))
-    }
-
     /// Whether a node of the kind is a sequence: it numbers what it sends.
     pub fn is_sequence(self) -> bool
         ensures { result ≡ is_sequence_kind self }
@@ -189,6 +182,43 @@ impl Domain {
             Some(id) => Domain::Loop(id),
             None => Domain::Epoch,
         }
+    }
+}
+
+/// The parent domain of a loop: that of the loop in which it is declared, if in any. A chain of loops that does not end
+/// within three counts as none.
+#[tactic(auto, unfolding(crate::specs::Dataflow::parent_of))]
+pub(crate) fn parent_of(loops: &[Loop], id: LoopId) -> Domain
+    ensures { (flow : Dataflow) → flow.loops ≡ loops.now → result ≡ parent_of flow id }
+{
+    let parent = declared_parent(loops, id);
+    if !is_chain_short(loops, &parent) {
+        return Domain::Epoch;
+    }
+    Domain::within(parent)
+}
+
+/// Whether the chain of loops from the parent of a loop, each declared in the next, ends within two.
+pub(crate) fn is_chain_short(loops: &[Loop], parent: &Option<LoopId>) -> bool
+    ensures { (flow : Dataflow) → flow.loops ≡ loops.now → result ≡ ends_within 2 flow parent.now }
+{
+    let Some(second) = parent else {
+        return true;
+    };
+    let Some(third) = declared_parent(loops, *second) else {
+        return true;
+    };
+    declared_parent(loops, third).is_none()
+}
+
+/// The loop in which a loop is declared, if in any.
+#[tactic(auto, unfolding(crate::specs::Dataflow::declared_parent))]
+fn declared_parent(loops: &[Loop], id: LoopId) -> Option<LoopId>
+    ensures { (flow : Dataflow) → flow.loops ≡ loops.now → result ≡ declared_parent flow id }
+{
+    match loops.get(id.place() as usize) {
+        Some(a_loop) => a_loop.parent,
+        None => None,
     }
 }
 

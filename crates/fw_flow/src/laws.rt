@@ -9,7 +9,7 @@ ghost use Rattle.fw_flow.specs.Check.{IsChecked, IsFirstBroken};
 ghost use Rattle.fw_flow.specs.Dataflow.{Dataflow, system_of};
 ghost use Rattle.fw_flow.specs.Raw.{loop_names, node_names, edge_names};
 ghost use Rattle.fw_flow.specs.Sources.{sources_of};
-ghost use Rattle.fw_flow.specs.Walks.{RanksExist};
+ghost use Rattle.fw_flow.specs.Ranks.{RanksExist};
 ghost use Rattle.fw_flow.specs.WellFormed.{IsWellFormed, IsWellFormedSystem};
 
 use crate::{Flow, RawFlow};

@@ -1,5 +1,5 @@
 //! The parts of a dataflow.
-use crate::{Kind, Name, NodeId, Policy};
+use crate::{Kind, LoopId, Name, NodeId, Policy};
 
 /// A loop, with its greatest counter.
 #[derive(Debug, Drop)]
@@ -8,6 +8,8 @@ pub struct Loop {
     pub name: Name,
     /// The greatest counter of a stamp of the loop, from 1 to 1024 in a well-formed flow.
     pub max: u32,
+    /// The loop in which it is declared, if in any.
+    pub parent: Option<LoopId>,
 }
 
 /// A node.

@@ -1,7 +1,7 @@
 //! The parts of a flow by their places, from declarations by names.
 ghost use Rattle.std.specs.Prelude.{◌≡◌, ◌^◌, ◌<◌, [], ◌∷◌, ◌++◌, map, length, IfOk, OnOk};
 ghost use Rattle.std.specs.Option.{option_map};
-ghost use Rattle.fw_flow.specs.Check.{node_lines, edge_lines};
+ghost use Rattle.fw_flow.specs.Check.{loop_lines, node_lines, edge_lines};
 ghost use Rattle.fw_flow.specs.Parts as spec;
 ghost use Rattle.fw_flow.specs.Parts.{ArePartsOf, capped_kind, capped_loop, capped_node};
 ghost use Rattle.fw_flow.specs.Raw as raw;
@@ -12,13 +12,14 @@ use crate::raw::NameSpaces;
 use crate::{Declaration, Declared, Edge, Kind, Loop, LoopId, Name, Node, NodeId, RawKind};
 use std::alloc::{AllocError, Global};
 
-/// The parts of a flow by their places, and the lines of its nodes and edges. A size or a greatest
+/// The parts of a flow by their places, and the lines of its loops, nodes and edges. A size or a greatest
 /// counter past 32 bits is kept as the greatest number of 32 bits, until the limits are tested.
 #[derive(Debug, Drop)]
 pub(crate) struct Parts {
     pub(crate) loops: Vec<Loop>,
     pub(crate) nodes: Vec<Node>,
     pub(crate) edges: Vec<Edge>,
+    pub(crate) loop_lines: Vec<u32>,
     pub(crate) node_lines: Vec<u32>,
     pub(crate) edge_lines: Vec<u32>,
 }
@@ -39,6 +40,7 @@ impl Parts {
             loops: Vec::new(alloc),
             nodes: Vec::new(alloc),
             edges: Vec::new(alloc),
+            loop_lines: Vec::new(alloc),
             node_lines: Vec::new(alloc),
             edge_lines: Vec::new(alloc),
         };
@@ -53,11 +55,13 @@ impl Parts {
         requires loops { length names.now.loops < 2 ^ 32 }
         requires nodes { length names.now.nodes < 2 ^ 32 }
         ensures loops { OnOk result
-            (self.new.loops.items ≡ self.old.loops.items ++ map capped_loop (loop_in declared)) }
+            (self.new.loops.items ≡ self.old.loops.items ++ map capped_loop (loop_in names.now.loops declared)) }
         ensures nodes { OnOk result (self.new.nodes.items
             ≡ self.old.nodes.items ++ map capped_node (node_in names.now.loops declared)) }
         ensures edges { OnOk result
             (self.new.edges.items ≡ self.old.edges.items ++ edge_in names.now.nodes declared) }
+        ensures loop_lines { OnOk result
+            (self.new.loop_lines.items ≡ self.old.loop_lines.items ++ loop_lines (declared ∷ [])) }
         ensures node_lines { OnOk result
             (self.new.node_lines.items ≡ self.old.node_lines.items ++ node_lines (declared ∷ [])) }
         ensures edge_lines { OnOk result
@@ -65,11 +69,14 @@ impl Parts {
     {
         let Declared { line, declaration } = declared;
         match declaration {
-            Declaration::Loop { name, max } => {
+            Declaration::Loop { name, max, parent } => {
+                let parent = loop_within(&names.loops, &parent);
                 self.loops.push(Loop {
                     name,
                     max: capped(max),
+                    parent,
                 })?;
+                self.loop_lines.push(line)?;
             }
             Declaration::Node { name, kind, policy } => {
                 let kind = kind_of(&names.loops, &kind);

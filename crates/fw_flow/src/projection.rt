@@ -6,9 +6,10 @@ ghost use Rattle.fw_time.specs.Stamp.{in_domain};
 ghost use Rattle.fw_time.specs.Sending.{fed_back_stamp};
 ghost use Rattle.fw_frontier.specs.Front.{frontier_of, IsCanonical, IsFrontOf};
 ghost use Rattle.fw_flow.specs.declared.event.Event.{Event};
+ghost use Rattle.fw_flow.specs.declared.projection.Way.TheVariants as spec_way;
 ghost use Rattle.fw_flow.specs.Dataflow.{System, kind_of, sender, receiver, bounds_of, node_frontier};
 ghost use Rattle.fw_flow.specs.Projection.{first_coordinate, phi, phi_by_count, psi, psi_back, phi_of_kind, psi_of_kind, psi_back_of_kind, table_count, IsSentTable};
-ghost use Rattle.fw_flow.specs.ProjectedStamps.{IsNest, image, images, entered_outside, front_until, AreDomainsOf, AreEndsOf};
+ghost use Rattle.fw_flow.specs.ProjectedStamps.{MayGo, image, images, entered_outside, front_until, AreDomainsOf, AreEndsOf};
 ghost use Rattle.fw_flow.specs.WellFormed.{IsGroupSize};
 
 use crate::{EdgeId, Flow, Kind, SentTable};
@@ -99,8 +100,7 @@ pub(crate) enum Way {
 
 /// Where a stamp of a loop, or of the domain that it is in, goes.
 fn image(way: Way, o: &Stamp) -> Option<Stamp>
-    requires some { 0 < length o.now }
-    requires few { length o.now < 4 }
+    requires { MayGo way o.now }
     ensures { result ≡ image way o.now }
 {
     match way {
@@ -139,7 +139,7 @@ fn next(max: u32, o: &Stamp) -> Option<Stamp>
 
 /// Where the stamps go, in their order.
 fn images(alloc: Global, stamps: &[Stamp], way: Way) -> Result<Vec<Stamp>, AllocError>
-    requires { AllByRecursion IsNest stamps.now }
+    requires { AllByRecursion (MayGo way) stamps.now }
     ensures { IfOk result (λ all. all.items ≡ images way stamps.now) }
 {
     let mut all = Vec::new(alloc);
@@ -153,7 +153,7 @@ fn images(alloc: Global, stamps: &[Stamp], way: Way) -> Result<Vec<Stamp>, Alloc
 
 /// The frontier outside of which are the images of the outside stamps of `f`.
 fn moved(alloc: Global, f: &Front, way: Way) -> Result<Front, AllocError>
-    requires { AllByRecursion IsNest f.now }
+    requires { AllByRecursion (MayGo way) f.now }
     ensures { (bounds : Domain) → AllByRecursion (λ s. in_domain bounds s ≡ true) (images way f.now)
         → IfOk result (λ g. IsFrontOf bounds g (frontier_of bounds (images way f.now))) }
 {
@@ -168,8 +168,8 @@ fn entered(
     sender: &Bounds,
     receiver: &Bounds,
 ) -> Result<Front, AllocError>
-    requires front { AllByRecursion IsNest f.now }
-    requires sender { IsNest sender.now.greatest }
+    requires front { AllByRecursion (MayGo spec_way.First) f.now }
+    requires sender { MayGo spec_way.First sender.now.greatest }
     requires receiver { 0 < length receiver.now.greatest }
     ensures { (bounds : Domain) → AllByRecursion (λ s. in_domain bounds s ≡ true) (entered_outside sender.now receiver.now f.now)
         → IfOk result (λ g. IsFrontOf bounds g (frontier_of bounds (entered_outside sender.now receiver.now f.now))) }

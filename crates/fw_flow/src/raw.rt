@@ -61,10 +61,12 @@ pub enum RawKind {
 /// What one line of a flow declares.
 #[derive(Debug, Drop)]
 pub enum Declaration {
-    /// A loop, with its greatest counter. A flow is refused where that is 0 or past 1024.
+    /// A loop, in another one if it names a parent, with its greatest counter. A flow is refused where that is 0 or past
+    /// 1024, and where the chain of loops from it, each in the next, does not end within three.
     Loop {
         name: Name,
         max: u64,
+        parent: Option<Name>,
     },
     /// A node, with what it does and how it is restored.
     Node {

@@ -1,15 +1,21 @@
-//! Whether the closed walks of a dataflow are right: each passes a feedback, and none an enter.
+//! Whether the closed walks of a dataflow are right: none passes a node outside loops, and in each loop each passes a feedback
+//! of it.
 ghost use Rattle.std.specs.Prelude.{◌≡◌, ℕ, ◌<◌, ◌↔◌, List, [], ◌∷◌, map, length, IfOk, OnOk, IsTrue};
 ghost use Rattle.std.specs.Bool.{OnTrue, OnFalse};
-ghost use Rattle.std.specs.List.{list_any, Contains};
+ghost use Rattle.std.specs.List.{Contains};
 ghost use Rattle.fw_flow.specs.declared.walks.Link.{Link as AnyLink};
+ghost use Rattle.fw_flow.specs.Check.{HoldsBelow, JoinsDomains, AreWalksRight, IsWalkWrong};
 ghost use Rattle.fw_flow.specs.Dataflow.{Dataflow};
-ghost use Rattle.fw_flow.specs.WellFormed.{is_feedback_kind, is_enter_kind};
+ghost use Rattle.fw_flow.specs.Depths.{depth_of_kind, ReturningPath, stays_deep, AreKept, ClosedPath};
 ghost use Rattle.fw_flow.specs.Flow.{edges_at};
-ghost use Rattle.fw_flow.specs.Walks.{Path, graph_of, AreWithin, IsLedTo, AreOnward, AreOnwardWithin, AreMarked, IsReachOf, LeadsBack, IsMadeOf, EachClosedWalkPasses, NoClosedWalkPasses, AvoidingWalk, PassingWalk};
+ghost use Rattle.fw_flow.specs.Walks.{Path, graph_of, AreWithin, AreOnward, AreOnwardWithin, AreMarked, IsReachOf, LeadsBack, IsMadeOf};
 
-use crate::Node;
+use crate::kind::parent_of;
+use crate::{Domain, Kind, Loop, Node};
 use std::alloc::{AllocError, Global};
+
+// Loops lie in each other at most so deep.
+const MAX_DEPTH: usize = 3;
 
 /// An edge, by the places of the nodes that it joins.
 #[derive(Clone, Copy, Debug)]
@@ -30,99 +36,131 @@ pub(crate) fn are_within(places: usize, links: &[Link]) -> bool
     true
 }
 
-/// Whether each closed walk passes a feedback. The links are those of the dataflow's edges, in order; the only error is
-/// want of memory.
-pub(crate) fn each_closed_walk_is_fed_back(
+/// Whether the closed walks are right. At each depth the links count that stay at least so deep and leave no feedback of a
+/// loop of that depth: from no node of that depth do they lead back to it. The links are those of the dataflow's edges, in
+/// order; the only error is want of memory.
+pub(crate) fn are_walks_right(
     alloc: Global,
+    loops: &[Loop],
     nodes: &[Node],
     links: &[Link],
 ) -> Result<bool, AllocError>
     requires { AreWithin (length nodes.now) links.now }
-    ensures fed_back { (flow : Dataflow) → IsMadeOf flow nodes.now links.now
-        → IfOk result (λ b. IsTrue b ↔ EachClosedWalkPasses flow is_feedback_kind) }
-    ensures refused { (flow : Dataflow) → IsMadeOf flow nodes.now links.now
-        → IfOk result (λ b. OnFalse b (AvoidingWalk flow is_feedback_kind)) }
+    ensures right { (flow : Dataflow) → IsMadeOf flow loops.now nodes.now links.now
+        → IfOk result (λ right. OnTrue right (AreWalksRight flow)) }
+    ensures wrong { (flow : Dataflow) → IsMadeOf flow loops.now nodes.now links.now
+        → HoldsBelow (JoinsDomains flow) (length links.now)
+        → IfOk result (λ right. OnFalse right (IsWalkWrong flow)) }
 {
-    let feedbacks = marks_of_feedbacks(alloc, nodes)?;
-    each_closed_walk_is_barred(alloc, links, &feedbacks)
-}
-
-/// Whether no closed walk passes an enter. The links are those of the dataflow's edges, in order; the only error is want
-/// of memory.
-pub(crate) fn no_closed_walk_enters(
-    alloc: Global,
-    nodes: &[Node],
-    links: &[Link],
-) -> Result<bool, AllocError>
-    requires { AreWithin (length nodes.now) links.now }
-    ensures never_entered { (flow : Dataflow) → IsMadeOf flow nodes.now links.now
-        → IfOk result (λ b. IsTrue b ↔ NoClosedWalkPasses flow is_enter_kind) }
-    ensures refused { (flow : Dataflow) → IsMadeOf flow nodes.now links.now
-        → IfOk result (λ b. OnFalse b (PassingWalk flow is_enter_kind)) }
-{
-    let onward = receivers_by_sender(alloc, nodes.len(), links)?;
-    for (place, node) in nodes.iter().enumerate() {
-        if node.kind.is_enter() && is_on_closed_walk(alloc, links, &onward, place)? {
+    let depths = depths_of(alloc, loops, nodes)?;
+    for depth in 0..=MAX_DEPTH {
+        if does_one_return(alloc, nodes, &depths, links, depth)? {
             return Ok(false);
         }
     }
     Ok(true)
 }
 
-/// A mark for each node: whether it is a feedback.
-fn marks_of_feedbacks(alloc: Global, nodes: &[Node]) -> Result<Vec<bool>, AllocError>
-    ensures { IfOk result (λ marks. marks.items ≡ map (λ node. is_feedback_kind node.kind) nodes.now) }
+/// In how many loops each node lies.
+fn depths_of(alloc: Global, loops: &[Loop], nodes: &[Node]) -> Result<Vec<usize>, AllocError>
+    ensures len { IfOk result (λ depths. length depths.items ≡ length nodes.now) }
+    ensures depths { (flow : Dataflow) → flow.loops ≡ loops.now
+        → IfOk result (λ depths. depths.items ≡ map (λ node. depth_of_kind flow node.kind) nodes.now) }
 {
-    nodes
-        .iter()
-        .map(|node| node.kind.is_feedback())
-        .collect(alloc)
-}
-
-/// Whether each closed walk passes a barred node. Round by round the nodes are peeled off to which no link leads from
-/// one that is left and not barred; as many rounds as there are nodes leave none exactly then.
-fn each_closed_walk_is_barred(
-    alloc: Global,
-    links: &[Link],
-    barred: &[bool],
-) -> Result<bool, AllocError>
-    requires { AreWithin (length barred.now) links.now }
-    ensures none { IfOk result (λ b. OnTrue b ((p : ℕ) → Path (graph_of links.now barred.now) p p → ⊥)) }
-    ensures some { IfOk result (λ b. OnFalse b ((p : ℕ) × Path (graph_of links.now barred.now) p p)) }
-{
-    let mut left = vec![in alloc; true; barred.len()]?;
-    for _ in 0..barred.len() {
-        left = receivers(alloc, links, barred, &left)?;
+    let mut depths = Vec::new(alloc);
+    for node in nodes {
+        depths.push(depth_of(loops, node.kind))?;
     }
-    Ok(!is_any_marked(&left))
+    Ok(depths)
 }
 
-/// Whether some node is marked.
-fn is_any_marked(marks: &[bool]) -> bool
-    ensures { result ≡ list_any (λ mark. mark) marks.now }
+/// In how many loops a node of the kind lies.
+fn depth_of(loops: &[Loop], kind: Kind) -> usize
+    ensures { (flow : Dataflow) → flow.loops ≡ loops.now → result ≡ depth_of_kind flow kind }
 {
-    marks.iter().any(|mark| *mark)
+    let Domain::Loop(inner) = kind.domain(loops) else {
+        return 0;
+    };
+    let Domain::Loop(middle) = parent_of(loops, inner) else {
+        return 1;
+    };
+    let Domain::Loop(_) = parent_of(loops, middle) else {
+        return 2;
+    };
+    MAX_DEPTH
 }
 
-/// Marks the receivers of the links that leave a node of the set and no barred one.
-fn receivers(
+/// Whether the links that count at this depth lead from a node of this depth back to it.
+fn does_one_return(
     alloc: Global,
+    nodes: &[Node],
+    depths: &[usize],
     links: &[Link],
-    barred: &[bool],
-    set: &[bool],
-) -> Result<Vec<bool>, AllocError>
-    requires within { AreWithin (length barred.now) links.now }
-    requires len { length set.now ≡ length barred.now }
-    ensures len { IfOk result (λ marks. length marks.items ≡ length barred.now) }
-    ensures led { IfOk result (λ marks. IsLedTo (graph_of links.now barred.now) (length links.now) set.now marks.items) }
+    depth: usize,
+) -> Result<bool, AllocError>
+    requires within { AreWithin (length nodes.now) links.now }
+    requires len { length depths.now ≡ length nodes.now }
+    ensures some { (flow : Dataflow) → IsMadeOf flow flow.loops nodes.now links.now
+        → depths.now ≡ map (λ node. depth_of_kind flow node.kind) nodes.now → IfOk result (λ b. OnTrue b (ReturningPath flow depth)) }
+    ensures none { (flow : Dataflow) → IsMadeOf flow flow.loops nodes.now links.now
+        → depths.now ≡ map (λ node. depth_of_kind flow node.kind) nodes.now → IfOk result (λ b. OnFalse b (ReturningPath flow depth → ⊥)) }
 {
-    let mut marks = vec![in alloc; false; barred.len()]?;
+    let kept = links_at(alloc, nodes, depths, links, depth)?;
+    is_one_on_closed_walk(alloc, &kept, depths, depth)
+}
+
+/// The links that stay at least so deep, and leave no feedback of a loop of this depth.
+fn links_at(
+    alloc: Global,
+    nodes: &[Node],
+    depths: &[usize],
+    links: &[Link],
+    depth: usize,
+) -> Result<Vec<Link>, AllocError>
+    requires within { AreWithin (length nodes.now) links.now }
+    requires len { length depths.now ≡ length nodes.now }
+    ensures { IfOk result (λ kept.
+        AreKept (stays_deep nodes.now depths.now depth) links.now (length links.now) kept.items) }
+{
+    let mut kept = Vec::new(alloc);
     for link in links {
-        if set[link.sender] && !barred[link.sender] {
-            marks[link.receiver] = true;
+        if stays_deep(nodes, depths, depth, *link) {
+            kept.push(*link)?;
         }
     }
-    Ok(marks)
+    Ok(kept)
+}
+
+/// Whether the link stays at least so deep, and leaves no feedback of a loop of this depth.
+fn stays_deep(nodes: &[Node], depths: &[usize], depth: usize, link: Link) -> bool
+    requires sender { link.sender < length nodes.now }
+    requires receiver { link.receiver < length nodes.now }
+    requires len { length depths.now ≡ length nodes.now }
+    ensures { result ≡ stays_deep nodes.now depths.now depth link }
+{
+    depths[link.sender] >= depth
+        && depths[link.receiver] >= depth
+        && !(nodes[link.sender].kind.is_feedback() && depths[link.sender] == depth)
+}
+
+/// Whether the links lead from a node of this depth back to it.
+fn is_one_on_closed_walk(
+    alloc: Global,
+    links: &[Link],
+    depths: &[usize],
+    depth: usize,
+) -> Result<bool, AllocError>
+    requires { AreWithin (length depths.now) links.now }
+    ensures some { IfOk result (λ found. OnTrue found (ClosedPath links.now depths.now depth)) }
+    ensures none { IfOk result (λ found. OnFalse found (ClosedPath links.now depths.now depth → ⊥)) }
+{
+    let onward = receivers_by_sender(alloc, depths.len(), links)?;
+    for (place, at) in depths.iter().enumerate() {
+        if *at == depth && is_on_closed_walk(alloc, links, &onward, place)? {
+            return Ok(true);
+        }
+    }
+    Ok(false)
 }
 
 /// For each of so many nodes the receivers of the links that leave it.
@@ -164,8 +202,8 @@ fn is_on_closed_walk(
     requires within { AreWithin (length onward.now) links.now }
     requires onward { AreOnward links.now (length links.now) onward.now }
     requires node_within { node < length onward.now }
-    ensures some { IfOk result (λ b. OnTrue b (Path (graph_of links.now []) node node)) }
-    ensures none { IfOk result (λ b. OnFalse b (Path (graph_of links.now []) node node → ⊥)) }
+    ensures some { IfOk result (λ b. OnTrue b (Path (graph_of links.now) node node)) }
+    ensures none { IfOk result (λ b. OnFalse b (Path (graph_of links.now) node node → ⊥)) }
 {
     let reached = nodes_from(alloc, onward, node)?;
     Ok(leads_back(links, &reached, node))

@@ -46,7 +46,7 @@ record IsPlainForm (kind : RawKind) (kept : Policy) : Type 0 where
   pub unnotified : (loops : List (List ℕ)) → is_notified_kind (resolved_kind loops kind) ≡ false
 
 abbrev IsPlainDeclaration : Declaration → Type 0
-IsPlainDeclaration (ALoop name max) = Unit {0}
+IsPlainDeclaration (ALoop name max parent) = Unit {0}
 IsPlainDeclaration (ANode name kind kept) = IsPlainForm kind kept
 IsPlainDeclaration (AnEdge name sender receiver) = Unit {0}
 
@@ -125,7 +125,7 @@ record IsPlainNode (node : Node) : Type 0 where
   pub unnotified : is_notified_kind node.kind ≡ false
 
 plain_in : (loops : List (List ℕ)) (line : ℕ) (d : Declaration) → IsPlainDeclaration d → AllByRecursion IsPlainNode (node_in loops (record { line = line; declaration = d }))
-plain_in loops line (ALoop name max) p = tt
+plain_in loops line (ALoop name max parent) p = tt
 plain_in loops line (ANode name kind kept) p = (record { keeps_nothing = p.keeps_nothing; unnotified = p.unnotified loops }, tt)
 plain_in loops line (AnEdge name s r) p = tt
 

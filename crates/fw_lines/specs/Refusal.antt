@@ -2,7 +2,7 @@
 use Rattle.std.specs.Prelude.{ℕ, List, ◌++◌, codes}
 use Rattle.std.specs.Fmt.{decimal}
 use Rattle.fw_lines.specs.declared.refusal.Code.{Code}
-use Rattle.fw_lines.specs.declared.refusal.Code.TheVariants.{F1, F2, F3, F4, F5, F6, F7, F8, F9, F10, F11, I1, I2, I3, I4, I5, S1, S2, S3, S4}
+use Rattle.fw_lines.specs.declared.refusal.Code.TheVariants.{F1, F2, F3, F4, F5, F6, F7, F8, F9, F10, F11, I1, I2, I3, I4, I5, S1, S2, S3, S4, F12}
 use Rattle.fw_lines.specs.declared.refusal.Refusal.{Refusal}
 
 -- the code's letter and digits
@@ -18,6 +18,7 @@ code_text F8 = codes "F8"
 code_text F9 = codes "F9"
 code_text F10 = codes "F10"
 code_text F11 = codes "F11"
+code_text F12 = codes "F12"
 code_text I1 = codes "I1"
 code_text I2 = codes "I2"
 code_text I3 = codes "I3"

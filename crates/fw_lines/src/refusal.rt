@@ -14,7 +14,7 @@ pub enum Code {
     F4,
     /// The out domain of an edge's sender is not the domain of its receiver.
     F5,
-    /// A closed walk passes no feedback, or one passes an enter.
+    /// A closed walk passes a node of epochs or numbers, or one that stays in a loop passes no feedback of it.
     F6,
     /// The policy of a node is not allowed for its kind.
     F7,
@@ -26,6 +26,8 @@ pub enum Code {
     F10,
     /// The text of a flow is too long.
     F11,
+    /// A loop's chain of loops, each declared in the next, does not end within three.
+    F12,
     /// A line of the inputs has no form of the grammar, a word of it is badly spelled, or a byte is not allowed.
     I1,
     /// The name of a batch is not that of a source.
@@ -66,6 +68,7 @@ impl Code {
             Code::F9 => "F9",
             Code::F10 => "F10",
             Code::F11 => "F11",
+            Code::F12 => "F12",
             Code::I1 => "I1",
             Code::I2 => "I2",
             Code::I3 => "I3",

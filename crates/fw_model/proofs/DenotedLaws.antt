@@ -14,10 +14,10 @@ use Rattle.fw_flow.specs.declared.event.Event.{Event}
 use Rattle.fw_flow.specs.declared.kind.Domain.TheVariants.{Number}
 use Rattle.fw_flow.specs.declared.kind.Kind.{Kind}
 use Rattle.fw_flow.specs.declared.kind.Kind.TheVariants.{Input, Sum, Total, Sequence}
-use Rattle.fw_flow.specs.Dataflow.{greatest_of_kind, System, kind_of, sender, receiver, in_edges, domain_of, out_domain_of, out_domain_of_kind, greatest_number, bounds_of, batches_of, is_input_kind, is_notified_kind, send_stamp}
+use Rattle.fw_flow.specs.Dataflow.{greatest_of_kind, is_loop, System, kind_of, sender, receiver, in_edges, domain_of, out_domain_of, out_domain_of_kind, greatest_number, bounds_of, batches_of, is_input_kind, is_notified_kind, send_stamp}
 use Rattle.fw_flow.specs.NodeFunction.{sequence_sent, sent_by}
 use Rattle.fw_flow.specs.Projection.{events_at, phi, phi_of_kind, sent_count}
-use Rattle.fw_flow.specs.Walks.{Ranks, is_same_loop, is_looped}
+use Rattle.fw_flow.specs.Ranks.{is_looped}
 use Rattle.fw_flow.specs.WellFormed.{IsWellFormed, IsWellFormedSystem}
 use Rattle.fw_flow.specs.WholeBags.{Timed, timed_cmp, outputs_of_kind, in_order, numbered_recs, joint_bag}
 use Rattle.fw_model.specs.Denotation.{Family, IsDenotation}
@@ -31,6 +31,7 @@ use Rattle.fw_model.proofs.WeightLaws.{weigh, weigh-append, weigh-same, weigh-no
 use Rattle.fw_model.proofs.SentLaws.{timed_of, quiet-delivered}
 use Rattle.fw_model.proofs.TimedLaws.{ascending-in_order}
 use Rattle.fw_model.proofs.TimedCounts.{in_order-weigh, family-weigh}
+use Rattle.fw_model.specs.Measure.{Measure}
 use Rattle.fw_model.proofs.StampMeasures.{IsEarlier, earlier-unlooped}
 use Rattle.fw_model.proofs.ArrivalLaws.{deliveries, deliveries-weigh, together-weigh}
 use Rattle.fw_model.proofs.InputLaws.{input-equal}
@@ -313,7 +314,7 @@ inner-paid sys h done a e t is i =
 sent-step : (sys : System) (h : List Event) (family : Family) → IsWellFormedSystem sys → IsLegal sys h → IsDenotation sys family
     → ((p : ℕ) → kind_of sys.flow p ≡ Sequence → IsSequenced sys h family p)
     → (done : ℕ → Frontier) → IsAdmissible sys h done
-    → (r : Ranks sys.flow) (e : ℕ) (t : Stamp) → ((d : ℕ) (u : Stamp) → IsEarlier sys.flow r (receiver sys.flow d) u (receiver sys.flow e) t → IsDenotedAt sys h family done (d, u))
+    → (r : Measure sys.flow) (e : ℕ) (t : Stamp) → ((d : ℕ) (u : Stamp) → IsEarlier sys.flow r (receiver sys.flow d) u (receiver sys.flow e) t → IsDenotedAt sys h family done (d, u))
     → IsDenotedAt sys h family done (e, t)
 sent-step sys h family w l den seq done a r e t ih i q =
     let flow = sys.flow in
@@ -332,7 +333,7 @@ sent-step sys h family w l den seq done a r e t ih i q =
       | inr (inr (inl is)) ↦
           let real = sequence_edge flow e is in
           let domain : domain_of flow (receiver flow e) ≡ Number = sym (edge_domains flow w.flow e) ∙ ap (λ k. out_domain_of_kind flow k) is in
-          let unlooped : is_looped flow (receiver flow e) ≡ false = ap (λ d. is_same_loop d (out_domain_of flow (receiver flow e))) domain in
+          let unlooped : is_looped flow (receiver flow e) ≡ false = ap (λ d. is_loop d && is_loop (out_domain_of flow (receiver flow e))) domain in
           sequence-step sys h family w l den done a e is (seq p is)
           (λ d u at. ih d u (subst (λ n. IsEarlier flow r n u (receiver flow e) t) (sym at) (earlier-unlooped flow r e real unlooped u t))) t i q
       | inr (inr (inr is)) ↦

@@ -8,7 +8,7 @@ use Rattle.fw_time.proofs.StampLaws.{leq-refl}
 use Rattle.fw_flow.specs.declared.node.Edge.{Edge}
 use Rattle.fw_flow.specs.Dataflow.{System, Dataflow, kind_of, sender, receiver, edges_into, in_edges, batches_of, send_stamp_of_kind}
 use Rattle.fw_flow.specs.WellFormed.{IsWellFormed}
-use Rattle.fw_flow.specs.Walks.{is_looped}
+use Rattle.fw_flow.specs.Ranks.{is_looped}
 use Rattle.fw_flow.specs.WholeBags.{Timed, timed_recs, recs_where, in_order, outputs_of_kind, outputs_of}
 use Rattle.fw_model.specs.Denotation.{Family}
 use Rattle.fw_model.specs.LawsOfDenotation.{RecsAtStampsDecideBag, OutBagsDependOnLesserMeasure}

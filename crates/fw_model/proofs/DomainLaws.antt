@@ -13,17 +13,17 @@ use Rattle.fw_flow.specs.declared.kind.Kind.{Kind}
 use Rattle.fw_flow.specs.declared.kind.Kind.TheVariants.{Input, OutputEpoch, OutputNumber, Sequence}
 use Rattle.fw_flow.specs.Dataflow.{System, Dataflow, kind_of, sender, receiver, in_edges, domain_of, bounds_of, bounds_of_domain, is_output_kind, send_stamp, bounds_of_edge, HasEpochs}
 use Rattle.fw_flow.specs.NodeFunction.{sends, sends_of_kind, sent_by}
-use Rattle.fw_flow.specs.Walks.{Ranks}
 use Rattle.fw_flow.specs.WellFormed.{IsWellFormed, IsWellFormedSystem}
 use Rattle.fw_flow.specs.WholeBags.{Timed, outputs_of_kind}
-use Rattle.fw_flow.proofs.Ranks.{ranks-exist}
 use Rattle.fw_model.specs.Denotation.{Family, IsDenotation}
 use Rattle.fw_model.specs.History.{sent_messages, delivered_messages, IsLegal}
 use Rattle.fw_model.proofs.LegalLaws.{edge_domains, legal_messages-in_domain}
 use Rattle.fw_model.proofs.CompleteLaws.{past_edges-idle}
 use Rattle.fw_model.proofs.WeightLaws.{weigh, one, one-out}
 use Rattle.fw_model.proofs.SentLaws.{timed_of, timed_message, delivered-lighter}
-use Rattle.fw_model.proofs.StampMeasures.{by_below, counter_in, IsEarlier, earlier-sends}
+use Rattle.fw_model.specs.Measure.{Measure}
+use Rattle.fw_model.proofs.MeasureLaws.{measure-exists}
+use Rattle.fw_model.proofs.StampMeasures.{by_measure, IsEarlier, earlier-sends}
 use Rattle.fw_model.proofs.DenotationDomainLaws.{denotation-in_domain}
 use Rattle.fw_model.proofs.ArrivalLaws.{in_edges-receive}
 use Rattle.fw_model.proofs.InputLaws.{sent-weigh}
@@ -97,19 +97,19 @@ abbrev pub EdgeStamp : Type 0
 EdgeStamp = ℕ × Stamp
 
 pub along : (flow : Dataflow) → IsWellFormed flow → (P : EdgeStamp → Type 0)
-    → ((r : Ranks flow) (e : ℕ) (t : Stamp) → ((d : ℕ) (u : Stamp) → IsEarlier flow r (receiver flow d) u (receiver flow e) t → P (d, u)) → P (e, t))
+    → ((r : Measure flow) (e : ℕ) (t : Stamp) → ((d : ℕ) (u : Stamp) → IsEarlier flow r (receiver flow d) u (receiver flow e) t → P (d, u)) → P (e, t))
     → (e : ℕ) (t : Stamp) → P (e, t)
 along flow w P step e t =
-    let r = ranks-exist flow w in
-    by_below {A = EdgeStamp} (λ x. r.lambda (receiver flow x.0)) (λ x. counter_in (domain_of flow (receiver flow x.0)) x.1) (λ x. r.rho (receiver flow x.0)) P
+    let r = measure-exists flow w in
+    by_measure {A = EdgeStamp} (λ x. r.measure (receiver flow x.0) x.1) P
     (λ x ih. step r x.0 x.1 (λ d u i. ih (d, u) i)) (e, t)
 
 -- the induction's hypothesis at the in-edges of the sender
-pub from_earlier : (flow : Dataflow) → IsWellFormed flow → (r : Ranks flow) (P : EdgeStamp → Type 0) (e : ℕ) (t : Stamp) → e < length flow.edges
+pub from_earlier : (flow : Dataflow) → IsWellFormed flow → (r : Measure flow) (P : EdgeStamp → Type 0) (e : ℕ) (t : Stamp) → e < length flow.edges
     → ((d : ℕ) (u : Stamp) → IsEarlier flow r (receiver flow d) u (receiver flow e) t → P (d, u))
     → (d : ℕ) (u s : Stamp) → receiver flow d ≡ sender flow e → send_stamp flow (sender flow e) u ≡ Some s → leq s t ≡ true → P (d, u)
 from_earlier flow w r P e t l ih d u s at i k =
-    ih d u (subst (λ n. IsEarlier flow r n u (receiver flow e) t) (sym at) (earlier-sends flow w r e l u s t i k))
+    ih d u (subst (λ n. IsEarlier flow r n u (receiver flow e) t) (sym at) (earlier-sends flow r e l u s t i k))
 
 -- what holds of each in-edge
 pub each_in_edge : (flow : Dataflow) (p : ℕ) (P : ℕ → Type 0) → ((d : ℕ) → receiver flow d ≡ p → P d) → AllByRecursion P (in_edges flow p)

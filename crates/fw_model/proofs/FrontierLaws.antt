@@ -1,5 +1,5 @@
 -- Phi and psi of a frontier are frontiers.
-use Rattle.std.proofs.Common.{◌≡◌, ℕ, ◌+◌, ◌-◌, ◌*◌, ◌≤◌, min, Bool, true, false, ◌&&◌, ◌||◌, ◌==◌, nat_lt, [], ◌∷◌, refl, ap, inl, inr, arith}
+use Rattle.std.proofs.Common.{◌≡◌, ℕ, ◌+◌, ◌-◌, ◌*◌, ◌≤◌, min, Bool, true, false, ◌&&◌, ◌||◌, ◌==◌, nat_lt, [], ◌∷◌, refl, ap, inl, inr, arith, sym, ◌∙◌, subst}
 use Rattle.std.proofs.lemmas.Bool.{and_parts, and_from, or_cases, or_left, or_right, ltb-true, lt-ltb, eqb-true, eq-eqb}
 use Rattle.std.proofs.Math.Nat.{min-le_left, min-le_right, le-min, mul-le-mul_right}
 use Rattle.fw_time.specs.Stamp.{Stamp, leq, nest, outer, counter, in_domain}
@@ -7,6 +7,8 @@ use Rattle.fw_frontier.specs.Frontier.{Frontier, IsFrontier}
 use Rattle.fw_flow.specs.declared.kind.Kind.{Kind}
 use Rattle.fw_flow.specs.declared.kind.Kind.TheVariants.{Enter, Feedback, Leave, Sequence, Regroup}
 use Rattle.fw_flow.specs.Dataflow.{greatest_of_kind, System, kind_of, sender, max_of, greatest_number, domain_of_kind, out_domain_of_kind, bounds_of, bounds_of_domain, is_sequence_kind, bounds_of_edge, Dataflow}
+use Rattle.fw_flow.proofs.Chains.{outer_greatest, outer_greatest-is}
+use Rattle.fw_time.proofs.StampLaws.{counter-nest}
 use Rattle.fw_flow.specs.Projection.{sent_count, first_coordinate, phi_of_kind, phi, psi_of_kind, psi}
 use Rattle.fw_model.specs.LawsOfProjections.{PhiIsFrontier, PsiIsFrontier, PhiIgnoresHistory}
 use Rattle.fw_model.proofs.StampLaws.{nest-leq, in_loop, loop-leq, leq_from, leq_to, in_line, line-leq, leq-line}
@@ -48,12 +50,12 @@ phi_of_kind-closed : (sys : System) (kind : Kind) (count : ℕ) (f : Frontier) �
     → in_domain (bounds_of_domain sys.flow (out_domain_of_kind sys.flow kind)) u ≡ true → leq s u ≡ true
     → phi_of_kind (greatest_of_kind sys.flow kind) kind count f u ≡ true → phi_of_kind (greatest_of_kind sys.flow kind) kind count f s ≡ true
 phi_of_kind-closed sys (Enter r) n f fr s u i j l k =
-    let b = greatest_number ∷ [] in
+    let b = outer_greatest sys.flow r in
     let m = max_of sys.flow r in
     let v = in_loop s b m i in
-    fr.closed (outer s) (outer u) v.outside (loop-leq b m s u v (in_loop u b m j) l).0 k
+    fr.closed (outer s) (outer u) (sym (ap (leq (outer s)) (outer_greatest-is sys.flow r)) ∙ v.outside) (loop-leq b m s u v (in_loop u b m j) l).0 k
 phi_of_kind-closed sys (Feedback r) n f fr s u i j l k =
-    let b = greatest_number ∷ [] in
+    let b = outer_greatest sys.flow r in
     let m = max_of sys.flow r in
     let q = (loop-leq b m s u (in_loop s b m i) (in_loop u b m j) l).1 in
     elim (or_cases (counter u == 0) (f (nest (outer u) (counter u - 1))) k) [
@@ -61,9 +63,11 @@ phi_of_kind-closed sys (Feedback r) n f fr s u i j l k =
       | inr z ↦ or_right (counter s == 0) _ (feedback-closed b m f fr s u i j l z)
     ]
 phi_of_kind-closed sys (Leave r) n f fr s u i j l k =
-    let m = max_of sys.flow r in
+    let b = outer_greatest sys.flow r in
+    let m = counter (nest b (max_of sys.flow r)) in
+    let last : m ≡ max_of sys.flow r = counter-nest b (max_of sys.flow r) in
     each_counter-from f s m
-    (λ c h. fr.closed (nest s c) (nest u c) (nest-leq s (greatest_number ∷ []) c m i h) (nest-leq s u c c l (omega arith)) (each_counter-at f u m c h k))
+    (λ c h. fr.closed (nest s c) (nest u c) (nest-leq s b c (max_of sys.flow r) (ap (leq s) (outer_greatest-is sys.flow r) ∙ i) (omega arith)) (nest-leq s u c c l (omega arith)) (each_counter-at f u m c h k))
 phi_of_kind-closed sys Sequence n f fr s u i j l k =
     sequence-closed (f (greatest_number ∷ [])) (first_coordinate s) (first_coordinate u) n (line-numbers greatest_number s u i j l) k
 phi_of_kind-closed sys (Regroup r) n f fr s u i j l k =
@@ -78,20 +82,22 @@ psi_of_kind-closed : (flow : Dataflow) (kind : Kind) (f : Frontier) → IsFronti
     → in_domain (bounds_of_domain flow (out_domain_of_kind flow kind)) u ≡ true → leq s u ≡ true
     → psi_of_kind (greatest_of_kind flow kind) kind f u ≡ true → psi_of_kind (greatest_of_kind flow kind) kind f s ≡ true
 psi_of_kind-closed flow (Enter r) f fr s u i j l k =
-    let b = greatest_number ∷ [] in
+    let b = outer_greatest flow r in
     let m = max_of flow r in
     let v = in_loop s b m i in
     let q = loop-leq b m s u v (in_loop u b m j) l in
     let a = and_parts (counter u == 0) (f (outer u)) k in
     let y = eqb-true (counter u) 0 a.0 in
     let z = q.1 in
-    and_from (counter s == 0) (f (outer s)) (eq-eqb (counter s) 0 (omega arith)) (fr.closed (outer s) (outer u) v.outside q.0 a.1)
-psi_of_kind-closed flow (Feedback r) f fr s u i j l k = feedback-closed (greatest_number ∷ []) (max_of flow r) f fr s u i j l k
+    and_from (counter s == 0) (f (outer s)) (eq-eqb (counter s) 0 (omega arith)) (fr.closed (outer s) (outer u) (sym (ap (leq (outer s)) (outer_greatest-is flow r)) ∙ v.outside) q.0 a.1)
+psi_of_kind-closed flow (Feedback r) f fr s u i j l k = feedback-closed (outer_greatest flow r) (max_of flow r) f fr s u i j l k
 psi_of_kind-closed flow (Leave r) f fr s u i j l k =
-    let m = max_of flow r in
+    let b = outer_greatest flow r in
+    let m = counter (nest b (max_of flow r)) in
+    let last : m ≡ max_of flow r = counter-nest b (max_of flow r) in
     let w = some_counter-at f u m k in
     some_counter-from f s m w.0 w.1
-    (fr.closed (nest s w.0) (nest u w.0) (nest-leq s (greatest_number ∷ []) w.0 m i w.1) (nest-leq s u w.0 w.0 l (omega arith)) w.2)
+    (fr.closed (nest s w.0) (nest u w.0) (nest-leq s b w.0 (max_of flow r) (ap (leq s) (outer_greatest-is flow r) ∙ i) (omega (arith, w.1))) (nest-leq s u w.0 w.0 l (omega arith)) w.2)
 psi_of_kind-closed flow (Regroup r) f fr s u i j l k =
     let x = first_coordinate s * r in
     let y = first_coordinate u * r in

@@ -3,11 +3,12 @@ use Rattle.std.proofs.Common.{◌≡◌, ℕ, zero, suc, ◌+◌, ◌-◌, ◌*�
 use Rattle.std.proofs.lemmas.Bool.{and_parts, and_from, or_left, or_right, cases_Bool, cases_lt, both_ways}
 use Rattle.std.proofs.Math.Nat.{min-le_right}
 use Rattle.fw_time.specs.Stamp.{Stamp, leq, nest, outer, counter, in_domain}
-use Rattle.fw_time.proofs.StampLaws.{leq-refl}
+use Rattle.fw_time.proofs.StampLaws.{leq-refl, counter-nest}
 use Rattle.fw_frontier.specs.Frontier.{Frontier, IsFrontier, Within, everything, meet}
 use Rattle.fw_flow.specs.declared.kind.Kind.{Kind}
 use Rattle.fw_flow.specs.declared.kind.Kind.TheVariants.{Enter, Feedback, Leave, Sequence, Regroup}
 use Rattle.fw_flow.specs.Dataflow.{greatest_of_kind, System, kind_of, sender, max_of, greatest_number, domain_of_kind, out_domain_of_kind, bounds_of, bounds_of_domain}
+use Rattle.fw_flow.proofs.Chains.{outer_greatest, outer_greatest-is}
 use Rattle.fw_flow.specs.NodeFunction.{sent_by}
 use Rattle.fw_flow.specs.Projection.{events_at, sent_count, first_coordinate, each_counter, phi_of_kind, phi}
 use Rattle.fw_model.specs.LawsOfProjections.{PhiOfMeet, PhiOfEverything}
@@ -72,7 +73,7 @@ phi_of_kind-meet : (sys : System) (kind : Kind) (count : Frontier → ℕ) → (
     → phi_of_kind (greatest_of_kind sys.flow kind) kind (count (meet f g)) (meet f g) u ≡ true
 phi_of_kind-meet sys (Enter l) count mono f g ff fg u j k = and_from (f (outer u)) (g (outer u)) j k
 phi_of_kind-meet sys (Feedback l) count mono f g ff fg u j k = or_meet (counter u == 0) _ _ j k
-phi_of_kind-meet sys (Leave l) count mono f g ff fg u j k = each_counter-meet f g u (max_of sys.flow l) j k
+phi_of_kind-meet sys (Leave l) count mono f g ff fg u j k = each_counter-meet f g u (counter (greatest_of_kind sys.flow (Leave l))) j k
 phi_of_kind-meet sys Sequence count mono f g ff fg u j k = elim (one_within greatest_number f g ff fg) [
   | inl w ↦
       let v : Within f (meet f g) = λ t i. and_from (f t) (g t) i (w t i) in
@@ -105,13 +106,15 @@ phi-meet sys h e f g ff fg u =
 
 phi_of_kind-everything : (sys : System) (kind : Kind) (count : ℕ) (u : Stamp) → in_domain (bounds_of_domain sys.flow (out_domain_of_kind sys.flow kind)) u ≡ true
     → phi_of_kind (greatest_of_kind sys.flow kind) kind count (everything (bounds_of_domain sys.flow (domain_of_kind sys.flow kind))) u ≡ true
-phi_of_kind-everything sys (Enter l) n u i = (in_loop u (greatest_number ∷ []) (max_of sys.flow l) i).outside
+phi_of_kind-everything sys (Enter l) n u i = sym (ap (leq (outer u)) (outer_greatest-is sys.flow l)) ∙ (in_loop u (outer_greatest sys.flow l) (max_of sys.flow l) i).outside
 phi_of_kind-everything sys (Feedback l) n u i =
-    let v = in_loop u (greatest_number ∷ []) (max_of sys.flow l) i in
+    let v = in_loop u (outer_greatest sys.flow l) (max_of sys.flow l) i in
     let c = v.counted in
-    or_right (counter u == 0) _ (nest-leq (outer u) (greatest_number ∷ []) (counter u - 1) (max_of sys.flow l) v.outside (omega arith))
+    or_right (counter u == 0) _ (nest-leq (outer u) (outer_greatest sys.flow l) (counter u - 1) (max_of sys.flow l) v.outside (omega arith))
 phi_of_kind-everything sys (Leave l) n u i =
-    each_counter-from (everything (bounds_of_domain sys.flow (domain_of_kind sys.flow (Leave l)))) u (max_of sys.flow l) (λ c h. nest-leq u (greatest_number ∷ []) c (max_of sys.flow l) i h)
+    let last = counter-nest (outer_greatest sys.flow l) (max_of sys.flow l) in
+    each_counter-from (everything (bounds_of_domain sys.flow (domain_of_kind sys.flow (Leave l)))) u (counter (greatest_of_kind sys.flow (Leave l)))
+    (λ c h. nest-leq u (outer_greatest sys.flow l) c (max_of sys.flow l) (ap (leq u) (outer_greatest-is sys.flow l) ∙ i) (omega arith))
 phi_of_kind-everything sys Sequence n u i = or_left _ (nat_lt (first_coordinate u) n) (leq-refl (greatest_number ∷ []))
 phi_of_kind-everything sys (Regroup r) n u i = line-leq (min (first_coordinate u * r + r - 1) greatest_number) greatest_number (min-le_right (first_coordinate u * r + r - 1) greatest_number)
 phi_of_kind-everything sys kind n u i = i

@@ -1,6 +1,6 @@
 -- On numbered edges the denotation has one rec at each number, without a gap.
-use Rattle.std.proofs.Common.{◌≡◌, ◌⊎◌, ℕ, zero, suc, ◌+◌, ◌<◌, ◌==◌, nat_le, nat_lt, true, false, cond, List, [], ◌∷◌, length, Option, Some, None, map, refl, sym, ap, subst, ◌∙◌, inl, inr, append-nil, arith}
-use Rattle.std.proofs.lemmas.Bool.{cond_both, cond-true, cases_lt, lt-ltb}
+use Rattle.std.proofs.Common.{◌≡◌, ◌&&◌, ◌⊎◌, ℕ, zero, suc, ◌+◌, ◌<◌, ◌==◌, nat_le, nat_lt, true, false, cond, List, [], ◌∷◌, length, Option, Some, None, map, refl, sym, ap, subst, ◌∙◌, inl, inr, append-nil, arith}
+use Rattle.std.proofs.lemmas.Bool.{cond_both, cond-true, cases_lt, lt-ltb, true≢false}
 use Rattle.std.specs.List.{AllByRecursion}
 use Rattle.std.specs.Ordering.{nat_cmp, ordering_then, is_gt}
 use Rattle.std.specs.declared.cmp.Ordering.TheVariants.{Less, Equal, Greater}
@@ -11,10 +11,10 @@ use Rattle.fw_flow.specs.declared.kind.Domain.{Domain}
 use Rattle.fw_flow.specs.declared.kind.Domain.TheVariants.{Epoch, Number, Loop as InLoop}
 use Rattle.fw_flow.specs.declared.kind.Kind.{Kind}
 use Rattle.fw_flow.specs.declared.kind.Kind.TheVariants.{Input, OutputEpoch, OutputNumber, Select, Concat, Distinct, Join, Sum, Enter, Feedback, Leave, Total, Sequence, Ledger, Regroup}
-use Rattle.fw_flow.specs.Dataflow.{System, Dataflow, kind_of, sender, receiver, in_edges, batches_of, greatest_number, domain_within, domain_of, out_domain_of, domain_of_kind, out_domain_of_kind, is_of_numbers, is_numbered}
+use Rattle.fw_flow.specs.Dataflow.{System, Dataflow, is_loop, kind_of, sender, receiver, in_edges, batches_of, greatest_number, domain_within, domain_of, out_domain_of, domain_of_kind, out_domain_of_kind, is_of_numbers, is_numbered}
 use Rattle.fw_flow.specs.WellFormed.{IsWellFormed, IsInDegree}
-use Rattle.fw_flow.specs.Walks.{is_same_loop}
 use Rattle.fw_flow.specs.WholeBags.{Timed, timed_cmp, in_order, numbered_recs, running_totals, joint_bag, outputs_of_kind}
+use Rattle.fw_flow.proofs.Chains.{parent-no_number}
 use Rattle.fw_model.specs.Denotation.{Family, IsDenotation, AreNumberedFrom}
 use Rattle.fw_model.specs.LawsOfDenotation.{DenotationIsNumbered}
 use Rattle.fw_model.proofs.LegalLaws.{edge_domains}
@@ -74,13 +74,13 @@ sends_numbers flow (Join within) k = absurd (not_number within k)
 sends_numbers flow (Sum within) k = absurd (not_number within k)
 sends_numbers flow (Enter l) k = absurd (cc)
 sends_numbers flow (Feedback l) k = absurd (cc)
-sends_numbers flow (Leave l) k = absurd (cc)
+sends_numbers flow (Leave l) k = absurd (true≢false (sym k ∙ parent-no_number flow l))
 sends_numbers flow Total k = absurd (cc)
 sends_numbers flow Sequence k = inl (inl refl)
 sends_numbers flow Ledger k = inl (inr refl)
 sends_numbers flow (Regroup n) k = absurd (cc)
 
-number-no_loop : (d e : Domain) → is_of_numbers d ≡ true → is_same_loop d e ≡ false
+number-no_loop : (d e : Domain) → is_of_numbers d ≡ true → (is_loop d && is_loop e) ≡ false
 number-no_loop Epoch e k = refl
 number-no_loop Number e k = refl
 number-no_loop (InLoop l) e k = absurd (cc)

@@ -1,15 +1,16 @@
 -- Psi backwards, by the send stamps of the sender, and that it is the largest.
-use Rattle.std.proofs.Common.{◌≡◌, ◌↔◌, ℕ, ◌+◌, ◌-◌, ◌/◌, ◌<◌, ◌≤◌, min, true, [], ◌∷◌, Some, refl, sym, ap, ◌∙◌, arith}
+use Rattle.std.proofs.Common.{◌≡◌, ◌↔◌, ℕ, ◌+◌, ◌-◌, ◌/◌, ◌<◌, ◌≤◌, min, true, [], ◌∷◌, Some, refl, sym, ap, ◌∙◌, arith, subst}
 use Rattle.std.proofs.lemmas.Bool.{and_parts}
 use Rattle.std.proofs.Math.Nat.{div-le_self, min-le_left, min-le_right, le-min}
 use Rattle.fw_time.specs.declared.stamp.Bounds.{Bounds}
 use Rattle.fw_time.specs.Stamp.{Stamp, leq, nest, outer, counter, in_domain}
 use Rattle.fw_time.specs.Sending.{entered_stamp, fed_back_stamp, left_stamp, regrouped_stamp}
-use Rattle.fw_time.proofs.StampLaws.{leq-refl, leq-trans}
+use Rattle.fw_time.proofs.StampLaws.{leq-refl, leq-trans, counter-nest}
 use Rattle.fw_frontier.specs.Frontier.{Frontier, IsFrontier}
 use Rattle.fw_flow.specs.declared.kind.Kind.{Kind}
 use Rattle.fw_flow.specs.declared.kind.Kind.TheVariants.{OutputEpoch, OutputNumber, Enter, Feedback, Leave, Sequence, Regroup}
 use Rattle.fw_flow.specs.Dataflow.{kind_of, sender, max_of, greatest_number, domain_of_kind, out_domain_of_kind, greatest_of_kind, bounds_of, bounds_of_domain, send_stamp_of_kind, bounds_of_edge, Dataflow}
+use Rattle.fw_flow.proofs.Chains.{outer_greatest, outer_greatest-is}
 use Rattle.fw_flow.specs.Projection.{first_coordinate, psi, psi_back_of_kind, psi_back}
 use Rattle.fw_model.specs.LawsOfSending.{PsiBackBySendStamps, PsiBackIsLargest}
 use Rattle.fw_model.proofs.StampLaws.{loop-leq, nest-leq, in_loop, leq_from, leq_to, in_line, line-leq, leq-line}
@@ -100,9 +101,13 @@ psi_back_of_kind-by_stamp : (flow : Dataflow) (kind : Kind) (g : Frontier) → S
 psi_back_of_kind-by_stamp flow OutputEpoch g p fr t i = absurd p
 psi_back_of_kind-by_stamp flow OutputNumber g p fr t i = absurd p
 psi_back_of_kind-by_stamp flow Sequence g p fr t i = absurd p
-psi_back_of_kind-by_stamp flow (Enter l) g p fr t i = enter_back (greatest_number ∷ []) (max_of flow l) g fr t i
-psi_back_of_kind-by_stamp flow (Feedback l) g p fr t i = feedback_back (greatest_number ∷ []) (max_of flow l) g p fr t i
-psi_back_of_kind-by_stamp flow (Leave l) g p fr t i = leave_back (greatest_number ∷ []) (max_of flow l) g fr t i
+psi_back_of_kind-by_stamp flow (Enter l) g p fr t i = enter_back (outer_greatest flow l) (max_of flow l) g fr t (ap (leq t) (outer_greatest-is flow l) ∙ i)
+psi_back_of_kind-by_stamp flow (Feedback l) g p fr t i =
+    let b = outer_greatest flow l in
+    subst (λ c. (g (nest (outer t) (min (counter t + 1) c)) ≡ true) ↔ SendsWithin (fed_back_stamp (max_of flow l)) g t) (sym (counter-nest b (max_of flow l)))
+    (feedback_back b (max_of flow l) g p fr t i)
+psi_back_of_kind-by_stamp flow (Leave l) g p fr t i =
+    leave_back (outer_greatest flow l) (max_of flow l) g (subst (λ x. IsFrontier (up_to x) g) (sym (outer_greatest-is flow l)) fr) t i
 psi_back_of_kind-by_stamp flow (Regroup n) g p fr t i = regroup_back greatest_number n g fr t i
 psi_back_of_kind-by_stamp flow kind g p fr t i = same_back _ g fr t i
 

@@ -30,7 +30,7 @@ psi_of_kind-monotone flow (Enter l) f g w u k =
     let a = and_parts (counter u == 0) (f (outer u)) k in
     and_from (counter u == 0) (g (outer u)) a.0 (w (outer u) a.1)
 psi_of_kind-monotone flow (Feedback l) f g w u k = w _ k
-psi_of_kind-monotone flow (Leave l) f g w u k = some_counter-monotone f g w u (max_of flow l) k
+psi_of_kind-monotone flow (Leave l) f g w u k = some_counter-monotone f g w u (counter (greatest_of_kind flow (Leave l))) k
 psi_of_kind-monotone flow (Regroup n) f g w u k = w _ k
 psi_of_kind-monotone flow kind f g w u k = w u k
 
@@ -58,7 +58,7 @@ psi_of_kind-one flow (Enter l) family f w u k =
     let y = w.from_one (outer u) a.1 in
     (y.0, and_from (counter u == 0) (family y.0 (outer u)) a.0 y.1)
 psi_of_kind-one flow (Feedback l) family f w u k = w.from_one _ k
-psi_of_kind-one flow (Leave l) family f w u k = some_counter-one family f w u (max_of flow l) k
+psi_of_kind-one flow (Leave l) family f w u k = some_counter-one family f w u (counter (greatest_of_kind flow (Leave l))) k
 psi_of_kind-one flow (Regroup n) family f w u k = w.from_one _ k
 psi_of_kind-one flow kind family f w u k = w.from_one u k
 
@@ -110,7 +110,7 @@ some_counter-nothing x (suc m) = some_counter-nothing x m
 psi_of_kind-nothing : (flow : Dataflow) (kind : Kind) (u : Stamp) → psi_of_kind (greatest_of_kind flow kind) kind nothing u ≡ false
 psi_of_kind-nothing flow (Enter l) u = and_right (counter u == 0) false refl
 psi_of_kind-nothing flow (Feedback l) u = refl
-psi_of_kind-nothing flow (Leave l) u = some_counter-nothing u (max_of flow l)
+psi_of_kind-nothing flow (Leave l) u = some_counter-nothing u (counter (greatest_of_kind flow (Leave l)))
 psi_of_kind-nothing flow (Regroup n) u = refl
 psi_of_kind-nothing flow kind u = refl
 

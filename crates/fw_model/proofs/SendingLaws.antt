@@ -12,6 +12,7 @@ use Rattle.fw_flow.specs.declared.kind.Kind.{Kind}
 use Rattle.fw_flow.specs.declared.kind.Kind.TheVariants.{OutputEpoch, OutputNumber, Enter, Feedback, Leave, Sequence, Regroup}
 use Rattle.fw_flow.specs.Dataflow.{greatest_of_kind, System, Dataflow, kind_of, sender, max_of, greatest_number, domain_of_kind, out_domain_of_kind, bounds_of, bounds_of_domain, send_stamp, send_stamp_of_kind, bounds_of_edge}
 use Rattle.fw_flow.specs.declared.event.Event.{Event}
+use Rattle.fw_flow.proofs.Chains.{outer_greatest, outer_greatest-is}
 use Rattle.fw_flow.specs.Projection.{sent_count, each_counter, some_counter, phi_of_kind, phi, psi_of_kind, psi}
 use Rattle.fw_model.specs.LawsOfSending.{PhiBySendStamps, PsiBySendStamps, SendStampIsMonotone}
 use Rattle.fw_model.proofs.StampLaws.{IsInLoop, loop-leq, nest-leq, leq-nest, in_loop, leq_from, leq_to, in_line, line-leq, leq-line}
@@ -243,9 +244,14 @@ phi_of_kind-by_stamp : (sys : System) (kind : Kind) (count : ℕ) (f : Frontier)
 phi_of_kind-by_stamp sys OutputEpoch n f p fr u i = absurd p
 phi_of_kind-by_stamp sys OutputNumber n f p fr u i = absurd p
 phi_of_kind-by_stamp sys Sequence n f p fr u i = absurd p
-phi_of_kind-by_stamp sys (Enter l) n f p fr u i = enter_phi (greatest_number ∷ []) (max_of sys.flow l) f fr u i
-phi_of_kind-by_stamp sys (Feedback l) n f p fr u i = feedback_phi (greatest_number ∷ []) (max_of sys.flow l) f fr u i
-phi_of_kind-by_stamp sys (Leave l) n f p fr u i = leave_phi (greatest_number ∷ []) (max_of sys.flow l) f fr u i
+phi_of_kind-by_stamp sys (Enter l) n f p fr u i =
+    subst (λ g. IsFrontier (up_to g) f → (f (outer u) ≡ true) ↔ IsSentFrom (up_to g) entered_stamp f u) (outer_greatest-is sys.flow l)
+    (λ x. enter_phi (outer_greatest sys.flow l) (max_of sys.flow l) f x u i) fr
+phi_of_kind-by_stamp sys (Feedback l) n f p fr u i = feedback_phi (outer_greatest sys.flow l) (max_of sys.flow l) f fr u i
+phi_of_kind-by_stamp sys (Leave l) n f p fr u i =
+    let b = outer_greatest sys.flow l in
+    subst (λ c. (each_counter f u c ≡ true) ↔ IsSentFrom (up_to (nest b (max_of sys.flow l))) left_stamp f u) (sym (counter-nest b (max_of sys.flow l)))
+    (leave_phi b (max_of sys.flow l) f fr u (ap (leq u) (outer_greatest-is sys.flow l) ∙ i))
 phi_of_kind-by_stamp sys (Regroup r) n f p fr u i =
     let v = in_line u greatest_number i in
     let P : Stamp → Type 0 = λ w. (phi_of_kind (greatest_of_kind sys.flow (Regroup r)) (Regroup r) n f w ≡ true) ↔ IsSentFrom (up_to (greatest_number ∷ [])) (regrouped_stamp r) f w in
@@ -259,9 +265,13 @@ psi_of_kind-by_stamp : (flow : Dataflow) (kind : Kind) (f : Frontier) → SendsB
 psi_of_kind-by_stamp flow OutputEpoch f p fr u i = absurd p
 psi_of_kind-by_stamp flow OutputNumber f p fr u i = absurd p
 psi_of_kind-by_stamp flow Sequence f p fr u i = absurd p
-psi_of_kind-by_stamp flow (Enter l) f p fr u i = enter_psi (greatest_number ∷ []) (max_of flow l) f fr u i
-psi_of_kind-by_stamp flow (Feedback l) f p fr u i = feedback_psi (greatest_number ∷ []) (max_of flow l) f p fr u i
-psi_of_kind-by_stamp flow (Leave l) f p fr u i = leave_psi (greatest_number ∷ []) (max_of flow l) f fr u i
+psi_of_kind-by_stamp flow (Enter l) f p fr u i =
+    enter_psi (outer_greatest flow l) (max_of flow l) f (subst (λ g. IsFrontier (up_to g) f) (sym (outer_greatest-is flow l)) fr) u i
+psi_of_kind-by_stamp flow (Feedback l) f p fr u i = feedback_psi (outer_greatest flow l) (max_of flow l) f p fr u i
+psi_of_kind-by_stamp flow (Leave l) f p fr u i =
+    let b = outer_greatest flow l in
+    subst (λ c. (some_counter f u c ≡ true) ↔ SendsAbove left_stamp f u) (sym (counter-nest b (max_of flow l)))
+    (leave_psi b (max_of flow l) f fr u (ap (leq u) (outer_greatest-is flow l) ∙ i))
 psi_of_kind-by_stamp flow (Regroup r) f p fr u i =
     let v = in_line u greatest_number i in
     let P : Stamp → Type 0 = λ w. (psi_of_kind (greatest_of_kind flow (Regroup r)) (Regroup r) f w ≡ true) ↔ SendsAbove (regrouped_stamp r) f w in
@@ -295,14 +305,15 @@ pub send_stamp_of_kind-in_domain : (flow : Dataflow) (kind : Kind) (t s : Stamp)
 send_stamp_of_kind-in_domain flow OutputEpoch t s i e = absurd (cc)
 send_stamp_of_kind-in_domain flow OutputNumber t s i e = absurd (cc)
 send_stamp_of_kind-in_domain flow (Enter l) t s i e =
-    leq_from (nest t 0) s _ (some_is (nest t 0) s e) (nest-leq t (greatest_number ∷ []) 0 (max_of flow l) i (omega arith))
+    leq_from (nest t 0) s _ (some_is (nest t 0) s e) (nest-leq t (outer_greatest flow l) 0 (max_of flow l) (ap (leq t) (outer_greatest-is flow l) ∙ i) (omega arith))
 send_stamp_of_kind-in_domain flow (Feedback l) t s i e =
-    let v = in_loop t (greatest_number ∷ []) (max_of flow l) i in
+    let v = in_loop t (outer_greatest flow l) (max_of flow l) i in
     let a = fed_back-some (max_of flow l) t s e in
     let c = a.0 in
-    leq_from _ s _ a.1 (nest-leq (outer t) (greatest_number ∷ []) (counter t + 1) (max_of flow l) v.outside (omega arith))
+    leq_from _ s _ a.1 (nest-leq (outer t) (outer_greatest flow l) (counter t + 1) (max_of flow l) v.outside (omega arith))
 send_stamp_of_kind-in_domain flow (Leave l) t s i e =
-    leq_from (outer t) s _ (some_is (outer t) s e) (in_loop t (greatest_number ∷ []) (max_of flow l) i).outside
+    sym (ap (leq s) (outer_greatest-is flow l))
+    ∙ leq_from (outer t) s _ (some_is (outer t) s e) (in_loop t (outer_greatest flow l) (max_of flow l) i).outside
 send_stamp_of_kind-in_domain flow (Regroup n) t s i e =
     let v = in_line t greatest_number i in
     let x = v.0 in
@@ -335,7 +346,7 @@ send_stamp_of_kind-monotone flow (Enter r) s t w i l e =
     (nest s 0, refl, leq_to (nest s 0) _ w (some_is (nest t 0) w e) (nest-leq s t 0 0 l (omega arith)))
 send_stamp_of_kind-monotone flow (Feedback r) s t w i l e =
     let m = max_of flow r in
-    let b = greatest_number ∷ [] in
+    let b = outer_greatest flow r in
     let y = in_loop t b m i in
     let x = in_loop s b m (leq-trans s t (nest b m) l i) in
     let q = loop-leq b m s t x y l in
@@ -348,7 +359,7 @@ send_stamp_of_kind-monotone flow (Feedback r) s t w i l e =
     )
 send_stamp_of_kind-monotone flow (Leave r) s t w i l e =
     let m = max_of flow r in
-    let b = greatest_number ∷ [] in
+    let b = outer_greatest flow r in
     let q = loop-leq b m s t (in_loop s b m (leq-trans s t (nest b m) l i)) (in_loop t b m i) l in
     (outer s, refl, leq_to (outer s) _ w (some_is (outer t) w e) q.0)
 send_stamp_of_kind-monotone flow (Regroup n) s t w i l e =

@@ -1,7 +1,7 @@
 -- A refusal has one of the numbers of a status.
 use Rattle.std.proofs.Common.{refl, lit<, Contains}
 use Rattle.fw_lines.specs.declared.refusal.Code.{Code}
-use Rattle.fw_lines.specs.declared.refusal.Code.TheVariants.{F1, F2, F3, F4, F5, F6, F7, F8, F9, F10, F11, I1, I2, I3, I4, I5, S1, S2, S3, S4}
+use Rattle.fw_lines.specs.declared.refusal.Code.TheVariants.{F1, F2, F3, F4, F5, F6, F7, F8, F9, F10, F11, F12, I1, I2, I3, I4, I5, S1, S2, S3, S4}
 use Rattle.fw_run.specs.Status.{refusal_number, status_numbers}
 
 pub some_refusal_number : (code : Code) → Contains status_numbers (refusal_number code)
@@ -16,6 +16,7 @@ some_refusal_number F8 = (2, lit< tt, refl)
 some_refusal_number F9 = (2, lit< tt, refl)
 some_refusal_number F10 = (2, lit< tt, refl)
 some_refusal_number F11 = (2, lit< tt, refl)
+some_refusal_number F12 = (2, lit< tt, refl)
 some_refusal_number I1 = (3, lit< tt, refl)
 some_refusal_number I2 = (3, lit< tt, refl)
 some_refusal_number I3 = (3, lit< tt, refl)

@@ -3,7 +3,7 @@ use Rattle.std.specs.Prelude.{◌≡◌, ◌⊎◌, ℕ, List, [], ◌∷◌, �
 use Rattle.std.specs.Fmt.{decimal}
 use Rattle.fw_outside.specs.Outside.{SinkView, Rose, Takes, TakesPrefix}
 use Rattle.fw_lines.specs.declared.refusal.Code.{Code}
-use Rattle.fw_lines.specs.declared.refusal.Code.TheVariants.{F1, F2, F3, F4, F5, F6, F7, F8, F9, F10, F11, I1, I2, I3, I4, I5, S1, S2, S3, S4}
+use Rattle.fw_lines.specs.declared.refusal.Code.TheVariants.{F1, F2, F3, F4, F5, F6, F7, F8, F9, F10, F11, F12, I1, I2, I3, I4, I5, S1, S2, S3, S4}
 use Rattle.fw_lines.specs.declared.refusal.Refusal.{Refusal}
 use Rattle.fw_lines.specs.Refusal.{code_text}
 use Rattle.fw_run.specs.declared.status.Status.{Status}
@@ -22,6 +22,7 @@ refusal_number F8 = 3
 refusal_number F9 = 3
 refusal_number F10 = 3
 refusal_number F11 = 3
+refusal_number F12 = 3
 refusal_number I1 = 4
 refusal_number I2 = 4
 refusal_number I3 = 4

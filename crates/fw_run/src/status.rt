@@ -54,7 +54,8 @@ fn refusal_number(code: Code) -> u8
         | Code::F8
         | Code::F9
         | Code::F10
-        | Code::F11 => 3,
+        | Code::F11
+        | Code::F12 => 3,
         Code::I1 | Code::I2 | Code::I3 | Code::I4 | Code::I5 => 4,
         Code::S1 | Code::S2 | Code::S3 | Code::S4 => 5,
     }

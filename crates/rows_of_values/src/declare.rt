@@ -8,7 +8,11 @@ use std::alloc::{AllocError, Global};
 pub fn declaration(alloc: Global, line: &str) -> Result<Option<Declaration>, AllocError> {
     let words: Vec<&str> = line.split_whitespace().collect(alloc)?;
     match words.as_slice() {
-        ["loop", name, "max", max] => a_loop(alloc, name, max),
+        ["loop", name, "max", max] => a_loop(alloc, name, max, None),
+        ["loop", name, "max", max, "in", parent] => match name_of(alloc, parent)? {
+            Some(parent) => a_loop(alloc, name, max, Some(parent)),
+            None => Ok(None),
+        },
         ["node", name, kind @ .., "policy", policy] => node(alloc, name, kind, policy),
         ["node", name, kind @ ..] => node(alloc, name, kind, "none"),
         ["edge", name, sender, receiver] => edge(alloc, name, sender, receiver),
@@ -16,11 +20,16 @@ pub fn declaration(alloc: Global, line: &str) -> Result<Option<Declaration>, All
     }
 }
 
-fn a_loop(alloc: Global, name: &str, max: &str) -> Result<Option<Declaration>, AllocError> {
+fn a_loop(
+    alloc: Global,
+    name: &str,
+    max: &str,
+    parent: Option<Name>,
+) -> Result<Option<Declaration>, AllocError> {
     let (Some(name), Ok(max)) = (name_of(alloc, name)?, max.parse::<u64>()) else {
         return Ok(None);
     };
-    Ok(Some(Declaration::Loop { name, max }))
+    Ok(Some(Declaration::Loop { name, max, parent }))
 }
 
 fn node(

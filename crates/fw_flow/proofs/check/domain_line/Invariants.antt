@@ -4,4 +4,4 @@ use Rattle.fw_flow.specs.Walks.{IsMadeOf}
 use Rattle.fw_flow.proofs.check.domain_line.Given as goal
 
 abbrev pub invariant-loop-place : goal.invariant-loop-place
-invariant-loop-place l = (flow : Dataflow) → IsMadeOf flow l.nodes l.links → HoldsBelow (JoinsDomains flow) l.place
+invariant-loop-place l = (flow : Dataflow) → IsMadeOf flow l.loops l.nodes l.links → HoldsBelow (JoinsDomains flow) l.place

@@ -1,4 +1,4 @@
-use Rattle.fw_flow.proofs.Ranks.{ranks-exist}
+use Rattle.fw_flow.proofs.RankLaws.{ranks-exist}
 use Rattle.fw_flow.proofs.laws.ranks_exist.Goals as goal
 
 pub returns : goal.returns

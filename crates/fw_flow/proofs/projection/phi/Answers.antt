@@ -1,14 +1,14 @@
-use Rattle.fw_flow.proofs.ProjectionLaws.{nests-sender, moved-ok, below-ok, phi-enter, phi-feedback, phi-leave, phi-sequence_ok, phi-regroup_ok}
+use Rattle.fw_flow.proofs.ProjectionLaws.{somes-sender, nests-enter, moved-ok, below-ok, phi-enter, phi-feedback, phi-leave, phi-sequence_ok, phi-regroup_ok}
 use Rattle.fw_flow.proofs.projection.phi.Goals as goal
 
 pub moved-requires : goal.moved-requires
-moved-requires c = nests-sender c.requires.domains c.args.f.now c.requires.front
+moved-requires c = let d = rw c.in-Enter.is at c.requires.domains in nests-enter d c.args.f.now c.requires.front
 
 pub moved-requires-in-Feedback : goal.moved-requires-in-Feedback
-moved-requires-in-Feedback c = nests-sender c.requires.domains c.args.f.now c.requires.front
+moved-requires-in-Feedback c = somes-sender c.requires.domains c.args.f.now c.requires.front
 
 pub moved-requires-in-Leave : goal.moved-requires-in-Leave
-moved-requires-in-Leave c = nests-sender c.requires.domains c.args.f.now c.requires.front
+moved-requires-in-Leave c = somes-sender c.requires.domains c.args.f.now c.requires.front
 
 pub returns-in-Enter : goal.returns-in-Enter
 returns-in-Enter c =

@@ -1,18 +1,21 @@
 use Rattle.std.proofs.Common.{◌≡◌, ℕ, [], ◌∷◌, ◌+◌, min, sym, ap, ◌∙◌}
 use Rattle.std.specs.Prelude.{◌/◌, ◌%◌, nat_lt}
 use Rattle.fw_frontier.specs.Front.{frontier_of}
-use Rattle.fw_flow.proofs.ProjectionLaws.{nests-sender, moved-ok, below-ok, entered-ok, psi-feedback, psi-leave, psi-regroup_ok, end-limit, end-all}
+use Rattle.fw_flow.proofs.ProjectionLaws.{somes-sender, nests-enter, nest-enter, moved-ok, below-ok, entered-ok, psi-feedback, psi-leave, psi-regroup_ok, end-limit, end-all}
 use Rattle.fw_flow.proofs.projection.psi.Goals as goal
 use Rattle.fw_flow.proofs.projection.psi.Goals.{in-None, in-Some}
 
+pub entered-requires-clause-sender : goal.entered-requires-clause-sender
+entered-requires-clause-sender c = let d = rw c.in-Enter.is at c.requires.domains in nest-enter d
+
 pub entered-requires-clause-front : goal.entered-requires-clause-front
-entered-requires-clause-front c = nests-sender c.requires.domains c.args.f.now c.requires.front
+entered-requires-clause-front c = let d = rw c.in-Enter.is at c.requires.domains in nests-enter d c.args.f.now c.requires.front
 
 pub moved-requires : goal.moved-requires
-moved-requires c = nests-sender c.requires.domains c.args.f.now c.requires.front
+moved-requires c = somes-sender c.requires.domains c.args.f.now c.requires.front
 
 pub moved-requires-in-Leave : goal.moved-requires-in-Leave
-moved-requires-in-Leave c = nests-sender c.requires.domains c.args.f.now c.requires.front
+moved-requires-in-Leave c = somes-sender c.requires.domains c.args.f.now c.requires.front
 
 pub returns-in-Enter : goal.returns-in-Enter
 returns-in-Enter c =

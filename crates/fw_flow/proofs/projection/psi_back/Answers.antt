@@ -1,16 +1,16 @@
 use Rattle.std.proofs.Common.{◌≡◌}
 use Rattle.std.specs.Prelude.{◌*◌}
-use Rattle.fw_flow.proofs.ProjectionLaws.{nests-receiver, moved-ok, below-ok, psi_back-enter, psi_back-feedback, psi_back-leave, psi_back-regroup_ok}
+use Rattle.fw_flow.proofs.ProjectionLaws.{somes-receiver, nests-leave, moved-ok, below-ok, psi_back-enter, psi_back-feedback, psi_back-leave, psi_back-regroup_ok}
 use Rattle.fw_flow.proofs.projection.psi_back.Goals as goal
 
 pub moved-requires : goal.moved-requires
-moved-requires c = nests-receiver c.requires.domains c.args.g.now c.requires.front
+moved-requires c = somes-receiver c.requires.domains c.args.g.now c.requires.front
 
 pub moved-requires-in-Feedback : goal.moved-requires-in-Feedback
-moved-requires-in-Feedback c = nests-receiver c.requires.domains c.args.g.now c.requires.front
+moved-requires-in-Feedback c = somes-receiver c.requires.domains c.args.g.now c.requires.front
 
 pub moved-requires-in-Leave : goal.moved-requires-in-Leave
-moved-requires-in-Leave c = nests-receiver c.requires.domains c.args.g.now c.requires.front
+moved-requires-in-Leave c = let d = rw c.in-Leave.is at c.requires.domains in nests-leave d c.args.g.now c.requires.front
 
 pub returns-in-Enter : goal.returns-in-Enter
 returns-in-Enter c =

@@ -3,7 +3,7 @@ use Rattle.fw_flow.specs.declared.raw.NameSpaces.{NameSpaces}
 use Rattle.fw_flow.specs.declared.walks.Link.{Link}
 use Rattle.fw_flow.specs.Parts.{ArePartsOf}
 use Rattle.fw_flow.specs.Walks.{AreWithin, link_of}
-use Rattle.fw_flow.proofs.Drafts.{AreLinkedPartsOf, few_loops, few_nodes, links_within, ends_below, few_ends, lines_of_nodes, lines_of_edges, edges_to, edges_out_of}
+use Rattle.fw_flow.proofs.Drafts.{AreLinkedPartsOf, few_loops, few_nodes, links_within, ends_below, few_ends, lines_of_loops, lines_of_nodes, lines_of_edges, edges_to, edges_out_of}
 use Rattle.fw_flow.proofs.draft.Draft.of.Goals as goal
 use Rattle.fw_flow.proofs.draft.Draft.of.Goals.{After-len-nodes, After-deref-3, After-deref-5}
 
@@ -58,6 +58,7 @@ returns-clause-fits c =
     let count : length c.in_ok-parts.parts.nodes.items ≡ c.len-nodes.result = search rules in
     record {
       within = links_within parts c.requires.names_declared;
+      lines_of_loops = lines_of_loops parts;
       lines_of_nodes = lines_of_nodes parts;
       lines_of_edges = lines_of_edges parts;
       lists_in = c.in_ok-incoming.ensures.len ∙ sym count;

@@ -1,5 +1,6 @@
 -- What a builder of flows answers. It is its list of declarations.
 use Rattle.std.specs.Prelude.{◌≡◌, ℕ, ◌+◌, Bool, true, false, ◌&&◌, List, [], ◌∷◌, ◌++◌, length, Result, Ok, Err}
+use Rattle.std.specs.Option.{option_map_or}
 use Rattle.fw_lines.specs.declared.fault.ReadFault.{ReadFault}
 use Rattle.fw_lines.specs.declared.fault.ReadFault.TheVariants.{Refused, NoMemory as NoMemoryToRead}
 use Rattle.fw_lines.specs.declared.refusal.Refusal.{Refusal}
@@ -15,9 +16,10 @@ use Rattle.fw_flow.specs.Raw.{is_new}
 abbrev pub with_declaration : List Declared → Declaration → List Declared
 with_declaration raw declaration = raw ++ record { line = length raw + 1; declaration = declaration } ∷ []
 
--- whether the name of a declaration is a name, and of an edge also those of its sender and its receiver
+-- whether the name of a declaration is a name, and so is each name that it has beside it: of a loop that of the loop in which it
+-- is, of an edge those of its sender and its receiver
 abbrev pub has_names : Declaration → Bool
-has_names (Loop name max) = is_name name
+has_names (Loop name max parent) = is_name name && option_map_or is_name parent true
 has_names (Node name kind policy) = is_name name
 has_names (Edge name sender receiver) = is_name name && is_name sender && is_name receiver
 

@@ -114,12 +114,22 @@ impl FlowBuilder {
         self.declare(Declaration::Node { name, kind, policy })
     }
 
-    /// Declares a loop, with its greatest counter, from 1 to 1024.
+    /// Declares a loop that is in no other, with its greatest counter, from 1 to 1024.
     pub fn a_loop(self, name: &str, max: u64) -> Result<Self, BuildFault>
-        ensures { Declares self (Loop name.now max) result }
+        ensures { Declares self (Loop name.now max None) result }
     {
         let name = named(self.alloc, name)?;
-        self.declare(Declaration::Loop { name, max })
+        let parent = None;
+        self.declare(Declaration::Loop { name, max, parent })
+    }
+
+    /// Declares a loop within the loop of the name `parent`, which may be declared later.
+    pub fn a_loop_within(self, name: &str, max: u64, parent: &str) -> Result<Self, BuildFault>
+        ensures { Declares self (Loop name.now max (Some parent.now)) result }
+    {
+        let name = named(self.alloc, name)?;
+        let parent = Some(named(self.alloc, parent)?);
+        self.declare(Declaration::Loop { name, max, parent })
     }
 
     /// Declares an edge, from a node to a node, both by their names. The nodes may be declared later.

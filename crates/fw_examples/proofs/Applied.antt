@@ -1,6 +1,6 @@
 -- The laws applied to their witnesses, which meet what they ask.
 use Rattle.std.proofs.Common.{[], lit<, refl, ◌++◌, ◌∷◌, arith, drop, inl, inr, lit≤, suc, sym, true, zero, ℕ, ◌≡◌, ◌⊎◌}
-use Rattle.fw_flow.specs.Dataflow.{bounds_of, kind_of, receiver, sender, batches_of, max_of, policy_of, in_edges}
+use Rattle.fw_flow.specs.Dataflow.{batches_of, bounds_of, declared_parent, in_edges, kind_of, loops_of, max_of, parent_of, policy_of, receiver, sender}
 use Rattle.fw_flow.specs.declared.choice.Cut.TheVariants.{At}
 use Rattle.fw_flow.specs.declared.event.Event.TheVariants.{Deliver as Delivered, Inject as Injected, Deliver, Inject, Notify}
 use Rattle.fw_flow.specs.declared.step.Step.TheVariants.{Collect, Recover}
@@ -207,7 +207,7 @@ collection_restored =
     }
 
 pub logs_restored : LogsRestored
-unfolding kind_of sender receiver sends bounds_of batches_of max_of
+unfolding kind_of sender receiver sends bounds_of batches_of max_of parent_of declared_parent loops_of
 logs_restored = record {
   two_again = refl;
   logs_of_loop = λ law. law two_batches loop_is_reached.well_formed loop_steps loop_outcomes counting_failed runs_to_failure (is_failed counting_failed) restored restored_is_largest 2 (lit< tt);
@@ -255,7 +255,7 @@ projections_apply = record {
 }
 
 fed_back_in_domain : AreEventsInDomain loop_counts_up under_way 4
-unfolding kind_of receiver bounds_of max_of
+unfolding kind_of receiver bounds_of max_of parent_of declared_parent loops_of
 fed_back_in_domain = (refl, (refl, tt))
 
 numbered_in_domain : AreEventsInDomain regroup_by_three numbered_both 1
@@ -267,7 +267,7 @@ unfolding receiver
 numbered_in_order = record { injects_nothing = refl; in_order = ((refl, tt), (tt, tt)) }
 
 pub sending_applies : SendingApplies
-unfolding kind_of sender bounds_of max_of
+unfolding kind_of sender bounds_of max_of parent_of declared_parent loops_of
 sending_applies = record {
   senders = λ law. law loop_counts_up is_well_formed;
   monotone = λ law. law loop_counts_up 4 (round 0 0) (round 0 1) (round 0 2) refl refl refl;

@@ -75,6 +75,40 @@ pub by_seven : (P : ℕ → Type 0) → P 0 → P 1 → P 2 → P 3 → P 4 → 
 by_seven P a b c d e f g =
     all_seven (λ p. p < 7 → P p) (λ l. a) (λ l. b) (λ l. c) (λ l. d) (λ l. e) (λ l. f) (λ l. g) (λ p l. absurd (omega arith))
 
+-- at each of eleven; of twelve, and at those past them
+pub by_eleven : (P : ℕ → Type 0) → P 0 → P 1 → P 2 → P 3 → P 4 → P 5 → P 6 → P 7 → P 8 → P 9 → P 10 → (p : ℕ) → p < 11 → P p
+by_eleven P a b c d e f g h i j k zero lt = a
+by_eleven P a b c d e f g h i j k (suc zero) lt = b
+by_eleven P a b c d e f g h i j k (suc (suc zero)) lt = c
+by_eleven P a b c d e f g h i j k (suc (suc (suc zero))) lt = d
+by_eleven P a b c d e f g h i j k (suc (suc (suc (suc zero)))) lt = e
+by_eleven P a b c d e f g h i j k (suc (suc (suc (suc (suc zero))))) lt = f
+by_eleven P a b c d e f g h i j k (suc (suc (suc (suc (suc (suc zero)))))) lt = g
+by_eleven P a b c d e f g h i j k (suc (suc (suc (suc (suc (suc (suc zero))))))) lt = h
+by_eleven P a b c d e f g h i j k (suc (suc (suc (suc (suc (suc (suc (suc zero)))))))) lt = i
+by_eleven P a b c d e f g h i j k (suc (suc (suc (suc (suc (suc (suc (suc (suc zero))))))))) lt = j
+by_eleven P a b c d e f g h i j k (suc (suc (suc (suc (suc (suc (suc (suc (suc (suc zero)))))))))) lt = k
+by_eleven P a b c d e f g h i j k (suc (suc (suc (suc (suc (suc (suc (suc (suc (suc (suc p))))))))))) lt = absurd (omega arith)
+
+pub all_twelve : (P : ℕ → Type 0) → P 0 → P 1 → P 2 → P 3 → P 4 → P 5 → P 6 → P 7 → P 8 → P 9 → P 10 → P 11 → ((p : ℕ) → P (suc (suc (suc (suc (suc (suc (suc (suc (suc (suc (suc (suc p))))))))))))) → (p : ℕ) → P p
+all_twelve P a b c d e f g h i j k l past zero = a
+all_twelve P a b c d e f g h i j k l past (suc zero) = b
+all_twelve P a b c d e f g h i j k l past (suc (suc zero)) = c
+all_twelve P a b c d e f g h i j k l past (suc (suc (suc zero))) = d
+all_twelve P a b c d e f g h i j k l past (suc (suc (suc (suc zero)))) = e
+all_twelve P a b c d e f g h i j k l past (suc (suc (suc (suc (suc zero))))) = f
+all_twelve P a b c d e f g h i j k l past (suc (suc (suc (suc (suc (suc zero)))))) = g
+all_twelve P a b c d e f g h i j k l past (suc (suc (suc (suc (suc (suc (suc zero))))))) = h
+all_twelve P a b c d e f g h i j k l past (suc (suc (suc (suc (suc (suc (suc (suc zero)))))))) = i
+all_twelve P a b c d e f g h i j k l past (suc (suc (suc (suc (suc (suc (suc (suc (suc zero))))))))) = j
+all_twelve P a b c d e f g h i j k l past (suc (suc (suc (suc (suc (suc (suc (suc (suc (suc zero)))))))))) = k
+all_twelve P a b c d e f g h i j k l past (suc (suc (suc (suc (suc (suc (suc (suc (suc (suc (suc zero))))))))))) = l
+all_twelve P a b c d e f g h i j k l past (suc (suc (suc (suc (suc (suc (suc (suc (suc (suc (suc (suc p)))))))))))) = past p
+
+pub by_twelve : (P : ℕ → Type 0) → P 0 → P 1 → P 2 → P 3 → P 4 → P 5 → P 6 → P 7 → P 8 → P 9 → P 10 → P 11 → (p : ℕ) → p < 12 → P p
+by_twelve P a b c d e f g h i j k l =
+    all_twelve (λ p. p < 12 → P p) (λ lt. a) (λ lt. b) (λ lt. c) (λ lt. d) (λ lt. e) (λ lt. f) (λ lt. g) (λ lt. h) (λ lt. i) (λ lt. j) (λ lt. k) (λ lt. l) (λ p lt. absurd (omega arith))
+
 -- whether each number below n passes the test
 abbrev pub each_below : (ℕ → Bool) → ℕ → Bool
 each_below test zero = true
@@ -196,6 +230,16 @@ pub within_one : (m : ℕ) (f g : Stamp → Bool)
 within_one m f g h [] k = cc
 within_one m f g h (x ∷ []) k = grind (arith, nat_tests, h x)
 within_one m f g h (x ∷ y ∷ t) k = grind (arith, nat_tests)
+
+-- and for three
+pub within_three : (m n k : ℕ) (f g : Stamp → Bool)
+    → ((x y z : ℕ) → x ≤ m → y ≤ n → z ≤ k → f (x ∷ y ∷ z ∷ []) ≡ true → g (x ∷ y ∷ z ∷ []) ≡ true)
+    → Within (λ t. in_domain (record { greatest = m ∷ n ∷ k ∷ [] }) t && f t) (λ t. in_domain (record { greatest = m ∷ n ∷ k ∷ [] }) t && g t)
+within_three m n k f g h [] l = cc
+within_three m n k f g h (x ∷ []) l = grind (arith, nat_tests)
+within_three m n k f g h (x ∷ y ∷ []) l = grind (arith, nat_tests)
+within_three m n k f g h (x ∷ y ∷ z ∷ []) l = grind (arith, nat_tests, h x y z)
+within_three m n k f g h (x ∷ y ∷ z ∷ w ∷ t) l = grind (arith, nat_tests)
 
 -- what holds behind a test, where what held there brings it
 pub and_more : (a b c : Bool) → (b ≡ true → c ≡ true) → (a && b) ≡ true → (a && c) ≡ true

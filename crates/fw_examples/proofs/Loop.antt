@@ -7,7 +7,7 @@ use Rattle.fw_bag.specs.declared.rec.Rec.{Rec}
 use Rattle.fw_time.specs.Stamp.{Stamp, counter, in_domain, leq, nest, outer, same}
 use Rattle.fw_frontier.specs.Front.{inside}
 use Rattle.fw_frontier.specs.Frontier.{Frontier, Within}
-use Rattle.fw_flow.specs.Dataflow.{batches_of, bounds_of, in_edges, kind_of, max_of, policy_of, receiver, sender}
+use Rattle.fw_flow.specs.Dataflow.{batches_of, bounds_of, declared_parent, in_edges, kind_of, loops_of, max_of, parent_of, policy_of, receiver, sender}
 use Rattle.fw_flow.specs.NodeFunction.{sends}
 use Rattle.fw_flow.specs.Projection.{phi, psi}
 use Rattle.fw_flow.specs.WellFormed.{IsWellFormedSystem}
@@ -48,17 +48,17 @@ second_values : List Rec
 second_values = pair 2 1 ∷ pair 2 2 ∷ pair 2 3 ∷ pair 2 4 ∷ pair 3 1 ∷ pair 3 2 ∷ pair 3 3 ∷ pair 3 4 ∷ []
 
 -- at no other stamp there is one of the recs of one stamp and of others
-recs_where-none : (t at : Stamp) (rs : List Rec) (later : List Timed) → same t at ≡ false
+pub recs_where-none : (t at : Stamp) (rs : List Rec) (later : List Timed) → same t at ≡ false
     → recs_where (same t) later ≡ [] → recs_where (same t) (timed_recs at rs ++ later) ≡ []
 recs_where-none t at [] later h e = e
 recs_where-none t at (r ∷ rs) later h e = rw h (recs_where-none t at rs later h e)
 
 pub two_batches_solves : IsDenotation two_batches (rounds two_batches 14)
-unfolding kind_of sender in_edges batches_of max_of
+unfolding kind_of sender in_edges batches_of max_of parent_of declared_parent loops_of
 two_batches_solves = all_seven _ refl refl refl refl refl refl refl (λ e. refl)
 
 two_batches_at_output : rounds two_batches 14 6 ≡ timed_recs (0 ∷ []) first_values ++ (timed_recs (1 ∷ []) second_values ++ [])
-unfolding kind_of sender in_edges batches_of max_of first_values second_values
+unfolding kind_of sender in_edges batches_of max_of first_values second_values parent_of declared_parent loops_of
 two_batches_at_output = refl
 
 pub two_batches_first : bag_at (rounds two_batches 14) 6 (0 ∷ []) ≡ (pair 1 1 ∷ pair 1 2 ∷ pair 1 3 ∷ pair 1 4 ∷ [])
@@ -81,7 +81,7 @@ two_batches_count_up = record { solves = two_batches_solves; first = two_batches
 -- ---- the complete frontiers of the loop with both batches under way
 
 follows : (e : ℕ) → e < 7 → Within (complete_at (receiver loop_counts_up e)) (phi two_batches under_way e (complete_at (sender loop_counts_up e)))
-unfolding phi kind_of sender receiver bounds_of max_of
+unfolding phi kind_of sender receiver bounds_of max_of parent_of declared_parent loops_of
 follows = by_seven _
     (within_one 4294967295 _ _ (λ x hx h. grind (arith, nat_tests)))
     (within_two 4294967295 3 _ _ (λ x y hx hy h. grind (arith, nat_tests)))
@@ -101,7 +101,7 @@ most_before : (other : ℕ → Frontier) → IsAdmissible two_batches under_way 
 most_before other adm p e t h = and_from _ _ ((adm.frontier p).inside_domain t h) (ap (λ os. inside os t) e)
 
 most_feedback : (other : ℕ → Frontier) → IsAdmissible two_batches under_way other → Within (other 4) (complete_at 4)
-unfolding kind_of sender receiver bounds_of max_of sends batches_of
+unfolding kind_of sender receiver bounds_of max_of sends batches_of parent_of declared_parent loops_of
 most_feedback other adm t h =
     let above : (o : Stamp) → in_domain (bounds_of loop_counts_up 4) o ≡ true → (other 4 o ≡ true → ⊥) → not (leq o t) ≡ true =
     λ o d out. not_above (bounds_of loop_counts_up 4) (other 4) (adm.frontier 4) o d out t h in
@@ -111,20 +111,20 @@ most_feedback other adm t h =
 
 -- phi of the feedback grows with its frontier
 pub feeds_more : (f g : Frontier) → Within f g → (t : Stamp) → phi two_batches under_way 4 f t ≡ true → phi two_batches under_way 4 g t ≡ true
-unfolding phi kind_of sender receiver bounds_of max_of
+unfolding phi kind_of sender receiver bounds_of max_of parent_of declared_parent loops_of
 feeds_more f g w t h = and_more _ _ _ (or_monotone _ _ _ (w (nest (outer t) (counter t - 1)))) h
 
 fed_back : Within (phi two_batches under_way 4 (complete_at 4)) (complete_at 2)
-unfolding phi kind_of sender receiver bounds_of max_of
+unfolding phi kind_of sender receiver bounds_of max_of parent_of declared_parent loops_of
 fed_back = within_two 4294967295 3 _ _ (λ x y hx hy k. grind (arith, nat_tests))
 
 most_mixing : (other : ℕ → Frontier) → IsAdmissible two_batches under_way other → Within (other 2) (complete_at 2)
-unfolding kind_of sender receiver bounds_of max_of
+unfolding kind_of sender receiver bounds_of max_of parent_of declared_parent loops_of
 most_mixing other adm t h =
     fed_back t (feeds_more (other 4) (complete_at 4) (most_feedback other adm) t (adm.follows 4 t h))
 
 most_counting : (other : ℕ → Frontier) → IsAdmissible two_batches under_way other → Within (other 3) (complete_at 3)
-unfolding phi kind_of sender receiver bounds_of max_of sends batches_of
+unfolding phi kind_of sender receiver bounds_of max_of sends batches_of parent_of declared_parent loops_of
 most_counting other adm t h =
     let met : (in_domain (bounds_of loop_counts_up 2) t ≡ true) × (other 2 t ≡ true) =
     and_parts (in_domain (bounds_of loop_counts_up 2) t) (other 2 t) (adm.follows 2 t h) in
@@ -135,24 +135,24 @@ most_counting other adm t h =
     (and_from _ _ (not_above (bounds_of loop_counts_up 3) (other 3) (adm.frontier 3) (1 ∷ 0 ∷ []) refl (kept_out other adm 2 (1 ∷ 0 ∷ []) refl) t h) refl))
 
 most_leaving : (other : ℕ → Frontier) → IsAdmissible two_batches under_way other → Within (other 5) (complete_at 5)
-unfolding kind_of sender receiver bounds_of max_of sends batches_of
+unfolding kind_of sender receiver bounds_of max_of sends batches_of parent_of declared_parent loops_of
 most_leaving other adm t h =
     and_from _ _ ((adm.frontier 5).inside_domain t h)
     (and_from _ _ (not_above (bounds_of loop_counts_up 5) (other 5) (adm.frontier 5) (0 ∷ 0 ∷ []) refl (kept_out other adm 5 (0 ∷ 0 ∷ []) refl) t h) refl)
 
 -- phi of the leave grows with its frontier
 pub leaves_more : (f g : Frontier) → Within f g → (t : Stamp) → phi two_batches under_way 6 f t ≡ true → phi two_batches under_way 6 g t ≡ true
-unfolding phi kind_of sender receiver bounds_of max_of
+unfolding phi kind_of sender receiver bounds_of max_of parent_of declared_parent loops_of
 leaves_more f g w t h =
     and_more _ _ _
     (both_more _ _ _ _ (w (nest t 3)) (both_more _ _ _ _ (w (nest t 2)) (both_more _ _ _ _ (w (nest t 1)) (w (nest t 0))))) h
 
 left : Within (phi two_batches under_way 6 (complete_at 5)) (complete_at 6)
-unfolding phi kind_of sender receiver bounds_of max_of
+unfolding phi kind_of sender receiver bounds_of max_of parent_of declared_parent loops_of
 left = within_one 4294967295 _ _ (λ x hx k. grind (arith, nat_tests))
 
 most_output : (other : ℕ → Frontier) → IsAdmissible two_batches under_way other → Within (other 6) (complete_at 6)
-unfolding kind_of sender receiver bounds_of max_of
+unfolding kind_of sender receiver bounds_of max_of parent_of declared_parent loops_of
 most_output other adm t h =
     left t (leaves_more (other 5) (complete_at 5) (most_leaving other adm) t (adm.follows 6 t h))
 
@@ -168,14 +168,14 @@ most other adm = all_seven _
     (λ p. most_before other adm (suc (suc (suc (suc (suc (suc (suc p))))))) refl)
 
 pub under_way_is_complete : IsComplete two_batches under_way complete_at
-unfolding kind_of sender receiver bounds_of batches_of max_of sends
+unfolding kind_of sender receiver bounds_of batches_of max_of sends parent_of declared_parent loops_of
 under_way_is_complete = record { admissible = admissible_with two_batches under_way complete_fronts is_well_formed refl follows; largest = most }
 
 -- ---- the choice of the recovery is the largest
 
 delivered_kept : (d : ℕ) → d < 7
     → Within ((covers_in two_batches counting_failed).delivered d (cut_of restored (receiver loop_counts_up d))) (phi two_batches (events (with_serials under_way)) d (kept_of two_batches.flow restored (sender loop_counts_up d)))
-unfolding phi kind_of policy_of sender receiver bounds_of max_of
+unfolding phi kind_of policy_of sender receiver bounds_of max_of parent_of declared_parent loops_of
 delivered_kept = by_seven _
     (within_one 4294967295 _ _ (λ x hx k. grind (arith, nat_tests)))
     (within_two 4294967295 3 _ _ (λ x y hx hy k. grind (arith, nat_tests)))
@@ -187,7 +187,7 @@ delivered_kept = by_seven _
 
 discarded_kept : (e : ℕ) → e < 7
     → Within ((covers_in two_batches counting_failed).discarded e (cut_of restored (sender loop_counts_up e))) (kept_of two_batches.flow restored (receiver loop_counts_up e))
-unfolding psi kind_of policy_of sender receiver bounds_of max_of
+unfolding psi kind_of policy_of sender receiver bounds_of max_of parent_of declared_parent loops_of
 discarded_kept = by_seven _
     (λ t k. (and_parts _ _ k).0)
     (λ t k. (and_parts _ _ k).0)
@@ -199,7 +199,7 @@ discarded_kept = by_seven _
 
 notices_kept : (d : ℕ) → d < 7
     → Within (notice_of two_batches.flow restored (receiver loop_counts_up d)) (phi two_batches (events (with_serials under_way)) d (notice_of two_batches.flow restored (sender loop_counts_up d)))
-unfolding phi kind_of policy_of sender receiver bounds_of max_of
+unfolding phi kind_of policy_of sender receiver bounds_of max_of parent_of declared_parent loops_of
 notices_kept = by_seven _
     (within_one 4294967295 _ _ (λ x hx k. grind (arith, nat_tests)))
     (within_two 4294967295 3 _ _ (λ x y hx hy k. grind (arith, nat_tests)))
@@ -210,7 +210,7 @@ notices_kept = by_seven _
     (within_one 4294967295 _ _ (λ x hx k. grind (arith, nat_tests)))
 
 consistent : IsConsistent two_batches counting_failed (offers two_batches counting_failed) restored
-unfolding kind_of policy_of sender receiver bounds_of max_of
+unfolding kind_of policy_of sender receiver bounds_of max_of parent_of declared_parent loops_of
 consistent = record {
   one_cut_each = refl;
   one_notice_each = refl;
@@ -225,7 +225,7 @@ consistent = record {
 
 -- a cut that is offered at the failed node lies within what is settled of it
 cut_within : (cut : Cut) → offers two_batches counting_failed 3 cut → IsCutWithin two_batches.flow 3 cut (At counted_rounds)
-unfolding kind_of policy_of sender receiver bounds_of max_of
+unfolding kind_of policy_of sender receiver bounds_of max_of parent_of declared_parent loops_of
 cut_within = offered_within two_batches counting_failed (is_failed counting_failed) kept 3 counted_rounds refl refl
 
 cuts_within : (other : Choice) → IsConsistent two_batches counting_failed (offers two_batches counting_failed) other
@@ -239,31 +239,31 @@ counting_notice other ok t h = set_within two_batches 3 (cut_of other 3) counted
 
 feedback_notice : (other : Choice) → IsConsistent two_batches counting_failed (offers two_batches counting_failed) other
     → Within (notice_of two_batches.flow other 4) (notice_of two_batches.flow restored 4)
-unfolding phi kind_of policy_of sender receiver bounds_of max_of
+unfolding phi kind_of policy_of sender receiver bounds_of max_of parent_of declared_parent loops_of
 feedback_notice other ok t h = counting_notice other ok t (and_parts (in_domain (bounds_of loop_counts_up 4) t) (notice_of two_batches.flow other 3 t) (ok.notices 3 (lit< tt) t h)).1
 
 leaving_notice : (other : Choice) → IsConsistent two_batches counting_failed (offers two_batches counting_failed) other
     → Within (notice_of two_batches.flow other 5) (notice_of two_batches.flow restored 5)
-unfolding phi kind_of policy_of sender receiver bounds_of max_of
+unfolding phi kind_of policy_of sender receiver bounds_of max_of parent_of declared_parent loops_of
 leaving_notice other ok t h = counting_notice other ok t (and_parts (in_domain (bounds_of loop_counts_up 5) t) (notice_of two_batches.flow other 3 t) (ok.notices 5 (lit< tt) t h)).1
 
 fed_back_within : Within (phi two_batches under_way 4 (notice_of two_batches.flow restored 4)) (notice_of two_batches.flow restored 2)
-unfolding phi kind_of policy_of sender receiver bounds_of max_of
+unfolding phi kind_of policy_of sender receiver bounds_of max_of parent_of declared_parent loops_of
 fed_back_within = within_two 4294967295 3 _ _ (λ x y hx hy k. grind (arith, nat_tests))
 
 left_within : Within (phi two_batches under_way 6 (notice_of two_batches.flow restored 5)) (notice_of two_batches.flow restored 6)
-unfolding phi kind_of policy_of sender receiver bounds_of max_of
+unfolding phi kind_of policy_of sender receiver bounds_of max_of parent_of declared_parent loops_of
 left_within = within_one 4294967295 _ _ (λ x hx k. grind (arith, nat_tests))
 
 mixing_notice : (other : Choice) → IsConsistent two_batches counting_failed (offers two_batches counting_failed) other
     → Within (notice_of two_batches.flow other 2) (notice_of two_batches.flow restored 2)
-unfolding kind_of policy_of sender receiver bounds_of max_of
+unfolding kind_of policy_of sender receiver bounds_of max_of parent_of declared_parent loops_of
 mixing_notice other ok t h =
     fed_back_within t (feeds_more (notice_of two_batches.flow other 4) (notice_of two_batches.flow restored 4) (feedback_notice other ok) t (ok.notices 4 (lit< tt) t h))
 
 output_notice : (other : Choice) → IsConsistent two_batches counting_failed (offers two_batches counting_failed) other
     → Within (notice_of two_batches.flow other 6) (notice_of two_batches.flow restored 6)
-unfolding kind_of policy_of sender receiver bounds_of max_of
+unfolding kind_of policy_of sender receiver bounds_of max_of parent_of declared_parent loops_of
 output_notice other ok t h =
     left_within t (leaves_more (notice_of two_batches.flow other 5) (notice_of two_batches.flow restored 5) (leaving_notice other ok) t (ok.notices 6 (lit< tt) t h))
 
@@ -282,7 +282,7 @@ pub restored_is_largest : IsLargest two_batches counting_failed (offers two_batc
 restored_is_largest = record { consistent = consistent; largest = λ other ok. record { cuts = cuts_within other ok; notices = notices_within other ok } }
 
 pub recovers_loop : StepsTo two_batches counting_failed Recover (recovered_state two_batches counting_failed restored complete_fronts) (did (cuts restored))
-unfolding kind_of bounds_of max_of
+unfolding kind_of bounds_of max_of parent_of declared_parent loops_of
 recovers_loop =
     recovers_to two_batches counting_failed restored complete_fronts 3 (lit< tt) refl restored_is_largest refl (by_seven _ refl refl refl refl refl refl refl) refl
 
@@ -325,7 +325,7 @@ abbrev pub loop_outcomes : List Outcome
 loop_outcomes = replicate 18 (did silent)
 
 pub runs_to_failure : Run two_batches (first_state two_batches) loop_steps loop_outcomes counting_failed
-unfolding kind_of policy_of sender receiver bounds_of batches_of max_of sends
+unfolding kind_of policy_of sender receiver bounds_of batches_of max_of sends parent_of declared_parent loops_of
 runs_to_failure =
     plays two_batches both_under_way (first_state two_batches) (drop 16 loop_steps) (drop 16 loop_outcomes) counting_failed refl (
       all_settled,
@@ -379,7 +379,7 @@ abbrev both_acknowledged : Machine
 both_acknowledged = after_all two_batches all_complete acknowledging
 
 runs_on : Run two_batches come_back steps_left outcomes_left both_acknowledged
-unfolding kind_of policy_of sender receiver bounds_of batches_of max_of sends
+unfolding kind_of policy_of sender receiver bounds_of batches_of max_of sends parent_of declared_parent loops_of
 runs_on =
     plays two_batches what_is_left come_back (drop 50 steps_left) (drop 50 outcomes_left) both_acknowledged refl (
       all_complete,
@@ -418,14 +418,14 @@ pub under_way_is_legal : IsLegal two_batches under_way
 under_way_is_legal = runs-legal two_batches loop_steps loop_outcomes counting_failed is_well_formed (has_epochs two_batches loop_system) runs_to_failure
 
 pub under_way_leaves : (e : ℕ) → pending_messages two_batches under_way e ≡ get_or still_pending e []
-unfolding kind_of sender receiver bounds_of batches_of max_of sends
+unfolding kind_of sender receiver bounds_of batches_of max_of sends parent_of declared_parent loops_of
 under_way_leaves = all_seven _ refl refl refl refl refl refl refl (λ e. less-none (delivered_messages under_way (suc (suc (suc (suc (suc (suc (suc e)))))))))
 
 pub loop_under_way : IsUnderWay
 loop_under_way = record { legal = under_way_is_legal; waiting = under_way_leaves }
 
 pub loop_is_restored : IsRestored
-unfolding kind_of sender receiver bounds_of batches_of max_of sends
+unfolding kind_of sender receiver bounds_of batches_of max_of sends parent_of declared_parent loops_of
 loop_is_restored = record {
   remains = refl;
   legal = runs-legal two_batches steps_taken outcomes_shown (recovered_state two_batches counting_failed restored complete_fronts) is_well_formed (has_epochs two_batches loop_system) runs_to_recovery;

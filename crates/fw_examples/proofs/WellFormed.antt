@@ -1,7 +1,7 @@
 -- The dataflows of the examples are well formed, and so are they with their batches.
 use Rattle.std.specs.List.{list_all}
 use Rattle.std.specs.Ordering.{is_gt}
-use Rattle.std.proofs.Common.{Bool, List, None, [], ap, arith, eq-eqb, eqb-true, false, get_or, length, lit<, lit≤, nat_le, nat_lt, not, refl, suc, sym, true, zero, ℕ, ⊎_elim, ◌&&◌, ◌+◌, ◌<◌, ◌==◌, ◌^◌, ◌||◌, ◌∙◌, ◌∷◌, ◌≡◌, ◌≤◌}
+use Rattle.std.proofs.Common.{Bool, List, None, [], ap, arith, eq-eqb, eqb-true, false, get_or, inl, inr, length, lit<, lit≤, nat_le, nat_lt, not, refl, suc, sym, true, zero, ℕ, ⊎_elim, ◌&&◌, ◌+◌, ◌<◌, ◌==◌, ◌^◌, ◌||◌, ◌∙◌, ◌∷◌, ◌≡◌, ◌≤◌}
 use Rattle.std.proofs.lemmas.Bool.{and_from, and_parts, cases_lt, leb-true, ltb-true, not-true, or_cases, or_right}
 use Rattle.std.proofs.lemmas.List.{get_or_past}
 use Rattle.fw_bag.specs.Rec.{rec_cmp}

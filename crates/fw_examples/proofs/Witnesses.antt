@@ -7,7 +7,7 @@ use Rattle.fw_time.proofs.EachLaws.{each-one}
 use Rattle.fw_frontier.specs.Front.{frontier_of}
 use Rattle.fw_frontier.specs.Frontier.{IsFrontier, join}
 use Rattle.fw_frontier.proofs.NamesLaws.{frontier-closed}
-use Rattle.fw_flow.specs.Dataflow.{HasEpochs, NotifiesNobody, batches_of, bounds_of, in_edges, kind_of, max_of, out_edges, policy_of, receiver, sender}
+use Rattle.fw_flow.specs.Dataflow.{HasEpochs, NotifiesNobody, batches_of, bounds_of, declared_parent, in_edges, kind_of, loops_of, max_of, out_edges, parent_of, policy_of, receiver, sender}
 use Rattle.fw_flow.specs.NodeFunction.{sends}
 use Rattle.fw_flow.specs.Projection.{phi, psi}
 use Rattle.fw_flow.specs.WellFormed.{IsWellFormed, IsWellFormedSystem}
@@ -253,7 +253,7 @@ same_stamps m n (x ∷ y ∷ []) = grind (arith, nat_tests)
 same_stamps m n (x ∷ y ∷ z ∷ t) = grind (arith, nat_tests)
 
 pub cuts_unite : CutsUnite
-unfolding kind_of policy_of sender receiver bounds_of max_of psi
+unfolding kind_of policy_of sender receiver bounds_of max_of psi parent_of declared_parent loops_of
 cuts_unite = record {
   union = record { canonical = canonical_by _ both_rounds refl; same = same_stamps 4294967295 3 };
   one_not_within = λ w. false≢true (w (0 ∷ 2 ∷ []) refl);
@@ -305,7 +305,7 @@ loop_meets : MeetsInclusions two_batches counting_failed restored
 loop_meets = consistent-meets two_batches counting_failed (is_failed counting_failed) kept restored restored_is_largest.consistent
 
 pub loop_is_filtered : LoopIsFiltered
-unfolding kind_of receiver sender sends bounds_of batches_of max_of
+unfolding kind_of receiver sender sends bounds_of batches_of max_of parent_of declared_parent loops_of
 loop_is_filtered = record {
   well_formed = is_well_formed;
   epochs = loop_is_reached.epochs;

@@ -1,9 +1,10 @@
+pub mod Applied
 pub mod Flows
-pub mod Loop
 pub mod Inclusions
+pub mod KindsSend
 pub mod Logs
+pub mod Loop
+pub mod Nested
+pub mod OffersOfTotals
 pub mod RunningTotal
 pub mod Witnesses
-pub mod Applied
-pub mod KindsSend
-pub mod OffersOfTotals

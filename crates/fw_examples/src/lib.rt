@@ -7,6 +7,7 @@ mod kinds_send;
 mod laws_applied;
 mod logs_after_collection;
 mod loop_counts_up;
+mod nested_loops;
 mod witnesses_of_laws;
 
 pub use inclusions::{
@@ -26,6 +27,9 @@ pub use logs_after_collection::{
     collects_a_logged_event, keeps_a_log_with_a_checkpoint, keeps_events_of_a_total, loses_an_epoch,
 };
 pub use loop_counts_up::{is_complete, is_restored, is_under_way, two_batches_count_up};
+pub use nested_loops::{
+    first_rounds_are_projected, nested_loops_are_well_formed, one_rec_counts_up,
+};
 pub use witnesses_of_laws::{
     an_epoch_is_closed, checkpoints_are_offered, choices_unite, cuts_unite,
     each_step_has_its_choice, failure_is_reached, join_is_a_frontier, less_is_consistent,

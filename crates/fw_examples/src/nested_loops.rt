@@ -1,0 +1,21 @@
+//! A loop within a loop: that it is well formed, what it denotes, and how a frontier inside the inner loop is projected out of it.
+ghost use Rattle.fw_flow.specs.WellFormed.{IsWellFormed};
+ghost use Rattle.fw_examples.specs.Nested.{nested_loops, OneRecCountsUp, ProjectsFromInnerLoop};
+
+/// The inner loop is entered once in each round of the outer one, and each goes round by its own feedback.
+#[tactic(auto, using(crate::proofs::Nested::nested_is_well_formed))]
+pub fn nested_loops_are_well_formed()
+    ensures { IsWellFormed nested_loops }
+{}
+
+/// A rec comes out once for each pair of counters.
+#[tactic(auto, using(crate::proofs::Nested::one_rec_counts_up))]
+pub fn one_rec_counts_up()
+    ensures { OneRecCountsUp }
+{}
+
+/// Each first round of both loops, through the inner feedback and the inner leave.
+#[tactic(auto, using(crate::proofs::Nested::projects_from_inner))]
+pub fn first_rounds_are_projected()
+    ensures { ProjectsFromInnerLoop }
+{}

@@ -1,0 +1,3 @@
+pub mod AtNodes
+pub mod Kept
+pub mod Written

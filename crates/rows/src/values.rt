@@ -1,0 +1,42 @@
+//! Values of the parts: whether declarations are a flow, projections through its edges, notices and choices; stamps and
+//! frontiers of a domain; bags.
+
+mod bags;
+mod choices;
+mod declare;
+mod domain;
+mod flow;
+mod notices;
+mod sent;
+mod spell;
+mod texts;
+mod times;
+
+use crate::line::{part, tell_name};
+use crate::values::bags::tell_bag;
+use crate::values::domain::tell_domain;
+use crate::values::flow::{is_declaration, tell_flow};
+use std::alloc::{AllocError, Global};
+
+/// Tells the rows of a file.
+pub fn tell_values(alloc: Global, text: &str) -> Result<String, AllocError> {
+    let mut told = String::new(alloc);
+    for row in text.split("\n== ").skip(1) {
+        tell_row(alloc, row, &mut told)?;
+    }
+    Ok(told)
+}
+
+/// Tells a row: its name, and what its lines say of a flow, if some are declarations, of a bag, if some give one, and else of
+/// a domain.
+fn tell_row(alloc: Global, row: &str, told: &mut String) -> Result<(), AllocError> {
+    let (name, lines) = row.split_once('\n').unwrap_or((row, ""));
+    tell_name(name, told)?;
+    if lines.lines().any(is_declaration) {
+        tell_flow(alloc, lines, told)
+    } else if lines.lines().any(|line| part(line).0 == "bag") {
+        tell_bag(alloc, lines, told)
+    } else {
+        tell_domain(alloc, lines, told)
+    }
+}

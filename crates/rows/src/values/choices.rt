@@ -1,0 +1,260 @@
+//! To what the nodes of a flow are restored, from what they offer.
+ghost use Rattle.std.specs.Prelude.{◌≡◌, ◌<◌, true, length, IfOk};
+ghost use Rattle.std.specs.List.{AllByRecursion};
+ghost use Rattle.std.specs.Option.{IfSome};
+ghost use Rattle.fw_time.specs.Stamp.{in_domain};
+ghost use Rattle.fw_frontier.specs.Front.{IsCanonical};
+ghost use Rattle.fw_flow.specs.Dataflow.{receiver, bounds_of};
+ghost use Rattle.fw_model.specs.Offers.{AreFrontsOfEdges, AreOffersOf, AreOnEdges, IsRecordOf};
+ghost use Rattle.rows.specs.Written as spec;
+ghost use Rattle.rows.specs.Written.{IsOfferOf, IsOfferedBy};
+
+use crate::line::{if_spelled, part};
+use crate::values::sent::sent_table;
+use crate::values::spell::{stamp_of, stamps_of};
+use fw_flow::{
+    Causes, Choice, Counted, CountedMessages, Cut, EdgeId, Flow, NodeId, Notices, OfEdge, OfEdges,
+    Offer, Offered, Recorded, Records, Restoring, SentTable, Stamps,
+};
+use fw_frontier::Front;
+use fw_monitor::largest;
+use fw_time::{Bounds, Stamp};
+use std::alloc::{AllocError, Global};
+
+// The frontier of a domain that has these stamps outside; all, where they are not spelled right or one is past the domain.
+fn front(alloc: Global, bounds: &Bounds, text: &str) -> Result<Front, AllocError>
+    ensures { IfOk result (λ f. IsCanonical bounds.now f) }
+{
+    let outside = match if_spelled(stamps_of(alloc, text))? {
+        Some(outside) => outside,
+        None => Vec::new(alloc),
+    };
+    match Front::checked_until(alloc, &outside, bounds)? {
+        Some(front) => Ok(front),
+        None => Ok(Front::all(alloc)),
+    }
+}
+
+// The frontier of each of the edges, by one text.
+fn of_edges(
+    alloc: Global,
+    flow: &Flow,
+    edges: &[EdgeId],
+    text: &str,
+) -> Result<Vec<OfEdge>, AllocError>
+    ensures { IfOk result (λ fronts. AreFrontsOfEdges flow.now fronts.items) }
+{
+    let mut fronts = Vec::new(alloc);
+    for edge in edges {
+        let edge = *edge;
+        let front = front(alloc, &flow.domain(flow.dst(edge)), text)?;
+        fronts.push(OfEdge { edge, front })?;
+    }
+    Ok(fronts)
+}
+
+// A record by its outside stamp; after a stroke that of what the node was notified of and what was delivered to it, if that
+// is less; and after another that of what it sent and cannot send again, if that is another.
+fn record(alloc: Global, flow: &Flow, node: NodeId, word: &str) -> Result<Recorded, AllocError>
+    ensures { IfOk result (λ r. IsRecordOf flow.now node r) }
+{
+    let (outside, rest) = word.split_once('/').unwrap_or((word, word));
+    let (held, discarded) = rest.split_once('/').unwrap_or((rest, rest));
+    let domain = flow.domain(node);
+    Ok(Recorded {
+        front: front(alloc, &domain, outside)?,
+        notified: front(alloc, &domain, held)?,
+        delivered: OfEdges::of(of_edges(alloc, flow, flow.in_edges(node), held)?),
+        discarded: OfEdges::of(of_edges(alloc, flow, flow.out_edges(node), discarded)?),
+    })
+}
+
+fn records(
+    alloc: Global,
+    flow: &Flow,
+    node: NodeId,
+    text: &str,
+) -> Result<Vec<Recorded>, AllocError>
+    ensures { IfOk result (λ records. AllByRecursion (IsRecordOf flow.now node) records.items) }
+{
+    let mut records = Vec::new(alloc);
+    for word in text.split_whitespace() {
+        let record = record(alloc, flow, node, word)?;
+        records.push(record)?;
+    }
+    Ok(records)
+}
+
+// Whether a node that is restored so lists its frontiers.
+fn is_listed(way: Restoring) -> bool
+    ensures { result ≡ spec.is_listed way }
+{
+    match way {
+        Restoring::Batches | Restoring::Checkpoints => true,
+        Restoring::Bound | Restoring::Anything | Restoring::Events => false,
+    }
+}
+
+// The frontiers of a node: its records, or the least and the greatest with `to` between them.
+fn offered(alloc: Global, flow: &Flow, node: NodeId, text: &str) -> Result<Offered, AllocError>
+    ensures { IfOk result (λ o. IsOfferedBy flow.now node o) }
+{
+    if is_listed(flow.restoring(node)) {
+        return Ok(Offered::Listed(Records::of(records(alloc, flow, node, text)?)));
+    }
+    let (least, greatest) = text.split_once("to").unwrap_or((text, text));
+    let domain = flow.domain(node);
+    Ok(Offered::Between {
+        least: front(alloc, &domain, least)?,
+        greatest: front(alloc, &domain, greatest)?,
+    })
+}
+
+// A message by its edge, its stamp and its cause, which is its stamp if none is written.
+fn message(alloc: Global, flow: &Flow, word: &str) -> Result<Option<Counted>, AllocError>
+    ensures { IfOk result (λ message. IfSome message
+        (λ m. in_domain (bounds_of flow.now (receiver flow.now m.edge)) m.at ≡ true)) }
+{
+    let (edge, rest) = word.split_once(':').unwrap_or((word, ""));
+    let (at, cause) = rest.split_once(':').unwrap_or((rest, rest));
+    let (Some(edge), Some(at), Some(cause)) = (
+        flow.edge_named(edge.as_bytes()),
+        if_spelled(stamp_of(alloc, at))?,
+        if_spelled(stamp_of(alloc, cause))?,
+    ) else {
+        return Ok(None);
+    };
+    if !at.in_domain(&flow.domain(flow.dst(edge))) {
+        return Ok(None);
+    }
+    Ok(Some(Counted {
+        edge,
+        at,
+        causes: Causes::of(cause),
+        count: 1,
+    }))
+}
+
+fn messages(alloc: Global, flow: &Flow, text: &str) -> Result<Vec<Counted>, AllocError>
+    ensures { IfOk result (λ messages. AreOnEdges flow.now messages.items) }
+{
+    let mut messages = Vec::new(alloc);
+    for word in text.split_whitespace() {
+        if let Some(message) = message(alloc, flow, word)? {
+            messages.push(message)?;
+        }
+    }
+    Ok(messages)
+}
+
+// Of what a node was notified; nothing, if one of the stamps is past its domain.
+fn notified(alloc: Global, flow: &Flow, node: NodeId, text: &str) -> Result<Vec<Stamp>, AllocError>
+    ensures { IfOk result
+        (λ stamps. AllByRecursion (λ t. in_domain (bounds_of flow.now node) t ≡ true) stamps.items) }
+{
+    let stamps = match if_spelled(stamps_of(alloc, text))? {
+        Some(stamps) => stamps,
+        None => Vec::new(alloc),
+    };
+    if Front::checked_until(alloc, &stamps, &flow.domain(node))?.is_none() {
+        return Ok(Vec::new(alloc));
+    }
+    Ok(stamps)
+}
+
+// A column of a line, and the rest.
+fn column(line: &str) -> (&str, &str) {
+    line.split_once('|').unwrap_or((line, ""))
+}
+
+// What a node offers, by its line: whether it failed, its frontiers, what was delivered to it, of what it was notified, and
+// what it sent; a sequence also by its table.
+fn offer(
+    alloc: Global,
+    flow: &Flow,
+    node: NodeId,
+    line: &str,
+    table: SentTable,
+) -> Result<Offer, AllocError>
+    ensures { IfOk result (λ o. IsOfferOf flow.now node o) }
+{
+    let (state, rest) = column(line);
+    let (fronts, rest) = column(rest);
+    let (delivered, rest) = column(rest);
+    let (noted, sent_words) = column(rest);
+    let offered = offered(alloc, flow, node, fronts)?;
+    let delivered = messages(alloc, flow, delivered)?;
+    let notified = notified(alloc, flow, node, noted)?;
+    let sent = messages(alloc, flow, sent_words)?;
+    Ok(Offer {
+        present: !state.contains("failed"),
+        offered,
+        stamps: Stamps {
+            delivered: CountedMessages::of(delivered),
+            notified: Notices::of(notified),
+            sent: CountedMessages::of(sent),
+        },
+        table,
+    })
+}
+
+// What the lines say that a node offers.
+fn line_of<'a>(lines: &'a str, name: &[u8]) -> &'a str {
+    for line in lines.lines() {
+        if let ("offer", rest) = part(line) {
+            let (word, columns) = part(rest);
+            if word.as_bytes() == name {
+                return columns;
+            }
+        }
+    }
+    ""
+}
+
+// What the nodes offer, by a line each.
+fn offers(alloc: Global, flow: &Flow, lines: &str) -> Result<Vec<Offer>, AllocError>
+    ensures { IfOk result (λ offers. AreOffersOf flow.now offers.items) }
+{
+    let mut offers = Vec::new(alloc);
+    for place in 0..flow.nodes() {
+        let node = NodeId::at(place as u32);
+        let line = line_of(lines, flow.node_name(node).as_bytes());
+        let table = sent_table(alloc, lines)?;
+        let offer = offer(alloc, flow, node, line, table)?;
+        offers.push(offer)?;
+    }
+    Ok(offers)
+}
+
+// Adds a cut.
+fn tell_cut(alloc: Global, cut: &Cut, told: &mut String) -> Result<(), AllocError> {
+    match cut {
+        Cut::Present => told.push_str("present"),
+        Cut::At(front) => tell_front(alloc, front, told),
+    }
+}
+
+// Adds a frontier.
+fn tell_front(alloc: Global, front: &Front, told: &mut String) -> Result<(), AllocError> {
+    let text = format!(in alloc; "{front}")?;
+    told.push_str(text.as_str())
+}
+
+/// Tells to what the nodes of a flow are restored that offer what the lines say: a line for each node, its cut and its
+/// notification frontier.
+pub fn tell_choice(
+    alloc: Global,
+    flow: &Flow,
+    lines: &str,
+    told: &mut String,
+) -> Result<(), AllocError> {
+    let offers = offers(alloc, flow, lines)?;
+    let Choice { cuts, notices } = largest(alloc, flow, &offers)?;
+    for (cut, notice) in cuts.as_slice().iter().zip(notices.as_slice().iter()) {
+        tell_cut(alloc, cut, told)?;
+        told.push_str(", ")?;
+        tell_front(alloc, notice, told)?;
+        told.push('\n')?;
+    }
+    Ok(())
+}

@@ -1,0 +1,106 @@
+//! What declarations are as a flow, and what its edges make of frontiers.
+use crate::line::{NoAnswer, if_spelled, part, shown, tell_answer};
+use crate::values::choices::tell_choice;
+use crate::values::declare::declaration;
+use crate::values::notices::tell_notices;
+use crate::values::sent::sent_table;
+use crate::values::spell::front_of;
+use fw_flow::{Declared, Flow, RawFlow, SentTable};
+use fw_lines::ReadFault;
+use std::alloc::{AllocError, Global};
+
+/// Whether a line begins as a declaration.
+pub fn is_declaration(line: &str) -> bool {
+    matches!(part(line).0, "loop" | "node" | "edge")
+}
+
+/// Tells whether the declarations among the lines are a flow, and then the answer to each question.
+pub fn tell_flow(alloc: Global, lines: &str, told: &mut String) -> Result<(), AllocError> {
+    let raw = declared(alloc, lines, told)?;
+    match Flow::check(alloc, raw) {
+        Ok(flow) => {
+            told.push_str("accepted\n")?;
+            tell_answers(alloc, &flow, lines, told)
+        }
+        Err(ReadFault::Refused(refusal)) => {
+            let (code, line) = (refusal.code, refusal.line);
+            let text = format!(in alloc; "refused {code} line {line}\n")?;
+            told.push_str(&text)
+        }
+        Err(ReadFault::NoMemory) => Err(AllocError),
+    }
+}
+
+/// The declarations among the lines, each with its number among them, from 1. One that is not spelled right, or has a name
+/// that is taken, is told and left out.
+fn declared(alloc: Global, lines: &str, told: &mut String) -> Result<RawFlow, AllocError> {
+    let mut raw = RawFlow::new(alloc);
+    let declarations = lines.lines().filter(|line| is_declaration(line));
+    for (line, number) in declarations.zip(1..=u32::MAX) {
+        let (more, is_new) = declare(alloc, raw, number, line)?;
+        raw = more;
+        if !is_new {
+            let text = format!(in alloc; "not declared: {line}\n")?;
+            told.push_str(&text)?;
+        }
+    }
+    Ok(raw)
+}
+
+/// The declarations with that of a line, and whether it is one.
+fn declare(
+    alloc: Global,
+    raw: RawFlow,
+    number: u32,
+    line: &str,
+) -> Result<(RawFlow, bool), AllocError> {
+    match if_spelled(declaration(alloc, line))? {
+        None => Ok((raw, false)),
+        Some(declaration) => raw.declare(Declared {
+            line: number,
+            declaration,
+        }),
+    }
+}
+
+/// Tells the answers to the lines that ask something of the flow: first of projections, then of notices, then of the choice
+/// to which it is restored.
+fn tell_answers(
+    alloc: Global,
+    flow: &Flow,
+    lines: &str,
+    told: &mut String,
+) -> Result<(), AllocError> {
+    let sent = sent_table(alloc, lines)?;
+    for line in lines.lines() {
+        if matches!(part(line).0, "phi" | "psi" | "back") {
+            let answer = projected(alloc, flow, &sent, line);
+            tell_answer(line, answer, told)?;
+        }
+    }
+    if lines.lines().any(|line| part(line).0 == "notice") {
+        tell_notices(alloc, flow, lines, told)?;
+    }
+    if lines.lines().any(|line| part(line).0 == "offer") {
+        tell_choice(alloc, flow, lines, told)?;
+    }
+    Ok(())
+}
+
+/// A frontier as an edge projects it: `phi`, `psi`, or `back` for psi backwards.
+fn projected(alloc: Global, flow: &Flow, sent: &SentTable, line: &str) -> Result<String, NoAnswer> {
+    let (word, rest) = part(line);
+    let (edge, front) = part(rest);
+    let edge = flow
+        .edge_named(edge.as_bytes())
+        .ok_or(NoAnswer::NotSpelled)?;
+    if word == "back" {
+        let front = front_of(alloc, front, &flow.domain(flow.dst(edge)))?;
+        return shown(alloc, flow.psi_back(alloc, edge, &front)?);
+    }
+    let front = front_of(alloc, front, &flow.domain(flow.src(edge)))?;
+    match word {
+        "psi" => shown(alloc, flow.psi(alloc, edge, &front)?),
+        _ => shown(alloc, flow.phi(alloc, edge, &front, sent)?),
+    }
+}

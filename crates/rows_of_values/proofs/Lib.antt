@@ -1,2 +1,0 @@
-pub mod AtNodes
-pub mod Written

@@ -1,5 +1,6 @@
 pub mod ClearSteps
 pub mod CompleteSteps
+pub mod EffectTextLaws
 pub mod EngineLaws
 pub mod EventSteps
 pub mod FrontsLaws

@@ -1,4 +1,5 @@
 pub mod Clear
+pub mod EffectText
 pub mod Engine
 pub mod Failed
 pub mod Fronts
@@ -7,4 +8,5 @@ pub mod Offered
 pub mod Output
 pub mod Past
 pub mod Ready
+pub mod Shown
 pub mod Wanted

@@ -11,7 +11,9 @@ mod offers;
 mod output;
 mod restoring;
 pub mod scan;
+mod shown;
 mod stepped;
 
 pub use engine::Engine;
+pub use shown::Shown;
 pub use stepped::{Effect, Stepped};

@@ -16,9 +16,8 @@ pub mod Marks
 pub mod MessageLaws
 pub mod NameLaws
 pub mod Named
-pub mod Peel
-pub mod PremiseLaws
 pub mod Parents
+pub mod PremiseLaws
 pub mod ProjectionLaws
 pub mod Ranges
 pub mod RankLaws

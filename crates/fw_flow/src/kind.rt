@@ -2,7 +2,7 @@
 ghost use Rattle.std.specs.Prelude.{◌≡◌};
 ghost use Rattle.fw_flow.specs.Dataflow.{Dataflow, domain_within, domain_of_kind, out_domain_of_kind, is_input_kind, is_output_kind, is_notified_kind, is_sequence_kind, declared_parent, ends_within, parent_of};
 ghost use Rattle.fw_flow.specs.KindText.{kind_text, policy_text};
-ghost use Rattle.fw_flow.specs.WellFormed.{is_feedback_kind, is_enter_kind};
+ghost use Rattle.fw_flow.specs.WellFormed.{is_feedback_kind};
 
 use crate::{Loop, LoopId};
 use fw_bag::Selection;

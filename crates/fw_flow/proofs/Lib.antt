@@ -10,6 +10,7 @@ pub mod Givers
 pub mod Marks
 pub mod MessageLaws
 pub mod Named
+pub mod OutEdgeLaws
 pub mod Peel
 pub mod ProjectionLaws
 pub mod Ranges

@@ -18,6 +18,7 @@ pub mod NameLaws
 pub mod Named
 pub mod Parents
 pub mod PremiseLaws
+pub mod OutEdgeLaws
 pub mod ProjectionLaws
 pub mod Ranges
 pub mod RankLaws

@@ -7,7 +7,8 @@ use Rattle.std.proofs.lemmas.List.{append_assoc, get_or-set_same, get_or-set_oth
 use Rattle.fw_time.proofs.EachLaws.{each-weaker, each-append, each-prefix, each-suffix, each-map, each_of-map}
 use Rattle.fw_flow.specs.Dataflow.{Dataflow, sender, receiver, in_edges, out_edges}
 use Rattle.fw_flow.specs.WellFormed.{IsWellFormed}
-use Rattle.fw_flow.proofs.EdgeLaws.{in_edges-at, in_edges-from, out_edges-at, out_edges-from}
+use Rattle.fw_flow.proofs.EdgeLaws.{in_edges-at, in_edges-from}
+use Rattle.fw_flow.proofs.OutEdgeLaws.{out_edges-at, out_edges-from}
 use Rattle.fw_monitor.specs.declared.side.Side.{Side}
 use Rattle.fw_monitor.specs.declared.side.Limit.{Limit}
 use Rattle.fw_monitor.specs.declared.side.Side.TheVariants.{Delivered, Discarded, Notified}

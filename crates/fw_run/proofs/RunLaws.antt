@@ -9,18 +9,18 @@ use Rattle.std.specs.Prelude.{OnOk, OnErr}
 use Rattle.std.specs.Result.{IsErrOf}
 use Rattle.fw_outside.specs.Outside.{SinkView, Rose, Takes, TakesPrefix}
 use Rattle.fw_flow.specs.declared.step.Step.{Step}
-use Rattle.fw_flow.specs.declared.step.Step.TheVariants.{Inject, Deliver, Notify, Progress, Checkpoint, Persist, Fail, Recover, Collect, Ack}
 use Rattle.fw_flow.specs.Dataflow.{Dataflow, System}
 use Rattle.fw_flow.specs.WellFormed.{IsWellFormedSystem}
 use Rattle.fw_model.proofs.ChoosingLaws.{reached-one_next}
 use Rattle.fw_model.proofs.GoingOn.{runs-go_on}
 use Rattle.fw_model.proofs.OneNextLaws.{one_next}
 use Rattle.fw_model.specs.Machine.{Machine, first_state}
-use Rattle.fw_model.specs.Steps.{Effect, Outcome, did, idle, LeadsTo, StepsTo, Run}
+use Rattle.fw_model.specs.Steps.{Outcome, StepsTo, Run}
+use Rattle.fw_plain.specs.EffectText.{outcome_text}
 use Rattle.fw_plain.specs.Engine.{Standing}
 use Rattle.fw_run.proofs.Roses.{rose_last}
-use Rattle.fw_run.specs.Performing.{IsShownOf, IsStepPrinted, IsStepCutOff, Performs}
-use Rattle.fw_run.specs.Printed.{outcome_text, outcomes_text, is_idle, idle_count, done_line, text_of}
+use Rattle.fw_run.specs.Performing.{IsStepPrinted, IsStepCutOff, Performs}
+use Rattle.fw_run.specs.Printed.{outcomes_text, is_idle, idle_count, done_line, text_of}
 use Rattle.fw_run.specs.Writing.{IsWritten, IsCutOff, Writes}
 
 -- ---- runs
@@ -61,23 +61,6 @@ pub one_run : (sys : System) → IsWellFormedSystem sys → (steps : List Step)
 one_run sys w steps =
     let run = run_exists sys w [] [] (first_state sys) refl steps in
     (run.0, run.1, run.2, λ others other r. run_once sys (first_state sys) steps run.0 others run.1 other run.2 r)
-
--- what a step acknowledges is of a node of the dataflow
-shown_effect : (sys : System) (state : Machine) (step : Step) (next : Machine) (effect : Effect) → LeadsTo sys state step next effect → IsShownOf sys.flow (did effect)
-shown_effect sys state (Inject s) next effect t = subst (λ e. IsShownOf sys.flow (did e)) (sym t.4) tt
-shown_effect sys state (Deliver d at) next effect t = subst (λ e. IsShownOf sys.flow (did e)) (sym t.4) tt
-shown_effect sys state (Notify p at) next effect t = subst (λ e. IsShownOf sys.flow (did e)) (sym t.4) tt
-shown_effect sys state Progress next effect t = subst (λ e. IsShownOf sys.flow (did e)) (sym t.4) tt
-shown_effect sys state (Checkpoint p) next effect t = subst (λ e. IsShownOf sys.flow (did e)) (sym t.4) tt
-shown_effect sys state Persist next effect t = subst (λ e. IsShownOf sys.flow (did e)) (sym t.3) tt
-shown_effect sys state (Fail ps) next effect t = subst (λ e. IsShownOf sys.flow (did e)) (sym t.5) tt
-shown_effect sys state Recover next effect t = subst (λ e. IsShownOf sys.flow (did e)) (sym t.8) t.5.consistent.one_cut_each
-shown_effect sys state Collect next effect t = subst (λ e. IsShownOf sys.flow (did e)) (sym t.4) tt
-shown_effect sys state (Ack o) next effect t = subst (λ e. IsShownOf sys.flow (did e)) (sym t.3) t.1.declared
-
-pub shown_of : (sys : System) (state : Machine) (step : Step) (next : Machine) (outcome : Outcome) → StepsTo sys state step next outcome → IsShownOf sys.flow outcome
-shown_of sys state step next (did effect) t = shown_effect sys state step next effect t
-shown_of sys state step next idle t = tt
 
 -- ---- what was taken
 

@@ -1,28 +1,23 @@
 -- What was printed of a step, and how far it led.
-use Rattle.std.specs.Prelude.{◌≡◌, ◌⊎◌, ℕ, ◌<◌, Bool, List, [], length, Option, Some, None, Result, Ok, Err}
+use Rattle.std.specs.Prelude.{◌≡◌, ◌⊎◌, ℕ, Bool, List, [], Option, Some, None, Result, Ok, Err}
 use Rattle.std.specs.declared.alloc.Global.{Global}
 use Rattle.std.specs.declared.vec.Vec.{Vec}
 use Rattle.fw_outside.specs.declared.fault.OutFault.{OutFault}
 use Rattle.fw_outside.specs.Outside.{SinkView}
 use Rattle.fw_flow.specs.declared.step.Step.{Step}
-use Rattle.fw_flow.specs.Dataflow.{Dataflow, System}
+use Rattle.fw_flow.specs.Dataflow.{System}
 use Rattle.fw_model.specs.Machine.{Machine}
-use Rattle.fw_model.specs.Steps.{acked, cuts, Outcome, did, StepsTo}
+use Rattle.fw_model.specs.Steps.{Outcome, StepsTo}
+use Rattle.fw_plain.specs.EffectText.{outcome_text}
 use Rattle.fw_plain.specs.Engine.{Standing}
 use Rattle.fw_run.specs.Headline.{PrintsRun}
-use Rattle.fw_run.specs.Printed.{outcome_text, is_idle}
+use Rattle.fw_run.specs.Printed.{is_idle}
 use Rattle.fw_run.specs.Writing.{IsWritten, IsCutOff, Writes}
 
 -- the bytes of a line, none where there is no line
 abbrev pub shown_bytes : Option (Vec ℕ Global) → List ℕ
 shown_bytes None = []
 shown_bytes (Some line) = line.items
-
--- what an outcome acknowledges is of a node of the dataflow, and what it cuts is of each node
-abbrev pub IsShownOf : Dataflow → Outcome → Type 0
-IsShownOf flow (did (acked o t recs)) = o < length flow.nodes
-IsShownOf flow (did (cuts choice)) = length choice.cuts ≡ length flow.nodes
-IsShownOf flow outcome = Unit {0}
 
 -- the step was taken from one state to the next, and the lines of what came of it were written
 pub record IsStepPrinted (old new : Standing) (step : Step) (idle : Bool) (before after : SinkView) : Type 0 where

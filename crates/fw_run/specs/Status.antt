@@ -1,11 +1,10 @@
 -- The status of a command, and the line that stands for it.
 use Rattle.std.specs.Prelude.{◌≡◌, ◌⊎◌, ℕ, List, [], ◌∷◌, ◌++◌, codes}
-use Rattle.std.specs.Fmt.{decimal}
 use Rattle.fw_outside.specs.Outside.{SinkView, Rose, Takes, TakesPrefix}
 use Rattle.fw_lines.specs.declared.refusal.Code.{Code}
 use Rattle.fw_lines.specs.declared.refusal.Code.TheVariants.{F1, F2, F3, F4, F5, F6, F7, F8, F9, F10, F11, F12, I1, I2, I3, I4, I5, S1, S2, S3, S4}
 use Rattle.fw_lines.specs.declared.refusal.Refusal.{Refusal}
-use Rattle.fw_lines.specs.Refusal.{code_text}
+use Rattle.fw_lines.specs.Refusal.{refusal_text}
 use Rattle.fw_run.specs.declared.status.Status.{Status}
 use Rattle.fw_run.specs.declared.status.Status.TheVariants.{Done, BadWords, Refused, ReadFault, WriteFault, NoMemory}
 
@@ -46,7 +45,7 @@ status_number NoMemory = 10
 abbrev pub note_line : Status → List ℕ
 note_line Done = []
 note_line BadWords = codes "bad words\n"
-note_line (Refused refusal) = codes "refused " ++ (code_text refusal.code ++ (codes " line " ++ (decimal refusal.line ++ codes "\n")))
+note_line (Refused refusal) = refusal_text refusal ++ codes "\n"
 note_line ReadFault = codes "read fault\n"
 note_line WriteFault = codes "write fault\n"
 note_line NoMemory = codes "no memory\n"

@@ -24,7 +24,7 @@ pub use fw_outside::{
     FetchFault, FileFolder, Folder, MemFolder, MemSink, MemStore, MemText, OutFault, Sink, Store,
     StreamSink,
 };
-pub use fw_plain::{Effect, Engine, Stepped};
+pub use fw_plain::{Effect, Engine, Shown, Stepped};
 pub use fw_run::{Status, falkirk};
 pub use fw_schedule::{SCHEDULE_LIMIT, Schedule, read_schedule};
 pub use fw_time::{Bounds, Stamp};

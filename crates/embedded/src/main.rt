@@ -6,13 +6,10 @@ ghost use Rattle.cimboery.specs.Step.{is_plain_step};
 
 use anyhow::{Context, Result, ensure};
 use cimboery::{
-    Batches, BuildFault, Comparison, Condition, Cut, EdgeId, Effect, Engine, Field, Flow,
-    FlowBuilder, NodeId, Nodes, Rec, Selection, Step, Stepped, Term,
+    Batches, BuildFault, Comparison, Condition, EdgeId, Engine, Field, Flow, FlowBuilder, NodeId,
+    Nodes, Rec, Selection, Step, Term,
 };
 use std::alloc::{AllocError, Global};
-
-// The nodes, in the order in which they are declared.
-const NAMES: [&str; 4] = ["orders", "cheap", "shop", "archive"];
 
 // Each order goes to the archive, and one below 100 to the shop too.
 fn shop_flow(alloc: Global) -> Result<Flow, BuildFault> {
@@ -58,28 +55,8 @@ fn edge(flow: &Flow, name: &str) -> Result<EdgeId> {
 fn take<R: Print>(rt: &R, engine: &mut Engine, step: &Step) -> Result<()>
     requires { is_plain_step step.now ≡ true }
 {
-    if let Stepped::Did(effect) = engine.step(step)? {
-        show(rt, &effect)?;
-    }
-    Ok(())
-}
-
-fn show<R: Print>(rt: &R, effect: &Effect) -> Result<()> {
-    match effect {
-        Effect::Silent => {}
-        Effect::Acked { output, at, recs } => {
-            let name = NAMES.get(output.place() as usize).context("no such node")?;
-            println!(rt; "ack {name} epoch {at}: {} recs", recs.len())?;
-        }
-        Effect::Cuts(choice) => {
-            for (name, cut) in NAMES.iter().zip(choice.cuts.as_slice()) {
-                match cut {
-                    Cut::Present => println!(rt; "cut {name} present")?,
-                    Cut::At(front) => println!(rt; "cut {name} {front}")?,
-                }
-            }
-        }
-    }
+    let stepped = engine.step(step)?;
+    print!(rt; "{}", stepped.display(engine.flow()))?;
     Ok(())
 }
 

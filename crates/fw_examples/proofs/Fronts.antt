@@ -75,20 +75,24 @@ pub by_seven : (P : ℕ → Type 0) → P 0 → P 1 → P 2 → P 3 → P 4 → 
 by_seven P a b c d e f g =
     all_seven (λ p. p < 7 → P p) (λ l. a) (λ l. b) (λ l. c) (λ l. d) (λ l. e) (λ l. f) (λ l. g) (λ p l. absurd (omega arith))
 
--- at each of eleven; of twelve, and at those past them
+-- at each of eleven or of twelve, and at those past them
+pub all_eleven : (P : ℕ → Type 0) → P 0 → P 1 → P 2 → P 3 → P 4 → P 5 → P 6 → P 7 → P 8 → P 9 → P 10 → ((p : ℕ) → P (suc (suc (suc (suc (suc (suc (suc (suc (suc (suc (suc p)))))))))))) → (p : ℕ) → P p
+all_eleven P a b c d e f g h i j k past zero = a
+all_eleven P a b c d e f g h i j k past (suc zero) = b
+all_eleven P a b c d e f g h i j k past (suc (suc zero)) = c
+all_eleven P a b c d e f g h i j k past (suc (suc (suc zero))) = d
+all_eleven P a b c d e f g h i j k past (suc (suc (suc (suc zero)))) = e
+all_eleven P a b c d e f g h i j k past (suc (suc (suc (suc (suc zero))))) = f
+all_eleven P a b c d e f g h i j k past (suc (suc (suc (suc (suc (suc zero)))))) = g
+all_eleven P a b c d e f g h i j k past (suc (suc (suc (suc (suc (suc (suc zero))))))) = h
+all_eleven P a b c d e f g h i j k past (suc (suc (suc (suc (suc (suc (suc (suc zero)))))))) = i
+all_eleven P a b c d e f g h i j k past (suc (suc (suc (suc (suc (suc (suc (suc (suc zero))))))))) = j
+all_eleven P a b c d e f g h i j k past (suc (suc (suc (suc (suc (suc (suc (suc (suc (suc zero)))))))))) = k
+all_eleven P a b c d e f g h i j k past (suc (suc (suc (suc (suc (suc (suc (suc (suc (suc (suc p))))))))))) = past p
+
 pub by_eleven : (P : ℕ → Type 0) → P 0 → P 1 → P 2 → P 3 → P 4 → P 5 → P 6 → P 7 → P 8 → P 9 → P 10 → (p : ℕ) → p < 11 → P p
-by_eleven P a b c d e f g h i j k zero lt = a
-by_eleven P a b c d e f g h i j k (suc zero) lt = b
-by_eleven P a b c d e f g h i j k (suc (suc zero)) lt = c
-by_eleven P a b c d e f g h i j k (suc (suc (suc zero))) lt = d
-by_eleven P a b c d e f g h i j k (suc (suc (suc (suc zero)))) lt = e
-by_eleven P a b c d e f g h i j k (suc (suc (suc (suc (suc zero))))) lt = f
-by_eleven P a b c d e f g h i j k (suc (suc (suc (suc (suc (suc zero)))))) lt = g
-by_eleven P a b c d e f g h i j k (suc (suc (suc (suc (suc (suc (suc zero))))))) lt = h
-by_eleven P a b c d e f g h i j k (suc (suc (suc (suc (suc (suc (suc (suc zero)))))))) lt = i
-by_eleven P a b c d e f g h i j k (suc (suc (suc (suc (suc (suc (suc (suc (suc zero))))))))) lt = j
-by_eleven P a b c d e f g h i j k (suc (suc (suc (suc (suc (suc (suc (suc (suc (suc zero)))))))))) lt = k
-by_eleven P a b c d e f g h i j k (suc (suc (suc (suc (suc (suc (suc (suc (suc (suc (suc p))))))))))) lt = absurd (omega arith)
+by_eleven P a b c d e f g h i j k =
+    all_eleven (λ p. p < 11 → P p) (λ lt. a) (λ lt. b) (λ lt. c) (λ lt. d) (λ lt. e) (λ lt. f) (λ lt. g) (λ lt. h) (λ lt. i) (λ lt. j) (λ lt. k) (λ p lt. absurd (omega arith))
 
 pub all_twelve : (P : ℕ → Type 0) → P 0 → P 1 → P 2 → P 3 → P 4 → P 5 → P 6 → P 7 → P 8 → P 9 → P 10 → P 11 → ((p : ℕ) → P (suc (suc (suc (suc (suc (suc (suc (suc (suc (suc (suc (suc p))))))))))))) → (p : ℕ) → P p
 all_twelve P a b c d e f g h i j k l past zero = a

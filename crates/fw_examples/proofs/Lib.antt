@@ -5,6 +5,7 @@ pub mod LeavingOut
 pub mod Logs
 pub mod Loop
 pub mod Nested
+pub mod NestedRecovery
 pub mod OffersOfTotals
 pub mod Plays
 pub mod Settling

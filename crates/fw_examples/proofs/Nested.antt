@@ -73,13 +73,13 @@ pub projects_from_inner : ProjectsFromInnerLoop
 unfolding phi_by_count psi kind_of sender receiver bounds_of max_of parent_of declared_parent loops_of
 projects_from_inner = record {
   fed_back = λ count. (
-      within_three 4294967295 1 1 _ _ (λ x y z hx hy hz h. grind (arith, nat_tests)),
-      within_three 4294967295 1 1 _ _ (λ x y z hx hy hz h. grind (arith, nat_tests)),
-    );
+    within_three 4294967295 1 1 _ _ (λ x y z hx hy hz h. grind (arith, nat_tests)),
+    within_three 4294967295 1 1 _ _ (λ x y z hx hy hz h. grind (arith, nat_tests)),
+  );
   left = λ count. (
-      within_two 4294967295 1 _ _ (λ x y hx hy h. grind (arith, nat_tests)),
-      within_two 4294967295 1 _ _ (λ x y hx hy h. grind (arith, nat_tests)),
-    );
+    within_two 4294967295 1 _ _ (λ x y hx hy h. grind (arith, nat_tests)),
+    within_two 4294967295 1 _ _ (λ x y hx hy h. grind (arith, nat_tests)),
+  );
   may_leave = (
     within_two 4294967295 1 _ _ (λ x y hx hy h. grind (arith, nat_tests)),
     within_two 4294967295 1 _ _ (λ x y hx hy h. grind (arith, nat_tests)),

@@ -1,6 +1,6 @@
 -- What is claimed of a loop within a loop, of which the inner one is entered once in each round of the outer one: what a batch
--- denotes, and how a frontier strictly inside the inner loop is projected out of it.
-use Rattle.std.specs.Prelude.{List, None, Some, [], codes, false, ℕ, ◌∷◌, ◌≡◌}
+-- denotes, how a frontier strictly inside the inner loop is projected out of it, and a recovery that cuts a node there.
+use Rattle.std.specs.Prelude.{List, None, Some, [], codes, false, replicate, true, ℕ, ◌++◌, ◌∷◌, ◌≡◌}
 use Rattle.fw_bag.specs.declared.select.Comparison.TheVariants.{Less}
 use Rattle.fw_bag.specs.declared.select.Field.TheVariants.{Value}
 use Rattle.fw_bag.specs.declared.select.NewValue.TheVariants as new
@@ -11,10 +11,21 @@ use Rattle.fw_frontier.specs.Front.{Front}
 use Rattle.fw_frontier.specs.Frontier.{Frontier, Within}
 use Rattle.fw_flow.specs.Dataflow.{Dataflow, System, node_frontier}
 use Rattle.fw_flow.specs.Projection.{phi_by_count, psi}
+use Rattle.fw_flow.specs.declared.choice.Choice.{Choice}
+use Rattle.fw_flow.specs.declared.choice.Cut.TheVariants.{At, Present}
+use Rattle.fw_flow.specs.declared.event.Event.{Event}
+use Rattle.fw_flow.specs.declared.event.Event.TheVariants.{Deliver, Inject}
+use Rattle.fw_flow.specs.declared.step.Step.{Step}
+use Rattle.fw_flow.specs.declared.step.Step.TheVariants as step
 use Rattle.fw_flow.specs.declared.kind.Kind.TheVariants.{Concat, Enter, Feedback, Input, Leave, OutputEpoch, Select}
 use Rattle.fw_flow.specs.declared.kind.Policy.TheVariants as policy
+use Rattle.fw_model.specs.Choice.{filtered_history}
 use Rattle.fw_model.specs.Denotation.{IsDenotation, bag_at, rounds}
+use Rattle.fw_model.specs.History.{pending_messages}
+use Rattle.fw_model.specs.Machine.{Machine, events, first_state}
+use Rattle.fw_model.specs.Steps.{Run, cuts, did, recovered_state, silent}
 use Rattle.fw_examples.specs.Flows.{edge, node, pair}
+use Rattle.fw_examples.specs.Loop.{message, with_serials}
 
 -- the next value, where the value is below 100
 abbrev pub next_below_hundred : Selection
@@ -98,3 +109,103 @@ pub record ProjectsFromInnerLoop : Type 0 where
   pub fed_back : (count : ℕ) → AreSame (phi_by_count nested_loops count inner_fed_back inside_inner) (node_frontier nested_loops 4 ((0 ∷ 1 ∷ 1 ∷ []) ∷ (1 ∷ 0 ∷ 1 ∷ []) ∷ []))
   pub left : (count : ℕ) → AreSame (phi_by_count nested_loops count inner_left inside_inner) (node_frontier nested_loops 8 ((0 ∷ 0 ∷ []) ∷ []))
   pub may_leave : AreSame (psi nested_loops inner_left inside_inner) (node_frontier nested_loops 8 ((0 ∷ 1 ∷ []) ∷ (1 ∷ 0 ∷ []) ∷ []))
+
+-- ---- a recovery, after the node that counts up failed in the second round of the inner loop
+
+-- the latest events: the rec went round the inner loop, and came to be counted up again
+abbrev pub second_round : List Event
+second_round =
+    Deliver 6 (message (0 ∷ 0 ∷ 1 ∷ []) (pair 1 1) (0 ∷ 0 ∷ 1 ∷ []))
+    ∷ Deliver 5 (message (0 ∷ 0 ∷ 1 ∷ []) (pair 1 1) (0 ∷ 0 ∷ 0 ∷ []))
+    ∷ Deliver 7 (message (0 ∷ 0 ∷ 0 ∷ []) (pair 1 1) (0 ∷ 0 ∷ 0 ∷ []))
+    ∷ []
+
+-- the events before: the rec entered both loops, and was counted up once
+abbrev pub first_round : List Event
+first_round =
+    Deliver 6 (message (0 ∷ 0 ∷ 0 ∷ []) (pair 1 0) (0 ∷ 0 ∷ 0 ∷ []))
+    ∷ Deliver 4 (message (0 ∷ 0 ∷ 0 ∷ []) (pair 1 0) (0 ∷ 0 ∷ []))
+    ∷ Deliver 3 (message (0 ∷ 0 ∷ []) (pair 1 0) (0 ∷ 0 ∷ []))
+    ∷ Deliver 1 (message (0 ∷ 0 ∷ []) (pair 1 0) (0 ∷ []))
+    ∷ Deliver 0 (message (0 ∷ []) (pair 1 0) (0 ∷ []))
+    ∷ Inject 0 0
+    ∷ []
+
+-- strictly inside the inner loop: its first round in the first round of the outer loop
+abbrev pub counted_once : Front
+counted_once = (0 ∷ 0 ∷ 1 ∷ []) ∷ (0 ∷ 1 ∷ 0 ∷ []) ∷ []
+
+-- The complete frontiers by node once the first events have happened: all before the loops; where rounds of the outer loop meet, and
+-- where they enter the inner one, those that nothing was fed back to; where rounds of the inner loop meet, and are counted up, such
+-- ones of both; and nothing behind them.
+abbrev pub complete_once : List Front
+complete_once =
+    [] ∷ []
+    ∷ ((0 ∷ 1 ∷ []) ∷ [])
+    ∷ ((0 ∷ 1 ∷ []) ∷ [])
+    ∷ counted_once
+    ∷ counted_once
+    ∷ ((0 ∷ 0 ∷ 0 ∷ []) ∷ [])
+    ∷ ((0 ∷ 0 ∷ 0 ∷ []) ∷ [])
+    ∷ ((0 ∷ 0 ∷ []) ∷ [])
+    ∷ ((0 ∷ 0 ∷ []) ∷ [])
+    ∷ ((0 ∷ []) ∷ [])
+    ∷ []
+
+-- the state after all events, in which what was complete before the second round is settled, and the node that counts up failed
+abbrev pub second_count_failed : Machine
+second_count_failed = record (first_state one_rec) {
+  history = with_serials (second_round ++ first_round);
+  next = 9;
+  settled = complete_once;
+  failed = false ∷ false ∷ false ∷ false ∷ false ∷ true ∷ false ∷ false ∷ false ∷ false ∷ false ∷ [];
+}
+
+-- the node that counts up is cut to what is settled of it, and all others stay as they are
+abbrev pub cut_inside : Choice
+cut_inside = record {
+  cuts = Present ∷ Present ∷ Present ∷ Present ∷ Present ∷ At counted_once ∷ Present ∷ Present ∷ Present ∷ Present ∷ Present ∷ [];
+  notices =
+      [] ∷ []
+      ∷ ((0 ∷ 1 ∷ []) ∷ [])
+      ∷ ((0 ∷ 1 ∷ []) ∷ [])
+      ∷ ((0 ∷ 1 ∷ 0 ∷ []) ∷ [])
+      ∷ counted_once
+      ∷ counted_once
+      ∷ counted_once
+      ∷ ((0 ∷ 0 ∷ []) ∷ [])
+      ∷ ((0 ∷ 0 ∷ []) ∷ [])
+      ∷ ((0 ∷ []) ∷ [])
+      ∷ [];
+}
+
+-- the events without the second time that the rec came to be counted up
+abbrev pub without_the_second_count : List Event
+without_the_second_count =
+    Deliver 5 (message (0 ∷ 0 ∷ 1 ∷ []) (pair 1 1) (0 ∷ 0 ∷ 0 ∷ []))
+    ∷ Deliver 7 (message (0 ∷ 0 ∷ 0 ∷ []) (pair 1 1) (0 ∷ 0 ∷ 0 ∷ []))
+    ∷ first_round
+
+-- the steps up to the recovery: what is complete becomes settled before the second round, and the node that counts up fails after it
+abbrev pub nested_steps : List Step
+nested_steps =
+    step.Inject 0
+    ∷ step.Deliver 0 None
+    ∷ step.Deliver 1 None
+    ∷ step.Deliver 3 None
+    ∷ step.Deliver 4 None
+    ∷ step.Deliver 6 None
+    ∷ step.Progress
+    ∷ step.Deliver 7 None
+    ∷ step.Deliver 5 None
+    ∷ step.Deliver 6 None
+    ∷ step.Fail (5 ∷ [])
+    ∷ step.Recover
+    ∷ []
+
+-- The run comes to the failure and recovers by this choice, which is shown. The recovery filters out one event, in the second round
+-- of the inner loop, and its message is pending again.
+pub record RecoversInsideInnerLoop : Type 0 where
+  pub runs : Run one_rec (first_state one_rec) nested_steps (replicate 11 (did silent) ++ did (cuts cut_inside) ∷ []) (recovered_state one_rec second_count_failed cut_inside complete_once)
+  pub remains : events (filtered_history one_rec cut_inside (with_serials (second_round ++ first_round))) ≡ without_the_second_count
+  pub again : pending_messages one_rec without_the_second_count 6 ≡ message (0 ∷ 0 ∷ 1 ∷ []) (pair 1 1) (0 ∷ 0 ∷ 1 ∷ []) ∷ []

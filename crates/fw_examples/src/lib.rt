@@ -29,6 +29,7 @@ pub use logs_after_collection::{
 pub use loop_counts_up::{is_complete, is_restored, is_under_way, two_batches_count_up};
 pub use nested_loops::{
     first_rounds_are_projected, nested_loops_are_well_formed, one_rec_counts_up,
+    recovers_inside_the_inner_loop,
 };
 pub use witnesses_of_laws::{
     an_epoch_is_closed, checkpoints_are_offered, choices_unite, cuts_unite,

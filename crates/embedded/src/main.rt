@@ -84,19 +84,30 @@ fn go_on<R: Print>(rt: &R, engine: &mut Engine, edges: &[&str]) -> Result<()> {
     Ok(())
 }
 
-fn run<R: AllocGlobal + Print>(rt: &R) -> Result<()> {
-    let alloc = rt.alloc();
+// An engine of that flow and those batches, which are such as it asks for.
+fn shop_engine(alloc: Global) -> Result<Engine> {
     let flow = shop_flow(alloc)?;
-    let cheap = node(&flow, "cheap")?;
-    let batches = two_batches(alloc, node(&flow, "orders")?)?;
-    ensure!(flow.keeps_nothing() && flow.notifies_nobody() && flow.accepts(&batches));
-    let mut engine = Engine::new(alloc, flow, batches)?;
+    let orders = node(&flow, "orders")?;
+    let batches = two_batches(alloc, orders)?;
+    let plain = flow.keeps_nothing() && flow.notifies_nobody();
+    ensure!(plain && flow.accepts(&batches), "no engine runs this");
+    Ok(Engine::new(alloc, flow, batches)?)
+}
+
+// The select fails, and is restored.
+fn lose_cheap<R: Print>(rt: &R, alloc: Global, engine: &mut Engine) -> Result<()> {
+    let cheap = node(engine.flow(), "cheap")?;
+    let failed = Nodes::new(vec![in alloc; cheap]?);
+    take(rt, engine, &Step::Fail(failed))?;
+    take(rt, engine, &Step::Recover)
+}
+
+fn run<R: AllocGlobal + Print>(rt: &R) -> Result<()> {
     let all = ["to_cheap", "to_shop", "to_archive"];
+    let mut engine = shop_engine(rt.alloc())?;
     go_on(rt, &mut engine, &all)?;
     go_on(rt, &mut engine, &["to_archive"])?;
-    let failed = Nodes::new(vec![in alloc; cheap]?);
-    take(rt, &mut engine, &Step::Fail(failed))?;
-    take(rt, &mut engine, &Step::Recover)?;
+    lose_cheap(rt, rt.alloc(), &mut engine)?;
     go_on(rt, &mut engine, &all)
 }
 

@@ -15,7 +15,7 @@ use Rattle.fw_flow.specs.declared.event.Event.{Event}
 use Rattle.fw_flow.specs.declared.kind.Kind.{Kind}
 use Rattle.fw_flow.specs.declared.kind.Kind.TheVariants.{OutputEpoch, Sequence}
 use Rattle.fw_flow.specs.declared.node.Edge.{Edge}
-use Rattle.fw_flow.specs.Dataflow.{System, Dataflow, idle_node, kind_of, sender, receiver, edges_into, in_edges, domain_of, domain_of_kind, out_domain_of, out_domain_of_kind, greatest_of_kind, bounds_of, bounds_of_domain, bounds_of_edge, edges_from, out_edges}
+use Rattle.fw_flow.specs.Dataflow.{System, Dataflow, idle_node, kind_of, sender, receiver, edges_into, in_edges, domain_of, domain_of_kind, out_domain_of, out_domain_of_kind, greatest_of_kind, bounds_of, bounds_of_domain, bounds_of_edge}
 use Rattle.fw_flow.specs.WellFormed.{IsWellFormed, IsGroupSize}
 use Rattle.fw_flow.specs.Projection.{phi_of_kind, psi_of_kind, psi_back_of_kind, phi, phi_by_count, psi, psi_back, table_count, IsSentTable}
 use Rattle.fw_flow.specs.ProjectedStamps.{AreEndsOf}

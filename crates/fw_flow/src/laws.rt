@@ -1,12 +1,14 @@
 //! Facts about the definitions of dataflows, each proved as a function that does nothing.
-ghost use Rattle.std.specs.Prelude.{◌≡◌, ◌⊎◌, List, map};
+ghost use Rattle.std.specs.Prelude.{◌≡◌, ◌⊎◌, ℕ, ◌<◌, List, length, map};
 ghost use Rattle.std.specs.List.{IsDistinct};
 ghost use Rattle.std.specs.Str.{bytes_eq};
 ghost use Rattle.fw_lines.specs.declared.refusal.Refusal.{Refusal};
 ghost use Rattle.fw_lines.specs.Batches.{batches_at, AreBatchesOf};
 ghost use Rattle.fw_flow.specs.declared.raw.Declared.{Declared};
 ghost use Rattle.fw_flow.specs.Check.{IsChecked, IsFirstBroken};
-ghost use Rattle.fw_flow.specs.Dataflow.{Dataflow, system_of};
+ghost use Rattle.fw_time.specs.Stamp.{nest};
+ghost use Rattle.fw_flow.specs.declared.kind.Domain.TheVariants.{Loop as InLoop};
+ghost use Rattle.fw_flow.specs.Dataflow.{Dataflow, declared_parent, domain_within, greatest_of, max_of, parent_of, system_of};
 ghost use Rattle.fw_flow.specs.Raw.{loop_names, node_names, edge_names};
 ghost use Rattle.fw_flow.specs.Sources.{sources_of};
 ghost use Rattle.fw_flow.specs.Ranks.{RanksExist};
@@ -68,4 +70,17 @@ pub fn one_answer()
         → IsChecked raw first → IsChecked raw second → first ≡ second }
     ensures one_refusal { (raw : List Declared) (first second : Refusal)
         → IsFirstBroken raw first → IsFirstBroken raw second → first ≡ second }
+{}
+
+/// The domain of a loop has the stamps of its parent domain, each with a counter up to the loop's greatest.
+pub fn loops_add_a_counter()
+    ensures { (flow : Dataflow) (l : ℕ)
+        → greatest_of flow (InLoop l) ≡ nest (greatest_of flow (parent_of flow l)) (max_of flow l) }
+{}
+
+/// In a well-formed dataflow the parent domain of a loop is that of the loop in which it is declared, and epochs where it is
+/// in none.
+pub fn parents_are_declared()
+    ensures { (flow : Dataflow) (l : ℕ) → IsWellFormed flow → l < length flow.loops
+        → parent_of flow l ≡ domain_within (declared_parent flow l) }
 {}

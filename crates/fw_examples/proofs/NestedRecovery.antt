@@ -1,8 +1,8 @@
 -- The recovery of the loop within a loop: what is complete, the run to the failure, and that the choice is the largest.
-use Rattle.std.proofs.Common.{List, None, Some, [], ap, arith, drop, get_or, lit<, not, refl, replicate, suc, take, true, ℕ, ◌++◌, ◌&&◌, ◌<◌, ◌∷◌, ◌≡◌}
+use Rattle.std.proofs.Common.{List, None, [], ap, arith, drop, get_or, lit<, refl, replicate, suc, take, true, ℕ, ◌++◌, ◌<◌, ◌∷◌, ◌≡◌}
 use Rattle.std.proofs.lemmas.Bool.{and_from, and_parts}
 use Rattle.std.proofs.lemmas.Bool.Decides.{nat_tests}
-use Rattle.fw_time.specs.Stamp.{Stamp, in_domain, leq, same}
+use Rattle.fw_time.specs.Stamp.{Stamp, in_domain, same}
 use Rattle.fw_frontier.specs.Front.{inside}
 use Rattle.fw_frontier.specs.Frontier.{Frontier, Within}
 use Rattle.fw_flow.specs.Dataflow.{batches_of, bounds_of, declared_parent, kind_of, loops_of, max_of, node_frontier, parent_of, policy_of, receiver, sender}

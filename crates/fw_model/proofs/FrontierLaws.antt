@@ -1,5 +1,5 @@
 -- Phi and psi of a frontier are frontiers.
-use Rattle.std.proofs.Common.{◌≡◌, ℕ, ◌+◌, ◌-◌, ◌*◌, ◌≤◌, min, Bool, true, false, ◌&&◌, ◌||◌, ◌==◌, nat_lt, [], ◌∷◌, refl, ap, inl, inr, arith, sym, ◌∙◌, subst}
+use Rattle.std.proofs.Common.{◌≡◌, ℕ, ◌+◌, ◌-◌, ◌*◌, ◌≤◌, min, Bool, true, false, ◌&&◌, ◌||◌, ◌==◌, nat_lt, [], ◌∷◌, refl, ap, inl, inr, arith, sym, ◌∙◌}
 use Rattle.std.proofs.lemmas.Bool.{and_parts, and_from, or_cases, or_left, or_right, ltb-true, lt-ltb, eqb-true, eq-eqb}
 use Rattle.std.proofs.Math.Nat.{min-le_left, min-le_right, le-min, mul-le-mul_right}
 use Rattle.fw_time.specs.Stamp.{Stamp, leq, nest, outer, counter, in_domain}

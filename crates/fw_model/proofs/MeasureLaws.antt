@@ -1,15 +1,15 @@
 -- The measure of a stamp at a node: the rank along the whole dataflow and then, from the outermost loop inward, the counter
 -- and the rank within its rounds.
-use Rattle.std.proofs.Common.{◌≡◌, ◌⊎◌, ℕ, zero, suc, ◌+◌, ◌-◌, ◌*◌, ◌<◌, ◌≤◌, min, Bool, true, false, ◌&&◌, ◌||◌, ◌==◌, nat_le, List, [], ◌∷◌, length, Option, Some, None, refl, sym, ap, ◌∙◌, subst, inl, inr, arith}
-use Rattle.std.proofs.Math.Nat.{mul-le-mul_left, mul-le-mul_right, min-le_right}
-use Rattle.std.proofs.lemmas.Bool.{and_parts, cases_Bool, or_left, or_right, eqb-true, eq-eqb, false_from_ne_true}
+use Rattle.std.proofs.Common.{◌≡◌, ◌⊎◌, ℕ, zero, suc, ◌+◌, ◌-◌, ◌*◌, ◌<◌, ◌≤◌, min, true, false, ◌&&◌, ◌==◌, nat_le, List, [], ◌∷◌, length, Some, refl, sym, ap, ◌∙◌, subst, inl, inr, arith}
+use Rattle.std.proofs.Math.Nat.{mul-le-mul_right, min-le_right}
+use Rattle.std.proofs.lemmas.Bool.{and_parts, or_left, or_right, eqb-true, eq-eqb, false_from_ne_true}
 use Rattle.fw_time.specs.Stamp.{Stamp, leq, nest, outer, counter}
 use Rattle.fw_time.proofs.StampLaws.{outer-nest, counter-nest}
 use Rattle.fw_flow.specs.declared.kind.Domain.{Domain}
 use Rattle.fw_flow.specs.declared.kind.Domain.TheVariants.{Epoch, Number, Loop as InLoop}
 use Rattle.fw_flow.specs.declared.kind.Kind.{Kind}
 use Rattle.fw_flow.specs.declared.kind.Kind.TheVariants.{OutputEpoch, OutputNumber, Enter, Feedback, Leave, Total, Sequence, Ledger, Regroup}
-use Rattle.fw_flow.specs.Dataflow.{Dataflow, kind_of, sender, receiver, max_of, send_stamp, send_stamp_of_kind, parent_of, loops_of, domain_of, domain_of_kind, out_domain_of, out_domain_of_kind, is_loop, is_one_of, is_within}
+use Rattle.fw_flow.specs.Dataflow.{Dataflow, kind_of, sender, receiver, max_of, send_stamp, send_stamp_of_kind, parent_of, loops_of, domain_of, domain_of_kind, out_domain_of, out_domain_of_kind, is_loop, is_one_of}
 use Rattle.fw_flow.specs.Ranks.{is_looped, IsWithinRound, Ranks}
 use Rattle.fw_flow.specs.WellFormed.{IsLoopDeclared, IsWellFormed, is_feedback_of}
 use Rattle.fw_flow.proofs.Chains.{loops-unfold, loops-few, not_own_parent}

@@ -5,7 +5,7 @@ use Rattle.fw_time.specs.Stamp.{Stamp, nest, outer, counter, in_domain}
 use Rattle.fw_frontier.specs.Frontier.{Frontier, Within, nothing, join}
 use Rattle.fw_flow.specs.declared.kind.Kind.{Kind}
 use Rattle.fw_flow.specs.declared.kind.Kind.TheVariants.{Enter, Feedback, Leave, Regroup}
-use Rattle.fw_flow.specs.Dataflow.{greatest_of_kind, Dataflow, kind_of, sender, max_of, out_domain_of_kind, bounds_of_domain}
+use Rattle.fw_flow.specs.Dataflow.{greatest_of_kind, Dataflow, kind_of, sender, out_domain_of_kind, bounds_of_domain}
 use Rattle.fw_flow.specs.Projection.{some_counter, psi_of_kind, psi}
 use Rattle.fw_model.specs.LawsOfProjections.{PsiIsMonotone, PsiOfJoin, PsiOfNothing, PsiOfUnion}
 use Rattle.fw_model.specs.Unions.{IsUnion}

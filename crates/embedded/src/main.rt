@@ -7,7 +7,7 @@ ghost use Rattle.cimboery.specs.Step.{is_plain_step};
 use anyhow::{Context, Result, ensure};
 use cimboery::{
     Batches, BuildFault, Comparison, Condition, EdgeId, Engine, Field, Flow, FlowBuilder, NodeId,
-    Nodes, Rec, Selection, Step, Term,
+    Nodes, Rec, Selection, Step, Stepped, Term,
 };
 use std::alloc::{AllocError, Global};
 
@@ -56,7 +56,12 @@ fn take<R: Print>(rt: &R, engine: &mut Engine, step: &Step) -> Result<()>
     requires { is_plain_step step.now ≡ true }
 {
     let stepped = engine.step(step)?;
-    print!(rt; "{}", stepped.display(engine.flow()))?;
+    show(rt, engine.flow(), &stepped)
+}
+
+fn show<R: Print>(rt: &R, flow: &Flow, stepped: &Stepped) -> Result<()> {
+    let shown = stepped.display(flow);
+    print!(rt; "{shown}")?;
     Ok(())
 }
 

@@ -5,7 +5,7 @@
 //!   `read_batches`; `Selection`, what a select does to a rec.
 //! - A run: `Engine::new` takes a flow and batches of which `Flow::keeps_nothing`, `Flow::notifies_nobody` and
 //!   `Flow::accepts` are true; `Engine::step` takes a `Step` and answers `Stepped`, with the `Effect` that it shows.
-//! - Looks at an engine: `Engine::settled`, `is_failed`, `acknowledged` and `pending`.
+//! - Looks at an engine: `Engine::settled`, `is_failed`, `acknowledged`, `pending` and `low_watermark`.
 //! - Times: `Stamp`; `Front`, a frontier; `Cut` and `Choice`, to what a recovery restores the nodes.
 //! - The command over texts: `falkirk`, with its `Folder`, `Store` and `Sink` in memory, over files or of your own.
 #![tactic(auto)]

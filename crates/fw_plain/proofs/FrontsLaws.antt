@@ -1,5 +1,8 @@
 -- Lists of frontiers, one for each node.
-use Rattle.std.proofs.Common.{◌≡◌, ℕ, zero, suc, ◌<◌, Bool, true, false, not, ◌&&◌, List, [], ◌∷◌, map, length, get_or, refl, sym, ap, subst, inl, inr, arith, Result, Ok, Err, IfOk}
+use Rattle.std.proofs.Common.{◌≡◌, ℕ, zero, suc, ◌+◌, ◌<◌, ◌≤◌, ◌∙◌, Some, None, Bool, true, false, not, ◌&&◌, List, [], ◌∷◌, map, length, get_or, refl, sym, ap, subst, inl, inr, arith, Result, Ok, Err, IfOk}
+use Rattle.std.specs.Option.{option_map}
+use Rattle.std.specs.List.{slice_get, range_with_len}
+use Rattle.std.proofs.lemmas.Option.{slice_get-map}
 use Rattle.std.proofs.lemmas.Bool.{cases_Bool, or_cases, or_left, or_right, and_parts, and_from, false_from_ne_true, and_right, not-true}
 use Rattle.fw_time.specs.declared.stamp.Bounds.{Bounds}
 use Rattle.fw_time.specs.Stamp.{Stamp, leq, origin, in_domain}
@@ -24,6 +27,25 @@ names-no_stamps b = subst (λ s. IsFrontOf b (s ∷ []) nothing) (sym (zeros-ori
 
 pub no_stamps_named : (b : Bounds) (f : Front) → IsFrontOf b f nothing → f ≡ no_stamps b
 no_stamps_named b f n = names-same b f (no_stamps b) nothing n (names-no_stamps b)
+
+-- ---- one for each node
+
+get-range : (a n i j : ℕ) → i < n → a + i ≡ j → slice_get (range_with_len a n) i ≡ Some j
+get-range a zero i j l e = absurd (omega arith)
+get-range a (suc n) zero j l e = ap Some (omega arith)
+get-range a (suc n) (suc i) j l e = get-range (a + 1) n i j (omega arith) (omega arith)
+
+past-range : (a n i : ℕ) → n ≤ i → slice_get (range_with_len a n) i ≡ None
+past-range a zero i l = refl
+past-range a (suc n) zero l = absurd (omega arith)
+past-range a (suc n) (suc i) l = past-range (a + 1) n i (omega arith)
+
+-- the one of a node that is there, and none past the last one
+pub one_there : (f : ℕ → Front) (n p : ℕ) → p < n → slice_get (map f (range_with_len 0 n)) p ≡ Some (f p)
+one_there f n p l = slice_get-map f (range_with_len 0 n) p ∙ ap (option_map f) (get-range 0 n p p l (omega arith))
+
+pub none_past : (f : ℕ → Front) (n p : ℕ) → n ≤ p → slice_get (map f (range_with_len 0 n)) p ≡ None
+none_past f n p l = slice_get-map f (range_with_len 0 n) p ∙ ap (option_map f) (past-range 0 n p l)
 
 -- ---- where a frontier grows
 

@@ -1,5 +1,6 @@
 //! How any bytes are written in lines of text: `\\` is a backslash, `\n` byte 10, `\x` and two hexadecimal digits any
 //! byte, and a backslash at the end of a line says that no LF ends it.
+use crate::hex::digit;
 use std::alloc::{AllocError, Global};
 
 /// What of an escape was read.
@@ -52,15 +53,6 @@ fn read_byte(escape: Escape, byte: u8, bytes: &mut Vec<u8>) -> Result<Escape, Al
     };
     bytes.push(spelled)?;
     Ok(Escape::No)
-}
-
-/// The value of a hexadecimal digit.
-fn digit(byte: u8) -> Option<u8> {
-    match byte {
-        b'0'..=b'9' => Some(byte - b'0'),
-        b'a'..=b'f' => Some(byte - b'a' + 10),
-        _ => None,
-    }
 }
 
 /// Adds bytes as a line spells them, but for LF, which is written as it is.

@@ -1,14 +1,17 @@
-//! Rows of data: runs of the command over memory, values of the parts, and calls of the objects outside. The arguments name
-//! the files of rows, in order; `docs/rows.md` has their formats.
+//! Rows of data: runs of the command over memory, values of the parts, bytes of records, and calls of the objects outside. The
+//! arguments name the files of rows, in order; `docs/rows.md` has their formats.
 #![tactic(auto)]
 
 mod escape;
+mod hex;
 mod line;
 mod outside;
+mod records;
 mod runs;
 mod values;
 
 use crate::outside::tell_calls;
+use crate::records::tell_records;
 use crate::runs::Reader;
 use crate::values::tell_values;
 use fw_outside::{FileFolder, Sink, StreamSink};
@@ -24,6 +27,7 @@ fn main(rt: HostRuntime) -> io::Result<()> {
         let text = fs::read_to_string(&rt, path.as_str())?;
         let told = match path.rsplit_once('.') {
             Some((_, "runs")) => reader.tell(&text)?,
+            Some((_, "records")) => tell_records(alloc, &text)?,
             Some((_, "calls")) => tell_calls(alloc, &mut folder, &text)?,
             _ => tell_values(alloc, &text)?,
         };

@@ -1,16 +1,18 @@
-//! Values of the parts: whether declarations are a flow, projections through its edges, notices and choices; stamps and
-//! frontiers of a domain; bags.
+//! Values of the parts: whether declarations are a flow, projections through its edges, records of its nodes, notices and choices;
+//! stamps and frontiers of a domain; bags.
 
 mod bags;
 mod choices;
 mod declare;
 mod domain;
 mod flow;
+mod node_records;
 mod notices;
 mod sent;
 mod spell;
 mod texts;
 mod times;
+mod trail;
 
 use crate::line::{part, tell_name};
 use crate::values::bags::tell_bag;

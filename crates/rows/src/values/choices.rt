@@ -12,14 +12,17 @@ ghost use Rattle.rows.specs.Written.{IsOfferOf, IsOfferedBy};
 use crate::line::{if_spelled, part};
 use crate::values::sent::sent_table;
 use crate::values::spell::{stamp_of, stamps_of};
+use crate::values::trail::tell_trail;
 use fw_flow::{
     Causes, Choice, Counted, CountedMessages, Cut, EdgeId, Flow, NodeId, Notices, OfEdge, OfEdges,
-    Offer, Offered, Recorded, Records, Restoring, SentTable, Stamps,
+    Offer, Offered, Recorded, Records, Restoring, SentTable, Stamps, Steps,
 };
 use fw_frontier::Front;
-use fw_monitor::largest;
+use fw_monitor::{Descent, descend, largest};
 use fw_time::{Bounds, Stamp};
 use std::alloc::{AllocError, Global};
+use std::marker::Brand;
+use std::sync::ledger::{Blank, Ledger};
 
 // The frontier of a domain that has these stamps outside; all, where they are not spelled right or one is past the domain.
 fn front(alloc: Global, bounds: &Bounds, text: &str) -> Result<Front, AllocError>
@@ -35,7 +38,20 @@ fn front(alloc: Global, bounds: &Bounds, text: &str) -> Result<Front, AllocError
     }
 }
 
-// The frontier of each of the edges, by one text.
+// The text of one of the edges, where `&` stands between them; the last one is that of all that follow.
+fn text_of_edge<'a>(edges: &[EdgeId], edge: EdgeId, text: &'a str) -> &'a str {
+    for (other, own) in edges.iter().zip(text.split('&')) {
+        if *other == edge {
+            return own;
+        }
+    }
+    match text.rsplit_once('&') {
+        Some((_, last)) => last,
+        None => text,
+    }
+}
+
+// The frontier of each of the edges.
 fn of_edges(
     alloc: Global,
     flow: &Flow,
@@ -47,24 +63,27 @@ fn of_edges(
     let mut fronts = Vec::new(alloc);
     for edge in edges {
         let edge = *edge;
-        let front = front(alloc, &flow.domain(flow.dst(edge)), text)?;
+        let own = text_of_edge(edges, edge, text);
+        let front = front(alloc, &flow.domain(flow.dst(edge)), own)?;
         fronts.push(OfEdge { edge, front })?;
     }
     Ok(fronts)
 }
 
-// A record by its outside stamp; after a stroke that of what the node was notified of and what was delivered to it, if that
-// is less; and after another that of what it sent and cannot send again, if that is another.
+// A record by its outside stamps; after a stroke those of what was delivered to the node, if that is less; after another those
+// of what it sent and cannot send again, if that is another; and after another those of what it was notified of, if that is not
+// what was delivered.
 fn record(alloc: Global, flow: &Flow, node: NodeId, word: &str) -> Result<Recorded, AllocError>
     ensures { IfOk result (λ r. IsRecordOf flow.now node r) }
 {
     let (outside, rest) = word.split_once('/').unwrap_or((word, word));
-    let (held, discarded) = rest.split_once('/').unwrap_or((rest, rest));
+    let (delivered, rest) = rest.split_once('/').unwrap_or((rest, rest));
+    let (discarded, notified) = rest.split_once('/').unwrap_or((rest, delivered));
     let domain = flow.domain(node);
     Ok(Recorded {
         front: front(alloc, &domain, outside)?,
-        notified: front(alloc, &domain, held)?,
-        delivered: OfEdges::of(of_edges(alloc, flow, flow.in_edges(node), held)?),
+        notified: front(alloc, &domain, notified)?,
+        delivered: OfEdges::of(of_edges(alloc, flow, flow.in_edges(node), delivered)?),
         discarded: OfEdges::of(of_edges(alloc, flow, flow.out_edges(node), discarded)?),
     })
 }
@@ -240,8 +259,21 @@ fn tell_front(alloc: Global, front: &Front, told: &mut String) -> Result<(), All
     told.push_str(text.as_str())
 }
 
-/// Tells to what the nodes of a flow are restored that offer what the lines say: a line for each node, its cut and its
-/// notification frontier.
+// Adds a line for each node, its cut and its notification frontier.
+fn tell_cuts(alloc: Global, choice: &Choice, told: &mut String) -> Result<(), AllocError> {
+    let cuts = choice.cuts.as_slice();
+    let notices = choice.notices.as_slice();
+    for (cut, notice) in cuts.iter().zip(notices.iter()) {
+        tell_cut(alloc, cut, told)?;
+        told.push_str(", ")?;
+        tell_front(alloc, notice, told)?;
+        told.push('\n')?;
+    }
+    Ok(())
+}
+
+/// Tells to what the nodes of a flow are restored that offer what the lines say, and how that was found, if a line `trail`
+/// asks for it.
 pub fn tell_choice(
     alloc: Global,
     flow: &Flow,
@@ -249,12 +281,34 @@ pub fn tell_choice(
     told: &mut String,
 ) -> Result<(), AllocError> {
     let offers = offers(alloc, flow, lines)?;
-    let Choice { cuts, notices } = largest(alloc, flow, &offers)?;
-    for (cut, notice) in cuts.as_slice().iter().zip(notices.as_slice().iter()) {
-        tell_cut(alloc, cut, told)?;
-        told.push_str(", ")?;
-        tell_front(alloc, notice, told)?;
-        told.push('\n')?;
+    if lines.lines().any(|line| line == "trail") {
+        let descent = descent(alloc, flow, &offers)?;
+        tell_cuts(alloc, &descent.choice, told)?;
+        return tell_trail(flow, lines, &descent.trail, told);
     }
-    Ok(())
+    let choice = largest(alloc, flow, &offers)?;
+    tell_cuts(alloc, &choice, told)
+}
+
+// The descent over what nodes offer.
+fn descent(alloc: Global, flow: &Flow, offers: &[Offer]) -> Result<Descent, AllocError>
+    requires { AreOffersOf flow.now offers.now }
+{
+    counted::<Brand>(alloc, flow, offers, Blank::new(1))
+}
+
+// The same by a counter of its own.
+fn counted<L: Ledger>(
+    alloc: Global,
+    flow: &Flow,
+    offers: &[Offer],
+    blank: Blank,
+) -> Result<Descent, AllocError>
+    requires offers { AreOffersOf flow.now offers.now }
+    requires name { blank.name ≡ L.name }
+    requires parts { blank.parts ≡ L.parts }
+    requires some { 0 < L.parts }
+{
+    let mut steps = Steps::<L>::none(blank);
+    descend(alloc, flow, offers, &mut steps)
 }

@@ -2,6 +2,7 @@
 use crate::line::{NoAnswer, if_spelled, part, shown, tell_answer};
 use crate::values::choices::tell_choice;
 use crate::values::declare::declaration;
+use crate::values::node_records::of_node;
 use crate::values::notices::tell_notices;
 use crate::values::sent::sent_table;
 use crate::values::spell::front_of;
@@ -63,8 +64,8 @@ fn declare(
     }
 }
 
-/// Tells the answers to the lines that ask something of the flow: first of projections, then of notices, then of the choice
-/// to which it is restored.
+/// Tells the answers to the lines that ask something of the flow: first of projections and records, then of notices, then of
+/// the choice to which it is restored.
 fn tell_answers(
     alloc: Global,
     flow: &Flow,
@@ -73,9 +74,16 @@ fn tell_answers(
 ) -> Result<(), AllocError> {
     let sent = sent_table(alloc, lines)?;
     for line in lines.lines() {
-        if matches!(part(line).0, "phi" | "psi" | "back") {
-            let answer = projected(alloc, flow, &sent, line);
-            tell_answer(line, answer, told)?;
+        match part(line).0 {
+            "phi" | "psi" | "back" => {
+                let answer = projected(alloc, flow, &sent, line);
+                tell_answer(line, answer, told)?;
+            }
+            "checkpoint" | "event" => {
+                let answer = of_node(alloc, flow, lines, line);
+                tell_answer(line, answer, told)?;
+            }
+            _ => {}
         }
     }
     if lines.lines().any(|line| part(line).0 == "notice") {

@@ -23,11 +23,13 @@ pub fn stamp_of(alloc: Global, word: &str) -> Result<Stamp, NoAnswer> {
     Ok(Stamp::new(&coords))
 }
 
-/// The stamps of some words.
+/// The stamps of some words, or of some with commas between them in one word.
 pub fn stamps_of(alloc: Global, text: &str) -> Result<Vec<Stamp>, NoAnswer> {
     let mut stamps = Vec::new(alloc);
-    for word in text.split_whitespace() {
-        stamps.push(stamp_of(alloc, word)?)?;
+    for words in text.split_whitespace() {
+        for word in words.split(',') {
+            stamps.push(stamp_of(alloc, word)?)?;
+        }
     }
     Ok(stamps)
 }

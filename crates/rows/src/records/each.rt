@@ -1,5 +1,5 @@
 //! Questions about many bytes at once, whose answers are told as runs of equal ones.
-use crate::answer::{Answer, answer_to};
+use crate::records::answer::{Answer, answer_to};
 use std::alloc::{AllocError, Global};
 use std::fmt::Write;
 
@@ -51,8 +51,8 @@ fn changed_at(alloc: Global, bytes: &[u8], place: usize) -> Result<String, Alloc
     runs(alloc, &answers)
 }
 
-/// What the bytes say with one of them changed, in a line for each place, or for some in a row that say the same.
-pub fn changes(alloc: Global, bytes: &[u8], told: &mut String) -> Result<(), AllocError> {
+/// Tells what the bytes say with one of them changed, in a line for each place, or for some in a row that say the same.
+pub fn tell_changes(alloc: Global, bytes: &[u8], told: &mut String) -> Result<(), AllocError> {
     let mut first = 0;
     let mut said = changed_at(alloc, bytes, 0)?;
     for place in 1..bytes.len() {

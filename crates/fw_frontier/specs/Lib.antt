@@ -9,3 +9,4 @@ pub mod Stairs
 pub mod StairsLaw
 pub mod Domain
 pub mod Planes
+pub mod Thinned

@@ -1,5 +1,5 @@
 -- What writes hold: checkpoints, as they were asked, and logged events.
-use Rattle.std.specs.Prelude.{◌≡◌, ℕ, Bool, true, false, List, [], ◌∷◌, ◌++◌}
+use Rattle.std.specs.Prelude.{◌≡◌, ℕ, Bool, true, false, not, List, [], ◌∷◌, ◌++◌}
 use Rattle.std.specs.List.{AllByRecursion}
 use Rattle.fw_frontier.specs.Front.{Front}
 use Rattle.fw_frontier.specs.Frontier.{Frontier, Within}
@@ -16,7 +16,7 @@ use Rattle.fw_model.specs.Choice.{ever, is_counted}
 use Rattle.fw_model.specs.Covers.{covers_in}
 use Rattle.fw_model.specs.Filtering.{events_inside, messages_from}
 use Rattle.fw_model.specs.History.{sent_messages, IsEnabled}
-use Rattle.fw_model.specs.Machine.{events, Machine, Written, checkpoint, logged_event, Write, front_of, first_state, SerialEvent, collected}
+use Rattle.fw_model.specs.Machine.{events, Machine, Written, checkpoint, logged_event, Write, Stage, front_of, first_state, SerialEvent, collected}
 use Rattle.fw_model.specs.Steps.{Run, Outcome, checkpoint_front, is_given_up}
 
 -- whether the policy takes checkpoints, asked or of its own
@@ -25,6 +25,15 @@ takes_checkpoints policy.Lazy = true
 takes_checkpoints policy.Logged = true
 takes_checkpoints policy.Eager = true
 takes_checkpoints other = false
+
+-- whether a write was collected
+abbrev pub is_collected : Stage → Bool
+is_collected collected = true
+is_collected other = false
+
+-- whether a write is still there: in flight, or acknowledged and not collected
+abbrev pub not_collected : Write → Bool
+not_collected write = not (is_collected write.stage)
 
 -- Inside f node p did the same in two histories: the same events in the same order, which sent the same.
 pub record IsSamePart (sys : System) (h k : List Event) (p : ℕ) (f : Frontier) : Type 0 where

@@ -1,0 +1,19 @@
+-- Stamps that are thinned inside a base, so that they cover the same.
+use Rattle.std.specs.Prelude.{◌≡◌, true, false, List}
+use Rattle.std.specs.List.{AllByRecursion, Contains}
+use Rattle.fw_time.specs.Stamp.{Stamp, leq}
+use Rattle.fw_frontier.specs.Frontier.{Frontier}
+
+-- a kept stamp inside the base that is this one or greater
+pub record IsBelowKept (base : Frontier) (kept : List Stamp) (t : Stamp) : Type 0 where
+  pub above : Stamp
+  pub is_kept : Contains kept above
+  pub inside : base above ≡ true
+  pub below : leq t above ≡ true
+
+-- The kept stamps are these thinned inside the base: each is one of these, each of these outside the base is kept, and each
+-- inside it lies at or below a kept one that is inside.
+pub record IsThinned (base : Frontier) (all kept : List Stamp) : Type 0 where
+  pub among : AllByRecursion (Contains all) kept
+  pub outside : AllByRecursion (λ t. base t ≡ false → Contains kept t) all
+  pub inside : AllByRecursion (λ t. base t ≡ true → IsBelowKept base kept t) all

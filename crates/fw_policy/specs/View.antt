@@ -1,0 +1,172 @@
+-- What an engine knows of a state of the machine, for what its nodes offer to a recovery.
+use Rattle.std.specs.Prelude.{◌≡◌, ◌⊎◌, ◌↔◌, ℕ, suc, ◌<◌, Bool, true, false, ◌==◌, if◌then◌else◌, Some, List, [], ◌∷◌, filter, length, map}
+use Rattle.std.specs.List.{AllByRecursion, Contains, flat_map}
+use Rattle.fw_time.specs.Stamp.{Stamp, in_domain}
+use Rattle.fw_frontier.specs.Frontier.{Frontier, everything}
+use Rattle.fw_frontier.specs.Front.{Front}
+use Rattle.fw_frontier.specs.Thinned.{IsThinned}
+use Rattle.fw_flow.specs.declared.choice.Counted.{Counted}
+use Rattle.fw_flow.specs.declared.choice.Cut.TheVariants.{At}
+use Rattle.fw_flow.specs.declared.choice.Recorded.{Recorded}
+use Rattle.fw_flow.specs.declared.choice.Stamps.{Stamps}
+use Rattle.fw_flow.specs.declared.event.Event.{Event}
+use Rattle.fw_flow.specs.declared.event.Message.{Message}
+use Rattle.fw_flow.specs.declared.kind.Kind.{Kind}
+use Rattle.fw_flow.specs.declared.kind.Kind.TheVariants.{Input, OutputEpoch, OutputNumber}
+use Rattle.fw_flow.specs.declared.kind.Policy.TheVariants as policy
+use Rattle.fw_flow.specs.declared.step.Step.{Step}
+use Rattle.fw_flow.specs.Dataflow.{System, Dataflow, kind_of, policy_of, sender, receiver, bounds_of, node_frontier, send_stamp, is_sequence_kind}
+use Rattle.fw_flow.specs.NodeFunction.{event_node, event_stamp}
+use Rattle.fw_flow.specs.Projection.{IsSentTable}
+use Rattle.fw_flow.specs.WellFormed.{IsWellFormedSystem}
+use Rattle.fw_model.specs.Choice.{IsLogged}
+use Rattle.fw_model.specs.Covers.{covers_in, stamp_of_notice}
+use Rattle.fw_model.specs.History.{delivered_messages, sent_messages, injected_count, is_exhausted}
+use Rattle.fw_model.specs.Machine.{Machine, SerialEvent, Write, Stage, acknowledged, checkpoint, logged_event, events, first_state, front_of, is_failed, ack_count_of}
+use Rattle.fw_model.specs.Machine.{Written as WrittenBy}
+use Rattle.fw_model.specs.Offers.{AreOnEdges, IsRecordOf, front_of_edge, stamps_on, stamps_on_from}
+use Rattle.fw_model.specs.Steps.{Outcome, Run}
+use Rattle.fw_model.specs.Writes.{takes_checkpoints, not_collected}
+use Rattle.fw_policy.specs.declared.view.Border.{Border}
+use Rattle.fw_policy.specs.declared.view.Border.TheVariants.{Inner, Source, Output}
+use Rattle.fw_policy.specs.declared.view.Entry.{Entry}
+use Rattle.fw_policy.specs.declared.view.NodeView.{NodeView}
+use Rattle.fw_policy.specs.declared.view.Written.{Written}
+use Rattle.fw_policy.specs.declared.view.Written.TheVariants.{Checkpoint, Event as LoggedEvent}
+
+-- the base of a node, inside which its stamps may be thinned: what is settled where it takes checkpoints, and else its low
+-- watermark
+abbrev pub base_of : System → Machine → ℕ → Frontier
+base_of sys state p =
+    if takes_checkpoints (policy_of sys.flow p) then node_frontier sys.flow p (front_of state.settled p)
+    else node_frontier sys.flow p (front_of state.low p)
+
+-- the messages of an edge
+abbrev pub on_edge : ℕ → List Counted → List Counted
+on_edge e ms = filter (λ m. m.edge == e) ms
+
+-- the causes of these messages, in a row
+abbrev pub causes_of : List Counted → List Stamp
+causes_of ms = flat_map (λ m. m.causes) ms
+
+-- the causes of these messages as the machine has them, in a row
+abbrev pub causes_in : List Message → List Stamp
+causes_in ms = flat_map (λ m. m.causes) ms
+
+-- the message has one cause, and is at the send stamp of node p at it
+abbrev pub IsOfCause : Dataflow → ℕ → Counted → Type 0
+IsOfCause flow p m = (t : Stamp) × (send_stamp flow p t ≡ Some m.at) × (m.causes ≡ t ∷ [])
+
+-- Messages on edge e stand for those that node p sent there, which is no sequence: they are at the send stamps of their
+-- causes, and the causes are those of what was sent, thinned.
+pub record StandForSent (sys : System) (h : List Event) (p : ℕ) (base : Frontier) (e : ℕ) (ms : List Counted) : Type 0 where
+  pub of_cause : AllByRecursion (IsOfCause sys.flow p) ms
+  pub thinned : IsThinned base (causes_in (sent_messages sys h e)) (causes_of ms)
+
+-- Messages stand for those that a sequence sent on edge e: they are at these numbers, thinned everywhere, so that one is at
+-- the last number at least.
+abbrev pub StandForNumbered : System → List Event → ℕ → List Counted → Type 0
+StandForNumbered sys h e ms =
+    IsThinned (everything (bounds_of sys.flow (receiver sys.flow e))) (map (λ (m : Message). m.at) (sent_messages sys h e))
+    (stamps_on_from e (everything (bounds_of sys.flow (sender sys.flow e))) ms)
+
+-- The stamps stand for the events of node p in a history.
+pub record AreStampsOf (sys : System) (h : List Event) (p : ℕ) (base : Frontier) (stamps : Stamps) : Type 0 where
+  pub on_edges : AreOnEdges sys.flow stamps.delivered × AreOnEdges sys.flow stamps.sent
+  pub in_domain : AllByRecursion (λ t. in_domain (bounds_of sys.flow p) t ≡ true) stamps.notified
+  pub delivered : (d : ℕ) → receiver sys.flow d ≡ p → IsThinned base (map (λ (m : Message). m.at) (delivered_messages h d)) (stamps_on d stamps.delivered)
+  pub notified : IsThinned base (flat_map (stamp_of_notice p) h) stamps.notified
+  pub sent : is_sequence_kind (kind_of sys.flow p) ≡ false → (e : ℕ) → e < length sys.flow.edges → sender sys.flow e ≡ p
+      → StandForSent sys h p base e (on_edge e stamps.sent)
+  pub numbered : is_sequence_kind (kind_of sys.flow p) ≡ true → (e : ℕ) → e < length sys.flow.edges → sender sys.flow e ≡ p
+      → StandForNumbered sys h e stamps.sent
+
+-- A record holds what the machine counts of the events of node p inside f.
+pub record IsRecorded (sys : System) (state : Machine) (p : ℕ) (f : Front) (r : Recorded) : Type 0 where
+  pub front : r.front ≡ f
+  pub of_flow : IsRecordOf sys.flow p r
+  pub delivered : (d : ℕ) → d < length sys.flow.edges → receiver sys.flow d ≡ p
+      → front_of_edge (bounds_of sys.flow p) d r.delivered ≡ (covers_in sys state).delivered d (At f)
+  pub notified : node_frontier sys.flow p r.notified ≡ (covers_in sys state).notified p (At f)
+  pub discarded : (e : ℕ) → e < length sys.flow.edges → sender sys.flow e ≡ p
+      → front_of_edge (bounds_of sys.flow (receiver sys.flow e)) e r.discarded ≡ (covers_in sys state).discarded e (At f)
+
+-- the event has this serial, is one of node p and is at stamp t
+pub record IsEventAt (flow : Dataflow) (p serial : ℕ) (t : Stamp) (v : SerialEvent) : Type 0 where
+  pub same_serial : v.serial ≡ serial
+  pub node : event_node flow v.event ≡ p
+  pub stamp : event_stamp v.event ≡ t
+
+-- an event of this serial is in the history: one of node p at stamp t
+abbrev pub HasEventAt : Dataflow → ℕ → ℕ → Stamp → List SerialEvent → Type 0
+HasEventAt flow p serial t [] = ⊥
+HasEventAt flow p serial t (v ∷ h) = IsEventAt flow p serial t v ⊎ HasEventAt flow p serial t h
+
+-- what an entry of node p holds is what the write does
+abbrev pub Holds : System → Machine → ℕ → Written → WrittenBy → Type 0
+Holds sys state p (Checkpoint r) (checkpoint f low) = IsRecorded sys state p f r
+Holds sys state p (Checkpoint r) (logged_event serial) = ⊥
+Holds sys state p (LoggedEvent t) (checkpoint f low) = ⊥
+Holds sys state p (LoggedEvent t) (logged_event serial) = HasEventAt sys.flow p serial t state.history
+
+-- whether a write is acknowledged, and not collected
+abbrev pub is_acknowledged : Stage → Bool
+is_acknowledged acknowledged = true
+is_acknowledged other = false
+
+-- an entry stands for a write
+pub record IsEntryOf (sys : System) (state : Machine) (entry : Entry) (write : Write) : Type 0 where
+  pub node : entry.node ≡ write.node
+  pub acknowledged : entry.acknowledged ≡ is_acknowledged write.stage
+  pub holds : Holds sys state write.node entry.written write.written
+
+-- one entry stands for each write, in order
+abbrev pub AreEntriesOf : System → Machine → List Entry → List Write → Type 0
+AreEntriesOf sys state [] [] = Unit {0}
+AreEntriesOf sys state [] (write ∷ writes) = ⊥
+AreEntriesOf sys state (entry ∷ entries) [] = ⊥
+AreEntriesOf sys state (entry ∷ entries) (write ∷ writes) = IsEntryOf sys state entry write × AreEntriesOf sys state entries writes
+
+-- node p failed, and an event of it at t was not logged
+pub record IsLostAt (sys : System) (state : Machine) (p : ℕ) (t : Stamp) : Type 0 where
+  pub failed : is_failed state p ≡ true
+  pub event : SerialEvent
+  pub there : Contains state.history event
+  pub node : event_node sys.flow event.event ≡ p
+  pub stamp : event_stamp event.event ≡ t
+  pub not_logged : IsLogged event.serial state.writes → ⊥
+
+-- where a node of the kind meets what is outside
+abbrev pub IsBorderOf : System → Machine → ℕ → Kind → Border → Type 0
+IsBorderOf sys state p Input (Source injected exhausted) =
+    (injected ≡ injected_count p (events state.history)) × (exhausted ≡ is_exhausted sys (events state.history) p)
+IsBorderOf sys state p Input border = ⊥
+IsBorderOf sys state p OutputEpoch (Output bound) = bound ≡ ack_count_of state p
+IsBorderOf sys state p OutputEpoch border = ⊥
+IsBorderOf sys state p OutputNumber (Output bound) = bound ≡ ack_count_of state p
+IsBorderOf sys state p OutputNumber border = ⊥
+IsBorderOf sys state p kind border = border ≡ Inner
+
+-- what is known of node p is so in the state, where these nodes count as failed
+pub record IsNodeViewOf (sys : System) (state : Machine) (lost : ℕ → Bool) (p : ℕ) (node : NodeView) : Type 0 where
+  pub stamps : AreStampsOf sys (events state.history) p (base_of sys state p) node.stamps
+  pub table : is_sequence_kind (kind_of sys.flow p) ≡ true → IsSentTable sys (events state.history) p node.table
+  pub settled : node.settled ≡ front_of state.settled p
+  pub low : node.low ≡ front_of state.low p
+  pub border : IsBorderOf sys state p (kind_of sys.flow p) node.border
+  pub losses : policy_of sys.flow p ≡ policy.Full → (t : Stamp) → Contains node.lost t ↔ IsLostAt sys state p t
+  pub failed : node.failed ≡ lost p
+
+-- the views are those of the nodes from p on
+abbrev pub AreNodeViewsFrom : System → Machine → (ℕ → Bool) → ℕ → List NodeView → Type 0
+AreNodeViewsFrom sys state lost p [] = Unit {0}
+AreNodeViewsFrom sys state lost p (node ∷ view) = IsNodeViewOf sys state lost p node × AreNodeViewsFrom sys state lost (suc p) view
+
+-- What is known is so in a state to which steps of a well-formed system lead, where these nodes count as failed: of each node
+-- what its view says, and an entry for each write that was not collected, in order of asking.
+pub record IsViewOf (sys : System) (state : Machine) (lost : ℕ → Bool) (view : List NodeView) (entries : List Entry) : Type 0 where
+  pub well_formed : IsWellFormedSystem sys
+  pub reached : (steps : List Step) × (outcomes : List Outcome) × Run sys (first_state sys) steps outcomes state
+  pub one_each : length view ≡ length sys.flow.nodes
+  pub nodes : AreNodeViewsFrom sys state lost 0 view
+  pub written : AreEntriesOf sys state entries (filter not_collected state.writes)

@@ -1,0 +1,14 @@
+//! What nodes offer to a recovery, for every kind and policy, by what an engine knows of them.
+//!
+//! An engine tells of each node where its events are, what is settled and what its low watermark is (`NodeView`), and which
+//! writes were not collected (`Entry`). `candidates` makes of them the offers from which `largest` of `fw_monitor` chooses.
+#![tactic(auto)]
+
+mod copies;
+mod offering;
+mod offers;
+mod unlogged;
+mod view;
+
+pub use offers::candidates;
+pub use view::{Border, Entry, NodeView, Written};

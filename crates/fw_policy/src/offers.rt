@@ -1,0 +1,54 @@
+//! What nodes offer to a recovery.
+ghost use Rattle.std.specs.Prelude.{◌≡◌, ℕ, length, Bool, not, IfOk};
+ghost use Rattle.fw_flow.specs.Dataflow.{System};
+ghost use Rattle.fw_model.specs.Machine.{Machine};
+ghost use Rattle.fw_model.specs.Offers.{AreOffersIn};
+ghost use Rattle.fw_policy.specs.Offering.{IsOfferBy};
+ghost use Rattle.fw_policy.specs.Known.{IsKnown};
+ghost use Rattle.fw_policy.specs.View.{IsViewOf};
+
+use crate::copies::stamps_again;
+use crate::offering::offered;
+use crate::view::{Entry, NodeView};
+use fw_flow::{Flow, NodeId, Offer};
+use std::alloc::{AllocError, Global};
+
+/// What each node offers to a recovery, by its kind and policy, where so much is known of the nodes and these writes were not
+/// collected. It takes a view of each node. The error is want of memory.
+pub fn candidates(
+    alloc: Global,
+    flow: &Flow,
+    view: &[NodeView],
+    entries: &[Entry],
+) -> Result<Vec<Offer>, AllocError>
+    requires { length view.now ≡ length flow.now.nodes }
+    ensures { (sys : System) (state : Machine) (lost : ℕ → Bool) → sys.flow ≡ flow.now → IsViewOf sys state lost view.now entries.now
+        → IfOk result (λ offers. AreOffersIn sys state lost offers.items) }
+{
+    let mut offers = Vec::new(alloc);
+    for place in 0..flow.nodes() {
+        offers.push(offer(alloc, flow, entries, NodeId::at(place as u32), &view[place])?)?;
+    }
+    Ok(offers)
+}
+
+/// What a node offers.
+fn offer(
+    alloc: Global,
+    flow: &Flow,
+    entries: &[Entry],
+    node: NodeId,
+    known: &NodeView,
+) -> Result<Offer, AllocError>
+    ensures { IsKnown flow.now entries.now node known.now → IfOk result (IsOfferBy flow.now entries.now node known.now) }
+{
+    let offered = offered(alloc, flow, entries, node, known)?;
+    let stamps = stamps_again(alloc, &known.stamps)?;
+    let table = known.table.copy()?;
+    Ok(Offer {
+        present: !known.failed,
+        offered,
+        stamps,
+        table,
+    })
+}

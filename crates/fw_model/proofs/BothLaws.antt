@@ -13,7 +13,7 @@ use Rattle.fw_model.specs.History.{sent_messages, message_on, delivered_messages
 use Rattle.fw_flow.proofs.MessageLaws.{message_cmp-equal}
 use Rattle.fw_model.proofs.SentLaws.{copy, IsSub, is_among-copies, less-weigh, delivered-was_sent}
 use Rattle.fw_model.proofs.WeightLaws.{weigh, weigh-append}
-use Rattle.fw_flow.specs.SortedMessages.{sorted_messages, with_messages}
+use Rattle.fw_model.specs.SortedMessages.{sorted_messages, with_messages}
 use Rattle.fw_model.specs.LawsOfPending.{SentIsDeliveredAndPending, sent_on, PendingFollowsEvents}
 use Rattle.fw_model.proofs.SortedLaws.{ascending-sorted_messages, sorted_messages-weigh, same_from_copies, same_sorted_messages, ascending-less, ascending-with_messages, with_messages-weigh}
 

@@ -21,7 +21,7 @@ use Rattle.fw_model.proofs.OncePerNumberLaws.{any_at}
 use Rattle.fw_model.proofs.SentLaws.{copy, is_among-copies}
 use Rattle.fw_time.proofs.StampLaws.{same-is}
 use Rattle.fw_model.proofs.WeightLaws.{weigh, weigh-lighter}
-use Rattle.fw_flow.specs.SortedMessages.{sorted_messages}
+use Rattle.fw_model.specs.SortedMessages.{sorted_messages}
 use Rattle.fw_model.specs.LawsOfPending.{IsNumberedFrom, GoesOn, FirstPendingIsNext}
 use Rattle.fw_model.proofs.SortedLaws.{IsAscendingMessages, ascending-sorted_messages, sorted_messages-weigh}
 use Rattle.fw_model.proofs.PendingNumberLaws.{of_message, many-weigh, copy-lighter, numbers-go_on}

@@ -14,7 +14,7 @@ use Rattle.fw_flow.specs.Message.{message_cmp, messages_without, messages_less}
 use Rattle.fw_flow.proofs.MessageLaws.{message_total, message_cmp-same, message_cmp-equal}
 use Rattle.fw_model.proofs.WeightLaws.{weigh}
 use Rattle.fw_model.proofs.SentLaws.{copy, without-weigh, copy-self}
-use Rattle.fw_flow.specs.SortedMessages.{with_message, sorted_messages, with_messages}
+use Rattle.fw_model.specs.SortedMessages.{with_message, sorted_messages, with_messages}
 
 -- ---- ascending lists
 

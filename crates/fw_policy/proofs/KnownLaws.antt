@@ -31,7 +31,7 @@ use Rattle.fw_policy.specs.Offering.{unlogged_stamps, OffersBy, IsOfferBy, AreOf
 use Rattle.fw_policy.specs.Known.{FitsWay, IsKnown, AreKnown}
 use Rattle.fw_policy.proofs.SentLaws.{IsOne}
 use Rattle.fw_policy.proofs.UnloggedLaws.{IsOfEntries, unlogged-is}
-use Rattle.fw_frontier.proofs.ThinnedLaws.{each-contained}
+use Rattle.fw_model.proofs.ThinnedLaws.{each-contained}
 use Rattle.fw_policy.proofs.WayLaws.{events-full}
 
 border-fits : (sys : System) (state : Machine) (p : ℕ) (kind : Kind) (asks : Policy) (x : Border) → injected_count p (events state.history) ≤ greatest_number

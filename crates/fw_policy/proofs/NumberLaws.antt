@@ -8,7 +8,7 @@ use Rattle.fw_time.specs.Stamp.{Stamp, in_domain}
 use Rattle.fw_time.specs.declared.stamp.Bounds.{Bounds}
 use Rattle.fw_time.proofs.EachLaws.{each-weaker, each-append}
 use Rattle.fw_frontier.specs.Frontier.{Frontier, everything, cover}
-use Rattle.fw_frontier.proofs.ThinnedLaws.{thinned-covers}
+use Rattle.fw_model.proofs.ThinnedLaws.{thinned-covers}
 use Rattle.fw_flow.specs.declared.choice.Counted.{Counted}
 use Rattle.fw_flow.specs.declared.event.Event.{Event}
 use Rattle.fw_flow.specs.declared.event.Message.{Message}

@@ -9,7 +9,7 @@ use Rattle.fw_time.proofs.EachLaws.{each-weaker, each-kept}
 use Rattle.fw_frontier.specs.Frontier.{Frontier, Within, nothing, everything, cover, meet}
 use Rattle.fw_frontier.specs.Front.{Front, inside, frontier_of, IsCanonical, IsFrontOf, is_within}
 use Rattle.fw_frontier.proofs.NamesLaws.{is_within-holds, within-is}
-use Rattle.fw_frontier.proofs.ThinnedLaws.{thinned-covers}
+use Rattle.fw_model.proofs.ThinnedLaws.{thinned-covers}
 use Rattle.fw_flow.specs.declared.choice.Counted.{Counted}
 use Rattle.fw_flow.specs.declared.choice.Cut.{Cut}
 use Rattle.fw_flow.specs.declared.choice.Cut.TheVariants.{Present, At}

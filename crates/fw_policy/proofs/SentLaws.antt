@@ -17,8 +17,8 @@ use Rattle.fw_model.specs.History.{sent_messages}
 use Rattle.fw_model.proofs.SendsLaws.{IsOfCause as IsOfItsCause, sent_by-of_cause}
 use Rattle.fw_model.proofs.SendingLaws.{send_stamp-monotone}
 use Rattle.fw_model.proofs.PsiLaws.{same_tests}
-use Rattle.fw_frontier.specs.Thinned.{IsThinned}
-use Rattle.fw_frontier.proofs.ThinnedLaws.{each-contained}
+use Rattle.fw_model.specs.Thinned.{IsThinned}
+use Rattle.fw_model.proofs.ThinnedLaws.{each-contained}
 use Rattle.fw_policy.specs.View.{causes_of, causes_in, StandForSent}
 
 -- ---- one of a list

@@ -22,7 +22,7 @@ use Rattle.fw_policy.specs.declared.view.Written.TheVariants.{Checkpoint, Event 
 use Rattle.fw_policy.specs.View.{Holds, IsEventAt, HasEventAt, is_acknowledged, IsEntryOf, AreEntriesOf, IsLostAt}
 use Rattle.fw_policy.specs.Offering.{stamp_in, unlogged_by, unlogged_stamps}
 use Rattle.fw_policy.proofs.SentLaws.{IsOne, one-contained, contained-one}
-use Rattle.fw_frontier.proofs.ThinnedLaws.{each-contained}
+use Rattle.fw_model.proofs.ThinnedLaws.{each-contained}
 
 -- ---- lists
 

@@ -6,7 +6,7 @@ use Rattle.std.specs.declared.cmp.Ordering.TheVariants.{Less, Equal, Greater}
 use Rattle.std.specs.List.{AllByRecursion}
 use Rattle.std.specs.Ordering.{ordering_reverse, is_eq, is_le, is_gt}
 use Rattle.std.proofs.lemmas.Bool.{cond_both, cases_Bool, cases_lt}
-use Rattle.std.proofs.lemmas.Cmp.{tied_itself, upto}
+use Rattle.std.proofs.lemmas.Cmp.{upto}
 use Rattle.fw_time.proofs.EachLaws.{each-kept}
 use Rattle.fw_bag.proofs.OrderingLaws.{gt_of, le_not_gt}
 use Rattle.fw_flow.specs.declared.event.Message.{Message}

@@ -130,14 +130,14 @@ offer_more flow entries view offers next i q node offer k l e s a m n =
 -- ---- by the way in which a node is restored
 
 -- what is offered in a way is offered by the node that is restored so
-pub in_way : (flow : Dataflow) (entries : List Entry) (p : ℕ) (node : NodeView) (o : Offered) (found way : Restoring) → found ≡ way_of flow p → found ≡ way
+pub in_way : (flow : Dataflow) (entries : List Entry) (p : ℕ) (node : NodeView) (o : Offered) (known way : Restoring) → known ≡ way_of flow p → known ≡ way
     → OffersBy (bounds_of flow p) entries p node way o → OffersBy (bounds_of flow p) entries p node (way_of flow p) o
-in_way flow entries p node o found way e i a = subst (λ w. OffersBy (bounds_of flow p) entries p node w o) (sym i ∙ e) a
+in_way flow entries p node o known way e i a = subst (λ w. OffersBy (bounds_of flow p) entries p node w o) (sym i ∙ e) a
 
 -- the border of a node that is restored in a way fits it
-pub fits_way : (flow : Dataflow) (p : ℕ) (x : Border) (found way : Restoring) → found ≡ way_of flow p → found ≡ way → FitsWay (way_of flow p) x → FitsWay way x
-fits_way flow p x found way e i f = subst (λ w. FitsWay w x) (sym e ∙ i) f
+pub fits_way : (flow : Dataflow) (p : ℕ) (x : Border) (known way : Restoring) → known ≡ way_of flow p → known ≡ way → FitsWay (way_of flow p) x → FitsWay way x
+fits_way flow p x known way e i f = subst (λ w. FitsWay w x) (sym e ∙ i) f
 
 -- the way in which a node is restored
-pub way-is : (flow : Dataflow) (p : ℕ) (found way : Restoring) → found ≡ way_of flow p → found ≡ way → way_of flow p ≡ way
-way-is flow p found way e i = sym e ∙ i
+pub way-is : (flow : Dataflow) (p : ℕ) (known way : Restoring) → known ≡ way_of flow p → known ≡ way → way_of flow p ≡ way
+way-is flow p known way e i = sym e ∙ i

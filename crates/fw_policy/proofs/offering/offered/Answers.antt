@@ -52,7 +52,7 @@ returns-in_ok-cut_below-in-Events c = λ k.
     let b = bounds_of flow p in
     let g = frontier_of b c.args.known.now.settled in
     let way = way-is flow p c.restoring.result Events c.restoring.ensures c.in-Events.is in
-    let stamps = c.deref-in-Events.ensures.value ∙ c.in_ok-stamps-in-Events.ensures ∙ ap (unlogged_stamps p c.args.entries.now) c.as_slice.ensures in
+    let stamps = c.deref.ensures.value ∙ c.in_ok-stamps-in-Events.ensures ∙ ap (unlogged_stamps p c.args.entries.now) c.as_slice.ensures in
     let named = c.in_ok-cut_below-in-Events.ensures b k.settled
     (subst (λ (ss : List Stamp). AllByRecursion (λ t. in_domain b t ≡ true) ss) (sym stamps) (k.unlogged way)) in
     IfOk-weaker c.range-in-Events.result _ _

@@ -7,14 +7,16 @@ use Rattle.fw_lines.specs.declared.span.Span.{Span}
 use Rattle.fw_lines.specs.Lines.{bytes_at}
 use Rattle.fw_lines.specs.Spelling.{is_name}
 use Rattle.fw_schedule.specs.declared.form.Form.{Form}
-use Rattle.fw_schedule.specs.declared.form.Form.TheVariants.{Inject, Deliver, Notify, Progress, Recover, Ack}
+use Rattle.fw_schedule.specs.declared.form.Form.TheVariants.{Inject, Deliver, Notify, Progress, Checkpoint, Persist, Recover, Collect, Ack}
 use Rattle.fw_schedule.specs.Stamps.{is_stamp}
 
 -- the form of a line of one word
 abbrev pub lone_form : {W : Type 0} → List ℕ → Option (Form W)
 lone_form verb =
     if bytes_eq verb (codes "progress") then Some Progress
-    else (if bytes_eq verb (codes "recover") then Some Recover else None)
+    else (if bytes_eq verb (codes "persist") then Some Persist
+    else (if bytes_eq verb (codes "recover") then Some Recover
+    else (if bytes_eq verb (codes "collect") then Some Collect else None)))
 
 -- the form of a line of a verb and a name, and perhaps a stamp
 abbrev pub form_of_stamp : {W : Type 0} → List ℕ → W → Option W → Option (Form W)
@@ -26,7 +28,8 @@ form_of_stamp verb name stamp =
 abbrev pub form_of_name : {W : Type 0} → List ℕ → W → Option (Form W)
 form_of_name verb name =
     if bytes_eq verb (codes "inject") then Some (Inject name)
-    else (if bytes_eq verb (codes "ack") then Some (Ack name) else form_of_stamp verb name None)
+    else (if bytes_eq verb (codes "checkpoint") then Some (Checkpoint name)
+    else (if bytes_eq verb (codes "ack") then Some (Ack name) else form_of_stamp verb name None))
 
 -- whether three words are a name, `at` and a stamp
 abbrev pub is_name_at_stamp : List ℕ → List ℕ → List ℕ → Bool
@@ -37,7 +40,7 @@ abbrev pub are_names : List (List ℕ) → Bool
 are_names [] = false
 are_names (name ∷ names) = is_name name && list_all is_name names
 
--- the form of a line of these words, if it has one other than that of a failure
+-- the form of a line of these words, if it has one other than those of `fail` and `auto`
 abbrev pub form_of : List (List ℕ) → Option (Form (List ℕ))
 form_of [] = None
 form_of (verb ∷ []) = lone_form verb
@@ -52,7 +55,10 @@ form_in text (Inject name) = Inject (bytes_at text name)
 form_in text (Deliver name stamp) = Deliver (bytes_at text name) (option_map (bytes_at text) stamp)
 form_in text (Notify name stamp) = Notify (bytes_at text name) (option_map (bytes_at text) stamp)
 form_in text Progress = Progress
+form_in text (Checkpoint name) = Checkpoint (bytes_at text name)
+form_in text Persist = Persist
 form_in text Recover = Recover
+form_in text Collect = Collect
 form_in text (Ack name) = Ack (bytes_at text name)
 
 -- the word, if there is one, is a stamp

@@ -1,16 +1,18 @@
--- The grammar of schedules: the step that each line spells, and the rules that it may break.
-use Rattle.std.specs.Prelude.{◌≡◌, ℕ, ◌<◌, ◌≤◌, Bool, List, [], ◌∷◌, map, length, if◌then◌else◌, Option, Some, None, Result, Ok, Err, ◌⊎◌, codes}
+-- The grammar of schedules: what each line asks for, and the rules that it may break.
+use Rattle.std.specs.Prelude.{◌≡◌, ℕ, ◌+◌, nat_le, Bool, List, [], ◌∷◌, map, if◌then◌else◌, Option, Some, None, Result, Ok, Err, codes}
 use Rattle.std.specs.List.{filter_map}
 use Rattle.std.specs.Option.{option_map, option_map_or, option_and_then, ok_or}
 use Rattle.std.specs.Result.{result_ok, result_err}
 use Rattle.std.specs.Str.{bytes_eq}
+use Rattle.std.specs.Str.Parse.{digits_value}
 use Rattle.fw_time.specs.Stamp.{Stamp, in_domain}
 use Rattle.fw_time.specs.declared.stamp.Bounds.{Bounds}
 use Rattle.fw_lines.specs.declared.refusal.Code.{Code}
 use Rattle.fw_lines.specs.declared.refusal.Code.TheVariants.{S1, S2, S3, S4}
 use Rattle.fw_lines.specs.declared.refusal.Refusal.{Refusal}
-use Rattle.fw_lines.specs.Faults.{BreakNoRule, IsFirstFault, IsOfWhole}
+use Rattle.fw_lines.specs.Faults.{Rules, IsSound, IsFirstRefusal}
 use Rattle.fw_lines.specs.Lines.{Said, said_lines}
+use Rattle.fw_lines.specs.Spelling.{is_numeral}
 use Rattle.fw_flow.specs.declared.kind.Kind.{Kind}
 use Rattle.fw_flow.specs.declared.node.Node.{Node}
 use Rattle.fw_flow.specs.declared.node.Edge.{Edge}
@@ -20,7 +22,10 @@ use Rattle.fw_flow.specs.Dataflow.{Dataflow, kind_of, receiver, bounds_of, is_in
 use Rattle.fw_flow.specs.Names.{place_of}
 use Rattle.fw_schedule.specs.declared.form.Form.{Form}
 use Rattle.fw_schedule.specs.declared.form.Form.TheVariants as form
+use Rattle.fw_schedule.specs.declared.item.Item.{Item}
+use Rattle.fw_schedule.specs.declared.item.Item.TheVariants.{One, Auto}
 use Rattle.fw_schedule.specs.Forms.{are_names, form_of}
+use Rattle.fw_schedule.specs.Schedule.{steps_in, step_count, step_limit}
 use Rattle.fw_schedule.specs.Stamps.{stamp_of}
 
 -- the place of the node with a name
@@ -64,7 +69,10 @@ step_of_form flow (form.Inject name) = ok_or (option_map step.Inject (node_of_ki
 step_of_form flow (form.Deliver name stamp) = option_map_or (delivery_of flow stamp) (edge_named flow name) (Err S2)
 step_of_form flow (form.Notify name stamp) = option_map_or (notification_of flow stamp) (node_named flow name) (Err S2)
 step_of_form flow form.Progress = Ok step.Progress
+step_of_form flow (form.Checkpoint name) = ok_or (option_map step.Checkpoint (node_named flow name)) S2
+step_of_form flow form.Persist = Ok step.Persist
 step_of_form flow form.Recover = Ok step.Recover
+step_of_form flow form.Collect = Ok step.Collect
 step_of_form flow (form.Ack name) = ok_or (option_map step.Ack (node_of_kind flow is_output_kind name)) S2
 
 -- the failure of the nodes that words name; S1, unless they are one name or more, and S2, unless each is that of a node
@@ -78,31 +86,54 @@ step_of flow (verb ∷ words) =
     if bytes_eq verb (codes "fail") then failure_of flow words
     else option_map_or (step_of_form flow) (form_of (verb ∷ words)) (Err S1)
 
--- the rule that a line of these words breaks; a line without words breaks none
-abbrev pub fault_of : Dataflow → List (List ℕ) → Option Code
-fault_of flow [] = None
-fault_of flow (word ∷ words) = result_err (step_of flow (word ∷ words))
+-- what `auto` and these words ask for; S1, unless they are one number, of any length
+abbrev pub auto_of : List (List ℕ) → Result Item Code
+auto_of [] = Err S1
+auto_of (number ∷ []) = if is_numeral number then Ok (Auto (digits_value 10 number)) else Err S1
+auto_of (number ∷ word ∷ words) = Err S1
 
--- the rule that a line breaks, whatever the lines before it say
+-- the step as an item
+abbrev pub one_step : Result Step Code → Result Item Code
+one_step (Ok step) = Ok (One step)
+one_step (Err code) = Err code
+
+-- what words ask for, or the first rule that they break whatever stands before them
+abbrev pub item_of : Dataflow → List (List ℕ) → Result Item Code
+item_of flow [] = Err S1
+item_of flow (verb ∷ words) =
+    if bytes_eq verb (codes "auto") then auto_of words else one_step (step_of flow (verb ∷ words))
+
+-- what lines ask for, in order
+abbrev pub items_of : Dataflow → List Said → List Item
+items_of flow lines = filter_map (λ line. result_ok (item_of flow line.words)) lines
+
+-- what is asked for behind so many steps; S4, if its own steps are too many with them
+abbrev pub within_limit : ℕ → Result Item Code → Result Item Code
+within_limit count (Ok item) = if nat_le (count + steps_in item) step_limit then Ok item else Err S4
+within_limit count (Err code) = Err code
+
+-- the rule that a line of these words breaks behind so many steps; a line without words breaks none
+abbrev pub fault_of : Dataflow → ℕ → List (List ℕ) → Option Code
+fault_of flow count [] = None
+fault_of flow count (word ∷ words) = result_err (within_limit count (item_of flow (word ∷ words)))
+
+-- the rule that a line breaks behind the steps of the lines before it
 abbrev pub line_fault : Dataflow → List Said → Said → Option Code
-line_fault flow before line = fault_of flow line.words
-
--- the steps that lines spell, in order
-abbrev pub steps_of : Dataflow → List Said → List Step
-steps_of flow lines = filter_map (λ line. result_ok (step_of flow line.words)) lines
+line_fault flow before line = fault_of flow (step_count (items_of flow before)) line.words
 
 -- the longest text, in bytes
 abbrev pub size_limit : ℕ
 size_limit = 16777216
 
--- the text has the form of a schedule of the flow, and the steps are those that its lines spell
-pub record IsAccepted (text : List ℕ) (flow : Dataflow) (steps : List Step) : Type 0 where
-  pub size : length text ≤ size_limit
-  pub sound : BreakNoRule (line_fault flow) (said_lines text)
-  pub value : steps ≡ steps_of flow (said_lines text)
+-- what is asked of a schedule of the flow
+abbrev pub rules_of : Dataflow → Rules
+rules_of flow = record { most = size_limit; too_long = S4; fault = line_fault flow }
 
--- the refusal is the first rule that the text breaks: of its size, or of its first line that breaks one
+-- the text has the form of a schedule of the flow, and the items are what its lines ask for
+pub record IsAccepted (text : List ℕ) (flow : Dataflow) (items : List Item) : Type 0 where
+  pub sound : IsSound (rules_of flow) text
+  pub value : items ≡ items_of flow (said_lines text)
+
+-- the refusal is the first rule of schedules of the flow that the text breaks
 abbrev pub IsRefused : List ℕ → Dataflow → Refusal → Type 0
-IsRefused text flow refusal =
-    ((size_limit < length text) × IsOfWhole S4 refusal)
-    ⊎ ((length text ≤ size_limit) × IsFirstFault (line_fault flow) (said_lines text) refusal)
+IsRefused text flow refusal = IsFirstRefusal (rules_of flow) text refusal

@@ -11,8 +11,8 @@ ghost use Rattle.fw_schedule.specs.Forms.{form_in, IsSpelled};
 use crate::coordinates::is_stamp;
 use fw_lines::{Span, is_name};
 
-/// What a line asks for, with its words as they are written. A line of `fail` has as many names as it likes, and is read
-/// apart.
+/// What a line asks for, with its words as they are written. A line of `fail` has as many names as it likes and one of
+/// `auto` a number, and both are read apart.
 #[derive(Debug, Drop)]
 pub enum Form<W> {
     /// `inject` and a source.
@@ -23,8 +23,14 @@ pub enum Form<W> {
     Notify(W, Option<W>),
     /// `progress`.
     Progress,
+    /// `checkpoint` and a node.
+    Checkpoint(W),
+    /// `persist`.
+    Persist,
     /// `recover`.
     Recover,
+    /// `collect`.
+    Collect,
     /// `ack` and an output.
     Ack(W),
 }
@@ -96,8 +102,12 @@ fn lone_form(verb: &[u8]) -> Option<Form<Span>>
 {
     if is_word(verb, b"progress") {
         Some(Form::Progress)
+    } else if is_word(verb, b"persist") {
+        Some(Form::Persist)
     } else if is_word(verb, b"recover") {
         Some(Form::Recover)
+    } else if is_word(verb, b"collect") {
+        Some(Form::Collect)
     } else {
         None
     }
@@ -109,6 +119,8 @@ fn form_of_name(verb: &[u8], name: Span) -> Option<Form<Span>>
 {
     if is_word(verb, b"inject") {
         Some(Form::Inject(name))
+    } else if is_word(verb, b"checkpoint") {
+        Some(Form::Checkpoint(name))
     } else if is_word(verb, b"ack") {
         Some(Form::Ack(name))
     } else {

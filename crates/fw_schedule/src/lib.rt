@@ -7,6 +7,6 @@ mod item;
 mod reader;
 mod schedule;
 
-pub use item::Item;
+pub use item::{Item, STEP_LIMIT};
 pub use reader::{SCHEDULE_LIMIT, one_answer, read_schedule};
 pub use schedule::Schedule;

@@ -8,8 +8,7 @@ use Rattle.fw_lines.specs.declared.span.Span.{Span}
 use Rattle.fw_lines.specs.Lines.{bytes_at, words_at}
 use Rattle.fw_lines.specs.Spelling.{is_name}
 use Rattle.fw_flow.specs.Dataflow.{Dataflow}
-use Rattle.fw_schedule.specs.Forms.{are_names}
-use Rattle.fw_schedule.specs.Grammar.{node_named, nodes_named}
+use Rattle.fw_schedule.specs.Names.{are_names, node_named, nodes_named}
 
 -- parts of a text are one name or more where they are not none and each of them is a name
 pub names_at : (text : List ℕ) (words : List Span) (none all : Bool) → none ≡ nat_eq (length words) 0 → none ≡ false

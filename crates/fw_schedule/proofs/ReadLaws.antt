@@ -1,63 +1,93 @@
 -- The lines of a schedule, read one after another.
-use Rattle.std.proofs.Common.{◌≡◌, ℕ, List, [], ◌∷◌, ◌++◌, length, Some, None, refl, sym, ◌∙◌, ap, subst, arith, ◌⊎◌, inl, inr}
-use Rattle.std.proofs.lemmas.Bool.{cases_lt}
+use Rattle.std.proofs.Common.{◌≡◌, ℕ, ◌+◌, ◌≤◌, nat_le, Bool, true, false, cond, Result, Ok, Err, List, [], ◌∷◌, ◌++◌, length, Some, None, refl, sym, ◌∙◌, ap, subst, arith, ◌⊎◌, inl, inr}
+use Rattle.std.proofs.lemmas.Bool.{leb-true}
 use Rattle.std.proofs.lemmas.List.Elements.{filter_map-append}
 use Rattle.std.specs.Result.{result_ok}
 use Rattle.fw_lines.specs.declared.line.Line.{Line}
+use Rattle.fw_lines.specs.declared.refusal.Code.{Code}
 use Rattle.fw_lines.specs.declared.refusal.Code.TheVariants.{S4}
 use Rattle.fw_lines.specs.declared.refusal.Refusal.{Refusal}
 use Rattle.fw_lines.specs.Faults.{IsFirstFault}
 use Rattle.fw_lines.specs.Lines.{Said, words_at, said_in, said_lines}
-use Rattle.fw_lines.proofs.FaultLaws.{IsSoundSoFar, sound_more, first_fault, sound_or_first, sound_or_some, one_first}
-use Rattle.fw_flow.specs.declared.step.Step.{Step}
+use Rattle.fw_lines.proofs.FaultLaws.{IsSoundSoFar, sound_more, first_fault, none_left, sound_or_refused, sound_or_some_refusal, one_first_refusal}
 use Rattle.fw_flow.specs.Dataflow.{Dataflow}
-use Rattle.fw_schedule.specs.Grammar.{step_of, fault_of, line_fault, steps_of, size_limit, IsAccepted, IsRefused}
+use Rattle.fw_schedule.specs.declared.item.Item.{Item}
+use Rattle.fw_schedule.specs.Grammar.{item_of, items_of, within_limit, fault_of, line_fault, size_limit, rules_of, IsAccepted, IsRefused}
+use Rattle.fw_schedule.specs.Schedule.{steps_in, step_count, step_limit}
 
--- what the code's loop knows: some lines are done, none of them breaks a rule, and the steps are theirs
-pub record IsRead (flow : Dataflow) (lines left : List Said) (steps : List Step) : Type 0 where
+-- the steps of items before others
+pub step_count-append : (xs ys : List Item) → step_count (xs ++ ys) ≡ step_count xs + step_count ys
+step_count-append [] ys = omega arith
+step_count-append (x ∷ xs) ys = omega (arith, step_count-append xs ys)
+
+-- what is asked for within the limit
+pub asked_within : (count : ℕ) (r : Result Item Code) (item : Item) → within_limit count r ≡ Ok item → (r ≡ Ok item) × (count + steps_in item ≤ step_limit)
+asked_within count (Ok own) item e = by (nat_le (count + steps_in own) step_limit) refl e
+  where
+    by : (b : Bool) → nat_le (count + steps_in own) step_limit ≡ b → cond b (Ok {E = Code} own) (Err S4) ≡ Ok item → (Ok {E = Code} own ≡ Ok item) × (count + steps_in item ≤ step_limit)
+    by true h q = let same : own ≡ item = cc in (q, subst (λ i. count + steps_in i ≤ step_limit) same (leb-true _ _ h))
+    by false h q = absurd (cc (q))
+asked_within count (Err code) item e = absurd (cc (e))
+
+-- what the code's loop knows: some lines are done, none of them breaks a rule, the items are theirs, and their steps are
+-- counted and not too many
+pub record IsRead (flow : Dataflow) (lines left : List Said) (items : List Item) (count : ℕ) : Type 0 where
   pub done : List Said
   pub so_far : IsSoundSoFar (line_fault flow) lines left done
-  pub value : steps ≡ steps_of flow done
+  pub value : items ≡ items_of flow done
+  pub counted : count ≡ step_count items
+  pub few : count ≤ step_limit
+
+-- the rule that the next line breaks
+fault_here : (flow : Dataflow) (text : List ℕ) (lines left : List Said) (line : Line) (items : List Item) (count : ℕ) (read : IsRead flow lines left items count)
+    → line_fault flow read.done (said_in text line) ≡ fault_of flow count (words_at text line.words)
+fault_here flow text lines left line items count read =
+    ap (λ n. fault_of flow n (words_at text line.words)) (ap step_count (sym read.value) ∙ sym read.counted)
 
 -- one line more is read
-pub read_more : (flow : Dataflow) (text : List ℕ) (lines left next : List Said) (line : Line) (steps new : List Step) → IsRead flow lines left steps → left ≡ said_in text line ∷ next
-    → fault_of flow (words_at text line.words) ≡ None → new ≡ steps ++ steps_of flow (said_in text line ∷ [])
-    → IsRead flow lines next new
-read_more flow text lines left next line steps new read e sound value = record {
-  done = read.done ++ said_in text line ∷ [];
-  so_far = sound_more (line_fault flow) lines read.done (said_in text line) next (subst (λ ls. IsSoundSoFar (line_fault flow) lines ls read.done) e read.so_far) sound;
-  value = value ∙ ap (λ ss. ss ++ steps_of flow (said_in text line ∷ [])) read.value ∙ sym (filter_map-append (λ (l : Said). result_ok (step_of flow l.words)) read.done (said_in text line ∷ []));
-}
+pub read_more : (flow : Dataflow) (text : List ℕ) (lines left next : List Said) (line : Line) (items new : List Item) (count after : ℕ) → IsRead flow lines left items count → left ≡ said_in text line ∷ next
+    → fault_of flow count (words_at text line.words) ≡ None → new ≡ items ++ items_of flow (said_in text line ∷ [])
+    → after ≡ count + step_count (items_of flow (said_in text line ∷ [])) → after ≤ step_limit
+    → IsRead flow lines next new after
+read_more flow text lines left next line items new count after read e sound value total few =
+    let own = items_of flow (said_in text line ∷ []) in
+    record {
+      done = read.done ++ said_in text line ∷ [];
+      so_far = sound_more (line_fault flow) lines read.done (said_in text line) next (subst (λ ls. IsSoundSoFar (line_fault flow) lines ls read.done) e read.so_far) (fault_here flow text lines left line items count read ∙ sound);
+      value = value ∙ ap (λ is. is ++ own) read.value ∙ sym (filter_map-append (λ (l : Said). result_ok (item_of flow l.words)) read.done (said_in text line ∷ []));
+      counted = total ∙ ap (λ n. n + step_count own) read.counted ∙ sym (step_count-append items own) ∙ ap step_count (sym value);
+      few = few;
+    }
 
 -- the next line is the first that breaks a rule
-pub read_broken : (flow : Dataflow) (text : List ℕ) (lines left next : List Said) (line : Line) (steps : List Step) (refusal : Refusal) → IsRead flow lines left steps → left ≡ said_in text line ∷ next
-    → fault_of flow (words_at text line.words) ≡ Some refusal.code → refusal.line ≡ line.number
+pub read_broken : (flow : Dataflow) (text : List ℕ) (lines left next : List Said) (line : Line) (items : List Item) (count : ℕ) (refusal : Refusal) → IsRead flow lines left items count → left ≡ said_in text line ∷ next
+    → fault_of flow count (words_at text line.words) ≡ Some refusal.code → refusal.line ≡ line.number
     → IsFirstFault (line_fault flow) lines refusal
-read_broken flow text lines left next line steps refusal read e broken number =
-    first_fault (line_fault flow) lines read.done (said_in text line) next refusal (subst (λ ls. IsSoundSoFar (line_fault flow) lines ls read.done) e read.so_far) broken number
+read_broken flow text lines left next line items count refusal read e broken number =
+    first_fault (line_fault flow) lines read.done (said_in text line) next refusal (subst (λ ls. IsSoundSoFar (line_fault flow) lines ls read.done) e read.so_far) (fault_here flow text lines left line items count read ∙ broken) number
+
+-- a short text of which all lines are read is accepted
+pub read_accepted : (flow : Dataflow) (text : List ℕ) (left : List Said) (items : List Item) (count : ℕ) → length text ≤ size_limit → IsRead flow (said_lines text) left items count → left ≡ []
+    → IsAccepted text flow items
+read_accepted flow text left items count size read e =
+    let all = none_left (line_fault flow) (said_lines text) read.done (subst (λ ls. IsSoundSoFar (line_fault flow) (said_lines text) ls read.done) e read.so_far) in
+    record { sound = record { size = size; lines = all.0 }; value = read.value ∙ ap (items_of flow) all.1 }
 
 -- an accepted text is not refused
-pub accepted_or_refused : (text : List ℕ) (flow : Dataflow) (steps : List Step) (refusal : Refusal) → IsAccepted text flow steps → IsRefused text flow refusal → ⊥
-accepted_or_refused text flow steps refusal accepted (inl large) = absurd (omega (arith, accepted.size, large.0))
-accepted_or_refused text flow steps refusal accepted (inr first) = sound_or_first (line_fault flow) (said_lines text) refusal accepted.sound first.1
+pub accepted_or_refused : (text : List ℕ) (flow : Dataflow) (items : List Item) (refusal : Refusal) → IsAccepted text flow items → IsRefused text flow refusal → ⊥
+accepted_or_refused text flow items refusal accepted = sound_or_refused (rules_of flow) text refusal accepted.sound
 
 -- an accepted text has one value
-pub one_value : (text : List ℕ) (flow : Dataflow) (first second : List Step) → IsAccepted text flow first → IsAccepted text flow second → first ≡ second
+pub one_value : (text : List ℕ) (flow : Dataflow) (first second : List Item) → IsAccepted text flow first → IsAccepted text flow second → first ≡ second
 one_value text flow first second a b = a.value ∙ sym b.value
 
 -- a text is refused by one rule at one line
 pub one_refusal : (text : List ℕ) (flow : Dataflow) (first second : Refusal) → IsRefused text flow first → IsRefused text flow second → first ≡ second
-one_refusal text flow first second (inl a) (inl b) = a.1 ∙ sym b.1
-one_refusal text flow first second (inl a) (inr b) = absurd (omega (arith, a.0, b.0))
-one_refusal text flow first second (inr a) (inl b) = absurd (omega (arith, a.0, b.0))
-one_refusal text flow first second (inr a) (inr b) = one_first (line_fault flow) (said_lines text) first second a.1 b.1
+one_refusal text flow = one_first_refusal (rules_of flow) text
 
 -- each text is accepted or refused
-pub some_answer : (text : List ℕ) (flow : Dataflow) → ((steps : List Step) × IsAccepted text flow steps) ⊎ ((refusal : Refusal) × IsRefused text flow refusal)
-some_answer text flow = elim (cases_lt size_limit (length text)) [
-  | inl large ↦ inr (record { code = S4; line = 0 }, inl (large, refl))
-  | inr small ↦ elim (sound_or_some (line_fault flow) (said_lines text)) [
-    | inl sound ↦ inl (steps_of flow (said_lines text), record { size = omega (arith, small); sound = sound; value = refl })
-    | inr fault ↦ inr (fault.0, inr (omega (arith, small), fault.1))
-  ]
+pub some_answer : (text : List ℕ) (flow : Dataflow) → ((items : List Item) × IsAccepted text flow items) ⊎ ((refusal : Refusal) × IsRefused text flow refusal)
+some_answer text flow = elim (sound_or_some_refusal (rules_of flow) text) [
+  | inl sound ↦ inl (items_of flow (said_lines text), record { sound = sound; value = refl })
+  | inr refused ↦ inr refused
 ]

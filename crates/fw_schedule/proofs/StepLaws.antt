@@ -1,5 +1,5 @@
--- The steps that lines spell are steps of the flow.
-use Rattle.std.proofs.Common.{◌≡◌, ℕ, suc, ◌<◌, Bool, true, false, cond, List, [], ◌∷◌, length, map, Option, Some, None, IfSome, Result, Ok, Err, IfOk, refl, ap, subst, arith}
+-- What lines ask for are items of the flow.
+use Rattle.std.proofs.Common.{◌≡◌, ℕ, suc, ◌<◌, ◌≤◌, Bool, true, false, cond, List, [], ◌∷◌, length, map, Option, Some, None, IfSome, Result, Ok, Err, IfOk, refl, ap, subst, arith}
 use Rattle.std.specs.Prelude.{codes}
 use Rattle.std.proofs.lemmas.List.{length-map}
 use Rattle.std.proofs.lemmas.List.Quantifiers.{position-Some}
@@ -7,26 +7,27 @@ use Rattle.std.specs.List.{AllByRecursion, cons_option}
 use Rattle.std.specs.Option.{option_map, option_and_then, option_map_or, ok_or}
 use Rattle.std.specs.Result.{result_ok}
 use Rattle.std.specs.Str.{bytes_eq}
-use Rattle.fw_time.proofs.EachLaws.{each-weaker}
+use Rattle.std.specs.Str.Parse.{digits_value}
 use Rattle.fw_time.specs.Stamp.{in_domain}
 use Rattle.fw_time.specs.declared.stamp.Bounds.{Bounds}
 use Rattle.fw_lines.specs.declared.refusal.Code.{Code}
 use Rattle.fw_lines.specs.declared.refusal.Code.TheVariants.{S1, S2, S3}
 use Rattle.fw_lines.specs.Lines.{Said}
+use Rattle.fw_lines.specs.Spelling.{is_name, is_numeral}
 use Rattle.fw_flow.specs.declared.kind.Kind.{Kind}
 use Rattle.fw_flow.specs.declared.node.Node.{Node}
 use Rattle.fw_flow.specs.declared.node.Edge.{Edge}
 use Rattle.fw_flow.specs.declared.step.Step.{Step}
 use Rattle.fw_flow.specs.declared.step.Step.TheVariants as step
 use Rattle.fw_flow.specs.Dataflow.{Dataflow, kind_of, receiver, bounds_of, is_input_kind, is_output_kind}
-use Rattle.fw_flow.specs.Step.{is_plain_step, ArePlain}
 use Rattle.fw_flow.specs.Names.{place_of}
-use Rattle.fw_schedule.specs.declared.form.Form.{Form}
-use Rattle.fw_schedule.specs.declared.form.Form.TheVariants as form
-use Rattle.fw_schedule.specs.Forms.{are_names, form_of}
-use Rattle.fw_schedule.specs.Grammar.{node_named, edge_named, nodes_named, if_kind, node_of_kind, told_in, delivery_of, notification_of, step_of_form, failure_of, step_of, steps_of}
+use Rattle.fw_schedule.specs.declared.item.Item.{Item}
+use Rattle.fw_schedule.specs.declared.item.Item.TheVariants.{One, Auto}
+use Rattle.fw_schedule.specs.Grammar.{auto_of, one_step, item_of, items_of}
+use Rattle.fw_schedule.specs.Names.{are_names, node_named, edge_named, if_kind, node_of_kind, nodes_named}
+use Rattle.fw_schedule.specs.Schedule.{IsTimeIn, IsNodeOfKind, IsStepOf, IsItemOf, steps_in, step_count, step_limit}
 use Rattle.fw_schedule.specs.Stamps.{stamp_of}
-use Rattle.fw_schedule.specs.Schedule.{IsTimeIn, IsNodeOfKind, IsStepOf}
+use Rattle.fw_schedule.specs.Steps.{told_in, delivery_on, notification_of, lone_step, stamped_step, named_step, is_name_at_stamp, short_step, failure_of, step_of}
 
 -- a name stands below the end
 below : (name : List ℕ) (names : List (List ℕ)) (o : Option ℕ) → place_of name names ≡ o → IfSome o (λ place. place < length names)
@@ -65,14 +66,6 @@ at_place : (flow : Dataflow) (P : ℕ → Type 0) (make : ℕ → Result Step Co
 at_place flow P make None h f = tt
 at_place flow P make (Some n) h f = f n h
 
-form_sound : (flow : Dataflow) (f : Form (List ℕ)) → IfOk (step_of_form flow f) (IsStepOf flow)
-form_sound flow (form.Inject name) = made flow (IsNodeOfKind flow is_input_kind) (λ n. step.Inject n) S2 (node_of_kind flow is_input_kind name) (node_sound flow is_input_kind (node_named flow name) (node_below flow name)) (λ n h. h)
-form_sound flow (form.Deliver name stamp) = at_place flow (λ e. e < length flow.edges) (delivery_of flow stamp) (edge_named flow name) (edge_below flow name) (λ e h. made flow (IsTimeIn (bounds_of flow (receiver flow e))) (λ at. step.Deliver e at) S3 (told_in (bounds_of flow (receiver flow e)) stamp) (told_sound (bounds_of flow (receiver flow e)) stamp) (λ at k. (h, k)))
-form_sound flow (form.Notify name stamp) = at_place flow (λ n. n < length flow.nodes) (notification_of flow stamp) (node_named flow name) (node_below flow name) (λ n h. made flow (IsTimeIn (bounds_of flow n)) (λ at. step.Notify n at) S3 (told_in (bounds_of flow n) stamp) (told_sound (bounds_of flow n) stamp) (λ at k. (h, k)))
-form_sound flow form.Progress = tt
-form_sound flow form.Recover = tt
-form_sound flow (form.Ack name) = made flow (IsNodeOfKind flow is_output_kind) (λ n. step.Ack n) S2 (node_of_kind flow is_output_kind name) (node_sound flow is_output_kind (node_named flow name) (node_below flow name)) (λ n h. h)
-
 -- as many nodes are found as there are names, each of them of the flow
 nodes_below : (flow : Dataflow) (names : List (List ℕ)) → IfSome (nodes_named flow names) (λ nodes. (length nodes ≡ length names) × AllByRecursion (λ node. node < length flow.nodes) nodes)
 nodes_below flow [] = (refl, tt)
@@ -85,48 +78,80 @@ nodes_below flow (name ∷ names) = more (node_named flow name) (nodes_named flo
     more (Some node) None h k = tt
     more (Some node) (Some nodes) h k = (ap suc k.0, (h, k.1))
 
--- one of two, both of them steps of the flow where they are steps
-either : (flow : Dataflow) (b : Bool) (x y : Result Step Code) → IfOk x (IsStepOf flow) → IfOk y (IsStepOf flow) → IfOk (cond b x y) (IsStepOf flow)
-either flow true x y h k = h
-either flow false x y h k = k
+-- one of two, of each of which this is true where it is spelled
+either : {X : Type 0} (P : X → Type 0) (b : Bool) (x y : Result X Code) → IfOk x P → IfOk y P → IfOk (cond b x y) P
+either P true x y h k = h
+either P false x y h k = k
+
+lone_sound : (flow : Dataflow) (verb : List ℕ) → IfOk (lone_step verb) (IsStepOf flow)
+lone_sound flow verb =
+    either (IsStepOf flow) (bytes_eq verb (codes "progress")) (Ok step.Progress) _ tt
+    (either (IsStepOf flow) (bytes_eq verb (codes "persist")) (Ok step.Persist) _ tt
+    (either (IsStepOf flow) (bytes_eq verb (codes "recover")) (Ok step.Recover) _ tt
+    (either (IsStepOf flow) (bytes_eq verb (codes "collect")) (Ok step.Collect) (Err S1) tt tt)))
+
+delivery_sound : (flow : Dataflow) (name : List ℕ) (stamp : Option (List ℕ)) → IfOk (option_map_or (delivery_on flow stamp) (edge_named flow name) (Err S2)) (IsStepOf flow)
+delivery_sound flow name stamp = at_place flow (λ e. e < length flow.edges) (delivery_on flow stamp) (edge_named flow name) (edge_below flow name) (λ e h. made flow (IsTimeIn (bounds_of flow (receiver flow e))) (λ at. step.Deliver e at) S3 (told_in (bounds_of flow (receiver flow e)) stamp) (told_sound (bounds_of flow (receiver flow e)) stamp) (λ at k. (h, k)))
+
+notification_sound : (flow : Dataflow) (name : List ℕ) (stamp : Option (List ℕ)) → IfOk (option_map_or (notification_of flow stamp) (node_named flow name) (Err S2)) (IsStepOf flow)
+notification_sound flow name stamp = at_place flow (λ n. n < length flow.nodes) (notification_of flow stamp) (node_named flow name) (node_below flow name) (λ n h. made flow (IsTimeIn (bounds_of flow n)) (λ at. step.Notify n at) S3 (told_in (bounds_of flow n) stamp) (told_sound (bounds_of flow n) stamp) (λ at k. (h, k)))
+
+stamped_sound : (flow : Dataflow) (verb name : List ℕ) (stamp : Option (List ℕ)) → IfOk (stamped_step flow verb name stamp) (IsStepOf flow)
+stamped_sound flow verb name stamp =
+    either (IsStepOf flow) (bytes_eq verb (codes "deliver")) (option_map_or (delivery_on flow stamp) (edge_named flow name) (Err S2)) _ (delivery_sound flow name stamp)
+    (either (IsStepOf flow) (bytes_eq verb (codes "notify")) (option_map_or (notification_of flow stamp) (node_named flow name) (Err S2)) (Err S1) (notification_sound flow name stamp) tt)
+
+named_sound : (flow : Dataflow) (verb name : List ℕ) → IfOk (named_step flow verb name) (IsStepOf flow)
+named_sound flow verb name =
+    either (IsStepOf flow) (bytes_eq verb (codes "inject")) (ok_or (option_map step.Inject (node_of_kind flow is_input_kind name)) S2) _
+    (made flow (IsNodeOfKind flow is_input_kind) (λ n. step.Inject n) S2 (node_of_kind flow is_input_kind name) (node_sound flow is_input_kind (node_named flow name) (node_below flow name)) (λ n h. h))
+    (either (IsStepOf flow) (bytes_eq verb (codes "checkpoint")) (ok_or (option_map step.Checkpoint (node_named flow name)) S2) _
+    (made flow (λ n. n < length flow.nodes) (λ n. step.Checkpoint n) S2 (node_named flow name) (node_below flow name) (λ n h. h))
+    (either (IsStepOf flow) (bytes_eq verb (codes "ack")) (ok_or (option_map step.Ack (node_of_kind flow is_output_kind name)) S2) (stamped_step flow verb name None)
+    (made flow (IsNodeOfKind flow is_output_kind) (λ n. step.Ack n) S2 (node_of_kind flow is_output_kind name) (node_sound flow is_output_kind (node_named flow name) (node_below flow name)) (λ n h. h))
+    (stamped_sound flow verb name None)))
+
+short_sound : (flow : Dataflow) (verb : List ℕ) (words : List (List ℕ)) → IfOk (short_step flow verb words) (IsStepOf flow)
+short_sound flow verb [] = lone_sound flow verb
+short_sound flow verb (name ∷ []) = either (IsStepOf flow) (is_name name) (named_step flow verb name) (Err S1) (named_sound flow verb name) tt
+short_sound flow verb (name ∷ at ∷ []) = tt
+short_sound flow verb (name ∷ at ∷ stamp ∷ []) = either (IsStepOf flow) (is_name_at_stamp name at stamp) (stamped_step flow verb name (Some stamp)) (Err S1) (stamped_sound flow verb name (Some stamp)) tt
+short_sound flow verb (name ∷ at ∷ stamp ∷ word ∷ words) = tt
 
 failure_sound : (flow : Dataflow) (words : List (List ℕ)) → IfOk (failure_of flow words) (IsStepOf flow)
 failure_sound flow [] = tt
 failure_sound flow (name ∷ names) =
-    either flow (are_names (name ∷ names)) (ok_or (option_map step.Fail (nodes_named flow (name ∷ names))) S2) (Err S1)
+    either (IsStepOf flow) (are_names (name ∷ names)) (ok_or (option_map step.Fail (nodes_named flow (name ∷ names))) S2) (Err S1)
     (made flow (λ nodes. (length nodes ≡ length (name ∷ names)) × AllByRecursion (λ node. node < length flow.nodes) nodes) (λ nodes. step.Fail nodes) S2 (nodes_named flow (name ∷ names)) (nodes_below flow (name ∷ names)) (λ nodes h. (omega (arith, h.0), h.1))) tt
 
-found_sound : (flow : Dataflow) (o : Option (Form (List ℕ))) → IfOk (option_map_or (step_of_form flow) o (Err S1)) (IsStepOf flow)
-found_sound flow None = tt
-found_sound flow (Some f) = form_sound flow f
+words_sound : (flow : Dataflow) (verb : List ℕ) (words : List (List ℕ)) → IfOk (step_of flow verb words) (IsStepOf flow)
+words_sound flow verb words = either (IsStepOf flow) (bytes_eq verb (codes "fail")) (failure_of flow words) (short_step flow verb words) (failure_sound flow words) (short_sound flow verb words)
 
-words_sound : (flow : Dataflow) (words : List (List ℕ)) → IfOk (step_of flow words) (IsStepOf flow)
-words_sound flow [] = tt
-words_sound flow (verb ∷ words) =
-    either flow (bytes_eq verb (codes "fail")) (failure_of flow words) (option_map_or (step_of_form flow) (form_of (verb ∷ words)) (Err S1))
-    (failure_sound flow words) (found_sound flow (form_of (verb ∷ words)))
+-- the item is one of the flow, unless it asks for too many steps
+abbrev IsItemIfFew : Dataflow → Item → Type 0
+IsItemIfFew flow item = steps_in item ≤ step_limit → IsItemOf flow item
 
-one_more : (flow : Dataflow) (r : Result Step Code) (steps : List Step) → IfOk r (IsStepOf flow) → AllByRecursion (IsStepOf flow) steps → AllByRecursion (IsStepOf flow) (cons_option (result_ok r) steps)
-one_more flow (Ok step) steps h k = (h, k)
-one_more flow (Err code) steps h k = k
+auto_sound : (flow : Dataflow) (words : List (List ℕ)) → IfOk (auto_of words) (IsItemIfFew flow)
+auto_sound flow [] = tt
+auto_sound flow (number ∷ []) = either (IsItemIfFew flow) (is_numeral number) (Ok (Auto (digits_value 10 number))) (Err S1) (λ h. h) tt
+auto_sound flow (number ∷ word ∷ words) = tt
 
--- each step that lines spell is a step of the flow
-pub steps_sound : (flow : Dataflow) (lines : List Said) → AllByRecursion (IsStepOf flow) (steps_of flow lines)
-steps_sound flow [] = tt
-steps_sound flow (line ∷ lines) = one_more flow (step_of flow line.words) (steps_of flow lines) (words_sound flow line.words) (steps_sound flow lines)
+one_sound : (flow : Dataflow) (r : Result Step Code) → IfOk r (IsStepOf flow) → IfOk (one_step r) (IsItemIfFew flow)
+one_sound flow (Ok step) h = λ few. h
+one_sound flow (Err code) h = tt
 
--- a step of a schedule is one that the plain engine takes
-plain_step : (flow : Dataflow) (s : Step) → IsStepOf flow s → is_plain_step s ≡ true
-plain_step flow (step.Inject source) h = refl
-plain_step flow (step.Deliver e at) h = refl
-plain_step flow (step.Notify p at) h = refl
-plain_step flow step.Progress h = refl
-plain_step flow (step.Checkpoint p) h = absurd h
-plain_step flow step.Persist h = absurd h
-plain_step flow (step.Fail ps) h = refl
-plain_step flow step.Recover h = refl
-plain_step flow step.Collect h = absurd h
-plain_step flow (step.Ack o) h = refl
+item_sound : (flow : Dataflow) (words : List (List ℕ)) → IfOk (item_of flow words) (IsItemIfFew flow)
+item_sound flow [] = tt
+item_sound flow (verb ∷ words) =
+    either (IsItemIfFew flow) (bytes_eq verb (codes "auto")) (auto_of words) (one_step (step_of flow verb words))
+    (auto_sound flow words) (one_sound flow (step_of flow verb words) (words_sound flow verb words))
 
-pub steps_plain : (flow : Dataflow) (steps : List Step) → AllByRecursion (IsStepOf flow) steps → ArePlain steps
-steps_plain flow steps sound = each-weaker (IsStepOf flow) (λ s. is_plain_step s ≡ true) steps (plain_step flow) sound
+one_more : (flow : Dataflow) (r : Result Item Code) (items : List Item) → IfOk r (IsItemIfFew flow) → (step_count items ≤ step_limit → AllByRecursion (IsItemOf flow) items)
+    → step_count (cons_option (result_ok r) items) ≤ step_limit → AllByRecursion (IsItemOf flow) (cons_option (result_ok r) items)
+one_more flow (Ok item) items h k few = (h (omega (arith, few)), k (omega (arith, few)))
+one_more flow (Err code) items h k few = k few
+
+-- each item that lines ask for is one of the flow, where their steps are not too many
+pub items_sound : (flow : Dataflow) (lines : List Said) → step_count (items_of flow lines) ≤ step_limit → AllByRecursion (IsItemOf flow) (items_of flow lines)
+items_sound flow [] = λ few. tt
+items_sound flow (line ∷ lines) = one_more flow (item_of flow line.words) (items_of flow lines) (item_sound flow line.words) (items_sound flow lines)

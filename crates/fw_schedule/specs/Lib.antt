@@ -1,4 +1,5 @@
-pub mod Forms
 pub mod Grammar
+pub mod Names
 pub mod Schedule
 pub mod Stamps
+pub mod Steps

@@ -2,9 +2,12 @@
 #![tactic(auto)]
 
 mod coordinates;
-mod form;
+mod item;
+mod names;
 mod reader;
 mod schedule;
+mod step;
 
+pub use item::{Item, STEP_LIMIT};
 pub use reader::{SCHEDULE_LIMIT, one_answer, read_schedule};
 pub use schedule::Schedule;

@@ -1,21 +1,21 @@
-//! The steps of a schedule.
+//! The items of a schedule.
 ghost use Rattle.std.specs.Prelude.{◌≡◌, ◌==◌, [], ◌∷◌, ◌++◌, OnOk, OnErr, length};
 
-use fw_flow::Step;
+use crate::item::Item;
 use std::alloc::{AllocError, Global};
 use std::marker::Model;
 
-/// The steps that a schedule asks for, in the order of its lines. Contracts see their list.
+/// What a schedule asks for, in the order of its lines. Contracts see the list of its items.
 #[derive(Debug, Drop)]
 pub struct Schedule {
-    items: Vec<Step>,
+    items: Vec<Item>,
 }
 
 impl Model for Schedule {
     ghost use Rattle.std.specs.Prelude.{List};
-    ghost use Rattle.fw_flow.specs.declared.step.Step.{Step};
+    ghost use Rattle.fw_schedule.specs.declared.item.Item.{Item};
 
-    ghost Value = { List Step };
+    ghost Value = { List Item };
 
     ghost view = { λ schedule. schedule.items.items };
 }
@@ -29,30 +29,30 @@ impl Schedule {
         }
     }
 
-    // Puts a step behind the others.
-    pub(crate) fn push(&mut self, step: Step) -> Result<(), AllocError>
-        ensures ok { OnOk result (self.new ≡ self.old ++ step ∷ []) }
+    // Puts an item behind the others.
+    pub(crate) fn push(&mut self, item: Item) -> Result<(), AllocError>
+        ensures ok { OnOk result (self.new ≡ self.old ++ item ∷ []) }
         ensures err { OnErr result (self.new ≡ self.old) }
     {
-        self.items.push(step)?;
+        self.items.push(item)?;
         Ok(())
     }
 
-    /// The steps as a slice.
-    pub fn as_slice(&self) -> &[Step]
+    /// The items as a slice.
+    pub fn as_slice(&self) -> &[Item]
         ensures { result.now ≡ self.now }
     {
         self.items.as_slice()
     }
 
-    /// How many steps there are.
+    /// How many items there are.
     pub fn len(&self) -> usize
         ensures { result ≡ length self.now }
     {
         self.items.len()
     }
 
-    /// Whether there is no step.
+    /// Whether there is no item.
     pub fn is_empty(&self) -> bool
         ensures { result ≡ (length self.now == 0) }
     {

@@ -7,7 +7,7 @@ use Rattle.fw_schedule.proofs.reader.read_schedule.Given as goal
 abbrev pub invariant-loop-place : goal.invariant-loop-place
 invariant-loop-place l = record {
   within : IfSome l.place (IsPlace l.text);
-  read : IsRead l.flow (said_lines l.text) (lines_left l.text l.place) l.steps;
+  read : IsRead l.flow (said_lines l.text) (lines_left l.text l.place) l.items l.count;
 }
 
 abbrev pub decreases-loop-place : goal.decreases-loop-place

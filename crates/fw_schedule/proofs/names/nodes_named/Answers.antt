@@ -1,7 +1,7 @@
 use Rattle.std.proofs.Common.{sym, ◌∙◌, ap, Some}
 use Rattle.fw_schedule.proofs.NameLaws.{found_more, found_none, found_all}
-use Rattle.fw_schedule.specs.Grammar.{node_named}
-use Rattle.fw_schedule.proofs.reader.nodes_named.Goals as goal
+use Rattle.fw_schedule.specs.Names.{node_named}
+use Rattle.fw_schedule.proofs.names.nodes_named.Goals as goal
 
 pub loop-name-preserved : goal.loop-name-preserved
 loop-name-preserved c =

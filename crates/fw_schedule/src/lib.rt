@@ -3,8 +3,10 @@
 
 mod coordinates;
 mod form;
+mod item;
 mod reader;
 mod schedule;
 
+pub use item::Item;
 pub use reader::{SCHEDULE_LIMIT, one_answer, read_schedule};
 pub use schedule::Schedule;

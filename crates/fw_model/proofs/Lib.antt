@@ -2,6 +2,7 @@ pub mod ArrivalLaws
 pub mod AscendingLaws
 pub mod AskedLaws
 pub mod AskedStateLaws
+pub mod AutoLaws
 pub mod CheckpointLaws
 pub mod ChoiceLaws
 pub mod ChoosingLaws

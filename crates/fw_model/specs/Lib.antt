@@ -1,10 +1,12 @@
 pub mod Acknowledgements
+pub mod Auto
 pub mod Choice
 pub mod Choosing
 pub mod Covers
 pub mod Denotation
 pub mod Filtering
 pub mod History
+pub mod LawsOfAuto
 pub mod LawsOfChoices
 pub mod LawsOfChoosing
 pub mod LawsOfCompleteFrontiers

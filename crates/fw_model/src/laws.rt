@@ -6,6 +6,7 @@
 //! stamps of its events by `SendsByStamp`: it is no output and no sequence, a loop that it feeds back has a next counter,
 //! and the groups that it makes are not empty. A run begins in the machine's first state, and its steps are any, failures,
 //! recoveries and collections among them. A history goes on legally where the longer one is legal.
+ghost use Rattle.fw_model.specs.LawsOfAuto.{AutoRunsAreOne, AutoRunsAreRuns, AutoRunsGoOn};
 ghost use Rattle.fw_model.specs.LawsOfChoices.{ConsistentChoicesHaveUnion, DeliveredOfUnion, DiscardedOfUnion, EachLiesWithinUnion, LargestChoiceIsOne, NotifiedOfUnion, UnionOfCandidatesIsCandidate, UnionOfConsistentIsConsistent};
 ghost use Rattle.fw_model.specs.LawsOfChoosing.{CheckpointsAreChains, FailedNodesAreRecovered, LargestChoiceHoldsLowWatermark, LargestOfKeptIsLargestOfEver, LowWatermarkIsConsistent, LowWatermarkNeverFalls, ReachedStatesHaveOneNextState, RecoveryHasAChoice, TwoRunsShowOneBag};
 ghost use Rattle.fw_model.specs.LawsOfCompleteFrontiers.{AdmissibleStaysAdmissible, EnabledIsOutside, LegalInsidePhiComesFromInside, SequencesAreNotifiedInOrder};
@@ -661,4 +662,20 @@ pub fn consistent_by_offers_is_consistent()
 /// Where data are what the machine offers in a state, the largest choice by the data is that of the machine.
 pub fn largest_by_offers_is_largest()
     ensures { LargestByOffersIsLargest }
+{}
+
+/// From each state of a run of a well-formed system `auto` takes, at most so many, exactly one list of steps.
+pub fn auto_runs_are_one()
+    ensures { AutoRunsAreOne }
+{}
+
+/// The steps that `auto` takes are a run of the machine, in which none is idle.
+pub fn auto_runs_are_runs()
+    ensures { AutoRunsAreRuns }
+{}
+
+/// Where `auto` took as many steps as it may, and then at most so many more, these are steps that it takes if it may take
+/// all of them.
+pub fn auto_runs_go_on()
+    ensures { AutoRunsGoOn }
 {}

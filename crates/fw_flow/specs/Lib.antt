@@ -4,6 +4,7 @@ pub mod Counting
 pub mod CutText
 pub mod Dataflow
 pub mod Depths
+pub mod DomainText
 pub mod Draft
 pub mod Flow
 pub mod KindText

@@ -16,6 +16,7 @@ mod ids;
 mod kind;
 pub mod laws;
 mod lists;
+mod loops;
 mod name;
 mod node;
 mod parts;

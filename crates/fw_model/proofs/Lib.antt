@@ -4,6 +4,7 @@ pub mod AskedLaws
 pub mod AskedStateLaws
 pub mod BothLaws
 pub mod CheckpointFrontLaws
+pub mod AutoLaws
 pub mod CheckpointLaws
 pub mod ChoiceLaws
 pub mod ChoosingLaws

@@ -1,4 +1,5 @@
 pub mod Acknowledgements
+pub mod Auto
 pub mod Choice
 pub mod Choosing
 pub mod Covers
@@ -6,6 +7,7 @@ pub mod Denotation
 pub mod Filtering
 pub mod History
 pub mod LawsOfCheckpointFronts
+pub mod LawsOfAuto
 pub mod LawsOfChoices
 pub mod LawsOfChoosing
 pub mod LawsOfCompleteFrontiers

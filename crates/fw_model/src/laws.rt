@@ -7,6 +7,7 @@
 //! and the groups that it makes are not empty. A run begins in the machine's first state, and its steps are any, failures,
 //! recoveries and collections among them. A history goes on legally where the longer one is legal.
 ghost use Rattle.fw_model.specs.LawsOfCheckpointFronts.{CheckpointsDiffer, CheckpointsHaveStamps};
+ghost use Rattle.fw_model.specs.LawsOfAuto.{AutoRunsAreOne, AutoRunsAreRuns, AutoRunsGoOn};
 ghost use Rattle.fw_model.specs.LawsOfChoices.{ConsistentChoicesHaveUnion, DeliveredOfUnion, DiscardedOfUnion, EachLiesWithinUnion, LargestChoiceIsOne, NotifiedOfUnion, UnionOfCandidatesIsCandidate, UnionOfConsistentIsConsistent};
 ghost use Rattle.fw_model.specs.LawsOfChoosing.{CheckpointsAreChains, FailedNodesAreRecovered, LargestChoiceHoldsLowWatermark, LargestOfKeptIsLargestOfEver, LowWatermarkIsConsistent, LowWatermarkNeverFalls, ReachedStatesHaveOneNextState, RecoveryHasAChoice, TwoRunsShowOneBag};
 ghost use Rattle.fw_model.specs.LawsOfCompleteFrontiers.{AdmissibleStaysAdmissible, EnabledIsOutside, LegalInsidePhiComesFromInside, SequencesAreNotifiedInOrder};
@@ -767,4 +768,18 @@ pub fn replayed_events_send_the_same()
 /// Stamps that are thinned inside a base cover the same as all of them, inside each set that holds the base.
 pub fn thinned_stamps_cover_the_same()
     ensures { ThinnedStampsCoverTheSame }
+/// From each state of a run of a well-formed system `auto` takes, at most so many, exactly one list of steps.
+pub fn auto_runs_are_one()
+    ensures { AutoRunsAreOne }
+{}
+
+/// The steps that `auto` takes are a run of the machine, in which none is idle.
+pub fn auto_runs_are_runs()
+    ensures { AutoRunsAreRuns }
+{}
+
+/// Where `auto` took as many steps as it may, and then at most so many more, these are steps that it takes if it may take
+/// all of them.
+pub fn auto_runs_go_on()
+    ensures { AutoRunsGoOn }
 {}

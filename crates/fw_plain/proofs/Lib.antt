@@ -1,3 +1,4 @@
+pub mod AutoSteps
 pub mod ClearSteps
 pub mod CompleteSteps
 pub mod EffectTextLaws

@@ -1,6 +1,7 @@
 //! The plain engine: it keeps the list of events and finds everything by scanning it (`scan`).
 #![tactic(auto)]
 
+mod auto;
 mod course;
 mod engine;
 mod events;

@@ -1,86 +1,115 @@
--- From the job that was read and what was printed of it to what a call promises.
+-- From the work of a command and what was printed of it to what a call promises.
 use Rattle.std.proofs.Common.{◌≡◌, inl, inr, ℕ, List, [], Option, Some, None, Ok, Err, refl, sym, ◌∙◌, ap, subst}
 use Rattle.std.proofs.lemmas.Bool.{false≢true}
+use Rattle.std.proofs.lemmas.Option.{same_Some}
 use Rattle.std.specs.Prelude.{IsSome}
 use Rattle.fw_outside.specs.declared.fault.OutFault.{OutFault}
 use Rattle.fw_outside.specs.Outside.{SinkView}
 use Rattle.fw_lines.specs.declared.refusal.Refusal.{Refusal}
-use Rattle.fw_flow.specs.Dataflow.{system_of}
+use Rattle.fw_flow_text.specs.Grammar as flows
 use Rattle.fw_run.proofs.DecidedLaws.{texts-decided}
-use Rattle.fw_run.proofs.TextLaws.{one_first_refusal, accepted_or_refused}
-use Rattle.fw_run.specs.declared.reading.Job.{Job}
+use Rattle.fw_run.proofs.TextLaws.{one_first_refusal, accepted_or_refused, flow_or_refused, one_flow_refusal}
 use Rattle.fw_run.specs.declared.status.Status.{Status}
 use Rattle.fw_run.specs.declared.status.Status.TheVariants.{Done, BadWords, Refused, ReadFault, WriteFault, NoMemory}
-use Rattle.fw_run.specs.Call.{Call, HasAccepted, HasRefused, IsPrintout, PrintsAll, PrintsPart, KeepsFolder, AnswersTexts, IsRunEnd, IsRefusalEnd}
+use Rattle.fw_run.specs.declared.work.Work.{Work}
+use Rattle.fw_run.specs.declared.work.Work.TheVariants.{Run, Check}
+use Rattle.fw_run.specs.Call.{Call, HasTexts, Accepts, Refuses, Prints, AsksNoMore, HasAccepted, HasRefused, IsPrintout, PrintsAll, PrintsPart, KeepsFolder, AnswersTexts, IsRunEnd, IsRefusalEnd}
 use Rattle.fw_run.specs.Headline.{PrintsRun}
-use Rattle.fw_run.specs.Performing.{Performs}
-use Rattle.fw_run.specs.Reading.{IsJob}
+use Rattle.fw_run.specs.Listing.{check_text}
 use Rattle.fw_run.specs.Status.{IsTellingOf}
-use Rattle.fw_run.specs.Texts.{Texts, AreThere, IsFirstRefusal, IsAskedNoMore, spelled_system}
-use Rattle.fw_run.specs.Words.{Command, run, TextNames}
+use Rattle.fw_run.specs.Texts.{Texts, spelled_flow, spelled_system}
+use Rattle.fw_run.specs.Words.{Command, run, check}
+use Rattle.fw_run.specs.Work.{IsWork, IsTextOfWork, PrintsWork}
 
 -- ---- what was printed
 
--- the text of a job's run is what the call prints that asked for it
-printout_of_job : (call : Call) (names : TextNames) (job : Job) (printed : List ℕ) → call.command ≡ Some (run names) → IsJob call.told names job
-    → PrintsRun (system_of job.flow job.batches) job.steps printed → IsPrintout call printed
-printout_of_job call names job printed e j p = record {
-  texts = j.texts;
-  accepted = record { names = names; command = e; there = j.there; accepted = j.accepted };
-  text = subst (λ steps. PrintsRun (spelled_system j.texts) steps printed) j.steps (subst (λ sys. PrintsRun sys job.steps printed) j.system p);
-}
+-- what a command does of texts that are there and accepted
+told_of_work : (told : Option (List ℕ → Option (List ℕ))) (command : Command) (work : Work) → IsWork told command work
+    → (texts : Texts) × HasTexts told command texts × Accepts command texts × ((printed : List ℕ) → IsTextOfWork work printed → Prints command texts printed)
+told_of_work told (run names) (Run job) j =
+    (
+      j.texts,
+      j.there,
+      j.accepted,
+      λ printed p. subst (λ items. PrintsRun (spelled_system j.texts) items printed) j.items (subst (λ sys. PrintsRun sys job.items printed) j.system p),
+    )
+told_of_work told (run names) (Check flow) j = absurd j
+told_of_work told (check name) (Run job) j = absurd j
+told_of_work told (check name) (Check flow) h =
+    let value : flow ≡ spelled_flow h.text = h.so.checked.value in
+    let texts : Texts = record { flow = h.text; inputs = []; schedule = [] } in
+    (
+      texts,
+      h.there,
+      subst (flows.IsAccepted h.text) value h.so,
+      λ printed p. p ∙ ap check_text value,
+    )
 
-pub prints-all : {T : Type 0} (call : Call) (names : TextNames) (job : Job) (value : T) (before after : SinkView) → call.command ≡ Some (run names) → IsJob call.told names job
-    → Performs (system_of job.flow job.batches) job.steps (Ok value) before after → PrintsAll call before after
-prints-all call names job value before after e j p = record { printed = p.printed; printout = printout_of_job call names job p.printed e j p.text; whole = p.written }
+-- what a work prints is what the call prints that asked for it
+printout_of_work : (call : Call) (command : Command) (work : Work) (printed : List ℕ) → call.command ≡ Some command → IsWork call.told command work → IsTextOfWork work printed
+    → IsPrintout call printed
+printout_of_work call command work printed e j p =
+    let t = told_of_work call.told command work j in
+    record {
+      texts = t.0;
+      accepted = record { command = command; words = e; there = t.1; accepted = t.2 };
+      text = t.3 printed p;
+    }
 
-pub prints-part : {T : Type 0} (call : Call) (names : TextNames) (job : Job) (fault : OutFault) (before after : SinkView) → call.command ≡ Some (run names) → IsJob call.told names job
-    → Performs {T = T} (system_of job.flow job.batches) job.steps (Err fault) before after → PrintsPart call fault before after
-prints-part call names job fault before after e j p = record { printed = p.printed; printout = printout_of_job call names job p.printed e j p.text; part = p.written }
+pub prints-all : {T : Type 0} (call : Call) (command : Command) (work : Work) (value : T) (before after : SinkView) → call.command ≡ Some command → IsWork call.told command work
+    → PrintsWork work (Ok value) before after → PrintsAll call before after
+prints-all call command work value before after e j p = record { printed = p.printed; printout = printout_of_work call command work p.printed e j p.text; whole = p.written }
+
+pub prints-part : {T : Type 0} (call : Call) (command : Command) (work : Work) (fault : OutFault) (before after : SinkView) → call.command ≡ Some command → IsWork call.told command work
+    → PrintsWork {T = T} work (Err fault) before after → PrintsPart call fault before after
+prints-part call command work fault before after e j p = record { printed = p.printed; printout = printout_of_work call command work p.printed e j p.text; part = p.written }
 
 -- ---- one answer
 
--- the operands of a command are one
-same_names : (command : Option Command) (one other : TextNames) → command ≡ Some (run one) → command ≡ Some (run other) → one ≡ other
-same_names command one other e f = ap names_in (sym e ∙ f)
-  where
-    names_in : Option Command → TextNames
-    names_in (Some (run names)) = names
-    names_in None = record { flow = []; inputs = []; schedule = [] }
+-- where the folder tells its texts, a command does not accept some and refuse one
+accepts_and_refuses : (told : Option (List ℕ → Option (List ℕ))) (command : Command) (texts : Texts) (refusal : Refusal) → IsSome told → HasTexts told command texts → Accepts command texts
+    → Refuses told command refusal → ⊥
+accepts_and_refuses None command texts refusal s t a f = absurd (false≢true s)
+accepts_and_refuses (Some folder) (run names) texts refusal s t a f = accepted_or_refused folder names texts refusal t a f
+accepts_and_refuses (Some folder) (check name) texts refusal s t a f = flow_or_refused folder name texts.flow refusal t a f
 
--- where the folder tells its texts, no call has texts that are accepted and one that is refused
+-- nor refuse one in two ways
+refuses_once : (told : Option (List ℕ → Option (List ℕ))) (command : Command) (one other : Refusal) → IsSome told → Refuses told command one → Refuses told command other → one ≡ other
+refuses_once None command one other s f g = absurd (false≢true s)
+refuses_once (Some folder) (run names) one other s f g = one_first_refusal folder names one other f g
+refuses_once (Some folder) (check name) one other s f g = one_flow_refusal folder name one other f g
+
+-- words are one command
+same_command : (command : Option Command) (one other : Command) → command ≡ Some one → command ≡ Some other → one ≡ other
+same_command command one other e f = same_Some one other (sym e ∙ f)
+
+-- no call has texts that are accepted and one that is refused
 accepted_and_refused : (call : Call) (texts : Texts) (refusal : Refusal) → IsSome call.told → HasAccepted call texts → HasRefused call refusal → ⊥
 accepted_and_refused call texts refusal tells a f =
-    by call.told tells a.there (subst (λ names. IsFirstRefusal call.told names refusal) (same_names call.command f.names a.names f.command a.command) f.first)
-  where
-    by : (told : Option (List ℕ → Option (List ℕ))) → IsSome told → AreThere told a.names texts → IsFirstRefusal told a.names refusal → ⊥
-    by None s t g = absurd (false≢true s)
-    by (Some folder) s t g = accepted_or_refused folder a.names texts refusal t a.accepted g
+    accepts_and_refuses call.told a.command texts refusal tells a.there a.accepted
+    (subst (λ command. Refuses call.told command refusal) (same_command call.command f.command a.command f.words a.words) f.first)
 
--- and one refusal
+-- and it has one refusal
 one_refusal : (call : Call) (one other : Refusal) → IsSome call.told → HasRefused call one → HasRefused call other → one ≡ other
 one_refusal call one other tells p q =
-    by call.told tells (subst (λ names. IsFirstRefusal call.told names one) (same_names call.command p.names q.names p.command q.command) p.first) q.first
-  where
-    by : (told : Option (List ℕ → Option (List ℕ))) → IsSome told → IsFirstRefusal told q.names one → IsFirstRefusal told q.names other → one ≡ other
-    by None s f g = absurd (false≢true s)
-    by (Some folder) s f g = one_first_refusal folder q.names one other f g
+    refuses_once call.told q.command one other tells
+    (subst (λ command. Refuses call.told command one) (same_command call.command p.command q.command p.words q.words) p.first) q.first
 
 -- words that are a command are not none
-not_none : (command : Option Command) (names : TextNames) → command ≡ Some (run names) → command ≡ None → ⊥
-not_none command names e f = none (sym e ∙ f)
+not_none : (command : Option Command) (asked : Command) → command ≡ Some asked → command ≡ None → ⊥
+not_none command asked e f = none (sym e ∙ f)
   where
-    none : Some (run names) ≡ None → ⊥
+    none : Some asked ≡ None → ⊥
     none h = absurd (cc)
 
--- the folder of a run, as the texts were asked for
-pub keeps_folder : {F : Type 0} (texts : F → Option (List ℕ → Option (List ℕ))) (fetch_count : F → ℕ) (command : Option Command) (names : TextNames) (before after : F)
-    → command ≡ Some (run names) → texts after ≡ texts before → IsAskedNoMore (texts before) names (fetch_count before) (fetch_count after)
+-- the folder of a command, as the texts were asked for
+pub keeps_folder : {F : Type 0} (texts : F → Option (List ℕ → Option (List ℕ))) (fetch_count : F → ℕ) (command : Option Command) (asked : Command) (before after : F)
+    → command ≡ Some asked → texts after ≡ texts before → AsksNoMore (texts before) asked (fetch_count before) (fetch_count after)
     → KeepsFolder texts fetch_count command before after
-keeps_folder texts fetch_count command names before after e stay asked = record {
+keeps_folder texts fetch_count command asked before after e stay no_more = record {
   texts_stay = stay;
-  nothing_read = λ none. absurd (not_none command names e none);
-  asked_no_more = λ other f. subst (λ names. IsAskedNoMore (texts before) names (fetch_count before) (fetch_count after)) (same_names command names other e f) asked;
+  nothing_read = λ none. absurd (not_none command asked e none);
+  asked_no_more = λ other f. subst (λ command. AsksNoMore (texts before) command (fetch_count before) (fetch_count after)) (same_command command asked other e f) no_more;
 }
 
 -- ---- what texts bring about
@@ -94,7 +123,7 @@ pub record IsToldOf (call : Call) (status : Status) : Type 0 where
 
 refuses : (call : Call) (status : Status) → IsToldOf call status → (refusal : Refusal) → IsSome call.told → HasRefused call refusal → IsRefusalEnd refusal status
 refuses call Done s refusal tells first = let p = s.done refl in absurd (accepted_and_refused call p.0 refusal tells p.1 first)
-refuses call BadWords s refusal tells first = absurd (not_none call.command first.names first.command (s.bad_words refl))
+refuses call BadWords s refusal tells first = absurd (not_none call.command first.command first.words (s.bad_words refl))
 refuses call (Refused other) s refusal tells first = inl (ap Refused (one_refusal call other refusal tells (s.refused other refl) first))
 refuses call ReadFault s refusal tells first = inr (inl refl)
 refuses call WriteFault s refusal tells first = let p = s.cut_off refl in absurd (accepted_and_refused call p.0 refusal tells p.1 first)
@@ -102,7 +131,7 @@ refuses call NoMemory s refusal tells first = inr (inr refl)
 
 completes : (call : Call) (status : Status) → IsToldOf call status → (texts : Texts) → IsSome call.told → HasAccepted call texts → IsRunEnd status
 completes call Done s texts tells a = inl refl
-completes call BadWords s texts tells a = absurd (not_none call.command a.names a.command (s.bad_words refl))
+completes call BadWords s texts tells a = absurd (not_none call.command a.command a.words (s.bad_words refl))
 completes call (Refused refusal) s texts tells a = absurd (accepted_and_refused call texts refusal tells a (s.refused refusal refl))
 completes call ReadFault s texts tells a = inr (inl refl)
 completes call WriteFault s texts tells a = inr (inr (inl refl))

@@ -1,4 +1,4 @@
--- Three texts that are there are accepted, or one of them is the first that is refused.
+-- Texts that are there are accepted, or one of them is the first that is refused.
 use Rattle.std.proofs.Common.{List, Option, subst, ◌⊎◌, inl, inr}
 use Rattle.std.specs.Prelude.{ℕ}
 use Rattle.fw_lines.specs.declared.refusal.Refusal.{Refusal}
@@ -8,8 +8,10 @@ use Rattle.fw_flow_text.specs.Grammar as flows
 use Rattle.fw_flow_text.proofs.ReadLaws.{some_answer as some_flow}
 use Rattle.fw_schedule.specs.Grammar as schedules
 use Rattle.fw_schedule.proofs.ReadLaws.{some_answer as some_schedule}
-use Rattle.fw_run.specs.Texts.{Texts, spelled_flow, IsFlow, AreInputsOf, AreAccepted, HasText, AreThere, IsFirstRefusal}
-use Rattle.fw_run.specs.Words.{TextNames}
+use Rattle.fw_outside.specs.Outside.{IsText}
+use Rattle.fw_run.specs.Call.{HasTexts, Accepts, Refuses}
+use Rattle.fw_run.specs.Texts.{Texts, spelled_flow, IsFlow, AreInputsOf, AreAccepted, HasText, AreThere, IsFlowRefused, IsFirstRefusal}
+use Rattle.fw_run.specs.Words.{Command, run, check, TextNames}
 
 -- where the flow is accepted
 decided_inputs : (told : Option (List ℕ → Option (List ℕ))) (names : TextNames) (texts : Texts) → AreThere told names texts → IsFlow texts.flow
@@ -23,13 +25,25 @@ decided_inputs told names texts t accepted =
           let second : AreInputsOf flow texts.inputs = record { size = read.1.size; sound = read.1.sound } in
           elim (some_schedule texts.schedule flow) [
             | inr refused ↦ inr (refused.0, inr (flow, first, inr (record { text = texts.inputs; there = t.inputs; so = second }, record { text = texts.schedule; there = t.schedule; so = refused.1 })))
-            | inl steps ↦ inl (record { flow = accepted; inputs = second; schedule = subst (schedules.IsAccepted texts.schedule flow) steps.1.value steps.1 })
+            | inl items ↦ inl (record { flow = accepted; inputs = second; schedule = subst (schedules.IsAccepted texts.schedule flow) items.1.value items.1 })
           ]
     ]
 
-pub texts-decided : (told : Option (List ℕ → Option (List ℕ))) (names : TextNames) (texts : Texts) → AreThere told names texts
+run-decided : (told : Option (List ℕ → Option (List ℕ))) (names : TextNames) (texts : Texts) → AreThere told names texts
     → AreAccepted texts ⊎ ((refusal : Refusal) × IsFirstRefusal told names refusal)
-texts-decided told names texts t = elim (some_flow texts.flow) [
+run-decided told names texts t = elim (some_flow texts.flow) [
   | inl read ↦ decided_inputs told names texts t (subst (flows.IsAccepted texts.flow) read.1.checked.value read.1)
   | inr refused ↦ inr (refused.0, inl (record { text = texts.flow; there = t.flow; so = refused.1 }))
 ]
+
+flow-decided : (told : Option (List ℕ → Option (List ℕ))) (name text : List ℕ) → IsText told name text → IsFlow text ⊎ ((refusal : Refusal) × IsFlowRefused told name refusal)
+flow-decided told name text t = elim (some_flow text) [
+  | inl read ↦ inl (subst (flows.IsAccepted text) read.1.checked.value read.1)
+  | inr refused ↦ inr (refused.0, record { text = text; there = t; so = refused.1 })
+]
+
+-- the texts of a command
+pub texts-decided : (told : Option (List ℕ → Option (List ℕ))) (command : Command) (texts : Texts) → HasTexts told command texts
+    → Accepts command texts ⊎ ((refusal : Refusal) × Refuses told command refusal)
+texts-decided told (run names) texts t = run-decided told names texts t
+texts-decided told (check name) texts t = flow-decided told name texts.flow t

@@ -1,8 +1,8 @@
 -- How a run goes on, and what was printed of it so far.
-use Rattle.std.proofs.Common.{◌≡◌, ℕ, zero, suc, get_or, ◌+◌, ◌<◌, ◌≤◌, Bool, true, false, List, [], ◌∷◌, ◌++◌, length, take, drop, Option, Some, None, option_map, Result, Ok, Err, refl, sym, ◌∙◌, ap, subst, arith, append_assoc, inl, inr, cond}
+use Rattle.std.proofs.Common.{◌≡◌, ℕ, zero, suc, get_or, ◌+◌, ◌-◌, ◌<◌, ◌≤◌, Bool, true, false, List, [], ◌∷◌, ◌++◌, length, take, drop, Option, Some, None, option_map, Result, Ok, Err, refl, sym, ◌∙◌, ap, subst, arith, append_assoc, inl, inr, cond}
 use Rattle.std.proofs.Math.Seq.{take-append-add}
 use Rattle.std.proofs.lemmas.Grind.{flat_map-append}
-use Rattle.std.proofs.lemmas.List.{append-nil, length-append, take-append-le, take-append-drop, drop_more, take_more}
+use Rattle.std.proofs.lemmas.List.{append-nil, length-append, take-append-le, take-append-drop, drop_more, take_more, take_all}
 use Rattle.fw_outside.specs.declared.fault.OutFault.{OutFault}
 use Rattle.fw_outside.specs.declared.fault.OutFault.TheVariants.{Failed, NoMemory}
 use Rattle.std.specs.Prelude.{OnOk, OnErr}
@@ -11,15 +11,23 @@ use Rattle.fw_outside.specs.Outside.{SinkView, Rose, Takes, TakesPrefix}
 use Rattle.fw_flow.specs.declared.step.Step.{Step}
 use Rattle.fw_flow.specs.Dataflow.{Dataflow, System}
 use Rattle.fw_flow.specs.WellFormed.{IsWellFormedSystem}
+use Rattle.fw_schedule.specs.declared.item.Item.{Item}
+use Rattle.fw_schedule.specs.declared.item.Item.TheVariants.{One, Auto}
+use Rattle.fw_schedule.specs.Schedule.{steps_in, step_count}
+use Rattle.fw_model.proofs.AutoLaws.{auto-goes_on}
 use Rattle.fw_model.proofs.ChoosingLaws.{reached-one_next}
 use Rattle.fw_model.proofs.GoingOn.{runs-go_on}
 use Rattle.fw_model.proofs.OneNextLaws.{one_next}
+use Rattle.fw_model.specs.Auto.{auto_steps, AreIdle, TakesFirst, IsAutoRun}
 use Rattle.fw_model.specs.Machine.{Machine, first_state}
-use Rattle.fw_model.specs.Steps.{Outcome, StepsTo, Run}
+use Rattle.fw_model.specs.Steps.{Effect, Outcome, did, idle, StepsTo, Run}
 use Rattle.fw_plain.specs.EffectText.{outcome_text}
 use Rattle.fw_plain.specs.Engine.{Standing}
+use Rattle.fw_run.proofs.ItemLaws.{item-run, item-few, comes-on, comes-next, ItemsRun, items-run}
 use Rattle.fw_run.proofs.Roses.{rose_last}
-use Rattle.fw_run.specs.Performing.{IsStepPrinted, IsStepCutOff, Performs}
+use Rattle.fw_run.specs.declared.perform.Taken.{Taken}
+use Rattle.fw_run.specs.Items.{ComesTo}
+use Rattle.fw_run.specs.Performing.{IsUnderWay, ItemRun, IsItemPrinted, IsItemCutOff, Performs}
 use Rattle.fw_run.specs.Printed.{outcomes_text, is_idle, idle_count, done_line, text_of}
 use Rattle.fw_run.specs.Writing.{IsWritten, IsCutOff, Writes}
 
@@ -124,164 +132,390 @@ writes {T} bytes (Err fault) before after whole part stay failed never = record 
     with_fault : OutFault → Result T OutFault
     with_fault f = Err f
 
+-- ---- what was printed of an item
+
+idle-append : (outcomes others : List Outcome) → idle_count (outcomes ++ others) ≡ idle_count outcomes + idle_count others
+idle-append [] others = omega arith
+idle-append (x ∷ outcomes) others = both (is_idle x) (idle_count (outcomes ++ others)) (idle_count outcomes) (idle_count others) (idle-append outcomes others)
+  where
+    both : (b : Bool) (n m k : ℕ) → n ≡ m + k → cond b (n + 1) n ≡ cond b (m + 1) m + k
+    both true n m k e = omega (arith, e)
+    both false n m k e = e
+
+text-append : (flow : Dataflow) (outcomes others : List Outcome) → outcomes_text flow (outcomes ++ others) ≡ outcomes_text flow outcomes ++ outcomes_text flow others
+text-append flow outcomes others = flat_map-append (outcome_text flow) outcomes others
+
+text_of_one : (flow : Dataflow) (outcome : Outcome) → outcomes_text flow (outcome ∷ []) ≡ outcome_text flow outcome
+text_of_one flow outcome = append-nil (outcome_text flow outcome)
+
+-- the lines of an item's steps were cut off by a fault before the first one
+pub item_cut-before : (old : Standing) (item : Item) (fault : OutFault) (before after : SinkView) → IsUnderWay old → IsCutOff [] fault before after → IsItemCutOff old item fault before after
+item_cut-before old item fault before after u c =
+    let found = item-run old.sys u.well_formed u.before u.outcomes old.state u.run item in
+    record { of_item = found; part = cut_more [] [] (outcomes_text old.sys.flow found.outcomes) fault before before after (written_nothing before) c }
+
+-- a step was taken, and its lines were written, or cut off
+pub step_printed : (old new : Standing) (step : Step) (outcome : Outcome) (taken : Taken) (before after : SinkView) → StepsTo old.sys old.state step new.state outcome
+    → taken ≡ record { steps = 1; idle = cond (is_idle outcome) 1 0 } → IsWritten (outcome_text old.sys.flow outcome) before after
+    → IsItemPrinted old new (One step) taken before after
+step_printed old new step outcome taken before after t e w = record {
+  of_item = record { steps = step ∷ []; outcomes = outcome ∷ []; last = new.state; comes = (outcome, t, refl); run = (new.state, t, refl) };
+  last = refl;
+  steps = ap (λ (n : Taken). n.steps) e;
+  idle = ap (λ (n : Taken). n.idle) e;
+  written = subst (λ bytes. IsWritten bytes before after) (sym (text_of_one old.sys.flow outcome)) w;
+}
+
+pub step_cut : (old : Standing) (step : Step) (next : Machine) (outcome : Outcome) (fault : OutFault) (before after : SinkView) → StepsTo old.sys old.state step next outcome
+    → IsCutOff (outcome_text old.sys.flow outcome) fault before after → IsItemCutOff old (One step) fault before after
+step_cut old step next outcome fault before after t c = record {
+  of_item = record { steps = step ∷ []; outcomes = outcome ∷ []; last = next; comes = (outcome, t, refl); run = (next, t, refl) };
+  part = subst (λ bytes. IsCutOff bytes fault before after) (sym (text_of_one old.sys.flow outcome)) c;
+}
+
+-- ---- what `auto` printed
+
+-- So many steps were taken by themselves, and their lines were written.
+pub record IsAutoSoFar (old new : Standing) (count : ℕ) (before after : SinkView) : Type 0 where
+  pub system : new.sys ≡ old.sys
+  pub steps : List Step
+  pub full : length steps ≡ count
+  pub comes : IsAutoRun old.sys old.state (length steps) steps new.state
+  pub outcomes : List Outcome
+  pub run : Run old.sys old.state steps outcomes new.state
+  pub none_idle : idle_count outcomes ≡ 0
+  pub written : IsWritten (outcomes_text old.sys.flow outcomes) before after
+
+pub auto-none : (old : Standing) (view : SinkView) → IsAutoSoFar old old 0 view view
+auto-none old view = record {
+  system = refl;
+  steps = [];
+  full = refl;
+  comes = refl;
+  outcomes = [];
+  run = refl;
+  none_idle = refl;
+  written = written_nothing view;
+}
+
+-- what the first that is enabled came to, as a step of the first standing's system
+auto-one_more : (old mid : Standing) (next : Machine) (effect : Effect) → mid.sys ≡ old.sys → TakesFirst mid.sys mid.state (auto_steps mid.sys.flow) next (did effect)
+    → (step : Step) × IsAutoRun old.sys mid.state (suc zero) (step ∷ []) next × Run old.sys mid.state (step ∷ []) (did effect ∷ []) next
+auto-one_more old mid next effect e t =
+    let one : TakesFirst old.sys mid.state (auto_steps old.sys.flow) next (did effect) = subst (λ sys. TakesFirst sys mid.state (auto_steps sys.flow) next (did effect)) e t in
+    (one.0, (next, effect, one.1, refl), (next, one.1.leads, refl))
+
+-- one step more was taken, and its lines were written
+pub auto-more : (old mid new : Standing) (effect : Effect) (count : ℕ) (before between after : SinkView) → IsAutoSoFar old mid count before between → new.sys ≡ mid.sys
+    → TakesFirst mid.sys mid.state (auto_steps mid.sys.flow) new.state (did effect) → IsWritten (outcome_text mid.sys.flow (did effect)) between after
+    → IsAutoSoFar old new (count + 1) before after
+auto-more old mid new effect count before between after s e t w =
+    let one = auto-one_more old mid new.state effect s.system t in
+    let line : IsWritten (outcome_text old.sys.flow (did effect)) between after = subst (λ sys. IsWritten (outcome_text sys.flow (did effect)) between after) s.system w in
+    let longer : length (s.steps ++ one.0 ∷ []) ≡ length s.steps + suc zero = length-append s.steps (one.0 ∷ []) in
+    record {
+      system = e ∙ s.system;
+      steps = s.steps ++ one.0 ∷ [];
+      full = omega (arith, longer, s.full);
+      comes = subst (λ n. IsAutoRun old.sys old.state n (s.steps ++ one.0 ∷ []) new.state) (sym longer) (auto-goes_on old.sys old.state mid.state new.state s.steps (one.0 ∷ []) (suc zero) s.comes one.1);
+      outcomes = s.outcomes ++ did effect ∷ [];
+      run = runs-go_on old.sys old.state mid.state new.state s.steps (one.0 ∷ []) s.outcomes (did effect ∷ []) s.run one.2;
+      none_idle = omega (arith, idle-append s.outcomes (did effect ∷ []), s.none_idle);
+      written = subst (λ bytes. IsWritten bytes before after)
+          (sym (text-append old.sys.flow s.outcomes (did effect ∷ []) ∙ ap (λ bytes. outcomes_text old.sys.flow s.outcomes ++ bytes) (text_of_one old.sys.flow (did effect))))
+          (written_more (outcomes_text old.sys.flow s.outcomes) (outcome_text old.sys.flow (did effect)) before between after s.written line);
+    }
+
+-- steps that are taken by themselves behind others, to as many as may be taken
+auto_on : (old mid : Standing) (last : Machine) (count rest most : ℕ) (before between : SinkView) (others : List Step) (s : IsAutoSoFar old mid count before between)
+    → IsAutoRun old.sys mid.state rest others last → most ≡ count + rest → IsAutoRun old.sys old.state most (s.steps ++ others) last
+auto_on old mid last count rest most before between others s a e =
+    let all : length s.steps + rest ≡ most = omega (arith, e, s.full) in
+    subst (λ n. IsAutoRun old.sys old.state n (s.steps ++ others) last) all (auto-goes_on old.sys old.state mid.state last s.steps others rest s.comes a)
+
+-- they end where none is enabled
+pub auto-ends_idle : (old mid new : Standing) (count most : ℕ) (taken : Taken) (before after : SinkView) → IsAutoSoFar old mid count before after → count < most
+    → TakesFirst mid.sys mid.state (auto_steps mid.sys.flow) new.state idle → taken ≡ record { steps = count; idle = 0 }
+    → IsItemPrinted old new (Auto most) taken before after
+auto-ends_idle old mid new count most taken before after s below t e =
+    let none : AreIdle old.sys mid.state (auto_steps old.sys.flow) = subst (λ sys. AreIdle sys mid.state (auto_steps sys.flow)) s.system t.0 in
+    let last : IsAutoRun old.sys mid.state (suc (most - count - 1)) [] mid.state = (none, refl) in
+    let all : most ≡ count + suc (most - count - 1) = omega (arith, below) in
+    let comes : IsAutoRun old.sys old.state most s.steps mid.state = subst (λ (steps : List Step). IsAutoRun old.sys old.state most steps mid.state) (append-nil s.steps)
+    (auto_on old mid mid.state count (suc (most - count - 1)) most before after [] s last all) in
+    record {
+      of_item = record { steps = s.steps; outcomes = s.outcomes; last = mid.state; comes = comes; run = s.run };
+      last = t.1;
+      steps = ap (λ (n : Taken). n.steps) e ∙ sym s.full;
+      idle = ap (λ (n : Taken). n.idle) e ∙ sym s.none_idle;
+      written = s.written;
+    }
+
+-- or where as many were taken as may be
+pub auto-ends_full : (old new : Standing) (count most : ℕ) (taken : Taken) (before after : SinkView) → IsAutoSoFar old new count before after → count ≡ most
+    → taken ≡ record { steps = most; idle = 0 } → IsItemPrinted old new (Auto most) taken before after
+auto-ends_full old new count most taken before after s all e =
+    let comes : IsAutoRun old.sys old.state most s.steps new.state = subst (λ n. IsAutoRun old.sys old.state n s.steps new.state) (s.full ∙ all) s.comes in
+    record {
+      of_item = record { steps = s.steps; outcomes = s.outcomes; last = new.state; comes = comes; run = s.run };
+      last = refl;
+      steps = ap (λ (n : Taken). n.steps) e ∙ sym (s.full ∙ all);
+      idle = ap (λ (n : Taken). n.idle) e ∙ sym s.none_idle;
+      written = s.written;
+    }
+
+-- the lines were cut off behind those of these steps, with others to come
+auto_cut : (old mid : Standing) (last : Machine) (count rest most : ℕ) (fault : OutFault) (before between after : SinkView) (others : List Step) (more : List Outcome) (front back : List ℕ)
+    → IsAutoSoFar old mid count before between → IsAutoRun old.sys mid.state rest others last → Run old.sys mid.state others more last → most ≡ count + rest
+    → outcomes_text old.sys.flow more ≡ front ++ back → IsCutOff front fault between after → IsItemCutOff old (Auto most) fault before after
+auto_cut old mid last count rest most fault before between after others more front back s a r e split c =
+    let whole : outcomes_text old.sys.flow (s.outcomes ++ more) ≡ outcomes_text old.sys.flow s.outcomes ++ (front ++ back) =
+    text-append old.sys.flow s.outcomes more ∙ ap (λ bytes. outcomes_text old.sys.flow s.outcomes ++ bytes) split in
+    record {
+      of_item = record {
+        steps = s.steps ++ others;
+        outcomes = s.outcomes ++ more;
+        last = last;
+        comes = auto_on old mid last count rest most before between others s a e;
+        run = runs-go_on old.sys old.state mid.state last s.steps others s.outcomes more s.run r;
+      };
+      part = subst (λ bytes. IsCutOff bytes fault before after) (sym whole) (cut_more (outcomes_text old.sys.flow s.outcomes) front back fault before between after s.written c);
+    }
+
+-- by a fault before the next line
+pub auto_cut-before : (old mid : Standing) (count most : ℕ) (fault : OutFault) (before between after : SinkView) → IsUnderWay old → IsAutoSoFar old mid count before between → count ≤ most
+    → IsCutOff [] fault between after → IsItemCutOff old (Auto most) fault before after
+auto_cut-before old mid count most fault before between after u s h c =
+    let reached = runs-go_on old.sys (first_state old.sys) old.state mid.state u.before s.steps u.outcomes s.outcomes u.run s.run in
+    let rest = item-run old.sys u.well_formed (u.before ++ s.steps) (u.outcomes ++ s.outcomes) mid.state reached (Auto (most - count)) in
+    auto_cut old mid rest.last count (most - count) most fault before between after rest.steps rest.outcomes [] (outcomes_text old.sys.flow rest.outcomes) s rest.comes rest.run (omega (arith, h)) refl c
+
+-- within the lines of the next step
+pub auto_cut-within : (old mid : Standing) (next : Machine) (effect : Effect) (count most : ℕ) (fault : OutFault) (before between after : SinkView) → IsUnderWay old → IsAutoSoFar old mid count before between
+    → count < most → TakesFirst mid.sys mid.state (auto_steps mid.sys.flow) next (did effect) → IsCutOff (outcome_text mid.sys.flow (did effect)) fault between after
+    → IsItemCutOff old (Auto most) fault before after
+auto_cut-within old mid next effect count most fault before between after u s h t c =
+    let one = auto-one_more old mid next effect s.system t in
+    let line : IsCutOff (outcome_text old.sys.flow (did effect)) fault between after = subst (λ sys. IsCutOff (outcome_text sys.flow (did effect)) fault between after) s.system c in
+    let reached = runs-go_on old.sys (first_state old.sys) old.state mid.state u.before s.steps u.outcomes s.outcomes u.run s.run in
+    let further = runs-go_on old.sys (first_state old.sys) mid.state next (u.before ++ s.steps) (one.0 ∷ []) (u.outcomes ++ s.outcomes) (did effect ∷ []) reached one.2 in
+    let rest = item-run old.sys u.well_formed (u.before ++ s.steps ++ one.0 ∷ []) (u.outcomes ++ s.outcomes ++ did effect ∷ []) next further (Auto (most - count - 1)) in
+    let count_on : length (one.0 ∷ []) + (most - count - 1) ≡ most - count = omega (arith, h) in
+    let comes : IsAutoRun old.sys mid.state (most - count) (one.0 ∷ rest.steps) rest.last =
+    subst (λ n. IsAutoRun old.sys mid.state n (one.0 ∷ rest.steps) rest.last) count_on (auto-goes_on old.sys mid.state next rest.last (one.0 ∷ []) rest.steps (most - count - 1) one.1 rest.comes) in
+    let run : Run old.sys mid.state (one.0 ∷ rest.steps) (did effect ∷ rest.outcomes) rest.last = runs-go_on old.sys mid.state next rest.last (one.0 ∷ []) rest.steps (did effect ∷ []) rest.outcomes one.2 rest.run in
+    auto_cut old mid rest.last count (most - count) most fault before between after (one.0 ∷ rest.steps) (did effect ∷ rest.outcomes) (outcome_text old.sys.flow (did effect)) (outcomes_text old.sys.flow rest.outcomes)
+    s comes run (omega (arith, h)) refl line
+
 -- ---- what was printed so far
 
--- The engine stands for the state after these steps of a run, and the lines of their outcomes were written.
-pub record IsSoFar (sys : System) (steps : List Step) (standing : Standing) (idle_steps : ℕ) (before after : SinkView) : Type 0 where
+-- The engine stands for the state after the steps to which these items come, which are so many and so many idle, and their lines
+-- were written.
+pub record IsSoFar (sys : System) (items : List Item) (standing : Standing) (taken idle_steps : ℕ) (before after : SinkView) : Type 0 where
   pub system : standing.sys ≡ sys
+  pub steps : List Step
+  pub comes : ComesTo sys (first_state sys) items steps standing.state
   pub outcomes : List Outcome
   pub run : Run sys (first_state sys) steps outcomes standing.state
+  pub count : taken ≡ length steps
   pub idle : idle_steps ≡ idle_count outcomes
   pub written : IsWritten (outcomes_text sys.flow outcomes) before after
 
 -- an engine to which nothing has happened
-pub none_so_far : (sys : System) (standing : Standing) (view : SinkView) → standing ≡ record { sys = sys; state = first_state sys; refused = false } → IsSoFar sys [] standing 0 view view
+pub none_so_far : (sys : System) (standing : Standing) (view : SinkView) → standing ≡ record { sys = sys; state = first_state sys; refused = false } → IsSoFar sys [] standing 0 0 view view
 none_so_far sys standing view e = record {
   system = ap (λ (s : Standing). s.sys) e;
+  steps = [];
+  comes = (refl, ap (λ (s : Standing). s.state) e);
   outcomes = [];
   run = ap (λ (s : Standing). s.state) e;
+  count = refl;
   idle = refl;
   written = written_nothing view;
 }
 
-count_more : (outcomes : List Outcome) (o : Outcome) → idle_count (outcomes ++ o ∷ []) ≡ cond (is_idle o) (idle_count outcomes + 1) (idle_count outcomes)
-count_more [] o = refl
-count_more (x ∷ outcomes) o = both (is_idle x) (is_idle o) (idle_count (outcomes ++ o ∷ [])) (idle_count outcomes) (count_more outcomes o)
-  where
-    both : (b c : Bool) (n m : ℕ) → n ≡ cond c (m + 1) m → cond b (n + 1) n ≡ cond c (cond b (m + 1) m + 1) (cond b (m + 1) m)
-    both true true n m e = ap (λ k. k + 1) e
-    both true false n m e = ap (λ k. k + 1) e
-    both false true n m e = e
-    both false false n m e = e
-
--- a step of a standing's system, as one of the system
-along : (sys : System) (standing : Standing) (P : System → Type 0) → standing.sys ≡ sys → P standing.sys → P sys
-along sys standing P e = subst P e
-
--- one step more was taken and printed
-pub so_far_more : (sys : System) (steps : List Step) (old new : Standing) (step : Step) (idle_steps : ℕ) (was_idle : Bool) (before mid after : SinkView)
-    → IsSoFar sys steps old idle_steps before mid → new.sys ≡ old.sys → IsStepPrinted old new step was_idle mid after
-    → IsSoFar sys (steps ++ step ∷ []) new (cond was_idle (idle_steps + 1) idle_steps) before after
-so_far_more sys steps old new step idle_steps was_idle before mid after s e p =
-    let o = p.outcome in
-    let one : StepsTo sys old.state step new.state o = along sys old (λ y. StepsTo y old.state step new.state o) s.system p.steps in
-    let line : IsWritten (outcome_text sys.flow o) mid after = along sys old (λ y. IsWritten (outcome_text y.flow o) mid after) s.system p.written in
+-- the engine is under way
+pub is_under_way : (sys : System) (items : List Item) (standing : Standing) (taken idle_steps : ℕ) (before after : SinkView) → IsWellFormedSystem sys
+    → IsSoFar sys items standing taken idle_steps before after → IsUnderWay standing
+is_under_way sys items standing taken idle_steps before after w s =
+    let run : (y : System) → y ≡ sys → Run y (first_state y) s.steps s.outcomes standing.state = λ y e. subst (λ z. Run z (first_state z) s.steps s.outcomes standing.state) (sym e) s.run in
     record {
-      system = e ∙ s.system;
-      outcomes = s.outcomes ++ o ∷ [];
-      run = runs-go_on sys (first_state sys) old.state new.state steps (step ∷ []) s.outcomes (o ∷ []) s.run (new.state, one, refl);
-      idle = ap (λ b. cond b (idle_steps + 1) idle_steps) p.is_idle ∙ ap (λ n. cond (is_idle o) (n + 1) n) s.idle ∙ sym (count_more s.outcomes o);
-      written = subst (λ t. IsWritten t before after) (sym (flat_map-append (outcome_text sys.flow) s.outcomes (o ∷ []) ∙ ap (λ t. outcomes_text sys.flow s.outcomes ++ t) (append-nil (outcome_text sys.flow o))))
-          (written_more (outcomes_text sys.flow s.outcomes) (outcome_text sys.flow o) before mid after s.written line);
+      well_formed = subst IsWellFormedSystem (sym s.system) w;
+      before = s.steps;
+      outcomes = s.outcomes;
+      run = run standing.sys s.system;
     }
 
--- a run of which first outcomes are these prints their lines first
-text_from : (flow : Dataflow) (first second : List Outcome) → text_of flow (first ++ second) ≡ outcomes_text flow first ++ (outcomes_text flow second ++ done_line (length (first ++ second)) (idle_count (first ++ second)))
-text_from flow first second =
-    ap (λ t. t ++ done_line (length (first ++ second)) (idle_count (first ++ second))) (flat_map-append (outcome_text flow) first second)
-    ∙ append_assoc (outcomes_text flow first) (outcomes_text flow second) (done_line (length (first ++ second)) (idle_count (first ++ second)))
+-- an item's run in a standing's system, as one in the system
+item_along : (sys : System) (standing : Standing) (item : Item) → standing.sys ≡ sys → ItemRun standing.sys standing.state item → ItemRun sys standing.state item
+item_along sys standing item e r = subst (λ y. ItemRun y standing.state item) e r
+
+-- one item more was taken and printed
+pub so_far_more : (sys : System) (items : List Item) (old new : Standing) (item : Item) (taken idle_steps : ℕ) (of_item : Taken) (before mid after : SinkView)
+    → IsSoFar sys items old taken idle_steps before mid → new.sys ≡ old.sys → IsItemPrinted old new item of_item mid after
+    → IsSoFar sys (items ++ item ∷ []) new (taken + of_item.steps) (idle_steps + of_item.idle) before after
+so_far_more sys items old new item taken idle_steps of_item before mid after s e p = by old.sys s.system p.of_item p.last p.steps p.idle p.written
+  where
+    by : (y : System) → y ≡ sys → (r : ItemRun y old.state item) → new.state ≡ r.last → of_item.steps ≡ length r.steps → of_item.idle ≡ idle_count r.outcomes
+        → IsWritten (outcomes_text y.flow r.outcomes) mid after → IsSoFar sys (items ++ item ∷ []) new (taken + of_item.steps) (idle_steps + of_item.idle) before after
+    by y f = subst (λ (z : System). (r : ItemRun z old.state item) → new.state ≡ r.last → of_item.steps ≡ length r.steps → of_item.idle ≡ idle_count r.outcomes
+    → IsWritten (outcomes_text z.flow r.outcomes) mid after → IsSoFar sys (items ++ item ∷ []) new (taken + of_item.steps) (idle_steps + of_item.idle) before after) (sym f)
+    (λ r last count idle w. record {
+      system = e ∙ s.system;
+      steps = s.steps ++ r.steps;
+      comes = subst (λ (m : Machine). ComesTo sys (first_state sys) (items ++ item ∷ []) (s.steps ++ r.steps) m) (sym last)
+          (comes-next sys (first_state sys) old.state r.last items item s.steps r.steps s.comes r.comes);
+      outcomes = s.outcomes ++ r.outcomes;
+      run = subst (λ (m : Machine). Run sys (first_state sys) (s.steps ++ r.steps) (s.outcomes ++ r.outcomes) m) (sym last)
+          (runs-go_on sys (first_state sys) old.state r.last s.steps r.steps s.outcomes r.outcomes s.run r.run);
+      count = omega (arith, s.count, count, length-append s.steps r.steps);
+      idle = omega (arith, s.idle, idle, idle-append s.outcomes r.outcomes);
+      written = subst (λ bytes. IsWritten bytes before after) (sym (text-append sys.flow s.outcomes r.outcomes))
+          (written_more (outcomes_text sys.flow s.outcomes) (outcomes_text sys.flow r.outcomes) before mid after s.written w);
+    })
 
 -- what is cut off behind these lines is first bytes of the text of a run that goes on
-cut_off : {T : Type 0} (sys : System) (steps others : List Step) (standing : Standing) (idle_steps : ℕ) (fault : OutFault) (before mid after : SinkView) (s : IsSoFar sys steps standing idle_steps before mid)
-    (second : List Outcome) (last : Machine) (front rest : List ℕ) → Run sys standing.state others second last
-    → outcomes_text sys.flow second ++ done_line (length (s.outcomes ++ second)) (idle_count (s.outcomes ++ second)) ≡ front ++ rest
-    → IsCutOff front fault mid after → Performs {T = T} sys (steps ++ others) (Err fault) before after
-cut_off sys steps others standing idle_steps fault before mid after s second last front rest r e c =
-    let same : text_of sys.flow (s.outcomes ++ second) ≡ outcomes_text sys.flow s.outcomes ++ (front ++ rest) =
-    text_from sys.flow s.outcomes second ∙ ap (λ t. outcomes_text sys.flow s.outcomes ++ t) e in
+cut_off : {T : Type 0} (sys : System) (items others : List Item) (standing : Standing) (taken idle_steps : ℕ) (fault : OutFault) (before mid after : SinkView) (s : IsSoFar sys items standing taken idle_steps before mid)
+    (more : ItemsRun sys standing.state others) (front rest : List ℕ)
+    → outcomes_text sys.flow more.outcomes ++ done_line (length (s.outcomes ++ more.outcomes)) (idle_count (s.outcomes ++ more.outcomes)) ≡ front ++ rest
+    → IsCutOff front fault mid after → Performs {T = T} sys (items ++ others) (Err fault) before after
+cut_off sys items others standing taken idle_steps fault before mid after s more front rest e c =
+    let last = done_line (length (s.outcomes ++ more.outcomes)) (idle_count (s.outcomes ++ more.outcomes)) in
+    let same : text_of sys.flow (s.outcomes ++ more.outcomes) ≡ outcomes_text sys.flow s.outcomes ++ (front ++ rest) =
+    ap (λ t. t ++ last) (text-append sys.flow s.outcomes more.outcomes)
+    ∙ append_assoc (outcomes_text sys.flow s.outcomes) (outcomes_text sys.flow more.outcomes) last
+    ∙ ap (λ t. outcomes_text sys.flow s.outcomes ++ t) e in
     record {
-      printed = text_of sys.flow (s.outcomes ++ second);
+      printed = text_of sys.flow (s.outcomes ++ more.outcomes);
       text = record {
-        outcomes = s.outcomes ++ second;
-        last = last;
-        run = runs-go_on sys (first_state sys) standing.state last steps others s.outcomes second s.run r;
+        steps = s.steps ++ more.steps;
+        last = more.last;
+        comes = comes-on sys (first_state sys) standing.state more.last items others s.steps more.steps s.comes more.comes;
+        outcomes = s.outcomes ++ more.outcomes;
+        run = runs-go_on sys (first_state sys) standing.state more.last s.steps more.steps s.outcomes more.outcomes s.run more.run;
         text = refl;
       };
       written = subst (λ t. IsCutOff t fault before after) (sym same) (cut_more (outcomes_text sys.flow s.outcomes) front rest fault before mid after s.written c);
     }
 
--- the run stops before its next step
-stops_before : {T : Type 0} (sys : System) (steps others : List Step) (standing : Standing) (idle_steps : ℕ) (fault : OutFault) (before mid after : SinkView) → IsSoFar sys steps standing idle_steps before mid
-    → IsWellFormedSystem sys → IsCutOff [] fault mid after → Performs {T = T} sys (steps ++ others) (Err fault) before after
-stops_before sys steps others standing idle_steps fault before mid after s w c =
-    let rest = run_exists sys w steps s.outcomes standing.state s.run others in
-    cut_off sys steps others standing idle_steps fault before mid after s rest.0 rest.1 [] (outcomes_text sys.flow rest.0 ++ done_line (length (s.outcomes ++ rest.0)) (idle_count (s.outcomes ++ rest.0))) rest.2 refl c
+-- the run stops before its next item
+stops_before : {T : Type 0} (sys : System) (items others : List Item) (standing : Standing) (taken idle_steps : ℕ) (fault : OutFault) (before mid after : SinkView)
+    → IsSoFar sys items standing taken idle_steps before mid → IsWellFormedSystem sys → IsCutOff [] fault mid after → Performs {T = T} sys (items ++ others) (Err fault) before after
+stops_before sys items others standing taken idle_steps fault before mid after s w c =
+    let more = items-run sys w s.steps s.outcomes standing.state s.run others in
+    cut_off sys items others standing taken idle_steps fault before mid after s more [] (outcomes_text sys.flow more.outcomes ++ done_line (length (s.outcomes ++ more.outcomes)) (idle_count (s.outcomes ++ more.outcomes))) refl c
 
--- the run stops within the lines of a step, or before them
-stops_within : {T : Type 0} (sys : System) (steps others : List Step) (standing : Standing) (step : Step) (idle_steps : ℕ) (fault : OutFault) (before mid after : SinkView) → IsSoFar sys steps standing idle_steps before mid
-    → IsWellFormedSystem sys → IsStepCutOff standing step fault mid after → Performs {T = T} sys (steps ++ step ∷ others) (Err fault) before after
-stops_within sys steps others standing step idle_steps fault before mid after s w (inl c) = stops_before sys steps (step ∷ others) standing idle_steps fault before mid after s w c
-stops_within sys steps others standing step idle_steps fault before mid after s w (inr (next, o, t, c)) =
-    let one : StepsTo sys standing.state step next o = along sys standing (λ y. StepsTo y standing.state step next o) s.system t in
-    let line : IsCutOff (outcome_text sys.flow o) fault mid after = along sys standing (λ y. IsCutOff (outcome_text y.flow o) fault mid after) s.system c in
-    let further = runs-go_on sys (first_state sys) standing.state next steps (step ∷ []) s.outcomes (o ∷ []) s.run (next, one, refl) in
-    let rest = run_exists sys w (steps ++ step ∷ []) (s.outcomes ++ o ∷ []) next further others in
-    let tail = done_line (length (s.outcomes ++ o ∷ rest.0)) (idle_count (s.outcomes ++ o ∷ rest.0)) in
-    cut_off sys steps (step ∷ others) standing idle_steps fault before mid after s (o ∷ rest.0) rest.1 (outcome_text sys.flow o) (outcomes_text sys.flow rest.0 ++ tail) (next, one, rest.2) (append_assoc (outcome_text sys.flow o) (outcomes_text sys.flow rest.0) tail) line
+-- the run stops within the lines of an item, or before them
+stops_within : {T : Type 0} (sys : System) (items others : List Item) (standing : Standing) (item : Item) (taken idle_steps : ℕ) (fault : OutFault) (before mid after : SinkView)
+    → IsSoFar sys items standing taken idle_steps before mid → IsWellFormedSystem sys → IsItemCutOff standing item fault mid after
+    → Performs {T = T} sys (items ++ item ∷ others) (Err fault) before after
+stops_within {T} sys items others standing item taken idle_steps fault before mid after s w c = by standing.sys s.system c.of_item c.part
+  where
+    by : (y : System) → y ≡ sys → (r : ItemRun y standing.state item) → IsCutOff (outcomes_text y.flow r.outcomes) fault mid after → Performs {T = T} sys (items ++ item ∷ others) (Err fault) before after
+    by y f = subst (λ (z : System). (r : ItemRun z standing.state item) → IsCutOff (outcomes_text z.flow r.outcomes) fault mid after → Performs {T = T} sys (items ++ item ∷ others) (Err fault) before after) (sym f)
+    (λ r part.
+      let further = runs-go_on sys (first_state sys) standing.state r.last s.steps r.steps s.outcomes r.outcomes s.run r.run in
+      let rest = items-run sys w (s.steps ++ r.steps) (s.outcomes ++ r.outcomes) r.last further others in
+      let more : ItemsRun sys standing.state (item ∷ others) = record {
+        steps = r.steps ++ rest.steps;
+        outcomes = r.outcomes ++ rest.outcomes;
+        last = rest.last;
+        comes = (r.steps, r.last, rest.steps, r.comes, rest.comes, refl);
+        run = runs-go_on sys standing.state r.last rest.last r.steps rest.steps r.outcomes rest.outcomes r.run rest.run;
+      } in
+      let last = done_line (length (s.outcomes ++ more.outcomes)) (idle_count (s.outcomes ++ more.outcomes)) in
+      let split : outcomes_text sys.flow more.outcomes ++ last ≡ outcomes_text sys.flow r.outcomes ++ (outcomes_text sys.flow rest.outcomes ++ last) =
+      ap (λ t. t ++ last) (text-append sys.flow r.outcomes rest.outcomes) ∙ append_assoc (outcomes_text sys.flow r.outcomes) (outcomes_text sys.flow rest.outcomes) last in
+      cut_off sys items (item ∷ others) standing taken idle_steps fault before mid after s more (outcomes_text sys.flow r.outcomes) (outcomes_text sys.flow rest.outcomes ++ last) split part)
 
 -- the run ends with its last line
-pub ends : {T : Type 0} (sys : System) (steps : List Step) (standing : Standing) (idle_steps : ℕ) (answer : Result T OutFault) (before mid after : SinkView) → IsSoFar sys steps standing idle_steps before mid
-    → Writes (done_line (length steps) idle_steps) answer mid after → Performs sys steps answer before after
-ends sys steps standing idle_steps answer before mid after s w =
-    let last : done_line (length steps) idle_steps ≡ done_line (length s.outcomes) (idle_count s.outcomes) =
-    ap (λ n. done_line n idle_steps) (sym (run_length sys (first_state sys) standing.state steps s.outcomes s.run)) ∙ ap (done_line (length s.outcomes)) s.idle in
+pub ends : {T : Type 0} (sys : System) (items : List Item) (standing : Standing) (taken idle_steps : ℕ) (answer : Result T OutFault) (before mid after : SinkView)
+    → IsSoFar sys items standing taken idle_steps before mid → Writes (done_line taken idle_steps) answer mid after → Performs sys items answer before after
+ends sys items standing taken idle_steps answer before mid after s w =
+    let last : done_line taken idle_steps ≡ done_line (length s.outcomes) (idle_count s.outcomes) =
+    ap (λ n. done_line n idle_steps) (s.count ∙ sym (run_length sys (first_state sys) standing.state s.steps s.outcomes s.run)) ∙ ap (done_line (length s.outcomes)) s.idle in
     record {
       printed = text_of sys.flow s.outcomes;
-      text = record { outcomes = s.outcomes; last = standing.state; run = s.run; text = refl };
+      text = record { steps = s.steps; last = standing.state; comes = s.comes; outcomes = s.outcomes; run = s.run; text = refl };
       written = writes_more (outcomes_text sys.flow s.outcomes) (done_line (length s.outcomes) (idle_count s.outcomes)) answer before mid after s.written (subst (λ t. Writes t answer mid after) last w);
     }
 
--- ---- a list of steps, taken one after another
+-- ---- a list of items, taken one after another
 
--- a step stands between those before it and those after it
-parts_at : (xs : List Step) (i : ℕ) (step : Step) → i < length xs → step ≡ get_or xs i step → drop i xs ≡ step ∷ drop (i + 1) xs
-parts_at xs i step below e = drop_more xs i step below ∙ ap (λ s. s ∷ drop (i + 1) xs) (sym e)
+-- an item stands between those before it and those after it
+parts_at : (xs : List Item) (i : ℕ) (item : Item) → i < length xs → item ≡ get_or xs i item → drop i xs ≡ item ∷ drop (i + 1) xs
+parts_at xs i item below e = drop_more xs i item below ∙ ap (λ s. s ∷ drop (i + 1) xs) (sym e)
 
 -- the run is not begun
-pub stops_at_start : {T : Type 0} (sys : System) (steps : List Step) (view : SinkView) → IsWellFormedSystem sys → Performs {T = T} sys steps (Err NoMemory) view view
-stops_at_start sys steps view w =
+pub stops_at_start : {T : Type 0} (sys : System) (items : List Item) (view : SinkView) → IsWellFormedSystem sys → Performs {T = T} sys items (Err NoMemory) view view
+stops_at_start sys items view w =
     let standing : Standing = record { sys = sys; state = first_state sys; refused = false } in
-    stops_before sys [] steps standing 0 NoMemory view view view (none_so_far sys standing view refl) w (cut_nothing [] view)
+    stops_before sys [] items standing 0 0 NoMemory view view view (none_so_far sys standing view refl) w (cut_nothing [] view)
 
--- the run stops at the step of this place
-pub stops_at : {T : Type 0} (sys : System) (xs : List Step) (i : ℕ) (standing : Standing) (step : Step) (idle_steps : ℕ) (fault : OutFault) (before mid after : SinkView)
-    → IsSoFar sys (take i xs) standing idle_steps before mid → IsWellFormedSystem sys → i < length xs → step ≡ get_or xs i step → IsStepCutOff standing step fault mid after
+-- the run stops at the item of this place
+pub stops_at : {T : Type 0} (sys : System) (xs : List Item) (i : ℕ) (standing : Standing) (item : Item) (taken idle_steps : ℕ) (fault : OutFault) (before mid after : SinkView)
+    → IsSoFar sys (take i xs) standing taken idle_steps before mid → IsWellFormedSystem sys → i < length xs → item ≡ get_or xs i item → IsItemCutOff standing item fault mid after
     → Performs {T = T} sys xs (Err fault) before after
-stops_at {T} sys xs i standing step idle_steps fault before mid after s w below e c =
-    subst (λ t. Performs {T = T} sys t (Err fault) before after) (ap (λ t. take i xs ++ t) (sym (parts_at xs i step below e)) ∙ take-append-drop i xs)
-    (stops_within sys (take i xs) (drop (i + 1) xs) standing step idle_steps fault before mid after s w c)
+stops_at {T} sys xs i standing item taken idle_steps fault before mid after s w below e c =
+    subst (λ t. Performs {T = T} sys t (Err fault) before after) (ap (λ t. take i xs ++ t) (sym (parts_at xs i item below e)) ∙ take-append-drop i xs)
+    (stops_within sys (take i xs) (drop (i + 1) xs) standing item taken idle_steps fault before mid after s w c)
 
--- the step of this place was taken and printed
-pub so_far_next : (sys : System) (xs : List Step) (i : ℕ) (old new : Standing) (step : Step) (was now : ℕ) (was_idle : Bool) (before mid after : SinkView)
-    → IsSoFar sys (take i xs) old was before mid → i < length xs → step ≡ get_or xs i step → new.sys ≡ old.sys → IsStepPrinted old new step was_idle mid after
-    → now ≡ cond was_idle (was + 1) was → IsSoFar sys (take (i + 1) xs) new now before after
-so_far_next sys xs i old new step was now was_idle before mid after s below e same p n =
-    let steps : take (i + 1) xs ≡ take i xs ++ step ∷ [] = take_more xs i step below ∙ ap (λ t. take i xs ++ t ∷ []) (sym e) in
-    subst (λ t. IsSoFar sys t new now before after) (sym steps) (subst (λ k. IsSoFar sys (take i xs ++ step ∷ []) new k before after) (sym n) (so_far_more sys (take i xs) old new step was was_idle before mid after s same p))
+-- the item of this place was taken and printed
+pub so_far_next : (sys : System) (xs : List Item) (i : ℕ) (old new : Standing) (item : Item) (taken idle_steps : ℕ) (of_item : Taken) (before mid after : SinkView)
+    → IsSoFar sys (take i xs) old taken idle_steps before mid → i < length xs → item ≡ get_or xs i item → new.sys ≡ old.sys → IsItemPrinted old new item of_item mid after
+    → IsSoFar sys (take (i + 1) xs) new (taken + of_item.steps) (idle_steps + of_item.idle) before after
+so_far_next sys xs i old new item taken idle_steps of_item before mid after s below e same p =
+    let items : take (i + 1) xs ≡ take i xs ++ item ∷ [] = take_more xs i item below ∙ ap (λ t. take i xs ++ t ∷ []) (sym e) in
+    subst (λ t. IsSoFar sys t new (taken + of_item.steps) (idle_steps + of_item.idle) before after) (sym items) (so_far_more sys (take i xs) old new item taken idle_steps of_item before mid after s same p)
 
-pub counted_idle : (was_idle : Bool) (was now : ℕ) → was_idle ≡ true → now ≡ was + 1 → now ≡ cond was_idle (was + 1) was
-counted_idle was_idle was now e n = n ∙ sym (ap (λ b. cond b (was + 1) was) e)
+-- ---- how many steps were taken
 
-pub counted-few : (was_idle : Bool) (was now i : ℕ) → now ≡ cond was_idle (was + 1) was → was ≤ i → now ≤ i + 1
-counted-few true was now i e h = omega (arith, e, h)
-counted-few false was now i e h = omega (arith, e, h)
-
-pub counted_taken : (was_idle : Bool) (was now : ℕ) → was_idle ≡ false → now ≡ was → now ≡ cond was_idle (was + 1) was
-counted_taken was_idle was now e n = n ∙ sym (ap (λ b. cond b (was + 1) was) e)
-
--- all steps were taken and printed
-pub all_so_far : (sys : System) (xs : List Step) (i : ℕ) (standing : Standing) (idle_steps : ℕ) (before after : SinkView) → IsSoFar sys (take i xs) standing idle_steps before after → length xs ≤ i
-    → IsSoFar sys xs standing idle_steps before after
-all_so_far sys xs i standing idle_steps before after s h = subst (λ t. IsSoFar sys t standing idle_steps before after) (take_all xs i h) s
+-- no step of an outcome is idle twice
+idle-few : (outcomes : List Outcome) → idle_count outcomes ≤ length outcomes
+idle-few [] = omega arith
+idle-few (x ∷ outcomes) = both (is_idle x) (idle_count outcomes) (length outcomes) (idle-few outcomes)
   where
-    take_all : (ys : List Step) (k : ℕ) → length ys ≤ k → take k ys ≡ ys
-    take_all [] zero h = refl
-    take_all [] (suc k) h = refl
-    take_all (y ∷ ys) zero h = absurd (omega (arith, h))
-    take_all (y ∷ ys) (suc k) h = ap (λ t. y ∷ t) (take_all ys k (omega (arith, h)))
+    both : (b : Bool) (n m : ℕ) → n ≤ m → cond b (n + 1) n ≤ suc m
+    both true n m h = omega (arith, h)
+    both false n m h = omega (arith, h)
+
+-- no more steps come of an item than it asks for, and no more of them are idle
+pub item-taken : (old new : Standing) (item : Item) (taken : Taken) (before after : SinkView) → IsItemPrinted old new item taken before after
+    → (taken.steps ≤ steps_in item) × (taken.idle ≤ steps_in item)
+item-taken old new item taken before after p =
+    let r = p.of_item in
+    let few = item-few old.sys old.state r.last item r.steps r.comes in
+    let same = run_length old.sys old.state r.last r.steps r.outcomes r.run in
+    (omega (arith, p.steps, few), omega (arith, p.idle, idle-few r.outcomes, same, few))
+
+count-more : (xs : List Item) (i : ℕ) → i < length xs → (item : Item) → item ≡ get_or xs i item → step_count (take (i + 1) xs) ≡ step_count (take i xs) + steps_in item
+count-more xs i below item e =
+    ap step_count (take_more xs i item below ∙ ap (λ t. take i xs ++ t ∷ []) (sym e)) ∙ behind (take i xs)
+  where
+    behind : (ys : List Item) → step_count (ys ++ item ∷ []) ≡ step_count ys + steps_in item
+    behind [] = omega arith
+    behind (y ∷ ys) = omega (arith, behind ys)
+
+count-first : (xs : List Item) (i : ℕ) → step_count (take i xs) ≤ step_count xs
+count-first xs zero = omega arith
+count-first [] (suc i) = omega arith
+count-first (x ∷ xs) (suc i) = omega (arith, count-first xs i)
+
+-- so the counts of steps stay within what all items ask for
+pub counts-next : (xs : List Item) (i count taken : ℕ) (item : Item) → i < length xs → item ≡ get_or xs i item → count ≤ step_count (take i xs) → taken ≤ steps_in item
+    → count + taken ≤ step_count (take (i + 1) xs)
+counts-next xs i count taken item below e h k = omega (arith, count-more xs i below item e, h, k)
+
+pub counts-fit : (xs : List Item) (i count : ℕ) → count ≤ step_count (take i xs) → count ≤ step_count xs
+counts-fit xs i count h = omega (arith, count-first xs i, h)
+
+-- all items were taken and printed
+pub all_so_far : (sys : System) (xs : List Item) (i : ℕ) (standing : Standing) (taken idle_steps : ℕ) (before after : SinkView) → IsSoFar sys (take i xs) standing taken idle_steps before after → length xs ≤ i
+    → IsSoFar sys xs standing taken idle_steps before after
+all_so_far sys xs i standing taken idle_steps before after s h = subst (λ t. IsSoFar sys t standing taken idle_steps before after) (take_all i xs h) s
 
 -- the run stops before its last line
-pub stops_after_steps : {T : Type 0} (sys : System) (steps : List Step) (standing : Standing) (idle_steps : ℕ) (before after : SinkView) → IsSoFar sys steps standing idle_steps before after
-    → Performs {T = T} sys steps (Err NoMemory) before after
-stops_after_steps sys steps standing idle_steps before after s =
-    ends sys steps standing idle_steps (Err NoMemory) before after after s (cut_nothing (done_line (length steps) idle_steps) after)
+pub stops_after_items : {T : Type 0} (sys : System) (items : List Item) (standing : Standing) (taken idle_steps : ℕ) (before after : SinkView) → IsSoFar sys items standing taken idle_steps before after
+    → Performs {T = T} sys items (Err NoMemory) before after
+stops_after_items sys items standing taken idle_steps before after s =
+    ends sys items standing taken idle_steps (Err NoMemory) before after after s (cut_nothing (done_line taken idle_steps) after)

@@ -16,12 +16,12 @@ use Rattle.fw_flow.proofs.SystemLaws.{well_formed-given}
 use Rattle.fw_flow.specs.WellFormed.{IsWellFormedSystem}
 use Rattle.fw_flow_text.specs.Grammar as flows
 use Rattle.fw_flow_text.proofs.ReadLaws as flow_texts
-use Rattle.fw_schedule.specs.Grammar.{steps_of}
+use Rattle.fw_schedule.specs.Grammar.{items_of}
 use Rattle.fw_schedule.specs.Grammar as schedules
 use Rattle.fw_schedule.proofs.ReadLaws as schedule_texts
 use Rattle.fw_run.specs.declared.reading.Job.{Job}
 use Rattle.fw_run.specs.Reading.{IsJob}
-use Rattle.fw_run.specs.Texts.{Texts, spelled_flow, spelled_batches, spelled_system, spelled_steps, AreInputsOf, AreAccepted, HasText, AreThere, AreInputsRefused, IsScheduleRefused, IsFirstRefusal, IsAskedNoMore}
+use Rattle.fw_run.specs.Texts.{Texts, spelled_flow, spelled_batches, spelled_system, spelled_items, IsFlow, AreInputsOf, AreAccepted, HasText, AreThere, IsFlowRefused, AreInputsRefused, IsScheduleRefused, IsFirstRefusal, IsAskedNoMore}
 use Rattle.fw_run.specs.Words.{TextNames}
 
 -- ---- what accepted texts spell
@@ -52,7 +52,7 @@ system_read flow_text text flow batches e a =
 pub job_read : (told : Option (List ℕ → Option (List ℕ))) (names : TextNames) (job : Job)
     → HasText told names.flow (λ text. flows.IsAccepted text job.flow)
     → HasText told names.inputs (λ text. inputs.IsAccepted text (sources_of job.flow) job.batches)
-    → HasText told names.schedule (λ text. schedules.IsAccepted text job.flow job.steps)
+    → HasText told names.schedule (λ text. schedules.IsAccepted text job.flow job.items)
     → IsJob told names job
 job_read told names job f i s =
     let texts : Texts = record { flow = f.text; inputs = i.text; schedule = s.text } in
@@ -63,22 +63,22 @@ job_read told names job f i s =
       accepted = record {
         flow = subst (flows.IsAccepted f.text) value f.so;
         inputs = subst (λ flow. AreInputsOf flow i.text) value (record { size = i.so.size; sound = i.so.sound });
-        schedule = subst (λ flow. schedules.IsAccepted s.text flow (steps_of flow (said_lines s.text))) value (record { size = s.so.size; sound = s.so.sound; value = refl });
+        schedule = subst (λ flow. schedules.IsAccepted s.text flow (items_of flow (said_lines s.text))) value (record { sound = s.so.sound; value = refl });
       };
       system = system_read f.text i.text job.flow job.batches value i.so;
-      steps = s.so.value ∙ ap (λ flow. steps_of flow (said_lines s.text)) value;
+      items = s.so.value ∙ ap (λ flow. items_of flow (said_lines s.text)) value;
     }
 
 -- the same where the folder told its texts anew before each
 pub job_read_in_turn : (told second third : Option (List ℕ → Option (List ℕ))) (names : TextNames) (job : Job) → second ≡ told → third ≡ second
     → HasText told names.flow (λ text. flows.IsAccepted text job.flow)
     → HasText second names.inputs (λ text. inputs.IsAccepted text (sources_of job.flow) job.batches)
-    → HasText third names.schedule (λ text. schedules.IsAccepted text job.flow job.steps)
+    → HasText third names.schedule (λ text. schedules.IsAccepted text job.flow job.items)
     → IsJob told names job
 job_read_in_turn told second third names job e h f i s =
     job_read told names job f
     (subst (λ t. HasText t names.inputs (λ text. inputs.IsAccepted text (sources_of job.flow) job.batches)) e i)
-    (subst (λ t. HasText t names.schedule (λ text. schedules.IsAccepted text job.flow job.steps)) (h ∙ e) s)
+    (subst (λ t. HasText t names.schedule (λ text. schedules.IsAccepted text job.flow job.items)) (h ∙ e) s)
 
 -- a text was asked for after an accepted flow
 pub fetched_second : (told : Option (List ℕ → Option (List ℕ))) (names : TextNames) (flow : Dataflow) (before one after : ℕ)
@@ -144,4 +144,13 @@ accepted_or_refused texts names three r t a (inr (flow, p, rest)) =
 
     by : Later (spelled_flow three.flow) → ⊥
     by (inl q) = inputs_or_refused (spelled_flow three.flow) three.inputs r a.inputs (subst (λ text. inputs.IsRefused text (sources_of (spelled_flow three.flow)) r) (same_text texts names.inputs q.text three.inputs q.there t.inputs) q.so)
-    by (inr q) = schedule_texts.accepted_or_refused three.schedule (spelled_flow three.flow) (spelled_steps three) r a.schedule (subst (λ text. schedules.IsRefused text (spelled_flow three.flow) r) (same_text texts names.schedule q.1.text three.schedule q.1.there t.schedule) q.1.so)
+    by (inr q) = schedule_texts.accepted_or_refused three.schedule (spelled_flow three.flow) (spelled_items three) r a.schedule (subst (λ text. schedules.IsRefused text (spelled_flow three.flow) r) (same_text texts names.schedule q.1.text three.schedule q.1.there t.schedule) q.1.so)
+
+-- the text of a flow is accepted or refused, and not both
+pub flow_or_refused : (texts : List ℕ → Option (List ℕ)) (name text : List ℕ) (r : Refusal) → IsText (Some texts) name text → IsFlow text → IsFlowRefused (Some texts) name r → ⊥
+flow_or_refused texts name text r t a p =
+    flow_texts.accepted_or_refused text (spelled_flow text) r a (subst (λ other. flows.IsRefused other r) (same_text texts name p.text text p.there t) p.so)
+
+-- and refused by one rule
+pub one_flow_refusal : (texts : List ℕ → Option (List ℕ)) (name : List ℕ) (r s : Refusal) → IsFlowRefused (Some texts) name r → IsFlowRefused (Some texts) name s → r ≡ s
+one_flow_refusal texts name r s a b = both_true texts name (λ text. flows.IsRefused text r) (λ text. flows.IsRefused text s) (r ≡ s) a b (λ text p q. flow_texts.one_refusal text r s p q)

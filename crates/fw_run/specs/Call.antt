@@ -2,14 +2,15 @@
 use Rattle.std.specs.Prelude.{◌≡◌, ◌⊎◌, ℕ, List, Option, Some, None, IsSome}
 use Rattle.std.specs.Borrow.{Bor}
 use Rattle.fw_outside.specs.declared.fault.OutFault.{OutFault}
-use Rattle.fw_outside.specs.Outside.{SinkView}
+use Rattle.fw_outside.specs.Outside.{SinkView, IsText, one_more}
 use Rattle.fw_lines.specs.declared.refusal.Refusal.{Refusal}
 use Rattle.fw_run.specs.declared.status.Status.{Status}
 use Rattle.fw_run.specs.declared.status.Status.TheVariants.{Done, Refused, ReadFault, WriteFault, NoMemory}
 use Rattle.fw_run.specs.Headline.{PrintsRun}
+use Rattle.fw_run.specs.Listing.{check_text}
 use Rattle.fw_run.specs.Status.{IsTold, note_line}
-use Rattle.fw_run.specs.Texts.{Texts, AreThere, AreAccepted, IsFirstRefusal, IsAskedNoMore, spelled_system, spelled_steps}
-use Rattle.fw_run.specs.Words.{Command, run, TextNames, command_of, words_in}
+use Rattle.fw_run.specs.Texts.{Texts, IsFlow, AreThere, AreAccepted, IsFlowRefused, IsFirstRefusal, IsAskedNoMore, spelled_flow, spelled_system, spelled_items}
+use Rattle.fw_run.specs.Words.{Command, run, check, command_of, words_in}
 use Rattle.fw_run.specs.Writing.{IsWritten, IsCutOff}
 
 -- what a call is given: the command that its words are, if they are one, and the folder's texts, where it tells them
@@ -21,22 +22,49 @@ pub record Call : Type 0 where
 abbrev pub call_of : List (Bor (List ℕ)) → Option (List ℕ → Option (List ℕ)) → Call
 call_of words told = record { command = command_of (words_in words); told = told }
 
+-- ---- the commands; of the texts of a check the flow alone counts
+
+-- the folder has these texts under the names of the command, where it tells its texts
+abbrev pub HasTexts : Option (List ℕ → Option (List ℕ)) → Command → Texts → Type 0
+HasTexts told (run names) texts = AreThere told names texts
+HasTexts told (check name) texts = IsText told name texts.flow
+
+-- the command accepts the texts
+abbrev pub Accepts : Command → Texts → Type 0
+Accepts (run names) texts = AreAccepted texts
+Accepts (check name) texts = IsFlow texts.flow
+
+-- the first of its texts that the command does not accept is refused so
+abbrev pub Refuses : Option (List ℕ → Option (List ℕ)) → Command → Refusal → Type 0
+Refuses told (run names) refusal = IsFirstRefusal told names refusal
+Refuses told (check name) refusal = IsFlowRefused told name refusal
+
+-- this is all that the command prints of the texts
+abbrev pub Prints : Command → Texts → List ℕ → Type 0
+Prints (run names) texts printed = PrintsRun (spelled_system texts) (spelled_items texts) printed
+Prints (check name) texts printed = printed ≡ check_text (spelled_flow texts.flow)
+
+-- the command asked a folder no more often than this, if its calls were counted from the first number to the second: a check once
+abbrev pub AsksNoMore : Option (List ℕ → Option (List ℕ)) → Command → ℕ → ℕ → Type 0
+AsksNoMore told (run names) before after = IsAskedNoMore told names before after
+AsksNoMore told (check name) before after = after ≡ one_more before
+
 -- ---- the texts
 
--- the command is a run, and its three texts, which the folder has, are accepted
+-- the words are a command, which accepts these texts, which the folder has
 pub record HasAccepted (call : Call) (texts : Texts) : Type 0 where
-  pub names : TextNames
-  pub command : call.command ≡ Some (run names)
-  pub there : AreThere call.told names texts
-  pub accepted : AreAccepted texts
+  pub command : Command
+  pub words : call.command ≡ Some command
+  pub there : HasTexts call.told command texts
+  pub accepted : Accepts command texts
 
--- the command is a run, and the first of its three texts that is not accepted is refused so
+-- the words are a command, and the first of its texts that it does not accept is refused so
 pub record HasRefused (call : Call) (refusal : Refusal) : Type 0 where
-  pub names : TextNames
-  pub command : call.command ≡ Some (run names)
-  pub first : IsFirstRefusal call.told names refusal
+  pub command : Command
+  pub words : call.command ≡ Some command
+  pub first : Refuses call.told command refusal
 
--- the run of accepted texts was printed, or what is outside failed or memory was refused
+-- all of accepted texts was printed, or what is outside failed or memory was refused
 abbrev pub IsRunEnd : Status → Type 0
 IsRunEnd status = (status ≡ Done) ⊎ ((status ≡ ReadFault) ⊎ ((status ≡ WriteFault) ⊎ (status ≡ NoMemory)))
 
@@ -44,21 +72,21 @@ IsRunEnd status = (status ≡ Done) ⊎ ((status ≡ ReadFault) ⊎ ((status ≡
 abbrev pub IsRefusalEnd : Refusal → Status → Type 0
 IsRefusalEnd refusal status = (status ≡ Refused refusal) ⊎ ((status ≡ ReadFault) ⊎ (status ≡ NoMemory))
 
--- Three texts that are there are accepted, or one of them is the first that is refused. Where the folder tells its texts, that
--- one is refused and accepted ones are run, unless what is outside fails or memory is refused.
+-- Texts that are there are accepted by a command, or one of them is the first that it refuses. Where the folder tells its texts,
+-- that one is refused and of accepted ones all is printed, unless what is outside fails or memory is refused.
 pub record AnswersTexts (call : Call) (status : Status) : Type 0 where
-  pub decided : (names : TextNames) (texts : Texts) → AreThere call.told names texts
-      → AreAccepted texts ⊎ ((refusal : Refusal) × IsFirstRefusal call.told names refusal)
+  pub decided : (command : Command) (texts : Texts) → HasTexts call.told command texts
+      → Accepts command texts ⊎ ((refusal : Refusal) × Refuses call.told command refusal)
   pub refuses : (refusal : Refusal) → IsSome call.told → HasRefused call refusal → IsRefusalEnd refusal status
   pub completes : (texts : Texts) → IsSome call.told → HasAccepted call texts → IsRunEnd status
 
 -- ---- what is outside
 
--- the whole text that the call prints: that of the machine's run over what its accepted texts spell
+-- the whole text that the call prints of the texts that it accepts: that of the machine's run, or the list of the flow's nodes
 pub record IsPrintout (call : Call) (printed : List ℕ) : Type 0 where
   pub texts : Texts
   pub accepted : HasAccepted call texts
-  pub text : PrintsRun (spelled_system texts) (spelled_steps texts) printed
+  pub text : Prints accepted.command texts printed
 
 -- all that the call prints was written
 pub record PrintsAll (call : Call) (before after : SinkView) : Type 0 where
@@ -72,12 +100,12 @@ pub record PrintsPart (call : Call) (fault : OutFault) (before after : SinkView)
   pub printout : IsPrintout call printed
   pub part : IsCutOff printed fault before after
 
--- The folder keeps its texts. It was not asked where the words are no command, and of a run it was asked a second time only where
--- the flow is accepted, a third time only where the inputs are too, and no fourth.
+-- The folder keeps its texts. It was not asked where the words are no command. Of a check it was asked once; of a run a second time
+-- only where the flow is accepted, a third time only where the inputs are too, and no fourth.
 pub record KeepsFolder {F : Type 0} (texts : F → Option (List ℕ → Option (List ℕ))) (fetch_count : F → ℕ) (command : Option Command) (before after : F) : Type 0 where
   pub texts_stay : texts after ≡ texts before
   pub nothing_read : command ≡ None → after ≡ before
-  pub asked_no_more : (names : TextNames) → command ≡ Some (run names) → IsAskedNoMore (texts before) names (fetch_count before) (fetch_count after)
+  pub asked_no_more : (asked : Command) → command ≡ Some asked → AsksNoMore (texts before) asked (fetch_count before) (fetch_count after)
 
 -- The notes took the status's line, or first bytes of it where they refused it; they are as they were where all went well.
 pub record TellsNotes {N : Type 0} (view : N → SinkView) (status : Status) (before after : N) : Type 0 where

@@ -1,24 +1,36 @@
--- What the machine does with the steps of a schedule, and the text that its run prints.
-use Rattle.std.specs.Prelude.{◌≡◌, ◌<◌, ℕ, true, List, length, take}
+-- What the machine does with the items of a schedule, and the text that its run prints.
+use Rattle.std.specs.Prelude.{◌≡◌, ◌≢◌, ◌<◌, ℕ, Bool, true, List, length, map, take}
 use Rattle.std.specs.List.{AllByRecursion}
+use Rattle.fw_frontier.specs.Frontier.{Within}
+use Rattle.fw_frontier.specs.Front.{Front}
 use Rattle.fw_flow.specs.declared.choice.Choice.{Choice}
+use Rattle.fw_flow.specs.declared.choice.Cut.TheVariants.{At}
 use Rattle.fw_flow.specs.declared.step.Step.{Step}
-use Rattle.fw_flow.specs.declared.step.Step.TheVariants.{Recover}
-use Rattle.fw_flow.specs.Dataflow.{System}
-use Rattle.fw_model.specs.Choice.{View, IsCandidate, IsLargest}
+use Rattle.fw_flow.specs.declared.step.Step.TheVariants.{Recover, Collect}
+use Rattle.fw_flow.specs.Dataflow.{System, policy_of, bounds_of, node_frontier}
+use Rattle.fw_schedule.specs.declared.item.Item.{Item}
+use Rattle.fw_model.specs.Choice.{View, kept, cut_of, IsCandidate, IsLargest, IsWatermark}
 use Rattle.fw_model.specs.Denotation.{Family, IsDenotation}
 use Rattle.fw_model.specs.History.{IsLegal}
 use Rattle.fw_model.specs.Acknowledgements.{IsDenoted, stamps_acknowledged, first_stamps}
-use Rattle.fw_model.specs.Machine.{Machine, events, first_state, ack_count_of, is_failed}
-use Rattle.fw_model.specs.Steps.{cuts, Outcome, did, StepsTo, Run}
+use Rattle.fw_model.specs.Machine.{Machine, acknowledged, events, first_state, front_of, no_stamps, ack_count_of, is_failed}
+use Rattle.fw_model.specs.Steps.{cuts, lows, Outcome, did, StepsTo, Run, front_of_cut}
+use Rattle.fw_model.specs.Writes.{takes_checkpoints, HasOne, IsCheckpointOf, MayKeepNothingIfCollected}
+use Rattle.fw_run.specs.Items.{ComesTo}
 use Rattle.fw_run.specs.Printed.{text_of}
 
--- the machine takes the steps from its first state, and this is the text of what comes of them
-pub record PrintsRun (sys : System) (steps : List Step) (printed : List ℕ) : Type 0 where
-  pub outcomes : List Outcome
+-- the items come to steps, the machine takes these from its first state, and this is the text of what comes of them
+pub record PrintsRun (sys : System) (items : List Item) (printed : List ℕ) : Type 0 where
+  pub steps : List Step
   pub last : Machine
+  pub comes : ComesTo sys (first_state sys) items steps last
+  pub outcomes : List Outcome
   pub run : Run sys (first_state sys) steps outcomes last
   pub text : printed ≡ text_of sys.flow outcomes
+
+-- this is true of each list of steps that the items come to
+abbrev pub OfSteps : System → List Item → (System → List Step → Type 0) → Type 0
+OfSteps sys items IsTrueOf = (steps : List Step) (last : Machine) → ComesTo sys (first_state sys) items steps last → IsTrueOf sys steps
 
 -- after each number of the steps the machine's history is legal
 abbrev pub StaysLegal : System → List Step → Type 0
@@ -35,10 +47,14 @@ abbrev pub ShowsDenotation : System → List Step → Type 0
 ShowsDenotation sys steps = (family : Family) × IsDenotation sys family
     × ((outcomes : List Outcome) (last : Machine) → Run sys (first_state sys) steps outcomes last → AllByRecursion (IsDenoted sys family) outcomes)
 
--- each number of first steps has exactly one run
-abbrev pub HasOneRun : System → List Step → Type 0
-HasOneRun sys steps = (count : ℕ) → (outcomes : List Outcome) × (state : Machine) × Run sys (first_state sys) (take count steps) outcomes state
-    × ((others : List Outcome) (other : Machine) → Run sys (first_state sys) (take count steps) others other → (others ≡ outcomes) × (other ≡ state))
+-- The items come to exactly one list of steps, and each number of first steps has exactly one run.
+pub record HasOneRun (sys : System) (items : List Item) : Type 0 where
+  pub steps : List Step
+  pub last : Machine
+  pub comes : ComesTo sys (first_state sys) items steps last
+  pub only : (others : List Step) (other : Machine) → ComesTo sys (first_state sys) items others other → (others ≡ steps) × (other ≡ last)
+  pub runs : (count : ℕ) → (outcomes : List Outcome) × (state : Machine) × Run sys (first_state sys) (take count steps) outcomes state
+      × ((others : List Outcome) (other : Machine) → Run sys (first_state sys) (take count steps) others other → (others ≡ outcomes) × (other ≡ state))
 
 -- after each number of the steps, if a declared node is failed, a recovery is enabled and shows a choice
 abbrev pub RecoversFailed : System → List Step → Type 0
@@ -54,17 +70,41 @@ CutsToLargest sys steps = (count : ℕ) (outcomes : List Outcome) (state next : 
     → Run sys (first_state sys) (take count steps) outcomes state → StepsTo sys state Recover next (did (cuts choice))
     → (view : View) → IsLargest sys state (IsCandidate sys state (is_failed state) view) choice
 
--- what is true of the system and the steps that accepted texts spell
-pub record Headline (sys : System) (steps : List Step) : Type 0 where
-  -- each number of first steps has exactly one run, so one text can be printed
-  pub one_run : HasOneRun sys steps
+-- After each number of the steps a collection shows the low watermark, which is then kept, and no step lowers it at a node.
+pub record ShowsWatermark (sys : System) (steps : List Step) : Type 0 where
+  pub shown : (count : ℕ) (outcomes : List Outcome) (state next : Machine) (choice : Choice)
+      → Run sys (first_state sys) (take count steps) outcomes state → StepsTo sys state Collect next (did (lows choice))
+      → IsWatermark sys state choice × (next.low ≡ map front_of_cut choice.cuts)
+  pub never_falls : (count : ℕ) (outcomes : List Outcome) (state : Machine) (step : Step) (next : Machine) (outcome : Outcome)
+      → Run sys (first_state sys) (take count steps) outcomes state → StepsTo sys state step next outcome
+      → (p : ℕ) → p < length sys.flow.nodes
+      → Within (node_frontier sys.flow p (front_of state.low p)) (node_frontier sys.flow p (front_of next.low p))
+
+-- After each number of the steps no logged event of a total, a sequence or a ledger was collected; and where a largest choice
+-- cuts a node that takes checkpoints to some stamps, it has one checkpoint there, which was acknowledged and not collected.
+pub record KeepsWhatIsNeeded (sys : System) (steps : List Step) : Type 0 where
+  pub logged_events : (count : ℕ) (outcomes : List Outcome) (state : Machine) → Run sys (first_state sys) (take count steps) outcomes state
+      → AllByRecursion (MayKeepNothingIfCollected sys) state.writes
+  pub checkpoints : (count : ℕ) (outcomes : List Outcome) (state : Machine) → Run sys (first_state sys) (take count steps) outcomes state
+      → (lost : ℕ → Bool) (choice : Choice) → IsLargest sys state (IsCandidate sys state lost kept) choice
+      → (p : ℕ) (f : Front) → takes_checkpoints (policy_of sys.flow p) ≡ true → cut_of choice p ≡ At f → f ≢ no_stamps (bounds_of sys.flow p)
+      → (only : HasOne (IsCheckpointOf p f) state.writes) × (only.one.stage ≡ acknowledged)
+
+-- what is true of the system and the items that accepted texts spell
+pub record Headline (sys : System) (items : List Item) : Type 0 where
+  -- the items come to one list of steps, and this has one run, so one text can be printed
+  pub one_run : HasOneRun sys items
   -- its histories are legal, also right after a failure or a recovery
-  pub legal : StaysLegal sys steps
+  pub legal : OfSteps sys items StaysLegal
   -- each output acknowledges its first epochs, in order and each once
-  pub in_order : AcknowledgesInOrder sys steps
+  pub in_order : OfSteps sys items AcknowledgesInOrder
   -- each acknowledgement has the recs that the dataflow denotes there
-  pub denoted : ShowsDenotation sys steps
+  pub denoted : OfSteps sys items ShowsDenotation
   -- where a node is failed a recovery is enabled
-  pub recovers : RecoversFailed sys steps
+  pub recovers : OfSteps sys items RecoversFailed
   -- each recovery cuts the nodes to the largest consistent choice
-  pub largest : CutsToLargest sys steps
+  pub largest : OfSteps sys items CutsToLargest
+  -- each collection shows the low watermark, which never falls
+  pub watermark : OfSteps sys items ShowsWatermark
+  -- what a restoration needs is never collected
+  pub never_collected : OfSteps sys items KeepsWhatIsNeeded

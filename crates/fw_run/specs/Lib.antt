@@ -1,9 +1,12 @@
 pub mod Call
 pub mod Headline
+pub mod Items
+pub mod Listing
 pub mod Performing
 pub mod Printed
 pub mod Reading
 pub mod Status
 pub mod Texts
 pub mod Words
+pub mod Work
 pub mod Writing

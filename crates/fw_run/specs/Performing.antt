@@ -1,17 +1,20 @@
--- What was printed of a step, and how far it led.
-use Rattle.std.specs.Prelude.{◌≡◌, ◌⊎◌, ℕ, Bool, List, [], Option, Some, None, Result, Ok, Err}
+-- What was printed of an item of a schedule, and how far it led.
+use Rattle.std.specs.Prelude.{◌≡◌, ℕ, List, [], length, Option, Some, None, Result, Ok, Err}
 use Rattle.std.specs.declared.alloc.Global.{Global}
 use Rattle.std.specs.declared.vec.Vec.{Vec}
 use Rattle.fw_outside.specs.declared.fault.OutFault.{OutFault}
 use Rattle.fw_outside.specs.Outside.{SinkView}
 use Rattle.fw_flow.specs.declared.step.Step.{Step}
 use Rattle.fw_flow.specs.Dataflow.{System}
-use Rattle.fw_model.specs.Machine.{Machine}
-use Rattle.fw_model.specs.Steps.{Outcome, StepsTo}
-use Rattle.fw_plain.specs.EffectText.{outcome_text}
+use Rattle.fw_flow.specs.WellFormed.{IsWellFormedSystem}
+use Rattle.fw_schedule.specs.declared.item.Item.{Item}
+use Rattle.fw_model.specs.Machine.{Machine, first_state}
+use Rattle.fw_model.specs.Steps.{Outcome, Run}
 use Rattle.fw_plain.specs.Engine.{Standing}
+use Rattle.fw_run.specs.declared.perform.Taken.{Taken}
 use Rattle.fw_run.specs.Headline.{PrintsRun}
-use Rattle.fw_run.specs.Printed.{is_idle}
+use Rattle.fw_run.specs.Items.{ItemComesTo}
+use Rattle.fw_run.specs.Printed.{outcomes_text, idle_count}
 use Rattle.fw_run.specs.Writing.{IsWritten, IsCutOff, Writes}
 
 -- the bytes of a line, none where there is no line
@@ -19,26 +22,41 @@ abbrev pub shown_bytes : Option (Vec ℕ Global) → List ℕ
 shown_bytes None = []
 shown_bytes (Some line) = line.items
 
--- the step was taken from one state to the next, and the lines of what came of it were written
-pub record IsStepPrinted (old new : Standing) (step : Step) (idle : Bool) (before after : SinkView) : Type 0 where
-  pub outcome : Outcome
-  pub steps : StepsTo old.sys old.state step new.state outcome
-  pub is_idle : idle ≡ is_idle outcome
-  pub written : IsWritten (outcome_text old.sys.flow outcome) before after
+-- an engine runs a well-formed system, and steps led to where it stands from the first state
+pub record IsUnderWay (standing : Standing) : Type 0 where
+  pub well_formed : IsWellFormedSystem standing.sys
+  pub before : List Step
+  pub outcomes : List Outcome
+  pub run : Run standing.sys (first_state standing.sys) before outcomes standing.state
 
--- nothing was written, or the lines of what comes of the step were cut off
-abbrev pub IsStepCutOff : Standing → Step → OutFault → SinkView → SinkView → Type 0
-IsStepCutOff old step fault before after =
-    IsCutOff [] fault before after
-    ⊎ ((next : Machine) × (outcome : Outcome) × StepsTo old.sys old.state step next outcome × IsCutOff (outcome_text old.sys.flow outcome) fault before after)
+-- From the state the item comes to these steps, which the machine takes to the last one, with these outcomes.
+pub record ItemRun (sys : System) (state : Machine) (item : Item) : Type 0 where
+  pub steps : List Step
+  pub outcomes : List Outcome
+  pub last : Machine
+  pub comes : ItemComesTo sys state item steps last
+  pub run : Run sys state steps outcomes last
 
--- what an answer to a step says: whether it was idle, and that it was printed, or by which fault its lines were cut off
-abbrev pub PrintsStep : Standing → Standing → Step → Result Bool OutFault → SinkView → SinkView → Type 0
-PrintsStep old new step (Ok idle) before after = IsStepPrinted old new step idle before after
-PrintsStep old new step (Err fault) before after = IsStepCutOff old step fault before after
+-- the item led from one standing to another, and the lines of its steps were written, which are so many, and so many idle
+pub record IsItemPrinted (old new : Standing) (item : Item) (taken : Taken) (before after : SinkView) : Type 0 where
+  pub of_item : ItemRun old.sys old.state item
+  pub last : new.state ≡ of_item.last
+  pub steps : taken.steps ≡ length of_item.steps
+  pub idle : taken.idle ≡ idle_count of_item.outcomes
+  pub written : IsWritten (outcomes_text old.sys.flow of_item.outcomes) before after
 
--- the steps have a run from the first state, and its text was written, or cut off by the fault that was answered
-pub record Performs {T : Type 0} (sys : System) (steps : List Step) (answer : Result T OutFault) (before after : SinkView) : Type 0 where
+-- the lines of the steps to which the item comes were cut off
+pub record IsItemCutOff (old : Standing) (item : Item) (fault : OutFault) (before after : SinkView) : Type 0 where
+  pub of_item : ItemRun old.sys old.state item
+  pub part : IsCutOff (outcomes_text old.sys.flow of_item.outcomes) fault before after
+
+-- what an answer to an item says: how many steps it came to, and that they were printed, or by which fault their lines were cut off
+abbrev pub PrintsItem : Standing → Standing → Item → Result Taken OutFault → SinkView → SinkView → Type 0
+PrintsItem old new item (Ok taken) before after = IsItemPrinted old new item taken before after
+PrintsItem old new item (Err fault) before after = IsItemCutOff old item fault before after
+
+-- the items come to steps that have a run from the first state, and its text was written, or cut off by the fault that was answered
+pub record Performs {T : Type 0} (sys : System) (items : List Item) (answer : Result T OutFault) (before after : SinkView) : Type 0 where
   pub printed : List ℕ
-  pub text : PrintsRun sys steps printed
+  pub text : PrintsRun sys items printed
   pub written : Writes printed answer before after

@@ -1,18 +1,18 @@
 -- What is read before a run begins.
-use Rattle.std.specs.Prelude.{◌≡◌, ℕ, ◌<◌, List, length, Option}
+use Rattle.std.specs.Prelude.{◌≡◌, ℕ, ◌<◌, ◌≤◌, List, length, Option}
 use Rattle.fw_lines.specs.declared.fault.ReadFault.{ReadFault}
 use Rattle.fw_lines.specs.declared.fault.ReadFault.TheVariants as lines
 use Rattle.fw_lines.specs.declared.refusal.Code.{Code}
 use Rattle.fw_lines.specs.declared.refusal.Refusal.{Refusal}
 use Rattle.fw_lines.specs.Faults.{IsOfWhole}
-use Rattle.fw_flow.specs.declared.step.Step.{Step}
-use Rattle.fw_flow.specs.Dataflow.{System, NotifiesNobody, KeepsNothing, system_of}
+use Rattle.fw_flow.specs.Dataflow.{System, system_of}
 use Rattle.fw_flow.specs.WellFormed.{IsWellFormedSystem}
-use Rattle.fw_flow.specs.Step.{ArePlain}
+use Rattle.fw_schedule.specs.declared.item.Item.{Item}
+use Rattle.fw_schedule.specs.Schedule.{step_count, step_limit}
 use Rattle.fw_run.specs.declared.reading.JobFault.{JobFault}
 use Rattle.fw_run.specs.declared.reading.JobFault.TheVariants.{Failed, Refused, NoMemory}
 use Rattle.fw_run.specs.declared.reading.Job.{Job}
-use Rattle.fw_run.specs.Texts.{HasText, Texts, AreThere, AreAccepted, spelled_system, spelled_steps}
+use Rattle.fw_run.specs.Texts.{HasText, Texts, AreThere, AreAccepted, spelled_system, spelled_items}
 use Rattle.fw_run.specs.Words.{TextNames}
 
 -- where the fault is a refusal it is one of these; the other faults say nothing here
@@ -36,11 +36,9 @@ pub record IsJob (told : Option (List ℕ → Option (List ℕ))) (names : TextN
   pub there : AreThere told names texts
   pub accepted : AreAccepted texts
   pub system : system_of job.flow job.batches ≡ spelled_system texts
-  pub steps : job.steps ≡ spelled_steps texts
+  pub items : job.items ≡ spelled_items texts
 
--- what the plain engine asks of a run
-pub record IsReady (sys : System) (steps : List Step) : Type 0 where
+-- what a run of items asks: the engine a well-formed system, and the counts of steps that they are not too many
+pub record IsReady (sys : System) (items : List Item) : Type 0 where
   pub well_formed : IsWellFormedSystem sys
-  pub keeps_nothing : KeepsNothing sys.flow
-  pub notifies_nobody : NotifiesNobody sys.flow
-  pub plain : ArePlain steps
+  pub few : step_count items ≤ step_limit

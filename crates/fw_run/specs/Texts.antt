@@ -7,13 +7,13 @@ use Rattle.fw_lines.specs.Faults.{BreakNoRule}
 use Rattle.fw_lines.specs.Inputs.{line_fault, size_limit}
 use Rattle.fw_lines.specs.Inputs as inputs
 use Rattle.fw_lines.specs.Lines.{said_lines}
-use Rattle.fw_flow.specs.declared.step.Step.{Step}
 use Rattle.fw_flow.specs.Dataflow.{Dataflow, System, node_ids}
 use Rattle.fw_flow.specs.Raw.{flow_of}
 use Rattle.fw_flow.specs.Sources.{sources_of}
 use Rattle.fw_flow_text.specs.Grammar.{declared_by}
 use Rattle.fw_flow_text.specs.Grammar as flows
-use Rattle.fw_schedule.specs.Grammar.{steps_of}
+use Rattle.fw_schedule.specs.declared.item.Item.{Item}
+use Rattle.fw_schedule.specs.Grammar.{items_of}
 use Rattle.fw_schedule.specs.Grammar as schedules
 use Rattle.fw_run.specs.Words.{TextNames}
 
@@ -35,9 +35,9 @@ spelled_batches flow text = map (inputs.batches_of (sources_of flow) (said_lines
 abbrev pub spelled_system : Texts → System
 spelled_system texts = record { flow = spelled_flow texts.flow; batches = spelled_batches (spelled_flow texts.flow) texts.inputs }
 
--- the steps of the schedule
-abbrev pub spelled_steps : Texts → List Step
-spelled_steps texts = steps_of (spelled_flow texts.flow) (said_lines texts.schedule)
+-- the items of the schedule
+abbrev pub spelled_items : Texts → List Item
+spelled_items texts = items_of (spelled_flow texts.flow) (said_lines texts.schedule)
 
 -- the text is that of a flow
 abbrev pub IsFlow : List ℕ → Type 0
@@ -50,7 +50,7 @@ pub record AreInputsOf (flow : Dataflow) (text : List ℕ) : Type 0 where
 
 -- the text is a schedule of the dataflow
 abbrev pub IsScheduleOf : Dataflow → List ℕ → Type 0
-IsScheduleOf flow text = schedules.IsAccepted text flow (steps_of flow (said_lines text))
+IsScheduleOf flow text = schedules.IsAccepted text flow (items_of flow (said_lines text))
 
 -- the three texts are accepted: of a flow, its inputs and its schedule
 pub record AreAccepted (texts : Texts) : Type 0 where

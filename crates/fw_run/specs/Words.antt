@@ -1,8 +1,11 @@
 -- The words of a command.
 use Rattle.std.specs.Prelude.{ℕ, Bool, false, not, ◌&&◌, ◌==◌, if◌then◌else◌, List, [], ◌∷◌, map, Option, Some, None, codes}
+use Rattle.std.specs.Option.{option_or}
 use Rattle.std.specs.Str.{bytes_eq}
 use Rattle.std.specs.Borrow.{Bor}
 use Rattle.fw_run.specs.declared.words.RunWords.{RunWords}
+use Rattle.fw_run.specs.declared.words.CommandWords.{CommandWords}
+use Rattle.fw_run.specs.declared.words.CommandWords.TheVariants.{Run, Check}
 
 -- the bytes of the words
 abbrev pub words_in : List (Bor (List ℕ)) → List (List ℕ)
@@ -19,18 +22,33 @@ pub record TextNames : Type 0 where
   pub inputs : List ℕ
   pub schedule : List ℕ
 
--- a command with its operands
+-- a command with its operands: to run three texts, or to check the text of a flow
 pub data Command : Type 0 where
   run : TextNames → Command
+  check : List ℕ → Command
 
--- the command that words are, if they are one: `run` and three operands
-abbrev pub command_of : List (List ℕ) → Option Command
-command_of (word ∷ flow ∷ inputs ∷ schedule ∷ []) =
+-- a check, if the words are `check` and an operand
+abbrev pub check_of : List (List ℕ) → Option Command
+check_of (word ∷ flow ∷ []) = if bytes_eq word (codes "check") && is_operand flow then Some (check flow) else None
+check_of words = None
+
+-- a run, if the words are `run` and three operands
+abbrev pub run_of : List (List ℕ) → Option Command
+run_of (word ∷ flow ∷ inputs ∷ schedule ∷ []) =
     if bytes_eq word (codes "run") && is_operand flow && is_operand inputs && is_operand schedule
     then Some (run (record { flow = flow; inputs = inputs; schedule = schedule }))
     else None
-command_of words = None
+run_of words = None
+
+-- the command that words are, if they are one
+abbrev pub command_of : List (List ℕ) → Option Command
+command_of words = option_or (check_of words) (run_of words)
 
 -- the names that parsed words give
 abbrev pub text_names_in : RunWords → TextNames
 text_names_in words = record { flow = words.flow.now; inputs = words.inputs.now; schedule = words.schedule.now }
+
+-- the command that parsed words give
+abbrev pub command_in : CommandWords → Command
+command_in (Run names) = run (text_names_in names)
+command_in (Check flow) = check flow.now

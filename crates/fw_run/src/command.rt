@@ -6,7 +6,7 @@ ghost use Rattle.fw_outside.specs.Outside.{Rose};
 ghost use Rattle.fw_run.specs.Call.{call_of, PrintsAll, PrintsPart, HasRefused, KeepsFolder, TellsNotes, AnswersTexts};
 ghost use Rattle.fw_run.specs.Headline.{Headline};
 ghost use Rattle.fw_run.specs.Status.{status_number, IsTold, IsTellingOf};
-ghost use Rattle.fw_run.specs.Texts.{Texts, AreAccepted, spelled_system, spelled_steps};
+ghost use Rattle.fw_run.specs.Texts.{Texts, AreAccepted, spelled_system, spelled_items};
 ghost use Rattle.fw_run.specs.Words.{words_in, command_of};
 
 use crate::Status;
@@ -16,8 +16,9 @@ use fw_outside::{Folder, Sink, Store};
 use std::alloc::Global;
 
 /// Runs a command: `words` are those after the program's name. `run FLOW INPUTS SCHEDULE` fetches and reads the
-/// three texts from the folder, takes the steps of the schedule and prints their effects to `out`. Where that does
-/// not end well, one line on `notes` says why. The store is for records that nodes write, and none does yet.
+/// three texts from the folder, takes the steps of the schedule and prints their effects to `out`; `check FLOW` reads the
+/// text of a flow and prints its nodes. Where that does not end well, one line on `notes` says why. The store is for
+/// records that nodes write, and none does yet.
 pub fn falkirk<F: Folder, K: Store, O: Sink, N: Sink>(
     alloc: Global,
     words: &[&str],
@@ -26,7 +27,7 @@ pub fn falkirk<F: Folder, K: Store, O: Sink, N: Sink>(
     out: &mut O,
     notes: &mut N,
 ) -> Status
-    // 0: all that the run of accepted texts prints was written, and no write was refused.
+    // 0: all that the command prints of accepted texts was written, and no write was refused.
     ensures done { result ≡ Status.Done
         → PrintsAll (call_of words.now (F.texts folder.old)) (O.view out.old) (O.view out.new) }
     // 2: exactly where the words are no command.
@@ -52,9 +53,9 @@ pub fn falkirk<F: Folder, K: Store, O: Sink, N: Sink>(
     ensures never_fall { (F.fault_count folder.old ≤ F.fault_count folder.new)
         × ((O.view out.old).faults ≤ (O.view out.new).faults) × ((N.view notes.old).faults ≤ (N.view notes.new).faults) }
 
-    // Which texts are refused and which are run; and what the machine does with accepted texts.
+    // Which texts are refused and of which all is printed; and what the machine does with accepted texts of a run.
     ensures answer { AnswersTexts (call_of words.now (F.texts folder.old)) result }
-    ensures headline { (texts : Texts) → AreAccepted texts → Headline (spelled_system texts) (spelled_steps texts) }
+    ensures headline { (texts : Texts) → AreAccepted texts → Headline (spelled_system texts) (spelled_items texts) }
 {
     let status = run(alloc, words, folder, out);
     tell(alloc, status, notes)

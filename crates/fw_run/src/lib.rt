@@ -2,12 +2,14 @@
 #![tactic(auto)]
 
 mod command;
+mod listing;
 mod perform;
 mod reading;
 mod run;
 mod status;
 mod text;
 mod words;
+mod work;
 
 pub use command::falkirk;
 pub use fw_lines::{Code, Refusal};

@@ -1,57 +1,106 @@
-//! The steps are taken and what comes of them is printed.
-ghost use Rattle.std.specs.Prelude.{◌≡◌, true};
+//! The steps of a schedule are taken and what comes of them is printed.
+ghost use Rattle.std.specs.Prelude.{◌≡◌};
 ghost use Rattle.fw_flow.specs.Dataflow.{system_of};
-ghost use Rattle.fw_flow.specs.Step.{is_plain_step};
+ghost use Rattle.fw_plain.specs.EffectText.{outcome_text};
 ghost use Rattle.fw_plain.specs.Engine.{outcome_of};
-ghost use Rattle.fw_run.specs.Performing.{PrintsStep, Performs, shown_bytes};
+ghost use Rattle.fw_run.specs.Performing.{IsUnderWay, PrintsItem, Performs, shown_bytes};
 ghost use Rattle.fw_run.specs.Printed as spec;
 ghost use Rattle.fw_run.specs.Reading.{IsReady};
 ghost use Rattle.fw_run.specs.Writing.{Writes};
 
 use crate::reading::Job;
 use crate::text::{done_line, line_of};
-use fw_flow::Step;
+use fw_flow::{Flow, Step};
 use fw_outside::{OutFault, Sink};
 use fw_plain::{Engine, Stepped};
+use fw_schedule::Item;
 use std::alloc::Global;
 
-/// Takes the steps, and prints each effect and last how many steps there were and how many were idle.
+/// How many steps were taken, and how many of these were not enabled.
+#[derive(Clone, Copy, Debug)]
+pub(crate) struct Taken {
+    pub steps: u64,
+    pub idle: u64,
+}
+
+/// Takes the steps of the items, and prints each effect and last how many steps there were and how many were idle.
 pub(crate) fn perform<O: Sink>(alloc: Global, job: Job, out: &mut O) -> Result<(), OutFault>
-    requires { IsReady (system_of job.flow job.batches) job.steps }
-    ensures { Performs (system_of job.flow job.batches) job.steps result (O.view out.old) (O.view out.new) }
+    requires { IsReady (system_of job.flow job.batches) job.items }
+    ensures { Performs (system_of job.flow job.batches) job.items result (O.view out.old) (O.view out.new) }
 {
     let Job {
         flow,
         batches,
-        steps,
+        items,
     } = job;
     let mut engine = Engine::new(alloc, flow, batches)?;
+    let mut steps = 0u64;
     let mut idle = 0u64;
-    for step in steps.as_slice() {
-        if perform_step(alloc, &mut engine, step, out)? {
-            idle += 1;
-        }
+    for item in items.as_slice() {
+        let taken = perform_item(alloc, &mut engine, item, out)?;
+        steps += taken.steps;
+        idle += taken.idle;
     }
-    let line = done_line(alloc, steps.len() as u64, idle)?;
+    let line = done_line(alloc, steps, idle)?;
     out.write(line.as_bytes())
 }
 
-// Takes a step and prints its line, if it has one. It says whether the step was idle.
+// Takes the steps of an item and prints their lines. It says how many there were.
+fn perform_item<O: Sink>(
+    alloc: Global,
+    engine: &mut Engine,
+    item: &Item,
+    out: &mut O,
+) -> Result<Taken, OutFault>
+    requires { IsUnderWay engine.old }
+    ensures system { engine.new.sys ≡ engine.old.sys }
+    ensures printed { PrintsItem engine.old engine.new item.now result (O.view out.old) (O.view out.new) }
+{
+    match item {
+        Item::One(step) => perform_step(alloc, engine, step, out),
+        Item::Auto(most) => perform_auto(alloc, engine, *most, out),
+    }
+}
+
+// Takes a step and prints its lines.
 fn perform_step<O: Sink>(
     alloc: Global,
     engine: &mut Engine,
     step: &Step,
     out: &mut O,
-) -> Result<bool, OutFault>
-    requires { is_plain_step step.now ≡ true }
+) -> Result<Taken, OutFault>
+    requires { IsUnderWay engine.old }
     ensures system { engine.new.sys ≡ engine.old.sys }
-    ensures printed { PrintsStep engine.old engine.new step.now result (O.view out.old) (O.view out.new) }
+    ensures printed { PrintsItem engine.old engine.new (Item.One step.now) result (O.view out.old) (O.view out.new) }
 {
     let stepped = engine.step(step)?;
-    let idle = is_idle(&stepped);
-    let line = line_of(alloc, engine.flow(), stepped)?;
-    write_line(line, out)?;
-    Ok(idle)
+    let idle = is_idle(&stepped) as u64;
+    print(alloc, engine.flow(), stepped, out)?;
+    Ok(Taken { steps: 1, idle })
+}
+
+// Takes the first step that is enabled, again and again, at most so many, and prints their lines.
+fn perform_auto<O: Sink>(
+    alloc: Global,
+    engine: &mut Engine,
+    most: u64,
+    out: &mut O,
+) -> Result<Taken, OutFault>
+    requires { IsUnderWay engine.old }
+    ensures system { engine.new.sys ≡ engine.old.sys }
+    ensures printed { PrintsItem engine.old engine.new (Item.Auto most) result (O.view out.old) (O.view out.new) }
+{
+    for steps in 0..most {
+        let stepped = engine.auto_step()?;
+        if is_idle(&stepped) {
+            return Ok(Taken { steps, idle: 0 });
+        }
+        print(alloc, engine.flow(), stepped, out)?;
+    }
+    Ok(Taken {
+        steps: most,
+        idle: 0,
+    })
 }
 
 // Whether the step was not enabled.
@@ -61,11 +110,16 @@ fn is_idle(stepped: &Stepped) -> bool
     matches!(stepped, Stepped::Idle)
 }
 
-// Writes the line, if there is one.
-fn write_line<O: Sink>(line: Option<Vec<u8>>, out: &mut O) -> Result<(), OutFault>
-    ensures { Writes (shown_bytes line) result (O.view out.old) (O.view out.new) }
+// Prints the lines of what came of a step, if it shows something.
+fn print<O: Sink>(
+    alloc: Global,
+    flow: &Flow,
+    stepped: Stepped,
+    out: &mut O,
+) -> Result<(), OutFault>
+    ensures { Writes (outcome_text flow.now (outcome_of stepped)) result (O.view out.old) (O.view out.new) }
 {
-    match line {
+    match line_of(alloc, flow, stepped)? {
         Some(line) => out.write(&line),
         None => Ok(()),
     }

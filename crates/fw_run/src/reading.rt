@@ -2,12 +2,12 @@
 ghost use Rattle.std.specs.Prelude.{◌≡◌, ◌^◌, ◌<◌, ◌≤◌, IfOk, IfErr, IsErrOf};
 ghost use Rattle.fw_outside.specs.Outside.{Rose, IsText, one_more};
 ghost use Rattle.fw_lines.specs.Inputs as inputs;
-ghost use Rattle.fw_flow.specs.Dataflow.{KeepsNothing, NotifiesNobody, system_of};
+ghost use Rattle.fw_flow.specs.Dataflow.{system_of};
 ghost use Rattle.fw_flow.specs.Sources.{sources_of};
-ghost use Rattle.fw_flow.specs.Step.{ArePlain};
 ghost use Rattle.fw_flow.specs.WellFormed.{IsWellFormedSystem};
 ghost use Rattle.fw_flow_text.specs.Grammar as flows;
 ghost use Rattle.fw_schedule.specs.Grammar as schedules;
+ghost use Rattle.fw_schedule.specs.Schedule.{step_count, step_limit};
 ghost use Rattle.fw_run.specs.Reading.{IfRefused, IsTooLarge, IsJob, IsReady};
 ghost use Rattle.fw_run.specs.Words.{text_names_in};
 ghost use Rattle.fw_run.specs.Texts.{HasText, IsFlowRefused, AreInputsRefused, IsScheduleRefused, IsFirstRefusal, IsAskedNoMore};
@@ -26,7 +26,7 @@ use std::alloc::{AllocError, Global};
 pub struct Job {
     pub flow: Flow,
     pub batches: Batches,
-    pub steps: Schedule,
+    pub items: Schedule,
 }
 
 /// Why no run begins.
@@ -70,7 +70,7 @@ pub(crate) fn read_job<F: Folder>(
     folder: &mut F,
 ) -> Result<Job, JobFault>
     ensures job { IfOk result (IsJob (F.texts folder.old) (text_names_in words.now)) }
-    ensures ready { IfOk result (λ job. IsReady (system_of job.flow job.batches) job.steps) }
+    ensures ready { IfOk result (λ job. IsReady (system_of job.flow job.batches) job.items) }
     ensures refused { IfErr result (IfRefused (IsFirstRefusal (F.texts folder.old) (text_names_in words.now))) }
     ensures failed { IsErrOf result JobFault.Failed → Rose (F.fault_count folder.old) (F.fault_count folder.new) }
     ensures never_falls { F.fault_count folder.old ≤ F.fault_count folder.new }
@@ -79,19 +79,17 @@ pub(crate) fn read_job<F: Folder>(
 {
     let flow = fetch_flow(alloc, folder, words.flow)?;
     let batches = fetch_inputs(alloc, folder, words.inputs, &flow)?;
-    let steps = fetch_schedule(alloc, folder, words.schedule, &flow)?;
+    let items = fetch_schedule(alloc, folder, words.schedule, &flow)?;
     Ok(Job {
         flow,
         batches,
-        steps,
+        items,
     })
 }
 
-// The flow of the text under a name.
-fn fetch_flow<F: Folder>(alloc: Global, folder: &mut F, name: &str) -> Result<Flow, JobFault>
+/// The flow of the text under a name.
+pub(crate) fn fetch_flow<F: Folder>(alloc: Global, folder: &mut F, name: &str) -> Result<Flow, JobFault>
     ensures flow { IfOk result (λ flow. HasText (F.texts folder.old) name.now (λ text. flows.IsAccepted text flow)) }
-    ensures keeps_nothing { IfOk result KeepsNothing }
-    ensures notifies_nobody { IfOk result NotifiesNobody }
     ensures refused { IfErr result (IfRefused (IsFlowRefused (F.texts folder.old) name.now)) }
     ensures failed { IsErrOf result JobFault.Failed → Rose (F.fault_count folder.old) (F.fault_count folder.new) }
     ensures never_falls { F.fault_count folder.old ≤ F.fault_count folder.new }
@@ -125,16 +123,16 @@ fn fetch_inputs<F: Folder>(
     Ok(batches)
 }
 
-// The steps of the text under a name.
+// The items of the text under a name.
 fn fetch_schedule<F: Folder>(
     alloc: Global,
     folder: &mut F,
     name: &str,
     flow: &Flow,
 ) -> Result<Schedule, JobFault>
-    ensures steps { IfOk result (λ steps. HasText (F.texts folder.old) name.now
-        (λ text. schedules.IsAccepted text flow.now steps)) }
-    ensures plain { IfOk result ArePlain }
+    ensures items { IfOk result (λ items. HasText (F.texts folder.old) name.now
+        (λ text. schedules.IsAccepted text flow.now items)) }
+    ensures few { IfOk result (λ items. step_count items ≤ step_limit) }
     ensures refused { IfErr result (IfRefused (IsScheduleRefused (F.texts folder.old) name.now flow.now)) }
     ensures failed { IsErrOf result JobFault.Failed → Rose (F.fault_count folder.old) (F.fault_count folder.new) }
     ensures never_falls { F.fault_count folder.old ≤ F.fault_count folder.new }

@@ -1,4 +1,4 @@
-//! The command `run`: the texts are read, and then their steps are taken and printed.
+//! A command is run: its texts are read, and then what they ask for is printed.
 ghost use Rattle.std.specs.Prelude.{◌≡◌, ◌⊎◌, ◌≤◌, ◌↔◌, None};
 ghost use Rattle.fw_lines.specs.declared.refusal.Refusal as lines;
 ghost use Rattle.fw_outside.specs.Outside.{Rose};
@@ -7,13 +7,13 @@ ghost use Rattle.fw_run.specs.Status.{status_number};
 ghost use Rattle.fw_run.specs.Words.{words_in, command_of};
 
 use crate::Status;
-use crate::perform::perform;
-use crate::reading::{JobFault, read_job};
+use crate::reading::JobFault;
 use crate::words::parse;
+use crate::work::{print_work, read_work};
 use fw_outside::{Folder, OutFault, Sink};
 use std::alloc::Global;
 
-/// Reads the texts that the words name, takes the steps and prints their effects.
+/// Reads the texts that the words name, and prints what the command makes of them.
 pub(crate) fn run<F: Folder, O: Sink>(
     alloc: Global,
     words: &[&str],
@@ -35,16 +35,16 @@ pub(crate) fn run<F: Folder, O: Sink>(
     ensures folder_count { F.fault_count folder.old ≤ F.fault_count folder.new }
     ensures out_count { (O.view out.old).faults ≤ (O.view out.new).faults }
 {
-    let Some(words) = parse(words) else {
+    let Some(command) = parse(words) else {
         return Status::BadWords;
     };
-    let job = match read_job(alloc, &words, folder) {
-        Ok(job) => job,
+    let work = match read_work(alloc, &command, folder) {
+        Ok(work) => work,
         Err(JobFault::Failed) => return Status::ReadFault,
         Err(JobFault::Refused(refusal)) => return Status::Refused(refusal),
         Err(JobFault::NoMemory) => return Status::NoMemory,
     };
-    match perform(alloc, job, out) {
+    match print_work(alloc, work, out) {
         Ok(()) => Status::Done,
         Err(OutFault::Failed) => Status::WriteFault,
         Err(OutFault::NoMemory) => Status::NoMemory,

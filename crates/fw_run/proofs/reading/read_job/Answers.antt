@@ -12,18 +12,18 @@ returns-in_err-batches-clause-failed g c =
     let count = g.F.Folder.fault_count in
     rw (p.1, p.2) (λ e. rose_last (count c.args.folder.now) (count c.fetch_flow.new.folder) (count c.fetch_inputs.new.folder) c.fetch_flow.ensures.never_falls c.fetch_inputs.ensures.never_falls (c.in_err-batches.ensures.failed (same_fault _ _ _ _ Failed e)))
 
-pub returns-in_err-steps-clause-failed : goal.returns-in_err-steps-clause-failed
-returns-in_err-steps-clause-failed g c =
-    let p = err_from_is_err_and c.from_residual-in_err-steps.result c.from_residual-in_err-steps.ensures.1 in
+pub returns-in_err-items-clause-failed : goal.returns-in_err-items-clause-failed
+returns-in_err-items-clause-failed g c =
+    let p = err_from_is_err_and c.from_residual-in_err-items.result c.from_residual-in_err-items.ensures.1 in
     let count = g.F.Folder.fault_count in
-    rw (p.1, p.2) (λ e. rose_last (count c.args.folder.now) (count c.fetch_inputs.new.folder) (count c.fetch_schedule.new.folder) (omega (arith, c.fetch_flow.ensures.never_falls, c.fetch_inputs.ensures.never_falls)) c.fetch_schedule.ensures.never_falls (c.in_err-steps.ensures.failed (same_fault _ _ _ _ Failed e)))
+    rw (p.1, p.2) (λ e. rose_last (count c.args.folder.now) (count c.fetch_inputs.new.folder) (count c.fetch_schedule.new.folder) (omega (arith, c.fetch_flow.ensures.never_falls, c.fetch_inputs.ensures.never_falls)) c.fetch_schedule.ensures.never_falls (c.in_err-items.ensures.failed (same_fault _ _ _ _ Failed e)))
 
 pub returns-clause-job : goal.returns-clause-job
 returns-clause-job g c =
     let told = g.F.Folder.texts in
     job_read_in_turn (told c.args.folder.now) (told c.fetch_flow.new.folder) (told c.fetch_inputs.new.folder) (text_names_in c.args.words.now)
-    (record { flow = c.in_ok-flow.flow; batches = c.in_ok-batches.batches; steps = c.in_ok-steps.steps })
-    c.fetch_flow.ensures.texts_stay c.fetch_inputs.ensures.texts_stay c.in_ok-flow.ensures.flow c.in_ok-batches.ensures.batches c.in_ok-steps.ensures.steps
+    (record { flow = c.in_ok-flow.flow; batches = c.in_ok-batches.batches; items = c.in_ok-items.items })
+    c.fetch_flow.ensures.texts_stay c.fetch_inputs.ensures.texts_stay c.in_ok-flow.ensures.flow c.in_ok-batches.ensures.batches c.in_ok-items.ensures.items
 
 pub returns-in_err-batches-clause-asked_no_more : goal.returns-in_err-batches-clause-asked_no_more
 returns-in_err-batches-clause-asked_no_more g c =
@@ -31,8 +31,8 @@ returns-in_err-batches-clause-asked_no_more g c =
     fetched_second (g.F.Folder.texts c.args.folder.now) (text_names_in c.args.words.now) c.in_ok-flow.flow (count c.args.folder.now) (count c.fetch_flow.new.folder) (count c.fetch_inputs.new.folder)
     c.in_ok-flow.ensures.flow c.fetch_flow.ensures.counted c.fetch_inputs.ensures.counted
 
-pub returns-in_err-steps-clause-asked_no_more : goal.returns-in_err-steps-clause-asked_no_more
-returns-in_err-steps-clause-asked_no_more g c =
+pub returns-in_err-items-clause-asked_no_more : goal.returns-in_err-items-clause-asked_no_more
+returns-in_err-items-clause-asked_no_more g c =
     let count = g.F.Folder.fetch_count in
     let told = g.F.Folder.texts in
     fetched_third (told c.args.folder.now) (told c.fetch_flow.new.folder) (text_names_in c.args.words.now) c.in_ok-flow.flow c.in_ok-batches.batches (count c.args.folder.now) (count c.fetch_flow.new.folder) (count c.fetch_inputs.new.folder) (count c.fetch_schedule.new.folder)

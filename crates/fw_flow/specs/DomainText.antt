@@ -1,0 +1,15 @@
+-- How a domain is printed.
+use Rattle.std.specs.Prelude.{ℕ, List, [], ◌++◌, codes, None, slice_index_or}
+use Rattle.fw_flow.specs.declared.kind.Domain.{Domain}
+use Rattle.fw_flow.specs.declared.kind.Domain.TheVariants.{Epoch, Number, Loop as InLoop}
+use Rattle.fw_flow.specs.Dataflow.{Dataflow}
+
+-- the name of a loop; past the last loop it is empty
+abbrev pub loop_name : Dataflow → ℕ → List ℕ
+loop_name flow l = (slice_index_or flow.loops l (record { name = []; max = 0; parent = None })).name
+
+-- `epoch`, `number`, or `loop:` and the name of the loop
+abbrev pub domain_text : Dataflow → Domain → List ℕ
+domain_text flow Epoch = codes "epoch"
+domain_text flow Number = codes "number"
+domain_text flow (InLoop l) = codes "loop:" ++ loop_name flow l

@@ -1,0 +1,24 @@
+//! The loops of a flow.
+ghost use Rattle.std.specs.Prelude.{◌≡◌, length};
+ghost use Rattle.fw_flow.specs.DomainText.{loop_name};
+
+use crate::{Flow, LoopId};
+
+impl Flow {
+    /// How many loops it has: they stand at the places from 0 on.
+    pub fn loops(&self) -> usize
+        ensures { result ≡ length self.now.loops }
+    {
+        self.loops.len()
+    }
+
+    /// The name of a loop; past the last loop it is empty.
+    pub fn loop_name(&self, id: LoopId) -> &str
+        ensures { result.now ≡ loop_name self.now id }
+    {
+        match self.loops.get(id.place() as usize) {
+            Some(a_loop) => a_loop.name.as_str(),
+            None => "",
+        }
+    }
+}

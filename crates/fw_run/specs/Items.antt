@@ -1,0 +1,22 @@
+-- The steps to which the items of a schedule come.
+use Rattle.std.specs.Prelude.{◌≡◌, List, [], ◌∷◌, ◌++◌}
+use Rattle.fw_flow.specs.declared.step.Step.{Step}
+use Rattle.fw_flow.specs.Dataflow.{System}
+use Rattle.fw_schedule.specs.declared.item.Item.{Item}
+use Rattle.fw_schedule.specs.declared.item.Item.TheVariants.{One, Auto}
+use Rattle.fw_model.specs.Auto.{IsAutoRun}
+use Rattle.fw_model.specs.Machine.{Machine}
+use Rattle.fw_model.specs.Steps.{Outcome, StepsTo}
+
+-- From a state an item comes to these steps, which lead to the next state: one step, enabled or not, or those that `auto` takes.
+abbrev pub ItemComesTo : System → Machine → Item → List Step → Machine → Type 0
+ItemComesTo sys state (One step) steps next = (outcome : Outcome) × StepsTo sys state step next outcome × (steps ≡ step ∷ [])
+ItemComesTo sys state (Auto most) steps next = IsAutoRun sys state most steps next
+
+-- From a state the items come to these steps, which lead to the last one: each item to its own, from where the items before it
+-- led.
+abbrev pub ComesTo : System → Machine → List Item → List Step → Machine → Type 0
+ComesTo sys state [] steps last = (steps ≡ []) × (last ≡ state)
+ComesTo sys state (item ∷ items) steps last =
+    (first : List Step) × (next : Machine) × (others : List Step) × ItemComesTo sys state item first next
+    × ComesTo sys next items others last × (steps ≡ first ++ others)

@@ -7,7 +7,6 @@ pub use Rattle.fw_frontier.specs.Front
 pub use Rattle.fw_flow.specs.Builder
 pub use Rattle.fw_flow.specs.Check
 pub use Rattle.fw_flow.specs.Dataflow
-pub use Rattle.fw_flow.specs.Step
 pub use Rattle.fw_flow.specs.WellFormed
 pub use Rattle.fw_model.specs.Choice
 pub use Rattle.fw_model.specs.Denotation

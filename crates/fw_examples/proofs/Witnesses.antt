@@ -7,7 +7,7 @@ use Rattle.fw_time.proofs.EachLaws.{each-one}
 use Rattle.fw_frontier.specs.Front.{frontier_of}
 use Rattle.fw_frontier.specs.Frontier.{IsFrontier, join}
 use Rattle.fw_frontier.proofs.NamesLaws.{frontier-closed}
-use Rattle.fw_flow.specs.Dataflow.{HasEpochs, NotifiesNobody, batches_of, bounds_of, declared_parent, in_edges, kind_of, loops_of, max_of, out_edges, parent_of, policy_of, receiver, sender}
+use Rattle.fw_flow.specs.Dataflow.{HasEpochs, batches_of, bounds_of, declared_parent, in_edges, kind_of, loops_of, max_of, out_edges, parent_of, policy_of, receiver, sender}
 use Rattle.fw_flow.specs.NodeFunction.{sends}
 use Rattle.fw_flow.specs.Projection.{phi, psi}
 use Rattle.fw_flow.specs.WellFormed.{IsWellFormed, IsWellFormedSystem}
@@ -31,7 +31,7 @@ use Rattle.fw_examples.specs.Loop.{counted_rounds, counting_failed, restored}
 use Rattle.fw_examples.specs.RunningTotal.{alike, come_back, next_epochs, outcomes_to_failure, output_failed, steps_to_failure, totals, totals_denoted, two_epochs, two_epochs_kept}
 use Rattle.fw_examples.specs.Witnesses.{AnEpochIsClosed, ChoicesUnite, CutsUnite, EachStepHasItsChoice, FailureIsReached, JoinIsAFrontier, LessIsConsistent, LoopIsFiltered, LowWatermarkRises, MoreIsComplete, NotifiedAndGoesOn, NumbersAreDelivered, OneIsOnItsWay, RecoveryIsReached, SequenceIsFiltered, SomeIsSettled, SomethingIsChosen, TotalsAreFiltered, TotalsAreWellFormed, TwoEpochsAreComplete, TwoRunsMeet, both_rounds, first_rounds, kept_epoch}
 use Rattle.fw_examples.proofs.Choosing.{lies}
-use Rattle.fw_examples.proofs.Fronts.{all_seven, by_four, by_three, canonical_by, within_two}
+use Rattle.fw_examples.proofs.Fronts.{by_four, by_three, canonical_by, within_two}
 use Rattle.fw_examples.proofs.Loop.{loop_is_reached, loop_is_restored, restored_is_largest, under_way_is_complete, under_way_is_legal, under_way_leaves}
 use Rattle.fw_examples.proofs.Plays.{Move, after_all, deliver, inject, plays, steps_of}
 use Rattle.fw_examples.proofs.Settling.{admissible_by, closed_by, complete_by, notifies}
@@ -297,10 +297,6 @@ totals_are_filtered = record {
 
 -- ---- the loop
 
-loop_notifies_nobody : NotifiesNobody loop_counts_up
-unfolding kind_of
-loop_notifies_nobody = all_seven _ refl refl refl refl refl refl refl (λ p. refl)
-
 loop_meets : MeetsInclusions two_batches counting_failed restored
 loop_meets = consistent-meets two_batches counting_failed (is_failed counting_failed) kept restored restored_is_largest.consistent
 
@@ -309,7 +305,6 @@ unfolding kind_of receiver sender sends bounds_of batches_of max_of parent_of de
 loop_is_filtered = record {
   well_formed = is_well_formed;
   epochs = loop_is_reached.epochs;
-  nobody = loop_notifies_nobody;
   legal = under_way_is_legal;
   frontiers = λ p. set-frontier two_batches p _;
   come = (choice-consistent two_batches counting_failed restored is_well_formed loop_meets).delivered;

@@ -3,7 +3,7 @@ use Rattle.std.specs.Prelude.{[], false, length, map, true, ℕ, ◌++◌, ◌<�
 use Rattle.fw_bag.specs.Bag.{how_often}
 use Rattle.fw_frontier.specs.Front.{Front}
 use Rattle.fw_frontier.specs.Frontier.{Frontier, IsFrontier, Within, join}
-use Rattle.fw_flow.specs.Dataflow.{HasEpochs, NotifiesNobody, bounds_of, is_numbered, kind_of, policy_of, receiver, sender, node_frontier}
+use Rattle.fw_flow.specs.Dataflow.{HasEpochs, bounds_of, is_numbered, kind_of, policy_of, receiver, sender, node_frontier}
 use Rattle.fw_flow.specs.Projection.{phi}
 use Rattle.fw_flow.specs.Restoring.{can_resend, way_of}
 use Rattle.fw_flow.specs.WellFormed.{IsWellFormed, IsWellFormedSystem}
@@ -237,12 +237,11 @@ kept_rounds p = kept_of two_batches.flow restored p
 abbrev pub two_rounds : Frontier
 two_rounds = node_frontier loop_counts_up (sender loop_counts_up 3) (round 0 2 ∷ round 1 0 ∷ [])
 
--- The recovery of the loop, in which no node is notified, filters out a delivery. On an edge to a node that stays as it is one
+-- The recovery of the loop filters out a delivery. On an edge to a node that stays as it is one
 -- message of two stays pending, and on the edge to the node that is cut one more is pending than before.
 pub record LoopIsFiltered : Type 0 where
   pub well_formed : IsWellFormed loop_counts_up
   pub epochs : HasEpochs two_batches
-  pub nobody : NotifiesNobody loop_counts_up
   pub legal : IsLegal two_batches under_way
   pub frontiers : AreFrontiers loop_counts_up kept_rounds
   pub come : ComeFromKept two_batches under_way kept_rounds

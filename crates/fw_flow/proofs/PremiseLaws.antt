@@ -1,4 +1,4 @@
--- What is true of each node of a flow, and of its batches, from what a test of each place says.
+-- What is true of a flow and its batches, from what a test of each place says.
 use Rattle.std.proofs.Common.{◌≡◌, ℕ, ◌^◌, ◌<◌, ◌≤◌, Bool, true, false, ◌==◌, ◌&&◌, ◌||◌, nat_le, List, [], ◌∷◌, length, map, refl, sym, ◌∙◌, ap, subst, arith, get_or}
 use Rattle.std.proofs.lemmas.Bool.Decides.{nat_tests}
 use Rattle.std.proofs.lemmas.List.{get_or_past}
@@ -7,25 +7,11 @@ use Rattle.std.specs.List.{AllByRecursion}
 use Rattle.fw_bag.specs.declared.rec.Rec.{Rec}
 use Rattle.fw_lines.specs.Batches.{batches_at, IsBatch, AreBatches}
 use Rattle.fw_flow.specs.declared.kind.Kind.{Kind}
-use Rattle.fw_flow.specs.declared.kind.Policy.TheVariants as policy
 use Rattle.fw_flow.specs.Check.{HoldsBelow}
-use Rattle.fw_flow.specs.Dataflow.{Dataflow, idle_node, kind_of, policy_of, is_input_kind, is_notified_kind, node_ids, batches_of, batches_of_nodes, system_of, KeepsNothing, NotifiesNobody}
+use Rattle.fw_flow.specs.Dataflow.{Dataflow, kind_of, is_input_kind, node_ids, batches_of, batches_of_nodes, system_of}
 use Rattle.fw_flow.specs.Premises.{may_have}
 use Rattle.fw_flow.specs.WellFormed.{IsWellFormed, IsWellFormedSystem}
-use Rattle.fw_flow.proofs.EdgeLaws.{by_place, kind-past}
-
-policy-past : (flow : Dataflow) (p : ℕ) → length flow.nodes ≤ p → policy_of flow p ≡ policy.None
-unfolding policy_of
-policy-past flow p h = ap (λ node. node.policy) (get_or_past flow.nodes p idle_node h)
-
--- where no node that is there keeps anything, none does
-pub keeps_nothing-below : (flow : Dataflow) (n : ℕ) → length flow.nodes ≤ n → HoldsBelow (λ p. policy_of flow p ≡ policy.None) n → KeepsNothing flow
-keeps_nothing-below flow n all h p = by_place (policy_of flow p ≡ policy.None) p n (h p) (λ past. policy-past flow p (omega arith))
-
--- where no node that is there is notified, none is
-pub notifies_nobody-below : (flow : Dataflow) (n : ℕ) → length flow.nodes ≤ n → HoldsBelow (λ p. is_notified_kind (kind_of flow p) ≡ false) n → NotifiesNobody flow
-notifies_nobody-below flow n all h p =
-    by_place (is_notified_kind (kind_of flow p) ≡ false) p n (h p) (λ past. ap is_notified_kind (kind-past flow p (omega arith)))
+use Rattle.fw_flow.proofs.EdgeLaws.{by_place}
 
 -- a node of this kind may have these batches
 abbrev pub MayHave : Dataflow → List (ℕ × List (List Rec)) → ℕ → Type 0

@@ -220,14 +220,6 @@ is_notified_kind Total = true
 is_notified_kind Sequence = true
 is_notified_kind kind = false
 
--- no node is notified
-abbrev pub NotifiesNobody : Dataflow → Type 0
-NotifiesNobody flow = (p : ℕ) → is_notified_kind (kind_of flow p) ≡ false
-
--- no node keeps anything for its recovery
-abbrev pub KeepsNothing : Dataflow → Type 0
-KeepsNothing flow = (p : ℕ) → policy_of flow p ≡ policy.None
-
 -- whether the node is an input
 abbrev pub is_input_kind : Kind → Bool
 is_input_kind Input = true

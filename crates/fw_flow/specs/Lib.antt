@@ -20,7 +20,6 @@ pub mod Raw
 pub mod Restoring
 pub mod SentTable
 pub mod Sources
-pub mod Step
 pub mod Walks
 pub mod WellFormed
 pub mod WholeBags

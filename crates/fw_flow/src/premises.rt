@@ -1,41 +1,17 @@
-//! What an engine asks of its flow and batches, as tests.
-ghost use Rattle.std.specs.Prelude.{◌≡◌, ◌↔◌, length, IsTrue};
+//! What an engine asks of its flow and batches, as a test.
+ghost use Rattle.std.specs.Prelude.{◌≡◌, ◌↔◌, IsTrue};
 ghost use Rattle.fw_lines.specs.Batches.{batches_at};
-ghost use Rattle.fw_flow.specs.Dataflow.{kind_of, KeepsNothing, NotifiesNobody, system_of};
+ghost use Rattle.fw_flow.specs.Dataflow.{kind_of, system_of};
 ghost use Rattle.fw_flow.specs.WellFormed.{IsWellFormedSystem};
 ghost use Rattle.fw_flow.specs.Premises as spec;
 
-use crate::{Flow, Kind, NodeId, Policy};
+use crate::{Flow, Kind, NodeId};
 use fw_lines::Batches;
 
 /// How many batches a source may have.
 const BATCH_LIMIT: usize = 1 << 20;
 
 impl Flow {
-    /// Whether no node keeps anything for its recovery.
-    pub fn keeps_nothing(&self) -> bool
-        ensures { IsTrue result ↔ KeepsNothing self.now }
-    {
-        for place in 0..self.nodes() as u32 {
-            if self.policy(NodeId::at(place)) != Policy::None {
-                return false;
-            }
-        }
-        true
-    }
-
-    /// Whether no node is notified.
-    pub fn notifies_nobody(&self) -> bool
-        ensures { IsTrue result ↔ NotifiesNobody self.now }
-    {
-        for place in 0..self.nodes() as u32 {
-            if self.kind(NodeId::at(place)).is_notified() {
-                return false;
-            }
-        }
-        true
-    }
-
     /// Whether the flow and the batches are a well-formed system: its sources have at most 2^20 batches each, and its other
     /// nodes have none. What batches say of places past the last node does not count.
     pub fn accepts(&self, batches: &Batches) -> bool

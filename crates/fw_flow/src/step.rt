@@ -60,14 +60,3 @@ pub enum Step {
     /// The output acknowledges its next stamp.
     Ack(NodeId),
 }
-
-impl Step {
-    ghost use Rattle.fw_flow.specs.Step.{is_plain_step};
-
-    /// Whether the plain engine takes the step: all but those of writes and collections.
-    pub fn is_plain(&self) -> bool
-        ensures { result ≡ is_plain_step self.now }
-    {
-        !matches!(self, Step::Checkpoint(_) | Step::Persist | Step::Collect)
-    }
-}

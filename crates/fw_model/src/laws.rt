@@ -768,6 +768,8 @@ pub fn replayed_events_send_the_same()
 /// Stamps that are thinned inside a base cover the same as all of them, inside each set that holds the base.
 pub fn thinned_stamps_cover_the_same()
     ensures { ThinnedStampsCoverTheSame }
+{}
+
 /// From each state of a run of a well-formed system `auto` takes, at most so many, exactly one list of steps.
 pub fn auto_runs_are_one()
     ensures { AutoRunsAreOne }

@@ -3,7 +3,6 @@
 
 mod bags;
 mod choices;
-mod declare;
 mod domain;
 mod flow;
 mod node_records;

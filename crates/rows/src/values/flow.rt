@@ -1,12 +1,12 @@
 //! What declarations are as a flow, and what its edges make of frontiers.
-use crate::line::{NoAnswer, if_spelled, part, shown, tell_answer};
+use crate::line::{NoAnswer, part, shown, tell_answer};
 use crate::values::choices::tell_choice;
-use crate::values::declare::declaration;
 use crate::values::node_records::of_node;
 use crate::values::notices::tell_notices;
 use crate::values::sent::sent_table;
 use crate::values::spell::front_of;
-use fw_flow::{Declared, Flow, RawFlow, SentTable};
+use fw_flow::{Flow, SentTable};
+use fw_flow_text::read_flow;
 use fw_lines::ReadFault;
 use std::alloc::{AllocError, Global};
 
@@ -17,51 +17,28 @@ pub fn is_declaration(line: &str) -> bool {
 
 /// Tells whether the declarations among the lines are a flow, and then the answer to each question.
 pub fn tell_flow(alloc: Global, lines: &str, told: &mut String) -> Result<(), AllocError> {
-    let raw = declared(alloc, lines, told)?;
-    match Flow::check(alloc, raw) {
+    let text = declarations(alloc, lines)?;
+    match read_flow(alloc, text.as_bytes()) {
         Ok(flow) => {
             told.push_str("accepted\n")?;
             tell_answers(alloc, &flow, lines, told)
         }
         Err(ReadFault::Refused(refusal)) => {
-            let (code, line) = (refusal.code, refusal.line);
-            let text = format!(in alloc; "refused {code} line {line}\n")?;
+            let text = format!(in alloc; "{refusal}\n")?;
             told.push_str(&text)
         }
         Err(ReadFault::NoMemory) => Err(AllocError),
     }
 }
 
-/// The declarations among the lines, each with its number among them, from 1. One that is not spelled right, or has a name
-/// that is taken, is told and left out.
-fn declared(alloc: Global, lines: &str, told: &mut String) -> Result<RawFlow, AllocError> {
-    let mut raw = RawFlow::new(alloc);
-    let declarations = lines.lines().filter(|line| is_declaration(line));
-    for (line, number) in declarations.zip(1..=u32::MAX) {
-        let (more, is_new) = declare(alloc, raw, number, line)?;
-        raw = more;
-        if !is_new {
-            let text = format!(in alloc; "not declared: {line}\n")?;
-            told.push_str(&text)?;
-        }
+/// The declarations among the lines, as the text of a flow.
+fn declarations(alloc: Global, lines: &str) -> Result<String, AllocError> {
+    let mut text = String::new(alloc);
+    for line in lines.lines().filter(|line| is_declaration(line)) {
+        text.push_str(line)?;
+        text.push('\n')?;
     }
-    Ok(raw)
-}
-
-/// The declarations with that of a line, and whether it is one.
-fn declare(
-    alloc: Global,
-    raw: RawFlow,
-    number: u32,
-    line: &str,
-) -> Result<(RawFlow, bool), AllocError> {
-    match if_spelled(declaration(alloc, line))? {
-        None => Ok((raw, false)),
-        Some(declaration) => raw.declare(Declared {
-            line: number,
-            declaration,
-        }),
-    }
+    Ok(text)
 }
 
 /// Tells the answers to the lines that ask something of the flow: first of projections and records, then of notices, then of

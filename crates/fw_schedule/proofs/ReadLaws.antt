@@ -1,33 +1,21 @@
 -- The lines of a schedule, read one after another.
-use Rattle.std.proofs.Common.{◌≡◌, ℕ, ◌+◌, ◌≤◌, nat_le, Bool, true, false, cond, Result, Ok, Err, List, [], ◌∷◌, ◌++◌, length, Some, None, refl, sym, ◌∙◌, ap, subst, arith, ◌⊎◌, inl, inr}
-use Rattle.std.proofs.lemmas.Bool.{leb-true}
+use Rattle.std.proofs.Common.{◌≡◌, ℕ, ◌+◌, ◌≤◌, List, [], ◌∷◌, ◌++◌, length, Some, None, refl, sym, ◌∙◌, ap, subst, arith, ◌⊎◌, inl, inr}
 use Rattle.std.proofs.lemmas.List.Elements.{filter_map-append}
 use Rattle.std.specs.Result.{result_ok}
 use Rattle.fw_lines.specs.declared.line.Line.{Line}
-use Rattle.fw_lines.specs.declared.refusal.Code.{Code}
-use Rattle.fw_lines.specs.declared.refusal.Code.TheVariants.{S4}
 use Rattle.fw_lines.specs.declared.refusal.Refusal.{Refusal}
 use Rattle.fw_lines.specs.Faults.{IsFirstFault}
 use Rattle.fw_lines.specs.Lines.{Said, words_at, said_in, said_lines}
 use Rattle.fw_lines.proofs.FaultLaws.{IsSoundSoFar, sound_more, first_fault, none_left, sound_or_refused, sound_or_some_refusal, one_first_refusal}
 use Rattle.fw_flow.specs.Dataflow.{Dataflow}
 use Rattle.fw_schedule.specs.declared.item.Item.{Item}
-use Rattle.fw_schedule.specs.Grammar.{item_of, items_of, within_limit, fault_of, line_fault, size_limit, rules_of, IsAccepted, IsRefused}
-use Rattle.fw_schedule.specs.Schedule.{steps_in, step_count, step_limit}
+use Rattle.fw_schedule.specs.Grammar.{item_of, items_of, fault_of, line_fault, size_limit, rules_of, IsAccepted, IsRefused}
+use Rattle.fw_schedule.specs.Schedule.{step_count, step_limit}
 
 -- the steps of items before others
 pub step_count-append : (xs ys : List Item) → step_count (xs ++ ys) ≡ step_count xs + step_count ys
 step_count-append [] ys = omega arith
 step_count-append (x ∷ xs) ys = omega (arith, step_count-append xs ys)
-
--- what is asked for within the limit
-pub asked_within : (count : ℕ) (r : Result Item Code) (item : Item) → within_limit count r ≡ Ok item → (r ≡ Ok item) × (count + steps_in item ≤ step_limit)
-asked_within count (Ok own) item e = by (nat_le (count + steps_in own) step_limit) refl e
-  where
-    by : (b : Bool) → nat_le (count + steps_in own) step_limit ≡ b → cond b (Ok {E = Code} own) (Err S4) ≡ Ok item → (Ok {E = Code} own ≡ Ok item) × (count + steps_in item ≤ step_limit)
-    by true h q = let same : own ≡ item = cc in (q, subst (λ i. count + steps_in i ≤ step_limit) same (leb-true _ _ h))
-    by false h q = absurd (cc (q))
-asked_within count (Err code) item e = absurd (cc (e))
 
 -- what the code's loop knows: some lines are done, none of them breaks a rule, the items are theirs, and their steps are
 -- counted and not too many

@@ -96,7 +96,7 @@ fn step_of_stamp(
 fn is_name_at_stamp(text: &[u8], name: Span, at: Span, stamp: Span) -> bool
     ensures value { result ≡ spec.is_name_at_stamp (bytes_at text.now name) (bytes_at text.now at)
         (bytes_at text.now stamp) }
-    ensures stamp { result ≡ true → stamps.is_stamp (bytes_at text.now stamp) ≡ true }
+    ensures spelled { result ≡ true → stamps.is_stamp (bytes_at text.now stamp) ≡ true }
 {
     is_name(name.of(text)) && is_word(at.of(text), b"at") && is_stamp(stamp.of(text))
 }

@@ -11,13 +11,13 @@ use Rattle.fw_schedule.proofs.reader.read_schedule.Goals as goal
 pub loop-place-preserved : goal.loop-place-preserved
 loop-place-preserved c = record {
   within = c.in_ok-line.ensures.next;
-  read = read_more c.args.flow.now c.args.text.now (said_lines c.args.text.now) (lines_left c.args.text.now c.loop-place.place) (lines_left c.args.text.now c.in_ok-line.next) c.in_ok-line.line c.loop-place.items c.read_line.new.items c.loop-place.count c.in_ok-read_line.field-0 c.loop-place.invariant.read (ap (lines_left c.args.text.now) c.in-Some.is ∙ c.in_ok-line.ensures.line) c.in_ok-read_line.ensures.sound c.in_ok-read_line.ensures.value c.in_ok-read_line.ensures.total c.in_ok-read_line.ensures.few;
+  read = read_more c.args.flow.now c.args.text.now (said_lines c.args.text.now) (lines_left c.args.text.now c.loop-place.place) (lines_left c.args.text.now c.in_ok-line.next) c.in_ok-line.line c.loop-place.items c.read_line.new.items c.loop-place.count c.in_ok-count.count c.loop-place.invariant.read (ap (lines_left c.args.text.now) c.in-Some.is ∙ c.in_ok-line.ensures.line) c.in_ok-count.ensures.sound c.in_ok-count.ensures.value c.in_ok-count.ensures.total c.in_ok-count.ensures.few;
 }
 
-pub returns-in_err-read_line-clause-answer : goal.returns-in_err-read_line-clause-answer
-returns-in_err-read_line-clause-answer c =
-    let p = err_from_is_err_and c.from_residual-in_err-read_line.result c.from_residual-in_err-read_line.ensures.1 in
-    rw (p.1, p.2) (if_refused-weaker _ _ c.in_err-read_line.field-0.0 c.in_err-read_line.ensures.broken (λ refusal h. inr (c.if-text-gt-SCHEDULE_LIMIT.false, read_broken c.args.flow.now c.args.text.now (said_lines c.args.text.now) (lines_left c.args.text.now c.loop-place.place) (lines_left c.args.text.now c.in_ok-line.next) c.in_ok-line.line c.loop-place.items c.loop-place.count refusal c.loop-place.invariant.read (ap (lines_left c.args.text.now) c.in-Some.is ∙ c.in_ok-line.ensures.line) h.0 h.1)))
+pub returns-in_err-count-clause-answer : goal.returns-in_err-count-clause-answer
+returns-in_err-count-clause-answer c =
+    let p = err_from_is_err_and c.from_residual-in_err-count.result c.from_residual-in_err-count.ensures.1 in
+    rw (p.1, p.2) (if_refused-weaker _ _ c.in_err-count.field-0.0 c.in_err-count.ensures.broken (λ refusal h. inr (c.if-text-gt-SCHEDULE_LIMIT.false, read_broken c.args.flow.now c.args.text.now (said_lines c.args.text.now) (lines_left c.args.text.now c.loop-place.place) (lines_left c.args.text.now c.in_ok-line.next) c.in_ok-line.line c.loop-place.items c.loop-place.count refusal c.loop-place.invariant.read (ap (lines_left c.args.text.now) c.in-Some.is ∙ c.in_ok-line.ensures.line) h.0 h.1)))
 
 pub returns-clause-answer : goal.returns-clause-answer
 returns-clause-answer c =

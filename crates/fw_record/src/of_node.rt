@@ -14,8 +14,9 @@ use fw_time::Stamp;
 const NUMBERS: u64 = 1 << 32;
 
 impl Checkpoint {
-    /// Whether it is one of the node at the frontier: it names the node, and what is recorded, the table and the log are
-    /// such as the node's events inside can have made. An edge may be missing.
+    /// Whether it is one of the node at the frontier: it names the two; its fronts and messages are on edges of the node, by
+    /// stamps of the receivers' domains; what it counts and logs was sent by events inside; and the node's kind and policy
+    /// allow its table and its log. An edge may be missing.
     ///
     /// It does not ask whether the checkpoint has a spelling, as one that was read has, nor whether the node writes
     /// checkpoints, which `Flow::restoring` tells.

@@ -3,13 +3,13 @@ use Rattle.std.specs.List.{list_all, list_any}
 use Rattle.std.proofs.Common.{Bool, List, [], ap, arith, eqb-true, false, if◌then◌else◌, inl, inr, length, nat_le, not, refl, subst, sym, true, ℕ, ⊎_elim, ◌&&◌, ◌<◌, ◌==◌, ◌||◌, ◌∙◌, ◌∷◌, ◌≡◌, ◌≤◌, ◌⊎◌}
 use Rattle.std.proofs.lemmas.Bool.{and_from, and_parts, eq-eqb, false≢true, leb-true, not-true, or_cases, or_left, or_right}
 use Rattle.std.proofs.lemmas.Bool.Decides.{nat_tests}
-use Rattle.fw_bag.proofs.OrderingLaws.{equal_from_is_eq}
 use Rattle.fw_time.specs.Stamp.{Stamp, in_domain, leq, same}
 use Rattle.fw_time.specs.declared.stamp.Bounds.{Bounds}
 use Rattle.fw_time.proofs.StampLaws.{same-is}
 use Rattle.fw_frontier.specs.Front.{Front, IsCanonical, IsFrontOf, frontier_of, is_within, same_front}
 use Rattle.fw_frontier.specs.Frontier.{Frontier, IsFrontier, Within, cover, meet, nothing, some_above}
 use Rattle.fw_frontier.proofs.NamesLaws.{frontier-closed, is_within-holds}
+use Rattle.fw_record.proofs.SameFrontLaws.{same_front-is}
 use Rattle.fw_flow.specs.Dataflow.{System, bounds_of, kind_of, policy_of, receiver, sender}
 use Rattle.fw_flow.specs.NodeFunction.{event_node, event_stamp}
 use Rattle.fw_flow.specs.Projection.{all_inside}
@@ -28,15 +28,11 @@ use Rattle.fw_model.specs.Covers.{covers_in, discarded_at, notified_inside, set_
 use Rattle.fw_model.specs.History.{delivered_messages, injected_count, is_exhausted, sent_messages}
 use Rattle.fw_model.specs.Machine.{Machine, SerialEvent, Write, Written, ack_count_of, checkpoint, events, front_of, is_failed, logged_event, no_stamps}
 use Rattle.fw_model.specs.Steps.{IsSettledCut, StepsTo, checkpoint_front, cuts, did, front_of_cut, offers, recovered_state}
-use Rattle.fw_model.proofs.CmpLaws.{fronts_cmp-same}
 use Rattle.fw_model.proofs.Decisions.{two_ways}
 use Rattle.fw_model.proofs.FilteredLaws.{set-frontier}
 use Rattle.fw_model.proofs.LowLaws.{none-within}
 use Rattle.fw_examples.proofs.Fronts.{canonical_by, cover_within_by, each_below, each_below-at, is_canonical, meet_by, meet_other, within_outside}
 use Rattle.fw_examples.proofs.Settling.{from_psi, from_sender, into_phi, is_from_sender, is_plain, one_domain}
-
-fronts_equal : (f g : Front) → same_front f g ≡ true → f ≡ g
-fronts_equal f g e = fronts_cmp-same f g (equal_from_is_eq _ e)
 
 -- where no outside stamp of the second list is inside the first, the first lies within the second
 pub lies : (b : Bounds) (xs ys : Front) → is_within xs ys ≡ true → Within (frontier_of b xs) (frontier_of b ys)
@@ -229,7 +225,7 @@ checkpoint_by view p f (w ∷ ws) h = ⊎_elim (λ a. go w.written a) (λ a. inr
     go (checkpoint g low) a =
         let b = and_parts (w.node == p && is_counted view w.stage) (same_front g f || false) a in
         let c = and_parts (w.node == p) (is_counted view w.stage) b.0 in
-        inl (eqb-true w.node p c.0, ⊎_elim (λ e. fronts_equal g f e) (λ e. absurd (false≢true e)) (or_cases (same_front g f) false b.1), c.1)
+        inl (eqb-true w.node p c.0, ⊎_elim (λ e. same_front-is g f e) (λ e. absurd (false≢true e)) (or_cases (same_front g f) false b.1), c.1)
     go (logged_event serial) a = absurd (false≢true (and_parts (w.node == p && is_counted view w.stage) false a).1)
 
 -- whether a write holds the event of this serial
@@ -282,7 +278,7 @@ restorable_by sys state view p Bound f h =
     (lies (bounds_of sys.flow p) f (front_of state.settled p) a.0, lies (bounds_of sys.flow p) f (until (ack_count_of state p)) a.1)
 restorable_by sys state view p Anything f h = lies (bounds_of sys.flow p) f (front_of state.settled p) h
 restorable_by sys state view p Checkpoints f h =
-    ⊎_elim (λ e. inl (fronts_equal f (no_stamps (bounds_of sys.flow p)) e)) (λ c. inr (checkpoint_by view p f state.writes c)) (or_cases _ _ h)
+    ⊎_elim (λ e. inl (same_front-is f (no_stamps (bounds_of sys.flow p)) e)) (λ c. inr (checkpoint_by view p f state.writes c)) (or_cases _ _ h)
 restorable_by sys state view p Events f h =
     let a = and_parts _ _ h in
     (lies (bounds_of sys.flow p) f (front_of state.settled p) a.0, all_logged_by sys p (frontier_of (bounds_of sys.flow p) f) state.writes state.history a.1)

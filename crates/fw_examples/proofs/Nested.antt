@@ -1,5 +1,5 @@
 -- The loop within a loop is well formed; what its rounds come to, and how a frontier inside the inner loop is projected.
-use Rattle.std.proofs.Common.{List, [], ap, arith, false, get_or, lit<, lit≤, refl, ℕ, ◌++◌, ◌+◌, ◌<◌, ◌∙◌, ◌∷◌, ◌≡◌, ◌≤◌}
+use Rattle.std.proofs.Common.{List, [], ap, arith, false, get_or, lit<, lit≤, refl, ℕ, ◌++◌, ◌∙◌, ◌∷◌, ◌≡◌}
 use Rattle.std.proofs.lemmas.Bool.Decides.{nat_tests}
 use Rattle.fw_bag.specs.declared.rec.Rec.{Rec}
 use Rattle.fw_time.specs.Stamp.{Stamp, same}

@@ -1,5 +1,5 @@
 -- The recovery of the loop within a loop: what is complete, the run to the failure, and that the choice is the largest.
-use Rattle.std.proofs.Common.{List, None, [], ap, arith, drop, get_or, lit<, refl, replicate, suc, take, true, ℕ, ◌++◌, ◌&&◌, ◌<◌, ◌∷◌, ◌≡◌}
+use Rattle.std.proofs.Common.{List, None, [], ap, arith, drop, get_or, lit<, refl, replicate, suc, take, true, ℕ, ◌++◌, ◌<◌, ◌∷◌, ◌≡◌}
 use Rattle.std.proofs.lemmas.Bool.{and_from, and_parts}
 use Rattle.std.proofs.lemmas.Bool.Decides.{nat_tests}
 use Rattle.fw_time.specs.Stamp.{Stamp, in_domain, same}

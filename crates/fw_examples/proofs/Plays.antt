@@ -1,13 +1,13 @@
 -- Steps in a row of which one test tells that the machine takes them: all but those that settle, notify, recover and collect.
 use Rattle.std.specs.List.{list_all, list_any}
-use Rattle.std.specs.Ordering.{is_eq, is_gt}
+use Rattle.std.specs.Ordering.{is_gt}
 use Rattle.std.proofs.Common.{Bool, List, Option, [], ap, eqb-true, false, if◌then◌else◌, inl, inr, length, nat_lt, not, refl, slice_set, subst, sym, true, ℕ, ⊎_elim, ◌&&◌, ◌++◌, ◌+◌, ◌==◌, ◌||◌, ◌∙◌, ◌∷◌, ◌≡◌}
 use Rattle.std.proofs.lemmas.Bool.{and_parts, eq-eqb, false≢true, ltb-true, not-true, or_cases, or_left}
-use Rattle.std.proofs.lemmas.Cmp.{lists_total, tied_itself}
 use Rattle.fw_bag.specs.declared.rec.Rec.{Rec}
 use Rattle.fw_time.specs.Stamp.{Stamp, same}
 use Rattle.fw_time.proofs.StampLaws.{same-is}
-use Rattle.fw_frontier.specs.Front.{Front, frontier_of, same_front}
+use Rattle.fw_frontier.specs.Front.{frontier_of, same_front}
+use Rattle.fw_record.proofs.SameFrontLaws.{same_front-from}
 use Rattle.fw_flow.specs.Dataflow.{System, batches_of, bounds_of, is_input_kind, is_numbered, is_output_kind, kind_of, policy_of, receiver}
 use Rattle.fw_flow.specs.Message.{is_among, message_cmp}
 use Rattle.fw_flow.specs.declared.event.Event.TheVariants.{Deliver as Delivered, Inject as Injected}
@@ -19,7 +19,6 @@ use Rattle.fw_flow.proofs.MessageLaws.{message_cmp-equal}
 use Rattle.fw_model.specs.History.{delivered_messages, injected_count, pending_messages}
 use Rattle.fw_model.specs.Machine.{Machine, Write, acknowledged, ack_count_of, events, front_of, is_failed, no_stamps}
 use Rattle.fw_model.specs.Steps.{AcknowledgesOldest, Effect, HasEpoch, HasSomethingAt, IsAsked, LeadsTo, Outcome, Run, acked, checkpoint_of, did, is_asked, is_asked_for_checkpoints, is_in_flight, newest_checkpoint, silent, recs_at_output, with_event, with_failed, without_lost}
-use Rattle.fw_model.proofs.CmpLaws.{stamp_total}
 use Rattle.fw_model.proofs.Decisions.{two_ways}
 use Rattle.fw_model.proofs.EnabledLaws.{asked-from, asked-is}
 use Rattle.fw_flow.specs.declared.step.Step.TheVariants as step
@@ -169,10 +168,7 @@ takes sys state (deliver e at m) h =
 takes sys state (ask p) h =
     let a = and_parts _ _ h in
     let b = and_parts _ _ a.1 in
-    (a.0, not-true _ b.0, (λ e. two_ways _ (fronts_equal _ _ e) (not-true _ b.1)), refl, refl)
-  where
-    fronts_equal : (f g : Front) → f ≡ g → same_front f g ≡ true
-    fronts_equal f g e = subst (λ x. same_front f x ≡ true) e (ap is_eq (tied_itself (lists_total stamp_total) f))
+    (a.0, not-true _ b.0, (λ e. two_ways _ (same_front-from _ _ e) (not-true _ b.1)), refl, refl)
 takes sys state persist h = (with_oldest state.writes, acknowledges state.writes h, refl, refl)
 takes sys state (fail p ps) h =
     let a = and_parts _ _ h in

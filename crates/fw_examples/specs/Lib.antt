@@ -6,5 +6,6 @@ pub mod Logs
 pub mod Loop
 pub mod Nested
 pub mod OffersOfTotals
+pub mod Records
 pub mod RunningTotal
 pub mod Witnesses

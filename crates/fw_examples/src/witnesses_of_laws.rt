@@ -1,6 +1,7 @@
 //! That the laws say something: where what they ask holds.
 ghost use Rattle.fw_examples.specs.Witnesses.{EachStepHasItsChoice, FailureIsReached, LoopIsReached, LowWatermarkRises, MoreIsComplete, RecoveryIsReached, SomeIsSettled, SomethingIsChosen, TotalsAreWellFormed, TwoRunsMeet, ChoicesUnite, CutsUnite, JoinIsAFrontier, LessIsConsistent, AnEpochIsClosed, NotifiedAndGoesOn, OneIsOnItsWay, TwoEpochsAreComplete, LoopIsFiltered, NumbersAreDelivered, SequenceIsFiltered, TotalsAreFiltered};
 ghost use Rattle.fw_examples.specs.OffersOfTotals.{CheckpointsAreOffered};
+ghost use Rattle.fw_examples.specs.Records.{FrontsAreSpelled, RecordsAreSpelled};
 
 /// The running total is a system that the laws are about.
 #[tactic(auto, using(crate::proofs::Witnesses::totals_are_well_formed))]
@@ -139,4 +140,16 @@ pub fn numbers_are_delivered()
 #[tactic(auto, using(crate::proofs::OffersOfTotals::checkpoints_are_offered))]
 pub fn checkpoints_are_offered()
     ensures { CheckpointsAreOffered }
+{}
+
+/// Records that have a spelling, two of them checkpoints of their nodes, and what the laws of records say of them.
+#[tactic(auto, using(crate::proofs::Records::records_are_spelled))]
+pub fn records_are_spelled()
+    ensures { RecordsAreSpelled }
+{}
+
+/// A canonical front of a loop that a record can hold.
+#[tactic(auto, using(crate::proofs::Records::fronts_are_spelled))]
+pub fn fronts_are_spelled()
+    ensures { FrontsAreSpelled }
 {}

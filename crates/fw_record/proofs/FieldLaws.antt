@@ -3,7 +3,7 @@ use Rattle.std.proofs.Common.{◌≡◌, ℕ, zero, suc, ◌+◌, ◌^◌, ◌<�
 use Rattle.std.specs.Prelude.{◌&&◌, nat_lt}
 use Rattle.std.specs.Int.{Width, w16, w32, w64, byte_len, from_be_bytes, to_be_bytes}
 use Rattle.std.specs.List.{flat_map, AllByRecursion}
-use Rattle.std.proofs.lemmas.Bool.{cases_lt, ltb-false, ltb-true, le-ltb, lt-ltb}
+use Rattle.std.proofs.lemmas.Bool.{and_parts, cases_lt, ltb-false, ltb-true, le-ltb, lt-ltb}
 use Rattle.std.proofs.lemmas.List.{take_at, drop_at, take-append-drop, length-append, length-take, get_or-drop, get_or-take, get_or_past, append-nil}
 use Rattle.std.proofs.lemmas.List.Concat.{flat_map-cons}
 use Rattle.std.proofs.lemmas.Nat.{be_bytes_2, be_bytes_4, be_bytes_8, from_be_bytes-to_be_bytes_2, from_be_bytes-to_be_bytes_4, from_be_bytes-to_be_bytes_8}
@@ -149,17 +149,12 @@ coords_again (c ∷ s) before rest fits =
 
 -- ---- stamps
 
-and_both : (a b : Bool) → (a && b) ≡ true → (a ≡ true) × (b ≡ true)
-and_both true true e = (refl, refl)
-and_both true false e = absurd cc
-and_both false b e = absurd cc
-
 stamp_takes : (bytes : List ℕ) (x : Stamp × List ℕ) → IsBytes bytes → stamp_of bytes ≡ Some x → Takes bytes (stamp_bytes x.0) x.1 × IsStamp x.0
 unfolding stamp_of
 stamp_takes [] x fits e = absurd cc
 stamp_takes (n ∷ bytes) x fits e =
     let g = guard_some (nat_lt 0 n && nat_lt n 5) (coords_of n [] bytes) x e in
-    let two = and_both (nat_lt 0 n) (nat_lt n 5) g.0 in
+    let two = and_parts (nat_lt 0 n) (nat_lt n 5) g.0 in
     let r = coords_take n [] bytes x (IsBytes-rest n bytes fits) g.1 in
     let same : x.0 ≡ r.0 = r.1 in
     let len : length x.0 ≡ n = ap length same ∙ r.2 in

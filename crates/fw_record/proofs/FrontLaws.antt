@@ -1,35 +1,36 @@
 -- In a domain the fronts that have a spelling are the canonical ones.
-use Rattle.std.proofs.Common.{◌≡◌, ℕ, ◌^◌, ◌<◌, Bool, true, false, [], ◌∷◌, ◌++◌, length, refl, sym, ap, ◌∙◌, arith}
+use Rattle.std.proofs.Common.{◌≡◌, ℕ, ◌^◌, ◌<◌, Bool, true, false, List, [], ◌∷◌, ◌++◌, length, refl, sym, ap, ◌∙◌, arith, eq-eqb}
 use Rattle.std.specs.Prelude.{not, ◌&&◌, ◌||◌, ◌==◌, nat_le}
 use Rattle.std.specs.List.{AllByRecursion}
 use Rattle.std.specs.Ordering.{is_lt}
-use Rattle.std.proofs.Common.{eq-eqb}
+use Rattle.std.proofs.lemmas.Bool.{and_from, and_parts}
 use Rattle.std.proofs.lemmas.Bool.Decides.{nat_tests}
 use Rattle.fw_time.specs.Stamp.{Stamp, leq, stamp_cmp, in_domain}
 use Rattle.fw_time.specs.declared.stamp.Bounds.{Bounds}
 use Rattle.fw_time.proofs.StampLaws.{leq-length}
 use Rattle.fw_time.proofs.EachLaws.{each-weaker, each-both, each-append, each-prefix, each-suffix}
 use Rattle.fw_frontier.specs.Front.{Front, IsCanonical}
-use Rattle.fw_record.specs.Sound.{stands_before, may_follow_stamps, each_may_follow, IsStamp, IsFront}
-use Rattle.fw_record.proofs.PartLaws.{and_both}
+use Rattle.fw_frontier.proofs.CanonicalLaws.{in_domain-canonical}
+use Rattle.fw_flow.specs.declared.choice.OfEdge.{OfEdge}
+use Rattle.fw_flow.specs.Dataflow.{Dataflow, in_edges, out_edges, receiver, bounds_of}
+use Rattle.fw_record.specs.declared.record.Checkpoint.{Checkpoint}
+use Rattle.fw_record.specs.OfNode.{IsOnOneOf, IsCheckpointOf, IsCanonicalOnEdge, HasCanonicalFronts}
+use Rattle.fw_record.specs.Sound.{stands_before, may_follow_stamps, each_may_follow, IsStamp, IsFront, IsOfEdge, IsCheckpoint}
 
 -- each stamp may stand before each later one
 abbrev StandInOrder : Front → Type 0
 StandInOrder [] = Unit {0}
 StandInOrder (o ∷ os) = AllByRecursion (λ q. stands_before o q ≡ true) os × StandInOrder os
 
-both_and : (a b : Bool) → a ≡ true → b ≡ true → (a && b) ≡ true
-both_and a b p q = rw (p, q) refl
-
 -- ---- a list whose parts may follow one another stands in order
 
 each_before : (os : Front) (s : Stamp) → may_follow_stamps os s ≡ true → AllByRecursion (λ o. stands_before o s ≡ true) os
 each_before [] s e = tt
-each_before (o ∷ os) s e = let two = and_both (stands_before o s) (may_follow_stamps os s) e in (two.0, each_before os s two.1)
+each_before (o ∷ os) s e = let two = and_parts (stands_before o s) (may_follow_stamps os s) e in (two.0, each_before os s two.1)
 
 may_follow : (os : Front) (s : Stamp) → AllByRecursion (λ o. stands_before o s ≡ true) os → may_follow_stamps os s ≡ true
 may_follow [] s all = refl
-may_follow (o ∷ os) s all = both_and (stands_before o s) (may_follow_stamps os s) all.0 (may_follow os s all.1)
+may_follow (o ∷ os) s all = and_from (stands_before o s) (may_follow_stamps os s) all.0 (may_follow os s all.1)
 
 abbrev StandBefore : Front → Stamp → Type 0
 StandBefore xs o = AllByRecursion (λ x. stands_before o x ≡ true) xs
@@ -41,7 +42,7 @@ in_order before [] e = (nothing_after before, tt)
     nothing_after [] = tt
     nothing_after (o ∷ os) = (tt, nothing_after os)
 in_order before (x ∷ xs) e =
-    let two = and_both (may_follow_stamps before x) (each_may_follow may_follow_stamps (before ++ x ∷ []) xs) e in
+    let two = and_parts (may_follow_stamps before x) (each_may_follow may_follow_stamps (before ++ x ∷ []) xs) e in
     let later = in_order (before ++ x ∷ []) xs two.1 in
     let earlier = each-prefix (StandBefore xs) before (x ∷ []) later.0 in
     let this = each-suffix (StandBefore xs) before (x ∷ []) later.0 in
@@ -52,7 +53,7 @@ follow_in_order before [] all ordered = refl
 follow_in_order before (x ∷ xs) all ordered =
     let first = each-weaker (StandBefore (x ∷ xs)) (λ o. stands_before o x ≡ true) before (λ o h. h.0) all in
     let rest = each-weaker (StandBefore (x ∷ xs)) (StandBefore xs) before (λ o h. h.1) all in
-    both_and (may_follow_stamps before x) (each_may_follow may_follow_stamps (before ++ x ∷ []) xs) (may_follow before x first)
+    and_from (may_follow_stamps before x) (each_may_follow may_follow_stamps (before ++ x ∷ []) xs) (may_follow before x first)
     (follow_in_order (before ++ x ∷ []) xs (each-append (StandBefore xs) before (x ∷ []) rest (ordered.0, tt)) ordered.1)
 
 -- ---- standing in order, in a domain, is being canonical
@@ -67,8 +68,8 @@ not_true false e = refl
 
 apart : (o q : Stamp) → stands_before o q ≡ true → IsApart o q
 apart o q e =
-    let a = and_both (length o == length q) (is_lt (stamp_cmp o q) && not (leq o q || leq q o)) e in
-    let b = and_both (is_lt (stamp_cmp o q)) (not (leq o q || leq q o)) a.1 in
+    let a = and_parts (length o == length q) (is_lt (stamp_cmp o q) && not (leq o q || leq q o)) e in
+    let b = and_parts (is_lt (stamp_cmp o q)) (not (leq o q || leq q o)) a.1 in
     record { ascending = b.0; incomparable = not_true (leq o q || leq q o) b.1 }
 
 abbrev AreIn : Bounds → Front → Type 0
@@ -90,8 +91,8 @@ stands : (bounds : Bounds) (o : Stamp) (os : Front) → in_domain bounds o ≡ t
 stands bounds o [] i inside ascending incomparable = tt
 stands bounds o (q ∷ os) i inside ascending incomparable =
     let same : length o ≡ length q = leq-length o bounds.greatest i ∙ sym (leq-length q bounds.greatest inside.0) in (
-      both_and (length o == length q) (is_lt (stamp_cmp o q) && not (leq o q || leq q o)) (eq-eqb (length o) (length q) same)
-          (both_and (is_lt (stamp_cmp o q)) (not (leq o q || leq q o)) ascending.0 (ap not incomparable.0)),
+      and_from (length o == length q) (is_lt (stamp_cmp o q) && not (leq o q || leq q o)) (eq-eqb (length o) (length q) same)
+          (and_from (is_lt (stamp_cmp o q)) (not (leq o q || leq q o)) ascending.0 (ap not incomparable.0)),
       stands bounds o os i inside.1 ascending.1 incomparable.1,
     )
 
@@ -109,7 +110,7 @@ fit_below : (s g : Stamp) → leq s g ≡ true → Fit g → Fit s
 fit_below [] g e fit = tt
 fit_below (c ∷ s) [] e fit = absurd cc
 fit_below (c ∷ s) (d ∷ g) e fit =
-    let two = and_both (nat_le c d) (leq s g) e in
+    let two = and_parts (nat_le c d) (leq s g) e in
     (below c d two.0 fit.0, fit_below s g two.1 fit.1)
   where
     below : (c d : ℕ) → nat_le c d ≡ true → d < 2 ^ 32 → c < 2 ^ 32
@@ -125,9 +126,27 @@ stamp_below s g e sound =
 pub canonical_of_sound : (bounds : Bounds) (f : Front) → AreIn bounds f → IsFront f → IsCanonical bounds f
 canonical_of_sound bounds f inside sound = canonical_in_order bounds f inside (in_order [] f sound.follow).1
 
-pub sound_of_canonical : (bounds : Bounds) (f : Front) → AreIn bounds f → IsStamp bounds.greatest → length f < 2 ^ 32 → IsCanonical bounds f → IsFront f
-sound_of_canonical bounds f inside greatest few canonical = record {
-  few = few;
-  parts = each-weaker (λ o. in_domain bounds o ≡ true) IsStamp f (λ o i. stamp_below o bounds.greatest i greatest) inside;
-  follow = follow_in_order [] f tt (ordered_of_canonical bounds f inside canonical);
+pub sound_of_canonical : (bounds : Bounds) (f : Front) → IsStamp bounds.greatest → length f < 2 ^ 32 → IsCanonical bounds f → IsFront f
+sound_of_canonical bounds f greatest few canonical =
+    let inside = in_domain-canonical bounds f canonical in
+    record {
+      few = few;
+      parts = each-weaker (λ o. in_domain bounds o ≡ true) IsStamp f (λ o i. stamp_below o bounds.greatest i greatest) inside;
+      follow = follow_in_order [] f tt (ordered_of_canonical bounds f inside canonical);
+    }
+
+-- ---- the fronts of a checkpoint of a node
+
+on_edges : (flow : Dataflow) (edges : List ℕ) (es : List OfEdge) → AllByRecursion (IsOnOneOf flow edges) es → AllByRecursion IsOfEdge es
+    → AllByRecursion (IsCanonicalOnEdge flow) es
+on_edges flow edges [] of_node sound = tt
+on_edges flow edges (e ∷ es) of_node sound =
+    (canonical_of_sound (bounds_of flow (receiver flow e.edge)) e.front of_node.0.stamps sound.0.front, on_edges flow edges es of_node.1 sound.1)
+
+pub fronts_canonical : (flow : Dataflow) (p : ℕ) (f : Front) (c : Checkpoint) → IsCheckpoint c → IsCheckpointOf flow p f c
+    → HasCanonicalFronts flow p c.recorded
+fronts_canonical flow p f c sound of_node = record {
+  notified = canonical_of_sound (bounds_of flow p) c.recorded.notified of_node.recorded.notified sound.notified;
+  delivered = on_edges flow (in_edges flow p) c.recorded.delivered of_node.recorded.delivered sound.delivered.parts;
+  discarded = on_edges flow (out_edges flow p) c.recorded.discarded of_node.recorded.discarded sound.discarded.parts;
 }

@@ -1,7 +1,7 @@
 -- Readings of parts: what is read is spelled so, and what is spelled is read again.
 use Rattle.std.proofs.Common.{◌≡◌, ℕ, zero, suc, ◌<◌, Bool, true, false, cond, List, [], ◌∷◌, ◌++◌, length, Some, None, Result, Ok, Err, refl, sym, ap, subst, ◌∙◌, append_assoc, arith}
-use Rattle.std.specs.Prelude.{◌&&◌}
 use Rattle.std.specs.List.{flat_map, AllByRecursion}
+use Rattle.std.proofs.lemmas.Bool.{and_parts}
 use Rattle.std.proofs.lemmas.List.{append-nil}
 use Rattle.std.proofs.lemmas.List.Concat.{flat_map-cons}
 use Rattle.fw_record.specs.Fields.{Field}
@@ -65,17 +65,12 @@ many_takes part text Fits rule form (suc n) before bytes x fits e =
     let both = Takes-then bytes (text c.0.0) c.0.1 (flat_map text r.0) x.1 t.0 r.3 in
     (c.0.0 ∷ r.0, r.1 ∙ append_assoc before (c.0.0 ∷ []) r.0, ap suc r.2, rw flat_map-cons both, (t.1, r.4), rw t.2 r.5)
 
-pub and_both : (a b : Bool) → (a && b) ≡ true → (a ≡ true) × (b ≡ true)
-and_both true true e = (refl, refl)
-and_both true false e = absurd cc
-and_both false b e = absurd cc
-
 pub many_again : {A : Type 0} (part : List A → List ℕ → Reading A) (text : A → List ℕ) (Fits : A → Type 0) (rule : List A → A → Bool) (form : IsPartForm part text Fits rule) (xs before : List A) (rest : List ℕ)
     → AllByRecursion Fits xs → each_may_follow rule before xs ≡ true → many_of part (length xs) before (flat_map text xs ++ rest) ≡ Ok (before ++ xs, rest)
 unfolding many_of
 many_again part text Fits rule form [] before rest fits follow = ap (λ (p : List _). Ok (p, rest)) (sym (append-nil before))
 many_again part text Fits rule form (x ∷ xs) before rest fits follow =
-    let two = and_both (rule before x) (each_may_follow rule (before ++ x ∷ []) xs) follow in
+    let two = and_parts (rule before x) (each_may_follow rule (before ++ x ∷ []) xs) follow in
     let regrouped : flat_map text (x ∷ xs) ++ rest ≡ text x ++ (flat_map text xs ++ rest) = ap (λ (t : List ℕ). t ++ rest) (flat_map-cons text x xs) ∙ append_assoc (text x) (flat_map text xs) rest in
     let first : many_of part (suc (length xs)) before (text x ++ (flat_map text xs ++ rest)) ≡ many_of part (length xs) (before ++ x ∷ []) (flat_map text xs ++ rest) = rw (form.again before x (flat_map text xs ++ rest) fits.0 two.0) refl in
     ap (many_of part (suc (length xs)) before) regrouped ∙ first ∙ many_again part text Fits rule form xs (before ++ x ∷ []) rest fits.1 two.1 ∙ ap (λ (p : List _). Ok (p, rest)) (append_assoc before (x ∷ []) xs)

@@ -2,7 +2,7 @@
 use Rattle.std.proofs.Common.{◌≡◌, ℕ, ◌^◌, ◌<◌, true, cond, eqb, List, [], ◌∷◌, ◌++◌, length, Ok, Err, refl, sym, ap, subst, ◌∙◌, append_assoc, arith, inl, inr}
 use Rattle.std.specs.Prelude.{◌||◌, ◌==◌}
 use Rattle.std.specs.Int.{w16, to_be_bytes}
-use Rattle.std.proofs.lemmas.Bool.{eqb-true}
+use Rattle.std.proofs.lemmas.Bool.{and_parts, eqb-true}
 use Rattle.std.proofs.lemmas.List.{append-nil, nil_from_length}
 use Rattle.fw_record.specs.declared.record.Checkpoint.{Checkpoint}
 use Rattle.fw_record.specs.declared.record.Event.{Event}
@@ -13,7 +13,7 @@ use Rattle.fw_record.specs.Spelling.{u32_bytes, head_bytes, checkpoint_bytes, ev
 use Rattle.fw_record.specs.Sound.{IsCheckpoint, IsEvent, IsSound}
 use Rattle.fw_record.specs.Reading.{◌>>=◌, kept_if, is_tag, event_of, event_record_of, state_record_of, tag_of, record_of, whole_of}
 use Rattle.fw_record.proofs.FieldLaws.{IsBytes, Takes, wide16, number_takes, number_again}
-use Rattle.fw_record.proofs.PartLaws.{bind_ok, ok, ok_is, guard_ok, kept, and_both, step}
+use Rattle.fw_record.proofs.PartLaws.{bind_ok, ok, ok_is, guard_ok, kept, step}
 use Rattle.fw_record.proofs.ListLaws.{any32}
 use Rattle.fw_record.proofs.CheckpointLaws.{checkpoints}
 use Rattle.fw_record.proofs.EventLaws.{events, chosen, second, byte_takes}
@@ -53,7 +53,7 @@ tag_takes bytes x fits e =
     let version : b.0.0 ≡ 1 = eqb-true b.0.0 1 kb.1 in
     let e1 : bytes ≡ 70 ∷ 87 ∷ a.0.1 = ta.0.parts ∙ ap (λ (n : ℕ). to_be_bytes w16 n ++ a.0.1) magic in
     let e2 : a.0.1 ≡ 1 ∷ b.0.1 = tb.0 ∙ ap (λ (n : ℕ). n ∷ b.0.1) version in
-    record { parts = e1 ∙ ap (λ (t : List ℕ). 70 ∷ 87 ∷ t) (e2 ∙ ap (λ (t : List ℕ). 1 ∷ t) tc.0); rest_fits = tc.1; allowed = (and_both (eqb b.0.0 1) (eqb x.0 1 || eqb x.0 2) kc.1).1 }
+    record { parts = e1 ∙ ap (λ (t : List ℕ). 70 ∷ 87 ∷ t) (e2 ∙ ap (λ (t : List ℕ). 1 ∷ t) tc.0); rest_fits = tc.1; allowed = (and_parts (eqb b.0.0 1) (eqb x.0 1 || eqb x.0 2) kc.1).1 }
 
 record_takes : (bytes : List ℕ) (x : Record × List ℕ) → IsBytes bytes → record_of bytes ≡ Ok x → Takes bytes (spelling x.0) x.1 × IsSound x.0
 unfolding record_of

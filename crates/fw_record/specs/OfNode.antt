@@ -1,13 +1,14 @@
--- Which records are those of a node at a frontier, in a dataflow.
-use Rattle.std.specs.Prelude.{◌≡◌, ℕ, ◌+◌, ◌^◌, Bool, true, ◌&&◌, ◌==◌, nat_le, List, [], ◌∷◌, length}
-use Rattle.std.specs.List.{list_all, list_any}
-use Rattle.fw_time.specs.Stamp.{in_domain}
-use Rattle.fw_frontier.specs.Front.{Front}
+-- Which records are those of a node of a dataflow: of a checkpoint of the node at a frontier, or of one of its events.
+use Rattle.std.specs.Prelude.{◌≡◌, ℕ, ◌+◌, ◌^◌, ◌≤◌, true, List, [], ◌∷◌}
+use Rattle.std.specs.List.{AllByRecursion, Contains}
+use Rattle.fw_time.specs.Stamp.{Stamp, in_domain}
+use Rattle.fw_frontier.specs.Front.{Front, IsCanonical}
 use Rattle.fw_frontier.specs.declared.state.SentCount.{SentCount}
 use Rattle.fw_frontier.specs.declared.state.Entries.{Entries}
 use Rattle.fw_frontier.specs.declared.state.Entries.TheVariants.{Totals}
 use Rattle.fw_frontier.specs.declared.state.State.{State}
 use Rattle.fw_flow.specs.declared.choice.OfEdge.{OfEdge}
+use Rattle.fw_flow.specs.declared.choice.Recorded.{Recorded}
 use Rattle.fw_flow.specs.declared.kind.Kind.{Kind}
 use Rattle.fw_flow.specs.declared.kind.Kind.TheVariants.{Total, Sequence, Ledger}
 use Rattle.fw_flow.specs.declared.kind.Policy.{Policy}
@@ -15,73 +16,105 @@ use Rattle.fw_flow.specs.declared.kind.Policy.TheVariants.{Lazy}
 use Rattle.fw_flow.specs.Dataflow.{Dataflow, kind_of, policy_of, in_edges, out_edges, receiver, bounds_of, node_frontier}
 use Rattle.fw_record.specs.declared.logged.Logged.{Logged}
 use Rattle.fw_record.specs.declared.record.Checkpoint.{Checkpoint}
+use Rattle.fw_record.specs.declared.record.Event.{Event}
 use Rattle.fw_record.specs.declared.record.Record.{Record}
 use Rattle.fw_record.specs.declared.record.Record.TheVariants as tagged
 
--- whether the edge is one of these
-abbrev pub is_one_of : List ℕ → ℕ → Bool
-is_one_of edges e = list_any (λ other. other == e) edges
+-- ---- the frontier, and what is recorded of the events inside
 
--- whether it is a frontier of one of these edges, by stamps of the receiver's domain
-abbrev pub is_front_of : Dataflow → List ℕ → OfEdge → Bool
-is_front_of flow edges e = is_one_of edges e.edge && list_all (in_domain (bounds_of flow (receiver flow e.edge))) e.front
+-- The stamps are of the domain of node p.
+abbrev pub AreOfDomain : Dataflow → ℕ → List Stamp → Type 0
+AreOfDomain flow p stamps = AllByRecursion (λ t. in_domain (bounds_of flow p) t ≡ true) stamps
 
--- whether the message can be in the log of node p at the frontier f: on one of its out-edges, at a stamp of the receiver's
--- domain, from events inside
-abbrev pub can_be_logged : Dataflow → ℕ → Front → Logged → Bool
-can_be_logged flow p f m =
-    is_one_of (out_edges flow p) m.edge
-    && in_domain (bounds_of flow (receiver flow m.edge)) m.message.at
-    && list_all (node_frontier flow p f) m.message.causes
+-- The front is of one of these edges, by stamps of the domain of the edge's receiver.
+pub record IsOnOneOf (flow : Dataflow) (edges : List ℕ) (e : OfEdge) : Type 0 where
+  pub edge : Contains edges e.edge
+  pub stamps : AreOfDomain flow (receiver flow e.edge) e.front
+
+-- What is recorded at f is of node p: it was notified of stamps of its domain, and has fronts of its in-edges of what was
+-- delivered to it, and of its out-edges of what it sent and cannot send again; an edge may be missing.
+pub record IsRecordedOf (flow : Dataflow) (p : ℕ) (f : Front) (r : Recorded) : Type 0 where
+  pub front : r.front ≡ f
+  pub notified : AreOfDomain flow p r.notified
+  pub delivered : AllByRecursion (IsOnOneOf flow (in_edges flow p)) r.delivered
+  pub discarded : AllByRecursion (IsOnOneOf flow (out_edges flow p)) r.discarded
+
+-- ---- the table
 
 -- the sum of the counts
 abbrev pub count_sum : List SentCount → ℕ
 count_sum [] = 0
 count_sum (s ∷ ss) = s.count + count_sum ss
 
--- how many entries a node holds
-abbrev pub entry_count : Entries → ℕ
-entry_count (Totals totals) = length totals
+-- A sequence counts by stamps all that it sent; other kinds count nothing so.
+abbrev pub AreCountsOf : Kind → State → Type 0
+AreCountsOf Sequence state = count_sum state.sends ≡ state.sent
+AreCountsOf kind state = state.sends ≡ []
 
--- whether the state can be one of a node of the kind: totals and ledgers hold sums, sequences count what they sent by
--- stamps, and sequences and ledgers, which number what they send, sent at most 2^32
-abbrev pub can_be_state_of : Kind → State → Bool
-can_be_state_of Total state = length state.sends == 0
-can_be_state_of Ledger state = (length state.sends == 0) && nat_le state.sent (2 ^ 32)
-can_be_state_of Sequence state =
-    (entry_count state.entries == 0) && nat_le state.sent (2 ^ 32) && (count_sum state.sends == state.sent)
-can_be_state_of kind state = (length state.sends == 0) && (entry_count state.entries == 0)
+-- A total and a ledger hold totals; other kinds hold none.
+abbrev pub AreEntriesOf : Kind → Entries → Type 0
+AreEntriesOf Total entries = Unit {0}
+AreEntriesOf Ledger entries = Unit {0}
+AreEntriesOf kind entries = entries ≡ Totals []
 
--- whether so many messages can be in the log of a node with the policy: a lazy node keeps none
-abbrev pub can_be_log_of : Policy → List Logged → Bool
-can_be_log_of Lazy log = length log == 0
-can_be_log_of policy log = true
+-- A sequence and a ledger, which number what they send, sent no more messages than there are numbers.
+abbrev pub HasNumbersFor : Kind → ℕ → Type 0
+HasNumbersFor Sequence sent = sent ≤ 2 ^ 32
+HasNumbersFor Ledger sent = sent ≤ 2 ^ 32
+HasNumbersFor kind sent = Unit {0}
 
--- whether what the checkpoint covers is of node p's edges and of their domains
-abbrev pub has_own_covers : Dataflow → ℕ → Checkpoint → Bool
-has_own_covers flow p c =
-    list_all (in_domain (bounds_of flow p)) c.recorded.notified
-    && list_all (is_front_of flow (in_edges flow p)) c.recorded.delivered
-    && list_all (is_front_of flow (out_edges flow p)) c.recorded.discarded
+-- The table is of node p at f: what is counted by stamps was sent by events inside, and its kind has such a table.
+pub record IsStateOf (flow : Dataflow) (p : ℕ) (f : Front) (state : State) : Type 0 where
+  pub causes : AllByRecursion (λ s. node_frontier flow p f s.cause ≡ true) state.sends
+  pub counts : AreCountsOf (kind_of flow p) state
+  pub entries : AreEntriesOf (kind_of flow p) state.entries
+  pub numbers : HasNumbersFor (kind_of flow p) state.sent
 
--- whether it speaks only of what events of node p inside the frontier f sent
-abbrev pub has_causes_inside : Dataflow → ℕ → Front → Checkpoint → Bool
-has_causes_inside flow p f c =
-    list_all (λ s. node_frontier flow p f s.cause) c.state.sends && list_all (can_be_logged flow p f) c.log
+-- ---- the log
 
--- whether the kind and the policy of node p allow the state and the log
-abbrev pub has_allowed_parts : Dataflow → ℕ → Checkpoint → Bool
-has_allowed_parts flow p c = can_be_state_of (kind_of flow p) c.state && can_be_log_of (policy_of flow p) c.log
+-- Events of node p inside f can have sent the message: it is on an out-edge, at a stamp of the receiver's domain, and all its
+-- causes are inside.
+pub record CanBeLogged (flow : Dataflow) (p : ℕ) (f : Front) (m : Logged) : Type 0 where
+  pub edge : Contains (out_edges flow p) m.edge
+  pub at : in_domain (bounds_of flow (receiver flow m.edge)) m.message.at ≡ true
+  pub causes : AllByRecursion (λ t. node_frontier flow p f t ≡ true) m.message.causes
 
--- it is a checkpoint of node p at the frontier f
+-- A lazy node keeps no messages.
+abbrev pub IsLogUnder : Policy → List Logged → Type 0
+IsLogUnder Lazy log = log ≡ []
+IsLogUnder policy log = Unit {0}
+
+-- The messages are of node p's log at f: its events inside can have sent each, and its policy keeps them.
+pub record IsLogOf (flow : Dataflow) (p : ℕ) (f : Front) (log : List Logged) : Type 0 where
+  pub messages : AllByRecursion (CanBeLogged flow p f) log
+  pub policy : IsLogUnder (policy_of flow p) log
+
+-- ---- records
+
+-- It is a checkpoint of node p at the frontier f: it names the node, and its parts are of the node at f.
 pub record IsCheckpointOf (flow : Dataflow) (p : ℕ) (f : Front) (c : Checkpoint) : Type 0 where
   pub node : c.node ≡ p
-  pub front : c.recorded.front ≡ f
-  pub covers : has_own_covers flow p c ≡ true
-  pub causes : has_causes_inside flow p f c ≡ true
-  pub parts : has_allowed_parts flow p c ≡ true
+  pub recorded : IsRecordedOf flow p f c.recorded
+  pub state : IsStateOf flow p f c.state
+  pub log : IsLogOf flow p f c.log
 
--- it is the record of a checkpoint of node p at the frontier f
-abbrev pub IsRecordOf : Dataflow → ℕ → Front → Record → Type 0
-IsRecordOf flow p f (tagged.State c) = IsCheckpointOf flow p f c
-IsRecordOf flow p f (tagged.Event node event) = ⊥
+-- It is the record of a checkpoint of node p at the frontier f.
+abbrev pub IsRecordOfCheckpoint : Dataflow → ℕ → Front → Record → Type 0
+IsRecordOfCheckpoint flow p f (tagged.State c) = IsCheckpointOf flow p f c
+IsRecordOfCheckpoint flow p f (tagged.Event node event) = ⊥
+
+-- It is the record of this event of node p.
+abbrev pub IsRecordOfEvent : ℕ → Event → Record → Type 0
+IsRecordOfEvent p event r = r ≡ tagged.Event p event
+
+-- ---- what follows for a checkpoint that has a spelling
+
+-- The front is the one list that names its frontier, in the domain of the edge's receiver.
+abbrev pub IsCanonicalOnEdge : Dataflow → OfEdge → Type 0
+IsCanonicalOnEdge flow e = IsCanonical (bounds_of flow (receiver flow e.edge)) e.front
+
+-- Each front that is recorded of node p is the one list that names its frontier.
+pub record HasCanonicalFronts (flow : Dataflow) (p : ℕ) (r : Recorded) : Type 0 where
+  pub notified : IsCanonical (bounds_of flow p) r.notified
+  pub delivered : AllByRecursion (IsCanonicalOnEdge flow) r.delivered
+  pub discarded : AllByRecursion (IsCanonicalOnEdge flow) r.discarded

@@ -1,7 +1,7 @@
 -- The bytes of a record. All numbers are big-endian.
-use Rattle.std.specs.Prelude.{ℕ, List, [], ◌∷◌, ◌++◌, length}
+use Rattle.std.specs.Prelude.{ℕ, ◌^◌, ◌<◌, List, [], ◌∷◌, ◌++◌, length}
 use Rattle.std.specs.Int.{w32, w64, to_be_bytes}
-use Rattle.std.specs.List.{flat_map}
+use Rattle.std.specs.List.{flat_map, AllByRecursion}
 use Rattle.fw_time.specs.Stamp.{Stamp}
 use Rattle.fw_bag.specs.declared.rec.Rec.{Rec}
 use Rattle.fw_frontier.specs.Front.{Front}
@@ -101,3 +101,27 @@ head_bytes tag = 70 ∷ 87 ∷ 1 ∷ tag ∷ []
 abbrev pub spelling : Record → List ℕ
 spelling (tagged.State c) = head_bytes 1 ++ checkpoint_bytes c
 spelling (tagged.Event node event) = head_bytes 2 ++ u32_bytes node ++ event_bytes event
+
+-- ---- counts
+
+-- The list has no more parts than a count of four bytes can say.
+abbrev pub IsCountable : {A : Type 0} → List A → Type 0
+IsCountable xs = length xs < 2 ^ 32
+
+-- So has the list of edges, and the front of each.
+pub record HasCountableEdges (es : List OfEdge) : Type 0 where
+  pub edges : IsCountable es
+  pub fronts : AllByRecursion (λ e. IsCountable e.front) es
+
+-- So has each list of a checkpoint that has a count of four bytes. Those of eight bytes say how many parts any list has.
+pub record HasCountableLists (c : Checkpoint) : Type 0 where
+  pub front : IsCountable c.recorded.front
+  pub notified : IsCountable c.recorded.notified
+  pub delivered : HasCountableEdges c.recorded.delivered
+  pub discarded : HasCountableEdges c.recorded.discarded
+  pub sends : IsCountable c.state.sends
+
+-- No list of the record has more parts than its count can say.
+abbrev pub FitsItsCounts : Record → Type 0
+FitsItsCounts (tagged.State c) = HasCountableLists c
+FitsItsCounts (tagged.Event node event) = Unit {0}

@@ -4,9 +4,12 @@ ghost use Rattle.std.specs.List.{AllByRecursion};
 ghost use Rattle.fw_time.specs.declared.stamp.Bounds.{Bounds as Domain};
 ghost use Rattle.fw_time.specs.Stamp.{in_domain};
 ghost use Rattle.fw_frontier.specs.Front.{IsCanonical};
+ghost use Rattle.fw_flow.specs.Dataflow.{Dataflow};
+ghost use Rattle.fw_record.specs.declared.record.Checkpoint.{Checkpoint as Saved};
 ghost use Rattle.fw_record.specs.declared.record.Record.{Record as Spelled};
 ghost use Rattle.fw_record.specs.Spelling.{spelling};
-ghost use Rattle.fw_record.specs.Sound.{IsStamp, IsFront, IsSound};
+ghost use Rattle.fw_record.specs.Sound.{IsStamp, IsFront, IsCheckpoint, IsSound};
+ghost use Rattle.fw_record.specs.OfNode.{IsCheckpointOf, HasCanonicalFronts};
 ghost use Rattle.fw_record.specs.Reading.{whole_of};
 
 /// Reading gives a sound record exactly of its spelling, and no two sound records have one spelling.
@@ -26,6 +29,11 @@ pub fn sound_fronts_are_canonical()
     ensures canonical { (bounds : Domain) (f : List (List ℕ))
         → AllByRecursion (λ o. in_domain bounds o ≡ true) f → IsFront f → IsCanonical bounds f }
     ensures sound { (bounds : Domain) (f : List (List ℕ))
-        → AllByRecursion (λ o. in_domain bounds o ≡ true) f → IsStamp bounds.greatest
-        → length f < 2 ^ 32 → IsCanonical bounds f → IsFront f }
+        → IsStamp bounds.greatest → length f < 2 ^ 32 → IsCanonical bounds f → IsFront f }
+{}
+
+/// The fronts of a checkpoint that has a spelling and is one of a node are canonical in their domains.
+pub fn fronts_of_a_node_are_canonical()
+    ensures { (flow : Dataflow) (p : ℕ) (f : List (List ℕ)) (c : Saved) → IsCheckpoint c → IsCheckpointOf flow p f c
+        → HasCanonicalFronts flow p c.recorded }
 {}

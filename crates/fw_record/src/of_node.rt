@@ -1,62 +1,39 @@
-//! Whether a record can be one of a node at a frontier, or of an event.
-ghost use Rattle.std.specs.Prelude.{◌≡◌, ◌↔◌, ◌==◌, IsTrue};
-ghost use Rattle.std.specs.List.{list_all};
-ghost use Rattle.fw_time.specs.Stamp.{in_domain};
+//! Whether a record can be one of a node: of a checkpoint at a frontier, or of an event.
+ghost use Rattle.std.specs.Prelude.{◌≡◌, ◌↔◌, [], true, IsTrue};
+ghost use Rattle.std.specs.List.{AllByRecursion, Contains};
+ghost use Rattle.fw_frontier.specs.declared.state.Entries.TheVariants.{Totals as Held};
 ghost use Rattle.fw_flow.specs.Dataflow.{node_frontier};
-ghost use Rattle.fw_record.specs.OfNode.{has_own_covers, has_causes_inside, has_allowed_parts, is_one_of, is_front_of, can_be_logged, count_sum, entry_count, can_be_state_of, can_be_log_of, IsCheckpointOf, IsRecordOf};
-ghost use Rattle.fw_record.specs.declared.record.Record.TheVariants.{Event as EventOf};
+ghost use Rattle.fw_record.specs.OfNode.{IsOnOneOf, IsRecordedOf, count_sum, AreCountsOf, AreEntriesOf, HasNumbersFor, IsStateOf, CanBeLogged, IsLogUnder, IsLogOf, IsCheckpointOf, IsRecordOfCheckpoint, IsRecordOfEvent};
 
 use crate::{Checkpoint, Event, Logged, Record};
-use fw_flow::{EdgeId, Flow, Kind, NodeId, OfEdge, Policy};
+use fw_flow::{EdgeId, Flow, Kind, NodeId, OfEdge, Policy, Recorded};
 use fw_frontier::{Entries, Front, SentCount, State};
-use fw_time::{Bounds, Stamp};
+use fw_time::Stamp;
 
-/// The most messages that a node sends that numbers them.
-const MOST_NUMBERED: u64 = 4294967296;
+/// How many numbers there are for messages.
+const NUMBERS: u64 = 1 << 32;
 
 impl Checkpoint {
-    /// Whether it is one of the node at the frontier: it names them, has edges of the node and stamps of their domains
-    /// alone, all causes are inside, and the node's kind and policy allow its state and its log.
+    /// Whether it is one of the node at the frontier: it names the two; its fronts and messages are on edges of the node, by
+    /// stamps of the receivers' domains; what it counts and logs was sent by events inside; and the node's kind and policy
+    /// allow its table and its log. An edge may be missing.
+    ///
+    /// It does not ask whether the checkpoint has a spelling, as one that was read has, nor whether the node writes
+    /// checkpoints, which `Flow::restoring` tells.
     pub fn is_of(&self, flow: &Flow, node: NodeId, front: &Front) -> bool
         ensures { IsTrue result ↔ IsCheckpointOf flow.now node front.now self.now }
     {
         self.node == node
-            && is_same_front(&self.recorded.front, front)
-            && self.has_own_covers(flow, node)
-            && self.has_causes_inside(flow, node, front)
-            && self.has_allowed_parts(flow, node)
-    }
-
-    /// Whether what it covers is of the node's edges and of their domains.
-    fn has_own_covers(&self, flow: &Flow, node: NodeId) -> bool
-        ensures { result ≡ has_own_covers flow.now node self.now }
-    {
-        let recorded = &self.recorded;
-        are_in_domain(recorded.notified.outside(), &flow.domain(node))
-            && are_fronts_of(flow, flow.in_edges(node), recorded.delivered.as_slice())
-            && are_fronts_of(flow, flow.out_edges(node), recorded.discarded.as_slice())
-    }
-
-    /// Whether it speaks only of what events of the node inside the frontier sent.
-    fn has_causes_inside(&self, flow: &Flow, node: NodeId, front: &Front) -> bool
-        ensures { result ≡ has_causes_inside flow.now node front.now self.now }
-    {
-        are_counts_inside(flow, node, front, self.state.sends.as_slice())
-            && can_log_each(flow, node, front, self.log.as_slice())
-    }
-
-    /// Whether the node's kind and policy allow its state and its log.
-    fn has_allowed_parts(&self, flow: &Flow, node: NodeId) -> bool
-        ensures { result ≡ has_allowed_parts flow.now node self.now }
-    {
-        can_hold(flow.kind(node), &self.state) && can_keep(flow.policy(node), self.log.as_slice())
+            && is_recorded_of(flow, node, front, &self.recorded)
+            && is_state_of(flow, node, front, &self.state)
+            && is_log_of(flow, node, front, self.log.as_slice())
     }
 }
 
 impl Record {
     /// Whether it is the record of a checkpoint of the node at the frontier (`Checkpoint::is_of`).
     pub fn is_checkpoint_of(&self, flow: &Flow, node: NodeId, front: &Front) -> bool
-        ensures { IsTrue result ↔ IsRecordOf flow.now node front.now self.now }
+        ensures { IsTrue result ↔ IsRecordOfCheckpoint flow.now node front.now self.now }
     {
         match self {
             Record::State(checkpoint) => checkpoint.is_of(flow, node, front),
@@ -66,7 +43,7 @@ impl Record {
 
     /// Whether it is the record of this event of the node.
     pub fn is_event_of(&self, node: NodeId, event: &Event) -> bool
-        ensures { IsTrue result ↔ (self.now ≡ EventOf node event.now) }
+        ensures { IsTrue result ↔ IsRecordOfEvent node event.now self.now }
     {
         match self {
             Record::Event {
@@ -78,6 +55,16 @@ impl Record {
     }
 }
 
+/// Whether what is recorded is of the node at the frontier.
+fn is_recorded_of(flow: &Flow, node: NodeId, front: &Front, recorded: &Recorded) -> bool
+    ensures { IsTrue result ↔ IsRecordedOf flow.now node front.now recorded.now }
+{
+    is_same_front(&recorded.front, front)
+        && recorded.notified.is_in_domain(&flow.domain(node))
+        && are_on(flow, flow.in_edges(node), recorded.delivered.as_slice())
+        && are_on(flow, flow.out_edges(node), recorded.discarded.as_slice())
+}
+
 /// Whether the two fronts are one list.
 fn is_same_front(f: &Front, g: &Front) -> bool
     ensures { IsTrue result ↔ (f.now ≡ g.now) }
@@ -85,85 +72,70 @@ fn is_same_front(f: &Front, g: &Front) -> bool
     f.same(g)
 }
 
+/// Whether they are fronts of these edges.
+fn are_on(flow: &Flow, edges: &[EdgeId], fronts: &[OfEdge]) -> bool
+    ensures { IsTrue result ↔ AllByRecursion (IsOnOneOf flow.now edges.now) fronts.now }
+{
+    for of_edge in fronts {
+        if !is_on_one_of(flow, edges, of_edge) {
+            return false;
+        }
+    }
+    true
+}
+
+/// Whether it is a front of one of these edges, by stamps of the domain of the edge's receiver.
+fn is_on_one_of(flow: &Flow, edges: &[EdgeId], of_edge: &OfEdge) -> bool
+    ensures { IsTrue result ↔ IsOnOneOf flow.now edges.now of_edge.now }
+{
+    let domain = flow.domain(flow.dst(of_edge.edge));
+    is_one_of(edges, of_edge.edge) && of_edge.front.is_in_domain(&domain)
+}
+
 /// Whether the edge is one of these.
-fn is_one_of_them(edges: &[EdgeId], edge: EdgeId) -> bool
-    ensures { result ≡ is_one_of edges.now edge }
+fn is_one_of(edges: &[EdgeId], edge: EdgeId) -> bool
+    ensures { IsTrue result ↔ Contains edges.now edge }
 {
-    edges.iter().any(|other| *other == edge)
+    edges.contains(&edge)
 }
 
-/// Whether the stamps are the domain's.
-fn are_in_domain(stamps: &[Stamp], bounds: &Bounds) -> bool
-    ensures { result ≡ list_all (in_domain bounds.now) stamps.now }
+/// Whether the table is one of the node at the frontier.
+fn is_state_of(flow: &Flow, node: NodeId, front: &Front, state: &State) -> bool
+    ensures { IsTrue result ↔ IsStateOf flow.now node front.now state.now }
 {
-    stamps.iter().all(|stamp| stamp.in_domain(bounds))
+    are_counts_inside(flow, node, front, state.sends.as_slice())
+        && can_count(flow.kind(node), state)
+        && can_hold(flow.kind(node), &state.entries)
+        && has_numbers_for(flow.kind(node), state.sent)
 }
 
-/// Whether it is a frontier of one of these edges, by stamps of the receiver's domain.
-fn is_of_edges(flow: &Flow, edges: &[EdgeId], of_edge: &OfEdge) -> bool
-    ensures { result ≡ is_front_of flow.now edges.now of_edge.now }
-{
-    is_one_of_them(edges, of_edge.edge)
-        && are_in_domain(
-            of_edge.front.outside(),
-            &flow.domain(flow.dst(of_edge.edge)),
-        )
-}
-
-/// Whether they are frontiers of these edges.
-fn are_fronts_of(flow: &Flow, edges: &[EdgeId], fronts: &[OfEdge]) -> bool
-    ensures { result ≡ list_all (is_front_of flow.now edges.now) fronts.now }
-{
-    fronts
-        .iter()
-        .all(|of_edge| is_of_edges(flow, edges, of_edge))
-}
-
-/// Whether the stamp is one of the node's domain, inside the frontier.
-fn is_inside(flow: &Flow, node: NodeId, front: &Front, stamp: &Stamp) -> bool
-    ensures { result ≡ node_frontier flow.now node front.now stamp.now }
-{
-    stamp.in_domain(&flow.domain(node)) && front.contains(stamp)
-}
-
-/// Whether the stamps are all inside.
-fn are_inside(flow: &Flow, node: NodeId, front: &Front, stamps: &[Stamp]) -> bool
-    ensures { result ≡ list_all (node_frontier flow.now node front.now) stamps.now }
-{
-    stamps
-        .iter()
-        .all(|stamp| is_inside(flow, node, front, stamp))
-}
-
-/// Whether the message can be in the node's log at the frontier.
-fn can_log(flow: &Flow, node: NodeId, front: &Front, logged: &Logged) -> bool
-    ensures { result ≡ can_be_logged flow.now node front.now logged.now }
-{
-    let message = &logged.message;
-    is_one_of_them(flow.out_edges(node), logged.edge)
-        && message.at.in_domain(&flow.domain(flow.dst(logged.edge)))
-        && are_inside(flow, node, front, message.causes.stamps())
-}
-
-/// Whether each of the messages can be.
-fn can_log_each(flow: &Flow, node: NodeId, front: &Front, log: &[Logged]) -> bool
-    ensures { result ≡ list_all (can_be_logged flow.now node front.now) log.now }
-{
-    log.iter().all(|logged| can_log(flow, node, front, logged))
-}
-
-/// Whether what is counted was sent from inside.
+/// Whether what is counted was sent by events inside.
 fn are_counts_inside(flow: &Flow, node: NodeId, front: &Front, counts: &[SentCount]) -> bool
-    ensures { result ≡ list_all (λ s. node_frontier flow.now node front.now s.cause) counts.now }
+    ensures { IsTrue result ↔ AllByRecursion
+        (λ s. node_frontier flow.now node front.now s.cause ≡ true) counts.now }
 {
-    counts
-        .iter()
-        .all(|sent| is_inside(flow, node, front, &sent.cause))
+    for sent in counts {
+        if !is_inside(flow, node, front, &sent.cause) {
+            return false;
+        }
+    }
+    true
+}
+
+/// Whether a node of the kind counts so by stamps: a sequence all that it sent, another one nothing.
+fn can_count(kind: Kind, state: &State) -> bool
+    ensures { IsTrue result ↔ AreCountsOf kind state.now }
+{
+    let counts = state.sends.as_slice();
+    match kind {
+        Kind::Sequence => have_sum(counts, state.sent),
+        _ => counts.is_empty(),
+    }
 }
 
 /// Whether the counts make this sum.
 fn have_sum(counts: &[SentCount], sum: u64) -> bool
-    ensures { result ≡ (count_sum counts.now == sum) }
+    ensures { IsTrue result ↔ (count_sum counts.now ≡ sum) }
 {
     let mut left = sum;
     for sent in counts {
@@ -175,35 +147,88 @@ fn have_sum(counts: &[SentCount], sum: u64) -> bool
     left == 0
 }
 
-/// How many entries a node holds.
-fn count_entries(entries: &Entries) -> usize
-    ensures { result ≡ entry_count entries.now }
+/// Whether a node of the kind holds such entries: a total and a ledger any, another one none.
+fn can_hold(kind: Kind, entries: &Entries) -> bool
+    ensures { IsTrue result ↔ AreEntriesOf kind entries.now }
+{
+    match kind {
+        Kind::Total | Kind::Ledger => true,
+        _ => holds_nothing(entries),
+    }
+}
+
+/// Whether there are no entries.
+fn holds_nothing(entries: &Entries) -> bool
+    ensures { IsTrue result ↔ (entries.now ≡ Held []) }
 {
     match entries {
-        Entries::Totals(totals) => totals.as_slice().len(),
+        Entries::Totals(totals) => totals.as_slice().is_empty(),
     }
 }
 
-/// Whether the state can be one of a node of the kind.
-fn can_hold(kind: Kind, state: &State) -> bool
-    ensures { result ≡ can_be_state_of kind state.now }
+/// Whether a node of the kind can have sent so many messages: one that numbers them no more than there are numbers.
+fn has_numbers_for(kind: Kind, sent: u64) -> bool
+    ensures { IsTrue result ↔ HasNumbersFor kind sent }
 {
-    let counts = state.sends.as_slice();
     match kind {
-        Kind::Total => counts.is_empty(),
-        Kind::Ledger => counts.is_empty() && state.sent <= MOST_NUMBERED,
-        Kind::Sequence => {
-            count_entries(&state.entries) == 0
-                && state.sent <= MOST_NUMBERED
-                && have_sum(counts, state.sent)
-        }
-        _ => counts.is_empty() && count_entries(&state.entries) == 0,
+        Kind::Sequence | Kind::Ledger => sent <= NUMBERS,
+        _ => true,
     }
 }
 
-/// Whether the log can be one of a node with the policy.
+/// Whether the messages are of the node's log at the frontier.
+fn is_log_of(flow: &Flow, node: NodeId, front: &Front, log: &[Logged]) -> bool
+    ensures { IsTrue result ↔ IsLogOf flow.now node front.now log.now }
+{
+    can_log_each(flow, node, front, log) && can_keep(flow.policy(node), log)
+}
+
+/// Whether events inside can have sent each of the messages.
+fn can_log_each(flow: &Flow, node: NodeId, front: &Front, log: &[Logged]) -> bool
+    ensures { IsTrue result ↔ AllByRecursion (CanBeLogged flow.now node front.now) log.now }
+{
+    for logged in log {
+        if !can_log(flow, node, front, logged) {
+            return false;
+        }
+    }
+    true
+}
+
+/// Whether events inside can have sent the message.
+fn can_log(flow: &Flow, node: NodeId, front: &Front, logged: &Logged) -> bool
+    ensures { IsTrue result ↔ CanBeLogged flow.now node front.now logged.now }
+{
+    let message = &logged.message;
+    let domain = flow.domain(flow.dst(logged.edge));
+    is_one_of(flow.out_edges(node), logged.edge)
+        && message.at.in_domain(&domain)
+        && are_inside(flow, node, front, message.causes.stamps())
+}
+
+/// Whether the stamps are all inside.
+fn are_inside(flow: &Flow, node: NodeId, front: &Front, stamps: &[Stamp]) -> bool
+    ensures { IsTrue result ↔ AllByRecursion
+        (λ t. node_frontier flow.now node front.now t ≡ true) stamps.now }
+{
+    for stamp in stamps {
+        if !is_inside(flow, node, front, stamp) {
+            return false;
+        }
+    }
+    true
+}
+
+/// Whether the stamp is one of the node's domain, inside the frontier.
+fn is_inside(flow: &Flow, node: NodeId, front: &Front, stamp: &Stamp) -> bool
+    ensures { result ≡ node_frontier flow.now node front.now stamp.now }
+{
+    stamp.in_domain(&flow.domain(node)) && front.contains(stamp)
+}
+
+/// Whether a node of the policy keeps such messages: a lazy one none.
 fn can_keep(policy: Policy, log: &[Logged]) -> bool
-    ensures { result ≡ can_be_log_of policy log.now }
+    ensures { IsTrue result ↔ IsLogUnder policy log.now }
 {
     match policy {
         Policy::Lazy => log.is_empty(),

@@ -1,7 +1,7 @@
 //! Writing records.
-ghost use Rattle.std.specs.Prelude.{◌≡◌, ◌++◌, OnOk, IfOk};
+ghost use Rattle.std.specs.Prelude.{◌≡◌, ◌<◌, ◌^◌, ◌++◌, OnOk, IfOk};
 ghost use Rattle.std.specs.List.{flat_map};
-ghost use Rattle.fw_record.specs.Spelling.{spelling, u32_bytes, u64_bytes, head_bytes, stamp_bytes, rec_bytes, front_bytes, of_edges_bytes, sent_counts_bytes, recs_bytes, entries_bytes, state_bytes, logged_bytes, log_bytes, checkpoint_bytes, delivery_bytes, event_bytes};
+ghost use Rattle.fw_record.specs.Spelling.{spelling, u32_bytes, u64_bytes, head_bytes, stamp_bytes, rec_bytes, front_bytes, of_edges_bytes, sent_counts_bytes, recs_bytes, entries_bytes, state_bytes, logged_bytes, log_bytes, checkpoint_bytes, delivery_bytes, event_bytes, IsCountable, HasCountableEdges, HasCountableLists, FitsItsCounts};
 
 use crate::codes::{CHECKPOINT, DELIVERY, EVENT, MAGIC, NOTICE, VERSION};
 use crate::{Checkpoint, Event, Logged, Record, size};
@@ -27,7 +27,8 @@ fn put_u64(out: &mut Vec<u8>, number: u64) -> Result<(), AllocError>
 
 /// How many parts follow, in four bytes. A number that does not fit is answered as want of memory.
 fn put_count(out: &mut Vec<u8>, count: usize) -> Result<(), AllocError>
-    ensures { OnOk result (out.new.items ≡ out.old.items ++ u32_bytes count) }
+    ensures bytes { OnOk result (out.new.items ≡ out.old.items ++ u32_bytes count) }
+    ensures counted { OnOk result (count < 2 ^ 32) }
 {
     let Ok(count) = u32::try_from(count) else {
         return Err(AllocError);
@@ -55,7 +56,8 @@ fn put_rec(out: &mut Vec<u8>, rec: &Rec) -> Result<(), AllocError>
 
 /// A front: the number of its stamps outside, and these.
 fn put_front(out: &mut Vec<u8>, front: &Front) -> Result<(), AllocError>
-    ensures { OnOk result (out.new.items ≡ out.old.items ++ front_bytes front.now) }
+    ensures bytes { OnOk result (out.new.items ≡ out.old.items ++ front_bytes front.now) }
+    ensures counted { OnOk result (IsCountable front.now) }
 {
     let stamps = front.outside();
     put_count(out, stamps.len())?;
@@ -67,7 +69,8 @@ fn put_front(out: &mut Vec<u8>, front: &Front) -> Result<(), AllocError>
 
 /// Edges with their fronts, after their number.
 fn put_of_edges(out: &mut Vec<u8>, fronts: &[OfEdge]) -> Result<(), AllocError>
-    ensures { OnOk result (out.new.items ≡ out.old.items ++ of_edges_bytes fronts.now) }
+    ensures bytes { OnOk result (out.new.items ≡ out.old.items ++ of_edges_bytes fronts.now) }
+    ensures counted { OnOk result (HasCountableEdges fronts.now) }
 {
     put_count(out, fronts.len())?;
     for of_edge in fronts {
@@ -79,7 +82,8 @@ fn put_of_edges(out: &mut Vec<u8>, fronts: &[OfEdge]) -> Result<(), AllocError>
 
 /// Counts of what was sent, after their number.
 fn put_counts(out: &mut Vec<u8>, counts: &[SentCount]) -> Result<(), AllocError>
-    ensures { OnOk result (out.new.items ≡ out.old.items ++ sent_counts_bytes counts.now) }
+    ensures bytes { OnOk result (out.new.items ≡ out.old.items ++ sent_counts_bytes counts.now) }
+    ensures counted { OnOk result (IsCountable counts.now) }
 {
     put_count(out, counts.len())?;
     for sent in counts {
@@ -112,7 +116,8 @@ fn put_entries(out: &mut Vec<u8>, entries: &Entries) -> Result<(), AllocError>
 /// A node's table.
 #[tactic(auto, unfolding(crate::specs::Spelling::state_bytes))]
 fn put_state(out: &mut Vec<u8>, state: &State) -> Result<(), AllocError>
-    ensures { OnOk result (out.new.items ≡ out.old.items ++ state_bytes state.now) }
+    ensures bytes { OnOk result (out.new.items ≡ out.old.items ++ state_bytes state.now) }
+    ensures counted { OnOk result (IsCountable state.now.sends) }
 {
     put_u64(out, state.sent)?;
     put_counts(out, state.sends.as_slice())?;
@@ -154,7 +159,8 @@ fn put_log(out: &mut Vec<u8>, messages: &[Logged]) -> Result<(), AllocError>
 
 /// A checkpoint, behind its head.
 fn put_checkpoint(out: &mut Vec<u8>, checkpoint: &Checkpoint) -> Result<(), AllocError>
-    ensures { OnOk result (out.new.items ≡ out.old.items ++ checkpoint_bytes checkpoint.now) }
+    ensures bytes { OnOk result (out.new.items ≡ out.old.items ++ checkpoint_bytes checkpoint.now) }
+    ensures counted { OnOk result (HasCountableLists checkpoint.now) }
 {
     let recorded = &checkpoint.recorded;
     put_u32(out, checkpoint.node.place())?;
@@ -203,7 +209,8 @@ fn put_head(out: &mut Vec<u8>, tag: u8) -> Result<(), AllocError>
 /// The one spelling of a record. It asks for its memory once. The error is want of memory; a list of more parts than its
 /// count can say is answered so too.
 pub fn encode(alloc: Global, what: &Record) -> Result<Vec<u8>, AllocError>
-    ensures { IfOk result (λ bytes. bytes.items ≡ spelling what.now) }
+    ensures spelled { IfOk result (λ bytes. bytes.items ≡ spelling what.now) }
+    ensures counted { OnOk result (FitsItsCounts what.now) }
 {
     let mut out = Vec::with_capacity(alloc, size::of_record(what))?;
     match what {

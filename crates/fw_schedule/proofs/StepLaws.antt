@@ -22,7 +22,7 @@ use Rattle.fw_flow.specs.declared.step.Step.TheVariants as step
 use Rattle.fw_flow.specs.Dataflow.{Dataflow, kind_of, receiver, bounds_of, is_input_kind, is_output_kind}
 use Rattle.fw_flow.specs.Names.{place_of}
 use Rattle.fw_schedule.specs.declared.item.Item.{Item}
-use Rattle.fw_schedule.specs.declared.item.Item.TheVariants.{One, Auto}
+use Rattle.fw_schedule.specs.declared.item.Item.TheVariants.{Auto}
 use Rattle.fw_schedule.specs.Grammar.{auto_of, one_step, item_of, items_of}
 use Rattle.fw_schedule.specs.Names.{are_names, node_named, edge_named, if_kind, node_of_kind, nodes_named}
 use Rattle.fw_schedule.specs.Schedule.{IsTimeIn, IsNodeOfKind, IsStepOf, IsItemOf, steps_in, step_count, step_limit}

@@ -58,7 +58,8 @@ pub fn one_answer()
         → IsRefused text flow first → IsRefused text flow second → first ≡ second }
 {}
 
-// Adds what a line asks for behind so many steps, and answers how many they are with its own; or tells the rule that it breaks.
+// Adds what a line asks for behind so many steps, and answers how many they are with its own; or tells the rule that it
+// breaks.
 fn read_line(
     alloc: Global,
     text: &[u8],

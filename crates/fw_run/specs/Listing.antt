@@ -8,6 +8,10 @@ use Rattle.fw_flow.specs.Dataflow.{Dataflow, node_at, kind_of, policy_of, domain
 use Rattle.fw_flow.specs.DomainText.{domain_text}
 use Rattle.fw_flow.specs.KindText.{kind_text, policy_text}
 
+-- the word of the kind; that of an output's domain has a place of its own
+abbrev pub kind_word : Kind → List ℕ
+kind_word kind = if is_output_kind kind then codes "output" else kind_text kind
+
 -- the word of the policy; `-` for inputs and outputs, which have none
 abbrev pub policy_word : Kind → Policy → List ℕ
 policy_word kind policy = if is_input_kind kind || is_output_kind kind then codes "-" else policy_text policy
@@ -15,7 +19,7 @@ policy_word kind policy = if is_input_kind kind || is_output_kind kind then code
 -- `node NAME KIND DOMAIN POLICY`
 abbrev pub node_line : Dataflow → ℕ → List ℕ
 node_line flow p =
-    codes "node " ++ (node_at flow p).name ++ codes " " ++ kind_text (kind_of flow p) ++ codes " " ++ domain_text flow (domain_of flow p)
+    codes "node " ++ (node_at flow p).name ++ codes " " ++ kind_word (kind_of flow p) ++ codes " " ++ domain_text flow (domain_of flow p)
     ++ codes " " ++ policy_word (kind_of flow p) (policy_of flow p) ++ codes "\n"
 
 -- `flow nodes NODES edges EDGES loops LOOPS`

@@ -1,7 +1,7 @@
 //! The command `check` lists the nodes of a flow.
 ghost use Rattle.std.specs.Prelude.{◌≡◌, ◌<◌, Some, length};
 ghost use Rattle.fw_flow.specs.DomainText.{domain_text};
-ghost use Rattle.fw_run.specs.Listing.{node_line, check_text, policy_word};
+ghost use Rattle.fw_run.specs.Listing.{node_line, check_text, kind_word, policy_word};
 ghost use Rattle.fw_run.specs.Writing.{Writes};
 
 use fw_flow::{Domain, Flow, Kind, NodeId, Policy};
@@ -54,12 +54,24 @@ impl<'a> fmt::Display for NodeLine<'a> {
     fn fmt<W: fmt::Write>(&self, f: &mut fmt::Formatter<W>) -> fmt::Result {
         let name = self.flow.node_name(self.node);
         let kind = self.flow.kind(self.node);
+        let word = kind_word(kind);
         let domain = DomainWord {
             flow: self.flow,
             domain: self.flow.domain_word(self.node),
         };
         let policy = policy_word(kind, self.flow.policy(self.node));
-        writeln!(f, "node {name} {kind} {domain} {policy}")
+        writeln!(f, "node {name} {word} {domain} {policy}")
+    }
+}
+
+// The word of a kind; that of an output's domain has a place of its own.
+fn kind_word(kind: Kind) -> &'static str
+    ensures { result.now ≡ kind_word kind }
+{
+    if kind.is_output() {
+        "output"
+    } else {
+        kind.as_str()
     }
 }
 

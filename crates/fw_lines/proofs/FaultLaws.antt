@@ -8,8 +8,8 @@ use Rattle.fw_lines.specs.declared.fault.ReadFault.{ReadFault}
 use Rattle.fw_lines.specs.declared.fault.ReadFault.TheVariants.{Refused, NoMemory}
 use Rattle.fw_lines.specs.declared.refusal.Code.{Code}
 use Rattle.fw_lines.specs.declared.refusal.Refusal.{Refusal}
-use Rattle.fw_lines.specs.Faults.{fault_at, IsSoundBelow, BreakNoRule, IsFirstFault, IfRefused}
-use Rattle.fw_lines.specs.Lines.{Said}
+use Rattle.fw_lines.specs.Faults.{fault_at, IsSoundBelow, BreakNoRule, IsFirstFault, IfRefused, Rules, IsSound, IsFirstRefusal}
+use Rattle.fw_lines.specs.Lines.{Said, said_lines}
 
 -- lines of which the first, `done`, break no rule
 pub record IsSoundSoFar (fault : List Said → Said → Option Code) (lines left done : List Said) : Type 0 where
@@ -120,3 +120,27 @@ first_left fault lines done (line ∷ left) h = by (fault done line) refl (λ e.
 -- lines break no rule, or one of them is the first that does
 pub sound_or_some : (fault : List Said → Said → Option Code) (lines : List Said) → BreakNoRule fault lines ⊎ ((refusal : Refusal) × IsFirstFault fault lines refusal)
 sound_or_some fault lines = first_left fault lines [] lines (record { parts = refl; sound = λ place below. absurd (omega (arith, below)) })
+
+-- ---- whole texts
+
+-- a sound text has no first refusal
+pub sound_or_refused : (rules : Rules) (text : List ℕ) (refusal : Refusal) → IsSound rules text → IsFirstRefusal rules text refusal → ⊥
+sound_or_refused rules text refusal sound (inl large) = absurd (omega (arith, sound.size, large.0))
+sound_or_refused rules text refusal sound (inr first) = sound_or_first rules.fault (said_lines text) refusal sound.lines first.1
+
+-- a text has one first refusal
+pub one_first_refusal : (rules : Rules) (text : List ℕ) (r s : Refusal) → IsFirstRefusal rules text r → IsFirstRefusal rules text s → r ≡ s
+one_first_refusal rules text r s (inl a) (inl b) = a.1 ∙ sym b.1
+one_first_refusal rules text r s (inl a) (inr b) = absurd (omega (arith, a.0, b.0))
+one_first_refusal rules text r s (inr a) (inl b) = absurd (omega (arith, a.0, b.0))
+one_first_refusal rules text r s (inr a) (inr b) = one_first rules.fault (said_lines text) r s a.1 b.1
+
+-- a text is sound, or has a first refusal
+pub sound_or_some_refusal : (rules : Rules) (text : List ℕ) → IsSound rules text ⊎ ((refusal : Refusal) × IsFirstRefusal rules text refusal)
+sound_or_some_refusal rules text = elim (cases_lt rules.most (length text)) [
+  | inl large ↦ inr (record { code = rules.too_long; line = 0 }, inl (large, refl))
+  | inr small ↦ elim (sound_or_some rules.fault (said_lines text)) [
+    | inl sound ↦ inl (record { size = omega (arith, small); lines = sound })
+    | inr fault ↦ inr (fault.0, inr (omega (arith, small), fault.1))
+  ]
+]

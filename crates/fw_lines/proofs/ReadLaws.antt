@@ -1,6 +1,6 @@
 -- The lines of inputs, read one after another.
-use Rattle.std.proofs.Common.{◌≡◌, ℕ, ◌==◌, Bool, true, false, cond, List, [], ◌∷◌, ◌++◌, map, length, Option, Some, None, unwrap_or, refl, sym, ◌∙◌, ap, subst, arith, ◌⊎◌, inl, inr}
-use Rattle.std.proofs.lemmas.Bool.{cases_lt, eq-eqb, eqb-true, true≢false}
+use Rattle.std.proofs.Common.{◌≡◌, ℕ, ◌≤◌, ◌==◌, Bool, true, false, cond, List, [], ◌∷◌, ◌++◌, map, length, Option, Some, None, unwrap_or, refl, sym, ◌∙◌, ap, subst, ◌⊎◌, inl, inr}
+use Rattle.std.proofs.lemmas.Bool.{eq-eqb, eqb-true, true≢false}
 use Rattle.std.specs.Map.{lookup}
 use Rattle.std.proofs.lemmas.List.{map-append}
 use Rattle.std.proofs.lemmas.List.Elements.{filter-append}
@@ -8,14 +8,13 @@ use Rattle.std.specs.List.{filter}
 use Rattle.std.specs.Option.{option_map_or}
 use Rattle.fw_bag.specs.declared.rec.Rec.{Rec}
 use Rattle.fw_lines.specs.declared.line.Line.{Line}
-use Rattle.fw_lines.specs.declared.refusal.Code.TheVariants.{I5}
 use Rattle.fw_lines.specs.declared.refusal.Refusal.{Refusal}
 use Rattle.fw_lines.specs.declared.span.Span.{Span}
 use Rattle.fw_lines.specs.Batches.{batches_at}
 use Rattle.fw_lines.specs.Faults.{BreakNoRule, IsFirstFault}
-use Rattle.fw_lines.specs.Inputs.{line_fault, batches_of, fault_in, source_of, fault_of, batch_of, is_batch_of, size_limit, IsAccepted, IsRefused}
+use Rattle.fw_lines.specs.Inputs.{line_fault, batches_of, fault_in, source_of, fault_of, batch_of, is_batch_of, size_limit, rules_of, IsAccepted, IsRefused}
 use Rattle.fw_lines.specs.Lines.{Said, bytes_at, said_in, said_lines}
-use Rattle.fw_lines.proofs.FaultLaws.{IsSoundSoFar, sound_more, first_fault, none_left, sound_or_first, sound_or_some, one_first}
+use Rattle.fw_lines.proofs.FaultLaws.{IsSoundSoFar, sound_more, first_fault, none_left, sound_or_refused, sound_or_some_refusal, one_first_refusal}
 
 -- what the code's loop knows: some lines are done, none of them breaks a rule, and the batches are theirs
 pub record IsRead (sources : List (List ℕ × ℕ)) (lines left : List Said) (batches : List (ℕ × List (List Rec))) : Type 0 where
@@ -62,17 +61,20 @@ read_all sources lines batches read =
     let all = none_left (line_fault sources) lines read.done read.so_far in
     (all.0, λ node. read.value node ∙ ap (λ ls. batches_of sources ls node) all.1)
 
+-- a short text of which all lines are read is accepted
+pub read_accepted : (sources : List (List ℕ × ℕ)) (text : List ℕ) (left : List Said) (batches : List (ℕ × List (List Rec))) → length text ≤ size_limit → IsRead sources (said_lines text) left batches → left ≡ []
+    → IsAccepted text sources batches
+read_accepted sources text left batches size read e =
+    let all = read_all sources (said_lines text) batches (subst (λ ls. IsRead sources (said_lines text) ls batches) e read) in
+    record { sound = record { size = size; lines = all.0 }; value = all.1 }
+
 -- an accepted text is not refused
 pub accepted_or_refused : (text : List ℕ) (sources : List (List ℕ × ℕ)) (batches : List (ℕ × List (List Rec))) (refusal : Refusal) → IsAccepted text sources batches → IsRefused text sources refusal → ⊥
-accepted_or_refused text sources batches refusal accepted (inl large) = absurd (omega (arith, accepted.size, large.0))
-accepted_or_refused text sources batches refusal accepted (inr first) = sound_or_first (line_fault sources) (said_lines text) refusal accepted.sound first.1
+accepted_or_refused text sources batches refusal accepted = sound_or_refused (rules_of sources) text refusal accepted.sound
 
 -- a text is refused by one rule at one line
 pub one_refusal : (text : List ℕ) (sources : List (List ℕ × ℕ)) (first second : Refusal) → IsRefused text sources first → IsRefused text sources second → first ≡ second
-one_refusal text sources first second (inl a) (inl b) = a.1 ∙ sym b.1
-one_refusal text sources first second (inl a) (inr b) = absurd (omega (arith, a.0, b.0))
-one_refusal text sources first second (inr a) (inl b) = absurd (omega (arith, a.0, b.0))
-one_refusal text sources first second (inr a) (inr b) = one_first (line_fault sources) (said_lines text) first second a.1 b.1
+one_refusal text sources = one_first_refusal (rules_of sources) text
 
 -- ---- each text has an answer
 
@@ -113,11 +115,8 @@ value_exists sources (line ∷ lines) = by (source_of sources line.words) refl (
 
 -- each text is accepted or refused
 pub some_answer : (text : List ℕ) (sources : List (List ℕ × ℕ)) → ((batches : List (ℕ × List (List Rec))) × IsAccepted text sources batches) ⊎ ((refusal : Refusal) × IsRefused text sources refusal)
-some_answer text sources = elim (cases_lt size_limit (length text)) [
-  | inl large ↦ inr (record { code = I5; line = 0 }, inl (large, refl))
-  | inr small ↦ elim (sound_or_some (line_fault sources) (said_lines text)) [
-    | inl sound ↦ let value = value_exists sources (said_lines text) in
-        inl (value.0, record { size = omega (arith, small); sound = sound; value = value.1 })
-    | inr fault ↦ inr (fault.0, inr (omega (arith, small), fault.1))
-  ]
+some_answer text sources = elim (sound_or_some_refusal (rules_of sources) text) [
+  | inl sound ↦ let value = value_exists sources (said_lines text) in
+      inl (value.0, record { sound = sound; value = value.1 })
+  | inr refused ↦ inr refused
 ]

@@ -1,5 +1,5 @@
 -- The grammar of the inputs.
-use Rattle.std.specs.Prelude.{◌≡◌, ℕ, ◌^◌, ◌<◌, ◌≤◌, ◌==◌, nat_le, Bool, true, false, ◌&&◌, List, [], ◌∷◌, map, length, filter, if◌then◌else◌, Option, Some, None, codes, ◌⊎◌}
+use Rattle.std.specs.Prelude.{◌≡◌, ℕ, ◌^◌, ◌==◌, nat_le, Bool, true, false, ◌&&◌, List, [], ◌∷◌, map, length, filter, if◌then◌else◌, Option, Some, None, codes}
 use Rattle.std.specs.List.{list_any, list_all, before_first, after_first, filter_map}
 use Rattle.std.specs.Option.{option_map_or, option_or}
 use Rattle.std.specs.Str.{bytes_eq}
@@ -14,7 +14,7 @@ use Rattle.fw_lines.specs.declared.refusal.Code.TheVariants.{I1, I2, I3, I4, I5}
 use Rattle.fw_lines.specs.declared.refusal.Refusal.{Refusal}
 use Rattle.fw_lines.specs.declared.span.Span.{Span}
 use Rattle.fw_lines.specs.Batches.{batches_at, count_at}
-use Rattle.fw_lines.specs.Faults.{BreakNoRule, IsFirstFault, IsOfWhole}
+use Rattle.fw_lines.specs.Faults.{Rules, IsSound, IsFirstRefusal}
 use Rattle.fw_lines.specs.Lines.{Said, said_lines, is_allowed, words_at}
 use Rattle.fw_lines.specs.Sources.{node_named}
 use Rattle.fw_lines.specs.Spelling.{is_name, number_of}
@@ -132,14 +132,15 @@ fault_in text sources words batches =
 abbrev pub size_limit : ℕ
 size_limit = 16777216
 
+-- what is asked of inputs of these sources
+abbrev pub rules_of : List (List ℕ × ℕ) → Rules
+rules_of sources = record { most = size_limit; too_long = I5; fault = line_fault sources }
+
 -- the text has the form of inputs of these sources, and the batches are those that its lines give
 pub record IsAccepted (text : List ℕ) (sources : List (List ℕ × ℕ)) (batches : List (ℕ × List (List Rec))) : Type 0 where
-  pub size : length text ≤ size_limit
-  pub sound : BreakNoRule (line_fault sources) (said_lines text)
+  pub sound : IsSound (rules_of sources) text
   pub value : (node : ℕ) → batches_at batches node ≡ batches_of sources (said_lines text) node
 
--- the refusal is the first rule that the text breaks: of its size, or of its first line that breaks one
+-- the refusal is the first rule of inputs of these sources that the text breaks
 abbrev pub IsRefused : List ℕ → List (List ℕ × ℕ) → Refusal → Type 0
-IsRefused text sources refusal =
-    ((size_limit < length text) × IsOfWhole I5 refusal)
-    ⊎ ((length text ≤ size_limit) × IsFirstFault (line_fault sources) (said_lines text) refusal)
+IsRefused text sources refusal = IsFirstRefusal (rules_of sources) text refusal

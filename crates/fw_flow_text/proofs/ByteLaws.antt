@@ -5,16 +5,15 @@ use Rattle.std.proofs.lemmas.Option.{slice_get_within, option_and_then_some}
 use Rattle.std.proofs.lemmas.Slice.Eq.{bytes_eq-Decides}
 use Rattle.std.specs.Char.{is_ascii_digit}
 use Rattle.std.specs.List.{list_all, filter, slice_split, onto_first}
-use Rattle.std.specs.Option.{option_and_then}
+use Rattle.std.specs.Option.{option_and_then, option_or}
 use Rattle.std.specs.Str.{bytes_eq}
 use Rattle.std.specs.Str.Parse.{digits_value}
 use Rattle.fw_bag.specs.declared.select.Comparison.{Comparison}
-use Rattle.fw_bag.specs.declared.select.Comparison.TheVariants.{Equal, NotEqual, Less, LessOrEqual, Greater, GreaterOrEqual}
 use Rattle.fw_bag.specs.declared.select.Assignment.{Assignment}
 use Rattle.fw_bag.specs.declared.select.Condition.{Condition}
 use Rattle.fw_bag.specs.declared.select.Field.{Field}
-use Rattle.fw_bag.specs.declared.select.Field.TheVariants.{Key, Value}
 use Rattle.fw_bag.specs.declared.select.NewValue.{NewValue}
+use Rattle.fw_bag.specs.declared.select.Selection.{Selection}
 use Rattle.fw_bag.specs.declared.select.Term.{Term}
 use Rattle.fw_lines.specs.declared.numeral.Number.TheVariants as number
 use Rattle.fw_lines.specs.Lines.{is_allowed, is_space, is_line_feed, is_word, words_of, lines_of, is_comment, said_by, said_from, said_lines, Said}
@@ -22,13 +21,15 @@ use Rattle.fw_lines.specs.Spelling.{is_letter, is_in_names, is_name, is_numeral,
 use Rattle.fw_flow.specs.declared.kind.Policy.{Policy}
 use Rattle.fw_flow.specs.declared.raw.Declaration.{Declaration}
 use Rattle.fw_flow.specs.declared.raw.Declared.{Declared}
+use Rattle.fw_flow.specs.declared.raw.RawKind.{RawKind}
 use Rattle.fw_flow.specs.Dataflow.{Dataflow}
 use Rattle.fw_flow_text.specs.declared.node.NodeForm.{NodeForm}
-use Rattle.fw_flow_text.specs.Forms.{name_of, policy_named, policy_at_end, input_form, output_form, select_form, node_form, node_declaration, edge_declaration, declaration_of}
+use Rattle.fw_flow_text.specs.Endings.{name_of, policies, policy_named, policy_at_end, ending_within, ending_outside, ending_of, parent_named, parent_at_end}
+use Rattle.fw_flow_text.specs.Forms.{outputs, kinds_within, kinds_leading, lone_kinds, output_kind, within_kind, leading_kind, lone_kind, input_form, output_form, select_form, regroup_form, within_form, leading_form, lone_form, node_form, node_declaration, edge_declaration, loop_of, loop_declaration, declaration_of}
 use Rattle.fw_flow_text.specs.Grammar.{declared_by, form_fault, words_fault, line_fault, IsAccepted}
 use Rattle.fw_flow_text.specs.Laws.{is_in_texts}
-use Rattle.fw_flow_text.specs.Select.{condition_of, sum_value, plain_value, plain_part, value_part, set_part, assignment_part}
-use Rattle.fw_flow_text.specs.Words.{marked_number, numeral_of, field_of, comparison_of, term_from, term_of}
+use Rattle.fw_flow_text.specs.Select.{condition_of, sum_value, plain_value, plain_part, value_part, set_part, assignment_part, selection_part}
+use Rattle.fw_flow_text.specs.Words.{named_by, fields, comparisons, marked_number, numeral_of, field_of, comparison_of, term_from, term_of}
 
 abbrev pub is_clean : List ℕ → Bool
 is_clean word = list_all is_allowed word
@@ -90,21 +91,21 @@ numeral_clean word found e = by_test (is_numeral word) refl e
     by_test true t r = digits_clean word t
     by_test false t r = absurd (cc)
 
+-- a word that names something, in a list of clean words
+named_clean : {A : Type 0} (names : List (List ℕ × A)) (word : List ℕ) (found : A) → named_by names word ≡ Some found → list_all (λ name. is_clean name.0) names ≡ true → is_clean word ≡ true
+named_clean [] word found e clean = absurd (cc)
+named_clean (name ∷ names) word found e clean =
+    chosen (is_clean word ≡ true) word name.0 (Some name.1) (named_by names word) found e
+    (λ w r. ap is_clean w ∙ first (is_clean name.0) (list_all (λ n. is_clean n.0) names) clean)
+    (λ r. named_clean names word found r (second (is_clean name.0) (list_all (λ n. is_clean n.0) names) clean))
+
 field_clean : (word : List ℕ) (found : Field) → field_of word ≡ Some found → is_clean word ≡ true
 unfolding field_of
-field_clean word found e =
-    chosen (is_clean word ≡ true) word (codes "key") (Some Key) _ found e (λ w r. ap is_clean w)
-    (λ e₂. chosen (is_clean word ≡ true) word (codes "value") (Some Value) None found e₂ (λ w r. ap is_clean w) (λ r. absurd (cc)))
+field_clean word found e = named_clean fields word found e refl
 
 comparison_clean : (word : List ℕ) (found : Comparison) → comparison_of word ≡ Some found → is_clean word ≡ true
 unfolding comparison_of
-comparison_clean word found e =
-    chosen (is_clean word ≡ true) word (codes "=") (Some Equal) _ found e (λ w r. ap is_clean w)
-    (λ e₂. chosen (is_clean word ≡ true) word (codes "!=") (Some NotEqual) _ found e₂ (λ w r. ap is_clean w)
-    (λ e₃. chosen (is_clean word ≡ true) word (codes "<") (Some Less) _ found e₃ (λ w r. ap is_clean w)
-    (λ e₄. chosen (is_clean word ≡ true) word (codes "<=") (Some LessOrEqual) _ found e₄ (λ w r. ap is_clean w)
-    (λ e₅. chosen (is_clean word ≡ true) word (codes ">") (Some Greater) _ found e₅ (λ w r. ap is_clean w)
-    (λ e₆. chosen (is_clean word ≡ true) word (codes ">=") (Some GreaterOrEqual) None found e₆ (λ w r. ap is_clean w) (λ r. absurd (cc)))))))
+comparison_clean word found e = named_clean comparisons word found e refl
 
 term_clean : (word : List ℕ) (found : Term × Bool) → term_of word ≡ Some found → is_clean word ≡ true
 unfolding term_of
@@ -168,17 +169,78 @@ assignment_clean (set ∷ word ∷ rest) found e h =
     (value_clean rest value is_value (ap are_clean (sym (rest_is _ value.1 value.2 found e₃)) ∙ h))))))
     (λ r. ap are_clean (sym (rest_is None false (set ∷ word ∷ rest) found r)) ∙ h)
 
+name_of-clean : (word found : List ℕ) → name_of word ≡ Some found → is_clean word ≡ true
+name_of-clean word found e = by_test (is_name word) refl e
+  where
+    by_test : (b : Bool) → is_name word ≡ b → cond b (Some word) None ≡ Some found → is_clean word ≡ true
+    by_test true t r = name_clean word t
+    by_test false t r = absurd (cc)
+
+-- what the first of two readings gave, or the second
+either : {A : Type 0} (P : Type 0) (o p : Option A) (y : A) → option_or o p ≡ Some y → (o ≡ Some y → P) → (p ≡ Some y → P) → P
+either P None p y e here there = there e
+either P (Some x) p y e here there = here e
+
+-- a word that is a test's text, and clean words behind it
+behind : (word text : List ℕ) (rest : List (List ℕ)) → word ≡ text → is_clean text ≡ true → are_clean rest ≡ true → are_clean (word ∷ rest) ≡ true
+behind word text rest e clean h = both (is_clean word) (are_clean rest) (ap is_clean e ∙ clean) h
+
+policy_named-clean : (word : List ℕ) (found : Policy) → policy_named word ≡ Some found → is_clean word ≡ true
+unfolding policy_named
+policy_named-clean word found e = named_clean policies word found e refl
+
 policy_clean : (words : List (List ℕ)) (found : Policy) → policy_at_end words ≡ Some found → are_clean words ≡ true
-unfolding policy_at_end policy_named
+unfolding policy_at_end
 policy_clean [] found e = absurd (cc)
-policy_clean (policy ∷ []) found e = absurd (cc)
-policy_clean (policy ∷ word ∷ []) found e =
-    chosen (are_clean (policy ∷ word ∷ []) ≡ true) policy (codes "policy") _ None found e
-    (λ is_policy r. chosen (are_clean (policy ∷ word ∷ []) ≡ true) word (codes "none") _ None found r
-    (λ is_word r₂. both (is_clean policy) (is_clean word && true) (ap is_clean is_policy) (both (is_clean word) true (ap is_clean is_word) refl))
-    (λ r₂. absurd (cc)))
+policy_clean (head ∷ []) found e = absurd (cc)
+policy_clean (head ∷ word ∷ []) found e =
+    chosen (are_clean (head ∷ word ∷ []) ≡ true) head (codes "policy") (policy_named word) None found e
+    (λ w r. behind head (codes "policy") (word ∷ []) w refl (both (is_clean word) true (policy_named-clean word found r) refl))
     (λ r. absurd (cc))
-policy_clean (policy ∷ word ∷ next ∷ rest) found e = absurd (cc)
+policy_clean (head ∷ word ∷ next ∷ rest) found e = absurd (cc)
+
+ending_clean : (words : List (List ℕ)) (found : Option (List ℕ) × Policy) → ending_of words ≡ Some found → are_clean words ≡ true
+unfolding ending_of ending_within ending_outside
+ending_clean [] found e = absurd (cc)
+ending_clean (word ∷ []) found e = absurd (cc)
+ending_clean (word ∷ name ∷ rest) found e =
+    chosen (are_clean (word ∷ name ∷ rest) ≡ true) word (codes "loop") (ending_within name rest) (ending_outside (word ∷ name ∷ rest)) found e
+    (λ w r. behind word (codes "loop") (name ∷ rest) w refl
+    (option_and_then_some _ (name_of name) found r (λ n is_name e₂.
+    option_and_then_some _ (policy_at_end rest) found e₂ (λ p is_policy e₃.
+    both (is_clean name) (are_clean rest) (name_of-clean name n is_name) (policy_clean rest p is_policy)))))
+    (λ r. option_and_then_some _ (policy_at_end (word ∷ name ∷ rest)) found r (λ p is_policy e₂. policy_clean (word ∷ name ∷ rest) p is_policy))
+
+parent_clean : (words : List (List ℕ)) (found : Option (List ℕ)) → parent_at_end words ≡ Some found → are_clean words ≡ true
+unfolding parent_at_end parent_named
+parent_clean [] found e = refl
+parent_clean (word ∷ []) found e = absurd (cc)
+parent_clean (word ∷ name ∷ []) found e =
+    chosen (are_clean (word ∷ name ∷ []) ≡ true) word (codes "in") (parent_named name) None found e
+    (λ w r. behind word (codes "in") (name ∷ []) w refl
+    (option_and_then_some _ (name_of name) found r (λ n is_name e₂. both (is_clean name) true (name_of-clean name n is_name) refl)))
+    (λ r. absurd (cc))
+parent_clean (word ∷ name ∷ next ∷ rest) found e = absurd (cc)
+
+-- ---- the words of kinds
+
+output_kind-clean : (word : List ℕ) (found : RawKind) → output_kind word ≡ Some found → is_clean word ≡ true
+unfolding output_kind
+output_kind-clean word found e = named_clean outputs word found e refl
+
+within_kind-clean : (within : Option (List ℕ)) (word : List ℕ) (found : RawKind) → within_kind within word ≡ Some found → is_clean word ≡ true
+unfolding within_kind
+within_kind-clean within word found e = named_clean (kinds_within within) word found e refl
+
+leading_kind-clean : (name word : List ℕ) (found : RawKind) → leading_kind name word ≡ Some found → is_clean word ≡ true
+unfolding leading_kind
+leading_kind-clean name word found e = named_clean (kinds_leading name) word found e refl
+
+lone_kind-clean : (word : List ℕ) (found : RawKind) → lone_kind word ≡ Some found → is_clean word ≡ true
+unfolding lone_kind
+lone_kind-clean word found e = named_clean lone_kinds word found e refl
+
+-- ---- nodes
 
 input_clean : (words : List (List ℕ)) (found : NodeForm) → input_form words ≡ Some found → are_clean words ≡ true
 unfolding input_form
@@ -189,35 +251,76 @@ output_clean : (words : List (List ℕ)) (found : NodeForm) → output_form word
 unfolding output_form
 output_clean [] found e = absurd (cc)
 output_clean (domain ∷ []) found e =
-    chosen (are_clean (domain ∷ []) ≡ true) domain (codes "epoch") _ None found e (λ is_epoch r. both (is_clean domain) true (ap is_clean is_epoch) refl) (λ r. absurd (cc))
+    option_and_then_some _ (output_kind domain) found e (λ k is_kind e₂. both (is_clean domain) true (output_kind-clean domain k is_kind) refl)
 output_clean (domain ∷ word ∷ words) found e = absurd (cc)
+
+selection_clean : (words : List (List ℕ)) (found : Selection × Bool × List (List ℕ)) → selection_part words ≡ Some found → are_clean found.2 ≡ true → are_clean words ≡ true
+unfolding selection_part
+selection_clean [] found e h = absurd (cc)
+selection_clean (left ∷ []) found e h = absurd (cc)
+selection_clean (left ∷ between ∷ []) found e h = absurd (cc)
+selection_clean (left ∷ between ∷ right ∷ rest) found e h =
+    option_and_then_some _ (condition_of left between right) found e (λ condition is_condition e₂.
+    option_and_then_some _ (assignment_part rest) found e₂ (λ assignment is_assignment e₃.
+    condition_clean left between right rest condition is_condition
+    (assignment_clean rest assignment is_assignment (ap are_clean (sym (rest_is _ _ assignment.2 found e₃)) ∙ h))))
 
 select_clean : (words : List (List ℕ)) (found : NodeForm) → select_form words ≡ Some found → are_clean words ≡ true
 unfolding select_form
-select_clean [] found e = absurd (cc)
-select_clean (left ∷ []) found e = absurd (cc)
-select_clean (left ∷ between ∷ []) found e = absurd (cc)
-select_clean (left ∷ between ∷ right ∷ rest) found e =
-    option_and_then_some _ (condition_of left between right) found e (λ condition is_condition e₂.
-    option_and_then_some _ (assignment_part rest) found e₂ (λ assignment is_assignment e₃.
-    option_and_then_some _ (policy_at_end assignment.2) found e₃ (λ policy is_policy e₄.
-    condition_clean left between right rest condition is_condition (assignment_clean rest assignment is_assignment (policy_clean assignment.2 policy is_policy)))))
+select_clean words found e =
+    option_and_then_some _ (selection_part words) found e (λ selection is_selection e₂.
+    option_and_then_some _ (ending_of selection.2) found e₂ (λ ending is_ending e₃.
+    selection_clean words selection is_selection (ending_clean selection.2 ending is_ending)))
 
-node_clean : (kind : List ℕ) (rest : List (List ℕ)) (found : NodeForm) → node_form kind rest ≡ Some found → are_clean (kind ∷ rest) ≡ true
+regroup_clean : (words : List (List ℕ)) (found : NodeForm) → regroup_form words ≡ Some found → are_clean words ≡ true
+unfolding regroup_form
+regroup_clean [] found e = absurd (cc)
+regroup_clean (number ∷ rest) found e =
+    option_and_then_some _ (numeral_of number) found e (λ size is_number e₂.
+    option_and_then_some _ (policy_at_end rest) found e₂ (λ p is_policy e₃.
+    both (is_clean number) (are_clean rest) (numeral_clean number size is_number) (policy_clean rest p is_policy)))
+
+within_clean : (word : List ℕ) (rest : List (List ℕ)) (found : NodeForm) → within_form word rest ≡ Some found → are_clean (word ∷ rest) ≡ true
+unfolding within_form
+within_clean word rest found e =
+    option_and_then_some _ (ending_of rest) found e (λ ending is_ending e₂.
+    option_and_then_some _ (within_kind ending.0 word) found e₂ (λ k is_kind e₃.
+    both (is_clean word) (are_clean rest) (within_kind-clean ending.0 word k is_kind) (ending_clean rest ending is_ending)))
+
+leading_clean : (word : List ℕ) (rest : List (List ℕ)) (found : NodeForm) → leading_form word rest ≡ Some found → are_clean (word ∷ rest) ≡ true
+unfolding leading_form
+leading_clean word [] found e = absurd (cc)
+leading_clean word (first ∷ rest) found e =
+    option_and_then_some _ (name_of first) found e (λ name is_name e₂.
+    option_and_then_some _ (leading_kind name word) found e₂ (λ k is_kind e₃.
+    option_and_then_some _ (policy_at_end rest) found e₃ (λ p is_policy e₄.
+    both (is_clean word) (are_clean (first ∷ rest)) (leading_kind-clean name word k is_kind)
+    (both (is_clean first) (are_clean rest) (name_of-clean first name is_name) (policy_clean rest p is_policy)))))
+
+lone_clean : (word : List ℕ) (rest : List (List ℕ)) (found : NodeForm) → lone_form word rest ≡ Some found → are_clean (word ∷ rest) ≡ true
+unfolding lone_form
+lone_clean word rest found e =
+    option_and_then_some _ (lone_kind word) found e (λ k is_kind e₂.
+    option_and_then_some _ (policy_at_end rest) found e₂ (λ p is_policy e₃.
+    both (is_clean word) (are_clean rest) (lone_kind-clean word k is_kind) (policy_clean rest p is_policy)))
+
+shape_clean : (word : List ℕ) (rest : List (List ℕ)) (found : NodeForm) → option_or (within_form word rest) (option_or (leading_form word rest) (lone_form word rest)) ≡ Some found → are_clean (word ∷ rest) ≡ true
+shape_clean word rest found e =
+    let P = are_clean (word ∷ rest) ≡ true in
+    either P (within_form word rest) (option_or (leading_form word rest) (lone_form word rest)) found e (within_clean word rest found)
+    (λ e₂. either P (leading_form word rest) (lone_form word rest) found e₂ (leading_clean word rest found) (lone_clean word rest found))
+
+node_clean : (word : List ℕ) (rest : List (List ℕ)) (found : NodeForm) → node_form word rest ≡ Some found → are_clean (word ∷ rest) ≡ true
 unfolding node_form
-node_clean kind rest found e =
-    let P = are_clean (kind ∷ rest) ≡ true in
-    chosen P kind (codes "input") (input_form rest) _ found e (λ w r. both (is_clean kind) (are_clean rest) (ap is_clean w) (input_clean rest found r))
-    (λ e₂. chosen P kind (codes "output") (output_form rest) _ found e₂ (λ w r. both (is_clean kind) (are_clean rest) (ap is_clean w) (output_clean rest found r))
-    (λ e₃. chosen P kind (codes "select") (select_form rest) None found e₃ (λ w r. both (is_clean kind) (are_clean rest) (ap is_clean w) (select_clean rest found r))
-    (λ r. absurd (cc))))
+node_clean word rest found e =
+    let P = are_clean (word ∷ rest) ≡ true in
+    chosen P word (codes "input") (input_form rest) _ found e (λ w r. behind word (codes "input") rest w refl (input_clean rest found r))
+    (λ e₂. chosen P word (codes "output") (output_form rest) _ found e₂ (λ w r. behind word (codes "output") rest w refl (output_clean rest found r))
+    (λ e₃. chosen P word (codes "select") (select_form rest) _ found e₃ (λ w r. behind word (codes "select") rest w refl (select_clean rest found r))
+    (λ e₄. chosen P word (codes "regroup") (regroup_form rest) _ found e₄ (λ w r. behind word (codes "regroup") rest w refl (regroup_clean rest found r))
+    (shape_clean word rest found))))
 
-name_of-clean : (word found : List ℕ) → name_of word ≡ Some found → is_clean word ≡ true
-name_of-clean word found e = by_test (is_name word) refl e
-  where
-    by_test : (b : Bool) → is_name word ≡ b → cond b (Some word) None ≡ Some found → is_clean word ≡ true
-    by_test true t r = name_clean word t
-    by_test false t r = absurd (cc)
+-- ---- lines
 
 node_declaration-clean : (words : List (List ℕ)) (found : Declaration × Bool) → node_declaration words ≡ Some found → are_clean words ≡ true
 unfolding node_declaration
@@ -240,15 +343,30 @@ edge_declaration-clean (a ∷ b ∷ c ∷ []) found e =
     three_clean a b c [] (name_of-clean a name is_name) (name_of-clean b sender is_sender) (name_of-clean c receiver is_receiver) refl)))
 edge_declaration-clean (a ∷ b ∷ c ∷ d ∷ words) found e = absurd (cc)
 
+loop_declaration-clean : (words : List (List ℕ)) (found : Declaration × Bool) → loop_declaration words ≡ Some found → are_clean words ≡ true
+unfolding loop_declaration loop_of
+loop_declaration-clean [] found e = absurd (cc)
+loop_declaration-clean (a ∷ []) found e = absurd (cc)
+loop_declaration-clean (a ∷ b ∷ []) found e = absurd (cc)
+loop_declaration-clean (word ∷ max ∷ number ∷ rest) found e =
+    chosen (are_clean (word ∷ max ∷ number ∷ rest) ≡ true) max (codes "max") (loop_of word number rest) None found e
+    (λ w r.
+    option_and_then_some _ (name_of word) found r (λ name is_name e₂.
+    option_and_then_some _ (numeral_of number) found e₂ (λ n is_number e₃.
+    option_and_then_some _ (parent_at_end rest) found e₃ (λ parent is_parent e₄.
+    three_clean word max number rest (name_of-clean word name is_name) (ap is_clean w) (numeral_clean number n is_number) (parent_clean rest parent is_parent)))))
+    (λ r. absurd (cc))
+
 -- words that have a form are clean
 declaration_clean : (words : List (List ℕ)) (found : Declaration × Bool) → declaration_of words ≡ Some found → are_clean words ≡ true
 unfolding declaration_of
 declaration_clean [] found e = absurd (cc)
 declaration_clean (word ∷ rest) found e =
     let P = are_clean (word ∷ rest) ≡ true in
-    chosen P word (codes "node") (node_declaration rest) _ found e (λ w r. both (is_clean word) (are_clean rest) (ap is_clean w) (node_declaration-clean rest found r))
-    (λ e₂. chosen P word (codes "edge") (edge_declaration rest) None found e₂ (λ w r. both (is_clean word) (are_clean rest) (ap is_clean w) (edge_declaration-clean rest found r))
-    (λ r. absurd (cc)))
+    chosen P word (codes "node") (node_declaration rest) _ found e (λ w r. behind word (codes "node") rest w refl (node_declaration-clean rest found r))
+    (λ e₂. chosen P word (codes "edge") (edge_declaration rest) _ found e₂ (λ w r. behind word (codes "edge") rest w refl (edge_declaration-clean rest found r))
+    (λ e₃. chosen P word (codes "loop") (loop_declaration rest) None found e₃ (λ w r. behind word (codes "loop") rest w refl (loop_declaration-clean rest found r))
+    (λ r. absurd (cc))))
 
 -- words that break no rule are clean
 words_clean : (before : List Declared) (words : List (List ℕ)) → words_fault before words ≡ None → are_clean words ≡ true
@@ -315,5 +433,5 @@ accepted_text_allowed text flow accepted =
   where
     each : (place : ℕ) (line : Said) → slice_get (said_lines text) place ≡ Some line → are_clean line.words ≡ true
     each place line e =
-        let none = accepted.sound place (slice_get_within (said_lines text) place line e) in
+        let none = accepted.sound.lines place (slice_get_within (said_lines text) place line e) in
         words_clean (declared_by (take place (said_lines text))) line.words (sym (ap (option_and_then (λ l. line_fault (take place (said_lines text)) l)) e) ∙ none)

@@ -1,4 +1,3 @@
 pub mod ByteLaws
-pub mod PlainLaws
 pub mod ReadLaws
 pub mod SpelledLaws

@@ -1,23 +1,21 @@
 -- The lines of a flow, read one after another.
 use Rattle.std.proofs.Common.{◌≡◌, ℕ, ◌≤◌, List, [], ◌∷◌, ◌++◌, length, map, Some, None, Result, Ok, Err, MatchResult, refl, sym, ◌∙◌, ap, subst, ◌⊎◌, inl, inr, arith}
-use Rattle.std.proofs.lemmas.Bool.{cases_lt}
 use Rattle.std.proofs.lemmas.List.{append-nil}
 use Rattle.std.proofs.lemmas.List.Elements.{filter_map-append}
 use Rattle.fw_lines.specs.declared.fault.ReadFault.{ReadFault}
 use Rattle.fw_lines.specs.declared.fault.ReadFault.TheVariants.{Refused, NoMemory}
-use Rattle.fw_lines.specs.declared.refusal.Code.TheVariants.{F11}
 use Rattle.fw_lines.specs.declared.refusal.Refusal.{Refusal}
 use Rattle.fw_lines.specs.Faults.{BreakNoRule, IsFirstFault, IfRefused}
 use Rattle.fw_lines.specs.declared.span.Span.{Span}
 use Rattle.fw_lines.specs.Lines.{Said, said_lines, bytes_at}
-use Rattle.fw_lines.proofs.FaultLaws.{IsSoundSoFar, sound_more, first_fault, none_left, sound_or_first, sound_or_some, one_first}
+use Rattle.fw_lines.proofs.FaultLaws.{IsSoundSoFar, sound_more, first_fault, none_left, sound_or_refused, sound_or_some_refusal, one_first_refusal}
 use Rattle.fw_flow.proofs.AnswerLaws.{some_answer as some_checked}
 use Rattle.fw_flow.proofs.Checks.{checked_or_refused, one_refusal as one_broken}
 use Rattle.fw_flow.specs.declared.raw.Declared.{Declared}
 use Rattle.fw_flow.specs.Check.{IsChecked, IsFirstBroken}
 use Rattle.fw_flow.specs.Dataflow.{Dataflow}
 use Rattle.fw_flow_text.specs.Forms.{declaration_of}
-use Rattle.fw_flow_text.specs.Grammar.{declared_in, declared_by, words_fault, line_fault, size_limit, IsAccepted, IsRefused}
+use Rattle.fw_flow_text.specs.Grammar.{declared_in, declared_by, words_fault, line_fault, flow_rules, IsAccepted, IsRefused}
 
 -- what the code's loop knows: some lines are done, none of them breaks a rule, and the declarations are theirs
 pub record IsRead (lines left : List Said) (raw : List Declared) : Type 0 where
@@ -65,17 +63,16 @@ pub checked_all : (text : List ℕ) (left : List Said) (raw : List Declared) (re
     → MatchResult result (IsChecked raw) (IfRefused (IsFirstBroken raw)) → MatchResult result (IsAccepted text) (IfRefused (IsRefused text))
 checked_all text left raw (Ok flow) size read e checked =
     let all = read_all (said_lines text) raw (subst (λ ls. IsRead (said_lines text) ls raw) e read) in
-    record { size = size; sound = all.0; checked = subst (λ ds. IsChecked ds flow) all.1 checked }
+    record { sound = record { size = size; lines = all.0 }; checked = subst (λ ds. IsChecked ds flow) all.1 checked }
 checked_all text left raw (Err (Refused refusal)) size read e broken =
     let all = read_all (said_lines text) raw (subst (λ ls. IsRead (said_lines text) ls raw) e read) in
-    inr (inr (size, all.0, subst (λ ds. IsFirstBroken ds refusal) all.1 broken))
+    inr (record { size = size; lines = all.0 }, subst (λ ds. IsFirstBroken ds refusal) all.1 broken)
 checked_all text left raw (Err NoMemory) size read e broken = tt
 
 -- an accepted text is not refused
 pub accepted_or_refused : (text : List ℕ) (flow : Dataflow) (refusal : Refusal) → IsAccepted text flow → IsRefused text refusal → ⊥
-accepted_or_refused text flow refusal accepted (inl large) = absurd (omega (arith, accepted.size, large.0))
-accepted_or_refused text flow refusal accepted (inr (inl first)) = sound_or_first line_fault (said_lines text) refusal accepted.sound first.1
-accepted_or_refused text flow refusal accepted (inr (inr broken)) = checked_or_refused (declared_by (said_lines text)) flow refusal accepted.checked broken.2
+accepted_or_refused text flow refusal accepted (inl first) = sound_or_refused flow_rules text refusal accepted.sound first
+accepted_or_refused text flow refusal accepted (inr broken) = checked_or_refused (declared_by (said_lines text)) flow refusal accepted.checked broken.1
 
 -- an accepted text has one dataflow
 pub one_flow : (text : List ℕ) (first second : Dataflow) → IsAccepted text first → IsAccepted text second → first ≡ second
@@ -83,25 +80,17 @@ one_flow text first second a b = a.checked.value ∙ sym b.checked.value
 
 -- a text is refused by one rule at one line
 pub one_refusal : (text : List ℕ) (first second : Refusal) → IsRefused text first → IsRefused text second → first ≡ second
-one_refusal text first second (inl a) (inl b) = a.1 ∙ sym b.1
-one_refusal text first second (inl a) (inr (inl b)) = absurd (omega (arith, a.0, b.0))
-one_refusal text first second (inl a) (inr (inr b)) = absurd (omega (arith, a.0, b.0))
-one_refusal text first second (inr (inl a)) (inl b) = absurd (omega (arith, a.0, b.0))
-one_refusal text first second (inr (inl a)) (inr (inl b)) = one_first line_fault (said_lines text) first second a.1 b.1
-one_refusal text first second (inr (inl a)) (inr (inr b)) = absurd (sound_or_first line_fault (said_lines text) first b.1 a.1)
-one_refusal text first second (inr (inr a)) (inl b) = absurd (omega (arith, a.0, b.0))
-one_refusal text first second (inr (inr a)) (inr (inl b)) = absurd (sound_or_first line_fault (said_lines text) second a.1 b.1)
-one_refusal text first second (inr (inr a)) (inr (inr b)) = one_broken (declared_by (said_lines text)) first second a.2 b.2
+one_refusal text first second (inl a) (inl b) = one_first_refusal flow_rules text first second a b
+one_refusal text first second (inl a) (inr b) = absurd (sound_or_refused flow_rules text first b.0 a)
+one_refusal text first second (inr a) (inl b) = absurd (sound_or_refused flow_rules text second a.0 b)
+one_refusal text first second (inr a) (inr b) = one_broken (declared_by (said_lines text)) first second a.1 b.1
 
 -- each text is accepted or refused
 pub some_answer : (text : List ℕ) → ((flow : Dataflow) × IsAccepted text flow) ⊎ ((refusal : Refusal) × IsRefused text refusal)
-some_answer text = elim (cases_lt size_limit (length text)) [
-  | inl large ↦ inr (record { code = F11; line = 0 }, inl (large, refl))
-  | inr small ↦ elim (sound_or_some line_fault (said_lines text)) [
-    | inl sound ↦ elim (some_checked (declared_by (said_lines text))) [
-      | inl checked ↦ inl (checked.0, record { size = omega (arith, small); sound = sound; checked = checked.1 })
-      | inr broken ↦ inr (broken.0, inr (inr (omega (arith, small), sound, broken.1)))
-    ]
-    | inr fault ↦ inr (fault.0, inr (inl (omega (arith, small), fault.1)))
+some_answer text = elim (sound_or_some_refusal flow_rules text) [
+  | inl sound ↦ elim (some_checked (declared_by (said_lines text))) [
+    | inl checked ↦ inl (checked.0, record { sound = sound; checked = checked.1 })
+    | inr broken ↦ inr (broken.0, inr (sound, broken.1))
   ]
+  | inr first ↦ inr (first.0, inl first.1)
 ]

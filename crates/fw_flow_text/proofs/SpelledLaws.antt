@@ -1,5 +1,5 @@
 -- What is written is read as what it was.
-use Rattle.std.proofs.Common.{◌≡◌, ℕ, ◌+◌, ◌%◌, ◌<◌, ◌^◌, Bool, true, false, ◌&&◌, cond, not, ◌==◌, List, [], ◌∷◌, ◌++◌, Option, Some, None, refl, sym, ◌∙◌, ap, arith, codes, nat_lt, get_or, ◌||◌, inl, inr}
+use Rattle.std.proofs.Common.{◌≡◌, ℕ, ◌+◌, ◌%◌, ◌<◌, ◌^◌, Bool, true, false, ◌&&◌, cond, not, ◌==◌, List, [], ◌∷◌, ◌++◌, Option, Some, None, refl, sym, ◌∙◌, ap, arith, codes, nat_lt, get_or, ◌||◌, inl, inr, IfSome}
 use Rattle.std.proofs.lemmas.Bool.{cases_lt}
 use Rattle.std.proofs.lemmas.Bool.Decides.{nat_tests}
 use Rattle.std.proofs.lemmas.Fmt.{decimal_is_IsNumeral, decimal_by_steps, first_decimal, decimal_digit}
@@ -8,7 +8,7 @@ use Rattle.std.proofs.lemmas.Slice.Eq.{bytes_eq-Decides}
 use Rattle.std.specs.Char.{is_ascii_digit}
 use Rattle.std.specs.Fmt.{decimal}
 use Rattle.std.specs.List.{list_all}
-use Rattle.std.specs.Option.{option_and_then}
+use Rattle.std.specs.Option.{option_and_then, option_or}
 use Rattle.std.specs.Str.{bytes_eq}
 use Rattle.std.specs.Str.Parse.{digits_value}
 use Rattle.fw_bag.specs.declared.select.Assignment.{Assignment}
@@ -25,34 +25,22 @@ use Rattle.fw_bag.specs.declared.select.Term.TheVariants as term
 use Rattle.fw_lines.specs.declared.numeral.Number.{Number}
 use Rattle.fw_lines.specs.declared.numeral.Number.TheVariants as number
 use Rattle.fw_lines.specs.Spelling.{is_name, is_numeral, number_of}
-use Rattle.fw_flow.specs.declared.kind.Policy.TheVariants.{None as NoPolicy}
+use Rattle.fw_flow.specs.declared.kind.Policy.{Policy}
+use Rattle.fw_flow.specs.declared.kind.Policy.TheVariants as policy
 use Rattle.fw_flow.specs.declared.raw.Declaration.{Declaration}
-use Rattle.fw_flow.specs.declared.raw.Declaration.TheVariants.{Node, Edge}
-use Rattle.fw_flow.specs.declared.raw.RawKind.TheVariants.{Input, OutputEpoch, Select}
+use Rattle.fw_flow.specs.declared.raw.Declaration.TheVariants.{Loop, Node, Edge}
+use Rattle.fw_flow.specs.declared.raw.RawKind.{RawKind}
+use Rattle.fw_flow.specs.declared.raw.RawKind.TheVariants.{Input, OutputEpoch, OutputNumber, Select, Concat, Distinct, Join, Sum, Enter, Feedback, Leave, Total, Sequence, Ledger, Regroup}
 use Rattle.fw_flow_text.specs.declared.node.NodeForm.{NodeForm}
-use Rattle.fw_flow_text.specs.Forms.{name_of, policy_named, policy_at_end, input_form, output_form, select_form, node_form, node_declaration, edge_declaration, declaration_of}
-use Rattle.fw_flow_text.specs.Laws.{InputsAreRead, OutputsAreRead, SelectsAreRead, EdgesAreRead}
-use Rattle.fw_flow_text.specs.Select.{condition_of, sum_value, plain_value, value_part, assignment_part}
-use Rattle.fw_flow_text.specs.Spelled.{field_word, comparison_word, term_word, value_words, assignment_words, selection_words, IsSmallTerm, IsSmallValue, IsSmallAssignment, IsSmall}
+use Rattle.fw_flow_text.specs.Endings.{name_of, policy_named, policy_at_end, ending_within, ending_outside, ending_of, parent_named, parent_at_end}
+use Rattle.fw_flow_text.specs.Forms.{output_kind, within_kind, leading_kind, lone_kind, input_form, output_form, select_form, regroup_form, within_form, leading_form, lone_form, shape_form, node_form, node_declaration, edge_declaration, loop_of, loop_declaration, declaration_of}
+use Rattle.fw_flow_text.specs.Laws.{DeclarationsAreReadBack}
+use Rattle.fw_flow_text.specs.Select.{condition_of, sum_value, plain_value, plain_part, value_part, assignment_part, selection_part}
+use Rattle.fw_flow_text.specs.Spelled.{field_word, comparison_word, term_word, value_words, assignment_words, selection_words, policy_words, ending_words, node_words, parent_words, declaration_words, IsSmallTerm, IsSmallValue, IsSmallAssignment, IsSmall, IsName, IsWritableNode, IsWritable}
 use Rattle.fw_flow_text.specs.Words.{marked_number, numeral_of, field_of, comparison_of, term_of, term_from, value_from}
 
 named : (name : List ℕ) → is_name name ≡ true → name_of name ≡ Some name
 named name e = ap (λ b. cond b (Some name) None) e
-
-pub inputs_are_read : InputsAreRead
-unfolding declaration_of node_declaration node_form input_form
-inputs_are_read name e = ap (λ n. option_and_then (λ name. Some (Node name Input NoPolicy, false)) n) (named name e)
-
-pub outputs_are_read : OutputsAreRead
-unfolding declaration_of node_declaration node_form output_form
-outputs_are_read name e = ap (λ n. option_and_then (λ name. Some (Node name OutputEpoch NoPolicy, false)) n) (named name e)
-
-pub edges_are_read : EdgesAreRead
-unfolding declaration_of edge_declaration
-edges_are_read name sender receiver e f g =
-    ap (λ n. option_and_then (λ x. option_and_then (λ y. option_and_then (λ z. Some (Edge x y z, false)) (name_of receiver)) (name_of sender)) n) (named name e)
-    ∙ ap (λ n. option_and_then (λ y. option_and_then (λ z. Some (Edge name y z, false)) (name_of receiver)) n) (named sender f)
-    ∙ ap (λ n. option_and_then (λ z. Some (Edge name sender z, false)) n) (named receiver g)
 
 field_read : (field : Field) → field_of (field_word field) ≡ Some field
 unfolding field_of
@@ -153,41 +141,198 @@ sum_value_read field n h =
     ap (option_and_then (λ f. option_and_then (whole f) (numeral_of (decimal n)))) (field_read field)
     ∙ ap (option_and_then (whole field)) (numeral_read n h)
 
--- the words behind a selection
-abbrev ending : List (List ℕ)
-ending = codes "policy" ∷ codes "none" ∷ []
+-- ---- how lines end
 
-value_read : (v : NewValue) → IsSmallValue v → value_part (value_words v ++ ending) ≡ Some (v, false, ending)
+policy_read : (p : Policy) → policy_at_end (policy_words p) ≡ Some p
+unfolding policy_at_end policy_named
+policy_read policy.None = refl
+policy_read policy.Lazy = refl
+policy_read policy.Logged = refl
+policy_read policy.Eager = refl
+policy_read policy.Full = refl
+
+ending_read : (within : Option (List ℕ)) (p : Policy) → IfSome within IsName → ending_of (ending_words within p) ≡ Some (within, p)
+unfolding ending_of ending_within ending_outside
+ending_read None p h =
+    let whole : Policy → Option (Option (List ℕ) × Policy) = λ q. Some (None, q) in
+    ap (option_and_then whole) (policy_read p)
+ending_read (Some name) p h =
+    let whole : List ℕ → Policy → Option (Option (List ℕ) × Policy) = λ n q. Some (Some n, q) in
+    ap (option_and_then (λ n. option_and_then (whole n) (policy_at_end (policy_words p)))) (named name h)
+    ∙ ap (option_and_then (whole name)) (policy_read p)
+
+parent_read : (parent : Option (List ℕ)) → IfSome parent IsName → parent_at_end (parent_words parent) ≡ Some parent
+unfolding parent_at_end parent_named
+parent_read None h = refl
+parent_read (Some name) h =
+    let whole : List ℕ → Option (Option (List ℕ)) = λ n. Some (Some n) in
+    ap (option_and_then whole) (named name h)
+
+-- ---- selections
+
+plain_read : (word : List ℕ) (v : NewValue) (rest : List (List ℕ)) → plain_value word ≡ Some (v, false) → plain_part word rest ≡ Some (v, false, rest)
+plain_read word v rest e =
+    let whole : NewValue × Bool → Option (NewValue × Bool × List (List ℕ)) = λ u. Some (u.0, u.1, rest) in
+    ap (option_and_then whole) e
+
+value_read : (v : NewValue) (within : Option (List ℕ)) (p : Policy) → IsSmallValue v → value_part (value_words v ++ ending_words within p) ≡ Some (v, false, ending_words within p)
 unfolding value_part
-value_read (new.Number n) h =
-    let whole : NewValue × Bool → Option (NewValue × Bool × List (List ℕ)) = λ u. Some (u.0, u.1, ending) in
-    ap (option_and_then whole) (plain_value_read (term.Number n) h)
-value_read (new.Field field) h =
-    let whole : NewValue × Bool → Option (NewValue × Bool × List (List ℕ)) = λ u. Some (u.0, u.1, ending) in
-    ap (option_and_then whole) (plain_value_read (term.Field field) tt)
-value_read (new.FieldPlus field n) h =
-    let whole : NewValue × Bool → Option (NewValue × Bool × List (List ℕ)) = λ u. Some (u.0, u.1, ending) in
+value_read (new.Number n) None p h = plain_read (decimal n) (new.Number n) (ending_words None p) (plain_value_read (term.Number n) h)
+value_read (new.Number n) (Some name) p h = plain_read (decimal n) (new.Number n) (ending_words (Some name) p) (plain_value_read (term.Number n) h)
+value_read (new.Field field) None p h = plain_read (field_word field) (new.Field field) (ending_words None p) (plain_value_read (term.Field field) tt)
+value_read (new.Field field) (Some name) p h = plain_read (field_word field) (new.Field field) (ending_words (Some name) p) (plain_value_read (term.Field field) tt)
+value_read (new.FieldPlus field n) within p h =
+    let whole : NewValue × Bool → Option (NewValue × Bool × List (List ℕ)) = λ u. Some (u.0, u.1, ending_words within p) in
     ap (option_and_then whole) (sum_value_read field n h)
 
-assignment_read : (a : Option Assignment) → IsSmallAssignment a → assignment_part (assignment_words a ++ ending) ≡ Some (a, false, ending)
+assignment_read : (a : Option Assignment) (within : Option (List ℕ)) (p : Policy) → IsSmallAssignment a → assignment_part (assignment_words a ++ ending_words within p) ≡ Some (a, false, ending_words within p)
 unfolding assignment_part
-assignment_read None h = refl
-assignment_read (Some a) h =
+assignment_read None None p h = refl
+assignment_read None (Some name) p h = refl
+assignment_read (Some a) within p h =
     let whole : Field → NewValue × Bool × List (List ℕ) → Option (Option Assignment × Bool × List (List ℕ)) = λ f u. Some (Some (record { field = f; value = u.0 }), u.1, u.2) in
-    ap (option_and_then (λ f. option_and_then (whole f) (value_part (value_words a.value ++ ending)))) (field_read a.field)
-    ∙ ap (option_and_then (whole a.field)) (value_read a.value h)
+    ap (option_and_then (λ f. option_and_then (whole f) (value_part (value_words a.value ++ ending_words within p)))) (field_read a.field)
+    ∙ ap (option_and_then (whole a.field)) (value_read a.value within p h)
 
-select_read : (s : Selection) → IsSmall s → select_form (selection_words s ++ ending) ≡ Some (record { kind = Select s None; policy = NoPolicy; is_large = false })
-unfolding select_form policy_at_end policy_named
-select_read s small =
-    let whole : Condition × Bool → Option Assignment × Bool × List (List ℕ) → Option NodeForm =
-    λ c a. option_and_then (λ p. Some (record { kind = Select (record { condition = c.0; assignment = a.0 }) None; policy = p; is_large = c.1 || a.1 })) (policy_at_end a.2) in
-    ap (option_and_then (λ c. option_and_then (whole c) (assignment_part (assignment_words s.assignment ++ ending)))) (condition_read s.condition.field s.condition.comparison s.condition.term small.term)
-    ∙ ap (option_and_then (whole (s.condition, false))) (assignment_read s.assignment small.assignment)
+selection_read : (s : Selection) (within : Option (List ℕ)) (p : Policy) → IsSmall s → selection_part (selection_words s ++ ending_words within p) ≡ Some (s, false, ending_words within p)
+unfolding selection_part
+selection_read s within p small =
+    let whole : Condition × Bool → Option Assignment × Bool × List (List ℕ) → Option (Selection × Bool × List (List ℕ)) =
+    λ c a. Some (record { condition = c.0; assignment = a.0 }, c.1 || a.1, a.2) in
+    ap (option_and_then (λ c. option_and_then (whole c) (assignment_part (assignment_words s.assignment ++ ending_words within p)))) (condition_read s.condition.field s.condition.comparison s.condition.term small.term)
+    ∙ ap (option_and_then (whole (s.condition, false))) (assignment_read s.assignment within p small.assignment)
 
-pub selects_are_read : SelectsAreRead
-unfolding declaration_of node_declaration node_form
-selects_are_read name s e small =
-    let whole : List ℕ → NodeForm → Option (Declaration × Bool) = λ n form. Some (Node n form.kind form.policy, form.is_large) in
-    ap (option_and_then (λ n. option_and_then (whole n) (select_form (selection_words s ++ ending)))) (named name e)
-    ∙ ap (option_and_then (whole name)) (select_read s small)
+-- ---- nodes
+
+-- a node of this kind and policy, with small numbers
+abbrev form_of : RawKind → Policy → NodeForm
+form_of k p = record { kind = k; policy = p; is_large = false }
+
+select_read : (s : Selection) (within : Option (List ℕ)) (p : Policy) → IsSmall s → IfSome within IsName → select_form (selection_words s ++ ending_words within p) ≡ Some (form_of (Select s within) p)
+unfolding select_form
+select_read s within p small h =
+    let whole : Selection × Bool × List (List ℕ) → Option (List ℕ) × Policy → Option NodeForm = λ u e. Some (record { kind = Select u.0 e.0; policy = e.1; is_large = u.1 }) in
+    ap (option_and_then (λ u. option_and_then (whole u) (ending_of u.2))) (selection_read s within p small)
+    ∙ ap (option_and_then (whole (s, false, ending_words within p))) (ending_read within p h)
+
+regroup_read : (n : ℕ) (p : Policy) → n < 2 ^ 64 → regroup_form (decimal n ∷ policy_words p) ≡ Some (form_of (Regroup n) p)
+unfolding regroup_form
+regroup_read n p h =
+    let whole : ℕ × Bool → Policy → Option NodeForm = λ u q. Some (record { kind = Regroup u.0; policy = q; is_large = u.1 }) in
+    ap (option_and_then (λ u. option_and_then (whole u) (policy_at_end (policy_words p)))) (numeral_read n h)
+    ∙ ap (option_and_then (whole (n, false))) (policy_read p)
+
+within_read : (word : List ℕ) (k : Option (List ℕ) → RawKind) (within : Option (List ℕ)) (p : Policy) → ((w : Option (List ℕ)) → within_kind w word ≡ Some (k w)) → IfSome within IsName
+    → within_form word (ending_words within p) ≡ Some (form_of (k within) p)
+unfolding within_form
+within_read word k within p e h =
+    let whole : Option (List ℕ) × Policy → Option NodeForm = λ u. option_and_then (λ x. Some (form_of x u.1)) (within_kind u.0 word) in
+    ap (option_and_then whole) (ending_read within p h)
+    ∙ ap (option_and_then (λ x. Some (form_of x p))) (e within)
+
+leading_read : (word : List ℕ) (k : List ℕ → RawKind) (name : List ℕ) (p : Policy) → ((n : List ℕ) → leading_kind n word ≡ Some (k n)) → IsName name
+    → leading_form word (name ∷ policy_words p) ≡ Some (form_of (k name) p)
+unfolding leading_form
+leading_read word k name p e h =
+    let whole : RawKind → Policy → Option NodeForm = λ x q. Some (form_of x q) in
+    ap (option_and_then (λ n. option_and_then (λ x. option_and_then (whole x) (policy_at_end (policy_words p))) (leading_kind n word))) (named name h)
+    ∙ ap (option_and_then (λ x. option_and_then (whole x) (policy_at_end (policy_words p)))) (e name)
+    ∙ ap (option_and_then (whole (k name))) (policy_read p)
+
+lone_read : (word : List ℕ) (k : RawKind) (p : Policy) → lone_kind word ≡ Some k → lone_form word (policy_words p) ≡ Some (form_of k p)
+unfolding lone_form
+lone_read word k p e =
+    let whole : RawKind → Policy → Option NodeForm = λ x q. Some (form_of x q) in
+    ap (option_and_then (λ x. option_and_then (whole x) (policy_at_end (policy_words p)))) e
+    ∙ ap (option_and_then (whole k)) (policy_read p)
+
+-- a word that names no kind that may stand in a loop has none of its lines
+no_within : (word : List ℕ) (rest : List (List ℕ)) → ((w : Option (List ℕ)) → within_kind w word ≡ None) → within_form word rest ≡ None
+unfolding within_form
+no_within word rest e = by (ending_of rest)
+  where
+    by : (o : Option (Option (List ℕ) × Policy)) → option_and_then (λ u. option_and_then (λ x. Some (form_of x u.1)) (within_kind u.0 word)) o ≡ None
+    by None = refl
+    by (Some u) = ap (option_and_then (λ x. Some (form_of x u.1))) (e u.0)
+
+-- and one that names no kind that leads somewhere has none of theirs
+no_leading : (word : List ℕ) (rest : List (List ℕ)) → ((n : List ℕ) → leading_kind n word ≡ None) → leading_form word rest ≡ None
+unfolding leading_form
+no_leading word [] e = refl
+no_leading word (first ∷ rest) e = by (name_of first)
+  where
+    by : (o : Option (List ℕ)) → option_and_then (λ n. option_and_then (λ x. option_and_then (λ q. Some (form_of x q)) (policy_at_end rest)) (leading_kind n word)) o ≡ None
+    by None = refl
+    by (Some n) = ap (option_and_then (λ x. option_and_then (λ q. Some (form_of x q)) (policy_at_end rest))) (e n)
+
+shape_within : (word : List ℕ) (k : Option (List ℕ) → RawKind) (within : Option (List ℕ)) (p : Policy) → ((w : Option (List ℕ)) → within_kind w word ≡ Some (k w)) → IfSome within IsName
+    → shape_form word (ending_words within p) ≡ Some (form_of (k within) p)
+shape_within word k within p e h =
+    ap (λ o. option_or o (option_or (leading_form word (ending_words within p)) (lone_form word (ending_words within p)))) (within_read word k within p e h)
+
+shape_leading : (word : List ℕ) (k : List ℕ → RawKind) (name : List ℕ) (p : Policy) → ((w : Option (List ℕ)) → within_kind w word ≡ None) → ((n : List ℕ) → leading_kind n word ≡ Some (k n)) → IsName name
+    → shape_form word (name ∷ policy_words p) ≡ Some (form_of (k name) p)
+shape_leading word k name p none e h =
+    ap (λ o. option_or o (option_or (leading_form word (name ∷ policy_words p)) (lone_form word (name ∷ policy_words p)))) (no_within word (name ∷ policy_words p) none)
+    ∙ ap (λ o. option_or o (lone_form word (name ∷ policy_words p))) (leading_read word k name p e h)
+
+shape_lone : (word : List ℕ) (k : RawKind) (p : Policy) → ((w : Option (List ℕ)) → within_kind w word ≡ None) → ((n : List ℕ) → leading_kind n word ≡ None) → lone_kind word ≡ Some k
+    → shape_form word (policy_words p) ≡ Some (form_of k p)
+shape_lone word k p none nowhere e =
+    ap (λ o. option_or o (option_or (leading_form word (policy_words p)) (lone_form word (policy_words p)))) (no_within word (policy_words p) none)
+    ∙ ap (λ o. option_or o (lone_form word (policy_words p))) (no_leading word (policy_words p) nowhere)
+    ∙ lone_read word k p e
+
+-- an input or an output, whose policy is none
+unwritten : (k : RawKind) (p : Policy) → p ≡ policy.None → Some (form_of k policy.None) ≡ Some (form_of k p)
+unwritten k p e = ap (λ q. Some (form_of k q)) (sym e)
+
+-- the node of a name, from its form
+node_from : (name word : List ℕ) (rest : List (List ℕ)) (k : RawKind) (p : Policy) → IsName name → node_form word rest ≡ Some (form_of k p) → node_declaration (name ∷ word ∷ rest) ≡ Some (Node name k p, false)
+unfolding node_declaration
+node_from name word rest k p e form =
+    let whole : List ℕ → NodeForm → Option (Declaration × Bool) = λ n f. Some (Node n f.kind f.policy, f.is_large) in
+    ap (option_and_then (λ n. option_and_then (whole n) (node_form word rest))) (named name e)
+    ∙ ap (option_and_then (whole name)) form
+
+node_read : (name : List ℕ) (k : RawKind) (p : Policy) → IsName name → IsWritableNode k p → node_declaration (name ∷ node_words k p) ≡ Some (Node name k p, false)
+unfolding node_form input_form output_form output_kind within_kind leading_kind lone_kind
+node_read name Input p e w = node_from name (codes "input") [] Input p e (unwritten Input p w.written)
+node_read name OutputEpoch p e w = node_from name (codes "output") (codes "epoch" ∷ []) OutputEpoch p e (unwritten OutputEpoch p w.written)
+node_read name OutputNumber p e w = node_from name (codes "output") (codes "number" ∷ []) OutputNumber p e (unwritten OutputNumber p w.written)
+node_read name (Select s within) p e w = node_from name (codes "select") (selection_words s ++ ending_words within p) (Select s within) p e (select_read s within p w.numbers w.loop_name)
+node_read name (Concat within) p e w = node_from name (codes "concat") (ending_words within p) (Concat within) p e (shape_within (codes "concat") (λ l. Concat l) within p (λ l. refl) w.loop_name)
+node_read name (Distinct within) p e w = node_from name (codes "distinct") (ending_words within p) (Distinct within) p e (shape_within (codes "distinct") (λ l. Distinct l) within p (λ l. refl) w.loop_name)
+node_read name (Join within) p e w = node_from name (codes "join") (ending_words within p) (Join within) p e (shape_within (codes "join") (λ l. Join l) within p (λ l. refl) w.loop_name)
+node_read name (Sum within) p e w = node_from name (codes "sum") (ending_words within p) (Sum within) p e (shape_within (codes "sum") (λ l. Sum l) within p (λ l. refl) w.loop_name)
+node_read name (Enter l) p e w = node_from name (codes "enter") (l ∷ policy_words p) (Enter l) p e (shape_leading (codes "enter") (λ n. Enter n) l p (λ o. refl) (λ n. refl) w.loop_name)
+node_read name (Feedback l) p e w = node_from name (codes "feedback") (l ∷ policy_words p) (Feedback l) p e (shape_leading (codes "feedback") (λ n. Feedback n) l p (λ o. refl) (λ n. refl) w.loop_name)
+node_read name (Leave l) p e w = node_from name (codes "leave") (l ∷ policy_words p) (Leave l) p e (shape_leading (codes "leave") (λ n. Leave n) l p (λ o. refl) (λ n. refl) w.loop_name)
+node_read name Total p e w = node_from name (codes "total") (policy_words p) Total p e (shape_lone (codes "total") Total p (λ o. refl) (λ n. refl) refl)
+node_read name Sequence p e w = node_from name (codes "sequence") (policy_words p) Sequence p e (shape_lone (codes "sequence") Sequence p (λ o. refl) (λ n. refl) refl)
+node_read name Ledger p e w = node_from name (codes "ledger") (policy_words p) Ledger p e (shape_lone (codes "ledger") Ledger p (λ o. refl) (λ n. refl) refl)
+node_read name (Regroup n) p e w = node_from name (codes "regroup") (decimal n ∷ policy_words p) (Regroup n) p e (regroup_read n p w.numbers)
+
+-- ---- declarations
+
+edge_read : (name sender receiver : List ℕ) → IsName name → IsName sender → IsName receiver → edge_declaration (name ∷ sender ∷ receiver ∷ []) ≡ Some (Edge name sender receiver, false)
+unfolding edge_declaration
+edge_read name sender receiver e f g =
+    ap (λ n. option_and_then (λ x. option_and_then (λ y. option_and_then (λ z. Some (Edge x y z, false)) (name_of receiver)) (name_of sender)) n) (named name e)
+    ∙ ap (λ n. option_and_then (λ y. option_and_then (λ z. Some (Edge name y z, false)) (name_of receiver)) n) (named sender f)
+    ∙ ap (λ n. option_and_then (λ z. Some (Edge name sender z, false)) n) (named receiver g)
+
+loop_read : (name : List ℕ) (max : ℕ) (parent : Option (List ℕ)) → IsName name → max < 2 ^ 64 → IfSome parent IsName
+    → loop_declaration (name ∷ codes "max" ∷ decimal max ∷ parent_words parent) ≡ Some (Loop name max parent, false)
+unfolding loop_declaration loop_of
+loop_read name max parent e small h =
+    let whole : List ℕ → ℕ × Bool → Option (List ℕ) → Option (Declaration × Bool) = λ n m l. Some (Loop n m.0 l, m.1) in
+    ap (option_and_then (λ n. option_and_then (λ m. option_and_then (whole n m) (parent_at_end (parent_words parent))) (numeral_of (decimal max)))) (named name e)
+    ∙ ap (option_and_then (λ m. option_and_then (whole name m) (parent_at_end (parent_words parent)))) (numeral_read max small)
+    ∙ ap (option_and_then (whole name (max, false))) (parent_read parent h)
+
+pub declarations_are_read_back : DeclarationsAreReadBack
+unfolding declaration_of
+declarations_are_read_back (Loop name max parent) w = loop_read name max parent w.0 w.1 w.2
+declarations_are_read_back (Node name k p) w = node_read name k p w.0 w.1
+declarations_are_read_back (Edge name sender receiver) w = edge_read name sender receiver w.0 w.1 w.2

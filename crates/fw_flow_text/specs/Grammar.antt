@@ -1,10 +1,10 @@
 -- The grammar of flows.
-use Rattle.std.specs.Prelude.{ℕ, ◌<◌, ◌≤◌, Bool, true, false, List, [], ◌∷◌, length, Option, Some, None, option_map, ◌⊎◌}
+use Rattle.std.specs.Prelude.{ℕ, Bool, true, false, List, [], ◌∷◌, Option, Some, None, option_map, ◌⊎◌}
 use Rattle.std.specs.List.{filter_map}
 use Rattle.fw_lines.specs.declared.refusal.Code.{Code}
 use Rattle.fw_lines.specs.declared.refusal.Code.TheVariants.{F1, F2, F10, F11}
 use Rattle.fw_lines.specs.declared.refusal.Refusal.{Refusal}
-use Rattle.fw_lines.specs.Faults.{BreakNoRule, IsFirstFault, IsOfWhole}
+use Rattle.fw_lines.specs.Faults.{Rules, IsSound, IsFirstRefusal}
 use Rattle.fw_lines.specs.Lines.{Said, said_lines}
 use Rattle.fw_flow.specs.declared.raw.Declaration.{Declaration}
 use Rattle.fw_flow.specs.declared.raw.Declared.{Declared}
@@ -46,16 +46,16 @@ line_fault before line = words_fault (declared_by before) line.words
 abbrev pub size_limit : ℕ
 size_limit = 1048576
 
+-- what is asked of the lines of a flow
+abbrev pub flow_rules : Rules
+flow_rules = record { most = size_limit; too_long = F11; fault = line_fault }
+
 -- the text has the form of a flow, and its declarations are those of this dataflow
 pub record IsAccepted (text : List ℕ) (flow : Dataflow) : Type 0 where
-  pub size : length text ≤ size_limit
-  pub sound : BreakNoRule line_fault (said_lines text)
+  pub sound : IsSound flow_rules text
   pub checked : IsChecked (declared_by (said_lines text)) flow
 
 -- the refusal is the first rule that the text breaks: of its size, of its first line that breaks one, or of its declarations
 abbrev pub IsRefused : List ℕ → Refusal → Type 0
 IsRefused text refusal =
-    ((size_limit < length text) × IsOfWhole F11 refusal)
-    ⊎ (((length text ≤ size_limit) × IsFirstFault line_fault (said_lines text) refusal)
-    ⊎ ((length text ≤ size_limit) × BreakNoRule line_fault (said_lines text)
-    × IsFirstBroken (declared_by (said_lines text)) refusal))
+    IsFirstRefusal flow_rules text refusal ⊎ (IsSound flow_rules text × IsFirstBroken (declared_by (said_lines text)) refusal)

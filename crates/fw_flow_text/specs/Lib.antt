@@ -1,3 +1,4 @@
+pub mod Endings
 pub mod Forms
 pub mod Grammar
 pub mod Laws

@@ -1,10 +1,11 @@
 -- What the words of a select spell. The optional parts of a line take words from the front, and leave the rest.
-use Rattle.std.specs.Prelude.{ℕ, Bool, false, List, [], ◌∷◌, Option, Some, None, codes, if◌then◌else◌}
+use Rattle.std.specs.Prelude.{ℕ, Bool, false, ◌||◌, List, [], ◌∷◌, Option, Some, None, codes, if◌then◌else◌}
 use Rattle.std.specs.Str.{bytes_eq}
 use Rattle.fw_bag.specs.declared.select.Assignment.{Assignment}
 use Rattle.fw_bag.specs.declared.select.Condition.{Condition}
 use Rattle.fw_bag.specs.declared.select.NewValue.{NewValue}
 use Rattle.fw_bag.specs.declared.select.NewValue.TheVariants.{FieldPlus}
+use Rattle.fw_bag.specs.declared.select.Selection.{Selection}
 use Rattle.fw_flow_text.specs.Steps.{◌>>=◌}
 use Rattle.fw_flow_text.specs.Words.{field_of, comparison_of, numeral_of, term_of, value_from}
 
@@ -58,3 +59,12 @@ unfoldable pub assignment_part : List (List ℕ) → Option (Option Assignment �
 assignment_part (set ∷ word ∷ rest) =
     if bytes_eq set (codes "set") then set_part word rest else Some (None, false, set ∷ word ∷ rest)
 assignment_part words = Some (None, false, words)
+
+-- the selection that words begin with, `FIELD CMP TERM [set FIELD VALUE]`, whether a number in it is too large, and the words
+-- behind it
+unfoldable pub selection_part : List (List ℕ) → Option (Selection × Bool × List (List ℕ))
+selection_part (left ∷ between ∷ right ∷ rest) = do
+  condition ← condition_of left between right
+  assignment ← assignment_part rest
+  Some (record { condition = condition.0; assignment = assignment.0 }, condition.1 || assignment.1, assignment.2)
+selection_part words = None

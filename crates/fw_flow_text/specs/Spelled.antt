@@ -1,5 +1,5 @@
 -- How what a flow declares is written, in words.
-use Rattle.std.specs.Prelude.{ℕ, ◌<◌, ◌^◌, List, [], ◌∷◌, ◌++◌, Option, Some, None, codes}
+use Rattle.std.specs.Prelude.{◌≡◌, ℕ, ◌<◌, ◌^◌, true, List, [], ◌∷◌, ◌++◌, Option, Some, None, codes, IfSome}
 use Rattle.std.specs.Fmt.{decimal}
 use Rattle.fw_bag.specs.declared.select.Assignment.{Assignment}
 use Rattle.fw_bag.specs.declared.select.Comparison.{Comparison}
@@ -12,6 +12,15 @@ use Rattle.fw_bag.specs.declared.select.NewValue.TheVariants as new
 use Rattle.fw_bag.specs.declared.select.Selection.{Selection}
 use Rattle.fw_bag.specs.declared.select.Term.{Term}
 use Rattle.fw_bag.specs.declared.select.Term.TheVariants as term
+use Rattle.fw_lines.specs.Spelling.{is_name}
+use Rattle.fw_flow.specs.declared.kind.Policy.{Policy}
+use Rattle.fw_flow.specs.declared.kind.Policy.TheVariants.{None as NoPolicy}
+use Rattle.fw_flow.specs.declared.raw.Declaration.{Declaration}
+use Rattle.fw_flow.specs.declared.raw.Declaration.TheVariants.{Loop, Node, Edge}
+use Rattle.fw_flow.specs.declared.raw.RawKind.{RawKind}
+use Rattle.fw_flow.specs.declared.raw.RawKind.TheVariants.{Input, OutputEpoch, OutputNumber, Select, Concat, Distinct, Join, Sum, Enter, Feedback, Leave, Total, Sequence, Ledger, Regroup}
+use Rattle.fw_flow.specs.Check.{loop_named}
+use Rattle.fw_flow.specs.KindText.{policy_text}
 
 -- the word of a field
 abbrev pub field_word : Field → List ℕ
@@ -51,6 +60,46 @@ condition_words c = field_word c.field ∷ comparison_word c.comparison ∷ term
 abbrev pub selection_words : Selection → List (List ℕ)
 selection_words s = condition_words s.condition ++ assignment_words s.assignment
 
+-- the words of a policy
+abbrev pub policy_words : Policy → List (List ℕ)
+policy_words policy = codes "policy" ∷ policy_text policy ∷ []
+
+-- the words of a loop, if there is one, and of a policy
+abbrev pub ending_words : Option (List ℕ) → Policy → List (List ℕ)
+ending_words None policy = policy_words policy
+ending_words (Some name) policy = codes "loop" ∷ name ∷ policy_words policy
+
+-- the words of a node behind its name; those of an input and an output have no policy
+abbrev pub node_words : RawKind → Policy → List (List ℕ)
+node_words Input policy = codes "input" ∷ []
+node_words OutputEpoch policy = codes "output" ∷ codes "epoch" ∷ []
+node_words OutputNumber policy = codes "output" ∷ codes "number" ∷ []
+node_words (Select selection within) policy = codes "select" ∷ selection_words selection ++ ending_words within policy
+node_words (Concat within) policy = codes "concat" ∷ ending_words within policy
+node_words (Distinct within) policy = codes "distinct" ∷ ending_words within policy
+node_words (Join within) policy = codes "join" ∷ ending_words within policy
+node_words (Sum within) policy = codes "sum" ∷ ending_words within policy
+node_words (Enter name) policy = codes "enter" ∷ name ∷ policy_words policy
+node_words (Feedback name) policy = codes "feedback" ∷ name ∷ policy_words policy
+node_words (Leave name) policy = codes "leave" ∷ name ∷ policy_words policy
+node_words Total policy = codes "total" ∷ policy_words policy
+node_words Sequence policy = codes "sequence" ∷ policy_words policy
+node_words Ledger policy = codes "ledger" ∷ policy_words policy
+node_words (Regroup size) policy = codes "regroup" ∷ decimal size ∷ policy_words policy
+
+-- the words of a loop's parent, none where there is none
+abbrev pub parent_words : Option (List ℕ) → List (List ℕ)
+parent_words None = []
+parent_words (Some name) = codes "in" ∷ name ∷ []
+
+-- the words of a declaration
+abbrev pub declaration_words : Declaration → List (List ℕ)
+declaration_words (Loop name max parent) = codes "loop" ∷ name ∷ codes "max" ∷ decimal max ∷ parent_words parent
+declaration_words (Node name kind policy) = codes "node" ∷ name ∷ node_words kind policy
+declaration_words (Edge name sender receiver) = codes "edge" ∷ name ∷ sender ∷ receiver ∷ []
+
+-- ---- what can be written
+
 -- the number of a term, if it is one, is below 2^64
 abbrev pub IsSmallTerm : Term → Type 0
 IsSmallTerm (term.Number n) = n < 2 ^ 64
@@ -71,3 +120,32 @@ IsSmallAssignment (Some a) = IsSmallValue a.value
 pub record IsSmall (s : Selection) : Type 0 where
   pub term : IsSmallTerm s.condition.term
   pub assignment : IsSmallAssignment s.assignment
+
+-- the numbers of a kind are below 2^64
+abbrev pub IsSmallKind : RawKind → Type 0
+IsSmallKind (Select selection within) = IsSmall selection
+IsSmallKind (Regroup size) = size < 2 ^ 64
+IsSmallKind kind = Unit {0}
+
+-- where the kind is that of an input or an output, the policy is none
+abbrev pub IsPolicyWritten : RawKind → Policy → Type 0
+IsPolicyWritten Input policy = policy ≡ NoPolicy
+IsPolicyWritten OutputEpoch policy = policy ≡ NoPolicy
+IsPolicyWritten OutputNumber policy = policy ≡ NoPolicy
+IsPolicyWritten kind policy = Unit {0}
+
+-- the word is a name
+abbrev pub IsName : List ℕ → Type 0
+IsName word = is_name word ≡ true
+
+-- a node of this kind and policy can be written
+pub record IsWritableNode (kind : RawKind) (policy : Policy) : Type 0 where
+  pub loop_name : IfSome (loop_named kind) IsName
+  pub numbers : IsSmallKind kind
+  pub written : IsPolicyWritten kind policy
+
+-- a declaration can be written: its names are names, its numbers are below 2^64, and no input or output has a policy
+abbrev pub IsWritable : Declaration → Type 0
+IsWritable (Loop name max parent) = IsName name × (max < 2 ^ 64) × IfSome parent IsName
+IsWritable (Node name kind policy) = IsName name × IsWritableNode kind policy
+IsWritable (Edge name sender receiver) = IsName name × IsName sender × IsName receiver

@@ -1,5 +1,6 @@
 -- What single words of a flow spell. A number of 2^64 or more is marked as too large, and stands as 0.
-use Rattle.std.specs.Prelude.{ℕ, Bool, true, false, List, Option, Some, None, codes, if◌then◌else◌}
+use Rattle.std.specs.Prelude.{ℕ, Bool, true, false, List, [], ◌∷◌, Option, Some, None, codes}
+use Rattle.std.specs.Map.{lookup}
 use Rattle.std.specs.Str.{bytes_eq}
 use Rattle.fw_bag.specs.declared.select.Comparison.{Comparison}
 use Rattle.fw_bag.specs.declared.select.Comparison.TheVariants.{Equal, NotEqual, Less, LessOrEqual, Greater, GreaterOrEqual}
@@ -23,20 +24,27 @@ marked_number number.NotANumber = None
 unfoldable pub numeral_of : List ℕ → Option (ℕ × Bool)
 numeral_of word = marked_number (number_of word)
 
+-- what a word names, in a list of words with what they name
+abbrev pub named_by : {A : Type 0} → List (List ℕ × A) → List ℕ → Option A
+named_by names word = lookup (bytes_eq word) names
+
+-- the fields of a rec, by their words
+abbrev pub fields : List (List ℕ × Field)
+fields = (codes "key", Key) ∷ (codes "value", Value) ∷ []
+
 -- the field that a word names
 unfoldable pub field_of : List ℕ → Option Field
-field_of word = if bytes_eq word (codes "key") then Some Key else (if bytes_eq word (codes "value") then Some Value else None)
+field_of word = named_by fields word
+
+-- the comparisons, by their words
+abbrev pub comparisons : List (List ℕ × Comparison)
+comparisons =
+    (codes "=", Equal) ∷ (codes "!=", NotEqual) ∷ (codes "<", Less) ∷ (codes "<=", LessOrEqual) ∷ (codes ">", Greater)
+    ∷ (codes ">=", GreaterOrEqual) ∷ []
 
 -- the comparison that a word names
 unfoldable pub comparison_of : List ℕ → Option Comparison
-comparison_of word =
-    if bytes_eq word (codes "=") then Some Equal
-    else (if bytes_eq word (codes "!=") then Some NotEqual
-    else (if bytes_eq word (codes "<") then Some Less
-    else (if bytes_eq word (codes "<=") then Some LessOrEqual
-    else (if bytes_eq word (codes ">") then Some Greater
-    else (if bytes_eq word (codes ">=") then Some GreaterOrEqual
-    else None)))))
+comparison_of word = named_by comparisons word
 
 -- a field, or else a number, as a term
 abbrev pub term_from : Option Field → Option (ℕ × Bool) → Option (Term × Bool)

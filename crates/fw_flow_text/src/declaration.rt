@@ -3,7 +3,9 @@ ghost use Rattle.std.specs.Prelude.{◌≡◌, IfOk};
 ghost use Rattle.fw_lines.specs.Lines.{words_at};
 ghost use Rattle.fw_flow_text.specs.Forms as spec;
 
+use crate::ending::parent_at_end;
 use crate::node::node_form;
+use crate::words::numeral;
 use fw_flow::{Declaration, Name};
 use fw_lines::Span;
 use std::alloc::{AllocError, Global};
@@ -25,6 +27,8 @@ pub(crate) fn declaration(
         node(alloc, text, rest)
     } else if first == b"edge".as_slice() {
         edge(alloc, text, rest)
+    } else if first == b"loop".as_slice() {
+        a_loop(alloc, text, rest)
     } else {
         Ok(None)
     }
@@ -45,7 +49,7 @@ fn node(
     let Some(name) = Name::new(alloc, name.of(text))? else {
         return Ok(None);
     };
-    let Some(form) = node_form(text, kind.of(text), rest) else {
+    let Some(form) = node_form(alloc, text, kind.of(text), rest)? else {
         return Ok(None);
     };
     let declaration = Declaration::Node {
@@ -95,4 +99,46 @@ fn edge_of(
         receiver,
     };
     Ok(Some((declaration, false)))
+}
+
+// A loop, from its name on.
+#[tactic(auto, unfolding(crate::specs::Forms::loop_declaration))]
+fn a_loop(
+    alloc: Global,
+    text: &[u8],
+    words: &[Span],
+) -> Result<Option<(Declaration, bool)>, AllocError>
+    ensures { IfOk result (λ found. found ≡ spec.loop_declaration (words_at text.now words.now)) }
+{
+    let [name, max, number, rest @ ..] = words else {
+        return Ok(None);
+    };
+    if max.of(text) != b"max".as_slice() {
+        return Ok(None);
+    }
+    loop_of(alloc, text, name.of(text), number.of(text), rest)
+}
+
+// The loop of a name, with its greatest counter, and in another one where words name a parent.
+#[tactic(auto, unfolding(crate::specs::Forms::loop_of))]
+fn loop_of(
+    alloc: Global,
+    text: &[u8],
+    name: &[u8],
+    number: &[u8],
+    rest: &[Span],
+) -> Result<Option<(Declaration, bool)>, AllocError>
+    ensures { IfOk result (λ found. found ≡ spec.loop_of name.now number.now (words_at text.now rest.now)) }
+{
+    let Some(name) = Name::new(alloc, name)? else {
+        return Ok(None);
+    };
+    let Some((max, is_large)) = numeral(number) else {
+        return Ok(None);
+    };
+    let Some(parent) = parent_at_end(alloc, text, rest)? else {
+        return Ok(None);
+    };
+    let declaration = Declaration::Loop { name, max, parent };
+    Ok(Some((declaration, is_large)))
 }

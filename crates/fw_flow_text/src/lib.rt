@@ -2,6 +2,7 @@
 #![tactic(auto)]
 
 mod declaration;
+mod ending;
 pub mod laws;
 mod node;
 mod reader;

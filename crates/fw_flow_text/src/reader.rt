@@ -4,7 +4,7 @@ ghost use Rattle.std.specs.Option.{option_map, option_to_list};
 ghost use Rattle.fw_lines.specs.Faults.{IfRefused};
 ghost use Rattle.fw_lines.specs.Lines.{words_at, said_in};
 ghost use Rattle.fw_lines.specs.declared.refusal.Refusal.{Refusal};
-ghost use Rattle.fw_flow.specs.Dataflow.{Dataflow, KeepsNothing, NotifiesNobody};
+ghost use Rattle.fw_flow.specs.Dataflow.{Dataflow};
 ghost use Rattle.fw_flow.specs.Raw.{is_new};
 ghost use Rattle.fw_flow.specs.declared.raw.Declared.{Declared};
 ghost use Rattle.fw_flow_text.specs.Grammar.{declared_by, words_fault, form_fault, IsAccepted, IsRefused};
@@ -21,11 +21,9 @@ pub const FLOW_LIMIT: usize = 1_048_576;
 ///
 /// It takes the memory of the flow, of its declarations and of the words of one line. Where no memory is refused it
 /// answers `Ok` exactly for the texts of the grammar, with the dataflow that they declare, and else the first rule that
-/// is broken. A flow of the grammar keeps nothing and notifies nobody.
+/// is broken.
 pub fn read_flow(alloc: Global, text: &[u8]) -> Result<Flow, ReadFault>
-    ensures answer { MatchResult result (IsAccepted text.now) (IfRefused (IsRefused text.now)) }
-    ensures keeps_nothing { IfOk result KeepsNothing }
-    ensures notifies_nobody { IfOk result NotifiesNobody }
+    ensures { MatchResult result (IsAccepted text.now) (IfRefused (IsRefused text.now)) }
 {
     if text.len() > FLOW_LIMIT {
         return Err(ReadFault::of_whole(Code::F11));

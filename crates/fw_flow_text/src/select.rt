@@ -1,16 +1,34 @@
-//! The condition and the assignment of a select.
+//! The selection of a select: a condition, and perhaps an assignment.
 ghost use Rattle.std.specs.Prelude.{◌≡◌};
 ghost use Rattle.std.specs.Option.{option_map};
 ghost use Rattle.fw_lines.specs.Lines.{words_at};
 ghost use Rattle.fw_flow_text.specs.Select as spec;
 
 use crate::words::{comparison, field, numeral, term};
-use fw_bag::{Assignment, Condition, Field, NewValue, Term};
+use fw_bag::{Assignment, Condition, Field, NewValue, Selection, Term};
 use fw_lines::Span;
+
+// The selection that words begin with, whether a number in it is too large, and the words behind it.
+#[tactic(auto, unfolding(crate::specs::Select::selection_part))]
+pub(crate) fn selection<'a>(text: &[u8], words: &'a [Span]) -> Option<(Selection, bool, &'a [Span])>
+    ensures { option_map (λ found. (found.0, found.1, words_at text.now found.2.now)) result
+        ≡ spec.selection_part (words_at text.now words.now) }
+{
+    let [field, comparison, term, rest @ ..] = words else {
+        return None;
+    };
+    let (condition, in_condition) = condition(field.of(text), comparison.of(text), term.of(text))?;
+    let (assignment, in_assignment, rest) = assignment(text, rest)?;
+    let selection = Selection {
+        condition,
+        assignment,
+    };
+    Some((selection, in_condition || in_assignment, rest))
+}
 
 // The condition that three words spell, and whether a number in it is too large.
 #[tactic(auto, unfolding(crate::specs::Select::condition_of))]
-pub(crate) fn condition(left: &[u8], between: &[u8], right: &[u8]) -> Option<(Condition, bool)>
+fn condition(left: &[u8], between: &[u8], right: &[u8]) -> Option<(Condition, bool)>
     ensures { result ≡ spec.condition_of left.now between.now right.now }
 {
     let field = field(left)?;
@@ -69,10 +87,7 @@ fn plain(word: &[u8]) -> Option<(NewValue, bool)>
 // The assignment that words begin with, `None` where they do not begin with `set`, whether a number in it is too large,
 // and the words behind it.
 #[tactic(auto, unfolding(crate::specs::Select::assignment_part))]
-pub(crate) fn assignment<'a>(
-    text: &[u8],
-    words: &'a [Span],
-) -> Option<(Option<Assignment>, bool, &'a [Span])>
+fn assignment<'a>(text: &[u8], words: &'a [Span]) -> Option<(Option<Assignment>, bool, &'a [Span])>
     ensures { option_map (λ found. (found.0, found.1, words_at text.now found.2.now)) result
         ≡ spec.assignment_part (words_at text.now words.now) }
 {

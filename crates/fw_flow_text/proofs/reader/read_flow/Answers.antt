@@ -2,8 +2,6 @@ use Rattle.std.proofs.Common.{◌∙◌, ap, inl, inr}
 use Rattle.std.proofs.lemmas.Result.{err_from_is_err_and}
 use Rattle.fw_lines.specs.Lines.{lines_left, said_in, said_lines}
 use Rattle.fw_lines.proofs.FaultLaws.{if_refused-weaker}
-use Rattle.fw_flow.specs.Dataflow.{KeepsNothing, NotifiesNobody}
-use Rattle.fw_flow_text.proofs.PlainLaws.{read_flow-is, declared-keeps_nothing, declared-notifies_nobody}
 use Rattle.fw_flow_text.proofs.ReadLaws.{read_more, read_broken, checked_all}
 use Rattle.fw_flow_text.proofs.reader.read_flow.Goals as goal
 
@@ -15,23 +13,13 @@ loop-place-preserved c =
       read = read_more (said_lines text) (lines_left text c.loop-place.place) (lines_left text c.in_ok-line.next) (said_in text c.in_ok-line.line) c.loop-place.raw c.in_ok-raw.raw c.loop-place.invariant.read (ap (lines_left text) c.in-Some.is ∙ c.in_ok-line.ensures.line) c.in_ok-raw.ensures.sound c.in_ok-raw.ensures.value;
     }
 
-pub returns-in_err-raw-clause-answer : goal.returns-in_err-raw-clause-answer
-returns-in_err-raw-clause-answer c =
+pub returns-in_err-raw : goal.returns-in_err-raw
+returns-in_err-raw c =
     let text = c.args.text.now in
     let p = err_from_is_err_and c.from_residual-in_err-raw.result c.from_residual-in_err-raw.ensures.1 in
-    rw (p.1, p.2) (if_refused-weaker _ _ c.in_err-raw.field-0.0 c.in_err-raw.ensures.broken (λ refusal h. inr (inl (c.if-text-gt-FLOW_LIMIT.false, read_broken (said_lines text) (lines_left text c.loop-place.place) (lines_left text c.in_ok-line.next) (said_in text c.in_ok-line.line) c.loop-place.raw refusal c.loop-place.invariant.read (ap (lines_left text) c.in-Some.is ∙ c.in_ok-line.ensures.line) h.0 h.1))))
+    rw (p.1, p.2) (if_refused-weaker _ _ c.in_err-raw.field-0.0 c.in_err-raw.ensures.broken (λ refusal h. inl (inr (c.if-text-gt-FLOW_LIMIT.false, read_broken (said_lines text) (lines_left text c.loop-place.place) (lines_left text c.in_ok-line.next) (said_in text c.in_ok-line.line) c.loop-place.raw refusal c.loop-place.invariant.read (ap (lines_left text) c.in-Some.is ∙ c.in_ok-line.ensures.line) h.0 h.1))))
 
-pub returns-clause-answer : goal.returns-clause-answer
-returns-clause-answer c =
+pub returns : goal.returns
+returns c =
     let text = c.args.text.now in
     checked_all text (lines_left text c.loop-place.place) c.loop-place.raw c.check.result c.if-text-gt-FLOW_LIMIT.false c.loop-place.invariant.read (ap (lines_left text) c.in_default.is) c.check.ensures.checked
-
-pub returns-clause-keeps_nothing : goal.returns-clause-keeps_nothing
-returns-clause-keeps_nothing c =
-    let text = c.args.text.now in
-    read_flow-is KeepsNothing declared-keeps_nothing (said_lines text) (lines_left text c.loop-place.place) c.loop-place.raw c.check.result c.loop-place.invariant.read (ap (lines_left text) c.in_default.is) c.check.ensures.checked
-
-pub returns-clause-notifies_nobody : goal.returns-clause-notifies_nobody
-returns-clause-notifies_nobody c =
-    let text = c.args.text.now in
-    read_flow-is NotifiesNobody declared-notifies_nobody (said_lines text) (lines_left text c.loop-place.place) c.loop-place.raw c.check.result c.loop-place.invariant.read (ap (lines_left text) c.in_default.is) c.check.ensures.checked

@@ -110,8 +110,8 @@ empty-recorded sys state p way notices =
           let came = map (λ (m : Message). m.at) (delivered_messages h d) in
           let Covers : ℕ → Type 0 = λ q. nothing ≡ cond (takes_its_cut (way_of sys.flow q)) (node_frontier sys.flow q f) (cover (bounds_of sys.flow q) (filter (node_frontier sys.flow q f) came)) in
           subst Covers (sym e) (
-            covers-none b (filter none came) (filter-none none came (each came))
-            ∙ sym (ap (λ w. cond (takes_its_cut w) none (cover b (filter none came))) way)
+          covers-none b (filter none came) (filter-none none came (each came))
+          ∙ sym (ap (λ w. cond (takes_its_cut w) none (cover b (filter none came))) way)
           );
       notified =
           let noted = flat_map (stamp_of_notice p) h in
@@ -123,11 +123,11 @@ empty-recorded sys state p way notices =
           let went = sent_messages sys h e in
           let Covers : ℕ → Type 0 = λ q. nothing ≡ cond (can_resend (policy_of sys.flow q)) nothing (discarded_at sys.flow e (way_of sys.flow q) (cover c (stamps_from (node_frontier sys.flow q f) went)) f) in
           subst Covers (sym s) (
-            either-nothing (can_resend (policy_of sys.flow p)) (discarded_at sys.flow e (way_of sys.flow p) (cover c (stamps_from none went)) f)
-            (covers-none c (stamps_from none went)
-            (ap (λ (ms : List Message). map (λ (m : Message). m.at) ms)
-            (filter-none (λ (m : Message). all_inside none m.causes) went
-            (causes-none b went (one-cause sys (sender sys.flow e) (events_at sys.flow (sender sys.flow e) h)))))
-            ∙ sym (ap (λ w. discarded_at sys.flow e w (cover c (stamps_from none went)) f) way))
+          either-nothing (can_resend (policy_of sys.flow p)) (discarded_at sys.flow e (way_of sys.flow p) (cover c (stamps_from none went)) f)
+          (covers-none c (stamps_from none went)
+          (ap (λ (ms : List Message). map (λ (m : Message). m.at) ms)
+          (filter-none (λ (m : Message). all_inside none m.causes) went
+          (causes-none b went (one-cause sys (sender sys.flow e) (events_at sys.flow (sender sys.flow e) h)))))
+          ∙ sym (ap (λ w. discarded_at sys.flow e w (cover c (stamps_from none went)) f) way))
           );
     }

@@ -10,3 +10,4 @@ pub mod Past
 pub mod Ready
 pub mod Shown
 pub mod Wanted
+pub mod Written

@@ -23,3 +23,4 @@ pub mod Step
 pub mod Walks
 pub mod WellFormed
 pub mod WholeBags
+pub mod SortedMessages

@@ -1,5 +1,5 @@
 //! How many messages a sequence sent, by epoch.
-ghost use Rattle.std.specs.Prelude.{◌≡◌, ◌↔◌, ℕ, ◌^◌, ◌-◌, ◌≤◌, true, nat_lt, min, [], ◌∷◌, ◌++◌, length, take, IsTrue, OnOk, OnErr};
+ghost use Rattle.std.specs.Prelude.{◌≡◌, ◌↔◌, ℕ, ◌^◌, ◌-◌, ◌≤◌, true, nat_lt, min, [], ◌∷◌, ◌++◌, length, take, IsTrue, IfOk, OnOk, OnErr};
 ghost use Rattle.fw_flow.specs.Projection.{first_coordinate, table_count};
 ghost use Rattle.fw_flow.specs.SentTable.{AreInOrder, counts_of, HasTotals};
 
@@ -40,6 +40,14 @@ impl SentTable {
         SentTable {
             entries: Vec::new(alloc),
         }
+    }
+
+    /// The same table once more. The error is want of memory.
+    pub fn copy(&self) -> Result<Self, AllocError>
+        ensures { IfOk result (λ table. table ≡ self.now) }
+    {
+        let entries = copied(*self.entries.allocator(), &self.entries)?;
+        Ok(SentTable { entries })
     }
 
     /// Whether the epoch comes after those of the table, or is the last of them.
@@ -83,6 +91,17 @@ impl SentTable {
         let place = self.entries.partition_point(|entry| entry.epoch < limit);
         total_at(&self.entries, place)
     }
+}
+
+/// The same entries once more.
+fn copied(alloc: Global, entries: &[SentInEpoch]) -> Result<Vec<SentInEpoch>, AllocError>
+    ensures { IfOk result (λ copy. copy.items ≡ entries.now) }
+{
+    let mut copy = Vec::with_capacity(alloc, entries.len())?;
+    for entry in entries {
+        copy.push(*entry)?;
+    }
+    Ok(copy)
 }
 
 /// What the first of the entries count, so many of them.

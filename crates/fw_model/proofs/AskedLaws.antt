@@ -45,11 +45,11 @@ use Rattle.fw_model.specs.Writes.{takes_checkpoints}
 
 -- ---- nodes that take checkpoints
 
-eager-takes : (p : Policy) → is_eager p ≡ true → takes_checkpoints p ≡ true
+pub eager-takes : (p : Policy) → is_eager p ≡ true → takes_checkpoints p ≡ true
 eager-takes policy.Eager e = refl
 eager-takes p e = absurd (cc)
 
-asked-takes : (p : Policy) → is_asked_for_checkpoints p ≡ true → takes_checkpoints p ≡ true
+pub asked-takes : (p : Policy) → is_asked_for_checkpoints p ≡ true → takes_checkpoints p ≡ true
 asked-takes policy.Lazy e = refl
 asked-takes policy.Logged e = refl
 asked-takes p e = absurd (cc)
@@ -383,7 +383,7 @@ asked-restore sys state settled ps k o m c =
           (each-weaker T (λ p. AllByRecursion (λ (x : Write). IsApart x.node x.written p (checkpoint (front_of settled p) state.low)) state.writes) ps (λ p a. a.1) m)));
     }
 
-front-same : (f : Front) → same_front f f ≡ true
+pub front-same : (f : Front) → same_front f f ≡ true
 front-same f = ap is_eq (tied_itself (lists_total stamp_total) f)
 
 -- where settled grew no checkpoint is at it
@@ -431,7 +431,7 @@ progress-restore sys state done settled g h c =
 
 -- ---- a checkpoint that is asked for
 
-last-append : (f : Front) (fs gs : List Front) → last_or f (fs ++ gs) ≡ last_or (last_or f fs) gs
+pub last-append : (f : Front) (fs gs : List Front) → last_or f (fs ++ gs) ≡ last_or (last_or f fs) gs
 last-append f [] gs = refl
 last-append f (g ∷ fs) gs = last-append g fs gs
 

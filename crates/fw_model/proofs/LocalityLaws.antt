@@ -38,7 +38,7 @@ IsInsideUpTo f t = (s : Stamp) → leq s t ≡ true → f s ≡ true
 -- ---- which recs are read
 
 -- what is read at stamps inside is read among the events inside
-reads-inside : (f : Frontier) (test : ℕ → Stamp → Bool) (vs : List Event) → ((d : ℕ) (s : Stamp) → test d s ≡ true → f s ≡ true)
+pub reads-inside : (f : Frontier) (test : ℕ → Stamp → Bool) (vs : List Event) → ((d : ℕ) (s : Stamp) → test d s ≡ true → f s ≡ true)
     → delivered_recs test (events_inside f vs) ≡ delivered_recs test vs
 reads-inside f test vs w =
     flat_map-filter (rec_of_delivery test) (λ v. f (event_stamp v)) vs (each-one (λ v. f (event_stamp v) ≡ false → rec_of_delivery test v ≡ []) vs nothing_outside)
@@ -50,7 +50,7 @@ reads-inside f test vs w =
         cond_both (test e m.at) (m.rec ∷ []) [] (λ rs. rs ≡ []) (λ i. absurd (two_ways (f m.at) (w e m.at i) o)) (λ i. refl)
 
 -- at one stamp
-reads-at : (f : Frontier) (t : Stamp) (vs : List Event) → f t ≡ true → delivered_recs (λ d s. same s t) (events_inside f vs) ≡ delivered_recs (λ d s. same s t) vs
+pub reads-at : (f : Frontier) (t : Stamp) (vs : List Event) → f t ≡ true → delivered_recs (λ d s. same s t) (events_inside f vs) ≡ delivered_recs (λ d s. same s t) vs
 reads-at f t vs i = reads-inside f (λ d s. same s t) vs (λ d s k. ap f (same-is s t k) ∙ i)
 
 -- ---- the order in which events read

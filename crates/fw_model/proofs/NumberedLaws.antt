@@ -63,7 +63,7 @@ not_number : (within : Option ℕ) → is_of_numbers (domain_within within) ≡ 
 not_number None k = cc
 not_number (Some l) k = cc
 
-sends_numbers : (flow : Dataflow) (kind : Kind) → is_of_numbers (out_domain_of_kind flow kind) ≡ true → ((kind ≡ Sequence) ⊎ (kind ≡ Ledger)) ⊎ (kind ≡ OutputNumber)
+pub sends_numbers : (flow : Dataflow) (kind : Kind) → is_of_numbers (out_domain_of_kind flow kind) ≡ true → ((kind ≡ Sequence) ⊎ (kind ≡ Ledger)) ⊎ (kind ≡ OutputNumber)
 sends_numbers flow Input k = absurd (cc)
 sends_numbers flow OutputEpoch k = absurd (cc)
 sends_numbers flow OutputNumber k = inr refl

@@ -155,13 +155,13 @@ checkpoints-true sys w steps outcomes last r step next idle t = same-each sys la
 
 -- ---- exactly one
 
-some-both : {A : Type 0} (P Q : A → Type 0) (xs : List A) → HoldsOfOne P xs → AllByRecursion Q xs → HoldsOfOne (λ x. P x × Q x) xs
+pub some-both : {A : Type 0} (P Q : A → Type 0) (xs : List A) → HoldsOfOne P xs → AllByRecursion Q xs → HoldsOfOne (λ x. P x × Q x) xs
 some-both P Q [] a b = absurd a
 some-both P Q (x ∷ xs) (inl a) b = inl (a, b.0)
 some-both P Q (x ∷ xs) (inr a) b = inr (some-both P Q xs a b.1)
 
 -- where no two writes hold the same, one that is such a one is the only one
-only-one : (IsSuch Q : Write → Type 0) → ((x y : Write) → IsApart x.node x.written y.node y.written → IsSuch x → IsSuch y → ⊥) → (xs : List Write) → ArePairs IsApart xs
+pub only-one : (IsSuch Q : Write → Type 0) → ((x y : Write) → IsApart x.node x.written y.node y.written → IsSuch x → IsSuch y → ⊥) → (xs : List Write) → ArePairs IsApart xs
     → HoldsOfOne (λ x. IsSuch x × Q x) xs → (only : HasOne IsSuch xs) × Q only.one
 only-one IsSuch Q k [] a b = absurd b
 only-one IsSuch Q k (x ∷ xs) a (inl b) = (

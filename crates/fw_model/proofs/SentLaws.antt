@@ -25,7 +25,7 @@ use Rattle.fw_model.proofs.WeightLaws.{weigh, weigh-append, one, one-out}
 abbrev pub copy : Message → Message → ℕ
 copy m x = cond (is_eq (message_cmp m x)) 1 0
 
-copy-self : (m : Message) → copy m m ≡ 1
+pub copy-self : (m : Message) → copy m m ≡ 1
 copy-self m = ap (λ b. cond b 1 0) (message_cmp-self m)
 
 pub without-weigh : (w : Message → ℕ) (m : Message) (ms : List Message) → 0 < weigh (copy m) ms → weigh w ms ≡ w m + weigh w (messages_without m ms)

@@ -5,6 +5,7 @@ pub mod Covers
 pub mod Denotation
 pub mod Filtering
 pub mod History
+pub mod LawsOfCheckpointFronts
 pub mod LawsOfChoices
 pub mod LawsOfChoosing
 pub mod LawsOfCompleteFrontiers
@@ -12,14 +13,19 @@ pub mod LawsOfDeliveries
 pub mod LawsOfDenotation
 pub mod LawsOfExistence
 pub mod LawsOfFiltering
+pub mod LawsOfInjections
 pub mod LawsOfLegalHistories
 pub mod LawsOfOffers
+pub mod LawsOfPending
 pub mod LawsOfProjections
 pub mod LawsOfRecoveries
+pub mod LawsOfReplay
 pub mod LawsOfRestoring
 pub mod LawsOfRuns
 pub mod LawsOfSending
+pub mod LawsOfSettled
 pub mod LawsOfSteps
+pub mod LawsOfWrites
 pub mod Machine
 pub mod Measure
 pub mod Offers

@@ -6,6 +6,7 @@
 //! stamps of its events by `SendsByStamp`: it is no output and no sequence, a loop that it feeds back has a next counter,
 //! and the groups that it makes are not empty. A run begins in the machine's first state, and its steps are any, failures,
 //! recoveries and collections among them. A history goes on legally where the longer one is legal.
+ghost use Rattle.fw_model.specs.LawsOfCheckpointFronts.{CheckpointsDiffer, CheckpointsHaveStamps};
 ghost use Rattle.fw_model.specs.LawsOfChoices.{ConsistentChoicesHaveUnion, DeliveredOfUnion, DiscardedOfUnion, EachLiesWithinUnion, LargestChoiceIsOne, NotifiedOfUnion, UnionOfCandidatesIsCandidate, UnionOfConsistentIsConsistent};
 ghost use Rattle.fw_model.specs.LawsOfChoosing.{CheckpointsAreChains, FailedNodesAreRecovered, LargestChoiceHoldsLowWatermark, LargestOfKeptIsLargestOfEver, LowWatermarkIsConsistent, LowWatermarkNeverFalls, ReachedStatesHaveOneNextState, RecoveryHasAChoice, TwoRunsShowOneBag};
 ghost use Rattle.fw_model.specs.LawsOfCompleteFrontiers.{AdmissibleStaysAdmissible, EnabledIsOutside, LegalInsidePhiComesFromInside, SequencesAreNotifiedInOrder};
@@ -18,15 +19,20 @@ ghost use Rattle.fw_model.specs.LawsOfOffers.{ConsistentByOffersIsConsistent, La
 ghost use Rattle.fw_model.specs.LawsOfProjections.{PhiByCountIsMonotone, PhiGrowsWithHistory, PhiIgnoresHistory, PhiIsFrontier, PhiIsMonotone, PhiOfEverything, PhiOfMeet, PsiIsFrontier, PsiIsMonotone, PsiOfJoin, PsiOfNothing, PsiOfUnion};
 ghost use Rattle.fw_model.specs.LawsOfRecoveries.{AcknowledgementsShowDenotationThroughRecoveries, CandidatesLieWithinSettled, DenotedIsFull, RunsStayLegalThroughRecoveries, SettledStaysDenoted, StepsKeepHistoriesLegal};
 ghost use Rattle.fw_model.specs.LawsOfRestoring.{BatchesOutsideCutsLieOutsideLow, BatchesToComeLieOutsideLow, CheckpointLogsHoldWhatIsSentAgain, CheckpointsAreAsTheyWereAsked, CheckpointsAscend, CheckpointsAtCutsAreKept, CheckpointsStayTrue, CollectedIsWhatLiesBelow, EventsInsideCutsAreLogged, EventsThatMustBeKeptAreNeverCollected, KeptWatermarksLieWithinToday, LogsHoldWhatIsSentAgain, NothingComesInsideCheckpoints, WhatIsForgottenWasAcknowledged};
+ghost use Rattle.fw_model.specs.LawsOfReplay.{PassingEventsSendTheirPart, ReplayedEventsAreThoseNotGivenUp, ReplayedEventsSendTheSame, SamePartSendsTheSame};
 ghost use Rattle.fw_model.specs.LawsOfRuns.{AcknowledgementsAreInOrder, RunsGoOn, RunsStayLegal};
 ghost use Rattle.fw_model.specs.LawsOfSending.{InsidePhiComesFromInside, InsidePhiOfSequenceComesFromInside, PhiBySendStamps, PsiBackBySendStamps, PsiBackIsLargest, PsiBySendStamps, SendStampIsMonotone, SendersOfWellFormed, SendsAreInsidePsi, SendsAtSendStamp, SentFromInsideIsInsidePsi, SentTableFollowsHistory};
+ghost use Rattle.fw_model.specs.LawsOfSettled.{NothingComesInsideSettled};
 ghost use Rattle.fw_model.specs.LawsOfSteps.{ExactlyOneNextState, OneNextState, SomeNextState};
+ghost use Rattle.fw_model.specs.LawsOfInjections.{InjectedEpochsAreInOrder, UntilLeavesThatMany};
+ghost use Rattle.fw_model.specs.LawsOfPending.{FirstPendingIsNext, PendingFollowsEvents, PendingNumbersGoOn, SentIsDeliveredAndPending};
+ghost use Rattle.fw_model.specs.LawsOfWrites.{LiveNodesLogEachEvent, LoggedEventsAreInOrder, NewestCheckpointIsKept};
 
 // The laws of times and of frontiers, each over every type of times, and that of dataflows.
 pub use fw_flow::laws::ranks_exist;
 pub use fw_frontier::laws::{
     cut_is_largest, domain_decides, fronts_are_frontiers, greatest_covers_all,
-    one_list_names_a_frontier, round_trip, stays_in_domain,
+    one_list_names_a_frontier, round_trip, stays_in_domain, thinned_stamps_cover_the_same,
 };
 pub use fw_time::laws::{least_upper_bound, partial_order};
 
@@ -661,4 +667,98 @@ pub fn consistent_by_offers_is_consistent()
 /// Where data are what the machine offers in a state, the largest choice by the data is that of the machine.
 pub fn largest_by_offers_is_largest()
     ensures { LargestByOffersIsLargest }
+{}
+
+/// In a legal history of a well-formed flow, where a message is pending on a numbered edge, one is pending at the number
+/// of how many were delivered; none is at a lesser number, and at each there is one alone.
+pub fn pending_numbers_go_on()
+    ensures { PendingNumbersGoOn }
+{}
+
+/// In a legal history of a well-formed flow the least message that is pending on a numbered edge is the one that may be
+/// delivered there.
+pub fn first_pending_is_next()
+    ensures { FirstPendingIsNext }
+{}
+
+/// In a legal history the messages that were sent on an edge are those that were delivered and those that are pending.
+pub fn sent_is_delivered_and_pending()
+    ensures { SentIsDeliveredAndPending }
+{}
+
+/// As the history goes on legally, what is pending on an edge, in order, loses the message that the event delivered
+/// there, and gets those that it sent there.
+pub fn pending_follows_events()
+    ensures { PendingFollowsEvents }
+{}
+
+/// In each state of a run of a well-formed system an event that may come next lies outside the low watermark of its
+/// node, and outside what is settled there, but at an input.
+pub fn nothing_comes_inside_settled()
+    ensures { NothingComesInsideSettled }
+{}
+
+/// In each state of a run of a well-formed system no two checkpoints of a node have one front.
+pub fn checkpoints_differ()
+    ensures { CheckpointsDiffer }
+{}
+
+/// In each state of a run of a well-formed system no checkpoint is of no stamps.
+pub fn checkpoints_have_stamps()
+    ensures { CheckpointsHaveStamps }
+{}
+
+/// In each state of a run of a well-formed system each source injected the epochs 0, 1, 2 and so on, in this order.
+pub fn injected_epochs_are_in_order()
+    ensures { InjectedEpochsAreInOrder }
+{}
+
+/// In each state of a run of a well-formed system a choice that cuts a source until k, of which it injected at least k,
+/// leaves k of its injections.
+pub fn until_leaves_that_many()
+    ensures { UntilLeavesThatMany }
+{}
+
+/// In each state of a run of a well-formed system, a write that logs an event has it in the history, at the write's node,
+/// and the serials of what is logged ascend in order of asking, as those of the history do.
+pub fn logged_events_are_in_order()
+    ensures { LoggedEventsAreInOrder }
+{}
+
+/// In each state of a run of a well-formed system, of a node that logs each event and is not failed each event is logged by
+/// exactly one write, which is the node's: in flight, acknowledged or collected.
+pub fn live_nodes_log_each_event()
+    ensures { LiveNodesLogEachEvent }
+{}
+
+/// In each state of a run of a well-formed system, the newest checkpoint of each node is the newest among those that were not
+/// collected, whatever stands for it where there is none.
+pub fn newest_checkpoint_is_kept()
+    ensures { NewestCheckpointIsKept }
+{}
+
+/// In two legal histories of a well-formed flow with epochs in which a node did the same inside a frontier of its domain, it
+/// sent the same in all from there, on an out-edge or not.
+pub fn same_part_sends_the_same()
+    ensures { SamePartSendsTheSame }
+{}
+
+/// Of events of a node whose kind may keep nothing, in any order, those at stamps that pass any test send by themselves what
+/// they send among all: the messages all of whose causes pass.
+pub fn passing_events_send_their_part()
+    ensures { PassingEventsSendTheirPart }
+{}
+
+/// In each state of a run of a well-formed system, where a largest choice among what is kept cuts a node that logs each
+/// event, the events inside its cut that acknowledged writes log are those at stamps that are not given up. At a total, a
+/// sequence or a ledger nothing is given up.
+pub fn replayed_events_are_those_not_given_up()
+    ensures { ReplayedEventsAreThoseNotGivenUp }
+{}
+
+/// In each state of a run of a well-formed system, where a largest choice among what is kept cuts a node that logs each
+/// event, the events inside its cut that acknowledged writes log, the collected ones left out, send on each out-edge,
+/// outside the receiver's low watermark, what all its events sent from inside the cut.
+pub fn replayed_events_send_the_same()
+    ensures { ReplayedEventsSendTheSame }
 {}

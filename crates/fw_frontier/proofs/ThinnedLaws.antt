@@ -1,0 +1,95 @@
+-- Thinned stamps cover the same: what lacks lies at or below a kept one inside the base.
+use Rattle.std.proofs.Common.{◌≡◌, ℕ, zero, suc, ◌<◌, Bool, true, false, cond, ◌&&◌, List, [], ◌∷◌, refl, sym, ap, ◌∙◌, inl, inr, subst, arith}
+use Rattle.std.specs.Prelude.{filter, length, slice_index_or}
+use Rattle.std.specs.List.{AllByRecursion, Contains}
+use Rattle.std.proofs.lemmas.Bool.{or_cases, or_left, or_right, cond_both, cases_Bool}
+use Rattle.fw_time.specs.Stamp.{Stamp, leq, in_domain}
+use Rattle.fw_time.specs.declared.stamp.Bounds.{Bounds}
+use Rattle.fw_time.proofs.StampLaws.{leq-trans}
+use Rattle.fw_frontier.specs.Frontier.{Frontier, Within, some_above, cover}
+use Rattle.fw_frontier.specs.Thinned.{IsBelowKept, IsThinned}
+
+-- ---- elements
+
+each-index : {A : Type 0} (P : A → Type 0) (x : A) (xs : List A) (k : ℕ) → k < length xs → slice_index_or xs k x ≡ x → AllByRecursion P xs → P x
+each-index P x [] k l e a = absurd (omega arith)
+each-index P x (y ∷ ys) zero l e a = subst P e a.0
+each-index P x (y ∷ ys) (suc k) l e a = each-index P x ys k (omega arith) e a.1
+
+-- what holds of each holds of one that the list has
+pub each-contained : {A : Type 0} (P : A → Type 0) (x : A) (xs : List A) → Contains xs x → AllByRecursion P xs → P x
+each-contained P x xs c a = each-index P x xs c.0 c.1 c.2 a
+
+-- ---- what is inside and above
+
+-- a stamp of the list that is inside, and this one or greater
+record IsUnder (f : Frontier) (ss : List Stamp) (t : Stamp) : Type 0 where
+  above : Stamp
+  there : Contains ss above
+  inside : f above ≡ true
+  below : leq t above ≡ true
+
+under-later : (f : Frontier) (s : Stamp) (ss : List Stamp) (t : Stamp) → IsUnder f ss t → IsUnder f (s ∷ ss) t
+under-later f s ss t u =
+    let c = u.there in
+    let l = c.1 in
+    record { above = u.above; there = (suc c.0, omega arith, c.2); inside = u.inside; below = u.below }
+
+above-under : (f : Frontier) (ss : List Stamp) (t : Stamp) → some_above (filter f ss) t ≡ true → IsUnder f ss t
+above-under f [] t k = absurd (cc)
+above-under f (s ∷ ss) t k = elim (cases_Bool (f s)) [
+  | inl e ↦ elim (or_cases (leq t s) (some_above (filter f ss) t) (sym (ap (λ b. some_above (cond b (s ∷ filter f ss) (filter f ss)) t) e) ∙ k)) [
+    | inl l ↦ record { above = s; there = (0, omega arith, refl); inside = e; below = l }
+    | inr l ↦ under-later f s ss t (above-under f ss t l)
+  ]
+  | inr e ↦ under-later f s ss t (above-under f ss t (sym (ap (λ b. some_above (cond b (s ∷ filter f ss) (filter f ss)) t) e) ∙ k))
+]
+
+index-above : (f : Frontier) (t s : Stamp) → f s ≡ true → leq t s ≡ true → (ss : List Stamp) (k : ℕ) → k < length ss → slice_index_or ss k s ≡ s
+    → some_above (filter f ss) t ≡ true
+index-above f t s i l [] k m e = absurd (omega arith)
+index-above f t s i l (x ∷ xs) zero m e =
+    let P : Stamp → Type 0 = λ y. (f y ≡ true) × (leq t y ≡ true) in
+    let here : (f x ≡ true) × (leq t x ≡ true) = subst P (sym e) (i, l) in
+    ap (λ b. some_above (cond b (x ∷ filter f xs) (filter f xs)) t) here.0 ∙ or_left (leq t x) (some_above (filter f xs) t) here.1
+index-above f t s i l (x ∷ xs) (suc k) m e =
+    let rest = index-above f t s i l xs k (omega arith) e in
+    cond_both (f x) (x ∷ filter f xs) (filter f xs) (λ ys. some_above ys t ≡ true)
+    (λ c. or_right (leq t x) (some_above (filter f xs) t) rest) (λ c. rest)
+
+under-above : (f : Frontier) (ss : List Stamp) (t : Stamp) → IsUnder f ss t → some_above (filter f ss) t ≡ true
+under-above f ss t u = let c = u.there in index-above f t u.above u.inside u.below ss c.0 c.1 c.2
+
+-- ---- the law
+
+from-kept : (base : Frontier) (all kept : List Stamp) → IsThinned base all kept → (f : Frontier) (t : Stamp) → IsUnder f kept t → IsUnder f all t
+from-kept base all kept h f t u =
+    record { above = u.above; there = each-contained (Contains all) u.above kept u.there h.among; inside = u.inside; below = u.below }
+
+from-all : (base : Frontier) (all kept : List Stamp) → IsThinned base all kept → (f : Frontier) → Within base f → (t : Stamp) → IsUnder f all t → IsUnder f kept t
+from-all base all kept h f w t u = elim (cases_Bool (base u.above)) [
+  | inl i ↦
+      let k = each-contained (λ s. base s ≡ true → IsBelowKept base kept s) u.above all u.there h.inside i in
+      record { above = k.above; there = k.is_kept; inside = w k.above k.inside; below = leq-trans t u.above k.above u.below k.below }
+  | inr o ↦ record {
+    above = u.above;
+    there = each-contained (λ s. base s ≡ false → Contains kept s) u.above all u.there h.outside o;
+    inside = u.inside;
+    below = u.below;
+  }
+]
+
+both_true : (a b : Bool) → (a ≡ true → b ≡ true) → (b ≡ true → a ≡ true) → a ≡ b
+both_true true true f g = refl
+both_true true false f g = sym (f refl)
+both_true false true f g = g refl
+both_true false false f g = refl
+
+pub thinned-covers : (bounds : Bounds) (base : Frontier) (all kept : List Stamp) → IsThinned base all kept → (f : Frontier) → Within base f
+    → cover bounds (filter f kept) ≡ cover bounds (filter f all)
+thinned-covers bounds base all kept h f w = λ i t. at t i
+  where
+    at : (t : Stamp) → cover bounds (filter f kept) t ≡ cover bounds (filter f all) t
+    at t = ap (λ b. in_domain bounds t && b) (both_true (some_above (filter f kept) t) (some_above (filter f all) t)
+        (λ k. under-above f all t (from-kept base all kept h f t (above-under f kept t k)))
+        (λ k. under-above f kept t (from-all base all kept h f w t (above-under f all t k))))

@@ -1,0 +1,33 @@
+-- What the code asks of what is known of a node: shapes, which hold wherever it is known of a state.
+use Rattle.std.specs.Prelude.{◌≡◌, ℕ, suc, ◌≤◌, true, List, [], ◌∷◌}
+use Rattle.std.specs.List.{AllByRecursion}
+use Rattle.fw_time.specs.Stamp.{in_domain}
+use Rattle.fw_frontier.specs.Front.{IsCanonical}
+use Rattle.fw_flow.specs.declared.restoring.Restoring.{Restoring}
+use Rattle.fw_flow.specs.declared.restoring.Restoring.TheVariants.{Batches, Bound, Events}
+use Rattle.fw_flow.specs.Dataflow.{Dataflow, bounds_of, greatest_number}
+use Rattle.fw_flow.specs.Restoring.{way_of}
+use Rattle.fw_policy.specs.Offering.{unlogged_stamps}
+use Rattle.fw_policy.specs.declared.view.Border.{Border}
+use Rattle.fw_policy.specs.declared.view.Border.TheVariants.{Source, Output}
+use Rattle.fw_policy.specs.declared.view.Entry.{Entry}
+use Rattle.fw_policy.specs.declared.view.NodeView.{NodeView}
+
+-- the border is that of a node that is restored in this way
+abbrev pub FitsWay : Restoring → Border → Type 0
+FitsWay Batches (Source injected exhausted) = injected ≤ greatest_number
+FitsWay Batches border = ⊥
+FitsWay Bound (Output bound) = Unit {0}
+FitsWay Bound border = ⊥
+FitsWay way border = Unit {0}
+
+-- What is known of node p has frontiers and stamps of its domain, and the border of its kind.
+pub record IsKnown (flow : Dataflow) (entries : List Entry) (p : ℕ) (node : NodeView) : Type 0 where
+  pub settled : IsCanonical (bounds_of flow p) node.settled
+  pub border : FitsWay (way_of flow p) node.border
+  pub unlogged : way_of flow p ≡ Events → AllByRecursion (λ t. in_domain (bounds_of flow p) t ≡ true) (unlogged_stamps p entries node.lost)
+
+-- what is known of the nodes from p on
+abbrev pub AreKnown : Dataflow → List Entry → ℕ → List NodeView → Type 0
+AreKnown flow entries p [] = Unit {0}
+AreKnown flow entries p (node ∷ view) = IsKnown flow entries p node × AreKnown flow entries (suc p) view

@@ -1,0 +1,115 @@
+-- What a node offers to a recovery, by what is known of it and by the entries alone.
+use Rattle.std.specs.Prelude.{◌≡◌, ℕ, suc, Bool, not, ◌&&◌, ◌==◌, if◌then◌else◌, List, [], ◌∷◌, ◌++◌, filter, map}
+use Rattle.std.specs.List.{flat_map, list_any, range_with_len}
+use Rattle.fw_time.specs.Stamp.{Stamp, leq}
+use Rattle.fw_time.specs.declared.stamp.Bounds.{Bounds}
+use Rattle.fw_frontier.specs.Frontier.{Frontier, meet}
+use Rattle.fw_frontier.specs.Front.{Front, frontier_of, is_within, IsFrontOf}
+use Rattle.fw_flow.specs.declared.choice.Offer.{Offer}
+use Rattle.fw_flow.specs.declared.choice.Offered.{Offered}
+use Rattle.fw_flow.specs.declared.choice.Offered.TheVariants.{Listed, Between}
+use Rattle.fw_flow.specs.declared.choice.Recorded.{Recorded}
+use Rattle.fw_flow.specs.declared.restoring.Restoring.{Restoring}
+use Rattle.fw_flow.specs.declared.restoring.Restoring.TheVariants.{Batches, Bound, Anything, Checkpoints, Events}
+use Rattle.fw_flow.specs.Dataflow.{Dataflow, bounds_of}
+use Rattle.fw_flow.specs.Restoring.{way_of}
+use Rattle.fw_model.specs.Choice.{until}
+use Rattle.fw_model.specs.Machine.{no_stamps}
+use Rattle.fw_policy.specs.declared.view.Border.{Border}
+use Rattle.fw_policy.specs.declared.view.Border.TheVariants.{Source, Output}
+use Rattle.fw_policy.specs.declared.view.Entry.{Entry}
+use Rattle.fw_policy.specs.declared.view.NodeView.{NodeView}
+use Rattle.fw_policy.specs.declared.view.Written.{Written}
+use Rattle.fw_policy.specs.declared.view.Written.TheVariants.{Checkpoint, Event as LoggedEvent}
+
+-- the record that is written, if one is
+abbrev pub record_in : Written → List Recorded
+record_in (Checkpoint r) = r ∷ []
+record_in (LoggedEvent t) = []
+
+-- the record of an entry, if it is an acknowledged one of node p
+abbrev pub record_by : ℕ → Entry → List Recorded
+record_by p entry = if entry.node == p && entry.acknowledged then record_in entry.written else []
+
+-- the records of the acknowledged entries of node p
+abbrev pub records_by : ℕ → List Entry → List Recorded
+records_by p entries = flat_map (record_by p) entries
+
+-- a record of no stamps: nothing counts in it
+abbrev pub empty_record : Bounds → Recorded
+empty_record bounds = record { front = no_stamps bounds; notified = no_stamps bounds; delivered = []; discarded = [] }
+
+-- those of these records that hold the low watermark
+abbrev pub holding : Front → List Recorded → List Recorded
+holding low rs = filter (λ r. is_within low r.front) rs
+
+-- all from the low watermark to the frontier is offered
+abbrev pub IsRange : Bounds → Front → Frontier → Offered → Type 0
+IsRange bounds low f (Listed records) = ⊥
+IsRange bounds low f (Between least greatest) = (least ≡ low) × IsFrontOf bounds greatest f
+
+-- the stamp of the event that is written, if one is
+abbrev pub stamp_in : Written → List Stamp
+stamp_in (Checkpoint r) = []
+stamp_in (LoggedEvent t) = t ∷ []
+
+-- the stamp of an event of node p that is not logged yet, if the entry is one
+abbrev pub unlogged_by : ℕ → Entry → List Stamp
+unlogged_by p entry = if entry.node == p && not entry.acknowledged then stamp_in entry.written else []
+
+-- the stamps of events of node p that are not logged: those in flight, and those that were lost
+abbrev pub unlogged_stamps : ℕ → List Entry → List Stamp → List Stamp
+unlogged_stamps p entries lost = flat_map (unlogged_by p) entries ++ lost
+
+-- what is inside, and at none of these stamps or above
+abbrev pub below_all : List Stamp → Frontier → Frontier
+below_all ss f t = f t && not (list_any (λ s. leq s t) ss)
+
+-- the frontiers of batches up to so many, and all once there are no more
+abbrev pub batch_fronts : ℕ → Bool → List Front
+batch_fronts injected exhausted = map until (range_with_len 0 (suc injected)) ++ (if exhausted then [] ∷ [] else [])
+
+-- a record of the frontier that lists no edge; its notification frontier, which plays no part at an input, is all
+abbrev pub bare_record : Front → Recorded
+bare_record f = record { front = f; notified = []; delivered = []; discarded = [] }
+
+-- records of the frontiers of batches that hold the low watermark
+abbrev pub batch_records : Front → ℕ → Bool → List Recorded
+batch_records low injected exhausted = map bare_record (filter (λ f. is_within low f) (batch_fronts injected exhausted))
+
+-- what an input offers: what it injected
+abbrev pub IsOfBatches : Front → Border → Offered → Type 0
+IsOfBatches low (Source injected exhausted) offered = offered ≡ Listed (batch_records low injected exhausted)
+IsOfBatches low border offered = ⊥
+
+-- what an output offers: what is settled and acknowledged
+abbrev pub IsOfBound : Bounds → Front → Front → Border → Offered → Type 0
+IsOfBound bounds low settled (Output bound) offered =
+    IsRange bounds low (meet (frontier_of bounds settled) (frontier_of bounds (until bound))) offered
+IsOfBound bounds low settled border offered = ⊥
+
+-- What node p offers, by the way in which it is restored: an input what it injected, an output what is settled and
+-- acknowledged, a node that keeps nothing what is settled, one with checkpoints no stamps and what it acknowledged, and one
+-- that logs its events what is settled and below no event that is not logged. All of it holds the low watermark.
+abbrev pub OffersBy : Bounds → List Entry → ℕ → NodeView → Restoring → Offered → Type 0
+OffersBy bounds entries p node Batches offered = IsOfBatches node.low node.border offered
+OffersBy bounds entries p node Bound offered = IsOfBound bounds node.low node.settled node.border offered
+OffersBy bounds entries p node Anything offered = IsRange bounds node.low (frontier_of bounds node.settled) offered
+OffersBy bounds entries p node Checkpoints offered =
+    offered ≡ Listed (holding node.low (empty_record bounds ∷ records_by p entries))
+OffersBy bounds entries p node Events offered =
+    IsRange bounds node.low (below_all (unlogged_stamps p entries node.lost) (frontier_of bounds node.settled)) offered
+
+-- what node p offers, by what is known of it
+pub record IsOfferBy (flow : Dataflow) (entries : List Entry) (p : ℕ) (node : NodeView) (offer : Offer) : Type 0 where
+  pub present : offer.present ≡ not node.failed
+  pub offered : OffersBy (bounds_of flow p) entries p node (way_of flow p) offer.offered
+  pub stamps : offer.stamps ≡ node.stamps
+  pub table : offer.table ≡ node.table
+
+-- the offers are those of the nodes from p on
+abbrev pub AreOffersBy : Dataflow → List Entry → ℕ → List NodeView → List Offer → Type 0
+AreOffersBy flow entries p [] [] = Unit {0}
+AreOffersBy flow entries p [] (offer ∷ offers) = ⊥
+AreOffersBy flow entries p (node ∷ view) [] = ⊥
+AreOffersBy flow entries p (node ∷ view) (offer ∷ offers) = IsOfferBy flow entries p node offer × AreOffersBy flow entries (suc p) view offers

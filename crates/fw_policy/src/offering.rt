@@ -1,0 +1,230 @@
+//! To which frontiers nodes can be restored.
+ghost use Rattle.std.specs.Prelude.{◌≡◌, ◌++◌, ◌≤◌, ℕ, List, [], ◌∷◌, filter, map, IfOk, OnOk};
+ghost use Rattle.fw_time.specs.declared.stamp.Bounds.{Bounds as Domain};
+ghost use Rattle.fw_frontier.specs.Frontier.{meet};
+ghost use Rattle.fw_frontier.specs.Front.{frontier_of, is_within, IsCanonical, IsFrontOf};
+ghost use Rattle.fw_flow.specs.declared.choice.Recorded.{Recorded as RecordedValue};
+ghost use Rattle.fw_flow.specs.declared.restoring.Restoring.TheVariants as ways;
+ghost use Rattle.fw_flow.specs.Dataflow.{bounds_of, greatest_number};
+ghost use Rattle.fw_flow.specs.Restoring.{way_of};
+ghost use Rattle.fw_model.specs.Choice as choices;
+ghost use Rattle.fw_policy.specs.Offering as spec;
+ghost use Rattle.fw_policy.specs.Known.{FitsWay, IsKnown};
+
+use crate::copies::record_again;
+use crate::unlogged::{cut_below, unlogged};
+use crate::view::{Border, Entry, NodeView, Written};
+use fw_flow::{Flow, NodeId, OfEdges, Offered, Recorded, Records, Restoring};
+use fw_frontier::Front;
+use fw_time::{Bounds, Stamp};
+use std::alloc::{AllocError, Global};
+
+/// To which frontiers a node can be restored. The error is want of memory.
+pub(crate) fn offered(
+    alloc: Global,
+    flow: &Flow,
+    entries: &[Entry],
+    node: NodeId,
+    known: &NodeView,
+) -> Result<Offered, AllocError>
+    ensures { IsKnown flow.now entries.now node known.now → IfOk result
+        (spec.OffersBy (bounds_of flow.now node) entries.now node known.now (way_of flow.now node)) }
+{
+    match flow.restoring(node) {
+        Restoring::Batches => of_batches(alloc, &known.low, &known.border),
+        Restoring::Bound => of_bound(alloc, &known.low, &known.settled, &known.border),
+        Restoring::Anything => range(&known.low, known.settled.copy()?),
+        Restoring::Checkpoints => {
+            let records = records(alloc, &flow.domain(node), entries, node, &known.low)?;
+            Ok(Offered::Listed(Records::of(records)))
+        }
+        Restoring::Events => {
+            let stamps = unlogged(alloc, entries, node, known.lost.as_slice())?;
+            range(&known.low, cut_below(&known.settled, &stamps)?)
+        }
+    }
+}
+
+/// All from the low watermark to a frontier.
+fn range(low: &Front, greatest: Front) -> Result<Offered, AllocError>
+    ensures { (bounds : Domain) → IsCanonical bounds greatest → IfOk result (spec.IsRange bounds low.now (frontier_of bounds greatest)) }
+{
+    Ok(Offered::Between {
+        least: low.copy()?,
+        greatest,
+    })
+}
+
+/// What an output offers.
+fn of_bound(
+    alloc: Global,
+    low: &Front,
+    settled: &Front,
+    border: &Border,
+) -> Result<Offered, AllocError>
+    ensures { (domain : Domain) → domain.greatest ≡ greatest_number ∷ [] → IsCanonical domain settled.now → FitsWay ways.Bound border.now
+        → IfOk result (spec.IsOfBound domain low.now settled.now border.now) }
+{
+    match border {
+        Border::Output { bound } => Ok(Offered::Between {
+            least: low.copy()?,
+            greatest: acknowledged(alloc, settled, *bound)?,
+        }),
+        _ => range(low, settled.copy()?),
+    }
+}
+
+/// What is settled and acknowledged of an output.
+fn acknowledged(alloc: Global, settled: &Front, bound: u64) -> Result<Front, AllocError>
+    ensures { (domain : Domain) → domain.greatest ≡ greatest_number ∷ [] → IsCanonical domain settled.now
+        → IfOk result (λ f. IsFrontOf domain f
+        (meet (frontier_of domain settled.now) (frontier_of domain (choices.until bound)))) }
+{
+    match u32::try_from(bound) {
+        Ok(bound) => settled.meet(&until(alloc, bound)?),
+        Err(_) => settled.copy(),
+    }
+}
+
+/// The frontier of the epochs below this one.
+fn until(alloc: Global, epoch: u32) -> Result<Front, AllocError>
+    ensures { IfOk result (λ f. f ≡ choices.until epoch) }
+{
+    Front::until(alloc, &[Stamp::new(&[epoch])])
+}
+
+/// What an input offers.
+fn of_batches(alloc: Global, low: &Front, border: &Border) -> Result<Offered, AllocError>
+    ensures { FitsWay ways.Batches border.now → IfOk result (spec.IsOfBatches low.now border.now) }
+{
+    match border {
+        Border::Source {
+            injected,
+            exhausted,
+        } => {
+            let records = batches(alloc, low, *injected, *exhausted)?;
+            Ok(Offered::Listed(Records::of(records)))
+        }
+        _ => Ok(Offered::Listed(Records::of(Vec::new(alloc)))),
+    }
+}
+
+/// The frontiers of an input that injected so many batches, and perhaps all, from the low watermark on.
+fn batches(
+    alloc: Global,
+    low: &Front,
+    injected: u64,
+    exhausted: bool,
+) -> Result<Vec<Recorded>, AllocError>
+    ensures { injected ≤ greatest_number → IfOk result (λ rs. rs.items ≡ spec.batch_records low.now injected exhausted) }
+{
+    let last = injected.min(u32::MAX as u64) as u32;
+    let mut records = Vec::new(alloc);
+    for epoch in 0..last {
+        add_bare(alloc, &mut records, low, until(alloc, epoch)?)?;
+    }
+    add_bare(alloc, &mut records, low, until(alloc, last)?)?;
+    if exhausted {
+        add_bare(alloc, &mut records, low, Front::all(alloc))?;
+    }
+    Ok(records)
+}
+
+/// Adds a record of the frontier, if it holds the low watermark. Nothing else of it counts, since the node is not restored by
+/// checkpoints.
+fn add_bare(
+    alloc: Global,
+    records: &mut Vec<Recorded>,
+    low: &Front,
+    front: Front,
+) -> Result<(), AllocError>
+    ensures { (fs : List (List (List ℕ))) → records.old.items ≡ map spec.bare_record (filter (λ f. is_within low.now f) fs)
+        → OnOk result (records.new.items ≡ map spec.bare_record (filter (λ f. is_within low.now f) (fs ++ front ∷ []))) }
+{
+    if low.subset(&front) {
+        records.push(Recorded {
+            front,
+            notified: Front::all(alloc),
+            delivered: OfEdges::of(Vec::new(alloc)),
+            discarded: OfEdges::of(Vec::new(alloc)),
+        })?;
+    }
+    Ok(())
+}
+
+/// What a node with checkpoints offers: no stamps, and its acknowledged checkpoints, so far as they hold the low watermark.
+fn records(
+    alloc: Global,
+    bounds: &Bounds,
+    entries: &[Entry],
+    node: NodeId,
+    low: &Front,
+) -> Result<Vec<Recorded>, AllocError>
+    ensures { IfOk result (λ rs. rs.items ≡ spec.holding low.now (spec.empty_record bounds.now ∷ spec.records_by node entries.now)) }
+{
+    let mut records = Vec::new(alloc);
+    add_empty(alloc, &mut records, bounds, low)?;
+    for entry in entries {
+        add_entry(alloc, &mut records, entry, node, low)?;
+    }
+    Ok(records)
+}
+
+/// Adds a record of no stamps, if it holds the low watermark.
+fn add_empty(
+    alloc: Global,
+    records: &mut Vec<Recorded>,
+    bounds: &Bounds,
+    low: &Front,
+) -> Result<(), AllocError>
+    ensures { records.old.items ≡ [] → OnOk result (records.new.items ≡ spec.holding low.now (spec.empty_record bounds.now ∷ [])) }
+{
+    let empty = Recorded {
+        front: Front::empty(alloc, bounds)?,
+        notified: Front::empty(alloc, bounds)?,
+        delivered: OfEdges::of(Vec::new(alloc)),
+        discarded: OfEdges::of(Vec::new(alloc)),
+    };
+    if low.subset(&empty.front) {
+        records.push(empty)?;
+    }
+    Ok(())
+}
+
+/// Adds the record of the entry, if it is an acknowledged checkpoint of the node that holds the low watermark.
+fn add_entry(
+    alloc: Global,
+    records: &mut Vec<Recorded>,
+    entry: &Entry,
+    node: NodeId,
+    low: &Front,
+) -> Result<(), AllocError>
+    ensures { (rs : List RecordedValue) → records.old.items ≡ spec.holding low.now rs
+        → OnOk result (records.new.items ≡ spec.holding low.now (rs ++ spec.record_by node entry.now)) }
+{
+    if entry.node == node && entry.acknowledged {
+        return add_written(alloc, records, &entry.written, low);
+    }
+    Ok(())
+}
+
+/// Adds the record, if it is one that holds the low watermark.
+fn add_written(
+    alloc: Global,
+    records: &mut Vec<Recorded>,
+    written: &Written,
+    low: &Front,
+) -> Result<(), AllocError>
+    ensures { (rs : List RecordedValue) → records.old.items ≡ spec.holding low.now rs
+        → OnOk result (records.new.items ≡ spec.holding low.now (rs ++ spec.record_in written.now)) }
+{
+    match written {
+        Written::Checkpoint(held) => {
+            if low.subset(&held.front) {
+                records.push(record_again(alloc, held)?)?;
+            }
+        }
+        Written::Event(_) => {}
+    }
+    Ok(())
+}

@@ -105,7 +105,7 @@ sent-elsewhere e d test (m ∷ ms) k =
     ap (λ b. stamps_of (cond (b && test m.causes) (single_message d m ∷ rest) rest)) k ∙ sent-elsewhere e d test ms k
 
 -- the list where the edge is the one
-abbrev if_it : ℕ → List Stamp → ℕ → List Stamp
+abbrev if_it : {A : Type 0} → ℕ → List A → ℕ → List A
 if_it e ts d = cond (d == e) ts []
 
 sent-of_edge : (e d : ℕ) (test : List Stamp → Bool) (ms : List Message) → stamps_of (filter (is_from e test) (map (single_message d) ms)) ≡ if_it e (stamps_with test ms) d
@@ -128,17 +128,17 @@ not_it n e l = grind (arith, nat_tests)
 not_it_yet : (n e : ℕ) → n < e → (n == e) ≡ false
 not_it_yet n e l = grind (arith, nat_tests)
 
-past : (ts : List Stamp) (xs : List Edge) (n e p : ℕ) → e < n → flat_map (if_it e ts) (edges_from n xs p) ≡ []
+past : {A : Type 0} (ts : List A) (xs : List Edge) (n e p : ℕ) → e < n → flat_map (if_it e ts) (edges_from n xs p) ≡ []
 past ts [] n e p l = refl
 past ts (x ∷ xs) n e p l =
     cond_both (x.sender == p) (n ∷ edges_from (n + 1) xs p) (edges_from (n + 1) xs p) (λ es. flat_map (if_it e ts) es ≡ [])
     (λ i. ap (λ us. us ++ flat_map (if_it e ts) (edges_from (n + 1) xs p)) (cond-false (n == e) ts [] (not_it n e l)) ∙ past ts xs (n + 1) e p (omega arith))
     (λ i. past ts xs (n + 1) e p (omega arith))
 
-here : (ts : List Stamp) (n e : ℕ) → n ≡ e → if_it e ts n ≡ ts
+here : {A : Type 0} (ts : List A) (n e : ℕ) → n ≡ e → if_it e ts n ≡ ts
 here ts n e k = ap (λ b. cond b ts []) (eq-eqb n e k)
 
-once : (ts : List Stamp) (xs : List Edge) (n i e p : ℕ) (z : Edge) → e ≡ n + i → i < length xs → (get_or xs i z).sender ≡ p
+once : {A : Type 0} (ts : List A) (xs : List Edge) (n i e p : ℕ) (z : Edge) → e ≡ n + i → i < length xs → (get_or xs i z).sender ≡ p
     → flat_map (if_it e ts) (edges_from n xs p) ≡ ts
 once ts [] n i e p z k l s = absurd (omega arith)
 once ts (x ∷ xs) n zero e p z k l s =
@@ -151,7 +151,7 @@ once ts (x ∷ xs) n (suc i) e p z k l s =
     (λ j. ap (λ us. us ++ flat_map (if_it e ts) (edges_from (n + 1) xs p)) (cond-false (n == e) ts [] (not_it_yet n e (omega arith))) ∙ later)
     (λ j. later)
 
-out_edge-once : (flow : Dataflow) (ts : List Stamp) (e : ℕ) → e < length flow.edges → flat_map (if_it e ts) (out_edges flow (sender flow e)) ≡ ts
+out_edge-once : {A : Type 0} (flow : Dataflow) (ts : List A) (e : ℕ) → e < length flow.edges → flat_map (if_it e ts) (out_edges flow (sender flow e)) ≡ ts
 unfolding out_edges sender
 out_edge-once flow ts e l = once ts flow.edges 0 e e _ _ (omega arith) l refl
 
@@ -160,6 +160,37 @@ pub sent-on_edge : (sys : System) (h : List Event) (e : ℕ) (test : List Stamp 
     → stamps_of (filter (is_from e test) (sent_from sys h (sender sys.flow e))) ≡ stamps_with test (sent_messages sys h e)
 sent-on_edge sys h e test l =
     sent-of_edges e test (sent_messages sys h e) (out_edges sys.flow (sender sys.flow e)) ∙ out_edge-once sys.flow (stamps_with test (sent_messages sys h e)) e l
+
+-- whether a message is one of the edge
+abbrev is_on : ℕ → Counted → Bool
+is_on e m = m.edge == e
+
+alone-here : (e d : ℕ) (ms : List Message) → (d == e) ≡ true → filter (is_on e) (map (single_message d) ms) ≡ map (single_message e) ms
+alone-here e d [] k = refl
+alone-here e d (m ∷ ms) k =
+    let rest = filter (is_on e) (map (single_message d) ms) in
+    ap (λ b. cond b (single_message d m ∷ rest) rest) k ∙ ap (λ n. single_message n m ∷ rest) (eqb-true d e k)
+    ∙ ap (λ xs. single_message e m ∷ xs) (alone-here e d ms k)
+
+alone-elsewhere : (e d : ℕ) (ms : List Message) → (d == e) ≡ false → filter (is_on e) (map (single_message d) ms) ≡ []
+alone-elsewhere e d [] k = refl
+alone-elsewhere e d (m ∷ ms) k =
+    let rest = filter (is_on e) (map (single_message d) ms) in
+    ap (λ b. cond b (single_message d m ∷ rest) rest) k ∙ alone-elsewhere e d ms k
+
+alone-of_edges : (e : ℕ) (ms : List Message) (es : List ℕ) → filter (is_on e) (on_each es ms) ≡ flat_map (if_it e (map (single_message e) ms)) es
+alone-of_edges e ms [] = refl
+alone-of_edges e ms (d ∷ es) =
+    filter-append (is_on e) (map (single_message d) ms) (on_each es ms)
+    ∙ ap (λ xs. xs ++ filter (is_on e) (on_each es ms))
+    (cond_both (d == e) (map (single_message e) ms) [] (λ xs. filter (is_on e) (map (single_message d) ms) ≡ xs) (alone-here e d ms) (alone-elsewhere e d ms))
+    ∙ ap (λ xs. if_it e (map (single_message e) ms) d ++ xs) (alone-of_edges e ms es)
+
+-- what was sent on an edge, each message alone, among what its sender sent
+pub alone-on_edge : (sys : System) (h : List Event) (e : ℕ) → e < length sys.flow.edges
+    → filter (is_on e) (sent_from sys h (sender sys.flow e)) ≡ map (single_message e) (sent_messages sys h e)
+alone-on_edge sys h e l =
+    alone-of_edges e (sent_messages sys h e) (out_edges sys.flow (sender sys.flow e)) ∙ out_edge-once sys.flow (map (single_message e) (sent_messages sys h e)) e l
 
 -- ---- where it was sent
 
@@ -178,18 +209,18 @@ out_edges-send flow p =
     from-all (λ e. sender flow e ≡ p) (record { name = []; sender = length flow.nodes; receiver = length flow.nodes }) flow.edges 0 p
     (λ i l e. let s : i ≡ 0 + i = omega arith in subst (λ n. sender flow n ≡ p) s e)
 
-alone-on_edge : (flow : Dataflow) (d : ℕ) (ms : List Message) → AllByRecursion (λ (m : Message). in_domain (bounds_of flow (receiver flow d)) m.at ≡ true) ms
+singles-on_edge : (flow : Dataflow) (d : ℕ) (ms : List Message) → AllByRecursion (λ (m : Message). in_domain (bounds_of flow (receiver flow d)) m.at ≡ true) ms
     → AreOnEdges flow (map (single_message d) ms)
-alone-on_edge flow d [] a = tt
-alone-on_edge flow d (m ∷ ms) a = (a.0, alone-on_edge flow d ms a.1)
+singles-on_edge flow d [] a = tt
+singles-on_edge flow d (m ∷ ms) a = (a.0, singles-on_edge flow d ms a.1)
 
-alone-on_edges : (flow : Dataflow) (p : ℕ) (ms : List Message) (es : List ℕ) → AllByRecursion (λ e. sender flow e ≡ p) es
+singles-on_edges : (flow : Dataflow) (p : ℕ) (ms : List Message) (es : List ℕ) → AllByRecursion (λ e. sender flow e ≡ p) es
     → ((e : ℕ) → sender flow e ≡ p → AllByRecursion (λ (m : Message). in_domain (bounds_of flow (receiver flow e)) m.at ≡ true) ms)
     → AreOnEdges flow (on_each es ms)
-alone-on_edges flow p ms [] a k = tt
-alone-on_edges flow p ms (d ∷ es) a k =
+singles-on_edges flow p ms [] a k = tt
+singles-on_edges flow p ms (d ∷ es) a k =
     each-append (λ (x : Counted). in_domain (bounds_of flow (receiver flow x.edge)) x.at ≡ true) (map (single_message d) ms) (on_each es ms)
-    (alone-on_edge flow d ms (k d a.0)) (alone-on_edges flow p ms es a.1 k)
+    (singles-on_edge flow d ms (k d a.0)) (singles-on_edges flow p ms es a.1 k)
 
 -- what was sent is at stamps of the edges
 pub sent-on_edges : (sys : System) (h : List Event) (p : ℕ)
@@ -197,5 +228,5 @@ pub sent-on_edges : (sys : System) (h : List Event) (p : ℕ)
     → AreOnEdges sys.flow (sent_from sys h p)
 sent-on_edges sys h p k =
     let messages : ℕ → List Message = λ q. sent_by sys q (events_at sys.flow q h) in
-    alone-on_edges sys.flow p (messages p) (out_edges sys.flow p) (out_edges-send sys.flow p)
+    singles-on_edges sys.flow p (messages p) (out_edges sys.flow p) (out_edges-send sys.flow p)
     (λ e s. subst (λ q. AllByRecursion (λ (m : Message). in_domain (bounds_of sys.flow (receiver sys.flow e)) m.at ≡ true) (messages q)) s (k e))

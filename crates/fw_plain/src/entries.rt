@@ -26,8 +26,9 @@ pub(crate) fn entries(course: &Course, view: &[NodeView]) -> Result<Vec<Entry>, 
     ensures { let state = state_of course.now in IfOk result
         (λ entries. AreEntriesOf (sys_of course.now) state entries.items (filter writes.not_collected state.writes)) }
 {
+    let writes = course.writes.as_slice();
     let mut entries = Vec::new(course.alloc);
-    for (id, write) in course.writes.as_slice().iter().enumerate() {
+    for (id, write) in writes.iter().enumerate() {
         if is_there(write) {
             entries.push(entry(course, view, id as u64, write)?)?;
         }

@@ -1,7 +1,7 @@
 //! The events of an engine, under serial numbers that are never used twice.
-ghost use Rattle.std.specs.Prelude.{◌≡◌, reverse, OnOk, OnErr};
+ghost use Rattle.std.specs.Prelude.{◌≡◌, length, reverse, OnOk, OnErr};
 ghost use Rattle.fw_model.specs.Machine.{events};
-ghost use Rattle.fw_plain.specs.Past.{nothing_past, with_one_more, cut_past};
+ghost use Rattle.fw_plain.specs.Past.{nothing_past, under_serials, with_one_more, cut_past};
 
 use crate::restoring::{kept_serials, retain_kept};
 use fw_flow::{Cut, Event, Flow};
@@ -46,6 +46,14 @@ impl Events {
         ensures { events self.now.history ≡ reverse result.now }
     {
         &self.events
+    }
+
+    /// The serial numbers and the events, one for each, the oldest first.
+    pub(crate) fn with_serials(&self) -> (&[u64], &[Event])
+        ensures history { self.now.history ≡ reverse (under_serials result.0.now result.1.now) }
+        ensures one_each { length result.0.now ≡ length result.1.now }
+    {
+        (self.serials.as_slice(), self.events.as_slice())
     }
 
     /// One more event, under the next serial number. The error is want of memory, or of a number after 2^64 events; nothing

@@ -14,6 +14,9 @@ mod ready;
 mod sending;
 mod waiting;
 
+pub(crate) use arrivals::{place, stamp};
+pub(crate) use complete::sent_table;
+
 pub use complete::complete_frontiers;
 pub use next::{injected_count, next_batch, next_message, next_notice};
 pub use outputs::recs_at;

@@ -1,13 +1,14 @@
 -- What a checkpoint holds, by the stamps of all events of its node, is what the machine counts inside its frontier.
-use Rattle.std.proofs.Common.{◌≡◌, ◌⊎◌, inl, inr, ℕ, zero, suc, ◌+◌, ◌<◌, ◌==◌, ◌&&◌, Bool, true, false, cond, List, [], ◌∷◌, ◌++◌, length, map, get_or, take, refl, sym, ◌∙◌, ap, subst, arith}
+use Rattle.std.proofs.Common.{◌≡◌, ◌⊎◌, inl, inr, ℕ, zero, suc, ◌+◌, ◌<◌, ◌==◌, ◌&&◌, Bool, true, false, cond, List, [], ◌∷◌, ◌++◌, length, map, get_or, take, refl, sym, ◌∙◌, ap, subst, Result, IfOk, arith}
 use Rattle.std.specs.List.{AllByRecursion, flat_map, filter}
+use Rattle.std.specs.declared.alloc.AllocError.{AllocError}
 use Rattle.std.proofs.lemmas.Bool.{and_parts, both_ways, cond_both, cond-false, eqb-true, eq-eqb}
 use Rattle.std.proofs.lemmas.List.{take_more}
 use Rattle.fw_time.specs.declared.stamp.Bounds.{Bounds}
 use Rattle.fw_time.specs.Stamp.{Stamp, in_domain}
 use Rattle.fw_time.proofs.EachLaws.{each-weaker, each-one, each-map, each-filter}
 use Rattle.fw_frontier.specs.Frontier.{Frontier, nothing, cover}
-use Rattle.fw_frontier.specs.Front.{Front, inside, frontier_of, IsCanonical}
+use Rattle.fw_frontier.specs.Front.{Front, inside, frontier_of, IsCanonical, IsFrontOf}
 use Rattle.fw_flow.specs.declared.choice.Counted.{Counted}
 use Rattle.fw_flow.specs.declared.choice.Cut.TheVariants.{At}
 use Rattle.fw_flow.specs.declared.choice.OfEdge.{OfEdge}
@@ -47,19 +48,32 @@ on_edge-in_domain flow d test ms a =
     (each-weaker (λ (m : Counted). in_domain (bounds_of flow (receiver flow m.edge)) m.at ≡ true) (λ (m : Counted). (m.edge == d && test m) ≡ true → D m.at) ms
     (λ m i k. subst (λ e. in_domain (bounds_of flow (receiver flow e)) m.at ≡ true) (eqb-true m.edge d (and_parts (m.edge == d) (test m) k).0) i) a))
 
-pub inside_in_domain : (flow : Dataflow) (d : ℕ) (f : Frontier) (ms : List Counted) → AreOnEdges flow ms
-    → AllByRecursion (λ t. in_domain (bounds_of flow (receiver flow d)) t ≡ true) (stamps_on_inside d f ms)
-inside_in_domain flow d f ms a = on_edge-in_domain flow d (λ m. f m.at) ms a
+pub inside_in_domain : (flow : Dataflow) (d : ℕ) (f : Frontier) (ms : List Counted) (ts : List Stamp) → ts ≡ stamps_on_inside d f ms → AreOnEdges flow ms
+    → AllByRecursion (λ t. in_domain (bounds_of flow (receiver flow d)) t ≡ true) ts
+inside_in_domain flow d f ms ts e a =
+    subst (λ (us : List Stamp). AllByRecursion (λ t. in_domain (bounds_of flow (receiver flow d)) t ≡ true) us) (sym e) (on_edge-in_domain flow d (λ m. f m.at) ms a)
 
-pub from_in_domain : (flow : Dataflow) (e : ℕ) (f : Frontier) (ms : List Counted) → AreOnEdges flow ms
-    → AllByRecursion (λ t. in_domain (bounds_of flow (receiver flow e)) t ≡ true) (stamps_on_from e f ms)
-from_in_domain flow e f ms a = on_edge-in_domain flow e (λ m. all_inside f m.causes) ms a
+pub from_in_domain : (flow : Dataflow) (e : ℕ) (f : Frontier) (ms : List Counted) (ts : List Stamp) → ts ≡ stamps_on_from e f ms → AreOnEdges flow ms
+    → AllByRecursion (λ t. in_domain (bounds_of flow (receiver flow e)) t ≡ true) ts
+from_in_domain flow e f ms ts x a =
+    subst (λ (us : List Stamp). AllByRecursion (λ t. in_domain (bounds_of flow (receiver flow e)) t ≡ true) us) (sym x) (on_edge-in_domain flow e (λ m. all_inside f m.causes) ms a)
 
 -- what is inside a frontier is of its domain
-pub filtered_in_domain : (b : Bounds) (f : Front) (ts : List Stamp) → AllByRecursion (λ t. in_domain b t ≡ true) (filter (frontier_of b f) ts)
-filtered_in_domain b f ts =
+filtered-in_domain : (b : Bounds) (f : Front) (ts : List Stamp) → AllByRecursion (λ t. in_domain b t ≡ true) (filter (frontier_of b f) ts)
+filtered-in_domain b f ts =
     each-filter (λ t. in_domain b t ≡ true) (frontier_of b f) ts
     (each-one (λ t. frontier_of b f t ≡ true → in_domain b t ≡ true) ts (λ t k. (and_parts (in_domain b t) (inside f t) k).0))
+
+-- the cover of what is inside a node's frontier
+pub notified_cover : (flow : Dataflow) (p : ℕ) (f : Front) (notices : List Stamp) (b : Bounds) (ts : List Stamp) (r : Result Front AllocError) → b ≡ bounds_of flow p
+    → ts ≡ filter (frontier_of b f) notices → (AllByRecursion (λ s. in_domain b s ≡ true) ts → IfOk r (λ g. IsFrontOf b g (cover b ts)))
+    → IfOk r (λ g. IsFrontOf (bounds_of flow p) g (cover (bounds_of flow p) (filter (node_frontier flow p f) notices)))
+notified_cover flow p f notices b ts r e x k =
+    let Covers : Bounds → Type 0 = λ d. IfOk r (λ g. IsFrontOf d g (cover d (filter (frontier_of d f) notices))) in
+    let its : Covers b =
+    subst (λ (us : List Stamp). IfOk r (λ g. IsFrontOf b g (cover b us))) x
+    (k (subst (λ (us : List Stamp). AllByRecursion (λ s. in_domain b s ≡ true) us) (sym x) (filtered-in_domain b f notices))) in
+    subst Covers e its
 
 -- ---- edges with their covers
 
@@ -139,23 +153,41 @@ out_edges-among : (flow : Dataflow) (e : ℕ) → e < length flow.edges → IsAm
 unfolding out_edges sender
 out_edges-among flow e l = from-among flow.edges 0 e e _ _ (omega arith) l refl
 
+-- a record by its parts
+pub record_by : (flow : Dataflow) (p : ℕ) (stamps : Stamps) (f front notified : Front) (delivered discarded xs ys : List OfEdge) (ds ss : List Counted) (ts : List Stamp)
+    → front ≡ f → ds ≡ stamps.delivered → ts ≡ stamps.notified → ss ≡ stamps.sent → delivered ≡ xs → discarded ≡ ys
+    → AreCovers flow (λ d. stamps_on_inside d (node_frontier flow p f) ds) (in_edges flow p) xs
+    → IsFrontOf (bounds_of flow p) notified (cover (bounds_of flow p) (filter (node_frontier flow p f) ts))
+    → AreCovers flow (λ e. stamps_on_from e (node_frontier flow p f) ss) (final_edges flow p) ys
+    → IsRecordBy flow p stamps f (record { front = front; notified = notified; delivered = delivered; discarded = discarded })
+record_by flow p stamps f front notified delivered discarded xs ys ds ss ts e d n s x y a b c =
+    let g = node_frontier flow p f in
+    record {
+      front = e;
+      delivered = subst (λ (zs : List OfEdge). AreCovers flow (λ q. stamps_on_inside q g stamps.delivered) (in_edges flow p) zs) (sym x)
+          (subst (λ (ms : List Counted). AreCovers flow (λ q. stamps_on_inside q g ms) (in_edges flow p) xs) d a);
+      notified = subst (λ (us : List Stamp). IsFrontOf (bounds_of flow p) notified (cover (bounds_of flow p) (filter g us))) n b;
+      discarded = subst (λ (zs : List OfEdge). AreCovers flow (λ q. stamps_on_from q g stamps.sent) (final_edges flow p) zs) (sym y)
+          (subst (λ (ms : List Counted). AreCovers flow (λ q. stamps_on_from q g ms) (final_edges flow p) ys) s c);
+    }
+
 -- ---- what is recorded is what the machine counts
 
-inside-one : (b : Bool) (t : Stamp) (ts us : List Stamp) (f : Frontier) (m : Counted) (rest : List Counted) → f t ≡ b → m.at ≡ t
-    → map (λ (x : Counted). x.at) rest ≡ us → map (λ (x : Counted). x.at) (cond b (m ∷ rest) rest) ≡ cond b (t ∷ us) us
-inside-one true t ts us f m rest k e h = ap (λ s. s ∷ map (λ (x : Counted). x.at) rest) e ∙ ap (λ (xs : List Stamp). t ∷ xs) h
-inside-one false t ts us f m rest k e h = h
+inside-one : (b : Bool) (m : Counted) (rest : List Counted) (us : List Stamp) → map (λ (x : Counted). x.at) rest ≡ us
+    → map (λ (x : Counted). x.at) (cond b (m ∷ rest) rest) ≡ cond b (m.at ∷ us) us
+inside-one true m rest us h = ap (λ (ts : List Stamp). m.at ∷ ts) h
+inside-one false m rest us h = h
 
-inside-first : (b : Bool) (d : ℕ) (f : Frontier) (m : Counted) (rest more : List Counted) → map (λ (x : Counted). x.at) rest ≡ filter f (map (λ (x : Counted). x.at) more)
+inside-first : (b : Bool) (f : Frontier) (m : Counted) (rest more : List Counted) → map (λ (x : Counted). x.at) rest ≡ filter f (map (λ (x : Counted). x.at) more)
     → map (λ (x : Counted). x.at) (cond (b && f m.at) (m ∷ rest) rest) ≡ filter f (map (λ (x : Counted). x.at) (cond b (m ∷ more) more))
-inside-first true d f m rest more h = inside-one (f m.at) m.at [] (filter f (map (λ (x : Counted). x.at) more)) f m rest refl refl h
-inside-first false d f m rest more h = h
+inside-first true f m rest more h = inside-one (f m.at) m rest (filter f (map (λ (x : Counted). x.at) more)) h
+inside-first false f m rest more h = h
 
 -- the stamps inside are those of the edge, inside
 inside-split : (d : ℕ) (f : Frontier) (ms : List Counted) → stamps_on_inside d f ms ≡ filter f (stamps_on d ms)
 inside-split d f [] = refl
 inside-split d f (m ∷ ms) =
-    inside-first (m.edge == d) d f m (filter (λ (x : Counted). x.edge == d && f x.at) ms) (filter (λ (x : Counted). x.edge == d) ms) (inside-split d f ms)
+    inside-first (m.edge == d) f m (filter (λ (x : Counted). x.edge == d && f x.at) ms) (filter (λ (x : Counted). x.edge == d) ms) (inside-split d f ms)
 
 delivered-counts : (sys : System) (state : Machine) (d : ℕ) (stamps : Stamps) (f : Front) (r : Recorded) → d < length sys.flow.edges
     → way_of sys.flow (receiver sys.flow d) ≡ Checkpoints → AreStampsIn sys (events state.history) (receiver sys.flow d) stamps

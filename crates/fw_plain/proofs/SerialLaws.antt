@@ -1,11 +1,10 @@
 -- Events under serial numbers: which of them are logged, and which has a serial number.
-use Rattle.std.proofs.Common.{◌≡◌, ◌⊎◌, ◌↔◌, inl, inr, ℕ, zero, suc, ◌+◌, ◌<◌, ◌==◌, ◌&&◌, not, Bool, true, false, cond, List, [], ◌∷◌, ◌++◌, length, get_or, drop, reverse, slice_index_or, Option, Some, None, refl, sym, ◌∙◌, ap, subst, append_assoc, arith}
+use Rattle.std.proofs.Common.{◌≡◌, ◌⊎◌, ◌↔◌, inl, inr, ℕ, zero, suc, ◌<◌, ◌==◌, ◌&&◌, not, Bool, true, false, cond, List, [], ◌∷◌, length, reverse, slice_index_or, Some, refl, sym, ◌∙◌, ap, subst, arith}
 use Rattle.std.specs.List.{AllByRecursion, Contains, flat_map, list_any}
 use Rattle.std.proofs.lemmas.Bool.{and_parts, and_from, or_cases, or_left, or_right, both_ways, cases_Bool, false_from_ne_true, not-true, eqb-true, eq-eqb}
-use Rattle.std.proofs.lemmas.List.{drop_more, reverse-append, reverse-reverse}
+use Rattle.std.proofs.lemmas.List.{reverse-append, reverse-reverse}
 use Rattle.std.proofs.lemmas.List.Elements.{Contains-append_cases, Contains-append_left, Contains-append_right}
 use Rattle.fw_time.specs.Stamp.{Stamp}
-use Rattle.fw_flow.specs.declared.event.Event.{Event}
 use Rattle.fw_flow.specs.Dataflow.{System, Dataflow}
 use Rattle.fw_flow.specs.NodeFunction.{event_node, event_stamp}
 use Rattle.fw_model.specs.Choice.{ever, is_counted, IsLogged}
@@ -14,7 +13,6 @@ use Rattle.fw_model.specs.Machine.{Machine, SerialEvent, Write, Written, checkpo
 use Rattle.fw_model.proofs.WriteLaws.{HoldsOfOne, NamesEvent, LogsEvent, some-logged, logged-some}
 use Rattle.fw_policy.specs.View.{IsEventAt, HasEventAt, IsLostAt}
 use Rattle.fw_plain.specs.Offered.{holds_event, logs_event, is_logged, unlogged_stamp, unlogged_stamps, stamp_of_serial}
-use Rattle.fw_plain.specs.Past.{under_serials}
 
 -- ---- what a list has
 
@@ -70,65 +68,6 @@ cond-from false x y c = absurd (contains-none y c)
 cond-to : {A : Type 0} (b : Bool) (x : A) → b ≡ true → Contains (cond b (x ∷ []) []) x
 cond-to true x k = contains-head x []
 cond-to false x k = absurd (cc)
-
--- ---- a loop over events with their serial numbers
-
--- the next event with its serial number
-under-drop : (ns : List ℕ) (vs : List Event) (i n : ℕ) (v : Event) → i < length ns → i < length vs → n ≡ get_or ns i 0 → v ≡ get_or vs i v
-    → under_serials (drop i ns) (drop i vs) ≡ record { serial = n; event = v } ∷ under_serials (drop (i + 1) ns) (drop (i + 1) vs)
-under-drop ns vs i n v l m a b =
-    ap (λ (xs : List ℕ). under_serials xs (drop i vs)) (drop_more ns i 0 l ∙ ap (λ k. k ∷ drop (i + 1) ns) (sym a))
-    ∙ ap (λ (ws : List Event). under_serials (n ∷ drop (i + 1) ns) ws) (drop_more vs i v m ∙ ap (λ (w : Event). w ∷ drop (i + 1) vs) (sym b))
-
-pub unlogged_more : (flow : Dataflow) (p : ℕ) (writes : List Write) (ns : List ℕ) (vs : List Event) (i n : ℕ) (v : Event) (ts next all : List Stamp) (t : Stamp)
-    → length ns ≡ length vs → i < length vs → n ≡ get_or ns i 0 → v ≡ get_or vs i v → (event_node flow v == p && not (is_logged writes n)) ≡ true → t ≡ event_stamp v
-    → next ≡ ts ++ t ∷ [] → ts ++ unlogged_stamps flow p writes (under_serials (drop i ns) (drop i vs)) ≡ all
-    → next ++ unlogged_stamps flow p writes (under_serials (drop (i + 1) ns) (drop (i + 1) vs)) ≡ all
-unlogged_more flow p writes ns vs i n v ts next all t same l a b k e x h =
-    let rest = unlogged_stamps flow p writes (under_serials (drop (i + 1) ns) (drop (i + 1) vs)) in
-    let there : i < length ns = omega arith in
-    ap (λ (ys : List Stamp). ys ++ rest) x ∙ append_assoc ts (t ∷ []) rest
-    ∙ ap (λ (s : Stamp). ts ++ (s ∷ rest)) e
-    ∙ sym (ap (λ us. ts ++ unlogged_stamps flow p writes us) (under-drop ns vs i n v there l a b) ∙ ap (λ c. ts ++ (cond c (event_stamp v ∷ []) [] ++ rest)) k) ∙ h
-
-pub unlogged_same : (flow : Dataflow) (p : ℕ) (writes : List Write) (ns : List ℕ) (vs : List Event) (i n : ℕ) (v : Event) (ts next all : List Stamp)
-    → length ns ≡ length vs → i < length vs → n ≡ get_or ns i 0 → v ≡ get_or vs i v → (event_node flow v == p && not (is_logged writes n)) ≡ false
-    → next ≡ ts → ts ++ unlogged_stamps flow p writes (under_serials (drop i ns) (drop i vs)) ≡ all
-    → next ++ unlogged_stamps flow p writes (under_serials (drop (i + 1) ns) (drop (i + 1) vs)) ≡ all
-unlogged_same flow p writes ns vs i n v ts next all same l a b k x h =
-    let rest = unlogged_stamps flow p writes (under_serials (drop (i + 1) ns) (drop (i + 1) vs)) in
-    let there : i < length ns = omega arith in
-    ap (λ (ys : List Stamp). ys ++ rest) x
-    ∙ sym (ap (λ us. ts ++ unlogged_stamps flow p writes us) (under-drop ns vs i n v there l a b) ∙ ap (λ c. ts ++ (cond c (event_stamp v ∷ []) [] ++ rest)) k) ∙ h
-
-serial-next : (flow : Dataflow) (p serial : ℕ) (ns : List ℕ) (vs : List Event) (i n : ℕ) (v : Event) (b : Bool) → length ns ≡ length vs → i < length vs
-    → n ≡ get_or ns i 0 → v ≡ get_or vs i v → (n == serial && event_node flow v == p) ≡ b
-    → stamp_of_serial flow p serial (under_serials (drop i ns) (drop i vs))
-    ≡ cond b (Some (event_stamp v)) (stamp_of_serial flow p serial (under_serials (drop (i + 1) ns) (drop (i + 1) vs)))
-serial-next flow p serial ns vs i n v b same l a e k =
-    let there : i < length ns = omega arith in
-    let rest = stamp_of_serial flow p serial (under_serials (drop (i + 1) ns) (drop (i + 1) vs)) in
-    ap (stamp_of_serial flow p serial) (under-drop ns vs i n v there l a e) ∙ ap (λ c. cond c (Some (event_stamp v)) rest) k
-
-pub serial_there : (flow : Dataflow) (p serial : ℕ) (ns : List ℕ) (vs : List Event) (i n : ℕ) (v : Event) (all : Option Stamp) (t : Stamp) → length ns ≡ length vs → i < length vs
-    → n ≡ get_or ns i 0 → v ≡ get_or vs i v → (n == serial && event_node flow v == p) ≡ true → t ≡ event_stamp v
-    → stamp_of_serial flow p serial (under_serials (drop i ns) (drop i vs)) ≡ all → Some t ≡ all
-serial_there flow p serial ns vs i n v all t same l a e k s h = ap Some s ∙ sym (serial-next flow p serial ns vs i n v true same l a e k) ∙ h
-
-pub serial_later : (flow : Dataflow) (p serial : ℕ) (ns : List ℕ) (vs : List Event) (i n : ℕ) (v : Event) (all : Option Stamp) → length ns ≡ length vs → i < length vs
-    → n ≡ get_or ns i 0 → v ≡ get_or vs i v → (n == serial && event_node flow v == p) ≡ false
-    → stamp_of_serial flow p serial (under_serials (drop i ns) (drop i vs)) ≡ all
-    → stamp_of_serial flow p serial (under_serials (drop (i + 1) ns) (drop (i + 1) vs)) ≡ all
-serial_later flow p serial ns vs i n v all same l a e k h = sym (serial-next flow p serial ns vs i n v false same l a e k) ∙ h
-
--- past the last event none is left
-pub serial_none : (flow : Dataflow) (p serial : ℕ) (ns : List ℕ) (vs : List Event) (i : ℕ) (all : Option Stamp) → length ns ≡ length vs → i ≡ length vs
-    → stamp_of_serial flow p serial (under_serials (drop i ns) (drop i vs)) ≡ all → None ≡ all
-serial_none flow p serial ns vs i all same e h =
-    sym (ap (λ k. stamp_of_serial flow p serial (under_serials (drop k ns) (drop i vs))) (e ∙ sym same) ∙ ap (λ (xs : List ℕ). stamp_of_serial flow p serial (under_serials xs (drop i vs))) (drop_all ns)) ∙ h
-  where
-    drop_all : (xs : List ℕ) → drop (length xs) xs ≡ []
-    drop_all xs = grind (arith)
 
 -- ---- which events are logged
 

@@ -1,9 +1,11 @@
 -- What is known of each node is so in the state.
 use Rattle.std.proofs.Common.{◌≡◌, ◌+◌, ◌<◌, ℕ, zero, suc, ◌==◌, Bool, true, false, List, [], ◌∷◌, ◌++◌, length, map, reverse, get_or, refl, sym, ◌∙◌, ap, subst, arith}
 use Rattle.std.specs.List.{AllByRecursion, Contains, flat_map, filter}
+use Rattle.std.proofs.lemmas.List.{get_or_default}
 use Rattle.fw_time.specs.Stamp.{Stamp, in_domain}
 use Rattle.fw_time.proofs.EachLaws.{each-append, each-map, each-weaker}
 use Rattle.fw_time.proofs.StampLaws.{leq-refl}
+use Rattle.fw_bag.specs.declared.rec.Rec.{Rec}
 use Rattle.fw_frontier.specs.Frontier.{Frontier, everything}
 use Rattle.fw_frontier.specs.Thinned.{IsBelowKept, IsThinned}
 use Rattle.fw_lines.specs.Batches.{batches_at}
@@ -149,13 +151,18 @@ pub is_sequence : (kind : Kind) → is_sequence_kind kind ≡ true → kind ≡ 
 is_sequence Sequence k = refl
 is_sequence kind k = absurd (cc)
 
--- a node that is no input and no output does not meet it
-pub border_inner : (sys : System) (state : Machine) (p : ℕ) (kind : Kind) → (kind ≡ Input → ⊥) → (kind ≡ OutputEpoch → ⊥) → (kind ≡ OutputNumber → ⊥)
-    → IsBorderOf sys state p kind Inner
-border_inner sys state p Input a b c = absurd (a refl)
-border_inner sys state p OutputEpoch a b c = absurd (b refl)
-border_inner sys state p OutputNumber a b c = absurd (c refl)
-border_inner sys state p kind a b c = refl
+-- what an input injected
+pub source_counts : (flow : Dataflow) (batches : List (ℕ × List (List Rec))) (h k : List Event) (p q n m : ℕ) → p < length flow.nodes → h ≡ k → n ≡ injected_count p k
+    → m ≡ length (batches_at batches q) → q ≡ p → (n ≡ injected_count p h) × ((n == m) ≡ is_exhausted (system_of flow batches) h p)
+source_counts flow batches h k p q n m l e i b s =
+    let sys : System = system_of flow batches in
+    let injected : n ≡ injected_count p h = i ∙ ap (injected_count p) (sym e) in
+    let there : m ≡ length (batches_of sys p) = b ∙ ap (λ x. length (batches_at batches x)) s ∙ sym (ap length (batches_there flow batches p l)) in
+    (injected, ap (λ x. x == m) injected ∙ ap (λ x. injected_count p h == x) there)
+
+-- what stands at a node's place
+pub at_place : {A : Type 0} (xs : List A) (q p : ℕ) (x d : A) → x ≡ get_or xs q x → q ≡ p → p < length xs → x ≡ get_or xs p d
+at_place xs q p x d e s l = e ∙ ap (λ k. get_or xs k x) s ∙ get_or_default xs p x d l
 
 -- ---- the views of the nodes
 
@@ -182,8 +189,7 @@ stamps-from sys h n (v ∷ view) (suc p) d a l =
     let e : suc n + p ≡ n + suc p = omega arith in
     subst (λ k. AreStampsIn sys h k (get_or view p d).stamps) e (stamps-from sys h (suc n) view p d a.1 (omega arith))
 
-pub stamps_at : (sys : System) (h : List Event) (view : List NodeView) (p : ℕ) (node : NodeView) → HaveStampsFrom sys h 0 view → p < length view
-    → node ≡ get_or view p node → AreStampsIn sys h p node.stamps
-stamps_at sys h view p node a l e =
-    let same : 0 + p ≡ p = omega arith in
-    subst (λ (x : NodeView). AreStampsIn sys h p x.stamps) (sym e) (subst (λ k. AreStampsIn sys h k (get_or view p node).stamps) same (stamps-from sys h 0 view p node a l))
+pub stamps_at : (sys : System) (h : List Event) (view : List NodeView) (q p : ℕ) (d : NodeView) → HaveStampsFrom sys h 0 view → q ≡ p → q < length view
+    → AreStampsIn sys h p (get_or view q d).stamps
+stamps_at sys h view q p d a e l =
+    let same : 0 + q ≡ p = omega arith in subst (λ k. AreStampsIn sys h k (get_or view q d).stamps) same (stamps-from sys h 0 view q d a l)

@@ -1,10 +1,10 @@
 -- What the plain engine stands for.
-use Rattle.std.specs.Prelude.{◌≡◌, ℕ, ◌<◌, Bool, List, length}
+use Rattle.std.specs.Prelude.{◌≡◌, ℕ, ◌<◌, Bool, List, [], map, length}
 use Rattle.fw_frontier.specs.Front.{IsCanonical}
-use Rattle.fw_flow.specs.Dataflow.{System, system_of, bounds_of}
+use Rattle.fw_flow.specs.Dataflow.{System, system_of, bounds_of, KeepsNothing, NotifiesNobody, node_ids}
 use Rattle.fw_flow.specs.declared.step.Step.{Step}
 use Rattle.fw_flow.specs.WellFormed.{IsWellFormedSystem}
-use Rattle.fw_model.specs.Machine.{Machine, first_state, front_of}
+use Rattle.fw_model.specs.Machine.{Machine, first_state, no_stamps, front_of}
 use Rattle.fw_model.specs.Steps.{Effect, silent, acked, cuts, Outcome, did, idle, StepsTo, Run}
 use Rattle.fw_plain.specs.declared.course.Course.{Course}
 use Rattle.fw_plain.specs.declared.stepped.Effect.{Effect as Shown}
@@ -22,16 +22,16 @@ pub record Standing : Type 0 where
 abbrev pub sys_of : Course → System
 sys_of course = system_of course.flow course.batches
 
--- the state of the machine that a course stands for
+-- the state of the machine that a course stands for: nothing was written or collected
 abbrev pub state_of : Course → Machine
 state_of course = record {
   history = course.history.history;
   next = course.history.next;
   settled = course.settled.items;
-  writes = course.writes;
+  writes = [];
   failed = course.failed.items;
   ack_counts = course.ack_counts.items;
-  low = course.low.items;
+  low = map (λ p. no_stamps (bounds_of course.flow p)) (node_ids course.flow);
 }
 
 -- steps lead to the state from the first one
@@ -44,11 +44,12 @@ pub record IsOfEachNode (sys : System) (state : Machine) : Type 0 where
   pub canonical : (p : ℕ) → p < length sys.flow.nodes → IsCanonical (bounds_of sys.flow p) (front_of state.settled p)
   pub one_flag_each : length state.failed ≡ length sys.flow.nodes
   pub one_count_each : length state.ack_counts ≡ length sys.flow.nodes
-  pub one_low_each : length state.low ≡ length sys.flow.nodes
 
 -- what is true of each state of an engine
 pub record IsSound (sys : System) (state : Machine) : Type 0 where
   pub well_formed : IsWellFormedSystem sys
+  pub keeps_nothing : KeepsNothing sys.flow
+  pub notifies_nobody : NotifiesNobody sys.flow
   pub reached : IsReached sys state
   pub of_each_node : IsOfEachNode sys state
 

@@ -10,4 +10,3 @@ pub mod Past
 pub mod Ready
 pub mod Shown
 pub mod Wanted
-pub mod Written

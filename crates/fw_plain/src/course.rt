@@ -12,10 +12,9 @@ ghost use Rattle.fw_plain.specs.Engine.{IsSound, Takes, sys_of, state_of};
 use crate::events::Events;
 use crate::failed::{any_failed, any_live, is_failed, none_failed, with_failed};
 use crate::fronts::{any_grows, cut_each, grown, no_stamps_each};
-use crate::offers::{Lost, offers};
+use crate::offers::offers;
 use crate::output::{has_delivery_at, has_delivery_from, has_epoch};
 use crate::scan::{complete_frontiers, next_batch, next_message, recs_at};
-use crate::writes::Writes;
 use crate::{Effect, Stepped};
 use fw_flow::{Choice, EdgeId, Event, Flow, Kind, NodeId, Step};
 use fw_frontier::Front;
@@ -36,8 +35,6 @@ pub(crate) struct Course {
     pub(crate) settled: Vec<Front>,
     pub(crate) failed: Vec<bool>,
     pub(crate) ack_counts: Vec<u64>,
-    pub(crate) writes: Writes,
-    pub(crate) low: Vec<Front>,
 }
 
 impl Course {
@@ -49,7 +46,6 @@ impl Course {
         let settled = no_stamps_each(alloc, &flow)?;
         let failed = none_failed(alloc, &flow)?;
         let ack_counts = vec![in alloc; 0; flow.nodes()]?;
-        let low = no_stamps_each(alloc, &flow)?;
         Ok(Course {
             alloc,
             flow,
@@ -58,8 +54,6 @@ impl Course {
             settled,
             failed,
             ack_counts,
-            writes: Writes::new(alloc),
-            low,
         })
     }
 
@@ -180,7 +174,7 @@ impl Course {
         ensures { IfOk result (λ choice. IsLargest (sys_of self.now) (state_of self.now)
             (spec_offers (sys_of self.now) (state_of self.now)) choice) }
     {
-        let offers = offers(self, &Lost::Failed)?;
+        let offers = offers(self)?;
         largest(self.alloc, &self.flow, &offers)
     }
 

@@ -13,7 +13,6 @@ mod offers;
 mod recorded;
 mod stamps;
 mod view;
-mod writes;
 mod output;
 mod restoring;
 pub mod scan;

@@ -39,7 +39,6 @@ pub(crate) fn recorded(
 }
 
 /// The cover of what a node was notified of inside the frontier.
-#[tactic(auto, using(crate::proofs::CoverLaws::filtered_in_domain))]
 fn notified(
     alloc: Global,
     flow: &Flow,

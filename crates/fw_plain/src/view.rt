@@ -1,9 +1,10 @@
 //! What is known of each node, for what it offers to a recovery.
-ghost use Rattle.std.specs.Prelude.{◌≡◌, ◌<◌, ◌↔◌, length, IfOk};
+ghost use Rattle.std.specs.Prelude.{◌≡◌, ◌<◌, ◌↔◌, true, length, IfOk};
 ghost use Rattle.std.specs.List.{Contains};
 ghost use Rattle.fw_time.specs.Stamp.{Stamp as Time};
 ghost use Rattle.fw_flow.specs.declared.kind.Policy.TheVariants as policies;
 ghost use Rattle.fw_flow.specs.Dataflow.{kind_of, policy_of};
+ghost use Rattle.fw_model.specs.Machine as machine;
 ghost use Rattle.fw_model.specs.Machine.{events};
 ghost use Rattle.fw_policy.specs.View.{AreNodeViewsFrom, IsBorderOf, IsLostAt, IsNodeViewOf};
 ghost use Rattle.fw_plain.specs.Engine.{IsSound, sys_of, state_of};
@@ -92,11 +93,22 @@ fn lost_stamps(course: &Course, node: NodeId) -> Result<Notices, AllocError>
     ensures { policy_of course.now.flow node ≡ policies.Full → IfOk result (λ ts. (t : Time)
         → Contains ts t ↔ IsLostAt (sys_of course.now) (state_of course.now) node t) }
 {
-    if course.flow.policy(node) != Policy::Full || !is_failed(&course.failed, node) {
+    if !has_losses(course, node) {
         return Ok(Notices::of(Vec::new(course.alloc)));
     }
     let (serials, events) = course.history.with_serials();
     let writes = course.writes.as_slice();
     let stamps = unlogged_stamps(course.alloc, &course.flow, node, serials, events, writes)?;
     Ok(Notices::of(stamps))
+}
+
+/// Whether events may have been lost with a node: it logs each event, and failed.
+fn has_losses(course: &Course, node: NodeId) -> bool
+    ensures failed { result ≡ true → machine.is_failed (state_of course.now) node ≡ true }
+    ensures full { policy_of course.now.flow node ≡ policies.Full → result ≡ machine.is_failed (state_of course.now) node }
+{
+    match course.flow.policy(node) {
+        Policy::Full => is_failed(&course.failed, node),
+        Policy::None | Policy::Lazy | Policy::Logged | Policy::Eager => false,
+    }
 }

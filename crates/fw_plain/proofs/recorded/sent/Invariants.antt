@@ -6,4 +6,4 @@ use Rattle.fw_plain.proofs.recorded.sent.Given as goal
 
 abbrev pub invariant-loop-edge : goal.invariant-loop-edge
 invariant-loop-edge l =
-    AreCovers l.flow (λ e. stamps_on_from e (node_frontier l.flow l.node l.front) l.messages) (take l.edge-index l.edge-items) l.covers.items
+    AreCovers l.flow (λ e. stamps_on_from e (node_frontier l.flow l.fn.node l.front) l.messages) (take l.edge-index l.edge-items) l.covers.items

@@ -18,3 +18,4 @@ pub mod StampLists
 pub mod StampSteps
 pub mod StepLaws
 pub mod ViewLaws
+pub mod WritesLaws

@@ -8,9 +8,7 @@ ghost use Rattle.fw_plain.specs.Offered as spec;
 ghost use Rattle.fw_plain.specs.Offered.{AreStampsIn};
 
 use crate::scan::sent_by;
-use fw_flow::{
-    Counted, CountedMessages, EdgeId, Event, Flow, Message, NodeId, Notices, Stamps,
-};
+use fw_flow::{Counted, CountedMessages, EdgeId, Event, Flow, Message, NodeId, Notices, Stamps};
 use fw_lines::Batches;
 use fw_time::Stamp;
 use std::alloc::{AllocError, Global};

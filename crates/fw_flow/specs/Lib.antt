@@ -23,4 +23,3 @@ pub mod Step
 pub mod Walks
 pub mod WellFormed
 pub mod WholeBags
-pub mod SortedMessages

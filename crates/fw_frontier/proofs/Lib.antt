@@ -13,4 +13,3 @@ pub mod CornerLaws
 pub mod PlaneSteps
 pub mod PlaneLaws
 pub mod LeastLaws
-pub mod ThinnedLaws

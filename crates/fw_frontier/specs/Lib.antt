@@ -9,4 +9,3 @@ pub mod Stairs
 pub mod StairsLaw
 pub mod Domain
 pub mod Planes
-pub mod Thinned

@@ -1,13 +1,12 @@
 //! What holds of frontiers, and of the frontiers of every type of times. Each function carries its laws as clauses, and
 //! does nothing.
-ghost use Rattle.std.specs.Prelude.{◌≡◌, ℕ, Bool, true, false, not, ◌&&◌, ◌||◌, List, [], ◌∷◌, length, map, filter};
+ghost use Rattle.std.specs.Prelude.{◌≡◌, ℕ, Bool, true, false, not, ◌&&◌, ◌||◌, List, [], ◌∷◌, length, map};
 ghost use Rattle.std.specs.List.{AllByRecursion};
 ghost use Rattle.fw_time.specs.declared.stamp.Bounds.{Bounds as Domain};
 ghost use Rattle.fw_time.specs.Stamp.{leq, glb, in_domain};
-ghost use Rattle.fw_frontier.specs.Frontier.{IsFrontier, Within, some_above, cover, without_above};
+ghost use Rattle.fw_frontier.specs.Frontier.{IsFrontier, Within, some_above, without_above};
 ghost use Rattle.fw_frontier.specs.Front.{inside, frontier_of, IsCanonical, IsFrontOf};
 ghost use Rattle.fw_frontier.specs.Least.{AreLeastOf};
-ghost use Rattle.fw_frontier.specs.Thinned.{IsThinned};
 ghost use Rattle.fw_frontier.specs.Domain.{IsOfDomain};
 
 use crate::{Frontier, Logical};
@@ -49,12 +48,6 @@ pub fn fronts_are_frontiers()
 pub fn cut_is_largest()
     ensures { (bounds : Domain) (s : List ℕ) (f g : List ℕ → Bool) → IsFrontier bounds g → Within g f
         → in_domain bounds s ≡ true → g s ≡ false → Within g (without_above s f) }
-{}
-
-/// Stamps that are thinned inside a base cover the same as all of them, inside each set that holds the base.
-pub fn thinned_stamps_cover_the_same()
-    ensures { (bounds : Domain) (base : List ℕ → Bool) (all kept : List (List ℕ)) → IsThinned base all kept
-        → (f : List ℕ → Bool) → Within base f → cover bounds (filter f kept) ≡ cover bounds (filter f all) }
 {}
 
 /// A front comes back from a type of times as the same list.

@@ -13,9 +13,9 @@ use Rattle.fw_model.specs.History.{sent_messages, message_on, delivered_messages
 use Rattle.fw_flow.proofs.MessageLaws.{message_cmp-equal}
 use Rattle.fw_model.proofs.SentLaws.{copy, IsSub, is_among-copies, less-weigh, delivered-was_sent}
 use Rattle.fw_model.proofs.WeightLaws.{weigh, weigh-append}
-use Rattle.fw_flow.specs.SortedMessages.{sorted_messages, with_messages}
+use Rattle.fw_model.specs.SortedMessages.{sorted_messages, with_messages}
 use Rattle.fw_model.specs.LawsOfPending.{SentIsDeliveredAndPending, sent_on, PendingFollowsEvents}
-use Rattle.fw_model.proofs.SortedLaws.{ascending-in_order, in_order-weigh, same_from_copies, same_in_order, ascending-less, ascending-with_messages, with_messages-weigh}
+use Rattle.fw_model.proofs.SortedLaws.{ascending-sorted_messages, sorted_messages-weigh, same_from_copies, same_sorted_messages, ascending-less, ascending-with_messages, with_messages-weigh}
 
 -- what is pending weighs what was sent and not delivered
 pending-weigh : (sys : System) (h : List Event) → IsLegal sys h → (e : ℕ) (w : Message → ℕ) → weigh w (pending_messages sys h e) + weigh w (delivered_messages h e) ≡ weigh w (sent_messages sys h e)
@@ -23,7 +23,7 @@ pending-weigh sys h l e w = less-weigh w (sent_messages sys h e) (delivered_mess
 
 pub sent-both : SentIsDeliveredAndPending
 sent-both sys h l e =
-    same_in_order (sent_messages sys h e) (delivered_messages h e ++ pending_messages sys h e)
+    same_sorted_messages (sent_messages sys h e) (delivered_messages h e ++ pending_messages sys h e)
     (λ q.
     let a = pending-weigh sys h l e (copy q) in
     let b = weigh-append (copy q) (delivered_messages h e) (pending_messages sys h e) in
@@ -77,16 +77,16 @@ pending-follows sys h v l e =
     let now = pending_messages sys (v ∷ h) e in
     let on = message_on e v in
     let new = sent_on sys h e v in
-    same_from_copies (sorted_messages now) (with_messages new (messages_less (sorted_messages old) on)) (ascending-in_order now)
-    (ascending-with_messages new (messages_less (sorted_messages old) on) (ascending-less (sorted_messages old) on (ascending-in_order old)))
+    same_from_copies (sorted_messages now) (with_messages new (messages_less (sorted_messages old) on)) (ascending-sorted_messages now)
+    (ascending-with_messages new (messages_less (sorted_messages old) on) (ascending-less (sorted_messages old) on (ascending-sorted_messages old)))
     (λ q.
     let w = copy q in
-    let a = in_order-weigh w now in
+    let a = sorted_messages-weigh w now in
     let b = pending-weigh sys (v ∷ h) l e w in
     let c = weigh-append w on (delivered_messages h e) in
     let d = sent-more sys h v e w in
     let f = pending-weigh sys h l.1 e w in
     let g = with_messages-weigh w new (messages_less (sorted_messages old) on) in
-    let i = less-weigh w (sorted_messages old) on (λ x. let y = in_order-weigh (copy x) old in let z = message-sub sys h v l.0 e x in omega arith) in
-    let j = in_order-weigh w old in
+    let i = less-weigh w (sorted_messages old) on (λ x. let y = sorted_messages-weigh (copy x) old in let z = message-sub sys h v l.0 e x in omega arith) in
+    let j = sorted_messages-weigh w old in
     omega arith)

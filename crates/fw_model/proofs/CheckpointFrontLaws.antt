@@ -1,11 +1,9 @@
 -- No two checkpoints of a node have one front, and none is of no stamps: one is asked where what is settled differs from the newest,
 -- or where it grew.
-use Rattle.std.proofs.Common.{◌≡◌, ℕ, ◌<◌, Bool, true, false, not, ◌&&◌, ◌==◌, List, [], ◌∷◌, ◌++◌, length, map, refl, sym, ap, subst, ◌∙◌}
+use Rattle.std.proofs.Common.{◌≡◌, ℕ, ◌<◌, Bool, true, false, not, ◌&&◌, ◌==◌, List, [], ◌∷◌, ◌++◌, length, map, refl, sym, subst, ◌∙◌}
 use Rattle.std.specs.Prelude.{filter}
 use Rattle.std.specs.List.{AllByRecursion}
-use Rattle.std.specs.Ordering.{is_eq}
 use Rattle.std.proofs.lemmas.Bool.{and_parts, cond_both, eqb-true, not-true}
-use Rattle.std.proofs.lemmas.Cmp.{tied_itself, lists_total}
 use Rattle.fw_time.proofs.EachLaws.{each-weaker, each-both, each-one, each-append, each-map}
 use Rattle.fw_time.specs.declared.stamp.Bounds.{Bounds}
 use Rattle.fw_frontier.specs.Frontier.{Within}
@@ -22,11 +20,9 @@ use Rattle.fw_flow.specs.WellFormed.{IsWellFormedSystem}
 use Rattle.fw_model.specs.Machine.{Machine, SerialEvent, Write, Written, checkpoint, logged_event, acknowledged, no_stamps, first_state, front_of}
 use Rattle.fw_model.specs.Choice.{cut_of, filtered_history}
 use Rattle.fw_model.specs.Steps.{Effect, Outcome, did, idle, write_of_event, with_event, is_eager, eager_writes, checkpoint_of, is_asked_for_checkpoints, checkpoint_front, checkpoints_of, last_or, newest_checkpoint, is_one_of, is_in_flight, is_kept_write, lies_below, after_collection, front_of_cut, LeadsTo, Run}
-use Rattle.fw_model.specs.Writes.{takes_checkpoints}
 use Rattle.fw_model.proofs.AskedLaws.{takes-declared, IsApart, IsAskedWell, IsWriteAskedWell, CanRecoverAndRestore, took-reached, first-reached, reached-all, eager-takes, asked-takes, front-same}
 use Rattle.fw_model.proofs.CheckpointLaws.{HoldsSettled, IsWriteSettled, each-passed, each-replaced, settled-grows}
 use Rattle.fw_model.proofs.ChoiceLaws.{same_fronts}
-use Rattle.fw_model.proofs.CmpLaws.{stamp_total}
 use Rattle.fw_model.proofs.Decisions.{two_ways}
 use Rattle.fw_model.proofs.LowLaws.{none-canonical, none-within}
 use Rattle.fw_model.proofs.WriteLaws.{ArePairs}

@@ -21,9 +21,9 @@ use Rattle.fw_model.proofs.OncePerNumberLaws.{any_at}
 use Rattle.fw_model.proofs.SentLaws.{copy, is_among-copies}
 use Rattle.fw_time.proofs.StampLaws.{same-is}
 use Rattle.fw_model.proofs.WeightLaws.{weigh, weigh-lighter}
-use Rattle.fw_flow.specs.SortedMessages.{sorted_messages}
+use Rattle.fw_model.specs.SortedMessages.{sorted_messages}
 use Rattle.fw_model.specs.LawsOfPending.{IsNumberedFrom, GoesOn, FirstPendingIsNext}
-use Rattle.fw_model.proofs.SortedLaws.{IsAscendingMessages, ascending-in_order, in_order-weigh}
+use Rattle.fw_model.proofs.SortedLaws.{IsAscendingMessages, ascending-sorted_messages, sorted_messages-weigh}
 use Rattle.fw_model.proofs.PendingNumberLaws.{of_message, many-weigh, copy-lighter, numbers-go_on}
 
 -- ---- among
@@ -122,11 +122,11 @@ first-at : (sys : System) (h : List Event) (e : ℕ) → GoesOn sys h e → (m :
 first-at sys h e g m rest i =
     let ms = pending_messages sys h e in
     let n = length (delivered_messages h e) in
-    let weighs : (q : Message) → weigh (copy q) ms ≡ weigh (copy q) (m ∷ rest) = λ q. sym (in_order-weigh (copy q) ms) ∙ ap (weigh (copy q)) i in
+    let weighs : (q : Message) → weigh (copy q) ms ≡ weigh (copy q) (m ∷ rest) = λ q. sym (sorted_messages-weigh (copy q) ms) ∙ ap (weigh (copy q)) i in
     let among = among-same m (m ∷ rest) ms (sym (weighs m)) (first-among m rest) in
     let number = among-each (IsNumberedFrom n) m ms among g.none_lesser in
     let other = at-some (n ∷ []) ms (g.next m among) in
-    let least = first-least m rest (subst IsAscendingMessages i (ascending-in_order ms)) other.0 (among-same other.0 ms (m ∷ rest) (weighs other.0) other.1) in
+    let least = first-least m rest (subst IsAscendingMessages i (ascending-sorted_messages ms)) other.0 (among-same other.0 ms (m ∷ rest) (weighs other.0) other.1) in
     let low = least-number m other.0 number.0 n number.2 (sym other.2) least in
     let high = number.1 in
     let is : number.0 ≡ n = omega arith in

@@ -111,7 +111,7 @@ until-left sys keep s k test (Inject q x ∷ h) l =
           subst (λ m. AreLeft k m (injected_count s (kept_events sys.flow keep (Inject q x ∷ h)))) (sym (more h))
           (cond_both (keep q (x ∷ [])) (Inject q x ∷ rest) rest (λ ws. AreLeft k (n + 1) (injected_count s ws))
           (λ c.
-          let messages_less = ltb-true x k (sym passes ∙ c) in
+          let lesser = ltb-true x k (sym passes ∙ c) in
           subst (AreLeft k (n + 1)) (sym (more rest)) (left-more k n left (omega arith) a))
           (λ c. elim (cases_lt x k) [
             | inl m ↦ absurd (two_cases (keep q (x ∷ [])) (passes ∙ lt-ltb x k m) c)

@@ -82,6 +82,7 @@ pub mod SubBagLaws
 pub mod SumLaws
 pub mod TableLaws
 pub mod TallyLaws
+pub mod ThinnedLaws
 pub mod TimedCounts
 pub mod TimedLaws
 pub mod WeightLaws

@@ -3,7 +3,7 @@ use Rattle.std.proofs.Common.{◌≡◌, ℕ, ◌<◌, Bool, true, false, not, �
 use Rattle.std.specs.List.{AllByRecursion}
 use Rattle.std.proofs.lemmas.Bool.{or_parts, or_cases, or_left, or_right, cond_both, eqb-true, eq-eqb}
 use Rattle.std.proofs.lemmas.List.FromFn.{get_or-map-range_with_len}
-use Rattle.fw_time.proofs.EachLaws.{each-weaker, each-both, each-append, each-one, each-map, each-suffix}
+use Rattle.fw_time.proofs.EachLaws.{each-weaker, each-both, each-append, each-one, each-map}
 use Rattle.fw_time.specs.Stamp.{in_domain}
 use Rattle.fw_frontier.specs.Front.{Front, frontier_of, same_front}
 use Rattle.fw_flow.specs.declared.choice.Choice.{Choice}
@@ -23,14 +23,14 @@ use Rattle.fw_model.specs.Machine.{Machine, SerialEvent, Write, Written, checkpo
 use Rattle.fw_model.specs.Choice.{kept, IsLogged, IsRestorable, IsCandidate, IsLargest, cut_of, kept_of, filtered_history}
 use Rattle.fw_model.specs.Covers.{set_of}
 use Rattle.fw_model.specs.Steps.{Effect, Outcome, did, idle, LeadsTo, Run, write_of_event, with_event, checkpoint_of, is_eager, is_one_of, is_in_flight, with_failed, without_lost, has_serial, is_kept_write, kept_writes, recovered_state, front_of_cut, lies_below, after_collection, collected_writes, offers, AcknowledgesOldest}
-use Rattle.fw_model.specs.Writes.{HasOne, LogsSerial}
+use Rattle.fw_model.specs.Writes.{LogsSerial}
 use Rattle.fw_model.proofs.Decisions.{two_ways}
 use Rattle.fw_model.proofs.LegalLaws.{legal_events-in_domain}
 use Rattle.fw_model.proofs.DomainLaws.{has_epochs}
 use Rattle.fw_model.proofs.CheckpointLaws.{each-passed, each-replaced}
 use Rattle.fw_model.proofs.ChoosingLaws.{settled_writes}
 use Rattle.fw_model.proofs.WriteLaws.{HoldsOfOne, some-weaker, some-append, some-passed, some-mapped, some-replaced, NamesEvent, LogsEvent, some-logged, ArePairs, pairs-append, pairs-passed, pairs-mapped, pairs-replaced}
-use Rattle.fw_model.proofs.AskedLaws.{AreSerialsBelow, serials-each, IsAskedWell, IsWriteAskedWell, IsApart, each-each, CanRecoverAndRestore, took-reached, first-reached, reached-all}
+use Rattle.fw_model.proofs.AskedLaws.{AreSerialsBelow, serials-each, IsAskedWell, IsWriteAskedWell, each-each, CanRecoverAndRestore, took-reached, first-reached, reached-all}
 use Rattle.fw_model.proofs.RestoringLaws.{apart-events, all-logged, full-restoring, full-declared, some-both, only-one}
 use Rattle.fw_model.proofs.LowLaws.{at_most-refl}
 use Rattle.fw_model.specs.LawsOfWrites.{HasEventOf, HasItsEvent, serial_of, logged_serials, AreIncreasing, AreLatestFirst, LoggedEventsAreInOrder, IsLoggedFor, LiveNodesLogEachEvent}

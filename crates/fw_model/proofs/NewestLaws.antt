@@ -9,7 +9,7 @@ use Rattle.fw_flow.specs.Dataflow.{System, kind_of, policy_of, bounds_of}
 use Rattle.fw_model.specs.Machine.{SerialEvent, Write, Written, checkpoint, logged_event, Stage, in_flight, acknowledged, collected, front_of}
 use Rattle.fw_model.specs.Choice.{kept, is_counted, IsRestorable}
 use Rattle.fw_model.specs.Steps.{checkpoint_front, checkpoints_of, last_or, lies_below}
-use Rattle.fw_model.specs.Writes.{takes_checkpoints}
+use Rattle.fw_model.specs.Writes.{takes_checkpoints, is_collected, not_collected}
 use Rattle.fw_model.proofs.Decisions.{two_ways}
 use Rattle.fw_model.proofs.FilterLaws.{filter-in, filter-out}
 use Rattle.fw_model.proofs.WriteLaws.{HoldsOfOne, IsCheckpointAt, IsItsCheckpoint, some-checkpoint, LiesBelow, IsWriteBelow, AreAscending}
@@ -18,7 +18,7 @@ use Rattle.fw_model.proofs.LowLaws.{none-within}
 use Rattle.fw_model.proofs.SameInsideLaws.{low-offered}
 use Rattle.fw_model.proofs.AskedLaws.{takes-declared, takes-restoring, IsAskedWell, IsWriteAskedWell, AreAskedWell, reached-all, last-append}
 use Rattle.fw_model.proofs.ForgottenLaws.{collected-below}
-use Rattle.fw_model.specs.LawsOfWrites.{is_collected, not_collected, NewestCheckpointIsKept}
+use Rattle.fw_model.specs.LawsOfWrites.{NewestCheckpointIsKept}
 
 -- ---- the fronts of checkpoints
 

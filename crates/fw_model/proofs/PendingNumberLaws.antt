@@ -1,6 +1,6 @@
 -- What is pending on a numbered edge goes on where its deliveries end: what is sent there has the numbers 0, 1, 2 and so on, one
 -- message at each, and so has what was delivered.
-use Rattle.std.proofs.Common.{◌≡◌, ◌⊎◌, ℕ, zero, suc, ◌+◌, ◌<◌, ◌≤◌, Bool, true, false, cond, nat_le, nat_lt, List, [], ◌∷◌, ◌++◌, length, Option, Some, None, refl, sym, ap, subst, ◌∙◌, inl, inr, arith}
+use Rattle.std.proofs.Common.{◌≡◌, ℕ, zero, suc, ◌+◌, ◌<◌, ◌≤◌, Bool, true, false, cond, nat_le, nat_lt, List, [], ◌∷◌, ◌++◌, length, refl, sym, ap, subst, ◌∙◌, inl, inr, arith}
 use Rattle.std.specs.List.{AllByRecursion}
 use Rattle.std.specs.Ordering.{is_eq}
 use Rattle.std.proofs.lemmas.Bool.{cases_Bool, cases_lt, cond_both, cond-true, cond-false, or_left, or_right, lt-ltb, ltb-true}
@@ -12,8 +12,8 @@ use Rattle.fw_flow.specs.declared.event.Event.{Event}
 use Rattle.fw_flow.specs.declared.event.Event.TheVariants.{Inject, Deliver, Notify}
 use Rattle.fw_flow.specs.declared.event.Message.{Message}
 use Rattle.fw_flow.specs.declared.kind.Kind.{Kind}
-use Rattle.fw_flow.specs.declared.kind.Kind.TheVariants.{Input, OutputEpoch, OutputNumber, Select, Concat, Distinct, Join, Sum, Enter, Feedback, Leave, Total, Sequence, Ledger, Regroup}
-use Rattle.fw_flow.specs.Dataflow.{System, Dataflow, kind_of, sender, greatest_number, domain_within, out_domain_of_kind, is_of_numbers, is_numbered, is_input_kind, is_output_kind}
+use Rattle.fw_flow.specs.declared.kind.Kind.TheVariants.{Sequence, Ledger}
+use Rattle.fw_flow.specs.Dataflow.{System, kind_of, sender, greatest_number, is_of_numbers, is_numbered, is_input_kind, is_output_kind}
 use Rattle.fw_flow.specs.NodeFunction.{recs_on_notification, numbered_messages, sequence_sent, sent_by}
 use Rattle.fw_flow.specs.Projection.{events_at, first_coordinate}
 use Rattle.fw_flow.specs.WellFormed.{IsWellFormed}

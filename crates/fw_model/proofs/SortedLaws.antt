@@ -6,7 +6,7 @@ use Rattle.std.specs.declared.cmp.Ordering.TheVariants.{Less, Equal, Greater}
 use Rattle.std.specs.List.{AllByRecursion}
 use Rattle.std.specs.Ordering.{ordering_reverse, is_eq, is_le, is_gt}
 use Rattle.std.proofs.lemmas.Bool.{cond_both, cases_Bool, cases_lt}
-use Rattle.std.proofs.lemmas.Cmp.{tied_itself, upto}
+use Rattle.std.proofs.lemmas.Cmp.{upto}
 use Rattle.fw_time.proofs.EachLaws.{each-kept}
 use Rattle.fw_bag.proofs.OrderingLaws.{gt_of, le_not_gt}
 use Rattle.fw_flow.specs.declared.event.Message.{Message}
@@ -14,7 +14,7 @@ use Rattle.fw_flow.specs.Message.{message_cmp, messages_without, messages_less}
 use Rattle.fw_flow.proofs.MessageLaws.{message_total, message_cmp-same, message_cmp-equal}
 use Rattle.fw_model.proofs.WeightLaws.{weigh}
 use Rattle.fw_model.proofs.SentLaws.{copy, without-weigh, copy-self}
-use Rattle.fw_flow.specs.SortedMessages.{with_message, sorted_messages, with_messages}
+use Rattle.fw_model.specs.SortedMessages.{with_message, sorted_messages, with_messages}
 
 -- ---- ascending lists
 
@@ -31,9 +31,9 @@ each-with_message P m (x ∷ xs) p a =
     (λ e. (p, a)) (λ e. (a.0, each-with_message P m xs p a.1))
 
 -- what holds of each message holds of each in order
-pub each-in_order : (P : Message → Type 0) (xs : List Message) → AllByRecursion P xs → AllByRecursion P (sorted_messages xs)
-each-in_order P [] a = tt
-each-in_order P (x ∷ xs) a = each-with_message P x (sorted_messages xs) a.0 (each-in_order P xs a.1)
+pub each-sorted_messages : (P : Message → Type 0) (xs : List Message) → AllByRecursion P xs → AllByRecursion P (sorted_messages xs)
+each-sorted_messages P [] a = tt
+each-sorted_messages P (x ∷ xs) a = each-with_message P x (sorted_messages xs) a.0 (each-sorted_messages P xs a.1)
 
 above-weaker : (m x : Message) (xs : List Message) → is_gt (message_cmp m x) ≡ false → AllByRecursion (λ y. is_gt (message_cmp x y) ≡ false) xs
     → AllByRecursion (λ y. is_gt (message_cmp m y) ≡ false) xs
@@ -51,10 +51,10 @@ ascending-with_message m (x ∷ xs) a =
     (each-with_message (λ y. is_gt (message_cmp x y) ≡ false) m xs g a.0, ascending-with_message m xs a.1))
 
 -- what is in order ascends
-pub ascending-in_order : (xs : List Message) → IsAscendingMessages (sorted_messages xs)
+pub ascending-sorted_messages : (xs : List Message) → IsAscendingMessages (sorted_messages xs)
 unfolding IsAscendingMessages
-ascending-in_order [] = tt
-ascending-in_order (x ∷ xs) = ascending-with_message x (sorted_messages xs) (ascending-in_order xs)
+ascending-sorted_messages [] = tt
+ascending-sorted_messages (x ∷ xs) = ascending-with_message x (sorted_messages xs) (ascending-sorted_messages xs)
 
 -- ---- what a list weighs in order
 
@@ -66,10 +66,10 @@ with_message-weigh w m (x ∷ xs) =
     cond_both (is_le (message_cmp m x)) (m ∷ x ∷ xs) (x ∷ with_message m xs) (λ ys. weigh w ys ≡ w m + weigh w (x ∷ xs))
     (λ e. refl) (λ e. omega arith)
 
-pub in_order-weigh : (w : Message → ℕ) (xs : List Message) → weigh w (sorted_messages xs) ≡ weigh w xs
+pub sorted_messages-weigh : (w : Message → ℕ) (xs : List Message) → weigh w (sorted_messages xs) ≡ weigh w xs
 unfolding weigh
-in_order-weigh w [] = refl
-in_order-weigh w (x ∷ xs) = let h = in_order-weigh w xs in let a = with_message-weigh w x (sorted_messages xs) in omega arith
+sorted_messages-weigh w [] = refl
+sorted_messages-weigh w (x ∷ xs) = let h = sorted_messages-weigh w xs in let a = with_message-weigh w x (sorted_messages xs) in omega arith
 
 -- ---- lists that have the same messages
 
@@ -108,10 +108,10 @@ same_cases x y xs ys s t h ih Less e =
     let z = none-less x y ys e t.0 in
     absurd (omega arith)
 same_cases x y xs ys s t h ih Greater e =
-    let messages_less : message_cmp y x ≡ Less = message_total.antisymm y x ∙ ap ordering_reverse e in
+    let lesser : message_cmp y x ≡ Less = message_total.antisymm y x ∙ ap ordering_reverse e in
     let a = h y in
     let b = copy-self y in
-    let z = none-less y x xs messages_less s.0 in
+    let z = none-less y x xs lesser s.0 in
     absurd (omega arith)
 same_cases x y xs ys s t h ih Equal e =
     let same : x ≡ y = message_cmp-same x y e in
@@ -128,20 +128,20 @@ same_from_copies (x ∷ xs) [] s t h = let a = h x in let b = copy-self x in abs
 same_from_copies (x ∷ xs) (y ∷ ys) s t h = same_cases x y xs ys s t h (same_from_copies xs ys s.1 t.1) (message_cmp x y) refl
 
 -- lists that have each message equally often are one list in order
-pub same_in_order : (xs ys : List Message) → ((q : Message) → weigh (copy q) xs ≡ weigh (copy q) ys) → sorted_messages xs ≡ sorted_messages ys
-same_in_order xs ys h =
-    same_from_copies (sorted_messages xs) (sorted_messages ys) (ascending-in_order xs) (ascending-in_order ys)
-    (λ q. in_order-weigh (copy q) xs ∙ h q ∙ sym (in_order-weigh (copy q) ys))
+pub same_sorted_messages : (xs ys : List Message) → ((q : Message) → weigh (copy q) xs ≡ weigh (copy q) ys) → sorted_messages xs ≡ sorted_messages ys
+same_sorted_messages xs ys h =
+    same_from_copies (sorted_messages xs) (sorted_messages ys) (ascending-sorted_messages xs) (ascending-sorted_messages ys)
+    (λ q. sorted_messages-weigh (copy q) xs ∙ h q ∙ sym (sorted_messages-weigh (copy q) ys))
 
 -- ---- what ascends
 
 -- what ascends is in order
-pub in_order-ascending : (xs : List Message) → IsAscendingMessages xs → sorted_messages xs ≡ xs
-in_order-ascending xs a = same_from_copies (sorted_messages xs) xs (ascending-in_order xs) a (λ q. in_order-weigh (copy q) xs)
+pub sorted_messages-ascending : (xs : List Message) → IsAscendingMessages xs → sorted_messages xs ≡ xs
+sorted_messages-ascending xs a = same_from_copies (sorted_messages xs) xs (ascending-sorted_messages xs) a (λ q. sorted_messages-weigh (copy q) xs)
 
 -- what is in order stays so
-pub in_order-twice : (xs : List Message) → sorted_messages (sorted_messages xs) ≡ sorted_messages xs
-in_order-twice xs = in_order-ascending (sorted_messages xs) (ascending-in_order xs)
+pub sorted_messages-twice : (xs : List Message) → sorted_messages (sorted_messages xs) ≡ sorted_messages xs
+sorted_messages-twice xs = sorted_messages-ascending (sorted_messages xs) (ascending-sorted_messages xs)
 
 -- what passes a test ascends
 pub ascending-filter : (test : Message → Bool) (xs : List Message) → IsAscendingMessages xs → IsAscendingMessages (filter test xs)
@@ -184,9 +184,9 @@ with_messages-weigh w (m ∷ ms) xs =
     omega arith
 
 -- two lists in order are the second in order, with the first put in
-pub in_order-append : (xs ys : List Message) → sorted_messages (xs ++ ys) ≡ with_messages xs (sorted_messages ys)
-in_order-append [] ys = refl
-in_order-append (x ∷ xs) ys = ap (with_message x) (in_order-append xs ys)
+pub sorted_messages-append : (xs ys : List Message) → sorted_messages (xs ++ ys) ≡ with_messages xs (sorted_messages ys)
+sorted_messages-append [] ys = refl
+sorted_messages-append (x ∷ xs) ys = ap (with_message x) (sorted_messages-append xs ys)
 
 -- ---- in order without some messages
 
@@ -199,25 +199,25 @@ none-without m (x ∷ xs) z = elim (cases_Bool (is_eq (message_cmp m x))) [
 ]
 
 -- a list without a message, in order, is the list in order without it
-pub in_order-without : (m : Message) (xs : List Message) → sorted_messages (messages_without m xs) ≡ messages_without m (sorted_messages xs)
-in_order-without m xs = elim (cases_lt 0 (weigh (copy m) xs)) [
+pub sorted_messages-without : (m : Message) (xs : List Message) → sorted_messages (messages_without m xs) ≡ messages_without m (sorted_messages xs)
+sorted_messages-without m xs = elim (cases_lt 0 (weigh (copy m) xs)) [
   | inl l ↦
-      let there = in_order-weigh (copy m) xs in
-      same_from_copies (sorted_messages (messages_without m xs)) (messages_without m (sorted_messages xs)) (ascending-in_order (messages_without m xs)) (ascending-without m (sorted_messages xs) (ascending-in_order xs))
+      let there = sorted_messages-weigh (copy m) xs in
+      same_from_copies (sorted_messages (messages_without m xs)) (messages_without m (sorted_messages xs)) (ascending-sorted_messages (messages_without m xs)) (ascending-without m (sorted_messages xs) (ascending-sorted_messages xs))
       (λ q.
-      let a = in_order-weigh (copy q) (messages_without m xs) in
+      let a = sorted_messages-weigh (copy q) (messages_without m xs) in
       let b = without-weigh (copy q) m xs l in
       let c = without-weigh (copy q) m (sorted_messages xs) (omega arith) in
-      let d = in_order-weigh (copy q) xs in
+      let d = sorted_messages-weigh (copy q) xs in
       omega arith)
   | inr l ↦
-      let there = in_order-weigh (copy m) xs in
+      let there = sorted_messages-weigh (copy m) xs in
       ap sorted_messages (none-without m xs (omega arith)) ∙ sym (none-without m (sorted_messages xs) (omega arith))
 ]
 
-pub in_order-less : (xs ds : List Message) → sorted_messages (messages_less xs ds) ≡ messages_less (sorted_messages xs) ds
-in_order-less xs [] = refl
-in_order-less xs (d ∷ ds) = in_order-without d (messages_less xs ds) ∙ ap (messages_without d) (in_order-less xs ds)
+pub sorted_messages-less : (xs ds : List Message) → sorted_messages (messages_less xs ds) ≡ messages_less (sorted_messages xs) ds
+sorted_messages-less xs [] = refl
+sorted_messages-less xs (d ∷ ds) = sorted_messages-without d (messages_less xs ds) ∙ ap (messages_without d) (sorted_messages-less xs ds)
 
 -- ---- in order, what passes a test
 
@@ -251,9 +251,9 @@ filter-copies test q (x ∷ xs) =
     ]
 
 -- what passes a test, in order, is what passes of the list in order
-pub in_order-filter : (test : Message → Bool) (xs : List Message) → sorted_messages (filter test xs) ≡ filter test (sorted_messages xs)
-in_order-filter test xs =
-    same_from_copies (sorted_messages (filter test xs)) (filter test (sorted_messages xs)) (ascending-in_order (filter test xs)) (ascending-filter test (sorted_messages xs) (ascending-in_order xs))
+pub sorted_messages-filter : (test : Message → Bool) (xs : List Message) → sorted_messages (filter test xs) ≡ filter test (sorted_messages xs)
+sorted_messages-filter test xs =
+    same_from_copies (sorted_messages (filter test xs)) (filter test (sorted_messages xs)) (ascending-sorted_messages (filter test xs)) (ascending-filter test (sorted_messages xs) (ascending-sorted_messages xs))
     (λ q.
-    in_order-weigh (copy q) (filter test xs) ∙ filter-copies test q xs ∙ ap (λ n. cond (test q) n 0) (sym (in_order-weigh (copy q) xs))
+    sorted_messages-weigh (copy q) (filter test xs) ∙ filter-copies test q xs ∙ ap (λ n. cond (test q) n 0) (sym (sorted_messages-weigh (copy q) xs))
     ∙ sym (filter-copies test q (sorted_messages xs)))

@@ -11,7 +11,7 @@ use Rattle.fw_flow.specs.Projection.{events_at}
 use Rattle.fw_flow.specs.WellFormed.{IsWellFormed}
 use Rattle.fw_model.specs.History.{IsDeliverable, IsLegal, some_at, sent_messages, message_on, delivered_messages, pending_messages}
 use Rattle.fw_flow.specs.Message.{is_among, messages_less}
-use Rattle.fw_flow.specs.SortedMessages.{sorted_messages, with_messages}
+use Rattle.fw_model.specs.SortedMessages.{sorted_messages, with_messages}
 
 -- in a legal history the messages that were sent on an edge are, as a bag, those that were delivered and those that are pending
 abbrev pub SentIsDeliveredAndPending : Type 0

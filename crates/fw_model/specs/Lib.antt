@@ -33,6 +33,8 @@ pub mod Order
 pub mod Resending
 pub mod Sending
 pub mod Settled
+pub mod SortedMessages
 pub mod Steps
+pub mod Thinned
 pub mod Unions
 pub mod Writes

@@ -27,12 +27,13 @@ ghost use Rattle.fw_model.specs.LawsOfSteps.{ExactlyOneNextState, OneNextState, 
 ghost use Rattle.fw_model.specs.LawsOfInjections.{InjectedEpochsAreInOrder, UntilLeavesThatMany};
 ghost use Rattle.fw_model.specs.LawsOfPending.{FirstPendingIsNext, PendingFollowsEvents, PendingNumbersGoOn, SentIsDeliveredAndPending};
 ghost use Rattle.fw_model.specs.LawsOfWrites.{LiveNodesLogEachEvent, LoggedEventsAreInOrder, NewestCheckpointIsKept};
+ghost use Rattle.fw_model.specs.Thinned.{ThinnedStampsCoverTheSame};
 
 // The laws of times and of frontiers, each over every type of times, and that of dataflows.
 pub use fw_flow::laws::ranks_exist;
 pub use fw_frontier::laws::{
     cut_is_largest, domain_decides, fronts_are_frontiers, greatest_covers_all,
-    one_list_names_a_frontier, round_trip, stays_in_domain, thinned_stamps_cover_the_same,
+    one_list_names_a_frontier, round_trip, stays_in_domain,
 };
 pub use fw_time::laws::{least_upper_bound, partial_order};
 
@@ -761,4 +762,9 @@ pub fn replayed_events_are_those_not_given_up()
 /// outside the receiver's low watermark, what all its events sent from inside the cut.
 pub fn replayed_events_send_the_same()
     ensures { ReplayedEventsSendTheSame }
+{}
+
+/// Stamps that are thinned inside a base cover the same as all of them, inside each set that holds the base.
+pub fn thinned_stamps_cover_the_same()
+    ensures { ThinnedStampsCoverTheSame }
 {}

@@ -4,7 +4,7 @@ use Rattle.std.specs.List.{AllByRecursion, Contains, flat_map}
 use Rattle.fw_time.specs.Stamp.{Stamp, in_domain}
 use Rattle.fw_frontier.specs.Frontier.{Frontier, everything}
 use Rattle.fw_frontier.specs.Front.{Front}
-use Rattle.fw_frontier.specs.Thinned.{IsThinned}
+use Rattle.fw_model.specs.Thinned.{IsThinned}
 use Rattle.fw_flow.specs.declared.choice.Counted.{Counted}
 use Rattle.fw_flow.specs.declared.choice.Cut.TheVariants.{At}
 use Rattle.fw_flow.specs.declared.choice.Recorded.{Recorded}

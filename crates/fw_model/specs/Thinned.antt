@@ -1,8 +1,9 @@
 -- Stamps that are thinned inside a base, so that they cover the same.
-use Rattle.std.specs.Prelude.{◌≡◌, true, false, List}
+use Rattle.std.specs.Prelude.{◌≡◌, true, false, List, filter}
 use Rattle.std.specs.List.{AllByRecursion, Contains}
 use Rattle.fw_time.specs.Stamp.{Stamp, leq}
-use Rattle.fw_frontier.specs.Frontier.{Frontier}
+use Rattle.fw_time.specs.declared.stamp.Bounds.{Bounds}
+use Rattle.fw_frontier.specs.Frontier.{Frontier, Within, cover}
 
 -- a kept stamp inside the base that is this one or greater
 pub record IsBelowKept (base : Frontier) (kept : List Stamp) (t : Stamp) : Type 0 where
@@ -17,3 +18,8 @@ pub record IsThinned (base : Frontier) (all kept : List Stamp) : Type 0 where
   pub among : AllByRecursion (Contains all) kept
   pub outside : AllByRecursion (λ t. base t ≡ false → Contains kept t) all
   pub inside : AllByRecursion (λ t. base t ≡ true → IsBelowKept base kept t) all
+
+-- stamps that are thinned inside a base cover the same as all of them, inside each set that holds the base
+abbrev pub ThinnedStampsCoverTheSame : Type 0
+ThinnedStampsCoverTheSame = (bounds : Bounds) (base : Frontier) (all kept : List Stamp) → IsThinned base all kept
+    → (f : Frontier) → Within base f → cover bounds (filter f kept) ≡ cover bounds (filter f all)

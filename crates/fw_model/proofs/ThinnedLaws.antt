@@ -1,13 +1,13 @@
 -- Thinned stamps cover the same: what lacks lies at or below a kept one inside the base.
-use Rattle.std.proofs.Common.{◌≡◌, ℕ, zero, suc, ◌<◌, Bool, true, false, cond, ◌&&◌, List, [], ◌∷◌, refl, sym, ap, ◌∙◌, inl, inr, subst, arith}
+use Rattle.std.proofs.Common.{◌≡◌, ℕ, zero, suc, ◌<◌, true, false, cond, ◌&&◌, List, [], ◌∷◌, refl, sym, ap, ◌∙◌, inl, inr, subst, arith}
 use Rattle.std.specs.Prelude.{filter, length, slice_index_or}
 use Rattle.std.specs.List.{AllByRecursion, Contains}
 use Rattle.std.proofs.lemmas.Bool.{or_cases, or_left, or_right, cond_both, cases_Bool}
 use Rattle.fw_time.specs.Stamp.{Stamp, leq, in_domain}
-use Rattle.fw_time.specs.declared.stamp.Bounds.{Bounds}
 use Rattle.fw_time.proofs.StampLaws.{leq-trans}
 use Rattle.fw_frontier.specs.Frontier.{Frontier, Within, some_above, cover}
-use Rattle.fw_frontier.specs.Thinned.{IsBelowKept, IsThinned}
+use Rattle.fw_model.specs.Thinned.{IsBelowKept, IsThinned, ThinnedStampsCoverTheSame}
+use Rattle.fw_model.proofs.PsiLaws.{same_tests}
 
 -- ---- elements
 
@@ -79,17 +79,10 @@ from-all base all kept h f w t u = elim (cases_Bool (base u.above)) [
   }
 ]
 
-both_true : (a b : Bool) → (a ≡ true → b ≡ true) → (b ≡ true → a ≡ true) → a ≡ b
-both_true true true f g = refl
-both_true true false f g = sym (f refl)
-both_true false true f g = g refl
-both_true false false f g = refl
-
-pub thinned-covers : (bounds : Bounds) (base : Frontier) (all kept : List Stamp) → IsThinned base all kept → (f : Frontier) → Within base f
-    → cover bounds (filter f kept) ≡ cover bounds (filter f all)
+pub thinned-covers : ThinnedStampsCoverTheSame
 thinned-covers bounds base all kept h f w = λ i t. at t i
   where
     at : (t : Stamp) → cover bounds (filter f kept) t ≡ cover bounds (filter f all) t
-    at t = ap (λ b. in_domain bounds t && b) (both_true (some_above (filter f kept) t) (some_above (filter f all) t)
+    at t = ap (λ b. in_domain bounds t && b) (same_tests (some_above (filter f kept) t) (some_above (filter f all) t)
         (λ k. under-above f all t (from-kept base all kept h f t (above-under f kept t k)))
         (λ k. under-above f kept t (from-all base all kept h f w t (above-under f all t k))))

@@ -1,0 +1,11 @@
+pub mod BatchLaws
+pub mod CodeLaws
+pub mod KnownLaws
+pub mod NumberLaws
+pub mod OfferLaws
+pub mod RangeLaws
+pub mod RecordLaws
+pub mod RecordedLaws
+pub mod SentLaws
+pub mod UnloggedLaws
+pub mod WayLaws

@@ -1,0 +1,78 @@
+-- What counts of a sequence: the last of its numbers covers all of them, and its table says what comes from a frontier.
+use Rattle.std.proofs.Common.{◌≡◌, ℕ, Bool, true, false, ◌&&◌, List, [], ◌∷◌, ◌++◌, map, refl, sym, ◌∙◌, ap}
+use Rattle.std.specs.Prelude.{filter}
+use Rattle.std.specs.List.{AllByRecursion}
+use Rattle.std.proofs.lemmas.Bool.{and_from, cases_Bool}
+use Rattle.std.proofs.Common.{inl, inr}
+use Rattle.fw_time.specs.Stamp.{Stamp, in_domain}
+use Rattle.fw_time.specs.declared.stamp.Bounds.{Bounds}
+use Rattle.fw_time.proofs.EachLaws.{each-weaker, each-append}
+use Rattle.fw_frontier.specs.Frontier.{Frontier, everything, cover}
+use Rattle.fw_model.proofs.ThinnedLaws.{thinned-covers}
+use Rattle.fw_flow.specs.declared.choice.Counted.{Counted}
+use Rattle.fw_flow.specs.declared.event.Event.{Event}
+use Rattle.fw_flow.specs.declared.event.Message.{Message}
+use Rattle.fw_flow.specs.declared.kind.Kind.{Kind}
+use Rattle.fw_flow.specs.declared.kind.Kind.TheVariants.{Sequence}
+use Rattle.fw_flow.specs.Dataflow.{System, kind_of, sender, receiver, bounds_of, is_sequence_kind, bounds_of_domain, out_domain_of_kind, greatest_of_kind}
+use Rattle.fw_flow.specs.NodeFunction.{event_stamp, sent_by, sends}
+use Rattle.fw_flow.specs.Projection.{all_inside, events_at, phi_of_kind, phi, phi_by_count, sent_count}
+use Rattle.fw_model.specs.Covers.{stamps_from}
+use Rattle.fw_model.specs.History.{sent_messages}
+use Rattle.fw_model.specs.Offers.{stamps_on_from}
+use Rattle.fw_model.proofs.FilterLaws.{filter-all}
+use Rattle.fw_model.proofs.LocalityLaws.{sends-causes}
+use Rattle.fw_policy.specs.View.{StandForNumbered}
+
+-- ---- all of it
+
+inside-one : (f : Frontier) (t : Stamp) (cs : List Stamp) → f t ≡ true → cs ≡ t ∷ [] → all_inside f cs ≡ true
+inside-one f t cs k e = ap (all_inside f) e ∙ and_from (f t) true k refl
+
+causes-everything : (sys : System) (p : ℕ) (b : Bounds) (vs : List Event) → AllByRecursion (λ v. in_domain b (event_stamp v) ≡ true) vs
+    → AllByRecursion (λ (m : Message). all_inside (everything b) m.causes ≡ true) (sent_by sys p vs)
+causes-everything sys p b [] d = tt
+causes-everything sys p b (v ∷ vs) d =
+    each-append _ (sends sys p vs v) (sent_by sys p vs)
+    (each-weaker (λ (m : Message). m.causes ≡ event_stamp v ∷ []) (λ m. all_inside (everything b) m.causes ≡ true) (sends sys p vs v)
+    (λ m e. inside-one (everything b) (event_stamp v) m.causes d.0 e) (sends-causes sys p vs v))
+    (causes-everything sys p b vs d.1)
+
+filter-true : {A : Type 0} (xs : List A) → filter (λ x. true) xs ≡ xs
+filter-true [] = refl
+filter-true (x ∷ xs) = ap (λ ys. x ∷ ys) (filter-true xs)
+
+-- what stands for a sequence covers all that it sent
+pub numbered-covers : (sys : System) (h : List Event) (e : ℕ) (ms : List Counted) → StandForNumbered sys h e ms
+    → AllByRecursion (λ v. in_domain (bounds_of sys.flow (sender sys.flow e)) (event_stamp v) ≡ true) (events_at sys.flow (sender sys.flow e) h)
+    → cover (bounds_of sys.flow (receiver sys.flow e)) (stamps_on_from e (everything (bounds_of sys.flow (sender sys.flow e))) ms)
+    ≡ cover (bounds_of sys.flow (receiver sys.flow e)) (stamps_from (everything (bounds_of sys.flow (sender sys.flow e))) (sent_messages sys h e))
+numbered-covers sys h e ms s d =
+    let b = bounds_of sys.flow (receiver sys.flow e) in
+    let p = sender sys.flow e in
+    let every = everything (bounds_of sys.flow p) in
+    let kept = stamps_on_from e every ms in
+    let all = map (λ (m : Message). m.at) (sent_messages sys h e) in
+    ap (λ (ts : List Stamp). cover b ts) (sym (filter-true kept))
+    ∙ thinned-covers b (everything b) all kept s (λ t. true) (λ t i. refl)
+    ∙ ap (λ (ts : List Stamp). cover b ts) (filter-true all)
+    ∙ ap (λ (xs : List Message). cover b (map (λ (m : Message). m.at) xs))
+    (sym (filter-all (λ (m : Message). all_inside every m.causes) (sent_messages sys h e) (causes-everything sys p (bounds_of sys.flow p) (events_at sys.flow p h) d)))
+
+-- ---- what comes from a frontier
+
+count-idle : (greatest : Stamp) (kind : Kind) (c d : ℕ) (f : Frontier) → is_sequence_kind kind ≡ false → phi_of_kind greatest kind c f ≡ phi_of_kind greatest kind d f
+count-idle greatest Sequence c d f k = absurd (cc)
+count-idle greatest kind c d f k = refl
+
+-- it is a sequence's count that plays a part
+pub counted-arrive : (sys : System) (h : List Event) (e : ℕ) (c : ℕ) (f : Frontier)
+    → (is_sequence_kind (kind_of sys.flow (sender sys.flow e)) ≡ true → c ≡ sent_count sys h (sender sys.flow e) f)
+    → phi_by_count sys.flow c e f ≡ phi sys h e f
+unfolding phi phi_by_count
+counted-arrive sys h e c f k = elim (cases_Bool (is_sequence_kind (kind_of sys.flow (sender sys.flow e)))) [
+  | inl s ↦ ap (λ n. phi_by_count sys.flow n e f) (k s)
+  | inr n ↦ λ i u.
+      in_domain (bounds_of_domain sys.flow (out_domain_of_kind sys.flow (kind_of sys.flow (sender sys.flow e)))) u
+      && count-idle (greatest_of_kind sys.flow (kind_of sys.flow (sender sys.flow e))) (kind_of sys.flow (sender sys.flow e)) c (sent_count sys h (sender sys.flow e) f) f n i u
+]

@@ -1,0 +1,60 @@
+-- By what nodes are restored, by their kinds and policies.
+use Rattle.std.proofs.Common.{◌≡◌, ◌⊎◌, inl, inr, ℕ, false, [], ◌∷◌, refl, ap}
+use Rattle.fw_flow.specs.declared.kind.Kind.{Kind}
+use Rattle.fw_flow.specs.declared.kind.Kind.TheVariants.{Input, OutputEpoch, OutputNumber}
+use Rattle.fw_flow.specs.declared.kind.Policy.{Policy}
+use Rattle.fw_flow.specs.declared.kind.Policy.TheVariants as policy
+use Rattle.fw_flow.specs.declared.restoring.Restoring.TheVariants.{Bound, Checkpoints, Events}
+use Rattle.fw_flow.specs.Dataflow.{Dataflow, kind_of, policy_of, bounds_of, bounds_of_domain, domain_of_kind, greatest_number}
+use Rattle.fw_flow.specs.Restoring.{restoring_of_policy, restoring, way_of}
+use Rattle.fw_model.specs.Covers.{takes_its_notices}
+
+-- what is restored to what it acknowledged is an output
+pub bound-output : (kind : Kind) (p : Policy) → restoring kind p ≡ Bound → (kind ≡ OutputEpoch) ⊎ (kind ≡ OutputNumber)
+bound-output Input p e = cc
+bound-output OutputEpoch p e = inl refl
+bound-output OutputNumber p e = inr refl
+bound-output kind p e = absurd (not_bound p e)
+  where
+    not_bound : (p : Policy) → restoring_of_policy p ≡ Bound → ⊥
+    not_bound policy.None e = cc
+    not_bound policy.Lazy e = cc
+    not_bound policy.Logged e = cc
+    not_bound policy.Eager e = cc
+    not_bound policy.Full e = cc
+
+-- and its domain is that of epochs or of numbers
+pub bound-numbers : (flow : Dataflow) (p : ℕ) → way_of flow p ≡ Bound → (bounds_of flow p).greatest ≡ greatest_number ∷ []
+unfolding bounds_of
+bound-numbers flow p e = elim (bound-output (kind_of flow p) (policy_of flow p) e) [
+  | inl is ↦ ap (λ x. (bounds_of_domain flow (domain_of_kind flow x)).greatest) is
+  | inr is ↦ ap (λ x. (bounds_of_domain flow (domain_of_kind flow x)).greatest) is
+]
+
+none-checkpoints : (kind : Kind) → restoring kind policy.None ≡ Checkpoints → ⊥
+none-checkpoints Input e = cc
+none-checkpoints OutputEpoch e = cc
+none-checkpoints OutputNumber e = cc
+none-checkpoints kind e = cc
+
+-- what is restored by its checkpoints takes no notices of its own
+pub checkpoints-notices : (kind : Kind) (p : Policy) → restoring kind p ≡ Checkpoints → takes_its_notices kind p ≡ false
+checkpoints-notices kind policy.None e = absurd (none-checkpoints kind e)
+checkpoints-notices kind policy.Lazy e = refl
+checkpoints-notices kind policy.Logged e = refl
+checkpoints-notices kind policy.Eager e = refl
+checkpoints-notices kind policy.Full e = refl
+
+-- what is restored by its events logs each of them
+pub events-full : (kind : Kind) (p : Policy) → restoring kind p ≡ Events → p ≡ policy.Full
+events-full Input p e = cc
+events-full OutputEpoch p e = cc
+events-full OutputNumber p e = cc
+events-full kind p e = by p e
+  where
+    by : (p : Policy) → restoring_of_policy p ≡ Events → p ≡ policy.Full
+    by policy.None e = cc
+    by policy.Lazy e = cc
+    by policy.Logged e = cc
+    by policy.Eager e = cc
+    by policy.Full e = refl

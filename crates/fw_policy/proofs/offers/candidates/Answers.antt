@@ -1,0 +1,23 @@
+use Rattle.std.proofs.Common.{sym, subst, arith}
+use Rattle.std.proofs.lemmas.List.{take_all}
+use Rattle.std.specs.Prelude.{List}
+use Rattle.fw_flow.specs.Dataflow.{Dataflow}
+use Rattle.fw_policy.specs.declared.view.NodeView.{NodeView}
+use Rattle.fw_policy.specs.Known.{AreKnown}
+use Rattle.fw_policy.specs.Offering.{AreOffersBy}
+use Rattle.fw_policy.proofs.KnownLaws.{are-known, offer_more}
+use Rattle.fw_policy.proofs.OfferLaws.{offers-in}
+use Rattle.fw_policy.proofs.offers.candidates.Goals as goal
+
+pub loop-place-preserved : goal.loop-place-preserved
+loop-place-preserved c = λ k.
+    offer_more c.args.flow.now c.args.entries.now c.args.view.now c.loop-place.offers.items c.push.new.self.items c.loop-place.place c.at.result c.index-view-place.result c.in_ok-offer.field-0 k
+    (omega (arith, c.requires, c.loop-place-test.true, c.nodes-place-end.ensures.count)) c.index-view-place.is c.at.ensures (c.loop-place.invariant k) c.in_ok-offer.ensures c.in_ok-push.ensures.items
+
+pub returns : goal.returns
+returns c = λ sys state lost e v.
+    let k = subst (λ (flow : Dataflow). AreKnown flow c.args.entries.now 0 c.args.view.now) e (are-known sys state lost c.args.view.now c.args.entries.now v) in
+    let all = take_all c.loop-place.place c.args.view.now (omega (arith, c.requires, c.loop-place-test.false, c.nodes-place-end.ensures.count, c.loop-place.auto.place-end)) in
+    offers-in sys state lost c.args.view.now c.args.entries.now c.loop-place.offers.items
+    (subst (λ (flow : Dataflow). AreOffersBy flow c.args.entries.now 0 c.args.view.now c.loop-place.offers.items) (sym e)
+    (subst (λ (xs : List NodeView). AreOffersBy c.args.flow.now c.args.entries.now 0 xs c.loop-place.offers.items) all (c.loop-place.invariant k))) v

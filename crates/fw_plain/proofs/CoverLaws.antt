@@ -1,6 +1,6 @@
 -- What a checkpoint holds, by the stamps of all events of its node, is what the machine counts inside its frontier.
 use Rattle.std.proofs.Common.{◌≡◌, ◌⊎◌, inl, inr, ℕ, zero, suc, ◌+◌, ◌<◌, ◌==◌, ◌&&◌, Bool, true, false, cond, List, [], ◌∷◌, ◌++◌, length, map, get_or, take, refl, sym, ◌∙◌, ap, subst, Result, IfOk, arith}
-use Rattle.std.specs.List.{AllByRecursion, flat_map, filter}
+use Rattle.std.specs.List.{AllByRecursion, filter}
 use Rattle.std.specs.declared.alloc.AllocError.{AllocError}
 use Rattle.std.proofs.lemmas.Bool.{and_parts, both_ways, cond_both, cond-false, eqb-true, eq-eqb}
 use Rattle.std.proofs.lemmas.List.{take_more}
@@ -14,8 +14,6 @@ use Rattle.fw_flow.specs.declared.choice.Cut.TheVariants.{At}
 use Rattle.fw_flow.specs.declared.choice.OfEdge.{OfEdge}
 use Rattle.fw_flow.specs.declared.choice.Recorded.{Recorded}
 use Rattle.fw_flow.specs.declared.choice.Stamps.{Stamps}
-use Rattle.fw_flow.specs.declared.event.Event.{Event}
-use Rattle.fw_flow.specs.declared.event.Message.{Message}
 use Rattle.fw_flow.specs.declared.kind.Kind.{Kind}
 use Rattle.fw_flow.specs.declared.kind.Policy.{Policy}
 use Rattle.fw_flow.specs.declared.kind.Policy.TheVariants as policy
@@ -26,8 +24,7 @@ use Rattle.fw_flow.specs.Dataflow.{System, Dataflow, kind_of, policy_of, sender,
 use Rattle.fw_flow.specs.Projection.{all_inside}
 use Rattle.fw_flow.specs.Restoring.{can_resend, way_of}
 use Rattle.fw_flow.specs.WellFormed.{IsWellFormed}
-use Rattle.fw_model.specs.Covers.{takes_its_cut, takes_its_notices, discarded_at, stamp_of_notice, stamps_from, tallies_in, covers_in}
-use Rattle.fw_model.specs.History.{delivered_messages, sent_messages}
+use Rattle.fw_model.specs.Covers.{takes_its_cut, takes_its_notices, discarded_at, tallies_in, covers_in}
 use Rattle.fw_model.specs.Machine.{Machine, events}
 use Rattle.fw_model.specs.Offers.{AreFrontsOfEdges, AreOnEdges, front_of_edge, stamps_on, stamps_on_from}
 use Rattle.fw_model.specs.Writes.{takes_checkpoints}

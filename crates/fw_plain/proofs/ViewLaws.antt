@@ -1,6 +1,6 @@
 -- What is known of each node is so in the state.
-use Rattle.std.proofs.Common.{◌≡◌, ◌+◌, ◌<◌, ℕ, zero, suc, ◌==◌, Bool, true, false, List, [], ◌∷◌, ◌++◌, length, map, reverse, get_or, refl, sym, ◌∙◌, ap, subst, arith}
-use Rattle.std.specs.List.{AllByRecursion, Contains, flat_map, filter}
+use Rattle.std.proofs.Common.{◌≡◌, ◌+◌, ◌<◌, ℕ, zero, suc, ◌==◌, Bool, true, false, List, [], ◌∷◌, ◌++◌, length, map, get_or, refl, sym, ◌∙◌, ap, subst, arith}
+use Rattle.std.specs.List.{AllByRecursion, Contains, flat_map}
 use Rattle.std.proofs.lemmas.List.{get_or_default}
 use Rattle.fw_time.specs.Stamp.{Stamp, in_domain}
 use Rattle.fw_time.proofs.EachLaws.{each-append, each-map, each-weaker}
@@ -14,12 +14,12 @@ use Rattle.fw_flow.specs.declared.choice.Stamps.{Stamps}
 use Rattle.fw_flow.specs.declared.event.Event.{Event}
 use Rattle.fw_flow.specs.declared.event.Message.{Message}
 use Rattle.fw_flow.specs.declared.kind.Kind.{Kind}
-use Rattle.fw_flow.specs.declared.kind.Kind.TheVariants.{Input, OutputEpoch, OutputNumber, Sequence}
-use Rattle.fw_flow.specs.Dataflow.{System, Dataflow, kind_of, sender, receiver, bounds_of, batches_of, send_stamp, is_sequence_kind, system_of, bounds_of_edge}
+use Rattle.fw_flow.specs.declared.kind.Kind.TheVariants.{Sequence}
+use Rattle.fw_flow.specs.Dataflow.{System, Dataflow, kind_of, sender, receiver, bounds_of, batches_of, is_sequence_kind, system_of, bounds_of_edge}
 use Rattle.fw_flow.specs.NodeFunction.{event_stamp, sends, sent_by}
 use Rattle.fw_flow.specs.Projection.{events_at, all_inside}
 use Rattle.fw_model.specs.Covers.{stamp_of_notice}
-use Rattle.fw_model.specs.History.{delivered_messages, sent_messages, injected_count, is_exhausted, AreAtNodes, IsLegal}
+use Rattle.fw_model.specs.History.{delivered_messages, sent_messages, injected_count, is_exhausted}
 use Rattle.fw_model.specs.Machine.{Machine, events}
 use Rattle.fw_model.specs.Offers.{AreOnEdges, stamps_on, stamps_on_from}
 use Rattle.fw_model.proofs.DomainLaws.{edge-bounds, has_epochs}
@@ -28,10 +28,8 @@ use Rattle.fw_model.proofs.LegalLaws.{legal_events-in_domain, legal_messages-in_
 use Rattle.fw_model.proofs.LocalityLaws.{sends-causes}
 use Rattle.fw_model.proofs.SendsLaws.{IsOfCause, sent_by-of_cause}
 use Rattle.fw_model.proofs.SequenceLaws.{one_inside}
-use Rattle.fw_policy.specs.declared.view.Border.{Border}
-use Rattle.fw_policy.specs.declared.view.Border.TheVariants.{Inner, Source}
 use Rattle.fw_policy.specs.declared.view.NodeView.{NodeView}
-use Rattle.fw_policy.specs.View.{base_of, on_edge, causes_of, causes_in, StandForSent, StandForNumbered, AreStampsOf, IsBorderOf, IsNodeViewOf, AreNodeViewsFrom}
+use Rattle.fw_policy.specs.View.{on_edge, causes_of, causes_in, StandForSent, StandForNumbered, AreStampsOf, IsNodeViewOf, AreNodeViewsFrom}
 use Rattle.fw_policy.specs.View.{IsOfCause as IsCountedOfCause}
 use Rattle.fw_plain.specs.Engine.{IsSound}
 use Rattle.fw_plain.specs.Offered.{single_message, sent_from, deliveries_to, AreStampsIn, HaveStampsFrom}

@@ -1,7 +1,5 @@
 //! The writes that were not collected, as entries.
 ghost use Rattle.std.specs.Prelude.{◌≡◌, ◌<◌, filter, length, IfOk};
-ghost use Rattle.std.specs.List.{AllByRecursion};
-ghost use Rattle.fw_model.specs.Machine as machine;
 ghost use Rattle.fw_model.specs.Machine.{events};
 ghost use Rattle.fw_model.specs.Writes as writes;
 ghost use Rattle.fw_policy.specs.View as views;

@@ -1,5 +1,4 @@
-use Rattle.std.proofs.Common.{◌<◌, length, ◌∙◌, ap, is_some, arith}
-use Rattle.fw_flow.specs.Dataflow.{Dataflow}
+use Rattle.std.proofs.Common.{◌∙◌, ap, is_some, arith}
 use Rattle.fw_model.specs.Machine.{events}
 use Rattle.fw_model.proofs.AskedLaws.{takes-declared}
 use Rattle.fw_plain.specs.Engine.{sys_of, state_of}

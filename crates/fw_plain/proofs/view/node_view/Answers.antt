@@ -1,4 +1,4 @@
-use Rattle.std.proofs.Common.{ℕ, ◌<◌, ◌≡◌, length, List, false, sym, ◌∙◌, subst}
+use Rattle.std.proofs.Common.{◌<◌, List, false, sym, ◌∙◌, subst}
 use Rattle.fw_flow.specs.declared.event.Event.{Event}
 use Rattle.fw_flow.specs.Dataflow.{kind_of}
 use Rattle.fw_flow.specs.Projection.{IsSentTable}

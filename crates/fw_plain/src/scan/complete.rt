@@ -152,7 +152,7 @@ fn phi(
 }
 
 /// How many messages a sequence sent, by epoch; nothing for the other kinds. The only error is want of memory.
-fn sent_table(
+pub(crate) fn sent_table(
     alloc: Global,
     flow: &Flow,
     batches: &Batches,

@@ -1,0 +1,8 @@
+use Rattle.std.proofs.Common.{take}
+use Rattle.fw_flow.specs.Dataflow.{node_frontier}
+use Rattle.fw_plain.specs.Offered.{stamps_on_inside, AreCovers}
+use Rattle.fw_plain.proofs.recorded.delivered.Given as goal
+
+abbrev pub invariant-loop-edge : goal.invariant-loop-edge
+invariant-loop-edge l =
+    AreCovers l.flow (λ d. stamps_on_inside d (node_frontier l.flow l.fn.node l.front) l.messages) (take l.edge-index l.edge-items) l.covers.items

@@ -1,10 +1,11 @@
 -- What each step does to the state that a course stands for.
-use Rattle.std.proofs.Common.{◌≡◌, ℕ, zero, suc, ◌+◌, ◌<◌, ◌==◌, cond, Bool, true, false, ◌&&◌, List, [], ◌∷◌, ◌++◌, map, length, slice_set, slice_index_or, replicate, refl, sym, ◌∙◌, ap, subst, arith, Option, Some, None, MatchOption, Result, Ok, Err, IfOk, OnErr}
+use Rattle.std.proofs.Common.{◌≡◌, ℕ, zero, suc, ◌+◌, ◌<◌, ◌==◌, cond, Bool, true, false, List, [], ◌∷◌, ◌++◌, map, length, slice_set, slice_index_or, replicate, refl, sym, ◌∙◌, ap, subst, arith, Option, Some, None, MatchOption, Result, Ok, Err, IfOk, OnOk, OnErr}
 use Rattle.std.specs.declared.alloc.AllocError.{AllocError}
-use Rattle.std.proofs.lemmas.Bool.{true≢false}
+use Rattle.std.specs.Result.{is_err}
 use Rattle.std.specs.List.{AllByRecursion, range_with_len}
 use Rattle.std.proofs.lemmas.Bool.Decides.{nat_tests}
 use Rattle.std.proofs.lemmas.Grind.{common_steps}
+use Rattle.std.proofs.lemmas.List.{length-map}
 use Rattle.std.proofs.lemmas.List.FromFn.{length-map-range_with_len, get_or-map-range_with_len}
 use Rattle.fw_time.specs.Stamp.{Stamp, in_domain}
 use Rattle.fw_frontier.specs.Front.{Front, IsCanonical}
@@ -12,25 +13,22 @@ use Rattle.fw_flow.specs.declared.choice.Choice.{Choice}
 use Rattle.fw_flow.specs.declared.choice.Cut.{Cut}
 use Rattle.fw_flow.specs.declared.choice.Cut.TheVariants.{Present, At}
 use Rattle.fw_flow.specs.declared.event.Event.{Event}
-use Rattle.fw_flow.specs.declared.event.Event.TheVariants.{Inject as Injected, Deliver as Delivered}
 use Rattle.fw_flow.specs.declared.event.Message.{Message}
 use Rattle.fw_flow.specs.declared.kind.Policy.{Policy}
-use Rattle.fw_flow.specs.declared.kind.Policy.TheVariants as policy
 use Rattle.fw_flow.specs.declared.step.Step.{Step}
 use Rattle.fw_flow.specs.declared.step.Step.TheVariants.{Inject, Deliver, Notify, Progress, Checkpoint, Persist, Fail, Recover, Collect, Ack}
-use Rattle.fw_flow.specs.Dataflow.{System, Dataflow, policy_of, receiver, bounds_of, NotifiesNobody, KeepsNothing, node_ids, HasEpochs}
+use Rattle.fw_flow.specs.Dataflow.{System, Dataflow, policy_of, receiver, bounds_of, node_ids, HasEpochs}
 use Rattle.fw_flow.specs.NodeFunction.{event_node, event_stamp}
 use Rattle.fw_flow.specs.Projection.{events_at}
 use Rattle.fw_flow.specs.WellFormed.{IsWellFormedSystem}
-use Rattle.fw_model.specs.Choice.{cut_of}
+use Rattle.fw_model.specs.Choice.{cut_of, kept, IsCandidate, IsWatermark}
 use Rattle.fw_model.specs.History.{IsLegal, IsNextBatch, AreAtNodes}
 use Rattle.fw_model.specs.Machine.{Machine, Write, events, first_state, front_of, is_failed, no_stamps}
-use Rattle.fw_model.specs.Steps.{Effect, silent, Outcome, did, idle, with_event, write_of_event, LeadsTo, StepsTo, IsNextMessage, GrowsTo, CutsTo, IsSettledCut}
+use Rattle.fw_model.specs.Steps.{Effect, Outcome, did, idle, with_event, write_of_event, LeadsTo, StepsTo, IsNextMessage, IsNextNotice, GrowsTo, CutsTo, IsSettledCut, front_of_cut}
 use Rattle.fw_model.proofs.DomainLaws.{has_epochs}
 use Rattle.fw_model.proofs.GoingOn.{runs-go_on}
 use Rattle.fw_model.proofs.LegalLaws.{legal_events-in_domain}
 use Rattle.fw_model.proofs.RecoveryLaws.{runs-legal}
-use Rattle.fw_flow.specs.Step.{is_plain_step}
 use Rattle.fw_plain.specs.declared.course.Course.{Course}
 use Rattle.fw_plain.specs.declared.stepped.Stepped.{Stepped}
 use Rattle.fw_plain.specs.Engine.{IsReached, IsOfEachNode, IsSound, Takes, sys_of, state_of, outcome_of}
@@ -45,112 +43,147 @@ reached_more sys state next step outcome r t =
 
 -- ---- what the state says of each node
 
--- a state with the same settled frontiers, failed nodes and ack_counts
+-- a state with the same settled frontiers, failed nodes and low watermark, and as many ack_counts
 same_each : (sys : System) (state next : Machine) → next.settled ≡ state.settled → next.failed ≡ state.failed → length next.ack_counts ≡ length state.ack_counts
-    → IsOfEachNode sys state → IsOfEachNode sys next
-same_each sys state next s f b i = record {
+    → next.low ≡ state.low → IsOfEachNode sys state → IsOfEachNode sys next
+same_each sys state next s f b w i = record {
   one_front_each = ap length s ∙ i.one_front_each;
   canonical = λ p l. subst (λ fs. IsCanonical (bounds_of sys.flow p) (front_of fs p)) (sym s) (i.canonical p l);
   one_flag_each = ap length f ∙ i.one_flag_each;
   one_count_each = b ∙ i.one_count_each;
+  one_low_each = ap length w ∙ i.one_low_each;
+  canonical_low = λ p l. subst (λ fs. IsCanonical (bounds_of sys.flow p) (front_of fs p)) (sym w) (i.canonical_low p l);
 }
 
-grown_each : (sys : System) (state next : Machine) (done : ℕ → Stamp → Bool) → GrowsTo sys state done next.settled → next.failed ≡ state.failed
-    → next.ack_counts ≡ state.ack_counts → IsOfEachNode sys state → IsOfEachNode sys next
-grown_each sys state next done g f b i = record {
-  one_front_each = g.one_each;
-  canonical = λ p l. at p l (is_failed state p) refl;
-  one_flag_each = ap length f ∙ i.one_flag_each;
+-- what is settled and the watermark may change, if there is one canonical frontier for each node
+fronts_each : (sys : System) (state next : Machine) → length next.settled ≡ length sys.flow.nodes
+    → ((p : ℕ) → p < length sys.flow.nodes → IsCanonical (bounds_of sys.flow p) (front_of next.settled p))
+    → length next.failed ≡ length sys.flow.nodes → next.ack_counts ≡ state.ack_counts → next.low ≡ state.low → IsOfEachNode sys state → IsOfEachNode sys next
+fronts_each sys state next n c f b w i = record {
+  one_front_each = n;
+  canonical = c;
+  one_flag_each = f;
   one_count_each = ap length b ∙ i.one_count_each;
+  one_low_each = ap length w ∙ i.one_low_each;
+  canonical_low = λ p l. subst (λ fs. IsCanonical (bounds_of sys.flow p) (front_of fs p)) (sym w) (i.canonical_low p l);
 }
-  where
-    at : (p : ℕ) → p < length sys.flow.nodes → (b : Bool) → is_failed state p ≡ b → IsCanonical (bounds_of sys.flow p) (front_of next.settled p)
-    at p l true e = subst (IsCanonical (bounds_of sys.flow p)) (sym (g.failed p l e)) (i.canonical p l)
-    at p l false e = (g.each p l e).canonical
 
-flags_each : (sys : System) (state next : Machine) → next.settled ≡ state.settled → length next.failed ≡ length sys.flow.nodes → next.ack_counts ≡ state.ack_counts
-    → IsOfEachNode sys state → IsOfEachNode sys next
-flags_each sys state next s f b i = record {
+grown_canonical : (sys : System) (state : Machine) (done : ℕ → Stamp → Bool) (settled : List Front) → GrowsTo sys state done settled → IsOfEachNode sys state
+    → (p : ℕ) → p < length sys.flow.nodes → IsCanonical (bounds_of sys.flow p) (front_of settled p)
+grown_canonical sys state done settled g i p l = at (is_failed state p) refl
+  where
+    at : (b : Bool) → is_failed state p ≡ b → IsCanonical (bounds_of sys.flow p) (front_of settled p)
+    at true e = subst (IsCanonical (bounds_of sys.flow p)) (sym (g.failed p l e)) (i.canonical p l)
+    at false e = (g.each p l e).canonical
+
+cut_canonical : (sys : System) (state : Machine) (choice : Choice) (settled : List Front) → CutsTo sys state choice settled → IsOfEachNode sys state
+    → (p : ℕ) → p < length sys.flow.nodes → IsCanonical (bounds_of sys.flow p) (front_of settled p)
+cut_canonical sys state choice settled c i p l = at (cut_of choice p) (c.each p l)
+  where
+    at : (cut : Cut) → IsSettledCut sys p cut (front_of state.settled p) (front_of settled p) → IsCanonical (bounds_of sys.flow p) (front_of settled p)
+    at Present e = subst (IsCanonical (bounds_of sys.flow p)) (sym e) (i.canonical p l)
+    at (At g) n = n.canonical
+
+-- the frontier of a node in those of the cuts is that of its cut
+front_there : (cuts : List Cut) (p : ℕ) → p < length cuts → front_of (map front_of_cut cuts) p ≡ front_of_cut (slice_index_or cuts p Present)
+front_there [] p l = absurd (omega arith)
+front_there (cut ∷ cuts) zero l = refl
+front_there (cut ∷ cuts) (suc p) l = front_there cuts p (omega arith)
+
+-- the watermark has one frontier for each node
+pub watermark_length : (sys : System) (state : Machine) (choice : Choice) → IsWatermark sys state choice → length (map front_of_cut choice.cuts) ≡ length sys.flow.nodes
+watermark_length sys state choice g = length-map choice.cuts front_of_cut ∙ g.consistent.one_cut_each
+
+-- the watermark has one canonical frontier for each node
+watermark_each : (sys : System) (state next : Machine) (choice : Choice) → IsWatermark sys state choice → next.low ≡ map front_of_cut choice.cuts
+    → next.settled ≡ state.settled → next.failed ≡ state.failed → next.ack_counts ≡ state.ack_counts → IsOfEachNode sys state → IsOfEachNode sys next
+watermark_each sys state next choice g w s f b i = record {
   one_front_each = ap length s ∙ i.one_front_each;
   canonical = λ p l. subst (λ fs. IsCanonical (bounds_of sys.flow p) (front_of fs p)) (sym s) (i.canonical p l);
-  one_flag_each = f;
+  one_flag_each = ap length f ∙ i.one_flag_each;
   one_count_each = ap length b ∙ i.one_count_each;
-}
-
-cut_each : (sys : System) (state next : Machine) (choice : Choice) → CutsTo sys state choice next.settled → length next.failed ≡ length sys.flow.nodes
-    → next.ack_counts ≡ state.ack_counts → IsOfEachNode sys state → IsOfEachNode sys next
-cut_each sys state next choice c f b i = record {
-  one_front_each = c.one_each;
-  canonical = λ p l. at p l (cut_of choice p) (c.each p l);
-  one_flag_each = f;
-  one_count_each = ap length b ∙ i.one_count_each;
+  one_low_each = ap length w ∙ watermark_length sys state choice g;
+  canonical_low = λ p l. subst (λ fs. IsCanonical (bounds_of sys.flow p) (front_of fs p)) (sym w)
+      (subst (IsCanonical (bounds_of sys.flow p)) (sym (front_there choice.cuts p (omega (arith, l, g.consistent.one_cut_each))))
+      (at p (cut_of choice p) (g.consistent.offered p l)));
 }
   where
-    at : (p : ℕ) → p < length sys.flow.nodes → (cut : Cut) → IsSettledCut sys p cut (front_of state.settled p) (front_of next.settled p)
-        → IsCanonical (bounds_of sys.flow p) (front_of next.settled p)
-    at p l Present e = subst (IsCanonical (bounds_of sys.flow p)) (sym e) (i.canonical p l)
-    at p l (At g) n = n.canonical
+    at : (p : ℕ) (cut : Cut) → IsCandidate sys state (λ p. true) kept p cut → IsCanonical (bounds_of sys.flow p) (front_of_cut cut)
+    at p Present o = tt
+    at p (At g) o = o.0
 
 length_set : (xs : List ℕ) (k y : ℕ) → length (slice_set xs k y) ≡ length xs
 length_set xs k y = grind (arith, common_steps)
 
-each_took : (sys : System) (state : Machine) (step : Step) (next : Machine) (effect : Effect) → is_plain_step step ≡ true → LeadsTo sys state step next effect
+each_took : (sys : System) (state : Machine) (step : Step) (next : Machine) (effect : Effect) → LeadsTo sys state step next effect
     → IsOfEachNode sys state → IsOfEachNode sys next
-each_took sys state (Inject s) next effect k t i = same_each sys state next (ap (λ m. m.settled) t.3) (ap (λ m. m.failed) t.3) (ap (λ m. length m.ack_counts) t.3) i
-each_took sys state (Deliver d at) next effect k t i = same_each sys state next (ap (λ m. m.settled) t.3) (ap (λ m. m.failed) t.3) (ap (λ m. length m.ack_counts) t.3) i
-each_took sys state (Notify p at) next effect k t i = same_each sys state next (ap (λ m. m.settled) t.3) (ap (λ m. m.failed) t.3) (ap (λ m. length m.ack_counts) t.3) i
-each_took sys state Progress next effect k t i =
-    grown_each sys state next t.0 (subst (GrowsTo sys state t.0) (sym (ap (λ m. m.settled) t.3)) t.2) (ap (λ m. m.failed) t.3) (ap (λ m. m.ack_counts) t.3) i
-each_took sys state (Checkpoint p) next effect k t i = absurd (cc)
-each_took sys state Persist next effect k t i = absurd (cc)
-each_took sys state (Fail ps) next effect k t i =
-    flags_each sys state next (ap (λ m. m.settled) t.4) (ap (λ m. length m.failed) t.4 ∙ length-map-range_with_len _ 0 (length sys.flow.nodes)) (ap (λ m. m.ack_counts) t.4) i
-each_took sys state Recover next effect k t i =
-    cut_each sys state next t.1 (subst (CutsTo sys state t.1) (sym (ap (λ m. m.settled) t.7)) t.6)
-    (ap (λ m. length m.failed) t.7 ∙ length-map-range_with_len _ 0 (length sys.flow.nodes)) (ap (λ m. m.ack_counts) t.7) i
-each_took sys state Collect next effect k t i = absurd (cc)
-each_took sys state (Ack o) next effect k t i =
-    same_each sys state next (ap (λ m. m.settled) t.2) (ap (λ m. m.failed) t.2) (ap (λ m. length m.ack_counts) t.2 ∙ length_set state.ack_counts o (t.0 + 1)) i
+each_took sys state (Inject s) next effect t i =
+    same_each sys state next (ap (λ m. m.settled) t.3) (ap (λ m. m.failed) t.3) (ap (λ m. length m.ack_counts) t.3) (ap (λ m. m.low) t.3) i
+each_took sys state (Deliver d at) next effect t i =
+    same_each sys state next (ap (λ m. m.settled) t.3) (ap (λ m. m.failed) t.3) (ap (λ m. length m.ack_counts) t.3) (ap (λ m. m.low) t.3) i
+each_took sys state (Notify p at) next effect t i =
+    same_each sys state next (ap (λ m. m.settled) t.3) (ap (λ m. m.failed) t.3) (ap (λ m. length m.ack_counts) t.3) (ap (λ m. m.low) t.3) i
+each_took sys state Progress next effect t i =
+    let g : GrowsTo sys state t.0 next.settled = subst (GrowsTo sys state t.0) (sym (ap (λ m. m.settled) t.3)) t.2 in
+    fronts_each sys state next g.one_each (grown_canonical sys state t.0 next.settled g i) (ap (λ m. length m.failed) t.3 ∙ i.one_flag_each)
+    (ap (λ m. m.ack_counts) t.3) (ap (λ m. m.low) t.3) i
+each_took sys state (Checkpoint p) next effect t i =
+    same_each sys state next (ap (λ m. m.settled) t.3) (ap (λ m. m.failed) t.3) (ap (λ m. length m.ack_counts) t.3) (ap (λ m. m.low) t.3) i
+each_took sys state Persist next effect t i =
+    same_each sys state next (ap (λ m. m.settled) t.2) (ap (λ m. m.failed) t.2) (ap (λ m. length m.ack_counts) t.2) (ap (λ m. m.low) t.2) i
+each_took sys state (Fail ps) next effect t i =
+    fronts_each sys state next (ap (λ m. length m.settled) t.4 ∙ i.one_front_each)
+    (λ p l. subst (λ fs. IsCanonical (bounds_of sys.flow p) (front_of fs p)) (sym (ap (λ m. m.settled) t.4)) (i.canonical p l))
+    (ap (λ m. length m.failed) t.4 ∙ length-map-range_with_len _ 0 (length sys.flow.nodes)) (ap (λ m. m.ack_counts) t.4) (ap (λ m. m.low) t.4) i
+each_took sys state Recover next effect t i =
+    let c : CutsTo sys state t.1 next.settled = subst (CutsTo sys state t.1) (sym (ap (λ m. m.settled) t.7)) t.6 in
+    fronts_each sys state next c.one_each (cut_canonical sys state t.1 next.settled c i)
+    (ap (λ m. length m.failed) t.7 ∙ length-map-range_with_len _ 0 (length sys.flow.nodes)) (ap (λ m. m.ack_counts) t.7) (ap (λ m. m.low) t.7) i
+each_took sys state Collect next effect t i =
+    watermark_each sys state next t.0 t.1 (ap (λ m. m.low) t.3) (ap (λ m. m.settled) t.3) (ap (λ m. m.failed) t.3) (ap (λ m. m.ack_counts) t.3) i
+each_took sys state (Ack o) next effect t i =
+    same_each sys state next (ap (λ m. m.settled) t.2) (ap (λ m. m.failed) t.2) (ap (λ m. length m.ack_counts) t.2 ∙ length_set state.ack_counts o (t.0 + 1))
+    (ap (λ m. m.low) t.2) i
 
-each_step : (sys : System) (state : Machine) (step : Step) (next : Machine) (outcome : Outcome) → is_plain_step step ≡ true → StepsTo sys state step next outcome
+each_step : (sys : System) (state : Machine) (step : Step) (next : Machine) (outcome : Outcome) → StepsTo sys state step next outcome
     → IsOfEachNode sys state → IsOfEachNode sys next
-each_step sys state step next (did effect) k t i = each_took sys state step next effect k t i
-each_step sys state step next idle k t i = subst (IsOfEachNode sys) (sym t.1) i
+each_step sys state step next (did effect) t i = each_took sys state step next effect t i
+each_step sys state step next idle t i = subst (IsOfEachNode sys) (sym t.1) i
 
--- a step of the plain engine leads from a sound state to a sound one
-pub sound_after : (sys : System) (state : Machine) (step : Step) (next : Machine) (outcome : Outcome) → is_plain_step step ≡ true → IsSound sys state
+-- a step leads from a sound state to a sound one
+pub sound_after : (sys : System) (state : Machine) (step : Step) (next : Machine) (outcome : Outcome) → IsSound sys state
     → StepsTo sys state step next outcome → IsSound sys next
-sound_after sys state step next outcome k i t = record {
+sound_after sys state step next outcome i t = record {
   well_formed = i.well_formed;
-  keeps_nothing = i.keeps_nothing;
-  notifies_nobody = i.notifies_nobody;
   reached = reached_more sys state next step outcome i.reached t;
-  of_each_node = each_step sys state step next outcome k t i.of_each_node;
+  of_each_node = each_step sys state step next outcome t i.of_each_node;
 }
 
 -- a course comes to a sound state by a step, and stays at one where memory is wanting
-pub sound_then : (course next : Course) (step : Step) (r : Result Stepped AllocError) → is_plain_step step ≡ true → IsSound (sys_of course) (state_of course)
+pub sound_then : (course next : Course) (step : Step) (r : Result Stepped AllocError) → IsSound (sys_of course) (state_of course)
     → sys_of next ≡ sys_of course → IfOk r (λ stepped. Takes course step next stepped) → OnErr r (next ≡ course) → IsSound (sys_of next) (state_of next)
-sound_then course next step (Ok stepped) k i s t e =
-    subst (λ sys. IsSound sys (state_of next)) (sym s) (sound_after (sys_of course) (state_of course) step (state_of next) (outcome_of stepped) k i t)
-sound_then course next step (Err x) k i s t e = subst (λ (at : Course). IsSound (sys_of at) (state_of at)) (sym e) i
+sound_then course next step (Ok stepped) i s t e =
+    subst (λ sys. IsSound sys (state_of next)) (sym s) (sound_after (sys_of course) (state_of course) step (state_of next) (outcome_of stepped) i t)
+sound_then course next step (Err x) i s t e = subst (λ (at : Course). IsSound (sys_of at) (state_of at)) (sym e) i
 
 -- the first state is sound
-pub sound_first : (sys : System) → IsWellFormedSystem sys → KeepsNothing sys.flow → NotifiesNobody sys.flow → IsSound sys (first_state sys)
-sound_first sys w keeps nobody =
+pub sound_first : (sys : System) → IsWellFormedSystem sys → IsSound sys (first_state sys)
+sound_first sys w =
     let n = length sys.flow.nodes in
     let f : ℕ → Front = λ p. no_stamps (bounds_of sys.flow p) in
+    let canonical : (p : ℕ) → p < n → IsCanonical (bounds_of sys.flow p) (front_of (map f (node_ids sys.flow)) p) =
+    λ p l. subst (λ (os : Front). IsCanonical (bounds_of sys.flow p) os) (sym (get_or-map-range_with_len f 0 n p p [] l (omega arith)))
+    (names-no_stamps (bounds_of sys.flow p)).canonical in
     record {
       well_formed = w;
-      keeps_nothing = keeps;
-      notifies_nobody = nobody;
       reached = ([], [], refl);
       of_each_node = record {
         one_front_each = length-map-range_with_len f 0 n;
-        canonical = λ p l. subst (λ (os : Front). IsCanonical (bounds_of sys.flow p) os) (sym (get_or-map-range_with_len f 0 n p p [] l (omega arith)))
-            (names-no_stamps (bounds_of sys.flow p)).canonical;
+        canonical = canonical;
         one_flag_each = length-map-range_with_len (λ p. false) 0 n;
         one_count_each = length-map-range_with_len (λ p. 0) 0 n;
+        one_low_each = length-map-range_with_len f 0 n;
+        canonical_low = canonical;
       };
     }
 
@@ -192,47 +225,37 @@ at_nodes sys state i = each (events state.history) (legal_of sys state i)
 
 -- ---- the steps that add an event
 
-no_write : (kept : Policy) (p n : ℕ) → kept ≡ policy.None → [] ≡ write_of_event kept p n
-no_write kept p n e = ap (λ k. write_of_event k p n) (sym e)
-
--- an event that is added is the machine's next event
-with_event_added : (course : Course) (later : Past) (v : Event) → KeepsNothing course.flow → later ≡ with_one_more course.history v
-    → state_of (record course { history = later }) ≡ with_event (sys_of course) (state_of course) v
-with_event_added course later v keeps l =
-    let p = event_node course.flow v in
-    let make : List Write → Machine = λ ws. record (state_of (record course { history = with_one_more course.history v })) { writes = ws } in
-    ap (λ past. state_of (record course { history = past })) l ∙ ap make (no_write (policy_of course.flow p) p course.history.next (keeps p))
-
-pub injects : (course : Course) (later : Past) (s x : ℕ) → KeepsNothing course.flow → IsNextBatch (sys_of course) (events course.history.history) s x
-    → slice_index_or course.failed.items s false ≡ false → later ≡ with_one_more course.history (Injected s x)
-    → StepsTo (sys_of course) (state_of course) (Inject s) (state_of (record course { history = later })) (did silent)
-injects course later s x keeps b live l = (x, b, live, with_event_added course later (Injected s x) keeps l, refl)
+-- an event that is added, with its write, is the machine's next event
+pub event_added : (course : Course) (later : Past) (ws : List Write) (v : Event) (how : Policy) (p n : ℕ) → later ≡ with_one_more course.history v
+    → ws ≡ course.writes ++ write_of_event how p n → how ≡ policy_of course.flow p → p ≡ event_node course.flow v → n ≡ course.history.next
+    → state_of (record course { history = later; writes = ws }) ≡ with_event (sys_of course) (state_of course) v
+event_added course later ws v how p n l w k e m =
+    let make : Past → List Write → Machine = λ past xs. record (state_of course) { history = past.history; next = past.next; writes = xs } in
+    let asked : write_of_event how p n ≡ write_of_event (policy_of course.flow (event_node course.flow v)) (event_node course.flow v) course.history.next =
+    ap (λ k. write_of_event k p n) k ∙ ap (λ q. write_of_event (policy_of course.flow q) q n) e
+    ∙ ap (λ s. write_of_event (policy_of course.flow (event_node course.flow v)) (event_node course.flow v) s) m in
+    ap (λ past. make past ws) l ∙ ap (λ xs. make (with_one_more course.history v) xs) (w ∙ ap (λ xs. course.writes ++ xs) asked)
 
 pub injects_nothing : (sys : System) (state : Machine) (s : ℕ) → ((x : ℕ) → IsNextBatch sys (events state.history) s x → is_failed state s ≡ false → ⊥)
     → StepsTo sys state (Inject s) state idle
 injects_nothing sys state s n = (λ other effect t. n t.0 t.1 t.2, refl)
-
-pub delivers : (course : Course) (later : Past) (e : ℕ) (at : Option Stamp) (m : Message) → KeepsNothing course.flow
-    → IsNextMessage (sys_of course) (events course.history.history) e at m → slice_index_or course.failed.items (receiver course.flow e) false ≡ false
-    → later ≡ with_one_more course.history (Delivered e m)
-    → StepsTo (sys_of course) (state_of course) (Deliver e at) (state_of (record course { history = later })) (did silent)
-delivers course later e at m keeps k live l = (m, k, live, with_event_added course later (Delivered e m) keeps l, refl)
 
 pub delivers_nothing : (sys : System) (state : Machine) (e : ℕ) (at : Option Stamp)
     → ((m : Message) → IsNextMessage sys (events state.history) e at m → is_failed state (receiver sys.flow e) ≡ false → ⊥)
     → StepsTo sys state (Deliver e at) state idle
 delivers_nothing sys state e at n = (λ other effect t. n t.0 t.1 t.2, refl)
 
-first_of : (a b c : Bool) → (a && b && c) ≡ true → a ≡ true
-first_of true b c h = refl
-first_of false b c h = h
-
--- where no node is notified a notification is idle
-pub notifies_nothing : (sys : System) (state : Machine) (p : ℕ) (at : Option Stamp) → IsSound sys state → StepsTo sys state (Notify p at) state idle
-notifies_nothing sys state p at i =
-    (λ other effect t. true≢false (sym (first_of _ _ _ t.1.enabled.is_owed) ∙ i.notifies_nobody p), refl)
+pub notifies_nothing : (sys : System) (state : Machine) (p : ℕ) (at : Option Stamp)
+    → ((t : Stamp) → IsNextNotice sys (events state.history) p at t → is_failed state p ≡ false → ⊥)
+    → StepsTo sys state (Notify p at) state idle
+notifies_nothing sys state p at n = (λ other effect t. n t.0 t.1 t.2, refl)
 
 -- ---- what is found
+
+-- what holds where there was no error
+pub on_ok : {A E : Type 0} (r : Result A E) (P : Type 0) → is_err r ≡ false → OnOk r P → P
+on_ok (Ok x) P e o = o
+on_ok (Err y) P e o = absurd (cc)
 
 pub at_some : {A : Type 0} (o : Option A) (x : A) (P : Type 0) (Q : A → Type 0) → o ≡ Some x → MatchOption o P Q → Q x
 at_some o x P Q e m = subst (λ k. MatchOption k P Q) e m

@@ -16,3 +16,4 @@ pub mod RecSteps
 pub mod RecoveryLaws
 pub mod SendSteps
 pub mod StepLaws
+pub mod WritesLaws

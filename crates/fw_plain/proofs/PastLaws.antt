@@ -1,8 +1,12 @@
 -- Events with their serial numbers.
-use Rattle.std.proofs.Common.{◌≡◌, ℕ, suc, ◌+◌, Bool, true, false, cond, List, [], ◌∷◌, ◌++◌, length, reverse, filter, refl, sym, ◌∙◌, ap, append_assoc, arith}
+use Rattle.std.proofs.Common.{◌≡◌, ℕ, suc, ◌+◌, ◌==◌, ◌||◌, Bool, true, false, cond, List, [], ◌∷◌, ◌++◌, length, reverse, filter, refl, sym, ◌∙◌, ap, append_assoc, arith}
+use Rattle.std.proofs.lemmas.Bool.{or_left}
 use Rattle.std.proofs.lemmas.List.{append-nil, reverse-append}
+use Rattle.std.proofs.lemmas.List.Sorted.{IsPermutation-reverse, list_any-IsPermutation}
+use Rattle.std.specs.List.{list_any}
 use Rattle.fw_flow.specs.declared.event.Event.{Event}
 use Rattle.fw_model.specs.Machine.{SerialEvent, events}
+use Rattle.fw_model.specs.Steps.{has_serial}
 use Rattle.fw_flow.specs.declared.choice.Choice.{Choice}
 use Rattle.fw_flow.specs.declared.choice.Cut.{Cut}
 use Rattle.fw_flow.specs.declared.choice.Cut.TheVariants.{Present, At}
@@ -162,3 +166,38 @@ pub one_left : (test : Event → Bool) (kept all ns rest : List ℕ) (vs others 
 one_left test kept all ns rest vs others n v a b e k =
     let r = kept_serials test rest others in
     ap (λ xs. kept ++ xs) (sym (next_kept test ns rest vs others n v a b ∙ ap (λ c. cond c (n ∷ r) r) e)) ∙ k
+
+-- ---- what is there
+
+-- some event of a history passes a test where one of those with their serials does
+any_turned : (test : SerialEvent → Bool) (xs : List SerialEvent) → list_any test (reverse xs) ≡ list_any test xs
+any_turned test xs = sym (list_any-IsPermutation test xs (reverse xs) (IsPermutation-reverse xs))
+
+pub past_any : (was : Past) (ns : List ℕ) (vs : List Event) (n : ℕ) (test : SerialEvent → Bool)
+    → record { history = reverse (under_serials ns vs); next = n } ≡ was → list_any test was.history ≡ list_any test (under_serials ns vs)
+past_any was ns vs n test e = ap (λ (w : Past). list_any test w.history) (sym e) ∙ any_turned test (under_serials ns vs)
+
+any_serial : (serial : ℕ) (ns : List ℕ) (vs : List Event) → length ns ≡ length vs
+    → list_any (λ v. v.serial == serial) (under_serials ns vs) ≡ list_any (λ n. n == serial) ns
+any_serial serial [] [] e = refl
+any_serial serial [] (v ∷ vs) e = absurd (omega arith)
+any_serial serial (n ∷ ns) [] e = absurd (omega arith)
+any_serial serial (n ∷ ns) (v ∷ vs) e = ap (λ b. (n == serial) || b) (any_serial serial ns vs (omega arith))
+
+pub past_has : (was : Past) (ns : List ℕ) (vs : List Event) (n serial : ℕ) → length ns ≡ length vs
+    → record { history = reverse (under_serials ns vs); next = n } ≡ was → has_serial serial was.history ≡ list_any (λ m. m == serial) ns
+past_has was ns vs n serial l e = past_any was ns vs n (λ v. v.serial == serial) e ∙ any_serial serial ns vs l
+
+next_any : (test : SerialEvent → Bool) (ns rest : List ℕ) (vs others : List Event) (n : ℕ) (v : Event) → ns ≡ n ∷ rest → vs ≡ v ∷ others
+    → list_any test (under_serials ns vs) ≡ (test (record { serial = n; event = v }) || list_any test (under_serials rest others))
+next_any test ns rest vs others n v a b = ap (λ xs. list_any test (under_serials xs vs)) a ∙ ap (λ ws. list_any test (under_serials (n ∷ rest) ws)) b
+
+pub one_passes : (test : SerialEvent → Bool) (ns rest : List ℕ) (vs others : List Event) (n : ℕ) (v : Event) → ns ≡ n ∷ rest → vs ≡ v ∷ others
+    → test (record { serial = n; event = v }) ≡ true → list_any test (under_serials ns vs) ≡ true
+one_passes test ns rest vs others n v a b t =
+    next_any test ns rest vs others n v a b ∙ or_left (test (record { serial = n; event = v })) (list_any test (under_serials rest others)) t
+
+pub one_fails : (test : SerialEvent → Bool) (ns rest : List ℕ) (vs others : List Event) (n : ℕ) (v : Event) → ns ≡ n ∷ rest → vs ≡ v ∷ others
+    → test (record { serial = n; event = v }) ≡ false → list_any test (under_serials rest others) ≡ list_any test (under_serials ns vs)
+one_fails test ns rest vs others n v a b t =
+    sym (next_any test ns rest vs others n v a b ∙ ap (λ b. b || list_any test (under_serials rest others)) t)

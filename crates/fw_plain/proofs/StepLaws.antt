@@ -1,7 +1,8 @@
--- What progress, acknowledgements, failures and recoveries do to the state that a course stands for.
-use Rattle.std.proofs.Common.{◌≡◌, ℕ, zero, suc, ◌+◌, ◌<◌, ◌^◌, ◌==◌, nat_le, cond, map, Bool, true, false, ◌&&◌, ◌||◌, not, List, [], ◌∷◌, length, slice_set, slice_index_or, refl, sym, ◌∙◌, ap, subst, filter, inl, inr, arith}
-use Rattle.std.specs.List.{range_with_len}
-use Rattle.std.proofs.lemmas.Bool.{and_parts, and_from, or_cases, or_left, or_right, and_right, eqb-true}
+-- What each step but those of events does to the state that a course stands for.
+use Rattle.std.proofs.Common.{◌≡◌, ℕ, zero, suc, ◌+◌, ◌<◌, ◌^◌, ◌==◌, nat_le, map, Bool, true, false, ◌&&◌, ◌||◌, not, List, [], ◌∷◌, ◌++◌, length, slice_set, slice_index_or, get_or, refl, sym, ◌∙◌, ap, subst, inl, inr, arith}
+use Rattle.std.specs.List.{range_with_len, list_any}
+use Rattle.std.proofs.lemmas.List.{get_or_default}
+use Rattle.std.proofs.lemmas.Bool.{cases_Bool, not-true, and_parts, and_from, or_cases, or_left, or_right, and_right, eqb-true}
 use Rattle.std.proofs.lemmas.Bool.Decides.{nat_tests}
 use Rattle.fw_time.specs.declared.stamp.Bounds.{Bounds}
 use Rattle.fw_time.specs.Stamp.{Stamp, leq, in_domain}
@@ -12,12 +13,17 @@ use Rattle.fw_flow.specs.declared.choice.Cut.{Cut}
 use Rattle.fw_flow.specs.declared.choice.Cut.TheVariants.{Present, At}
 use Rattle.fw_flow.specs.declared.kind.Kind.{Kind}
 use Rattle.fw_flow.specs.declared.kind.Kind.TheVariants.{OutputEpoch, OutputNumber}
-use Rattle.fw_flow.specs.declared.step.Step.TheVariants.{Progress, Fail, Recover, Ack}
-use Rattle.fw_flow.specs.Dataflow.{System, Dataflow, kind_of, policy_of, bounds_of, greatest_of, greatest_number, domain_of_kind, is_output_kind, KeepsNothing, node_ids, node_frontier}
-use Rattle.fw_model.specs.Choice.{cut_of, filtered_history, IsLargest}
+use Rattle.fw_flow.specs.declared.kind.Policy.{Policy}
+use Rattle.fw_flow.specs.declared.kind.Policy.TheVariants as policy
+use Rattle.fw_flow.specs.declared.step.Step.TheVariants.{Progress, Checkpoint, Persist, Fail, Recover, Collect, Ack}
+use Rattle.fw_flow.specs.Dataflow.{System, Dataflow, kind_of, policy_of, bounds_of, greatest_of, greatest_number, domain_of_kind, is_output_kind, node_ids, node_frontier}
+use Rattle.fw_model.specs.Choice.{cut_of, filtered_history, kept, IsLargest, IsWatermark}
 use Rattle.fw_model.specs.History.{IsComplete}
-use Rattle.fw_model.specs.Machine.{Machine, events, front_of, is_failed, ack_count_of, family_of, AreCanonical}
-use Rattle.fw_model.specs.Steps.{MayAcknowledge, HasSomethingAt, StepsTo, CutsTo, IsSettledCut, checkpoint_of, eager_writes, is_eager, is_one_of, offers, recs_at_output, silent, acked, cuts, did, idle}
+use Rattle.fw_model.specs.Machine.{Machine, Write, events, no_stamps, front_of, is_failed, ack_count_of, family_of, AreCanonical}
+use Rattle.fw_model.specs.Steps.{MayAcknowledge, HasSomethingAt, StepsTo, CutsTo, IsSettledCut, AcknowledgesOldest, checkpoint_of, eager_writes, is_asked_for_checkpoints, is_in_flight, is_one_of, newest_checkpoint, without_lost, kept_writes, collected_writes, front_of_cut, offers, recs_at_output, silent, acked, cuts, lows, did, idle}
+use Rattle.fw_model.specs.Writes.{takes_checkpoints}
+use Rattle.fw_model.proofs.AskedLaws.{takes-declared}
+use Rattle.fw_model.proofs.ChoiceLaws.{largest-one}
 use Rattle.fw_model.proofs.Decisions.{two_ways}
 use Rattle.fw_model.proofs.DescentLaws.{complete-one}
 use Rattle.fw_plain.specs.declared.course.Course.{Course}
@@ -25,8 +31,9 @@ use Rattle.fw_plain.specs.Engine.{IsOfEachNode, IsSound, sys_of, state_of}
 use Rattle.fw_plain.specs.Failed.{any_failed, any_live, with_failed}
 use Rattle.fw_plain.specs.Fronts.{grows, any_grows, IsGrown, AreGrown, IsCut, AreCut}
 use Rattle.fw_plain.specs.Past.{Past, cut_past}
+use Rattle.fw_plain.specs.Writes.{MayAskCheckpoint, without_batches}
 use Rattle.fw_plain.proofs.PastLaws.{cut_is_filtered}
-use Rattle.fw_plain.proofs.FrontsLaws.{grows-at, grows-by, any_grows-at, any_grows-by}
+use Rattle.fw_plain.proofs.FrontsLaws.{grows-at, grows-by, any_grows-at, any_grows-by, front-same, same-front}
 
 -- ---- progress
 
@@ -58,19 +65,12 @@ progresses_nothing sys state complete i k n none = (
   refl,
 )
 
-none_eager : (sys : System) (state : Machine) (settled : List Front) (ps : List ℕ) → KeepsNothing sys.flow → eager_writes sys state settled ps ≡ []
-none_eager sys state settled [] keeps = refl
-none_eager sys state settled (p ∷ ps) keeps =
-    let grown : ℕ → Bool = λ q. not (same_front (front_of state.settled q) (front_of settled q)) in
-    let asked : List ℕ = filter (λ q. is_eager (policy_of sys.flow q) && grown q) ps in
-    ap (λ kept. map (λ q. checkpoint_of state q (front_of settled q)) (cond (is_eager kept && grown p) (p ∷ asked) asked)) (keeps p)
-    ∙ none_eager sys state settled ps keeps
-
-pub progresses : (course : Course) (complete both : List Front) → IsSound (sys_of course) (state_of course)
+pub progresses : (course : Course) (complete both : List Front) (ws : List Write) → IsSound (sys_of course) (state_of course)
     → IsComplete (sys_of course) (events course.history.history) (family_of course.flow complete) → AreCanonical course.flow complete
     → AreGrown course.failed.items course.settled.items complete both → any_grows course.failed.items complete course.settled.items ≡ true
-    → StepsTo (sys_of course) (state_of course) Progress (record (state_of course) { settled = both }) (did silent)
-progresses course complete both i k canonical j more =
+    → ws ≡ course.writes ++ eager_writes (sys_of course) (state_of course) both (node_ids course.flow)
+    → StepsTo (sys_of course) (state_of course) Progress (record (state_of course) { settled = both; writes = ws }) (did silent)
+progresses course complete both ws i k canonical j more w =
     let flow = course.flow in
     let settled = course.settled.items in
     let each = i.of_each_node in
@@ -97,7 +97,7 @@ progresses course complete both i k canonical j more =
         failed = λ q m e. subst (λ flag. IsGrown flag (front_of settled q) (front_of complete q) (front_of both q)) e
             (j.each q (subst (λ n. q < n) (sym each.one_flag_each) m));
       },
-      ap (λ ws. record (state_of course) { settled = both; writes = ws }) (sym (none_eager (sys_of course) (state_of course) both (node_ids flow) i.keeps_nothing)),
+      ap (λ xs. record (state_of course) { settled = both; writes = xs }) w,
       refl,
     )
 
@@ -170,18 +170,20 @@ live-by failed (q ∷ ps) e = elim (or_cases (not (slice_index_or failed q true)
     flag_of (false ∷ xs) zero e = (omega arith, refl)
     flag_of (x ∷ xs) (suc k) e = let r = flag_of xs k e in (omega (arith, r.0), r.1)
 
-pub fails : (course : Course) (flags : List Bool) (ps : List ℕ) → IsSound (sys_of course) (state_of course) → any_live course.failed.items ps ≡ true
-    → flags ≡ with_failed course.failed.items ps → StepsTo (sys_of course) (state_of course) (Fail ps) (record (state_of course) { failed = flags }) (did silent)
-fails course flags ps i l e =
+pub fails : (course : Course) (flags : List Bool) (ws : List Write) (ps : List ℕ) → IsSound (sys_of course) (state_of course) → any_live course.failed.items ps ≡ true
+    → flags ≡ with_failed course.failed.items ps → ws ≡ without_lost ps course.writes
+    → StepsTo (sys_of course) (state_of course) (Fail ps) (record (state_of course) { failed = flags; writes = ws }) (did silent)
+fails course flags ws ps i l e k =
     let failed = course.failed.items in
     let w = live-by failed ps l in
     let n = i.of_each_node.one_flag_each in
-    let flag : ℕ → Bool = λ p. slice_index_or failed p false || is_one_of p ps in (
+    let flag : ℕ → Bool = λ p. slice_index_or failed p false || is_one_of p ps in
+    let make : List Bool → List Write → Machine = λ fs xs. record (state_of course) { failed = fs; writes = xs } in (
       w.0,
       subst (λ m. w.0 < m) n w.1,
       w.3,
       w.2,
-      ap (λ fs. record (state_of course) { failed = fs }) (e ∙ ap (λ m. map flag (range_with_len 0 m)) n),
+      ap (λ fs. make fs ws) (e ∙ ap (λ m. map flag (range_with_len 0 m)) n) ∙ ap (λ xs. make (map flag (node_ids course.flow)) xs) k,
       refl,
     )
 
@@ -220,15 +222,19 @@ cuts-to sys state choice after each g c = record {
     at p l Present o e = e
     at p l (At f) o n = n (bounds_of sys.flow p) (each.canonical p l) o.0
 
-pub recovers : (course : Course) (left : Past) (after : List Front) (live : List Bool) (choice : Choice) → IsSound (sys_of course) (state_of course)
+pub recovers : (course : Course) (left : Past) (after : List Front) (ws : List Write) (live : List Bool) (choice : Choice) → IsSound (sys_of course) (state_of course)
     → any_failed course.failed.items ≡ true → IsLargest (sys_of course) (state_of course) (offers (sys_of course) (state_of course)) choice
-    → AreCut choice.cuts course.settled.items after → left ≡ cut_past course.flow choice.cuts course.history → live ≡ map (λ p. false) (node_ids course.flow)
+    → AreCut choice.cuts course.settled.items after → left ≡ cut_past course.flow choice.cuts course.history → ws ≡ kept_writes choice left.history course.writes
+    → live ≡ map (λ p. false) (node_ids course.flow)
     → StepsTo (sys_of course) (state_of course) Recover
-    (record (state_of course) { history = left.history; next = left.next; settled = after; failed = live }) (did (cuts choice))
-recovers course left after live choice i some g c l e =
+    (record (state_of course) { history = left.history; next = left.next; settled = after; writes = ws; failed = live }) (did (cuts choice))
+recovers course left after ws live choice i some g c l k e =
     let sys = sys_of course in
     let state = state_of course in
-    let w = failed-by course.failed.items some in (
+    let w = failed-by course.failed.items some in
+    let make : Past → List Write → List Bool → Machine =
+    λ p xs fs. record state { history = p.history; next = p.next; settled = after; writes = xs; failed = fs } in
+    let filtered : left ≡ record { history = filtered_history sys choice course.history.history; next = course.history.next } = l ∙ cut_is_filtered sys choice course.history in (
       w.0,
       choice,
       after,
@@ -236,10 +242,91 @@ recovers course left after live choice i some g c l e =
       w.2,
       g,
       cuts-to sys state choice after i.of_each_node g c,
-      ap (λ (p : Past). record state { history = p.history; next = p.next; settled = after; failed = live }) (l ∙ cut_is_filtered sys choice course.history)
-          ∙ ap (λ fs. record state { history = filtered_history sys choice course.history.history; settled = after; failed = fs }) e,
+      ap (λ xs. make left xs live) k ∙ ap (λ (p : Past). make p (kept_writes choice p.history course.writes) live) filtered
+          ∙ ap (λ fs. make (record { history = filtered_history sys choice course.history.history; next = course.history.next })
+          (kept_writes choice (filtered_history sys choice course.history.history) course.writes) fs) e,
       refl,
     )
 
 pub recovers_nothing : (sys : System) (state : Machine) → any_failed state.failed ≡ false → StepsTo sys state Recover state idle
 recovers_nothing sys state none = (λ other effect t. two_ways (any_failed state.failed) (failed-at state.failed t.0 t.4) none, refl)
+
+-- ---- collections
+
+pub collects : (course : Course) (low : List Front) (ws : List Write) (choice : Choice) → IsWatermark (sys_of course) (state_of course) choice
+    → low ≡ map front_of_cut choice.cuts → (low ≡ course.low.items → ⊥) → ws ≡ collected_writes (without_batches course.flow) low course.history.history course.writes
+    → StepsTo (sys_of course) (state_of course) Collect (record (state_of course) { low = low; writes = ws }) (did (lows choice))
+collects course low ws choice g l n w =
+    let sys = sys_of course in
+    let make : List Front → List Write → Machine = λ fs xs. record (state_of course) { low = fs; writes = xs } in (
+      choice,
+      g,
+      λ e. n (l ∙ e),
+      ap (λ xs. make low xs) w ∙ ap (λ fs. make fs (collected_writes sys fs course.history.history course.writes)) l,
+      refl,
+    )
+
+-- there is one watermark
+pub collects_nothing : (sys : System) (state : Machine) (choice : Choice) → IsWatermark sys state choice → map front_of_cut choice.cuts ≡ state.low
+    → StepsTo sys state Collect state idle
+collects_nothing sys state choice g e =
+    (λ other effect t. t.2 (ap (λ (c : Choice). map front_of_cut c.cuts) (largest-one sys state (λ p. true) kept t.0 choice t.1 g) ∙ e), refl)
+
+-- ---- writes
+
+pub checkpoints : (course : Course) (ws : List Write) (p : ℕ) → MayAskCheckpoint (sys_of course) (state_of course) p
+    → ws ≡ course.writes ++ checkpoint_of (state_of course) p (front_of course.settled.items p) ∷ []
+    → StepsTo (sys_of course) (state_of course) (Checkpoint p) (record (state_of course) { writes = ws }) (did silent)
+checkpoints course ws p m w = (m.asked, m.live, m.newer, ap (λ xs. record (state_of course) { writes = xs }) w, refl)
+
+pub checkpoints_nothing : (sys : System) (state : Machine) (p : ℕ) → (MayAskCheckpoint sys state p → ⊥) → StepsTo sys state (Checkpoint p) state idle
+checkpoints_nothing sys state p n = (λ other effect t. n (record { asked = t.0; live = t.1; newer = t.2 }), refl)
+
+-- a node that may ask a checkpoint is there
+pub asks_declared : (sys : System) (state : Machine) (p : ℕ) → is_asked_for_checkpoints (policy_of sys.flow p) ≡ true → p < length sys.flow.nodes
+asks_declared sys state p a = takes-declared sys.flow p (by (policy_of sys.flow p) a)
+  where
+    by : (how : Policy) → is_asked_for_checkpoints how ≡ true → takes_checkpoints how ≡ true
+    by policy.Lazy e = refl
+    by policy.Logged e = refl
+    by how e = absurd (cc)
+
+-- it may ask one exactly where the newest is another, if its policy takes them and it is not failed
+pub may_ask : (sys : System) (state : Machine) (p : ℕ) (b : Bool) (f g : Front) → is_asked_for_checkpoints (policy_of sys.flow p) ≡ true
+    → is_failed state p ≡ false → f ≡ front_of state.settled p → g ≡ newest_checkpoint p (no_stamps (bounds_of sys.flow p)) state.writes → b ≡ same_front f g
+    → (not b ≡ true → MayAskCheckpoint sys state p) × (MayAskCheckpoint sys state p → not b ≡ true)
+may_ask sys state p b f g a l e n s = (
+  λ t. record {
+    asked = a;
+    live = l;
+    newer = λ q. two_ways b (s ∙ subst (λ x. same_front f x ≡ true) (e ∙ q ∙ sym n) (front-same f)) (not-true b t);
+  },
+  λ m. elim (cases_Bool b) [
+    | inl t ↦ absurd (m.newer (sym e ∙ same-front f g (sym s ∙ t) ∙ n))
+    | inr u ↦ ap not u
+  ],
+)
+
+-- what was read is the frontier of its node
+pub front_read : (fs : List Front) (k p : ℕ) (f : Front) → f ≡ get_or fs k f → k ≡ p → p < length fs → f ≡ front_of fs p
+front_read fs k p f e s l = e ∙ ap (λ q. get_or fs q f) s ∙ get_or_default fs p f [] l
+
+pub persists : (course : Course) (ws : List Write) → AcknowledgesOldest course.writes ws
+    → StepsTo (sys_of course) (state_of course) Persist (record (state_of course) { writes = ws }) (did silent)
+persists course ws a = (ws, a, refl, refl)
+
+-- a write in flight behind others is found
+some_in_flight : (earlier : List Write) (write : Write) (later : List Write) → is_in_flight write.stage ≡ true
+    → list_any (λ w. is_in_flight w.stage) (earlier ++ write ∷ later) ≡ true
+some_in_flight [] write later e = or_left (is_in_flight write.stage) (list_any (λ w. is_in_flight w.stage) later) e
+some_in_flight (w ∷ earlier) write later e =
+    or_right (is_in_flight w.stage) (list_any (λ w. is_in_flight w.stage) (earlier ++ write ∷ later)) (some_in_flight earlier write later e)
+
+pub persists_nothing : (sys : System) (state : Machine) → list_any (λ w. is_in_flight w.stage) state.writes ≡ false → StepsTo sys state Persist state idle
+persists_nothing sys state none = (
+  λ other effect t.
+      let a = t.1 in
+      two_ways (list_any (λ w. is_in_flight w.stage) state.writes)
+      (ap (λ ws. list_any (λ w. is_in_flight w.stage) ws) a.before ∙ some_in_flight a.earlier a.oldest a.later a.in_flight) none,
+  refl,
+)

@@ -12,7 +12,6 @@ use Rattle.fw_flow.specs.declared.kind.Kind.{Kind}
 use Rattle.fw_flow.specs.declared.kind.Kind.TheVariants.{OutputNumber}
 use Rattle.fw_flow.specs.CutText.{cut_text}
 use Rattle.fw_flow.specs.Dataflow.{Dataflow, node_at, kind_of, node_ids}
-use Rattle.fw_model.specs.Choice.{cut_of}
 use Rattle.fw_model.specs.Steps.{Effect, silent, acked, cuts, lows, Outcome, did, idle, front_of_cut}
 
 -- the recs, each after a space
@@ -41,12 +40,16 @@ cut_lines flow in_order = flat_map (λ p. cut_line (node_at flow p).name (slice_
 abbrev pub low_line : List ℕ → Cut → List ℕ
 low_line name cut = codes "low " ++ name ++ codes " " ++ front_text (front_of_cut cut) ++ codes "\n"
 
+-- the line of each node's low watermark, where these are the cuts in the order of the nodes
+abbrev pub low_lines : Dataflow → List Cut → List ℕ
+low_lines flow in_order = flat_map (λ p. low_line (node_at flow p).name (slice_index_or in_order p Present)) (node_ids flow)
+
 -- the lines of an effect: none, that of an acknowledgement, or one for each node in order
 abbrev pub effect_text : Dataflow → Effect → List ℕ
 effect_text flow silent = []
 effect_text flow (acked o t recs) = ack_line (node_at flow o).name (kind_of flow o) t recs
 effect_text flow (cuts choice) = cut_lines flow choice.cuts
-effect_text flow (lows choice) = flat_map (λ p. low_line (node_at flow p).name (cut_of choice p)) (node_ids flow)
+effect_text flow (lows choice) = low_lines flow choice.cuts
 
 -- the lines of what comes of a step
 abbrev pub outcome_text : Dataflow → Outcome → List ℕ

@@ -1,14 +1,14 @@
 -- What the plain engine stands for.
-use Rattle.std.specs.Prelude.{◌≡◌, ℕ, ◌<◌, Bool, List, [], map, length}
+use Rattle.std.specs.Prelude.{◌≡◌, ℕ, ◌<◌, Bool, List, length}
 use Rattle.fw_frontier.specs.Front.{IsCanonical}
-use Rattle.fw_flow.specs.Dataflow.{System, system_of, bounds_of, KeepsNothing, NotifiesNobody, node_ids}
+use Rattle.fw_flow.specs.Dataflow.{System, system_of, bounds_of}
 use Rattle.fw_flow.specs.declared.step.Step.{Step}
 use Rattle.fw_flow.specs.WellFormed.{IsWellFormedSystem}
-use Rattle.fw_model.specs.Machine.{Machine, first_state, no_stamps, front_of}
-use Rattle.fw_model.specs.Steps.{Effect, silent, acked, cuts, Outcome, did, idle, StepsTo, Run}
+use Rattle.fw_model.specs.Machine.{Machine, first_state, front_of}
+use Rattle.fw_model.specs.Steps.{Effect, silent, acked, cuts, lows, Outcome, did, idle, StepsTo, Run}
 use Rattle.fw_plain.specs.declared.course.Course.{Course}
 use Rattle.fw_plain.specs.declared.stepped.Effect.{Effect as Shown}
-use Rattle.fw_plain.specs.declared.stepped.Effect.TheVariants.{Silent, Acked, Cuts}
+use Rattle.fw_plain.specs.declared.stepped.Effect.TheVariants.{Silent, Acked, Cuts, Lows}
 use Rattle.fw_plain.specs.declared.stepped.Stepped.{Stepped}
 use Rattle.fw_plain.specs.declared.stepped.Stepped.TheVariants.{Did, Idle}
 
@@ -22,34 +22,34 @@ pub record Standing : Type 0 where
 abbrev pub sys_of : Course → System
 sys_of course = system_of course.flow course.batches
 
--- the state of the machine that a course stands for: nothing was written or collected
+-- the state of the machine that a course stands for
 abbrev pub state_of : Course → Machine
 state_of course = record {
   history = course.history.history;
   next = course.history.next;
   settled = course.settled.items;
-  writes = [];
+  writes = course.writes;
   failed = course.failed.items;
   ack_counts = course.ack_counts.items;
-  low = map (λ p. no_stamps (bounds_of course.flow p)) (node_ids course.flow);
+  low = course.low.items;
 }
 
 -- steps lead to the state from the first one
 abbrev pub IsReached : System → Machine → Type 0
 IsReached sys state = (steps : List Step) × (outcomes : List Outcome) × Run sys (first_state sys) steps outcomes state
 
--- the state says of each node what is settled, whether it is failed, and how many stamps it acknowledged
+-- the state says of each node what is settled, whether it is failed, how many stamps it acknowledged, and its low watermark
 pub record IsOfEachNode (sys : System) (state : Machine) : Type 0 where
   pub one_front_each : length state.settled ≡ length sys.flow.nodes
   pub canonical : (p : ℕ) → p < length sys.flow.nodes → IsCanonical (bounds_of sys.flow p) (front_of state.settled p)
   pub one_flag_each : length state.failed ≡ length sys.flow.nodes
   pub one_count_each : length state.ack_counts ≡ length sys.flow.nodes
+  pub one_low_each : length state.low ≡ length sys.flow.nodes
+  pub canonical_low : (p : ℕ) → p < length sys.flow.nodes → IsCanonical (bounds_of sys.flow p) (front_of state.low p)
 
 -- what is true of each state of an engine
 pub record IsSound (sys : System) (state : Machine) : Type 0 where
   pub well_formed : IsWellFormedSystem sys
-  pub keeps_nothing : KeepsNothing sys.flow
-  pub notifies_nobody : NotifiesNobody sys.flow
   pub reached : IsReached sys state
   pub of_each_node : IsOfEachNode sys state
 
@@ -58,6 +58,7 @@ abbrev pub effect_of : Shown → Effect
 effect_of Silent = silent
 effect_of (Acked output at recs) = acked output at recs.recs
 effect_of (Cuts choice) = cuts choice
+effect_of (Lows choice) = lows choice
 
 -- the machine's outcome that an engine answers
 abbrev pub outcome_of : Stepped → Outcome

@@ -10,3 +10,5 @@ pub mod Past
 pub mod Ready
 pub mod Shown
 pub mod Wanted
+pub mod Writes
+pub mod Written

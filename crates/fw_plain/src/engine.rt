@@ -1,7 +1,6 @@
 //! The engine and its steps.
 ghost use Rattle.std.specs.Prelude.{◌≡◌, false, true, IfOk, IsErr, OnErr, OnOk, IsTrue};
-ghost use Rattle.fw_flow.specs.Dataflow.{NotifiesNobody, KeepsNothing, system_of};
-ghost use Rattle.fw_flow.specs.Step.{is_plain_step};
+ghost use Rattle.fw_flow.specs.Dataflow.{system_of};
 ghost use Rattle.fw_flow.specs.WellFormed.{IsWellFormedSystem};
 ghost use Rattle.fw_model.specs.History.{IsLegal};
 ghost use Rattle.fw_model.specs.Machine.{first_state, events};
@@ -15,8 +14,8 @@ use fw_lines::Batches;
 use std::alloc::{AllocError, Global};
 use std::marker::Model;
 
-/// An engine that keeps the list of events, of a dataflow whose nodes keep nothing for their recovery and are not notified.
-/// Contracts see the system that it runs, the state of the machine that it stands for, and whether memory was refused.
+/// An engine that keeps the list of events. Contracts see the system that it runs, the state of the machine that it stands
+/// for, and whether memory was refused.
 #[derive(Debug, Drop)]
 pub struct Engine {
     pub(crate) course: Course,
@@ -36,9 +35,7 @@ impl Model for Engine {
 impl Engine {
     /// An engine to which nothing has happened. The error is want of memory.
     pub fn new(alloc: Global, flow: Flow, batches: Batches) -> Result<Self, AllocError>
-        requires keeps_nothing { KeepsNothing flow }
-        requires notifies_nobody { NotifiesNobody flow }
-        requires well_formed { IsWellFormedSystem (system_of flow batches) }
+        requires { IsWellFormedSystem (system_of flow batches) }
         ensures { IfOk result (λ e. e ≡ record {
           sys = system_of flow batches;
           state = first_state (system_of flow batches);
@@ -59,11 +56,9 @@ impl Engine {
         &self.course.flow
     }
 
-    /// Takes a step, and tells what it shows: Idle exactly where it is not enabled, and then nothing changes. The step is
-    /// none of writes and collections. The error is want of memory: the state stays as it was, and from then on every step
-    /// answers it.
+    /// Takes a step, and tells what it shows: Idle exactly where it is not enabled, and then nothing changes. The error is
+    /// want of memory: the state stays as it was, and from then on every step answers it.
     pub fn step(&mut self, step: &Step) -> Result<Stepped, AllocError>
-        requires { is_plain_step step.now ≡ true }
         ensures system { self.new.sys ≡ self.old.sys }
         ensures ok { IfOk result (λ stepped.
             StepsTo self.old.sys self.old.state step.now self.new.state (outcome_of stepped)) }

@@ -1,10 +1,15 @@
 //! The events of an engine, under serial numbers that are never used twice.
-ghost use Rattle.std.specs.Prelude.{◌≡◌, reverse, OnOk, OnErr};
+ghost use Rattle.std.specs.Prelude.{◌≡◌, ◌==◌, reverse, OnOk, OnErr};
+ghost use Rattle.std.specs.List.{list_any};
 ghost use Rattle.fw_model.specs.Machine.{events};
+ghost use Rattle.fw_model.specs.Steps as steps;
 ghost use Rattle.fw_plain.specs.Past.{nothing_past, with_one_more, cut_past};
+ghost use Rattle.fw_plain.specs.Writes.{without_batches};
 
+use crate::collecting::any_given_up;
 use crate::restoring::{kept_serials, retain_kept};
 use fw_flow::{Cut, Event, Flow};
+use fw_frontier::Front;
 use std::alloc::{AllocError, Global};
 use std::marker::Model;
 
@@ -48,6 +53,27 @@ impl Events {
         &self.events
     }
 
+    /// The serial number of the next event.
+    pub(crate) fn next_serial(&self) -> u64
+        ensures { result ≡ self.now.next }
+    {
+        self.next
+    }
+
+    /// Whether an event of the serial number is in the history.
+    pub(crate) fn has_serial(&self, serial: u64) -> bool
+        ensures { result ≡ steps.has_serial serial self.now.history }
+    {
+        is_among(serial, &self.serials)
+    }
+
+    /// Whether an event of the serial number is in the history and given up, where this is the low watermark.
+    pub(crate) fn is_given_up(&self, flow: &Flow, low: &[Front], serial: u64) -> bool
+        ensures { result ≡ steps.is_serial_given_up (without_batches flow.now) low.now serial self.now.history }
+    {
+        any_given_up(flow, low, &self.serials, &self.events, serial)
+    }
+
     /// One more event, under the next serial number. The error is want of memory, or of a number after 2^64 events; nothing
     /// changes then.
     pub(crate) fn push(&mut self, event: Event) -> Result<(), AllocError>
@@ -76,4 +102,11 @@ impl Events {
         self.serials = serials;
         Ok(())
     }
+}
+
+/// Whether the number is one of these.
+fn is_among(serial: u64, serials: &[u64]) -> bool
+    ensures { result ≡ list_any (λ other. other == serial) serials.now }
+{
+    serials.iter().any(|other| *other == serial)
 }

@@ -63,7 +63,8 @@ fn is_failed_with(failed: bool, nodes: &[NodeId], place: usize) -> bool
     failed || is_named(nodes, place)
 }
 
-fn is_named(nodes: &[NodeId], place: usize) -> bool
+/// Whether the node at the place is one of these.
+pub(crate) fn is_named(nodes: &[NodeId], place: usize) -> bool
     ensures { result ≡ is_one_of place nodes.now }
 {
     nodes.iter().any(|node| place == node.place() as usize)

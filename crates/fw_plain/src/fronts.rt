@@ -1,7 +1,9 @@
 //! A frontier for each node.
-ghost use Rattle.std.specs.Prelude.{◌≡◌, ◌<◌, false, not, ◌&&◌, map, length, slice_index_or, IfOk};
+ghost use Rattle.std.specs.Prelude.{◌≡◌, ◌↔◌, ◌<◌, false, not, ◌&&◌, map, length, slice_index_or, IfOk, IsTrue};
+ghost use Rattle.fw_frontier.specs.Front.{same_front};
 ghost use Rattle.fw_flow.specs.Dataflow.{bounds_of, node_ids};
 ghost use Rattle.fw_model.specs.Machine.{front_of, no_stamps};
+ghost use Rattle.fw_model.specs.Steps as steps;
 ghost use Rattle.fw_plain.specs.Fronts as spec;
 ghost use Rattle.fw_plain.specs.Fronts.{IsGrown, AreGrown, IsCut, AreCut};
 
@@ -18,6 +20,58 @@ pub(crate) fn no_stamps_each(alloc: Global, flow: &Flow) -> Result<Vec<Front>, A
         fronts.push(Front::empty(alloc, &flow.domain(NodeId::at(place as u32)))?)?;
     }
     Ok(fronts)
+}
+
+/// The same frontiers once more. The error is want of memory.
+pub(crate) fn copied(alloc: Global, fronts: &[Front]) -> Result<Vec<Front>, AllocError>
+    ensures { IfOk result (λ copies. copies.items ≡ fronts.now) }
+{
+    let mut copies = Vec::with_capacity(alloc, fronts.len())?;
+    for front in fronts {
+        copies.push(front.copy()?)?;
+    }
+    Ok(copies)
+}
+
+/// The frontiers of these cuts. The error is want of memory.
+pub(crate) fn fronts_of_cuts(alloc: Global, cuts: &[Cut]) -> Result<Vec<Front>, AllocError>
+    ensures { IfOk result (λ fronts. fronts.items ≡ map steps.front_of_cut cuts.now) }
+{
+    let mut fronts = Vec::with_capacity(alloc, cuts.len())?;
+    for cut in cuts {
+        fronts.push(front_of_cut(alloc, cut)?)?;
+    }
+    Ok(fronts)
+}
+
+fn front_of_cut(alloc: Global, cut: &Cut) -> Result<Front, AllocError>
+    ensures { IfOk result (λ front. front ≡ steps.front_of_cut cut.now) }
+{
+    match cut {
+        Cut::Present => Ok(Front::all(alloc)),
+        Cut::At(front) => front.copy(),
+    }
+}
+
+/// Whether the frontiers are the same ones, each in its place.
+pub(crate) fn are_same(fronts: &[Front], others: &[Front]) -> bool
+    requires { length fronts.now ≡ length others.now }
+    ensures { IsTrue result ↔ fronts.now ≡ others.now }
+{
+    for place in 0..fronts.len() {
+        if !is_same_at(fronts, others, place) {
+            return false;
+        }
+    }
+    true
+}
+
+fn is_same_at(fronts: &[Front], others: &[Front], place: usize) -> bool
+    requires fronts { place < length fronts.now }
+    requires others { place < length others.now }
+    ensures { result ≡ same_front (front_of fronts.now place) (front_of others.now place) }
+{
+    fronts[place].same(&others[place])
 }
 
 /// Whether a frontier has a stamp that the other lacks.

@@ -35,17 +35,11 @@ impl Engine {
         self.course.ack_counts.get(place).copied().unwrap_or(0)
     }
 
-    /// The low watermark of a node: what lies in it is not needed any more. Nothing does in this engine, which collects
-    /// nothing. None past the last node. The error is want of memory.
-    pub fn low_watermark(&self, node: NodeId) -> Result<Option<Front>, AllocError>
-        ensures { IfOk result (λ low. low ≡ slice_get self.now.state.low node) }
+    /// The low watermark of a node: what lies in it is not needed any more; none past the last node.
+    pub fn low_watermark(&self, node: NodeId) -> Option<&Front>
+        ensures { option_copied result ≡ slice_get self.now.state.low node }
     {
-        let flow = &self.course.flow;
-        if node.place() as usize >= flow.nodes() {
-            return Ok(None);
-        }
-        let low = Front::empty(self.course.alloc, &flow.domain(node))?;
-        Ok(Some(low))
+        self.course.low.get(node.place() as usize)
     }
 
     /// What is pending on an edge: what was sent on it, what the latest event sent first, less what was delivered. The error

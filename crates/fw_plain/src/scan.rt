@@ -14,8 +14,10 @@ mod ready;
 mod sending;
 mod waiting;
 
+pub(crate) use arrivals::{place, stamp};
 pub use complete::complete_frontiers;
 pub use next::{injected_count, next_batch, next_message, next_notice};
 pub use outputs::recs_at;
+pub(crate) use sending::send_stamp;
 pub use sending::sent_by;
 pub use waiting::pending;

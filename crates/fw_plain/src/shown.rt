@@ -1,7 +1,7 @@
 //! What comes of a step, as text.
 ghost use Rattle.std.specs.Prelude.{◌≡◌, Some};
 ghost use Rattle.fw_flow.specs.Dataflow.{node_at};
-ghost use Rattle.fw_plain.specs.EffectText.{recs_text, ack_line, cut_line, cut_lines};
+ghost use Rattle.fw_plain.specs.EffectText.{recs_text, ack_line, cut_line, cut_lines, low_line, low_lines};
 
 use crate::Effect;
 use fw_bag::Bag;
@@ -12,7 +12,7 @@ use std::marker::Model;
 
 /// What came of a step, with the flow whose nodes it names. It prints the lines of the effect, each ended by LF: nothing,
 /// `ack OUTPUT epoch EPOCH KEY:VALUE ..` (or `number` and a number), or for each node in order `cut NODE present`,
-/// `cut NODE all` or `cut NODE until STAMP ..`. Contracts see this text.
+/// `cut NODE all` or `cut NODE until STAMP ..`, or `low NODE all` or `low NODE until STAMP ..`. Contracts see this text.
 #[derive(Drop)]
 pub struct Shown<'a> {
     flow: &'a Flow,
@@ -57,6 +57,13 @@ impl<'a> fmt::Display for Shown<'a> {
             }
             Some(Effect::Cuts(choice)) => {
                 let lines = CutLines {
+                    flow: self.flow,
+                    cuts: choice.cuts.as_slice(),
+                };
+                write!(f, "{lines}")
+            }
+            Some(Effect::Lows(choice)) => {
+                let lines = LowLines {
                     flow: self.flow,
                     cuts: choice.cuts.as_slice(),
                 };
@@ -157,6 +164,50 @@ impl<'a> fmt::Display for CutLine<'a> {
         match self.cut {
             Some(cut) => writeln!(f, "cut {name} {cut}"),
             None => writeln!(f, "cut {name} {}", Cut::Present),
+        }
+    }
+}
+
+// The line of each node's low watermark, where the cuts stand in the order of the nodes.
+#[derive(Drop)]
+struct LowLines<'a> {
+    flow: &'a Flow,
+    cuts: &'a [Cut],
+}
+
+impl<'a> fmt::Display for LowLines<'a> {
+    ghost output = { λ lines. Some (low_lines lines.flow.now lines.cuts.now) };
+
+    fn fmt<W: fmt::Write>(&self, f: &mut fmt::Formatter<W>) -> fmt::Result {
+        for place in 0..self.flow.nodes() {
+            let line = LowLine {
+                name: self.flow.node_name(NodeId::at(place as u32)),
+                cut: self.cuts.get(place),
+            };
+            write!(f, "{line}")?;
+        }
+        Ok(())
+    }
+}
+
+// The line of a node's low watermark; that of a node which keeps its state, or for which no cut stands, is all.
+#[derive(Drop)]
+struct LowLine<'a> {
+    name: &'a Name,
+    cut: Option<&'a Cut>,
+}
+
+impl<'a> fmt::Display for LowLine<'a> {
+    ghost use Rattle.std.specs.Prelude.{option_copied, unwrap_or};
+    ghost use Rattle.fw_flow.specs.declared.choice.Cut.TheVariants.{Present};
+
+    ghost output = { λ line. Some (low_line line.name.now (unwrap_or (option_copied line.cut) Present)) };
+
+    fn fmt<W: fmt::Write>(&self, f: &mut fmt::Formatter<W>) -> fmt::Result {
+        let name = self.name;
+        match self.cut {
+            Some(Cut::At(front)) => writeln!(f, "low {name} {front}"),
+            Some(Cut::Present) | None => writeln!(f, "low {name} all"),
         }
     }
 }

@@ -20,6 +20,8 @@ pub enum Effect {
     },
     /// The nodes were restored to the choice.
     Cuts(Choice),
+    /// The frontiers of the choice's cuts are the low watermark of now.
+    Lows(Choice),
 }
 
 /// What comes of a step.

@@ -49,7 +49,7 @@ pub(super) fn is_same(s: &Stamp, t: &Stamp) -> bool
 }
 
 /// The node of an event.
-pub(super) fn place(flow: &Flow, event: &Event) -> NodeId
+pub(crate) fn place(flow: &Flow, event: &Event) -> NodeId
     ensures { result ≡ function.event_node flow.now event.now }
 {
     match event {
@@ -60,7 +60,7 @@ pub(super) fn place(flow: &Flow, event: &Event) -> NodeId
 }
 
 /// The stamp of an event.
-pub(super) fn stamp(event: &Event) -> Stamp
+pub(crate) fn stamp(event: &Event) -> Stamp
     ensures { result ≡ function.event_stamp event.now }
 {
     match event {

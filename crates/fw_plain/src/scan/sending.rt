@@ -161,7 +161,7 @@ fn recs_on(
 
 /// The stamp at which an event of a node of this kind at `t` sends; none where it sends nothing.
 #[tactic(auto, using(crate::proofs::SendSteps::domain_length, crate::proofs::SendSteps::regrouped_first))]
-fn send_stamp(flow: &Flow, kind: Kind, t: &Stamp) -> Option<Stamp>
+pub(crate) fn send_stamp(flow: &Flow, kind: Kind, t: &Stamp) -> Option<Stamp>
     requires in_domain { in_domain (bounds_of_domain flow.now (domain_of_kind flow.now kind)) t.now ≡ true }
     requires group { IsGroupSize kind }
     ensures { result ≡ send_stamp_of_kind flow.now kind t.now }

@@ -1,9 +1,9 @@
-use Rattle.std.proofs.Common.{List, sym, subst}
+use Rattle.std.proofs.Common.{List, refl, sym, subst}
 use Rattle.std.specs.Option.{option_copied}
 use Rattle.fw_flow.specs.declared.event.Event.{Event}
 use Rattle.fw_model.specs.Steps.{IsNextMessage}
 use Rattle.fw_plain.specs.Engine.{sys_of, state_of}
-use Rattle.fw_plain.proofs.EngineLaws.{delivers, delivers_nothing, at_nodes, at_some, at_none}
+use Rattle.fw_plain.proofs.EngineLaws.{delivers_nothing, at_nodes, at_some, at_none}
 use Rattle.fw_plain.proofs.course.Course.deliver.Goals as goal
 
 pub next_message-requires : goal.next_message-requires
@@ -26,7 +26,10 @@ returns-clause-ok c =
     let e = c.args.self.now in
     let d = c.args.edge in
     let at = option_copied c.args.at in
-    let m = c.in-Some.message in
-    delivers e c.push.new.self d at m c.requires.keeps_nothing
-    (subst (λ (h : List Event). IsNextMessage (sys_of e) h d at m) (sym c.as_slice-events.ensures) (at_some _ _ _ _ c.in-Some.is c.in_ok-found.ensures))
-    (cc) c.in_ok-push.ensures.ok
+    let m = c.in-Some.message in (
+      m,
+      subst (λ (h : List Event). IsNextMessage (sys_of e) h d at m) (sym c.as_slice-events.ensures) (at_some _ _ _ _ c.in-Some.is c.in_ok-found.ensures),
+      (cc),
+      c.in_ok-add.ensures.ok,
+      refl,
+    )

@@ -8,4 +8,4 @@ returns-then-not-any_live-clause-ok c =
 
 pub returns-clause-ok : goal.returns-clause-ok
 returns-clause-ok c =
-    fails c.args.self.now c.in_ok-self.field-0.items c.args.nodes.now c.requires (cc) (rw c.deref-2.ensures.value at c.in_ok-self.ensures)
+    fails c.args.self.now c.in_ok-self.field-0.items c.lose.new.self c.args.nodes.now c.requires (cc) (rw c.deref-2.ensures.value at c.in_ok-self.ensures) c.lose.ensures

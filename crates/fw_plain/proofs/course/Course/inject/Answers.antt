@@ -1,8 +1,8 @@
-use Rattle.std.proofs.Common.{List, sym, subst}
+use Rattle.std.proofs.Common.{List, refl, sym, subst}
 use Rattle.fw_flow.specs.declared.event.Event.{Event}
 use Rattle.fw_model.specs.History.{IsNextBatch}
 use Rattle.fw_plain.specs.Engine.{sys_of, state_of}
-use Rattle.fw_plain.proofs.EngineLaws.{injects, injects_nothing, epochs_of, at_some, at_none}
+use Rattle.fw_plain.proofs.EngineLaws.{injects_nothing, epochs_of, at_some, at_none}
 use Rattle.fw_plain.proofs.course.Course.inject.Goals as goal
 
 pub next_batch-requires : goal.next_batch-requires
@@ -23,7 +23,10 @@ pub returns-clause-ok : goal.returns-clause-ok
 returns-clause-ok c =
     let e = c.args.self.now in
     let s = c.args.source in
-    let x = c.in-Some.epoch in
-    injects e c.push.new.self s x c.requires.keeps_nothing
-    (subst (λ (h : List Event). IsNextBatch (sys_of e) h s x) (sym c.as_slice-events.ensures) (at_some _ _ _ _ c.in-Some.is c.next_batch.ensures))
-    (cc) c.in_ok-push.ensures.ok
+    let x = c.in-Some.epoch in (
+      x,
+      subst (λ (h : List Event). IsNextBatch (sys_of e) h s x) (sym c.as_slice-events.ensures) (at_some _ _ _ _ c.in-Some.is c.next_batch.ensures),
+      (cc),
+      c.in_ok-add.ensures.ok,
+      refl,
+    )

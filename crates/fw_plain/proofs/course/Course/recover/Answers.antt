@@ -7,6 +7,7 @@ returns-then-not-any_failed-clause-ok c = recovers_nothing (sys_of c.args.self.n
 
 pub returns-clause-ok : goal.returns-clause-ok
 returns-clause-ok c =
-    recovers c.args.self.now c.cut.new.self c.in_ok-settled.settled.items c.in_ok-failed.failed.items
+    recovers c.args.self.now c.cut.new.self c.in_ok-settled.settled.items c.retain_kept.new.self c.in_ok-failed.failed.items
     (record { cuts = c.in_ok-choice.choice.cuts; notices = c.in_ok-choice.choice.notices }) c.requires (cc) c.in_ok-choice.ensures
-    (rw (c.as_slice.ensures, c.deref-2.ensures.value) at c.in_ok-settled.ensures) (rw c.as_slice-2.ensures at c.in_ok-cut.ensures.ok) c.in_ok-failed.ensures
+    (rw (c.as_slice.ensures, c.deref-2.ensures.value) at c.in_ok-settled.ensures) (rw c.as_slice-2.ensures at c.in_ok-cut.ensures.ok) c.retain_kept.ensures
+    c.in_ok-failed.ensures

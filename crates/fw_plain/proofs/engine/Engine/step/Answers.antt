@@ -9,14 +9,14 @@ returns-then-self-clause-legal c =
 
 pub invariant_of-self : goal.invariant_of-self
 invariant_of-self c =
-    sound_then c.self.inside.course c.take-stepped.new.self c.args.step.now c.take-stepped.result c.requires c.self.invariant
+    sound_then c.self.inside.course c.take-stepped.new.self c.args.step.now c.take-stepped.result c.self.invariant
     c.take-stepped.ensures.system c.take-stepped.ensures.ok c.take-stepped.ensures.err
 
 pub returns-clause-legal : goal.returns-clause-legal
 returns-clause-legal c =
     let next = c.take-stepped.new.self in
     legal_of (sys_of next) (state_of next)
-    (sound_then c.self.inside.course next c.args.step.now c.take-stepped.result c.requires c.self.invariant
+    (sound_then c.self.inside.course next c.args.step.now c.take-stepped.result c.self.invariant
     c.take-stepped.ensures.system c.take-stepped.ensures.ok c.take-stepped.ensures.err)
 
 pub returns-clause-ok : goal.returns-clause-ok

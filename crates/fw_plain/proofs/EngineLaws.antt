@@ -1,7 +1,6 @@
 -- What each step does to the state that a course stands for.
-use Rattle.std.proofs.Common.{◌≡◌, ℕ, zero, suc, ◌+◌, ◌<◌, ◌==◌, cond, Bool, true, false, ◌&&◌, List, [], ◌∷◌, ◌++◌, map, length, slice_set, slice_index_or, replicate, refl, sym, ◌∙◌, ap, subst, arith, Option, Some, None, MatchOption, Result, Ok, Err, IfOk, OnOk, OnErr}
+use Rattle.std.proofs.Common.{◌≡◌, ℕ, zero, suc, ◌+◌, ◌<◌, ◌==◌, cond, Bool, true, false, List, [], ◌∷◌, ◌++◌, map, length, slice_set, slice_index_or, replicate, refl, sym, ◌∙◌, ap, subst, arith, Option, Some, None, MatchOption, Result, Ok, Err, IfOk, OnOk, OnErr}
 use Rattle.std.specs.declared.alloc.AllocError.{AllocError}
-use Rattle.std.proofs.lemmas.Bool.{true≢false}
 use Rattle.std.specs.Result.{is_err}
 use Rattle.std.specs.List.{AllByRecursion, range_with_len}
 use Rattle.std.proofs.lemmas.Bool.Decides.{nat_tests}
@@ -14,7 +13,6 @@ use Rattle.fw_flow.specs.declared.choice.Choice.{Choice}
 use Rattle.fw_flow.specs.declared.choice.Cut.{Cut}
 use Rattle.fw_flow.specs.declared.choice.Cut.TheVariants.{Present, At}
 use Rattle.fw_flow.specs.declared.event.Event.{Event}
-use Rattle.fw_flow.specs.declared.event.Event.TheVariants.{Inject as Injected, Deliver as Delivered}
 use Rattle.fw_flow.specs.declared.event.Message.{Message}
 use Rattle.fw_flow.specs.declared.kind.Policy.{Policy}
 use Rattle.fw_flow.specs.declared.step.Step.{Step}
@@ -26,7 +24,7 @@ use Rattle.fw_flow.specs.WellFormed.{IsWellFormedSystem}
 use Rattle.fw_model.specs.Choice.{cut_of, kept, IsCandidate, IsWatermark}
 use Rattle.fw_model.specs.History.{IsLegal, IsNextBatch, AreAtNodes}
 use Rattle.fw_model.specs.Machine.{Machine, Write, events, first_state, front_of, is_failed, no_stamps}
-use Rattle.fw_model.specs.Steps.{Effect, silent, Outcome, did, idle, with_event, write_of_event, LeadsTo, StepsTo, IsNextMessage, IsNextNotice, GrowsTo, CutsTo, IsSettledCut, front_of_cut}
+use Rattle.fw_model.specs.Steps.{Effect, Outcome, did, idle, with_event, write_of_event, LeadsTo, StepsTo, IsNextMessage, IsNextNotice, GrowsTo, CutsTo, IsSettledCut, front_of_cut}
 use Rattle.fw_model.proofs.DomainLaws.{has_epochs}
 use Rattle.fw_model.proofs.GoingOn.{runs-go_on}
 use Rattle.fw_model.proofs.LegalLaws.{legal_events-in_domain}

@@ -1,5 +1,5 @@
 -- Writes: which is the oldest in flight, which are asked, and which are collected.
-use Rattle.std.proofs.Common.{◌≡◌, ℕ, zero, suc, ◌+◌, ◌<◌, ◌≤◌, Bool, true, false, ◌&&◌, ◌||◌, ◌==◌, not, cond, List, [], ◌∷◌, ◌++◌, map, length, get_or, slice_set, take, drop, refl, sym, ◌∙◌, ap, subst, append_assoc, arith, Option, Some, None, option_to_list}
+use Rattle.std.proofs.Common.{◌≡◌, ℕ, suc, ◌+◌, ◌<◌, ◌≤◌, Bool, true, false, ◌&&◌, ◌==◌, not, cond, List, [], ◌∷◌, ◌++◌, map, length, get_or, slice_set, take, drop, refl, sym, ◌∙◌, ap, subst, arith, Option, Some, None, option_to_list}
 use Rattle.std.proofs.lemmas.Bool.{or_from}
 use Rattle.std.proofs.lemmas.Grind.{flat_map-append}
 use Rattle.std.proofs.lemmas.List.{append-nil, set_split, get_or_default, take-append-drop, drop_more, take_all, drop_all}
@@ -9,8 +9,8 @@ use Rattle.std.specs.List.{list_any, flat_map, filter, range_with_len}
 use Rattle.fw_frontier.specs.Front.{Front, same_front}
 use Rattle.fw_flow.specs.Dataflow.{System, policy_of}
 use Rattle.fw_flow.proofs.Ranges.{joined_more}
-use Rattle.fw_model.specs.Machine.{Machine, Write, Written, checkpoint, logged_event, acknowledged, SerialEvent, front_of}
-use Rattle.fw_model.specs.Steps.{AcknowledgesOldest, is_in_flight, is_eager, checkpoint_of, checkpoint_front, checkpoints_of, last_or, newest_checkpoint, eager_writes, after_collection, lies_below, collected_writes}
+use Rattle.fw_model.specs.Machine.{Machine, Write, acknowledged, SerialEvent, front_of}
+use Rattle.fw_model.specs.Steps.{AcknowledgesOldest, is_in_flight, is_eager, checkpoint_of, checkpoint_front, last_or, newest_checkpoint, eager_writes, after_collection, lies_below, collected_writes}
 use Rattle.fw_plain.specs.Writes.{IsOldest}
 
 -- ---- the oldest in flight

@@ -1,4 +1,4 @@
-use Rattle.std.proofs.Common.{ℕ, Bool, ◌<◌, ◌≡◌, length, length-set, sym, ◌∙◌, ap, arith}
+use Rattle.std.proofs.Common.{◌<◌, ◌≡◌, length, length-set, sym, ◌∙◌, ap, arith}
 use Rattle.std.proofs.lemmas.List.{get_or_default}
 use Rattle.fw_model.specs.Machine.{Write}
 use Rattle.fw_model.specs.Steps.{after_collection, lies_below}

@@ -1,6 +1,5 @@
-use Rattle.std.proofs.Common.{[], length, ◌==◌, sym, ◌∙◌, ap, not, arith, ◌&&◌, true}
+use Rattle.std.proofs.Common.{[], length, ◌==◌, sym, ◌∙◌, ap, not, arith, ◌&&◌}
 use Rattle.std.proofs.lemmas.List.{get_or_past}
-use Rattle.fw_model.specs.Machine.{front_of}
 use Rattle.fw_frontier.specs.Front.{Front, is_within}
 use Rattle.fw_plain.proofs.FrontsLaws.{all-within}
 use Rattle.fw_plain.proofs.collecting.is_below.Goals as goal

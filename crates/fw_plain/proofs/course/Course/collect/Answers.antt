@@ -1,6 +1,5 @@
 use Rattle.std.proofs.Common.{length, map, sym, ◌∙◌, ap}
 use Rattle.fw_flow.specs.declared.choice.Choice.{Choice}
-use Rattle.fw_flow.specs.declared.choice.Cut.{Cut}
 use Rattle.fw_model.specs.Steps.{front_of_cut}
 use Rattle.fw_model.proofs.Decisions.{two_ways}
 use Rattle.fw_plain.specs.Engine.{sys_of, state_of}

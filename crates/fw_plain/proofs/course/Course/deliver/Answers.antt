@@ -1,4 +1,4 @@
-use Rattle.std.proofs.Common.{List, refl, sym, ◌∙◌, subst}
+use Rattle.std.proofs.Common.{List, refl, sym, subst}
 use Rattle.std.specs.Option.{option_copied}
 use Rattle.fw_flow.specs.declared.event.Event.{Event}
 use Rattle.fw_model.specs.Steps.{IsNextMessage}

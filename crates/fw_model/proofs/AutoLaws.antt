@@ -1,9 +1,9 @@
 -- Steps that are taken by themselves: the first that is enabled is one, and from a reached state there is one run of them.
-use Rattle.std.proofs.Common.{◌≡◌, ◌⊎◌, inl, inr, ℕ, zero, suc, ◌+◌, List, [], ◌∷◌, ◌++◌, map, length, refl, sym, ap, subst, ◌∙◌, arith, append_assoc}
+use Rattle.std.proofs.Common.{◌≡◌, ◌⊎◌, inl, inr, ℕ, zero, suc, ◌+◌, List, [], ◌∷◌, ◌++◌, length, refl, sym, ap, subst, ◌∙◌, arith}
 use Rattle.fw_flow.specs.declared.step.Step.{Step}
 use Rattle.fw_flow.specs.Dataflow.{System}
 use Rattle.fw_flow.specs.WellFormed.{IsWellFormedSystem}
-use Rattle.fw_model.specs.Auto.{auto_steps, IsIdle, AreIdle, IsFirstEnabled, TakesFirst, IsAutoRun}
+use Rattle.fw_model.specs.Auto.{auto_steps, IsIdle, AreIdle, IsFirstEnabled, IsAutoRun}
 use Rattle.fw_model.specs.LawsOfAuto.{AutoRunsAreOne, AutoRunsAreRuns, AutoRunsGoOn}
 use Rattle.fw_model.specs.Machine.{Machine, first_state}
 use Rattle.fw_model.specs.Steps.{Effect, Outcome, did, idle, LeadsTo, StepsTo, Run}
@@ -55,13 +55,18 @@ first-more : (sys : System) (state : Machine) (step : Step) (steps : List Step) 
     → AreIdle sys state (step ∷ steps) ⊎ ((first : Step) × (last : Machine) × (effect : Effect) × IsFirstEnabled sys state (step ∷ steps) first last effect)
 first-more sys state step steps next (did effect) t more = inr (step, next, effect, record { earlier = []; later = steps; among = refl; none_earlier = tt; leads = t })
 first-more sys state step steps next idle t (inl none) = inl (t.0, none)
-first-more sys state step steps next idle t (inr f) = inr (f.0, f.1, f.2, record {
-  earlier = step ∷ f.3.earlier;
-  later = f.3.later;
-  among = ap (λ others. step ∷ others) f.3.among;
-  none_earlier = (t.0, f.3.none_earlier);
-  leads = f.3.leads;
-})
+first-more sys state step steps next idle t (inr f) = inr (
+  f.0,
+  f.1,
+  f.2,
+  record {
+    earlier = step ∷ f.3.earlier;
+    later = f.3.later;
+    among = ap (λ others. step ∷ others) f.3.among;
+    none_earlier = (t.0, f.3.none_earlier);
+    leads = f.3.leads;
+  },
+)
 
 -- none of the steps is enabled, or one is the first that is
 first-found : (sys : System) (state : Machine) → ((step : Step) → (next : Machine) × (outcome : Outcome) × StepsTo sys state step next outcome) → (steps : List Step)

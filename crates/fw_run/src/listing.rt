@@ -58,14 +58,14 @@ impl<'a> fmt::Display for NodeLine<'a> {
             flow: self.flow,
             domain: self.flow.domain_word(self.node),
         };
-        let policy = policy_word(kind, self.flow.policy(self.node));
+        let policy = policy_word(&kind, &self.flow.policy(self.node));
         writeln!(f, "node {name} {kind} {domain} {policy}")
     }
 }
 
 // The word of a policy; `-` for inputs and outputs, which have none.
-fn policy_word(kind: Kind, policy: Policy) -> &'static str
-    ensures { result.now ≡ policy_word kind policy }
+fn policy_word(kind: &Kind, policy: &Policy) -> &'static str
+    ensures { result.now ≡ policy_word kind.now policy.now }
 {
     if kind.is_input() || kind.is_output() {
         "-"

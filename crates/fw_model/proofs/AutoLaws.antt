@@ -1,9 +1,9 @@
 -- Steps that are taken by themselves: the first that is enabled is one, and from a reached state there is one run of them.
-use Rattle.std.proofs.Common.{◌≡◌, ◌⊎◌, inl, inr, ℕ, zero, suc, ◌+◌, List, [], ◌∷◌, ◌++◌, map, length, refl, sym, ap, subst, ◌∙◌, arith, append_assoc}
+use Rattle.std.proofs.Common.{◌≡◌, ◌⊎◌, inl, inr, ℕ, zero, suc, ◌+◌, List, [], ◌∷◌, ◌++◌, length, refl, sym, ap, subst, ◌∙◌, arith}
 use Rattle.fw_flow.specs.declared.step.Step.{Step}
 use Rattle.fw_flow.specs.Dataflow.{System}
 use Rattle.fw_flow.specs.WellFormed.{IsWellFormedSystem}
-use Rattle.fw_model.specs.Auto.{auto_steps, IsIdle, AreIdle, IsFirstEnabled, TakesFirst, IsAutoRun}
+use Rattle.fw_model.specs.Auto.{auto_steps, IsIdle, AreIdle, IsFirstEnabled, IsAutoRun}
 use Rattle.fw_model.specs.LawsOfAuto.{AutoRunsAreOne, AutoRunsAreRuns, AutoRunsGoOn}
 use Rattle.fw_model.specs.Machine.{Machine, first_state}
 use Rattle.fw_model.specs.Steps.{Effect, Outcome, did, idle, LeadsTo, StepsTo, Run}

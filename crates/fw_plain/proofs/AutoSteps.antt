@@ -1,17 +1,17 @@
 -- The steps that are tried one after another, by their places.
-use Rattle.std.proofs.Common.{◌≡◌, ℕ, ◌+◌, ◌-◌, ◌*◌, ◌<◌, ◌≤◌, Bool, true, false, List, [], ◌∷◌, ◌++◌, map, length, take, drop, slice_index_or, None, refl, sym, ◌∙◌, ap, subst, arith, Result, Ok, Err, IsErr, IsTrue}
+use Rattle.std.proofs.Common.{◌≡◌, ℕ, ◌+◌, ◌-◌, ◌*◌, ◌<◌, ◌≤◌, Bool, false, List, [], ◌∷◌, ◌++◌, map, length, take, drop, slice_index_or, None, refl, inl, inr, sym, ◌∙◌, ap, subst, arith, Ok, IsErr, IsTrue}
 use Rattle.std.proofs.lemmas.Bool.{cases_Bool, false≢true}
 use Rattle.std.proofs.lemmas.List.{get_or_append_left, get_or-append_right, length-append, take-append-drop, take_more, take_all, drop_more}
 use Rattle.std.proofs.lemmas.List.FromFn.{length-map-range_with_len, get_or-map-range_with_len}
 use Rattle.std.specs.List.{range_with_len}
 use Rattle.fw_flow.specs.declared.step.Step.{Step}
 use Rattle.fw_flow.specs.declared.step.Step.TheVariants.{Inject, Deliver, Notify, Progress as ProgressStep, Persist, Ack}
-use Rattle.fw_flow.specs.Dataflow.{Dataflow, System, node_ids}
+use Rattle.fw_flow.specs.Dataflow.{Dataflow, System}
 use Rattle.fw_model.proofs.AutoLaws.{idle-append}
-use Rattle.fw_model.specs.Auto.{deliveries, notifications, acknowledgements, injections, auto_steps, edge_ids, IsIdle, AreIdle, TakesFirst}
+use Rattle.fw_model.specs.Auto.{deliveries, notifications, acknowledgements, injections, auto_steps, IsIdle, AreIdle, TakesFirst}
 use Rattle.fw_model.specs.Machine.{Machine}
-use Rattle.fw_model.specs.Steps.{Effect, Outcome, did, idle, StepsTo}
-use Rattle.fw_plain.specs.Engine.{Standing, outcome_of}
+use Rattle.fw_model.specs.Steps.{Outcome, did, idle, StepsTo}
+use Rattle.fw_plain.specs.Engine.{Standing, effect_of, outcome_of}
 use Rattle.fw_plain.specs.declared.stepped.Effect.{Effect as Shown}
 use Rattle.fw_plain.specs.declared.stepped.Stepped.{Stepped}
 use Rattle.fw_plain.specs.declared.stepped.Stepped.TheVariants.{Did, Idle}
@@ -99,37 +99,106 @@ at_injection flow place h k l m b below =
     at_shown flow place h k l m ∙ past Ack (length flow.nodes) (injections flow) i Persist b
     ∙ each_at Inject (length flow.nodes) (i - length flow.nodes) Persist (omega (arith, count_all flow, below, h, k, l, m, b))
 
+-- ---- the same, by counts that were read
+
+pub delivery_at : (flow : Dataflow) (place edges edge : ℕ) → edges ≡ length flow.edges → edge ≡ place - 1 → 0 < place → place - 1 < edges
+    → Deliver edge None ≡ slice_index_or (auto_steps flow) place Persist
+delivery_at flow place edges edge e i h k = ap (λ x. Deliver x None) i ∙ sym (at_delivery flow place h (omega (arith, e, k)))
+
+pub notification_at : (flow : Dataflow) (place edges nodes node : ℕ) → edges ≡ length flow.edges → nodes ≡ length flow.nodes → node ≡ place - 1 - edges → 0 < place
+    → edges ≤ place - 1 → place - 1 - edges < nodes → Notify node None ≡ slice_index_or (auto_steps flow) place Persist
+notification_at flow place edges nodes node e n i h k l =
+    let here : node ≡ place - 1 - length flow.edges = i ∙ ap (λ x. place - 1 - x) e in
+    ap (λ x. Notify x None) here ∙ sym (at_notification flow place h (omega (arith, e, k)) (omega (arith, e, n, l)))
+
+pub progress_at : (flow : Dataflow) (place edges nodes : ℕ) → edges ≡ length flow.edges → nodes ≡ length flow.nodes → 0 < place → edges ≤ place - 1 → nodes ≤ place - 1 - edges
+    → place - 1 - edges - nodes ≡ 0 → ProgressStep ≡ slice_index_or (auto_steps flow) place Persist
+progress_at flow place edges nodes e n h k l z =
+    sym (at_progress flow place h (omega (arith, e, k)) (omega (arith, e, n, l)) (omega (arith, e, n, z)))
+
+pub acknowledgement_at : (flow : Dataflow) (place edges nodes node : ℕ) → edges ≡ length flow.edges → nodes ≡ length flow.nodes → node ≡ place - 1 - edges - nodes - 1 → 0 < place
+    → edges ≤ place - 1 → nodes ≤ place - 1 - edges → 0 < place - 1 - edges - nodes → place - 1 - edges - nodes - 1 < nodes
+    → Ack node ≡ slice_index_or (auto_steps flow) place Persist
+acknowledgement_at flow place edges nodes node e n i h k l m b =
+    let here : node ≡ place - 1 - length flow.edges - length flow.nodes - 1 = i ∙ ap (λ x. place - 1 - x - nodes - 1) e ∙ ap (λ x. place - 1 - length flow.edges - x - 1) n in
+    ap Ack here ∙ sym (at_acknowledgement flow place h (omega (arith, e, k)) (omega (arith, e, n, l)) (omega (arith, e, n, m)) (omega (arith, e, n, b)))
+
+pub injection_at : (flow : Dataflow) (place edges nodes node : ℕ) → edges ≡ length flow.edges → nodes ≡ length flow.nodes → node ≡ place - 1 - edges - nodes - 1 - nodes → 0 < place
+    → edges ≤ place - 1 → nodes ≤ place - 1 - edges → 0 < place - 1 - edges - nodes → nodes ≤ place - 1 - edges - nodes - 1 → place < length (auto_steps flow)
+    → Inject node ≡ slice_index_or (auto_steps flow) place Persist
+injection_at flow place edges nodes node e n i h k l m b below =
+    let here : node ≡ place - 1 - length flow.edges - length flow.nodes - 1 - length flow.nodes =
+    i ∙ ap (λ x. place - 1 - x - nodes - 1 - nodes) e ∙ ap (λ x. place - 1 - length flow.edges - x - 1 - x) n in
+    ap Inject here ∙ sym (at_injection flow place h (omega (arith, e, k)) (omega (arith, e, n, l)) (omega (arith, e, n, m)) (omega (arith, e, n, b)) below)
+
+-- what is left over of a place is the place of a node
+pub rest_fits : (flow : Dataflow) (place edges nodes : ℕ) → edges ≡ length flow.edges → nodes ≡ length flow.nodes → place < length (auto_steps flow)
+    → place < 2 + edges + 3 * nodes
+rest_fits flow place edges nodes e n below = omega (arith, e, n, below, count_all flow)
+
 -- ---- one after another
 
 -- an engine that answers was not refused memory before
-pub not_refused : {T E : Type 0} (refused : Bool) (answer : Result T E) (value : T) → answer ≡ Ok value → (IsTrue refused → IsErr answer) → refused ≡ false
-not_refused refused answer value e f = elim (cases_Bool refused) [
+pub not_refused : {T : Type 0} (E : Type 0) (refused : Bool) (value : T) → (IsTrue refused → IsErr {T = T} {E = E} (Ok value)) → refused ≡ false
+not_refused E refused value f = elim (cases_Bool refused) [
   | inr is_false ↦ is_false
-  | inl is_true ↦ absurd (false≢true (subst IsErr e (f is_true)))
+  | inl is_true ↦ absurd (false≢true (f is_true))
 ]
 
--- no step up to this place is enabled, if this one is not
-pub idle_next : (sys : System) (state next : Machine) (steps : List Step) (place : ℕ) (step : Step) → AreIdle sys state (take place steps) → place < length steps
-    → step ≡ slice_index_or steps place Persist → StepsTo sys state step next idle → AreIdle sys state (take (place + 1) steps)
-idle_next sys state next steps place step i below e t =
-    let none : IsIdle sys state (slice_index_or steps place Persist) = subst (IsIdle sys state) e t.0 in
-    subst (AreIdle sys state) (sym (take_more steps place Persist below)) (idle-append sys state (take place steps) (slice_index_or steps place Persist ∷ []) i (none, tt))
+-- two engines stand for one thing
+same_standing : (one other : Standing) → one.sys ≡ other.sys → one.state ≡ other.state → one.refused ≡ other.refused → one ≡ other
+same_standing one other e f g =
+    ap (λ (x : System). let s : Standing = record { sys = x; state = one.state; refused = one.refused } in s) e
+    ∙ ap (λ (x : Machine). let s : Standing = record { sys = other.sys; state = x; refused = one.refused } in s) f
+    ∙ ap (λ (x : Bool). let s : Standing = record { sys = other.sys; state = other.state; refused = x } in s) g
+
+-- What is known as a step is tried: nothing has changed so far, and no step before it is enabled.
+pub record IsTried (old mid : Standing) (place count : ℕ) (step : Step) : Type 0 where
+  pub same : mid ≡ old
+  pub idle : AreIdle old.sys old.state (take place (auto_steps old.sys.flow))
+  pub below : place < count
+  pub all : count ≡ length (auto_steps old.sys.flow)
+  pub this : step ≡ slice_index_or (auto_steps mid.sys.flow) place Persist
+
+here : (old mid : Standing) (place count : ℕ) (step : Step) (next : Machine) (outcome : Outcome) → IsTried old mid place count step → StepsTo mid.sys mid.state step next outcome
+    → (place < length (auto_steps old.sys.flow)) × (step ≡ slice_index_or (auto_steps old.sys.flow) place Persist) × StepsTo old.sys old.state step next outcome
+here old mid place count step next outcome t s = (
+  omega (arith, t.below, t.all),
+  t.this ∙ ap (λ (m : Standing). slice_index_or (auto_steps m.sys.flow) place Persist) t.same,
+  subst (λ (m : Standing). StepsTo m.sys m.state step next outcome) t.same s,
+)
 
 -- the step of this place is the first that is enabled
-pub takes_this : (sys : System) (state next : Machine) (steps : List Step) (place : ℕ) (step : Step) (effect : Effect) → AreIdle sys state (take place steps) → place < length steps
-    → step ≡ slice_index_or steps place Persist → StepsTo sys state step next (did effect) → TakesFirst sys state steps next (did effect)
-takes_this sys state next steps place step effect i below e t =
+pub tried_taken : (old mid : Standing) (place count : ℕ) (step : Step) (next : Machine) (stepped : Stepped) (shown : Shown) → IsTried old mid place count step
+    → StepsTo mid.sys mid.state step next (outcome_of stepped) → stepped ≡ Did shown → TakesFirst old.sys old.state (auto_steps old.sys.flow) next (outcome_of stepped)
+tried_taken old mid place count step next stepped shown t s e =
+    let steps = auto_steps old.sys.flow in
+    let h = here old mid place count step next (outcome_of stepped) t s in
+    let led : StepsTo old.sys old.state step next (did (effect_of shown)) = subst (λ d. StepsTo old.sys old.state step next (outcome_of d)) e h.2 in
+    let split : steps ≡ take place steps ++ step ∷ drop (place + 1) steps =
+    sym (take-append-drop place steps) ∙ ap (λ rest. take place steps ++ rest) (drop_more steps place Persist h.0 ∙ ap (λ s. s ∷ drop (place + 1) steps) (sym h.1)) in
+    let first : TakesFirst old.sys old.state steps next (did (effect_of shown)) =
+    (step, record { earlier = take place steps; later = drop (place + 1) steps; among = split; none_earlier = t.idle; leads = led }) in
+    subst (λ d. TakesFirst old.sys old.state steps next (outcome_of d)) (sym e) first
+
+-- no step up to this place is enabled, and nothing has changed
+pub tried_idle : (old mid new : Standing) (place count : ℕ) (step : Step) (stepped : Stepped) → IsTried old mid place count step → StepsTo mid.sys mid.state step new.state (outcome_of stepped)
+    → stepped ≡ Idle → new.sys ≡ mid.sys → new.refused ≡ mid.refused → (new ≡ old) × AreIdle old.sys old.state (take (place + 1) (auto_steps old.sys.flow))
+tried_idle old mid new place count step stepped t s e f g =
+    let steps = auto_steps old.sys.flow in
+    let h = here old mid place count step new.state (outcome_of stepped) t s in
+    let led : StepsTo old.sys old.state step new.state idle = subst (λ d. StepsTo old.sys old.state step new.state (outcome_of d)) e h.2 in
+    let none : IsIdle old.sys old.state (slice_index_or steps place Persist) = subst (IsIdle old.sys old.state) h.1 led.0 in
+    let more : AreIdle old.sys old.state (take place steps ++ slice_index_or steps place Persist ∷ []) = idle-append old.sys old.state (take place steps) (slice_index_or steps place Persist ∷ []) t.idle (none, tt) in
     (
-      step,
-      record {
-        earlier = take place steps;
-        later = drop (place + 1) steps;
-        among = sym (take-append-drop place steps) ∙ ap (λ rest. take place steps ++ rest) (drop_more steps place Persist below ∙ ap (λ s. s ∷ drop (place + 1) steps) (sym e));
-        none_earlier = i;
-        leads = t;
-      },
+      same_standing new old (f ∙ ap (λ (m : Standing). m.sys) t.same) led.1 (g ∙ ap (λ (m : Standing). m.refused) t.same),
+      subst (AreIdle old.sys old.state) (sym (take_more steps place Persist h.0)) more,
     )
 
 -- none is enabled
-pub takes_none : (sys : System) (state : Machine) (steps : List Step) (place : ℕ) → AreIdle sys state (take place steps) → length steps ≤ place → TakesFirst sys state steps state idle
-takes_none sys state steps place i h = (subst (AreIdle sys state) (take_all place steps h) i, refl)
+pub takes_none : (old mid : Standing) (place count : ℕ) → mid ≡ old → AreIdle old.sys old.state (take place (auto_steps old.sys.flow)) → count ≡ length (auto_steps old.sys.flow) → count ≤ place
+    → TakesFirst old.sys old.state (auto_steps old.sys.flow) mid.state idle
+takes_none old mid place count e i n h = (
+  subst (AreIdle old.sys old.state) (take_all place (auto_steps old.sys.flow) (omega (arith, n, h))) i,
+  ap (λ (m : Standing). m.state) e,
+)

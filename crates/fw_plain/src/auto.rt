@@ -39,7 +39,8 @@ impl Engine {
 fn step_count(flow: &Flow) -> usize
     ensures { result ≡ length (auto_steps flow.now) }
 {
-    2 + flow.edges() + 3 * flow.nodes()
+    let (nodes, edges) = (flow.nodes(), flow.edges());
+    2 + edges + 3 * nodes
 }
 
 // The step that is tried at a place, counted from 0.
@@ -47,24 +48,25 @@ fn step_at(flow: &Flow, place: usize) -> Step
     requires { place < length (auto_steps flow.now) }
     ensures { result ≡ slice_index_or (auto_steps flow.now) place Persist }
 {
+    let (nodes, edges) = (flow.nodes(), flow.edges());
     if place == 0 {
         return Step::Persist;
     }
-    let on_edges = place - 1;
-    if on_edges < flow.edges() {
-        return Step::Deliver(EdgeId::at(on_edges as u32), None);
+    let edge = place - 1;
+    if edge < edges {
+        return Step::Deliver(EdgeId::at(edge as u32), None);
     }
-    let noticed = on_edges - flow.edges();
-    if noticed < flow.nodes() {
+    let noticed = edge - edges;
+    if noticed < nodes {
         return Step::Notify(NodeId::at(noticed as u32), None);
     }
-    let settling = noticed - flow.nodes();
+    let settling = noticed - nodes;
     if settling == 0 {
         return Step::Progress;
     }
-    let acknowledging = settling - 1;
-    if acknowledging < flow.nodes() {
-        return Step::Ack(NodeId::at(acknowledging as u32));
+    let output = settling - 1;
+    if output < nodes {
+        return Step::Ack(NodeId::at(output as u32));
     }
-    Step::Inject(NodeId::at((acknowledging - flow.nodes()) as u32))
+    Step::Inject(NodeId::at((output - nodes) as u32))
 }

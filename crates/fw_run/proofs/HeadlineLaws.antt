@@ -55,7 +55,7 @@ shows-watermark sys w steps = record {
         subst (IsWatermark sys state) same t.1,
         ap (λ (m : Machine). m.low) t.3 ∙ ap (λ (c : Choice). map front_of_cut c.cuts) same,
       );
-  never_falls = λ count. never-falls sys w (take count steps);
+  never_falls = λ count outcomes state step next outcome r. never-falls sys w (take count steps) outcomes state r step next outcome;
 }
 
 keeps-what_is_needed : (sys : System) → IsWellFormedSystem sys → (steps : List Step) → KeepsWhatIsNeeded sys steps

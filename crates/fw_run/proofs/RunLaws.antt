@@ -1,6 +1,7 @@
 -- How a run goes on, and what was printed of it so far.
 use Rattle.std.proofs.Common.{◌≡◌, ℕ, zero, suc, get_or, ◌+◌, ◌-◌, ◌<◌, ◌≤◌, Bool, true, false, List, [], ◌∷◌, ◌++◌, length, take, drop, Option, Some, None, option_map, Result, Ok, Err, refl, sym, ◌∙◌, ap, subst, arith, append_assoc, inl, inr, cond}
 use Rattle.std.proofs.Math.Seq.{take-append-add}
+use Rattle.std.proofs.lemmas.Bool.{false≢true, true≢false}
 use Rattle.std.proofs.lemmas.Grind.{flat_map-append}
 use Rattle.std.proofs.lemmas.List.{append-nil, length-append, take-append-le, take-append-drop, drop_more, take_more, take_all}
 use Rattle.fw_outside.specs.declared.fault.OutFault.{OutFault}
@@ -22,7 +23,9 @@ use Rattle.fw_model.specs.Auto.{auto_steps, AreIdle, TakesFirst, IsAutoRun}
 use Rattle.fw_model.specs.Machine.{Machine, first_state}
 use Rattle.fw_model.specs.Steps.{Effect, Outcome, did, idle, StepsTo, Run}
 use Rattle.fw_plain.specs.EffectText.{outcome_text}
-use Rattle.fw_plain.specs.Engine.{Standing}
+use Rattle.fw_plain.specs.Engine.{Standing, effect_of, outcome_of}
+use Rattle.fw_plain.specs.declared.stepped.Stepped.{Stepped}
+use Rattle.fw_plain.specs.declared.stepped.Stepped.TheVariants.{Did, Idle}
 use Rattle.fw_run.proofs.ItemLaws.{item-run, item-few, comes-on, comes-next, ItemsRun, items-run}
 use Rattle.fw_run.proofs.Roses.{rose_last}
 use Rattle.fw_run.specs.declared.perform.Taken.{Taken}
@@ -307,6 +310,45 @@ auto_cut-within old mid next effect count most fault before between after u s h 
     auto_cut old mid rest.last count (most - count) most fault before between after (one.0 ∷ rest.steps) (did effect ∷ rest.outcomes) (outcome_text old.sys.flow (did effect)) (outcomes_text old.sys.flow rest.outcomes)
     s comes run (omega (arith, h)) refl line
 
+-- ---- the same, of what an engine answered
+
+-- a flow that was lent by an engine after a step, as that before it
+same_flow : (old new : Standing) (flow : Dataflow) → flow ≡ new.sys.flow → new.sys ≡ old.sys → flow ≡ old.sys.flow
+same_flow old new flow e k = e ∙ ap (λ (sys : System). sys.flow) k
+
+pub step_cut-at : (old new : Standing) (flow : Dataflow) (step : Step) (stepped : Stepped) (fault : OutFault) (before after : SinkView) → flow ≡ new.sys.flow → new.sys ≡ old.sys
+    → StepsTo old.sys old.state step new.state (outcome_of stepped) → IsCutOff (outcome_text flow (outcome_of stepped)) fault before after → IsItemCutOff old (One step) fault before after
+step_cut-at old new flow step stepped fault before after e k t c =
+    step_cut old step new.state (outcome_of stepped) fault before after t (subst (λ f. IsCutOff (outcome_text f (outcome_of stepped)) fault before after) (same_flow old new flow e k) c)
+
+pub step_printed-at : (old new : Standing) (flow : Dataflow) (step : Step) (stepped : Stepped) (was_idle : Bool) (before after : SinkView) → flow ≡ new.sys.flow → new.sys ≡ old.sys
+    → StepsTo old.sys old.state step new.state (outcome_of stepped) → was_idle ≡ is_idle (outcome_of stepped) → IsWritten (outcome_text flow (outcome_of stepped)) before after
+    → IsItemPrinted old new (One step) (record { steps = 1; idle = cond was_idle 1 0 }) before after
+step_printed-at old new flow step stepped was_idle before after e k t i w =
+    let taken : Taken = record { steps = 1; idle = cond was_idle 1 0 } in
+    let counted : taken ≡ record { steps = 1; idle = cond (is_idle (outcome_of stepped)) 1 0 } = ap (λ (b : Bool). let n : Taken = record { steps = 1; idle = cond b 1 0 } in n) i in
+    step_printed old new step (outcome_of stepped) taken before after t counted (subst (λ f. IsWritten (outcome_text f (outcome_of stepped)) before after) (same_flow old new flow e k) w)
+
+pub auto_ends-at : (old mid new : Standing) (stepped : Stepped) (count most : ℕ) (before after : SinkView) → IsAutoSoFar old mid count before after → count < most
+    → TakesFirst mid.sys mid.state (auto_steps mid.sys.flow) new.state (outcome_of stepped) → is_idle (outcome_of stepped) ≡ true
+    → IsItemPrinted old new (Auto most) (record { steps = count; idle = 0 }) before after
+auto_ends-at old mid new (Did shown) count most before after s below t i = absurd (false≢true i)
+auto_ends-at old mid new Idle count most before after s below t i = auto-ends_idle old mid new count most (record { steps = count; idle = 0 }) before after s below t refl
+
+pub auto_more-at : (old mid new : Standing) (flow : Dataflow) (stepped : Stepped) (count : ℕ) (before between after : SinkView) → IsAutoSoFar old mid count before between → flow ≡ new.sys.flow → new.sys ≡ mid.sys
+    → TakesFirst mid.sys mid.state (auto_steps mid.sys.flow) new.state (outcome_of stepped) → is_idle (outcome_of stepped) ≡ false
+    → IsWritten (outcome_text flow (outcome_of stepped)) between after → IsAutoSoFar old new (count + 1) before after
+auto_more-at old mid new flow (Did shown) count before between after s e k t i w =
+    auto-more old mid new (effect_of shown) count before between after s k t (subst (λ f. IsWritten (outcome_text f (did (effect_of shown))) between after) (same_flow mid new flow e k) w)
+auto_more-at old mid new flow Idle count before between after s e k t i w = absurd (true≢false i)
+
+pub auto_cut-at : (old mid new : Standing) (flow : Dataflow) (stepped : Stepped) (count most : ℕ) (fault : OutFault) (before between after : SinkView) → IsUnderWay old → IsAutoSoFar old mid count before between
+    → count < most → flow ≡ new.sys.flow → new.sys ≡ mid.sys → TakesFirst mid.sys mid.state (auto_steps mid.sys.flow) new.state (outcome_of stepped) → is_idle (outcome_of stepped) ≡ false
+    → IsCutOff (outcome_text flow (outcome_of stepped)) fault between after → IsItemCutOff old (Auto most) fault before after
+auto_cut-at old mid new flow (Did shown) count most fault before between after u s h e k t i c =
+    auto_cut-within old mid new.state (effect_of shown) count most fault before between after u s h t (subst (λ f. IsCutOff (outcome_text f (did (effect_of shown))) fault between after) (same_flow mid new flow e k) c)
+auto_cut-at old mid new flow Idle count most fault before between after u s h e k t i c = absurd (true≢false i)
+
 -- ---- what was printed so far
 
 -- The engine stands for the state after the steps to which these items come, which are so many and so many idle, and their lines
@@ -359,20 +401,20 @@ so_far_more sys items old new item taken idle_steps of_item before mid after s e
     by : (y : System) → y ≡ sys → (r : ItemRun y old.state item) → new.state ≡ r.last → of_item.steps ≡ length r.steps → of_item.idle ≡ idle_count r.outcomes
         → IsWritten (outcomes_text y.flow r.outcomes) mid after → IsSoFar sys (items ++ item ∷ []) new (taken + of_item.steps) (idle_steps + of_item.idle) before after
     by y f = subst (λ (z : System). (r : ItemRun z old.state item) → new.state ≡ r.last → of_item.steps ≡ length r.steps → of_item.idle ≡ idle_count r.outcomes
-    → IsWritten (outcomes_text z.flow r.outcomes) mid after → IsSoFar sys (items ++ item ∷ []) new (taken + of_item.steps) (idle_steps + of_item.idle) before after) (sym f)
-    (λ r last count idle w. record {
-      system = e ∙ s.system;
-      steps = s.steps ++ r.steps;
-      comes = subst (λ (m : Machine). ComesTo sys (first_state sys) (items ++ item ∷ []) (s.steps ++ r.steps) m) (sym last)
-          (comes-next sys (first_state sys) old.state r.last items item s.steps r.steps s.comes r.comes);
-      outcomes = s.outcomes ++ r.outcomes;
-      run = subst (λ (m : Machine). Run sys (first_state sys) (s.steps ++ r.steps) (s.outcomes ++ r.outcomes) m) (sym last)
-          (runs-go_on sys (first_state sys) old.state r.last s.steps r.steps s.outcomes r.outcomes s.run r.run);
-      count = omega (arith, s.count, count, length-append s.steps r.steps);
-      idle = omega (arith, s.idle, idle, idle-append s.outcomes r.outcomes);
-      written = subst (λ bytes. IsWritten bytes before after) (sym (text-append sys.flow s.outcomes r.outcomes))
-          (written_more (outcomes_text sys.flow s.outcomes) (outcomes_text sys.flow r.outcomes) before mid after s.written w);
-    })
+        → IsWritten (outcomes_text z.flow r.outcomes) mid after → IsSoFar sys (items ++ item ∷ []) new (taken + of_item.steps) (idle_steps + of_item.idle) before after) (sym f)
+        (λ r last count idle w. record {
+          system = e ∙ s.system;
+          steps = s.steps ++ r.steps;
+          comes = subst (λ (m : Machine). ComesTo sys (first_state sys) (items ++ item ∷ []) (s.steps ++ r.steps) m) (sym last)
+              (comes-next sys (first_state sys) old.state r.last items item s.steps r.steps s.comes r.comes);
+          outcomes = s.outcomes ++ r.outcomes;
+          run = subst (λ (m : Machine). Run sys (first_state sys) (s.steps ++ r.steps) (s.outcomes ++ r.outcomes) m) (sym last)
+              (runs-go_on sys (first_state sys) old.state r.last s.steps r.steps s.outcomes r.outcomes s.run r.run);
+          count = omega (arith, s.count, count, length-append s.steps r.steps);
+          idle = omega (arith, s.idle, idle, idle-append s.outcomes r.outcomes);
+          written = subst (λ bytes. IsWritten bytes before after) (sym (text-append sys.flow s.outcomes r.outcomes))
+              (written_more (outcomes_text sys.flow s.outcomes) (outcomes_text sys.flow r.outcomes) before mid after s.written w);
+        })
 
 -- what is cut off behind these lines is first bytes of the text of a run that goes on
 cut_off : {T : Type 0} (sys : System) (items others : List Item) (standing : Standing) (taken idle_steps : ℕ) (fault : OutFault) (before mid after : SinkView) (s : IsSoFar sys items standing taken idle_steps before mid)
@@ -413,20 +455,20 @@ stops_within {T} sys items others standing item taken idle_steps fault before mi
   where
     by : (y : System) → y ≡ sys → (r : ItemRun y standing.state item) → IsCutOff (outcomes_text y.flow r.outcomes) fault mid after → Performs {T = T} sys (items ++ item ∷ others) (Err fault) before after
     by y f = subst (λ (z : System). (r : ItemRun z standing.state item) → IsCutOff (outcomes_text z.flow r.outcomes) fault mid after → Performs {T = T} sys (items ++ item ∷ others) (Err fault) before after) (sym f)
-    (λ r part.
-      let further = runs-go_on sys (first_state sys) standing.state r.last s.steps r.steps s.outcomes r.outcomes s.run r.run in
-      let rest = items-run sys w (s.steps ++ r.steps) (s.outcomes ++ r.outcomes) r.last further others in
-      let more : ItemsRun sys standing.state (item ∷ others) = record {
-        steps = r.steps ++ rest.steps;
-        outcomes = r.outcomes ++ rest.outcomes;
-        last = rest.last;
-        comes = (r.steps, r.last, rest.steps, r.comes, rest.comes, refl);
-        run = runs-go_on sys standing.state r.last rest.last r.steps rest.steps r.outcomes rest.outcomes r.run rest.run;
-      } in
-      let last = done_line (length (s.outcomes ++ more.outcomes)) (idle_count (s.outcomes ++ more.outcomes)) in
-      let split : outcomes_text sys.flow more.outcomes ++ last ≡ outcomes_text sys.flow r.outcomes ++ (outcomes_text sys.flow rest.outcomes ++ last) =
-      ap (λ t. t ++ last) (text-append sys.flow r.outcomes rest.outcomes) ∙ append_assoc (outcomes_text sys.flow r.outcomes) (outcomes_text sys.flow rest.outcomes) last in
-      cut_off sys items (item ∷ others) standing taken idle_steps fault before mid after s more (outcomes_text sys.flow r.outcomes) (outcomes_text sys.flow rest.outcomes ++ last) split part)
+        (λ r part.
+          let further = runs-go_on sys (first_state sys) standing.state r.last s.steps r.steps s.outcomes r.outcomes s.run r.run in
+          let rest = items-run sys w (s.steps ++ r.steps) (s.outcomes ++ r.outcomes) r.last further others in
+          let more : ItemsRun sys standing.state (item ∷ others) = record {
+            steps = r.steps ++ rest.steps;
+            outcomes = r.outcomes ++ rest.outcomes;
+            last = rest.last;
+            comes = (r.steps, r.last, rest.steps, r.comes, rest.comes, refl);
+            run = runs-go_on sys standing.state r.last rest.last r.steps rest.steps r.outcomes rest.outcomes r.run rest.run;
+          } in
+          let last = done_line (length (s.outcomes ++ more.outcomes)) (idle_count (s.outcomes ++ more.outcomes)) in
+          let split : outcomes_text sys.flow more.outcomes ++ last ≡ outcomes_text sys.flow r.outcomes ++ (outcomes_text sys.flow rest.outcomes ++ last) =
+          ap (λ t. t ++ last) (text-append sys.flow r.outcomes rest.outcomes) ∙ append_assoc (outcomes_text sys.flow r.outcomes) (outcomes_text sys.flow rest.outcomes) last in
+          cut_off sys items (item ∷ others) standing taken idle_steps fault before mid after s more (outcomes_text sys.flow r.outcomes) (outcomes_text sys.flow rest.outcomes ++ last) split part)
 
 -- the run ends with its last line
 pub ends : {T : Type 0} (sys : System) (items : List Item) (standing : Standing) (taken idle_steps : ℕ) (answer : Result T OutFault) (before mid after : SinkView)

@@ -54,19 +54,19 @@ impl<'a> fmt::Display for NodeLine<'a> {
     fn fmt<W: fmt::Write>(&self, f: &mut fmt::Formatter<W>) -> fmt::Result {
         let name = self.flow.node_name(self.node);
         let kind = self.flow.kind(self.node);
-        let word = kind_word(kind);
+        let word = kind_word(&kind);
         let domain = DomainWord {
             flow: self.flow,
             domain: self.flow.domain_word(self.node),
         };
-        let policy = policy_word(kind, self.flow.policy(self.node));
+        let policy = policy_word(&kind, &self.flow.policy(self.node));
         writeln!(f, "node {name} {word} {domain} {policy}")
     }
 }
 
 // The word of a kind; that of an output's domain has a place of its own.
-fn kind_word(kind: Kind) -> &'static str
-    ensures { result.now ≡ kind_word kind }
+fn kind_word(kind: &Kind) -> &'static str
+    ensures { result.now ≡ kind_word kind.now }
 {
     if kind.is_output() {
         "output"
@@ -76,8 +76,8 @@ fn kind_word(kind: Kind) -> &'static str
 }
 
 // The word of a policy; `-` for inputs and outputs, which have none.
-fn policy_word(kind: Kind, policy: Policy) -> &'static str
-    ensures { result.now ≡ policy_word kind policy }
+fn policy_word(kind: &Kind, policy: &Policy) -> &'static str
+    ensures { result.now ≡ policy_word kind.now policy.now }
 {
     if kind.is_input() || kind.is_output() {
         "-"

@@ -1,6 +1,7 @@
-use Rattle.std.proofs.Common.{sym}
-use Rattle.fw_run.proofs.CallLaws.{same_refusal, keeps_folder}
-use Rattle.fw_run.specs.Call.{Refuses}
+use Rattle.std.proofs.Common.{inr, sym}
+use Rattle.fw_outside.specs.declared.fault.OutFault.TheVariants.{Failed, NoMemory}
+use Rattle.fw_run.proofs.CallLaws.{same_refusal, keeps_folder, prints-all, prints-part}
+use Rattle.fw_run.specs.Call.{call_of, Refuses}
 use Rattle.fw_run.specs.Words.{command_of, command_in, words_in}
 use Rattle.fw_run.proofs.run.run.Goals as goal
 
@@ -19,3 +20,24 @@ pub returns-in-Err-Failed-print_work-clause-folder : goal.returns-in-Err-Failed-
 returns-in-Err-Failed-print_work-clause-folder g c =
     keeps_folder g.F.Folder.texts g.F.Folder.fetch_count (command_of (words_in c.args.words.now)) (command_in c.in-Some.command) c.args.folder.now c.read_work.new.folder
     (sym c.in-Some.ensures) c.in-Ok.ensures.texts_stay c.in-Ok.ensures.asked_no_more
+
+pub returns-in-Ok-print_work-clause-done : goal.returns-in-Ok-print_work-clause-done
+returns-in-Ok-print_work-clause-done g c e =
+    let told = g.F.Folder.texts c.args.folder.now in
+    let view = g.O.Sink.view in
+    prints-all (call_of c.args.words.now told) (command_in c.in-Some.command) c.in-Ok.work c.in-Ok-print_work.field-0 (view c.args.out.now) (view c.print_work.new.out) (sym c.in-Some.ensures)
+    c.in-Ok.ensures.work c.in-Ok-print_work.ensures
+
+pub returns-in-Err-Failed-print_work-clause-write_fault : goal.returns-in-Err-Failed-print_work-clause-write_fault
+returns-in-Err-Failed-print_work-clause-write_fault g c e =
+    let told = g.F.Folder.texts c.args.folder.now in
+    let view = g.O.Sink.view in
+    prints-part {T = Unit {0}} (call_of c.args.words.now told) (command_in c.in-Some.command) c.in-Ok.work Failed (view c.args.out.now) (view c.print_work.new.out) (sym c.in-Some.ensures)
+    c.in-Ok.ensures.work (rw c.in-Err-Failed-print_work.field-0-is at c.in-Err-Failed-print_work.ensures)
+
+pub returns-in-Err-NoMemory-print_work-clause-no_memory : goal.returns-in-Err-NoMemory-print_work-clause-no_memory
+returns-in-Err-NoMemory-print_work-clause-no_memory g c e =
+    let told = g.F.Folder.texts c.args.folder.now in
+    let view = g.O.Sink.view in
+    inr (prints-part {T = Unit {0}} (call_of c.args.words.now told) (command_in c.in-Some.command) c.in-Ok.work NoMemory (view c.args.out.now) (view c.print_work.new.out) (sym c.in-Some.ensures)
+    c.in-Ok.ensures.work (rw c.in-Err-NoMemory-print_work.field-0-is at c.in-Err-NoMemory-print_work.ensures))

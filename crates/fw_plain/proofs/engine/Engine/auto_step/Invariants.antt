@@ -2,7 +2,7 @@ use Rattle.std.proofs.Common.{◌≡◌, ◌<◌, take, false}
 use Rattle.fw_model.specs.Auto.{auto_steps, AreIdle}
 use Rattle.fw_model.specs.History.{IsLegal}
 use Rattle.fw_model.specs.Machine.{events}
-use Rattle.fw_plain.proofs.auto.Engine.auto_step.Given as goal
+use Rattle.fw_plain.proofs.engine.Engine.auto_step.Given as goal
 
 -- nothing has changed, since no step so far is enabled; and after the first one the engine is known to live
 abbrev pub invariant-loop-place : goal.invariant-loop-place

@@ -36,7 +36,7 @@ use Rattle.fw_flow_text.specs.Endings.{name_of, policy_named, policy_at_end, end
 use Rattle.fw_flow_text.specs.Forms.{output_kind, within_kind, leading_kind, lone_kind, input_form, output_form, select_form, regroup_form, within_form, leading_form, lone_form, shape_form, node_form, node_declaration, edge_declaration, loop_of, loop_declaration, declaration_of}
 use Rattle.fw_flow_text.specs.Laws.{DeclarationsAreReadBack}
 use Rattle.fw_flow_text.specs.Select.{condition_of, sum_value, plain_value, plain_part, value_part, assignment_part, selection_part}
-use Rattle.fw_flow_text.specs.Spelled.{field_word, comparison_word, term_word, value_words, assignment_words, selection_words, policy_words, ending_words, node_words, parent_words, declaration_words, IsSmallTerm, IsSmallValue, IsSmallAssignment, IsSmall, IsName, IsWritableNode, IsWritable}
+use Rattle.fw_flow_text.specs.Spelled.{field_word, comparison_word, term_word, value_words, assignment_words, selection_words, policy_words, ending_words, node_words, parent_words, IsSmallTerm, IsSmallValue, IsSmallAssignment, IsSmall, IsName, IsWritableNode}
 use Rattle.fw_flow_text.specs.Words.{marked_number, numeral_of, field_of, comparison_of, term_of, term_from, value_from}
 
 named : (name : List ℕ) → is_name name ≡ true → name_of name ≡ Some name

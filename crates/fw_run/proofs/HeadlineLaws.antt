@@ -4,7 +4,7 @@ use Rattle.fw_model.proofs.ChoosingLaws.{kept-is_ever, failed-recovered, never-f
 use Rattle.fw_model.proofs.DenotationLaws.{denotation-exists}
 use Rattle.fw_model.proofs.DomainLaws.{has_epochs}
 use Rattle.fw_model.proofs.RecoveryLaws.{runs-legal, acknowledged-denoted}
-use Rattle.fw_model.proofs.RestoringLaws.{never-collected, cuts-kept}
+use Rattle.fw_model.proofs.RestoringLaws.{never-collected, cuts-kept, cut_batches-outside, events-logged, logs-hold}
 use Rattle.fw_model.proofs.RunLaws.{acknowledgements-in_order}
 use Rattle.fw_flow.specs.declared.choice.Choice.{Choice}
 use Rattle.fw_flow.specs.declared.step.Step.{Step}
@@ -60,8 +60,14 @@ shows-watermark sys w steps = record {
 
 keeps-what_is_needed : (sys : System) → IsWellFormedSystem sys → (steps : List Step) → KeepsWhatIsNeeded sys steps
 keeps-what_is_needed sys w steps = record {
-  logged_events = λ count. never-collected sys w (take count steps);
-  checkpoints = λ count. cuts-kept sys w (take count steps);
+  restored = λ count outcomes state r lost choice l. record {
+    of_ever = (kept-is_ever sys w (take count steps) outcomes state r lost choice).0 l;
+    checkpoints = cuts-kept sys w (take count steps) outcomes state r lost choice l;
+    logged_events = events-logged sys w (take count steps) outcomes state r lost choice l;
+    messages = logs-hold sys w (take count steps) outcomes state r lost choice l;
+    batches = cut_batches-outside sys w (take count steps) outcomes state r lost choice l;
+  };
+  never_collected = λ count. never-collected sys w (take count steps);
 }
 
 items-one_run : (sys : System) → IsWellFormedSystem sys → (items : List Item) → HasOneRun sys items

@@ -1,21 +1,24 @@
 -- What the machine does with the items of a schedule, and the text that its run prints.
-use Rattle.std.specs.Prelude.{◌≡◌, ◌≢◌, ◌<◌, ℕ, Bool, true, List, length, map, take}
+use Rattle.std.specs.Prelude.{◌≡◌, ◌≢◌, ◌<◌, ℕ, Bool, true, false, List, [], ◌∷◌, length, map, take}
 use Rattle.std.specs.List.{AllByRecursion}
 use Rattle.fw_frontier.specs.Frontier.{Within}
 use Rattle.fw_frontier.specs.Front.{Front}
 use Rattle.fw_flow.specs.declared.choice.Choice.{Choice}
 use Rattle.fw_flow.specs.declared.choice.Cut.TheVariants.{At}
+use Rattle.fw_flow.specs.declared.kind.Policy.TheVariants as policy
 use Rattle.fw_flow.specs.declared.step.Step.{Step}
 use Rattle.fw_flow.specs.declared.step.Step.TheVariants.{Recover, Collect}
 use Rattle.fw_flow.specs.Dataflow.{System, policy_of, bounds_of, node_frontier}
+use Rattle.fw_flow.specs.NodeFunction.{event_node, event_stamp}
 use Rattle.fw_schedule.specs.declared.item.Item.{Item}
-use Rattle.fw_model.specs.Choice.{View, kept, cut_of, IsCandidate, IsLargest, IsWatermark}
+use Rattle.fw_model.specs.Choice.{View, kept, ever, cut_of, kept_of, IsCandidate, IsLargest, IsWatermark}
 use Rattle.fw_model.specs.Denotation.{Family, IsDenotation}
 use Rattle.fw_model.specs.History.{IsLegal}
 use Rattle.fw_model.specs.Acknowledgements.{IsDenoted, stamps_acknowledged, first_stamps}
-use Rattle.fw_model.specs.Machine.{Machine, acknowledged, events, first_state, front_of, no_stamps, ack_count_of, is_failed}
+use Rattle.fw_model.specs.Machine.{Machine, SerialEvent, acknowledged, events, first_state, front_of, no_stamps, ack_count_of, is_failed}
 use Rattle.fw_model.specs.Steps.{cuts, lows, Outcome, did, StepsTo, Run, front_of_cut}
-use Rattle.fw_model.specs.Writes.{takes_checkpoints, HasOne, IsCheckpointOf, MayKeepNothingIfCollected}
+use Rattle.fw_model.specs.Resending.{HoldsWhatIsSentAgain}
+use Rattle.fw_model.specs.Writes.{takes_checkpoints, HasOne, IsCheckpointOf, IsLoggedOnce, MayKeepNothingIfCollected}
 use Rattle.fw_run.specs.Items.{ComesTo}
 use Rattle.fw_run.specs.Printed.{text_of}
 
@@ -80,15 +83,28 @@ pub record ShowsWatermark (sys : System) (steps : List Step) : Type 0 where
       → (p : ℕ) → p < length sys.flow.nodes
       → Within (node_frontier sys.flow p (front_of state.low p)) (node_frontier sys.flow p (front_of next.low p))
 
--- After each number of the steps no logged event of a total, a sequence or a ledger was collected; and where a largest choice
--- cuts a node that takes checkpoints to some stamps, it has one checkpoint there, which was acknowledged and not collected.
-pub record KeepsWhatIsNeeded (sys : System) (steps : List Step) : Type 0 where
-  pub logged_events : (count : ℕ) (outcomes : List Outcome) (state : Machine) → Run sys (first_state sys) (take count steps) outcomes state
-      → AllByRecursion (MayKeepNothingIfCollected sys) state.writes
-  pub checkpoints : (count : ℕ) (outcomes : List Outcome) (state : Machine) → Run sys (first_state sys) (take count steps) outcomes state
-      → (lost : ℕ → Bool) (choice : Choice) → IsLargest sys state (IsCandidate sys state lost kept) choice
-      → (p : ℕ) (f : Front) → takes_checkpoints (policy_of sys.flow p) ≡ true → cut_of choice p ≡ At f → f ≢ no_stamps (bounds_of sys.flow p)
+-- All is there that a restoration to a largest choice needs. The choice is also the largest over all that was ever acknowledged
+-- and not undone. A node that takes checkpoints, if its cut has a stamp, has exactly one there, acknowledged and not collected.
+-- Each event inside the cut of a node that logs each is logged once, and collected only where what was logged at its stamp is
+-- given up. What is to be sent again lies outside the low watermark, and so does each batch that is to be injected again.
+pub record IsAllThere (sys : System) (state : Machine) (lost : ℕ → Bool) (choice : Choice) : Type 0 where
+  pub of_ever : IsLargest sys state (IsCandidate sys state lost ever) choice
+  pub checkpoints : (p : ℕ) (f : Front) → takes_checkpoints (policy_of sys.flow p) ≡ true → cut_of choice p ≡ At f → f ≢ no_stamps (bounds_of sys.flow p)
       → (only : HasOne (IsCheckpointOf p f) state.writes) × (only.one.stage ≡ acknowledged)
+  pub logged_events : (p : ℕ) (f : Front) → policy_of sys.flow p ≡ policy.Full → cut_of choice p ≡ At f
+      → AllByRecursion (λ (v : SerialEvent). event_node sys.flow v.event ≡ p → node_frontier sys.flow p f (event_stamp v.event) ≡ true
+      → IsLoggedOnce sys state.low p v state.writes) state.history
+  pub messages : (e : ℕ) → e < length sys.flow.edges → HoldsWhatIsSentAgain sys state choice state.low e
+  pub batches : (s x : ℕ) → s < length sys.flow.nodes → kept_of sys.flow choice s (x ∷ []) ≡ false
+      → node_frontier sys.flow s (front_of state.low s) (x ∷ []) ≡ false
+
+-- After each number of the steps, whichever nodes count as failed, all is there that a restoration to the largest choice of
+-- what is kept needs; and no logged event of a total, a sequence or a ledger was collected.
+pub record KeepsWhatIsNeeded (sys : System) (steps : List Step) : Type 0 where
+  pub restored : (count : ℕ) (outcomes : List Outcome) (state : Machine) → Run sys (first_state sys) (take count steps) outcomes state
+      → (lost : ℕ → Bool) (choice : Choice) → IsLargest sys state (IsCandidate sys state lost kept) choice → IsAllThere sys state lost choice
+  pub never_collected : (count : ℕ) (outcomes : List Outcome) (state : Machine) → Run sys (first_state sys) (take count steps) outcomes state
+      → AllByRecursion (MayKeepNothingIfCollected sys) state.writes
 
 -- what is true of the system and the items that accepted texts spell
 pub record Headline (sys : System) (items : List Item) : Type 0 where

@@ -18,8 +18,8 @@ pub record IsOldest (writes : List Write) (place : ℕ) : Type 0 where
   pub none_earlier : list_any (λ write. is_in_flight write.stage) (take place writes) ≡ false
 
 -- whether the write is lost where these nodes fail
-abbrev pub is_lost : List ℕ → Write → Bool
-is_lost ps write = is_one_of write.node ps && is_in_flight write.stage
+abbrev pub is_lost_write : List ℕ → Write → Bool
+is_lost_write ps write = is_one_of write.node ps && is_in_flight write.stage
 
 -- whether what is written lies within the frontier, where this history is left
 abbrev pub is_within_front : Front → Written → List SerialEvent → Bool

@@ -224,7 +224,7 @@ fn acknowledge_oldest(writes: &mut Vec<Write>) -> bool
 fn retain_others(writes: &mut Vec<Write>, nodes: &[NodeId])
     ensures { writes.new.items ≡ steps.without_lost nodes.now writes.old.items }
 {
-    writes.retain(|write| !is_lost(nodes, write));
+    writes.retain(|write| !is_lost_write(nodes, write));
 }
 
 /// The writes outside the cuts of their nodes are taken out, where these events are left.
@@ -248,8 +248,8 @@ fn oldest_in_flight(writes: &[Write]) -> Option<usize>
 }
 
 /// Whether the write is lost where these nodes fail.
-fn is_lost(nodes: &[NodeId], write: &Write) -> bool
-    ensures { result ≡ spec.is_lost nodes.now write.now }
+fn is_lost_write(nodes: &[NodeId], write: &Write) -> bool
+    ensures { result ≡ spec.is_lost_write nodes.now write.now }
 {
     is_named(nodes, write.node.place() as usize) && write.is_in_flight()
 }

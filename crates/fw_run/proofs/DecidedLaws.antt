@@ -22,7 +22,7 @@ decided_inputs told names texts t accepted =
     elim (some_inputs texts.inputs (sources_of flow)) [
       | inr refused ↦ inr (refused.0, inr (flow, first, inl (record { text = texts.inputs; there = t.inputs; so = refused.1 })))
       | inl read ↦
-          let second : AreInputsOf flow texts.inputs = record { size = read.1.size; sound = read.1.sound } in
+          let second : AreInputsOf flow texts.inputs = read.1.sound in
           elim (some_schedule texts.schedule flow) [
             | inr refused ↦ inr (refused.0, inr (flow, first, inr (record { text = texts.inputs; there = t.inputs; so = second }, record { text = texts.schedule; there = t.schedule; so = refused.1 })))
             | inl items ↦ inl (record { flow = accepted; inputs = second; schedule = subst (schedules.IsAccepted texts.schedule flow) items.1.value items.1 })

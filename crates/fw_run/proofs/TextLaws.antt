@@ -1,5 +1,5 @@
 -- What accepted texts spell is a well-formed system, and texts have one answer.
-use Rattle.std.proofs.Common.{◌≡◌, ◌⊎◌, inl, inr, ℕ, List, [], ◌∷◌, map, Option, Some, refl, sym, ◌∙◌, ap, subst, arith}
+use Rattle.std.proofs.Common.{◌≡◌, ◌⊎◌, inl, inr, ℕ, List, [], ◌∷◌, map, Option, Some, refl, sym, ◌∙◌, ap, subst}
 use Rattle.std.proofs.lemmas.Option.{same_Some}
 use Rattle.fw_outside.specs.Outside.{IsText, one_more}
 use Rattle.fw_bag.specs.declared.rec.Rec.{Rec}
@@ -7,7 +7,7 @@ use Rattle.fw_lines.specs.declared.refusal.Refusal.{Refusal}
 use Rattle.fw_lines.specs.Batches.{batches_at}
 use Rattle.fw_lines.specs.Inputs as inputs
 use Rattle.fw_lines.specs.Lines.{said_lines}
-use Rattle.fw_lines.proofs.FaultLaws.{sound_or_first}
+use Rattle.fw_lines.proofs.FaultLaws.{sound_or_refused}
 use Rattle.fw_lines.proofs.GivenLaws.{sound-batches}
 use Rattle.fw_lines.proofs.ReadLaws as input_texts
 use Rattle.fw_flow.specs.Dataflow.{Dataflow, System, node_ids, system_of, batches_of_nodes}
@@ -32,7 +32,7 @@ well_formed_system texts a =
     let flow = spelled_flow texts.flow in
     let lines = said_lines texts.inputs in
     let given = inputs.batches_of (sources_of flow) lines in
-    well_formed-given flow given a.flow.checked.well_formed (sound-batches (sources_of flow) lines given a.inputs.sound (λ node. refl))
+    well_formed-given flow given a.flow.checked.well_formed (sound-batches (sources_of flow) lines given a.inputs.lines (λ node. refl))
 
 -- ---- what was read
 
@@ -62,7 +62,7 @@ job_read told names job f i s =
       there = record { flow = f.there; inputs = i.there; schedule = s.there };
       accepted = record {
         flow = subst (flows.IsAccepted f.text) value f.so;
-        inputs = subst (λ flow. AreInputsOf flow i.text) value (record { size = i.so.size; sound = i.so.sound });
+        inputs = subst (λ flow. AreInputsOf flow i.text) value i.so.sound;
         schedule = subst (λ flow. schedules.IsAccepted s.text flow (items_of flow (said_lines s.text))) value (record { sound = s.so.sound; value = refl });
       };
       system = system_read f.text i.text job.flow job.batches value i.so;
@@ -93,15 +93,14 @@ fetched_third told second names flow batches before one two after same f i e h k
     let given : HasText told names.inputs (AreInputsOf flow) = record {
       text = i.text;
       there = subst (λ t. IsText t names.inputs i.text) same i.there;
-      so = record { size = i.so.size; sound = i.so.sound };
+      so = i.so.sound;
     } in
     inr (inr (flow, f, inr (given, k ∙ ap one_more (h ∙ ap one_more e))))
 
 -- ---- one answer
 
 inputs_or_refused : (flow : Dataflow) (text : List ℕ) (r : Refusal) → AreInputsOf flow text → inputs.IsRefused text (sources_of flow) r → ⊥
-inputs_or_refused flow text r a (inl (large, whole)) = omega (arith, a.size, large)
-inputs_or_refused flow text r a (inr (size, first)) = sound_or_first (inputs.line_fault (sources_of flow)) (said_lines text) r a.sound first
+inputs_or_refused flow text r a = sound_or_refused (inputs.rules_of (sources_of flow)) text r a
 
 -- the text under a name is one
 same_text : (texts : List ℕ → Option (List ℕ)) (name a b : List ℕ) → IsText (Some texts) name a → IsText (Some texts) name b → a ≡ b

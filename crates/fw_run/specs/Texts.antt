@@ -1,10 +1,9 @@
 -- What the three texts of a run spell, and which of them is refused.
-use Rattle.std.specs.Prelude.{◌≡◌, ◌⊎◌, ℕ, ◌≤◌, List, map, length, Option}
+use Rattle.std.specs.Prelude.{◌≡◌, ◌⊎◌, ℕ, List, map, Option}
 use Rattle.fw_bag.specs.declared.rec.Rec.{Rec}
 use Rattle.fw_outside.specs.Outside.{IsText, one_more}
 use Rattle.fw_lines.specs.declared.refusal.Refusal.{Refusal}
-use Rattle.fw_lines.specs.Faults.{BreakNoRule}
-use Rattle.fw_lines.specs.Inputs.{line_fault, size_limit}
+use Rattle.fw_lines.specs.Faults.{IsSound}
 use Rattle.fw_lines.specs.Inputs as inputs
 use Rattle.fw_lines.specs.Lines.{said_lines}
 use Rattle.fw_flow.specs.Dataflow.{Dataflow, System, node_ids}
@@ -44,9 +43,8 @@ abbrev pub IsFlow : List ℕ → Type 0
 IsFlow text = flows.IsAccepted text (spelled_flow text)
 
 -- the text gives batches to sources of the dataflow
-pub record AreInputsOf (flow : Dataflow) (text : List ℕ) : Type 0 where
-  pub size : length text ≤ size_limit
-  pub sound : BreakNoRule (line_fault (sources_of flow)) (said_lines text)
+abbrev pub AreInputsOf : Dataflow → List ℕ → Type 0
+AreInputsOf flow text = IsSound (inputs.rules_of (sources_of flow)) text
 
 -- the text is a schedule of the dataflow
 abbrev pub IsScheduleOf : Dataflow → List ℕ → Type 0

@@ -456,19 +456,19 @@ stops_within {T} sys items others standing item taken idle_steps fault before mi
     by : (y : System) → y ≡ sys → (r : ItemRun y standing.state item) → IsCutOff (outcomes_text y.flow r.outcomes) fault mid after → Performs {T = T} sys (items ++ item ∷ others) (Err fault) before after
     by y f = subst (λ (z : System). (r : ItemRun z standing.state item) → IsCutOff (outcomes_text z.flow r.outcomes) fault mid after → Performs {T = T} sys (items ++ item ∷ others) (Err fault) before after) (sym f)
         (λ r part.
-          let further = runs-go_on sys (first_state sys) standing.state r.last s.steps r.steps s.outcomes r.outcomes s.run r.run in
-          let rest = items-run sys w (s.steps ++ r.steps) (s.outcomes ++ r.outcomes) r.last further others in
-          let more : ItemsRun sys standing.state (item ∷ others) = record {
-            steps = r.steps ++ rest.steps;
-            outcomes = r.outcomes ++ rest.outcomes;
-            last = rest.last;
-            comes = (r.steps, r.last, rest.steps, r.comes, rest.comes, refl);
-            run = runs-go_on sys standing.state r.last rest.last r.steps rest.steps r.outcomes rest.outcomes r.run rest.run;
-          } in
-          let last = done_line (length (s.outcomes ++ more.outcomes)) (idle_count (s.outcomes ++ more.outcomes)) in
-          let split : outcomes_text sys.flow more.outcomes ++ last ≡ outcomes_text sys.flow r.outcomes ++ (outcomes_text sys.flow rest.outcomes ++ last) =
-          ap (λ t. t ++ last) (text-append sys.flow r.outcomes rest.outcomes) ∙ append_assoc (outcomes_text sys.flow r.outcomes) (outcomes_text sys.flow rest.outcomes) last in
-          cut_off sys items (item ∷ others) standing taken idle_steps fault before mid after s more (outcomes_text sys.flow r.outcomes) (outcomes_text sys.flow rest.outcomes ++ last) split part)
+        let further = runs-go_on sys (first_state sys) standing.state r.last s.steps r.steps s.outcomes r.outcomes s.run r.run in
+        let rest = items-run sys w (s.steps ++ r.steps) (s.outcomes ++ r.outcomes) r.last further others in
+        let more : ItemsRun sys standing.state (item ∷ others) = record {
+          steps = r.steps ++ rest.steps;
+          outcomes = r.outcomes ++ rest.outcomes;
+          last = rest.last;
+          comes = (r.steps, r.last, rest.steps, r.comes, rest.comes, refl);
+          run = runs-go_on sys standing.state r.last rest.last r.steps rest.steps r.outcomes rest.outcomes r.run rest.run;
+        } in
+        let last = done_line (length (s.outcomes ++ more.outcomes)) (idle_count (s.outcomes ++ more.outcomes)) in
+        let split : outcomes_text sys.flow more.outcomes ++ last ≡ outcomes_text sys.flow r.outcomes ++ (outcomes_text sys.flow rest.outcomes ++ last) =
+        ap (λ t. t ++ last) (text-append sys.flow r.outcomes rest.outcomes) ∙ append_assoc (outcomes_text sys.flow r.outcomes) (outcomes_text sys.flow rest.outcomes) last in
+        cut_off sys items (item ∷ others) standing taken idle_steps fault before mid after s more (outcomes_text sys.flow r.outcomes) (outcomes_text sys.flow rest.outcomes ++ last) split part)
 
 -- the run ends with its last line
 pub ends : {T : Type 0} (sys : System) (items : List Item) (standing : Standing) (taken idle_steps : ℕ) (answer : Result T OutFault) (before mid after : SinkView)

@@ -121,12 +121,7 @@ fn idle_steps(stepped: &Stepped) -> u64
 }
 
 // Prints the lines of what came of a step, if it shows something.
-fn print<O: Sink>(
-    alloc: Global,
-    flow: &Flow,
-    stepped: Stepped,
-    out: &mut O,
-) -> Result<(), OutFault>
+fn print<O: Sink>(alloc: Global, flow: &Flow, stepped: Stepped, out: &mut O) -> Result<(), OutFault>
     ensures { Writes (outcome_text flow.now (outcome_of stepped)) result (O.view out.old) (O.view out.new) }
 {
     match line_of(alloc, flow, stepped)? {

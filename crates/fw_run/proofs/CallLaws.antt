@@ -26,19 +26,17 @@ use Rattle.fw_run.specs.Work.{IsWork, IsTextOfWork, PrintsWork}
 -- what a command does of texts that are there and accepted
 told_of_work : (told : Option (List ℕ → Option (List ℕ))) (command : Command) (work : Work) → IsWork told command work
     → (texts : Texts) × HasTexts told command texts × Accepts command texts × ((printed : List ℕ) → IsTextOfWork work printed → Prints command texts printed)
-told_of_work told (run names) (Run job) j =
-    (
-      j.texts,
-      j.there,
-      j.accepted,
-      λ printed p. subst (λ items. PrintsRun (spelled_system j.texts) items printed) j.items (subst (λ sys. PrintsRun sys job.items printed) j.system p),
-    )
+told_of_work told (run names) (Run job) j = (
+  j.texts,
+  j.there,
+  j.accepted,
+  λ printed p. subst (λ items. PrintsRun (spelled_system j.texts) items printed) j.items (subst (λ sys. PrintsRun sys job.items printed) j.system p),
+)
 told_of_work told (run names) (Check flow) j = absurd j
 told_of_work told (check name) (Run job) j = absurd j
 told_of_work told (check name) (Check flow) h =
     let value : flow ≡ spelled_flow h.text = h.so.checked.value in
-    let texts : Texts = record { flow = h.text; inputs = []; schedule = [] } in
-    (
+    let texts : Texts = record { flow = h.text; inputs = []; schedule = [] } in (
       texts,
       h.there,
       subst (flows.IsAccepted h.text) value h.so,

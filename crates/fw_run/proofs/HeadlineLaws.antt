@@ -50,8 +50,7 @@ lows-one one other e = ap shown_choice e
 shows-watermark : (sys : System) → IsWellFormedSystem sys → (steps : List Step) → ShowsWatermark sys steps
 shows-watermark sys w steps = record {
   shown = λ count outcomes state next choice r t.
-      let same : t.0 ≡ choice = sym (lows-one choice t.0 t.4) in
-      (
+      let same : t.0 ≡ choice = sym (lows-one choice t.0 t.4) in (
         subst (IsWatermark sys state) same t.1,
         ap (λ (m : Machine). m.low) t.3 ∙ ap (λ (c : Choice). map front_of_cut c.cuts) same,
       );

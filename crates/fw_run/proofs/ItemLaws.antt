@@ -107,8 +107,7 @@ items_once sys w before earlier state r (item ∷ items) one other last final c 
     let further = runs-go_on sys (first_state sys) state found.last before found.steps earlier found.outcomes r found.run in
     let here : ComesTo sys found.last items c.2 last = subst (λ (m : Machine). ComesTo sys m items c.2 last) first.1 c.4 in
     let there : ComesTo sys found.last items d.2 final = subst (λ (m : Machine). ComesTo sys m items d.2 final) second.1 d.4 in
-    let rest = items_once sys w (before ++ found.steps) (earlier ++ found.outcomes) found.last further items c.2 d.2 last final here there in
-    (
+    let rest = items_once sys w (before ++ found.steps) (earlier ++ found.outcomes) found.last further items c.2 d.2 last final here there in (
       d.5 ∙ ap (λ (s : List Step). s ++ d.2) (second.0 ∙ sym first.0) ∙ ap (λ (s : List Step). c.0 ++ s) rest.0 ∙ sym c.5,
       rest.1,
     )

@@ -321,12 +321,12 @@ pub step_cut-at : (old new : Standing) (flow : Dataflow) (step : Step) (stepped 
 step_cut-at old new flow step stepped fault before after e k t c =
     step_cut old step new.state (outcome_of stepped) fault before after t (subst (λ f. IsCutOff (outcome_text f (outcome_of stepped)) fault before after) (same_flow old new flow e k) c)
 
-pub step_printed-at : (old new : Standing) (flow : Dataflow) (step : Step) (stepped : Stepped) (was_idle : Bool) (before after : SinkView) → flow ≡ new.sys.flow → new.sys ≡ old.sys
-    → StepsTo old.sys old.state step new.state (outcome_of stepped) → was_idle ≡ is_idle (outcome_of stepped) → IsWritten (outcome_text flow (outcome_of stepped)) before after
-    → IsItemPrinted old new (One step) (record { steps = 1; idle = cond was_idle 1 0 }) before after
-step_printed-at old new flow step stepped was_idle before after e k t i w =
-    let taken : Taken = record { steps = 1; idle = cond was_idle 1 0 } in
-    let counted : taken ≡ record { steps = 1; idle = cond (is_idle (outcome_of stepped)) 1 0 } = ap (λ (b : Bool). let n : Taken = record { steps = 1; idle = cond b 1 0 } in n) i in
+pub step_printed-at : (old new : Standing) (flow : Dataflow) (step : Step) (stepped : Stepped) (idle_steps : ℕ) (before after : SinkView) → flow ≡ new.sys.flow → new.sys ≡ old.sys
+    → StepsTo old.sys old.state step new.state (outcome_of stepped) → idle_steps ≡ idle_count (outcome_of stepped ∷ []) → IsWritten (outcome_text flow (outcome_of stepped)) before after
+    → IsItemPrinted old new (One step) (record { steps = 1; idle = idle_steps }) before after
+step_printed-at old new flow step stepped idle_steps before after e k t i w =
+    let taken : Taken = record { steps = 1; idle = idle_steps } in
+    let counted : taken ≡ record { steps = 1; idle = idle_count (outcome_of stepped ∷ []) } = ap (λ (m : ℕ). let n : Taken = record { steps = 1; idle = m } in n) i in
     step_printed old new step (outcome_of stepped) taken before after t counted (subst (λ f. IsWritten (outcome_text f (outcome_of stepped)) before after) (same_flow old new flow e k) w)
 
 pub auto_ends-at : (old mid new : Standing) (stepped : Stepped) (count most : ℕ) (before after : SinkView) → IsAutoSoFar old mid count before after → count < most
@@ -456,19 +456,19 @@ stops_within {T} sys items others standing item taken idle_steps fault before mi
     by : (y : System) → y ≡ sys → (r : ItemRun y standing.state item) → IsCutOff (outcomes_text y.flow r.outcomes) fault mid after → Performs {T = T} sys (items ++ item ∷ others) (Err fault) before after
     by y f = subst (λ (z : System). (r : ItemRun z standing.state item) → IsCutOff (outcomes_text z.flow r.outcomes) fault mid after → Performs {T = T} sys (items ++ item ∷ others) (Err fault) before after) (sym f)
         (λ r part.
-          let further = runs-go_on sys (first_state sys) standing.state r.last s.steps r.steps s.outcomes r.outcomes s.run r.run in
-          let rest = items-run sys w (s.steps ++ r.steps) (s.outcomes ++ r.outcomes) r.last further others in
-          let more : ItemsRun sys standing.state (item ∷ others) = record {
-            steps = r.steps ++ rest.steps;
-            outcomes = r.outcomes ++ rest.outcomes;
-            last = rest.last;
-            comes = (r.steps, r.last, rest.steps, r.comes, rest.comes, refl);
-            run = runs-go_on sys standing.state r.last rest.last r.steps rest.steps r.outcomes rest.outcomes r.run rest.run;
-          } in
-          let last = done_line (length (s.outcomes ++ more.outcomes)) (idle_count (s.outcomes ++ more.outcomes)) in
-          let split : outcomes_text sys.flow more.outcomes ++ last ≡ outcomes_text sys.flow r.outcomes ++ (outcomes_text sys.flow rest.outcomes ++ last) =
-          ap (λ t. t ++ last) (text-append sys.flow r.outcomes rest.outcomes) ∙ append_assoc (outcomes_text sys.flow r.outcomes) (outcomes_text sys.flow rest.outcomes) last in
-          cut_off sys items (item ∷ others) standing taken idle_steps fault before mid after s more (outcomes_text sys.flow r.outcomes) (outcomes_text sys.flow rest.outcomes ++ last) split part)
+        let further = runs-go_on sys (first_state sys) standing.state r.last s.steps r.steps s.outcomes r.outcomes s.run r.run in
+        let rest = items-run sys w (s.steps ++ r.steps) (s.outcomes ++ r.outcomes) r.last further others in
+        let more : ItemsRun sys standing.state (item ∷ others) = record {
+          steps = r.steps ++ rest.steps;
+          outcomes = r.outcomes ++ rest.outcomes;
+          last = rest.last;
+          comes = (r.steps, r.last, rest.steps, r.comes, rest.comes, refl);
+          run = runs-go_on sys standing.state r.last rest.last r.steps rest.steps r.outcomes rest.outcomes r.run rest.run;
+        } in
+        let last = done_line (length (s.outcomes ++ more.outcomes)) (idle_count (s.outcomes ++ more.outcomes)) in
+        let split : outcomes_text sys.flow more.outcomes ++ last ≡ outcomes_text sys.flow r.outcomes ++ (outcomes_text sys.flow rest.outcomes ++ last) =
+        ap (λ t. t ++ last) (text-append sys.flow r.outcomes rest.outcomes) ∙ append_assoc (outcomes_text sys.flow r.outcomes) (outcomes_text sys.flow rest.outcomes) last in
+        cut_off sys items (item ∷ others) standing taken idle_steps fault before mid after s more (outcomes_text sys.flow r.outcomes) (outcomes_text sys.flow rest.outcomes ++ last) split part)
 
 -- the run ends with its last line
 pub ends : {T : Type 0} (sys : System) (items : List Item) (standing : Standing) (taken idle_steps : ℕ) (answer : Result T OutFault) (before mid after : SinkView)

@@ -1,5 +1,5 @@
 //! The steps of a schedule are taken and what comes of them is printed.
-ghost use Rattle.std.specs.Prelude.{◌≡◌};
+ghost use Rattle.std.specs.Prelude.{◌≡◌, [], ◌∷◌};
 ghost use Rattle.fw_flow.specs.Dataflow.{system_of};
 ghost use Rattle.fw_plain.specs.EffectText.{outcome_text};
 ghost use Rattle.fw_plain.specs.Engine.{outcome_of};
@@ -74,7 +74,7 @@ fn perform_step<O: Sink>(
     ensures printed { PrintsItem engine.old engine.new (Item.One step.now) result (O.view out.old) (O.view out.new) }
 {
     let stepped = engine.step(step)?;
-    let idle = is_idle(&stepped) as u64;
+    let idle = idle_steps(&stepped);
     print(alloc, engine.flow(), stepped, out)?;
     Ok(Taken { steps: 1, idle })
 }
@@ -110,13 +110,18 @@ fn is_idle(stepped: &Stepped) -> bool
     matches!(stepped, Stepped::Idle)
 }
 
+// How many steps were not enabled: one or none.
+fn idle_steps(stepped: &Stepped) -> u64
+    ensures { result ≡ spec.idle_count (outcome_of stepped.now ∷ []) }
+{
+    match stepped {
+        Stepped::Idle => 1,
+        Stepped::Did(_) => 0,
+    }
+}
+
 // Prints the lines of what came of a step, if it shows something.
-fn print<O: Sink>(
-    alloc: Global,
-    flow: &Flow,
-    stepped: Stepped,
-    out: &mut O,
-) -> Result<(), OutFault>
+fn print<O: Sink>(alloc: Global, flow: &Flow, stepped: Stepped, out: &mut O) -> Result<(), OutFault>
     ensures { Writes (outcome_text flow.now (outcome_of stepped)) result (O.view out.old) (O.view out.new) }
 {
     match line_of(alloc, flow, stepped)? {

@@ -88,7 +88,11 @@ pub(crate) fn read_job<F: Folder>(
 }
 
 /// The flow of the text under a name.
-pub(crate) fn fetch_flow<F: Folder>(alloc: Global, folder: &mut F, name: &str) -> Result<Flow, JobFault>
+pub(crate) fn fetch_flow<F: Folder>(
+    alloc: Global,
+    folder: &mut F,
+    name: &str,
+) -> Result<Flow, JobFault>
     ensures flow { IfOk result (λ flow. HasText (F.texts folder.old) name.now (λ text. flows.IsAccepted text flow)) }
     ensures refused { IfErr result (IfRefused (IsFlowRefused (F.texts folder.old) name.now)) }
     ensures failed { IsErrOf result JobFault.Failed → Rose (F.fault_count folder.old) (F.fault_count folder.new) }

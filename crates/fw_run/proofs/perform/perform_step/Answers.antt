@@ -20,4 +20,4 @@ returns-in_err-print-clause-printed g c =
 pub returns-clause-printed : goal.returns-clause-printed
 returns-clause-printed g c =
     let view = g.O.Sink.view in
-    step_printed-at c.args.engine.now c.step.new.self c.flow.result.now c.args.step.now c.in_ok-stepped.stepped c.is_idle-idle.result (view c.args.out.now) (view c.print.new.out) c.flow.ensures c.step.ensures.system c.in_ok-stepped.ensures.ok c.is_idle-idle.ensures c.in_ok-print.ensures
+    step_printed-at c.args.engine.now c.step.new.self c.flow.result.now c.args.step.now c.in_ok-stepped.stepped c.idle_steps-idle.result (view c.args.out.now) (view c.print.new.out) c.flow.ensures c.step.ensures.system c.in_ok-stepped.ensures.ok c.idle_steps-idle.ensures c.in_ok-print.ensures

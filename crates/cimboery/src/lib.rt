@@ -26,5 +26,5 @@ pub use fw_outside::{
 };
 pub use fw_plain::{Effect, Engine, Shown, Stepped};
 pub use fw_run::{Status, falkirk};
-pub use fw_schedule::{SCHEDULE_LIMIT, Schedule, read_schedule};
+pub use fw_schedule::{Item, SCHEDULE_LIMIT, STEP_LIMIT, Schedule, read_schedule};
 pub use fw_time::{Bounds, Stamp};

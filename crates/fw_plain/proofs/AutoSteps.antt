@@ -189,8 +189,7 @@ tried_idle old mid new place count step stepped t s e f g =
     let h = here old mid place count step new.state (outcome_of stepped) t s in
     let led : StepsTo old.sys old.state step new.state idle = subst (λ d. StepsTo old.sys old.state step new.state (outcome_of d)) e h.2 in
     let none : IsIdle old.sys old.state (slice_index_or steps place Persist) = subst (IsIdle old.sys old.state) h.1 led.0 in
-    let more : AreIdle old.sys old.state (take place steps ++ slice_index_or steps place Persist ∷ []) = idle-append old.sys old.state (take place steps) (slice_index_or steps place Persist ∷ []) t.idle (none, tt) in
-    (
+    let more : AreIdle old.sys old.state (take place steps ++ slice_index_or steps place Persist ∷ []) = idle-append old.sys old.state (take place steps) (slice_index_or steps place Persist ∷ []) t.idle (none, tt) in (
       same_standing new old (f ∙ ap (λ (m : Standing). m.sys) t.same) led.1 (g ∙ ap (λ (m : Standing). m.refused) t.same),
       subst (AreIdle old.sys old.state) (sym (take_more steps place Persist h.0)) more,
     )

@@ -7,7 +7,7 @@ use Rattle.fw_time.proofs.EachLaws.{each-append, each-map, each-weaker}
 use Rattle.fw_time.proofs.StampLaws.{leq-refl}
 use Rattle.fw_bag.specs.declared.rec.Rec.{Rec}
 use Rattle.fw_frontier.specs.Frontier.{Frontier, everything}
-use Rattle.fw_frontier.specs.Thinned.{IsBelowKept, IsThinned}
+use Rattle.fw_model.specs.Thinned.{IsBelowKept, IsThinned}
 use Rattle.fw_lines.specs.Batches.{batches_at}
 use Rattle.fw_flow.specs.declared.choice.Counted.{Counted}
 use Rattle.fw_flow.specs.declared.choice.Stamps.{Stamps}

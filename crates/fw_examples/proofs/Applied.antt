@@ -6,14 +6,14 @@ use Rattle.fw_flow.specs.declared.event.Event.TheVariants.{Deliver as Delivered,
 use Rattle.fw_flow.specs.declared.step.Step.TheVariants.{Collect, Recover}
 use Rattle.fw_model.specs.Choice.{ever, kept, until}
 use Rattle.fw_model.specs.Machine.{events, first_state, is_failed, checkpoint, collected}
-use Rattle.fw_model.specs.Steps.{cuts, did, lows}
+use Rattle.fw_model.specs.Steps.{cuts, did, lows, silent}
 use Rattle.fw_examples.specs.Flows.{loop_counts_up, pair, two_batches, regroup_by_three, out, numbered_both, numbers, numbered_epoch, value_at}
 use Rattle.fw_examples.specs.Applied.{ChoicesApply, ChoosingApplies, DeliveriesApply, FilteringApplies, LegalHistoriesApply, RunsApply, StepsApply, CollectionRestored, LogsRestored, RestoringApplies, DenotationApplies, ProjectionsApply, SendingApplies, AutoApplies, InjectionsApply, PendingApplies, ReplayApplies, ThinnedApplies, WritesApply, begun, both_epochs, counted, counted_once_more, one_or_other, still_needed}
 use Rattle.fw_examples.specs.Loop.{counted_rounds, counting_failed, restored, under_way, message, round, fed_back_edge}
 use Rattle.fw_examples.specs.RunningTotal.{at_epoch, come_back, epoch_kept, next_epochs, outcomes_through_recovery, outcomes_to_failure, outcomes_up_to_two, outcomes_without_failure, output_failed, steps_through_recovery, steps_to_failure, steps_up_to_two, steps_without_failure, totals, totals_denoted, two_epochs, two_epochs_kept, two_kept_noting, alike, total_flow}
-use Rattle.fw_examples.specs.Witnesses.{both_rounds, complete_then, complete_two, first_rounds, joined_rounds, kept_epoch, kept_rounds, kept_totals, noted_totals, two_rounds, all_written, four_epochs, last_taken, steps_by_themselves}
+use Rattle.fw_examples.specs.Witnesses.{both_rounds, complete_then, complete_two, first_rounds, joined_rounds, kept_epoch, kept_rounds, kept_totals, noted_totals, two_rounds, all_failed, all_written, four_epochs, last_taken, steps_by_themselves}
 use Rattle.fw_examples.proofs.TotalRuns.{collects, run_through_recovery, runs_to_two, sum_acknowledged, ten_acknowledged, two_collected, two_epochs_are_low}
-use Rattle.fw_examples.proofs.Witnesses.{an_epoch_is_closed, choices_unite, cuts_unite, each_step_has_its_choice, failure_is_reached, join_is_a_frontier, loop_is_filtered, more_is_complete, notified_and_goes_on, numbers_are_delivered, one_is_on_its_way, recovery_is_reached, sequence_is_filtered, some_is_settled, something_is_chosen, totals_are_filtered, totals_are_well_formed, two_epochs_are_complete, two_runs_meet, epochs_are_thinned, two_epochs_are_the_same, two_steps_are_taken}
+use Rattle.fw_examples.proofs.Witnesses.{an_epoch_is_closed, choices_unite, cuts_unite, each_step_has_its_choice, failure_is_reached, join_is_a_frontier, loop_is_filtered, more_is_complete, notified_and_goes_on, numbers_are_delivered, one_is_on_its_way, recovery_is_reached, sequence_is_filtered, some_is_settled, something_is_chosen, totals_are_filtered, totals_are_well_formed, two_epochs_are_complete, two_runs_meet, epochs_are_thinned, no_step_is_taken, two_epochs_are_the_same, two_steps_are_taken}
 use Rattle.fw_flow.specs.NodeFunction.{sends}
 use Rattle.fw_flow.specs.Projection.{events_at}
 use Rattle.fw_flow.specs.WellFormed.{IsWellFormedSystem}
@@ -388,6 +388,11 @@ auto_applies =
       one = λ law others other is.
           let only = (law totals totals_are_well_formed.well_formed steps_to_failure outcomes_to_failure output_failed failure_is_reached.reached 2).3 in
           let mine = only steps_by_themselves last_taken taken.both in
+          let its = only others other is in
+          (its.0 ∙ sym mine.0, its.1 ∙ sym mine.1);
+      none = λ law others other is.
+          let only = (law totals totals_are_well_formed.well_formed (step.Fail (0 ∷ 1 ∷ 2 ∷ []) ∷ []) (did silent ∷ []) all_failed no_step_is_taken.reached 1).3 in
+          let mine = only [] all_failed no_step_is_taken.none in
           let its = only others other is in
           (its.0 ∙ sym mine.0, its.1 ∙ sym mine.1);
       runs = λ law. law totals output_failed last_taken 2 steps_by_themselves taken.both;

@@ -1,6 +1,6 @@
 -- Witnesses for the laws: of a sequence whose numbers are regrouped, of the running total and of the loop.
 use Rattle.std.specs.List.{list_any}
-use Rattle.std.proofs.Common.{Bool, List, None, Some, [], ap, arith, drop, inl, inr, lit<, lit≤, refl, replicate, suc, sym, true, zero, ℕ, ⊎_elim, ◌++◌, ◌∙◌, ◌∷◌, ◌≡◌}
+use Rattle.std.proofs.Common.{Bool, List, None, Some, [], ap, arith, drop, false, inl, inr, lit<, lit≤, refl, replicate, suc, sym, true, zero, ℕ, ⊎_elim, ◌++◌, ◌<◌, ◌∙◌, ◌∷◌, ◌≡◌}
 use Rattle.std.proofs.lemmas.Bool.{and_from, and_parts, false≢true, or_cases, or_left, or_right}
 use Rattle.std.proofs.lemmas.Bool.Decides.{nat_tests}
 use Rattle.fw_time.specs.Stamp.{Stamp, leq}
@@ -16,7 +16,7 @@ use Rattle.fw_flow.specs.declared.choice.Choice.{Choice}
 use Rattle.fw_flow.specs.declared.event.Event.TheVariants.{Notify as Notified}
 use Rattle.fw_flow.specs.declared.step.Step.{Step}
 use Rattle.fw_flow.specs.declared.step.Step.TheVariants.{Recover}
-use Rattle.fw_model.specs.Auto.{IsFirstEnabled, IsIdle, auto_steps}
+use Rattle.fw_model.specs.Auto.{AreIdle, IsFirstEnabled, IsIdle, auto_steps}
 use Rattle.fw_model.specs.Choice.{ever, kept, until}
 use Rattle.fw_model.specs.Choosing.{CanChoose}
 use Rattle.fw_model.specs.Denotation.{IsDenotation}
@@ -32,11 +32,11 @@ use Rattle.fw_model.proofs.RecoveryLaws.{denoted-full, runs-legal, settled-stays
 use Rattle.fw_examples.specs.Flows.{loop_counts_up, numbered_both, numbers, regroup_by_three, two_batches, value_at}
 use Rattle.fw_examples.specs.Loop.{counted_rounds, counting_failed, restored}
 use Rattle.fw_examples.specs.RunningTotal.{alike, at_epoch, come_back, next_epochs, outcomes_to_failure, output_failed, steps_to_failure, total_flow, totals, totals_denoted, two_epochs, two_epochs_kept}
-use Rattle.fw_examples.specs.Witnesses.{AnEpochIsClosed, ChoicesUnite, CutsUnite, EachStepHasItsChoice, EpochsAreThinned, FailureIsReached, JoinIsAFrontier, LessIsConsistent, LoopIsFiltered, LowWatermarkRises, MoreIsComplete, NotifiedAndGoesOn, NumbersAreDelivered, OneIsOnItsWay, RecoveryIsReached, SequenceIsFiltered, SomeIsSettled, SomethingIsChosen, TotalsAreFiltered, TotalsAreWellFormed, TwoEpochsAreComplete, TwoEpochsAreTheSame, TwoRunsMeet, TwoStepsAreTaken, all_written, both_rounds, first_rounds, four_epochs, kept_epoch, last_taken}
+use Rattle.fw_examples.specs.Witnesses.{AnEpochIsClosed, ChoicesUnite, CutsUnite, EachStepHasItsChoice, EpochsAreThinned, FailureIsReached, JoinIsAFrontier, LessIsConsistent, LoopIsFiltered, LowWatermarkRises, MoreIsComplete, NotifiedAndGoesOn, NoStepIsTaken, NumbersAreDelivered, OneIsOnItsWay, RecoveryIsReached, SequenceIsFiltered, SomeIsSettled, SomethingIsChosen, TotalsAreFiltered, TotalsAreWellFormed, TwoEpochsAreComplete, TwoEpochsAreTheSame, TwoRunsMeet, TwoStepsAreTaken, all_failed, all_written, both_rounds, first_rounds, four_epochs, kept_epoch, last_taken}
 use Rattle.fw_examples.proofs.Choosing.{lies}
 use Rattle.fw_examples.proofs.Fronts.{by_four, by_three, canonical_by, within_two}
 use Rattle.fw_examples.proofs.Loop.{loop_is_reached, loop_is_restored, restored_is_largest, under_way_is_complete, under_way_is_legal, under_way_leaves}
-use Rattle.fw_examples.proofs.Plays.{Move, after_all, deliver, inject, persist, plays, steps_of, takes}
+use Rattle.fw_examples.proofs.Plays.{Move, after_all, deliver, fail, inject, persist, plays, steps_of, takes}
 use Rattle.fw_examples.proofs.Settling.{admissible_by, closed_by, complete_by, notifies}
 use Rattle.fw_examples.proofs.TotalRuns.{after_failure, collects, epoch_consistent, failed_run, kept_consistent, kept_largest, noting_less, noting_none, recovers, run_through_recovery, run_without_failure, runs_to_two, sum_acknowledged, ten_acknowledged, totals_formed, two_collected, two_offered, union_of_both}
 use Rattle.fw_examples.proofs.WellFormed.{is_well_formed, rising_is_well_formed, system_by}
@@ -399,9 +399,11 @@ one_in_flight : (earlier : List Write) (oldest : Write) (later : List Write) →
 one_in_flight [] o l k = or_left (is_in_flight o.stage) (any_in_flight l) k
 one_in_flight (w ∷ ws) o l k = or_right (is_in_flight w.stage) (any_in_flight (ws ++ o ∷ l)) (one_in_flight ws o l k)
 
--- once each write is acknowledged, no more is
-no_more_to_write : IsIdle totals all_written step.Persist
-no_more_to_write next effect t = let a = t.1 in false≢true (ap any_in_flight a.before ∙ one_in_flight a.earlier a.oldest a.later a.in_flight)
+-- where no write is in flight, none is acknowledged
+nothing_to_write : (state : Machine) → any_in_flight state.writes ≡ false → IsIdle totals state step.Persist
+nothing_to_write state none next effect t =
+    let a = t.1 in
+    false≢true (sym none ∙ (ap any_in_flight a.before ∙ one_in_flight a.earlier a.oldest a.later a.in_flight))
 
 writes_first : IsFirstEnabled totals output_failed (auto_steps total_flow) step.Persist all_written silent
 writes_first = record {
@@ -418,7 +420,7 @@ delivers_then = record {
   earlier = step.Persist ∷ [];
   later = drop 2 (auto_steps total_flow);
   among = refl;
-  none_earlier = (no_more_to_write, tt);
+  none_earlier = (nothing_to_write all_written refl, tt);
   leads = takes totals all_written (deliver 0 None (at_epoch 3 1)) refl;
 }
 
@@ -427,4 +429,66 @@ two_steps_are_taken = record {
   one = (all_written, silent, writes_first, refl);
   other = (last_taken, silent, delivers_then, refl);
   both = (all_written, silent, writes_first, (last_taken, silent, delivers_then, refl));
+}
+
+none_is_live : (p : ℕ) → p < 3 → is_failed all_failed p ≡ false → ⊥
+none_is_live zero l live = false≢true (sym live)
+none_is_live (suc zero) l live = false≢true (sym live)
+none_is_live (suc (suc zero)) l live = false≢true (sym live)
+none_is_live (suc (suc (suc p))) l live = omega (arith, l)
+
+-- at nodes that are failed no step is enabled
+no_delivery : (e : ℕ) → receiver total_flow e < 3 → IsIdle totals all_failed (step.Deliver e None)
+no_delivery e l next effect t = none_is_live (receiver total_flow e) l t.2
+
+no_notification : (p : ℕ) → p < 3 → IsIdle totals all_failed (step.Notify p None)
+no_notification p l next effect t = none_is_live p l t.2
+
+no_progress : IsIdle totals all_failed step.Progress
+no_progress next effect t = let some = t.2.some in none_is_live some.0 some.2 some.3
+
+no_acknowledgement : (p : ℕ) → p < 3 → IsIdle totals all_failed (step.Ack p)
+no_acknowledgement p l next effect t = none_is_live p l t.1.live
+
+no_injection : (p : ℕ) → p < 3 → IsIdle totals all_failed (step.Inject p)
+no_injection p l next effect t = none_is_live p l t.2
+
+none_enabled : AreIdle totals all_failed (auto_steps total_flow)
+unfolding receiver
+none_enabled = (
+  nothing_to_write all_failed refl,
+  (
+    no_delivery 0 (lit< tt),
+    (
+      no_delivery 1 (lit< tt),
+      (
+        no_notification 0 (lit< tt),
+        (
+          no_notification 1 (lit< tt),
+          (
+            no_notification 2 (lit< tt),
+            (
+              no_progress,
+              (
+                no_acknowledgement 0 (lit< tt),
+                (
+                  no_acknowledgement 1 (lit< tt),
+                  (
+                    no_acknowledgement 2 (lit< tt),
+                    (no_injection 0 (lit< tt), (no_injection 1 (lit< tt), (no_injection 2 (lit< tt), tt))),
+                  ),
+                ),
+              ),
+            ),
+          ),
+        ),
+      ),
+    ),
+  ),
+)
+
+pub no_step_is_taken : NoStepIsTaken
+no_step_is_taken = record {
+  reached = plays totals (fail 0 (1 ∷ 2 ∷ []) ∷ []) (first_state totals) [] [] all_failed refl refl;
+  none = (none_enabled, refl);
 }

@@ -42,7 +42,7 @@ use Rattle.fw_model.specs.Unions.{IsUnionOfChoices, IsUnion}
 use Rattle.fw_examples.specs.Flows.{loop_counts_up, pair, regroup_by_three, two_batches, out, src, big, big_to_out, numbered_both, numbers, numbered_epoch, src_to_big, value_at}
 use Rattle.fw_examples.specs.Loop.{counted_rounds, counting_failed, restored, under_way, message, round, fed_back_edge}
 use Rattle.fw_examples.specs.RunningTotal.{at_epoch, come_back, epoch_kept, next_epochs, outcomes_through_recovery, outcomes_to_failure, outcomes_without_failure, output_failed, run, run_to_out, src_to_run, steps_to_failure, total_flow, totals, totals_denoted, two_epochs, two_epochs_kept, two_kept_noting}
-use Rattle.fw_examples.specs.Witnesses.{both_rounds, complete_then, complete_two, first_rounds, inc, joined_rounds, kept_epoch, kept_rounds, two_rounds, four_epochs, last_taken, steps_by_themselves}
+use Rattle.fw_examples.specs.Witnesses.{both_rounds, complete_then, complete_two, first_rounds, inc, joined_rounds, kept_epoch, kept_rounds, two_rounds, all_failed, four_epochs, last_taken, steps_by_themselves}
 use Rattle.fw_model.specs.Resending.{HoldsWhatIsSentAgain, LogHoldsWhatIsSentAgain, at_receiver, messages_to_resend}
 use Rattle.fw_model.specs.Writes.{Ascends, CountsWritten, HasOne, IsCheckpointOf, IsKeptWithin, IsLoggedOnce, IsWrittenAsAsked, MayKeepNothingIfCollected, NothingComesInside, not_collected}
 use Rattle.fw_examples.specs.Logs.{both_come_back, checkpoints_logged, event_collected, events_logged, log_kept, none_collected, one_came_through, second_message, total_logged}
@@ -432,9 +432,11 @@ ThinnedApplies =
     → cover (bounds_of total_flow run) (filter (node_frontier total_flow run (until 3)) (drop 1 four_epochs))
     ≡ cover (bounds_of total_flow run) (filter (node_frontier total_flow run (until 3)) four_epochs)
 
--- the laws of `auto`, of the state of the failure
+-- the laws of `auto`, of the state of the failure, and of that in which all nodes are failed
 pub record AutoApplies : Type 0 where
   pub one : auto.AutoRunsAreOne → (others : List Step) (other : Machine) → IsAutoRun totals output_failed 2 others other
       → (others ≡ steps_by_themselves) × (other ≡ last_taken)
+  pub none : auto.AutoRunsAreOne → (others : List Step) (other : Machine) → IsAutoRun totals all_failed 1 others other
+      → (others ≡ []) × (other ≡ all_failed)
   pub runs : auto.AutoRunsAreRuns → (effects : List Effect) × Run totals output_failed steps_by_themselves (map did effects) last_taken
   pub goes_on : auto.AutoRunsGoOn → IsAutoRun totals output_failed 2 steps_by_themselves last_taken

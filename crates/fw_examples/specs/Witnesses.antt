@@ -13,7 +13,7 @@ use Rattle.fw_flow.specs.declared.event.Event.TheVariants.{Deliver as Delivered,
 use Rattle.fw_flow.specs.declared.kind.Kind.TheVariants.{Sequence}
 use Rattle.fw_flow.specs.declared.restoring.Restoring.TheVariants.{Checkpoints}
 use Rattle.fw_flow.specs.declared.step.Step.{Step}
-use Rattle.fw_flow.specs.declared.step.Step.TheVariants.{Collect, Deliver, Persist, Recover}
+use Rattle.fw_flow.specs.declared.step.Step.TheVariants.{Collect, Deliver, Fail, Persist, Recover}
 use Rattle.fw_model.specs.Acknowledgements.{Shows, stamps_acknowledged}
 use Rattle.fw_model.specs.Auto.{IsAutoRun}
 use Rattle.fw_model.specs.Choice.{IsCandidate, LiesInReceiver, IsChoiceWithin, IsConsistent, IsCutWithin, IsLargest, cut_of, ever, filtered_history, kept, kept_of, notice_of, until}
@@ -24,7 +24,7 @@ use Rattle.fw_model.specs.Filtering.{AreFrontiers, ComeFromKept, IsConsistentlyK
 use Rattle.fw_model.specs.History.{IsAdmissible, IsClosedFor, IsComplete, IsEnabled, IsLegal, delivered_messages, pending_messages, recs_at, sent_messages}
 use Rattle.fw_model.specs.Machine.{Machine, Write, acknowledged, checkpoint, collected, events, first_state, front_of, in_flight, is_failed}
 use Rattle.fw_model.specs.Settled.{HasMoreToSettle, IsCutWithinSettled, IsDenotedInside, IsFull}
-use Rattle.fw_model.specs.Steps.{HaveNoRecovery, Run, StepsTo, cuts, did, lows, with_event}
+use Rattle.fw_model.specs.Steps.{HaveNoRecovery, Run, StepsTo, cuts, did, lows, silent, with_event}
 use Rattle.fw_model.specs.Thinned.{IsThinned}
 use Rattle.fw_model.specs.Unions.{IsUnionOfChoices, IsUnionOfCuts}
 use Rattle.fw_model.specs.Writes.{IsSamePart}
@@ -332,3 +332,12 @@ pub record TwoStepsAreTaken : Type 0 where
   pub one : IsAutoRun totals output_failed 1 (Persist ∷ []) all_written
   pub other : IsAutoRun totals all_written 1 (Deliver src_to_run None ∷ []) last_taken
   pub both : IsAutoRun totals output_failed 2 steps_by_themselves last_taken
+
+-- the state once all nodes failed before anything happened
+abbrev pub all_failed : Machine
+all_failed = record (first_state totals) { failed = true ∷ true ∷ true ∷ [] }
+
+-- From there `auto` takes no step, since none is enabled.
+pub record NoStepIsTaken : Type 0 where
+  pub reached : Run totals (first_state totals) (Fail (src ∷ run ∷ out ∷ []) ∷ []) (did silent ∷ []) all_failed
+  pub none : IsAutoRun totals all_failed 1 [] all_failed

@@ -1,5 +1,5 @@
 //! That the laws say something: where what they ask holds.
-ghost use Rattle.fw_examples.specs.Witnesses.{EachStepHasItsChoice, FailureIsReached, LoopIsReached, LowWatermarkRises, MoreIsComplete, RecoveryIsReached, SomeIsSettled, SomethingIsChosen, TotalsAreWellFormed, TwoRunsMeet, ChoicesUnite, CutsUnite, JoinIsAFrontier, LessIsConsistent, AnEpochIsClosed, NotifiedAndGoesOn, OneIsOnItsWay, TwoEpochsAreComplete, LoopIsFiltered, NumbersAreDelivered, SequenceIsFiltered, TotalsAreFiltered, EpochsAreThinned, TwoEpochsAreTheSame, TwoStepsAreTaken};
+ghost use Rattle.fw_examples.specs.Witnesses.{EachStepHasItsChoice, FailureIsReached, LoopIsReached, LowWatermarkRises, MoreIsComplete, RecoveryIsReached, SomeIsSettled, SomethingIsChosen, TotalsAreWellFormed, TwoRunsMeet, ChoicesUnite, CutsUnite, JoinIsAFrontier, LessIsConsistent, AnEpochIsClosed, NotifiedAndGoesOn, OneIsOnItsWay, TwoEpochsAreComplete, LoopIsFiltered, NumbersAreDelivered, SequenceIsFiltered, TotalsAreFiltered, EpochsAreThinned, NoStepIsTaken, TwoEpochsAreTheSame, TwoStepsAreTaken};
 ghost use Rattle.fw_examples.specs.OffersOfTotals.{CheckpointsAreOffered};
 ghost use Rattle.fw_examples.specs.Records.{FrontsAreSpelled, RecordsAreSpelled};
 
@@ -166,8 +166,14 @@ pub fn epochs_are_thinned()
     ensures { EpochsAreThinned }
 {}
 
-/// Two steps that are taken by themselves, of which the first is not enabled after it was taken.
+/// Two steps that are taken by themselves: once the first is taken, no more write is in flight.
 #[tactic(auto, using(crate::proofs::Witnesses::two_steps_are_taken))]
 pub fn two_steps_are_taken()
     ensures { TwoStepsAreTaken }
+{}
+
+/// A state in which no step is enabled.
+#[tactic(auto, using(crate::proofs::Witnesses::no_step_is_taken))]
+pub fn no_step_is_taken()
+    ensures { NoStepIsTaken }
 {}

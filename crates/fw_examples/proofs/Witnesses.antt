@@ -453,39 +453,17 @@ no_acknowledgement p l next effect t = none_is_live p l t.1.live
 no_injection : (p : ℕ) → p < 3 → IsIdle totals all_failed (step.Inject p)
 no_injection p l next effect t = none_is_live p l t.2
 
+-- three steps and others, where it is so of each of them
+idle_at_each : (f : ℕ → Step) (others : List Step) → ((p : ℕ) → p < 3 → IsIdle totals all_failed (f p)) → AreIdle totals all_failed others
+    → AreIdle totals all_failed (f 0 ∷ f 1 ∷ f 2 ∷ others)
+idle_at_each f others each rest = (each 0 (lit< tt), (each 1 (lit< tt), (each 2 (lit< tt), rest)))
+
 none_enabled : AreIdle totals all_failed (auto_steps total_flow)
 unfolding receiver
-none_enabled = (
-  nothing_to_write all_failed refl,
-  (
-    no_delivery 0 (lit< tt),
-    (
-      no_delivery 1 (lit< tt),
-      (
-        no_notification 0 (lit< tt),
-        (
-          no_notification 1 (lit< tt),
-          (
-            no_notification 2 (lit< tt),
-            (
-              no_progress,
-              (
-                no_acknowledgement 0 (lit< tt),
-                (
-                  no_acknowledgement 1 (lit< tt),
-                  (
-                    no_acknowledgement 2 (lit< tt),
-                    (no_injection 0 (lit< tt), (no_injection 1 (lit< tt), (no_injection 2 (lit< tt), tt))),
-                  ),
-                ),
-              ),
-            ),
-          ),
-        ),
-      ),
-    ),
-  ),
-)
+none_enabled =
+    let last = idle_at_each step.Ack (drop 10 (auto_steps total_flow)) no_acknowledgement (idle_at_each step.Inject [] no_injection tt) in
+    let noticed = idle_at_each (λ p. step.Notify p None) (drop 6 (auto_steps total_flow)) no_notification (no_progress, last) in
+    (nothing_to_write all_failed refl, (no_delivery 0 (lit< tt), (no_delivery 1 (lit< tt), noticed)))
 
 pub no_step_is_taken : NoStepIsTaken
 no_step_is_taken = record {

@@ -8,7 +8,7 @@ use Rattle.fw_model.specs.Choice.{ever, kept, until}
 use Rattle.fw_model.specs.Machine.{events, first_state, is_failed, checkpoint, collected}
 use Rattle.fw_model.specs.Steps.{cuts, did, lows, silent}
 use Rattle.fw_examples.specs.Flows.{loop_counts_up, pair, two_batches, regroup_by_three, out, numbered_both, numbers, numbered_epoch, value_at}
-use Rattle.fw_examples.specs.Applied.{ChoicesApply, ChoosingApplies, DeliveriesApply, FilteringApplies, LegalHistoriesApply, RunsApply, StepsApply, CollectionRestored, LogsRestored, RestoringApplies, DenotationApplies, ProjectionsApply, SendingApplies, AutoApplies, InjectionsApply, PendingApplies, ReplayApplies, ThinnedApplies, WritesApply, begun, both_epochs, counted, counted_once_more, one_or_other, still_needed}
+use Rattle.fw_examples.specs.Applied.{ChoicesApply, ChoosingApplies, DeliveriesApply, FilteringApplies, LegalHistoriesApply, RunsApply, StepsApply, CollectionRestored, LogsRestored, RestoringApplies, DenotationApplies, ProjectionsApply, SendingApplies, AutoApplies, EventsApply, ReplayApplies, ThinnedApplies, WritesApply, begun, both_epochs, counted, counted_once_more, one_or_other, still_needed}
 use Rattle.fw_examples.specs.Loop.{counted_rounds, counting_failed, restored, under_way, message, round, fed_back_edge}
 use Rattle.fw_examples.specs.RunningTotal.{at_epoch, come_back, epoch_kept, next_epochs, outcomes_through_recovery, outcomes_to_failure, outcomes_up_to_two, outcomes_without_failure, output_failed, steps_through_recovery, steps_to_failure, steps_up_to_two, steps_without_failure, totals, totals_denoted, two_epochs, two_epochs_kept, two_kept_noting, alike, total_flow}
 use Rattle.fw_examples.specs.Witnesses.{both_rounds, complete_then, complete_two, first_rounds, joined_rounds, kept_epoch, kept_rounds, kept_totals, noted_totals, two_rounds, all_failed, all_written, four_epochs, last_taken, steps_by_themselves}
@@ -324,7 +324,7 @@ denotation_applies =
       three_numbers = refl;
     }
 
--- ---- the laws of writes, of replay, of pending messages, of injections and of `auto`, applied to what meets what they ask
+-- ---- the laws of writes, of replay, of events, of thinned stamps and of `auto`, applied to what meets what they ask
 
 pub writes_apply : WritesApply
 unfolding policy_of
@@ -354,28 +354,22 @@ replay_applies =
           (frontier-closed _ (until 2)) two_epochs_are_the_same;
     }
 
-pub pending_applies : PendingApplies
+pub events_apply : EventsApply
 unfolding kind_of sender receiver
-pending_applies =
-    let numbered = numbers_are_delivered in
-    record {
-      as_sent = λ law. law totals (next_epochs ++ two_epochs) one_is_on_its_way.legal 1;
-      follows = λ law. law two_batches (drop 1 under_way) counted_once_more loop_is_filtered.legal;
-      goes_on = λ law. law numbers numbered_both sequence_is_filtered.well_formed numbered.legal 1 numbered.numbered;
-      next = λ law. law numbers (drop 5 numbered_both) sequence_is_filtered.well_formed numbered.legal.1.1.1.1.1 1 numbered.numbered
-          (value_at 0 1 0) (value_at 1 2 0 ∷ []) (ap sorted_messages numbered.before);
-    }
-
-pub injections_apply : InjectionsApply
-unfolding kind_of
-injections_apply =
+events_apply =
     let formed = totals_are_well_formed.well_formed in
     let reached = failure_is_reached.reached in
+    let numbered = numbers_are_delivered in
     record {
       four = refl;
       in_order = λ law. law totals formed steps_to_failure outcomes_to_failure output_failed reached 0;
       leaves_two = λ law. law totals formed steps_to_failure outcomes_to_failure output_failed reached two_epochs_kept 0 2 refl (lit≤ tt);
       outside = λ law. law totals formed steps_to_failure outcomes_to_failure output_failed reached (Delivered 0 (at_epoch 3 1)) some_is_settled.enabled;
+      as_sent = λ law. law totals (next_epochs ++ two_epochs) one_is_on_its_way.legal 1;
+      follows = λ law. law two_batches (drop 1 under_way) counted_once_more loop_is_filtered.legal;
+      goes_on = λ law. law numbers numbered_both sequence_is_filtered.well_formed numbered.legal 1 numbered.numbered;
+      next = λ law. law numbers (drop 5 numbered_both) sequence_is_filtered.well_formed numbered.legal.1.1.1.1.1 1 numbered.numbered
+          (value_at 0 1 0) (value_at 1 2 0 ∷ []) (ap sorted_messages numbered.before);
     }
 
 pub thinned_applies : ThinnedApplies

@@ -437,22 +437,6 @@ none_is_live (suc zero) l live = false≢true (sym live)
 none_is_live (suc (suc zero)) l live = false≢true (sym live)
 none_is_live (suc (suc (suc p))) l live = omega (arith, l)
 
--- at nodes that are failed no step is enabled
-no_delivery : (e : ℕ) → receiver total_flow e < 3 → IsIdle totals all_failed (step.Deliver e None)
-no_delivery e l next effect t = none_is_live (receiver total_flow e) l t.2
-
-no_notification : (p : ℕ) → p < 3 → IsIdle totals all_failed (step.Notify p None)
-no_notification p l next effect t = none_is_live p l t.2
-
-no_progress : IsIdle totals all_failed step.Progress
-no_progress next effect t = let some = t.2.some in none_is_live some.0 some.2 some.3
-
-no_acknowledgement : (p : ℕ) → p < 3 → IsIdle totals all_failed (step.Ack p)
-no_acknowledgement p l next effect t = none_is_live p l t.1.live
-
-no_injection : (p : ℕ) → p < 3 → IsIdle totals all_failed (step.Inject p)
-no_injection p l next effect t = none_is_live p l t.2
-
 -- three steps and others, where it is so of each of them
 idle_at_each : (f : ℕ → Step) (others : List Step) → ((p : ℕ) → p < 3 → IsIdle totals all_failed (f p)) → AreIdle totals all_failed others
     → AreIdle totals all_failed (f 0 ∷ f 1 ∷ f 2 ∷ others)
@@ -461,9 +445,11 @@ idle_at_each f others each rest = (each 0 (lit< tt), (each 1 (lit< tt), (each 2 
 none_enabled : AreIdle totals all_failed (auto_steps total_flow)
 unfolding receiver
 none_enabled =
-    let last = idle_at_each step.Ack (drop 10 (auto_steps total_flow)) no_acknowledgement (idle_at_each step.Inject [] no_injection tt) in
-    let noticed = idle_at_each (λ p. step.Notify p None) (drop 6 (auto_steps total_flow)) no_notification (no_progress, last) in
-    (nothing_to_write all_failed refl, (no_delivery 0 (lit< tt), (no_delivery 1 (lit< tt), noticed)))
+    let injections = idle_at_each step.Inject [] (λ p l next effect t. none_is_live p l t.2) tt in
+    let outputs = idle_at_each step.Ack (drop 10 (auto_steps total_flow)) (λ p l next effect t. none_is_live p l t.1.live) injections in
+    let progress : IsIdle totals all_failed step.Progress = λ next effect t. let some = t.2.some in none_is_live some.0 some.2 some.3 in
+    let notices = idle_at_each (λ p. step.Notify p None) (drop 6 (auto_steps total_flow)) (λ p l next effect t. none_is_live p l t.2) (progress, outputs) in
+    (nothing_to_write all_failed refl, ((λ next effect t. none_is_live 1 (lit< tt) t.2), ((λ next effect t. none_is_live 2 (lit< tt) t.2), notices)))
 
 pub no_step_is_taken : NoStepIsTaken
 no_step_is_taken = record {

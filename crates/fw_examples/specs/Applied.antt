@@ -359,7 +359,7 @@ pub record DenotationApplies : Type 0 where
   pub numbered : denotation.DenotationIsNumbered → AreNumberedFrom 0 (rounds numbers 4 1)
   pub three_numbers : length (rounds numbers 4 1) ≡ 3
 
--- ---- what the laws of writes, of replay, of pending messages, of injections and of `auto` say
+-- ---- what the laws of writes, of replay, of events, of thinned stamps and of `auto` say
 
 -- the laws of writes and of the fronts of checkpoints, of the state of the failure, of the select that logs each event, and of
 -- the running total that does
@@ -403,8 +403,16 @@ pub record ReplayApplies : Type 0 where
 abbrev pub counted_once_more : Event
 counted_once_more = Delivered 2 (message (round 0 2) (pair 1 2) (round 0 2))
 
--- the laws of pending messages, of the histories of the running total and of the loop, and of the numbers of the sequence
-pub record PendingApplies : Type 0 where
+-- the laws of injections, of what is settled and of pending messages, of the state of the failure and its history, of the
+-- history of the loop, and of the numbers of the sequence
+pub record EventsApply : Type 0 where
+  pub four : epochs_injected src (events output_failed.history) ≡ 3 ∷ 2 ∷ 1 ∷ 0 ∷ []
+  pub in_order : injections.InjectedEpochsAreInOrder
+      → AreEpochsInOrder (epochs_injected src (events output_failed.history))
+      × (length (epochs_injected src (events output_failed.history)) ≡ injected_count src (events output_failed.history))
+  pub leaves_two : injections.UntilLeavesThatMany
+      → injected_count src (events (filtered_history totals two_epochs_kept output_failed.history)) ≡ 2
+  pub outside : settled.NothingComesInsideSettled → LiesOutside totals output_failed (Delivered src_to_run (at_epoch 3 1))
   pub as_sent : pending.SentIsDeliveredAndPending
       → sorted_messages (sent_messages totals (next_epochs ++ two_epochs) run_to_out)
       ≡ sorted_messages (delivered_messages (next_epochs ++ two_epochs) run_to_out ++ pending_messages totals (next_epochs ++ two_epochs) run_to_out)
@@ -414,16 +422,6 @@ pub record PendingApplies : Type 0 where
       (messages_less (sorted_messages (pending_messages two_batches (drop 1 under_way) e)) (message_on e counted_once_more))
   pub goes_on : pending.PendingNumbersGoOn → GoesOn numbers numbered_both 1
   pub next : pending.FirstPendingIsNext → IsOnlyDeliverable numbers (drop 5 numbered_both) 1 (value_at 0 1 0)
-
--- the laws of injections and of what is settled, of the state of the failure
-pub record InjectionsApply : Type 0 where
-  pub four : epochs_injected src (events output_failed.history) ≡ 3 ∷ 2 ∷ 1 ∷ 0 ∷ []
-  pub in_order : injections.InjectedEpochsAreInOrder
-      → AreEpochsInOrder (epochs_injected src (events output_failed.history))
-      × (length (epochs_injected src (events output_failed.history)) ≡ injected_count src (events output_failed.history))
-  pub leaves_two : injections.UntilLeavesThatMany
-      → injected_count src (events (filtered_history totals two_epochs_kept output_failed.history)) ≡ 2
-  pub outside : settled.NothingComesInsideSettled → LiesOutside totals output_failed (Delivered src_to_run (at_epoch 3 1))
 
 -- the law of stamps that are thinned, of four epochs
 abbrev pub ThinnedApplies : Type 0

@@ -1,5 +1,5 @@
 //! What the laws say of what meets what they ask.
-ghost use Rattle.fw_examples.specs.Applied.{ChoicesApply, ChoosingApplies, DeliveriesApply, FilteringApplies, LegalHistoriesApply, RunsApply, StepsApply, CollectionRestored, LogsRestored, RestoringApplies, DenotationApplies, ProjectionsApply, SendingApplies, AutoApplies, InjectionsApply, PendingApplies, ReplayApplies, ThinnedApplies, WritesApply};
+ghost use Rattle.fw_examples.specs.Applied.{ChoicesApply, ChoosingApplies, DeliveriesApply, FilteringApplies, LegalHistoriesApply, RunsApply, StepsApply, CollectionRestored, LogsRestored, RestoringApplies, DenotationApplies, ProjectionsApply, SendingApplies, AutoApplies, EventsApply, ReplayApplies, ThinnedApplies, WritesApply};
 
 /// The laws of runs and of recoveries.
 #[tactic(auto, using(crate::proofs::Applied::runs_apply))]
@@ -91,16 +91,10 @@ pub fn replay_applies()
     ensures { ReplayApplies }
 {}
 
-/// The laws of pending messages.
-#[tactic(auto, using(crate::proofs::Applied::pending_applies))]
-pub fn pending_applies()
-    ensures { PendingApplies }
-{}
-
-/// The laws of injections and of what is settled.
-#[tactic(auto, using(crate::proofs::Applied::injections_apply))]
-pub fn injections_apply()
-    ensures { InjectionsApply }
+/// The laws of injections, of what is settled and of pending messages.
+#[tactic(auto, using(crate::proofs::Applied::events_apply))]
+pub fn events_apply()
+    ensures { EventsApply }
 {}
 
 /// The law of stamps that are thinned.

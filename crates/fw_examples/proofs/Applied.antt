@@ -1,22 +1,23 @@
 -- The laws applied to their witnesses, which meet what they ask.
-use Rattle.std.proofs.Common.{[], lit<, refl, ◌++◌, ◌∷◌, arith, drop, inl, inr, lit≤, suc, sym, true, zero, ℕ, ◌≡◌, ◌⊎◌}
-use Rattle.fw_flow.specs.Dataflow.{batches_of, bounds_of, declared_parent, in_edges, kind_of, loops_of, max_of, parent_of, policy_of, receiver, sender}
+use Rattle.std.proofs.Common.{None, [], ap, lit<, refl, ◌++◌, ◌∙◌, ◌∷◌, arith, drop, inl, inr, lit≤, suc, sym, true, zero, ℕ, ◌≡◌, ◌⊎◌}
+use Rattle.fw_flow.specs.Dataflow.{batches_of, bounds_of, declared_parent, in_edges, kind_of, loops_of, max_of, node_frontier, parent_of, policy_of, receiver, sender}
 use Rattle.fw_flow.specs.declared.choice.Cut.TheVariants.{At}
 use Rattle.fw_flow.specs.declared.event.Event.TheVariants.{Deliver as Delivered, Inject as Injected, Deliver, Inject, Notify}
 use Rattle.fw_flow.specs.declared.step.Step.TheVariants.{Collect, Recover}
 use Rattle.fw_model.specs.Choice.{ever, kept, until}
 use Rattle.fw_model.specs.Machine.{events, first_state, is_failed, checkpoint, collected}
-use Rattle.fw_model.specs.Steps.{cuts, did, lows}
+use Rattle.fw_model.specs.Steps.{cuts, did, lows, silent}
 use Rattle.fw_examples.specs.Flows.{loop_counts_up, pair, two_batches, regroup_by_three, out, numbered_both, numbers, numbered_epoch, value_at}
-use Rattle.fw_examples.specs.Applied.{ChoicesApply, ChoosingApplies, DeliveriesApply, FilteringApplies, LegalHistoriesApply, RunsApply, StepsApply, CollectionRestored, LogsRestored, RestoringApplies, DenotationApplies, ProjectionsApply, SendingApplies, begun, both_epochs, counted, one_or_other}
+use Rattle.fw_examples.specs.Applied.{ChoicesApply, ChoosingApplies, DeliveriesApply, FilteringApplies, LegalHistoriesApply, RunsApply, StepsApply, CollectionRestored, LogsRestored, RestoringApplies, DenotationApplies, ProjectionsApply, SendingApplies, AutoApplies, EventsApply, ReplayApplies, ThinnedApplies, WritesApply, begun, both_epochs, counted, counted_once_more, one_or_other, still_needed}
 use Rattle.fw_examples.specs.Loop.{counted_rounds, counting_failed, restored, under_way, message, round, fed_back_edge}
 use Rattle.fw_examples.specs.RunningTotal.{at_epoch, come_back, epoch_kept, next_epochs, outcomes_through_recovery, outcomes_to_failure, outcomes_up_to_two, outcomes_without_failure, output_failed, steps_through_recovery, steps_to_failure, steps_up_to_two, steps_without_failure, totals, totals_denoted, two_epochs, two_epochs_kept, two_kept_noting, alike, total_flow}
-use Rattle.fw_examples.specs.Witnesses.{both_rounds, complete_then, complete_two, first_rounds, joined_rounds, kept_epoch, kept_rounds, kept_totals, noted_totals, two_rounds}
+use Rattle.fw_examples.specs.Witnesses.{both_rounds, complete_then, complete_two, first_rounds, joined_rounds, kept_epoch, kept_rounds, kept_totals, noted_totals, two_rounds, all_failed, all_written, four_epochs, last_taken, steps_by_themselves}
 use Rattle.fw_examples.proofs.TotalRuns.{collects, run_through_recovery, runs_to_two, sum_acknowledged, ten_acknowledged, two_collected, two_epochs_are_low}
-use Rattle.fw_examples.proofs.Witnesses.{an_epoch_is_closed, choices_unite, cuts_unite, each_step_has_its_choice, failure_is_reached, join_is_a_frontier, loop_is_filtered, more_is_complete, notified_and_goes_on, numbers_are_delivered, one_is_on_its_way, recovery_is_reached, sequence_is_filtered, some_is_settled, something_is_chosen, totals_are_filtered, totals_are_well_formed, two_epochs_are_complete, two_runs_meet}
+use Rattle.fw_examples.proofs.Witnesses.{an_epoch_is_closed, choices_unite, cuts_unite, each_step_has_its_choice, failure_is_reached, join_is_a_frontier, loop_is_filtered, more_is_complete, notified_and_goes_on, numbers_are_delivered, one_is_on_its_way, recovery_is_reached, sequence_is_filtered, some_is_settled, something_is_chosen, totals_are_filtered, totals_are_well_formed, two_epochs_are_complete, two_runs_meet, epochs_are_thinned, no_step_is_taken, two_epochs_are_the_same, two_steps_are_taken}
 use Rattle.fw_flow.specs.NodeFunction.{sends}
+use Rattle.fw_flow.specs.Projection.{events_at}
 use Rattle.fw_flow.specs.WellFormed.{IsWellFormedSystem}
-use Rattle.fw_examples.specs.Logs.{both_come_back, checkpoints_logged, event_collected, events_logged, log_kept, none_collected, outcomes_with_checkpoints, outcomes_with_events, outcomes_with_total, steps_with_checkpoints, steps_with_events, steps_with_total, total_logged}
+use Rattle.fw_examples.specs.Logs.{both_come_back, checkpoints_logged, event_collected, events_logged, log_kept, none_collected, one_came_through, outcomes_with_checkpoints, outcomes_with_events, outcomes_with_total, steps_with_checkpoints, steps_with_events, steps_with_total, total_logged}
 use Rattle.fw_examples.proofs.Logs.{checkpoints_formed, collects_a_logged_event, events_formed, keeps_a_log_with_a_checkpoint, keeps_events_of_a_total, total_formed}
 use Rattle.fw_examples.proofs.Loop.{loop_is_reached, loop_outcomes, loop_steps, restored_is_largest, runs_to_failure}
 use Rattle.fw_examples.proofs.WellFormed.{system_by, is_well_formed}
@@ -27,7 +28,9 @@ use Rattle.fw_frontier.proofs.NamesLaws.{frontier-closed}
 use Rattle.fw_model.specs.Denotation.{AreInOrder, IsDenotation, rounds}
 use Rattle.fw_model.specs.History.{AreEventsInDomain}
 use Rattle.fw_model.specs.Order.{IsNotifiedInOrder}
+use Rattle.fw_model.specs.SortedMessages.{sorted_messages}
 use Rattle.fw_model.specs.Unions.{IsUnion}
+use Rattle.fw_flow.specs.declared.step.Step.TheVariants as step
 use Rattle.fw_examples.specs.RunningTotal as total
 
 pub runs_apply : RunsApply
@@ -319,4 +322,73 @@ denotation_applies =
       in_the_domain = λ law. law totals totals_denoted flow system.epochs system.denoted;
       numbered = λ law. law numbers (rounds numbers 4) sequence_is_filtered.well_formed numbers_solve 1 refl;
       three_numbers = refl;
+    }
+
+-- ---- the laws of writes, of replay, of events, of thinned stamps and of `auto`, applied to what meets what they ask
+
+pub writes_apply : WritesApply
+unfolding policy_of
+writes_apply =
+    let formed = totals_are_well_formed.well_formed in
+    let reached = failure_is_reached.reached in
+    record {
+      differ = λ law. law totals formed steps_to_failure outcomes_to_failure output_failed reached [] (drop 1 output_failed.writes) (record { node = 1; written = checkpoint (until 1) (alike 0); stage = collected }) refl (until 1) (alike 0) refl;
+      have_stamps = λ law. law totals formed steps_to_failure outcomes_to_failure output_failed reached;
+      newest = λ law. law totals formed steps_to_failure outcomes_to_failure output_failed reached 1 (until 0);
+      in_order = λ law. law events_logged events_system steps_with_events outcomes_with_events event_collected collects_a_logged_event.reached;
+      each_logged = λ law. law total_logged total_system steps_with_total outcomes_with_total none_collected keeps_events_of_a_total.reached 1 refl refl;
+    }
+
+pub replay_applies : ReplayApplies
+unfolding kind_of policy_of sender receiver bounds_of
+replay_applies =
+    let system = totals_are_well_formed in
+    let reached = collects_a_logged_event.reached in
+    let largest = collects_a_logged_event.largest in
+    record {
+      one_again = refl;
+      those_left = λ law. law events_logged events_system steps_with_events outcomes_with_events event_collected reached (is_failed event_collected) both_come_back largest 1 [] refl refl;
+      send_the_same = λ law. law events_logged events_system steps_with_events outcomes_with_events event_collected reached (is_failed event_collected) both_come_back largest 1 [] refl refl 1 (lit< tt) refl;
+      their_part = λ law. law events_logged 1 refl still_needed (events_at events_logged.flow 1 one_came_through);
+      same_part = λ law. law totals (next_epochs ++ two_epochs) two_epochs system.well_formed.flow system.epochs totals_are_filtered.legal two_epochs_are_complete.legal 1 (node_frontier total_flow 1 (until 2))
+          (frontier-closed _ (until 2)) two_epochs_are_the_same;
+    }
+
+pub events_apply : EventsApply
+unfolding kind_of sender receiver
+events_apply =
+    let formed = totals_are_well_formed.well_formed in
+    let reached = failure_is_reached.reached in
+    let numbered = numbers_are_delivered in
+    record {
+      four = refl;
+      in_order = λ law. law totals formed steps_to_failure outcomes_to_failure output_failed reached 0;
+      leaves_two = λ law. law totals formed steps_to_failure outcomes_to_failure output_failed reached two_epochs_kept 0 2 refl (lit≤ tt);
+      outside = λ law. law totals formed steps_to_failure outcomes_to_failure output_failed reached (Delivered 0 (at_epoch 3 1)) some_is_settled.enabled;
+      as_sent = λ law. law totals (next_epochs ++ two_epochs) one_is_on_its_way.legal 1;
+      follows = λ law. law two_batches (drop 1 under_way) counted_once_more loop_is_filtered.legal;
+      goes_on = λ law. law numbers numbered_both sequence_is_filtered.well_formed numbered.legal 1 numbered.numbered;
+      next = λ law. law numbers (drop 5 numbered_both) sequence_is_filtered.well_formed numbered.legal.1.1.1.1.1 1 numbered.numbered
+          (value_at 0 1 0) (value_at 1 2 0 ∷ []) (ap sorted_messages numbered.before);
+    }
+
+pub thinned_applies : ThinnedApplies
+thinned_applies law = law (bounds_of total_flow 1) (node_frontier total_flow 1 (until 2)) four_epochs (drop 1 four_epochs) epochs_are_thinned.thinned (node_frontier total_flow 1 (until 3)) epochs_are_thinned.within
+
+pub auto_applies : AutoApplies
+auto_applies =
+    let taken = two_steps_are_taken in
+    record {
+      one = λ law others other is.
+          let only = (law totals totals_are_well_formed.well_formed steps_to_failure outcomes_to_failure output_failed failure_is_reached.reached 2).3 in
+          let mine = only steps_by_themselves last_taken taken.both in
+          let its = only others other is in
+          (its.0 ∙ sym mine.0, its.1 ∙ sym mine.1);
+      none = λ law others other is.
+          let only = (law totals totals_are_well_formed.well_formed (step.Fail (0 ∷ 1 ∷ 2 ∷ []) ∷ []) (did silent ∷ []) all_failed no_step_is_taken.reached 1).3 in
+          let mine = only [] all_failed no_step_is_taken.none in
+          let its = only others other is in
+          (its.0 ∙ sym mine.0, its.1 ∙ sym mine.1);
+      runs = λ law. law totals output_failed last_taken 2 steps_by_themselves taken.both;
+      goes_on = λ law. law totals output_failed all_written last_taken (step.Persist ∷ []) (step.Deliver 0 None ∷ []) 1 taken.one taken.other;
     }

@@ -139,7 +139,7 @@ is_taken sys state (acknowledge o x) =
     && (x == ack_count_of state o
     && (frontier_of (bounds_of sys.flow o) (front_of state.settled o) (x ∷ []) && list_any (λ xs. nat_lt x (length xs)) sys.batches))))
 
-takes : (sys : System) (state : Machine) (move : Move) → is_taken sys state move ≡ true → LeadsTo sys state (step_of move) (after_one sys state move) (shown_by sys state move)
+pub takes : (sys : System) (state : Machine) (move : Move) → is_taken sys state move ≡ true → LeadsTo sys state (step_of move) (after_one sys state move) (shown_by sys state move)
 takes sys state (inject s x) h =
     let a = and_parts _ _ h in
     let b = and_parts _ _ a.1 in

@@ -1,13 +1,14 @@
 -- Witnesses for the laws: of a sequence whose numbers are regrouped, of the running total and of the loop.
-use Rattle.std.proofs.Common.{Bool, List, None, Some, [], ap, arith, drop, inl, inr, lit<, lit≤, refl, replicate, suc, true, zero, ℕ, ⊎_elim, ◌++◌, ◌∷◌, ◌≡◌}
+use Rattle.std.specs.List.{list_any}
+use Rattle.std.proofs.Common.{Bool, List, None, Some, [], ap, arith, drop, false, inl, inr, lit<, lit≤, refl, replicate, suc, sym, true, zero, ℕ, ⊎_elim, ◌++◌, ◌<◌, ◌∙◌, ◌∷◌, ◌≡◌}
 use Rattle.std.proofs.lemmas.Bool.{and_from, and_parts, false≢true, or_cases, or_left, or_right}
 use Rattle.std.proofs.lemmas.Bool.Decides.{nat_tests}
-use Rattle.fw_time.specs.Stamp.{Stamp}
+use Rattle.fw_time.specs.Stamp.{Stamp, leq}
 use Rattle.fw_time.proofs.EachLaws.{each-one}
 use Rattle.fw_frontier.specs.Front.{frontier_of}
 use Rattle.fw_frontier.specs.Frontier.{IsFrontier, join}
 use Rattle.fw_frontier.proofs.NamesLaws.{frontier-closed}
-use Rattle.fw_flow.specs.Dataflow.{HasEpochs, batches_of, bounds_of, declared_parent, in_edges, kind_of, loops_of, max_of, out_edges, parent_of, policy_of, receiver, sender}
+use Rattle.fw_flow.specs.Dataflow.{HasEpochs, batches_of, bounds_of, declared_parent, in_edges, kind_of, loops_of, max_of, node_frontier, out_edges, parent_of, policy_of, receiver, sender}
 use Rattle.fw_flow.specs.NodeFunction.{sends}
 use Rattle.fw_flow.specs.Projection.{phi, psi}
 use Rattle.fw_flow.specs.WellFormed.{IsWellFormed, IsWellFormedSystem}
@@ -15,25 +16,27 @@ use Rattle.fw_flow.specs.declared.choice.Choice.{Choice}
 use Rattle.fw_flow.specs.declared.event.Event.TheVariants.{Notify as Notified}
 use Rattle.fw_flow.specs.declared.step.Step.{Step}
 use Rattle.fw_flow.specs.declared.step.Step.TheVariants.{Recover}
+use Rattle.fw_model.specs.Auto.{AreIdle, IsFirstEnabled, IsIdle, auto_steps}
 use Rattle.fw_model.specs.Choice.{ever, kept, until}
 use Rattle.fw_model.specs.Choosing.{CanChoose}
 use Rattle.fw_model.specs.Denotation.{IsDenotation}
-use Rattle.fw_model.specs.Filtering.{ComeFromKept, MeetsInclusions}
-use Rattle.fw_model.specs.History.{IsLegal, delivered_messages}
-use Rattle.fw_model.specs.Machine.{Machine, first_state, front_of, is_failed}
-use Rattle.fw_model.specs.Steps.{Outcome, Run, cuts, did, silent, with_event}
+use Rattle.fw_model.specs.Filtering.{ComeFromKept, MeetsInclusions, messages_from}
+use Rattle.fw_model.specs.History.{IsLegal, delivered_messages, sent_messages}
+use Rattle.fw_model.specs.Machine.{Machine, Write, first_state, front_of, is_failed}
+use Rattle.fw_model.specs.Steps.{Outcome, Run, cuts, did, is_in_flight, silent, with_event}
+use Rattle.fw_model.specs.Thinned.{IsBelowKept}
 use Rattle.fw_model.proofs.ChoosingLaws.{checkpoints-chains}
 use Rattle.fw_model.proofs.DomainLaws.{has_epochs}
 use Rattle.fw_model.proofs.FilteredLaws.{choice-consistent, consistent-meets, set-frontier}
 use Rattle.fw_model.proofs.RecoveryLaws.{denoted-full, runs-legal, settled-stays_denoted}
 use Rattle.fw_examples.specs.Flows.{loop_counts_up, numbered_both, numbers, regroup_by_three, two_batches, value_at}
 use Rattle.fw_examples.specs.Loop.{counted_rounds, counting_failed, restored}
-use Rattle.fw_examples.specs.RunningTotal.{alike, come_back, next_epochs, outcomes_to_failure, output_failed, steps_to_failure, totals, totals_denoted, two_epochs, two_epochs_kept}
-use Rattle.fw_examples.specs.Witnesses.{AnEpochIsClosed, ChoicesUnite, CutsUnite, EachStepHasItsChoice, FailureIsReached, JoinIsAFrontier, LessIsConsistent, LoopIsFiltered, LowWatermarkRises, MoreIsComplete, NotifiedAndGoesOn, NumbersAreDelivered, OneIsOnItsWay, RecoveryIsReached, SequenceIsFiltered, SomeIsSettled, SomethingIsChosen, TotalsAreFiltered, TotalsAreWellFormed, TwoEpochsAreComplete, TwoRunsMeet, both_rounds, first_rounds, kept_epoch}
+use Rattle.fw_examples.specs.RunningTotal.{alike, at_epoch, come_back, next_epochs, outcomes_to_failure, output_failed, steps_to_failure, total_flow, totals, totals_denoted, two_epochs, two_epochs_kept}
+use Rattle.fw_examples.specs.Witnesses.{AnEpochIsClosed, ChoicesUnite, CutsUnite, EachStepHasItsChoice, EpochsAreThinned, FailureIsReached, JoinIsAFrontier, LessIsConsistent, LoopIsFiltered, LowWatermarkRises, MoreIsComplete, NotifiedAndGoesOn, NoStepIsTaken, NumbersAreDelivered, OneIsOnItsWay, RecoveryIsReached, SequenceIsFiltered, SomeIsSettled, SomethingIsChosen, TotalsAreFiltered, TotalsAreWellFormed, TwoEpochsAreComplete, TwoEpochsAreTheSame, TwoRunsMeet, TwoStepsAreTaken, all_failed, all_written, both_rounds, first_rounds, four_epochs, kept_epoch, last_taken}
 use Rattle.fw_examples.proofs.Choosing.{lies}
 use Rattle.fw_examples.proofs.Fronts.{by_four, by_three, canonical_by, within_two}
 use Rattle.fw_examples.proofs.Loop.{loop_is_reached, loop_is_restored, restored_is_largest, under_way_is_complete, under_way_is_legal, under_way_leaves}
-use Rattle.fw_examples.proofs.Plays.{Move, after_all, deliver, inject, plays, steps_of}
+use Rattle.fw_examples.proofs.Plays.{Move, after_all, deliver, fail, inject, persist, plays, steps_of, takes}
 use Rattle.fw_examples.proofs.Settling.{admissible_by, closed_by, complete_by, notifies}
 use Rattle.fw_examples.proofs.TotalRuns.{after_failure, collects, epoch_consistent, failed_run, kept_consistent, kept_largest, noting_less, noting_none, recovers, run_through_recovery, run_without_failure, runs_to_two, sum_acknowledged, ten_acknowledged, totals_formed, two_collected, two_offered, union_of_both}
 use Rattle.fw_examples.proofs.WellFormed.{is_well_formed, rising_is_well_formed, system_by}
@@ -153,12 +156,13 @@ two_runs_meet = record {
 }
 
 pub some_is_settled : SomeIsSettled
-unfolding receiver
+unfolding kind_of receiver sender sends batches_of bounds_of
 some_is_settled = record {
   denoted = settled-stays_denoted totals totals_denoted totals_system rounds_solve steps_to_failure outcomes_to_failure output_failed failed_run;
   settled = refl;
   delivered = refl;
   candidate = two_offered (is_failed output_failed) 1 (lit< tt);
+  enabled = record { is_pending = refl; numbered = λ n. absurd (false≢true n) };
 }
 
 pub something_is_chosen : SomethingIsChosen
@@ -346,5 +350,109 @@ sequence_is_filtered = record {
 }
 
 pub numbers_are_delivered : NumbersAreDelivered
-unfolding kind_of receiver
-numbers_are_delivered = record { legal = numbers_are_legal; sequence = refl; numbered = refl; two = refl }
+unfolding kind_of receiver sender sends batches_of bounds_of
+numbers_are_delivered = record {
+  legal = numbers_are_legal;
+  sequence = refl;
+  numbered = refl;
+  two = refl;
+  third = refl;
+  before = refl;
+}
+
+-- ---- witnesses for the laws of replay and of thinned stamps
+
+same_is_sent : (e : ℕ) → sender total_flow e ≡ 1
+    → messages_from (node_frontier total_flow 1 (until 2)) (sent_messages totals two_epochs e)
+    ≡ messages_from (node_frontier total_flow 1 (until 2)) (sent_messages totals (next_epochs ++ two_epochs) e)
+unfolding kind_of receiver sender sends batches_of bounds_of in_edges
+same_is_sent zero s = absurd (omega (arith, s))
+same_is_sent (suc zero) s = refl
+same_is_sent (suc (suc e)) s = absurd (omega (arith, s))
+
+pub two_epochs_are_the_same : TwoEpochsAreTheSame
+unfolding kind_of receiver sender bounds_of
+two_epochs_are_the_same = record { events = refl; sent = same_is_sent }
+
+-- epoch 1 is kept, and lies inside
+below_one : {t : Stamp} → leq t (1 ∷ []) ≡ true → IsBelowKept (node_frontier total_flow 1 (until 2)) (drop 1 four_epochs) t
+unfolding bounds_of kind_of
+below_one l = record { above = 1 ∷ []; is_kept = (0, lit< tt, refl); inside = refl; below = l }
+
+pub epochs_are_thinned : EpochsAreThinned
+unfolding bounds_of kind_of
+epochs_are_thinned = record {
+  thinned = record {
+    among = ((1, lit< tt, refl), ((2, lit< tt, refl), ((3, lit< tt, refl), tt)));
+    outside = ((λ k. absurd (false≢true (sym k))), ((λ k. (0, lit< tt, refl)), ((λ k. (1, lit< tt, refl)), ((λ k. (2, lit< tt, refl)), tt))));
+    inside = ((λ k. below_one refl), ((λ k. below_one refl), ((λ k. absurd (false≢true k)), ((λ k. absurd (false≢true k)), tt))));
+  };
+  within = lies _ (until 2) (until 3) refl;
+}
+
+-- ---- witnesses for the laws of `auto`
+
+abbrev any_in_flight : List Write → Bool
+any_in_flight writes = list_any (λ (write : Write). is_in_flight write.stage) writes
+
+one_in_flight : (earlier : List Write) (oldest : Write) (later : List Write) → is_in_flight oldest.stage ≡ true → any_in_flight (earlier ++ oldest ∷ later) ≡ true
+one_in_flight [] o l k = or_left (is_in_flight o.stage) (any_in_flight l) k
+one_in_flight (w ∷ ws) o l k = or_right (is_in_flight w.stage) (any_in_flight (ws ++ o ∷ l)) (one_in_flight ws o l k)
+
+-- where no write is in flight, none is acknowledged
+nothing_to_write : (state : Machine) → any_in_flight state.writes ≡ false → IsIdle totals state step.Persist
+nothing_to_write state none next effect t =
+    let a = t.1 in
+    false≢true (sym none ∙ (ap any_in_flight a.before ∙ one_in_flight a.earlier a.oldest a.later a.in_flight))
+
+writes_first : IsFirstEnabled totals output_failed (auto_steps total_flow) step.Persist all_written silent
+writes_first = record {
+  earlier = [];
+  later = drop 1 (auto_steps total_flow);
+  among = refl;
+  none_earlier = tt;
+  leads = takes totals output_failed persist refl;
+}
+
+delivers_then : IsFirstEnabled totals all_written (auto_steps total_flow) (step.Deliver 0 None) last_taken silent
+unfolding kind_of receiver sender sends batches_of bounds_of policy_of
+delivers_then = record {
+  earlier = step.Persist ∷ [];
+  later = drop 2 (auto_steps total_flow);
+  among = refl;
+  none_earlier = (nothing_to_write all_written refl, tt);
+  leads = takes totals all_written (deliver 0 None (at_epoch 3 1)) refl;
+}
+
+pub two_steps_are_taken : TwoStepsAreTaken
+two_steps_are_taken = record {
+  one = (all_written, silent, writes_first, refl);
+  other = (last_taken, silent, delivers_then, refl);
+  both = (all_written, silent, writes_first, (last_taken, silent, delivers_then, refl));
+}
+
+none_is_live : (p : ℕ) → p < 3 → is_failed all_failed p ≡ false → ⊥
+none_is_live zero l live = false≢true (sym live)
+none_is_live (suc zero) l live = false≢true (sym live)
+none_is_live (suc (suc zero)) l live = false≢true (sym live)
+none_is_live (suc (suc (suc p))) l live = omega (arith, l)
+
+-- three steps and others, where it is so of each of them
+idle_at_each : (f : ℕ → Step) (others : List Step) → ((p : ℕ) → p < 3 → IsIdle totals all_failed (f p)) → AreIdle totals all_failed others
+    → AreIdle totals all_failed (f 0 ∷ f 1 ∷ f 2 ∷ others)
+idle_at_each f others each rest = (each 0 (lit< tt), (each 1 (lit< tt), (each 2 (lit< tt), rest)))
+
+none_enabled : AreIdle totals all_failed (auto_steps total_flow)
+unfolding receiver
+none_enabled =
+    let injections = idle_at_each step.Inject [] (λ p l next effect t. none_is_live p l t.2) tt in
+    let outputs = idle_at_each step.Ack (drop 10 (auto_steps total_flow)) (λ p l next effect t. none_is_live p l t.1.live) injections in
+    let progress : IsIdle totals all_failed step.Progress = λ next effect t. let some = t.2.some in none_is_live some.0 some.2 some.3 in
+    let notices = idle_at_each (λ p. step.Notify p None) (drop 6 (auto_steps total_flow)) (λ p l next effect t. none_is_live p l t.2) (progress, outputs) in
+    (nothing_to_write all_failed refl, ((λ next effect t. none_is_live 1 (lit< tt) t.2), ((λ next effect t. none_is_live 2 (lit< tt) t.2), notices)))
+
+pub no_step_is_taken : NoStepIsTaken
+no_step_is_taken = record {
+  reached = plays totals (fail 0 (1 ∷ 2 ∷ []) ∷ []) (first_state totals) [] [] all_failed refl refl;
+  none = (none_enabled, refl);
+}

@@ -1,44 +1,56 @@
 -- What the laws say of their witnesses: each field is a law, asked of the state, history, choice or frontier that meets what it asks.
 use Rattle.std.specs.List.{AllByRecursion}
-use Rattle.std.specs.Prelude.{Bool, List, [], false, true, ℕ, ◌&&◌, ◌++◌, ◌==◌, ◌∷◌, ◌≡◌, ◌≤◌, drop, length, map, ◌↔◌, Some, zero, suc, ◌<◌, ◌⊎◌}
+use Rattle.std.specs.Prelude.{Bool, List, [], false, true, ℕ, ◌&&◌, ◌++◌, ◌==◌, ◌∷◌, ◌≡◌, ◌≢◌, ◌≤◌, drop, filter, length, map, ◌↔◌, Some, zero, suc, ◌<◌, ◌⊎◌}
 use Rattle.fw_bag.specs.Bag.{how_often}
 use Rattle.fw_bag.specs.Keyed.{sorted_recs}
 use Rattle.fw_bag.specs.declared.rec.Rec.{Rec}
 use Rattle.fw_time.specs.Stamp.{in_domain, leq, Stamp, same}
 use Rattle.fw_frontier.specs.Front.{Front, IsFrontOf}
-use Rattle.fw_frontier.specs.Frontier.{Frontier, Within, join, IsFrontier, everything, meet, nothing}
+use Rattle.fw_frontier.specs.Frontier.{Frontier, Within, cover, join, IsFrontier, everything, meet, nothing}
 use Rattle.fw_flow.specs.Dataflow.{bounds_of, bounds_of_edge, receiver, sender, kind_of, send_stamp, node_frontier}
-use Rattle.fw_flow.specs.NodeFunction.{event_node, event_stamp, sends}
-use Rattle.fw_flow.specs.Projection.{phi, IsSenderFrontier, all_inside, phi_by_count, psi, psi_back}
+use Rattle.fw_flow.specs.Message.{messages_less}
+use Rattle.fw_flow.specs.NodeFunction.{event_node, event_stamp, sends, sent_by}
+use Rattle.fw_flow.specs.Projection.{events_at, phi, IsSenderFrontier, all_inside, phi_by_count, psi, psi_back}
 use Rattle.fw_flow.specs.declared.choice.Choice.{Choice}
 use Rattle.fw_flow.specs.declared.choice.Cut.TheVariants.{At}
+use Rattle.fw_flow.specs.declared.event.Event.{Event}
 use Rattle.fw_flow.specs.declared.event.Event.TheVariants.{Deliver as Delivered, Inject as Injected, Deliver}
 use Rattle.fw_flow.specs.declared.event.Message.{Message}
 use Rattle.fw_flow.specs.declared.step.Step.{Step}
 use Rattle.fw_flow.specs.declared.step.Step.TheVariants.{Collect, Recover}
 use Rattle.fw_model.specs.Acknowledgements.{IsDenoted, Shows, first_stamps, stamps_acknowledged}
+use Rattle.fw_model.specs.Auto.{IsAutoRun}
 use Rattle.fw_model.specs.Choice.{IsCandidate, IsChoiceWithin, IsConsistent, IsCutWithin, IsLargest, View, cut_of, ever, filtered_history, kept, kept_of, until}
 use Rattle.fw_model.specs.Choosing.{AreCheckpointsChains, CanChoose, low_choice}
 use Rattle.fw_model.specs.Covers.{covers_in}
 use Rattle.fw_model.specs.Denotation.{bag_at, AreInOrder, AreNumberedFrom, Family, IsDenotation, rounds}
-use Rattle.fw_model.specs.Filtering.{HaveKeptCauses, MeetsInclusions, kept_events, messages_from, messages_inside, messages_outside}
-use Rattle.fw_model.specs.History.{AreEventsInDomain, IsAdmissible, IsClosedFor, IsComplete, IsLegal, delivered_messages, injected_count, pending_messages, recs_at, sent_messages}
-use Rattle.fw_model.specs.Machine.{Machine, events, first_state, is_failed, SerialEvent, Write, acknowledged, collected, front_of}
+use Rattle.fw_model.specs.Filtering.{HaveKeptCauses, MeetsInclusions, events_inside, kept_events, messages_from, messages_inside, messages_outside}
+use Rattle.fw_model.specs.History.{AreEventsInDomain, IsAdmissible, IsClosedFor, IsComplete, IsLegal, delivered_messages, injected_count, message_on, pending_messages, recs_at, sent_messages}
+use Rattle.fw_model.specs.LawsOfInjections.{AreEpochsInOrder, epochs_injected}
+use Rattle.fw_model.specs.LawsOfPending.{GoesOn, IsOnlyDeliverable, sent_on}
+use Rattle.fw_model.specs.LawsOfReplay.{not_given_up, replayed_events}
+use Rattle.fw_model.specs.LawsOfSettled.{LiesOutside}
+use Rattle.fw_model.specs.LawsOfWrites.{AreLoggedInOrder, IsLoggedFor}
+use Rattle.fw_model.specs.Machine.{Machine, events, first_state, is_failed, SerialEvent, Write, acknowledged, checkpoint, collected, front_of, no_stamps}
 use Rattle.fw_model.specs.Order.{AreNumberedInOrder, IsNotifiedInOrder}
 use Rattle.fw_model.specs.Sending.{ComesFromInside, FollowsHistory, IsSentFrom, SendsAbove, SendsByStamp, SendsWithin}
 use Rattle.fw_model.specs.Settled.{IsDenotedInside, IsFull}
-use Rattle.fw_model.specs.Steps.{GrowsTo, IsTheNext, Outcome, Run, StepsTo, cuts, did, front_of_cut, is_in_flight, lies_below}
+use Rattle.fw_model.specs.SortedMessages.{sorted_messages, with_messages}
+use Rattle.fw_model.specs.Steps.{Effect, GrowsTo, IsTheNext, Outcome, Run, StepsTo, cuts, did, front_of_cut, is_in_flight, lies_below, newest_checkpoint}
+use Rattle.fw_model.specs.Thinned.{ThinnedStampsCoverTheSame}
 use Rattle.fw_model.specs.Unions.{IsUnionOfChoices, IsUnion}
-use Rattle.fw_examples.specs.Flows.{loop_counts_up, pair, regroup_by_three, two_batches, out, src, big, big_to_out, numbered_both, numbers, numbered_epoch}
+use Rattle.fw_examples.specs.Flows.{loop_counts_up, pair, regroup_by_three, two_batches, out, src, big, big_to_out, numbered_both, numbers, numbered_epoch, src_to_big, value_at}
 use Rattle.fw_examples.specs.Loop.{counted_rounds, counting_failed, restored, under_way, message, round, fed_back_edge}
 use Rattle.fw_examples.specs.RunningTotal.{at_epoch, come_back, epoch_kept, next_epochs, outcomes_through_recovery, outcomes_to_failure, outcomes_without_failure, output_failed, run, run_to_out, src_to_run, steps_to_failure, total_flow, totals, totals_denoted, two_epochs, two_epochs_kept, two_kept_noting}
-use Rattle.fw_examples.specs.Witnesses.{both_rounds, complete_then, complete_two, first_rounds, inc, joined_rounds, kept_epoch, kept_rounds, two_rounds}
-use Rattle.fw_model.specs.Resending.{HoldsWhatIsSentAgain, LogHoldsWhatIsSentAgain, messages_to_resend}
-use Rattle.fw_model.specs.Writes.{Ascends, CountsWritten, HasOne, IsCheckpointOf, IsKeptWithin, IsLoggedOnce, IsWrittenAsAsked, MayKeepNothingIfCollected, NothingComesInside}
-use Rattle.fw_examples.specs.Logs.{both_come_back, checkpoints_logged, event_collected, events_logged, log_kept, none_collected, total_logged}
+use Rattle.fw_examples.specs.Witnesses.{both_rounds, complete_then, complete_two, first_rounds, inc, joined_rounds, kept_epoch, kept_rounds, two_rounds, all_failed, four_epochs, last_taken, steps_by_themselves}
+use Rattle.fw_model.specs.Resending.{HoldsWhatIsSentAgain, LogHoldsWhatIsSentAgain, at_receiver, messages_to_resend}
+use Rattle.fw_model.specs.Writes.{Ascends, CountsWritten, HasOne, IsCheckpointOf, IsKeptWithin, IsLoggedOnce, IsWrittenAsAsked, MayKeepNothingIfCollected, NothingComesInside, not_collected}
+use Rattle.fw_examples.specs.Logs.{both_come_back, checkpoints_logged, event_collected, events_logged, log_kept, none_collected, one_came_through, second_message, total_logged}
 use Rattle.fw_flow.specs.WholeBags.{Timed, in_order, outputs_of, recs_where}
 use Rattle.fw_flow.specs.declared.kind.Kind.TheVariants.{Sequence}
 use Rattle.fw_model.specs.Measure.{Measure, enough_rounds}
+use Rattle.fw_model.specs.LawsOfAuto as auto
+use Rattle.fw_model.specs.LawsOfCheckpointFronts as fronts
 use Rattle.fw_model.specs.LawsOfChoices as choices
 use Rattle.fw_model.specs.LawsOfChoosing as choosing
 use Rattle.fw_model.specs.LawsOfCompleteFrontiers as complete
@@ -46,13 +58,18 @@ use Rattle.fw_model.specs.LawsOfDeliveries as deliveries
 use Rattle.fw_model.specs.LawsOfDenotation as denotation
 use Rattle.fw_model.specs.LawsOfExistence as existence
 use Rattle.fw_model.specs.LawsOfFiltering as filtering
+use Rattle.fw_model.specs.LawsOfInjections as injections
 use Rattle.fw_model.specs.LawsOfLegalHistories as legal
+use Rattle.fw_model.specs.LawsOfPending as pending
 use Rattle.fw_model.specs.LawsOfProjections as projections
 use Rattle.fw_model.specs.LawsOfRecoveries as recoveries
+use Rattle.fw_model.specs.LawsOfReplay as replay
 use Rattle.fw_model.specs.LawsOfRestoring as restoring
 use Rattle.fw_model.specs.LawsOfRuns as runs
 use Rattle.fw_model.specs.LawsOfSending as sending
+use Rattle.fw_model.specs.LawsOfSettled as settled
 use Rattle.fw_model.specs.LawsOfSteps as steps
+use Rattle.fw_model.specs.LawsOfWrites as writes
 
 -- the laws of runs and of recoveries, of the runs of the running total
 pub record RunsApply : Type 0 where
@@ -341,3 +358,83 @@ pub record DenotationApplies : Type 0 where
       → AllByRecursion (λ (r : Timed). in_domain (bounds_of total_flow (receiver total_flow e)) r.at ≡ true) (totals_denoted e)
   pub numbered : denotation.DenotationIsNumbered → AreNumberedFrom 0 (rounds numbers 4 1)
   pub three_numbers : length (rounds numbers 4 1) ≡ 3
+
+-- ---- what the laws of writes, of replay, of events, of thinned stamps and of `auto` say
+
+-- the laws of writes and of the fronts of checkpoints, of the state of the failure, of the select that logs each event, and of
+-- the running total that does
+pub record WritesApply : Type 0 where
+  pub differ : fronts.CheckpointsDiffer
+      → AllByRecursion (λ (other : Write). (g : Front) (also : List Front) → other.node ≡ run → other.written ≡ checkpoint g also → g ≢ until 1) (drop 1 output_failed.writes)
+  pub have_stamps : fronts.CheckpointsHaveStamps
+      → AllByRecursion (λ (write : Write). (f : Front) (low : List Front) → write.written ≡ checkpoint f low → f ≢ no_stamps (bounds_of total_flow write.node)) output_failed.writes
+  pub newest : writes.NewestCheckpointIsKept
+      → newest_checkpoint run (until 0) output_failed.writes ≡ newest_checkpoint run (until 0) (filter not_collected output_failed.writes)
+  pub in_order : writes.LoggedEventsAreInOrder → AreLoggedInOrder events_logged event_collected
+  pub each_logged : writes.LiveNodesLogEachEvent
+      → AllByRecursion (λ (v : SerialEvent). event_node total_logged.flow v.event ≡ run → IsLoggedFor run v.serial none_collected.writes) none_collected.history
+
+-- all, at the select that comes back with all that it took
+abbrev pub all_selected : Frontier
+all_selected = node_frontier events_logged.flow big []
+
+-- the epochs at which what the select logged is not given up
+abbrev pub still_needed : Frontier
+still_needed = not_given_up events_logged event_collected.low big
+
+-- the laws of replay, of the select when it comes back with one of its two events collected, and of the running total with
+-- epochs 2 and 3 and without them
+pub record ReplayApplies : Type 0 where
+  pub one_again : replayed_events events_logged event_collected big all_selected ≡ Delivered src_to_big second_message ∷ []
+  pub those_left : replay.ReplayedEventsAreThoseNotGivenUp
+      → replayed_events events_logged event_collected big all_selected
+      ≡ events_inside still_needed (events_inside all_selected (events_at events_logged.flow big (events event_collected.history)))
+  pub send_the_same : replay.ReplayedEventsSendTheSame
+      → messages_outside (at_receiver events_logged event_collected.low big_to_out) (sent_by events_logged big (replayed_events events_logged event_collected big all_selected))
+      ≡ messages_outside (at_receiver events_logged event_collected.low big_to_out) (messages_from all_selected (sent_messages events_logged (events event_collected.history) big_to_out))
+  pub their_part : replay.PassingEventsSendTheirPart
+      → sent_by events_logged big (events_inside still_needed (events_at events_logged.flow big one_came_through))
+      ≡ messages_from still_needed (sent_by events_logged big (events_at events_logged.flow big one_came_through))
+  pub same_part : replay.SamePartSendsTheSame
+      → messages_from (node_frontier total_flow run (until 2)) (sent_by totals run (events_at total_flow run two_epochs))
+      ≡ messages_from (node_frontier total_flow run (until 2)) (sent_by totals run (events_at total_flow run (next_epochs ++ two_epochs)))
+
+-- the latest event of the loop
+abbrev pub counted_once_more : Event
+counted_once_more = Delivered 2 (message (round 0 2) (pair 1 2) (round 0 2))
+
+-- the laws of injections, of what is settled and of pending messages, of the state of the failure and its history, of the
+-- history of the loop, and of the numbers of the sequence
+pub record EventsApply : Type 0 where
+  pub four : epochs_injected src (events output_failed.history) ≡ 3 ∷ 2 ∷ 1 ∷ 0 ∷ []
+  pub in_order : injections.InjectedEpochsAreInOrder
+      → AreEpochsInOrder (epochs_injected src (events output_failed.history))
+      × (length (epochs_injected src (events output_failed.history)) ≡ injected_count src (events output_failed.history))
+  pub leaves_two : injections.UntilLeavesThatMany
+      → injected_count src (events (filtered_history totals two_epochs_kept output_failed.history)) ≡ 2
+  pub outside : settled.NothingComesInsideSettled → LiesOutside totals output_failed (Delivered src_to_run (at_epoch 3 1))
+  pub as_sent : pending.SentIsDeliveredAndPending
+      → sorted_messages (sent_messages totals (next_epochs ++ two_epochs) run_to_out)
+      ≡ sorted_messages (delivered_messages (next_epochs ++ two_epochs) run_to_out ++ pending_messages totals (next_epochs ++ two_epochs) run_to_out)
+  pub follows : pending.PendingFollowsEvents → (e : ℕ)
+      → sorted_messages (pending_messages two_batches under_way e)
+      ≡ with_messages (sent_on two_batches (drop 1 under_way) e counted_once_more)
+      (messages_less (sorted_messages (pending_messages two_batches (drop 1 under_way) e)) (message_on e counted_once_more))
+  pub goes_on : pending.PendingNumbersGoOn → GoesOn numbers numbered_both 1
+  pub next : pending.FirstPendingIsNext → IsOnlyDeliverable numbers (drop 5 numbered_both) 1 (value_at 0 1 0)
+
+-- the law of stamps that are thinned, of four epochs
+abbrev pub ThinnedApplies : Type 0
+ThinnedApplies =
+    ThinnedStampsCoverTheSame
+    → cover (bounds_of total_flow run) (filter (node_frontier total_flow run (until 3)) (drop 1 four_epochs))
+    ≡ cover (bounds_of total_flow run) (filter (node_frontier total_flow run (until 3)) four_epochs)
+
+-- the laws of `auto`, of the state of the failure, and of that in which all nodes are failed
+pub record AutoApplies : Type 0 where
+  pub one : auto.AutoRunsAreOne → (others : List Step) (other : Machine) → IsAutoRun totals output_failed 2 others other
+      → (others ≡ steps_by_themselves) × (other ≡ last_taken)
+  pub none : auto.AutoRunsAreOne → (others : List Step) (other : Machine) → IsAutoRun totals all_failed 1 others other
+      → (others ≡ []) × (other ≡ all_failed)
+  pub runs : auto.AutoRunsAreRuns → (effects : List Effect) × Run totals output_failed steps_by_themselves (map did effects) last_taken
+  pub goes_on : auto.AutoRunsGoOn → IsAutoRun totals output_failed 2 steps_by_themselves last_taken

@@ -1,6 +1,7 @@
 -- Witnesses for the laws: what they ask holds of the running total, of the loop and of a sequence, where what they say is not empty.
-use Rattle.std.specs.Prelude.{[], false, length, map, true, ℕ, ◌++◌, ◌<◌, ◌∷◌, ◌≡◌, ◌≢◌}
+use Rattle.std.specs.Prelude.{List, None, [], drop, false, length, map, true, ℕ, ◌++◌, ◌<◌, ◌∷◌, ◌≡◌, ◌≢◌}
 use Rattle.fw_bag.specs.Bag.{how_often}
+use Rattle.fw_time.specs.Stamp.{Stamp}
 use Rattle.fw_frontier.specs.Front.{Front}
 use Rattle.fw_frontier.specs.Frontier.{Frontier, IsFrontier, Within, join}
 use Rattle.fw_flow.specs.Dataflow.{HasEpochs, bounds_of, is_numbered, kind_of, policy_of, receiver, sender, node_frontier}
@@ -11,18 +12,22 @@ use Rattle.fw_flow.specs.declared.choice.Cut.TheVariants.{At, Present}
 use Rattle.fw_flow.specs.declared.event.Event.TheVariants.{Deliver as Delivered, Inject as Injected, Notify as Notified}
 use Rattle.fw_flow.specs.declared.kind.Kind.TheVariants.{Sequence}
 use Rattle.fw_flow.specs.declared.restoring.Restoring.TheVariants.{Checkpoints}
-use Rattle.fw_flow.specs.declared.step.Step.TheVariants.{Collect, Recover}
+use Rattle.fw_flow.specs.declared.step.Step.{Step}
+use Rattle.fw_flow.specs.declared.step.Step.TheVariants.{Collect, Deliver, Fail, Persist, Recover}
 use Rattle.fw_model.specs.Acknowledgements.{Shows, stamps_acknowledged}
+use Rattle.fw_model.specs.Auto.{IsAutoRun}
 use Rattle.fw_model.specs.Choice.{IsCandidate, LiesInReceiver, IsChoiceWithin, IsConsistent, IsCutWithin, IsLargest, cut_of, ever, filtered_history, kept, kept_of, notice_of, until}
 use Rattle.fw_model.specs.Choosing.{AreCheckpointsChains, HasItsChoice}
 use Rattle.fw_model.specs.Covers.{covers_in}
 use Rattle.fw_model.specs.Denotation.{IsDenotation, bag_at, rounds}
 use Rattle.fw_model.specs.Filtering.{AreFrontiers, ComeFromKept, IsConsistentlyKept, MeetsInclusions, kept_events, messages_from}
 use Rattle.fw_model.specs.History.{IsAdmissible, IsClosedFor, IsComplete, IsEnabled, IsLegal, delivered_messages, pending_messages, recs_at, sent_messages}
-use Rattle.fw_model.specs.Machine.{Machine, Write, acknowledged, collected, events, first_state, front_of, in_flight, is_failed}
+use Rattle.fw_model.specs.Machine.{Machine, Write, acknowledged, checkpoint, collected, events, first_state, front_of, in_flight, is_failed}
 use Rattle.fw_model.specs.Settled.{HasMoreToSettle, IsCutWithinSettled, IsDenotedInside, IsFull}
-use Rattle.fw_model.specs.Steps.{HaveNoRecovery, Run, StepsTo, cuts, did, lows}
+use Rattle.fw_model.specs.Steps.{HaveNoRecovery, Run, StepsTo, cuts, did, lows, silent, with_event}
+use Rattle.fw_model.specs.Thinned.{IsThinned}
 use Rattle.fw_model.specs.Unions.{IsUnionOfChoices, IsUnionOfCuts}
+use Rattle.fw_model.specs.Writes.{IsSamePart}
 use Rattle.fw_examples.specs.Flows.{loop_counts_up, pair, regroup_by_three, two_batches, out, src, numbered_both, numbered_epoch, numbers, value_at}
 use Rattle.fw_examples.specs.Loop.{counted_rounds, counting_failed, message, outcomes_left, outcomes_shown, restored, round, steps_left, steps_taken, under_way, without_the_second}
 use Rattle.fw_examples.specs.RunningTotal.{alike, at_epoch, come_back, epoch_kept, next_epochs, outcomes_through_recovery, outcomes_to_failure, outcomes_up_to_two, outcomes_without_failure, output_failed, run, run_to_out, src_to_run, steps_through_recovery, steps_to_failure, steps_up_to_two, steps_without_failure, total_flow, totals, totals_denoted, two_epochs, two_epochs_kept, two_kept_noting}
@@ -63,13 +68,14 @@ pub record TwoRunsMeet : Type 0 where
   pub shown_through : Shows out (2 ∷ []) (pair 1 15 ∷ []) outcomes_through_recovery
   pub shown_without : Shows out (2 ∷ []) (pair 1 15 ∷ []) outcomes_without_failure
 
--- In the state of the failure some epochs are settled and others not, what was delivered in them is denoted, and a node can be
--- restored to less than it settled.
+-- In the state of the failure some epochs are settled and others not, what was delivered in them is denoted, a node can be
+-- restored to less than it settled, and a message of an epoch that is not settled may be delivered to it.
 pub record SomeIsSettled : Type 0 where
   pub denoted : IsDenotedInside totals totals_denoted output_failed
   pub settled : output_failed.settled ≡ until 3 ∷ until 3 ∷ until 2 ∷ []
   pub delivered : recs_at (1 ∷ []) (delivered_messages (events output_failed.history) run_to_out) ≡ pair 1 10 ∷ []
   pub candidate : IsCandidate totals output_failed (is_failed output_failed) kept run (At (until 2))
+  pub enabled : IsEnabled totals (events output_failed.history) (Delivered src_to_run (at_epoch 3 1))
 
 -- There the largest choice keeps two epochs of four, as the low watermark does, and checkpoints are chains; a checkpoint that
 -- was collected is offered only where what was collected counts.
@@ -278,9 +284,60 @@ pub record SequenceIsFiltered : Type 0 where
   pub inside : phi numbers numbered_both 1 (kept_epoch 1) (1 ∷ []) ≡ true
   pub outside : phi numbers numbered_both 1 (kept_epoch 1) (2 ∷ []) ≡ false
 
--- In that history the sequence was notified twice, and two of its numbers were delivered on a numbered edge.
+-- In that history the sequence was notified twice, two of its numbers were delivered on a numbered edge, and the third is
+-- pending; before the two were delivered both were pending.
 pub record NumbersAreDelivered : Type 0 where
   pub legal : IsLegal numbers numbered_both
   pub sequence : kind_of regroup_by_three 1 ≡ Sequence
   pub numbered : is_numbered regroup_by_three 1 ≡ true
   pub two : delivered_messages numbered_both 1 ≡ value_at 1 2 0 ∷ value_at 0 1 0 ∷ []
+  pub third : pending_messages numbers numbered_both 1 ≡ value_at 2 3 1 ∷ []
+  pub before : pending_messages numbers (drop 5 numbered_both) 1 ≡ value_at 0 1 0 ∷ value_at 1 2 0 ∷ []
+
+-- ---- witnesses for the laws of replay, of thinned stamps and of steps that are taken by themselves
+
+-- Of epochs 0 and 1 the running total did the same in the history of the failure as in that after the recovery.
+abbrev pub TwoEpochsAreTheSame : Type 0
+TwoEpochsAreTheSame = IsSamePart totals (next_epochs ++ two_epochs) two_epochs run (node_frontier total_flow run (until 2))
+
+-- the epochs 0 to 3
+abbrev pub four_epochs : List Stamp
+four_epochs = (0 ∷ []) ∷ (1 ∷ []) ∷ (2 ∷ []) ∷ (3 ∷ []) ∷ []
+
+-- Without the first one they are thinned inside the first two, which lie within the first three.
+pub record EpochsAreThinned : Type 0 where
+  pub thinned : IsThinned (node_frontier total_flow run (until 2)) four_epochs (drop 1 four_epochs)
+  pub within : Within (node_frontier total_flow run (until 2)) (node_frontier total_flow run (until 3))
+
+-- the state of the failure once the latest checkpoint is acknowledged
+abbrev pub all_written : Machine
+all_written = record output_failed {
+  writes =
+      record { node = run; written = checkpoint (until 1) (alike 0); stage = collected }
+      ∷ record { node = run; written = checkpoint (until 2) (alike 0); stage = acknowledged }
+      ∷ record { node = run; written = checkpoint (until 3) (alike 2); stage = acknowledged }
+      ∷ [];
+}
+
+-- the state once epoch 3 came to the running total too
+abbrev pub last_taken : Machine
+last_taken = with_event totals all_written (Delivered src_to_run (at_epoch 3 1))
+
+-- the steps to it
+abbrev pub steps_by_themselves : List Step
+steps_by_themselves = Persist ∷ Deliver src_to_run None ∷ []
+
+-- From the state of the failure `auto` acknowledges the checkpoint in flight first, and then delivers the message that is pending.
+pub record TwoStepsAreTaken : Type 0 where
+  pub one : IsAutoRun totals output_failed 1 (Persist ∷ []) all_written
+  pub other : IsAutoRun totals all_written 1 (Deliver src_to_run None ∷ []) last_taken
+  pub both : IsAutoRun totals output_failed 2 steps_by_themselves last_taken
+
+-- the state once all nodes failed before anything happened
+abbrev pub all_failed : Machine
+all_failed = record (first_state totals) { failed = true ∷ true ∷ true ∷ [] }
+
+-- From there `auto` takes no step, since none is enabled.
+pub record NoStepIsTaken : Type 0 where
+  pub reached : Run totals (first_state totals) (Fail (src ∷ run ∷ out ∷ []) ∷ []) (did silent ∷ []) all_failed
+  pub none : IsAutoRun totals all_failed 1 [] all_failed

@@ -1,5 +1,5 @@
 //! What the laws say of what meets what they ask.
-ghost use Rattle.fw_examples.specs.Applied.{ChoicesApply, ChoosingApplies, DeliveriesApply, FilteringApplies, LegalHistoriesApply, RunsApply, StepsApply, CollectionRestored, LogsRestored, RestoringApplies, DenotationApplies, ProjectionsApply, SendingApplies};
+ghost use Rattle.fw_examples.specs.Applied.{ChoicesApply, ChoosingApplies, DeliveriesApply, FilteringApplies, LegalHistoriesApply, RunsApply, StepsApply, CollectionRestored, LogsRestored, RestoringApplies, DenotationApplies, ProjectionsApply, SendingApplies, AutoApplies, EventsApply, ReplayApplies, ThinnedApplies, WritesApply};
 
 /// The laws of runs and of recoveries.
 #[tactic(auto, using(crate::proofs::Applied::runs_apply))]
@@ -77,4 +77,34 @@ pub fn sending_applies()
 #[tactic(auto, using(crate::proofs::Applied::denotation_applies))]
 pub fn denotation_applies()
     ensures { DenotationApplies }
+{}
+
+/// The laws of writes and of the fronts of checkpoints.
+#[tactic(auto, using(crate::proofs::Applied::writes_apply))]
+pub fn writes_apply()
+    ensures { WritesApply }
+{}
+
+/// The laws of replay.
+#[tactic(auto, using(crate::proofs::Applied::replay_applies))]
+pub fn replay_applies()
+    ensures { ReplayApplies }
+{}
+
+/// The laws of injections, of what is settled and of pending messages.
+#[tactic(auto, using(crate::proofs::Applied::events_apply))]
+pub fn events_apply()
+    ensures { EventsApply }
+{}
+
+/// The law of stamps that are thinned.
+#[tactic(auto, using(crate::proofs::Applied::thinned_applies))]
+pub fn thinned_applies()
+    ensures { ThinnedApplies }
+{}
+
+/// The laws of steps that are taken by themselves.
+#[tactic(auto, using(crate::proofs::Applied::auto_applies))]
+pub fn auto_applies()
+    ensures { AutoApplies }
 {}

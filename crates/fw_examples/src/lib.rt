@@ -19,9 +19,10 @@ pub use kinds_send::{
     regroup_sends_at_epochs, sequence_sends_numbers, sum_sends_at_the_end, total_sends_up_to_now,
 };
 pub use laws_applied::{
-    choices_apply, choosing_applies, collection_restored, deliveries_apply, denotation_applies,
-    filtering_applies, legal_histories_apply, logs_restored, projections_apply, restoring_applies,
-    runs_apply, sending_applies, steps_apply,
+    auto_applies, choices_apply, choosing_applies, collection_restored, deliveries_apply,
+    denotation_applies, events_apply, filtering_applies, legal_histories_apply, logs_restored,
+    projections_apply, replay_applies, restoring_applies, runs_apply, sending_applies, steps_apply,
+    thinned_applies, writes_apply,
 };
 pub use logs_after_collection::{
     collects_a_logged_event, keeps_a_log_with_a_checkpoint, keeps_events_of_a_total, loses_an_epoch,
@@ -33,9 +34,10 @@ pub use nested_loops::{
 };
 pub use witnesses_of_laws::{
     an_epoch_is_closed, checkpoints_are_offered, choices_unite, cuts_unite,
-    each_step_has_its_choice, failure_is_reached, fronts_are_spelled, join_is_a_frontier,
-    less_is_consistent, loop_is_filtered, loop_is_reached, low_watermark_rises, more_is_complete,
-    notified_and_goes_on, numbers_are_delivered, one_is_on_its_way, records_are_spelled,
-    recovery_is_reached, sequence_is_filtered, some_is_settled, something_is_chosen,
-    totals_are_filtered, totals_are_well_formed, two_epochs_are_complete, two_runs_meet,
+    each_step_has_its_choice, epochs_are_thinned, failure_is_reached, fronts_are_spelled,
+    join_is_a_frontier, less_is_consistent, loop_is_filtered, loop_is_reached, low_watermark_rises,
+    more_is_complete, no_step_is_taken, notified_and_goes_on, numbers_are_delivered,
+    one_is_on_its_way, records_are_spelled, recovery_is_reached, sequence_is_filtered,
+    some_is_settled, something_is_chosen, totals_are_filtered, totals_are_well_formed,
+    two_epochs_are_complete, two_epochs_are_the_same, two_runs_meet, two_steps_are_taken,
 };

@@ -1,5 +1,5 @@
 //! That the laws say something: where what they ask holds.
-ghost use Rattle.fw_examples.specs.Witnesses.{EachStepHasItsChoice, FailureIsReached, LoopIsReached, LowWatermarkRises, MoreIsComplete, RecoveryIsReached, SomeIsSettled, SomethingIsChosen, TotalsAreWellFormed, TwoRunsMeet, ChoicesUnite, CutsUnite, JoinIsAFrontier, LessIsConsistent, AnEpochIsClosed, NotifiedAndGoesOn, OneIsOnItsWay, TwoEpochsAreComplete, LoopIsFiltered, NumbersAreDelivered, SequenceIsFiltered, TotalsAreFiltered};
+ghost use Rattle.fw_examples.specs.Witnesses.{EachStepHasItsChoice, FailureIsReached, LoopIsReached, LowWatermarkRises, MoreIsComplete, RecoveryIsReached, SomeIsSettled, SomethingIsChosen, TotalsAreWellFormed, TwoRunsMeet, ChoicesUnite, CutsUnite, JoinIsAFrontier, LessIsConsistent, AnEpochIsClosed, NotifiedAndGoesOn, OneIsOnItsWay, TwoEpochsAreComplete, LoopIsFiltered, NumbersAreDelivered, SequenceIsFiltered, TotalsAreFiltered, EpochsAreThinned, NoStepIsTaken, TwoEpochsAreTheSame, TwoStepsAreTaken};
 ghost use Rattle.fw_examples.specs.OffersOfTotals.{CheckpointsAreOffered};
 ghost use Rattle.fw_examples.specs.Records.{FrontsAreSpelled, RecordsAreSpelled};
 
@@ -152,4 +152,28 @@ pub fn records_are_spelled()
 #[tactic(auto, using(crate::proofs::Records::fronts_are_spelled))]
 pub fn fronts_are_spelled()
     ensures { FrontsAreSpelled }
+{}
+
+/// A node did the same of two epochs in two histories.
+#[tactic(auto, using(crate::proofs::Witnesses::two_epochs_are_the_same))]
+pub fn two_epochs_are_the_same()
+    ensures { TwoEpochsAreTheSame }
+{}
+
+/// Four epochs of which one is left out inside the first two.
+#[tactic(auto, using(crate::proofs::Witnesses::epochs_are_thinned))]
+pub fn epochs_are_thinned()
+    ensures { EpochsAreThinned }
+{}
+
+/// Two steps that are taken by themselves: once the first is taken, no more write is in flight.
+#[tactic(auto, using(crate::proofs::Witnesses::two_steps_are_taken))]
+pub fn two_steps_are_taken()
+    ensures { TwoStepsAreTaken }
+{}
+
+/// A state in which no step is enabled.
+#[tactic(auto, using(crate::proofs::Witnesses::no_step_is_taken))]
+pub fn no_step_is_taken()
+    ensures { NoStepIsTaken }
 {}

@@ -4,6 +4,7 @@ use Rattle.fw_model.proofs.ChoosingLaws.{kept-is_ever, failed-recovered, never-f
 use Rattle.fw_model.proofs.DenotationLaws.{denotation-exists}
 use Rattle.fw_model.proofs.DomainLaws.{has_epochs}
 use Rattle.fw_model.proofs.RecoveryLaws.{runs-legal, acknowledged-denoted}
+use Rattle.fw_model.proofs.ForgottenLaws.{collected-below}
 use Rattle.fw_model.proofs.RestoringLaws.{never-collected, cuts-kept, cut_batches-outside, events-logged, logs-hold}
 use Rattle.fw_model.proofs.RunLaws.{acknowledgements-in_order}
 use Rattle.fw_flow.specs.declared.choice.Choice.{Choice}
@@ -55,6 +56,7 @@ shows-watermark sys w steps = record {
         ap (λ (m : Machine). m.low) t.3 ∙ ap (λ (c : Choice). map front_of_cut c.cuts) same,
       );
   never_falls = λ count outcomes state step next outcome r. never-falls sys w (take count steps) outcomes state r step next outcome;
+  below = λ count. collected-below sys w (take count steps);
 }
 
 keeps-what_is_needed : (sys : System) → IsWellFormedSystem sys → (steps : List Step) → KeepsWhatIsNeeded sys steps

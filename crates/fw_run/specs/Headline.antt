@@ -1,5 +1,5 @@
 -- What the machine does with the items of a schedule, and the text that its run prints.
-use Rattle.std.specs.Prelude.{◌≡◌, ◌≢◌, ◌<◌, ℕ, Bool, true, false, List, [], ◌∷◌, length, map, take}
+use Rattle.std.specs.Prelude.{◌≡◌, ◌≢◌, ◌↔◌, ◌<◌, ℕ, Bool, true, false, List, [], ◌∷◌, length, map, take}
 use Rattle.std.specs.List.{AllByRecursion}
 use Rattle.fw_frontier.specs.Frontier.{Within}
 use Rattle.fw_frontier.specs.Front.{Front}
@@ -15,8 +15,8 @@ use Rattle.fw_model.specs.Choice.{View, kept, ever, cut_of, kept_of, IsCandidate
 use Rattle.fw_model.specs.Denotation.{Family, IsDenotation}
 use Rattle.fw_model.specs.History.{IsLegal}
 use Rattle.fw_model.specs.Acknowledgements.{IsDenoted, stamps_acknowledged, first_stamps}
-use Rattle.fw_model.specs.Machine.{Machine, SerialEvent, acknowledged, events, first_state, front_of, no_stamps, ack_count_of, is_failed}
-use Rattle.fw_model.specs.Steps.{cuts, lows, Outcome, did, StepsTo, Run, front_of_cut}
+use Rattle.fw_model.specs.Machine.{Machine, SerialEvent, Write, acknowledged, collected, events, first_state, front_of, no_stamps, ack_count_of, is_failed}
+use Rattle.fw_model.specs.Steps.{cuts, lows, Outcome, did, StepsTo, Run, front_of_cut, lies_below}
 use Rattle.fw_model.specs.Resending.{HoldsWhatIsSentAgain}
 use Rattle.fw_model.specs.Writes.{takes_checkpoints, HasOne, IsCheckpointOf, IsLoggedOnce, MayKeepNothingIfCollected}
 use Rattle.fw_run.specs.Items.{ComesTo}
@@ -73,7 +73,8 @@ CutsToLargest sys steps = (count : ℕ) (outcomes : List Outcome) (state next : 
     → Run sys (first_state sys) (take count steps) outcomes state → StepsTo sys state Recover next (did (cuts choice))
     → (view : View) → IsLargest sys state (IsCandidate sys state (is_failed state) view) choice
 
--- After each number of the steps a collection shows the low watermark, which is then kept, and no step lowers it at a node.
+-- After each number of the steps a collection shows the low watermark, which is then kept, and no step lowers it at a node; and
+-- a write was collected exactly where what it holds lies below it.
 pub record ShowsWatermark (sys : System) (steps : List Step) : Type 0 where
   pub shown : (count : ℕ) (outcomes : List Outcome) (state next : Machine) (choice : Choice)
       → Run sys (first_state sys) (take count steps) outcomes state → StepsTo sys state Collect next (did (lows choice))
@@ -82,6 +83,8 @@ pub record ShowsWatermark (sys : System) (steps : List Step) : Type 0 where
       → Run sys (first_state sys) (take count steps) outcomes state → StepsTo sys state step next outcome
       → (p : ℕ) → p < length sys.flow.nodes
       → Within (node_frontier sys.flow p (front_of state.low p)) (node_frontier sys.flow p (front_of next.low p))
+  pub below : (count : ℕ) (outcomes : List Outcome) (state : Machine) → Run sys (first_state sys) (take count steps) outcomes state
+      → AllByRecursion (λ (write : Write). (write.stage ≡ collected) ↔ (lies_below sys state.low state.history write.node write.written ≡ true)) state.writes
 
 -- All is there that a restoration to a largest choice needs. The choice is also the largest over all that was ever acknowledged
 -- and not undone. A node that takes checkpoints, if its cut has a stamp, has exactly one there, acknowledged and not collected.
@@ -120,7 +123,7 @@ pub record Headline (sys : System) (items : List Item) : Type 0 where
   pub recovers : OfSteps sys items RecoversFailed
   -- each recovery cuts the nodes to the largest consistent choice
   pub largest : OfSteps sys items CutsToLargest
-  -- each collection shows the low watermark, which never falls
+  -- each collection shows the low watermark, which never falls, and what was collected is what lies below it
   pub watermark : OfSteps sys items ShowsWatermark
   -- what a restoration needs is never collected
   pub never_collected : OfSteps sys items KeepsWhatIsNeeded

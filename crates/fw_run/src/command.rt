@@ -17,8 +17,8 @@ use std::alloc::Global;
 
 /// Runs a command: `words` are those after the program's name. `run FLOW INPUTS SCHEDULE` fetches and reads the
 /// three texts from the folder, takes the steps of the schedule and prints their effects to `out`; `check FLOW` reads the
-/// text of a flow and prints its nodes. Where that does not end well, one line on `notes` says why. The store is for
-/// records that nodes write, and none does yet.
+/// text of a flow and prints its nodes. Where that does not end well, one line on `notes` says why. The store is for the
+/// records that nodes write, which the engine of today keeps in its state instead.
 pub fn falkirk<F: Folder, K: Store, O: Sink, N: Sink>(
     alloc: Global,
     words: &[&str],

@@ -8,6 +8,7 @@ pub mod Nested
 pub mod NestedRecovery
 pub mod OffersOfTotals
 pub mod Plays
+pub mod Progress
 pub mod Records
 pub mod Settling
 pub mod TotalRuns

@@ -25,8 +25,9 @@ use Rattle.fw_model.specs.Choosing.{AreCheckpointsChains, CanChoose, low_choice}
 use Rattle.fw_model.specs.Covers.{covers_in}
 use Rattle.fw_model.specs.Denotation.{bag_at, AreInOrder, AreNumberedFrom, Family, IsDenotation, rounds}
 use Rattle.fw_model.specs.Filtering.{HaveKeptCauses, MeetsInclusions, events_inside, kept_events, messages_from, messages_inside, messages_outside}
-use Rattle.fw_model.specs.History.{AreEventsInDomain, IsAdmissible, IsClosedFor, IsComplete, IsLegal, delivered_messages, injected_count, message_on, pending_messages, recs_at, sent_messages}
+use Rattle.fw_model.specs.History.{AreEventsInDomain, IsAdmissible, IsClosedFor, IsComplete, IsLegal, IsNotifiable, delivered_messages, injected_count, message_on, pending_messages, recs_at, sent_messages}
 use Rattle.fw_model.specs.LawsOfInjections.{AreEpochsInOrder, epochs_injected}
+use Rattle.fw_model.specs.LawsOfProgress.{IsNotifiableBy, IsStuck}
 use Rattle.fw_model.specs.LawsOfPending.{GoesOn, IsOnlyDeliverable, sent_on}
 use Rattle.fw_model.specs.LawsOfReplay.{not_given_up, replayed_events}
 use Rattle.fw_model.specs.LawsOfSettled.{LiesOutside}
@@ -61,6 +62,7 @@ use Rattle.fw_model.specs.LawsOfFiltering as filtering
 use Rattle.fw_model.specs.LawsOfInjections as injections
 use Rattle.fw_model.specs.LawsOfLegalHistories as legal
 use Rattle.fw_model.specs.LawsOfPending as pending
+use Rattle.fw_model.specs.LawsOfProgress as progress
 use Rattle.fw_model.specs.LawsOfProjections as projections
 use Rattle.fw_model.specs.LawsOfRecoveries as recoveries
 use Rattle.fw_model.specs.LawsOfReplay as replay
@@ -422,6 +424,13 @@ pub record EventsApply : Type 0 where
       (messages_less (sorted_messages (pending_messages two_batches (drop 1 under_way) e)) (message_on e counted_once_more))
   pub goes_on : pending.PendingNumbersGoOn → GoesOn numbers numbered_both 1
   pub next : pending.FirstPendingIsNext → IsOnlyDeliverable numbers (drop 5 numbered_both) 1 (value_at 0 1 0)
+
+-- the laws of progress, of the running total once two epochs came through, and in the state of the failure
+pub record ProgressApplies : Type 0 where
+  pub complete : progress.StuckIsComplete → IsComplete totals two_epochs complete_two
+  pub others_stuck : progress.EventsLeaveOthersStuck → (p : ℕ) → p ≢ src → IsStuck totals (Injected src 2 ∷ two_epochs) complete_two p
+  pub notifiable : progress.NotifiableByComplete → (p : ℕ) (t : Stamp)
+      → IsNotifiable totals (events output_failed.history) p t ↔ IsNotifiableBy totals (events output_failed.history) complete_then p t
 
 -- the law of stamps that are thinned, of four epochs
 abbrev pub ThinnedApplies : Type 0

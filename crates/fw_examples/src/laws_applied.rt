@@ -1,5 +1,5 @@
 //! What the laws say of what meets what they ask.
-ghost use Rattle.fw_examples.specs.Applied.{ChoicesApply, ChoosingApplies, DeliveriesApply, FilteringApplies, LegalHistoriesApply, RunsApply, StepsApply, CollectionRestored, LogsRestored, RestoringApplies, DenotationApplies, ProjectionsApply, SendingApplies, AutoApplies, EventsApply, ReplayApplies, ThinnedApplies, WritesApply};
+ghost use Rattle.fw_examples.specs.Applied.{ChoicesApply, ChoosingApplies, DeliveriesApply, FilteringApplies, LegalHistoriesApply, RunsApply, StepsApply, CollectionRestored, LogsRestored, RestoringApplies, DenotationApplies, ProjectionsApply, SendingApplies, AutoApplies, EventsApply, ProgressApplies, ReplayApplies, ThinnedApplies, WritesApply};
 
 /// The laws of runs and of recoveries.
 #[tactic(auto, using(crate::proofs::Applied::runs_apply))]
@@ -95,6 +95,12 @@ pub fn replay_applies()
 #[tactic(auto, using(crate::proofs::Applied::events_apply))]
 pub fn events_apply()
     ensures { EventsApply }
+{}
+
+/// The laws of progress.
+#[tactic(auto, using(crate::proofs::Progress::progress_applies))]
+pub fn progress_applies()
+    ensures { ProgressApplies }
 {}
 
 /// The law of stamps that are thinned.

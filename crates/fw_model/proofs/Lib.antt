@@ -58,6 +58,7 @@ pub mod PendingLaws
 pub mod PendingNumberLaws
 pub mod PhiLaws
 pub mod PrefixLaws
+pub mod ProgressLaws
 pub mod PsiBackLaws
 pub mod PsiLaws
 pub mod RecoveryLaws

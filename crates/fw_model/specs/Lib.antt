@@ -19,6 +19,7 @@ pub mod LawsOfInjections
 pub mod LawsOfLegalHistories
 pub mod LawsOfOffers
 pub mod LawsOfPending
+pub mod LawsOfProgress
 pub mod LawsOfProjections
 pub mod LawsOfRecoveries
 pub mod LawsOfReplay

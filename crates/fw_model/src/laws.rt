@@ -17,6 +17,7 @@ ghost use Rattle.fw_model.specs.LawsOfExistence.{CompleteExists, CompleteIsTheOn
 ghost use Rattle.fw_model.specs.LawsOfFiltering.{ConsistentMeetsInclusions, FilteredHistoryIsLegal, KeptDeliveriesHaveKeptCauses, KeptEventsAreLegal, KeptEventsDeliverTheSame, KeptEventsSendTheSame, KeptEventsSendTheSameFromWithin, NothingPendingWithoutLog, PendingAtKeptStamps, PendingAtOtherStamps, PendingForCut, PendingForPresent, PhiOfKeptEvents};
 ghost use Rattle.fw_model.specs.LawsOfLegalHistories.{LegalEventsAreInDomain, LegalMessagesAreInDomain, OnlyInputsInject};
 ghost use Rattle.fw_model.specs.LawsOfOffers.{ConsistentByOffersIsConsistent, LargestByOffersIsLargest};
+ghost use Rattle.fw_model.specs.LawsOfProgress.{EventsLeaveOthersStuck, NotifiableByComplete, StuckIsComplete};
 ghost use Rattle.fw_model.specs.LawsOfProjections.{PhiByCountIsMonotone, PhiGrowsWithHistory, PhiIgnoresHistory, PhiIsFrontier, PhiIsMonotone, PhiOfEverything, PhiOfMeet, PsiIsFrontier, PsiIsMonotone, PsiOfJoin, PsiOfNothing, PsiOfUnion};
 ghost use Rattle.fw_model.specs.LawsOfRecoveries.{AcknowledgementsShowDenotationThroughRecoveries, CandidatesLieWithinSettled, DenotedIsFull, RunsStayLegalThroughRecoveries, SettledStaysDenoted, StepsKeepHistoriesLegal};
 ghost use Rattle.fw_model.specs.LawsOfRestoring.{BatchesOutsideCutsLieOutsideLow, BatchesToComeLieOutsideLow, CheckpointLogsHoldWhatIsSentAgain, CheckpointsAreAsTheyWereAsked, CheckpointsAscend, CheckpointsAtCutsAreKept, CheckpointsStayTrue, CollectedIsWhatLiesBelow, EventsInsideCutsAreLogged, EventsThatMustBeKeptAreNeverCollected, KeptWatermarksLieWithinToday, LogsHoldWhatIsSentAgain, NothingComesInsideCheckpoints, WhatIsForgottenWasAcknowledged};
@@ -194,6 +195,22 @@ pub fn enabled_is_outside()
 /// it lowers no complete frontier.
 pub fn admissible_stays_admissible()
     ensures { AdmissibleStaysAdmissible }
+{}
+
+/// After any history of a well-formed flow an admissible family that no node alone can widen is complete.
+pub fn stuck_is_complete()
+    ensures { StuckIsComplete }
+{}
+
+/// As a history goes on legally by one event, an admissible family can be widened at no other node than that of the event
+/// where it could not be before.
+pub fn events_leave_others_stuck()
+    ensures { EventsLeaveOthersStuck }
+{}
+
+/// A node may be notified exactly where it may be by the complete frontiers.
+pub fn notifiable_by_complete()
+    ensures { NotifiableByComplete }
 {}
 
 /// In a legal history of a well-formed flow with epochs each sequence injects nothing and is notified of each stamp

@@ -10,6 +10,7 @@ pub mod OffersOfTotals
 pub mod Plays
 pub mod Records
 pub mod Settling
+pub mod Told
 pub mod TotalRuns
 pub mod WellFormed
 pub mod Witnesses

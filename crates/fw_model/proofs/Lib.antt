@@ -86,6 +86,7 @@ pub mod TallyLaws
 pub mod ThinnedLaws
 pub mod TimedCounts
 pub mod TimedLaws
+pub mod ToldLaws
 pub mod WeightLaws
 pub mod WellFormedLaws
 pub mod WriteLaws

@@ -11,6 +11,7 @@ pub mod Plays
 pub mod Progress
 pub mod Records
 pub mod Settling
+pub mod Told
 pub mod TotalRuns
 pub mod WellFormed
 pub mod Witnesses

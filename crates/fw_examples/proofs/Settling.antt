@@ -416,7 +416,7 @@ closed_by sys h p t fronts formed l a =
 abbrev pub is_notifiable : System → List Event → ℕ → Stamp → List Front → Bool
 is_notifiable sys h p t fronts = is_owed_notice sys h p t && (is_paid_where sys h p (λ s. lesser s t) && is_closed sys h p t fronts)
 
-notifiable_by : (sys : System) (h : List Event) (p : ℕ) (t : Stamp) (fronts : List Front) → IsWellFormed sys.flow → p < length sys.flow.nodes → is_notifiable sys h p t fronts ≡ true
+pub notifiable_by : (sys : System) (h : List Event) (p : ℕ) (t : Stamp) (fronts : List Front) → IsWellFormed sys.flow → p < length sys.flow.nodes → is_notifiable sys h p t fronts ≡ true
     → IsNotifiable sys h p t
 notifiable_by sys h p t fronts formed l a =
     let b = and_parts _ _ a in

@@ -405,7 +405,7 @@ nothing_to_write state none next effect t =
     let a = t.1 in
     false≢true (sym none ∙ (ap any_in_flight a.before ∙ one_in_flight a.earlier a.oldest a.later a.in_flight))
 
-writes_first : IsFirstEnabled totals output_failed (auto_steps total_flow) step.Persist all_written silent
+pub writes_first : IsFirstEnabled totals output_failed (auto_steps total_flow) step.Persist all_written silent
 writes_first = record {
   earlier = [];
   later = drop 1 (auto_steps total_flow);
@@ -414,7 +414,7 @@ writes_first = record {
   leads = takes totals output_failed persist refl;
 }
 
-delivers_then : IsFirstEnabled totals all_written (auto_steps total_flow) (step.Deliver 0 None) last_taken silent
+pub delivers_then : IsFirstEnabled totals all_written (auto_steps total_flow) (step.Deliver 0 None) last_taken silent
 unfolding kind_of receiver sender sends batches_of bounds_of policy_of
 delivers_then = record {
   earlier = step.Persist ∷ [];

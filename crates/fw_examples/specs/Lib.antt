@@ -8,4 +8,5 @@ pub mod Nested
 pub mod OffersOfTotals
 pub mod Records
 pub mod RunningTotal
+pub mod Told
 pub mod Witnesses

@@ -8,6 +8,7 @@ mod laws_applied;
 mod logs_after_collection;
 mod loop_counts_up;
 mod nested_loops;
+mod what_was_told;
 mod witnesses_of_laws;
 
 pub use inclusions::{
@@ -32,6 +33,7 @@ pub use nested_loops::{
     first_rounds_are_projected, nested_loops_are_well_formed, one_rec_counts_up,
     recovers_inside_the_inner_loop,
 };
+pub use what_was_told::{one_more_may_be_told, tables_apply};
 pub use witnesses_of_laws::{
     an_epoch_is_closed, checkpoints_are_offered, choices_unite, cuts_unite,
     each_step_has_its_choice, epochs_are_thinned, failure_is_reached, fronts_are_spelled,

@@ -87,6 +87,7 @@ pub mod TallyLaws
 pub mod ThinnedLaws
 pub mod TimedCounts
 pub mod TimedLaws
+pub mod ToldLaws
 pub mod WeightLaws
 pub mod WellFormedLaws
 pub mod WriteLaws

@@ -28,6 +28,7 @@ pub mod LawsOfRuns
 pub mod LawsOfSending
 pub mod LawsOfSettled
 pub mod LawsOfSteps
+pub mod LawsOfTables
 pub mod LawsOfWrites
 pub mod Machine
 pub mod Measure
@@ -39,5 +40,6 @@ pub mod Settled
 pub mod SortedMessages
 pub mod Steps
 pub mod Thinned
+pub mod Told
 pub mod Unions
 pub mod Writes

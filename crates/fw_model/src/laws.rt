@@ -26,6 +26,7 @@ ghost use Rattle.fw_model.specs.LawsOfRuns.{AcknowledgementsAreInOrder, RunsGoOn
 ghost use Rattle.fw_model.specs.LawsOfSending.{InsidePhiComesFromInside, InsidePhiOfSequenceComesFromInside, PhiBySendStamps, PsiBackBySendStamps, PsiBackIsLargest, PsiBySendStamps, SendStampIsMonotone, SendersOfWellFormed, SendsAreInsidePsi, SendsAtSendStamp, SentFromInsideIsInsidePsi, SentTableFollowsHistory};
 ghost use Rattle.fw_model.specs.LawsOfSettled.{NothingComesInsideSettled};
 ghost use Rattle.fw_model.specs.LawsOfSteps.{ExactlyOneNextState, OneNextState, SomeNextState};
+ghost use Rattle.fw_model.specs.LawsOfTables.{DeliveriesLieInside, NothingComesAfterItsNotice, SettledIsTold, TotalsSumWhatWasTold};
 ghost use Rattle.fw_model.specs.LawsOfInjections.{InjectedEpochsAreInOrder, UntilLeavesThatMany};
 ghost use Rattle.fw_model.specs.LawsOfPending.{FirstPendingIsNext, PendingFollowsEvents, PendingNumbersGoOn, SentIsDeliveredAndPending};
 ghost use Rattle.fw_model.specs.LawsOfWrites.{LiveNodesLogEachEvent, LoggedEventsAreInOrder, NewestCheckpointIsKept};
@@ -801,4 +802,28 @@ pub fn auto_runs_are_runs()
 /// all of them.
 pub fn auto_runs_go_on()
     ensures { AutoRunsGoOn }
+{}
+
+/// In a legal history of a well-formed flow with epochs, an event that may come next at a node that is notified is at no
+/// stamp of which the node was notified.
+pub fn nothing_comes_after_its_notice()
+    ensures { NothingComesAfterItsNotice }
+{}
+
+/// In each state of a run of a well-formed system, a node that is notified was notified of each stamp inside what is
+/// settled at which something was delivered to it.
+pub fn settled_is_told()
+    ensures { SettledIsTold }
+{}
+
+/// In each state of a run of a well-formed system, where a total may be notified of an epoch, what was delivered to it up
+/// to that epoch is what came at it, inside what is settled, and at the epochs of which it was notified.
+pub fn totals_sum_what_was_told()
+    ensures { TotalsSumWhatWasTold }
+{}
+
+/// In a legal history of a well-formed flow with epochs, each delivery among the events of a node inside a frontier is at
+/// a stamp of the node's domain inside it.
+pub fn deliveries_lie_inside()
+    ensures { DeliveriesLieInside }
 {}

@@ -1,0 +1,11 @@
+//! Generated work: a flow, inputs and a schedule of any size, drawn from a seed.
+#![tactic(auto)]
+
+mod draws;
+mod from_seed;
+mod generated;
+mod inputs;
+mod schedule;
+
+pub use from_seed::generate;
+pub use generated::Texts;

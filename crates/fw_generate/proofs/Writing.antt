@@ -155,6 +155,11 @@ text_of-rounds : (rounds : List (List Line)) → text_of (flat_map (λ lines. li
 text_of-rounds [] = refl
 text_of-rounds (lines ∷ rounds) = flat_map-append line_text lines (flat_map (λ lines. lines) rounds) ∙ ap (λ t. text_of lines ++ t) (text_of-rounds rounds)
 
+-- the text of a schedule's lines is that of its rounds, and the last lines
+pub text_of-schedule : (rounds : List (List Line)) → text_of (flat_map (λ lines. lines) rounds ++ last_lines) ≡ flat_map text_of rounds ++ text_of last_lines
+text_of-schedule rounds =
+    flat_map-append line_text (flat_map (λ lines. lines) rounds) last_lines ∙ ap (λ t. t ++ text_of last_lines) (text_of-rounds rounds)
+
 pub schedule_written : (size : ℕ) (words left : Words) (old with_rounds new : List ℕ) → Writes (drawn_times size round_lines) (flat_map text_of) words left old with_rounds
     → new ≡ with_rounds ++ codes "auto 1000000000\ncollect\n" → Writes (schedule_lines size) text_of words left old new
 schedule_written size words left old with_rounds new rounds h =
@@ -162,7 +167,6 @@ schedule_written size words left old with_rounds new rounds h =
     record {
       behind =
           h ∙ ap (λ b. b ++ text_of last_lines) rounds.behind ∙ append_assoc old (flat_map text_of drawn.0) (text_of last_lines)
-          ∙ ap (λ t. old ++ (t ++ text_of last_lines)) (sym (text_of-rounds drawn.0))
-          ∙ ap (λ t. old ++ t) (sym (flat_map-append line_text (flat_map (λ lines. lines) drawn.0) last_lines));
+          ∙ ap (λ t. old ++ t) (sym (text_of-schedule drawn.0));
       after = rounds.after;
     }

@@ -5,6 +5,7 @@ mod draws;
 mod from_seed;
 mod generated;
 mod inputs;
+pub mod laws;
 mod schedule;
 
 pub use from_seed::generate;

@@ -1,9 +1,5 @@
 -- The dataflow of the generated texts is well formed, and its text is accepted.
-use Rattle.std.proofs.Common.{◌≡◌, ℕ, zero, suc, ◌<◌, true, false, [], ◌∷◌, get_or, refl, sym, subst, arith, lit<, lit≤, Option, Some, None, is_none, codes}
-use Rattle.fw_lines.specs.declared.refusal.Code.{Code}
-use Rattle.fw_lines.specs.Faults.{fault_at, IsSound}
-use Rattle.fw_lines.specs.Lines.{said_by, said_lines}
-use Rattle.fw_lines.specs.Spelling.{number_of}
+use Rattle.std.proofs.Common.{◌≡◌, ℕ, zero, suc, ◌<◌, true, false, [], ◌∷◌, get_or, refl, sym, subst, arith, lit<, lit≤, codes}
 use Rattle.fw_flow.specs.declared.kind.Domain.TheVariants.{Epoch, Number, Loop as InLoop}
 use Rattle.fw_flow.specs.Check.{AreWalksRight}
 use Rattle.fw_flow.specs.Dataflow.{declared_parent, domain_of, in_edges, kind_of, max_of, node_at, out_edges, parent_of, policy_of, receiver, sender}
@@ -11,15 +7,10 @@ use Rattle.fw_flow.specs.Ranks.{IsWithinRound}
 use Rattle.fw_flow.specs.Sources.{sources_of}
 use Rattle.fw_flow.specs.WellFormed.{IsWellFormed, is_feedback_of}
 use Rattle.fw_flow.proofs.ByRanks.{walks-ranked}
-use Rattle.fw_flow_text.specs.Endings.{policy_named, policy_at_end, ending_within, ending_outside, ending_of, parent_named, parent_at_end}
-use Rattle.fw_flow_text.specs.Forms.{output_kind, within_kind, leading_kind, lone_kind, input_form, output_form, select_form, regroup_form, within_form, leading_form, lone_form, node_form, node_declaration, edge_declaration, loop_of, loop_declaration, declaration_of}
-use Rattle.fw_flow_text.specs.Grammar.{flow_rules, line_fault}
-use Rattle.fw_flow_text.specs.Select.{condition_of, value_part, assignment_part, selection_part}
-use Rattle.fw_flow_text.specs.Words.{numeral_of, field_of, comparison_of, term_of}
 use Rattle.fw_generate.specs.Laws.{IsFlow}
 use Rattle.fw_generate.specs.Texts.{flow_text}
-use Rattle.fw_generate.proofs.Below.{all_below-at, each_below-at}
-use Rattle.fw_generate.proofs.FlowLaws.{flow_spelled, the_flow}
+use Rattle.fw_generate.proofs.Below.{each_below-at}
+use Rattle.fw_generate.proofs.FlowLaws.{flow_sound, flow_spelled, the_flow}
 
 -- ---- closed walks
 
@@ -94,20 +85,6 @@ well_formed = record {
 pub flow_sources : sources_of the_flow ≡ (codes "src", 0) ∷ []
 unfolding kind_of node_at
 flow_sources = refl
-
--- ---- the text
-
-breaks_none : (code : Option Code) → is_none code ≡ true → code ≡ None
-breaks_none None h = refl
-breaks_none (Some code) h = absurd (cc)
-
-flow_sound : IsSound flow_rules flow_text
-unfolding said_by number_of policy_named policy_at_end ending_within ending_outside ending_of parent_named parent_at_end output_kind within_kind leading_kind lone_kind input_form output_form select_form regroup_form within_form leading_form lone_form node_form node_declaration edge_declaration loop_of loop_declaration declaration_of condition_of value_part assignment_part selection_part numeral_of field_of comparison_of term_of
-flow_sound = record {
-  size = lit≤ tt;
-  lines = λ place below. breaks_none (fault_at line_fault (said_lines flow_text) place)
-      (all_below-at (λ i. is_none (fault_at line_fault (said_lines flow_text) i)) 26 refl place below);
-}
 
 pub flow_accepted : IsFlow flow_text
 flow_accepted = record { sound = flow_sound; checked = record { well_formed = subst IsWellFormed (sym flow_spelled) well_formed; value = refl } }

@@ -9,14 +9,18 @@ use crate::schedule::write_schedule;
 use rand_pcg::Lcg64Xsh32;
 use std::alloc::{AllocError, Global};
 
+/// The greatest size up to which the readers accept the texts, whatever is drawn
+/// ([`generated_texts_are_accepted`](crate::laws::generated_texts_are_accepted)).
+pub const SIZE_LIMIT: u32 = 100_000;
+
 // The stream of the generator of words.
 const STREAM: u64 = 54;
 
 /// The texts of a size, drawn from a seed: the flow, which is the same for all; `size` batches of up to seven recs; and a
 /// schedule of `size` rounds, in some of which nodes fail.
 ///
-/// It takes the memory of the texts. The readers accept the texts of each size up to 100,000
-/// ([`laws`](crate::laws)); those of greater sizes can be longer than they allow.
+/// It takes the memory of the texts. The readers accept those of each size up to [`SIZE_LIMIT`]; those of much greater sizes
+/// can be longer than they allow.
 pub fn generate(alloc: Global, seed: u64, size: u32) -> Result<Texts, AllocError>
     ensures { IfOk result (λ texts. texts ≡ texts_of size (words_from seed)) }
 {

@@ -1,5 +1,5 @@
 //! The generated inputs.
-ghost use Rattle.std.specs.Prelude.{OnOk, IfOk, string_bytes};
+ghost use Rattle.std.specs.Prelude.{OnOk, string_bytes};
 ghost use Rattle.std.specs.List.{flat_map};
 ghost use Rattle.fw_generate.specs.Draws.{drawn_times, words_of};
 ghost use Rattle.fw_generate.specs.Texts.{batch_line, behind_space, line_text, rec_word, spaced};

@@ -1,0 +1,9 @@
+pub mod Below
+pub mod DrawnLaws
+pub mod FlowLaws
+pub mod InputLaws
+pub mod LineLaws
+pub mod NumberLaws
+pub mod ScheduleLaws
+pub mod WellFormed
+pub mod Writing

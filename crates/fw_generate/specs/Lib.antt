@@ -1,0 +1,4 @@
+pub mod Draws
+pub mod Laws
+pub mod Texts
+pub mod Writes

@@ -3,6 +3,7 @@
 //! - A flow: `FlowBuilder` makes one in code, `read_flow` reads one from a text; `Flow` answers what its nodes and edges are.
 //! - What flows: `Rec`, a key and a value; `Batches`, for each input its batches by epoch, made by `Batches::add` or read by
 //!   `read_batches`; `Selection`, what a select does to a rec.
+//! - A schedule: `read_schedule` reads one from a text; an `Item` of it is a step, or `auto` and how many steps it may take.
 //! - A run: `Engine::new` takes a flow and batches of which `Flow::accepts` is true; `Engine::step` takes a `Step` and answers
 //!   `Stepped`, with the `Effect` that it shows; `Engine::auto_step` takes the first step that is enabled.
 //! - Looks at an engine: `Engine::settled`, `is_failed`, `acknowledged`, `pending` and `low_watermark`.

@@ -34,6 +34,7 @@ pub mod Machine
 pub mod Measure
 pub mod Offers
 pub mod Order
+pub mod Reached
 pub mod Resending
 pub mod Sending
 pub mod Settled

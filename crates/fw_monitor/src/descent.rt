@@ -1,6 +1,6 @@
 //! The largest consistent choice of what the nodes offer, and the trail of the descent to it.
 ghost use Rattle.std.specs.Prelude.{◌≡◌, ◌<◌, ◌≤◌, ◌+◌, ◌*◌, length, IfOk};
-ghost use Rattle.fw_frontier.specs.Front.{IsCanonical, IsFrontOf};
+ghost use Rattle.fw_frontier.specs.Front.{IsFrontOf};
 ghost use Rattle.fw_flow.specs.declared.choice.Choice as choices;
 ghost use Rattle.fw_flow.specs.Dataflow.{bounds_of, sender, receiver};
 ghost use Rattle.fw_model.specs.Choice.{IsConsistentBy, IsLargestBy, cut_of};

@@ -30,7 +30,7 @@ use Rattle.fw_model.specs.Offers.{AreFrontsOfEdges, AreOnEdges, front_of_edge, s
 use Rattle.fw_model.specs.Writes.{takes_checkpoints}
 use Rattle.fw_model.proofs.AskedLaws.{takes-declared, takes-restoring}
 use Rattle.fw_policy.specs.View.{IsRecorded}
-use Rattle.fw_plain.specs.Offered.{AreStampsIn, stamps_on_inside, IsCoverOn, AreCovers, final_edges, IsRecordBy}
+use Rattle.fw_plain.specs.Offered.{AreStampsIn, IsCoverOn, AreCovers, final_edges, IsRecordBy}
 use Rattle.fw_plain.proofs.StampLists.{delivered-on_edge, sent-on_edge}
 
 -- ---- stamps of their domains
@@ -45,10 +45,26 @@ on_edge-in_domain flow d test ms a =
     (each-weaker (λ (m : Counted). in_domain (bounds_of flow (receiver flow m.edge)) m.at ≡ true) (λ (m : Counted). (m.edge == d && test m) ≡ true → D m.at) ms
     (λ m i k. subst (λ e. in_domain (bounds_of flow (receiver flow e)) m.at ≡ true) (eqb-true m.edge d (and_parts (m.edge == d) (test m) k).0) i) a))
 
-pub inside_in_domain : (flow : Dataflow) (d : ℕ) (f : Frontier) (ms : List Counted) (ts : List Stamp) → ts ≡ stamps_on_inside d f ms → AreOnEdges flow ms
+inside-one : (b : Bool) (m : Counted) (rest : List Counted) (us : List Stamp) → map (λ (x : Counted). x.at) rest ≡ us
+    → map (λ (x : Counted). x.at) (cond b (m ∷ rest) rest) ≡ cond b (m.at ∷ us) us
+inside-one true m rest us h = ap (λ (ts : List Stamp). m.at ∷ ts) h
+inside-one false m rest us h = h
+
+inside-first : (b : Bool) (f : Frontier) (m : Counted) (rest more : List Counted) → map (λ (x : Counted). x.at) rest ≡ filter f (map (λ (x : Counted). x.at) more)
+    → map (λ (x : Counted). x.at) (cond (b && f m.at) (m ∷ rest) rest) ≡ filter f (map (λ (x : Counted). x.at) (cond b (m ∷ more) more))
+inside-first true f m rest more h = inside-one (f m.at) m rest (filter f (map (λ (x : Counted). x.at) more)) h
+inside-first false f m rest more h = h
+
+-- the stamps inside are those of the edge, inside
+inside-split : (d : ℕ) (f : Frontier) (ms : List Counted) → map (λ (m : Counted). m.at) (filter (λ (m : Counted). m.edge == d && f m.at) ms) ≡ filter f (stamps_on d ms)
+inside-split d f [] = refl
+inside-split d f (m ∷ ms) =
+    inside-first (m.edge == d) f m (filter (λ (x : Counted). x.edge == d && f x.at) ms) (filter (λ (x : Counted). x.edge == d) ms) (inside-split d f ms)
+
+pub inside_in_domain : (flow : Dataflow) (d : ℕ) (f : Frontier) (ms : List Counted) (ts : List Stamp) → ts ≡ filter f (stamps_on d ms) → AreOnEdges flow ms
     → AllByRecursion (λ t. in_domain (bounds_of flow (receiver flow d)) t ≡ true) ts
 inside_in_domain flow d f ms ts e a =
-    subst (λ (us : List Stamp). AllByRecursion (λ t. in_domain (bounds_of flow (receiver flow d)) t ≡ true) us) (sym e) (on_edge-in_domain flow d (λ m. f m.at) ms a)
+    subst (λ (us : List Stamp). AllByRecursion (λ t. in_domain (bounds_of flow (receiver flow d)) t ≡ true) us) (inside-split d f ms ∙ sym e) (on_edge-in_domain flow d (λ m. f m.at) ms a)
 
 pub from_in_domain : (flow : Dataflow) (e : ℕ) (f : Frontier) (ms : List Counted) (ts : List Stamp) → ts ≡ stamps_on_from e f ms → AreOnEdges flow ms
     → AllByRecursion (λ t. in_domain (bounds_of flow (receiver flow e)) t ≡ true) ts
@@ -153,7 +169,7 @@ out_edges-among flow e l = from-among flow.edges 0 e e _ _ (omega arith) l refl
 -- a record by its parts
 pub record_by : (flow : Dataflow) (p : ℕ) (stamps : Stamps) (f front notified : Front) (delivered discarded xs ys : List OfEdge) (ds ss : List Counted) (ts : List Stamp)
     → front ≡ f → ds ≡ stamps.delivered → ts ≡ stamps.notified → ss ≡ stamps.sent → delivered ≡ xs → discarded ≡ ys
-    → AreCovers flow (λ d. stamps_on_inside d (node_frontier flow p f) ds) (in_edges flow p) xs
+    → AreCovers flow (λ d. filter (node_frontier flow p f) (stamps_on d ds)) (in_edges flow p) xs
     → IsFrontOf (bounds_of flow p) notified (cover (bounds_of flow p) (filter (node_frontier flow p f) ts))
     → AreCovers flow (λ e. stamps_on_from e (node_frontier flow p f) ss) (final_edges flow p) ys
     → IsRecordBy flow p stamps f (record { front = front; notified = notified; delivered = delivered; discarded = discarded })
@@ -161,30 +177,14 @@ record_by flow p stamps f front notified delivered discarded xs ys ds ss ts e d 
     let g = node_frontier flow p f in
     record {
       front = e;
-      delivered = subst (λ (zs : List OfEdge). AreCovers flow (λ q. stamps_on_inside q g stamps.delivered) (in_edges flow p) zs) (sym x)
-          (subst (λ (ms : List Counted). AreCovers flow (λ q. stamps_on_inside q g ms) (in_edges flow p) xs) d a);
+      delivered = subst (λ (zs : List OfEdge). AreCovers flow (λ q. filter g (stamps_on q stamps.delivered)) (in_edges flow p) zs) (sym x)
+          (subst (λ (ms : List Counted). AreCovers flow (λ q. filter g (stamps_on q ms)) (in_edges flow p) xs) d a);
       notified = subst (λ (us : List Stamp). IsFrontOf (bounds_of flow p) notified (cover (bounds_of flow p) (filter g us))) n b;
       discarded = subst (λ (zs : List OfEdge). AreCovers flow (λ q. stamps_on_from q g stamps.sent) (final_edges flow p) zs) (sym y)
           (subst (λ (ms : List Counted). AreCovers flow (λ q. stamps_on_from q g ms) (final_edges flow p) ys) s c);
     }
 
 -- ---- what is recorded is what the machine counts
-
-inside-one : (b : Bool) (m : Counted) (rest : List Counted) (us : List Stamp) → map (λ (x : Counted). x.at) rest ≡ us
-    → map (λ (x : Counted). x.at) (cond b (m ∷ rest) rest) ≡ cond b (m.at ∷ us) us
-inside-one true m rest us h = ap (λ (ts : List Stamp). m.at ∷ ts) h
-inside-one false m rest us h = h
-
-inside-first : (b : Bool) (f : Frontier) (m : Counted) (rest more : List Counted) → map (λ (x : Counted). x.at) rest ≡ filter f (map (λ (x : Counted). x.at) more)
-    → map (λ (x : Counted). x.at) (cond (b && f m.at) (m ∷ rest) rest) ≡ filter f (map (λ (x : Counted). x.at) (cond b (m ∷ more) more))
-inside-first true f m rest more h = inside-one (f m.at) m rest (filter f (map (λ (x : Counted). x.at) more)) h
-inside-first false f m rest more h = h
-
--- the stamps inside are those of the edge, inside
-inside-split : (d : ℕ) (f : Frontier) (ms : List Counted) → stamps_on_inside d f ms ≡ filter f (stamps_on d ms)
-inside-split d f [] = refl
-inside-split d f (m ∷ ms) =
-    inside-first (m.edge == d) f m (filter (λ (x : Counted). x.edge == d && f x.at) ms) (filter (λ (x : Counted). x.edge == d) ms) (inside-split d f ms)
 
 delivered-counts : (sys : System) (state : Machine) (d : ℕ) (stamps : Stamps) (f : Front) (r : Recorded) → d < length sys.flow.edges
     → way_of sys.flow (receiver sys.flow d) ≡ Checkpoints → AreStampsIn sys (events state.history) (receiver sys.flow d) stamps
@@ -195,9 +195,9 @@ delivered-counts sys state d stamps f r l way s i =
     let b = bounds_of sys.flow p in
     let g = frontier_of b f in
     let h = events state.history in
-    covers-at sys.flow (λ e. stamps_on_inside e g stamps.delivered) d (in_edges sys.flow p) r.delivered i.delivered (in_edges-among sys.flow d l)
+    covers-at sys.flow (λ e. filter g (stamps_on e stamps.delivered)) d (in_edges sys.flow p) r.delivered i.delivered (in_edges-among sys.flow d l)
     ∙ ap (λ (ts : List Stamp). cover b ts)
-    (inside-split d g stamps.delivered ∙ ap (λ (ms : List Counted). filter g (stamps_on d ms)) s.delivered
+    (ap (λ (ms : List Counted). filter g (stamps_on d ms)) s.delivered
     ∙ ap (λ (ts : List Stamp). filter g ts) (delivered-on_edge sys.flow d h))
     ∙ sym (cond-false (takes_its_cut (way_of sys.flow p)) g ((tallies_in sys state).delivered d (At f)) (ap takes_its_cut way))
 
@@ -253,7 +253,7 @@ record-counts sys state p f stamps r w k c s i =
       of_flow = record {
         front = subst (IsCanonical (bounds_of sys.flow p)) (sym i.front) c;
         notified = i.notified.canonical;
-        delivered = covers-fronts sys.flow (λ d. stamps_on_inside d (node_frontier sys.flow p f) stamps.delivered) (in_edges sys.flow p) r.delivered i.delivered;
+        delivered = covers-fronts sys.flow (λ d. filter (node_frontier sys.flow p f) (stamps_on d stamps.delivered)) (in_edges sys.flow p) r.delivered i.delivered;
         discarded = covers-fronts sys.flow (λ e. stamps_on_from e (node_frontier sys.flow p f) stamps.sent) (final_edges sys.flow p) r.discarded i.discarded;
       };
       delivered = λ d l e.

@@ -24,6 +24,7 @@ use Rattle.fw_flow.specs.WellFormed.{IsWellFormedSystem}
 use Rattle.fw_model.specs.Choice.{cut_of, kept, IsCandidate, IsWatermark}
 use Rattle.fw_model.specs.History.{IsLegal, IsNextBatch, AreAtNodes}
 use Rattle.fw_model.specs.Machine.{Machine, Write, events, first_state, front_of, is_failed, no_stamps}
+use Rattle.fw_model.specs.Reached.{IsReached}
 use Rattle.fw_model.specs.Steps.{Effect, Outcome, did, idle, with_event, write_of_event, LeadsTo, StepsTo, IsNextMessage, IsNextNotice, GrowsTo, CutsTo, IsSettledCut, front_of_cut}
 use Rattle.fw_model.proofs.DomainLaws.{has_epochs}
 use Rattle.fw_model.proofs.GoingOn.{runs-go_on}
@@ -31,7 +32,7 @@ use Rattle.fw_model.proofs.LegalLaws.{legal_events-in_domain}
 use Rattle.fw_model.proofs.RecoveryLaws.{runs-legal}
 use Rattle.fw_plain.specs.declared.course.Course.{Course}
 use Rattle.fw_plain.specs.declared.stepped.Stepped.{Stepped}
-use Rattle.fw_plain.specs.Engine.{IsReached, IsOfEachNode, IsSound, Takes, sys_of, state_of, outcome_of}
+use Rattle.fw_plain.specs.Engine.{IsOfEachNode, IsSound, Takes, sys_of, state_of, outcome_of}
 use Rattle.fw_plain.specs.Past.{Past, with_one_more}
 use Rattle.fw_plain.proofs.FrontsLaws.{names-no_stamps}
 

@@ -106,23 +106,24 @@ lost-stamps sys state p vs t e failed = (
       let here = event_node sys.flow v.event == p in
       let logged = is_logged state.writes v.serial in
       let k = cond-from (here && not logged) (event_stamp v.event) t r.2 in
-      let a = and_parts here (not logged) k.0 in
-      record {
-        failed = failed;
-        event = v;
-        there = subst (λ h. Contains h v) (sym e) (reverse-has vs v r.1);
-        node = eqb-true (event_node sys.flow v.event) p a.0;
-        stamp = k.1;
-        not_logged = λ i. both_ways logged (not-true logged a.1) (some-test v.serial state.writes (some-logged v.serial state.writes i));
-      },
-  λ l.
+      let a = and_parts here (not logged) k.0 in (
+        failed,
+        record {
+          event = v;
+          there = subst (λ h. Contains h v) (sym e) (reverse-has vs v r.1);
+          is = record { same_serial = refl; node = eqb-true (event_node sys.flow v.event) p a.0; stamp = k.1 };
+          not_logged = λ i. both_ways logged (not-true logged a.1) (some-test v.serial state.writes (some-logged v.serial state.writes i));
+        },
+      ),
+  λ lost.
+      let l = lost.1 in
       let v = l.event in
       let here = event_node sys.flow v.event == p in
       let logged = is_logged state.writes v.serial in
       let free : logged ≡ false = false_from_ne_true logged (λ k. l.not_logged (logged-some v.serial state.writes (test-some v.serial state.writes k))) in
-      let there = and_from here (not logged) (eq-eqb (event_node sys.flow v.event) p l.node) (ap not free) in
+      let there = and_from here (not logged) (eq-eqb (event_node sys.flow v.event) p l.is.node) (ap not free) in
       flat-to (unlogged_stamp sys.flow p state.writes) vs v t (reverse-had vs v (subst (λ h. Contains h v) e l.there))
-      (subst (λ (s : Stamp). Contains (unlogged_stamp sys.flow p state.writes v) s) l.stamp (cond-to (here && not logged) (event_stamp v.event) there)),
+      (subst (λ (s : Stamp). Contains (unlogged_stamp sys.flow p state.writes v) s) l.is.stamp (cond-to (here && not logged) (event_stamp v.event) there)),
 )
 
 -- ---- the event of a serial number

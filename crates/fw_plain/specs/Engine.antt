@@ -1,11 +1,12 @@
 -- What the plain engine stands for.
-use Rattle.std.specs.Prelude.{◌≡◌, ℕ, ◌<◌, Bool, List, length}
+use Rattle.std.specs.Prelude.{◌≡◌, ℕ, ◌<◌, Bool, length}
 use Rattle.fw_frontier.specs.Front.{IsCanonical}
 use Rattle.fw_flow.specs.Dataflow.{System, system_of, bounds_of}
 use Rattle.fw_flow.specs.declared.step.Step.{Step}
 use Rattle.fw_flow.specs.WellFormed.{IsWellFormedSystem}
-use Rattle.fw_model.specs.Machine.{Machine, first_state, front_of}
-use Rattle.fw_model.specs.Steps.{Effect, silent, acked, cuts, lows, Outcome, did, idle, StepsTo, Run}
+use Rattle.fw_model.specs.Machine.{Machine, front_of}
+use Rattle.fw_model.specs.Reached.{IsReached}
+use Rattle.fw_model.specs.Steps.{Effect, silent, acked, cuts, lows, Outcome, did, idle, StepsTo}
 use Rattle.fw_plain.specs.declared.course.Course.{Course}
 use Rattle.fw_plain.specs.declared.stepped.Effect.{Effect as Shown}
 use Rattle.fw_plain.specs.declared.stepped.Effect.TheVariants.{Silent, Acked, Cuts, Lows}
@@ -33,10 +34,6 @@ state_of course = record {
   ack_counts = course.ack_counts.items;
   low = course.low.items;
 }
-
--- steps lead to the state from the first one
-abbrev pub IsReached : System → Machine → Type 0
-IsReached sys state = (steps : List Step) × (outcomes : List Outcome) × Run sys (first_state sys) steps outcomes state
 
 -- the state says of each node what is settled, whether it is failed, how many stamps it acknowledged, and its low watermark
 pub record IsOfEachNode (sys : System) (state : Machine) : Type 0 where

@@ -3,7 +3,7 @@
 use Rattle.std.specs.Prelude.{◌≡◌, ℕ, suc, Bool, true, false, not, ◌&&◌, ◌==◌, if◌then◌else◌, List, [], ◌∷◌, map, filter, Option, Some, None}
 use Rattle.std.specs.List.{flat_map, list_any}
 use Rattle.fw_time.specs.Stamp.{Stamp}
-use Rattle.fw_frontier.specs.Frontier.{Frontier, cover}
+use Rattle.fw_frontier.specs.Frontier.{cover}
 use Rattle.fw_frontier.specs.Front.{Front, IsCanonical, IsFrontOf}
 use Rattle.fw_flow.specs.declared.choice.Counted.{Counted}
 use Rattle.fw_flow.specs.declared.choice.OfEdge.{OfEdge}
@@ -20,7 +20,7 @@ use Rattle.fw_model.specs.Choice.{ever, is_counted}
 use Rattle.fw_model.specs.Covers.{stamp_of_notice}
 use Rattle.fw_model.specs.LawsOfWrites.{HasEventOf}
 use Rattle.fw_model.specs.Machine.{Machine, SerialEvent, Write, Written, checkpoint, logged_event, is_failed}
-use Rattle.fw_model.specs.Offers.{stamps_on_from}
+use Rattle.fw_model.specs.Offers.{stamps_on, stamps_on_from}
 use Rattle.fw_model.specs.Writes.{takes_checkpoints}
 use Rattle.fw_policy.specs.declared.view.NodeView.{NodeView}
 use Rattle.fw_plain.specs.declared.offers.Lost.{Lost}
@@ -68,10 +68,6 @@ HaveStampsFrom sys h p (node ∷ view) = AreStampsIn sys h p node.stamps × Have
 
 -- ---- what a checkpoint holds
 
--- the stamps inside of the messages on edge d
-abbrev pub stamps_on_inside : ℕ → Frontier → List Counted → List Stamp
-stamps_on_inside d f ms = map (λ m. m.at) (filter (λ m. m.edge == d && f m.at) ms)
-
 -- what is listed is edge e, with the cover of the stamps
 pub record IsCoverOn (flow : Dataflow) (e : ℕ) (ts : List Stamp) (x : OfEdge) : Type 0 where
   pub edge : x.edge ≡ e
@@ -92,7 +88,7 @@ final_edges flow p = if can_resend (policy_of flow p) then [] else out_edges flo
 -- the node was notified of, and, on each out-edge where it can't send again, of what it sent by causes inside.
 pub record IsRecordBy (flow : Dataflow) (p : ℕ) (stamps : Stamps) (f : Front) (r : Recorded) : Type 0 where
   pub front : r.front ≡ f
-  pub delivered : AreCovers flow (λ d. stamps_on_inside d (node_frontier flow p f) stamps.delivered) (in_edges flow p) r.delivered
+  pub delivered : AreCovers flow (λ d. filter (node_frontier flow p f) (stamps_on d stamps.delivered)) (in_edges flow p) r.delivered
   pub notified : IsFrontOf (bounds_of flow p) r.notified (cover (bounds_of flow p) (filter (node_frontier flow p f) stamps.notified))
   pub discarded : AreCovers flow (λ e. stamps_on_from e (node_frontier flow p f) stamps.sent) (final_edges flow p) r.discarded
 

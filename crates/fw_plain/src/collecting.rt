@@ -1,5 +1,5 @@
 //! Which writes lie below the low watermark, so that they are not needed again.
-ghost use Rattle.std.specs.Prelude.{◌≡◌, ◌==◌, ◌&&◌, true, not, slice_index_or, length};
+ghost use Rattle.std.specs.Prelude.{◌≡◌, ◌==◌, ◌&&◌, true, not, length};
 ghost use Rattle.fw_time.specs.Stamp.{in_domain};
 ghost use Rattle.fw_frontier.specs.Front.{is_within};
 ghost use Rattle.fw_flow.specs.Dataflow as flows;

@@ -1,8 +1,8 @@
 //! The writes that were not collected, as entries.
-ghost use Rattle.std.specs.Prelude.{◌≡◌, ◌<◌, filter, length, IfOk};
+ghost use Rattle.std.specs.Prelude.{◌≡◌, filter, length, IfOk};
+ghost use Rattle.fw_model.specs.Choice.{kept, is_counted};
 ghost use Rattle.fw_model.specs.Machine.{events};
 ghost use Rattle.fw_model.specs.Writes as writes;
-ghost use Rattle.fw_policy.specs.View as views;
 ghost use Rattle.fw_policy.specs.View.{AreEntriesOf, Holds, IsEntryOf};
 ghost use Rattle.fw_plain.specs.Engine.{IsSound, sys_of, state_of};
 ghost use Rattle.fw_plain.specs.Offered.{HaveStampsFrom, IsOfItsNode};
@@ -13,7 +13,7 @@ use crate::logged::stamp_of_serial;
 use crate::recorded::recorded;
 use crate::writes::{Stage, Write, Written as Asked};
 use fw_policy::{Entry, NodeView, Written};
-use std::alloc::{AllocError, Global};
+use std::alloc::AllocError;
 
 /// An entry for each write that was not collected, in order of asking, where these are the views of the nodes. The error is want
 /// of memory.
@@ -63,7 +63,7 @@ fn entry(course: &Course, view: &[NodeView], id: u64, write: &Write) -> Result<E
 
 /// Whether a write that is so far is acknowledged, and not collected.
 fn is_acknowledged(stage: Stage) -> bool
-    ensures { result ≡ views.is_acknowledged (stage_of stage) }
+    ensures { result ≡ is_counted kept (stage_of stage) }
 {
     match stage {
         Stage::Acknowledged => true,

@@ -1,5 +1,5 @@
 //! What an engine shows between its steps.
-ghost use Rattle.std.specs.Prelude.{◌≡◌, IfOk, slice_get};
+ghost use Rattle.std.specs.Prelude.{◌≡◌, ◌≤◌, false, length, nat_lt, is_some, IfOk, slice_get};
 ghost use Rattle.std.specs.Option.{option_copied};
 ghost use Rattle.fw_model.specs.History.{pending_messages};
 ghost use Rattle.fw_model.specs.Machine as machine;
@@ -15,19 +15,21 @@ use std::alloc::AllocError;
 impl Engine {
     /// What is settled at a node; none past the last node.
     pub fn settled(&self, node: NodeId) -> Option<&Front>
-        ensures { option_copied result ≡ slice_get self.now.state.settled node }
+        ensures front { option_copied result ≡ slice_get self.now.state.settled node }
+        ensures declared { is_some result ≡ nat_lt node (length self.now.sys.flow.nodes) }
     {
         self.course.settled.get(node.place() as usize)
     }
 
     /// Whether a node is failed. Past the last node none is.
     pub fn is_failed(&self, node: NodeId) -> bool
-        ensures { result ≡ machine.is_failed self.now.state node }
+        ensures failed { result ≡ machine.is_failed self.now.state node }
+        ensures past { length self.now.sys.flow.nodes ≤ node → result ≡ false }
     {
         is_failed(&self.course.failed, node)
     }
 
-    /// How many stamps an output acknowledged; 0 of any other node.
+    /// How many stamps an output acknowledged.
     pub fn acknowledged(&self, output: NodeId) -> u64
         ensures { result ≡ ack_count_of self.now.state output }
     {
@@ -37,7 +39,8 @@ impl Engine {
 
     /// The low watermark of a node: what lies in it is not needed any more; none past the last node.
     pub fn low_watermark(&self, node: NodeId) -> Option<&Front>
-        ensures { option_copied result ≡ slice_get self.now.state.low node }
+        ensures front { option_copied result ≡ slice_get self.now.state.low node }
+        ensures declared { is_some result ≡ nat_lt node (length self.now.sys.flow.nodes) }
     {
         self.course.low.get(node.place() as usize)
     }

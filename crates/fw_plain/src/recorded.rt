@@ -89,7 +89,7 @@ fn delivered(
 ) -> Result<Vec<OfEdge>, AllocError>
     requires { AreOnEdges flow.now messages.now }
     ensures { IfOk result (λ xs. AreCovers flow.now
-        (λ d. spec.stamps_on_inside d (node_frontier flow.now node front.now) messages.now)
+        (λ d. filter (node_frontier flow.now node front.now) (offers.stamps_on d messages.now))
         (in_edges flow.now node) xs.items) }
 {
     let bounds = flow.domain(node);
@@ -110,12 +110,13 @@ fn stamps_on_inside(
     front: &Front,
 ) -> Result<Vec<Stamp>, AllocError>
     ensures { IfOk result
-        (λ ts. ts.items ≡ spec.stamps_on_inside edge (frontier_of bounds.now front.now) messages.now) }
+        (λ ts. ts.items ≡ filter (frontier_of bounds.now front.now) (offers.stamps_on edge messages.now)) }
 {
     messages
         .iter()
-        .filter(|m| m.edge == edge && is_inside(bounds, front, &m.at))
+        .filter(|m| m.edge == edge)
         .map(|m| m.at.copy())
+        .filter(|t| is_inside(bounds, front, t))
         .collect(alloc)
 }
 

@@ -1,5 +1,5 @@
 //! The steps of what is settled and written: progress, checkpoints and acknowledged writes.
-ghost use Rattle.std.specs.Prelude.{◌≡◌, ◌<◌, ◌↔◌, length, IfOk, OnErr, IsTrue};
+ghost use Rattle.std.specs.Prelude.{◌≡◌, ◌↔◌, IfOk, OnErr, IsTrue};
 ghost use Rattle.fw_flow.specs.declared.step.Step.TheVariants.{Progress, Checkpoint, Persist};
 ghost use Rattle.fw_plain.specs.Engine.{IsSound, Takes, sys_of, state_of};
 ghost use Rattle.fw_plain.specs.Writes.{MayAskCheckpoint};

@@ -90,7 +90,7 @@ are-known sys state lost view entries v =
           } in
           each-of (λ t. in_domain (bounds_of sys.flow p) t ≡ true) (unlogged_stamps p entries node.lost) (λ t j.
           let u = unlogged-is sys state p entries node.lost o t j in
-          subst (λ s. in_domain (bounds_of sys.flow p) s ≡ true) u.stamp (subst (λ q. in_domain (bounds_of sys.flow q) (event_stamp u.event.event) ≡ true) u.node
+          subst (λ s. in_domain (bounds_of sys.flow p) s ≡ true) u.is.stamp (subst (λ q. in_domain (bounds_of sys.flow q) (event_stamp u.event.event) ≡ true) u.is.node
           (each-contained (λ (x : SerialEvent). in_domain (bounds_of sys.flow (event_node sys.flow x.event)) (event_stamp x.event) ≡ true) u.event state.history u.there inside)));
     })
 

@@ -18,7 +18,7 @@ use Rattle.fw_model.specs.Offers.{IsListed, Ascend}
 use Rattle.fw_policy.specs.declared.view.Entry.{Entry}
 use Rattle.fw_policy.specs.declared.view.Written.{Written}
 use Rattle.fw_policy.specs.declared.view.Written.TheVariants.{Checkpoint, Event as LoggedEvent}
-use Rattle.fw_policy.specs.View.{IsRecorded, Holds, is_acknowledged, IsEntryOf, AreEntriesOf}
+use Rattle.fw_policy.specs.View.{IsRecorded, Holds, IsEntryOf, AreEntriesOf}
 use Rattle.fw_policy.specs.Offering.{record_in, record_by, records_by, holding}
 use Rattle.fw_policy.proofs.UnloggedLaws.{some-filtered}
 
@@ -70,11 +70,6 @@ listed-either f [] ss i = inr i
 listed-either f (r ∷ rs) ss (inl e) = inl (inl e)
 listed-either f (r ∷ rs) ss (inr i) = elim (listed-either f rs ss i) [ inl k ↦ inl (inr k) | inr k ↦ inr k ]
 
-kept-acknowledged : (far : Stage) → is_counted kept far ≡ is_acknowledged far
-kept-acknowledged in_flight = refl
-kept-acknowledged acknowledged = refl
-kept-acknowledged collected = refl
-
 record-checkpoint : (sys : System) (state : Machine) (q p : ℕ) (f : Front) (w : Written) (v : WrittenBy) (far : Stage) → Holds sys state q w v → q ≡ p → is_counted kept far ≡ true
     → IsListed f (record_in w) → IsCheckpointAt kept p f q v far
 record-checkpoint sys state q p f (Checkpoint r) (checkpoint g low) far h e k i = elim i [ inl d ↦ (e, sym h.front ∙ d, k) | inr l ↦ absurd l ]
@@ -82,8 +77,8 @@ record-checkpoint sys state q p f (Checkpoint r) (logged_event s) far h e k i = 
 record-checkpoint sys state q p f (LoggedEvent t) v far h e k i = absurd i
 
 checkpoint-record : (sys : System) (state : Machine) (q p : ℕ) (f : Front) (w : Written) (v : WrittenBy) (far : Stage) → Holds sys state q w v
-    → IsCheckpointAt kept p f q v far → (q ≡ p) × (is_acknowledged far ≡ true) × IsListed f (record_in w)
-checkpoint-record sys state q p f (Checkpoint r) (checkpoint g low) far h k = (k.0, sym (kept-acknowledged far) ∙ k.2, inl (h.front ∙ k.1))
+    → IsCheckpointAt kept p f q v far → (q ≡ p) × (is_counted kept far ≡ true) × IsListed f (record_in w)
+checkpoint-record sys state q p f (Checkpoint r) (checkpoint g low) far h k = (k.0, k.2, inl (h.front ∙ k.1))
 checkpoint-record sys state q p f (Checkpoint r) (logged_event s) far h k = absurd h
 checkpoint-record sys state q p f (LoggedEvent t) (checkpoint g low) far h k = absurd h
 checkpoint-record sys state q p f (LoggedEvent t) (logged_event s) far h k = absurd k
@@ -95,7 +90,7 @@ entry-checkpoint sys state p f entry write k =
     (λ e i.
     let a = and_parts (entry.node == p) entry.acknowledged e in
     record-checkpoint sys state write.node p f entry.written write.written write.stage k.holds (sym k.node ∙ eqb-true entry.node p a.0)
-    (kept-acknowledged write.stage ∙ sym k.acknowledged ∙ a.1) i)
+    (sym k.acknowledged ∙ a.1) i)
     (λ e i. absurd i)
 
 checkpoint-entry : (sys : System) (state : Machine) (p : ℕ) (f : Front) (entry : Entry) (write : Write) → IsEntryOf sys state entry write

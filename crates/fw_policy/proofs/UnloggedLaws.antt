@@ -8,7 +8,7 @@ use Rattle.fw_time.proofs.EachLaws.{each-weaker, each-both}
 use Rattle.fw_frontier.specs.Frontier.{Frontier}
 use Rattle.fw_flow.specs.Dataflow.{System}
 use Rattle.fw_flow.specs.NodeFunction.{event_node, event_stamp}
-use Rattle.fw_model.specs.Choice.{ever, is_counted, IsLogged, AllLogged}
+use Rattle.fw_model.specs.Choice.{ever, kept, is_counted, IsLogged, AllLogged}
 use Rattle.fw_model.specs.Writes.{HasOne, LogsSerial, not_collected}
 use Rattle.fw_model.specs.Machine.{Machine, SerialEvent, Write, Stage, in_flight, acknowledged, collected, checkpoint, logged_event, is_failed, Written as WrittenBy}
 use Rattle.fw_model.proofs.AskedLaws.{IsApart, AreSerialsBelow, serials-each}
@@ -19,7 +19,7 @@ use Rattle.fw_model.specs.LawsOfWrites.{IsLoggedFor}
 use Rattle.fw_policy.specs.declared.view.Entry.{Entry}
 use Rattle.fw_policy.specs.declared.view.Written.{Written}
 use Rattle.fw_policy.specs.declared.view.Written.TheVariants.{Checkpoint, Event as LoggedEvent}
-use Rattle.fw_policy.specs.View.{Holds, IsEventAt, HasEventAt, is_acknowledged, IsEntryOf, AreEntriesOf, IsLostAt}
+use Rattle.fw_policy.specs.View.{Holds, IsEventAt, HasEventAt, IsEntryOf, AreEntriesOf, IsUnlogged, IsLostAt}
 use Rattle.fw_policy.specs.Offering.{stamp_in, unlogged_by, unlogged_stamps}
 use Rattle.fw_policy.proofs.SentLaws.{IsOne, one-contained, contained-one}
 use Rattle.fw_model.proofs.ThinnedLaws.{each-contained}
@@ -100,7 +100,7 @@ record FliesAt (sys : System) (state : Machine) (p : ℕ) (t : Stamp) (x : Write
   flying : IsFlying serial x
   event : HasEventAt sys.flow p serial t state.history
 
-is-flying : (far : Stage) (b : Bool) → b ≡ is_acknowledged far → not b ≡ true → (far ≡ collected → ⊥) → far ≡ in_flight
+is-flying : (far : Stage) (b : Bool) → b ≡ is_counted kept far → not b ≡ true → (far ≡ collected → ⊥) → far ≡ in_flight
 is-flying in_flight b e k n = refl
 is-flying acknowledged b e k n = let c : false ≡ true = sym (ap not e) ∙ k in cc
 is-flying collected b e k n = absurd (n refl)
@@ -163,7 +163,7 @@ entries-entered sys state p serial (entry ∷ entries) [] a k = absurd a
 entries-entered sys state p serial (entry ∷ entries) (write ∷ writes) a (inl k) =
     let b = a.0 in
     let e : (entry.node == p && not entry.acknowledged) ≡ true =
-    and_from (entry.node == p) (not entry.acknowledged) (eq-eqb entry.node p (b.node ∙ k.0)) (ap not (b.acknowledged ∙ ap is_acknowledged (k.1).1)) in
+    and_from (entry.node == p) (not entry.acknowledged) (eq-eqb entry.node p (b.node ∙ k.0)) (ap not (b.acknowledged ∙ ap (is_counted kept) (k.1).1)) in
     let h = held-entered sys state write.node p serial entry.written write.written b.holds k.0 (k.1).0 in
     record {
       at = h.at;
@@ -237,14 +237,6 @@ some-filtered P test (x ∷ xs) k =
     (λ e i. elim i [ inl a ↦ inl a | inr r ↦ inr (some-filtered P test xs r) ])
     (λ e i. inr (some-filtered P test xs i))) k
 
--- an event of node p at t that is not logged
-pub record IsUnlogged (sys : System) (state : Machine) (p : ℕ) (t : Stamp) : Type 0 where
-  pub event : SerialEvent
-  pub there : Contains state.history event
-  pub node : event_node sys.flow event.event ≡ p
-  pub stamp : event_stamp event.event ≡ t
-  pub not_logged : IsLogged event.serial state.writes → ⊥
-
 -- the serial of a write in flight
 record HasFlying (sys : System) (state : Machine) (p : ℕ) (t : Stamp) (xs : List Write) : Type 0 where
   serial : ℕ
@@ -267,13 +259,11 @@ unlogged-is sys state p entries lost o t i = elim (one-either t (flat_map (unlog
       record {
         event = r.event;
         there = r.there;
-        node = r.is.node;
-        stamp = r.is.stamp;
+        is = record { same_serial = refl; node = r.is.node; stamp = r.is.stamp };
         not_logged = λ l. flying-alone f.serial state.writes o.apart f.flying (some-logged f.serial state.writes (subst (λ n. IsLogged n state.writes) r.is.same_serial l));
       }
   | inr k ↦
-      let l = (o.lost t).0 (one-contained t lost k) in
-      record { event = l.event; there = l.there; node = l.node; stamp = l.stamp; not_logged = l.not_logged }
+      ((o.lost t).0 (one-contained t lost k)).1
 ]
 
 some-here : {A : Type 0} (P : A → Type 0) (xs : List A) (x : A) (ys : List A) → P x → HoldsOfOne P (xs ++ x ∷ ys)
@@ -313,7 +303,7 @@ unlogged-has sys state p entries lost o = elim (cases_Bool (is_failed state p)) 
       (λ v c e. elim (logged-or_not v.serial state.writes) [
         | inl l ↦ inl l
         | inr n ↦ inr (one-last (event_stamp v.event) (flat_map (unlogged_by p) entries) lost
-            (contained-one (event_stamp v.event) lost ((o.lost (event_stamp v.event)).1 (record { failed = f; event = v; there = c; node = e; stamp = refl; not_logged = n }))))
+            (contained-one (event_stamp v.event) lost ((o.lost (event_stamp v.event)).1 (f, record { event = v; there = c; is = record { same_serial = refl; node = e; stamp = refl }; not_logged = n }))))
       ])
       (each-there state.history)
   | inr f ↦
@@ -358,7 +348,7 @@ logged-outside sys state p entries lost o f = (
       let u = unlogged-is sys state p entries lost o t i in
       let c = u.there in
       outside-one (f t) (λ k. u.not_logged (each-contained (λ (v : SerialEvent). event_node sys.flow v.event ≡ p → f (event_stamp v.event) ≡ true → IsLogged v.serial state.writes) u.event state.history c
-      (all-logged sys p f state.writes state.history a) u.node (ap f u.stamp ∙ k)))),
+      (all-logged sys p f state.writes state.history a) u.is.node (ap f u.is.stamp ∙ k)))),
   λ a. from-each sys p f state.writes state.history
       (each-weaker (λ (v : SerialEvent). event_node sys.flow v.event ≡ p → IsLogged v.serial state.writes ⊎ IsOne (event_stamp v.event) (unlogged_stamps p entries lost))
       (λ v. event_node sys.flow v.event ≡ p → f (event_stamp v.event) ≡ true → IsLogged v.serial state.writes) state.history

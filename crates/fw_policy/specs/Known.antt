@@ -1,4 +1,4 @@
--- What the code asks of what is known of a node: shapes, which hold wherever it is known of a state.
+-- What the code asks of what is known of a node; it holds wherever what is known is so in a state.
 use Rattle.std.specs.Prelude.{◌≡◌, ℕ, suc, ◌≤◌, true, List, [], ◌∷◌}
 use Rattle.std.specs.List.{AllByRecursion}
 use Rattle.fw_time.specs.Stamp.{in_domain}
@@ -13,7 +13,8 @@ use Rattle.fw_policy.specs.declared.view.Border.TheVariants.{Source, Output}
 use Rattle.fw_policy.specs.declared.view.Entry.{Entry}
 use Rattle.fw_policy.specs.declared.view.NodeView.{NodeView}
 
--- the border is that of a node that is restored in this way
+-- The border fits the way: an input's tells how many batches were injected, which are not too many, and an output's how many
+-- stamps were acknowledged. Of a node that is restored in another way any border fits, since it plays no part.
 abbrev pub FitsWay : Restoring → Border → Type 0
 FitsWay Batches (Source injected exhausted) = injected ≤ greatest_number
 FitsWay Batches border = ⊥
@@ -21,7 +22,8 @@ FitsWay Bound (Output bound) = Unit {0}
 FitsWay Bound border = ⊥
 FitsWay way border = Unit {0}
 
--- What is known of node p has frontiers and stamps of its domain, and the border of its kind.
+-- Of what is known of node p: what is settled is a frontier of its domain, its border fits the way in which it is restored, and
+-- where that is by its events, the stamps of those that are not logged are of its domain.
 pub record IsKnown (flow : Dataflow) (entries : List Entry) (p : ℕ) (node : NodeView) : Type 0 where
   pub settled : IsCanonical (bounds_of flow p) node.settled
   pub border : FitsWay (way_of flow p) node.border

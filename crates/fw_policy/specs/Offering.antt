@@ -77,12 +77,12 @@ bare_record f = record { front = f; notified = []; delivered = []; discarded = [
 abbrev pub batch_records : Front → ℕ → Bool → List Recorded
 batch_records low injected exhausted = map bare_record (filter (λ f. is_within low f) (batch_fronts injected exhausted))
 
--- what an input offers: what it injected
+-- what an input offers: what it injected; where the view does not tell that, no offer is one of it
 abbrev pub IsOfBatches : Front → Border → Offered → Type 0
 IsOfBatches low (Source injected exhausted) offered = offered ≡ Listed (batch_records low injected exhausted)
 IsOfBatches low border offered = ⊥
 
--- what an output offers: what is settled and acknowledged
+-- what an output offers: what is settled and acknowledged; where the view does not tell that, no offer is one of it
 abbrev pub IsOfBound : Bounds → Front → Front → Border → Offered → Type 0
 IsOfBound bounds low settled (Output bound) offered =
     IsRange bounds low (meet (frontier_of bounds settled) (frontier_of bounds (until bound))) offered

@@ -14,18 +14,17 @@ use Rattle.fw_flow.specs.declared.event.Message.{Message}
 use Rattle.fw_flow.specs.declared.kind.Kind.{Kind}
 use Rattle.fw_flow.specs.declared.kind.Kind.TheVariants.{Input, OutputEpoch, OutputNumber}
 use Rattle.fw_flow.specs.declared.kind.Policy.TheVariants as policy
-use Rattle.fw_flow.specs.declared.step.Step.{Step}
 use Rattle.fw_flow.specs.Dataflow.{System, Dataflow, kind_of, policy_of, sender, receiver, bounds_of, node_frontier, send_stamp, is_sequence_kind}
 use Rattle.fw_flow.specs.NodeFunction.{event_node, event_stamp}
 use Rattle.fw_flow.specs.Projection.{IsSentTable}
 use Rattle.fw_flow.specs.WellFormed.{IsWellFormedSystem}
-use Rattle.fw_model.specs.Choice.{IsLogged}
+use Rattle.fw_model.specs.Choice.{kept, is_counted, IsLogged}
 use Rattle.fw_model.specs.Covers.{covers_in, stamp_of_notice}
 use Rattle.fw_model.specs.History.{delivered_messages, sent_messages, injected_count, is_exhausted}
-use Rattle.fw_model.specs.Machine.{Machine, SerialEvent, Write, Stage, acknowledged, checkpoint, logged_event, events, first_state, front_of, is_failed, ack_count_of}
+use Rattle.fw_model.specs.Machine.{Machine, SerialEvent, Write, checkpoint, logged_event, events, front_of, is_failed, ack_count_of}
 use Rattle.fw_model.specs.Machine.{Written as WrittenBy}
 use Rattle.fw_model.specs.Offers.{AreOnEdges, IsRecordOf, front_of_edge, stamps_on, stamps_on_from}
-use Rattle.fw_model.specs.Steps.{Outcome, Run}
+use Rattle.fw_model.specs.Reached.{IsReached}
 use Rattle.fw_model.specs.Writes.{takes_checkpoints, not_collected}
 use Rattle.fw_policy.specs.declared.view.Border.{Border}
 use Rattle.fw_policy.specs.declared.view.Border.TheVariants.{Inner, Source, Output}
@@ -109,15 +108,10 @@ Holds sys state p (Checkpoint r) (logged_event serial) = ⊥
 Holds sys state p (LoggedEvent t) (checkpoint f low) = ⊥
 Holds sys state p (LoggedEvent t) (logged_event serial) = HasEventAt sys.flow p serial t state.history
 
--- whether a write is acknowledged, and not collected
-abbrev pub is_acknowledged : Stage → Bool
-is_acknowledged acknowledged = true
-is_acknowledged other = false
-
--- an entry stands for a write
+-- an entry stands for a write: it is acknowledged exactly where the write counts among those that are kept
 pub record IsEntryOf (sys : System) (state : Machine) (entry : Entry) (write : Write) : Type 0 where
   pub node : entry.node ≡ write.node
-  pub acknowledged : entry.acknowledged ≡ is_acknowledged write.stage
+  pub acknowledged : entry.acknowledged ≡ is_counted kept write.stage
   pub holds : Holds sys state write.node entry.written write.written
 
 -- one entry stands for each write, in order
@@ -127,14 +121,16 @@ AreEntriesOf sys state [] (write ∷ writes) = ⊥
 AreEntriesOf sys state (entry ∷ entries) [] = ⊥
 AreEntriesOf sys state (entry ∷ entries) (write ∷ writes) = IsEntryOf sys state entry write × AreEntriesOf sys state entries writes
 
--- node p failed, and an event of it at t was not logged
-pub record IsLostAt (sys : System) (state : Machine) (p : ℕ) (t : Stamp) : Type 0 where
-  pub failed : is_failed state p ≡ true
+-- an event of node p at t was not logged
+pub record IsUnlogged (sys : System) (state : Machine) (p : ℕ) (t : Stamp) : Type 0 where
   pub event : SerialEvent
   pub there : Contains state.history event
-  pub node : event_node sys.flow event.event ≡ p
-  pub stamp : event_stamp event.event ≡ t
+  pub is : IsEventAt sys.flow p event.serial t event
   pub not_logged : IsLogged event.serial state.writes → ⊥
+
+-- node p failed, and an event of it at t was not logged
+abbrev pub IsLostAt : System → Machine → ℕ → Stamp → Type 0
+IsLostAt sys state p t = (is_failed state p ≡ true) × IsUnlogged sys state p t
 
 -- where a node of the kind meets what is outside
 abbrev pub IsBorderOf : System → Machine → ℕ → Kind → Border → Type 0
@@ -166,7 +162,7 @@ AreNodeViewsFrom sys state lost p (node ∷ view) = IsNodeViewOf sys state lost 
 -- what its view says, and an entry for each write that was not collected, in order of asking.
 pub record IsViewOf (sys : System) (state : Machine) (lost : ℕ → Bool) (view : List NodeView) (entries : List Entry) : Type 0 where
   pub well_formed : IsWellFormedSystem sys
-  pub reached : (steps : List Step) × (outcomes : List Outcome) × Run sys (first_state sys) steps outcomes state
+  pub reached : IsReached sys state
   pub one_each : length view ≡ length sys.flow.nodes
   pub nodes : AreNodeViewsFrom sys state lost 0 view
   pub written : AreEntriesOf sys state entries (filter not_collected state.writes)

@@ -55,7 +55,8 @@ fn range(low: &Front, greatest: Front) -> Result<Offered, AllocError>
     })
 }
 
-/// What an output offers.
+/// What an output offers: what is settled and acknowledged. Of a view that does not tell how much is acknowledged, which no
+/// state has, all that is settled.
 fn of_bound(
     alloc: Global,
     low: &Front,
@@ -74,7 +75,7 @@ fn of_bound(
     }
 }
 
-/// What is settled and acknowledged of an output.
+/// What is settled and acknowledged of an output. A bound past the greatest number leaves what is settled.
 fn acknowledged(alloc: Global, settled: &Front, bound: u64) -> Result<Front, AllocError>
     ensures { (domain : Domain) → domain.greatest ≡ greatest_number ∷ [] → IsCanonical domain settled.now
         → IfOk result (λ f. IsFrontOf domain f
@@ -93,7 +94,7 @@ fn until(alloc: Global, epoch: u32) -> Result<Front, AllocError>
     Front::until(alloc, &[Stamp::new(&[epoch])])
 }
 
-/// What an input offers.
+/// What an input offers: what it injected. Of a view that does not tell how much that is, which no state has, nothing.
 fn of_batches(alloc: Global, low: &Front, border: &Border) -> Result<Offered, AllocError>
     ensures { FitsWay ways.Batches border.now → IfOk result (spec.IsOfBatches low.now border.now) }
 {
@@ -109,7 +110,8 @@ fn of_batches(alloc: Global, low: &Front, border: &Border) -> Result<Offered, Al
     }
 }
 
-/// The frontiers of an input that injected so many batches, and perhaps all, from the low watermark on.
+/// The frontiers of an input that injected so many batches, and perhaps all, from the low watermark on. More batches than the
+/// greatest number, which no state has, count as that many.
 fn batches(
     alloc: Global,
     low: &Front,

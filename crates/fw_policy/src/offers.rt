@@ -1,5 +1,5 @@
 //! What nodes offer to a recovery.
-ghost use Rattle.std.specs.Prelude.{◌≡◌, ℕ, length, Bool, not, IfOk};
+ghost use Rattle.std.specs.Prelude.{◌≡◌, ℕ, length, Bool, IfOk};
 ghost use Rattle.fw_flow.specs.Dataflow.{System};
 ghost use Rattle.fw_model.specs.Machine.{Machine};
 ghost use Rattle.fw_model.specs.Offers.{AreOffersIn};

@@ -47,7 +47,8 @@ pub enum Written {
 /// A write that was not collected.
 #[derive(Debug, Drop)]
 pub struct Entry {
-    /// The id under which its record stands.
+    /// By which the engine that told of it knows its write: one that keeps records in a store finds the record by it. What is
+    /// offered does not depend on it.
     pub id: u64,
     /// Its node.
     pub node: NodeId,

@@ -1,10 +1,8 @@
 -- From the work of a command and what was printed of it to what a call promises.
-use Rattle.std.proofs.Common.{◌≡◌, inl, inr, ℕ, List, [], Option, Some, None, Ok, Err, refl, sym, ◌∙◌, ap, subst}
+use Rattle.std.proofs.Common.{◌≡◌, inl, inr, ℕ, List, [], Option, Some, None, refl, sym, ◌∙◌, ap, subst}
 use Rattle.std.proofs.lemmas.Bool.{false≢true}
 use Rattle.std.proofs.lemmas.Option.{same_Some}
 use Rattle.std.specs.Prelude.{IsSome}
-use Rattle.fw_outside.specs.declared.fault.OutFault.{OutFault}
-use Rattle.fw_outside.specs.Outside.{SinkView}
 use Rattle.fw_lines.specs.declared.refusal.Refusal.{Refusal}
 use Rattle.fw_flow_text.specs.Grammar as flows
 use Rattle.fw_run.proofs.DecidedLaws.{texts-decided}
@@ -13,13 +11,14 @@ use Rattle.fw_run.specs.declared.status.Status.{Status}
 use Rattle.fw_run.specs.declared.status.Status.TheVariants.{Done, BadWords, Refused, ReadFault, WriteFault, NoMemory}
 use Rattle.fw_run.specs.declared.work.Work.{Work}
 use Rattle.fw_run.specs.declared.work.Work.TheVariants.{Run, Check}
-use Rattle.fw_run.specs.Call.{Call, HasTexts, Accepts, Refuses, Prints, AsksNoMore, HasAccepted, HasRefused, IsPrintout, PrintsAll, PrintsPart, KeepsFolder, AnswersTexts, IsRunEnd, IsRefusalEnd}
+use Rattle.fw_run.specs.Call.{Call, HasTexts, Accepts, Refuses, Prints, AsksNoMore, HasAccepted, HasRefused, IsPrintout, KeepsFolder, AnswersTexts, IsRunEnd, IsRefusalEnd}
 use Rattle.fw_run.specs.Headline.{PrintsRun}
 use Rattle.fw_run.specs.Listing.{check_text}
 use Rattle.fw_run.specs.Status.{IsTellingOf}
 use Rattle.fw_run.specs.Texts.{Texts, spelled_flow, spelled_system}
 use Rattle.fw_run.specs.Words.{Command, run, check}
-use Rattle.fw_run.specs.Work.{IsWork, IsTextOfWork, PrintsWork}
+use Rattle.fw_run.specs.Work.{IsWork, IsTextOfWork}
+use Rattle.fw_run.specs.Writing.{WritesText}
 
 -- ---- what was printed
 
@@ -54,13 +53,10 @@ printout_of_work call command work printed e j p =
       text = t.3 printed p;
     }
 
-pub prints-all : {T : Type 0} (call : Call) (command : Command) (work : Work) (value : T) (before after : SinkView) → call.command ≡ Some command → IsWork call.told command work
-    → PrintsWork work (Ok value) before after → PrintsAll call before after
-prints-all call command work value before after e j p = record { printed = p.printed; printout = printout_of_work call command work p.printed e j p.text; whole = p.written }
-
-pub prints-part : {T : Type 0} (call : Call) (command : Command) (work : Work) (fault : OutFault) (before after : SinkView) → call.command ≡ Some command → IsWork call.told command work
-    → PrintsWork {T = T} work (Err fault) before after → PrintsPart call fault before after
-prints-part call command work fault before after e j p = record { printed = p.printed; printout = printout_of_work call command work p.printed e j p.text; part = p.written }
+-- and so is what was written of it
+pub prints : (call : Call) (command : Command) (work : Work) (IsPut : List ℕ → Type 0) → call.command ≡ Some command → IsWork call.told command work
+    → WritesText (IsTextOfWork work) IsPut → WritesText (IsPrintout call) IsPut
+prints call command work IsPut e j p = record { printed = p.printed; text = printout_of_work call command work p.printed e j p.text; written = p.written }
 
 -- ---- one answer
 
@@ -101,14 +97,32 @@ not_none command asked e f = none (sym e ∙ f)
     none h = absurd (cc)
 
 -- the folder of a command, as the texts were asked for
-pub keeps_folder : {F : Type 0} (texts : F → Option (List ℕ → Option (List ℕ))) (fetch_count : F → ℕ) (command : Option Command) (asked : Command) (before after : F)
+pub keeps_folder : {F : Type 0} (texts : F → Option (List ℕ → Option (List ℕ))) (fetch_count : F → ℕ) (command : Option Command) (status : Status) (asked : Command) (before after : F)
     → command ≡ Some asked → texts after ≡ texts before → AsksNoMore (texts before) asked (fetch_count before) (fetch_count after)
-    → KeepsFolder texts fetch_count command before after
-keeps_folder texts fetch_count command asked before after e stay no_more = record {
+    → KeepsFolder texts fetch_count command status before after
+keeps_folder texts fetch_count command status asked before after e stay no_more = record {
   texts_stay = stay;
   nothing_read = λ none. absurd (not_none command asked e none);
-  asked_no_more = λ other f. subst (λ command. AsksNoMore (texts before) command (fetch_count before) (fetch_count after)) (same_command command asked other e f) no_more;
+  asked_no_more = λ other f. inr (subst (λ command. AsksNoMore (texts before) command (fetch_count before) (fetch_count after)) (same_command command asked other e f) no_more);
 }
+
+-- it is as it was where memory was refused first
+pub folder_stays : {F : Type 0} (texts : F → Option (List ℕ → Option (List ℕ))) (fetch_count : F → ℕ) (command : Option Command) (before : F)
+    → KeepsFolder texts fetch_count command NoMemory before before
+folder_stays texts fetch_count command before = record { texts_stay = refl; nothing_read = λ none. refl; asked_no_more = λ asked e. inl (refl, refl) }
+
+-- and so once the status is told
+pub folder_told : {F : Type 0} (texts : F → Option (List ℕ → Option (List ℕ))) (fetch_count : F → ℕ) (command : Option Command) (status result : Status) (before after : F)
+    → IsTellingOf status result → KeepsFolder texts fetch_count command status before after → KeepsFolder texts fetch_count command result before after
+folder_told texts fetch_count command status result before after t k = record {
+  texts_stay = k.texts_stay;
+  nothing_read = k.nothing_read;
+  asked_no_more = λ asked e. elim (k.asked_no_more asked e) [ inl none ↦ inl (memory t none.0, none.1) | inr more ↦ inr more ];
+}
+  where
+    memory : IsTellingOf status result → status ≡ NoMemory → result ≡ NoMemory
+    memory (inl e) m = e ∙ m
+    memory (inr r) m = r.1
 
 -- ---- what texts bring about
 

@@ -10,7 +10,7 @@ use Rattle.fw_schedule.specs.Grammar as schedules
 use Rattle.fw_schedule.proofs.ReadLaws.{some_answer as some_schedule}
 use Rattle.fw_outside.specs.Outside.{IsText}
 use Rattle.fw_run.specs.Call.{HasTexts, Accepts, Refuses}
-use Rattle.fw_run.specs.Texts.{Texts, spelled_flow, IsFlow, AreInputsOf, AreAccepted, HasText, AreThere, IsFlowRefused, IsFirstRefusal}
+use Rattle.fw_run.specs.Texts.{Texts, spelled_flow, IsFlow, AreInputsOf, AreAccepted, AreThere, HasFlow, IsFlowRefused, IsFirstRefusal}
 use Rattle.fw_run.specs.Words.{Command, run, check, TextNames}
 
 -- where the flow is accepted
@@ -18,7 +18,7 @@ decided_inputs : (told : Option (List ℕ → Option (List ℕ))) (names : TextN
     → AreAccepted texts ⊎ ((refusal : Refusal) × IsFirstRefusal told names refusal)
 decided_inputs told names texts t accepted =
     let flow = spelled_flow texts.flow in
-    let first : HasText told names.flow (λ text. flows.IsAccepted text flow) = record { text = texts.flow; there = t.flow; so = accepted } in
+    let first : HasFlow told names.flow flow = record { text = texts.flow; there = t.flow; so = accepted } in
     elim (some_inputs texts.inputs (sources_of flow)) [
       | inr refused ↦ inr (refused.0, inr (flow, first, inl (record { text = texts.inputs; there = t.inputs; so = refused.1 })))
       | inl read ↦

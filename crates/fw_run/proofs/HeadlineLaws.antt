@@ -86,13 +86,12 @@ pub texts-headline : (texts : Texts) → AreAccepted texts → Headline (spelled
 texts-headline texts a =
     let sys = spelled_system texts in
     let w = well_formed_system texts a in
-    let family = rounds sys (enough_rounds sys.flow) in
-    let d = denotation-exists sys w.flow in
     record {
       one_run = items-one_run sys w (spelled_items texts);
       legal = λ steps last c count outcomes state r. runs-legal sys (take count steps) outcomes state w.flow (has_epochs sys w) r;
       in_order = λ steps last c. acknowledgements-in_order sys steps;
-      denoted = λ steps last c. (family, d, acknowledged-denoted sys family w d steps);
+      denotation = (rounds sys (enough_rounds sys.flow), denotation-exists sys w.flow);
+      denoted = λ steps last c family d. acknowledged-denoted sys family w d steps;
       recovers = λ steps last c count. failed-recovered sys w (take count steps);
       largest = λ steps last c. cuts-largest sys w steps;
       watermark = λ steps last c. shows-watermark sys w steps;

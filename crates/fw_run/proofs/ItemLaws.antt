@@ -1,19 +1,19 @@
 -- Items come to one list of steps, which has one run.
-use Rattle.std.proofs.Common.{◌≡◌, ℕ, zero, suc, ◌+◌, ◌≤◌, Bool, true, false, cond, List, [], ◌∷◌, ◌++◌, map, length, refl, sym, ◌∙◌, ap, subst, arith, append_assoc}
-use Rattle.std.proofs.lemmas.List.{append-nil, length-append}
+use Rattle.std.proofs.Common.{◌≡◌, ℕ, zero, suc, ◌≤◌, List, [], ◌∷◌, ◌++◌, map, length, refl, sym, ◌∙◌, ap, subst, arith, append_assoc}
+use Rattle.std.proofs.lemmas.List.{append-nil}
 use Rattle.fw_flow.specs.declared.step.Step.{Step}
 use Rattle.fw_flow.specs.Dataflow.{System}
 use Rattle.fw_flow.specs.WellFormed.{IsWellFormedSystem}
 use Rattle.fw_schedule.specs.declared.item.Item.{Item}
 use Rattle.fw_schedule.specs.declared.item.Item.TheVariants.{One, Auto}
-use Rattle.fw_schedule.specs.Schedule.{steps_in, step_count}
+use Rattle.fw_schedule.specs.Schedule.{steps_in}
 use Rattle.fw_model.proofs.AutoLaws.{auto-one, auto-runs}
 use Rattle.fw_model.proofs.ChoosingLaws.{reached-one_next}
 use Rattle.fw_model.proofs.GoingOn.{runs-go_on}
 use Rattle.fw_model.proofs.OneNextLaws.{one_next}
 use Rattle.fw_model.specs.Auto.{IsAutoRun}
 use Rattle.fw_model.specs.Machine.{Machine, first_state}
-use Rattle.fw_model.specs.Steps.{Effect, Outcome, did, idle, StepsTo, Run}
+use Rattle.fw_model.specs.Steps.{Outcome, did, Run}
 use Rattle.fw_run.specs.Items.{ItemComesTo, ComesTo}
 use Rattle.fw_run.specs.Performing.{ItemRun}
 

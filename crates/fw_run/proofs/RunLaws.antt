@@ -1,5 +1,5 @@
 -- How a run goes on, and what was printed of it so far.
-use Rattle.std.proofs.Common.{◌≡◌, ℕ, zero, suc, get_or, ◌+◌, ◌-◌, ◌<◌, ◌≤◌, Bool, true, false, List, [], ◌∷◌, ◌++◌, length, take, drop, Option, Some, None, option_map, Result, Ok, Err, refl, sym, ◌∙◌, ap, subst, arith, append_assoc, inl, inr, cond}
+use Rattle.std.proofs.Common.{◌≡◌, ℕ, zero, suc, get_or, ◌+◌, ◌-◌, ◌<◌, ◌≤◌, Bool, true, false, List, [], ◌∷◌, ◌++◌, length, take, drop, Option, Some, None, option_map, Result, Ok, Err, refl, sym, ◌∙◌, ap, subst, arith, append_assoc, cond}
 use Rattle.std.proofs.Math.Seq.{take-append-add}
 use Rattle.std.proofs.lemmas.Bool.{false≢true, true≢false}
 use Rattle.std.proofs.lemmas.Grind.{flat_map-append}
@@ -29,10 +29,11 @@ use Rattle.fw_plain.specs.declared.stepped.Stepped.TheVariants.{Did, Idle}
 use Rattle.fw_run.proofs.ItemLaws.{item-run, item-few, comes-on, comes-next, ItemsRun, items-run}
 use Rattle.fw_run.proofs.Roses.{rose_last}
 use Rattle.fw_run.specs.declared.perform.Taken.{Taken}
+use Rattle.fw_run.specs.Headline.{PrintsRun}
 use Rattle.fw_run.specs.Items.{ComesTo}
 use Rattle.fw_run.specs.Performing.{IsUnderWay, ItemRun, IsItemPrinted, IsItemCutOff, Performs}
 use Rattle.fw_run.specs.Printed.{outcomes_text, is_idle, idle_count, done_line, text_of}
-use Rattle.fw_run.specs.Writing.{IsWritten, IsCutOff, Writes}
+use Rattle.fw_run.specs.Writing.{NeverFall, IsWritten, IsCutOff, Writes, WritesText}
 
 -- ---- runs
 
@@ -109,8 +110,12 @@ written_more one other before mid after w v = record {
 cut_more : (one other rest : List ℕ) (fault : OutFault) (before mid after : SinkView) → IsWritten one before mid → IsCutOff other fault mid after → IsCutOff (one ++ (other ++ rest)) fault before after
 cut_more one other rest fault before mid after w c = record {
   taken = prefix_more before.taken mid.taken after.taken one other rest w.taken c.taken;
-  failed = λ e. rose_last before.faults mid.faults after.faults w.never_falls c.never_falls (c.failed e);
-  never_falls = omega (arith, w.never_falls, c.never_falls);
+  failed = λ e. rose_last before.faults mid.faults after.faults w.never_falls c.never_fall.faults (c.failed e);
+  refused = λ e. subst (λ n. Rose n after.refusals) w.none_refused (c.refused e);
+  never_fall = record {
+    faults = omega (arith, w.never_falls, c.never_fall.faults);
+    refusals = omega (arith, w.none_refused, c.never_fall.refusals);
+  };
 }
 
 -- the same of the last bytes, whatever the answer is
@@ -121,16 +126,27 @@ writes_more one other (Err fault) before mid after w c =
 
 -- memory was refused before any of these bytes were written
 pub cut_nothing : (bytes : List ℕ) (view : SinkView) → IsCutOff bytes NoMemory view view
-cut_nothing bytes view = record { taken = (0, omega arith, takes_none view.taken); failed = λ e. absurd (memory e); never_falls = omega arith }
+cut_nothing bytes view = record {
+  taken = (0, omega arith, takes_none view.taken);
+  failed = λ e. absurd (memory e);
+  refused = λ e. absurd (memory e);
+  never_fall = record { faults = omega arith; refusals = omega arith };
+}
   where
     memory : NoMemory ≡ Failed → ⊥
     memory e = absurd (cc)
 
 -- what a write answers
 pub writes : {T : Type 0} (bytes : List ℕ) (answer : Result T OutFault) (before after : SinkView) → OnOk answer (Takes before.taken bytes after.taken) → OnErr answer (TakesPrefix before.taken bytes after.taken)
-    → OnOk answer (after.refusals ≡ before.refusals) → (IsErrOf answer Failed → Rose before.faults after.faults) → before.faults ≤ after.faults → Writes bytes answer before after
-writes bytes (Ok value) before after whole part stay failed never = record { taken = whole; none_refused = stay; never_falls = never }
-writes {T} bytes (Err fault) before after whole part stay failed never = record { taken = part; failed = λ e. failed (ap with_fault e); never_falls = never }
+    → OnOk answer (after.refusals ≡ before.refusals) → OnErr answer (Rose before.refusals after.refusals) → (IsErrOf answer Failed → Rose before.faults after.faults)
+    → NeverFall before after → Writes bytes answer before after
+writes bytes (Ok value) before after whole part stay counted failed never = record { taken = whole; none_refused = stay; never_falls = never.faults }
+writes {T} bytes (Err fault) before after whole part stay counted failed never = record {
+  taken = part;
+  failed = λ e. failed (ap with_fault e);
+  refused = λ e. counted;
+  never_fall = never;
+}
   where
     with_fault : OutFault → Result T OutFault
     with_fault f = Err f
@@ -154,7 +170,7 @@ text_of_one flow outcome = append-nil (outcome_text flow outcome)
 -- the lines of an item's steps were cut off by a fault before the first one
 pub item_cut-before : (old : Standing) (item : Item) (fault : OutFault) (before after : SinkView) → IsUnderWay old → IsCutOff [] fault before after → IsItemCutOff old item fault before after
 item_cut-before old item fault before after u c =
-    let found = item-run old.sys u.well_formed u.before u.outcomes old.state u.run item in
+    let found = item-run old.sys u.well_formed u.reached.0 u.reached.1 old.state u.reached.2 item in
     record { of_item = found; part = cut_more [] [] (outcomes_text old.sys.flow found.outcomes) fault before before after (written_nothing before) c }
 
 -- a step was taken, and its lines were written, or cut off
@@ -289,8 +305,8 @@ auto_cut old mid last count rest most fault before between after others more fro
 pub auto_cut-before : (old mid : Standing) (count most : ℕ) (fault : OutFault) (before between after : SinkView) → IsUnderWay old → IsAutoSoFar old mid count before between → count ≤ most
     → IsCutOff [] fault between after → IsItemCutOff old (Auto most) fault before after
 auto_cut-before old mid count most fault before between after u s h c =
-    let reached = runs-go_on old.sys (first_state old.sys) old.state mid.state u.before s.steps u.outcomes s.outcomes u.run s.run in
-    let rest = item-run old.sys u.well_formed (u.before ++ s.steps) (u.outcomes ++ s.outcomes) mid.state reached (Auto (most - count)) in
+    let reached = runs-go_on old.sys (first_state old.sys) old.state mid.state u.reached.0 s.steps u.reached.1 s.outcomes u.reached.2 s.run in
+    let rest = item-run old.sys u.well_formed (u.reached.0 ++ s.steps) (u.reached.1 ++ s.outcomes) mid.state reached (Auto (most - count)) in
     auto_cut old mid rest.last count (most - count) most fault before between after rest.steps rest.outcomes [] (outcomes_text old.sys.flow rest.outcomes) s rest.comes rest.run (omega (arith, h)) refl c
 
 -- within the lines of the next step
@@ -300,9 +316,9 @@ pub auto_cut-within : (old mid : Standing) (next : Machine) (effect : Effect) (c
 auto_cut-within old mid next effect count most fault before between after u s h t c =
     let one = auto-one_more old mid next effect s.system t in
     let line : IsCutOff (outcome_text old.sys.flow (did effect)) fault between after = subst (λ sys. IsCutOff (outcome_text sys.flow (did effect)) fault between after) s.system c in
-    let reached = runs-go_on old.sys (first_state old.sys) old.state mid.state u.before s.steps u.outcomes s.outcomes u.run s.run in
-    let further = runs-go_on old.sys (first_state old.sys) mid.state next (u.before ++ s.steps) (one.0 ∷ []) (u.outcomes ++ s.outcomes) (did effect ∷ []) reached one.2 in
-    let rest = item-run old.sys u.well_formed (u.before ++ s.steps ++ one.0 ∷ []) (u.outcomes ++ s.outcomes ++ did effect ∷ []) next further (Auto (most - count - 1)) in
+    let reached = runs-go_on old.sys (first_state old.sys) old.state mid.state u.reached.0 s.steps u.reached.1 s.outcomes u.reached.2 s.run in
+    let further = runs-go_on old.sys (first_state old.sys) mid.state next (u.reached.0 ++ s.steps) (one.0 ∷ []) (u.reached.1 ++ s.outcomes) (did effect ∷ []) reached one.2 in
+    let rest = item-run old.sys u.well_formed (u.reached.0 ++ s.steps ++ one.0 ∷ []) (u.reached.1 ++ s.outcomes ++ did effect ∷ []) next further (Auto (most - count - 1)) in
     let count_on : length (one.0 ∷ []) + (most - count - 1) ≡ most - count = omega (arith, h) in
     let comes : IsAutoRun old.sys mid.state (most - count) (one.0 ∷ rest.steps) rest.last =
     subst (λ n. IsAutoRun old.sys mid.state n (one.0 ∷ rest.steps) rest.last) count_on (auto-goes_on old.sys mid.state next rest.last (one.0 ∷ []) rest.steps (most - count - 1) one.1 rest.comes) in
@@ -383,9 +399,7 @@ is_under_way sys items standing taken idle_steps before after w s =
     let run : (y : System) → y ≡ sys → Run y (first_state y) s.steps s.outcomes standing.state = λ y e. subst (λ z. Run z (first_state z) s.steps s.outcomes standing.state) (sym e) s.run in
     record {
       well_formed = subst IsWellFormedSystem (sym s.system) w;
-      before = s.steps;
-      outcomes = s.outcomes;
-      run = run standing.sys s.system;
+      reached = (s.steps, s.outcomes, run standing.sys s.system);
     }
 
 -- an item's run in a standing's system, as one in the system
@@ -416,11 +430,15 @@ so_far_more sys items old new item taken idle_steps of_item before mid after s e
               (written_more (outcomes_text sys.flow s.outcomes) (outcomes_text sys.flow r.outcomes) before mid after s.written w);
         })
 
+-- the items come to steps that have a run from the first state, and its text was cut off by the fault
+abbrev pub PerformsPart : System → List Item → OutFault → SinkView → SinkView → Type 0
+PerformsPart sys items fault before after = WritesText (PrintsRun sys items) (λ printed. IsCutOff printed fault before after)
+
 -- what is cut off behind these lines is first bytes of the text of a run that goes on
-cut_off : {T : Type 0} (sys : System) (items others : List Item) (standing : Standing) (taken idle_steps : ℕ) (fault : OutFault) (before mid after : SinkView) (s : IsSoFar sys items standing taken idle_steps before mid)
+cut_off : (sys : System) (items others : List Item) (standing : Standing) (taken idle_steps : ℕ) (fault : OutFault) (before mid after : SinkView) (s : IsSoFar sys items standing taken idle_steps before mid)
     (more : ItemsRun sys standing.state others) (front rest : List ℕ)
     → outcomes_text sys.flow more.outcomes ++ done_line (length (s.outcomes ++ more.outcomes)) (idle_count (s.outcomes ++ more.outcomes)) ≡ front ++ rest
-    → IsCutOff front fault mid after → Performs {T = T} sys (items ++ others) (Err fault) before after
+    → IsCutOff front fault mid after → PerformsPart sys (items ++ others) fault before after
 cut_off sys items others standing taken idle_steps fault before mid after s more front rest e c =
     let last = done_line (length (s.outcomes ++ more.outcomes)) (idle_count (s.outcomes ++ more.outcomes)) in
     let same : text_of sys.flow (s.outcomes ++ more.outcomes) ≡ outcomes_text sys.flow s.outcomes ++ (front ++ rest) =
@@ -441,20 +459,20 @@ cut_off sys items others standing taken idle_steps fault before mid after s more
     }
 
 -- the run stops before its next item
-stops_before : {T : Type 0} (sys : System) (items others : List Item) (standing : Standing) (taken idle_steps : ℕ) (fault : OutFault) (before mid after : SinkView)
-    → IsSoFar sys items standing taken idle_steps before mid → IsWellFormedSystem sys → IsCutOff [] fault mid after → Performs {T = T} sys (items ++ others) (Err fault) before after
+stops_before : (sys : System) (items others : List Item) (standing : Standing) (taken idle_steps : ℕ) (fault : OutFault) (before mid after : SinkView)
+    → IsSoFar sys items standing taken idle_steps before mid → IsWellFormedSystem sys → IsCutOff [] fault mid after → PerformsPart sys (items ++ others) fault before after
 stops_before sys items others standing taken idle_steps fault before mid after s w c =
     let more = items-run sys w s.steps s.outcomes standing.state s.run others in
     cut_off sys items others standing taken idle_steps fault before mid after s more [] (outcomes_text sys.flow more.outcomes ++ done_line (length (s.outcomes ++ more.outcomes)) (idle_count (s.outcomes ++ more.outcomes))) refl c
 
 -- the run stops within the lines of an item, or before them
-stops_within : {T : Type 0} (sys : System) (items others : List Item) (standing : Standing) (item : Item) (taken idle_steps : ℕ) (fault : OutFault) (before mid after : SinkView)
+stops_within : (sys : System) (items others : List Item) (standing : Standing) (item : Item) (taken idle_steps : ℕ) (fault : OutFault) (before mid after : SinkView)
     → IsSoFar sys items standing taken idle_steps before mid → IsWellFormedSystem sys → IsItemCutOff standing item fault mid after
-    → Performs {T = T} sys (items ++ item ∷ others) (Err fault) before after
-stops_within {T} sys items others standing item taken idle_steps fault before mid after s w c = by standing.sys s.system c.of_item c.part
+    → PerformsPart sys (items ++ item ∷ others) fault before after
+stops_within sys items others standing item taken idle_steps fault before mid after s w c = by standing.sys s.system c.of_item c.part
   where
-    by : (y : System) → y ≡ sys → (r : ItemRun y standing.state item) → IsCutOff (outcomes_text y.flow r.outcomes) fault mid after → Performs {T = T} sys (items ++ item ∷ others) (Err fault) before after
-    by y f = subst (λ (z : System). (r : ItemRun z standing.state item) → IsCutOff (outcomes_text z.flow r.outcomes) fault mid after → Performs {T = T} sys (items ++ item ∷ others) (Err fault) before after) (sym f)
+    by : (y : System) → y ≡ sys → (r : ItemRun y standing.state item) → IsCutOff (outcomes_text y.flow r.outcomes) fault mid after → PerformsPart sys (items ++ item ∷ others) fault before after
+    by y f = subst (λ (z : System). (r : ItemRun z standing.state item) → IsCutOff (outcomes_text z.flow r.outcomes) fault mid after → PerformsPart sys (items ++ item ∷ others) fault before after) (sym f)
         (λ r part.
         let further = runs-go_on sys (first_state sys) standing.state r.last s.steps r.steps s.outcomes r.outcomes s.run r.run in
         let rest = items-run sys w (s.steps ++ r.steps) (s.outcomes ++ r.outcomes) r.last further others in
@@ -489,17 +507,17 @@ parts_at : (xs : List Item) (i : ℕ) (item : Item) → i < length xs → item �
 parts_at xs i item below e = drop_more xs i item below ∙ ap (λ s. s ∷ drop (i + 1) xs) (sym e)
 
 -- the run is not begun
-pub stops_at_start : {T : Type 0} (sys : System) (items : List Item) (view : SinkView) → IsWellFormedSystem sys → Performs {T = T} sys items (Err NoMemory) view view
+pub stops_at_start : (sys : System) (items : List Item) (view : SinkView) → IsWellFormedSystem sys → PerformsPart sys items NoMemory view view
 stops_at_start sys items view w =
     let standing : Standing = record { sys = sys; state = first_state sys; refused = false } in
     stops_before sys [] items standing 0 0 NoMemory view view view (none_so_far sys standing view refl) w (cut_nothing [] view)
 
 -- the run stops at the item of this place
-pub stops_at : {T : Type 0} (sys : System) (xs : List Item) (i : ℕ) (standing : Standing) (item : Item) (taken idle_steps : ℕ) (fault : OutFault) (before mid after : SinkView)
+pub stops_at : (sys : System) (xs : List Item) (i : ℕ) (standing : Standing) (item : Item) (taken idle_steps : ℕ) (fault : OutFault) (before mid after : SinkView)
     → IsSoFar sys (take i xs) standing taken idle_steps before mid → IsWellFormedSystem sys → i < length xs → item ≡ get_or xs i item → IsItemCutOff standing item fault mid after
-    → Performs {T = T} sys xs (Err fault) before after
-stops_at {T} sys xs i standing item taken idle_steps fault before mid after s w below e c =
-    subst (λ t. Performs {T = T} sys t (Err fault) before after) (ap (λ t. take i xs ++ t) (sym (parts_at xs i item below e)) ∙ take-append-drop i xs)
+    → PerformsPart sys xs fault before after
+stops_at sys xs i standing item taken idle_steps fault before mid after s w below e c =
+    subst (λ t. PerformsPart sys t fault before after) (ap (λ t. take i xs ++ t) (sym (parts_at xs i item below e)) ∙ take-append-drop i xs)
     (stops_within sys (take i xs) (drop (i + 1) xs) standing item taken idle_steps fault before mid after s w c)
 
 -- the item of this place was taken and printed
@@ -557,7 +575,7 @@ pub all_so_far : (sys : System) (xs : List Item) (i : ℕ) (standing : Standing)
 all_so_far sys xs i standing taken idle_steps before after s h = subst (λ t. IsSoFar sys t standing taken idle_steps before after) (take_all i xs h) s
 
 -- the run stops before its last line
-pub stops_after_items : {T : Type 0} (sys : System) (items : List Item) (standing : Standing) (taken idle_steps : ℕ) (before after : SinkView) → IsSoFar sys items standing taken idle_steps before after
-    → Performs {T = T} sys items (Err NoMemory) before after
+pub stops_after_items : (sys : System) (items : List Item) (standing : Standing) (taken idle_steps : ℕ) (before after : SinkView) → IsSoFar sys items standing taken idle_steps before after
+    → PerformsPart sys items NoMemory before after
 stops_after_items sys items standing taken idle_steps before after s =
-    ends sys items standing taken idle_steps (Err NoMemory) before after after s (cut_nothing (done_line taken idle_steps) after)
+    ends {T = Unit {0}} sys items standing taken idle_steps (Err NoMemory) before after after s (cut_nothing (done_line taken idle_steps) after)

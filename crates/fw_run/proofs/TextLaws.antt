@@ -21,7 +21,7 @@ use Rattle.fw_schedule.specs.Grammar as schedules
 use Rattle.fw_schedule.proofs.ReadLaws as schedule_texts
 use Rattle.fw_run.specs.declared.reading.Job.{Job}
 use Rattle.fw_run.specs.Reading.{IsJob}
-use Rattle.fw_run.specs.Texts.{Texts, spelled_flow, spelled_batches, spelled_system, spelled_items, IsFlow, AreInputsOf, AreAccepted, HasText, AreThere, IsFlowRefused, AreInputsRefused, IsScheduleRefused, IsFirstRefusal, IsAskedNoMore}
+use Rattle.fw_run.specs.Texts.{Texts, spelled_flow, spelled_batches, spelled_system, spelled_items, IsFlow, AreInputsOf, AreAccepted, HasText, AreThere, HasFlow, IsFlowRefused, AreInputsRefused, IsScheduleRefused, IsFirstRefusal, IsAskedNoMore}
 use Rattle.fw_run.specs.Words.{TextNames}
 
 -- ---- what accepted texts spell
@@ -50,7 +50,7 @@ system_read flow_text text flow batches e a =
 
 -- what three accepted texts spell is a job
 pub job_read : (told : Option (List ℕ → Option (List ℕ))) (names : TextNames) (job : Job)
-    → HasText told names.flow (λ text. flows.IsAccepted text job.flow)
+    → HasFlow told names.flow job.flow
     → HasText told names.inputs (λ text. inputs.IsAccepted text (sources_of job.flow) job.batches)
     → HasText told names.schedule (λ text. schedules.IsAccepted text job.flow job.items)
     → IsJob told names job
@@ -71,7 +71,7 @@ job_read told names job f i s =
 
 -- the same where the folder told its texts anew before each
 pub job_read_in_turn : (told second third : Option (List ℕ → Option (List ℕ))) (names : TextNames) (job : Job) → second ≡ told → third ≡ second
-    → HasText told names.flow (λ text. flows.IsAccepted text job.flow)
+    → HasFlow told names.flow job.flow
     → HasText second names.inputs (λ text. inputs.IsAccepted text (sources_of job.flow) job.batches)
     → HasText third names.schedule (λ text. schedules.IsAccepted text job.flow job.items)
     → IsJob told names job
@@ -82,12 +82,12 @@ job_read_in_turn told second third names job e h f i s =
 
 -- a text was asked for after an accepted flow
 pub fetched_second : (told : Option (List ℕ → Option (List ℕ))) (names : TextNames) (flow : Dataflow) (before one after : ℕ)
-    → HasText told names.flow (λ text. flows.IsAccepted text flow) → one ≡ one_more before → after ≡ one_more one → IsAskedNoMore told names before after
-fetched_second told names flow before one after f e h = inr (inr (flow, f, inl (h ∙ ap one_more e)))
+    → HasFlow told names.flow flow → one ≡ one_more before → after ≡ one_more one → IsAskedNoMore told names before after
+fetched_second told names flow before one after f e h = inr (flow, f, inl (h ∙ ap one_more e))
 
 -- and one after accepted inputs
 pub fetched_third : (told second : Option (List ℕ → Option (List ℕ))) (names : TextNames) (flow : Dataflow) (batches : List (ℕ × List (List Rec))) (before one two after : ℕ) → second ≡ told
-    → HasText told names.flow (λ text. flows.IsAccepted text flow) → HasText second names.inputs (λ text. inputs.IsAccepted text (sources_of flow) batches)
+    → HasFlow told names.flow flow → HasText second names.inputs (λ text. inputs.IsAccepted text (sources_of flow) batches)
     → one ≡ one_more before → two ≡ one_more one → after ≡ one_more two → IsAskedNoMore told names before after
 fetched_third told second names flow batches before one two after same f i e h k =
     let given : HasText told names.inputs (AreInputsOf flow) = record {
@@ -95,7 +95,7 @@ fetched_third told second names flow batches before one two after same f i e h k
       there = subst (λ t. IsText t names.inputs i.text) same i.there;
       so = i.so.sound;
     } in
-    inr (inr (flow, f, inr (given, k ∙ ap one_more (h ∙ ap one_more e))))
+    inr (flow, f, inr (given, k ∙ ap one_more (h ∙ ap one_more e)))
 
 -- ---- one answer
 
@@ -110,7 +110,7 @@ same_text texts name a b e f = same_Some a b (sym e ∙ f)
 both_true : (texts : List ℕ → Option (List ℕ)) (name : List ℕ) (P Q : List ℕ → Type 0) (R : Type 0) → HasText (Some texts) name P → HasText (Some texts) name Q → ((text : List ℕ) → P text → Q text → R) → R
 both_true texts name P Q R p q f = f p.text p.so (subst Q (same_text texts name q.text p.text q.there p.there) q.so)
 
-same_flow : (texts : List ℕ → Option (List ℕ)) (name : List ℕ) (one other : Dataflow) → HasText (Some texts) name (λ text. flows.IsAccepted text one) → HasText (Some texts) name (λ text. flows.IsAccepted text other) → one ≡ other
+same_flow : (texts : List ℕ → Option (List ℕ)) (name : List ℕ) (one other : Dataflow) → HasFlow (Some texts) name one → HasFlow (Some texts) name other → one ≡ other
 same_flow texts name one other a b =
     both_true texts name (λ text. flows.IsAccepted text one) (λ text. flows.IsAccepted text other) (one ≡ other) a b (λ text p q. p.checked.value ∙ sym q.checked.value)
 

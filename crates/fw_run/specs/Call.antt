@@ -11,7 +11,7 @@ use Rattle.fw_run.specs.Listing.{check_text}
 use Rattle.fw_run.specs.Status.{IsTold, note_line}
 use Rattle.fw_run.specs.Texts.{Texts, IsFlow, AreThere, AreAccepted, IsFlowRefused, IsFirstRefusal, IsAskedNoMore, spelled_flow, spelled_system, spelled_items}
 use Rattle.fw_run.specs.Words.{Command, run, check, command_of, words_in}
-use Rattle.fw_run.specs.Writing.{IsWritten, IsCutOff}
+use Rattle.fw_run.specs.Writing.{IsWritten, IsCutOff, WritesText}
 
 -- what a call is given: the command that its words are, if they are one, and the folder's texts, where it tells them
 pub record Call : Type 0 where
@@ -89,23 +89,21 @@ pub record IsPrintout (call : Call) (printed : List ℕ) : Type 0 where
   pub text : Prints accepted.command texts printed
 
 -- all that the call prints was written
-pub record PrintsAll (call : Call) (before after : SinkView) : Type 0 where
-  pub printed : List ℕ
-  pub printout : IsPrintout call printed
-  pub whole : IsWritten printed before after
+abbrev pub PrintsAll : Call → SinkView → SinkView → Type 0
+PrintsAll call before after = WritesText (IsPrintout call) (λ printed. IsWritten printed before after)
 
 -- what the call prints was cut off by a fault: first bytes of it were written
-pub record PrintsPart (call : Call) (fault : OutFault) (before after : SinkView) : Type 0 where
-  pub printed : List ℕ
-  pub printout : IsPrintout call printed
-  pub part : IsCutOff printed fault before after
+abbrev pub PrintsPart : Call → OutFault → SinkView → SinkView → Type 0
+PrintsPart call fault before after = WritesText (IsPrintout call) (λ printed. IsCutOff printed fault before after)
 
--- The folder keeps its texts. It was not asked where the words are no command. Of a check it was asked once; of a run a second time
--- only where the flow is accepted, a third time only where the inputs are too, and no fourth.
-pub record KeepsFolder {F : Type 0} (texts : F → Option (List ℕ → Option (List ℕ))) (fetch_count : F → ℕ) (command : Option Command) (before after : F) : Type 0 where
+-- The folder keeps its texts. It was not asked where the words are no command, nor perhaps where memory was refused. Else of a check
+-- it was asked once; of a run once, a second time only where the flow is accepted, a third time only where the inputs are too, and
+-- no fourth.
+pub record KeepsFolder {F : Type 0} (texts : F → Option (List ℕ → Option (List ℕ))) (fetch_count : F → ℕ) (command : Option Command) (status : Status) (before after : F) : Type 0 where
   pub texts_stay : texts after ≡ texts before
   pub nothing_read : command ≡ None → after ≡ before
-  pub asked_no_more : (asked : Command) → command ≡ Some asked → AsksNoMore (texts before) asked (fetch_count before) (fetch_count after)
+  pub asked_no_more : (asked : Command) → command ≡ Some asked
+      → ((status ≡ NoMemory) × (after ≡ before)) ⊎ AsksNoMore (texts before) asked (fetch_count before) (fetch_count after)
 
 -- The notes took the status's line, or first bytes of it where they refused it; they are as they were where all went well.
 pub record TellsNotes {N : Type 0} (view : N → SinkView) (status : Status) (before after : N) : Type 0 where

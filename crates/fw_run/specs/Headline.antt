@@ -45,10 +45,10 @@ abbrev pub AcknowledgesInOrder : System → List Step → Type 0
 AcknowledgesInOrder sys steps = (outcomes : List Outcome) (last : Machine) → Run sys (first_state sys) steps outcomes last
     → (o : ℕ) → stamps_acknowledged o outcomes ≡ first_stamps (ack_count_of last o)
 
--- the dataflow has a denotation, which each acknowledgement of the steps shows
+-- each acknowledgement of the steps shows the denotation of the dataflow
 abbrev pub ShowsDenotation : System → List Step → Type 0
-ShowsDenotation sys steps = (family : Family) × IsDenotation sys family
-    × ((outcomes : List Outcome) (last : Machine) → Run sys (first_state sys) steps outcomes last → AllByRecursion (IsDenoted sys family) outcomes)
+ShowsDenotation sys steps = (family : Family) → IsDenotation sys family → (outcomes : List Outcome) (last : Machine)
+    → Run sys (first_state sys) steps outcomes last → AllByRecursion (IsDenoted sys family) outcomes
 
 -- The items come to exactly one list of steps, and each number of first steps has exactly one run.
 pub record HasOneRun (sys : System) (items : List Item) : Type 0 where
@@ -115,8 +115,10 @@ pub record Headline (sys : System) (items : List Item) : Type 0 where
   pub one_run : HasOneRun sys items
   -- its histories are legal, also right after a failure or a recovery
   pub legal : OfSteps sys items StaysLegal
-  -- each output acknowledges its first epochs, in order and each once
+  -- each output acknowledges its first epochs or numbers, in order and each once
   pub in_order : OfSteps sys items AcknowledgesInOrder
+  -- the dataflow has a denotation
+  pub denotation : (family : Family) × IsDenotation sys family
   -- each acknowledgement has the recs that the dataflow denotes there
   pub denoted : OfSteps sys items ShowsDenotation
   -- where a node is failed a recovery is enabled

@@ -8,14 +8,15 @@ use Rattle.fw_flow.specs.declared.step.Step.{Step}
 use Rattle.fw_flow.specs.Dataflow.{System}
 use Rattle.fw_flow.specs.WellFormed.{IsWellFormedSystem}
 use Rattle.fw_schedule.specs.declared.item.Item.{Item}
-use Rattle.fw_model.specs.Machine.{Machine, first_state}
+use Rattle.fw_model.specs.Machine.{Machine}
+use Rattle.fw_model.specs.Reached.{IsReached}
 use Rattle.fw_model.specs.Steps.{Outcome, Run}
 use Rattle.fw_plain.specs.Engine.{Standing}
 use Rattle.fw_run.specs.declared.perform.Taken.{Taken}
 use Rattle.fw_run.specs.Headline.{PrintsRun}
 use Rattle.fw_run.specs.Items.{ItemComesTo}
 use Rattle.fw_run.specs.Printed.{outcomes_text, idle_count}
-use Rattle.fw_run.specs.Writing.{IsWritten, IsCutOff, Writes}
+use Rattle.fw_run.specs.Writing.{IsWritten, IsCutOff, Writes, WritesText}
 
 -- the bytes of a line, none where there is no line
 abbrev pub shown_bytes : Option (Vec ℕ Global) → List ℕ
@@ -25,9 +26,7 @@ shown_bytes (Some line) = line.items
 -- an engine runs a well-formed system, and steps led to where it stands from the first state
 pub record IsUnderWay (standing : Standing) : Type 0 where
   pub well_formed : IsWellFormedSystem standing.sys
-  pub before : List Step
-  pub outcomes : List Outcome
-  pub run : Run standing.sys (first_state standing.sys) before outcomes standing.state
+  pub reached : IsReached standing.sys standing.state
 
 -- From the state the item comes to these steps, which the machine takes to the last one, with these outcomes.
 pub record ItemRun (sys : System) (state : Machine) (item : Item) : Type 0 where
@@ -56,7 +55,5 @@ PrintsItem old new item (Ok taken) before after = IsItemPrinted old new item tak
 PrintsItem old new item (Err fault) before after = IsItemCutOff old item fault before after
 
 -- the items come to steps that have a run from the first state, and its text was written, or cut off by the fault that was answered
-pub record Performs {T : Type 0} (sys : System) (items : List Item) (answer : Result T OutFault) (before after : SinkView) : Type 0 where
-  pub printed : List ℕ
-  pub text : PrintsRun sys items printed
-  pub written : Writes printed answer before after
+abbrev pub Performs : {T : Type 0} → System → List Item → Result T OutFault → SinkView → SinkView → Type 0
+Performs sys items answer before after = WritesText (PrintsRun sys items) (λ printed. Writes printed answer before after)

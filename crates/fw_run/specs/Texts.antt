@@ -68,6 +68,10 @@ pub record AreThere (told : Option (List ℕ → Option (List ℕ))) (names : Te
   pub inputs : IsText told names.inputs texts.inputs
   pub schedule : IsText told names.schedule texts.schedule
 
+-- the text under the name is accepted, and declares this dataflow
+abbrev pub HasFlow : Option (List ℕ → Option (List ℕ)) → List ℕ → Dataflow → Type 0
+HasFlow told name flow = HasText told name (λ text. flows.IsAccepted text flow)
+
 -- the text under the name is refused as a flow's
 abbrev pub IsFlowRefused : Option (List ℕ → Option (List ℕ)) → List ℕ → Refusal → Type 0
 IsFlowRefused told name refusal = HasText told name (λ text. flows.IsRefused text refusal)
@@ -84,16 +88,15 @@ IsScheduleRefused told name flow refusal = HasText told name (λ text. schedules
 abbrev pub IsFirstRefusal : Option (List ℕ → Option (List ℕ)) → TextNames → Refusal → Type 0
 IsFirstRefusal told names refusal =
     IsFlowRefused told names.flow refusal
-    ⊎ ((flow : Dataflow) × HasText told names.flow (λ text. flows.IsAccepted text flow)
+    ⊎ ((flow : Dataflow) × HasFlow told names.flow flow
     × (AreInputsRefused told names.inputs flow refusal
     ⊎ (HasText told names.inputs (AreInputsOf flow) × IsScheduleRefused told names.schedule flow refusal)))
 
--- A folder was asked no more often than this, if its calls were counted from the first number to the second: a second time only
+-- A folder was asked once, if its calls were counted from the first number to the second, or more often: a second time only
 -- where the flow is accepted, a third only where the inputs are too, and no fourth.
 abbrev pub IsAskedNoMore : Option (List ℕ → Option (List ℕ)) → TextNames → ℕ → ℕ → Type 0
 IsAskedNoMore told names before after =
-    (after ≡ before)
-    ⊎ ((after ≡ one_more before)
-    ⊎ ((flow : Dataflow) × HasText told names.flow (λ text. flows.IsAccepted text flow)
+    (after ≡ one_more before)
+    ⊎ ((flow : Dataflow) × HasFlow told names.flow flow
     × ((after ≡ one_more (one_more before))
-    ⊎ (HasText told names.inputs (AreInputsOf flow) × (after ≡ one_more (one_more (one_more before)))))))
+    ⊎ (HasText told names.inputs (AreInputsOf flow) × (after ≡ one_more (one_more (one_more before))))))

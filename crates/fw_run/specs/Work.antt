@@ -3,22 +3,21 @@ use Rattle.std.specs.Prelude.{◌≡◌, ℕ, List, Option, Result}
 use Rattle.fw_outside.specs.declared.fault.OutFault.{OutFault}
 use Rattle.fw_outside.specs.Outside.{SinkView}
 use Rattle.fw_flow.specs.Dataflow.{system_of}
-use Rattle.fw_flow_text.specs.Grammar as flows
 use Rattle.fw_run.specs.declared.work.Work.{Work}
 use Rattle.fw_run.specs.declared.work.Work.TheVariants.{Run, Check}
 use Rattle.fw_run.specs.Headline.{PrintsRun}
 use Rattle.fw_run.specs.Listing.{check_text}
 use Rattle.fw_run.specs.Reading.{IsJob, IsReady}
-use Rattle.fw_run.specs.Texts.{HasText}
+use Rattle.fw_run.specs.Texts.{HasFlow}
 use Rattle.fw_run.specs.Words.{Command, run, check}
-use Rattle.fw_run.specs.Writing.{Writes}
+use Rattle.fw_run.specs.Writing.{Writes, WritesText}
 
 -- the work is that of the command, with what the accepted texts under its names spell
 abbrev pub IsWork : Option (List ℕ → Option (List ℕ)) → Command → Work → Type 0
 IsWork told (run names) (Run job) = IsJob told names job
 IsWork told (run names) (Check flow) = ⊥
 IsWork told (check name) (Run job) = ⊥
-IsWork told (check name) (Check flow) = HasText told name (λ text. flows.IsAccepted text flow)
+IsWork told (check name) (Check flow) = HasFlow told name flow
 
 -- what the work asks, if it is a run
 abbrev pub IsReadyWork : Work → Type 0
@@ -31,7 +30,5 @@ IsTextOfWork (Run job) printed = PrintsRun (system_of job.flow job.batches) job.
 IsTextOfWork (Check flow) printed = printed ≡ check_text flow
 
 -- all that the work prints was written, or cut off by the fault that was answered
-pub record PrintsWork {T : Type 0} (work : Work) (answer : Result T OutFault) (before after : SinkView) : Type 0 where
-  pub printed : List ℕ
-  pub text : IsTextOfWork work printed
-  pub written : Writes printed answer before after
+abbrev pub PrintsWork : {T : Type 0} → Work → Result T OutFault → SinkView → SinkView → Type 0
+PrintsWork work answer before after = WritesText (IsTextOfWork work) (λ printed. Writes printed answer before after)

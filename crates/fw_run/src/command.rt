@@ -8,6 +8,7 @@ ghost use Rattle.fw_run.specs.Headline.{Headline};
 ghost use Rattle.fw_run.specs.Status.{status_number, IsTold, IsTellingOf};
 ghost use Rattle.fw_run.specs.Texts.{Texts, AreAccepted, spelled_system, spelled_items};
 ghost use Rattle.fw_run.specs.Words.{words_in, command_of};
+ghost use Rattle.fw_run.specs.Writing.{NeverFall};
 
 use crate::Status;
 use crate::run::run;
@@ -17,8 +18,8 @@ use std::alloc::Global;
 
 /// Runs a command: `words` are those after the program's name. `run FLOW INPUTS SCHEDULE` fetches and reads the
 /// three texts from the folder, takes the steps of the schedule and prints their effects to `out`; `check FLOW` reads the
-/// text of a flow and prints its nodes. Where that does not end well, one line on `notes` says why. The store is for the
-/// records that nodes write, which the engine of today keeps in its state instead.
+/// text of a flow and prints its nodes. Where that does not end well, one line on `notes` says why. The store is for records of
+/// what nodes write; the engine of today keeps the writes in its state and makes no records.
 pub fn falkirk<F: Folder, K: Store, O: Sink, N: Sink>(
     alloc: Global,
     words: &[&str],
@@ -45,13 +46,13 @@ pub fn falkirk<F: Folder, K: Store, O: Sink, N: Sink>(
         ⊎ PrintsPart (call_of words.now (F.texts folder.old)) OutFault.NoMemory (O.view out.old) (O.view out.new) }
 
     // At 2 to 6 nothing was written. Whatever the status: what was asked of the folder, what the notes took, that the store
-    // stays and that no count of faults falls.
+    // stays and that no count of faults or of refusals falls.
     ensures nothing_out { 2 ≤ status_number result → status_number result ≤ 6 → out.new ≡ out.old }
-    ensures folder { KeepsFolder F.texts F.fetch_count (command_of (words_in words.now)) folder.old folder.new }
+    ensures folder { KeepsFolder F.texts F.fetch_count (command_of (words_in words.now)) result folder.old folder.new }
     ensures notes { TellsNotes N.view result notes.old notes.new }
     ensures store { store.new ≡ store.old }
     ensures never_fall { (F.fault_count folder.old ≤ F.fault_count folder.new)
-        × ((O.view out.old).faults ≤ (O.view out.new).faults) × ((N.view notes.old).faults ≤ (N.view notes.new).faults) }
+        × NeverFall (O.view out.old) (O.view out.new) × NeverFall (N.view notes.old) (N.view notes.new) }
 
     // Which texts are refused and of which all is printed; and what the machine does with accepted texts of a run.
     ensures answer { AnswersTexts (call_of words.now (F.texts folder.old)) result }
@@ -65,7 +66,7 @@ pub fn falkirk<F: Folder, K: Store, O: Sink, N: Sink>(
 fn tell<N: Sink>(alloc: Global, status: Status, notes: &mut N) -> Status
     ensures status { IsTellingOf status result }
     ensures notes { TellsNotes N.view result notes.old notes.new }
-    ensures never_falls { (N.view notes.old).faults ≤ (N.view notes.new).faults }
+    ensures never_fall { NeverFall (N.view notes.old) (N.view notes.new) }
 {
     match status {
         Status::Done => {}
@@ -87,7 +88,7 @@ fn tell<N: Sink>(alloc: Global, status: Status, notes: &mut N) -> Status
 // Writes a line; a refused write changes nothing else.
 fn note<N: Sink>(notes: &mut N, line: &[u8])
     ensures told { IsTold line.now (N.view notes.old) (N.view notes.new) }
-    ensures never_falls { (N.view notes.old).faults ≤ (N.view notes.new).faults }
+    ensures never_fall { NeverFall (N.view notes.old) (N.view notes.new) }
 {
     let _ = notes.write(line);
 }

@@ -3,7 +3,7 @@ ghost use Rattle.std.specs.Prelude.{◌≡◌, [], ◌∷◌};
 ghost use Rattle.fw_flow.specs.Dataflow.{system_of};
 ghost use Rattle.fw_plain.specs.EffectText.{outcome_text};
 ghost use Rattle.fw_plain.specs.Engine.{outcome_of};
-ghost use Rattle.fw_run.specs.Performing.{IsUnderWay, PrintsItem, Performs, shown_bytes};
+ghost use Rattle.fw_run.specs.Performing.{IsUnderWay, PrintsItem, Performs};
 ghost use Rattle.fw_run.specs.Printed as spec;
 ghost use Rattle.fw_run.specs.Reading.{IsReady};
 ghost use Rattle.fw_run.specs.Writing.{Writes};
@@ -120,7 +120,7 @@ fn idle_steps(stepped: &Stepped) -> u64
     }
 }
 
-// Prints the lines of what came of a step, if it shows something.
+// Prints the lines of what came of a step, if there are any.
 fn print<O: Sink>(alloc: Global, flow: &Flow, stepped: Stepped, out: &mut O) -> Result<(), OutFault>
     ensures { Writes (outcome_text flow.now (outcome_of stepped)) result (O.view out.old) (O.view out.new) }
 {

@@ -5,12 +5,11 @@ ghost use Rattle.fw_lines.specs.Inputs as inputs;
 ghost use Rattle.fw_flow.specs.Dataflow.{system_of};
 ghost use Rattle.fw_flow.specs.Sources.{sources_of};
 ghost use Rattle.fw_flow.specs.WellFormed.{IsWellFormedSystem};
-ghost use Rattle.fw_flow_text.specs.Grammar as flows;
 ghost use Rattle.fw_schedule.specs.Grammar as schedules;
 ghost use Rattle.fw_schedule.specs.Schedule.{step_count, step_limit};
 ghost use Rattle.fw_run.specs.Reading.{IfRefused, IsTooLarge, IsJob, IsReady};
 ghost use Rattle.fw_run.specs.Words.{text_names_in};
-ghost use Rattle.fw_run.specs.Texts.{HasText, IsFlowRefused, AreInputsRefused, IsScheduleRefused, IsFirstRefusal, IsAskedNoMore};
+ghost use Rattle.fw_run.specs.Texts.{HasText, HasFlow, IsFlowRefused, AreInputsRefused, IsScheduleRefused, IsFirstRefusal, IsAskedNoMore};
 
 use crate::words::RunWords;
 use fw_flow::Flow;
@@ -93,7 +92,7 @@ pub(crate) fn fetch_flow<F: Folder>(
     folder: &mut F,
     name: &str,
 ) -> Result<Flow, JobFault>
-    ensures flow { IfOk result (λ flow. HasText (F.texts folder.old) name.now (λ text. flows.IsAccepted text flow)) }
+    ensures flow { IfOk result (HasFlow (F.texts folder.old) name.now) }
     ensures refused { IfErr result (IfRefused (IsFlowRefused (F.texts folder.old) name.now)) }
     ensures failed { IsErrOf result JobFault.Failed → Rose (F.fault_count folder.old) (F.fault_count folder.new) }
     ensures never_falls { F.fault_count folder.old ≤ F.fault_count folder.new }

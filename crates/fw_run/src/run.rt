@@ -5,6 +5,7 @@ ghost use Rattle.fw_outside.specs.Outside.{Rose};
 ghost use Rattle.fw_run.specs.Call.{call_of, PrintsAll, PrintsPart, HasRefused, KeepsFolder};
 ghost use Rattle.fw_run.specs.Status.{status_number};
 ghost use Rattle.fw_run.specs.Words.{words_in, command_of};
+ghost use Rattle.fw_run.specs.Writing.{NeverFall};
 
 use crate::Status;
 use crate::reading::JobFault;
@@ -31,12 +32,14 @@ pub(crate) fn run<F: Folder, O: Sink>(
     ensures no_memory { result ≡ Status.NoMemory → (out.new ≡ out.old)
         ⊎ PrintsPart (call_of words.now (F.texts folder.old)) OutFault.NoMemory (O.view out.old) (O.view out.new) }
     ensures nothing_out { status_number result ≤ 6 → (result ≡ Status.Done) ⊎ (out.new ≡ out.old) }
-    ensures folder { KeepsFolder F.texts F.fetch_count (command_of (words_in words.now)) folder.old folder.new }
+    ensures folder { KeepsFolder F.texts F.fetch_count (command_of (words_in words.now)) result folder.old folder.new }
     ensures folder_count { F.fault_count folder.old ≤ F.fault_count folder.new }
-    ensures out_count { (O.view out.old).faults ≤ (O.view out.new).faults }
+    ensures out_counts { NeverFall (O.view out.old) (O.view out.new) }
 {
-    let Some(command) = parse(words) else {
-        return Status::BadWords;
+    let command = match parse(alloc, words) {
+        Ok(Some(command)) => command,
+        Ok(None) => return Status::BadWords,
+        Err(_) => return Status::NoMemory,
     };
     let work = match read_work(alloc, &command, folder) {
         Ok(work) => work,

@@ -8,7 +8,7 @@ use fw_lines::{Code, Refusal};
 /// How a command ended.
 #[derive(Clone, Copy, Debug, PartialEq, Eq)]
 pub enum Status {
-    /// The texts were read to their ends and every line was written.
+    /// All that the command prints was written.
     Done,
     /// The words are not those of a command.
     BadWords,

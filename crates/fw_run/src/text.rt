@@ -12,7 +12,7 @@ use fw_lines::Refusal;
 use fw_plain::Stepped;
 use std::alloc::{AllocError, Global};
 
-/// The lines of what came of a step of the flow, as bytes, if it shows something.
+/// The lines of what came of a step of the flow, as bytes; none stands for no line.
 pub fn line_of(alloc: Global, flow: &Flow, stepped: Stepped) -> Result<Option<Vec<u8>>, AllocError>
     ensures { IfOk result (λ line. shown_bytes line
         ≡ outcome_text flow.now (outcome_of stepped)) }

@@ -1,7 +1,17 @@
 //! The words of a command.
-ghost use Rattle.std.specs.Prelude.{◌≡◌, option_map};
-ghost use Rattle.fw_run.specs.Words as spec;
+ghost use Rattle.std.specs.Prelude.{◌≡◌, ◌≢◌, [], ◌∷◌, codes, is_some, None, false, option_map, IfOk, IsErr};
+ghost use Rattle.clap.specs.Matches.{found_of};
+ghost use Rattle.clap.specs.Simple.{app_of, shape_of, subcommand_rows_of};
+ghost use Rattle.clap.specs.Values.{kind_of};
+ghost use Rattle.clap.specs.Walk.{rule_of, rows_of, first_of};
+ghost use Rattle.fw_run.specs.Forms as spec;
+ghost use Rattle.fw_run.specs.Forms.{forms, matched_command};
 ghost use Rattle.fw_run.specs.Words.{is_operand, check_of, run_of, command_of, command_in, text_names_in, words_in};
+ghost use Rattle.clap.specs.declared.builder.command.Command.TheViews.{out-Command as fields_of};
+
+use clap::error::ErrorKind;
+use clap::{Arg, ArgMatches, Command, Error};
+use std::alloc::{AllocError, Global};
 
 /// The names of the three texts of a run.
 #[derive(Clone, Copy, Debug)]
@@ -20,6 +30,63 @@ pub(crate) enum CommandWords<'a> {
     Check(&'a str),
 }
 
+/// What the words ask for, if they are a command. The error is want of memory.
+pub(crate) fn parse<'a>(
+    alloc: Global,
+    words: &'a [&'a str],
+) -> Result<Option<CommandWords<'a>>, AllocError>
+    ensures command { IfOk result (λ parsed. option_map command_in parsed ≡ command_of (words_in words.now)) }
+    ensures no_memory { IsErr result → command_of (words_in words.now) ≢ None }
+{
+    if !is_command(words) {
+        return Ok(None);
+    }
+    let forms = commands(alloc)?;
+    match forms.try_get_matches_from(words) {
+        Ok(matches) => Ok(named(&matches)),
+        Err(error) => refused(&error),
+    }
+}
+
+// Words that `clap` refuses are no command, but where memory was refused.
+fn refused<'a>(error: &Error) -> Result<Option<CommandWords<'a>>, AllocError>
+    ensures none { IfOk result (λ command. command ≡ None) }
+    ensures no_memory { kind_of error.now ≡ ErrorKind.OutOfMemory → IsErr result }
+{
+    match error.kind() {
+        ErrorKind::OutOfMemory => Err(AllocError),
+        _ => Ok(None),
+    }
+}
+
+// Whether the words are a command: the word of a form, and as many operands.
+fn is_command(words: &[&str]) -> bool
+    ensures { result ≡ is_some (command_of (words_in words.now)) }
+{
+    is_check(words) || is_run(words)
+}
+
+// Whether the words are `check` and an operand.
+fn is_check(words: &[&str]) -> bool
+    ensures { result ≡ is_some (check_of (words_in words.now)) }
+{
+    let [command, flow] = words else {
+        return false;
+    };
+    *command == "check" && is_operand(flow)
+}
+
+// Whether the words are `run` and three operands.
+fn is_run(words: &[&str]) -> bool
+    ensures { result ≡ is_some (run_of (words_in words.now)) }
+{
+    let [command, flow, inputs, schedule] = words else {
+        return false;
+    };
+    *command == "run" && is_operand(flow) && is_operand(inputs) && is_operand(schedule)
+}
+
+// An operand is not empty, and no option.
 fn is_operand(word: &str) -> bool
     ensures { result ≡ is_operand word.now }
 {
@@ -29,45 +96,71 @@ fn is_operand(word: &str) -> bool
     }
 }
 
-/// What the words ask for, if they are a command.
-pub(crate) fn parse<'a>(words: &[&'a str]) -> Option<CommandWords<'a>>
-    ensures { option_map command_in result ≡ command_of (words_in words.now) }
+// The forms of the commands. The words hold no name of the program, and none asks for help.
+fn commands<'a>(alloc: Global) -> Result<Command<'a>, AllocError>
+    ensures { IfOk result (λ command. app_of command ≡ forms) }
 {
-    if let Some(flow) = parse_check(words) {
-        return Some(CommandWords::Check(flow));
-    }
-    let names = parse_run(words)?;
-    Some(CommandWords::Run(names))
+    Command::new(alloc, "falkirk")
+        .no_binary_name(true)
+        .disable_help_flag(true)
+        .disable_help_subcommand(true)
+        .subcommand(run_form(alloc)?)?
+        .subcommand(check_form(alloc)?)
 }
 
-// The flow that is checked, if the words are `check` and an operand.
-fn parse_check<'a>(words: &[&'a str]) -> Option<&'a str>
-    ensures { option_map (λ flow. spec.check flow.now) result ≡ check_of (words_in words.now) }
+// The form `run FLOW INPUTS SCHEDULE`.
+fn run_form<'a>(alloc: Global) -> Result<Command<'a>, AllocError>
+    ensures shape { IfOk result (λ form. shape_of form ≡ spec.form (codes "run") (codes "flow" ∷ codes "inputs" ∷ codes "schedule" ∷ [])) }
+    ensures local { IfOk result (λ form. (fields_of form).has_globals ≡ false) }
 {
-    let [command, flow] = words else {
-        return None;
-    };
-    if *command == "check" && is_operand(flow) {
-        Some(*flow)
-    } else {
-        None
+    Command::new(alloc, "run")
+        .arg(operand(alloc, "flow"))?
+        .arg(operand(alloc, "inputs"))?
+        .arg(operand(alloc, "schedule"))
+}
+
+// The form `check FLOW`.
+fn check_form<'a>(alloc: Global) -> Result<Command<'a>, AllocError>
+    ensures shape { IfOk result (λ form. shape_of form ≡ spec.form (codes "check") (codes "flow" ∷ [])) }
+    ensures local { IfOk result (λ form. (fields_of form).has_globals ≡ false) }
+{
+    Command::new(alloc, "check").arg(operand(alloc, "flow"))
+}
+
+// An operand of a form, by a name that its matches have.
+fn operand<'a>(alloc: Global, name: &'a str) -> Arg<'a>
+    ensures rule { rule_of result ≡ spec.operand name.entry.now }
+    ensures local { result.global ≡ false }
+{
+    Arg::new(alloc, name).required(true)
+}
+
+// The command that the matches name.
+fn named<'a>(matches: &ArgMatches<'a>) -> Option<CommandWords<'a>>
+    ensures { option_map command_in result ≡ matched_command (subcommand_rows_of matches.now) }
+{
+    let (word, operands) = matches.subcommand()?;
+    match word {
+        "run" => Some(CommandWords::Run(run_words(operands)?)),
+        "check" => Some(CommandWords::Check(given(operands, "flow")?)),
+        _ => None,
     }
 }
 
-// The names of the texts of a run, if the words are `run` and three operands.
-fn parse_run<'a>(words: &[&'a str]) -> Option<RunWords<'a>>
-    ensures { option_map (λ parsed. spec.run (text_names_in parsed)) result ≡ run_of (words_in words.now) }
+// The names of the texts of a run.
+fn run_words<'a>(operands: &ArgMatches<'a>) -> Option<RunWords<'a>>
+    ensures { option_map text_names_in result ≡ spec.names_matched (rows_of (found_of operands.now)) }
 {
-    let [command, flow, inputs, schedule] = words else {
-        return None;
-    };
-    if *command == "run" && is_operand(flow) && is_operand(inputs) && is_operand(schedule) {
-        Some(RunWords {
-            flow: *flow,
-            inputs: *inputs,
-            schedule: *schedule,
-        })
-    } else {
-        None
-    }
+    Some(RunWords {
+        flow: given(operands, "flow")?,
+        inputs: given(operands, "inputs")?,
+        schedule: given(operands, "schedule")?,
+    })
+}
+
+// What was given for an operand.
+fn given<'a>(operands: &ArgMatches<'a>, name: &str) -> Option<&'a str>
+    ensures { option_map (λ text. text.now) result ≡ first_of name.now (rows_of (found_of operands.now)) }
+{
+    operands.get_str(name)
 }

@@ -1,7 +1,6 @@
 //! Up to where nothing is missing at a node alone.
 ghost use Rattle.std.specs.Prelude.{◌≡◌, ◌++◌, ◌&&◌, not, ◌||◌, ◌==◌, map, reverse, IfOk, OnOk};
 ghost use Rattle.std.specs.List.{list_any};
-ghost use Rattle.fw_time.specs.declared.stamp.Bounds.{Bounds as Domain};
 ghost use Rattle.fw_frontier.specs.Frontier.{without_above};
 ghost use Rattle.fw_frontier.specs.Front.{inside, frontier_of, IsCanonical, IsFrontOf};
 ghost use Rattle.fw_flow.specs.Dataflow.{receiver, bounds_of, system_of};

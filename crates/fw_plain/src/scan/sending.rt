@@ -1,12 +1,11 @@
 //! What events make their nodes send.
-ghost use Rattle.std.specs.Prelude.{◌≡◌, ◌≤◌, ◌+◌, true, [], ◌∷◌, length, reverse, if◌then◌else◌, option_to_list, IfOk};
-ghost use Rattle.fw_time.specs.Stamp.{in_domain, same};
+ghost use Rattle.std.specs.Prelude.{◌≡◌, true, [], ◌∷◌, length, reverse, if◌then◌else◌, option_to_list, IfOk};
+ghost use Rattle.fw_time.specs.Stamp.{in_domain};
 ghost use Rattle.fw_bag.specs.Keyed as keyed;
-ghost use Rattle.fw_flow.specs.Dataflow.{kind_of, bounds_of, bounds_of_domain, domain_of_kind, greatest_number, send_stamp_of_kind, system_of};
+ghost use Rattle.fw_flow.specs.Dataflow.{bounds_of, bounds_of_domain, domain_of_kind, send_stamp_of_kind, system_of};
 ghost use Rattle.fw_flow.specs.NodeFunction as function;
 ghost use Rattle.fw_flow.specs.Projection.{events_at};
 ghost use Rattle.fw_flow.specs.WellFormed.{IsGroupSize};
-ghost use Rattle.fw_plain.specs.Wanted.{is_wanted};
 ghost use Rattle.fw_model.specs.History.{AreAtNodes};
 
 use super::arrivals::{Wanted, batch, delivered_to, place, stamp};

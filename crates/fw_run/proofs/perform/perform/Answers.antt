@@ -1,4 +1,4 @@
-use Rattle.std.proofs.Common.{◌≡◌, ◌+◌, ◌≤◌, ◌^◌, ◌<◌, ◌∙◌, take, length, ap, subst, arith}
+use Rattle.std.proofs.Common.{◌≡◌, ◌+◌, ◌≤◌, ◌∙◌, take, subst, arith}
 use Rattle.std.proofs.lemmas.Result.{err_from_is_err_and}
 use Rattle.fw_flow.specs.Dataflow.{system_of}
 use Rattle.fw_schedule.specs.Schedule.{step_count, step_limit}
@@ -56,7 +56,7 @@ returns-in_err-taken g c =
     let sys = system_of c.args.job.flow c.args.job.batches in
     let view = g.O.Sink.view in
     rw (p.1, p.2) (rw c.as_slice-item-items.ensures at
-    (stops_at {T = Unit {0}} sys c.as_slice-item-items.result.now c.loop-item.item-index c.loop-item.engine c.item-item.result c.loop-item.steps c.loop-item.idle _ (view c.args.out.now) (view c.loop-item.out) (view c.perform_item.new.out) c.loop-item.invariant.so_far c.requires.well_formed c.loop-item-test.true c.item-item.is c.in_err-taken.ensures.printed))
+    (stops_at sys c.as_slice-item-items.result.now c.loop-item.item-index c.loop-item.engine c.item-item.result c.loop-item.steps c.loop-item.idle _ (view c.args.out.now) (view c.loop-item.out) (view c.perform_item.new.out) c.loop-item.invariant.so_far c.requires.well_formed c.loop-item-test.true c.item-item.is c.in_err-taken.ensures.printed))
 
 pub returns-in_err-line : goal.returns-in_err-line
 returns-in_err-line g c =
@@ -65,7 +65,7 @@ returns-in_err-line g c =
     let view = g.O.Sink.view in
     let xs = c.as_slice-item-items.result.now in
     let all = all_so_far sys xs c.loop-item.item-index c.loop-item.engine c.loop-item.steps c.loop-item.idle (view c.args.out.now) (view c.loop-item.out) c.loop-item.invariant.so_far c.loop-item-test.false in
-    rw (p.1, p.2) (rw c.as_slice-item-items.ensures at (stops_after_items {T = Unit {0}} sys xs c.loop-item.engine c.loop-item.steps c.loop-item.idle (view c.args.out.now) (view c.loop-item.out) all))
+    rw (p.1, p.2) (rw c.as_slice-item-items.ensures at (stops_after_items sys xs c.loop-item.engine c.loop-item.steps c.loop-item.idle (view c.args.out.now) (view c.loop-item.out) all))
 
 pub returns : goal.returns
 returns g c =
@@ -75,6 +75,6 @@ returns g c =
     let items = subst (λ t. IsSoFar sys t c.loop-item.engine c.loop-item.steps c.loop-item.idle (view c.args.out.now) (view c.loop-item.out)) c.as_slice-item-items.ensures all in
     let line : c.as_bytes.result.now ≡ done_line c.loop-item.steps c.loop-item.idle = c.as_bytes.ensures.value ∙ c.in_ok-line.ensures in
     let e = c.write.ensures in
-    let written = writes c.as_bytes.result.now c.write.result (view c.loop-item.out) (view c.write.new.self) e.whole e.refused e.refusals_stay e.failed e.never_falls in
+    let written = writes c.as_bytes.result.now c.write.result (view c.loop-item.out) (view c.write.new.self) e.whole e.refused e.refusals_stay e.refusal_counted e.failed (record { faults = e.never_falls; refusals = e.refusals_never_fall }) in
     ends sys c.args.job.items c.loop-item.engine c.loop-item.steps c.loop-item.idle c.write.result (view c.args.out.now) (view c.loop-item.out) (view c.write.new.self) items
     (subst (λ t. Writes t c.write.result (view c.loop-item.out) (view c.write.new.self)) line written)

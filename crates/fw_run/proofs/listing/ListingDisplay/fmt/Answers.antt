@@ -1,4 +1,4 @@
-use Rattle.std.proofs.Common.{◌≡◌, ◌++◌, sym, ◌∙◌, ap, arith, rules}
+use Rattle.std.proofs.Common.{◌++◌, sym, ◌∙◌, ap, rules}
 use Rattle.std.proofs.Output.{has_written_of_eq, has_written_append}
 use Rattle.std.specs.List.{flat_map, range_with_len}
 use Rattle.fw_flow.proofs.Ranges.{joined_more}

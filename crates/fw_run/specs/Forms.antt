@@ -1,0 +1,45 @@
+-- The forms of the commands, as `clap` is told them, and the command that its matches name.
+use Rattle.std.specs.Prelude.{ℕ, true, false, if◌then◌else◌, List, [], ◌∷◌, map, Option, Some, None, option_map, option_and_then, codes}
+use Rattle.std.specs.Str.{bytes_eq}
+use Rattle.clap.specs.Simple.{App, Shape, new_rule, new_shape}
+use Rattle.clap.specs.Walk.{Row, Rule, first_of}
+use Rattle.fw_run.specs.Words.{Command, TextNames, run, check}
+
+-- an operand, which has to be there
+abbrev pub operand : List ℕ → Rule
+operand name = record (new_rule name) { required = true }
+
+-- a command's word and its operands
+abbrev pub form : List ℕ → List (List ℕ) → Shape
+form word operands = record (new_shape word) { rules = map operand operands }
+
+-- the forms of all commands; there is no word for help
+abbrev pub forms : App
+forms = record {
+  top = record (new_shape (codes "falkirk")) {
+    is_leaf = false;
+    no_binary_name = true;
+    disable_help_flag = true;
+    disable_help_subcommand = true;
+  };
+  subs = form (codes "run") (codes "flow" ∷ codes "inputs" ∷ codes "schedule" ∷ []) ∷ form (codes "check") (codes "flow" ∷ []) ∷ [];
+}
+
+-- the names of the three texts of a run, if all are there
+abbrev pub names_by : Option (List ℕ) → Option (List ℕ) → Option (List ℕ) → Option TextNames
+names_by (Some flow) (Some inputs) (Some schedule) = Some (record { flow = flow; inputs = inputs; schedule = schedule })
+names_by flow inputs schedule = None
+
+-- those that were matched
+abbrev pub names_matched : List Row → Option TextNames
+names_matched rows = names_by (first_of (codes "flow") rows) (first_of (codes "inputs") rows) (first_of (codes "schedule") rows)
+
+-- the command of a form's word, with what was matched of its operands
+abbrev pub command_matched : List ℕ → List Row → Option Command
+command_matched word rows =
+    if bytes_eq word (codes "run") then option_map run (names_matched rows)
+    else (if bytes_eq word (codes "check") then option_map check (first_of (codes "flow") rows) else None)
+
+-- the command that the matches name
+abbrev pub matched_command : Option (List ℕ × List Row) → Option Command
+matched_command matched = option_and_then (λ form. command_matched form.0 form.1) matched

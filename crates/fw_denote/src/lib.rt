@@ -3,12 +3,17 @@
 
 mod alone;
 mod bag;
+mod denoting;
 mod distinct;
+mod family;
 mod join;
 mod keyed;
 mod numbered;
 mod outputs;
+mod passes;
 mod timed;
 
 pub use bag::TimedBag;
+pub use denoting::denote;
+pub use family::Family;
 pub use timed::Timed;

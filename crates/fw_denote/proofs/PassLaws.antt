@@ -66,6 +66,15 @@ sent-in_domain flow batches w bags h p =
     (each-mapped (λ e. AreIn flow kind (family_of flow bags e)) (AllByRecursion (At (IsIn flow kind))) (family_of flow bags) (λ e a. a) es
     (each-edge 0 es (λ e. AreIn flow kind (family_of flow bags e)) (λ i d l. comes_in flow w.flow bags h p kind es i d refl refl l))))
 
+-- another bag for a node is held
+pub held_with : (flow : Dataflow) (bags : List (List Timed)) (p : ℕ) (bag : List Timed) → IsHeld flow bags → p < length bags
+    → in_order bag ≡ bag → AreOut flow (kind_of flow p) bag → IsHeld flow (set bags p bag)
+held_with flow bags p bag h l o a = record {
+  one_each = length-set bags p bag ∙ h.one_each;
+  in_order = set_cases (λ q rs. in_order rs ≡ rs) bags p bag l o h.in_order;
+  in_domain = set_cases (λ q rs. AreOut flow (kind_of flow q) rs) bags p bag l a h.in_domain;
+}
+
 pub held_more : (flow : Dataflow) (batches : List (ℕ × List (List Rec))) → IsWellFormedSystem (system_of flow batches) → (bags : List (List Timed)) → IsHeld flow bags
     → (p : ℕ) → p < length flow.nodes → IsHeld flow (set bags p (outputs_of (system_of flow batches) (family_of flow bags) p))
 held_more flow batches w bags h p there =

@@ -1,15 +1,17 @@
 -- What a node sends in all, by the number of its in-edges.
 use Rattle.std.proofs.Common.{◌≡◌, ℕ, zero, suc, ◌+◌, ◌<◌, ◌≤◌, true, List, [], ◌∷◌, ◌++◌, length, get_or, map, Option, refl, sym, ap, subst, ◌∙◌, arith}
 use Rattle.std.specs.List.{AllByRecursion}
-use Rattle.std.proofs.lemmas.List.{append-nil}
+use Rattle.std.proofs.lemmas.List.{append-nil, length-map}
 use Rattle.std.proofs.lemmas.List.FromFn.{get_or-map-range_with_len}
 use Rattle.fw_time.specs.Stamp.{in_domain}
+use Rattle.fw_time.specs.declared.stamp.Bounds.{Bounds}
+use Rattle.fw_bag.specs.Bag.{BagState}
 use Rattle.fw_bag.specs.declared.rec.Rec.{Rec}
 use Rattle.fw_lines.specs.Batches.{batches_at}
 use Rattle.fw_flow.specs.declared.kind.Kind.{Kind}
 use Rattle.fw_flow.specs.declared.kind.Kind.TheVariants.{Input, OutputEpoch, OutputNumber, Select, Concat, Distinct, Join, Sum, Enter, Feedback, Leave, Total, Sequence, Ledger, Regroup}
-use Rattle.fw_flow.specs.Dataflow.{Dataflow, kind_of, sender, receiver, in_edges, bounds_of_domain, batches_of, batches_of_nodes, system_of}
-use Rattle.fw_flow.specs.WellFormed.{IsWellFormed, IsInDegree}
+use Rattle.fw_flow.specs.Dataflow.{Dataflow, kind_of, sender, receiver, in_edges, bounds_of, bounds_of_domain, batches_of, batches_of_nodes, system_of}
+use Rattle.fw_flow.specs.WellFormed.{IsWellFormed, IsWellFormedSystem, IsInDegree}
 use Rattle.fw_flow.specs.WholeBags.{Timed, in_order, one_by_one, joint_bag, outputs_of, outputs_of_kind}
 use Rattle.fw_model.proofs.LegalLaws.{edge_domains}
 use Rattle.fw_model.proofs.DependenceLaws.{in_edges-each}
@@ -144,3 +146,27 @@ many_come flow w p there kind edges k e l bs bags = degree-many flow kind (lengt
 pub nil_below : {X : Type 0} (xs : List X) → length xs < 1 → xs ≡ []
 nil_below [] l = refl
 nil_below (x ∷ xs) l = absurd (omega arith)
+
+-- what is within the bounds of a node's domain
+pub within_node : (flow : Dataflow) (p : ℕ) (kind : Kind) (bounds : Bounds) (rs : List Timed) → kind ≡ kind_of flow p → bounds ≡ bounds_of flow p
+    → AllByRecursion (λ (r : Timed). in_domain bounds r.at ≡ true) rs → AreIn flow kind rs
+unfolding bounds_of
+within_node flow p kind bounds rs k b a =
+    subst (λ x. AreIn flow x rs) (sym k) (subst (λ (x : Bounds). AllByRecursion (λ (r : Timed). in_domain x r.at ≡ true) rs) b a)
+
+-- what is within the bounds of the receiver's domain is at stamps of the sender's out domain
+pub within_receiver : (flow : Dataflow) → IsWellFormed flow → (e p : ℕ) → sender flow e ≡ p → (bounds : Bounds) (rs : List Timed) → bounds ≡ bounds_of flow (receiver flow e)
+    → AllByRecursion (λ (r : Timed). in_domain bounds r.at ≡ true) rs → AreOut flow (kind_of flow p) rs
+unfolding bounds_of
+within_receiver flow w e p s bounds rs b a =
+    subst (λ q. AreOut flow (kind_of flow q) rs) s
+    (subst (λ dom. AllByRecursion (λ (r : Timed). in_domain (bounds_of_domain flow dom) r.at ≡ true) rs) (sym (edge_domains flow w e))
+    (subst (λ (x : Bounds). AllByRecursion (λ (r : Timed). in_domain x r.at ≡ true) rs) b a))
+
+-- the batches of a node that is there are few
+pub few_batches : (flow : Dataflow) (batches : List (ℕ × List (List Rec))) → IsWellFormedSystem (system_of flow batches) → (p : ℕ) → p < length flow.nodes
+    → (bags : List BagState) → map (λ (b : BagState). b.recs) bags ≡ batches_at batches p → length bags ≤ 4294967296
+few_batches flow batches w p l bags e =
+    let f = w.few p in
+    let n = ap length (e ∙ sym (batches_there flow batches p l)) in
+    omega (arith, length-map bags (λ (b : BagState). b.recs), n, f)

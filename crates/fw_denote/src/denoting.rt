@@ -1,26 +1,16 @@
 //! The denotation.
-ghost use Rattle.std.specs.Prelude.{◌≡◌, ◌<◌, ℕ, [], IfOk, OnOk, replicate, length};
+ghost use Rattle.std.specs.Prelude.{IfOk, OnOk};
 ghost use Rattle.fw_flow.specs.Dataflow.{system_of};
 ghost use Rattle.fw_flow.specs.WellFormed.{IsWellFormedSystem};
 ghost use Rattle.fw_model.specs.Denotation.{IsDenotation};
 ghost use Rattle.fw_denote.specs.Holding.{IsHeld, family_of, family_on};
 
 use crate::passes::pass;
+use crate::rounds::first_bags;
 use crate::{Family, TimedBag};
 use fw_flow::Flow;
 use fw_lines::Batches;
 use std::alloc::{AllocError, Global};
-
-/// An empty bag for each node.
-fn no_bags(alloc: Global, flow: &Flow) -> Result<Vec<TimedBag>, AllocError>
-    ensures { IfOk result (λ bags. bags.items ≡ replicate (length flow.now.nodes) []) }
-{
-    let mut bags = Vec::with_capacity(alloc, flow.nodes())?;
-    for _place in 0..flow.nodes() {
-        bags.push(TimedBag::empty(alloc))?;
-    }
-    Ok(bags)
-}
 
 /// Runs the nodes until nothing changes.
 fn settle(
@@ -48,7 +38,7 @@ pub fn denote(alloc: Global, flow: &Flow, batches: &Batches) -> Result<Family, A
     requires { IsWellFormedSystem (system_of flow.now batches.now) }
     ensures { IfOk result (λ family. IsDenotation (system_of flow.now batches.now) (family_on family)) }
 {
-    let mut bags = no_bags(alloc, flow)?;
+    let mut bags = first_bags(alloc, flow, batches)?;
     settle(alloc, flow, batches, &mut bags)?;
     Family::of(alloc, flow, bags)
 }

@@ -11,6 +11,8 @@ mod keyed;
 mod numbered;
 mod outputs;
 mod passes;
+mod ranks;
+mod rounds;
 mod timed;
 
 pub use bag::TimedBag;

@@ -83,7 +83,7 @@ fn joint(
 }
 
 /// Puts the timed recs at the end.
-fn put_all(rs: &mut Vec<Timed>, more: &[Timed]) -> Result<(), AllocError>
+pub(crate) fn put_all(rs: &mut Vec<Timed>, more: &[Timed]) -> Result<(), AllocError>
     ensures { OnOk result (rs.new.items ≡ rs.old.items ++ more.now) }
 {
     for r in more {

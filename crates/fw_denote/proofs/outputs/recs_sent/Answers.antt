@@ -1,5 +1,4 @@
 use Rattle.std.proofs.Common.{◌≡◌, ℕ, ◌≤◌, [], ◌∷◌, List, length, map, sym, ap, ◌∙◌, subst, arith}
-use Rattle.std.proofs.lemmas.List.{length-map}
 use Rattle.std.proofs.lemmas.Result.{IfOk-weaker}
 use Rattle.fw_bag.specs.Bag.{BagState}
 use Rattle.fw_bag.specs.declared.rec.Rec.{Rec}
@@ -8,14 +7,13 @@ use Rattle.fw_flow.specs.Dataflow.{batches_of, system_of}
 use Rattle.fw_flow.specs.WholeBags.{Timed, in_order, outputs_of_kind}
 use Rattle.fw_denote.specs.Domains.{AreIn}
 use Rattle.fw_denote.specs.Holding.{family_of}
-use Rattle.fw_denote.proofs.WholeLaws.{none_come, batches_there, by_edges, comes_in, many_come, nil_below}
+use Rattle.fw_denote.proofs.WholeLaws.{none_come, batches_there, few_batches, by_edges, comes_in, many_come, nil_below}
 use Rattle.fw_denote.proofs.outputs.recs_sent.Goals as goal
 
 pub sent-requires-clause-few : goal.sent-requires-clause-few
 sent-requires-clause-few c =
-    let e = c.of.ensures ∙ ap (batches_at c.args.batches.now) c.place.ensures ∙ sym (batches_there c.args.flow.now c.args.batches.now c.args.node c.requires.there) in
-    let f = c.requires.system.few c.args.node in
-    omega (arith, length-map c.of.result.now (λ (b : BagState). b.recs), ap length e, f)
+    few_batches c.args.flow.now c.args.batches.now c.requires.system c.args.node c.requires.there c.of.result.now
+    (c.of.ensures ∙ ap (batches_at c.args.batches.now) c.place.ensures)
 
 pub sent-requires-in-len1-clause-in_domain : goal.sent-requires-in-len1-clause-in_domain
 sent-requires-in-len1-clause-in_domain c =

@@ -21,7 +21,7 @@ use Rattle.fw_model.proofs.DenotationLaws.{denotation-only, denotation-exists}
 use Rattle.fw_model.specs.Measure.{enough_rounds}
 
 -- the timed rec is at a stamp that holds
-abbrev At : (Stamp → Type 0) → Timed → Type 0
+abbrev pub At : (Stamp → Type 0) → Timed → Type 0
 At P r = P r.at
 
 each-timed : (P : Stamp → Type 0) (at : Stamp) → P at → (rs : List Rec) → AllByRecursion (At P) (timed_recs at rs)
@@ -71,10 +71,10 @@ each-batch x (batch ∷ batches) l =
     (each-batch (x + 1) batches (omega arith))
 
 -- the stamp is one of the kind's domain, and of its out domain
-abbrev IsIn : Dataflow → Kind → Stamp → Type 0
+abbrev pub IsIn : Dataflow → Kind → Stamp → Type 0
 IsIn flow kind t = in_domain (bounds_of_domain flow (domain_of_kind flow kind)) t ≡ true
 
-abbrev IsOut : Dataflow → Kind → Stamp → Type 0
+abbrev pub IsOut : Dataflow → Kind → Stamp → Type 0
 IsOut flow kind t = in_domain (bounds_of_domain flow (out_domain_of_kind flow kind)) t ≡ true
 
 each-one_by_one : (flow : Dataflow) (kind : Kind) (rs : List Timed) → AllByRecursion (At (IsIn flow kind)) rs → AllByRecursion (At (IsOut flow kind)) (one_by_one flow kind rs)
@@ -89,7 +89,8 @@ each-joined P xs ys a = each-flat_map (At P) (At P) _ (λ r i. each-timed P r.at
 each-together : (P : Timed → Type 0) (bags : List (List Timed)) → AllByRecursion (AllByRecursion P) bags → AllByRecursion P (joint_bag bags)
 each-together P bags a = each-flat_map (AllByRecursion P) P (λ xs. xs) (λ xs b. b) bags a
 
-outputs-in_domain : (flow : Dataflow) (kind : Kind) (batches : List (List Rec)) (bags : List (List Timed)) → length batches ≤ greatest_number + 1
+-- what a node of the kind sends is at stamps of its out domain
+pub outputs-in_domain : (flow : Dataflow) (kind : Kind) (batches : List (List Rec)) (bags : List (List Timed)) → length batches ≤ greatest_number + 1
     → AllByRecursion (AllByRecursion (At (IsIn flow kind))) bags → AllByRecursion (At (IsOut flow kind)) (outputs_of_kind flow kind batches bags)
 outputs-in_domain flow Input batches bags l a = each-batch 0 batches (omega arith)
 outputs-in_domain flow OutputEpoch batches bags l a = tt

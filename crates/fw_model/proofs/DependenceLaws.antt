@@ -137,7 +137,7 @@ outputs-agree sys w by f g a b e l x h = elim (cases_Bool (is_looped sys.flow (r
 
 -- ---- the laws, by the recs at stamps
 
-ascending-from_in_order : (xs : List Timed) → in_order xs ≡ xs → IsAscendingTimed xs
+pub ascending-from_in_order : (xs : List Timed) → in_order xs ≡ xs → IsAscendingTimed xs
 ascending-from_in_order xs e = subst IsAscendingTimed e (ascending-in_order xs)
 
 -- the part at a stamp is its recs at the stamp

@@ -163,7 +163,7 @@ distinct-sent sys p n is t q (Deliver e m ∷ vs) =
 
 -- ---- what distinct sends in all
 
-stamp_cmp-test : (s t : Stamp) → is_eq (stamp_cmp s t) ≡ same s t
+pub stamp_cmp-test : (s t : Stamp) → is_eq (stamp_cmp s t) ≡ same s t
 stamp_cmp-test s t = elim (cases_Bool (same s t)) [
   | inl e ↦ let i = same-is s t e in sym (ap (λ u. is_eq (stamp_cmp s u)) i) ∙ ap is_eq (tied_itself nat_list_cmp_total s) ∙ sym e
   | inr e ↦ elim (cases_Bool (is_eq (stamp_cmp s t))) [
@@ -173,10 +173,10 @@ stamp_cmp-test s t = elim (cases_Bool (same s t)) [
 ]
 
 -- whether timed recs are one
-timed_cmp-test : (r x : Timed) → is_eq (timed_cmp r x) ≡ is_at r.at r.rec x
+pub timed_cmp-test : (r x : Timed) → is_eq (timed_cmp r x) ≡ is_at r.at r.rec x
 timed_cmp-test r x = then_parts (stamp_cmp r.at x.at) (rec_cmp r.rec x.rec) ∙ ap (λ b. b && is_eq (rec_cmp r.rec x.rec)) (stamp_cmp-test r.at x.at)
 
-among_timed-some : (r : Timed) (xs : List Timed) → is_among_timed r xs ≡ true → 0 < weigh (one r.at r.rec) xs
+pub among_timed-some : (r : Timed) (xs : List Timed) → is_among_timed r xs ≡ true → 0 < weigh (one r.at r.rec) xs
 unfolding weigh
 among_timed-some r [] k = absurd (cc)
 among_timed-some r (x ∷ xs) k = elim (or_cases (is_eq (timed_cmp r x)) (is_among_timed r xs) k) [
@@ -184,7 +184,7 @@ among_timed-some r (x ∷ xs) k = elim (or_cases (is_eq (timed_cmp r x)) (is_amo
   | inr a ↦ let h = among_timed-some r xs a in omega arith
 ]
 
-among_timed-none : (r : Timed) (xs : List Timed) → is_among_timed r xs ≡ false → weigh (one r.at r.rec) xs ≡ 0
+pub among_timed-none : (r : Timed) (xs : List Timed) → is_among_timed r xs ≡ false → weigh (one r.at r.rec) xs ≡ 0
 unfolding weigh
 among_timed-none r [] k = refl
 among_timed-none r (x ∷ xs) k =

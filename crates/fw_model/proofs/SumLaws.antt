@@ -75,7 +75,7 @@ has_key-weigh key (r ∷ rs) = cases (r.key == key) (has_key-weigh key rs)
     cases true h = sym (lt-ltb 0 (1 + weigh (keyed key) rs) (omega arith))
     cases false h = let z : weigh (keyed key) rs ≡ 0 + weigh (keyed key) rs = omega arith in h ∙ ap (λ n. nat_lt 0 n) z
 
-has_key-same : (key : ℕ) (xs ys : List Rec) → AreSameBags xs ys → has_key key xs ≡ has_key key ys
+pub has_key-same : (key : ℕ) (xs ys : List Rec) → AreSameBags xs ys → has_key key xs ≡ has_key key ys
 has_key-same key xs ys k = has_key-weigh key xs ∙ ap (λ n. nat_lt 0 n) (weigh-bags (keyed key) xs ys k) ∙ sym (has_key-weigh key ys)
 
 -- ---- sums by key
@@ -106,10 +106,10 @@ keys-once k n (r ∷ rs) =
           ]
     ]
 
-nat_cmp-test : (m n : ℕ) → is_eq (nat_cmp m n) ≡ (m == n)
+pub nat_cmp-test : (m n : ℕ) → is_eq (nat_cmp m n) ≡ (m == n)
 nat_cmp-test m n = grind (arith, nat_tests)
 
-rec_cmp-test : (x y : Rec) → is_eq (rec_cmp x y) ≡ (x.key == y.key && x.value == y.value)
+pub rec_cmp-test : (x y : Rec) → is_eq (rec_cmp x y) ≡ (x.key == y.key && x.value == y.value)
 rec_cmp-test x y =
     then_parts (nat_cmp x.key y.key) (nat_cmp x.value y.value)
     ∙ ap (λ b. b && is_eq (nat_cmp x.value y.value)) (nat_cmp-test x.key y.key)
@@ -139,7 +139,7 @@ sums-weigh x (k ∷ keys) rs =
     one_more false n = omega arith
 
 -- a sum is there once for each key
-sums-is : (x : Rec) (xs ys : List Rec) → how_often x (sums_of (distinct_keys xs) ys) ≡ cond (has_key x.key xs) (cond (x.value == value_sum x.key ys) 1 0) 0
+pub sums-is : (x : Rec) (xs ys : List Rec) → how_often x (sums_of (distinct_keys xs) ys) ≡ cond (has_key x.key xs) (cond (x.value == value_sum x.key ys) 1 0) 0
 sums-is x xs ys = sums-weigh x (distinct_keys xs) ys ∙ keys-once x.key (cond (x.value == value_sum x.key ys) 1 0) xs
 
 pub sums-same : (x : Rec) (xs ys vs ws : List Rec) → AreSameBags xs vs → AreSameBags ys ws

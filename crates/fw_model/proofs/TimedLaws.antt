@@ -66,7 +66,8 @@ pub each-in_order : (P : Timed → Type 0) (xs : List Timed) → AllByRecursion 
 each-in_order P [] a = tt
 each-in_order P (x ∷ xs) a = each-with_timed P x (in_order xs) a.0 (each-in_order P xs a.1)
 
-above-weaker : (r x : Timed) (xs : List Timed) → is_gt (timed_cmp r x) ≡ false → AllByRecursion (λ y. is_gt (timed_cmp x y) ≡ false) xs
+-- a timed rec that is not greater than another is not greater than what that one is not greater than
+pub above-weaker : (r x : Timed) (xs : List Timed) → is_gt (timed_cmp r x) ≡ false → AllByRecursion (λ y. is_gt (timed_cmp x y) ≡ false) xs
     → AllByRecursion (λ y. is_gt (timed_cmp r y) ≡ false) xs
 above-weaker r x [] h a = tt
 above-weaker r x (y ∷ ys) h a = (upto timed_order r x y h a.0, above-weaker r x ys h a.1)

@@ -6,17 +6,18 @@ use Rattle.std.specs.Prelude.{IsSome}
 use Rattle.fw_lines.specs.declared.refusal.Refusal.{Refusal}
 use Rattle.fw_flow_text.specs.Grammar as flows
 use Rattle.fw_run.proofs.DecidedLaws.{texts-decided}
-use Rattle.fw_run.proofs.TextLaws.{one_first_refusal, accepted_or_refused, flow_or_refused, one_flow_refusal}
+use Rattle.fw_run.proofs.TextLaws.{one_first_refusal, one_first_of_two, accepted_or_refused, accepted_or_first_of_two, flow_or_refused, one_flow_refusal}
 use Rattle.fw_run.specs.declared.status.Status.{Status}
 use Rattle.fw_run.specs.declared.status.Status.TheVariants.{Done, BadWords, Refused, ReadFault, WriteFault, NoMemory}
 use Rattle.fw_run.specs.declared.work.Work.{Work}
-use Rattle.fw_run.specs.declared.work.Work.TheVariants.{Run, Check}
+use Rattle.fw_run.specs.declared.work.Work.TheVariants.{Run, Denote, Check}
 use Rattle.fw_run.specs.Call.{Call, HasTexts, Accepts, Refuses, Prints, AsksNoMore, HasAccepted, HasRefused, IsPrintout, KeepsFolder, AnswersTexts, IsRunEnd, IsRefusalEnd}
+use Rattle.fw_run.specs.DenotationText.{PrintsDenotation}
 use Rattle.fw_run.specs.Headline.{PrintsRun}
 use Rattle.fw_run.specs.Listing.{check_text}
 use Rattle.fw_run.specs.Status.{IsTellingOf}
 use Rattle.fw_run.specs.Texts.{Texts, spelled_flow, spelled_system}
-use Rattle.fw_run.specs.Words.{Command, run, check}
+use Rattle.fw_run.specs.Words.{Command, run, denote, check}
 use Rattle.fw_run.specs.Work.{IsWork, IsTextOfWork}
 use Rattle.fw_run.specs.Writing.{WritesText}
 
@@ -31,8 +32,13 @@ told_of_work told (run names) (Run job) j = (
   j.accepted,
   λ printed p. subst (λ items. PrintsRun (spelled_system j.texts) items printed) j.items (subst (λ sys. PrintsRun sys job.items printed) j.system p),
 )
+told_of_work told (run names) (Denote fed) j = absurd j
 told_of_work told (run names) (Check flow) j = absurd j
+told_of_work told (denote names) (Run job) j = absurd j
+told_of_work told (denote names) (Denote fed) j = (j.texts, j.there, j.accepted, λ printed p. subst (λ sys. PrintsDenotation sys printed) j.system p)
+told_of_work told (denote names) (Check flow) j = absurd j
 told_of_work told (check name) (Run job) j = absurd j
+told_of_work told (check name) (Denote fed) j = absurd j
 told_of_work told (check name) (Check flow) h =
     let value : flow ≡ spelled_flow h.text = h.so.checked.value in
     let texts : Texts = record { flow = h.text; inputs = []; schedule = [] } in (
@@ -65,12 +71,14 @@ accepts_and_refuses : (told : Option (List ℕ → Option (List ℕ))) (command 
     → Refuses told command refusal → ⊥
 accepts_and_refuses None command texts refusal s t a f = absurd (false≢true s)
 accepts_and_refuses (Some folder) (run names) texts refusal s t a f = accepted_or_refused folder names texts refusal t a f
+accepts_and_refuses (Some folder) (denote names) texts refusal s t a f = accepted_or_first_of_two folder names texts refusal t a f
 accepts_and_refuses (Some folder) (check name) texts refusal s t a f = flow_or_refused folder name texts.flow refusal t a f
 
 -- nor refuse one in two ways
 refuses_once : (told : Option (List ℕ → Option (List ℕ))) (command : Command) (one other : Refusal) → IsSome told → Refuses told command one → Refuses told command other → one ≡ other
 refuses_once None command one other s f g = absurd (false≢true s)
 refuses_once (Some folder) (run names) one other s f g = one_first_refusal folder names one other f g
+refuses_once (Some folder) (denote names) one other s f g = one_first_of_two folder names one other f g
 refuses_once (Some folder) (check name) one other s f g = one_flow_refusal folder name one other f g
 
 -- words are one command

@@ -10,8 +10,8 @@ use Rattle.fw_schedule.specs.Grammar as schedules
 use Rattle.fw_schedule.proofs.ReadLaws.{some_answer as some_schedule}
 use Rattle.fw_outside.specs.Outside.{IsText}
 use Rattle.fw_run.specs.Call.{HasTexts, Accepts, Refuses}
-use Rattle.fw_run.specs.Texts.{Texts, spelled_flow, IsFlow, AreInputsOf, AreAccepted, AreThere, HasFlow, IsFlowRefused, IsFirstRefusal}
-use Rattle.fw_run.specs.Words.{Command, run, check, TextNames}
+use Rattle.fw_run.specs.Texts.{Texts, spelled_flow, IsFlow, AreInputsOf, AreAccepted, AreOfSystem, AreThere, HasTwo, HasFlow, IsFlowRefused, IsFirstRefusal, IsFirstOfTwoRefused}
+use Rattle.fw_run.specs.Words.{Command, run, denote, check, TextNames, SystemNames}
 
 -- where the flow is accepted
 decided_inputs : (told : Option (List ℕ → Option (List ℕ))) (names : TextNames) (texts : Texts) → AreThere told names texts → IsFlow texts.flow
@@ -36,6 +36,19 @@ run-decided told names texts t = elim (some_flow texts.flow) [
   | inr refused ↦ inr (refused.0, inl (record { text = texts.flow; there = t.flow; so = refused.1 }))
 ]
 
+two-decided : (told : Option (List ℕ → Option (List ℕ))) (names : SystemNames) (texts : Texts) → HasTwo told names texts
+    → AreOfSystem texts ⊎ ((refusal : Refusal) × IsFirstOfTwoRefused told names refusal)
+two-decided told names texts t = elim (some_flow texts.flow) [
+  | inr refused ↦ inr (refused.0, inl (record { text = texts.flow; there = t.flow; so = refused.1 }))
+  | inl read ↦
+      let flow = spelled_flow texts.flow in
+      let accepted : IsFlow texts.flow = subst (flows.IsAccepted texts.flow) read.1.checked.value read.1 in
+      elim (some_inputs texts.inputs (sources_of flow)) [
+        | inr refused ↦ inr (refused.0, inr (flow, record { text = texts.flow; there = t.flow; so = accepted }, record { text = texts.inputs; there = t.inputs; so = refused.1 }))
+        | inl batches ↦ inl (record { flow = accepted; inputs = batches.1.sound })
+      ]
+]
+
 flow-decided : (told : Option (List ℕ → Option (List ℕ))) (name text : List ℕ) → IsText told name text → IsFlow text ⊎ ((refusal : Refusal) × IsFlowRefused told name refusal)
 flow-decided told name text t = elim (some_flow text) [
   | inl read ↦ inl (subst (flows.IsAccepted text) read.1.checked.value read.1)
@@ -46,4 +59,5 @@ flow-decided told name text t = elim (some_flow text) [
 pub texts-decided : (told : Option (List ℕ → Option (List ℕ))) (command : Command) (texts : Texts) → HasTexts told command texts
     → Accepts command texts ⊎ ((refusal : Refusal) × Refuses told command refusal)
 texts-decided told (run names) texts t = run-decided told names texts t
+texts-decided told (denote names) texts t = two-decided told names texts t
 texts-decided told (check name) texts t = flow-decided told name texts.flow t

@@ -15,7 +15,7 @@ use Rattle.clap.specs.Takes.{bundle_passes, default_passes, entered_passes, flag
 use Rattle.clap.specs.Walk.{Held, Row, Rule, Step, Walk, after_step, arg_by_index, finished, first_of, idle, long_or_other, nothing_held, rows_of, short_or_plain, stop_after, to_positional, trailing, value, walk, walked, word_met}
 use Rattle.clap.specs.declared.parser.matches.Found.{Found}
 use Rattle.fw_run.specs.Forms.{form, forms, matched_command}
-use Rattle.fw_run.specs.Words.{Command, TextNames, run, check, is_operand, check_of, command_of}
+use Rattle.fw_run.specs.Words.{Command, TextNames, SystemNames, run, denote, check, is_operand, check_of, denote_of, command_of}
 
 -- ---- a word that is an operand
 
@@ -94,6 +94,9 @@ built_form s = built_leaf (inherited (with_leaf_noted (marked_built forms.top)) 
 abbrev run_form : Shape
 run_form = built_form (form (codes "run") (codes "flow" ∷ codes "inputs" ∷ codes "schedule" ∷ []))
 
+abbrev denote_form : Shape
+denote_form = built_form (form (codes "denote") (codes "flow" ∷ codes "inputs" ∷ []))
+
 abbrev check_form : Shape
 check_form = built_form (form (codes "check") (codes "flow" ∷ []))
 
@@ -101,10 +104,13 @@ check_form = built_form (form (codes "check") (codes "flow" ∷ []))
 abbrev held_after : List Rule → ℕ → List ℕ → Held → Held
 held_after c position word h = (to_positional c (arg_by_index c position) word (walk_at h position) h).held
 
--- what is held after the operands of a run, or after that of a check
+-- what is held after the operands of a command
 abbrev run_held : List ℕ → List ℕ → List ℕ → Held
 run_held flow inputs schedule =
     held_after run_form.rules 3 schedule (held_after run_form.rules 2 inputs (held_after run_form.rules 1 flow nothing_held))
+
+abbrev denote_held : List ℕ → List ℕ → Held
+denote_held flow inputs = held_after denote_form.rules 2 inputs (held_after denote_form.rules 1 flow nothing_held)
 
 abbrev check_held : List ℕ → Held
 check_held flow = held_after check_form.rules 1 flow nothing_held
@@ -119,6 +125,13 @@ run_walked flow inputs schedule f i s =
     ∙ walk_more c inputs (schedule ∷ []) 2 3 one two i refl
     ∙ walk_more c schedule [] 3 4 two (held_after c 3 schedule two) s refl
 
+denote_walked : (flow inputs : List ℕ) → is_operand flow ≡ true → is_operand inputs ≡ true
+    → walk denote_form.rules [] nothing_held (flow ∷ inputs ∷ []) ≡ walk_at (denote_held flow inputs) 3
+denote_walked flow inputs f i =
+    let c = denote_form.rules in
+    let one = held_after c 1 flow nothing_held in
+    walk_more c flow (inputs ∷ []) 1 2 nothing_held one f refl ∙ walk_more c inputs [] 2 3 one (denote_held flow inputs) i refl
+
 check_walked : (flow : List ℕ) → is_operand flow ≡ true → walk check_form.rules [] nothing_held (flow ∷ []) ≡ walk_at (check_held flow) 2
 check_walked flow f = walk_more check_form.rules flow [] 1 2 nothing_held (check_held flow) f refl
 
@@ -127,6 +140,11 @@ run_stops : (flow inputs schedule : List ℕ)
     → stop_after (built forms).top.rules (names_of (built forms)) (codes "run" ∷ flow ∷ inputs ∷ schedule ∷ []) ≡ Some (codes "run", flow ∷ inputs ∷ schedule ∷ [])
 unfolding walked
 run_stops flow inputs schedule = refl
+
+denote_stops : (flow inputs : List ℕ)
+    → stop_after (built forms).top.rules (names_of (built forms)) (codes "denote" ∷ flow ∷ inputs ∷ []) ≡ Some (codes "denote", flow ∷ inputs ∷ [])
+unfolding walked
+denote_stops flow inputs = refl
 
 check_stops : (flow : List ℕ) → stop_after (built forms).top.rules (names_of (built forms)) (codes "check" ∷ flow ∷ []) ≡ Some (codes "check", flow ∷ [])
 unfolding walked
@@ -138,6 +156,12 @@ run_matched : (flow inputs schedule : List ℕ) → is_operand flow ≡ true →
 run_matched flow inputs schedule f i s =
     ap (λ stop. matched_command (entered (built forms) stop)) (run_stops flow inputs schedule)
     ∙ ap (λ (w : Walk). matched_command (Some (codes "run", finished run_form.rules w.held))) (run_walked flow inputs schedule f i s)
+
+denote_matched : (flow inputs : List ℕ) → is_operand flow ≡ true → is_operand inputs ≡ true
+    → matched_command (subcommand_of forms (codes "denote" ∷ flow ∷ inputs ∷ [])) ≡ Some (denote (record { flow = flow; inputs = inputs }))
+denote_matched flow inputs f i =
+    ap (λ stop. matched_command (entered (built forms) stop)) (denote_stops flow inputs)
+    ∙ ap (λ (w : Walk). matched_command (Some (codes "denote", finished denote_form.rules w.held))) (denote_walked flow inputs f i)
 
 check_matched : (flow : List ℕ) → is_operand flow ≡ true → matched_command (subcommand_of forms (codes "check" ∷ flow ∷ [])) ≡ Some (check flow)
 check_matched flow f =
@@ -170,6 +194,15 @@ run_passes flow inputs schedule f i s =
     (passes_more run_form schedule [] 3 4 two end s refl refl last)))
     (run_walked flow inputs schedule f i s) refl
 
+denote_passes : (flow inputs : List ℕ) → is_operand flow ≡ true → is_operand inputs ≡ true → level_passes denote_form [] nothing_held (flow ∷ inputs ∷ []) false ≡ true
+denote_passes flow inputs f i =
+    let one = held_after denote_form.rules 1 flow nothing_held in
+    let end = denote_held flow inputs in
+    level_passed denote_form (flow ∷ inputs ∷ []) end 3
+    (passes_more denote_form flow (inputs ∷ []) 1 2 nothing_held one f refl refl
+    (passes_more denote_form inputs [] 2 3 one end i refl refl (no_more denote_form (walk_at end 3))))
+    (denote_walked flow inputs f i) refl
+
 check_passes : (flow : List ℕ) → is_operand flow ≡ true → level_passes check_form [] nothing_held (flow ∷ []) false ≡ true
 check_passes flow f =
     let end = check_held flow in
@@ -189,6 +222,10 @@ run_level : (flow inputs schedule : List ℕ)
 unfolding walked walk_passes
 run_level flow inputs schedule = refl
 
+denote_level : (flow inputs : List ℕ) → level_passes (built forms).top (names_of (built forms)) nothing_held (codes "denote" ∷ flow ∷ inputs ∷ []) true ≡ true
+unfolding walked walk_passes
+denote_level flow inputs = refl
+
 check_level : (flow : List ℕ) → level_passes (built forms).top (names_of (built forms)) nothing_held (codes "check" ∷ flow ∷ []) true ≡ true
 unfolding walked walk_passes
 check_level flow = refl
@@ -198,6 +235,10 @@ run_taken : (flow inputs schedule : List ℕ) → is_operand flow ≡ true → i
 run_taken flow inputs schedule f i s =
     top_passes (Some (codes "run", flow ∷ inputs ∷ schedule ∷ [])) (codes "run" ∷ flow ∷ inputs ∷ schedule ∷ []) (run_stops flow inputs schedule) (run_level flow inputs schedule)
     (run_passes flow inputs schedule f i s)
+
+denote_taken : (flow inputs : List ℕ) → is_operand flow ≡ true → is_operand inputs ≡ true → takes forms (codes "denote" ∷ flow ∷ inputs ∷ []) ≡ true
+denote_taken flow inputs f i =
+    top_passes (Some (codes "denote", flow ∷ inputs ∷ [])) (codes "denote" ∷ flow ∷ inputs ∷ []) (denote_stops flow inputs) (denote_level flow inputs) (denote_passes flow inputs f i)
 
 check_taken : (flow : List ℕ) → is_operand flow ≡ true → takes forms (codes "check" ∷ flow ∷ []) ≡ true
 check_taken flow f = top_passes (Some (codes "check", flow ∷ [])) (codes "check" ∷ flow ∷ []) (check_stops flow) (check_level flow) (check_passes flow f)
@@ -228,7 +269,13 @@ command_matched (word ∷ flow ∷ []) command e =
     let p = and_parts (bytes_eq word (codes "check")) (is_operand flow) t.0 in
     subst (λ w. IsMatched (w ∷ flow ∷ []) command) (is_word word (codes "check") p.0)
     (record { taken = check_taken flow p.1; matched = check_matched flow p.1 ∙ ap Some t.1 })
-command_matched (word ∷ flow ∷ inputs ∷ []) command e = absurd (cc)
+command_matched (word ∷ flow ∷ inputs ∷ []) command e =
+    let names : SystemNames = record { flow = flow; inputs = inputs } in
+    let t = by_test (bytes_eq word (codes "denote") && is_operand flow && is_operand inputs) (denote names) command (sym (or_none (denote_of (word ∷ flow ∷ inputs ∷ []))) ∙ e) in
+    let p = and_parts (bytes_eq word (codes "denote") && is_operand flow) (is_operand inputs) t.0 in
+    let q = and_parts (bytes_eq word (codes "denote")) (is_operand flow) p.0 in
+    subst (λ w. IsMatched (w ∷ flow ∷ inputs ∷ []) command) (is_word word (codes "denote") q.0)
+    (record { taken = denote_taken flow inputs q.1 p.1; matched = denote_matched flow inputs q.1 p.1 ∙ ap Some t.1 })
 command_matched (word ∷ flow ∷ inputs ∷ schedule ∷ []) command e =
     let names : TextNames = record { flow = flow; inputs = inputs; schedule = schedule } in
     let t = by_test (bytes_eq word (codes "run") && is_operand flow && is_operand inputs && is_operand schedule) (run names) command e in

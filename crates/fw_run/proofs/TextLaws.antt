@@ -19,10 +19,11 @@ use Rattle.fw_flow_text.proofs.ReadLaws as flow_texts
 use Rattle.fw_schedule.specs.Grammar.{items_of}
 use Rattle.fw_schedule.specs.Grammar as schedules
 use Rattle.fw_schedule.proofs.ReadLaws as schedule_texts
+use Rattle.fw_run.specs.declared.reading.Fed.{Fed}
 use Rattle.fw_run.specs.declared.reading.Job.{Job}
-use Rattle.fw_run.specs.Reading.{IsJob}
-use Rattle.fw_run.specs.Texts.{Texts, spelled_flow, spelled_batches, spelled_system, spelled_items, IsFlow, AreInputsOf, AreAccepted, HasText, AreThere, HasFlow, IsFlowRefused, AreInputsRefused, IsScheduleRefused, IsFirstRefusal, IsAskedNoMore}
-use Rattle.fw_run.specs.Words.{TextNames}
+use Rattle.fw_run.specs.Reading.{IsJob, IsFed}
+use Rattle.fw_run.specs.Texts.{Texts, spelled_flow, spelled_batches, spelled_system, spelled_items, IsFlow, AreInputsOf, AreAccepted, AreOfSystem, HasText, AreThere, HasTwo, HasFlow, IsFlowRefused, AreInputsRefused, IsScheduleRefused, IsFirstRefusal, IsFirstOfTwoRefused, IsAskedTwice, IsAskedNoMore}
+use Rattle.fw_run.specs.Words.{TextNames, SystemNames}
 
 -- ---- what accepted texts spell
 
@@ -80,6 +81,25 @@ job_read_in_turn told second third names job e h f i s =
     (subst (λ t. HasText t names.inputs (λ text. inputs.IsAccepted text (sources_of job.flow) job.batches)) e i)
     (subst (λ t. HasText t names.schedule (λ text. schedules.IsAccepted text job.flow job.items)) (h ∙ e) s)
 
+-- so is what the texts of a flow and its inputs spell
+pub fed_read : (told second : Option (List ℕ → Option (List ℕ))) (names : SystemNames) (fed : Fed) → second ≡ told
+    → HasFlow told names.flow fed.flow → HasText second names.inputs (λ text. inputs.IsAccepted text (sources_of fed.flow) fed.batches) → IsFed told names fed
+fed_read told second names fed e f i =
+    let value : fed.flow ≡ spelled_flow f.text = f.so.checked.value in
+    record {
+      texts = record { flow = f.text; inputs = i.text; schedule = [] };
+      there = record { flow = f.there; inputs = subst (λ t. IsText t names.inputs i.text) e i.there };
+      accepted = record {
+        flow = subst (flows.IsAccepted f.text) value f.so;
+        inputs = subst (λ flow. AreInputsOf flow i.text) value i.so.sound;
+      };
+      system = system_read f.text i.text fed.flow fed.batches value i.so;
+    }
+
+pub fetched_twice : (told : Option (List ℕ → Option (List ℕ))) (name : List ℕ) (flow : Dataflow) (before one after : ℕ)
+    → HasFlow told name flow → one ≡ one_more before → after ≡ one_more one → IsAskedTwice told name before after
+fetched_twice told name flow before one after f e h = inr (flow, f, h ∙ ap one_more e)
+
 -- a text was asked for after an accepted flow
 pub fetched_second : (told : Option (List ℕ → Option (List ℕ))) (names : TextNames) (flow : Dataflow) (before one after : ℕ)
     → HasFlow told names.flow flow → one ≡ one_more before → after ≡ one_more one → IsAskedNoMore told names before after
@@ -131,6 +151,18 @@ one_first_refusal texts names r s (inr (flow, a, rest)) (inr (other, b, more)) =
     by (inr p) (inl q) = absurd (both_true texts names.inputs _ _ ⊥ p.0 q (λ text x y. inputs_or_refused flow text s x y))
     by (inr p) (inr q) = both_true texts names.schedule _ _ (r ≡ s) p.1 q.1 (λ text x y. schedule_texts.one_refusal text flow r s x y)
 
+-- of the texts of a flow and its inputs too, whatever a schedule is
+three_names : SystemNames → TextNames
+three_names names = record { flow = names.flow; inputs = names.inputs; schedule = [] }
+
+as_of_three : (told : Option (List ℕ → Option (List ℕ))) (names : SystemNames) (r : Refusal) → IsFirstOfTwoRefused told names r → IsFirstRefusal told (three_names names) r
+unfolding three_names
+as_of_three told names r (inl a) = inl a
+as_of_three told names r (inr (flow, f, i)) = inr (flow, f, inl i)
+
+pub one_first_of_two : (texts : List ℕ → Option (List ℕ)) (names : SystemNames) (r s : Refusal) → IsFirstOfTwoRefused (Some texts) names r → IsFirstOfTwoRefused (Some texts) names s → r ≡ s
+one_first_of_two texts names r s a b = one_first_refusal texts (three_names names) r s (as_of_three (Some texts) names r a) (as_of_three (Some texts) names s b)
+
 -- accepted texts are not refused
 pub accepted_or_refused : (texts : List ℕ → Option (List ℕ)) (names : TextNames) (three : Texts) (r : Refusal) → AreThere (Some texts) names three → AreAccepted three → IsFirstRefusal (Some texts) names r → ⊥
 accepted_or_refused texts names three r t a (inl p) =
@@ -144,6 +176,15 @@ accepted_or_refused texts names three r t a (inr (flow, p, rest)) =
     by : Later (spelled_flow three.flow) → ⊥
     by (inl q) = inputs_or_refused (spelled_flow three.flow) three.inputs r a.inputs (subst (λ text. inputs.IsRefused text (sources_of (spelled_flow three.flow)) r) (same_text texts names.inputs q.text three.inputs q.there t.inputs) q.so)
     by (inr q) = schedule_texts.accepted_or_refused three.schedule (spelled_flow three.flow) (spelled_items three) r a.schedule (subst (λ text. schedules.IsRefused text (spelled_flow three.flow) r) (same_text texts names.schedule q.1.text three.schedule q.1.there t.schedule) q.1.so)
+
+pub accepted_or_first_of_two : (texts : List ℕ → Option (List ℕ)) (names : SystemNames) (two : Texts) (r : Refusal) → HasTwo (Some texts) names two → AreOfSystem two → IsFirstOfTwoRefused (Some texts) names r → ⊥
+accepted_or_first_of_two texts names two r t a (inl p) =
+    flow_texts.accepted_or_refused two.flow (spelled_flow two.flow) r a.flow (subst (λ text. flows.IsRefused text r) (same_text texts names.flow p.text two.flow p.there t.flow) p.so)
+accepted_or_first_of_two texts names two r t a (inr (flow, p, q)) =
+    let same : flow ≡ spelled_flow two.flow = same_flow texts names.flow flow (spelled_flow two.flow) p (record { text = two.flow; there = t.flow; so = a.flow }) in
+    let i = subst (λ f. AreInputsRefused (Some texts) names.inputs f r) same q in
+    inputs_or_refused (spelled_flow two.flow) two.inputs r a.inputs
+    (subst (λ text. inputs.IsRefused text (sources_of (spelled_flow two.flow)) r) (same_text texts names.inputs i.text two.inputs i.there t.inputs) i.so)
 
 -- the text of a flow is accepted or refused, and not both
 pub flow_or_refused : (texts : List ℕ → Option (List ℕ)) (name text : List ℕ) (r : Refusal) → IsText (Some texts) name text → IsFlow text → IsFlowRefused (Some texts) name r → ⊥

@@ -6,11 +6,12 @@ use Rattle.fw_outside.specs.Outside.{SinkView, IsText, one_more}
 use Rattle.fw_lines.specs.declared.refusal.Refusal.{Refusal}
 use Rattle.fw_run.specs.declared.status.Status.{Status}
 use Rattle.fw_run.specs.declared.status.Status.TheVariants.{Done, Refused, ReadFault, WriteFault, NoMemory}
+use Rattle.fw_run.specs.DenotationText.{PrintsDenotation}
 use Rattle.fw_run.specs.Headline.{PrintsRun}
 use Rattle.fw_run.specs.Listing.{check_text}
 use Rattle.fw_run.specs.Status.{IsTold, note_line}
-use Rattle.fw_run.specs.Texts.{Texts, IsFlow, AreThere, AreAccepted, IsFlowRefused, IsFirstRefusal, IsAskedNoMore, spelled_flow, spelled_system, spelled_items}
-use Rattle.fw_run.specs.Words.{Command, run, check, command_of, words_in}
+use Rattle.fw_run.specs.Texts.{Texts, IsFlow, AreThere, HasTwo, AreAccepted, AreOfSystem, IsFlowRefused, IsFirstOfTwoRefused, IsFirstRefusal, IsAskedTwice, IsAskedNoMore, spelled_flow, spelled_system, spelled_items}
+use Rattle.fw_run.specs.Words.{Command, run, denote, check, command_of, words_in}
 use Rattle.fw_run.specs.Writing.{IsWritten, IsCutOff, WritesText}
 
 -- what a call is given: the command that its words are, if they are one, and the folder's texts, where it tells them
@@ -22,31 +23,36 @@ pub record Call : Type 0 where
 abbrev pub call_of : List (Bor (List ℕ)) → Option (List ℕ → Option (List ℕ)) → Call
 call_of words told = record { command = command_of (words_in words); told = told }
 
--- ---- the commands; of the texts of a check the flow alone counts
+-- ---- the commands; of the texts of a check the flow alone counts, of those of a denotation the flow and the inputs
 
 -- the folder has these texts under the names of the command, where it tells its texts
 abbrev pub HasTexts : Option (List ℕ → Option (List ℕ)) → Command → Texts → Type 0
 HasTexts told (run names) texts = AreThere told names texts
+HasTexts told (denote names) texts = HasTwo told names texts
 HasTexts told (check name) texts = IsText told name texts.flow
 
 -- the command accepts the texts
 abbrev pub Accepts : Command → Texts → Type 0
 Accepts (run names) texts = AreAccepted texts
+Accepts (denote names) texts = AreOfSystem texts
 Accepts (check name) texts = IsFlow texts.flow
 
 -- the first of its texts that the command does not accept is refused so
 abbrev pub Refuses : Option (List ℕ → Option (List ℕ)) → Command → Refusal → Type 0
 Refuses told (run names) refusal = IsFirstRefusal told names refusal
+Refuses told (denote names) refusal = IsFirstOfTwoRefused told names refusal
 Refuses told (check name) refusal = IsFlowRefused told name refusal
 
 -- this is all that the command prints of the texts
 abbrev pub Prints : Command → Texts → List ℕ → Type 0
 Prints (run names) texts printed = PrintsRun (spelled_system texts) (spelled_items texts) printed
+Prints (denote names) texts printed = PrintsDenotation (spelled_system texts) printed
 Prints (check name) texts printed = printed ≡ check_text (spelled_flow texts.flow)
 
 -- the command asked a folder no more often than this, if its calls were counted from the first number to the second: a check once
 abbrev pub AsksNoMore : Option (List ℕ → Option (List ℕ)) → Command → ℕ → ℕ → Type 0
 AsksNoMore told (run names) before after = IsAskedNoMore told names before after
+AsksNoMore told (denote names) before after = IsAskedTwice told names.flow before after
 AsksNoMore told (check name) before after = after ≡ one_more before
 
 -- ---- the texts
@@ -82,7 +88,8 @@ pub record AnswersTexts (call : Call) (status : Status) : Type 0 where
 
 -- ---- what is outside
 
--- the whole text that the call prints of the texts that it accepts: that of the machine's run, or the list of the flow's nodes
+-- the whole text that the call prints of the texts that it accepts: that of the machine's run, that of the denotation, or
+-- the list of the flow's nodes
 pub record IsPrintout (call : Call) (printed : List ℕ) : Type 0 where
   pub texts : Texts
   pub accepted : HasAccepted call texts
@@ -96,9 +103,9 @@ PrintsAll call before after = WritesText (IsPrintout call) (λ printed. IsWritte
 abbrev pub PrintsPart : Call → OutFault → SinkView → SinkView → Type 0
 PrintsPart call fault before after = WritesText (IsPrintout call) (λ printed. IsCutOff printed fault before after)
 
--- The folder keeps its texts. It was not asked where the words are no command, nor perhaps where memory was refused. Else of a check
--- it was asked once; of a run once, a second time only where the flow is accepted, a third time only where the inputs are too, and
--- no fourth.
+-- The folder keeps its texts. It was not asked where the words are no command, nor perhaps where memory was refused. Else it was asked
+-- once; by a run or for a denotation a second time only where the flow is accepted; by a run a third time only where the inputs are
+-- too, and no fourth.
 pub record KeepsFolder {F : Type 0} (texts : F → Option (List ℕ → Option (List ℕ))) (fetch_count : F → ℕ) (command : Option Command) (status : Status) (before after : F) : Type 0 where
   pub texts_stay : texts after ≡ texts before
   pub nothing_read : command ≡ None → after ≡ before

@@ -3,7 +3,7 @@ use Rattle.std.specs.Prelude.{ℕ, true, false, if◌then◌else◌, List, [], �
 use Rattle.std.specs.Str.{bytes_eq}
 use Rattle.clap.specs.Simple.{App, Shape, new_rule, new_shape}
 use Rattle.clap.specs.Walk.{Row, Rule, first_of}
-use Rattle.fw_run.specs.Words.{Command, TextNames, run, check}
+use Rattle.fw_run.specs.Words.{Command, TextNames, SystemNames, run, denote, check}
 
 -- an operand, which has to be there
 abbrev pub operand : List ℕ → Rule
@@ -13,16 +13,16 @@ operand name = record (new_rule name) { required = true }
 abbrev pub form : List ℕ → List (List ℕ) → Shape
 form word operands = record (new_shape word) { rules = map operand operands }
 
--- the forms of all commands; there is no word for help
+-- the program, without a command: its words are those after its name, and none asks for help
+abbrev pub program : Shape
+program = record (new_shape (codes "falkirk")) { no_binary_name = true; disable_help_flag = true; disable_help_subcommand = true }
+
+-- the program with the forms of its commands
 abbrev pub forms : App
 forms = record {
-  top = record (new_shape (codes "falkirk")) {
-    is_leaf = false;
-    no_binary_name = true;
-    disable_help_flag = true;
-    disable_help_subcommand = true;
-  };
-  subs = form (codes "run") (codes "flow" ∷ codes "inputs" ∷ codes "schedule" ∷ []) ∷ form (codes "check") (codes "flow" ∷ []) ∷ [];
+  top = record program { is_leaf = false };
+  subs = form (codes "run") (codes "flow" ∷ codes "inputs" ∷ codes "schedule" ∷ [])
+      ∷ form (codes "denote") (codes "flow" ∷ codes "inputs" ∷ []) ∷ form (codes "check") (codes "flow" ∷ []) ∷ [];
 }
 
 -- the names of the three texts of a run, if all are there
@@ -34,11 +34,21 @@ names_by flow inputs schedule = None
 abbrev pub names_matched : List Row → Option TextNames
 names_matched rows = names_by (first_of (codes "flow") rows) (first_of (codes "inputs") rows) (first_of (codes "schedule") rows)
 
+-- the names of a flow and its inputs, if both are there
+abbrev pub two_names_by : Option (List ℕ) → Option (List ℕ) → Option SystemNames
+two_names_by (Some flow) (Some inputs) = Some (record { flow = flow; inputs = inputs })
+two_names_by flow inputs = None
+
+-- those that were matched
+abbrev pub two_names_matched : List Row → Option SystemNames
+two_names_matched rows = two_names_by (first_of (codes "flow") rows) (first_of (codes "inputs") rows)
+
 -- the command of a form's word, with what was matched of its operands
 abbrev pub command_matched : List ℕ → List Row → Option Command
 command_matched word rows =
     if bytes_eq word (codes "run") then option_map run (names_matched rows)
-    else (if bytes_eq word (codes "check") then option_map check (first_of (codes "flow") rows) else None)
+    else (if bytes_eq word (codes "denote") then option_map denote (two_names_matched rows)
+    else (if bytes_eq word (codes "check") then option_map check (first_of (codes "flow") rows) else None))
 
 -- the command that the matches name
 abbrev pub matched_command : Option (List ℕ × List Row) → Option Command

@@ -1,4 +1,5 @@
 pub mod Call
+pub mod DenotationText
 pub mod Forms
 pub mod Headline
 pub mod Items

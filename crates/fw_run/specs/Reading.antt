@@ -11,9 +11,10 @@ use Rattle.fw_schedule.specs.declared.item.Item.{Item}
 use Rattle.fw_schedule.specs.Schedule.{step_count, step_limit}
 use Rattle.fw_run.specs.declared.reading.JobFault.{JobFault}
 use Rattle.fw_run.specs.declared.reading.JobFault.TheVariants.{Failed, Refused, NoMemory}
+use Rattle.fw_run.specs.declared.reading.Fed.{Fed}
 use Rattle.fw_run.specs.declared.reading.Job.{Job}
-use Rattle.fw_run.specs.Texts.{HasText, Texts, AreThere, AreAccepted, spelled_system, spelled_items}
-use Rattle.fw_run.specs.Words.{TextNames}
+use Rattle.fw_run.specs.Texts.{HasText, Texts, AreThere, HasTwo, AreAccepted, AreOfSystem, spelled_system, spelled_items}
+use Rattle.fw_run.specs.Words.{TextNames, SystemNames}
 
 -- where the fault is a refusal it is one of these; the other faults say nothing here
 abbrev pub IfRefused : (Refusal → Type 0) → JobFault → Type 0
@@ -37,6 +38,13 @@ pub record IsJob (told : Option (List ℕ → Option (List ℕ))) (names : TextN
   pub accepted : AreAccepted texts
   pub system : system_of job.flow job.batches ≡ spelled_system texts
   pub items : job.items ≡ spelled_items texts
+
+-- the same of the texts of a flow and its inputs
+pub record IsFed (told : Option (List ℕ → Option (List ℕ))) (names : SystemNames) (fed : Fed) : Type 0 where
+  pub texts : Texts
+  pub there : HasTwo told names texts
+  pub accepted : AreOfSystem texts
+  pub system : system_of fed.flow fed.batches ≡ spelled_system texts
 
 -- what a run of items asks: the engine a well-formed system, and the counts of steps that they are not too many
 pub record IsReady (sys : System) (items : List Item) : Type 0 where

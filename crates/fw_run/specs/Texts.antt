@@ -14,7 +14,7 @@ use Rattle.fw_flow_text.specs.Grammar as flows
 use Rattle.fw_schedule.specs.declared.item.Item.{Item}
 use Rattle.fw_schedule.specs.Grammar.{items_of}
 use Rattle.fw_schedule.specs.Grammar as schedules
-use Rattle.fw_run.specs.Words.{TextNames}
+use Rattle.fw_run.specs.Words.{TextNames, SystemNames}
 
 -- the three texts of a run
 pub record Texts : Type 0 where
@@ -56,6 +56,11 @@ pub record AreAccepted (texts : Texts) : Type 0 where
   pub inputs : AreInputsOf (spelled_flow texts.flow) texts.inputs
   pub schedule : IsScheduleOf (spelled_flow texts.flow) texts.schedule
 
+-- the first two texts are accepted: of a flow, and its inputs
+pub record AreOfSystem (texts : Texts) : Type 0 where
+  pub flow : IsFlow texts.flow
+  pub inputs : AreInputsOf (spelled_flow texts.flow) texts.inputs
+
 -- the folder has a text under the name, where it tells its texts, and this is true of it
 pub record HasText (told : Option (List ℕ → Option (List ℕ))) (name : List ℕ) (IsSo : List ℕ → Type 0) : Type 0 where
   pub text : List ℕ
@@ -67,6 +72,11 @@ pub record AreThere (told : Option (List ℕ → Option (List ℕ))) (names : Te
   pub flow : IsText told names.flow texts.flow
   pub inputs : IsText told names.inputs texts.inputs
   pub schedule : IsText told names.schedule texts.schedule
+
+-- the folder has the first two texts under these names, where it tells its texts
+pub record HasTwo (told : Option (List ℕ → Option (List ℕ))) (names : SystemNames) (texts : Texts) : Type 0 where
+  pub flow : IsText told names.flow texts.flow
+  pub inputs : IsText told names.inputs texts.inputs
 
 -- the text under the name is accepted, and declares this dataflow
 abbrev pub HasFlow : Option (List ℕ → Option (List ℕ)) → List ℕ → Dataflow → Type 0
@@ -84,6 +94,12 @@ AreInputsRefused told name flow refusal = HasText told name (λ text. inputs.IsR
 abbrev pub IsScheduleRefused : Option (List ℕ → Option (List ℕ)) → List ℕ → Dataflow → Refusal → Type 0
 IsScheduleRefused told name flow refusal = HasText told name (λ text. schedules.IsRefused text flow refusal)
 
+-- Of the texts of a flow and its inputs, in this order, the first that is not accepted is refused so.
+abbrev pub IsFirstOfTwoRefused : Option (List ℕ → Option (List ℕ)) → SystemNames → Refusal → Type 0
+IsFirstOfTwoRefused told names refusal =
+    IsFlowRefused told names.flow refusal
+    ⊎ ((flow : Dataflow) × HasFlow told names.flow flow × AreInputsRefused told names.inputs flow refusal)
+
 -- Of the three texts, in this order, the first that is not accepted is refused so. A later text plays no part.
 abbrev pub IsFirstRefusal : Option (List ℕ → Option (List ℕ)) → TextNames → Refusal → Type 0
 IsFirstRefusal told names refusal =
@@ -91,6 +107,12 @@ IsFirstRefusal told names refusal =
     ⊎ ((flow : Dataflow) × HasFlow told names.flow flow
     × (AreInputsRefused told names.inputs flow refusal
     ⊎ (HasText told names.inputs (AreInputsOf flow) × IsScheduleRefused told names.schedule flow refusal)))
+
+-- A folder was asked once, if its calls were counted from the first number to the second, or twice, but only where the flow is
+-- accepted.
+abbrev pub IsAskedTwice : Option (List ℕ → Option (List ℕ)) → List ℕ → ℕ → ℕ → Type 0
+IsAskedTwice told name before after =
+    (after ≡ one_more before) ⊎ ((flow : Dataflow) × HasFlow told name flow × (after ≡ one_more (one_more before)))
 
 -- A folder was asked once, if its calls were counted from the first number to the second, or more often: a second time only
 -- where the flow is accepted, a third only where the inputs are too, and no fourth.

@@ -3,30 +3,39 @@ use Rattle.std.specs.Prelude.{◌≡◌, ℕ, List, Option, Result}
 use Rattle.fw_outside.specs.declared.fault.OutFault.{OutFault}
 use Rattle.fw_outside.specs.Outside.{SinkView}
 use Rattle.fw_flow.specs.Dataflow.{system_of}
+use Rattle.fw_flow.specs.WellFormed.{IsWellFormedSystem}
 use Rattle.fw_run.specs.declared.work.Work.{Work}
-use Rattle.fw_run.specs.declared.work.Work.TheVariants.{Run, Check}
+use Rattle.fw_run.specs.declared.work.Work.TheVariants.{Run, Denote, Check}
+use Rattle.fw_run.specs.DenotationText.{PrintsDenotation}
 use Rattle.fw_run.specs.Headline.{PrintsRun}
 use Rattle.fw_run.specs.Listing.{check_text}
-use Rattle.fw_run.specs.Reading.{IsJob, IsReady}
+use Rattle.fw_run.specs.Reading.{IsJob, IsFed, IsReady}
 use Rattle.fw_run.specs.Texts.{HasFlow}
-use Rattle.fw_run.specs.Words.{Command, run, check}
+use Rattle.fw_run.specs.Words.{Command, run, denote, check}
 use Rattle.fw_run.specs.Writing.{Writes, WritesText}
 
 -- the work is that of the command, with what the accepted texts under its names spell
 abbrev pub IsWork : Option (List ℕ → Option (List ℕ)) → Command → Work → Type 0
 IsWork told (run names) (Run job) = IsJob told names job
+IsWork told (run names) (Denote fed) = ⊥
 IsWork told (run names) (Check flow) = ⊥
+IsWork told (denote names) (Run job) = ⊥
+IsWork told (denote names) (Denote fed) = IsFed told names fed
+IsWork told (denote names) (Check flow) = ⊥
 IsWork told (check name) (Run job) = ⊥
+IsWork told (check name) (Denote fed) = ⊥
 IsWork told (check name) (Check flow) = HasFlow told name flow
 
--- what the work asks, if it is a run
+-- what the work asks of the system
 abbrev pub IsReadyWork : Work → Type 0
 IsReadyWork (Run job) = IsReady (system_of job.flow job.batches) job.items
+IsReadyWork (Denote fed) = IsWellFormedSystem (system_of fed.flow fed.batches)
 IsReadyWork (Check flow) = Unit {0}
 
 -- this is all that the work prints
 abbrev pub IsTextOfWork : Work → List ℕ → Type 0
 IsTextOfWork (Run job) printed = PrintsRun (system_of job.flow job.batches) job.items printed
+IsTextOfWork (Denote fed) printed = PrintsDenotation (system_of fed.flow fed.batches) printed
 IsTextOfWork (Check flow) printed = printed ≡ check_text flow
 
 -- all that the work prints was written, or cut off by the fault that was answered

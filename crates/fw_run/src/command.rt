@@ -17,8 +17,9 @@ use fw_outside::{Folder, Sink, Store};
 use std::alloc::Global;
 
 /// Runs a command: `words` are those after the program's name. `run FLOW INPUTS SCHEDULE` fetches and reads the
-/// three texts from the folder, takes the steps of the schedule and prints their effects to `out`; `check FLOW` reads the
-/// text of a flow and prints its nodes. Where that does not end well, one line on `notes` says why. The store is for records of
+/// three texts from the folder, takes the steps of the schedule and prints their effects to `out`; `denote FLOW INPUTS` reads
+/// the texts of a flow and its inputs and prints its denotation at the outputs; `check FLOW` reads the text of a flow and
+/// prints its nodes. Where that does not end well, one line on `notes` says why. The store is for records of
 /// what nodes write; the engine of today keeps the writes in its state and makes no records.
 pub fn falkirk<F: Folder, K: Store, O: Sink, N: Sink>(
     alloc: Global,

@@ -2,6 +2,7 @@
 #![tactic(auto)]
 
 mod command;
+mod denoting;
 mod listing;
 mod perform;
 mod reading;

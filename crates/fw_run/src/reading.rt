@@ -7,11 +7,11 @@ ghost use Rattle.fw_flow.specs.Sources.{sources_of};
 ghost use Rattle.fw_flow.specs.WellFormed.{IsWellFormedSystem};
 ghost use Rattle.fw_schedule.specs.Grammar as schedules;
 ghost use Rattle.fw_schedule.specs.Schedule.{step_count, step_limit};
-ghost use Rattle.fw_run.specs.Reading.{IfRefused, IsTooLarge, IsJob, IsReady};
-ghost use Rattle.fw_run.specs.Words.{text_names_in};
-ghost use Rattle.fw_run.specs.Texts.{HasText, HasFlow, IsFlowRefused, AreInputsRefused, IsScheduleRefused, IsFirstRefusal, IsAskedNoMore};
+ghost use Rattle.fw_run.specs.Reading.{IfRefused, IsTooLarge, IsJob, IsFed, IsReady};
+ghost use Rattle.fw_run.specs.Words.{text_names_in, system_names_in};
+ghost use Rattle.fw_run.specs.Texts.{HasText, HasFlow, IsFlowRefused, AreInputsRefused, IsScheduleRefused, IsFirstRefusal, IsFirstOfTwoRefused, IsAskedTwice, IsAskedNoMore};
 
-use crate::words::RunWords;
+use crate::words::{DenoteWords, RunWords};
 use fw_flow::Flow;
 use fw_flow::laws::system_is_well_formed;
 use fw_flow_text::{FLOW_LIMIT, read_flow};
@@ -26,6 +26,13 @@ pub struct Job {
     pub flow: Flow,
     pub batches: Batches,
     pub items: Schedule,
+}
+
+/// A flow with the batches of its inputs.
+#[derive(Debug, Drop)]
+pub struct Fed {
+    pub flow: Flow,
+    pub batches: Batches,
 }
 
 /// Why no run begins.
@@ -84,6 +91,25 @@ pub(crate) fn read_job<F: Folder>(
         batches,
         items,
     })
+}
+
+/// Reads the texts of a flow and its inputs, the one before the other is fetched.
+pub(crate) fn read_fed<F: Folder>(
+    alloc: Global,
+    names: &DenoteWords,
+    folder: &mut F,
+) -> Result<Fed, JobFault>
+    ensures fed { IfOk result (IsFed (F.texts folder.old) (system_names_in names.now)) }
+    ensures well_formed { IfOk result (λ fed. IsWellFormedSystem (system_of fed.flow fed.batches)) }
+    ensures refused { IfErr result (IfRefused (IsFirstOfTwoRefused (F.texts folder.old) (system_names_in names.now))) }
+    ensures failed { IsErrOf result JobFault.Failed → Rose (F.fault_count folder.old) (F.fault_count folder.new) }
+    ensures never_falls { F.fault_count folder.old ≤ F.fault_count folder.new }
+    ensures asked_no_more { IsAskedTwice (F.texts folder.old) (system_names_in names.now).flow (F.fetch_count folder.old) (F.fetch_count folder.new) }
+    ensures texts_stay { F.texts folder.new ≡ F.texts folder.old }
+{
+    let flow = fetch_flow(alloc, folder, names.flow)?;
+    let batches = fetch_inputs(alloc, folder, names.inputs, &flow)?;
+    Ok(Fed { flow, batches })
 }
 
 /// The flow of the text under a name.

@@ -6,7 +6,7 @@ ghost use Rattle.clap.specs.Values.{kind_of};
 ghost use Rattle.clap.specs.Walk.{rule_of, rows_of, first_of};
 ghost use Rattle.fw_run.specs.Forms as spec;
 ghost use Rattle.fw_run.specs.Forms.{forms, matched_command};
-ghost use Rattle.fw_run.specs.Words.{is_operand, check_of, run_of, command_of, command_in, text_names_in, words_in};
+ghost use Rattle.fw_run.specs.Words.{is_operand, check_of, denote_of, run_of, command_of, command_in, text_names_in, system_names_in, words_in};
 ghost use Rattle.clap.specs.declared.builder.command.Command.TheViews.{out-Command as fields_of};
 
 use clap::error::ErrorKind;
@@ -21,11 +21,20 @@ pub(crate) struct RunWords<'a> {
     pub schedule: &'a str,
 }
 
+/// The names of the texts of a flow and its inputs.
+#[derive(Clone, Copy, Debug)]
+pub(crate) struct DenoteWords<'a> {
+    pub flow: &'a str,
+    pub inputs: &'a str,
+}
+
 /// A command with its operands.
 #[derive(Clone, Copy, Debug)]
 pub(crate) enum CommandWords<'a> {
     /// The three texts are run.
     Run(RunWords<'a>),
+    /// It is told what the flow denotes of its inputs.
+    Denote(DenoteWords<'a>),
     /// The flow of this name is checked.
     Check(&'a str),
 }
@@ -63,7 +72,7 @@ fn refused<'a>(error: &Error) -> Result<Option<CommandWords<'a>>, AllocError>
 fn is_command(words: &[&str]) -> bool
     ensures { result ≡ is_some (command_of (words_in words.now)) }
 {
-    is_check(words) || is_run(words)
+    is_check(words) || is_denote(words) || is_run(words)
 }
 
 // Whether the words are `check` and an operand.
@@ -74,6 +83,16 @@ fn is_check(words: &[&str]) -> bool
         return false;
     };
     *command == "check" && is_operand(flow)
+}
+
+// Whether the words are `denote` and two operands.
+fn is_denote(words: &[&str]) -> bool
+    ensures { result ≡ is_some (denote_of (words_in words.now)) }
+{
+    let [command, flow, inputs] = words else {
+        return false;
+    };
+    *command == "denote" && is_operand(flow) && is_operand(inputs)
 }
 
 // Whether the words are `run` and three operands.
@@ -100,12 +119,20 @@ fn is_operand(word: &str) -> bool
 fn commands<'a>(alloc: Global) -> Result<Command<'a>, AllocError>
     ensures { IfOk result (λ command. app_of command ≡ forms) }
 {
+    program(alloc)
+        .subcommand(run_form(alloc)?)?
+        .subcommand(denote_form(alloc)?)?
+        .subcommand(check_form(alloc)?)
+}
+
+// The program, without a command.
+fn program<'a>(alloc: Global) -> Command<'a>
+    ensures { app_of result ≡ record { top = spec.program; subs = [] } }
+{
     Command::new(alloc, "falkirk")
         .no_binary_name(true)
         .disable_help_flag(true)
         .disable_help_subcommand(true)
-        .subcommand(run_form(alloc)?)?
-        .subcommand(check_form(alloc)?)
 }
 
 // The form `run FLOW INPUTS SCHEDULE`.
@@ -117,6 +144,16 @@ fn run_form<'a>(alloc: Global) -> Result<Command<'a>, AllocError>
         .arg(operand(alloc, "flow"))?
         .arg(operand(alloc, "inputs"))?
         .arg(operand(alloc, "schedule"))
+}
+
+// The form `denote FLOW INPUTS`.
+fn denote_form<'a>(alloc: Global) -> Result<Command<'a>, AllocError>
+    ensures shape { IfOk result (λ form. shape_of form ≡ spec.form (codes "denote") (codes "flow" ∷ codes "inputs" ∷ [])) }
+    ensures local { IfOk result (λ form. (fields_of form).has_globals ≡ false) }
+{
+    Command::new(alloc, "denote")
+        .arg(operand(alloc, "flow"))?
+        .arg(operand(alloc, "inputs"))
 }
 
 // The form `check FLOW`.
@@ -142,6 +179,7 @@ fn named<'a>(matches: &ArgMatches<'a>) -> Option<CommandWords<'a>>
     let (word, operands) = matches.subcommand()?;
     match word {
         "run" => Some(CommandWords::Run(run_words(operands)?)),
+        "denote" => Some(CommandWords::Denote(denote_words(operands)?)),
         "check" => Some(CommandWords::Check(given(operands, "flow")?)),
         _ => None,
     }
@@ -155,6 +193,16 @@ fn run_words<'a>(operands: &ArgMatches<'a>) -> Option<RunWords<'a>>
         flow: given(operands, "flow")?,
         inputs: given(operands, "inputs")?,
         schedule: given(operands, "schedule")?,
+    })
+}
+
+// The names of the texts of a flow and its inputs.
+fn denote_words<'a>(operands: &ArgMatches<'a>) -> Option<DenoteWords<'a>>
+    ensures { option_map system_names_in result ≡ spec.two_names_matched (rows_of (found_of operands.now)) }
+{
+    Some(DenoteWords {
+        flow: given(operands, "flow")?,
+        inputs: given(operands, "inputs")?,
     })
 }
 

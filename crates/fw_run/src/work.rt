@@ -6,9 +6,10 @@ ghost use Rattle.fw_run.specs.Reading.{IfRefused};
 ghost use Rattle.fw_run.specs.Words.{command_in};
 ghost use Rattle.fw_run.specs.Work.{IsWork, IsReadyWork, PrintsWork};
 
+use crate::denoting::print_denotation;
 use crate::listing::list;
 use crate::perform::perform;
-use crate::reading::{Job, JobFault, fetch_flow, read_job};
+use crate::reading::{Fed, Job, JobFault, fetch_flow, read_fed, read_job};
 use crate::words::CommandWords;
 use fw_flow::Flow;
 use fw_outside::{Folder, OutFault, Sink};
@@ -19,6 +20,8 @@ use std::alloc::Global;
 pub enum Work {
     /// The job is run.
     Run(Job),
+    /// It is told what the flow denotes of its inputs.
+    Denote(Fed),
     /// The nodes of the flow are listed.
     Check(Flow),
 }
@@ -42,6 +45,10 @@ pub(crate) fn read_work<F: Folder>(
             Ok(job) => Ok(Work::Run(job)),
             Err(fault) => Err(fault),
         },
+        CommandWords::Denote(names) => match read_fed(alloc, names, folder) {
+            Ok(fed) => Ok(Work::Denote(fed)),
+            Err(fault) => Err(fault),
+        },
         CommandWords::Check(name) => match fetch_flow(alloc, folder, *name) {
             Ok(flow) => Ok(Work::Check(flow)),
             Err(fault) => Err(fault),
@@ -56,6 +63,7 @@ pub(crate) fn print_work<O: Sink>(alloc: Global, work: Work, out: &mut O) -> Res
 {
     match work {
         Work::Run(job) => perform(alloc, job, out),
+        Work::Denote(fed) => print_denotation(alloc, &fed, out),
         Work::Check(flow) => list(alloc, &flow, out),
     }
 }

@@ -1,0 +1,10 @@
+pub mod AloneLaws
+pub mod Counts
+pub mod DenoteLaws
+pub mod JoinLaws
+pub mod NumberLaws
+pub mod NumberedLaws
+pub mod PassLaws
+pub mod SeenLaws
+pub mod TotalLaws
+pub mod WholeLaws

@@ -1,0 +1,4 @@
+pub mod Domains
+pub mod Holding
+pub mod Numbers
+pub mod Pairs

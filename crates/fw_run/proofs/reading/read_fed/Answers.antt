@@ -1,0 +1,30 @@
+use Rattle.std.proofs.lemmas.Result.{err_from_is_err_and}
+use Rattle.fw_run.proofs.Roses.{rose_last, same_fault}
+use Rattle.fw_run.proofs.TextLaws.{fed_read, fetched_twice}
+use Rattle.fw_run.specs.declared.reading.JobFault.TheVariants.{Failed}
+use Rattle.fw_run.specs.Words.{system_names_in}
+use Rattle.fw_run.proofs.reading.read_fed.Goals as goal
+
+pub returns-in_err-batches-clause-failed : goal.returns-in_err-batches-clause-failed
+returns-in_err-batches-clause-failed g c =
+    let p = err_from_is_err_and c.from_residual-in_err-batches.result c.from_residual-in_err-batches.ensures.1 in
+    let count = g.F.Folder.fault_count in
+    rw (p.1, p.2) (λ e. rose_last (count c.args.folder.now) (count c.fetch_flow.new.folder) (count c.fetch_inputs.new.folder) c.fetch_flow.ensures.never_falls c.fetch_inputs.ensures.never_falls (c.in_err-batches.ensures.failed (same_fault _ _ _ _ Failed e)))
+
+pub returns-clause-fed : goal.returns-clause-fed
+returns-clause-fed g c =
+    let told = g.F.Folder.texts in
+    fed_read (told c.args.folder.now) (told c.fetch_flow.new.folder) (system_names_in c.args.names.now) (record { flow = c.in_ok-flow.flow; batches = c.in_ok-batches.batches })
+    c.fetch_flow.ensures.texts_stay c.in_ok-flow.ensures.flow c.in_ok-batches.ensures.batches
+
+pub returns-in_err-batches-clause-asked_no_more : goal.returns-in_err-batches-clause-asked_no_more
+returns-in_err-batches-clause-asked_no_more g c =
+    let count = g.F.Folder.fetch_count in
+    fetched_twice (g.F.Folder.texts c.args.folder.now) (system_names_in c.args.names.now).flow c.in_ok-flow.flow (count c.args.folder.now) (count c.fetch_flow.new.folder) (count c.fetch_inputs.new.folder)
+    c.in_ok-flow.ensures.flow c.fetch_flow.ensures.counted c.fetch_inputs.ensures.counted
+
+pub returns-clause-asked_no_more : goal.returns-clause-asked_no_more
+returns-clause-asked_no_more g c =
+    let count = g.F.Folder.fetch_count in
+    fetched_twice (g.F.Folder.texts c.args.folder.now) (system_names_in c.args.names.now).flow c.in_ok-flow.flow (count c.args.folder.now) (count c.fetch_flow.new.folder) (count c.fetch_inputs.new.folder)
+    c.in_ok-flow.ensures.flow c.fetch_flow.ensures.counted c.fetch_inputs.ensures.counted

@@ -4,7 +4,7 @@ use Rattle.std.specs.Prelude.{is_some}
 use Rattle.std.specs.Option.{ForSome}
 use Rattle.std.specs.List.{AllByRecursion}
 use Rattle.std.specs.FinMap as records
-use Rattle.std.specs.FinMap.{get-insert, get-remove}
+use Rattle.std.specs.FinMap.{get-empty, get-insert, get-remove}
 use Rattle.std.specs.Cmp.{nat_cmp_total}
 use Rattle.std.specs.Ordering.{nat_cmp, eq_by_cmp}
 use Rattle.std.specs.Option.{option_to_list}
@@ -15,7 +15,7 @@ use Rattle.std.proofs.lemmas.Bool.Decides.{nat_tests}
 use Rattle.fw_time.proofs.EachLaws.{each-weaker, each-at, each-prefix, each-suffix}
 use Rattle.fw_keep.specs.declared.entry.Entry.{Entry}
 use Rattle.fw_keep.specs.Catalogue.{KeepState, IsCatalogue, ids_of, is_among, has_entry, AreDistinct, persisted, without}
-use Rattle.fw_keep.specs.Stored.{Records, is_held, IsStored, AreThere, without_ids, Sweeps}
+use Rattle.fw_keep.specs.Stored.{Records, IsEmptyStore, is_held, IsStored, AreThere, without_ids, Sweeps}
 use Rattle.fw_keep.proofs.IdLaws.{ids-more, has_entry-parts, ids-persisted, none_drawn, each-among, among-self, distinct-parts, distinct-last}
 
 -- ---- the map at an id
@@ -42,6 +42,12 @@ there-remove held k q =
 none_is : (o : Option (List ℕ)) → is_some o ≡ false → o ≡ None
 none_is None h = refl
 none_is (Some x) h = absurd cc
+
+-- ---- what is new
+
+pub stored-new : (keep : KeepState) (all : Option Records) → keep.entries ≡ [] → keep.waiting ≡ [] → IsEmptyStore all → IsStored keep all
+stored-new keep all entries waiting none = λ held f id.
+    ap (λ (m : Records). is_some (records.get m id)) (none held f) ∙ ap is_some (get-empty nat_cmp id) ∙ rw (entries, waiting) refl
 
 -- ---- what is asked
 

@@ -22,6 +22,10 @@ Records = map.FinMap nat_cmp (List ℕ)
 abbrev pub is_held : KeepState → ℕ → Bool
 is_held keep id = has_entry id keep.entries || is_among id keep.waiting
 
+-- the store holds nothing, where it tells its records
+abbrev pub IsEmptyStore : Option Records → Type 0
+IsEmptyStore records = ForSome records (λ held. held ≡ map.empty)
+
 -- Where the store tells its records, there is one under exactly the ids of the entries and those that wait for a sweep.
 abbrev pub IsStored : KeepState → Option Records → Type 0
 IsStored keep records = ForSome records (λ held. (id : ℕ) → is_some (map.get held id) ≡ is_held keep id)

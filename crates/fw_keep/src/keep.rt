@@ -6,7 +6,7 @@ ghost use Rattle.fw_record.specs.Spelling.{spelling};
 ghost use Rattle.fw_keep.specs.declared.entry.Entry.{Entry as Write};
 ghost use Rattle.fw_keep.specs.Entry.{asked, is_lost, is_withdrawn, is_above, is_below, is_at};
 ghost use Rattle.fw_keep.specs.Catalogue.{IsCatalogue, has_entry, oldest, persisted, without};
-ghost use Rattle.fw_keep.specs.Stored.{Records, IsStored, Sweeps, Fetches, IsToldUnder, IsUndamaged};
+ghost use Rattle.fw_keep.specs.Stored.{Records, IsEmptyStore, IsStored, Sweeps, Fetches, IsToldUnder, IsUndamaged};
 
 use crate::fetch::{entry_at, read};
 use crate::going::{Above, Below, EventsAt, Going, Lost, Withdrawn, take_out};
@@ -53,7 +53,8 @@ impl Model for Keep {
 impl Keep {
     /// No write yet.
     pub fn new(alloc: Global) -> Self
-        ensures { result ≡ record { entries = []; next = 0; waiting = []; refused = false } }
+        ensures nothing { result ≡ record { entries = []; next = 0; waiting = []; refused = false } }
+        ensures stored { (records : Option Records) → IsEmptyStore records → IsStored result records }
     {
         Keep {
             alloc,

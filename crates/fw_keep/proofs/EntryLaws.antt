@@ -1,14 +1,15 @@
 -- The first entries that are known to be acknowledged, and the entry of an id.
-use Rattle.std.proofs.Common.{◌≡◌, ℕ, zero, suc, ◌<◌, Bool, true, false, cond, ◌||◌, ◌==◌, List, [], ◌∷◌, ◌++◌, take, drop, Option, Some, None, IfSome, refl, sym, ap, ◌∙◌, arith}
-use Rattle.std.specs.Prelude.{is_some, find}
-use Rattle.std.specs.Option.{option_copied}
+use Rattle.std.proofs.Common.{◌≡◌, ℕ, zero, suc, ◌+◌, ◌<◌, ◌≤◌, Bool, true, false, cond, ◌||◌, ◌==◌, List, [], ◌∷◌, ◌++◌, length, get_or, take, drop, Option, Some, None, ◌⊎◌, inl, inr, refl, sym, ap, subst, ◌∙◌, arith}
 use Rattle.std.specs.List.{AllByRecursion}
-use Rattle.std.proofs.lemmas.Bool.{eqb-true, eqb-false}
+use Rattle.std.specs.List.Sorted.{IsNonDecreasingBy, IsPartitionPoint}
+use Rattle.std.specs.Ordering.{nat_cmp, ordering_index}
+use Rattle.std.specs.declared.cmp.Ordering.TheVariants.{Less, Greater}
+use Rattle.std.proofs.lemmas.Bool.{eq-eqb, cases_lt}
+use Rattle.std.proofs.lemmas.Bool.Decides.{nat_tests}
 use Rattle.std.proofs.lemmas.List.Elements.{All-contains, All-from_recursion}
-use Rattle.fw_time.proofs.EachLaws.{each-weaker, each_of-map}
+use Rattle.fw_time.proofs.EachLaws.{each-weaker, each-at, each_of-map}
 use Rattle.fw_keep.specs.declared.entry.Entry.{Entry}
 use Rattle.fw_keep.specs.Catalogue.{AreAcknowledged, AreAscending, IsOnly, ids_of, has_entry, oldest, persisted}
-use denote.Ref.{Bor}
 
 -- ---- the first ones
 
@@ -25,44 +26,64 @@ persisted-known (suc n) (e ∷ es) h =
 
 -- ---- the entry of an id
 
-pub found-has : (id : ℕ) (es : List Entry) (r : Option (Bor Entry)) → option_copied r ≡ find (λ (e : Entry). e.id == id) es → is_some r ≡ has_entry id es
-found-has id es r e = copied r ∙ ap is_some e ∙ in_all es
+later-above : (n : ℕ) (es : List Entry) (i : ℕ) (d : Entry) → i < length es → AllByRecursion (λ later. n < later) (ids_of es) → n < (get_or es i d).id
+later-above n es i d l h = each-at (λ (e : Entry). n < e.id) es i d l (each_of-map (λ later. n < later) (λ (e : Entry). e.id) es h)
+
+ascending-at : (es : List Entry) → AreAscending (ids_of es) → (i j : ℕ) (d : Entry) → i ≤ j → j < length es → (get_or es i d).id ≤ (get_or es j d).id
+ascending-at [] h i j d le l = absurd (omega arith)
+ascending-at (e ∷ es) h zero zero d le l = omega arith
+ascending-at (e ∷ es) h zero (suc j) d le l = let above : e.id < (get_or es j d).id = later-above e.id es j d (omega arith) h.0 in omega arith
+ascending-at (e ∷ es) h (suc i) zero d le l = absurd (omega arith)
+ascending-at (e ∷ es) h (suc i) (suc j) d le l = ascending-at es h.1 i j d (omega arith) (omega arith)
+
+rises : (a b n : ℕ) → a ≤ b → ordering_index (nat_cmp a n) ≤ ordering_index (nat_cmp b n)
+rises a b n le = grind (arith, nat_tests)
+
+-- the ids do not fall against any one
+pub ids-rise : (es : List Entry) (id : ℕ) → AreAscending (ids_of es) → IsNonDecreasingBy (λ (e : Entry). ordering_index (nat_cmp e.id id)) es
+ids-rise es id h = λ i j d le l. rises (get_or es i d).id (get_or es j d).id id (ascending-at es h i j d le l)
+
+only_at : (es : List Entry) (id i : ℕ) (x : Entry) → AreAscending (ids_of es) → i < length es → x ≡ get_or es i x → x.id ≡ id
+    → AllByRecursion (λ (other : Entry). other.id ≡ id → other ≡ x) es
+only_at [] id i x h l is named = tt
+only_at (e ∷ es) id zero x h l is named =
+    let same : e.id ≡ id = ap (λ (y : Entry). y.id) (sym is) ∙ named in
+    ((λ k. sym is), each-weaker (λ (other : Entry). e.id < other.id) _ es (λ other later k. absurd (omega arith)) (each_of-map (λ later. e.id < later) (λ (y : Entry). y.id) es h.0))
+only_at (e ∷ es) id (suc i) x h l is named =
+    let above : e.id < (get_or es i x).id = later-above e.id es i x (omega arith) h.0 in
+    let there : (get_or es i x).id ≡ id = ap (λ (y : Entry). y.id) (sym is) ∙ named in
+    ((λ k. absurd (omega arith)), only_at es id i x h.1 (omega arith) is named)
+
+-- an entry that is there is the only one of its id
+pub found-only : (es : List Entry) (id i : ℕ) (x : Entry) → AreAscending (ids_of es) → i < length es → x ≡ get_or es i x → x.id ≡ id → IsOnly es id x
+found-only es id i x h l is named = record {
+  named = named;
+  only = λ other there k. All-contains (λ (o : Entry). o.id ≡ id → o ≡ x) es other (All-from_recursion _ es (only_at es id i x h l is named)) there k;
+}
+
+or_true : (b : Bool) → (b || true) ≡ true
+or_true true = refl
+or_true false = refl
+
+pub found-there : (es : List Entry) (id i : ℕ) (x : Entry) → i < length es → x ≡ get_or es i x → x.id ≡ id → has_entry id es ≡ true
+found-there [] id i x l is named = absurd (omega arith)
+found-there (e ∷ es) id zero x l is named = rw (eq-eqb e.id id (ap (λ (y : Entry). y.id) (sym is) ∙ named)) refl
+found-there (e ∷ es) id (suc i) x l is named = rw (found-there es id i x (omega arith) is named) (or_true (e.id == id))
+
+none-at : (es : List Entry) (id : ℕ) → ((k : ℕ) (d : Entry) → k < length es → ((get_or es k d).id == id) ≡ false) → has_entry id es ≡ false
+none-at [] id h = refl
+none-at (e ∷ es) id h = rw (h zero e (omega arith)) (none-at es id (λ k d l. h (suc k) d (omega arith)))
+
+less-apart : (a b : ℕ) → nat_cmp a b ≡ Less → (a == b) ≡ false
+less-apart a b h = grind (arith, nat_tests)
+
+greater-apart : (a b : ℕ) → nat_cmp a b ≡ Greater → (a == b) ≡ false
+greater-apart a b h = grind (arith, nat_tests)
+
+-- no entry has the id where those before a place are below it and the others above
+pub found-none : (es : List Entry) (id i : ℕ) → IsPartitionPoint (λ (e : Entry). nat_cmp e.id id ≡ Less) (λ (e : Entry). nat_cmp e.id id ≡ Greater) es i → has_entry id es ≡ false
+found-none es id i parts = none-at es id (λ k d l. by k d l (cases_lt k i))
   where
-    copied : (o : Option (Bor Entry)) → is_some o ≡ is_some (option_copied o)
-    copied None = refl
-    copied (Some x) = refl
-
-    or_found : (b : Bool) (x : Entry) (o : Option Entry) → is_some (cond b (Some x) o) ≡ (b || is_some o)
-    or_found true x o = refl
-    or_found false x o = refl
-
-    in_all : (xs : List Entry) → is_some (find (λ (e : Entry). e.id == id) xs) ≡ has_entry id xs
-    in_all [] = refl
-    in_all (x ∷ xs) = or_found (x.id == id) x (find (λ (e : Entry). e.id == id) xs) ∙ ap (λ b. (x.id == id) || b) (in_all xs)
-
-only_one : (id : ℕ) (es : List Entry) (x : Entry) → AreAscending (ids_of es) → find (λ (e : Entry). e.id == id) es ≡ Some x
-    → (x.id ≡ id) × AllByRecursion (λ (other : Entry). other.id ≡ id → other ≡ x) es
-only_one id [] x h f = absurd cc
-only_one id (e ∷ es) x h f = by (e.id == id) refl f (λ rest. only_one id es x h.1 rest)
-  where
-    by : (b : Bool) → (e.id == id) ≡ b → cond b (Some e) (find (λ (e : Entry). e.id == id) es) ≡ Some x
-        → (find (λ (e : Entry). e.id == id) es ≡ Some x → (x.id ≡ id) × AllByRecursion (λ (other : Entry). other.id ≡ id → other ≡ x) es)
-        → (x.id ≡ id) × AllByRecursion (λ (other : Entry). other.id ≡ id → other ≡ x) (e ∷ es)
-    by true is g rest =
-        let here : e ≡ x = cc in
-        let same : e.id ≡ id = eqb-true e.id id is in (
-          ap (λ (y : Entry). y.id) (sym here) ∙ same,
-          ((λ k. here), each-weaker (λ (other : Entry). e.id < other.id) _ es (λ other later k. absurd (omega arith)) (each_of-map (λ later. e.id < later) (λ (y : Entry). y.id) es h.0)),
-        )
-    by false is g rest = let found : (x.id ≡ id) × AllByRecursion (λ (other : Entry). other.id ≡ id → other ≡ x) es = rest g in
-        (found.0, ((λ k. absurd (eqb-false e.id id is k)), found.1))
-
-pub found-only : (id : ℕ) (es : List Entry) (r : Option (Bor Entry)) → AreAscending (ids_of es) → option_copied r ≡ find (λ (e : Entry). e.id == id) es
-    → IfSome r (λ e. IsOnly es id e.now)
-found-only id es None h f = tt
-found-only id es (Some e) h f =
-    let found : (e.now.id ≡ id) × AllByRecursion (λ (other : Entry). other.id ≡ id → other ≡ e.now) es = only_one id es e.now h (sym f) in
-    record {
-      named = found.0;
-      only = λ other there k. All-contains (λ (o : Entry). o.id ≡ id → o ≡ e.now) es other (All-from_recursion _ es found.1) there k;
-    }
+    by : (k : ℕ) (d : Entry) → k < length es → (k < i) ⊎ (i ≤ k) → ((get_or es k d).id == id) ≡ false
+    by k d l (inl before) = less-apart (get_or es k d).id id (parts.0 k d (omega arith) before)
+    by k d l (inr after) = greater-apart (get_or es k d).id id (parts.1 k d after l)

@@ -1,6 +1,7 @@
 //! The record of an entry is read from the bytes that a store gave.
-ghost use Rattle.std.specs.Prelude.{◌≡◌, ◌==◌, find, is_some, IfSome};
-ghost use Rattle.std.specs.Option.{option_copied};
+ghost use Rattle.std.specs.Prelude.{◌≡◌, length, is_some, IfSome};
+ghost use Rattle.std.specs.Ordering.{nat_cmp};
+ghost use Rattle.std.specs.List.Sorted.{IsBinarySearchResult, IsSearchInRange};
 ghost use Rattle.fw_keep.specs.Catalogue.{AreAscending, IsOnly, has_entry, ids_of};
 ghost use Rattle.fw_keep.specs.Stored.{ReadsAs};
 
@@ -15,14 +16,18 @@ pub(crate) fn entry_at(entries: &[Entry], id: u64) -> Option<&Entry>
     ensures there { is_some result ≡ has_entry id entries.now }
     ensures only { IfSome result (λ e. IsOnly entries.now id e.now) }
 {
-    first_at(entries, id)
+    match place_of(entries, id) {
+        Ok(place) => Some(&entries[place]),
+        Err(_) => None,
+    }
 }
 
-/// The first entry of an id, if there is one.
-fn first_at(entries: &[Entry], id: u64) -> Option<&Entry>
-    ensures { option_copied result ≡ find (λ e. e.id == id) entries.now }
+/// The place of the entry of an id, or where it would stand.
+fn place_of(entries: &[Entry], id: u64) -> Result<usize, usize>
+    ensures inside { IsSearchInRange result (length entries.now) }
+    ensures place { IsBinarySearchResult (λ e. nat_cmp e.id id) entries.now result }
 {
-    entries.iter().find(|entry| entry.id == id)
+    entries.binary_search_by_key(&id, |entry| entry.id)
 }
 
 /// The record of an entry that the bytes spell.

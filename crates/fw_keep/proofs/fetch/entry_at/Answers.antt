@@ -1,8 +1,21 @@
-use Rattle.fw_keep.proofs.EntryLaws.{found-has, found-only}
+use Rattle.std.proofs.Common.{◌≡◌, ℕ, sym}
+use Rattle.std.specs.Ordering.{nat_cmp}
+use Rattle.std.proofs.lemmas.Map.Lookups.{exact_unsigned}
+use Rattle.fw_keep.proofs.EntryLaws.{found-only, found-there, found-none, ids-rise}
 use Rattle.fw_keep.proofs.fetch.entry_at.Goals as goal
 
-pub returns-clause-there : goal.returns-clause-there
-returns-clause-there c = found-has c.args.id c.args.entries.now c.first_at.result c.first_at.ensures
+pub returns-in-Ok-clause-there : goal.returns-in-Ok-clause-there
+returns-in-Ok-clause-there c =
+    let entry = c.index-entries-place.result in
+    let named : c.index-entries-place.result.id ≡ c.args.id = exact_unsigned c.index-entries-place.result.id c.args.id (rw (c.index-entries-place.is) (c.in-Ok.ensures.place c.index-entries-place.result)) in
+    sym (found-there c.args.entries.now c.args.id c.in-Ok.place entry c.in-Ok.ensures.inside c.index-entries-place.is named)
 
-pub returns-clause-only : goal.returns-clause-only
-returns-clause-only c = found-only c.args.id c.args.entries.now c.first_at.result c.requires c.first_at.ensures
+pub returns-in-Ok-clause-only : goal.returns-in-Ok-clause-only
+returns-in-Ok-clause-only c =
+    let entry = c.index-entries-place.result in
+    let named : c.index-entries-place.result.id ≡ c.args.id = exact_unsigned c.index-entries-place.result.id c.args.id (rw (c.index-entries-place.is) (c.in-Ok.ensures.place c.index-entries-place.result)) in
+    found-only c.args.entries.now c.args.id c.in-Ok.place entry c.requires c.in-Ok.ensures.inside c.index-entries-place.is named
+
+pub returns-in-Err-clause-there : goal.returns-in-Err-clause-there
+returns-in-Err-clause-there c =
+    sym (found-none c.args.entries.now c.args.id c.in-Err.field-0 (c.in-Err.ensures.place (ids-rise c.args.entries.now c.args.id c.requires)))

@@ -1,5 +1,5 @@
 -- What each call keeps of a catalogue.
-use Rattle.std.proofs.Common.{◌≡◌, ℕ, ◌+◌, ◌<◌, Bool, false, not, List, [], ◌∷◌, ◌++◌, filter, refl, sym, ap, subst, ◌∙◌, arith}
+use Rattle.std.proofs.Common.{◌≡◌, ℕ, ◌<◌, ◌≤◌, Bool, false, not, List, [], ◌∷◌, ◌++◌, filter, refl, sym, ap, subst, ◌∙◌, arith}
 use Rattle.std.specs.List.{AllByRecursion}
 use Rattle.fw_time.proofs.EachLaws.{each-weaker, each-append, each-prefix}
 use Rattle.fw_keep.specs.declared.entry.Entry.{Entry}
@@ -15,9 +15,9 @@ same-state a b entries next waiting refused =
     ∙ ap (λ (x : List ℕ). let k : KeepState = record { entries = b.entries; next = b.next; waiting = x; refused = a.refused } in k) waiting
     ∙ ap (λ (x : Bool). let k : KeepState = record { entries = b.entries; next = b.next; waiting = b.waiting; refused = x } in k) refused
 
--- the next id is drawn, and memory may be refused
-pub catalogue-drawn : (keep : KeepState) (refused : Bool) → IsCatalogue keep → IsCatalogue (record keep { next = keep.next + 1; refused = refused })
-catalogue-drawn keep refused h = record {
+-- ids are drawn, and memory may be refused
+pub catalogue-drawn : (keep : KeepState) (next : ℕ) (refused : Bool) → keep.next ≤ next → IsCatalogue keep → IsCatalogue (record keep { next = next; refused = refused })
+catalogue-drawn keep next refused le h = record {
   ascending = h.ascending;
   distinct = h.distinct;
   apart = h.apart;
@@ -26,9 +26,9 @@ catalogue-drawn keep refused h = record {
 }
 
 -- an entry is added under the next id
-pub catalogue-added : (keep : KeepState) (e : Entry) → e.id ≡ keep.next → IsCatalogue keep
-    → IsCatalogue (record keep { entries = keep.entries ++ e ∷ []; next = keep.next + 1 })
-catalogue-added keep e same h = record {
+pub catalogue-added : (keep : KeepState) (e : Entry) (next : ℕ) → e.id ≡ keep.next → keep.next < next → IsCatalogue keep
+  → IsCatalogue (record keep { entries = keep.entries ++ e ∷ []; next = next })
+catalogue-added keep e next same le h = record {
   ascending = rw (ids-more keep.entries e, same) (ascending-more (ids_of keep.entries) keep.next h.ascending h.drawn);
   distinct = h.distinct;
   apart = apart_of keep.waiting h.apart h.waiting_drawn;

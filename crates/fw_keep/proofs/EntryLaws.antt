@@ -10,6 +10,7 @@ use Rattle.std.proofs.lemmas.List.Elements.{All-contains, All-from_recursion}
 use Rattle.fw_time.proofs.EachLaws.{each-weaker, each-at, each_of-map}
 use Rattle.fw_keep.specs.declared.entry.Entry.{Entry}
 use Rattle.fw_keep.specs.Catalogue.{AreAcknowledged, AreAscending, IsOnly, ids_of, has_entry, oldest, persisted}
+use Rattle.fw_keep.proofs.IdLaws.{or_true}
 
 -- ---- the first ones
 
@@ -60,10 +61,6 @@ found-only es id i x h l is named = record {
   named = named;
   only = λ other there k. All-contains (λ (o : Entry). o.id ≡ id → o ≡ x) es other (All-from_recursion _ es (only_at es id i x h l is named)) there k;
 }
-
-or_true : (b : Bool) → (b || true) ≡ true
-or_true true = refl
-or_true false = refl
 
 pub found-there : (es : List Entry) (id i : ℕ) (x : Entry) → i < length es → x ≡ get_or es i x → x.id ≡ id → has_entry id es ≡ true
 found-there [] id i x l is named = absurd (omega arith)

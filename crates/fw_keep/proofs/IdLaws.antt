@@ -11,9 +11,13 @@ use Rattle.fw_keep.specs.Catalogue.{ids_of, is_among, has_entry, AreAscending, A
 
 -- ---- ids
 
+none_among : (n : ℕ) (ids : List ℕ) → AllByRecursion (λ id. id ≡ n → ⊥) ids → is_among n ids ≡ false
+none_among n [] h = refl
+none_among n (id ∷ ids) h = rw (ne_eqb id n h.0) (none_among n ids h.1)
+
+-- an id that is below all these is none of them
 none_equal : (n : ℕ) (ids : List ℕ) → AllByRecursion (λ id. n < id) ids → is_among n ids ≡ false
-none_equal n [] h = refl
-none_equal n (id ∷ ids) h = rw (ne_eqb id n (λ e. absurd (omega arith))) (none_equal n ids h.1)
+none_equal n ids h = none_among n ids (each-weaker _ _ ids (λ id l e. omega arith) h)
 
 pub ascending-distinct : (ids : List ℕ) → AreAscending ids → AreDistinct ids
 ascending-distinct [] h = tt
@@ -61,7 +65,7 @@ each-among P (x ∷ ids) id all h = by (x == id) refl (λ k. each-among P ids id
     by true e rest k = subst P (eqb-true x id e) all.0
     by false e rest k = rest k
 
-or_true : (b : Bool) → (b || true) ≡ true
+pub or_true : (b : Bool) → (b || true) ≡ true
 or_true true = refl
 or_true false = refl
 
@@ -83,8 +87,7 @@ distinct-parts (x ∷ xs) ys id h there = by (x == id) refl (distinct-parts xs y
 
 -- an id that is below the next one is not the next one
 pub none_drawn : (n : ℕ) (ids : List ℕ) → AllByRecursion (λ id. id < n) ids → is_among n ids ≡ false
-none_drawn n [] h = refl
-none_drawn n (id ∷ ids) h = rw (ne_eqb id n (λ e. absurd (omega arith))) (none_drawn n ids h.1)
+none_drawn n ids h = none_among n ids (each-weaker _ _ ids (λ id l e. omega arith) h)
 
 -- ---- entries that are kept and entries that go
 

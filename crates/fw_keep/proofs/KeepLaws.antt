@@ -1,5 +1,5 @@
 -- What a catalogue holds stays sound.
-use Rattle.std.proofs.Common.{◌≡◌, ℕ, ◌+◌, ◌≤◌, List, [], ◌∷◌, ◌++◌, length, take, Option, Some, Result, Ok, Err, vec_len, refl, sym, ap, subst, ◌∙◌, arith, length-append}
+use Rattle.std.proofs.Common.{◌≡◌, ℕ, ◌+◌, ◌<◌, ◌≤◌, List, [], ◌∷◌, ◌++◌, length, take, Option, Some, Result, Ok, Err, vec_len, refl, sym, ap, subst, ◌∙◌, arith, length-append}
 use Rattle.std.specs.Prelude.{Contains}
 use Rattle.std.specs.Vec.{vec_capacity}
 use Rattle.std.proofs.lemmas.List.{take-append-le}
@@ -14,12 +14,12 @@ use Rattle.fw_keep.specs.Inside.{state_of, IsSoundInside}
 use Rattle.fw_keep.specs.Stored.{Records, Sweeps, ReadsAs, Fetches}
 use Rattle.fw_keep.proofs.CatalogueLaws.{same-state, catalogue-drawn, catalogue-added, catalogue-swept}
 
--- an id is drawn, and there is no entry
+-- ids are drawn, and there is no entry
 pub sound-drawn : (old new : Inside) → IsSoundInside old → new.entries.items ≡ old.entries.items → new.waiting.items ≡ old.waiting.items
-    → new.next ≡ old.next + 1 → new.persisted ≡ old.persisted → vec_len new.waiting + vec_len new.entries ≤ vec_capacity new.waiting → IsSoundInside new
+    → old.next ≤ new.next → new.persisted ≡ old.persisted → vec_len new.waiting + vec_len new.entries ≤ vec_capacity new.waiting → IsSoundInside new
 sound-drawn old new h entries waiting next persisted room = record {
-  catalogue = subst IsCatalogue (sym (same-state (state_of new) (record (state_of old) { next = old.next + 1; refused = new.refused }) entries next waiting refl))
-      (catalogue-drawn (state_of old) new.refused h.catalogue);
+  catalogue = subst IsCatalogue (sym (same-state (state_of new) (record (state_of old) { next = new.next; refused = new.refused }) entries refl waiting refl))
+      (catalogue-drawn (state_of old) new.next new.refused next h.catalogue);
   there = omega (arith, ap (λ (es : List Entry). length es) entries, persisted, h.there);
   persisted = subst (λ (es : List Entry). AreAcknowledged (take new.persisted es)) (sym entries) (subst (λ n. AreAcknowledged (take n old.entries.items)) (sym persisted) h.persisted);
   room = room;
@@ -27,10 +27,10 @@ sound-drawn old new h entries waiting next persisted room = record {
 
 -- an id is drawn, and its entry is added
 pub sound-added : (old new : Inside) (e : Entry) → e.id ≡ old.next → IsSoundInside old → new.entries.items ≡ old.entries.items ++ e ∷ [] → new.waiting.items ≡ old.waiting.items
-    → new.next ≡ old.next + 1 → new.persisted ≡ old.persisted → new.refused ≡ old.refused → vec_len new.waiting + vec_len new.entries ≤ vec_capacity new.waiting → IsSoundInside new
+    → old.next < new.next → new.persisted ≡ old.persisted → new.refused ≡ old.refused → vec_len new.waiting + vec_len new.entries ≤ vec_capacity new.waiting → IsSoundInside new
 sound-added old new e same h entries waiting next persisted refused room = record {
-  catalogue = subst IsCatalogue (sym (same-state (state_of new) (record (state_of old) { entries = old.entries.items ++ e ∷ []; next = old.next + 1 }) entries next waiting refused))
-      (catalogue-added (state_of old) e same h.catalogue);
+  catalogue = subst IsCatalogue (sym (same-state (state_of new) (record (state_of old) { entries = old.entries.items ++ e ∷ []; next = new.next }) entries refl waiting refused))
+      (catalogue-added (state_of old) e new.next same next h.catalogue);
   there = omega (arith, ap (λ (es : List Entry). length es) entries, length-append old.entries.items (e ∷ []), persisted, h.there);
   persisted = subst (λ (es : List Entry). AreAcknowledged (take new.persisted es)) (sym entries) (subst (λ n. AreAcknowledged (take n (old.entries.items ++ e ∷ []))) (sym persisted)
       (subst AreAcknowledged (sym (take-append-le old.persisted old.entries.items (e ∷ []) h.there)) h.persisted));

@@ -16,7 +16,7 @@ use Rattle.fw_time.proofs.EachLaws.{each-weaker, each-at, each-prefix, each-suff
 use Rattle.fw_keep.specs.declared.entry.Entry.{Entry}
 use Rattle.fw_keep.specs.Catalogue.{KeepState, IsCatalogue, ids_of, is_among, has_entry, AreDistinct, persisted, without}
 use Rattle.fw_keep.specs.Stored.{Records, IsEmptyStore, is_held, IsStored, AreThere, without_ids, Sweeps}
-use Rattle.fw_keep.proofs.IdLaws.{ids-more, has_entry-parts, ids-persisted, none_drawn, each-among, among-self, distinct-parts, distinct-last}
+use Rattle.fw_keep.proofs.IdLaws.{or_true, ids-more, has_entry-parts, ids-persisted, none_drawn, each-among, among-self, distinct-parts, distinct-last}
 
 -- ---- the map at an id
 
@@ -49,6 +49,11 @@ pub stored-new : (keep : KeepState) (all : Option Records) → keep.entries ≡ 
 stored-new keep all entries waiting none = λ held f id.
     ap (λ (m : Records). is_some (records.get m id)) (none held f) ∙ ap is_some (get-empty nat_cmp id) ∙ rw (entries, waiting) refl
 
+-- what is stored depends on the entries and what waits alone
+pub stored-same : (a b : KeepState) (all : Option Records) → a.entries ≡ b.entries → a.waiting ≡ b.waiting → IsStored b all → IsStored a all
+stored-same a b all entries waiting h = λ held f id. h held f id
+    ∙ sym (ap (λ (es : List Entry). has_entry id es || is_among id a.waiting) entries ∙ ap (λ ids. has_entry id b.entries || is_among id ids) waiting)
+
 -- ---- what is asked
 
 held-more : (keep : KeepState) (e : Entry) (id : ℕ) → ((e.id == id) || is_held keep id) ≡ (has_entry id (keep.entries ++ e ∷ []) || is_among id keep.waiting)
@@ -62,10 +67,10 @@ held-more keep e id =
     rotate false true c = refl
     rotate false false c = refl
 
-pub stored-added : (keep : KeepState) (e : Entry) (bytes : List ℕ) (refused : Bool) (all : Option Records) → e.id ≡ keep.next → IsStored keep all
-    → IsStored (record keep { entries = keep.entries ++ e ∷ []; next = keep.next + 1; refused = refused }) (option_map (λ held. records.insert held keep.next bytes) all)
-stored-added keep e bytes refused None same h = λ held f id. absurd cc
-stored-added keep e bytes refused (Some first) same h = λ held f id.
+pub stored-added : (keep : KeepState) (e : Entry) (bytes : List ℕ) (all : Option Records) → e.id ≡ keep.next → IsStored keep all
+  → IsStored (record keep { entries = keep.entries ++ e ∷ [] }) (option_map (λ held. records.insert held keep.next bytes) all)
+stored-added keep e bytes None same h = λ held f id. absurd cc
+stored-added keep e bytes (Some first) same h = λ held f id.
     let is : records.insert first keep.next bytes ≡ held = cc in
     subst (λ (m : Records). is_some (records.get m id) ≡ (has_entry id (keep.entries ++ e ∷ []) || is_among id keep.waiting)) is
     (there-insert first keep.next bytes id ∙ ap (λ b. (keep.next == id) || b) (h first refl id)
@@ -100,10 +105,6 @@ stored-without goes keep all h = λ held f id. h held f id
 pub stored-entry : (keep : KeepState) (all : Option Records) (id : ℕ) → has_entry id keep.entries ≡ true → IsStored keep all
     → ForSome all (λ held. IsSome (records.get held id))
 stored-entry keep all id there h = λ held f. h held f id ∙ rw there refl
-
-or_true : (b : Bool) → (b || true) ≡ true
-or_true true = refl
-or_true false = refl
 
 -- what waits is there
 pub stored-waiting : (keep : KeepState) (all : Option Records) → IsStored keep all → AreThere keep.waiting all

@@ -88,8 +88,8 @@ impl Keep {
         entry_at(&self.entries, id).is_some()
     }
 
-    /// Puts a record under the next id, as a write in flight. The stamps, of which a checkpoint's entry keeps where the node's
-    /// events are and where they sent, are not looked at for an event.
+    /// Puts a record under the next id, as a write in flight. The stamps say where the node's events are and where they sent:
+    /// the entry of a checkpoint keeps them, that of an event does not.
     ///
     /// # Errors
     ///
@@ -222,6 +222,7 @@ impl Keep {
             → Fetches flow.now entry (K.given store.new) result }
         ensures told { IsToldUnder id (K.records store.old) result }
         ensures stays { K.records store.new ≡ K.records store.old }
+        ensures given_stays { IsErrOf result KeepFault.StoreFault → K.given store.new ≡ K.given store.old }
         ensures failed { IsErrOf result KeepFault.StoreFault → Rose (K.fault_count store.old) (K.fault_count store.new) }
         ensures never_falls { K.fault_count store.old ≤ K.fault_count store.new }
         ensures refused { IsTrue self.now.refused → IsErrOf result KeepFault.NoMemory }

@@ -27,7 +27,7 @@ catalogue-drawn keep next refused le h = record {
 
 -- an entry is added under the next id
 pub catalogue-added : (keep : KeepState) (e : Entry) (next : ℕ) → e.id ≡ keep.next → keep.next < next → IsCatalogue keep
-  → IsCatalogue (record keep { entries = keep.entries ++ e ∷ []; next = next })
+    → IsCatalogue (record keep { entries = keep.entries ++ e ∷ []; next = next })
 catalogue-added keep e next same le h = record {
   ascending = rw (ids-more keep.entries e, same) (ascending-more (ids_of keep.entries) keep.next h.ascending h.drawn);
   distinct = h.distinct;

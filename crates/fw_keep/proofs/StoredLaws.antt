@@ -1,5 +1,5 @@
 -- What each call keeps of what a store holds.
-use Rattle.std.proofs.Common.{◌≡◌, ℕ, ◌+◌, ◌-◌, ◌<◌, Bool, true, false, not, cond, ◌&&◌, ◌||◌, ◌==◌, List, [], ◌∷◌, ◌++◌, length, get_or, slice_get, Option, Some, None, option_map, IsSome, filter, refl, sym, ap, subst, ◌∙◌, arith, append_assoc}
+use Rattle.std.proofs.Common.{◌≡◌, ℕ, ◌-◌, ◌<◌, Bool, true, false, not, cond, ◌&&◌, ◌||◌, ◌==◌, List, [], ◌∷◌, ◌++◌, length, get_or, slice_get, Option, Some, None, option_map, IsSome, filter, refl, sym, ap, subst, ◌∙◌, arith, append_assoc}
 use Rattle.std.specs.Prelude.{is_some}
 use Rattle.std.specs.Option.{ForSome}
 use Rattle.std.specs.List.{AllByRecursion}
@@ -68,7 +68,7 @@ held-more keep e id =
     rotate false false c = refl
 
 pub stored-added : (keep : KeepState) (e : Entry) (bytes : List ℕ) (all : Option Records) → e.id ≡ keep.next → IsStored keep all
-  → IsStored (record keep { entries = keep.entries ++ e ∷ [] }) (option_map (λ held. records.insert held keep.next bytes) all)
+    → IsStored (record keep { entries = keep.entries ++ e ∷ [] }) (option_map (λ held. records.insert held keep.next bytes) all)
 stored-added keep e bytes None same h = λ held f id. absurd cc
 stored-added keep e bytes (Some first) same h = λ held f id.
     let is : records.insert first keep.next bytes ≡ held = cc in

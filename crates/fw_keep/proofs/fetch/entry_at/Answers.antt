@@ -1,5 +1,4 @@
-use Rattle.std.proofs.Common.{◌≡◌, ℕ, sym}
-use Rattle.std.specs.Ordering.{nat_cmp}
+use Rattle.std.proofs.Common.{◌≡◌, sym}
 use Rattle.std.proofs.lemmas.Map.Lookups.{exact_unsigned}
 use Rattle.fw_keep.proofs.EntryLaws.{found-only, found-there, found-none, ids-rise}
 use Rattle.fw_keep.proofs.fetch.entry_at.Goals as goal

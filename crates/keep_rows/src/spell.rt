@@ -1,0 +1,66 @@
+//! How rows spell frontiers, stamps and records.
+use crate::hex::bytes_of;
+use crate::line::{NoAnswer, part};
+use fw_flow::{Flow, NodeId};
+use fw_frontier::Front;
+use fw_record::{Record, RecordFault, decode};
+use fw_time::Stamp;
+use std::alloc::Global;
+
+/// How many coordinates a stamp has at most.
+const PLACES: usize = 4;
+
+/// The stamp of one to four numbers with dots between them.
+pub fn stamp_of(alloc: Global, word: &str) -> Result<Stamp, NoAnswer> {
+    let mut coords = Vec::new(alloc);
+    for part in word.split('.') {
+        coords.push(part.parse::<u32>()?)?;
+    }
+    if coords.is_empty() || coords.len() > PLACES {
+        return Err(NoAnswer::NotSpelled);
+    }
+    Ok(Stamp::new(&coords))
+}
+
+/// The frontier that is spelled `all`, or `until` and stamps outside.
+pub fn front_of(alloc: Global, text: &str) -> Result<Front, NoAnswer> {
+    let mut outside = Vec::new(alloc);
+    let (word, words) = part(text);
+    if word != "all" && word != "until" {
+        return Err(NoAnswer::NotSpelled);
+    }
+    for word in words.split_whitespace() {
+        outside.push(stamp_of(alloc, word)?)?;
+    }
+    Ok(Front::until(alloc, &outside)?)
+}
+
+/// The node of a name.
+pub fn node_of(flow: &Flow, name: &str) -> Result<NodeId, NoAnswer> {
+    flow.node_named(name.as_bytes()).ok_or(NoAnswer::NotSpelled)
+}
+
+/// The record whose bytes the lines `record` of a name spell, one after the other.
+pub fn record_named(alloc: Global, lines: &str, name: &str) -> Result<Record, NoAnswer> {
+    let bytes = bytes_named(alloc, lines, name)?;
+    match decode(alloc, &bytes) {
+        Ok(record) => Ok(record),
+        Err(RecordFault::BadRecord { .. }) => Err(NoAnswer::NotSpelled),
+        Err(RecordFault::NoMemory) => Err(NoAnswer::NoMemory),
+    }
+}
+
+/// The bytes that the lines `record` of a name spell, one after the other.
+pub fn bytes_named(alloc: Global, lines: &str, name: &str) -> Result<Vec<u8>, NoAnswer> {
+    let mut bytes = Vec::new(alloc);
+    for line in lines.lines() {
+        if let ("record", rest) = part(line) {
+            let (of, words) = part(rest);
+            if of == name {
+                let more = bytes_of(alloc, words)?;
+                bytes.extend_from_slice(&more)?;
+            }
+        }
+    }
+    Ok(bytes)
+}

@@ -1,5 +1,5 @@
 -- What piles of messages say.
-use Rattle.std.proofs.Common.{◌≡◌, ◌≢◌, ◌+◌, ◌<◌, Bool, true, false, cond, List, [], ◌∷◌, ◌++◌, length, filter, drop, Option, Some, None, unwrap_or, Result, Ok, Err, nat_lt, refl, sym, ap, subst, ◌∙◌, inl, inr, arith}
+use Rattle.std.proofs.Common.{◌≡◌, ◌≢◌, ℕ, ◌+◌, ◌<◌, Bool, true, false, cond, List, [], ◌∷◌, ◌++◌, length, filter, map, drop, Option, Some, None, unwrap_or, Result, Ok, Err, nat_lt, refl, sym, ap, subst, ◌∙◌, inl, inr, arith}
 use Rattle.std.specs.Prelude.{slice_get, find, IfSome, IfNone, OnErr}
 use Rattle.std.specs.BTreeMap.{insert_entry, is_at}
 use Rattle.std.specs.List.{AllByRecursion}
@@ -30,6 +30,7 @@ use Rattle.fw_model.proofs.CmpLaws.{stamp_total, stamp_cmp-same, stamp_cmp-equal
 use Rattle.fw_model.proofs.FilterLaws.{filter-all, filter-none}
 use Rattle.fw_model.proofs.SortedLaws.{IsAscendingMessages, ascending-sorted_messages, sorted_messages-ascending, sorted_messages-filter, sorted_messages-twice, each-with_message}
 use Rattle.fw_edge.specs.Piles.{piled_messages, IsPile, ArePiles}
+use Rattle.fw_edge.specs.Stamps.{counted_before, counted_stamps}
 use Rattle.fw_edge.proofs.PileLaws.{with_message-some}
 
 -- messages by their stamps
@@ -497,3 +498,36 @@ pile_passes p t v a false h = filter-none (λ m. p m.at) v (each-weaker (λ m. m
 pub with_messages-last : (ms : List Message) (m : Message) (xs : List Message) → with_messages (ms ++ m ∷ []) xs ≡ with_messages ms (with_message m xs)
 with_messages-last [] m xs = refl
 with_messages-last (x ∷ ms) m xs = ap (with_message x) (with_messages-last ms m xs)
+
+-- ---- the stamps
+
+counted_apart : (t : Stamp) (cs : List (Stamp × ℕ)) → AllByRecursion (λ (e : Stamp × ℕ). same t e.0 ≡ false) cs → counted_before t cs ≡ (t, 1) ∷ cs
+counted_apart t [] a = refl
+counted_apart t (e ∷ cs) a = cond-false (same t e.0) ((e.0, e.1 + 1) ∷ cs) ((t, 1) ∷ e ∷ cs) a.0
+
+counted_pile : (t : Stamp) (x : Message) (xs ys : List Message) → AllByRecursion (λ m. m.at ≡ t) (x ∷ xs) → AllByRecursion (λ (e : Stamp × ℕ). same t e.0 ≡ false) (counted_stamps ys)
+    → counted_stamps (x ∷ xs ++ ys) ≡ (t, length (x ∷ xs)) ∷ counted_stamps ys
+counted_pile t x [] ys h a = ap (λ s. counted_before s (counted_stamps ys)) h.0 ∙ counted_apart t (counted_stamps ys) a
+counted_pile t x (y ∷ xs) ys h a =
+    let n = length (y ∷ xs) in
+    ap (λ s. counted_before s (counted_stamps (y ∷ xs ++ ys))) h.0
+    ∙ ap (counted_before t) (counted_pile t y xs ys h.1 a)
+    ∙ cond-true (same t t) ((t, n + 1) ∷ counted_stamps ys) ((t, 1) ∷ (t, n) ∷ counted_stamps ys) (same-refl t)
+    ∙ ap (λ k. (t, k) ∷ counted_stamps ys) (omega arith)
+
+lengths_apart : (t : Stamp) (es : Piles) → AllByRecursion (λ s. stamp_cmp t s ≡ Less) (keys_of es) → AllByRecursion (λ (e : Stamp × ℕ). same t e.0 ≡ false) (map (λ (pile : Stamp × List Message). (pile.0, length pile.1)) es)
+lengths_apart t [] a = tt
+lengths_apart t (e ∷ es) a = (sym (stamp_test t e.0) ∙ ap is_eq a.0, lengths_apart t es a.1)
+
+-- the stamps of the messages are those of the piles, with their lengths
+pub counted-piled : (es : Piles) → ArePiles es → map (λ (pile : Stamp × List Message). (pile.0, length pile.1)) es ≡ counted_stamps (piled_messages es)
+counted-piled [] a = refl
+counted-piled (e ∷ es) a =
+    let rest = counted-piled es (rest_piles e es a) in
+    let apart = subst (AllByRecursion (λ (c : Stamp × ℕ). same e.0 c.0 ≡ false)) rest (lengths_apart e.0 es (sorted_head stamp_cmp e.0 (keys_of es) a.ordered)) in
+    ap (λ cs. (e.0, length e.1) ∷ cs) rest ∙ by e.1 a.each.0.some a.each.0.there apart
+  where
+    by : (v : List Message) → v ≢ [] → AllByRecursion (λ m. m.at ≡ e.0) v → AllByRecursion (λ (c : Stamp × ℕ). same e.0 c.0 ≡ false) (counted_stamps (piled_messages es))
+        → (e.0, length v) ∷ counted_stamps (piled_messages es) ≡ counted_stamps (v ++ piled_messages es)
+    by [] n h q = absurd (n refl)
+    by (x ∷ xs) n h q = sym (counted_pile e.0 x xs (piled_messages es) h q)

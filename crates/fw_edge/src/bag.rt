@@ -8,9 +8,11 @@ ghost use Rattle.fw_flow.specs.Message.{messages_without};
 ghost use Rattle.fw_model.specs.Filtering.{messages_from, messages_outside};
 ghost use Rattle.fw_model.specs.SortedMessages.{with_message, sorted_messages};
 ghost use Rattle.fw_model.specs.Steps.{is_asked};
+ghost use Rattle.fw_edge.specs.Stamps.{counted_stamps};
 
 use crate::pile::Pile;
 use crate::piles;
+use crate::stamps::PendingStamps;
 use fw_flow::Message;
 use fw_frontier::Front;
 use fw_time::Stamp;
@@ -77,6 +79,13 @@ impl MessageBag {
         ensures { result ≡ how_many (λ m. same at.now m.at) self.now }
     {
         piles::count_at(&self.piles, at)
+    }
+
+    /// The stamps of its messages, in order, with how many are at each.
+    pub fn stamps(&self) -> PendingStamps<'_>
+        ensures { result ≡ counted_stamps self.now }
+    {
+        PendingStamps::over(&self.piles)
     }
 
     /// Whether there is no message.

@@ -11,6 +11,8 @@ mod message;
 mod pile;
 mod piles;
 mod queue;
+mod stamps;
 
 pub use log::MsgLog;
 pub use queue::Queue;
+pub use stamps::PendingStamps;

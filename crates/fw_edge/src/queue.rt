@@ -8,8 +8,10 @@ ghost use Rattle.fw_flow.specs.Message.{messages_without};
 ghost use Rattle.fw_model.specs.Filtering.{messages_from};
 ghost use Rattle.fw_model.specs.SortedMessages.{with_message, with_messages, sorted_messages};
 ghost use Rattle.fw_model.specs.Steps.{is_asked};
+ghost use Rattle.fw_edge.specs.Stamps.{counted_stamps};
 
 use crate::bag::MessageBag;
+use crate::stamps::PendingStamps;
 use fw_flow::Message;
 use fw_frontier::Front;
 use fw_time::Stamp;
@@ -102,6 +104,13 @@ impl Queue {
         ensures { result ≡ how_many (λ m. same at.now m.at) self.now.messages }
     {
         self.messages.count_at(at)
+    }
+
+    /// The stamps at which messages are pending, in order, with how many are at each. It takes no memory.
+    pub fn stamps(&self) -> PendingStamps<'_>
+        ensures { result ≡ counted_stamps self.now.messages }
+    {
+        self.messages.stamps()
     }
 
     /// Whether nothing is pending.

@@ -17,6 +17,7 @@ use Rattle.std.proofs.lemmas.Map.{lookup-none}
 use Rattle.std.proofs.lemmas.Option.{slice_get_past, slice_get-get_or}
 use Rattle.std.proofs.lemmas.Map.Entries.{none_below_head}
 use Rattle.std.proofs.lemmas.Map.Keys.{sorted_tail}
+use Rattle.std.proofs.lemmas.Map.Steps.{set_value_same}
 use Rattle.std.proofs.lemmas.Map.Made.{keys_of-map_values, lookup-map_values}
 use Rattle.fw_time.proofs.EachLaws.{each-kept}
 use Rattle.fw_bag.specs.Bag.{BagState, bag_sum}
@@ -114,6 +115,26 @@ pub inserted_there : (x : ℕ) (v w : List Rec) (es : List (ℕ × List Rec)) �
     → insert_entry nat_cmp es x w ≡ set_value (is_at (nat_cmp x)) es w
 inserted_there x v w [] s h = absurd (cc)
 inserted_there x v w (e ∷ es) s h = set_cases x v w e es s (inserted_there x v w es (sorted_tail nat_cmp e.0 (keys_of es) s)) (nat_cmp x e.0) refl h
+
+-- ---- a bag that is written
+
+-- the recs of a number that has a bag
+pub recs_there : (x : ℕ) (b : BagState) (es : Bags) → Some b ≡ lookup (is_at (nat_cmp x)) es → lookup (is_at (nat_cmp x)) (numbered_recs es) ≡ Some b.recs
+recs_there x b es e = numbered-lookup x es ∙ ap (option_map (λ (b : BagState). b.recs)) (sym e)
+
+-- a bag of the same recs changes nothing
+pub written_same : (x : ℕ) (b new : BagState) (es : Bags) → Some b ≡ lookup (is_at (nat_cmp x)) es → new.recs ≡ b.recs
+    → numbered_recs (set_value (is_at (nat_cmp x)) es new) ≡ numbered_recs es
+written_same x b new es e same =
+    numbered-set_value (is_at (nat_cmp x)) new es ∙ ap (set_value (is_at (nat_cmp x)) (numbered_recs es)) same
+    ∙ set_value_same (is_at (nat_cmp x)) (numbered_recs es) b.recs (recs_there x b es e)
+
+-- a bag of other recs is put in
+pub written_other : (x : ℕ) (b new : BagState) (es : Bags) (rs : List Rec) → IsStrictlySortedBy nat_cmp (keys_of (numbered_recs es)) → Some b ≡ lookup (is_at (nat_cmp x)) es → new.recs ≡ rs
+    → numbered_recs (set_value (is_at (nat_cmp x)) es new) ≡ insert_entry nat_cmp (numbered_recs es) x rs
+written_other x b new es rs s e other =
+    numbered-set_value (is_at (nat_cmp x)) new es ∙ ap (set_value (is_at (nat_cmp x)) (numbered_recs es)) other
+    ∙ sym (inserted_there x b.recs rs (numbered_recs es) s (recs_there x b es e))
 
 -- ---- at each number there is a rec
 

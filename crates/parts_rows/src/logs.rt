@@ -1,0 +1,31 @@
+//! Logs.
+use crate::line::{NoAnswer, part, says_something, shown, tell_answer};
+use crate::spell::{front_of, message_of, write_messages};
+use fw_edge::MsgLog;
+use std::alloc::{AllocError, Global};
+
+/// Tells the answer to each call of a log, which is empty at first.
+pub fn tell(alloc: Global, lines: &str, told: &mut String) -> Result<(), AllocError> {
+    let mut log = MsgLog::new(alloc);
+    for line in lines.lines().filter(|line| says_something(line)) {
+        let answer = answer(alloc, &mut log, line);
+        tell_answer(line, answer, told)?;
+    }
+    Ok(())
+}
+
+/// The answer to a call: to one that changes the log, whether it is empty then.
+fn answer(alloc: Global, log: &mut MsgLog, line: &str) -> Result<String, NoAnswer> {
+    let (word, rest) = part(line);
+    match word {
+        "append" => log.append(message_of(alloc, rest)?)?,
+        "outside" => return write_messages(alloc, &log.outside(&front_of(alloc, rest)?)?),
+        "caused" => return write_messages(alloc, &log.caused_in(&front_of(alloc, rest)?)?),
+        "keep" => log.keep_causes(&front_of(alloc, rest)?),
+        "drop" => log.drop_inside(&front_of(alloc, rest)?),
+        "clear" => log.clear(),
+        "empty" => {}
+        _ => return Err(NoAnswer::NotSpelled),
+    }
+    shown(alloc, log.is_empty())
+}

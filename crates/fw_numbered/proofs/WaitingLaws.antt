@@ -1,8 +1,7 @@
 -- What waits, after an epoch is gone.
-use Rattle.std.proofs.Common.{◌≡◌, ℕ, Bool, true, false, cond, not, List, [], ◌∷◌, Option, Some, None, refl, sym, ap, ◌∙◌, subst}
+use Rattle.std.proofs.Common.{◌≡◌, ℕ, Bool, true, false, cond, not, List, [], ◌∷◌, Option, None, refl, sym, ap, ◌∙◌, subst}
 use Rattle.std.specs.Prelude.{◌&&◌, ◌||◌}
-use Rattle.std.specs.List.{filter}
-use Rattle.std.specs.Ordering.{is_eq, nat_cmp}
+use Rattle.std.specs.Ordering.{nat_cmp}
 use Rattle.std.specs.Map.{lookup}
 use Rattle.std.specs.BTreeMap.{BTreeMap, get, is_at}
 use Rattle.fw_time.specs.Stamp.{Stamp, leq, same}
@@ -29,7 +28,6 @@ first [] = 0
 first (x ∷ s) = x
 
 module _ (gone : Stamp → Bool) (came : List Arrival) (t : Epoch) where
-
   abbrev at_t : Stamp
   at_t = t.0 ∷ []
 

@@ -1,11 +1,11 @@
 -- The totals of what is settled, when more is settled.
-use Rattle.std.proofs.Common.{◌≡◌, ◌⊎◌, ℕ, ◌==◌, Bool, true, false, cond, not, List, [], ◌∷◌, Option, Some, None, refl, sym, ap, ◌∙◌, subst, inl, inr}
+use Rattle.std.proofs.Common.{◌≡◌, ◌⊎◌, ℕ, Bool, true, false, cond, not, List, [], ◌∷◌, Option, Some, None, refl, sym, ap, ◌∙◌, subst, inl, inr}
 use Rattle.std.specs.Prelude.{◌&&◌, ◌||◌}
-use Rattle.std.specs.List.{AllByRecursion, list_any, filter}
+use Rattle.std.specs.List.{AllByRecursion, list_any}
 use Rattle.std.specs.List.Sorted.{IsStrictlySortedBy}
 use Rattle.std.specs.Map.{lookup, keys_of}
 use Rattle.std.specs.declared.cmp.Ordering.{Ordering}
-use Rattle.std.specs.declared.cmp.Ordering.TheVariants.{Less, Equal, Greater}
+use Rattle.std.specs.declared.cmp.Ordering.TheVariants.{Less}
 use Rattle.std.specs.Ordering.{is_eq, nat_cmp}
 use Rattle.std.specs.Option.{is_some}
 use Rattle.std.specs.BTreeMap.{BTreeMap, get, is_at}
@@ -13,7 +13,6 @@ use Rattle.std.proofs.lemmas.Bool.{cases_Bool, or_left, or_right}
 use Rattle.std.proofs.lemmas.Map.Keys.{sorted_head, sorted_tail}
 use Rattle.fw_time.specs.Stamp.{Stamp, leq, same}
 use Rattle.fw_time.proofs.EachLaws.{each-weaker, each-both}
-use Rattle.fw_bag.specs.declared.rec.Rec.{Rec}
 use Rattle.fw_bag.specs.Arrivals.{Arrival, recs_where, arrivals_at, arrivals_inside, recs_of}
 use Rattle.fw_table.specs.Content.{IsContentOf, IsTable}
 use Rattle.fw_time.proofs.StampLaws.{same-is, same-refl}
@@ -48,9 +47,10 @@ where_alike test other (a ∷ came) h =
 among_all : (all came : List Arrival) → ((s : Stamp) → list_any (λ (b : Arrival). same b.at s) came ≡ true → list_any (λ (b : Arrival). same b.at s) all ≡ true)
     → AllByRecursion (λ (a : Arrival). list_any (λ (b : Arrival). same b.at a.at) all ≡ true) came
 among_all all [] h = tt
-among_all all (a ∷ came) h =
-    (h a.at (or_left (same a.at a.at) (list_any (λ (b : Arrival). same b.at a.at) came) (same-refl a.at)),
-     among_all all came (λ s k. h s (or_right (same a.at s) (list_any (λ (b : Arrival). same b.at s) came) k)))
+among_all all (a ∷ came) h = (
+  h a.at (or_left (same a.at a.at) (list_any (λ (b : Arrival). same b.at a.at) came) (same-refl a.at)),
+  among_all all came (λ s k. h s (or_right (same a.at s) (list_any (λ (b : Arrival). same b.at s) came) k)),
+)
 
 some_there : (s : Stamp) (came : List Arrival) → list_any (λ (b : Arrival). same b.at s) came ≡ true → arrivals_at s came ≡ [] → ⊥
 some_there s [] h e = cc
@@ -70,7 +70,6 @@ same_swap s t = cases (leq s t) (leq t s)
     cases false false = refl
 
 module _ {T : Type 0} (cmp : T → T → Ordering) (coords : T → Stamp) (apart : (x y : T) → is_eq (cmp x y) ≡ same (coords x) (coords y)) where
-
   -- ---- entries at different times
 
   -- no entry is at the stamp
@@ -105,9 +104,10 @@ module _ {T : Type 0} (cmp : T → T → Ordering) (coords : T → Stamp) (apart
       → ((t : T) (c : Sums) → lookup (is_at (cmp t)) es ≡ Some c → find t ≡ Some c) → AreFound find es
   unfolding AreApart AreFound
   found_entries find [] d h = tt
-  found_entries find (e ∷ es) d h =
-      (h e.0 e.1 (ap (λ b. cond b (Some e.1) (lookup (is_at (cmp e.0)) es)) (apart e.0 e.0 ∙ same-refl (coords e.0))),
-       found_entries find es d.1 (λ t c k. h t c (later t c k (same (coords t) (coords e.0)) refl)))
+  found_entries find (e ∷ es) d h = (
+    h e.0 e.1 (ap (λ b. cond b (Some e.1) (lookup (is_at (cmp e.0)) es)) (apart e.0 e.0 ∙ same-refl (coords e.0))),
+    found_entries find es d.1 (λ t c k. h t c (later t c k (same (coords t) (coords e.0)) refl)),
+  )
     where
       later : (t : T) (c : Sums) → lookup (is_at (cmp t)) es ≡ Some c → (b : Bool) → same (coords t) (coords e.0) ≡ b → lookup (is_at (cmp t)) (e ∷ es) ≡ Some c
       later t c k true i =
@@ -124,7 +124,6 @@ module _ {T : Type 0} (cmp : T → T → Ordering) (coords : T → Stamp) (apart
       cases false k i h = or_right (same (coords t) (coords e.0)) _ (k h)
 
   module _ (into : T → Bool) (q : ℕ) (came : List Arrival) where
-
     -- the stamp is that of an entry inside
     among : List (T × Sums) → Stamp → Bool
     among es s = list_any (λ (e : T × Sums). into e.0 && same s (coords e.0)) es
@@ -139,10 +138,13 @@ module _ {T : Type 0} (cmp : T → T → Ordering) (coords : T → Stamp) (apart
         → AllByRecursion (IsNew (λ s. same s t || P s)) es
     unfolding IsNew IsNowhere
     new_later P t [] d h = tt
-    new_later P t (e ∷ es) d h = ((λ i. elim (h.0 i) [
+    new_later P t (e ∷ es) d h = (
+      (λ i. elim (h.0 i) [
         | inl x ↦ inl (x.0, ap (λ b. b || P (coords e.0)) (same_swap (coords e.0) t ∙ d.0) ∙ x.1)
         | inr x ↦ inr (x.0, or_right (same (coords e.0) t) (P (coords e.0)) x.1)
-      ]), new_later P t es d.1 h.1)
+      ]),
+      new_later P t es d.1 h.1,
+    )
 
     around : (x p r : Bool) → ((x || p) || r) ≡ (p || (x || r))
     around true true r = refl
@@ -187,7 +189,6 @@ module _ {T : Type 0} (cmp : T → T → Ordering) (coords : T → Stamp) (apart
   module _ (into : T → Bool) (inside after : Stamp → Bool) (agree : (t : T) → after (coords t) ≡ into t) (sub : (s : Stamp) → inside s ≡ true → after s ≡ true)
       (table : BTreeMap T Sums) (came : List Arrival) (sorted : IsStrictlySortedBy cmp (keys_of table.entries))
       (held : IsTable cmp coords holds_sums table (arrivals_inside (λ s. not (inside s)) came)) where
-
     both_true : (x r : Bool) → ((x && true) || (x && r)) ≡ (x && true)
     both_true true r = refl
     both_true false r = refl
@@ -226,8 +227,8 @@ module _ {T : Type 0} (cmp : T → T → Ordering) (coords : T → Stamp) (apart
         → list_any (λ (e : T × Sums). same (coords t) (coords e.0)) table.entries ≡ true
     entry_there t i m =
         found_any t table.entries (there_cases (get cmp table t) (arrivals_at (coords t) (arrivals_inside (λ s. not (inside s)) came)) (held t)
-          (λ e. some_there (coords t) came m
-            (sym (at-inside (coords t) (λ s. not (inside s)) came ∙ ap (λ b. cond (not b) (arrivals_at (coords t) came) []) i) ∙ e)))
+        (λ e. some_there (coords t) came m
+        (sym (at-inside (coords t) (λ s. not (inside s)) came ∙ ap (λ b. cond (not b) (arrivals_at (coords t) came) []) i) ∙ e)))
 
     true_right : (b : Bool) → (b && true) ≡ b
     true_right true = refl
@@ -242,7 +243,7 @@ module _ {T : Type 0} (cmp : T → T → Ordering) (coords : T → Stamp) (apart
         cases false i =
             ap (λ b. b || among into q came table.entries a.at) i ∙ among_is q a.at table.entries
             ∙ ap (λ b. after a.at && b) (subst (λ s. list_any (λ (e : T × Sums). same s (coords e.0)) table.entries ≡ true) t.1
-                (entry_there t.0 (ap inside t.1 ∙ i) (ap (λ s. list_any (λ (b : Arrival). same b.at s) came) t.1 ∙ m)))
+            (entry_there t.0 (ap inside t.1 ∙ i) (ap (λ s. list_any (λ (b : Arrival). same b.at s) came) t.1 ∙ m)))
             ∙ true_right (after a.at)
 
     new_entry : (q : ℕ) (e : T × Sums) → get cmp table e.0 ≡ Some e.1 → IsNew into q came inside e
@@ -251,8 +252,10 @@ module _ {T : Type 0} (cmp : T → T → Ordering) (coords : T → Stamp) (apart
       where
         here : IsContentOf holds_sums (Some e.1) (arrivals_at (coords e.0) (arrivals_inside (λ s. not (inside s)) came))
         here = subst (λ o. IsContentOf holds_sums o (arrivals_at (coords e.0) (arrivals_inside (λ s. not (inside s)) came))) f (held e.0)
+
         at : (b : Bool) → inside (coords e.0) ≡ b → arrivals_at (coords e.0) (arrivals_inside (λ s. not (inside s)) came) ≡ cond (not b) (arrivals_at (coords e.0) came) []
         at b i = at-inside (coords e.0) (λ s. not (inside s)) came ∙ ap (λ b. cond (not b) (arrivals_at (coords e.0) came) []) i
+
         cases : (b : Bool) → inside (coords e.0) ≡ b
             → ((get nat_cmp e.1.by_key q ≡ sum_at q (recs_of (arrivals_at (coords e.0) came))) × (inside (coords e.0) ≡ false))
             ⊎ ((get nat_cmp e.1.by_key q ≡ None) × (inside (coords e.0) ≡ true))
@@ -268,9 +271,9 @@ module _ {T : Type 0} (cmp : T → T → Ordering) (coords : T → Stamp) (apart
         ap (λ o. gathered into q o table.entries) (h q)
         ∙ gather into q came table.entries inside
         (each-weaker (λ (e : T × Sums). get cmp table e.0 ≡ Some e.1) (IsNew into q came inside) table.entries (new_entry q)
-          (found_entries (get cmp table) table.entries d (λ t c k. k))) d
+        (found_entries (get cmp table) table.entries d (λ t c k. k))) d
         ∙ ap (sum_at q) (where_alike _ _ came
-          (each-weaker (λ (a : Arrival). ((t : T) × (coords t ≡ a.at)) × (list_any (λ (b : Arrival). same b.at a.at) came ≡ true))
-            (λ a. (inside a.at || among into q came table.entries a.at) ≡ after a.at) came (λ a x. point q a x.0 x.1)
-            (each-both (λ (a : Arrival). (t : T) × (coords t ≡ a.at)) (λ (a : Arrival). list_any (λ (b : Arrival). same b.at a.at) came ≡ true) came times
-              (among_all came came (λ s k. k)))))
+        (each-weaker (λ (a : Arrival). ((t : T) × (coords t ≡ a.at)) × (list_any (λ (b : Arrival). same b.at a.at) came ≡ true))
+        (λ a. (inside a.at || among into q came table.entries a.at) ≡ after a.at) came (λ a x. point q a x.0 x.1)
+        (each-both (λ (a : Arrival). (t : T) × (coords t ≡ a.at)) (λ (a : Arrival). list_any (λ (b : Arrival). same b.at a.at) came ≡ true) came times
+        (among_all came came (λ s k. k)))))

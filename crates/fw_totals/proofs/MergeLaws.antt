@@ -156,4 +156,3 @@ same_keys f (e ∷ es) = ap (λ ks. e.0 ∷ ks) (same_keys f es)
 pub there_cases : (b : Bool) (s : ℕ) → is_some_ (cond b (Some s) None) ≡ b
 there_cases true s = refl
 there_cases false s = refl
-

@@ -1,19 +1,19 @@
 -- What is sent from running totals, and how they follow.
-use Rattle.std.proofs.Common.{◌≡◌, ℕ, ◌==◌, Bool, true, false, cond, not, List, [], ◌∷◌, Option, Some, None, map, refl, sym, ap, ◌∙◌, subst, arith, inl, inr, Result, Ok, Err, OnErr}
+use Rattle.std.proofs.Common.{◌≡◌, ℕ, ◌==◌, Bool, true, false, cond, not, List, [], ◌∷◌, Option, Some, None, map, refl, sym, ap, ◌∙◌, subst, arith, Result, Ok, Err, OnErr}
 use Rattle.std.specs.Prelude.{◌||◌}
 use Rattle.std.specs.Option.{unwrap_or, is_some}
 use Rattle.std.specs.List.{AllByRecursion}
 use Rattle.std.specs.List.Sorted.{IsStrictlySortedBy}
 use Rattle.std.specs.Map.{lookup, keys_of}
-use Rattle.std.specs.Ordering.{is_eq, nat_cmp}
+use Rattle.std.specs.Ordering.{nat_cmp}
 use Rattle.std.specs.BTreeMap.{BTreeMap, get, is_at}
-use Rattle.std.proofs.lemmas.Bool.{eqb-true, cases_Bool}
+use Rattle.std.proofs.lemmas.Bool.{eqb-true}
 use Rattle.std.proofs.lemmas.Bool.Decides.{nat_tests}
 use Rattle.std.proofs.lemmas.Map.Keys.{sorted_head, sorted_tail}
 use Rattle.fw_time.specs.Stamp.{Stamp}
 use Rattle.fw_bag.specs.declared.rec.Rec.{Rec}
 use Rattle.fw_bag.specs.Keyed.{plus, sorted_recs, value_sum, has_key, distinct_keys, sums_of}
-use Rattle.fw_bag.specs.Arrivals.{Arrival, recs_where, arrivals_at, arrivals_inside, recs_of}
+use Rattle.fw_bag.specs.Arrivals.{Arrival, arrivals_at, arrivals_inside}
 use Rattle.fw_table.specs.Content.{IsContentOf}
 use Rattle.fw_bag.proofs.ArrivalLaws.{at-inside}
 use Rattle.fw_table.specs.declared.sums.Sums.{Sums}
@@ -37,9 +37,10 @@ key_self k = grind (arith, nat_tests)
 pub nat_entries : (find : ℕ → Option ℕ) (es : List (ℕ × ℕ)) → IsStrictlySortedBy nat_cmp (keys_of es)
     → ((q c : ℕ) → lookup (is_at (nat_cmp q)) es ≡ Some c → find q ≡ Some c) → AllByRecursion (λ (e : ℕ × ℕ). find e.0 ≡ Some e.1) es
 nat_entries find [] s h = tt
-nat_entries find (e ∷ es) s h =
-    (h e.0 e.1 (ap (λ b. cond b (Some e.1) (lookup (is_at (nat_cmp e.0)) es)) (key_test e.0 e.0 ∙ key_self e.0)),
-     nat_entries find es (sorted_tail nat_cmp e.0 (keys_of es) s) (λ q c k. h q c (later q c k (q == e.0) refl)))
+nat_entries find (e ∷ es) s h = (
+  h e.0 e.1 (ap (λ b. cond b (Some e.1) (lookup (is_at (nat_cmp e.0)) es)) (key_test e.0 e.0 ∙ key_self e.0)),
+  nat_entries find es (sorted_tail nat_cmp e.0 (keys_of es) s) (λ q c k. h q c (later q c k (q == e.0) refl)),
+)
   where
     later : (q c : ℕ) → lookup (is_at (nat_cmp q)) es ≡ Some c → (b : Bool) → (q == e.0) ≡ b → lookup (is_at (nat_cmp q)) (e ∷ es) ≡ Some c
     later q c k true i =
@@ -48,7 +49,6 @@ nat_entries find (e ∷ es) s h =
 
 module _ (totals : BTreeMap ℕ (Option ℕ)) (sums : BTreeMap ℕ ℕ) (now all : List Rec) (held : HasSums sums now)
     (whole : (q : ℕ) → combined (found totals q) (sum_at q now) ≡ sum_at q all) where
-
   raised_is : (k s : ℕ) → get nat_cmp sums k ≡ Some s → plus s (unwrap_or (found totals k) 0) ≡ value_sum k all
   raised_is k s f =
       let one : Some (plus s (unwrap_or (found totals k) 0)) ≡ sum_at k all = ap (combined (found totals k)) (sym f ∙ held k) ∙ whole k in
@@ -69,7 +69,7 @@ module _ (totals : BTreeMap ℕ (Option ℕ)) (sums : BTreeMap ℕ ℕ) (now all
       ∙ entries_are_sums_of (map (λ (e : ℕ × ℕ). (e.0, value_sum e.0 all)) sums.entries) now all
       (subst P (sym (same_keys (λ i. value_sum i all) sums.entries)) s)
       (λ q. found_by_key (λ i. value_sum i all) q sums.entries
-        ∙ ap (λ b. cond b (Some (value_sum q all)) None) (ap is_some (held q) ∙ there_cases (has_key q now) (value_sum q now)))
+      ∙ ap (λ b. cond b (Some (value_sum q all)) None) (ap is_some (held q) ∙ there_cases (has_key q now) (value_sum q now)))
 
 -- what is kept at a time outside is of all that came then
 pub content_now : (inside : Stamp → Bool) (t : Stamp) (came : List Arrival) → inside t ≡ false → (o : Option Sums)

@@ -62,6 +62,7 @@ key-sums q (r ∷ keys) rs = cases (has_key r.key keys) refl (key-sums q keys rs
     there : (b : Bool) → (r.key == q) ≡ b → has_key r.key keys ≡ true → has_key q keys ≡ (b || has_key q keys)
     there true e h = sym (ap (λ k. has_key k keys) (eqb-true r.key q e)) ∙ h
     there false e h = refl
+
     cases : (b : Bool) → has_key r.key keys ≡ b → has_key q (sums_of (distinct_keys keys) rs) ≡ has_key q keys
         → has_key q (sums_of (cond b (distinct_keys keys) (r.key ∷ distinct_keys keys)) rs) ≡ ((r.key == q) || has_key q keys)
     cases true h ih = ih ∙ there (r.key == q) refl h
@@ -85,6 +86,7 @@ write_step rs r rest later old new e a u q =
     same : (b : Bool) (o : Option ℕ) → cond b o o ≡ o
     same true o = refl
     same false o = refl
+
     cases : (b : Bool) → (r.key == q) ≡ b → r.value ≡ value_sum r.key rs
         → cond (has_key q later) (Some (value_sum q rs)) (cond b (Some r.value) (found old q)) ≡ cond (b || has_key q later) (Some (value_sum q rs)) (found old q)
     cases true i v =

@@ -1,5 +1,5 @@
 -- A ledger's table.
-use Rattle.std.specs.Prelude.{ℕ, ◌∷◌, [], Bool, List}
+use Rattle.std.specs.Prelude.{◌∷◌, [], Bool, List}
 use Rattle.std.specs.Ordering.{nat_cmp}
 use Rattle.fw_time.specs.Stamp.{Stamp}
 use Rattle.fw_time.specs.declared.time.SeqNo.{SeqNo}

@@ -69,9 +69,9 @@ impl Ledger {
             → OnOk result (IsLedger inside self.new (arrival side (t.0 ∷ []) rec ∷ came)) }
         ensures sent { (inside : List ℕ → Bool) (came : List Arrival) → IsLedger inside self.old came
             → IfOk result (λ sent. sent ≡ record {
-                at = t;
-                recs = record { key = rec.key; value = plus rec.value (value_sum rec.key (recs_of came)) } ∷ []
-              }) }
+              at = t;
+              recs = record { key = rec.key; value = plus rec.value (value_sum rec.key (recs_of came)) } ∷ [];
+            }) }
         ensures err { (inside : List ℕ → Bool) (came : List Arrival) → IsLedger inside self.old came
             → OnErr result (IsLedger inside self.new came) }
         ensures refused { OnErr result (self.new.refused ≡ true) }

@@ -122,9 +122,9 @@ impl Total {
         ensures sent { (inside taken : List ℕ → Bool) (came : List Arrival)
             → inside (t.0 ∷ []) ≡ false → taken (t.0 ∷ []) ≡ false → IsTotal inside taken self.old came
             → IfOk result (λ sent. sent ≡ record {
-                at = t;
-                recs = sums_at_keys (recs_at (t.0 ∷ []) came) (recs_inside (λ s. same s (t.0 ∷ []) || taken s) came)
-              }) }
+              at = t;
+              recs = sums_at_keys (recs_at (t.0 ∷ []) came) (recs_inside (λ s. same s (t.0 ∷ []) || taken s) came);
+            }) }
         ensures err { (inside taken : List ℕ → Bool) (came : List Arrival) → IsTotal inside taken self.old came
             → OnErr result (IsTotal inside taken self.new came) }
         ensures refused { OnErr result (self.new.refused ≡ true) }

@@ -15,7 +15,10 @@ use std::alloc::{AllocError, Global};
 use std::collections::BTreeMap;
 
 /// Makes a place for each key of the sums. No total changes, whether memory is refused or not.
-pub(crate) fn make_room(totals: &mut BTreeMap<u64, Option<u64>>, sums: &BTreeMap<u64, u64>) -> Result<(), AllocError>
+pub(crate) fn make_room(
+    totals: &mut BTreeMap<u64, Option<u64>>,
+    sums: &BTreeMap<u64, u64>,
+) -> Result<(), AllocError>
     ensures same { (q : ℕ) → found totals.new q ≡ found totals.old q }
     ensures kept { (q : ℕ) → is_some (get nat_cmp totals.old q) ≡ true → is_some (get nat_cmp totals.new q) ≡ true }
     ensures room { OnOk result
@@ -57,7 +60,10 @@ fn total_at(totals: &BTreeMap<u64, Option<u64>>, key: u64) -> u64
 }
 
 /// Takes the sums of a time into the totals. Where each key has a place it takes no memory.
-pub(crate) fn take_in(totals: &mut BTreeMap<u64, Option<u64>>, sums: &BTreeMap<u64, u64>) -> Result<(), AllocError>
+pub(crate) fn take_in(
+    totals: &mut BTreeMap<u64, Option<u64>>,
+    sums: &BTreeMap<u64, u64>,
+) -> Result<(), AllocError>
     ensures ok { ((q : ℕ) → is_some (get nat_cmp sums.now q) ≡ true → is_some (get nat_cmp totals.old q) ≡ true)
         → IsOk result }
     ensures kept { (q : ℕ) → is_some (get nat_cmp totals.old q) ≡ true → is_some (get nat_cmp totals.new q) ≡ true }
@@ -89,7 +95,10 @@ fn shown_recs(alloc: Global, totals: &BTreeMap<u64, Option<u64>>) -> Result<Vec<
 }
 
 /// The totals, in ascending order of the keys.
-pub(crate) fn shown(alloc: Global, totals: &BTreeMap<u64, Option<u64>>) -> Result<Vec<Rec>, AllocError>
+pub(crate) fn shown(
+    alloc: Global,
+    totals: &BTreeMap<u64, Option<u64>>,
+) -> Result<Vec<Rec>, AllocError>
     ensures { (rs : List Rec) → HasTotals totals.now rs → IfOk result (λ recs. recs.items ≡ sums_by_key rs) }
 {
     shown_recs(alloc, totals)
@@ -110,7 +119,10 @@ pub(crate) fn write(totals: &mut BTreeMap<u64, Option<u64>>, recs: &[Rec]) -> Re
 }
 
 /// The map that has these totals.
-pub(crate) fn restored(alloc: Global, recs: &[Rec]) -> Result<BTreeMap<u64, Option<u64>>, AllocError>
+pub(crate) fn restored(
+    alloc: Global,
+    recs: &[Rec],
+) -> Result<BTreeMap<u64, Option<u64>>, AllocError>
     ensures { (rs : List Rec) → recs.now ≡ sums_by_key rs → IfOk result (λ totals. HasTotals totals rs) }
 {
     let mut totals = BTreeMap::new(alloc);

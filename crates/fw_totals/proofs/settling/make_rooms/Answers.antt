@@ -1,8 +1,8 @@
-use Rattle.std.proofs.Common.{◌≡◌, ◌∷◌, [], ℕ, Bool, true, false, List, sym, ap, ◌∙◌, subst, BTreeMap, Option, rules}
+use Rattle.std.proofs.Common.{◌≡◌, [], true, false, List, sym, ◌∙◌, subst, rules}
 use Rattle.std.proofs.lemmas.Map.Iter.{rest_more}
 use Rattle.std.specs.Map.Iter.{deref_pair}
 use Rattle.fw_table.specs.declared.sums.Sums.{Sums}
-use Rattle.fw_totals.specs.Gathered.{HasRoom, HasRooms}
+use Rattle.fw_totals.specs.Gathered.{HasRooms}
 use Rattle.fw_totals.proofs.settling.make_rooms.Goals as goal
 
 pub loop-t-preserved-in-Continue-1 : goal.loop-t-preserved-in-Continue-1

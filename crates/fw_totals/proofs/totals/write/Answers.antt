@@ -13,8 +13,8 @@ loop-first-preserved c =
       among = λ q h. i.among q (rest_key c.in-Some.first.now c.loop-first.rest.now c.in-Some.later.now q more h);
       sums = λ rs a. rest_sums rs c.in-Some.first.now c.loop-first.rest.now c.in-Some.later.now more (i.sums rs a);
       to_come = λ rs a q.
-        write_step rs c.in-Some.first.now c.loop-first.rest.now c.in-Some.later.now c.loop-first.totals c.insert.new.self more (i.sums rs a) u q
-        ∙ i.to_come rs a q;
+          write_step rs c.in-Some.first.now c.loop-first.rest.now c.in-Some.later.now c.loop-first.totals c.insert.new.self more (i.sums rs a) u q
+          ∙ i.to_come rs a q;
     }
 
 pub returns-in_err-insert-clause-ok : goal.returns-in_err-insert-clause-ok
@@ -23,4 +23,4 @@ returns-in_err-insert-clause-ok c = λ room.
     let more : c.loop-first.rest.now ≡ c.in-Some.first.now ∷ c.in-Some.later.now = search rules in
     let key = c.in-Some.first.now.key in
     absurd (not_absent _ (i.kept key (room key (i.among key (first_key c.in-Some.first.now c.loop-first.rest.now c.in-Some.later.now more))))
-      c.in_err-insert.ensures.absent)
+    c.in_err-insert.ensures.absent)

@@ -1,9 +1,9 @@
-use Rattle.std.proofs.Common.{◌≡◌, ℕ, ◌+◌, List, [], ◌∷◌, length, Option, Some, None, sym, ap, ◌∙◌, subst, rules, arith}
+use Rattle.std.proofs.Common.{◌≡◌, [], ◌∷◌, length, Option, Some, None, sym, ap, ◌∙◌, subst, rules, arith}
 use Rattle.std.specs.Ordering.{nat_cmp}
 use Rattle.std.specs.BTreeMap.{get}
 use Rattle.fw_time.specs.Stamp.{Stamp}
 use Rattle.fw_time.specs.declared.time.Epoch.{Epoch}
-use Rattle.fw_bag.specs.Arrivals.{Arrival, arrivals_at, recs_of}
+use Rattle.fw_bag.specs.Arrivals.{arrivals_at, recs_of}
 use Rattle.fw_bag.specs.Keyed.{sorted_recs}
 use Rattle.fw_table.specs.Content.{IsContentOf}
 use Rattle.fw_numbered.specs.declared.sequence.Held.{Held}

@@ -1,4 +1,4 @@
-use Rattle.std.proofs.Common.{Bool, not, List, ◌∷◌, [], ap, subst}
+use Rattle.std.proofs.Common.{not, List, ◌∷◌, [], ap, subst}
 use Rattle.std.specs.Ordering.{nat_cmp}
 use Rattle.fw_time.specs.declared.time.Epoch.{Epoch}
 use Rattle.fw_bag.specs.Arrivals.{Arrival, arrivals_inside}

@@ -1,8 +1,6 @@
-use Rattle.std.proofs.Common.{true, ◌≡◌, ℕ, List, [], ◌∷◌, ap, ◌∙◌, rules, unwrap_or}
-use Rattle.fw_bag.specs.Keyed.{plus, value_sum}
-use Rattle.fw_time.specs.Stamp.{Stamp}
+use Rattle.std.proofs.Common.{true, ℕ, [], ◌∷◌, ap, ◌∙◌, unwrap_or}
+use Rattle.fw_bag.specs.Keyed.{plus}
 use Rattle.fw_time.specs.declared.time.SeqNo.{SeqNo}
-use Rattle.fw_bag.specs.declared.rec.Rec.{Rec}
 use Rattle.fw_bag.specs.Arrivals.{recs_of}
 use Rattle.fw_table.specs.declared.sent.Sent.{Sent}
 use Rattle.fw_table.proofs.SumLaws.{sum_or_zero}

@@ -1,6 +1,5 @@
-use Rattle.std.proofs.Common.{◌≡◌, Bool, cond, not, List, ◌∷◌, refl, sym, ap, ◌∙◌, subst}
+use Rattle.std.proofs.Common.{cond, not, List, ◌∷◌, refl, sym, ap, subst}
 use Rattle.std.proofs.lemmas.Result.{on_ok_weaker, on_err_weaker}
-use Rattle.std.specs.BTreeMap.{BTreeMap}
 use Rattle.fw_bag.specs.declared.rec.Rec.{Rec}
 use Rattle.fw_bag.specs.Arrivals.{Arrival, recs_where, arrivals_inside}
 use Rattle.fw_table.specs.Content.{IsTable}

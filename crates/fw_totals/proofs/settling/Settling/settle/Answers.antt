@@ -1,4 +1,4 @@
-use Rattle.std.proofs.Common.{◌≡◌, ℕ, Bool, not, List, refl, sym, ap, ◌∙◌, subst}
+use Rattle.std.proofs.Common.{Bool, not, List, ap, ◌∙◌, subst}
 use Rattle.fw_bag.specs.Arrivals.{Arrival, arrivals_inside}
 use Rattle.fw_table.specs.Content.{IsTable}
 use Rattle.fw_totals.specs.Gathered.{gathered}

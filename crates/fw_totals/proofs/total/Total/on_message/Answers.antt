@@ -1,4 +1,4 @@
-use Rattle.std.proofs.Common.{true, ◌≡◌, Bool, cond, List, ◌∷◌, sym, ap, subst}
+use Rattle.std.proofs.Common.{true, cond, List, ◌∷◌, sym, ap, subst}
 use Rattle.fw_bag.specs.declared.rec.Rec.{Rec}
 use Rattle.fw_bag.specs.Arrivals.{recs_where}
 use Rattle.fw_totals.specs.Totals.{HasTotals}

@@ -11,17 +11,9 @@ use Rattle.fw_table.specs.Content.{IsContentOf, IsTable}
 use Rattle.fw_time.specs.NestLaws.{single-apart}
 use Rattle.fw_time.proofs.StampLaws.{same-is}
 use Rattle.fw_bag.proofs.ArrivalLaws.{at-inside}
+use Rattle.fw_totals.proofs.GatherLaws.{same_swap}
 use Rattle.fw_numbered.specs.declared.sequence.Held.{Held}
 use Rattle.fw_numbered.specs.Sequence.{holds_bag}
-
-same_swap : (s t : Stamp) → same s t ≡ same t s
-same_swap s t = cases (leq s t) (leq t s)
-  where
-    cases : (a b : Bool) → (a && b) ≡ (b && a)
-    cases true true = refl
-    cases true false = refl
-    cases false true = refl
-    cases false false = refl
 
 abbrev first : Stamp → ℕ
 first [] = 0

@@ -1,0 +1,197 @@
+//! Totals of keys, for which all memory can be taken before any of them changes: a key may have a place without a total.
+ghost use Rattle.std.specs.Prelude.{◌≡◌, ◌&&◌, ◌||◌, nat_le, filter, ℕ, List, true, IfOk, OnOk, IsOk};
+ghost use Rattle.std.specs.Option.{is_some, unwrap_or};
+ghost use Rattle.std.specs.Ordering.{nat_cmp};
+ghost use Rattle.std.specs.List.Sorted.{IsStrictlySortedBy};
+ghost use Rattle.std.specs.Map.{keys_of};
+ghost use Rattle.std.specs.BTreeMap.{get};
+ghost use Rattle.fw_bag.specs.declared.rec.Rec.{Rec};
+ghost use Rattle.fw_bag.specs.Keyed.{has_key};
+ghost use Rattle.fw_table.specs.Sums.{entry_recs, sums_by_key};
+ghost use Rattle.fw_totals.specs.Gathered.{HasRoom};
+ghost use Rattle.fw_totals.specs.Latest.{is_from};
+ghost use Rattle.fw_totals.specs.Totals.{combined, found, shown_entries, written, AreSumsIn, HasTotals};
+
+use fw_bag::Rec;
+use std::alloc::{AllocError, Global};
+use std::collections::BTreeMap;
+
+/// Makes a place for each key of the sums. No total changes, whether memory is refused or not.
+pub(crate) fn make_room(
+    totals: &mut BTreeMap<u64, Option<u64>>,
+    sums: &BTreeMap<u64, u64>,
+) -> Result<(), AllocError>
+    ensures same { (q : ℕ) → found totals.new q ≡ found totals.old q }
+    ensures kept { HasRoom totals.old totals.new }
+    ensures room { OnOk result (HasRoom sums.now totals.new) }
+{
+    for (key, _) in sums {
+        if !totals.contains_key(key) {
+            totals.insert(*key, None)?;
+        }
+    }
+    Ok(())
+}
+
+/// The total of a key, or 0, after a place was made for it. No total changes, whether memory is refused or not.
+pub(crate) fn place_at(totals: &mut BTreeMap<u64, Option<u64>>, key: u64) -> Result<u64, AllocError>
+    ensures total { IfOk result (λ total. total ≡ unwrap_or (found totals.old key) 0) }
+    ensures same { (q : ℕ) → found totals.new q ≡ found totals.old q }
+    ensures kept { HasRoom totals.old totals.new }
+    ensures room { OnOk result (is_some (get nat_cmp totals.new key) ≡ true) }
+{
+    match totals.get(&key) {
+        Some(Some(total)) => Ok(*total),
+        Some(None) => Ok(0),
+        None => {
+            totals.insert(key, None)?;
+            Ok(0)
+        }
+    }
+}
+
+// The total of a key, or 0.
+fn total_at(totals: &BTreeMap<u64, Option<u64>>, key: u64) -> u64
+    ensures { result ≡ unwrap_or (found totals.now key) 0 }
+{
+    match totals.get(&key) {
+        Some(Some(total)) => *total,
+        Some(None) | None => 0,
+    }
+}
+
+/// Takes the sums of a time into the totals. Where each key has a place it takes no memory.
+pub(crate) fn take_in(
+    totals: &mut BTreeMap<u64, Option<u64>>,
+    sums: &BTreeMap<u64, u64>,
+) -> Result<(), AllocError>
+    ensures ok { HasRoom sums.now totals.old → IsOk result }
+    ensures kept { HasRoom totals.old totals.new }
+    ensures totals { OnOk result
+        ((q : ℕ) → found totals.new q ≡ combined (found totals.old q) (get nat_cmp sums.now q)) }
+{
+    for (key, sum) in sums {
+        let total = total_at(totals, *key);
+        totals.insert(*key, Some(sum.wrapping_add(total)))?;
+    }
+    Ok(())
+}
+
+/// The number of a key, if it has one.
+pub(crate) fn latest_at(latest: &BTreeMap<u64, Option<u64>>, key: u64) -> Option<u64>
+    ensures { result ≡ found latest.now key }
+{
+    match latest.get(&key) {
+        Some(number) => *number,
+        None => None,
+    }
+}
+
+/// Notes that the keys of the sums came at a number: each has the greater of it and the number before for its total. Where
+/// each key has a place it takes no memory.
+pub(crate) fn note(
+    latest: &mut BTreeMap<u64, Option<u64>>,
+    sums: &BTreeMap<u64, u64>,
+    number: u64,
+) -> Result<(), AllocError>
+    ensures ok { HasRoom sums.now latest.old → IsOk result }
+    ensures kept { HasRoom latest.old latest.new }
+    ensures noted { OnOk result ((q n : ℕ) → is_from n (found latest.new q)
+        ≡ (is_from n (found latest.old q) || (is_some (get nat_cmp sums.now q) && nat_le n number))) }
+{
+    for (key, _sum) in sums {
+        let before = total_at(latest, *key);
+        latest.insert(*key, Some(before.max(number)))?;
+    }
+    Ok(())
+}
+
+// The keys that have a total, with it, in ascending order.
+fn shown_recs(alloc: Global, totals: &BTreeMap<u64, Option<u64>>) -> Result<Vec<Rec>, AllocError>
+    ensures recs { IfOk result (λ recs. recs.items ≡ entry_recs (shown_entries totals.now.entries)) }
+    ensures ordered { IsStrictlySortedBy nat_cmp (keys_of totals.now.entries) }
+{
+    let mut recs = Vec::new(alloc);
+    for (key, total) in totals {
+        if let Some(total) = total {
+            recs.push(Rec {
+                key: *key,
+                value: *total,
+            })?;
+        }
+    }
+    Ok(recs)
+}
+
+/// The totals, in ascending order of the keys.
+pub(crate) fn shown(
+    alloc: Global,
+    totals: &BTreeMap<u64, Option<u64>>,
+) -> Result<Vec<Rec>, AllocError>
+    ensures { (rs : List Rec) → HasTotals totals.now rs → IfOk result (λ recs. recs.items ≡ sums_by_key rs) }
+{
+    shown_recs(alloc, totals)
+}
+
+// Whether the key came at the number or later, as one of the two notes.
+fn is_noted(
+    settled: &BTreeMap<u64, Option<u64>>,
+    open: &BTreeMap<u64, Option<u64>>,
+    key: u64,
+    from: u64,
+) -> bool
+    ensures { result ≡ (is_from from (found settled.now key) || is_from from (found open.now key)) }
+{
+    let is_settled = match latest_at(settled, key) {
+        Some(number) => from <= number,
+        None => false,
+    };
+    let is_open = match latest_at(open, key) {
+        Some(number) => from <= number,
+        None => false,
+    };
+    is_settled || is_open
+}
+
+/// The recs whose keys came at the number or later, as one of the two notes.
+pub(crate) fn noted_from(
+    alloc: Global,
+    recs: &[Rec],
+    settled: &BTreeMap<u64, Option<u64>>,
+    open: &BTreeMap<u64, Option<u64>>,
+    from: u64,
+) -> Result<Vec<Rec>, AllocError>
+    ensures { IfOk result (λ kept. kept.items
+        ≡ filter (λ r. is_from from (found settled.now r.key) || is_from from (found open.now r.key)) recs.now) }
+{
+    recs.iter()
+        .filter(|rec| is_noted(settled, open, rec.key, from))
+        .copied()
+        .collect(alloc)
+}
+
+/// Writes recs as the totals of their keys. Where each key has a place it takes no memory.
+pub(crate) fn write(totals: &mut BTreeMap<u64, Option<u64>>, recs: &[Rec]) -> Result<(), AllocError>
+    ensures ok { ((q : ℕ) → has_key q recs.now ≡ true → is_some (get nat_cmp totals.old q) ≡ true) → IsOk result }
+    ensures totals { (rs : List Rec) → AreSumsIn rs recs.now
+        → OnOk result ((q : ℕ) → found totals.new q ≡ written rs recs.now (found totals.old q) q) }
+{
+    let mut rest = recs;
+    while let Some((first, later)) = rest.split_first() {
+        totals.insert(first.key, Some(first.value))?;
+        rest = later;
+    }
+    Ok(())
+}
+
+/// The map that has these totals.
+pub(crate) fn restored(
+    alloc: Global,
+    recs: &[Rec],
+) -> Result<BTreeMap<u64, Option<u64>>, AllocError>
+    ensures { (rs : List Rec) → recs.now ≡ sums_by_key rs → IfOk result (λ totals. HasTotals totals rs) }
+{
+    let mut totals = BTreeMap::new(alloc);
+    write(&mut totals, recs)?;
+    Ok(totals)
+}

@@ -1,0 +1,108 @@
+//! The sums of the values of each key at each time.
+ghost use Rattle.std.specs.Prelude.{◌≡◌, not, ℕ, List, Bool, [], ◌∷◌, IfOk, OnOk, OnErr, IsTrue, IsErr, true};
+ghost use Rattle.fw_bag.specs.Arrivals.{Arrival, arrivals_inside};
+ghost use Rattle.fw_table.specs.Arrived.{arrival, recs_at};
+ghost use Rattle.fw_table.specs.Sums.{sums_by_key};
+ghost use Rattle.fw_keyed.specs.Tables.{IsSum};
+
+use fw_bag::Rec;
+use fw_frontier::Logical;
+use fw_table::{Sent, SentRecs, Sums, keep_inside, keep_outside, put_at};
+use std::alloc::{AllocError, Global};
+use std::collections::BTreeMap;
+
+/// Once a time is complete, sends for each of its keys the sum of the values, modulo 2^64.
+#[derive(Drop)]
+pub struct Sum<T: Ord> {
+    sums: BTreeMap<T, Sums>,
+    alloc: Global,
+    refused: bool,
+}
+
+impl<T: Logical> Sum<T> {
+    /// The table to which nothing came.
+    pub fn new(alloc: Global) -> Self
+        ensures { IsSum T.cmp T.coords result [] }
+    {
+        Sum {
+            sums: BTreeMap::new(alloc),
+            alloc,
+            refused: false,
+        }
+    }
+
+    /// Takes in a rec that came on an in-edge, by its place. It sends nothing.
+    ///
+    /// It costs the logarithm of what the table holds. It fails where memory is refused, now or earlier.
+    pub fn on_message(&mut self, side: usize, t: T, rec: Rec) -> Result<Sent<T>, AllocError>
+        ensures ok { (came : List Arrival) → IsSum T.cmp T.coords self.old came
+            → OnOk result (IsSum T.cmp T.coords self.new (arrival side (T.coords t) rec ∷ came)) }
+        ensures sent { IfOk result (λ sent. sent ≡ record { at = t; recs = [] }) }
+        ensures err { (came : List Arrival) → IsSum T.cmp T.coords self.old came
+            → OnErr result (IsSum T.cmp T.coords self.new came) }
+        ensures refused { OnErr result (self.new.refused ≡ true) }
+        ensures stays { IsTrue self.old.refused → IsErr result }
+    {
+        if self.refused {
+            return Err(AllocError);
+        }
+        if let Err(refusal) = put_at(&mut self.sums, self.alloc, side, t, rec) {
+            self.refused = true;
+            return Err(refusal);
+        }
+        Ok(Sent::of(t, None))
+    }
+
+    // What a notification sends.
+    fn sums_at(&self, t: &T) -> Result<SentRecs, AllocError>
+        ensures { (came : List Arrival) → IsSum T.cmp T.coords self.now came
+            → IfOk result (λ recs. recs ≡ sums_by_key (recs_at (T.coords t.now) came)) }
+    {
+        match self.sums.get(t) {
+            Some(sums) => sums.recs(self.alloc),
+            None => Ok(SentRecs::of(None)),
+        }
+    }
+
+    /// Sends for each key of the time the sum of its values, in ascending order. The table stays.
+    ///
+    /// It costs the time's keys. It fails where memory is refused, now or earlier.
+    pub fn on_notify(&mut self, t: T) -> Result<Sent<T>, AllocError>
+        ensures stands { (came : List Arrival) → IsSum T.cmp T.coords self.old came → IsSum T.cmp T.coords self.new came }
+        ensures sent { (came : List Arrival) → IsSum T.cmp T.coords self.old came
+            → IfOk result (λ sent. sent ≡ record { at = t; recs = sums_by_key (recs_at (T.coords t) came) }) }
+        ensures refused { OnErr result (self.new.refused ≡ true) }
+        ensures stays { IsTrue self.old.refused → IsErr result }
+    {
+        if self.refused {
+            return Err(AllocError);
+        }
+        match self.sums_at(&t) {
+            Ok(recs) => Ok(Sent { at: t, recs }),
+            Err(refusal) => {
+                self.refused = true;
+                Err(refusal)
+            }
+        }
+    }
+
+    /// Keeps what came at times inside. It takes no memory.
+    pub fn keep_only(&mut self, f: &T::Frontier)
+        ensures { (kept : List ℕ → Bool) (came : List Arrival)
+            → ((t : T) → kept (T.coords t) ≡ T.Frontier.inside f.now t)
+            → IsSum T.cmp T.coords self.old came
+            → IsSum T.cmp T.coords self.new (arrivals_inside kept came) }
+    {
+        keep_inside(&mut self.sums, f);
+    }
+
+    /// Forgets what came at times inside, to which nothing comes any more. It takes no memory.
+    pub fn settle(&mut self, f: &T::Frontier)
+        ensures { (kept : List ℕ → Bool) (came : List Arrival)
+            → ((t : T) → kept (T.coords t) ≡ not (T.Frontier.inside f.now t))
+            → IsSum T.cmp T.coords self.old came
+            → IsSum T.cmp T.coords self.new (arrivals_inside kept came) }
+    {
+        keep_outside(&mut self.sums, f);
+    }
+}

@@ -1,0 +1,3 @@
+pub mod ArrivedLaws
+pub mod SumLaws
+pub mod TableSteps

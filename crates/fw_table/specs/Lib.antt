@@ -1,0 +1,5 @@
+pub mod Arrived
+pub mod Content
+pub mod Few
+pub mod Sent
+pub mod Sums

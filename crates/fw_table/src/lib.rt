@@ -1,0 +1,16 @@
+//! What the tables of nodes share: a content for each time, sums by key, and what an event makes a node send.
+//!
+//! A table is a node's state without its events: what the node needs to answer the next event as it would from all
+//! earlier ones. A contract relates a table to a list of arrivals, the latest first, for each list that the table may
+//! stand for.
+#![tactic(auto)]
+
+mod content;
+mod per_time;
+mod sent;
+mod sums;
+
+pub use content::Content;
+pub use per_time::{keep_inside, keep_outside, put_at};
+pub use sent::{Sent, SentRecs};
+pub use sums::Sums;

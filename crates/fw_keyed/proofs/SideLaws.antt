@@ -1,5 +1,5 @@
 -- Values by key: one rec more, and the pairs that a join makes.
-use Rattle.std.proofs.Common.{◌≡◌, ℕ, zero, suc, ◌==◌, ◌++◌, Bool, true, false, cond, not, List, [], ◌∷◌, Option, Some, None, map, reverse, Vec, refl, sym, ap, ◌∙◌, subst, arith, inl, inr, ◌⊎◌}
+use Rattle.std.proofs.Common.{◌≡◌, ℕ, zero, suc, ◌==◌, ◌++◌, Bool, true, false, cond, not, List, [], ◌∷◌, Option, Some, map, reverse, Vec, refl, sym, ap, ◌∙◌, subst, arith, inl, inr, ◌⊎◌}
 use Rattle.std.specs.Ordering.{is_eq, nat_cmp}
 use Rattle.std.specs.List.{filter}
 use Rattle.std.specs.BTreeMap.{BTreeMap, get, is_at}
@@ -10,7 +10,7 @@ use Rattle.fw_bag.specs.declared.rec.Rec.{Rec}
 use Rattle.fw_bag.specs.Keyed.{plus, joined_rec}
 use Rattle.std.specs.Prelude.{◌<◌, ◌&&◌}
 use Rattle.std.specs.List.{AllByRecursion}
-use Rattle.fw_time.specs.Stamp.{Stamp, leq, same}
+use Rattle.fw_time.specs.Stamp.{Stamp, same}
 use Rattle.fw_bag.specs.Arrivals.{Arrival, recs_where, arrivals_at}
 use Rattle.fw_keyed.specs.Sides.{values_with, values_kept, HasValues, sums_with, is_left, recs_across, AreOfTwo}
 
@@ -136,13 +136,13 @@ pub values_are : (side key : ℕ) (t : Stamp) (came : List Arrival) (vs : List �
     → (side ≡ 0 → vs ≡ values_with key (recs_where is_right (arrivals_at t came)))
     → vs ≡ values_with key (recs_across side t came)
 values_are side key t came vs l o h k = elim (two side l) [
-    | inl e ↦
-        k e ∙ ap (values_with key) (sides_at is_right (λ a. not (a.side == 0)) t came (right_is_other came))
-        ∙ ap (λ i. values_with key (recs_across i t came)) (sym e)
-    | inr e ↦
-        h e ∙ ap (values_with key) (sides_at is_left (λ a. not (a.side == 1)) t came (left_is_other came o))
-        ∙ ap (λ i. values_with key (recs_across i t came)) (sym e)
-  ]
+  | inl e ↦
+      k e ∙ ap (values_with key) (sides_at is_right (λ a. not (a.side == 0)) t came (right_is_other came))
+      ∙ ap (λ i. values_with key (recs_across i t came)) (sym e)
+  | inr e ↦
+      h e ∙ ap (values_with key) (sides_at is_left (λ a. not (a.side == 1)) t came (left_is_other came o))
+      ∙ ap (λ i. values_with key (recs_across i t came)) (sym e)
+]
 
 -- what is sent, from the values of the key
 pub joins_are : (r : Rec) (vs : List ℕ) (rs : List Rec) → vs ≡ values_with r.key rs → sums_with r vs ≡ joined_rec r rs

@@ -85,9 +85,9 @@ impl<T: Logical> Distinct<T> {
             → OnOk result (IsDistinct T.cmp T.coords self.new (arrival side (T.coords t) rec ∷ came)) }
         ensures sent { (came : List Arrival) → IsDistinct T.cmp T.coords self.old came
             → IfOk result (λ sent. sent ≡ record {
-                at = t;
-                recs = if is_among rec (recs_at (T.coords t) came) then [] else rec ∷ []
-              }) }
+              at = t;
+              recs = if is_among rec (recs_at (T.coords t) came) then [] else rec ∷ [];
+            }) }
         ensures err { (came : List Arrival) → IsDistinct T.cmp T.coords self.old came
             → OnErr result (IsDistinct T.cmp T.coords self.new came) }
         ensures refused { OnErr result (self.new.refused ≡ true) }

@@ -95,11 +95,7 @@ fn values_across(sides: &Sides, side: usize, key: u64) -> &[u64]
     ensures left { side ≡ 1 → (rs : List Rec) → HasValues sides.now.left rs → reverse result.now ≡ values_with key rs }
     ensures right { side ≡ 0 → (rs : List Rec) → HasValues sides.now.right rs → reverse result.now ≡ values_with key rs }
 {
-    let values = if side == 0 {
-        &sides.right
-    } else {
-        &sides.left
-    };
+    let values = if side == 0 { &sides.right } else { &sides.left };
     match values.get(&key) {
         Some(there) => there,
         None => &[],

@@ -10,5 +10,6 @@ mod join;
 mod sum;
 
 pub use distinct::{Distinct, Seen};
+pub use fw_totals::Total;
 pub use join::{Join, Sides};
 pub use sum::Sum;

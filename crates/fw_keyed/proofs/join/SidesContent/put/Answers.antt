@@ -1,7 +1,7 @@
-use Rattle.std.proofs.Common.{◌≡◌, ℕ, ◌==◌, Bool, true, false, arith, rules}
+use Rattle.std.proofs.Common.{◌≡◌, ◌==◌, true, false, arith}
 use Rattle.std.proofs.lemmas.Bool.Decides.{nat_tests}
 use Rattle.std.proofs.lemmas.Result.{on_ok_weaker, on_err_weaker}
-use Rattle.fw_bag.specs.Arrivals.{Arrival, recs_where}
+use Rattle.fw_bag.specs.Arrivals.{recs_where}
 use Rattle.fw_keyed.specs.Sides.{is_left}
 use Rattle.fw_keyed.proofs.SideLaws.{more_left, more_right, is_right}
 use Rattle.fw_keyed.proofs.join.SidesContent.put.Goals as goal

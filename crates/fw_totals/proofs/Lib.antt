@@ -1,0 +1,5 @@
+pub mod GatherLaws
+pub mod MergeLaws
+pub mod NoticeLaws
+pub mod PlaceLaws
+pub mod RestoreLaws

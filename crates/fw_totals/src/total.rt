@@ -1,0 +1,204 @@
+//! The running totals of each key over the epochs.
+ghost use Rattle.std.specs.Prelude.{◌≡◌, ◌||◌, ℕ, Bool, List, [], ◌∷◌, true, false, IfOk, OnOk, OnErr, IsTrue, IsErr};
+ghost use Rattle.std.specs.BTreeMap.{get};
+ghost use Rattle.std.specs.Option.{is_some};
+ghost use Rattle.std.specs.Ordering.{nat_cmp};
+ghost use Rattle.std.specs.List.Sorted.{IsStrictlySortedBy};
+ghost use Rattle.std.specs.Map.{keys_of};
+ghost use Rattle.fw_time.specs.Stamp.{same};
+ghost use Rattle.fw_bag.specs.Arrivals.{Arrival, arrivals_inside, recs_of};
+ghost use Rattle.fw_frontier.specs.Below.{is_below};
+ghost use Rattle.fw_table.specs.Arrived.{arrival, recs_at, recs_inside, AreInside, AreTimes, IsWithin};
+ghost use Rattle.fw_table.specs.Sums.{sums_at_keys, sums_by_key};
+ghost use Rattle.fw_totals.specs.Totals.{found, raised_recs};
+ghost use Rattle.fw_totals.specs.Total.{IsTotal};
+
+use crate::settling::Settling;
+use crate::totals::{place_at, restored, write};
+use fw_bag::{Rec, Recs};
+use fw_frontier::Below;
+use fw_table::{Sent, SentRecs};
+use fw_time::{Epoch, Time};
+use std::alloc::{AllocError, Global};
+use std::collections::BTreeMap;
+
+// The sums with the totals before them added, as recs, after a place was made for each key. No total changes, whether
+// memory is refused or not.
+fn raised(
+    alloc: Global,
+    totals: &mut BTreeMap<u64, Option<u64>>,
+    sums: &BTreeMap<u64, u64>,
+) -> Result<SentRecs, AllocError>
+    ensures recs { IfOk result (λ recs. recs ≡ raised_recs totals.old sums.now.entries) }
+    ensures same { (q : ℕ) → found totals.new q ≡ found totals.old q }
+    ensures room { OnOk result
+        ((q : ℕ) → is_some (get nat_cmp sums.now q) ≡ true → is_some (get nat_cmp totals.new q) ≡ true) }
+    ensures ordered { IsStrictlySortedBy nat_cmp (keys_of sums.now.entries) }
+{
+    let mut recs = SentRecs::of(None);
+    for (key, sum) in sums {
+        let total = place_at(totals, *key)?;
+        let value = sum.wrapping_add(total);
+        recs.push(alloc, Rec { key: *key, value })?;
+    }
+    Ok(recs)
+}
+
+/// Once an epoch is complete, sends for each of its keys the sum of the values up to it, modulo 2^64.
+///
+/// Beside the sums at each epoch that is not settled it keeps the running totals of the epochs that were taken in: those
+/// that are settled, and those of which it was notified.
+#[derive(Drop)]
+pub struct Total {
+    table: Settling<Epoch>,
+    running: BTreeMap<u64, Option<u64>>,
+    alloc: Global,
+    refused: bool,
+}
+
+impl Total {
+    /// The table to which nothing came, whatever is settled and was taken in.
+    pub fn new(alloc: Global) -> Self
+        ensures { (inside taken : List ℕ → Bool) → IsTotal inside taken result [] }
+    {
+        Total {
+            table: Settling::new(alloc),
+            running: BTreeMap::new(alloc),
+            alloc,
+            refused: false,
+        }
+    }
+
+    /// The table whose totals are these, where all that came is settled.
+    ///
+    /// It fails where memory is refused.
+    pub fn from_state(alloc: Global, totals: &[Rec]) -> Result<Self, AllocError>
+        ensures { (inside : List ℕ → Bool) (came : List Arrival)
+            → AreInside inside came → AreTimes ⟦<Epoch as Time>⟧.coords came
+            → totals.now ≡ sums_by_key (recs_of came)
+            → IfOk result (λ total. IsTotal inside inside total came) }
+    {
+        let table = Settling::from_state(alloc, totals)?;
+        let running = restored(alloc, totals)?;
+        Ok(Total {
+            table,
+            running,
+            alloc,
+            refused: false,
+        })
+    }
+
+    /// Takes in a rec that came on an in-edge, by its place, at an epoch of which it was not notified. It sends nothing.
+    ///
+    /// It costs the logarithm of what the table holds. It fails where memory is refused, now or earlier.
+    pub fn on_message(&mut self, side: usize, t: Epoch, rec: Rec) -> Result<Sent<Epoch>, AllocError>
+        ensures ok { (inside taken : List ℕ → Bool) (came : List Arrival)
+            → inside (t.0 ∷ []) ≡ false → taken (t.0 ∷ []) ≡ false → IsTotal inside taken self.old came
+            → OnOk result (IsTotal inside taken self.new (arrival side (t.0 ∷ []) rec ∷ came)) }
+        ensures sent { IfOk result (λ sent. sent ≡ record { at = t; recs = [] }) }
+        ensures err { (inside taken : List ℕ → Bool) (came : List Arrival) → IsTotal inside taken self.old came
+            → OnErr result (IsTotal inside taken self.new came) }
+        ensures refused { OnErr result (self.new.refused ≡ true) }
+        ensures stays { IsTrue self.old.refused → IsErr result }
+    {
+        if self.refused {
+            return Err(AllocError);
+        }
+        self.refused = true;
+        self.table.put(side, t, rec)?;
+        self.refused = false;
+        Ok(Sent::of(t, None))
+    }
+
+    /// Sends for each key of the epoch the total of what was taken in before and of what came at it, in ascending order,
+    /// and takes the epoch in.
+    ///
+    /// It costs two look-ups for each key of the epoch, and never goes over earlier ones. It fails where memory is
+    /// refused, now or earlier.
+    pub fn on_notify(&mut self, t: Epoch) -> Result<Sent<Epoch>, AllocError>
+        ensures ok { (inside taken : List ℕ → Bool) (came : List Arrival)
+            → inside (t.0 ∷ []) ≡ false → taken (t.0 ∷ []) ≡ false → IsTotal inside taken self.old came
+            → OnOk result (IsTotal inside (λ s. same s (t.0 ∷ []) || taken s) self.new came) }
+        ensures sent { (inside taken : List ℕ → Bool) (came : List Arrival)
+            → inside (t.0 ∷ []) ≡ false → taken (t.0 ∷ []) ≡ false → IsTotal inside taken self.old came
+            → IfOk result (λ sent. sent ≡ record {
+              at = t;
+              recs = sums_at_keys (recs_at (t.0 ∷ []) came) (recs_inside (λ s. same s (t.0 ∷ []) || taken s) came);
+            }) }
+        ensures err { (inside taken : List ℕ → Bool) (came : List Arrival) → IsTotal inside taken self.old came
+            → OnErr result (IsTotal inside taken self.new came) }
+        ensures refused { OnErr result (self.new.refused ≡ true) }
+        ensures stays { IsTrue self.old.refused → IsErr result }
+    {
+        if self.refused {
+            return Err(AllocError);
+        }
+        let Some(sums) = self.table.by_time.get(&t) else {
+            return Ok(Sent::of(t, None));
+        };
+        self.refused = true;
+        let recs = raised(self.alloc, &mut self.running, &sums.by_key)?;
+        write(&mut self.running, recs.as_slice())?;
+        self.refused = false;
+        Ok(Sent { at: t, recs })
+    }
+
+    /// Settles what came inside, which holds what was settled.
+    ///
+    /// It costs what comes to be settled. It fails where memory is refused, now or earlier.
+    pub fn settle(&mut self, f: &Below) -> Result<(), AllocError>
+        ensures ok { (inside after taken : List ℕ → Bool) (came : List Arrival)
+            → ((n : ℕ) → after (n ∷ []) ≡ is_below f.now.until n) → IsWithin inside after
+            → IsTotal inside taken self.old came → OnOk result (IsTotal after taken self.new came) }
+        ensures err { (inside taken : List ℕ → Bool) (came : List Arrival) → IsTotal inside taken self.old came
+            → OnErr result (IsTotal inside taken self.new came) }
+        ensures refused { OnErr result (self.new.refused ≡ true) }
+        ensures stays { IsTrue self.old.refused → IsErr result }
+    {
+        if self.refused {
+            return Err(AllocError);
+        }
+        self.refused = true;
+        self.table.settle(f)?;
+        self.refused = false;
+        Ok(())
+    }
+
+    /// The totals of what came inside, which holds what is settled, in ascending order of the keys.
+    ///
+    /// It costs the keys, and the epochs that are not settled. It fails where memory is refused, now or earlier.
+    pub fn totals_at(&self, f: &Below) -> Result<Recs, AllocError>
+        ensures totals { (inside after taken : List ℕ → Bool) (came : List Arrival)
+            → ((n : ℕ) → after (n ∷ []) ≡ is_below f.now.until n) → IsWithin inside after
+            → IsTotal inside taken self.now came
+            → IfOk result (λ totals. totals ≡ sums_by_key (recs_inside after came)) }
+        ensures stays { IsTrue self.now.refused → IsErr result }
+    {
+        if self.refused {
+            return Err(AllocError);
+        }
+        self.table.totals_at(f)
+    }
+
+    /// Keeps what came inside, which holds what was settled, and settles it: each epoch inside counts as taken in.
+    ///
+    /// It fails where memory is refused, now or earlier.
+    pub fn keep_only(&mut self, f: &Below) -> Result<(), AllocError>
+        ensures ok { (inside after taken : List ℕ → Bool) (came : List Arrival)
+            → ((n : ℕ) → after (n ∷ []) ≡ is_below f.now.until n) → IsWithin inside after
+            → IsTotal inside taken self.old came
+            → OnOk result (IsTotal after after self.new (arrivals_inside after came)) }
+        ensures err { (inside taken : List ℕ → Bool) (came : List Arrival) → IsTotal inside taken self.old came
+            → OnErr result (IsTotal inside taken self.new came) }
+        ensures refused { OnErr result (self.new.refused ≡ true) }
+        ensures stays { IsTrue self.old.refused → IsErr result }
+    {
+        if self.refused {
+            return Err(AllocError);
+        }
+        self.refused = true;
+        let totals = self.table.totals_at(f)?;
+        *self = Total::from_state(self.alloc, totals.as_slice())?;
+        Ok(())
+    }
+}

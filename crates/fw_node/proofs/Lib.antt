@@ -1,0 +1,9 @@
+pub mod EventLaws
+pub mod ForgettingLaws
+pub mod KindCases
+pub mod LoopCases
+pub mod MakingLaws
+pub mod NodeLaws
+pub mod PastLaws
+pub mod SameTable
+pub mod TableCases

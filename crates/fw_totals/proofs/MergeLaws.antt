@@ -93,7 +93,8 @@ module _ (p r : Arrival → Bool) (q : ℕ) where
   has_cases false false true t n = refl
   has_cases false false false t n = refl
 
-  keys_split : (came : List Arrival) → has_key q (recs_where (λ a. p a || r a) came) ≡ (has_key q (recs_where r came) || has_key q (recs_where p came))
+  -- a key is among the recs that pass one of two tests exactly where it is among those of one
+  pub keys_split : (came : List Arrival) → has_key q (recs_where (λ a. p a || r a) came) ≡ (has_key q (recs_where r came) || has_key q (recs_where p came))
   keys_split [] = refl
   keys_split (a ∷ came) =
       has_shown q a.rec (recs_where (λ b. p b || r b) came) (p a || r a)

@@ -1,11 +1,12 @@
 //! The running total of each key over the numbers.
-ghost use Rattle.std.specs.Prelude.{◌≡◌, ℕ, Bool, List, [], ◌∷◌, true, false, IfOk, OnOk, OnErr, IsTrue, IsErr};
+ghost use Rattle.std.specs.Prelude.{◌≡◌, ◌&&◌, ℕ, Bool, List, [], ◌∷◌, true, false, IfOk, OnOk, OnErr, IsTrue, IsErr};
 ghost use Rattle.fw_bag.specs.Arrivals.{Arrival, arrivals_inside, recs_of};
-ghost use Rattle.fw_bag.specs.Keyed.{plus, value_sum};
+ghost use Rattle.fw_bag.specs.Keyed.{plus, value_sum, has_key};
 ghost use Rattle.fw_frontier.specs.Below.{is_below};
 ghost use Rattle.fw_table.specs.Arrived.{arrival, recs_inside, AreInside, AreTimes, IsWithin};
 ghost use Rattle.fw_table.specs.Sums.{sums_by_key};
-ghost use Rattle.fw_totals.specs.Ledger.{IsLedger};
+ghost use Rattle.fw_totals.specs.Ledger.{IsLedger, IsLedgerLatest};
+ghost use Rattle.fw_totals.specs.Latest.{is_from, is_stamp_from, IsPast};
 
 use crate::settling::Settling;
 use crate::totals::{place_at, restored};
@@ -31,7 +32,8 @@ pub struct Ledger {
 impl Ledger {
     /// The table to which nothing came, whatever is settled.
     pub fn new(alloc: Global) -> Self
-        ensures { (inside : List ℕ → Bool) → IsLedger inside result [] }
+        ensures table { (inside : List ℕ → Bool) → IsLedger inside result [] }
+        ensures latest { (base inside : List ℕ → Bool) → IsLedgerLatest base inside result [] }
     {
         Ledger {
             table: Settling::new(alloc),
@@ -45,10 +47,12 @@ impl Ledger {
     ///
     /// It fails where memory is refused.
     pub fn from_state(alloc: Global, totals: &[Rec]) -> Result<Self, AllocError>
-        ensures { (inside : List ℕ → Bool) (came : List Arrival)
+        ensures table { (inside : List ℕ → Bool) (came : List Arrival)
             → AreInside inside came → AreTimes ⟦<SeqNo as Time>⟧.coords came
             → totals.now ≡ sums_by_key (recs_of came)
             → IfOk result (λ ledger. IsLedger inside ledger came) }
+        ensures latest { (inside : List ℕ → Bool) (came : List Arrival)
+            → IfOk result (λ ledger. IsLedgerLatest inside inside ledger came) }
     {
         let table = Settling::from_state(alloc, totals)?;
         let running = restored(alloc, totals)?;
@@ -74,6 +78,9 @@ impl Ledger {
             }) }
         ensures err { (inside : List ℕ → Bool) (came : List Arrival) → IsLedger inside self.old came
             → OnErr result (IsLedger inside self.new came) }
+        ensures latest { (base inside : List ℕ → Bool) (came : List Arrival)
+            → inside (t.0 ∷ []) ≡ false → IsLedgerLatest base inside self.old came
+            → IsLedgerLatest base inside self.new came × IsLedgerLatest base inside self.new (arrival side (t.0 ∷ []) rec ∷ came) }
         ensures refused { OnErr result (self.new.refused ≡ true) }
         ensures stays { IsTrue self.old.refused → IsErr result }
     {
@@ -104,6 +111,12 @@ impl Ledger {
             → IsLedger inside self.old came → OnOk result (IsLedger after self.new came) }
         ensures err { (inside : List ℕ → Bool) (came : List Arrival) → IsLedger inside self.old came
             → OnErr result (IsLedger inside self.new came) }
+        ensures latest { (base inside after : List ℕ → Bool) (came : List Arrival)
+            → ((n : ℕ) → after (n ∷ []) ≡ is_below f.now.until n) → IsWithin inside after
+            → IsLedger inside self.old came → IsLedgerLatest base inside self.old came
+            → OnOk result (IsLedgerLatest base after self.new came) }
+        ensures latest_err { (base inside : List ℕ → Bool) (came : List Arrival)
+            → IsLedgerLatest base inside self.old came → OnErr result (IsLedgerLatest base inside self.new came) }
         ensures refused { OnErr result (self.new.refused ≡ true) }
         ensures stays { IsTrue self.old.refused → IsErr result }
     {
@@ -141,6 +154,9 @@ impl Ledger {
             → IsLedger inside self.old came → OnOk result (IsLedger after self.new (arrivals_inside after came)) }
         ensures err { (inside : List ℕ → Bool) (came : List Arrival) → IsLedger inside self.old came
             → OnErr result (IsLedger inside self.new came) }
+        ensures latest { (after : List ℕ → Bool) (came : List Arrival) → OnOk result (IsLedgerLatest after after self.new came) }
+        ensures latest_err { (base inside : List ℕ → Bool) (came : List Arrival)
+            → IsLedgerLatest base inside self.old came → OnErr result (IsLedgerLatest base inside self.new came) }
         ensures refused { OnErr result (self.new.refused ≡ true) }
         ensures stays { IsTrue self.old.refused → IsErr result }
     {
@@ -151,5 +167,14 @@ impl Ledger {
         let totals = self.table.totals_at(f)?;
         *self = Ledger::from_state(self.alloc, totals.as_slice())?;
         Ok(())
+    }
+
+    /// The greatest number of what is settled at which the key came, of what came since the table was made from a state.
+    pub fn latest(&self, key: u64) -> Option<u64>
+        ensures { (base inside : List ℕ → Bool) (came : List Arrival) → IsLedgerLatest base inside self.now came
+            → (n : ℕ) → IsPast base n
+            → is_from n result ≡ has_key key (recs_inside (λ s. inside s && is_stamp_from n s) came) }
+    {
+        self.table.latest(key)
     }
 }

@@ -1,5 +1,5 @@
 //! The running totals of each key over the epochs.
-ghost use Rattle.std.specs.Prelude.{◌≡◌, ◌||◌, ℕ, Bool, List, [], ◌∷◌, true, false, IfOk, OnOk, OnErr, IsTrue, IsErr};
+ghost use Rattle.std.specs.Prelude.{◌≡◌, ◌&&◌, ◌||◌, ℕ, Bool, List, [], ◌∷◌, true, false, IfOk, OnOk, OnErr, IsTrue, IsErr};
 ghost use Rattle.std.specs.BTreeMap.{get};
 ghost use Rattle.std.specs.Option.{is_some};
 ghost use Rattle.std.specs.Ordering.{nat_cmp};
@@ -7,11 +7,13 @@ ghost use Rattle.std.specs.List.Sorted.{IsStrictlySortedBy};
 ghost use Rattle.std.specs.Map.{keys_of};
 ghost use Rattle.fw_time.specs.Stamp.{same};
 ghost use Rattle.fw_bag.specs.Arrivals.{Arrival, arrivals_inside, recs_of};
+ghost use Rattle.fw_bag.specs.Keyed.{has_key};
 ghost use Rattle.fw_frontier.specs.Below.{is_below};
 ghost use Rattle.fw_table.specs.Arrived.{arrival, recs_at, recs_inside, AreInside, AreTimes, IsWithin};
 ghost use Rattle.fw_table.specs.Sums.{sums_at_keys, sums_by_key};
 ghost use Rattle.fw_totals.specs.Totals.{found, raised_recs};
-ghost use Rattle.fw_totals.specs.Total.{IsTotal};
+ghost use Rattle.fw_totals.specs.Total.{IsTotal, IsTotalLatest};
+ghost use Rattle.fw_totals.specs.Latest.{is_from, is_stamp_from, IsPast};
 
 use crate::settling::Settling;
 use crate::totals::{place_at, restored, write};
@@ -59,7 +61,8 @@ pub struct Total {
 impl Total {
     /// The table to which nothing came, whatever is settled and was taken in.
     pub fn new(alloc: Global) -> Self
-        ensures { (inside taken : List ℕ → Bool) → IsTotal inside taken result [] }
+        ensures table { (inside taken : List ℕ → Bool) → IsTotal inside taken result [] }
+        ensures latest { (base inside : List ℕ → Bool) → IsTotalLatest base inside result [] }
     {
         Total {
             table: Settling::new(alloc),
@@ -73,10 +76,12 @@ impl Total {
     ///
     /// It fails where memory is refused.
     pub fn from_state(alloc: Global, totals: &[Rec]) -> Result<Self, AllocError>
-        ensures { (inside : List ℕ → Bool) (came : List Arrival)
+        ensures table { (inside : List ℕ → Bool) (came : List Arrival)
             → AreInside inside came → AreTimes ⟦<Epoch as Time>⟧.coords came
             → totals.now ≡ sums_by_key (recs_of came)
             → IfOk result (λ total. IsTotal inside inside total came) }
+        ensures latest { (inside : List ℕ → Bool) (came : List Arrival)
+            → IfOk result (λ total. IsTotalLatest inside inside total came) }
     {
         let table = Settling::from_state(alloc, totals)?;
         let running = restored(alloc, totals)?;
@@ -98,6 +103,9 @@ impl Total {
         ensures sent { IfOk result (λ sent. sent ≡ record { at = t; recs = [] }) }
         ensures err { (inside taken : List ℕ → Bool) (came : List Arrival) → IsTotal inside taken self.old came
             → OnErr result (IsTotal inside taken self.new came) }
+        ensures latest { (base inside : List ℕ → Bool) (came : List Arrival)
+            → inside (t.0 ∷ []) ≡ false → IsTotalLatest base inside self.old came
+            → IsTotalLatest base inside self.new came × IsTotalLatest base inside self.new (arrival side (t.0 ∷ []) rec ∷ came) }
         ensures refused { OnErr result (self.new.refused ≡ true) }
         ensures stays { IsTrue self.old.refused → IsErr result }
     {
@@ -127,6 +135,8 @@ impl Total {
             }) }
         ensures err { (inside taken : List ℕ → Bool) (came : List Arrival) → IsTotal inside taken self.old came
             → OnErr result (IsTotal inside taken self.new came) }
+        ensures latest { (base inside : List ℕ → Bool) (came : List Arrival)
+            → IsTotalLatest base inside self.old came → IsTotalLatest base inside self.new came }
         ensures refused { OnErr result (self.new.refused ≡ true) }
         ensures stays { IsTrue self.old.refused → IsErr result }
     {
@@ -152,6 +162,12 @@ impl Total {
             → IsTotal inside taken self.old came → OnOk result (IsTotal after taken self.new came) }
         ensures err { (inside taken : List ℕ → Bool) (came : List Arrival) → IsTotal inside taken self.old came
             → OnErr result (IsTotal inside taken self.new came) }
+        ensures latest { (base inside after taken : List ℕ → Bool) (came : List Arrival)
+            → ((n : ℕ) → after (n ∷ []) ≡ is_below f.now.until n) → IsWithin inside after
+            → IsTotal inside taken self.old came → IsTotalLatest base inside self.old came
+            → OnOk result (IsTotalLatest base after self.new came) }
+        ensures latest_err { (base inside : List ℕ → Bool) (came : List Arrival)
+            → IsTotalLatest base inside self.old came → OnErr result (IsTotalLatest base inside self.new came) }
         ensures refused { OnErr result (self.new.refused ≡ true) }
         ensures stays { IsTrue self.old.refused → IsErr result }
     {
@@ -190,6 +206,9 @@ impl Total {
             → OnOk result (IsTotal after after self.new (arrivals_inside after came)) }
         ensures err { (inside taken : List ℕ → Bool) (came : List Arrival) → IsTotal inside taken self.old came
             → OnErr result (IsTotal inside taken self.new came) }
+        ensures latest { (after : List ℕ → Bool) (came : List Arrival) → OnOk result (IsTotalLatest after after self.new came) }
+        ensures latest_err { (base inside : List ℕ → Bool) (came : List Arrival)
+            → IsTotalLatest base inside self.old came → OnErr result (IsTotalLatest base inside self.new came) }
         ensures refused { OnErr result (self.new.refused ≡ true) }
         ensures stays { IsTrue self.old.refused → IsErr result }
     {
@@ -200,5 +219,14 @@ impl Total {
         let totals = self.table.totals_at(f)?;
         *self = Total::from_state(self.alloc, totals.as_slice())?;
         Ok(())
+    }
+
+    /// The greatest epoch of what is settled at which the key came, of what came since the table was made from a state.
+    pub fn latest(&self, key: u64) -> Option<u64>
+        ensures { (base inside : List ℕ → Bool) (came : List Arrival) → IsTotalLatest base inside self.now came
+            → (n : ℕ) → IsPast base n
+            → is_from n result ≡ has_key key (recs_inside (λ s. inside s && is_stamp_from n s) came) }
+    {
+        self.table.latest(key)
     }
 }

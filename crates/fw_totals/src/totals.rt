@@ -1,5 +1,5 @@
 //! Totals of keys, for which all memory can be taken before any of them changes: a key may have a place without a total.
-ghost use Rattle.std.specs.Prelude.{◌≡◌, ℕ, Bool, List, true, IfOk, OnOk, IsOk};
+ghost use Rattle.std.specs.Prelude.{◌≡◌, ◌&&◌, ◌||◌, nat_le, ℕ, Bool, List, true, IfOk, OnOk, IsOk};
 ghost use Rattle.std.specs.Option.{is_some, unwrap_or};
 ghost use Rattle.std.specs.Ordering.{nat_cmp};
 ghost use Rattle.std.specs.List.Sorted.{IsStrictlySortedBy};
@@ -8,6 +8,7 @@ ghost use Rattle.std.specs.BTreeMap.{get};
 ghost use Rattle.fw_bag.specs.declared.rec.Rec.{Rec};
 ghost use Rattle.fw_bag.specs.Keyed.{has_key};
 ghost use Rattle.fw_table.specs.Sums.{entry_recs, sums_by_key};
+ghost use Rattle.fw_totals.specs.Latest.{is_from};
 ghost use Rattle.fw_totals.specs.Totals.{combined, found, shown_entries, written, AreSumsIn, HasTotals};
 
 use fw_bag::Rec;
@@ -73,6 +74,36 @@ pub(crate) fn take_in(
     for (key, sum) in sums {
         let total = total_at(totals, *key);
         totals.insert(*key, Some(sum.wrapping_add(total)))?;
+    }
+    Ok(())
+}
+
+/// The number of a key, if it has one.
+pub(crate) fn latest_at(latest: &BTreeMap<u64, Option<u64>>, key: u64) -> Option<u64>
+    ensures { result ≡ found latest.now key }
+{
+    match latest.get(&key) {
+        Some(number) => *number,
+        None => None,
+    }
+}
+
+/// Notes that the keys of the sums came at a number: each has the greater of it and the number before for its total. Where
+/// each key has a place it takes no memory.
+pub(crate) fn note(
+    latest: &mut BTreeMap<u64, Option<u64>>,
+    sums: &BTreeMap<u64, u64>,
+    number: u64,
+) -> Result<(), AllocError>
+    ensures ok { ((q : ℕ) → is_some (get nat_cmp sums.now q) ≡ true → is_some (get nat_cmp latest.old q) ≡ true)
+        → IsOk result }
+    ensures kept { (q : ℕ) → is_some (get nat_cmp latest.old q) ≡ true → is_some (get nat_cmp latest.new q) ≡ true }
+    ensures noted { OnOk result ((q n : ℕ) → is_from n (found latest.new q)
+        ≡ (is_from n (found latest.old q) || (is_some (get nat_cmp sums.now q) && nat_le n number))) }
+{
+    for (key, _sum) in sums {
+        let before = total_at(latest, *key);
+        latest.insert(*key, Some(before.max(number)))?;
     }
     Ok(())
 }

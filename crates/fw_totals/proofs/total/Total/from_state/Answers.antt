@@ -5,10 +5,10 @@ use Rattle.fw_table.proofs.ArrivedLaws.{all_inside}
 use Rattle.fw_totals.specs.Totals.{HasTotals}
 use Rattle.fw_totals.proofs.total.Total.from_state.Goals as goal
 
-pub returns : goal.returns
-returns c = λ inside came in' times e.
+pub returns-clause-table : goal.returns-clause-table
+returns-clause-table c = λ inside came in' times e.
     let Q : List Rec → Type 0 = λ rs. HasTotals c.in_ok-running.running rs in
     record {
-      table = c.in_ok-table.ensures inside came in' times e;
+      table = c.in_ok-table.ensures.table inside came in' times e;
       running = subst Q (sym (all_inside inside came in')) (c.in_ok-running.ensures (recs_of came) e);
     }

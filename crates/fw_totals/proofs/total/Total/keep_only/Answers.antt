@@ -8,5 +8,5 @@ use Rattle.fw_totals.proofs.total.Total.keep_only.Goals as goal
 pub returns-clause-ok : goal.returns-clause-ok
 returns-clause-ok c = λ inside after taken came agree sub r.
     let kept : List Arrival = arrivals_inside after came in
-    c.in_ok-self.ensures after kept (kept_inside after came) (kept_times (λ (t : Epoch). t.0 ∷ []) after came r.table.times)
+    c.in_ok-self.ensures.table after kept (kept_inside after came) (kept_times (λ (t : Epoch). t.0 ∷ []) after came r.table.times)
     (c.as_slice.ensures ∙ c.in_ok-totals.ensures inside after came (λ t. agree t.0) sub r.table ∙ ap sums_by_key (kept_recs after came))

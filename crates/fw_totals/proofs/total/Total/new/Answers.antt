@@ -5,8 +5,8 @@ use Rattle.std.specs.BTreeMap.{is_at}
 use Rattle.fw_totals.specs.Totals.{total_in}
 use Rattle.fw_totals.proofs.total.Total.new.Goals as goal
 
-pub returns : goal.returns
-returns c = λ inside taken. record {
-  table = c.new.ensures inside;
+pub returns-clause-table : goal.returns-clause-table
+returns-clause-table c = λ inside taken. record {
+  table = c.new.ensures.table inside;
   running = λ q. ap (λ es. total_in (lookup (is_at (nat_cmp q)) es)) c.new-2.ensures.empty;
 }

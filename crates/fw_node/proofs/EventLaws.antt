@@ -40,7 +40,7 @@ by_stamp ins q (Notify p t ∷ vs) = by_stamp ins q vs
 pub at_stamp : (ins : List ℕ) (t : Stamp) (vs : List Event) → delivered_recs (λ d s. same s t) vs ≡ recs_of (arrivals_at t (arrived ins vs))
 at_stamp ins t vs = by_stamp ins (λ s. same s t) vs ∙ where-filter (λ a. same a.at t) (arrived ins vs)
 
-all_recs : (came : List Arrival) → recs_where (λ a. true) came ≡ recs_of came
+pub all_recs : (came : List Arrival) → recs_where (λ a. true) came ≡ recs_of came
 all_recs [] = refl
 all_recs (a ∷ came) = ap (λ rs. a.rec ∷ rs) (all_recs came)
 

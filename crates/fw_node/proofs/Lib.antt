@@ -5,5 +5,7 @@ pub mod LoopCases
 pub mod MakingLaws
 pub mod NodeLaws
 pub mod PastLaws
+pub mod RestoringLaws
 pub mod SameTable
+pub mod SendsLaws
 pub mod TableCases

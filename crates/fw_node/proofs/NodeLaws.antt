@@ -40,6 +40,13 @@ each_arrived ins P (Inject s x ∷ vs) e = each_arrived ins P vs e
 each_arrived ins P (Deliver d m ∷ vs) e = (e.0, each_arrived ins P vs e.1)
 each_arrived ins P (Notify p t ∷ vs) e = each_arrived ins P vs e
 
+-- what follows for each stamp follows for those of all deliveries
+pub each_of : (P Q : Stamp → Type 0) → ((s : Stamp) → P s → Q s) → (vs : List Event) → EachDelivery P vs → EachDelivery Q vs
+each_of P Q f [] e = tt
+each_of P Q f (Inject s x ∷ vs) e = each_of P Q f vs e
+each_of P Q f (Deliver d m ∷ vs) e = (f m.at e.0, each_of P Q f vs e.1)
+each_of P Q f (Notify p t ∷ vs) e = each_of P Q f vs e
+
 -- a property of two of the stamps of all arrivals
 pub both_arrived : (P Q R : Stamp → Type 0) → ((s : Stamp) → P s → Q s → R s) → (came : List Arrival) → AllByRecursion (λ (a : Arrival). P a.at) came
     → AllByRecursion (λ (a : Arrival). Q a.at) came → AllByRecursion (λ (a : Arrival). R a.at) came

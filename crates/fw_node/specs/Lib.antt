@@ -6,5 +6,6 @@ pub mod LoopTable
 pub mod NodeTable
 pub mod Past
 pub mod Sends
+pub mod StateOf
 pub mod TableOf
 pub mod TimedTable

@@ -8,18 +8,19 @@ ghost use Rattle.fw_flow.specs.declared.event.Message.{Message};
 ghost use Rattle.fw_flow.specs.declared.kind.Kind.TheVariants as kind;
 ghost use Rattle.fw_flow.specs.Dataflow.{Dataflow, System, batches_of, bounds_of, kind_of, in_edges, is_input_kind, is_notified_kind, node_frontier};
 ghost use Rattle.fw_flow.specs.NodeFunction.{delivered_recs, sends};
-ghost use Rattle.fw_model.specs.Told.{is_told, AreToldInside, IsSumOfTold};
+ghost use Rattle.fw_model.specs.Told.{is_told, AreToldInside, EachDelivery, IsSumOfTold};
 ghost use Rattle.fw_table.specs.Arrived.{IsWithin};
 ghost use Rattle.fw_node.specs.Answers.{without_causes};
-ghost use Rattle.fw_node.specs.Arrived.{place_in, IsOneOf};
+ghost use Rattle.fw_node.specs.Arrived.{place_in, AreOnEdges, IsOneOf};
 ghost use Rattle.fw_node.specs.Past.{totals_kept};
 ghost use Rattle.fw_node.specs.Sends.{sends_list, notice_sends};
+ghost use Rattle.fw_node.specs.StateOf.{IsStateOf};
 ghost use Rattle.fw_node.specs.TableOf.{IsTableOf};
 
 use crate::{Node, Sends, Table};
 use fw_bag::{Rec, Recs};
 use fw_flow::{EdgeId, Flow, NodeId};
-use fw_frontier::Front;
+use fw_frontier::{Front, State};
 use fw_table::{Sent, SentRecs};
 use fw_time::{Bounds, Stamp};
 use std::alloc::{AllocError, Global};
@@ -52,6 +53,33 @@ impl Node {
         let sides = Vec::from_slice(alloc, flow.in_edges(id))?;
         Ok(Node {
             table: Table::new(alloc, flow, id),
+            sides,
+            bounds: flow.domain(id),
+            alloc,
+            refused: false,
+        })
+    }
+
+    /// A node of a flow that is restored from its state: all that came to it is settled.
+    ///
+    /// It fails where memory is refused.
+    pub fn from_state(
+        alloc: Global,
+        flow: &Flow,
+        id: NodeId,
+        state: &State,
+    ) -> Result<Self, AllocError>
+        ensures table { (settled : List ℕ → Bool) (before : List Event)
+            → EachDelivery (λ s. (settled s ≡ true) × (in_domain (bounds_of flow.now id) s ≡ true)) before
+            → AreOnEdges (in_edges flow.now id) before → IsStateOf (kind_of flow.now id) before state.now
+            → IfOk result (λ node. IsTableOf flow.now id settled node before) }
+        ensures bounds { IfOk result (λ node. node.bounds ≡ bounds_of flow.now id) }
+    {
+        let _nodes = flow.nodes();
+        let sides = Vec::from_slice(alloc, flow.in_edges(id))?;
+        let table = Table::from_state(alloc, flow, id, state)?;
+        Ok(Node {
+            table,
             sides,
             bounds: flow.domain(id),
             alloc,

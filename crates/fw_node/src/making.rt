@@ -1,8 +1,13 @@
 //! How a table is made.
-ghost use Rattle.std.specs.Prelude.{◌≡◌, ◌+◌, ◌≤◌, ◌<◌, ℕ, [], true, false, not, Bool, List, length};
+ghost use Rattle.std.specs.Prelude.{IfOk, ◌≡◌, ◌+◌, ◌≤◌, ◌<◌, ℕ, [], true, false, not, Bool, List, length};
+ghost use Rattle.fw_time.specs.Stamp.{in_domain};
+ghost use Rattle.fw_flow.specs.declared.event.Event.{Event};
 ghost use Rattle.fw_flow.specs.declared.kind.Kind.{Kind};
 ghost use Rattle.fw_flow.specs.declared.kind.Kind.TheVariants as kind;
 ghost use Rattle.fw_flow.specs.Dataflow.{Dataflow, kind_of, bounds_of};
+ghost use Rattle.fw_table.specs.Arrived.{AreInside};
+ghost use Rattle.fw_node.specs.Arrived.{arrived};
+ghost use Rattle.fw_node.specs.StateOf.{IsStateOf, totals_in};
 ghost use Rattle.fw_node.specs.LoopTable.{IsLoopTable};
 ghost use Rattle.fw_node.specs.NodeTable.{IsNodeTable, dimension_of};
 ghost use Rattle.fw_node.specs.Past.{Past, past_of};
@@ -10,14 +15,18 @@ ghost use Rattle.fw_node.specs.TimedTable.{IsTimedTable};
 ghost use Rattle.fw_node.specs.Kinds.{is_timed, is_looped};
 
 use crate::{AtTime, InLoop, Table};
+use fw_bag::Rec;
 use fw_flow::{Flow, Kind, NodeId};
-use fw_frontier::Logical;
+use fw_frontier::{Entries, Logical, State};
 use fw_keyed::{Distinct, Join, Sum};
 use fw_numbered::{Regroup, Sequence};
 use fw_stateless::{Concat, Enter, Feedback, Leave, Select};
 use fw_time::{Nest, Time};
 use fw_totals::{Ledger, Total};
-use std::alloc::Global;
+use std::alloc::{AllocError, Global};
+
+// How many numbers an edge has that numbers its messages.
+const NUMBERS: u64 = 4_294_967_296;
 
 // The table of a kind that may be anywhere, to which nothing came; of each other kind that of a concat.
 fn timed<T: Logical>(alloc: Global, kind: Kind) -> AtTime<T>
@@ -69,6 +78,15 @@ fn staying(alloc: Global, flow: &Flow, kind: Kind, dimension: usize) -> Table
     }
 }
 
+// The totals of a state.
+fn totals_of(state: &State) -> &[Rec]
+    ensures { result.now ≡ totals_in state.now.entries }
+{
+    match &state.entries {
+        Entries::Totals(totals) => totals.as_slice(),
+    }
+}
+
 impl Table {
     /// The table of a node to which nothing came, whatever is settled.
     #[tactic(auto, using(crate::proofs::MakingLaws::some_group))]
@@ -86,6 +104,33 @@ impl Table {
             Kind::Ledger => Table::Ledger(Ledger::new(alloc)),
             Kind::Regroup(size) => Table::Regroup(Regroup::new(size)),
             kind => staying(alloc, flow, kind, dimension),
+        }
+    }
+
+    /// The table of a node that is restored from its state: all that came is settled.
+    ///
+    /// It fails where memory is refused.
+    pub fn from_state(
+        alloc: Global,
+        flow: &Flow,
+        id: NodeId,
+        state: &State,
+    ) -> Result<Self, AllocError>
+        ensures table { (ins : List ℕ) (settled : List ℕ → Bool) (before : List Event)
+            → AreInside settled (arrived ins before)
+            → AreInside (in_domain (bounds_of flow.now id)) (arrived ins before)
+            → IsStateOf (kind_of flow.now id) before state.now
+            → IfOk result (λ table. IsNodeTable flow.now table (kind_of flow.now id) (past_of ins settled before)) }
+        ensures shape { IfOk result (λ table. dimension_of table ≡ length (bounds_of flow.now id).greatest) }
+    {
+        match flow.kind(id) {
+            Kind::Total => Ok(Table::Total(Total::from_state(alloc, totals_of(state))?)),
+            Kind::Sequence => Ok(Table::Sequence(Sequence::from_state(
+                alloc,
+                state.sent.min(NUMBERS),
+            ))),
+            Kind::Ledger => Ok(Table::Ledger(Ledger::from_state(alloc, totals_of(state))?)),
+            _ => Ok(Table::new(alloc, flow, id)),
         }
     }
 }

@@ -28,7 +28,7 @@ returns-in-Enter-clause-shape c =
 pub returns-in-Total-clause-table : goal.returns-in-Total-clause-table
 returns-in-Total-clause-table c = λ ins settled.
     let P : Kind → Type 0 = λ k. IsNodeTable c.args.flow.now (table.Total c.new.result) k (past_of ins settled []) in
-    subst P (sym (sym c.kind.ensures ∙ c.in-Total.is)) (c.new.ensures settled (λ s. settled s || is_told [] s))
+    subst P (sym (sym c.kind.ensures ∙ c.in-Total.is)) (c.new.ensures.table settled (λ s. settled s || is_told [] s))
 
 pub returns-in-Total-clause-shape : goal.returns-in-Total-clause-shape
 returns-in-Total-clause-shape c = sym (bounds-kind c.args.flow.now c.args.id kind.Total (sym c.kind.ensures ∙ c.in-Total.is))
@@ -44,7 +44,7 @@ returns-in-Sequence-clause-shape c = sym (bounds-kind c.args.flow.now c.args.id 
 pub returns-in-Ledger-clause-table : goal.returns-in-Ledger-clause-table
 returns-in-Ledger-clause-table c = λ ins settled.
     let P : Kind → Type 0 = λ k. IsNodeTable c.args.flow.now (table.Ledger c.new-in-Ledger.result) k (past_of ins settled []) in
-    subst P (sym (sym c.kind.ensures ∙ c.in-Ledger.is)) (c.new-in-Ledger.ensures settled)
+    subst P (sym (sym c.kind.ensures ∙ c.in-Ledger.is)) (c.new-in-Ledger.ensures.table settled)
 
 pub returns-in-Ledger-clause-shape : goal.returns-in-Ledger-clause-shape
 returns-in-Ledger-clause-shape c = sym (bounds-kind c.args.flow.now c.args.id kind.Ledger (sym c.kind.ensures ∙ c.in-Ledger.is))

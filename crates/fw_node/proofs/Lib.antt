@@ -1,0 +1,11 @@
+pub mod EventLaws
+pub mod ForgettingLaws
+pub mod KindCases
+pub mod LoopCases
+pub mod MakingLaws
+pub mod NodeLaws
+pub mod PastLaws
+pub mod RestoringLaws
+pub mod SameTable
+pub mod SendsLaws
+pub mod TableCases

@@ -1,0 +1,38 @@
+use Rattle.std.proofs.Common.{◌≡◌, ◌||◌, ◌&&◌, ◌∷◌, [], ℕ, ◌+◌, Bool, true, false, List, OnOk, IfOk, length, map, refl, sym, ap, ◌∙◌, subst}
+use Rattle.std.specs.List.{AllByRecursion}
+use Rattle.std.proofs.lemmas.Bool.{and_parts}
+use Rattle.std.proofs.lemmas.Result.{IfOk-weaker, on_ok_weaker}
+use Rattle.fw_time.specs.Stamp.{Stamp as StampList, in_domain, same}
+use Rattle.fw_frontier.specs.Front.{Front, inside}
+use Rattle.fw_bag.specs.declared.rec.Rec.{Rec}
+use Rattle.fw_bag.specs.Arrivals.{Arrival}
+use Rattle.fw_flow.specs.declared.kind.Kind.{Kind}
+use Rattle.fw_flow.specs.Dataflow.{bounds_of, kind_of, in_edges, node_frontier, send_stamp_of_kind}
+use Rattle.fw_model.specs.Told.{is_told}
+use Rattle.fw_table.specs.Arrived.{arrival, recs_inside, IsWithin}
+use Rattle.fw_table.specs.Sent.{sent_at}
+use Rattle.fw_node.specs.Answers.{recs_for}
+use Rattle.fw_node.specs.Arrived.{arrived, place_in}
+use Rattle.fw_node.specs.NodeTable.{IsNodeTable}
+use Rattle.fw_node.specs.Past.{Past, past_of, totals_kept}
+use Rattle.fw_node.specs.TimedTable.{IsSideOf}
+use Rattle.fw_node.proofs.EventLaws.{by_stamp}
+use Rattle.fw_node.proofs.MakingLaws.{places_fit}
+use Rattle.fw_node.proofs.NodeLaws.{delivery_sends, each_arrived, in_the_domain_alike, injection_sends, notice_same, numbered_after, sum_of_taken, told_where, weaker_arrived}
+use Rattle.fw_node.proofs.SameTable.{AreAlike, recs_alike, same_table}
+use Rattle.fw_node.proofs.node.Node.deliver.Goals as goal
+
+pub returns-in-Ok-clause-sent : goal.returns-in-Ok-clause-sent
+returns-in-Ok-clause-sent c = λ sys p settled before m at_is rec_is edge out node.
+    let ins : List ℕ = in_edges sys.flow p in
+    let k : Kind = kind_of sys.flow p in
+    let came : List Arrival = arrived ins before in
+    let side : c.side_of-side.result ≡ place_in ins c.args.edge =
+    c.side_of-side.ensures ∙ ap (λ es. place_in es c.args.edge) (c.deref.ensures.value ∙ node.sides) in
+    let P : ℕ → Type 0 = λ n. IsSideOf k n in
+    let same_arrival : arrival c.side_of-side.result c.args.at.now c.args.rec ≡ arrival (place_in ins c.args.edge) m.at m.rec =
+    ap (λ n. arrival n c.args.at.now c.args.rec) side ∙ ap (λ t. arrival (place_in ins c.args.edge) t c.args.rec) (sym at_is)
+    ∙ ap (λ r. arrival (place_in ins c.args.edge) m.at r) (sym rec_is) in
+    c.in-Ok.ensures.sent sys.flow k (past_of ins settled before) node.table (subst P (sym side) (node.places c.args.edge edge)) out
+    ∙ ap (λ (a : Arrival). sent_at (send_stamp_of_kind sys.flow k a.at) (recs_for k came a)) same_arrival
+    ∙ sym (delivery_sends sys p before c.args.edge m edge node.on_edges)

@@ -1,0 +1,167 @@
+use Rattle.std.proofs.Common.{◌≡◌, ◌||◌, ◌∷◌, [], ℕ, ◌+◌, Bool, true, false, not, List, Some, OnOk, IfOk, length, map, refl, sym, ap, ◌∙◌, subst, arith}
+use Rattle.std.proofs.lemmas.Result.{IfOk-weaker, on_ok_weaker}
+use Rattle.fw_time.specs.Stamp.{Stamp as StampList, same}
+use Rattle.fw_frontier.specs.Front.{inside}
+use Rattle.fw_bag.specs.declared.rec.Rec.{Rec}
+use Rattle.fw_bag.specs.Arrivals.{Arrival, arrivals_inside}
+use Rattle.fw_bag.specs.Keyed.{sorted_recs, sums_of, distinct_keys}
+use Rattle.fw_flow.specs.declared.kind.Kind.{Kind}
+use Rattle.fw_flow.specs.declared.kind.Kind.TheVariants as kind
+use Rattle.fw_flow.specs.Dataflow.{Dataflow, is_notified_kind, send_stamp_of_kind}
+use Rattle.fw_table.specs.Arrived.{arrival, recs_at, recs_inside}
+use Rattle.fw_table.specs.Sent.{sent_at}
+use Rattle.fw_table.specs.Sums.{sums_at_keys}
+use Rattle.fw_table.proofs.ArrivedLaws.{outside_twice}
+use Rattle.fw_totals.specs.Total.{IsTotal}
+use Rattle.fw_totals.specs.Ledger.{IsLedger}
+use Rattle.fw_numbered.specs.Numbers.{at_numbers, numbered_recs}
+use Rattle.fw_numbered.specs.Sequence.{IsSequence}
+use Rattle.fw_node.specs.declared.table.Table.{Table}
+use Rattle.fw_node.specs.declared.table.Table.TheVariants as table
+use Rattle.fw_node.specs.Answers.{recs_for, recs_at_notice, sent_list}
+use Rattle.fw_node.specs.LoopTable.{IsLoopTable}
+use Rattle.fw_node.specs.NodeTable.{IsNodeTable, epoch_cmp, epoch_coords, nest_cmp, nest_coords}
+use Rattle.fw_node.specs.Past.{Past, IsSumOfTaken, IsToldWhereNotified, notice_list, totals_kept, unsettled, is_taken, with_arrival, with_notice, with_settled}
+use Rattle.fw_node.specs.Sends.{sends_list}
+use Rattle.fw_node.specs.TimedTable.{IsTimedTable}
+use Rattle.fw_node.proofs.ForgettingLaws.{deliveries_need_their_time, notifications_need_their_time}
+use Rattle.fw_node.proofs.KindCases.{timed_plain}
+use Rattle.fw_node.proofs.LoopCases.{loop_kind}
+use Rattle.fw_node.proofs.PastLaws.{unsettled_more, neither, told_more, taken_after, gone_after, notice_plain, any_ok, at_numbers-length}
+use Rattle.fw_node.proofs.TableCases.{of_total, of_sequence, of_ledger}
+use Rattle.fw_time.specs.declared.time.Epoch.{Epoch}
+use Rattle.fw_time.specs.declared.time.SeqNo.{SeqNo}
+use Rattle.fw_table.specs.declared.sent.Sent.{Sent}
+use Rattle.fw_bag.specs.Keyed.{plus, value_sum}
+use Rattle.fw_bag.specs.Arrivals.{recs_of}
+use Rattle.fw_totals.specs.Totals.{HasTotals}
+use Rattle.fw_node.proofs.PastLaws.{any_err}
+use Rattle.fw_node.proofs.table.Table.notify.Goals as goal
+
+pub returns-in_ok-notify-in-Outside-clause-ok : goal.returns-in_ok-notify-in-Outside-clause-ok
+returns-in_ok-notify-in-Outside-clause-ok c = λ flow k past r out untold.
+    let P : Table → Type 0 = λ s. IsNodeTable flow s k past in
+    c.notify.ensures.stands k (unsettled past) (subst P c.in-Outside.is r)
+
+pub returns-in_ok-notify-in-Outside-clause-sent : goal.returns-in_ok-notify-in-Outside-clause-sent
+returns-in_ok-notify-in-Outside-clause-sent c = λ flow k past r out untold sum.
+    let P : Table → Type 0 = λ s. IsNodeTable flow s k past in
+    let h = subst P c.in-Outside.is r in
+    let plain = timed_plain epoch_cmp epoch_coords flow c.in-Outside.table k (unsettled past) h in
+    let needs = notifications_need_their_time k plain.per_time (λ s. not (past.settled s)) past.came c.args.at.now (ap not out) in
+    ap sent_list (c.in_ok-notify-in-Outside.ensures.sent k (unsettled past) h)
+    ∙ ap (λ rs. map (λ (r : Rec). (c.args.at.now, r)) (sorted_recs rs)) needs ∙ sym (notice_plain k past c.args.at.now plain.unnumbered)
+
+pub returns-in_err-notify-in-Outside-clause-err : goal.returns-in_err-notify-in-Outside-clause-err
+returns-in_err-notify-in-Outside-clause-err c = λ flow k past r.
+    let P : Table → Type 0 = λ s. IsNodeTable flow s k past in
+    any_err c.from_residual.result _ (c.notify.ensures.stands k (unsettled past) (subst P c.in-Outside.is r))
+
+pub returns-in_ok-notify-in-Loop-clause-ok : goal.returns-in_ok-notify-in-Loop-clause-ok
+returns-in_ok-notify-in-Loop-clause-ok c = λ flow k past r out untold.
+    let P : Table → Type 0 = λ s. IsNodeTable flow s k past in
+    c.notify-in-Loop.ensures.stands flow k (unsettled past) (subst P c.in-Loop.is r)
+
+pub returns-in_ok-notify-in-Loop-clause-sent : goal.returns-in_ok-notify-in-Loop-clause-sent
+returns-in_ok-notify-in-Loop-clause-sent c = λ flow k past r out untold sum.
+    let P : Table → Type 0 = λ s. IsNodeTable flow s k past in
+    let h = subst P c.in-Loop.is r in
+    let plain = loop_kind (nest_cmp epoch_cmp) (nest_coords epoch_coords) flow c.in-Loop.table k (unsettled past) h in
+    let needs = notifications_need_their_time k plain.per_time (λ s. not (past.settled s)) past.came c.args.at.now (ap not out) in
+    ap sent_list (c.in_ok-notify-in-Loop.ensures.sent flow k (unsettled past) h)
+    ∙ ap (λ rs. map (λ (r : Rec). (c.args.at.now, r)) (sorted_recs rs)) needs ∙ sym (notice_plain k past c.args.at.now plain.unnumbered)
+
+pub returns-in_err-notify-in-Loop-clause-err : goal.returns-in_err-notify-in-Loop-clause-err
+returns-in_err-notify-in-Loop-clause-err c = λ flow k past r.
+    let P : Table → Type 0 = λ s. IsNodeTable flow s k past in
+    any_err c.from_residual-in_err-notify-in-Loop.result _ (c.notify-in-Loop.ensures.stands flow k (unsettled past) (subst P c.in-Loop.is r))
+
+pub returns-in_ok-notify-in-Loop2-clause-ok : goal.returns-in_ok-notify-in-Loop2-clause-ok
+returns-in_ok-notify-in-Loop2-clause-ok c = λ flow k past r out untold.
+    let P : Table → Type 0 = λ s. IsNodeTable flow s k past in
+    c.notify-in-Loop2.ensures.stands flow k (unsettled past) (subst P c.in-Loop2.is r)
+
+pub returns-in_ok-notify-in-Loop2-clause-sent : goal.returns-in_ok-notify-in-Loop2-clause-sent
+returns-in_ok-notify-in-Loop2-clause-sent c = λ flow k past r out untold sum.
+    let P : Table → Type 0 = λ s. IsNodeTable flow s k past in
+    let h = subst P c.in-Loop2.is r in
+    let plain = loop_kind (nest_cmp (nest_cmp epoch_cmp)) (nest_coords (nest_coords epoch_coords)) flow c.in-Loop2.table k (unsettled past) h in
+    let needs = notifications_need_their_time k plain.per_time (λ s. not (past.settled s)) past.came c.args.at.now (ap not out) in
+    ap sent_list (c.in_ok-notify-in-Loop2.ensures.sent flow k (unsettled past) h)
+    ∙ ap (λ rs. map (λ (r : Rec). (c.args.at.now, r)) (sorted_recs rs)) needs ∙ sym (notice_plain k past c.args.at.now plain.unnumbered)
+
+pub returns-in_err-notify-in-Loop2-clause-err : goal.returns-in_err-notify-in-Loop2-clause-err
+returns-in_err-notify-in-Loop2-clause-err c = λ flow k past r.
+    let P : Table → Type 0 = λ s. IsNodeTable flow s k past in
+    any_err c.from_residual-in_err-notify-in-Loop2.result _ (c.notify-in-Loop2.ensures.stands flow k (unsettled past) (subst P c.in-Loop2.is r))
+
+pub returns-in_ok-notify-in-Loop3-clause-ok : goal.returns-in_ok-notify-in-Loop3-clause-ok
+returns-in_ok-notify-in-Loop3-clause-ok c = λ flow k past r out untold.
+    let P : Table → Type 0 = λ s. IsNodeTable flow s k past in
+    c.notify-in-Loop3.ensures.stands flow k (unsettled past) (subst P c.in-Loop3.is r)
+
+pub returns-in_ok-notify-in-Loop3-clause-sent : goal.returns-in_ok-notify-in-Loop3-clause-sent
+returns-in_ok-notify-in-Loop3-clause-sent c = λ flow k past r out untold sum.
+    let P : Table → Type 0 = λ s. IsNodeTable flow s k past in
+    let h = subst P c.in-Loop3.is r in
+    let plain = loop_kind (nest_cmp (nest_cmp (nest_cmp epoch_cmp))) (nest_coords (nest_coords (nest_coords epoch_coords))) flow c.in-Loop3.table k (unsettled past) h in
+    let needs = notifications_need_their_time k plain.per_time (λ s. not (past.settled s)) past.came c.args.at.now (ap not out) in
+    ap sent_list (c.in_ok-notify-in-Loop3.ensures.sent flow k (unsettled past) h)
+    ∙ ap (λ rs. map (λ (r : Rec). (c.args.at.now, r)) (sorted_recs rs)) needs ∙ sym (notice_plain k past c.args.at.now plain.unnumbered)
+
+pub returns-in_err-notify-in-Loop3-clause-err : goal.returns-in_err-notify-in-Loop3-clause-err
+returns-in_err-notify-in-Loop3-clause-err c = λ flow k past r.
+    let P : Table → Type 0 = λ s. IsNodeTable flow s k past in
+    any_err c.from_residual-in_err-notify-in-Loop3.result _ (c.notify-in-Loop3.ensures.stands flow k (unsettled past) (subst P c.in-Loop3.is r))
+
+pub returns-in_ok-on_notify-in-Total-clause-ok : goal.returns-in_ok-on_notify-in-Total-clause-ok
+returns-in_ok-on_notify-in-Total-clause-ok c = λ flow k past r out untold.
+    let P : Table → Type 0 = λ s. IsNodeTable flow s k past in
+    let co : c.from_coords.result.0 ∷ [] ≡ c.args.at.now = c.from_coords.ensures in
+    let new = c.on_notify.new.self in
+    let Q : (StampList → Bool) → Type 0 = λ g. IsTotal past.settled g new past.came in
+    let e : (λ (s : StampList). same s (c.from_coords.result.0 ∷ []) || is_taken past s) ≡ (λ s. past.settled s || (same s c.args.at.now || past.told s)) =
+    λ i s. (ap (λ u. same s u || is_taken past s) co ∙ told_more (same s c.args.at.now) (past.settled s) (past.told s)) i in
+    of_total flow past (λ x. IsNodeTable flow (table.Total new) x (with_notice c.args.at.now past)) c.in-Total.table k (subst P c.in-Total.is r)
+    (λ h. subst Q e (c.in_ok-on_notify-in-Total.ensures.ok past.settled (is_taken past) past.came (ap past.settled co ∙ out) (ap (is_taken past) co ∙ neither (past.settled c.args.at.now) (past.told c.args.at.now) out untold) h))
+
+pub returns-in_ok-on_notify-in-Total-clause-sent : goal.returns-in_ok-on_notify-in-Total-clause-sent
+returns-in_ok-on_notify-in-Total-clause-sent c = λ flow k past r out untold sum.
+    let P : Table → Type 0 = λ s. IsNodeTable flow s k past in
+    let co : c.from_coords.result.0 ∷ [] ≡ c.args.at.now = c.from_coords.ensures in
+    of_total flow past (λ x. IsSumOfTaken x past c.args.at.now → sent_list c.at_stamp.result ≡ notice_list x past c.args.at.now) c.in-Total.table k (subst P c.in-Total.is r)
+    (λ h u. ap sent_list c.at_stamp.ensures
+    ∙ ap (λ (s : Sent Epoch). map (λ (x : Rec). (s.at.0 ∷ [], x)) s.recs)
+    (c.in_ok-on_notify-in-Total.ensures.sent past.settled (is_taken past) past.came (ap past.settled co ∙ out) (ap (is_taken past) co ∙ neither (past.settled c.args.at.now) (past.told c.args.at.now) out untold) h)
+    ∙ ap (λ (t : StampList). map (λ (x : Rec). (t, x)) (sums_at_keys (recs_at t past.came) (recs_inside (λ s. same s t || is_taken past s) past.came))) co
+    ∙ ap (λ rs. map (λ (x : Rec). (c.args.at.now, x)) (sums_at_keys (recs_at c.args.at.now past.came) rs)) (sym u)) sum
+
+pub returns-in_ok-on_notify-in-Sequence-clause-ok : goal.returns-in_ok-on_notify-in-Sequence-clause-ok
+returns-in_ok-on_notify-in-Sequence-clause-ok c = λ flow k past r out untold.
+    let P : Table → Type 0 = λ s. IsNodeTable flow s k past in
+    let co : c.from_coords-in-Sequence.result.0 ∷ [] ≡ c.args.at.now = c.from_coords-in-Sequence.ensures in
+    let new = c.on_notify-in-Sequence.new.self in
+    let sent = c.in_ok-on_notify-in-Sequence.field-0 in
+    let Q : (StampList → Bool) → Type 0 = λ g. IsSequence g new past.came (past.numbered + length sent.recs) in
+    let e : (λ (s : StampList). same s (c.from_coords-in-Sequence.result.0 ∷ []) || is_taken past s) ≡ (λ s. past.settled s || (same s c.args.at.now || past.told s)) =
+    λ i s. (ap (λ u. same s u || is_taken past s) co ∙ told_more (same s c.args.at.now) (past.settled s) (past.told s)) i in
+    of_sequence flow past (λ x. IsNodeTable flow (table.Sequence new) x (with_notice c.args.at.now past)) c.in-Sequence.table k (subst P c.in-Sequence.is r)
+    (λ h.
+    let gone = (ap (is_taken past) co ∙ neither (past.settled c.args.at.now) (past.told c.args.at.now) out untold) in
+    let rs : List Rec = sorted_recs (recs_at c.args.at.now past.came) in
+    let same_list : at_numbers sent.first sent.recs ≡ numbered_recs past.numbered rs =
+    c.in_ok-on_notify-in-Sequence.ensures.sent (is_taken past) past.came past.numbered gone h
+    ∙ ap (λ (t : StampList). numbered_recs past.numbered (sorted_recs (recs_at t past.came))) co in
+    let count : length sent.recs ≡ length (numbered_recs past.numbered rs) = sym (at_numbers-length sent.first sent.recs) ∙ ap length same_list in
+    let R : ℕ → Type 0 = λ n. IsSequence (λ s. past.settled s || (same s c.args.at.now || past.told s)) new past.came n in
+    let sum : past.numbered + length sent.recs ≡ length (numbered_recs past.numbered rs) + past.numbered = omega arith in
+    subst R sum (subst Q e (c.in_ok-on_notify-in-Sequence.ensures.ok (is_taken past) past.came past.numbered gone h)))
+
+pub returns-in_ok-on_notify-in-Sequence-clause-sent : goal.returns-in_ok-on_notify-in-Sequence-clause-sent
+returns-in_ok-on_notify-in-Sequence-clause-sent c = λ flow k past r out untold sum.
+    let P : Table → Type 0 = λ s. IsNodeTable flow s k past in
+    let co : c.from_coords-in-Sequence.result.0 ∷ [] ≡ c.args.at.now = c.from_coords-in-Sequence.ensures in
+    let sent = c.in_ok-on_notify-in-Sequence.field-0 in
+    of_sequence flow past (λ x. at_numbers sent.first sent.recs ≡ notice_list x past c.args.at.now) c.in-Sequence.table k (subst P c.in-Sequence.is r)
+    (λ h. c.in_ok-on_notify-in-Sequence.ensures.sent (is_taken past) past.came past.numbered (ap (is_taken past) co ∙ neither (past.settled c.args.at.now) (past.told c.args.at.now) out untold) h
+    ∙ ap (λ (t : StampList). numbered_recs past.numbered (sorted_recs (recs_at t past.came))) co)

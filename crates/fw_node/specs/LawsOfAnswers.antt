@@ -1,0 +1,48 @@
+-- Laws of answers: what a node answers from what came is what the node function gives for its events.
+use Rattle.std.specs.Prelude.{◌≡◌, ℕ, Bool, true, false, List, filter}
+use Rattle.fw_time.specs.Stamp.{Stamp}
+use Rattle.fw_bag.specs.Arrivals.{Arrival, arrivals_inside}
+use Rattle.fw_flow.specs.declared.event.Event.{Event}
+use Rattle.fw_flow.specs.declared.event.Event.TheVariants.{Deliver, Notify}
+use Rattle.fw_flow.specs.declared.event.Message.{Message}
+use Rattle.fw_flow.specs.declared.kind.Kind.{Kind}
+use Rattle.fw_flow.specs.declared.kind.Kind.TheVariants.{Total, Ledger}
+use Rattle.fw_flow.specs.Dataflow.{System, kind_of, in_edges, send_stamp, is_sequence_kind}
+use Rattle.fw_flow.specs.NodeFunction.{event_stamp, sends}
+use Rattle.fw_model.specs.Filtering.{events_inside}
+use Rattle.fw_node.specs.Answers.{recs_for, recs_at_notice, without_causes}
+use Rattle.fw_table.specs.Sent.{sent_at}
+use Rattle.fw_node.specs.Arrived.{place_in, arrived, IsOneOf, AreOnEdges}
+
+-- what a delivery makes a node send that is no sequence, from what came to it
+abbrev pub DeliveriesAnswer : Type 0
+DeliveriesAnswer = (sys : System) (p : ℕ) (before : List Event) (e : ℕ) (m : Message) → is_sequence_kind (kind_of sys.flow p) ≡ false
+    → IsOneOf (in_edges sys.flow p) e → AreOnEdges (in_edges sys.flow p) before
+    → without_causes (sends sys p before (Deliver e m)) ≡ sent_at (send_stamp sys.flow p m.at)
+    (recs_for (kind_of sys.flow p) (arrived (in_edges sys.flow p) before) (record { side = place_in (in_edges sys.flow p) e; at = m.at; rec = m.rec }))
+
+-- what a notification makes a node send that is no sequence, from what came to it
+abbrev pub NotificationsAnswer : Type 0
+NotificationsAnswer = (sys : System) (p : ℕ) (before : List Event) (t : Stamp) → is_sequence_kind (kind_of sys.flow p) ≡ false
+    → without_causes (sends sys p before (Notify p t))
+    ≡ sent_at (send_stamp sys.flow p t) (recs_at_notice (kind_of sys.flow p) (arrived (in_edges sys.flow p) before) t)
+
+-- what a node of the kind sends at a stamp depends on what came at that stamp alone
+abbrev pub IsPerTime : Kind → Type 0
+IsPerTime Total = ⊥
+IsPerTime Ledger = ⊥
+IsPerTime kind = Unit {0}
+
+-- a node of such a kind answers a delivery at a stamp that is kept from the kept arrivals as from all
+abbrev pub DeliveriesNeedTheirTime : Type 0
+DeliveriesNeedTheirTime = (k : Kind) → IsPerTime k → (keep : Stamp → Bool) (came : List Arrival) (a : Arrival) → keep a.at ≡ true
+    → recs_for k (arrivals_inside keep came) a ≡ recs_for k came a
+
+-- and a notification
+abbrev pub NotificationsNeedTheirTime : Type 0
+NotificationsNeedTheirTime = (k : Kind) → IsPerTime k → (keep : Stamp → Bool) (came : List Arrival) (t : Stamp) → keep t ≡ true
+    → recs_at_notice k (arrivals_inside keep came) t ≡ recs_at_notice k came t
+
+-- what came to the events inside is what came inside
+abbrev pub EventsInsideArrive : Type 0
+EventsInsideArrive = (ins : List ℕ) (f : Stamp → Bool) (vs : List Event) → arrived ins (events_inside f vs) ≡ arrivals_inside f (arrived ins vs)

@@ -1,0 +1,11 @@
+pub mod Answers
+pub mod Arrived
+pub mod Kinds
+pub mod LawsOfAnswers
+pub mod LoopTable
+pub mod NodeTable
+pub mod Past
+pub mod Sends
+pub mod StateOf
+pub mod TableOf
+pub mod TimedTable

@@ -1,0 +1,21 @@
+-- The state as which a node is recorded.
+use Rattle.std.specs.Prelude.{◌≡◌, true, List, length}
+use Rattle.fw_bag.specs.declared.rec.Rec.{Rec}
+use Rattle.fw_frontier.specs.declared.state.Entries.{Entries}
+use Rattle.fw_frontier.specs.declared.state.Entries.TheVariants.{Totals}
+use Rattle.fw_frontier.specs.declared.state.State.{State}
+use Rattle.fw_flow.specs.declared.event.Event.{Event}
+use Rattle.fw_flow.specs.declared.kind.Kind.{Kind}
+use Rattle.fw_flow.specs.declared.kind.Kind.TheVariants as kind
+use Rattle.fw_flow.specs.NodeFunction.{delivered_recs, sequence_sent}
+use Rattle.fw_node.specs.Past.{totals_kept}
+
+-- the totals that a state holds
+abbrev pub totals_in : Entries → List Rec
+totals_in (Totals recs) = recs
+
+-- The state is that of a node of the kind whose events were these: it holds the totals by key of all recs that came, and of a
+-- sequence how many messages it sent.
+pub record IsStateOf (k : Kind) (before : List Event) (state : State) : Type 0 where
+  pub totals : totals_in state.entries ≡ totals_kept k (delivered_recs (λ d s. true) before)
+  pub sent : k ≡ kind.Sequence → state.sent ≡ length (sequence_sent before)

@@ -1,0 +1,227 @@
+//! The calls of a node.
+ghost use Rattle.std.specs.Prelude.{◌≡◌, ℕ, List, Bool, [], ◌∷◌, true, false, IfOk, OnOk, OnErr, IsTrue, IsErr, slice_index_or};
+ghost use Rattle.std.specs.List.{AllByRecursion};
+ghost use Rattle.fw_time.specs.Stamp.{in_domain};
+ghost use Rattle.fw_flow.specs.declared.event.Event.{Event};
+ghost use Rattle.fw_flow.specs.declared.event.Event.TheVariants.{Deliver, Inject, Notify};
+ghost use Rattle.fw_flow.specs.declared.event.Message.{Message};
+ghost use Rattle.fw_flow.specs.declared.kind.Kind.TheVariants as kind;
+ghost use Rattle.fw_flow.specs.Dataflow.{Dataflow, System, batches_of, bounds_of, kind_of, in_edges, is_input_kind, is_notified_kind, node_frontier};
+ghost use Rattle.fw_flow.specs.NodeFunction.{delivered_recs, sends};
+ghost use Rattle.fw_model.specs.Told.{is_told, AreToldInside, EachDelivery, IsSumOfTold};
+ghost use Rattle.fw_table.specs.Arrived.{IsWithin};
+ghost use Rattle.fw_node.specs.Answers.{without_causes};
+ghost use Rattle.fw_node.specs.Arrived.{place_in, AreOnEdges, IsOneOf};
+ghost use Rattle.fw_node.specs.Past.{totals_kept};
+ghost use Rattle.fw_node.specs.Sends.{sends_list, notice_sends};
+ghost use Rattle.fw_node.specs.StateOf.{IsStateOf};
+ghost use Rattle.fw_node.specs.TableOf.{IsTableOf};
+
+use crate::{Node, Sends, Table};
+use fw_bag::{Rec, Recs};
+use fw_flow::{EdgeId, Flow, NodeId};
+use fw_frontier::{Front, State};
+use fw_table::{Sent, SentRecs};
+use fw_time::{Bounds, Stamp};
+use std::alloc::{AllocError, Global};
+
+// The place of an edge among others.
+fn side_of(sides: &[EdgeId], edge: EdgeId) -> usize
+    ensures { result ≡ place_in sides.now edge }
+{
+    let mut side = 0;
+    let mut rest = sides;
+    while let Some((first, later)) = rest.split_first() {
+        if *first == edge {
+            return side;
+        }
+        side += 1;
+        rest = later;
+    }
+    side
+}
+
+impl Node {
+    /// A node of a flow to which nothing came, whatever is settled.
+    ///
+    /// It fails where memory is refused.
+    pub fn new(alloc: Global, flow: &Flow, id: NodeId) -> Result<Self, AllocError>
+        ensures table { (settled : List ℕ → Bool) → IfOk result (λ node. IsTableOf flow.now id settled node []) }
+        ensures bounds { IfOk result (λ node. node.bounds ≡ bounds_of flow.now id) }
+    {
+        let _nodes = flow.nodes();
+        let sides = Vec::from_slice(alloc, flow.in_edges(id))?;
+        Ok(Node {
+            table: Table::new(alloc, flow, id),
+            sides,
+            bounds: flow.domain(id),
+            alloc,
+            refused: false,
+        })
+    }
+
+    /// A node of a flow that is restored from its state: all that came to it is settled.
+    ///
+    /// It fails where memory is refused.
+    pub fn from_state(
+        alloc: Global,
+        flow: &Flow,
+        id: NodeId,
+        state: &State,
+    ) -> Result<Self, AllocError>
+        ensures table { (settled : List ℕ → Bool) (before : List Event)
+            → EachDelivery (λ s. (settled s ≡ true) × (in_domain (bounds_of flow.now id) s ≡ true)) before
+            → AreOnEdges (in_edges flow.now id) before → IsStateOf (kind_of flow.now id) before state.now
+            → IfOk result (λ node. IsTableOf flow.now id settled node before) }
+        ensures bounds { IfOk result (λ node. node.bounds ≡ bounds_of flow.now id) }
+    {
+        let _nodes = flow.nodes();
+        let sides = Vec::from_slice(alloc, flow.in_edges(id))?;
+        let table = Table::from_state(alloc, flow, id, state)?;
+        Ok(Node {
+            table,
+            sides,
+            bounds: flow.domain(id),
+            alloc,
+            refused: false,
+        })
+    }
+
+    /// The bounds of its domain: the stamps that its calls take are of these bounds.
+    pub fn bounds(&self) -> &Bounds
+        ensures { result.now ≡ self.now.bounds }
+    {
+        &self.bounds
+    }
+
+    /// Takes in a rec that came on an in-edge at a stamp of the domain, and gives what it makes the node send.
+    ///
+    /// It fails where memory is refused, now or earlier.
+    #[tactic(auto, using(crate::proofs::NodeLaws::same_length))]
+    pub fn deliver(&mut self, edge: EdgeId, at: &Stamp, rec: Rec) -> Result<Sends, AllocError>
+        requires { in_domain self.old.bounds at.now ≡ true }
+        ensures ok { (flow : Dataflow) (p : ℕ) (settled : List ℕ → Bool) (before : List Event) (m : Message)
+            → m.at ≡ at.now → m.rec ≡ rec → IsOneOf (in_edges flow p) edge → settled at.now ≡ false
+            → (is_notified_kind (kind_of flow p) ≡ true → is_told before at.now ≡ false)
+            → IsTableOf flow p settled self.old before
+            → OnOk result (IsTableOf flow p settled self.new (Deliver edge m ∷ before)) }
+        ensures sent { (sys : System) (p : ℕ) (settled : List ℕ → Bool) (before : List Event) (m : Message)
+            → m.at ≡ at.now → m.rec ≡ rec → IsOneOf (in_edges sys.flow p) edge → settled at.now ≡ false
+            → IsTableOf sys.flow p settled self.old before
+            → IfOk result (λ sent. sends_list sent ≡ without_causes (sends sys p before (Deliver edge m))) }
+        ensures err { (flow : Dataflow) (p : ℕ) (settled : List ℕ → Bool) (before : List Event)
+            → IsTableOf flow p settled self.old before → OnErr result (IsTableOf flow p settled self.new before) }
+        ensures refused { OnErr result (self.new.refused ≡ true) }
+        ensures stays { IsTrue self.old.refused → IsErr result }
+        ensures bounds { self.new.bounds ≡ self.old.bounds }
+    {
+        if self.refused {
+            return Err(AllocError);
+        }
+        let side = side_of(&self.sides, edge);
+        match self.table.deliver(side, at, rec) {
+            Ok(sent) => Ok(Sends::Together(sent)),
+            Err(refusal) => {
+                self.refused = true;
+                Err(refusal)
+            }
+        }
+    }
+
+    /// Gives what a notification of a stamp of the domain makes the node send, in ascending order.
+    ///
+    /// It fails where memory is refused, now or earlier.
+    #[tactic(auto, using(crate::proofs::NodeLaws::same_length))]
+    pub fn notify(&mut self, at: &Stamp) -> Result<Sends, AllocError>
+        requires { in_domain self.old.bounds at.now ≡ true }
+        ensures ok { (flow : Dataflow) (p : ℕ) (settled : List ℕ → Bool) (before : List Event)
+            → settled at.now ≡ false → is_told before at.now ≡ false → IsTableOf flow p settled self.old before
+            → OnOk result (IsTableOf flow p settled self.new (Notify p at.now ∷ before)) }
+        ensures sent { (flow : Dataflow) (p : ℕ) (settled : List ℕ → Bool) (before : List Event)
+            → settled at.now ≡ false → is_told before at.now ≡ false
+            → (kind_of flow p ≡ kind.Total → IsSumOfTold settled before at.now) → IsTableOf flow p settled self.old before
+            → IfOk result (λ sent. sends_list sent ≡ notice_sends (kind_of flow p) before at.now) }
+        ensures err { (flow : Dataflow) (p : ℕ) (settled : List ℕ → Bool) (before : List Event)
+            → IsTableOf flow p settled self.old before → OnErr result (IsTableOf flow p settled self.new before) }
+        ensures refused { OnErr result (self.new.refused ≡ true) }
+        ensures stays { IsTrue self.old.refused → IsErr result }
+        ensures bounds { self.new.bounds ≡ self.old.bounds }
+    {
+        if self.refused {
+            return Err(AllocError);
+        }
+        let sent = self.table.notify(at);
+        self.refused = sent.is_err();
+        sent
+    }
+
+    /// Gives what an input sends when it injects its batch of an epoch.
+    ///
+    /// It fails where memory is refused, now or earlier.
+    pub fn inject(&mut self, epoch: u32, batch: &[Rec]) -> Result<Sends, AllocError>
+        ensures ok { (flow : Dataflow) (p : ℕ) (settled : List ℕ → Bool) (before : List Event)
+            → IsTableOf flow p settled self.old before
+            → OnOk result (IsTableOf flow p settled self.new (Inject p epoch ∷ before)) }
+        ensures sent { (sys : System) (p : ℕ) (before : List Event) → is_input_kind (kind_of sys.flow p) ≡ true
+            → slice_index_or (batches_of sys p) epoch [] ≡ batch.now
+            → IfOk result (λ sent. sends_list sent ≡ without_causes (sends sys p before (Inject p epoch))) }
+        ensures err { (flow : Dataflow) (p : ℕ) (settled : List ℕ → Bool) (before : List Event)
+            → IsTableOf flow p settled self.old before → OnErr result (IsTableOf flow p settled self.new before) }
+        ensures refused { OnErr result (self.new.refused ≡ true) }
+        ensures stays { IsTrue self.old.refused → IsErr result }
+        ensures bounds { self.new.bounds ≡ self.old.bounds }
+    {
+        if self.refused {
+            return Err(AllocError);
+        }
+        self.refused = true;
+        let recs = SentRecs::all(Vec::from_slice(self.alloc, batch)?);
+        self.refused = false;
+        Ok(Sends::Together(Sent {
+            at: Stamp::new(&[epoch]),
+            recs,
+        }))
+    }
+
+    /// Settles what came inside, which holds what was settled. The outside stamps are of the domain.
+    ///
+    /// It fails where memory is refused, now or earlier.
+    pub fn settle(&mut self, f: &Front) -> Result<(), AllocError>
+        requires { AllByRecursion (λ o. in_domain self.old.bounds o ≡ true) f.now }
+        ensures ok { (flow : Dataflow) (p : ℕ) (settled : List ℕ → Bool) (before : List Event)
+            → IsWithin settled (node_frontier flow p f.now)
+            → (is_notified_kind (kind_of flow p) ≡ true → AreToldInside (node_frontier flow p f.now) before)
+            → IsTableOf flow p settled self.old before
+            → OnOk result (IsTableOf flow p (node_frontier flow p f.now) self.new before) }
+        ensures err { (flow : Dataflow) (p : ℕ) (settled : List ℕ → Bool) (before : List Event)
+            → IsTableOf flow p settled self.old before → OnErr result (IsTableOf flow p settled self.new before) }
+        ensures refused { OnErr result (self.new.refused ≡ true) }
+        ensures stays { IsTrue self.old.refused → IsErr result }
+        ensures bounds { self.new.bounds ≡ self.old.bounds }
+    {
+        if self.refused {
+            return Err(AllocError);
+        }
+        let settled = self.table.settle(self.alloc, f, &self.bounds);
+        self.refused = settled.is_err();
+        settled
+    }
+
+    /// The totals that a total or a ledger keeps of what came inside, which holds what is settled, in ascending order of
+    /// the keys; none of any other kind. The outside stamps are of the domain.
+    ///
+    /// It fails where memory is refused, now or earlier.
+    pub fn totals_at(&self, f: &Front) -> Result<Recs, AllocError>
+        requires { AllByRecursion (λ o. in_domain self.now.bounds o ≡ true) f.now }
+        ensures totals { (flow : Dataflow) (p : ℕ) (settled : List ℕ → Bool) (before : List Event)
+            → IsWithin settled (node_frontier flow p f.now) → IsTableOf flow p settled self.now before
+            → IfOk result (λ totals. totals
+            ≡ totals_kept (kind_of flow p) (delivered_recs (λ d s. node_frontier flow p f.now s) before)) }
+        ensures stays { IsTrue self.now.refused → IsErr result }
+    {
+        if self.refused {
+            return Err(AllocError);
+        }
+        self.table.totals_at(self.alloc, f, &self.bounds)
+    }
+}

@@ -1,0 +1,32 @@
+//! The laws of answers: what a node answers from what came to it is what the node function gives for its events.
+ghost use Rattle.fw_node.specs.LawsOfAnswers.{DeliveriesAnswer, NotificationsAnswer, DeliveriesNeedTheirTime, NotificationsNeedTheirTime, EventsInsideArrive};
+
+/// What a delivery makes a node send that is no sequence follows from what came to it.
+#[tactic(auto, using(crate::proofs::EventLaws::deliveries_answer))]
+pub fn deliveries_answer()
+    ensures { DeliveriesAnswer }
+{}
+
+/// What a notification makes a node send that is no sequence follows from what came to it.
+#[tactic(auto, using(crate::proofs::EventLaws::notifications_answer))]
+pub fn notifications_answer()
+    ensures { NotificationsAnswer }
+{}
+
+/// What a delivery makes a node send needs what came at its stamp alone, but at a total and a ledger.
+#[tactic(auto, using(crate::proofs::ForgettingLaws::deliveries_need_their_time))]
+pub fn deliveries_need_their_time()
+    ensures { DeliveriesNeedTheirTime }
+{}
+
+/// What a notification makes a node send needs what came at its stamp alone, but at a total and a ledger.
+#[tactic(auto, using(crate::proofs::ForgettingLaws::notifications_need_their_time))]
+pub fn notifications_need_their_time()
+    ensures { NotificationsNeedTheirTime }
+{}
+
+/// What came to the events inside is what came inside.
+#[tactic(auto, using(crate::proofs::ForgettingLaws::events_inside_arrive))]
+pub fn events_inside_arrive()
+    ensures { EventsInsideArrive }
+{}

@@ -1,0 +1,22 @@
+//! A node: its table, its in-edges, and the bounds of its domain.
+ghost use Rattle.std.specs.Prelude.{◌≡◌, length};
+ghost use Rattle.fw_node.specs.NodeTable.{dimension_of};
+
+use crate::Table;
+use fw_flow::EdgeId;
+use fw_time::Bounds;
+use std::alloc::Global;
+
+/// A node of any kind, which stands for the list of its events.
+///
+/// A call that takes memory may be refused it: the node still stands for what came before, and each later call that takes
+/// memory is refused too.
+#[derive(Drop)]
+pub struct Node {
+    pub(crate) table: Table,
+    pub(crate) sides: Vec<EdgeId>,
+    pub(crate) bounds: Bounds,
+    pub(crate) alloc: Global,
+    pub(crate) refused: bool,
+    ghost fits: { dimension_of table ≡ length bounds.greatest },
+}

@@ -1,0 +1,46 @@
+//! What an event makes a node send.
+ghost use Rattle.std.specs.Prelude.{◌≡◌, length, slice_get};
+ghost use Rattle.fw_node.specs.Sends.{sends_list};
+
+use fw_bag::Rec;
+use fw_numbered::Numbered;
+use fw_table::Sent;
+use fw_time::Stamp;
+
+/// What an event makes a node send, on each of its out-edges: recs at stamps, in order.
+#[derive(Debug, Drop)]
+pub enum Sends {
+    /// Recs that are all at one stamp.
+    Together(Sent<Stamp>),
+    /// Recs of a sequence: one number after the other, from the first one on.
+    Numbered(Numbered),
+}
+
+impl Sends {
+    /// How many recs there are.
+    pub fn len(&self) -> usize
+        ensures { result ≡ length (sends_list self.now) }
+    {
+        match self {
+            Sends::Together(sent) => sent.recs.len(),
+            Sends::Numbered(sent) => sent.recs.len(),
+        }
+    }
+
+    /// A rec with its stamp, by its place, counted from 0; none past the last one. It takes no memory.
+    pub fn get(&self, place: usize) -> Option<(Stamp, Rec)>
+        ensures { result ≡ slice_get (sends_list self.now) place }
+    {
+        match self {
+            Sends::Together(sent) => {
+                let rec = sent.recs.as_slice().get(place)?;
+                Some((sent.at.copy(), *rec))
+            }
+            Sends::Numbered(sent) => {
+                let rec = sent.recs.as_slice().get(place)?;
+                let number = sent.first + place as u64;
+                Some((Stamp::new(&[number as u32]), *rec))
+            }
+        }
+    }
+}

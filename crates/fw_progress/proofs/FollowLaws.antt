@@ -1,0 +1,1 @@
+-- What stands for a history stands for it as it goes on.

@@ -1,0 +1,5 @@
+pub mod Counts
+pub mod Growths
+pub mod History
+pub mod Progress
+pub mod Tally

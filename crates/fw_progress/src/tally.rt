@@ -1,0 +1,135 @@
+//! How many there are of each stamp.
+ghost use Rattle.std.specs.Prelude.{◌≡◌, [], IfOk};
+ghost use Rattle.std.specs.Map.{keys_of};
+ghost use Rattle.fw_time.specs.declared.stamp.Bounds.{Bounds as Domain};
+ghost use Rattle.fw_frontier.specs.Front.{frontier_of, IsFrontOf};
+ghost use Rattle.fw_progress.specs.Tally.{times_in, IsTallyOf, HasOneMore, HasOneLess, HasNoMore};
+
+use fw_frontier::Front;
+use fw_time::Stamp;
+use std::alloc::{AllocError, Global};
+use std::collections::BTreeMap;
+use std::marker::Model;
+
+/// How many there are of each stamp. Contracts see the stamps, in order, each with its number.
+#[derive(Debug, Drop)]
+pub struct Tally {
+    counts: BTreeMap<Stamp, u64>,
+}
+
+impl Model for Tally {
+    ghost use Rattle.std.specs.Prelude.{ℕ, List};
+    ghost use Rattle.fw_time.specs.Stamp.{Stamp};
+
+    ghost Value = { List (Stamp × ℕ) };
+
+    ghost view = { λ tally. tally.counts.entries };
+}
+
+impl Tally {
+    /// None of any stamp, in memory from `alloc`.
+    pub fn new(alloc: Global) -> Self
+        ensures { result ≡ [] }
+    {
+        Tally {
+            counts: BTreeMap::new(alloc),
+        }
+    }
+
+    /// How many there are of a stamp.
+    pub fn times(&self, at: &Stamp) -> u64
+        ensures { result ≡ times_in at.now self.now }
+    {
+        times_of(&self.counts, at)
+    }
+
+    /// One more of a stamp. The error is want of memory, or that the number would not fit 64 bits.
+    pub fn add(&mut self, at: &Stamp) -> Result<(), AllocError>
+        ensures { IfOk result (λ u. HasOneMore at.now self.old self.new) }
+    {
+        add_one(&mut self.counts, at)
+    }
+
+    /// One less of a stamp, if there is one. It takes no memory.
+    pub fn take(&mut self, at: &Stamp)
+        ensures { HasOneLess at.now self.old self.new }
+    {
+        take_one(&mut self.counts, at);
+    }
+
+    /// None of a stamp from now on. It takes no memory.
+    pub fn clear(&mut self, at: &Stamp)
+        ensures { HasNoMore at.now self.old self.new }
+    {
+        clear_one(&mut self.counts, at);
+    }
+
+    /// Up to where there is none: the frontier that has these stamps outside. The error is want of memory.
+    pub fn until(&self, alloc: Global) -> Result<Front, AllocError>
+        ensures { (bounds : Domain) → IsTallyOf bounds self.now
+            → IfOk result (λ f. IsFrontOf bounds f (frontier_of bounds (keys_of self.now))) }
+    {
+        until(alloc, &self.counts)
+    }
+}
+
+// How many there are of a stamp.
+#[tactic(auto, unfolding(crate::specs::Tally::times_in))]
+fn times_of(counts: &BTreeMap<Stamp, u64>, at: &Stamp) -> u64
+    ensures { result ≡ times_in at.now counts.now.entries }
+{
+    match counts.get(at) {
+        Some(count) => *count,
+        None => 0,
+    }
+}
+
+// One more of a stamp.
+fn add_one(counts: &mut BTreeMap<Stamp, u64>, at: &Stamp) -> Result<(), AllocError>
+    ensures { IfOk result (λ u. HasOneMore at.now counts.old.entries counts.new.entries) }
+{
+    let more = times_of(counts, at).checked_add(1).ok_or(AllocError)?;
+    counts.insert(at.copy(), more)?;
+    Ok(())
+}
+
+// One less of a stamp, if there is one.
+fn take_one(counts: &mut BTreeMap<Stamp, u64>, at: &Stamp)
+    ensures { HasOneLess at.now counts.old.entries counts.new.entries }
+{
+    let Some(count) = counts.get_mut(at) else {
+        return;
+    };
+    if *count > 1 {
+        *count -= 1;
+    } else {
+        counts.remove(at);
+    }
+}
+
+// None of a stamp.
+fn clear_one(counts: &mut BTreeMap<Stamp, u64>, at: &Stamp)
+    ensures { HasNoMore at.now counts.old.entries counts.new.entries }
+{
+    counts.remove(at);
+}
+
+// Up to where there is none.
+fn until(alloc: Global, counts: &BTreeMap<Stamp, u64>) -> Result<Front, AllocError>
+    ensures { (bounds : Domain) → IsTallyOf bounds counts.now.entries
+        → IfOk result (λ f. IsFrontOf bounds f (frontier_of bounds (keys_of counts.now.entries))) }
+{
+    let stamps = stamps_of(alloc, counts)?;
+    Front::until(alloc, &stamps)
+}
+
+// The stamps, in order.
+fn stamps_of(alloc: Global, counts: &BTreeMap<Stamp, u64>) -> Result<Vec<Stamp>, AllocError>
+    ensures { IfOk result (λ stamps. stamps.items ≡ keys_of counts.now.entries) }
+{
+    let mut stamps = Vec::new(alloc);
+    for stamp in counts.keys() {
+        stamps.push(stamp.copy())?;
+    }
+    Ok(stamps)
+}

@@ -46,7 +46,7 @@ count-some t (m ∷ ms) z = by (same t m.at) z (count-some t ms)
 
 -- ---- what can come
 
-phi-is : (sys : System) (h : List Event) (counts : Counts) → IsWellFormed sys.flow → IsCountOf sys h counts → (e : ℕ) → e < length sys.flow.edges → (f : Frontier) (u : Stamp)
+pub phi-is : (sys : System) (h : List Event) (counts : Counts) → IsWellFormed sys.flow → IsCountOf sys h counts → (e : ℕ) → e < length sys.flow.edges → (f : Frontier) (u : Stamp)
     → phi_by_count sys.flow (table_count f (sent_of counts (sender sys.flow e))) e f u ≡ phi sys h e f u
 unfolding phi_by_count
 phi-is sys h counts w c e l f u = sym (phi-by_table sys h e f (sent_of counts (sender sys.flow e)) (c.sent (sender sys.flow e) (w.senders_declared e l)) u)

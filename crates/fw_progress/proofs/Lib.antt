@@ -6,3 +6,6 @@ pub mod EventLaws
 pub mod WorkLaws
 pub mod HistoryLaws
 pub mod FollowLaws
+pub mod ProgressLaws
+pub mod StartLaws
+pub mod NoticeLaws

@@ -11,7 +11,7 @@ use Rattle.fw_flow.specs.Dataflow.{Dataflow, System, kind_of, batches_of, HasEpo
 use Rattle.fw_flow.specs.NodeFunction.{event_node, sends}
 use Rattle.fw_flow.specs.Projection.{events_at, IsSentTable}
 use Rattle.fw_flow.specs.SentTable.{AreInOrder}
-use Rattle.fw_model.specs.History.{pending_messages, is_owed_notice, was_notified, injected_count, IsAdmissible, IsLegal}
+use Rattle.fw_model.specs.History.{pending_messages, is_owed_notice, was_notified, injected_count, IsAdmissible, IsComplete, IsLegal}
 use Rattle.fw_model.specs.LawsOfProgress.{IsStuck}
 use Rattle.fw_model.specs.Machine.{family_of}
 use Rattle.fw_progress.specs.declared.counts.Counts.{Counts}
@@ -55,3 +55,10 @@ abbrev pub Follows : Dataflow → Event → List Stamp → Standing → Standing
 Follows flow v sent old new =
     (sys : System) (h : List Event) → sys.flow ≡ flow → HasEpochs sys → IsLegal sys (v ∷ h) → stamps_sent sys h v ≡ sent
     → StandsFor sys h old → StandsFor sys (v ∷ h) new
+
+-- Nothing is counted or settled anew, and the kept frontiers are complete after each history for which progress stood.
+pub record IsFresh (flow : Dataflow) (old new : Standing) : Type 0 where
+  pub counts : new.counts ≡ old.counts
+  pub settled : new.settled ≡ old.settled
+  pub ready : new.refused ≡ false
+  pub complete : (sys : System) (h : List Event) → sys.flow ≡ flow → StandsFor sys h old → StandsFor sys h new × IsComplete sys h (family_of flow new.kept)

@@ -4,12 +4,13 @@ use Rattle.std.specs.List.{AllByRecursion}
 use Rattle.fw_time.specs.Stamp.{Stamp, same, in_domain}
 use Rattle.fw_frontier.specs.Front.{Front}
 use Rattle.fw_flow.specs.Counting.{how_many}
-use Rattle.fw_flow.specs.Dataflow.{Dataflow, sender, receiver, bounds_of}
+use Rattle.fw_flow.specs.declared.kind.Kind.TheVariants.{Sequence}
+use Rattle.fw_flow.specs.Dataflow.{Dataflow, kind_of, sender, receiver, bounds_of, is_notified_kind, is_sequence_kind}
 use Rattle.fw_flow.specs.SentTable.{AreInOrder}
 use Rattle.fw_model.specs.Machine.{AreCanonical}
 use Rattle.fw_progress.specs.declared.counts.Counts.{Counts}
 use Rattle.fw_progress.specs.Counts.{AreCounts, AreNodes}
-use Rattle.fw_progress.specs.Tally.{times_in, IsTallyOf}
+use Rattle.fw_progress.specs.Tally.{times_in, IsTallyOf, HasOneMore, HasOneLess, HasNoMore}
 
 -- The counts; for each node what is settled and its kept frontier; the nodes that wait to be widened; and whether memory was
 -- refused.
@@ -59,3 +60,34 @@ IsNext old new = old + 1 < 2 ^ 64 → new ≡ old + 1
 -- so many messages were sent in an epoch, if it comes after those of the table
 abbrev pub IsSentMore : ℕ → ℕ → List (ℕ × ℕ) → List (ℕ × ℕ) → Type 0
 IsSentMore epoch count old new = ((n : ℕ) → AreInOrder (old ++ (epoch, n) ∷ [])) → new ≡ old ++ (epoch, count) ∷ []
+
+-- A message at a stamp is delivered on an edge, and its receiver sends at these stamps: one less is pending there, the receiver is
+-- owed a notification if it waits for them, and what it sends is pending.
+pub record IsDelivered (flow : Dataflow) (e : ℕ) (at : Stamp) (sent : List Stamp) (old new : Counts) : Type 0 where
+  pub between : List (List (Stamp × ℕ))
+  pub taken : ChangesAt e [] (HasOneLess at) old.pending.items between
+  pub sends : AreSent flow (receiver flow e) sent between new.pending.items
+  pub owes : is_notified_kind (kind_of flow (receiver flow e)) ≡ true → ChangesAt (receiver flow e) [] (HasOneMore at) old.owed.items new.owed.items
+  pub owes_none : is_notified_kind (kind_of flow (receiver flow e)) ≡ false → new.owed.items ≡ old.owed.items
+  pub batches : new.batches.items ≡ old.batches.items
+  pub injected : new.injected.items ≡ old.injected.items
+  pub counted : new.sent.items ≡ old.sent.items
+
+-- A node is notified of a stamp, and sends at these stamps: it is owed no notification of it any more, what it sends is pending, and
+-- counts for a sequence.
+pub record IsNotified (flow : Dataflow) (p : ℕ) (at : Stamp) (sent : List Stamp) (old new : Counts) : Type 0 where
+  pub paid : ChangesAt p [] (HasNoMore at) old.owed.items new.owed.items
+  pub sends : AreSent flow p sent old.pending.items new.pending.items
+  pub batches : new.batches.items ≡ old.batches.items
+  pub injected : new.injected.items ≡ old.injected.items
+  pub tables : length new.sent.items ≡ length old.sent.items
+  pub counted : kind_of flow p ≡ Sequence → (x : ℕ) → at ≡ x ∷ [] → ChangesAt p [] (IsSentMore x (length sent)) old.sent.items new.sent.items
+  pub counted_none : is_sequence_kind (kind_of flow p) ≡ false → new.sent.items ≡ old.sent.items
+
+-- A node injects its next batch, and sends at these stamps.
+pub record IsInjected (flow : Dataflow) (p : ℕ) (sent : List Stamp) (old new : Counts) : Type 0 where
+  pub next : ChangesAt p 0 IsNext old.injected.items new.injected.items
+  pub sends : AreSent flow p sent old.pending.items new.pending.items
+  pub owed : new.owed.items ≡ old.owed.items
+  pub batches : new.batches.items ≡ old.batches.items
+  pub counted : new.sent.items ≡ old.sent.items

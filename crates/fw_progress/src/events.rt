@@ -1,9 +1,14 @@
 //! What an event changes in the counts.
-ghost use Rattle.std.specs.Prelude.{◌≡◌, ◌<◌, [], length, IfOk};
-ghost use Rattle.fw_progress.specs.Progress.{ChangesAt, AreSent, IsNext, IsSentMore};
+ghost use Rattle.std.specs.Prelude.{◌≡◌, ◌<◌, [], true, length, IfOk};
+ghost use Rattle.fw_time.specs.Stamp.{in_domain};
+ghost use Rattle.fw_flow.specs.Dataflow.{receiver, bounds_of};
+ghost use Rattle.fw_progress.specs.Counts.{AreCounts};
+ghost use Rattle.fw_progress.specs.Progress.{ChangesAt, AreSent, IsNext, IsSentMore, IsDelivered, IsNotified, IsInjected};
 ghost use Rattle.fw_progress.specs.Tally.{HasOneMore, HasOneLess, HasNoMore, HasEachMore};
 
+use crate::counts::Counts;
 use crate::tally::Tally;
+use fw_flow::laws::flow_is_well_formed;
 use fw_flow::{EdgeId, Flow, NodeId, SentTable};
 use fw_time::Stamp;
 use std::alloc::AllocError;
@@ -97,4 +102,59 @@ pub(crate) fn send(
         add_on_edge(pending, *edge, stamps)?;
     }
     Ok(())
+}
+
+/// A message at the stamp is delivered on an edge, and the receiver sends at these stamps. The error is want of memory.
+pub(crate) fn delivered(
+    flow: &Flow,
+    counts: &mut Counts,
+    edge: EdgeId,
+    at: &Stamp,
+    sent: &[Stamp],
+) -> Result<(), AllocError>
+    requires counts { AreCounts flow.now counts.old }
+    requires there { edge < length flow.now.edges }
+    ensures { IfOk result (λ u. IsDelivered flow.now edge at.now sent.now counts.old counts.new) }
+{
+    flow_is_well_formed(flow);
+    let node = flow.dst(edge);
+    take_pending(&mut counts.pending, edge, at);
+    if flow.kind(node).is_notified() {
+        owe(&mut counts.owed, node, at)?;
+    }
+    send(flow, &mut counts.pending, node, sent)
+}
+
+/// The node is notified of the stamp, and sends at these stamps. The error is want of memory.
+pub(crate) fn notified(
+    flow: &Flow,
+    counts: &mut Counts,
+    node: NodeId,
+    at: &Stamp,
+    sent: &[Stamp],
+) -> Result<(), AllocError>
+    requires counts { AreCounts flow.now counts.old }
+    requires there { node < length flow.now.nodes }
+    ensures { IfOk result (λ u. IsNotified flow.now node at.now sent.now counts.old counts.new) }
+{
+    pay(&mut counts.owed, node, at);
+    if flow.kind(node).is_sequence() && at.len() > 0 {
+        count_sent(&mut counts.sent, node, at.at(0), sent.len() as u64)?;
+    }
+    send(flow, &mut counts.pending, node, sent)
+}
+
+/// The node injects its next batch, and sends at these stamps. The error is want of memory.
+pub(crate) fn injected(
+    flow: &Flow,
+    counts: &mut Counts,
+    node: NodeId,
+    sent: &[Stamp],
+) -> Result<(), AllocError>
+    requires counts { AreCounts flow.now counts.old }
+    requires there { node < length flow.now.nodes }
+    ensures { IfOk result (λ u. IsInjected flow.now node sent.now counts.old counts.new) }
+{
+    inject(&mut counts.injected, node);
+    send(flow, &mut counts.pending, node, sent)
 }

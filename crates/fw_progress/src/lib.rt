@@ -9,11 +9,15 @@ mod counts;
 mod events;
 mod grow;
 mod growth;
+mod notices;
+mod progress;
 mod refresh;
+mod start;
 mod tally;
 mod target;
 mod worklist;
 
 pub use counts::Counts;
 pub use growth::{Growth, Growths};
+pub use progress::Progress;
 pub use tally::Tally;

@@ -1,6 +1,8 @@
 //! How many there are of each stamp.
 ghost use Rattle.std.specs.Prelude.{◌≡◌, [], IfOk};
+ghost use Rattle.std.specs.List.{list_any};
 ghost use Rattle.std.specs.Map.{keys_of};
+ghost use Rattle.fw_time.specs.Stamp.{lesser};
 ghost use Rattle.fw_time.specs.declared.stamp.Bounds.{Bounds as Domain};
 ghost use Rattle.fw_frontier.specs.Front.{frontier_of, IsFrontOf};
 ghost use Rattle.fw_progress.specs.Tally.{times_in, IsTallyOf, HasOneMore, HasOneLess, HasNoMore};
@@ -43,6 +45,13 @@ impl Tally {
         times_of(&self.counts, at)
     }
 
+    /// Whether there is one of a lesser stamp.
+    pub fn has_lesser(&self, at: &Stamp) -> bool
+        ensures { result ≡ list_any (λ s. lesser s at.now) (keys_of self.now) }
+    {
+        has_lesser(&self.counts, at)
+    }
+
     /// One more of a stamp. The error is want of memory, or that the number would not fit 64 bits.
     pub fn add(&mut self, at: &Stamp) -> Result<(), AllocError>
         ensures { IfOk result (λ u. HasOneMore at.now self.old self.new) }
@@ -82,6 +91,13 @@ fn times_of(counts: &BTreeMap<Stamp, u64>, at: &Stamp) -> u64
         Some(count) => *count,
         None => 0,
     }
+}
+
+// Whether there is one of a lesser stamp.
+fn has_lesser(counts: &BTreeMap<Stamp, u64>, at: &Stamp) -> bool
+    ensures { result ≡ list_any (λ s. lesser s at.now) (keys_of counts.now.entries) }
+{
+    counts.keys().any(|stamp| stamp.leq(at) && !at.leq(stamp))
 }
 
 // One more of a stamp.

@@ -44,7 +44,7 @@ fn clear(alloc: Global, flow: &Flow, counts: &Counts, node: NodeId) -> Result<Fr
 
 /// Up to where nothing is pending on an edge, and all came that can come by the frontier of its sender. The error is want
 /// of memory.
-fn come(
+pub(crate) fn come(
     alloc: Global,
     flow: &Flow,
     counts: &Counts,

@@ -1,24 +1,27 @@
 -- Tallies: what one more and one less of a stamp leave, and up to where there is none.
-use Rattle.std.proofs.Common.{◌≡◌, ℕ, ◌+◌, ◌-◌, ◌<◌, ◌≤◌, Bool, true, false, not, ◌&&◌, nat_lt, cond, List, [], ◌∷◌, ◌++◌, length, get_or, take, Option, Some, None, unwrap_or, refl, sym, ap, subst, ◌∙◌, inl, inr, arith}
+use Rattle.std.proofs.Common.{◌≡◌, ℕ, ◌+◌, ◌-◌, ◌<◌, ◌≤◌, Bool, true, false, not, ◌&&◌, nat_le, nat_lt, cond, drop, List, [], ◌∷◌, ◌++◌, length, get_or, take, Option, Some, None, unwrap_or, refl, sym, ap, subst, ◌∙◌, inl, inr, arith}
 use Rattle.std.specs.Prelude.{IsSome}
 use Rattle.std.specs.List.{AllByRecursion}
 use Rattle.std.specs.Map.{keys_of, lookup, set_value, remove_entry}
 use Rattle.std.specs.BTreeMap.{insert_entry, is_at}
 use Rattle.std.specs.declared.cmp.Ordering.{Ordering}
 use Rattle.std.specs.declared.cmp.Ordering.TheVariants.{Less, Equal, Greater}
-use Rattle.std.specs.Ordering.{is_eq, match_ordering}
+use Rattle.std.specs.Ordering.{is_eq, is_lt, match_ordering, nat_cmp, ordering_then}
+use Rattle.std.specs.Cmp.Lexicographic.{slice_cmp}
+use Rattle.std.specs.List.Sorted.{IsStrictlySortedBy}
+use Rattle.std.proofs.Math.Bool.{and_assoc}
 use Rattle.std.proofs.lemmas.Bool.{and_parts, and_from, cases_Bool, false_from_ne_true, both_ways, not-true}
 use Rattle.std.proofs.lemmas.Bool.Decides.{nat_tests}
 use Rattle.std.proofs.lemmas.Cmp.{nat_list_cmp_total, tied_itself}
 use Rattle.std.proofs.lemmas.List.{take_more}
 use Rattle.fw_time.specs.Stamp.{Stamp, leq, same, in_domain, stamp_cmp}
 use Rattle.fw_time.specs.declared.stamp.Bounds.{Bounds}
-use Rattle.fw_time.proofs.EachLaws.{each-prefix, each-suffix}
-use Rattle.fw_time.proofs.StampLaws.{leq-trans, same-is, same-refl}
-use Rattle.fw_frontier.specs.Front.{inside}
+use Rattle.fw_time.proofs.EachLaws.{each-append, each-both, each-prefix, each-suffix, each-weaker}
+use Rattle.fw_time.proofs.StampLaws.{leq-length, leq-trans, same-is, same-refl}
+use Rattle.fw_frontier.specs.Front.{Front, inside, frontier_of, IsFrontOf}
 use Rattle.fw_flow.specs.Counting.{how_many}
 use Rattle.fw_model.proofs.CmpLaws.{stamp_cmp-equal}
-use Rattle.fw_progress.specs.Tally.{times_in, has_one, IsPositive, IsTallyOf, HasOneMore, HasOneLess, HasNoMore, HasEachMore}
+use Rattle.fw_progress.specs.Tally.{times_in, has_one, IsPositive, IsTallyOf, HasOneMore, HasOneLess, HasNoMore, HasEachMore, AreLowest}
 
 abbrev Entries : Type 0
 Entries = List (Stamp × ℕ)
@@ -240,3 +243,77 @@ has_one-none t entries k = by (times_in t entries) k
 
 pub none-has_one : (t : Stamp) (entries : Entries) → times_in t entries ≡ 0 → has_one t entries ≡ false
 none-has_one t entries z = ap (nat_lt 0) z
+
+-- ---- the lowest stamps
+
+zeros-leq : (zs ys : Stamp) → length zs ≡ length ys → AllByRecursion (λ n. n ≡ 0) zs → leq zs ys ≡ true
+zeros-leq [] [] e a = refl
+zeros-leq [] (y ∷ ys) e a = absurd (omega arith)
+zeros-leq (z ∷ zs) [] e a = absurd (omega arith)
+zeros-leq (z ∷ zs) (y ∷ ys) e a = and_from (nat_le z y) (leq zs ys) (zero-le z y a.0) (zeros-leq zs ys (omega arith) a.1)
+  where
+    zero-le : (m n : ℕ) → m ≡ 0 → nat_le m n ≡ true
+    zero-le m n k = grind (arith, nat_tests)
+
+-- a stamp that begins an epoch is at most each one of as many coordinates that comes after it in order
+begins-leq : (s t : Stamp) → length s ≡ length t → AllByRecursion (λ n. n ≡ 0) (drop 1 s) → stamp_cmp s t ≡ Less → leq s t ≡ true
+begins-leq [] [] e a o = refl
+begins-leq [] (y ∷ ys) e a o = absurd (omega arith)
+begins-leq (x ∷ xs) [] e a o = absurd (omega arith)
+begins-leq (x ∷ xs) (y ∷ ys) e a o = and_from (nat_le x y) (leq xs ys) (first x y (slice_cmp nat_cmp xs ys) (ap is_lt o)) (zeros-leq xs ys (omega arith) a)
+  where
+    first : (m n : ℕ) (p : Ordering) → is_lt (ordering_then (nat_cmp m n) p) ≡ true → nat_le m n ≡ true
+    first m n p k = grind (arith, nat_tests)
+
+inside-append : (xs ys : List Stamp) (t : Stamp) → inside (xs ++ ys) t ≡ (inside xs t && inside ys t)
+inside-append [] ys t = refl
+inside-append (x ∷ xs) ys t = ap (λ b. not (leq x t) && b) (inside-append xs ys t) ∙ sym (and_assoc (not (leq x t)) (inside xs t) (inside ys t))
+
+-- what comes after a stamp in order
+sorted-after : (xs : List Stamp) (s : Stamp) (ys : List Stamp) → IsStrictlySortedBy stamp_cmp (xs ++ s ∷ ys) → AllByRecursion (λ y. stamp_cmp s y ≡ Less) ys
+unfolding IsStrictlySortedBy
+sorted-after [] s ys o = o.0
+sorted-after (x ∷ xs) s ys o = sorted-after xs s ys o.1
+
+above-outside : (s t : Stamp) (ys : List Stamp) → leq s t ≡ false → AllByRecursion (λ y. leq s y ≡ true) ys → inside ys t ≡ true
+above-outside s t [] k a = refl
+above-outside s t (y ∷ ys) k a =
+    and_from (not (leq y t)) (inside ys t) (ap not (false_from_ne_true (leq y t) (λ l. both_ways (leq s t) k (leq-trans s y t a.0 l)))) (above-outside s t ys k a.1)
+
+-- all of them are their own lowest
+pub lowest-all : (stamps all : List Stamp) → stamps ≡ all → AreLowest stamps all
+lowest-all stamps all e = record {
+  among = λ b a. subst (AllByRecursion (λ s. in_domain b s ≡ true)) (sym e) a;
+  same = λ b a t. ap (λ os. frontier_of b os t) e;
+}
+
+-- those up to one that begins an epoch are the lowest
+pub lowest-begun : (xs : List Stamp) (s : Stamp) (ys all : List Stamp) → all ≡ xs ++ s ∷ ys → IsStrictlySortedBy stamp_cmp all → AllByRecursion (λ n. n ≡ 0) (drop 1 s) → AreLowest (xs ++ s ∷ []) all
+lowest-begun xs s ys all e o z = record {
+  among = λ b a. (parts b a).0;
+  same = λ b a t.
+      let rest : AllByRecursion (λ y. leq s y ≡ true) ys =
+      each-weaker (λ y. (stamp_cmp s y ≡ Less) × (in_domain b y ≡ true)) (λ y. leq s y ≡ true) ys
+      (λ y k. begins-leq s y (leq-length s b.greatest (here b a) ∙ sym (leq-length y b.greatest k.1)) z k.0)
+      (each-both (λ y. stamp_cmp s y ≡ Less) (λ y. in_domain b y ≡ true) ys (sorted-after xs s ys (subst (IsStrictlySortedBy stamp_cmp) e o)) (parts b a).1) in
+      ap (λ c. in_domain b t && c) (by t rest (inside xs t) (leq s t) refl ∙ sym (ap (λ os. inside os t) e ∙ inside-append xs (s ∷ ys) t));
+}
+  where
+    parts : (b : Bounds) → AllByRecursion (λ u. in_domain b u ≡ true) all → AllByRecursion (λ u. in_domain b u ≡ true) (xs ++ s ∷ []) × AllByRecursion (λ u. in_domain b u ≡ true) ys
+    parts b a =
+        let P : Stamp → Type 0 = λ u. in_domain b u ≡ true in
+        let whole = subst (AllByRecursion P) e a in
+        let last = each-suffix P xs (s ∷ ys) whole in
+        (each-append P xs (s ∷ []) (each-prefix P xs (s ∷ ys) whole) (last.0, tt), last.1)
+
+    here : (b : Bounds) → AllByRecursion (λ u. in_domain b u ≡ true) all → in_domain b s ≡ true
+    here b a = (each-suffix (λ u. in_domain b u ≡ true) xs (s ∷ ys) (subst (AllByRecursion (λ u. in_domain b u ≡ true)) e a)).0
+
+    by : (t : Stamp) → AllByRecursion (λ y. leq s y ≡ true) ys → (i l : Bool) → leq s t ≡ l → inside (xs ++ s ∷ []) t ≡ (inside xs t && (not (leq s t) && inside ys t))
+    by t rest i true k = inside-append xs (s ∷ []) t ∙ ap (λ c. inside xs t && (not c && true)) k ∙ sym (ap (λ c. inside xs t && (not c && inside ys t)) k)
+    by t rest i false k = inside-append xs (s ∷ []) t ∙ sym (ap (λ c. inside xs t && (not (leq s t) && c)) (above-outside s t ys k rest))
+
+-- a front of the lowest stamps is one of all
+pub until-lowest : (b : Bounds) (stamps all : List Stamp) (f : Front) → AreLowest stamps all → AllByRecursion (λ s. in_domain b s ≡ true) all → IsFrontOf b f (frontier_of b stamps)
+    → IsFrontOf b f (frontier_of b all)
+until-lowest b stamps all f l a n = record { canonical = n.canonical; same = λ t. n.same t ∙ l.same b a t }

@@ -5,6 +5,7 @@ use Rattle.std.specs.Map.{keys_of, lookup}
 use Rattle.std.specs.BTreeMap.{is_at}
 use Rattle.fw_time.specs.Stamp.{Stamp, same, in_domain, stamp_cmp}
 use Rattle.fw_time.specs.declared.stamp.Bounds.{Bounds}
+use Rattle.fw_frontier.specs.Front.{frontier_of}
 use Rattle.fw_flow.specs.Counting.{how_many}
 
 -- how many there are of a stamp
@@ -44,3 +45,8 @@ pub record HasNoMore (at : Stamp) (old new : List (Stamp × ℕ)) : Type 0 where
 pub record HasEachMore (stamps : List Stamp) (old new : List (Stamp × ℕ)) : Type 0 where
   pub times : (t : Stamp) → times_in t new ≡ times_in t old + how_many (same t) stamps
   pub domain : (bounds : Bounds) → IsTallyOf bounds old → AllByRecursion (λ s. in_domain bounds s ≡ true) stamps → IsTallyOf bounds new
+
+-- The stamps are among these, and where one of these is at or below a stamp, so is one of them.
+pub record AreLowest (stamps all : List Stamp) : Type 0 where
+  pub among : (bounds : Bounds) → AllByRecursion (λ s. in_domain bounds s ≡ true) all → AllByRecursion (λ s. in_domain bounds s ≡ true) stamps
+  pub same : (bounds : Bounds) → AllByRecursion (λ s. in_domain bounds s ≡ true) all → (t : Stamp) → frontier_of bounds stamps t ≡ frontier_of bounds all t

@@ -1,11 +1,11 @@
 //! How many there are of each stamp.
-ghost use Rattle.std.specs.Prelude.{◌≡◌, [], IfOk};
-ghost use Rattle.std.specs.List.{list_any};
+ghost use Rattle.std.specs.Prelude.{◌≡◌, [], drop, IsTrue, IfOk};
+ghost use Rattle.std.specs.List.{AllByRecursion, list_any};
 ghost use Rattle.std.specs.Map.{keys_of};
 ghost use Rattle.fw_time.specs.Stamp.{lesser};
 ghost use Rattle.fw_time.specs.declared.stamp.Bounds.{Bounds as Domain};
 ghost use Rattle.fw_frontier.specs.Front.{frontier_of, IsFrontOf};
-ghost use Rattle.fw_progress.specs.Tally.{times_in, IsTallyOf, HasOneMore, HasOneLess, HasNoMore};
+ghost use Rattle.fw_progress.specs.Tally.{times_in, IsTallyOf, HasOneMore, HasOneLess, HasNoMore, AreLowest};
 
 use fw_frontier::Front;
 use fw_time::Stamp;
@@ -135,17 +135,32 @@ fn until(alloc: Global, counts: &BTreeMap<Stamp, u64>) -> Result<Front, AllocErr
     ensures { (bounds : Domain) → IsTallyOf bounds counts.now.entries
         → IfOk result (λ f. IsFrontOf bounds f (frontier_of bounds (keys_of counts.now.entries))) }
 {
-    let stamps = stamps_of(alloc, counts)?;
+    let stamps = lowest(alloc, counts)?;
     Front::until(alloc, &stamps)
 }
 
-// The stamps, in order.
-fn stamps_of(alloc: Global, counts: &BTreeMap<Stamp, u64>) -> Result<Vec<Stamp>, AllocError>
-    ensures { IfOk result (λ stamps. stamps.items ≡ keys_of counts.now.entries) }
+// The stamps in order, up to the first one whose coordinates but the first are all 0: each later one is at or above it.
+fn lowest(alloc: Global, counts: &BTreeMap<Stamp, u64>) -> Result<Vec<Stamp>, AllocError>
+    ensures { IfOk result (λ stamps. AreLowest stamps.items (keys_of counts.now.entries)) }
 {
     let mut stamps = Vec::new(alloc);
     for stamp in counts.keys() {
         stamps.push(stamp.copy())?;
+        if begins_epoch(stamp) {
+            return Ok(stamps);
+        }
     }
     Ok(stamps)
+}
+
+// Whether all coordinates of a stamp but the first are 0.
+fn begins_epoch(stamp: &Stamp) -> bool
+    ensures { IsTrue result → AllByRecursion (λ n. n ≡ 0) (drop 1 stamp.now) }
+{
+    for place in 1..stamp.len() {
+        if stamp.at(place) > 0 {
+            return false;
+        }
+    }
+    true
 }

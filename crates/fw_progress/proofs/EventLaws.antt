@@ -1,0 +1,157 @@
+-- What an event changes in the counts.
+use Rattle.std.proofs.Common.{◌↔◌, ◌≡◌, ℕ, zero, suc, ◌+◌, ◌*◌, ◌<◌, Bool, true, false, ◌||◌, ◌==◌, cond, List, [], ◌∷◌, ◌++◌, length, get_or, set, take, refl, sym, ap, subst, ◌∙◌, inl, inr, arith}
+use Rattle.std.specs.List.{AllByRecursion}
+use Rattle.std.proofs.lemmas.Bool.{cases_eq, eq-eqb, eqb-true, false_from_ne_true, both_ways, or_right}
+use Rattle.std.proofs.lemmas.List.{get_or-set_same, get_or-set_other, length-set, take_more}
+use Rattle.fw_time.specs.Stamp.{Stamp, same, in_domain}
+use Rattle.fw_time.specs.declared.stamp.Bounds.{Bounds}
+use Rattle.fw_flow.specs.Counting.{how_many}
+use Rattle.fw_flow.specs.declared.node.Edge.{Edge}
+use Rattle.fw_flow.specs.Dataflow.{Dataflow, sender, receiver, bounds_of, edges_from, out_edges}
+use Rattle.fw_flow.specs.SentTable.{AreInOrder}
+use Rattle.fw_time.proofs.EachLaws.{each-at}
+use Rattle.fw_flow.proofs.OutEdgeLaws.{out_edges-from}
+use Rattle.fw_progress.specs.Counts.{is_in}
+use Rattle.fw_progress.specs.Progress.{ChangesAt, AreSent, IsSentMore}
+use Rattle.fw_progress.specs.Tally.{times_in, IsTallyOf, HasEachMore}
+use Rattle.fw_progress.proofs.TargetLaws.{read_at}
+
+-- one place changed
+pub changed_at : {A : Type 0} (d : A) (R : A → A → Type 0) (old : List A) (p i : ℕ) (x y : A) → i ≡ p → i < length old → y ≡ get_or old i y → R y x → ChangesAt p d R old (set old i x)
+changed_at d R old p i x y e l is r = record {
+  one_each = length-set old i x;
+  here = subst (λ b. R (get_or old p d) b) (sym (ap (λ n. get_or (set old n x) p d) e ∙ get_or-set_same old p x d (subst (λ n. n < length old) e l)))
+      (subst (λ a. R a x) (read_at old p i y d e l is) r);
+  others = λ k n. get_or-set_other old i k x d (λ j. n (j ∙ e));
+}
+
+-- a table that does not take an epoch stays
+pub sent_kept : (old : List (List (ℕ × ℕ))) (p i : ℕ) (y : List (ℕ × ℕ)) (epoch count : ℕ) (b : Bool) → i ≡ p → i < length old → y ≡ get_or old i y
+    → (b ≡ true) ↔ ((n : ℕ) → AreInOrder (y ++ (epoch, n) ∷ [])) → b ≡ false → ChangesAt p [] (IsSentMore epoch count) old (set old i y)
+sent_kept old p i y epoch count b e l is test none = changed_at [] (IsSentMore epoch count) old p i y y e l is (λ a. absurd (both_ways b none (test.1 a)))
+
+-- ---- on each out-edge
+
+-- how often an edge is among these
+abbrev how_often : List ℕ → ℕ → ℕ
+how_often edges e = how_many (λ d. d == e) edges
+
+-- the stamps were added once for each of the edges so far
+pub record IsSending (stamps : List Stamp) (edges : List ℕ) (old new : List (List (Stamp × ℕ))) : Type 0 where
+  pub one_each : length new ≡ length old
+  pub times : (e : ℕ) (t : Stamp) → times_in t (get_or new e []) ≡ times_in t (get_or old e []) + how_often edges e * how_many (same t) stamps
+  pub domain : (b : Bounds) (e : ℕ) → IsTallyOf b (get_or old e []) → (is_in edges e ≡ true → AllByRecursion (λ s. in_domain b s ≡ true) stamps) → IsTallyOf b (get_or new e [])
+
+pub sending_none : (stamps : List Stamp) (old : List (List (Stamp × ℕ))) → IsSending stamps [] old old
+sending_none stamps old = record { one_each = refl; times = λ e t. omega arith; domain = λ b e a d. a }
+
+often-last : (xs : List ℕ) (x e : ℕ) → how_often (xs ++ x ∷ []) e ≡ how_often xs e + cond (x == e) 1 0
+often-last [] x e = by (x == e)
+  where
+    by : (b : Bool) → cond b (0 + 1) 0 ≡ 0 + cond b 1 0
+    by true = refl
+    by false = refl
+often-last (y ∷ ys) x e = by (y == e) (often-last ys x e)
+  where
+    by : (b : Bool) → how_often (ys ++ x ∷ []) e ≡ how_often ys e + cond (x == e) 1 0
+        → cond b (how_often (ys ++ x ∷ []) e + 1) (how_often (ys ++ x ∷ []) e) ≡ cond b (how_often ys e + 1) (how_often ys e) + cond (x == e) 1 0
+    by true k = omega (arith, k)
+    by false k = k
+
+in-last : (xs : List ℕ) (x e : ℕ) → is_in xs e ≡ true → is_in (xs ++ x ∷ []) e ≡ true
+in-last [] x e k = absurd (cc)
+in-last (y ∷ ys) x e k = by (y == e) k (in-last ys x e)
+  where
+    by : (b : Bool) → (b || is_in ys e) ≡ true → (is_in ys e ≡ true → is_in (ys ++ x ∷ []) e ≡ true) → (b || is_in (ys ++ x ∷ []) e) ≡ true
+    by true j f = refl
+    by false j f = f j
+
+is-last : (xs : List ℕ) (x : ℕ) → is_in (xs ++ x ∷ []) x ≡ true
+is-last [] x = ap (λ b. b || false) (eq-eqb x x refl)
+is-last (y ∷ ys) x = or_right (y == x) (is_in (ys ++ x ∷ []) x) (is-last ys x)
+
+pub sending_more : (stamps : List Stamp) (edges : List ℕ) (i x : ℕ) (old mid new : List (List (Stamp × ℕ))) → i < length edges → x ≡ get_or edges i x
+    → IsSending stamps (take i edges) old mid → ChangesAt x [] (HasEachMore stamps) mid new → IsSending stamps (take (i + 1) edges) old new
+sending_more stamps edges i x old mid new l is a c =
+    let so_far = take i edges in
+    let more : take (i + 1) edges ≡ so_far ++ x ∷ [] = take_more edges i x l ∙ ap (λ y. so_far ++ y ∷ []) (sym is) in
+    subst (λ es. IsSending stamps es old new) (sym more) (record {
+      one_each = c.one_each ∙ a.one_each;
+      times = λ e t. elim (cases_eq e x) [
+        | inl k ↦
+            let often = often-last so_far x e ∙ ap (λ b. how_often so_far e + cond b 1 0) (eq-eqb x e (sym k)) in
+            let now : times_in t (get_or new e []) ≡ times_in t (get_or mid e []) + how_many (same t) stamps = subst (λ n. times_in t (get_or new n []) ≡ times_in t (get_or mid n []) + how_many (same t) stamps) (sym k) (c.here.times t) in
+            now ∙ step (times_in t (get_or mid e [])) (times_in t (get_or old e [])) (how_often so_far e) (how_often (so_far ++ x ∷ []) e) (how_many (same t) stamps) (a.times e t) often
+        | inr n ↦
+            let often = often-last so_far x e ∙ ap (λ b. how_often so_far e + cond b 1 0) (false_from_ne_true (x == e) (λ k. n (sym (eqb-true x e k)))) in
+            ap (times_in t) (c.others e n) ∙ a.times e t ∙ still (times_in t (get_or old e [])) (how_often so_far e) (how_often (so_far ++ x ∷ []) e) (how_many (same t) stamps) often
+      ];
+      domain = λ b e o d. elim (cases_eq e x) [
+        | inl k ↦ subst (λ n. IsTallyOf b (get_or new n [])) (sym k)
+            (c.here.domain b (subst (λ n. IsTallyOf b (get_or mid n [])) k (a.domain b e o (λ j. d (in-last so_far x e j)))) (d (subst (λ n. is_in (so_far ++ x ∷ []) n ≡ true) (sym k) (is-last so_far x))))
+        | inr n ↦ subst (IsTallyOf b) (sym (c.others e n)) (a.domain b e o (λ j. d (in-last so_far x e j)))
+      ];
+    })
+  where
+    step : (m o k n h : ℕ) → m ≡ o + k * h → n ≡ k + 1 → m + h ≡ o + n * h
+    step m o k n h a b = rw b (omega (arith, a))
+
+    still : (o k n h : ℕ) → n ≡ k + 0 → o + k * h ≡ o + n * h
+    still o k n h b = rw b (omega arith)
+
+none-from : (n m : ℕ) (es : List Edge) (p : ℕ) → m < n → how_often (edges_from n es p) m ≡ 0
+none-from n m [] p l = refl
+none-from n m (e ∷ es) p l = by (e.sender == p) (none-from (n + 1) m es p (omega arith)) (false_from_ne_true (n == m) (λ k. let z = eqb-true n m k in absurd (omega arith)))
+  where
+    by : (b : Bool) → how_often (edges_from (n + 1) es p) m ≡ 0 → (n == m) ≡ false → how_often (cond b (n ∷ edges_from (n + 1) es p) (edges_from (n + 1) es p)) m ≡ 0
+    by true k j = ap (λ c. cond c (how_often (edges_from (n + 1) es p) m + 1) (how_often (edges_from (n + 1) es p) m)) j ∙ k
+    by false k j = k
+
+once-from : (n i e : ℕ) (es : List Edge) (p : ℕ) (d : Edge) → e ≡ n + i → i < length es → how_often (edges_from n es p) e ≡ cond ((get_or es i d).sender == p) 1 0
+once-from n i e [] p d k l = absurd (omega arith)
+once-from n zero e (x ∷ es) p d k l = by (x.sender == p) (none-from (n + 1) e es p (omega arith)) (eq-eqb n e (omega arith))
+  where
+    by : (b : Bool) → how_often (edges_from (n + 1) es p) e ≡ 0 → (n == e) ≡ true → how_often (cond b (n ∷ edges_from (n + 1) es p) (edges_from (n + 1) es p)) e ≡ cond b 1 0
+    by true z j = ap (λ c. cond c (how_often (edges_from (n + 1) es p) e + 1) (how_often (edges_from (n + 1) es p) e)) j ∙ ap (λ m. m + 1) z
+    by false z j = z
+once-from n (suc i) e (x ∷ es) p d k l = by (x.sender == p) (once-from (n + 1) i e es p d (omega arith) (omega arith)) (false_from_ne_true (n == e) (λ j. let z = eqb-true n e j in absurd (omega arith)))
+  where
+    by : (b : Bool) → how_often (edges_from (n + 1) es p) e ≡ cond ((get_or es i d).sender == p) 1 0 → (n == e) ≡ false
+        → how_often (cond b (n ∷ edges_from (n + 1) es p) (edges_from (n + 1) es p)) e ≡ cond ((get_or es i d).sender == p) 1 0
+    by true z j = ap (λ c. cond c (how_often (edges_from (n + 1) es p) e + 1) (how_often (edges_from (n + 1) es p) e)) j ∙ z
+    by false z j = z
+
+-- an out-edge by its place among them
+pub out_edge : (flow : Dataflow) (p : ℕ) (edges : List ℕ) (i e : ℕ) → edges ≡ out_edges flow p → i < length edges → e ≡ get_or edges i e → e < length flow.edges
+out_edge flow p edges i e es l is =
+    let P : ℕ → Type 0 = λ d. d < length flow.edges in
+    subst P (sym is) (each-at P edges i e l (subst (AllByRecursion P) (sym es) (out_edges-from P flow p (λ d m r. m))))
+
+-- each edge is once among the out-edges of its sender
+once : (flow : Dataflow) (p e : ℕ) → e < length flow.edges → how_often (out_edges flow p) e ≡ cond (sender flow e == p) 1 0
+unfolding out_edges sender
+once flow p e l = once-from 0 e e flow.edges p (record { name = []; sender = length flow.nodes; receiver = length flow.nodes }) (omega arith) l
+
+often-in : (xs : List ℕ) (e : ℕ) → is_in xs e ≡ true → how_often xs e ≡ 0 → ⊥
+often-in [] e k z = cc
+often-in (x ∷ xs) e k z = by (x == e) k z (often-in xs e)
+  where
+    by : (b : Bool) → (b || is_in xs e) ≡ true → cond b (how_often xs e + 1) (how_often xs e) ≡ 0 → (is_in xs e ≡ true → how_often xs e ≡ 0 → ⊥) → ⊥
+    by true j y f = absurd (omega (arith, y))
+    by false j y f = f j y
+
+pub all_sent : (flow : Dataflow) (p : ℕ) (stamps : List Stamp) (edges : List ℕ) (old new : List (List (Stamp × ℕ))) → edges ≡ out_edges flow p → IsSending stamps edges old new → AreSent flow p stamps old new
+all_sent flow p stamps edges old new is a = record {
+  one_each = a.one_each;
+  times = λ e l t. a.times e t ∙ one (sender flow e == p) (times_in t (get_or old e [])) (how_often edges e) (how_many (same t) stamps) (ap (λ es. how_often es e) is ∙ once flow p e l);
+  domain = λ can o e l. a.domain (bounds_of flow (receiver flow e)) e (o e l) (λ k. can e l (eqb-true (sender flow e) p (from (sender flow e == p)
+      (ap (λ es. how_often es e) is ∙ once flow p e l) (often-in edges e k))));
+}
+  where
+    one : (b : Bool) (o k h : ℕ) → k ≡ cond b 1 0 → o + k * h ≡ o + cond b h 0
+    one true o k h e = rw e (omega arith)
+    one false o k h e = rw e (omega arith)
+
+    from : {n : ℕ} (b : Bool) → n ≡ cond b 1 0 → (n ≡ 0 → ⊥) → b ≡ true
+    from true e f = refl
+    from false e f = absurd (f e)

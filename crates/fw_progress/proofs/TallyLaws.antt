@@ -1,0 +1,319 @@
+-- Tallies: what one more and one less of a stamp leave, and up to where there is none.
+use Rattle.std.proofs.Common.{◌≡◌, ℕ, ◌+◌, ◌-◌, ◌<◌, ◌≤◌, Bool, true, false, not, ◌&&◌, nat_le, nat_lt, cond, drop, List, [], ◌∷◌, ◌++◌, length, get_or, take, Option, Some, None, unwrap_or, refl, sym, ap, subst, ◌∙◌, inl, inr, arith}
+use Rattle.std.specs.Prelude.{IsSome}
+use Rattle.std.specs.List.{AllByRecursion}
+use Rattle.std.specs.Map.{keys_of, lookup, set_value, remove_entry}
+use Rattle.std.specs.BTreeMap.{insert_entry, is_at}
+use Rattle.std.specs.declared.cmp.Ordering.{Ordering}
+use Rattle.std.specs.declared.cmp.Ordering.TheVariants.{Less, Equal, Greater}
+use Rattle.std.specs.Ordering.{is_eq, is_lt, match_ordering, nat_cmp, ordering_then}
+use Rattle.std.specs.Cmp.Lexicographic.{slice_cmp}
+use Rattle.std.specs.List.Sorted.{IsStrictlySortedBy}
+use Rattle.std.proofs.Math.Bool.{and_assoc}
+use Rattle.std.proofs.lemmas.Bool.{and_parts, and_from, cases_Bool, false_from_ne_true, both_ways, not-true}
+use Rattle.std.proofs.lemmas.Bool.Decides.{nat_tests}
+use Rattle.std.proofs.lemmas.Cmp.{nat_list_cmp_total, tied_itself}
+use Rattle.std.proofs.lemmas.List.{take_more}
+use Rattle.fw_time.specs.Stamp.{Stamp, leq, same, in_domain, stamp_cmp}
+use Rattle.fw_time.specs.declared.stamp.Bounds.{Bounds}
+use Rattle.fw_time.proofs.EachLaws.{each-append, each-both, each-prefix, each-suffix, each-weaker}
+use Rattle.fw_time.proofs.StampLaws.{leq-length, leq-trans, same-is, same-refl}
+use Rattle.fw_frontier.specs.Front.{Front, inside, frontier_of, IsFrontOf}
+use Rattle.fw_flow.specs.Counting.{how_many}
+use Rattle.fw_model.proofs.CmpLaws.{stamp_cmp-equal}
+use Rattle.fw_progress.specs.Tally.{times_in, has_one, IsPositive, IsTallyOf, HasOneMore, HasOneLess, HasNoMore, HasEachMore, AreLowest}
+
+abbrev Entries : Type 0
+Entries = List (Stamp × ℕ)
+
+-- the entries with this number of a stamp
+abbrev pub IsWith : Entries → Stamp → Option ℕ → Entries → Type 0
+IsWith old at w new = (q : Stamp) → lookup (is_at (stamp_cmp q)) new ≡ cond (is_at (stamp_cmp at) q) w (lookup (is_at (stamp_cmp q)) old)
+
+-- two stamps compare equal where they are the same
+pub is_eq-same : (s t : Stamp) → is_at (stamp_cmp s) t ≡ same s t
+is_eq-same s t = elim (cases_Bool (same s t)) [
+  | inl e ↦ let i = same-is s t e in sym (ap (λ u. is_eq (stamp_cmp s u)) i) ∙ ap is_eq (tied_itself nat_list_cmp_total s) ∙ sym e
+  | inr e ↦ elim (cases_Bool (is_eq (stamp_cmp s t))) [
+    | inl a ↦ absurd (both_ways (same s t) e (sym (ap (same s) (stamp_cmp-equal s t a)) ∙ same-refl s))
+    | inr a ↦ a ∙ sym e
+  ]
+]
+
+unwrap_cond : (b : Bool) (w o : Option ℕ) → unwrap_or (cond b w o) 0 ≡ cond b (unwrap_or w 0) (unwrap_or o 0)
+unwrap_cond true w o = refl
+unwrap_cond false w o = refl
+
+pub times-with : (old new : Entries) (at : Stamp) (w : Option ℕ) → IsWith old at w new → (t : Stamp) → times_in t new ≡ cond (same at t) (unwrap_or w 0) (times_in t old)
+unfolding times_in
+times-with old new at w is t =
+    ap (λ (o : Option ℕ). unwrap_or o 0) (is t) ∙ unwrap_cond (is_at (stamp_cmp at) t) w (lookup (is_at (stamp_cmp t)) old)
+    ∙ ap (λ b. cond b (unwrap_or w 0) (times_in t old)) (is_eq-same at t)
+
+pub times-found : (entries : Entries) (at : Stamp) (n : ℕ) → lookup (is_at (stamp_cmp at)) entries ≡ Some n → times_in at entries ≡ n
+unfolding times_in
+times-found entries at n e = ap (λ (o : Option ℕ). unwrap_or o 0) e
+
+pub times-absent : (entries : Entries) (at : Stamp) → lookup (is_at (stamp_cmp at)) entries ≡ None → times_in at entries ≡ 0
+unfolding times_in
+times-absent entries at e = ap (λ (o : Option ℕ). unwrap_or o 0) e
+
+-- a number of the same stamp
+times-same : (entries : Entries) (at t : Stamp) → same at t ≡ true → times_in at entries ≡ times_in t entries
+unfolding times_in
+times-same entries at t k = ap (λ s. unwrap_or (lookup (is_at (stamp_cmp s)) entries) 0) (same-one at t k)
+  where
+    same-one : (s u : Stamp) → same s u ≡ true → s ≡ u
+    same-one s u e = same-is s u e
+
+cond_twice : (b : Bool) (v w o : Option ℕ) → cond b v (cond b w o) ≡ cond b v o
+cond_twice true v w o = refl
+cond_twice false v w o = refl
+
+pub with-twice : (old mid new : Entries) (at : Stamp) (w v : Option ℕ) → IsWith old at w mid → IsWith mid at v new → IsWith old at v new
+with-twice old mid new at w v a b q = b q ∙ ap (λ (o : Option ℕ). cond (is_at (stamp_cmp at) q) v o) (a q) ∙ cond_twice (is_at (stamp_cmp at) q) v w (lookup (is_at (stamp_cmp q)) old)
+
+pub is_there : (entries : Entries) (at : Stamp) (n : ℕ) → lookup (is_at (stamp_cmp at)) entries ≡ Some n → IsSome (lookup (is_at (stamp_cmp at)) entries)
+is_there entries at n e = rw e refl
+
+-- ---- the entries of a domain
+
+pub tally-insert : (b : Bounds) (r : Stamp) (n : ℕ) → in_domain b r ≡ true → 0 < n → (es : Entries) → IsTallyOf b es → IsTallyOf b (insert_entry stamp_cmp es r n)
+tally-insert b r n d l [] a = record { of_domain = (d, tt); positive = (l, tt) }
+tally-insert b r n d l (e ∷ es) a =
+    let rest = tally-insert b r n d l es (record { of_domain = a.of_domain.1; positive = a.positive.1 }) in
+    by (stamp_cmp r e.0) rest
+  where
+    by : (o : Ordering) → IsTallyOf b (insert_entry stamp_cmp es r n) → IsTallyOf b (match_ordering o ((r, n) ∷ e ∷ es) ((e.0, n) ∷ es) (e ∷ insert_entry stamp_cmp es r n))
+    by Less k = record { of_domain = (d, a.of_domain); positive = (l, a.positive) }
+    by Equal k = record { of_domain = a.of_domain; positive = (l, a.positive.1) }
+    by Greater k = record { of_domain = (a.of_domain.0, k.of_domain); positive = (a.positive.0, k.positive) }
+
+pub tally-set : (b : Bounds) (test : Stamp → Bool) (n : ℕ) → 0 < n → (es : Entries) → IsTallyOf b es → IsTallyOf b (set_value test es n)
+tally-set b test n l [] a = record { of_domain = tt; positive = tt }
+tally-set b test n l (e ∷ es) a =
+    let rest = tally-set b test n l es (record { of_domain = a.of_domain.1; positive = a.positive.1 }) in
+    by (test e.0) rest
+  where
+    by : (c : Bool) → IsTallyOf b (set_value test es n) → IsTallyOf b (cond c ((e.0, n) ∷ es) (e ∷ set_value test es n))
+    by true k = record { of_domain = a.of_domain; positive = (l, a.positive.1) }
+    by false k = record { of_domain = (a.of_domain.0, k.of_domain); positive = (a.positive.0, k.positive) }
+
+pub tally-remove : (b : Bounds) (test : Stamp → Bool) (es : Entries) → IsTallyOf b es → IsTallyOf b (remove_entry test es)
+tally-remove b test [] a = record { of_domain = tt; positive = tt }
+tally-remove b test (e ∷ es) a =
+    let rest = tally-remove b test es (record { of_domain = a.of_domain.1; positive = a.positive.1 }) in
+    by (test e.0) rest
+  where
+    by : (c : Bool) → IsTallyOf b (remove_entry test es) → IsTallyOf b (cond c es (e ∷ remove_entry test es))
+    by true k = record { of_domain = a.of_domain.1; positive = a.positive.1 }
+    by false k = record { of_domain = (a.of_domain.0, k.of_domain); positive = (a.positive.0, k.positive) }
+
+remove_set : (test : Stamp → Bool) (e : Stamp × ℕ) (es : Entries) (w : ℕ) → remove_entry test (set_value test es w) ≡ remove_entry test es
+    → (b : Bool) → test e.0 ≡ b → remove_entry test (cond b ((e.0, w) ∷ es) (e ∷ set_value test es w)) ≡ cond b es (e ∷ remove_entry test es)
+remove_set test e es w ih true h = ap (λ (b : Bool). cond b es ((e.0, w) ∷ remove_entry test es)) h
+remove_set test e es w ih false h = ap (λ (b : Bool). cond b (set_value test es w) (e ∷ remove_entry test (set_value test es w))) h ∙ ap (λ (fs : Entries). e ∷ fs) ih
+
+-- ---- one more and one less
+
+cond-one : (b : Bool) (m n o : ℕ) → (b ≡ true → m ≡ n) → cond b m o ≡ cond b n o
+cond-one true m n o e = e refl
+cond-one false m n o e = refl
+
+pub one_more : (old new : Entries) (at : Stamp) (n : ℕ) → n ≡ times_in at old + 1 → IsWith old at (Some n) new → new ≡ insert_entry stamp_cmp old at n → HasOneMore at old new
+one_more old new at n e is entries = record {
+  times = λ t. times-with old new at (Some n) is t ∙ cond-one (same at t) n (times_in t old + 1) (times_in t old) (λ k. e ∙ ap (λ m. m + 1) (times-same old at t k));
+  domain = λ b a d. subst (IsTallyOf b) (sym entries) (tally-insert b at n d (omega (arith, e)) old a);
+}
+
+pub one_less : (old new : Entries) (at : Stamp) (n m : ℕ) → lookup (is_at (stamp_cmp at)) old ≡ Some n → 1 < n → m ≡ n - 1 → IsWith old at (Some m) new
+    → new ≡ set_value (is_at (stamp_cmp at)) old m → HasOneLess at old new
+one_less old new at n m found more e is entries = record {
+  times = λ t. times-with old new at (Some m) is t
+      ∙ cond-one (same at t) m (times_in t old - 1) (times_in t old) (λ k. e ∙ ap (λ c. c - 1) (sym (times-found old at n found) ∙ times-same old at t k));
+  domain = λ b a. subst (IsTallyOf b) (sym entries) (tally-set b (is_at (stamp_cmp at)) m (omega (arith, more, e)) old a);
+}
+
+pub last_less : (old new : Entries) (at : Stamp) (n : ℕ) → lookup (is_at (stamp_cmp at)) old ≡ Some n → n ≤ 1 → IsWith old at None new
+    → new ≡ remove_entry (is_at (stamp_cmp at)) old → HasOneLess at old new
+last_less old new at n found few is entries = record {
+  times = λ t. times-with old new at None is t
+      ∙ cond-one (same at t) 0 (times_in t old - 1) (times_in t old)
+      (λ k. let a = sym (times-found old at n found) ∙ times-same old at t k in omega (arith, a, few));
+  domain = λ b a. subst (IsTallyOf b) (sym entries) (tally-remove b (is_at (stamp_cmp at)) old a);
+}
+
+pub none_less : (old : Entries) (at : Stamp) → lookup (is_at (stamp_cmp at)) old ≡ None → HasOneLess at old old
+none_less old at absent = record {
+  times = λ t. by (same at t) (times_in t old) (λ k. sym (times-same old at t k) ∙ times-absent old at absent);
+  domain = λ b a. a;
+}
+  where
+    by : (b : Bool) (n : ℕ) → (b ≡ true → n ≡ 0) → n ≡ cond b (n - 1) n
+    by true n e = let z = e refl in omega (arith, z)
+    by false n e = refl
+
+pub no_more : (old new : Entries) (at : Stamp) → IsWith old at None new → new ≡ remove_entry (is_at (stamp_cmp at)) old → HasNoMore at old new
+no_more old new at is entries = record {
+  times = times-with old new at None is;
+  domain = λ b a. subst (IsTallyOf b) (sym entries) (tally-remove b (is_at (stamp_cmp at)) old a);
+}
+
+-- ---- one more of each
+
+pub each_none : (old : Entries) → HasEachMore [] old old
+each_none old = record { times = λ t. omega arith; domain = λ b a d. a }
+
+how_many-last : (test : Stamp → Bool) (xs : List Stamp) (x : Stamp) → how_many test (xs ++ x ∷ []) ≡ how_many test xs + cond (test x) 1 0
+how_many-last test [] x = by (test x)
+  where
+    by : (b : Bool) → cond b (0 + 1) 0 ≡ 0 + cond b 1 0
+    by true = refl
+    by false = refl
+how_many-last test (y ∷ ys) x = by (test y) (how_many-last test ys x)
+  where
+    by : (b : Bool) → how_many test (ys ++ x ∷ []) ≡ how_many test ys + cond (test x) 1 0
+        → cond b (how_many test (ys ++ x ∷ []) + 1) (how_many test (ys ++ x ∷ [])) ≡ cond b (how_many test ys + 1) (how_many test ys) + cond (test x) 1 0
+    by true e = omega (arith, e)
+    by false e = e
+
+same-flip : (s t : Stamp) → same s t ≡ same t s
+same-flip s t = swap (leq s t) (leq t s)
+  where
+    swap : (a b : Bool) → (a && b) ≡ (b && a)
+    swap true true = refl
+    swap true false = refl
+    swap false true = refl
+    swap false false = refl
+
+pub each_more : (stamps : List Stamp) (i : ℕ) (x : Stamp) (old mid new : Entries) → i < length stamps → x ≡ get_or stamps i x
+    → HasEachMore (take i stamps) old mid → HasOneMore x mid new → HasEachMore (take (i + 1) stamps) old new
+each_more stamps i x old mid new l is each one =
+    let more : take (i + 1) stamps ≡ take i stamps ++ x ∷ [] = take_more stamps i x l ∙ ap (λ y. take i stamps ++ y ∷ []) (sym is) in
+    record {
+      times = λ t.
+          let a = each.times t in
+          let b = one.times t in
+          let c = ap (how_many (same t)) more ∙ how_many-last (same t) (take i stamps) x ∙ ap (λ k. how_many (same t) (take i stamps) + cond k 1 0) (same-flip t x) in
+          by (same x t) (times_in t new) (times_in t mid) (times_in t old) (how_many (same t) (take (i + 1) stamps)) (how_many (same t) (take i stamps)) a b c;
+      domain = λ b a d.
+          let P : Stamp → Type 0 = λ s. in_domain b s ≡ true in
+          let all = subst (AllByRecursion P) more d in
+          one.domain b (each.domain b a (each-prefix P (take i stamps) (x ∷ []) all)) (each-suffix P (take i stamps) (x ∷ []) all).0;
+    }
+  where
+    by : (k : Bool) (n m o h g : ℕ) → m ≡ o + g → n ≡ cond k (m + 1) m → h ≡ g + cond k 1 0 → n ≡ o + h
+    by true n m o h g a b c = omega (arith, a, b, c)
+    by false n m o h g a b c = omega (arith, a, b, c)
+
+-- ---- up to where there is none
+
+-- up to a stamp that is inside there is none
+pub none-inside : (entries : Entries) (t : Stamp) → inside (keys_of entries) t ≡ true → (s : Stamp) → leq s t ≡ true → times_in s entries ≡ 0
+unfolding times_in
+none-inside [] t i s l = refl
+none-inside (e ∷ es) t i s l =
+    let both = and_parts (not (leq e.0 t)) (inside (keys_of es) t) i in
+    let other : is_at (stamp_cmp s) e.0 ≡ false = is_eq-same s e.0 ∙ false_from_ne_true (same s e.0) (λ k.
+    both_ways (leq e.0 t) (not-true (leq e.0 t) both.0) (leq-trans e.0 s t (and_parts (leq s e.0) (leq e.0 s) k).1 l)) in
+    ap (λ (b : Bool). unwrap_or (cond b (Some e.1) (lookup (is_at (stamp_cmp s)) es)) 0) other ∙ none-inside es t both.1 s l
+
+pub inside-none : (entries : Entries) → IsPositive entries → (t : Stamp) → ((s : Stamp) → leq s t ≡ true → times_in s entries ≡ 0) → inside (keys_of entries) t ≡ true
+unfolding times_in
+inside-none [] p t h = refl
+inside-none (e ∷ es) p t h =
+    and_from (not (leq e.0 t)) (inside (keys_of es) t)
+    (ap not (false_from_ne_true (leq e.0 t) (λ k.
+    let here : is_at (stamp_cmp e.0) e.0 ≡ true = is_eq-same e.0 e.0 ∙ same-refl e.0 in
+    let z : e.1 ≡ 0 = sym (ap (λ (b : Bool). unwrap_or (cond b (Some e.1) (lookup (is_at (stamp_cmp e.0)) es)) 0) here) ∙ h e.0 k in
+    let l = p.0 in
+    absurd (omega arith))))
+    (inside-none es p.1 t (λ s l. rest s (is_at (stamp_cmp s) e.0) (h s l)))
+  where
+    rest : (s : Stamp) (b : Bool) → unwrap_or (cond b (Some e.1) (lookup (is_at (stamp_cmp s)) es)) 0 ≡ 0 → unwrap_or (lookup (is_at (stamp_cmp s)) es) 0 ≡ 0
+    rest s true z = let l = p.0 in absurd (omega arith)
+    rest s false z = z
+
+-- none of a stamp, and one of it
+pub has_one-none : (t : Stamp) (entries : Entries) → has_one t entries ≡ false → times_in t entries ≡ 0
+has_one-none t entries k = by (times_in t entries) k
+  where
+    by : (n : ℕ) → nat_lt 0 n ≡ false → n ≡ 0
+    by n e = grind (arith, nat_tests)
+
+pub none-has_one : (t : Stamp) (entries : Entries) → times_in t entries ≡ 0 → has_one t entries ≡ false
+none-has_one t entries z = ap (nat_lt 0) z
+
+-- ---- the lowest stamps
+
+zeros-leq : (zs ys : Stamp) → length zs ≡ length ys → AllByRecursion (λ n. n ≡ 0) zs → leq zs ys ≡ true
+zeros-leq [] [] e a = refl
+zeros-leq [] (y ∷ ys) e a = absurd (omega arith)
+zeros-leq (z ∷ zs) [] e a = absurd (omega arith)
+zeros-leq (z ∷ zs) (y ∷ ys) e a = and_from (nat_le z y) (leq zs ys) (zero-le z y a.0) (zeros-leq zs ys (omega arith) a.1)
+  where
+    zero-le : (m n : ℕ) → m ≡ 0 → nat_le m n ≡ true
+    zero-le m n k = grind (arith, nat_tests)
+
+-- a stamp that begins an epoch is at most each one of as many coordinates that comes after it in order
+begins-leq : (s t : Stamp) → length s ≡ length t → AllByRecursion (λ n. n ≡ 0) (drop 1 s) → stamp_cmp s t ≡ Less → leq s t ≡ true
+begins-leq [] [] e a o = refl
+begins-leq [] (y ∷ ys) e a o = absurd (omega arith)
+begins-leq (x ∷ xs) [] e a o = absurd (omega arith)
+begins-leq (x ∷ xs) (y ∷ ys) e a o = and_from (nat_le x y) (leq xs ys) (first x y (slice_cmp nat_cmp xs ys) (ap is_lt o)) (zeros-leq xs ys (omega arith) a)
+  where
+    first : (m n : ℕ) (p : Ordering) → is_lt (ordering_then (nat_cmp m n) p) ≡ true → nat_le m n ≡ true
+    first m n p k = grind (arith, nat_tests)
+
+inside-append : (xs ys : List Stamp) (t : Stamp) → inside (xs ++ ys) t ≡ (inside xs t && inside ys t)
+inside-append [] ys t = refl
+inside-append (x ∷ xs) ys t = ap (λ b. not (leq x t) && b) (inside-append xs ys t) ∙ sym (and_assoc (not (leq x t)) (inside xs t) (inside ys t))
+
+-- what comes after a stamp in order
+sorted-after : (xs : List Stamp) (s : Stamp) (ys : List Stamp) → IsStrictlySortedBy stamp_cmp (xs ++ s ∷ ys) → AllByRecursion (λ y. stamp_cmp s y ≡ Less) ys
+unfolding IsStrictlySortedBy
+sorted-after [] s ys o = o.0
+sorted-after (x ∷ xs) s ys o = sorted-after xs s ys o.1
+
+above-outside : (s t : Stamp) (ys : List Stamp) → leq s t ≡ false → AllByRecursion (λ y. leq s y ≡ true) ys → inside ys t ≡ true
+above-outside s t [] k a = refl
+above-outside s t (y ∷ ys) k a =
+    and_from (not (leq y t)) (inside ys t) (ap not (false_from_ne_true (leq y t) (λ l. both_ways (leq s t) k (leq-trans s y t a.0 l)))) (above-outside s t ys k a.1)
+
+-- all of them are their own lowest
+pub lowest-all : (stamps all : List Stamp) → stamps ≡ all → AreLowest stamps all
+lowest-all stamps all e = record {
+  among = λ b a. subst (AllByRecursion (λ s. in_domain b s ≡ true)) (sym e) a;
+  same = λ b a t. ap (λ os. frontier_of b os t) e;
+}
+
+-- those up to one that begins an epoch are the lowest
+pub lowest-begun : (xs : List Stamp) (s : Stamp) (ys all : List Stamp) → all ≡ xs ++ s ∷ ys → IsStrictlySortedBy stamp_cmp all → AllByRecursion (λ n. n ≡ 0) (drop 1 s) → AreLowest (xs ++ s ∷ []) all
+lowest-begun xs s ys all e o z = record {
+  among = λ b a. (parts b a).0;
+  same = λ b a t.
+      let rest : AllByRecursion (λ y. leq s y ≡ true) ys =
+      each-weaker (λ y. (stamp_cmp s y ≡ Less) × (in_domain b y ≡ true)) (λ y. leq s y ≡ true) ys
+      (λ y k. begins-leq s y (leq-length s b.greatest (here b a) ∙ sym (leq-length y b.greatest k.1)) z k.0)
+      (each-both (λ y. stamp_cmp s y ≡ Less) (λ y. in_domain b y ≡ true) ys (sorted-after xs s ys (subst (IsStrictlySortedBy stamp_cmp) e o)) (parts b a).1) in
+      ap (λ c. in_domain b t && c) (by t rest (inside xs t) (leq s t) refl ∙ sym (ap (λ os. inside os t) e ∙ inside-append xs (s ∷ ys) t));
+}
+  where
+    parts : (b : Bounds) → AllByRecursion (λ u. in_domain b u ≡ true) all → AllByRecursion (λ u. in_domain b u ≡ true) (xs ++ s ∷ []) × AllByRecursion (λ u. in_domain b u ≡ true) ys
+    parts b a =
+        let P : Stamp → Type 0 = λ u. in_domain b u ≡ true in
+        let whole = subst (AllByRecursion P) e a in
+        let last = each-suffix P xs (s ∷ ys) whole in
+        (each-append P xs (s ∷ []) (each-prefix P xs (s ∷ ys) whole) (last.0, tt), last.1)
+
+    here : (b : Bounds) → AllByRecursion (λ u. in_domain b u ≡ true) all → in_domain b s ≡ true
+    here b a = (each-suffix (λ u. in_domain b u ≡ true) xs (s ∷ ys) (subst (AllByRecursion (λ u. in_domain b u ≡ true)) e a)).0
+
+    by : (t : Stamp) → AllByRecursion (λ y. leq s y ≡ true) ys → (i l : Bool) → leq s t ≡ l → inside (xs ++ s ∷ []) t ≡ (inside xs t && (not (leq s t) && inside ys t))
+    by t rest i true k = inside-append xs (s ∷ []) t ∙ ap (λ c. inside xs t && (not c && true)) k ∙ sym (ap (λ c. inside xs t && (not c && inside ys t)) k)
+    by t rest i false k = inside-append xs (s ∷ []) t ∙ sym (ap (λ c. inside xs t && (not (leq s t) && c)) (above-outside s t ys k rest))
+
+-- a front of the lowest stamps is one of all
+pub until-lowest : (b : Bounds) (stamps all : List Stamp) (f : Front) → AreLowest stamps all → AllByRecursion (λ s. in_domain b s ≡ true) all → IsFrontOf b f (frontier_of b stamps)
+    → IsFrontOf b f (frontier_of b all)
+until-lowest b stamps all f l a n = record { canonical = n.canonical; same = λ t. n.same t ∙ l.same b a t }

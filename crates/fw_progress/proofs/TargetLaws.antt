@@ -1,0 +1,182 @@
+-- How far a node's frontier can go: what is read of the counts, and edge by edge.
+use Rattle.std.proofs.Common.{◌≡◌, ℕ, zero, suc, ◌+◌, ◌^◌, ◌<◌, ◌≤◌, Bool, true, false, not, ◌&&◌, ◌||◌, ◌==◌, nat_lt, nat_le, cond, List, [], ◌∷◌, ◌++◌, length, get_or, take, refl, sym, ap, subst, ◌∙◌, arith}
+use Rattle.std.specs.List.{AllByRecursion, list_all}
+use Rattle.std.specs.Map.{keys_of}
+use Rattle.std.proofs.Math.Bool.{and-true, and_assoc}
+use Rattle.std.proofs.lemmas.Bool.{and_parts, and_from, eqb-true, false_from_ne_true, false≢true}
+use Rattle.std.proofs.lemmas.Bool.Decides.{nat_tests}
+use Rattle.std.proofs.lemmas.List.{take_more}
+use Rattle.fw_time.specs.Stamp.{Stamp, in_domain}
+use Rattle.fw_time.specs.declared.stamp.Bounds.{Bounds}
+use Rattle.fw_time.proofs.EachLaws.{each-at, each-of_all, all-of_each, each-weaker}
+use Rattle.fw_frontier.specs.Frontier.{Frontier, Within, meet}
+use Rattle.fw_frontier.specs.Front.{Front, inside, frontier_of, IsCanonical, IsFrontOf}
+use Rattle.fw_flow.specs.Dataflow.{Dataflow, kind_of, sender, receiver, in_edges, bounds_of, greatest_number, is_input_kind, node_frontier}
+use Rattle.fw_flow.specs.Projection.{first_coordinate, phi_by_count, table_count}
+use Rattle.fw_flow.proofs.EdgeLaws.{in_edges-at, in_edges-from}
+use Rattle.fw_model.proofs.InputLaws.{input-bounds}
+use Rattle.fw_model.proofs.PhiLaws.{phi_by_count-monotone}
+use Rattle.fw_model.proofs.StampLaws.{in_line}
+use Rattle.fw_progress.specs.declared.counts.Counts.{Counts}
+use Rattle.fw_progress.specs.Counts.{pending_of, sent_of, batches_in, injected_in, given_by, clear_by, come_by, target_by}
+
+-- ---- what is read
+
+get_or-there : {A : Type 0} (xs : List A) (i : ℕ) (d e : A) → i < length xs → get_or xs i d ≡ get_or xs i e
+get_or-there [] i d e l = absurd (omega arith)
+get_or-there (x ∷ xs) zero d e l = refl
+get_or-there (x ∷ xs) (suc i) d e l = get_or-there xs i d e (omega arith)
+
+-- what an index reads
+pub read_at : {A : Type 0} (xs : List A) (p i : ℕ) (x d : A) → i ≡ p → i < length xs → x ≡ get_or xs i x → x ≡ get_or xs p d
+read_at xs p i x d e l is = is ∙ get_or-there xs i x d l ∙ ap (λ n. get_or xs n d) e
+
+-- ---- what an input gave
+
+epoch-before : (n m : ℕ) (t : Stamp) → in_domain (record { greatest = m ∷ [] }) t ≡ true → inside ((n ∷ []) ∷ []) t ≡ nat_lt (first_coordinate t) n
+epoch-before n m [] d = absurd (cc)
+epoch-before n m (x ∷ []) d = grind (arith, nat_tests)
+epoch-before n m (x ∷ y ∷ t) d = absurd (false≢true (and_parts (nat_le x m) false d).1)
+
+-- every other node gives all
+pub given-all : (flow : Dataflow) (counts : Counts) (p : ℕ) (f : Front) → f ≡ [] → (not (is_input_kind (kind_of flow p)) || (injected_in counts p == batches_in counts p)) ≡ true
+    → IsFrontOf (bounds_of flow p) f (given_by flow counts p)
+given-all flow counts p f e k =
+    let b = bounds_of flow p in
+    record {
+      canonical = subst (IsCanonical b) (sym e) tt;
+      same = λ t. ap (λ os. frontier_of b os t) e ∙ all (in_domain b t) (not (is_input_kind (kind_of flow p))) (injected_in counts p == batches_in counts p) (nat_lt (first_coordinate t) (injected_in counts p)) k;
+    }
+  where
+    all : (d i x n : Bool) → (i || x) ≡ true → (d && true) ≡ (d && (i || (x || n)))
+    all d true x n z = refl
+    all d false true n z = refl
+    all d false false n z = absurd (cc)
+
+pub given-until : (flow : Dataflow) (counts : Counts) (p n : ℕ) (s : Stamp) (f : Front) → is_input_kind (kind_of flow p) ≡ true → (injected_in counts p ≡ batches_in counts p → ⊥)
+    → n ≡ injected_in counts p → s ≡ n ∷ [] → IsFrontOf (bounds_of flow p) f (frontier_of (bounds_of flow p) (s ∷ [])) → IsFrontOf (bounds_of flow p) f (given_by flow counts p)
+given-until flow counts p n s f k x e q names =
+    let b = bounds_of flow p in
+    let m = subst (λ r. IsFrontOf b f (frontier_of b (r ∷ []))) q names in
+    let y : (injected_in counts p == batches_in counts p) ≡ false = false_from_ne_true (injected_in counts p == batches_in counts p) (λ z. x (eqb-true (injected_in counts p) (batches_in counts p) z)) in
+    record { canonical = m.canonical; same = λ t. m.same t ∙ at t (in_domain b t) refl ∙ (λ i. in_domain b t && (not (sym k i) || (sym y i || nat_lt (first_coordinate t) (injected_in counts p)))) }
+  where
+    at : (t : Stamp) (d : Bool) → in_domain (bounds_of flow p) t ≡ d → (d && inside ((n ∷ []) ∷ []) t) ≡ (in_domain (bounds_of flow p) t && nat_lt (first_coordinate t) (injected_in counts p))
+    at t false j = ap (λ d. d && nat_lt (first_coordinate t) (injected_in counts p)) (sym j)
+    at t true j =
+        epoch-before n greatest_number t (sym (ap (λ (c : Bounds). in_domain c t) (input-bounds flow p k)) ∙ j)
+        ∙ ap (nat_lt (first_coordinate t)) e
+        ∙ ap (λ d. d && nat_lt (first_coordinate t) (injected_in counts p)) (sym j)
+
+-- an input that injected more than all epochs gives all
+pub given-past : (flow : Dataflow) (counts : Counts) (p : ℕ) (f : Front) → f ≡ [] → is_input_kind (kind_of flow p) ≡ true → 2 ^ 32 ≤ injected_in counts p
+    → IsFrontOf (bounds_of flow p) f (given_by flow counts p)
+given-past flow counts p f e k l = record {
+  canonical = subst (IsCanonical (bounds_of flow p)) (sym e) tt;
+  same = λ t. ap (λ os. frontier_of (bounds_of flow p) os t) e ∙ at t (in_domain (bounds_of flow p) t) refl;
+}
+  where
+    all : (i x n : Bool) → n ≡ true → true ≡ (not i || (x || n))
+    all true true n k = refl
+    all true false n k = sym k
+    all false x n k = refl
+
+    less : (n m : ℕ) → n ≤ greatest_number → 2 ^ 32 ≤ m → nat_lt n m ≡ true
+    less n m a b = grind (arith, nat_tests)
+
+    at : (t : Stamp) (d : Bool) → in_domain (bounds_of flow p) t ≡ d
+        → (d && true) ≡ (d && (not (is_input_kind (kind_of flow p)) || (injected_in counts p == batches_in counts p || nat_lt (first_coordinate t) (injected_in counts p))))
+    at t false j = refl
+    at t true j =
+        let a = in_line t greatest_number (sym (ap (λ (c : Bounds). in_domain c t) (input-bounds flow p k)) ∙ j) in
+        all (is_input_kind (kind_of flow p)) (injected_in counts p == batches_in counts p) (nat_lt (first_coordinate t) (injected_in counts p))
+        (less (first_coordinate t) (injected_in counts p) (subst (λ u. first_coordinate u ≤ greatest_number) (sym a.1) a.2) l)
+
+-- the domain of an input has each epoch
+pub epoch-in_domain : (flow : Dataflow) (p n : ℕ) (s : Stamp) → is_input_kind (kind_of flow p) ≡ true → n < 2 ^ 32 → s ≡ n ∷ [] → in_domain (bounds_of flow p) s ≡ true
+epoch-in_domain flow p n s k l q = ap (in_domain (bounds_of flow p)) q ∙ ap (λ (c : Bounds). in_domain c (n ∷ [])) (input-bounds flow p k) ∙ and_from (nat_le n greatest_number) true (grind (arith, nat_tests)) refl
+
+-- ---- two fronts met
+
+-- a front of what two others name together
+pub met : (b : Bounds) (x y f : Front) (one other : Frontier) → IsFrontOf b x one → IsFrontOf b y other → IsFrontOf b f (meet (frontier_of b x) (frontier_of b y))
+    → IsFrontOf b f (meet one other)
+met b x y f one other p q n = record { canonical = n.canonical; same = λ t. n.same t ∙ ap (λ c. c && frontier_of b y t) (p.same t) ∙ ap (λ c. one t && c) (q.same t) }
+
+-- ---- targets, edge by edge
+
+pub all-append : (test : ℕ → Bool) (xs : List ℕ) (x : ℕ) → list_all test (xs ++ x ∷ []) ≡ (list_all test xs && test x)
+all-append test [] x = and-true (test x)
+all-append test (y ∷ xs) x = ap (λ b. test y && b) (all-append test xs x) ∙ sym (and_assoc (test y) (list_all test xs) (test x))
+
+-- one edge more
+pub left_more : (b : Bounds) (f : Frontier) (comes : ℕ → Frontier) (old come new : Front) (edges : List ℕ) (i e : ℕ) → i < length edges → e ≡ get_or edges i e
+    → IsFrontOf b old (λ t. f t && list_all (λ d. comes d t) (take i edges)) → IsFrontOf b come (comes e)
+    → IsFrontOf b new (meet (frontier_of b old) (frontier_of b come))
+    → IsFrontOf b new (λ t. f t && list_all (λ d. comes d t) (take (i + 1) edges))
+left_more b f comes old come new edges i e l is o a n = record {
+  canonical = n.canonical;
+  same = λ t.
+      let test : ℕ → Bool = λ d. comes d t in
+      let more : list_all test (take (i + 1) edges) ≡ (list_all test (take i edges) && test e) =
+      ap (list_all test) (take_more edges i e l) ∙ all-append test (take i edges) (get_or edges i e) ∙ ap (λ d. list_all test (take i edges) && test d) (sym is) in
+      n.same t ∙ ap (λ c. c && frontier_of b come t) (o.same t) ∙ ap (λ c. (f t && list_all test (take i edges)) && c) (a.same t)
+      ∙ and_assoc (f t) (list_all test (take i edges)) (test e) ∙ ap (λ c. f t && c) (sym more);
+}
+
+-- at first no edge counts
+pub left_none : (b : Bounds) (old : Front) (f : Frontier) → IsFrontOf b old f → IsFrontOf b old (λ t. f t && true)
+left_none b old f n = record { canonical = n.canonical; same = λ t. n.same t ∙ sym (and-true (f t)) }
+
+-- an in-edge by its place among them
+pub in_edge : (flow : Dataflow) (p : ℕ) (edges : List ℕ) (i e : ℕ) → edges ≡ in_edges flow p → i < length edges → e ≡ get_or edges i e
+    → (e < length flow.edges) × (receiver flow e ≡ p)
+in_edge flow p edges i e es l is =
+    let P : ℕ → Type 0 = λ d. (d < length flow.edges) × (receiver flow d ≡ p) in
+    subst P (sym is) (each-at P edges i e l (subst (AllByRecursion P) (sym es) (in_edges-from P flow p (λ d m r. (m, r)))))
+
+-- ---- larger families
+
+count_step : (a b : Bool) (c m n : ℕ) → (a ≡ true → b ≡ true) → m ≤ n → cond a (c + m) m ≤ cond b (c + n) n
+count_step true true c m n k l = omega arith
+count_step true false c m n k l = let e = k refl in absurd (cc)
+count_step false true c m n k l = omega arith
+count_step false false c m n k l = l
+
+table_count-monotone : (f g : Frontier) → Within f g → (table : List (ℕ × ℕ)) → table_count f table ≤ table_count g table
+table_count-monotone f g w [] = omega arith
+table_count-monotone f g w (x ∷ xs) = count_step (f (x.0 ∷ [])) (g (x.0 ∷ [])) x.1 _ _ (w (x.0 ∷ [])) (table_count-monotone f g w xs)
+
+-- by a larger frontier more can come
+pub come-monotone : (flow : Dataflow) (counts : Counts) (e : ℕ) (f g : Frontier) → Within f g → Within (come_by flow counts e f) (come_by flow counts e g)
+come-monotone flow counts e f g w t k =
+    let ms = sent_of counts (sender flow e) in
+    let quiet = node_frontier flow (receiver flow e) (keys_of (pending_of counts e)) in
+    let both = and_parts (quiet t) (phi_by_count flow (table_count f ms) e f t) k in
+    and_from (quiet t) (phi_by_count flow (table_count g ms) e g t) both.0
+    (phi_by_count-monotone flow (table_count f ms) (table_count g ms) e f g w (table_count-monotone f g w ms) t both.1)
+
+-- in a larger family a node can have more
+pub target-monotone : (flow : Dataflow) (counts : Counts) (small large : ℕ → Frontier) → ((q : ℕ) → Within (small q) (large q))
+    → (p : ℕ) → Within (target_by flow counts small p) (target_by flow counts large p)
+target-monotone flow counts small large w p t i =
+    let test : ℕ → Bool = λ e. come_by flow counts e (small (sender flow e)) t in
+    let more : ℕ → Bool = λ e. come_by flow counts e (large (sender flow e)) t in
+    let both = and_parts (clear_by flow counts p t) (list_all test (in_edges flow p)) i in
+    and_from (clear_by flow counts p t) (list_all more (in_edges flow p)) both.0
+    (all-of_each more (in_edges flow p)
+    (each-weaker (λ e. test e ≡ true) (λ e. more e ≡ true) (in_edges flow p)
+    (λ e k. come-monotone flow counts e (small (sender flow e)) (large (sender flow e)) (w (sender flow e)) t k)
+    (each-of_all test (in_edges flow p) both.1)))
+
+-- where what comes by each edge is no more, it can have no more
+pub target-less : (flow : Dataflow) (counts : Counts) (small large : ℕ → Frontier) (p : ℕ)
+    → ((e : ℕ) → e < length flow.edges → receiver flow e ≡ p → Within (come_by flow counts e (large (sender flow e))) (come_by flow counts e (small (sender flow e))))
+    → Within (target_by flow counts large p) (target_by flow counts small p)
+target-less flow counts small large p w t i =
+    let now : ℕ → Bool = λ e. come_by flow counts e (large (sender flow e)) t in
+    let before : ℕ → Bool = λ e. come_by flow counts e (small (sender flow e)) t in
+    let both = and_parts (clear_by flow counts p t) (list_all now (in_edges flow p)) i in
+    let each = each-of_all now (in_edges flow p) both.1 in
+    and_from (clear_by flow counts p t) (list_all before (in_edges flow p)) both.0
+    (all-of_each before (in_edges flow p) (in_edges-from (λ e. before e ≡ true) flow p (λ e l r. w e l r t (in_edges-at (λ d. now d ≡ true) flow p each e l r))))

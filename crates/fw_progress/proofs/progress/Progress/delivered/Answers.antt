@@ -1,0 +1,23 @@
+use Rattle.std.proofs.Common.{refl, sym, ap, subst, ◌∙◌}
+use Rattle.std.specs.Prelude.{IfOk}
+use Rattle.fw_flow.specs.declared.event.Event.TheVariants.{Deliver}
+use Rattle.fw_progress.specs.History.{Follows}
+use Rattle.fw_progress.specs.Progress.{Standing, IsOfFlow}
+use Rattle.fw_progress.proofs.ProgressLaws.{ok-holds, both-ok, delivered_of, delivered_follows}
+use Rattle.fw_progress.proofs.progress.Progress.delivered.Goals as goal
+
+pub returns-clause-progress : goal.returns-clause-progress
+returns-clause-progress c = λ k.
+    let flow = c.args.flow.now in
+    let o = subst (IsOfFlow flow) (sym c.self.view_is) (c.requires.progress (sym (ap (λ (s : Standing). s.refused) c.self.view_is) ∙ c.if-self.false)) in
+    ok-holds c.deliver-told.result c.is_err-self-inside.result _ _ c.is_err-self-inside.ensures.value k c.deliver-told.ensures.counts (λ u d.
+    ok-holds c.deliver-told.result c.is_err-self-inside.result _ _ c.is_err-self-inside.ensures.value k c.deliver-told.ensures.work (λ x put.
+    delivered_of flow c.args.edge c.args.at.now c.args.sent.now _ _ c.flow_is_well_formed.ensures o c.requires.there c.requires.at c.requires.sent d put refl refl))
+
+pub returns-clause-follows : goal.returns-clause-follows
+returns-clause-follows c = λ m e.
+    let flow = c.args.flow.now in
+    let old : Standing = record { counts = c.self.inside.counts; settled = c.self.inside.settled.items; kept = c.self.inside.kept.items; work = c.self.inside.work; refused = c.self.inside.refused } in
+    let new : Standing = record { counts = c.deliver-told.new.counts; settled = c.self.inside.settled.items; kept = c.self.inside.kept.items; work = c.deliver-told.new.work; refused = c.is_err-self-inside.result } in
+    let ok = both-ok c.deliver-told.result _ _ (Follows flow (Deliver c.args.edge m) c.args.sent.now old new) (λ d put. delivered_follows flow c.args.edge m c.args.at.now c.args.sent.now old new c.flow_is_well_formed.ensures e d put refl) c.deliver-told.ensures.counts c.deliver-told.ensures.work in
+    subst (λ (s : Standing). IfOk c.deliver-told.result (λ u. Follows flow (Deliver c.args.edge m) c.args.sent.now s new)) c.self.view_is ok

@@ -1,0 +1,23 @@
+use Rattle.std.proofs.Common.{refl, sym, ap, subst, ◌∙◌}
+use Rattle.std.specs.Prelude.{IfOk}
+use Rattle.fw_flow.specs.declared.event.Event.TheVariants.{Inject}
+use Rattle.fw_progress.specs.History.{Follows}
+use Rattle.fw_progress.specs.Progress.{Standing, IsOfFlow}
+use Rattle.fw_progress.proofs.ProgressLaws.{ok-holds, both-ok, injected_of, injected_follows}
+use Rattle.fw_progress.proofs.progress.Progress.injected.Goals as goal
+
+pub returns-clause-progress : goal.returns-clause-progress
+returns-clause-progress c = λ k.
+    let flow = c.args.flow.now in
+    let o = subst (IsOfFlow flow) (sym c.self.view_is) (c.requires.progress (sym (ap (λ (s : Standing). s.refused) c.self.view_is) ∙ c.if-self.false)) in
+    ok-holds c.inject-told.result c.is_err-self-inside.result _ _ c.is_err-self-inside.ensures.value k c.inject-told.ensures.counts (λ u d.
+    ok-holds c.inject-told.result c.is_err-self-inside.result _ _ c.is_err-self-inside.ensures.value k c.inject-told.ensures.work (λ x put.
+    injected_of flow c.args.node c.args.sent.now _ _ o c.requires.there c.requires.sent d put refl refl))
+
+pub returns-clause-follows : goal.returns-clause-follows
+returns-clause-follows c = λ x.
+    let flow = c.args.flow.now in
+    let old : Standing = record { counts = c.self.inside.counts; settled = c.self.inside.settled.items; kept = c.self.inside.kept.items; work = c.self.inside.work; refused = c.self.inside.refused } in
+    let new : Standing = record { counts = c.inject-told.new.counts; settled = c.self.inside.settled.items; kept = c.self.inside.kept.items; work = c.inject-told.new.work; refused = c.is_err-self-inside.result } in
+    let ok = both-ok c.inject-told.result _ _ (Follows flow (Inject c.args.node x) c.args.sent.now old new) (λ d put. injected_follows flow c.args.node x c.args.sent.now old new c.flow_is_well_formed.ensures d put refl) c.inject-told.ensures.counts c.inject-told.ensures.work in
+    subst (λ (s : Standing). IfOk c.inject-told.result (λ u. Follows flow (Inject c.args.node x) c.args.sent.now s new)) c.self.view_is ok

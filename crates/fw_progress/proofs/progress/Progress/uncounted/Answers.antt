@@ -1,0 +1,9 @@
+use Rattle.fw_progress.proofs.progress.Progress.uncounted.Goals as goal
+
+pub returns-clause-fresh : goal.returns-clause-fresh
+returns-clause-fresh g c = record {
+  counts = c.refresh.ensures.counts;
+  settled = c.refresh.ensures.settled;
+  ready = c.in_ok-refresh.ensures.ready;
+  complete = λ sys h e s. c.in_ok-refresh.ensures.complete sys h e s;
+}

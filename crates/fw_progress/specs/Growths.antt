@@ -1,0 +1,75 @@
+-- Frontiers that grow, one after the other.
+use Rattle.std.specs.Prelude.{◌≡◌, ℕ, ◌+◌, ◌<◌, ◌≤◌, Bool, true, false, List, [], ◌∷◌, ◌++◌, length, set}
+use Rattle.std.specs.List.{AllByRecursion, list_all}
+use Rattle.fw_frontier.specs.Frontier.{Within}
+use Rattle.fw_frontier.specs.Front.{Front}
+use Rattle.fw_flow.specs.Dataflow.{Dataflow, receiver, out_edges, node_frontier}
+use Rattle.fw_model.specs.Machine.{family_of, AreCanonical}
+use Rattle.fw_progress.specs.declared.counts.Counts.{Counts}
+use Rattle.fw_progress.specs.declared.growth.Growth.{Growth}
+use Rattle.fw_progress.specs.Counts.{IsAdmissibleBy, IsStuckBy, is_in, AreStuckOutside, AreNodes}
+
+-- a front names more than the node has so far
+pub record IsMore (flow : Dataflow) (fronts : List Front) (p : ℕ) (front : Front) : Type 0 where
+  pub above : Within (family_of flow fronts p) (node_frontier flow p front)
+  pub strictly : Within (node_frontier flow p front) (family_of flow fronts p) → ⊥
+
+-- each growth lies strictly above the node's frontier so far, and the last ones are the new frontiers
+abbrev pub AreGrowths : Dataflow → List Front → List Growth → List Front → Type 0
+AreGrowths flow old [] new = new ≡ old
+AreGrowths flow old (g ∷ gs) new = IsMore flow old g.node g.front × AreGrowths flow (set old g.node g.front) gs new
+
+-- how many edges lead from the nodes that grew
+abbrev pub out_degrees : Dataflow → List Growth → ℕ
+out_degrees flow [] = 0
+out_degrees flow (g ∷ gs) = length (out_edges flow g.node) + out_degrees flow gs
+
+-- the node is in the list, and what was there is; nothing else is, and it is longer by one at most
+pub record IsPut (node : ℕ) (old new : List ℕ) : Type 0 where
+  pub there : is_in new node ≡ true
+  pub stays : (q : ℕ) → is_in old q ≡ true → is_in new q ≡ true
+  pub nodes : (P : ℕ → Bool) → P node ≡ true → list_all P old ≡ true → list_all P new ≡ true
+  pub few : length new ≤ length old + 1
+
+-- the same of the receivers of these edges
+pub record ArePut (flow : Dataflow) (edges : List ℕ) (old new : List ℕ) : Type 0 where
+  pub there : AllByRecursion (λ e. is_in new (receiver flow e) ≡ true) edges
+  pub stays : (q : ℕ) → is_in old q ≡ true → is_in new q ≡ true
+  pub nodes : (P : ℕ → Bool) → list_all (λ e. P (receiver flow e)) edges ≡ true → list_all P old ≡ true → list_all P new ≡ true
+  pub few : length new ≤ length old + length edges
+
+-- A node has a larger frontier: it is listed, and the receivers of its out-edges wait.
+pub record IsGrown (flow : Dataflow) (p : ℕ) (front : Front) (old new : List Front) (work rest : List ℕ) (growths more : List Growth) : Type 0 where
+  pub changed : new ≡ set old p front
+  pub listed : more ≡ growths ++ record { node = p; front = front } ∷ []
+  pub put : ArePut flow (out_edges flow p) work rest
+
+-- Frontiers grew one after the other, and the receivers below them wait: each node that does not wait can be widened only if it
+-- could be before.
+pub record HaveGrown (flow : Dataflow) (counts : Counts) (old new : List Front) (work rest : List ℕ) (growths more : List Growth) : Type 0 where
+  pub added : List Growth
+  pub grown : AreGrowths flow old added new
+  pub listed : more ≡ growths ++ added
+  pub one_each : length new ≡ length old
+  pub canonical : AreCanonical flow old → AreCanonical flow new
+  pub nodes : AreNodes flow work → AreNodes flow rest
+  pub few : length rest ≤ length work + out_degrees flow added
+  pub stays : (q : ℕ) → is_in work q ≡ true → is_in rest q ≡ true
+  pub leaves : (q : ℕ) → q < length flow.nodes → is_in rest q ≡ false → IsStuckBy flow counts old q → IsStuckBy flow counts new q
+
+-- a node was taken up: frontiers grew, and unless it waits again it has the largest that it can have
+pub record IsTaken (flow : Dataflow) (counts : Counts) (p : ℕ) (old new : List Front) (work rest : List ℕ) (growths more : List Growth) : Type 0 where
+  pub grew : HaveGrown flow counts old new work rest growths more
+  pub admissible : IsAdmissibleBy flow counts (family_of flow old) → IsAdmissibleBy flow counts (family_of flow new)
+  pub stuck : IsAdmissibleBy flow counts (family_of flow old) → is_in rest p ≡ false → IsStuckBy flow counts new p
+
+-- What a refresh leaves: an admissible family in which no node can be widened, the growths up to it, and no node that waits; it
+-- takes no more steps than nodes waited and edges lead from the nodes that grew.
+pub record IsRefreshed (flow : Dataflow) (counts : Counts) (old new : List Front) (work rest : List ℕ) (growths : List Growth) (before after : ℕ) : Type 0 where
+  pub one_each : length new ≡ length flow.nodes
+  pub canonical : AreCanonical flow new
+  pub admissible : IsAdmissibleBy flow counts (family_of flow old) → IsAdmissibleBy flow counts (family_of flow new)
+  pub stuck : IsAdmissibleBy flow counts (family_of flow old) → AreStuckOutside flow counts old work → AreStuckOutside flow counts new []
+  pub grown : AreGrowths flow old growths new
+  pub bound : after ≤ before + length work + out_degrees flow growths
+  pub none_waits : rest ≡ []

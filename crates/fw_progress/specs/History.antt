@@ -1,0 +1,64 @@
+-- When progress stands for a history.
+use Rattle.std.specs.Prelude.{◌≡◌, ℕ, ◌<◌, true, false, List, ◌∷◌, [], length, map}
+use Rattle.std.specs.List.{AllByRecursion}
+use Rattle.fw_time.specs.Stamp.{Stamp, same}
+use Rattle.fw_frontier.specs.Front.{Front}
+use Rattle.fw_flow.specs.Counting.{how_many}
+use Rattle.fw_flow.specs.declared.event.Event.{Event}
+use Rattle.fw_flow.specs.declared.event.Message.{Message}
+use Rattle.fw_flow.specs.declared.kind.Kind.TheVariants.{Sequence}
+use Rattle.fw_flow.specs.Dataflow.{Dataflow, System, kind_of, batches_of, HasEpochs}
+use Rattle.fw_flow.specs.NodeFunction.{event_node, sends}
+use Rattle.fw_flow.specs.Projection.{events_at, IsSentTable}
+use Rattle.fw_flow.specs.SentTable.{AreInOrder}
+use Rattle.fw_model.specs.History.{pending_messages, is_owed_notice, was_notified, injected_count, IsAdmissible, IsComplete, IsLegal}
+use Rattle.fw_model.specs.LawsOfProgress.{IsStuck}
+use Rattle.fw_model.specs.Machine.{family_of}
+use Rattle.fw_progress.specs.declared.counts.Counts.{Counts}
+use Rattle.fw_progress.specs.Counts.{pending_of, owed_of, batches_in, injected_in, sent_of, is_in}
+use Rattle.fw_progress.specs.Progress.{Standing}
+use Rattle.fw_progress.specs.Tally.{times_in, has_one}
+
+-- how many of the messages are at a stamp
+abbrev pub count_at : Stamp → List Message → ℕ
+count_at t ms = how_many (λ (m : Message). same t m.at) ms
+
+-- The counts are those of a history: what is pending on each edge, what each node is owed, what each input injected, and what each
+-- sequence sent in the epochs of which it was notified.
+pub record IsCountOf (sys : System) (h : List Event) (counts : Counts) : Type 0 where
+  pub pending : (e : ℕ) → e < length sys.flow.edges → (t : Stamp) → times_in t (pending_of counts e) ≡ count_at t (pending_messages sys h e)
+  pub owed : (p : ℕ) → p < length sys.flow.nodes → (t : Stamp) → has_one t (owed_of counts p) ≡ is_owed_notice sys h p t
+  pub batches : (p : ℕ) → p < length sys.flow.nodes → batches_in counts p ≡ length (batches_of sys p)
+  pub injected : (p : ℕ) → p < length sys.flow.nodes → injected_in counts p ≡ injected_count p h
+  pub sent : (p : ℕ) → p < length sys.flow.nodes → kind_of sys.flow p ≡ Sequence → IsSentTable sys h p (sent_of counts p)
+  pub in_order : (p : ℕ) → p < length sys.flow.nodes → kind_of sys.flow p ≡ Sequence → AreInOrder (sent_of counts p)
+  pub epochs : (p : ℕ) → p < length sys.flow.nodes → kind_of sys.flow p ≡ Sequence
+      → AllByRecursion (λ entry. was_notified p (entry.0 ∷ []) h ≡ true) (sent_of counts p)
+
+-- The kept frontiers are admissible after a history, and those of the nodes that do not wait can not be widened.
+pub record IsKept (sys : System) (h : List Event) (kept : List Front) (work : List ℕ) : Type 0 where
+  pub admissible : IsAdmissible sys h (family_of sys.flow kept)
+  pub stuck : (p : ℕ) → p < length sys.flow.nodes → is_in work p ≡ false → IsStuck sys h (family_of sys.flow kept) p
+
+-- progress stands for a history
+pub record StandsFor (sys : System) (h : List Event) (now : Standing) : Type 0 where
+  pub counts : IsCountOf sys h now.counts
+  pub kept : IsKept sys h now.kept now.work
+
+-- the stamps at which an event makes its node send, one for each message
+abbrev pub stamps_sent : System → List Event → Event → List Stamp
+stamps_sent sys h v = map (λ (m : Message). m.at) (sends sys (event_node sys.flow v) (events_at sys.flow (event_node sys.flow v) h) v)
+
+-- progress follows an event at which its node sends at these stamps: it stands for the history that goes on with the event, where it
+-- stood for that before
+abbrev pub Follows : Dataflow → Event → List Stamp → Standing → Standing → Type 0
+Follows flow v sent old new =
+    (sys : System) (h : List Event) → sys.flow ≡ flow → HasEpochs sys → IsLegal sys (v ∷ h) → stamps_sent sys h v ≡ sent
+    → StandsFor sys h old → StandsFor sys (v ∷ h) new
+
+-- Nothing is counted or settled anew, and the kept frontiers are complete after each history for which progress stood.
+pub record IsFresh (flow : Dataflow) (old new : Standing) : Type 0 where
+  pub counts : new.counts ≡ old.counts
+  pub settled : new.settled ≡ old.settled
+  pub ready : new.refused ≡ false
+  pub complete : (sys : System) (h : List Event) → sys.flow ≡ flow → StandsFor sys h old → StandsFor sys h new × IsComplete sys h (family_of flow new.kept)

@@ -1,0 +1,93 @@
+-- What contracts see of progress.
+use Rattle.std.specs.Prelude.{◌≡◌, ◌≢◌, ℕ, ◌+◌, ◌<◌, ◌^◌, Bool, true, false, ◌==◌, List, [], ◌∷◌, ◌++◌, length, slice_index_or, if◌then◌else◌}
+use Rattle.std.specs.List.{AllByRecursion}
+use Rattle.fw_time.specs.Stamp.{Stamp, same, in_domain}
+use Rattle.fw_frontier.specs.Front.{Front}
+use Rattle.fw_flow.specs.Counting.{how_many}
+use Rattle.fw_flow.specs.declared.kind.Kind.TheVariants.{Sequence}
+use Rattle.fw_flow.specs.Dataflow.{Dataflow, kind_of, sender, receiver, bounds_of, is_notified_kind, is_sequence_kind}
+use Rattle.fw_flow.specs.SentTable.{AreInOrder}
+use Rattle.fw_model.specs.Machine.{AreCanonical}
+use Rattle.fw_progress.specs.declared.counts.Counts.{Counts}
+use Rattle.fw_progress.specs.Counts.{AreCounts, AreNodes}
+use Rattle.fw_progress.specs.Tally.{times_in, IsTallyOf, HasOneMore, HasOneLess, HasNoMore}
+
+-- The counts; for each node what is settled and its kept frontier; the nodes that wait to be widened; and whether memory was
+-- refused.
+pub record Standing : Type 0 where
+  pub counts : Counts
+  pub settled : List Front
+  pub kept : List Front
+  pub work : List ℕ
+  pub refused : Bool
+
+-- all of it is of the flow
+pub record IsOfFlow (flow : Dataflow) (now : Standing) : Type 0 where
+  pub counts : AreCounts flow now.counts
+  pub settled_each : length now.settled ≡ length flow.nodes
+  pub settled : AreCanonical flow now.settled
+  pub kept_each : length now.kept ≡ length flow.nodes
+  pub kept : AreCanonical flow now.kept
+  pub nodes : AreNodes flow now.work
+
+-- the same, unless memory was refused
+abbrev pub IsProgressOf : Dataflow → Standing → Type 0
+IsProgressOf flow now = now.refused ≡ false → IsOfFlow flow now
+
+-- in a list one place is changed so
+pub record ChangesAt {A : Type 0} (i : ℕ) (d : A) (R : A → A → Type 0) (old new : List A) : Type 0 where
+  pub one_each : length new ≡ length old
+  pub here : R (slice_index_or old i d) (slice_index_or new i d)
+  pub others : (k : ℕ) → k ≢ i → slice_index_or new k d ≡ slice_index_or old k d
+
+-- each of the stamps can be sent by the node
+abbrev pub CanSend : Dataflow → ℕ → List Stamp → Type 0
+CanSend flow p stamps =
+    (e : ℕ) → e < length flow.edges → sender flow e ≡ p → AllByRecursion (λ s. in_domain (bounds_of flow (receiver flow e)) s ≡ true) stamps
+
+-- On each out-edge of a node a message at each of the stamps is pending more.
+pub record AreSent (flow : Dataflow) (p : ℕ) (stamps : List Stamp) (old new : List (List (Stamp × ℕ))) : Type 0 where
+  pub one_each : length new ≡ length old
+  pub times : (e : ℕ) → e < length flow.edges → (t : Stamp)
+      → times_in t (slice_index_or new e []) ≡ times_in t (slice_index_or old e []) + (if sender flow e == p then how_many (same t) stamps else 0)
+  pub domain : CanSend flow p stamps → ((e : ℕ) → e < length flow.edges → IsTallyOf (bounds_of flow (receiver flow e)) (slice_index_or old e []))
+      → (e : ℕ) → e < length flow.edges → IsTallyOf (bounds_of flow (receiver flow e)) (slice_index_or new e [])
+
+-- one batch more is injected
+abbrev pub IsNext : ℕ → ℕ → Type 0
+IsNext old new = old + 1 < 2 ^ 64 → new ≡ old + 1
+
+-- so many messages were sent in an epoch, if it comes after those of the table
+abbrev pub IsSentMore : ℕ → ℕ → List (ℕ × ℕ) → List (ℕ × ℕ) → Type 0
+IsSentMore epoch count old new = ((n : ℕ) → AreInOrder (old ++ (epoch, n) ∷ [])) → new ≡ old ++ (epoch, count) ∷ []
+
+-- A message at a stamp is delivered on an edge, and its receiver sends at these stamps: one less is pending there, the receiver is
+-- owed a notification if it waits for them, and what it sends is pending.
+pub record IsDelivered (flow : Dataflow) (e : ℕ) (at : Stamp) (sent : List Stamp) (old new : Counts) : Type 0 where
+  pub between : List (List (Stamp × ℕ))
+  pub taken : ChangesAt e [] (HasOneLess at) old.pending.items between
+  pub sends : AreSent flow (receiver flow e) sent between new.pending.items
+  pub owes : is_notified_kind (kind_of flow (receiver flow e)) ≡ true → ChangesAt (receiver flow e) [] (HasOneMore at) old.owed.items new.owed.items
+  pub owes_none : is_notified_kind (kind_of flow (receiver flow e)) ≡ false → new.owed.items ≡ old.owed.items
+  pub batches : new.batches.items ≡ old.batches.items
+  pub injected : new.injected.items ≡ old.injected.items
+  pub counted : new.sent.items ≡ old.sent.items
+
+-- A node is notified of a stamp, and sends at these stamps: it is owed no notification of it any more, what it sends is pending, and
+-- counts for a sequence.
+pub record IsNotified (flow : Dataflow) (p : ℕ) (at : Stamp) (sent : List Stamp) (old new : Counts) : Type 0 where
+  pub paid : ChangesAt p [] (HasNoMore at) old.owed.items new.owed.items
+  pub sends : AreSent flow p sent old.pending.items new.pending.items
+  pub batches : new.batches.items ≡ old.batches.items
+  pub injected : new.injected.items ≡ old.injected.items
+  pub tables : length new.sent.items ≡ length old.sent.items
+  pub counted : kind_of flow p ≡ Sequence → (x : ℕ) → at ≡ x ∷ [] → ChangesAt p [] (IsSentMore x (length sent)) old.sent.items new.sent.items
+  pub counted_none : is_sequence_kind (kind_of flow p) ≡ false → new.sent.items ≡ old.sent.items
+
+-- A node injects its next batch, and sends at these stamps.
+pub record IsInjected (flow : Dataflow) (p : ℕ) (sent : List Stamp) (old new : Counts) : Type 0 where
+  pub next : ChangesAt p 0 IsNext old.injected.items new.injected.items
+  pub sends : AreSent flow p sent old.pending.items new.pending.items
+  pub owed : new.owed.items ≡ old.owed.items
+  pub batches : new.batches.items ≡ old.batches.items
+  pub counted : new.sent.items ≡ old.sent.items

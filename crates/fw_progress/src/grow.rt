@@ -1,0 +1,76 @@
+//! A node's frontier grows.
+ghost use Rattle.std.specs.Prelude.{◌≡◌, ◌<◌, ◌++◌, ◌∷◌, [], true, false, length, set, IsTrue, IfOk};
+ghost use Rattle.fw_frontier.specs.Frontier.{Within};
+ghost use Rattle.fw_frontier.specs.Front.{IsCanonical};
+ghost use Rattle.fw_flow.specs.Dataflow.{bounds_of, node_frontier, out_edges};
+ghost use Rattle.fw_model.specs.Machine.{family_of, AreCanonical};
+ghost use Rattle.fw_progress.specs.Counts.{AreCounts};
+ghost use Rattle.fw_progress.specs.Growths.{IsMore, IsGrown, IsTaken};
+
+use crate::counts::Counts;
+use crate::growth::{Growth, Growths};
+use crate::target::target;
+use crate::worklist::Worklist;
+use fw_flow::laws::flow_is_well_formed;
+use fw_flow::{Flow, NodeId};
+use fw_frontier::Front;
+use std::alloc::{AllocError, Global};
+
+/// Whether a frontier is a larger one than the node has so far.
+fn is_more(flow: &Flow, fronts: &[Front], node: NodeId, front: &Front) -> bool
+    requires there { node < length flow.now.nodes }
+    requires one_each { length fronts.now ≡ length flow.now.nodes }
+    requires canonical { AreCanonical flow.now fronts.now }
+    requires front { IsCanonical (bounds_of flow.now node) front.now }
+    ensures more { IsTrue result → IsMore flow.now fronts.now node front.now }
+    ensures same { result ≡ false → Within (family_of flow.now fronts.now node) (node_frontier flow.now node front.now)
+        → Within (node_frontier flow.now node front.now) (family_of flow.now fronts.now node) }
+{
+    let _ = flow;
+    let kept = &fronts[node.place() as usize];
+    kept.subset(front) && !front.subset(kept)
+}
+
+/// Gives a node a larger frontier: it is listed, and the receivers of its out-edges wait. The error is want of memory.
+pub(crate) fn grow(
+    flow: &Flow,
+    fronts: &mut Vec<Front>,
+    work: &mut Worklist,
+    growths: &mut Growths,
+    node: NodeId,
+    front: Front,
+) -> Result<(), AllocError>
+    requires there { node < length fronts.old.items }
+    ensures { IfOk result (λ u. IsGrown flow.now node front fronts.old.items fronts.new.items work.old work.new
+        growths.old.items growths.new.items) }
+{
+    let copy = front.copy()?;
+    fronts[node.place() as usize] = front;
+    growths.push(Growth { node, front: copy })?;
+    work.put_receivers(flow, node)
+}
+
+/// Takes up a node: if it can have a larger frontier, it gets the largest that it can have. The error is want of memory.
+pub(crate) fn take_up(
+    alloc: Global,
+    flow: &Flow,
+    counts: &Counts,
+    fronts: &mut Vec<Front>,
+    work: &mut Worklist,
+    growths: &mut Growths,
+    node: NodeId,
+) -> Result<(), AllocError>
+    requires there { node < length flow.now.nodes }
+    requires counts { AreCounts flow.now counts.now }
+    requires one_each { length fronts.old.items ≡ length flow.now.nodes }
+    requires canonical { AreCanonical flow.now fronts.old.items }
+    ensures { IfOk result (λ u. IsTaken flow.now counts.now node fronts.old.items fronts.new.items work.old work.new
+        growths.old.items growths.new.items) }
+{
+    flow_is_well_formed(flow);
+    let front = target(alloc, flow, counts, fronts, node)?;
+    if !is_more(flow, fronts, node, &front) {
+        return Ok(());
+    }
+    grow(flow, fronts, work, growths, node, front)
+}

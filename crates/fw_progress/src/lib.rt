@@ -1,0 +1,23 @@
+//! Progress: up to where everything has come at each node, kept from event to event.
+//!
+//! `Progress` counts what is pending on the edges and owed to the nodes, what inputs injected and sequences sent, by one
+//! call for each event. Of each node it keeps a frontier within its complete one; `Progress::refresh` widens those that can
+//! be widened until each is complete, at the cost of what changed.
+#![tactic(auto)]
+
+mod counts;
+mod events;
+mod grow;
+mod growth;
+mod notices;
+mod progress;
+mod refresh;
+mod start;
+mod tally;
+mod target;
+mod worklist;
+
+pub use counts::Counts;
+pub use growth::{Growth, Growths};
+pub use progress::Progress;
+pub use tally::Tally;

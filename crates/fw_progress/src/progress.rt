@@ -1,0 +1,391 @@
+//! Progress, kept from event to event.
+ghost use Rattle.std.specs.Prelude.{◌≡◌, ◌<◌, ◌≤◌, ◌+◌, ◌↔◌, ℕ, List, map, [], ◌∷◌, length, true, false, IsTrue, IsErr, IfOk};
+ghost use Rattle.fw_time.specs.Stamp.{in_domain};
+ghost use Rattle.fw_flow.specs.declared.event.Event.{Event};
+ghost use Rattle.fw_flow.specs.declared.event.Event.TheVariants as events;
+ghost use Rattle.fw_flow.specs.declared.event.Message.{Message};
+ghost use Rattle.fw_flow.specs.Dataflow.{System, receiver, bounds_of, node_ids, system_of};
+ghost use Rattle.fw_model.specs.History.{IsComplete, IsNotifiable};
+ghost use Rattle.fw_model.specs.Machine.{front_of, family_of, no_stamps, AreCanonical};
+ghost use Rattle.fw_progress.specs.Counts.{AreCounts};
+ghost use Rattle.fw_progress.specs.Growths.{AreGrowths, out_degrees, IsPut};
+ghost use Rattle.fw_progress.specs.History.{IsCountOf, StandsFor, Follows, IsFresh};
+ghost use Rattle.fw_progress.specs.Progress.{Standing, IsProgressOf, CanSend, IsDelivered, IsNotified, IsInjected};
+
+use crate::counts::Counts;
+use crate::events;
+use crate::growth::Growths;
+use crate::notices::may_notify;
+use crate::refresh::refresh;
+use crate::start::{largest, no_stamps_each, none};
+use crate::worklist::Worklist;
+use fw_flow::laws::flow_is_well_formed;
+use fw_flow::{EdgeId, Flow, NodeId, Steps};
+use fw_frontier::Front;
+use fw_lines::Batches;
+use fw_time::Stamp;
+use std::alloc::{AllocError, Global};
+use std::marker::{Brand, Model};
+use std::sync::ledger::{Blank, Ledger};
+
+/// Up to where everything has come at each node of a flow: counts of what is pending, owed, injected and sent, what is
+/// settled, and of each node a kept frontier within its complete one, with the nodes whose frontier may be widened. To
+/// progress to which memory was once refused no more is told, and it says so by an error each time.
+#[derive(Debug, Drop)]
+pub struct Progress {
+    counts: Counts,
+    settled: Vec<Front>,
+    kept: Vec<Front>,
+    work: Worklist,
+    refused: bool,
+}
+
+impl Model for Progress {
+    ghost use Rattle.fw_progress.specs.Progress.{Standing};
+
+    ghost Value = { Standing };
+
+    ghost view = { λ p. record { counts = p.counts; settled = p.settled.items; kept = p.kept.items; work = p.work; refused = p.refused } };
+}
+
+impl Progress {
+    /// Progress of a flow in which nothing has happened yet: the complete frontiers are kept, and nothing is settled. The
+    /// error is want of memory.
+    pub fn new(alloc: Global, flow: &Flow, batches: &Batches) -> Result<Self, AllocError>
+        ensures progress { IfOk result (IsProgressOf flow.now) }
+        ensures stands { IfOk result (StandsFor (system_of flow.now batches.now) []) }
+        ensures complete { IfOk result
+            (λ p. IsComplete (system_of flow.now batches.now) [] (family_of flow.now p.kept)) }
+        ensures none_waits { IfOk result (λ p. p.work ≡ []) }
+        ensures settled { IfOk result
+            (λ p. p.settled ≡ map (λ q. no_stamps (bounds_of flow.now q)) (node_ids flow.now)) }
+        ensures ready { IfOk result (λ p. p.refused ≡ false) }
+    {
+        flow_is_well_formed(flow);
+        let counts = none(alloc, flow, batches)?;
+        let kept = largest(alloc, flow, &counts)?;
+        Ok(Progress {
+            counts,
+            settled: no_stamps_each(alloc, flow)?,
+            kept,
+            work: Worklist::new(alloc),
+            refused: false,
+        })
+    }
+
+    /// Takes other counts, and other frontiers as what is settled; the complete frontiers are found anew, and kept. The error
+    /// is want of memory.
+    pub fn rebuild(
+        &mut self,
+        alloc: Global,
+        flow: &Flow,
+        counts: Counts,
+        settled: Vec<Front>,
+    ) -> Result<(), AllocError>
+        requires counts { AreCounts flow.now counts }
+        requires settled_each { length settled.items ≡ length flow.now.nodes }
+        requires settled { AreCanonical flow.now settled.items }
+        ensures progress { IfOk result (λ u. IsProgressOf flow.now self.new) }
+        ensures counts { IfOk result (λ u. self.new.counts ≡ counts) }
+        ensures settled { IfOk result (λ u. self.new.settled ≡ settled.items) }
+        ensures none_waits { IfOk result (λ u. self.new.work ≡ []) }
+        ensures complete { (sys : System) (h : List Event) → sys.flow ≡ flow.now → IsCountOf sys h counts
+            → IfOk result (λ u. StandsFor sys h self.new × IsComplete sys h (family_of flow.now self.new.kept)) }
+        ensures refused { IsErr result → IsTrue self.new.refused }
+        ensures stays { IsTrue self.old.refused → IsErr result }
+    {
+        flow_is_well_formed(flow);
+        if self.refused {
+            return Err(AllocError);
+        }
+        let kept = largest(alloc, flow, &counts);
+        self.refused = kept.is_err();
+        self.kept = kept?;
+        self.counts = counts;
+        self.settled = settled;
+        self.work = Worklist::new(alloc);
+        Ok(())
+    }
+
+    /// A message at the stamp is delivered on the edge, and its receiver sends a message at each of these stamps on each of
+    /// its out-edges. The error is want of memory.
+    pub fn delivered(
+        &mut self,
+        flow: &Flow,
+        edge: EdgeId,
+        at: &Stamp,
+        sent: &[Stamp],
+    ) -> Result<(), AllocError>
+        requires progress { IsProgressOf flow.now self.old }
+        requires there { edge < length flow.now.edges }
+        requires at { in_domain (bounds_of flow.now (receiver flow.now edge)) at.now ≡ true }
+        requires sent { CanSend flow.now (receiver flow.now edge) sent.now }
+        ensures progress { IsProgressOf flow.now self.new }
+        ensures counts { IfOk result (λ u. IsDelivered flow.now edge at.now sent.now self.old.counts self.new.counts) }
+        ensures work { IfOk result (λ u. IsPut (receiver flow.now edge) self.old.work self.new.work) }
+        ensures settled { self.new.settled ≡ self.old.settled }
+        ensures kept { self.new.kept ≡ self.old.kept }
+        ensures follows { (m : Message) → m.at ≡ at.now
+            → IfOk result (λ u. Follows flow.now (events.Deliver edge m) sent.now self.old self.new) }
+        ensures refused { IsErr result → IsTrue self.new.refused }
+        ensures stays { IsTrue self.old.refused → IsErr result }
+    {
+        flow_is_well_formed(flow);
+        if self.refused {
+            return Err(AllocError);
+        }
+        let told = deliver(flow, &mut self.counts, &mut self.work, edge, at, sent);
+        self.refused = told.is_err();
+        told
+    }
+
+    /// The node is notified of the stamp, and sends a message at each of these stamps on each of its out-edges. The error is
+    /// want of memory.
+    pub fn notified(
+        &mut self,
+        flow: &Flow,
+        node: NodeId,
+        at: &Stamp,
+        sent: &[Stamp],
+    ) -> Result<(), AllocError>
+        requires progress { IsProgressOf flow.now self.old }
+        requires there { node < length flow.now.nodes }
+        requires sent { CanSend flow.now node sent.now }
+        ensures progress { IsProgressOf flow.now self.new }
+        ensures counts { IfOk result (λ u. IsNotified flow.now node at.now sent.now self.old.counts self.new.counts) }
+        ensures work { IfOk result (λ u. IsPut node self.old.work self.new.work) }
+        ensures settled { self.new.settled ≡ self.old.settled }
+        ensures kept { self.new.kept ≡ self.old.kept }
+        ensures follows { IfOk result (λ u. Follows flow.now (events.Notify node at.now) sent.now self.old self.new) }
+        ensures refused { IsErr result → IsTrue self.new.refused }
+        ensures stays { IsTrue self.old.refused → IsErr result }
+    {
+        flow_is_well_formed(flow);
+        if self.refused {
+            return Err(AllocError);
+        }
+        let told = notify(flow, &mut self.counts, &mut self.work, node, at, sent);
+        self.refused = told.is_err();
+        told
+    }
+
+    /// The node injects its next batch, and sends a message at each of these stamps on each of its out-edges. The error is
+    /// want of memory.
+    pub fn injected(&mut self, flow: &Flow, node: NodeId, sent: &[Stamp]) -> Result<(), AllocError>
+        requires progress { IsProgressOf flow.now self.old }
+        requires there { node < length flow.now.nodes }
+        requires sent { CanSend flow.now node sent.now }
+        ensures progress { IsProgressOf flow.now self.new }
+        ensures counts { IfOk result (λ u. IsInjected flow.now node sent.now self.old.counts self.new.counts) }
+        ensures work { IfOk result (λ u. IsPut node self.old.work self.new.work) }
+        ensures settled { self.new.settled ≡ self.old.settled }
+        ensures kept { self.new.kept ≡ self.old.kept }
+        ensures follows { (epoch : ℕ)
+            → IfOk result (λ u. Follows flow.now (events.Inject node epoch) sent.now self.old self.new) }
+        ensures refused { IsErr result → IsTrue self.new.refused }
+        ensures stays { IsTrue self.old.refused → IsErr result }
+    {
+        flow_is_well_formed(flow);
+        if self.refused {
+            return Err(AllocError);
+        }
+        let told = inject(flow, &mut self.counts, &mut self.work, node, sent);
+        self.refused = told.is_err();
+        told
+    }
+
+    /// Widens the kept frontiers to the complete ones, and answers how they grew. Each node that is taken up is one step. The
+    /// error is want of memory.
+    pub fn refresh<L: Ledger>(
+        &mut self,
+        alloc: Global,
+        flow: &Flow,
+        steps: &mut Steps<L>,
+    ) -> Result<Growths, AllocError>
+        requires progress { IsProgressOf flow.now self.old }
+        ensures progress { IsProgressOf flow.now self.new }
+        ensures growths { IfOk result (λ growths. AreGrowths flow.now self.old.kept growths.items self.new.kept) }
+        ensures bound { IfOk result
+            (λ growths. steps.new ≤ steps.old + length self.old.work + out_degrees flow.now growths.items) }
+        ensures none_waits { IfOk result (λ growths. self.new.work ≡ []) }
+        ensures ready { IfOk result (λ growths. self.new.refused ≡ false) }
+        ensures counts { self.new.counts ≡ self.old.counts }
+        ensures settled { self.new.settled ≡ self.old.settled }
+        ensures complete { (sys : System) (h : List Event) → sys.flow ≡ flow.now → StandsFor sys h self.old
+            → IfOk result (λ growths. StandsFor sys h self.new × IsComplete sys h (family_of flow.now self.new.kept)) }
+        ensures refused { IsErr result → IsTrue self.new.refused }
+        ensures stays { IsTrue self.old.refused → IsErr result }
+    {
+        flow_is_well_formed(flow);
+        if self.refused {
+            return Err(AllocError);
+        }
+        let growths = refresh(
+            alloc,
+            flow,
+            &self.counts,
+            &mut self.kept,
+            &mut self.work,
+            steps,
+        );
+        self.refused = growths.is_err();
+        growths
+    }
+
+    /// The complete frontier of a node. The error is want of memory.
+    pub fn complete(
+        &mut self,
+        alloc: Global,
+        flow: &Flow,
+        node: NodeId,
+    ) -> Result<Front, AllocError>
+        requires progress { IsProgressOf flow.now self.old }
+        requires there { node < length flow.now.nodes }
+        ensures progress { IsProgressOf flow.now self.new }
+        ensures fresh { IfOk result (λ front. IsFresh flow.now self.old self.new) }
+        ensures front { IfOk result (λ front. front ≡ front_of self.new.kept node) }
+        ensures refused { IsErr result → IsTrue self.new.refused }
+        ensures stays { IsTrue self.old.refused → IsErr result }
+    {
+        self.freshen(alloc, flow)?;
+        let front = self.kept[node.place() as usize].copy();
+        self.refused = front.is_err();
+        front
+    }
+
+    /// Whether the node may be notified of the stamp. The error is want of memory.
+    pub fn can_notify(
+        &mut self,
+        alloc: Global,
+        flow: &Flow,
+        node: NodeId,
+        at: &Stamp,
+    ) -> Result<bool, AllocError>
+        requires progress { IsProgressOf flow.now self.old }
+        requires there { node < length flow.now.nodes }
+        requires at { in_domain (bounds_of flow.now node) at.now ≡ true }
+        ensures progress { IsProgressOf flow.now self.new }
+        ensures fresh { IfOk result (λ can. IsFresh flow.now self.old self.new) }
+        ensures exact { (sys : System) (h : List Event) → sys.flow ≡ flow.now → StandsFor sys h self.old
+            → IfOk result (λ can. IsTrue can ↔ IsNotifiable sys h node at.now) }
+        ensures refused { IsErr result → IsTrue self.new.refused }
+        ensures stays { IsTrue self.old.refused → IsErr result }
+    {
+        flow_is_well_formed(flow);
+        self.freshen(alloc, flow)?;
+        let can = may_notify(alloc, flow, &self.counts, &self.kept, node, at);
+        self.refused = can.is_err();
+        can
+    }
+
+    /// The kept frontiers are complete from now on. The error is want of memory.
+    fn freshen(&mut self, alloc: Global, flow: &Flow) -> Result<(), AllocError>
+        requires progress { IsProgressOf flow.now self.old }
+        ensures progress { IsProgressOf flow.now self.new }
+        ensures fresh { IfOk result (λ u. IsFresh flow.now self.old self.new) }
+        ensures refused { IsErr result → IsTrue self.new.refused }
+        ensures stays { IsTrue self.old.refused → IsErr result }
+    {
+        self.uncounted::<Brand>(alloc, flow, Blank::new(1))
+    }
+
+    /// The same by a counter of its own.
+    fn uncounted<L: Ledger>(
+        &mut self,
+        alloc: Global,
+        flow: &Flow,
+        blank: Blank,
+    ) -> Result<(), AllocError>
+        requires progress { IsProgressOf flow.now self.old }
+        requires name { blank.name ≡ L.name }
+        requires parts { blank.parts ≡ L.parts }
+        requires some { 0 < L.parts }
+        ensures progress { IsProgressOf flow.now self.new }
+        ensures fresh { IfOk result (λ u. IsFresh flow.now self.old self.new) }
+        ensures refused { IsErr result → IsTrue self.new.refused }
+        ensures stays { IsTrue self.old.refused → IsErr result }
+    {
+        let mut steps = Steps::<L>::none(blank);
+        self.refresh(alloc, flow, &mut steps)?;
+        Ok(())
+    }
+
+    /// What is settled of each node. It takes no memory.
+    pub fn settled(&self) -> &[Front]
+        ensures { result.now ≡ self.now.settled }
+    {
+        &self.settled
+    }
+
+    /// The kept frontier of each node: after a refresh its complete one. It takes no memory.
+    pub fn kept(&self) -> &[Front]
+        ensures { result.now ≡ self.now.kept }
+    {
+        &self.kept
+    }
+
+    /// These frontiers are settled from now on. It takes no memory.
+    pub fn settle(&mut self, flow: &Flow, settled: Vec<Front>)
+        requires progress { IsProgressOf flow.now self.old }
+        requires one_each { length settled.items ≡ length flow.now.nodes }
+        requires canonical { AreCanonical flow.now settled.items }
+        ensures progress { IsProgressOf flow.now self.new }
+        ensures settled { self.new ≡ record self.old { settled = settled.items } }
+    {
+        let _ = flow;
+        self.settled = settled;
+    }
+}
+
+/// Counts the delivery, after which the receiver waits. The error is want of memory.
+fn deliver(
+    flow: &Flow,
+    counts: &mut Counts,
+    work: &mut Worklist,
+    edge: EdgeId,
+    at: &Stamp,
+    sent: &[Stamp],
+) -> Result<(), AllocError>
+    requires counts { AreCounts flow.now counts.old }
+    requires there { edge < length flow.now.edges }
+    ensures counts { IfOk result (λ u. IsDelivered flow.now edge at.now sent.now counts.old counts.new) }
+    ensures work { IfOk result (λ u. IsPut (receiver flow.now edge) work.old work.new) }
+{
+    events::delivered(flow, counts, edge, at, sent)?;
+    work.put(flow.dst(edge))
+}
+
+/// Counts the notification, after which the node waits. The error is want of memory.
+fn notify(
+    flow: &Flow,
+    counts: &mut Counts,
+    work: &mut Worklist,
+    node: NodeId,
+    at: &Stamp,
+    sent: &[Stamp],
+) -> Result<(), AllocError>
+    requires counts { AreCounts flow.now counts.old }
+    requires there { node < length flow.now.nodes }
+    ensures counts { IfOk result (λ u. IsNotified flow.now node at.now sent.now counts.old counts.new) }
+    ensures work { IfOk result (λ u. IsPut node work.old work.new) }
+{
+    events::notified(flow, counts, node, at, sent)?;
+    work.put(node)
+}
+
+/// Counts the injection, after which the node waits. The error is want of memory.
+fn inject(
+    flow: &Flow,
+    counts: &mut Counts,
+    work: &mut Worklist,
+    node: NodeId,
+    sent: &[Stamp],
+) -> Result<(), AllocError>
+    requires counts { AreCounts flow.now counts.old }
+    requires there { node < length flow.now.nodes }
+    ensures counts { IfOk result (λ u. IsInjected flow.now node sent.now counts.old counts.new) }
+    ensures work { IfOk result (λ u. IsPut node work.old work.new) }
+{
+    events::injected(flow, counts, node, sent)?;
+    work.put(node)
+}

@@ -1,0 +1,145 @@
+//! Counts of nothing, and the largest frontiers by counts.
+ghost use Rattle.std.specs.Prelude.{◌≡◌, ◌<◌, ◌↔◌, ℕ, [], length, map, slice_index_or, IsTrue, IfOk};
+ghost use Rattle.std.specs.List.{AllByRecursion};
+ghost use Rattle.fw_lines.specs.Batches.{batches_at};
+ghost use Rattle.fw_frontier.specs.Frontier.{Within};
+ghost use Rattle.fw_flow.specs.Dataflow.{bounds_of, node_ids};
+ghost use Rattle.fw_model.specs.Machine.{no_stamps, family_of, AreCanonical};
+ghost use Rattle.fw_progress.specs.Counts.{AreCounts};
+ghost use Rattle.fw_progress.specs.Start.{AreTargets, AreLargest, AreOfNothing};
+
+use crate::counts::Counts;
+use crate::tally::Tally;
+use crate::target::target;
+use fw_flow::{Flow, NodeId, SentTable};
+use fw_frontier::Front;
+use fw_lines::Batches;
+use std::alloc::{AllocError, Global};
+
+/// So many tallies of nothing. The error is want of memory.
+fn none_each(alloc: Global, count: usize) -> Result<Vec<Tally>, AllocError>
+    ensures one_each { IfOk result (λ tallies. length tallies.items ≡ count) }
+    ensures none { IfOk result (λ tallies. AllByRecursion (λ tally. tally ≡ []) tallies.items) }
+{
+    let mut tallies = Vec::new(alloc);
+    'each: while tallies.len() < count {
+        tallies.push(Tally::new(alloc))?;
+    }
+    Ok(tallies)
+}
+
+/// So many tables of nothing. The error is want of memory.
+fn no_tables(alloc: Global, count: usize) -> Result<Vec<SentTable>, AllocError>
+    ensures one_each { IfOk result (λ tables. length tables.items ≡ count) }
+    ensures none { IfOk result (λ tables. AllByRecursion (λ table. table ≡ []) tables.items) }
+{
+    let mut tables = Vec::new(alloc);
+    'each: while tables.len() < count {
+        tables.push(SentTable::new(alloc))?;
+    }
+    Ok(tables)
+}
+
+/// How many batches each node has. The error is want of memory.
+fn batches_each(alloc: Global, flow: &Flow, batches: &Batches) -> Result<Vec<u64>, AllocError>
+    ensures one_each { IfOk result (λ counts. length counts.items ≡ length flow.now.nodes) }
+    ensures each { IfOk result (λ counts. (p : ℕ) → p < length flow.now.nodes
+        → slice_index_or counts.items p 0 ≡ length (batches_at batches.now p)) }
+{
+    let mut counts = Vec::new(alloc);
+    for place in 0..flow.nodes() {
+        counts.push(batches.count(place as u32) as u64)?;
+    }
+    Ok(counts)
+}
+
+/// The counts of no event. The error is want of memory.
+pub(crate) fn none(alloc: Global, flow: &Flow, batches: &Batches) -> Result<Counts, AllocError>
+    ensures { IfOk result (AreOfNothing flow.now batches.now) }
+{
+    let nodes = flow.nodes();
+    Ok(Counts {
+        pending: none_each(alloc, flow.edges())?,
+        owed: none_each(alloc, nodes)?,
+        batches: batches_each(alloc, flow, batches)?,
+        injected: vec![in alloc; 0; nodes]?,
+        sent: no_tables(alloc, nodes)?,
+    })
+}
+
+/// For each node the frontier without stamps. The error is want of memory.
+pub(crate) fn no_stamps_each(alloc: Global, flow: &Flow) -> Result<Vec<Front>, AllocError>
+    ensures { IfOk result (λ fronts. fronts.items ≡ map (λ p. no_stamps (bounds_of flow.now p)) (node_ids flow.now)) }
+{
+    let mut fronts = Vec::new(alloc);
+    for place in 0..flow.nodes() {
+        fronts.push(Front::empty(alloc, &flow.domain(NodeId::at(place as u32)))?)?;
+    }
+    Ok(fronts)
+}
+
+/// For each node all stamps. The error is want of memory.
+fn all_each(alloc: Global, flow: &Flow) -> Result<Vec<Front>, AllocError>
+    ensures one_each { IfOk result (λ fronts. length fronts.items ≡ length flow.now.nodes) }
+    ensures all { IfOk result (λ fronts. AllByRecursion (λ front. front ≡ []) fronts.items) }
+{
+    let count = flow.nodes();
+    let mut fronts = Vec::new(alloc);
+    'each: while fronts.len() < count {
+        fronts.push(Front::all(alloc))?;
+    }
+    Ok(fronts)
+}
+
+/// For each node the largest frontier that it can have, the others as they are. The error is want of memory.
+fn targets(
+    alloc: Global,
+    flow: &Flow,
+    counts: &Counts,
+    fronts: &[Front],
+) -> Result<Vec<Front>, AllocError>
+    requires counts { AreCounts flow.now counts.now }
+    requires one_each { length fronts.now ≡ length flow.now.nodes }
+    requires canonical { AreCanonical flow.now fronts.now }
+    ensures one_each { IfOk result (λ targets. length targets.items ≡ length flow.now.nodes) }
+    ensures each { IfOk result (λ targets. AreTargets flow.now counts.now fronts.now targets.items) }
+{
+    let mut targets = Vec::new(alloc);
+    for place in 0..flow.nodes() {
+        let node = NodeId::at(place as u32);
+        targets.push(target(alloc, flow, counts, fronts, node)?)?;
+    }
+    Ok(targets)
+}
+
+/// Whether each of the frontiers lies within the other one of its node.
+fn are_within(flow: &Flow, fronts: &[Front], others: &[Front]) -> bool
+    requires one_each { length fronts.now ≡ length flow.now.nodes }
+    requires others_each { length others.now ≡ length flow.now.nodes }
+    requires others_canonical { AreCanonical flow.now others.now }
+    ensures { IsTrue result ↔ ((p : ℕ) → p < length flow.now.nodes
+        → Within (family_of flow.now fronts.now p) (family_of flow.now others.now p)) }
+{
+    let _ = flow;
+    for place in 0..fronts.len() {
+        if !fronts[place].subset(&others[place]) {
+            return false;
+        }
+    }
+    true
+}
+
+/// The largest frontiers by the counts: it begins with all stamps at each node, and takes away what its node can not have,
+/// until nothing is taken. The error is want of memory.
+pub(crate) fn largest(alloc: Global, flow: &Flow, counts: &Counts) -> Result<Vec<Front>, AllocError>
+    requires { AreCounts flow.now counts.now }
+    ensures { IfOk result (λ fronts. AreLargest flow.now counts.now fronts.items) }
+{
+    let mut fronts = all_each(alloc, flow)?;
+    let mut lower = targets(alloc, flow, counts, &fronts)?;
+    'pass: while !are_within(flow, &fronts, &lower) {
+        fronts = lower;
+        lower = targets(alloc, flow, counts, &fronts)?;
+    }
+    Ok(fronts)
+}

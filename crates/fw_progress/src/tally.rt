@@ -1,0 +1,166 @@
+//! How many there are of each stamp.
+ghost use Rattle.std.specs.Prelude.{◌≡◌, [], drop, IsTrue, IfOk};
+ghost use Rattle.std.specs.List.{AllByRecursion, list_any};
+ghost use Rattle.std.specs.Map.{keys_of};
+ghost use Rattle.fw_time.specs.Stamp.{lesser};
+ghost use Rattle.fw_time.specs.declared.stamp.Bounds.{Bounds as Domain};
+ghost use Rattle.fw_frontier.specs.Front.{frontier_of, IsFrontOf};
+ghost use Rattle.fw_progress.specs.Tally.{times_in, IsTallyOf, HasOneMore, HasOneLess, HasNoMore, AreLowest};
+
+use fw_frontier::Front;
+use fw_time::Stamp;
+use std::alloc::{AllocError, Global};
+use std::collections::BTreeMap;
+use std::marker::Model;
+
+/// How many there are of each stamp. Contracts see the stamps, in order, each with its number.
+#[derive(Debug, Drop)]
+pub struct Tally {
+    counts: BTreeMap<Stamp, u64>,
+}
+
+impl Model for Tally {
+    ghost use Rattle.std.specs.Prelude.{ℕ, List};
+    ghost use Rattle.fw_time.specs.Stamp.{Stamp};
+
+    ghost Value = { List (Stamp × ℕ) };
+
+    ghost view = { λ tally. tally.counts.entries };
+}
+
+impl Tally {
+    /// None of any stamp, in memory from `alloc`.
+    pub fn new(alloc: Global) -> Self
+        ensures { result ≡ [] }
+    {
+        Tally {
+            counts: BTreeMap::new(alloc),
+        }
+    }
+
+    /// How many there are of a stamp.
+    pub fn times(&self, at: &Stamp) -> u64
+        ensures { result ≡ times_in at.now self.now }
+    {
+        times_of(&self.counts, at)
+    }
+
+    /// Whether there is one of a lesser stamp.
+    pub fn has_lesser(&self, at: &Stamp) -> bool
+        ensures { result ≡ list_any (λ s. lesser s at.now) (keys_of self.now) }
+    {
+        has_lesser(&self.counts, at)
+    }
+
+    /// One more of a stamp. The error is want of memory, or that the number would not fit 64 bits.
+    pub fn add(&mut self, at: &Stamp) -> Result<(), AllocError>
+        ensures { IfOk result (λ u. HasOneMore at.now self.old self.new) }
+    {
+        add_one(&mut self.counts, at)
+    }
+
+    /// One less of a stamp, if there is one. It takes no memory.
+    pub fn take(&mut self, at: &Stamp)
+        ensures { HasOneLess at.now self.old self.new }
+    {
+        take_one(&mut self.counts, at);
+    }
+
+    /// None of a stamp from now on. It takes no memory.
+    pub fn clear(&mut self, at: &Stamp)
+        ensures { HasNoMore at.now self.old self.new }
+    {
+        clear_one(&mut self.counts, at);
+    }
+
+    /// Up to where there is none: the frontier that has these stamps outside. The error is want of memory.
+    pub fn until(&self, alloc: Global) -> Result<Front, AllocError>
+        ensures { (bounds : Domain) → IsTallyOf bounds self.now
+            → IfOk result (λ f. IsFrontOf bounds f (frontier_of bounds (keys_of self.now))) }
+    {
+        until(alloc, &self.counts)
+    }
+}
+
+// How many there are of a stamp.
+#[tactic(auto, unfolding(crate::specs::Tally::times_in))]
+fn times_of(counts: &BTreeMap<Stamp, u64>, at: &Stamp) -> u64
+    ensures { result ≡ times_in at.now counts.now.entries }
+{
+    match counts.get(at) {
+        Some(count) => *count,
+        None => 0,
+    }
+}
+
+// Whether there is one of a lesser stamp.
+fn has_lesser(counts: &BTreeMap<Stamp, u64>, at: &Stamp) -> bool
+    ensures { result ≡ list_any (λ s. lesser s at.now) (keys_of counts.now.entries) }
+{
+    counts.keys().any(|stamp| stamp.leq(at) && !at.leq(stamp))
+}
+
+// One more of a stamp.
+fn add_one(counts: &mut BTreeMap<Stamp, u64>, at: &Stamp) -> Result<(), AllocError>
+    ensures { IfOk result (λ u. HasOneMore at.now counts.old.entries counts.new.entries) }
+{
+    let more = times_of(counts, at).checked_add(1).ok_or(AllocError)?;
+    counts.insert(at.copy(), more)?;
+    Ok(())
+}
+
+// One less of a stamp, if there is one.
+fn take_one(counts: &mut BTreeMap<Stamp, u64>, at: &Stamp)
+    ensures { HasOneLess at.now counts.old.entries counts.new.entries }
+{
+    let Some(count) = counts.get_mut(at) else {
+        return;
+    };
+    if *count > 1 {
+        *count -= 1;
+    } else {
+        counts.remove(at);
+    }
+}
+
+// None of a stamp.
+fn clear_one(counts: &mut BTreeMap<Stamp, u64>, at: &Stamp)
+    ensures { HasNoMore at.now counts.old.entries counts.new.entries }
+{
+    counts.remove(at);
+}
+
+// Up to where there is none.
+fn until(alloc: Global, counts: &BTreeMap<Stamp, u64>) -> Result<Front, AllocError>
+    ensures { (bounds : Domain) → IsTallyOf bounds counts.now.entries
+        → IfOk result (λ f. IsFrontOf bounds f (frontier_of bounds (keys_of counts.now.entries))) }
+{
+    let stamps = lowest(alloc, counts)?;
+    Front::until(alloc, &stamps)
+}
+
+// The stamps in order, up to the first one whose coordinates but the first are all 0: each later one is at or above it.
+fn lowest(alloc: Global, counts: &BTreeMap<Stamp, u64>) -> Result<Vec<Stamp>, AllocError>
+    ensures { IfOk result (λ stamps. AreLowest stamps.items (keys_of counts.now.entries)) }
+{
+    let mut stamps = Vec::new(alloc);
+    for stamp in counts.keys() {
+        stamps.push(stamp.copy())?;
+        if begins_epoch(stamp) {
+            return Ok(stamps);
+        }
+    }
+    Ok(stamps)
+}
+
+// Whether all coordinates of a stamp but the first are 0.
+fn begins_epoch(stamp: &Stamp) -> bool
+    ensures { IsTrue result → AllByRecursion (λ n. n ≡ 0) (drop 1 stamp.now) }
+{
+    for place in 1..stamp.len() {
+        if stamp.at(place) > 0 {
+            return false;
+        }
+    }
+    true
+}

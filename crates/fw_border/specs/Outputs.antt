@@ -42,6 +42,10 @@ abbrev pub with_rec_at : ℕ → Rec → OutputState → OutputState
 with_rec_at x r output =
     if nat_lt x output.bound then output else record output { recs = insert_entry nat_cmp output.recs x (with_rec r (recs_at output.recs x)) }
 
+-- the recs at the bound, which are acknowledged next
+abbrev pub next_recs : OutputState → List Rec
+next_recs output = recs_at output.recs output.bound
+
 -- without the recs at the bound, which is one more
 abbrev pub acknowledged : OutputState → OutputState
 acknowledged output = record { bound = output.bound + 1; recs = remove_entry (is_at (nat_cmp output.bound)) output.recs }

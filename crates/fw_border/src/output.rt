@@ -7,7 +7,7 @@ ghost use Rattle.std.specs.Ordering.{nat_cmp};
 ghost use Rattle.fw_bag.specs.Bag.{with_rec};
 ghost use Rattle.fw_border.specs.Numbers as numbers;
 ghost use Rattle.fw_border.specs.Numbers.{numbered_recs};
-ghost use Rattle.fw_border.specs.Outputs.{recs_at, with_rec_at, acknowledged, rolled_output, cleared, new_output, AreByNumber};
+ghost use Rattle.fw_border.specs.Outputs.{recs_at, next_recs, with_rec_at, acknowledged, rolled_output, cleared, new_output, AreByNumber};
 
 use crate::number::{first_outside, is_below};
 use fw_bag::{Bag, Rec};
@@ -83,7 +83,7 @@ impl Output {
     /// Takes out the recs at the bound, and raises it by one.
     pub fn acknowledge(&mut self) -> Bag
         requires { self.old.bound + 1 < 2 ^ 64 }
-        ensures recs { result.recs ≡ recs_at self.old.recs self.old.bound }
+        ensures recs { result.recs ≡ next_recs self.old }
         ensures left { self.new ≡ acknowledged self.old }
     {
         let recs = take_at(self.alloc, &mut self.recs, self.bound);

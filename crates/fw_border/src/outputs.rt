@@ -5,7 +5,7 @@ ghost use Rattle.std.specs.BTreeMap.{is_at};
 ghost use Rattle.std.specs.Map.{lookup};
 ghost use Rattle.std.specs.Ordering.{nat_cmp};
 ghost use Rattle.fw_flow.specs.Projection.{first_coordinate};
-ghost use Rattle.fw_border.specs.Outputs.{new_output, output_at, with_output, recs_at, with_rec_at, acknowledged, rolled_output, cleared, AreByNumber};
+ghost use Rattle.fw_border.specs.Outputs.{new_output, output_at, with_output, recs_at, next_recs, with_rec_at, acknowledged, rolled_output, cleared, AreByNumber};
 
 use crate::number::number_of;
 use crate::output::Output;
@@ -106,7 +106,7 @@ impl Outputs {
     /// Takes out the recs of an output at its bound, and raises the bound by one. It takes no memory.
     pub fn acknowledge(&mut self, output: NodeId) -> Bag
         requires { (output_at self.old.outputs output).bound + 1 < 2 ^ 64 }
-        ensures recs { let output = output_at self.old.outputs output in result.recs ≡ recs_at output.recs output.bound }
+        ensures recs { result.recs ≡ next_recs (output_at self.old.outputs output) }
         ensures left { self.new ≡ record self.old { outputs = with_output acknowledged self.old.outputs output } }
     {
         match self.outputs.get_mut(output.place() as usize) {

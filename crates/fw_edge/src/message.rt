@@ -6,7 +6,7 @@ ghost use Rattle.fw_flow.specs.Projection.{all_inside};
 use fw_flow::Message;
 use fw_frontier::Front;
 
-/// The same message once more.
+/// The same message once more, as where it goes into a queue and into a log.
 pub fn copied(message: &Message) -> Message
     ensures { result ≡ message.now }
 {

@@ -1,10 +1,10 @@
 -- What waits, after an epoch is gone.
 use Rattle.std.proofs.Common.{◌≡◌, ℕ, Bool, true, false, cond, not, List, [], ◌∷◌, Option, None, refl, sym, ap, ◌∙◌, subst}
-use Rattle.std.specs.Prelude.{◌&&◌, ◌||◌}
+use Rattle.std.specs.Prelude.{◌||◌}
 use Rattle.std.specs.Ordering.{nat_cmp}
 use Rattle.std.specs.Map.{lookup}
 use Rattle.std.specs.BTreeMap.{BTreeMap, get, is_at}
-use Rattle.fw_time.specs.Stamp.{Stamp, leq, same}
+use Rattle.fw_time.specs.Stamp.{Stamp, same}
 use Rattle.fw_time.specs.declared.time.Epoch.{Epoch}
 use Rattle.fw_bag.specs.Arrivals.{Arrival, arrivals_at, arrivals_inside}
 use Rattle.fw_table.specs.Content.{IsContentOf, IsTable}

@@ -183,10 +183,10 @@ impl<T: Logical + Scalar> Settling<T> {
             ≡ sums_at_keys (recs_inside (λ s. after s && is_stamp_from from s) came) (recs_inside after came)) }
     {
         let totals = self.totals_at(f)?;
-        let mut open = BTreeMap::new(self.alloc);
-        make_rooms::<T>(&mut open, &self.by_time, f)?;
-        note_all::<T>(&mut open, &self.by_time, f)?;
-        let recs = noted_from(self.alloc, totals.as_slice(), &self.latest, &open, from)?;
+        let mut recent = BTreeMap::new(self.alloc);
+        make_rooms::<T>(&mut recent, &self.by_time, f)?;
+        note_all::<T>(&mut recent, &self.by_time, f)?;
+        let recs = noted_from(self.alloc, totals.as_slice(), &self.latest, &recent, from)?;
         Ok(Recs::of(recs))
     }
 

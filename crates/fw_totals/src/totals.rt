@@ -136,21 +136,21 @@ pub(crate) fn shown(
 // Whether the key came at the number or later, as one of the two notes.
 fn is_noted(
     settled: &BTreeMap<u64, Option<u64>>,
-    open: &BTreeMap<u64, Option<u64>>,
+    recent: &BTreeMap<u64, Option<u64>>,
     key: u64,
     from: u64,
 ) -> bool
-    ensures { result ≡ (is_from from (found settled.now key) || is_from from (found open.now key)) }
+    ensures { result ≡ (is_from from (found settled.now key) || is_from from (found recent.now key)) }
 {
     let is_settled = match latest_at(settled, key) {
         Some(number) => from <= number,
         None => false,
     };
-    let is_open = match latest_at(open, key) {
+    let is_recent = match latest_at(recent, key) {
         Some(number) => from <= number,
         None => false,
     };
-    is_settled || is_open
+    is_settled || is_recent
 }
 
 /// The recs whose keys came at the number or later, as one of the two notes.
@@ -158,14 +158,14 @@ pub(crate) fn noted_from(
     alloc: Global,
     recs: &[Rec],
     settled: &BTreeMap<u64, Option<u64>>,
-    open: &BTreeMap<u64, Option<u64>>,
+    recent: &BTreeMap<u64, Option<u64>>,
     from: u64,
 ) -> Result<Vec<Rec>, AllocError>
     ensures { IfOk result (λ kept. kept.items
-        ≡ filter (λ r. is_from from (found settled.now r.key) || is_from from (found open.now r.key)) recs.now) }
+        ≡ filter (λ r. is_from from (found settled.now r.key) || is_from from (found recent.now r.key)) recs.now) }
 {
     recs.iter()
-        .filter(|rec| is_noted(settled, open, rec.key, from))
+        .filter(|rec| is_noted(settled, recent, rec.key, from))
         .copied()
         .collect(alloc)
 }

@@ -23,7 +23,7 @@ returns g c = λ base inside after came agree sub past r l.
     let here : (q : ℕ) → is_from n (found c.note_all.new.latest q) ≡ seen_from I g.T.Scalar.coordinate n q false table.entries = λ q.
     c.in_ok-note_all.ensures.noted q n
     ∙ ap (λ o. seen_from I g.T.Scalar.coordinate n q (is_from n o) table.entries)
-    (c.make_rooms.ensures.same q ∙ ap (λ es. total_in (lookup (is_at (nat_cmp q)) es)) c.new-open.ensures.empty) in
+    (c.make_rooms.ensures.same q ∙ ap (λ es. total_in (lookup (is_at (nat_cmp q)) es)) c.new-recent.ensures.empty) in
     c.of.ensures ∙ c.in_ok-recs.ensures
     ∙ ap (filter noted) (c.as_slice.ensures ∙ c.in_ok-totals.ensures inside after came agree sub r)
     ∙ filter_same noted (λ x. has_key x.key recent)

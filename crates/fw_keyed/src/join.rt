@@ -1,9 +1,8 @@
 //! The pairs of recs of two edges with one key, at each time.
-ghost use Rattle.std.specs.Prelude.{◌≡◌, ◌<◌, ℕ, List, Bool, [], ◌∷◌, not, ◌&&◌, ◌==◌, IfOk, OnOk, OnErr, IsTrue, IsErr, true, reverse};
-ghost use Rattle.fw_time.specs.Stamp.{same};
+ghost use Rattle.std.specs.Prelude.{◌≡◌, ◌<◌, ℕ, List, Bool, [], ◌∷◌, not, ◌==◌, IfOk, OnOk, OnErr, IsTrue, IsErr, true, reverse};
 ghost use Rattle.fw_bag.specs.declared.rec.Rec.{Rec};
 ghost use Rattle.fw_bag.specs.Arrivals.{Arrival, arrivals_inside};
-ghost use Rattle.fw_bag.specs.Keyed.{plus, joined_rec};
+ghost use Rattle.fw_bag.specs.Keyed.{joined_rec};
 ghost use Rattle.fw_table.specs.Arrived.{arrival};
 ghost use Rattle.fw_keyed.specs.Sides.{HasValues, sums_with, values_with, recs_across, AreOfTwo};
 ghost use Rattle.fw_keyed.specs.Tables.{IsJoin};

@@ -1,27 +1,19 @@
 -- What waits, after an epoch is gone.
 use Rattle.std.proofs.Common.{◌≡◌, ℕ, Bool, true, false, cond, not, List, [], ◌∷◌, Option, None, refl, sym, ap, ◌∙◌, subst}
-use Rattle.std.specs.Prelude.{◌&&◌, ◌||◌}
+use Rattle.std.specs.Prelude.{◌||◌}
 use Rattle.std.specs.Ordering.{nat_cmp}
 use Rattle.std.specs.Map.{lookup}
 use Rattle.std.specs.BTreeMap.{BTreeMap, get, is_at}
-use Rattle.fw_time.specs.Stamp.{Stamp, leq, same}
+use Rattle.fw_time.specs.Stamp.{Stamp, same}
 use Rattle.fw_time.specs.declared.time.Epoch.{Epoch}
 use Rattle.fw_bag.specs.Arrivals.{Arrival, arrivals_at, arrivals_inside}
 use Rattle.fw_table.specs.Content.{IsContentOf, IsTable}
 use Rattle.fw_time.specs.NestLaws.{single-apart}
 use Rattle.fw_time.proofs.StampLaws.{same-is}
 use Rattle.fw_bag.proofs.ArrivalLaws.{at-inside}
+use Rattle.fw_totals.proofs.GatherLaws.{same_swap}
 use Rattle.fw_numbered.specs.declared.sequence.Held.{Held}
 use Rattle.fw_numbered.specs.Sequence.{holds_bag}
-
-same_swap : (s t : Stamp) → same s t ≡ same t s
-same_swap s t = cases (leq s t) (leq t s)
-  where
-    cases : (a b : Bool) → (a && b) ≡ (b && a)
-    cases true true = refl
-    cases true false = refl
-    cases false true = refl
-    cases false false = refl
 
 abbrev first : Stamp → ℕ
 first [] = 0

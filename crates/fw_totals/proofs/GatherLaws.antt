@@ -64,7 +64,8 @@ some_there s (a ∷ came) h e = cases (same a.at s) (some_there s came) h e
     cases true k h e = cc
     cases false k h e = k h e
 
-same_swap : (s t : Stamp) → same s t ≡ same t s
+-- the test does not mind the order
+pub same_swap : (s t : Stamp) → same s t ≡ same t s
 same_swap s t = cases (leq s t) (leq t s)
   where
     cases : (a b : Bool) → (a && b) ≡ (b && a)
@@ -303,6 +304,17 @@ module _ {T : Type 0} (cmp : T → T → Ordering) (coords : T → Stamp) (apart
         (each-weaker (λ (a : Arrival). (inside a.at || among_entries a.at) ≡ after a.at)
         (λ a. ((inside a.at || among_entries a.at) && is_stamp_from n a.at) ≡ (after a.at && is_stamp_from n a.at)) came
         (λ a h. ap (λ b. b && is_stamp_from n a.at) h) (each_after times q)))
+
+    -- so are those that were noted before and those of the times inside by themselves
+    pub open_latest : (coordinate : T → ℕ) → ((t : T) → coords t ≡ coordinate t ∷ []) → AreTimes coords came → (q n : ℕ)
+        → (has_key q (recs_inside (λ s. inside s && is_stamp_from n s) came) || seen_from into coordinate n q false table.entries)
+        ≡ has_key q (recs_inside (λ s. after s && is_stamp_from n s) came)
+    open_latest coordinate one times q n =
+        let before : Bool = has_key q (recs_inside (λ s. inside s && is_stamp_from n s) came) in
+        let kept : List Arrival = arrivals_inside (λ s. not (inside s)) came in
+        ap (λ b. before || b) (seen-is coords coordinate one into q n kept table.entries (entries_seen q) false)
+        ∙ sym (seen-is coords coordinate one into q n kept table.entries (entries_seen q) before)
+        ∙ settles_latest coordinate one times q n
 
     -- the totals into which all times inside are taken are those of what is settled then
     pub settles : (totals : BTreeMap ℕ (Option ℕ)) → HasTotals totals (recs_where (λ a. inside a.at) came) → AreTimes coords came → (q : ℕ)

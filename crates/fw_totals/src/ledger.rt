@@ -4,7 +4,7 @@ ghost use Rattle.fw_bag.specs.Arrivals.{Arrival, arrivals_inside, recs_of};
 ghost use Rattle.fw_bag.specs.Keyed.{plus, value_sum, has_key};
 ghost use Rattle.fw_frontier.specs.Below.{is_below};
 ghost use Rattle.fw_table.specs.Arrived.{arrival, recs_inside, AreInside, AreTimes, IsWithin};
-ghost use Rattle.fw_table.specs.Sums.{sums_by_key};
+ghost use Rattle.fw_table.specs.Sums.{sums_at_keys, sums_by_key};
 ghost use Rattle.fw_totals.specs.Ledger.{IsLedger, IsLedgerLatest};
 ghost use Rattle.fw_totals.specs.Latest.{is_from, is_stamp_from, IsPast};
 
@@ -143,6 +143,24 @@ impl Ledger {
             return Err(AllocError);
         }
         self.table.totals_at(f)
+    }
+
+    /// The totals of what came inside, which holds what is settled, of the keys that came there at the number or later, in
+    /// ascending order of the keys: what changes since that number.
+    ///
+    /// It costs what `totals_at` does. It fails where memory is refused, now or earlier.
+    pub fn totals_from(&self, from: u32, f: &Below) -> Result<Recs, AllocError>
+        ensures totals { (base inside after : List ℕ → Bool) (came : List Arrival)
+            → ((n : ℕ) → after (n ∷ []) ≡ is_below f.now.until n) → IsWithin inside after → IsPast base from
+            → IsLedger inside self.now came → IsLedgerLatest base inside self.now came
+            → IfOk result (λ totals. totals
+            ≡ sums_at_keys (recs_inside (λ s. after s && is_stamp_from from s) came) (recs_inside after came)) }
+        ensures stays { IsTrue self.now.refused → IsErr result }
+    {
+        if self.refused {
+            return Err(AllocError);
+        }
+        self.table.totals_from(from as u64, f)
     }
 
     /// Keeps what came inside, which holds what was settled, and settles it.

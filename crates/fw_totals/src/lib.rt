@@ -11,5 +11,4 @@ mod total;
 mod totals;
 
 pub use ledger::Ledger;
-pub use settling::Settling;
 pub use total::Total;

@@ -1,16 +1,16 @@
 //! Sums by time outside what is settled, and totals of what is settled.
-ghost use Rattle.std.specs.Prelude.{◌≡◌, ℕ, Bool, List, [], ◌∷◌, true, false, IfOk, OnOk, OnErr, IsOk};
+ghost use Rattle.std.specs.Prelude.{◌≡◌, ◌&&◌, ℕ, Bool, List, [], ◌∷◌, false, IfOk, OnOk, OnErr, IsOk};
 ghost use Rattle.std.specs.List.Sorted.{IsStrictlySortedBy};
 ghost use Rattle.std.specs.Map.{keys_of};
 ghost use Rattle.fw_bag.specs.Arrivals.{Arrival, recs_of};
 ghost use Rattle.fw_table.specs.Arrived.{arrival, recs_inside, AreInside, AreTimes, IsWithin};
-ghost use Rattle.fw_table.specs.Sums.{sums_by_key};
+ghost use Rattle.fw_table.specs.Sums.{sums_at_keys, sums_by_key};
 ghost use Rattle.fw_totals.specs.Totals.{found};
 ghost use Rattle.fw_totals.specs.Gathered.{gathered, HasRooms};
-ghost use Rattle.fw_totals.specs.Latest.{is_from, seen_from, HasLatest};
+ghost use Rattle.fw_totals.specs.Latest.{is_from, is_stamp_from, seen_from, IsPast};
 ghost use Rattle.fw_totals.specs.Settling.{IsSettling, IsSettlingLatest};
 
-use crate::totals::{latest_at, make_room, note, restored, shown, take_in};
+use crate::totals::{latest_at, make_room, note, noted_from, restored, shown, take_in};
 use fw_bag::{Rec, Recs};
 use fw_frontier::{Frontier, Logical};
 use fw_table::{Sums, keep_outside, put_at};
@@ -168,6 +168,25 @@ impl<T: Logical + Scalar> Settling<T> {
         make_rooms::<T>(&mut totals, &self.by_time, f)?;
         take_all::<T>(&mut totals, &self.by_time, f)?;
         let recs = shown(self.alloc, &totals)?;
+        Ok(Recs::of(recs))
+    }
+
+    /// The totals of what came inside, which holds what is settled, of the keys that came there at the number or later, in
+    /// ascending order of the keys.
+    ///
+    /// It fails where memory is refused.
+    pub fn totals_from(&self, from: u64, f: &T::Frontier) -> Result<Recs, AllocError>
+        ensures { (base inside after : List ℕ → Bool) (came : List Arrival)
+            → ((t : T) → after (T.coords t) ≡ T.Frontier.inside f.now t) → IsWithin inside after → IsPast base from
+            → IsSettling T.cmp T.coords inside self.now came → IsSettlingLatest base inside self.now came
+            → IfOk result (λ totals. totals
+            ≡ sums_at_keys (recs_inside (λ s. after s && is_stamp_from from s) came) (recs_inside after came)) }
+    {
+        let totals = self.totals_at(f)?;
+        let mut recent = BTreeMap::new(self.alloc);
+        make_rooms::<T>(&mut recent, &self.by_time, f)?;
+        note_all::<T>(&mut recent, &self.by_time, f)?;
+        let recs = noted_from(self.alloc, totals.as_slice(), &self.latest, &recent, from)?;
         Ok(Recs::of(recs))
     }
 

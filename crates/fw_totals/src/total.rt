@@ -1,7 +1,5 @@
 //! The running totals of each key over the epochs.
 ghost use Rattle.std.specs.Prelude.{◌≡◌, ◌&&◌, ◌||◌, ℕ, Bool, List, [], ◌∷◌, true, false, IfOk, OnOk, OnErr, IsTrue, IsErr};
-ghost use Rattle.std.specs.BTreeMap.{get};
-ghost use Rattle.std.specs.Option.{is_some};
 ghost use Rattle.std.specs.Ordering.{nat_cmp};
 ghost use Rattle.std.specs.List.Sorted.{IsStrictlySortedBy};
 ghost use Rattle.std.specs.Map.{keys_of};
@@ -13,6 +11,7 @@ ghost use Rattle.fw_table.specs.Arrived.{arrival, recs_at, recs_inside, AreInsid
 ghost use Rattle.fw_table.specs.Sums.{sums_at_keys, sums_by_key};
 ghost use Rattle.fw_totals.specs.Totals.{found, raised_recs};
 ghost use Rattle.fw_totals.specs.Total.{IsTotal, IsTotalLatest};
+ghost use Rattle.fw_totals.specs.Gathered.{HasRoom};
 ghost use Rattle.fw_totals.specs.Latest.{is_from, is_stamp_from, IsPast};
 
 use crate::settling::Settling;
@@ -33,8 +32,7 @@ fn raised(
 ) -> Result<SentRecs, AllocError>
     ensures recs { IfOk result (λ recs. recs ≡ raised_recs totals.old sums.now.entries) }
     ensures same { (q : ℕ) → found totals.new q ≡ found totals.old q }
-    ensures room { OnOk result
-        ((q : ℕ) → is_some (get nat_cmp sums.now q) ≡ true → is_some (get nat_cmp totals.new q) ≡ true) }
+    ensures room { OnOk result (HasRoom sums.now totals.new) }
     ensures ordered { IsStrictlySortedBy nat_cmp (keys_of sums.now.entries) }
 {
     let mut recs = SentRecs::of(None);
@@ -194,6 +192,24 @@ impl Total {
             return Err(AllocError);
         }
         self.table.totals_at(f)
+    }
+
+    /// The totals of what came inside, which holds what is settled, of the keys that came there at the epoch or later, in
+    /// ascending order of the keys: what changes since that epoch.
+    ///
+    /// It costs what `totals_at` does. It fails where memory is refused, now or earlier.
+    pub fn totals_from(&self, from: u32, f: &Below) -> Result<Recs, AllocError>
+        ensures totals { (base inside after taken : List ℕ → Bool) (came : List Arrival)
+            → ((n : ℕ) → after (n ∷ []) ≡ is_below f.now.until n) → IsWithin inside after → IsPast base from
+            → IsTotal inside taken self.now came → IsTotalLatest base inside self.now came
+            → IfOk result (λ totals. totals
+            ≡ sums_at_keys (recs_inside (λ s. after s && is_stamp_from from s) came) (recs_inside after came)) }
+        ensures stays { IsTrue self.now.refused → IsErr result }
+    {
+        if self.refused {
+            return Err(AllocError);
+        }
+        self.table.totals_from(from as u64, f)
     }
 
     /// Keeps what came inside, which holds what was settled, and settles it: each epoch inside counts as taken in.

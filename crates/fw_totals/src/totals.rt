@@ -1,5 +1,5 @@
 //! Totals of keys, for which all memory can be taken before any of them changes: a key may have a place without a total.
-ghost use Rattle.std.specs.Prelude.{◌≡◌, ◌&&◌, ◌||◌, nat_le, ℕ, Bool, List, true, IfOk, OnOk, IsOk};
+ghost use Rattle.std.specs.Prelude.{◌≡◌, ◌&&◌, ◌||◌, nat_le, filter, ℕ, List, true, IfOk, OnOk, IsOk};
 ghost use Rattle.std.specs.Option.{is_some, unwrap_or};
 ghost use Rattle.std.specs.Ordering.{nat_cmp};
 ghost use Rattle.std.specs.List.Sorted.{IsStrictlySortedBy};
@@ -8,6 +8,7 @@ ghost use Rattle.std.specs.BTreeMap.{get};
 ghost use Rattle.fw_bag.specs.declared.rec.Rec.{Rec};
 ghost use Rattle.fw_bag.specs.Keyed.{has_key};
 ghost use Rattle.fw_table.specs.Sums.{entry_recs, sums_by_key};
+ghost use Rattle.fw_totals.specs.Gathered.{HasRoom};
 ghost use Rattle.fw_totals.specs.Latest.{is_from};
 ghost use Rattle.fw_totals.specs.Totals.{combined, found, shown_entries, written, AreSumsIn, HasTotals};
 
@@ -21,9 +22,8 @@ pub(crate) fn make_room(
     sums: &BTreeMap<u64, u64>,
 ) -> Result<(), AllocError>
     ensures same { (q : ℕ) → found totals.new q ≡ found totals.old q }
-    ensures kept { (q : ℕ) → is_some (get nat_cmp totals.old q) ≡ true → is_some (get nat_cmp totals.new q) ≡ true }
-    ensures room { OnOk result
-        ((q : ℕ) → is_some (get nat_cmp sums.now q) ≡ true → is_some (get nat_cmp totals.new q) ≡ true) }
+    ensures kept { HasRoom totals.old totals.new }
+    ensures room { OnOk result (HasRoom sums.now totals.new) }
 {
     for (key, _) in sums {
         if !totals.contains_key(key) {
@@ -37,7 +37,7 @@ pub(crate) fn make_room(
 pub(crate) fn place_at(totals: &mut BTreeMap<u64, Option<u64>>, key: u64) -> Result<u64, AllocError>
     ensures total { IfOk result (λ total. total ≡ unwrap_or (found totals.old key) 0) }
     ensures same { (q : ℕ) → found totals.new q ≡ found totals.old q }
-    ensures kept { (q : ℕ) → is_some (get nat_cmp totals.old q) ≡ true → is_some (get nat_cmp totals.new q) ≡ true }
+    ensures kept { HasRoom totals.old totals.new }
     ensures room { OnOk result (is_some (get nat_cmp totals.new key) ≡ true) }
 {
     match totals.get(&key) {
@@ -65,9 +65,8 @@ pub(crate) fn take_in(
     totals: &mut BTreeMap<u64, Option<u64>>,
     sums: &BTreeMap<u64, u64>,
 ) -> Result<(), AllocError>
-    ensures ok { ((q : ℕ) → is_some (get nat_cmp sums.now q) ≡ true → is_some (get nat_cmp totals.old q) ≡ true)
-        → IsOk result }
-    ensures kept { (q : ℕ) → is_some (get nat_cmp totals.old q) ≡ true → is_some (get nat_cmp totals.new q) ≡ true }
+    ensures ok { HasRoom sums.now totals.old → IsOk result }
+    ensures kept { HasRoom totals.old totals.new }
     ensures totals { OnOk result
         ((q : ℕ) → found totals.new q ≡ combined (found totals.old q) (get nat_cmp sums.now q)) }
 {
@@ -95,9 +94,8 @@ pub(crate) fn note(
     sums: &BTreeMap<u64, u64>,
     number: u64,
 ) -> Result<(), AllocError>
-    ensures ok { ((q : ℕ) → is_some (get nat_cmp sums.now q) ≡ true → is_some (get nat_cmp latest.old q) ≡ true)
-        → IsOk result }
-    ensures kept { (q : ℕ) → is_some (get nat_cmp latest.old q) ≡ true → is_some (get nat_cmp latest.new q) ≡ true }
+    ensures ok { HasRoom sums.now latest.old → IsOk result }
+    ensures kept { HasRoom latest.old latest.new }
     ensures noted { OnOk result ((q n : ℕ) → is_from n (found latest.new q)
         ≡ (is_from n (found latest.old q) || (is_some (get nat_cmp sums.now q) && nat_le n number))) }
 {
@@ -133,6 +131,43 @@ pub(crate) fn shown(
     ensures { (rs : List Rec) → HasTotals totals.now rs → IfOk result (λ recs. recs.items ≡ sums_by_key rs) }
 {
     shown_recs(alloc, totals)
+}
+
+// Whether the key came at the number or later, as one of the two notes.
+fn is_noted(
+    settled: &BTreeMap<u64, Option<u64>>,
+    recent: &BTreeMap<u64, Option<u64>>,
+    key: u64,
+    from: u64,
+) -> bool
+    ensures { result ≡ (is_from from (found settled.now key) || is_from from (found recent.now key)) }
+{
+    let is_settled = match latest_at(settled, key) {
+        Some(number) => from <= number,
+        None => false,
+    };
+    let is_recent = match latest_at(recent, key) {
+        Some(number) => from <= number,
+        None => false,
+    };
+    is_settled || is_recent
+}
+
+/// The recs whose keys came at the number or later, as one of the two notes.
+pub(crate) fn noted_from(
+    alloc: Global,
+    recs: &[Rec],
+    settled: &BTreeMap<u64, Option<u64>>,
+    recent: &BTreeMap<u64, Option<u64>>,
+    from: u64,
+) -> Result<Vec<Rec>, AllocError>
+    ensures { IfOk result (λ kept. kept.items
+        ≡ filter (λ r. is_from from (found settled.now r.key) || is_from from (found recent.now r.key)) recs.now) }
+{
+    recs.iter()
+        .filter(|rec| is_noted(settled, recent, rec.key, from))
+        .copied()
+        .collect(alloc)
 }
 
 /// Writes recs as the totals of their keys. Where each key has a place it takes no memory.

@@ -1,0 +1,20 @@
+//! Rows of nodes: short runs of a node alone, of each kind. The arguments name the files of rows, in order.
+#![tactic(auto)]
+
+mod call;
+mod line;
+mod row;
+mod spell;
+
+use crate::row::tell_rows;
+use std::{env, fs, io};
+
+fn main(rt: HostRuntime) -> io::Result<()> {
+    let alloc = rt.alloc();
+    for path in env::args(&rt)?.skip(1) {
+        let text = fs::read_to_string(&rt, path.as_str())?;
+        let told = tell_rows(alloc, &text)?;
+        print!(rt; "{told}")?;
+    }
+    Ok(())
+}

@@ -9,7 +9,7 @@ use Rattle.fw_flow.specs.Counting.{how_many}
 use Rattle.fw_flow.specs.declared.node.Edge.{Edge}
 use Rattle.fw_flow.specs.Dataflow.{Dataflow, sender, receiver, bounds_of, edges_from, out_edges}
 use Rattle.fw_flow.specs.SentTable.{AreInOrder}
-use Rattle.fw_time.proofs.EachLaws.{each-at}
+use Rattle.fw_time.proofs.EachLaws.{each-append, each-at}
 use Rattle.fw_flow.proofs.OutEdgeLaws.{out_edges-from}
 use Rattle.fw_progress.specs.Counts.{is_in}
 use Rattle.fw_progress.specs.Progress.{ChangesAt, AreSent, IsSentMore}
@@ -155,3 +155,7 @@ all_sent flow p stamps edges old new is a = record {
     from : {n : ℕ} (b : Bool) → n ≡ cond b 1 0 → (n ≡ 0 → ⊥) → b ≡ true
     from true e f = refl
     from false e f = absurd (f e)
+
+-- one more of which it holds
+pub each-taken : {A : Type 0} (P : A → Type 0) (xs : List A) (i : ℕ) (x : A) → i < length xs → x ≡ get_or xs i x → AllByRecursion P (take i xs) → P x → AllByRecursion P (take (i + 1) xs)
+each-taken P xs i x l is a p = subst (AllByRecursion P) (sym (take_more xs i x l ∙ ap (λ y. take i xs ++ y ∷ []) (sym is))) (each-append P (take i xs) (x ∷ []) a (p, tt))

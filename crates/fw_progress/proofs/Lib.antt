@@ -9,3 +9,4 @@ pub mod FollowLaws
 pub mod ProgressLaws
 pub mod StartLaws
 pub mod NoticeLaws
+pub mod SettleLaws

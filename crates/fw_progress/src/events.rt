@@ -1,16 +1,17 @@
 //! What an event changes in the counts.
-ghost use Rattle.std.specs.Prelude.{◌≡◌, ◌<◌, [], true, length, IfOk};
+ghost use Rattle.std.specs.Prelude.{◌≡◌, ◌<◌, [], true, length, IsTrue, IfOk};
+ghost use Rattle.std.specs.List.{AllByRecursion};
 ghost use Rattle.fw_time.specs.Stamp.{in_domain};
 ghost use Rattle.fw_flow.specs.Dataflow.{receiver, bounds_of};
 ghost use Rattle.fw_progress.specs.Counts.{AreCounts};
-ghost use Rattle.fw_progress.specs.Progress.{ChangesAt, AreSent, IsNext, IsSentMore, IsDelivered, IsNotified, IsInjected};
+ghost use Rattle.fw_progress.specs.Progress.{ChangesAt, CanSend, AreSent, IsNext, IsSentMore, IsDelivered, IsNotified, IsInjected};
 ghost use Rattle.fw_progress.specs.Tally.{HasOneMore, HasOneLess, HasNoMore, HasEachMore};
 
 use crate::counts::Counts;
 use crate::tally::Tally;
 use fw_flow::laws::flow_is_well_formed;
 use fw_flow::{EdgeId, Flow, NodeId, SentTable};
-use fw_time::Stamp;
+use fw_time::{Bounds, Stamp};
 use std::alloc::AllocError;
 
 /// One message less is pending on an edge.
@@ -157,4 +158,29 @@ pub(crate) fn injected(
 {
     inject(&mut counts.injected, node);
     send(flow, &mut counts.pending, node, sent)
+}
+
+/// Whether each of the stamps is one of the domain.
+fn are_in_domain(stamps: &[Stamp], bounds: &Bounds) -> bool
+    ensures { IsTrue result → AllByRecursion (λ s. in_domain bounds.now s ≡ true) stamps.now }
+{
+    for stamp in stamps {
+        if !stamp.in_domain(bounds) {
+            return false;
+        }
+    }
+    true
+}
+
+/// Whether the node can send at each of the stamps: on each of its out-edges they are stamps of the receiver's domain.
+pub fn can_send(flow: &Flow, node: NodeId, stamps: &[Stamp]) -> bool
+    ensures { IsTrue result → CanSend flow.now node stamps.now }
+{
+    let edges = flow.out_edges(node);
+    for edge in edges {
+        if !are_in_domain(stamps, &flow.domain(flow.dst(*edge))) {
+            return false;
+        }
+    }
+    true
 }

@@ -12,12 +12,14 @@ mod growth;
 mod notices;
 mod progress;
 mod refresh;
+mod settle;
 mod start;
 mod tally;
 mod target;
 mod worklist;
 
 pub use counts::Counts;
+pub use events::can_send;
 pub use growth::{Growth, Growths};
 pub use progress::Progress;
 pub use tally::Tally;

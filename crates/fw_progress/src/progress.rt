@@ -10,6 +10,8 @@ ghost use Rattle.fw_model.specs.Machine.{front_of, family_of, no_stamps, AreCano
 ghost use Rattle.fw_progress.specs.Counts.{AreCounts};
 ghost use Rattle.fw_progress.specs.Growths.{AreGrowths, out_degrees, IsPut};
 ghost use Rattle.fw_progress.specs.History.{IsCountOf, StandsFor, Follows, IsFresh};
+ghost use Rattle.fw_progress.specs.Settle.{IsSettledBy};
+ghost use Rattle.fw_model.specs.Machine.{Machine, events as machine_events};
 ghost use Rattle.fw_progress.specs.Progress.{Standing, IsProgressOf, CanSend, IsDelivered, IsNotified, IsInjected};
 
 use crate::counts::Counts;
@@ -17,6 +19,7 @@ use crate::events;
 use crate::growth::Growths;
 use crate::notices::may_notify;
 use crate::refresh::refresh;
+use crate::settle::{any_has_more, grown};
 use crate::start::{largest, no_stamps_each, none};
 use crate::worklist::Worklist;
 use fw_flow::laws::flow_is_well_formed;
@@ -276,6 +279,32 @@ impl Progress {
         let can = may_notify(alloc, flow, &self.counts, &self.kept, node, at);
         self.refused = can.is_err();
         can
+    }
+
+    /// What is settled once the nodes that are not failed settle what is complete; `None` exactly where none of them has more
+    /// to settle. It settles nothing (`settle`). The error is want of memory.
+    pub fn grows(
+        &mut self,
+        alloc: Global,
+        flow: &Flow,
+        failed: &[bool],
+    ) -> Result<Option<Vec<Front>>, AllocError>
+        requires progress { IsProgressOf flow.now self.old }
+        requires failed { length failed.now ≡ length flow.now.nodes }
+        ensures progress { IsProgressOf flow.now self.new }
+        ensures fresh { IfOk result (λ grown. IsFresh flow.now self.old self.new) }
+        ensures exact { (sys : System) (state : Machine) → sys.flow ≡ flow.now → StandsFor sys (machine_events state.history) self.old
+            → self.old.settled ≡ state.settled → failed.now ≡ state.failed → IfOk result (IsSettledBy sys state) }
+        ensures refused { IsErr result → IsTrue self.new.refused }
+        ensures stays { IsTrue self.old.refused → IsErr result }
+    {
+        self.freshen(alloc, flow)?;
+        if !any_has_more(failed, &self.kept, &self.settled) {
+            return Ok(None);
+        }
+        let both = grown(alloc, failed, &self.settled, &self.kept);
+        self.refused = both.is_err();
+        Ok(Some(both?))
     }
 
     /// The kept frontiers are complete from now on. The error is want of memory.

@@ -1,0 +1,24 @@
+use Rattle.std.proofs.Common.{◌≡◌, ℕ, true, ap, subst, ◌∙◌}
+use Rattle.std.proofs.lemmas.List.{take_all}
+use Rattle.std.specs.List.{AllByRecursion}
+use Rattle.fw_time.specs.Stamp.{in_domain}
+use Rattle.fw_time.specs.declared.stamp.Bounds.{Bounds}
+use Rattle.fw_flow.specs.Dataflow.{receiver, bounds_of}
+use Rattle.fw_flow.proofs.OutEdgeLaws.{out_edges-at}
+use Rattle.fw_progress.proofs.EventLaws.{each-taken}
+use Rattle.fw_progress.proofs.events.can_send.Goals as goal
+
+pub loop-edge-preserved : goal.loop-edge-preserved
+loop-edge-preserved c =
+    let flow = c.args.flow.now in
+    let stamps = c.args.stamps.now in
+    let P : ℕ → Type 0 = λ e. AllByRecursion (λ s. in_domain (bounds_of flow (receiver flow e)) s ≡ true) stamps in
+    let here = subst (λ (b : Bounds). AllByRecursion (λ s. in_domain b s ≡ true) stamps) (c.domain.ensures ∙ ap (bounds_of flow) c.dst.ensures) (c.are_in_domain.ensures c.if-not-are_in_domain.false) in
+    each-taken P c.out_edges-edges.result.now c.loop-edge.edge-index c.edge-item.result c.loop-edge-test.true c.edge-item.is c.loop-edge.invariant here
+
+pub returns : goal.returns
+returns c = λ k e l r.
+    let flow = c.args.flow.now in
+    let edges = c.out_edges-edges.result.now in
+    let P : ℕ → Type 0 = λ d. AllByRecursion (λ s. in_domain (bounds_of flow (receiver flow d)) s ≡ true) c.args.stamps.now in
+    out_edges-at P flow c.args.node (subst (AllByRecursion P) c.out_edges-edges.ensures (subst (AllByRecursion P) (take_all c.loop-edge.edge-index edges c.loop-edge-test.false) c.loop-edge.invariant)) e l r

@@ -1,0 +1,69 @@
+//! What becomes settled.
+ghost use Rattle.std.specs.Prelude.{◌≡◌, ◌<◌, ◌↔◌, ◌&&◌, not, false, length, slice_index_or, IsTrue, IfOk};
+ghost use Rattle.fw_model.specs.Machine.{front_of};
+ghost use Rattle.fw_progress.specs.Settle as spec;
+ghost use Rattle.fw_progress.specs.Settle.{HasMore, AreGrown, IsJoined};
+
+use fw_frontier::Front;
+use std::alloc::{AllocError, Global};
+
+/// Whether a frontier has a stamp that another lacks.
+fn has_more(front: &Front, other: &Front) -> bool
+    ensures { result ≡ spec.has_more front.now other.now }
+{
+    other.outside().iter().any(|stamp| front.contains(stamp))
+}
+
+/// Whether that is so of the kept frontier and of what is settled at a place that is not failed.
+fn has_more_at(failed: &[bool], kept: &[Front], settled: &[Front], place: usize) -> bool
+    requires failed { place < length failed.now }
+    requires kept { place < length kept.now }
+    requires settled { place < length settled.now }
+    ensures { result ≡ (not (slice_index_or failed.now place false)
+        && spec.has_more (front_of kept.now place) (front_of settled.now place)) }
+{
+    !failed[place] && has_more(&kept[place], &settled[place])
+}
+
+/// Whether some node that is not failed keeps more than it settled.
+pub(crate) fn any_has_more(failed: &[bool], kept: &[Front], settled: &[Front]) -> bool
+    requires kept { length kept.now ≡ length failed.now }
+    requires settled { length settled.now ≡ length failed.now }
+    ensures { IsTrue result ↔ HasMore failed.now kept.now settled.now }
+{
+    for place in 0..failed.len() {
+        if has_more_at(failed, kept, settled, place) {
+            return true;
+        }
+    }
+    false
+}
+
+/// What is settled of a node once it settles what it keeps, unless it is failed. The error is want of memory.
+fn joined(failed: bool, settled: &Front, kept: &Front) -> Result<Front, AllocError>
+    ensures { IfOk result (λ both. IsJoined failed settled.now kept.now both) }
+{
+    if failed {
+        settled.copy()
+    } else {
+        settled.join(kept)
+    }
+}
+
+/// The same of each node. The error is want of memory.
+pub(crate) fn grown(
+    alloc: Global,
+    failed: &[bool],
+    settled: &[Front],
+    kept: &[Front],
+) -> Result<Vec<Front>, AllocError>
+    requires settled { length settled.now ≡ length failed.now }
+    requires kept { length kept.now ≡ length failed.now }
+    ensures { IfOk result (λ both. AreGrown (length failed.now) failed.now settled.now kept.now both.items) }
+{
+    let mut both = Vec::with_capacity(alloc, failed.len())?;
+    for place in 0..failed.len() {
+        both.push(joined(failed[place], &settled[place], &kept[place])?)?;
+    }
+    Ok(both)
+}

@@ -1,0 +1,66 @@
+-- What a catalogue holds stays sound.
+use Rattle.std.proofs.Common.{◌≡◌, ℕ, ◌+◌, ◌≤◌, List, [], ◌∷◌, ◌++◌, length, take, Option, Some, Result, Ok, Err, vec_len, refl, sym, ap, subst, ◌∙◌, arith, length-append}
+use Rattle.std.specs.Prelude.{Contains}
+use Rattle.std.specs.Vec.{vec_capacity}
+use Rattle.std.proofs.lemmas.List.{take-append-le}
+use Rattle.fw_flow.specs.Dataflow.{Dataflow}
+use Rattle.fw_record.specs.declared.record.Record.{Record}
+use Rattle.fw_keep.specs.declared.entry.Entry.{Entry}
+use Rattle.fw_keep.specs.declared.fault.KeepFault.{KeepFault}
+use Rattle.fw_keep.specs.declared.fault.KeepFault.TheVariants as fault
+use Rattle.fw_keep.specs.declared.keep.Keep.TheInside.{Inside}
+use Rattle.fw_keep.specs.Catalogue.{IsCatalogue, AreAcknowledged, IsOnly}
+use Rattle.fw_keep.specs.Inside.{state_of, IsSoundInside}
+use Rattle.fw_keep.specs.Stored.{Records, Sweeps, ReadsAs, Fetches}
+use Rattle.fw_keep.proofs.CatalogueLaws.{same-state, catalogue-drawn, catalogue-added, catalogue-swept}
+
+-- an id is drawn, and there is no entry
+pub sound-drawn : (old new : Inside) → IsSoundInside old → new.entries.items ≡ old.entries.items → new.waiting.items ≡ old.waiting.items
+    → new.next ≡ old.next + 1 → new.persisted ≡ old.persisted → vec_len new.waiting + vec_len new.entries ≤ vec_capacity new.waiting → IsSoundInside new
+sound-drawn old new h entries waiting next persisted room = record {
+  catalogue = subst IsCatalogue (sym (same-state (state_of new) (record (state_of old) { next = old.next + 1; refused = new.refused }) entries next waiting refl))
+      (catalogue-drawn (state_of old) new.refused h.catalogue);
+  there = omega (arith, ap (λ (es : List Entry). length es) entries, persisted, h.there);
+  persisted = subst (λ (es : List Entry). AreAcknowledged (take new.persisted es)) (sym entries) (subst (λ n. AreAcknowledged (take n old.entries.items)) (sym persisted) h.persisted);
+  room = room;
+}
+
+-- an id is drawn, and its entry is added
+pub sound-added : (old new : Inside) (e : Entry) → e.id ≡ old.next → IsSoundInside old → new.entries.items ≡ old.entries.items ++ e ∷ [] → new.waiting.items ≡ old.waiting.items
+    → new.next ≡ old.next + 1 → new.persisted ≡ old.persisted → new.refused ≡ old.refused → vec_len new.waiting + vec_len new.entries ≤ vec_capacity new.waiting → IsSoundInside new
+sound-added old new e same h entries waiting next persisted refused room = record {
+  catalogue = subst IsCatalogue (sym (same-state (state_of new) (record (state_of old) { entries = old.entries.items ++ e ∷ []; next = old.next + 1 }) entries next waiting refused))
+      (catalogue-added (state_of old) e same h.catalogue);
+  there = omega (arith, ap (λ (es : List Entry). length es) entries, length-append old.entries.items (e ∷ []), persisted, h.there);
+  persisted = subst (λ (es : List Entry). AreAcknowledged (take new.persisted es)) (sym entries) (subst (λ n. AreAcknowledged (take n (old.entries.items ++ e ∷ []))) (sym persisted)
+      (subst AreAcknowledged (sym (take-append-le old.persisted old.entries.items (e ∷ []) h.there)) h.persisted));
+  room = room;
+}
+
+-- some of what waited is removed
+pub sound-swept : (old new : Inside) (before after : Option Records) → IsSoundInside old → Sweeps old.waiting.items before new.waiting.items after → new.entries ≡ old.entries
+    → new.next ≡ old.next → new.persisted ≡ old.persisted → vec_capacity new.waiting ≡ vec_capacity old.waiting → IsSoundInside new
+sound-swept old new before after h s entries next persisted capacity =
+    let same : new.entries.items ≡ old.entries.items = ap (λ v. v.items) entries in
+    record {
+      catalogue = subst IsCatalogue (sym (same-state (state_of new) (record (state_of old) { waiting = new.waiting.items; refused = new.refused }) same next refl refl))
+          (catalogue-swept (state_of old) new.waiting.items s.removed new.refused s.parts h.catalogue);
+      there = omega (arith, ap (λ (es : List Entry). length es) same, persisted, h.there);
+      persisted = subst (λ (es : List Entry). AreAcknowledged (take new.persisted es)) (sym same) (subst (λ n. AreAcknowledged (take n old.entries.items)) (sym persisted) h.persisted);
+      room = omega (arith, ap length s.parts, length-append new.waiting.items s.removed, new.waiting.ok.0, old.waiting.ok.0, ap (λ (es : List Entry). length es) same, new.entries.ok.0, old.entries.ok.0, capacity, h.room);
+    }
+
+-- ---- what is fetched
+
+from_read : (flow : Dataflow) (e : Entry) (bytes : List ℕ) (given : Option (ℕ × List ℕ)) (result : Result Record KeepFault) → given ≡ Some (e.id, bytes)
+    → ReadsAs flow e bytes result → Fetches flow e given result
+from_read flow e bytes given (Ok r) g read = (g ∙ ap (λ (bs : List ℕ). Some (e.id, bs)) read.1, read.0, read.2)
+from_read flow e bytes given (Err (fault.Damaged at kept)) g read =
+    (read.0, g ∙ ap (λ (bs : List ℕ). Some (e.id, bs)) (sym read.1), λ r sound spelled of. read.2 r sound (sym read.1 ∙ spelled) of)
+from_read flow e bytes given (Err fault.StoreFault) g read = tt
+from_read flow e bytes given (Err fault.NoMemory) g read = tt
+
+pub fetched : (flow : Dataflow) (es : List Entry) (id : ℕ) (e : Entry) (bytes : List ℕ) (given : Option (ℕ × List ℕ)) (result : Result Record KeepFault) → IsOnly es id e
+    → given ≡ Some (id, bytes) → ReadsAs flow e bytes result → (other : Entry) → Contains es other → other.id ≡ id → Fetches flow other given result
+fetched flow es id e bytes given result only g read other there named =
+    subst (λ (x : Entry). Fetches flow x given result) (sym (only.only other there named)) (from_read flow e bytes given result (g ∙ ap (λ (n : ℕ). Some (n, bytes)) (sym only.named)) read)

@@ -1,0 +1,5 @@
+pub mod IdLaws
+pub mod CatalogueLaws
+pub mod StoredLaws
+pub mod EntryLaws
+pub mod KeepLaws

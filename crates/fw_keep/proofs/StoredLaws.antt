@@ -1,0 +1,189 @@
+-- What each call keeps of what a store holds.
+use Rattle.std.proofs.Common.{◌≡◌, ℕ, ◌+◌, ◌-◌, ◌<◌, Bool, true, false, not, cond, ◌&&◌, ◌||◌, ◌==◌, List, [], ◌∷◌, ◌++◌, length, get_or, slice_get, Option, Some, None, option_map, IsSome, filter, refl, sym, ap, subst, ◌∙◌, arith, append_assoc}
+use Rattle.std.specs.Prelude.{is_some}
+use Rattle.std.specs.Option.{ForSome}
+use Rattle.std.specs.List.{AllByRecursion}
+use Rattle.std.specs.FinMap as records
+use Rattle.std.specs.FinMap.{get-insert, get-remove}
+use Rattle.std.specs.Cmp.{nat_cmp_total}
+use Rattle.std.specs.Ordering.{nat_cmp, eq_by_cmp}
+use Rattle.std.specs.Option.{option_to_list}
+use Rattle.std.proofs.lemmas.Option.{get_or_from_slice_get, slice_get_within}
+use Rattle.std.proofs.lemmas.List.{append-nil}
+use Rattle.std.proofs.lemmas.List.Folds.{list_any-append}
+use Rattle.std.proofs.lemmas.Bool.Decides.{nat_tests}
+use Rattle.fw_time.proofs.EachLaws.{each-weaker, each-at, each-prefix, each-suffix}
+use Rattle.fw_keep.specs.declared.entry.Entry.{Entry}
+use Rattle.fw_keep.specs.Catalogue.{KeepState, IsCatalogue, ids_of, is_among, has_entry, AreDistinct, persisted, without}
+use Rattle.fw_keep.specs.Stored.{Records, is_held, IsStored, AreThere, without_ids, Sweeps}
+use Rattle.fw_keep.proofs.IdLaws.{ids-more, has_entry-parts, ids-persisted, none_drawn, each-among, among-self, distinct-parts, distinct-last}
+
+-- ---- the map at an id
+
+equal_by_cmp : (q k : ℕ) → eq_by_cmp nat_cmp q k ≡ (k == q)
+equal_by_cmp q k = grind (arith, nat_tests)
+
+some-cond : (b : Bool) (bytes : List ℕ) (o : Option (List ℕ)) → is_some (cond b (Some bytes) o) ≡ (b || is_some o)
+some-cond true bytes o = refl
+some-cond false bytes o = refl
+
+none-cond : (b : Bool) (o : Option (List ℕ)) → is_some (cond b None o) ≡ (not b && is_some o)
+none-cond true o = refl
+none-cond false o = refl
+
+there-insert : (held : Records) (k : ℕ) (bytes : List ℕ) (q : ℕ) → is_some (records.get (records.insert held k bytes) q) ≡ ((k == q) || is_some (records.get held q))
+there-insert held k bytes q =
+    ap is_some (get-insert nat_cmp_total held k bytes q) ∙ some-cond (eq_by_cmp nat_cmp q k) bytes (records.get held q) ∙ ap (λ b. b || is_some (records.get held q)) (equal_by_cmp q k)
+
+there-remove : (held : Records) (k q : ℕ) → is_some (records.get (records.remove held k) q) ≡ (not (k == q) && is_some (records.get held q))
+there-remove held k q =
+    ap is_some (get-remove nat_cmp_total held k q) ∙ none-cond (eq_by_cmp nat_cmp q k) (records.get held q) ∙ ap (λ b. not b && is_some (records.get held q)) (equal_by_cmp q k)
+
+none_is : (o : Option (List ℕ)) → is_some o ≡ false → o ≡ None
+none_is None h = refl
+none_is (Some x) h = absurd cc
+
+-- ---- what is asked
+
+held-more : (keep : KeepState) (e : Entry) (id : ℕ) → ((e.id == id) || is_held keep id) ≡ (has_entry id (keep.entries ++ e ∷ []) || is_among id keep.waiting)
+held-more keep e id =
+    rotate (e.id == id) (has_entry id keep.entries) (is_among id keep.waiting)
+    ∙ ap (λ b. b || is_among id keep.waiting) (sym (ap (is_among id) (ids-more keep.entries e) ∙ list_any-append _ (ids_of keep.entries) (e.id ∷ [])))
+  where
+    rotate : (a b c : Bool) → (a || (b || c)) ≡ ((b || (a || false)) || c)
+    rotate true true c = refl
+    rotate true false c = refl
+    rotate false true c = refl
+    rotate false false c = refl
+
+pub stored-added : (keep : KeepState) (e : Entry) (bytes : List ℕ) (refused : Bool) (all : Option Records) → e.id ≡ keep.next → IsStored keep all
+    → IsStored (record keep { entries = keep.entries ++ e ∷ []; next = keep.next + 1; refused = refused }) (option_map (λ held. records.insert held keep.next bytes) all)
+stored-added keep e bytes refused None same h = λ held f id. absurd cc
+stored-added keep e bytes refused (Some first) same h = λ held f id.
+    let is : records.insert first keep.next bytes ≡ held = cc in
+    subst (λ (m : Records). is_some (records.get m id) ≡ (has_entry id (keep.entries ++ e ∷ []) || is_among id keep.waiting)) is
+    (there-insert first keep.next bytes id ∙ ap (λ b. (keep.next == id) || b) (h first refl id)
+    ∙ ap (λ n. (n == id) || is_held keep id) (sym same) ∙ held-more keep e id)
+
+-- nothing is under the next id
+pub stored-fresh : (keep : KeepState) (all : Option Records) → IsCatalogue keep → IsStored keep all → ForSome all (λ held. records.get held keep.next ≡ None)
+stored-fresh keep all well h = λ held f. none_is (records.get held keep.next)
+    (h held f keep.next ∙ rw (none_drawn keep.next (ids_of keep.entries) well.drawn, none_drawn keep.next keep.waiting well.waiting_drawn) refl)
+
+-- ---- what is acknowledged, and what goes
+
+pub stored-persisted : (keep : KeepState) (all : Option Records) → IsStored keep all → IsStored (record keep { entries = persisted keep.entries }) all
+stored-persisted keep all h = λ held f id. h held f id ∙ ap (λ ids. is_among id ids || is_among id keep.waiting) (sym (ids-persisted keep.entries))
+
+pub stored-without : (goes : Entry → Bool) (keep : KeepState) (all : Option Records) → IsStored keep all → IsStored (without goes keep) all
+stored-without goes keep all h = λ held f id. h held f id
+    ∙ ap (λ b. b || is_among id keep.waiting) (sym (has_entry-parts goes keep.entries id))
+    ∙ regroup (has_entry id (filter (λ e. not (goes e)) keep.entries)) (has_entry id (filter goes keep.entries)) (is_among id keep.waiting)
+    ∙ ap (λ b. has_entry id (filter (λ e. not (goes e)) keep.entries) || b) (sym (list_any-append _ keep.waiting (ids_of (filter goes keep.entries))))
+  where
+    regroup : (a b c : Bool) → ((a || b) || c) ≡ (a || (c || b))
+    regroup true b c = refl
+    regroup false true true = refl
+    regroup false true false = refl
+    regroup false false true = refl
+    regroup false false false = refl
+
+-- ---- what is there
+
+-- the record of an entry is there
+pub stored-entry : (keep : KeepState) (all : Option Records) (id : ℕ) → has_entry id keep.entries ≡ true → IsStored keep all
+    → ForSome all (λ held. IsSome (records.get held id))
+stored-entry keep all id there h = λ held f. h held f id ∙ rw there refl
+
+or_true : (b : Bool) → (b || true) ≡ true
+or_true true = refl
+or_true false = refl
+
+-- what waits is there
+pub stored-waiting : (keep : KeepState) (all : Option Records) → IsStored keep all → AreThere keep.waiting all
+stored-waiting keep all h = λ held f.
+    each-weaker _ _ keep.waiting (λ id among. h held f id ∙ rw among (or_true (has_entry id keep.entries))) (among-self keep.waiting)
+
+-- ---- what is swept
+
+there-without_ids : (held : Records) (removed : List ℕ) (id : ℕ) → is_some (records.get (without_ids removed held) id) ≡ (not (is_among id removed) && is_some (records.get held id))
+there-without_ids held [] id = refl
+there-without_ids held (x ∷ removed) id =
+    there-remove (without_ids removed held) x id ∙ ap (λ b. not (x == id) && b) (there-without_ids held removed id) ∙ both (x == id) (is_among id removed) (is_some (records.get held id))
+  where
+    both : (a b c : Bool) → (not a && (not b && c)) ≡ (not (a || b) && c)
+    both true b c = refl
+    both false b c = refl
+
+left : (a e l : Bool) → (a ≡ true → e ≡ false) → (a ≡ true → l ≡ false) → (not a && (e || (l || a))) ≡ (e || l)
+left true e l no_entry not_left = rw (no_entry refl, not_left refl) refl
+left false e l no_entry not_left = ends e l
+  where
+    ends : (e l : Bool) → (e || (l || false)) ≡ (e || l)
+    ends true l = refl
+    ends false true = refl
+    ends false false = refl
+
+pub stored-swept : (keep : KeepState) (old : Option Records) (rest : List ℕ) (new : Option Records) (refused : Bool) → IsCatalogue keep → IsStored keep old
+    → Sweeps keep.waiting old rest new → IsStored (record keep { waiting = rest; refused = refused }) new
+stored-swept keep None rest new refused well h s = λ held f id. let none : new ≡ None = s.records in absurd cc
+stored-swept keep (Some first) rest new refused well h s = λ held f id.
+    let some : new ≡ Some (without_ids s.removed first) = s.records in
+    let is : without_ids s.removed first ≡ held = cc in
+    let distinct : AreDistinct (rest ++ s.removed) = subst AreDistinct s.parts well.distinct in
+    let apart : AllByRecursion (λ x. has_entry x keep.entries ≡ false) (rest ++ s.removed) = subst (AllByRecursion (λ x. has_entry x keep.entries ≡ false)) s.parts well.apart in
+    subst (λ (m : Records). is_some (records.get m id) ≡ (has_entry id keep.entries || is_among id rest)) is
+    (there-without_ids first s.removed id ∙ ap (λ b. not (is_among id s.removed) && b) (h first refl id ∙ ap (λ ids. has_entry id keep.entries || is_among id ids) s.parts ∙ ap (λ b. has_entry id keep.entries || b) (list_any-append _ rest s.removed))
+    ∙ left (is_among id s.removed) (has_entry id keep.entries) (is_among id rest)
+    (λ there. each-among _ s.removed id (each-suffix _ rest s.removed apart) there) (λ there. distinct-parts rest s.removed id distinct there))
+
+-- ---- how a sweep goes on
+
+none_removed : (all : Option Records) → all ≡ option_map (without_ids []) all
+none_removed None = refl
+none_removed (Some held) = refl
+
+pub sweeps-nothing : (waiting : List ℕ) (all : Option Records) → Sweeps waiting all waiting all
+sweeps-nothing waiting all = record { removed = []; parts = sym (append-nil waiting); records = none_removed all }
+
+one_more : (id : ℕ) (removed : List ℕ) (old : Option Records) → option_map (λ (held : Records). records.remove held id) (option_map (without_ids removed) old) ≡ option_map (without_ids (id ∷ removed)) old
+one_more id removed None = refl
+one_more id removed (Some held) = refl
+
+pub sweeps-more : (waiting : List ℕ) (old : Option Records) (rest : List ℕ) (id : ℕ) (new newer : Option Records) → Sweeps waiting old (rest ++ id ∷ []) new
+    → newer ≡ option_map (λ (held : Records). records.remove held id) new → Sweeps waiting old rest newer
+sweeps-more waiting old rest id new newer s e = record {
+  removed = id ∷ s.removed;
+  parts = s.parts ∙ append_assoc rest (id ∷ []) s.removed;
+  records = e ∙ ap (option_map (λ (held : Records). records.remove held id)) s.records ∙ one_more id s.removed old;
+}
+
+pub there-more : (rest : List ℕ) (id : ℕ) (all newer : Option Records) → AreDistinct (rest ++ id ∷ []) → AreThere (rest ++ id ∷ []) all
+    → newer ≡ option_map (λ (held : Records). records.remove held id) all → AreThere rest newer
+there-more rest id None newer distinct there e = λ held f. absurd cc
+there-more rest id (Some first) newer distinct there e = λ held f.
+    let is : records.remove first id ≡ held = cc in
+    subst (λ (m : Records). AllByRecursion (λ x. IsSome (records.get m x)) rest) is
+    (still rest (distinct-last rest id distinct) (each-prefix _ rest (id ∷ []) (there first refl)))
+  where
+    still : (xs : List ℕ) → AllByRecursion (λ x. (id == x) ≡ false) xs → AllByRecursion (λ x. IsSome (records.get first x)) xs
+        → AllByRecursion (λ x. IsSome (records.get (records.remove first id) x)) xs
+    still [] a b = tt
+    still (x ∷ xs) a b = (there-remove first id x ∙ rw (a.0, b.0) refl, still xs a.1 b.1)
+
+-- one of what is there
+pub there-at : (ids : List ℕ) (i id : ℕ) (all : Option Records) → slice_get ids i ≡ Some id → AreThere ids all → ForSome all (λ held. IsSome (records.get held id))
+there-at ids i id all at there = λ held f.
+    subst (λ n. IsSome (records.get held n)) (get_or_from_slice_get ids i id id at) (each-at _ ids i id (slice_get_within ids i id at) (there held f))
+
+-- the last one, as it is seen
+pub at-end : (ids seen : List ℕ) (n id : ℕ) → seen ≡ ids → length seen ≡ n → Some id ≡ slice_get seen (length seen - 1) → slice_get ids (n - 1) ≡ Some id
+at-end ids seen n id same len last = sym (last ∙ ap (λ k. slice_get seen (k - 1)) len ∙ ap (λ xs. slice_get xs (n - 1)) same)
+
+-- what is left where the last one is taken out
+pub last-out : (ids rest : List ℕ) (out : Option ℕ) (n id : ℕ) → n ≡ length ids → slice_get ids (n - 1) ≡ Some id
+    → ((d : ℕ) → 0 < n → out ≡ Some (get_or ids (n - 1) d)) → ids ≡ rest ++ option_to_list out → ids ≡ rest ++ id ∷ []
+last-out ids rest out n id len at value parts =
+    let some : 0 < n = omega (arith, slice_get_within ids (n - 1) id at) in
+    let is : out ≡ Some id = value id some ∙ ap Some (get_or_from_slice_get ids (n - 1) id id at) in
+    parts ∙ ap (λ o. rest ++ option_to_list o) is

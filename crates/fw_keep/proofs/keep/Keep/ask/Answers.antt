@@ -1,0 +1,41 @@
+use Rattle.std.proofs.Common.{◌≡◌, ◌+◌, [], ◌∷◌, ◌++◌, refl, sym, subst}
+use Rattle.std.specs.Prelude.{option_map}
+use Rattle.std.specs.FinMap as records
+use Rattle.std.proofs.lemmas.Result.{IfErr-at_err}
+use Rattle.fw_record.specs.Spelling.{spelling}
+use Rattle.fw_keep.specs.Entry.{asked}
+use Rattle.fw_keep.specs.Catalogue.{KeepState}
+use Rattle.fw_keep.specs.Stored.{IsStored}
+use Rattle.fw_keep.specs.Inside.{state_of}
+use Rattle.fw_keep.proofs.CatalogueLaws.{same-state}
+use Rattle.fw_keep.proofs.KeepLaws.{sound-drawn, sound-added}
+use Rattle.fw_keep.proofs.StoredLaws.{stored-fresh, stored-added}
+use Rattle.fw_keep.proofs.keep.Keep.ask.Goals as goal
+
+pub put_new-put-requires-clause-fresh : goal.put_new-put-requires-clause-fresh
+put_new-put-requires-clause-fresh g c =
+    let all = g.K.Store.records c.args.store.now in
+    stored-fresh (state_of c.self.inside) all c.self.invariant.catalogue (subst (λ (k : KeepState). IsStored k all) (sym c.self.view_is) c.requires.stored)
+
+pub invariant_of-self-in-Ok : goal.invariant_of-self-in-Ok
+invariant_of-self-in-Ok g c =
+    sound-added c.self.inside _ (asked c.self.inside.next c.args.what.now c.args.stamps) refl c.self.invariant c.in-Ok.ensures.added c.put_new-put.ensures.waiting refl refl refl c.put_new-put.ensures.room
+
+pub invariant_of-self-in-Err-Failed : goal.invariant_of-self-in-Err-Failed
+invariant_of-self-in-Err-Failed g c =
+    let kept : c.put_new-put.new.entries.items ≡ c.self.inside.entries.items = IfErr-at_err (λ _. c.put_new-put.new.entries.items ≡ c.self.inside.entries.items) c.in-Err-Failed.is c.put_new-put.ensures.kept in
+    sound-drawn c.self.inside _ c.self.invariant kept c.put_new-put.ensures.waiting refl refl c.put_new-put.ensures.room
+
+pub invariant_of-self-in-Err-NoMemory : goal.invariant_of-self-in-Err-NoMemory
+invariant_of-self-in-Err-NoMemory g c =
+    let kept : c.put_new-put.new.entries.items ≡ c.self.inside.entries.items = IfErr-at_err (λ _. c.put_new-put.new.entries.items ≡ c.self.inside.entries.items) c.in-Err-NoMemory.is c.put_new-put.ensures.kept in
+    sound-drawn c.self.inside _ c.self.invariant kept c.put_new-put.ensures.waiting refl refl c.put_new-put.ensures.room
+
+pub returns-in-Ok-clause-stored : goal.returns-in-Ok-clause-stored
+returns-in-Ok-clause-stored g c =
+    let all = g.K.Store.records c.args.store.now in
+    let old = state_of c.self.inside in
+    let entry = asked c.self.inside.next c.args.what.now c.args.stamps in
+    let stored : IsStored (state_of c.self.inside) (g.K.Store.records c.args.store.now) = subst (λ (k : KeepState). IsStored k (g.K.Store.records c.args.store.now)) (sym c.self.view_is) c.requires.stored in
+    rw c.in-Ok.ensures.put (subst (λ (k : KeepState). IsStored k (option_map (λ held. records.insert held c.self.inside.next (spelling c.args.what.now)) all)) (sym (same-state _ (record old { entries = old.entries ++ entry ∷ []; next = old.next + 1 }) c.in-Ok.ensures.added refl c.put_new-put.ensures.waiting refl))
+    (stored-added old entry (spelling c.args.what.now) old.refused all refl stored))

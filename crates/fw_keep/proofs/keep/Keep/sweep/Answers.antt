@@ -1,0 +1,38 @@
+use Rattle.std.proofs.Common.{true, refl, sym, subst}
+use Rattle.fw_keep.specs.Catalogue.{KeepState}
+use Rattle.fw_keep.specs.Stored.{IsStored}
+use Rattle.fw_keep.specs.Inside.{state_of}
+use Rattle.fw_keep.proofs.KeepLaws.{sound-swept}
+use Rattle.fw_keep.proofs.StoredLaws.{stored-waiting, stored-swept}
+use Rattle.fw_keep.proofs.keep.Keep.sweep.Goals as goal
+
+pub remove_waiting-requires-clause-there : goal.remove_waiting-requires-clause-there
+remove_waiting-requires-clause-there g c =
+    let all = g.K.Store.records c.args.store.now in
+    stored-waiting (state_of c.self.inside) all (subst (λ (k : KeepState). IsStored k all) (sym c.self.view_is) c.requires.stored)
+
+pub invariant_of-self-in-Err-Failed : goal.invariant_of-self-in-Err-Failed
+invariant_of-self-in-Err-Failed g c =
+    sound-swept c.self.inside _ _ _ c.self.invariant c.remove_waiting.ensures.swept refl refl refl c.remove_waiting.ensures.capacity
+
+pub invariant_of-self-in-Err-NoMemory : goal.invariant_of-self-in-Err-NoMemory
+invariant_of-self-in-Err-NoMemory g c =
+    sound-swept c.self.inside _ _ _ c.self.invariant c.remove_waiting.ensures.swept refl refl refl c.remove_waiting.ensures.capacity
+
+pub returns-in-Ok-clause-stored : goal.returns-in-Ok-clause-stored
+returns-in-Ok-clause-stored g c =
+    let all = g.K.Store.records c.args.store.now in
+    stored-swept (state_of c.self.inside) all c.remove_waiting.new.waiting.items (g.K.Store.records c.remove_waiting.new.store) c.self.inside.refused c.self.invariant.catalogue
+    (subst (λ (k : KeepState). IsStored k all) (sym c.self.view_is) c.requires.stored) c.remove_waiting.ensures.swept
+
+pub returns-in-Err-Failed-clause-stored : goal.returns-in-Err-Failed-clause-stored
+returns-in-Err-Failed-clause-stored g c =
+    let all = g.K.Store.records c.args.store.now in
+    stored-swept (state_of c.self.inside) all c.remove_waiting.new.waiting.items (g.K.Store.records c.remove_waiting.new.store) c.self.inside.refused c.self.invariant.catalogue
+    (subst (λ (k : KeepState). IsStored k all) (sym c.self.view_is) c.requires.stored) c.remove_waiting.ensures.swept
+
+pub returns-in-Err-NoMemory-clause-stored : goal.returns-in-Err-NoMemory-clause-stored
+returns-in-Err-NoMemory-clause-stored g c =
+    let all = g.K.Store.records c.args.store.now in
+    stored-swept (state_of c.self.inside) all c.remove_waiting.new.waiting.items (g.K.Store.records c.remove_waiting.new.store) true c.self.invariant.catalogue
+    (subst (λ (k : KeepState). IsStored k all) (sym c.self.view_is) c.requires.stored) c.remove_waiting.ensures.swept

@@ -1,0 +1,81 @@
+-- The writes of a catalogue: what an entry has of a record, and which entries a call speaks of.
+use Rattle.std.specs.Prelude.{ℕ, Bool, false, not, ◌&&◌, ◌==◌, nat_le, None}
+use Rattle.fw_time.specs.Stamp.{Stamp, same}
+use Rattle.fw_frontier.specs.Front.{Front, inside, is_within}
+use Rattle.fw_flow.specs.Dataflow.{Dataflow}
+use Rattle.fw_flow.specs.declared.choice.Stamps.{Stamps}
+use Rattle.fw_record.specs.declared.record.Event.{Event}
+use Rattle.fw_record.specs.declared.record.Event.TheVariants.{Deliver, Notify}
+use Rattle.fw_record.specs.declared.record.Record.{Record}
+use Rattle.fw_record.specs.declared.record.Record.TheVariants as tagged
+use Rattle.fw_record.specs.OfNode.{IsRecordOfCheckpoint, IsRecordOfEvent}
+use Rattle.fw_keep.specs.declared.entry.Entry.{Entry}
+use Rattle.fw_keep.specs.declared.entry.Written.{Written}
+use Rattle.fw_keep.specs.declared.entry.Written.TheVariants as written
+
+-- ---- what an entry has of a record
+
+-- the stamp of an event
+abbrev pub stamp_of : Event → Stamp
+stamp_of (Deliver edge at rec) = at
+stamp_of (Notify at) = at
+
+-- the node of a record
+abbrev pub node_of : Record → ℕ
+node_of (tagged.State c) = c.node
+node_of (tagged.Event node event) = node
+
+-- what is written by a record, with these stamps of the node's events where it is a checkpoint
+abbrev pub written_of : Record → Stamps → Written
+written_of (tagged.State c) stamps = written.Checkpoint c.recorded stamps
+written_of (tagged.Event node event) stamps = written.Event event
+
+-- the entry of a record under an id: it is in flight, and its record is whole
+abbrev pub asked : ℕ → Record → Stamps → Entry
+asked id r stamps =
+    record { id = id; node = node_of r; written = written_of r stamps; acknowledged = false; base = None; depth = 0 }
+
+-- the record can be that of the entry: of a checkpoint of its node at its frontier, or of its event
+abbrev pub IsRecordAs : Dataflow → ℕ → Written → Record → Type 0
+IsRecordAs flow p (written.Checkpoint recorded stamps) r = IsRecordOfCheckpoint flow p recorded.front r
+IsRecordAs flow p (written.Event event) r = IsRecordOfEvent p event r
+
+abbrev pub IsRecordOf : Dataflow → Entry → Record → Type 0
+IsRecordOf flow e r = IsRecordAs flow e.node e.written r
+
+-- ---- which entries a call speaks of
+
+-- whether what is written lies within a frontier: a checkpoint by its frontier, an event by its stamp
+abbrev pub lies_within : Front → Written → Bool
+lies_within f (written.Checkpoint recorded stamps) = is_within recorded.front f
+lies_within f (written.Event event) = inside f (stamp_of event)
+
+-- whether it is a checkpoint strictly within a frontier
+abbrev pub lies_below : Front → Written → Bool
+lies_below f (written.Checkpoint recorded stamps) = is_within recorded.front f && not (is_within f recorded.front)
+lies_below f (written.Event event) = false
+
+-- whether it is an event at a stamp
+abbrev pub is_event_at : Stamp → Written → Bool
+is_event_at t (written.Checkpoint recorded stamps) = false
+is_event_at t (written.Event event) = same (stamp_of event) t
+
+-- the node's entries in flight
+abbrev pub is_lost : ℕ → Entry → Bool
+is_lost p e = (e.node == p) && not e.acknowledged
+
+-- the entries in flight from an id on
+abbrev pub is_withdrawn : ℕ → Entry → Bool
+is_withdrawn id e = not e.acknowledged && nat_le id e.id
+
+-- the node's entries that do not lie within a frontier
+abbrev pub is_above : ℕ → Front → Entry → Bool
+is_above p f e = (e.node == p) && not (lies_within f e.written)
+
+-- the node's checkpoints strictly within a frontier
+abbrev pub is_below : ℕ → Front → Entry → Bool
+is_below p f e = (e.node == p) && lies_below f e.written
+
+-- the node's events at a stamp
+abbrev pub is_at : ℕ → Stamp → Entry → Bool
+is_at p t e = (e.node == p) && is_event_at t e.written

@@ -1,0 +1,4 @@
+pub mod Entry
+pub mod Catalogue
+pub mod Stored
+pub mod Inside

@@ -1,0 +1,75 @@
+-- What a store holds of a catalogue, and what its calls leave.
+use Rattle.std.specs.Prelude.{◌≡◌, ℕ, Bool, ◌||◌, List, [], ◌∷◌, ◌++◌, Option, Some, option_map, is_some, IsSome, Result, Ok, Err}
+use Rattle.std.specs.Option.{ForSome}
+use Rattle.std.specs.List.{AllByRecursion}
+use Rattle.std.specs.Ordering.{nat_cmp}
+use Rattle.std.specs.FinMap as map
+use Rattle.fw_flow.specs.Dataflow.{Dataflow}
+use Rattle.fw_record.specs.declared.record.Record.{Record}
+use Rattle.fw_record.specs.Sound.{IsSound}
+use Rattle.fw_record.specs.Spelling.{spelling}
+use Rattle.fw_keep.specs.declared.entry.Entry.{Entry}
+use Rattle.fw_keep.specs.declared.fault.KeepFault.{KeepFault}
+use Rattle.fw_keep.specs.declared.fault.KeepFault.TheVariants as fault
+use Rattle.fw_keep.specs.Entry.{IsRecordOf}
+use Rattle.fw_keep.specs.Catalogue.{KeepState, has_entry, is_among}
+
+-- the bytes of each id
+abbrev pub Records : Type 0
+Records = map.FinMap nat_cmp (List ℕ)
+
+-- whether an entry has the id, or it waits
+abbrev pub is_held : KeepState → ℕ → Bool
+is_held keep id = has_entry id keep.entries || is_among id keep.waiting
+
+-- Where the store tells its records, there is one under exactly the ids of the entries and those that wait for a sweep.
+abbrev pub IsStored : KeepState → Option Records → Type 0
+IsStored keep records = ForSome records (λ held. (id : ℕ) → is_some (map.get held id) ≡ is_held keep id)
+
+-- where the store tells its records, there is one under each of the ids
+abbrev pub AreThere : List ℕ → Option Records → Type 0
+AreThere ids records = ForSome records (λ held. AllByRecursion (λ id. IsSome (map.get held id)) ids)
+
+-- the records without those under the ids
+abbrev pub without_ids : List ℕ → Records → Records
+without_ids [] held = held
+without_ids (id ∷ ids) held = map.remove (without_ids ids held) id
+
+-- The records of the last of the waiting ids were removed, those of the ids that are left were not, nor any others.
+pub record Sweeps (waiting : List ℕ) (old : Option Records) (left : List ℕ) (new : Option Records) : Type 0 where
+  pub removed : List ℕ
+  pub parts : waiting ≡ left ++ removed
+  pub records : new ≡ option_map (without_ids removed) old
+
+-- the bytes spell no record that can be that of the entry
+abbrev pub SpellsNone : Dataflow → Entry → List ℕ → Type 0
+SpellsNone flow e bytes = (r : Record) → IsSound r → bytes ≡ spelling r → IsRecordOf flow e r → ⊥
+
+-- What reading bytes answered for an entry: the record that they spell, which can be the entry's, or that they spell none.
+abbrev pub ReadsAs : Dataflow → Entry → List ℕ → Result Record KeepFault → Type 0
+ReadsAs flow e bytes (Ok r) = IsSound r × (bytes ≡ spelling r) × IsRecordOf flow e r
+ReadsAs flow e bytes (Err (fault.Damaged at kept)) = (at ≡ e.id) × (kept.items ≡ bytes) × SpellsNone flow e bytes
+ReadsAs flow e bytes (Err fault.StoreFault) = ⊥
+ReadsAs flow e bytes (Err fault.NoMemory) = Unit {0}
+
+-- What fetching the record of an entry answered, of the bytes that the store gave: Ok and `Damaged` come by reading these.
+abbrev pub Fetches : Dataflow → Entry → Option (ℕ × List ℕ) → Result Record KeepFault → Type 0
+Fetches flow e given (Ok r) = (given ≡ Some (e.id, spelling r)) × IsSound r × IsRecordOf flow e r
+Fetches flow e given (Err (fault.Damaged at bytes)) =
+    (at ≡ e.id) × (given ≡ Some (e.id, bytes.items)) × SpellsNone flow e bytes.items
+Fetches flow e given (Err fault.StoreFault) = Unit {0}
+Fetches flow e given (Err fault.NoMemory) = Unit {0}
+
+-- the bytes by which the answer came are those under the id, where the store tells its records
+abbrev pub IsToldUnder : ℕ → Option Records → Result Record KeepFault → Type 0
+IsToldUnder id records (Ok r) = ForSome records (λ held. map.get held id ≡ Some (spelling r))
+IsToldUnder id records (Err (fault.Damaged at bytes)) = ForSome records (λ held. map.get held id ≡ Some bytes.items)
+IsToldUnder id records (Err fault.StoreFault) = Unit {0}
+IsToldUnder id records (Err fault.NoMemory) = Unit {0}
+
+-- the call does not answer that a record is damaged
+abbrev pub IsUndamaged : {T : Type 0} → Result T KeepFault → Type 0
+IsUndamaged (Ok x) = Unit {0}
+IsUndamaged (Err (fault.Damaged at bytes)) = ⊥
+IsUndamaged (Err fault.StoreFault) = Unit {0}
+IsUndamaged (Err fault.NoMemory) = Unit {0}

@@ -1,0 +1,109 @@
+//! The writes of a catalogue.
+ghost use Rattle.std.specs.Prelude.{◌≡◌, ◌↔◌, [], IsTrue};
+ghost use Rattle.fw_keep.specs.Entry.{lies_within, lies_below, is_event_at, stamp_of, IsRecordOf};
+
+use fw_flow::{CountedMessages, Flow, NodeId, Notices, Recorded, Stamps};
+use fw_frontier::Front;
+use fw_record::{Event, Record};
+use fw_time::Stamp;
+use std::alloc::Global;
+
+/// What is written.
+#[derive(Debug, Drop)]
+pub enum Written {
+    /// What a node's events in a frontier made: the frontier, with what stands for the events inside, and where they are and
+    /// where they sent.
+    Checkpoint { recorded: Recorded, stamps: Stamps },
+    /// An event.
+    Event(Event),
+}
+
+/// A write of a node.
+#[derive(Debug, Drop)]
+pub struct Entry {
+    /// The id under which its record stands.
+    pub id: u64,
+    /// The node.
+    pub node: NodeId,
+    /// What is written.
+    pub written: Written,
+    /// Whether the write is acknowledged, and not in flight.
+    pub acknowledged: bool,
+    /// The id of the write from which its record tells the changes; none, since each record is whole.
+    pub base: Option<u64>,
+    /// How many records lie between it and a whole one.
+    pub depth: u32,
+}
+
+/// No stamps: of an event they are not kept.
+pub fn no_stamps(alloc: Global) -> Stamps
+    ensures { result ≡ record { delivered = []; notified = []; sent = [] } }
+{
+    Stamps {
+        delivered: CountedMessages::of(Vec::new(alloc)),
+        notified: Notices::of(Vec::new(alloc)),
+        sent: CountedMessages::of(Vec::new(alloc)),
+    }
+}
+
+impl Entry {
+    /// Whether the record can be that of the entry: of a checkpoint of its node at its frontier (`Record::is_checkpoint_of`),
+    /// or of its event.
+    pub fn has_record(&self, flow: &Flow, what: &Record) -> bool
+        ensures { IsTrue result ↔ IsRecordOf flow.now self.now what.now }
+    {
+        match &self.written {
+            Written::Checkpoint { recorded, .. } => {
+                what.is_checkpoint_of(flow, self.node, &recorded.front)
+            }
+            Written::Event(event) => what.is_event_of(self.node, event),
+        }
+    }
+}
+
+impl Written {
+    /// Whether it lies within a frontier: a checkpoint by its frontier, an event by its stamp.
+    pub fn lies_within(&self, front: &Front) -> bool
+        ensures { result ≡ lies_within front.now self.now }
+    {
+        match self {
+            Written::Checkpoint { recorded, .. } => recorded.front.subset(front),
+            Written::Event(event) => front.contains(stamp_of(event)),
+        }
+    }
+
+    /// Whether it is a checkpoint strictly within a frontier.
+    pub fn lies_below(&self, front: &Front) -> bool
+        ensures { result ≡ lies_below front.now self.now }
+    {
+        match self {
+            Written::Checkpoint { recorded, .. } => {
+                recorded.front.subset(front) && !front.subset(&recorded.front)
+            }
+            Written::Event(_) => false,
+        }
+    }
+
+    /// Whether it is an event at a stamp.
+    pub fn is_event_at(&self, at: &Stamp) -> bool
+        ensures { result ≡ is_event_at at.now self.now }
+    {
+        match self {
+            Written::Checkpoint { .. } => false,
+            Written::Event(event) => {
+                let stamp = stamp_of(event);
+                stamp.leq(at) && at.leq(stamp)
+            }
+        }
+    }
+}
+
+/// The stamp of an event.
+fn stamp_of(event: &Event) -> &Stamp
+    ensures { result.now ≡ stamp_of event.now }
+{
+    match event {
+        Event::Deliver { at, .. } => at,
+        Event::Notify { at } => at,
+    }
+}

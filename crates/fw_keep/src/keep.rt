@@ -1,0 +1,274 @@
+//! The catalogue.
+ghost use Rattle.std.specs.Prelude.{◌≡◌, ◌↔◌, ◌+◌, ◌^◌, ◌<◌, ◌≤◌, ◌++◌, [], ◌∷◌, ℕ, List, Option, true, false, None, IsTrue, IsErrOf, IfOk, OnOk, OnErr, option_map, Contains};
+ghost use Rattle.std.specs.FinMap as map;
+ghost use Rattle.fw_outside.specs.Outside.{Rose};
+ghost use Rattle.fw_record.specs.Spelling.{spelling};
+ghost use Rattle.fw_keep.specs.declared.entry.Entry.{Entry as Write};
+ghost use Rattle.fw_keep.specs.Entry.{asked, is_lost, is_withdrawn, is_above, is_below, is_at};
+ghost use Rattle.fw_keep.specs.Catalogue.{IsCatalogue, has_entry, oldest, persisted, without};
+ghost use Rattle.fw_keep.specs.Stored.{Records, IsStored, Sweeps, Fetches, IsToldUnder, IsUndamaged};
+
+use crate::fetch::{entry_at, read};
+use crate::going::{Above, Below, EventsAt, Going, Lost, Withdrawn, take_out};
+use crate::persist::persist_first;
+use crate::put::put_new;
+use crate::sweep::remove_waiting;
+use crate::{Entry, KeepFault};
+use fw_flow::{Flow, NodeId, Stamps};
+use fw_frontier::Front;
+use fw_outside::{OutFault, Store};
+use fw_record::Record;
+use fw_time::Stamp;
+use std::alloc::Global;
+use std::marker::Model;
+
+/// The writes of nodes in order of asking, and which bytes of the store are without an entry and wait for a sweep.
+///
+/// A catalogue to which memory was once refused asks no more writes, fetches and sweeps nothing more, and says so each time;
+/// its other calls go by what it holds, and take no memory.
+#[derive(Debug, Drop)]
+pub struct Keep {
+    alloc: Global,
+    entries: Vec<Entry>,
+    // So many of the first entries are known to be acknowledged.
+    persisted: usize,
+    next: u64,
+    // It has room for the ids of the entries.
+    waiting: Vec<u64>,
+    refused: bool,
+}
+
+impl Model for Keep {
+    ghost use Rattle.fw_keep.specs.Catalogue.{KeepState};
+
+    ghost Value = { KeepState };
+
+    ghost use Rattle.fw_keep.specs.Inside.{state_of, IsSoundInside};
+
+    ghost view = { state_of };
+
+    ghost invariant = { IsSoundInside };
+}
+
+impl Keep {
+    /// No write yet.
+    pub fn new(alloc: Global) -> Self
+        ensures { result ≡ record { entries = []; next = 0; waiting = []; refused = false } }
+    {
+        Keep {
+            alloc,
+            entries: Vec::new(alloc),
+            persisted: 0,
+            next: 0,
+            waiting: Vec::new(alloc),
+            refused: false,
+        }
+    }
+
+    /// The writes, in order of asking. Their ids ascend.
+    pub fn entries(&self) -> &[Entry]
+        ensures all { result.now ≡ self.now.entries }
+        ensures catalogue { IsCatalogue self.now }
+    {
+        &self.entries
+    }
+
+    /// The id that the next write is given.
+    pub fn next_id(&self) -> u64
+        ensures { result ≡ self.now.next }
+    {
+        self.next
+    }
+
+    /// Whether a write has this id.
+    pub fn has(&self, id: u64) -> bool
+        ensures { result ≡ has_entry id self.now.entries }
+    {
+        entry_at(&self.entries, id).is_some()
+    }
+
+    /// Puts a record under the next id, as a write in flight. The stamps, of which a checkpoint's entry keeps where the node's
+    /// events are and where they sent, are not looked at for an event.
+    ///
+    /// # Errors
+    ///
+    /// `StoreFault` where the store fails, `NoMemory` where memory is refused, now or earlier. Then there is no entry, and the
+    /// id is not given to a later write.
+    pub fn ask<K: Store>(
+        &mut self,
+        store: &mut K,
+        what: &Record,
+        stamps: Stamps,
+    ) -> Result<u64, KeepFault>
+        requires stored { IsStored self.old (K.records store.old) }
+        requires few { self.old.next < 2 ^ 63 }
+
+        // The write is the last one, in flight, and its bytes are under its id.
+        ensures id { IfOk result (λ id. id ≡ self.old.next) }
+        ensures added { OnOk result
+            (self.new.entries ≡ self.old.entries ++ asked self.old.next what.now stamps ∷ []) }
+        ensures put { OnOk result (K.records store.new
+            ≡ option_map (λ held. map.insert held self.old.next (spelling what.now)) (K.records store.old)) }
+
+        // After a refusal entries and records are as they were.
+        ensures kept { OnErr result (self.new.entries ≡ self.old.entries) }
+        ensures stays { OnErr result (K.records store.new ≡ K.records store.old) }
+
+        ensures drawn { self.new.next ≡ self.old.next + 1 }
+        ensures waiting { self.new.waiting ≡ self.old.waiting }
+        ensures stored { IsStored self.new (K.records store.new) }
+        ensures given { K.given store.new ≡ K.given store.old }
+
+        ensures failed { IsErrOf result KeepFault.StoreFault → Rose (K.fault_count store.old) (K.fault_count store.new) }
+        ensures never_falls { K.fault_count store.old ≤ K.fault_count store.new }
+        ensures undamaged { IsUndamaged result }
+        ensures refused { IsTrue self.new.refused ↔ IsErrOf result KeepFault.NoMemory }
+        ensures refused_stays { IsTrue self.old.refused → IsErrOf result KeepFault.NoMemory }
+    {
+        let id = self.next;
+        self.next += 1;
+        if self.refused {
+            return Err(KeepFault::NoMemory);
+        }
+        let put = put_new(
+            self.alloc,
+            &mut self.entries,
+            &mut self.waiting,
+            store,
+            id,
+            what,
+            stamps,
+        );
+        match put {
+            Ok(()) => Ok(id),
+            Err(OutFault::Failed) => Err(KeepFault::StoreFault),
+            Err(OutFault::NoMemory) => {
+                self.refused = true;
+                Err(KeepFault::NoMemory)
+            }
+        }
+    }
+
+    /// Acknowledges the oldest write in flight, and tells its id. It takes no memory.
+    pub fn persist_one(&mut self) -> Option<u64>
+        ensures oldest { result ≡ oldest self.old.entries }
+        ensures acknowledged { self.new ≡ record self.old { entries = persisted self.old.entries } }
+        ensures stored { (records : Option Records) → IsStored self.old records → IsStored self.new records }
+    {
+        persist_first(&mut self.entries, &mut self.persisted)
+    }
+
+    /// Takes the node's writes in flight out. It takes no memory.
+    pub fn lose(&mut self, node: NodeId)
+        ensures gone { self.new ≡ without (is_lost node) self.old }
+        ensures stored { (records : Option Records) → IsStored self.old records → IsStored self.new records }
+    {
+        self.take(&Lost { node });
+    }
+
+    /// Takes the writes in flight from an id on out. It takes no memory.
+    pub fn withdraw(&mut self, id: u64)
+        ensures gone { self.new ≡ without (is_withdrawn id) self.old }
+        ensures stored { (records : Option Records) → IsStored self.old records → IsStored self.new records }
+    {
+        self.take(&Withdrawn { id });
+    }
+
+    /// Takes the node's writes out that do not lie within the frontier: checkpoints by their frontier, events by their stamp.
+    /// It takes no memory.
+    pub fn forget_above(&mut self, node: NodeId, front: &Front)
+        ensures gone { self.new ≡ without (is_above node front.now) self.old }
+        ensures stored { (records : Option Records) → IsStored self.old records → IsStored self.new records }
+    {
+        self.take(&Above { node, front });
+    }
+
+    /// Takes the node's checkpoints out that lie strictly within the frontier. It takes no memory.
+    pub fn forget_below(&mut self, node: NodeId, front: &Front)
+        ensures gone { self.new ≡ without (is_below node front.now) self.old }
+        ensures stored { (records : Option Records) → IsStored self.old records → IsStored self.new records }
+    {
+        self.take(&Below { node, front });
+    }
+
+    /// Takes the node's events at the stamp out. It takes no memory.
+    pub fn forget_at(&mut self, node: NodeId, at: &Stamp)
+        ensures gone { self.new ≡ without (is_at node at.now) self.old }
+        ensures stored { (records : Option Records) → IsStored self.old records → IsStored self.new records }
+    {
+        self.take(&EventsAt { node, at });
+    }
+
+    /// Takes entries out, whose ids then wait.
+    fn take<G: Going>(&mut self, going: &G)
+        ensures gone { self.new ≡ without (G.goes going.now) self.old }
+        ensures stored { (records : Option Records) → IsStored self.old records → IsStored self.new records }
+    {
+        self.persisted = 0;
+        take_out(&mut self.entries, &mut self.waiting, going);
+    }
+
+    /// The record of a write, which can be one of its node in this flow.
+    ///
+    /// # Errors
+    ///
+    /// `StoreFault` where the store fails, `Damaged` where the bytes that it gives spell no record of the write, and
+    /// `NoMemory` where memory is refused, or was refused to a call that changes the catalogue. The store's records stay.
+    pub fn fetch<K: Store>(&self, flow: &Flow, store: &mut K, id: u64) -> Result<Record, KeepFault>
+        requires there { IsTrue (has_entry id self.now.entries) }
+        requires stored { IsStored self.now (K.records store.old) }
+        ensures fetched { (entry : Write) → Contains self.now.entries entry → entry.id ≡ id
+            → Fetches flow.now entry (K.given store.new) result }
+        ensures told { IsToldUnder id (K.records store.old) result }
+        ensures stays { K.records store.new ≡ K.records store.old }
+        ensures failed { IsErrOf result KeepFault.StoreFault → Rose (K.fault_count store.old) (K.fault_count store.new) }
+        ensures never_falls { K.fault_count store.old ≤ K.fault_count store.new }
+        ensures refused { IsTrue self.now.refused → IsErrOf result KeepFault.NoMemory }
+    {
+        if self.refused {
+            return Err(KeepFault::NoMemory);
+        }
+        let Some(entry) = entry_at(&self.entries, id) else {
+            unreachable!()
+        };
+        let mut bytes = Vec::new(self.alloc);
+        match store.get(id, &mut bytes) {
+            Ok(()) => read(self.alloc, flow, entry, bytes),
+            Err(OutFault::Failed) => Err(KeepFault::StoreFault),
+            Err(OutFault::NoMemory) => Err(KeepFault::NoMemory),
+        }
+    }
+
+    /// Removes from the store the bytes that are without an entry, the last that came to wait first.
+    ///
+    /// # Errors
+    ///
+    /// `StoreFault` where the store fails, `NoMemory` where memory is refused, now or earlier. Then what was not removed waits
+    /// for the next sweep.
+    pub fn sweep<K: Store>(&mut self, store: &mut K) -> Result<(), KeepFault>
+        requires stored { IsStored self.old (K.records store.old) }
+        ensures swept { Sweeps self.old.waiting (K.records store.old) self.new.waiting (K.records store.new) }
+        ensures clean { OnOk result (self.new.waiting ≡ []) }
+        ensures kept { self.new.entries ≡ self.old.entries }
+        ensures drawn { self.new.next ≡ self.old.next }
+        ensures stored { IsStored self.new (K.records store.new) }
+        ensures given { K.given store.new ≡ K.given store.old }
+        ensures failed { IsErrOf result KeepFault.StoreFault → Rose (K.fault_count store.old) (K.fault_count store.new) }
+        ensures never_falls { K.fault_count store.old ≤ K.fault_count store.new }
+        ensures undamaged { IsUndamaged result }
+        ensures refused { IsTrue self.new.refused ↔ IsErrOf result KeepFault.NoMemory }
+        ensures refused_stays { IsTrue self.old.refused → IsErrOf result KeepFault.NoMemory }
+    {
+        if self.refused {
+            return Err(KeepFault::NoMemory);
+        }
+        match remove_waiting(&mut self.waiting, store) {
+            Ok(()) => Ok(()),
+            Err(OutFault::Failed) => Err(KeepFault::StoreFault),
+            Err(OutFault::NoMemory) => {
+                self.refused = true;
+                Err(KeepFault::NoMemory)
+            }
+        }
+    }
+}

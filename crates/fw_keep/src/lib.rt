@@ -1,0 +1,20 @@
+//! The catalogue of writes: which records of nodes were put into a store, which of them are acknowledged, and which bytes of
+//! the store wait to be removed.
+//!
+//! The store is lent to each call that needs it. What it holds of a catalogue is said by `IsStored`: where it tells its
+//! records, there is one under exactly the ids of the entries and those that wait. Each call keeps that.
+#![tactic(auto)]
+
+mod copies;
+mod entry;
+mod fault;
+mod fetch;
+mod going;
+mod keep;
+mod persist;
+mod put;
+mod sweep;
+
+pub use entry::{Entry, Written, no_stamps};
+pub use fault::KeepFault;
+pub use keep::Keep;

@@ -1,0 +1,75 @@
+//! A record is put into a store, with its entry.
+ghost use Rattle.std.specs.Prelude.{◌≡◌, ◌+◌, ◌≤◌, ◌++◌, [], ◌∷◌, None, vec_len, IfOk, OnOk, OnErr, IsErrOf, option_map};
+ghost use Rattle.std.specs.Vec.{vec_capacity};
+ghost use Rattle.std.specs.Option.{ForSome};
+ghost use Rattle.std.specs.FinMap as map;
+ghost use Rattle.fw_outside.specs.Outside.{Rose};
+ghost use Rattle.fw_record.specs.Spelling.{spelling};
+ghost use Rattle.fw_keep.specs.Entry.{asked};
+
+use crate::Entry;
+use crate::copies::{node_of, written_of};
+use fw_flow::Stamps;
+use fw_outside::{OutFault, Store};
+use fw_record::{Record, encode};
+use std::alloc::{AllocError, Global};
+
+/// The entry of a record under an id. The error is want of memory.
+fn entry_of(alloc: Global, id: u64, what: &Record, stamps: Stamps) -> Result<Entry, AllocError>
+    ensures { IfOk result (λ e. e ≡ asked id what.now stamps) }
+{
+    Ok(Entry {
+        id,
+        node: node_of(what),
+        written: written_of(alloc, what, stamps)?,
+        acknowledged: false,
+        base: None,
+        depth: 0,
+    })
+}
+
+/// Adds an entry, and makes room for its id among those that wait. The error is want of memory.
+fn add(entries: &mut Vec<Entry>, waiting: &mut Vec<u64>, entry: Entry) -> Result<(), AllocError>
+    requires room { vec_len waiting.old + vec_len entries.old ≤ vec_capacity waiting.old }
+    ensures added { OnOk result (entries.new.items ≡ entries.old.items ++ entry ∷ []) }
+    ensures kept { OnErr result (entries.new.items ≡ entries.old.items) }
+    ensures stays { waiting.new.items ≡ waiting.old.items }
+    ensures room { vec_len waiting.new + vec_len entries.new ≤ vec_capacity waiting.new }
+{
+    waiting.reserve(entries.len() + 1)?;
+    entries.push(entry)?;
+    Ok(())
+}
+
+/// Puts a record under an id, with its entry.
+pub(crate) fn put_new<K: Store>(
+    alloc: Global,
+    entries: &mut Vec<Entry>,
+    waiting: &mut Vec<u64>,
+    store: &mut K,
+    id: u64,
+    what: &Record,
+    stamps: Stamps,
+) -> Result<(), OutFault>
+    requires room { vec_len waiting.old + vec_len entries.old ≤ vec_capacity waiting.old }
+    requires fresh { ForSome (K.records store.old) (λ held. map.get held id ≡ None) }
+    ensures added { OnOk result (entries.new.items ≡ entries.old.items ++ asked id what.now stamps ∷ []) }
+    ensures kept { OnErr result (entries.new.items ≡ entries.old.items) }
+    ensures waiting { waiting.new.items ≡ waiting.old.items }
+    ensures room { vec_len waiting.new + vec_len entries.new ≤ vec_capacity waiting.new }
+    ensures put { OnOk result (K.records store.new
+        ≡ option_map (λ held. map.insert held id (spelling what.now)) (K.records store.old)) }
+    ensures stays { OnErr result (K.records store.new ≡ K.records store.old) }
+    ensures given { K.given store.new ≡ K.given store.old }
+    ensures failed { IsErrOf result OutFault.Failed → Rose (K.fault_count store.old) (K.fault_count store.new) }
+    ensures never_falls { K.fault_count store.old ≤ K.fault_count store.new }
+{
+    let bytes = encode(alloc, what)?;
+    let entry = entry_of(alloc, id, what, stamps)?;
+    add(entries, waiting, entry)?;
+    let put = store.put(id, &bytes);
+    if put.is_err() {
+        entries.pop();
+    }
+    put
+}

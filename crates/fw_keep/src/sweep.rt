@@ -1,0 +1,29 @@
+//! The bytes of what is without an entry are removed from a store.
+ghost use Rattle.std.specs.Prelude.{◌≡◌, ◌≤◌, [], OnOk, IsErrOf};
+ghost use Rattle.std.specs.Vec.{vec_capacity};
+ghost use Rattle.fw_outside.specs.Outside.{Rose};
+ghost use Rattle.fw_keep.specs.Catalogue.{AreDistinct};
+ghost use Rattle.fw_keep.specs.Stored.{AreThere, Sweeps};
+
+use fw_outside::{OutFault, Store};
+
+/// Removes the bytes of the ids that wait, the last one first.
+pub(crate) fn remove_waiting<K: Store>(
+    waiting: &mut Vec<u64>,
+    store: &mut K,
+) -> Result<(), OutFault>
+    requires distinct { AreDistinct waiting.old.items }
+    requires there { AreThere waiting.old.items (K.records store.old) }
+    ensures swept { Sweeps waiting.old.items (K.records store.old) waiting.new.items (K.records store.new) }
+    ensures clean { OnOk result (waiting.new.items ≡ []) }
+    ensures capacity { vec_capacity waiting.new ≡ vec_capacity waiting.old }
+    ensures given { K.given store.new ≡ K.given store.old }
+    ensures failed { IsErrOf result OutFault.Failed → Rose (K.fault_count store.old) (K.fault_count store.new) }
+    ensures never_falls { K.fault_count store.old ≤ K.fault_count store.new }
+{
+    while let Some(id) = waiting.last() {
+        store.remove(*id)?;
+        waiting.pop();
+    }
+    Ok(())
+}

@@ -1,0 +1,29 @@
+//! Single messages.
+ghost use Rattle.std.specs.Prelude.{◌≡◌};
+ghost use Rattle.fw_frontier.specs.Front.{inside};
+ghost use Rattle.fw_flow.specs.Projection.{all_inside};
+
+use fw_flow::Message;
+use fw_frontier::Front;
+
+/// The same message once more.
+pub fn copied(message: &Message) -> Message
+    ensures { result ≡ message.now }
+{
+    Message {
+        at: message.at.copy(),
+        rec: message.rec,
+        causes: message.causes.copy(),
+    }
+}
+
+/// Whether all its causes are inside the frontier.
+pub fn comes_from(message: &Message, f: &Front) -> bool
+    ensures { result ≡ all_inside (inside f.now) message.now.causes }
+{
+    message
+        .causes
+        .stamps()
+        .iter()
+        .all(|cause| f.contains(cause))
+}

@@ -1,0 +1,256 @@
+//! The messages at one stamp.
+ghost use Rattle.std.specs.Prelude.{◌≡◌, ◌<◌, ◌≤◌, ◌++◌, [], length, drop, slice_get, replicate, unwrap_or, Some, OnOk, OnErr};
+ghost use Rattle.std.specs.Option.{option_copied};
+ghost use Rattle.std.specs.BTreeMap as tree;
+ghost use Rattle.fw_frontier.specs.Front.{inside};
+ghost use Rattle.fw_flow.specs.Message.{message_cmp};
+ghost use Rattle.fw_model.specs.SortedMessages.{with_message, sorted_messages};
+ghost use Rattle.fw_model.specs.Filtering.{messages_from};
+ghost use Rattle.fw_edge.specs.Piles.{counted_messages, IsTally};
+
+use crate::message::{comes_from, copied};
+use fw_flow::Message;
+use fw_frontier::Front;
+use std::alloc::{AllocError, Global};
+use std::collections::BTreeMap;
+use std::marker::Model;
+
+/// Messages, each any number of times, given out in ascending order. Contracts see their ascending list.
+#[derive(Debug, Drop)]
+pub struct Pile {
+    counts: BTreeMap<Message, usize>,
+    len: usize,
+}
+
+impl Model for Pile {
+    ghost use Rattle.std.specs.Prelude.{◌≡◌, List, length};
+    ghost use Rattle.fw_flow.specs.declared.event.Message.{Message};
+    ghost use Rattle.fw_edge.specs.Piles.{counted_messages, IsTally};
+
+    ghost Value = { List Message };
+
+    ghost view = { λ pile. counted_messages pile.counts.entries };
+
+    ghost invariant = { λ pile. IsTally pile.counts.entries × (pile.len ≡ length (counted_messages pile.counts.entries)) };
+}
+
+impl Pile {
+    /// No message, in memory from `alloc`.
+    pub fn new(alloc: Global) -> Self
+        ensures { result ≡ [] }
+    {
+        Pile {
+            counts: BTreeMap::new(alloc),
+            len: 0,
+        }
+    }
+
+    /// Puts a message in. It fails where memory is refused, and where the number would not fit a `usize`.
+    pub fn put(&mut self, message: Message) -> Result<(), AllocError>
+        ensures ok { OnOk result (self.new ≡ with_message message self.old) }
+        ensures err { OnErr result (self.new ≡ self.old) }
+    {
+        put_one(&mut self.counts, &mut self.len, message)
+    }
+
+    /// Takes the first message out.
+    pub fn take_first(&mut self) -> Option<Message>
+        ensures value { result ≡ slice_get self.old 0 }
+        ensures rest { self.new ≡ drop 1 self.old }
+    {
+        let message = take_one(&mut self.counts)?;
+        self.len -= 1;
+        Some(message)
+    }
+
+    /// The first message.
+    pub fn first(&self) -> Option<&Message>
+        ensures { option_copied result ≡ slice_get self.now 0 }
+    {
+        first_of(&self.counts)
+    }
+
+    /// Keeps the messages all of whose causes are inside.
+    pub fn keep_causes(&mut self, f: &Front)
+        ensures { self.new ≡ messages_from (inside f.now) self.old }
+    {
+        keep_counts(&mut self.counts, &mut self.len, f);
+    }
+
+    /// How many messages there are, in constant time.
+    pub fn len(&self) -> usize
+        ensures len { result ≡ length self.now }
+        ensures ascending { sorted_messages self.now ≡ self.now }
+    {
+        self.len
+    }
+
+    /// Adds copies of its messages to these.
+    pub fn copy_all(&self, messages: &mut Vec<Message>) -> Result<(), AllocError>
+        ensures { OnOk result (messages.new.items ≡ messages.old.items ++ self.now) }
+    {
+        copy_counted(&self.counts, messages)
+    }
+
+    /// Adds copies of its messages all of whose causes are inside to these.
+    pub fn copy_caused(&self, f: &Front, messages: &mut Vec<Message>) -> Result<(), AllocError>
+        ensures { OnOk result (messages.new.items ≡ messages.old.items ++ messages_from (inside f.now) self.now) }
+    {
+        copy_counted_from(&self.counts, f, messages)
+    }
+}
+
+// How often the counts have this message.
+fn count_of(counts: &BTreeMap<Message, usize>, message: &Message) -> usize
+    ensures { result ≡ unwrap_or (tree.get message_cmp counts.now message.now) 0 }
+{
+    counts.get(message).copied().unwrap_or(0)
+}
+
+// Raises the count of a message by one.
+fn raise(counts: &mut BTreeMap<Message, usize>, message: Message) -> Result<(), AllocError>
+    requires { IsTally counts.old.entries }
+    ensures tally { IsTally counts.new.entries }
+    ensures ok { OnOk result (counted_messages counts.new.entries ≡ with_message message (counted_messages counts.old.entries)) }
+    ensures err { OnErr result (counts.new.entries ≡ counts.old.entries) }
+{
+    let raised = count_of(counts, &message).checked_add(1).ok_or(AllocError)?;
+    counts.insert(message, raised)?;
+    Ok(())
+}
+
+// Puts a message in, where `len` is the number of all.
+fn put_one(
+    counts: &mut BTreeMap<Message, usize>,
+    len: &mut usize,
+    message: Message,
+) -> Result<(), AllocError>
+    requires tally { IsTally counts.old.entries }
+    requires len { len.old ≡ length (counted_messages counts.old.entries) }
+    ensures tally { IsTally counts.new.entries }
+    ensures len { len.new ≡ length (counted_messages counts.new.entries) }
+    ensures ok { OnOk result (counted_messages counts.new.entries ≡ with_message message (counted_messages counts.old.entries)) }
+    ensures err { OnErr result (counted_messages counts.new.entries ≡ counted_messages counts.old.entries) }
+{
+    let total = len.checked_add(1).ok_or(AllocError)?;
+    raise(counts, message)?;
+    *len = total;
+    Ok(())
+}
+
+// The first message.
+fn first_of(counts: &BTreeMap<Message, usize>) -> Option<&Message>
+    requires { IsTally counts.now.entries }
+    ensures { option_copied result ≡ slice_get (counted_messages counts.now.entries) 0 }
+{
+    let (message, _) = counts.first_key_value()?;
+    Some(message)
+}
+
+// Lowers the count of the first message, which is more than one, by one.
+fn lower_first(counts: &mut BTreeMap<Message, usize>, first: &Message, count: usize)
+    requires tally { IsTally counts.old.entries }
+    requires first { slice_get counts.old.entries 0 ≡ Some (first.now, count) }
+    requires some { 1 < count }
+    ensures tally { IsTally counts.new.entries }
+    ensures rest { counted_messages counts.new.entries ≡ drop 1 (counted_messages counts.old.entries) }
+{
+    if let Some(held) = counts.get_mut(first) {
+        *held = count - 1;
+    }
+}
+
+// Takes the first message out.
+fn take_one(counts: &mut BTreeMap<Message, usize>) -> Option<Message>
+    requires { IsTally counts.old.entries }
+    ensures tally { IsTally counts.new.entries }
+    ensures value { result ≡ slice_get (counted_messages counts.old.entries) 0 }
+    ensures rest { counted_messages counts.new.entries ≡ drop 1 (counted_messages counts.old.entries) }
+{
+    let (first, count) = counts.first_key_value()?;
+    let count = *count;
+    if count > 1 {
+        let message = copied(first);
+        lower_first(counts, &message, count);
+        return Some(message);
+    }
+    let (message, _) = counts.pop_first()?;
+    Some(message)
+}
+
+// Keeps the messages all of whose causes are inside, where `len` is the number of all.
+fn keep_counts(counts: &mut BTreeMap<Message, usize>, len: &mut usize, f: &Front)
+    requires tally { IsTally counts.old.entries }
+    requires len { len.old ≡ length (counted_messages counts.old.entries) }
+    ensures tally { IsTally counts.new.entries }
+    ensures len { len.new ≡ length (counted_messages counts.new.entries) }
+    ensures kept { counted_messages counts.new.entries ≡ messages_from (inside f.now) (counted_messages counts.old.entries) }
+{
+    retain_counts(counts, f);
+    *len = total(counts, *len);
+}
+
+// Keeps the messages all of whose causes are inside.
+fn retain_counts(counts: &mut BTreeMap<Message, usize>, f: &Front)
+    requires tally { IsTally counts.old.entries }
+    ensures tally { IsTally counts.new.entries }
+    ensures kept { counted_messages counts.new.entries ≡ messages_from (inside f.now) (counted_messages counts.old.entries) }
+{
+    counts.retain(|message, _| comes_from(message, f));
+}
+
+// How many messages there are, which is at most `most`.
+fn total(counts: &BTreeMap<Message, usize>, most: usize) -> usize
+    requires { length (counted_messages counts.now.entries) ≤ most }
+    ensures { result ≡ length (counted_messages counts.now.entries) }
+{
+    let mut sum: usize = 0;
+    for (_, count) in counts {
+        sum += *count;
+    }
+    sum
+}
+
+// Adds copies of a message to these.
+fn push_copies(
+    messages: &mut Vec<Message>,
+    message: &Message,
+    count: usize,
+) -> Result<(), AllocError>
+    ensures { OnOk result (messages.new.items ≡ messages.old.items ++ replicate count message.now) }
+{
+    for _made in 0..count {
+        messages.push(copied(message))?;
+    }
+    Ok(())
+}
+
+// Adds copies of the messages to these.
+fn copy_counted(
+    counts: &BTreeMap<Message, usize>,
+    messages: &mut Vec<Message>,
+) -> Result<(), AllocError>
+    ensures { OnOk result (messages.new.items ≡ messages.old.items ++ counted_messages counts.now.entries) }
+{
+    for (message, count) in counts {
+        push_copies(messages, message, *count)?;
+    }
+    Ok(())
+}
+
+// Adds copies of the messages all of whose causes are inside to these.
+fn copy_counted_from(
+    counts: &BTreeMap<Message, usize>,
+    f: &Front,
+    messages: &mut Vec<Message>,
+) -> Result<(), AllocError>
+    ensures { OnOk result (messages.new.items
+        ≡ messages.old.items ++ messages_from (inside f.now) (counted_messages counts.now.entries)) }
+{
+    for (message, count) in counts {
+        if comes_from(message, f) {
+            push_copies(messages, message, *count)?;
+        }
+    }
+    Ok(())
+}

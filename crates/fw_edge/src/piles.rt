@@ -1,0 +1,222 @@
+//! Messages by their stamps.
+ghost use Rattle.std.specs.Prelude.{◌≡◌, ◌↔◌, [], find, true, None, IsTrue, IsSome, IfSome, IfNone, IfOk, OnOk, OnErr};
+ghost use Rattle.std.specs.Option.{option_copied};
+ghost use Rattle.std.specs.Map.{lookup};
+ghost use Rattle.std.specs.BTreeMap.{is_at};
+ghost use Rattle.fw_time.specs.Stamp.{same, stamp_cmp};
+ghost use Rattle.fw_frontier.specs.Front.{inside};
+ghost use Rattle.fw_flow.specs.Counting.{how_many};
+ghost use Rattle.fw_flow.specs.Message.{messages_without};
+ghost use Rattle.fw_model.specs.Filtering.{messages_from, messages_outside};
+ghost use Rattle.fw_model.specs.SortedMessages.{with_message, sorted_messages};
+ghost use Rattle.fw_model.specs.Steps.{is_asked};
+ghost use Rattle.fw_edge.specs.Piles.{piled_messages, ArePiles};
+
+use crate::pile::Pile;
+use fw_flow::Message;
+use fw_frontier::Front;
+use fw_time::Stamp;
+use std::alloc::{AllocError, Global};
+use std::collections::BTreeMap;
+
+/// Puts a message in. It fails where memory is refused, and where the number at its stamp would not fit a `usize`.
+pub fn put(
+    alloc: Global,
+    piles: &mut BTreeMap<Stamp, Pile>,
+    message: Message,
+) -> Result<(), AllocError>
+    requires { ArePiles piles.old.entries }
+    ensures piles { ArePiles piles.new.entries }
+    ensures ok { OnOk result (piled_messages piles.new.entries ≡ with_message message (piled_messages piles.old.entries)) }
+    ensures err { OnErr result (piles.new.entries ≡ piles.old.entries) }
+{
+    if piles.contains_key(&message.at) {
+        return put_more(piles, message);
+    }
+    put_new(alloc, piles, message)
+}
+
+// Puts a message into the pile of its stamp.
+fn put_more(piles: &mut BTreeMap<Stamp, Pile>, message: Message) -> Result<(), AllocError>
+    requires piles { ArePiles piles.old.entries }
+    requires there { IsSome (lookup (is_at (stamp_cmp message.at)) piles.old.entries) }
+    ensures piles { ArePiles piles.new.entries }
+    ensures ok { OnOk result (piled_messages piles.new.entries ≡ with_message message (piled_messages piles.old.entries)) }
+    ensures err { OnErr result (piles.new.entries ≡ piles.old.entries) }
+{
+    let Some(pile) = piles.get_mut(&message.at) else {
+        unreachable!()
+    };
+    pile.put(message)?;
+    Ok(())
+}
+
+// Makes the pile of the message's stamp.
+fn put_new(
+    alloc: Global,
+    piles: &mut BTreeMap<Stamp, Pile>,
+    message: Message,
+) -> Result<(), AllocError>
+    requires piles { ArePiles piles.old.entries }
+    requires absent { lookup (is_at (stamp_cmp message.at)) piles.old.entries ≡ None }
+    ensures piles { ArePiles piles.new.entries }
+    ensures ok { OnOk result (piled_messages piles.new.entries ≡ with_message message (piled_messages piles.old.entries)) }
+    ensures err { OnErr result (piles.new.entries ≡ piles.old.entries) }
+{
+    let at = message.at.copy();
+    let mut pile = Pile::new(alloc);
+    pile.put(message)?;
+    piles.insert(at, pile)?;
+    Ok(())
+}
+
+/// Takes the first message at a stamp out.
+pub fn take_at(piles: &mut BTreeMap<Stamp, Pile>, at: &Stamp) -> Option<Message>
+    requires { ArePiles piles.old.entries }
+    ensures piles { ArePiles piles.new.entries }
+    ensures value { result ≡ find (λ m. same at.now m.at) (piled_messages piles.old.entries) }
+    ensures taken { IfSome result
+        (λ m. piled_messages piles.new.entries ≡ messages_without m (piled_messages piles.old.entries)) }
+    ensures unchanged { IfNone result (piles.new.entries ≡ piles.old.entries) }
+{
+    let pile = piles.get_mut(at)?;
+    let message = pile.take_first();
+    if pile.len() == 0 {
+        piles.remove(at);
+    }
+    message
+}
+
+// Takes the first message of all out.
+fn take_front(piles: &mut BTreeMap<Stamp, Pile>) -> Option<Message>
+    requires { ArePiles piles.old.entries }
+    ensures piles { ArePiles piles.new.entries }
+    ensures value { result ≡ find (λ m. true) (piled_messages piles.old.entries) }
+    ensures taken { IfSome result
+        (λ m. piled_messages piles.new.entries ≡ messages_without m (piled_messages piles.old.entries)) }
+    ensures unchanged { IfNone result (piles.new.entries ≡ piles.old.entries) }
+{
+    let (first, _) = piles.first_key_value()?;
+    let at = first.copy();
+    take_at(piles, &at)
+}
+
+/// Takes the first message out that is at the stamp, if one is asked for.
+pub fn take(piles: &mut BTreeMap<Stamp, Pile>, at: Option<&Stamp>) -> Option<Message>
+    requires { ArePiles piles.old.entries }
+    ensures piles { ArePiles piles.new.entries }
+    ensures value { result ≡ find (λ m. is_asked (option_copied at.entry) m.at) (piled_messages piles.old.entries) }
+    ensures taken { IfSome result
+        (λ m. piled_messages piles.new.entries ≡ messages_without m (piled_messages piles.old.entries)) }
+    ensures unchanged { IfNone result (piles.new.entries ≡ piles.old.entries) }
+{
+    match at {
+        Some(at) => take_at(piles, at),
+        None => take_front(piles),
+    }
+}
+
+// The first message at a stamp.
+fn first_at<'a>(piles: &'a BTreeMap<Stamp, Pile>, at: &Stamp) -> Option<&'a Message>
+    requires { ArePiles piles.now.entries }
+    ensures { option_copied result ≡ find (λ m. same at.now m.at) (piled_messages piles.now.entries) }
+{
+    piles.get(at)?.first()
+}
+
+// The first message of all.
+fn front(piles: &BTreeMap<Stamp, Pile>) -> Option<&Message>
+    requires { ArePiles piles.now.entries }
+    ensures { option_copied result ≡ find (λ m. true) (piled_messages piles.now.entries) }
+{
+    let (_, pile) = piles.first_key_value()?;
+    pile.first()
+}
+
+/// The first message that is at the stamp, if one is asked for.
+pub fn first<'a>(piles: &'a BTreeMap<Stamp, Pile>, at: Option<&Stamp>) -> Option<&'a Message>
+    requires { ArePiles piles.now.entries }
+    ensures { option_copied result
+        ≡ find (λ m. is_asked (option_copied at.entry) m.at) (piled_messages piles.now.entries) }
+{
+    match at {
+        Some(at) => first_at(piles, at),
+        None => front(piles),
+    }
+}
+
+/// How many messages are at a stamp.
+pub fn count_at(piles: &BTreeMap<Stamp, Pile>, at: &Stamp) -> usize
+    requires { ArePiles piles.now.entries }
+    ensures { result ≡ how_many (λ m. same at.now m.at) (piled_messages piles.now.entries) }
+{
+    match piles.get(at) {
+        Some(pile) => pile.len(),
+        None => 0,
+    }
+}
+
+/// Whether there is no message.
+pub fn is_empty(piles: &BTreeMap<Stamp, Pile>) -> bool
+    requires { ArePiles piles.now.entries }
+    ensures empty { IsTrue result ↔ (piled_messages piles.now.entries ≡ []) }
+    ensures ascending { sorted_messages (piled_messages piles.now.entries) ≡ piled_messages piles.now.entries }
+{
+    piles.is_empty()
+}
+
+/// Keeps the messages all of whose causes are inside.
+pub fn keep_causes(piles: &mut BTreeMap<Stamp, Pile>, f: &Front)
+    requires { ArePiles piles.old.entries }
+    ensures piles { ArePiles piles.new.entries }
+    ensures kept { piled_messages piles.new.entries ≡ messages_from (inside f.now) (piled_messages piles.old.entries) }
+{
+    piles.retain(|_, pile| {
+        pile.keep_causes(f);
+        pile.len() > 0
+    });
+}
+
+/// Drops the messages at stamps inside. What stays is not looked at.
+pub fn drop_inside(piles: &mut BTreeMap<Stamp, Pile>, f: &Front)
+    requires { ArePiles piles.old.entries }
+    ensures piles { ArePiles piles.new.entries }
+    ensures left { piled_messages piles.new.entries ≡ messages_outside (inside f.now) (piled_messages piles.old.entries) }
+{
+    piles.retain(|at, _| !f.contains(at));
+}
+
+/// Copies of the messages at stamps outside.
+pub fn outside(
+    alloc: Global,
+    piles: &BTreeMap<Stamp, Pile>,
+    f: &Front,
+) -> Result<Vec<Message>, AllocError>
+    requires { ArePiles piles.now.entries }
+    ensures { IfOk result
+        (λ ms. ms.items ≡ messages_outside (inside f.now) (piled_messages piles.now.entries)) }
+{
+    let mut messages = Vec::new(alloc);
+    for (at, pile) in piles {
+        if !f.contains(at) {
+            pile.copy_all(&mut messages)?;
+        }
+    }
+    Ok(messages)
+}
+
+/// Copies of the messages all of whose causes are inside.
+pub fn caused_in(
+    alloc: Global,
+    piles: &BTreeMap<Stamp, Pile>,
+    f: &Front,
+) -> Result<Vec<Message>, AllocError>
+    ensures { IfOk result
+        (λ ms. ms.items ≡ messages_from (inside f.now) (piled_messages piles.now.entries)) }
+{
+    let mut messages = Vec::new(alloc);
+    for (_, pile) in piles {
+        pile.copy_caused(f, &mut messages)?;
+    }
+    Ok(messages)
+}

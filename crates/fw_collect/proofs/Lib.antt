@@ -1,1 +1,2 @@
+pub mod ApplyLaws
 pub mod PlanLaws

@@ -4,9 +4,11 @@
 //! entries what is not needed again, as plain data. `apply` takes that out of the catalogue, the logs and the inputs.
 #![tactic(auto)]
 
+mod applying;
 mod drops;
 mod given_up;
 mod planning;
 
+pub use applying::apply;
 pub use drops::{AtNode, Drops, OfNode};
 pub use planning::plan;

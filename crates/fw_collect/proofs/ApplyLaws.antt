@@ -55,9 +55,9 @@ or-swap true true c = refl
 or-swap true false c = refl
 or-swap false b c = refl
 
-or-nothing : (a : Bool) → (a || false) ≡ a
-or-nothing true = refl
-or-nothing false = refl
+pub or_nothing : (a : Bool) → (a || false) ≡ a
+or_nothing true = refl
+or_nothing false = refl
 
 -- what either of two tests takes out in turn has the id where what both take out has it
 gone-then : (f g h : Entry → Bool) → ((e : Entry) → h e ≡ (f e || g e)) → (id : ℕ) (es : List Entry)
@@ -90,7 +90,7 @@ gone-then f g h is id (e ∷ es) =
 pub forgets_nothing : (keep : KeepState) → Forgets (λ e. false) keep keep
 forgets_nothing keep = record {
   left = ap (λ es. record keep { entries = es }) (sym (filter_nothing keep.entries));
-  waiting = λ id. sym (ap (λ es. is_among id keep.waiting || has_entry id es) (filter-none keep.entries) ∙ or-nothing (is_among id keep.waiting));
+  waiting = λ id. sym (ap (λ es. is_among id keep.waiting || has_entry id es) (filter-none keep.entries) ∙ or_nothing (is_among id keep.waiting));
   stored = λ records s. s;
 }
   where
@@ -136,7 +136,7 @@ forgets_more goes ds i d first now next l so_far is stored =
 
 -- the part at a place, where one is changed by what leaves the one past the last
 get_or-changed : {X : Type 0} (act : X → X) (xs : List X) (q p : ℕ) (d : X) → act d ≡ d
-    → get_or (set xs q (act (get_or xs q d))) p d ≡ cond (q == p) (act (get_or xs p d)) (get_or xs p d)
+    → get_or (set xs q (act (get_or xs q d))) p d ≡ cond (p == q) (act (get_or xs p d)) (get_or xs p d)
 get_or-changed act xs q p d idle =
     let v = act (get_or xs q d) in
     let here = act (get_or xs p d) in
@@ -144,13 +144,13 @@ get_or-changed act xs q p d idle =
       | inl e ↦ elim (cases_lt q (length xs)) [
         | inl l ↦ ap (λ k. get_or (set xs q v) k d) e ∙ get_or-set_same xs q v d l ∙ ap (λ k. act (get_or xs k d)) (sym e)
         | inr o ↦ get_or_past (set xs q v) p d (omega (arith, length-set xs q v, e)) ∙ sym (ap act (get_or_past xs p d (omega (arith, e))) ∙ idle)
-      ] ∙ sym (cond-true (q == p) here (get_or xs p d) (eq-eqb q p (sym e)))
-      | inr n ↦ get_or-set_other xs q p v d n ∙ sym (cond-false (q == p) here (get_or xs p d) (ne_eqb q p (λ e. n (sym e))))
+      ] ∙ sym (cond-true (p == q) here (get_or xs p d) (eq-eqb p q e))
+      | inr n ↦ get_or-set_other xs q p v d n ∙ sym (cond-false (p == q) here (get_or xs p d) (ne_eqb p q n))
     ]
 
-cond-ap : {X Y : Type 0} (f : X → Y) (b : Bool) (x y : X) → cond b (f x) (f y) ≡ f (cond b x y)
-cond-ap f true x y = refl
-cond-ap f false x y = refl
+pub cond_ap : {X Y : Type 0} (f : X → Y) (b : Bool) (x y : X) → cond b (f x) (f y) ≡ f (cond b x y)
+cond_ap f true x y = refl
+cond_ap f false x y = refl
 
 -- a filter, after which another one comes where it is wanted
 kept-more : {X : Type 0} (p q r : X → Bool) (b : Bool) → ((x : X) → r x ≡ (p x || (b && q x))) → (xs : List X)
@@ -170,7 +170,7 @@ pub logs_more : (fronts : List OfEdge) (i : ℕ) (d : OfEdge) (first now next : 
     → (e : ℕ) → log_at next e ≡ log_left (take (i + 1) fronts) e (log_at first e)
 logs_more fronts i d first now next l so_far is e =
     let q : OfEdge = get_or fronts i d in
-    let b : Bool = q.edge == e in
+    let b : Bool = e == q.edge in
     let log : MessagesState = log_at first e in
     let with : List Message → MessagesState = λ ms. record log { messages = ms } in
     let before : Message → Bool = λ m. is_inside_edge (take i fronts) e m.at in
@@ -180,8 +180,8 @@ logs_more fronts i d first now next l so_far is e =
     ap (λ logs. log_at logs e) is
     ∙ get_or-changed (log_outside q.front) now q.edge e (record { messages = []; refused = false }) refl
     ∙ ap (λ x. cond b (log_outside q.front x) x) (so_far e)
-    ∙ cond-ap with b (filter (λ m. not (more m)) left) left
-    ∙ ap with (kept-more before more after b (λ m. list_any_more (λ (x : OfEdge). (x.edge == e) && inside x.front m.at) fronts i d l) log.messages)
+    ∙ cond_ap with b (filter (λ m. not (more m)) left) left
+    ∙ ap with (kept-more before more after b (λ m. list_any_more (λ (x : OfEdge). (e == x.edge) && inside x.front m.at) fronts i d l) log.messages)
 
 -- ---- batches
 
@@ -195,7 +195,7 @@ pub sources_more : (fronts : List OfNode) (i : ℕ) (d : OfNode) (first now next
     → (s : ℕ) → source_at next s ≡ source_left (take (i + 1) fronts) s (source_at first s)
 sources_more fronts i d first now next l so_far is s =
     let q : OfNode = get_or fronts i d in
-    let b : Bool = q.node == s in
+    let b : Bool = s == q.node in
     let source : SourceState = source_at first s in
     let with : List (ℕ × List Rec) → SourceState = λ held. record source { held = held } in
     let before : ℕ × List Rec → Bool = λ batch. is_inside_node (take i fronts) s (batch.0 ∷ []) in
@@ -205,5 +205,5 @@ sources_more fronts i d first now next l so_far is s =
     ap (λ sources. source_at sources s) is
     ∙ get_or-changed (given_up q.front) now q.node s (unused_source []) refl
     ∙ ap (λ x. cond b (given_up q.front x) x) (so_far s)
-    ∙ cond-ap with b (filter (λ batch. not (more batch)) left) left
-    ∙ ap with (kept-more before more after b (λ batch. list_any_more (λ (x : OfNode). (x.node == s) && inside x.front (batch.0 ∷ [])) fronts i d l) source.held)
+    ∙ cond_ap with b (filter (λ batch. not (more batch)) left) left
+    ∙ ap with (kept-more before more after b (λ batch. list_any_more (λ (x : OfNode). (s == x.node) && inside x.front (batch.0 ∷ [])) fronts i d l) source.held)

@@ -1,2 +1,3 @@
 pub mod ApplyLaws
+pub mod CollectLaws
 pub mod PlanLaws

@@ -40,7 +40,7 @@ pub record Forgets (goes : Entry → Bool) (old new : KeepState) : Type 0 where
 
 -- whether a stamp is inside a front that stands beside the edge
 abbrev pub is_inside_edge : List OfEdge → ℕ → Stamp → Bool
-is_inside_edge fronts e t = list_any (λ (d : OfEdge). (d.edge == e) && inside d.front t) fronts
+is_inside_edge fronts e t = list_any (λ (d : OfEdge). (e == d.edge) && inside d.front t) fronts
 
 -- the log at a place; an empty one past the last
 abbrev pub log_at : List MessagesState → ℕ → MessagesState
@@ -62,7 +62,7 @@ log_left fronts e log = record log { messages = filter (λ m. not (is_inside_edg
 
 -- whether a stamp is inside a front that stands beside the node
 abbrev pub is_inside_node : List OfNode → ℕ → Stamp → Bool
-is_inside_node fronts p t = list_any (λ (d : OfNode). (d.node == p) && inside d.front t) fronts
+is_inside_node fronts p t = list_any (λ (d : OfNode). (p == d.node) && inside d.front t) fronts
 
 -- input s without the batches of the epochs inside the fronts that stand beside it
 abbrev pub source_left : List OfNode → ℕ → SourceState → SourceState

@@ -1,5 +1,5 @@
 -- What a collection gives up, where it raises the low watermark to the fronts of a choice.
-use Rattle.std.specs.Prelude.{ℕ, if◌then◌else◌, List, [], ◌∷◌, map, filter}
+use Rattle.std.specs.Prelude.{◌≡◌, ℕ, if◌then◌else◌, List, [], ◌∷◌, map, filter}
 use Rattle.std.specs.List.{flat_map}
 use Rattle.fw_frontier.specs.Front.{Front}
 use Rattle.fw_flow.specs.declared.choice.Choice.{Choice}
@@ -16,6 +16,7 @@ use Rattle.fw_keep.specs.declared.entry.Written.TheVariants as written
 use Rattle.fw_keep.specs.Entry.{stamp_of}
 use Rattle.fw_collect.specs.declared.drops.OfNode.{OfNode}
 use Rattle.fw_collect.specs.declared.drops.AtNode.{AtNode}
+use Rattle.fw_collect.specs.declared.drops.Drops.{Drops}
 
 -- the low watermark of a choice: the front of each node's cut
 abbrev pub watermark : Choice → List Front
@@ -51,3 +52,10 @@ dropped_messages flow low =
 -- each input with its front: the batches of the epochs inside are given up
 abbrev pub dropped_batches : Dataflow → List Front → List OfNode
 dropped_batches flow low = map (of_node low) (filter (λ p. is_input_kind (kind_of flow p)) (node_ids flow))
+
+-- What is given up is what is not needed again where these entries are there and the low watermark rises to these fronts.
+pub record IsPlanned (flow : Dataflow) (low : List Front) (entries : List Entry) (drops : Drops) : Type 0 where
+  pub records : drops.records.items ≡ dropped_records flow low
+  pub events : drops.events.items ≡ dropped_events flow low entries
+  pub messages : drops.messages.items ≡ dropped_messages flow low
+  pub batches : drops.batches.items ≡ dropped_batches flow low

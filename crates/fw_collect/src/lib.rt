@@ -7,6 +7,7 @@
 mod applying;
 mod drops;
 mod given_up;
+pub mod laws;
 mod planning;
 
 pub use applying::apply;

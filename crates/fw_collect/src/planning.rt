@@ -5,7 +5,7 @@ ghost use Rattle.fw_model.specs.Writes as writes;
 ghost use Rattle.fw_flow.specs.Restoring as restoring;
 ghost use Rattle.fw_keep.specs.Entry as entry;
 ghost use Rattle.fw_collect.specs.Drops as spec;
-ghost use Rattle.fw_collect.specs.Drops.{watermark, dropped_records, dropped_events, dropped_messages, dropped_batches};
+ghost use Rattle.fw_collect.specs.Drops.{watermark, IsPlanned, dropped_records, dropped_events, dropped_messages, dropped_batches};
 
 use crate::drops::{AtNode, Drops, OfNode};
 use crate::given_up;
@@ -29,10 +29,7 @@ pub fn plan(
     choice: &Choice,
     entries: &[Entry],
 ) -> Result<Drops, AllocError>
-    ensures records { IfOk result (λ drops. drops.records.items ≡ dropped_records flow.now (watermark choice.now)) }
-    ensures events { IfOk result (λ drops. drops.events.items ≡ dropped_events flow.now (watermark choice.now) entries.now) }
-    ensures messages { IfOk result (λ drops. drops.messages.items ≡ dropped_messages flow.now (watermark choice.now)) }
-    ensures batches { IfOk result (λ drops. drops.batches.items ≡ dropped_batches flow.now (watermark choice.now)) }
+    ensures { IfOk result (IsPlanned flow.now (watermark choice.now) entries.now) }
 {
     Ok(Drops {
         records: records(alloc, flow, choice)?,

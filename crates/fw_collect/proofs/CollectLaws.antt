@@ -1,16 +1,18 @@
 -- What is planned and given up is what the machine's collection takes.
 use Rattle.std.proofs.Common.{◌≡◌, ℕ, zero, suc, ◌+◌, ◌<◌, ◌≤◌, Bool, true, false, not, ◌&&◌, ◌||◌, ◌==◌, cond, List, [], ◌∷◌, ◌++◌, length, map, refl, sym, ap, ◌∙◌, subst, inl, inr, arith}
-use Rattle.std.proofs.lemmas.Bool.{cases_Bool, cases_lt, cases_eq, and_from, eq-eqb, eqb-true, and_parts, or_cases, or_right, or_left, true≢false, false_from_ne_true, not_from_true, not_from_false}
+use Rattle.std.proofs.lemmas.Bool.{cases_Bool, cases_lt, cases_eq, and_from, eq-eqb, eqb-true, and_parts, or_cases, or_right, or_left, true≢false, false_from_ne_true, not_from_true, not_from_false, not-true}
 use Rattle.std.proofs.lemmas.List.{get_or_past}
 use Rattle.std.proofs.lemmas.List.Folds.{list_any-append}
 use Rattle.std.specs.List.{filter, list_any, range_with_len, AllByRecursion, AllZip}
-use Rattle.fw_time.specs.Stamp.{Stamp, same}
+use Rattle.fw_time.specs.Stamp.{Stamp, same, in_domain}
+use Rattle.fw_time.specs.declared.stamp.Bounds.{Bounds}
+use Rattle.fw_frontier.specs.Frontier.{Within}
 use Rattle.fw_bag.specs.declared.rec.Rec.{Rec}
 use Rattle.fw_time.proofs.StampLaws.{same-is, same-refl}
 use Rattle.fw_time.proofs.EachLaws.{each-weaker}
-use Rattle.fw_frontier.specs.Front.{Front, inside, is_within}
+use Rattle.fw_frontier.specs.Front.{Front, inside, is_within, frontier_of}
 use Rattle.fw_flow.specs.declared.node.Node.{Node}
-use Rattle.fw_flow.specs.Dataflow.{System, Dataflow, policy_of, kind_of, sender, receiver, is_input_kind, node_ids, idle_node}
+use Rattle.fw_flow.specs.Dataflow.{System, Dataflow, policy_of, kind_of, sender, receiver, bounds_of, is_input_kind, node_ids, idle_node}
 use Rattle.fw_flow.specs.Restoring.{can_resend}
 use Rattle.fw_flow.specs.declared.choice.OfEdge.{OfEdge}
 use Rattle.fw_flow.specs.declared.event.Message.{Message}
@@ -21,7 +23,11 @@ use Rattle.fw_model.specs.Machine.{SerialEvent, Write, Written, checkpoint, logg
 use Rattle.fw_model.specs.Steps as steps
 use Rattle.fw_model.specs.Steps.{is_in_flight, after_collection, is_given_up, is_serial_given_up, has_serial}
 use Rattle.fw_model.specs.Writes.{takes_checkpoints, is_collected, not_collected}
-use Rattle.fw_model.proofs.FilterLaws.{filter-in, filter-out}
+use Rattle.fw_model.proofs.FilterLaws.{filter-in, filter-out, filter-inner}
+use Rattle.fw_model.proofs.SortedLaws.{sorted_messages-filter}
+use Rattle.fw_model.specs.SortedMessages.{sorted_messages}
+use Rattle.fw_edge.specs.Bag.{MessagesState}
+use Rattle.fw_border.specs.Sources.{SourceState, given_up}
 use Rattle.fw_keep.specs.declared.entry.Entry.{Entry}
 use Rattle.fw_keep.specs.declared.entry.Written as entry
 use Rattle.fw_keep.specs.declared.entry.Written.TheVariants as written
@@ -29,8 +35,8 @@ use Rattle.fw_keep.specs.Entry.{stamp_of, lies_below, is_event_at, is_below, is_
 use Rattle.fw_collect.specs.declared.drops.AtNode.{AtNode}
 use Rattle.fw_collect.specs.declared.drops.OfNode.{OfNode}
 use Rattle.fw_collect.specs.Drops.{of_node, without_batches, dropped_records, dropped_events, dropped_messages, dropped_batches, given_up_event}
-use Rattle.fw_collect.specs.Dropped.{is_dropped, is_below_some, is_at_some, is_inside_edge, is_inside_node, log_left, source_left}
-use Rattle.fw_collect.specs.LawsOfCollections.{is_written_given_up, DropsWhatIsGivenUp, DropsMessagesBelowReceivers, DropsBatchesOfInputs, IsWrittenOf, IsEntryOf, DropsWhatIsCollected}
+use Rattle.fw_collect.specs.Dropped.{is_dropped, is_below_some, is_at_some, is_inside_edge, is_inside_node, log_outside, log_left, source_left}
+use Rattle.fw_collect.specs.LawsOfCollections.{is_written_given_up, DropsWhatIsGivenUp, DropsMessagesBelowReceivers, DropsBatchesOfInputs, IsWrittenOf, IsEntryOf, DropsWhatIsCollected, LogsHoldWhatIsOutside, InputsHoldWhatIsOutside}
 use Rattle.fw_collect.proofs.ApplyLaws.{or_nothing, filter_then, filter_nothing, cond_ap}
 
 -- ---- one place of those that pass a test
@@ -339,3 +345,43 @@ drops_what_is_collected sys h low entries drops writes is are none =
     (λ e k w x. k ∙ written-same sys h low e.node w.node e.written w.written x.node x.holds)
     (drops_what_is_given_up sys.flow low entries drops is))
     none are
+
+-- ---- what logs and inputs hold
+
+filter-same_on : {X : Type 0} (f g : X → Bool) (xs : List X) → AllByRecursion (λ x. f x ≡ g x) xs → filter f xs ≡ filter g xs
+filter-same_on f g [] same = refl
+filter-same_on f g (x ∷ xs) same =
+    ap (λ b. cond b (x ∷ filter f xs) (filter f xs)) same.0 ∙ ap (λ ys. cond (g x) (x ∷ ys) ys) (filter-same_on f g xs same.1)
+
+-- what lies outside a frontier, and then outside a front that holds it, lies outside the front
+outside-again : {X : Type 0} (at : X → Stamp) (bounds : Bounds) (f g : Front) (xs : List X) → Within (frontier_of bounds f) (frontier_of bounds g)
+    → AllByRecursion (λ x. in_domain bounds (at x) ≡ true) xs
+    → filter (λ x. not (inside g (at x))) (filter (λ x. not (frontier_of bounds f (at x))) xs) ≡ filter (λ x. not (frontier_of bounds g (at x))) xs
+outside-again {X = X} at bounds f g xs within domain =
+    let j : X → Bool = λ x. not (inside g (at x)) in
+    let k : X → Bool = λ x. not (frontier_of bounds f (at x)) in
+    let holds : (x : X) → in_domain bounds (at x) ≡ true → frontier_of bounds g (at x) ≡ inside g (at x) = λ x d. ap (λ b. b && inside g (at x)) d in
+    filter-inner j k xs (each-weaker (λ x. in_domain bounds (at x) ≡ true) (λ x. j x ≡ true → k x ≡ true) xs
+    (λ x d o. not_from_false (frontier_of bounds f (at x))
+    (false_from_ne_true (frontier_of bounds f (at x)) (λ i. true≢false (sym (within (at x) i) ∙ holds x d ∙ not-true (inside g (at x)) o)))) domain)
+    ∙ filter-same_on j (λ x. not (frontier_of bounds g (at x))) xs
+    (each-weaker (λ x. in_domain bounds (at x) ≡ true) (λ x. j x ≡ not (frontier_of bounds g (at x))) xs (λ x d. sym (ap not (holds x d))) domain)
+
+pub logs_hold_what_is_outside : LogsHoldWhatIsOutside
+logs_hold_what_is_outside flow low next entries drops is rises e log sent l there resends domain held =
+    let r : ℕ = receiver flow e in
+    let bounds : Bounds = bounds_of flow r in
+    let more : Message → Bool = λ m. not (inside (front_of next r) m.at) in
+    let once : Message → Bool = λ m. not (frontier_of bounds (front_of low r) m.at) in
+    ap (λ (x : MessagesState). x.messages) (drops_messages_below_receivers flow next entries drops is e log l
+    ∙ ap (λ b. cond b (log_outside (front_of next r) log) log) resends)
+    ∙ ap (filter more) held ∙ sym (sorted_messages-filter more (filter once sent))
+    ∙ ap sorted_messages (outside-again (λ (m : Message). m.at) bounds (front_of low r) (front_of next r) sent (rises r there) domain)
+
+pub inputs_hold_what_is_outside : InputsHoldWhatIsOutside
+inputs_hold_what_is_outside flow low next entries drops is rises s source batches l input domain held =
+    let more : ℕ × List Rec → Bool = λ batch. not (inside (front_of next s) (batch.0 ∷ [])) in
+    ap (λ (x : SourceState). x.held) (drops_batches_of_inputs flow next entries drops is s source l
+    ∙ ap (λ b. cond b (given_up (front_of next s) source) source) input)
+    ∙ ap (filter more) held
+    ∙ outside-again (λ (batch : ℕ × List Rec). batch.0 ∷ []) (bounds_of flow s) (front_of low s) (front_of next s) batches (rises s l) domain

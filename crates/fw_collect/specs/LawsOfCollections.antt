@@ -1,11 +1,16 @@
 -- Laws of collections: what is planned and given up is what the machine's collection takes.
-use Rattle.std.specs.Prelude.{◌≡◌, ◌↔◌, ℕ, ◌<◌, Bool, true, false, not, ◌&&◌, if◌then◌else◌, List, length, filter}
+use Rattle.std.specs.Prelude.{◌≡◌, ◌↔◌, ℕ, ◌<◌, Bool, true, false, not, ◌&&◌, if◌then◌else◌, List, [], ◌∷◌, length, filter}
 use Rattle.std.specs.List.{AllByRecursion, AllZip}
-use Rattle.fw_time.specs.Stamp.{Stamp}
+use Rattle.fw_time.specs.Stamp.{Stamp, in_domain}
+use Rattle.fw_bag.specs.declared.rec.Rec.{Rec}
+use Rattle.fw_frontier.specs.Frontier.{Within}
 use Rattle.fw_frontier.specs.Front.{Front}
-use Rattle.fw_flow.specs.Dataflow.{System, Dataflow, kind_of, policy_of, sender, receiver, is_input_kind}
+use Rattle.fw_flow.specs.Dataflow.{System, Dataflow, kind_of, policy_of, sender, receiver, bounds_of, node_frontier, is_input_kind}
+use Rattle.fw_flow.specs.declared.event.Message.{Message}
 use Rattle.fw_flow.specs.NodeFunction.{event_node, event_stamp}
 use Rattle.fw_flow.specs.Restoring.{can_resend}
+use Rattle.fw_model.specs.Filtering.{messages_outside}
+use Rattle.fw_model.specs.SortedMessages.{sorted_messages}
 use Rattle.fw_model.specs.Machine.{SerialEvent, Write, Written, checkpoint, logged_event, acknowledged, front_of}
 use Rattle.fw_model.specs.Steps as steps
 use Rattle.fw_model.specs.Steps.{has_serial, is_in_flight, is_given_up, collected_writes}
@@ -78,3 +83,36 @@ DropsWhatIsCollected = (sys : System) (h : List SerialEvent) (low : List Front) 
     → IsPlanned sys.flow low entries drops → AreEntriesOf sys h entries writes
     → AllByRecursion (λ (write : Write). steps.lies_below sys low h write.node write.written ≡ true → is_in_flight write.stage ≡ false) writes
     → AreEntriesOf sys h (filter (λ e. not (is_dropped drops e)) entries) (collected_writes sys low h writes)
+
+-- ---- what logs and inputs hold
+
+-- the low watermark rises to these fronts: at each node it lies within
+abbrev pub RisesTo : Dataflow → List Front → List Front → Type 0
+RisesTo flow low next =
+    (p : ℕ) → p < length flow.nodes → Within (node_frontier flow p (front_of low p)) (node_frontier flow p (front_of next p))
+
+-- of the messages that were sent on edge e those outside the low watermark of its receiver, in order: what its log holds
+abbrev pub sent_outside : Dataflow → List Front → ℕ → List Message → List Message
+sent_outside flow low e sent =
+    sorted_messages (messages_outside (node_frontier flow (receiver flow e) (front_of low (receiver flow e))) sent)
+
+-- of the batches of input s, by epoch, those outside its low watermark: what it holds
+abbrev pub batches_outside : Dataflow → List Front → ℕ → List (ℕ × List Rec) → List (ℕ × List Rec)
+batches_outside flow low s batches = filter (λ batch. not (node_frontier flow s (front_of low s) (batch.0 ∷ []))) batches
+
+-- where the log of an edge whose sender may send again holds what was sent outside the low watermark, after a collection it
+-- holds what was sent outside the one that rose
+abbrev pub LogsHoldWhatIsOutside : Type 0
+LogsHoldWhatIsOutside = (flow : Dataflow) (low next : List Front) (entries : List Entry) (drops : Drops) → IsPlanned flow next entries drops
+    → RisesTo flow low next → (e : ℕ) (log : MessagesState) (sent : List Message) → e < length flow.edges → receiver flow e < length flow.nodes
+    → can_resend (policy_of flow (sender flow e)) ≡ true
+    → AllByRecursion (λ (m : Message). in_domain (bounds_of flow (receiver flow e)) m.at ≡ true) sent
+    → log.messages ≡ sent_outside flow low e sent → (log_left drops.messages.items e log).messages ≡ sent_outside flow next e sent
+
+-- where an input holds its batches outside the low watermark, after a collection it holds those outside the one that rose
+abbrev pub InputsHoldWhatIsOutside : Type 0
+InputsHoldWhatIsOutside = (flow : Dataflow) (low next : List Front) (entries : List Entry) (drops : Drops) → IsPlanned flow next entries drops
+    → RisesTo flow low next → (s : ℕ) (source : SourceState) (batches : List (ℕ × List Rec)) → s < length flow.nodes
+    → is_input_kind (kind_of flow s) ≡ true
+    → AllByRecursion (λ (batch : ℕ × List Rec). in_domain (bounds_of flow s) (batch.0 ∷ []) ≡ true) batches
+    → source.held ≡ batches_outside flow low s batches → (source_left drops.batches.items s source).held ≡ batches_outside flow next s batches

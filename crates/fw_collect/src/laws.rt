@@ -1,5 +1,5 @@
 //! Laws of collections, each a function that does nothing: its clause is the law.
-ghost use Rattle.fw_collect.specs.LawsOfCollections.{DropsWhatIsGivenUp, DropsMessagesBelowReceivers, DropsBatchesOfInputs, DropsWhatIsCollected};
+ghost use Rattle.fw_collect.specs.LawsOfCollections.{DropsWhatIsGivenUp, DropsMessagesBelowReceivers, DropsBatchesOfInputs, DropsWhatIsCollected, LogsHoldWhatIsOutside, InputsHoldWhatIsOutside};
 
 /// Of the entries that were planned with, those go that are given up, each by itself.
 pub fn drops_what_is_given_up()
@@ -20,4 +20,15 @@ pub fn drops_batches_of_inputs()
 /// taken out of the entries and the machine collects.
 pub fn drops_what_is_collected()
     ensures { DropsWhatIsCollected }
+{}
+
+/// A log that holds what was sent outside the low watermark holds, after a collection, what was sent outside the one that
+/// rose.
+pub fn logs_hold_what_is_outside()
+    ensures { LogsHoldWhatIsOutside }
+{}
+
+/// An input that holds its batches outside the low watermark holds, after a collection, those outside the one that rose.
+pub fn inputs_hold_what_is_outside()
+    ensures { InputsHoldWhatIsOutside }
 {}

@@ -1,0 +1,209 @@
+-- What the loops of a collection leave.
+use Rattle.std.proofs.Common.{◌≡◌, ℕ, ◌+◌, ◌<◌, Bool, true, false, not, ◌&&◌, ◌||◌, ◌==◌, cond, List, [], ◌∷◌, length, take, get_or, set, length-set, Option, refl, sym, ap, ◌∙◌, inl, inr, arith}
+use Rattle.std.proofs.lemmas.Bool.{cases_Bool, cases_lt, cases_eq, eq-eqb, ne_eqb, cond-true, cond-false, not_from_true, not_from_false, or_left, or_right, or_from}
+use Rattle.std.proofs.lemmas.List.{get_or-set_same, get_or-set_other, get_or_past}
+use Rattle.std.proofs.lemmas.List.Folds.{list_any-append, list_any_more}
+use Rattle.std.specs.List.{filter, list_any}
+use Rattle.fw_model.proofs.FilterLaws.{filter-in, filter-out}
+use Rattle.fw_keep.specs.declared.entry.Entry.{Entry}
+use Rattle.fw_keep.specs.Catalogue.{KeepState, is_among, has_entry, ids_of, without}
+use Rattle.fw_keep.specs.Stored.{Records, IsStored}
+use Rattle.fw_bag.specs.declared.rec.Rec.{Rec}
+use Rattle.fw_frontier.specs.Front.{inside}
+use Rattle.fw_flow.specs.declared.choice.OfEdge.{OfEdge}
+use Rattle.fw_flow.specs.declared.event.Message.{Message}
+use Rattle.fw_edge.specs.Bag.{MessagesState}
+use Rattle.fw_border.specs.Sources.{SourceState, unused_source, source_at, with_source, given_up}
+use Rattle.fw_collect.specs.declared.drops.OfNode.{OfNode}
+use Rattle.fw_collect.specs.Dropped.{Forgets, log_at, log_outside, with_log_outside, log_left, is_inside_edge, is_inside_node, source_left}
+
+-- ---- filters
+
+-- two filters after each other take out what either takes out
+pub filter_then : {X : Type 0} (p q r : X → Bool) → ((x : X) → r x ≡ (p x || q x)) → (xs : List X)
+    → filter (λ x. not (q x)) (filter (λ x. not (p x)) xs) ≡ filter (λ x. not (r x)) xs
+filter_then p q r e [] = refl
+filter_then {X = X} p q r e (x ∷ xs) =
+    let j : X → Bool = λ y. not (q y) in
+    let k : X → Bool = λ y. not (p y) in
+    let l : X → Bool = λ y. not (r y) in
+    let rest : filter j (filter k xs) ≡ filter l xs = filter_then p q r e xs in
+    elim (cases_Bool (p x)) [
+      | inl a ↦ ap (filter j) (filter-out k x xs (not_from_true (p x) a)) ∙ rest
+          ∙ sym (filter-out l x xs (not_from_true (r x) (e x ∙ or_left (p x) (q x) a)))
+      | inr a ↦ ap (filter j) (filter-in k x xs (not_from_false (p x) a)) ∙ elim (cases_Bool (q x)) [
+        | inl b ↦ filter-out j x (filter k xs) (not_from_true (q x) b) ∙ rest
+            ∙ sym (filter-out l x xs (not_from_true (r x) (e x ∙ or_right (p x) (q x) b)))
+        | inr b ↦ filter-in j x (filter k xs) (not_from_false (q x) b) ∙ ap (λ ys. x ∷ ys) rest
+            ∙ sym (filter-in l x xs (not_from_false (r x) (e x ∙ or_from (p x) (q x) a b)))
+      ]
+    ]
+
+-- a filter that takes nothing out
+pub filter_nothing : {X : Type 0} (xs : List X) → filter (λ x. not false) xs ≡ xs
+filter_nothing [] = refl
+filter_nothing (x ∷ xs) = ap (λ ys. x ∷ ys) (filter_nothing xs)
+
+-- ---- entries
+
+or-assoc : (a b c : Bool) → ((a || b) || c) ≡ (a || (b || c))
+or-assoc true b c = refl
+or-assoc false b c = refl
+
+or-swap : (a b c : Bool) → (a || (b || c)) ≡ (b || (a || c))
+or-swap true true c = refl
+or-swap true false c = refl
+or-swap false b c = refl
+
+pub or_nothing : (a : Bool) → (a || false) ≡ a
+or_nothing true = refl
+or_nothing false = refl
+
+-- what either of two tests takes out in turn has the id where what both take out has it
+gone-then : (f g h : Entry → Bool) → ((e : Entry) → h e ≡ (f e || g e)) → (id : ℕ) (es : List Entry)
+    → (has_entry id (filter f es) || has_entry id (filter g (filter (λ e. not (f e)) es))) ≡ has_entry id (filter h es)
+gone-then f g h is id [] = refl
+gone-then f g h is id (e ∷ es) =
+    let k : Entry → Bool = λ x. not (f x) in
+    let rest = gone-then f g h is id es in
+    let here : Bool = e.id == id in
+    let A : Bool = has_entry id (filter f es) in
+    let B : Bool = has_entry id (filter g (filter k es)) in
+    let both : List Entry → List Entry → Bool = λ xs ys. has_entry id xs || has_entry id (filter g ys) in
+    elim (cases_Bool (f e)) [
+      | inl a ↦ ap (λ xs. both xs (filter k (e ∷ es))) (filter-in f e es a)
+          ∙ ap (λ ys. both (e ∷ filter f es) ys) (filter-out k e es (not_from_true (f e) a))
+          ∙ or-assoc here A B ∙ ap (λ b. here || b) rest
+          ∙ sym (ap (has_entry id) (filter-in h e es (is e ∙ or_left (f e) (g e) a)))
+      | inr a ↦ ap (λ xs. both xs (filter k (e ∷ es))) (filter-out f e es a)
+          ∙ ap (λ ys. both (filter f es) ys) (filter-in k e es (not_from_false (f e) a))
+          ∙ elim (cases_Bool (g e)) [
+            | inl b ↦ ap (λ xs. A || has_entry id xs) (filter-in g e (filter k es) b)
+                ∙ or-swap A here B ∙ ap (λ c. here || c) rest
+                ∙ sym (ap (has_entry id) (filter-in h e es (is e ∙ or_right (f e) (g e) b)))
+            | inr b ↦ ap (λ xs. A || has_entry id xs) (filter-out g e (filter k es) b)
+                ∙ rest ∙ sym (ap (has_entry id) (filter-out h e es (is e ∙ or_from (f e) (g e) a b)))
+          ]
+    ]
+
+-- nothing is gone at first
+pub forgets_nothing : (keep : KeepState) → Forgets (λ e. false) keep keep
+forgets_nothing keep = record {
+  left = ap (λ es. record keep { entries = es }) (sym (filter_nothing keep.entries));
+  waiting = λ id. sym (ap (λ es. is_among id keep.waiting || has_entry id es) (filter-none keep.entries) ∙ or_nothing (is_among id keep.waiting));
+  stored = λ records s. s;
+}
+  where
+    filter-none : (es : List Entry) → filter (λ e. false) es ≡ []
+    filter-none [] = refl
+    filter-none (e ∷ es) = filter-none es
+
+-- what one call takes out
+forgets-one : (goes : Entry → Bool) (old new : KeepState) → new ≡ without goes old
+    → ((records : Option Records) → IsStored old records → IsStored new records) → Forgets goes old new
+forgets-one goes old new is stored = record {
+  left = is ∙ ap (λ ids. record old { entries = filter (λ e. not (goes e)) old.entries; waiting = ids }) (sym (ap (λ (k : KeepState). k.waiting) is));
+  waiting = λ id. ap (λ (k : KeepState). is_among id k.waiting) is ∙ list_any-append (λ (other : ℕ). other == id) old.waiting (ids_of (filter goes old.entries));
+  stored = stored;
+}
+
+-- what two calls take out, one after the other
+pub forgets_then : (f g h : Entry → Bool) (a b c : KeepState) → ((e : Entry) → h e ≡ (f e || g e)) → Forgets f a b → Forgets g b c → Forgets h a c
+forgets_then f g h a b c is one two =
+    let k : Entry → Bool = λ e. not (f e) in
+    let then : KeepState → KeepState = λ (keep : KeepState). record keep { entries = filter (λ e. not (g e)) keep.entries; waiting = c.waiting } in
+    let found : ℕ → KeepState → Bool = λ id keep. has_entry id (filter g keep.entries) in
+    record {
+      left = two.left ∙ ap then one.left ∙ ap (λ es. record a { entries = es; waiting = c.waiting }) (filter_then f g h is a.entries);
+      waiting = λ id. two.waiting id ∙ ap (λ w. w || found id b) (one.waiting id)
+          ∙ ap (λ keep. (is_among id a.waiting || has_entry id (filter f a.entries)) || found id keep) one.left
+          ∙ or-assoc (is_among id a.waiting) (has_entry id (filter f a.entries)) (has_entry id (filter g (filter k a.entries)))
+          ∙ ap (λ w. is_among id a.waiting || w) (gone-then f g h is id a.entries);
+      stored = λ records s. two.stored records (one.stored records s);
+    }
+
+-- one call more of a list of them
+pub forgets_more : {D : Type 0} (goes : D → Entry → Bool) (ds : List D) (i : ℕ) (d : D) (first now next : KeepState) → i < length ds
+    → Forgets (λ e. list_any (λ x. goes x e) (take i ds)) first now
+    → next ≡ without (goes (get_or ds i d)) now
+    → ((records : Option Records) → IsStored now records → IsStored next records)
+    → Forgets (λ e. list_any (λ x. goes x e) (take (i + 1) ds)) first next
+forgets_more goes ds i d first now next l so_far is stored =
+    forgets_then (λ e. list_any (λ x. goes x e) (take i ds)) (goes (get_or ds i d)) (λ e. list_any (λ x. goes x e) (take (i + 1) ds)) first now next
+    (λ e. list_any_more (λ x. goes x e) ds i d l) so_far (forgets-one (goes (get_or ds i d)) now next is stored)
+
+-- ---- places
+
+-- the part at a place, where one is changed by what leaves the one past the last
+get_or-changed : {X : Type 0} (act : X → X) (xs : List X) (q p : ℕ) (d : X) → act d ≡ d
+    → get_or (set xs q (act (get_or xs q d))) p d ≡ cond (p == q) (act (get_or xs p d)) (get_or xs p d)
+get_or-changed act xs q p d idle =
+    let v = act (get_or xs q d) in
+    let here = act (get_or xs p d) in
+    elim (cases_eq p q) [
+      | inl e ↦ elim (cases_lt q (length xs)) [
+        | inl l ↦ ap (λ k. get_or (set xs q v) k d) e ∙ get_or-set_same xs q v d l ∙ ap (λ k. act (get_or xs k d)) (sym e)
+        | inr o ↦ get_or_past (set xs q v) p d (omega (arith, length-set xs q v, e)) ∙ sym (ap act (get_or_past xs p d (omega (arith, e))) ∙ idle)
+      ] ∙ sym (cond-true (p == q) here (get_or xs p d) (eq-eqb p q e))
+      | inr n ↦ get_or-set_other xs q p v d n ∙ sym (cond-false (p == q) here (get_or xs p d) (ne_eqb p q n))
+    ]
+
+pub cond_ap : {X Y : Type 0} (f : X → Y) (b : Bool) (x y : X) → cond b (f x) (f y) ≡ f (cond b x y)
+cond_ap f true x y = refl
+cond_ap f false x y = refl
+
+-- a filter, after which another one comes where it is wanted
+kept-more : {X : Type 0} (p q r : X → Bool) (b : Bool) → ((x : X) → r x ≡ (p x || (b && q x))) → (xs : List X)
+    → cond b (filter (λ x. not (q x)) (filter (λ x. not (p x)) xs)) (filter (λ x. not (p x)) xs) ≡ filter (λ x. not (r x)) xs
+kept-more p q r true is xs = filter_then p q r is xs
+kept-more p q r false is xs = sym (filter_nothing (filter (λ x. not (p x)) xs)) ∙ filter_then p (λ x. false) r is xs
+
+-- ---- logs
+
+pub no_log_changes : (e : ℕ) (log : MessagesState) → log ≡ log_left [] e log
+no_log_changes e log = ap (λ ms. record log { messages = ms }) (sym (filter_nothing log.messages))
+
+-- the logs after one front more of a list of them
+pub logs_more : (fronts : List OfEdge) (i : ℕ) (d : OfEdge) (first now next : List MessagesState) → i < length fronts
+    → ((e : ℕ) → log_at now e ≡ log_left (take i fronts) e (log_at first e))
+    → next ≡ with_log_outside (get_or fronts i d).front now (get_or fronts i d).edge
+    → (e : ℕ) → log_at next e ≡ log_left (take (i + 1) fronts) e (log_at first e)
+logs_more fronts i d first now next l so_far is e =
+    let q : OfEdge = get_or fronts i d in
+    let b : Bool = e == q.edge in
+    let log : MessagesState = log_at first e in
+    let with : List Message → MessagesState = λ ms. record log { messages = ms } in
+    let before : Message → Bool = λ m. is_inside_edge (take i fronts) e m.at in
+    let more : Message → Bool = λ m. inside q.front m.at in
+    let after : Message → Bool = λ m. is_inside_edge (take (i + 1) fronts) e m.at in
+    let left : List Message = filter (λ m. not (before m)) log.messages in
+    ap (λ logs. log_at logs e) is
+    ∙ get_or-changed (log_outside q.front) now q.edge e (record { messages = []; refused = false }) refl
+    ∙ ap (λ x. cond b (log_outside q.front x) x) (so_far e)
+    ∙ cond_ap with b (filter (λ m. not (more m)) left) left
+    ∙ ap with (kept-more before more after b (λ m. list_any_more (λ (x : OfEdge). (e == x.edge) && inside x.front m.at) fronts i d l) log.messages)
+
+-- ---- batches
+
+pub no_source_changes : (s : ℕ) (source : SourceState) → source ≡ source_left [] s source
+no_source_changes s source = ap (λ held. record source { held = held }) (sym (filter_nothing source.held))
+
+-- the inputs after one front more of a list of them
+pub sources_more : (fronts : List OfNode) (i : ℕ) (d : OfNode) (first now next : List SourceState) → i < length fronts
+    → ((s : ℕ) → source_at now s ≡ source_left (take i fronts) s (source_at first s))
+    → next ≡ with_source (given_up (get_or fronts i d).front) now (get_or fronts i d).node
+    → (s : ℕ) → source_at next s ≡ source_left (take (i + 1) fronts) s (source_at first s)
+sources_more fronts i d first now next l so_far is s =
+    let q : OfNode = get_or fronts i d in
+    let b : Bool = s == q.node in
+    let source : SourceState = source_at first s in
+    let with : List (ℕ × List Rec) → SourceState = λ held. record source { held = held } in
+    let before : ℕ × List Rec → Bool = λ batch. is_inside_node (take i fronts) s (batch.0 ∷ []) in
+    let more : ℕ × List Rec → Bool = λ batch. inside q.front (batch.0 ∷ []) in
+    let after : ℕ × List Rec → Bool = λ batch. is_inside_node (take (i + 1) fronts) s (batch.0 ∷ []) in
+    let left : List (ℕ × List Rec) = filter (λ batch. not (before batch)) source.held in
+    ap (λ sources. source_at sources s) is
+    ∙ get_or-changed (given_up q.front) now q.node s (unused_source []) refl
+    ∙ ap (λ x. cond b (given_up q.front x) x) (so_far s)
+    ∙ cond_ap with b (filter (λ batch. not (more batch)) left) left
+    ∙ ap with (kept-more before more after b (λ batch. list_any_more (λ (x : OfNode). (s == x.node) && inside x.front (batch.0 ∷ [])) fronts i d l) source.held)

@@ -1,0 +1,387 @@
+-- What is planned and given up is what the machine's collection takes.
+use Rattle.std.proofs.Common.{◌≡◌, ℕ, zero, suc, ◌+◌, ◌<◌, ◌≤◌, Bool, true, false, not, ◌&&◌, ◌||◌, ◌==◌, cond, List, [], ◌∷◌, ◌++◌, length, map, refl, sym, ap, ◌∙◌, subst, inl, inr, arith}
+use Rattle.std.proofs.lemmas.Bool.{cases_Bool, cases_lt, cases_eq, and_from, eq-eqb, eqb-true, and_parts, or_cases, or_right, or_left, true≢false, false_from_ne_true, not_from_true, not_from_false, not-true}
+use Rattle.std.proofs.lemmas.List.{get_or_past}
+use Rattle.std.proofs.lemmas.List.Folds.{list_any-append}
+use Rattle.std.specs.List.{filter, list_any, range_with_len, AllByRecursion, AllZip}
+use Rattle.fw_time.specs.Stamp.{Stamp, same, in_domain}
+use Rattle.fw_time.specs.declared.stamp.Bounds.{Bounds}
+use Rattle.fw_frontier.specs.Frontier.{Within}
+use Rattle.fw_bag.specs.declared.rec.Rec.{Rec}
+use Rattle.fw_time.proofs.StampLaws.{same-is, same-refl}
+use Rattle.fw_time.proofs.EachLaws.{each-weaker}
+use Rattle.fw_frontier.specs.Front.{Front, inside, is_within, frontier_of}
+use Rattle.fw_flow.specs.declared.node.Node.{Node}
+use Rattle.fw_flow.specs.Dataflow.{System, Dataflow, policy_of, kind_of, sender, receiver, bounds_of, is_input_kind, node_ids, idle_node}
+use Rattle.fw_flow.specs.Restoring.{can_resend}
+use Rattle.fw_flow.specs.declared.choice.OfEdge.{OfEdge}
+use Rattle.fw_flow.specs.declared.event.Message.{Message}
+use Rattle.fw_model.specs.Auto.{edge_ids}
+use Rattle.fw_model.specs.Filtering.{messages_outside}
+use Rattle.fw_flow.specs.NodeFunction.{event_node, event_stamp}
+use Rattle.fw_model.specs.Machine.{SerialEvent, Write, Written, checkpoint, logged_event, Stage, in_flight, acknowledged, collected, front_of}
+use Rattle.fw_model.specs.Steps as steps
+use Rattle.fw_model.specs.Steps.{is_in_flight, after_collection, is_given_up, is_serial_given_up, has_serial}
+use Rattle.fw_model.specs.Writes.{takes_checkpoints, is_collected, not_collected}
+use Rattle.fw_model.proofs.FilterLaws.{filter-in, filter-out, filter-inner}
+use Rattle.fw_model.proofs.SortedLaws.{sorted_messages-filter}
+use Rattle.fw_model.specs.SortedMessages.{sorted_messages}
+use Rattle.fw_edge.specs.Bag.{MessagesState}
+use Rattle.fw_border.specs.Sources.{SourceState, given_up}
+use Rattle.fw_keep.specs.declared.entry.Entry.{Entry}
+use Rattle.fw_keep.specs.declared.entry.Written as entry
+use Rattle.fw_keep.specs.declared.entry.Written.TheVariants as written
+use Rattle.fw_keep.specs.Entry.{stamp_of, lies_below, is_event_at, is_below, is_at}
+use Rattle.fw_collect.specs.declared.drops.AtNode.{AtNode}
+use Rattle.fw_collect.specs.declared.drops.OfNode.{OfNode}
+use Rattle.fw_collect.specs.Drops.{of_node, without_batches, dropped_records, dropped_events, dropped_messages, dropped_batches, given_up_event}
+use Rattle.fw_collect.specs.Dropped.{is_dropped, is_below_some, is_at_some, is_inside_edge, is_inside_node, log_outside, log_left, source_left}
+use Rattle.fw_collect.specs.LawsOfCollections.{is_written_given_up, DropsWhatIsGivenUp, DropsMessagesBelowReceivers, DropsBatchesOfInputs, IsWrittenOf, IsEntryOf, DropsWhatIsCollected, LogsHoldWhatIsOutside, InputsHoldWhatIsOutside}
+use Rattle.fw_collect.proofs.ApplyLaws.{or_nothing, filter_then, filter_nothing, cond_ap}
+
+-- ---- one place of those that pass a test
+
+any-map : {X Y : Type 0} (test : Y → Bool) (f : X → Y) (xs : List X) → list_any test (map f xs) ≡ list_any (λ x. test (f x)) xs
+any-map test f [] = refl
+any-map test f (x ∷ xs) = ap (λ b. test (f x) || b) (any-map test f xs)
+
+absorbed : (a b : Bool) → (a || (b && a)) ≡ a
+absorbed true b = refl
+absorbed false true = refl
+absorbed false false = refl
+
+and-false : (b : Bool) → (b && false) ≡ false
+and-false true = refl
+and-false false = refl
+
+any-kept : {X : Type 0} (test look : X → Bool) (x : X) (xs : List X)
+    → list_any look (filter test (x ∷ xs)) ≡ ((test x && look x) || list_any look (filter test xs))
+any-kept test look x xs =
+    elim (test x) as (λ b. list_any look (cond b (x ∷ filter test xs) (filter test xs)) ≡ ((b && look x) || list_any look (filter test xs))) [
+      | true ↦ refl
+      | false ↦ refl
+    ]
+
+picked : (b x f there y g : Bool) → (b ≡ true → (x ≡ y) × (f ≡ g)) → ((x && (b && f)) || (there && (y && g))) ≡ ((b || there) && (y && g))
+picked true x f there y g h =
+    ap (λ a. (a && f) || (there && (y && g))) (h refl).0 ∙ ap (λ a. (y && a) || (there && (y && g))) (h refl).1 ∙ absorbed (y && g) there
+picked false x f there y g h = ap (λ a. a || (there && (y && g))) (and-false x)
+
+-- whether place q among those that pass is found
+any-picked : (test found : ℕ → Bool) (q : ℕ) (ps : List ℕ)
+    → list_any (λ p. (q == p) && found p) (filter test ps) ≡ (list_any (λ p. q == p) ps && (test q && found q))
+any-picked test found q [] = refl
+any-picked test found q (p ∷ ps) =
+    any-kept test (λ k. (q == k) && found k) p ps
+    ∙ ap (λ r. (test p && ((q == p) && found p)) || r) (any-picked test found q ps)
+    ∙ picked (q == p) (test p) (found p) (list_any (λ k. q == k) ps) (test q) (found q)
+    (λ e. (sym (ap test (eqb-true q p e)), sym (ap found (eqb-true q p e))))
+
+-- each place below a number is among them
+is-among : (q a n : ℕ) → a ≤ q → q < a + n → list_any (λ p. q == p) (range_with_len a n) ≡ true
+is-among q a zero l h = absurd (omega arith)
+is-among q a (suc n) l h = elim (cases_eq q a) [
+  | inl e ↦ or_left (q == a) (list_any (λ p. q == p) (range_with_len (a + 1) n)) (eq-eqb q a e)
+  | inr e ↦ or_right (q == a) (list_any (λ p. q == p) (range_with_len (a + 1) n)) (is-among q (a + 1) n (omega (arith, e)) (omega arith))
+]
+
+-- the same of all places below a number
+any-of_place : (test found : ℕ → Bool) (q n : ℕ) → (n ≤ q → test q ≡ false)
+    → list_any (λ p. (q == p) && found p) (filter test (range_with_len 0 n)) ≡ (test q && found q)
+any-of_place test found q n past =
+    let there : Bool = list_any (λ p. q == p) (range_with_len 0 n) in
+    any-picked test found q (range_with_len 0 n) ∙ elim (cases_lt q n) [
+      | inl l ↦ ap (λ b. b && (test q && found q)) (is-among q 0 n (omega arith) (omega arith))
+      | inr l ↦ ap (λ b. there && (b && found q)) (past l) ∙ and-false there ∙ sym (ap (λ b. b && found q) (past l))
+    ]
+
+policy-past : (flow : Dataflow) (p : ℕ) → length flow.nodes ≤ p → takes_checkpoints (policy_of flow p) ≡ false
+unfolding policy_of
+policy-past flow p l = ap (λ (n : Node). takes_checkpoints n.policy) (get_or_past flow.nodes p idle_node l)
+
+-- ---- entries
+
+-- which entries the fronts of nodes take out
+below-planned : (flow : Dataflow) (low : List Front) (e : Entry)
+    → is_below_some (dropped_records flow low) e ≡ (takes_checkpoints (policy_of flow e.node) && lies_below (front_of low e.node) e.written)
+below-planned flow low e =
+    let test : ℕ → Bool = λ p. takes_checkpoints (policy_of flow p) in
+    any-map (λ (d : OfNode). is_below d.node d.front e) (of_node low) (filter test (node_ids flow))
+    ∙ any-of_place test (λ p. lies_below (front_of low p) e.written) e.node (length flow.nodes) (policy-past flow e.node)
+
+-- whether what is written of node p is an event that is given up
+is-event_given_up : Dataflow → List Front → ℕ → entry.Written → Bool
+is-event_given_up flow low p (written.Checkpoint recorded stamps) = false
+is-event_given_up flow low p (written.Event event) = is_given_up (without_batches flow) low p (stamp_of event)
+
+at-sound : (flow : Dataflow) (low : List Front) (p q : ℕ) (t : Stamp) (w : entry.Written) → is_given_up (without_batches flow) low p t ≡ true
+    → q ≡ p → is_event_at t w ≡ true → is-event_given_up flow low q w ≡ true
+unfolding is-event_given_up
+at-sound flow low p q t (written.Checkpoint recorded stamps) g e h = absurd (true≢false (sym h))
+at-sound flow low p q t (written.Event event) g e h =
+    ap (λ k. is_given_up (without_batches flow) low k (stamp_of event)) e ∙ ap (is_given_up (without_batches flow) low p) (same-is (stamp_of event) t h) ∙ g
+
+-- what an entry's own drop takes out is given up
+drop-sound : (flow : Dataflow) (low : List Front) (p : ℕ) (w : entry.Written) (e : Entry) → is_at_some (given_up_event flow low p w) e ≡ true
+    → is-event_given_up flow low e.node e.written ≡ true
+drop-sound flow low p (written.Checkpoint recorded stamps) e h = absurd (true≢false (sym h))
+drop-sound flow low p (written.Event event) e h =
+    let t : Stamp = stamp_of event in
+    let test : Bool = is_given_up (without_batches flow) low p t in
+    let found : Bool → Bool = λ b. is_at_some (cond b (record { node = p; at = t } ∷ []) []) e in
+    elim (cases_Bool test) [
+      | inl g ↦
+          let is : is_at p t e ≡ true = sym (or_nothing (is_at p t e)) ∙ sym (ap found g) ∙ h in
+          let parts = and_parts (e.node == p) (is_event_at t e.written) is in
+          at-sound flow low p e.node t e.written g (eqb-true e.node p parts.0) parts.1
+      | inr g ↦ absurd (true≢false (sym h ∙ ap found g))
+    ]
+
+-- an event that is given up is taken out by its own drop
+drop-complete : (flow : Dataflow) (low : List Front) (p : ℕ) (w : entry.Written) → is-event_given_up flow low p w ≡ true
+    → list_any (λ (d : AtNode). (p == d.node) && is_event_at d.at w) (given_up_event flow low p w) ≡ true
+unfolding is-event_given_up
+drop-complete flow low p (written.Checkpoint recorded stamps) h = absurd (true≢false (sym h))
+drop-complete flow low p (written.Event event) h =
+    let t : Stamp = stamp_of event in
+    let look : AtNode → Bool = λ (d : AtNode). (p == d.node) && same t d.at in
+    ap (λ b. list_any look (cond b (record { node = p; at = t } ∷ []) [])) h
+    ∙ or_left ((p == p) && same t t) false (and_from (p == p) (same t t) (eq-eqb p p refl) (same-refl t))
+
+events-sound : (flow : Dataflow) (low : List Front) (es : List Entry) (e : Entry) → is_at_some (dropped_events flow low es) e ≡ true
+    → is-event_given_up flow low e.node e.written ≡ true
+events-sound flow low [] e h = absurd (true≢false (sym h))
+events-sound flow low (x ∷ es) e h =
+    let here = given_up_event flow low x.node x.written in
+    let later = dropped_events flow low es in
+    elim (or_cases (is_at_some here e) (is_at_some later e) (sym (list_any-append (λ (d : AtNode). is_at d.node d.at e) here later) ∙ h)) [
+      | inl k ↦ drop-sound flow low x.node x.written e k
+      | inr k ↦ events-sound flow low es e k
+    ]
+
+events-complete : (flow : Dataflow) (low : List Front) (es : List Entry)
+    → AllByRecursion (λ (e : Entry). is-event_given_up flow low e.node e.written ≡ true → is_at_some (dropped_events flow low es) e ≡ true) es
+events-complete flow low [] = tt
+events-complete flow low (x ∷ es) =
+    let here = given_up_event flow low x.node x.written in
+    let later = dropped_events flow low es in
+    let look : Entry → AtNode → Bool = λ e d. is_at d.node d.at e in (
+      λ h. list_any-append (look x) here later ∙ or_left (is_at_some here x) (is_at_some later x) (drop-complete flow low x.node x.written h),
+      each-weaker (λ (e : Entry). is-event_given_up flow low e.node e.written ≡ true → is_at_some later e ≡ true)
+          (λ (e : Entry). is-event_given_up flow low e.node e.written ≡ true → is_at_some (here ++ later) e ≡ true) es
+          (λ e k h. list_any-append (look e) here later ∙ or_right (is_at_some here e) (is_at_some later e) (k h)) (events-complete flow low es),
+    )
+
+same-both : (a b : Bool) → (a ≡ true → b ≡ true) → (b ≡ true → a ≡ true) → a ≡ b
+same-both true b f g = sym (f refl)
+same-both false true f g = g refl
+same-both false false f g = refl
+
+both-are : (flow : Dataflow) (low : List Front) (p : ℕ) (w : entry.Written)
+    → ((takes_checkpoints (policy_of flow p) && lies_below (front_of low p) w) || is-event_given_up flow low p w) ≡ is_written_given_up flow low p w
+unfolding is-event_given_up
+both-are flow low p (written.Checkpoint recorded stamps) = or_nothing (takes_checkpoints (policy_of flow p) && lies_below (front_of low p) (written.Checkpoint recorded stamps))
+both-are flow low p (written.Event event) =
+    ap (λ b. b || is_given_up (without_batches flow) low p (stamp_of event)) (and-false (takes_checkpoints (policy_of flow p)))
+
+pub drops_what_is_given_up : DropsWhatIsGivenUp
+drops_what_is_given_up flow low entries drops is =
+    each-weaker (λ (e : Entry). is-event_given_up flow low e.node e.written ≡ true → is_at_some (dropped_events flow low entries) e ≡ true)
+    (λ (e : Entry). is_dropped drops e ≡ is_written_given_up flow low e.node e.written) entries
+    (λ e complete.
+    ap (λ ds. is_below_some ds e || is_at_some drops.events.items e) is.records
+    ∙ ap (λ ds. is_below_some (dropped_records flow low) e || is_at_some ds e) is.events
+    ∙ ap (λ b. b || is_at_some (dropped_events flow low entries) e) (below-planned flow low e)
+    ∙ ap (λ b. (takes_checkpoints (policy_of flow e.node) && lies_below (front_of low e.node) e.written) || b)
+    (same-both (is_at_some (dropped_events flow low entries) e) (is-event_given_up flow low e.node e.written) (events-sound flow low entries e) complete)
+    ∙ both-are flow low e.node e.written)
+    (events-complete flow low entries)
+
+-- ---- messages and batches
+
+filter-alike : {X : Type 0} (p q : X → Bool) → ((x : X) → q x ≡ p x) → (xs : List X) → filter (λ x. not (p x)) xs ≡ filter (λ x. not (q x)) xs
+filter-alike p q e xs = ap (filter (λ x. not (p x))) (sym (filter_nothing xs)) ∙ filter_then (λ x. false) p q e xs
+
+-- a filter that takes something out only where it is wanted
+left-where : {X : Type 0} (b : Bool) (p q : X → Bool) → ((x : X) → p x ≡ (b && q x)) → (xs : List X)
+    → filter (λ x. not (p x)) xs ≡ cond b (filter (λ x. not (q x)) xs) xs
+left-where true p q e xs = sym (filter-alike q p e xs)
+left-where false p q e xs = sym (filter-alike (λ x. false) p e xs) ∙ filter_nothing xs
+
+pub drops_messages_below_receivers : DropsMessagesBelowReceivers
+drops_messages_below_receivers flow low entries drops is e log l =
+    let test : ℕ → Bool = λ k. can_resend (policy_of flow (sender flow k)) in
+    let of_edge : ℕ → OfEdge = λ k. record { edge = k; front = front_of low (receiver flow k) } in
+    let at : Stamp → Bool = inside (front_of low (receiver flow e)) in
+    ap (λ ds. log_left ds e log) is.messages
+    ∙ ap (λ ms. record log { messages = ms }) (left-where (test e) (λ (m : Message). is_inside_edge (dropped_messages flow low) e m.at) (λ (m : Message). at m.at)
+    (λ m. any-map (λ (d : OfEdge). (e == d.edge) && inside d.front m.at) of_edge (filter test (edge_ids flow))
+    ∙ any-of_place test (λ k. inside (front_of low (receiver flow k)) m.at) e (length flow.edges) (λ o. absurd (omega (arith, o, l)))) log.messages)
+    ∙ sym (cond_ap (λ ms. record log { messages = ms }) (test e) (messages_outside at log.messages) log.messages)
+
+pub drops_batches_of_inputs : DropsBatchesOfInputs
+drops_batches_of_inputs flow low entries drops is s source l =
+    let test : ℕ → Bool = λ p. is_input_kind (kind_of flow p) in
+    let at : ℕ × List Rec → Bool = λ batch. inside (front_of low s) (batch.0 ∷ []) in
+    ap (λ ds. source_left ds s source) is.batches
+    ∙ ap (λ held. record source { held = held }) (left-where (test s) (λ (batch : ℕ × List Rec). is_inside_node (dropped_batches flow low) s (batch.0 ∷ [])) at
+    (λ batch. any-map (λ (d : OfNode). (s == d.node) && inside d.front (batch.0 ∷ [])) (of_node low) (filter test (node_ids flow))
+    ∙ any-of_place test (λ p. inside (front_of low p) (batch.0 ∷ [])) s (length flow.nodes) (λ o. absurd (omega (arith, o, l)))) source.held)
+    ∙ sym (cond_ap (λ held. record source { held = held }) (test s) (filter (λ batch. not (at batch)) source.held) source.held)
+
+-- ---- what the machine collects
+
+-- where the events of a serial are at one place, the event of the serial is given up where that place is
+serial-test : (sys : System) (h : List SerialEvent) (low : List Front) (p : ℕ) (t : Stamp) (serial : ℕ)
+    → AllByRecursion (λ (v : SerialEvent). v.serial ≡ serial → (event_node sys.flow v.event ≡ p) × (event_stamp v.event ≡ t)) h
+    → is_serial_given_up sys low serial h ≡ (has_serial serial h && is_given_up sys low p t)
+serial-test sys [] low p t serial only = refl
+serial-test sys (v ∷ h) low p t serial only =
+    let found : Bool = is_given_up sys low p t in
+    let own : Bool = v.serial == serial in
+    let one : Bool = is_given_up sys low (event_node sys.flow v.event) (event_stamp v.event) in
+    ap (λ b. (own && one) || b) (serial-test sys h low p t serial only.1)
+    ∙ picked own true one (has_serial serial h) true found
+    (λ e. let at = only.0 (eqb-true v.serial serial e) in
+    (refl, ap (λ k. is_given_up sys low k (event_stamp v.event)) at.0 ∙ ap (is_given_up sys low p) at.1))
+
+-- an entry is given up where the write of the machine lies below
+written-same : (sys : System) (h : List SerialEvent) (low : List Front) (p q : ℕ) (one : entry.Written) (other : Written) → p ≡ q
+    → IsWrittenOf sys h p one other → is_written_given_up sys.flow low p one ≡ steps.lies_below sys low h q other
+written-same sys h low p q (written.Checkpoint recorded stamps) (checkpoint f kept) e is =
+    let below : ℕ → Front → Bool = λ k g. is_within g (front_of low k) && not (is_within (front_of low k) g) in
+    ap (λ b. b && below p recorded.front) is.1 ∙ ap (below p) is.0 ∙ ap (λ k. below k f) e
+written-same sys h low p q (written.Checkpoint recorded stamps) (logged_event serial) e is = absurd is
+written-same sys h low p q (written.Event event) (checkpoint f kept) e is = absurd is
+written-same sys h low p q (written.Event event) (logged_event serial) e is =
+    sym (serial-test sys h low p (stamp_of event) serial is.only ∙ ap (λ b. b && is_given_up sys low p (stamp_of event)) is.there)
+
+-- ---- lists side by side
+
+zip-one : {A B : Type 0} (R : A → B → Type 0) (x y : Bool) (a : A) (b : B) (xs : List A) (ys : List B) → x ≡ y → R a b → AllZip R xs ys
+    → AllZip R (cond x (a ∷ xs) xs) (cond y (b ∷ ys) ys)
+zip-one R true true a b xs ys e r rest = (r, rest)
+zip-one R true false a b xs ys e r rest = absurd (true≢false e)
+zip-one R false true a b xs ys e r rest = absurd (true≢false (sym e))
+zip-one R false false a b xs ys e r rest = rest
+
+zip-filter : {A B : Type 0} (R : A → B → Type 0) (f : A → Bool) (g : B → Bool) (xs : List A) (ys : List B)
+    → AllByRecursion (λ a. (b : B) → R a b → f a ≡ g b) xs → AllZip R xs ys → AllZip R (filter f xs) (filter g ys)
+zip-filter R f g [] [] same r = tt
+zip-filter R f g [] (b ∷ ys) same r = absurd r
+zip-filter R f g (a ∷ xs) [] same r = absurd r
+zip-filter R f g (a ∷ xs) (b ∷ ys) same r =
+    zip-one R (f a) (g b) a b (filter f xs) (filter g ys) (same.0 b r.0) r.0 (zip-filter R f g xs ys same.1 r.1)
+
+-- ---- writes
+
+-- the writes after a collection that takes those that pass
+after : (Write → Bool) → List Write → List Write
+after below writes = map (λ (w : Write). record w { stage = after_collection (below w) w.stage }) writes
+
+-- one more write, which is taken
+left-gone : (below : Write → Bool) (next w : Write) (rest ws : List Write) → not_collected next ≡ false
+    → filter (λ v. not (below v)) (filter not_collected (w ∷ ws)) ≡ filter (λ v. not (below v)) (filter not_collected ws)
+    → filter not_collected rest ≡ filter (λ v. not (below v)) (filter not_collected ws)
+    → filter not_collected (next ∷ rest) ≡ filter (λ v. not (below v)) (filter not_collected (w ∷ ws))
+left-gone below next w rest ws k other so_far = filter-out not_collected next rest k ∙ so_far ∙ sym other
+
+-- one more write, which is left as it is
+left-stays : (below : Write → Bool) (next w : Write) (rest ws : List Write) → next ≡ w → not_collected w ≡ true → below w ≡ false
+    → filter not_collected rest ≡ filter (λ v. not (below v)) (filter not_collected ws)
+    → filter not_collected (next ∷ rest) ≡ filter (λ v. not (below v)) (filter not_collected (w ∷ ws))
+left-stays below next w rest ws same k b so_far =
+    ap (λ v. filter not_collected (v ∷ rest)) same ∙ filter-in not_collected w rest k ∙ ap (λ vs. w ∷ vs) so_far
+    ∙ sym (ap (filter (λ v. not (below v))) (filter-in not_collected w ws k)
+    ∙ filter-in (λ v. not (below v)) w (filter not_collected ws) (not_from_false (below w) b))
+
+left-one : (below : Write → Bool) (w : Write) (rest ws : List Write) (stage : Stage) → w.stage ≡ stage → (below w ≡ true → is_in_flight w.stage ≡ false)
+    → filter not_collected rest ≡ filter (λ v. not (below v)) (filter not_collected ws)
+    → filter not_collected (record w { stage = after_collection (below w) w.stage } ∷ rest) ≡ filter (λ v. not (below v)) (filter not_collected (w ∷ ws))
+left-one below w rest ws in_flight e none so_far =
+    left-stays below (record w { stage = after_collection (below w) w.stage }) w rest ws
+    (ap (λ s. record w { stage = s }) (ap (after_collection (below w)) e ∙ sym e)) (ap (λ s. not (is_collected s)) e)
+    (false_from_ne_true (below w) (λ b. true≢false (sym (ap is_in_flight e) ∙ none b))) so_far
+left-one below w rest ws acknowledged e none so_far =
+    let next : Write = record w { stage = after_collection (below w) w.stage } in
+    let there : not_collected w ≡ true = ap (λ s. not (is_collected s)) e in
+    elim (cases_Bool (below w)) [
+      | inl b ↦ left-gone below next w rest ws
+          (ap (λ s. not (is_collected (after_collection (below w) s))) e ∙ ap (λ x. not (is_collected (after_collection x acknowledged))) b)
+          (ap (filter (λ v. not (below v))) (filter-in not_collected w ws there)
+          ∙ filter-out (λ v. not (below v)) w (filter not_collected ws) (not_from_true (below w) b)) so_far
+      | inr b ↦ left-stays below next w rest ws
+          (ap (λ s. record w { stage = s }) (ap (after_collection (below w)) e ∙ ap (λ x. after_collection x acknowledged) b ∙ sym e)) there b so_far
+    ]
+left-one below w rest ws collected e none so_far =
+    left-gone below (record w { stage = after_collection (below w) w.stage }) w rest ws (ap (λ s. not (is_collected (after_collection (below w) s))) e)
+    (ap (filter (λ v. not (below v))) (filter-out not_collected w ws (ap (λ s. not (is_collected s)) e))) so_far
+
+-- those that are left, where none in flight passes
+left-after : (below : Write → Bool) (writes : List Write) → AllByRecursion (λ (w : Write). below w ≡ true → is_in_flight w.stage ≡ false) writes
+    → filter not_collected (after below writes) ≡ filter (λ w. not (below w)) (filter not_collected writes)
+unfolding after
+left-after below [] none = refl
+left-after below (w ∷ ws) none = left-one below w (after below ws) ws w.stage refl none.0 (left-after below ws none.1)
+
+-- what is left of entries that stand for the writes in any way, if those go alike
+pub left_side_by_side : (R : Entry → Write → Type 0) (goes : Entry → Bool) (below : Write → Bool) (entries : List Entry) (writes : List Write)
+    → AllByRecursion (λ (e : Entry). (w : Write) → R e w → goes e ≡ below w) entries
+    → AllByRecursion (λ (w : Write). below w ≡ true → is_in_flight w.stage ≡ false) writes
+    → AllZip R entries (filter not_collected writes)
+    → AllZip R (filter (λ e. not (goes e)) entries) (filter not_collected (map (λ (w : Write). record w { stage = after_collection (below w) w.stage }) writes))
+unfolding after
+left_side_by_side R goes below entries writes same none r =
+    subst (λ ws. AllZip R (filter (λ e. not (goes e)) entries) ws) (sym (left-after below writes none))
+    (zip-filter R (λ e. not (goes e)) (λ w. not (below w)) entries (filter not_collected writes)
+    (each-weaker (λ (e : Entry). (w : Write) → R e w → goes e ≡ below w) (λ (e : Entry). (w : Write) → R e w → not (goes e) ≡ not (below w)) entries
+    (λ e k w x. ap not (k w x)) same) r)
+
+pub drops_what_is_collected : DropsWhatIsCollected
+drops_what_is_collected sys h low entries drops writes is are none =
+    left_side_by_side (IsEntryOf sys h) (is_dropped drops) (λ w. steps.lies_below sys low h w.node w.written) entries writes
+    (each-weaker (λ (e : Entry). is_dropped drops e ≡ is_written_given_up sys.flow low e.node e.written)
+    (λ (e : Entry). (w : Write) → IsEntryOf sys h e w → is_dropped drops e ≡ steps.lies_below sys low h w.node w.written) entries
+    (λ e k w x. k ∙ written-same sys h low e.node w.node e.written w.written x.node x.holds)
+    (drops_what_is_given_up sys.flow low entries drops is))
+    none are
+
+-- ---- what logs and inputs hold
+
+filter-same_on : {X : Type 0} (f g : X → Bool) (xs : List X) → AllByRecursion (λ x. f x ≡ g x) xs → filter f xs ≡ filter g xs
+filter-same_on f g [] same = refl
+filter-same_on f g (x ∷ xs) same =
+    ap (λ b. cond b (x ∷ filter f xs) (filter f xs)) same.0 ∙ ap (λ ys. cond (g x) (x ∷ ys) ys) (filter-same_on f g xs same.1)
+
+-- what lies outside a frontier, and then outside a front that holds it, lies outside the front
+outside-again : {X : Type 0} (at : X → Stamp) (bounds : Bounds) (f g : Front) (xs : List X) → Within (frontier_of bounds f) (frontier_of bounds g)
+    → AllByRecursion (λ x. in_domain bounds (at x) ≡ true) xs
+    → filter (λ x. not (inside g (at x))) (filter (λ x. not (frontier_of bounds f (at x))) xs) ≡ filter (λ x. not (frontier_of bounds g (at x))) xs
+outside-again {X = X} at bounds f g xs within domain =
+    let j : X → Bool = λ x. not (inside g (at x)) in
+    let k : X → Bool = λ x. not (frontier_of bounds f (at x)) in
+    let holds : (x : X) → in_domain bounds (at x) ≡ true → frontier_of bounds g (at x) ≡ inside g (at x) = λ x d. ap (λ b. b && inside g (at x)) d in
+    filter-inner j k xs (each-weaker (λ x. in_domain bounds (at x) ≡ true) (λ x. j x ≡ true → k x ≡ true) xs
+    (λ x d o. not_from_false (frontier_of bounds f (at x))
+    (false_from_ne_true (frontier_of bounds f (at x)) (λ i. true≢false (sym (within (at x) i) ∙ holds x d ∙ not-true (inside g (at x)) o)))) domain)
+    ∙ filter-same_on j (λ x. not (frontier_of bounds g (at x))) xs
+    (each-weaker (λ x. in_domain bounds (at x) ≡ true) (λ x. j x ≡ not (frontier_of bounds g (at x))) xs (λ x d. sym (ap not (holds x d))) domain)
+
+pub logs_hold_what_is_outside : LogsHoldWhatIsOutside
+logs_hold_what_is_outside flow low next entries drops is rises e log sent l there resends domain held =
+    let r : ℕ = receiver flow e in
+    let bounds : Bounds = bounds_of flow r in
+    let more : Message → Bool = λ m. not (inside (front_of next r) m.at) in
+    let once : Message → Bool = λ m. not (frontier_of bounds (front_of low r) m.at) in
+    ap (λ (x : MessagesState). x.messages) (drops_messages_below_receivers flow next entries drops is e log l
+    ∙ ap (λ b. cond b (log_outside (front_of next r) log) log) resends)
+    ∙ ap (filter more) held ∙ sym (sorted_messages-filter more (filter once sent))
+    ∙ ap sorted_messages (outside-again (λ (m : Message). m.at) bounds (front_of low r) (front_of next r) sent (rises r there) domain)
+
+pub inputs_hold_what_is_outside : InputsHoldWhatIsOutside
+inputs_hold_what_is_outside flow low next entries drops is rises s source batches l input domain held =
+    let more : ℕ × List Rec → Bool = λ batch. not (inside (front_of next s) (batch.0 ∷ [])) in
+    ap (λ (x : SourceState). x.held) (drops_batches_of_inputs flow next entries drops is s source l
+    ∙ ap (λ b. cond b (given_up (front_of next s) source) source) input)
+    ∙ ap (filter more) held
+    ∙ outside-again (λ (batch : ℕ × List Rec). batch.0 ∷ []) (bounds_of flow s) (front_of low s) (front_of next s) batches (rises s l) domain

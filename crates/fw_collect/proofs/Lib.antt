@@ -1,0 +1,3 @@
+pub mod ApplyLaws
+pub mod CollectLaws
+pub mod PlanLaws

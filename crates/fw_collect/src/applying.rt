@@ -1,0 +1,72 @@
+//! Giving up what a collection gives up.
+ghost use Rattle.std.specs.Prelude.{◌≡◌, ℕ};
+ghost use Rattle.fw_border.specs.Sources.{source_at};
+ghost use Rattle.fw_collect.specs.Dropped.{is_below_some, is_at_some, is_dropped, Forgets, log_at, log_left, with_log_outside, source_left};
+
+use crate::drops::{AtNode, Drops, OfNode};
+use fw_border::Sources;
+use fw_edge::MsgLog;
+use fw_flow::OfEdge;
+use fw_keep::Keep;
+
+/// Takes what is given up out of the catalogue, the logs (one for each edge) and the inputs, and nothing else. The bytes of
+/// the entries that go then wait for a sweep.
+///
+/// It takes no memory. What is beside an edge or an input that is not there is passed over. It takes time in proportion to
+/// the entries for each node and each stamp, and else to what is dropped.
+pub fn apply(drops: &Drops, keep: &mut Keep, logs: &mut [MsgLog], sources: &mut Sources)
+    ensures entries { Forgets (is_dropped drops.now) keep.old keep.new }
+    ensures logs { (e : ℕ) → log_at logs.new e ≡ log_left drops.now.messages.items e (log_at logs.old e) }
+    ensures sources { (s : ℕ) → source_at sources.new s ≡ source_left drops.now.batches.items s (source_at sources.old s) }
+{
+    forget_records(&drops.records, keep);
+    forget_events(&drops.events, keep);
+    drop_messages(&drops.messages, logs);
+    drop_batches(&drops.batches, sources);
+}
+
+/// Takes the checkpoints of these nodes out that lie strictly within the front beside them.
+fn forget_records(records: &[OfNode], keep: &mut Keep)
+    ensures { Forgets (is_below_some records.now) keep.old keep.new }
+{
+    for record in records {
+        keep.forget_below(record.node, &record.front);
+    }
+}
+
+/// Takes the events of these nodes out at the stamp beside them.
+fn forget_events(events: &[AtNode], keep: &mut Keep)
+    ensures { Forgets (is_at_some events.now) keep.old keep.new }
+{
+    for event in events {
+        keep.forget_at(event.node, &event.at);
+    }
+}
+
+/// Drops the messages of the logs of these edges that are inside the front beside them.
+fn drop_messages(fronts: &[OfEdge], logs: &mut [MsgLog])
+    ensures { (e : ℕ) → log_at logs.new e ≡ log_left fronts.now e (log_at logs.old e) }
+{
+    for front in fronts {
+        drop_inside(front, logs);
+    }
+}
+
+/// Drops the messages of an edge's log that are inside a front.
+fn drop_inside(of_edge: &OfEdge, logs: &mut [MsgLog])
+    ensures { logs.new ≡ with_log_outside of_edge.now.front logs.old of_edge.now.edge }
+{
+    let place = of_edge.edge.place() as usize;
+    if place < logs.len() {
+        logs[place].drop_inside(&of_edge.front);
+    }
+}
+
+/// Drops the batches of these inputs that are inside the front beside them.
+fn drop_batches(fronts: &[OfNode], sources: &mut Sources)
+    ensures { (s : ℕ) → source_at sources.new s ≡ source_left fronts.now s (source_at sources.old s) }
+{
+    for front in fronts {
+        sources.acknowledge(front.node, &front.front);
+    }
+}

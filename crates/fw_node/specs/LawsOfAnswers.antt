@@ -8,7 +8,7 @@ use Rattle.fw_flow.specs.declared.event.Message.{Message}
 use Rattle.fw_flow.specs.declared.kind.Kind.{Kind}
 use Rattle.fw_flow.specs.declared.kind.Kind.TheVariants.{Total, Ledger}
 use Rattle.fw_flow.specs.Dataflow.{Dataflow, System, kind_of, in_edges, send_stamp, is_sequence_kind}
-use Rattle.fw_flow.specs.NodeFunction.{event_stamp, sends}
+use Rattle.fw_flow.specs.NodeFunction.{sends}
 use Rattle.fw_flow.specs.Projection.{events_at}
 use Rattle.fw_model.specs.Filtering.{events_inside}
 use Rattle.fw_node.specs.Answers.{recs_for, recs_at_notice, without_causes}

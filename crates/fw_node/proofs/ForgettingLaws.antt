@@ -2,21 +2,17 @@
 use Rattle.std.proofs.Common.{◌≡◌, ℕ, ◌==◌, Bool, true, false, cond, not, List, [], ◌∷◌, refl, sym, ap, ◌∙◌}
 use Rattle.std.specs.Prelude.{◌&&◌}
 use Rattle.std.specs.List.{filter}
-use Rattle.fw_time.specs.Stamp.{Stamp, leq, same}
-use Rattle.fw_bag.specs.declared.rec.Rec.{Rec}
+use Rattle.fw_time.specs.Stamp.{Stamp, same}
 use Rattle.fw_bag.specs.Keyed.{is_among, joined_rec, sorted_recs, sums_of, distinct_keys}
 use Rattle.fw_flow.specs.declared.event.Event.{Event}
 use Rattle.fw_flow.specs.declared.event.Event.TheVariants.{Inject, Deliver, Notify}
-use Rattle.fw_flow.specs.declared.event.Message.{Message}
-use Rattle.fw_flow.specs.declared.kind.Kind.{Kind}
 use Rattle.fw_flow.specs.declared.kind.Kind.TheVariants as kind
 use Rattle.fw_flow.specs.NodeFunction.{event_stamp}
 use Rattle.fw_bag.specs.Arrivals.{Arrival, recs_where, arrivals_at, arrivals_inside, recs_of}
 use Rattle.fw_bag.proofs.ArrivalLaws.{at-inside}
 use Rattle.fw_time.proofs.StampLaws.{same-is}
-use Rattle.fw_node.specs.Answers.{recs_for, recs_at_notice}
 use Rattle.fw_node.specs.Arrived.{arrived}
-use Rattle.fw_node.specs.LawsOfAnswers.{IsPerTime, DeliveriesNeedTheirTime, NotificationsNeedTheirTime, EventsInsideArrive}
+use Rattle.fw_node.specs.LawsOfAnswers.{DeliveriesNeedTheirTime, NotificationsNeedTheirTime, EventsInsideArrive}
 
 -- what came at a stamp that is kept is kept
 kept_at : (keep : Stamp → Bool) (t : Stamp) (came : List Arrival) → keep t ≡ true → arrivals_at t (arrivals_inside keep came) ≡ arrivals_at t came

@@ -1,7 +1,6 @@
 -- Of which kind the node of a table is.
-use Rattle.std.proofs.Common.{◌≡◌, ℕ, ◌<◌, Bool, true, false, cond, List, [], ◌∷◌, Some, refl}
+use Rattle.std.proofs.Common.{◌≡◌, ◌<◌, Bool, true, false, cond, List, [], ◌∷◌, Some, refl}
 use Rattle.fw_flow.specs.Dataflow.{Dataflow, send_stamp_of_kind, is_sequence_kind}
-use Rattle.std.specs.List.{AllByRecursion}
 use Rattle.std.specs.declared.cmp.Ordering.{Ordering}
 use Rattle.fw_time.specs.Stamp.{Stamp}
 use Rattle.fw_flow.specs.declared.kind.Kind.{Kind}

@@ -1,14 +1,13 @@
 -- What the tables of nodes need of a well-formed flow.
-use Rattle.std.proofs.Common.{◌≡◌, ℕ, ◌+◌, ◌<◌, ◌≤◌, Bool, true, false, ◌==◌, cond, List, [], ◌∷◌, length, refl, sym, ap, ◌∙◌, subst, inl, inr, arith}
+use Rattle.std.proofs.Common.{◌≡◌, ℕ, ◌+◌, ◌<◌, ◌≤◌, Bool, true, false, ◌==◌, cond, List, [], ◌∷◌, length, refl, sym, ap, subst, inl, inr, arith}
 use Rattle.std.specs.Prelude.{◌||◌}
 use Rattle.std.specs.List.{list_any}
 use Rattle.std.proofs.lemmas.Bool.{cases_lt}
-use Rattle.fw_time.specs.Stamp.{Stamp}
 use Rattle.fw_flow.specs.declared.kind.Domain.{Domain}
 use Rattle.fw_flow.specs.declared.kind.Domain.TheVariants.{Loop as InLoop}
 use Rattle.fw_flow.specs.declared.kind.Kind.{Kind}
 use Rattle.fw_flow.specs.declared.kind.Kind.TheVariants as kind
-use Rattle.fw_flow.specs.Dataflow.{Dataflow, kind_of, in_edges, bounds_of, bounds_of_domain, domain_of_kind, greatest_of, loops_of, parent_of, greatest_of_kind}
+use Rattle.fw_flow.specs.Dataflow.{Dataflow, kind_of, in_edges, bounds_of, domain_of_kind, greatest_of, parent_of, greatest_of_kind}
 use Rattle.fw_flow.specs.WellFormed.{IsWellFormed, IsGroupSize, IsInDegree}
 use Rattle.fw_flow.proofs.Chains.{greatest-length, loops-unfold, parent-few}
 use Rattle.fw_flow.proofs.EdgeLaws.{kind-past}

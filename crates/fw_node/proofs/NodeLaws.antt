@@ -1,14 +1,14 @@
 -- How a node's past follows its events.
-use Rattle.std.proofs.Common.{◌≡◌, ℕ, ◌+◌, Bool, true, false, cond, not, nat_le, List, [], ◌∷◌, ◌++◌, length, map, Some, refl, sym, ap, ◌∙◌, subst, arith}
+use Rattle.std.proofs.Common.{◌≡◌, ℕ, ◌+◌, Bool, true, false, cond, nat_le, List, [], ◌∷◌, ◌++◌, length, map, refl, sym, ap, ◌∙◌, arith}
 use Rattle.std.specs.Prelude.{◌&&◌, ◌||◌, slice_index_or}
 use Rattle.std.specs.List.{AllByRecursion}
 use Rattle.std.proofs.lemmas.List.{length-append}
-use Rattle.std.proofs.lemmas.Bool.{and_parts, and_from}
+use Rattle.std.proofs.lemmas.Bool.{and_from}
 use Rattle.fw_time.specs.declared.stamp.Bounds.{Bounds}
 use Rattle.fw_time.specs.Stamp.{Stamp, leq, same, in_domain}
 use Rattle.fw_time.proofs.StampLaws.{leq-length}
 use Rattle.fw_bag.specs.declared.rec.Rec.{Rec}
-use Rattle.fw_bag.specs.Arrivals.{Arrival, recs_where}
+use Rattle.fw_bag.specs.Arrivals.{Arrival}
 use Rattle.fw_bag.specs.Keyed.{sorted_recs}
 use Rattle.fw_frontier.specs.Front.{Front, inside}
 use Rattle.fw_flow.specs.declared.event.Event.{Event}
@@ -17,14 +17,13 @@ use Rattle.fw_flow.specs.declared.event.Message.{Message}
 use Rattle.fw_flow.specs.declared.kind.Kind.{Kind}
 use Rattle.fw_flow.specs.declared.kind.Kind.TheVariants as kind
 use Rattle.fw_flow.specs.Dataflow.{Dataflow, System, batches_of, bounds_of, kind_of, in_edges, greatest_number, is_input_kind, is_notified_kind, is_sequence_kind, node_frontier, send_stamp, send_stamp_of_kind}
-use Rattle.fw_flow.specs.NodeFunction.{delivered_recs, numbered_messages, recs_on_notification, sends, sends_of_kind, sequence_sent, messages_at}
+use Rattle.fw_flow.specs.NodeFunction.{numbered_messages, recs_on_notification, sends, sends_of_kind, sequence_sent}
 use Rattle.fw_model.specs.Told.{is_told, EachDelivery, AreToldInside, IsSumOfTold}
-use Rattle.fw_table.specs.Arrived.{recs_inside}
 use Rattle.fw_table.specs.Sent.{sent_at}
 use Rattle.fw_numbered.specs.Numbers.{numbered_recs}
 use Rattle.fw_node.specs.Answers.{recs_for, recs_at_notice, without_causes}
 use Rattle.fw_node.specs.Arrived.{arrived, place_in, AreOnEdges, IsOneOf}
-use Rattle.fw_node.specs.Past.{Past, past_of, notice_list, totals_kept, IsSumOfTaken, IsToldWhereNotified}
+use Rattle.fw_node.specs.Past.{past_of, notice_list, IsSumOfTaken, IsToldWhereNotified}
 use Rattle.fw_node.specs.Sends.{notice_sends}
 use Rattle.fw_node.proofs.EventLaws.{answers_notice, by_stamp, deliveries_answer, plain_messages}
 

@@ -3,7 +3,7 @@ use Rattle.std.proofs.Common.{◌≡◌, ℕ, ◌+◌, length, arith, Result, Ok
 use Rattle.std.specs.Prelude.{◌||◌}
 use Rattle.std.specs.List.{AllByRecursion}
 use Rattle.fw_time.specs.Stamp.{Stamp}
-use Rattle.fw_bag.specs.Arrivals.{Arrival, arrivals_inside}
+use Rattle.fw_bag.specs.Arrivals.{Arrival}
 use Rattle.fw_bag.specs.Keyed.{sorted_recs}
 use Rattle.fw_bag.specs.declared.rec.Rec.{Rec}
 use Rattle.fw_flow.specs.declared.kind.Kind.{Kind}
@@ -13,7 +13,7 @@ use Rattle.fw_table.specs.Arrived.{recs_inside, IsWithin}
 use Rattle.fw_table.specs.Sent.{sent_at}
 use Rattle.fw_numbered.specs.Numbers.{at_numbers}
 use Rattle.fw_node.specs.Answers.{recs_at_notice}
-use Rattle.fw_node.specs.Past.{Past, unsettled, is_taken, with_arrival, notice_list}
+use Rattle.fw_node.specs.Past.{Past, unsettled, with_arrival, notice_list}
 
 -- an arrival outside what is settled is kept
 pub unsettled_more : (past : Past) (a : Arrival) → past.settled a.at ≡ false → unsettled (with_arrival a past) ≡ a ∷ unsettled past

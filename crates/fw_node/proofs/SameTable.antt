@@ -1,5 +1,5 @@
 -- A table tells apart what is settled at the stamps at which something came alone.
-use Rattle.std.proofs.Common.{◌≡◌, Bool, true, cond, not, List, [], ◌∷◌, refl, sym, ap, ◌∙◌, subst}
+use Rattle.std.proofs.Common.{◌≡◌, Bool, cond, not, List, [], ◌∷◌, refl, ap, ◌∙◌, subst}
 use Rattle.std.specs.Prelude.{◌||◌}
 use Rattle.std.specs.List.{AllByRecursion}
 use Rattle.fw_time.specs.Stamp.{Stamp}
@@ -9,9 +9,7 @@ use Rattle.fw_flow.specs.declared.kind.Kind.{Kind}
 use Rattle.fw_flow.specs.declared.kind.Kind.TheVariants as kind
 use Rattle.fw_flow.specs.Dataflow.{Dataflow}
 use Rattle.fw_table.specs.Arrived.{recs_inside}
-use Rattle.fw_numbered.specs.Sequence.{IsSequence, holds_bag}
-use Rattle.fw_totals.specs.Ledger.{IsLedger}
-use Rattle.fw_totals.specs.Total.{IsTotal}
+use Rattle.fw_numbered.specs.Sequence.{holds_bag}
 use Rattle.fw_totals.specs.Totals.{HasTotals}
 use Rattle.fw_totals.specs.Settling.{IsSettling, holds_sums}
 use Rattle.fw_table.specs.Content.{IsTable}

@@ -1,5 +1,4 @@
 -- Of which kind the node of a table is, where the kind looks past one time.
-use Rattle.std.proofs.Common.{◌≡◌}
 use Rattle.fw_flow.specs.declared.kind.Kind.{Kind}
 use Rattle.fw_flow.specs.declared.kind.Kind.TheVariants as kind
 use Rattle.fw_flow.specs.Dataflow.{Dataflow}

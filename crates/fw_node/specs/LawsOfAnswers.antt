@@ -1,5 +1,5 @@
 -- Laws of answers: what a node answers from what came is what the node function gives for its events.
-use Rattle.std.specs.Prelude.{◌≡◌, ℕ, Bool, true, false, List, filter}
+use Rattle.std.specs.Prelude.{◌≡◌, ℕ, ◌<◌, Bool, true, false, List, length}
 use Rattle.fw_time.specs.Stamp.{Stamp}
 use Rattle.fw_bag.specs.Arrivals.{Arrival, arrivals_inside}
 use Rattle.fw_flow.specs.declared.event.Event.{Event}
@@ -7,8 +7,9 @@ use Rattle.fw_flow.specs.declared.event.Event.TheVariants.{Deliver, Notify}
 use Rattle.fw_flow.specs.declared.event.Message.{Message}
 use Rattle.fw_flow.specs.declared.kind.Kind.{Kind}
 use Rattle.fw_flow.specs.declared.kind.Kind.TheVariants.{Total, Ledger}
-use Rattle.fw_flow.specs.Dataflow.{System, kind_of, in_edges, send_stamp, is_sequence_kind}
-use Rattle.fw_flow.specs.NodeFunction.{event_stamp, sends}
+use Rattle.fw_flow.specs.Dataflow.{Dataflow, System, kind_of, in_edges, send_stamp, is_sequence_kind}
+use Rattle.fw_flow.specs.NodeFunction.{sends}
+use Rattle.fw_flow.specs.Projection.{events_at}
 use Rattle.fw_model.specs.Filtering.{events_inside}
 use Rattle.fw_node.specs.Answers.{recs_for, recs_at_notice, without_causes}
 use Rattle.fw_table.specs.Sent.{sent_at}
@@ -46,3 +47,8 @@ NotificationsNeedTheirTime = (k : Kind) → IsPerTime k → (keep : Stamp → Bo
 -- what came to the events inside is what came inside
 abbrev pub EventsInsideArrive : Type 0
 EventsInsideArrive = (ins : List ℕ) (f : Stamp → Bool) (vs : List Event) → arrived ins (events_inside f vs) ≡ arrivals_inside f (arrived ins vs)
+
+-- each delivery among the events of a node is on one of its in-edges, and among those at stamps inside too
+abbrev pub EventsComeOnInEdges : Type 0
+EventsComeOnInEdges = (flow : Dataflow) (p : ℕ) → p < length flow.nodes → (h : List Event) (f : Stamp → Bool)
+    → AreOnEdges (in_edges flow p) (events_at flow p h) × AreOnEdges (in_edges flow p) (events_inside f (events_at flow p h))

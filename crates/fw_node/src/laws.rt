@@ -1,5 +1,5 @@
 //! The laws of answers: what a node answers from what came to it is what the node function gives for its events.
-ghost use Rattle.fw_node.specs.LawsOfAnswers.{DeliveriesAnswer, NotificationsAnswer, DeliveriesNeedTheirTime, NotificationsNeedTheirTime, EventsInsideArrive};
+ghost use Rattle.fw_node.specs.LawsOfAnswers.{DeliveriesAnswer, NotificationsAnswer, DeliveriesNeedTheirTime, NotificationsNeedTheirTime, EventsInsideArrive, EventsComeOnInEdges};
 
 /// What a delivery makes a node send that is no sequence follows from what came to it.
 #[tactic(auto, using(crate::proofs::EventLaws::deliveries_answer))]
@@ -29,4 +29,9 @@ pub fn notifications_need_their_time()
 #[tactic(auto, using(crate::proofs::ForgettingLaws::events_inside_arrive))]
 pub fn events_inside_arrive()
     ensures { EventsInsideArrive }
+{}
+
+/// Each delivery among the events of a node of a flow is on one of its in-edges, and among those at stamps inside too.
+pub fn events_come_on_in_edges()
+    ensures { EventsComeOnInEdges }
 {}

@@ -1,16 +1,10 @@
-use Rattle.std.proofs.Common.{◌≡◌, Option, Some, List, not, sym, ap, ◌∙◌, subst}
-use Rattle.std.proofs.lemmas.Result.{IfOk-weaker}
+use Rattle.std.proofs.Common.{subst}
 use Rattle.std.specs.declared.cmp.Ordering.{Ordering}
 use Rattle.std.specs.Ordering.{nat_cmp, ordering_then}
 use Rattle.fw_time.specs.Stamp.{Stamp, nest}
 use Rattle.fw_time.specs.declared.time.Nest.{Nest}
-use Rattle.fw_bag.specs.Arrivals.{Arrival}
-use Rattle.fw_table.specs.Arrived.{arrival}
-use Rattle.fw_table.specs.Sent.{sent_at}
-use Rattle.fw_node.specs.Answers.{recs_for, sent_list}
 use Rattle.fw_node.specs.declared.in_loop.InLoop.{InLoop}
 use Rattle.fw_node.specs.LoopTable.{IsLoopTable}
-use Rattle.fw_node.proofs.KindCases.{timed_plain}
 use Rattle.fw_node.proofs.in_loop.InLoop.settle.Goals as goal
 
 pub returns-in-Here-clause-ok : goal.returns-in-Here-clause-ok

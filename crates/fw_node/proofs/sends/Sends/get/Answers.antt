@@ -1,4 +1,4 @@
-use Rattle.std.proofs.Common.{◌≡◌, ℕ, ◌+◌, [], ◌∷◌, List, Some, true, false, length, get_or, nat_lt, sym, ap, ◌∙◌}
+use Rattle.std.proofs.Common.{List, length, get_or, nat_lt, sym, ap, ◌∙◌}
 use Rattle.std.specs.Prelude.{slice_get}
 use Rattle.fw_time.specs.Stamp.{Stamp as StampList}
 use Rattle.fw_bag.specs.declared.rec.Rec.{Rec}

@@ -1,9 +1,9 @@
-use Rattle.std.proofs.Common.{⊎_elim, ◌≡◌, ◌||◌, [], ◌+◌, ◌≤◌, ℕ, List, Bool, true, length, refl, sym, ap, ◌∙◌, subst, arith}
+use Rattle.std.proofs.Common.{⊎_elim, ◌≡◌, ◌||◌, [], ℕ, List, Bool, length, refl, sym, ap, ◌∙◌, subst, arith}
 use Rattle.fw_time.specs.declared.stamp.Bounds.{Bounds}
 use Rattle.fw_flow.specs.declared.kind.Kind.{Kind}
 use Rattle.fw_flow.specs.declared.kind.Kind.TheVariants as kind
-use Rattle.fw_flow.specs.Dataflow.{bounds_of, domain_of_kind, kind_of, parent_of, greatest_of, greatest_of_kind}
-use Rattle.fw_node.specs.NodeTable.{IsNodeTable, dimension_of}
+use Rattle.fw_flow.specs.Dataflow.{bounds_of, domain_of_kind, parent_of, greatest_of_kind}
+use Rattle.fw_node.specs.NodeTable.{IsNodeTable}
 use Rattle.fw_node.specs.declared.table.Table.TheVariants as table
 use Rattle.fw_model.specs.Told.{is_told}
 use Rattle.fw_node.specs.Past.{past_of}

@@ -19,7 +19,8 @@ use fw_keep::Keep;
 pub fn apply(drops: &Drops, keep: &mut Keep, logs: &mut [MsgLog], sources: &mut Sources)
     ensures entries { Forgets (is_dropped drops.now) keep.old keep.new }
     ensures logs { (e : ℕ) → log_at logs.new e ≡ log_left drops.now.messages.items e (log_at logs.old e) }
-    ensures sources { (s : ℕ) → source_at sources.new s ≡ source_left drops.now.batches.items s (source_at sources.old s) }
+    ensures inputs { length sources.new ≡ length sources.old }
+    ensures batches { (s : ℕ) → source_at sources.new s ≡ source_left drops.now.batches.items s (source_at sources.old s) }
 {
     forget_records(&drops.records, keep);
     forget_events(&drops.events, keep);
@@ -81,7 +82,8 @@ fn drop_inside(of_edge: &OfEdge, logs: &mut [MsgLog])
 
 /// Drops the batches of these inputs that are inside the front beside them.
 fn drop_batches(fronts: &[OfNode], sources: &mut Sources)
-    ensures { (s : ℕ) → source_at sources.new s ≡ source_left fronts.now s (source_at sources.old s) }
+    ensures count { length sources.new ≡ length sources.old }
+    ensures each { (s : ℕ) → source_at sources.new s ≡ source_left fronts.now s (source_at sources.old s) }
 {
     for front in fronts {
         sources.acknowledge(front.node, &front.front);

@@ -1,5 +1,5 @@
 -- What the loops of a collection leave.
-use Rattle.std.proofs.Common.{◌≡◌, ℕ, ◌+◌, ◌<◌, Bool, true, false, not, ◌&&◌, ◌||◌, ◌==◌, cond, List, [], ◌∷◌, length, take, get_or, set, length-set, Option, refl, sym, ap, ◌∙◌, inl, inr, arith}
+use Rattle.std.proofs.Common.{◌≡◌, ℕ, ◌+◌, ◌-◌, ◌<◌, Bool, true, false, not, ◌&&◌, ◌||◌, ◌==◌, cond, List, [], ◌∷◌, length, take, get_or, set, length-set, Option, refl, sym, ap, ◌∙◌, inl, inr, arith}
 use Rattle.std.proofs.lemmas.Bool.{cases_Bool, cases_lt, cases_eq, eq-eqb, ne_eqb, cond-true, cond-false, not_from_true, not_from_false, or_left, or_right, or_from}
 use Rattle.std.proofs.lemmas.List.{get_or-set_same, get_or-set_other, get_or_past}
 use Rattle.std.proofs.lemmas.List.Folds.{list_any-append, list_any_more}
@@ -58,6 +58,11 @@ or-swap false b c = refl
 pub or_nothing : (a : Bool) → (a || false) ≡ a
 or_nothing true = refl
 or_nothing false = refl
+
+or-twice : (a b : Bool) → ((a || b) || b) ≡ (a || b)
+or-twice true b = refl
+or-twice false true = refl
+or-twice false false = refl
 
 -- what either of two tests takes out in turn has the id where what both take out has it
 gone-then : (f g h : Entry → Bool) → ((e : Entry) → h e ≡ (f e || g e)) → (id : ℕ) (es : List Entry)
@@ -131,6 +136,23 @@ pub forgets_more : {D : Type 0} (goes : D → Entry → Bool) (ds : List D) (i :
 forgets_more goes ds i d first now next l so_far is stored =
     forgets_then (λ e. list_any (λ x. goes x e) (take i ds)) (goes (get_or ds i d)) (λ e. list_any (λ x. goes x e) (take (i + 1) ds)) first now next
     (λ e. list_any_more (λ x. goes x e) ds i d l) so_far (forgets-one (goes (get_or ds i d)) now next is stored)
+
+-- one more of a list that is the one before it
+pub forgets_again : {D : Type 0} (goes : D → Entry → Bool) (ds : List D) (i : ℕ) (d : D) (first now : KeepState) → i < length ds
+    → 0 < i → get_or ds (i - 1) d ≡ get_or ds i d
+    → Forgets (λ e. list_any (λ x. goes x e) (take i ds)) first now
+    → Forgets (λ e. list_any (λ x. goes x e) (take (i + 1) ds)) first now
+forgets_again goes ds i d first now l some same so_far =
+    forgets_then (λ e. list_any (λ x. goes x e) (take i ds)) (λ e. false) (λ e. list_any (λ x. goes x e) (take (i + 1) ds)) first now now
+    (λ e.
+    let j : ℕ = i - 1 in
+    let before : Bool = list_any (λ x. goes x e) (take j ds) in
+    let one : Bool = goes (get_or ds j d) e in
+    let so : list_any (λ x. goes x e) (take i ds) ≡ (before || one) = ap (λ k. list_any (λ x. goes x e) (take k ds)) (omega (arith, some)) ∙ list_any_more (λ x. goes x e) ds j d (omega (arith, l, some)) in
+    list_any_more (λ x. goes x e) ds i d l
+    ∙ ap (λ b. b || goes (get_or ds i d) e) so ∙ ap (λ x. (before || one) || goes x e) (sym same)
+    ∙ or-twice before one ∙ sym so ∙ sym (or_nothing (list_any (λ x. goes x e) (take i ds))))
+    so_far (forgets_nothing now)
 
 -- ---- places
 

@@ -2,5 +2,5 @@ use Rattle.std.proofs.Common.{take}
 use Rattle.fw_collect.specs.Dropped.{is_at_some, Forgets}
 use Rattle.fw_collect.proofs.applying.forget_events.Given as goal
 
-abbrev pub invariant-loop-event : goal.invariant-loop-event
-invariant-loop-event l = Forgets (is_at_some (take l.event-index l.events)) l.initial.keep l.keep
+abbrev pub invariant-loop-place : goal.invariant-loop-place
+invariant-loop-place l = Forgets (is_at_some (take l.place l.events)) l.initial.keep l.keep

@@ -1,0 +1,128 @@
+//! Rows: a flow, how many batches its inputs have, and calls.
+ghost use Rattle.std.specs.Prelude.{◌≡◌};
+ghost use Rattle.fw_progress.specs.Progress.{IsProgressOf};
+
+use crate::calls::answer;
+use crate::line::{NoAnswer, node_of, part};
+use fw_bag::Rec;
+use fw_flow::Flow;
+use fw_flow_text::read_flow;
+use fw_lines::Batches;
+use fw_progress::Progress;
+use std::alloc::{AllocError, Global};
+
+/// Tells the rows of a file.
+pub fn tell_rows(alloc: Global, text: &str) -> Result<String, AllocError> {
+    let mut told = String::new(alloc);
+    for row in text.split("\n== ").skip(1) {
+        tell_row(alloc, row, &mut told)?;
+    }
+    Ok(told)
+}
+
+/// Tells a row: its name, and the answers to its calls.
+fn tell_row(alloc: Global, row: &str, told: &mut String) -> Result<(), AllocError> {
+    let (name, lines) = row.split_once('\n').unwrap_or((row, ""));
+    told.push_str("== ")?;
+    told.push_str(name)?;
+    told.push('\n')?;
+    let text = declarations(alloc, lines)?;
+    match read_flow(alloc, text.as_bytes()) {
+        Ok(flow) => tell_calls(alloc, &flow, lines, told),
+        Err(_) => told.push_str("no flow\n"),
+    }
+}
+
+/// Whether a line begins as a declaration.
+fn is_declaration(line: &str) -> bool {
+    let word = part(line).0;
+    word == "loop" || word == "node" || word == "edge"
+}
+
+/// The declarations among the lines, as the text of a flow.
+fn declarations(alloc: Global, lines: &str) -> Result<String, AllocError> {
+    let mut text = String::new(alloc);
+    for line in lines.lines().filter(|line| is_declaration(line)) {
+        text.push_str(line)?;
+        text.push('\n')?;
+    }
+    Ok(text)
+}
+
+/// The batches that the lines `batches NODE COUNT` tell.
+fn batches(alloc: Global, flow: &Flow, lines: &str) -> Result<Batches, NoAnswer> {
+    let mut batches = Batches::new(alloc);
+    for line in lines.lines() {
+        let (word, rest) = part(line);
+        if word == "batches" {
+            let (name, count) = part(rest);
+            let node = node_of(flow, name)?;
+            add_batches(&mut batches, node.place(), count.parse::<u32>()?)?;
+        }
+    }
+    Ok(batches)
+}
+
+/// Adds so many batches of one rec each.
+fn add_batches(batches: &mut Batches, node: u32, count: u32) -> Result<(), AllocError> {
+    for _ in 0..count {
+        batches.add(node, &[Rec { key: 0, value: 0 }])?;
+    }
+    Ok(())
+}
+
+/// Tells the answers to the calls of a row.
+fn tell_calls(
+    alloc: Global,
+    flow: &Flow,
+    lines: &str,
+    told: &mut String,
+) -> Result<(), AllocError> {
+    let batches = match batches(alloc, flow, lines) {
+        Ok(batches) => batches,
+        Err(NoAnswer::NotSpelled) => return told.push_str("no batches\n"),
+        Err(NoAnswer::NoMemory) => return Err(AllocError),
+    };
+    let mut progress = Progress::new(alloc, flow, &batches)?;
+    tell_answers(alloc, flow, &mut progress, lines, told)
+}
+
+/// Tells the answer to each call.
+fn tell_answers(
+    alloc: Global,
+    flow: &Flow,
+    progress: &mut Progress,
+    lines: &str,
+    told: &mut String,
+) -> Result<(), AllocError>
+    requires { IsProgressOf flow.now progress.old }
+    ensures { IsProgressOf flow.now progress.new }
+{
+    for line in lines.lines().filter(|line| is_call(line)) {
+        told.push_str(line)?;
+        match answer(alloc, flow, progress, line) {
+            Ok(text) => tell_text(&text, told)?,
+            Err(NoAnswer::NotSpelled) => told.push_str(" none")?,
+            Err(NoAnswer::NoMemory) => return Err(AllocError),
+        }
+        told.push('\n')?;
+    }
+    Ok(())
+}
+
+/// Adds an answer, if it says something.
+fn tell_text(text: &str, told: &mut String) -> Result<(), AllocError> {
+    if text.is_empty() {
+        return Ok(());
+    }
+    told.push_str(" -> ")?;
+    told.push_str(text)
+}
+
+/// Whether a line asks for a call.
+fn is_call(line: &str) -> bool {
+    !line.is_empty()
+        && !line.starts_with('#')
+        && !line.starts_with("batches")
+        && !is_declaration(line)
+}

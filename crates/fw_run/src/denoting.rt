@@ -1,9 +1,12 @@
 //! The command `denote` prints the denotation at the outputs.
-ghost use Rattle.std.specs.Prelude.{◌≡◌, ◌<◌, [], ◌∷◌, length};
+ghost use Rattle.std.specs.Prelude.{◌≡◌, ◌<◌, ◌-◌, ◌^◌, ℕ, [], ◌∷◌, length};
+ghost use Rattle.std.specs.List.Sorted.{IsNonDecreasingBy};
 ghost use Rattle.std.specs.Option.{option_copied};
 ghost use Rattle.fw_time.specs.Stamp.{same};
 ghost use Rattle.fw_flow.specs.Dataflow.{system_of};
 ghost use Rattle.fw_flow.specs.WellFormed.{IsWellFormedSystem};
+ghost use Rattle.fw_flow.specs.WholeBags.{in_order, recs_where};
+ghost use Rattle.fw_model.specs.Denotation.{AreInOrder};
 ghost use Rattle.fw_denote.specs.Holding.{family_on};
 ghost use Rattle.fw_run.specs.DenotationText.{PrintsDenotation, denotation_text, epochs_told, epochs_to, after_epoch, most_batches};
 ghost use Rattle.fw_run.specs.Writing.{Writes, WritesText};
@@ -31,13 +34,14 @@ pub(crate) fn print_denotation<O: Sink>(
     print_family(alloc, fed, &family, out)
 }
 
-// Prints what a family of bags has at the outputs.
+// Prints what a family of bags, which are in order, has at the outputs.
 fn print_family<O: Sink>(
     alloc: Global,
     fed: &Fed,
     family: &Family,
     out: &mut O,
 ) -> Result<(), OutFault>
+    requires { AreInOrder (family_on family.now) }
     ensures { Writes (denotation_text (system_of fed.now.flow fed.now.batches) (family_on family.now)) result
         (O.view out.old) (O.view out.new) }
 {
@@ -51,6 +55,7 @@ fn print_family<O: Sink>(
 struct Denotation<'a> {
     fed: &'a Fed,
     family: &'a Family,
+    ghost ordered: { AreInOrder (family_on family.now) },
 }
 
 impl<'a> fmt::Display for Denotation<'a> {
@@ -81,6 +86,7 @@ struct NodeLines<'a> {
     family: &'a Family,
     node: NodeId,
     ghost declared: { node < length fed.now.flow.nodes },
+    ghost ordered: { AreInOrder (family_on family.now) },
 }
 
 impl<'a> fmt::Display for NodeLines<'a> {
@@ -112,6 +118,7 @@ struct BagLines<'a> {
     kind: Kind,
     name: &'a str,
     bag: &'a [Timed],
+    ghost ordered: { in_order bag.now ≡ bag.now },
 }
 
 impl<'a> fmt::Display for BagLines<'a> {
@@ -181,12 +188,13 @@ fn after_epoch(at: &Stamp) -> u64
     at.at(0) as u64 + 1
 }
 
-// The line of each epoch.
+// The line of each epoch, in one pass over the bag.
 #[derive(Drop)]
 struct EpochLines<'a> {
     name: &'a str,
     bag: &'a [Timed],
     count: u64,
+    ghost ordered: { in_order bag.now ≡ bag.now },
 }
 
 impl<'a> fmt::Display for EpochLines<'a> {
@@ -197,16 +205,29 @@ impl<'a> fmt::Display for EpochLines<'a> {
     ghost output = { λ l. Some (flat_map (epoch_line l.name.now l.bag.now) (range_with_len 0 l.count)) };
 
     fn fmt<W: fmt::Write>(&self, f: &mut fmt::Formatter<W>) -> fmt::Result {
+        let mut rest = self.bag;
         for epoch in 0..self.count {
-            let line = EpochLine {
-                name: self.name,
-                bag: self.bag,
-                epoch,
-            };
+            let (bag, later) = parted(rest, epoch);
+            let name = self.name;
+            let line = EpochLine { name, bag, epoch };
             write!(f, "{line}")?;
+            rest = later;
         }
         Ok(())
     }
+}
+
+// The timed recs up to an epoch, and those that are later.
+fn parted(rest: &[Timed], epoch: u64) -> (&[Timed], &[Timed])
+    requires ordered { IsNonDecreasingBy (λ r. after_epoch r.at) rest.now }
+    requires one_more { epoch < 2 ^ 64 - 1 }
+    ensures of_epoch { recs_where (same (epoch ∷ [])) result.0.now ≡ recs_where (same (epoch ∷ [])) rest.now }
+    ensures of_later { (x : ℕ) → epoch < x → recs_where (same (x ∷ [])) result.1.now ≡ recs_where (same (x ∷ [])) rest.now }
+    ensures ordered { IsNonDecreasingBy (λ r. after_epoch r.at) result.1.now }
+{
+    let next = epoch + 1;
+    let end = rest.partition_point(|timed| after_epoch(timed.at()) <= next);
+    rest.split_at(end)
 }
 
 // The line of an epoch.

@@ -1,5 +1,5 @@
 -- Totals by key, over timed recs in a line.
-use Rattle.std.proofs.Common.{◌≡◌, ℕ, zero, suc, ◌+◌, ◌<◌, ◌≤◌, ◌==◌, nat_lt, Bool, true, false, cond, List, [], ◌∷◌, ◌++◌, length, reverse, take, get_or, map, Option, Some, None, refl, sym, ap, ◌∙◌, subst, unwrap_or, arith}
+use Rattle.std.proofs.Common.{◌≡◌, ℕ, zero, suc, ◌+◌, ◌<◌, ◌≤◌, ◌==◌, Bool, true, false, cond, List, [], ◌∷◌, ◌++◌, length, reverse, take, get_or, map, Option, Some, None, refl, sym, ap, ◌∙◌, unwrap_or, arith}
 use mathlib.Core.List.{reverse_aux}
 use Rattle.std.specs.Prelude.{◌&&◌, ◌||◌, filter}
 use Rattle.std.specs.List.{AllByRecursion}
@@ -11,7 +11,6 @@ use Rattle.std.proofs.lemmas.Bool.{and_parts, and_from, eqb-true, eq-eqb, cond-t
 use Rattle.std.proofs.lemmas.Bool.Decides.{nat_tests}
 use Rattle.std.proofs.lemmas.List.{take_more, map-append}
 use Rattle.fw_time.specs.Stamp.{Stamp, leq, same, stamp_cmp}
-use Rattle.fw_time.proofs.EachLaws.{each-weaker}
 use Rattle.fw_time.proofs.StampLaws.{leq-refl}
 use Rattle.fw_bag.specs.declared.rec.Rec.{Rec}
 use Rattle.fw_bag.specs.Rec.{rec_cmp}
@@ -26,7 +25,7 @@ use Rattle.fw_model.proofs.SumLaws.{AreSameBags, nat_cmp-test, has_key-same, val
 use Rattle.fw_model.proofs.WeightLaws.{how_often-where, one}
 use Rattle.fw_denote.specs.declared.keyed.Slot.{Slot}
 use Rattle.fw_denote.specs.Numbers.{slot_cmp, slot_of, is_there, total_at, HasNumbers, HasTotals, AreInLine, ComeBefore}
-use Rattle.fw_denote.proofs.NumberLaws.{slot-test, slot-is, if-same, found_or_none}
+use Rattle.fw_denote.proofs.NumberLaws.{slot-test, slot-is, if-same}
 use Rattle.fw_denote.proofs.AloneLaws.{each-at}
 use Rattle.fw_denote.proofs.Counts.{reversed-weigh}
 

@@ -1,7 +1,7 @@
 -- What is sent rec by rec.
 use Rattle.std.proofs.Common.{◌≡◌, ℕ, zero, suc, ◌+◌, ◌/◌, ◌<◌, ◌≤◌, true, List, [], ◌∷◌, ◌++◌, length, Option, Some, None, refl, sym, ap, ◌∙◌, get_or, drop, append_assoc, slice_index, arith}
 use Rattle.std.specs.List.{AllByRecursion, flat_map}
-use Rattle.std.proofs.lemmas.List.{at_drop_more, at_drop_all}
+use Rattle.std.proofs.lemmas.List.{at_drop_more}
 use Rattle.fw_time.specs.Stamp.{Stamp, in_domain}
 use Rattle.fw_time.specs.Sending.{regrouped_stamp}
 use Rattle.fw_time.proofs.StampLaws.{leq-length}

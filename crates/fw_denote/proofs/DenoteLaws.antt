@@ -1,6 +1,6 @@
 -- When bags by node are the denotation.
-use Rattle.std.proofs.Common.{◌≡◌, ℕ, zero, suc, ◌+◌, ◌-◌, ◌*◌, ◌^◌, ◌<◌, ◌≤◌, List, [], ◌∷◌, length, get_or, map, replicate, refl, sym, ap, subst, ◌∙◌, inl, inr, lit≤, arith}
-use Rattle.std.specs.List.{AllByRecursion, range_with_len}
+use Rattle.std.proofs.Common.{◌≡◌, ℕ, zero, suc, ◌+◌, ◌*◌, ◌≤◌, List, [], ◌∷◌, length, get_or, map, replicate, refl, sym, ap, subst, ◌∙◌, inl, inr, lit≤, arith}
+use Rattle.std.specs.List.{range_with_len}
 use Rattle.std.proofs.Math.Nat.{mul-le-mul, le_trans}
 use Rattle.std.proofs.lemmas.List.{get_or_past, length-replicate}
 use Rattle.std.proofs.lemmas.List.FromFn.{get_or-map-range_with_len, length-map-range_with_len}
@@ -8,7 +8,7 @@ use Rattle.std.proofs.lemmas.Bool.{cases_lt}
 use Rattle.fw_flow.specs.declared.node.Edge.{Edge}
 use Rattle.fw_flow.specs.Dataflow.{Dataflow, System, kind_of, sender}
 use Rattle.fw_flow.specs.WellFormed.{IsWellFormed}
-use Rattle.fw_flow.specs.WholeBags.{Timed, in_order, outputs_of}
+use Rattle.fw_flow.specs.WholeBags.{Timed, in_order}
 use Rattle.fw_model.specs.Denotation.{Family, IsDenotation, rounds}
 use Rattle.fw_model.specs.Measure.{Measure, enough_rounds}
 use Rattle.fw_model.proofs.MeasureLaws.{measure-exists}

@@ -1,7 +1,6 @@
 -- The timed recs of one slot stand next to each other in a bag in order.
 use Rattle.std.proofs.Common.{◌≡◌, ℕ, zero, suc, ◌+◌, ◌-◌, ◌<◌, ◌≤◌, ◌==◌, Bool, true, false, cond, List, [], ◌∷◌, length, take, drop, get_or, map, refl, sym, ap, subst, ◌∙◌, arith}
 use Rattle.std.specs.Prelude.{◌&&◌, filter}
-use Rattle.std.specs.List.{AllByRecursion}
 use Rattle.std.specs.List.Sorted.{IsPartitionedBy, IsPartitionPoint}
 use Rattle.std.specs.declared.cmp.Ordering.{Ordering}
 use Rattle.std.specs.declared.cmp.Ordering.TheVariants.{Less, Equal, Greater}
@@ -18,6 +17,7 @@ use Rattle.fw_model.proofs.DependenceLaws.{ascending-from_in_order}
 use Rattle.fw_denote.specs.declared.keyed.Slot.{Slot}
 use Rattle.fw_denote.specs.Numbers.{slot_cmp, slot_of}
 use Rattle.fw_denote.specs.Pairs.{pair_recs}
+use Rattle.fw_denote.proofs.AloneLaws.{each-at}
 use Rattle.fw_denote.proofs.NumberLaws.{slot_order, slot-test, slot-is}
 
 -- ---- lists in two parts
@@ -47,16 +47,11 @@ filter-taken p (x ∷ xs) (suc i) h n =
 
 -- ---- the order by slots
 
-each-here : {X : Type 0} (P : X → Type 0) (xs : List X) (i : ℕ) (d : X) → i < length xs → AllByRecursion P xs → P (get_or xs i d)
-each-here P [] i d l a = absurd (omega arith)
-each-here P (x ∷ xs) zero d l a = a.0
-each-here P (x ∷ xs) (suc i) d l a = each-here P xs i d (omega arith) a.1
-
 pair-upto : (rs : List Timed) (i j : ℕ) (d : Timed) → i ≤ j → j < length rs → IsAscendingTimed rs → is_gt (timed_cmp (get_or rs i d) (get_or rs j d)) ≡ false
 unfolding IsAscendingTimed
 pair-upto [] i j d h l a = absurd (omega arith)
 pair-upto (r ∷ rs) zero zero d h l a = ap is_gt (timed_cmp-refl r)
-pair-upto (r ∷ rs) zero (suc j) d h l a = each-here _ rs j d (omega arith) a.0
+pair-upto (r ∷ rs) zero (suc j) d h l a = each-at _ rs j d (omega arith) a.0
 pair-upto (r ∷ rs) (suc i) zero d h l a = absurd (omega arith)
 pair-upto (r ∷ rs) (suc i) (suc j) d h l a = pair-upto rs i j d (omega arith) (omega arith) a.1
 

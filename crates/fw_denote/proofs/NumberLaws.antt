@@ -1,12 +1,12 @@
 -- Maps of numbers by stamp and key: what a look-up finds, and the timed recs of the entries as a bag.
-use Rattle.std.proofs.Common.{◌≡◌, ℕ, ◌+◌, ◌<◌, ◌≤◌, ◌==◌, Bool, true, false, cond, List, [], ◌∷◌, ◌++◌, length, reverse, take, get_or, map, Option, Some, None, refl, sym, ap, ◌∙◌, subst, unwrap_or, arith}
+use Rattle.std.proofs.Common.{◌≡◌, ℕ, ◌+◌, ◌==◌, Bool, true, false, cond, List, [], ◌∷◌, reverse, map, Option, Some, None, refl, sym, ap, ◌∙◌, unwrap_or, arith}
 use Rattle.std.specs.Prelude.{◌&&◌, ◌||◌, filter}
 use Rattle.std.specs.List.{AllByRecursion}
 use Rattle.std.specs.List.Sorted.{IsStrictlySortedBy}
 use Rattle.std.specs.Map.{lookup, keys_of}
 use Rattle.std.specs.declared.cmp.Ordering.{Ordering}
 use Rattle.std.specs.declared.cmp.Ordering.TheVariants.{Less, Equal, Greater}
-use Rattle.std.specs.Ordering.{is_eq, nat_cmp, ordering_then}
+use Rattle.std.specs.Ordering.{is_eq, nat_cmp}
 use Rattle.std.specs.Cmp.{IsTotalOrder}
 use Rattle.std.specs.BTreeMap.{BTreeMap, get}
 use Rattle.std.specs.BTreeMap as tree
@@ -15,17 +15,16 @@ use Rattle.std.proofs.lemmas.Cmp.{nat_cmp_total, nat_list_cmp_total, on_total, t
 use Rattle.std.proofs.lemmas.Map.Keys.{sorted_head, sorted_tail}
 use Rattle.fw_time.specs.Stamp.{Stamp, leq, same, stamp_cmp}
 use Rattle.fw_bag.specs.declared.rec.Rec.{Rec}
-use Rattle.fw_bag.specs.Rec.{rec_cmp}
-use Rattle.fw_bag.specs.Keyed.{plus, value_sum, has_key, sums_of, distinct_keys}
+use Rattle.fw_bag.specs.Keyed.{plus, value_sum, has_key}
 use Rattle.fw_flow.specs.WholeBags.{Timed, recs_where, in_order, sums_at, totals_at, distinct_stamps}
 use Rattle.fw_model.proofs.StampLaws.{same-is}
 use Rattle.fw_model.proofs.CmpLaws.{then_parts}
 use Rattle.fw_model.proofs.WeightLaws.{weigh, one, how_often-where}
 use Rattle.fw_model.proofs.DistinctLaws.{stamp_cmp-test, same-swap}
-use Rattle.fw_model.proofs.SumLaws.{AreSameBags, nat_cmp-test, rec_cmp-test, sums-is, has_key-same, value_sum-same, how_often-passing, sum-outputs, total-outputs}
+use Rattle.fw_model.proofs.SumLaws.{AreSameBags, nat_cmp-test, rec_cmp-test, sums-is, has_key-same, value_sum-same, sum-outputs, total-outputs}
 use Rattle.fw_denote.specs.declared.keyed.Slot.{Slot}
 use Rattle.fw_denote.specs.Numbers.{slot_cmp, slot_of, is_there, sum_at, total_at, HasNumbers, entry_rec}
-use Rattle.fw_denote.proofs.Counts.{AreOneBag, one_bag, reversed-weigh, past-more}
+use Rattle.fw_denote.proofs.Counts.{one_bag, reversed-weigh}
 
 -- ---- slots
 

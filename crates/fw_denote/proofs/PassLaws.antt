@@ -1,22 +1,20 @@
 -- What running a node leads to.
-use Rattle.std.proofs.Common.{◌≡◌, ◌≢◌, ℕ, zero, suc, ◌+◌, ◌<◌, ◌≤◌, ◌==◌, ◌⊎◌, Bool, true, false, List, [], ◌∷◌, length, get_or, set, map, refl, sym, ap, subst, ◌∙◌, inl, inr, arith}
+use Rattle.std.proofs.Common.{◌≡◌, ◌≢◌, ℕ, suc, ◌+◌, ◌<◌, ◌≤◌, ◌⊎◌, true, List, [], ◌∷◌, length, get_or, set, map, refl, sym, ap, subst, ◌∙◌, inl, inr, arith}
 use Rattle.std.specs.List.{AllByRecursion}
-use Rattle.std.proofs.lemmas.List.{get_or-set_same, get_or-set_other, set-get_or, length-set, get_or_past}
+use Rattle.std.proofs.lemmas.List.{get_or-set_same, get_or-set_other, length-set}
 use Rattle.std.proofs.lemmas.Bool.{cases_lt}
 use Rattle.std.specs.Ordering.{is_eq}
 use Rattle.std.specs.Cmp.Lexicographic.{slice_cmp}
 use Rattle.fw_bag.proofs.OrderingLaws.{slice_cmp-same, equal_from_is_eq}
-use Rattle.fw_time.specs.Stamp.{Stamp, same, in_domain}
-use Rattle.fw_lines.specs.Batches.{batches_at}
+use Rattle.fw_time.specs.Stamp.{Stamp, same}
 use Rattle.fw_bag.specs.declared.rec.Rec.{Rec}
-use Rattle.fw_flow.specs.declared.kind.Kind.{Kind}
-use Rattle.fw_flow.specs.Dataflow.{Dataflow, System, kind_of, sender, receiver, in_edges, bounds_of_domain, domain_of_kind, out_domain_of_kind, batches_of, greatest_number, system_of}
+use Rattle.fw_flow.specs.Dataflow.{Dataflow, System, kind_of, sender, receiver, in_edges, batches_of, system_of}
 use Rattle.fw_flow.specs.WellFormed.{IsWellFormed, IsWellFormedSystem}
 use Rattle.fw_flow.specs.WholeBags.{Timed, timed_cmp, in_order, outputs_of, outputs_of_kind, recs_where}
 use Rattle.fw_model.specs.Denotation.{Family, IsDenotation, bag_at}
 use Rattle.fw_model.specs.Measure.{Measure}
 use Rattle.fw_model.proofs.TimedLaws.{each-in_order, in_order-twice, timed_cmp-same}
-use Rattle.fw_model.proofs.DependenceLaws.{in_edges-each, out_bags-depend}
+use Rattle.fw_model.proofs.DependenceLaws.{out_bags-depend}
 use Rattle.fw_model.proofs.DenotationLaws.{denotation-in_order}
 use Rattle.fw_model.proofs.DenotationDomainLaws.{At, IsIn, IsOut, outputs-in_domain}
 use Rattle.fw_denote.specs.Domains.{AreIn, AreOut}

@@ -7,15 +7,14 @@ use Rattle.std.specs.declared.cmp.Ordering.{Ordering}
 use Rattle.std.specs.declared.cmp.Ordering.TheVariants.{Less, Equal, Greater}
 use Rattle.std.specs.Ordering.{is_eq, ordering_reverse}
 use Rattle.std.specs.BTreeSet.{BTreeSet, contains}
-use Rattle.std.proofs.lemmas.Bool.{cases_Bool}
 use Rattle.std.proofs.lemmas.Map.Keys.{sorted_head, sorted_tail}
 use Rattle.fw_time.specs.Stamp.{Stamp}
 use Rattle.fw_bag.specs.declared.rec.Rec.{Rec}
 use Rattle.fw_flow.specs.WholeBags.{Timed, timed_cmp, in_order, is_among_timed, distinct_timed}
 use Rattle.fw_model.proofs.TimedLaws.{timed_order}
-use Rattle.fw_model.proofs.WeightLaws.{weigh, one, at_stamp, is_at}
+use Rattle.fw_model.proofs.WeightLaws.{weigh, one, at_stamp}
 use Rattle.fw_model.proofs.DistinctLaws.{sign, timed_cmp-test, among_timed-some, among_timed-none, distinct-outputs}
-use Rattle.fw_denote.proofs.Counts.{AreOneBag, one_bag, reversed-weigh}
+use Rattle.fw_denote.proofs.Counts.{one_bag, reversed-weigh}
 
 -- the sign of the count is whether it is among them
 sign-among : (r : Timed) (xs : List Timed) → sign (weigh (one r.at r.rec) xs) ≡ cond (is_among_timed r xs) 1 0

@@ -1,5 +1,5 @@
 -- Totals by key, over timed recs in a line.
-use Rattle.std.proofs.Common.{◌≡◌, ℕ, zero, suc, ◌+◌, ◌<◌, ◌≤◌, ◌==◌, nat_lt, Bool, true, false, cond, List, [], ◌∷◌, ◌++◌, length, reverse, take, get_or, map, Option, Some, None, refl, sym, ap, ◌∙◌, subst, unwrap_or, arith}
+use Rattle.std.proofs.Common.{◌≡◌, ℕ, zero, suc, ◌+◌, ◌<◌, ◌≤◌, ◌==◌, Bool, true, false, cond, List, [], ◌∷◌, ◌++◌, length, reverse, take, get_or, map, Option, Some, None, refl, sym, ap, ◌∙◌, unwrap_or, arith}
 use mathlib.Core.List.{reverse_aux}
 use Rattle.std.specs.Prelude.{◌&&◌, ◌||◌, filter}
 use Rattle.std.specs.List.{AllByRecursion}
@@ -11,7 +11,6 @@ use Rattle.std.proofs.lemmas.Bool.{and_parts, and_from, eqb-true, eq-eqb, cond-t
 use Rattle.std.proofs.lemmas.Bool.Decides.{nat_tests}
 use Rattle.std.proofs.lemmas.List.{take_more, map-append}
 use Rattle.fw_time.specs.Stamp.{Stamp, leq, same, stamp_cmp}
-use Rattle.fw_time.proofs.EachLaws.{each-weaker}
 use Rattle.fw_time.proofs.StampLaws.{leq-refl}
 use Rattle.fw_bag.specs.declared.rec.Rec.{Rec}
 use Rattle.fw_bag.specs.Rec.{rec_cmp}
@@ -26,7 +25,8 @@ use Rattle.fw_model.proofs.SumLaws.{AreSameBags, nat_cmp-test, has_key-same, val
 use Rattle.fw_model.proofs.WeightLaws.{how_often-where, one}
 use Rattle.fw_denote.specs.declared.keyed.Slot.{Slot}
 use Rattle.fw_denote.specs.Numbers.{slot_cmp, slot_of, is_there, total_at, HasNumbers, HasTotals, AreInLine, ComeBefore}
-use Rattle.fw_denote.proofs.NumberLaws.{slot-test, slot-is, if-same, found_or_none}
+use Rattle.fw_denote.proofs.NumberLaws.{slot-test, slot-is, if-same}
+use Rattle.fw_denote.proofs.AloneLaws.{each-at}
 use Rattle.fw_denote.proofs.Counts.{reversed-weigh}
 
 -- the recs of timed recs
@@ -150,11 +150,6 @@ line-upto x y a b h =
     first Equal p h = refl
     first Greater p h = h
 
-each-here : {X : Type 0} (P : X → Type 0) (xs : List X) (i : ℕ) (d : X) → i < length xs → AllByRecursion P xs → P (get_or xs i d)
-each-here P [] i d l a = absurd (omega arith)
-each-here P (x ∷ xs) zero d l a = a.0
-each-here P (x ∷ xs) (suc i) d l a = each-here P xs i d (omega arith) a.1
-
 each-turned : {X : Type 0} (P : X → Type 0) (xs ys : List X) → AllByRecursion P xs → AllByRecursion P ys → AllByRecursion P (reverse_aux xs ys)
 each-turned P [] ys a b = b
 each-turned P (x ∷ xs) ys a b = each-turned P xs (x ∷ ys) a.1 (a.0, b)
@@ -168,7 +163,7 @@ unfolding IsAscendingTimed
 before-here [] i d l a b = absurd (omega arith)
 before-here (r ∷ rs) zero d l a b = tt
 before-here (r ∷ rs) (suc i) d l a b =
-    (line-upto r (get_or rs i d) b.0 (each-here _ rs i d (omega arith) b.1) (each-here _ rs i d (omega arith) a.0), before-here rs i d (omega arith) a.1 b.1)
+    (line-upto r (get_or rs i d) b.0 (each-at _ rs i d (omega arith) b.1) (each-at _ rs i d (omega arith) a.0), before-here rs i d (omega arith) a.1 b.1)
 
 -- in a line those that a loop has come past come before the next one
 pub come_before : (rs : List Timed) (i : ℕ) (d : Timed) → i < length rs → in_order rs ≡ rs → AreInLine rs → ComeBefore (reverse (take i rs)) (get_or rs i d)

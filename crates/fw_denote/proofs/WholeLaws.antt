@@ -1,5 +1,5 @@
 -- What a node sends in all, by the number of its in-edges.
-use Rattle.std.proofs.Common.{◌≡◌, ℕ, zero, suc, ◌+◌, ◌<◌, ◌≤◌, true, List, [], ◌∷◌, ◌++◌, length, get_or, map, Option, refl, sym, ap, subst, ◌∙◌, arith}
+use Rattle.std.proofs.Common.{◌≡◌, ℕ, zero, suc, ◌<◌, ◌≤◌, true, List, [], ◌∷◌, ◌++◌, length, get_or, map, Option, refl, sym, ap, subst, ◌∙◌, arith}
 use Rattle.std.specs.List.{AllByRecursion}
 use Rattle.std.proofs.lemmas.List.{append-nil, length-map}
 use Rattle.std.proofs.lemmas.List.FromFn.{get_or-map-range_with_len}
@@ -16,7 +16,7 @@ use Rattle.fw_flow.specs.WholeBags.{Timed, in_order, one_by_one, joint_bag, outp
 use Rattle.fw_model.proofs.LegalLaws.{edge_domains}
 use Rattle.fw_model.proofs.DependenceLaws.{in_edges-each}
 use Rattle.fw_denote.specs.Domains.{AreIn, AreOut}
-use Rattle.fw_denote.specs.Holding.{IsHeld, family_of, sent_by}
+use Rattle.fw_denote.specs.Holding.{IsHeld, family_of}
 use Rattle.fw_denote.proofs.AloneLaws.{each-at}
 
 -- ---- by the number of bags

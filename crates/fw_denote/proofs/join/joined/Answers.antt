@@ -1,4 +1,4 @@
-use Rattle.std.proofs.Common.{◌≡◌, ◌++◌, ◌+◌, ◌==◌, List, drop, map, ap, sym, ◌∙◌}
+use Rattle.std.proofs.Common.{◌++◌, ◌+◌, ◌==◌, List, drop, ap, ◌∙◌}
 use Rattle.std.specs.Prelude.{filter}
 use Rattle.std.specs.List.{flat_map}
 use Rattle.fw_flow.specs.WholeBags.{Timed, timed_recs, recs_where, joined_timed}

@@ -1,4 +1,4 @@
-use Rattle.std.proofs.Common.{◌≡◌, ◌++◌, [], ◌∷◌, rules, unwrap_or, ap, ◌∙◌}
+use Rattle.std.proofs.Common.{◌≡◌, ◌++◌, [], ◌∷◌, rules, unwrap_or, ◌∙◌}
 use Rattle.std.specs.BTreeMap.{get}
 use Rattle.fw_denote.specs.Numbers.{slot_cmp, slot_of}
 use Rattle.fw_denote.proofs.TotalLaws.{running_more}

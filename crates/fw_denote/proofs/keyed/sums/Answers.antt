@@ -1,4 +1,4 @@
-use Rattle.std.proofs.Common.{◌≡◌, ◌≤◌, ℕ, List, reverse, take, get_or, length, subst, sym, ap, ◌∙◌, arith}
+use Rattle.std.proofs.Common.{List, reverse, take, subst, sym}
 use Rattle.std.proofs.lemmas.List.{take_all}
 use Rattle.fw_flow.specs.WholeBags.{Timed}
 use Rattle.fw_denote.specs.Numbers.{HasNumbers, sum_at}

@@ -4,7 +4,7 @@ use Rattle.std.specs.BTreeMap.{get}
 use Rattle.fw_bag.specs.declared.rec.Rec.{Rec}
 use Rattle.fw_bag.specs.Keyed.{plus}
 use Rattle.fw_denote.specs.declared.keyed.Slot.{Slot}
-use Rattle.fw_denote.specs.Numbers.{slot_cmp, slot_of}
+use Rattle.fw_denote.specs.Numbers.{slot_cmp}
 use Rattle.fw_denote.proofs.TotalLaws.{slots_more}
 use Rattle.fw_denote.proofs.keyed.total_up.Goals as goal
 

@@ -1,8 +1,8 @@
-use Rattle.std.proofs.Common.{◌≡◌, ◌+◌, ◌<◌, ◌≤◌, ℕ, false, List, length, set, subst, sym, ap, ◌∙◌, arith}
+use Rattle.std.proofs.Common.{◌≡◌, ◌+◌, ◌<◌, ℕ, List, length, set, subst, sym, ap, ◌∙◌, arith}
 use Rattle.std.proofs.lemmas.Bool.{or_parts}
 use Rattle.fw_flow.specs.Dataflow.{system_of}
 use Rattle.fw_flow.specs.WholeBags.{Timed, outputs_of}
-use Rattle.fw_denote.specs.Holding.{IsHeld, AreRight, AreSolvedUpTo, family_of}
+use Rattle.fw_denote.specs.Holding.{IsHeld, AreRight, family_of}
 use Rattle.fw_denote.proofs.PassLaws.{held_more, solved_more, right_more}
 use Rattle.fw_denote.proofs.passes.pass.Goals as goal
 

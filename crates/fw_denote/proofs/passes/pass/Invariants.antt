@@ -1,6 +1,5 @@
-use Rattle.std.proofs.Common.{◌≡◌, ◌<◌, ◌≤◌, ℕ, false, length}
+use Rattle.std.proofs.Common.{◌≡◌, ℕ, false}
 use Rattle.fw_flow.specs.Dataflow.{system_of}
-use Rattle.fw_flow.specs.WholeBags.{outputs_of}
 use Rattle.fw_model.specs.Denotation.{Family, IsDenotation}
 use Rattle.fw_model.specs.Measure.{Measure}
 use Rattle.fw_denote.specs.Holding.{IsHeld, AreRight, AreSolvedUpTo}

@@ -1,4 +1,4 @@
-use Rattle.std.proofs.Common.{◌≡◌, ℕ, List, subst, refl, ap, sym, ◌∙◌}
+use Rattle.std.proofs.Common.{List, subst, refl, ap, ◌∙◌}
 use Rattle.fw_flow.specs.Dataflow.{kind_of, sender, bounds_of}
 use Rattle.fw_flow.specs.WholeBags.{Timed}
 use Rattle.fw_denote.specs.Domains.{AreOut}

@@ -1,4 +1,4 @@
-use Rattle.std.proofs.Common.{◌≡◌, ◌<◌, ℕ, length, arith}
+use Rattle.std.proofs.Common.{◌<◌, length, arith}
 use Rattle.fw_denote.proofs.WholeLaws.{few_batches}
 use Rattle.fw_denote.proofs.rounds.Course.start.Goals as goal
 

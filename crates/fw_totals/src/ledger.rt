@@ -34,6 +34,7 @@ impl Ledger {
     pub fn new(alloc: Global) -> Self
         ensures table { (inside : List ℕ → Bool) → IsLedger inside result [] }
         ensures latest { (base inside : List ℕ → Bool) → IsLedgerLatest base inside result [] }
+        ensures live { result.refused ≡ false }
     {
         Ledger {
             table: Settling::new(alloc),
@@ -53,6 +54,7 @@ impl Ledger {
             → IfOk result (λ ledger. IsLedger inside ledger came) }
         ensures latest { (inside : List ℕ → Bool) (came : List Arrival)
             → IfOk result (λ ledger. IsLedgerLatest inside inside ledger came) }
+        ensures live { IfOk result (λ ledger. ledger.refused ≡ false) }
     {
         let table = Settling::from_state(alloc, totals)?;
         let running = restored(alloc, totals)?;
@@ -81,6 +83,7 @@ impl Ledger {
         ensures latest { (base inside : List ℕ → Bool) (came : List Arrival)
             → inside (t.0 ∷ []) ≡ false → IsLedgerLatest base inside self.old came
             → IsLedgerLatest base inside self.new came × IsLedgerLatest base inside self.new (arrival side (t.0 ∷ []) rec ∷ came) }
+        ensures live { OnOk result (self.new.refused ≡ false) }
         ensures refused { OnErr result (self.new.refused ≡ true) }
         ensures stays { IsTrue self.old.refused → IsErr result }
     {
@@ -117,6 +120,7 @@ impl Ledger {
             → OnOk result (IsLedgerLatest base after self.new came) }
         ensures latest_err { (base inside : List ℕ → Bool) (came : List Arrival)
             → IsLedgerLatest base inside self.old came → OnErr result (IsLedgerLatest base inside self.new came) }
+        ensures live { OnOk result (self.new.refused ≡ false) }
         ensures refused { OnErr result (self.new.refused ≡ true) }
         ensures stays { IsTrue self.old.refused → IsErr result }
     {
@@ -175,6 +179,7 @@ impl Ledger {
         ensures latest { (after : List ℕ → Bool) (came : List Arrival) → OnOk result (IsLedgerLatest after after self.new came) }
         ensures latest_err { (base inside : List ℕ → Bool) (came : List Arrival)
             → IsLedgerLatest base inside self.old came → OnErr result (IsLedgerLatest base inside self.new came) }
+        ensures live { OnOk result (self.new.refused ≡ false) }
         ensures refused { OnErr result (self.new.refused ≡ true) }
         ensures stays { IsTrue self.old.refused → IsErr result }
     {

@@ -46,8 +46,8 @@ fn raised(
 
 /// Once an epoch is complete, sends for each of its keys the sum of the values up to it, modulo 2^64.
 ///
-/// Beside the sums at each epoch that is not settled it keeps the running totals of the epochs that were taken in: those
-/// that are settled, and those of which it was notified.
+/// Beside the sums at each epoch that is not settled, and what it keeps of the settled ones, it keeps the running totals of
+/// the epochs that were taken in: those that are settled, and those of which it was notified.
 #[derive(Drop)]
 pub struct Total {
     table: Settling<Epoch>,
@@ -157,7 +157,8 @@ impl Total {
 
     /// Settles what came inside, which holds what was settled.
     ///
-    /// It costs what comes to be settled. It fails where memory is refused, now or earlier.
+    /// It goes over all epochs that are not settled, several times, and looks up each key of those that come to be settled. It
+    /// fails where memory is refused, now or earlier.
     pub fn settle(&mut self, f: &Below) -> Result<(), AllocError>
         ensures ok { (inside after taken : List ℕ → Bool) (came : List Arrival)
             → ((n : ℕ) → after (n ∷ []) ≡ is_below f.now.until n) → IsWithin inside after

@@ -35,7 +35,7 @@ abbrev pub NoticesAreSends : Type 0
 NoticesAreSends = (sys : System) (p : ℕ) (before : List Event) (t : Stamp)
     → sorted_messages (sends sys p before (Notify p t)) ≡ sorted_messages (caused_by t (notice_sends (kind_of sys.flow p) before t))
 
--- what a node of the kind sends at a stamp depends on what came at that stamp alone
+-- which recs a node of the kind sends at a stamp depends on what came at that stamp alone; not so the numbers of a sequence's recs
 abbrev pub IsPerTime : Kind → Type 0
 IsPerTime Total = ⊥
 IsPerTime Ledger = ⊥

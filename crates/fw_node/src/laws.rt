@@ -19,13 +19,14 @@ pub fn notices_are_sends()
     ensures { NoticesAreSends }
 {}
 
-/// What a delivery makes a node send needs what came at its stamp alone, but at a total and a ledger.
+/// Which recs a delivery makes a node send needs what came at its stamp alone, but at a total and a ledger.
 #[tactic(auto, using(crate::proofs::ForgettingLaws::deliveries_need_their_time))]
 pub fn deliveries_need_their_time()
     ensures { DeliveriesNeedTheirTime }
 {}
 
-/// What a notification makes a node send needs what came at its stamp alone, but at a total and a ledger.
+/// Which recs a notification makes a node send needs what came at its stamp alone, but at a total and a ledger. Of a sequence
+/// their numbers need how many it sent before.
 #[tactic(auto, using(crate::proofs::ForgettingLaws::notifications_need_their_time))]
 pub fn notifications_need_their_time()
     ensures { NotificationsNeedTheirTime }

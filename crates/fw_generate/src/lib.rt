@@ -8,5 +8,5 @@ mod inputs;
 pub mod laws;
 mod schedule;
 
-pub use from_seed::{SIZE_LIMIT, generate};
+pub use from_seed::{generate, size_limit};
 pub use generated::Texts;

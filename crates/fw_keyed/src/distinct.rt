@@ -1,5 +1,5 @@
 //! The first of equal recs at each time.
-ghost use Rattle.std.specs.Prelude.{◌≡◌, not, ℕ, List, Bool, [], ◌∷◌, IfOk, OnOk, OnErr, IsTrue, IsErr, true, if◌then◌else◌};
+ghost use Rattle.std.specs.Prelude.{◌≡◌, not, ℕ, List, Bool, [], ◌∷◌, IfOk, OnOk, OnErr, IsTrue, IsErr, true, false, if◌then◌else◌};
 ghost use Rattle.fw_bag.specs.declared.rec.Rec.{Rec};
 ghost use Rattle.fw_bag.specs.Arrivals.{Arrival, arrivals_inside};
 ghost use Rattle.fw_bag.specs.Keyed.{is_among};
@@ -57,7 +57,8 @@ pub struct Distinct<T: Ord> {
 impl<T: Logical> Distinct<T> {
     /// The table to which nothing came.
     pub fn new(alloc: Global) -> Self
-        ensures { IsDistinct T.cmp T.coords result [] }
+        ensures table { IsDistinct T.cmp T.coords result [] }
+        ensures live { result.refused ≡ false }
     {
         Distinct {
             seen: BTreeMap::new(alloc),
@@ -90,6 +91,7 @@ impl<T: Logical> Distinct<T> {
             }) }
         ensures err { (came : List Arrival) → IsDistinct T.cmp T.coords self.old came
             → OnErr result (IsDistinct T.cmp T.coords self.new came) }
+        ensures live { OnOk result (self.new.refused ≡ false) }
         ensures refused { OnErr result (self.new.refused ≡ true) }
         ensures stays { IsTrue self.old.refused → IsErr result }
     {
@@ -106,20 +108,22 @@ impl<T: Logical> Distinct<T> {
 
     /// Keeps what came at times inside. It takes no memory.
     pub fn keep_only(&mut self, f: &T::Frontier)
-        ensures { (kept : List ℕ → Bool) (came : List Arrival)
+        ensures table { (kept : List ℕ → Bool) (came : List Arrival)
             → ((t : T) → kept (T.coords t) ≡ T.Frontier.inside f.now t)
             → IsDistinct T.cmp T.coords self.old came
             → IsDistinct T.cmp T.coords self.new (arrivals_inside kept came) }
+        ensures live { self.new.refused ≡ self.old.refused }
     {
         keep_inside(&mut self.seen, f);
     }
 
     /// Forgets what came at times inside, to which nothing comes any more. It takes no memory.
     pub fn settle(&mut self, f: &T::Frontier)
-        ensures { (kept : List ℕ → Bool) (came : List Arrival)
+        ensures table { (kept : List ℕ → Bool) (came : List Arrival)
             → ((t : T) → kept (T.coords t) ≡ not (T.Frontier.inside f.now t))
             → IsDistinct T.cmp T.coords self.old came
             → IsDistinct T.cmp T.coords self.new (arrivals_inside kept came) }
+        ensures live { self.new.refused ≡ self.old.refused }
     {
         keep_outside(&mut self.seen, f);
     }

@@ -1,5 +1,5 @@
 //! The pairs of recs of two edges with one key, at each time.
-ghost use Rattle.std.specs.Prelude.{◌≡◌, ◌<◌, ℕ, List, Bool, [], ◌∷◌, not, ◌==◌, IfOk, OnOk, OnErr, IsTrue, IsErr, true, reverse};
+ghost use Rattle.std.specs.Prelude.{◌≡◌, ◌<◌, ℕ, List, Bool, [], ◌∷◌, not, ◌==◌, IfOk, OnOk, OnErr, IsTrue, IsErr, true, false, reverse};
 ghost use Rattle.fw_bag.specs.declared.rec.Rec.{Rec};
 ghost use Rattle.fw_bag.specs.Arrivals.{Arrival, arrivals_inside};
 ghost use Rattle.fw_bag.specs.Keyed.{joined_rec};
@@ -112,7 +112,8 @@ pub struct Join<T: Ord> {
 impl<T: Logical> Join<T> {
     /// The table to which nothing came.
     pub fn new(alloc: Global) -> Self
-        ensures { IsJoin T.cmp T.coords result [] }
+        ensures table { IsJoin T.cmp T.coords result [] }
+        ensures live { result.refused ≡ false }
     {
         Join {
             sides: BTreeMap::new(alloc),
@@ -143,6 +144,7 @@ impl<T: Logical> Join<T> {
             → IfOk result (λ sent. sent ≡ record { at = t; recs = joined_rec rec (recs_across side (T.coords t) came) }) }
         ensures err { (came : List Arrival) → IsJoin T.cmp T.coords self.old came
             → OnErr result (IsJoin T.cmp T.coords self.new came) }
+        ensures live { OnOk result (self.new.refused ≡ false) }
         ensures refused { OnErr result (self.new.refused ≡ true) }
         ensures stays { IsTrue self.old.refused → IsErr result }
     {
@@ -166,20 +168,22 @@ impl<T: Logical> Join<T> {
 
     /// Keeps what came at times inside. It takes no memory.
     pub fn keep_only(&mut self, f: &T::Frontier)
-        ensures { (kept : List ℕ → Bool) (came : List Arrival)
+        ensures table { (kept : List ℕ → Bool) (came : List Arrival)
             → ((t : T) → kept (T.coords t) ≡ T.Frontier.inside f.now t)
             → IsJoin T.cmp T.coords self.old came
             → IsJoin T.cmp T.coords self.new (arrivals_inside kept came) }
+        ensures live { self.new.refused ≡ self.old.refused }
     {
         keep_inside(&mut self.sides, f);
     }
 
     /// Forgets what came at times inside, to which nothing comes any more. It takes no memory.
     pub fn settle(&mut self, f: &T::Frontier)
-        ensures { (kept : List ℕ → Bool) (came : List Arrival)
+        ensures table { (kept : List ℕ → Bool) (came : List Arrival)
             → ((t : T) → kept (T.coords t) ≡ not (T.Frontier.inside f.now t))
             → IsJoin T.cmp T.coords self.old came
             → IsJoin T.cmp T.coords self.new (arrivals_inside kept came) }
+        ensures live { self.new.refused ≡ self.old.refused }
     {
         keep_outside(&mut self.sides, f);
     }

@@ -1,8 +1,8 @@
 //! The kinds of nodes that look at what came at one time by its key or its rec.
 //!
 //! Their tables are generic over the type of times, so that they serve loops of every depth. Each call but one that
-//! says so may want memory. Where it is refused the table still is that of what came before, and each later call that
-//! takes memory fails.
+//! says so may want memory. Where it is refused the table still is that of what came before, and each later such call
+//! fails.
 #![tactic(auto)]
 
 mod distinct;
@@ -10,6 +10,5 @@ mod join;
 mod sum;
 
 pub use distinct::{Distinct, Seen};
-pub use fw_totals::Total;
 pub use join::{Join, Sides};
 pub use sum::Sum;

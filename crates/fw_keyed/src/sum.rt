@@ -1,5 +1,5 @@
 //! The sums of the values of each key at each time.
-ghost use Rattle.std.specs.Prelude.{◌≡◌, not, ℕ, List, Bool, [], ◌∷◌, IfOk, OnOk, OnErr, IsTrue, IsErr, true};
+ghost use Rattle.std.specs.Prelude.{◌≡◌, not, ℕ, List, Bool, [], ◌∷◌, IfOk, OnOk, OnErr, IsTrue, IsErr, true, false};
 ghost use Rattle.fw_bag.specs.Arrivals.{Arrival, arrivals_inside};
 ghost use Rattle.fw_table.specs.Arrived.{arrival, recs_at};
 ghost use Rattle.fw_table.specs.Sums.{sums_by_key};
@@ -22,7 +22,8 @@ pub struct Sum<T: Ord> {
 impl<T: Logical> Sum<T> {
     /// The table to which nothing came.
     pub fn new(alloc: Global) -> Self
-        ensures { IsSum T.cmp T.coords result [] }
+        ensures table { IsSum T.cmp T.coords result [] }
+        ensures live { result.refused ≡ false }
     {
         Sum {
             sums: BTreeMap::new(alloc),
@@ -40,6 +41,7 @@ impl<T: Logical> Sum<T> {
         ensures sent { IfOk result (λ sent. sent ≡ record { at = t; recs = [] }) }
         ensures err { (came : List Arrival) → IsSum T.cmp T.coords self.old came
             → OnErr result (IsSum T.cmp T.coords self.new came) }
+        ensures live { OnOk result (self.new.refused ≡ false) }
         ensures refused { OnErr result (self.new.refused ≡ true) }
         ensures stays { IsTrue self.old.refused → IsErr result }
     {
@@ -71,6 +73,7 @@ impl<T: Logical> Sum<T> {
         ensures stands { (came : List Arrival) → IsSum T.cmp T.coords self.old came → IsSum T.cmp T.coords self.new came }
         ensures sent { (came : List Arrival) → IsSum T.cmp T.coords self.old came
             → IfOk result (λ sent. sent ≡ record { at = t; recs = sums_by_key (recs_at (T.coords t) came) }) }
+        ensures live { OnOk result (self.new.refused ≡ false) }
         ensures refused { OnErr result (self.new.refused ≡ true) }
         ensures stays { IsTrue self.old.refused → IsErr result }
     {
@@ -88,20 +91,22 @@ impl<T: Logical> Sum<T> {
 
     /// Keeps what came at times inside. It takes no memory.
     pub fn keep_only(&mut self, f: &T::Frontier)
-        ensures { (kept : List ℕ → Bool) (came : List Arrival)
+        ensures table { (kept : List ℕ → Bool) (came : List Arrival)
             → ((t : T) → kept (T.coords t) ≡ T.Frontier.inside f.now t)
             → IsSum T.cmp T.coords self.old came
             → IsSum T.cmp T.coords self.new (arrivals_inside kept came) }
+        ensures live { self.new.refused ≡ self.old.refused }
     {
         keep_inside(&mut self.sums, f);
     }
 
     /// Forgets what came at times inside, to which nothing comes any more. It takes no memory.
     pub fn settle(&mut self, f: &T::Frontier)
-        ensures { (kept : List ℕ → Bool) (came : List Arrival)
+        ensures table { (kept : List ℕ → Bool) (came : List Arrival)
             → ((t : T) → kept (T.coords t) ≡ not (T.Frontier.inside f.now t))
             → IsSum T.cmp T.coords self.old came
             → IsSum T.cmp T.coords self.new (arrivals_inside kept came) }
+        ensures live { self.new.refused ≡ self.old.refused }
     {
         keep_outside(&mut self.sums, f);
     }

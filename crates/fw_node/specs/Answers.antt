@@ -34,6 +34,10 @@ recs_at_notice kind came t = []
 abbrev pub without_causes : List Message → List (Stamp × Rec)
 without_causes ms = map (λ (m : Message). (m.at, m.rec)) ms
 
+-- recs at stamps as messages of one cause
+abbrev pub caused_by : Stamp → List (Stamp × Rec) → List Message
+caused_by cause sent = map (λ x. record { at = x.0; rec = x.1; causes = cause ∷ [] }) sent
+
 -- the recs at their stamp
 abbrev pub sent_list : Sent Stamp → List (Stamp × Rec)
 sent_list sent = map (λ r. (sent.at, r)) sent.recs

@@ -11,7 +11,9 @@ use Rattle.fw_flow.specs.Dataflow.{Dataflow, System, kind_of, in_edges, send_sta
 use Rattle.fw_flow.specs.NodeFunction.{sends}
 use Rattle.fw_flow.specs.Projection.{events_at}
 use Rattle.fw_model.specs.Filtering.{events_inside}
-use Rattle.fw_node.specs.Answers.{recs_for, recs_at_notice, without_causes}
+use Rattle.fw_model.specs.SortedMessages.{sorted_messages}
+use Rattle.fw_node.specs.Answers.{recs_for, recs_at_notice, caused_by, without_causes}
+use Rattle.fw_node.specs.Sends.{notice_sends}
 use Rattle.fw_table.specs.Sent.{sent_at}
 use Rattle.fw_node.specs.Arrived.{place_in, arrived, IsOneOf, AreOnEdges}
 
@@ -28,7 +30,12 @@ NotificationsAnswer = (sys : System) (p : ℕ) (before : List Event) (t : Stamp)
     → without_causes (sends sys p before (Notify p t))
     ≡ sent_at (send_stamp sys.flow p t) (recs_at_notice (kind_of sys.flow p) (arrived (in_edges sys.flow p) before) t)
 
--- what a node of the kind sends at a stamp depends on what came at that stamp alone
+-- what `notice_sends` says of a notification, with the notification's stamp as the cause, is as a bag what the node function sends
+abbrev pub NoticesAreSends : Type 0
+NoticesAreSends = (sys : System) (p : ℕ) (before : List Event) (t : Stamp)
+    → sorted_messages (sends sys p before (Notify p t)) ≡ sorted_messages (caused_by t (notice_sends (kind_of sys.flow p) before t))
+
+-- which recs a node of the kind sends at a stamp depends on what came at that stamp alone; not so the numbers of a sequence's recs
 abbrev pub IsPerTime : Kind → Type 0
 IsPerTime Total = ⊥
 IsPerTime Ledger = ⊥

@@ -19,7 +19,7 @@ IsTimedTable cmp coords (table.Join s) (kind.Join within) came = IsJoin cmp coor
 IsTimedTable cmp coords (table.Sum s) (kind.Sum within) came = IsSum cmp coords s came
 IsTimedTable cmp coords other k came = ⊥
 
--- a node of the kind has an in-edge at this place
+-- a node of the kind may have an in-edge at this place: of a join the place is 0 or 1
 abbrev pub IsSideOf : Kind → ℕ → Type 0
 IsSideOf (kind.Join within) side = side < 2
 IsSideOf k side = Unit {0}

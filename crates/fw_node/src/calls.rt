@@ -48,6 +48,7 @@ impl Node {
     pub fn new(alloc: Global, flow: &Flow, id: NodeId) -> Result<Self, AllocError>
         ensures table { (settled : List ℕ → Bool) → IfOk result (λ node. IsTableOf flow.now id settled node []) }
         ensures bounds { IfOk result (λ node. node.bounds ≡ bounds_of flow.now id) }
+        ensures live { IfOk result (λ node. node.refused ≡ false) }
     {
         let _nodes = flow.nodes();
         let sides = Vec::from_slice(alloc, flow.in_edges(id))?;
@@ -74,6 +75,7 @@ impl Node {
             → AreOnEdges (in_edges flow.now id) before → IsStateOf (kind_of flow.now id) before state.now
             → IfOk result (λ node. IsTableOf flow.now id settled node before) }
         ensures bounds { IfOk result (λ node. node.bounds ≡ bounds_of flow.now id) }
+        ensures live { IfOk result (λ node. node.refused ≡ false) }
     {
         let _nodes = flow.nodes();
         let sides = Vec::from_slice(alloc, flow.in_edges(id))?;
@@ -111,6 +113,7 @@ impl Node {
             → IfOk result (λ sent. sends_list sent ≡ without_causes (sends sys p before (Deliver edge m))) }
         ensures err { (flow : Dataflow) (p : ℕ) (settled : List ℕ → Bool) (before : List Event)
             → IsTableOf flow p settled self.old before → OnErr result (IsTableOf flow p settled self.new before) }
+        ensures live { OnOk result (self.new.refused ≡ false) }
         ensures refused { OnErr result (self.new.refused ≡ true) }
         ensures stays { IsTrue self.old.refused → IsErr result }
         ensures bounds { self.new.bounds ≡ self.old.bounds }
@@ -143,6 +146,7 @@ impl Node {
             → IfOk result (λ sent. sends_list sent ≡ notice_sends (kind_of flow p) before at.now) }
         ensures err { (flow : Dataflow) (p : ℕ) (settled : List ℕ → Bool) (before : List Event)
             → IsTableOf flow p settled self.old before → OnErr result (IsTableOf flow p settled self.new before) }
+        ensures live { OnOk result (self.new.refused ≡ false) }
         ensures refused { OnErr result (self.new.refused ≡ true) }
         ensures stays { IsTrue self.old.refused → IsErr result }
         ensures bounds { self.new.bounds ≡ self.old.bounds }
@@ -167,6 +171,7 @@ impl Node {
             → IfOk result (λ sent. sends_list sent ≡ without_causes (sends sys p before (Inject p epoch))) }
         ensures err { (flow : Dataflow) (p : ℕ) (settled : List ℕ → Bool) (before : List Event)
             → IsTableOf flow p settled self.old before → OnErr result (IsTableOf flow p settled self.new before) }
+        ensures live { OnOk result (self.new.refused ≡ false) }
         ensures refused { OnErr result (self.new.refused ≡ true) }
         ensures stays { IsTrue self.old.refused → IsErr result }
         ensures bounds { self.new.bounds ≡ self.old.bounds }
@@ -195,6 +200,7 @@ impl Node {
             → OnOk result (IsTableOf flow p (node_frontier flow p f.now) self.new before) }
         ensures err { (flow : Dataflow) (p : ℕ) (settled : List ℕ → Bool) (before : List Event)
             → IsTableOf flow p settled self.old before → OnErr result (IsTableOf flow p settled self.new before) }
+        ensures live { OnOk result (self.new.refused ≡ false) }
         ensures refused { OnErr result (self.new.refused ≡ true) }
         ensures stays { IsTrue self.old.refused → IsErr result }
         ensures bounds { self.new.bounds ≡ self.old.bounds }

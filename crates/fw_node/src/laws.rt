@@ -1,5 +1,5 @@
 //! The laws of answers: what a node answers from what came to it is what the node function gives for its events.
-ghost use Rattle.fw_node.specs.LawsOfAnswers.{DeliveriesAnswer, NotificationsAnswer, DeliveriesNeedTheirTime, NotificationsNeedTheirTime, EventsInsideArrive, EventsComeOnInEdges};
+ghost use Rattle.fw_node.specs.LawsOfAnswers.{DeliveriesAnswer, NotificationsAnswer, NoticesAreSends, DeliveriesNeedTheirTime, NotificationsNeedTheirTime, EventsInsideArrive, EventsComeOnInEdges};
 
 /// What a delivery makes a node send that is no sequence follows from what came to it.
 #[tactic(auto, using(crate::proofs::EventLaws::deliveries_answer))]
@@ -13,13 +13,20 @@ pub fn notifications_answer()
     ensures { NotificationsAnswer }
 {}
 
-/// What a delivery makes a node send needs what came at its stamp alone, but at a total and a ledger.
+/// What a node says that it sends at a notification is, in any order, what the node function sends there.
+#[tactic(auto, using(crate::proofs::NoticeLaws::notices_are_sends))]
+pub fn notices_are_sends()
+    ensures { NoticesAreSends }
+{}
+
+/// Which recs a delivery makes a node send needs what came at its stamp alone, but at a total and a ledger.
 #[tactic(auto, using(crate::proofs::ForgettingLaws::deliveries_need_their_time))]
 pub fn deliveries_need_their_time()
     ensures { DeliveriesNeedTheirTime }
 {}
 
-/// What a notification makes a node send needs what came at its stamp alone, but at a total and a ledger.
+/// Which recs a notification makes a node send needs what came at its stamp alone, but at a total and a ledger. Of a sequence
+/// their numbers need how many it sent before.
 #[tactic(auto, using(crate::proofs::ForgettingLaws::notifications_need_their_time))]
 pub fn notifications_need_their_time()
     ensures { NotificationsNeedTheirTime }

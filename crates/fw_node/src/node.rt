@@ -9,8 +9,8 @@ use std::alloc::Global;
 
 /// A node of any kind, which stands for the list of its events.
 ///
-/// A call that takes memory may be refused it: the node still stands for what came before, and each later call that takes
-/// memory is refused too.
+/// A call that takes memory may be refused it: the node still stands for what came before. Where it was refused to a call
+/// that changes the node, each later call that takes memory fails too; `totals_at` changes nothing, and leaves no mark.
 #[derive(Drop)]
 pub struct Node {
     pub(crate) table: Table,

@@ -86,7 +86,8 @@ impl Sequence {
 
     /// The table to which nothing came, whatever is gone.
     pub fn new(alloc: Global) -> Self
-        ensures { (gone : List ℕ → Bool) → IsSequence gone result [] 0 }
+        ensures table { (gone : List ℕ → Bool) → IsSequence gone result [] 0 }
+        ensures live { result.refused ≡ false }
     {
         Sequence {
             held: BTreeMap::new(alloc),
@@ -99,7 +100,8 @@ impl Sequence {
     /// The table that sent so many messages, where all that came is gone. It takes no memory.
     pub fn from_state(alloc: Global, sent: u64) -> Self
         requires { sent ≤ 2 ^ 32 }
-        ensures { (gone : List ℕ → Bool) (came : List Arrival) → AreInside gone came → IsSequence gone result came sent }
+        ensures table { (gone : List ℕ → Bool) (came : List Arrival) → AreInside gone came → IsSequence gone result came sent }
+        ensures live { result.refused ≡ false }
     {
         Sequence {
             held: BTreeMap::new(alloc),
@@ -119,6 +121,7 @@ impl Sequence {
         ensures sent { IfOk result (λ sent. sent.recs ≡ []) }
         ensures err { (gone : List ℕ → Bool) (came : List Arrival) (n : ℕ) → IsSequence gone self.old came n
             → OnErr result (IsSequence gone self.new came n) }
+        ensures live { OnOk result (self.new.refused ≡ false) }
         ensures refused { OnErr result (self.new.refused ≡ true) }
         ensures stays { IsTrue self.old.refused → IsErr result }
     {
@@ -146,6 +149,7 @@ impl Sequence {
             → IfOk result (λ sent. at_numbers sent.first sent.recs ≡ numbered_recs n (sorted_recs (recs_at (t.0 ∷ []) came))) }
         ensures err { (gone : List ℕ → Bool) (came : List Arrival) (n : ℕ) → IsSequence gone self.old came n
             → OnErr result (IsSequence gone self.new came n) }
+        ensures live { OnOk result (self.new.refused ≡ false) }
         ensures refused { OnErr result (self.new.refused ≡ true) }
         ensures stays { IsTrue self.old.refused → IsErr result }
     {
@@ -169,9 +173,10 @@ impl Sequence {
 
     /// Forgets what came inside, to which nothing comes any more. It takes no memory.
     pub fn settle(&mut self, f: &Below)
-        ensures { (gone after : List ℕ → Bool) (came : List Arrival) (n : ℕ)
+        ensures table { (gone after : List ℕ → Bool) (came : List Arrival) (n : ℕ)
             → ((t : ℕ) → after (t ∷ []) ≡ is_below f.now.until t)
             → IsSequence gone self.old came n → IsSequence (λ s. after s || gone s) self.new came n }
+        ensures live { self.new.refused ≡ self.old.refused }
     {
         keep_outside(&mut self.held, f);
     }

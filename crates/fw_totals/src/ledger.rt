@@ -19,8 +19,8 @@ use std::collections::BTreeMap;
 
 /// Sends for each rec the total of its key up to it, modulo 2^64.
 ///
-/// Beside the running totals of all that came it keeps the sums at each number that is not settled, and the totals of
-/// what is settled.
+/// Beside the running totals of all that came it keeps the sums at each number that is not settled, and of what is settled
+/// the totals and the latest number of each key.
 #[derive(Drop)]
 pub struct Ledger {
     table: Settling<SeqNo>,
@@ -34,6 +34,7 @@ impl Ledger {
     pub fn new(alloc: Global) -> Self
         ensures table { (inside : List ℕ → Bool) → IsLedger inside result [] }
         ensures latest { (base inside : List ℕ → Bool) → IsLedgerLatest base inside result [] }
+        ensures live { result.refused ≡ false }
     {
         Ledger {
             table: Settling::new(alloc),
@@ -53,6 +54,7 @@ impl Ledger {
             → IfOk result (λ ledger. IsLedger inside ledger came) }
         ensures latest { (inside : List ℕ → Bool) (came : List Arrival)
             → IfOk result (λ ledger. IsLedgerLatest inside inside ledger came) }
+        ensures live { IfOk result (λ ledger. ledger.refused ≡ false) }
     {
         let table = Settling::from_state(alloc, totals)?;
         let running = restored(alloc, totals)?;
@@ -66,7 +68,9 @@ impl Ledger {
 
     /// Takes in a rec that came on an in-edge, by its place, and sends it with the total of its key for its value.
     ///
-    /// It costs a few look-ups among the keys. It fails where memory is refused, now or earlier.
+    /// It looks up the key twice among the running totals, a new key three times; the number among those that are not
+    /// settled, a new number twice; and the key twice among those of the number. It fails where memory is refused, now or
+    /// earlier.
     pub fn on_message(&mut self, side: usize, t: SeqNo, rec: Rec) -> Result<Sent<SeqNo>, AllocError>
         ensures ok { (inside : List ℕ → Bool) (came : List Arrival)
             → inside (t.0 ∷ []) ≡ false → IsLedger inside self.old came
@@ -81,6 +85,7 @@ impl Ledger {
         ensures latest { (base inside : List ℕ → Bool) (came : List Arrival)
             → inside (t.0 ∷ []) ≡ false → IsLedgerLatest base inside self.old came
             → IsLedgerLatest base inside self.new came × IsLedgerLatest base inside self.new (arrival side (t.0 ∷ []) rec ∷ came) }
+        ensures live { OnOk result (self.new.refused ≡ false) }
         ensures refused { OnErr result (self.new.refused ≡ true) }
         ensures stays { IsTrue self.old.refused → IsErr result }
     {
@@ -104,7 +109,8 @@ impl Ledger {
 
     /// Settles what came inside, which holds what was settled.
     ///
-    /// It costs what comes to be settled. It fails where memory is refused, now or earlier.
+    /// It goes over all numbers that are not settled, several times, and looks up each key of those that come to be settled.
+    /// It fails where memory is refused, now or earlier.
     pub fn settle(&mut self, f: &Below) -> Result<(), AllocError>
         ensures ok { (inside after : List ℕ → Bool) (came : List Arrival)
             → ((n : ℕ) → after (n ∷ []) ≡ is_below f.now.until n) → IsWithin inside after
@@ -117,6 +123,7 @@ impl Ledger {
             → OnOk result (IsLedgerLatest base after self.new came) }
         ensures latest_err { (base inside : List ℕ → Bool) (came : List Arrival)
             → IsLedgerLatest base inside self.old came → OnErr result (IsLedgerLatest base inside self.new came) }
+        ensures live { OnOk result (self.new.refused ≡ false) }
         ensures refused { OnErr result (self.new.refused ≡ true) }
         ensures stays { IsTrue self.old.refused → IsErr result }
     {
@@ -175,6 +182,7 @@ impl Ledger {
         ensures latest { (after : List ℕ → Bool) (came : List Arrival) → OnOk result (IsLedgerLatest after after self.new came) }
         ensures latest_err { (base inside : List ℕ → Bool) (came : List Arrival)
             → IsLedgerLatest base inside self.old came → OnErr result (IsLedgerLatest base inside self.new came) }
+        ensures live { OnOk result (self.new.refused ≡ false) }
         ensures refused { OnErr result (self.new.refused ≡ true) }
         ensures stays { IsTrue self.old.refused → IsErr result }
     {

@@ -46,8 +46,8 @@ fn raised(
 
 /// Once an epoch is complete, sends for each of its keys the sum of the values up to it, modulo 2^64.
 ///
-/// Beside the sums at each epoch that is not settled it keeps the running totals of the epochs that were taken in: those
-/// that are settled, and those of which it was notified.
+/// Beside the sums at each epoch that is not settled, and what it keeps of the settled ones, it keeps the running totals of
+/// the epochs that were taken in: those that are settled, and those of which it was notified.
 #[derive(Drop)]
 pub struct Total {
     table: Settling<Epoch>,
@@ -61,6 +61,7 @@ impl Total {
     pub fn new(alloc: Global) -> Self
         ensures table { (inside taken : List ℕ → Bool) → IsTotal inside taken result [] }
         ensures latest { (base inside : List ℕ → Bool) → IsTotalLatest base inside result [] }
+        ensures live { result.refused ≡ false }
     {
         Total {
             table: Settling::new(alloc),
@@ -80,6 +81,7 @@ impl Total {
             → IfOk result (λ total. IsTotal inside inside total came) }
         ensures latest { (inside : List ℕ → Bool) (came : List Arrival)
             → IfOk result (λ total. IsTotalLatest inside inside total came) }
+        ensures live { IfOk result (λ total. total.refused ≡ false) }
     {
         let table = Settling::from_state(alloc, totals)?;
         let running = restored(alloc, totals)?;
@@ -104,6 +106,7 @@ impl Total {
         ensures latest { (base inside : List ℕ → Bool) (came : List Arrival)
             → inside (t.0 ∷ []) ≡ false → IsTotalLatest base inside self.old came
             → IsTotalLatest base inside self.new came × IsTotalLatest base inside self.new (arrival side (t.0 ∷ []) rec ∷ came) }
+        ensures live { OnOk result (self.new.refused ≡ false) }
         ensures refused { OnErr result (self.new.refused ≡ true) }
         ensures stays { IsTrue self.old.refused → IsErr result }
     {
@@ -135,6 +138,7 @@ impl Total {
             → OnErr result (IsTotal inside taken self.new came) }
         ensures latest { (base inside : List ℕ → Bool) (came : List Arrival)
             → IsTotalLatest base inside self.old came → IsTotalLatest base inside self.new came }
+        ensures live { OnOk result (self.new.refused ≡ false) }
         ensures refused { OnErr result (self.new.refused ≡ true) }
         ensures stays { IsTrue self.old.refused → IsErr result }
     {
@@ -153,7 +157,8 @@ impl Total {
 
     /// Settles what came inside, which holds what was settled.
     ///
-    /// It costs what comes to be settled. It fails where memory is refused, now or earlier.
+    /// It goes over all epochs that are not settled, several times, and looks up each key of those that come to be settled. It
+    /// fails where memory is refused, now or earlier.
     pub fn settle(&mut self, f: &Below) -> Result<(), AllocError>
         ensures ok { (inside after taken : List ℕ → Bool) (came : List Arrival)
             → ((n : ℕ) → after (n ∷ []) ≡ is_below f.now.until n) → IsWithin inside after
@@ -166,6 +171,7 @@ impl Total {
             → OnOk result (IsTotalLatest base after self.new came) }
         ensures latest_err { (base inside : List ℕ → Bool) (came : List Arrival)
             → IsTotalLatest base inside self.old came → OnErr result (IsTotalLatest base inside self.new came) }
+        ensures live { OnOk result (self.new.refused ≡ false) }
         ensures refused { OnErr result (self.new.refused ≡ true) }
         ensures stays { IsTrue self.old.refused → IsErr result }
     {
@@ -225,6 +231,7 @@ impl Total {
         ensures latest { (after : List ℕ → Bool) (came : List Arrival) → OnOk result (IsTotalLatest after after self.new came) }
         ensures latest_err { (base inside : List ℕ → Bool) (came : List Arrival)
             → IsTotalLatest base inside self.old came → OnErr result (IsTotalLatest base inside self.new came) }
+        ensures live { OnOk result (self.new.refused ≡ false) }
         ensures refused { OnErr result (self.new.refused ≡ true) }
         ensures stays { IsTrue self.old.refused → IsErr result }
     {

@@ -15,4 +15,4 @@ returns-in_ok-from_front-in-Join-clause-ok g c = λ k came r.
     of_join g.T.Ord.cmp g.T.Time.coords came
     (λ x. IsTimedTable g.T.Ord.cmp g.T.Time.coords (table.Join c.settle-in-Join.new.self) x (arrivals_inside kept came))
     c.in-Join.table k (subst Q c.in-Join.is r)
-    (λ w h. (c.settle-in-Join.ensures kept came (λ t. ap not (sym (c.in_ok-from_front-in-Join.ensures t))) h.0, two_inside kept came h.1))
+    (λ w h. (c.settle-in-Join.ensures.table kept came (λ t. ap not (sym (c.in_ok-from_front-in-Join.ensures t))) h.0, two_inside kept came h.1))

@@ -49,7 +49,7 @@ returns-in-Sequence-clause-table c = λ ins settled before i d st.
     let sent : c.min.result ≡ length (sequence_sent before) = omega arith in
     let P : Kind → Type 0 = λ k. IsNodeTable c.args.flow.now (table.Sequence x) k (past_of ins settled before) in
     let Q : ℕ → Type 0 = λ n. IsSequence gone x came n in
-    subst P (sym is) (subst Q sent (c.from_state-in-Sequence.ensures gone came (inside_or settled (is_told before) came i)))
+    subst P (sym is) (subst Q sent (c.from_state-in-Sequence.ensures.table gone came (inside_or settled (is_told before) came i)))
 
 pub returns-in-Sequence-clause-shape : goal.returns-in-Sequence-clause-shape
 returns-in-Sequence-clause-shape c = sym (bounds-kind c.args.flow.now c.args.id kind.Sequence (sym c.kind.ensures ∙ c.in-Sequence.is))

@@ -36,7 +36,7 @@ returns-in-Total-clause-shape c = sym (bounds-kind c.args.flow.now c.args.id kin
 pub returns-in-Sequence-clause-table : goal.returns-in-Sequence-clause-table
 returns-in-Sequence-clause-table c = λ ins settled.
     let P : Kind → Type 0 = λ k. IsNodeTable c.args.flow.now (table.Sequence c.new-in-Sequence.result) k (past_of ins settled []) in
-    subst P (sym (sym c.kind.ensures ∙ c.in-Sequence.is)) (c.new-in-Sequence.ensures (λ s. settled s || is_told [] s))
+    subst P (sym (sym c.kind.ensures ∙ c.in-Sequence.is)) (c.new-in-Sequence.ensures.table (λ s. settled s || is_told [] s))
 
 pub returns-in-Sequence-clause-shape : goal.returns-in-Sequence-clause-shape
 returns-in-Sequence-clause-shape c = sym (bounds-kind c.args.flow.now c.args.id kind.Sequence (sym c.kind.ensures ∙ c.in-Sequence.is))

@@ -85,7 +85,7 @@ returns-in_ok-epochs_inside-in-Sequence-clause-ok c = λ flow k past r sub told.
     let Q : (StampList → Bool) → Type 0 = λ g. IsSequence g new past.came past.numbered in
     let e : (λ (s : StampList). f s || is_taken past s) ≡ (λ s. f s || past.told s) = λ i s. gone_after (past.settled s) (f s) (past.told s) (sub s) i in
     of_sequence flow past (λ x. IsNodeTable flow (table.Sequence new) x (with_settled f past)) c.in-Sequence.table k (subst P c.in-Sequence.is r)
-    (λ h. subst Q e (c.settle-in-Sequence.ensures (is_taken past) f past.came past.numbered c.in_ok-epochs_inside-in-Sequence.ensures h))
+    (λ h. subst Q e (c.settle-in-Sequence.ensures.table (is_taken past) f past.came past.numbered c.in_ok-epochs_inside-in-Sequence.ensures h))
 
 pub returns-in_ok-epochs_inside-in-Ledger-clause-ok : goal.returns-in_ok-epochs_inside-in-Ledger-clause-ok
 returns-in_ok-epochs_inside-in-Ledger-clause-ok c = λ flow k past r sub told.

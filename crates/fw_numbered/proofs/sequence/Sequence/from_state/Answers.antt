@@ -10,8 +10,8 @@ use Rattle.fw_numbered.specs.declared.sequence.Held.{Held}
 use Rattle.fw_numbered.specs.Sequence.{holds_bag}
 use Rattle.fw_numbered.proofs.sequence.Sequence.from_state.Goals as goal
 
-pub returns : goal.returns
-returns c = λ gone came in'.
+pub returns-clause-table : goal.returns-clause-table
+returns-clause-table c = λ gone came in'.
     record {
       waiting = λ t.
           let none : get (λ (x y : Epoch). nat_cmp x.0 y.0) c.new.result t ≡ None = ap (lookup (is_at (λ (y : Epoch). nat_cmp t.0 y.0))) c.new.ensures.empty in

@@ -7,8 +7,8 @@ use Rattle.fw_numbered.specs.Sequence.{holds_bag}
 use Rattle.fw_numbered.proofs.WaitingLaws.{outside_both}
 use Rattle.fw_numbered.proofs.sequence.Sequence.settle.Goals as goal
 
-pub returns : goal.returns
-returns c = λ gone after came n agree r.
+pub returns-clause-table : goal.returns-clause-table
+returns-clause-table c = λ gone after came n agree r.
     let P : List Arrival → Type 0 = λ xs. IsTable (λ (x y : Epoch). nat_cmp x.0 y.0) (λ (x : Epoch). x.0 ∷ []) holds_bag c.keep_outside.new.contents xs in
     record {
       waiting = subst P (outside_both gone after came)

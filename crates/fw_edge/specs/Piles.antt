@@ -8,6 +8,8 @@ use Rattle.fw_flow.specs.declared.event.Message.{Message}
 use Rattle.fw_flow.specs.Message.{message_cmp}
 use Rattle.fw_model.specs.SortedMessages.{sorted_messages}
 
+-- ---- for the proofs
+
 -- the messages of a map from messages to counts, each as often as its count says
 abbrev pub counted_messages : List (Message × ℕ) → List Message
 counted_messages es = flat_map (λ e. replicate e.1 e.0) es

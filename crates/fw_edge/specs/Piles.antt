@@ -1,4 +1,4 @@
--- How messages are kept: those at a stamp by how often each is there, and all by their stamps.
+-- For the proofs: how messages are kept, those at a stamp by how often each is there, and all by their stamps.
 use Rattle.std.specs.Prelude.{◌≡◌, ◌≢◌, ℕ, ◌<◌, List, [], replicate}
 use Rattle.std.specs.List.{flat_map, AllByRecursion}
 use Rattle.std.specs.List.Sorted.{IsStrictlySortedBy}
@@ -7,8 +7,6 @@ use Rattle.fw_time.specs.Stamp.{Stamp, stamp_cmp}
 use Rattle.fw_flow.specs.declared.event.Message.{Message}
 use Rattle.fw_flow.specs.Message.{message_cmp}
 use Rattle.fw_model.specs.SortedMessages.{sorted_messages}
-
--- ---- for the proofs
 
 -- the messages of a map from messages to counts, each as often as its count says
 abbrev pub counted_messages : List (Message × ℕ) → List Message

@@ -80,7 +80,7 @@ impl Output {
         self.bound
     }
 
-    /// Takes out the recs at the bound, and raises it by one.
+    /// Takes out the recs at the bound, and raises it by one, as it must be able to.
     pub fn acknowledge(&mut self) -> Bag
         requires { self.old.bound + 1 < 2 ^ 64 }
         ensures recs { result.recs ≡ next_recs self.old }

@@ -103,7 +103,8 @@ impl Outputs {
         }
     }
 
-    /// Takes out the recs of an output at its bound, and raises the bound by one. It takes no memory.
+    /// Takes out the recs of an output at its bound, and raises the bound by one, which must be able to rise: `bound` tells it.
+    /// It takes no memory.
     pub fn acknowledge(&mut self, output: NodeId) -> Bag
         requires { (output_at self.old.outputs output).bound + 1 < 2 ^ 64 }
         ensures recs { result.recs ≡ next_recs (output_at self.old.outputs output) }

@@ -12,7 +12,7 @@ use Rattle.fw_bag.specs.declared.rec.Rec.{Rec}
 use Rattle.fw_frontier.specs.Front.{inside}
 use Rattle.fw_flow.specs.declared.choice.OfEdge.{OfEdge}
 use Rattle.fw_flow.specs.declared.event.Message.{Message}
-use Rattle.fw_edge.specs.Bag.{MessagesState}
+use Rattle.fw_edge.specs.Messages.{MessagesState}
 use Rattle.fw_border.specs.Sources.{SourceState, unused_source, source_at, with_source, given_up}
 use Rattle.fw_collect.specs.declared.drops.OfNode.{OfNode}
 use Rattle.fw_collect.specs.Dropped.{Forgets, log_at, log_outside, with_log_outside, log_left, is_inside_edge, is_inside_node, source_left}

@@ -26,7 +26,7 @@ use Rattle.fw_model.specs.Writes.{takes_checkpoints, is_collected, not_collected
 use Rattle.fw_model.proofs.FilterLaws.{filter-in, filter-out, filter-inner}
 use Rattle.fw_model.proofs.SortedLaws.{sorted_messages-filter}
 use Rattle.fw_model.specs.SortedMessages.{sorted_messages}
-use Rattle.fw_edge.specs.Bag.{MessagesState}
+use Rattle.fw_edge.specs.Messages.{MessagesState}
 use Rattle.fw_border.specs.Sources.{SourceState, given_up}
 use Rattle.fw_keep.specs.declared.entry.Entry.{Entry}
 use Rattle.fw_keep.specs.declared.entry.Written as entry

@@ -5,7 +5,7 @@ use Rattle.fw_time.specs.Stamp.{Stamp}
 use Rattle.fw_frontier.specs.Front.{Front, inside}
 use Rattle.fw_flow.specs.declared.choice.OfEdge.{OfEdge}
 use Rattle.fw_model.specs.Filtering.{messages_outside}
-use Rattle.fw_edge.specs.Bag.{MessagesState}
+use Rattle.fw_edge.specs.Messages.{MessagesState}
 use Rattle.fw_border.specs.Sources.{SourceState}
 use Rattle.fw_keep.specs.declared.entry.Entry.{Entry}
 use Rattle.fw_keep.specs.Catalogue.{KeepState, is_among, has_entry}

@@ -19,7 +19,7 @@ use Rattle.fw_keep.specs.declared.entry.Entry.{Entry}
 use Rattle.fw_keep.specs.declared.entry.Written as entry
 use Rattle.fw_keep.specs.declared.entry.Written.TheVariants as written
 use Rattle.fw_keep.specs.Entry.{stamp_of, lies_below}
-use Rattle.fw_edge.specs.Bag.{MessagesState}
+use Rattle.fw_edge.specs.Messages.{MessagesState}
 use Rattle.fw_border.specs.Sources.{SourceState, given_up}
 use Rattle.fw_collect.specs.declared.drops.Drops.{Drops}
 use Rattle.fw_collect.specs.Drops.{IsPlanned, without_batches}
@@ -59,7 +59,8 @@ pub record IsEventAt (sys : System) (h : List SerialEvent) (p : ℕ) (t : Stamp)
   pub there : has_serial serial h ≡ true
   pub only : AllByRecursion (λ (v : SerialEvent). v.serial ≡ serial → (event_node sys.flow v.event ≡ p) × (event_stamp v.event ≡ t)) h
 
--- what an entry of node p holds is what a write of the machine holds
+-- what an entry of node p holds is what a write of the machine holds, as far as a collection looks: of a checkpoint its frontier,
+-- and of an event its place in the history
 abbrev pub IsWrittenOf : System → List SerialEvent → ℕ → entry.Written → Written → Type 0
 IsWrittenOf sys h p (written.Checkpoint recorded stamps) (checkpoint f low) =
     (recorded.front ≡ f) × (takes_checkpoints (policy_of sys.flow p) ≡ true)

@@ -12,7 +12,7 @@ use Rattle.std.specs.Ordering.{is_eq, is_gt, is_le, ordering_then, match_orderin
 use Rattle.std.specs.Cmp.Lexicographic.{slice_cmp}
 use Rattle.std.proofs.lemmas.Bool.{cond_both, cond-true, cond-false, cases_Bool, both_ways, ltb-true, ltb-false}
 use Rattle.std.proofs.lemmas.Cmp.{tied_itself, eq_by_cmp_equiv}
-use Rattle.std.proofs.lemmas.List.{append_assoc, nil_from_length}
+use Rattle.std.proofs.lemmas.List.{append_assoc, append-nil, nil_from_length}
 use Rattle.std.proofs.lemmas.List.Elements.{filter-append}
 use Rattle.std.proofs.lemmas.Map.{lookup-none}
 use Rattle.std.proofs.lemmas.Map.Entries.{none_below_head, none_past_head}
@@ -29,6 +29,7 @@ use Rattle.fw_model.specs.SortedMessages.{with_message, with_messages, sorted_me
 use Rattle.fw_model.proofs.CmpLaws.{stamp_total, stamp_cmp-same, stamp_cmp-equal}
 use Rattle.fw_model.proofs.FilterLaws.{filter-all, filter-none}
 use Rattle.fw_model.proofs.SortedLaws.{IsAscendingMessages, ascending-sorted_messages, sorted_messages-ascending, sorted_messages-filter, sorted_messages-twice, each-with_message}
+use Rattle.fw_edge.specs.Messages.{ArePutAfter}
 use Rattle.fw_edge.specs.Piles.{piled_messages, IsPile, ArePiles}
 use Rattle.fw_edge.specs.Stamps.{counted_before, counted_stamps}
 use Rattle.fw_edge.proofs.PileLaws.{with_message-some}
@@ -494,10 +495,24 @@ pile_passes p t v a false h = filter-none (λ m. p m.at) v (each-weaker (λ m. m
 
 -- ---- messages put in one after the other
 
--- the last is put in first
-pub with_messages-last : (ms : List Message) (m : Message) (xs : List Message) → with_messages (ms ++ m ∷ []) xs ≡ with_messages ms (with_message m xs)
-with_messages-last [] m xs = refl
-with_messages-last (x ∷ ms) m xs = ap (with_message x) (with_messages-last ms m xs)
+-- ---- many are put in
+
+-- none is yet
+pub put_after-none : (messages old : List Message) → ArePutAfter messages messages old old
+put_after-none messages old = record { put = []; split = sym (append-nil messages); there = refl }
+
+-- the last one that is left is put in
+pub put_after-more : (rest left messages old between : List Message) (m : Message) (new : List Message) → rest ≡ left ++ m ∷ [] → new ≡ with_message m between
+    → ArePutAfter rest messages old between → ArePutAfter left messages old new
+put_after-more rest left messages old between m new is n a = record {
+  put = m ∷ a.put;
+  split = a.split ∙ ap (λ xs. xs ++ a.put) is ∙ append_assoc left (m ∷ []) a.put;
+  there = n ∙ ap (with_message m) a.there;
+}
+
+-- all are
+pub put_after-all : (left messages old new : List Message) → left ≡ [] → ArePutAfter left messages old new → new ≡ with_messages messages old
+put_after-all left messages old new e a = a.there ∙ ap (λ xs. with_messages xs old) (sym (a.split ∙ ap (λ xs. xs ++ a.put) e))
 
 -- ---- the stamps
 

@@ -1,3 +1,3 @@
-pub mod Bag
+pub mod Messages
 pub mod Piles
 pub mod Stamps

@@ -1,4 +1,4 @@
--- How messages are kept: those at a stamp by how often each is there, and all by their stamps.
+-- For the proofs: how messages are kept, those at a stamp by how often each is there, and all by their stamps.
 use Rattle.std.specs.Prelude.{◌≡◌, ◌≢◌, ℕ, ◌<◌, List, [], replicate}
 use Rattle.std.specs.List.{flat_map, AllByRecursion}
 use Rattle.std.specs.List.Sorted.{IsStrictlySortedBy}

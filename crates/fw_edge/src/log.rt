@@ -21,7 +21,7 @@ pub struct MsgLog {
 }
 
 impl Model for MsgLog {
-    ghost use Rattle.fw_edge.specs.Bag.{MessagesState};
+    ghost use Rattle.fw_edge.specs.Messages.{MessagesState};
 
     ghost Value = { MessagesState };
 

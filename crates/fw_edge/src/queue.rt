@@ -1,13 +1,15 @@
 //! What is pending on an edge.
-ghost use Rattle.std.specs.Prelude.{◌≡◌, ◌↔◌, [], false, true, find, IsTrue, IsErr, IfSome, IfNone, OnOk, OnErr};
+ghost use Rattle.std.specs.Prelude.{◌≡◌, ◌↔◌, List, [], false, true, find, IsTrue, IsErr, IfSome, IfNone, OnOk, OnErr};
 ghost use Rattle.std.specs.Option.{option_copied};
 ghost use Rattle.fw_time.specs.Stamp.{same};
 ghost use Rattle.fw_frontier.specs.Front.{inside};
+ghost use Rattle.fw_flow.specs.declared.event.Message.{Message};
 ghost use Rattle.fw_flow.specs.Counting.{how_many};
 ghost use Rattle.fw_flow.specs.Message.{messages_without};
 ghost use Rattle.fw_model.specs.Filtering.{messages_from};
 ghost use Rattle.fw_model.specs.SortedMessages.{with_message, with_messages, sorted_messages};
 ghost use Rattle.fw_model.specs.Steps.{is_asked};
+ghost use Rattle.fw_edge.specs.Messages.{ArePutAfter};
 ghost use Rattle.fw_edge.specs.Stamps.{counted_stamps};
 
 use crate::bag::MessageBag;
@@ -29,7 +31,7 @@ pub struct Queue {
 }
 
 impl Model for Queue {
-    ghost use Rattle.fw_edge.specs.Bag.{MessagesState};
+    ghost use Rattle.fw_edge.specs.Messages.{MessagesState};
 
     ghost Value = { MessagesState };
 
@@ -64,11 +66,13 @@ impl Queue {
         put
     }
 
-    /// Puts these messages in. It fails where `put` of one of them would, and then some of them may be in.
+    /// Puts these messages in, from the last one on. It fails where `put` of one of them would, and then those after it are in.
     pub fn put_all(&mut self, messages: Vec<Message>) -> Result<(), AllocError>
         ensures ok { OnOk result
             (self.new ≡ record { messages = with_messages messages.items self.old.messages; refused = false }) }
         ensures err { OnErr result (self.new.refused ≡ true) }
+        ensures partly { OnErr result
+            ((left : List Message) × ArePutAfter left messages.items self.old.messages self.new.messages) }
         ensures refused { IsTrue self.old.refused → IsErr result }
     {
         if self.refused {

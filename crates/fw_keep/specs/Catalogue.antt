@@ -42,15 +42,6 @@ pub record IsCatalogue (keep : KeepState) : Type 0 where
   pub drawn : AllByRecursion (λ id. id < keep.next) (ids_of keep.entries)
   pub waiting_drawn : AllByRecursion (λ id. id < keep.next) keep.waiting
 
--- The entry has the id, and no other one of these has it.
-pub record IsOnly (es : List Entry) (id : ℕ) (e : Entry) : Type 0 where
-  pub named : e.id ≡ id
-  pub only : (other : Entry) → Contains es other → other.id ≡ id → other ≡ e
-
--- the entries are acknowledged
-abbrev pub AreAcknowledged : List Entry → Type 0
-AreAcknowledged es = AllByRecursion (λ (e : Entry). e.acknowledged ≡ true) es
-
 -- the id of the first entry in flight, if there is one
 abbrev pub oldest : List Entry → Option ℕ
 oldest [] = None
@@ -67,3 +58,14 @@ without goes keep = record keep {
   entries = filter (λ e. not (goes e)) keep.entries;
   waiting = keep.waiting ++ ids_of (filter goes keep.entries);
 }
+
+-- ---- for the proofs
+
+-- The entry has the id, and no other one of these has it.
+pub record IsOnly (es : List Entry) (id : ℕ) (e : Entry) : Type 0 where
+  pub named : e.id ≡ id
+  pub only : (other : Entry) → Contains es other → other.id ≡ id → other ≡ e
+
+-- the entries are acknowledged
+abbrev pub AreAcknowledged : List Entry → Type 0
+AreAcknowledged es = AllByRecursion (λ (e : Entry). e.acknowledged ≡ true) es

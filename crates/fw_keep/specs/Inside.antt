@@ -13,6 +13,8 @@ state_of keep = record {
   refused = keep.refused;
 }
 
+-- ---- for the proofs
+
 -- It stands for the state of a catalogue; so many of its first entries as it says are there and acknowledged; and there is
 -- room for the ids of its entries among those that wait.
 pub record IsSoundInside (keep : Inside) : Type 0 where

@@ -30,10 +30,6 @@ IsEmptyStore records = ForSome records (λ held. held ≡ map.empty)
 abbrev pub IsStored : KeepState → Option Records → Type 0
 IsStored keep records = ForSome records (λ held. (id : ℕ) → is_some (map.get held id) ≡ is_held keep id)
 
--- where the store tells its records, there is one under each of the ids
-abbrev pub AreThere : List ℕ → Option Records → Type 0
-AreThere ids records = ForSome records (λ held. AllByRecursion (λ id. IsSome (map.get held id)) ids)
-
 -- the records without those under the ids
 abbrev pub without_ids : List ℕ → Records → Records
 without_ids [] held = held
@@ -48,13 +44,6 @@ pub record Sweeps (waiting : List ℕ) (old : Option Records) (left : List ℕ) 
 -- the bytes spell no record that can be that of the entry
 abbrev pub SpellsNone : Dataflow → Entry → List ℕ → Type 0
 SpellsNone flow e bytes = (r : Record) → IsSound r → bytes ≡ spelling r → IsRecordOf flow e r → ⊥
-
--- What reading bytes answered for an entry: the record that they spell, which can be the entry's, or that they spell none.
-abbrev pub ReadsAs : Dataflow → Entry → List ℕ → Result Record KeepFault → Type 0
-ReadsAs flow e bytes (Ok r) = IsSound r × (bytes ≡ spelling r) × IsRecordOf flow e r
-ReadsAs flow e bytes (Err (fault.Damaged at kept)) = (at ≡ e.id) × (kept.items ≡ bytes) × SpellsNone flow e bytes
-ReadsAs flow e bytes (Err fault.StoreFault) = ⊥
-ReadsAs flow e bytes (Err fault.NoMemory) = Unit {0}
 
 -- What fetching the record of an entry answered, of the bytes that the store gave: Ok and `Damaged` come by reading these.
 abbrev pub Fetches : Dataflow → Entry → Option (ℕ × List ℕ) → Result Record KeepFault → Type 0
@@ -77,3 +66,16 @@ IsUndamaged (Ok x) = Unit {0}
 IsUndamaged (Err (fault.Damaged at bytes)) = ⊥
 IsUndamaged (Err fault.StoreFault) = Unit {0}
 IsUndamaged (Err fault.NoMemory) = Unit {0}
+
+-- ---- for the proofs
+
+-- where the store tells its records, there is one under each of the ids
+abbrev pub AreThere : List ℕ → Option Records → Type 0
+AreThere ids records = ForSome records (λ held. AllByRecursion (λ id. IsSome (map.get held id)) ids)
+
+-- What reading bytes answered for an entry: the record that they spell, which can be the entry's, or that they spell none.
+abbrev pub ReadsAs : Dataflow → Entry → List ℕ → Result Record KeepFault → Type 0
+ReadsAs flow e bytes (Ok r) = IsSound r × (bytes ≡ spelling r) × IsRecordOf flow e r
+ReadsAs flow e bytes (Err (fault.Damaged at kept)) = (at ≡ e.id) × (kept.items ≡ bytes) × SpellsNone flow e bytes
+ReadsAs flow e bytes (Err fault.StoreFault) = ⊥
+ReadsAs flow e bytes (Err fault.NoMemory) = Unit {0}

@@ -24,8 +24,8 @@ use std::marker::Model;
 
 /// The writes of nodes in order of asking, and which bytes of the store are without an entry and wait for a sweep.
 ///
-/// A catalogue to which memory was once refused asks no more writes, fetches and sweeps nothing more, and says so each time;
-/// its other calls go by what it holds, and take no memory.
+/// A catalogue to a call of which that changes it memory was once refused asks no more writes, fetches and sweeps nothing more,
+/// and says so each time; its other calls go by what it holds, and take no memory.
 #[derive(Debug, Drop)]
 pub struct Keep {
     alloc: Global,
@@ -89,7 +89,8 @@ impl Keep {
     }
 
     /// Puts a record under the next id, as a write in flight. The stamps say where the node's events are and where they sent:
-    /// the entry of a checkpoint keeps them, that of an event does not.
+    /// the entry of a checkpoint keeps them, that of an event does not. The next id must be below 2^63: `next_id` tells it, and
+    /// each call of `ask` raises it by one.
     ///
     /// # Errors
     ///

@@ -15,7 +15,9 @@ use Rattle.fw_model.specs.History.{pending_messages, is_owed_notice, was_notifie
 use Rattle.fw_model.specs.LawsOfProgress.{IsStuck}
 use Rattle.fw_model.specs.Machine.{family_of}
 use Rattle.fw_progress.specs.declared.counts.Counts.{Counts}
+use Rattle.fw_progress.specs.declared.growth.Growth.{Growth}
 use Rattle.fw_progress.specs.Counts.{pending_of, owed_of, batches_in, injected_in, sent_of, is_in}
+use Rattle.fw_progress.specs.Growths.{AreGrowths}
 use Rattle.fw_progress.specs.Progress.{Standing}
 use Rattle.fw_progress.specs.Tally.{times_in, has_one}
 
@@ -56,9 +58,13 @@ Follows flow v sent old new =
     (sys : System) (h : List Event) → sys.flow ≡ flow → HasEpochs sys → IsLegal sys (v ∷ h) → stamps_sent sys h v ≡ sent
     → StandsFor sys h old → StandsFor sys (v ∷ h) new
 
--- Nothing is counted or settled anew, and the kept frontiers are complete after each history for which progress stood.
+-- Nothing is counted or settled anew, the kept frontiers only grew, no node waits, and the kept frontiers are complete after each
+-- history for which progress stood.
 pub record IsFresh (flow : Dataflow) (old new : Standing) : Type 0 where
   pub counts : new.counts ≡ old.counts
   pub settled : new.settled ≡ old.settled
+  pub growths : List Growth
+  pub grown : AreGrowths flow old.kept growths new.kept
+  pub none_waits : new.work ≡ []
   pub ready : new.refused ≡ false
   pub complete : (sys : System) (h : List Event) → sys.flow ≡ flow → StandsFor sys h old → StandsFor sys h new × IsComplete sys h (family_of flow new.kept)

@@ -1,5 +1,5 @@
 //! What an event changes in the counts.
-ghost use Rattle.std.specs.Prelude.{◌≡◌, ◌<◌, [], true, length, IsTrue, IfOk};
+ghost use Rattle.std.specs.Prelude.{◌≡◌, ◌<◌, ◌↔◌, [], true, length, IsTrue, IfOk};
 ghost use Rattle.std.specs.List.{AllByRecursion};
 ghost use Rattle.fw_time.specs.Stamp.{in_domain};
 ghost use Rattle.fw_flow.specs.Dataflow.{receiver, bounds_of};
@@ -162,7 +162,7 @@ pub(crate) fn injected(
 
 /// Whether each of the stamps is one of the domain.
 fn are_in_domain(stamps: &[Stamp], bounds: &Bounds) -> bool
-    ensures { IsTrue result → AllByRecursion (λ s. in_domain bounds.now s ≡ true) stamps.now }
+    ensures { IsTrue result ↔ AllByRecursion (λ s. in_domain bounds.now s ≡ true) stamps.now }
 {
     for stamp in stamps {
         if !stamp.in_domain(bounds) {
@@ -174,7 +174,7 @@ fn are_in_domain(stamps: &[Stamp], bounds: &Bounds) -> bool
 
 /// Whether the node can send at each of the stamps: on each of its out-edges they are stamps of the receiver's domain.
 pub fn can_send(flow: &Flow, node: NodeId, stamps: &[Stamp]) -> bool
-    ensures { IsTrue result → CanSend flow.now node stamps.now }
+    ensures { IsTrue result ↔ CanSend flow.now node stamps.now }
 {
     let edges = flow.out_edges(node);
     for edge in edges {

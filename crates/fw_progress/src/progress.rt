@@ -235,7 +235,8 @@ impl Progress {
         growths
     }
 
-    /// The complete frontier of a node. The error is want of memory.
+    /// The complete frontier of a node. The kept frontiers are brought up first; how they grew is not told, and the steps of it
+    /// are not counted. The error is want of memory.
     pub fn complete(
         &mut self,
         alloc: Global,
@@ -256,7 +257,8 @@ impl Progress {
         front
     }
 
-    /// Whether the node may be notified of the stamp. The error is want of memory.
+    /// Whether the node may be notified of the stamp. The kept frontiers are brought up first; how they grew is not told, and
+    /// the steps of it are not counted. The error is want of memory.
     pub fn can_notify(
         &mut self,
         alloc: Global,
@@ -282,7 +284,8 @@ impl Progress {
     }
 
     /// What is settled once the nodes that are not failed settle what is complete; `None` exactly where none of them has more
-    /// to settle. It settles nothing (`settle`). The error is want of memory.
+    /// to settle. It settles nothing (`settle`). The kept frontiers are brought up first; how they grew is not told, and the
+    /// steps of it are not counted. The error is want of memory.
     pub fn grows(
         &mut self,
         alloc: Global,

@@ -1,5 +1,5 @@
 //! How many there are of each stamp.
-ghost use Rattle.std.specs.Prelude.{◌≡◌, [], drop, IsTrue, IfOk};
+ghost use Rattle.std.specs.Prelude.{◌≡◌, [], drop, IsTrue, IfOk, OnErr};
 ghost use Rattle.std.specs.List.{AllByRecursion, list_any};
 ghost use Rattle.std.specs.Map.{keys_of};
 ghost use Rattle.fw_time.specs.Stamp.{lesser};
@@ -52,9 +52,10 @@ impl Tally {
         has_lesser(&self.counts, at)
     }
 
-    /// One more of a stamp. The error is want of memory, or that the number would not fit 64 bits.
+    /// One more of a stamp. The error is want of memory, or that the number would not fit 64 bits; after it all is as it was.
     pub fn add(&mut self, at: &Stamp) -> Result<(), AllocError>
-        ensures { IfOk result (λ u. HasOneMore at.now self.old self.new) }
+        ensures ok { IfOk result (λ u. HasOneMore at.now self.old self.new) }
+        ensures err { OnErr result (self.new ≡ self.old) }
     {
         add_one(&mut self.counts, at)
     }
@@ -100,9 +101,10 @@ fn has_lesser(counts: &BTreeMap<Stamp, u64>, at: &Stamp) -> bool
     counts.keys().any(|stamp| stamp.leq(at) && !at.leq(stamp))
 }
 
-// One more of a stamp.
+// One more of a stamp; all is as it was after an error.
 fn add_one(counts: &mut BTreeMap<Stamp, u64>, at: &Stamp) -> Result<(), AllocError>
-    ensures { IfOk result (λ u. HasOneMore at.now counts.old.entries counts.new.entries) }
+    ensures ok { IfOk result (λ u. HasOneMore at.now counts.old.entries counts.new.entries) }
+    ensures err { OnErr result (counts.new.entries ≡ counts.old.entries) }
 {
     let more = times_of(counts, at).checked_add(1).ok_or(AllocError)?;
     counts.insert(at.copy(), more)?;

@@ -64,7 +64,7 @@ fn answer(alloc: Global, sources: &mut Sources, line: &str) -> Result<String, No
         "batches" | "batch" => return shown(alloc, sources.batches(source)),
         "advance" => sources.advance(source),
         "roll" => sources.roll_to(source, &cut_of(alloc, rest)?),
-        "acknowledge" => sources.acknowledge(source, &front_of(alloc, rest)?),
+        "give_up" => sources.give_up(source, &front_of(alloc, rest)?),
         "next" => {}
         _ => return Err(NoAnswer::NotSpelled),
     }

@@ -3,8 +3,8 @@ use Rattle.fw_progress.specs.Tally.{times_in, HasOneMore}
 use Rattle.fw_progress.proofs.TallyLaws.{one_more}
 use Rattle.fw_progress.proofs.tally.add_one.Goals as goal
 
-pub returns : goal.returns
-returns c =
+pub returns-clause-ok : goal.returns-clause-ok
+returns-clause-ok c =
     let old = c.args.counts.now.entries in
     let new = c.insert.new.self.entries in
     let raised : c.in_ok-more.more ≡ c.times_of.result + 1 = search rules in

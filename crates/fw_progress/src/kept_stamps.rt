@@ -2,12 +2,11 @@
 ghost use Rattle.std.specs.Prelude.{◌≡◌, ◌||◌, ◌&&◌, not, [], ◌∷◌, ◌++◌, List, ℕ, filter, IfOk, OnErr};
 ghost use Rattle.std.specs.List.{list_any};
 ghost use Rattle.std.specs.BTreeSet.{insert_key};
-ghost use Rattle.fw_time.specs.declared.stamp.Bounds.{Bounds as Domain};
 ghost use Rattle.fw_time.specs.Stamp.{lesser, leq, stamp_cmp};
 ghost use Rattle.fw_frontier.specs.Frontier.{Frontier, Within, cover};
 ghost use Rattle.fw_frontier.specs.Front.{inside, frontier_of, IsFrontOf};
 ghost use Rattle.fw_model.specs.Thinned.{IsThinned};
-ghost use Rattle.fw_progress.specs.Traces.{has_greater_inside, thinned, AreOf};
+ghost use Rattle.fw_progress.specs.Traces.{has_greater_inside, thinned, AreOf, StandForOneMore, IsSettledTo, IsCutTo, IsThinnedTo};
 
 use fw_frontier::Front;
 use fw_time::{Bounds, Stamp};
@@ -44,8 +43,7 @@ impl KeptStamps {
 
     /// One stamp more. The error is want of memory, which leaves the stamps as they were.
     pub fn add(&mut self, at: &Stamp) -> Result<(), AllocError>
-        ensures thinned { (base : Frontier) (all : List (List ℕ)) → IsThinned base all self.old
-            → IfOk result (λ u. IsThinned base (at.now ∷ all) self.new) }
+        ensures thinned { IfOk result (λ u. StandForOneMore at.now self.old self.new) }
         ensures value { IfOk result (λ u. self.new ≡ insert_key stamp_cmp self.old at.now) }
         ensures err { OnErr result (self.new ≡ self.old) }
     {
@@ -56,9 +54,7 @@ impl KeptStamps {
     /// Thins the stamps inside a larger base: of those inside, the ones that are lesser than another go. The error is want of
     /// memory, which leaves the stamps as they were.
     pub fn settle(&mut self, base: &Front) -> Result<(), AllocError>
-        ensures thinned { (bounds : Domain) (before : Frontier) (all : List (List ℕ)) → AreOf bounds all
-            → Within before (frontier_of bounds base.now) → IsThinned before all self.old
-            → IfOk result (λ u. IsThinned (frontier_of bounds base.now) all self.new) }
+        ensures thinned { IfOk result (λ u. IsSettledTo base.now self.old self.new) }
         ensures value { IfOk result (λ u. self.new ≡ thinned base.now self.old) }
         ensures err { OnErr result (self.new ≡ self.old) }
     {
@@ -69,9 +65,7 @@ impl KeptStamps {
 
     /// Leaves the stamps inside a frontier, which holds the base, as a cut to it does. It takes no memory.
     pub fn keep_inside(&mut self, f: &Front)
-        ensures thinned { (bounds : Domain) (base : Frontier) (all : List (List ℕ)) → AreOf bounds all
-            → Within base (frontier_of bounds f.now) → IsThinned base all self.old
-            → IsThinned base (filter (frontier_of bounds f.now) all) self.new }
+        ensures thinned { IsCutTo f.now self.old self.new }
         ensures value { self.new ≡ filter (inside f.now) self.old }
     {
         self.stamps.retain(|stamp| f.contains(stamp));
@@ -80,9 +74,7 @@ impl KeptStamps {
     /// The stamps inside a frontier, which holds the base, thinned with the frontier as base, in ascending order. The error is
     /// want of memory.
     pub fn thinned(&self, f: &Front) -> Result<Vec<Stamp>, AllocError>
-        ensures thinned { (bounds : Domain) (base : Frontier) (all : List (List ℕ)) → AreOf bounds all
-            → Within base (frontier_of bounds f.now) → IsThinned base all self.now
-            → IfOk result (λ kept. IsThinned (frontier_of bounds f.now) (filter (frontier_of bounds f.now) all) kept.items) }
+        ensures thinned { IfOk result (λ kept. IsThinnedTo f.now self.now kept.items) }
         ensures value { IfOk result (λ kept. kept.items ≡ thinned f.now (filter (inside f.now) self.now)) }
     {
         let tops = greatest_inside(self.alloc, &self.stamps, f)?;

@@ -19,6 +19,7 @@ mod settle;
 mod start;
 mod tally;
 mod target;
+mod traces;
 mod worklist;
 
 pub use counts::Counts;
@@ -27,3 +28,4 @@ pub use growth::{Growth, Growths};
 pub use kept_stamps::KeptStamps;
 pub use progress::Progress;
 pub use tally::Tally;
+pub use traces::Traces;

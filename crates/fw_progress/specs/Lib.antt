@@ -6,3 +6,4 @@ pub mod Progress
 pub mod Settle
 pub mod Start
 pub mod Tally
+pub mod Traces

@@ -3,12 +3,15 @@
 //! `Progress` counts what is pending on the edges and owed to the nodes, what inputs injected and sequences sent, by one
 //! call for each event. Of each node it keeps a frontier within its complete one; `Progress::refresh` widens those that can
 //! be widened until each is complete, at the cost of what changed.
+//!
+//! `KeptStamps` are the stamps of a node's events that a recovery asks for, thinned inside a base.
 #![tactic(auto)]
 
 mod counts;
 mod events;
 mod grow;
 mod growth;
+mod kept_stamps;
 mod notices;
 mod progress;
 mod refresh;
@@ -16,10 +19,13 @@ mod settle;
 mod start;
 mod tally;
 mod target;
+mod traces;
 mod worklist;
 
 pub use counts::Counts;
 pub use events::can_send;
 pub use growth::{Growth, Growths};
+pub use kept_stamps::KeptStamps;
 pub use progress::Progress;
 pub use tally::Tally;
+pub use traces::Traces;

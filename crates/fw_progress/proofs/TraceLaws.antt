@@ -1,0 +1,298 @@
+-- Kept stamps: one more of them, thinned inside a larger base, and those inside a cut.
+use Rattle.std.proofs.Common.{◌≡◌, ◌⊎◌, inl, inr, ℕ, Bool, true, false, not, ◌&&◌, ◌||◌, cond, List, [], ◌∷◌, ◌++◌, refl, sym, ap, subst, ◌∙◌, arith}
+use Rattle.std.specs.Prelude.{filter}
+use Rattle.std.specs.List.{AllByRecursion, Contains, list_any}
+use Rattle.std.specs.BTreeSet.{insert_key}
+use Rattle.std.specs.declared.cmp.Ordering.{Ordering}
+use Rattle.std.specs.declared.cmp.Ordering.TheVariants.{Less, Equal, Greater}
+use Rattle.std.specs.Ordering.{is_eq, match_ordering}
+use Rattle.std.proofs.lemmas.Bool.{and_parts, and_from, or_cases, or_left, or_right, cases_Bool, both_ways, false_from_ne_true, not-true}
+use Rattle.std.proofs.lemmas.List.Elements.{Contains-append_right}
+use Rattle.fw_time.specs.Stamp.{Stamp, leq, lesser, in_domain, stamp_cmp}
+use Rattle.fw_time.specs.declared.stamp.Bounds.{Bounds}
+use Rattle.fw_time.proofs.EachLaws.{each-weaker, each-filter, each_of-filter, each-kept}
+use Rattle.fw_time.proofs.StampLaws.{leq-refl, leq-trans}
+use Rattle.fw_frontier.specs.Frontier.{Frontier, Within, cover}
+use Rattle.fw_frontier.specs.Front.{Front, inside, frontier_of}
+use Rattle.fw_frontier.proofs.InsideLaws.{inside-closed}
+use Rattle.fw_model.specs.Thinned.{IsBelowKept, IsThinned}
+use Rattle.fw_model.proofs.CmpLaws.{stamp_cmp-equal}
+use Rattle.fw_model.proofs.ThinnedLaws.{each-contained, thinned-covers}
+use Rattle.fw_progress.specs.Traces.{has_greater_inside, thinned, AreOf}
+
+-- ---- what a list has
+
+contains-head : (s : Stamp) (ss : List Stamp) → Contains (s ∷ ss) s
+contains-head s ss = (0, omega arith, refl)
+
+contains-tail : (s : Stamp) (ss : List Stamp) (t : Stamp) → Contains ss t → Contains (s ∷ ss) t
+contains-tail s ss t c = Contains-append_right (s ∷ []) ss t c
+
+-- each of a list is so, where each that it has is
+each-had : (P : Stamp → Type 0) (ss : List Stamp) → ((s : Stamp) → Contains ss s → P s) → AllByRecursion P ss
+each-had P [] f = tt
+each-had P (s ∷ ss) f = (f s (contains-head s ss), each-had P ss (λ t c. f t (contains-tail s ss t c)))
+
+each-itself : (ss : List Stamp) → AllByRecursion (Contains ss) ss
+each-itself ss = each-had (Contains ss) ss (λ s c. c)
+
+has-passed : (test : Stamp → Bool) (ss : List Stamp) (s : Stamp) → Contains ss s → test s ≡ true → Contains (filter test ss) s
+has-passed test ss s c k =
+    each-contained (λ t. test t ≡ true → Contains (filter test ss) t) s ss c (each_of-filter (Contains (filter test ss)) test ss (each-itself (filter test ss))) k
+
+-- ---- one stamp more
+
+insert-each : (P : Stamp → Type 0) (ss : List Stamp) (at : Stamp) → P at → AllByRecursion P ss → AllByRecursion P (insert_key stamp_cmp ss at)
+insert-each P [] at p a = (p, tt)
+insert-each P (s ∷ ss) at p a = by (stamp_cmp at s) (insert-each P ss at p a.1)
+  where
+    by : (o : Ordering) → AllByRecursion P (insert_key stamp_cmp ss at) → AllByRecursion P (match_ordering o (at ∷ s ∷ ss) (s ∷ ss) (s ∷ insert_key stamp_cmp ss at))
+    by Less rest = (p, a)
+    by Equal rest = a
+    by Greater rest = (a.0, rest)
+
+each_of-insert : (P : Stamp → Type 0) (ss : List Stamp) (at : Stamp) → AllByRecursion P (insert_key stamp_cmp ss at) → P at × AllByRecursion P ss
+each_of-insert P [] at a = (a.0, tt)
+each_of-insert P (s ∷ ss) at a = by (stamp_cmp at s) refl a (λ b. each_of-insert P ss at b)
+  where
+    by : (o : Ordering) → stamp_cmp at s ≡ o → AllByRecursion P (match_ordering o (at ∷ s ∷ ss) (s ∷ ss) (s ∷ insert_key stamp_cmp ss at))
+        → (AllByRecursion P (insert_key stamp_cmp ss at) → P at × AllByRecursion P ss) → P at × AllByRecursion P (s ∷ ss)
+    by Less e b rest = (b.0, b.1)
+    by Equal e b rest = (subst P (sym (stamp_cmp-equal at s (ap is_eq e))) b.0, b)
+    by Greater e b rest = let r = rest b.1 in (r.0, (b.0, r.1))
+
+-- a kept stamp that is greater stays so in a longer list
+keeps-below : (base : Frontier) (kept new : List Stamp) → ((s : Stamp) → Contains kept s → base s ≡ true → Contains new s) → (t : Stamp) → IsBelowKept base kept t → IsBelowKept base new t
+keeps-below base kept new f t k = record { above = k.above; is_kept = f k.above k.is_kept k.inside; inside = k.inside; below = k.below }
+
+pub thinned-add : (base : Frontier) (all kept : List Stamp) (at : Stamp) → IsThinned base all kept → IsThinned base (at ∷ all) (insert_key stamp_cmp kept at)
+thinned-add base all kept at h =
+    let new = insert_key stamp_cmp kept at in
+    let has = each_of-insert (Contains new) kept at (each-itself new) in
+    let stays : (s : Stamp) → Contains kept s → Contains new s = λ s c. each-contained (Contains new) s kept c has.1 in
+    record {
+      among = insert-each (Contains (at ∷ all)) kept at (contains-head at all)
+          (each-weaker (Contains all) (Contains (at ∷ all)) kept (λ s c. contains-tail at all s c) h.among);
+      outside = ((λ o. has.0), each-weaker (λ t. base t ≡ false → Contains kept t) (λ t. base t ≡ false → Contains new t) all (λ t f o. stays t (f o)) h.outside);
+      inside = (
+        (λ i. record { above = at; is_kept = has.0; inside = i; below = leq-refl at }),
+        each-weaker (λ t. base t ≡ true → IsBelowKept base kept t) (λ t. base t ≡ true → IsBelowKept base new t) all
+            (λ t f i. keeps-below base kept new (λ s c b. stays s c) t (f i)) h.inside,
+      );
+    }
+
+-- ---- the greatest ones
+
+lesser-parts : (s t : Stamp) → lesser s t ≡ true → (leq s t ≡ true) × (leq t s ≡ false)
+lesser-parts s t k = let p = and_parts (leq s t) (not (leq t s)) k in (p.0, not-true (leq t s) p.1)
+
+lesser-from : (s t : Stamp) → leq s t ≡ true → leq t s ≡ false → lesser s t ≡ true
+lesser-from s t l n = and_from (leq s t) (not (leq t s)) l (ap not n)
+
+-- below what is lesser
+lesser-below : (s t u : Stamp) → leq s t ≡ true → lesser t u ≡ true → lesser s u ≡ true
+lesser-below s t u l k =
+    let p = lesser-parts t u k in
+    lesser-from s u (leq-trans s t u l p.0) (false_from_ne_true (leq u s) (λ e. both_ways (leq u t) p.1 (leq-trans u s t e l)))
+
+-- lesser than what is below
+lesser-above : (s t u : Stamp) → lesser s t ≡ true → leq t u ≡ true → lesser s u ≡ true
+lesser-above s t u k l =
+    let p = lesser-parts s t k in
+    lesser-from s u (leq-trans s t u p.0 l) (false_from_ne_true (leq u s) (λ e. both_ways (leq t s) p.1 (leq-trans t u s l e)))
+
+lesser-irrefl : (s : Stamp) → lesser s s ≡ false
+lesser-irrefl s = false_from_ne_true (lesser s s) (λ k. both_ways (leq s s) (lesser-parts s s k).1 (leq-refl s))
+
+or-none : (a b : Bool) → a ≡ false → b ≡ false → (a || b) ≡ false
+or-none true b e f = e
+or-none false b e f = f
+
+has-below : (f : Front) (ss : List Stamp) (s t : Stamp) → leq s t ≡ true → has_greater_inside f ss t ≡ true → has_greater_inside f ss s ≡ true
+has-below f [] s t l k = k
+has-below f (x ∷ xs) s t l k = elim (or_cases (inside f x && lesser t x) (has_greater_inside f xs t) k) [
+  | inl e ↦
+      let p = and_parts (inside f x) (lesser t x) e in
+      or_left (inside f x && lesser s x) (has_greater_inside f xs s) (and_from (inside f x) (lesser s x) p.0 (lesser-below s t x l p.1))
+  | inr e ↦ or_right (inside f x && lesser s x) (has_greater_inside f xs s) (has-below f xs s t l e)
+]
+
+-- a stamp at or above this one that is inside, and than which none of these that are inside is greater
+record IsGreatest (f : Front) (ss : List Stamp) (s m : Stamp) : Type 0 where
+  there : (s ≡ m) ⊎ Contains ss m
+  inside_f : inside f m ≡ true
+  below : leq s m ≡ true
+  none : has_greater_inside f ss m ≡ false
+
+greatest : (f : Front) (ss : List Stamp) (s : Stamp) → inside f s ≡ true → (m : Stamp) × IsGreatest f ss s m
+greatest f [] s i = (s, record { there = inl refl; inside_f = i; below = leq-refl s; none = refl })
+greatest f (x ∷ xs) s i =
+    let g = greatest f xs s i in
+    let m = g.0 in
+    let k = g.1 in
+    elim (cases_Bool (inside f x && lesser m x)) [
+      | inl e ↦
+          let p = and_parts (inside f x) (lesser m x) e in
+          let l = (lesser-parts m x p.1).0 in (
+            x,
+            record {
+              there = inr (contains-head x xs);
+              inside_f = p.0;
+              below = leq-trans s m x k.below l;
+              none = or-none (inside f x && lesser x x) (has_greater_inside f xs x)
+                  (false_from_ne_true (inside f x && lesser x x) (λ b. both_ways (lesser x x) (lesser-irrefl x) (and_parts (inside f x) (lesser x x) b).1))
+                  (false_from_ne_true (has_greater_inside f xs x) (λ b. both_ways (has_greater_inside f xs m) k.none (has-below f xs m x l b)));
+            },
+          )
+      | inr e ↦ (
+        m,
+        record {
+          there = later k.there;
+          inside_f = k.inside_f;
+          below = k.below;
+          none = or-none (inside f x && lesser m x) (has_greater_inside f xs m) e k.none;
+        },
+      )
+    ]
+  where
+    later : {m : Stamp} → (s ≡ m) ⊎ Contains xs m → (s ≡ m) ⊎ Contains (x ∷ xs) m
+    later {m} (inl e) = inl e
+    later {m} (inr c) = inr (contains-tail x xs m c)
+
+-- ---- thinned inside a larger base
+
+has-inside : (f : Front) (ss : List Stamp) (s : Stamp) → has_greater_inside f ss s ≡ true → inside f s ≡ true
+has-inside f [] s k = absurd (cc)
+has-inside f (x ∷ xs) s k = elim (or_cases (inside f x && lesser s x) (has_greater_inside f xs s) k) [
+  | inl e ↦ let p = and_parts (inside f x) (lesser s x) e in inside-closed f s x (lesser-parts s x p.1).0 p.0
+  | inr e ↦ has-inside f xs s e
+]
+
+-- what the thinned ones have at or above a stamp that is inside
+thinned-above : (f : Front) (kept : List Stamp) (s : Stamp) → Contains kept s → inside f s ≡ true
+    → (m : Stamp) × Contains (thinned f kept) m × (inside f m ≡ true) × (leq s m ≡ true)
+thinned-above f kept s c i =
+    let g = greatest f kept s i in
+    let k = g.1 in
+    let there : Contains kept g.0 = elim k.there [ inl e ↦ subst (Contains kept) e c | inr d ↦ d ] in
+    (g.0, has-passed (λ t. not (has_greater_inside f kept t)) kept g.0 there (ap not k.none), k.inside_f, k.below)
+
+outside-domain : (bounds : Bounds) (f : Front) (t : Stamp) → in_domain bounds t ≡ true → frontier_of bounds f t ≡ inside f t
+outside-domain bounds f t d = ap (λ b. b && inside f t) d
+
+pub thinned-settle : (bounds : Bounds) (base : Frontier) (all kept : List Stamp) (f : Front) → AreOf bounds all → Within base (frontier_of bounds f)
+    → IsThinned base all kept → IsThinned (frontier_of bounds f) all (thinned f kept)
+thinned-settle bounds base all kept f d w h = record {
+  among = each-kept (Contains all) (λ s. not (has_greater_inside f kept s)) kept h.among;
+  outside = each-had (λ t. frontier_of bounds f t ≡ false → Contains (thinned f kept) t) all outside;
+  inside = each-had (λ t. frontier_of bounds f t ≡ true → IsBelowKept (frontier_of bounds f) (thinned f kept) t) all within;
+}
+  where
+    of_domain : (t : Stamp) → Contains all t → in_domain bounds t ≡ true
+    of_domain t c = each-contained (λ s. in_domain bounds s ≡ true) t all c d
+
+    outside : (t : Stamp) → Contains all t → frontier_of bounds f t ≡ false → Contains (thinned f kept) t
+    outside t c o =
+        let out : inside f t ≡ false = sym (outside-domain bounds f t (of_domain t c)) ∙ o in
+        let before : base t ≡ false = false_from_ne_true (base t) (λ e. both_ways (frontier_of bounds f t) o (w t e)) in
+        has-passed (λ s. not (has_greater_inside f kept s)) kept t (each-contained (λ s. base s ≡ false → Contains kept s) t all c h.outside before)
+        (ap not (false_from_ne_true (has_greater_inside f kept t) (λ e. both_ways (inside f t) out (has-inside f kept t e))))
+
+    from : (t k : Stamp) → Contains kept k → leq t k ≡ true → frontier_of bounds f k ≡ true → IsBelowKept (frontier_of bounds f) (thinned f kept) t
+    from t k c l i =
+        let g = thinned-above f kept k c (and_parts (in_domain bounds k) (inside f k) i).1 in
+        let there = each-contained (Contains all) g.0 (thinned f kept) g.1 (each-kept (Contains all) (λ s. not (has_greater_inside f kept s)) kept h.among) in
+        record {
+          above = g.0;
+          is_kept = g.1;
+          inside = outside-domain bounds f g.0 (of_domain g.0 there) ∙ g.2;
+          below = leq-trans t k g.0 l g.3;
+        }
+
+    within : (t : Stamp) → Contains all t → frontier_of bounds f t ≡ true → IsBelowKept (frontier_of bounds f) (thinned f kept) t
+    within t c i = elim (cases_Bool (base t)) [
+      | inl e ↦
+          let k = each-contained (λ s. base s ≡ true → IsBelowKept base kept s) t all c h.inside e in
+          from t k.above k.is_kept k.below (w k.above k.inside)
+      | inr e ↦ from t t (each-contained (λ s. base s ≡ false → Contains kept s) t all c h.outside e) (leq-refl t) i
+    ]
+
+-- ---- the loop that finds the greatest ones
+
+or-right_none : (b : Bool) → (b || false) ≡ b
+or-right_none true = refl
+or-right_none false = refl
+
+raise-dropped : (a b c : Bool) → (a ≡ true → c ≡ true) → (b || c) ≡ ((a || b) || c)
+raise-dropped false b c f = refl
+raise-dropped true true c f = refl
+raise-dropped true false c f = f refl
+
+or-assoc : (a b c : Bool) → (a || (b || c)) ≡ ((a || b) || c)
+or-assoc true b c = refl
+or-assoc false b c = refl
+
+-- a stamp taken up in place of those at or below it
+pub any-raised : (tops : List Stamp) (at s : Stamp) → list_any (lesser s) (filter (λ t. not (leq t at)) tops ++ at ∷ []) ≡ (list_any (lesser s) tops || lesser s at)
+any-raised [] at s = or-right_none (lesser s at)
+any-raised (t ∷ tops) at s = by (leq t at) refl (any-raised tops at s)
+  where
+    left : List Stamp
+    left = filter (λ u. not (leq u at)) tops
+
+    by : (b : Bool) → leq t at ≡ b → list_any (lesser s) (left ++ at ∷ []) ≡ (list_any (lesser s) tops || lesser s at)
+        → list_any (lesser s) (cond (not b) (t ∷ left) left ++ at ∷ []) ≡ ((lesser s t || list_any (lesser s) tops) || lesser s at)
+    by true e ih = ih ∙ raise-dropped (lesser s t) (list_any (lesser s) tops) (lesser s at) (λ k. lesser-above s t at k e)
+    by false e ih = ap (λ b. lesser s t || b) ih ∙ or-assoc (lesser s t) (list_any (lesser s) tops) (lesser s at)
+
+-- ---- filters
+
+-- a front and its frontier pass the same stamps of a domain
+filter-domain : (bounds : Bounds) (f : Front) (ss : List Stamp) → AreOf bounds ss → filter (inside f) ss ≡ filter (frontier_of bounds f) ss
+filter-domain bounds f [] d = refl
+filter-domain bounds f (s ∷ ss) d =
+    ap (λ b. cond b (s ∷ filter (inside f) ss) (filter (inside f) ss)) (sym (outside-domain bounds f s d.0))
+    ∙ ap (λ ts. cond (frontier_of bounds f s) (s ∷ ts) ts) (filter-domain bounds f ss d.1)
+
+-- kept stamps are the domain's where all are
+pub kept-domain : (bounds : Bounds) (base : Frontier) (all kept : List Stamp) → AreOf bounds all → IsThinned base all kept → AreOf bounds kept
+kept-domain bounds base all kept d h =
+    each-weaker (Contains all) (λ s. in_domain bounds s ≡ true) kept (λ s c. each-contained (λ t. in_domain bounds t ≡ true) s all c d) h.among
+
+-- ---- inside a cut
+
+pub thinned-cut : (bounds : Bounds) (base : Frontier) (all kept : List Stamp) (f : Front) → AreOf bounds all → Within base (frontier_of bounds f)
+    → IsThinned base all kept → IsThinned base (filter (frontier_of bounds f) all) (filter (inside f) kept)
+thinned-cut bounds base all kept f d w h = subst (IsThinned base (filter g all)) (sym (filter-domain bounds f kept (kept-domain bounds base all kept d h))) (record {
+  among = each-filter (Contains (filter g all)) g kept (each-weaker (Contains all) (λ s. g s ≡ true → Contains (filter g all) s) kept (λ s c i. has-passed g all s c i) h.among);
+  outside = each-filter (λ t. base t ≡ false → Contains (filter g kept) t) g all
+      (each-weaker (λ t. base t ≡ false → Contains kept t) (λ t. g t ≡ true → base t ≡ false → Contains (filter g kept) t) all (λ t k i o. has-passed g kept t (k o) i) h.outside);
+  inside = each-filter (λ t. base t ≡ true → IsBelowKept base (filter g kept) t) g all
+      (each-weaker (λ t. base t ≡ true → IsBelowKept base kept t) (λ t. g t ≡ true → base t ≡ true → IsBelowKept base (filter g kept) t) all
+      (λ t k i b. keeps-below base kept (filter g kept) (λ s c e. has-passed g kept s c (w s e)) t (k b)) h.inside);
+})
+  where
+    g : Frontier
+    g = frontier_of bounds f
+
+-- a greater one that is inside is among those inside
+pub has-inside_of : (f : Front) (ss : List Stamp) (s : Stamp) → has_greater_inside f (filter (inside f) ss) s ≡ has_greater_inside f ss s
+has-inside_of f [] s = refl
+has-inside_of f (x ∷ xs) s = by (inside f x) refl (has-inside_of f xs s)
+  where
+    by : (b : Bool) → inside f x ≡ b → has_greater_inside f (filter (inside f) xs) s ≡ has_greater_inside f xs s
+        → has_greater_inside f (cond b (x ∷ filter (inside f) xs) (filter (inside f) xs)) s ≡ ((b && lesser s x) || has_greater_inside f xs s)
+    by true e ih = ap (λ c. (c && lesser s x) || has_greater_inside f (filter (inside f) xs) s) e ∙ ap (λ c. lesser s x || c) ih
+    by false e ih = ih
+
+pub thinned-inside : (bounds : Bounds) (base : Frontier) (all kept : List Stamp) (f : Front) → AreOf bounds all → Within base (frontier_of bounds f)
+    → IsThinned base all kept → IsThinned (frontier_of bounds f) (filter (frontier_of bounds f) all) (thinned f (filter (inside f) kept))
+thinned-inside bounds base all kept f d w h =
+    thinned-settle bounds base (filter (frontier_of bounds f) all) (filter (inside f) kept) f
+    (each-kept (λ s. in_domain bounds s ≡ true) (frontier_of bounds f) all d) w (thinned-cut bounds base all kept f d w h)
+
+-- the cover of what is kept inside a cut is that of all inside it
+pub cover-inside : (bounds : Bounds) (base : Frontier) (all kept : List Stamp) (f : Front) → AreOf bounds all → Within base (frontier_of bounds f)
+    → IsThinned base all kept → cover bounds (filter (inside f) kept) ≡ cover bounds (filter (frontier_of bounds f) all)
+cover-inside bounds base all kept f d w h =
+    ap (cover bounds) (filter-domain bounds f kept (kept-domain bounds base all kept d h)) ∙ thinned-covers bounds base all kept h (frontier_of bounds f) w

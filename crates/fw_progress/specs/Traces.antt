@@ -1,0 +1,42 @@
+-- Stamps that are kept thinned inside a base.
+use Rattle.std.specs.Prelude.{◌≡◌, Bool, true, not, ◌&&◌, List, ◌∷◌, filter}
+use Rattle.std.specs.List.{AllByRecursion, list_any}
+use Rattle.fw_time.specs.Stamp.{Stamp, lesser, in_domain}
+use Rattle.fw_time.specs.declared.stamp.Bounds.{Bounds}
+use Rattle.fw_frontier.specs.Frontier.{Frontier, Within}
+use Rattle.fw_frontier.specs.Front.{Front, inside, frontier_of}
+use Rattle.fw_model.specs.Thinned.{IsThinned}
+
+-- whether one of these stamps is inside and greater
+abbrev pub has_greater_inside : Front → List Stamp → Stamp → Bool
+has_greater_inside f ss s = list_any (λ k. inside f k && lesser s k) ss
+
+-- these stamps thinned inside a frontier: without those that are lesser than one of them that is inside
+abbrev pub thinned : Front → List Stamp → List Stamp
+thinned f ss = filter (λ s. not (has_greater_inside f ss s)) ss
+
+-- the stamps are the domain's
+abbrev pub AreOf : Bounds → List Stamp → Type 0
+AreOf bounds ss = AllByRecursion (λ s. in_domain bounds s ≡ true) ss
+
+-- what stood for a list, thinned inside a base, stands for it with one stamp more
+abbrev pub StandForOneMore : Stamp → List Stamp → List Stamp → Type 0
+StandForOneMore at old new = (base : Frontier) (all : List Stamp) → IsThinned base all old → IsThinned base (at ∷ all) new
+
+-- what stood for a list of a domain's stamps, thinned inside a base that a frontier holds, stands for it with the frontier as base
+abbrev pub IsSettledTo : Front → List Stamp → List Stamp → Type 0
+IsSettledTo f old new =
+    (bounds : Bounds) (base : Frontier) (all : List Stamp) → AreOf bounds all → Within base (frontier_of bounds f) → IsThinned base all old
+    → IsThinned (frontier_of bounds f) all new
+
+-- it stands for those of the list that are inside the frontier
+abbrev pub IsCutTo : Front → List Stamp → List Stamp → Type 0
+IsCutTo f old new =
+    (bounds : Bounds) (base : Frontier) (all : List Stamp) → AreOf bounds all → Within base (frontier_of bounds f) → IsThinned base all old
+    → IsThinned base (filter (frontier_of bounds f) all) new
+
+-- it stands for those of the list that are inside the frontier, with the frontier as base
+abbrev pub IsThinnedTo : Front → List Stamp → List Stamp → Type 0
+IsThinnedTo f old new =
+    (bounds : Bounds) (base : Frontier) (all : List Stamp) → AreOf bounds all → Within base (frontier_of bounds f) → IsThinned base all old
+    → IsThinned (frontier_of bounds f) (filter (frontier_of bounds f) all) new

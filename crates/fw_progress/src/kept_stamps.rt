@@ -1,0 +1,145 @@
+//! Stamps that are kept thinned inside a base.
+ghost use Rattle.std.specs.Prelude.{◌≡◌, ◌||◌, ◌&&◌, not, [], ◌∷◌, ◌++◌, List, ℕ, filter, IfOk, OnErr};
+ghost use Rattle.std.specs.List.{list_any};
+ghost use Rattle.std.specs.BTreeSet.{insert_key};
+ghost use Rattle.fw_time.specs.Stamp.{lesser, leq, stamp_cmp};
+ghost use Rattle.fw_frontier.specs.Frontier.{Frontier, Within, cover};
+ghost use Rattle.fw_frontier.specs.Front.{inside, frontier_of, IsFrontOf};
+ghost use Rattle.fw_model.specs.Thinned.{IsThinned};
+ghost use Rattle.fw_progress.specs.Traces.{has_greater_inside, thinned, AreOf, StandForOneMore, IsSettledTo, IsCutTo, IsThinnedTo};
+
+use fw_frontier::Front;
+use fw_time::{Bounds, Stamp};
+use std::alloc::{AllocError, Global};
+use std::collections::BTreeSet;
+use std::marker::Model;
+
+/// Stamps that stand for a list of stamps: all of the list that lie outside a base, and inside it at least the greatest. The
+/// base is the caller's. Contracts see the stamps, in ascending order, each once.
+#[derive(Debug, Drop)]
+pub struct KeptStamps {
+    alloc: Global,
+    stamps: BTreeSet<Stamp>,
+}
+
+impl Model for KeptStamps {
+    ghost use Rattle.std.specs.Prelude.{ℕ, List};
+
+    ghost Value = { List (List ℕ) };
+
+    ghost view = { λ kept. kept.stamps.keys };
+}
+
+impl KeptStamps {
+    /// No stamps, in memory from `alloc`.
+    pub fn new(alloc: Global) -> Self
+        ensures { result ≡ [] }
+    {
+        KeptStamps {
+            alloc,
+            stamps: BTreeSet::new(alloc),
+        }
+    }
+
+    /// One stamp more. The error is want of memory, which leaves the stamps as they were.
+    pub fn add(&mut self, at: &Stamp) -> Result<(), AllocError>
+        ensures thinned { IfOk result (λ u. StandForOneMore at.now self.old self.new) }
+        ensures value { IfOk result (λ u. self.new ≡ insert_key stamp_cmp self.old at.now) }
+        ensures err { OnErr result (self.new ≡ self.old) }
+    {
+        self.stamps.insert(at.copy())?;
+        Ok(())
+    }
+
+    /// Thins the stamps inside a larger base: of those inside, the ones that are lesser than another go. The error is want of
+    /// memory, which leaves the stamps as they were.
+    pub fn settle(&mut self, base: &Front) -> Result<(), AllocError>
+        ensures thinned { IfOk result (λ u. IsSettledTo base.now self.old self.new) }
+        ensures value { IfOk result (λ u. self.new ≡ thinned base.now self.old) }
+        ensures err { OnErr result (self.new ≡ self.old) }
+    {
+        let tops = greatest_inside(self.alloc, &self.stamps, base)?;
+        self.stamps.retain(|stamp| !has_greater(&tops, stamp));
+        Ok(())
+    }
+
+    /// Leaves the stamps inside a frontier, which holds the base, as a cut to it does. It takes no memory.
+    pub fn keep_inside(&mut self, f: &Front)
+        ensures thinned { IsCutTo f.now self.old self.new }
+        ensures value { self.new ≡ filter (inside f.now) self.old }
+    {
+        self.stamps.retain(|stamp| f.contains(stamp));
+    }
+
+    /// The stamps inside a frontier, which holds the base, thinned with the frontier as base, in ascending order. The error is
+    /// want of memory.
+    pub fn thinned(&self, f: &Front) -> Result<Vec<Stamp>, AllocError>
+        ensures thinned { IfOk result (λ kept. IsThinnedTo f.now self.now kept.items) }
+        ensures value { IfOk result (λ kept. kept.items ≡ thinned f.now (filter (inside f.now) self.now)) }
+    {
+        let tops = greatest_inside(self.alloc, &self.stamps, f)?;
+        let mut kept = self.stamps_inside(f)?;
+        kept.retain(|stamp| !has_greater(&tops, stamp));
+        Ok(kept)
+    }
+
+    /// The cover of the stamps inside a frontier, which holds the base: it is the cover of all that these stand for inside it.
+    /// The error is want of memory.
+    pub fn cover(&self, f: &Front, bounds: &Bounds) -> Result<Front, AllocError>
+        ensures { (base : Frontier) (all : List (List ℕ)) → AreOf bounds.now all
+            → Within base (frontier_of bounds.now f.now) → IsThinned base all self.now
+            → IfOk result (λ front. IsFrontOf bounds.now front
+            (cover bounds.now (filter (frontier_of bounds.now f.now) all))) }
+    {
+        let stamps = self.stamps_inside(f)?;
+        Front::cover_of(self.alloc, &stamps, bounds)
+    }
+
+    /// The stamps inside a frontier, in ascending order. The error is want of memory.
+    pub fn stamps_inside(&self, f: &Front) -> Result<Vec<Stamp>, AllocError>
+        ensures { IfOk result (λ stamps. stamps.items ≡ filter (inside f.now) self.now) }
+    {
+        let mut stamps = Vec::new(self.alloc);
+        for stamp in &self.stamps {
+            if f.contains(stamp) {
+                stamps.push(stamp.copy())?;
+            }
+        }
+        Ok(stamps)
+    }
+}
+
+/// Whether one of these stamps is greater.
+fn has_greater(tops: &[Stamp], stamp: &Stamp) -> bool
+    ensures { result ≡ list_any (lesser stamp.now) tops.now }
+{
+    tops.iter().any(|top| stamp.leq(top) && !top.leq(stamp))
+}
+
+/// Those of the stamps inside a frontier that are at or below no later one. The error is want of memory.
+fn greatest_inside(
+    alloc: Global,
+    stamps: &BTreeSet<Stamp>,
+    base: &Front,
+) -> Result<Vec<Stamp>, AllocError>
+    ensures { IfOk result
+        (λ tops. (s : List ℕ) → list_any (lesser s) tops.items ≡ has_greater_inside base.now stamps.now.keys s) }
+{
+    let mut tops = Vec::new(alloc);
+    for stamp in stamps {
+        if base.contains(stamp) {
+            raise(&mut tops, stamp)?;
+        }
+    }
+    Ok(tops)
+}
+
+/// Takes a stamp up, in place of those at or below it. The error is want of memory.
+fn raise(tops: &mut Vec<Stamp>, stamp: &Stamp) -> Result<(), AllocError>
+    ensures { IfOk result (λ u. (s : List ℕ) → list_any (lesser s) tops.new.items
+        ≡ (list_any (lesser s) tops.old.items || lesser s stamp.now)) }
+{
+    tops.retain(|top| !top.leq(stamp));
+    tops.push(stamp.copy())?;
+    Ok(())
+}

@@ -10,3 +10,4 @@ pub mod ProgressLaws
 pub mod StartLaws
 pub mod NoticeLaws
 pub mod SettleLaws
+pub mod LeapLaws

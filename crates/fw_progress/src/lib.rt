@@ -9,6 +9,7 @@ mod counts;
 mod events;
 mod grow;
 mod growth;
+mod leap;
 mod notices;
 mod progress;
 mod refresh;

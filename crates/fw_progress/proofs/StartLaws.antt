@@ -91,7 +91,7 @@ pub record IsDescending (flow : Dataflow) (counts : Counts) (fronts lower : List
   pub targets : AreTargets flow counts fronts lower
   pub within : (p : ℕ) → Within (family_of flow lower p) (family_of flow fronts p)
 
-past-all : (flow : Dataflow) (fronts : List Front) (p : ℕ) (t : Stamp) → length fronts ≤ p → in_domain (bounds_of flow p) t ≡ true → family_of flow fronts p t ≡ true
+pub past-all : (flow : Dataflow) (fronts : List Front) (p : ℕ) (t : Stamp) → length fronts ≤ p → in_domain (bounds_of flow p) t ≡ true → family_of flow fronts p t ≡ true
 past-all flow fronts p t l d = and_from (in_domain (bounds_of flow p) t) (inside (front_of fronts p) t) d (ap (λ os. inside os t) (get_or_past fronts p [] l))
 
 targets-canonical : (flow : Dataflow) (counts : Counts) (fronts lower : List Front) → length lower ≡ length flow.nodes → AreTargets flow counts fronts lower → AreCanonical flow lower

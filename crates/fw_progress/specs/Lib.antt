@@ -1,6 +1,7 @@
 pub mod Counts
 pub mod Growths
 pub mod History
+pub mod Leap
 pub mod Notices
 pub mod Progress
 pub mod Settle

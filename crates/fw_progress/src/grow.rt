@@ -9,6 +9,7 @@ ghost use Rattle.fw_progress.specs.Growths.{IsMore, IsGrown, IsTaken};
 
 use crate::counts::Counts;
 use crate::growth::{Growth, Growths};
+use crate::leap::leap;
 use crate::target::target;
 use crate::worklist::Worklist;
 use fw_flow::laws::flow_is_well_formed;
@@ -17,7 +18,7 @@ use fw_frontier::Front;
 use std::alloc::{AllocError, Global};
 
 /// Whether a frontier is a larger one than the node has so far.
-fn is_more(flow: &Flow, fronts: &[Front], node: NodeId, front: &Front) -> bool
+pub(crate) fn is_more(flow: &Flow, fronts: &[Front], node: NodeId, front: &Front) -> bool
     requires there { node < length flow.now.nodes }
     requires one_each { length fronts.now ≡ length flow.now.nodes }
     requires canonical { AreCanonical flow.now fronts.now }
@@ -50,8 +51,8 @@ pub(crate) fn grow(
     work.put_receivers(flow, node)
 }
 
-/// Takes up a node: if it can have a larger frontier, it gets the largest that it can have. The error is want of memory.
-pub(crate) fn take_up(
+/// If a node can have a larger frontier, it gets the largest that it can have. The error is want of memory.
+fn widen(
     alloc: Global,
     flow: &Flow,
     counts: &Counts,
@@ -73,4 +74,26 @@ pub(crate) fn take_up(
         return Ok(());
     }
     grow(flow, fronts, work, growths, node, front)
+}
+
+/// Takes up a node: it gets the largest frontier that it can have; where its loop climbs a counter at a time, each node of
+/// the loop does at once. The error is want of memory.
+pub(crate) fn take_up(
+    alloc: Global,
+    flow: &Flow,
+    counts: &Counts,
+    fronts: &mut Vec<Front>,
+    work: &mut Worklist,
+    growths: &mut Growths,
+    node: NodeId,
+) -> Result<(), AllocError>
+    requires there { node < length flow.now.nodes }
+    requires counts { AreCounts flow.now counts.now }
+    requires one_each { length fronts.old.items ≡ length flow.now.nodes }
+    requires canonical { AreCanonical flow.now fronts.old.items }
+    ensures { IfOk result (λ u. IsTaken flow.now counts.now node fronts.old.items fronts.new.items work.old work.new
+        growths.old.items growths.new.items) }
+{
+    leap(alloc, flow, counts, fronts, work, growths, node)?;
+    widen(alloc, flow, counts, fronts, work, growths, node)
 }

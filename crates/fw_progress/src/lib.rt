@@ -12,6 +12,7 @@ mod events;
 mod grow;
 mod growth;
 mod kept_stamps;
+mod leap;
 mod notices;
 mod progress;
 mod refresh;

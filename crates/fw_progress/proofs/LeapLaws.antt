@@ -1,0 +1,170 @@
+-- A leap leaves a family admissible, and what its calls keep.
+use Rattle.std.proofs.Common.{◌↔◌, ◌≡◌, ◌≢◌, ◌⊎◌, ℕ, ◌+◌, ◌<◌, ◌≤◌, Bool, true, false, ◌&&◌, List, [], ◌∷◌, ◌++◌, length, get_or, set, refl, sym, ap, subst, ◌∙◌, inl, inr, arith}
+use Rattle.std.proofs.lemmas.Bool.{and_parts, and_from, cases_eq, cases_lt}
+use Rattle.std.proofs.lemmas.List.{get_or_past, length-set}
+use Rattle.fw_time.specs.Stamp.{Stamp, in_domain}
+use Rattle.fw_time.specs.declared.stamp.Bounds.{Bounds}
+use Rattle.fw_frontier.specs.Frontier.{Frontier, Within}
+use Rattle.fw_frontier.specs.Front.{Front, inside, frontier_of, IsCanonical, IsFrontOf}
+use Rattle.fw_frontier.proofs.NamesLaws.{frontier-closed}
+use Rattle.fw_flow.specs.Dataflow.{Dataflow, bounds_of, node_frontier}
+use Rattle.fw_flow.specs.WellFormed.{IsWellFormed}
+use Rattle.fw_model.specs.Machine.{front_of, family_of, AreCanonical}
+use Rattle.fw_progress.specs.declared.counts.Counts.{Counts}
+use Rattle.fw_progress.specs.declared.growth.Growth.{Growth}
+use Rattle.fw_progress.specs.Counts.{target_by, IsAdmissibleBy}
+use Rattle.fw_progress.specs.Growths.{IsMore, IsGrown, HaveGrown, IsTaken}
+use Rattle.fw_progress.specs.Leap.{CanLeapAt, CanLeap, AreAbove, IsReachedAt, HaveReached, HaveLeapt}
+use Rattle.fw_progress.proofs.TargetLaws.{read_at, target-monotone}
+use Rattle.fw_progress.proofs.GrowLaws.{set_canonical, family_new, family_old, family_grows, none_grown, one_grown, grown_then}
+use Rattle.fw_progress.proofs.StartLaws.{within-read, past-all}
+
+-- ---- the law
+
+-- past the nodes all have all stamps
+above-each : (flow : Dataflow) (low high : List Front) → length high ≡ length flow.nodes → AreAbove flow low high → (p : ℕ) → Within (family_of flow low p) (family_of flow high p)
+above-each flow low high one a p t i = elim (cases_lt p (length flow.nodes)) [
+  | inl l ↦ a p l t i
+  | inr l ↦ past-all flow high p t (omega (arith, one, l)) (and_parts (in_domain (bounds_of flow p) t) (inside (front_of low p) t) i).0
+]
+
+-- a leap leaves what is admissible so
+pub leap-admissible : (flow : Dataflow) (counts : Counts) (old next : List Front) → length next ≡ length flow.nodes → CanLeap flow counts old next
+    → IsAdmissibleBy flow counts (family_of flow old) → IsAdmissibleBy flow counts (family_of flow next)
+leap-admissible flow counts old next one can a =
+    let more = target-monotone flow counts (family_of flow old) (family_of flow next) (above-each flow old next one (λ p l. (can p l).above)) in
+    record {
+      frontier = λ p. frontier-closed (bounds_of flow p) (front_of next p);
+      within = λ p l t i. elim ((can p l).within) [
+        | inl same ↦ more p t (a.within p l t (same t i))
+        | inr most ↦ most t i
+      ];
+    }
+
+-- frontiers that name the same are admissible where the others are
+same-admissible : (flow : Dataflow) (counts : Counts) (next new : List Front) → length new ≡ length flow.nodes → AreAbove flow new next → AreAbove flow next new
+    → IsAdmissibleBy flow counts (family_of flow next) → IsAdmissibleBy flow counts (family_of flow new)
+same-admissible flow counts next new one below above a =
+    let more = target-monotone flow counts (family_of flow next) (family_of flow new) (above-each flow next new one above) in
+    record {
+      frontier = λ p. frontier-closed (bounds_of flow p) (front_of new p);
+      within = λ p l t i. more p t (a.within p l t (below p l t i));
+    }
+
+-- ---- nodes reach their next frontiers
+
+pub reached_same : (flow : Dataflow) (p : ℕ) (old next : List Front) → (Within (family_of flow old p) (family_of flow next p) → Within (family_of flow next p) (family_of flow old p))
+    → IsReachedAt flow p old next old
+reached_same flow p old next back = record { grows = λ q l t i. i; below = λ a. a; here = back }
+
+pub reached_more : (flow : Dataflow) (p : ℕ) (old next : List Front) → p < length old → Within (family_of flow old p) (family_of flow next p)
+    → IsReachedAt flow p old next (set old p (front_of next p))
+reached_more flow p old next l w =
+    let new = set old p (front_of next p) in
+    record {
+      grows = λ q m. family_grows flow old p (front_of next p) l w q;
+      below = λ a q m t i. elim (cases_eq q p) [
+        | inl e ↦ subst (λ r. family_of flow next r t ≡ true) (sym e) (sym (family_new flow old p (front_of next p) t l) ∙ sym (ap (λ r. family_of flow new r t) e) ∙ i)
+        | inr n ↦ a q m t (sym (family_old flow old p q (front_of next p) t n) ∙ i)
+      ];
+      here = λ k t i. family_new flow old p (front_of next p) t l ∙ i;
+    }
+
+-- the first nodes have reached their next frontiers
+pub record AreReached (flow : Dataflow) (counts : Counts) (n : ℕ) (old next new : List Front) (work rest : List ℕ) (growths more : List Growth) : Type 0 where
+  pub grown : HaveGrown flow counts old new work rest growths more
+  pub one_each : length new ≡ length flow.nodes
+  pub canonical : AreCanonical flow new
+  pub below : AreAbove flow new next
+  pub reached : (q : ℕ) → q < n → q < length flow.nodes → Within (family_of flow next q) (family_of flow new q)
+
+pub none_reached : (flow : Dataflow) (counts : Counts) (old next : List Front) (work : List ℕ) (growths : List Growth) → length old ≡ length flow.nodes → AreCanonical flow old → AreAbove flow old next
+    → AreReached flow counts 0 old next old work work growths growths
+none_reached flow counts old next work growths one c a = record {
+  grown = none_grown flow counts old work growths;
+  one_each = one;
+  canonical = c;
+  below = a;
+  reached = λ q l m. absurd (omega (arith, l));
+}
+
+pub one_reached : (flow : Dataflow) (counts : Counts) (n p : ℕ) (old next mid new : List Front) (work some rest : List ℕ) (growths more most : List Growth) → p ≡ n → n < length flow.nodes
+    → AreReached flow counts n old next mid work some growths more → HaveGrown flow counts mid new some rest more most → IsReachedAt flow p mid next new
+    → AreReached flow counts (n + 1) old next new work rest growths most
+one_reached flow counts n p old next mid new work some rest growths more most e l a g r = record {
+  grown = grown_then flow counts old mid new work some rest growths more most a.grown g;
+  one_each = g.one_each ∙ a.one_each;
+  canonical = g.canonical a.canonical;
+  below = r.below a.below;
+  reached = λ q k m t i. elim (cases_eq q p) [
+    | inl s ↦
+        let here = subst (λ x. Within (family_of flow next x) (family_of flow new x)) (sym s) (r.here (a.below p (subst (λ x. x < length flow.nodes) s m))) in
+        here t i
+    | inr s ↦ r.grows q m t (a.reached q (omega (arith, k, s, e)) m t i)
+  ];
+}
+
+pub all_reached : (flow : Dataflow) (counts : Counts) (n : ℕ) (old next new : List Front) (work rest : List ℕ) (growths more : List Growth) → length flow.nodes ≤ n
+    → AreReached flow counts n old next new work rest growths more → HaveReached flow counts old next new work rest growths more
+all_reached flow counts n old next new work rest growths more l a = record {
+  grew = a.grown;
+  below = a.below;
+  above = λ q m. a.reached q (omega (arith, l, m)) m;
+}
+
+-- a node that can have more gets it
+pub one_more : (flow : Dataflow) (counts : Counts) (p i : ℕ) (f x : Front) (old next new : List Front) (work rest : List ℕ) (growths more : List Growth) → IsWellFormed flow → p < length old
+    → AreCanonical flow next → i ≡ p → i < length next → x ≡ get_or next i x → f ≡ x → IsMore flow old p x → IsGrown flow p f old new work rest growths more
+    → HaveGrown flow counts old new work rest growths more × IsReachedAt flow p old next new
+one_more flow counts p i f x old next new work rest growths more w l c e k is same m g =
+    let here : f ≡ front_of next p = same ∙ read_at next p i x [] e k is in
+    let mine : IsMore flow old p f = subst (IsMore flow old p) (sym same) m in
+    let to : new ≡ set old p (front_of next p) = g.changed ∙ ap (set old p) here in
+    let above = subst (λ h. Within (family_of flow old p) (node_frontier flow p h)) here mine.above in (
+      one_grown flow counts p f old new work rest growths more w l (subst (IsCanonical (bounds_of flow p)) (sym here) (c p)) mine g,
+      subst (IsReachedAt flow p old next) (sym to) (reached_more flow p old next l above),
+    )
+
+-- ---- the leap
+
+pub none_leapt : (flow : Dataflow) (counts : Counts) (old : List Front) (work : List ℕ) (growths : List Growth) → HaveLeapt flow counts old old work work growths growths
+none_leapt flow counts old work growths = record { grew = none_grown flow counts old work growths; admissible = λ a. a }
+
+pub have_leapt : (flow : Dataflow) (counts : Counts) (old next new : List Front) (work rest : List ℕ) (growths more : List Growth) → length old ≡ length flow.nodes → length next ≡ length flow.nodes
+    → CanLeap flow counts old next → HaveReached flow counts old next new work rest growths more → HaveLeapt flow counts old new work rest growths more
+have_leapt flow counts old next new work rest growths more one two can r = record {
+  grew = r.grew;
+  admissible = λ a. same-admissible flow counts next new (r.grew.one_each ∙ one) r.below r.above (leap-admissible flow counts old next two can a);
+}
+
+-- a leap, and then the node is widened
+pub leapt_taken : (flow : Dataflow) (counts : Counts) (p : ℕ) (old mid new : List Front) (work some rest : List ℕ) (growths more most : List Growth)
+    → HaveLeapt flow counts old mid work some growths more → IsTaken flow counts p mid new some rest more most → IsTaken flow counts p old new work rest growths most
+leapt_taken flow counts p old mid new work some rest growths more most a b = record {
+  grew = grown_then flow counts old mid new work some rest growths more most a.grew b.grew;
+  admissible = λ k. b.admissible (a.admissible k);
+  stuck = λ k out. b.stuck (a.admissible k) out;
+}
+
+-- ---- what is read
+
+pub leap_most : (flow : Dataflow) (counts : Counts) (old next : List Front) (p i : ℕ) (x y z most : Front) (r s : Bool) → i ≡ p → AreCanonical flow next → i < length old → i < length next
+    → x ≡ get_or old i x → y ≡ get_or next i y → ((b : Bounds) → IsCanonical b y → (r ≡ true) ↔ Within (frontier_of b x) (frontier_of b y)) → r ≡ true
+    → z ≡ get_or next i z → IsFrontOf (bounds_of flow p) most (target_by flow counts (family_of flow next) p)
+    → ((b : Bounds) → IsCanonical b most → (s ≡ true) ↔ Within (frontier_of b z) (frontier_of b most)) → s ≡ true → CanLeapAt flow counts old next p
+leap_most flow counts old next p i x y z most r s e c l m is was test one at names other two =
+    let b = bounds_of flow p in
+    let low : x ≡ front_of old p = read_at old p i x [] e l is in
+    let high : y ≡ front_of next p = read_at next p i y [] e m was in
+    let here : z ≡ front_of next p = read_at next p i z [] e m at in
+    record {
+      above = λ t j. sym (ap (λ g. frontier_of b g t) high) ∙ (test b (subst (IsCanonical b) (sym high) (c p))).0 one t (ap (λ g. frontier_of b g t) low ∙ j);
+      within = inr (λ t j. sym (names.same t) ∙ (other b names.canonical).0 two t (ap (λ g. frontier_of b g t) here ∙ j));
+    }
+
+pub one_can_leap : (flow : Dataflow) (counts : Counts) (old next : List Front) (n p : ℕ) → p ≡ n → ((q : ℕ) → q < n → CanLeapAt flow counts old next q) → CanLeapAt flow counts old next p
+    → (q : ℕ) → q < n + 1 → CanLeapAt flow counts old next q
+one_can_leap flow counts old next n p e before here q l = elim (cases_eq q p) [
+  | inl s ↦ subst (CanLeapAt flow counts old next) (sym s) here
+  | inr s ↦ before q (omega (arith, l, s, e))
+]

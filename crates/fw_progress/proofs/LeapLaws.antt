@@ -1,10 +1,9 @@
 -- A leap leaves a family admissible, and what its calls keep.
-use Rattle.std.proofs.Common.{◌↔◌, ◌≡◌, ◌≢◌, ◌⊎◌, ℕ, ◌+◌, ◌<◌, ◌≤◌, Bool, true, false, ◌&&◌, List, [], ◌∷◌, ◌++◌, length, get_or, set, refl, sym, ap, subst, ◌∙◌, inl, inr, arith}
-use Rattle.std.proofs.lemmas.Bool.{and_parts, and_from, cases_eq, cases_lt}
-use Rattle.std.proofs.lemmas.List.{get_or_past, length-set}
-use Rattle.fw_time.specs.Stamp.{Stamp, in_domain}
+use Rattle.std.proofs.Common.{◌↔◌, ◌≡◌, ℕ, ◌+◌, ◌<◌, ◌≤◌, Bool, true, List, [], length, get_or, set, sym, ap, subst, ◌∙◌, inl, inr, arith}
+use Rattle.std.proofs.lemmas.Bool.{and_parts, cases_eq, cases_lt}
+use Rattle.fw_time.specs.Stamp.{in_domain}
 use Rattle.fw_time.specs.declared.stamp.Bounds.{Bounds}
-use Rattle.fw_frontier.specs.Frontier.{Frontier, Within}
+use Rattle.fw_frontier.specs.Frontier.{Within}
 use Rattle.fw_frontier.specs.Front.{Front, inside, frontier_of, IsCanonical, IsFrontOf}
 use Rattle.fw_frontier.proofs.NamesLaws.{frontier-closed}
 use Rattle.fw_flow.specs.Dataflow.{Dataflow, bounds_of, node_frontier}
@@ -16,8 +15,8 @@ use Rattle.fw_progress.specs.Counts.{target_by, IsAdmissibleBy}
 use Rattle.fw_progress.specs.Growths.{IsMore, IsGrown, HaveGrown, IsTaken}
 use Rattle.fw_progress.specs.Leap.{CanLeapAt, CanLeap, AreAbove, IsReachedAt, HaveReached, HaveLeapt}
 use Rattle.fw_progress.proofs.TargetLaws.{read_at, target-monotone}
-use Rattle.fw_progress.proofs.GrowLaws.{set_canonical, family_new, family_old, family_grows, none_grown, one_grown, grown_then}
-use Rattle.fw_progress.proofs.StartLaws.{within-read, past-all}
+use Rattle.fw_progress.proofs.GrowLaws.{family_new, family_old, family_grows, none_grown, one_grown, grown_then}
+use Rattle.fw_progress.proofs.StartLaws.{past-all}
 
 -- ---- the law
 

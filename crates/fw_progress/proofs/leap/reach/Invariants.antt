@@ -1,4 +1,3 @@
-use Rattle.std.proofs.Common.{◌≡◌, ◌<◌, ℕ, length}
 use Rattle.fw_progress.proofs.LeapLaws.{AreReached}
 use Rattle.fw_progress.proofs.leap.reach.Given as goal
 

@@ -41,6 +41,16 @@ pub record AreCounts (flow : Dataflow) (counts : Counts) : Type 0 where
   pub pending : (e : ℕ) → e < length flow.edges → IsTallyOf (bounds_of flow (receiver flow e)) (pending_of counts e)
   pub owed : (p : ℕ) → p < length flow.nodes → IsTallyOf (bounds_of flow p) (owed_of counts p)
 
+-- whether a node is in a list
+abbrev pub is_in : List ℕ → ℕ → Bool
+is_in nodes p = list_any (λ q. q == p) nodes
+
+-- these are nodes of the flow
+abbrev pub AreNodes : Dataflow → List ℕ → Type 0
+AreNodes flow nodes = list_all (λ p. nat_lt p (length flow.nodes)) nodes ≡ true
+
+-- ---- for the proofs
+
 -- all stamps of a node's domain; of an input those that it injected, and all once it injected each batch
 abbrev pub given_by : Dataflow → Counts → ℕ → Frontier
 given_by flow counts p t =
@@ -70,14 +80,6 @@ pub record IsAdmissibleBy (flow : Dataflow) (counts : Counts) (family : ℕ → 
 abbrev pub IsStuckBy : Dataflow → Counts → List Front → ℕ → Type 0
 IsStuckBy flow counts fronts p = Within (target_by flow counts (family_of flow fronts) p) (family_of flow fronts p)
 
--- whether a node is in a list
-abbrev pub is_in : List ℕ → ℕ → Bool
-is_in nodes p = list_any (λ q. q == p) nodes
-
 -- each node that is not in the list has the largest frontier that it can have
 abbrev pub AreStuckOutside : Dataflow → Counts → List Front → List ℕ → Type 0
 AreStuckOutside flow counts fronts work = (p : ℕ) → p < length flow.nodes → is_in work p ≡ false → IsStuckBy flow counts fronts p
-
--- these are nodes of the flow
-abbrev pub AreNodes : Dataflow → List ℕ → Type 0
-AreNodes flow nodes = list_all (λ p. nat_lt p (length flow.nodes)) nodes ≡ true

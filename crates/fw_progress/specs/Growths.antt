@@ -31,7 +31,9 @@ pub record IsPut (node : ℕ) (old new : List ℕ) : Type 0 where
   pub nodes : (P : ℕ → Bool) → P node ≡ true → list_all P old ≡ true → list_all P new ≡ true
   pub few : length new ≤ length old + 1
 
--- the same of the receivers of these edges
+-- ---- for the proofs
+
+-- the receivers of these edges are put into the list, one after the other
 pub record ArePut (flow : Dataflow) (edges : List ℕ) (old new : List ℕ) : Type 0 where
   pub there : AllByRecursion (λ e. is_in new (receiver flow e) ≡ true) edges
   pub stays : (q : ℕ) → is_in old q ≡ true → is_in new q ≡ true

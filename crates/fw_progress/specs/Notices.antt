@@ -1,4 +1,4 @@
--- Which nodes may be notified, by counts and kept frontiers.
+-- For the proofs: which nodes may be notified, by counts and kept frontiers.
 use Rattle.std.specs.Prelude.{◌≡◌, ℕ, Bool, true, false, List}
 use Rattle.std.specs.List.{list_all, list_any}
 use Rattle.std.specs.Map.{keys_of}

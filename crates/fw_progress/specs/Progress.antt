@@ -53,11 +53,11 @@ pub record AreSent (flow : Dataflow) (p : ℕ) (stamps : List Stamp) (old new : 
   pub domain : CanSend flow p stamps → ((e : ℕ) → e < length flow.edges → IsTallyOf (bounds_of flow (receiver flow e)) (slice_index_or old e []))
       → (e : ℕ) → e < length flow.edges → IsTallyOf (bounds_of flow (receiver flow e)) (slice_index_or new e [])
 
--- one batch more is injected
+-- one batch more is injected, if the number fits 64 bits
 abbrev pub IsNext : ℕ → ℕ → Type 0
 IsNext old new = old + 1 < 2 ^ 64 → new ≡ old + 1
 
--- so many messages were sent in an epoch, if it comes after those of the table
+-- so many messages were sent in an epoch, if the epochs of the table are in order and none of them is greater
 abbrev pub IsSentMore : ℕ → ℕ → List (ℕ × ℕ) → List (ℕ × ℕ) → Type 0
 IsSentMore epoch count old new = ((n : ℕ) → AreInOrder (old ++ (epoch, n) ∷ [])) → new ≡ old ++ (epoch, count) ∷ []
 

@@ -11,6 +11,13 @@ use Rattle.fw_model.specs.Machine.{Machine, events, front_of}
 use Rattle.fw_model.specs.Settled.{HasMoreToSettle}
 use Rattle.fw_model.specs.Steps.{GrowsTo}
 
+-- What the nodes that are not failed settle, where one of them has more to settle; nothing where none has.
+abbrev pub IsSettledBy : System → Machine → Option (Vec Front) → Type 0
+IsSettledBy sys state None = (done : ℕ → Frontier) → IsComplete sys (events state.history) done → HasMoreToSettle sys state done → ⊥
+IsSettledBy sys state (Some settled) = (done : ℕ → Frontier) × GrowsTo sys state done settled.items
+
+-- ---- for the proofs
+
 -- whether a frontier has a stamp inside that is outside another
 abbrev pub has_more : Front → Front → Bool
 has_more front other = list_any (λ o. inside front o) other
@@ -32,8 +39,3 @@ IsJoined false settled kept both = (bounds : Bounds) → IsCanonical bounds sett
 pub record AreGrown (count : ℕ) (failed : List Bool) (settled kept both : List Front) : Type 0 where
   pub one_each : length both ≡ count
   pub each : (p : ℕ) → p < count → IsJoined (slice_index_or failed p false) (front_of settled p) (front_of kept p) (front_of both p)
-
--- What the nodes that are not failed settle, where one of them has more to settle; nothing where none has.
-abbrev pub IsSettledBy : System → Machine → Option (Vec Front) → Type 0
-IsSettledBy sys state None = (done : ℕ → Frontier) → IsComplete sys (events state.history) done → HasMoreToSettle sys state done → ⊥
-IsSettledBy sys state (Some settled) = (done : ℕ → Frontier) × GrowsTo sys state done settled.items

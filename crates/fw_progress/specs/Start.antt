@@ -1,4 +1,4 @@
--- Counts of nothing, and the largest frontiers by counts.
+-- For the proofs: counts of nothing, and the largest frontiers by counts.
 use Rattle.std.specs.Prelude.{◌≡◌, ℕ, ◌<◌, List, [], length}
 use Rattle.fw_bag.specs.declared.rec.Rec.{Rec}
 use Rattle.fw_frontier.specs.Front.{Front, IsFrontOf}

@@ -41,6 +41,8 @@ pub record HasNoMore (at : Stamp) (old new : List (Stamp × ℕ)) : Type 0 where
   pub times : (t : Stamp) → times_in t new ≡ (if same at t then 0 else times_in t old)
   pub domain : (bounds : Bounds) → IsTallyOf bounds old → IsTallyOf bounds new
 
+-- ---- for the proofs
+
 -- There is one more of each of the stamps.
 pub record HasEachMore (stamps : List Stamp) (old new : List (Stamp × ℕ)) : Type 0 where
   pub times : (t : Stamp) → times_in t new ≡ times_in t old + how_many (same t) stamps

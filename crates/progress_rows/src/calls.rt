@@ -1,5 +1,5 @@
 //! Calls of progress.
-ghost use Rattle.std.specs.Prelude.{◌≡◌, ◌<◌, length};
+ghost use Rattle.std.specs.Prelude.{◌≡◌, ◌<◌, length, IfOk};
 ghost use Rattle.fw_progress.specs.Progress.{IsProgressOf};
 
 use crate::line::{NoAnswer, edge_of, node_of, part, stamp_of, stamps_of};
@@ -34,6 +34,12 @@ pub fn answer(
         kept(alloc, flow, progress)
     } else if word == "may" {
         may(alloc, flow, progress, rest)
+    } else if word == "complete" {
+        complete(alloc, flow, progress, rest)
+    } else if word == "grows" {
+        grows(alloc, flow, progress, rest)
+    } else if word == "settle" {
+        settle(alloc, flow, progress)
     } else if word == "epochs" {
         epochs(alloc, flow, progress, rest)
     } else {
@@ -227,14 +233,97 @@ fn uncounted<L: Ledger>(
 
 /// The kept frontier of each node.
 fn kept(alloc: Global, flow: &Flow, progress: &Progress) -> Result<String, NoAnswer> {
+    each(alloc, flow, progress.kept())
+}
+
+/// A frontier of each node.
+fn each(alloc: Global, flow: &Flow, fronts: &[Front]) -> Result<String, NoAnswer> {
     let mut told = String::new(alloc);
-    for (place, front) in progress.kept().iter().enumerate() {
+    for (place, front) in fronts.iter().enumerate() {
         let Ok(place) = u32::try_from(place) else {
             return Err(NoAnswer::NotSpelled);
         };
         add(alloc, flow, NodeId::at(place), front, &mut told)?;
     }
     Ok(told)
+}
+
+/// The complete frontier of a node: `complete NODE`.
+fn complete(
+    alloc: Global,
+    flow: &Flow,
+    progress: &mut Progress,
+    name: &str,
+) -> Result<String, NoAnswer>
+    requires { IsProgressOf flow.now progress.old }
+    ensures { IsProgressOf flow.now progress.new }
+{
+    let node = node_of(flow, name)?;
+    let front = progress.complete(alloc, flow, node)?;
+    Ok(format!(in alloc; "{front}")?)
+}
+
+/// What is settled once the nodes but those named settle what is complete: `grows NODE ..`.
+fn grows(
+    alloc: Global,
+    flow: &Flow,
+    progress: &mut Progress,
+    names: &str,
+) -> Result<String, NoAnswer>
+    requires { IsProgressOf flow.now progress.old }
+    ensures { IsProgressOf flow.now progress.new }
+{
+    let failed = failed(alloc, flow, names)?;
+    match progress.grows(alloc, flow, &failed)? {
+        Some(settled) => each(alloc, flow, &settled),
+        None => Ok(format!(in alloc; "nothing")?),
+    }
+}
+
+/// Of each node whether it is one of those named.
+fn failed(alloc: Global, flow: &Flow, names: &str) -> Result<Vec<bool>, NoAnswer>
+    ensures { IfOk result (λ failed. length failed.items ≡ length flow.now.nodes) }
+{
+    let mut failed = Vec::new(alloc);
+    for place in 0..flow.nodes() {
+        failed.push(is_named(flow, place, names))?;
+    }
+    Ok(failed)
+}
+
+/// Whether the node at a place is one of those named.
+fn is_named(flow: &Flow, place: usize, names: &str) -> bool {
+    for name in names.split_whitespace() {
+        if let Ok(node) = node_of(flow, name) {
+            if node.place() as usize == place {
+                return true;
+            }
+        }
+    }
+    false
+}
+
+/// What is complete is settled at each node; the answer is what is settled.
+fn settle(alloc: Global, flow: &Flow, progress: &mut Progress) -> Result<String, NoAnswer>
+    requires { IsProgressOf flow.now progress.old }
+    ensures { IsProgressOf flow.now progress.new }
+{
+    let failed = failed(alloc, flow, "")?;
+    progress.grows(alloc, flow, &failed)?;
+    let complete = copied(alloc, progress.kept())?;
+    progress.settle(flow, complete);
+    each(alloc, flow, progress.settled())
+}
+
+/// The same frontiers once more.
+fn copied(alloc: Global, fronts: &[Front]) -> Result<Vec<Front>, NoAnswer>
+    ensures { IfOk result (λ copies. copies.items ≡ fronts.now) }
+{
+    let mut copies = Vec::with_capacity(alloc, fronts.len())?;
+    for front in fronts {
+        copies.push(front.copy()?)?;
+    }
+    Ok(copies)
 }
 
 /// Epochs with one message each go through two edges, with a refresh after each event: `epochs NODE EDGE EDGE COUNT`. The

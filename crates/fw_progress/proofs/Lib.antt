@@ -11,3 +11,4 @@ pub mod StartLaws
 pub mod NoticeLaws
 pub mod SettleLaws
 pub mod TraceLaws
+pub mod IntoLaws

@@ -12,3 +12,4 @@ pub mod NoticeLaws
 pub mod SettleLaws
 pub mod TraceLaws
 pub mod LeapLaws
+pub mod IntoLaws

@@ -1,10 +1,11 @@
 -- Stamps that are kept thinned inside a base.
-use Rattle.std.specs.Prelude.{◌≡◌, Bool, true, not, ◌&&◌, List, ◌∷◌, filter}
+use Rattle.std.specs.Prelude.{◌≡◌, ◌≢◌, ℕ, ◌<◌, Bool, true, not, ◌&&◌, List, [], ◌∷◌, length, slice_index_or, filter}
 use Rattle.std.specs.List.{AllByRecursion, list_any}
 use Rattle.fw_time.specs.Stamp.{Stamp, lesser, in_domain}
 use Rattle.fw_time.specs.declared.stamp.Bounds.{Bounds}
 use Rattle.fw_frontier.specs.Frontier.{Frontier, Within}
 use Rattle.fw_frontier.specs.Front.{Front, inside, frontier_of}
+use Rattle.fw_flow.specs.Dataflow.{Dataflow, receiver}
 use Rattle.fw_model.specs.Thinned.{IsThinned}
 
 -- whether one of these stamps is inside and greater
@@ -40,3 +41,9 @@ abbrev pub IsThinnedTo : Front → List Stamp → List Stamp → Type 0
 IsThinnedTo f old new =
     (bounds : Bounds) (base : Frontier) (all : List Stamp) → AreOf bounds all → Within base (frontier_of bounds f) → IsThinned base all old
     → IsThinned (frontier_of bounds f) (filter (frontier_of bounds f) all) new
+
+-- the lists of a node's in-edges are changed so, and those of the other edges are as they were
+pub record ChangesInto (flow : Dataflow) (p : ℕ) (R : List Stamp → List Stamp → Type 0) (old new : List (List Stamp)) : Type 0 where
+  pub one_each : length new ≡ length old
+  pub here : (d : ℕ) → d < length flow.edges → receiver flow d ≡ p → R (slice_index_or old d []) (slice_index_or new d [])
+  pub others : (d : ℕ) → receiver flow d ≢ p → slice_index_or new d [] ≡ slice_index_or old d []

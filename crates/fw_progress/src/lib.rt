@@ -4,7 +4,7 @@
 //! call for each event. Of each node it keeps a frontier within its complete one; `Progress::refresh` widens those that can
 //! be widened until each is complete, at the cost of what changed.
 //!
-//! `KeptStamps` are the stamps of a node's events that a recovery asks for, thinned inside a base.
+//! `Traces` keep at which stamps the events of each node are, as a recovery asks for them: `KeptStamps`, thinned inside a base.
 #![tactic(auto)]
 
 mod counts;

@@ -2,7 +2,7 @@
 ghost use Rattle.std.specs.Prelude.{◌≡◌, ◌<◌, [], length, IfOk};
 ghost use Rattle.std.specs.List.{AllByRecursion};
 ghost use Rattle.fw_progress.specs.Progress.{ChangesAt};
-ghost use Rattle.fw_progress.specs.Traces.{StandForOneMore, IsSettledTo, IsCutTo};
+ghost use Rattle.fw_progress.specs.Traces.{StandForOneMore, IsSettledTo, IsCutTo, ChangesInto};
 
 use crate::kept_stamps::KeptStamps;
 use fw_flow::{EdgeId, Flow, NodeId};
@@ -71,6 +71,38 @@ impl Traces {
     {
         add_at(&mut self.sent, node.place() as usize, at)
     }
+
+    /// A larger base of a node: the stamps of its events are thinned inside it. For a node that takes checkpoints it is what
+    /// is settled there, for the others their low watermark. The error is want of memory.
+    pub fn settle(&mut self, flow: &Flow, node: NodeId, base: &Front) -> Result<(), AllocError>
+        requires edges { length self.old.delivered.items ≡ length flow.now.edges }
+        requires there { node < length self.old.notified.items }
+        requires sender { node < length self.old.sent.items }
+        ensures delivered { IfOk result (λ u. ChangesInto flow.now node (IsSettledTo base.now)
+            self.old.delivered.items self.new.delivered.items) }
+        ensures notified { IfOk result
+            (λ u. ChangesAt node [] (IsSettledTo base.now) self.old.notified.items self.new.notified.items) }
+        ensures sent { IfOk result
+            (λ u. ChangesAt node [] (IsSettledTo base.now) self.old.sent.items self.new.sent.items) }
+    {
+        settle_into(flow, &mut self.delivered, node, base)?;
+        settle_at(&mut self.notified, node.place() as usize, base)?;
+        settle_at(&mut self.sent, node.place() as usize, base)
+    }
+
+    /// A node is cut to a frontier that holds its base: the stamps of its events outside go. It takes no memory.
+    pub fn keep_inside(&mut self, flow: &Flow, node: NodeId, f: &Front)
+        requires edges { length self.old.delivered.items ≡ length flow.now.edges }
+        requires there { node < length self.old.notified.items }
+        requires sender { node < length self.old.sent.items }
+        ensures delivered { ChangesInto flow.now node (IsCutTo f.now) self.old.delivered.items self.new.delivered.items }
+        ensures notified { ChangesAt node [] (IsCutTo f.now) self.old.notified.items self.new.notified.items }
+        ensures sent { ChangesAt node [] (IsCutTo f.now) self.old.sent.items self.new.sent.items }
+    {
+        cut_into(flow, &mut self.delivered, node, f);
+        cut_at(&mut self.notified, node.place() as usize, f);
+        cut_at(&mut self.sent, node.place() as usize, f);
+    }
 }
 
 /// So many lists of no stamps. The error is want of memory.
@@ -93,4 +125,67 @@ fn add_at(lists: &mut Vec<KeptStamps>, place: usize, at: &Stamp) -> Result<(), A
     let kept = &mut lists[place];
     kept.add(at)?;
     Ok(())
+}
+
+/// One of the lists is thinned inside a larger base. The error is want of memory.
+fn settle_at(lists: &mut Vec<KeptStamps>, place: usize, base: &Front) -> Result<(), AllocError>
+    requires { place < length lists.old.items }
+    ensures { IfOk result (λ u. ChangesAt place [] (IsSettledTo base.now) lists.old.items lists.new.items) }
+{
+    let kept = &mut lists[place];
+    kept.settle(base)?;
+    Ok(())
+}
+
+/// The same of the list of an edge. The error is want of memory.
+fn settle_on(lists: &mut Vec<KeptStamps>, edge: EdgeId, base: &Front) -> Result<(), AllocError>
+    requires { edge < length lists.old.items }
+    ensures { IfOk result (λ u. ChangesAt edge [] (IsSettledTo base.now) lists.old.items lists.new.items) }
+{
+    settle_at(lists, edge.place() as usize, base)
+}
+
+/// The same of each in-edge of a node. The error is want of memory.
+fn settle_into(
+    flow: &Flow,
+    lists: &mut Vec<KeptStamps>,
+    node: NodeId,
+    base: &Front,
+) -> Result<(), AllocError>
+    requires { length lists.old.items ≡ length flow.now.edges }
+    ensures { IfOk result (λ u. ChangesInto flow.now node (IsSettledTo base.now) lists.old.items lists.new.items) }
+{
+    let edges = flow.in_edges(node);
+    for edge in edges {
+        settle_on(lists, *edge, base)?;
+    }
+    Ok(())
+}
+
+/// One of the lists is cut to a frontier.
+fn cut_at(lists: &mut Vec<KeptStamps>, place: usize, f: &Front)
+    requires { place < length lists.old.items }
+    ensures { ChangesAt place [] (IsCutTo f.now) lists.old.items lists.new.items }
+{
+    let kept = &mut lists[place];
+    kept.keep_inside(f);
+}
+
+/// The same of the list of an edge.
+fn cut_on(lists: &mut Vec<KeptStamps>, edge: EdgeId, f: &Front)
+    requires { edge < length lists.old.items }
+    ensures { ChangesAt edge [] (IsCutTo f.now) lists.old.items lists.new.items }
+{
+    cut_at(lists, edge.place() as usize, f);
+}
+
+/// The same of each in-edge of a node.
+fn cut_into(flow: &Flow, lists: &mut Vec<KeptStamps>, node: NodeId, f: &Front)
+    requires { length lists.old.items ≡ length flow.now.edges }
+    ensures { ChangesInto flow.now node (IsCutTo f.now) lists.old.items lists.new.items }
+{
+    let edges = flow.in_edges(node);
+    for edge in edges {
+        cut_on(lists, *edge, f);
+    }
 }

@@ -1,5 +1,5 @@
 //! At which stamps the events of all nodes are.
-ghost use Rattle.std.specs.Prelude.{◌≡◌, ◌<◌, [], length, IfOk};
+ghost use Rattle.std.specs.Prelude.{◌≡◌, ◌<◌, [], length, IfOk, OnErr};
 ghost use Rattle.std.specs.List.{AllByRecursion};
 ghost use Rattle.fw_progress.specs.Progress.{ChangesAt};
 ghost use Rattle.fw_progress.specs.Traces.{StandForOneMore, IsSettledTo, IsCutTo, ChangesInto};
@@ -39,33 +39,36 @@ impl Traces {
         })
     }
 
-    /// Something is delivered on an edge. The error is want of memory.
+    /// Something is delivered on an edge. The error is want of memory, which leaves the stamps as they were.
     pub fn delivered(&mut self, edge: EdgeId, at: &Stamp) -> Result<(), AllocError>
         requires { edge < length self.old.delivered.items }
         ensures delivered { IfOk result
             (λ u. ChangesAt edge [] (StandForOneMore at.now) self.old.delivered.items self.new.delivered.items) }
+        ensures err { OnErr result (self.new.delivered.items ≡ self.old.delivered.items) }
         ensures notified { self.new.notified ≡ self.old.notified }
         ensures sent { self.new.sent ≡ self.old.sent }
     {
         add_at(&mut self.delivered, edge.place() as usize, at)
     }
 
-    /// A node is notified. The error is want of memory.
+    /// A node is notified. The error is want of memory, which leaves the stamps as they were.
     pub fn notified(&mut self, node: NodeId, at: &Stamp) -> Result<(), AllocError>
         requires { node < length self.old.notified.items }
         ensures notified { IfOk result
             (λ u. ChangesAt node [] (StandForOneMore at.now) self.old.notified.items self.new.notified.items) }
+        ensures err { OnErr result (self.new.notified.items ≡ self.old.notified.items) }
         ensures delivered { self.new.delivered ≡ self.old.delivered }
         ensures sent { self.new.sent ≡ self.old.sent }
     {
         add_at(&mut self.notified, node.place() as usize, at)
     }
 
-    /// An event of a node sends something. The error is want of memory.
+    /// An event of a node sends something. The error is want of memory, which leaves the stamps as they were.
     pub fn sent(&mut self, node: NodeId, at: &Stamp) -> Result<(), AllocError>
         requires { node < length self.old.sent.items }
         ensures sent { IfOk result
             (λ u. ChangesAt node [] (StandForOneMore at.now) self.old.sent.items self.new.sent.items) }
+        ensures err { OnErr result (self.new.sent.items ≡ self.old.sent.items) }
         ensures delivered { self.new.delivered ≡ self.old.delivered }
         ensures notified { self.new.notified ≡ self.old.notified }
     {
@@ -73,7 +76,8 @@ impl Traces {
     }
 
     /// A larger base of a node: the stamps of its events are thinned inside it. For a node that takes checkpoints it is what
-    /// is settled there, for the others their low watermark. The error is want of memory.
+    /// is settled there, for the others their low watermark. The error is want of memory, after which some of
+    /// its lists may be thinned and others not.
     pub fn settle(&mut self, flow: &Flow, node: NodeId, base: &Front) -> Result<(), AllocError>
         requires edges { length self.old.delivered.items ≡ length flow.now.edges }
         requires there { node < length self.old.notified.items }
@@ -120,7 +124,8 @@ fn no_stamps(alloc: Global, count: usize) -> Result<Vec<KeptStamps>, AllocError>
 /// One stamp more in one of the lists. The error is want of memory.
 fn add_at(lists: &mut Vec<KeptStamps>, place: usize, at: &Stamp) -> Result<(), AllocError>
     requires { place < length lists.old.items }
-    ensures { IfOk result (λ u. ChangesAt place [] (StandForOneMore at.now) lists.old.items lists.new.items) }
+    ensures added { IfOk result (λ u. ChangesAt place [] (StandForOneMore at.now) lists.old.items lists.new.items) }
+    ensures err { OnErr result (lists.new.items ≡ lists.old.items) }
 {
     let kept = &mut lists[place];
     kept.add(at)?;

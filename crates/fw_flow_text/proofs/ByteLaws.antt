@@ -1,11 +1,11 @@
 -- The bytes of an accepted text. Words are clean where each of their bytes is allowed.
-use Rattle.std.proofs.Common.{◌≡◌, ℕ, ◌+◌, Bool, true, false, ◌&&◌, cond, List, [], ◌∷◌, length, take, Option, Some, None, refl, sym, ◌∙◌, ap, arith, slice_get, unwrap_or, suc, codes, option_map, nat_lt, ◌^◌}
+use Rattle.std.proofs.Common.{◌≡◌, ℕ, ◌+◌, Bool, true, false, ◌&&◌, cond, List, [], ◌∷◌, ◌++◌, length, Option, Some, None, refl, sym, ◌∙◌, ap, arith, unwrap_or, codes, option_map, nat_lt, ◌^◌}
 use Rattle.std.proofs.lemmas.Bool.Decides.{nat_tests}
-use Rattle.std.proofs.lemmas.Option.{slice_get_within, option_and_then_some}
+use Rattle.std.proofs.lemmas.Option.{option_and_then_some}
 use Rattle.std.proofs.lemmas.Slice.Eq.{bytes_eq-Decides}
 use Rattle.std.specs.Char.{is_ascii_digit}
 use Rattle.std.specs.List.{list_all, filter, slice_split, onto_first}
-use Rattle.std.specs.Option.{option_and_then, option_or}
+use Rattle.std.specs.Option.{option_or}
 use Rattle.std.specs.Str.{bytes_eq}
 use Rattle.std.specs.Str.Parse.{digits_value}
 use Rattle.fw_bag.specs.declared.select.Comparison.{Comparison}
@@ -18,6 +18,7 @@ use Rattle.fw_bag.specs.declared.select.Term.{Term}
 use Rattle.fw_lines.specs.declared.numeral.Number.TheVariants as number
 use Rattle.fw_lines.specs.Lines.{is_allowed, is_space, is_line_feed, is_word, words_of, lines_of, is_comment, said_by, said_from, said_lines, Said}
 use Rattle.fw_lines.specs.Spelling.{is_letter, is_in_names, is_name, is_numeral, number_of}
+use Rattle.fw_lines.proofs.FaultLaws.{told_none}
 use Rattle.fw_flow.specs.declared.kind.Policy.{Policy}
 use Rattle.fw_flow.specs.declared.raw.Declaration.{Declaration}
 use Rattle.fw_flow.specs.declared.raw.Declared.{Declared}
@@ -410,10 +411,12 @@ line_clean line e = by_test (is_comment (words_of line) && is_clean line) refl e
     by_test true t r = second (is_comment (words_of line)) (is_clean line) t
     by_test false t r = split_all is_space is_allowed space_allowed line (parts_clean (slice_split is_space line) r)
 
-lines_clean : (number : ℕ) (lines : List (List ℕ)) → ((place : ℕ) (line : Said) → slice_get (said_from number lines) place ≡ Some line → are_clean line.words ≡ true) → are_clean lines ≡ true
+lines_clean : (number : ℕ) (lines : List (List ℕ)) → ((before : List Said) (line : Said) (after : List Said) → before ++ line ∷ after ≡ said_from number lines → are_clean line.words ≡ true) → are_clean lines ≡ true
 lines_clean number [] h = refl
 lines_clean number (line ∷ lines) h =
-    both (is_clean line) (are_clean lines) (line_clean line (h 0 _ refl)) (lines_clean (number + 1) lines (λ place said e. h (suc place) said e))
+    let said : Said = record { number = number; words = said_by line } in
+    both (is_clean line) (are_clean lines) (line_clean line (h [] said (said_from (number + 1) lines) refl))
+    (lines_clean (number + 1) lines (λ before other after e. h (said ∷ before) other after (ap (λ ls. said ∷ ls) e)))
 
 allowed_in_texts : (b : ℕ) → is_allowed b ≡ true → is_in_texts b ≡ true
 allowed_in_texts b e = grind (arith, nat_tests, e)
@@ -431,7 +434,5 @@ pub accepted_text_allowed : (text : List ℕ) (flow : Dataflow) → IsAccepted t
 accepted_text_allowed text flow accepted =
     split_all is_line_feed is_in_texts lf_in_texts text (lines_in_texts (lines_of text) (lines_clean 1 (lines_of text) each))
   where
-    each : (place : ℕ) (line : Said) → slice_get (said_lines text) place ≡ Some line → are_clean line.words ≡ true
-    each place line e =
-        let none = accepted.sound.lines place (slice_get_within (said_lines text) place line e) in
-        words_clean (declared_by (take place (said_lines text))) line.words (sym (ap (option_and_then (λ l. line_fault (take place (said_lines text)) l)) e) ∙ none)
+    each : (before : List Said) (line : Said) (after : List Said) → before ++ line ∷ after ≡ said_lines text → are_clean line.words ≡ true
+    each before line after e = words_clean (declared_by before) line.words (told_none (line_fault before line) (λ code. accepted.sound.lines before line after code e))

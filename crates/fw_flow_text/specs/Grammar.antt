@@ -1,5 +1,5 @@
 -- The grammar of flows.
-use Rattle.std.specs.Prelude.{ℕ, Bool, true, false, List, [], ◌∷◌, Option, Some, None, option_map, ◌⊎◌}
+use Rattle.std.specs.Prelude.{◌≡◌, ℕ, Bool, true, false, List, [], ◌∷◌, Option, Some, None, option_map, ◌⊎◌}
 use Rattle.std.specs.List.{filter_map}
 use Rattle.fw_lines.specs.declared.refusal.Code.{Code}
 use Rattle.fw_lines.specs.declared.refusal.Code.TheVariants.{F1, F2, F10, F11}
@@ -48,7 +48,7 @@ size_limit = 1048576
 
 -- what is asked of the lines of a flow
 abbrev pub flow_rules : Rules
-flow_rules = record { most = size_limit; too_long = F11; fault = line_fault }
+flow_rules = record { most = size_limit; too_long = F11; breaks = λ before line code. line_fault before line ≡ Some code }
 
 -- the text has the form of a flow, and its declarations are those of this dataflow
 pub record IsAccepted (text : List ℕ) (flow : Dataflow) : Type 0 where

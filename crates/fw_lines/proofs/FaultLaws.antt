@@ -1,75 +1,122 @@
 -- The lines of a text, judged one after another.
-use Rattle.std.proofs.Common.{◌≡◌, ℕ, ◌<◌, List, [], ◌∷◌, ◌++◌, length, take, Option, Some, None, refl, sym, ◌∙◌, ap, subst, arith, slice_get, below_more, append_assoc, ◌⊎◌, inl, inr}
+use Rattle.std.proofs.Common.{◌≡◌, ℕ, ◌+◌, List, [], ◌∷◌, ◌++◌, length, Option, Some, None, refl, sym, ◌∙◌, ap, subst, arith, append_assoc, ◌⊎◌, inl, inr}
 use Rattle.std.proofs.lemmas.Bool.{cases_lt}
-use Rattle.std.proofs.lemmas.List.{take_at, length_push, append-nil}
-use Rattle.std.proofs.lemmas.Option.{slice_get_within}
-use Rattle.std.specs.Option.{option_and_then}
+use Rattle.std.proofs.lemmas.List.{append-nil, length-append}
 use Rattle.fw_lines.specs.declared.fault.ReadFault.{ReadFault}
 use Rattle.fw_lines.specs.declared.fault.ReadFault.TheVariants.{Refused, NoMemory}
 use Rattle.fw_lines.specs.declared.refusal.Code.{Code}
 use Rattle.fw_lines.specs.declared.refusal.Refusal.{Refusal}
-use Rattle.fw_lines.specs.Faults.{fault_at, IsSoundBelow, BreakNoRule, IsFirstFault, IfRefused, Rules, IsSound, IsFirstRefusal}
+use Rattle.fw_lines.specs.Faults.{BreakNoRule, IsFirstFault, IfRefused, Rules, IsSound, IsFirstRefusal}
 use Rattle.fw_lines.specs.Lines.{Said, said_lines}
 
+-- ---- rules under which each text has exactly one answer
+
+-- a line breaks one of the rules or none, and no two
+pub record AreExact (breaks : List Said → Said → Code → Type 0) : Type 0 where
+  pub decided : (before : List Said) (line : Said) → ((code : Code) × breaks before line code) ⊎ ((code : Code) → breaks before line code → ⊥)
+  pub no_two : (before : List Said) (line : Said) (first second : Code) → breaks before line first → breaks before line second → first ≡ second
+
+-- the rules that a function tells: a line breaks the one that it names
+abbrev pub Told : (List Said → Said → Option Code) → List Said → Said → Code → Type 0
+Told fault before line code = fault before line ≡ Some code
+
+pub none_told : (o : Option Code) → o ≡ None → (code : Code) → o ≡ Some code → ⊥
+none_told o e code f = let h : None ≡ Some code = sym e ∙ f in absurd (cc)
+
+pub told_none : (o : Option Code) → ((code : Code) → o ≡ Some code → ⊥) → o ≡ None
+told_none None h = refl
+told_none (Some code) h = absurd (h code refl)
+
+pub told_exact : (fault : List Said → Said → Option Code) → AreExact (Told fault)
+told_exact fault = record {
+  decided = λ before line. decide (fault before line);
+  no_two = λ before line first second e f. let h : Some first ≡ Some second = sym e ∙ f in cc;
+}
+  where
+    decide : (o : Option Code) → ((code : Code) × (o ≡ Some code)) ⊎ ((code : Code) → o ≡ Some code → ⊥)
+    decide None = inr (none_told None refl)
+    decide (Some code) = inl (code, refl)
+
+-- ---- places of lines
+
+-- one of two lines of a text stands before the other, or both are the same
+places : (b : List Said) (x : Said) (r : List Said) (c : List Said) (y : Said) (s : List Said) → b ++ x ∷ r ≡ c ++ y ∷ s
+    → ((b ≡ c) × (x ≡ y)) ⊎ (((t : List Said) × (b ++ x ∷ t ≡ c)) ⊎ ((t : List Said) × (c ++ y ∷ t ≡ b)))
+places [] x r [] y s e = let h : x ≡ y = cc in inl (refl, h)
+places [] x r (z ∷ c) y s e = let h : x ≡ z = cc in inr (inl (c, ap (λ w. w ∷ c) h))
+places (z ∷ b) x r [] y s e = let h : y ≡ z = cc in inr (inr (b, ap (λ w. w ∷ b) h))
+places (w ∷ b) x r (z ∷ c) y s e =
+    let h : w ≡ z = cc in
+    let t : b ++ x ∷ r ≡ c ++ y ∷ s = cc in
+    elim (places b x r c y s t) [
+      | inl same ↦ inl (ap (λ v. v ∷ b) h ∙ ap (λ l. z ∷ l) same.0, same.1)
+      | inr other ↦ elim other [
+        | inl before ↦ inr (inl (before.0, ap (λ v. v ∷ (b ++ x ∷ before.0)) h ∙ ap (λ l. z ∷ l) before.1))
+        | inr after ↦ inr (inr (after.0, ap (λ v. v ∷ (c ++ y ∷ after.0)) (sym h) ∙ ap (λ l. w ∷ l) after.1))
+      ]
+    ]
+
+-- lines that stand behind others are no part of them
+not_within : (b : List Said) (x : Said) (r c : List Said) (y : Said) (t : List Said) → b ++ x ∷ r ≡ c ++ y ∷ [] → c ++ y ∷ t ≡ b → ⊥
+not_within b x r c y t e f =
+    let whole : length b + length (x ∷ r) ≡ length c + 1 = sym (length-append b (x ∷ r)) ∙ ap length e ∙ length-append c (y ∷ []) in
+    let part : length c + length (y ∷ t) ≡ length b = sym (length-append c (y ∷ t)) ∙ ap length f in
+    absurd (omega (arith, whole, part))
+
+-- ---- lines
+
 -- lines of which the first, `done`, break no rule
-pub record IsSoundSoFar (fault : List Said → Said → Option Code) (lines left done : List Said) : Type 0 where
+pub record IsSoundSoFar (breaks : List Said → Said → Code → Type 0) (lines left done : List Said) : Type 0 where
   pub parts : done ++ left ≡ lines
-  pub sound : IsSoundBelow fault lines (length done)
+  pub sound : BreakNoRule breaks done
 
-slice_get_seam : (xs : List Said) (y : Said) (ys : List Said) → slice_get (xs ++ y ∷ ys) (length xs) ≡ Some y
-slice_get_seam [] y ys = refl
-slice_get_seam (x ∷ xs) y ys = slice_get_seam xs y ys
-
--- the line that comes next stands behind the lines that are done
-pub next_there : (lines done : List Said) (line : Said) (left : List Said) → done ++ line ∷ left ≡ lines → slice_get lines (length done) ≡ Some line
-next_there lines done line left e = ap (λ ls. slice_get ls (length done)) (sym e) ∙ slice_get_seam done line left
-
-pub take_done : (lines done left : List Said) → done ++ left ≡ lines → take (length done) lines ≡ done
-take_done lines done left e = ap (take (length done)) (sym e) ∙ take_at done left (length done) refl
-
--- the rule that the next line breaks
-pub fault_next : (fault : List Said → Said → Option Code) (lines done : List Said) (line : Said) (left : List Said) → done ++ line ∷ left ≡ lines → fault_at fault lines (length done) ≡ fault done line
-fault_next fault lines done line left e =
-    ap (option_and_then (λ l. fault (take (length done) lines) l)) (next_there lines done line left e)
-    ∙ ap (λ ls. fault ls line) (take_done lines done (line ∷ left) e)
+pub none_judged : (breaks : List Said → Said → Code → Type 0) (lines : List Said) → IsSoundSoFar breaks lines lines []
+none_judged breaks lines = record { parts = refl; sound = nothing }
+  where
+    nothing : BreakNoRule breaks []
+    nothing [] line after code e b = absurd (cc)
+    nothing (first ∷ before) line after code e b = absurd (cc)
 
 -- one line more breaks no rule
-pub sound_more : (fault : List Said → Said → Option Code) (lines done : List Said) (line : Said) (left : List Said) → IsSoundSoFar fault lines (line ∷ left) done → fault done line ≡ None → IsSoundSoFar fault lines left (done ++ line ∷ [])
-sound_more fault lines done line left h e = record {
-  parts = append_assoc done (line ∷ []) left ∙ h.parts;
-  sound = λ place below. below_more (λ p. fault_at fault lines p ≡ None) (length done) h.sound (fault_next fault lines done line left h.parts ∙ e) place (omega (arith, length_push done line, below));
-}
+pub sound_more : (breaks : List Said → Said → Code → Type 0) (lines done : List Said) (line : Said) (left : List Said) → IsSoundSoFar breaks lines (line ∷ left) done → ((code : Code) → breaks done line code → ⊥)
+    → IsSoundSoFar breaks lines left (done ++ line ∷ [])
+sound_more breaks lines done line left h none = record { parts = append_assoc done (line ∷ []) left ∙ h.parts; sound = sound }
+  where
+    sound : BreakNoRule breaks (done ++ line ∷ [])
+    sound before other after code e b =
+        elim (places before other after done line [] e) [
+          | inl same ↦ none code (subst (λ l. breaks done l code) same.1 (subst (λ ls. breaks ls other code) same.0 b))
+          | inr apart ↦ elim apart [
+            | inl earlier ↦ h.sound before other earlier.0 code earlier.1 b
+            | inr later ↦ not_within before other after done line later.0 e later.1
+          ]
+        ]
 
 -- the next line is the first that breaks a rule
-pub first_fault : (fault : List Said → Said → Option Code) (lines done : List Said) (line : Said) (left : List Said) (refusal : Refusal) → IsSoundSoFar fault lines (line ∷ left) done → fault done line ≡ Some refusal.code → refusal.line ≡ line.number → IsFirstFault fault lines refusal
-first_fault fault lines done line left refusal h e n = record {
-  place = length done;
+pub first_fault : (breaks : List Said → Said → Code → Type 0) (lines done : List Said) (line : Said) (left : List Said) (refusal : Refusal) → IsSoundSoFar breaks lines (line ∷ left) done → breaks done line refusal.code → refusal.line ≡ line.number
+    → IsFirstFault breaks lines refusal
+first_fault breaks lines done line left refusal h b n = record {
+  before = done;
   line = line;
-  there = next_there lines done line left h.parts;
+  after = left;
+  parts = h.parts;
   earlier = h.sound;
-  broken = ap (λ ls. fault ls line) (take_done lines done (line ∷ left) h.parts) ∙ e;
+  broken = b;
   number = n;
 }
 
-pub none_left : (fault : List Said → Said → Option Code) (lines done : List Said) → IsSoundSoFar fault lines [] done → BreakNoRule fault lines × (done ≡ lines)
-none_left fault lines done h =
+pub none_left : (breaks : List Said → Said → Code → Type 0) (lines done : List Said) → IsSoundSoFar breaks lines [] done → BreakNoRule breaks lines × (done ≡ lines)
+none_left breaks lines done h =
     let same : done ≡ lines = sym (append-nil done) ∙ h.parts in
-    (λ place below. h.sound place (subst (λ ls. place < length ls) (sym same) below), same)
+    (subst (BreakNoRule breaks) same h.sound, same)
 
 pub if_refused-weaker : (P Q : Refusal → Type 0) (fault : ReadFault) → IfRefused P fault → ((refusal : Refusal) → P refusal → Q refusal) → IfRefused Q fault
 if_refused-weaker P Q (Refused refusal) h f = f refusal h
 if_refused-weaker P Q NoMemory h f = tt
 
--- the rule of the line at the place of a first fault
-fault_there : (fault : List Said → Said → Option Code) (lines : List Said) (refusal : Refusal) (first : IsFirstFault fault lines refusal) → fault_at fault lines first.place ≡ Some refusal.code
-fault_there fault lines refusal first = ap (option_and_then (λ line. fault (take first.place lines) line)) first.there ∙ first.broken
-
 -- lines that break no rule have no first fault
-pub sound_or_first : (fault : List Said → Said → Option Code) (lines : List Said) (refusal : Refusal) → BreakNoRule fault lines → IsFirstFault fault lines refusal → ⊥
-sound_or_first fault lines refusal sound first =
-    let none = sound first.place (slice_get_within lines first.place first.line first.there) in
-    let some = fault_there fault lines refusal first in
-    cc (none, some)
+pub sound_or_first : (breaks : List Said → Said → Code → Type 0) (lines : List Said) (refusal : Refusal) → BreakNoRule breaks lines → IsFirstFault breaks lines refusal → ⊥
+sound_or_first breaks lines refusal sound first = sound first.before first.line first.after refusal.code first.parts first.broken
 
 same_refusal : (r s : Refusal) → r.code ≡ s.code → r.line ≡ s.line → r ≡ s
 same_refusal r s e f =
@@ -77,69 +124,55 @@ same_refusal r s e f =
     let with_line : ℕ → Refusal = λ n. record { code = s.code; line = n } in
     ap with_code e ∙ ap with_line f
 
-no_later : (fault : List Said → Said → Option Code) (lines : List Said) (r s : Refusal) (first : IsFirstFault fault lines r) (second : IsFirstFault fault lines s) → first.place < second.place → ⊥
-no_later fault lines r s first second before =
-    let none = second.earlier first.place before in
-    let some = fault_there fault lines r first in
-    cc (none, some)
-
-same_at : (fault : List Said → Said → Option Code) (lines : List Said) (r s : Refusal) (first : IsFirstFault fault lines r) (second : IsFirstFault fault lines s) → first.place ≡ second.place → r ≡ s
-same_at fault lines r s first second e =
-    let here = fault_there fault lines r first in
-    let there = fault_there fault lines s second in
-    let line : Some first.line ≡ Some second.line = sym first.there ∙ ap (slice_get lines) e ∙ second.there in
-    let at = ap (fault_at fault lines) e in
-    let code : r.code ≡ s.code = cc (here, there, at) in
-    let same_line : first.line ≡ second.line = cc in
-    same_refusal r s code (first.number ∙ ap (λ (l : Said). l.number) same_line ∙ sym second.number)
-
 -- lines have one first fault
-pub one_first : (fault : List Said → Said → Option Code) (lines : List Said) (r s : Refusal) → IsFirstFault fault lines r → IsFirstFault fault lines s → r ≡ s
-one_first fault lines r s first second =
-    elim (cases_lt first.place second.place) [
-      | inl before ↦ absurd (no_later fault lines r s first second before)
-      | inr not_before ↦ elim (cases_lt second.place first.place) [
-        | inl after ↦ absurd (no_later fault lines s r second first after)
-        | inr not_after ↦ same_at fault lines r s first second (omega (arith, not_before, not_after))
+pub one_first : (breaks : List Said → Said → Code → Type 0) (lines : List Said) (r s : Refusal) → AreExact breaks → IsFirstFault breaks lines r → IsFirstFault breaks lines s → r ≡ s
+one_first breaks lines r s exact first second =
+    elim (places first.before first.line first.after second.before second.line second.after (first.parts ∙ sym second.parts)) [
+      | inl same ↦ let there : breaks second.before second.line r.code = subst (λ l. breaks second.before l r.code) same.1 (subst (λ ls. breaks ls first.line r.code) same.0 first.broken) in
+          same_refusal r s (exact.no_two second.before second.line r.code s.code there second.broken) (first.number ∙ ap (λ (l : Said). l.number) same.1 ∙ sym second.number)
+      | inr apart ↦ elim apart [
+        | inl before ↦ absurd (second.earlier first.before first.line before.0 r.code before.1 first.broken)
+        | inr after ↦ absurd (first.earlier second.before second.line after.0 s.code after.1 second.broken)
       ]
     ]
 
 -- the lines that are left break no rule, or one is the first that does
-first_left : (fault : List Said → Said → Option Code) (lines done left : List Said) → IsSoundSoFar fault lines left done
-    → BreakNoRule fault lines ⊎ ((refusal : Refusal) × IsFirstFault fault lines refusal)
-first_left fault lines done [] h = inl (none_left fault lines done h).0
-first_left fault lines done (line ∷ left) h = by (fault done line) refl (λ e. first_left fault lines (done ++ line ∷ []) left (sound_more fault lines done line left h e))
+first_left : (breaks : List Said → Said → Code → Type 0) (lines done left : List Said) → AreExact breaks → IsSoundSoFar breaks lines left done
+    → BreakNoRule breaks lines ⊎ ((refusal : Refusal) × IsFirstFault breaks lines refusal)
+first_left breaks lines done [] exact h = inl (none_left breaks lines done h).0
+first_left breaks lines done (line ∷ left) exact h = by (exact.decided done line) (λ none. first_left breaks lines (done ++ line ∷ []) left exact (sound_more breaks lines done line left h none))
   where
-    by : (c : Option Code) → fault done line ≡ c → (fault done line ≡ None → BreakNoRule fault lines ⊎ ((refusal : Refusal) × IsFirstFault fault lines refusal))
-        → BreakNoRule fault lines ⊎ ((refusal : Refusal) × IsFirstFault fault lines refusal)
-    by None e later = later e
-    by (Some code) e later =
-        let refusal : Refusal = record { code = code; line = line.number } in
-        inr (refusal, first_fault fault lines done line left refusal h e refl)
+    by : ((code : Code) × breaks done line code) ⊎ ((code : Code) → breaks done line code → ⊥)
+        → (((code : Code) → breaks done line code → ⊥) → BreakNoRule breaks lines ⊎ ((refusal : Refusal) × IsFirstFault breaks lines refusal))
+        → BreakNoRule breaks lines ⊎ ((refusal : Refusal) × IsFirstFault breaks lines refusal)
+    by (inr none) later = later none
+    by (inl broken) later =
+        let refusal : Refusal = record { code = broken.0; line = line.number } in
+        inr (refusal, first_fault breaks lines done line left refusal h broken.1 refl)
 
 -- lines break no rule, or one of them is the first that does
-pub sound_or_some : (fault : List Said → Said → Option Code) (lines : List Said) → BreakNoRule fault lines ⊎ ((refusal : Refusal) × IsFirstFault fault lines refusal)
-sound_or_some fault lines = first_left fault lines [] lines (record { parts = refl; sound = λ place below. absurd (omega (arith, below)) })
+pub sound_or_some : (breaks : List Said → Said → Code → Type 0) (lines : List Said) → AreExact breaks → BreakNoRule breaks lines ⊎ ((refusal : Refusal) × IsFirstFault breaks lines refusal)
+sound_or_some breaks lines exact = first_left breaks lines [] lines exact (none_judged breaks lines)
 
 -- ---- whole texts
 
 -- a sound text has no first refusal
 pub sound_or_refused : (rules : Rules) (text : List ℕ) (refusal : Refusal) → IsSound rules text → IsFirstRefusal rules text refusal → ⊥
 sound_or_refused rules text refusal sound (inl large) = absurd (omega (arith, sound.size, large.0))
-sound_or_refused rules text refusal sound (inr first) = sound_or_first rules.fault (said_lines text) refusal sound.lines first.1
+sound_or_refused rules text refusal sound (inr first) = sound_or_first rules.breaks (said_lines text) refusal sound.lines first.1
 
 -- a text has one first refusal
-pub one_first_refusal : (rules : Rules) (text : List ℕ) (r s : Refusal) → IsFirstRefusal rules text r → IsFirstRefusal rules text s → r ≡ s
-one_first_refusal rules text r s (inl a) (inl b) = a.1 ∙ sym b.1
-one_first_refusal rules text r s (inl a) (inr b) = absurd (omega (arith, a.0, b.0))
-one_first_refusal rules text r s (inr a) (inl b) = absurd (omega (arith, a.0, b.0))
-one_first_refusal rules text r s (inr a) (inr b) = one_first rules.fault (said_lines text) r s a.1 b.1
+pub one_first_refusal : (rules : Rules) (text : List ℕ) (r s : Refusal) → AreExact rules.breaks → IsFirstRefusal rules text r → IsFirstRefusal rules text s → r ≡ s
+one_first_refusal rules text r s exact (inl a) (inl b) = a.1 ∙ sym b.1
+one_first_refusal rules text r s exact (inl a) (inr b) = absurd (omega (arith, a.0, b.0))
+one_first_refusal rules text r s exact (inr a) (inl b) = absurd (omega (arith, a.0, b.0))
+one_first_refusal rules text r s exact (inr a) (inr b) = one_first rules.breaks (said_lines text) r s exact a.1 b.1
 
 -- a text is sound, or has a first refusal
-pub sound_or_some_refusal : (rules : Rules) (text : List ℕ) → IsSound rules text ⊎ ((refusal : Refusal) × IsFirstRefusal rules text refusal)
-sound_or_some_refusal rules text = elim (cases_lt rules.most (length text)) [
+pub sound_or_some_refusal : (rules : Rules) (text : List ℕ) → AreExact rules.breaks → IsSound rules text ⊎ ((refusal : Refusal) × IsFirstRefusal rules text refusal)
+sound_or_some_refusal rules text exact = elim (cases_lt rules.most (length text)) [
   | inl large ↦ inr (record { code = rules.too_long; line = 0 }, inl (large, refl))
-  | inr small ↦ elim (sound_or_some rules.fault (said_lines text)) [
+  | inr small ↦ elim (sound_or_some rules.breaks (said_lines text) exact) [
     | inl sound ↦ inl (record { size = omega (arith, small); lines = sound })
     | inr fault ↦ inr (fault.0, inr (omega (arith, small), fault.1))
   ]

@@ -22,7 +22,7 @@ use Rattle.fw_lines.specs.Inputs.{is_colon, record_of, record_from, spelled_rec,
 use Rattle.fw_lines.specs.Lines.{Said, is_allowed}
 use Rattle.fw_lines.specs.Sources.{node_named, is_source}
 use Rattle.fw_lines.specs.Spelling.{number_of, is_numeral}
-use Rattle.fw_lines.proofs.FaultLaws.{fault_next}
+use Rattle.fw_lines.proofs.FaultLaws.{Told, told_none}
 use Rattle.fw_lines.proofs.ReadLaws.{IsRead, read_all, batches_of-push}
 
 -- ---- the recs of a batch
@@ -168,12 +168,11 @@ given_by : (b : Bool) (line : Said) → length (map (λ (l : Said). batch_of l.w
 given_by true line = refl
 given_by false line = refl
 
-few_from : (sources : List (List ℕ × ℕ)) (lines done left : List Said) (node : ℕ) → BreakNoRule (line_fault sources) lines → done ++ left ≡ lines → length (batches_of sources done node) ≤ 2 ^ 20
+few_from : (sources : List (List ℕ × ℕ)) (lines done left : List Said) (node : ℕ) → BreakNoRule (Told (line_fault sources)) lines → done ++ left ≡ lines → length (batches_of sources done node) ≤ 2 ^ 20
     → length (batches_of sources (done ++ left) node) ≤ 2 ^ 20
 few_from sources lines done [] node sound parts h = subst (λ t. length (batches_of sources t node) ≤ 2 ^ 20) (sym (append-nil done)) h
 few_from sources lines done (line ∷ left) node sound parts h =
-    let there : length done < length lines = subst (λ t. length done < length t) parts (below done line left) in
-    let none : line_fault sources done line ≡ None = sym (fault_next (line_fault sources) lines done line left parts) ∙ sound (length done) there in
+    let none : line_fault sources done line ≡ None = told_none (line_fault sources done line) (λ code. sound done line left code parts) in
     let one = few_line sources done node line.words none h in
     let count : length (batches_of sources (done ++ line ∷ []) node) ≡ length (batches_of sources done node) + cond (is_batch_of sources node line) 1 0 =
     ap length (batches_of-push sources done line node)
@@ -181,18 +180,14 @@ few_from sources lines done (line ∷ left) node sound parts h =
     ∙ ap (λ n. length (batches_of sources done node) + n) (given_by (is_batch_of sources node line) line) in
     let next = few_from sources lines (done ++ line ∷ []) left node sound (append_assoc done (line ∷ []) left ∙ parts) (subst (λ n. n ≤ 2 ^ 20) (sym count) one) in
     subst (λ t. length (batches_of sources t node) ≤ 2 ^ 20) (append_assoc done (line ∷ []) left) next
-  where
-    below : (xs : List Said) (y : Said) (ys : List Said) → length xs < length (xs ++ y ∷ ys)
-    below [] y ys = omega arith
-    below (x ∷ xs) y ys = omega (arith, below xs y ys)
 
-few_batches : (sources : List (List ℕ × ℕ)) (lines : List Said) (node : ℕ) → BreakNoRule (line_fault sources) lines → length (batches_of sources lines node) ≤ 2 ^ 20
+few_batches : (sources : List (List ℕ × ℕ)) (lines : List Said) (node : ℕ) → BreakNoRule (Told (line_fault sources)) lines → length (batches_of sources lines node) ≤ 2 ^ 20
 few_batches sources lines node sound = few_from sources lines [] lines node sound refl (omega arith)
 
 -- ---- together
 
 -- what lines that break no rule give are batches of the sources
-pub sound-batches : (sources : List (List ℕ × ℕ)) (lines : List Said) (given : ℕ → List (List Rec)) → BreakNoRule (line_fault sources) lines → ((node : ℕ) → given node ≡ batches_of sources lines node) → AreBatchesOf sources given
+pub sound-batches : (sources : List (List ℕ × ℕ)) (lines : List Said) (given : ℕ → List (List Rec)) → BreakNoRule (Told (line_fault sources)) lines → ((node : ℕ) → given node ≡ batches_of sources lines node) → AreBatchesOf sources given
 sound-batches sources lines given sound value = record {
   of_sources = λ node e. value node ∙ none_given sources lines node e;
   few = λ node. subst (λ b. length b ≤ 2 ^ 20) (sym (value node)) (few_batches sources lines node sound);

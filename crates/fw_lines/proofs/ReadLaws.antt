@@ -14,12 +14,12 @@ use Rattle.fw_lines.specs.Batches.{batches_at}
 use Rattle.fw_lines.specs.Faults.{BreakNoRule, IsFirstFault}
 use Rattle.fw_lines.specs.Inputs.{line_fault, batches_of, fault_in, source_of, fault_of, batch_of, is_batch_of, size_limit, rules_of, IsAccepted, IsRefused}
 use Rattle.fw_lines.specs.Lines.{Said, bytes_at, said_in, said_lines}
-use Rattle.fw_lines.proofs.FaultLaws.{IsSoundSoFar, sound_more, first_fault, none_left, sound_or_refused, sound_or_some_refusal, one_first_refusal}
+use Rattle.fw_lines.proofs.FaultLaws.{Told, told_exact, none_told, IsSoundSoFar, sound_more, first_fault, none_left, sound_or_refused, sound_or_some_refusal, one_first_refusal}
 
 -- what the code's loop knows: some lines are done, none of them breaks a rule, and the batches are theirs
 pub record IsRead (sources : List (List ℕ × ℕ)) (lines left : List Said) (batches : List (ℕ × List (List Rec))) : Type 0 where
   pub done : List Said
-  pub so_far : IsSoundSoFar (line_fault sources) lines left done
+  pub so_far : IsSoundSoFar (Told (line_fault sources)) lines left done
   pub value : (node : ℕ) → batches_at batches node ≡ batches_of sources done node
 
 -- the batches that are read count as those of the lines that are done
@@ -41,24 +41,24 @@ pub read_more : (sources : List (List ℕ × ℕ)) (text : List ℕ) (lines left
     → ((node : ℕ) → batches_at new node ≡ batches_at batches node ++ batches_of sources (said_in text line ∷ []) node)
     → IsRead sources lines next new
 read_more sources text lines left next line batches new read e sound value =
-    let so_far = subst (λ ls. IsSoundSoFar (line_fault sources) lines ls read.done) e read.so_far in
+    let so_far = subst (λ ls. IsSoundSoFar (Told (line_fault sources)) lines ls read.done) e read.so_far in
     record {
       done = read.done ++ said_in text line ∷ [];
-      so_far = sound_more (line_fault sources) lines read.done (said_in text line) next so_far (fault_done sources text batches read.done line.words line.number read.value ∙ sound);
+      so_far = sound_more (Told (line_fault sources)) lines read.done (said_in text line) next so_far (none_told _ (fault_done sources text batches read.done line.words line.number read.value ∙ sound));
       value = λ node. value node ∙ ap (λ bs. bs ++ batches_of sources (said_in text line ∷ []) node) (read.value node) ∙ sym (batches_of-push sources read.done (said_in text line) node);
     }
 
 -- the next line is the first that breaks a rule
 pub read_broken : (sources : List (List ℕ × ℕ)) (text : List ℕ) (lines left next : List Said) (line : Line) (batches : List (ℕ × List (List Rec))) (refusal : Refusal) → IsRead sources lines left batches → left ≡ said_in text line ∷ next
     → fault_in text sources line.words batches ≡ Some refusal.code → refusal.line ≡ line.number
-    → IsFirstFault (line_fault sources) lines refusal
+    → IsFirstFault (Told (line_fault sources)) lines refusal
 read_broken sources text lines left next line batches refusal read e broken number =
-    first_fault (line_fault sources) lines read.done (said_in text line) next refusal (subst (λ ls. IsSoundSoFar (line_fault sources) lines ls read.done) e read.so_far) (fault_done sources text batches read.done line.words line.number read.value ∙ broken) number
+    first_fault (Told (line_fault sources)) lines read.done (said_in text line) next refusal (subst (λ ls. IsSoundSoFar (Told (line_fault sources)) lines ls read.done) e read.so_far) (fault_done sources text batches read.done line.words line.number read.value ∙ broken) number
 
 -- all lines are read
-pub read_all : (sources : List (List ℕ × ℕ)) (lines : List Said) (batches : List (ℕ × List (List Rec))) → IsRead sources lines [] batches → BreakNoRule (line_fault sources) lines × ((node : ℕ) → batches_at batches node ≡ batches_of sources lines node)
+pub read_all : (sources : List (List ℕ × ℕ)) (lines : List Said) (batches : List (ℕ × List (List Rec))) → IsRead sources lines [] batches → BreakNoRule (Told (line_fault sources)) lines × ((node : ℕ) → batches_at batches node ≡ batches_of sources lines node)
 read_all sources lines batches read =
-    let all = none_left (line_fault sources) lines read.done read.so_far in
+    let all = none_left (Told (line_fault sources)) lines read.done read.so_far in
     (all.0, λ node. read.value node ∙ ap (λ ls. batches_of sources ls node) all.1)
 
 -- a short text of which all lines are read is accepted
@@ -74,7 +74,7 @@ accepted_or_refused text sources batches refusal accepted = sound_or_refused (ru
 
 -- a text is refused by one rule at one line
 pub one_refusal : (text : List ℕ) (sources : List (List ℕ × ℕ)) (first second : Refusal) → IsRefused text sources first → IsRefused text sources second → first ≡ second
-one_refusal text sources = one_first_refusal (rules_of sources) text
+one_refusal text sources first second = one_first_refusal (rules_of sources) text first second (told_exact (line_fault sources))
 
 -- ---- each text has an answer
 
@@ -115,7 +115,7 @@ value_exists sources (line ∷ lines) = by (source_of sources line.words) refl (
 
 -- each text is accepted or refused
 pub some_answer : (text : List ℕ) (sources : List (List ℕ × ℕ)) → ((batches : List (ℕ × List (List Rec))) × IsAccepted text sources batches) ⊎ ((refusal : Refusal) × IsRefused text sources refusal)
-some_answer text sources = elim (sound_or_some_refusal (rules_of sources) text) [
+some_answer text sources = elim (sound_or_some_refusal (rules_of sources) text (told_exact (line_fault sources))) [
   | inl sound ↦ let value = value_exists sources (said_lines text) in
       inl (value.0, record { sound = sound; value = value.1 })
   | inr refused ↦ inr refused

@@ -134,7 +134,7 @@ size_limit = 16777216
 
 -- what is asked of inputs of these sources
 abbrev pub rules_of : List (List ℕ × ℕ) → Rules
-rules_of sources = record { most = size_limit; too_long = I5; fault = line_fault sources }
+rules_of sources = record { most = size_limit; too_long = I5; breaks = λ before line code. line_fault sources before line ≡ Some code }
 
 -- the text has the form of inputs of these sources, and the batches are those that its lines give
 pub record IsAccepted (text : List ℕ) (sources : List (List ℕ × ℕ)) (batches : List (ℕ × List (List Rec))) : Type 0 where

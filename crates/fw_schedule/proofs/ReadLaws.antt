@@ -6,7 +6,7 @@ use Rattle.fw_lines.specs.declared.line.Line.{Line}
 use Rattle.fw_lines.specs.declared.refusal.Refusal.{Refusal}
 use Rattle.fw_lines.specs.Faults.{IsFirstFault}
 use Rattle.fw_lines.specs.Lines.{Said, words_at, said_in, said_lines}
-use Rattle.fw_lines.proofs.FaultLaws.{IsSoundSoFar, sound_more, first_fault, none_left, sound_or_refused, sound_or_some_refusal, one_first_refusal}
+use Rattle.fw_lines.proofs.FaultLaws.{Told, told_exact, none_told, IsSoundSoFar, sound_more, first_fault, none_left, sound_or_refused, sound_or_some_refusal, one_first_refusal}
 use Rattle.fw_flow.specs.Dataflow.{Dataflow}
 use Rattle.fw_schedule.specs.declared.item.Item.{Item}
 use Rattle.fw_schedule.specs.Grammar.{item_of, items_of, fault_of, line_fault, size_limit, rules_of, IsAccepted, IsRefused}
@@ -21,7 +21,7 @@ step_count-append (x ∷ xs) ys = omega (arith, step_count-append xs ys)
 -- counted and not too many
 pub record IsRead (flow : Dataflow) (lines left : List Said) (items : List Item) (count : ℕ) : Type 0 where
   pub done : List Said
-  pub so_far : IsSoundSoFar (line_fault flow) lines left done
+  pub so_far : IsSoundSoFar (Told (line_fault flow)) lines left done
   pub value : items ≡ items_of flow done
   pub counted : count ≡ step_count items
   pub few : count ≤ step_limit
@@ -41,7 +41,7 @@ read_more flow text lines left next line items new count after read e sound valu
     let own = items_of flow (said_in text line ∷ []) in
     record {
       done = read.done ++ said_in text line ∷ [];
-      so_far = sound_more (line_fault flow) lines read.done (said_in text line) next (subst (λ ls. IsSoundSoFar (line_fault flow) lines ls read.done) e read.so_far) (fault_here flow text lines left line items count read ∙ sound);
+      so_far = sound_more (Told (line_fault flow)) lines read.done (said_in text line) next (subst (λ ls. IsSoundSoFar (Told (line_fault flow)) lines ls read.done) e read.so_far) (none_told _ (fault_here flow text lines left line items count read ∙ sound));
       value = value ∙ ap (λ is. is ++ own) read.value ∙ sym (filter_map-append (λ (l : Said). result_ok (item_of flow l.words)) read.done (said_in text line ∷ []));
       counted = total ∙ ap (λ n. n + step_count own) read.counted ∙ sym (step_count-append items own) ∙ ap step_count (sym value);
       few = few;
@@ -50,15 +50,15 @@ read_more flow text lines left next line items new count after read e sound valu
 -- the next line is the first that breaks a rule
 pub read_broken : (flow : Dataflow) (text : List ℕ) (lines left next : List Said) (line : Line) (items : List Item) (count : ℕ) (refusal : Refusal) → IsRead flow lines left items count → left ≡ said_in text line ∷ next
     → fault_of flow count (words_at text line.words) ≡ Some refusal.code → refusal.line ≡ line.number
-    → IsFirstFault (line_fault flow) lines refusal
+    → IsFirstFault (Told (line_fault flow)) lines refusal
 read_broken flow text lines left next line items count refusal read e broken number =
-    first_fault (line_fault flow) lines read.done (said_in text line) next refusal (subst (λ ls. IsSoundSoFar (line_fault flow) lines ls read.done) e read.so_far) (fault_here flow text lines left line items count read ∙ broken) number
+    first_fault (Told (line_fault flow)) lines read.done (said_in text line) next refusal (subst (λ ls. IsSoundSoFar (Told (line_fault flow)) lines ls read.done) e read.so_far) (fault_here flow text lines left line items count read ∙ broken) number
 
 -- a short text of which all lines are read is accepted
 pub read_accepted : (flow : Dataflow) (text : List ℕ) (left : List Said) (items : List Item) (count : ℕ) → length text ≤ size_limit → IsRead flow (said_lines text) left items count → left ≡ []
     → IsAccepted text flow items
 read_accepted flow text left items count size read e =
-    let all = none_left (line_fault flow) (said_lines text) read.done (subst (λ ls. IsSoundSoFar (line_fault flow) (said_lines text) ls read.done) e read.so_far) in
+    let all = none_left (Told (line_fault flow)) (said_lines text) read.done (subst (λ ls. IsSoundSoFar (Told (line_fault flow)) (said_lines text) ls read.done) e read.so_far) in
     record { sound = record { size = size; lines = all.0 }; value = read.value ∙ ap (items_of flow) all.1 }
 
 -- an accepted text is not refused
@@ -71,11 +71,11 @@ one_value text flow first second a b = a.value ∙ sym b.value
 
 -- a text is refused by one rule at one line
 pub one_refusal : (text : List ℕ) (flow : Dataflow) (first second : Refusal) → IsRefused text flow first → IsRefused text flow second → first ≡ second
-one_refusal text flow = one_first_refusal (rules_of flow) text
+one_refusal text flow first second = one_first_refusal (rules_of flow) text first second (told_exact (line_fault flow))
 
 -- each text is accepted or refused
 pub some_answer : (text : List ℕ) (flow : Dataflow) → ((items : List Item) × IsAccepted text flow items) ⊎ ((refusal : Refusal) × IsRefused text flow refusal)
-some_answer text flow = elim (sound_or_some_refusal (rules_of flow) text) [
+some_answer text flow = elim (sound_or_some_refusal (rules_of flow) text (told_exact (line_fault flow))) [
   | inl sound ↦ inl (items_of flow (said_lines text), record { sound = sound; value = refl })
   | inr refused ↦ inr refused
 ]

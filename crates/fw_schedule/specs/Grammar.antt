@@ -1,5 +1,5 @@
 -- The grammar of schedules: what each line asks for, and the rules that it may break.
-use Rattle.std.specs.Prelude.{◌≡◌, ℕ, ◌+◌, nat_le, List, [], ◌∷◌, if◌then◌else◌, Option, None, Result, Ok, Err, codes}
+use Rattle.std.specs.Prelude.{◌≡◌, ℕ, ◌+◌, nat_le, List, [], ◌∷◌, if◌then◌else◌, Option, Some, None, Result, Ok, Err, codes}
 use Rattle.std.specs.List.{filter_map}
 use Rattle.std.specs.Result.{result_ok, result_err}
 use Rattle.std.specs.Str.{bytes_eq}
@@ -57,7 +57,7 @@ size_limit = 16777216
 
 -- what is asked of a schedule of the flow
 abbrev pub rules_of : Dataflow → Rules
-rules_of flow = record { most = size_limit; too_long = S4; fault = line_fault flow }
+rules_of flow = record { most = size_limit; too_long = S4; breaks = λ before line code. line_fault flow before line ≡ Some code }
 
 -- the text has the form of a schedule of the flow, and the items are what its lines ask for
 pub record IsAccepted (text : List ℕ) (flow : Dataflow) (items : List Item) : Type 0 where

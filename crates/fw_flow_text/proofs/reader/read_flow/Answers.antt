@@ -1,9 +1,18 @@
-use Rattle.std.proofs.Common.{◌∙◌, ap, inl, inr}
+use Rattle.std.proofs.Common.{[], arith, refl, sym, ◌∙◌, ap, subst, inl, inr}
 use Rattle.std.proofs.lemmas.Result.{err_from_is_err_and}
 use Rattle.fw_lines.specs.Lines.{lines_left, said_in, said_lines}
-use Rattle.fw_lines.proofs.FaultLaws.{if_refused-weaker}
-use Rattle.fw_flow_text.proofs.ReadLaws.{read_more, read_broken, checked_all}
+use Rattle.fw_lines.proofs.FaultLaws.{Told, none_judged, if_refused-weaker}
+use Rattle.fw_flow_text.specs.Grammar.{line_fault}
+use Rattle.fw_flow_text.proofs.ReadLaws.{IsRead, read_more, read_broken, checked_all}
 use Rattle.fw_flow_text.proofs.reader.read_flow.Goals as goal
+
+pub loop-place-init : goal.loop-place-init
+loop-place-init c =
+    let lines = said_lines c.args.text.now in
+    record {
+      within = record { within = omega arith; passed = omega arith };
+      read = subst (IsRead lines lines) (sym c.new-raw.ensures) (record { done = []; so_far = none_judged (Told line_fault) lines; value = refl });
+    }
 
 pub loop-place-preserved : goal.loop-place-preserved
 loop-place-preserved c =

@@ -1,10 +1,19 @@
-use Rattle.std.proofs.Common.{◌∙◌, ap, inr}
+use Rattle.std.proofs.Common.{[], arith, refl, sym, ◌∙◌, ap, subst, inr}
 use Rattle.std.proofs.lemmas.Result.{err_from_is_err_and}
 use Rattle.fw_lines.specs.Lines.{lines_left, said_lines}
-use Rattle.fw_lines.proofs.FaultLaws.{if_refused-weaker}
+use Rattle.fw_lines.specs.Inputs.{line_fault}
+use Rattle.fw_lines.proofs.FaultLaws.{Told, none_judged, if_refused-weaker}
 use Rattle.fw_lines.proofs.GivenLaws.{read-batches}
-use Rattle.fw_lines.proofs.ReadLaws.{read_more, read_broken, read_accepted}
+use Rattle.fw_lines.proofs.ReadLaws.{IsRead, read_more, read_broken, read_accepted}
 use Rattle.fw_lines.proofs.inputs.read_batches.Goals as goal
+
+pub loop-place-init : goal.loop-place-init
+loop-place-init c =
+    let lines = said_lines c.args.text.now in
+    record {
+      within = record { within = omega arith; passed = omega arith };
+      read = subst (IsRead c.args.sources.now lines lines) (sym c.new-batches.ensures) (record { done = []; so_far = none_judged (Told (line_fault c.args.sources.now)) lines; value = λ node. refl });
+    }
 
 pub loop-place-preserved : goal.loop-place-preserved
 loop-place-preserved c = record {

@@ -89,7 +89,17 @@ pub enum Offered {
     /// These.
     Listed(Records),
     /// All from a least one to a greatest one.
-    Between { least: Front, greatest: Front },
+    Between {
+        least: Front,
+        greatest: Front,
+    },
+    /// Those of a source: all from a least one to a greatest one, below which lie the batches that it injected; and on top
+    /// of them all, where it is exhausted. What it sent stands in the offer's stamps, each message with one cause.
+    Batches {
+        least: Front,
+        greatest: Front,
+        exhausted: bool,
+    },
 }
 
 /// What a node offers to a recovery.

@@ -88,6 +88,7 @@ pub mod ThinnedLaws
 pub mod TimedCounts
 pub mod TimedLaws
 pub mod ToldLaws
+pub mod UntilLaws
 pub mod WeightLaws
 pub mod WellFormedLaws
 pub mod WriteLaws

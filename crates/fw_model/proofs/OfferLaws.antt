@@ -1,5 +1,5 @@
 -- What nodes offer as data; and where that is what the machine offers in a state, both give the same choices.
-use Rattle.std.proofs.Common.{◌≡◌, ◌≢◌, ℕ, zero, suc, ◌<◌, Bool, List, [], ◌∷◌, ◌++◌, length, Some, sym, ap, subst, ◌∙◌, inl, inr, refl}
+use Rattle.std.proofs.Common.{◌≡◌, ◌≢◌, ◌⊎◌, ℕ, ◌<◌, Bool, List, [], ◌∷◌, ◌++◌, length, Option, Some, None, sym, ap, subst, ◌∙◌, inl, inr, refl}
 use Rattle.std.specs.List.{AllByRecursion}
 use Rattle.fw_time.specs.declared.stamp.Bounds.{Bounds}
 use Rattle.fw_time.proofs.EachLaws.{each-suffix}
@@ -9,14 +9,16 @@ use Rattle.fw_flow.specs.declared.choice.Choice.{Choice}
 use Rattle.fw_flow.specs.declared.choice.Cut.TheVariants.{At}
 use Rattle.fw_flow.specs.declared.choice.Recorded.{Recorded}
 use Rattle.fw_flow.specs.declared.choice.Offered.{Offered}
-use Rattle.fw_flow.specs.declared.choice.Offered.TheVariants.{Listed, Between}
+use Rattle.fw_flow.specs.declared.choice.Offered.TheVariants as form
 use Rattle.fw_flow.specs.declared.choice.Offer.{Offer}
 use Rattle.fw_flow.specs.Dataflow.{System, Dataflow, sender, receiver, bounds_of}
+use Rattle.fw_flow.specs.declared.restoring.Restoring.TheVariants.{Batches}
+use Rattle.fw_flow.specs.Restoring.{way_of}
 use Rattle.fw_flow.specs.WellFormed.{IsWellFormed}
 use Rattle.fw_model.specs.Machine.{Machine}
 use Rattle.fw_model.specs.Choice.{kept, cut_of, notice_of, kept_of, IsCandidate, IsConsistent, IsConsistentBy}
 use Rattle.fw_model.specs.Covers.{Covers, covers_in}
-use Rattle.fw_model.specs.Offers.{IsListed, IsBetween, IsOffered, Ascend, listed_records, offered_range, records_of, range_of, AreOffersIn, covers_of}
+use Rattle.fw_model.specs.Offers.{IsListed, IsBetween, IsOneOf, IsOffered, IsFormOf, Ascend, offered_by, listed_records, offered_range, records_of, range_of, AreOffersIn, covers_of}
 use Rattle.fw_model.specs.LawsOfOffers.{ConsistentByOffersIsConsistent, LargestByOffersIsLargest}
 
 -- ---- what is offered
@@ -39,26 +41,56 @@ below_last b (q ∷ pre) r post f a (inl e) n = λ t k.
     ((each-suffix (λ s. Within (frontier_of b q.front) (frontier_of b s.front) × (q.front ≢ s.front)) pre (r ∷ post) a.0).0).0 t (ap (λ g. frontier_of b g t) e ∙ k)
 below_last b (q ∷ pre) r post f a (inr l) n = below_last b pre r post f a.1 l n
 
--- where all between two are offered, no records are listed
-range-unlisted : (offers : List Offer) (p : ℕ) (ends : Front × Front) → range_of offers p ≡ Some ends → records_of offers p ≡ []
-range-unlisted [] p ends e = refl
-range-unlisted (o ∷ offers) zero ends e = at o.offered e
-  where
-    at : (x : Offered) → offered_range x ≡ Some ends → listed_records x ≡ []
-    at (Listed records) k = absurd (cc)
-    at (Between least greatest) k = refl
-range-unlisted (o ∷ offers) (suc p) ends e = range-unlisted offers p ends e
-
-pub between-offered : (flow : Dataflow) (offers : List Offer) (p : ℕ) (least greatest g : Front) → range_of offers p ≡ Some (least, greatest) → IsOffered flow offers p (At g)
-    → IsBetween (bounds_of flow p) (Some (least, greatest)) g
-between-offered flow offers p least greatest g e offered = elim (offered.1) [
-  | inl i ↦ absurd (subst (IsListed g) (range-unlisted offers p (least, greatest) e) i)
-  | inr j ↦ subst (λ o. IsBetween (bounds_of flow p) o g) e j
-]
+-- the frontier lies between the two, where all between two are offered
+IsInRange : Bounds → Option (Front × Front) → Front → Type 0
+IsInRange b None f = ⊥
+IsInRange b (Some ends) f = IsBetween b ends.0 ends.1 f
 
 pub offered-between : (flow : Dataflow) (offers : List Offer) (p : ℕ) (least greatest g : Front) → range_of offers p ≡ Some (least, greatest) → IsCanonical (bounds_of flow p) g
-    → IsBetween (bounds_of flow p) (Some (least, greatest)) g → IsOffered flow offers p (At g)
-offered-between flow offers p least greatest g e c j = (c, inr (subst (λ o. IsBetween (bounds_of flow p) o g) (sym e) j))
+    → IsBetween (bounds_of flow p) least greatest g → IsOffered flow offers p (At g)
+unfolding IsInRange
+offered-between flow offers p least greatest g e c i =
+    (c, at (offered_by offers p) (subst (λ r. IsInRange (bounds_of flow p) r g) (sym e) i))
+  where
+    at : (x : Offered) → IsInRange (bounds_of flow p) (offered_range x) g → IsOneOf (bounds_of flow p) x g
+    at (form.Listed records) j = absurd j
+    at (form.Between least greatest) j = j
+    at (form.Batches least greatest exhausted) j = inl j
+
+-- a frontier that is offered lies in the range, if there is one; or else it is all, of a source
+pub between-offered : (flow : Dataflow) (offers : List Offer) (p : ℕ) (least greatest g : Front) → range_of offers p ≡ Some (least, greatest)
+    → IsFormOf (way_of flow p) (offered_by offers p) → IsOffered flow offers p (At g)
+    → IsBetween (bounds_of flow p) least greatest g ⊎ ((way_of flow p ≡ Batches) × (g ≡ []))
+unfolding IsInRange
+between-offered flow offers p least greatest g e fits offered = elim (at (offered_by offers p) fits offered.1 (λ n. cc)) [
+  | inl i ↦ inl (subst (λ r. IsInRange (bounds_of flow p) r g) e i)
+  | inr j ↦ inr j
+]
+  where
+    at : (x : Offered) → IsFormOf (way_of flow p) x → IsOneOf (bounds_of flow p) x g → offered_range x ≢ None
+        → IsInRange (bounds_of flow p) (offered_range x) g ⊎ ((way_of flow p ≡ Batches) × (g ≡ []))
+    at (form.Listed records) fits i n = absurd (n refl)
+    at (form.Between least greatest) fits i n = inl i
+    at (form.Batches least greatest exhausted) fits i n = elim i [ inl j ↦ inl j | inr k ↦ inr (fits, k.1) ]
+
+-- a frontier that is offered is listed, where there is no range
+pub listed-offered : (flow : Dataflow) (offers : List Offer) (p : ℕ) (g : Front) → range_of offers p ≡ None → IsOffered flow offers p (At g)
+    → IsListed g (records_of offers p)
+listed-offered flow offers p g none offered = at (offered_by offers p) none offered.1
+  where
+    at : (x : Offered) → offered_range x ≡ None → IsOneOf (bounds_of flow p) x g → IsListed g (listed_records x)
+    at (form.Listed records) e i = i
+    at (form.Between least greatest) e i = absurd (cc)
+    at (form.Batches least greatest exhausted) e i = absurd (cc)
+
+pub offered-listed : (flow : Dataflow) (offers : List Offer) (p : ℕ) (g : Front) → IsCanonical (bounds_of flow p) g → IsListed g (records_of offers p)
+    → IsOffered flow offers p (At g)
+offered-listed flow offers p g c i = (c, at (offered_by offers p) i)
+  where
+    at : (x : Offered) → IsListed g (listed_records x) → IsOneOf (bounds_of flow p) x g
+    at (form.Listed records) i = i
+    at (form.Between least greatest) i = absurd i
+    at (form.Batches least greatest exhausted) i = absurd i
 
 -- ---- the choices
 

@@ -58,7 +58,7 @@ impl From<ReadFault> for BuildFault {
 
 /// Takes declarations one after the other, and gives the flow that they declare. Contracts see the list of declarations, of
 /// which the n-th, counted from 1, has the line n. A call that fails takes the builder with it.
-#[derive(Debug, Drop)]
+#[derive(Debug)]
 pub struct FlowBuilder {
     alloc: Global,
     raw: RawFlow,
@@ -71,6 +71,14 @@ impl Model for FlowBuilder {
     ghost Value = { List Declared };
 
     ghost view = { λ builder. builder.raw };
+}
+
+// Written out, so that it is one call wherever a builder is let go.
+impl Drop for FlowBuilder {
+    fn drop(self) {
+        let FlowBuilder { alloc: _, raw } = self;
+        drop(raw);
+    }
 }
 
 impl FlowBuilder {

@@ -232,7 +232,7 @@ pub(crate) fn limit_line(declared: &[Declared]) -> Option<u32>
 }
 
 // How many loops, nodes and edges were declared so far.
-#[derive(Clone, Copy, Debug)]
+#[derive(Clone, Copy)]
 struct Counts {
     loops: usize,
     nodes: usize,

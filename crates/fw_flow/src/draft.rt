@@ -19,7 +19,7 @@ use fw_lines::{Code, ReadFault};
 use std::alloc::{AllocError, Global};
 
 /// The parts of a flow with their links, and for each node the edges to it and from it.
-#[derive(Debug, Drop)]
+#[derive(Drop)]
 pub(crate) struct Draft {
     pub(crate) parts: Parts,
     links: Vec<Link>,

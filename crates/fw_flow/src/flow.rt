@@ -17,7 +17,7 @@ use std::alloc::Global;
 use std::marker::Model;
 
 /// A well-formed dataflow. Contracts see its loops, nodes and edges.
-#[derive(Debug, Drop)]
+#[derive(Debug)]
 pub struct Flow {
     pub(crate) loops: Vec<Loop>,
     pub(crate) nodes: Vec<Node>,
@@ -39,6 +39,28 @@ impl Model for Flow {
 
     ghost invariant = { λ flow. IsIndexed (record { loops = flow.loops.items; nodes = flow.nodes.items; edges = flow.edges.items })
         flow.node_names flow.edge_names flow.incoming.items flow.outgoing.items };
+}
+
+// Written out, so that it is one call wherever a flow is let go.
+impl Drop for Flow {
+    fn drop(self) {
+        let Flow {
+            loops,
+            nodes,
+            edges,
+            node_names,
+            edge_names,
+            incoming,
+            outgoing,
+        } = self;
+        drop(loops);
+        drop(nodes);
+        drop(edges);
+        drop(node_names);
+        drop(edge_names);
+        drop(incoming);
+        drop(outgoing);
+    }
 }
 
 impl Flow {

@@ -67,7 +67,7 @@ impl fmt::Display for Name {
 }
 
 /// Names in the order of their adding, each once. Contracts see the list of their bytes.
-#[derive(Debug, Drop)]
+#[derive(Debug)]
 pub(crate) struct Names {
     alloc: Global,
     names: IndexSet<Vec<u8>>,
@@ -80,6 +80,14 @@ impl Model for Names {
     ghost Value = { List (List ℕ) };
 
     ghost view = { λ names. bytes_of names.names.keys };
+}
+
+// Written out, so that it is one call wherever names are let go.
+impl Drop for Names {
+    fn drop(self) {
+        let Names { alloc: _, names } = self;
+        drop(names);
+    }
 }
 
 impl Names {

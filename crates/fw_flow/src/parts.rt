@@ -14,7 +14,7 @@ use std::alloc::{AllocError, Global};
 
 /// The parts of a flow by their places, and the lines of its loops, nodes and edges. A size or a greatest
 /// counter past 32 bits is kept as the greatest number of 32 bits, until the limits are tested.
-#[derive(Debug, Drop)]
+#[derive(Drop)]
 pub(crate) struct Parts {
     pub(crate) loops: Vec<Loop>,
     pub(crate) nodes: Vec<Node>,

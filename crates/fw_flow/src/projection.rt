@@ -82,7 +82,7 @@ impl Flow {
 }
 
 /// Where an outside stamp goes, when a frontier is taken into a loop, out of it, or to its next counter.
-#[derive(Clone, Copy, Debug)]
+#[derive(Clone, Copy)]
 pub(crate) enum Way {
     /// To counter 0.
     First,

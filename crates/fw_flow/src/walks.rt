@@ -18,7 +18,7 @@ use std::alloc::{AllocError, Global};
 const MAX_DEPTH: usize = 3;
 
 /// An edge, by the places of the nodes that it joins.
-#[derive(Clone, Copy, Debug)]
+#[derive(Clone, Copy)]
 pub(crate) struct Link {
     pub(crate) sender: usize,
     pub(crate) receiver: usize,

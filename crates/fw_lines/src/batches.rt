@@ -11,7 +11,7 @@ use std::marker::Model;
 
 /// The batches of the sources: for each node its batches, of which the x-th, counted from 0, is that
 /// of epoch x. Each is a bag of recs, in ascending order.
-#[derive(Debug, Drop)]
+#[derive(Debug)]
 pub struct Batches {
     alloc: Global,
     of_node: IndexMap<u32, Vec<Bag>>,
@@ -27,6 +27,14 @@ impl Model for Batches {
     ghost view = { λ b. batches_of_entries b.of_node.entries };
 
     ghost invariant = { λ b. AreBatches (batches_of_entries b.of_node.entries) };
+}
+
+// Written out, so that it is one call wherever batches are let go.
+impl Drop for Batches {
+    fn drop(self) {
+        let Batches { alloc: _, of_node } = self;
+        drop(of_node);
+    }
 }
 
 impl Batches {

@@ -8,7 +8,7 @@ use std::alloc::{AllocError, Global};
 use std::marker::Model;
 
 /// The names of the sources, each with the number of its node, in the order of their adding.
-#[derive(Debug, Drop)]
+#[derive(Debug)]
 pub struct SourceNames {
     alloc: Global,
     nodes: IndexMap<Vec<u8>, u32>,
@@ -21,6 +21,14 @@ impl Model for SourceNames {
     ghost Value = { List (List ℕ × ℕ) };
 
     ghost view = { λ s. named_sources s.nodes.entries };
+}
+
+// Written out, so that it is one call wherever names are let go.
+impl Drop for SourceNames {
+    fn drop(self) {
+        let SourceNames { alloc: _, nodes } = self;
+        drop(nodes);
+    }
 }
 
 impl SourceNames {

@@ -13,3 +13,4 @@ pub mod CornerLaws
 pub mod PlaneSteps
 pub mod PlaneLaws
 pub mod LeastLaws
+pub mod SameLaws

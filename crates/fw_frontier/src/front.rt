@@ -130,7 +130,8 @@ impl Front {
 
     /// Whether it has the same outside stamps as the other frontier.
     pub fn same(&self, other: &Self) -> bool
-        ensures { result ≡ same_front self.now other.now }
+        ensures test { result ≡ same_front self.now other.now }
+        ensures one { IsTrue result ↔ (self.now ≡ other.now) }
     {
         self.outside.cmp(&other.outside).is_eq()
     }

@@ -7,3 +7,4 @@ pub mod PartLaws
 pub mod ReadLaws
 pub mod SourceLaws
 pub mod WordLaws
+pub mod WrittenLaws

@@ -5,3 +5,4 @@ pub mod Lines
 pub mod Refusal
 pub mod Sources
 pub mod Spelling
+pub mod Written

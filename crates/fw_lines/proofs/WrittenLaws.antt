@@ -8,26 +8,14 @@ use Rattle.std.proofs.lemmas.List.Folds.{list_all-append}
 use Rattle.std.proofs.lemmas.List.Splits.{slice_split_at, slice_split_none}
 use Rattle.std.specs.List.{AllByRecursion, All, list_all, slice_split, filter}
 use Rattle.fw_lines.specs.Lines.{Said, is_allowed, is_comment, is_line_feed, is_space, is_word, lines_of, said_by, said_from, said_lines, words_of}
-use Rattle.fw_generate.specs.Texts.{Line, line_text, spaced, text_of}
-
--- whether a byte may stand in a word
-abbrev pub is_in_words : ℕ → Bool
-is_in_words b = is_allowed b && not (is_space b)
-
--- whether the bytes can be a word of a line
-abbrev pub is_plain : List ℕ → Bool
-is_plain word = is_word word && list_all is_in_words word
-
--- whether the words can be those of a line: each can be a word, and the first does not begin as a comment does
-abbrev pub is_plain_line : Line → Bool
-is_plain_line words = list_all is_plain words && not (is_comment words)
+use Rattle.fw_lines.specs.Written.{WordLine, is_in_words, is_plain, is_plain_line, line_text, numbered, spaced, text_of}
 
 -- a line without its LF
-abbrev pub body : Line → List ℕ
+abbrev pub body : WordLine → List ℕ
 body [] = []
 body (word ∷ words) = word ++ spaced words
 
-line_text-body : (line : Line) → line_text line ≡ body line ++ codes "\n"
+line_text-body : (line : WordLine) → line_text line ≡ body line ++ codes "\n"
 line_text-body [] = refl
 line_text-body (word ∷ words) = sym (append_assoc word (spaced words) (codes "\n"))
 
@@ -53,7 +41,7 @@ word-allowed (b ∷ bs) h =
     let parts = and_parts (is_in_words b) (list_all is_in_words bs) h in
     and_from (is_allowed b) (list_all is_allowed bs) (in_words-allowed b parts.0) (word-allowed bs parts.1)
 
-spaced-allowed : (words : Line) → list_all is_plain words ≡ true → list_all is_allowed (spaced words) ≡ true
+spaced-allowed : (words : WordLine) → list_all is_plain words ≡ true → list_all is_allowed (spaced words) ≡ true
 spaced-allowed [] h = refl
 spaced-allowed (word ∷ words) h =
     let parts = and_parts (is_plain word) (list_all is_plain words) h in
@@ -61,7 +49,7 @@ spaced-allowed (word ∷ words) h =
     list_all-append is_allowed word (spaced words)
     ∙ and_from (list_all is_allowed word) (list_all is_allowed (spaced words)) (word-allowed word bytes.1) (spaced-allowed words parts.1)
 
-body-allowed : (line : Line) → list_all is_plain line ≡ true → list_all is_allowed (body line) ≡ true
+body-allowed : (line : WordLine) → list_all is_plain line ≡ true → list_all is_allowed (body line) ≡ true
 body-allowed [] h = refl
 body-allowed (word ∷ words) h = spaced-allowed (word ∷ words) h
 
@@ -71,59 +59,54 @@ no_spaces : (word : List ℕ) → is_plain word ≡ true → All (λ b. is_space
 no_spaces word h =
     All-from_recursion (λ b. is_space b ≡ false) word (each_fails is_in_words is_space no_space word (and_parts (is_word word) (list_all is_in_words word) h).1)
 
-split_body : (word : List ℕ) (words : Line) → list_all is_plain (word ∷ words) ≡ true → slice_split is_space (body (word ∷ words)) ≡ word ∷ words
+split_body : (word : List ℕ) (words : WordLine) → list_all is_plain (word ∷ words) ≡ true → slice_split is_space (body (word ∷ words)) ≡ word ∷ words
 split_body word [] h =
     ap (slice_split is_space) (append-nil word) ∙ slice_split_none is_space word (no_spaces word (and_parts (is_plain word) true h).0)
 split_body word (next ∷ words) h =
     let parts = and_parts (is_plain word) (list_all is_plain (next ∷ words)) h in
     slice_split_at is_space word 32 (body (next ∷ words)) (no_spaces word parts.0) refl ∙ ap (λ ws. word ∷ ws) (split_body next words parts.1)
 
-kept_words : (words : Line) → list_all is_plain words ≡ true → filter is_word words ≡ words
+kept_words : (words : WordLine) → list_all is_plain words ≡ true → filter is_word words ≡ words
 kept_words [] h = refl
 kept_words (word ∷ words) h =
     let parts = and_parts (is_plain word) (list_all is_plain words) h in
     ap (λ b. cond b (word ∷ filter is_word words) (filter is_word words)) (and_parts (is_word word) (list_all is_in_words word) parts.0).0
     ∙ ap (λ ws. word ∷ ws) (kept_words words parts.1)
 
-words_of-body : (line : Line) → list_all is_plain line ≡ true → words_of (body line) ≡ line
+words_of-body : (line : WordLine) → list_all is_plain line ≡ true → words_of (body line) ≡ line
 words_of-body [] h = refl
 words_of-body (word ∷ words) h = ap (filter is_word) (split_body word words h) ∙ kept_words (word ∷ words) h
 
 -- a line says its words
-said_by-body : (line : Line) → is_plain_line line ≡ true → said_by (body line) ≡ line
+said_by-body : (line : WordLine) → is_plain_line line ≡ true → said_by (body line) ≡ line
 unfolding said_by
 said_by-body line h =
     let parts = and_parts (list_all is_plain line) (not (is_comment line)) h in
-    let says : Line → Bool → Line = λ words b. cond (is_comment words && b) [] words in
+    let says : WordLine → Bool → WordLine = λ words b. cond (is_comment words && b) [] words in
     ap (λ words. says words (list_all is_allowed (body line))) (words_of-body line parts.0)
     ∙ ap (says line) (body-allowed line parts.0)
     ∙ ap (λ b. cond (b && true) [] line) (not-true (is_comment line) parts.1)
 
 -- ---- the lines of a text
 
--- what lines say of which the first has this number, with the empty line that ends them
-abbrev pub numbered : ℕ → List Line → List Said
-numbered number [] = record { number = number; words = [] } ∷ []
-numbered number (line ∷ lines) = record { number = number; words = line } ∷ numbered (number + 1) lines
-
-split_line : (line : Line) (rest : List ℕ) → list_all is_plain line ≡ true → lines_of (line_text line ++ rest) ≡ body line ∷ lines_of rest
+split_line : (line : WordLine) (rest : List ℕ) → list_all is_plain line ≡ true → lines_of (line_text line ++ rest) ≡ body line ∷ lines_of rest
 split_line line rest h =
     let none = All-from_recursion (λ b. is_line_feed b ≡ false) (body line) (each_fails is_allowed is_line_feed no_line_feed (body line) (body-allowed line h)) in
     ap (λ t. lines_of (t ++ rest)) (line_text-body line)
     ∙ ap lines_of (append_assoc (body line) (codes "\n") rest)
     ∙ slice_split_at is_line_feed (body line) 10 rest none refl
 
-said_from-text_of : (number : ℕ) (lines : List Line) → list_all is_plain_line lines ≡ true → said_from number (lines_of (text_of lines)) ≡ numbered number lines
+said_from-text_of : (number : ℕ) (lines : List WordLine) → list_all is_plain_line lines ≡ true → said_from number (lines_of (text_of lines)) ≡ numbered number lines
 unfolding said_by
 said_from-text_of number [] h = refl
 said_from-text_of number (line ∷ lines) h =
     let parts = and_parts (is_plain_line line) (list_all is_plain_line lines) h in
     let plain = and_parts (list_all is_plain line) (not (is_comment line)) parts.0 in
-    let says : Line → Said = λ words. record { number = number; words = words } in
+    let says : WordLine → Said = λ words. record { number = number; words = words } in
     ap (said_from number) (split_line line (text_of lines) plain.0)
     ∙ ap (λ words. says words ∷ said_from (number + 1) (lines_of (text_of lines))) (said_by-body line parts.0)
     ∙ ap (λ later. says line ∷ later) (said_from-text_of (number + 1) lines parts.1)
 
 -- the lines of a text that is written as lines of words say these words
-pub said_lines-text_of : (lines : List Line) → list_all is_plain_line lines ≡ true → said_lines (text_of lines) ≡ numbered 1 lines
+pub said_lines-text_of : (lines : List WordLine) → list_all is_plain_line lines ≡ true → said_lines (text_of lines) ≡ numbered 1 lines
 said_lines-text_of lines h = said_from-text_of 1 lines h

@@ -164,7 +164,7 @@ inside-capped : (flow : Dataflow) (l p : ℕ) → is_kind_in (capped_flow flow) 
 inside-capped flow l p = ap (is_domain_of l) (domain-capped flow p)
 
 within-capped : (flow : Dataflow) (l p : ℕ) → is_within (capped_flow flow) l (domain_of (capped_flow flow) p) ≡ is_within flow l (domain_of flow p)
-within-capped flow l p = ap (λ ls. is_one_of ls l) (loops_of-capped flow (domain_of (capped_flow flow) p) ∙ ap (loops_of flow) (domain-capped flow p))
+within-capped flow l p = ap (λ ls. is_one_of l ls) (loops_of-capped flow (domain_of (capped_flow flow) p) ∙ ap (loops_of flow) (domain-capped flow p))
 
 pub AreWalksRight-capped : (flow : Dataflow) → AreWalksRight (capped_flow flow) → AreWalksRight flow
 AreWalksRight-capped flow right =

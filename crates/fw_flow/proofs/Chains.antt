@@ -102,12 +102,12 @@ parent-no_number flow l = by (ends_within 3 flow (Some l)) (declared_parent flow
 
 -- ---- which loops a domain lies in
 
-pub one_of-length : (flow : Dataflow) (l : ℕ) (n : ℕ) (d : Domain) → is_one_of (loops_within n flow d) l ≡ true → length (loops_of flow (InLoop l)) ≤ length (loops_of flow d)
+pub one_of-length : (flow : Dataflow) (l : ℕ) (n : ℕ) (d : Domain) → is_one_of l (loops_within n flow d) ≡ true → length (loops_of flow (InLoop l)) ≤ length (loops_of flow d)
 unfolding loops_of
 one_of-length flow l n Epoch h = absurd (cc)
 one_of-length flow l n Number h = absurd (cc)
 one_of-length flow l zero (InLoop k) h = absurd (cc)
-one_of-length flow l (suc n) (InLoop k) h = elim (or_cases (k == l) (is_one_of (loops_within n flow (parent_of flow k)) l) h) [
+one_of-length flow l (suc n) (InLoop k) h = elim (or_cases (k == l) (is_one_of l (loops_within n flow (parent_of flow k))) h) [
   | inl same ↦
       let is : k ≡ l = eqb-true k l same in
       let e = ap (λ x. length (loops_within 3 flow (InLoop x))) is in

@@ -86,7 +86,7 @@ in_domain-is l (InLoop k) h = ap InLoop (eqb-true k l h)
 -- of a loop and one within it of the same depth, the one is the other
 same_depth : (flow : Dataflow) (l k : ℕ) → is_within flow l (InLoop k) ≡ true → length (loops_of flow (InLoop k)) ≡ length (loops_of flow (InLoop l)) → k ≡ l
 same_depth flow l k h e =
-    elim (or_cases (k == l) (is_one_of (loops_of flow (parent_of flow k)) l) (sym (ap (λ ls. is_one_of ls l) (loops-unfold flow k)) ∙ h)) [
+    elim (or_cases (k == l) (is_one_of l (loops_of flow (parent_of flow k))) (sym (ap (λ ls. is_one_of l ls) (loops-unfold flow k)) ∙ h)) [
       | inl same ↦ eqb-true k l same
       | inr other ↦
           let less = within-depth flow l (parent_of flow k) other in
@@ -164,9 +164,9 @@ none_within flow l (InLoop k) o h = o
 -- a loop that the sender's domain lies in, of a depth that the receiver's has too, is one that the receiver's domain lies in
 kind-within : (flow : Dataflow) (l : ℕ) (kind : Kind) → is_within flow l (domain_of_kind flow kind) ≡ true
     → length (loops_of flow (InLoop l)) ≤ length (loops_of flow (out_domain_of_kind flow kind)) → is_within flow l (out_domain_of_kind flow kind) ≡ true
-kind-within flow l (Enter k) h e = ap (λ ls. is_one_of ls l) (loops-unfold flow k) ∙ or_right (k == l) (is_one_of (loops_of flow (parent_of flow k)) l) h
+kind-within flow l (Enter k) h e = ap (λ ls. is_one_of l ls) (loops-unfold flow k) ∙ or_right (k == l) (is_one_of l (loops_of flow (parent_of flow k))) h
 kind-within flow l (Leave k) h e =
-    elim (or_cases (k == l) (is_one_of (loops_of flow (parent_of flow k)) l) (sym (ap (λ ls. is_one_of ls l) (loops-unfold flow k)) ∙ h)) [
+    elim (or_cases (k == l) (is_one_of l (loops_of flow (parent_of flow k))) (sym (ap (λ ls. is_one_of l ls) (loops-unfold flow k)) ∙ h)) [
       | inr within ↦ within
       | inl same ↦
           let u = ap length (loops-unfold flow k) in
@@ -214,7 +214,7 @@ wrong_at flow joins p (InLoop l) e path =
     let j = length (loops_of flow (InLoop l)) in
     let walk = walk-from_path flow j p path.edges p path.path in
     let own : is_within flow l (InLoop l) ≡ true =
-    ap (λ ls. is_one_of ls l) (loops-unfold flow l) ∙ or_left (l == l) (is_one_of (loops_of flow (parent_of flow l)) l) (eq-eqb l l refl) in
+    ap (λ ls. is_one_of l ls) (loops-unfold flow l) ∙ or_left (l == l) (is_one_of l (loops_of flow (parent_of flow l))) (eq-eqb l l refl) in
     inr (
       l,
       record {

@@ -41,8 +41,8 @@ by_place P i n f g = by (nat_lt i n) refl
     by false e = g (past e)
 
 -- a node regroups by so many numbers as it may
-group-size : (flow : Dataflow) → IsWellFormed flow → (p : ℕ) → IsGroupSize (kind_of flow p)
-group-size flow w p = by_place (IsGroupSize (kind_of flow p)) p (length flow.nodes) (w.limits.groups p) (λ h. subst IsGroupSize (sym (kind-past flow p h)) tt)
+pub group_size : (flow : Dataflow) → IsWellFormed flow → (p : ℕ) → IsGroupSize (kind_of flow p)
+group_size flow w p = by_place (IsGroupSize (kind_of flow p)) p (length flow.nodes) (w.limits.groups p) (λ h. subst IsGroupSize (sym (kind-past flow p h)) tt)
 
 -- past the last edge stand edges between idle outputs
 ends-past : (flow : Dataflow) (e : ℕ) → length flow.edges ≤ e → (sender flow e ≡ length flow.nodes) × (receiver flow e ≡ length flow.nodes)
@@ -72,7 +72,7 @@ ends-of flow w e is_kind is_from is_to =
       is_from = is_from;
       is_to = is_to;
       is_out = is_out;
-      group = subst IsGroupSize (sym is_kind) (group-size flow w (sender flow e));
+      group = subst IsGroupSize (sym is_kind) (group_size flow w (sender flow e));
       domains = record {
         flow = flow;
         of_sender = is_from ∙ ap (λ k. bounds_of_domain flow (domain_of_kind flow k)) (sym is_kind);

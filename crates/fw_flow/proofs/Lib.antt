@@ -24,6 +24,7 @@ pub mod Ranges
 pub mod RankLaws
 pub mod Ranks
 pub mod Reach
+pub mod SendStampLaws
 pub mod SentTableLaws
 pub mod SourceLaws
 pub mod SystemLaws

@@ -1,6 +1,6 @@
 -- A dataflow as its lists of loops, nodes and edges, its batches, and how these are looked up.
-use Rattle.std.specs.Prelude.{◌≡◌, ℕ, zero, suc, ◌+◌, ◌-◌, ◌^◌, ◌≤◌, Bool, true, false, ◌||◌, ◌==◌, if◌then◌else◌, List, [], ◌∷◌, length, Option, Some, None, slice_index_or, map}
-use Rattle.std.specs.List.{range_with_len}
+use Rattle.std.specs.Prelude.{◌≡◌, ℕ, zero, suc, ◌+◌, ◌-◌, ◌^◌, ◌≤◌, Bool, true, false, ◌==◌, if◌then◌else◌, List, [], ◌∷◌, length, Option, Some, None, slice_index_or, map}
+use Rattle.std.specs.List.{list_any, range_with_len}
 use Rattle.fw_time.specs.Stamp.{Stamp, nest}
 use Rattle.fw_time.specs.declared.stamp.Bounds.{Bounds}
 use Rattle.fw_time.specs.Sending.{entered_stamp, fed_back_stamp, left_stamp, regrouped_stamp}
@@ -125,14 +125,13 @@ abbrev pub is_domain_of : ℕ → Domain → Bool
 is_domain_of l (InLoop k) = k == l
 is_domain_of l domain = false
 
--- whether the loop is one of these
-abbrev pub is_one_of : List ℕ → ℕ → Bool
-is_one_of [] l = false
-is_one_of (k ∷ ks) l = (k == l) || is_one_of ks l
+-- whether the number is one of these
+abbrev pub is_one_of : ℕ → List ℕ → Bool
+is_one_of n ns = list_any (λ m. m == n) ns
 
 -- whether the domain is the loop's own, or that of a loop within it
 abbrev pub is_within : Dataflow → ℕ → Domain → Bool
-is_within flow l domain = is_one_of (loops_of flow domain) l
+is_within flow l domain = is_one_of l (loops_of flow domain)
 
 -- the domain of a kind: at which times its events are
 abbrev pub domain_of_kind : Dataflow → Kind → Domain

@@ -74,6 +74,19 @@ pub struct Message {
     pub causes: Causes,
 }
 
+impl Message {
+    /// The same message once more, as where it goes into a queue and into a log.
+    pub fn copy(&self) -> Self
+        ensures { result ≡ self.now }
+    {
+        Message {
+            at: self.at.copy(),
+            rec: self.rec,
+            causes: self.causes.copy(),
+        }
+    }
+}
+
 /// An event of a run.
 #[derive(Debug, Drop)]
 pub enum Event {

@@ -9,6 +9,7 @@
 mod builder;
 mod check;
 mod choice;
+mod copies;
 mod draft;
 mod event;
 mod flow;
@@ -24,6 +25,7 @@ mod premises;
 mod projection;
 mod raw;
 mod restoring;
+mod sending;
 mod sent_table;
 mod sources;
 mod step;

@@ -1,9 +1,10 @@
 //! Lists as types of their own, which contracts see as lists.
-ghost use Rattle.std.specs.Prelude.{◌≡◌};
+ghost use Rattle.std.specs.Prelude.{◌≡◌, IfOk};
 
 use crate::{Counted, Cut, OfEdge, Recorded};
 use fw_frontier::Front;
 use fw_time::Stamp;
+use std::alloc::{AllocError, Global};
 use std::marker::Model;
 
 /// Cuts, one for each node. Contracts see their list.
@@ -96,6 +97,14 @@ impl OfEdges {
     {
         &self.fronts
     }
+
+    /// The same frontiers once more. The error is want of memory.
+    pub fn copy(&self) -> Result<Self, AllocError>
+        ensures { IfOk result (λ all. all ≡ self.now) }
+    {
+        let fronts = copied_fronts(*self.fronts.allocator(), &self.fronts)?;
+        Ok(OfEdges { fronts })
+    }
 }
 
 /// Messages with their numbers, in any order. Contracts see their list.
@@ -127,6 +136,14 @@ impl CountedMessages {
     {
         &self.messages
     }
+
+    /// The same messages once more. The error is want of memory.
+    pub fn copy(&self) -> Result<Self, AllocError>
+        ensures { IfOk result (λ all. all ≡ self.now) }
+    {
+        let messages = copied_messages(*self.messages.allocator(), &self.messages)?;
+        Ok(CountedMessages { messages })
+    }
 }
 
 /// The stamps of which a node was notified, in any order. Contracts see their list.
@@ -156,6 +173,14 @@ impl Notices {
         ensures { result.now ≡ self.now }
     {
         &self.stamps
+    }
+
+    /// The same stamps once more. The error is want of memory.
+    pub fn copy(&self) -> Result<Self, AllocError>
+        ensures { IfOk result (λ notices. notices ≡ self.now) }
+    {
+        let stamps = copied_stamps(*self.stamps.allocator(), &self.stamps)?;
+        Ok(Notices { stamps })
     }
 }
 
@@ -188,4 +213,37 @@ impl Records {
     {
         &self.records
     }
+}
+
+/// The same frontiers of edges once more.
+fn copied_fronts(alloc: Global, fronts: &[OfEdge]) -> Result<Vec<OfEdge>, AllocError>
+    ensures { IfOk result (λ copy. copy.items ≡ fronts.now) }
+{
+    let mut copy = Vec::with_capacity(alloc, fronts.len())?;
+    for of_edge in fronts {
+        copy.push(of_edge.copy()?)?;
+    }
+    Ok(copy)
+}
+
+/// The same messages with their numbers once more.
+fn copied_messages(alloc: Global, messages: &[Counted]) -> Result<Vec<Counted>, AllocError>
+    ensures { IfOk result (λ copy. copy.items ≡ messages.now) }
+{
+    let mut copy = Vec::with_capacity(alloc, messages.len())?;
+    for message in messages {
+        copy.push(message.copy())?;
+    }
+    Ok(copy)
+}
+
+/// The same stamps once more.
+fn copied_stamps(alloc: Global, stamps: &[Stamp]) -> Result<Vec<Stamp>, AllocError>
+    ensures { IfOk result (λ copy. copy.items ≡ stamps.now) }
+{
+    let mut copy = Vec::with_capacity(alloc, stamps.len())?;
+    for stamp in stamps {
+        copy.push(stamp.copy())?;
+    }
+    Ok(copy)
 }

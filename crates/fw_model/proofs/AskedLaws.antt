@@ -1,9 +1,7 @@
 -- What holds of the writes of each state of a run: of which nodes they are, what they hold, and that no two hold the same.
 use Rattle.std.proofs.Common.{◌≡◌, ℕ, zero, suc, ◌+◌, ◌<◌, ◌≤◌, Bool, true, false, cond, not, ◌&&◌, ◌==◌, List, [], ◌∷◌, ◌++◌, length, filter, map, Option, Some, None, refl, sym, ap, subst, ◌∙◌, inl, inr, arith}
 use Rattle.std.specs.List.{AllByRecursion, list_any, range_with_len}
-use Rattle.std.specs.Ordering.{is_eq}
 use Rattle.std.proofs.lemmas.Bool.{not-true, and_parts, and_from, or_cases, cond_both, cases_Bool, cases_lt, eqb-true, eq-eqb}
-use Rattle.std.proofs.lemmas.Cmp.{lists_total, tied_itself}
 use Rattle.std.proofs.lemmas.List.{get_or_past, length-map}
 use Rattle.std.proofs.lemmas.List.FromFn.{get_or-map-range_with_len}
 use Rattle.fw_time.specs.Stamp.{Stamp}
@@ -21,18 +19,18 @@ use Rattle.fw_flow.specs.declared.kind.Policy.TheVariants as policy
 use Rattle.fw_flow.specs.declared.node.Node.{Node}
 use Rattle.fw_flow.specs.declared.step.Step.{Step}
 use Rattle.fw_flow.specs.declared.step.Step.TheVariants.{Inject, Deliver, Notify, Progress as ProgressStep, Checkpoint, Persist, Fail, Recover, Collect, Ack}
-use Rattle.fw_flow.specs.Dataflow.{System, Dataflow, idle_node, kind_of, policy_of, receiver, out_edges, bounds_of, send_stamp, node_ids}
+use Rattle.fw_flow.specs.Dataflow.{System, Dataflow, idle_node, kind_of, policy_of, receiver, out_edges, bounds_of, send_stamp, node_ids, is_one_of}
 use Rattle.fw_flow.specs.NodeFunction.{event_node, event_stamp}
 use Rattle.fw_flow.specs.WellFormed.{IsWellFormed, IsWellFormedSystem, IsPolicyAllowed, may_keep_nothing}
 use Rattle.fw_model.specs.Denotation.{Family, rounds}
 use Rattle.fw_model.specs.Machine.{Machine, SerialEvent, Write, Written, checkpoint, logged_event, Stage, in_flight, acknowledged, collected, no_stamps, first_state, front_of, is_failed}
 use Rattle.fw_flow.specs.declared.choice.Choice.{Choice}
 use Rattle.fw_model.specs.Choice.{kept, cut_of, kept_of, IsCandidate, IsLargest, filtered_history}
-use Rattle.fw_model.specs.Steps.{Effect, Outcome, did, idle, LeadsTo, Run, write_of_event, with_event, checkpoint_of, is_eager, GrowsTo, is_asked_for_checkpoints, checkpoint_front, checkpoints_of, last_or, newest_checkpoint, AcknowledgesOldest, is_one_of, is_in_flight, with_failed, is_kept_write, IsSettledCut, CutsTo, recovered_state, front_of_cut, inside_if_some, sends_inside, is_given_up, is_serial_given_up, lies_below, after_collection, collected_writes}
+use Rattle.fw_model.specs.Steps.{Effect, Outcome, did, idle, LeadsTo, Run, write_of_event, with_event, checkpoint_of, is_eager, GrowsTo, is_asked_for_checkpoints, checkpoint_front, checkpoints_of, last_or, newest_checkpoint, AcknowledgesOldest, is_in_flight, with_failed, is_kept_write, IsSettledCut, CutsTo, recovered_state, front_of_cut, inside_if_some, sends_inside, is_given_up, is_serial_given_up, lies_below, after_collection, collected_writes}
 use Rattle.fw_flow.specs.declared.restoring.Restoring.TheVariants.{Checkpoints}
 use Rattle.fw_flow.specs.Restoring.{restoring_of_policy, restoring}
 use Rattle.fw_model.proofs.Decisions.{two_ways}
-use Rattle.fw_model.proofs.CmpLaws.{stamp_total}
+use Rattle.fw_frontier.proofs.SameLaws.{same_front-itself}
 use Rattle.fw_model.proofs.ChoiceLaws.{same_fronts}
 use Rattle.fw_model.proofs.DenotationLaws.{denotation-exists}
 use Rattle.fw_model.proofs.CheckpointLaws.{HoldsSettled, IsWriteSettled, AreWritesSettled, HasWritesSettled, settled-grows, each-passed, each-replaced}
@@ -383,9 +381,6 @@ asked-restore sys state settled ps k o m c =
           (each-weaker T (λ p. AllByRecursion (λ (x : Write). IsApart x.node x.written p (checkpoint (front_of settled p) state.low)) state.writes) ps (λ p a. a.1) m)));
     }
 
-pub front-same : (f : Front) → same_front f f ≡ true
-front-same f = ap is_eq (tied_itself (lists_total stamp_total) f)
-
 -- where settled grew no checkpoint is at it
 grown-apart : (sys : System) (before after : List Front) (p : ℕ) (low : List Front) → p < length sys.flow.nodes
     → Within (at_node sys before p) (at_node sys after p) → IsCanonical (bounds_of sys.flow p) (front_of before p) → IsCanonical (bounds_of sys.flow p) (front_of after p)
@@ -397,7 +392,7 @@ grown-apart sys before after p low l g cb ca d n (checkpoint f k) h = λ e i.
     subst (λ x. Within (frontier_of (bounds_of sys.flow p) x) (at_node sys before p)) i
     (subst (λ q. q < length sys.flow.nodes → Within (frontier_of (bounds_of sys.flow q) f) (at_node sys before q)) e h l) in
     let one = same_fronts (bounds_of sys.flow p) old new cb ca g lies in
-    two_ways (same_front old new) (subst (λ x. same_front old x ≡ true) one (front-same old)) d
+    two_ways (same_front old new) (subst (λ x. same_front old x ≡ true) one (same_front-itself old)) d
 grown-apart sys before after p low l g cb ca d n (logged_event s) h = tt
 
 progress-restore : (sys : System) (state : Machine) (done : ℕ → Frontier) (settled : List Front) → GrowsTo sys state done settled → HasWritesSettled sys state

@@ -14,13 +14,14 @@ use Rattle.fw_flow.specs.declared.kind.Policy.{Policy}
 use Rattle.fw_flow.specs.declared.kind.Policy.TheVariants as policy
 use Rattle.fw_flow.specs.declared.step.Step.{Step}
 use Rattle.fw_flow.specs.declared.step.Step.TheVariants.{Inject, Deliver, Notify, Progress as ProgressStep, Checkpoint, Persist, Fail, Recover, Collect, Ack}
-use Rattle.fw_flow.specs.Dataflow.{System, policy_of, bounds_of, node_ids}
+use Rattle.fw_flow.specs.Dataflow.{System, policy_of, bounds_of, node_ids, is_one_of}
 use Rattle.fw_flow.specs.NodeFunction.{event_node}
 use Rattle.fw_flow.specs.WellFormed.{IsWellFormedSystem}
 use Rattle.fw_model.specs.Machine.{Machine, SerialEvent, Write, Written, checkpoint, logged_event, acknowledged, no_stamps, first_state, front_of}
 use Rattle.fw_model.specs.Choice.{cut_of, filtered_history}
-use Rattle.fw_model.specs.Steps.{Effect, Outcome, did, idle, write_of_event, with_event, is_eager, eager_writes, checkpoint_of, is_asked_for_checkpoints, checkpoint_front, checkpoints_of, last_or, newest_checkpoint, is_one_of, is_in_flight, is_kept_write, lies_below, after_collection, front_of_cut, LeadsTo, Run}
-use Rattle.fw_model.proofs.AskedLaws.{takes-declared, IsApart, IsAskedWell, IsWriteAskedWell, CanRecoverAndRestore, took-reached, first-reached, reached-all, eager-takes, asked-takes, front-same}
+use Rattle.fw_model.specs.Steps.{Effect, Outcome, did, idle, write_of_event, with_event, is_eager, eager_writes, checkpoint_of, is_asked_for_checkpoints, checkpoint_front, checkpoints_of, last_or, newest_checkpoint, is_in_flight, is_kept_write, lies_below, after_collection, front_of_cut, LeadsTo, Run}
+use Rattle.fw_frontier.proofs.SameLaws.{same_front-itself}
+use Rattle.fw_model.proofs.AskedLaws.{takes-declared, IsApart, IsAskedWell, IsWriteAskedWell, CanRecoverAndRestore, took-reached, first-reached, reached-all, eager-takes, asked-takes}
 use Rattle.fw_model.proofs.CheckpointLaws.{HoldsSettled, IsWriteSettled, each-passed, each-replaced, settled-grows}
 use Rattle.fw_model.proofs.ChoiceLaws.{same_fronts}
 use Rattle.fw_model.proofs.Decisions.{two_ways}
@@ -87,7 +88,7 @@ grown-stamps sys before after p c g d e =
     let b = bounds_of sys.flow p in
     let old : front_of before p ≡ no_stamps b = within-none b (front_of before p) c (subst (λ f. Within (frontier_of b (front_of before p)) (frontier_of b f)) e g) in
     let one : front_of before p ≡ front_of after p = old ∙ sym e in
-    two_ways (same_front (front_of before p) (front_of after p)) (subst (λ f. same_front (front_of before p) f ≡ true) one (front-same (front_of before p))) d
+    two_ways (same_front (front_of before p) (front_of after p)) (subst (λ f. same_front (front_of before p) f ≡ true) one (same_front-itself (front_of before p))) d
 
 eager-stamps : (sys : System) (state : Machine) (settled : List Front)
     → ((p : ℕ) → p < length sys.flow.nodes → IsCanonical (bounds_of sys.flow p) (front_of state.settled p))

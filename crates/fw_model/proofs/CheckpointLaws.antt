@@ -14,11 +14,11 @@ use Rattle.fw_flow.specs.declared.kind.Policy.{Policy}
 use Rattle.fw_flow.specs.declared.kind.Policy.TheVariants as policy
 use Rattle.fw_flow.specs.declared.step.Step.{Step}
 use Rattle.fw_flow.specs.declared.step.Step.TheVariants.{Inject, Deliver, Notify, Progress as ProgressStep, Checkpoint, Persist, Fail, Recover, Collect, Ack}
-use Rattle.fw_flow.specs.Dataflow.{System, kind_of, policy_of, receiver, bounds_of, is_input_kind, node_ids}
+use Rattle.fw_flow.specs.Dataflow.{System, kind_of, policy_of, receiver, bounds_of, is_input_kind, node_ids, is_one_of}
 use Rattle.fw_model.specs.Machine.{Machine, SerialEvent, Write, Written, checkpoint, logged_event, Stage, acknowledged, first_state, front_of, is_failed}
 use Rattle.fw_flow.specs.declared.choice.Choice.{Choice}
 use Rattle.fw_model.specs.Choice.{View, HasCheckpoint, IsRestorable, cut_of, filtered_history}
-use Rattle.fw_model.specs.Steps.{Effect, Outcome, did, idle, LeadsTo, StepsTo, Run, write_of_event, checkpoint_of, is_eager, GrowsTo, AcknowledgesOldest, is_one_of, is_in_flight, is_kept_write, kept_writes, IsSettledCut, CutsTo, lies_below, after_collection, front_of_cut}
+use Rattle.fw_model.specs.Steps.{Effect, Outcome, did, idle, LeadsTo, StepsTo, Run, write_of_event, checkpoint_of, is_eager, GrowsTo, AcknowledgesOldest, is_in_flight, is_kept_write, kept_writes, IsSettledCut, CutsTo, lies_below, after_collection, front_of_cut}
 use Rattle.fw_flow.specs.declared.restoring.Restoring.{Restoring}
 use Rattle.fw_flow.specs.declared.restoring.Restoring.TheVariants.{Batches, Bound, Anything, Checkpoints, Events}
 use Rattle.fw_flow.specs.Restoring.{restoring, way_of}

@@ -1,5 +1,5 @@
 -- Lists of which some elements are kept, and what is pending of them.
-use Rattle.std.proofs.Common.{◌≡◌, ◌+◌, Bool, ◌||◌, true, false, cond, List, [], ◌∷◌, ◌++◌, filter, refl, sym, ap, ◌∙◌, inl, inr}
+use Rattle.std.proofs.Common.{◌≡◌, ℕ, zero, suc, ◌+◌, ◌<◌, Bool, ◌||◌, true, false, cond, List, [], ◌∷◌, ◌++◌, filter, length, drop, get_or, refl, sym, ap, ◌∙◌, inl, inr, arith}
 use Rattle.std.specs.List.{AllByRecursion, list_any, flat_map}
 use Rattle.std.proofs.lemmas.Bool.{or_parts, or_from, cond-true, cond-false, cond_both, cases_Bool}
 use Rattle.fw_flow.specs.Counting.{how_many}
@@ -28,6 +28,20 @@ filter-all k (x ∷ xs) a = filter-in k x xs a.0 ∙ ap (λ zs. x ∷ zs) (filte
 pub filter-none : {X : Type 0} (k : X → Bool) (xs : List X) → AllByRecursion (λ x. k x ≡ false) xs → filter k xs ≡ []
 filter-none k [] a = refl
 filter-none k (x ∷ xs) a = filter-out k x xs a.0 ∙ filter-none k xs a.1
+
+-- where no element passes, by its place, nothing is kept
+pub filter-none_at : {X : Type 0} (k : X → Bool) (xs : List X) → ((i : ℕ) (d : X) → i < length xs → k (get_or xs i d) ≡ false) → filter k xs ≡ []
+filter-none_at k [] h = refl
+filter-none_at k (x ∷ xs) h = filter-out k x xs (h 0 x (omega arith)) ∙ filter-none_at k xs (λ i d l. h (suc i) d (omega arith))
+
+-- where the first elements do not pass, those behind them have all that passes
+pub filter-dropped : {X : Type 0} (k : X → Bool) (xs : List X) (n : ℕ) → ((i : ℕ) (d : X) → i < n → i < length xs → k (get_or xs i d) ≡ false)
+    → filter k xs ≡ filter k (drop n xs)
+filter-dropped k [] zero h = refl
+filter-dropped k [] (suc n) h = refl
+filter-dropped k (x ∷ xs) zero h = refl
+filter-dropped k (x ∷ xs) (suc n) h =
+    filter-out k x xs (h 0 x (omega arith) (omega arith)) ∙ filter-dropped k xs n (λ i d l m. h (suc i) d (omega arith) (omega arith))
 
 -- of what one test keeps, a narrower test keeps as much as of all
 pub filter-inner : {X : Type 0} (j k : X → Bool) (xs : List X) → AllByRecursion (λ x. j x ≡ true → k x ≡ true) xs → filter j (filter k xs) ≡ filter j xs

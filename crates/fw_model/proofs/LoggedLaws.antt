@@ -15,14 +15,14 @@ use Rattle.fw_flow.specs.declared.kind.Policy.{Policy}
 use Rattle.fw_flow.specs.declared.kind.Policy.TheVariants as policy
 use Rattle.fw_flow.specs.declared.step.Step.{Step}
 use Rattle.fw_flow.specs.declared.step.Step.TheVariants.{Inject, Deliver, Notify, Progress as ProgressStep, Checkpoint, Persist, Fail, Recover, Collect, Ack}
-use Rattle.fw_flow.specs.Dataflow.{System, Dataflow, kind_of, policy_of, bounds_of, node_ids}
+use Rattle.fw_flow.specs.Dataflow.{System, Dataflow, kind_of, policy_of, bounds_of, node_ids, is_one_of}
 use Rattle.fw_flow.specs.NodeFunction.{event_node, event_stamp}
 use Rattle.fw_flow.specs.Projection.{events_at}
 use Rattle.fw_flow.specs.WellFormed.{IsWellFormed, IsWellFormedSystem}
 use Rattle.fw_model.specs.Machine.{Machine, SerialEvent, Write, Written, checkpoint, logged_event, Stage, acknowledged, events, first_state, front_of, is_failed}
 use Rattle.fw_model.specs.Choice.{kept, IsLogged, IsRestorable, IsCandidate, IsLargest, cut_of, kept_of, filtered_history}
 use Rattle.fw_model.specs.Covers.{set_of}
-use Rattle.fw_model.specs.Steps.{Effect, Outcome, did, idle, LeadsTo, Run, write_of_event, with_event, checkpoint_of, is_eager, is_one_of, is_in_flight, with_failed, without_lost, has_serial, is_kept_write, kept_writes, recovered_state, front_of_cut, lies_below, after_collection, collected_writes, offers, AcknowledgesOldest}
+use Rattle.fw_model.specs.Steps.{Effect, Outcome, did, idle, LeadsTo, Run, write_of_event, with_event, checkpoint_of, is_eager, is_in_flight, with_failed, without_lost, has_serial, is_kept_write, kept_writes, recovered_state, front_of_cut, lies_below, after_collection, collected_writes, offers, AcknowledgesOldest}
 use Rattle.fw_model.specs.Writes.{LogsSerial}
 use Rattle.fw_model.proofs.Decisions.{two_ways}
 use Rattle.fw_model.proofs.LegalLaws.{legal_events-in_domain}

@@ -16,7 +16,7 @@ use Rattle.fw_flow.specs.declared.event.Event.TheVariants.{Inject as Injected, D
 use Rattle.fw_flow.specs.declared.event.Message.{Message}
 use Rattle.fw_flow.specs.declared.kind.Kind.{Kind}
 use Rattle.fw_flow.specs.declared.kind.Kind.TheVariants.{Input}
-use Rattle.fw_flow.specs.Dataflow.{System, Dataflow, kind_of, policy_of, sender, receiver, in_edges, bounds_of, batches_of, greatest_number, is_input_kind, is_notified_kind, HasEpochs}
+use Rattle.fw_flow.specs.Dataflow.{System, Dataflow, kind_of, policy_of, sender, receiver, in_edges, bounds_of, batches_of, greatest_number, is_input_kind, is_notified_kind, HasEpochs, is_one_of}
 use Rattle.fw_flow.specs.NodeFunction.{event_node, event_stamp}
 use Rattle.fw_flow.specs.Projection.{phi}
 use Rattle.fw_flow.specs.WellFormed.{IsWellFormed, IsInDegree}
@@ -24,7 +24,7 @@ use Rattle.fw_model.specs.History.{some_at, pending_messages, was_delivered_to, 
 use Rattle.fw_model.specs.Machine.{Machine, SerialEvent, Write, Written, checkpoint, logged_event, Stage, in_flight, acknowledged, collected, events, no_stamps, first_state, front_of, ack_count_of}
 use Rattle.fw_flow.specs.declared.choice.Choice.{Choice}
 use Rattle.fw_model.specs.Choice.{View, kept, ever, is_counted, until, HasCheckpoint, IsLogged, AllLogged, IsRestorable, HoldsLow, IsCandidate, cut_of, notice_of, kept_of, IsConsistent, IsCutWithin, IsLargest, filtered_history}
-use Rattle.fw_model.specs.Steps.{write_of_event, with_event, AcknowledgesOldest, is_one_of, is_in_flight, has_serial, is_kept_write, IsSettledCut, CutsTo, recovered_state, lies_below, after_collection, collected_writes, front_of_cut}
+use Rattle.fw_model.specs.Steps.{write_of_event, with_event, AcknowledgesOldest, is_in_flight, has_serial, is_kept_write, IsSettledCut, CutsTo, recovered_state, lies_below, after_collection, collected_writes, front_of_cut}
 use Rattle.fw_flow.specs.declared.restoring.Restoring.{Restoring}
 use Rattle.fw_flow.specs.declared.restoring.Restoring.TheVariants.{Batches, Bound, Anything, Checkpoints, Events}
 use Rattle.fw_flow.specs.Restoring.{restoring, can_resend, way_of}

@@ -129,13 +129,13 @@ position-over flow r (l ∷ ls) p t =
 
 -- the edge is within a round of each of these loops
 abbrev WithinRounds : Dataflow → List ℕ → ℕ → Type 0
-WithinRounds flow ls e = (l : ℕ) → is_one_of ls l ≡ true → IsWithinRound flow l e
+WithinRounds flow ls e = (l : ℕ) → is_one_of l ls ≡ true → IsWithinRound flow l e
 
 inner_round : (flow : Dataflow) (l : ℕ) (ls : List ℕ) (e : ℕ) → WithinRounds flow (l ∷ ls) e → IsWithinRound flow l e
-inner_round flow l ls e w = w l (or_left (l == l) (is_one_of ls l) (eq-eqb l l refl))
+inner_round flow l ls e w = w l (or_left (l == l) (is_one_of l ls) (eq-eqb l l refl))
 
 outer_rounds : (flow : Dataflow) (l : ℕ) (ls : List ℕ) (e : ℕ) → WithinRounds flow (l ∷ ls) e → WithinRounds flow ls e
-outer_rounds flow l ls e w k h = w k (or_right (l == k) (is_one_of ls k) h)
+outer_rounds flow l ls e w k h = w k (or_right (l == k) (is_one_of k ls) h)
 
 position-keeps : (flow : Dataflow) (r : Ranks flow) (e : ℕ) → e < length flow.edges → (ls : List ℕ) → WithinRounds flow ls e → (s t : Stamp) → leq s t ≡ true
     → position flow r ls (sender flow e) s ≤ position flow r ls (receiver flow e) t
@@ -189,8 +189,8 @@ unfolding measure
 measure-in flow r p t ls e = ap (λ x. measure_in flow r x p t) e
 
 -- whether a loop is one of these, where these are named otherwise
-one_of-same : (ls ks : List ℕ) (l : ℕ) → ls ≡ ks → is_one_of ks l ≡ true → is_one_of ls l ≡ true
-one_of-same ls ks l e h = ap (λ x. is_one_of x l) e ∙ h
+one_of-same : (ls ks : List ℕ) (l : ℕ) → ls ≡ ks → is_one_of l ks ≡ true → is_one_of l ls ≡ true
+one_of-same ls ks l e h = ap (λ x. is_one_of l x) e ∙ h
 
 -- from the same domain
 falls-same : (flow : Dataflow) (r : Ranks flow) (e : ℕ) → e < length flow.edges → (l : ℕ)
@@ -229,9 +229,9 @@ falls-fed_back flow w r e lt l d is s t u more next k =
     let below = counter-leq u t k in
     let less : few_counter s < few_counter t = omega arith in
     let rounds : WithinRounds flow ls e = λ j h. record {
-      from = one_of-same _ _ j from (or_right (l == j) (is_one_of ls j) h);
-      to = one_of-same _ _ j to (or_right (l == j) (is_one_of ls j) h);
-      onward = ap (is_feedback_of j) is ∙ false_from_ne_true (l == j) (λ same. not_own_parent flow l (ap (is_one_of ls) (eqb-true l j same) ∙ h));
+      from = one_of-same _ _ j from (or_right (l == j) (is_one_of j ls) h);
+      to = one_of-same _ _ j to (or_right (l == j) (is_one_of j ls) h);
+      onward = ap (is_feedback_of j) is ∙ false_from_ne_true (l == j) (λ same. not_own_parent flow l (ap (λ x. is_one_of x ls) (eqb-true l j same) ∙ h));
     } in
     let same_outer : leq (outer s) (outer t) ≡ true = ap (λ x. leq x (outer t)) (sym out) ∙ outer-leq u t k in
     let c = lift-less (rounds_in_loop flow) (3 - length (l ∷ ls)) _ _ (rounds_in_loop-some flow)
@@ -261,7 +261,7 @@ falls-entered flow w r e lt l d is s t k =
     let few : length (l ∷ ls) ≤ 3 = let x = loops-few flow (InLoop l) in let y = ap length (loops-unfold flow l) in omega arith in
     let rounds : WithinRounds flow ls e = λ j h. record {
       from = one_of-same _ _ j from h;
-      to = one_of-same _ _ j to (or_right (l == j) (is_one_of ls j) h);
+      to = one_of-same _ _ j to (or_right (l == j) (is_one_of j ls) h);
       onward = ap (is_feedback_of j) is;
     } in
     let same_outer : leq s (outer t) ≡ true = ap (λ x. leq x (outer t)) (sym (outer-nest s 0)) ∙ outer-leq (nest s 0) t k in
@@ -291,7 +291,7 @@ falls-left flow w r e lt l k d is up s t i =
     let b = measure-in flow r p t (l ∷ ls) to in
     let few : length (k ∷ l ∷ ls) ≤ 3 = let x = loops-few flow (domain_of flow q) in let y = ap length from in omega arith in
     let rounds : WithinRounds flow (l ∷ ls) e = λ j h. record {
-      from = one_of-same _ _ j from (or_right (k == j) (is_one_of (l ∷ ls) j) h);
+      from = one_of-same _ _ j from (or_right (k == j) (is_one_of j (l ∷ ls)) h);
       to = one_of-same _ _ j to h;
       onward = ap (is_feedback_of j) is;
     } in

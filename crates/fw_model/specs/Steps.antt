@@ -18,7 +18,7 @@ use Rattle.fw_flow.specs.declared.kind.Policy.{Policy}
 use Rattle.fw_flow.specs.declared.kind.Policy.TheVariants as policy
 use Rattle.fw_flow.specs.declared.step.Step.{Step}
 use Rattle.fw_flow.specs.declared.step.Step.TheVariants.{Inject, Deliver, Notify, Progress as ProgressStep, Checkpoint, Persist, Fail, Recover, Collect, Ack}
-use Rattle.fw_flow.specs.Dataflow.{System, kind_of, policy_of, receiver, out_edges, bounds_of, send_stamp, is_output_kind, node_ids, node_frontier}
+use Rattle.fw_flow.specs.Dataflow.{System, kind_of, policy_of, receiver, out_edges, bounds_of, send_stamp, is_output_kind, node_ids, node_frontier, is_one_of}
 use Rattle.fw_flow.specs.WellFormed.{may_keep_nothing}
 use Rattle.fw_flow.specs.NodeFunction.{event_node, event_stamp, delivered_recs}
 use Rattle.fw_model.specs.History.{IsEnabled, IsComplete}
@@ -138,10 +138,6 @@ pub record AcknowledgesOldest (writes next : List Write) : Type 0 where
   pub in_flight : is_in_flight oldest.stage ≡ true
   pub none_earlier : list_any (λ write. is_in_flight write.stage) earlier ≡ false
   pub after : next ≡ earlier ++ record oldest { stage = acknowledged } ∷ later
-
--- whether the place is among these
-abbrev pub is_one_of : ℕ → List ℕ → Bool
-is_one_of p qs = list_any (λ q. p == q) qs
 
 -- the writes without those in flight of these nodes
 abbrev pub without_lost : List ℕ → List Write → List Write

@@ -14,6 +14,7 @@ pub mod LoweringLaws
 pub mod OneTrailLaws
 pub mod PassLaws
 pub mod RecordLaws
+pub mod SentKeptLaws
 pub mod StartLaws
 pub mod StepLaws
 pub mod TestLaws

@@ -1,26 +1,60 @@
 -- Where the descent starts.
-use Rattle.std.proofs.Common.{◌≡◌, ◌≢◌, ℕ, zero, suc, ◌+◌, ◌<◌, ◌≤◌, Bool, false, List, [], ◌∷◌, ◌++◌, length, take, get_or, ◌-◌, ◌==◌, Some, None, refl, sym, ap, subst, ◌∙◌, inl, inr, arith}
+use Rattle.std.proofs.Common.{◌≡◌, ◌≢◌, ℕ, zero, suc, ◌+◌, ◌<◌, ◌≤◌, Bool, true, false, List, [], ◌∷◌, ◌++◌, length, take, get_or, ◌-◌, ◌==◌, Option, Some, None, refl, sym, ap, subst, ◌∙◌, inl, inr, arith}
 use Rattle.std.specs.List.{AllByRecursion}
 use Rattle.std.proofs.lemmas.Bool.{cases_lt, eqb-false}
 use Rattle.std.proofs.lemmas.List.{get_or_read, drop_all}
+use Rattle.fw_time.specs.declared.stamp.Bounds.{Bounds}
+use Rattle.fw_frontier.specs.Frontier.{Frontier}
 use Rattle.fw_frontier.specs.Front.{Front, IsCanonical, IsFrontOf}
 use Rattle.fw_flow.specs.declared.choice.Cut.{Cut}
 use Rattle.fw_flow.specs.declared.choice.Cut.TheVariants.{Present, At}
 use Rattle.fw_flow.specs.declared.choice.Recorded.{Recorded}
 use Rattle.fw_flow.specs.declared.choice.Offer.{Offer}
+use Rattle.fw_flow.specs.declared.choice.Offered.{Offered}
+use Rattle.fw_flow.specs.declared.choice.Offered.TheVariants as form
 use Rattle.fw_flow.specs.Dataflow.{Dataflow, bounds_of}
 use Rattle.fw_model.specs.Machine.{front_of}
 use Rattle.fw_model.specs.Choice.{cut_of, IsCutWithin}
 use Rattle.fw_model.specs.Covers.{set_of}
-use Rattle.fw_model.specs.Offers.{IsListed, IsBetween, IsOffered, Ascend, IsRangeOf, IsRecordOf, can_stay, records_of, range_of, AreOffersOf}
-use Rattle.fw_monitor.specs.Descent.{choice_of, IsCanonicalCut, EnclosesConsistent, IsGreatest}
-use Rattle.fw_model.proofs.OfferLaws.{below_last, listed-there, between-offered, offered-between}
+use Rattle.fw_model.specs.Offers.{IsListed, IsBetween, IsOneOf, IsOffered, Ascend, IsRangeOf, IsRecordOf, can_stay, offered_by, offered_range, records_of, range_of, AreOffersOf}
+use Rattle.fw_monitor.specs.Descent.{choice_of, has_all, IsCanonicalCut, EnclosesConsistent, IsGreatest}
+use Rattle.fw_model.proofs.OfferLaws.{below_last, listed-there, offered-between, listed-offered, offered-listed}
 use Rattle.fw_monitor.proofs.DescentLaws.{set-monotone}
 use Rattle.fw_monitor.proofs.CutDownLaws.{split_at}
+use Rattle.fw_monitor.proofs.FrontLaws.{all_is_everything, within_everything}
 
-pub greatest_between : (flow : Dataflow) (offers : List Offer) (p : ℕ) (r : Bool) (greatest f : Front) → AreOffersOf flow offers → p < length flow.nodes → r ≡ false → r ≡ can_stay offers p
-    → (least : Front) × (range_of offers p ≡ Some (least, greatest)) → f ≡ greatest → IsGreatest flow offers p (At f)
-greatest_between flow offers p r greatest f a l e is ends same =
+pub greatest_all : (flow : Dataflow) (offers : List Offer) (p : ℕ) (r s : Bool) (f : Front) → r ≡ false → r ≡ can_stay offers p → s ≡ true → s ≡ has_all (offered_by offers p) → f ≡ []
+    → IsGreatest flow offers p (At f)
+greatest_all flow offers p r s f e is all has same =
+    subst (λ g. IsGreatest flow offers p (At g)) (sym same) (record { canonical = tt; largest = λ asc x o. at x o })
+  where
+    top : (x : Offered) → has_all x ≡ true → IsOneOf (bounds_of flow p) x []
+    top (form.Listed records) k = absurd (cc)
+    top (form.Between least greatest) k = absurd (cc)
+    top (form.Batches least greatest exhausted) k = inr (k, refl)
+
+    at : (x : Cut) → IsOffered flow offers p x → IsOffered flow offers p (At []) × IsCutWithin flow p x (At [])
+    at Present o = let k = sym e ∙ is ∙ o in absurd (cc)
+    at (At g) o = ((tt, top (offered_by offers p) (sym has ∙ all)), λ t k. ap (λ (f : Frontier). f t) (all_is_everything (bounds_of flow p)) ∙ within_everything (bounds_of flow p) g t k)
+
+-- the frontier lies between the two, if there are two
+IsWithinEnds : Bounds → Option (Front × Front) → Front → Type 0
+IsWithinEnds b None g = ⊥
+IsWithinEnds b (Some ends) g = IsBetween b ends.0 ends.1 g
+
+-- where all is not on top, what is offered lies in the range
+in_range : (b : Bounds) (x : Offered) (least greatest g : Front) → offered_range x ≡ Some (least, greatest) → has_all x ≡ false → IsOneOf b x g → IsBetween b least greatest g
+unfolding IsWithinEnds
+in_range b (form.Listed records) least greatest g e none i = absurd (cc)
+in_range b (form.Between low high) least greatest g e none i = subst (λ ends. IsWithinEnds b ends g) e i
+in_range b (form.Batches low high exhausted) least greatest g e none i = elim i [
+  | inl j ↦ subst (λ ends. IsWithinEnds b ends g) e j
+  | inr j ↦ let k = sym none ∙ j.0 in absurd (cc)
+]
+
+pub greatest_between : (flow : Dataflow) (offers : List Offer) (p : ℕ) (r s : Bool) (greatest f : Front) → AreOffersOf flow offers → p < length flow.nodes → r ≡ false → r ≡ can_stay offers p
+    → s ≡ false → s ≡ has_all (offered_by offers p) → (least : Front) × (range_of offers p ≡ Some (least, greatest)) → f ≡ greatest → IsGreatest flow offers p (At f)
+greatest_between flow offers p r s greatest f a l e is none has ends same =
     subst (λ g. IsGreatest flow offers p (At g)) (sym same) (record { canonical = canonical; largest = λ asc x o. at x o })
   where
     canonical : IsCanonical (bounds_of flow p) greatest
@@ -29,7 +63,7 @@ greatest_between flow offers p r greatest f a l e is ends same =
     at : (x : Cut) → IsOffered flow offers p x → IsOffered flow offers p (At greatest) × IsCutWithin flow p x (At greatest)
     at Present o = let k = sym e ∙ is ∙ o in absurd (cc)
     at (At g) o =
-        let j = between-offered flow offers p ends.0 greatest g ends.1 o in
+        let j = in_range (bounds_of flow p) (offered_by offers p) ends.0 greatest g ends.1 (sym has ∙ none) o.1 in
         (offered-between flow offers p ends.0 greatest greatest ends.1 canonical (λ t k. j.1 t (j.0 t k), λ t k. k), j.1)
 
 pub greatest_none : (flow : Dataflow) (offers : List Offer) (p : ℕ) (r : Bool) (f : Front) → r ≡ false → r ≡ can_stay offers p → range_of offers p ≡ None → records_of offers p ≡ [] → f ≡ [] → IsGreatest flow offers p (At f)
@@ -38,10 +72,7 @@ greatest_none flow offers p r f e is none empty same =
   where
     at : (x : Cut) → IsOffered flow offers p x → IsOffered flow offers p (At []) × IsCutWithin flow p x (At [])
     at Present o = let k = sym e ∙ is ∙ o in absurd (cc)
-    at (At g) o = elim (o.1) [
-      | inl i ↦ absurd (subst (IsListed g) empty i)
-      | inr j ↦ absurd (subst (λ ends. IsBetween (bounds_of flow p) ends g) none j)
-    ]
+    at (At g) o = absurd (subst (IsListed g) empty (listed-offered flow offers p g none o))
 
 pub greatest_last : (flow : Dataflow) (offers : List Offer) (p : ℕ) (r : Bool) (f : Front) (before : List Recorded) (last : Recorded) → AreOffersOf flow offers → p < length flow.nodes → r ≡ false → r ≡ can_stay offers p
     → range_of offers p ≡ None → records_of offers p ≡ before ++ last ∷ [] → f ≡ last.front → IsGreatest flow offers p (At f)
@@ -57,13 +88,10 @@ greatest_last flow offers p r f before last a l e is none split same =
 
     at : Ascend (bounds_of flow p) (records_of offers p) → (x : Cut) → IsOffered flow offers p x → IsOffered flow offers p (At last.front) × IsCutWithin flow p x (At last.front)
     at asc Present o = let k = sym e ∙ is ∙ o in absurd (cc)
-    at asc (At g) o = elim (o.1) [
-      | inl i ↦ (
-        (canonical, inl (subst (IsListed last.front) (sym split) (listed-there before last []))),
-        below_last (bounds_of flow p) before last [] g (subst (Ascend (bounds_of flow p)) split asc) (subst (IsListed g) split i) tt,
-      )
-      | inr j ↦ absurd (subst (λ ends. IsBetween (bounds_of flow p) ends g) none j)
-    ]
+    at asc (At g) o = (
+      offered-listed flow offers p last.front canonical (subst (IsListed last.front) (sym split) (listed-there before last [])),
+      below_last (bounds_of flow p) before last [] g (subst (Ascend (bounds_of flow p)) split asc) (subst (IsListed g) split (listed-offered flow offers p g none o)) tt,
+    )
 
 -- ---- lists of cuts
 

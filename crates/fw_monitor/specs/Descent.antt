@@ -1,6 +1,6 @@
 -- The sides of the nodes' cuts, and for the proofs of src/descent.rt, and of start, passes, lower and offers beside it, what a
 -- descent to the largest choice lowers and what it keeps.
-use Rattle.std.specs.Prelude.{◌≡◌, ◌≢◌, ℕ, ◌+◌, ◌<◌, ◌==◌, if◌then◌else◌, List, [], ◌∷◌, length, set, Option, Some, None}
+use Rattle.std.specs.Prelude.{◌≡◌, ◌≢◌, ℕ, ◌+◌, ◌<◌, ◌==◌, Bool, false, if◌then◌else◌, List, [], ◌∷◌, length, set, Option, Some, None}
 use Rattle.fw_time.specs.declared.stamp.Bounds.{Bounds}
 use Rattle.fw_frontier.specs.Frontier.{Frontier, Within, nothing, everything, meet}
 use Rattle.fw_frontier.specs.Front.{Front, frontier_of, IsCanonical, IsFrontOf}
@@ -10,6 +10,8 @@ use Rattle.fw_flow.specs.declared.choice.Cut.TheVariants.{Present, At}
 use Rattle.fw_flow.specs.declared.choice.OfEdge.{OfEdge}
 use Rattle.fw_flow.specs.declared.choice.Recorded.{Recorded}
 use Rattle.fw_flow.specs.declared.choice.Offer.{Offer}
+use Rattle.fw_flow.specs.declared.choice.Offered.{Offered}
+use Rattle.fw_flow.specs.declared.choice.Offered.TheVariants as form
 use Rattle.fw_flow.specs.declared.restoring.Restoring.TheVariants.{Checkpoints}
 use Rattle.fw_flow.specs.Restoring.{way_of}
 use Rattle.fw_flow.specs.Dataflow.{Dataflow, sender, receiver, bounds_of, node_frontier}
@@ -41,6 +43,12 @@ abbrev pub IsOfFlow : Dataflow → Side → Type 0
 IsOfFlow flow (Delivered d) = d < length flow.edges
 IsOfFlow flow (Discarded e) = e < length flow.edges
 IsOfFlow flow (Notified p) = p < length flow.nodes
+
+-- whether all is offered on top of a source's batches
+abbrev pub has_all : Offered → Bool
+has_all (form.Listed records) = false
+has_all (form.Between least greatest) = false
+has_all (form.Batches least greatest exhausted) = exhausted
 
 -- the frontier that is listed for an edge
 abbrev pub front_on_edge : ℕ → List OfEdge → Option Front

@@ -58,6 +58,23 @@ pub fn largest(alloc: Global, flow: &Flow, offers: &[Offer]) -> Result<Choice, A
         → IsConsistentBy flow.now (covers_of flow.now offers.now) (IsOffered flow.now offers.now) some
         → IfOk result (IsLargestBy flow.now (covers_of flow.now offers.now) (IsOffered flow.now offers.now)) }
 {
+    let descent = descent_to_largest(alloc, flow, offers)?;
+    Ok(descent.choice)
+}
+
+/// That choice and the trail of the descent to it, as `descend` gives them to a caller that counts the steps. The error is
+/// want of memory.
+pub fn descent_to_largest(
+    alloc: Global,
+    flow: &Flow,
+    offers: &[Offer],
+) -> Result<Descent, AllocError>
+    requires { AreOffersOf flow.now offers.now }
+    ensures largest { (some : choices.Choice) → AreAscending flow.now offers.now
+        → IsConsistentBy flow.now (covers_of flow.now offers.now) (IsOffered flow.now offers.now) some
+        → IfOk result (λ descent. IsLargestBy flow.now (covers_of flow.now offers.now) (IsOffered flow.now offers.now) descent.choice) }
+    ensures trail { HasConsistent flow.now offers.now → IfOk result (λ descent. IsTrail flow.now offers.now descent.trail descent.choice) }
+{
     uncounted::<Brand>(alloc, flow, offers, Blank::new(1))
 }
 
@@ -67,18 +84,18 @@ fn uncounted<L: Ledger>(
     flow: &Flow,
     offers: &[Offer],
     blank: Blank,
-) -> Result<Choice, AllocError>
+) -> Result<Descent, AllocError>
     requires offers { AreOffersOf flow.now offers.now }
     requires name { blank.name ≡ L.name }
     requires parts { blank.parts ≡ L.parts }
     requires some { 0 < L.parts }
-    ensures { (some : choices.Choice) → AreAscending flow.now offers.now
+    ensures largest { (some : choices.Choice) → AreAscending flow.now offers.now
         → IsConsistentBy flow.now (covers_of flow.now offers.now) (IsOffered flow.now offers.now) some
-        → IfOk result (IsLargestBy flow.now (covers_of flow.now offers.now) (IsOffered flow.now offers.now)) }
+        → IfOk result (λ descent. IsLargestBy flow.now (covers_of flow.now offers.now) (IsOffered flow.now offers.now) descent.choice) }
+    ensures trail { HasConsistent flow.now offers.now → IfOk result (λ descent. IsTrail flow.now offers.now descent.trail descent.choice) }
 {
     let mut steps = Steps::<L>::none(blank);
-    let descent = descend(alloc, flow, offers, &mut steps)?;
-    Ok(descent.choice)
+    descend(alloc, flow, offers, &mut steps)
 }
 
 /// The largest consistent choice of what the nodes offer, where the records of each ascend and some choice is consistent; else

@@ -12,4 +12,4 @@ mod start;
 mod trail;
 mod worklist;
 
-pub use descent::{Descent, descend, largest};
+pub use descent::{Descent, descend, descent_to_largest, largest};

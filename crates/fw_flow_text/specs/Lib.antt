@@ -5,4 +5,5 @@ pub mod Laws
 pub mod Select
 pub mod Spelled
 pub mod Steps
+pub mod Texts
 pub mod Words

@@ -1,21 +1,20 @@
 //! The first of equal recs at each time.
 ghost use Rattle.std.specs.Prelude.{◌≡◌, not, ℕ, List, Bool, [], ◌∷◌, IfOk, OnOk, OnErr, IsTrue, IsErr, true, false, if◌then◌else◌};
 ghost use Rattle.fw_bag.specs.declared.rec.Rec.{Rec};
-ghost use Rattle.fw_bag.specs.Arrivals.{Arrival, arrivals_inside};
+ghost use Rattle.fw_bag.specs.Arrivals.{Arrival, arrivals_inside, arrival, recs_at};
 ghost use Rattle.fw_bag.specs.Keyed.{is_among};
-ghost use Rattle.fw_table.specs.Arrived.{arrival, recs_at};
 ghost use Rattle.fw_keyed.specs.Seen.{HasSeen};
 ghost use Rattle.fw_keyed.specs.Tables.{IsDistinct};
 
 use fw_bag::Rec;
 use fw_frontier::Logical;
-use fw_table::{Content, Sent, keep_inside, keep_outside, put_at};
+use fw_table::{Content, Sent, keep_outside, put_at};
 use std::alloc::{AllocError, Global};
 use std::collections::{BTreeMap, BTreeSet};
 
 /// The different recs that came at one time.
 #[derive(Drop)]
-pub struct Seen {
+pub(crate) struct Seen {
     recs: BTreeSet<Rec>,
 }
 
@@ -104,17 +103,6 @@ impl<T: Logical> Distinct<T> {
             return Err(refusal);
         }
         Ok(Sent::of(t, if again { None } else { Some(rec) }))
-    }
-
-    /// Keeps what came at times inside. It takes no memory.
-    pub fn keep_only(&mut self, f: &T::Frontier)
-        ensures table { (kept : List ℕ → Bool) (came : List Arrival)
-            → ((t : T) → kept (T.coords t) ≡ T.Frontier.inside f.now t)
-            → IsDistinct T.cmp T.coords self.old came
-            → IsDistinct T.cmp T.coords self.new (arrivals_inside kept came) }
-        ensures live { self.new.refused ≡ self.old.refused }
-    {
-        keep_inside(&mut self.seen, f);
     }
 
     /// Forgets what came at times inside, to which nothing comes any more. It takes no memory.

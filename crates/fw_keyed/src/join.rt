@@ -1,21 +1,20 @@
 //! The pairs of recs of two edges with one key, at each time.
 ghost use Rattle.std.specs.Prelude.{◌≡◌, ◌<◌, ℕ, List, Bool, [], ◌∷◌, not, ◌==◌, IfOk, OnOk, OnErr, IsTrue, IsErr, true, false, reverse};
 ghost use Rattle.fw_bag.specs.declared.rec.Rec.{Rec};
-ghost use Rattle.fw_bag.specs.Arrivals.{Arrival, arrivals_inside};
+ghost use Rattle.fw_bag.specs.Arrivals.{Arrival, arrivals_inside, arrival};
 ghost use Rattle.fw_bag.specs.Keyed.{joined_rec};
-ghost use Rattle.fw_table.specs.Arrived.{arrival};
 ghost use Rattle.fw_keyed.specs.Sides.{HasValues, sums_with, values_with, recs_across, AreOfTwo};
 ghost use Rattle.fw_keyed.specs.Tables.{IsJoin};
 
 use fw_bag::Rec;
 use fw_frontier::Logical;
-use fw_table::{Content, Sent, SentRecs, keep_inside, keep_outside, put_at};
+use fw_table::{Content, Sent, SentRecs, keep_outside, put_at};
 use std::alloc::{AllocError, Global};
 use std::collections::BTreeMap;
 
 /// The values of each key on each of two sides that came at one time, the earliest first.
 #[derive(Drop)]
-pub struct Sides {
+pub(crate) struct Sides {
     left: BTreeMap<u64, Vec<u64>>,
     right: BTreeMap<u64, Vec<u64>>,
     alloc: Global,
@@ -164,17 +163,6 @@ impl<T: Logical> Join<T> {
                 Err(refusal)
             }
         }
-    }
-
-    /// Keeps what came at times inside. It takes no memory.
-    pub fn keep_only(&mut self, f: &T::Frontier)
-        ensures table { (kept : List ℕ → Bool) (came : List Arrival)
-            → ((t : T) → kept (T.coords t) ≡ T.Frontier.inside f.now t)
-            → IsJoin T.cmp T.coords self.old came
-            → IsJoin T.cmp T.coords self.new (arrivals_inside kept came) }
-        ensures live { self.new.refused ≡ self.old.refused }
-    {
-        keep_inside(&mut self.sides, f);
     }
 
     /// Forgets what came at times inside, to which nothing comes any more. It takes no memory.

@@ -9,6 +9,6 @@ mod distinct;
 mod join;
 mod sum;
 
-pub use distinct::{Distinct, Seen};
-pub use join::{Join, Sides};
+pub use distinct::Distinct;
+pub use join::Join;
 pub use sum::Sum;

@@ -1,13 +1,12 @@
 //! The sums of the values of each key at each time.
 ghost use Rattle.std.specs.Prelude.{◌≡◌, not, ℕ, List, Bool, [], ◌∷◌, IfOk, OnOk, OnErr, IsTrue, IsErr, true, false};
-ghost use Rattle.fw_bag.specs.Arrivals.{Arrival, arrivals_inside};
-ghost use Rattle.fw_table.specs.Arrived.{arrival, recs_at};
+ghost use Rattle.fw_bag.specs.Arrivals.{Arrival, arrivals_inside, arrival, recs_at};
 ghost use Rattle.fw_table.specs.Sums.{sums_by_key};
 ghost use Rattle.fw_keyed.specs.Tables.{IsSum};
 
 use fw_bag::Rec;
 use fw_frontier::Logical;
-use fw_table::{Sent, SentRecs, Sums, keep_inside, keep_outside, put_at};
+use fw_table::{Sent, SentRecs, Sums, keep_outside, put_at};
 use std::alloc::{AllocError, Global};
 use std::collections::BTreeMap;
 
@@ -87,17 +86,6 @@ impl<T: Logical> Sum<T> {
                 Err(refusal)
             }
         }
-    }
-
-    /// Keeps what came at times inside. It takes no memory.
-    pub fn keep_only(&mut self, f: &T::Frontier)
-        ensures table { (kept : List ℕ → Bool) (came : List Arrival)
-            → ((t : T) → kept (T.coords t) ≡ T.Frontier.inside f.now t)
-            → IsSum T.cmp T.coords self.old came
-            → IsSum T.cmp T.coords self.new (arrivals_inside kept came) }
-        ensures live { self.new.refused ≡ self.old.refused }
-    {
-        keep_inside(&mut self.sums, f);
     }
 
     /// Forgets what came at times inside, to which nothing comes any more. It takes no memory.

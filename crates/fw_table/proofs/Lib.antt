@@ -1,3 +1,2 @@
-pub mod ArrivedLaws
 pub mod SumLaws
 pub mod TableSteps

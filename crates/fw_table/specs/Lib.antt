@@ -1,4 +1,3 @@
-pub mod Arrived
 pub mod Content
 pub mod Few
 pub mod Sent

@@ -1,7 +1,6 @@
 //! What a table keeps of one time.
 ghost use Rattle.std.specs.Prelude.{ℕ, List, [], ◌∷◌, OnOk, OnErr};
-ghost use Rattle.fw_bag.specs.Arrivals.{Arrival};
-ghost use Rattle.fw_table.specs.Arrived.{arrival};
+ghost use Rattle.fw_bag.specs.Arrivals.{Arrival, arrival};
 
 use fw_bag::Rec;
 use std::alloc::{AllocError, Global};

@@ -11,6 +11,6 @@ mod sent;
 mod sums;
 
 pub use content::Content;
-pub use per_time::{keep_inside, keep_outside, put_at};
+pub use per_time::{keep_outside, put_at};
 pub use sent::{Sent, SentRecs};
 pub use sums::Sums;

@@ -1,7 +1,6 @@
 //! A content for each time, in a map.
 ghost use Rattle.std.specs.Prelude.{◌≡◌, not, ℕ, Bool, List, ◌∷◌, OnOk, OnErr};
-ghost use Rattle.fw_bag.specs.Arrivals.{Arrival, arrivals_inside};
-ghost use Rattle.fw_table.specs.Arrived.{arrival};
+ghost use Rattle.fw_bag.specs.Arrivals.{Arrival, arrivals_inside, arrival};
 ghost use Rattle.fw_table.specs.Content.{IsTable};
 
 use crate::Content;
@@ -33,21 +32,6 @@ pub fn put_at<T: Logical, C: Content>(
     content.put(side, rec)?;
     contents.insert(t, content)?;
     Ok(())
-}
-
-/// Keeps what came at times inside. It takes no memory.
-pub fn keep_inside<T: Logical, C: Content>(contents: &mut BTreeMap<T, C>, f: &T::Frontier)
-    ensures { (kept : List ℕ → Bool) (came : List Arrival)
-        → ((t : T) → kept (T.coords t) ≡ T.Frontier.inside f.now t)
-        → IsTable T.cmp T.coords C.holds contents.old came
-        → IsTable T.cmp T.coords C.holds contents.new (arrivals_inside kept came) }
-{
-    contents.retain(
-        |t: &T, content: &mut C| -> bool
-            ensures inside { result ≡ T.Frontier.inside f.entry.now t.now }
-            ensures stays { content.new ≡ content.old }
-        { f.contains(t) },
-    );
 }
 
 /// Keeps what came at times outside. It takes no memory.

@@ -13,21 +13,16 @@ use Rattle.std.proofs.lemmas.Bool.{cases_Bool, or_left, or_right}
 use Rattle.std.proofs.lemmas.Map.Keys.{sorted_head, sorted_tail}
 use Rattle.fw_time.specs.Stamp.{Stamp, leq, same}
 use Rattle.fw_time.proofs.EachLaws.{each-weaker, each-both}
-use Rattle.fw_bag.specs.declared.rec.Rec.{Rec}
-use Rattle.fw_bag.specs.Arrivals.{Arrival, recs_where, arrivals_at, arrivals_inside, recs_of}
-use Rattle.fw_bag.specs.Keyed.{has_key, value_sum}
+use Rattle.fw_bag.specs.Arrivals.{Arrival, recs_where, arrivals_at, arrivals_inside, recs_of, AreTimes}
 use Rattle.fw_table.specs.Content.{IsContentOf, IsTable}
 use Rattle.fw_time.proofs.StampLaws.{same-is, same-refl}
 use Rattle.fw_bag.proofs.ArrivalLaws.{at-inside, where-same}
 use Rattle.fw_table.specs.declared.sums.Sums.{Sums}
 use Rattle.fw_table.specs.Sums.{HasSums, sum_at}
 use Rattle.fw_totals.specs.Totals.{combined}
-use Rattle.fw_totals.specs.Latest.{is_stamp_from, seen_from}
-use Rattle.fw_totals.proofs.LatestLaws.{seen-is, settled_before}
-use Rattle.fw_totals.proofs.MergeLaws.{merged_by, there_cases}
+use Rattle.fw_totals.proofs.MergeLaws.{merged_by}
 use Rattle.fw_totals.specs.Totals.{found, HasTotals}
 use Rattle.fw_totals.specs.Gathered.{gathered, HasRoom, HasRooms}
-use Rattle.fw_table.specs.Arrived.{recs_at, recs_inside, AreTimes}
 use Rattle.fw_totals.specs.Settling.{holds_sums}
 
 -- ---- rooms
@@ -276,45 +271,6 @@ module _ {T : Type 0} (cmp : T → T → Ordering) (coords : T → Stamp) (apart
         (λ a. (inside a.at || list_any (λ (e : T × Sums). into e.0 && same a.at (coords e.0)) table.entries) ≡ after a.at) came (λ a x. point q a x.0 x.1)
         (each-both (λ (a : Arrival). (t : T) × (coords t ≡ a.at)) (λ (a : Arrival). list_any (λ (b : Arrival). same b.at a.at) came ≡ true) came times
         (among_all came came (λ s k. k)))
-
-    -- an entry has the keys that came at its time outside
-    entries_seen : (q : ℕ)
-        → AllByRecursion (λ (e : T × Sums). is_some (get nat_cmp e.1.by_key q) ≡ has_key q (recs_at (coords e.0) (arrivals_inside (λ s. not (inside s)) came))) table.entries
-    unfolding AreFound
-    entries_seen q =
-        each-weaker (λ (e : T × Sums). get cmp table e.0 ≡ Some e.1)
-        (λ e. is_some (get nat_cmp e.1.by_key q) ≡ has_key q (recs_at (coords e.0) (arrivals_inside (λ s. not (inside s)) came))) table.entries
-        (λ e f.
-        let rs : List Rec = recs_at (coords e.0) (arrivals_inside (λ s. not (inside s)) came) in
-        let P : Option Sums → Type 0 = λ o. IsContentOf holds_sums o (arrivals_at (coords e.0) (arrivals_inside (λ s. not (inside s)) came)) in
-        let here : HasSums e.1.by_key rs = subst P f (held e.0) in
-        ap is_some (here q) ∙ there_cases (has_key q rs) (value_sum q rs))
-        (found_entries (get cmp table) table.entries (apart_sorted table.entries sorted) (λ t c k. k))
-
-    -- a key was seen from a number on, once all times inside are noted, exactly where it came there and is settled then
-    pub settles_latest : (coordinate : T → ℕ) → ((t : T) → coords t ≡ coordinate t ∷ []) → AreTimes coords came → (q n : ℕ)
-        → seen_from into coordinate n q (has_key q (recs_inside (λ s. inside s && is_stamp_from n s) came)) table.entries
-        ≡ has_key q (recs_inside (λ s. after s && is_stamp_from n s) came)
-    settles_latest coordinate one times q n =
-        let among_entries : Stamp → Bool = λ s. list_any (λ (e : T × Sums). into e.0 && same s (coords e.0)) table.entries in
-        seen-is coords coordinate one into q n (arrivals_inside (λ s. not (inside s)) came) table.entries (entries_seen q)
-        (has_key q (recs_inside (λ s. inside s && is_stamp_from n s) came))
-        ∙ settled_before inside among_entries q n came
-        ∙ ap (has_key q) (where_alike _ _ came
-        (each-weaker (λ (a : Arrival). (inside a.at || among_entries a.at) ≡ after a.at)
-        (λ a. ((inside a.at || among_entries a.at) && is_stamp_from n a.at) ≡ (after a.at && is_stamp_from n a.at)) came
-        (λ a h. ap (λ b. b && is_stamp_from n a.at) h) (each_after times q)))
-
-    -- so are those that were noted before and those of the times inside by themselves
-    pub open_latest : (coordinate : T → ℕ) → ((t : T) → coords t ≡ coordinate t ∷ []) → AreTimes coords came → (q n : ℕ)
-        → (has_key q (recs_inside (λ s. inside s && is_stamp_from n s) came) || seen_from into coordinate n q false table.entries)
-        ≡ has_key q (recs_inside (λ s. after s && is_stamp_from n s) came)
-    open_latest coordinate one times q n =
-        let before : Bool = has_key q (recs_inside (λ s. inside s && is_stamp_from n s) came) in
-        let kept : List Arrival = arrivals_inside (λ s. not (inside s)) came in
-        ap (λ b. before || b) (seen-is coords coordinate one into q n kept table.entries (entries_seen q) false)
-        ∙ sym (seen-is coords coordinate one into q n kept table.entries (entries_seen q) before)
-        ∙ settles_latest coordinate one times q n
 
     -- the totals into which all times inside are taken are those of what is settled then
     pub settles : (totals : BTreeMap ℕ (Option ℕ)) → HasTotals totals (recs_where (λ a. inside a.at) came) → AreTimes coords came → (q : ℕ)

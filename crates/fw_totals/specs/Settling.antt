@@ -2,13 +2,11 @@
 use Rattle.std.specs.Prelude.{Bool, not, List}
 use Rattle.std.specs.declared.cmp.Ordering.{Ordering}
 use Rattle.fw_time.specs.Stamp.{Stamp}
-use Rattle.fw_bag.specs.Arrivals.{Arrival, recs_of, arrivals_inside}
+use Rattle.fw_bag.specs.Arrivals.{Arrival, recs_of, arrivals_inside, recs_inside, AreTimes}
 use Rattle.fw_table.specs.declared.sums.Sums.{Sums}
-use Rattle.fw_table.specs.Arrived.{recs_inside, AreTimes}
 use Rattle.fw_table.specs.Content.{IsTable}
 use Rattle.fw_table.specs.Sums.{HasSums}
 use Rattle.fw_totals.specs.declared.settling.Settling.{Settling}
-use Rattle.fw_totals.specs.Latest.{HasLatest}
 use Rattle.fw_totals.specs.Totals.{HasTotals}
 
 -- what is kept of a time
@@ -20,7 +18,3 @@ pub record IsSettling {T : Type 0} (cmp : T → T → Ordering) (coords : T → 
   pub outside : IsTable cmp coords holds_sums table.by_time (arrivals_inside (λ s. not (inside s)) came)
   pub totals : HasTotals table.settled (recs_inside inside came)
   pub times : AreTimes coords came
-
--- what is noted of each key is the greatest number of what is settled at which it came, of those past the base
-abbrev pub IsSettlingLatest : {T : Type 0} → (Stamp → Bool) → (Stamp → Bool) → Settling T → List Arrival → Type 0
-IsSettlingLatest base inside table came = HasLatest base inside table.latest came

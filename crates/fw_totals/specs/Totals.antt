@@ -21,6 +21,8 @@ found totals key = total_in (get nat_cmp totals key)
 abbrev pub HasTotals : BTreeMap ℕ (Option ℕ) → List Rec → Type 0
 HasTotals totals rs = (key : ℕ) → found totals key ≡ sum_at key rs
 
+-- ---- for the proofs
+
 -- a total with the sum of a time taken in
 abbrev pub combined : Option ℕ → Option ℕ → Option ℕ
 combined total None = total

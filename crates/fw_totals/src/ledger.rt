@@ -1,12 +1,11 @@
 //! The running total of each key over the numbers.
-ghost use Rattle.std.specs.Prelude.{◌≡◌, ◌&&◌, ℕ, Bool, List, [], ◌∷◌, true, false, IfOk, OnOk, OnErr, IsTrue, IsErr};
-ghost use Rattle.fw_bag.specs.Arrivals.{Arrival, arrivals_inside, recs_of};
-ghost use Rattle.fw_bag.specs.Keyed.{plus, value_sum, has_key};
+ghost use Rattle.std.specs.Prelude.{◌≡◌, ℕ, Bool, List, [], ◌∷◌, true, false, IfOk, OnOk, OnErr, IsTrue, IsErr};
+ghost use Rattle.fw_bag.specs.Arrivals.{Arrival, recs_of, arrival, recs_inside, AreInside, AreTimes};
+ghost use Rattle.fw_bag.specs.Keyed.{plus, value_sum};
 ghost use Rattle.fw_frontier.specs.Below.{is_below};
-ghost use Rattle.fw_table.specs.Arrived.{arrival, recs_inside, AreInside, AreTimes, IsWithin};
-ghost use Rattle.fw_table.specs.Sums.{sums_at_keys, sums_by_key};
-ghost use Rattle.fw_totals.specs.Ledger.{IsLedger, IsLedgerLatest};
-ghost use Rattle.fw_totals.specs.Latest.{is_from, is_stamp_from, IsPast};
+ghost use Rattle.fw_frontier.specs.Frontier.{Within};
+ghost use Rattle.fw_table.specs.Sums.{sums_by_key};
+ghost use Rattle.fw_totals.specs.Ledger.{IsLedger};
 
 use crate::settling::Settling;
 use crate::totals::{place_at, restored};
@@ -19,8 +18,8 @@ use std::collections::BTreeMap;
 
 /// Sends for each rec the total of its key up to it, modulo 2^64.
 ///
-/// Beside the running totals of all that came it keeps the sums at each number that is not settled, and of what is settled
-/// the totals and the latest number of each key.
+/// Beside the running totals of all that came it keeps the sums at each number that is not settled, and the totals of what
+/// is settled.
 #[derive(Drop)]
 pub struct Ledger {
     table: Settling<SeqNo>,
@@ -33,7 +32,6 @@ impl Ledger {
     /// The table to which nothing came, whatever is settled.
     pub fn new(alloc: Global) -> Self
         ensures table { (inside : List ℕ → Bool) → IsLedger inside result [] }
-        ensures latest { (base inside : List ℕ → Bool) → IsLedgerLatest base inside result [] }
         ensures live { result.refused ≡ false }
     {
         Ledger {
@@ -52,8 +50,6 @@ impl Ledger {
             → AreInside inside came → AreTimes ⟦<SeqNo as Time>⟧.coords came
             → totals.now ≡ sums_by_key (recs_of came)
             → IfOk result (λ ledger. IsLedger inside ledger came) }
-        ensures latest { (inside : List ℕ → Bool) (came : List Arrival)
-            → IfOk result (λ ledger. IsLedgerLatest inside inside ledger came) }
         ensures live { IfOk result (λ ledger. ledger.refused ≡ false) }
     {
         let table = Settling::from_state(alloc, totals)?;
@@ -82,9 +78,6 @@ impl Ledger {
             }) }
         ensures err { (inside : List ℕ → Bool) (came : List Arrival) → IsLedger inside self.old came
             → OnErr result (IsLedger inside self.new came) }
-        ensures latest { (base inside : List ℕ → Bool) (came : List Arrival)
-            → inside (t.0 ∷ []) ≡ false → IsLedgerLatest base inside self.old came
-            → IsLedgerLatest base inside self.new came × IsLedgerLatest base inside self.new (arrival side (t.0 ∷ []) rec ∷ came) }
         ensures live { OnOk result (self.new.refused ≡ false) }
         ensures refused { OnErr result (self.new.refused ≡ true) }
         ensures stays { IsTrue self.old.refused → IsErr result }
@@ -113,16 +106,10 @@ impl Ledger {
     /// It fails where memory is refused, now or earlier.
     pub fn settle(&mut self, f: &Below) -> Result<(), AllocError>
         ensures ok { (inside after : List ℕ → Bool) (came : List Arrival)
-            → ((n : ℕ) → after (n ∷ []) ≡ is_below f.now.until n) → IsWithin inside after
+            → ((n : ℕ) → after (n ∷ []) ≡ is_below f.now.until n) → Within inside after
             → IsLedger inside self.old came → OnOk result (IsLedger after self.new came) }
         ensures err { (inside : List ℕ → Bool) (came : List Arrival) → IsLedger inside self.old came
             → OnErr result (IsLedger inside self.new came) }
-        ensures latest { (base inside after : List ℕ → Bool) (came : List Arrival)
-            → ((n : ℕ) → after (n ∷ []) ≡ is_below f.now.until n) → IsWithin inside after
-            → IsLedger inside self.old came → IsLedgerLatest base inside self.old came
-            → OnOk result (IsLedgerLatest base after self.new came) }
-        ensures latest_err { (base inside : List ℕ → Bool) (came : List Arrival)
-            → IsLedgerLatest base inside self.old came → OnErr result (IsLedgerLatest base inside self.new came) }
         ensures live { OnOk result (self.new.refused ≡ false) }
         ensures refused { OnErr result (self.new.refused ≡ true) }
         ensures stays { IsTrue self.old.refused → IsErr result }
@@ -141,7 +128,7 @@ impl Ledger {
     /// It costs the keys, and the numbers that are not settled. It fails where memory is refused, now or earlier.
     pub fn totals_at(&self, f: &Below) -> Result<Recs, AllocError>
         ensures totals { (inside after : List ℕ → Bool) (came : List Arrival)
-            → ((n : ℕ) → after (n ∷ []) ≡ is_below f.now.until n) → IsWithin inside after
+            → ((n : ℕ) → after (n ∷ []) ≡ is_below f.now.until n) → Within inside after
             → IsLedger inside self.now came
             → IfOk result (λ totals. totals ≡ sums_by_key (recs_inside after came)) }
         ensures stays { IsTrue self.now.refused → IsErr result }
@@ -150,57 +137,5 @@ impl Ledger {
             return Err(AllocError);
         }
         self.table.totals_at(f)
-    }
-
-    /// The totals of what came inside, which holds what is settled, of the keys that came there at the number or later, in
-    /// ascending order of the keys: what changes since that number.
-    ///
-    /// It costs what `totals_at` does. It fails where memory is refused, now or earlier.
-    pub fn totals_from(&self, from: u32, f: &Below) -> Result<Recs, AllocError>
-        ensures totals { (base inside after : List ℕ → Bool) (came : List Arrival)
-            → ((n : ℕ) → after (n ∷ []) ≡ is_below f.now.until n) → IsWithin inside after → IsPast base from
-            → IsLedger inside self.now came → IsLedgerLatest base inside self.now came
-            → IfOk result (λ totals. totals
-            ≡ sums_at_keys (recs_inside (λ s. after s && is_stamp_from from s) came) (recs_inside after came)) }
-        ensures stays { IsTrue self.now.refused → IsErr result }
-    {
-        if self.refused {
-            return Err(AllocError);
-        }
-        self.table.totals_from(from as u64, f)
-    }
-
-    /// Keeps what came inside, which holds what was settled, and settles it.
-    ///
-    /// It fails where memory is refused, now or earlier.
-    pub fn keep_only(&mut self, f: &Below) -> Result<(), AllocError>
-        ensures ok { (inside after : List ℕ → Bool) (came : List Arrival)
-            → ((n : ℕ) → after (n ∷ []) ≡ is_below f.now.until n) → IsWithin inside after
-            → IsLedger inside self.old came → OnOk result (IsLedger after self.new (arrivals_inside after came)) }
-        ensures err { (inside : List ℕ → Bool) (came : List Arrival) → IsLedger inside self.old came
-            → OnErr result (IsLedger inside self.new came) }
-        ensures latest { (after : List ℕ → Bool) (came : List Arrival) → OnOk result (IsLedgerLatest after after self.new came) }
-        ensures latest_err { (base inside : List ℕ → Bool) (came : List Arrival)
-            → IsLedgerLatest base inside self.old came → OnErr result (IsLedgerLatest base inside self.new came) }
-        ensures live { OnOk result (self.new.refused ≡ false) }
-        ensures refused { OnErr result (self.new.refused ≡ true) }
-        ensures stays { IsTrue self.old.refused → IsErr result }
-    {
-        if self.refused {
-            return Err(AllocError);
-        }
-        self.refused = true;
-        let totals = self.table.totals_at(f)?;
-        *self = Ledger::from_state(self.alloc, totals.as_slice())?;
-        Ok(())
-    }
-
-    /// The greatest number of what is settled at which the key came, of what came since the table was made from a state.
-    pub fn latest(&self, key: u64) -> Option<u64>
-        ensures { (base inside : List ℕ → Bool) (came : List Arrival) → IsLedgerLatest base inside self.now came
-            → (n : ℕ) → IsPast base n
-            → is_from n result ≡ has_key key (recs_inside (λ s. inside s && is_stamp_from n s) came) }
-    {
-        self.table.latest(key)
     }
 }

@@ -1,10 +1,10 @@
 //! The kinds of nodes that keep totals over many times: running totals of epochs, and of numbers.
 //!
-//! Of what is settled, to which nothing comes any more, they keep for each key its total, and the latest time at which it
-//! came since the table was made; of the rest the sums at each time. Beside both they keep the running total of each key.
+//! Of what is settled, to which nothing comes any more, they keep for each key its total; of the rest the sums at each time.
+//! Beside both they keep the running total of each key.
 //!
 //! Where memory is refused a table still is that of what came before. Where it was refused to a call that changes the
-//! table, each later call that takes memory fails; `totals_at` and `totals_from` change nothing, and leave no mark.
+//! table, each later call that takes memory fails; `totals_at` changes nothing, and leaves no mark.
 #![tactic(auto)]
 
 mod ledger;

@@ -1,20 +1,18 @@
 //! Sums by time outside what is settled, and totals of what is settled.
-ghost use Rattle.std.specs.Prelude.{◌≡◌, ◌&&◌, ℕ, Bool, List, [], ◌∷◌, false, IfOk, OnOk, OnErr, IsOk};
+ghost use Rattle.std.specs.Prelude.{◌≡◌, ℕ, Bool, List, [], ◌∷◌, false, IfOk, OnOk, OnErr, IsOk};
 ghost use Rattle.std.specs.List.Sorted.{IsStrictlySortedBy};
 ghost use Rattle.std.specs.Map.{keys_of};
-ghost use Rattle.fw_bag.specs.Arrivals.{Arrival, recs_of};
-ghost use Rattle.fw_table.specs.Arrived.{arrival, recs_inside, AreInside, AreTimes, IsWithin};
-ghost use Rattle.fw_table.specs.Sums.{sums_at_keys, sums_by_key};
+ghost use Rattle.fw_bag.specs.Arrivals.{Arrival, recs_of, arrival, recs_inside, AreInside, AreTimes};
+ghost use Rattle.fw_frontier.specs.Frontier.{Within};
+ghost use Rattle.fw_table.specs.Sums.{sums_by_key};
 ghost use Rattle.fw_totals.specs.Totals.{found};
 ghost use Rattle.fw_totals.specs.Gathered.{gathered, HasRooms};
-ghost use Rattle.fw_totals.specs.Latest.{is_from, is_stamp_from, seen_from, IsPast};
-ghost use Rattle.fw_totals.specs.Settling.{IsSettling, IsSettlingLatest};
+ghost use Rattle.fw_totals.specs.Settling.{IsSettling};
 
-use crate::totals::{latest_at, make_room, note, noted_from, restored, shown, take_in};
+use crate::totals::{make_room, restored, shown, take_in};
 use fw_bag::{Rec, Recs};
 use fw_frontier::{Frontier, Logical};
 use fw_table::{Sums, keep_outside, put_at};
-use fw_time::Scalar;
 use std::alloc::{AllocError, Global};
 use std::collections::BTreeMap;
 
@@ -54,45 +52,23 @@ fn take_all<T: Logical>(
     Ok(())
 }
 
-// Notes the keys of the times inside. Where each key has a place it takes no memory.
-fn note_all<T: Logical + Scalar>(
-    latest: &mut BTreeMap<u64, Option<u64>>,
-    by_time: &BTreeMap<T, Sums>,
-    f: &T::Frontier,
-) -> Result<(), AllocError>
-    ensures ok { HasRooms (T.Frontier.inside f.now) latest.old by_time.now.entries → IsOk result }
-    ensures noted { OnOk result ((q n : ℕ) → is_from n (found latest.new q)
-        ≡ seen_from (T.Frontier.inside f.now) T.coordinate n q (is_from n (found latest.old q)) by_time.now.entries) }
-    ensures ordered { IsStrictlySortedBy T.cmp (keys_of by_time.now.entries) }
-{
-    for (t, sums) in by_time {
-        if f.contains(t) {
-            note(latest, &sums.by_key, t.coordinate() as u64)?;
-        }
-    }
-    Ok(())
-}
-
 /// The sums of each key at each time outside what is settled, and the totals of what is settled.
 #[derive(Drop)]
 pub struct Settling<T: Ord> {
     /// The sums at each time.
     pub(crate) by_time: BTreeMap<T, Sums>,
     settled: BTreeMap<u64, Option<u64>>,
-    latest: BTreeMap<u64, Option<u64>>,
     alloc: Global,
 }
 
-impl<T: Logical + Scalar> Settling<T> {
+impl<T: Logical> Settling<T> {
     /// Nothing came, whatever is settled.
     pub fn new(alloc: Global) -> Self
-        ensures table { (inside : List ℕ → Bool) → IsSettling T.cmp T.coords inside result [] }
-        ensures latest { (base inside : List ℕ → Bool) → IsSettlingLatest base inside result [] }
+        ensures { (inside : List ℕ → Bool) → IsSettling T.cmp T.coords inside result [] }
     {
         Settling {
             by_time: BTreeMap::new(alloc),
             settled: BTreeMap::new(alloc),
-            latest: BTreeMap::new(alloc),
             alloc,
         }
     }
@@ -101,17 +77,14 @@ impl<T: Logical + Scalar> Settling<T> {
     ///
     /// It fails where memory is refused.
     pub fn from_state(alloc: Global, totals: &[Rec]) -> Result<Self, AllocError>
-        ensures table { (inside : List ℕ → Bool) (came : List Arrival) → AreInside inside came → AreTimes T.coords came
+        ensures { (inside : List ℕ → Bool) (came : List Arrival) → AreInside inside came → AreTimes T.coords came
             → totals.now ≡ sums_by_key (recs_of came)
             → IfOk result (λ table. IsSettling T.cmp T.coords inside table came) }
-        ensures latest { (inside : List ℕ → Bool) (came : List Arrival)
-            → IfOk result (λ table. IsSettlingLatest inside inside table came) }
     {
         let settled = restored(alloc, totals)?;
         Ok(Settling {
             by_time: BTreeMap::new(alloc),
             settled,
-            latest: BTreeMap::new(alloc),
             alloc,
         })
     }
@@ -125,7 +98,6 @@ impl<T: Logical + Scalar> Settling<T> {
             → OnOk result (IsSettling T.cmp T.coords inside self.new (arrival side (T.coords t) rec ∷ came)) }
         ensures err { (inside : List ℕ → Bool) (came : List Arrival) → IsSettling T.cmp T.coords inside self.old came
             → OnErr result (IsSettling T.cmp T.coords inside self.new came) }
-        ensures latest { self.new.latest ≡ self.old.latest }
     {
         put_at(&mut self.by_time, self.alloc, side, t, rec)
     }
@@ -135,21 +107,14 @@ impl<T: Logical + Scalar> Settling<T> {
     /// It fails where memory is refused; then as much is settled as before.
     pub fn settle(&mut self, f: &T::Frontier) -> Result<(), AllocError>
         ensures ok { (inside after : List ℕ → Bool) (came : List Arrival)
-            → ((t : T) → after (T.coords t) ≡ T.Frontier.inside f.now t) → IsWithin inside after
+            → ((t : T) → after (T.coords t) ≡ T.Frontier.inside f.now t) → Within inside after
             → IsSettling T.cmp T.coords inside self.old came
             → OnOk result (IsSettling T.cmp T.coords after self.new came) }
         ensures err { (inside : List ℕ → Bool) (came : List Arrival) → IsSettling T.cmp T.coords inside self.old came
             → OnErr result (IsSettling T.cmp T.coords inside self.new came) }
-        ensures latest { (base inside after : List ℕ → Bool) (came : List Arrival)
-            → ((t : T) → after (T.coords t) ≡ T.Frontier.inside f.now t) → IsWithin inside after
-            → IsSettling T.cmp T.coords inside self.old came → IsSettlingLatest base inside self.old came
-            → OnOk result (IsSettlingLatest base after self.new came) }
-        ensures latest_err { OnErr result ((q : ℕ) → found self.new.latest q ≡ found self.old.latest q) }
     {
         make_rooms::<T>(&mut self.settled, &self.by_time, f)?;
-        make_rooms::<T>(&mut self.latest, &self.by_time, f)?;
         take_all::<T>(&mut self.settled, &self.by_time, f)?;
-        note_all::<T>(&mut self.latest, &self.by_time, f)?;
         keep_outside(&mut self.by_time, f);
         Ok(())
     }
@@ -159,7 +124,7 @@ impl<T: Logical + Scalar> Settling<T> {
     /// It fails where memory is refused.
     pub fn totals_at(&self, f: &T::Frontier) -> Result<Recs, AllocError>
         ensures { (inside after : List ℕ → Bool) (came : List Arrival)
-            → ((t : T) → after (T.coords t) ≡ T.Frontier.inside f.now t) → IsWithin inside after
+            → ((t : T) → after (T.coords t) ≡ T.Frontier.inside f.now t) → Within inside after
             → IsSettling T.cmp T.coords inside self.now came
             → IfOk result (λ totals. totals ≡ sums_by_key (recs_inside after came)) }
     {
@@ -169,31 +134,5 @@ impl<T: Logical + Scalar> Settling<T> {
         take_all::<T>(&mut totals, &self.by_time, f)?;
         let recs = shown(self.alloc, &totals)?;
         Ok(Recs::of(recs))
-    }
-
-    /// The totals of what came inside, which holds what is settled, of the keys that came there at the number or later, in
-    /// ascending order of the keys.
-    ///
-    /// It fails where memory is refused.
-    pub fn totals_from(&self, from: u64, f: &T::Frontier) -> Result<Recs, AllocError>
-        ensures { (base inside after : List ℕ → Bool) (came : List Arrival)
-            → ((t : T) → after (T.coords t) ≡ T.Frontier.inside f.now t) → IsWithin inside after → IsPast base from
-            → IsSettling T.cmp T.coords inside self.now came → IsSettlingLatest base inside self.now came
-            → IfOk result (λ totals. totals
-            ≡ sums_at_keys (recs_inside (λ s. after s && is_stamp_from from s) came) (recs_inside after came)) }
-    {
-        let totals = self.totals_at(f)?;
-        let mut recent = BTreeMap::new(self.alloc);
-        make_rooms::<T>(&mut recent, &self.by_time, f)?;
-        note_all::<T>(&mut recent, &self.by_time, f)?;
-        let recs = noted_from(self.alloc, totals.as_slice(), &self.latest, &recent, from)?;
-        Ok(Recs::of(recs))
-    }
-
-    /// The greatest number of what is settled at which the key came, of what came since the table was restored.
-    pub fn latest(&self, key: u64) -> Option<u64>
-        ensures { result ≡ found self.now.latest key }
-    {
-        latest_at(&self.latest, key)
     }
 }

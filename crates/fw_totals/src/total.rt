@@ -1,18 +1,16 @@
 //! The running totals of each key over the epochs.
-ghost use Rattle.std.specs.Prelude.{◌≡◌, ◌&&◌, ◌||◌, ℕ, Bool, List, [], ◌∷◌, true, false, IfOk, OnOk, OnErr, IsTrue, IsErr};
+ghost use Rattle.std.specs.Prelude.{◌≡◌, ◌||◌, ℕ, Bool, List, [], ◌∷◌, true, false, IfOk, OnOk, OnErr, IsTrue, IsErr};
 ghost use Rattle.std.specs.Ordering.{nat_cmp};
 ghost use Rattle.std.specs.List.Sorted.{IsStrictlySortedBy};
 ghost use Rattle.std.specs.Map.{keys_of};
 ghost use Rattle.fw_time.specs.Stamp.{same};
-ghost use Rattle.fw_bag.specs.Arrivals.{Arrival, arrivals_inside, recs_of};
-ghost use Rattle.fw_bag.specs.Keyed.{has_key};
+ghost use Rattle.fw_bag.specs.Arrivals.{Arrival, recs_of, arrival, recs_at, recs_inside, AreInside, AreTimes};
 ghost use Rattle.fw_frontier.specs.Below.{is_below};
-ghost use Rattle.fw_table.specs.Arrived.{arrival, recs_at, recs_inside, AreInside, AreTimes, IsWithin};
+ghost use Rattle.fw_frontier.specs.Frontier.{Within};
 ghost use Rattle.fw_table.specs.Sums.{sums_at_keys, sums_by_key};
 ghost use Rattle.fw_totals.specs.Totals.{found, raised_recs};
-ghost use Rattle.fw_totals.specs.Total.{IsTotal, IsTotalLatest};
+ghost use Rattle.fw_totals.specs.Total.{IsTotal};
 ghost use Rattle.fw_totals.specs.Gathered.{HasRoom};
-ghost use Rattle.fw_totals.specs.Latest.{is_from, is_stamp_from, IsPast};
 
 use crate::settling::Settling;
 use crate::totals::{place_at, restored, write};
@@ -46,8 +44,8 @@ fn raised(
 
 /// Once an epoch is complete, sends for each of its keys the sum of the values up to it, modulo 2^64.
 ///
-/// Beside the sums at each epoch that is not settled, and what it keeps of the settled ones, it keeps the running totals of
-/// the epochs that were taken in: those that are settled, and those of which it was notified.
+/// Beside the sums at each epoch that is not settled, and the totals of the settled ones, it keeps the running totals of the
+/// epochs that were taken in: those that are settled, and those of which it was notified.
 #[derive(Drop)]
 pub struct Total {
     table: Settling<Epoch>,
@@ -60,7 +58,6 @@ impl Total {
     /// The table to which nothing came, whatever is settled and was taken in.
     pub fn new(alloc: Global) -> Self
         ensures table { (inside taken : List ℕ → Bool) → IsTotal inside taken result [] }
-        ensures latest { (base inside : List ℕ → Bool) → IsTotalLatest base inside result [] }
         ensures live { result.refused ≡ false }
     {
         Total {
@@ -79,8 +76,6 @@ impl Total {
             → AreInside inside came → AreTimes ⟦<Epoch as Time>⟧.coords came
             → totals.now ≡ sums_by_key (recs_of came)
             → IfOk result (λ total. IsTotal inside inside total came) }
-        ensures latest { (inside : List ℕ → Bool) (came : List Arrival)
-            → IfOk result (λ total. IsTotalLatest inside inside total came) }
         ensures live { IfOk result (λ total. total.refused ≡ false) }
     {
         let table = Settling::from_state(alloc, totals)?;
@@ -103,9 +98,6 @@ impl Total {
         ensures sent { IfOk result (λ sent. sent ≡ record { at = t; recs = [] }) }
         ensures err { (inside taken : List ℕ → Bool) (came : List Arrival) → IsTotal inside taken self.old came
             → OnErr result (IsTotal inside taken self.new came) }
-        ensures latest { (base inside : List ℕ → Bool) (came : List Arrival)
-            → inside (t.0 ∷ []) ≡ false → IsTotalLatest base inside self.old came
-            → IsTotalLatest base inside self.new came × IsTotalLatest base inside self.new (arrival side (t.0 ∷ []) rec ∷ came) }
         ensures live { OnOk result (self.new.refused ≡ false) }
         ensures refused { OnErr result (self.new.refused ≡ true) }
         ensures stays { IsTrue self.old.refused → IsErr result }
@@ -136,8 +128,6 @@ impl Total {
             }) }
         ensures err { (inside taken : List ℕ → Bool) (came : List Arrival) → IsTotal inside taken self.old came
             → OnErr result (IsTotal inside taken self.new came) }
-        ensures latest { (base inside : List ℕ → Bool) (came : List Arrival)
-            → IsTotalLatest base inside self.old came → IsTotalLatest base inside self.new came }
         ensures live { OnOk result (self.new.refused ≡ false) }
         ensures refused { OnErr result (self.new.refused ≡ true) }
         ensures stays { IsTrue self.old.refused → IsErr result }
@@ -161,16 +151,10 @@ impl Total {
     /// fails where memory is refused, now or earlier.
     pub fn settle(&mut self, f: &Below) -> Result<(), AllocError>
         ensures ok { (inside after taken : List ℕ → Bool) (came : List Arrival)
-            → ((n : ℕ) → after (n ∷ []) ≡ is_below f.now.until n) → IsWithin inside after
+            → ((n : ℕ) → after (n ∷ []) ≡ is_below f.now.until n) → Within inside after
             → IsTotal inside taken self.old came → OnOk result (IsTotal after taken self.new came) }
         ensures err { (inside taken : List ℕ → Bool) (came : List Arrival) → IsTotal inside taken self.old came
             → OnErr result (IsTotal inside taken self.new came) }
-        ensures latest { (base inside after taken : List ℕ → Bool) (came : List Arrival)
-            → ((n : ℕ) → after (n ∷ []) ≡ is_below f.now.until n) → IsWithin inside after
-            → IsTotal inside taken self.old came → IsTotalLatest base inside self.old came
-            → OnOk result (IsTotalLatest base after self.new came) }
-        ensures latest_err { (base inside : List ℕ → Bool) (came : List Arrival)
-            → IsTotalLatest base inside self.old came → OnErr result (IsTotalLatest base inside self.new came) }
         ensures live { OnOk result (self.new.refused ≡ false) }
         ensures refused { OnErr result (self.new.refused ≡ true) }
         ensures stays { IsTrue self.old.refused → IsErr result }
@@ -189,7 +173,7 @@ impl Total {
     /// It costs the keys, and the epochs that are not settled. It fails where memory is refused, now or earlier.
     pub fn totals_at(&self, f: &Below) -> Result<Recs, AllocError>
         ensures totals { (inside after taken : List ℕ → Bool) (came : List Arrival)
-            → ((n : ℕ) → after (n ∷ []) ≡ is_below f.now.until n) → IsWithin inside after
+            → ((n : ℕ) → after (n ∷ []) ≡ is_below f.now.until n) → Within inside after
             → IsTotal inside taken self.now came
             → IfOk result (λ totals. totals ≡ sums_by_key (recs_inside after came)) }
         ensures stays { IsTrue self.now.refused → IsErr result }
@@ -198,58 +182,5 @@ impl Total {
             return Err(AllocError);
         }
         self.table.totals_at(f)
-    }
-
-    /// The totals of what came inside, which holds what is settled, of the keys that came there at the epoch or later, in
-    /// ascending order of the keys: what changes since that epoch.
-    ///
-    /// It costs what `totals_at` does. It fails where memory is refused, now or earlier.
-    pub fn totals_from(&self, from: u32, f: &Below) -> Result<Recs, AllocError>
-        ensures totals { (base inside after taken : List ℕ → Bool) (came : List Arrival)
-            → ((n : ℕ) → after (n ∷ []) ≡ is_below f.now.until n) → IsWithin inside after → IsPast base from
-            → IsTotal inside taken self.now came → IsTotalLatest base inside self.now came
-            → IfOk result (λ totals. totals
-            ≡ sums_at_keys (recs_inside (λ s. after s && is_stamp_from from s) came) (recs_inside after came)) }
-        ensures stays { IsTrue self.now.refused → IsErr result }
-    {
-        if self.refused {
-            return Err(AllocError);
-        }
-        self.table.totals_from(from as u64, f)
-    }
-
-    /// Keeps what came inside, which holds what was settled, and settles it: each epoch inside counts as taken in.
-    ///
-    /// It fails where memory is refused, now or earlier.
-    pub fn keep_only(&mut self, f: &Below) -> Result<(), AllocError>
-        ensures ok { (inside after taken : List ℕ → Bool) (came : List Arrival)
-            → ((n : ℕ) → after (n ∷ []) ≡ is_below f.now.until n) → IsWithin inside after
-            → IsTotal inside taken self.old came
-            → OnOk result (IsTotal after after self.new (arrivals_inside after came)) }
-        ensures err { (inside taken : List ℕ → Bool) (came : List Arrival) → IsTotal inside taken self.old came
-            → OnErr result (IsTotal inside taken self.new came) }
-        ensures latest { (after : List ℕ → Bool) (came : List Arrival) → OnOk result (IsTotalLatest after after self.new came) }
-        ensures latest_err { (base inside : List ℕ → Bool) (came : List Arrival)
-            → IsTotalLatest base inside self.old came → OnErr result (IsTotalLatest base inside self.new came) }
-        ensures live { OnOk result (self.new.refused ≡ false) }
-        ensures refused { OnErr result (self.new.refused ≡ true) }
-        ensures stays { IsTrue self.old.refused → IsErr result }
-    {
-        if self.refused {
-            return Err(AllocError);
-        }
-        self.refused = true;
-        let totals = self.table.totals_at(f)?;
-        *self = Total::from_state(self.alloc, totals.as_slice())?;
-        Ok(())
-    }
-
-    /// The greatest epoch of what is settled at which the key came, of what came since the table was made from a state.
-    pub fn latest(&self, key: u64) -> Option<u64>
-        ensures { (base inside : List ℕ → Bool) (came : List Arrival) → IsTotalLatest base inside self.now came
-            → (n : ℕ) → IsPast base n
-            → is_from n result ≡ has_key key (recs_inside (λ s. inside s && is_stamp_from n s) came) }
-    {
-        self.table.latest(key)
     }
 }

@@ -1,5 +1,5 @@
 //! Totals of keys, for which all memory can be taken before any of them changes: a key may have a place without a total.
-ghost use Rattle.std.specs.Prelude.{◌≡◌, ◌&&◌, ◌||◌, nat_le, filter, ℕ, List, true, IfOk, OnOk, IsOk};
+ghost use Rattle.std.specs.Prelude.{◌≡◌, ℕ, List, true, IfOk, OnOk, IsOk};
 ghost use Rattle.std.specs.Option.{is_some, unwrap_or};
 ghost use Rattle.std.specs.Ordering.{nat_cmp};
 ghost use Rattle.std.specs.List.Sorted.{IsStrictlySortedBy};
@@ -9,7 +9,6 @@ ghost use Rattle.fw_bag.specs.declared.rec.Rec.{Rec};
 ghost use Rattle.fw_bag.specs.Keyed.{has_key};
 ghost use Rattle.fw_table.specs.Sums.{entry_recs, sums_by_key};
 ghost use Rattle.fw_totals.specs.Gathered.{HasRoom};
-ghost use Rattle.fw_totals.specs.Latest.{is_from};
 ghost use Rattle.fw_totals.specs.Totals.{combined, found, shown_entries, written, AreSumsIn, HasTotals};
 
 use fw_bag::Rec;
@@ -77,35 +76,6 @@ pub(crate) fn take_in(
     Ok(())
 }
 
-/// The number of a key, if it has one.
-pub(crate) fn latest_at(latest: &BTreeMap<u64, Option<u64>>, key: u64) -> Option<u64>
-    ensures { result ≡ found latest.now key }
-{
-    match latest.get(&key) {
-        Some(number) => *number,
-        None => None,
-    }
-}
-
-/// Notes that the keys of the sums came at a number: each has the greater of it and the number before for its total. Where
-/// each key has a place it takes no memory.
-pub(crate) fn note(
-    latest: &mut BTreeMap<u64, Option<u64>>,
-    sums: &BTreeMap<u64, u64>,
-    number: u64,
-) -> Result<(), AllocError>
-    ensures ok { HasRoom sums.now latest.old → IsOk result }
-    ensures kept { HasRoom latest.old latest.new }
-    ensures noted { OnOk result ((q n : ℕ) → is_from n (found latest.new q)
-        ≡ (is_from n (found latest.old q) || (is_some (get nat_cmp sums.now q) && nat_le n number))) }
-{
-    for (key, _sum) in sums {
-        let before = total_at(latest, *key);
-        latest.insert(*key, Some(before.max(number)))?;
-    }
-    Ok(())
-}
-
 // The keys that have a total, with it, in ascending order.
 fn shown_recs(alloc: Global, totals: &BTreeMap<u64, Option<u64>>) -> Result<Vec<Rec>, AllocError>
     ensures recs { IfOk result (λ recs. recs.items ≡ entry_recs (shown_entries totals.now.entries)) }
@@ -131,43 +101,6 @@ pub(crate) fn shown(
     ensures { (rs : List Rec) → HasTotals totals.now rs → IfOk result (λ recs. recs.items ≡ sums_by_key rs) }
 {
     shown_recs(alloc, totals)
-}
-
-// Whether the key came at the number or later, as one of the two notes.
-fn is_noted(
-    settled: &BTreeMap<u64, Option<u64>>,
-    recent: &BTreeMap<u64, Option<u64>>,
-    key: u64,
-    from: u64,
-) -> bool
-    ensures { result ≡ (is_from from (found settled.now key) || is_from from (found recent.now key)) }
-{
-    let is_settled = match latest_at(settled, key) {
-        Some(number) => from <= number,
-        None => false,
-    };
-    let is_recent = match latest_at(recent, key) {
-        Some(number) => from <= number,
-        None => false,
-    };
-    is_settled || is_recent
-}
-
-/// The recs whose keys came at the number or later, as one of the two notes.
-pub(crate) fn noted_from(
-    alloc: Global,
-    recs: &[Rec],
-    settled: &BTreeMap<u64, Option<u64>>,
-    recent: &BTreeMap<u64, Option<u64>>,
-    from: u64,
-) -> Result<Vec<Rec>, AllocError>
-    ensures { IfOk result (λ kept. kept.items
-        ≡ filter (λ r. is_from from (found settled.now r.key) || is_from from (found recent.now r.key)) recs.now) }
-{
-    recs.iter()
-        .filter(|rec| is_noted(settled, recent, rec.key, from))
-        .copied()
-        .collect(alloc)
 }
 
 /// Writes recs as the totals of their keys. Where each key has a place it takes no memory.

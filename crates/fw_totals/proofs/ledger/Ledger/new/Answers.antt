@@ -7,6 +7,6 @@ use Rattle.fw_totals.proofs.ledger.Ledger.new.Goals as goal
 
 pub returns-clause-table : goal.returns-clause-table
 returns-clause-table c = λ inside. record {
-  table = c.new.ensures.table inside;
+  table = c.new.ensures inside;
   running = λ q. ap (λ es. total_in (lookup (is_at (nat_cmp q)) es)) c.new-2.ensures.empty;
 }

@@ -6,7 +6,6 @@ use Rattle.fw_table.specs.declared.sent.Sent.{Sent}
 use Rattle.fw_table.proofs.SumLaws.{sum_or_zero}
 use Rattle.fw_totals.specs.Ledger.{IsLedger}
 use Rattle.fw_totals.proofs.NoticeLaws.{any_err, totals_more}
-use Rattle.fw_totals.proofs.LatestLaws.{more_latest}
 use Rattle.fw_totals.proofs.ledger.Ledger.on_message.Goals as goal
 
 pub returns-in_err-put-clause-err : goal.returns-in_err-put-clause-err
@@ -27,11 +26,3 @@ returns-clause-sent c = λ inside came r.
     let value = ap (plus c.args.rec.value) (c.in_ok-total.ensures.total ∙ ap (λ o. unwrap_or o 0) (r.running c.args.rec.key) ∙ sum_or_zero c.args.rec.key (recs_of came)) in
     let R : ℕ → Sent SeqNo = λ v. record { at = c.args.t; recs = record { key = c.args.rec.key; value = v } ∷ [] } in
     c.of.ensures ∙ ap R value
-
-pub returns-clause-latest : goal.returns-clause-latest
-returns-clause-latest c = λ base inside came out l.
-    more_latest base inside c.args.self.now.table.latest c.put.new.self.latest (record { side = c.args.side; at = c.args.t.0 ∷ []; rec = c.args.rec }) came c.put.ensures.latest out l
-
-pub returns-in_err-put-clause-latest : goal.returns-in_err-put-clause-latest
-returns-in_err-put-clause-latest c = λ base inside came out l.
-    more_latest base inside c.args.self.now.table.latest c.put.new.self.latest (record { side = c.args.side; at = c.args.t.0 ∷ []; rec = c.args.rec }) came c.put.ensures.latest out l

@@ -1,20 +1,17 @@
-use Rattle.std.proofs.Common.{◌≡◌, List, Option, None, not, sym, ap, ◌∙◌, subst}
-use Rattle.std.specs.Ordering.{nat_cmp}
+use Rattle.std.proofs.Common.{◌≡◌, List, Option, None, not, sym, ap, subst}
 use Rattle.std.specs.Map.{lookup}
 use Rattle.std.specs.BTreeMap.{get, is_at}
 use Rattle.fw_bag.specs.declared.rec.Rec.{Rec}
 use Rattle.fw_bag.specs.Arrivals.{arrivals_at, arrivals_inside, recs_of}
 use Rattle.fw_table.specs.declared.sums.Sums.{Sums}
 use Rattle.fw_table.specs.Content.{IsContentOf}
-use Rattle.fw_table.proofs.ArrivedLaws.{none_outside, all_inside}
+use Rattle.fw_bag.proofs.ArrivalLaws.{none_outside, all_inside}
 use Rattle.fw_totals.specs.Settling.{holds_sums}
-use Rattle.fw_totals.specs.Latest.{is_from}
-use Rattle.fw_totals.specs.Totals.{total_in, HasTotals}
-use Rattle.fw_totals.proofs.LatestLaws.{none_past}
+use Rattle.fw_totals.specs.Totals.{HasTotals}
 use Rattle.fw_totals.proofs.settling.Settling.from_state.Goals as goal
 
-pub returns-clause-table : goal.returns-clause-table
-returns-clause-table g c = λ inside came in' times e.
+pub returns : goal.returns
+returns g c = λ inside came in' times e.
     let Q : List Rec → Type 0 = λ rs. HasTotals c.in_ok-settled.settled rs in
     record {
       outside = λ t.
@@ -24,7 +21,3 @@ returns-clause-table g c = λ inside came in' times e.
       totals = subst Q (sym (all_inside inside came in')) (c.in_ok-settled.ensures (recs_of came) e);
       times = times;
     }
-
-pub returns-clause-latest : goal.returns-clause-latest
-returns-clause-latest g c = λ inside came q n past.
-    ap (λ es. is_from n (total_in (lookup (is_at (nat_cmp q)) es))) c.new-2.ensures.empty ∙ sym (none_past inside q n came past)

@@ -1,6 +1,6 @@
 use Rattle.std.proofs.Common.{Bool, List, ap, ◌∙◌}
 use Rattle.fw_bag.specs.declared.rec.Rec.{Rec}
-use Rattle.fw_table.specs.Arrived.{recs_inside}
+use Rattle.fw_bag.specs.Arrivals.{recs_inside}
 use Rattle.fw_totals.specs.Gathered.{gathered}
 use Rattle.fw_totals.proofs.GatherLaws.{settles}
 use Rattle.fw_totals.proofs.settling.Settling.totals_at.Goals as goal

@@ -1,10 +1,9 @@
-use Rattle.std.proofs.Common.{true, cond, List, [], ◌∷◌, sym, ap, subst}
+use Rattle.std.proofs.Common.{true, cond, List, ◌∷◌, sym, ap, subst}
 use Rattle.fw_bag.specs.declared.rec.Rec.{Rec}
 use Rattle.fw_bag.specs.Arrivals.{recs_where}
 use Rattle.fw_totals.specs.Totals.{HasTotals}
 use Rattle.fw_totals.specs.Total.{IsTotal}
 use Rattle.fw_totals.proofs.NoticeLaws.{any_err}
-use Rattle.fw_totals.proofs.LatestLaws.{more_latest}
 use Rattle.fw_totals.proofs.total.Total.on_message.Goals as goal
 
 pub returns-clause-ok : goal.returns-clause-ok
@@ -19,11 +18,3 @@ returns-clause-ok c = λ inside taken came out new r.
 pub returns-in_err-put-clause-err : goal.returns-in_err-put-clause-err
 returns-in_err-put-clause-err c = λ inside taken came r.
     let h : IsTotal inside taken (record { table = c.put.new.self; running = c.args.self.now.running; alloc = c.args.self.now.alloc; refused = true }) came = record { table = c.in_err-put.ensures.err inside came r.table; running = r.running } in any_err _ _ h
-
-pub returns-clause-latest : goal.returns-clause-latest
-returns-clause-latest c = λ base inside came out l.
-    more_latest base inside c.args.self.now.table.latest c.put.new.self.latest (record { side = c.args.side; at = c.args.t.0 ∷ []; rec = c.args.rec }) came c.put.ensures.latest out l
-
-pub returns-in_err-put-clause-latest : goal.returns-in_err-put-clause-latest
-returns-in_err-put-clause-latest c = λ base inside came out l.
-    more_latest base inside c.args.self.now.table.latest c.put.new.self.latest (record { side = c.args.side; at = c.args.t.0 ∷ []; rec = c.args.rec }) came c.put.ensures.latest out l

@@ -8,8 +8,7 @@ use Rattle.fw_bag.specs.declared.rec.Rec.{Rec}
 use Rattle.fw_bag.specs.Keyed.{has_key, value_sum}
 use Rattle.fw_time.specs.Stamp.{Stamp, same}
 use Rattle.fw_time.specs.declared.time.Epoch.{Epoch}
-use Rattle.fw_bag.specs.Arrivals.{Arrival, recs_where, arrivals_at, recs_of}
-use Rattle.fw_table.specs.Arrived.{recs_at, recs_inside}
+use Rattle.fw_bag.specs.Arrivals.{Arrival, recs_where, arrivals_at, recs_of, recs_at, recs_inside}
 use Rattle.fw_table.specs.Content.{IsContentOf}
 use Rattle.fw_table.specs.declared.sent.Sent.{Sent}
 use Rattle.fw_table.specs.declared.sums.Sums.{Sums}

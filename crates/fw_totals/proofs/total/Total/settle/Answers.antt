@@ -1,7 +1,6 @@
 use Rattle.std.proofs.Common.{true}
 use Rattle.fw_totals.specs.Total.{IsTotal}
 use Rattle.fw_totals.proofs.NoticeLaws.{any_err}
-use Rattle.fw_totals.proofs.LatestLaws.{same_latest}
 use Rattle.fw_totals.proofs.total.Total.settle.Goals as goal
 
 pub returns-clause-ok : goal.returns-clause-ok
@@ -11,11 +10,3 @@ returns-clause-ok c = λ inside after taken came agree sub r.
 pub returns-in_err-settle-clause-err : goal.returns-in_err-settle-clause-err
 returns-in_err-settle-clause-err c = λ inside taken came r.
     let h : IsTotal inside taken (record { table = c.settle.new.self; running = c.args.self.now.running; alloc = c.args.self.now.alloc; refused = true }) came = record { table = c.in_err-settle.ensures.err inside came r.table; running = r.running } in any_err _ _ h
-
-pub returns-clause-latest : goal.returns-clause-latest
-returns-clause-latest c = λ base inside after taken came agree sub r l.
-    c.in_ok-settle.ensures.latest base inside after came (λ t. agree t.0) sub r.table l
-
-pub returns-in_err-settle-clause-latest_err : goal.returns-in_err-settle-clause-latest_err
-returns-in_err-settle-clause-latest_err c = λ base inside came l.
-    let h = same_latest base inside c.args.self.now.table.latest c.settle.new.self.latest came c.in_err-settle.ensures.latest_err l in any_err _ _ h

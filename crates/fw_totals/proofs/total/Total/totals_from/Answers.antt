@@ -1,4 +1,0 @@
-use Rattle.fw_totals.proofs.total.Total.totals_from.Goals as goal
-
-pub returns-clause-totals : goal.returns-clause-totals
-returns-clause-totals c = λ base inside after taken came agree sub past r l. c.totals_from.ensures base inside after came (λ t. agree t.0) sub past r.table l

@@ -14,6 +14,5 @@ mod queue;
 mod stamps;
 
 pub use log::MsgLog;
-pub use message::copied;
 pub use queue::Queue;
 pub use stamps::PendingStamps;

@@ -6,17 +6,6 @@ ghost use Rattle.fw_flow.specs.Projection.{all_inside};
 use fw_flow::Message;
 use fw_frontier::Front;
 
-/// The same message once more, as where it goes into a queue and into a log.
-pub fn copied(message: &Message) -> Message
-    ensures { result ≡ message.now }
-{
-    Message {
-        at: message.at.copy(),
-        rec: message.rec,
-        causes: message.causes.copy(),
-    }
-}
-
 /// Whether all its causes are inside the frontier.
 pub fn comes_from(message: &Message, f: &Front) -> bool
     ensures { result ≡ all_inside (inside f.now) message.now.causes }

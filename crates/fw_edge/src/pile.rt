@@ -8,7 +8,7 @@ ghost use Rattle.fw_model.specs.SortedMessages.{with_message, sorted_messages};
 ghost use Rattle.fw_model.specs.Filtering.{messages_from};
 ghost use Rattle.fw_edge.specs.Piles.{counted_messages, IsTally};
 
-use crate::message::{comes_from, copied};
+use crate::message::comes_from;
 use fw_flow::Message;
 use fw_frontier::Front;
 use std::alloc::{AllocError, Global};
@@ -170,7 +170,7 @@ fn take_one(counts: &mut BTreeMap<Message, usize>) -> Option<Message>
     let (first, count) = counts.first_key_value()?;
     let count = *count;
     if count > 1 {
-        let message = copied(first);
+        let message = first.copy();
         lower_first(counts, &message, count);
         return Some(message);
     }
@@ -220,7 +220,7 @@ fn push_copies(
     ensures { OnOk result (messages.new.items ≡ messages.old.items ++ replicate count message.now) }
 {
     for _made in 0..count {
-        messages.push(copied(message))?;
+        messages.push(message.copy())?;
     }
     Ok(())
 }

@@ -1,9 +1,8 @@
 -- What the loops find that collect what nodes offer.
-use Rattle.std.proofs.Common.{◌≡◌, ℕ, suc, ◌+◌, ◌==◌, append_assoc, arith, ◌<◌, Bool, true, false, not, ◌&&◌, ◌||◌, cond, List, [], ◌∷◌, ◌++◌, length, get_or, take, refl, sym, ap, subst, ◌∙◌}
-use Rattle.std.specs.Prelude.{filter, map, Result, Ok, Err, OnOk}
-use Rattle.std.specs.List.{AllByRecursion, list_any, range_with_len}
+use Rattle.std.proofs.Common.{◌≡◌, ℕ, ◌+◌, ◌==◌, append_assoc, ◌<◌, ◌≤◌, Bool, true, false, not, ◌&&◌, ◌||◌, cond, List, [], ◌∷◌, ◌++◌, length, get_or, take, refl, sym, ap, subst, ◌∙◌}
+use Rattle.std.specs.Prelude.{filter, Result, Ok, Err, OnOk}
+use Rattle.std.specs.List.{AllByRecursion, list_any}
 use Rattle.std.proofs.lemmas.List.{take_more, append-nil}
-use Rattle.std.proofs.lemmas.List.FromFn.{map-range_with_len_more}
 use Rattle.std.proofs.Math.Bool.{and-true}
 use Rattle.fw_time.specs.Stamp.{Stamp, leq, in_domain}
 use Rattle.fw_time.specs.declared.stamp.Bounds.{Bounds}
@@ -12,17 +11,20 @@ use Rattle.fw_frontier.specs.Frontier.{Frontier, nothing, meet, without_above}
 use Rattle.fw_frontier.specs.Front.{Front, frontier_of, is_within, IsCanonical, IsFrontOf}
 use Rattle.fw_frontier.proofs.NamesLaws.{names-same}
 use Rattle.fw_flow.specs.declared.choice.Offered.{Offered}
-use Rattle.fw_flow.specs.declared.choice.Offered.TheVariants.{Listed, Between}
+use Rattle.fw_flow.specs.declared.choice.Offered.TheVariants as form
 use Rattle.fw_flow.specs.declared.choice.Recorded.{Recorded}
+use Rattle.fw_flow.specs.declared.restoring.Restoring.TheVariants.{Batches}
+use Rattle.fw_flow.specs.Dataflow.{greatest_number}
 use Rattle.fw_model.specs.Choice.{until}
 use Rattle.fw_model.specs.Machine.{no_stamps}
 use Rattle.fw_model.proofs.LowLaws.{none-canonical}
 use Rattle.fw_policy.specs.declared.view.Border.{Border}
-use Rattle.fw_policy.specs.declared.view.Border.TheVariants.{Output}
+use Rattle.fw_policy.specs.declared.view.Border.TheVariants.{Output, Source}
 use Rattle.fw_policy.specs.declared.view.Entry.{Entry}
 use Rattle.fw_policy.specs.declared.view.Written.{Written}
 use Rattle.fw_policy.specs.declared.view.Written.TheVariants.{Checkpoint}
-use Rattle.fw_policy.specs.Offering.{below_all, IsRange, IsOfBound, bare_record, batch_records, empty_record, holding, record_in, record_by, records_by}
+use Rattle.fw_policy.specs.Known.{FitsWay}
+use Rattle.fw_policy.specs.Offering.{below_all, IsRange, IsOfBatches, IsOfBound, empty_record, holding, record_in, record_by, records_by}
 use Rattle.fw_policy.proofs.RecordedLaws.{outside-none}
 
 below-one : (ss : List Stamp) (s : Stamp) (f : Frontier) (t : Stamp) → below_all (ss ++ s ∷ []) f t ≡ without_above s (below_all ss f) t
@@ -64,7 +66,7 @@ below_more b front ss i s f g l e d n m =
 pub below_all_of : (b : Bounds) (front f : Front) (ss : List Stamp) (i : ℕ) → take i ss ≡ ss → IsFrontOf b f (below_all (take i ss) (frontier_of b front)) → IsFrontOf b f (below_all ss (frontier_of b front))
 below_all_of b front f ss i e n = subst (λ ts. IsFrontOf b f (below_all ts (frontier_of b front))) e n
 
--- ---- batches
+-- ---- records
 
 filter-one : {A : Type 0} (test : A → Bool) (xs : List A) (y : A) (c : Bool) → test y ≡ c → filter test (xs ++ y ∷ []) ≡ filter test xs ++ cond c (y ∷ []) []
 filter-one test [] y c e = ap (λ b. cond b (y ∷ []) []) e
@@ -74,52 +76,6 @@ filter-one test (x ∷ xs) y c e = at (test x) (filter-one test xs y c e)
         → cond b (x ∷ filter test (xs ++ y ∷ [])) (filter test (xs ++ y ∷ [])) ≡ cond b (x ∷ filter test xs) (filter test xs) ++ cond c (y ∷ []) []
     at true r = ap (λ zs. x ∷ zs) r
     at false r = r
-
-map-one : {A B : Type 0} (f : A → B) (xs : List A) (y : A) → map f (xs ++ y ∷ []) ≡ map f xs ++ f y ∷ []
-map-one f [] y = refl
-map-one f (x ∷ xs) y = ap (λ zs. f x ∷ zs) (map-one f xs y)
-
--- bare records of the frontiers that hold the low watermark
-abbrev pub bare_records : Front → List Front → List Recorded
-bare_records low fs = map bare_record (filter (λ f. is_within low f) fs)
-
-pub bare_is : (r : Recorded) (f : Front) → r.front ≡ f → r.notified ≡ [] → r.delivered ≡ [] → r.discarded ≡ [] → r ≡ bare_record f
-bare_is r f o p q e = λ i. record { front = o i; notified = p i; delivered = q i; discarded = e i }
-
-pub bare_kept : (low : Front) (fs : List Front) (f : Front) (rs next : List Recorded) (r : Recorded) → rs ≡ bare_records low fs → is_within low f ≡ true
-    → r ≡ bare_record f → next ≡ rs ++ r ∷ [] → next ≡ bare_records low (fs ++ f ∷ [])
-bare_kept low fs f rs next r a k i e =
-    e ∙ ap (λ (xs : List Recorded). xs ++ r ∷ []) a ∙ ap (λ x. bare_records low fs ++ x ∷ []) i
-    ∙ sym (ap (λ xs. map bare_record xs) (filter-one (λ g. is_within low g) fs f true k) ∙ map-one bare_record (filter (λ g. is_within low g) fs) f)
-
-pub bare_left : (low : Front) (fs : List Front) (f : Front) (rs : List Recorded) → rs ≡ bare_records low fs → is_within low f ≡ false → rs ≡ bare_records low (fs ++ f ∷ [])
-bare_left low fs f rs a k =
-    a ∙ sym (ap (λ xs. map bare_record xs) (filter-one (λ g. is_within low g) fs f false k ∙ append-nil (filter (λ g. is_within low g) fs)))
-
--- one more number of batches
-pub batches_more : (low : Front) (n : ℕ) (rs : List Recorded) (f : Front) → f ≡ until n → rs ≡ bare_records low (map until (range_with_len 0 n) ++ f ∷ [])
-    → rs ≡ bare_records low (map until (range_with_len 0 (n + 1)))
-batches_more low n rs f e a =
-    a ∙ ap (λ (g : Front). bare_records low (map until (range_with_len 0 n) ++ g ∷ [])) e
-    ∙ sym (ap (bare_records low) (map-range_with_len_more until 0 n n (omega arith)))
-
-pub batches_some : (low : Front) (n m : ℕ) (x : Bool) (rs : List Recorded) → n ≡ m → x ≡ false → rs ≡ bare_records low (map until (range_with_len 0 (n + 1)))
-    → rs ≡ batch_records low m x
-batches_some low n m x rs l e a =
-    let one : n + 1 ≡ suc n = omega arith in
-    a ∙ ap (λ k. bare_records low (map until (range_with_len 0 k))) one
-    ∙ ap (bare_records low) (sym (append-nil (map until (range_with_len 0 (suc n)))))
-    ∙ ap (λ b. batch_records low n b) (sym e) ∙ ap (λ k. batch_records low k x) l
-
-pub batches_whole : (low : Front) (n m : ℕ) (x : Bool) (rs : List Recorded) (f : Front) → n ≡ m → x ≡ true → f ≡ []
-    → rs ≡ bare_records low (map until (range_with_len 0 (n + 1)) ++ f ∷ []) → rs ≡ batch_records low m x
-batches_whole low n m x rs f l e is a =
-    let one : n + 1 ≡ suc n = omega arith in
-    a ∙ ap (λ (g : Front). bare_records low (map until (range_with_len 0 (n + 1)) ++ g ∷ [])) is
-    ∙ ap (λ k. bare_records low (map until (range_with_len 0 k) ++ [] ∷ [])) one
-    ∙ ap (λ b. batch_records low n b) (sym e) ∙ ap (λ k. batch_records low k x) l
-
--- ---- records
 
 pub held_kept : (low : Front) (rs records next : List Recorded) (r s : Recorded) (w : Written) → records ≡ holding low rs → w ≡ Checkpoint r
     → is_within low r.front ≡ true → s ≡ r → next ≡ records ++ s ∷ [] → next ≡ holding low (rs ++ record_in w)
@@ -180,11 +136,18 @@ pub empty_left : (b : Bounds) (low : Front) (old : List Recorded) (r : Recorded)
     → old ≡ holding low (empty_record b ∷ [])
 empty_left b low old r o n k = o ∙ sym (ap (λ c. cond c (r ∷ []) []) k) ∙ ap (λ (x : Recorded). holding low (x ∷ [])) n
 
--- ---- ranges
+-- ---- ranges and batches
+
+pub in_batches : (low least greatest : Front) (x : Border) (n m : ℕ) (exhausted : Bool) → x ≡ Source n exhausted → FitsWay Batches x → (n ≤ greatest_number → m ≡ n) → least ≡ low
+    → greatest ≡ until m → IsOfBatches low x (form.Batches least greatest exhausted)
+in_batches low least greatest x n m exhausted e fits few l k =
+    let same : m ≡ n = few (subst (FitsWay Batches) e fits) in
+    let until_n : greatest ≡ until n = k ∙ ap until same in
+    subst (λ y. IsOfBatches low y (form.Batches least greatest exhausted)) (sym e) (λ i. form.Batches (l i) (until_n i) exhausted)
 
 pub in_bound : (b : Bounds) (low settled least greatest : Front) (x : Border) (n : ℕ) → x ≡ Output n → least ≡ low
-    → IsFrontOf b greatest (meet (frontier_of b settled) (frontier_of b (until n))) → IsOfBound b low settled x (Between least greatest)
-in_bound b low settled least greatest x n e l m = subst (λ (y : Border). IsOfBound b low settled y (Between least greatest)) (sym e) (l, m)
+    → IsFrontOf b greatest (meet (frontier_of b settled) (frontier_of b (until n))) → IsOfBound b low settled x (form.Between least greatest)
+in_bound b low settled least greatest x n e l m = subst (λ (y : Border). IsOfBound b low settled y (form.Between least greatest)) (sym e) (l, m)
 
 pub on_ok-weaker : {A E : Type 0} (r : Result A E) (P Q : Type 0) → (P → Q) → OnOk r P → OnOk r Q
 on_ok-weaker (Ok x) P Q h a = h a
@@ -192,8 +155,9 @@ on_ok-weaker (Err e) P Q h a = a
 
 -- a range up to a frontier that is named
 pub range-named : (b : Bounds) (low f : Front) (g : Frontier) (o : Offered) → IsFrontOf b f g → IsRange b low (frontier_of b f) o → IsRange b low g o
-range-named b low f g (Listed records) n r = absurd r
-range-named b low f g (Between least greatest) n r = (r.0, record { canonical = r.1.canonical; same = λ t. r.1.same t ∙ n.same t })
+range-named b low f g (form.Listed records) n r = absurd r
+range-named b low f g (form.Batches least greatest exhausted) n r = absurd r
+range-named b low f g (form.Between least greatest) n r = (r.0, record { canonical = r.1.canonical; same = λ t. r.1.same t ∙ n.same t })
 
 -- a range up to what is the same list
 pub range-same : (b : Bounds) (low f g : Front) (o : Offered) → f ≡ g → IsRange b low (frontier_of b f) o → IsRange b low (frontier_of b g) o
@@ -201,5 +165,5 @@ range-same b low f g o e r = subst (λ (x : Front). IsRange b low (frontier_of b
 
 -- what a node with checkpoints lists
 pub listed-in : (b c : Bounds) (low : Front) (p : ℕ) (entries : List Entry) (records found : List Recorded) → c ≡ b → records ≡ found
-    → found ≡ holding low (empty_record c ∷ records_by p entries) → Listed records ≡ Listed (holding low (empty_record b ∷ records_by p entries))
-listed-in b c low p entries records found e i a = ap Listed (i ∙ a ∙ ap (λ d. holding low (empty_record d ∷ records_by p entries)) e)
+    → found ≡ holding low (empty_record c ∷ records_by p entries) → form.Listed records ≡ form.Listed (holding low (empty_record b ∷ records_by p entries))
+listed-in b c low p entries records found e i a = ap form.Listed (i ∙ a ∙ ap (λ d. holding low (empty_record d ∷ records_by p entries)) e)

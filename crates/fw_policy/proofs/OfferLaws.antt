@@ -1,5 +1,5 @@
 -- What is offered by what is known of a state is what the machine offers there.
-use Rattle.std.proofs.Common.{◌≡◌, ◌≢◌, ◌⊎◌, ◌↔◌, inl, inr, ℕ, zero, suc, ◌+◌, ◌<◌, ◌≤◌, Bool, true, false, not, cond, ◌&&◌, ◌==◌, List, [], ◌∷◌, length, map, slice_index_or, Option, None, refl, sym, ◌∙◌, ap, subst, arith}
+use Rattle.std.proofs.Common.{◌≡◌, ◌≢◌, ◌⊎◌, ◌↔◌, inl, inr, ℕ, zero, suc, ◌+◌, ◌<◌, ◌≤◌, Bool, true, false, not, cond, ◌&&◌, ◌==◌, List, [], ◌∷◌, length, map, slice_index_or, refl, sym, ◌∙◌, ap, subst, arith}
 use Rattle.std.specs.Prelude.{filter}
 use Rattle.std.specs.List.{AllByRecursion, Contains, flat_map}
 use Rattle.std.proofs.lemmas.Bool.{cond_both, cases_Bool, and_parts}
@@ -15,7 +15,7 @@ use Rattle.fw_flow.specs.declared.choice.Cut.{Cut}
 use Rattle.fw_flow.specs.declared.choice.Cut.TheVariants.{Present, At}
 use Rattle.fw_flow.specs.declared.choice.Offer.{Offer}
 use Rattle.fw_flow.specs.declared.choice.Offered.{Offered}
-use Rattle.fw_flow.specs.declared.choice.Offered.TheVariants.{Listed, Between}
+use Rattle.fw_flow.specs.declared.choice.Offered.TheVariants as form
 use Rattle.fw_flow.specs.declared.choice.Recorded.{Recorded}
 use Rattle.fw_flow.specs.declared.choice.Stamps.{Stamps}
 use Rattle.fw_flow.specs.declared.event.Message.{Message}
@@ -33,7 +33,7 @@ use Rattle.fw_model.specs.Choice.{kept, IsCandidate, IsRestorable, until}
 use Rattle.fw_model.specs.Covers.{takes_its_cut, takes_its_notices, covers_in, stamp_of_notice, stamps_from, stamps_inside, notified_inside, discarded_at}
 use Rattle.fw_model.specs.History.{delivered_messages, sent_messages, injected_count}
 use Rattle.fw_model.specs.Machine.{Machine, events, no_stamps, front_of, ack_count_of}
-use Rattle.fw_model.specs.Offers.{can_stay, listed_records, records_of, offered_range, range_of, delivered_to, notified_of, sent_by, table_of, IsOffered, IsListed, IsBetween, stamps_on, stamps_on_from, delivered_in, sent_in, notified_in, recorded_delivered, recorded_discarded, recorded_notified, covers_of, Ascend, IsRecordOf, IsRangeOf, IsListedBy, AreOnEdges, AreOffersOf, AreOffersIn}
+use Rattle.fw_model.specs.Offers.{can_stay, offered_by, listed_records, records_of, offered_range, delivered_to, notified_of, sent_by, table_of, IsOneOf, IsOffered, IsListed, on_edge, stamps_on, stamps_on_from, delivered_in, sent_in, notified_in, recorded_delivered, recorded_discarded, recorded_notified, covers_of, Ascend, IsRecordOf, IsRangeOf, is_by_range, IsFormOf, HasOneCause, AreOfBatches, AreOnEdges, AreOffersOf, AreOffersIn}
 use Rattle.fw_model.specs.Writes.{takes_checkpoints, is_collected, not_collected}
 use Rattle.fw_model.proofs.AskedLaws.{reached-all, takes-restoring, IsApart}
 use Rattle.fw_model.proofs.CheckpointFrontLaws.{checkpoints-have_stamps}
@@ -44,15 +44,17 @@ use Rattle.fw_model.proofs.InputLaws.{injected-few}
 use Rattle.fw_model.proofs.LegalLaws.{legal_events-in_domain}
 use Rattle.fw_model.proofs.LoggedLaws.{live-logged}
 use Rattle.fw_model.proofs.LowLaws.{none-within}
+use Rattle.fw_model.proofs.OfferLaws.{listed-offered}
 use Rattle.fw_model.proofs.SameInsideLaws.{low-offered}
+use Rattle.fw_model.proofs.UntilLaws.{numbers, canonical-until}
 use Rattle.fw_model.proofs.WriteLaws.{ArePairs, pairs-passed, LiesBelow}
 use Rattle.fw_policy.specs.declared.view.Border.{Border}
 use Rattle.fw_policy.specs.declared.view.Border.TheVariants.{Inner, Source, Output}
 use Rattle.fw_policy.specs.declared.view.Entry.{Entry}
 use Rattle.fw_policy.specs.declared.view.NodeView.{NodeView}
-use Rattle.fw_policy.specs.View.{base_of, on_edge, IsRecorded, AreEntriesOf, IsLostAt, IsBorderOf, IsNodeViewOf, AreNodeViewsFrom, IsViewOf}
-use Rattle.fw_policy.specs.Offering.{records_by, empty_record, holding, batch_records, unlogged_stamps, below_all, IsRange, IsOfBatches, IsOfBound, OffersBy, IsOfferBy, AreOffersBy}
-use Rattle.fw_policy.proofs.BatchLaws.{numbers, batches-offered, batches-ascend, batches-records}
+use Rattle.fw_policy.specs.View.{base_of, IsOfCause, IsRecorded, AreEntriesOf, IsLostAt, IsBorderOf, IsNodeViewOf, AreNodeViewsFrom, IsViewOf}
+use Rattle.fw_policy.specs.Offering.{records_by, empty_record, holding, unlogged_stamps, below_all, IsRange, IsOfBatches, IsOfBound, OffersBy, IsOfferBy, AreOffersBy}
+use Rattle.fw_policy.proofs.BatchLaws.{batches-offered}
 use Rattle.fw_policy.proofs.NumberLaws.{numbered-covers, counted-arrive}
 use Rattle.fw_policy.proofs.RangeLaws.{range-between, within-both, within-below}
 use Rattle.fw_policy.proofs.RecordLaws.{IsUnder, pairs-both, entries-recorded, entries-stamps, listed-holding, listed-checkpoint, entries-ascend, ascend-filter}
@@ -167,13 +169,13 @@ table-is : (sys : System) (state : Machine) (lost : ℕ → Bool) (entries : Lis
     → table_of offers p ≡ o.node.table
 table-is sys state lost entries offers p o = at-map (λ (x : Offer). x.table) [] offers p o.offer o.there ∙ o.is.table
 
+offered-is : (sys : System) (state : Machine) (lost : ℕ → Bool) (entries : List Entry) (offers : List Offer) (p : ℕ) (o : Offers sys state lost entries offers p)
+    → offered_by offers p ≡ o.offer.offered
+offered-is sys state lost entries offers p o = at-map (λ (x : Offer). x.offered) (form.Listed []) offers p o.offer o.there
+
 records-are : (sys : System) (state : Machine) (lost : ℕ → Bool) (entries : List Entry) (offers : List Offer) (p : ℕ) (o : Offers sys state lost entries offers p)
     → records_of offers p ≡ listed_records o.offer.offered
-records-are sys state lost entries offers p o = at-map (λ (x : Offer). listed_records x.offered) [] offers p o.offer o.there
-
-range-is : (sys : System) (state : Machine) (lost : ℕ → Bool) (entries : List Entry) (offers : List Offer) (p : ℕ) (o : Offers sys state lost entries offers p)
-    → range_of offers p ≡ offered_range o.offer.offered
-range-is sys state lost entries offers p o = at-map (λ (x : Offer). offered_range x.offered) None offers p o.offer o.there
+records-are sys state lost entries offers p o = ap listed_records (offered-is sys state lost entries offers p o)
 
 -- ---- records of a node with checkpoints
 
@@ -225,34 +227,40 @@ listing sys state lost entries offers a p l way =
 -- what is offered is what the node can be restored to, from the low watermark on
 IsOfferedRight : System → Machine → ℕ → Restoring → Offered → Type 0
 IsOfferedRight sys state p way o = (f : Front) → IsCanonical (bounds_of sys.flow p) f
-    → (IsListed f (listed_records o) ⊎ IsBetween (bounds_of sys.flow p) (offered_range o) f)
+    → IsOneOf (bounds_of sys.flow p) o f
     ↔ (IsRestorable sys state kept p way f × Within (frontier_of (bounds_of sys.flow p) (front_of state.low p)) (frontier_of (bounds_of sys.flow p) f))
-
--- what is listed is all that is offered
-only_listed : (A B : Type 0) (b : Bounds) (f : Front) → A ↔ B → (A ⊎ IsBetween b None f) ↔ B
-only_listed A B b f k = ((λ i. elim i [ inl a ↦ k.0 a | inr j ↦ absurd j ]), (λ i. inl (k.1 i)))
 
 of-border : (sys : System) (state : Machine) (p : ℕ) (kind : Kind) (x : Border) → kind_of sys.flow p ≡ kind → IsBorderOf sys state p (kind_of sys.flow p) x → IsBorderOf sys state p kind x
 of-border sys state p kind x e k = subst (λ c. IsBorderOf sys state p c x) e k
 
-batches-right : (sys : System) (state : Machine) (p : ℕ) (low : Front) (x : Border) (o : Offered) → bounds_of sys.flow p ≡ numbers → low ≡ front_of state.low p
+-- an input injected no more than there are numbers
+abbrev IsFew : Border → Type 0
+IsFew Inner = Unit {0}
+IsFew (Source n x) = n ≤ greatest_number
+IsFew (Output bound) = Unit {0}
+
+input-few : (sys : System) (state : Machine) (p : ℕ) (x : Border) → injected_count p (events state.history) ≤ greatest_number → IsBorderOf sys state p Input x → IsFew x
+input-few sys state p Inner few k = tt
+input-few sys state p (Source n x) few k = omega (arith, few, k.0)
+input-few sys state p (Output bound) few k = tt
+
+batches-right : (sys : System) (state : Machine) (p : ℕ) (low : Front) (x : Border) (o : Offered) → bounds_of sys.flow p ≡ numbers → IsFew x → low ≡ front_of state.low p
     → IsBorderOf sys state p Input x → IsOfBatches low x o → IsOfferedRight sys state p Batches o
 unfolding IsOfferedRight
-batches-right sys state p low Inner o b e k a = absurd a
-batches-right sys state p low (Output bound) o b e k a = absurd a
-batches-right sys state p low (Source n x) o b e k a = subst (IsOfferedRight sys state p Batches) (sym a) (λ f c.
-    let m = batches-offered low n x f (subst (λ (d : Bounds). IsCanonical d f) b c) in
-    only_listed (IsListed f (batch_records low n x)) _ (bounds_of sys.flow p) f (
-      (λ i. let j = m.0 i in (
+batches-right sys state p low Inner o b few e k a = absurd a
+batches-right sys state p low (Output bound) o b few e k a = absurd a
+batches-right sys state p low (Source n x) o b few e k a = subst (IsOfferedRight sys state p Batches) (sym a) (λ f c.
+    let m = batches-offered low n x f few (subst (λ (d : Bounds). IsCanonical d f) b c) in (
+      (λ i. let j = m.0 (subst (λ (d : Bounds). IsOneOf d (form.Batches low (until n) x) f) b i) in (
         elim j.0 [ inl h ↦ inl (h.0, omega (arith, h.1, k.0), h.2) | inr h ↦ inr (sym k.1 ∙ h.0, h.1) ],
         subst (λ (d : Bounds). Within (frontier_of d (front_of state.low p)) (frontier_of d f)) (sym b)
             (subst (λ (g : Front). Within (frontier_of numbers g) (frontier_of numbers f)) e j.1),
       )),
-      (λ i. m.1 (
+      (λ i. subst (λ (d : Bounds). IsOneOf d (form.Batches low (until n) x) f) (sym b) (m.1 (
         elim i.0 [ inl h ↦ inl (h.0, omega (arith, h.1, k.0), h.2) | inr h ↦ inr (k.1 ∙ h.0, h.1) ],
         subst (λ (g : Front). Within (frontier_of numbers g) (frontier_of numbers f)) (sym e)
             (subst (λ (d : Bounds). Within (frontier_of d (front_of state.low p)) (frontier_of d f)) b i.1),
-      )),
+      ))),
     ))
 
 bound-right : (sys : System) (state : Machine) (p : ℕ) (low settled : Front) (x : Border) (o : Offered) → low ≡ front_of state.low p → settled ≡ front_of state.settled p
@@ -261,8 +269,9 @@ bound-right : (sys : System) (state : Machine) (p : ℕ) (low settled : Front) (
 unfolding IsOfferedRight
 bound-right sys state p low settled Inner o e d k a = absurd a
 bound-right sys state p low settled (Source n y) o e d k a = absurd a
-bound-right sys state p low settled (Output n) (Listed records) e d k a = absurd a
-bound-right sys state p low settled (Output n) (Between least greatest) e d k a = λ f c.
+bound-right sys state p low settled (Output n) (form.Listed records) e d k a = absurd a
+bound-right sys state p low settled (Output n) (form.Batches least greatest exhausted) e d k a = absurd a
+bound-right sys state p low settled (Output n) (form.Between least greatest) e d k a = λ f c.
     let b = bounds_of sys.flow p in
     let same : n ≡ ack_count_of state p = elim k [ inl h ↦ h | inr h ↦ h ] in
     let g = frontier_of b (front_of state.settled p) in
@@ -276,8 +285,9 @@ bound-right sys state p low settled (Output n) (Between least greatest) e d k a 
 anything-right : (sys : System) (state : Machine) (p : ℕ) (low settled : Front) (o : Offered) → low ≡ front_of state.low p → settled ≡ front_of state.settled p
     → IsRange (bounds_of sys.flow p) low (frontier_of (bounds_of sys.flow p) settled) o → IsOfferedRight sys state p Anything o
 unfolding IsOfferedRight
-anything-right sys state p low settled (Listed records) e d a = absurd a
-anything-right sys state p low settled (Between least greatest) e d a = λ f c.
+anything-right sys state p low settled (form.Listed records) e d a = absurd a
+anything-right sys state p low settled (form.Batches least greatest exhausted) e d a = absurd a
+anything-right sys state p low settled (form.Between least greatest) e d a = λ f c.
     let b = bounds_of sys.flow p in
     range-between b (frontier_of b (front_of state.settled p)) (front_of state.low p) least greatest f (a.0 ∙ e)
     (subst (λ (s : Front). IsFrontOf b greatest (frontier_of b s)) d a.1)
@@ -287,8 +297,9 @@ events-right : (sys : System) (state : Machine) (p : ℕ) (entries : List Entry)
     → IsRange (bounds_of sys.flow p) low (below_all (unlogged_stamps p entries lost) (frontier_of (bounds_of sys.flow p) settled)) o
     → IsOfferedRight sys state p Events o
 unfolding IsOfferedRight
-events-right sys state p entries lost low settled (Listed records) e d u a = absurd a
-events-right sys state p entries lost low settled (Between least greatest) e d u a = λ f c.
+events-right sys state p entries lost low settled (form.Listed records) e d u a = absurd a
+events-right sys state p entries lost low settled (form.Batches least greatest exhausted) e d u a = absurd a
+events-right sys state p entries lost low settled (form.Between least greatest) e d u a = λ f c.
     let b = bounds_of sys.flow p in
     let g = frontier_of b (front_of state.settled p) in
     let ss = unlogged_stamps p entries lost in
@@ -300,8 +311,8 @@ events-right sys state p entries lost low settled (Between least greatest) e d u
 
 -- a node with checkpoints lists those that hold the machine's low watermark
 listed-low : (sys : System) (state : Machine) (lost : ℕ → Bool) (entries : List Entry) (offers : List Offer) (p : ℕ) (o : Offers sys state lost entries offers p) (offered : Offered)
-    → OffersBy (bounds_of sys.flow p) entries p o.node Checkpoints offered → offered ≡ Listed (listed_of sys.flow entries p (front_of state.low p))
-listed-low sys state lost entries offers p o offered k = k ∙ ap (λ (low : Front). Listed (listed_of sys.flow entries p low)) o.known.low
+    → OffersBy (bounds_of sys.flow p) entries p o.node Checkpoints offered → offered ≡ form.Listed (listed_of sys.flow entries p (front_of state.low p))
+listed-low sys state lost entries offers p o offered k = k ∙ ap (λ (low : Front). form.Listed (listed_of sys.flow entries p low)) o.known.low
 
 -- the offer of a node is right, by the way in which it is restored
 offered-right : (sys : System) (state : Machine) (lost : ℕ → Bool) (entries : List Entry) (offers : List Offer) → AreOffersKnown sys state lost entries offers → (p : ℕ) → p < length sys.flow.nodes
@@ -310,7 +321,8 @@ offered-right : (sys : System) (state : Machine) (lost : ℕ → Bool) (entries 
 unfolding IsOfferedRight
 offered-right sys state lost entries offers a p l o Batches e offered k =
     let is = by_batches-input (kind_of sys.flow p) (policy_of sys.flow p) e in
-    batches-right sys state p o.node.low o.node.border offered (bounds-input sys.flow p is) o.known.low (of-border sys state p Input o.node.border is o.known.border) k
+    let border = of-border sys state p Input o.node.border is o.known.border in
+    batches-right sys state p o.node.low o.node.border offered (bounds-input sys.flow p is) (input-few sys state p o.node.border (a.few p) border) o.known.low border k
 offered-right sys state lost entries offers a p l o Bound e offered k =
     bound-right sys state p o.node.low o.node.settled o.node.border offered o.known.low o.known.settled
     (elim (bound-output (kind_of sys.flow p) (policy_of sys.flow p) e) [
@@ -321,7 +333,7 @@ offered-right sys state lost entries offers a p l o Anything e offered k =
     anything-right sys state p o.node.low o.node.settled offered o.known.low o.known.settled k
 offered-right sys state lost entries offers a p l o Checkpoints e offered k =
     subst (IsOfferedRight sys state p Checkpoints) (sym (listed-low sys state lost entries offers p o offered k)) (λ f c.
-    only_listed (IsListed f (listed_of sys.flow entries p (front_of state.low p))) _ (bounds_of sys.flow p) f ((listing sys state lost entries offers a p l e).offered f c))
+    (listing sys state lost entries offers a p l e).offered f c)
 offered-right sys state lost entries offers a p l o Events e offered k =
     let full = events-full (kind_of sys.flow p) (policy_of sys.flow p) e in
     events-right sys state p entries o.node.lost o.node.low o.node.settled offered o.known.low o.known.settled
@@ -340,81 +352,107 @@ offered-same sys state lost entries offers a p l Present =
 offered-same sys state lost entries offers a p l (At f) =
     let o = a.each p l in
     let b = bounds_of sys.flow p in
-    let rs = records-are sys state lost entries offers p o in
-    let r = range-is sys state lost entries offers p o in
+    let is = offered-is sys state lost entries offers p o in
     let k = offered-right sys state lost entries offers a p l o (way_of sys.flow p) refl o.offer.offered o.is.offered in (
-      (λ i. let m = (k f i.0).0 (along b f (records_of offers p) (listed_records o.offer.offered) (range_of offers p) (offered_range o.offer.offered) rs r i.1) in (i.0, m.0, m.1)),
-      (λ c. (c.0, along b f (listed_records o.offer.offered) (records_of offers p) (offered_range o.offer.offered) (range_of offers p) (sym rs) (sym r) ((k f c.0).1 (c.1, c.2)))),
+      (λ i. let m = (k f i.0).0 (subst (λ (x : Offered). IsOneOf b x f) is i.1) in (i.0, m.0, m.1)),
+      (λ c. (c.0, subst (λ (x : Offered). IsOneOf b x f) (sym is) ((k f c.0).1 (c.1, c.2)))),
     )
-  where
-    along : (b : Bounds) (f : Front) (rs ss : List Recorded) (r s : Option (Front × Front)) → rs ≡ ss → r ≡ s
-        → (IsListed f rs ⊎ IsBetween b r f) → (IsListed f ss ⊎ IsBetween b s f)
-    along b f rs ss r s d e i =
-        subst (λ (x : Option (Front × Front)). IsListed f ss ⊎ IsBetween b x f) e (subst (λ (xs : List Recorded). IsListed f xs ⊎ IsBetween b r f) d i)
 
 -- ---- the offers are of the dataflow
 
--- the records are of the node's domain and ascend, and they are listed where they have to be
+-- the records are of the node's domain and ascend, and the form fits
 AreRecordsRight : System → ℕ → Restoring → Offered → Type 0
 AreRecordsRight sys p way offered =
-    AllByRecursion (IsRecordOf sys.flow p) (listed_records offered) × Ascend (bounds_of sys.flow p) (listed_records offered) × IsListedBy way (offered_range offered)
+    AllByRecursion (IsRecordOf sys.flow p) (listed_records offered) × Ascend (bounds_of sys.flow p) (listed_records offered) × IsFormOf way offered
+
+-- where all between two frontiers is offered, there are none
+range-records : (sys : System) (p : ℕ) (way : Restoring) (low : Front) (g : Frontier) (offered : Offered) → IsRange (bounds_of sys.flow p) low g offered → is_by_range way ≡ true
+    → AreRecordsRight sys p way offered
+unfolding AreRecordsRight
+range-records sys p way low g (form.Listed records) k by_range = absurd k
+range-records sys p way low g (form.Between least greatest) k by_range = (tt, tt, by_range)
+range-records sys p way low g (form.Batches least greatest exhausted) k by_range = absurd k
 
 -- the records of a node, by the way in which it is restored
 records-right : (sys : System) (state : Machine) (lost : ℕ → Bool) (entries : List Entry) (offers : List Offer) → AreOffersKnown sys state lost entries offers → (p : ℕ) → p < length sys.flow.nodes
     → (o : Offers sys state lost entries offers p) → (way : Restoring) → way_of sys.flow p ≡ way → (offered : Offered)
     → OffersBy (bounds_of sys.flow p) entries p o.node way offered → AreRecordsRight sys p way offered
 unfolding AreRecordsRight
-records-right sys state lost entries offers a p l o Batches e offered k =
-    let is = by_batches-input (kind_of sys.flow p) (policy_of sys.flow p) e in
-    by is o.node.border (of-border sys state p Input o.node.border is o.known.border) k
+records-right sys state lost entries offers a p l o Batches e offered k = by o.node.border k
   where
-    by : kind_of sys.flow p ≡ Input → (x : Border) → IsBorderOf sys state p Input x → IsOfBatches o.node.low x offered → AreRecordsRight sys p Batches offered
-    by is Inner c k = absurd k
-    by is (Output n) c k = absurd k
-    by is (Source n y) c k =
-        subst (AreRecordsRight sys p Batches) (sym k)
-        (batches-records sys.flow p o.node.low n y (bounds-input sys.flow p is) (omega (arith, a.few p, c.0)), batches-ascend (bounds_of sys.flow p) o.node.low n y, refl)
-records-right sys state lost entries offers a p l o Bound e (Listed records) k = absurd (no_list o.node.border k)
+    by : (x : Border) → IsOfBatches o.node.low x offered → AreRecordsRight sys p Batches offered
+    by Inner k = absurd k
+    by (Output n) k = absurd k
+    by (Source n y) k = subst (AreRecordsRight sys p Batches) (sym k) (tt, tt, refl)
+records-right sys state lost entries offers a p l o Bound e offered k = by o.node.border k
   where
-    no_list : (x : Border) → IsOfBound (bounds_of sys.flow p) o.node.low o.node.settled x (Listed records) → ⊥
-    no_list Inner k = k
-    no_list (Source n y) k = k
-    no_list (Output n) k = k
-records-right sys state lost entries offers a p l o Bound e (Between least greatest) k = (tt, tt, tt)
-records-right sys state lost entries offers a p l o Anything e (Listed records) k = absurd k
-records-right sys state lost entries offers a p l o Anything e (Between least greatest) k = (tt, tt, tt)
+    by : (x : Border) → IsOfBound (bounds_of sys.flow p) o.node.low o.node.settled x offered → AreRecordsRight sys p Bound offered
+    by Inner k = absurd k
+    by (Source n y) k = absurd k
+    by (Output n) k = range-records sys p Bound o.node.low _ offered k refl
+records-right sys state lost entries offers a p l o Anything e offered k = range-records sys p Anything o.node.low _ offered k refl
 records-right sys state lost entries offers a p l o Checkpoints e offered k =
     let g = listing sys state lost entries offers a p l e in
     subst (AreRecordsRight sys p Checkpoints) (sym (listed-low sys state lost entries offers p o offered k))
-    (each-weaker (λ (r : Recorded). IsRecorded sys state p r.front r) (IsRecordOf sys.flow p) (listed_of sys.flow entries p (front_of state.low p)) (λ r c. c.of_flow) g.recorded, g.ascend, refl)
-records-right sys state lost entries offers a p l o Events e (Listed records) k = absurd k
-records-right sys state lost entries offers a p l o Events e (Between least greatest) k = (tt, tt, tt)
+    (each-weaker (λ (r : Recorded). IsRecorded sys state p r.front r) (IsRecordOf sys.flow p) (listed_of sys.flow entries p (front_of state.low p)) (λ r c. c.of_flow) g.recorded, g.ascend, tt)
+records-right sys state lost entries offers a p l o Events e offered k = range-records sys p Events o.node.low _ offered k refl
 
--- the ends of its range
+-- the ends of what is offered between two frontiers
+range-ends : (b : Bounds) (low : Front) (g : Frontier) (offered : Offered) → IsRange b low g offered → IsCanonical b low → IsRangeOf b (offered_range offered)
+range-ends b low g (form.Listed records) k c = absurd k
+range-ends b low g (form.Between least greatest) k c = (subst (IsCanonical b) (sym k.0) c, k.1.canonical)
+range-ends b low g (form.Batches least greatest exhausted) k c = absurd k
+
+-- the ends of a node's range
 range-right : (sys : System) (state : Machine) (lost : ℕ → Bool) (entries : List Entry) (offers : List Offer) → AreOffersKnown sys state lost entries offers → (p : ℕ) → p < length sys.flow.nodes
-    → (o : Offers sys state lost entries offers p) → (way : Restoring) → (offered : Offered) → OffersBy (bounds_of sys.flow p) entries p o.node way offered
+    → (o : Offers sys state lost entries offers p) → (way : Restoring) → way_of sys.flow p ≡ way → (offered : Offered) → OffersBy (bounds_of sys.flow p) entries p o.node way offered
     → IsRangeOf (bounds_of sys.flow p) (offered_range offered)
-range-right sys state lost entries offers a p l o Batches offered k = by o.node.border k
+range-right sys state lost entries offers a p l o way e offered k = at way e k
   where
-    by : (x : Border) → IsOfBatches o.node.low x offered → IsRangeOf (bounds_of sys.flow p) (offered_range offered)
-    by Inner k = absurd k
-    by (Source n y) k = subst (λ (x : Offered). IsRangeOf (bounds_of sys.flow p) (offered_range x)) (sym k) tt
-    by (Output n) k = absurd k
-range-right sys state lost entries offers a p l o Bound (Listed records) k = tt
-range-right sys state lost entries offers a p l o Bound (Between least greatest) k = by o.node.border k
+    low : IsCanonical (bounds_of sys.flow p) o.node.low
+    low = subst (IsCanonical (bounds_of sys.flow p)) (sym o.known.low) (a.low p l).0
+
+    batches : bounds_of sys.flow p ≡ numbers → (x : Border) → IsFew x → IsOfBatches o.node.low x offered → IsRangeOf (bounds_of sys.flow p) (offered_range offered)
+    batches b Inner few k = absurd k
+    batches b (Source n y) few k =
+        subst (λ (x : Offered). IsRangeOf (bounds_of sys.flow p) (offered_range x)) (sym k)
+        (low, subst (λ (d : Bounds). IsCanonical d (until n)) (sym b) (canonical-until n few))
+    batches b (Output n) few k = absurd k
+
+    bound : (x : Border) → IsOfBound (bounds_of sys.flow p) o.node.low o.node.settled x offered → IsRangeOf (bounds_of sys.flow p) (offered_range offered)
+    bound Inner k = absurd k
+    bound (Source n y) k = absurd k
+    bound (Output n) k = range-ends (bounds_of sys.flow p) o.node.low _ offered k low
+
+    at : (way : Restoring) → way_of sys.flow p ≡ way → OffersBy (bounds_of sys.flow p) entries p o.node way offered → IsRangeOf (bounds_of sys.flow p) (offered_range offered)
+    at Batches e k =
+        let is = by_batches-input (kind_of sys.flow p) (policy_of sys.flow p) e in
+        batches (bounds-input sys.flow p is) o.node.border (input-few sys state p o.node.border (a.few p) (of-border sys state p Input o.node.border is o.known.border)) k
+    at Bound e k = bound o.node.border k
+    at Anything e k = range-ends (bounds_of sys.flow p) o.node.low _ offered k low
+    at Checkpoints e k = subst (λ (x : Offered). IsRangeOf (bounds_of sys.flow p) (offered_range x)) (sym k) tt
+    at Events e k = range-ends (bounds_of sys.flow p) o.node.low _ offered k low
+
+-- what an input sent comes from one batch each
+sent-of_batches : (sys : System) (state : Machine) (lost : ℕ → Bool) (entries : List Entry) (offers : List Offer) → AreOffersKnown sys state lost entries offers → (e : ℕ) → e < length sys.flow.edges
+    → AreOfBatches (offered_by offers (sender sys.flow e)) (on_edge e (sent_by offers (sender sys.flow e)))
+unfolding AreRecordsRight
+sent-of_batches sys state lost entries offers a e l =
+    let p = sender sys.flow e in
+    let declared = a.well_formed.flow.senders_declared e l in
+    let o = a.each p declared in
+    let fits = (records-right sys state lost entries offers a p declared o (way_of sys.flow p) refl o.offer.offered o.is.offered).2 in
+    subst (λ x. AreOfBatches x (on_edge e (sent_by offers p))) (sym (offered-is sys state lost entries offers p o)) (at o o.offer.offered fits)
   where
-    by : (x : Border) → IsOfBound (bounds_of sys.flow p) o.node.low o.node.settled x (Between least greatest) → IsCanonical (bounds_of sys.flow p) least × IsCanonical (bounds_of sys.flow p) greatest
-    by Inner k = absurd k
-    by (Source n y) k = absurd k
-    by (Output n) k = (subst (IsCanonical (bounds_of sys.flow p)) (sym (k.0 ∙ o.known.low)) (a.low p l).0, k.1.canonical)
-range-right sys state lost entries offers a p l o Anything (Listed records) k = tt
-range-right sys state lost entries offers a p l o Anything (Between least greatest) k =
-    (subst (IsCanonical (bounds_of sys.flow p)) (sym (k.0 ∙ o.known.low)) (a.low p l).0, k.1.canonical)
-range-right sys state lost entries offers a p l o Checkpoints offered k =
-    subst (λ (x : Offered). IsRangeOf (bounds_of sys.flow p) (offered_range x)) (sym k) tt
-range-right sys state lost entries offers a p l o Events (Listed records) k = tt
-range-right sys state lost entries offers a p l o Events (Between least greatest) k =
-    (subst (IsCanonical (bounds_of sys.flow p)) (sym (k.0 ∙ o.known.low)) (a.low p l).0, k.1.canonical)
+    at : (o : Offers sys state lost entries offers (sender sys.flow e)) (x : Offered) → IsFormOf (way_of sys.flow (sender sys.flow e)) x
+        → AreOfBatches x (on_edge e (sent_by offers (sender sys.flow e)))
+    at o (form.Listed records) fits = tt
+    at o (form.Between least greatest) fits = tt
+    at o (form.Batches least greatest exhausted) fits =
+        let p = sender sys.flow e in
+        let is = by_batches-input (kind_of sys.flow p) (policy_of sys.flow p) fits in
+        subst (λ ms. AllByRecursion HasOneCause (on_edge e ms)) (sym (sent-is sys state lost entries offers p o))
+        (each-weaker (IsOfCause sys.flow p) HasOneCause (on_edge e o.node.stamps.sent) (λ m c. (c.0, c.2)) (o.known.stamps.sent (ap is_sequence_kind is) e l refl).of_cause)
 
 -- ---- the base of a node
 
@@ -449,10 +487,9 @@ record-offered sys state lost entries offers a p l f i e =
     let b = bounds_of sys.flow p in
     let is = listed-low sys state lost entries offers p o o.offer.offered (subst (λ way. OffersBy b entries p o.node way o.offer.offered) e o.is.offered) in
     let d = records-are sys state lost entries offers p o ∙ ap listed_records is in
-    let r = range-is sys state lost entries offers p o ∙ ap offered_range is in
     found-record (λ (q : Recorded). IsRecorded sys state p q.front q) f (records_of offers p)
     (subst (λ (rs : List Recorded). AllByRecursion (λ (q : Recorded). IsRecorded sys state p q.front q) rs) (sym d) (listing sys state lost entries offers a p l e).recorded)
-    (elim i.1 [ inl j ↦ j | inr j ↦ absurd (subst (λ (x : Option (Front × Front)). IsBetween b x f) r j) ])
+    (listed-offered sys.flow offers p f (ap offered_range (offered-is sys state lost entries offers p o ∙ is)) i)
 
 -- ---- the same counts
 
@@ -663,11 +700,11 @@ of_flow sys state lost entries offers a = record {
       (records-right sys state lost entries offers a p l o (way_of sys.flow p) refl o.offer.offered o.is.offered).0;
   range = λ p l.
       let o = a.each p l in
-      subst (λ (r : Option (Front × Front)). IsRangeOf (bounds_of sys.flow p) r) (sym (range-is sys state lost entries offers p o))
-      (range-right sys state lost entries offers a p l o (way_of sys.flow p) o.offer.offered o.is.offered);
-  listed = λ p l.
+      subst (λ (x : Offered). IsRangeOf (bounds_of sys.flow p) (offered_range x)) (sym (offered-is sys state lost entries offers p o))
+      (range-right sys state lost entries offers a p l o (way_of sys.flow p) refl o.offer.offered o.is.offered);
+  form_fits = λ p l.
       let o = a.each p l in
-      subst (λ (r : Option (Front × Front)). IsListedBy (way_of sys.flow p) r) (sym (range-is sys state lost entries offers p o))
+      subst (λ (x : Offered). IsFormOf (way_of sys.flow p) x) (sym (offered-is sys state lost entries offers p o))
       (records-right sys state lost entries offers a p l o (way_of sys.flow p) refl o.offer.offered o.is.offered).2;
   delivered = λ p l.
       let o = a.each p l in
@@ -678,6 +715,7 @@ of_flow sys state lost entries offers a = record {
   sent = λ p l.
       let o = a.each p l in
       subst (λ (ms : List Counted). AreOnEdges sys.flow ms) (sym (sent-is sys state lost entries offers p o)) o.known.stamps.on_edges.1;
+  batches = sent-of_batches sys state lost entries offers a;
 }
 
 -- what is offered by what is known is what the machine offers

@@ -1,5 +1,5 @@
 -- What nodes offer that are restored to anything settled, acknowledged or logged: all from the low watermark on.
-use Rattle.std.proofs.Common.{◌≡◌, ◌⊎◌, ◌↔◌, inl, inr, Bool, true, false, not, List, [], ◌∷◌, Some, refl, sym, ◌∙◌, ap, subst}
+use Rattle.std.proofs.Common.{◌≡◌, ◌↔◌, inl, inr, Bool, true, false, not, List, [], ◌∷◌, refl, sym, ◌∙◌, ap, subst}
 use Rattle.std.specs.List.{AllByRecursion, list_any}
 use Rattle.std.proofs.lemmas.Bool.{and_parts, and_from, or_cases, or_left, or_right, cases_Bool}
 use Rattle.fw_time.specs.Stamp.{Stamp, leq, in_domain}
@@ -14,10 +14,10 @@ use Rattle.fw_policy.specs.Offering.{below_all}
 use Rattle.fw_policy.proofs.SentLaws.{IsOne, one-holds}
 
 pub range-between : (b : Bounds) (g : Frontier) (low least greatest f : Front) → least ≡ low → IsFrontOf b greatest g
-    → (⊥ ⊎ IsBetween b (Some (least, greatest)) f) ↔ (Within (frontier_of b f) g × Within (frontier_of b low) (frontier_of b f))
+    → IsBetween b least greatest f ↔ (Within (frontier_of b f) g × Within (frontier_of b low) (frontier_of b f))
 range-between b g low least greatest f e n = (
-  λ i. elim i [ inl a ↦ absurd a | inr k ↦ ((λ t j. sym (n.same t) ∙ k.1 t j), subst (λ (x : Front). Within (frontier_of b x) (frontier_of b f)) e k.0) ],
-  λ w. inr (subst (λ (x : Front). Within (frontier_of b x) (frontier_of b f)) (sym e) w.1, (λ t j. n.same t ∙ w.0 t j)),
+  λ k. ((λ t j. sym (n.same t) ∙ k.1 t j), subst (λ (x : Front). Within (frontier_of b x) (frontier_of b f)) e k.0),
+  λ w. (subst (λ (x : Front). Within (frontier_of b x) (frontier_of b f)) (sym e) w.1, (λ t j. n.same t ∙ w.0 t j)),
 )
 
 pub within-both : (f g h : Frontier) → Within f (meet g h) ↔ (Within f g × Within f h)

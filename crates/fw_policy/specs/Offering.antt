@@ -1,13 +1,13 @@
 -- What a node offers to a recovery, by what is known of it and by the entries alone.
-use Rattle.std.specs.Prelude.{◌≡◌, ℕ, suc, Bool, not, ◌&&◌, ◌==◌, if◌then◌else◌, List, [], ◌∷◌, ◌++◌, filter, map}
-use Rattle.std.specs.List.{flat_map, list_any, range_with_len}
+use Rattle.std.specs.Prelude.{◌≡◌, ℕ, suc, not, ◌&&◌, ◌==◌, if◌then◌else◌, List, [], ◌∷◌, ◌++◌, filter}
+use Rattle.std.specs.List.{flat_map, list_any}
 use Rattle.fw_time.specs.Stamp.{Stamp, leq}
 use Rattle.fw_time.specs.declared.stamp.Bounds.{Bounds}
 use Rattle.fw_frontier.specs.Frontier.{Frontier, meet}
 use Rattle.fw_frontier.specs.Front.{Front, frontier_of, is_within, IsFrontOf}
 use Rattle.fw_flow.specs.declared.choice.Offer.{Offer}
 use Rattle.fw_flow.specs.declared.choice.Offered.{Offered}
-use Rattle.fw_flow.specs.declared.choice.Offered.TheVariants.{Listed, Between}
+use Rattle.fw_flow.specs.declared.choice.Offered.TheVariants as form
 use Rattle.fw_flow.specs.declared.choice.Recorded.{Recorded}
 use Rattle.fw_flow.specs.declared.restoring.Restoring.{Restoring}
 use Rattle.fw_flow.specs.declared.restoring.Restoring.TheVariants.{Batches, Bound, Anything, Checkpoints, Events}
@@ -45,8 +45,9 @@ holding low rs = filter (λ r. is_within low r.front) rs
 
 -- all from the low watermark to the frontier is offered
 abbrev pub IsRange : Bounds → Front → Frontier → Offered → Type 0
-IsRange bounds low f (Listed records) = ⊥
-IsRange bounds low f (Between least greatest) = (least ≡ low) × IsFrontOf bounds greatest f
+IsRange bounds low f (form.Listed records) = ⊥
+IsRange bounds low f (form.Between least greatest) = (least ≡ low) × IsFrontOf bounds greatest f
+IsRange bounds low f (form.Batches least greatest exhausted) = ⊥
 
 -- the stamp of the event that is written, if one is
 abbrev pub stamp_in : Written → List Stamp
@@ -65,21 +66,10 @@ unlogged_stamps p entries lost = flat_map (unlogged_by p) entries ++ lost
 abbrev pub below_all : List Stamp → Frontier → Frontier
 below_all ss f t = f t && not (list_any (λ s. leq s t) ss)
 
--- the frontiers of batches up to so many, and all once there are no more
-abbrev pub batch_fronts : ℕ → Bool → List Front
-batch_fronts injected exhausted = map until (range_with_len 0 (suc injected)) ++ (if exhausted then [] ∷ [] else [])
-
--- a record of the frontier that lists no edge; its notification frontier, which plays no part at an input, is all
-abbrev pub bare_record : Front → Recorded
-bare_record f = record { front = f; notified = []; delivered = []; discarded = [] }
-
--- records of the frontiers of batches that hold the low watermark
-abbrev pub batch_records : Front → ℕ → Bool → List Recorded
-batch_records low injected exhausted = map bare_record (filter (λ f. is_within low f) (batch_fronts injected exhausted))
-
--- what an input offers: what it injected; where the view does not tell that, no offer is one of it
+-- what an input offers: what it injected, and all once there is no more; where the view does not tell that, no offer is one
+-- of it
 abbrev pub IsOfBatches : Front → Border → Offered → Type 0
-IsOfBatches low (Source injected exhausted) offered = offered ≡ Listed (batch_records low injected exhausted)
+IsOfBatches low (Source injected exhausted) offered = offered ≡ form.Batches low (until injected) exhausted
 IsOfBatches low border offered = ⊥
 
 -- what an output offers: what is settled and acknowledged; where the view does not tell that, no offer is one of it
@@ -96,7 +86,7 @@ OffersBy bounds entries p node Batches offered = IsOfBatches node.low node.borde
 OffersBy bounds entries p node Bound offered = IsOfBound bounds node.low node.settled node.border offered
 OffersBy bounds entries p node Anything offered = IsRange bounds node.low (frontier_of bounds node.settled) offered
 OffersBy bounds entries p node Checkpoints offered =
-    offered ≡ Listed (holding node.low (empty_record bounds ∷ records_by p entries))
+    offered ≡ form.Listed (holding node.low (empty_record bounds ∷ records_by p entries))
 OffersBy bounds entries p node Events offered =
     IsRange bounds node.low (below_all (unlogged_stamps p entries node.lost) (frontier_of bounds node.settled)) offered
 

@@ -1,5 +1,5 @@
 -- What an engine knows of a state of the machine, for what its nodes offer to a recovery.
-use Rattle.std.specs.Prelude.{◌≡◌, ◌⊎◌, ◌↔◌, ℕ, suc, ◌<◌, Bool, true, false, ◌==◌, if◌then◌else◌, Some, List, [], ◌∷◌, filter, length, map}
+use Rattle.std.specs.Prelude.{◌≡◌, ◌⊎◌, ◌↔◌, ℕ, suc, ◌<◌, Bool, true, false, if◌then◌else◌, Some, List, [], ◌∷◌, filter, length, map}
 use Rattle.std.specs.List.{AllByRecursion, Contains, flat_map}
 use Rattle.fw_time.specs.Stamp.{Stamp, in_domain}
 use Rattle.fw_frontier.specs.Frontier.{Frontier, everything}
@@ -23,7 +23,7 @@ use Rattle.fw_model.specs.Covers.{covers_in, stamp_of_notice}
 use Rattle.fw_model.specs.History.{delivered_messages, sent_messages, injected_count, is_exhausted}
 use Rattle.fw_model.specs.Machine.{Machine, SerialEvent, Write, checkpoint, logged_event, events, front_of, is_failed, ack_count_of}
 use Rattle.fw_model.specs.Machine.{Written as WrittenBy}
-use Rattle.fw_model.specs.Offers.{AreOnEdges, IsRecordOf, front_of_edge, stamps_on, stamps_on_from}
+use Rattle.fw_model.specs.Offers.{AreOnEdges, IsRecordOf, front_of_edge, on_edge, stamps_on, stamps_on_from}
 use Rattle.fw_model.specs.Reached.{IsReached}
 use Rattle.fw_model.specs.Writes.{takes_checkpoints, not_collected}
 use Rattle.fw_policy.specs.declared.view.Border.{Border}
@@ -39,10 +39,6 @@ abbrev pub base_of : System → Machine → ℕ → Frontier
 base_of sys state p =
     if takes_checkpoints (policy_of sys.flow p) then node_frontier sys.flow p (front_of state.settled p)
     else node_frontier sys.flow p (front_of state.low p)
-
--- the messages of an edge
-abbrev pub on_edge : ℕ → List Counted → List Counted
-on_edge e ms = filter (λ m. m.edge == e) ms
 
 -- the causes of these messages, in a row
 abbrev pub causes_of : List Counted → List Stamp

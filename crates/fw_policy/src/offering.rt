@@ -1,8 +1,8 @@
 //! To which frontiers nodes can be restored.
-ghost use Rattle.std.specs.Prelude.{◌≡◌, ◌++◌, ◌≤◌, ℕ, List, [], ◌∷◌, filter, map, IfOk, OnOk};
+ghost use Rattle.std.specs.Prelude.{◌≡◌, ◌++◌, List, [], ◌∷◌, IfOk, OnOk};
 ghost use Rattle.fw_time.specs.declared.stamp.Bounds.{Bounds as Domain};
 ghost use Rattle.fw_frontier.specs.Frontier.{meet};
-ghost use Rattle.fw_frontier.specs.Front.{frontier_of, is_within, IsCanonical, IsFrontOf};
+ghost use Rattle.fw_frontier.specs.Front.{frontier_of, IsCanonical, IsFrontOf};
 ghost use Rattle.fw_flow.specs.declared.choice.Recorded.{Recorded as RecordedValue};
 ghost use Rattle.fw_flow.specs.declared.restoring.Restoring.TheVariants as ways;
 ghost use Rattle.fw_flow.specs.Dataflow.{bounds_of, greatest_number};
@@ -94,7 +94,9 @@ fn until(alloc: Global, epoch: u32) -> Result<Front, AllocError>
     Front::until(alloc, &[Stamp::new(&[epoch])])
 }
 
-/// What an input offers: what it injected. Of a view that does not tell how much that is, which no state has, nothing.
+/// What an input offers: what it injected, from the low watermark on, and all once there is no more. More batches than the
+/// greatest number, which no state has, count as that many; of a view that does not tell how many there are, which no state
+/// has either, it is nothing.
 fn of_batches(alloc: Global, low: &Front, border: &Border) -> Result<Offered, AllocError>
     ensures { FitsWay ways.Batches border.now → IfOk result (spec.IsOfBatches low.now border.now) }
 {
@@ -102,56 +104,13 @@ fn of_batches(alloc: Global, low: &Front, border: &Border) -> Result<Offered, Al
         Border::Source {
             injected,
             exhausted,
-        } => {
-            let records = batches(alloc, low, *injected, *exhausted)?;
-            Ok(Offered::Listed(Records::of(records)))
-        }
+        } => Ok(Offered::Batches {
+            least: low.copy()?,
+            greatest: until(alloc, (*injected).min(u32::MAX as u64) as u32)?,
+            exhausted: *exhausted,
+        }),
         _ => Ok(Offered::Listed(Records::of(Vec::new(alloc)))),
     }
-}
-
-/// The frontiers of an input that injected so many batches, and perhaps all, from the low watermark on. More batches than the
-/// greatest number, which no state has, count as that many.
-fn batches(
-    alloc: Global,
-    low: &Front,
-    injected: u64,
-    exhausted: bool,
-) -> Result<Vec<Recorded>, AllocError>
-    ensures { injected ≤ greatest_number → IfOk result (λ rs. rs.items ≡ spec.batch_records low.now injected exhausted) }
-{
-    let last = injected.min(u32::MAX as u64) as u32;
-    let mut records = Vec::new(alloc);
-    for epoch in 0..last {
-        add_bare(alloc, &mut records, low, until(alloc, epoch)?)?;
-    }
-    add_bare(alloc, &mut records, low, until(alloc, last)?)?;
-    if exhausted {
-        add_bare(alloc, &mut records, low, Front::all(alloc))?;
-    }
-    Ok(records)
-}
-
-/// Adds a record of the frontier, if it holds the low watermark. Nothing else of it counts, since the node is not restored by
-/// checkpoints.
-fn add_bare(
-    alloc: Global,
-    records: &mut Vec<Recorded>,
-    low: &Front,
-    front: Front,
-) -> Result<(), AllocError>
-    ensures { (fs : List (List (List ℕ))) → records.old.items ≡ map spec.bare_record (filter (λ f. is_within low.now f) fs)
-        → OnOk result (records.new.items ≡ map spec.bare_record (filter (λ f. is_within low.now f) (fs ++ front ∷ []))) }
-{
-    if low.subset(&front) {
-        records.push(Recorded {
-            front,
-            notified: Front::all(alloc),
-            delivered: OfEdges::of(Vec::new(alloc)),
-            discarded: OfEdges::of(Vec::new(alloc)),
-        })?;
-    }
-    Ok(())
 }
 
 /// What a node with checkpoints offers: no stamps, and its acknowledged checkpoints, so far as they hold the low watermark.

@@ -14,7 +14,8 @@ use fw_flow::{Flow, NodeId, Offer};
 use std::alloc::{AllocError, Global};
 
 /// What each node offers to a recovery, by its kind and policy, where so much is known of the nodes and these writes were not
-/// collected. It takes a view of each node. The error is want of memory.
+/// collected. It takes a view of each node. Of a source the offer holds two frontiers, whatever its batches. The error is
+/// want of memory.
 pub fn candidates(
     alloc: Global,
     flow: &Flow,

@@ -19,7 +19,7 @@ use std::marker::Model;
 ///
 /// Contracts see for each node its bound, the number of stamps that it acknowledged, and its recs by number, which is the
 /// first coordinate of their stamp. Past the last node a call changes nothing. After want of memory each `put` answers it.
-#[derive(Debug, Drop)]
+#[derive(Debug)]
 pub struct Outputs {
     alloc: Global,
     outputs: Vec<Output>,
@@ -37,6 +37,20 @@ impl Model for Outputs {
     ghost view = { λ all. record { outputs = all.outputs.items; refused = all.refused } };
 
     ghost invariant = { λ all. all.empty.recs ≡ [] };
+}
+
+// Written out, so that it is one call wherever one of them is let go.
+impl Drop for Outputs {
+    fn drop(self) {
+        let Outputs {
+            alloc: _,
+            outputs,
+            empty,
+            refused: _,
+        } = self;
+        drop(outputs);
+        drop(empty);
+    }
 }
 
 impl Outputs {

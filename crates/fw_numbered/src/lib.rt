@@ -8,4 +8,4 @@ mod regroup;
 mod sequence;
 
 pub use regroup::Regroup;
-pub use sequence::{Held, Numbered, Sequence};
+pub use sequence::{Numbered, Sequence};

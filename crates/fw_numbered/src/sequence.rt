@@ -1,10 +1,9 @@
 //! The recs of each epoch in order, at the next numbers.
 ghost use Rattle.std.specs.Prelude.{◌≡◌, ◌≤◌, ◌+◌, ◌^◌, ◌||◌, ℕ, Bool, List, [], ◌∷◌, length, false, IfOk, OnOk, OnErr, IsTrue, IsErr, true};
 ghost use Rattle.fw_time.specs.Stamp.{same};
-ghost use Rattle.fw_bag.specs.Arrivals.{Arrival};
+ghost use Rattle.fw_bag.specs.Arrivals.{Arrival, arrival, recs_at, AreInside};
 ghost use Rattle.fw_bag.specs.Keyed.{sorted_recs};
 ghost use Rattle.fw_frontier.specs.Below.{is_below};
-ghost use Rattle.fw_table.specs.Arrived.{arrival, recs_at, AreInside};
 ghost use Rattle.fw_numbered.specs.Numbers.{at_numbers, numbered_recs};
 
 use fw_bag::{Bag, Rec};
@@ -19,7 +18,7 @@ const LAST: u64 = 4_294_967_295;
 
 /// The recs that came at one epoch.
 #[derive(Drop)]
-pub struct Held {
+pub(crate) struct Held {
     bag: Bag,
 }
 

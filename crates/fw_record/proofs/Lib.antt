@@ -7,4 +7,3 @@ pub mod EventLaws
 pub mod RecordLaws
 pub mod PlaceLaws
 pub mod FrontLaws
-pub mod SameFrontLaws

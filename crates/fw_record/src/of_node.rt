@@ -59,17 +59,10 @@ impl Record {
 fn is_recorded_of(flow: &Flow, node: NodeId, front: &Front, recorded: &Recorded) -> bool
     ensures { IsTrue result ↔ IsRecordedOf flow.now node front.now recorded.now }
 {
-    is_same_front(&recorded.front, front)
+    recorded.front.same(front)
         && recorded.notified.is_in_domain(&flow.domain(node))
         && are_on(flow, flow.in_edges(node), recorded.delivered.as_slice())
         && are_on(flow, flow.out_edges(node), recorded.discarded.as_slice())
-}
-
-/// Whether the two fronts are one list.
-fn is_same_front(f: &Front, g: &Front) -> bool
-    ensures { IsTrue result ↔ (f.now ≡ g.now) }
-{
-    f.same(g)
 }
 
 /// Whether they are fronts of these edges.

@@ -1,4 +1,6 @@
 //! What a record holds.
+ghost use Rattle.std.specs.Prelude.{◌≡◌};
+
 use crate::Log;
 use fw_bag::Rec;
 use fw_flow::{EdgeId, NodeId, Recorded};
@@ -27,6 +29,22 @@ pub enum Event {
     Deliver { edge: EdgeId, at: Stamp, rec: Rec },
     /// The node was notified of the stamp.
     Notify { at: Stamp },
+}
+
+impl Event {
+    /// The same event once more.
+    pub fn copy(&self) -> Self
+        ensures { result ≡ self.now }
+    {
+        match self {
+            Event::Deliver { edge, at, rec } => Event::Deliver {
+                edge: *edge,
+                at: at.copy(),
+                rec: *rec,
+            },
+            Event::Notify { at } => Event::Notify { at: at.copy() },
+        }
+    }
 }
 
 /// What a store keeps of a node.

@@ -5,7 +5,7 @@ use Rattle.std.specs.BTreeMap.{get, is_at}
 use Rattle.fw_time.specs.declared.time.Epoch.{Epoch}
 use Rattle.fw_bag.specs.Arrivals.{arrivals_at, arrivals_inside}
 use Rattle.fw_table.specs.Content.{IsContentOf}
-use Rattle.fw_table.proofs.ArrivedLaws.{none_outside}
+use Rattle.fw_bag.proofs.ArrivalLaws.{none_outside}
 use Rattle.fw_numbered.specs.declared.sequence.Held.{Held}
 use Rattle.fw_numbered.specs.Sequence.{holds_bag}
 use Rattle.fw_numbered.proofs.sequence.Sequence.from_state.Goals as goal

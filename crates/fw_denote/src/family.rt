@@ -24,7 +24,7 @@ impl Model for Family {
     ghost use Rattle.std.specs.Prelude.{List, map};
     ghost use Rattle.fw_flow.specs.WholeBags.{Timed};
     ghost use Rattle.fw_flow.specs.WholeBags.{in_order};
-ghost use Rattle.fw_denote.specs.Holding.{sent_by};
+    ghost use Rattle.fw_denote.specs.Holding.{sent_by};
 
     ghost Value = { List (List Timed) };
 

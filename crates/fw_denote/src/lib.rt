@@ -15,8 +15,7 @@ mod ranks;
 mod rounds;
 mod timed;
 
+pub(crate) use bag::TimedBag;
 pub use denoting::denote;
 pub use family::Family;
 pub use timed::Timed;
-
-pub(crate) use bag::TimedBag;

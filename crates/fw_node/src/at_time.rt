@@ -36,7 +36,12 @@ impl<T: Logical> AtTime<T> {
     /// Takes in a rec that came on an in-edge, by its place, and gives what it makes the node send.
     ///
     /// It fails where memory is refused; then the table is that of what came before.
-    pub(crate) fn deliver(&mut self, side: usize, at: &Stamp, rec: Rec) -> Result<Sent<Stamp>, AllocError>
+    pub(crate) fn deliver(
+        &mut self,
+        side: usize,
+        at: &Stamp,
+        rec: Rec,
+    ) -> Result<Sent<Stamp>, AllocError>
         requires few { T.dimension ≤ 4 }
         requires shape { length at.now ≡ T.dimension }
         ensures ok { (kind : Kind) (came : List Arrival) → IsTimedTable T.cmp T.coords self.old kind came
@@ -80,7 +85,12 @@ impl<T: Logical> AtTime<T> {
     /// Forgets what came at stamps inside, to which nothing comes any more. The bounds are those of the stamps.
     ///
     /// It fails where memory is refused; then the table is as it was.
-    pub(crate) fn settle(&mut self, alloc: Global, f: &Front, bounds: &Bounds) -> Result<(), AllocError>
+    pub(crate) fn settle(
+        &mut self,
+        alloc: Global,
+        f: &Front,
+        bounds: &Bounds,
+    ) -> Result<(), AllocError>
         requires shape { length bounds.now.greatest ≡ T.dimension }
         requires in_domain { AllByRecursion (λ o. in_domain bounds.now o ≡ true) f.now }
         ensures ok { (kind : Kind) (came : List Arrival) → IsTimedTable T.cmp T.coords self.old kind came

@@ -13,9 +13,8 @@ mod node;
 mod sends;
 mod table;
 
-pub use node::Node;
-pub use sends::Sends;
-
 pub(crate) use at_time::AtTime;
 pub(crate) use in_loop::InLoop;
+pub use node::Node;
+pub use sends::Sends;
 pub(crate) use table::Table;

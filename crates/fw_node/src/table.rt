@@ -67,7 +67,12 @@ impl Table {
     /// Takes in a rec that came on an in-edge, by its place, and gives what it makes the node send.
     ///
     /// It fails where memory is refused; then the table is that of what came before.
-    pub(crate) fn deliver(&mut self, side: usize, at: &Stamp, rec: Rec) -> Result<Sent<Stamp>, AllocError>
+    pub(crate) fn deliver(
+        &mut self,
+        side: usize,
+        at: &Stamp,
+        rec: Rec,
+    ) -> Result<Sent<Stamp>, AllocError>
         requires { length at.now ≡ dimension_of self.old }
         ensures ok { (flow : Dataflow) (kind : Kind) (past : Past) → IsNodeTable flow self.old kind past → IsSideOf kind side
             → past.settled at.now ≡ false → (is_notified_kind kind ≡ true → past.told at.now ≡ false)
@@ -143,7 +148,12 @@ impl Table {
     /// Settles what came at stamps inside, which holds what was settled. The bounds are those of the stamps.
     ///
     /// It fails where memory is refused; then as much is settled as before.
-    pub(crate) fn settle(&mut self, alloc: Global, f: &Front, bounds: &Bounds) -> Result<(), AllocError>
+    pub(crate) fn settle(
+        &mut self,
+        alloc: Global,
+        f: &Front,
+        bounds: &Bounds,
+    ) -> Result<(), AllocError>
         requires shape { length bounds.now.greatest ≡ dimension_of self.old }
         requires in_domain { AllByRecursion (λ o. in_domain bounds.now o ≡ true) f.now }
         ensures ok { (flow : Dataflow) (kind : Kind) (past : Past) → IsNodeTable flow self.old kind past
@@ -176,7 +186,12 @@ impl Table {
     /// kind that keeps no totals. The bounds are those of the stamps.
     ///
     /// It fails where memory is refused.
-    pub(crate) fn totals_at(&self, alloc: Global, f: &Front, bounds: &Bounds) -> Result<Recs, AllocError>
+    pub(crate) fn totals_at(
+        &self,
+        alloc: Global,
+        f: &Front,
+        bounds: &Bounds,
+    ) -> Result<Recs, AllocError>
         requires shape { length bounds.now.greatest ≡ dimension_of self.now }
         requires in_domain { AllByRecursion (λ o. in_domain bounds.now o ≡ true) f.now }
         ensures { (flow : Dataflow) (kind : Kind) (past : Past) → IsNodeTable flow self.now kind past

@@ -12,6 +12,7 @@ use Rattle.fw_bag.specs.declared.rec.Rec.{Rec}
 use Rattle.fw_bag.specs.Keyed.{plus, joined_rec}
 use Rattle.fw_flow.specs.WholeBags.{Timed, timed_cmp, recs_where, in_order, timed_recs}
 use Rattle.fw_model.proofs.CmpLaws.{tied}
+use Rattle.fw_model.proofs.FilterLaws.{filter-dropped, filter-none_at}
 use Rattle.fw_model.proofs.TimedLaws.{IsAscendingTimed, timed_cmp-refl}
 use Rattle.fw_model.proofs.DependenceLaws.{ascending-from_in_order}
 use Rattle.fw_denote.specs.declared.keyed.Slot.{Slot}
@@ -22,25 +23,11 @@ use Rattle.fw_denote.proofs.NumberLaws.{slot_order, slot-test, slot-is}
 
 -- ---- lists in two parts
 
-filter-dropped : {X : Type 0} (p : X → Bool) (xs : List X) (i : ℕ) → ((k : ℕ) (d : X) → k < i → k < length xs → p (get_or xs k d) ≡ false) → filter p xs ≡ filter p (drop i xs)
-filter-dropped p [] zero h = refl
-filter-dropped p [] (suc i) h = refl
-filter-dropped p (x ∷ xs) zero h = refl
-filter-dropped p (x ∷ xs) (suc i) h =
-    ap (λ b. cond b (x ∷ filter p xs) (filter p xs)) (h 0 x (omega arith) (omega arith))
-    ∙ filter-dropped p xs i (λ k d l m. h (suc k) d (omega arith) (omega arith))
-
-filter-none : {X : Type 0} (p : X → Bool) (xs : List X) → ((k : ℕ) (d : X) → k < length xs → p (get_or xs k d) ≡ false) → filter p xs ≡ []
-filter-none p [] h = refl
-filter-none p (x ∷ xs) h =
-    ap (λ b. cond b (x ∷ filter p xs) (filter p xs)) (h 0 x (omega arith))
-    ∙ filter-none p xs (λ k d l. h (suc k) d (omega arith))
-
 filter-taken : {X : Type 0} (p : X → Bool) (xs : List X) (i : ℕ) → ((k : ℕ) (d : X) → k < i → k < length xs → p (get_or xs k d) ≡ true)
     → ((k : ℕ) (d : X) → i ≤ k → k < length xs → p (get_or xs k d) ≡ false) → filter p xs ≡ take i xs
 filter-taken p [] zero h n = refl
 filter-taken p [] (suc i) h n = refl
-filter-taken p (x ∷ xs) zero h n = filter-none p (x ∷ xs) (λ k d l. n k d (omega arith) l)
+filter-taken p (x ∷ xs) zero h n = filter-none_at p (x ∷ xs) (λ k d l. n k d (omega arith) l)
 filter-taken p (x ∷ xs) (suc i) h n =
     ap (λ b. cond b (x ∷ filter p xs) (filter p xs)) (h 0 x (omega arith) (omega arith))
     ∙ ap (λ ys. x ∷ ys) (filter-taken p xs i (λ k d l m. h (suc k) d (omega arith) (omega arith)) (λ k d l m. n (suc k) d (omega arith) (omega arith)))

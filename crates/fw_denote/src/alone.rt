@@ -1,6 +1,5 @@
 //! What the kinds send that send each rec on alone.
 ghost use Rattle.std.specs.Prelude.{◌≡◌, ◌++◌, [], ◌∷◌, true, option_to_list, IfOk, OnOk};
-ghost use Rattle.std.specs.List.{AllByRecursion};
 ghost use Rattle.fw_time.specs.Stamp.{in_domain};
 ghost use Rattle.fw_flow.specs.Dataflow.{bounds_of_domain, domain_of_kind, send_stamp_of_kind};
 ghost use Rattle.fw_flow.specs.WellFormed.{IsGroupSize};
@@ -14,26 +13,13 @@ use fw_time::Stamp;
 use std::alloc::{AllocError, Global};
 
 /// The rec at the stamp at which a node of the kind sends what came at `t`, if it sends it.
-#[tactic(auto, using(crate::proofs::AloneLaws::domain_length, crate::proofs::AloneLaws::regrouped_first))]
 fn sent_at(flow: &Flow, kind: &Kind, t: &Stamp, rec: Rec) -> Option<Timed>
     requires in_domain { in_domain (bounds_of_domain flow.now (domain_of_kind flow.now kind.now)) t.now ≡ true }
     requires group { IsGroupSize kind.now }
     ensures { option_to_list result ≡ whole.timed_at_some (send_stamp_of_kind flow.now kind.now t.now) (rec ∷ []) }
 {
-    match kind {
-        Kind::OutputEpoch | Kind::OutputNumber => None,
-        Kind::Enter(_) => Some(Timed::new(t.nest(0), rec)),
-        Kind::Feedback(id) => {
-            if t.counter() < flow.max(*id) {
-                Some(Timed::new(t.outer().nest(t.counter() + 1), rec))
-            } else {
-                None
-            }
-        }
-        Kind::Leave(_) => Some(Timed::new(t.outer(), rec)),
-        Kind::Regroup(n) => Some(Timed::new(Stamp::new(&[t.at(0) / *n]), rec)),
-        _ => Some(Timed::new(t.copy(), rec)),
-    }
+    let at = flow.send_stamp_of_kind(*kind, t)?;
+    Some(Timed::new(at, rec))
 }
 
 /// The rec that a node of the kind sends for one rec, if it sends it on.

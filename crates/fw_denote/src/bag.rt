@@ -8,7 +8,7 @@ use std::marker::Model;
 
 /// A bag of timed recs, in ascending order. Contracts see their list.
 #[derive(Debug, Drop)]
-pub struct TimedBag {
+pub(crate) struct TimedBag {
     recs: Vec<Timed>,
 }
 
@@ -43,7 +43,7 @@ impl TimedBag {
     }
 
     /// Its timed recs, in ascending order.
-    pub fn as_slice(&self) -> &[Timed]
+    pub(crate) fn as_slice(&self) -> &[Timed]
         ensures value { result.now ≡ self.now }
         ensures in_order { in_order self.now ≡ self.now }
     {

@@ -3,6 +3,7 @@ ghost use Rattle.std.specs.Prelude.{◌≡◌, ◌<◌, ℕ, List, map, length, 
 ghost use Rattle.std.specs.List.{range_with_len};
 ghost use Rattle.fw_flow.specs.Dataflow.{sender};
 ghost use Rattle.fw_flow.specs.WellFormed.{IsWellFormed};
+ghost use Rattle.fw_flow.specs.WholeBags.{in_order};
 ghost use Rattle.fw_denote.specs.Holding.{family_on, sent_by};
 
 use crate::outputs::bag_of;
@@ -22,6 +23,7 @@ pub struct Family {
 impl Model for Family {
     ghost use Rattle.std.specs.Prelude.{List, map};
     ghost use Rattle.fw_flow.specs.WholeBags.{Timed};
+    ghost use Rattle.fw_flow.specs.WholeBags.{in_order};
     ghost use Rattle.fw_denote.specs.Holding.{sent_by};
 
     ghost Value = { List (List Timed) };
@@ -41,7 +43,8 @@ impl Family {
 
     /// The timed recs on an edge, in ascending order; none past the last edge. It takes no memory.
     pub fn on(&self, edge: EdgeId) -> &[Timed]
-        ensures { result.now ≡ family_on self.now edge }
+        ensures recs { result.now ≡ family_on self.now edge }
+        ensures in_order { in_order result.now ≡ result.now }
     {
         match self.senders.get(edge.place() as usize) {
             Some(sender) => bag_of(&self.bags, *sender),

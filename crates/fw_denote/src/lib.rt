@@ -15,7 +15,7 @@ mod ranks;
 mod rounds;
 mod timed;
 
-pub use bag::TimedBag;
+pub(crate) use bag::TimedBag;
 pub use denoting::denote;
 pub use family::Family;
 pub use timed::Timed;

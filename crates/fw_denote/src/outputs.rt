@@ -51,7 +51,8 @@ pub(crate) fn sent(
 
 /// The bag that a node sends.
 pub(crate) fn bag_of(bags: &[TimedBag], node: NodeId) -> &[Timed]
-    ensures { result.now ≡ sent_by bags.now node }
+    ensures recs { result.now ≡ sent_by bags.now node }
+    ensures in_order { whole.in_order result.now ≡ result.now }
 {
     match bags.get(node.place() as usize) {
         Some(bag) => bag.as_slice(),

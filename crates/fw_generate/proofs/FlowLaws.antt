@@ -21,7 +21,7 @@ use Rattle.fw_flow_text.specs.Forms.{output_kind, within_kind, leading_kind, lon
 use Rattle.fw_flow_text.specs.Grammar.{flow_rules, line_fault}
 use Rattle.fw_flow_text.specs.Select.{condition_of, value_part, assignment_part, selection_part}
 use Rattle.fw_flow_text.specs.Words.{numeral_of, field_of, comparison_of, term_of}
-use Rattle.fw_generate.specs.Laws.{spelled_flow}
+use Rattle.fw_flow_text.specs.Texts.{spelled_flow}
 use Rattle.fw_generate.specs.Texts.{flow_text}
 use Rattle.fw_generate.proofs.Below.{all_below-at}
 

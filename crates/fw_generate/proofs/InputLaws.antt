@@ -24,10 +24,12 @@ use Rattle.fw_lines.specs.Spelling.{number_of}
 use Rattle.fw_lines.proofs.FaultLaws.{IsSoundSoFar, none_left, sound_more}
 use Rattle.fw_time.proofs.EachLaws.{all-of_each, each-weaker}
 use Rattle.fw_generate.specs.Draws.{Words, draw, drawn_times}
-use Rattle.fw_generate.specs.Laws.{AreInputsOf, size_limit}
-use Rattle.fw_generate.specs.Texts.{Line, batch_line, batch_lines, behind_space, line_text, rec_word, spaced, text_of}
+use Rattle.fw_flow.specs.Sources.{AreInputsOf}
+use Rattle.fw_generate.specs.Laws.{size_limit}
+use Rattle.fw_lines.specs.Written.{behind_space, spaced, line_text, text_of, WordLine, is_in_words, is_plain, is_plain_line, numbered}
+use Rattle.fw_generate.specs.Texts.{batch_line, batch_lines, rec_word}
 use Rattle.fw_generate.proofs.DrawnLaws.{drawn-each, joined_length, length-drawn}
-use Rattle.fw_generate.proofs.LineLaws.{is_in_words, is_plain, is_plain_line, numbered, said_lines-text_of}
+use Rattle.fw_lines.proofs.WrittenLaws.{said_lines-text_of}
 use Rattle.fw_generate.proofs.NumberLaws.{decimal_digits, number_of-decimal}
 use Rattle.fw_generate.proofs.WellFormed.{flow_sources}
 use Rattle.fw_generate.proofs.FlowLaws.{the_flow}
@@ -119,20 +121,20 @@ rec_drawn words =
 -- ---- a line
 
 -- a line of the inputs of the one source: it can be a line, breaks no rule where the source has fewer than 2^20 batches, and is short
-record IsBatchLine (line : Line) : Type 0 where
+record IsBatchLine (line : WordLine) : Type 0 where
   plain : is_plain_line line ≡ true
   sound : (count : ℕ) → count < 2 ^ 20 → fault_of ((codes "src", 0) ∷ []) count line ≡ None
   short : length (line_text line) ≤ 59
 
-recs_sound : (recs : Line) → AllByRecursion IsRecWord recs → words_fault recs ≡ None
+recs_sound : (recs : WordLine) → AllByRecursion IsRecWord recs → words_fault recs ≡ None
 recs_sound [] each = refl
 recs_sound (word ∷ words) each = ap (λ r. option_or (broken_rule r) (words_fault words)) each.0.sound ∙ recs_sound words each.1
 
-none_large : (recs : Line) → AllByRecursion IsRecWord recs → list_any (λ word. is_large (record_of word)) recs ≡ false
+none_large : (recs : WordLine) → AllByRecursion IsRecWord recs → list_any (λ word. is_large (record_of word)) recs ≡ false
 none_large [] each = refl
 none_large (word ∷ words) each = ap (λ r. is_large r || list_any (λ w. is_large (record_of w)) words) each.0.sound ∙ none_large words each.1
 
-batch_line-is : (recs : Line) → length recs < 8 → AllByRecursion IsRecWord recs → IsBatchLine (codes "batch" ∷ codes "src" ∷ recs)
+batch_line-is : (recs : WordLine) → length recs < 8 → AllByRecursion IsRecWord recs → IsBatchLine (codes "batch" ∷ codes "src" ∷ recs)
 batch_line-is recs few each = record {
   plain = and_from (list_all is_plain recs) true (all-of_each is_plain recs (each-weaker IsRecWord (λ w. is_plain w ≡ true) recs (λ w r. r.plain) each)) refl;
   sound = λ count h.
@@ -156,7 +158,7 @@ batch_drawn words =
 -- ---- the text
 
 -- a source has no more batches than there are lines
-count_of-few : (sources : List (List ℕ × ℕ)) (before : List Said) (line : Line) → count_of sources before line ≤ length before
+count_of-few : (sources : List (List ℕ × ℕ)) (before : List Said) (line : WordLine) → count_of sources before line ≤ length before
 count_of-few sources before line = by (source_of sources line)
   where
     by : (source : Option ℕ) → option_map_or (λ node. length (batches_of sources before node)) source 0 ≤ length before
@@ -165,7 +167,7 @@ count_of-few sources before line = by (source_of sources line)
         omega (arith, length-map {A = Said} {B = List Rec} (filter (is_batch_of sources node) before) (λ l. batch_of l.words), length-filter (is_batch_of sources node) before, count_by-le-length (is_batch_of sources node) before)
 
 -- lines of the inputs break no rule, one after another
-sound_on : (sources : List (List ℕ × ℕ)) (lines : List Line) (number : ℕ) (all done : List Said)
+sound_on : (sources : List (List ℕ × ℕ)) (lines : List WordLine) (number : ℕ) (all done : List Said)
     → AllByRecursion (λ line. (count : ℕ) → count < 2 ^ 20 → fault_of sources count line ≡ None) lines → length done + length lines ≤ 2 ^ 20
     → IsSoundSoFar (line_fault sources) all (numbered number lines) done → BreakNoRule (line_fault sources) all
 sound_on sources [] number all done each few so_far =
@@ -193,7 +195,7 @@ inputs_accepted size words h = subst (λ sources. IsSound (rules_of sources) (te
     source : List (List ℕ × ℕ)
     source = (codes "src", 0) ∷ []
 
-    lines : List Line
+    lines : List WordLine
     lines = (batch_lines size words).0
 
     each : AllByRecursion IsBatchLine lines

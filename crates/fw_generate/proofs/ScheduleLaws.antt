@@ -23,20 +23,22 @@ use Rattle.fw_schedule.specs.Grammar.{fault_of, item_of, items_of, line_fault, w
 use Rattle.fw_schedule.specs.Grammar.{size_limit as schedule_limit}
 use Rattle.fw_schedule.specs.Schedule.{step_count, step_limit, steps_in}
 use Rattle.fw_generate.specs.Draws.{Drawing, Words, draw, drawn, drawn_times}
-use Rattle.fw_generate.specs.Laws.{IsScheduleOf, size_limit}
-use Rattle.fw_generate.specs.Texts.{Line, auto_line, checkpoint_lines, collect_line, failure_lines, last_lines, line_text, lines_for, node_names, round_lines, schedule_lines, text_of}
+use Rattle.fw_schedule.specs.Texts.{IsScheduleOf}
+use Rattle.fw_generate.specs.Laws.{size_limit}
+use Rattle.fw_lines.specs.Written.{line_text, text_of, WordLine, is_plain, is_plain_line, numbered}
+use Rattle.fw_generate.specs.Texts.{auto_line, checkpoint_lines, collect_line, failure_lines, last_lines, lines_for, node_names, round_lines, schedule_lines}
 use Rattle.fw_generate.proofs.Below.{each_below-at}
 use Rattle.fw_generate.proofs.DrawnLaws.{drawn-each, joined_length, length-drawn}
 use Rattle.fw_generate.proofs.FlowLaws.{the_flow}
 use Rattle.fw_generate.proofs.InputLaws.{draw-below, none_judged, plain-decimal}
-use Rattle.fw_generate.proofs.LineLaws.{is_plain, is_plain_line, numbered, said_lines-text_of}
+use Rattle.fw_lines.proofs.WrittenLaws.{said_lines-text_of}
 use Rattle.fw_generate.proofs.NumberLaws.{decimal_numeral, decimal_value}
 use Rattle.fw_generate.proofs.Writing.{line_of_two, text_of-schedule}
 
 -- ---- lines that ask for something
 
 -- a line of the schedule: it can be a line, and asks for an item
-record IsAskingLine (line : Line) : Type 0 where
+record IsAskingLine (line : WordLine) : Type 0 where
   plain : is_plain_line line ≡ true
   item : Item
   asks : item_of the_flow line ≡ Ok item
@@ -47,18 +49,18 @@ steps_asked (Ok item) = steps_in item
 steps_asked (Err code) = 0
 
 -- how many steps lines ask for at most
-abbrev steps_of : List Line → ℕ
+abbrev steps_of : List WordLine → ℕ
 steps_of [] = 0
 steps_of (line ∷ lines) = steps_asked (item_of the_flow line) + steps_of lines
 
 -- lines of a schedule, with at most so many steps and bytes
-record AreAskingLines (steps bytes : ℕ) (lines : List Line) : Type 0 where
+record AreAskingLines (steps bytes : ℕ) (lines : List WordLine) : Type 0 where
   each : AllByRecursion IsAskingLine lines
   few : steps_of lines ≤ steps
   short : length (text_of lines) ≤ bytes
 
 -- what the lines of a drawing are
-abbrev Draws : (List Line → Type 0) → Drawing (List Line) → Type 0
+abbrev Draws : (List WordLine → Type 0) → Drawing (List WordLine) → Type 0
 Draws P drawing = (words : Words) → P (drawing words).0
 
 -- ---- a round
@@ -134,7 +136,7 @@ checkpoints_ask = record {
 collection_asks : AreAskingLines 4 60 (collect_line ∷ [])
 collection_asks = record { each = (record { plain = refl; item = One Collect; asks = refl }, tt); few = lit≤ tt; short = lit≤ tt }
 
-either_drawn : (P : List Line → Type 0) (b : Bool) (x y : Drawing (List Line)) → Draws P x → Draws P y → Draws P (cond b x y)
+either_drawn : (P : List WordLine → Type 0) (b : Bool) (x y : Drawing (List WordLine)) → Draws P x → Draws P y → Draws P (cond b x y)
 either_drawn P true x y first second = first
 either_drawn P false x y first second = second
 
@@ -148,7 +150,7 @@ number_drawn number =
     (λ words. record { each = tt; few = lit≤ tt; short = lit≤ tt })))
 
 -- lines behind a line
-behind : (s t b c : ℕ) (line : Line) (lines : List Line) → AreAskingLines s b (line ∷ []) → AreAskingLines t c lines → AreAskingLines (s + t) (b + c) (line ∷ lines)
+behind : (s t b c : ℕ) (line : WordLine) (lines : List WordLine) → AreAskingLines s b (line ∷ []) → AreAskingLines t c lines → AreAskingLines (s + t) (b + c) (line ∷ lines)
 behind s t b c line lines first others = record {
   each = (first.each.0, others.each);
   few = omega (arith, first.few, others.few);
@@ -174,15 +176,15 @@ last_asks = record {
   short = lit≤ tt;
 }
 
-steps_of-append : (xs ys : List Line) → steps_of (xs ++ ys) ≡ steps_of xs + steps_of ys
+steps_of-append : (xs ys : List WordLine) → steps_of (xs ++ ys) ≡ steps_of xs + steps_of ys
 steps_of-append [] ys = omega arith
 steps_of-append (x ∷ xs) ys = omega (arith, steps_of-append xs ys)
 
-each_round : (s b : ℕ) (rounds : List (List Line)) → AllByRecursion (AreAskingLines s b) rounds → AllByRecursion IsAskingLine (flat_map (λ lines. lines) rounds)
+each_round : (s b : ℕ) (rounds : List (List WordLine)) → AllByRecursion (AreAskingLines s b) rounds → AllByRecursion IsAskingLine (flat_map (λ lines. lines) rounds)
 each_round s b [] each = tt
 each_round s b (lines ∷ rounds) each = each-append IsAskingLine lines (flat_map (λ lines. lines) rounds) each.0.each (each_round s b rounds each.1)
 
-rounds_few : (s b : ℕ) (rounds : List (List Line)) → AllByRecursion (AreAskingLines s b) rounds → steps_of (flat_map (λ lines. lines) rounds) ≤ s * length rounds
+rounds_few : (s b : ℕ) (rounds : List (List WordLine)) → AllByRecursion (AreAskingLines s b) rounds → steps_of (flat_map (λ lines. lines) rounds) ≤ s * length rounds
 rounds_few s b [] each = omega arith
 rounds_few s b (lines ∷ rounds) each =
     omega (arith, steps_of-append lines (flat_map (λ lines. lines) rounds), each.0.few, rounds_few s b rounds each.1)
@@ -192,14 +194,14 @@ step_count-append [] ys = omega arith
 step_count-append (x ∷ xs) ys = omega (arith, step_count-append xs ys)
 
 -- a line that asks for something breaks no rule, if its steps fit behind those before
-asking_sound : (count : ℕ) (line : Line) (a : IsAskingLine line) → count + steps_in a.item ≤ step_limit → fault_of the_flow count line ≡ None
+asking_sound : (count : ℕ) (line : WordLine) (a : IsAskingLine line) → count + steps_in a.item ≤ step_limit → fault_of the_flow count line ≡ None
 asking_sound count [] a h = refl
 asking_sound count (word ∷ words) a h =
     let room : nat_le (count + steps_in a.item) step_limit ≡ true = grind (arith, nat_tests, h) in
     ap (λ r. result_err (within_limit count r)) a.asks ∙ ap (λ b. result_err (cond b (Ok a.item) (Err S4))) room
 
 -- the steps with those of a line more
-steps_more : (done : List Said) (number : ℕ) (line : Line) (a : IsAskingLine line)
+steps_more : (done : List Said) (number : ℕ) (line : WordLine) (a : IsAskingLine line)
     → step_count (items_of the_flow (done ++ record { number = number; words = line } ∷ [])) ≡ step_count (items_of the_flow done) + steps_in a.item
 steps_more done number line a =
     let said : Said = record { number = number; words = line } in
@@ -209,7 +211,7 @@ steps_more done number line a =
     ∙ (omega arith)
 
 -- lines of the schedule break no rule, one after another
-sound_on : (lines : List Line) (number : ℕ) (all done : List Said) → AllByRecursion IsAskingLine lines → step_count (items_of the_flow done) + steps_of lines ≤ step_limit
+sound_on : (lines : List WordLine) (number : ℕ) (all done : List Said) → AllByRecursion IsAskingLine lines → step_count (items_of the_flow done) + steps_of lines ≤ step_limit
     → IsSoundSoFar (line_fault the_flow) all (numbered number lines) done → BreakNoRule (line_fault the_flow) all
 sound_on [] number all done each few so_far =
     let last : Said = record { number = number; words = [] } in
@@ -222,7 +224,7 @@ sound_on (line ∷ lines) number all done each few so_far =
     (asking_sound (step_count (items_of the_flow done)) line each.0 (omega (arith, steps, few))))
 
 -- lines that ask for few steps in few bytes are a schedule
-asked_accepted : (lines : List Line) → AllByRecursion IsAskingLine lines → steps_of lines ≤ step_limit → length (text_of lines) ≤ schedule_limit
+asked_accepted : (lines : List WordLine) → AllByRecursion IsAskingLine lines → steps_of lines ≤ step_limit → length (text_of lines) ≤ schedule_limit
     → IsScheduleOf the_flow (text_of lines)
 asked_accepted lines each few short =
     let plain = all-of_each is_plain_line lines (each-weaker IsAskingLine (λ line. is_plain_line line ≡ true) lines (λ line a. a.plain) each) in
@@ -249,10 +251,10 @@ schedule_accepted size words h =
       joined_length text_of 68 rounds (each-weaker (AreAskingLines 43 68) (λ lines. length (text_of lines) ≤ 68) rounds (λ lines a. a.short) each),
     )))
   where
-    rounds : List (List Line)
+    rounds : List (List WordLine)
     rounds = (drawn_times size round_lines words).0
 
-    joined : List Line
+    joined : List WordLine
     joined = flat_map (λ lines. lines) rounds
 
     each : AllByRecursion (AreAskingLines 43 68) rounds

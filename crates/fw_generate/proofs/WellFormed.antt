@@ -7,7 +7,7 @@ use Rattle.fw_flow.specs.Ranks.{IsWithinRound}
 use Rattle.fw_flow.specs.Sources.{sources_of}
 use Rattle.fw_flow.specs.WellFormed.{IsWellFormed, is_feedback_of}
 use Rattle.fw_flow.proofs.ByRanks.{walks-ranked}
-use Rattle.fw_generate.specs.Laws.{IsFlow}
+use Rattle.fw_flow_text.specs.Texts.{IsFlow}
 use Rattle.fw_generate.specs.Texts.{flow_text}
 use Rattle.fw_generate.proofs.Below.{each_below-at}
 use Rattle.fw_generate.proofs.FlowLaws.{flow_sound, flow_spelled, the_flow}

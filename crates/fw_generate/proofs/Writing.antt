@@ -7,7 +7,8 @@ use Rattle.std.proofs.lemmas.Bool.Decides.{nat_tests}
 use Rattle.std.proofs.lemmas.Grind.{flat_map-append}
 use Rattle.std.proofs.lemmas.List.{append-nil}
 use Rattle.fw_generate.specs.Draws.{Words, Drawing, draw, drawn, drawn_times}
-use Rattle.fw_generate.specs.Texts.{Line, auto_line, batch_line, behind_space, checkpoint_lines, collect_line, failure_lines, last_lines, line_text, lines_for, node_names, rec_word, round_lines, schedule_lines, spaced, text_of}
+use Rattle.fw_lines.specs.Written.{behind_space, spaced, line_text, text_of, WordLine}
+use Rattle.fw_generate.specs.Texts.{auto_line, batch_line, checkpoint_lines, collect_line, failure_lines, last_lines, lines_for, node_names, rec_word, round_lines, schedule_lines}
 use Rattle.fw_generate.specs.Writes.{Writes}
 
 -- a push that has room stands behind the text
@@ -108,11 +109,11 @@ failure_written place name words left old new p n h =
     }
 
 -- a number asks for lines, where none are drawn for it
-pub asked_written : (number : ℕ) (lines : List Line) (words : Words) (old new : List ℕ) → lines_for number ≡ drawn lines → new ≡ old ++ text_of lines
+pub asked_written : (number : ℕ) (lines : List WordLine) (words : Words) (old new : List ℕ) → lines_for number ≡ drawn lines → new ≡ old ++ text_of lines
     → Writes (lines_for number) text_of words words old new
 asked_written number lines words old new asked h = record {
-  behind = h ∙ ap (λ (d : Drawing (List Line)). old ++ text_of (d words).0) (sym asked);
-  after = ap (λ (d : Drawing (List Line)). (d words).1) (sym asked);
+  behind = h ∙ ap (λ (d : Drawing (List WordLine)). old ++ text_of (d words).0) (sym asked);
+  after = ap (λ (d : Drawing (List WordLine)). (d words).1) (sym asked);
 }
 
 pub failure_asked : (number : ℕ) → number ≡ 0 → lines_for number ≡ failure_lines
@@ -151,12 +152,12 @@ round_written number words between behind left old with_auto new auto n others =
       after = others.after ∙ ap (λ (r : ℕ × Words). (lines_for r.0 r.1).1) drawn;
     }
 
-text_of-rounds : (rounds : List (List Line)) → text_of (flat_map (λ lines. lines) rounds) ≡ flat_map text_of rounds
+text_of-rounds : (rounds : List (List WordLine)) → text_of (flat_map (λ lines. lines) rounds) ≡ flat_map text_of rounds
 text_of-rounds [] = refl
 text_of-rounds (lines ∷ rounds) = flat_map-append line_text lines (flat_map (λ lines. lines) rounds) ∙ ap (λ t. text_of lines ++ t) (text_of-rounds rounds)
 
 -- the text of a schedule's lines is that of its rounds, and the last lines
-pub text_of-schedule : (rounds : List (List Line)) → text_of (flat_map (λ lines. lines) rounds ++ last_lines) ≡ flat_map text_of rounds ++ text_of last_lines
+pub text_of-schedule : (rounds : List (List WordLine)) → text_of (flat_map (λ lines. lines) rounds ++ last_lines) ≡ flat_map text_of rounds ++ text_of last_lines
 text_of-schedule rounds =
     flat_map-append line_text (flat_map (λ lines. lines) rounds) last_lines ∙ ap (λ t. t ++ text_of last_lines) (text_of-rounds rounds)
 

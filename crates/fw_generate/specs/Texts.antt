@@ -2,30 +2,8 @@
 use Rattle.std.specs.Prelude.{ℕ, ◌+◌, ◌==◌, List, [], ◌∷◌, ◌++◌, codes, if◌then◌else◌, slice_index_or}
 use Rattle.std.specs.Fmt.{decimal}
 use Rattle.std.specs.List.{flat_map}
+use Rattle.fw_lines.specs.Written.{WordLine, text_of}
 use Rattle.fw_generate.specs.Draws.{Words, Drawing, draw, drawn, drawn_times, ◌>>=◌}
-
--- ---- lines and their text
-
--- a line, by its words
-abbrev pub Line : Type 0
-Line = List (List ℕ)
-
--- a word behind a space
-abbrev pub behind_space : List ℕ → List ℕ
-behind_space word = codes " " ++ word
-
--- words, each behind a space
-abbrev pub spaced : List (List ℕ) → List ℕ
-spaced words = flat_map behind_space words
-
--- the text of a line: its words with a space between them, and LF
-abbrev pub line_text : Line → List ℕ
-line_text [] = codes "\n"
-line_text (word ∷ words) = word ++ (spaced words ++ codes "\n")
-
--- the text of lines
-abbrev pub text_of : List Line → List ℕ
-text_of lines = flat_map line_text lines
 
 -- ---- the flow
 
@@ -74,42 +52,42 @@ rec_word = do
   drawn (decimal key ++ (codes ":" ++ decimal value))
 
 -- a line `batch src` with up to seven recs
-unfoldable pub batch_line : Drawing Line
+unfoldable pub batch_line : Drawing WordLine
 batch_line = do
   count ← draw 8
   recs ← drawn_times count rec_word
   drawn (codes "batch" ∷ codes "src" ∷ recs)
 
 -- as many of these lines as the size says
-abbrev pub batch_lines : ℕ → Drawing (List Line)
+abbrev pub batch_lines : ℕ → Drawing (List WordLine)
 batch_lines size = drawn_times size batch_line
 
 -- ---- the schedule
 
 -- a line `auto A`, with A from 8 to 39
-unfoldable pub auto_line : Drawing Line
+unfoldable pub auto_line : Drawing WordLine
 auto_line = do
   more ← draw 32
   drawn (codes "auto" ∷ decimal (8 + more) ∷ [])
 
 -- the lines `fail P` and `recover`, where P is one of the nodes
-unfoldable pub failure_lines : Drawing (List Line)
+unfoldable pub failure_lines : Drawing (List WordLine)
 failure_lines = do
   place ← draw 12
   drawn ((codes "fail" ∷ slice_index_or node_names place [] ∷ []) ∷ (codes "recover" ∷ []) ∷ [])
 
 -- the line `checkpoint P` for each of four nodes
-abbrev pub checkpoint_lines : List Line
+abbrev pub checkpoint_lines : List WordLine
 checkpoint_lines =
     (codes "checkpoint" ∷ codes "add" ∷ []) ∷ (codes "checkpoint" ∷ codes "run" ∷ []) ∷ (codes "checkpoint" ∷ codes "mix" ∷ [])
     ∷ (codes "checkpoint" ∷ codes "led" ∷ []) ∷ []
 
 -- the line `collect`
-abbrev pub collect_line : Line
+abbrev pub collect_line : WordLine
 collect_line = codes "collect" ∷ []
 
 -- what a number below 16 asks for: at 0 a failure, at 1 checkpoints, at 2 a collection, else nothing
-unfoldable pub lines_for : ℕ → Drawing (List Line)
+unfoldable pub lines_for : ℕ → Drawing (List WordLine)
 lines_for number =
     if number == 0 then failure_lines
     else (if number == 1 then drawn checkpoint_lines
@@ -117,7 +95,7 @@ lines_for number =
     else drawn []))
 
 -- a line `auto A`, and what a number that is drawn then asks for
-unfoldable pub round_lines : Drawing (List Line)
+unfoldable pub round_lines : Drawing (List WordLine)
 round_lines = do
   auto ← auto_line
   number ← draw 16
@@ -125,11 +103,11 @@ round_lines = do
   drawn (auto ∷ others)
 
 -- the last lines
-abbrev pub last_lines : List Line
+abbrev pub last_lines : List WordLine
 last_lines = (codes "auto" ∷ codes "1000000000" ∷ []) ∷ collect_line ∷ []
 
 -- as many rounds as the size says, and the last lines
-abbrev pub schedule_lines : ℕ → Drawing (List Line)
+abbrev pub schedule_lines : ℕ → Drawing (List WordLine)
 schedule_lines size = do
   rounds ← drawn_times size round_lines
   drawn (flat_map (λ lines. lines) rounds ++ last_lines)

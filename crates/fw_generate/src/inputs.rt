@@ -2,7 +2,8 @@
 ghost use Rattle.std.specs.Prelude.{OnOk, string_bytes};
 ghost use Rattle.std.specs.List.{flat_map};
 ghost use Rattle.fw_generate.specs.Draws.{drawn_times, words_of};
-ghost use Rattle.fw_generate.specs.Texts.{batch_line, behind_space, line_text, rec_word, spaced};
+ghost use Rattle.fw_lines.specs.Written.{behind_space, spaced, line_text};
+ghost use Rattle.fw_generate.specs.Texts.{batch_line, rec_word};
 ghost use Rattle.fw_generate.specs.Writes.{Writes};
 
 use crate::draws::draw;

@@ -2,7 +2,8 @@
 ghost use Rattle.std.specs.Prelude.{◌≡◌, ◌<◌, [], OnOk, string_bytes, slice_index_or};
 ghost use Rattle.std.specs.List.{flat_map};
 ghost use Rattle.fw_generate.specs.Draws.{drawn_times, words_of};
-ghost use Rattle.fw_generate.specs.Texts.{auto_line, failure_lines, line_text, lines_for, node_names, round_lines, schedule_lines, text_of};
+ghost use Rattle.fw_lines.specs.Written.{line_text, text_of};
+ghost use Rattle.fw_generate.specs.Texts.{auto_line, failure_lines, lines_for, node_names, round_lines, schedule_lines};
 ghost use Rattle.fw_generate.specs.Writes.{Writes};
 
 use crate::draws::draw;

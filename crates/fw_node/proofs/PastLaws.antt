@@ -3,13 +3,13 @@ use Rattle.std.proofs.Common.{◌≡◌, ℕ, ◌+◌, length, arith, Result, Ok
 use Rattle.std.specs.Prelude.{◌||◌}
 use Rattle.std.specs.List.{AllByRecursion}
 use Rattle.fw_time.specs.Stamp.{Stamp}
-use Rattle.fw_bag.specs.Arrivals.{Arrival}
+use Rattle.fw_bag.specs.Arrivals.{Arrival, recs_inside}
 use Rattle.fw_bag.specs.Keyed.{sorted_recs}
 use Rattle.fw_bag.specs.declared.rec.Rec.{Rec}
 use Rattle.fw_flow.specs.declared.kind.Kind.{Kind}
 use Rattle.fw_flow.specs.declared.kind.Kind.TheVariants as kind
 use Rattle.fw_flow.specs.Dataflow.{is_sequence_kind}
-use Rattle.fw_table.specs.Arrived.{recs_inside, IsWithin}
+use Rattle.fw_frontier.specs.Frontier.{Within}
 use Rattle.fw_table.specs.Sent.{sent_at}
 use Rattle.fw_numbered.specs.Numbers.{at_numbers}
 use Rattle.fw_node.specs.Answers.{recs_at_notice}
@@ -36,7 +36,7 @@ after_cases false true t h k = k refl
 after_cases false false t h k = refl
 
 -- where what is settled was told, the same recs are settled or told before and after
-pub taken_after : (settled after told : Stamp → Bool) → IsWithin settled after → (came : List Arrival)
+pub taken_after : (settled after told : Stamp → Bool) → Within settled after → (came : List Arrival)
     → AllByRecursion (λ (a : Arrival). after a.at ≡ true → told a.at ≡ true) came
     → recs_inside (λ s. settled s || told s) came ≡ recs_inside (λ s. after s || told s) came
 taken_after settled after told h [] all = refl

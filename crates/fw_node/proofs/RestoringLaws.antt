@@ -9,7 +9,7 @@ use Rattle.fw_time.specs.declared.time.SeqNo.{SeqNo}
 use Rattle.fw_time.specs.declared.stamp.Bounds.{Bounds}
 use Rattle.fw_time.proofs.StampLaws.{leq-length}
 use Rattle.fw_bag.specs.declared.rec.Rec.{Rec}
-use Rattle.fw_bag.specs.Arrivals.{Arrival, recs_of}
+use Rattle.fw_bag.specs.Arrivals.{Arrival, recs_of, AreInside, AreTimes}
 use Rattle.fw_flow.specs.declared.event.Event.{Event}
 use Rattle.fw_flow.specs.declared.event.Event.TheVariants.{Inject, Deliver, Notify}
 use Rattle.fw_flow.specs.declared.event.Message.{Message}
@@ -17,8 +17,7 @@ use Rattle.fw_flow.specs.declared.kind.Kind.{Kind}
 use Rattle.fw_flow.specs.declared.kind.Kind.TheVariants as kind
 use Rattle.fw_flow.specs.Dataflow.{Dataflow, greatest_number}
 use Rattle.fw_flow.specs.NodeFunction.{delivered_recs, numbered_messages, recs_on_notification, sequence_sent}
-use Rattle.fw_table.specs.Arrived.{AreInside, AreTimes}
-use Rattle.fw_table.proofs.ArrivedLaws.{none_outside}
+use Rattle.fw_bag.proofs.ArrivalLaws.{none_outside}
 use Rattle.fw_node.specs.declared.table.Table.{Table}
 use Rattle.fw_node.specs.declared.table.Table.TheVariants as table
 use Rattle.fw_node.specs.Arrived.{arrived}

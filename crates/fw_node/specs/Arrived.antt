@@ -1,7 +1,7 @@
 -- What came to a node, from the list of its events.
 use Rattle.std.specs.Prelude.{◌≡◌, ℕ, ◌+◌, true, ◌==◌, if◌then◌else◌, List, [], ◌∷◌}
-use Rattle.std.specs.List.{list_any}
 use Rattle.fw_bag.specs.Arrivals.{Arrival}
+use Rattle.fw_flow.specs.Dataflow.{is_one_of}
 use Rattle.fw_flow.specs.declared.event.Event.{Event}
 use Rattle.fw_flow.specs.declared.event.Event.TheVariants.{Inject, Deliver, Notify}
 
@@ -19,7 +19,7 @@ arrived ins (Notify p t ∷ vs) = arrived ins vs
 
 -- the edge is one of these
 abbrev pub IsOneOf : List ℕ → ℕ → Type 0
-IsOneOf ins e = list_any (λ d. d == e) ins ≡ true
+IsOneOf ins e = is_one_of e ins ≡ true
 
 -- each delivery is on one of these edges
 abbrev pub AreOnEdges : List ℕ → List Event → Type 0

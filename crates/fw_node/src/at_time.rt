@@ -3,10 +3,9 @@ ghost use Rattle.std.specs.Prelude.{◌≡◌, ◌≤◌, List, ◌∷◌, true,
 ghost use Rattle.std.specs.List.{AllByRecursion};
 ghost use Rattle.fw_time.specs.Stamp.{in_domain};
 ghost use Rattle.fw_frontier.specs.Front.{inside};
-ghost use Rattle.fw_bag.specs.Arrivals.{Arrival, arrivals_inside};
+ghost use Rattle.fw_bag.specs.Arrivals.{Arrival, arrivals_inside, arrival};
 ghost use Rattle.fw_bag.specs.Keyed.{sorted_recs};
 ghost use Rattle.fw_flow.specs.declared.kind.Kind.{Kind};
-ghost use Rattle.fw_table.specs.Arrived.{arrival};
 ghost use Rattle.fw_node.specs.Answers.{recs_for, recs_at_notice};
 ghost use Rattle.fw_node.specs.TimedTable.{IsTimedTable, IsSideOf};
 
@@ -20,7 +19,7 @@ use std::alloc::{AllocError, Global};
 
 /// The table of a kind that may be at the times of any depth.
 #[derive(Drop)]
-pub enum AtTime<T: Ord> {
+pub(crate) enum AtTime<T: Ord> {
     /// Of a select.
     Select(Select<T>),
     /// Of a concat.
@@ -37,7 +36,12 @@ impl<T: Logical> AtTime<T> {
     /// Takes in a rec that came on an in-edge, by its place, and gives what it makes the node send.
     ///
     /// It fails where memory is refused; then the table is that of what came before.
-    pub fn deliver(&mut self, side: usize, at: &Stamp, rec: Rec) -> Result<Sent<Stamp>, AllocError>
+    pub(crate) fn deliver(
+        &mut self,
+        side: usize,
+        at: &Stamp,
+        rec: Rec,
+    ) -> Result<Sent<Stamp>, AllocError>
         requires few { T.dimension ≤ 4 }
         requires shape { length at.now ≡ T.dimension }
         ensures ok { (kind : Kind) (came : List Arrival) → IsTimedTable T.cmp T.coords self.old kind came
@@ -62,7 +66,7 @@ impl<T: Logical> AtTime<T> {
     /// Gives what a notification makes the node send, in ascending order. The table stays.
     ///
     /// It fails where memory is refused.
-    pub fn notify(&mut self, at: &Stamp) -> Result<Sent<Stamp>, AllocError>
+    pub(crate) fn notify(&mut self, at: &Stamp) -> Result<Sent<Stamp>, AllocError>
         requires few { T.dimension ≤ 4 }
         requires shape { length at.now ≡ T.dimension }
         ensures stands { (kind : Kind) (came : List Arrival) → IsTimedTable T.cmp T.coords self.old kind came
@@ -81,7 +85,12 @@ impl<T: Logical> AtTime<T> {
     /// Forgets what came at stamps inside, to which nothing comes any more. The bounds are those of the stamps.
     ///
     /// It fails where memory is refused; then the table is as it was.
-    pub fn settle(&mut self, alloc: Global, f: &Front, bounds: &Bounds) -> Result<(), AllocError>
+    pub(crate) fn settle(
+        &mut self,
+        alloc: Global,
+        f: &Front,
+        bounds: &Bounds,
+    ) -> Result<(), AllocError>
         requires shape { length bounds.now.greatest ≡ T.dimension }
         requires in_domain { AllByRecursion (λ o. in_domain bounds.now o ≡ true) f.now }
         ensures ok { (kind : Kind) (came : List Arrival) → IsTimedTable T.cmp T.coords self.old kind came

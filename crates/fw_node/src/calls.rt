@@ -9,7 +9,7 @@ ghost use Rattle.fw_flow.specs.declared.kind.Kind.TheVariants as kind;
 ghost use Rattle.fw_flow.specs.Dataflow.{Dataflow, System, batches_of, bounds_of, kind_of, in_edges, is_input_kind, is_notified_kind, node_frontier};
 ghost use Rattle.fw_flow.specs.NodeFunction.{delivered_recs, sends};
 ghost use Rattle.fw_model.specs.Told.{is_told, AreToldInside, EachDelivery, IsSumOfTold};
-ghost use Rattle.fw_table.specs.Arrived.{IsWithin};
+ghost use Rattle.fw_frontier.specs.Frontier.{Within};
 ghost use Rattle.fw_node.specs.Answers.{without_causes};
 ghost use Rattle.fw_node.specs.Arrived.{place_in, AreOnEdges, IsOneOf};
 ghost use Rattle.fw_node.specs.Past.{totals_kept};
@@ -194,7 +194,7 @@ impl Node {
     pub fn settle(&mut self, f: &Front) -> Result<(), AllocError>
         requires { AllByRecursion (λ o. in_domain self.old.bounds o ≡ true) f.now }
         ensures ok { (flow : Dataflow) (p : ℕ) (settled : List ℕ → Bool) (before : List Event)
-            → IsWithin settled (node_frontier flow p f.now)
+            → Within settled (node_frontier flow p f.now)
             → (is_notified_kind (kind_of flow p) ≡ true → AreToldInside (node_frontier flow p f.now) before)
             → IsTableOf flow p settled self.old before
             → OnOk result (IsTableOf flow p (node_frontier flow p f.now) self.new before) }
@@ -220,7 +220,7 @@ impl Node {
     pub fn totals_at(&self, f: &Front) -> Result<Recs, AllocError>
         requires { AllByRecursion (λ o. in_domain self.now.bounds o ≡ true) f.now }
         ensures totals { (flow : Dataflow) (p : ℕ) (settled : List ℕ → Bool) (before : List Event)
-            → IsWithin settled (node_frontier flow p f.now) → IsTableOf flow p settled self.now before
+            → Within settled (node_frontier flow p f.now) → IsTableOf flow p settled self.now before
             → IfOk result (λ totals. totals
             ≡ totals_kept (kind_of flow p) (delivered_recs (λ d s. node_frontier flow p f.now s) before)) }
         ensures stays { IsTrue self.now.refused → IsErr result }

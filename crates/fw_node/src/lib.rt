@@ -13,8 +13,8 @@ mod node;
 mod sends;
 mod table;
 
-pub use at_time::AtTime;
-pub use in_loop::InLoop;
+pub(crate) use at_time::AtTime;
+pub(crate) use in_loop::InLoop;
 pub use node::Node;
 pub use sends::Sends;
-pub use table::Table;
+pub(crate) use table::Table;

@@ -5,7 +5,7 @@ ghost use Rattle.fw_flow.specs.declared.event.Event.{Event};
 ghost use Rattle.fw_flow.specs.declared.kind.Kind.{Kind};
 ghost use Rattle.fw_flow.specs.declared.kind.Kind.TheVariants as kind;
 ghost use Rattle.fw_flow.specs.Dataflow.{Dataflow, kind_of, bounds_of};
-ghost use Rattle.fw_table.specs.Arrived.{AreInside};
+ghost use Rattle.fw_bag.specs.Arrivals.{AreInside};
 ghost use Rattle.fw_node.specs.Arrived.{arrived};
 ghost use Rattle.fw_node.specs.StateOf.{IsStateOf, totals_in};
 ghost use Rattle.fw_node.specs.LoopTable.{IsLoopTable};
@@ -90,7 +90,7 @@ fn totals_of(state: &State) -> &[Rec]
 impl Table {
     /// The table of a node to which nothing came, whatever is settled.
     #[tactic(auto, using(crate::proofs::MakingLaws::some_group))]
-    pub fn new(alloc: Global, flow: &Flow, id: NodeId) -> Self
+    pub(crate) fn new(alloc: Global, flow: &Flow, id: NodeId) -> Self
         ensures table { (ins : List ℕ) (settled : List ℕ → Bool) → IsNodeTable flow.now result (kind_of flow.now id) (past_of ins settled []) }
         ensures shape { dimension_of result ≡ length (bounds_of flow.now id).greatest }
     {
@@ -110,7 +110,7 @@ impl Table {
     /// The table of a node that is restored from its state: all that came is settled.
     ///
     /// It fails where memory is refused.
-    pub fn from_state(
+    pub(crate) fn from_state(
         alloc: Global,
         flow: &Flow,
         id: NodeId,

@@ -6,7 +6,8 @@ ghost use Rattle.fw_frontier.specs.Below.{is_below};
 ghost use Rattle.fw_frontier.specs.Front.{inside};
 ghost use Rattle.fw_flow.specs.declared.kind.Kind.{Kind};
 ghost use Rattle.fw_flow.specs.Dataflow.{Dataflow, send_stamp_of_kind, is_notified_kind};
-ghost use Rattle.fw_table.specs.Arrived.{arrival, recs_inside, IsWithin};
+ghost use Rattle.fw_bag.specs.Arrivals.{arrival, recs_inside};
+ghost use Rattle.fw_frontier.specs.Frontier.{Within};
 ghost use Rattle.fw_table.specs.Sent.{sent_at};
 ghost use Rattle.fw_node.specs.Answers.{recs_for, sent_list};
 ghost use Rattle.fw_node.specs.NodeTable.{IsNodeTable, dimension_of};
@@ -26,7 +27,7 @@ use std::alloc::{AllocError, Global};
 
 /// The table of a node, by the times of its domain.
 #[derive(Drop)]
-pub enum Table {
+pub(crate) enum Table {
     /// Of an input or an output, which keeps nothing.
     Idle,
     /// Of a kind that may be anywhere, outside of all loops.
@@ -66,7 +67,12 @@ impl Table {
     /// Takes in a rec that came on an in-edge, by its place, and gives what it makes the node send.
     ///
     /// It fails where memory is refused; then the table is that of what came before.
-    pub fn deliver(&mut self, side: usize, at: &Stamp, rec: Rec) -> Result<Sent<Stamp>, AllocError>
+    pub(crate) fn deliver(
+        &mut self,
+        side: usize,
+        at: &Stamp,
+        rec: Rec,
+    ) -> Result<Sent<Stamp>, AllocError>
         requires { length at.now ≡ dimension_of self.old }
         ensures ok { (flow : Dataflow) (kind : Kind) (past : Past) → IsNodeTable flow self.old kind past → IsSideOf kind side
             → past.settled at.now ≡ false → (is_notified_kind kind ≡ true → past.told at.now ≡ false)
@@ -109,7 +115,7 @@ impl Table {
     /// Gives what a notification of a stamp makes the node send, in ascending order.
     ///
     /// It fails where memory is refused; then the table is as it was.
-    pub fn notify(&mut self, at: &Stamp) -> Result<Sends, AllocError>
+    pub(crate) fn notify(&mut self, at: &Stamp) -> Result<Sends, AllocError>
         requires { length at.now ≡ dimension_of self.old }
         ensures ok { (flow : Dataflow) (kind : Kind) (past : Past) → IsNodeTable flow self.old kind past
             → past.settled at.now ≡ false → past.told at.now ≡ false
@@ -142,11 +148,16 @@ impl Table {
     /// Settles what came at stamps inside, which holds what was settled. The bounds are those of the stamps.
     ///
     /// It fails where memory is refused; then as much is settled as before.
-    pub fn settle(&mut self, alloc: Global, f: &Front, bounds: &Bounds) -> Result<(), AllocError>
+    pub(crate) fn settle(
+        &mut self,
+        alloc: Global,
+        f: &Front,
+        bounds: &Bounds,
+    ) -> Result<(), AllocError>
         requires shape { length bounds.now.greatest ≡ dimension_of self.old }
         requires in_domain { AllByRecursion (λ o. in_domain bounds.now o ≡ true) f.now }
         ensures ok { (flow : Dataflow) (kind : Kind) (past : Past) → IsNodeTable flow self.old kind past
-            → IsWithin past.settled (inside f.now) → IsToldWhereNotified kind past (inside f.now)
+            → Within past.settled (inside f.now) → IsToldWhereNotified kind past (inside f.now)
             → OnOk result (IsNodeTable flow self.new kind (with_settled (inside f.now) past)) }
         ensures err { (flow : Dataflow) (kind : Kind) (past : Past) → IsNodeTable flow self.old kind past
             → OnErr result (IsNodeTable flow self.new kind past) }
@@ -175,11 +186,16 @@ impl Table {
     /// kind that keeps no totals. The bounds are those of the stamps.
     ///
     /// It fails where memory is refused.
-    pub fn totals_at(&self, alloc: Global, f: &Front, bounds: &Bounds) -> Result<Recs, AllocError>
+    pub(crate) fn totals_at(
+        &self,
+        alloc: Global,
+        f: &Front,
+        bounds: &Bounds,
+    ) -> Result<Recs, AllocError>
         requires shape { length bounds.now.greatest ≡ dimension_of self.now }
         requires in_domain { AllByRecursion (λ o. in_domain bounds.now o ≡ true) f.now }
         ensures { (flow : Dataflow) (kind : Kind) (past : Past) → IsNodeTable flow self.now kind past
-            → IsWithin past.settled (inside f.now)
+            → Within past.settled (inside f.now)
             → IfOk result (λ totals. totals ≡ totals_kept kind (recs_inside (inside f.now) past.came)) }
     {
         match self {

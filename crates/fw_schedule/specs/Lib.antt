@@ -3,3 +3,4 @@ pub mod Names
 pub mod Schedule
 pub mod Stamps
 pub mod Steps
+pub mod Texts

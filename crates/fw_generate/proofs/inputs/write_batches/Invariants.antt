@@ -1,6 +1,7 @@
 use Rattle.std.proofs.Common.{◌-◌, string_bytes}
 use Rattle.fw_generate.specs.Draws.{words_of}
-use Rattle.fw_generate.specs.Texts.{batch_line, line_text}
+use Rattle.fw_lines.specs.Written.{line_text}
+use Rattle.fw_generate.specs.Texts.{batch_line}
 use Rattle.fw_generate.proofs.Writing.{IsWrittenSoFar}
 use Rattle.fw_generate.proofs.inputs.write_batches.Given as goal
 

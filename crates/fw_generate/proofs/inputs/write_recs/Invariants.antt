@@ -1,6 +1,7 @@
 use Rattle.std.proofs.Common.{◌-◌, string_bytes}
 use Rattle.fw_generate.specs.Draws.{words_of}
-use Rattle.fw_generate.specs.Texts.{behind_space, rec_word}
+use Rattle.fw_lines.specs.Written.{behind_space}
+use Rattle.fw_generate.specs.Texts.{rec_word}
 use Rattle.fw_generate.proofs.Writing.{IsWrittenSoFar}
 use Rattle.fw_generate.proofs.inputs.write_recs.Given as goal
 

@@ -1,6 +1,8 @@
 use Rattle.std.proofs.Common.{subst, sym}
-use Rattle.fw_generate.specs.Laws.{AreInputsOf, IsScheduleOf}
-use Rattle.fw_generate.specs.Texts.{batch_lines, schedule_lines, text_of}
+use Rattle.fw_flow.specs.Sources.{AreInputsOf}
+use Rattle.fw_schedule.specs.Texts.{IsScheduleOf}
+use Rattle.fw_lines.specs.Written.{text_of}
+use Rattle.fw_generate.specs.Texts.{batch_lines, schedule_lines}
 use Rattle.fw_generate.proofs.FlowLaws.{flow_spelled}
 use Rattle.fw_generate.proofs.InputLaws.{inputs_accepted}
 use Rattle.fw_generate.proofs.ScheduleLaws.{schedule_accepted}

@@ -3,7 +3,8 @@ use Rattle.std.proofs.lemmas.List.{append-nil}
 use Rattle.std.proofs.lemmas.Result.{on_ok_weaker}
 use Rattle.fw_generate.proofs.Writing.{asked_written, checkpoints_asked, collection_asked, failure_asked, nothing_asked, pushed}
 use Rattle.fw_generate.specs.Draws.{Drawing, words_of}
-use Rattle.fw_generate.specs.Texts.{checkpoint_lines, collect_line, text_of}
+use Rattle.fw_lines.specs.Written.{text_of}
+use Rattle.fw_generate.specs.Texts.{checkpoint_lines, collect_line}
 use Rattle.fw_generate.specs.Writes.{Writes}
 use Rattle.fw_generate.proofs.schedule.write_lines_for.Goals as goal
 

@@ -1,6 +1,7 @@
 use Rattle.std.proofs.Common.{◌-◌, string_bytes}
 use Rattle.fw_generate.specs.Draws.{words_of}
-use Rattle.fw_generate.specs.Texts.{round_lines, text_of}
+use Rattle.fw_lines.specs.Written.{text_of}
+use Rattle.fw_generate.specs.Texts.{round_lines}
 use Rattle.fw_generate.proofs.Writing.{IsWrittenSoFar}
 use Rattle.fw_generate.proofs.schedule.write_rounds.Given as goal
 

@@ -1,5 +1,6 @@
 use Rattle.std.proofs.Common.{string_bytes}
-use Rattle.fw_generate.specs.Texts.{last_lines, text_of}
+use Rattle.fw_lines.specs.Written.{text_of}
+use Rattle.fw_generate.specs.Texts.{last_lines}
 use Rattle.std.proofs.lemmas.Result.{on_ok_weaker}
 use Rattle.fw_generate.proofs.Writing.{pushed, schedule_written}
 use Rattle.fw_generate.proofs.schedule.write_schedule.Goals as goal

@@ -4,8 +4,7 @@ use Rattle.std.specs.declared.cmp.Ordering.{Ordering}
 use Rattle.std.specs.Ordering.{nat_cmp, ordering_then}
 use Rattle.fw_time.specs.Stamp.{Stamp, nest}
 use Rattle.fw_time.specs.declared.time.Nest.{Nest}
-use Rattle.fw_bag.specs.Arrivals.{Arrival}
-use Rattle.fw_table.specs.Arrived.{arrival}
+use Rattle.fw_bag.specs.Arrivals.{Arrival, arrival}
 use Rattle.fw_table.specs.Sent.{sent_at}
 use Rattle.fw_node.specs.Answers.{recs_for, sent_list}
 use Rattle.fw_node.specs.declared.in_loop.InLoop.{InLoop}

@@ -1,8 +1,7 @@
 use Rattle.std.proofs.Common.{◌≡◌, ℕ, List, sym, ap, ◌∙◌, subst}
-use Rattle.fw_bag.specs.Arrivals.{Arrival}
+use Rattle.fw_bag.specs.Arrivals.{Arrival, arrival}
 use Rattle.fw_flow.specs.declared.kind.Kind.{Kind}
 use Rattle.fw_flow.specs.Dataflow.{kind_of, in_edges, send_stamp_of_kind}
-use Rattle.fw_table.specs.Arrived.{arrival}
 use Rattle.fw_table.specs.Sent.{sent_at}
 use Rattle.fw_node.specs.Answers.{recs_for}
 use Rattle.fw_node.specs.Arrived.{arrived, place_in}

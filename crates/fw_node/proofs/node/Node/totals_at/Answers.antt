@@ -7,7 +7,7 @@ use Rattle.fw_frontier.specs.Front.{Front, inside}
 use Rattle.fw_bag.specs.Arrivals.{Arrival}
 use Rattle.fw_flow.specs.declared.kind.Kind.{Kind}
 use Rattle.fw_flow.specs.Dataflow.{bounds_of, kind_of, in_edges, node_frontier}
-use Rattle.fw_table.specs.Arrived.{IsWithin}
+use Rattle.fw_frontier.specs.Frontier.{Within}
 use Rattle.fw_node.specs.Arrived.{arrived}
 use Rattle.fw_node.specs.NodeTable.{IsNodeTable}
 use Rattle.fw_node.specs.Past.{past_of, totals_kept}
@@ -28,7 +28,7 @@ returns-clause-totals c = λ flow p settled before sub node.
     let first : IsNodeTable flow c.args.self.now.table k (past_of ins bounded before) =
     same_table flow (past_of ins settled before) bounded
     (weaker_arrived (λ s. d s ≡ true) (λ s. settled s ≡ bounded s) (λ s e. in_the_domain_alike (d s) (settled s) e) came in_d) c.args.self.now.table k node.table in
-    let within : IsWithin bounded (inside f) = λ s h. (and_parts (d s) (inside f s) (sub s (and_parts (d s) (settled s) h).1)).1 in
+    let within : Within bounded (inside f) = λ s h. (and_parts (d s) (inside f s) (sub s (and_parts (d s) (settled s) h).1)).1 in
     let alike : AreAlike (inside f) (node_frontier flow p f) came =
     weaker_arrived (λ s. d s ≡ true) (λ s. inside f s ≡ node_frontier flow p f s) (λ s e. in_the_domain_alike (d s) (inside f s) e) came in_d in
     IfOk-weaker c.totals_at.result _ _

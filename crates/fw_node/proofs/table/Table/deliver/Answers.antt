@@ -2,9 +2,8 @@ use Rattle.std.proofs.Common.{◌≡◌, ◌∷◌, [], true, false, not, List, 
 use Rattle.std.proofs.lemmas.Result.{IfOk-weaker, on_ok_weaker}
 use Rattle.fw_time.specs.Stamp.{Stamp as StampList}
 use Rattle.fw_bag.specs.declared.rec.Rec.{Rec}
-use Rattle.fw_bag.specs.Arrivals.{Arrival}
+use Rattle.fw_bag.specs.Arrivals.{Arrival, arrival}
 use Rattle.fw_flow.specs.Dataflow.{is_notified_kind, send_stamp_of_kind}
-use Rattle.fw_table.specs.Arrived.{arrival}
 use Rattle.fw_table.specs.Sent.{sent_at}
 use Rattle.fw_totals.specs.Total.{IsTotal}
 use Rattle.fw_totals.specs.Ledger.{IsLedger}

@@ -2,7 +2,7 @@ use Rattle.std.proofs.Common.{◌≡◌, ◌||◌, ◌∷◌, [], ℕ, ◌+◌, 
 use Rattle.fw_time.specs.Stamp.{Stamp as StampList, same}
 use Rattle.fw_bag.specs.declared.rec.Rec.{Rec}
 use Rattle.fw_bag.specs.Keyed.{sorted_recs}
-use Rattle.fw_table.specs.Arrived.{recs_at, recs_inside}
+use Rattle.fw_bag.specs.Arrivals.{recs_at, recs_inside}
 use Rattle.fw_table.specs.Sums.{sums_at_keys}
 use Rattle.fw_totals.specs.Total.{IsTotal}
 use Rattle.fw_numbered.specs.Numbers.{at_numbers, numbered_recs}

@@ -4,7 +4,7 @@ use Rattle.fw_time.specs.Stamp.{Stamp as StampList}
 use Rattle.fw_frontier.specs.Front.{inside}
 use Rattle.fw_bag.specs.declared.rec.Rec.{Rec}
 use Rattle.fw_bag.specs.Arrivals.{Arrival}
-use Rattle.fw_table.proofs.ArrivedLaws.{outside_twice}
+use Rattle.fw_bag.proofs.ArrivalLaws.{outside_twice}
 use Rattle.fw_numbered.specs.Sequence.{IsSequence}
 use Rattle.fw_node.specs.declared.table.Table.{Table}
 use Rattle.fw_node.specs.declared.table.Table.TheVariants as table

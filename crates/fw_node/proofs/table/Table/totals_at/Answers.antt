@@ -1,7 +1,7 @@
 use Rattle.std.proofs.Common.{◌≡◌, Bool, IfOk, subst}
 use Rattle.fw_time.specs.Stamp.{Stamp as StampList}
 use Rattle.fw_frontier.specs.Front.{inside}
-use Rattle.fw_table.specs.Arrived.{recs_inside}
+use Rattle.fw_bag.specs.Arrivals.{recs_inside}
 use Rattle.fw_node.specs.declared.table.Table.{Table}
 use Rattle.fw_node.specs.NodeTable.{IsNodeTable}
 use Rattle.fw_node.specs.Past.{totals_kept, is_taken}

@@ -144,7 +144,6 @@ unfolding sends
 sends_some sys p kind vs v at k h e =
     ap (λ x. sends_of_kind sys x vs v) (sym k) ∙ sends-other sys kind vs v h ∙ ap (λ o. messages_at_some o (event_stamp v) (recs_on sys kind vs v)) (sym e)
 
-
 -- ---- what a node sends
 
 pub at_nodes_last : (flow : Dataflow) (events rest : List Event) (v : Event) → events ≡ rest ++ v ∷ [] → AreAtNodes flow (reverse events)

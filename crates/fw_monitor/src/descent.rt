@@ -292,20 +292,10 @@ fn lower_cut(
     match lower {
         None => Ok(None),
         Some(cut) => {
-            let value = copied(&cut)?;
+            let value = cut.copy()?;
             cuts[node.place() as usize] = cut;
             Ok(Some(value))
         }
-    }
-}
-
-/// A copy of a cut. The error is want of memory.
-fn copied(cut: &Cut) -> Result<Cut, AllocError>
-    ensures { IfOk result (λ copy. copy ≡ cut.now) }
-{
-    match cut {
-        Cut::Present => Ok(Cut::Present),
-        Cut::At(front) => Ok(Cut::At(front.copy()?)),
     }
 }
 

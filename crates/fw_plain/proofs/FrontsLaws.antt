@@ -1,21 +1,17 @@
 -- Lists of frontiers, one for each node.
 use Rattle.std.proofs.Common.{◌≡◌, ℕ, zero, suc, ◌<◌, ◌==◌, Bool, true, false, not, ◌&&◌, List, [], ◌∷◌, map, length, get_or, refl, sym, ap, subst, inl, inr, arith, Result, Ok, Err, IfOk}
-use Rattle.std.specs.Ordering.{is_eq}
-use Rattle.std.specs.Cmp.Lexicographic.{slice_cmp}
 use Rattle.std.proofs.lemmas.Bool.Decides.{nat_tests}
-use Rattle.std.proofs.lemmas.Cmp.{lists_total, tied_itself}
 use Rattle.std.proofs.lemmas.List.{ext_get_or}
 use Rattle.std.proofs.lemmas.Bool.{cases_Bool, or_cases, or_left, or_right, and_parts, and_from, false_from_ne_true, and_right, not-true}
 use Rattle.fw_time.specs.declared.stamp.Bounds.{Bounds}
-use Rattle.fw_time.specs.Stamp.{Stamp, leq, origin, in_domain, stamp_cmp}
+use Rattle.fw_time.specs.Stamp.{Stamp, leq, origin, in_domain}
 use Rattle.fw_time.proofs.StampLaws.{leq-refl}
 use Rattle.fw_frontier.specs.Frontier.{nothing}
 use Rattle.fw_frontier.specs.Front.{Front, inside, same_front, is_within, IsCanonical, IsFrontOf}
 use Rattle.fw_frontier.proofs.InsideLaws.{inside-closed}
 use Rattle.fw_frontier.proofs.NamesLaws.{names-same, names-nothing}
+use Rattle.fw_frontier.proofs.SameLaws.{same_front-is, same_front-itself}
 use Rattle.fw_model.specs.Machine.{no_stamps, front_of}
-use Rattle.fw_bag.proofs.OrderingLaws.{equal_from_is_eq}
-use Rattle.fw_model.proofs.CmpLaws.{stamp_total, fronts_cmp-same}
 use Rattle.fw_model.proofs.Decisions.{two_ways}
 use Rattle.fw_plain.specs.Fronts.{grows, any_grows}
 
@@ -34,19 +30,13 @@ no_stamps_named b f n = names-same b f (no_stamps b) nothing n (names-no_stamps 
 
 -- ---- frontiers that are the same list
 
-pub front-same : (f : Front) → same_front f f ≡ true
-front-same f = ap is_eq (tied_itself (lists_total stamp_total) f)
-
-pub same-front : (f g : Front) → same_front f g ≡ true → f ≡ g
-same-front f g e = fronts_cmp-same f g (equal_from_is_eq (slice_cmp stamp_cmp f g) e)
-
 -- where one of the places has two lists, the lists of frontiers differ
 pub differ-at : (fs gs : List Front) (p : ℕ) → same_front (front_of fs p) (front_of gs p) ≡ false → fs ≡ gs → ⊥
 differ-at fs gs p e s =
-    two_ways (same_front (front_of fs p) (front_of gs p)) (subst (λ hs. same_front (front_of fs p) (front_of hs p) ≡ true) s (front-same (front_of fs p))) e
+    two_ways (same_front (front_of fs p) (front_of gs p)) (subst (λ hs. same_front (front_of fs p) (front_of hs p) ≡ true) s (same_front-itself (front_of fs p))) e
 
 pub same-each : (fs gs : List Front) → length fs ≡ length gs → ((p : ℕ) → p < length fs → same_front (front_of fs p) (front_of gs p) ≡ true) → fs ≡ gs
-same-each fs gs l h = ext_get_or [] fs gs l (λ p m. same-front (front_of fs p) (front_of gs p) (h p m))
+same-each fs gs l h = ext_get_or [] fs gs l (λ p m. same_front-is (front_of fs p) (front_of gs p) (h p m))
 
 -- a frontier that lies within no other but itself has no stamp outside
 pub all-within : (f : Front) → is_within [] f ≡ (length f == 0)

@@ -1,56 +1,24 @@
 -- What loops find that collect what is sent.
-use Rattle.std.proofs.Common.{◌≡◌, ℕ, ◌+◌, ◌/◌, ◌^◌, ◌<◌, ◌≤◌, ◌==◌, nat_le, min, true, false, cond, List, [], ◌∷◌, ◌++◌, length, reverse, Option, Some, option_to_list, refl, sym, ap, ◌∙◌, get_or, take, append_assoc, slice_index, arith, inl, inr}
+use Rattle.std.proofs.Common.{◌≡◌, ℕ, ◌+◌, ◌^◌, ◌<◌, ◌≤◌, ◌==◌, nat_le, min, true, false, cond, List, [], ◌∷◌, ◌++◌, length, reverse, Option, option_to_list, refl, sym, ap, ◌∙◌, get_or, take, append_assoc, arith, inl, inr}
 use Rattle.std.proofs.lemmas.Bool.{cond-true, cond-false, cases_lt, eq-eqb}
 use Rattle.std.proofs.lemmas.Bool.Decides.{nat_tests}
 use Rattle.std.proofs.lemmas.List.{take_more, map-append, length-append, append-nil}
-use Rattle.fw_time.specs.Stamp.{Stamp, in_domain}
-use Rattle.fw_time.specs.Sending.{regrouped_stamp}
-use Rattle.fw_time.proofs.StampLaws.{leq-length}
+use Rattle.fw_time.specs.Stamp.{Stamp}
 use Rattle.fw_bag.specs.declared.rec.Rec.{Rec}
 use Rattle.fw_bag.specs.Keyed.{is_among, sums_of, distinct_keys}
 use Rattle.fw_flow.specs.declared.event.Event.{Event}
 use Rattle.fw_flow.specs.declared.event.Event.TheVariants.{Inject, Deliver, Notify}
 use Rattle.fw_flow.specs.declared.event.Message.{Message}
 use Rattle.fw_flow.specs.declared.kind.Kind.{Kind}
-use Rattle.fw_flow.specs.declared.kind.Kind.TheVariants.{Distinct, Enter, Total, Sequence}
-use Rattle.fw_flow.specs.Dataflow.{System, Dataflow, kind_of, bounds_of_domain, domain_of_kind, parent_of, greatest_number, send_stamp_of_kind}
+use Rattle.fw_flow.specs.declared.kind.Kind.TheVariants.{Distinct, Total, Sequence}
+use Rattle.fw_flow.specs.Dataflow.{System, Dataflow, kind_of, greatest_number, send_stamp_of_kind}
 use Rattle.fw_flow.specs.NodeFunction.{event_node, event_stamp, delivered_recs, recs_on_delivery, recs_on_notification, recs_on, messages_at, numbered_messages, sequence_sent, messages_at_some, sends_of_kind, sends, sent_by}
 use Rattle.fw_flow.specs.Projection.{events_at}
-use Rattle.fw_flow.specs.WellFormed.{IsWellFormed, IsGroupSize}
 use Rattle.fw_plain.specs.declared.scan.arrivals.Wanted.TheVariants.{At, UpTo}
 use Rattle.fw_plain.specs.Wanted.{is_wanted}
 use Rattle.fw_plain.proofs.EventSteps.{history_last, history_more}
-use Rattle.fw_flow.proofs.Chains.{greatest-length, loops-few, parent-few}
 use Rattle.fw_flow.proofs.EdgeLaws.{kind-past}
 use Rattle.fw_model.specs.History.{AreAtNodes}
-
--- ---- stamps
-
-pub record IsShort (t : Stamp) : Type 0 where
-  pub some : 0 < length t
-  pub few : length t ≤ 4
-
--- a stamp of a kind's domain has the epoch's coordinate, and one for each loop it is in
-pub domain_length : (flow : Dataflow) (kind : Kind) (t : Stamp) → in_domain (bounds_of_domain flow (domain_of_kind flow kind)) t ≡ true → IsShort t
-domain_length flow kind t e =
-    let d = domain_of_kind flow kind in
-    let l = leq-length t _ e in
-    let g = greatest-length flow d in
-    let f = loops-few flow d in
-    record { some = omega arith; few = omega arith }
-
--- what a loop is entered from has room for one more
-pub entered_length : (flow : Dataflow) (kind : Kind) (l : ℕ) (t : Stamp) → kind ≡ Enter l
-    → in_domain (bounds_of_domain flow (domain_of_kind flow kind)) t ≡ true → length t < 4
-entered_length flow kind l t k e =
-    let a = leq-length t _ (sym (ap (λ x. in_domain (bounds_of_domain flow (domain_of_kind flow x)) t) k) ∙ e) in
-    let g = greatest-length flow (parent_of flow l) in
-    let f = parent-few flow l in
-    omega arith
-
-pub regrouped_first : (n : ℕ) (t : Stamp) → 0 < length t → regrouped_stamp n t ≡ Some ((slice_index t 0 / n) ∷ [])
-regrouped_first n [] l = absurd (omega arith)
-regrouped_first n (x ∷ t) l = refl
 
 -- ---- recs
 
@@ -175,9 +143,6 @@ pub sends_some : (sys : System) (p : ℕ) (kind : Kind) (vs : List Event) (v : E
 unfolding sends
 sends_some sys p kind vs v at k h e =
     ap (λ x. sends_of_kind sys x vs v) (sym k) ∙ sends-other sys kind vs v h ∙ ap (λ o. messages_at_some o (event_stamp v) (recs_on sys kind vs v)) (sym e)
-
-pub group_size : (flow : Dataflow) (p : ℕ) → IsWellFormed flow → p < length flow.nodes → IsGroupSize (kind_of flow p)
-group_size flow p w l = w.limits.groups p l
 
 -- ---- what a node sends
 

@@ -16,11 +16,11 @@ use Rattle.fw_flow.specs.declared.kind.Kind.TheVariants.{OutputEpoch, OutputNumb
 use Rattle.fw_flow.specs.declared.kind.Policy.{Policy}
 use Rattle.fw_flow.specs.declared.kind.Policy.TheVariants as policy
 use Rattle.fw_flow.specs.declared.step.Step.TheVariants.{Progress, Checkpoint, Persist, Fail, Recover, Collect, Ack}
-use Rattle.fw_flow.specs.Dataflow.{System, Dataflow, kind_of, policy_of, bounds_of, greatest_of, greatest_number, domain_of_kind, is_output_kind, node_ids, node_frontier}
+use Rattle.fw_flow.specs.Dataflow.{System, Dataflow, kind_of, policy_of, bounds_of, greatest_of, greatest_number, domain_of_kind, is_output_kind, node_ids, node_frontier, is_one_of}
 use Rattle.fw_model.specs.Choice.{cut_of, filtered_history, kept, IsLargest, IsWatermark}
 use Rattle.fw_model.specs.History.{IsComplete}
 use Rattle.fw_model.specs.Machine.{Machine, Write, events, no_stamps, front_of, is_failed, ack_count_of, family_of, AreCanonical}
-use Rattle.fw_model.specs.Steps.{MayAcknowledge, HasSomethingAt, StepsTo, CutsTo, IsSettledCut, AcknowledgesOldest, checkpoint_of, eager_writes, is_asked_for_checkpoints, is_in_flight, is_one_of, newest_checkpoint, without_lost, kept_writes, collected_writes, front_of_cut, offers, recs_at_output, silent, acked, cuts, lows, did, idle}
+use Rattle.fw_model.specs.Steps.{MayAcknowledge, HasSomethingAt, StepsTo, CutsTo, IsSettledCut, AcknowledgesOldest, checkpoint_of, eager_writes, is_asked_for_checkpoints, is_in_flight, newest_checkpoint, without_lost, kept_writes, collected_writes, front_of_cut, offers, recs_at_output, silent, acked, cuts, lows, did, idle}
 use Rattle.fw_model.specs.Writes.{takes_checkpoints}
 use Rattle.fw_model.proofs.AskedLaws.{takes-declared}
 use Rattle.fw_model.proofs.ChoiceLaws.{largest-one}
@@ -33,7 +33,8 @@ use Rattle.fw_plain.specs.Fronts.{grows, any_grows, IsGrown, AreGrown, IsCut, Ar
 use Rattle.fw_plain.specs.Past.{Past, cut_past}
 use Rattle.fw_plain.specs.Writes.{MayAskCheckpoint, without_batches}
 use Rattle.fw_plain.proofs.PastLaws.{cut_is_filtered}
-use Rattle.fw_plain.proofs.FrontsLaws.{grows-at, grows-by, any_grows-at, any_grows-by, front-same, same-front}
+use Rattle.fw_frontier.proofs.SameLaws.{same_front-itself, same_front-is}
+use Rattle.fw_plain.proofs.FrontsLaws.{grows-at, grows-by, any_grows-at, any_grows-by}
 
 -- ---- progress
 
@@ -142,10 +143,10 @@ acknowledges sys state o x recs m e = (x, m, refl, ap (λ rs. acked o (x ∷ [])
 -- one of the nodes is live exactly where one of them is a node of the flow that is not failed
 live-at : (failed : List Bool) (ps : List ℕ) (p : ℕ) → p < length failed → slice_index_or failed p false ≡ false → is_one_of p ps ≡ true → any_live failed ps ≡ true
 live-at failed [] p l n o = absurd (cc)
-live-at failed (q ∷ ps) p l n o = elim (or_cases (p == q) (is_one_of p ps) o) [
+live-at failed (q ∷ ps) p l n o = elim (or_cases (q == p) (is_one_of p ps) o) [
   | inl e ↦
       or_left (not (slice_index_or failed q true)) (any_live failed ps)
-      (subst (λ r. not (slice_index_or failed r true) ≡ true) (eqb-true p q e) (ap not (within failed p l ∙ n)))
+      (subst (λ r. not (slice_index_or failed r true) ≡ true) (sym (eqb-true q p e)) (ap not (within failed p l ∙ n)))
   | inr r ↦ or_right (not (slice_index_or failed q true)) (any_live failed ps) (live-at failed ps p l n r)
 ]
   where
@@ -161,7 +162,7 @@ live-by failed (q ∷ ps) e = elim (or_cases (not (slice_index_or failed q true)
   | inl l ↦
       let there = flag_of failed q l in
       (q, there.0, there.1, or_left (q == q) (is_one_of q ps) (grind (arith, nat_tests)))
-  | inr r ↦ let w = live-by failed ps r in (w.0, w.1, w.2, or_right (w.0 == q) (is_one_of w.0 ps) w.3)
+  | inr r ↦ let w = live-by failed ps r in (w.0, w.1, w.2, or_right (q == w.0) (is_one_of w.0 ps) w.3)
 ]
   where
     flag_of : (xs : List Bool) (k : ℕ) → not (slice_index_or xs k true) ≡ true → (k < length xs) × (slice_index_or xs k false ≡ false)
@@ -299,10 +300,10 @@ may_ask sys state p b f g a l e n s = (
   λ t. record {
     asked = a;
     live = l;
-    newer = λ q. two_ways b (s ∙ subst (λ x. same_front f x ≡ true) (e ∙ q ∙ sym n) (front-same f)) (not-true b t);
+    newer = λ q. two_ways b (s ∙ subst (λ x. same_front f x ≡ true) (e ∙ q ∙ sym n) (same_front-itself f)) (not-true b t);
   },
   λ m. elim (cases_Bool b) [
-    | inl t ↦ absurd (m.newer (sym e ∙ same-front f g (sym s ∙ t) ∙ n))
+    | inl t ↦ absurd (m.newer (sym e ∙ same_front-is f g (sym s ∙ t) ∙ n))
     | inr u ↦ ap not u
   ],
 )

@@ -1,7 +1,7 @@
 -- For the proofs of src/failed.rt: which nodes are failed.
 use Rattle.std.specs.Prelude.{ℕ, Bool, true, false, not, ◌||◌, List, map, length, slice_index_or}
 use Rattle.std.specs.List.{list_any, range_with_len}
-use Rattle.fw_model.specs.Steps.{is_one_of}
+use Rattle.fw_flow.specs.Dataflow.{is_one_of}
 
 -- whether some node is failed
 abbrev pub any_failed : List Bool → Bool

@@ -3,9 +3,9 @@ use Rattle.std.specs.Prelude.{◌≡◌, ◌≢◌, ℕ, ◌<◌, Bool, true, fa
 use Rattle.std.specs.List.{list_any}
 use Rattle.fw_frontier.specs.Front.{Front}
 use Rattle.fw_flow.specs.declared.choice.Cut.TheVariants.{At}
-use Rattle.fw_flow.specs.Dataflow.{System, Dataflow, policy_of, bounds_of}
+use Rattle.fw_flow.specs.Dataflow.{System, Dataflow, policy_of, bounds_of, is_one_of}
 use Rattle.fw_model.specs.Machine.{Machine, SerialEvent, Write, Written, front_of, is_failed, no_stamps}
-use Rattle.fw_model.specs.Steps.{is_in_flight, is_one_of, is_kept_write, is_asked_for_checkpoints, newest_checkpoint}
+use Rattle.fw_model.specs.Steps.{is_in_flight, is_kept_write, is_asked_for_checkpoints, newest_checkpoint}
 
 -- the dataflow as a system: which batches there are plays no part in a collection
 abbrev pub without_batches : Dataflow → System

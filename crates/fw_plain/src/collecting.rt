@@ -2,7 +2,6 @@
 ghost use Rattle.std.specs.Prelude.{◌≡◌, ◌==◌, ◌&&◌, true, not, length};
 ghost use Rattle.fw_time.specs.Stamp.{in_domain};
 ghost use Rattle.fw_frontier.specs.Front.{is_within};
-ghost use Rattle.fw_flow.specs.Dataflow as flows;
 ghost use Rattle.fw_flow.specs.Dataflow.{bounds_of, node_frontier, out_edges};
 ghost use Rattle.fw_flow.specs.NodeFunction.{event_node, event_stamp};
 ghost use Rattle.fw_flow.specs.WellFormed as well_formed;
@@ -12,7 +11,7 @@ ghost use Rattle.fw_plain.specs.Past.{under_serials};
 ghost use Rattle.fw_plain.specs.Writes.{without_batches};
 
 use crate::events::Events;
-use crate::scan::{place, send_stamp, stamp};
+use crate::scan::{place, stamp};
 use crate::writes::{Write, Written};
 use fw_flow::{Event, Flow, Kind, NodeId};
 use fw_frontier::Front;
@@ -123,20 +122,8 @@ fn sends_inside(flow: &Flow, low: &[Front], node: NodeId, at: &Stamp) -> bool
     requires { in_domain (bounds_of flow.now node) at.now ≡ true }
     ensures { result ≡ steps.sends_inside (without_batches flow.now) low.now node at.now (out_edges flow.now node) }
 {
-    let sent = sent_at(flow, node, at);
+    let sent = flow.send_stamp(node, at);
     flow.out_edges(node).iter().all(|edge| is_inside_if_some(flow, low, flow.dst(*edge), &sent))
-}
-
-/// The stamp at which an event of a node at the stamp sends; none where it sends nothing.
-#[tactic(auto, using(crate::proofs::SendSteps::group_size), unfolding(fw_flow::specs::Dataflow::bounds_of))]
-fn sent_at(flow: &Flow, node: NodeId, at: &Stamp) -> Option<Stamp>
-    requires { in_domain (bounds_of flow.now node) at.now ≡ true }
-    ensures { result ≡ flows.send_stamp flow.now node at.now }
-{
-    if node.place() as usize >= flow.nodes() {
-        return None;
-    }
-    send_stamp(flow, flow.kind(node), at)
 }
 
 /// Whether the stamp, if there is one, lies below the watermark of the node.

@@ -1,8 +1,7 @@
 //! Which nodes are failed: one flag for each node.
 ghost use Rattle.std.specs.Prelude.{◌≡◌, false, true, not, ◌||◌, map, slice_index_or, IfOk};
-ghost use Rattle.fw_model.specs.Steps.{is_one_of};
 ghost use Rattle.fw_plain.specs.Failed as spec;
-ghost use Rattle.fw_flow.specs.Dataflow.{node_ids};
+ghost use Rattle.fw_flow.specs.Dataflow.{node_ids, is_one_of};
 
 use fw_flow::{Flow, NodeId};
 use std::alloc::{AllocError, Global};
@@ -67,5 +66,5 @@ fn is_failed_with(failed: bool, nodes: &[NodeId], place: usize) -> bool
 pub(crate) fn is_named(nodes: &[NodeId], place: usize) -> bool
     ensures { result ≡ is_one_of place nodes.now }
 {
-    nodes.iter().any(|node| place == node.place() as usize)
+    nodes.iter().any(|node| node.place() as usize == place)
 }

@@ -19,6 +19,5 @@ pub use complete::complete_frontiers;
 pub(crate) use complete::sent_table;
 pub use next::{injected_count, next_batch, next_message, next_notice};
 pub use outputs::recs_at;
-pub(crate) use sending::send_stamp;
 pub use sending::sent_by;
 pub use waiting::pending;

@@ -2,10 +2,9 @@
 ghost use Rattle.std.specs.Prelude.{◌≡◌, true, [], ◌∷◌, length, reverse, if◌then◌else◌, option_to_list, IfOk};
 ghost use Rattle.fw_time.specs.Stamp.{in_domain};
 ghost use Rattle.fw_bag.specs.Keyed as keyed;
-ghost use Rattle.fw_flow.specs.Dataflow.{bounds_of, bounds_of_domain, domain_of_kind, send_stamp_of_kind, system_of};
+ghost use Rattle.fw_flow.specs.Dataflow.{bounds_of, system_of};
 ghost use Rattle.fw_flow.specs.NodeFunction as function;
 ghost use Rattle.fw_flow.specs.Projection.{events_at};
-ghost use Rattle.fw_flow.specs.WellFormed.{IsGroupSize};
 ghost use Rattle.fw_model.specs.History.{AreAtNodes};
 
 use super::arrivals::{Wanted, batch, delivered_to, place, stamp};
@@ -158,29 +157,6 @@ fn recs_on(
     }
 }
 
-/// The stamp at which an event of a node of this kind at `t` sends; none where it sends nothing.
-#[tactic(auto, using(crate::proofs::SendSteps::domain_length, crate::proofs::SendSteps::regrouped_first))]
-pub(crate) fn send_stamp(flow: &Flow, kind: Kind, t: &Stamp) -> Option<Stamp>
-    requires in_domain { in_domain (bounds_of_domain flow.now (domain_of_kind flow.now kind)) t.now ≡ true }
-    requires group { IsGroupSize kind }
-    ensures { result ≡ send_stamp_of_kind flow.now kind t.now }
-{
-    match kind {
-        Kind::OutputEpoch | Kind::OutputNumber => None,
-        Kind::Enter(_) => Some(t.nest(0)),
-        Kind::Feedback(id) => {
-            if t.counter() < flow.max(id) {
-                Some(t.outer().nest(t.counter() + 1))
-            } else {
-                None
-            }
-        }
-        Kind::Leave(_) => Some(t.outer()),
-        Kind::Regroup(n) => Some(Stamp::new(&[t.at(0) / n])),
-        _ => Some(t.copy()),
-    }
-}
-
 /// The message at the stamp, of one cause.
 fn message(at: Stamp, rec: Rec, cause: &Stamp) -> Message
     ensures { result ≡ record { at = at; rec = rec; causes = cause.now ∷ [] } }
@@ -264,7 +240,7 @@ fn sent_by_sequence(
 
 /// What an event makes its node send on each of its out-edges, where these events came before it. The only error is want
 /// of memory.
-#[tactic(auto, using(crate::proofs::SendSteps::sends_past, crate::proofs::SendSteps::sends_sequence, crate::proofs::SendSteps::sends_some, crate::proofs::SendSteps::group_size), unfolding(fw_flow::specs::Dataflow::bounds_of))]
+#[tactic(auto, using(crate::proofs::SendSteps::sends_past, crate::proofs::SendSteps::sends_sequence, crate::proofs::SendSteps::sends_some))]
 pub(super) fn sends(
     alloc: Global,
     flow: &Flow,
@@ -287,7 +263,7 @@ pub(super) fn sends(
         let first = sent_by_sequence(alloc, flow, batches, node, before)?;
         return numbered_messages(alloc, first, &cause, &recs);
     }
-    let at = send_stamp(flow, kind, &cause);
+    let at = flow.send_stamp(node, &cause);
     match &at {
         Some(at) => messages_at(alloc, at, &cause, &recs),
         None => Ok(Vec::new(alloc)),

@@ -8,9 +8,9 @@ use Rattle.fw_monitor.proofs.lower.is_below.Goals as goal
 pub returns-then-not-same : goal.returns-then-not-same
 returns-then-not-same c = λ flow p.
     subst (λ (x : Cut). IsCanonicalCut (bounds_of flow p) x → (c.subset.result ≡ true) ↔ IsBelow flow p c.args.front.now x) (sym c.in-At.is)
-    (λ k. below_other flow p c.args.front.now c.in-At.other c.same.result c.subset.result c.same.ensures c.if-not-same.true (c.subset.ensures.domain (bounds_of flow p) k))
+    (λ k. below_other flow p c.args.front.now c.in-At.other c.same.result c.subset.result c.same.ensures.test c.if-not-same.true (c.subset.ensures.domain (bounds_of flow p) k))
 
 pub returns-else-not-same : goal.returns-else-not-same
 returns-else-not-same c = λ flow p.
     subst (λ (x : Cut). IsCanonicalCut (bounds_of flow p) x → (not c.same.result ≡ true) ↔ IsBelow flow p c.args.front.now x) (sym c.in-At.is)
-    (λ k. not_below flow p c.args.front.now c.in-At.other c.same.result c.same.ensures c.if-not-same.false)
+    (λ k. not_below flow p c.args.front.now c.in-At.other c.same.result c.same.ensures.test c.if-not-same.false)

@@ -12,7 +12,7 @@ returns-in-Some-checkpoint c =
     let write : Write = c.in-Some.write.now in
     let newest = c.in-Some-checkpoint.newest.now in
     let last : ws ≡ before ++ write ∷ [] = c.in-Some.ensures.cases.0 in
-    c.same.ensures
+    c.same.ensures.test
     ∙ ap (same_front c.args.front.now)
     (sym (newest_found c.args.node c.args.other.now newest ws before write (option_copied c.checkpoint.result) last c.checkpoint.ensures (ap option_copied c.in-Some-checkpoint.is))
     ∙ c.loop-write.invariant)

@@ -1,6 +1,6 @@
 use Rattle.std.proofs.Common.{ℕ, Bool, ◌||◌, false, List, [], ◌∷◌, ◌++◌, slice_index_or, sym, ◌∙◌, ap, arith}
 use Rattle.std.proofs.lemmas.List.FromFn.{map-range_with_len_more}
-use Rattle.fw_model.specs.Steps.{is_one_of}
+use Rattle.fw_flow.specs.Dataflow.{is_one_of}
 use Rattle.fw_plain.proofs.failed.with_failed.Goals as goal
 
 pub loop-place-preserved : goal.loop-place-preserved

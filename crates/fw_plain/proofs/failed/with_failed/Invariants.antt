@@ -1,6 +1,6 @@
 use Rattle.std.proofs.Common.{◌≡◌, ◌||◌, false, map, slice_index_or}
 use Rattle.std.specs.List.{range_with_len}
-use Rattle.fw_model.specs.Steps.{is_one_of}
+use Rattle.fw_flow.specs.Dataflow.{is_one_of}
 use Rattle.fw_plain.proofs.failed.with_failed.Given as goal
 
 abbrev pub invariant-loop-place : goal.invariant-loop-place

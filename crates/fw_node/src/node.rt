@@ -11,7 +11,6 @@ use std::alloc::Global;
 ///
 /// A call that takes memory may be refused it: the node still stands for what came before. Where it was refused to a call
 /// that changes the node, each later call that takes memory fails too; `totals_at` changes nothing, and leaves no mark.
-#[derive(Drop)]
 pub struct Node {
     pub(crate) table: Table,
     pub(crate) sides: Vec<EdgeId>,
@@ -19,4 +18,20 @@ pub struct Node {
     pub(crate) alloc: Global,
     pub(crate) refused: bool,
     ghost fits: { dimension_of table ≡ length bounds.greatest },
+}
+
+// Written out, so that it is one call wherever a node is let go.
+impl Drop for Node {
+    fn drop(self) {
+        let Node {
+            table,
+            sides,
+            bounds,
+            alloc: _,
+            refused: _,
+        } = self;
+        drop(table);
+        drop(sides);
+        drop(bounds);
+    }
 }

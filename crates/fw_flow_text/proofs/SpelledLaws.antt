@@ -1,5 +1,5 @@
--- What is written is read as what it was.
-use Rattle.std.proofs.Common.{◌≡◌, ℕ, ◌+◌, ◌%◌, ◌<◌, ◌^◌, Bool, true, false, ◌&&◌, cond, not, ◌==◌, List, [], ◌∷◌, ◌++◌, Option, Some, None, refl, sym, ◌∙◌, ap, arith, codes, nat_lt, get_or, ◌||◌, inl, inr, IfSome}
+-- What is written is read as what it was, from the front.
+use Rattle.std.proofs.Common.{◌≡◌, ℕ, ◌+◌, ◌%◌, ◌<◌, ◌^◌, Bool, true, false, ◌&&◌, cond, not, ◌==◌, List, [], ◌∷◌, ◌++◌, Option, Some, None, refl, sym, ◌∙◌, ap, arith, codes, nat_lt, get_or, inl, inr, IfSome}
 use Rattle.std.proofs.lemmas.Bool.{cases_lt}
 use Rattle.std.proofs.lemmas.Bool.Decides.{nat_tests}
 use Rattle.std.proofs.lemmas.Fmt.{decimal_is_IsNumeral, decimal_by_steps, first_decimal, decimal_digit}
@@ -32,12 +32,8 @@ use Rattle.fw_flow.specs.declared.raw.Declaration.TheVariants.{Loop, Node, Edge}
 use Rattle.fw_flow.specs.declared.raw.RawKind.{RawKind}
 use Rattle.fw_flow.specs.declared.raw.RawKind.TheVariants.{Input, OutputEpoch, OutputNumber, Select, Concat, Distinct, Join, Sum, Enter, Feedback, Leave, Total, Sequence, Ledger, Regroup}
 use Rattle.fw_flow_text.specs.declared.node.NodeForm.{NodeForm}
-use Rattle.fw_flow_text.specs.Endings.{name_of, policy_named, policy_at_end, ending_within, ending_outside, ending_of, parent_named, parent_at_end}
-use Rattle.fw_flow_text.specs.Forms.{output_kind, within_kind, leading_kind, lone_kind, input_form, output_form, select_form, regroup_form, within_form, leading_form, lone_form, shape_form, node_form, node_declaration, edge_declaration, loop_of, loop_declaration, declaration_of}
-use Rattle.fw_flow_text.specs.Laws.{DeclarationsAreReadBack}
-use Rattle.fw_flow_text.specs.Select.{condition_of, sum_value, plain_value, plain_part, value_part, assignment_part, selection_part}
-use Rattle.fw_flow_text.specs.Spelled.{field_word, comparison_word, term_word, value_words, assignment_words, selection_words, policy_words, ending_words, node_words, parent_words, IsSmallTerm, IsSmallValue, IsSmallAssignment, IsSmall, IsName, IsWritableNode}
-use Rattle.fw_flow_text.specs.Words.{marked_number, numeral_of, field_of, comparison_of, term_of, term_from, value_from}
+use Rattle.fw_flow_text.specs.Spelled.{field_word, comparison_word, term_word, value_words, assignment_words, selection_words, policy_words, ending_words, node_words, parent_words, declaration_words, IsSmallTerm, IsSmallValue, IsSmallAssignment, IsSmall, IsName, IsWritableNode, IsWritable}
+use Rattle.fw_flow_text.proofs.Reading.{value_in, numeral_of, field_of, comparison_of, term_of, term_from, value_from, name_of, policy_named, policy_at_end, ending_within, ending_outside, ending_of, parent_named, parent_at_end, condition_of, sum_value, plain_value, with_rest, value_part, assignment_part, selection_part, output_kind, within_kind, leading_kind, lone_kind, input_form, output_form, select_form, regroup_form, within_form, leading_form, lone_form, shape_form, node_form, node_declaration, edge_declaration, loop_of, loop_declaration, declaration_of}
 
 named : (name : List ℕ) → is_name name ≡ true → name_of name ≡ Some name
 named name e = ap (λ b. cond b (Some name) None) e
@@ -81,7 +77,7 @@ numeral_from (b ∷ []) e h = first_true (is_ascii_digit b) true e
 numeral_from (b ∷ c ∷ bs) e h = ap (λ t. t && list_all is_ascii_digit (b ∷ c ∷ bs)) (not_zero b h) ∙ e
 
 -- the digits of a number are a numeral
-decimal_numeral : (n : ℕ) → n < 2 ^ 64 → is_numeral (decimal n) ≡ true
+pub decimal_numeral : (n : ℕ) → n < 2 ^ 64 → is_numeral (decimal n) ≡ true
 decimal_numeral n h =
     elim (cases_lt n 10) [
       | inl small ↦ ap is_numeral (decimal_digit n small) ∙ first_true (is_ascii_digit (48 + n)) true (all_digits-one n small)
@@ -91,13 +87,13 @@ decimal_numeral n h =
 is_small : (n : ℕ) → n < 2 ^ 64 → nat_lt n (2 ^ 64) ≡ true
 is_small n h = grind (arith, nat_tests, h)
 
-numeral_read : (n : ℕ) → n < 2 ^ 64 → numeral_of (decimal n) ≡ Some (n, false)
+pub numeral_read : (n : ℕ) → n < 2 ^ 64 → numeral_of (decimal n) ≡ Some n
 unfolding numeral_of number_of
 numeral_read n h =
     let small : ℕ → Number = λ v. cond (nat_lt v (2 ^ 64)) (number.Value v) number.TooLarge in
-    ap (λ b. marked_number (cond b (small (digits_value 10 (decimal n))) number.NotANumber)) (decimal_numeral n h)
-    ∙ ap (λ v. marked_number (small v)) (decimal_is_IsNumeral n h).1
-    ∙ ap (λ b. marked_number (cond b (number.Value n) number.TooLarge)) (is_small n h)
+    ap (λ b. value_in (cond b (small (digits_value 10 (decimal n))) number.NotANumber)) (decimal_numeral n h)
+    ∙ ap (λ v. value_in (small v)) (decimal_is_IsNumeral n h).1
+    ∙ ap (λ b. value_in (cond b (number.Value n) number.TooLarge)) (is_small n h)
 
 unequal : (word text : List ℕ) → is_numeral text ≡ false → is_numeral word ≡ true → bytes_eq word text ≡ false
 unequal word text f e = by_test (bytes_eq word text) refl
@@ -115,29 +111,29 @@ no_field word e =
     ap (λ b. cond b (Some Key) (cond (bytes_eq word (codes "value")) (Some Value) None)) (unequal word (codes "key") refl e)
     ∙ ap (λ b. cond b (Some Value) None) (unequal word (codes "value") refl e)
 
-term_read : (t : Term) → IsSmallTerm t → term_of (term_word t) ≡ Some (t, false)
+term_read : (t : Term) → IsSmallTerm t → term_of (term_word t) ≡ Some t
 unfolding term_of
 term_read (term.Number n) h =
     ap (λ f. term_from f (numeral_of (decimal n))) (no_field (decimal n) (decimal_numeral n h)) ∙ ap (term_from None) (numeral_read n h)
 term_read (term.Field field) h = ap (λ f. term_from f (numeral_of (field_word field))) (field_read field)
 
-condition_read : (field : Field) (comparison : Comparison) (t : Term) → IsSmallTerm t
-    → condition_of (field_word field) (comparison_word comparison) (term_word t) ≡ Some (record { field = field; comparison = comparison; term = t }, false)
+pub condition_read : (field : Field) (comparison : Comparison) (t : Term) → IsSmallTerm t
+    → condition_of (field_word field) (comparison_word comparison) (term_word t) ≡ Some (record { field = field; comparison = comparison; term = t })
 unfolding condition_of
 condition_read field comparison t h =
-    let whole : Field → Comparison → Term × Bool → Option (Condition × Bool) = λ f c u. Some (record { field = f; comparison = c; term = u.0 }, u.1) in
+    let whole : Field → Comparison → Term → Option Condition = λ f c u. Some (record { field = f; comparison = c; term = u }) in
     ap (option_and_then (λ f. option_and_then (λ c. option_and_then (whole f c) (term_of (term_word t))) (comparison_of (comparison_word comparison)))) (field_read field)
     ∙ ap (option_and_then (λ c. option_and_then (whole field c) (term_of (term_word t)))) (comparison_read comparison)
     ∙ ap (option_and_then (whole field comparison)) (term_read t h)
 
-plain_value_read : (t : Term) → IsSmallTerm t → plain_value (term_word t) ≡ Some (value_from t, false)
+plain_value_read : (t : Term) → IsSmallTerm t → plain_value (term_word t) ≡ Some (value_from t)
 plain_value_read t h =
-    let whole : Term × Bool → Option (NewValue × Bool) = λ u. Some (value_from u.0, u.1) in
+    let whole : Term → Option NewValue = λ u. Some (value_from u) in
     ap (option_and_then whole) (term_read t h)
 
-sum_value_read : (field : Field) (n : ℕ) → n < 2 ^ 64 → sum_value (field_word field) (decimal n) ≡ Some (new.FieldPlus field n, false)
+sum_value_read : (field : Field) (n : ℕ) → n < 2 ^ 64 → sum_value (field_word field) (decimal n) ≡ Some (new.FieldPlus field n)
 sum_value_read field n h =
-    let whole : Field → ℕ × Bool → Option (NewValue × Bool) = λ f m. Some (new.FieldPlus f m.0, m.1) in
+    let whole : Field → ℕ → Option NewValue = λ f m. Some (new.FieldPlus f m) in
     ap (option_and_then (λ f. option_and_then (whole f) (numeral_of (decimal n)))) (field_read field)
     ∙ ap (option_and_then (whole field)) (numeral_read n h)
 
@@ -170,57 +166,49 @@ parent_read (Some name) h =
 
 -- ---- selections
 
-plain_read : (word : List ℕ) (v : NewValue) (rest : List (List ℕ)) → plain_value word ≡ Some (v, false) → plain_part word rest ≡ Some (v, false, rest)
-plain_read word v rest e =
-    let whole : NewValue × Bool → Option (NewValue × Bool × List (List ℕ)) = λ u. Some (u.0, u.1, rest) in
-    ap (option_and_then whole) e
-
-value_read : (v : NewValue) (within : Option (List ℕ)) (p : Policy) → IsSmallValue v → value_part (value_words v ++ ending_words within p) ≡ Some (v, false, ending_words within p)
+pub value_read : (v : NewValue) (within : Option (List ℕ)) (p : Policy) → IsSmallValue v → value_part (value_words v ++ ending_words within p) ≡ Some (v, ending_words within p)
 unfolding value_part
-value_read (new.Number n) None p h = plain_read (decimal n) (new.Number n) (ending_words None p) (plain_value_read (term.Number n) h)
-value_read (new.Number n) (Some name) p h = plain_read (decimal n) (new.Number n) (ending_words (Some name) p) (plain_value_read (term.Number n) h)
-value_read (new.Field field) None p h = plain_read (field_word field) (new.Field field) (ending_words None p) (plain_value_read (term.Field field) tt)
-value_read (new.Field field) (Some name) p h = plain_read (field_word field) (new.Field field) (ending_words (Some name) p) (plain_value_read (term.Field field) tt)
-value_read (new.FieldPlus field n) within p h =
-    let whole : NewValue × Bool → Option (NewValue × Bool × List (List ℕ)) = λ u. Some (u.0, u.1, ending_words within p) in
-    ap (option_and_then whole) (sum_value_read field n h)
+value_read (new.Number n) None p h = ap (with_rest (ending_words None p)) (plain_value_read (term.Number n) h)
+value_read (new.Number n) (Some name) p h = ap (with_rest (ending_words (Some name) p)) (plain_value_read (term.Number n) h)
+value_read (new.Field field) None p h = ap (with_rest (ending_words None p)) (plain_value_read (term.Field field) tt)
+value_read (new.Field field) (Some name) p h = ap (with_rest (ending_words (Some name) p)) (plain_value_read (term.Field field) tt)
+value_read (new.FieldPlus field n) within p h = ap (with_rest (ending_words within p)) (sum_value_read field n h)
 
-assignment_read : (a : Option Assignment) (within : Option (List ℕ)) (p : Policy) → IsSmallAssignment a → assignment_part (assignment_words a ++ ending_words within p) ≡ Some (a, false, ending_words within p)
+assignment_read : (a : Option Assignment) (within : Option (List ℕ)) (p : Policy) → IsSmallAssignment a → assignment_part (assignment_words a ++ ending_words within p) ≡ Some (a, ending_words within p)
 unfolding assignment_part
 assignment_read None None p h = refl
 assignment_read None (Some name) p h = refl
 assignment_read (Some a) within p h =
-    let whole : Field → NewValue × Bool × List (List ℕ) → Option (Option Assignment × Bool × List (List ℕ)) = λ f u. Some (Some (record { field = f; value = u.0 }), u.1, u.2) in
+    let whole : Field → NewValue × List (List ℕ) → Option (Option Assignment × List (List ℕ)) = λ f u. Some (Some (record { field = f; value = u.0 }), u.1) in
     ap (option_and_then (λ f. option_and_then (whole f) (value_part (value_words a.value ++ ending_words within p)))) (field_read a.field)
     ∙ ap (option_and_then (whole a.field)) (value_read a.value within p h)
 
-selection_read : (s : Selection) (within : Option (List ℕ)) (p : Policy) → IsSmall s → selection_part (selection_words s ++ ending_words within p) ≡ Some (s, false, ending_words within p)
+selection_read : (s : Selection) (within : Option (List ℕ)) (p : Policy) → IsSmall s → selection_part (selection_words s ++ ending_words within p) ≡ Some (s, ending_words within p)
 unfolding selection_part
 selection_read s within p small =
-    let whole : Condition × Bool → Option Assignment × Bool × List (List ℕ) → Option (Selection × Bool × List (List ℕ)) =
-    λ c a. Some (record { condition = c.0; assignment = a.0 }, c.1 || a.1, a.2) in
+    let whole : Condition → Option Assignment × List (List ℕ) → Option (Selection × List (List ℕ)) = λ c a. Some (record { condition = c; assignment = a.0 }, a.1) in
     ap (option_and_then (λ c. option_and_then (whole c) (assignment_part (assignment_words s.assignment ++ ending_words within p)))) (condition_read s.condition.field s.condition.comparison s.condition.term small.term)
-    ∙ ap (option_and_then (whole (s.condition, false))) (assignment_read s.assignment within p small.assignment)
+    ∙ ap (option_and_then (whole s.condition)) (assignment_read s.assignment within p small.assignment)
 
 -- ---- nodes
 
--- a node of this kind and policy, with small numbers
+-- a node of this kind and policy
 abbrev form_of : RawKind → Policy → NodeForm
-form_of k p = record { kind = k; policy = p; is_large = false }
+form_of k p = record { kind = k; policy = p }
 
 select_read : (s : Selection) (within : Option (List ℕ)) (p : Policy) → IsSmall s → IfSome within IsName → select_form (selection_words s ++ ending_words within p) ≡ Some (form_of (Select s within) p)
 unfolding select_form
 select_read s within p small h =
-    let whole : Selection × Bool × List (List ℕ) → Option (List ℕ) × Policy → Option NodeForm = λ u e. Some (record { kind = Select u.0 e.0; policy = e.1; is_large = u.1 }) in
-    ap (option_and_then (λ u. option_and_then (whole u) (ending_of u.2))) (selection_read s within p small)
-    ∙ ap (option_and_then (whole (s, false, ending_words within p))) (ending_read within p h)
+    let whole : Selection × List (List ℕ) → Option (List ℕ) × Policy → Option NodeForm = λ u e. Some (form_of (Select u.0 e.0) e.1) in
+    ap (option_and_then (λ u. option_and_then (whole u) (ending_of u.1))) (selection_read s within p small)
+    ∙ ap (option_and_then (whole (s, ending_words within p))) (ending_read within p h)
 
 regroup_read : (n : ℕ) (p : Policy) → n < 2 ^ 64 → regroup_form (decimal n ∷ policy_words p) ≡ Some (form_of (Regroup n) p)
 unfolding regroup_form
 regroup_read n p h =
-    let whole : ℕ × Bool → Policy → Option NodeForm = λ u q. Some (record { kind = Regroup u.0; policy = q; is_large = u.1 }) in
+    let whole : ℕ → Policy → Option NodeForm = λ u q. Some (form_of (Regroup u) q) in
     ap (option_and_then (λ u. option_and_then (whole u) (policy_at_end (policy_words p)))) (numeral_read n h)
-    ∙ ap (option_and_then (whole (n, false))) (policy_read p)
+    ∙ ap (option_and_then (whole n)) (policy_read p)
 
 within_read : (word : List ℕ) (k : Option (List ℕ) → RawKind) (within : Option (List ℕ)) (p : Policy) → ((w : Option (List ℕ)) → within_kind w word ≡ Some (k w)) → IfSome within IsName
     → within_form word (ending_words within p) ≡ Some (form_of (k within) p)
@@ -288,14 +276,14 @@ unwritten : (k : RawKind) (p : Policy) → p ≡ policy.None → Some (form_of k
 unwritten k p e = ap (λ q. Some (form_of k q)) (sym e)
 
 -- the node of a name, from its form
-node_from : (name word : List ℕ) (rest : List (List ℕ)) (k : RawKind) (p : Policy) → IsName name → node_form word rest ≡ Some (form_of k p) → node_declaration (name ∷ word ∷ rest) ≡ Some (Node name k p, false)
+node_from : (name word : List ℕ) (rest : List (List ℕ)) (k : RawKind) (p : Policy) → IsName name → node_form word rest ≡ Some (form_of k p) → node_declaration (name ∷ word ∷ rest) ≡ Some (Node name k p)
 unfolding node_declaration
 node_from name word rest k p e form =
-    let whole : List ℕ → NodeForm → Option (Declaration × Bool) = λ n f. Some (Node n f.kind f.policy, f.is_large) in
+    let whole : List ℕ → NodeForm → Option Declaration = λ n f. Some (Node n f.kind f.policy) in
     ap (option_and_then (λ n. option_and_then (whole n) (node_form word rest))) (named name e)
     ∙ ap (option_and_then (whole name)) form
 
-node_read : (name : List ℕ) (k : RawKind) (p : Policy) → IsName name → IsWritableNode k p → node_declaration (name ∷ node_words k p) ≡ Some (Node name k p, false)
+node_read : (name : List ℕ) (k : RawKind) (p : Policy) → IsName name → IsWritableNode k p → node_declaration (name ∷ node_words k p) ≡ Some (Node name k p)
 unfolding node_form input_form output_form output_kind within_kind leading_kind lone_kind
 node_read name Input p e w = node_from name (codes "input") [] Input p e (unwritten Input p w.written)
 node_read name OutputEpoch p e w = node_from name (codes "output") (codes "epoch" ∷ []) OutputEpoch p e (unwritten OutputEpoch p w.written)
@@ -315,24 +303,25 @@ node_read name (Regroup n) p e w = node_from name (codes "regroup") (decimal n �
 
 -- ---- declarations
 
-edge_read : (name sender receiver : List ℕ) → IsName name → IsName sender → IsName receiver → edge_declaration (name ∷ sender ∷ receiver ∷ []) ≡ Some (Edge name sender receiver, false)
+edge_read : (name sender receiver : List ℕ) → IsName name → IsName sender → IsName receiver → edge_declaration (name ∷ sender ∷ receiver ∷ []) ≡ Some (Edge name sender receiver)
 unfolding edge_declaration
 edge_read name sender receiver e f g =
-    ap (λ n. option_and_then (λ x. option_and_then (λ y. option_and_then (λ z. Some (Edge x y z, false)) (name_of receiver)) (name_of sender)) n) (named name e)
-    ∙ ap (λ n. option_and_then (λ y. option_and_then (λ z. Some (Edge name y z, false)) (name_of receiver)) n) (named sender f)
-    ∙ ap (λ n. option_and_then (λ z. Some (Edge name sender z, false)) n) (named receiver g)
+    ap (λ n. option_and_then (λ x. option_and_then (λ y. option_and_then (λ z. Some (Edge x y z)) (name_of receiver)) (name_of sender)) n) (named name e)
+    ∙ ap (λ n. option_and_then (λ y. option_and_then (λ z. Some (Edge name y z)) (name_of receiver)) n) (named sender f)
+    ∙ ap (λ n. option_and_then (λ z. Some (Edge name sender z)) n) (named receiver g)
 
 loop_read : (name : List ℕ) (max : ℕ) (parent : Option (List ℕ)) → IsName name → max < 2 ^ 64 → IfSome parent IsName
-    → loop_declaration (name ∷ codes "max" ∷ decimal max ∷ parent_words parent) ≡ Some (Loop name max parent, false)
+    → loop_declaration (name ∷ codes "max" ∷ decimal max ∷ parent_words parent) ≡ Some (Loop name max parent)
 unfolding loop_declaration loop_of
 loop_read name max parent e small h =
-    let whole : List ℕ → ℕ × Bool → Option (List ℕ) → Option (Declaration × Bool) = λ n m l. Some (Loop n m.0 l, m.1) in
+    let whole : List ℕ → ℕ → Option (List ℕ) → Option Declaration = λ n m l. Some (Loop n m l) in
     ap (option_and_then (λ n. option_and_then (λ m. option_and_then (whole n m) (parent_at_end (parent_words parent))) (numeral_of (decimal max)))) (named name e)
     ∙ ap (option_and_then (λ m. option_and_then (whole name m) (parent_at_end (parent_words parent)))) (numeral_read max small)
-    ∙ ap (option_and_then (whole name (max, false))) (parent_read parent h)
+    ∙ ap (option_and_then (whole name max)) (parent_read parent h)
 
-pub declarations_are_read_back : DeclarationsAreReadBack
+-- a declaration that can be written is read of its words
+pub declaration_read : (declaration : Declaration) → IsWritable declaration → declaration_of (declaration_words declaration) ≡ Some declaration
 unfolding declaration_of
-declarations_are_read_back (Loop name max parent) w = loop_read name max parent w.0 w.1 w.2
-declarations_are_read_back (Node name k p) w = node_read name k p w.0 w.1
-declarations_are_read_back (Edge name sender receiver) w = edge_read name sender receiver w.0 w.1 w.2
+declaration_read (Loop name max parent) w = loop_read name max parent w.0 w.1 w.2
+declaration_read (Node name k p) w = node_read name k p w.0 w.1
+declaration_read (Edge name sender receiver) w = edge_read name sender receiver w.0 w.1 w.2

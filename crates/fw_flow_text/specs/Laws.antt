@@ -1,12 +1,10 @@
 -- Laws of the grammar of flows.
-use Rattle.std.specs.Prelude.{◌≡◌, ℕ, Bool, true, false, ◌||◌, List, Some}
+use Rattle.std.specs.Prelude.{◌≡◌, ℕ, Bool, true, ◌||◌, List}
 use Rattle.std.specs.List.{list_all}
 use Rattle.fw_lines.specs.Lines.{is_line_feed, is_allowed}
 use Rattle.fw_flow.specs.declared.raw.Declaration.{Declaration}
 use Rattle.fw_flow.specs.Dataflow.{Dataflow}
-use Rattle.fw_flow_text.specs.Forms.{declaration_of}
-use Rattle.fw_flow_text.specs.Grammar.{IsAccepted}
-use Rattle.fw_flow_text.specs.Spelled.{declaration_words, IsWritable}
+use Rattle.fw_flow_text.specs.Grammar.{AreWordsOf, IsAccepted}
 
 -- the bytes that a text may have: LF, and those that a line may have
 abbrev pub is_in_texts : ℕ → Bool
@@ -16,7 +14,7 @@ is_in_texts b = is_line_feed b || is_allowed b
 abbrev pub AcceptedTextsHaveAllowedBytes : Type 0
 AcceptedTextsHaveAllowedBytes = (text : List ℕ) (flow : Dataflow) → IsAccepted text flow → list_all is_in_texts text ≡ true
 
--- what is written as a declaration is declared as what it was
-abbrev pub DeclarationsAreReadBack : Type 0
-DeclarationsAreReadBack =
-    (declaration : Declaration) → IsWritable declaration → declaration_of (declaration_words declaration) ≡ Some (declaration, false)
+-- words are those of at most one declaration
+abbrev pub WordsDeclareOneThing : Type 0
+WordsDeclareOneThing =
+    (words : List (List ℕ)) (first second : Declaration) → AreWordsOf words first → AreWordsOf words second → first ≡ second

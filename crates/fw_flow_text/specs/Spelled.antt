@@ -19,6 +19,7 @@ use Rattle.fw_flow.specs.declared.raw.Declaration.{Declaration}
 use Rattle.fw_flow.specs.declared.raw.Declaration.TheVariants.{Loop, Node, Edge}
 use Rattle.fw_flow.specs.declared.raw.RawKind.{RawKind}
 use Rattle.fw_flow.specs.declared.raw.RawKind.TheVariants.{Input, OutputEpoch, OutputNumber, Select, Concat, Distinct, Join, Sum, Enter, Feedback, Leave, Total, Sequence, Ledger, Regroup}
+use Rattle.fw_flow_text.specs.declared.node.NodeForm.{NodeForm}
 use Rattle.fw_flow.specs.Check.{loop_named}
 use Rattle.fw_flow.specs.KindText.{policy_text}
 
@@ -143,6 +144,11 @@ pub record IsWritableNode (kind : RawKind) (policy : Policy) : Type 0 where
   pub loop_name : IfSome (loop_named kind) IsName
   pub numbers : IsSmallKind kind
   pub written : IsPolicyWritten kind policy
+
+-- the word of a kind and the words behind it are those of a node of this kind and policy, which can be written
+pub record AreNodeWords (word : List ℕ) (rest : List (List ℕ)) (form : NodeForm) : Type 0 where
+  pub same : word ∷ rest ≡ node_words form.kind form.policy
+  pub writable : IsWritableNode form.kind form.policy
 
 -- a declaration can be written: its names are names, its numbers are below 2^64, and no input or output has a policy
 abbrev pub IsWritable : Declaration → Type 0

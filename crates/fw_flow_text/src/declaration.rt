@@ -1,28 +1,26 @@
 //! What a line declares.
-ghost use Rattle.std.specs.Prelude.{◌≡◌, IfOk};
-ghost use Rattle.fw_lines.specs.Lines.{words_at};
-ghost use Rattle.fw_flow_text.specs.Forms as spec;
+ghost use Rattle.std.specs.Prelude.{◌∷◌, [], codes, IfOk};
+ghost use Rattle.fw_flow_text.specs.Grammar.{Finds, AreWordsOf, capped_words};
 
 use crate::ending::parent_at_end;
 use crate::node::node_form;
-use crate::words::numeral;
+use crate::words::{capped, numeral};
 use fw_flow::{Declaration, Name};
 use fw_lines::Span;
 use std::alloc::{AllocError, Global};
 
-// What a line of these words declares, and whether a number in it is 2^64 or more; `None` where the words have no form.
-#[tactic(auto, unfolding(crate::specs::Forms::declaration_of))]
+// The declaration whose form the words have.
 pub(crate) fn declaration(
     alloc: Global,
     text: &[u8],
     words: &[Span],
-) -> Result<Option<(Declaration, bool)>, AllocError>
-    ensures { IfOk result (λ found. found ≡ spec.declaration_of (words_at text.now words.now)) }
+) -> Result<Option<Declaration>, AllocError>
+    ensures { IfOk result (Finds (AreWordsOf (capped_words text.now words.now))) }
 {
     let [first, rest @ ..] = words else {
         return Ok(None);
     };
-    let first = first.of(text);
+    let first = capped(text, *first);
     if first == b"node".as_slice() {
         node(alloc, text, rest)
     } else if first == b"edge".as_slice() {
@@ -35,21 +33,16 @@ pub(crate) fn declaration(
 }
 
 // A node, from its name on.
-#[tactic(auto, unfolding(crate::specs::Forms::node_declaration))]
-fn node(
-    alloc: Global,
-    text: &[u8],
-    words: &[Span],
-) -> Result<Option<(Declaration, bool)>, AllocError>
-    ensures { IfOk result (λ found. found ≡ spec.node_declaration (words_at text.now words.now)) }
+fn node(alloc: Global, text: &[u8], words: &[Span]) -> Result<Option<Declaration>, AllocError>
+    ensures { IfOk result (Finds (AreWordsOf (codes "node" ∷ capped_words text.now words.now))) }
 {
     let [name, kind, rest @ ..] = words else {
         return Ok(None);
     };
-    let Some(name) = Name::new(alloc, name.of(text))? else {
+    let Some(name) = Name::new(alloc, capped(text, *name))? else {
         return Ok(None);
     };
-    let Some(form) = node_form(alloc, text, kind.of(text), rest)? else {
+    let Some(form) = node_form(alloc, text, capped(text, *kind), rest)? else {
         return Ok(None);
     };
     let declaration = Declaration::Node {
@@ -57,22 +50,22 @@ fn node(
         kind: form.kind,
         policy: form.policy,
     };
-    Ok(Some((declaration, form.is_large)))
+    Ok(Some(declaration))
 }
 
 // An edge, from its name on.
-#[tactic(auto, unfolding(crate::specs::Forms::edge_declaration))]
-fn edge(
-    alloc: Global,
-    text: &[u8],
-    words: &[Span],
-) -> Result<Option<(Declaration, bool)>, AllocError>
-    ensures { IfOk result (λ found. found ≡ spec.edge_declaration (words_at text.now words.now)) }
+fn edge(alloc: Global, text: &[u8], words: &[Span]) -> Result<Option<Declaration>, AllocError>
+    ensures { IfOk result (Finds (AreWordsOf (codes "edge" ∷ capped_words text.now words.now))) }
 {
     let [name, sender, receiver] = words else {
         return Ok(None);
     };
-    edge_of(alloc, name.of(text), sender.of(text), receiver.of(text))
+    edge_of(
+        alloc,
+        capped(text, *name),
+        capped(text, *sender),
+        capped(text, *receiver),
+    )
 }
 
 // The edge of these names, if they are names.
@@ -81,8 +74,8 @@ fn edge_of(
     name: &[u8],
     sender: &[u8],
     receiver: &[u8],
-) -> Result<Option<(Declaration, bool)>, AllocError>
-    ensures { IfOk result (λ found. found ≡ spec.edge_of name.now sender.now receiver.now) }
+) -> Result<Option<Declaration>, AllocError>
+    ensures { IfOk result (Finds (AreWordsOf (codes "edge" ∷ name.now ∷ sender.now ∷ receiver.now ∷ []))) }
 {
     let Some(name) = Name::new(alloc, name)? else {
         return Ok(None);
@@ -98,47 +91,48 @@ fn edge_of(
         sender,
         receiver,
     };
-    Ok(Some((declaration, false)))
+    Ok(Some(declaration))
 }
 
 // A loop, from its name on.
-#[tactic(auto, unfolding(crate::specs::Forms::loop_declaration))]
-fn a_loop(
-    alloc: Global,
-    text: &[u8],
-    words: &[Span],
-) -> Result<Option<(Declaration, bool)>, AllocError>
-    ensures { IfOk result (λ found. found ≡ spec.loop_declaration (words_at text.now words.now)) }
+fn a_loop(alloc: Global, text: &[u8], words: &[Span]) -> Result<Option<Declaration>, AllocError>
+    ensures { IfOk result (Finds (AreWordsOf (codes "loop" ∷ capped_words text.now words.now))) }
 {
     let [name, max, number, rest @ ..] = words else {
         return Ok(None);
     };
-    if max.of(text) != b"max".as_slice() {
+    if capped(text, *max) != b"max".as_slice() {
         return Ok(None);
     }
-    loop_of(alloc, text, name.of(text), number.of(text), rest)
+    loop_of(
+        alloc,
+        text,
+        capped(text, *name),
+        capped(text, *number),
+        rest,
+    )
 }
 
 // The loop of a name, with its greatest counter, and in another one where words name a parent.
-#[tactic(auto, unfolding(crate::specs::Forms::loop_of))]
 fn loop_of(
     alloc: Global,
     text: &[u8],
     name: &[u8],
     number: &[u8],
     rest: &[Span],
-) -> Result<Option<(Declaration, bool)>, AllocError>
-    ensures { IfOk result (λ found. found ≡ spec.loop_of name.now number.now (words_at text.now rest.now)) }
+) -> Result<Option<Declaration>, AllocError>
+    ensures { IfOk result (Finds (AreWordsOf
+        (codes "loop" ∷ name.now ∷ codes "max" ∷ number.now ∷ capped_words text.now rest.now))) }
 {
     let Some(name) = Name::new(alloc, name)? else {
         return Ok(None);
     };
-    let Some((max, is_large)) = numeral(number) else {
+    let Some(max) = numeral(number) else {
         return Ok(None);
     };
     let Some(parent) = parent_at_end(alloc, text, rest)? else {
         return Ok(None);
     };
     let declaration = Declaration::Loop { name, max, parent };
-    Ok(Some((declaration, is_large)))
+    Ok(Some(declaration))
 }

@@ -1,77 +1,80 @@
 //! How lines end: the loop of a node, its policy, the loop in which a loop is.
-ghost use Rattle.std.specs.Prelude.{◌≡◌, IfOk};
-ghost use Rattle.fw_lines.specs.Lines.{words_at};
-ghost use Rattle.fw_flow_text.specs.Endings as spec;
+ghost use Rattle.std.specs.Prelude.{◌≡◌, ◌∷◌, [], codes, IfOk, IfSome};
+ghost use Rattle.fw_flow.specs.KindText.{policy_text};
+ghost use Rattle.fw_flow_text.specs.Grammar.{Finds, capped_words};
+ghost use Rattle.fw_flow_text.specs.Spelled.{policy_words, ending_words, parent_words, IsName};
 
+use crate::words::capped;
 use fw_flow::{Name, Policy};
 use fw_lines::Span;
 use std::alloc::{AllocError, Global};
 
-// The loop, if one is named, and the policy with which a line ends.
-#[tactic(auto, unfolding(crate::specs::Endings::ending_of))]
+// The loop, if one is named, and the policy whose words these are.
 pub(crate) fn ending(
     alloc: Global,
     text: &[u8],
     words: &[Span],
 ) -> Result<Option<(Option<Name>, Policy)>, AllocError>
-    ensures { IfOk result (λ found. found ≡ spec.ending_of (words_at text.now words.now)) }
+    ensures { IfOk result (Finds (λ end.
+        (capped_words text.now words.now ≡ ending_words end.0 end.1) × IfSome end.0 IsName)) }
 {
-    let [word, name, rest @ ..] = words else {
-        return Ok(None);
-    };
-    if word.of(text) == b"loop".as_slice() {
-        ending_within(alloc, text, name.of(text), rest)
-    } else {
-        Ok(ending_outside(text, words))
+    match words {
+        [head, word] => Ok(ending_outside(capped(text, *head), capped(text, *word))),
+        [before, name, head, word] => ending_within(
+            alloc,
+            capped(text, *before),
+            capped(text, *name),
+            capped(text, *head),
+            capped(text, *word),
+        ),
+        _ => Ok(None),
     }
 }
 
-// The loop of a name, and the policy with which a line ends.
-#[tactic(auto, unfolding(crate::specs::Endings::ending_within))]
+// No loop, and the policy whose words these are.
+fn ending_outside(head: &[u8], word: &[u8]) -> Option<(Option<Name>, Policy)>
+    ensures { Finds (λ end. (head.now ∷ word.now ∷ [] ≡ ending_words end.0 end.1) × IfSome end.0 IsName) result }
+{
+    let policy = policy(head, word)?;
+    Some((None, policy))
+}
+
+// The loop and the policy whose words these are.
 fn ending_within(
     alloc: Global,
-    text: &[u8],
+    before: &[u8],
     name: &[u8],
-    rest: &[Span],
+    head: &[u8],
+    word: &[u8],
 ) -> Result<Option<(Option<Name>, Policy)>, AllocError>
-    ensures { IfOk result (λ found. found ≡ spec.ending_within name.now (words_at text.now rest.now)) }
+    ensures { IfOk result (Finds (λ end.
+        (before.now ∷ name.now ∷ head.now ∷ word.now ∷ [] ≡ ending_words end.0 end.1) × IfSome end.0 IsName)) }
 {
-    let Some(name) = Name::new(alloc, name)? else {
+    if before != b"loop".as_slice() {
+        return Ok(None);
+    }
+    let Some(policy) = policy(head, word) else {
         return Ok(None);
     };
-    let Some(policy) = policy_at_end(text, rest) else {
+    let Some(name) = Name::new(alloc, name)? else {
         return Ok(None);
     };
     Ok(Some((Some(name), policy)))
 }
 
-// No loop, and the policy with which a line ends.
-#[tactic(auto, unfolding(crate::specs::Endings::ending_outside))]
-fn ending_outside(text: &[u8], words: &[Span]) -> Option<(Option<Name>, Policy)>
-    ensures { result ≡ spec.ending_outside (words_at text.now words.now) }
+// The policy whose words these are.
+pub(crate) fn policy(head: &[u8], word: &[u8]) -> Option<Policy>
+    ensures { Finds (λ policy. head.now ∷ word.now ∷ [] ≡ policy_words policy) result }
 {
-    let policy = policy_at_end(text, words)?;
-    Some((None, policy))
-}
-
-// The policy with which a line ends.
-#[tactic(auto, unfolding(crate::specs::Endings::policy_at_end))]
-pub(crate) fn policy_at_end(text: &[u8], words: &[Span]) -> Option<Policy>
-    ensures { result ≡ spec.policy_at_end (words_at text.now words.now) }
-{
-    let [policy_word, name] = words else {
-        return None;
-    };
-    if policy_word.of(text) != b"policy".as_slice() {
+    if head != b"policy".as_slice() {
         return None;
     }
-    policy(name.of(text))
+    policy_named(word)
 }
 
-// The policy that a word names.
-#[tactic(auto, unfolding(crate::specs::Endings::policy_named))]
-fn policy(word: &[u8]) -> Option<Policy>
-    ensures { result ≡ spec.policy_named word.now }
+// The policy whose word this is.
+fn policy_named(word: &[u8]) -> Option<Policy>
+    ensures { Finds (λ policy. word.now ≡ policy_text policy) result }
 {
     if word == b"none".as_slice() {
         Some(Policy::None)
@@ -88,33 +91,31 @@ fn policy(word: &[u8]) -> Option<Policy>
     }
 }
 
-// The parent of a loop, if one is named, with which a line ends.
-#[tactic(auto, unfolding(crate::specs::Endings::parent_at_end))]
+// The parent of a loop, if one is named, whose words these are.
 pub(crate) fn parent_at_end(
     alloc: Global,
     text: &[u8],
     words: &[Span],
 ) -> Result<Option<Option<Name>>, AllocError>
-    ensures { IfOk result (λ found. found ≡ spec.parent_at_end (words_at text.now words.now)) }
+    ensures { IfOk result (Finds (λ parent.
+        (capped_words text.now words.now ≡ parent_words parent) × IfSome parent IsName)) }
 {
-    if words.is_empty() {
-        return Ok(Some(None));
+    match words {
+        [] => Ok(Some(None)),
+        [head, name] => parent_named(alloc, capped(text, *head), capped(text, *name)),
+        _ => Ok(None),
     }
-    let [word, name] = words else {
-        return Ok(None);
-    };
-    if word.of(text) != b"in".as_slice() {
-        return Ok(None);
-    }
-    parent(alloc, name.of(text))
 }
 
-// The parent of a name.
-#[tactic(auto, unfolding(crate::specs::Endings::parent_named))]
-fn parent(alloc: Global, word: &[u8]) -> Result<Option<Option<Name>>, AllocError>
-    ensures { IfOk result (λ found. found ≡ spec.parent_named word.now) }
+// The parent whose words these are.
+fn parent_named(alloc: Global, head: &[u8], name: &[u8]) -> Result<Option<Option<Name>>, AllocError>
+    ensures { IfOk result (Finds (λ parent.
+        (head.now ∷ name.now ∷ [] ≡ parent_words parent) × IfSome parent IsName)) }
 {
-    let Some(name) = Name::new(alloc, word)? else {
+    if head != b"in".as_slice() {
+        return Ok(None);
+    }
+    let Some(name) = Name::new(alloc, name)? else {
         return Ok(None);
     };
     Ok(Some(Some(name)))

@@ -1,12 +1,12 @@
 //! Facts about the grammar of flows, each proved as a function that does nothing.
-ghost use Rattle.fw_flow_text.specs.Laws.{AcceptedTextsHaveAllowedBytes, DeclarationsAreReadBack};
+ghost use Rattle.fw_flow_text.specs.Laws.{AcceptedTextsHaveAllowedBytes, WordsDeclareOneThing};
 
 /// An accepted text has no byte but LF and those from 32 to 126, in a comment neither.
 pub fn accepted_texts_have_allowed_bytes()
     ensures { AcceptedTextsHaveAllowedBytes }
 {}
 
-/// What is written in a form of the grammar, each of them, is declared as what it was.
-pub fn forms_are_read_back()
-    ensures { DeclarationsAreReadBack }
+/// Words are those of one declaration at most.
+pub fn words_declare_one_thing()
+    ensures { WordsDeclareOneThing }
 {}

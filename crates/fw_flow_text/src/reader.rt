@@ -1,15 +1,15 @@
 //! The reader of a whole text.
 ghost use Rattle.std.specs.Prelude.{◌≡◌, ◌⊎◌, ℕ, List, [], ◌∷◌, ◌++◌, true, false, IfOk, IfErr, MatchResult};
-ghost use Rattle.std.specs.Option.{option_map, option_to_list};
 ghost use Rattle.fw_lines.specs.Faults.{IfRefused};
-ghost use Rattle.fw_lines.specs.Lines.{words_at, said_in};
+ghost use Rattle.fw_lines.specs.Lines.{Said, words_at, said_in};
+ghost use Rattle.fw_lines.specs.declared.refusal.Code.{Code};
 ghost use Rattle.fw_lines.specs.declared.refusal.Refusal.{Refusal};
 ghost use Rattle.fw_flow.specs.Dataflow.{Dataflow};
 ghost use Rattle.fw_flow.specs.Raw.{is_new};
-ghost use Rattle.fw_flow.specs.declared.raw.Declared.{Declared};
-ghost use Rattle.fw_flow_text.specs.Grammar.{declared_by, words_fault, form_fault, IsAccepted, IsRefused};
+ghost use Rattle.fw_flow_text.specs.Grammar.{Declare, BreakAfter, IsAccepted, IsRefused};
 
 use crate::declaration::declaration;
+use crate::words::has_large;
 use fw_flow::{Declaration, Declared, Flow, RawFlow};
 use fw_lines::{Code, Line, Place, ReadFault, Refusal, line_at};
 use std::alloc::Global;
@@ -54,48 +54,28 @@ pub fn one_answer()
 
 // The declarations with what a line declares, or the rule that it breaks.
 fn read_line(alloc: Global, text: &[u8], line: &Line, raw: RawFlow) -> Result<RawFlow, ReadFault>
-    ensures sound { IfOk result (λ more. words_fault raw (words_at text.now line.now.words) ≡ None) }
-    ensures value { IfOk result (λ more. more ≡ raw ++ declared_by (said_in text.now line.now ∷ [])) }
+    ensures sound { IfOk result
+        (λ more. (code : Code) → BreakAfter raw (words_at text.now line.now.words) code → ⊥) }
+    ensures value { IfOk result (λ more. (before : List Said) → Declare before raw
+        → Declare (before ++ said_in text.now line.now ∷ []) more) }
     ensures broken { IfErr result (IfRefused (λ refusal.
-        (words_fault raw (words_at text.now line.now.words) ≡ Some refusal.code)
-        × (refusal.line ≡ line.now.number))) }
+        BreakAfter raw (words_at text.now line.now.words) refusal.code × (refusal.line ≡ line.now.number))) }
 {
     let words = line.words.as_slice();
     if words.is_empty() {
         return Ok(raw);
     }
-    let found = declaration(alloc, text, words)?;
-    declare(found, line.number, raw)
-}
-
-// The declarations with what was found on a line with words, or the rule that it breaks.
-fn declare(
-    found: Option<(Declaration, bool)>,
-    line: u32,
-    raw: RawFlow,
-) -> Result<RawFlow, ReadFault>
-    ensures sound { IfOk result (λ more. form_fault raw found ≡ None) }
-    ensures value { IfOk result (λ more. more ≡ raw
-        ++ option_to_list (option_map (λ f. record { line = line; declaration = f.0 }) found)) }
-    ensures broken { IfErr result (IfRefused (λ refusal.
-        (form_fault raw found ≡ Some refusal.code) × (refusal.line ≡ line))) }
-{
-    match sound(found) {
-        Ok(declaration) => declare_new(Declared { line, declaration }, raw),
-        Err(code) => Err(refused(code, line)),
+    let Some(declaration) = declaration(alloc, text, words)? else {
+        return Err(refused(Code::F1, line.number));
+    };
+    if has_large(text, words) {
+        return Err(refused(Code::F10, line.number));
     }
-}
-
-// The declaration that was found, or the rule that it breaks, whatever was declared before.
-fn sound(found: Option<(Declaration, bool)>) -> Result<Declaration, Code>
-    ensures ok { IfOk result (λ declaration. found ≡ Some (declaration, false)) }
-    ensures err { IfErr result (λ code. (before : List Declared) → form_fault before found ≡ Some code) }
-{
-    match found {
-        None => Err(Code::F1),
-        Some((_, true)) => Err(Code::F10),
-        Some((declaration, false)) => Ok(declaration),
-    }
+    let declared = Declared {
+        line: line.number,
+        declaration,
+    };
+    declare_new(declared, raw)
 }
 
 // The declarations with one more, or F2 where its name is not new.

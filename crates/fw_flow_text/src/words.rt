@@ -1,26 +1,55 @@
 //! What a word spells: a number, a field, a comparison.
-ghost use Rattle.std.specs.Prelude.{◌≡◌};
-ghost use Rattle.fw_flow_text.specs.Words as spec;
+ghost use Rattle.std.specs.Prelude.{◌≡◌, ◌<◌, ◌^◌};
+ghost use Rattle.std.specs.Fmt.{decimal};
+ghost use Rattle.std.specs.List.{list_any};
+ghost use Rattle.fw_lines.specs.Lines.{bytes_at};
+ghost use Rattle.fw_flow_text.specs.Grammar as grammar;
+ghost use Rattle.fw_flow_text.specs.Grammar.{Finds};
+ghost use Rattle.fw_flow_text.specs.Spelled.{field_word, comparison_word, term_word, IsSmallTerm};
 
-use fw_bag::{Comparison, Field, NewValue, Term};
-use fw_lines::{Number, number};
+use fw_bag::{Comparison, Field, Term};
+use fw_lines::{Number, Span, number};
 
-// The number that a word spells, and whether it is 2^64 or more; it then stands as 0.
-#[tactic(auto, unfolding(crate::specs::Words::numeral_of))]
-pub(crate) fn numeral(word: &[u8]) -> Option<(u64, bool)>
-    ensures { result ≡ spec.numeral_of word.now }
+// A word of a line as its form wants it: `0` stands for a number of 2^64 or more.
+#[tactic(auto, unfolding(crate::specs::Grammar::capped))]
+pub(crate) fn capped<'a>(text: &'a [u8], word: Span) -> &'a [u8]
+    ensures { result.now ≡ grammar.capped (bytes_at text.now word) }
+{
+    let bytes = word.of(text);
+    if is_large(bytes) {
+        b"0".as_slice()
+    } else {
+        bytes
+    }
+}
+
+// Whether there is a number of 2^64 or more among the words.
+pub(crate) fn has_large(text: &[u8], words: &[Span]) -> bool
+    ensures { result ≡ list_any (λ word. grammar.is_large (bytes_at text.now word)) words.now }
+{
+    words.iter().any(|word| is_large(word.of(text)))
+}
+
+// Whether the word is a number of 2^64 or more.
+fn is_large(word: &[u8]) -> bool
+    ensures { result ≡ grammar.is_large word.now }
+{
+    matches!(number(word), Number::TooLarge)
+}
+
+// The number that a word spells, if it is below 2^64.
+pub(crate) fn numeral(word: &[u8]) -> Option<u64>
+    ensures { Finds (λ n. (word.now ≡ decimal n) × (n < 2 ^ 64)) result }
 {
     match number(word) {
-        Number::Value(value) => Some((value, false)),
-        Number::TooLarge => Some((0, true)),
-        Number::NotANumber => None,
+        Number::Value(value) => Some(value),
+        Number::TooLarge | Number::NotANumber => None,
     }
 }
 
 // The field of a rec that a word names.
-#[tactic(auto, unfolding(crate::specs::Words::field_of))]
 pub(crate) fn field(word: &[u8]) -> Option<Field>
-    ensures { result ≡ spec.field_of word.now }
+    ensures { Finds (λ field. word.now ≡ field_word field) result }
 {
     match word {
         b"key" => Some(Field::Key),
@@ -30,9 +59,8 @@ pub(crate) fn field(word: &[u8]) -> Option<Field>
 }
 
 // The comparison that a word names.
-#[tactic(auto, unfolding(crate::specs::Words::comparison_of))]
 pub(crate) fn comparison(word: &[u8]) -> Option<Comparison>
-    ensures { result ≡ spec.comparison_of word.now }
+    ensures { Finds (λ comparison. word.now ≡ comparison_word comparison) result }
 {
     match word {
         b"=" => Some(Comparison::Equal),
@@ -45,14 +73,13 @@ pub(crate) fn comparison(word: &[u8]) -> Option<Comparison>
     }
 }
 
-// The term that a word spells, and whether a number is too large.
-#[tactic(auto, unfolding(crate::specs::Words::term_of))]
-pub(crate) fn term(word: &[u8]) -> Option<(Term, bool)>
-    ensures { result ≡ spec.term_of word.now }
+// The term that a word spells.
+pub(crate) fn term(word: &[u8]) -> Option<Term>
+    ensures { Finds (λ term. (word.now ≡ term_word term) × IsSmallTerm term) result }
 {
     if let Some(field) = field(word) {
-        return Some((Term::Field(field), false));
+        return Some(Term::Field(field));
     }
-    let (number, is_large) = numeral(word)?;
-    Some((Term::Number(number), is_large))
+    let number = numeral(word)?;
+    Some(Term::Number(number))
 }

@@ -1,12 +1,10 @@
--- The dataflow of the generated texts, and that its text breaks no rule of lines.
-use Rattle.std.proofs.Common.{◌≡◌, ℕ, true, List, [], ◌∷◌, Option, Some, None, is_none, refl, codes, lit≤}
+-- The dataflow of the generated texts, and that its text declares it.
+use Rattle.std.proofs.Common.{◌≡◌, ℕ, List, [], ◌∷◌, Some, None, unwrap_or, refl, sym, subst, codes, lit≤}
 use Rattle.fw_bag.specs.declared.select.Comparison.TheVariants.{Less}
 use Rattle.fw_bag.specs.declared.select.Field.TheVariants.{Value}
 use Rattle.fw_bag.specs.declared.select.NewValue.TheVariants as new
 use Rattle.fw_bag.specs.declared.select.Selection.{Selection}
 use Rattle.fw_bag.specs.declared.select.Term.TheVariants as term
-use Rattle.fw_lines.specs.declared.refusal.Code.{Code}
-use Rattle.fw_lines.specs.Faults.{fault_at, IsSound}
 use Rattle.fw_lines.specs.Lines.{said_by, said_lines}
 use Rattle.fw_lines.specs.Spelling.{number_of}
 use Rattle.fw_flow.specs.declared.kind.Kind.{Kind}
@@ -16,14 +14,13 @@ use Rattle.fw_flow.specs.declared.kind.Policy.TheVariants as policy
 use Rattle.fw_flow.specs.declared.node.Edge.{Edge}
 use Rattle.fw_flow.specs.declared.node.Node.{Node}
 use Rattle.fw_flow.specs.Dataflow.{Dataflow}
-use Rattle.fw_flow_text.specs.Endings.{policy_named, policy_at_end, ending_within, ending_outside, ending_of, parent_named, parent_at_end}
-use Rattle.fw_flow_text.specs.Forms.{output_kind, within_kind, leading_kind, lone_kind, input_form, output_form, select_form, regroup_form, within_form, leading_form, lone_form, node_form, node_declaration, edge_declaration, loop_of, loop_declaration, declaration_of}
-use Rattle.fw_flow_text.specs.Grammar.{flow_rules, line_fault}
-use Rattle.fw_flow_text.specs.Select.{condition_of, value_part, assignment_part, selection_part}
-use Rattle.fw_flow_text.specs.Words.{numeral_of, field_of, comparison_of, term_of}
-use Rattle.fw_flow_text.specs.Texts.{spelled_flow}
+use Rattle.fw_flow.specs.declared.raw.Declared.{Declared}
+use Rattle.fw_flow.specs.Raw.{flow_of}
+use Rattle.fw_flow.specs.WellFormed.{IsWellFormed}
+use Rattle.fw_flow_text.specs.Grammar.{capped, IsAccepted}
+use Rattle.fw_flow_text.proofs.DeclaredLaws.{read_lines, known_lines}
+use Rattle.fw_flow_text.proofs.Reading.{policy_named, policy_at_end, ending_within, ending_outside, ending_of, parent_named, parent_at_end, output_kind, within_kind, leading_kind, lone_kind, input_form, output_form, select_form, regroup_form, within_form, leading_form, lone_form, node_form, node_declaration, edge_declaration, loop_of, loop_declaration, declaration_of, condition_of, value_part, assignment_part, selection_part, numeral_of, field_of, comparison_of, term_of}
 use Rattle.fw_generate.specs.Texts.{flow_text}
-use Rattle.fw_generate.proofs.Below.{all_below-at}
 
 abbrev node : List ℕ → Kind → Policy → Node
 node name kind policy = record { name = name; kind = kind; policy = policy }
@@ -72,20 +69,25 @@ the_flow = record {
       ∷ [];
 }
 
--- the text declares it
-pub flow_spelled : spelled_flow flow_text ≡ the_flow
-unfolding said_by number_of policy_named policy_at_end ending_within ending_outside ending_of parent_named parent_at_end output_kind within_kind leading_kind lone_kind input_form output_form select_form regroup_form within_form leading_form lone_form node_form node_declaration edge_declaration loop_of loop_declaration declaration_of condition_of value_part assignment_part selection_part numeral_of field_of comparison_of term_of
+-- the declarations of the text
+the_declared : List Declared
+the_declared = unwrap_or (read_lines [] (said_lines flow_text)) []
+
+lines_read : read_lines [] (said_lines flow_text) ≡ Some the_declared
+unfolding the_declared said_by number_of capped policy_named policy_at_end ending_within ending_outside ending_of parent_named parent_at_end output_kind within_kind leading_kind lone_kind input_form output_form select_form regroup_form within_form leading_form lone_form node_form node_declaration edge_declaration loop_of loop_declaration declaration_of condition_of value_part assignment_part selection_part numeral_of field_of comparison_of term_of
+lines_read = refl
+
+flow_spelled : flow_of the_declared ≡ the_flow
+unfolding the_declared said_by number_of capped policy_named policy_at_end ending_within ending_outside ending_of parent_named parent_at_end output_kind within_kind leading_kind lone_kind input_form output_form select_form regroup_form within_form leading_form lone_form node_form node_declaration edge_declaration loop_of loop_declaration declaration_of condition_of value_part assignment_part selection_part numeral_of field_of comparison_of term_of
 flow_spelled = refl
 
-breaks_none : (code : Option Code) → is_none code ≡ true → code ≡ None
-breaks_none None h = refl
-breaks_none (Some code) h = absurd (cc)
-
--- the text breaks no rule of a flow's lines
-pub flow_sound : IsSound flow_rules flow_text
-unfolding said_by number_of policy_named policy_at_end ending_within ending_outside ending_of parent_named parent_at_end output_kind within_kind leading_kind lone_kind input_form output_form select_form regroup_form within_form leading_form lone_form node_form node_declaration edge_declaration loop_of loop_declaration declaration_of condition_of value_part assignment_part selection_part numeral_of field_of comparison_of term_of
-flow_sound = record {
-  size = lit≤ tt;
-  lines = λ place below. breaks_none (fault_at line_fault (said_lines flow_text) place)
-      (all_below-at (λ i. is_none (fault_at line_fault (said_lines flow_text) i)) 26 refl place below);
-}
+-- the text declares the dataflow, where that is well formed
+pub flow_declared : IsWellFormed the_flow → IsAccepted flow_text the_flow
+flow_declared well_formed =
+    let lines = known_lines (said_lines flow_text) the_declared lines_read in
+    record {
+      sound = record { size = lit≤ tt; lines = lines.0 };
+      declared = the_declared;
+      written = lines.1;
+      checked = record { well_formed = subst IsWellFormed (sym flow_spelled) well_formed; value = sym flow_spelled };
+    }

@@ -21,7 +21,7 @@ use Rattle.fw_lines.specs.Faults.{BreakNoRule, IsSound}
 use Rattle.fw_lines.specs.Inputs.{batch_of, batches_of, broken_rule, count_of, fault_of, is_batch_of, is_colon, is_large, line_fault, record_from, record_of, rules_of, source_of, words_fault}
 use Rattle.fw_lines.specs.Lines.{Said, is_allowed, is_word}
 use Rattle.fw_lines.specs.Spelling.{number_of}
-use Rattle.fw_lines.proofs.FaultLaws.{IsSoundSoFar, none_left, sound_more}
+use Rattle.fw_lines.proofs.FaultLaws.{Told, none_told, none_judged, IsSoundSoFar, none_left, sound_more}
 use Rattle.fw_time.proofs.EachLaws.{all-of_each, each-weaker}
 use Rattle.fw_generate.specs.Draws.{Words, draw, drawn_times}
 use Rattle.fw_flow.specs.Sources.{AreInputsOf}
@@ -169,27 +169,23 @@ count_of-few sources before line = by (source_of sources line)
 -- lines of the inputs break no rule, one after another
 sound_on : (sources : List (List ℕ × ℕ)) (lines : List WordLine) (number : ℕ) (all done : List Said)
     → AllByRecursion (λ line. (count : ℕ) → count < 2 ^ 20 → fault_of sources count line ≡ None) lines → length done + length lines ≤ 2 ^ 20
-    → IsSoundSoFar (line_fault sources) all (numbered number lines) done → BreakNoRule (line_fault sources) all
+    → IsSoundSoFar (Told (line_fault sources)) all (numbered number lines) done → BreakNoRule (Told (line_fault sources)) all
 sound_on sources [] number all done each few so_far =
     let last : Said = record { number = number; words = [] } in
-    (none_left (line_fault sources) all (done ++ last ∷ []) (sound_more (line_fault sources) all done last [] so_far refl)).0
+    (none_left (Told (line_fault sources)) all (done ++ last ∷ []) (sound_more (Told (line_fault sources)) all done last [] so_far (none_told (line_fault sources done last) refl))).0
 sound_on sources (line ∷ lines) number all done each few so_far =
     let said : Said = record { number = number; words = line } in
     sound_on sources lines (number + 1) all (done ++ said ∷ []) each.1 (omega (arith, length_push done said))
-    (sound_more (line_fault sources) all done said (numbered (number + 1) lines) so_far
-    (each.0 (count_of sources done line) (omega (arith, count_of-few sources done line))))
-
--- where no line is judged yet, none breaks a rule
-pub none_judged : (fault : List Said → Said → Option Code) (all : List Said) → IsSoundSoFar fault all all []
-none_judged fault all = record { parts = refl; sound = λ place below. absurd (omega arith) }
+    (sound_more (Told (line_fault sources)) all done said (numbered (number + 1) lines) so_far
+    (none_told (line_fault sources done said) (each.0 (count_of sources done line) (omega (arith, count_of-few sources done line)))))
 
 -- the inputs of each size are accepted
 pub inputs_accepted : (size : ℕ) (words : Words) → size ≤ size_limit → AreInputsOf the_flow (text_of (batch_lines size words).0)
 inputs_accepted size words h = subst (λ sources. IsSound (rules_of sources) (text_of lines)) (sym flow_sources) (record {
   size = omega (arith, joined_length line_text 59 lines (each-weaker IsBatchLine (λ line. length (line_text line) ≤ 59) lines (λ line b. b.short) each), count);
-  lines = subst (BreakNoRule (line_fault source)) (sym (said_lines-text_of lines (all-of_each is_plain_line lines (each-weaker IsBatchLine (λ line. is_plain_line line ≡ true) lines (λ line b. b.plain) each))))
+  lines = subst (BreakNoRule (Told (line_fault source))) (sym (said_lines-text_of lines (all-of_each is_plain_line lines (each-weaker IsBatchLine (λ line. is_plain_line line ≡ true) lines (λ line b. b.plain) each))))
       (sound_on source lines 1 (numbered 1 lines) [] (each-weaker IsBatchLine _ lines (λ line b. b.sound) each) (omega (arith, count))
-      (none_judged (line_fault source) (numbered 1 lines)));
+      (none_judged (Told (line_fault source)) (numbered 1 lines)));
 })
   where
     source : List (List ℕ × ℕ)

@@ -14,7 +14,7 @@ use Rattle.fw_lines.specs.declared.refusal.Code.{Code}
 use Rattle.fw_lines.specs.declared.refusal.Code.TheVariants.{S1, S4}
 use Rattle.fw_lines.specs.Faults.{BreakNoRule}
 use Rattle.fw_lines.specs.Lines.{Said}
-use Rattle.fw_lines.proofs.FaultLaws.{IsSoundSoFar, none_left, sound_more}
+use Rattle.fw_lines.proofs.FaultLaws.{Told, none_told, none_judged, IsSoundSoFar, none_left, sound_more}
 use Rattle.fw_flow.specs.declared.step.Step.TheVariants.{Checkpoint, Collect, Fail, Recover}
 use Rattle.fw_time.proofs.EachLaws.{all-of_each, each-append, each-weaker}
 use Rattle.fw_schedule.specs.declared.item.Item.{Item}
@@ -30,7 +30,7 @@ use Rattle.fw_generate.specs.Texts.{auto_line, checkpoint_lines, collect_line, f
 use Rattle.fw_generate.proofs.Below.{each_below-at}
 use Rattle.fw_generate.proofs.DrawnLaws.{drawn-each, joined_length, length-drawn}
 use Rattle.fw_generate.proofs.FlowLaws.{the_flow}
-use Rattle.fw_generate.proofs.InputLaws.{draw-below, none_judged, plain-decimal}
+use Rattle.fw_generate.proofs.InputLaws.{draw-below, plain-decimal}
 use Rattle.fw_lines.proofs.WrittenLaws.{said_lines-text_of}
 use Rattle.fw_generate.proofs.NumberLaws.{decimal_numeral, decimal_value}
 use Rattle.fw_generate.proofs.Writing.{line_of_two, text_of-schedule}
@@ -212,16 +212,16 @@ steps_more done number line a =
 
 -- lines of the schedule break no rule, one after another
 sound_on : (lines : List WordLine) (number : ℕ) (all done : List Said) → AllByRecursion IsAskingLine lines → step_count (items_of the_flow done) + steps_of lines ≤ step_limit
-    → IsSoundSoFar (line_fault the_flow) all (numbered number lines) done → BreakNoRule (line_fault the_flow) all
+    → IsSoundSoFar (Told (line_fault the_flow)) all (numbered number lines) done → BreakNoRule (Told (line_fault the_flow)) all
 sound_on [] number all done each few so_far =
     let last : Said = record { number = number; words = [] } in
-    (none_left (line_fault the_flow) all (done ++ last ∷ []) (sound_more (line_fault the_flow) all done last [] so_far refl)).0
+    (none_left (Told (line_fault the_flow)) all (done ++ last ∷ []) (sound_more (Told (line_fault the_flow)) all done last [] so_far (none_told (line_fault the_flow done last) refl))).0
 sound_on (line ∷ lines) number all done each few so_far =
     let said : Said = record { number = number; words = line } in
     let steps : steps_asked (item_of the_flow line) ≡ steps_in each.0.item = ap steps_asked each.0.asks in
     sound_on lines (number + 1) all (done ++ said ∷ []) each.1 (omega (arith, steps, few, steps_more done number line each.0))
-    (sound_more (line_fault the_flow) all done said (numbered (number + 1) lines) so_far
-    (asking_sound (step_count (items_of the_flow done)) line each.0 (omega (arith, steps, few))))
+    (sound_more (Told (line_fault the_flow)) all done said (numbered (number + 1) lines) so_far
+    (none_told (line_fault the_flow done said) (asking_sound (step_count (items_of the_flow done)) line each.0 (omega (arith, steps, few)))))
 
 -- lines that ask for few steps in few bytes are a schedule
 asked_accepted : (lines : List WordLine) → AllByRecursion IsAskingLine lines → steps_of lines ≤ step_limit → length (text_of lines) ≤ schedule_limit
@@ -231,8 +231,8 @@ asked_accepted lines each few short =
     record {
       sound = record {
         size = short;
-        lines = subst (BreakNoRule (line_fault the_flow)) (sym (said_lines-text_of lines plain))
-            (sound_on lines 1 (numbered 1 lines) [] each (omega (arith, few)) (none_judged (line_fault the_flow) (numbered 1 lines)));
+        lines = subst (BreakNoRule (Told (line_fault the_flow))) (sym (said_lines-text_of lines plain))
+            (sound_on lines 1 (numbered 1 lines) [] each (omega (arith, few)) (none_judged (Told (line_fault the_flow)) (numbered 1 lines)));
       };
       value = refl;
     }

@@ -1,5 +1,5 @@
 -- The dataflow of the generated texts is well formed, and its text is accepted.
-use Rattle.std.proofs.Common.{◌≡◌, ℕ, zero, suc, ◌<◌, true, false, [], ◌∷◌, get_or, refl, sym, subst, arith, lit<, lit≤, codes}
+use Rattle.std.proofs.Common.{◌≡◌, ℕ, zero, suc, ◌<◌, true, false, [], ◌∷◌, get_or, refl, arith, lit<, lit≤, codes}
 use Rattle.fw_flow.specs.declared.kind.Domain.TheVariants.{Epoch, Number, Loop as InLoop}
 use Rattle.fw_flow.specs.Check.{AreWalksRight}
 use Rattle.fw_flow.specs.Dataflow.{declared_parent, domain_of, in_edges, kind_of, max_of, node_at, out_edges, parent_of, policy_of, receiver, sender}
@@ -7,10 +7,10 @@ use Rattle.fw_flow.specs.Ranks.{IsWithinRound}
 use Rattle.fw_flow.specs.Sources.{sources_of}
 use Rattle.fw_flow.specs.WellFormed.{IsWellFormed, is_feedback_of}
 use Rattle.fw_flow.proofs.ByRanks.{walks-ranked}
-use Rattle.fw_flow_text.specs.Texts.{IsFlow}
+use Rattle.fw_flow_text.specs.Grammar.{IsAccepted}
 use Rattle.fw_generate.specs.Texts.{flow_text}
 use Rattle.fw_generate.proofs.Below.{each_below-at}
-use Rattle.fw_generate.proofs.FlowLaws.{flow_sound, flow_spelled, the_flow}
+use Rattle.fw_generate.proofs.FlowLaws.{flow_declared, the_flow}
 
 -- ---- closed walks
 
@@ -86,5 +86,5 @@ pub flow_sources : sources_of the_flow ≡ (codes "src", 0) ∷ []
 unfolding kind_of node_at
 flow_sources = refl
 
-pub flow_accepted : IsFlow flow_text
-flow_accepted = record { sound = flow_sound; checked = record { well_formed = subst IsWellFormed (sym flow_spelled) well_formed; value = refl } }
+pub flow_accepted : IsAccepted flow_text the_flow
+flow_accepted = flow_declared well_formed

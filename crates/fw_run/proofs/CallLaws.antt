@@ -4,7 +4,7 @@ use Rattle.std.proofs.lemmas.Bool.{false≢true}
 use Rattle.std.proofs.lemmas.Option.{same_Some}
 use Rattle.std.specs.Prelude.{IsSome}
 use Rattle.fw_lines.specs.declared.refusal.Refusal.{Refusal}
-use Rattle.fw_flow_text.specs.Grammar as flows
+use Rattle.fw_flow.specs.Dataflow.{Dataflow}
 use Rattle.fw_run.proofs.DecidedLaws.{texts-decided}
 use Rattle.fw_run.proofs.TextLaws.{one_first_refusal, one_first_of_two, accepted_or_refused, accepted_or_first_of_two, flow_or_refused, one_flow_refusal}
 use Rattle.fw_run.specs.declared.status.Status.{Status}
@@ -16,7 +16,7 @@ use Rattle.fw_run.specs.DenotationText.{PrintsDenotation}
 use Rattle.fw_run.specs.Headline.{PrintsRun}
 use Rattle.fw_run.specs.Listing.{check_text}
 use Rattle.fw_run.specs.Status.{IsTellingOf}
-use Rattle.fw_run.specs.Texts.{Texts, spelled_flow, spelled_system}
+use Rattle.fw_run.specs.Texts.{Texts, spelled_system}
 use Rattle.fw_run.specs.Words.{Command, run, denote, check}
 use Rattle.fw_run.specs.Work.{IsWork, IsTextOfWork}
 use Rattle.fw_run.specs.Writing.{WritesText}
@@ -25,28 +25,24 @@ use Rattle.fw_run.specs.Writing.{WritesText}
 
 -- what a command does of texts that are there and accepted
 told_of_work : (told : Option (List ℕ → Option (List ℕ))) (command : Command) (work : Work) → IsWork told command work
-    → (texts : Texts) × HasTexts told command texts × Accepts command texts × ((printed : List ℕ) → IsTextOfWork work printed → Prints command texts printed)
+    → (texts : Texts) × (flow : Dataflow) × HasTexts told command texts × Accepts command texts flow × ((printed : List ℕ) → IsTextOfWork work printed → Prints command texts flow printed)
 told_of_work told (run names) (Run job) j = (
   j.texts,
+  job.flow,
   j.there,
   j.accepted,
-  λ printed p. subst (λ items. PrintsRun (spelled_system j.texts) items printed) j.items (subst (λ sys. PrintsRun sys job.items printed) j.system p),
+  λ printed p. subst (λ items. PrintsRun (spelled_system job.flow j.texts) items printed) j.items (subst (λ sys. PrintsRun sys job.items printed) j.system p),
 )
 told_of_work told (run names) (Denote fed) j = absurd j
 told_of_work told (run names) (Check flow) j = absurd j
 told_of_work told (denote names) (Run job) j = absurd j
-told_of_work told (denote names) (Denote fed) j = (j.texts, j.there, j.accepted, λ printed p. subst (λ sys. PrintsDenotation sys printed) j.system p)
+told_of_work told (denote names) (Denote fed) j = (j.texts, fed.flow, j.there, j.accepted, λ printed p. subst (λ sys. PrintsDenotation sys printed) j.system p)
 told_of_work told (denote names) (Check flow) j = absurd j
 told_of_work told (check name) (Run job) j = absurd j
 told_of_work told (check name) (Denote fed) j = absurd j
 told_of_work told (check name) (Check flow) h =
-    let value : flow ≡ spelled_flow h.text = h.so.checked.value in
-    let texts : Texts = record { flow = h.text; inputs = []; schedule = [] } in (
-      texts,
-      h.there,
-      subst (flows.IsAccepted h.text) value h.so,
-      λ printed p. p ∙ ap check_text value,
-    )
+    let texts : Texts = record { flow = h.text; inputs = []; schedule = [] } in
+    (texts, flow, h.there, h.so, λ printed p. p)
 
 -- what a work prints is what the call prints that asked for it
 printout_of_work : (call : Call) (command : Command) (work : Work) (printed : List ℕ) → call.command ≡ Some command → IsWork call.told command work → IsTextOfWork work printed
@@ -55,8 +51,8 @@ printout_of_work call command work printed e j p =
     let t = told_of_work call.told command work j in
     record {
       texts = t.0;
-      accepted = record { command = command; words = e; there = t.1; accepted = t.2 };
-      text = t.3 printed p;
+      accepted = record { command = command; words = e; there = t.2; flow = t.1; accepted = t.3 };
+      text = t.4 printed p;
     }
 
 -- and so is what was written of it
@@ -67,12 +63,12 @@ prints call command work IsPut e j p = record { printed = p.printed; text = prin
 -- ---- one answer
 
 -- where the folder tells its texts, a command does not accept some and refuse one
-accepts_and_refuses : (told : Option (List ℕ → Option (List ℕ))) (command : Command) (texts : Texts) (refusal : Refusal) → IsSome told → HasTexts told command texts → Accepts command texts
+accepts_and_refuses : (told : Option (List ℕ → Option (List ℕ))) (command : Command) (texts : Texts) (flow : Dataflow) (refusal : Refusal) → IsSome told → HasTexts told command texts → Accepts command texts flow
     → Refuses told command refusal → ⊥
-accepts_and_refuses None command texts refusal s t a f = absurd (false≢true s)
-accepts_and_refuses (Some folder) (run names) texts refusal s t a f = accepted_or_refused folder names texts refusal t a f
-accepts_and_refuses (Some folder) (denote names) texts refusal s t a f = accepted_or_first_of_two folder names texts refusal t a f
-accepts_and_refuses (Some folder) (check name) texts refusal s t a f = flow_or_refused folder name texts.flow refusal t a f
+accepts_and_refuses None command texts flow refusal s t a f = absurd (false≢true s)
+accepts_and_refuses (Some folder) (run names) texts flow refusal s t a f = accepted_or_refused folder names texts flow refusal t a f
+accepts_and_refuses (Some folder) (denote names) texts flow refusal s t a f = accepted_or_first_of_two folder names texts flow refusal t a f
+accepts_and_refuses (Some folder) (check name) texts flow refusal s t a f = flow_or_refused folder name texts.flow flow refusal t a f
 
 -- nor refuse one in two ways
 refuses_once : (told : Option (List ℕ → Option (List ℕ))) (command : Command) (one other : Refusal) → IsSome told → Refuses told command one → Refuses told command other → one ≡ other
@@ -88,7 +84,7 @@ same_command command one other e f = same_Some one other (sym e ∙ f)
 -- no call has texts that are accepted and one that is refused
 accepted_and_refused : (call : Call) (texts : Texts) (refusal : Refusal) → IsSome call.told → HasAccepted call texts → HasRefused call refusal → ⊥
 accepted_and_refused call texts refusal tells a f =
-    accepts_and_refuses call.told a.command texts refusal tells a.there a.accepted
+    accepts_and_refuses call.told a.command texts a.flow refusal tells a.there a.accepted
     (subst (λ command. Refuses call.told command refusal) (same_command call.command f.command a.command f.words a.words) f.first)
 
 -- and it has one refusal

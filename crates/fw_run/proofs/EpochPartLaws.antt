@@ -1,5 +1,5 @@
 -- In a bag in order the recs of an epoch stand together.
-use Rattle.std.proofs.Common.{◌≡◌, ℕ, zero, suc, ◌+◌, ◌<◌, ◌≤◌, Bool, true, false, cond, List, [], ◌∷◌, ◌++◌, length, map, filter, take, drop, get_or, refl, sym, ◌∙◌, ap, arith, codes}
+use Rattle.std.proofs.Common.{◌≡◌, ℕ, zero, suc, ◌+◌, ◌<◌, ◌≤◌, Bool, true, false, cond, List, [], ◌∷◌, ◌++◌, length, map, filter, take, drop, get_or, refl, sym, ap, arith, codes}
 use Rattle.std.specs.Fmt.{decimal}
 use Rattle.std.specs.List.{AllByRecursion}
 use Rattle.std.specs.List.Sorted.{IsNonDecreasingBy, IsPartitionPoint}
@@ -14,6 +14,7 @@ use Rattle.fw_time.proofs.StampLaws.{same-is}
 use Rattle.fw_bag.specs.declared.rec.Rec.{Rec}
 use Rattle.fw_bag.specs.Rec.{rec_cmp}
 use Rattle.fw_flow.specs.WholeBags.{Timed, timed_cmp, recs_where, in_order}
+use Rattle.fw_model.proofs.FilterLaws.{filter-dropped, filter-none_at}
 use Rattle.fw_model.proofs.TimedLaws.{IsAscendingTimed}
 use Rattle.fw_model.proofs.DependenceLaws.{ascending-from_in_order}
 use Rattle.fw_plain.specs.EffectText.{recs_text}
@@ -57,29 +58,13 @@ bag_ascends bag o = λ i j d h l. epochs-ascend bag i j d (ascending-from_in_ord
 
 -- ---- a bag in two parts
 
-filter-none : {X : Type 0} (p : X → Bool) (xs : List X) → ((k : ℕ) (d : X) → k < length xs → p (get_or xs k d) ≡ false) → filter p xs ≡ []
-filter-none p [] h = refl
-filter-none p (x ∷ xs) h =
-    ap (λ b. cond b (x ∷ filter p xs) (filter p xs)) (h 0 x (omega arith))
-    ∙ filter-none p xs (λ k d l. h (suc k) d (omega arith))
-
 -- where what is behind does not pass, the front has all that passes
 filter-front : {X : Type 0} (p : X → Bool) (xs : List X) (i : ℕ) → ((k : ℕ) (d : X) → i ≤ k → k < length xs → p (get_or xs k d) ≡ false)
     → filter p (take i xs) ≡ filter p xs
 filter-front p [] zero h = refl
 filter-front p [] (suc i) h = refl
-filter-front p (x ∷ xs) zero h = sym (filter-none p (x ∷ xs) (λ k d l. h k d (omega arith) l))
+filter-front p (x ∷ xs) zero h = sym (filter-none_at p (x ∷ xs) (λ k d l. h k d (omega arith) l))
 filter-front p (x ∷ xs) (suc i) h = ap (λ ys. cond (p x) (x ∷ ys) ys) (filter-front p xs i (λ k d l m. h (suc k) d (omega arith) (omega arith)))
-
--- where the front does not pass, what is behind has all that passes
-filter-back : {X : Type 0} (p : X → Bool) (xs : List X) (i : ℕ) → ((k : ℕ) (d : X) → k < i → k < length xs → p (get_or xs k d) ≡ false)
-    → filter p (drop i xs) ≡ filter p xs
-filter-back p [] zero h = refl
-filter-back p [] (suc i) h = refl
-filter-back p (x ∷ xs) zero h = refl
-filter-back p (x ∷ xs) (suc i) h =
-    filter-back p xs i (λ k d l m. h (suc k) d (omega arith) (omega arith))
-    ∙ sym (ap (λ b. cond b (x ∷ filter p xs) (filter p xs)) (h 0 x (omega arith) (omega arith)))
 
 -- a stamp with another number after its epoch is not the epoch
 not_epoch : (x : ℕ) (t : Stamp) (b : Bool) → same (x ∷ []) t ≡ b → (after_epoch t ≡ x + 1 → ⊥) → b ≡ false
@@ -107,8 +92,8 @@ recs_before x rs i p =
 pub recs_later : (x y : ℕ) (rs : List Timed) (i : ℕ) → IsEpochsEnd x rs i → x < y → recs_where (same (y ∷ [])) (drop i rs) ≡ recs_where (same (y ∷ [])) rs
 recs_later x y rs i p h =
     ap (map (λ (r : Timed). r.rec))
-    (filter-back (λ (r : Timed). same (y ∷ []) r.at) rs i
-    (λ k d l m. not_epoch y (get_or rs k d).at _ refl (λ e. let n = at_most (after_epoch (get_or rs k d).at) (x + 1) (p.0 k d (omega arith) l) in absurd (omega arith))))
+    (sym (filter-dropped (λ (r : Timed). same (y ∷ []) r.at) rs i
+    (λ k d l m. not_epoch y (get_or rs k d).at _ refl (λ e. let n = at_most (after_epoch (get_or rs k d).at) (x + 1) (p.0 k d (omega arith) l) in absurd (omega arith)))))
 
 -- the line of an epoch is that of the part with its recs
 pub part_line : (name : List ℕ) (bag part : List Timed) (x : ℕ) → recs_where (same (x ∷ [])) part ≡ recs_where (same (x ∷ [])) bag → epoch_line name part x ≡ epoch_line name bag x

@@ -9,7 +9,7 @@ use Rattle.fw_model.proofs.RestoringLaws.{never-collected, cuts-kept, cut_batche
 use Rattle.fw_model.proofs.RunLaws.{acknowledgements-in_order}
 use Rattle.fw_flow.specs.declared.choice.Choice.{Choice}
 use Rattle.fw_flow.specs.declared.step.Step.{Step}
-use Rattle.fw_flow.specs.Dataflow.{System}
+use Rattle.fw_flow.specs.Dataflow.{Dataflow, System}
 use Rattle.fw_flow.specs.WellFormed.{IsWellFormedSystem}
 use Rattle.fw_schedule.specs.declared.item.Item.{Item}
 use Rattle.fw_model.specs.Choice.{View, kept, ever, IsCandidate, IsLargest, IsWatermark}
@@ -82,12 +82,12 @@ items-one_run sys w items =
       runs = λ count. one_run sys w (take count one.0);
     }
 
-pub texts-headline : (texts : Texts) → AreAccepted texts → Headline (spelled_system texts) (spelled_items texts)
-texts-headline texts a =
-    let sys = spelled_system texts in
-    let w = well_formed_system texts a in
+pub texts-headline : (texts : Texts) (flow : Dataflow) → AreAccepted texts flow → Headline (spelled_system flow texts) (spelled_items flow texts)
+texts-headline texts flow a =
+    let sys = spelled_system flow texts in
+    let w = well_formed_system texts flow a in
     record {
-      one_run = items-one_run sys w (spelled_items texts);
+      one_run = items-one_run sys w (spelled_items flow texts);
       legal = λ steps last c count outcomes state r. runs-legal sys (take count steps) outcomes state w.flow (has_epochs sys w) r;
       in_order = λ steps last c. acknowledgements-in_order sys steps;
       denotation = (rounds sys (enough_rounds sys.flow), denotation-exists sys w.flow);

@@ -11,7 +11,7 @@ use Rattle.fw_lines.proofs.FaultLaws.{sound_or_refused}
 use Rattle.fw_lines.proofs.GivenLaws.{sound-batches}
 use Rattle.fw_lines.proofs.ReadLaws as input_texts
 use Rattle.fw_flow.specs.Dataflow.{Dataflow, System, node_ids, system_of, batches_of_nodes}
-use Rattle.fw_flow.specs.Sources.{sources_of}
+use Rattle.fw_flow.specs.Sources.{sources_of, AreInputsOf}
 use Rattle.fw_flow.proofs.SystemLaws.{well_formed-given}
 use Rattle.fw_flow.specs.WellFormed.{IsWellFormedSystem}
 use Rattle.fw_flow_text.specs.Grammar as flows
@@ -22,18 +22,17 @@ use Rattle.fw_schedule.proofs.ReadLaws as schedule_texts
 use Rattle.fw_run.specs.declared.reading.Fed.{Fed}
 use Rattle.fw_run.specs.declared.reading.Job.{Job}
 use Rattle.fw_run.specs.Reading.{IsJob, IsFed}
-use Rattle.fw_run.specs.Texts.{Texts, spelled_flow, spelled_batches, spelled_system, spelled_items, IsFlow, AreInputsOf, AreAccepted, AreOfSystem, HasText, AreThere, HasTwo, HasFlow, IsFlowRefused, AreInputsRefused, IsScheduleRefused, IsFirstRefusal, IsFirstOfTwoRefused, IsAskedTwice, IsAskedNoMore}
+use Rattle.fw_run.specs.Texts.{Texts, spelled_batches, spelled_system, spelled_items, AreAccepted, AreOfSystem, HasText, AreThere, HasTwo, HasFlow, IsFlowRefused, AreInputsRefused, IsScheduleRefused, IsFirstRefusal, IsFirstOfTwoRefused, IsAskedTwice, IsAskedNoMore}
 use Rattle.fw_run.specs.Words.{TextNames, SystemNames}
 
 -- ---- what accepted texts spell
 
 -- the system of accepted texts is well formed
-pub well_formed_system : (texts : Texts) → AreAccepted texts → IsWellFormedSystem (spelled_system texts)
-well_formed_system texts a =
-    let flow = spelled_flow texts.flow in
+pub well_formed_system : (texts : Texts) (flow : Dataflow) → AreAccepted texts flow → IsWellFormedSystem (spelled_system flow texts)
+well_formed_system texts flow a =
     let lines = said_lines texts.inputs in
     let given = inputs.batches_of (sources_of flow) lines in
-    well_formed-given flow given a.flow.checked.well_formed (sound-batches (sources_of flow) lines given a.inputs.lines (λ node. refl))
+    well_formed-given flow given a.declared.checked.well_formed (sound-batches (sources_of flow) lines given a.inputs.lines (λ node. refl))
 
 -- ---- what was read
 
@@ -41,13 +40,12 @@ same_map : {A : Type 0} (f g : ℕ → A) (ns : List ℕ) → ((n : ℕ) → f n
 same_map f g [] e = refl
 same_map f g (n ∷ ns) e = ap (λ a. a ∷ map f ns) (e n) ∙ ap (λ rest. g n ∷ rest) (same_map f g ns e)
 
-system_read : (flow_text text : List ℕ) (flow : Dataflow) (batches : List (ℕ × List (List Rec))) → flow ≡ spelled_flow flow_text → inputs.IsAccepted text (sources_of flow) batches
-    → system_of flow batches ≡ record { flow = spelled_flow flow_text; batches = spelled_batches (spelled_flow flow_text) text }
+system_read : (text : List ℕ) (flow : Dataflow) (batches : List (ℕ × List (List Rec))) → inputs.IsAccepted text (sources_of flow) batches
+    → system_of flow batches ≡ record { flow = flow; batches = spelled_batches flow text }
 unfolding batches_of_nodes
-system_read flow_text text flow batches e a =
+system_read text flow batches a =
     let make : List (List (List Rec)) → System = λ b. record { flow = flow; batches = b } in
-    let spelled : Dataflow → System = λ f. record { flow = f; batches = spelled_batches f text } in
-    ap make (same_map (batches_at batches) (inputs.batches_of (sources_of flow) (said_lines text)) (node_ids flow) a.value) ∙ ap spelled e
+    ap make (same_map (batches_at batches) (inputs.batches_of (sources_of flow) (said_lines text)) (node_ids flow) a.value)
 
 -- what three accepted texts spell is a job
 pub job_read : (told : Option (List ℕ → Option (List ℕ))) (names : TextNames) (job : Job)
@@ -56,18 +54,12 @@ pub job_read : (told : Option (List ℕ → Option (List ℕ))) (names : TextNam
     → HasText told names.schedule (λ text. schedules.IsAccepted text job.flow job.items)
     → IsJob told names job
 job_read told names job f i s =
-    let texts : Texts = record { flow = f.text; inputs = i.text; schedule = s.text } in
-    let value : job.flow ≡ spelled_flow f.text = f.so.checked.value in
     record {
-      texts = texts;
+      texts = record { flow = f.text; inputs = i.text; schedule = s.text };
       there = record { flow = f.there; inputs = i.there; schedule = s.there };
-      accepted = record {
-        flow = subst (flows.IsAccepted f.text) value f.so;
-        inputs = subst (λ flow. AreInputsOf flow i.text) value i.so.sound;
-        schedule = subst (λ flow. schedules.IsAccepted s.text flow (items_of flow (said_lines s.text))) value (record { sound = s.so.sound; value = refl });
-      };
-      system = system_read f.text i.text job.flow job.batches value i.so;
-      items = s.so.value ∙ ap (λ flow. items_of flow (said_lines s.text)) value;
+      accepted = record { declared = f.so; inputs = i.so.sound; schedule = record { sound = s.so.sound; value = refl } };
+      system = system_read i.text job.flow job.batches i.so;
+      items = s.so.value;
     }
 
 -- the same where the folder told its texts anew before each
@@ -85,15 +77,11 @@ job_read_in_turn told second third names job e h f i s =
 pub fed_read : (told second : Option (List ℕ → Option (List ℕ))) (names : SystemNames) (fed : Fed) → second ≡ told
     → HasFlow told names.flow fed.flow → HasText second names.inputs (λ text. inputs.IsAccepted text (sources_of fed.flow) fed.batches) → IsFed told names fed
 fed_read told second names fed e f i =
-    let value : fed.flow ≡ spelled_flow f.text = f.so.checked.value in
     record {
       texts = record { flow = f.text; inputs = i.text; schedule = [] };
       there = record { flow = f.there; inputs = subst (λ t. IsText t names.inputs i.text) e i.there };
-      accepted = record {
-        flow = subst (flows.IsAccepted f.text) value f.so;
-        inputs = subst (λ flow. AreInputsOf flow i.text) value i.so.sound;
-      };
-      system = system_read f.text i.text fed.flow fed.batches value i.so;
+      accepted = record { declared = f.so; inputs = i.so.sound };
+      system = system_read i.text fed.flow fed.batches i.so;
     }
 
 pub fetched_twice : (told : Option (List ℕ → Option (List ℕ))) (name : List ℕ) (flow : Dataflow) (before one after : ℕ)
@@ -132,7 +120,7 @@ both_true texts name P Q R p q f = f p.text p.so (subst Q (same_text texts name 
 
 same_flow : (texts : List ℕ → Option (List ℕ)) (name : List ℕ) (one other : Dataflow) → HasFlow (Some texts) name one → HasFlow (Some texts) name other → one ≡ other
 same_flow texts name one other a b =
-    both_true texts name (λ text. flows.IsAccepted text one) (λ text. flows.IsAccepted text other) (one ≡ other) a b (λ text p q. p.checked.value ∙ sym q.checked.value)
+    both_true texts name (λ text. flows.IsAccepted text one) (λ text. flows.IsAccepted text other) (one ≡ other) a b (λ text p q. flow_texts.one_flow text one other p q)
 
 -- of three texts one is refused first, by one rule
 pub one_first_refusal : (texts : List ℕ → Option (List ℕ)) (names : TextNames) (r s : Refusal) → IsFirstRefusal (Some texts) names r → IsFirstRefusal (Some texts) names s → r ≡ s
@@ -164,32 +152,32 @@ pub one_first_of_two : (texts : List ℕ → Option (List ℕ)) (names : SystemN
 one_first_of_two texts names r s a b = one_first_refusal texts (three_names names) r s (as_of_three (Some texts) names r a) (as_of_three (Some texts) names s b)
 
 -- accepted texts are not refused
-pub accepted_or_refused : (texts : List ℕ → Option (List ℕ)) (names : TextNames) (three : Texts) (r : Refusal) → AreThere (Some texts) names three → AreAccepted three → IsFirstRefusal (Some texts) names r → ⊥
-accepted_or_refused texts names three r t a (inl p) =
-    flow_texts.accepted_or_refused three.flow (spelled_flow three.flow) r a.flow (subst (λ text. flows.IsRefused text r) (same_text texts names.flow p.text three.flow p.there t.flow) p.so)
-accepted_or_refused texts names three r t a (inr (flow, p, rest)) =
-    by (subst Later (same_flow texts names.flow flow (spelled_flow three.flow) p (record { text = three.flow; there = t.flow; so = a.flow })) rest)
+pub accepted_or_refused : (texts : List ℕ → Option (List ℕ)) (names : TextNames) (three : Texts) (own : Dataflow) (r : Refusal) → AreThere (Some texts) names three → AreAccepted three own → IsFirstRefusal (Some texts) names r → ⊥
+accepted_or_refused texts names three own r t a (inl p) =
+    flow_texts.accepted_or_refused three.flow own r a.declared (subst (λ text. flows.IsRefused text r) (same_text texts names.flow p.text three.flow p.there t.flow) p.so)
+accepted_or_refused texts names three own r t a (inr (flow, p, rest)) =
+    by (subst Later (same_flow texts names.flow flow own p (record { text = three.flow; there = t.flow; so = a.declared })) rest)
   where
     Later : Dataflow → Type 0
     Later f = AreInputsRefused (Some texts) names.inputs f r ⊎ (HasText (Some texts) names.inputs (AreInputsOf f) × IsScheduleRefused (Some texts) names.schedule f r)
 
-    by : Later (spelled_flow three.flow) → ⊥
-    by (inl q) = inputs_or_refused (spelled_flow three.flow) three.inputs r a.inputs (subst (λ text. inputs.IsRefused text (sources_of (spelled_flow three.flow)) r) (same_text texts names.inputs q.text three.inputs q.there t.inputs) q.so)
-    by (inr q) = schedule_texts.accepted_or_refused three.schedule (spelled_flow three.flow) (spelled_items three) r a.schedule (subst (λ text. schedules.IsRefused text (spelled_flow three.flow) r) (same_text texts names.schedule q.1.text three.schedule q.1.there t.schedule) q.1.so)
+    by : Later own → ⊥
+    by (inl q) = inputs_or_refused own three.inputs r a.inputs (subst (λ text. inputs.IsRefused text (sources_of own) r) (same_text texts names.inputs q.text three.inputs q.there t.inputs) q.so)
+    by (inr q) = schedule_texts.accepted_or_refused three.schedule own (spelled_items own three) r a.schedule (subst (λ text. schedules.IsRefused text own r) (same_text texts names.schedule q.1.text three.schedule q.1.there t.schedule) q.1.so)
 
-pub accepted_or_first_of_two : (texts : List ℕ → Option (List ℕ)) (names : SystemNames) (two : Texts) (r : Refusal) → HasTwo (Some texts) names two → AreOfSystem two → IsFirstOfTwoRefused (Some texts) names r → ⊥
-accepted_or_first_of_two texts names two r t a (inl p) =
-    flow_texts.accepted_or_refused two.flow (spelled_flow two.flow) r a.flow (subst (λ text. flows.IsRefused text r) (same_text texts names.flow p.text two.flow p.there t.flow) p.so)
-accepted_or_first_of_two texts names two r t a (inr (flow, p, q)) =
-    let same : flow ≡ spelled_flow two.flow = same_flow texts names.flow flow (spelled_flow two.flow) p (record { text = two.flow; there = t.flow; so = a.flow }) in
+pub accepted_or_first_of_two : (texts : List ℕ → Option (List ℕ)) (names : SystemNames) (two : Texts) (own : Dataflow) (r : Refusal) → HasTwo (Some texts) names two → AreOfSystem two own → IsFirstOfTwoRefused (Some texts) names r → ⊥
+accepted_or_first_of_two texts names two own r t a (inl p) =
+    flow_texts.accepted_or_refused two.flow own r a.declared (subst (λ text. flows.IsRefused text r) (same_text texts names.flow p.text two.flow p.there t.flow) p.so)
+accepted_or_first_of_two texts names two own r t a (inr (flow, p, q)) =
+    let same : flow ≡ own = same_flow texts names.flow flow own p (record { text = two.flow; there = t.flow; so = a.declared }) in
     let i = subst (λ f. AreInputsRefused (Some texts) names.inputs f r) same q in
-    inputs_or_refused (spelled_flow two.flow) two.inputs r a.inputs
-    (subst (λ text. inputs.IsRefused text (sources_of (spelled_flow two.flow)) r) (same_text texts names.inputs i.text two.inputs i.there t.inputs) i.so)
+    inputs_or_refused own two.inputs r a.inputs
+    (subst (λ text. inputs.IsRefused text (sources_of own) r) (same_text texts names.inputs i.text two.inputs i.there t.inputs) i.so)
 
 -- the text of a flow is accepted or refused, and not both
-pub flow_or_refused : (texts : List ℕ → Option (List ℕ)) (name text : List ℕ) (r : Refusal) → IsText (Some texts) name text → IsFlow text → IsFlowRefused (Some texts) name r → ⊥
-flow_or_refused texts name text r t a p =
-    flow_texts.accepted_or_refused text (spelled_flow text) r a (subst (λ other. flows.IsRefused other r) (same_text texts name p.text text p.there t) p.so)
+pub flow_or_refused : (texts : List ℕ → Option (List ℕ)) (name text : List ℕ) (flow : Dataflow) (r : Refusal) → IsText (Some texts) name text → flows.IsAccepted text flow → IsFlowRefused (Some texts) name r → ⊥
+flow_or_refused texts name text flow r t a p =
+    flow_texts.accepted_or_refused text flow r a (subst (λ other. flows.IsRefused other r) (same_text texts name p.text text p.there t) p.so)
 
 -- and refused by one rule
 pub one_flow_refusal : (texts : List ℕ → Option (List ℕ)) (name : List ℕ) (r s : Refusal) → IsFlowRefused (Some texts) name r → IsFlowRefused (Some texts) name s → r ≡ s

@@ -1,6 +1,8 @@
 -- What a call of `falkirk` promises of its words, its texts and what is outside.
 use Rattle.std.specs.Prelude.{◌≡◌, ◌⊎◌, ℕ, List, Option, Some, None, IsSome}
 use Rattle.std.specs.Borrow.{Bor}
+use Rattle.fw_flow.specs.Dataflow.{Dataflow}
+use Rattle.fw_flow_text.specs.Grammar as flows
 use Rattle.fw_outside.specs.declared.fault.OutFault.{OutFault}
 use Rattle.fw_outside.specs.Outside.{SinkView, IsText, one_more}
 use Rattle.fw_lines.specs.declared.refusal.Refusal.{Refusal}
@@ -10,7 +12,7 @@ use Rattle.fw_run.specs.DenotationText.{PrintsDenotation}
 use Rattle.fw_run.specs.Headline.{PrintsRun}
 use Rattle.fw_run.specs.Listing.{check_text}
 use Rattle.fw_run.specs.Status.{IsTold, note_line}
-use Rattle.fw_run.specs.Texts.{Texts, IsFlow, AreThere, HasTwo, AreAccepted, AreOfSystem, IsFlowRefused, IsFirstOfTwoRefused, IsFirstRefusal, IsAskedTwice, IsAskedNoMore, spelled_flow, spelled_system, spelled_items}
+use Rattle.fw_run.specs.Texts.{Texts, AreThere, HasTwo, AreAccepted, AreOfSystem, IsFlowRefused, IsFirstOfTwoRefused, IsFirstRefusal, IsAskedTwice, IsAskedNoMore, spelled_system, spelled_items}
 use Rattle.fw_run.specs.Words.{Command, run, denote, check, command_of, words_in}
 use Rattle.fw_run.specs.Writing.{IsWritten, IsCutOff, WritesText}
 
@@ -31,11 +33,11 @@ HasTexts told (run names) texts = AreThere told names texts
 HasTexts told (denote names) texts = HasTwo told names texts
 HasTexts told (check name) texts = IsText told name texts.flow
 
--- the command accepts the texts
-abbrev pub Accepts : Command → Texts → Type 0
-Accepts (run names) texts = AreAccepted texts
-Accepts (denote names) texts = AreOfSystem texts
-Accepts (check name) texts = IsFlow texts.flow
+-- the command accepts the texts, of which the flow's declares this dataflow
+abbrev pub Accepts : Command → Texts → Dataflow → Type 0
+Accepts (run names) texts flow = AreAccepted texts flow
+Accepts (denote names) texts flow = AreOfSystem texts flow
+Accepts (check name) texts flow = flows.IsAccepted texts.flow flow
 
 -- the first of its texts that the command does not accept is refused so
 abbrev pub Refuses : Option (List ℕ → Option (List ℕ)) → Command → Refusal → Type 0
@@ -43,11 +45,11 @@ Refuses told (run names) refusal = IsFirstRefusal told names refusal
 Refuses told (denote names) refusal = IsFirstOfTwoRefused told names refusal
 Refuses told (check name) refusal = IsFlowRefused told name refusal
 
--- this is all that the command prints of the texts
-abbrev pub Prints : Command → Texts → List ℕ → Type 0
-Prints (run names) texts printed = PrintsRun (spelled_system texts) (spelled_items texts) printed
-Prints (denote names) texts printed = PrintsDenotation (spelled_system texts) printed
-Prints (check name) texts printed = printed ≡ check_text (spelled_flow texts.flow)
+-- this is all that the command prints of the texts, of which the flow's declares this dataflow
+abbrev pub Prints : Command → Texts → Dataflow → List ℕ → Type 0
+Prints (run names) texts flow printed = PrintsRun (spelled_system flow texts) (spelled_items flow texts) printed
+Prints (denote names) texts flow printed = PrintsDenotation (spelled_system flow texts) printed
+Prints (check name) texts flow printed = printed ≡ check_text flow
 
 -- the command asked a folder no more often than this, if its calls were counted from the first number to the second: a check once
 abbrev pub AsksNoMore : Option (List ℕ → Option (List ℕ)) → Command → ℕ → ℕ → Type 0
@@ -62,7 +64,8 @@ pub record HasAccepted (call : Call) (texts : Texts) : Type 0 where
   pub command : Command
   pub words : call.command ≡ Some command
   pub there : HasTexts call.told command texts
-  pub accepted : Accepts command texts
+  pub flow : Dataflow
+  pub accepted : Accepts command texts flow
 
 -- the words are a command, and the first of its texts that it does not accept is refused so
 pub record HasRefused (call : Call) (refusal : Refusal) : Type 0 where
@@ -82,7 +85,7 @@ IsRefusalEnd refusal status = (status ≡ Refused refusal) ⊎ ((status ≡ Read
 -- that one is refused and of accepted ones all is printed, unless what is outside fails or memory is refused.
 pub record AnswersTexts (call : Call) (status : Status) : Type 0 where
   pub decided : (command : Command) (texts : Texts) → HasTexts call.told command texts
-      → Accepts command texts ⊎ ((refusal : Refusal) × Refuses call.told command refusal)
+      → ((flow : Dataflow) × Accepts command texts flow) ⊎ ((refusal : Refusal) × Refuses call.told command refusal)
   pub refuses : (refusal : Refusal) → IsSome call.told → HasRefused call refusal → IsRefusalEnd refusal status
   pub completes : (texts : Texts) → IsSome call.told → HasAccepted call texts → IsRunEnd status
 
@@ -93,7 +96,7 @@ pub record AnswersTexts (call : Call) (status : Status) : Type 0 where
 pub record IsPrintout (call : Call) (printed : List ℕ) : Type 0 where
   pub texts : Texts
   pub accepted : HasAccepted call texts
-  pub text : Prints accepted.command texts printed
+  pub text : Prints accepted.command texts accepted.flow printed
 
 -- all that the call prints was written
 abbrev pub PrintsAll : Call → SinkView → SinkView → Type 0

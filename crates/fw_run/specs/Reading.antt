@@ -35,16 +35,16 @@ IsTooLarge told name limit code refusal = HasText told name (λ text. (limit < l
 pub record IsJob (told : Option (List ℕ → Option (List ℕ))) (names : TextNames) (job : Job) : Type 0 where
   pub texts : Texts
   pub there : AreThere told names texts
-  pub accepted : AreAccepted texts
-  pub system : system_of job.flow job.batches ≡ spelled_system texts
-  pub items : job.items ≡ spelled_items texts
+  pub accepted : AreAccepted texts job.flow
+  pub system : system_of job.flow job.batches ≡ spelled_system job.flow texts
+  pub items : job.items ≡ spelled_items job.flow texts
 
 -- the same of the texts of a flow and its inputs
 pub record IsFed (told : Option (List ℕ → Option (List ℕ))) (names : SystemNames) (fed : Fed) : Type 0 where
   pub texts : Texts
   pub there : HasTwo told names texts
-  pub accepted : AreOfSystem texts
-  pub system : system_of fed.flow fed.batches ≡ spelled_system texts
+  pub accepted : AreOfSystem texts fed.flow
+  pub system : system_of fed.flow fed.batches ≡ spelled_system fed.flow texts
 
 -- what a run of items asks: the engine a well-formed system, and the counts of steps that they are not too many
 pub record IsReady (sys : System) (items : List Item) : Type 0 where

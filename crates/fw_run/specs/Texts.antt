@@ -3,17 +3,15 @@ use Rattle.std.specs.Prelude.{◌≡◌, ◌⊎◌, ℕ, List, map, Option}
 use Rattle.fw_bag.specs.declared.rec.Rec.{Rec}
 use Rattle.fw_outside.specs.Outside.{IsText, one_more}
 use Rattle.fw_lines.specs.declared.refusal.Refusal.{Refusal}
-use Rattle.fw_lines.specs.Faults.{IsSound}
 use Rattle.fw_lines.specs.Inputs as inputs
 use Rattle.fw_lines.specs.Lines.{said_lines}
 use Rattle.fw_flow.specs.Dataflow.{Dataflow, System, node_ids}
-use Rattle.fw_flow.specs.Raw.{flow_of}
-use Rattle.fw_flow.specs.Sources.{sources_of}
-use Rattle.fw_flow_text.specs.Grammar.{declared_by}
+use Rattle.fw_flow.specs.Sources.{sources_of, AreInputsOf}
 use Rattle.fw_flow_text.specs.Grammar as flows
 use Rattle.fw_schedule.specs.declared.item.Item.{Item}
 use Rattle.fw_schedule.specs.Grammar.{items_of}
 use Rattle.fw_schedule.specs.Grammar as schedules
+use Rattle.fw_schedule.specs.Texts.{IsScheduleOf}
 use Rattle.fw_run.specs.Words.{TextNames, SystemNames}
 
 -- the three texts of a run
@@ -22,44 +20,28 @@ pub record Texts : Type 0 where
   pub inputs : List ℕ
   pub schedule : List ℕ
 
--- the dataflow that a text declares
-abbrev pub spelled_flow : List ℕ → Dataflow
-spelled_flow text = flow_of (declared_by (said_lines text))
-
 -- for each node of a dataflow the batches that a text gives it, by epoch
 abbrev pub spelled_batches : Dataflow → List ℕ → List (List (List Rec))
 spelled_batches flow text = map (inputs.batches_of (sources_of flow) (said_lines text)) (node_ids flow)
 
--- the dataflow with its batches
-abbrev pub spelled_system : Texts → System
-spelled_system texts = record { flow = spelled_flow texts.flow; batches = spelled_batches (spelled_flow texts.flow) texts.inputs }
+-- a dataflow with the batches that the texts give it
+abbrev pub spelled_system : Dataflow → Texts → System
+spelled_system flow texts = record { flow = flow; batches = spelled_batches flow texts.inputs }
 
--- the items of the schedule
-abbrev pub spelled_items : Texts → List Item
-spelled_items texts = items_of (spelled_flow texts.flow) (said_lines texts.schedule)
+-- the items of the schedule of a dataflow
+abbrev pub spelled_items : Dataflow → Texts → List Item
+spelled_items flow texts = items_of flow (said_lines texts.schedule)
 
--- the text is that of a flow
-abbrev pub IsFlow : List ℕ → Type 0
-IsFlow text = flows.IsAccepted text (spelled_flow text)
+-- the three texts are accepted: of a flow, which declares this dataflow, its inputs and its schedule
+pub record AreAccepted (texts : Texts) (flow : Dataflow) : Type 0 where
+  pub declared : flows.IsAccepted texts.flow flow
+  pub inputs : AreInputsOf flow texts.inputs
+  pub schedule : IsScheduleOf flow texts.schedule
 
--- the text gives batches to sources of the dataflow
-abbrev pub AreInputsOf : Dataflow → List ℕ → Type 0
-AreInputsOf flow text = IsSound (inputs.rules_of (sources_of flow)) text
-
--- the text is a schedule of the dataflow
-abbrev pub IsScheduleOf : Dataflow → List ℕ → Type 0
-IsScheduleOf flow text = schedules.IsAccepted text flow (items_of flow (said_lines text))
-
--- the three texts are accepted: of a flow, its inputs and its schedule
-pub record AreAccepted (texts : Texts) : Type 0 where
-  pub flow : IsFlow texts.flow
-  pub inputs : AreInputsOf (spelled_flow texts.flow) texts.inputs
-  pub schedule : IsScheduleOf (spelled_flow texts.flow) texts.schedule
-
--- the first two texts are accepted: of a flow, and its inputs
-pub record AreOfSystem (texts : Texts) : Type 0 where
-  pub flow : IsFlow texts.flow
-  pub inputs : AreInputsOf (spelled_flow texts.flow) texts.inputs
+-- the first two texts are accepted: of a flow, which declares this dataflow, and its inputs
+pub record AreOfSystem (texts : Texts) (flow : Dataflow) : Type 0 where
+  pub declared : flows.IsAccepted texts.flow flow
+  pub inputs : AreInputsOf flow texts.inputs
 
 -- the folder has a text under the name, where it tells its texts, and this is true of it
 pub record HasText (told : Option (List ℕ → Option (List ℕ))) (name : List ℕ) (IsSo : List ℕ → Type 0) : Type 0 where

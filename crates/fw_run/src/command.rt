@@ -1,6 +1,7 @@
 //! The top call.
 ghost use Rattle.std.specs.Prelude.{◌≡◌, ◌⊎◌, ◌≤◌, ◌↔◌, None};
 ghost use Rattle.fw_lines.specs.declared.refusal.Refusal as lines;
+ghost use Rattle.fw_flow.specs.Dataflow.{Dataflow};
 ghost use Rattle.fw_outside.specs.declared.fault.OutFault.TheVariants as OutFault;
 ghost use Rattle.fw_outside.specs.Outside.{Rose};
 ghost use Rattle.fw_run.specs.Call.{call_of, PrintsAll, PrintsPart, HasRefused, KeepsFolder, TellsNotes, AnswersTexts};
@@ -57,7 +58,8 @@ pub fn falkirk<F: Folder, K: Store, O: Sink, N: Sink>(
 
     // Which texts are refused and of which all is printed; and what the machine does with accepted texts of a run.
     ensures answer { AnswersTexts (call_of words.now (F.texts folder.old)) result }
-    ensures headline { (texts : Texts) → AreAccepted texts → Headline (spelled_system texts) (spelled_items texts) }
+    ensures headline { (texts : Texts) (flow : Dataflow) → AreAccepted texts flow
+        → Headline (spelled_system flow texts) (spelled_items flow texts) }
 {
     let status = run(alloc, words, folder, out);
     tell(alloc, status, notes)

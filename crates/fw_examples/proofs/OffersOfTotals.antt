@@ -1,5 +1,5 @@
 -- What the nodes of the running total offer as data is what the machine offers.
-use Rattle.std.proofs.Common.{Bool, List, [], ap, arith, cond, false, filter, inl, inr, lit<, lit≤, map, refl, subst, suc, sym, true, zero, ℕ, ◌&&◌, ◌<◌, ◌==◌, ◌↔◌, ◌∷◌, ◌≡◌, ◌≢◌, ◌≤◌, ◌⊎◌}
+use Rattle.std.proofs.Common.{Bool, List, [], ap, arith, cond, false, filter, inl, inr, lit<, lit≤, map, refl, subst, suc, sym, true, zero, ℕ, ◌&&◌, ◌<◌, ◌==◌, ◌↔◌, ◌∷◌, ◌≡◌, ◌≤◌}
 use Rattle.std.proofs.lemmas.Bool.{false≢true, true≢false}
 use Rattle.std.proofs.lemmas.Bool.Decides.{nat_tests}
 use Rattle.fw_time.specs.Stamp.{Stamp}
@@ -16,7 +16,8 @@ use Rattle.fw_flow.specs.declared.event.Message.{Message}
 use Rattle.fw_model.specs.Choice.{IsCandidate, kept, until}
 use Rattle.fw_model.specs.Covers.{covers_in, stamps_from}
 use Rattle.fw_model.specs.Machine.{is_failed}
-use Rattle.fw_model.specs.Offers.{AreAscending, AreOffersIn, AreOffersOf, IsOffered, covers_of, stamps_on_from}
+use Rattle.fw_model.specs.Offers.{AreAscending, AreOfBatches, AreOffersIn, AreOffersOf, IsOffered, covers_of, offered_by, on_edge, sent_by, stamps_on_from}
+use Rattle.fw_model.proofs.UntilLaws.{within-until}
 use Rattle.fw_examples.specs.OffersOfTotals.{CheckpointsAreOffered, offers_of_totals}
 use Rattle.fw_examples.specs.RunningTotal.{at_epoch, output_failed, total_flow, totals, two_epochs_kept, two_kept_noting}
 use Rattle.fw_examples.proofs.Choosing.{until_more}
@@ -54,59 +55,44 @@ lacks_one f k l e w = go k l (subst (λ g. Within (frontier_of epochs (until 2))
     go (suc zero) l w = false≢true (w (1 ∷ []) refl)
     go (suc (suc k)) l w = absurd (omega arith)
 
--- the input can be restored to its batches from the low watermark on
-input_listed : (f : Front) → IsOffered total_flow offers_of_totals 0 (At f) → IsCandidate totals output_failed (is_failed output_failed) kept 0 (At f)
+-- the input can be restored to its batches from the low watermark on, and to no others
+input_offers : (f : Front) → IsOffered total_flow offers_of_totals 0 (At f) → IsCandidate totals output_failed (is_failed output_failed) kept 0 (At f)
 unfolding kind_of policy_of bounds_of batches_of
-input_listed f (c, inl (inl e)) = (c, inl (2, lit≤ tt, sym e), holds_two f 2 (lit≤ tt) e)
-input_listed f (c, inl (inr (inl e))) = (c, inl (3, lit≤ tt, sym e), holds_two f 3 (lit≤ tt) e)
-input_listed f (c, inl (inr (inr (inl e)))) = (c, inl (4, lit≤ tt, sym e), holds_two f 4 (lit≤ tt) e)
-input_listed f (c, inl (inr (inr (inr e)))) = absurd e
-input_listed f (c, inr e) = absurd e
-
--- and to no others
-batches_listed : (f : Front) (k : ℕ) → k ≤ 4 → f ≡ until k → Within (frontier_of epochs (until 2)) (frontier_of epochs f)
-    → (until 2 ≡ f) ⊎ (until 3 ≡ f) ⊎ (until 4 ≡ f) ⊎ ⊥
-batches_listed f zero l e w = absurd (lacks_one f 0 (lit< tt) e w)
-batches_listed f (suc zero) l e w = absurd (lacks_one f 1 (lit< tt) e w)
-batches_listed f (suc (suc zero)) l e w = inl (sym e)
-batches_listed f (suc (suc (suc zero))) l e w = inr (inl (sym e))
-batches_listed f (suc (suc (suc (suc zero)))) l e w = inr (inr (inl (sym e)))
-batches_listed f (suc (suc (suc (suc (suc k))))) l e w = absurd (omega arith)
+input_offers f (c, inl b) = (c, inl (within-until 4 f (lit≤ tt) c b.1), b.0)
+input_offers f (c, inr e) = absurd (false≢true e.0)
 
 input_restorable : (f : Front) → IsCandidate totals output_failed (is_failed output_failed) kept 0 (At f) → IsOffered total_flow offers_of_totals 0 (At f)
 unfolding kind_of policy_of bounds_of batches_of
-input_restorable f (c, inl k, w) = (c, inl (batches_listed f k.0 k.1 k.2 w))
+input_restorable f (c, inl k, w) = (c, inl (w, subst (λ g. Within (frontier_of epochs g) (frontier_of epochs (until 4))) (sym k.2) (until_more epochs k.0 4 k.1)))
 input_restorable f (c, inr e, w) = absurd (false≢true e.0)
 
 -- the running total can be restored to its acknowledged checkpoint alone: to nothing not, since that lacks the low watermark
 total_listed : (f : Front) → IsOffered total_flow offers_of_totals 1 (At f) → IsCandidate totals output_failed (is_failed output_failed) kept 1 (At f)
 unfolding kind_of policy_of bounds_of
-total_listed f (c, inl (inl e)) = (c, inr (inr (inl (refl, e, refl))), holds_two f 2 (lit≤ tt) e)
-total_listed f (c, inl (inr e)) = absurd e
+total_listed f (c, inl e) = (c, inr (inr (inl (refl, e, refl))), holds_two f 2 (lit≤ tt) e)
 total_listed f (c, inr e) = absurd e
 
 total_restorable : (f : Front) → IsCandidate totals output_failed (is_failed output_failed) kept 1 (At f) → IsOffered total_flow offers_of_totals 1 (At f)
 unfolding kind_of policy_of bounds_of
 total_restorable f (c, inl e, w) = absurd (lacks_one f 0 (lit< tt) e w)
 total_restorable f (c, inr (inl is), w) = absurd (false≢true is.2)
-total_restorable f (c, inr (inr (inl is)), w) = (c, inl (inl is.1))
+total_restorable f (c, inr (inr (inl is)), w) = (c, inl is.1)
 total_restorable f (c, inr (inr (inr (inl is))), w) = absurd (false≢true is.2)
 total_restorable f (c, inr (inr (inr (inr e))), w) = absurd e
 
 -- the output can be restored to what is settled and acknowledged and holds the low watermark
 output_same : (f : Front) → IsOffered total_flow offers_of_totals 2 (At f) ↔ IsCandidate totals output_failed (is_failed output_failed) kept 2 (At f)
 unfolding kind_of policy_of bounds_of
-output_same f = ((λ o. to o), (λ o. (o.0, inr (o.2, o.1.0))))
+output_same f = ((λ o. to o), (λ o. (o.0, (o.2, o.1.0))))
   where
     to : IsOffered total_flow offers_of_totals 2 (At f) → IsCandidate totals output_failed (is_failed output_failed) kept 2 (At f)
-    to (c, inl e) = absurd e
-    to (c, inr b) = (c, (b.1, b.1), b.0)
+    to (c, b) = (c, (b.1, b.1), b.0)
 
 offered_same : (p : ℕ) → p < 3 → (cut : Cut) → IsOffered total_flow offers_of_totals p cut ↔ IsCandidate totals output_failed (is_failed output_failed) kept p cut
 offered_same zero l Present = ((λ e. refl), (λ e. refl))
 offered_same (suc zero) l Present = ((λ e. refl), (λ e. refl))
 offered_same (suc (suc zero)) l Present = ((λ e. absurd (false≢true e)), (λ e. absurd (true≢false e)))
-offered_same zero l (At f) = (input_listed f, input_restorable f)
+offered_same zero l (At f) = (input_offers f, input_restorable f)
 offered_same (suc zero) l (At f) = (total_listed f, total_restorable f)
 offered_same (suc (suc zero)) l (At f) = output_same f
 offered_same (suc (suc (suc p))) l cut = absurd (omega arith)
@@ -114,16 +100,10 @@ offered_same (suc (suc (suc p))) l cut = absurd (omega arith)
 -- ---- what is offered is of the dataflow
 
 of_flow : AreOffersOf total_flow offers_of_totals
-unfolding kind_of policy_of bounds_of receiver
+unfolding kind_of policy_of bounds_of receiver sender
 of_flow = record {
   one_each = refl;
-  records = by_three _ (
-    record { front = canonical_by _ (until 2) refl; notified = tt; delivered = tt; discarded = tt },
-    (
-      record { front = canonical_by _ (until 3) refl; notified = tt; delivered = tt; discarded = tt },
-      (record { front = canonical_by _ (until 4) refl; notified = tt; delivered = tt; discarded = tt }, tt),
-    ),
-  ) (
+  records = by_three _ tt (
     record {
       front = canonical_by _ (until 2) refl;
       notified = canonical_by _ (until 2) refl;
@@ -133,33 +113,21 @@ of_flow = record {
     tt,
   )
       tt;
-  range = by_three _ tt tt (canonical_by _ (until 2) refl, canonical_by _ (until 2) refl);
-  listed = by_three _ refl refl tt;
+  range = by_three _ (canonical_by _ (until 2) refl, canonical_by _ (until 4) refl) tt (canonical_by _ (until 2) refl, canonical_by _ (until 2) refl);
+  form_fits = by_three _ refl tt refl;
   delivered = by_three _ tt (refl, (refl, tt)) (refl, tt);
   notified = by_three _ tt (refl, (refl, tt)) tt;
   sent = by_three _ (refl, (refl, (refl, tt))) (refl, (refl, tt)) tt;
+  batches = of_batches;
 }
-
--- the epochs below different numbers are different frontiers
-until_apart : (j k : ℕ) → j < k → until j ≢ until k
-until_apart j k l e = let here : j ≡ k = ap first e in absurd (omega arith)
   where
-    number : Stamp → ℕ
-    number [] = 0
-    number (x ∷ t) = x
-
-    first : Front → ℕ
-    first [] = 0
-    first (o ∷ os) = number o
+    of_batches : (e : ℕ) → e < 2 → AreOfBatches (offered_by offers_of_totals (sender total_flow e)) (on_edge e (sent_by offers_of_totals (sender total_flow e)))
+    of_batches zero l = ((3 ∷ [], refl), ((2 ∷ [], refl), ((1 ∷ [], refl), tt)))
+    of_batches (suc zero) l = tt
+    of_batches (suc (suc e)) l = absurd (omega arith)
 
 ascending : AreAscending total_flow offers_of_totals
-unfolding kind_of bounds_of
-ascending = by_three _ (
-  ((until_more _ 2 3 (lit≤ tt), until_apart 2 3 (lit< tt)), ((until_more _ 2 4 (lit≤ tt), until_apart 2 4 (lit< tt)), tt)),
-  (((until_more _ 3 4 (lit≤ tt), until_apart 3 4 (lit< tt)), tt), (tt, tt)),
-)
-    (tt, tt)
-    tt
+ascending = by_three _ tt (tt, tt) tt
 
 -- ---- the same counts
 
@@ -183,9 +151,8 @@ delivered_same : (d : ℕ) → d < 2 → (cut : Cut) → IsOffered total_flow of
     → (covers_of total_flow offers_of_totals).delivered d cut ≡ (covers_in totals output_failed).delivered d cut
 unfolding kind_of policy_of bounds_of receiver
 delivered_same zero l Present o = refl
-delivered_same zero l (At f) (c, inl (inl e)) =
+delivered_same zero l (At f) (c, inl e) =
     subst (λ g. (covers_of total_flow offers_of_totals).delivered 0 (At g) ≡ (covers_in totals output_failed).delivered 0 (At g)) e (two_is_cover _)
-delivered_same zero l (At f) (c, inl (inr e)) = absurd e
 delivered_same zero l (At f) (c, inr e) = absurd e
 delivered_same (suc zero) l Present o = refl
 delivered_same (suc zero) l (At f) o = refl
@@ -198,9 +165,8 @@ discarded_same zero l Present o = refl
 discarded_same zero l (At f) o =
     ap (cover (bounds_of total_flow 1)) (sent_from_input (frontier_of (bounds_of total_flow 0) f) (at_epoch 3 1 ∷ at_epoch 2 5 ∷ at_epoch 1 10 ∷ []))
 discarded_same (suc zero) l Present o = refl
-discarded_same (suc zero) l (At f) (c, inl (inl e)) =
+discarded_same (suc zero) l (At f) (c, inl e) =
     subst (λ g. (covers_of total_flow offers_of_totals).discarded 1 (At g) ≡ (covers_in totals output_failed).discarded 1 (At g)) e (two_is_cover _)
-discarded_same (suc zero) l (At f) (c, inl (inr e)) = absurd e
 discarded_same (suc zero) l (At f) (c, inr e) = absurd e
 discarded_same (suc (suc e)) l cut o = absurd (omega arith)
 
@@ -210,9 +176,8 @@ unfolding kind_of policy_of bounds_of
 notified_same zero l Present o = refl
 notified_same zero l (At f) o = refl
 notified_same (suc zero) l Present o = refl
-notified_same (suc zero) l (At f) (c, inl (inl e)) =
+notified_same (suc zero) l (At f) (c, inl e) =
     subst (λ g. (covers_of total_flow offers_of_totals).notified 1 (At g) ≡ (covers_in totals output_failed).notified 1 (At g)) e (two_is_cover _)
-notified_same (suc zero) l (At f) (c, inl (inr e)) = absurd e
 notified_same (suc zero) l (At f) (c, inr e) = absurd e
 notified_same (suc (suc zero)) l Present o = refl
 notified_same (suc (suc zero)) l (At f) o = refl
@@ -245,7 +210,7 @@ checkpoints_are_offered =
     record {
       way = refl;
       recorded = refl;
-      offered = (canonical_by _ (until 2) refl, inl (inl refl));
+      offered = (canonical_by _ (until 2) refl, inl refl);
       present = refl;
       ascending = ascending;
       same = same;

@@ -4,7 +4,7 @@ use Rattle.fw_flow.specs.Restoring.{way_of}
 use Rattle.fw_flow.specs.declared.choice.Counted.{Counted}
 use Rattle.fw_flow.specs.declared.choice.Cut.TheVariants.{At, Present}
 use Rattle.fw_flow.specs.declared.choice.Offer.{Offer}
-use Rattle.fw_flow.specs.declared.choice.Offered.TheVariants.{Between, Listed}
+use Rattle.fw_flow.specs.declared.choice.Offered.TheVariants.{Batches, Between, Listed}
 use Rattle.fw_flow.specs.declared.choice.Recorded.{Recorded}
 use Rattle.fw_flow.specs.declared.restoring.Restoring.TheVariants.{Checkpoints}
 use Rattle.fw_model.specs.Choice.{IsConsistentBy, IsLargestBy, until}
@@ -17,15 +17,6 @@ use Rattle.fw_examples.specs.RunningTotal.{output_failed, run, run_to_out, src_t
 abbrev pub alone_at : ℕ → ℕ → Counted
 alone_at e x = record { edge = e; at = x ∷ []; causes = (x ∷ []) ∷ []; count = 1 }
 
--- a record of the epochs below k that lists no edge
-abbrev pub record_of_batches : ℕ → Recorded
-record_of_batches k = record {
-  front = until k;
-  notified = [];
-  delivered = [];
-  discarded = [];
-}
-
 -- The record of the checkpoint that is acknowledged: of epochs 0 and 1, up to which the running total received, was notified
 -- and sent.
 abbrev pub record_of_checkpoint : Recorded
@@ -36,11 +27,11 @@ record_of_checkpoint = record {
   discarded = record { edge = run_to_out; front = until 2 } ∷ [];
 }
 
--- The input lists what it injected from the low watermark on.
+-- The input offers the four batches that it injected, from the low watermark on.
 abbrev pub offer_of_input : Offer
 offer_of_input = record {
   present = true;
-  offered = Listed (record_of_batches 2 ∷ record_of_batches 3 ∷ record_of_batches 4 ∷ []);
+  offered = Batches (until 2) (until 4) false;
   stamps = record {
     delivered = [];
     notified = [];

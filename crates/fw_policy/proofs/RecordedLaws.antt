@@ -19,21 +19,16 @@ use Rattle.fw_flow.specs.Restoring.{way_of, can_resend}
 use Rattle.fw_model.specs.Covers.{takes_its_cut, takes_its_notices, discarded_at, stamps_from, stamp_of_notice}
 use Rattle.fw_model.specs.History.{delivered_messages, sent_messages}
 use Rattle.fw_model.specs.Machine.{Machine, events, no_stamps}
-use Rattle.fw_model.proofs.CmpLaws.{fronts_cmp-same}
 use Rattle.fw_model.proofs.Decisions.{two_ways}
 use Rattle.fw_model.proofs.LocalityLaws.{sends-causes}
 use Rattle.fw_model.proofs.LowLaws.{none-within, none-canonical}
-use Rattle.fw_bag.proofs.OrderingLaws.{equal_from_is_eq}
 use Rattle.fw_model.specs.Offers.{IsListed, record_at}
 use Rattle.fw_policy.specs.View.{IsRecorded}
 use Rattle.fw_policy.specs.Offering.{empty_record}
 use Rattle.fw_model.proofs.FilterLaws.{filter-none}
-use Rattle.fw_model.proofs.AskedLaws.{front-same}
+use Rattle.fw_frontier.proofs.SameLaws.{same_front-itself, same_front-is}
 
 -- ---- the record of a frontier
-
-same-front : (f g : Front) → same_front f g ≡ true → f ≡ g
-same-front f g e = fronts_cmp-same f g (equal_from_is_eq _ e)
 
 -- the first record of a frontier that is listed, with what holds of all of them
 pub record IsFound (P : Recorded → Type 0) (f : Front) (rs : List Recorded) : Type 0 where
@@ -45,9 +40,9 @@ pub record IsFound (P : Recorded → Type 0) (f : Front) (rs : List Recorded) : 
 pub found-record : (P : Recorded → Type 0) (f : Front) (rs : List Recorded) → AllByRecursion P rs → IsListed f rs → IsFound P f rs
 found-record P f [] a i = absurd i
 found-record P f (r ∷ rs) a i = elim (cases_Bool (same_front r.front f)) [
-  | inl e ↦ record { found = r; at = ap (λ b. cond b (Some r) (record_at f rs)) e; front = same-front r.front f e; holds = a.0 }
+  | inl e ↦ record { found = r; at = ap (λ b. cond b (Some r) (record_at f rs)) e; front = same_front-is r.front f e; holds = a.0 }
   | inr n ↦ elim i [
-    | inl e ↦ absurd (two_ways (same_front r.front f) (ap (λ x. same_front r.front x) (sym e) ∙ front-same r.front) n)
+    | inl e ↦ absurd (two_ways (same_front r.front f) (ap (λ x. same_front r.front x) (sym e) ∙ same_front-itself r.front) n)
     | inr l ↦
         let k = found-record P f rs a.1 l in
         record { found = k.found; at = ap (λ b. cond b (Some r) (record_at f rs)) n ∙ k.at; front = k.front; holds = k.holds }

@@ -4,7 +4,6 @@
 //! writes were not collected (`Entry`). `candidates` makes of them the offers from which `largest` of `fw_monitor` chooses.
 #![tactic(auto)]
 
-mod copies;
 mod offering;
 mod offers;
 mod unlogged;

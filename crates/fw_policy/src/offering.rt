@@ -11,7 +11,6 @@ ghost use Rattle.fw_model.specs.Choice as choices;
 ghost use Rattle.fw_policy.specs.Offering as spec;
 ghost use Rattle.fw_policy.specs.Known.{FitsWay, IsKnown};
 
-use crate::copies::record_again;
 use crate::unlogged::{cut_below, unlogged};
 use crate::view::{Border, Entry, NodeView, Written};
 use fw_flow::{Flow, NodeId, OfEdges, Offered, Recorded, Records, Restoring};
@@ -223,7 +222,7 @@ fn add_written(
     match written {
         Written::Checkpoint(held) => {
             if low.subset(&held.front) {
-                records.push(record_again(alloc, held)?)?;
+                records.push(held.copy()?)?;
             }
         }
         Written::Event(_) => {}

@@ -7,7 +7,6 @@ ghost use Rattle.fw_policy.specs.Offering.{IsOfferBy};
 ghost use Rattle.fw_policy.specs.Known.{IsKnown};
 ghost use Rattle.fw_policy.specs.View.{IsViewOf};
 
-use crate::copies::stamps_again;
 use crate::offering::offered;
 use crate::view::{Entry, NodeView};
 use fw_flow::{Flow, NodeId, Offer};
@@ -43,7 +42,7 @@ fn offer(
     ensures { IsKnown flow.now entries.now node known.now → IfOk result (IsOfferBy flow.now entries.now node known.now) }
 {
     let offered = offered(alloc, flow, entries, node, known)?;
-    let stamps = stamps_again(alloc, &known.stamps)?;
+    let stamps = known.stamps.copy()?;
     let table = known.table.copy()?;
     Ok(Offer {
         present: !known.failed,

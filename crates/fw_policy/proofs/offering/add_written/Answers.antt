@@ -5,8 +5,8 @@ use Rattle.fw_policy.proofs.offering.add_written.Goals as goal
 
 pub returns-in_ok-push-in-Checkpoint : goal.returns-in_ok-push-in-Checkpoint
 returns-in_ok-push-in-Checkpoint c = λ rs a.
-    held_kept c.args.low.now rs c.args.records.now.items c.push.new.self.items c.in-Checkpoint.held c.in_ok-record_again-in-Checkpoint.field-0 c.args.written.now a c.in-Checkpoint.is
-    (sym c.subset.ensures.test ∙ c.if-subset.true) c.in_ok-record_again-in-Checkpoint.ensures c.in_ok-push-in-Checkpoint.ensures.items
+    held_kept c.args.low.now rs c.args.records.now.items c.push.new.self.items c.in-Checkpoint.held c.in_ok-copy-in-Checkpoint.field-0 c.args.written.now a c.in-Checkpoint.is
+    (sym c.subset.ensures.test ∙ c.if-subset.true) c.in_ok-copy-in-Checkpoint.ensures c.in_ok-push-in-Checkpoint.ensures.items
 
 pub returns-else-subset : goal.returns-else-subset
 returns-else-subset c = λ rs a.

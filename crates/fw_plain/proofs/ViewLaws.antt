@@ -21,7 +21,7 @@ use Rattle.fw_flow.specs.Projection.{events_at, all_inside}
 use Rattle.fw_model.specs.Covers.{stamp_of_notice}
 use Rattle.fw_model.specs.History.{delivered_messages, sent_messages, injected_count, is_exhausted}
 use Rattle.fw_model.specs.Machine.{Machine, events}
-use Rattle.fw_model.specs.Offers.{AreOnEdges, stamps_on, stamps_on_from}
+use Rattle.fw_model.specs.Offers.{AreOnEdges, on_edge, stamps_on, stamps_on_from}
 use Rattle.fw_model.proofs.DomainLaws.{edge-bounds, has_epochs}
 use Rattle.fw_model.proofs.FilterLaws.{filter-all}
 use Rattle.fw_model.proofs.LegalLaws.{legal_events-in_domain, legal_messages-in_domain}
@@ -29,7 +29,7 @@ use Rattle.fw_model.proofs.LocalityLaws.{sends-causes}
 use Rattle.fw_model.proofs.SendsLaws.{IsOfCause, sent_by-of_cause}
 use Rattle.fw_model.proofs.SequenceLaws.{one_inside}
 use Rattle.fw_policy.specs.declared.view.NodeView.{NodeView}
-use Rattle.fw_policy.specs.View.{on_edge, causes_of, causes_in, StandForSent, StandForNumbered, AreStampsOf, IsNodeViewOf, AreNodeViewsFrom}
+use Rattle.fw_policy.specs.View.{causes_of, causes_in, StandForSent, StandForNumbered, AreStampsOf, IsNodeViewOf, AreNodeViewsFrom}
 use Rattle.fw_policy.specs.View.{IsOfCause as IsCountedOfCause}
 use Rattle.fw_plain.specs.Engine.{IsSound}
 use Rattle.fw_plain.specs.Offered.{single_message, sent_from, deliveries_to, AreStampsIn, HaveStampsFrom}

@@ -1,12 +1,18 @@
 -- What is written of the nodes, one after the other, is what they offer.
-use Rattle.std.proofs.Common.{◌≡◌, ℕ, zero, suc, ◌+◌, ◌<◌, true, List, [], ◌∷◌, ◌++◌, length, map, get_or, None, sym, subst, arith}
+use Rattle.std.proofs.Common.{◌≡◌, ℕ, zero, suc, ◌+◌, ◌<◌, ◌==◌, true, List, [], ◌∷◌, ◌++◌, length, map, get_or, inl, inr, sym, subst, arith}
 use Rattle.std.specs.List.{AllByRecursion}
+use Rattle.std.proofs.lemmas.Bool.{cases_lt}
+use Rattle.std.proofs.lemmas.List.{get_or_past, length-map}
 use Rattle.fw_time.specs.Stamp.{in_domain}
+use Rattle.fw_time.proofs.EachLaws.{each-kept, each-weaker}
+use Rattle.fw_flow.specs.declared.choice.Counted.{Counted}
 use Rattle.fw_flow.specs.declared.choice.Offer.{Offer}
-use Rattle.fw_flow.specs.Dataflow.{Dataflow, bounds_of}
-use Rattle.fw_model.specs.Offers.{listed_records, offered_range, IsRecordOf, IsRangeOf, IsListedBy, AreOnEdges, AreOffersOf}
+use Rattle.fw_flow.specs.declared.choice.Offered.{Offered}
+use Rattle.fw_flow.specs.declared.choice.Offered.TheVariants as form
+use Rattle.fw_flow.specs.Dataflow.{Dataflow, sender, receiver, bounds_of}
+use Rattle.fw_model.specs.Offers.{offered_by, listed_records, offered_range, sent_by, on_edge, HasOneCause, AreOfBatches, IsFormOf, IsRecordOf, IsRangeOf, AreOnEdges, AreOffersOf}
 use Rattle.fw_flow.specs.Restoring.{way_of}
-use Rattle.rows.specs.Written.{IsOfferOf, AreOffersFrom}
+use Rattle.rows.specs.Written.{IsMessageOf, IsOfferOf, AreOffersFrom}
 
 each-last : {A : Type 0} (P : A → Type 0) (xs : List A) (x : A) → AllByRecursion P xs → P x → AllByRecursion P (xs ++ x ∷ [])
 each-last P [] x a i = (i, tt)
@@ -43,12 +49,34 @@ looked-up flow f d Q g os p a n l = at-place flow f d Q g 0 p p os a (omega arit
 pub offers_are : (flow : Dataflow) (os : List Offer) → length os ≡ length flow.nodes → AreOffersFrom flow 0 os → AreOffersOf flow os
 offers_are flow os n a = record {
   one_each = n;
-  records = λ p l. looked-up flow (λ o. listed_records o.offered) [] (λ q rs. AllByRecursion (IsRecordOf flow q) rs) (λ q o i. i.offered.records) os p a n l;
-  range = λ p l. looked-up flow (λ o. offered_range o.offered) None (λ q r. IsRangeOf (bounds_of flow q) r) (λ q o i. i.offered.ends) os p a n l;
-  listed = λ p l.
-      looked-up flow (λ o. offered_range o.offered) None (λ q r. IsListedBy (way_of flow q) r) (λ q o i. i.offered.way) os p a n l;
-  delivered = λ p l. looked-up flow (λ o. o.stamps.delivered) [] (λ q ms. AreOnEdges flow ms) (λ q o i. i.delivered) os p a n l;
+  records = λ p l.
+      looked-up flow (λ o. o.offered) (form.Listed []) (λ q x. AllByRecursion (IsRecordOf flow q) (listed_records x)) (λ q o i. i.offered.records) os p a n l;
+  range = λ p l.
+      looked-up flow (λ o. o.offered) (form.Listed []) (λ q x. IsRangeOf (bounds_of flow q) (offered_range x)) (λ q o i. i.offered.ends) os p a n l;
+  form_fits = λ p l. looked-up flow (λ o. o.offered) (form.Listed []) (λ q x. IsFormOf (way_of flow q) x) (λ q o i. i.offered.way) os p a n l;
+  delivered = λ p l. looked-up flow (λ o. o.stamps.delivered) [] (λ q ms. AreOnEdges flow ms) (λ q o i. on-edges o.stamps.delivered i.delivered) os p a n l;
   notified = λ p l.
       looked-up flow (λ o. o.stamps.notified) [] (λ q ts. AllByRecursion (λ t. in_domain (bounds_of flow q) t ≡ true) ts) (λ q o i. i.notified) os p a n l;
-  sent = λ p l. looked-up flow (λ o. o.stamps.sent) [] (λ q ms. AreOnEdges flow ms) (λ q o i. i.sent) os p a n l;
+  sent = λ p l. looked-up flow (λ o. o.stamps.sent) [] (λ q ms. AreOnEdges flow ms) (λ q o i. on-edges o.stamps.sent i.sent) os p a n l;
+  batches = λ e l.
+      of-batches (offered_by os (sender flow e)) (on_edge e (sent_by os (sender flow e)))
+      (each-kept HasOneCause (λ (m : Counted). m.edge == e) (sent_by os (sender flow e)) (one-cause (sender flow e)));
 }
+  where
+    on-edges : (ms : List Counted) → AllByRecursion (IsMessageOf flow) ms → AreOnEdges flow ms
+    on-edges ms a = each-weaker (IsMessageOf flow) (λ (m : Counted). in_domain (bounds_of flow (receiver flow m.edge)) m.at ≡ true) ms (λ m i. i.0) a
+
+    one-cause : (p : ℕ) → AllByRecursion HasOneCause (sent_by os p)
+    one-cause p = elim (cases_lt p (length flow.nodes)) [
+      | inl l ↦
+          looked-up flow (λ o. o.stamps.sent) [] (λ q ms. AllByRecursion HasOneCause ms)
+          (λ q o i. each-weaker (IsMessageOf flow) HasOneCause o.stamps.sent (λ m j. j.1) i.sent) os p a n l
+      | inr l ↦
+          let past : get_or (map (λ (o : Offer). o.stamps.sent) os) p [] ≡ [] = get_or_past (map (λ (o : Offer). o.stamps.sent) os) p [] (rw length-map (omega (arith, n))) in
+          subst (AllByRecursion HasOneCause) (sym past) tt
+    ]
+
+    of-batches : (x : Offered) (ms : List Counted) → AllByRecursion HasOneCause ms → AreOfBatches x ms
+    of-batches (form.Listed records) ms a = tt
+    of-batches (form.Between least greatest) ms a = tt
+    of-batches (form.Batches least greatest exhausted) ms a = a

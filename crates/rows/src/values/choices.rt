@@ -1,13 +1,13 @@
 //! To what the nodes of a flow are restored, from what they offer.
-ghost use Rattle.std.specs.Prelude.{◌≡◌, ◌<◌, true, IfOk};
+ghost use Rattle.std.specs.Prelude.{◌≡◌, true, IfOk};
 ghost use Rattle.std.specs.List.{AllByRecursion};
 ghost use Rattle.std.specs.Option.{IfSome};
 ghost use Rattle.fw_time.specs.Stamp.{in_domain};
 ghost use Rattle.fw_frontier.specs.Front.{IsCanonical};
-ghost use Rattle.fw_flow.specs.Dataflow.{receiver, bounds_of};
-ghost use Rattle.fw_model.specs.Offers.{AreFrontsOfEdges, AreOffersOf, AreOnEdges, IsRecordOf};
-ghost use Rattle.rows.specs.Written as spec;
-ghost use Rattle.rows.specs.Written.{IsOfferOf, IsOfferedBy};
+ghost use Rattle.fw_flow.specs.Dataflow.{bounds_of};
+ghost use Rattle.fw_flow.specs.declared.restoring.Restoring.TheVariants as ways;
+ghost use Rattle.fw_model.specs.Offers.{AreFrontsOfEdges, AreOffersOf, IsRecordOf, is_by_range};
+ghost use Rattle.rows.specs.Written.{IsMessageOf, IsOfferOf, IsOfferedBy};
 
 use crate::line::{if_spelled, part};
 use crate::values::sent::sent_table;
@@ -15,14 +15,12 @@ use crate::values::spell::{stamp_of, stamps_of};
 use crate::values::trail::tell_trail;
 use fw_flow::{
     Causes, Choice, Counted, CountedMessages, Cut, EdgeId, Flow, NodeId, Notices, OfEdge, OfEdges,
-    Offer, Offered, Recorded, Records, Restoring, SentTable, Stamps, Steps,
+    Offer, Offered, Recorded, Records, Restoring, SentTable, Stamps,
 };
 use fw_frontier::Front;
-use fw_monitor::{Descent, descend, largest};
+use fw_monitor::{descent_to_largest, largest};
 use fw_time::{Bounds, Stamp};
 use std::alloc::{AllocError, Global};
-use std::marker::Brand;
-use std::sync::ledger::{Blank, Ledger};
 
 // The frontier of a domain that has these stamps outside; all, where they are not spelled right or one is past the domain.
 fn front(alloc: Global, bounds: &Bounds, text: &str) -> Result<Front, AllocError>
@@ -104,35 +102,57 @@ fn records(
     Ok(records)
 }
 
-// Whether a node that is restored so lists its frontiers.
-fn is_listed(way: Restoring) -> bool
-    ensures { result ≡ spec.is_listed way }
+// Whether a node that is restored so offers all between two frontiers.
+fn is_by_range(way: Restoring) -> bool
+    ensures { result ≡ is_by_range way }
 {
     match way {
-        Restoring::Batches | Restoring::Checkpoints => true,
-        Restoring::Bound | Restoring::Anything | Restoring::Events => false,
+        Restoring::Batches | Restoring::Checkpoints => false,
+        Restoring::Bound | Restoring::Anything | Restoring::Events => true,
     }
 }
 
-// The frontiers of a node: its records, or the least and the greatest with `to` between them.
+// Whether a node that is restored so is a source.
+fn is_source(way: Restoring) -> bool
+    ensures { result ≡ true → way ≡ ways.Batches }
+{
+    match way {
+        Restoring::Batches => true,
+        Restoring::Bound | Restoring::Anything | Restoring::Checkpoints | Restoring::Events =>
+            false,
+    }
+}
+
+// The frontiers of a node: its records, or the least and the greatest with `to` between them; of an exhausted source `and all`
+// follows these.
 fn offered(alloc: Global, flow: &Flow, node: NodeId, text: &str) -> Result<Offered, AllocError>
     ensures { IfOk result (λ o. IsOfferedBy flow.now node o) }
 {
-    if is_listed(flow.restoring(node)) {
-        return Ok(Offered::Listed(Records::of(records(alloc, flow, node, text)?)));
-    }
-    let (least, greatest) = text.split_once("to").unwrap_or((text, text));
+    let way = flow.restoring(node);
     let domain = flow.domain(node);
-    Ok(Offered::Between {
-        least: front(alloc, &domain, least)?,
-        greatest: front(alloc, &domain, greatest)?,
-    })
+    if is_by_range(way) {
+        let (least, greatest) = text.split_once("to").unwrap_or((text, text));
+        return Ok(Offered::Between {
+            least: front(alloc, &domain, least)?,
+            greatest: front(alloc, &domain, greatest)?,
+        });
+    }
+    if is_source(way) {
+        if let Some((least, rest)) = text.split_once("to") {
+            let (greatest, all) = rest.split_once("and").unwrap_or((rest, ""));
+            return Ok(Offered::Batches {
+                least: front(alloc, &domain, least)?,
+                greatest: front(alloc, &domain, greatest)?,
+                exhausted: all.trim() == "all",
+            });
+        }
+    }
+    Ok(Offered::Listed(Records::of(records(alloc, flow, node, text)?)))
 }
 
 // A message by its edge, its stamp and its cause, which is its stamp if none is written.
 fn message(alloc: Global, flow: &Flow, word: &str) -> Result<Option<Counted>, AllocError>
-    ensures { IfOk result (λ message. IfSome message
-        (λ m. in_domain (bounds_of flow.now (receiver flow.now m.edge)) m.at ≡ true)) }
+    ensures { IfOk result (λ message. IfSome message (IsMessageOf flow.now)) }
 {
     let (edge, rest) = word.split_once(':').unwrap_or((word, ""));
     let (at, cause) = rest.split_once(':').unwrap_or((rest, rest));
@@ -155,7 +175,7 @@ fn message(alloc: Global, flow: &Flow, word: &str) -> Result<Option<Counted>, Al
 }
 
 fn messages(alloc: Global, flow: &Flow, text: &str) -> Result<Vec<Counted>, AllocError>
-    ensures { IfOk result (λ messages. AreOnEdges flow.now messages.items) }
+    ensures { IfOk result (λ messages. AllByRecursion (IsMessageOf flow.now) messages.items) }
 {
     let mut messages = Vec::new(alloc);
     for word in text.split_whitespace() {
@@ -282,33 +302,10 @@ pub fn tell_choice(
 ) -> Result<(), AllocError> {
     let offers = offers(alloc, flow, lines)?;
     if lines.lines().any(|line| line == "trail") {
-        let descent = descent(alloc, flow, &offers)?;
+        let descent = descent_to_largest(alloc, flow, &offers)?;
         tell_cuts(alloc, &descent.choice, told)?;
         return tell_trail(flow, lines, &descent.trail, told);
     }
     let choice = largest(alloc, flow, &offers)?;
     tell_cuts(alloc, &choice, told)
-}
-
-// The descent over what nodes offer.
-fn descent(alloc: Global, flow: &Flow, offers: &[Offer]) -> Result<Descent, AllocError>
-    requires { AreOffersOf flow.now offers.now }
-{
-    counted::<Brand>(alloc, flow, offers, Blank::new(1))
-}
-
-// The same by a counter of its own.
-fn counted<L: Ledger>(
-    alloc: Global,
-    flow: &Flow,
-    offers: &[Offer],
-    blank: Blank,
-) -> Result<Descent, AllocError>
-    requires offers { AreOffersOf flow.now offers.now }
-    requires name { blank.name ≡ L.name }
-    requires parts { blank.parts ≡ L.parts }
-    requires some { 0 < L.parts }
-{
-    let mut steps = Steps::<L>::none(blank);
-    descend(alloc, flow, offers, &mut steps)
 }

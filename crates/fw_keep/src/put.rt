@@ -15,13 +15,13 @@ use fw_record::{Record, encode};
 use std::alloc::{AllocError, Global};
 
 /// The entry of a record under an id. The error is want of memory.
-fn entry_of(alloc: Global, id: u64, what: &Record, stamps: Stamps) -> Result<Entry, AllocError>
+fn entry_of(id: u64, what: &Record, stamps: Stamps) -> Result<Entry, AllocError>
     ensures { IfOk result (λ e. e ≡ asked id what.now stamps) }
 {
     Ok(Entry {
         id,
         node: node_of(what),
-        written: written_of(alloc, what, stamps)?,
+        written: written_of(what, stamps)?,
         acknowledged: false,
         base: None,
         depth: 0,
@@ -65,7 +65,7 @@ pub(crate) fn put_new<K: Store>(
     ensures never_falls { K.fault_count store.old ≤ K.fault_count store.new }
 {
     let bytes = encode(alloc, what)?;
-    let entry = entry_of(alloc, id, what, stamps)?;
+    let entry = entry_of(id, what, stamps)?;
     add(entries, waiting, entry)?;
     let put = store.put(id, &bytes);
     if put.is_err() {

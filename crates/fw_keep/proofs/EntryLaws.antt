@@ -1,5 +1,5 @@
--- The first entries that are known to be acknowledged, and the entry of an id.
-use Rattle.std.proofs.Common.{◌≡◌, ℕ, zero, suc, ◌<◌, ◌≤◌, true, false, cond, ◌==◌, List, [], ◌∷◌, ◌++◌, length, get_or, take, drop, Some, ◌⊎◌, inl, inr, refl, sym, ap, ◌∙◌, arith}
+-- The entry of an id.
+use Rattle.std.proofs.Common.{◌≡◌, ℕ, zero, suc, ◌<◌, ◌≤◌, nat_lt, true, false, ◌==◌, List, [], ◌∷◌, length, get_or, ◌⊎◌, inl, inr, refl, sym, ap, ◌∙◌, arith}
 use Rattle.std.specs.List.{AllByRecursion}
 use Rattle.std.specs.List.Sorted.{IsNonDecreasingBy, IsPartitionPoint}
 use Rattle.std.specs.Ordering.{nat_cmp, ordering_index}
@@ -9,28 +9,15 @@ use Rattle.std.proofs.lemmas.Bool.Decides.{nat_tests}
 use Rattle.std.proofs.lemmas.List.Elements.{All-contains, All-from_recursion}
 use Rattle.fw_time.proofs.EachLaws.{each-weaker, each-at, each_of-map}
 use Rattle.fw_keep.specs.declared.entry.Entry.{Entry}
-use Rattle.fw_keep.specs.Catalogue.{AreAcknowledged, AreAscending, IsOnly, ids_of, has_entry, oldest, persisted}
+use Rattle.fw_keep.specs.Catalogue.{AreAscending, IsOnly, ids_of, has_entry}
 use Rattle.fw_keep.proofs.IdLaws.{or_true}
-
--- ---- the first ones
-
-pub oldest-known : (n : ℕ) (es : List Entry) → AreAcknowledged (take n es) → oldest (drop n es) ≡ oldest es
-oldest-known zero es h = refl
-oldest-known (suc n) [] h = refl
-oldest-known (suc n) (e ∷ es) h = oldest-known n es h.1 ∙ ap (λ b. cond b (oldest es) (Some e.id)) (sym h.0)
-
-pub persisted-known : (n : ℕ) (es : List Entry) → AreAcknowledged (take n es) → take n es ++ persisted (drop n es) ≡ persisted es
-persisted-known zero es h = refl
-persisted-known (suc n) [] h = refl
-persisted-known (suc n) (e ∷ es) h =
-    ap (λ rest. e ∷ rest) (persisted-known n es h.1) ∙ ap (λ b. cond b (e ∷ persisted es) (record e { acknowledged = true } ∷ es)) (sym h.0)
 
 -- ---- the entry of an id
 
 later-above : (n : ℕ) (es : List Entry) (i : ℕ) (d : Entry) → i < length es → AllByRecursion (λ later. n < later) (ids_of es) → n < (get_or es i d).id
 later-above n es i d l h = each-at (λ (e : Entry). n < e.id) es i d l (each_of-map (λ later. n < later) (λ (e : Entry). e.id) es h)
 
-ascending-at : (es : List Entry) → AreAscending (ids_of es) → (i j : ℕ) (d : Entry) → i ≤ j → j < length es → (get_or es i d).id ≤ (get_or es j d).id
+pub ascending-at : (es : List Entry) → AreAscending (ids_of es) → (i j : ℕ) (d : Entry) → i ≤ j → j < length es → (get_or es i d).id ≤ (get_or es j d).id
 ascending-at [] h i j d le l = absurd (omega arith)
 ascending-at (e ∷ es) h zero zero d le l = omega arith
 ascending-at (e ∷ es) h zero (suc j) d le l = let above : e.id < (get_or es j d).id = later-above e.id es j d (omega arith) h.0 in omega arith
@@ -84,3 +71,19 @@ found-none es id i parts = none-at es id (λ k d l. by k d l (cases_lt k i))
     by : (k : ℕ) (d : Entry) → k < length es → (k < i) ⊎ (i ≤ k) → ((get_or es k d).id == id) ≡ false
     by k d l (inl before) = less-apart (get_or es k d).id id (parts.0 k d (omega arith) before)
     by k d l (inr after) = greater-apart (get_or es k d).id id (parts.1 k d after l)
+
+-- ---- ids below an id
+
+lower : (a b n : ℕ) → a ≤ b → nat_lt b n ≡ true → nat_lt a n ≡ true
+lower a b n le h = grind (arith, nat_tests)
+
+-- of entries whose ids ascend those below an id come first
+pub below_first : (es : List Entry) (id : ℕ) → AreAscending (ids_of es) → (i j : ℕ) (d : Entry) → i ≤ j → j < length es
+    → nat_lt (get_or es j d).id id ≡ true → nat_lt (get_or es i d).id id ≡ true
+below_first es id h i j d le l below = lower (get_or es i d).id (get_or es j d).id id (ascending-at es h i j d le l) below
+
+pub is_below : (a b : ℕ) → nat_lt a b ≡ true → a < b
+is_below a b h = grind (arith, nat_tests)
+
+pub is_not_below : (a b : ℕ) → nat_lt a b ≡ false → b ≤ a
+is_not_below a b h = grind (arith, nat_tests)

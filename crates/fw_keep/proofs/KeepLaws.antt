@@ -1,17 +1,17 @@
 -- What a catalogue holds stays sound.
-use Rattle.std.proofs.Common.{◌≡◌, ℕ, ◌+◌, ◌<◌, ◌≤◌, List, [], ◌∷◌, ◌++◌, length, take, Option, Some, Result, Ok, Err, vec_len, refl, sym, ap, subst, ◌∙◌, arith, length-append}
+use Rattle.std.proofs.Common.{◌≡◌, ℕ, ◌+◌, ◌<◌, ◌≤◌, List, [], ◌∷◌, ◌++◌, false, length, Option, Some, Result, Ok, Err, vec_len, refl, sym, ap, subst, ◌∙◌, arith, length-append}
 use Rattle.std.specs.Prelude.{Contains}
 use Rattle.std.specs.Vec.{vec_capacity}
-use Rattle.std.proofs.lemmas.List.{take-append-le}
 use Rattle.fw_flow.specs.Dataflow.{Dataflow}
 use Rattle.fw_record.specs.declared.record.Record.{Record}
 use Rattle.fw_keep.specs.declared.entry.Entry.{Entry}
 use Rattle.fw_keep.specs.declared.fault.KeepFault.{KeepFault}
 use Rattle.fw_keep.specs.declared.fault.KeepFault.TheVariants as fault
 use Rattle.fw_keep.specs.declared.keep.Keep.TheInside.{Inside}
-use Rattle.fw_keep.specs.Catalogue.{IsCatalogue, AreAcknowledged, IsOnly}
+use Rattle.fw_keep.specs.Catalogue.{IsCatalogue, IsAcknowledgedUpTo, IsOnly}
 use Rattle.fw_keep.specs.Inside.{state_of, IsSoundInside}
 use Rattle.fw_keep.specs.Stored.{Records, Sweeps, ReadsAs, Fetches}
+use Rattle.fw_keep.proofs.InFlightLaws.{added}
 use Rattle.fw_keep.proofs.CatalogueLaws.{same-state, catalogue-drawn, catalogue-added, catalogue-swept}
 
 -- ids are drawn, and there is no entry
@@ -20,20 +20,18 @@ pub sound-drawn : (old new : Inside) → IsSoundInside old → new.entries.items
 sound-drawn old new h entries waiting next persisted room = record {
   catalogue = subst IsCatalogue (sym (same-state (state_of new) (record (state_of old) { next = new.next; refused = new.refused }) entries refl waiting refl))
       (catalogue-drawn (state_of old) new.next new.refused next h.catalogue);
-  there = omega (arith, ap (λ (es : List Entry). length es) entries, persisted, h.there);
-  persisted = subst (λ (es : List Entry). AreAcknowledged (take new.persisted es)) (sym entries) (subst (λ n. AreAcknowledged (take n old.entries.items)) (sym persisted) h.persisted);
+  persisted = subst (λ (es : List Entry). IsAcknowledgedUpTo new.persisted es) (sym entries) (subst (λ n. IsAcknowledgedUpTo n old.entries.items) (sym persisted) h.persisted);
   room = room;
 }
 
 -- an id is drawn, and its entry is added
-pub sound-added : (old new : Inside) (e : Entry) → e.id ≡ old.next → IsSoundInside old → new.entries.items ≡ old.entries.items ++ e ∷ [] → new.waiting.items ≡ old.waiting.items
+pub sound-added : (old new : Inside) (e : Entry) → e.id ≡ old.next → e.acknowledged ≡ false → IsSoundInside old → new.entries.items ≡ old.entries.items ++ e ∷ [] → new.waiting.items ≡ old.waiting.items
     → old.next < new.next → new.persisted ≡ old.persisted → new.refused ≡ old.refused → vec_len new.waiting + vec_len new.entries ≤ vec_capacity new.waiting → IsSoundInside new
-sound-added old new e same h entries waiting next persisted refused room = record {
+sound-added old new e same flying h entries waiting next persisted refused room = record {
   catalogue = subst IsCatalogue (sym (same-state (state_of new) (record (state_of old) { entries = old.entries.items ++ e ∷ []; next = new.next }) entries refl waiting refused))
       (catalogue-added (state_of old) e new.next same next h.catalogue);
-  there = omega (arith, ap (λ (es : List Entry). length es) entries, length-append old.entries.items (e ∷ []), persisted, h.there);
-  persisted = subst (λ (es : List Entry). AreAcknowledged (take new.persisted es)) (sym entries) (subst (λ n. AreAcknowledged (take n (old.entries.items ++ e ∷ []))) (sym persisted)
-      (subst AreAcknowledged (sym (take-append-le old.persisted old.entries.items (e ∷ []) h.there)) h.persisted));
+  persisted = subst (λ (es : List Entry). IsAcknowledgedUpTo new.persisted es) (sym entries) (subst (λ n. IsAcknowledgedUpTo n (old.entries.items ++ e ∷ [])) (sym persisted)
+      (added old.persisted old.entries.items e flying h.persisted));
   room = room;
 }
 
@@ -45,8 +43,7 @@ sound-swept old new before after h s entries next persisted capacity =
     record {
       catalogue = subst IsCatalogue (sym (same-state (state_of new) (record (state_of old) { waiting = new.waiting.items; refused = new.refused }) same next refl refl))
           (catalogue-swept (state_of old) new.waiting.items s.removed new.refused s.parts h.catalogue);
-      there = omega (arith, ap (λ (es : List Entry). length es) same, persisted, h.there);
-      persisted = subst (λ (es : List Entry). AreAcknowledged (take new.persisted es)) (sym same) (subst (λ n. AreAcknowledged (take n old.entries.items)) (sym persisted) h.persisted);
+      persisted = subst (λ (es : List Entry). IsAcknowledgedUpTo new.persisted es) (sym same) (subst (λ n. IsAcknowledgedUpTo n old.entries.items) (sym persisted) h.persisted);
       room = omega (arith, ap length s.parts, length-append new.waiting.items s.removed, new.waiting.ok.0, old.waiting.ok.0, ap (λ (es : List Entry). length es) same, new.entries.ok.0, old.entries.ok.0, capacity, h.room);
     }
 

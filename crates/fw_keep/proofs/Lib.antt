@@ -3,3 +3,6 @@ pub mod CatalogueLaws
 pub mod StoredLaws
 pub mod EntryLaws
 pub mod KeepLaws
+pub mod BytesLaws
+pub mod InFlightLaws
+pub mod TakingLaws

@@ -20,7 +20,7 @@ use Rattle.fw_keep.proofs.IdLaws.{or_true, ids-more, has_entry-parts, ids-persis
 
 -- ---- the map at an id
 
-equal_by_cmp : (q k : ℕ) → eq_by_cmp nat_cmp q k ≡ (k == q)
+pub equal_by_cmp : (q k : ℕ) → eq_by_cmp nat_cmp q k ≡ (k == q)
 equal_by_cmp q k = grind (arith, nat_tests)
 
 some-cond : (b : Bool) (bytes : List ℕ) (o : Option (List ℕ)) → is_some (cond b (Some bytes) o) ≡ (b || is_some o)

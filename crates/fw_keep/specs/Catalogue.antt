@@ -1,5 +1,5 @@
 -- The catalogue of writes.
-use Rattle.std.specs.Prelude.{◌≡◌, ℕ, ◌<◌, Bool, true, false, not, ◌==◌, List, [], ◌∷◌, ◌++◌, filter, map, Option, Some, None, if◌then◌else◌}
+use Rattle.std.specs.Prelude.{◌≡◌, ℕ, ◌<◌, ◌≤◌, Bool, true, false, not, ◌==◌, List, [], ◌∷◌, ◌++◌, filter, map, length, take, drop, Option, Some, None, if◌then◌else◌}
 use Rattle.std.specs.List.{AllByRecursion, Contains, list_any}
 use Rattle.fw_keep.specs.declared.entry.Entry.{Entry}
 
@@ -69,3 +69,13 @@ pub record IsOnly (es : List Entry) (id : ℕ) (e : Entry) : Type 0 where
 -- the entries are acknowledged
 abbrev pub AreAcknowledged : List Entry → Type 0
 AreAcknowledged es = AllByRecursion (λ (e : Entry). e.acknowledged ≡ true) es
+
+-- the entries are in flight
+abbrev pub AreInFlight : List Entry → Type 0
+AreInFlight es = AllByRecursion (λ (e : Entry). e.acknowledged ≡ false) es
+
+-- So many entries are acknowledged: the first ones. The others are in flight.
+pub record IsAcknowledgedUpTo (n : ℕ) (es : List Entry) : Type 0 where
+  pub there : n ≤ length es
+  pub first : AreAcknowledged (take n es)
+  pub others : AreInFlight (drop n es)

@@ -1,8 +1,9 @@
 -- The writes of a catalogue: what an entry has of a record, and which entries a call speaks of.
-use Rattle.std.specs.Prelude.{ℕ, Bool, false, not, ◌&&◌, ◌==◌, nat_le, None}
+use Rattle.std.specs.Prelude.{◌≡◌, ℕ, Bool, false, not, ◌&&◌, ◌==◌, nat_le, None}
 use Rattle.fw_time.specs.Stamp.{Stamp, same}
 use Rattle.fw_frontier.specs.Front.{Front, inside, is_within}
 use Rattle.fw_flow.specs.Dataflow.{Dataflow}
+use Rattle.fw_flow.specs.declared.choice.Recorded.{Recorded}
 use Rattle.fw_flow.specs.declared.choice.Stamps.{Stamps}
 use Rattle.fw_record.specs.declared.record.Event.{Event}
 use Rattle.fw_record.specs.declared.record.Event.TheVariants.{Deliver, Notify}
@@ -35,9 +36,19 @@ abbrev pub asked : ℕ → Record → Stamps → Entry
 asked id r stamps =
     record { id = id; node = node_of r; written = written_of r stamps; acknowledged = false; base = None; depth = 0 }
 
--- the record can be that of the entry: of a checkpoint of its node at its frontier, or of its event
+-- this is recorded in it: a frontier, and what stands for the events inside
+abbrev pub HasRecorded : Recorded → Record → Type 0
+HasRecorded recorded (tagged.State c) = c.recorded ≡ recorded
+HasRecorded recorded (tagged.Event node event) = ⊥
+
+-- The record can be that of a checkpoint of node p in which this is recorded.
+pub record IsRecordWith (flow : Dataflow) (p : ℕ) (held : Recorded) (r : Record) : Type 0 where
+  pub of_node : IsRecordOfCheckpoint flow p held.front r
+  pub recorded : HasRecorded held r
+
+-- the record can be that of the entry: of a checkpoint of its node in which the same is recorded, or of its event
 abbrev pub IsRecordAs : Dataflow → ℕ → Written → Record → Type 0
-IsRecordAs flow p (written.Checkpoint recorded stamps) r = IsRecordOfCheckpoint flow p recorded.front r
+IsRecordAs flow p (written.Checkpoint recorded stamps) r = IsRecordWith flow p recorded r
 IsRecordAs flow p (written.Event event) r = IsRecordOfEvent p event r
 
 abbrev pub IsRecordOf : Dataflow → Entry → Record → Type 0

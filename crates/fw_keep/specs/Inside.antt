@@ -1,8 +1,8 @@
 -- What a catalogue holds.
-use Rattle.std.specs.Prelude.{◌+◌, ◌≤◌, length, take, vec_len}
+use Rattle.std.specs.Prelude.{◌+◌, ◌≤◌, vec_len}
 use Rattle.std.specs.Vec.{vec_capacity}
 use Rattle.fw_keep.specs.declared.keep.Keep.TheInside.{Inside}
-use Rattle.fw_keep.specs.Catalogue.{KeepState, IsCatalogue, AreAcknowledged}
+use Rattle.fw_keep.specs.Catalogue.{KeepState, IsCatalogue, IsAcknowledgedUpTo}
 
 -- the state that it stands for
 abbrev pub state_of : Inside → KeepState
@@ -15,10 +15,9 @@ state_of keep = record {
 
 -- ---- for the proofs
 
--- It stands for the state of a catalogue; so many of its first entries as it says are there and acknowledged; and there is
--- room for the ids of its entries among those that wait.
+-- It stands for the state of a catalogue; so many of its first entries as it says are acknowledged, and no others; and there
+-- is room for the ids of its entries among those that wait.
 pub record IsSoundInside (keep : Inside) : Type 0 where
   pub catalogue : IsCatalogue (state_of keep)
-  pub there : keep.persisted ≤ length keep.entries.items
-  pub persisted : AreAcknowledged (take keep.persisted keep.entries.items)
+  pub persisted : IsAcknowledgedUpTo keep.persisted keep.entries.items
   pub room : vec_len keep.waiting + vec_len keep.entries ≤ vec_capacity keep.waiting

@@ -1,7 +1,7 @@
 -- What a store holds of a catalogue, and what its calls leave.
 use Rattle.std.specs.Prelude.{◌≡◌, ℕ, Bool, ◌||◌, List, [], ◌∷◌, ◌++◌, Option, Some, option_map, is_some, IsSome, Result, Ok, Err}
-use Rattle.std.specs.Option.{ForSome}
-use Rattle.std.specs.List.{AllByRecursion}
+use Rattle.std.specs.Option.{ForSome, option_and_then}
+use Rattle.std.specs.List.{AllByRecursion, Contains}
 use Rattle.std.specs.Ordering.{nat_cmp}
 use Rattle.std.specs.FinMap as map
 use Rattle.fw_flow.specs.Dataflow.{Dataflow}
@@ -29,6 +29,21 @@ IsEmptyStore records = ForSome records (λ held. held ≡ map.empty)
 -- Where the store tells its records, there is one under exactly the ids of the entries and those that wait for a sweep.
 abbrev pub IsStored : KeepState → Option Records → Type 0
 IsStored keep records = ForSome records (λ held. (id : ℕ) → is_some (map.get held id) ≡ is_held keep id)
+
+-- the bytes under an id, where the store tells its records and there are some
+abbrev pub bytes_under : ℕ → Option Records → Option (List ℕ)
+bytes_under id records = option_and_then (λ held. map.get held id) records
+
+-- of each of these entries the store holds the bytes that it held
+abbrev pub KeepsBytes : List Entry → Option Records → Option Records → Type 0
+KeepsBytes entries old new = (e : Entry) → Contains entries e → bytes_under e.id new ≡ bytes_under e.id old
+
+-- The store tells its records, and holds this one as the entry's: it has a spelling, can be the entry's, and its bytes are
+-- under the entry's id.
+pub record HoldsAs (flow : Dataflow) (records : Option Records) (e : Entry) (r : Record) : Type 0 where
+  pub sound : IsSound r
+  pub of_entry : IsRecordOf flow e r
+  pub bytes : bytes_under e.id records ≡ Some (spelling r)
 
 -- the records without those under the ids
 abbrev pub without_ids : List ℕ → Records → Records
@@ -59,6 +74,13 @@ IsToldUnder id records (Ok r) = ForSome records (λ held. map.get held id ≡ So
 IsToldUnder id records (Err (fault.Damaged at bytes)) = ForSome records (λ held. map.get held id ≡ Some bytes.items)
 IsToldUnder id records (Err fault.StoreFault) = Unit {0}
 IsToldUnder id records (Err fault.NoMemory) = Unit {0}
+
+-- where the call gives a record it is this one, and it does not answer that it is damaged
+abbrev pub GivesOnly : Record → Result Record KeepFault → Type 0
+GivesOnly r (Ok other) = other ≡ r
+GivesOnly r (Err (fault.Damaged at bytes)) = ⊥
+GivesOnly r (Err fault.StoreFault) = Unit {0}
+GivesOnly r (Err fault.NoMemory) = Unit {0}
 
 -- the call does not answer that a record is damaged
 abbrev pub IsUndamaged : {T : Type 0} → Result T KeepFault → Type 0

@@ -2,6 +2,7 @@
 ghost use Rattle.std.specs.Prelude.{◌≡◌, ◌↔◌, [], IsTrue};
 ghost use Rattle.fw_keep.specs.Entry.{lies_within, lies_below, is_event_at, stamp_of, IsRecordOf};
 
+use crate::same::has_recorded;
 use fw_flow::{CountedMessages, Flow, NodeId, Notices, Recorded, Stamps};
 use fw_frontier::Front;
 use fw_record::{Event, Record};
@@ -47,14 +48,15 @@ pub fn no_stamps(alloc: Global) -> Stamps
 }
 
 impl Entry {
-    /// Whether the record can be that of the entry: of a checkpoint of its node at its frontier (`Record::is_checkpoint_of`),
-    /// or of its event.
+    /// Whether the record can be that of the entry: of a checkpoint of its node (`Record::is_checkpoint_of`) in which the same
+    /// is recorded, or of its event.
     pub fn has_record(&self, flow: &Flow, what: &Record) -> bool
         ensures { IsTrue result ↔ IsRecordOf flow.now self.now what.now }
     {
         match &self.written {
             Written::Checkpoint { recorded, .. } => {
-                what.is_checkpoint_of(flow, self.node, &recorded.front)
+                has_recorded(what, recorded)
+                    && what.is_checkpoint_of(flow, self.node, &recorded.front)
             }
             Written::Event(event) => what.is_event_of(self.node, event),
         }

@@ -1,8 +1,9 @@
 //! Which entries a call takes out.
-ghost use Rattle.std.specs.Prelude.{◌≡◌, ◌+◌, ◌≤◌, ◌++◌, Bool, not, filter, length, vec_len};
+ghost use Rattle.std.specs.Prelude.{◌≡◌, ◌+◌, ◌<◌, ◌≤◌, ◌++◌, Bool, false, not, filter, length, take, drop, vec_len};
+ghost use Rattle.std.specs.List.{AllByRecursion};
 ghost use Rattle.std.specs.Vec.{vec_capacity};
 ghost use Rattle.fw_keep.specs.declared.entry.Entry.{Entry as Write};
-ghost use Rattle.fw_keep.specs.Catalogue.{ids_of};
+ghost use Rattle.fw_keep.specs.Catalogue.{AreAscending, ids_of};
 ghost use Rattle.fw_keep.specs.Entry.{is_lost, is_withdrawn, is_above, is_below, is_at};
 
 use crate::Entry;
@@ -11,7 +12,7 @@ use fw_frontier::Front;
 use fw_time::Stamp;
 
 /// A test of entries: those that go.
-pub(crate) trait Going {
+pub trait Going {
     /// Whether an entry goes.
     ghost goes: { Self → Write → Bool };
 
@@ -93,33 +94,60 @@ impl Going for EventsAt<'_> {
     }
 }
 
-/// Takes entries out, and has their ids wait, for which there is room.
-pub(crate) fn take_out<G: Going>(entries: &mut Vec<Entry>, waiting: &mut Vec<u64>, going: &G)
+/// Takes entries out, none of which is one of so many first ones, and has their ids wait, for which there is room. It looks at
+/// no entry before these.
+pub(crate) fn take_out<G: Going>(
+    entries: &mut Vec<Entry>,
+    waiting: &mut Vec<u64>,
+    from: usize,
+    going: &G,
+)
+    requires from { from ≤ length entries.old.items }
+    requires others { AllByRecursion (λ e. G.goes going.now e ≡ false) (take from entries.old.items) }
     requires room { vec_len waiting.old + vec_len entries.old ≤ vec_capacity waiting.old }
     ensures entries { entries.new.items ≡ filter (λ e. not (G.goes going.now e)) entries.old.items }
     ensures waiting { waiting.new.items ≡ waiting.old.items ++ ids_of (filter (G.goes going.now) entries.old.items) }
     ensures room { vec_len waiting.new + vec_len entries.new ≤ vec_capacity waiting.new }
 {
-    add_ids(waiting, entries, going);
-    keep_others(entries, going);
+    add_ids(waiting, entries, from, going);
+    keep_others(entries, from, going);
 }
 
-/// Adds the ids of the entries that go, for which there is room.
-fn add_ids<G: Going>(waiting: &mut Vec<u64>, entries: &[Entry], going: &G)
+/// Adds the ids of the entries that go, from a place on, for which there is room.
+fn add_ids<G: Going>(waiting: &mut Vec<u64>, entries: &[Entry], from: usize, going: &G)
+    requires from { from ≤ length entries.now }
     requires room { vec_len waiting.old + length entries.now ≤ vec_capacity waiting.old }
-    ensures waiting { waiting.new.items ≡ waiting.old.items ++ ids_of (filter (G.goes going.now) entries.now) }
+    ensures waiting { waiting.new.items ≡ waiting.old.items ++ ids_of (filter (G.goes going.now) (drop from entries.now)) }
     ensures capacity { vec_capacity waiting.new ≡ vec_capacity waiting.old }
 {
-    for entry in entries {
-        if going.takes(entry) {
-            waiting.push_reserved(entry.id);
+    for place in from..entries.len() {
+        if going.takes(&entries[place]) {
+            waiting.push_reserved(entries[place].id);
         }
     }
 }
 
-/// Keeps the entries that do not go.
-fn keep_others<G: Going>(entries: &mut Vec<Entry>, going: &G)
-    ensures { entries.new.items ≡ filter (λ e. not (G.goes going.now e)) entries.old.items }
+/// Keeps of the entries from a place on those that do not go.
+fn keep_others<G: Going>(entries: &mut Vec<Entry>, from: usize, going: &G)
+    requires { from ≤ length entries.old.items }
+    ensures { entries.new.items ≡ take from entries.old.items ++ filter (λ e. not (G.goes going.now e)) (drop from entries.old.items) }
 {
-    entries.retain(|entry| !going.takes(entry));
+    let mut kept = from;
+    for place in from..entries.len() {
+        if !going.takes(&entries[place]) {
+            entries.swap(kept, place);
+            kept += 1;
+        }
+    }
+    entries.truncate(kept);
+}
+
+/// The place of the first entry whose id is not below this one.
+pub(crate) fn first_from(entries: &[Entry], id: u64) -> usize
+    requires { AreAscending (ids_of entries.now) }
+    ensures inside { result ≤ length entries.now }
+    ensures below { AllByRecursion (λ e. e.id < id) (take result entries.now) }
+    ensures from { AllByRecursion (λ e. id ≤ e.id) (drop result entries.now) }
+{
+    entries.partition_point(|entry| entry.id < id)
 }

@@ -3,14 +3,15 @@ ghost use Rattle.std.specs.Prelude.{◌≡◌, ◌↔◌, ◌+◌, ◌^◌, ◌<
 ghost use Rattle.std.specs.FinMap as map;
 ghost use Rattle.fw_outside.specs.Outside.{Rose};
 ghost use Rattle.fw_record.specs.Spelling.{spelling};
+ghost use Rattle.fw_record.specs.declared.record.Record.{Record as Spelled};
 ghost use Rattle.fw_keep.specs.declared.entry.Entry.{Entry as Write};
 ghost use Rattle.fw_keep.specs.Entry.{asked, is_lost, is_withdrawn, is_above, is_below, is_at};
 ghost use Rattle.fw_keep.specs.Catalogue.{IsCatalogue, has_entry, oldest, persisted, without};
-ghost use Rattle.fw_keep.specs.Stored.{Records, IsEmptyStore, IsStored, Sweeps, Fetches, IsToldUnder, IsUndamaged};
+ghost use Rattle.fw_keep.specs.Stored.{Records, IsEmptyStore, IsStored, Sweeps, Fetches, IsToldUnder, IsUndamaged, KeepsBytes, HoldsAs, GivesOnly};
 
 use crate::fetch::{entry_at, read};
-use crate::going::{Above, Below, EventsAt, Going, Lost, Withdrawn, take_out};
-use crate::persist::persist_first;
+use crate::going::{Above, Below, EventsAt, Going, Lost, Withdrawn, first_from, take_out};
+use crate::persist::{acknowledged, persist_first};
 use crate::put::put_new;
 use crate::sweep::remove_waiting;
 use crate::{Entry, KeepFault};
@@ -30,7 +31,7 @@ use std::marker::Model;
 pub struct Keep {
     alloc: Global,
     entries: Vec<Entry>,
-    // So many of the first entries are known to be acknowledged.
+    // So many entries are acknowledged: the first ones.
     persisted: usize,
     next: u64,
     // It has room for the ids of the entries.
@@ -116,6 +117,9 @@ impl Keep {
         ensures kept { OnErr result (self.new.entries ≡ self.old.entries) }
         ensures stays { OnErr result (K.records store.new ≡ K.records store.old) }
 
+        // In each case the bytes of the other entries stay.
+        ensures bytes { KeepsBytes self.old.entries (K.records store.old) (K.records store.new) }
+
         ensures drawn { self.new.next ≡ self.old.next + 1 }
         ensures waiting { self.new.waiting ≡ self.old.waiting }
         ensures stored { IsStored self.new (K.records store.new) }
@@ -160,20 +164,23 @@ impl Keep {
         persist_first(&mut self.entries, &mut self.persisted)
     }
 
-    /// Takes the node's writes in flight out. It takes no memory.
+    /// Takes the node's writes in flight out. It takes no memory, and looks at what is in flight alone.
     pub fn lose(&mut self, node: NodeId)
         ensures gone { self.new ≡ without (is_lost node) self.old }
         ensures stored { (records : Option Records) → IsStored self.old records → IsStored self.new records }
     {
-        self.take(&Lost { node });
+        let going = Lost { node };
+        take_out(&mut self.entries, &mut self.waiting, self.persisted, &going);
     }
 
-    /// Takes the writes in flight from an id on out. It takes no memory.
+    /// Takes the writes in flight from an id on out. It takes no memory, and finds them by halves.
     pub fn withdraw(&mut self, id: u64)
         ensures gone { self.new ≡ without (is_withdrawn id) self.old }
         ensures stored { (records : Option Records) → IsStored self.old records → IsStored self.new records }
     {
-        self.take(&Withdrawn { id });
+        let from = self.persisted.max(first_from(&self.entries, id));
+        let going = Withdrawn { id };
+        take_out(&mut self.entries, &mut self.waiting, from, &going);
     }
 
     /// Takes the node's writes out that do not lie within the frontier: checkpoints by their frontier, events by their stamp.
@@ -182,7 +189,7 @@ impl Keep {
         ensures gone { self.new ≡ without (is_above node front.now) self.old }
         ensures stored { (records : Option Records) → IsStored self.old records → IsStored self.new records }
     {
-        self.take(&Above { node, front });
+        self.forget(&Above { node, front });
     }
 
     /// Takes the node's checkpoints out that lie strictly within the frontier. It takes no memory.
@@ -190,7 +197,7 @@ impl Keep {
         ensures gone { self.new ≡ without (is_below node front.now) self.old }
         ensures stored { (records : Option Records) → IsStored self.old records → IsStored self.new records }
     {
-        self.take(&Below { node, front });
+        self.forget(&Below { node, front });
     }
 
     /// Takes the node's events at the stamp out. It takes no memory.
@@ -198,16 +205,17 @@ impl Keep {
         ensures gone { self.new ≡ without (is_at node at.now) self.old }
         ensures stored { (records : Option Records) → IsStored self.old records → IsStored self.new records }
     {
-        self.take(&EventsAt { node, at });
+        self.forget(&EventsAt { node, at });
     }
 
-    /// Takes entries out, whose ids then wait.
-    fn take<G: Going>(&mut self, going: &G)
+    /// Takes the writes out that go by a test. It takes no memory, and looks at each write once: where those of many nodes or at
+    /// many stamps go, this is one pass, and `forget_above`, `forget_below` and `forget_at` are one for each.
+    pub fn forget<G: Going>(&mut self, going: &G)
         ensures gone { self.new ≡ without (G.goes going.now) self.old }
         ensures stored { (records : Option Records) → IsStored self.old records → IsStored self.new records }
     {
-        self.persisted = 0;
-        take_out(&mut self.entries, &mut self.waiting, going);
+        take_out(&mut self.entries, &mut self.waiting, 0, going);
+        self.persisted = acknowledged(&self.entries);
     }
 
     /// The record of a write, which can be one of its node in this flow.
@@ -222,6 +230,8 @@ impl Keep {
         ensures fetched { (entry : Write) → Contains self.now.entries entry → entry.id ≡ id
             → Fetches flow.now entry (K.given store.new) result }
         ensures told { IsToldUnder id (K.records store.old) result }
+        ensures put { (entry : Write) (what : Spelled) → Contains self.now.entries entry → entry.id ≡ id
+            → HoldsAs flow.now (K.records store.old) entry what → GivesOnly what result }
         ensures stays { K.records store.new ≡ K.records store.old }
         ensures given_stays { IsErrOf result KeepFault.StoreFault → K.given store.new ≡ K.given store.old }
         ensures failed { IsErrOf result KeepFault.StoreFault → Rose (K.fault_count store.old) (K.fault_count store.new) }
@@ -253,6 +263,7 @@ impl Keep {
         ensures swept { Sweeps self.old.waiting (K.records store.old) self.new.waiting (K.records store.new) }
         ensures clean { OnOk result (self.new.waiting ≡ []) }
         ensures kept { self.new.entries ≡ self.old.entries }
+        ensures bytes { KeepsBytes self.old.entries (K.records store.old) (K.records store.new) }
         ensures drawn { self.new.next ≡ self.old.next }
         ensures stored { IsStored self.new (K.records store.new) }
         ensures given { K.given store.new ≡ K.given store.old }

@@ -13,8 +13,10 @@ mod going;
 mod keep;
 mod persist;
 mod put;
+mod same;
 mod sweep;
 
 pub use entry::{Entry, Written, no_stamps};
 pub use fault::KeepFault;
+pub use going::Going;
 pub use keep::Keep;

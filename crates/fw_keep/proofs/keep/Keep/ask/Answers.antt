@@ -5,8 +5,9 @@ use Rattle.std.proofs.lemmas.Result.{IfErr-at_err}
 use Rattle.fw_record.specs.Spelling.{spelling}
 use Rattle.fw_keep.specs.Entry.{asked}
 use Rattle.fw_keep.specs.Catalogue.{KeepState}
-use Rattle.fw_keep.specs.Stored.{IsStored}
+use Rattle.fw_keep.specs.Stored.{IsStored, KeepsBytes}
 use Rattle.fw_keep.specs.Inside.{state_of}
+use Rattle.fw_keep.proofs.BytesLaws.{bytes-put}
 use Rattle.fw_keep.proofs.KeepLaws.{sound-drawn, sound-added}
 use Rattle.fw_keep.proofs.StoredLaws.{stored-fresh, stored-same, stored-added}
 use Rattle.fw_keep.proofs.keep.Keep.ask.Goals as goal
@@ -18,7 +19,7 @@ put_new-put-requires-clause-fresh g c =
 
 pub invariant_of-self-in-Ok : goal.invariant_of-self-in-Ok
 invariant_of-self-in-Ok g c =
-    sound-added c.self.inside _ (asked c.self.inside.next c.args.what.now c.args.stamps) refl c.self.invariant c.in-Ok.ensures.added c.put_new-put.ensures.waiting (omega arith) refl refl c.put_new-put.ensures.room
+    sound-added c.self.inside _ (asked c.self.inside.next c.args.what.now c.args.stamps) refl refl c.self.invariant c.in-Ok.ensures.added c.put_new-put.ensures.waiting (omega arith) refl refl c.put_new-put.ensures.room
 
 pub invariant_of-self-in-Err-Failed : goal.invariant_of-self-in-Err-Failed
 invariant_of-self-in-Err-Failed g c =
@@ -38,3 +39,10 @@ returns-in-Ok-clause-stored g c =
     let stored : IsStored (state_of c.self.inside) (g.K.Store.records c.args.store.now) = subst (λ (k : KeepState). IsStored k (g.K.Store.records c.args.store.now)) (sym c.self.view_is) c.requires.stored in
     rw c.in-Ok.ensures.put (stored-same (record old { entries = c.put_new-put.new.entries.items; waiting = c.put_new-put.new.waiting.items }) (record old { entries = old.entries ++ entry ∷ [] }) (option_map (λ held. records.insert held c.self.inside.next (spelling c.args.what.now)) all) c.in-Ok.ensures.added c.put_new-put.ensures.waiting
     (stored-added old entry (spelling c.args.what.now) all refl stored))
+
+pub returns-in-Ok-clause-bytes : goal.returns-in-Ok-clause-bytes
+returns-in-Ok-clause-bytes g c =
+    let all = g.K.Store.records c.args.store.now in
+    let after = g.K.Store.records c.put_new-put.new.store in
+    subst (λ (k : KeepState). KeepsBytes k.entries all after) c.self.view_is
+    (bytes-put (state_of c.self.inside) (spelling c.args.what.now) all after c.self.invariant.catalogue c.in-Ok.ensures.put)

@@ -12,7 +12,6 @@ invariant_of-self c =
     let old = state_of c.self.inside in
     record {
       catalogue = subst IsCatalogue (sym (same-state _ (record old { entries = persisted old.entries }) c.persist_first.ensures.acknowledged refl refl refl)) (catalogue-persisted old c.self.invariant.catalogue);
-      there = c.persist_first.ensures.there;
       persisted = c.persist_first.ensures.known;
       room = omega (arith, length-persisted old.entries c.persist_first.new.entries.items c.persist_first.ensures.acknowledged, c.persist_first.new.entries.ok.0, c.self.inside.entries.ok.0, c.self.invariant.room);
     }

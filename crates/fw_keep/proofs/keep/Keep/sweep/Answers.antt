@@ -1,7 +1,8 @@
 use Rattle.std.proofs.Common.{true, refl, sym, subst}
 use Rattle.fw_keep.specs.Catalogue.{KeepState}
-use Rattle.fw_keep.specs.Stored.{IsStored}
+use Rattle.fw_keep.specs.Stored.{IsStored, KeepsBytes}
 use Rattle.fw_keep.specs.Inside.{state_of}
+use Rattle.fw_keep.proofs.BytesLaws.{bytes-swept}
 use Rattle.fw_keep.proofs.KeepLaws.{sound-swept}
 use Rattle.fw_keep.proofs.StoredLaws.{stored-waiting, stored-swept}
 use Rattle.fw_keep.proofs.keep.Keep.sweep.Goals as goal
@@ -36,3 +37,24 @@ returns-in-Err-NoMemory-clause-stored g c =
     let all = g.K.Store.records c.args.store.now in
     stored-swept (state_of c.self.inside) all c.remove_waiting.new.waiting.items (g.K.Store.records c.remove_waiting.new.store) true c.self.invariant.catalogue
     (subst (λ (k : KeepState). IsStored k all) (sym c.self.view_is) c.requires.stored) c.remove_waiting.ensures.swept
+
+pub returns-in-Ok-clause-bytes : goal.returns-in-Ok-clause-bytes
+returns-in-Ok-clause-bytes g c =
+    let all = g.K.Store.records c.args.store.now in
+    let after = g.K.Store.records c.remove_waiting.new.store in
+    subst (λ (k : KeepState). KeepsBytes k.entries all after) c.self.view_is
+    (bytes-swept (state_of c.self.inside) c.remove_waiting.new.waiting.items all after c.self.invariant.catalogue c.remove_waiting.ensures.swept)
+
+pub returns-in-Err-Failed-clause-bytes : goal.returns-in-Err-Failed-clause-bytes
+returns-in-Err-Failed-clause-bytes g c =
+    let all = g.K.Store.records c.args.store.now in
+    let after = g.K.Store.records c.remove_waiting.new.store in
+    subst (λ (k : KeepState). KeepsBytes k.entries all after) c.self.view_is
+    (bytes-swept (state_of c.self.inside) c.remove_waiting.new.waiting.items all after c.self.invariant.catalogue c.remove_waiting.ensures.swept)
+
+pub returns-in-Err-NoMemory-clause-bytes : goal.returns-in-Err-NoMemory-clause-bytes
+returns-in-Err-NoMemory-clause-bytes g c =
+    let all = g.K.Store.records c.args.store.now in
+    let after = g.K.Store.records c.remove_waiting.new.store in
+    subst (λ (k : KeepState). KeepsBytes k.entries all after) c.self.view_is
+    (bytes-swept (state_of c.self.inside) c.remove_waiting.new.waiting.items all after c.self.invariant.catalogue c.remove_waiting.ensures.swept)

@@ -1,52 +1,13 @@
 -- What the loops of a plan find.
-use Rattle.std.proofs.Common.{◌≡◌, ℕ, ◌+◌, ◌/◌, ◌<◌, ◌≤◌, Bool, true, false, cond, List, [], ◌∷◌, ◌++◌, length, map, Some, refl, sym, ap, ◌∙◌, slice_index, slice_index_or, arith}
+use Rattle.std.proofs.Common.{◌≡◌, ℕ, ◌+◌, Bool, true, false, cond, List, [], ◌∷◌, ◌++◌, map, refl, sym, ap, ◌∙◌, slice_index_or}
 use Rattle.std.proofs.lemmas.List.{append-nil}
 use Rattle.std.proofs.Math.ListN.{get_or-map}
 use Rattle.std.specs.List.{filter, flat_map, range_with_len}
-use Rattle.fw_time.specs.Stamp.{Stamp, in_domain}
-use Rattle.fw_time.specs.Sending.{regrouped_stamp}
-use Rattle.fw_time.proofs.StampLaws.{leq-length}
-use Rattle.fw_flow.specs.declared.kind.Kind.{Kind}
-use Rattle.fw_flow.specs.declared.kind.Kind.TheVariants.{Enter}
-use Rattle.fw_flow.specs.Dataflow.{Dataflow, kind_of, bounds_of_domain, domain_of_kind, parent_of}
-use Rattle.fw_flow.specs.WellFormed.{IsWellFormed, IsGroupSize}
 use Rattle.fw_flow.specs.declared.choice.Cut.{Cut}
 use Rattle.fw_flow.specs.declared.choice.Cut.TheVariants.{Present}
 use Rattle.fw_flow.proofs.Ranges.{joined_more}
 use Rattle.fw_model.specs.Machine.{front_of}
 use Rattle.fw_model.specs.Steps.{front_of_cut}
-use Rattle.fw_flow.proofs.Chains.{greatest-length, loops-few, parent-few}
-
--- ---- stamps
-
-pub record IsShort (t : Stamp) : Type 0 where
-  pub some : 0 < length t
-  pub few : length t ≤ 4
-
--- a stamp of a kind's domain has the epoch's coordinate, and one for each loop it is in
-pub domain_length : (flow : Dataflow) (kind : Kind) (t : Stamp) → in_domain (bounds_of_domain flow (domain_of_kind flow kind)) t ≡ true → IsShort t
-domain_length flow kind t e =
-    let d = domain_of_kind flow kind in
-    let l = leq-length t _ e in
-    let g = greatest-length flow d in
-    let f = loops-few flow d in
-    record { some = omega arith; few = omega arith }
-
--- what a loop is entered from has room for one more
-pub entered_length : (flow : Dataflow) (kind : Kind) (l : ℕ) (t : Stamp) → kind ≡ Enter l
-    → in_domain (bounds_of_domain flow (domain_of_kind flow kind)) t ≡ true → length t < 4
-entered_length flow kind l t k e =
-    let a = leq-length t _ (sym (ap (λ x. in_domain (bounds_of_domain flow (domain_of_kind flow x)) t) k) ∙ e) in
-    let g = greatest-length flow (parent_of flow l) in
-    let f = parent-few flow l in
-    omega arith
-
-pub regrouped_first : (n : ℕ) (t : Stamp) → 0 < length t → regrouped_stamp n t ≡ Some ((slice_index t 0 / n) ∷ [])
-regrouped_first n [] l = absurd (omega arith)
-regrouped_first n (x ∷ t) l = refl
-
-pub group_size : (flow : Dataflow) (p : ℕ) → IsWellFormed flow → p < length flow.nodes → IsGroupSize (kind_of flow p)
-group_size flow p w l = w.limits.groups p l
 
 -- ---- places that pass a test
 

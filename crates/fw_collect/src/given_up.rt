@@ -2,7 +2,6 @@
 ghost use Rattle.std.specs.Prelude.{◌≡◌, [], true, unwrap_or};
 ghost use Rattle.std.specs.Option.{option_copied};
 ghost use Rattle.fw_time.specs.Stamp.{in_domain};
-ghost use Rattle.fw_flow.specs.Dataflow as flows;
 ghost use Rattle.fw_flow.specs.Dataflow.{bounds_of, node_frontier, out_edges};
 ghost use Rattle.fw_flow.specs.WellFormed as well_formed;
 ghost use Rattle.fw_model.specs.Machine.{front_of};
@@ -58,7 +57,7 @@ fn sends_inside(flow: &Flow, choice: &Choice, node: NodeId, at: &Stamp) -> bool
     requires { in_domain (bounds_of flow.now node) at.now ≡ true }
     ensures { result ≡ steps.sends_inside (without_batches flow.now) (watermark choice.now) node at.now (out_edges flow.now node) }
 {
-    let sent = sent_at(flow, node, at);
+    let sent = flow.send_stamp(node, at);
     flow.out_edges(node).iter().all(|edge| is_inside_if_some(flow, choice, flow.dst(*edge), &sent))
 }
 
@@ -69,40 +68,5 @@ fn is_inside_if_some(flow: &Flow, choice: &Choice, node: NodeId, at: &Option<Sta
     match at {
         Some(at) => is_inside(flow, choice, node, at),
         None => true,
-    }
-}
-
-/// The stamp at which an event of a node at the stamp sends; none where it sends nothing.
-#[tactic(auto, using(crate::proofs::PlanLaws::group_size), unfolding(fw_flow::specs::Dataflow::bounds_of))]
-fn sent_at(flow: &Flow, node: NodeId, at: &Stamp) -> Option<Stamp>
-    requires { in_domain (bounds_of flow.now node) at.now ≡ true }
-    ensures { result ≡ flows.send_stamp flow.now node at.now }
-{
-    if node.place() as usize >= flow.nodes() {
-        return None;
-    }
-    send_stamp(flow, flow.kind(node), at)
-}
-
-/// The same by the node's kind.
-#[tactic(auto, using(crate::proofs::PlanLaws::domain_length, crate::proofs::PlanLaws::regrouped_first))]
-fn send_stamp(flow: &Flow, kind: Kind, t: &Stamp) -> Option<Stamp>
-    requires in_domain { in_domain (flows.bounds_of_domain flow.now (flows.domain_of_kind flow.now kind)) t.now ≡ true }
-    requires group { well_formed.IsGroupSize kind }
-    ensures { result ≡ flows.send_stamp_of_kind flow.now kind t.now }
-{
-    match kind {
-        Kind::OutputEpoch | Kind::OutputNumber => None,
-        Kind::Enter(_) => Some(t.nest(0)),
-        Kind::Feedback(id) => {
-            if t.counter() < flow.max(id) {
-                Some(t.outer().nest(t.counter() + 1))
-            } else {
-                None
-            }
-        }
-        Kind::Leave(_) => Some(t.outer()),
-        Kind::Regroup(n) => Some(Stamp::new(&[t.at(0) / n])),
-        _ => Some(t.copy()),
     }
 }

@@ -9,7 +9,7 @@ use Rattle.fw_time.proofs.StampLaws.{same-is}
 use Rattle.fw_frontier.specs.Front.{Front, IsCanonical, IsFrontOf, frontier_of, is_within, same_front}
 use Rattle.fw_frontier.specs.Frontier.{Frontier, IsFrontier, Within, cover, meet, nothing, some_above}
 use Rattle.fw_frontier.proofs.NamesLaws.{frontier-closed, is_within-holds}
-use Rattle.fw_record.proofs.SameFrontLaws.{same_front-is}
+use Rattle.fw_frontier.proofs.SameLaws.{same_front-is}
 use Rattle.fw_flow.specs.Dataflow.{System, bounds_of, kind_of, policy_of, receiver, sender}
 use Rattle.fw_flow.specs.NodeFunction.{event_node, event_stamp}
 use Rattle.fw_flow.specs.Projection.{all_inside}

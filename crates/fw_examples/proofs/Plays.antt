@@ -7,7 +7,7 @@ use Rattle.fw_bag.specs.declared.rec.Rec.{Rec}
 use Rattle.fw_time.specs.Stamp.{Stamp, same}
 use Rattle.fw_time.proofs.StampLaws.{same-is}
 use Rattle.fw_frontier.specs.Front.{frontier_of, same_front}
-use Rattle.fw_record.proofs.SameFrontLaws.{same_front-from}
+use Rattle.fw_frontier.proofs.SameLaws.{same_front-from}
 use Rattle.fw_flow.specs.Dataflow.{System, batches_of, bounds_of, is_input_kind, is_numbered, is_output_kind, kind_of, policy_of, receiver}
 use Rattle.fw_flow.specs.Message.{is_among, message_cmp}
 use Rattle.fw_flow.specs.declared.event.Event.TheVariants.{Deliver as Delivered, Inject as Injected}

@@ -126,18 +126,14 @@ one_grown flow counts p f old new work rest growths more w l c m g =
           (λ t i. family_grows flow old p f l m.above q t (s t (target-same flow counts old p q f (no_sender flow p q work rest g.put out) t i)));
     }
 
-degrees-append : (flow : Dataflow) (gs hs : List Growth) → out_degrees flow (gs ++ hs) ≡ out_degrees flow gs + out_degrees flow hs
+pub degrees-append : (flow : Dataflow) (gs hs : List Growth) → out_degrees flow (gs ++ hs) ≡ out_degrees flow gs + out_degrees flow hs
 degrees-append flow [] hs = omega arith
 degrees-append flow (g ∷ gs) hs = let e = degrees-append flow gs hs in omega arith
 
-growths-append : (flow : Dataflow) (old : List Front) (gs : List Growth) (mid : List Front) (hs : List Growth) (new : List Front)
+pub growths-append : (flow : Dataflow) (old : List Front) (gs : List Growth) (mid : List Front) (hs : List Growth) (new : List Front)
     → AreGrowths flow old gs mid → AreGrowths flow mid hs new → AreGrowths flow old (gs ++ hs) new
 growths-append flow old [] mid hs new e b = subst (λ xs. AreGrowths flow xs hs new) e b
 growths-append flow old (g ∷ gs) mid hs new a b = (a.0, growths-append flow (set old g.node g.front) gs mid hs new a.1 b)
-
-append-more : (xs ys zs : List Growth) → (xs ++ ys) ++ zs ≡ xs ++ (ys ++ zs)
-append-more [] ys zs = refl
-append-more (x ∷ xs) ys zs = ap (λ us. x ∷ us) (append-more xs ys zs)
 
 -- some nodes grew, and then others
 pub grown_then : (flow : Dataflow) (counts : Counts) (old mid new : List Front) (work some rest : List ℕ) (growths more most : List Growth)
@@ -149,7 +145,7 @@ grown_then flow counts old mid new work some rest growths more most a b =
     record {
       added = a.added ++ b.added;
       grown = growths-append flow old a.added mid b.added new a.grown b.grown;
-      listed = b.listed ∙ ap (λ gs. gs ++ b.added) a.listed ∙ append-more growths a.added b.added;
+      listed = b.listed ∙ ap (λ gs. gs ++ b.added) a.listed ∙ append_assoc growths a.added b.added;
       one_each = b.one_each ∙ a.one_each;
       canonical = λ c. b.canonical (a.canonical c);
       nodes = λ n. b.nodes (a.nodes n);

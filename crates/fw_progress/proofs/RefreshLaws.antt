@@ -1,5 +1,5 @@
 -- Widening until no node can be widened: what each step keeps, that it ends, and what it comes to.
-use Rattle.std.proofs.Common.{◌≡◌, ◌≢◌, ℕ, ◌+◌, ◌*◌, ◌<◌, ◌≤◌, Bool, false, ◌||◌, ◌==◌, nat_lt, List, [], ◌∷◌, ◌++◌, length, refl, sym, ap, subst, ◌∙◌, inl, inr, arith}
+use Rattle.std.proofs.Common.{◌≡◌, ◌≢◌, ℕ, ◌+◌, ◌*◌, ◌<◌, ◌≤◌, Bool, false, ◌||◌, ◌==◌, nat_lt, List, [], ◌∷◌, length, refl, sym, ap, subst, ◌∙◌, inl, inr, arith}
 use Rattle.std.specs.List.{list_all}
 use Rattle.std.proofs.Math.Nat.{mul-le-mul_left}
 use Rattle.std.proofs.lemmas.Bool.{and_parts, cases_eq, eqb-true, false_from_ne_true, ltb-true, both_ways}
@@ -10,7 +10,7 @@ use Rattle.fw_progress.specs.declared.counts.Counts.{Counts}
 use Rattle.fw_progress.specs.declared.growth.Growth.{Growth}
 use Rattle.fw_progress.specs.Counts.{IsAdmissibleBy, IsStuckBy, is_in, AreStuckOutside, AreNodes}
 use Rattle.fw_progress.specs.Growths.{AreGrowths, out_degrees, IsTaken, IsRefreshed}
-use Rattle.fw_progress.proofs.GrowLaws.{outside_count, growths_outside, degrees-few}
+use Rattle.fw_progress.proofs.GrowLaws.{outside_count, growths_outside, degrees-append, degrees-few, growths-append}
 
 -- how far a refresh has come
 pub record IsRefreshing (flow : Dataflow) (counts : Counts) (first : List Front) (start : List ℕ) (begun : ℕ) (fronts : List Front) (work : List ℕ) (growths : List Growth) (steps : ℕ) : Type 0 where
@@ -48,15 +48,6 @@ first_node flow work rest p e n =
 -- a node that is not among the others and is not the first one
 not_in-first : (xs : List ℕ) (x q : ℕ) → q ≢ x → is_in xs q ≡ false → is_in (x ∷ xs) q ≡ false
 not_in-first xs x q n k = ap (λ b. b || is_in xs q) (false_from_ne_true (x == q) (λ e. n (sym (eqb-true x q e)))) ∙ k
-
-degrees-append : (flow : Dataflow) (gs hs : List Growth) → out_degrees flow (gs ++ hs) ≡ out_degrees flow gs + out_degrees flow hs
-degrees-append flow [] hs = omega arith
-degrees-append flow (g ∷ gs) hs = let e = degrees-append flow gs hs in omega arith
-
-growths-append : (flow : Dataflow) (old : List Front) (gs : List Growth) (mid : List Front) (hs : List Growth) (new : List Front)
-    → AreGrowths flow old gs mid → AreGrowths flow mid hs new → AreGrowths flow old (gs ++ hs) new
-growths-append flow old [] mid hs new e b = subst (λ xs. AreGrowths flow xs hs new) e b
-growths-append flow old (g ∷ gs) mid hs new a b = (a.0, growths-append flow _ gs mid hs new a.1 b)
 
 pub taken_step : (flow : Dataflow) (counts : Counts) (first : List Front) (start : List ℕ) (begun : ℕ) (fronts new : List Front) (work mid rest : List ℕ) (p : ℕ) (growths more : List Growth) (steps next : ℕ)
     → work ≡ p ∷ mid → next ≡ steps + 1 → IsRefreshing flow counts first start begun fronts work growths steps

@@ -3,7 +3,6 @@ ghost use Rattle.std.specs.Prelude.{◌≡◌, ◌↔◌, IsTrue};
 ghost use Rattle.fw_keep.specs.Entry.{HasRecorded};
 
 use fw_flow::{OfEdge, Recorded};
-use fw_frontier::Front;
 use fw_record::Record;
 
 /// Whether this is recorded in the record.
@@ -20,17 +19,10 @@ pub(crate) fn has_recorded(what: &Record, recorded: &Recorded) -> bool
 fn are_same(one: &Recorded, other: &Recorded) -> bool
     ensures { IsTrue result ↔ (one.now ≡ other.now) }
 {
-    is_same_front(&one.front, &other.front)
-        && is_same_front(&one.notified, &other.notified)
+    one.front.same(&other.front)
+        && one.notified.same(&other.notified)
         && are_same_fronts(one.delivered.as_slice(), other.delivered.as_slice())
         && are_same_fronts(one.discarded.as_slice(), other.discarded.as_slice())
-}
-
-/// Whether the two fronts are one list.
-fn is_same_front(one: &Front, other: &Front) -> bool
-    ensures { IsTrue result ↔ (one.now ≡ other.now) }
-{
-    one.same(other)
 }
 
 /// Whether they are the same fronts of the same edges, in one order.
@@ -52,5 +44,5 @@ fn are_same_fronts(some: &[OfEdge], others: &[OfEdge]) -> bool
 fn is_same_of_edge(one: &OfEdge, other: &OfEdge) -> bool
     ensures { IsTrue result ↔ (one.now ≡ other.now) }
 {
-    one.edge == other.edge && is_same_front(&one.front, &other.front)
+    one.edge == other.edge && one.front.same(&other.front)
 }

@@ -13,7 +13,7 @@ use Rattle.fw_lines.proofs.ReadLaws as input_texts
 use Rattle.fw_flow.specs.Dataflow.{Dataflow, System, node_ids, system_of, batches_of_nodes}
 use Rattle.fw_flow.specs.Sources.{sources_of, AreInputsOf}
 use Rattle.fw_flow.proofs.SystemLaws.{well_formed-given}
-use Rattle.fw_flow.specs.WellFormed.{IsWellFormedSystem}
+use Rattle.fw_flow.specs.WellFormed.{IsWellFormed, IsWellFormedSystem}
 use Rattle.fw_flow_text.specs.Grammar as flows
 use Rattle.fw_flow_text.proofs.ReadLaws as flow_texts
 use Rattle.fw_schedule.specs.Grammar.{items_of}
@@ -32,7 +32,8 @@ pub well_formed_system : (texts : Texts) (flow : Dataflow) → AreAccepted texts
 well_formed_system texts flow a =
     let lines = said_lines texts.inputs in
     let given = inputs.batches_of (sources_of flow) lines in
-    well_formed-given flow given a.declared.checked.well_formed (sound-batches (sources_of flow) lines given a.inputs.lines (λ node. refl))
+    let flow_well_formed : IsWellFormed flow = subst IsWellFormed (sym a.declared.checked.value) a.declared.checked.well_formed in
+    well_formed-given flow given flow_well_formed (sound-batches (sources_of flow) lines given a.inputs.lines (λ node. refl))
 
 -- ---- what was read
 

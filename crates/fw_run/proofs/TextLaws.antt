@@ -21,7 +21,9 @@ use Rattle.fw_schedule.specs.Grammar as schedules
 use Rattle.fw_schedule.proofs.ReadLaws as schedule_texts
 use Rattle.fw_run.specs.declared.reading.Fed.{Fed}
 use Rattle.fw_run.specs.declared.reading.Job.{Job}
-use Rattle.fw_run.specs.Reading.{IsJob, IsFed}
+use Rattle.fw_run.specs.declared.reading.JobFault.{JobFault}
+use Rattle.fw_run.specs.declared.reading.JobFault.TheVariants.{Failed, Refused, NoMemory}
+use Rattle.fw_run.specs.Reading.{IfRefused, IsJob, IsFed}
 use Rattle.fw_run.specs.Texts.{Texts, spelled_batches, spelled_system, spelled_items, AreAccepted, AreOfSystem, HasText, AreThere, HasTwo, HasFlow, IsFlowRefused, AreInputsRefused, IsScheduleRefused, IsFirstRefusal, IsFirstOfTwoRefused, IsAskedTwice, IsAskedNoMore}
 use Rattle.fw_run.specs.Words.{TextNames, SystemNames}
 
@@ -105,6 +107,20 @@ fetched_third told second names flow batches before one two after same f i e h k
       so = i.so.sound;
     } in
     inr (flow, f, inr (given, k ∙ ap one_more (h ∙ ap one_more e)))
+
+-- a schedule that is refused behind an accepted flow and accepted inputs is the first text that is refused
+pub refused_third : (told second third : Option (List ℕ → Option (List ℕ))) (names : TextNames) (flow : Dataflow) (batches : List (ℕ × List (List Rec))) (fault : JobFault)
+    → second ≡ told → third ≡ second → HasFlow told names.flow flow → HasText second names.inputs (λ text. inputs.IsAccepted text (sources_of flow) batches)
+    → IfRefused (IsScheduleRefused third names.schedule flow) fault → IfRefused (IsFirstRefusal told names) fault
+refused_third told second third names flow batches Failed same later f i r = r
+refused_third told second third names flow batches NoMemory same later f i r = r
+refused_third told second third names flow batches (Refused refusal) same later f i r =
+    let given : HasText told names.inputs (AreInputsOf flow) = record {
+      text = i.text;
+      there = subst (λ t. IsText t names.inputs i.text) same i.there;
+      so = i.so.sound;
+    } in
+    inr (flow, f, inr (given, subst (λ t. IsScheduleRefused t names.schedule flow refusal) (later ∙ same) r))
 
 -- ---- one answer
 

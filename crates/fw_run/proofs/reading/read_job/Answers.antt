@@ -1,7 +1,7 @@
 use Rattle.std.proofs.Common.{arith}
 use Rattle.std.proofs.lemmas.Result.{err_from_is_err_and}
 use Rattle.fw_run.proofs.Roses.{rose_last, same_fault}
-use Rattle.fw_run.proofs.TextLaws.{job_read_in_turn, fetched_second, fetched_third}
+use Rattle.fw_run.proofs.TextLaws.{job_read_in_turn, fetched_second, fetched_third, refused_third}
 use Rattle.fw_run.specs.declared.reading.JobFault.TheVariants.{Failed}
 use Rattle.fw_run.specs.Words.{text_names_in}
 use Rattle.fw_run.proofs.reading.read_job.Goals as goal
@@ -44,3 +44,10 @@ returns-clause-asked_no_more g c =
     let told = g.F.Folder.texts in
     fetched_third (told c.args.folder.now) (told c.fetch_flow.new.folder) (text_names_in c.args.words.now) c.in_ok-flow.flow c.in_ok-batches.batches (count c.args.folder.now) (count c.fetch_flow.new.folder) (count c.fetch_inputs.new.folder) (count c.fetch_schedule.new.folder)
     c.fetch_flow.ensures.texts_stay c.in_ok-flow.ensures.flow c.in_ok-batches.ensures.batches c.fetch_flow.ensures.counted c.fetch_inputs.ensures.counted c.fetch_schedule.ensures.counted
+
+pub returns-in_err-items-clause-refused : goal.returns-in_err-items-clause-refused
+returns-in_err-items-clause-refused g c =
+    let p = err_from_is_err_and c.from_residual-in_err-items.result c.from_residual-in_err-items.ensures.1 in
+    let told = g.F.Folder.texts in
+    rw (p.1, p.2) (refused_third (told c.args.folder.now) (told c.fetch_flow.new.folder) (told c.fetch_inputs.new.folder) (text_names_in c.args.words.now) c.in_ok-flow.flow c.in_ok-batches.batches _
+    c.fetch_flow.ensures.texts_stay c.fetch_inputs.ensures.texts_stay c.in_ok-flow.ensures.flow c.in_ok-batches.ensures.batches c.in_err-items.ensures.refused)

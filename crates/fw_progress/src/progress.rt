@@ -34,7 +34,7 @@ use std::sync::ledger::{Blank, Ledger};
 /// Up to where everything has come at each node of a flow: counts of what is pending, owed, injected and sent, what is
 /// settled, and of each node a kept frontier within its complete one, with the nodes whose frontier may be widened. To
 /// progress to which memory was once refused no more is told, and it says so by an error each time.
-#[derive(Debug, Drop)]
+#[derive(Debug)]
 pub struct Progress {
     counts: Counts,
     settled: Vec<Front>,
@@ -49,6 +49,23 @@ impl Model for Progress {
     ghost Value = { Standing };
 
     ghost view = { λ p. record { counts = p.counts; settled = p.settled.items; kept = p.kept.items; work = p.work; refused = p.refused } };
+}
+
+// Written out, so that it is one call wherever progress is let go.
+impl Drop for Progress {
+    fn drop(self) {
+        let Progress {
+            counts,
+            settled,
+            kept,
+            work,
+            refused: _,
+        } = self;
+        drop(counts);
+        drop(settled);
+        drop(kept);
+        drop(work);
+    }
 }
 
 impl Progress {

@@ -15,5 +15,6 @@ pub mod TraceLaws
 pub mod SentTallyLaws
 pub mod FollowTraceLaws
 pub mod CutTraceLaws
+pub mod CoverLaws
 pub mod LeapLaws
 pub mod IntoLaws

@@ -1,4 +1,5 @@
 pub mod Counts
+pub mod Covers
 pub mod Cut
 pub mod Growths
 pub mod History

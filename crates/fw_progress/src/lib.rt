@@ -8,6 +8,7 @@
 #![tactic(auto)]
 
 mod counts;
+mod covers;
 mod cut;
 mod events;
 mod grow;

@@ -8,8 +8,13 @@ pub mod HistoryLaws
 pub mod FollowLaws
 pub mod ProgressLaws
 pub mod StartLaws
+pub mod CutCountLaws
 pub mod NoticeLaws
 pub mod SettleLaws
 pub mod TraceLaws
+pub mod SentTallyLaws
+pub mod FollowTraceLaws
+pub mod CutTraceLaws
+pub mod CoverLaws
 pub mod LeapLaws
 pub mod IntoLaws

@@ -2,18 +2,20 @@
 use Rattle.std.proofs.Common.{◌≡◌, ℕ, Bool, true, false, not, ◌&&◌, List, [], ◌∷◌, length, get_or, Result, Ok, Err, refl, sym, ap, subst, ◌∙◌, inl, inr, arith}
 use Rattle.std.specs.Prelude.{IfOk}
 use Rattle.std.proofs.Math.Bool.{and-false}
-use Rattle.std.proofs.lemmas.Bool.{and_parts, and_from, and_right, cases_Bool, or_cases, or_left, or_right}
+use Rattle.std.proofs.lemmas.Bool.{and_parts, and_from, and_right, cases_Bool, cases_lt, or_cases, or_left, or_right}
+use Rattle.std.proofs.lemmas.List.{get_or_past}
 use Rattle.fw_time.specs.Stamp.{Stamp, leq, in_domain}
 use Rattle.fw_time.specs.declared.stamp.Bounds.{Bounds}
 use Rattle.fw_time.proofs.StampLaws.{leq-refl}
 use Rattle.fw_frontier.specs.Frontier.{Frontier, join}
 use Rattle.fw_frontier.specs.Front.{Front, inside, frontier_of, IsCanonical, IsFrontOf}
 use Rattle.fw_frontier.proofs.InsideLaws.{inside-closed}
-use Rattle.fw_flow.specs.Dataflow.{System, bounds_of}
+use Rattle.fw_flow.specs.Dataflow.{System, Dataflow, bounds_of}
 use Rattle.fw_model.specs.History.{IsComplete}
 use Rattle.fw_model.specs.Machine.{Machine, events, front_of, family_of, is_failed, AreCanonical}
 use Rattle.fw_model.specs.Settled.{HasMoreToSettle}
 use Rattle.fw_model.specs.Steps.{GrowsTo}
+use Rattle.fw_progress.specs.Progress.{AreFrontsOf}
 use Rattle.fw_progress.specs.Settle.{has_more, HasMore, IsJoined, AreGrown}
 
 -- a stamp that is inside the one and outside the other shows that it has more
@@ -61,6 +63,21 @@ live-joined b false f g both e j c d = j b c d
 failed-same : (flag : Bool) (f g both : Front) → flag ≡ true → IsJoined flag f g both → both ≡ f
 failed-same true f g both e j = j
 failed-same false f g both e j = absurd (cc)
+
+-- what is settled then is a canonical front of each node
+pub grown-fronts : (flow : Dataflow) (failed : List Bool) (kept settled both : List Front) → length failed ≡ length flow.nodes → AreCanonical flow settled → AreCanonical flow kept
+    → AreGrown (length failed) failed settled kept both → AreFrontsOf flow both
+grown-fronts flow failed kept settled both one cs ck g = record {
+  one_each = g.one_each ∙ one;
+  canonical = λ p. elim (cases_lt p (length both)) [
+    | inl l ↦ by p (get_or failed p false) (g.each p (omega (arith, l, g.one_each)))
+    | inr l ↦ subst (IsCanonical (bounds_of flow p)) (sym (get_or_past both p [] l)) tt
+  ];
+}
+  where
+    by : (p : ℕ) (b : Bool) → IsJoined b (front_of settled p) (front_of kept p) (front_of both p) → IsCanonical (bounds_of flow p) (front_of both p)
+    by p true j = subst (IsCanonical (bounds_of flow p)) (sym j) (cs p)
+    by p false j = (j (bounds_of flow p) (cs p) (ck p)).canonical
 
 pub settles-more : (sys : System) (state : Machine) (failed : List Bool) (kept settled both : List Front) → failed ≡ state.failed → settled ≡ state.settled → length failed ≡ length sys.flow.nodes
     → AreCanonical sys.flow settled → AreCanonical sys.flow kept → IsComplete sys (events state.history) (family_of sys.flow kept) → HasMore failed kept settled → AreGrown (length failed) failed settled kept both

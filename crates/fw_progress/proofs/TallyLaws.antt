@@ -13,15 +13,18 @@ use Rattle.std.proofs.Math.Bool.{and_assoc}
 use Rattle.std.proofs.lemmas.Bool.{and_parts, and_from, cases_Bool, false_from_ne_true, both_ways, not-true}
 use Rattle.std.proofs.lemmas.Bool.Decides.{nat_tests}
 use Rattle.std.proofs.lemmas.Cmp.{nat_list_cmp_total, tied_itself}
+use Rattle.std.proofs.lemmas.Map.{lookup-none}
+use Rattle.std.proofs.lemmas.Map.Entries.{none_below_head}
 use Rattle.std.proofs.lemmas.List.{take_more}
 use Rattle.fw_time.specs.Stamp.{Stamp, leq, same, in_domain, stamp_cmp}
 use Rattle.fw_time.specs.declared.stamp.Bounds.{Bounds}
 use Rattle.fw_time.proofs.EachLaws.{each-append, each-both, each-prefix, each-suffix, each-weaker}
 use Rattle.fw_time.proofs.StampLaws.{leq-length, leq-trans, same-is, same-refl}
+use Rattle.fw_frontier.specs.Frontier.{Frontier}
 use Rattle.fw_frontier.specs.Front.{Front, inside, frontier_of, IsFrontOf}
 use Rattle.fw_flow.specs.Counting.{how_many}
 use Rattle.fw_model.proofs.CmpLaws.{stamp_cmp-equal}
-use Rattle.fw_progress.specs.Tally.{times_in, has_one, IsPositive, IsTallyOf, HasOneMore, HasOneLess, HasNoMore, HasEachMore, AreLowest}
+use Rattle.fw_progress.specs.Tally.{times_in, has_one, count_inside, IsPositive, IsTallyOf, HasOneMore, HasManyMore, HasOneLess, HasNoMore, HasEachMore, AreLowest}
 
 abbrev Entries : Type 0
 Entries = List (Stamp × ℕ)
@@ -317,3 +320,82 @@ lowest-begun xs s ys all e o z = record {
 pub until-lowest : (b : Bounds) (stamps all : List Stamp) (f : Front) → AreLowest stamps all → AllByRecursion (λ s. in_domain b s ≡ true) all → IsFrontOf b f (frontier_of b stamps)
     → IsFrontOf b f (frontier_of b all)
 until-lowest b stamps all f l a n = record { canonical = n.canonical; same = λ t. n.same t ∙ l.same b a t }
+
+-- ---- so many more
+
+tail-sorted : (e : Stamp × ℕ) (es : Entries) → IsStrictlySortedBy stamp_cmp (keys_of (e ∷ es)) → IsStrictlySortedBy stamp_cmp (keys_of es)
+unfolding IsStrictlySortedBy
+tail-sorted e es o = o.1
+
+counts-below : (f : Frontier) (at : Stamp) (n : ℕ) (es : Entries) → IsStrictlySortedBy stamp_cmp (keys_of es)
+    → count_inside f (insert_entry stamp_cmp es at n) + cond (f at) (times_in at es) 0 ≡ count_inside f es + cond (f at) n 0
+unfolding times_in
+counts-below f at n [] o = by (f at)
+  where
+    by : (b : Bool) → cond b (n + 0) 0 + cond b 0 0 ≡ 0 + cond b n 0
+    by true = omega arith
+    by false = refl
+counts-below f at n (e ∷ es) o = by (stamp_cmp at e.0) refl (counts-below f at n es (tail-sorted e es o))
+  where
+    Goal : List (Stamp × ℕ) → Type 0
+    Goal new = count_inside f new + cond (f at) (times_in at (e ∷ es)) 0 ≡ count_inside f (e ∷ es) + cond (f at) n 0
+
+    before : (b : Bool) (x : ℕ) → cond b (n + x) x + cond b 0 0 ≡ x + cond b n 0
+    before true x = omega arith
+    before false x = refl
+
+    here : (b : Bool) (m x : ℕ) → cond b (n + x) x + cond b m 0 ≡ cond b (m + x) x + cond b n 0
+    here true m x = omega arith
+    here false m x = refl
+
+    later : (b c : Bool) (m x y k : ℕ) → x + cond b k 0 ≡ y + cond b n 0 → cond c (m + x) x + cond b k 0 ≡ cond c (m + y) y + cond b n 0
+    later b true m x y k e = omega (arith, e)
+    later b false m x y k e = e
+
+    found : (b : Bool) (x : ℕ) → is_at (stamp_cmp at) e.0 ≡ b → unwrap_or (cond (is_at (stamp_cmp at) e.0) (Some e.1) (lookup (is_at (stamp_cmp at)) es)) 0 ≡ unwrap_or (cond b (Some e.1) (lookup (is_at (stamp_cmp at)) es)) 0
+    found b x k = ap (λ c. unwrap_or (cond c (Some e.1) (lookup (is_at (stamp_cmp at)) es)) 0) k
+
+    by : (c : Ordering) → stamp_cmp at e.0 ≡ c → count_inside f (insert_entry stamp_cmp es at n) + cond (f at) (times_in at es) 0 ≡ count_inside f es + cond (f at) n 0
+        → Goal (match_ordering c ((at, n) ∷ e ∷ es) ((e.0, n) ∷ es) (e ∷ insert_entry stamp_cmp es at n))
+    by Less k ih =
+        let absent : times_in at (e ∷ es) ≡ 0 = ap (λ w. unwrap_or w 0) (lookup-none (is_at (stamp_cmp at)) (e ∷ es) (none_below_head nat_list_cmp_total at e es o k)) in
+        ap (λ m. cond (f at) (n + count_inside f (e ∷ es)) (count_inside f (e ∷ es)) + cond (f at) m 0) absent ∙ before (f at) (count_inside f (e ∷ es))
+    by Equal k ih =
+        let there : times_in at (e ∷ es) ≡ e.1 = found true 0 (ap is_eq k) in
+        let one : f e.0 ≡ f at = ap f (sym (stamp_cmp-equal at e.0 (ap is_eq k))) in
+        ap (λ m. cond (f e.0) (n + count_inside f es) (count_inside f es) + cond (f at) m 0) there
+        ∙ ap (λ b. cond b (n + count_inside f es) (count_inside f es) + cond (f at) e.1 0) one
+        ∙ here (f at) e.1 (count_inside f es)
+        ∙ ap (λ b. cond b (e.1 + count_inside f es) (count_inside f es) + cond (f at) n 0) (sym one)
+    by Greater k ih =
+        let past : times_in at (e ∷ es) ≡ times_in at es = found false 0 (ap is_eq k) in
+        ap (λ m. cond (f e.0) (e.1 + count_inside f (insert_entry stamp_cmp es at n)) (count_inside f (insert_entry stamp_cmp es at n)) + cond (f at) m 0) past
+        ∙ later (f at) (f e.0) e.1 (count_inside f (insert_entry stamp_cmp es at n)) (count_inside f es) (times_in at es) ih
+
+-- so many more of a stamp
+pub many_more : (old new : Entries) (at : Stamp) (count n : ℕ) → 0 < count → n ≡ times_in at old + count → IsStrictlySortedBy stamp_cmp (keys_of old) → IsWith old at (Some n) new
+    → new ≡ insert_entry stamp_cmp old at n → HasManyMore at count old new
+many_more old new at count n some e o is entries = record {
+  times = λ t. times-with old new at (Some n) is t ∙ cond-one (same at t) n (times_in t old + count) (times_in t old) (λ k. e ∙ ap (λ m. m + count) (times-same old at t k));
+  counts = λ f. ap (count_inside f) entries ∙ more f (f at) (count_inside f (insert_entry stamp_cmp old at n)) (count_inside f old) (counts-below f at n old o);
+  domain = λ b a d. subst (IsTallyOf b) (sym entries) (tally-insert b at n d (omega (arith, e, some)) old a);
+}
+  where
+    more : (f : Frontier) (b : Bool) (x y : ℕ) → x + cond b (times_in at old) 0 ≡ y + cond b n 0 → x ≡ y + cond b count 0
+    more f true x y k = omega (arith, k, e)
+    more f false x y k = omega (arith, k)
+
+pub none_more : (old : Entries) (at : Stamp) (count : ℕ) → count ≡ 0 → HasManyMore at count old old
+none_more old at count z = record {
+  times = λ t. one (same at t) (times_in t old);
+  counts = λ f. two (f at) (count_inside f old);
+  domain = λ b a d. a;
+}
+  where
+    one : (b : Bool) (n : ℕ) → n ≡ cond b (n + count) n
+    one true n = omega (arith, z)
+    one false n = refl
+
+    two : (b : Bool) (n : ℕ) → n ≡ n + cond b count 0
+    two true n = omega (arith, z)
+    two false n = omega arith

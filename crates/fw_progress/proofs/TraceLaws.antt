@@ -22,21 +22,21 @@ use Rattle.fw_progress.specs.Traces.{has_greater_inside, thinned, AreOf}
 
 -- ---- what a list has
 
-contains-head : (s : Stamp) (ss : List Stamp) → Contains (s ∷ ss) s
+pub contains-head : (s : Stamp) (ss : List Stamp) → Contains (s ∷ ss) s
 contains-head s ss = (0, omega arith, refl)
 
-contains-tail : (s : Stamp) (ss : List Stamp) (t : Stamp) → Contains ss t → Contains (s ∷ ss) t
+pub contains-tail : (s : Stamp) (ss : List Stamp) (t : Stamp) → Contains ss t → Contains (s ∷ ss) t
 contains-tail s ss t c = Contains-append_right (s ∷ []) ss t c
 
 -- each of a list is so, where each that it has is
-each-had : (P : Stamp → Type 0) (ss : List Stamp) → ((s : Stamp) → Contains ss s → P s) → AllByRecursion P ss
+pub each-had : (P : Stamp → Type 0) (ss : List Stamp) → ((s : Stamp) → Contains ss s → P s) → AllByRecursion P ss
 each-had P [] f = tt
 each-had P (s ∷ ss) f = (f s (contains-head s ss), each-had P ss (λ t c. f t (contains-tail s ss t c)))
 
-each-itself : (ss : List Stamp) → AllByRecursion (Contains ss) ss
+pub each-itself : (ss : List Stamp) → AllByRecursion (Contains ss) ss
 each-itself ss = each-had (Contains ss) ss (λ s c. c)
 
-has-passed : (test : Stamp → Bool) (ss : List Stamp) (s : Stamp) → Contains ss s → test s ≡ true → Contains (filter test ss) s
+pub has-passed : (test : Stamp → Bool) (ss : List Stamp) (s : Stamp) → Contains ss s → test s ≡ true → Contains (filter test ss) s
 has-passed test ss s c k =
     each-contained (λ t. test t ≡ true → Contains (filter test ss) t) s ss c (each_of-filter (Contains (filter test ss)) test ss (each-itself (filter test ss))) k
 

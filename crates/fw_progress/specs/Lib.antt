@@ -1,10 +1,15 @@
 pub mod Counts
+pub mod Covers
+pub mod Cut
 pub mod Growths
 pub mod History
+pub mod Laws
 pub mod Leap
 pub mod Notices
 pub mod Progress
+pub mod SentTally
 pub mod Settle
 pub mod Start
 pub mod Tally
+pub mod Trace
 pub mod Traces

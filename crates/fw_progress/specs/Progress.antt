@@ -21,6 +21,11 @@ pub record Standing : Type 0 where
   pub work : List ℕ
   pub refused : Bool
 
+-- There is a canonical front for each node.
+pub record AreFrontsOf (flow : Dataflow) (fronts : List Front) : Type 0 where
+  pub one_each : length fronts ≡ length flow.nodes
+  pub canonical : AreCanonical flow fronts
+
 -- all of it is of the flow
 pub record IsOfFlow (flow : Dataflow) (now : Standing) : Type 0 where
   pub counts : AreCounts flow now.counts

@@ -5,6 +5,7 @@ use Rattle.std.specs.Map.{keys_of, lookup}
 use Rattle.std.specs.BTreeMap.{is_at}
 use Rattle.fw_time.specs.Stamp.{Stamp, same, in_domain, stamp_cmp}
 use Rattle.fw_time.specs.declared.stamp.Bounds.{Bounds}
+use Rattle.fw_frontier.specs.Frontier.{Frontier}
 use Rattle.fw_frontier.specs.Front.{frontier_of}
 use Rattle.fw_flow.specs.Counting.{how_many}
 
@@ -40,6 +41,17 @@ pub record HasOneLess (at : Stamp) (old new : List (Stamp × ℕ)) : Type 0 wher
 pub record HasNoMore (at : Stamp) (old new : List (Stamp × ℕ)) : Type 0 where
   pub times : (t : Stamp) → times_in t new ≡ (if same at t then 0 else times_in t old)
   pub domain : (bounds : Bounds) → IsTallyOf bounds old → IsTallyOf bounds new
+
+-- how many there are at stamps inside
+abbrev pub count_inside : Frontier → List (Stamp × ℕ) → ℕ
+count_inside f [] = 0
+count_inside f (entry ∷ entries) = if f entry.0 then entry.1 + count_inside f entries else count_inside f entries
+
+-- So many more are counted at a stamp.
+pub record HasManyMore (at : Stamp) (count : ℕ) (old new : List (Stamp × ℕ)) : Type 0 where
+  pub times : (t : Stamp) → times_in t new ≡ (if same at t then times_in t old + count else times_in t old)
+  pub counts : (f : Frontier) → count_inside f new ≡ count_inside f old + (if f at then count else 0)
+  pub domain : (bounds : Bounds) → IsTallyOf bounds old → in_domain bounds at ≡ true → IsTallyOf bounds new
 
 -- ---- for the proofs
 

@@ -8,14 +8,18 @@
 #![tactic(auto)]
 
 mod counts;
+mod covers;
+mod cut;
 mod events;
 mod grow;
 mod growth;
 mod kept_stamps;
+pub mod laws;
 mod leap;
 mod notices;
 mod progress;
 mod refresh;
+mod sent_tally;
 mod settle;
 mod start;
 mod tally;
@@ -28,5 +32,6 @@ pub use events::can_send;
 pub use growth::{Growth, Growths};
 pub use kept_stamps::KeptStamps;
 pub use progress::Progress;
+pub use sent_tally::SentTally;
 pub use tally::Tally;
 pub use traces::Traces;

@@ -1,29 +1,32 @@
 //! Progress, kept from event to event.
-ghost use Rattle.std.specs.Prelude.{◌≡◌, ◌<◌, ◌≤◌, ◌+◌, ◌↔◌, ℕ, List, map, [], ◌∷◌, length, true, false, IsTrue, IsErr, IfOk};
+ghost use Rattle.std.specs.Prelude.{◌≡◌, ◌<◌, ◌≤◌, ◌+◌, ◌↔◌, ℕ, List, map, [], ◌∷◌, length, true, false, IsTrue, IsErr, IfOk, IfSome};
 ghost use Rattle.fw_time.specs.Stamp.{in_domain};
 ghost use Rattle.fw_flow.specs.declared.event.Event.{Event};
 ghost use Rattle.fw_flow.specs.declared.event.Event.TheVariants as events;
 ghost use Rattle.fw_flow.specs.declared.event.Message.{Message};
-ghost use Rattle.fw_flow.specs.Dataflow.{System, receiver, bounds_of, node_ids, system_of};
-ghost use Rattle.fw_model.specs.History.{IsComplete, IsNotifiable};
+ghost use Rattle.fw_flow.specs.Dataflow.{System, receiver, bounds_of, node_ids, system_of, HasEpochs};
+ghost use Rattle.fw_model.specs.History.{IsComplete, IsLegal, IsNotifiable};
 ghost use Rattle.fw_model.specs.Machine.{front_of, family_of, no_stamps, AreCanonical};
 ghost use Rattle.fw_progress.specs.Counts.{AreCounts};
+ghost use Rattle.fw_progress.specs.Cut.{events_left, AreTallies, ArePendingAfter, AreTablesAfter};
 ghost use Rattle.fw_progress.specs.Growths.{AreGrowths, out_degrees, IsPut};
 ghost use Rattle.fw_progress.specs.History.{IsCountOf, StandsFor, Follows, IsFresh};
 ghost use Rattle.fw_progress.specs.Settle.{IsSettledBy};
-ghost use Rattle.fw_model.specs.Machine.{Machine, events as machine_events};
-ghost use Rattle.fw_progress.specs.Progress.{Standing, IsProgressOf, CanSend, IsDelivered, IsNotified, IsInjected};
+ghost use Rattle.fw_model.specs.Machine.{Machine, SerialEvent, events as machine_events};
+ghost use Rattle.fw_progress.specs.Progress.{Standing, IsProgressOf, AreFrontsOf, CanSend, IsDelivered, IsNotified, IsInjected};
 
 use crate::counts::Counts;
+use crate::cut::cut_counts;
 use crate::events;
 use crate::growth::Growths;
 use crate::notices::may_notify;
 use crate::refresh::refresh;
 use crate::settle::{any_has_more, grown};
 use crate::start::{largest, no_stamps_each, none};
+use crate::tally::Tally;
 use crate::worklist::Worklist;
 use fw_flow::laws::flow_is_well_formed;
-use fw_flow::{EdgeId, Flow, NodeId, Steps};
+use fw_flow::{Choice, EdgeId, Flow, NodeId, SentTable, Steps};
 use fw_frontier::Front;
 use fw_lines::Batches;
 use fw_time::Stamp;
@@ -122,6 +125,47 @@ impl Progress {
         self.refused = kept.is_err();
         self.kept = kept?;
         self.counts = counts;
+        self.settled = settled;
+        self.work = Worklist::new(alloc);
+        Ok(())
+    }
+
+    /// A recovery cuts the nodes, and other frontiers are settled: what is owed and was injected stays so far as it lies inside
+    /// the cuts, and it is told anew how many messages are pending on each edge, by stamp, and what each sequence sent. The
+    /// complete frontiers are found anew, and kept. The error is want of memory.
+    pub fn cut(
+        &mut self,
+        alloc: Global,
+        flow: &Flow,
+        choice: &Choice,
+        pending: Vec<Tally>,
+        sent: Vec<SentTable>,
+        settled: Vec<Front>,
+    ) -> Result<(), AllocError>
+        requires progress { IsProgressOf flow.now self.old }
+        requires pending { AreTallies flow.now pending.items }
+        requires sent { length sent.items ≡ length flow.now.nodes }
+        requires settled { AreFrontsOf flow.now settled.items }
+        ensures progress { IfOk result (λ u. IsProgressOf flow.now self.new) }
+        ensures settled { IfOk result (λ u. self.new.settled ≡ settled.items) }
+        ensures none_waits { IfOk result (λ u. self.new.work ≡ []) }
+        ensures complete { (sys : System) (h : List SerialEvent) → sys.flow ≡ flow.now → HasEpochs sys
+            → IsLegal sys (machine_events h) → IsCountOf sys (machine_events h) self.old.counts
+            → ArePendingAfter sys (events_left sys choice.now h) pending.items
+            → AreTablesAfter sys (events_left sys choice.now h) sent.items
+            → IfOk result (λ u. StandsFor sys (events_left sys choice.now h) self.new
+            × IsComplete sys (events_left sys choice.now h) (family_of flow.now self.new.kept)) }
+        ensures refused { IsErr result → IsTrue self.new.refused }
+        ensures stays { IsTrue self.old.refused → IsErr result }
+    {
+        flow_is_well_formed(flow);
+        if self.refused {
+            return Err(AllocError);
+        }
+        cut_counts(flow, &mut self.counts, choice, pending, sent);
+        let kept = largest(alloc, flow, &self.counts);
+        self.refused = kept.is_err();
+        self.kept = kept?;
         self.settled = settled;
         self.work = Worklist::new(alloc);
         Ok(())
@@ -313,6 +357,7 @@ impl Progress {
         requires failed { length failed.now ≡ length flow.now.nodes }
         ensures progress { IsProgressOf flow.now self.new }
         ensures fresh { IfOk result (λ grown. IsFresh flow.now self.old self.new) }
+        ensures fronts { IfOk result (λ grown. IfSome grown (λ settled. AreFrontsOf flow.now settled.items)) }
         ensures exact { (sys : System) (state : Machine) → sys.flow ≡ flow.now → StandsFor sys (machine_events state.history) self.old
             → self.old.settled ≡ state.settled → failed.now ≡ state.failed → IfOk result (IsSettledBy sys state) }
         ensures refused { IsErr result → IsTrue self.new.refused }
@@ -364,6 +409,13 @@ impl Progress {
         ensures { result.now ≡ self.now.settled }
     {
         &self.settled
+    }
+
+    /// What is counted. It takes no memory.
+    pub fn counts(&self) -> &Counts
+        ensures { result.now ≡ self.now.counts }
+    {
+        &self.counts
     }
 
     /// The kept frontier of each node: after a refresh its complete one. It takes no memory.

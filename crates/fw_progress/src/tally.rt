@@ -1,11 +1,11 @@
 //! How many there are of each stamp.
-ghost use Rattle.std.specs.Prelude.{◌≡◌, [], drop, IsTrue, IfOk, OnErr};
+ghost use Rattle.std.specs.Prelude.{◌≡◌, [], not, drop, filter, IsTrue, IfOk, OnErr};
 ghost use Rattle.std.specs.List.{AllByRecursion, list_any};
 ghost use Rattle.std.specs.Map.{keys_of};
 ghost use Rattle.fw_time.specs.Stamp.{lesser};
 ghost use Rattle.fw_time.specs.declared.stamp.Bounds.{Bounds as Domain};
-ghost use Rattle.fw_frontier.specs.Front.{frontier_of, IsFrontOf};
-ghost use Rattle.fw_progress.specs.Tally.{times_in, IsTallyOf, HasOneMore, HasOneLess, HasNoMore, AreLowest};
+ghost use Rattle.fw_frontier.specs.Front.{inside, frontier_of, IsFrontOf};
+ghost use Rattle.fw_progress.specs.Tally.{times_in, count_inside, IsTallyOf, HasOneMore, HasManyMore, HasOneLess, HasNoMore, AreLowest};
 
 use fw_frontier::Front;
 use fw_time::Stamp;
@@ -60,6 +60,36 @@ impl Tally {
         add_one(&mut self.counts, at)
     }
 
+    /// So many more of a stamp. The error is want of memory, or that the number would not fit 64 bits; after it all is as it
+    /// was.
+    pub fn add_many(&mut self, at: &Stamp, count: u64) -> Result<(), AllocError>
+        ensures ok { IfOk result (λ u. HasManyMore at.now count self.old self.new) }
+        ensures err { OnErr result (self.new ≡ self.old) }
+    {
+        add_many(&mut self.counts, at, count)
+    }
+
+    /// How many there are at stamps inside a frontier. The error is that the number would not fit 64 bits.
+    pub fn count_inside(&self, f: &Front) -> Result<u64, AllocError>
+        ensures { IfOk result (λ n. n ≡ count_inside (inside f.now) self.now) }
+    {
+        count_inside(&self.counts, f)
+    }
+
+    /// Leaves what is at stamps inside a frontier. It takes no memory.
+    pub fn keep_inside(&mut self, f: &Front)
+        ensures { self.new ≡ filter (λ entry. inside f.now entry.0) self.old }
+    {
+        self.counts.retain(|stamp, _| f.contains(stamp));
+    }
+
+    /// Leaves what is at stamps outside a frontier. It takes no memory.
+    pub fn keep_outside(&mut self, f: &Front)
+        ensures { self.new ≡ filter (λ entry. not (inside f.now entry.0)) self.old }
+    {
+        self.counts.retain(|stamp, _| !f.contains(stamp));
+    }
+
     /// One less of a stamp, if there is one. It takes no memory.
     pub fn take(&mut self, at: &Stamp)
         ensures { HasOneLess at.now self.old self.new }
@@ -109,6 +139,32 @@ fn add_one(counts: &mut BTreeMap<Stamp, u64>, at: &Stamp) -> Result<(), AllocErr
     let more = times_of(counts, at).checked_add(1).ok_or(AllocError)?;
     counts.insert(at.copy(), more)?;
     Ok(())
+}
+
+// So many more of a stamp; all is as it was after an error.
+fn add_many(counts: &mut BTreeMap<Stamp, u64>, at: &Stamp, count: u64) -> Result<(), AllocError>
+    ensures ok { IfOk result (λ u. HasManyMore at.now count counts.old.entries counts.new.entries) }
+    ensures err { OnErr result (counts.new.entries ≡ counts.old.entries) }
+{
+    if count == 0 {
+        return Ok(());
+    }
+    let more = times_of(counts, at).checked_add(count).ok_or(AllocError)?;
+    counts.insert(at.copy(), more)?;
+    Ok(())
+}
+
+// How many there are at stamps inside a frontier.
+fn count_inside(counts: &BTreeMap<Stamp, u64>, f: &Front) -> Result<u64, AllocError>
+    ensures { IfOk result (λ n. n ≡ count_inside (inside f.now) counts.now.entries) }
+{
+    let mut sum: u64 = 0;
+    for (stamp, count) in counts {
+        if f.contains(stamp) {
+            sum = sum.checked_add(*count).ok_or(AllocError)?;
+        }
+    }
+    Ok(sum)
 }
 
 // One less of a stamp, if there is one.

@@ -1,111 +1,182 @@
-//! At which stamps the events of all nodes are.
-ghost use Rattle.std.specs.Prelude.{◌≡◌, ◌<◌, [], length, IfOk, OnErr};
+//! Where the events of all nodes are, and how many messages they sent.
+ghost use Rattle.std.specs.Prelude.{◌≡◌, ◌<◌, ◌∷◌, [], ℕ, true, false, length, IsTrue, IsErr, IfOk, OnErr};
 ghost use Rattle.std.specs.List.{AllByRecursion};
+ghost use Rattle.fw_frontier.specs.Frontier.{Frontier};
+ghost use Rattle.fw_flow.specs.declared.event.Event.TheVariants as events;
+ghost use Rattle.fw_flow.specs.declared.event.Message.{Message};
+ghost use Rattle.fw_flow.specs.Dataflow.{System};
+ghost use Rattle.fw_model.specs.Writes as writes;
 ghost use Rattle.fw_progress.specs.Progress.{ChangesAt};
+ghost use Rattle.fw_progress.specs.SentTally.{CountsMore, IsTallySettledTo, IsTallyCutTo};
+ghost use Rattle.fw_progress.specs.Trace as spec;
+ghost use Rattle.fw_progress.specs.Trace.{AreTraces, IsTraceOf, TracesFollow, AreSettledTo, AreCutTo, no_tally, SentMore, CountedMore};
 ghost use Rattle.fw_progress.specs.Traces.{StandForOneMore, IsSettledTo, IsCutTo, ChangesInto};
 
 use crate::kept_stamps::KeptStamps;
-use fw_flow::{EdgeId, Flow, NodeId};
+use crate::sent_tally::SentTally;
+use fw_flow::laws::flow_is_well_formed;
+use fw_flow::{EdgeId, Flow, NodeId, Policy};
 use fw_frontier::Front;
 use fw_time::Stamp;
 use std::alloc::{AllocError, Global};
 
-/// At which stamps the events of all nodes are, as a recovery asks for them: those of each list are kept thinned inside the
-/// base of the node that they are events of. Contracts see the parts.
+/// Where the events of all nodes are and how many messages they sent, as recoveries and checkpoints ask for it. Of each node
+/// the stamps are thinned, and the messages counted in all, inside a base, which is the caller's: what is settled where the
+/// node takes checkpoints, and else its low watermark. Contracts see the parts. To traces to which memory was once refused
+/// no more is told, and they say so by an error each time.
 #[derive(Debug, Drop)]
 pub struct Traces {
     /// For each edge at which stamps something was delivered on it.
     pub delivered: Vec<KeptStamps>,
     /// For each node of which stamps it was notified.
     pub notified: Vec<KeptStamps>,
-    /// For each node at which stamps events of it sent something.
+    /// For each node but a sequence at which stamps events of it sent something.
     pub sent: Vec<KeptStamps>,
+    /// For each node that takes checkpoints, and each sequence, how many messages it sent.
+    pub counted: Vec<SentTally>,
+    /// Whether memory was refused.
+    pub refused: bool,
 }
 
 impl Traces {
-    /// No stamps at all. The error is want of memory.
+    /// Those of no event. The error is want of memory.
     pub fn new(alloc: Global, flow: &Flow) -> Result<Self, AllocError>
-        ensures edges { IfOk result (λ traces. length traces.delivered.items ≡ length flow.now.edges) }
-        ensures nodes { IfOk result (λ traces. length traces.notified.items ≡ length flow.now.nodes) }
-        ensures senders { IfOk result (λ traces. length traces.sent.items ≡ length flow.now.nodes) }
-        ensures delivered { IfOk result (λ traces. AllByRecursion (λ kept. kept ≡ []) traces.delivered.items) }
-        ensures notified { IfOk result (λ traces. AllByRecursion (λ kept. kept ≡ []) traces.notified.items) }
-        ensures sent { IfOk result (λ traces. AllByRecursion (λ kept. kept ≡ []) traces.sent.items) }
+        ensures traces { IfOk result (AreTraces flow.now) }
+        ensures none { (sys : System) (p : ℕ) (base : Frontier) → IfOk result (IsTraceOf sys [] p base) }
+        ensures ready { IfOk result (λ traces. traces.refused ≡ false) }
     {
         Ok(Traces {
             delivered: no_stamps(alloc, flow.edges())?,
             notified: no_stamps(alloc, flow.nodes())?,
             sent: no_stamps(alloc, flow.nodes())?,
+            counted: no_tallies(alloc, flow.nodes())?,
+            refused: false,
         })
     }
 
-    /// Something is delivered on an edge. The error is want of memory, which leaves the stamps as they were.
-    pub fn delivered(&mut self, edge: EdgeId, at: &Stamp) -> Result<(), AllocError>
-        requires { edge < length self.old.delivered.items }
-        ensures delivered { IfOk result
-            (λ u. ChangesAt edge [] (StandForOneMore at.now) self.old.delivered.items self.new.delivered.items) }
-        ensures err { OnErr result (self.new.delivered.items ≡ self.old.delivered.items) }
-        ensures notified { self.new.notified ≡ self.old.notified }
-        ensures sent { self.new.sent ≡ self.old.sent }
+    /// A message at the stamp is delivered on the edge, and its receiver sends a message at each of these stamps on each of
+    /// its out-edges. The error is want of memory, or that the number of what a node sent at a stamp would not fit 64 bits.
+    pub fn delivered(
+        &mut self,
+        flow: &Flow,
+        edge: EdgeId,
+        at: &Stamp,
+        sent: &[Stamp],
+    ) -> Result<(), AllocError>
+        requires traces { AreTraces flow.now self.old }
+        requires there { edge < length flow.now.edges }
+        ensures traces { AreTraces flow.now self.new }
+        ensures follows { (m : Message) → m.at ≡ at.now
+            → IfOk result (λ u. TracesFollow flow.now (events.Deliver edge m) sent.now self.old self.new) }
+        ensures refused { IsErr result → IsTrue self.new.refused }
+        ensures stays { IsTrue self.old.refused → IsErr result }
     {
-        add_at(&mut self.delivered, edge.place() as usize, at)
+        flow_is_well_formed(flow);
+        if self.refused {
+            return Err(AllocError);
+        }
+        self.refused = true;
+        let node = flow.dst(edge);
+        add_at(&mut self.delivered, edge.place() as usize, at)?;
+        add_sent(flow, &mut self.sent, node, at, sent.len() as u64)?;
+        count_sent(flow, &mut self.counted, node, at, sent.len() as u64)?;
+        self.refused = false;
+        Ok(())
     }
 
-    /// A node is notified. The error is want of memory, which leaves the stamps as they were.
-    pub fn notified(&mut self, node: NodeId, at: &Stamp) -> Result<(), AllocError>
-        requires { node < length self.old.notified.items }
-        ensures notified { IfOk result
-            (λ u. ChangesAt node [] (StandForOneMore at.now) self.old.notified.items self.new.notified.items) }
-        ensures err { OnErr result (self.new.notified.items ≡ self.old.notified.items) }
-        ensures delivered { self.new.delivered ≡ self.old.delivered }
-        ensures sent { self.new.sent ≡ self.old.sent }
+    /// The node is notified of the stamp, and sends a message at each of these stamps on each of its out-edges. The error is
+    /// want of memory, or that the number of what a node sent at a stamp would not fit 64 bits.
+    pub fn notified(
+        &mut self,
+        flow: &Flow,
+        node: NodeId,
+        at: &Stamp,
+        sent: &[Stamp],
+    ) -> Result<(), AllocError>
+        requires traces { AreTraces flow.now self.old }
+        requires there { node < length flow.now.nodes }
+        ensures traces { AreTraces flow.now self.new }
+        ensures follows { IfOk result (λ u. TracesFollow flow.now (events.Notify node at.now) sent.now self.old self.new) }
+        ensures refused { IsErr result → IsTrue self.new.refused }
+        ensures stays { IsTrue self.old.refused → IsErr result }
     {
-        add_at(&mut self.notified, node.place() as usize, at)
+        if self.refused {
+            return Err(AllocError);
+        }
+        self.refused = true;
+        add_at(&mut self.notified, node.place() as usize, at)?;
+        add_sent(flow, &mut self.sent, node, at, sent.len() as u64)?;
+        count_sent(flow, &mut self.counted, node, at, sent.len() as u64)?;
+        self.refused = false;
+        Ok(())
     }
 
-    /// An event of a node sends something. The error is want of memory, which leaves the stamps as they were.
-    pub fn sent(&mut self, node: NodeId, at: &Stamp) -> Result<(), AllocError>
-        requires { node < length self.old.sent.items }
-        ensures sent { IfOk result
-            (λ u. ChangesAt node [] (StandForOneMore at.now) self.old.sent.items self.new.sent.items) }
-        ensures err { OnErr result (self.new.sent.items ≡ self.old.sent.items) }
-        ensures delivered { self.new.delivered ≡ self.old.delivered }
-        ensures notified { self.new.notified ≡ self.old.notified }
+    /// The node injects its batch of the epoch, and sends a message at each of these stamps on each of its out-edges. The
+    /// error is want of memory, or that the number of what a node sent at a stamp would not fit 64 bits.
+    pub fn injected(
+        &mut self,
+        flow: &Flow,
+        node: NodeId,
+        epoch: u32,
+        sent: &[Stamp],
+    ) -> Result<(), AllocError>
+        requires traces { AreTraces flow.now self.old }
+        requires there { node < length flow.now.nodes }
+        ensures traces { AreTraces flow.now self.new }
+        ensures follows { IfOk result (λ u. TracesFollow flow.now (events.Inject node epoch) sent.now self.old self.new) }
+        ensures refused { IsErr result → IsTrue self.new.refused }
+        ensures stays { IsTrue self.old.refused → IsErr result }
     {
-        add_at(&mut self.sent, node.place() as usize, at)
+        if self.refused {
+            return Err(AllocError);
+        }
+        self.refused = true;
+        let at = Stamp::new(&[epoch]);
+        add_sent(flow, &mut self.sent, node, &at, sent.len() as u64)?;
+        count_sent(flow, &mut self.counted, node, &at, sent.len() as u64)?;
+        self.refused = false;
+        Ok(())
     }
 
-    /// A larger base of a node: the stamps of its events are thinned inside it. For a node that takes checkpoints it is what
-    /// is settled there, for the others their low watermark. The error is want of memory, after which some of
-    /// its lists may be thinned and others not.
+    /// A larger base of a node: the stamps of its events are thinned, and the messages counted in all, inside it. The error is
+    /// want of memory, or that the number of what it sent would not fit 64 bits.
     pub fn settle(&mut self, flow: &Flow, node: NodeId, base: &Front) -> Result<(), AllocError>
-        requires edges { length self.old.delivered.items ≡ length flow.now.edges }
-        requires there { node < length self.old.notified.items }
-        requires sender { node < length self.old.sent.items }
-        ensures delivered { IfOk result (λ u. ChangesInto flow.now node (IsSettledTo base.now)
-            self.old.delivered.items self.new.delivered.items) }
-        ensures notified { IfOk result
-            (λ u. ChangesAt node [] (IsSettledTo base.now) self.old.notified.items self.new.notified.items) }
-        ensures sent { IfOk result
-            (λ u. ChangesAt node [] (IsSettledTo base.now) self.old.sent.items self.new.sent.items) }
+        requires traces { AreTraces flow.now self.old }
+        requires there { node < length flow.now.nodes }
+        ensures traces { AreTraces flow.now self.new }
+        ensures settled { IfOk result (λ u. AreSettledTo flow.now node base.now self.old self.new) }
+        ensures refused { IsErr result → IsTrue self.new.refused }
+        ensures stays { IsTrue self.old.refused → IsErr result }
     {
+        if self.refused {
+            return Err(AllocError);
+        }
+        self.refused = true;
         settle_into(flow, &mut self.delivered, node, base)?;
         settle_at(&mut self.notified, node.place() as usize, base)?;
-        settle_at(&mut self.sent, node.place() as usize, base)
+        settle_at(&mut self.sent, node.place() as usize, base)?;
+        settle_tally(&mut self.counted, node.place() as usize, base)?;
+        self.refused = false;
+        Ok(())
     }
 
-    /// A node is cut to a frontier that holds its base: the stamps of its events outside go. It takes no memory.
+    /// A node is cut to a frontier that holds its base: what is of its events outside goes. It takes no memory; traces to
+    /// which memory was refused stay so.
     pub fn keep_inside(&mut self, flow: &Flow, node: NodeId, f: &Front)
-        requires edges { length self.old.delivered.items ≡ length flow.now.edges }
-        requires there { node < length self.old.notified.items }
-        requires sender { node < length self.old.sent.items }
-        ensures delivered { ChangesInto flow.now node (IsCutTo f.now) self.old.delivered.items self.new.delivered.items }
-        ensures notified { ChangesAt node [] (IsCutTo f.now) self.old.notified.items self.new.notified.items }
-        ensures sent { ChangesAt node [] (IsCutTo f.now) self.old.sent.items self.new.sent.items }
+        requires traces { AreTraces flow.now self.old }
+        requires there { node < length flow.now.nodes }
+        ensures traces { AreTraces flow.now self.new }
+        ensures cut { self.old.refused ≡ false → AreCutTo flow.now node f.now self.old self.new }
+        ensures stays { self.new.refused ≡ self.old.refused }
     {
+        flow_is_well_formed(flow);
+        if self.refused {
+            return;
+        }
         cut_into(flow, &mut self.delivered, node, f);
         cut_at(&mut self.notified, node.place() as usize, f);
         cut_at(&mut self.sent, node.place() as usize, f);
+        cut_tally(&mut self.counted, node.place() as usize, f);
     }
 }
 
@@ -121,14 +192,95 @@ fn no_stamps(alloc: Global, count: usize) -> Result<Vec<KeptStamps>, AllocError>
     Ok(lists)
 }
 
+/// So many tallies of nothing. The error is want of memory.
+fn no_tallies(alloc: Global, count: usize) -> Result<Vec<SentTally>, AllocError>
+    ensures one_each { IfOk result (λ tallies. length tallies.items ≡ count) }
+    ensures none { IfOk result (λ tallies. AllByRecursion (λ tally. tally ≡ no_tally) tallies.items) }
+{
+    let mut tallies = Vec::new(alloc);
+    'each: while tallies.len() < count {
+        tallies.push(SentTally::new(alloc))?;
+    }
+    Ok(tallies)
+}
+
+/// Whether the policy takes checkpoints, asked or of its own.
+fn takes_checkpoints(policy: Policy) -> bool
+    ensures { result ≡ writes.takes_checkpoints policy }
+{
+    matches!(policy, Policy::Lazy | Policy::Logged | Policy::Eager)
+}
+
+/// Whether it is counted how many messages a node sent: where it takes checkpoints, and of a sequence.
+fn counts_sent(flow: &Flow, node: NodeId) -> bool
+    ensures { result ≡ spec.counts_sent flow.now node }
+{
+    takes_checkpoints(flow.policy(node)) || flow.kind(node).is_sequence()
+}
+
 /// One stamp more in one of the lists. The error is want of memory.
 fn add_at(lists: &mut Vec<KeptStamps>, place: usize, at: &Stamp) -> Result<(), AllocError>
     requires { place < length lists.old.items }
-    ensures added { IfOk result (λ u. ChangesAt place [] (StandForOneMore at.now) lists.old.items lists.new.items) }
-    ensures err { OnErr result (lists.new.items ≡ lists.old.items) }
+    ensures { IfOk result (λ u. ChangesAt place [] (StandForOneMore at.now) lists.old.items lists.new.items) }
 {
     let kept = &mut lists[place];
     kept.add(at)?;
+    Ok(())
+}
+
+/// An event of a node sends so many messages: its stamp is kept, unless there are none or the node is a sequence. The error
+/// is want of memory.
+fn add_sent(
+    flow: &Flow,
+    sent: &mut Vec<KeptStamps>,
+    node: NodeId,
+    at: &Stamp,
+    count: u64,
+) -> Result<(), AllocError>
+    requires { node < length sent.old.items }
+    ensures { IfOk result (λ u. ChangesAt node [] (SentMore flow.now node at.now count) sent.old.items sent.new.items) }
+{
+    if count == 0 {
+        return Ok(());
+    }
+    if flow.kind(node).is_sequence() {
+        return Ok(());
+    }
+    add_at(sent, node.place() as usize, at)
+}
+
+/// So many messages are counted more, where they are counted. The error is want of memory, or that their number would not
+/// fit 64 bits.
+fn count_sent(
+    flow: &Flow,
+    counted: &mut Vec<SentTally>,
+    node: NodeId,
+    at: &Stamp,
+    count: u64,
+) -> Result<(), AllocError>
+    requires { node < length counted.old.items }
+    ensures { IfOk result (λ u. ChangesAt node no_tally (CountedMore flow.now node at.now count)
+        counted.old.items counted.new.items) }
+{
+    if !counts_sent(flow, node) {
+        return Ok(());
+    }
+    count_at(counted, node.place() as usize, at, count)
+}
+
+/// So many messages are counted more in one of the tallies. The error is want of memory, or that their number would not fit
+/// 64 bits.
+fn count_at(
+    tallies: &mut Vec<SentTally>,
+    place: usize,
+    at: &Stamp,
+    count: u64,
+) -> Result<(), AllocError>
+    requires { place < length tallies.old.items }
+    ensures { IfOk result (λ u. ChangesAt place no_tally (CountsMore at.now count) tallies.old.items tallies.new.items) }
+{
+    let tally = &mut tallies[place];
+    tally.add(at, count)?;
     Ok(())
 }
 
@@ -167,6 +319,16 @@ fn settle_into(
     Ok(())
 }
 
+/// One of the tallies is settled. The error is that a number would not fit 64 bits.
+fn settle_tally(tallies: &mut Vec<SentTally>, place: usize, base: &Front) -> Result<(), AllocError>
+    requires { place < length tallies.old.items }
+    ensures { IfOk result (λ u. ChangesAt place no_tally (IsTallySettledTo base.now) tallies.old.items tallies.new.items) }
+{
+    let tally = &mut tallies[place];
+    tally.settle(base)?;
+    Ok(())
+}
+
 /// One of the lists is cut to a frontier.
 fn cut_at(lists: &mut Vec<KeptStamps>, place: usize, f: &Front)
     requires { place < length lists.old.items }
@@ -193,4 +355,13 @@ fn cut_into(flow: &Flow, lists: &mut Vec<KeptStamps>, node: NodeId, f: &Front)
     for edge in edges {
         cut_on(lists, *edge, f);
     }
+}
+
+/// One of the tallies is cut to a frontier.
+fn cut_tally(tallies: &mut Vec<SentTally>, place: usize, f: &Front)
+    requires { place < length tallies.old.items }
+    ensures { ChangesAt place no_tally (IsTallyCutTo f.now) tallies.old.items tallies.new.items }
+{
+    let tally = &mut tallies[place];
+    tally.keep_inside(f);
 }

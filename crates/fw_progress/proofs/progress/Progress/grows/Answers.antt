@@ -6,7 +6,7 @@ use Rattle.fw_model.specs.History.{IsComplete}
 use Rattle.fw_model.specs.Machine.{family_of, events, AreCanonical}
 use Rattle.fw_progress.specs.Progress.{Standing, IsOfFlow}
 use Rattle.fw_progress.specs.Settle.{HasMore, AreGrown}
-use Rattle.fw_progress.proofs.SettleLaws.{settles-more, settles-none}
+use Rattle.fw_progress.proofs.SettleLaws.{grown-fronts, settles-more, settles-none}
 use Rattle.fw_progress.proofs.progress.Progress.grows.Goals as goal
 
 pub returns-then-not-any_has_more-clause-exact : goal.returns-then-not-any_has_more-clause-exact
@@ -46,3 +46,17 @@ returns-clause-exact c = λ sys state e s es ef.
       settles-more sys state failed kept settled both ef is_settled one (subst (λ f. AreCanonical f settled) (sym e) o.settled) (subst (λ f. AreCanonical f kept) (sym e) o.kept) complete
           (test.0 c.if-not-any_has_more.false) grown,
     )
+
+pub returns-clause-fronts : goal.returns-clause-fronts
+returns-clause-fronts c =
+    let flow = c.args.flow.now in
+    let failed = c.args.failed.now in
+    let kept = c.self.inside.kept.items in
+    let settled = c.self.inside.settled.items in
+    let both = c.in_ok-both.field-0.items in
+    let fresh = c.in_ok-freshen.ensures.fresh in
+    let o = subst (λ (x : Standing). IsOfFlow flow x) (sym c.self.view_is) (c.freshen.ensures.progress fresh.ready) in
+    let grown = subst (λ xs. AreGrown (length failed) failed settled xs both) c.deref-4.ensures.value
+    (subst (λ xs. AreGrown (length failed) failed xs c.deref-4.result.now both) c.deref-3.ensures.value
+    (IfOk-at_ok (λ g. AreGrown (length failed) failed c.deref-3.result.now c.deref-4.result.now g.items) c.in_ok-both.was c.grown-both.ensures)) in
+    grown-fronts flow failed kept settled both c.requires.failed o.settled o.kept grown

@@ -1,0 +1,257 @@
+-- Traces inside a larger base, and in a cut.
+use Rattle.std.proofs.Common.{◌≡◌, ◌≢◌, ℕ, ◌<◌, Bool, true, false, ◌&&◌, ◌==◌, cond, List, [], ◌∷◌, ◌++◌, length, get_or, map, refl, sym, ap, subst, ◌∙◌, inl, inr, arith}
+use Rattle.std.specs.Prelude.{filter}
+use Rattle.std.specs.List.{AllByRecursion, list_all, flat_map}
+use Rattle.std.proofs.lemmas.Bool.{and_parts, and_from, and_left, cases_Bool, cases_eq, eq-eqb, eqb-true, false_from_ne_true}
+use Rattle.std.proofs.lemmas.Grind.{flat_map-append}
+use Rattle.fw_time.specs.Stamp.{Stamp, in_domain}
+use Rattle.fw_time.specs.declared.stamp.Bounds.{Bounds}
+use Rattle.fw_time.proofs.EachLaws.{each-weaker, each-append, each-map}
+use Rattle.fw_frontier.specs.Frontier.{Frontier, Within}
+use Rattle.fw_frontier.specs.Front.{Front, frontier_of}
+use Rattle.fw_flow.specs.declared.event.Event.{Event}
+use Rattle.fw_flow.specs.declared.event.Event.TheVariants.{Inject, Deliver, Notify}
+use Rattle.fw_flow.specs.declared.event.Message.{Message}
+use Rattle.fw_flow.specs.Dataflow.{System, Dataflow, kind_of, receiver, bounds_of, is_sequence_kind, node_frontier, HasEpochs}
+use Rattle.fw_flow.specs.NodeFunction.{event_node, event_stamp, sends, sent_by}
+use Rattle.fw_flow.specs.Projection.{events_at, all_inside}
+use Rattle.fw_flow.specs.WellFormed.{IsWellFormed}
+use Rattle.fw_model.specs.Covers.{stamp_of_notice}
+use Rattle.fw_model.specs.Filtering.{AreFrontiers, kept_events, messages_inside, messages_from, events_inside}
+use Rattle.fw_model.specs.History.{message_on, delivered_messages, AreEventsInDomain, IsLegal}
+use Rattle.fw_model.specs.Thinned.{IsThinned}
+use Rattle.fw_model.proofs.FilterLaws.{flat_map-filter}
+use Rattle.fw_model.proofs.LegalLaws.{legal_events-in_domain}
+use Rattle.fw_model.proofs.LocalityLaws.{sends-causes, events_at-kept, sent_by-same, delivers-same}
+use Rattle.fw_model.proofs.SequenceLaws.{one_inside}
+use Rattle.fw_progress.specs.declared.sent_tally.SentTally.{SentTally}
+use Rattle.fw_progress.specs.declared.traces.Traces.{Traces}
+use Rattle.fw_progress.specs.Progress.{ChangesAt}
+use Rattle.fw_progress.specs.SentTally.{causes_in, IsSentTally, ComeFromDomain, IsTallySettledTo, IsTallyCutTo}
+use Rattle.fw_progress.specs.Trace.{delivered_on, notified_of, sent_at, counted_of, IsTraceOf, IsTraceWithin, KeepsOthers, AreSettledTo, AreCutTo, HaveChanged}
+use Rattle.fw_progress.specs.Traces.{AreOf, IsSettledTo, IsCutTo}
+
+-- ---- of a node's events alone
+
+-- what was delivered on an edge, by its receiver's events alone
+delivered-at : (flow : Dataflow) (h : List Event) (d : ℕ) → delivered_messages (events_at flow (receiver flow d) h) d ≡ delivered_messages h d
+delivered-at flow h d = flat_map-filter (message_on d) (λ v. event_node flow v == receiver flow d) h (each h)
+  where
+    each : (vs : List Event) → AllByRecursion (λ v. (event_node flow v == receiver flow d) ≡ false → message_on d v ≡ []) vs
+    each [] = tt
+    each (Inject s x ∷ vs) = ((λ k. refl), each vs)
+    each (Deliver e m ∷ vs) = ((λ k. ap (λ b. cond b (m ∷ []) []) (false_from_ne_true (e == d) (λ i. other e i k))), each vs)
+      where
+        other : (e : ℕ) → (e == d) ≡ true → (receiver flow e == receiver flow d) ≡ false → ⊥
+        other e i k = let z : true ≡ false = sym (eq-eqb (receiver flow e) (receiver flow d) (ap (receiver flow) (eqb-true e d i))) ∙ k in absurd (cc)
+    each (Notify p t ∷ vs) = ((λ k. refl), each vs)
+
+-- of what a node was notified, by its events alone
+notices-at : (flow : Dataflow) (h : List Event) (p : ℕ) → flat_map (stamp_of_notice p) (events_at flow p h) ≡ flat_map (stamp_of_notice p) h
+notices-at flow h p = flat_map-filter (stamp_of_notice p) (λ v. event_node flow v == p) h (each h)
+  where
+    each : (vs : List Event) → AllByRecursion (λ v. (event_node flow v == p) ≡ false → stamp_of_notice p v ≡ []) vs
+    each [] = tt
+    each (Inject s x ∷ vs) = ((λ k. refl), each vs)
+    each (Deliver e m ∷ vs) = ((λ k. refl), each vs)
+    each (Notify q t ∷ vs) = ((λ k. ap (λ b. cond b (t ∷ []) []) k), each vs)
+
+-- traces are those of each history in which the node has the same events
+pub same-trace : (sys : System) (h k : List Event) (p : ℕ) (base : Frontier) (traces : Traces) → events_at sys.flow p k ≡ events_at sys.flow p h
+    → IsTraceOf sys h p base traces → IsTraceOf sys k p base traces
+same-trace sys h k p base traces e t = record {
+  delivered = λ d l r. subst (λ ms. IsThinned base (map (λ (m : Message). m.at) ms) (delivered_on traces d)) (same d r) (t.delivered d l r);
+  notified = subst (λ ss. IsThinned base ss (notified_of traces p)) (sym (notices-at sys.flow h p) ∙ ap (flat_map (stamp_of_notice p)) (sym e) ∙ notices-at sys.flow k p) t.notified;
+  sent = λ n. subst (λ vs. IsThinned base (causes_in (sent_by sys p vs)) (sent_at traces p)) (sym e) (t.sent n);
+  counted = λ c. subst (λ vs. IsSentTally base (sent_by sys p vs) (counted_of traces p)) (sym e) (t.counted c);
+}
+  where
+    same : (d : ℕ) → receiver sys.flow d ≡ p → delivered_messages h d ≡ delivered_messages k d
+    same d r =
+        let now : events_at sys.flow (receiver sys.flow d) k ≡ events_at sys.flow (receiver sys.flow d) h = subst (λ q. events_at sys.flow q k ≡ events_at sys.flow q h) (sym r) e in
+        sym (delivered-at sys.flow h d) ∙ ap (λ vs. delivered_messages vs d) (sym now) ∙ delivered-at sys.flow k d
+
+-- ---- stamps of the domain
+
+delivered-of : (flow : Dataflow) (d : ℕ) (b : Bounds) (vs : List Event) → AllByRecursion (λ v. in_domain b (event_stamp v) ≡ true) vs → AreOf b (map (λ (m : Message). m.at) (delivered_messages vs d))
+delivered-of flow d b [] a = tt
+delivered-of flow d b (Inject s x ∷ vs) a = delivered-of flow d b vs a.1
+delivered-of flow d b (Deliver e m ∷ vs) a = by (e == d) (delivered-of flow d b vs a.1)
+  where
+    by : (c : Bool) → AreOf b (map (λ (m : Message). m.at) (delivered_messages vs d)) → AreOf b (map (λ (m : Message). m.at) (cond c (m ∷ []) [] ++ delivered_messages vs d))
+    by true r = (a.0, r)
+    by false r = r
+delivered-of flow d b (Notify p t ∷ vs) a = delivered-of flow d b vs a.1
+
+notices-of : (p : ℕ) (b : Bounds) (vs : List Event) → AllByRecursion (λ v. in_domain b (event_stamp v) ≡ true) vs → AreOf b (flat_map (stamp_of_notice p) vs)
+notices-of p b [] a = tt
+notices-of p b (Inject s x ∷ vs) a = notices-of p b vs a.1
+notices-of p b (Deliver e m ∷ vs) a = notices-of p b vs a.1
+notices-of p b (Notify q t ∷ vs) a = by (q == p) (notices-of p b vs a.1)
+  where
+    by : (c : Bool) → AreOf b (flat_map (stamp_of_notice p) vs) → AreOf b (cond c (t ∷ []) [] ++ flat_map (stamp_of_notice p) vs)
+    by true r = (a.0, r)
+    by false r = r
+
+pub come-of : (sys : System) (p : ℕ) (b : Bounds) (vs : List Event) → AllByRecursion (λ v. in_domain b (event_stamp v) ≡ true) vs → ComeFromDomain b (sent_by sys p vs)
+come-of sys p b [] a = tt
+come-of sys p b (v ∷ vs) a =
+    let P : Message → Type 0 = λ m. AllByRecursion (λ t. in_domain b t ≡ true) m.causes in
+    each-append P (sends sys p vs v) (sent_by sys p vs)
+    (each-weaker (λ (m : Message). m.causes ≡ event_stamp v ∷ []) P (sends sys p vs v) (λ m e. subst (AllByRecursion (λ t. in_domain b t ≡ true)) (sym e) (a.0, tt)) (sends-causes sys p vs v))
+    (come-of sys p b vs a.1)
+
+pub causes-of : (b : Bounds) (ms : List Message) → ComeFromDomain b ms → AreOf b (causes_in ms)
+causes-of b [] a = tt
+causes-of b (m ∷ ms) a = each-append (λ t. in_domain b t ≡ true) m.causes (causes_in ms) a.0 (causes-of b ms a.1)
+
+-- where the stamps of a node's events are of its domain, so are those of each list
+pub delivered-domain : (sys : System) (h : List Event) (d : ℕ) → AreEventsInDomain sys.flow h (receiver sys.flow d) → AreOf (bounds_of sys.flow (receiver sys.flow d)) (map (λ (m : Message). m.at) (delivered_messages h d))
+delivered-domain sys h d a =
+    subst (λ ms. AreOf (bounds_of sys.flow (receiver sys.flow d)) (map (λ (m : Message). m.at) ms)) (delivered-at sys.flow h d)
+    (delivered-of sys.flow d (bounds_of sys.flow (receiver sys.flow d)) (events_at sys.flow (receiver sys.flow d) h) a)
+
+pub notices-domain : (sys : System) (h : List Event) (p : ℕ) → AreEventsInDomain sys.flow h p → AreOf (bounds_of sys.flow p) (flat_map (stamp_of_notice p) h)
+notices-domain sys h p a = subst (AreOf (bounds_of sys.flow p)) (notices-at sys.flow h p) (notices-of p (bounds_of sys.flow p) (events_at sys.flow p h) a)
+
+pub sent-domain : (sys : System) (h : List Event) (p : ℕ) → AreEventsInDomain sys.flow h p → ComeFromDomain (bounds_of sys.flow p) (sent_by sys p (events_at sys.flow p h))
+sent-domain sys h p a = come-of sys p (bounds_of sys.flow p) (events_at sys.flow p h) a
+
+-- ---- lists that change together
+
+changed-others : (flow : Dataflow) (p : ℕ) (R : List Stamp → List Stamp → Type 0) (T : SentTally → SentTally → Type 0) (old new : Traces) → HaveChanged flow p R T old new → KeepsOthers flow p old new
+changed-others flow p R T old new c sys h e q n base t = record {
+  delivered = λ d l r. subst (IsThinned base (map (λ (m : Message). m.at) (delivered_messages h d))) (sym (c.delivered.others d (λ i. n (sym r ∙ ap (λ f. receiver f d) e ∙ i)))) (t.delivered d l r);
+  notified = subst (IsThinned base (flat_map (stamp_of_notice q) h)) (sym (c.notified.others q n)) t.notified;
+  sent = λ k. subst (IsThinned base (causes_in (sent_by sys q (events_at sys.flow q h)))) (sym (c.sent.others q n)) (t.sent k);
+  counted = λ k. subst (IsSentTally base (sent_by sys q (events_at sys.flow q h))) (sym (c.counted.others q n)) (t.counted k);
+}
+
+pub settled-traces : (flow : Dataflow) (p : ℕ) (f : Front) (old new : Traces) → HaveChanged flow p (IsSettledTo f) (IsTallySettledTo f) old new → AreSettledTo flow p f old new
+settled-traces flow p f old new change = record {
+  here = λ sys h e.
+      subst (λ g. AreEventsInDomain g h p → IsTraceWithin sys h p f old → IsTraceOf sys h p (node_frontier g p f) new) e
+      (λ a w. here sys h (subst (λ g. HaveChanged g p (IsSettledTo f) (IsTallySettledTo f) old new) (sym e) change) a w);
+  others = changed-others flow p (IsSettledTo f) (IsTallySettledTo f) old new change;
+}
+  where
+    here : (sys : System) (h : List Event) → HaveChanged sys.flow p (IsSettledTo f) (IsTallySettledTo f) old new → AreEventsInDomain sys.flow h p → IsTraceWithin sys h p f old
+        → IsTraceOf sys h p (node_frontier sys.flow p f) new
+    here sys h c a w =
+        let b = bounds_of sys.flow p in
+        let t = w.trace in
+        record {
+          delivered = λ d l r. c.delivered.here d l r b w.base (map (λ (m : Message). m.at) (delivered_messages h d))
+              (subst (λ q. AreEventsInDomain sys.flow h q → AreOf (bounds_of sys.flow q) (map (λ (m : Message). m.at) (delivered_messages h d))) r (delivered-domain sys h d) a) w.within (t.delivered d l r);
+          notified = c.notified.here b w.base (flat_map (stamp_of_notice p) h) (notices-domain sys h p a) w.within t.notified;
+          sent = λ k. c.sent.here b w.base (causes_in (sent_by sys p (events_at sys.flow p h))) (causes-of b _ (sent-domain sys h p a)) w.within (t.sent k);
+          counted = λ k. c.counted.here b w.base (sent_by sys p (events_at sys.flow p h)) (sent-domain sys h p a) w.within (t.counted k);
+        }
+
+-- ---- a cut
+
+map-filter : (f : Frontier) (ms : List Message) → map (λ (m : Message). m.at) (messages_inside f ms) ≡ filter f (map (λ (m : Message). m.at) ms)
+map-filter f [] = refl
+map-filter f (m ∷ ms) = by (f m.at) (map-filter f ms)
+  where
+    by : (c : Bool) → map (λ (m : Message). m.at) (messages_inside f ms) ≡ filter f (map (λ (m : Message). m.at) ms)
+        → map (λ (m : Message). m.at) (cond c (m ∷ messages_inside f ms) (messages_inside f ms)) ≡ cond c (m.at ∷ filter f (map (λ (m : Message). m.at) ms)) (filter f (map (λ (m : Message). m.at) ms))
+    by true e = ap (λ ss. m.at ∷ ss) e
+    by false e = e
+
+-- of what a node was notified among the events inside a set
+notices-inside : (p : ℕ) (f : Frontier) (vs : List Event) → flat_map (stamp_of_notice p) (events_inside f vs) ≡ filter f (flat_map (stamp_of_notice p) vs)
+notices-inside p f [] = refl
+notices-inside p f (Inject s x ∷ vs) = by (f (x ∷ [])) (notices-inside p f vs)
+  where
+    by : (c : Bool) → flat_map (stamp_of_notice p) (events_inside f vs) ≡ filter f (flat_map (stamp_of_notice p) vs)
+        → flat_map (stamp_of_notice p) (cond c (Inject s x ∷ events_inside f vs) (events_inside f vs)) ≡ filter f (flat_map (stamp_of_notice p) vs)
+    by true e = e
+    by false e = e
+notices-inside p f (Deliver d m ∷ vs) = by (f m.at) (notices-inside p f vs)
+  where
+    by : (c : Bool) → flat_map (stamp_of_notice p) (events_inside f vs) ≡ filter f (flat_map (stamp_of_notice p) vs)
+        → flat_map (stamp_of_notice p) (cond c (Deliver d m ∷ events_inside f vs) (events_inside f vs)) ≡ filter f (flat_map (stamp_of_notice p) vs)
+    by true e = e
+    by false e = e
+notices-inside p f (Notify q t ∷ vs) = by (f t) refl (notices-inside p f vs)
+  where
+    left : List Stamp
+    left = flat_map (stamp_of_notice p) (events_inside f vs)
+
+    all : List Stamp
+    all = flat_map (stamp_of_notice p) vs
+
+    taken : (b : Bool) → f t ≡ true → left ≡ filter f all → cond b (t ∷ []) [] ++ left ≡ filter f (cond b (t ∷ []) [] ++ all)
+    taken true i e = ap (λ ss. t ∷ ss) e ∙ sym (ap (λ c. cond c (t ∷ filter f all) (filter f all)) i)
+    taken false i e = e
+
+    dropped : (b : Bool) → f t ≡ false → left ≡ filter f all → left ≡ filter f (cond b (t ∷ []) [] ++ all)
+    dropped true i e = e ∙ sym (ap (λ c. cond c (t ∷ filter f all) (filter f all)) i)
+    dropped false i e = e
+
+    by : (c : Bool) → f t ≡ c → left ≡ filter f all → flat_map (stamp_of_notice p) (cond c (Notify q t ∷ events_inside f vs) (events_inside f vs)) ≡ filter f (cond (q == p) (t ∷ []) [] ++ all)
+    by true i e = taken (q == p) i e
+    by false i e = dropped (q == p) i e
+
+-- of messages of one cause each, the causes of those from inside
+pub causes-from : (f : Frontier) (ms : List Message) → AllByRecursion (λ (m : Message). (t : Stamp) × (m.causes ≡ t ∷ [])) ms → causes_in (messages_from f ms) ≡ filter f (causes_in ms)
+causes-from f [] a = refl
+causes-from f (m ∷ ms) a =
+    let c = a.0 in
+    ap (λ b. causes_in (cond b (m ∷ messages_from f ms) (messages_from f ms))) (one_inside f c.0 m (f c.0) refl c.1)
+    ∙ by c.0 c.1 (f c.0) (causes-from f ms a.1) ∙ sym (ap (λ cs. filter f (cs ++ causes_in ms)) c.1)
+  where
+    by : (t : Stamp) → m.causes ≡ t ∷ [] → (b : Bool) → causes_in (messages_from f ms) ≡ filter f (causes_in ms)
+        → causes_in (cond b (m ∷ messages_from f ms) (messages_from f ms)) ≡ cond b (t ∷ filter f (causes_in ms)) (filter f (causes_in ms))
+    by t e true k = ap (λ cs. cs ++ causes_in (messages_from f ms)) e ∙ ap (λ ss. t ∷ ss) k
+    by t e false k = k
+
+-- each message that a node sends has one cause
+pub sent-one : (sys : System) (p : ℕ) (vs : List Event) → AllByRecursion (λ (m : Message). (t : Stamp) × (m.causes ≡ t ∷ [])) (sent_by sys p vs)
+sent-one sys p [] = tt
+sent-one sys p (v ∷ vs) =
+    let P : Message → Type 0 = λ m. (t : Stamp) × (m.causes ≡ t ∷ []) in
+    each-append P (sends sys p vs v) (sent_by sys p vs) (each-weaker (λ (m : Message). m.causes ≡ event_stamp v ∷ []) P (sends sys p vs v) (λ m e. (event_stamp v, e)) (sends-causes sys p vs v))
+    (sent-one sys p vs)
+
+pub notices-kept : (flow : Dataflow) (keep : ℕ → Frontier) (h : List Event) (p : ℕ) → flat_map (stamp_of_notice p) (kept_events flow keep h) ≡ filter (keep p) (flat_map (stamp_of_notice p) h)
+notices-kept flow keep h p =
+    sym (notices-at flow (kept_events flow keep h) p) ∙ ap (flat_map (stamp_of_notice p)) (events_at-kept flow keep p h)
+    ∙ notices-inside p (keep p) (events_at flow p h) ∙ ap (filter (keep p)) (notices-at flow h p)
+
+pub cut-traces : (flow : Dataflow) (p : ℕ) (f : Front) (old new : Traces) → IsWellFormed flow → HaveChanged flow p (IsCutTo f) (IsTallyCutTo f) old new → AreCutTo flow p f old new
+cut-traces flow p f old new well change = record {
+  here = λ sys h keep e epochs legal fr is base w t.
+      let is_now : keep p ≡ node_frontier sys.flow p f = is ∙ sym (ap (λ g. node_frontier g p f) e) in
+      let fr_now : AreFrontiers sys.flow keep = subst (λ g. AreFrontiers g keep) (sym e) fr in
+      let w_now : Within base (node_frontier sys.flow p f) = subst (λ g. Within base (node_frontier g p f)) (sym e) w in
+      subst (λ g. IsTraceOf sys (kept_events g keep h) p base new) e
+      (here sys h keep (subst IsWellFormed (sym e) well) epochs legal fr_now is_now base w_now (subst (λ g. HaveChanged g p (IsCutTo f) (IsTallyCutTo f) old new) (sym e) change) t);
+  others = changed-others flow p (IsCutTo f) (IsTallyCutTo f) old new change;
+}
+  where
+    here : (sys : System) (h : List Event) (keep : ℕ → Frontier) → IsWellFormed sys.flow → HasEpochs sys → IsLegal sys h → AreFrontiers sys.flow keep → keep p ≡ node_frontier sys.flow p f
+        → (base : Frontier) → Within base (node_frontier sys.flow p f) → HaveChanged sys.flow p (IsCutTo f) (IsTallyCutTo f) old new → IsTraceOf sys h p base old
+        → IsTraceOf sys (kept_events sys.flow keep h) p base new
+    here sys h keep well epochs legal fr is base w c t =
+        let b = bounds_of sys.flow p in
+        let a = legal_events-in_domain sys h well epochs legal p in
+        let sent = sent_by-same sys h keep well epochs legal fr p ∙ ap (λ g. messages_from g (sent_by sys p (events_at sys.flow p h))) is in
+        record {
+          delivered = λ d l r.
+              let all = map (λ (m : Message). m.at) (delivered_messages h d) in
+              let left : map (λ (m : Message). m.at) (delivered_messages (kept_events sys.flow keep h) d) ≡ filter (node_frontier sys.flow p f) all =
+              ap (map (λ (m : Message). m.at)) (delivers-same sys.flow h keep d) ∙ map-filter (keep (receiver sys.flow d)) (delivered_messages h d)
+              ∙ ap (λ g. filter g all) (ap keep r ∙ is) in
+              subst (λ ss. IsThinned base ss (delivered_on new d)) (sym left)
+              (c.delivered.here d l r b base all
+              (subst (λ q. AreEventsInDomain sys.flow h q → AreOf (bounds_of sys.flow q) all) r (delivered-domain sys h d) a) w (t.delivered d l r));
+          notified = subst (λ ss. IsThinned base ss (notified_of new p)) (sym (notices-kept sys.flow keep h p ∙ ap (λ g. filter g (flat_map (stamp_of_notice p) h)) is))
+              (c.notified.here b base (flat_map (stamp_of_notice p) h) (notices-domain sys h p a) w t.notified);
+          sent = λ k. subst (λ ss. IsThinned base ss (sent_at new p))
+              (sym (ap causes_in sent ∙ causes-from (node_frontier sys.flow p f) (sent_by sys p (events_at sys.flow p h)) (sent-one sys p (events_at sys.flow p h))))
+              (c.sent.here b base (causes_in (sent_by sys p (events_at sys.flow p h))) (causes-of b _ (sent-domain sys h p a)) w (t.sent k));
+          counted = λ k. subst (λ ms. IsSentTally base ms (counted_of new p)) (sym sent)
+              (c.counted.here b base (sent_by sys p (events_at sys.flow p h)) (sent-domain sys h p a) w (t.counted k));
+        }

@@ -1,0 +1,207 @@
+-- Traces that follow events.
+use Rattle.std.proofs.Common.{◌≡◌, ◌≢◌, ℕ, zero, suc, ◌+◌, ◌<◌, Bool, true, false, ◌==◌, cond, List, [], ◌∷◌, ◌++◌, length, get_or, map, refl, sym, ap, subst, ◌∙◌, inl, inr, arith}
+use Rattle.std.specs.List.{AllByRecursion, Contains, flat_map}
+use Rattle.std.proofs.lemmas.Bool.{cases_eq, eq-eqb, eqb-true, false_from_ne_true}
+use Rattle.std.proofs.lemmas.Grind.{flat_map-append}
+use Rattle.std.proofs.lemmas.List.{length-map, map-append}
+use Rattle.std.proofs.lemmas.List.Elements.{Contains-append_right}
+use Rattle.fw_time.specs.Stamp.{Stamp}
+use Rattle.fw_time.proofs.EachLaws.{each-weaker, each-append}
+use Rattle.fw_frontier.specs.Frontier.{Frontier}
+use Rattle.fw_flow.specs.declared.event.Event.{Event}
+use Rattle.fw_flow.specs.declared.event.Event.TheVariants.{Inject, Deliver, Notify}
+use Rattle.fw_flow.specs.declared.event.Message.{Message}
+use Rattle.fw_flow.specs.Dataflow.{System, Dataflow, kind_of, receiver, is_sequence_kind}
+use Rattle.fw_flow.specs.NodeFunction.{event_node, event_stamp, sends, sent_by}
+use Rattle.fw_flow.specs.Projection.{events_at}
+use Rattle.fw_model.specs.Covers.{stamp_of_notice}
+use Rattle.fw_model.specs.History.{message_on, delivered_messages}
+use Rattle.fw_model.specs.Thinned.{IsBelowKept, IsThinned}
+use Rattle.fw_model.proofs.LocalityLaws.{sends-causes}
+use Rattle.fw_model.proofs.ThinnedLaws.{each-contained}
+use Rattle.fw_progress.specs.declared.sent_tally.SentTally.{SentTally}
+use Rattle.fw_progress.specs.declared.traces.Traces.{Traces}
+use Rattle.fw_progress.specs.History.{stamps_sent}
+use Rattle.fw_progress.specs.Progress.{ChangesAt}
+use Rattle.fw_progress.specs.SentTally.{causes_in, IsSentTally, CountsMore}
+use Rattle.fw_progress.specs.Trace.{delivered_on, notified_of, sent_at, counted_of, no_tally, counts_sent, IsTraceOf, TracesFollow, StandForManyMore, SentMore, CountedMore, HasSent}
+use Rattle.fw_progress.specs.Traces.{StandForOneMore}
+use Rattle.fw_progress.proofs.StartLaws.{all-alike}
+use Rattle.fw_progress.proofs.TraceLaws.{contains-head, contains-tail, each-had}
+
+-- ---- the same stamps, however often
+
+pub thinned-same : (base : Frontier) (all also kept : List Stamp) → ((s : Stamp) → Contains all s → Contains also s) → ((s : Stamp) → Contains also s → Contains all s)
+    → IsThinned base all kept → IsThinned base also kept
+thinned-same base all also kept more less h = record {
+  among = each-weaker (Contains all) (Contains also) kept more h.among;
+  outside = each-had (λ t. base t ≡ false → Contains kept t) also (λ t c. each-contained (λ s. base s ≡ false → Contains kept s) t all (less t c) h.outside);
+  inside = each-had (λ t. base t ≡ true → IsBelowKept base kept t) also (λ t c. each-contained (λ s. base s ≡ true → IsBelowKept base kept s) t all (less t c) h.inside);
+}
+
+pub many-none : (at : Stamp) (count : ℕ) (kept : List Stamp) → count ≡ 0 → StandForManyMore at count kept kept
+many-none at count kept z base all [] l e h = h
+many-none at count kept z base all (m ∷ more) l e h = absurd (omega (arith, l, z))
+
+pub many-some : (at : Stamp) (count : ℕ) (old new : List Stamp) → 0 < count → StandForOneMore at old new → StandForManyMore at count old new
+many-some at count old new some one base all [] l e h = absurd (omega (arith, l, some))
+many-some at count old new some one base all (m ∷ more) l e h =
+    let both : List Stamp = (m ∷ more) ++ all in
+    thinned-same base (at ∷ all) both new
+    (λ s c. each-contained (Contains both) s (at ∷ all) c (
+      subst (Contains both) e.0 (contains-head m (more ++ all)),
+      each-had (Contains both) all (λ t d. Contains-append_right (m ∷ more) all t d),
+    ))
+    (λ s c. each-contained (Contains (at ∷ all)) s both c
+    (each-append (Contains (at ∷ all)) (m ∷ more) all
+    (each-weaker (λ t. t ≡ at) (Contains (at ∷ all)) (m ∷ more) (λ t i. subst (Contains (at ∷ all)) (sym i) (contains-head at all)) e)
+    (each-had (Contains (at ∷ all)) all (λ t d. contains-tail at all t d))))
+    (one base all h)
+
+-- ---- what a node sends by an event
+
+pub sent_by-event : (sys : System) (h : List Event) (v : Event) (p : ℕ) → event_node sys.flow v ≡ p
+    → sent_by sys p (events_at sys.flow p (v ∷ h)) ≡ sends sys p (events_at sys.flow p h) v ++ sent_by sys p (events_at sys.flow p h)
+sent_by-event sys h v p e = ap (λ b. sent_by sys p (cond b (v ∷ events_at sys.flow p h) (events_at sys.flow p h))) (eq-eqb (event_node sys.flow v) p e)
+
+pub sent_by-other : (sys : System) (h : List Event) (v : Event) (p : ℕ) → event_node sys.flow v ≢ p
+    → sent_by sys p (events_at sys.flow p (v ∷ h)) ≡ sent_by sys p (events_at sys.flow p h)
+sent_by-other sys h v p n =
+    ap (λ b. sent_by sys p (cond b (v ∷ events_at sys.flow p h) (events_at sys.flow p h))) (false_from_ne_true (event_node sys.flow v == p) (λ k. n (eqb-true (event_node sys.flow v) p k)))
+
+-- the causes of messages of one cause are as many, all the same
+pub one_cause : (at : Stamp) (ms : List Message) → AllByRecursion (λ (m : Message). m.causes ≡ at ∷ []) ms → (length (causes_in ms) ≡ length ms) × AllByRecursion (λ s. s ≡ at) (causes_in ms)
+one_cause at [] a = (refl, tt)
+one_cause at (m ∷ ms) a =
+    let rest = one_cause at ms a.1 in
+    let P : List Stamp → Type 0 = λ cs. (length (cs ++ causes_in ms) ≡ length (m ∷ ms)) × AllByRecursion (λ s. s ≡ at) (cs ++ causes_in ms) in
+    subst P (sym a.0) (ap suc rest.0, (refl, rest.1))
+
+-- ---- the changes of an event
+
+-- What an event changes: what is delivered on its edge, of what its node is notified, and what that sends.
+pub record Tells (flow : Dataflow) (v : Event) (count : ℕ) (old new : Traces) : Type 0 where
+  pub delivered : (d : ℕ) (base : Frontier) (all : List Stamp) → IsThinned base all (delivered_on old d)
+      → IsThinned base (map (λ (m : Message). m.at) (message_on d v) ++ all) (delivered_on new d)
+  pub notified : (q : ℕ) (base : Frontier) (all : List Stamp) → IsThinned base all (notified_of old q) → IsThinned base (stamp_of_notice q v ++ all) (notified_of new q)
+  pub sends : HasSent flow (event_node flow v) (event_stamp v) count old new
+
+pub tells-follow : (flow : Dataflow) (v : Event) (sent : List Stamp) (old new : Traces) → Tells flow v (length sent) old new → TracesFollow flow v sent old new
+tells-follow flow v sent old new tells sys h e is p base t =
+    let told : Tells sys.flow v (length sent) old new = subst (λ f. Tells f v (length sent) old new) (sym e) tells in
+    record {
+      delivered = λ d l r. subst (λ ss. IsThinned base ss (delivered_on new d)) (sym (map-append (λ (m : Message). m.at) (message_on d v) (delivered_messages h d)))
+          (told.delivered d base (map (λ (m : Message). m.at) (delivered_messages h d)) (t.delivered d l r));
+      notified = told.notified p base (flat_map (stamp_of_notice p) h) t.notified;
+      sent = λ k. sends_after told p k (t.sent k);
+      counted = λ k. counts_after told p k (t.counted k);
+    }
+  where
+    q : ℕ
+    q = event_node sys.flow v
+
+    now : List Message
+    now = sends sys q (events_at sys.flow q h) v
+
+    before : ℕ → List Message
+    before n = sent_by sys n (events_at sys.flow n h)
+
+    after : ℕ → List Message
+    after n = sent_by sys n (events_at sys.flow n (v ∷ h))
+
+    many : length now ≡ length sent
+    many = sym (length-map now (λ (m : Message). m.at)) ∙ ap length is
+
+    one : AllByRecursion (λ (m : Message). m.causes ≡ event_stamp v ∷ []) now
+    one = sends-causes sys q (events_at sys.flow q h) v
+
+    sends_after : Tells sys.flow v (length sent) old new → (n : ℕ) → is_sequence_kind (kind_of sys.flow n) ≡ false → IsThinned base (causes_in (before n)) (sent_at old n)
+        → IsThinned base (causes_in (after n)) (sent_at new n)
+    sends_after told n k i = elim (cases_eq n q) [
+      | inl j ↦ subst (λ x. is_sequence_kind (kind_of sys.flow x) ≡ false → IsThinned base (causes_in (before x)) (sent_at old x) → IsThinned base (causes_in (after x)) (sent_at new x)) (sym j)
+          (λ c u.
+          let parts = one_cause (event_stamp v) now one in
+          subst (λ ss. IsThinned base ss (sent_at new q)) (sym (ap causes_in (sent_by-event sys h v q refl) ∙ flat_map-append (λ (m : Message). m.causes) now (before q)))
+          (told.sends.sent.here c base (causes_in (before q)) (causes_in now) (parts.0 ∙ many) parts.1 u)) k i
+      | inr j ↦
+          subst (λ ms. IsThinned base (causes_in ms) (sent_at new n)) (sym (sent_by-other sys h v n (λ x. j (sym x))))
+          (subst (IsThinned base (causes_in (before n))) (sym (told.sends.sent.others n j)) i)
+    ]
+
+    counts_after : Tells sys.flow v (length sent) old new → (n : ℕ) → counts_sent sys.flow n ≡ true → IsSentTally base (before n) (counted_of old n) → IsSentTally base (after n) (counted_of new n)
+    counts_after told n k i = elim (cases_eq n q) [
+      | inl j ↦ subst (λ x. counts_sent sys.flow x ≡ true → IsSentTally base (before x) (counted_of old x) → IsSentTally base (after x) (counted_of new x)) (sym j)
+          (λ c u. subst (λ ms. IsSentTally base ms (counted_of new q)) (sym (sent_by-event sys h v q refl)) (told.sends.counted.here c base (before q) now one many u)) k i
+      | inr j ↦
+          subst (λ ms. IsSentTally base ms (counted_of new n)) (sym (sent_by-other sys h v n (λ x. j (sym x))))
+          (subst (IsSentTally base (before n)) (sym (told.sends.counted.others n j)) i)
+    ]
+
+-- ---- event by event
+
+pub delivered-tells : (flow : Dataflow) (e : ℕ) (m : Message) (count : ℕ) (old new : Traces) → ChangesAt e [] (StandForOneMore m.at) old.delivered.items new.delivered.items
+    → new.notified.items ≡ old.notified.items → HasSent flow (receiver flow e) m.at count old new → Tells flow (Deliver e m) count old new
+delivered-tells flow e m count old new d n s = record {
+  delivered = λ x base all h. elim (cases_eq x e) [
+    | inl i ↦ subst (λ b. IsThinned base (map (λ (z : Message). z.at) (cond b (m ∷ []) []) ++ all) (delivered_on new x)) (sym (eq-eqb e x (sym i)))
+        (subst (λ y. IsThinned base all (delivered_on old y) → IsThinned base (m.at ∷ all) (delivered_on new y)) (sym i) (d.here base all) h)
+    | inr i ↦ subst (λ b. IsThinned base (map (λ (z : Message). z.at) (cond b (m ∷ []) []) ++ all) (delivered_on new x)) (sym (false_from_ne_true (e == x) (λ k. i (sym (eqb-true e x k)))))
+        (subst (IsThinned base all) (sym (d.others x i)) h)
+  ];
+  notified = λ q base all h. subst (IsThinned base all) (sym (ap (λ xs. get_or xs q []) n)) h;
+  sends = s;
+}
+
+pub notified-tells : (flow : Dataflow) (p : ℕ) (t : Stamp) (count : ℕ) (old new : Traces) → new.delivered.items ≡ old.delivered.items
+    → ChangesAt p [] (StandForOneMore t) old.notified.items new.notified.items → HasSent flow p t count old new → Tells flow (Notify p t) count old new
+notified-tells flow p t count old new d n s = record {
+  delivered = λ x base all h. subst (IsThinned base all) (sym (ap (λ xs. get_or xs x []) d)) h;
+  notified = λ q base all h. elim (cases_eq q p) [
+    | inl i ↦ subst (λ b. IsThinned base (cond b (t ∷ []) [] ++ all) (notified_of new q)) (sym (eq-eqb p q (sym i)))
+        (subst (λ y. IsThinned base all (notified_of old y) → IsThinned base (t ∷ all) (notified_of new y)) (sym i) (n.here base all) h)
+    | inr i ↦ subst (λ b. IsThinned base (cond b (t ∷ []) [] ++ all) (notified_of new q)) (sym (false_from_ne_true (p == q) (λ k. i (sym (eqb-true p q k)))))
+        (subst (IsThinned base all) (sym (n.others q i)) h)
+  ];
+  sends = s;
+}
+
+pub injected-tells : (flow : Dataflow) (p x count : ℕ) (old new : Traces) → new.delivered.items ≡ old.delivered.items
+    → new.notified.items ≡ old.notified.items → HasSent flow p (x ∷ []) count old new → Tells flow (Inject p x) count old new
+injected-tells flow p x count old new d n s = record {
+  delivered = λ y base all h. subst (IsThinned base all) (sym (ap (λ xs. get_or xs y []) d)) h;
+  notified = λ q base all h. subst (IsThinned base all) (sym (ap (λ xs. get_or xs q []) n)) h;
+  sends = s;
+}
+
+-- ---- what the lists become
+
+-- nothing is kept of an event that sends nothing, or of a sequence's
+pub sent-none : (flow : Dataflow) (p : ℕ) (at : Stamp) (count : ℕ) (old : List (List Stamp)) → (is_sequence_kind (kind_of flow p) ≡ false → count ≡ 0) → ChangesAt p [] (SentMore flow p at count) old old
+sent-none flow p at count old none = record { one_each = refl; here = λ k. many-none at count (get_or old p []) (none k); others = λ q n. refl }
+
+pub sent-some : (flow : Dataflow) (p : ℕ) (at : Stamp) (count : ℕ) (old new : List (List Stamp)) → 0 < count → ChangesAt p [] (StandForOneMore at) old new
+    → ChangesAt p [] (SentMore flow p at count) old new
+sent-some flow p at count old new some c = record { one_each = c.one_each; here = λ k. many-some at count (get_or old p []) (get_or new p []) some c.here; others = c.others }
+
+-- what is not counted stays
+pub counted-none : (flow : Dataflow) (p : ℕ) (at : Stamp) (count : ℕ) (old : List SentTally) → counts_sent flow p ≡ false → ChangesAt p no_tally (CountedMore flow p at count) old old
+counted-none flow p at count old none = record { one_each = refl; here = λ k. absurd (cc); others = λ q n. refl }
+
+pub counted-some : (flow : Dataflow) (p : ℕ) (at : Stamp) (count : ℕ) (old new : List SentTally) → ChangesAt p no_tally (CountsMore at count) old new
+    → ChangesAt p no_tally (CountedMore flow p at count) old new
+counted-some flow p at count old new c = record { one_each = c.one_each; here = λ k. c.here; others = c.others }
+
+-- ---- of no event
+
+-- the traces of no event
+pub no-trace : (sys : System) (p : ℕ) (base : Frontier) (traces : Traces) → AllByRecursion (λ kept. kept ≡ []) traces.delivered.items → AllByRecursion (λ kept. kept ≡ []) traces.notified.items
+    → AllByRecursion (λ kept. kept ≡ []) traces.sent.items → AllByRecursion (λ tally. tally ≡ no_tally) traces.counted.items → IsTraceOf sys [] p base traces
+no-trace sys p base traces d n s c = record {
+  delivered = λ x l r. none (delivered_on traces x) (all-alike [] traces.delivered.items d x);
+  notified = none (notified_of traces p) (all-alike [] traces.notified.items n p);
+  sent = λ k. none (sent_at traces p) (all-alike [] traces.sent.items s p);
+  counted = λ k. subst (IsSentTally base []) (sym (all-alike no_tally traces.counted.items c p)) (λ f w. refl);
+}
+  where
+    none : (kept : List Stamp) → kept ≡ [] → IsThinned base [] kept
+    none kept e = subst (IsThinned base []) (sym e) (record { among = tt; outside = tt; inside = tt })

@@ -1,0 +1,6 @@
+use Rattle.std.proofs.Common.{◌≡◌, take}
+use Rattle.fw_progress.specs.Cut.{epochs_inside}
+use Rattle.fw_progress.proofs.cut.epochs_inside.Given as goal
+
+abbrev pub invariant-loop-stamp : goal.invariant-loop-stamp
+invariant-loop-stamp l = l.left ≡ epochs_inside (take l.stamp-index l.outside) l.count

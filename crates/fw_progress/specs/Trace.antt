@@ -1,0 +1,131 @@
+-- When traces stand for the events of a node.
+use Rattle.std.specs.Prelude.{◌≡◌, ◌≢◌, ℕ, ◌<◌, Bool, true, false, ◌||◌, List, [], ◌∷◌, ◌++◌, length, map, slice_index_or}
+use Rattle.std.specs.List.{AllByRecursion, flat_map}
+use Rattle.fw_time.specs.Stamp.{Stamp}
+use Rattle.fw_frontier.specs.Frontier.{Frontier, Within}
+use Rattle.fw_frontier.specs.Front.{Front}
+use Rattle.fw_flow.specs.declared.event.Event.{Event}
+use Rattle.fw_flow.specs.declared.event.Message.{Message}
+use Rattle.fw_flow.specs.Dataflow.{System, Dataflow, kind_of, policy_of, sender, receiver, is_sequence_kind, node_frontier, HasEpochs}
+use Rattle.fw_flow.specs.NodeFunction.{sent_by}
+use Rattle.fw_flow.specs.Projection.{events_at}
+use Rattle.fw_model.specs.Covers.{stamp_of_notice}
+use Rattle.fw_model.specs.Filtering.{AreFrontiers, kept_events}
+use Rattle.fw_model.specs.History.{delivered_messages, sent_messages, AreEventsInDomain, IsLegal}
+use Rattle.fw_model.specs.Thinned.{IsThinned}
+use Rattle.fw_model.specs.Writes.{takes_checkpoints}
+use Rattle.fw_progress.specs.declared.sent_tally.SentTally.{SentTally}
+use Rattle.fw_progress.specs.declared.traces.Traces.{Traces}
+use Rattle.fw_progress.specs.History.{stamps_sent}
+use Rattle.fw_progress.specs.Progress.{ChangesAt}
+use Rattle.fw_progress.specs.SentTally.{causes_in, IsSentTally, CountsMore}
+use Rattle.fw_progress.specs.Traces.{ChangesInto}
+
+-- the stamps that are kept of what was delivered on an edge
+abbrev pub delivered_on : Traces → ℕ → List Stamp
+delivered_on traces d = slice_index_or traces.delivered.items d []
+
+-- those of which a node was notified
+abbrev pub notified_of : Traces → ℕ → List Stamp
+notified_of traces p = slice_index_or traces.notified.items p []
+
+-- those at which events of a node sent something
+abbrev pub sent_at : Traces → ℕ → List Stamp
+sent_at traces p = slice_index_or traces.sent.items p []
+
+-- a tally of nothing
+abbrev pub no_tally : SentTally
+no_tally = record { inside = 0; outside = [] }
+
+-- how many messages a node sent
+abbrev pub counted_of : Traces → ℕ → SentTally
+counted_of traces p = slice_index_or traces.counted.items p no_tally
+
+-- whether it is counted how many messages a node sent: where it takes checkpoints, which tell it, and of a sequence, whose messages
+-- are numbered by it
+abbrev pub counts_sent : Dataflow → ℕ → Bool
+counts_sent flow p = takes_checkpoints (policy_of flow p) || is_sequence_kind (kind_of flow p)
+
+-- There is a list for each edge and node.
+pub record HaveLists (flow : Dataflow) (traces : Traces) : Type 0 where
+  pub delivered_each : length traces.delivered.items ≡ length flow.edges
+  pub notified_each : length traces.notified.items ≡ length flow.nodes
+  pub sent_each : length traces.sent.items ≡ length flow.nodes
+  pub counted_each : length traces.counted.items ≡ length flow.nodes
+
+-- the same, unless memory was refused
+abbrev pub AreTraces : Dataflow → Traces → Type 0
+AreTraces flow traces = traces.refused ≡ false → HaveLists flow traces
+
+-- The traces of node p are those of its events in a history, thinned inside a base: where something was delivered on its in-edges,
+-- of what it was notified, where its events sent something, and how many messages they sent.
+pub record IsTraceOf (sys : System) (h : List Event) (p : ℕ) (base : Frontier) (traces : Traces) : Type 0 where
+  pub delivered : (d : ℕ) → d < length sys.flow.edges → receiver sys.flow d ≡ p
+      → IsThinned base (map (λ (m : Message). m.at) (delivered_messages h d)) (delivered_on traces d)
+  pub notified : IsThinned base (flat_map (stamp_of_notice p) h) (notified_of traces p)
+  pub sent : is_sequence_kind (kind_of sys.flow p) ≡ false → IsThinned base (causes_in (sent_by sys p (events_at sys.flow p h))) (sent_at traces p)
+  pub counted : counts_sent sys.flow p ≡ true → IsSentTally base (sent_by sys p (events_at sys.flow p h)) (counted_of traces p)
+
+-- the traces of each node are so, thinned inside its base
+abbrev pub AreTracesOf : System → List Event → (ℕ → Frontier) → Traces → Type 0
+AreTracesOf sys h bases traces = (p : ℕ) → p < length sys.flow.nodes → IsTraceOf sys h p (bases p) traces
+
+-- Those of node p are so, thinned inside a base that a frontier holds.
+pub record IsTraceWithin (sys : System) (h : List Event) (p : ℕ) (f : Front) (traces : Traces) : Type 0 where
+  pub base : Frontier
+  pub within : Within base (node_frontier sys.flow p f)
+  pub trace : IsTraceOf sys h p base traces
+
+-- Of the other nodes the traces are what they were.
+abbrev pub KeepsOthers : Dataflow → ℕ → Traces → Traces → Type 0
+KeepsOthers flow p old new =
+    (sys : System) (h : List Event) → sys.flow ≡ flow → (q : ℕ) → q ≢ p → (base : Frontier) → IsTraceOf sys h q base old → IsTraceOf sys h q base new
+
+-- traces follow an event at which its node sends at these stamps: they are those of the history that goes on with the event, where
+-- they were those of the history before
+abbrev pub TracesFollow : Dataflow → Event → List Stamp → Traces → Traces → Type 0
+TracesFollow flow v sent old new =
+    (sys : System) (h : List Event) → sys.flow ≡ flow → stamps_sent sys h v ≡ sent → (p : ℕ) (base : Frontier)
+    → IsTraceOf sys h p base old → IsTraceOf sys (v ∷ h) p base new
+
+-- A larger base: the traces of node p are those of its events, thinned inside the frontier.
+pub record AreSettledTo (flow : Dataflow) (p : ℕ) (f : Front) (old new : Traces) : Type 0 where
+  pub here : (sys : System) (h : List Event) → sys.flow ≡ flow → AreEventsInDomain flow h p → IsTraceWithin sys h p f old
+      → IsTraceOf sys h p (node_frontier flow p f) new
+  pub others : KeepsOthers flow p old new
+
+-- A cut to a frontier that holds the base: the traces of node p are those of its events in a history of which each node keeps the
+-- events inside a frontier, node p those inside this one.
+pub record AreCutTo (flow : Dataflow) (p : ℕ) (f : Front) (old new : Traces) : Type 0 where
+  pub here : (sys : System) (h : List Event) (keep : ℕ → Frontier) → sys.flow ≡ flow → HasEpochs sys → IsLegal sys h
+      → AreFrontiers flow keep → keep p ≡ node_frontier flow p f → (base : Frontier) → Within base (node_frontier flow p f)
+      → IsTraceOf sys h p base old → IsTraceOf sys (kept_events flow keep h) p base new
+  pub others : KeepsOthers flow p old new
+
+-- ---- for the proofs
+
+-- what stood for a list of stamps stands for it with so many more, all the same one
+abbrev pub StandForManyMore : Stamp → ℕ → List Stamp → List Stamp → Type 0
+StandForManyMore at count old new =
+    (base : Frontier) (all more : List Stamp) → length more ≡ count → AllByRecursion (λ s. s ≡ at) more → IsThinned base all old
+    → IsThinned base (more ++ all) new
+
+-- the same of the stamps at which node p sends, unless it is a sequence
+abbrev pub SentMore : Dataflow → ℕ → Stamp → ℕ → List Stamp → List Stamp → Type 0
+SentMore flow p at count old new = is_sequence_kind (kind_of flow p) ≡ false → StandForManyMore at count old new
+
+-- so many messages are counted more, where they are counted
+abbrev pub CountedMore : Dataflow → ℕ → Stamp → ℕ → SentTally → SentTally → Type 0
+CountedMore flow p at count old new = counts_sent flow p ≡ true → CountsMore at count old new
+
+-- An event of node p at a stamp sends so many messages.
+pub record HasSent (flow : Dataflow) (p : ℕ) (at : Stamp) (count : ℕ) (old new : Traces) : Type 0 where
+  pub sent : ChangesAt p [] (SentMore flow p at count) old.sent.items new.sent.items
+  pub counted : ChangesAt p no_tally (CountedMore flow p at count) old.counted.items new.counted.items
+
+-- The lists of node p are changed so, and those of the others are as they were.
+pub record HaveChanged (flow : Dataflow) (p : ℕ) (R : List Stamp → List Stamp → Type 0) (T : SentTally → SentTally → Type 0) (old new : Traces) : Type 0 where
+  pub delivered : ChangesInto flow p R old.delivered.items new.delivered.items
+  pub notified : ChangesAt p [] R old.notified.items new.notified.items
+  pub sent : ChangesAt p [] R old.sent.items new.sent.items
+  pub counted : ChangesAt p no_tally T old.counted.items new.counted.items

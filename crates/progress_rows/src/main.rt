@@ -4,6 +4,7 @@
 mod calls;
 mod line;
 mod row;
+mod traces;
 
 use crate::row::tell_rows;
 use std::{env, fs, io};

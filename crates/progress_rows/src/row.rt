@@ -1,14 +1,16 @@
 //! Rows: a flow, how many batches its inputs have, and calls.
 ghost use Rattle.std.specs.Prelude.{◌≡◌};
 ghost use Rattle.fw_progress.specs.Progress.{IsProgressOf};
+ghost use Rattle.fw_progress.specs.Trace.{AreTraces};
 
 use crate::calls::answer;
 use crate::line::{NoAnswer, node_of, part};
+use crate::traces;
 use fw_bag::Rec;
 use fw_flow::Flow;
 use fw_flow_text::read_flow;
 use fw_lines::Batches;
-use fw_progress::Progress;
+use fw_progress::{Progress, Traces};
 use std::alloc::{AllocError, Global};
 
 /// Tells the rows of a file.
@@ -84,7 +86,8 @@ fn tell_calls(
         Err(NoAnswer::NoMemory) => return Err(AllocError),
     };
     let mut progress = Progress::new(alloc, flow, &batches)?;
-    tell_answers(alloc, flow, &mut progress, lines, told)
+    let mut traces = Traces::new(alloc, flow)?;
+    tell_answers(alloc, flow, &mut progress, &mut traces, lines, told)
 }
 
 /// Tells the answer to each call.
@@ -92,15 +95,18 @@ fn tell_answers(
     alloc: Global,
     flow: &Flow,
     progress: &mut Progress,
+    traces: &mut Traces,
     lines: &str,
     told: &mut String,
 ) -> Result<(), AllocError>
-    requires { IsProgressOf flow.now progress.old }
-    ensures { IsProgressOf flow.now progress.new }
+    requires progress { IsProgressOf flow.now progress.old }
+    requires traces { AreTraces flow.now traces.old }
+    ensures progress { IsProgressOf flow.now progress.new }
+    ensures traces { AreTraces flow.now traces.new }
 {
     for line in lines.lines().filter(|line| is_call(line)) {
         told.push_str(line)?;
-        match answer(alloc, flow, progress, line) {
+        match answer_of(alloc, flow, progress, traces, line) {
             Ok(text) => tell_text(&text, told)?,
             Err(NoAnswer::NotSpelled) => told.push_str(" none")?,
             Err(NoAnswer::NoMemory) => return Err(AllocError),
@@ -108,6 +114,27 @@ fn tell_answers(
         told.push('\n')?;
     }
     Ok(())
+}
+
+/// The answer to a call of progress, or to one of traces after the word `trace`.
+fn answer_of(
+    alloc: Global,
+    flow: &Flow,
+    progress: &mut Progress,
+    traces: &mut Traces,
+    line: &str,
+) -> Result<String, NoAnswer>
+    requires progress { IsProgressOf flow.now progress.old }
+    requires traces { AreTraces flow.now traces.old }
+    ensures progress { IsProgressOf flow.now progress.new }
+    ensures traces { AreTraces flow.now traces.new }
+{
+    let (word, rest) = part(line);
+    if word == "trace" {
+        traces::answer(alloc, flow, traces, rest)
+    } else {
+        answer(alloc, flow, progress, line)
+    }
 }
 
 /// Adds an answer, if it says something.

@@ -1,6 +1,6 @@
 -- Counts after a cut: those of the events that are left.
 use Rattle.std.proofs.Common.{◌≡◌, ℕ, ◌+◌, Bool, true, false, not, ◌&&◌, ◌||◌, ◌==◌, nat_le, nat_lt, cond, Option, None, List, [], ◌∷◌, ◌++◌, length, get_or, take, filter, slice_index, refl, sym, ap, subst, ◌∙◌, inl, inr, ◌<◌, ◌≤◌, arith}
-use Rattle.std.specs.List.{AllByRecursion, list_any}
+use Rattle.std.specs.List.{list_any}
 use Rattle.std.specs.Map.{lookup}
 use Rattle.std.specs.Prelude.{unwrap_or}
 use Rattle.std.specs.BTreeMap.{is_at}
@@ -13,31 +13,30 @@ use Rattle.std.proofs.lemmas.Map.Entries.{lookup-filter-keys}
 use Rattle.fw_time.specs.Stamp.{Stamp, leq, same, in_domain, stamp_cmp}
 use Rattle.fw_time.specs.declared.stamp.Bounds.{Bounds}
 use Rattle.fw_time.proofs.StampLaws.{same-is}
-use Rattle.fw_frontier.specs.Frontier.{Frontier, everything}
-use Rattle.fw_frontier.specs.Front.{Front, inside, frontier_of}
+use Rattle.fw_frontier.specs.Frontier.{Frontier}
+use Rattle.fw_frontier.specs.Front.{Front, inside}
 use Rattle.fw_flow.specs.declared.choice.Choice.{Choice}
 use Rattle.fw_flow.specs.declared.choice.Cut.{Cut}
 use Rattle.fw_flow.specs.declared.choice.Cut.TheVariants.{Present, At}
 use Rattle.fw_flow.specs.declared.event.Event.{Event}
 use Rattle.fw_flow.specs.declared.event.Event.TheVariants.{Inject, Deliver, Notify}
-use Rattle.fw_flow.specs.Dataflow.{System, Dataflow, kind_of, receiver, bounds_of, batches_of, greatest_number, is_input_kind, is_notified_kind, HasEpochs}
+use Rattle.fw_flow.specs.Dataflow.{System, Dataflow, kind_of, receiver, bounds_of, is_notified_kind, HasEpochs}
 use Rattle.fw_flow.specs.NodeFunction.{event_node, event_stamp}
 use Rattle.fw_flow.specs.WellFormed.{IsWellFormed}
 use Rattle.fw_model.specs.Choice.{cut_of, kept_of}
 use Rattle.fw_model.specs.Covers.{set_of}
 use Rattle.fw_model.specs.Filtering.{kept_events}
-use Rattle.fw_model.specs.History.{is_delivery_to, was_delivered_to, was_notified, is_owed_notice, is_injection, injected_count, AreAtNodes, IsLegal}
+use Rattle.fw_model.specs.History.{is_delivery_to, was_delivered_to, was_notified, is_owed_notice, injected_count, AreAtNodes, IsLegal}
 use Rattle.fw_model.specs.Machine.{SerialEvent, events}
 use Rattle.fw_model.proofs.FilteredLaws.{filtered-events}
 use Rattle.fw_model.proofs.KeptLaws.{kept-owed}
 use Rattle.fw_model.proofs.LegalLaws.{legal-in_domain}
 use Rattle.fw_progress.specs.declared.counts.Counts.{Counts}
-use Rattle.fw_progress.specs.Counts.{owed_of, injected_in, AreCounts}
-use Rattle.fw_progress.specs.Cut.{events_left, AreTallies, ArePendingAfter, IsTableAfter, AreTablesAfter, until_epoch, epochs_inside, epochs_left, tally_left, AreCut}
+use Rattle.fw_progress.specs.Counts.{owed_of, AreCounts}
+use Rattle.fw_progress.specs.Cut.{events_left, AreTallies, ArePendingAfter, AreTablesAfter, until_epoch, epochs_inside, epochs_left, tally_left, AreCut}
 use Rattle.fw_progress.specs.History.{IsCountOf}
 use Rattle.fw_progress.specs.Progress.{ChangesAt}
 use Rattle.fw_progress.specs.Tally.{times_in, has_one, IsTallyOf}
-use Rattle.fw_progress.proofs.TallyLaws.{is_eq-same}
 
 -- ---- what is owed of the kept events
 

@@ -1,20 +1,19 @@
 -- Traces inside a larger base, and in a cut.
-use Rattle.std.proofs.Common.{◌≡◌, ◌≢◌, ℕ, ◌<◌, Bool, true, false, ◌&&◌, ◌==◌, cond, List, [], ◌∷◌, ◌++◌, length, get_or, map, refl, sym, ap, subst, ◌∙◌, inl, inr, arith}
+use Rattle.std.proofs.Common.{◌≡◌, ℕ, Bool, true, false, ◌==◌, cond, List, [], ◌∷◌, ◌++◌, map, refl, sym, ap, subst, ◌∙◌}
 use Rattle.std.specs.Prelude.{filter}
-use Rattle.std.specs.List.{AllByRecursion, list_all, flat_map}
-use Rattle.std.proofs.lemmas.Bool.{and_parts, and_from, and_left, cases_Bool, cases_eq, eq-eqb, eqb-true, false_from_ne_true}
-use Rattle.std.proofs.lemmas.Grind.{flat_map-append}
+use Rattle.std.specs.List.{AllByRecursion, flat_map}
+use Rattle.std.proofs.lemmas.Bool.{eq-eqb, eqb-true, false_from_ne_true}
 use Rattle.fw_time.specs.Stamp.{Stamp, in_domain}
 use Rattle.fw_time.specs.declared.stamp.Bounds.{Bounds}
-use Rattle.fw_time.proofs.EachLaws.{each-weaker, each-append, each-map}
+use Rattle.fw_time.proofs.EachLaws.{each-weaker, each-append}
 use Rattle.fw_frontier.specs.Frontier.{Frontier, Within}
-use Rattle.fw_frontier.specs.Front.{Front, frontier_of}
+use Rattle.fw_frontier.specs.Front.{Front}
 use Rattle.fw_flow.specs.declared.event.Event.{Event}
 use Rattle.fw_flow.specs.declared.event.Event.TheVariants.{Inject, Deliver, Notify}
 use Rattle.fw_flow.specs.declared.event.Message.{Message}
-use Rattle.fw_flow.specs.Dataflow.{System, Dataflow, kind_of, receiver, bounds_of, is_sequence_kind, node_frontier, HasEpochs}
+use Rattle.fw_flow.specs.Dataflow.{System, Dataflow, receiver, bounds_of, node_frontier, HasEpochs}
 use Rattle.fw_flow.specs.NodeFunction.{event_node, event_stamp, sends, sent_by}
-use Rattle.fw_flow.specs.Projection.{events_at, all_inside}
+use Rattle.fw_flow.specs.Projection.{events_at}
 use Rattle.fw_flow.specs.WellFormed.{IsWellFormed}
 use Rattle.fw_model.specs.Covers.{stamp_of_notice}
 use Rattle.fw_model.specs.Filtering.{AreFrontiers, kept_events, messages_inside, messages_from, events_inside}
@@ -26,7 +25,6 @@ use Rattle.fw_model.proofs.LocalityLaws.{sends-causes, events_at-kept, sent_by-s
 use Rattle.fw_model.proofs.SequenceLaws.{one_inside}
 use Rattle.fw_progress.specs.declared.sent_tally.SentTally.{SentTally}
 use Rattle.fw_progress.specs.declared.traces.Traces.{Traces}
-use Rattle.fw_progress.specs.Progress.{ChangesAt}
 use Rattle.fw_progress.specs.SentTally.{causes_in, IsSentTally, ComeFromDomain, IsTallySettledTo, IsTallyCutTo}
 use Rattle.fw_progress.specs.Trace.{delivered_on, notified_of, sent_at, counted_of, IsTraceOf, IsTraceWithin, KeepsOthers, AreSettledTo, AreCutTo, HaveChanged}
 use Rattle.fw_progress.specs.Traces.{AreOf, IsSettledTo, IsCutTo}

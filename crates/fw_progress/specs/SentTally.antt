@@ -1,5 +1,5 @@
 -- How many messages a node sent, by the stamps of its events outside a base and in all inside.
-use Rattle.std.specs.Prelude.{◌≡◌, ℕ, ◌+◌, true, List, [], ◌∷◌, ◌++◌, length, filter}
+use Rattle.std.specs.Prelude.{◌≡◌, ℕ, ◌+◌, true, List, [], ◌∷◌, ◌++◌, length}
 use Rattle.std.specs.List.{AllByRecursion, flat_map}
 use Rattle.fw_time.specs.Stamp.{Stamp, in_domain}
 use Rattle.fw_time.specs.declared.stamp.Bounds.{Bounds}

@@ -6,12 +6,12 @@ use Rattle.fw_frontier.specs.Frontier.{Frontier, Within}
 use Rattle.fw_frontier.specs.Front.{Front}
 use Rattle.fw_flow.specs.declared.event.Event.{Event}
 use Rattle.fw_flow.specs.declared.event.Message.{Message}
-use Rattle.fw_flow.specs.Dataflow.{System, Dataflow, kind_of, policy_of, sender, receiver, is_sequence_kind, node_frontier, HasEpochs}
+use Rattle.fw_flow.specs.Dataflow.{System, Dataflow, kind_of, policy_of, receiver, is_sequence_kind, node_frontier, HasEpochs}
 use Rattle.fw_flow.specs.NodeFunction.{sent_by}
 use Rattle.fw_flow.specs.Projection.{events_at}
 use Rattle.fw_model.specs.Covers.{stamp_of_notice}
 use Rattle.fw_model.specs.Filtering.{AreFrontiers, kept_events}
-use Rattle.fw_model.specs.History.{delivered_messages, sent_messages, AreEventsInDomain, IsLegal}
+use Rattle.fw_model.specs.History.{delivered_messages, AreEventsInDomain, IsLegal}
 use Rattle.fw_model.specs.Thinned.{IsThinned}
 use Rattle.fw_model.specs.Writes.{takes_checkpoints}
 use Rattle.fw_progress.specs.declared.sent_tally.SentTally.{SentTally}

@@ -111,20 +111,20 @@ below-planned flow low e =
 
 -- whether what is written of node p is an event that is given up
 is-event_given_up : Dataflow → List Front → ℕ → entry.Written → Bool
-is-event_given_up flow low p (written.Checkpoint recorded stamps) = false
+is-event_given_up flow low p (written.Checkpoint recorded stamps sent) = false
 is-event_given_up flow low p (written.Event event) = is_given_up (without_batches flow) low p (stamp_of event)
 
 at-sound : (flow : Dataflow) (low : List Front) (p q : ℕ) (t : Stamp) (w : entry.Written) → is_given_up (without_batches flow) low p t ≡ true
     → q ≡ p → is_event_at t w ≡ true → is-event_given_up flow low q w ≡ true
 unfolding is-event_given_up
-at-sound flow low p q t (written.Checkpoint recorded stamps) g e h = absurd (true≢false (sym h))
+at-sound flow low p q t (written.Checkpoint recorded stamps sent) g e h = absurd (true≢false (sym h))
 at-sound flow low p q t (written.Event event) g e h =
     ap (λ k. is_given_up (without_batches flow) low k (stamp_of event)) e ∙ ap (is_given_up (without_batches flow) low p) (same-is (stamp_of event) t h) ∙ g
 
 -- what an entry's own drop takes out is given up
 drop-sound : (flow : Dataflow) (low : List Front) (p : ℕ) (w : entry.Written) (e : Entry) → is_at_some (given_up_event flow low p w) e ≡ true
     → is-event_given_up flow low e.node e.written ≡ true
-drop-sound flow low p (written.Checkpoint recorded stamps) e h = absurd (true≢false (sym h))
+drop-sound flow low p (written.Checkpoint recorded stamps sent) e h = absurd (true≢false (sym h))
 drop-sound flow low p (written.Event event) e h =
     let t : Stamp = stamp_of event in
     let test : Bool = is_given_up (without_batches flow) low p t in
@@ -141,7 +141,7 @@ drop-sound flow low p (written.Event event) e h =
 drop-complete : (flow : Dataflow) (low : List Front) (p : ℕ) (w : entry.Written) → is-event_given_up flow low p w ≡ true
     → list_any (λ (d : AtNode). (p == d.node) && is_event_at d.at w) (given_up_event flow low p w) ≡ true
 unfolding is-event_given_up
-drop-complete flow low p (written.Checkpoint recorded stamps) h = absurd (true≢false (sym h))
+drop-complete flow low p (written.Checkpoint recorded stamps sent) h = absurd (true≢false (sym h))
 drop-complete flow low p (written.Event event) h =
     let t : Stamp = stamp_of event in
     let look : AtNode → Bool = λ (d : AtNode). (p == d.node) && same t d.at in
@@ -180,7 +180,7 @@ same-both false false f g = refl
 both-are : (flow : Dataflow) (low : List Front) (p : ℕ) (w : entry.Written)
     → ((takes_checkpoints (policy_of flow p) && lies_below (front_of low p) w) || is-event_given_up flow low p w) ≡ is_written_given_up flow low p w
 unfolding is-event_given_up
-both-are flow low p (written.Checkpoint recorded stamps) = or_nothing (takes_checkpoints (policy_of flow p) && lies_below (front_of low p) (written.Checkpoint recorded stamps))
+both-are flow low p (written.Checkpoint recorded stamps sent) = or_nothing (takes_checkpoints (policy_of flow p) && lies_below (front_of low p) (written.Checkpoint recorded stamps sent))
 both-are flow low p (written.Event event) =
     ap (λ b. b || is_given_up (without_batches flow) low p (stamp_of event)) (and-false (takes_checkpoints (policy_of flow p)))
 
@@ -248,10 +248,10 @@ serial-test sys (v ∷ h) low p t serial only =
 -- an entry is given up where the write of the machine lies below
 written-same : (sys : System) (h : List SerialEvent) (low : List Front) (p q : ℕ) (one : entry.Written) (other : Written) → p ≡ q
     → IsWrittenOf sys h p one other → is_written_given_up sys.flow low p one ≡ steps.lies_below sys low h q other
-written-same sys h low p q (written.Checkpoint recorded stamps) (checkpoint f kept) e is =
+written-same sys h low p q (written.Checkpoint recorded stamps sent) (checkpoint f kept) e is =
     let below : ℕ → Front → Bool = λ k g. is_within g (front_of low k) && not (is_within (front_of low k) g) in
     ap (λ b. b && below p recorded.front) is.1 ∙ ap (below p) is.0 ∙ ap (λ k. below k f) e
-written-same sys h low p q (written.Checkpoint recorded stamps) (logged_event serial) e is = absurd is
+written-same sys h low p q (written.Checkpoint recorded stamps sent) (logged_event serial) e is = absurd is
 written-same sys h low p q (written.Event event) (checkpoint f kept) e is = absurd is
 written-same sys h low p q (written.Event event) (logged_event serial) e is =
     sym (serial-test sys h low p (stamp_of event) serial is.only ∙ ap (λ b. b && is_given_up sys low p (stamp_of event)) is.there)

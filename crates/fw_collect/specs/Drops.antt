@@ -36,7 +36,7 @@ dropped_records flow low = map (of_node low) (filter (λ p. takes_checkpoints (p
 
 -- the node and stamp of what is written, where it is an event that is given up
 abbrev pub given_up_event : Dataflow → List Front → ℕ → Written → List AtNode
-given_up_event flow low p (written.Checkpoint recorded stamps) = []
+given_up_event flow low p (written.Checkpoint recorded stamps sent) = []
 given_up_event flow low p (written.Event event) =
     if is_given_up (without_batches flow) low p (stamp_of event) then record { node = p; at = stamp_of event } ∷ [] else []
 

@@ -30,8 +30,8 @@ use Rattle.fw_collect.specs.Dropped.{is_dropped, log_outside, log_left, source_l
 -- whether what is written of node p is given up, where the low watermark rises to these fronts: a checkpoint strictly within
 -- the node's, an event at a stamp that is given up
 abbrev pub is_written_given_up : Dataflow → List Front → ℕ → entry.Written → Bool
-is_written_given_up flow low p (written.Checkpoint recorded stamps) =
-    takes_checkpoints (policy_of flow p) && lies_below (front_of low p) (written.Checkpoint recorded stamps)
+is_written_given_up flow low p (written.Checkpoint recorded stamps sent) =
+    takes_checkpoints (policy_of flow p) && lies_below (front_of low p) (written.Checkpoint recorded stamps sent)
 is_written_given_up flow low p (written.Event event) = is_given_up (without_batches flow) low p (stamp_of event)
 
 -- of these entries those go that are given up, each by itself: an event's stamp takes no other event with it
@@ -62,7 +62,7 @@ pub record IsEventAt (sys : System) (h : List SerialEvent) (p : ℕ) (t : Stamp)
 -- what an entry of node p holds is what a write of the machine holds, as far as a collection looks: of a checkpoint its frontier,
 -- and of an event its place in the history
 abbrev pub IsWrittenOf : System → List SerialEvent → ℕ → entry.Written → Written → Type 0
-IsWrittenOf sys h p (written.Checkpoint recorded stamps) (checkpoint f low) =
+IsWrittenOf sys h p (written.Checkpoint recorded stamps sent) (checkpoint f low) =
     (recorded.front ≡ f) × (takes_checkpoints (policy_of sys.flow p) ≡ true)
 IsWrittenOf sys h p (written.Event event) (logged_event serial) = IsEventAt sys h p (stamp_of event) serial
 IsWrittenOf sys h p one other = ⊥

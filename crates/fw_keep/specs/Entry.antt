@@ -28,7 +28,7 @@ node_of (tagged.Event node event) = node
 
 -- what is written by a record, with these stamps of the node's events where it is a checkpoint
 abbrev pub written_of : Record → Stamps → Written
-written_of (tagged.State c) stamps = written.Checkpoint c.recorded stamps
+written_of (tagged.State c) stamps = written.Checkpoint c.recorded stamps c.state.sent
 written_of (tagged.Event node event) stamps = written.Event event
 
 -- the entry of a record under an id: it is in flight, and its record is whole
@@ -48,7 +48,7 @@ pub record IsRecordWith (flow : Dataflow) (p : ℕ) (held : Recorded) (r : Recor
 
 -- the record can be that of the entry: of a checkpoint of its node in which the same is recorded, or of its event
 abbrev pub IsRecordAs : Dataflow → ℕ → Written → Record → Type 0
-IsRecordAs flow p (written.Checkpoint recorded stamps) r = IsRecordWith flow p recorded r
+IsRecordAs flow p (written.Checkpoint recorded stamps sent) r = IsRecordWith flow p recorded r
 IsRecordAs flow p (written.Event event) r = IsRecordOfEvent p event r
 
 abbrev pub IsRecordOf : Dataflow → Entry → Record → Type 0
@@ -58,17 +58,17 @@ IsRecordOf flow e r = IsRecordAs flow e.node e.written r
 
 -- whether what is written lies within a frontier: a checkpoint by its frontier, an event by its stamp
 abbrev pub lies_within : Front → Written → Bool
-lies_within f (written.Checkpoint recorded stamps) = is_within recorded.front f
+lies_within f (written.Checkpoint recorded stamps sent) = is_within recorded.front f
 lies_within f (written.Event event) = inside f (stamp_of event)
 
 -- whether it is a checkpoint strictly within a frontier
 abbrev pub lies_below : Front → Written → Bool
-lies_below f (written.Checkpoint recorded stamps) = is_within recorded.front f && not (is_within f recorded.front)
+lies_below f (written.Checkpoint recorded stamps sent) = is_within recorded.front f && not (is_within f recorded.front)
 lies_below f (written.Event event) = false
 
 -- whether it is an event at a stamp
 abbrev pub is_event_at : Stamp → Written → Bool
-is_event_at t (written.Checkpoint recorded stamps) = false
+is_event_at t (written.Checkpoint recorded stamps sent) = false
 is_event_at t (written.Event event) = same (stamp_of event) t
 
 -- the node's entries in flight

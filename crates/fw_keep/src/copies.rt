@@ -25,6 +25,7 @@ pub(crate) fn written_of(what: &Record, stamps: Stamps) -> Result<Written, Alloc
         Record::State(checkpoint) => Ok(Written::Checkpoint {
             recorded: checkpoint.recorded.copy()?,
             stamps,
+            sent: checkpoint.state.sent,
         }),
         Record::Event { event, .. } => Ok(Written::Event(event.copy())),
     }

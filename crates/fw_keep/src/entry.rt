@@ -12,9 +12,13 @@ use std::alloc::Global;
 /// What is written.
 #[derive(Debug, Drop)]
 pub enum Written {
-    /// What a node's events in a frontier made: the frontier, with what stands for the events inside, and where they are and
-    /// where they sent.
-    Checkpoint { recorded: Recorded, stamps: Stamps },
+    /// What a node's events in a frontier made: the frontier, with what stands for the events inside, where they are and where
+    /// they sent, and how many messages they sent.
+    Checkpoint {
+        recorded: Recorded,
+        stamps: Stamps,
+        sent: u64,
+    },
     /// An event.
     Event(Event),
 }

@@ -5,6 +5,7 @@ pub mod Choosing
 pub mod Covers
 pub mod Denotation
 pub mod Filtering
+pub mod EventStamps
 pub mod History
 pub mod LawsOfCheckpointFronts
 pub mod LawsOfAuto

@@ -29,8 +29,9 @@ use Rattle.fw_model.proofs.LocalityLaws.{sends-causes}
 use Rattle.fw_model.proofs.SendsLaws.{IsOfCause, sent_by-of_cause}
 use Rattle.fw_model.proofs.SequenceLaws.{one_inside}
 use Rattle.fw_policy.specs.declared.view.NodeView.{NodeView}
-use Rattle.fw_policy.specs.View.{causes_of, causes_in, StandForSent, StandForNumbered, AreStampsOf, IsNodeViewOf, AreNodeViewsFrom}
-use Rattle.fw_policy.specs.View.{IsOfCause as IsCountedOfCause}
+use Rattle.fw_model.specs.EventStamps.{causes_of, causes_in, StandForSent, StandForNumbered, AreStampsOf}
+use Rattle.fw_policy.specs.View.{IsNodeViewOf, AreNodeViewsFrom}
+use Rattle.fw_model.specs.EventStamps.{IsOfCause as IsCountedOfCause}
 use Rattle.fw_plain.specs.Engine.{IsSound}
 use Rattle.fw_plain.specs.Offered.{single_message, sent_from, deliveries_to, AreStampsIn, HaveStampsFrom}
 use Rattle.fw_plain.proofs.EngineLaws.{at_nodes, legal_of}

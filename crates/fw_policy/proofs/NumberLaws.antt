@@ -22,7 +22,7 @@ use Rattle.fw_model.specs.History.{sent_messages}
 use Rattle.fw_model.specs.Offers.{stamps_on_from}
 use Rattle.fw_model.proofs.FilterLaws.{filter-all}
 use Rattle.fw_model.proofs.LocalityLaws.{sends-causes}
-use Rattle.fw_policy.specs.View.{StandForNumbered}
+use Rattle.fw_model.specs.EventStamps.{StandForNumbered}
 
 -- ---- all of it
 

@@ -19,7 +19,7 @@ use Rattle.fw_model.proofs.SendingLaws.{send_stamp-monotone}
 use Rattle.fw_model.proofs.PsiLaws.{same_tests}
 use Rattle.fw_model.specs.Thinned.{IsThinned}
 use Rattle.fw_model.proofs.ThinnedLaws.{each-contained}
-use Rattle.fw_policy.specs.View.{causes_of, causes_in, StandForSent}
+use Rattle.fw_model.specs.EventStamps.{causes_of, causes_in, StandForSent}
 
 -- ---- one of a list
 

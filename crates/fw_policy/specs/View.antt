@@ -1,29 +1,25 @@
 -- What an engine knows of a state of the machine, for what its nodes offer to a recovery.
-use Rattle.std.specs.Prelude.{◌≡◌, ◌⊎◌, ◌↔◌, ℕ, suc, ◌<◌, Bool, true, false, if◌then◌else◌, Some, List, [], ◌∷◌, filter, length, map}
-use Rattle.std.specs.List.{AllByRecursion, Contains, flat_map}
-use Rattle.fw_time.specs.Stamp.{Stamp, in_domain}
-use Rattle.fw_frontier.specs.Frontier.{Frontier, everything}
+use Rattle.std.specs.Prelude.{◌≡◌, ◌⊎◌, ◌↔◌, ℕ, suc, ◌<◌, Bool, true, false, if◌then◌else◌, List, [], ◌∷◌, filter, length}
+use Rattle.std.specs.List.{Contains}
+use Rattle.fw_time.specs.Stamp.{Stamp}
+use Rattle.fw_frontier.specs.Frontier.{Frontier}
 use Rattle.fw_frontier.specs.Front.{Front}
-use Rattle.fw_model.specs.Thinned.{IsThinned}
-use Rattle.fw_flow.specs.declared.choice.Counted.{Counted}
 use Rattle.fw_flow.specs.declared.choice.Cut.TheVariants.{At}
 use Rattle.fw_flow.specs.declared.choice.Recorded.{Recorded}
-use Rattle.fw_flow.specs.declared.choice.Stamps.{Stamps}
-use Rattle.fw_flow.specs.declared.event.Event.{Event}
-use Rattle.fw_flow.specs.declared.event.Message.{Message}
 use Rattle.fw_flow.specs.declared.kind.Kind.{Kind}
 use Rattle.fw_flow.specs.declared.kind.Kind.TheVariants.{Input, OutputEpoch, OutputNumber}
 use Rattle.fw_flow.specs.declared.kind.Policy.TheVariants as policy
-use Rattle.fw_flow.specs.Dataflow.{System, Dataflow, kind_of, policy_of, sender, receiver, bounds_of, node_frontier, send_stamp, is_sequence_kind}
+use Rattle.fw_flow.specs.Dataflow.{System, Dataflow, kind_of, policy_of, sender, receiver, bounds_of, node_frontier, is_sequence_kind}
 use Rattle.fw_flow.specs.NodeFunction.{event_node, event_stamp}
 use Rattle.fw_flow.specs.Projection.{IsSentTable}
 use Rattle.fw_flow.specs.WellFormed.{IsWellFormedSystem}
 use Rattle.fw_model.specs.Choice.{kept, is_counted, IsLogged}
-use Rattle.fw_model.specs.Covers.{covers_in, stamp_of_notice}
-use Rattle.fw_model.specs.History.{delivered_messages, sent_messages, injected_count, is_exhausted}
+use Rattle.fw_model.specs.Covers.{covers_in}
+use Rattle.fw_model.specs.EventStamps.{AreStampsOf}
+use Rattle.fw_model.specs.History.{injected_count, is_exhausted}
 use Rattle.fw_model.specs.Machine.{Machine, SerialEvent, Write, checkpoint, logged_event, events, front_of, is_failed, ack_count_of}
 use Rattle.fw_model.specs.Machine.{Written as WrittenBy}
-use Rattle.fw_model.specs.Offers.{AreOnEdges, IsRecordOf, front_of_edge, on_edge, stamps_on, stamps_on_from}
+use Rattle.fw_model.specs.Offers.{IsRecordOf, front_of_edge}
 use Rattle.fw_model.specs.Reached.{IsReached}
 use Rattle.fw_model.specs.Writes.{takes_checkpoints, not_collected}
 use Rattle.fw_policy.specs.declared.view.Border.{Border}
@@ -39,42 +35,6 @@ abbrev pub base_of : System → Machine → ℕ → Frontier
 base_of sys state p =
     if takes_checkpoints (policy_of sys.flow p) then node_frontier sys.flow p (front_of state.settled p)
     else node_frontier sys.flow p (front_of state.low p)
-
--- the causes of these messages, in a row
-abbrev pub causes_of : List Counted → List Stamp
-causes_of ms = flat_map (λ m. m.causes) ms
-
--- the causes of these messages as the machine has them, in a row
-abbrev pub causes_in : List Message → List Stamp
-causes_in ms = flat_map (λ m. m.causes) ms
-
--- the message has one cause, and is at the send stamp of node p at it
-abbrev pub IsOfCause : Dataflow → ℕ → Counted → Type 0
-IsOfCause flow p m = (t : Stamp) × (send_stamp flow p t ≡ Some m.at) × (m.causes ≡ t ∷ [])
-
--- Messages on edge e stand for those that node p sent there, which is no sequence: they are at the send stamps of their
--- causes, and the causes are those of what was sent, thinned.
-pub record StandForSent (sys : System) (h : List Event) (p : ℕ) (base : Frontier) (e : ℕ) (ms : List Counted) : Type 0 where
-  pub of_cause : AllByRecursion (IsOfCause sys.flow p) ms
-  pub thinned : IsThinned base (causes_in (sent_messages sys h e)) (causes_of ms)
-
--- Messages stand for those that a sequence sent on edge e: they are at these numbers, thinned everywhere, so that one is at
--- the last number at least.
-abbrev pub StandForNumbered : System → List Event → ℕ → List Counted → Type 0
-StandForNumbered sys h e ms =
-    IsThinned (everything (bounds_of sys.flow (receiver sys.flow e))) (map (λ (m : Message). m.at) (sent_messages sys h e))
-    (stamps_on_from e (everything (bounds_of sys.flow (sender sys.flow e))) ms)
-
--- The stamps stand for the events of node p in a history.
-pub record AreStampsOf (sys : System) (h : List Event) (p : ℕ) (base : Frontier) (stamps : Stamps) : Type 0 where
-  pub on_edges : AreOnEdges sys.flow stamps.delivered × AreOnEdges sys.flow stamps.sent
-  pub in_domain : AllByRecursion (λ t. in_domain (bounds_of sys.flow p) t ≡ true) stamps.notified
-  pub delivered : (d : ℕ) → receiver sys.flow d ≡ p → IsThinned base (map (λ (m : Message). m.at) (delivered_messages h d)) (stamps_on d stamps.delivered)
-  pub notified : IsThinned base (flat_map (stamp_of_notice p) h) stamps.notified
-  pub sent : is_sequence_kind (kind_of sys.flow p) ≡ false → (e : ℕ) → e < length sys.flow.edges → sender sys.flow e ≡ p
-      → StandForSent sys h p base e (on_edge e stamps.sent)
-  pub numbered : is_sequence_kind (kind_of sys.flow p) ≡ true → (e : ℕ) → e < length sys.flow.edges → sender sys.flow e ≡ p
-      → StandForNumbered sys h e stamps.sent
 
 -- A record holds what the machine counts of the events of node p inside f.
 pub record IsRecorded (sys : System) (state : Machine) (p : ℕ) (f : Front) (r : Recorded) : Type 0 where

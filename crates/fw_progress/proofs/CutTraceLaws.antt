@@ -25,7 +25,8 @@ use Rattle.fw_model.proofs.LocalityLaws.{sends-causes, events_at-kept, sent_by-s
 use Rattle.fw_model.proofs.SequenceLaws.{one_inside}
 use Rattle.fw_progress.specs.declared.sent_tally.SentTally.{SentTally}
 use Rattle.fw_progress.specs.declared.traces.Traces.{Traces}
-use Rattle.fw_progress.specs.SentTally.{causes_in, IsSentTally, ComeFromDomain, IsTallySettledTo, IsTallyCutTo}
+use Rattle.fw_model.specs.EventStamps.{causes_in}
+use Rattle.fw_progress.specs.SentTally.{IsSentTally, ComeFromDomain, IsTallySettledTo, IsTallyCutTo}
 use Rattle.fw_progress.specs.Trace.{delivered_on, notified_of, sent_at, counted_of, IsTraceOf, IsTraceWithin, KeepsOthers, AreSettledTo, AreCutTo, HaveChanged}
 use Rattle.fw_progress.specs.Traces.{AreOf, IsSettledTo, IsCutTo}
 

@@ -23,7 +23,8 @@ use Rattle.fw_progress.specs.declared.sent_tally.SentTally.{SentTally}
 use Rattle.fw_progress.specs.declared.traces.Traces.{Traces}
 use Rattle.fw_progress.specs.History.{stamps_sent}
 use Rattle.fw_progress.specs.Progress.{ChangesAt}
-use Rattle.fw_progress.specs.SentTally.{causes_in, IsSentTally, CountsMore}
+use Rattle.fw_model.specs.EventStamps.{causes_in}
+use Rattle.fw_progress.specs.SentTally.{IsSentTally, CountsMore}
 use Rattle.fw_progress.specs.Trace.{delivered_on, notified_of, sent_at, counted_of, no_tally, counts_sent, IsTraceOf, TracesFollow, StandForManyMore, SentMore, CountedMore, HasSent}
 use Rattle.fw_progress.specs.Traces.{StandForOneMore}
 use Rattle.fw_progress.proofs.StartLaws.{all-alike}

@@ -1,6 +1,6 @@
 -- How many messages a node sent, by the stamps of its events outside a base and in all inside.
 use Rattle.std.specs.Prelude.{◌≡◌, ℕ, ◌+◌, true, List, [], ◌∷◌, ◌++◌, length}
-use Rattle.std.specs.List.{AllByRecursion, flat_map}
+use Rattle.std.specs.List.{AllByRecursion}
 use Rattle.fw_time.specs.Stamp.{Stamp, in_domain}
 use Rattle.fw_time.specs.declared.stamp.Bounds.{Bounds}
 use Rattle.fw_frontier.specs.Frontier.{Frontier, Within}
@@ -15,10 +15,6 @@ use Rattle.fw_progress.specs.Tally.{count_inside}
 -- the base and at stamps there.
 abbrev pub IsSentTally : Frontier → List Message → SentTally → Type 0
 IsSentTally base ms tally = (f : Frontier) → Within base f → tally.inside + count_inside f tally.outside ≡ count_from f ms
-
--- the causes of these messages, in a row
-abbrev pub causes_in : List Message → List Stamp
-causes_in ms = flat_map (λ (m : Message). m.causes) ms
 
 -- the messages come from events at stamps of the domain
 abbrev pub ComeFromDomain : Bounds → List Message → Type 0

@@ -10,6 +10,7 @@ use Rattle.fw_flow.specs.Dataflow.{System, Dataflow, kind_of, policy_of, receive
 use Rattle.fw_flow.specs.NodeFunction.{sent_by}
 use Rattle.fw_flow.specs.Projection.{events_at}
 use Rattle.fw_model.specs.Covers.{stamp_of_notice}
+use Rattle.fw_model.specs.EventStamps.{causes_in}
 use Rattle.fw_model.specs.Filtering.{AreFrontiers, kept_events}
 use Rattle.fw_model.specs.History.{delivered_messages, AreEventsInDomain, IsLegal}
 use Rattle.fw_model.specs.Thinned.{IsThinned}
@@ -18,7 +19,7 @@ use Rattle.fw_progress.specs.declared.sent_tally.SentTally.{SentTally}
 use Rattle.fw_progress.specs.declared.traces.Traces.{Traces}
 use Rattle.fw_progress.specs.History.{stamps_sent}
 use Rattle.fw_progress.specs.Progress.{ChangesAt}
-use Rattle.fw_progress.specs.SentTally.{causes_in, IsSentTally, CountsMore}
+use Rattle.fw_progress.specs.SentTally.{IsSentTally, CountsMore}
 use Rattle.fw_progress.specs.Traces.{ChangesInto}
 
 -- the stamps that are kept of what was delivered on an edge

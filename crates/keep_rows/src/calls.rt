@@ -2,12 +2,12 @@
 ghost use Rattle.std.specs.Prelude.{Option};
 ghost use Rattle.fw_keep.specs.Stored.{Records, IsStored};
 
-use crate::line::{NoAnswer, part};
-use crate::spell::{front_of, node_of, record_named, stamp_of};
+use crate::spell::{front_of, node_of, record_named};
 use fw_flow::Flow;
 use fw_keep::{Keep, KeepFault, no_stamps};
 use fw_outside::Store;
 use fw_record::encode;
+use row_words::{NoAnswer, part, stamp_of};
 use std::alloc::Global;
 
 /// So many ids are drawn at most.

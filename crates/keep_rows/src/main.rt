@@ -3,7 +3,6 @@
 #![tactic(auto)]
 
 mod calls;
-mod hex;
 mod line;
 mod rows;
 mod spell;

@@ -2,7 +2,7 @@
 ghost use Rattle.fw_keep.specs.Stored.{IsStored};
 
 use crate::calls::answer;
-use crate::line::{NoAnswer, after, is_call, is_declaration, part, tell_answer};
+use crate::line::{after, is_call, is_declaration};
 use crate::spell::bytes_named;
 use crate::untold::UntoldStore;
 use fw_flow::Flow;
@@ -10,6 +10,7 @@ use fw_flow_text::read_flow;
 use fw_keep::Keep;
 use fw_lines::ReadFault;
 use fw_outside::{MemStore, Store};
+use row_words::{NoAnswer, part, tell_answer};
 use std::alloc::{AllocError, Global};
 
 /// Tells the rows of a file.

@@ -1,26 +1,9 @@
 //! How rows spell frontiers, stamps and records.
-use crate::hex::bytes_of;
-use crate::line::{NoAnswer, part};
 use fw_flow::{Flow, NodeId};
 use fw_frontier::Front;
 use fw_record::{Record, RecordFault, decode};
-use fw_time::Stamp;
+use row_words::{NoAnswer, bytes_of, part, stamp_of};
 use std::alloc::Global;
-
-/// How many coordinates a stamp has at most.
-const PLACES: usize = 4;
-
-/// The stamp of one to four numbers with dots between them.
-pub fn stamp_of(alloc: Global, word: &str) -> Result<Stamp, NoAnswer> {
-    let mut coords = Vec::new(alloc);
-    for part in word.split('.') {
-        coords.push(part.parse::<u32>()?)?;
-    }
-    if coords.is_empty() || coords.len() > PLACES {
-        return Err(NoAnswer::NotSpelled);
-    }
-    Ok(Stamp::new(&coords))
-}
 
 /// The frontier that is spelled `all`, or `until` and stamps outside.
 pub fn front_of(alloc: Global, text: &str) -> Result<Front, NoAnswer> {

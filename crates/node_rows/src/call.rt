@@ -1,10 +1,10 @@
 //! A call of a node, and its answer.
-use crate::line::{NoAnswer, part};
-use crate::spell::{front_of, rec_of, recs_of, stamp_of};
+use crate::spell::{front_of, stamp_of};
 use fw_bag::{Rec, Recs};
 use fw_flow::{EdgeId, Flow, NodeId};
 use fw_frontier::{Entries, SentCounts, State};
 use fw_node::{Node, Sends};
+use row_words::{NoAnswer, part, rec_of, recs_of};
 use std::alloc::Global;
 
 /// The node of a number, counted from 1 as the lines are.

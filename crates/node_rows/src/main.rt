@@ -2,7 +2,6 @@
 #![tactic(auto)]
 
 mod call;
-mod line;
 mod row;
 mod spell;
 

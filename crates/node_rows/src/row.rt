@@ -1,9 +1,9 @@
 //! A row: a flow, and calls of its nodes.
 use crate::call::{answer, node_of, restored};
-use crate::line::{NoAnswer, part, tell_answer};
 use fw_flow::Flow;
 use fw_flow_text::read_flow;
 use fw_node::Node;
+use row_words::{NoAnswer, part, tell_answer};
 use std::alloc::{AllocError, Global};
 
 /// Tells the rows of a file.

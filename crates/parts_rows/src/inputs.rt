@@ -1,9 +1,9 @@
 //! The batches of inputs.
-use crate::line::{NoAnswer, part, says_something, shown, tell_answer};
-use crate::spell::{cut_of, front_of, node_of, rec_of, write_bag};
+use crate::spell::{cut_of, front_of, node_of, write_bag};
 use fw_border::Sources;
 use fw_flow::{BuildFault, Flow, FlowBuilder, NodeId};
 use fw_lines::Batches;
+use row_words::{NoAnswer, part, rec_of, says_something, shown, tell_something};
 use std::alloc::{AllocError, Global};
 
 /// Tells the answer to each call of the inputs of a flow, at the places 0 and 1, which have the batches of the lines `batch`.
@@ -13,7 +13,7 @@ pub fn tell(alloc: Global, lines: &str, told: &mut String) -> Result<(), AllocEr
     };
     for line in lines.lines().filter(|line| says_something(line)) {
         let answer = answer(alloc, &mut sources, line);
-        tell_answer(line, answer, told)?;
+        tell_something(line, answer, told)?;
     }
     Ok(())
 }

@@ -1,7 +1,7 @@
 //! Logs.
-use crate::line::{NoAnswer, part, says_something, shown, tell_answer};
 use crate::spell::{front_of, message_of, write_messages};
 use fw_edge::MsgLog;
+use row_words::{NoAnswer, part, says_something, shown, tell_something};
 use std::alloc::{AllocError, Global};
 
 /// Tells the answer to each call of a log, which is empty at first.
@@ -9,7 +9,7 @@ pub fn tell(alloc: Global, lines: &str, told: &mut String) -> Result<(), AllocEr
     let mut log = MsgLog::new(alloc);
     for line in lines.lines().filter(|line| says_something(line)) {
         let answer = answer(alloc, &mut log, line);
-        tell_answer(line, answer, told)?;
+        tell_something(line, answer, told)?;
     }
     Ok(())
 }

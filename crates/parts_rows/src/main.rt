@@ -6,13 +6,12 @@
 #![tactic(auto)]
 
 mod inputs;
-mod line;
 mod logs;
 mod outputs;
 mod queues;
 mod spell;
 
-use crate::line::tell_name;
+use row_words::tell_name;
 use std::alloc::{AllocError, Global};
 use std::{env, fs, io};
 

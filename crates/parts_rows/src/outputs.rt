@@ -1,9 +1,9 @@
 //! The recs of outputs.
 use crate::inputs::two_inputs;
-use crate::line::{NoAnswer, part, says_something, shown, tell_answer};
-use crate::spell::{cut_of, node_of, rec_of, stamp_of, write_bag};
+use crate::spell::{cut_of, node_of, write_bag};
 use fw_border::Outputs;
 use fw_flow::NodeId;
+use row_words::{NoAnswer, part, rec_of, says_something, shown, stamp_of, tell_something};
 use std::alloc::{AllocError, Global};
 
 /// Tells the answer to each call of the outputs of a flow, at the places 2 and 3.
@@ -13,7 +13,7 @@ pub fn tell(alloc: Global, lines: &str, told: &mut String) -> Result<(), AllocEr
     };
     for line in lines.lines().filter(|line| says_something(line)) {
         let answer = answer(alloc, &mut outputs, line);
-        tell_answer(line, answer, told)?;
+        tell_something(line, answer, told)?;
     }
     Ok(())
 }

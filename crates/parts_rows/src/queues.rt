@@ -1,8 +1,8 @@
 //! Queues.
-use crate::line::{NoAnswer, part, says_something, shown, tell_answer};
-use crate::spell::{asked_of, front_of, message_of, stamp_of, write_message};
+use crate::spell::{front_of, message_of, write_message};
 use fw_edge::Queue;
 use fw_flow::Message;
+use row_words::{NoAnswer, asked_of, part, says_something, shown, stamp_of, tell_something};
 use std::alloc::{AllocError, Global};
 
 /// Tells the answer to each call of a queue, which is empty at first.
@@ -10,7 +10,7 @@ pub fn tell(alloc: Global, lines: &str, told: &mut String) -> Result<(), AllocEr
     let mut queue = Queue::new(alloc);
     for line in lines.lines().filter(|line| says_something(line)) {
         let answer = answer(alloc, &mut queue, line);
-        tell_answer(line, answer, told)?;
+        tell_something(line, answer, told)?;
     }
     Ok(())
 }

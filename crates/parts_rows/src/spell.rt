@@ -1,33 +1,9 @@
 //! How rows spell stamps, frontiers, recs and messages, and how answers are written.
-use crate::line::{NoAnswer, part};
-use fw_bag::{Bag, Rec};
+use fw_bag::Bag;
 use fw_flow::{Causes, Cut, Message, NodeId};
 use fw_frontier::Front;
-use fw_time::Stamp;
+use row_words::{NoAnswer, part, rec_of, stamp_of};
 use std::alloc::Global;
-
-/// How many coordinates a stamp has at most.
-const PLACES: usize = 4;
-
-/// The stamp of one to four numbers with dots between them.
-pub fn stamp_of(alloc: Global, word: &str) -> Result<Stamp, NoAnswer> {
-    let mut coords = Vec::new(alloc);
-    for part in word.split('.') {
-        coords.push(part.parse::<u32>()?)?;
-    }
-    if coords.is_empty() || coords.len() > PLACES {
-        return Err(NoAnswer::NotSpelled);
-    }
-    Ok(Stamp::new(&coords))
-}
-
-/// The stamp of a word, none of an empty one.
-pub fn asked_of(alloc: Global, word: &str) -> Result<Option<Stamp>, NoAnswer> {
-    if word.is_empty() {
-        return Ok(None);
-    }
-    Ok(Some(stamp_of(alloc, word)?))
-}
 
 /// The frontier that is spelled `all`, or `until` and stamps outside.
 pub fn front_of(alloc: Global, text: &str) -> Result<Front, NoAnswer> {
@@ -50,14 +26,6 @@ pub fn cut_of(alloc: Global, text: &str) -> Result<Cut, NoAnswer> {
         return Ok(Cut::Present);
     }
     Ok(Cut::At(front_of(alloc, text)?))
-}
-
-/// The rec of a key and a value with a colon between them.
-pub fn rec_of(word: &str) -> Result<Rec, NoAnswer> {
-    let (key, value) = word.split_once(':').ok_or(NoAnswer::NotSpelled)?;
-    let key = key.parse::<u64>()?;
-    let value = value.parse::<u64>()?;
-    Ok(Rec { key, value })
 }
 
 /// The node of a place.

@@ -1,6 +1,6 @@
 //! How any bytes are written in lines of text: `\\` is a backslash, `\n` byte 10, `\x` and two hexadecimal digits any
 //! byte, and a backslash at the end of a line says that no LF ends it.
-use crate::hex::digit;
+use row_words::digit;
 use std::alloc::{AllocError, Global};
 
 /// What of an escape was read.

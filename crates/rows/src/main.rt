@@ -3,8 +3,6 @@
 #![tactic(auto)]
 
 mod escape;
-mod hex;
-mod line;
 mod outside;
 mod records;
 mod runs;

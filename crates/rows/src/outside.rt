@@ -5,11 +5,11 @@ mod sinks;
 mod stores;
 
 use crate::escape::show;
-use crate::line::{NoAnswer, part, says_something, tell_answer, tell_name};
 use crate::outside::folders::{fetched, fetched_from_memory};
 use crate::outside::sinks::{buffered, streamed, taken};
 use crate::outside::stores::{kept, kept_or_failed};
 use fw_outside::Folder;
+use row_words::{NoAnswer, part, says_something, tell_answer, tell_name};
 use std::alloc::{AllocError, Global};
 
 /// Tells the rows of a file, where this folder has the real files.

@@ -4,10 +4,11 @@ ghost use Rattle.std.specs.Prelude.{◌≤◌, length, IfOk};
 mod answer;
 mod each;
 
-use crate::hex::bytes_of;
-use crate::line::{NoAnswer, if_spelled, part, says_something, shown, tell_answer, tell_name};
 use crate::records::answer::{Answer, answer_to};
 use crate::records::each::{one_more, starts, tell_changes};
+use row_words::{
+    NoAnswer, bytes_of, if_spelled, part, says_something, shown, tell_answer, tell_name,
+};
 use std::alloc::{AllocError, Global};
 
 /// Tells the rows of a file.

@@ -13,10 +13,10 @@ mod texts;
 mod times;
 mod trail;
 
-use crate::line::{part, tell_name};
 use crate::values::bags::tell_bag;
 use crate::values::domain::tell_domain;
 use crate::values::flow::{is_declaration, tell_flow};
+use row_words::{part, tell_name};
 use std::alloc::{AllocError, Global};
 
 /// Tells the rows of a file.

@@ -1,7 +1,7 @@
 //! Calls of folders.
-use crate::line::{NoAnswer, part};
 use crate::outside::outcome;
 use fw_outside::{FaultlessFolder, FetchFault, Folder, MemText};
+use row_words::{NoAnswer, part};
 use std::alloc::Global;
 
 /// What a folder gives of a text of a name, at most so many bytes.

@@ -1,7 +1,7 @@
 //! Calls of sinks.
-use crate::line::{NoAnswer, part};
 use crate::outside::outcome;
 use fw_outside::{FaultlessSink, OutFault, Sink, StreamSink};
+use row_words::{NoAnswer, part};
 use std::alloc::Global;
 use std::io::BufWriter;
 

@@ -3,9 +3,9 @@ ghost use Rattle.std.specs.Prelude.{◌≡◌, None};
 ghost use Rattle.std.specs.Option.{ForSome};
 ghost use Rattle.std.specs.FinMap as map;
 
-use crate::line::{NoAnswer, part};
 use crate::outside::outcome;
 use fw_outside::{FaultlessStore, MemStore, OutFault, Store};
+use row_words::{NoAnswer, part};
 use std::alloc::Global;
 
 // Puts a record, gets it and takes it out.

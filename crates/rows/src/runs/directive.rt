@@ -1,5 +1,5 @@
 //! The directives of rows: the lines that begin with `-- `.
-use crate::line::part;
+use row_words::part;
 
 /// What a run reaches of the outside.
 #[derive(Clone, Copy)]

@@ -1,9 +1,9 @@
 //! Runs rows, and tells what became of them.
 use crate::escape::{show, show_lines};
-use crate::line::tell_name;
 use crate::runs::row::{Row, with_line};
 use fw_outside::{Folder, MemFolder, MemSink, MemStore, MemText, Sink, Store};
 use fw_run::falkirk;
+use row_words::tell_name;
 use std::alloc::{AllocError, Global};
 
 /// The words of a row that has none.

@@ -1,7 +1,6 @@
 //! Bags of recs.
-use crate::line::{NoAnswer, part, says_something, shown, tell_answer};
-use crate::values::spell::rec_of;
 use fw_bag::{Bag, Rec};
+use row_words::{NoAnswer, part, rec_of, says_something, shown, tell_answer};
 use std::alloc::{AllocError, Global};
 
 /// Tells the answer to each line about the bag that the last line `bag` before it gives, or about what is left of it.

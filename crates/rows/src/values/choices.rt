@@ -9,9 +9,7 @@ ghost use Rattle.fw_flow.specs.declared.restoring.Restoring.TheVariants as ways;
 ghost use Rattle.fw_model.specs.Offers.{AreFrontsOfEdges, AreOffersOf, IsRecordOf, is_by_range};
 ghost use Rattle.rows.specs.Written.{IsMessageOf, IsOfferOf, IsOfferedBy};
 
-use crate::line::{if_spelled, part};
 use crate::values::sent::sent_table;
-use crate::values::spell::{stamp_of, stamps_of};
 use crate::values::trail::tell_trail;
 use fw_flow::{
     Causes, Choice, Counted, CountedMessages, Cut, EdgeId, Flow, NodeId, Notices, OfEdge, OfEdges,
@@ -20,6 +18,7 @@ use fw_flow::{
 use fw_frontier::Front;
 use fw_monitor::{descent_to_largest, largest};
 use fw_time::{Bounds, Stamp};
+use row_words::{if_spelled, part, stamp_of, stamps_of};
 use std::alloc::{AllocError, Global};
 
 // The frontier of a domain that has these stamps outside; all, where they are not spelled right or one is past the domain.

@@ -1,10 +1,10 @@
 //! Stamps and frontiers of a domain.
-use crate::line::{NoAnswer, part, says_something, shown, tell_answer};
-use crate::values::spell::{front_of, operands, stamp_of, stamps_of};
+use crate::values::spell::{front_of, operands};
 use crate::values::texts::lines_of;
 use crate::values::times::answer_by;
 use fw_frontier::Front;
 use fw_time::{Bounds, Stamp};
+use row_words::{NoAnswer, part, says_something, shown, stamp_of, stamps_of, tell_answer};
 use std::alloc::{AllocError, Global};
 
 /// Tells the answer to each line, in the domain that the last line `domain` before it names by its greatest stamp.

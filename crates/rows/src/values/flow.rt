@@ -1,5 +1,4 @@
 //! What declarations are as a flow, and what its edges make of frontiers.
-use crate::line::{NoAnswer, part, shown, tell_answer};
 use crate::values::choices::tell_choice;
 use crate::values::node_records::of_node;
 use crate::values::notices::tell_notices;
@@ -8,6 +7,7 @@ use crate::values::spell::front_of;
 use fw_flow::{Flow, SentTable};
 use fw_flow_text::read_flow;
 use fw_lines::ReadFault;
+use row_words::{NoAnswer, part, shown, tell_answer};
 use std::alloc::{AllocError, Global};
 
 /// Whether a line begins as a declaration.

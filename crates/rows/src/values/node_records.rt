@@ -1,9 +1,8 @@
 //! Whether bytes are a record of a node.
-use crate::hex::bytes_of;
-use crate::line::{NoAnswer, part, shown};
-use crate::values::spell::{front_of, rec_of, stamp_of};
+use crate::values::spell::front_of;
 use fw_flow::Flow;
 use fw_record::{Event, Record, RecordFault, decode};
+use row_words::{NoAnswer, bytes_of, part, rec_of, shown, stamp_of};
 use std::alloc::Global;
 
 /// The answer to `checkpoint RECORD NODE FRONT` and to `event RECORD NODE EVENT`: whether the record is that of a checkpoint

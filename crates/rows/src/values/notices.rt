@@ -5,12 +5,11 @@ ghost use Rattle.fw_flow.specs.Dataflow.{bounds_of};
 ghost use Rattle.fw_flow.specs.NodeFunction.{event_node, event_stamp};
 ghost use Rattle.fw_model.specs.History.{AreAtNodes};
 
-use crate::line::{if_spelled, part};
-use crate::values::spell::{rec_of, stamp_of};
 use fw_flow::{Causes, Event, Flow, Kind, Message, NodeId};
 use fw_lines::{Batches, ReadFault, SourceNames, read_batches};
 use fw_plain::scan::next_notice;
 use fw_time::Stamp;
+use row_words::{if_spelled, part, rec_of, stamp_of};
 use std::alloc::{AllocError, Global};
 
 // Whether an event is at a stamp of its node's domain.

@@ -1,6 +1,6 @@
 //! What a sequence sent.
-use crate::line::part;
 use fw_flow::SentTable;
+use row_words::part;
 use std::alloc::{AllocError, Global};
 
 /// How many messages the lines `sent` say that a sequence sent, each word an epoch, a colon and their number. An epoch before

@@ -1,7 +1,7 @@
 //! Lines of a text.
 use crate::escape::{show, spelled};
-use crate::line::NoAnswer;
 use fw_lines::lines;
+use row_words::NoAnswer;
 use std::alloc::Global;
 
 /// How many bytes a text has at most.

@@ -1,10 +1,10 @@
 //! Questions about the times and frontiers of a type, each call through its bound.
 ghost use Rattle.std.specs.Prelude.{◌≡◌, ◌+◌, ◌≤◌, length};
 
-use crate::line::{NoAnswer, part, shown};
-use crate::values::spell::{front_of, operands, stamp_of};
+use crate::values::spell::{front_of, operands};
 use fw_frontier::{Frontier, Logical};
 use fw_time::{Bounds, Epoch, Nest, SeqNo, Time};
+use row_words::{NoAnswer, part, shown, stamp_of};
 use std::alloc::Global;
 
 /// The answer to a question by way of a type of times: `number`, `epoch` or `nest`, for a loop, of the domain's depth.

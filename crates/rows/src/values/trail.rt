@@ -1,6 +1,6 @@
 //! How a choice was found.
-use crate::line::part;
 use fw_flow::{Cause, EdgeId, Flow, Lowering, NodeId, Part, Trail};
+use row_words::part;
 use std::alloc::AllocError;
 use std::fmt::Write;
 

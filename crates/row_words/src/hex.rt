@@ -1,5 +1,5 @@
 //! Bytes by hexadecimal digits.
-use crate::line::NoAnswer;
+use crate::NoAnswer;
 use std::alloc::Global;
 
 /// The value of a digit, `0` to `9` or `a` to `f`.

@@ -6,7 +6,7 @@ use std::num::ParseIntError;
 /// Why a line has no answer.
 #[derive(Clone, Copy)]
 pub enum NoAnswer {
-    /// It is not spelled right, asks nothing known, or has a stamp past the domain.
+    /// It is not spelled right, asks nothing known, or there is nothing to answer.
     NotSpelled,
     /// There was no memory.
     NoMemory,
@@ -40,7 +40,7 @@ pub fn says_something(line: &str) -> bool {
     !line.is_empty() && !line.starts_with('#')
 }
 
-/// What is spelled, none where it is not spelled right.
+/// What is spelled, none where it is not spelled right. The error is want of memory.
 pub fn if_spelled<T: Drop>(spelled: Result<T, NoAnswer>) -> Result<Option<T>, AllocError> {
     match spelled {
         Ok(value) => Ok(Some(value)),
@@ -54,14 +54,14 @@ pub fn shown<A: Display + Drop>(alloc: Global, answer: A) -> Result<String, NoAn
     Ok(format!(in alloc; "{answer}")?)
 }
 
-/// Adds the name of a row.
+/// Adds the name of a row. The error is want of memory.
 pub fn tell_name(name: &str, told: &mut String) -> Result<(), AllocError> {
     told.push_str("== ")?;
     told.push_str(name)?;
     told.push('\n')
 }
 
-/// Adds a line, and what answers it.
+/// Adds a line, and what answers it: `none` where it has no answer. The error is want of memory.
 pub fn tell_answer(
     line: &str,
     answer: Result<String, NoAnswer>,
@@ -75,4 +75,16 @@ pub fn tell_answer(
         Err(NoAnswer::NoMemory) => return Err(AllocError),
     }
     told.push('\n')
+}
+
+/// Adds a line, and what answers it: `none` also where the answer is empty. The error is want of memory.
+pub fn tell_something(
+    line: &str,
+    answer: Result<String, NoAnswer>,
+    told: &mut String,
+) -> Result<(), AllocError> {
+    match answer {
+        Ok(answer) if answer.is_empty() => tell_answer(line, Err(NoAnswer::NotSpelled), told),
+        other => tell_answer(line, other, told),
+    }
 }

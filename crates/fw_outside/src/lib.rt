@@ -5,6 +5,7 @@
 mod fault;
 mod file_folder;
 mod folder;
+mod foul_store;
 mod mem_folder;
 mod mem_sink;
 mod mem_store;
@@ -15,6 +16,7 @@ mod stream_sink;
 pub use fault::{FetchFault, OutFault};
 pub use file_folder::FileFolder;
 pub use folder::Folder;
+pub use foul_store::{FoulBytes, FoulStore};
 pub use mem_folder::{FaultlessFolder, MemFolder, MemText};
 pub use mem_sink::{FaultlessSink, MemSink};
 pub use mem_store::{FaultlessStore, MemStore};

@@ -7,7 +7,7 @@ mod stores;
 use crate::escape::show;
 use crate::outside::folders::{fetched, fetched_from_memory};
 use crate::outside::sinks::{buffered, streamed, taken};
-use crate::outside::stores::{kept, kept_or_failed};
+use crate::outside::stores::{kept, kept_or_failed, kept_or_foul, misused};
 use fw_outside::Folder;
 use row_words::{NoAnswer, part, says_something, tell_answer, tell_name};
 use std::alloc::{AllocError, Global};
@@ -58,6 +58,8 @@ fn answer<F: Folder>(
         "sink" => taken(alloc, rest),
         "store" => kept(alloc, rest),
         "failing" => kept_or_failed(alloc, rest),
+        "foul" => kept_or_foul(alloc, rest),
+        "misused" => misused(alloc, rest),
         _ => Err(NoAnswer::NotSpelled),
     }
 }

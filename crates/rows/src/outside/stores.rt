@@ -1,10 +1,10 @@
 //! Calls of stores.
-ghost use Rattle.std.specs.Prelude.{◌≡◌, None};
+ghost use Rattle.std.specs.Prelude.{◌≡◌, ◌≤◌, None, IfOk};
 ghost use Rattle.std.specs.Option.{ForSome};
 ghost use Rattle.std.specs.FinMap as map;
 
 use crate::outside::outcome;
-use fw_outside::{FaultlessStore, MemStore, OutFault, Store};
+use fw_outside::{FaultlessStore, FoulBytes, FoulStore, MemStore, OutFault, Store};
 use row_words::{NoAnswer, part};
 use std::alloc::Global;
 
@@ -41,4 +41,41 @@ pub fn kept_or_failed(alloc: Global, words: &str) -> Result<String, NoAnswer> {
     let mut failing = Vec::new(alloc);
     failing.push(call.parse::<u64>()?)?;
     kept_by(alloc, &mut MemStore::new(alloc, failing), record)
+}
+
+/// The same of a store that tells nothing, and gives other bytes at the call of `get` of a number, counted from 1.
+pub fn kept_or_foul(alloc: Global, words: &str) -> Result<String, NoAnswer> {
+    let (call, rest) = part(words);
+    let (other, record) = part(rest);
+    let mut foul = Vec::new(alloc);
+    foul.push(FoulBytes {
+        call: call.parse::<u64>()?,
+        bytes: other.as_bytes().to_vec(alloc)?,
+    })?;
+    kept_by(alloc, &mut FoulStore::new(alloc, foul), record)
+}
+
+/// What becomes of a record that is put twice into a store that tells nothing, of one that is not there, and of one that is
+/// taken out twice: how often the store failed.
+pub fn misused(alloc: Global, record: &str) -> Result<String, NoAnswer> {
+    let mut store = FoulStore::new(alloc, Vec::new(alloc));
+    let mut into = Vec::new(alloc);
+    let mut failed = 0u32;
+    failed += failure(store.put(3, record.as_bytes()))?;
+    failed += failure(store.put(3, record.as_bytes()))?;
+    failed += failure(store.get(4, &mut into))?;
+    failed += failure(store.remove(3))?;
+    failed += failure(store.remove(3))?;
+    Ok(format!(in alloc; "failed {failed} faults {}", store.faults())?)
+}
+
+// One where the store failed, and else none.
+fn failure(answer: Result<(), OutFault>) -> Result<u32, NoAnswer>
+    ensures { IfOk result (λ count. count ≤ 1) }
+{
+    match answer {
+        Ok(()) => Ok(0),
+        Err(OutFault::Failed) => Ok(1),
+        Err(OutFault::NoMemory) => Err(NoAnswer::NoMemory),
+    }
 }

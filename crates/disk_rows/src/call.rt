@@ -1,0 +1,112 @@
+//! Calls of a store on disk, and of the files under it.
+use fw_disk::DiskStore;
+use fw_outside::{OutFault, Store};
+use row_words::{NoAnswer, bytes_of, part, says_something, tell_answer, tell_name};
+use std::alloc::{AllocError, Global};
+use std::fs;
+use std::io::Read;
+use std::rt::Files;
+
+/// Tells the rows of a file. Each row has a store of its own, over one folder: the name of the row is that of the folder.
+pub fn tell_rows<R: Files>(alloc: Global, files: &R, text: &str) -> Result<String, AllocError> {
+    let mut told = String::new(alloc);
+    for row in text.split("\n== ").skip(1) {
+        let (name, lines) = row.split_once('\n').unwrap_or((row, ""));
+        tell_name(name, &mut told)?;
+        let folder = String::from_str(alloc, name)?;
+        let mut store = DiskStore::new(alloc, files, folder);
+        for line in lines.lines().filter(|line| says_something(line)) {
+            tell_answer(line, answer(alloc, files, &mut store, line), &mut told)?;
+        }
+    }
+    Ok(told)
+}
+
+/// What becomes of a call.
+fn answer<R: Files>(
+    alloc: Global,
+    files: &R,
+    store: &mut DiskStore<'_, R>,
+    line: &str,
+) -> Result<String, NoAnswer> {
+    let (word, rest) = part(line);
+    let (first, words) = part(rest);
+    match word {
+        "put" => {
+            let bytes = bytes_of(alloc, words)?;
+            let put = store.put(first.parse::<u64>()?, &bytes);
+            became(alloc, store, put)
+        }
+        "get" => got(alloc, store, first.parse::<u64>()?),
+        "remove" => {
+            let removed = store.remove(first.parse::<u64>()?);
+            became(alloc, store, removed)
+        }
+        "file" => file(alloc, files, first),
+        "write" => written(alloc, files, first, words),
+        "folder" => done(alloc, fs::create_dir(files, first).is_ok()),
+        _ => Err(NoAnswer::NotSpelled),
+    }
+}
+
+/// What came of a call, and how often the store failed so far.
+fn became<K: Store>(
+    alloc: Global,
+    store: &K,
+    answer: Result<(), OutFault>,
+) -> Result<String, NoAnswer> {
+    let word = match answer {
+        Ok(()) => "done",
+        Err(OutFault::Failed) => "failed",
+        Err(OutFault::NoMemory) => return Err(NoAnswer::NoMemory),
+    };
+    Ok(format!(in alloc; "{word} faults {}", store.faults())?)
+}
+
+/// The record that the store gives under an id.
+fn got<K: Store>(alloc: Global, store: &mut K, id: u64) -> Result<String, NoAnswer> {
+    let mut into = Vec::new(alloc);
+    let answer = store.get(id, &mut into);
+    let mut told = became(alloc, store, answer)?;
+    show(alloc, &into, &mut told)?;
+    Ok(told)
+}
+
+/// What a file holds.
+fn file<R: Files>(alloc: Global, files: &R, path: &str) -> Result<String, NoAnswer> {
+    let Ok(mut file) = fs::open(files, path) else {
+        return Ok(String::from_str(alloc, "not there")?);
+    };
+    let mut bytes = Vec::new(alloc);
+    if file.read_to_end(&mut bytes).is_err() {
+        return Err(NoAnswer::NoMemory);
+    }
+    let mut told = String::from_str(alloc, "holds")?;
+    show(alloc, &bytes, &mut told)?;
+    Ok(told)
+}
+
+/// Writes a file past the store.
+fn written<R: Files>(
+    alloc: Global,
+    files: &R,
+    path: &str,
+    words: &str,
+) -> Result<String, NoAnswer> {
+    let bytes = bytes_of(alloc, words)?;
+    done(alloc, fs::write(files, path, &bytes).is_ok())
+}
+
+/// Whether something was done.
+fn done(alloc: Global, is_done: bool) -> Result<String, NoAnswer> {
+    let word = if is_done { "done" } else { "failed" };
+    Ok(String::from_str(alloc, word)?)
+}
+
+/// Adds bytes by their digits, those of each byte after a space.
+fn show(alloc: Global, bytes: &[u8], told: &mut String) -> Result<(), AllocError> {
+    for byte in bytes {
+        told.push_str(&format!(in alloc; " {byte:02x}")?)?;
+    }
+    Ok(())
+}

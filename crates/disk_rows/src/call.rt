@@ -64,7 +64,7 @@ fn became<K: Store>(
 }
 
 /// The record that the store gives under an id.
-fn got<K: Store>(alloc: Global, store: &mut K, id: u64) -> Result<String, NoAnswer> {
+fn got<R: Files>(alloc: Global, store: &mut DiskStore<'_, R>, id: u64) -> Result<String, NoAnswer> {
     let mut into = Vec::new(alloc);
     let answer = store.get(id, &mut into);
     let mut told = became(alloc, store, answer)?;

@@ -1,10 +1,12 @@
 -- What a table of what a sequence sent counts.
-use Rattle.std.proofs.Common.{◌≡◌, ◌↔◌, ℕ, zero, suc, ◌+◌, ◌-◌, ◌^◌, ◌<◌, ◌≤◌, true, false, cond, min, nat_lt, add-one, Some, List, [], ◌∷◌, ◌++◌, length, get_or, take, refl, sym, ap, subst, ◌∙◌, arith}
+use Rattle.std.proofs.Common.{◌≡◌, ◌↔◌, ℕ, zero, suc, ◌+◌, ◌-◌, ◌^◌, ◌<◌, ◌≤◌, true, false, cond, min, nat_lt, add-one, Some, Bool, List, [], ◌∷◌, ◌++◌, length, get_or, take, filter, refl, sym, ap, subst, ◌∙◌, arith}
 use Rattle.std.specs.Prelude.{slice_get}
 use Rattle.std.specs.List.Sorted.{IsNonDecreasingBy, IsPartitionPoint}
-use Rattle.std.proofs.lemmas.List.{map-append, get_or-map, length-map, length-append, get_or_append_left}
-use Rattle.std.proofs.Math.Seq.{get_or-append_seam}
-use Rattle.std.proofs.lemmas.List.Sorted.{IsNonDecreasingBy-push}
+use Rattle.std.proofs.lemmas.List.{map-append, take-map, get_or-map, length-map, length-append, get_or_append_left}
+use Rattle.std.proofs.Math.Seq.{get_or-append_seam, take-suc}
+use Rattle.std.proofs.lemmas.List.Sorted.{IsNonDecreasingBy-push, IsNonDecreasingBy-take}
+use Rattle.std.proofs.lemmas.List.Kept.{IsNonDecreasingBy-filter}
+use Rattle.std.proofs.lemmas.List.Elements.{filter-append}
 use Rattle.std.proofs.lemmas.Option.{get_or_from_slice_get, slice_get_within}
 use Rattle.std.proofs.lemmas.Bool.Decides.{nat_tests}
 use Rattle.fw_flow.specs.declared.sent_table.SentInEpoch.{SentInEpoch}
@@ -150,3 +152,20 @@ takes-epoch es xs table last epoch x t o s = (
       let e = has.is_last d in
       omega (arith, k, before, next, e),
 )
+
+-- ---- a part of a table
+
+-- an entry that is taken may come after those that were taken before it
+pub part-next : (p : ℕ × ℕ → Bool) (es : List SentInEpoch) (i : ℕ) (d : SentInEpoch) (table : List (ℕ × ℕ)) → table ≡ filter p (counts_of (take i es)) → AreInOrder (counts_of es) → i < length es
+    → p ((get_or es i d).epoch, (get_or es i d).count) ≡ true
+    → AreInOrder (table ++ ((get_or es i d).epoch, (get_or es i d).count) ∷ [])
+part-next p es i d table t h l e =
+    let f : SentInEpoch → ℕ × ℕ = λ x. (x.epoch, x.count) in
+    let x = get_or es i d in
+    let before = counts_of (take i es) in
+    let seen : take (suc i) (counts_of es) ≡ before ++ f x ∷ [] =
+    take-map f (suc i) es ∙ ap counts_of (take-suc es i d l) ∙ map-append f (take i es) (x ∷ []) in
+    let taken : filter p (take (suc i) (counts_of es)) ≡ table ++ f x ∷ [] =
+    ap (filter p) seen ∙ filter-append p before (f x ∷ []) ∙ ap (λ b. filter p before ++ cond b (f x ∷ []) []) e ∙ ap (λ part. part ++ f x ∷ []) (sym t) in
+    subst AreInOrder taken
+    (IsNonDecreasingBy-filter (λ (y : ℕ × ℕ). y.0) p (take (suc i) (counts_of es)) (IsNonDecreasingBy-take (λ (y : ℕ × ℕ). y.0) (suc i) (counts_of es) h))

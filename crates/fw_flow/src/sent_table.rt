@@ -1,8 +1,11 @@
 //! How many messages a sequence sent, by epoch.
-ghost use Rattle.std.specs.Prelude.{◌≡◌, ◌↔◌, ℕ, ◌^◌, ◌-◌, ◌≤◌, true, nat_lt, min, [], ◌∷◌, ◌++◌, length, take, IsTrue, IfOk, OnOk, OnErr};
+ghost use Rattle.std.specs.Prelude.{◌≡◌, ◌↔◌, ℕ, ◌^◌, ◌-◌, ◌≤◌, true, nat_lt, min, [], ◌∷◌, ◌++◌, length, take, filter, slice_get, IsTrue, IfOk, OnOk, OnErr};
+ghost use Rattle.fw_frontier.specs.Front.{inside};
 ghost use Rattle.fw_flow.specs.Projection.{first_coordinate, table_count};
 ghost use Rattle.fw_flow.specs.SentTable.{AreInOrder, counts_of, HasTotals};
 
+use fw_frontier::Front;
+use fw_time::Stamp;
 use std::alloc::{AllocError, Global};
 use std::marker::Model;
 
@@ -74,6 +77,34 @@ impl SentTable {
             total,
         })?;
         Ok(())
+    }
+
+    /// The part of the table whose epochs are inside a frontier. The error is want of memory.
+    pub fn inside(&self, f: &Front) -> Result<Self, AllocError>
+        ensures { IfOk result (λ table. table ≡ filter (λ entry. inside f.now (entry.0 ∷ [])) self.now) }
+    {
+        let mut table = SentTable::new(*self.entries.allocator());
+        for entry in &self.entries {
+            if f.contains(&Stamp::new(&[entry.epoch])) {
+                table.push(entry.epoch, entry.count)?;
+            }
+        }
+        Ok(table)
+    }
+
+    /// How many entries there are.
+    pub fn len(&self) -> usize
+        ensures { result ≡ length self.now }
+    {
+        self.entries.len()
+    }
+
+    /// The epoch of an entry, and how many messages were sent in it; none past the last entry.
+    pub fn get(&self, place: usize) -> Option<(u32, u64)>
+        ensures { result ≡ slice_get self.now place }
+    {
+        let entry = self.entries.get(place)?;
+        Some((entry.epoch, entry.count))
     }
 
     /// How many messages were sent in all, or `u64::MAX` where they were more.

@@ -7,3 +7,4 @@ pub mod EventLaws
 pub mod RecordLaws
 pub mod PlaceLaws
 pub mod FrontLaws
+pub mod OrderLaws

@@ -1,6 +1,9 @@
 //! Messages that may have to be sent again.
-ghost use Rattle.std.specs.Prelude.{◌≡◌};
+ghost use Rattle.std.specs.Prelude.{◌≡◌, [], true};
+ghost use Rattle.std.specs.List.Sorted.{IsPermutation};
+ghost use Rattle.fw_record.specs.Sound.{each_may_follow, may_follow_logged};
 
+use crate::rules::compare_logged;
 use fw_flow::{EdgeId, Message};
 use std::marker::Model;
 
@@ -33,6 +36,16 @@ impl Log {
     pub fn of(messages: Vec<Logged>) -> Self
         ensures { result ≡ messages.items }
     {
+        Log { messages }
+    }
+
+    /// These messages, put into the order in which a log has a spelling. It takes no memory.
+    pub fn sorted(messages: Vec<Logged>) -> Self
+        ensures same { IsPermutation messages.items result }
+        ensures in_order { each_may_follow may_follow_logged [] result ≡ true }
+    {
+        let mut messages = messages;
+        messages.sort_unstable_by(|x, y| compare_logged(x, y));
         Log { messages }
     }
 

@@ -62,7 +62,7 @@ pub fn follows_totals(before: &[Rec], next: &Rec) -> bool
 }
 
 /// The order of logged messages: by edge, stamp, causes and rec.
-fn compare_logged(x: &Logged, y: &Logged) -> Ordering
+pub fn compare_logged(x: &Logged, y: &Logged) -> Ordering
     ensures { result ≡ logged_cmp x.now y.now }
 {
     let (sent, other) = (&x.message, &y.message);

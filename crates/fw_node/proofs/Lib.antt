@@ -4,6 +4,7 @@ pub mod KindCases
 pub mod LoopCases
 pub mod MakingLaws
 pub mod NodeLaws
+pub mod NodeOfLaws
 pub mod NoticeLaws
 pub mod OnEdgesLaws
 pub mod PastLaws

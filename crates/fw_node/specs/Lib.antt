@@ -3,6 +3,7 @@ pub mod Arrived
 pub mod Kinds
 pub mod LawsOfAnswers
 pub mod LoopTable
+pub mod NodeOf
 pub mod NodeTable
 pub mod Past
 pub mod Sends

@@ -50,17 +50,22 @@ impl<T: Logical> AtTime<T> {
         ensures sent { (kind : Kind) (came : List Arrival) → IsTimedTable T.cmp T.coords self.old kind came
             → IsSideOf kind side
             → IfOk result (λ sent. sent ≡ record { at = at.now; recs = recs_for kind came (arrival side at.now rec) }) }
+        ensures at { IfOk result (λ sent. sent.at ≡ at.now) }
         ensures err { (kind : Kind) (came : List Arrival) → IsTimedTable T.cmp T.coords self.old kind came
             → OnErr result (IsTimedTable T.cmp T.coords self.new kind came) }
     {
         let t = T::from_coords(at);
-        match self {
-            AtTime::Select(table) => Ok(table.on_message(t, rec).at_stamp()),
-            AtTime::Concat(table) => Ok(table.on_message(t, rec).at_stamp()),
-            AtTime::Distinct(table) => Ok(table.on_message(side, t, rec)?.at_stamp()),
-            AtTime::Join(table) => Ok(table.on_message(side, t, rec)?.at_stamp()),
-            AtTime::Sum(table) => Ok(table.on_message(side, t, rec)?.at_stamp()),
-        }
+        let sent = match self {
+            AtTime::Select(table) => table.on_message(t, rec),
+            AtTime::Concat(table) => table.on_message(t, rec),
+            AtTime::Distinct(table) => table.on_message(side, t, rec)?,
+            AtTime::Join(table) => table.on_message(side, t, rec)?,
+            AtTime::Sum(table) => table.on_message(side, t, rec)?,
+        };
+        Ok(Sent {
+            at: at.copy(),
+            recs: sent.recs,
+        })
     }
 
     /// Gives what a notification makes the node send, in ascending order. The table stays.
@@ -73,9 +78,16 @@ impl<T: Logical> AtTime<T> {
             → IsTimedTable T.cmp T.coords self.new kind came }
         ensures sent { (kind : Kind) (came : List Arrival) → IsTimedTable T.cmp T.coords self.old kind came
             → IfOk result (λ sent. sent ≡ record { at = at.now; recs = sorted_recs (recs_at_notice kind came at.now) }) }
+        ensures at { IfOk result (λ sent. sent.at ≡ at.now) }
     {
         match self {
-            AtTime::Sum(table) => Ok(table.on_notify(T::from_coords(at))?.at_stamp()),
+            AtTime::Sum(table) => {
+                let sent = table.on_notify(T::from_coords(at))?;
+                Ok(Sent {
+                    at: at.copy(),
+                    recs: sent.recs,
+                })
+            }
             AtTime::Select(_) | AtTime::Concat(_) | AtTime::Distinct(_) | AtTime::Join(_) => {
                 Ok(Sent::of(at.copy(), None))
             }

@@ -8,10 +8,12 @@ ghost use Rattle.fw_flow.specs.declared.event.Message.{Message};
 ghost use Rattle.fw_flow.specs.declared.kind.Kind.TheVariants as kind;
 ghost use Rattle.fw_flow.specs.Dataflow.{Dataflow, System, batches_of, bounds_of, kind_of, in_edges, is_input_kind, is_notified_kind, node_frontier};
 ghost use Rattle.fw_flow.specs.NodeFunction.{delivered_recs, sends};
+ghost use Rattle.fw_flow.specs.WellFormed.{IsWellFormed};
 ghost use Rattle.fw_model.specs.Told.{is_told, AreToldInside, EachDelivery, IsSumOfTold};
 ghost use Rattle.fw_frontier.specs.Frontier.{Within};
 ghost use Rattle.fw_node.specs.Answers.{without_causes};
 ghost use Rattle.fw_node.specs.Arrived.{place_in, AreOnEdges, IsOneOf};
+ghost use Rattle.fw_node.specs.NodeOf.{stamps_of, CanBeSent, IsNodeOf};
 ghost use Rattle.fw_node.specs.Past.{totals_kept};
 ghost use Rattle.fw_node.specs.Sends.{sends_list, notice_sends};
 ghost use Rattle.fw_node.specs.StateOf.{IsStateOf};
@@ -48,6 +50,7 @@ impl Node {
     pub fn new(alloc: Global, flow: &Flow, id: NodeId) -> Result<Self, AllocError>
         ensures table { (settled : List ℕ → Bool) → IfOk result (λ node. IsTableOf flow.now id settled node []) }
         ensures bounds { IfOk result (λ node. node.bounds ≡ bounds_of flow.now id) }
+        ensures node { IfOk result (IsNodeOf flow.now id) }
         ensures live { IfOk result (λ node. node.refused ≡ false) }
     {
         let _nodes = flow.nodes();
@@ -75,6 +78,7 @@ impl Node {
             → AreOnEdges (in_edges flow.now id) before → IsStateOf (kind_of flow.now id) before state.now
             → IfOk result (λ node. IsTableOf flow.now id settled node before) }
         ensures bounds { IfOk result (λ node. node.bounds ≡ bounds_of flow.now id) }
+        ensures node { IfOk result (IsNodeOf flow.now id) }
         ensures live { IfOk result (λ node. node.refused ≡ false) }
     {
         let _nodes = flow.nodes();
@@ -117,6 +121,9 @@ impl Node {
         ensures refused { OnErr result (self.new.refused ≡ true) }
         ensures stays { IsTrue self.old.refused → IsErr result }
         ensures bounds { self.new.bounds ≡ self.old.bounds }
+        ensures node { (flow : Dataflow) (p : ℕ) → IsNodeOf flow p self.old → IsNodeOf flow p self.new }
+        ensures domain { (flow : Dataflow) (p : ℕ) → IsWellFormed flow → IsNodeOf flow p self.old
+            → IfOk result (λ sent. CanBeSent flow p (stamps_of sent)) }
     {
         if self.refused {
             return Err(AllocError);
@@ -150,6 +157,9 @@ impl Node {
         ensures refused { OnErr result (self.new.refused ≡ true) }
         ensures stays { IsTrue self.old.refused → IsErr result }
         ensures bounds { self.new.bounds ≡ self.old.bounds }
+        ensures node { (flow : Dataflow) (p : ℕ) → IsNodeOf flow p self.old → IsNodeOf flow p self.new }
+        ensures domain { (flow : Dataflow) (p : ℕ) → IsWellFormed flow → IsNodeOf flow p self.old
+            → IfOk result (λ sent. CanBeSent flow p (stamps_of sent)) }
     {
         if self.refused {
             return Err(AllocError);
@@ -175,6 +185,9 @@ impl Node {
         ensures refused { OnErr result (self.new.refused ≡ true) }
         ensures stays { IsTrue self.old.refused → IsErr result }
         ensures bounds { self.new.bounds ≡ self.old.bounds }
+        ensures node { (flow : Dataflow) (p : ℕ) → IsNodeOf flow p self.old → IsNodeOf flow p self.new }
+        ensures domain { (flow : Dataflow) (p : ℕ) → IsWellFormed flow → is_input_kind (kind_of flow p) ≡ true
+            → IfOk result (λ sent. CanBeSent flow p (stamps_of sent)) }
     {
         if self.refused {
             return Err(AllocError);
@@ -204,6 +217,7 @@ impl Node {
         ensures refused { OnErr result (self.new.refused ≡ true) }
         ensures stays { IsTrue self.old.refused → IsErr result }
         ensures bounds { self.new.bounds ≡ self.old.bounds }
+        ensures node { (flow : Dataflow) (p : ℕ) → IsNodeOf flow p self.old → IsNodeOf flow p self.new }
     {
         if self.refused {
             return Err(AllocError);

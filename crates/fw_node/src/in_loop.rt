@@ -11,6 +11,7 @@ ghost use Rattle.fw_table.specs.Sent.{sent_at};
 ghost use Rattle.fw_node.specs.Answers.{recs_for, recs_at_notice, sent_list};
 ghost use Rattle.fw_node.specs.TimedTable.{IsSideOf};
 ghost use Rattle.fw_node.specs.LoopTable.{IsLoopTable};
+ghost use Rattle.fw_node.specs.NodeOf.{is_loop_table_of, AreSentAt};
 
 use crate::AtTime;
 use fw_bag::Rec;
@@ -53,6 +54,9 @@ impl<T: Logical> InLoop<T> {
         ensures err { (flow : Dataflow) (kind : Kind) (came : List Arrival)
             → IsLoopTable ⟦<Nest<T> as Ord>⟧.cmp ⟦<Nest<T> as Time>⟧.coords flow self.old kind came
             → OnErr result (IsLoopTable ⟦<Nest<T> as Ord>⟧.cmp ⟦<Nest<T> as Time>⟧.coords flow self.new kind came) }
+        ensures of_kind { (flow : Dataflow) (kind : Kind) → is_loop_table_of flow kind self.new ≡ is_loop_table_of flow kind self.old }
+        ensures at { (flow : Dataflow) (kind : Kind) → is_loop_table_of flow kind self.old ≡ true
+            → IfOk result (λ sent. AreSentAt flow kind at.now (sent_list sent)) }
     {
         match self {
             InLoop::Here(table) => table.deliver(side, at, rec),
@@ -75,6 +79,9 @@ impl<T: Logical> InLoop<T> {
         ensures sent { (flow : Dataflow) (kind : Kind) (came : List Arrival)
             → IsLoopTable ⟦<Nest<T> as Ord>⟧.cmp ⟦<Nest<T> as Time>⟧.coords flow self.old kind came
             → IfOk result (λ sent. sent ≡ record { at = at.now; recs = sorted_recs (recs_at_notice kind came at.now) }) }
+        ensures of_kind { (flow : Dataflow) (kind : Kind) → is_loop_table_of flow kind self.new ≡ is_loop_table_of flow kind self.old }
+        ensures at { (flow : Dataflow) (kind : Kind) → is_loop_table_of flow kind self.old ≡ true
+            → IfOk result (λ sent. AreSentAt flow kind at.now (sent_list sent)) }
     {
         match self {
             InLoop::Here(table) => table.notify(at),
@@ -99,6 +106,7 @@ impl<T: Logical> InLoop<T> {
         ensures err { (flow : Dataflow) (kind : Kind) (came : List Arrival)
             → IsLoopTable ⟦<Nest<T> as Ord>⟧.cmp ⟦<Nest<T> as Time>⟧.coords flow self.old kind came
             → OnErr result (IsLoopTable ⟦<Nest<T> as Ord>⟧.cmp ⟦<Nest<T> as Time>⟧.coords flow self.new kind came) }
+        ensures of_kind { (flow : Dataflow) (kind : Kind) → is_loop_table_of flow kind self.new ≡ is_loop_table_of flow kind self.old }
     {
         match self {
             InLoop::Here(table) => table.settle(alloc, f, bounds),

@@ -9,6 +9,7 @@ ghost use Rattle.fw_bag.specs.Arrivals.{AreInside};
 ghost use Rattle.fw_node.specs.Arrived.{arrived};
 ghost use Rattle.fw_node.specs.StateOf.{IsStateOf, totals_in};
 ghost use Rattle.fw_node.specs.LoopTable.{IsLoopTable};
+ghost use Rattle.fw_node.specs.NodeOf.{is_table_of};
 ghost use Rattle.fw_node.specs.NodeTable.{IsNodeTable, dimension_of};
 ghost use Rattle.fw_node.specs.Past.{Past, past_of};
 ghost use Rattle.fw_node.specs.TimedTable.{IsTimedTable};
@@ -122,6 +123,7 @@ impl Table {
             → IsStateOf (kind_of flow.now id) before state.now
             → IfOk result (λ table. IsNodeTable flow.now table (kind_of flow.now id) (past_of ins settled before)) }
         ensures shape { IfOk result (λ table. dimension_of table ≡ length (bounds_of flow.now id).greatest) }
+        ensures of_kind { IfOk result (λ table. is_table_of flow.now (kind_of flow.now id) table ≡ true) }
     {
         match flow.kind(id) {
             Kind::Total => Ok(Table::Total(Total::from_state(alloc, totals_of(state))?)),

@@ -10,6 +10,7 @@ ghost use Rattle.fw_bag.specs.Arrivals.{arrival, recs_inside};
 ghost use Rattle.fw_frontier.specs.Frontier.{Within};
 ghost use Rattle.fw_table.specs.Sent.{sent_at};
 ghost use Rattle.fw_node.specs.Answers.{recs_for, sent_list};
+ghost use Rattle.fw_node.specs.NodeOf.{is_table_of, AreSentAt};
 ghost use Rattle.fw_node.specs.NodeTable.{IsNodeTable, dimension_of};
 ghost use Rattle.fw_node.specs.Past.{Past, IsSumOfTaken, IsToldWhereNotified, notice_list, totals_kept, with_arrival, with_notice, with_settled};
 ghost use Rattle.fw_node.specs.Sends.{sends_list};
@@ -84,6 +85,9 @@ impl Table {
         ensures err { (flow : Dataflow) (kind : Kind) (past : Past) → IsNodeTable flow self.old kind past
             → OnErr result (IsNodeTable flow self.new kind past) }
         ensures shape { dimension_of self.new ≡ dimension_of self.old }
+        ensures of_kind { (flow : Dataflow) (kind : Kind) → is_table_of flow kind self.new ≡ is_table_of flow kind self.old }
+        ensures at { (flow : Dataflow) (kind : Kind) → is_table_of flow kind self.old ≡ true
+            → IfOk result (λ sent. AreSentAt flow kind at.now (sent_list sent)) }
     {
         match self {
             Table::Idle => Ok(Sent::of(at.copy(), None)),
@@ -103,11 +107,13 @@ impl Table {
                 table.on_message(side, Epoch::from_coords(at), rec)?;
                 Ok(Sent::of(at.copy(), None))
             }
-            Table::Ledger(table) => Ok(
-                table
-                    .on_message(side, SeqNo::from_coords(at), rec)?
-                    .at_stamp(),
-            ),
+            Table::Ledger(table) => {
+                let sent = table.on_message(side, SeqNo::from_coords(at), rec)?;
+                Ok(Sent {
+                    at: at.copy(),
+                    recs: sent.recs,
+                })
+            }
             Table::Regroup(table) => Ok(table.on_message(SeqNo::from_coords(at), rec).at_stamp()),
         }
     }
@@ -126,15 +132,22 @@ impl Table {
         ensures err { (flow : Dataflow) (kind : Kind) (past : Past) → IsNodeTable flow self.old kind past
             → OnErr result (IsNodeTable flow self.new kind past) }
         ensures shape { dimension_of self.new ≡ dimension_of self.old }
+        ensures of_kind { (flow : Dataflow) (kind : Kind) → is_table_of flow kind self.new ≡ is_table_of flow kind self.old }
+        ensures at { (flow : Dataflow) (kind : Kind) → is_table_of flow kind self.old ≡ true
+            → IfOk result (λ sent. AreSentAt flow kind at.now (sends_list sent)) }
     {
         match self {
             Table::Outside(table) => Ok(Sends::Together(table.notify(at)?)),
             Table::Loop(table) => Ok(Sends::Together(table.notify(at)?)),
             Table::Loop2(table) => Ok(Sends::Together(table.notify(at)?)),
             Table::Loop3(table) => Ok(Sends::Together(table.notify(at)?)),
-            Table::Total(table) => Ok(Sends::Together(
-                table.on_notify(Epoch::from_coords(at))?.at_stamp(),
-            )),
+            Table::Total(table) => {
+                let sent = table.on_notify(Epoch::from_coords(at))?;
+                Ok(Sends::Together(Sent {
+                    at: at.copy(),
+                    recs: sent.recs,
+                }))
+            }
             Table::Sequence(table) => Ok(Sends::Numbered(table.on_notify(Epoch::from_coords(at))?)),
             Table::Idle
             | Table::Enter(_)
@@ -162,6 +175,7 @@ impl Table {
         ensures err { (flow : Dataflow) (kind : Kind) (past : Past) → IsNodeTable flow self.old kind past
             → OnErr result (IsNodeTable flow self.new kind past) }
         ensures shape { dimension_of self.new ≡ dimension_of self.old }
+        ensures of_kind { (flow : Dataflow) (kind : Kind) → is_table_of flow kind self.new ≡ is_table_of flow kind self.old }
     {
         match self {
             Table::Outside(table) => table.settle(alloc, f, bounds),

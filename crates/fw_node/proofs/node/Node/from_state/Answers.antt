@@ -25,3 +25,10 @@ returns-clause-table c = λ settled before each on_edges state.
       on_edges = on_edges;
       in_the_domain = each_of (λ s. (settled s ≡ true) × (d s ≡ true)) (λ s. d s ≡ true) (λ s h. h.1) before each;
     }
+
+pub returns-clause-node : goal.returns-clause-node
+returns-clause-node c = record {
+  table = c.in_ok-table.ensures.of_kind;
+  sides = c.in_ok-sides.ensures.items ∙ c.in_edges.ensures;
+  bounds = c.domain.ensures;
+}

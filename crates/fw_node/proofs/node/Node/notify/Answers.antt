@@ -8,6 +8,7 @@ use Rattle.fw_node.specs.Arrived.{arrived}
 use Rattle.fw_node.specs.NodeTable.{IsNodeTable}
 use Rattle.fw_node.specs.Past.{past_of}
 use Rattle.fw_node.proofs.NodeLaws.{notice_same, numbered_after, sum_of_taken}
+use Rattle.fw_node.proofs.NodeOfLaws.{can-send, of_node}
 use Rattle.fw_node.proofs.node.Node.notify.Goals as goal
 
 pub returns-clause-ok : goal.returns-clause-ok
@@ -37,3 +38,11 @@ returns-clause-sent c = λ flow p settled before out untold sum node.
     let k : Kind = kind_of flow p in
     IfOk-weaker c.notify-sent.result _ _ (λ sent e. e ∙ notice_same k ins settled before c.args.at.now)
     (c.notify-sent.ensures.sent flow k (past_of ins settled before) node.table out untold (sum_of_taken k ins settled before c.args.at.now sum))
+
+pub returns-clause-node : goal.returns-clause-node
+returns-clause-node c = λ flow p n. record { table = c.notify-sent.ensures.of_kind flow (kind_of flow p) ∙ n.table; sides = n.sides; bounds = n.bounds }
+
+pub returns-clause-domain : goal.returns-clause-domain
+returns-clause-domain c = λ flow p w n.
+    IfOk-weaker c.notify-sent.result _ _ (λ sent at. can-send flow p c.args.at.now sent w (of_node flow p c.args.self.now c.args.at.now n c.requires) at)
+    (c.notify-sent.ensures.at flow (kind_of flow p) n.table)

@@ -1,4 +1,4 @@
-use Rattle.std.proofs.Common.{◌≡◌, ◌&&◌, ℕ, Bool, true, List}
+use Rattle.std.proofs.Common.{◌≡◌, ◌∙◌, ◌&&◌, ℕ, Bool, true, List}
 use Rattle.std.specs.List.{AllByRecursion}
 use Rattle.std.proofs.lemmas.Bool.{and_parts}
 use Rattle.std.proofs.lemmas.Result.{on_ok_weaker}
@@ -40,3 +40,6 @@ returns-clause-ok c = λ flow p settled before sub told node.
       in_the_domain = node.in_the_domain;
     })
     (c.settle-settled.ensures.ok flow k (past_of ins bounded before) first within (told_where flow p ins f bounded before node.in_the_domain told))
+
+pub returns-clause-node : goal.returns-clause-node
+returns-clause-node c = λ flow p n. record { table = c.settle-settled.ensures.of_kind flow (kind_of flow p) ∙ n.table; sides = n.sides; bounds = n.bounds }

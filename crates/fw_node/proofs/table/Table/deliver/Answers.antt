@@ -1,6 +1,9 @@
 use Rattle.std.proofs.Common.{◌≡◌, ◌∷◌, [], true, false, not, List, map, refl, sym, ap, ◌∙◌, subst}
 use Rattle.std.proofs.lemmas.Result.{IfOk-weaker, on_ok_weaker}
+use Rattle.fw_time.specs.Sending.{entered_stamp, regrouped_stamp}
 use Rattle.fw_time.specs.Stamp.{Stamp as StampList}
+use Rattle.fw_time.specs.declared.stamp.Stamp.{Stamp}
+use Rattle.fw_time.specs.declared.time.Epoch.{Epoch}
 use Rattle.fw_bag.specs.declared.rec.Rec.{Rec}
 use Rattle.fw_bag.specs.Arrivals.{Arrival, arrival}
 use Rattle.fw_flow.specs.Dataflow.{is_notified_kind, send_stamp_of_kind}
@@ -12,6 +15,8 @@ use Rattle.fw_node.specs.declared.table.Table.{Table}
 use Rattle.fw_node.specs.declared.table.Table.TheVariants as table
 use Rattle.fw_node.specs.Answers.{recs_for, sent_list}
 use Rattle.fw_node.specs.LoopTable.{IsLoopTable}
+use Rattle.fw_node.specs.NodeOf.{is_table_of}
+use Rattle.fw_node.proofs.NodeOfLaws.{none-sent, timed-sent, ledger-sent, enter-sent, regroup-sent}
 use Rattle.fw_node.specs.NodeTable.{IsNodeTable, epoch_cmp, epoch_coords, nest_cmp, nest_coords}
 use Rattle.fw_node.specs.Past.{unsettled, is_taken, with_arrival}
 use Rattle.fw_node.specs.TimedTable.{IsTimedTable}
@@ -140,24 +145,80 @@ returns-in_ok-on_message-in-Sequence-clause-ok c = λ flow k past r side out unt
     c.in-Sequence.table k (subst P c.in-Sequence.is r)
     (λ h u. subst Q co (c.in_ok-on_message-in-Sequence.ensures.ok (is_taken past) past.came past.numbered (ap (is_taken past) co ∙ neither (past.settled c.args.at.now) (past.told c.args.at.now) out (u refl)) h)) untold
 
-pub returns-in_ok-on_message-in-Ledger-clause-ok : goal.returns-in_ok-on_message-in-Ledger-clause-ok
-returns-in_ok-on_message-in-Ledger-clause-ok c = λ flow k past r side out untold.
+pub returns-in_ok-sent-in-Ledger-clause-ok : goal.returns-in_ok-sent-in-Ledger-clause-ok
+returns-in_ok-sent-in-Ledger-clause-ok c = λ flow k past r side out untold.
     let P : Table → Type 0 = λ s. IsNodeTable flow s k past in
     let a : Arrival = arrival c.args.side c.args.at.now c.args.rec in
     let co : c.from_coords-in-Ledger.result.0 ∷ [] ≡ c.args.at.now = c.from_coords-in-Ledger.ensures in
     let new = c.on_message-in-Ledger.new.self in
     let Q : StampList → Type 0 = λ s. IsLedger past.settled new (arrival c.args.side s c.args.rec ∷ past.came) in
     of_ledger flow past (λ x. IsNodeTable flow (table.Ledger new) x (with_arrival a past)) c.in-Ledger.table k (subst P c.in-Ledger.is r)
-    (λ h. subst Q co (c.in_ok-on_message-in-Ledger.ensures.ok past.settled past.came (ap past.settled co ∙ out) h))
+    (λ h. subst Q co (c.in_ok-sent-in-Ledger.ensures.ok past.settled past.came (ap past.settled co ∙ out) h))
 
-pub returns-in_ok-on_message-in-Ledger-clause-sent : goal.returns-in_ok-on_message-in-Ledger-clause-sent
-returns-in_ok-on_message-in-Ledger-clause-sent c = λ flow k past r side out.
+pub returns-in_ok-sent-in-Ledger-clause-sent : goal.returns-in_ok-sent-in-Ledger-clause-sent
+returns-in_ok-sent-in-Ledger-clause-sent c = λ flow k past r side out.
     let P : Table → Type 0 = λ s. IsNodeTable flow s k past in
     let a : Arrival = arrival c.args.side c.args.at.now c.args.rec in
     let co : c.from_coords-in-Ledger.result.0 ∷ [] ≡ c.args.at.now = c.from_coords-in-Ledger.ensures in
     let total : Rec = record { key = c.args.rec.key; value = plus c.args.rec.value (value_sum c.args.rec.key (recs_of past.came)) } in
-    of_ledger flow past (λ x. sent_list c.at_stamp-in-Ledger.result ≡ sent_at (send_stamp_of_kind flow x c.args.at.now) (recs_for x past.came a))
+    let sent : Sent Stamp = record { at = c.copy-in-Ledger.result; recs = c.in_ok-sent-in-Ledger.sent.recs } in
+    of_ledger flow past (λ x. sent_list sent ≡ sent_at (send_stamp_of_kind flow x c.args.at.now) (recs_for x past.came a))
     c.in-Ledger.table k (subst P c.in-Ledger.is r)
-    (λ h. ap sent_list c.at_stamp-in-Ledger.ensures
-    ∙ ap (λ (s : Sent SeqNo). map (λ (x : Rec). (s.at.0 ∷ [], x)) s.recs) (c.in_ok-on_message-in-Ledger.ensures.sent past.settled past.came h)
-    ∙ ap (λ (u : StampList). (u, total) ∷ []) co)
+    (λ h. ap (λ (s : Sent SeqNo). map (λ (x : Rec). (c.copy-in-Ledger.result, x)) s.recs) (c.in_ok-sent-in-Ledger.ensures.sent past.settled past.came h)
+    ∙ ap (λ (u : StampList). (u, total) ∷ []) c.copy-in-Ledger.ensures)
+
+pub returns-in-Outside-clause-at : goal.returns-in-Outside-clause-at
+returns-in-Outside-clause-at c = λ flow k i.
+    let timed = sym (ap (λ (s : Table). is_table_of flow k s) c.in-Outside.is) ∙ i in
+    IfOk-weaker c.deliver.result _ _ (λ sent e. timed-sent flow k c.args.at.now sent timed e) c.deliver.ensures.at
+
+pub returns-in-Loop-clause-at : goal.returns-in-Loop-clause-at
+returns-in-Loop-clause-at c = λ flow k i. c.deliver-in-Loop.ensures.at flow k (sym (ap (λ (s : Table). is_table_of flow k s) c.in-Loop.is) ∙ i)
+
+pub returns-in-Loop2-clause-at : goal.returns-in-Loop2-clause-at
+returns-in-Loop2-clause-at c = λ flow k i. c.deliver-in-Loop2.ensures.at flow k (sym (ap (λ (s : Table). is_table_of flow k s) c.in-Loop2.is) ∙ i)
+
+pub returns-in-Loop3-clause-at : goal.returns-in-Loop3-clause-at
+returns-in-Loop3-clause-at c = λ flow k i. c.deliver-in-Loop3.ensures.at flow k (sym (ap (λ (s : Table). is_table_of flow k s) c.in-Loop3.is) ∙ i)
+
+pub returns-in-Enter-clause-at : goal.returns-in-Enter-clause-at
+returns-in-Enter-clause-at c = λ flow k i.
+    let is = sym (ap (λ (s : Table). is_table_of flow k s) c.in-Enter.is) ∙ i in
+    let sent = ap sent_list c.at_stamp.ensures ∙ c.on_message.ensures ∙ ap (λ t. sent_at (entered_stamp t) (c.args.rec ∷ [])) c.from_coords.ensures in
+    enter-sent flow k c.args.at.now (sent_list c.at_stamp.result) (c.args.rec ∷ []) is sent
+
+pub returns-in-Enter2-clause-at : goal.returns-in-Enter2-clause-at
+returns-in-Enter2-clause-at c = λ flow k i.
+    let is = sym (ap (λ (s : Table). is_table_of flow k s) c.in-Enter2.is) ∙ i in
+    let sent = ap sent_list c.at_stamp-in-Enter2.ensures ∙ c.on_message-in-Enter2.ensures ∙ ap (λ t. sent_at (entered_stamp t) (c.args.rec ∷ [])) c.from_coords-in-Enter2.ensures in
+    enter-sent flow k c.args.at.now (sent_list c.at_stamp-in-Enter2.result) (c.args.rec ∷ []) is sent
+
+pub returns-in-Enter3-clause-at : goal.returns-in-Enter3-clause-at
+returns-in-Enter3-clause-at c = λ flow k i.
+    let is = sym (ap (λ (s : Table). is_table_of flow k s) c.in-Enter3.is) ∙ i in
+    let sent = ap sent_list c.at_stamp-in-Enter3.ensures ∙ c.on_message-in-Enter3.ensures ∙ ap (λ t. sent_at (entered_stamp t) (c.args.rec ∷ [])) c.from_coords-in-Enter3.ensures in
+    enter-sent flow k c.args.at.now (sent_list c.at_stamp-in-Enter3.result) (c.args.rec ∷ []) is sent
+
+pub returns-in-Idle-clause-at : goal.returns-in-Idle-clause-at
+returns-in-Idle-clause-at c = λ flow k i. none-sent flow k c.args.at.now (sent_list c.of.result) (ap sent_list c.of.ensures)
+
+pub returns-in_ok-on_message-in-Total-clause-at : goal.returns-in_ok-on_message-in-Total-clause-at
+returns-in_ok-on_message-in-Total-clause-at c = λ flow k i.
+    none-sent flow k c.args.at.now (sent_list c.at_stamp-in-Total.result)
+    (ap sent_list c.at_stamp-in-Total.ensures ∙ ap (λ (s : Sent Epoch). map (λ (x : Rec). (s.at.0 ∷ [], x)) s.recs) c.in_ok-on_message-in-Total.ensures.sent)
+
+pub returns-in_ok-on_message-in-Sequence-clause-at : goal.returns-in_ok-on_message-in-Sequence-clause-at
+returns-in_ok-on_message-in-Sequence-clause-at c = λ flow k i. none-sent flow k c.args.at.now (sent_list c.of-in-Sequence.result) (ap sent_list c.of-in-Sequence.ensures)
+
+pub returns-in_ok-sent-in-Ledger-clause-at : goal.returns-in_ok-sent-in-Ledger-clause-at
+returns-in_ok-sent-in-Ledger-clause-at c = λ flow k i.
+    let is = sym (ap (λ (s : Table). is_table_of flow k s) c.in-Ledger.is) ∙ i in
+    let sent : Sent Stamp = record { at = c.copy-in-Ledger.result; recs = c.in_ok-sent-in-Ledger.sent.recs } in
+    ledger-sent flow k c.args.at.now sent is c.copy-in-Ledger.ensures
+
+pub returns-in-Regroup-clause-at : goal.returns-in-Regroup-clause-at
+returns-in-Regroup-clause-at c = λ flow k i.
+    let is = sym (ap (λ (s : Table). is_table_of flow k s) c.in-Regroup.is) ∙ i in
+    let size = c.in-Regroup.table.size in
+    let sent = ap sent_list c.at_stamp-in-Regroup.ensures ∙ c.on_message-in-Regroup.ensures ∙ ap (λ t. sent_at (regrouped_stamp size t) (c.args.rec ∷ [])) c.from_coords-in-Regroup.ensures in
+    regroup-sent flow k size c.args.at.now (sent_list c.at_stamp-in-Regroup.result) (c.args.rec ∷ []) is sent

@@ -1,4 +1,4 @@
-use Rattle.std.proofs.Common.{◌≡◌, ◌||◌, ℕ, List, Bool, true, length, sym, ap, ◌∙◌, subst, arith}
+use Rattle.std.proofs.Common.{◌≡◌, ◌||◌, ℕ, List, [], Bool, true, false, length, sym, ap, ◌∙◌, subst, arith}
 use Rattle.fw_bag.specs.declared.rec.Rec.{Rec}
 use Rattle.fw_bag.specs.Arrivals.{Arrival, recs_of}
 use Rattle.fw_flow.specs.declared.kind.Kind.{Kind}
@@ -14,6 +14,7 @@ use Rattle.fw_node.specs.Arrived.{arrived}
 use Rattle.fw_node.specs.NodeTable.{IsNodeTable}
 use Rattle.fw_node.specs.Past.{past_of, totals_kept}
 use Rattle.fw_node.proofs.MakingLaws.{bounds-kind}
+use Rattle.fw_node.proofs.NodeOfLaws.{table-of}
 use Rattle.fw_node.proofs.RestoringLaws.{all_came, inside_or, alike_inside, at_epochs, at_numbered, few_sent, nothing_kept}
 use Rattle.fw_node.proofs.SameTable.{recs_alike}
 use Rattle.fw_node.proofs.table.Table.from_state.Goals as goal
@@ -75,4 +76,5 @@ returns-in_default c = record {
       (λ e. c.in_default.not-Total (c.kind.ensures ∙ e)) (λ e. c.in_default.not-Sequence (c.kind.ensures ∙ e)) (λ e. c.in_default.not-Ledger (c.kind.ensures ∙ e))
       (c.new.ensures.table ins settled);
   shape = c.new.ensures.shape;
+  of_kind = table-of c.args.flow.now c.new.result (kind_of c.args.flow.now c.args.id) (past_of [] (λ s. false) []) (c.new.ensures.table [] (λ s. false));
 }

@@ -10,6 +10,8 @@ use Rattle.fw_numbered.specs.Sequence.{IsSequence}
 use Rattle.fw_node.specs.declared.table.Table.{Table}
 use Rattle.fw_node.specs.declared.table.Table.TheVariants as table
 use Rattle.fw_node.specs.Answers.{sent_list}
+use Rattle.fw_node.specs.NodeOf.{is_table_of}
+use Rattle.fw_node.proofs.NodeOfLaws.{none-sent, timed-sent, total-sent, numbers-sent}
 use Rattle.fw_node.specs.NodeTable.{IsNodeTable, epoch_cmp, epoch_coords, nest_cmp, nest_coords}
 use Rattle.fw_node.specs.Past.{IsSumOfTaken, notice_list, unsettled, is_taken, with_notice}
 use Rattle.fw_node.proofs.ForgettingLaws.{notifications_need_their_time}
@@ -17,6 +19,7 @@ use Rattle.fw_node.proofs.KindCases.{timed_plain}
 use Rattle.fw_node.proofs.LoopCases.{loop_kind}
 use Rattle.fw_node.proofs.PastLaws.{neither, told_more, notice_plain, at_numbers-length}
 use Rattle.fw_node.proofs.TableCases.{of_total, of_sequence}
+use Rattle.fw_time.specs.declared.stamp.Stamp.{Stamp}
 use Rattle.fw_time.specs.declared.time.Epoch.{Epoch}
 use Rattle.fw_table.specs.declared.sent.Sent.{Sent}
 use Rattle.fw_node.proofs.PastLaws.{any_err}
@@ -98,8 +101,8 @@ returns-in_err-notify-in-Loop3-clause-err c = λ flow k past r.
     let P : Table → Type 0 = λ s. IsNodeTable flow s k past in
     any_err c.from_residual-in_err-notify-in-Loop3.result _ (c.notify-in-Loop3.ensures.stands flow k (unsettled past) (subst P c.in-Loop3.is r))
 
-pub returns-in_ok-on_notify-in-Total-clause-ok : goal.returns-in_ok-on_notify-in-Total-clause-ok
-returns-in_ok-on_notify-in-Total-clause-ok c = λ flow k past r out untold.
+pub returns-in_ok-sent-in-Total-clause-ok : goal.returns-in_ok-sent-in-Total-clause-ok
+returns-in_ok-sent-in-Total-clause-ok c = λ flow k past r out untold.
     let P : Table → Type 0 = λ s. IsNodeTable flow s k past in
     let co : c.from_coords.result.0 ∷ [] ≡ c.args.at.now = c.from_coords.ensures in
     let new = c.on_notify.new.self in
@@ -107,16 +110,17 @@ returns-in_ok-on_notify-in-Total-clause-ok c = λ flow k past r out untold.
     let e : (λ (s : StampList). same s (c.from_coords.result.0 ∷ []) || is_taken past s) ≡ (λ s. past.settled s || (same s c.args.at.now || past.told s)) =
     λ i s. (ap (λ u. same s u || is_taken past s) co ∙ told_more (same s c.args.at.now) (past.settled s) (past.told s)) i in
     of_total flow past (λ x. IsNodeTable flow (table.Total new) x (with_notice c.args.at.now past)) c.in-Total.table k (subst P c.in-Total.is r)
-    (λ h. subst Q e (c.in_ok-on_notify-in-Total.ensures.ok past.settled (is_taken past) past.came (ap past.settled co ∙ out) (ap (is_taken past) co ∙ neither (past.settled c.args.at.now) (past.told c.args.at.now) out untold) h))
+    (λ h. subst Q e (c.in_ok-sent-in-Total.ensures.ok past.settled (is_taken past) past.came (ap past.settled co ∙ out) (ap (is_taken past) co ∙ neither (past.settled c.args.at.now) (past.told c.args.at.now) out untold) h))
 
-pub returns-in_ok-on_notify-in-Total-clause-sent : goal.returns-in_ok-on_notify-in-Total-clause-sent
-returns-in_ok-on_notify-in-Total-clause-sent c = λ flow k past r out untold sum.
+pub returns-in_ok-sent-in-Total-clause-sent : goal.returns-in_ok-sent-in-Total-clause-sent
+returns-in_ok-sent-in-Total-clause-sent c = λ flow k past r out untold sum.
     let P : Table → Type 0 = λ s. IsNodeTable flow s k past in
     let co : c.from_coords.result.0 ∷ [] ≡ c.args.at.now = c.from_coords.ensures in
-    of_total flow past (λ x. IsSumOfTaken x past c.args.at.now → sent_list c.at_stamp.result ≡ notice_list x past c.args.at.now) c.in-Total.table k (subst P c.in-Total.is r)
-    (λ h u. ap sent_list c.at_stamp.ensures
-    ∙ ap (λ (s : Sent Epoch). map (λ (x : Rec). (s.at.0 ∷ [], x)) s.recs)
-    (c.in_ok-on_notify-in-Total.ensures.sent past.settled (is_taken past) past.came (ap past.settled co ∙ out) (ap (is_taken past) co ∙ neither (past.settled c.args.at.now) (past.told c.args.at.now) out untold) h)
+    let sent : Sent Stamp = record { at = c.copy.result; recs = c.in_ok-sent-in-Total.sent.recs } in
+    of_total flow past (λ x. IsSumOfTaken x past c.args.at.now → sent_list sent ≡ notice_list x past c.args.at.now) c.in-Total.table k (subst P c.in-Total.is r)
+    (λ h u. ap (λ (t : StampList). map (λ (x : Rec). (t, x)) c.in_ok-sent-in-Total.sent.recs) (c.copy.ensures ∙ sym co)
+    ∙ ap (λ (s : Sent Epoch). map (λ (x : Rec). (c.from_coords.result.0 ∷ [], x)) s.recs)
+    (c.in_ok-sent-in-Total.ensures.sent past.settled (is_taken past) past.came (ap past.settled co ∙ out) (ap (is_taken past) co ∙ neither (past.settled c.args.at.now) (past.told c.args.at.now) out untold) h)
     ∙ ap (λ (t : StampList). map (λ (x : Rec). (t, x)) (sums_at_keys (recs_at t past.came) (recs_inside (λ s. same s t || is_taken past s) past.came))) co
     ∙ ap (λ rs. map (λ (x : Rec). (c.args.at.now, x)) (sums_at_keys (recs_at c.args.at.now past.came) rs)) (sym u)) sum
 
@@ -149,3 +153,32 @@ returns-in_ok-on_notify-in-Sequence-clause-sent c = λ flow k past r out untold 
     of_sequence flow past (λ x. at_numbers sent.first sent.recs ≡ notice_list x past c.args.at.now) c.in-Sequence.table k (subst P c.in-Sequence.is r)
     (λ h. c.in_ok-on_notify-in-Sequence.ensures.sent (is_taken past) past.came past.numbered (ap (is_taken past) co ∙ neither (past.settled c.args.at.now) (past.told c.args.at.now) out untold) h
     ∙ ap (λ (t : StampList). numbered_recs past.numbered (sorted_recs (recs_at t past.came))) co)
+
+pub returns-in_ok-notify-in-Outside-clause-at : goal.returns-in_ok-notify-in-Outside-clause-at
+returns-in_ok-notify-in-Outside-clause-at c = λ flow k i.
+    let timed = sym (ap (λ (s : Table). is_table_of flow k s) c.in-Outside.is) ∙ i in
+    timed-sent flow k c.args.at.now c.in_ok-notify-in-Outside.field-0 timed c.in_ok-notify-in-Outside.ensures.at
+
+pub returns-in_ok-notify-in-Loop-clause-at : goal.returns-in_ok-notify-in-Loop-clause-at
+returns-in_ok-notify-in-Loop-clause-at c = λ flow k i. c.in_ok-notify-in-Loop.ensures.at flow k (sym (ap (λ (s : Table). is_table_of flow k s) c.in-Loop.is) ∙ i)
+
+pub returns-in_ok-notify-in-Loop2-clause-at : goal.returns-in_ok-notify-in-Loop2-clause-at
+returns-in_ok-notify-in-Loop2-clause-at c = λ flow k i. c.in_ok-notify-in-Loop2.ensures.at flow k (sym (ap (λ (s : Table). is_table_of flow k s) c.in-Loop2.is) ∙ i)
+
+pub returns-in_ok-notify-in-Loop3-clause-at : goal.returns-in_ok-notify-in-Loop3-clause-at
+returns-in_ok-notify-in-Loop3-clause-at c = λ flow k i. c.in_ok-notify-in-Loop3.ensures.at flow k (sym (ap (λ (s : Table). is_table_of flow k s) c.in-Loop3.is) ∙ i)
+
+pub returns-in_ok-sent-in-Total-clause-at : goal.returns-in_ok-sent-in-Total-clause-at
+returns-in_ok-sent-in-Total-clause-at c = λ flow k i.
+    let is = sym (ap (λ (s : Table). is_table_of flow k s) c.in-Total.is) ∙ i in
+    let sent : Sent Stamp = record { at = c.copy.result; recs = c.in_ok-sent-in-Total.sent.recs } in
+    total-sent flow k c.args.at.now sent is c.copy.ensures
+
+pub returns-in_ok-on_notify-in-Sequence-clause-at : goal.returns-in_ok-on_notify-in-Sequence-clause-at
+returns-in_ok-on_notify-in-Sequence-clause-at c = λ flow k i.
+    let is = sym (ap (λ (s : Table). is_table_of flow k s) c.in-Sequence.is) ∙ i in
+    let sent = c.in_ok-on_notify-in-Sequence.field-0 in
+    numbers-sent flow k c.args.at.now sent.first sent.recs is sent.few
+
+pub returns-in-Idle-clause-at : goal.returns-in-Idle-clause-at
+returns-in-Idle-clause-at c = λ flow k i. none-sent flow k c.args.at.now (sent_list c.of.result) (ap sent_list c.of.ensures)

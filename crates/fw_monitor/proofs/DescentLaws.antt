@@ -20,6 +20,7 @@ use Rattle.fw_monitor.specs.declared.side.Side.{Side}
 use Rattle.fw_monitor.specs.declared.side.Inclusion.{Inclusion}
 use Rattle.fw_monitor.specs.declared.side.Inclusion.TheVariants.{OfCut, OfNote}
 use Rattle.fw_monitor.specs.Held.{held_count}
+use Rattle.fw_monitor.specs.Chosen.{IsChoiceOf}
 use Rattle.fw_monitor.specs.Descent.{choice_of, owner, IsOfFlow, IsCanonicalCut, IsConsistentOf, EnclosesConsistent, HasConsistent, cut_weight, node_weight, weight}
 use Rattle.fw_monitor.specs.Inclusions.{Holds, IsInclusionOf, node_of, note_node, right_side}
 use Rattle.fw_monitor.specs.Trail.{IsValueLeft, IsGreatestLeft, with_value}
@@ -214,3 +215,7 @@ largest_of flow offers choice r has holds = record {
   consistent = consistent_of flow offers choice r (r.offered has.0 has.1.0 has.1.1) holds;
   largest = λ other k. r.within has.0 other k;
 }
+
+-- what encloses the consistent choices is a choice of the dataflow
+pub of_flow : (flow : Dataflow) (offers : List Offer) (choice : Choice) → EnclosesConsistent flow offers choice → IsChoiceOf flow choice
+of_flow flow offers choice e = record { one_cut_each = e.one_cut_each; one_notice_each = e.one_notice_each; cuts = e.cuts; notices = e.notices }

@@ -8,6 +8,7 @@ ghost use Rattle.fw_model.specs.Covers.{set_of};
 ghost use Rattle.fw_model.specs.Machine.{front_of};
 ghost use Rattle.fw_model.specs.Offers as spec;
 ghost use Rattle.fw_model.specs.Offers.{IsOffered, AreOffersOf, AreAscending, covers_of};
+ghost use Rattle.fw_monitor.specs.Chosen.{IsChoiceOf};
 ghost use Rattle.fw_monitor.specs.Descent.{choice_of, side_bounds, right_of, IsOfFlow, IsCanonicalCut, EnclosesConsistent, HasConsistent, IsNoticeLowered};
 ghost use Rattle.fw_monitor.specs.declared.side.Inclusion.TheVariants as inclusions;
 ghost use Rattle.fw_monitor.specs.Inclusions.{note_node, limit_of, IsLimitOf, IsInclusionOf, how_many};
@@ -54,9 +55,10 @@ struct Going {
 /// some cuts and frontiers. The error is want of memory.
 pub fn largest(alloc: Global, flow: &Flow, offers: &[Offer]) -> Result<Choice, AllocError>
     requires { AreOffersOf flow.now offers.now }
-    ensures { (some : choices.Choice) → AreAscending flow.now offers.now
+    ensures largest { (some : choices.Choice) → AreAscending flow.now offers.now
         → IsConsistentBy flow.now (covers_of flow.now offers.now) (IsOffered flow.now offers.now) some
         → IfOk result (IsLargestBy flow.now (covers_of flow.now offers.now) (IsOffered flow.now offers.now)) }
+    ensures of_flow { IfOk result (IsChoiceOf flow.now) }
 {
     let descent = descent_to_largest(alloc, flow, offers)?;
     Ok(descent.choice)
@@ -74,6 +76,7 @@ pub fn descent_to_largest(
         → IsConsistentBy flow.now (covers_of flow.now offers.now) (IsOffered flow.now offers.now) some
         → IfOk result (λ descent. IsLargestBy flow.now (covers_of flow.now offers.now) (IsOffered flow.now offers.now) descent.choice) }
     ensures trail { HasConsistent flow.now offers.now → IfOk result (λ descent. IsTrail flow.now offers.now descent.trail descent.choice) }
+    ensures of_flow { IfOk result (λ descent. IsChoiceOf flow.now descent.choice) }
 {
     uncounted::<Brand>(alloc, flow, offers, Blank::new(1))
 }
@@ -93,6 +96,7 @@ fn uncounted<L: Ledger>(
         → IsConsistentBy flow.now (covers_of flow.now offers.now) (IsOffered flow.now offers.now) some
         → IfOk result (λ descent. IsLargestBy flow.now (covers_of flow.now offers.now) (IsOffered flow.now offers.now) descent.choice) }
     ensures trail { HasConsistent flow.now offers.now → IfOk result (λ descent. IsTrail flow.now offers.now descent.trail descent.choice) }
+    ensures of_flow { IfOk result (λ descent. IsChoiceOf flow.now descent.choice) }
 {
     let mut steps = Steps::<L>::none(blank);
     descend(alloc, flow, offers, &mut steps)
@@ -114,6 +118,7 @@ pub fn descend<L: Ledger>(
         → IsConsistentBy flow.now (covers_of flow.now offers.now) (IsOffered flow.now offers.now) some
         → IfOk result (λ descent. IsLargestBy flow.now (covers_of flow.now offers.now) (IsOffered flow.now offers.now) descent.choice) }
     ensures trail { HasConsistent flow.now offers.now → IfOk result (λ descent. IsTrail flow.now offers.now descent.trail descent.choice) }
+    ensures of_flow { IfOk result (λ descent. IsChoiceOf flow.now descent.choice) }
     ensures bound { IfOk result (λ descent. steps.new
         ≤ steps.old + 3 * length flow.now.edges + 2 * length flow.now.nodes + tests_after flow.now descent.trail) }
 {

@@ -2,9 +2,10 @@
 ghost use Rattle.std.specs.Prelude.{◌≡◌, ℕ, length, Bool, IfOk};
 ghost use Rattle.fw_flow.specs.Dataflow.{System};
 ghost use Rattle.fw_model.specs.Machine.{Machine};
-ghost use Rattle.fw_model.specs.Offers.{AreOffersIn};
+ghost use Rattle.fw_model.specs.Offers.{AreOffersIn, AreOffersOf};
 ghost use Rattle.fw_policy.specs.Offering.{IsOfferBy};
 ghost use Rattle.fw_policy.specs.Known.{IsKnown};
+ghost use Rattle.fw_policy.specs.Shaped.{FitsFlow};
 ghost use Rattle.fw_policy.specs.View.{IsViewOf};
 
 use crate::offering::offered;
@@ -22,8 +23,9 @@ pub fn candidates(
     entries: &[Entry],
 ) -> Result<Vec<Offer>, AllocError>
     requires { length view.now ≡ length flow.now.nodes }
-    ensures { (sys : System) (state : Machine) (lost : ℕ → Bool) → sys.flow ≡ flow.now → IsViewOf sys state lost view.now entries.now
+    ensures exact { (sys : System) (state : Machine) (lost : ℕ → Bool) → sys.flow ≡ flow.now → IsViewOf sys state lost view.now entries.now
         → IfOk result (λ offers. AreOffersIn sys state lost offers.items) }
+    ensures of_flow { FitsFlow flow.now view.now entries.now → IfOk result (λ offers. AreOffersOf flow.now offers.items) }
 {
     let mut offers = Vec::new(alloc);
     for place in 0..flow.nodes() {

@@ -5,10 +5,11 @@ use Rattle.fw_model.specs.Machine.{front_of}
 use Rattle.fw_model.specs.Choice.{cut_of, IsLargestBy}
 use Rattle.fw_model.specs.Covers.{set_of}
 use Rattle.fw_model.specs.Offers.{IsOffered, covers_of}
+use Rattle.fw_monitor.specs.Chosen.{IsChoiceOf}
 use Rattle.fw_monitor.specs.Descent.{choice_of, HasConsistent}
 use Rattle.fw_monitor.specs.Inclusions.{inclusions}
 use Rattle.fw_monitor.specs.Trail.{IsTrail}
-use Rattle.fw_monitor.proofs.DescentLaws.{largest_of}
+use Rattle.fw_monitor.proofs.DescentLaws.{largest_of, of_flow}
 use Rattle.fw_monitor.proofs.TestLaws.{IsAt, begun, next_at, there_at, again_at, further_at, again_falls, further_falls, each_holds, trail_ends}
 use Rattle.fw_monitor.proofs.descent.descend.Goals as goal
 
@@ -90,3 +91,11 @@ returns-clause-trail g c = λ has.
     subst (λ ls. IsTrail flow offers ls (choice_of c.of.result c.of-2.result)) (sym c.of-3.ensures)
     (subst (λ xs. IsTrail flow offers c.test.going.trail.items (choice_of xs c.of-2.result)) (sym c.of.ensures)
     (subst (λ ys. IsTrail flow offers c.test.going.trail.items (choice_of cuts ys)) (sym c.of-2.ensures) whole))
+
+pub returns-clause-of_flow : goal.returns-clause-of_flow
+returns-clause-of_flow g c =
+    let flow = c.args.flow.now in
+    let cuts = c.test.going.cuts.items in
+    let notices = c.test.going.notices.items in
+    subst (λ xs. IsChoiceOf flow (choice_of xs c.of-2.result)) (sym c.of.ensures)
+    (subst (λ ys. IsChoiceOf flow (choice_of cuts ys)) (sym c.of-2.ensures) (of_flow flow c.args.offers.now (choice_of cuts notices) c.test.invariant.going.encloses))

@@ -10,4 +10,4 @@ pub returns : goal.returns
 returns c =
     let state = state_of c.args.self.now in
     chosen (sys_of c.args.self.now) state (is_lost c.args.lost.now state) c.in_ok-offers.offers.items c.largest.result c.requires c.in_ok-offers.ensures
-    (rw c.deref.ensures.value at c.largest.ensures)
+    (rw c.deref.ensures.value at c.largest.ensures.largest)

@@ -71,6 +71,7 @@ pub mod SendPartLaws
 pub mod SendingLaws
 pub mod SendsLaws
 pub mod SentLaws
+pub mod SentStandLaws
 pub mod SequenceLaws
 pub mod SequencedLaws
 pub mod SettleLaws

@@ -29,7 +29,7 @@ use Rattle.fw_policy.specs.declared.view.NodeView.{NodeView}
 use Rattle.fw_policy.specs.View.{IsBorderOf, IsNodeViewOf, AreNodeViewsFrom, IsViewOf}
 use Rattle.fw_policy.specs.Offering.{unlogged_stamps, OffersBy, IsOfferBy, AreOffersBy}
 use Rattle.fw_policy.specs.Known.{FitsWay, IsKnown, AreKnown}
-use Rattle.fw_policy.proofs.SentLaws.{IsOne}
+use Rattle.fw_model.proofs.SentStandLaws.{IsOne}
 use Rattle.fw_policy.proofs.UnloggedLaws.{IsOfEntries, unlogged-is}
 use Rattle.fw_model.proofs.ThinnedLaws.{each-contained}
 use Rattle.fw_policy.proofs.WayLaws.{events-full}

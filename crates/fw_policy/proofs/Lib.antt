@@ -6,7 +6,6 @@ pub mod OfferLaws
 pub mod RangeLaws
 pub mod RecordLaws
 pub mod RecordedLaws
-pub mod SentLaws
 pub mod ShapedLaws
 pub mod UnloggedLaws
 pub mod WayLaws

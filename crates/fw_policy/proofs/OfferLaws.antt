@@ -60,7 +60,7 @@ use Rattle.fw_policy.proofs.NumberLaws.{numbered-covers, counted-arrive}
 use Rattle.fw_policy.proofs.RangeLaws.{range-between, within-both, within-below}
 use Rattle.fw_policy.proofs.RecordLaws.{IsUnder, pairs-both, entries-recorded, entries-stamps, listed-holding, listed-checkpoint, entries-ascend, ascend-filter}
 use Rattle.fw_policy.proofs.RecordedLaws.{IsFound, found-record, empty-recorded}
-use Rattle.fw_policy.proofs.SentLaws.{sent-covers}
+use Rattle.fw_model.proofs.SentStandLaws.{sent-covers}
 use Rattle.fw_policy.proofs.UnloggedLaws.{IsOfEntries, logged-outside}
 use Rattle.fw_policy.proofs.WayLaws.{bound-output, checkpoints-notices, events-full}
 

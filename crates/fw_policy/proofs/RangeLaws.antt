@@ -11,7 +11,7 @@ use Rattle.fw_frontier.proofs.InsideLaws.{inside-closed}
 use Rattle.fw_model.proofs.Decisions.{two_ways}
 use Rattle.fw_model.specs.Offers.{IsBetween}
 use Rattle.fw_policy.specs.Offering.{below_all}
-use Rattle.fw_policy.proofs.SentLaws.{IsOne, one-holds}
+use Rattle.fw_model.proofs.SentStandLaws.{IsOne, one-holds}
 
 pub range-between : (b : Bounds) (g : Frontier) (low least greatest f : Front) → least ≡ low → IsFrontOf b greatest g
     → IsBetween b least greatest f ↔ (Within (frontier_of b f) g × Within (frontier_of b low) (frontier_of b f))

@@ -21,7 +21,7 @@ use Rattle.fw_policy.specs.declared.view.Written.{Written}
 use Rattle.fw_policy.specs.declared.view.Written.TheVariants.{Checkpoint, Event as LoggedEvent}
 use Rattle.fw_policy.specs.View.{Holds, IsEventAt, HasEventAt, IsEntryOf, AreEntriesOf, IsUnlogged, IsLostAt}
 use Rattle.fw_policy.specs.Offering.{stamp_in, unlogged_by, unlogged_stamps}
-use Rattle.fw_policy.proofs.SentLaws.{IsOne, one-contained, contained-one}
+use Rattle.fw_model.proofs.SentStandLaws.{IsOne, one-contained, contained-one}
 use Rattle.fw_model.proofs.ThinnedLaws.{each-contained}
 
 -- ---- lists

@@ -61,7 +61,7 @@ pub same-trace : (sys : System) (h k : List Event) (p : ℕ) (base : Frontier) (
 same-trace sys h k p base traces e t = record {
   delivered = λ d l r. subst (λ ms. IsThinned base (map (λ (m : Message). m.at) ms) (delivered_on traces d)) (same d r) (t.delivered d l r);
   notified = subst (λ ss. IsThinned base ss (notified_of traces p)) (sym (notices-at sys.flow h p) ∙ ap (flat_map (stamp_of_notice p)) (sym e) ∙ notices-at sys.flow k p) t.notified;
-  sent = λ n. subst (λ vs. IsThinned base (causes_in (sent_by sys p vs)) (sent_at traces p)) (sym e) (t.sent n);
+  sent = λ o n. subst (λ vs. IsThinned base (causes_in (sent_by sys p vs)) (sent_at traces p)) (sym e) (t.sent o n);
   counted = λ c. subst (λ vs. IsSentTally base (sent_by sys p vs) (counted_of traces p)) (sym e) (t.counted c);
 }
   where
@@ -122,7 +122,7 @@ changed-others : (flow : Dataflow) (p : ℕ) (R : List Stamp → List Stamp → 
 changed-others flow p R T old new c sys h e q n base t = record {
   delivered = λ d l r. subst (IsThinned base (map (λ (m : Message). m.at) (delivered_messages h d))) (sym (c.delivered.others d (λ i. n (sym r ∙ ap (λ f. receiver f d) e ∙ i)))) (t.delivered d l r);
   notified = subst (IsThinned base (flat_map (stamp_of_notice q) h)) (sym (c.notified.others q n)) t.notified;
-  sent = λ k. subst (IsThinned base (causes_in (sent_by sys q (events_at sys.flow q h)))) (sym (c.sent.others q n)) (t.sent k);
+  sent = λ o k. subst (IsThinned base (causes_in (sent_by sys q (events_at sys.flow q h)))) (sym (c.sent.others q n)) (t.sent o k);
   counted = λ k. subst (IsSentTally base (sent_by sys q (events_at sys.flow q h))) (sym (c.counted.others q n)) (t.counted k);
 }
 
@@ -143,13 +143,13 @@ settled-traces flow p f old new change = record {
           delivered = λ d l r. c.delivered.here d l r b w.base (map (λ (m : Message). m.at) (delivered_messages h d))
               (subst (λ q. AreEventsInDomain sys.flow h q → AreOf (bounds_of sys.flow q) (map (λ (m : Message). m.at) (delivered_messages h d))) r (delivered-domain sys h d) a) w.within (t.delivered d l r);
           notified = c.notified.here b w.base (flat_map (stamp_of_notice p) h) (notices-domain sys h p a) w.within t.notified;
-          sent = λ k. c.sent.here b w.base (causes_in (sent_by sys p (events_at sys.flow p h))) (causes-of b _ (sent-domain sys h p a)) w.within (t.sent k);
+          sent = λ o k. c.sent.here b w.base (causes_in (sent_by sys p (events_at sys.flow p h))) (causes-of b _ (sent-domain sys h p a)) w.within (t.sent o k);
           counted = λ k. c.counted.here b w.base (sent_by sys p (events_at sys.flow p h)) (sent-domain sys h p a) w.within (t.counted k);
         }
 
 -- ---- a cut
 
-map-filter : (f : Frontier) (ms : List Message) → map (λ (m : Message). m.at) (messages_inside f ms) ≡ filter f (map (λ (m : Message). m.at) ms)
+pub map-filter : (f : Frontier) (ms : List Message) → map (λ (m : Message). m.at) (messages_inside f ms) ≡ filter f (map (λ (m : Message). m.at) ms)
 map-filter f [] = refl
 map-filter f (m ∷ ms) = by (f m.at) (map-filter f ms)
   where
@@ -159,7 +159,7 @@ map-filter f (m ∷ ms) = by (f m.at) (map-filter f ms)
     by false e = e
 
 -- of what a node was notified among the events inside a set
-notices-inside : (p : ℕ) (f : Frontier) (vs : List Event) → flat_map (stamp_of_notice p) (events_inside f vs) ≡ filter f (flat_map (stamp_of_notice p) vs)
+pub notices-inside : (p : ℕ) (f : Frontier) (vs : List Event) → flat_map (stamp_of_notice p) (events_inside f vs) ≡ filter f (flat_map (stamp_of_notice p) vs)
 notices-inside p f [] = refl
 notices-inside p f (Inject s x ∷ vs) = by (f (x ∷ [])) (notices-inside p f vs)
   where
@@ -248,9 +248,9 @@ cut-traces flow p f old new well change = record {
               (subst (λ q. AreEventsInDomain sys.flow h q → AreOf (bounds_of sys.flow q) all) r (delivered-domain sys h d) a) w (t.delivered d l r));
           notified = subst (λ ss. IsThinned base ss (notified_of new p)) (sym (notices-kept sys.flow keep h p ∙ ap (λ g. filter g (flat_map (stamp_of_notice p) h)) is))
               (c.notified.here b base (flat_map (stamp_of_notice p) h) (notices-domain sys h p a) w t.notified);
-          sent = λ k. subst (λ ss. IsThinned base ss (sent_at new p))
+          sent = λ o k. subst (λ ss. IsThinned base ss (sent_at new p))
               (sym (ap causes_in sent ∙ causes-from (node_frontier sys.flow p f) (sent_by sys p (events_at sys.flow p h)) (sent-one sys p (events_at sys.flow p h))))
-              (c.sent.here b base (causes_in (sent_by sys p (events_at sys.flow p h))) (causes-of b _ (sent-domain sys h p a)) w (t.sent k));
+              (c.sent.here b base (causes_in (sent_by sys p (events_at sys.flow p h))) (causes-of b _ (sent-domain sys h p a)) w (t.sent o k));
           counted = λ k. subst (λ ms. IsSentTally base ms (counted_of new p)) (sym sent)
               (c.counted.here b base (sent_by sys p (events_at sys.flow p h)) (sent-domain sys h p a) w (t.counted k));
         }

@@ -33,7 +33,7 @@ sent_kept old p i y epoch count b e l is test none = changed_at [] (IsSentMore e
 -- ---- on each out-edge
 
 -- how often an edge is among these
-abbrev how_often : List ℕ → ℕ → ℕ
+abbrev pub how_often : List ℕ → ℕ → ℕ
 how_often edges e = how_many (λ d. d == e) edges
 
 -- the stamps were added once for each of the edges so far
@@ -128,7 +128,7 @@ out_edge flow p edges i e es l is =
     subst P (sym is) (each-at P edges i e l (subst (AllByRecursion P) (sym es) (out_edges-from P flow p (λ d m r. m))))
 
 -- each edge is once among the out-edges of its sender
-once : (flow : Dataflow) (p e : ℕ) → e < length flow.edges → how_often (out_edges flow p) e ≡ cond (sender flow e == p) 1 0
+pub once : (flow : Dataflow) (p e : ℕ) → e < length flow.edges → how_often (out_edges flow p) e ≡ cond (sender flow e == p) 1 0
 unfolding out_edges sender
 once flow p e l = once-from 0 e e flow.edges p (record { name = []; sender = length flow.nodes; receiver = length flow.nodes }) (omega arith) l
 

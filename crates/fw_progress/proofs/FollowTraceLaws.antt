@@ -1,5 +1,5 @@
 -- Traces that follow events.
-use Rattle.std.proofs.Common.{◌≡◌, ◌≢◌, ℕ, zero, suc, ◌+◌, ◌<◌, Bool, true, false, ◌==◌, cond, List, [], ◌∷◌, ◌++◌, length, get_or, map, refl, sym, ap, subst, ◌∙◌, inl, inr, arith}
+use Rattle.std.proofs.Common.{◌≡◌, ◌≢◌, ℕ, suc, ◌<◌, true, false, ◌==◌, cond, List, [], ◌∷◌, ◌++◌, length, get_or, map, refl, sym, ap, subst, ◌∙◌, inl, inr, arith}
 use Rattle.std.specs.List.{AllByRecursion, Contains, flat_map}
 use Rattle.std.proofs.lemmas.Bool.{cases_eq, eq-eqb, eqb-true, false_from_ne_true}
 use Rattle.std.proofs.lemmas.Grind.{flat_map-append}
@@ -21,7 +21,6 @@ use Rattle.fw_model.proofs.LocalityLaws.{sends-causes}
 use Rattle.fw_model.proofs.ThinnedLaws.{each-contained}
 use Rattle.fw_progress.specs.declared.sent_tally.SentTally.{SentTally}
 use Rattle.fw_progress.specs.declared.traces.Traces.{Traces}
-use Rattle.fw_progress.specs.History.{stamps_sent}
 use Rattle.fw_progress.specs.Progress.{ChangesAt}
 use Rattle.fw_model.specs.EventStamps.{causes_in}
 use Rattle.fw_progress.specs.SentTally.{IsSentTally, CountsMore}
@@ -94,7 +93,7 @@ tells-follow flow v sent old new tells sys h e is p base t =
       delivered = λ d l r. subst (λ ss. IsThinned base ss (delivered_on new d)) (sym (map-append (λ (m : Message). m.at) (message_on d v) (delivered_messages h d)))
           (told.delivered d base (map (λ (m : Message). m.at) (delivered_messages h d)) (t.delivered d l r));
       notified = told.notified p base (flat_map (stamp_of_notice p) h) t.notified;
-      sent = λ k. sends_after told p k (t.sent k);
+      sent = λ o k. sends_after told p k (t.sent o k);
       counted = λ k. counts_after told p k (t.counted k);
     }
   where
@@ -200,7 +199,7 @@ pub no-trace : (sys : System) (p : ℕ) (base : Frontier) (traces : Traces) → 
 no-trace sys p base traces d n s c = record {
   delivered = λ x l r. none (delivered_on traces x) (all-alike [] traces.delivered.items d x);
   notified = none (notified_of traces p) (all-alike [] traces.notified.items n p);
-  sent = λ k. none (sent_at traces p) (all-alike [] traces.sent.items s p);
+  sent = λ o k. none (sent_at traces p) (all-alike [] traces.sent.items s p);
   counted = λ k. subst (IsSentTally base []) (sym (all-alike no_tally traces.counted.items c p)) (λ f w. refl);
 }
   where

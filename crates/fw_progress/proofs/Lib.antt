@@ -16,5 +16,10 @@ pub mod SentTallyLaws
 pub mod FollowTraceLaws
 pub mod CutTraceLaws
 pub mod CoverLaws
+pub mod NumberLaws
+pub mod OfferLaws
+pub mod SentCoverLaws
+pub mod StampsLaws
+pub mod RestoreLaws
 pub mod LeapLaws
 pub mod IntoLaws

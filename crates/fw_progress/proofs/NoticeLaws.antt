@@ -1,15 +1,23 @@
 -- Whether a node may be notified, by counts and complete frontiers.
-use Rattle.std.proofs.Common.{◌↔◌, ◌≡◌, ℕ, ◌+◌, ◌<◌, ◌≤◌, Bool, true, false, ◌&&◌, ◌||◌, nat_lt, cond, List, [], ◌∷◌, length, get_or, take, Some, unwrap_or, refl, sym, ap, ◌∙◌, inl, inr, arith}
+use Rattle.std.proofs.Common.{◌↔◌, ◌≡◌, ℕ, ◌+◌, ◌<◌, ◌≤◌, Bool, true, false, not, ◌&&◌, ◌||◌, nat_lt, cond, find, List, [], ◌∷◌, length, get_or, take, Option, Some, None, unwrap_or, refl, sym, ap, subst, ◌∙◌, inl, inr, arith}
+use Rattle.std.specs.Prelude.{IfSome}
 use Rattle.std.specs.List.{AllByRecursion, list_all, list_any}
+use Rattle.std.specs.declared.cmp.Ordering.{Ordering}
+use Rattle.std.specs.declared.cmp.Ordering.TheVariants.{Less, Equal, Greater}
+use Rattle.std.specs.List.Sorted.{IsStrictlySortedBy}
+use Rattle.std.specs.Ordering.{is_gt, is_lt, ordering_reverse}
 use Rattle.std.specs.Map.{keys_of, lookup}
 use Rattle.std.specs.BTreeMap.{is_at}
 use Rattle.std.proofs.lemmas.Bool.{and_parts, and_from, both_ways, cases_Bool, cases_lt, false_from_ne_true, or_left, or_right}
+use Rattle.std.proofs.Math.Bool.{and-true}
 use Rattle.std.proofs.lemmas.Bool.Decides.{nat_tests}
 use Rattle.std.proofs.lemmas.List.{get_or_past, take_more}
-use Rattle.fw_time.specs.Stamp.{Stamp, lesser, in_domain, stamp_cmp}
+use Rattle.fw_time.specs.Stamp.{Stamp, leq, lesser, in_domain, stamp_cmp}
+use Rattle.fw_time.specs.declared.stamp.Bounds.{Bounds}
 use Rattle.fw_time.proofs.EachLaws.{each-at, each-of_all, all-of_each, each-weaker}
-use Rattle.fw_time.proofs.StampLaws.{same-is, same-refl}
+use Rattle.fw_time.proofs.StampLaws.{before-from_leq, same-is, same-refl}
 use Rattle.fw_frontier.specs.Front.{Front, inside, IsFrontOf}
+use Rattle.fw_frontier.proofs.InsideLaws.{inside-closed}
 use Rattle.fw_flow.specs.declared.event.Event.{Event}
 use Rattle.fw_flow.specs.Dataflow.{System, Dataflow, sender, receiver, in_edges, bounds_of, node_frontier}
 use Rattle.fw_flow.specs.Projection.{phi_by_count, table_count}
@@ -17,12 +25,14 @@ use Rattle.fw_flow.specs.WellFormed.{IsWellFormed}
 use Rattle.fw_flow.proofs.EdgeLaws.{in_edges-at, in_edges-from}
 use Rattle.fw_model.specs.History.{pending_messages, is_owed_notice, IsComplete, IsNotifiable}
 use Rattle.fw_model.specs.Machine.{family_of}
+use Rattle.fw_model.specs.Steps.{IsNextNotice}
+use Rattle.fw_model.proofs.CmpLaws.{not_greater, stamp_total}
 use Rattle.fw_model.proofs.DescentLaws.{past_edges-quiet}
 use Rattle.fw_model.proofs.ProgressLaws.{notifiable-by}
 use Rattle.fw_progress.specs.declared.counts.Counts.{Counts}
 use Rattle.fw_progress.specs.Counts.{pending_of, owed_of, sent_of, come_by, AreCounts}
 use Rattle.fw_progress.specs.History.{IsCountOf}
-use Rattle.fw_progress.specs.Notices.{CanNotify}
+use Rattle.fw_progress.specs.Notices.{has_come, CanNotify, IsFirstNotice, IsFirstOwed}
 use Rattle.fw_progress.specs.Tally.{times_in, has_one, IsPositive}
 use Rattle.fw_progress.proofs.HistoryLaws.{some-count, count-some, phi-is}
 use Rattle.fw_progress.proofs.TallyLaws.{is_eq-same, none-inside, inside-none}
@@ -112,6 +122,132 @@ can_notify-is sys h counts kept w a c done p l t d =
             ];
           }),
     )
+
+-- ---- the first one
+
+-- what holds of each listed stamp holds of one of which there is one
+each-counted : (P : Stamp → Type 0) (es : List (Stamp × ℕ)) → AllByRecursion P (keys_of es) → (s : Stamp) → has_one s es ≡ true → P s
+unfolding times_in
+each-counted P [] a s k = absurd (cc)
+each-counted P (e ∷ es) a s k = elim (cases_Bool (is_at (stamp_cmp s) e.0)) [
+  | inl i ↦ subst P (sym (same-is s e.0 (sym (is_eq-same s e.0) ∙ i))) a.0
+  | inr i ↦ each-counted P es a.1 s (sym (ap (λ b. nat_lt 0 (unwrap_or (cond b (Some e.1) (lookup (is_at (stamp_cmp s)) es)) 0)) i) ∙ k)
+]
+
+found-each : (P : Stamp → Type 0) (test : Stamp → Bool) (xs : List Stamp) (t : Stamp) → AllByRecursion P xs → find test xs ≡ Some t → P t
+found-each P test [] t a f = absurd (cc)
+found-each P test (x ∷ xs) t a f = elim (cases_Bool (test x)) [
+  | inl y ↦ let is : Some x ≡ Some t = sym (ap (λ b. cond b (Some x) (find test xs)) y) ∙ f in let e : x ≡ t = cc in subst P e a.0
+  | inr n ↦ found-each P test xs t a.1 (sym (ap (λ b. cond b (Some x) (find test xs)) n) ∙ f)
+]
+
+found-test : (test : Stamp → Bool) (xs : List Stamp) (t : Stamp) → find test xs ≡ Some t → test t ≡ true
+found-test test [] t f = absurd (cc)
+found-test test (x ∷ xs) t f = elim (cases_Bool (test x)) [
+  | inl y ↦ let is : Some x ≡ Some t = sym (ap (λ b. cond b (Some x) (find test xs)) y) ∙ f in let e : x ≡ t = cc in sym (ap test e) ∙ y
+  | inr n ↦ found-test test xs t (sym (ap (λ b. cond b (Some x) (find test xs)) n) ∙ f)
+]
+
+found-none : (test : Stamp → Bool) (xs : List Stamp) → find test xs ≡ None → AllByRecursion (λ s. test s ≡ false) xs
+found-none test [] f = tt
+found-none test (x ∷ xs) f = elim (cases_Bool (test x)) [
+  | inl y ↦ let is : Some x ≡ None = sym (ap (λ b. cond b (Some x) (find test xs)) y) ∙ f in absurd (cc)
+  | inr n ↦ (n, found-none test xs (sym (ap (λ b. cond b (Some x) (find test xs)) n) ∙ f))
+]
+
+not-after-itself : (s : Stamp) → is_gt (stamp_cmp s s) ≡ false
+not-after-itself s = false_from_ne_true (is_gt (stamp_cmp s s)) (λ g. both_ways (is_gt (stamp_cmp s s)) (not_greater stamp_total s s g) g)
+
+-- the first listed stamp that passes comes after no other that passes
+first-least : (test : Stamp → Bool) (es : List (Stamp × ℕ)) → IsStrictlySortedBy stamp_cmp (keys_of es) → (t : Stamp) → find test (keys_of es) ≡ Some t
+    → (s : Stamp) → has_one s es ≡ true → test s ≡ true → is_gt (stamp_cmp t s) ≡ false
+unfolding IsStrictlySortedBy times_in
+first-least test [] o t f s k i = absurd (cc)
+first-least test (e ∷ es) o t f s k i = elim (cases_Bool (test e.0)) [
+  | inl y ↦
+      let is : Some e.0 ≡ Some t = sym (ap (λ b. cond b (Some e.0) (find test (keys_of es))) y) ∙ f in
+      let at : e.0 ≡ t = cc in
+      let P : Stamp → Type 0 = λ u. is_gt (stamp_cmp e.0 u) ≡ false in
+      sym (ap (λ u. is_gt (stamp_cmp u s)) at)
+      ∙ each-counted P (e ∷ es) (not-after-itself e.0, each-weaker (λ u. stamp_cmp e.0 u ≡ Less) P (keys_of es) (λ u l. ap is_gt l) o.0) s k
+  | inr n ↦ elim (cases_Bool (is_at (stamp_cmp s) e.0)) [
+    | inl j ↦ absurd (both_ways (test e.0) n (sym (ap test (same-is s e.0 (sym (is_eq-same s e.0) ∙ j))) ∙ i))
+    | inr j ↦
+        first-least test es o.1 t (sym (ap (λ b. cond b (Some e.0) (find test (keys_of es))) n) ∙ f) s
+        (sym (ap (λ b. nat_lt 0 (unwrap_or (cond b (Some e.1) (lookup (is_at (stamp_cmp s)) es)) 0)) j) ∙ k) i
+  ]
+]
+
+is-less : (o : Ordering) → is_lt o ≡ true → o ≡ Less
+is-less Less k = refl
+is-less Equal k = absurd (cc)
+is-less Greater k = absurd (cc)
+
+-- a lesser stamp comes before
+lesser-before : (s t : Stamp) → lesser s t ≡ true → is_gt (stamp_cmp t s) ≡ true
+lesser-before s t l =
+    let both = and_parts (leq s t) (not (leq t s)) l in
+    let before : stamp_cmp s t ≡ Less = is-less (stamp_cmp s t) (before-from_leq s t both.0 (not-false (leq t s) both.1)) in
+    ap is_gt (stamp_total.antisymm t s ∙ ap ordering_reverse before)
+  where
+    not-false : (b : Bool) → not b ≡ true → b ≡ false
+    not-false true k = absurd (cc)
+    not-false false k = refl
+
+-- up to where all has come, at a stamp of the domain
+come-at : (b : Bounds) (f : Front) (test : Stamp → Bool) → IsFrontOf b f (λ t. in_domain b t && test t) → (t : Stamp) → in_domain b t ≡ true → inside f t ≡ test t
+come-at b f test n t d = sym (ap (λ c. c && inside f t) d) ∙ n.same t ∙ ap (λ c. c && test t) d
+
+pub all-front : (b : Bounds) (f : Front) → f ≡ [] → IsFrontOf b f (in_domain b)
+all-front b f e = subst (λ (x : Front). IsFrontOf b x (in_domain b)) (sym e) (record { canonical = tt; same = λ t. and-true (in_domain b t) })
+
+-- the first stamp that is owed and up to which all has come is of the domain
+pub first-domain : (flow : Dataflow) (counts : Counts) (kept : List Front) → AreCounts flow counts → (p : ℕ) → p < length flow.nodes → (first : Option Stamp) → IsFirstOwed flow counts kept p first
+    → IfSome first (λ t. in_domain (bounds_of flow p) t ≡ true)
+first-domain flow counts kept a p l None o = tt
+first-domain flow counts kept a p l (Some t) o =
+    found-each (λ s. in_domain (bounds_of flow p) s ≡ true) (inside o.come) (keys_of (owed_of counts p)) t (a.owed p l).of_domain (sym o.is_first)
+
+pub first_notice-is : (sys : System) (h : List Event) (counts : Counts) (kept : List Front) → IsWellFormed sys.flow → AreCounts sys.flow counts → IsCountOf sys h counts → IsComplete sys h (family_of sys.flow kept)
+    → (p : ℕ) → p < length sys.flow.nodes → (first : Option Stamp) → IsFirstOwed sys.flow counts kept p first → IsFirstNotice sys h p first
+first_notice-is sys h counts kept w a c done p l first o = by first o.is_first
+  where
+    -- what may be notified is owed, and all has come up to it
+    may : (t : Stamp) → IsNotifiable sys h p t → (has_one t (owed_of counts p) ≡ true) × (inside o.come t ≡ true)
+    may t n =
+        let owes = c.owed p l t ∙ n.is_owed in
+        let d = each-counted (λ s. in_domain (bounds_of sys.flow p) s ≡ true) (owed_of counts p) (a.owed p l).of_domain t owes in
+        let can = (can_notify-is sys h counts kept w a c done p l t d).0 n in (
+          owes,
+          come-at (bounds_of sys.flow p) o.come (has_come sys.flow counts kept p) o.all_come t d ∙ can.comes,
+        )
+
+    by : (r : Option Stamp) → r ≡ find (inside o.come) (keys_of (owed_of counts p)) → IsFirstNotice sys h p r
+    by None e = λ t n.
+        let k = may t n in
+        both_ways (inside o.come t) (each-counted (λ s. inside o.come s ≡ false) (owed_of counts p) (found-none (inside o.come) (keys_of (owed_of counts p)) (sym e)) t k.0) k.1
+    by (Some t) e =
+        let owed = owed_of counts p in
+        let test : Stamp → Bool = inside o.come in
+        let d = found-each (λ s. in_domain (bounds_of sys.flow p) s ≡ true) test (keys_of owed) t (a.owed p l).of_domain (sym e) in
+        let here = found-test test (keys_of owed) t (sym e) in
+        let can : CanNotify sys.flow counts kept p t = record {
+          is_owed = found-each (λ s. has_one s owed ≡ true) test (keys_of owed) t (keys-have owed (a.owed p l).positive) (sym e);
+          none_lesser = none-listed (λ s. lesser s t) (keys_of owed) (each-weaker (λ s. has_one s owed ≡ true) (λ s. lesser s t ≡ false) (keys_of owed)
+              (λ s j. false_from_ne_true (lesser s t) (λ i.
+              both_ways (is_gt (stamp_cmp t s)) (first-least test owed o.in_order t (sym e) s j (inside-closed o.come s t (and_parts (leq s t) (not (leq t s)) i).0 here)) (lesser-before s t i)))
+              (keys-have owed (a.owed p l).positive));
+          comes = sym (come-at (bounds_of sys.flow p) o.come (has_come sys.flow counts kept p) o.all_come t d) ∙ here;
+        } in
+        record {
+          enabled = (can_notify-is sys h counts kept w a c done p l t d).1 can;
+          asked = tt;
+          least = λ other n q. let k = may other n in first-least test owed o.in_order t (sym e) other k.0 k.1;
+        }
+
+-- one that may be notified is the next at the stamp that is asked for
+pub notice-asked : (sys : System) (h : List Event) (p : ℕ) (t : Stamp) → IsNotifiable sys h p t → IsNextNotice sys h p (Some t) t
+notice-asked sys h p t n = record { enabled = n; asked = refl; least = λ other k q. sym (ap (λ s. is_gt (stamp_cmp t s)) q) ∙ not-after-itself t }
 
 -- ---- what is read
 

@@ -1,5 +1,5 @@
 -- What the calls of progress keep.
-use Rattle.std.proofs.Common.{◌↔◌, ◌≡◌, map, ℕ, ◌<◌, Bool, true, false, nat_lt, List, [], ◌∷◌, length, get_or, refl, sym, ap, subst, ◌∙◌, inl, inr, arith, Result, Ok, Err}
+use Rattle.std.proofs.Common.{◌↔◌, ◌≡◌, map, ℕ, Option, ◌<◌, Bool, true, false, nat_lt, List, [], ◌∷◌, length, get_or, refl, sym, ap, subst, ◌∙◌, inl, inr, arith, Result, Ok, Err}
 use Rattle.std.specs.Prelude.{IfOk}
 use Rattle.std.specs.Result.{is_err}
 use Rattle.std.proofs.lemmas.Bool.{both_ways, cases_Bool, cases_eq, cases_lt, lt-ltb}
@@ -22,9 +22,9 @@ use Rattle.fw_progress.specs.Growths.{IsPut, IsRefreshed}
 use Rattle.fw_progress.specs.History.{IsCountOf, IsKept, StandsFor, Follows}
 use Rattle.fw_progress.specs.Progress.{Standing, IsOfFlow, CanSend, IsDelivered, IsNotified, IsInjected}
 use Rattle.fw_progress.specs.Tally.{IsTallyOf}
-use Rattle.fw_progress.specs.Notices.{CanNotify}
+use Rattle.fw_progress.specs.Notices.{CanNotify, IsFirstNotice, IsFirstOwed}
 use Rattle.fw_progress.specs.Start.{AreLargest}
-use Rattle.fw_progress.proofs.NoticeLaws.{can_notify-is}
+use Rattle.fw_progress.proofs.NoticeLaws.{first_notice-is, can_notify-is}
 use Rattle.fw_progress.proofs.StartLaws.{names-no_stamps}
 use Rattle.fw_progress.proofs.FollowLaws.{delivered-counts, notified-counts, injected-counts, kept-event}
 use Rattle.fw_progress.proofs.HistoryLaws.{kept-by, by-kept, kept-complete}
@@ -187,6 +187,12 @@ notify-read flow now w o sys h same s c p l t d =
     let is = can_notify-is sys h now.counts now.kept (subst W (sym same) w) (subst (λ f. AreCounts f now.counts) (sym same) o.counts) s.counts
     (subst (λ f. IsComplete sys h (family_of f now.kept)) (sym same) c) p (subst (λ f. p < length f.nodes) (sym same) l) t (subst (λ f. in_domain (bounds_of f p) t ≡ true) (sym same) d) in
     subst (λ f. IsNotifiable sys h p t ↔ CanNotify f now.counts now.kept p t) same is
+
+pub first-read : (flow : Dataflow) (now : Standing) → IsWellFormed flow → IsOfFlow flow now → (sys : System) (h : List Event) → sys.flow ≡ flow → StandsFor sys h now → IsComplete sys h (family_of flow now.kept)
+    → (p : ℕ) → p < length flow.nodes → (first : Option Stamp) → IsFirstOwed flow now.counts now.kept p first → IsFirstNotice sys h p first
+first-read flow now w o sys h same s c p l first is =
+    first_notice-is sys h now.counts now.kept (subst IsWellFormed (sym same) w) (subst (λ f. AreCounts f now.counts) (sym same) o.counts) s.counts
+    (subst (λ f. IsComplete sys h (family_of f now.kept)) (sym same) c) p (subst (λ f. p < length f.nodes) (sym same) l) first (subst (λ f. IsFirstOwed f now.counts now.kept p first) (sym same) is)
 
 -- ---- at first
 

@@ -6,7 +6,7 @@ use Rattle.std.specs.Map.{keys_of, lookup, set_value, remove_entry}
 use Rattle.std.specs.BTreeMap.{insert_entry, is_at}
 use Rattle.std.specs.declared.cmp.Ordering.{Ordering}
 use Rattle.std.specs.declared.cmp.Ordering.TheVariants.{Less, Equal, Greater}
-use Rattle.std.specs.Ordering.{is_eq, is_lt, match_ordering, nat_cmp, ordering_then}
+use Rattle.std.specs.Ordering.{is_eq, is_lt, match_ordering, nat_cmp, ordering_reverse, ordering_then}
 use Rattle.std.specs.Cmp.Lexicographic.{slice_cmp}
 use Rattle.std.specs.List.Sorted.{IsStrictlySortedBy}
 use Rattle.std.proofs.Math.Bool.{and_assoc}
@@ -23,7 +23,7 @@ use Rattle.fw_time.proofs.StampLaws.{leq-length, leq-trans, same-is, same-refl}
 use Rattle.fw_frontier.specs.Frontier.{Frontier}
 use Rattle.fw_frontier.specs.Front.{Front, inside, frontier_of, IsFrontOf}
 use Rattle.fw_flow.specs.Counting.{how_many}
-use Rattle.fw_model.proofs.CmpLaws.{stamp_cmp-equal}
+use Rattle.fw_model.proofs.CmpLaws.{stamp_cmp-equal, stamp_total}
 use Rattle.fw_progress.specs.Tally.{times_in, has_one, count_inside, IsPositive, IsTallyOf, HasOneMore, HasManyMore, HasOneLess, HasNoMore, HasEachMore, AreLowest}
 
 abbrev Entries : Type 0
@@ -399,3 +399,18 @@ none_more old at count z = record {
     two : (b : Bool) (n : ℕ) → n ≡ n + cond b count 0
     two true n = omega (arith, z)
     two false n = omega arith
+
+-- ---- a copy
+
+-- what holds of all keys holds of one in their midst
+key-among : (P : Stamp → Type 0) (es : Entries) (e : Stamp × ℕ) (rest : Entries) → AllByRecursion P (keys_of (es ++ e ∷ rest)) → P e.0
+key-among P [] e rest a = a.0
+key-among P (x ∷ es) e rest a = key-among P es e rest a.1
+
+-- a stamp that comes after all others is put last
+pub insert-last : (es : Entries) (e : Stamp × ℕ) (rest : Entries) → IsStrictlySortedBy stamp_cmp (keys_of (es ++ e ∷ rest)) → insert_entry stamp_cmp es e.0 e.1 ≡ es ++ e ∷ []
+unfolding IsStrictlySortedBy
+insert-last [] e rest o = refl
+insert-last (x ∷ es) e rest o =
+    let more : stamp_cmp e.0 x.0 ≡ Greater = stamp_total.antisymm e.0 x.0 ∙ ap ordering_reverse (key-among (λ y. stamp_cmp x.0 y ≡ Less) es e rest o.0) in
+    ap (λ c. match_ordering c ((e.0, e.1) ∷ x ∷ es) ((x.0, e.1) ∷ es) (x ∷ insert_entry stamp_cmp es e.0 e.1)) more ∙ ap (λ ys. x ∷ ys) (insert-last es e rest o.1)

@@ -42,7 +42,7 @@ has-passed test ss s c k =
 
 -- ---- one stamp more
 
-insert-each : (P : Stamp → Type 0) (ss : List Stamp) (at : Stamp) → P at → AllByRecursion P ss → AllByRecursion P (insert_key stamp_cmp ss at)
+pub insert-each : (P : Stamp → Type 0) (ss : List Stamp) (at : Stamp) → P at → AllByRecursion P ss → AllByRecursion P (insert_key stamp_cmp ss at)
 insert-each P [] at p a = (p, tt)
 insert-each P (s ∷ ss) at p a = by (stamp_cmp at s) (insert-each P ss at p a.1)
   where
@@ -51,7 +51,7 @@ insert-each P (s ∷ ss) at p a = by (stamp_cmp at s) (insert-each P ss at p a.1
     by Equal rest = a
     by Greater rest = (a.0, rest)
 
-each_of-insert : (P : Stamp → Type 0) (ss : List Stamp) (at : Stamp) → AllByRecursion P (insert_key stamp_cmp ss at) → P at × AllByRecursion P ss
+pub each_of-insert : (P : Stamp → Type 0) (ss : List Stamp) (at : Stamp) → AllByRecursion P (insert_key stamp_cmp ss at) → P at × AllByRecursion P ss
 each_of-insert P [] at a = (a.0, tt)
 each_of-insert P (s ∷ ss) at a = by (stamp_cmp at s) refl a (λ b. each_of-insert P ss at b)
   where
@@ -248,7 +248,7 @@ any-raised (t ∷ tops) at s = by (leq t at) refl (any-raised tops at s)
 -- ---- filters
 
 -- a front and its frontier pass the same stamps of a domain
-filter-domain : (bounds : Bounds) (f : Front) (ss : List Stamp) → AreOf bounds ss → filter (inside f) ss ≡ filter (frontier_of bounds f) ss
+pub filter-domain : (bounds : Bounds) (f : Front) (ss : List Stamp) → AreOf bounds ss → filter (inside f) ss ≡ filter (frontier_of bounds f) ss
 filter-domain bounds f [] d = refl
 filter-domain bounds f (s ∷ ss) d =
     ap (λ b. cond b (s ∷ filter (inside f) ss) (filter (inside f) ss)) (sym (outside-domain bounds f s d.0))

@@ -9,6 +9,7 @@ pub mod Notices
 pub mod Progress
 pub mod SentTally
 pub mod Settle
+pub mod StampData
 pub mod Start
 pub mod Tally
 pub mod Trace

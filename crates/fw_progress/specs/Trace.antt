@@ -4,13 +4,14 @@ use Rattle.std.specs.List.{AllByRecursion, flat_map}
 use Rattle.fw_time.specs.Stamp.{Stamp}
 use Rattle.fw_frontier.specs.Frontier.{Frontier, Within}
 use Rattle.fw_frontier.specs.Front.{Front}
+use Rattle.fw_flow.specs.declared.choice.Stamps.{Stamps}
 use Rattle.fw_flow.specs.declared.event.Event.{Event}
 use Rattle.fw_flow.specs.declared.event.Message.{Message}
-use Rattle.fw_flow.specs.Dataflow.{System, Dataflow, kind_of, policy_of, receiver, is_sequence_kind, node_frontier, HasEpochs}
-use Rattle.fw_flow.specs.NodeFunction.{sent_by}
+use Rattle.fw_flow.specs.Dataflow.{System, Dataflow, kind_of, policy_of, sender, receiver, is_sequence_kind, node_frontier, HasEpochs}
+use Rattle.fw_flow.specs.NodeFunction.{event_stamp, sent_by}
 use Rattle.fw_flow.specs.Projection.{events_at}
 use Rattle.fw_model.specs.Covers.{stamp_of_notice}
-use Rattle.fw_model.specs.EventStamps.{causes_in}
+use Rattle.fw_model.specs.EventStamps.{causes_in, AreStampsOf}
 use Rattle.fw_model.specs.Filtering.{AreFrontiers, kept_events}
 use Rattle.fw_model.specs.History.{delivered_messages, AreEventsInDomain, IsLegal}
 use Rattle.fw_model.specs.Thinned.{IsThinned}
@@ -58,13 +59,18 @@ pub record HaveLists (flow : Dataflow) (traces : Traces) : Type 0 where
 abbrev pub AreTraces : Dataflow → Traces → Type 0
 AreTraces flow traces = traces.refused ≡ false → HaveLists flow traces
 
+-- an edge leads from node p
+abbrev pub HasOutEdge : Dataflow → ℕ → Type 0
+HasOutEdge flow p = (e : ℕ) × (e < length flow.edges) × (sender flow e ≡ p)
+
 -- The traces of node p are those of its events in a history, thinned inside a base: where something was delivered on its in-edges,
--- of what it was notified, where its events sent something, and how many messages they sent.
+-- of what it was notified, where its events sent something, if an edge leads from it, and how many messages they sent.
 pub record IsTraceOf (sys : System) (h : List Event) (p : ℕ) (base : Frontier) (traces : Traces) : Type 0 where
   pub delivered : (d : ℕ) → d < length sys.flow.edges → receiver sys.flow d ≡ p
       → IsThinned base (map (λ (m : Message). m.at) (delivered_messages h d)) (delivered_on traces d)
   pub notified : IsThinned base (flat_map (stamp_of_notice p) h) (notified_of traces p)
-  pub sent : is_sequence_kind (kind_of sys.flow p) ≡ false → IsThinned base (causes_in (sent_by sys p (events_at sys.flow p h))) (sent_at traces p)
+  pub sent : HasOutEdge sys.flow p → is_sequence_kind (kind_of sys.flow p) ≡ false
+      → IsThinned base (causes_in (sent_by sys p (events_at sys.flow p h))) (sent_at traces p)
   pub counted : counts_sent sys.flow p ≡ true → IsSentTally base (sent_by sys p (events_at sys.flow p h)) (counted_of traces p)
 
 -- the traces of each node are so, thinned inside its base
@@ -101,6 +107,17 @@ pub record AreCutTo (flow : Dataflow) (p : ℕ) (f : Front) (old new : Traces) :
   pub here : (sys : System) (h : List Event) (keep : ℕ → Frontier) → sys.flow ≡ flow → HasEpochs sys → IsLegal sys h
       → AreFrontiers flow keep → keep p ≡ node_frontier flow p f → (base : Frontier) → Within base (node_frontier flow p f)
       → IsTraceOf sys h p base old → IsTraceOf sys (kept_events flow keep h) p base new
+  pub others : KeepsOthers flow p old new
+
+-- each event of node p is at a stamp inside
+abbrev pub AreEventsInside : Dataflow → List Event → ℕ → Frontier → Type 0
+AreEventsInside flow h p f = AllByRecursion (λ v. f (event_stamp v) ≡ true) (events_at flow p h)
+
+-- The traces of node p are those of each history for whose events these stamps stand, thinned inside a base that has all of them, and
+-- by which it sent so many messages.
+pub record AreRestoredTo (flow : Dataflow) (p : ℕ) (stamps : Stamps) (count : ℕ) (old new : Traces) : Type 0 where
+  pub here : (sys : System) (h : List Event) (base : Frontier) → sys.flow ≡ flow → AreStampsOf sys h p base stamps
+      → count ≡ length (sent_by sys p (events_at sys.flow p h)) → AreEventsInside sys.flow h p base → IsTraceOf sys h p base new
   pub others : KeepsOthers flow p old new
 
 -- ---- for the proofs

@@ -1,17 +1,18 @@
 //! What the traces of nodes cover.
-ghost use Rattle.std.specs.Prelude.{◌≡◌, ◌<◌, ℕ, true, List, length, IsTrue, IsErr, IfOk};
+ghost use Rattle.std.specs.Prelude.{◌≡◌, ◌<◌, ◌++◌, ℕ, true, List, length, option_to_list, IsTrue, IsErr, IfOk, OnOk};
 ghost use Rattle.fw_flow.specs.declared.event.Event.{Event};
-ghost use Rattle.fw_flow.specs.Dataflow.{System, receiver, node_frontier, HasEpochs};
+ghost use Rattle.fw_flow.specs.Dataflow.{System, sender, receiver, node_frontier, HasEpochs};
 ghost use Rattle.fw_flow.specs.Projection.{sent_count};
 ghost use Rattle.fw_model.specs.History.{IsLegal};
 ghost use Rattle.fw_progress.specs.Covers as spec;
-ghost use Rattle.fw_progress.specs.Trace.{AreTraces, IsTraceWithin, counts_sent};
+ghost use Rattle.fw_progress.specs.Trace.{AreTraces, HaveLists, IsTraceWithin, counts_sent};
 
 use crate::traces::Traces;
 use fw_flow::laws::flow_is_well_formed;
 use fw_flow::{EdgeId, Flow, NodeId};
 use fw_frontier::Front;
-use std::alloc::AllocError;
+use fw_time::Stamp;
+use std::alloc::{AllocError, Global};
 
 impl Traces {
     /// The cover of what was delivered on an edge inside a frontier of its receiver, which holds its base; `Front::all` is
@@ -46,6 +47,30 @@ impl Traces {
         self.notified[node.place() as usize].cover(f, &flow.domain(node))
     }
 
+    /// The cover of what was sent on an edge by the events of its sender inside a frontier, which holds its base;
+    /// `Front::all` is that of a sender that stays as it is. Of a sender that cannot send again it is what counts as
+    /// discarded. The error is want of memory, or that the number of what a sequence sent would not fit its stamps.
+    pub fn sent_cover(
+        &self,
+        alloc: Global,
+        flow: &Flow,
+        edge: EdgeId,
+        f: &Front,
+    ) -> Result<Front, AllocError>
+        requires traces { AreTraces flow.now self.now }
+        requires there { edge < length flow.now.edges }
+        ensures cover { (sys : System) (h : List Event) → sys.flow ≡ flow.now → HasEpochs sys → IsLegal sys h
+            → IsTraceWithin sys h (sender flow.now edge) f.now self.now → IfOk result (spec.CoversSent sys h edge f.now) }
+        ensures stays { IsTrue self.now.refused → IsErr result }
+    {
+        flow_is_well_formed(flow);
+        if self.refused {
+            return Err(AllocError);
+        }
+        let sent = self.sent_inside(alloc, flow, flow.src(edge), f)?;
+        Front::cover_of(alloc, &sent, &flow.domain(flow.dst(edge)))
+    }
+
     /// How many messages a node sent by its events inside a frontier, which holds its base. It is counted where the node takes
     /// checkpoints, and of a sequence; of other nodes the answer has no use. The error is that the number would not fit 64
     /// bits.
@@ -63,4 +88,78 @@ impl Traces {
         }
         self.counted[node.place() as usize].count(f)
     }
+
+    /// Stamps that stand for those at which a node sends by its events inside a frontier: of a sequence the last one. The
+    /// error is want of memory, or that the number of what a sequence sent would not fit its stamps.
+    fn sent_inside(
+        &self,
+        alloc: Global,
+        flow: &Flow,
+        node: NodeId,
+        f: &Front,
+    ) -> Result<Vec<Stamp>, AllocError>
+        requires lists { HaveLists flow.now self.now }
+        requires there { node < length flow.now.nodes }
+        ensures { IfOk result (λ sent. sent.items ≡ spec.sent_inside flow.now self.now node f.now) }
+    {
+        let place = node.place() as usize;
+        if flow.kind(node).is_sequence() {
+            last_number(alloc, self.counted[place].count(f)?)
+        } else {
+            send_stamps(alloc, flow, node, &self.sent[place].stamps_inside(f)?)
+        }
+    }
+}
+
+/// The last of so many numbers, if there is one. The error is want of memory, or that it would not fit a stamp.
+pub(crate) fn last_number(alloc: Global, count: u64) -> Result<Vec<Stamp>, AllocError>
+    ensures { IfOk result (λ last. last.items ≡ spec.last_number count) }
+{
+    let mut last = Vec::new(alloc);
+    if count > 0 {
+        let number = u32::try_from(count - 1).map_err(|_| AllocError)?;
+        last.push(Stamp::new(&[number]))?;
+    }
+    Ok(last)
+}
+
+/// At which stamps a node that is no sequence sends by its events at these. The error is want of memory.
+fn send_stamps(
+    alloc: Global,
+    flow: &Flow,
+    node: NodeId,
+    stamps: &[Stamp],
+) -> Result<Vec<Stamp>, AllocError>
+    ensures { IfOk result (λ sent. sent.items ≡ spec.send_stamps flow.now node stamps.now) }
+{
+    let mut sent = Vec::new(alloc);
+    for stamp in stamps {
+        push_sent(&mut sent, flow, node, stamp)?;
+    }
+    Ok(sent)
+}
+
+/// Adds at which stamp an event of a node at a stamp sends, if it does. The error is want of memory.
+fn push_sent(
+    sent: &mut Vec<Stamp>,
+    flow: &Flow,
+    node: NodeId,
+    stamp: &Stamp,
+) -> Result<(), AllocError>
+    ensures { OnOk result (sent.new.items ≡ sent.old.items ++ option_to_list (spec.sends_at flow.now node stamp.now)) }
+{
+    if let Some(at) = sends_at(flow, node, stamp) {
+        sent.push(at)?;
+    }
+    Ok(())
+}
+
+/// At which stamp an event of a node at a stamp sends; none where it sends nothing, as at a stamp that is not of its domain.
+pub(crate) fn sends_at(flow: &Flow, node: NodeId, at: &Stamp) -> Option<Stamp>
+    ensures { result ≡ spec.sends_at flow.now node at.now }
+{
+    if !at.in_domain(&flow.domain(node)) {
+        return None;
+    }
+    flow.send_stamp(node, at)
 }

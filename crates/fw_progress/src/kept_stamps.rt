@@ -6,6 +6,7 @@ ghost use Rattle.fw_time.specs.Stamp.{lesser, leq, stamp_cmp};
 ghost use Rattle.fw_frontier.specs.Frontier.{Frontier, Within, cover};
 ghost use Rattle.fw_frontier.specs.Front.{inside, frontier_of, IsFrontOf};
 ghost use Rattle.fw_model.specs.Thinned.{IsThinned};
+ghost use Rattle.fw_progress.specs.StampData.{AreTheSame, HaveAdded};
 ghost use Rattle.fw_progress.specs.Traces.{has_greater_inside, thinned, AreOf, StandForOneMore, IsSettledTo, IsCutTo, IsThinnedTo};
 
 use fw_frontier::Front;
@@ -41,6 +42,15 @@ impl KeptStamps {
         }
     }
 
+    /// These stamps, in any order. The error is want of memory.
+    pub fn of(alloc: Global, stamps: &[Stamp]) -> Result<Self, AllocError>
+        ensures { IfOk result (AreTheSame stamps.now) }
+    {
+        let mut kept = KeptStamps::new(alloc);
+        kept.add_all(stamps)?;
+        Ok(kept)
+    }
+
     /// One stamp more. The error is want of memory, which leaves the stamps as they were.
     pub fn add(&mut self, at: &Stamp) -> Result<(), AllocError>
         ensures thinned { IfOk result (λ u. StandForOneMore at.now self.old self.new) }
@@ -48,6 +58,16 @@ impl KeptStamps {
         ensures err { OnErr result (self.new ≡ self.old) }
     {
         self.stamps.insert(at.copy())?;
+        Ok(())
+    }
+
+    /// These stamps more. The error is want of memory.
+    pub fn add_all(&mut self, stamps: &[Stamp]) -> Result<(), AllocError>
+        ensures { IfOk result (λ u. HaveAdded stamps.now self.old self.new) }
+    {
+        for stamp in stamps {
+            self.add(stamp)?;
+        }
         Ok(())
     }
 
@@ -93,6 +113,17 @@ impl KeptStamps {
     {
         let stamps = self.stamps_inside(f)?;
         Front::cover_of(self.alloc, &stamps, bounds)
+    }
+
+    /// The stamps, in ascending order. The error is want of memory.
+    pub fn stamps(&self) -> Result<Vec<Stamp>, AllocError>
+        ensures { IfOk result (λ stamps. stamps.items ≡ self.now) }
+    {
+        let mut stamps = Vec::new(self.alloc);
+        for stamp in &self.stamps {
+            stamps.push(stamp.copy())?;
+        }
+        Ok(stamps)
     }
 
     /// The stamps inside a frontier, in ascending order. The error is want of memory.

@@ -1,17 +1,21 @@
 //! Progress, kept from event to event.
-ghost use Rattle.std.specs.Prelude.{◌≡◌, ◌<◌, ◌≤◌, ◌+◌, ◌↔◌, ℕ, List, map, [], ◌∷◌, length, true, false, IsTrue, IsErr, IfOk, IfSome};
+ghost use Rattle.std.specs.Prelude.{◌≡◌, ◌<◌, ◌≤◌, ◌+◌, ◌↔◌, ℕ, List, map, [], ◌∷◌, length, true, false, slice_set, IsTrue, IsErr, IfOk, IfSome};
 ghost use Rattle.fw_time.specs.Stamp.{in_domain};
+ghost use Rattle.fw_frontier.specs.Front.{IsCanonical};
 ghost use Rattle.fw_flow.specs.declared.event.Event.{Event};
 ghost use Rattle.fw_flow.specs.declared.event.Event.TheVariants as events;
 ghost use Rattle.fw_flow.specs.declared.event.Message.{Message};
 ghost use Rattle.fw_flow.specs.Dataflow.{System, receiver, bounds_of, node_ids, system_of, HasEpochs};
 ghost use Rattle.fw_model.specs.History.{IsComplete, IsLegal, IsNotifiable};
 ghost use Rattle.fw_model.specs.Machine.{front_of, family_of, no_stamps, AreCanonical};
-ghost use Rattle.fw_progress.specs.Counts.{AreCounts};
+ghost use Rattle.fw_model.specs.Steps.{IsNextNotice};
+ghost use Rattle.fw_progress.specs.Counts.{owed_of, AreCounts};
 ghost use Rattle.fw_progress.specs.Cut.{events_left, AreTallies, ArePendingAfter, AreTablesAfter};
 ghost use Rattle.fw_progress.specs.Growths.{AreGrowths, out_degrees, IsPut};
 ghost use Rattle.fw_progress.specs.History.{IsCountOf, StandsFor, Follows, IsFresh};
-ghost use Rattle.fw_progress.specs.Settle.{IsSettledBy};
+ghost use Rattle.fw_progress.specs.Notices.{IsFirstNotice};
+ghost use Rattle.fw_progress.specs.Settle as settling;
+ghost use Rattle.fw_progress.specs.Settle.{IsSettledBy, IsGrownAt};
 ghost use Rattle.fw_model.specs.Machine.{Machine, SerialEvent, events as machine_events};
 ghost use Rattle.fw_progress.specs.Progress.{Standing, IsProgressOf, AreFrontsOf, CanSend, IsDelivered, IsNotified, IsInjected};
 
@@ -19,9 +23,9 @@ use crate::counts::Counts;
 use crate::cut::cut_counts;
 use crate::events;
 use crate::growth::Growths;
-use crate::notices::may_notify;
+use crate::notices::{first_notice, may_notify};
 use crate::refresh::refresh;
-use crate::settle::{any_has_more, grown};
+use crate::settle::{any_has_more, grown, grown_at, has_more};
 use crate::start::{largest, no_stamps_each, none};
 use crate::tally::Tally;
 use crate::worklist::Worklist;
@@ -114,6 +118,7 @@ impl Progress {
         ensures none_waits { IfOk result (λ u. self.new.work ≡ []) }
         ensures complete { (sys : System) (h : List Event) → sys.flow ≡ flow.now → IsCountOf sys h counts
             → IfOk result (λ u. StandsFor sys h self.new × IsComplete sys h (family_of flow.now self.new.kept)) }
+        ensures ready { IfOk result (λ u. self.new.refused ≡ false) }
         ensures refused { IsErr result → IsTrue self.new.refused }
         ensures stays { IsTrue self.old.refused → IsErr result }
     {
@@ -155,6 +160,7 @@ impl Progress {
             → AreTablesAfter sys (events_left sys choice.now h) sent.items
             → IfOk result (λ u. StandsFor sys (events_left sys choice.now h) self.new
             × IsComplete sys (events_left sys choice.now h) (family_of flow.now self.new.kept)) }
+        ensures ready { IfOk result (λ u. self.new.refused ≡ false) }
         ensures refused { IsErr result → IsTrue self.new.refused }
         ensures stays { IsTrue self.old.refused → IsErr result }
     {
@@ -191,6 +197,7 @@ impl Progress {
         ensures kept { self.new.kept ≡ self.old.kept }
         ensures follows { (m : Message) → m.at ≡ at.now
             → IfOk result (λ u. Follows flow.now (events.Deliver edge m) sent.now self.old self.new) }
+        ensures ready { IfOk result (λ u. self.new.refused ≡ false) }
         ensures refused { IsErr result → IsTrue self.new.refused }
         ensures stays { IsTrue self.old.refused → IsErr result }
     {
@@ -221,6 +228,7 @@ impl Progress {
         ensures settled { self.new.settled ≡ self.old.settled }
         ensures kept { self.new.kept ≡ self.old.kept }
         ensures follows { IfOk result (λ u. Follows flow.now (events.Notify node at.now) sent.now self.old self.new) }
+        ensures ready { IfOk result (λ u. self.new.refused ≡ false) }
         ensures refused { IsErr result → IsTrue self.new.refused }
         ensures stays { IsTrue self.old.refused → IsErr result }
     {
@@ -246,6 +254,7 @@ impl Progress {
         ensures kept { self.new.kept ≡ self.old.kept }
         ensures follows { (epoch : ℕ)
             → IfOk result (λ u. Follows flow.now (events.Inject node epoch) sent.now self.old self.new) }
+        ensures ready { IfOk result (λ u. self.new.refused ≡ false) }
         ensures refused { IsErr result → IsTrue self.new.refused }
         ensures stays { IsTrue self.old.refused → IsErr result }
     {
@@ -334,6 +343,8 @@ impl Progress {
         ensures fresh { IfOk result (λ can. IsFresh flow.now self.old self.new) }
         ensures exact { (sys : System) (h : List Event) → sys.flow ≡ flow.now → StandsFor sys h self.old
             → IfOk result (λ can. IsTrue can ↔ IsNotifiable sys h node at.now) }
+        ensures next { (sys : System) (h : List Event) → sys.flow ≡ flow.now → StandsFor sys h self.old
+            → IfOk result (λ can. IsTrue can ↔ IsNextNotice sys h node (Some at.now) at.now) }
         ensures refused { IsErr result → IsTrue self.new.refused }
         ensures stays { IsTrue self.old.refused → IsErr result }
     {
@@ -342,6 +353,32 @@ impl Progress {
         let can = may_notify(alloc, flow, &self.counts, &self.kept, node, at);
         self.refused = can.is_err();
         can
+    }
+
+    /// The first stamp, by the coordinates from the outermost on, of which the node may be notified; `None` exactly where it may
+    /// be notified of none. The kept frontiers are brought up first; how they grew is not told, and the steps of it are not
+    /// counted. The error is want of memory.
+    pub fn first_notice(
+        &mut self,
+        alloc: Global,
+        flow: &Flow,
+        node: NodeId,
+    ) -> Result<Option<Stamp>, AllocError>
+        requires progress { IsProgressOf flow.now self.old }
+        requires there { node < length flow.now.nodes }
+        ensures progress { IsProgressOf flow.now self.new }
+        ensures fresh { IfOk result (λ first. IsFresh flow.now self.old self.new) }
+        ensures of_domain { IfOk result (λ first. IfSome first (λ t. in_domain (bounds_of flow.now node) t ≡ true)) }
+        ensures exact { (sys : System) (h : List Event) → sys.flow ≡ flow.now → StandsFor sys h self.old
+            → IfOk result (IsFirstNotice sys h node) }
+        ensures refused { IsErr result → IsTrue self.new.refused }
+        ensures stays { IsTrue self.old.refused → IsErr result }
+    {
+        flow_is_well_formed(flow);
+        self.freshen(alloc, flow)?;
+        let first = first_notice(alloc, flow, &self.counts, &self.kept, node);
+        self.refused = first.is_err();
+        first
     }
 
     /// What is settled once the nodes that are not failed settle what is complete; `None` exactly where none of them has more
@@ -423,6 +460,50 @@ impl Progress {
         ensures { result.now ≡ self.now.kept }
     {
         &self.kept
+    }
+
+    /// The stamps of which a node is owed a notification. It takes no memory.
+    pub fn owed(&self, node: NodeId) -> &Tally
+        requires { node < length self.now.counts.owed.items }
+        ensures { result.now ≡ owed_of self.now.counts node }
+    {
+        &self.counts.owed[node.place() as usize]
+    }
+
+    /// Whether a node keeps more than it settled, as it is now. It takes no memory.
+    pub fn has_grown(&self, node: NodeId) -> bool
+        requires kept { node < length self.now.kept }
+        requires settled { node < length self.now.settled }
+        ensures { result ≡ settling.has_more (front_of self.now.kept node) (front_of self.now.settled node) }
+    {
+        let place = node.place() as usize;
+        has_more(&self.kept[place], &self.settled[place])
+    }
+
+    /// What a node settles once it settles its kept frontier, as it is now; `None` exactly where that has no more than is settled.
+    /// It settles nothing (`settle_at`). The error is want of memory, now or earlier; it leaves no mark.
+    pub fn grown_at(&self, flow: &Flow, node: NodeId) -> Result<Option<Front>, AllocError>
+        requires progress { IsProgressOf flow.now self.now }
+        requires there { node < length flow.now.nodes }
+        ensures grown { IfOk result (IsGrownAt flow.now self.now.settled self.now.kept node) }
+        ensures stays { IsTrue self.now.refused → IsErr result }
+    {
+        if self.refused {
+            return Err(AllocError);
+        }
+        grown_at(flow, &self.settled, &self.kept, node)
+    }
+
+    /// This frontier of a node is settled from now on. It takes no memory.
+    pub fn settle_at(&mut self, flow: &Flow, node: NodeId, front: Front)
+        requires progress { IsProgressOf flow.now self.old }
+        requires there { node < length self.old.settled }
+        requires front { IsCanonical (bounds_of flow.now node) front }
+        ensures progress { IsProgressOf flow.now self.new }
+        ensures settled { self.new ≡ record self.old { settled = slice_set self.old.settled node front } }
+    {
+        let _ = flow;
+        self.settled[node.place() as usize] = front;
     }
 
     /// These frontiers are settled from now on. It takes no memory.

@@ -1,14 +1,15 @@
 //! What becomes settled.
 ghost use Rattle.std.specs.Prelude.{◌≡◌, ◌<◌, ◌↔◌, ◌&&◌, not, false, length, slice_index_or, IsTrue, IfOk};
-ghost use Rattle.fw_model.specs.Machine.{front_of};
+ghost use Rattle.fw_model.specs.Machine.{front_of, AreCanonical};
 ghost use Rattle.fw_progress.specs.Settle as spec;
-ghost use Rattle.fw_progress.specs.Settle.{HasMore, AreGrown, IsJoined};
+ghost use Rattle.fw_progress.specs.Settle.{HasMore, AreGrown, IsGrownAt, IsJoined};
 
+use fw_flow::{Flow, NodeId};
 use fw_frontier::Front;
 use std::alloc::{AllocError, Global};
 
 /// Whether a frontier has a stamp that another lacks.
-fn has_more(front: &Front, other: &Front) -> bool
+pub(crate) fn has_more(front: &Front, other: &Front) -> bool
     ensures { result ≡ spec.has_more front.now other.now }
 {
     other.outside().iter().any(|stamp| front.contains(stamp))
@@ -66,4 +67,28 @@ pub(crate) fn grown(
         both.push(joined(failed[place], &settled[place], &kept[place])?)?;
     }
     Ok(both)
+}
+
+/// What a node settles of what it keeps; none where that is no more than it settled. The error is want of memory.
+pub(crate) fn grown_at(
+    flow: &Flow,
+    settled: &[Front],
+    kept: &[Front],
+    node: NodeId,
+) -> Result<Option<Front>, AllocError>
+    requires settled_there { node < length settled.now }
+    requires kept_there { node < length kept.now }
+    requires settled { AreCanonical flow.now settled.now }
+    requires kept { AreCanonical flow.now kept.now }
+    ensures { IfOk result (IsGrownAt flow.now settled.now kept.now node) }
+{
+    let _ = flow;
+    let place = node.place() as usize;
+    let before = &settled[place];
+    let now = &kept[place];
+    if !has_more(now, before) {
+        return Ok(None);
+    }
+    let both = before.join(now)?;
+    Ok(Some(both))
 }

@@ -1,8 +1,9 @@
 //! How many there are of each stamp.
-ghost use Rattle.std.specs.Prelude.{◌≡◌, [], not, drop, filter, IsTrue, IfOk, OnErr};
+ghost use Rattle.std.specs.Prelude.{◌≡◌, ◌↔◌, [], not, drop, filter, find, IsTrue, IfOk, OnErr};
 ghost use Rattle.std.specs.List.{AllByRecursion, list_any};
+ghost use Rattle.std.specs.List.Sorted.{IsStrictlySortedBy};
 ghost use Rattle.std.specs.Map.{keys_of};
-ghost use Rattle.fw_time.specs.Stamp.{lesser};
+ghost use Rattle.fw_time.specs.Stamp.{lesser, stamp_cmp};
 ghost use Rattle.fw_time.specs.declared.stamp.Bounds.{Bounds as Domain};
 ghost use Rattle.fw_frontier.specs.Front.{inside, frontier_of, IsFrontOf};
 ghost use Rattle.fw_progress.specs.Tally.{times_in, count_inside, IsTallyOf, HasOneMore, HasManyMore, HasOneLess, HasNoMore, AreLowest};
@@ -104,6 +105,30 @@ impl Tally {
         clear_one(&mut self.counts, at);
     }
 
+    /// Whether there is none of any stamp.
+    pub fn is_empty(&self) -> bool
+        ensures { IsTrue result ↔ (self.now ≡ []) }
+    {
+        self.counts.is_empty()
+    }
+
+    /// The same once more. The error is want of memory.
+    pub fn copy(&self, alloc: Global) -> Result<Self, AllocError>
+        ensures { IfOk result (λ tally. tally ≡ self.now) }
+    {
+        Ok(Tally {
+            counts: copied(alloc, &self.counts)?,
+        })
+    }
+
+    /// The first of its stamps inside a frontier, by the coordinates from the outermost on.
+    pub fn first_inside(&self, f: &Front) -> Option<Stamp>
+        ensures first { result ≡ find (inside f.now) (keys_of self.now) }
+        ensures in_order { IsStrictlySortedBy stamp_cmp (keys_of self.now) }
+    {
+        first_inside(&self.counts, f)
+    }
+
     /// Up to where there is none: the frontier that has these stamps outside. The error is want of memory.
     pub fn until(&self, alloc: Global) -> Result<Front, AllocError>
         ensures { (bounds : Domain) → IsTallyOf bounds self.now
@@ -186,6 +211,30 @@ fn clear_one(counts: &mut BTreeMap<Stamp, u64>, at: &Stamp)
     ensures { HasNoMore at.now counts.old.entries counts.new.entries }
 {
     counts.remove(at);
+}
+
+// The same counts once more.
+fn copied(alloc: Global, counts: &BTreeMap<Stamp, u64>) -> Result<BTreeMap<Stamp, u64>, AllocError>
+    ensures { IfOk result (λ copy. copy.entries ≡ counts.now.entries) }
+{
+    let mut copy = BTreeMap::new(alloc);
+    for (at, count) in counts.iter() {
+        copy.insert(at.copy(), *count)?;
+    }
+    Ok(copy)
+}
+
+// The first of the stamps inside a frontier.
+fn first_inside(counts: &BTreeMap<Stamp, u64>, f: &Front) -> Option<Stamp>
+    ensures first { result ≡ find (inside f.now) (keys_of counts.now.entries) }
+    ensures in_order { IsStrictlySortedBy stamp_cmp (keys_of counts.now.entries) }
+{
+    for stamp in counts.keys() {
+        if f.contains(stamp) {
+            return Some(stamp.copy());
+        }
+    }
+    None
 }
 
 // Up to where there is none.

@@ -30,7 +30,7 @@ pub struct Traces {
     pub delivered: Vec<KeptStamps>,
     /// For each node of which stamps it was notified.
     pub notified: Vec<KeptStamps>,
-    /// For each node but a sequence at which stamps events of it sent something.
+    /// For each node but a sequence at which stamps events of it sent something, if an edge leads from it.
     pub sent: Vec<KeptStamps>,
     /// For each node that takes checkpoints, and each sequence, how many messages it sent.
     pub counted: Vec<SentTally>,

@@ -2,11 +2,13 @@
 ghost use Rattle.std.specs.Prelude.{◌≡◌, ◌<◌, length, IfOk};
 ghost use Rattle.fw_progress.specs.Progress.{IsProgressOf};
 
-use crate::line::{NoAnswer, edge_of, node_of, part, stamp_of, stamps_of};
+use crate::anew;
+use crate::line::{edge_of, node_of};
 use fw_flow::{EdgeId, Flow, NodeId, Steps};
 use fw_frontier::Front;
 use fw_progress::{Growths, Progress, can_send};
 use fw_time::Stamp;
+use row_words::{NoAnswer, part, stamp_of, stamps_of};
 use std::alloc::Global;
 use std::marker::Brand;
 use std::sync::ledger::{Blank, Ledger};
@@ -42,6 +44,10 @@ pub fn answer(
         settle(alloc, flow, progress)
     } else if word == "epochs" {
         epochs(alloc, flow, progress, rest)
+    } else if word == "cut" {
+        anew::cut(alloc, flow, progress, rest)
+    } else if word == "rebuild" {
+        anew::rebuild(alloc, flow, progress, rest)
     } else {
         Err(NoAnswer::NotSpelled)
     }
@@ -237,7 +243,7 @@ fn kept(alloc: Global, flow: &Flow, progress: &Progress) -> Result<String, NoAns
 }
 
 /// A frontier of each node.
-fn each(alloc: Global, flow: &Flow, fronts: &[Front]) -> Result<String, NoAnswer> {
+pub fn each(alloc: Global, flow: &Flow, fronts: &[Front]) -> Result<String, NoAnswer> {
     let mut told = String::new(alloc);
     for (place, front) in fronts.iter().enumerate() {
         let Ok(place) = u32::try_from(place) else {
@@ -281,7 +287,7 @@ fn grows(
 }
 
 /// Of each node whether it is one of those named.
-fn failed(alloc: Global, flow: &Flow, names: &str) -> Result<Vec<bool>, NoAnswer>
+pub fn failed(alloc: Global, flow: &Flow, names: &str) -> Result<Vec<bool>, NoAnswer>
     ensures { IfOk result (λ failed. length failed.items ≡ length flow.now.nodes) }
 {
     let mut failed = Vec::new(alloc);
@@ -316,7 +322,7 @@ fn settle(alloc: Global, flow: &Flow, progress: &mut Progress) -> Result<String,
 }
 
 /// The same frontiers once more.
-fn copied(alloc: Global, fronts: &[Front]) -> Result<Vec<Front>, NoAnswer>
+pub fn copied(alloc: Global, fronts: &[Front]) -> Result<Vec<Front>, NoAnswer>
     ensures { IfOk result (λ copies. copies.items ≡ fronts.now) }
 {
     let mut copies = Vec::with_capacity(alloc, fronts.len())?;

@@ -1,9 +1,11 @@
 //! Rows of events of a flow: what progress keeps after them. The arguments name the files of rows, in order.
 #![tactic(auto)]
 
+mod anew;
 mod calls;
 mod line;
 mod row;
+mod stamps;
 mod traces;
 
 use crate::row::tell_rows;

@@ -4,13 +4,14 @@ ghost use Rattle.fw_progress.specs.Progress.{IsProgressOf};
 ghost use Rattle.fw_progress.specs.Trace.{AreTraces};
 
 use crate::calls::answer;
-use crate::line::{NoAnswer, node_of, part};
+use crate::line::node_of;
 use crate::traces;
 use fw_bag::Rec;
 use fw_flow::Flow;
 use fw_flow_text::read_flow;
 use fw_lines::Batches;
 use fw_progress::{Progress, Traces};
+use row_words::{NoAnswer, part};
 use std::alloc::{AllocError, Global};
 
 /// Tells the rows of a file.

@@ -2,10 +2,12 @@
 ghost use Rattle.std.specs.Prelude.{◌<◌, length};
 ghost use Rattle.fw_progress.specs.Trace.{AreTraces};
 
-use crate::line::{NoAnswer, edge_of, node_of, part, stamp_of, stamps_of};
+use crate::line::{edge_of, node_of};
+use crate::stamps;
 use fw_flow::{Flow, NodeId};
 use fw_frontier::Front;
 use fw_progress::Traces;
+use row_words::{NoAnswer, part, stamp_of, stamps_of};
 use std::alloc::Global;
 
 /// Makes the call that a line asks for, after the word `trace`, and gives what it answers.
@@ -33,13 +35,23 @@ pub fn answer(
         covers(alloc, flow, traces, rest)
     } else if word == "sent" {
         sent(alloc, flow, traces, rest)
+    } else if word == "cover" {
+        stamps::cover(alloc, flow, traces, rest)
+    } else if word == "offer" {
+        stamps::offer(alloc, flow, traces, rest)
+    } else if word == "entry" {
+        stamps::entry(alloc, flow, traces, rest)
+    } else if word == "restore" {
+        stamps::restore(alloc, flow, traces, rest)
+    } else if word == "thinned" {
+        stamps::thinned(alloc, rest)
     } else {
         Err(NoAnswer::NotSpelled)
     }
 }
 
 /// What stands before and after a colon.
-fn sides(text: &str) -> Result<(&str, &str), NoAnswer> {
+pub fn sides(text: &str) -> Result<(&str, &str), NoAnswer> {
     text.split_once(" :").ok_or(NoAnswer::NotSpelled)
 }
 
@@ -86,7 +98,7 @@ fn notify(alloc: Global, flow: &Flow, traces: &mut Traces, text: &str) -> Result
 }
 
 /// The frontier that has these stamps outside.
-fn front_of(alloc: Global, text: &str) -> Result<Front, NoAnswer> {
+pub fn front_of(alloc: Global, text: &str) -> Result<Front, NoAnswer> {
     let stamps = stamps_of(alloc, text)?;
     Ok(Front::until(alloc, &stamps)?)
 }
@@ -116,7 +128,7 @@ fn keep(alloc: Global, flow: &Flow, traces: &mut Traces, text: &str) -> Result<S
 }
 
 /// Adds a word of an answer.
-fn add(told: &mut String, word: &str) -> Result<(), NoAnswer> {
+pub fn add(told: &mut String, word: &str) -> Result<(), NoAnswer> {
     if !told.is_empty() {
         told.push_str(", ")?;
     }

@@ -6,6 +6,7 @@ use Rattle.fw_model.specs.Machine.{family_of}
 use Rattle.fw_progress.specs.History.{StandsFor}
 use Rattle.fw_progress.specs.Notices.{CanNotify}
 use Rattle.fw_progress.specs.Progress.{Standing, IsOfFlow}
+use Rattle.fw_progress.proofs.NoticeLaws.{notice-asked}
 use Rattle.fw_progress.proofs.ProgressLaws.{notify-read}
 use Rattle.fw_progress.proofs.progress.Progress.can_notify.Goals as goal
 
@@ -23,3 +24,7 @@ returns-clause-exact c = λ sys h e s.
     (λ can k.
     let k2 = subst (λ fs. IsTrue can ↔ CanNotify flow c.self.inside.counts fs c.args.node c.args.at.now) c.deref.ensures.value k in
     (λ i. is.1 (k2.0 i), λ n. k2.1 (is.0 n))) c.may_notify-can.ensures
+
+pub returns-clause-next : goal.returns-clause-next
+returns-clause-next c = λ sys h e s.
+    IfOk-weaker c.may_notify-can.result _ _ (λ can k. (λ i. notice-asked sys h c.args.node c.args.at.now (k.0 i), λ n. k.1 n.enabled)) (returns-clause-exact c sys h e s)

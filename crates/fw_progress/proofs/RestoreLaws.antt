@@ -1,0 +1,225 @@
+-- Data as a node's traces.
+use Rattle.std.proofs.Common.{◌≡◌, ◌≢◌, inl, inr, ℕ, suc, ◌+◌, ◌<◌, Bool, true, false, not, ◌==◌, nat_eq, cond, List, [], ◌∷◌, ◌++◌, length, get_or, take, map, refl, sym, ap, subst, ◌∙◌, arith}
+use Rattle.std.specs.List.{AllByRecursion, Contains, flat_map}
+use Rattle.std.specs.BTreeSet.{insert_key}
+use Rattle.std.proofs.lemmas.Bool.{cases_eq, eq-eqb, eqb-true, false_from_ne_true}
+use Rattle.std.proofs.lemmas.Grind.{flat_map-append}
+use Rattle.std.proofs.lemmas.List.{map-append, take_more}
+use Rattle.std.proofs.lemmas.List.Elements.{filter-append, Contains-append_left, Contains-append_right}
+use Rattle.fw_time.specs.Stamp.{Stamp, stamp_cmp}
+use Rattle.fw_time.proofs.EachLaws.{each-weaker, each-append}
+use Rattle.fw_frontier.specs.Frontier.{Frontier}
+use Rattle.fw_flow.specs.declared.choice.Counted.{Counted}
+use Rattle.fw_flow.specs.declared.choice.Stamps.{Stamps}
+use Rattle.fw_flow.specs.declared.event.Event.{Event}
+use Rattle.fw_flow.specs.declared.event.Message.{Message}
+use Rattle.fw_flow.specs.Dataflow.{System, Dataflow, kind_of, receiver, out_edges, is_sequence_kind}
+use Rattle.fw_flow.specs.NodeFunction.{event_stamp, sends, sent_by}
+use Rattle.fw_flow.specs.Projection.{events_at, all_inside, count_from}
+use Rattle.fw_flow.proofs.OutEdgeLaws.{out_edges-from}
+use Rattle.fw_model.specs.Covers.{stamp_of_notice}
+use Rattle.fw_model.specs.EventStamps.{causes_of, causes_in, AreStampsOf}
+use Rattle.fw_model.specs.History.{delivered_messages}
+use Rattle.fw_model.specs.Offers.{on_edge, stamps_on}
+use Rattle.fw_model.specs.Thinned.{IsBelowKept, IsThinned}
+use Rattle.fw_model.proofs.LocalityLaws.{sends-causes}
+use Rattle.fw_model.proofs.SequenceLaws.{one_inside}
+use Rattle.fw_model.proofs.ThinnedLaws.{each-contained}
+use Rattle.fw_progress.specs.declared.sent_tally.SentTally.{SentTally}
+use Rattle.fw_progress.specs.declared.traces.Traces.{Traces}
+use Rattle.fw_progress.specs.Progress.{ChangesAt}
+use Rattle.fw_progress.specs.SentTally.{IsSentTally}
+use Rattle.fw_progress.specs.Tally.{count_inside}
+use Rattle.fw_progress.specs.StampData.{AreTheSame, HaveAdded, TakeUp, AreDelivered, causes_on_first, AreTold}
+use Rattle.fw_progress.specs.Trace.{delivered_on, notified_of, sent_at, HasOutEdge, IsTraceOf, KeepsOthers, AreEventsInside, AreRestoredTo}
+use Rattle.fw_progress.specs.Traces.{ChangesInto}
+use Rattle.fw_progress.proofs.EventLaws.{how_often}
+use Rattle.fw_progress.proofs.OfferLaws.{once-out}
+use Rattle.fw_progress.proofs.TraceLaws.{contains-head, each-itself, insert-each, each_of-insert}
+
+abbrev Lists : Type 0
+Lists = List (List Stamp)
+
+-- ---- the same stamps
+
+append-none : {A : Type 0} (xs : List A) → xs ++ [] ≡ xs
+append-none [] = refl
+append-none (x ∷ xs) = ap (λ ys. x ∷ ys) (append-none xs)
+
+append-assoc : {A : Type 0} (xs ys zs : List A) → xs ++ (ys ++ zs) ≡ (xs ++ ys) ++ zs
+append-assoc [] ys zs = refl
+append-assoc (x ∷ xs) ys zs = ap (λ ts. x ∷ ts) (append-assoc xs ys zs)
+
+-- with no stamps more they are what they were
+pub added-none : (old : List Stamp) → HaveAdded [] old old
+added-none old all h = subst (λ ss. AreTheSame ss old) (sym (append-none all)) h
+
+-- with one more
+pub added-one : (s : Stamp) (old : List Stamp) → HaveAdded (s ∷ []) old (insert_key stamp_cmp old s)
+added-one s old all h =
+    let new = insert_key stamp_cmp old s in
+    let both = all ++ s ∷ [] in
+    let has = each_of-insert (Contains new) old s (each-itself new) in
+    record {
+      each = each-append (Contains new) all (s ∷ []) (each-weaker (Contains old) (Contains new) all (λ t c. each-contained (Contains new) t old c has.1) h.each) (has.0, tt);
+      among = insert-each (Contains both) old s (Contains-append_right all (s ∷ []) s (contains-head s []))
+          (each-weaker (Contains all) (Contains both) old (λ t c. Contains-append_left all (s ∷ []) t c) h.among);
+    }
+
+-- with some, and then with more
+pub added-more : (ss more : List Stamp) (a b c : List Stamp) → HaveAdded ss a b → HaveAdded more b c → HaveAdded (ss ++ more) a c
+added-more ss more a b c f g all h = subst (λ ts. AreTheSame ts c) (sym (append-assoc all ss more)) (g (all ++ ss) (f all h))
+
+-- those that come to none
+pub added-to_none : (ss new : List Stamp) → HaveAdded ss [] new → AreTheSame ss new
+added-to_none ss new f = f [] (record { each = tt; among = tt })
+
+-- in a loop
+pub added-next : (ss : List Stamp) (i : ℕ) (s : Stamp) (old mid new : List Stamp) → i < length ss → s ≡ get_or ss i s → HaveAdded (take i ss) old mid → new ≡ insert_key stamp_cmp mid s
+    → HaveAdded (take (i + 1) ss) old new
+added-next ss i s old mid new l is a e =
+    subst (λ ts. HaveAdded ts old new) (sym (take_more ss i s l ∙ ap (λ y. take i ss ++ y ∷ []) (sym is)))
+    (added-more (take i ss) (s ∷ []) old mid new a (subst (HaveAdded (s ∷ []) mid) (sym e) (added-one s mid)))
+
+-- stamps that are the same as thinned ones are thinned
+pub same-thinned : (base : Frontier) (all ss kept : List Stamp) → AreTheSame ss kept → IsThinned base all ss → IsThinned base all kept
+same-thinned base all ss kept same h = record {
+  among = each-weaker (Contains ss) (Contains all) kept (λ s c. each-contained (Contains all) s ss c h.among) same.among;
+  outside = each-weaker (λ t. base t ≡ false → Contains ss t) (λ t. base t ≡ false → Contains kept t) all (λ t f o. each-contained (Contains kept) t ss (f o) same.each) h.outside;
+  inside = each-weaker (λ t. base t ≡ true → IsBelowKept base ss t) (λ t. base t ≡ true → IsBelowKept base kept t) all
+      (λ t f i. let k = f i in record { above = k.above; is_kept = each-contained (Contains kept) k.above ss k.is_kept same.each; inside = k.inside; below = k.below }) h.inside;
+}
+
+-- ---- messages by their edges
+
+-- places that are not told apart are one
+pub equal-places : (x y : ℕ) (ne : Bool) → ne ≡ not (nat_eq x y) → ne ≡ false → x ≡ y
+equal-places x y ne e f = eqb-true x y (by (nat_eq x y) (sym e ∙ f))
+  where
+    by : (b : Bool) → not b ≡ false → b ≡ true
+    by true k = refl
+    by false k = absurd (cc)
+
+on-append : (d : ℕ) (ms more : List Counted) → stamps_on d (ms ++ more) ≡ stamps_on d ms ++ stamps_on d more
+on-append d ms more = ap (map (λ (m : Counted). m.at)) (filter-append (λ (m : Counted). m.edge == d) ms more) ∙ map-append (λ (m : Counted). m.at) (on_edge d ms) (on_edge d more)
+
+pub taken-none : (flow : Dataflow) (p : ℕ) (old : Lists) → TakeUp flow p [] old old
+taken-none flow p old = record { one_each = refl; here = λ d r. added-none (get_or old d []); others = λ d n. refl }
+
+-- a message that is not on an in-edge
+pub taken-other : (flow : Dataflow) (p : ℕ) (m : Counted) (old : Lists) → receiver flow m.edge ≢ p → TakeUp flow p (m ∷ []) old old
+taken-other flow p m old n = record {
+  one_each = refl;
+  here = λ d r. subst (λ ss. HaveAdded ss (get_or old d []) (get_or old d []))
+      (sym (ap (λ b. map (λ (x : Counted). x.at) (cond b (m ∷ []) [])) (false_from_ne_true (m.edge == d) (λ k. n (ap (receiver flow) (eqb-true m.edge d k) ∙ r)))))
+      (added-none (get_or old d []));
+  others = λ d k. refl;
+}
+
+-- a message that is on one
+pub taken-one : (flow : Dataflow) (p : ℕ) (m : Counted) (old new : Lists) → receiver flow m.edge ≡ p → ChangesAt m.edge [] (HaveAdded (m.at ∷ [])) old new → TakeUp flow p (m ∷ []) old new
+taken-one flow p m old new e c = record {
+  one_each = c.one_each;
+  here = λ d r. elim (cases_eq d m.edge) [
+    | inl i ↦ subst (λ n. HaveAdded (map (λ (x : Counted). x.at) (cond (m.edge == n) (m ∷ []) [])) (get_or old n []) (get_or new n [])) (sym i)
+        (subst (λ b. HaveAdded (map (λ (x : Counted). x.at) (cond b (m ∷ []) [])) (get_or old m.edge []) (get_or new m.edge [])) (sym (eq-eqb m.edge m.edge refl)) c.here)
+    | inr n ↦ subst (λ b. HaveAdded (map (λ (x : Counted). x.at) (cond b (m ∷ []) [])) (get_or old d []) (get_or new d [])) (sym (false_from_ne_true (m.edge == d) (λ k. n (sym (eqb-true m.edge d k)))))
+        (subst (λ ss. HaveAdded [] (get_or old d []) ss) (sym (c.others d n)) (added-none (get_or old d [])))
+  ];
+  others = λ d n. c.others d (λ i. n (ap (receiver flow) i ∙ e));
+}
+
+pub taken-next : (flow : Dataflow) (p : ℕ) (ms : List Counted) (i : ℕ) (m : Counted) (old mid new : Lists) → i < length ms → m ≡ get_or ms i m
+    → TakeUp flow p (take i ms) old mid → TakeUp flow p (m ∷ []) mid new → TakeUp flow p (take (i + 1) ms) old new
+taken-next flow p ms i m old mid new l is a b =
+    let front = take i ms in
+    subst (λ xs. TakeUp flow p xs old new) (sym (take_more ms i m l ∙ ap (λ y. front ++ y ∷ []) (sym is))) (record {
+      one_each = b.one_each ∙ a.one_each;
+      here = λ d r. subst (λ ss. HaveAdded ss (get_or old d []) (get_or new d [])) (sym (on-append d front (m ∷ [])))
+          (added-more (stamps_on d front) (stamps_on d (m ∷ [])) (get_or old d []) (get_or mid d []) (get_or new d []) (a.here d r) (b.here d r));
+      others = λ d n. b.others d n ∙ a.others d n;
+    })
+
+-- of lists that were made empty
+pub taken-delivered : (flow : Dataflow) (p : ℕ) (ms : List Counted) (old mid new : Lists) → ChangesInto flow p (λ x y. y ≡ []) old mid → TakeUp flow p ms mid new → AreDelivered flow p ms old new
+taken-delivered flow p ms old mid new a b = record {
+  one_each = b.one_each ∙ a.one_each;
+  here = λ d l r. added-to_none (stamps_on d ms) (get_or new d []) (subst (λ ss. HaveAdded (stamps_on d ms) ss (get_or new d [])) (a.here d l r) (b.here d r));
+  others = λ d n. b.others d n ∙ a.others d n;
+}
+
+-- the causes of the messages on an edge so far
+pub causes-next : (e : ℕ) (ms : List Counted) (i : ℕ) (m : Counted) (kept new : List Stamp) → i < length ms → m ≡ get_or ms i m → AreTheSame (causes_of (on_edge e (take i ms))) kept
+    → HaveAdded (cond (m.edge == e) m.causes []) kept new → AreTheSame (causes_of (on_edge e (take (i + 1) ms))) new
+causes-next e ms i m kept new l is a b =
+    let front = take i ms in
+    subst (λ xs. AreTheSame (causes_of (on_edge e xs)) new) (sym (take_more ms i m l ∙ ap (λ y. front ++ y ∷ []) (sym is)))
+    (subst (λ ss. AreTheSame ss new)
+    (sym (ap causes_of (filter-append (λ (x : Counted). x.edge == e) front (m ∷ [])) ∙ flat_map-append (λ (x : Counted). x.causes) (on_edge e front) (on_edge e (m ∷ []))
+    ∙ ap (λ ss. causes_of (on_edge e front) ++ ss) (one (m.edge == e))))
+    (b (causes_of (on_edge e front)) a))
+  where
+    one : (c : Bool) → causes_of (cond c (m ∷ []) []) ≡ cond c m.causes []
+    one true = append-none m.causes
+    one false = refl
+
+-- ---- the traces
+
+-- all that a node sent comes from a set that has its events
+from-inside : (sys : System) (p : ℕ) (f : Frontier) (vs : List Event) → AllByRecursion (λ v. f (event_stamp v) ≡ true) vs → count_from f (sent_by sys p vs) ≡ length (sent_by sys p vs)
+from-inside sys p f vs a = count (sent_by sys p vs) (each vs a)
+  where
+    each : (ws : List Event) → AllByRecursion (λ v. f (event_stamp v) ≡ true) ws → AllByRecursion (λ (m : Message). all_inside f m.causes ≡ true) (sent_by sys p ws)
+    each [] b = tt
+    each (v ∷ ws) b =
+        each-append (λ (m : Message). all_inside f m.causes ≡ true) (sends sys p ws v) (sent_by sys p ws)
+        (each-weaker (λ (m : Message). m.causes ≡ event_stamp v ∷ []) (λ m. all_inside f m.causes ≡ true) (sends sys p ws v) (λ m e. one_inside f (event_stamp v) m true b.0 e) (sends-causes sys p ws v))
+        (each ws b.1)
+
+    count : (ms : List Message) → AllByRecursion (λ (m : Message). all_inside f m.causes ≡ true) ms → count_from f ms ≡ length ms
+    count [] b = refl
+    count (m ∷ ms) b = ap (λ c. cond c (count_from f ms + 1) (count_from f ms)) b.0 ∙ more (count_from f ms) (length ms) (count ms b.1)
+      where
+        more : (x y : ℕ) → x ≡ y → x + 1 ≡ suc y
+        more x y e = omega (arith, e)
+
+-- the messages on the first out-edge of a node stand for what it sent
+first-thinned : (sys : System) (h : List Event) (p : ℕ) (base : Frontier) (stamps : Stamps) → is_sequence_kind (kind_of sys.flow p) ≡ false → AreStampsOf sys h p base stamps → HasOutEdge sys.flow p
+    → IsThinned base (causes_in (sent_by sys p (events_at sys.flow p h))) (causes_on_first (out_edges sys.flow p) stamps.sent)
+first-thinned sys h p base stamps s a o =
+    first (out_edges sys.flow p) (subst (λ q. how_often (out_edges sys.flow q) o.0 ≡ 1) o.2 (once-out sys.flow o.0 o.1))
+    (out_edges-from (λ e. IsThinned base (causes_in (sent_by sys p (events_at sys.flow p h))) (causes_of (on_edge e stamps.sent))) sys.flow p
+    (λ e l r. subst (λ q. IsThinned base (causes_in (sent_by sys q (events_at sys.flow q h))) (causes_of (on_edge e stamps.sent))) r (a.sent s e l r).thinned))
+  where
+    first : (edges : List ℕ) → how_often edges o.0 ≡ 1 → AllByRecursion (λ e. IsThinned base (causes_in (sent_by sys p (events_at sys.flow p h))) (causes_of (on_edge e stamps.sent))) edges
+        → IsThinned base (causes_in (sent_by sys p (events_at sys.flow p h))) (causes_on_first edges stamps.sent)
+    first [] z b = absurd (omega (arith, z))
+    first (e ∷ edges) z b = b.0
+
+told-others : (flow : Dataflow) (p : ℕ) (stamps : Stamps) (n : ℕ) (old new : Traces) → AreTold flow p stamps n old new → KeepsOthers flow p old new
+told-others flow p stamps n old new c sys h e q k base t = record {
+  delivered = λ d l r. subst (IsThinned base (map (λ (m : Message). m.at) (delivered_messages h d))) (sym (c.delivered.others d (λ i. k (sym r ∙ ap (λ f. receiver f d) e ∙ i)))) (t.delivered d l r);
+  notified = subst (IsThinned base (flat_map (stamp_of_notice q) h)) (sym (c.notified.others q k)) t.notified;
+  sent = λ o s. subst (IsThinned base (causes_in (sent_by sys q (events_at sys.flow q h)))) (sym (c.sent.others q k)) (t.sent o s);
+  counted = λ s. subst (IsSentTally base (sent_by sys q (events_at sys.flow q h))) (sym (c.counted.others q k)) (t.counted s);
+}
+
+pub told-restored : (flow : Dataflow) (p : ℕ) (stamps : Stamps) (n : ℕ) (old new : Traces) → AreTold flow p stamps n old new → AreRestoredTo flow p stamps n old new
+told-restored flow p stamps n old new c = record {
+  here = λ sys h base e. here sys h base (subst (λ g. AreTold g p stamps n old new) (sym e) c);
+  others = told-others flow p stamps n old new c;
+}
+  where
+    here : (sys : System) (h : List Event) (base : Frontier) → AreTold sys.flow p stamps n old new → AreStampsOf sys h p base stamps → n ≡ length (sent_by sys p (events_at sys.flow p h))
+        → AreEventsInside sys.flow h p base → IsTraceOf sys h p base new
+    here sys h base t a is inside = record {
+      delivered = λ d l r. same-thinned base (map (λ (m : Message). m.at) (delivered_messages h d)) (stamps_on d stamps.delivered) (delivered_on new d) (t.delivered.here d l r) (a.delivered d r);
+      notified = same-thinned base (flat_map (stamp_of_notice p) h) stamps.notified (notified_of new p) t.notified.here a.notified;
+      sent = λ o s. same-thinned base (causes_in (sent_by sys p (events_at sys.flow p h))) (causes_on_first (out_edges sys.flow p) stamps.sent) (sent_at new p) (t.sent.here s)
+          (first-thinned sys h p base stamps s a o);
+      counted = λ s f w.
+          let tally = t.counted.here in
+          let all = from-inside sys p f (events_at sys.flow p h) (each-weaker (λ v. base (event_stamp v) ≡ true) (λ v. f (event_stamp v) ≡ true) (events_at sys.flow p h) (λ v i. w (event_stamp v) i) inside) in
+          let m = ap (λ (x : SentTally). x.inside + count_inside f x.outside) tally in
+          omega (arith, m, is, all);
+    }

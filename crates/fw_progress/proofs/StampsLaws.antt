@@ -1,0 +1,361 @@
+-- A node's traces as data stand for its events.
+use Rattle.std.proofs.Common.{◌≡◌, inl, inr, ℕ, suc, ◌+◌, ◌<◌, ◌≤◌, Bool, true, false, ◌&&◌, ◌==◌, nat_le, cond, List, [], ◌∷◌, ◌++◌, length, map, Result, Some, None, refl, sym, ap, subst, ◌∙◌, arith}
+use Rattle.std.specs.Prelude.{filter, IfOk}
+use Rattle.std.specs.List.{AllByRecursion, flat_map}
+use Rattle.std.proofs.lemmas.Bool.{and_from, or_right, eq-eqb, cases_lt}
+use Rattle.std.proofs.lemmas.Bool.Decides.{nat_tests}
+use Rattle.std.proofs.lemmas.List.{get_or_past}
+use Rattle.std.proofs.lemmas.Result.{IfOk-weaker}
+use Rattle.fw_time.specs.Stamp.{Stamp, in_domain}
+use Rattle.fw_time.proofs.EachLaws.{each-weaker, each-one, each-map, each-kept}
+use Rattle.fw_frontier.specs.Frontier.{Frontier, everything}
+use Rattle.fw_frontier.specs.Front.{Front, inside}
+use Rattle.fw_frontier.proofs.NamesLaws.{frontier-closed}
+use Rattle.fw_flow.specs.declared.choice.Counted.{Counted}
+use Rattle.fw_flow.specs.declared.choice.Stamps.{Stamps}
+use Rattle.fw_flow.specs.declared.event.Event.{Event}
+use Rattle.fw_flow.specs.declared.event.Event.TheVariants.{Inject, Deliver, Notify}
+use Rattle.fw_flow.specs.declared.event.Message.{Message}
+use Rattle.fw_flow.specs.declared.kind.Kind.TheVariants.{Sequence}
+use Rattle.fw_flow.specs.declared.node.Edge.{Edge}
+use Rattle.fw_flow.specs.Dataflow.{System, Dataflow, kind_of, policy_of, sender, receiver, bounds_of, bounds_of_domain, domain_of_kind, out_domain_of_kind, greatest_number, out_edges, is_sequence_kind, node_frontier, HasEpochs}
+use Rattle.fw_flow.specs.NodeFunction.{event_node, event_stamp, sequence_sent, sent_by}
+use Rattle.fw_flow.specs.Projection.{events_at, all_inside, count_from}
+use Rattle.fw_flow.specs.WellFormed.{IsWellFormed}
+use Rattle.fw_flow.proofs.OutEdgeLaws.{out_edges-from}
+use Rattle.fw_model.specs.Covers.{stamp_of_notice}
+use Rattle.fw_model.specs.EventStamps.{causes_in, StandForSent, StandForNumbered, AreStampsOf}
+use Rattle.fw_model.specs.Filtering.{AreFrontiers, events_inside, messages_inside, messages_from}
+use Rattle.fw_model.specs.History.{is_injection, injected_count, delivered_messages, AreEventsInDomain, IsLegal}
+use Rattle.fw_model.specs.Offers.{AreOnEdges, on_edge, stamps_on_from}
+use Rattle.fw_model.specs.Thinned.{IsThinned}
+use Rattle.fw_model.specs.Writes.{takes_checkpoints}
+use Rattle.fw_model.proofs.FilterLaws.{filter-swap}
+use Rattle.fw_model.proofs.LegalLaws.{edge_domains, legal_events-in_domain}
+use Rattle.fw_model.proofs.LocalityLaws.{events_at-kept, sent_by-same}
+use Rattle.fw_model.proofs.SequenceLaws.{no_inject, sent_by-sequence}
+use Rattle.fw_progress.specs.declared.traces.Traces.{Traces}
+use Rattle.fw_progress.specs.Covers.{last_number}
+use Rattle.fw_progress.specs.StampData.{taken, count_taken, all_delivered, messages_of, messages_numbered, all_sent, stamps_by}
+use Rattle.fw_progress.specs.Trace.{delivered_on, notified_of, sent_at, counted_of, counts_sent, HasOutEdge, IsTraceOf, IsTraceWithin}
+use Rattle.fw_progress.specs.Traces.{AreOf, thinned}
+use Rattle.fw_progress.proofs.CutTraceLaws.{delivered-domain, notices-domain, sent-domain, causes-of, causes-from, sent-one, map-filter, notices-inside}
+use Rattle.fw_progress.proofs.EventLaws.{how_often}
+use Rattle.fw_progress.proofs.NumberLaws.{IsNumber, sequence-numbers, numbers-thinned}
+use Rattle.fw_progress.proofs.OfferLaws.{Sends, each-joined, on-once, once-out, delivered-on, delivered-on_edges, kept-send, messages-on_edges, sent-on, stands-for_sent}
+use Rattle.fw_progress.proofs.SentCoverLaws.{from-length, none-kept, no_injection, sequence-kind}
+use Rattle.fw_progress.proofs.SentTallyLaws.{tally-count}
+use Rattle.fw_progress.proofs.TraceLaws.{kept-domain, thinned-inside}
+
+-- Lists stand for the events of node p, thinned inside a base, as its traces do; of a sequence it is known how many messages it sent.
+record AreKept (sys : System) (h : List Event) (p : ℕ) (base : Frontier) (kept : ℕ → List Stamp) (notified sent : List Stamp) (n : ℕ) : Type 0 where
+  on_edges : (d : ℕ) → d < length sys.flow.edges → receiver sys.flow d ≡ p → IsThinned base (map (λ (m : Message). m.at) (delivered_messages h d)) (kept d)
+  notices : IsThinned base (flat_map (stamp_of_notice p) h) notified
+  sends : HasOutEdge sys.flow p → is_sequence_kind (kind_of sys.flow p) ≡ false → IsThinned base (causes_in (sent_by sys p (events_at sys.flow p h))) sent
+  count : is_sequence_kind (kind_of sys.flow p) ≡ true → n ≡ length (sent_by sys p (events_at sys.flow p h))
+
+-- The events of node p are of its domain, and it injects nothing if it is a sequence.
+record AreProper (sys : System) (h : List Event) (p : ℕ) : Type 0 where
+  in_the_domain : AreEventsInDomain sys.flow h p
+  no_batch : is_sequence_kind (kind_of sys.flow p) ≡ true → injected_count p h ≡ 0
+
+-- ---- what a sequence sent
+
+-- numbers on an out-edge of a sequence are of the receiver's domain
+number-domain : (flow : Dataflow) → IsWellFormed flow → (p e : ℕ) → kind_of flow p ≡ Sequence → sender flow e ≡ p → (x : ℕ) → x ≤ greatest_number
+    → in_domain (bounds_of flow (receiver flow e)) (x ∷ []) ≡ true
+unfolding bounds_of
+number-domain flow w p e is r x l =
+    sym (ap (λ d. in_domain (bounds_of_domain flow d) (x ∷ [])) (edge_domains flow w e))
+    ∙ ap (λ k. in_domain (bounds_of_domain flow (out_domain_of_kind flow k)) (x ∷ [])) (ap (kind_of flow) r ∙ is)
+    ∙ and_from (nat_le x greatest_number) true (few x l) refl
+  where
+    few : (y : ℕ) → y ≤ greatest_number → nat_le y greatest_number ≡ true
+    few y l = grind (arith, nat_tests)
+
+-- the first epoch is of a sequence's domain
+first-domain : (flow : Dataflow) (p : ℕ) → kind_of flow p ≡ Sequence → in_domain (bounds_of flow p) (0 ∷ []) ≡ true
+unfolding bounds_of
+first-domain flow p is = ap (λ k. in_domain (bounds_of_domain flow (domain_of_kind flow k)) (0 ∷ [])) is
+
+-- the last number of what a sequence sent stands for all of it, inside a set that has each number
+sequence-thinned : (sys : System) (h : List Event) (p n : ℕ) → kind_of sys.flow p ≡ Sequence → injected_count p h ≡ 0 → n ≡ length (sent_by sys p (events_at sys.flow p h))
+    → (base : Frontier) → ((x : ℕ) → x ≤ greatest_number → base (x ∷ []) ≡ true)
+    → IsThinned base (map (λ (m : Message). m.at) (sent_by sys p (events_at sys.flow p h))) (last_number n)
+sequence-thinned sys h p n is none count base all =
+    let vs = events_at sys.flow p h in
+    let same : sent_by sys p vs ≡ sequence_sent vs = sent_by-sequence sys p is vs (no_inject sys.flow p h none) in
+    let many : length (sequence_sent vs) ≡ n = sym (count ∙ ap length same) in
+    subst (λ m. IsThinned base (map (λ (x : Message). x.at) (sent_by sys p vs)) (last_number m)) many
+    (subst (λ ms. IsThinned base (map (λ (x : Message). x.at) ms) (last_number (length (sequence_sent vs)))) (sym same)
+    (numbers-thinned base all (length (sequence_sent vs)) (sequence_sent vs) (sequence-numbers vs)))
+
+-- and each of its numbers is there
+sequence-inside : (sys : System) (h : List Event) (p : ℕ) → kind_of sys.flow p ≡ Sequence → injected_count p h ≡ 0
+    → (base : Frontier) → ((x : ℕ) → x ≤ greatest_number → base (x ∷ []) ≡ true)
+    → AllByRecursion (λ s. base s ≡ true) (map (λ (m : Message). m.at) (sent_by sys p (events_at sys.flow p h)))
+sequence-inside sys h p is none base all =
+    let vs = events_at sys.flow p h in
+    let same : sent_by sys p vs ≡ sequence_sent vs = sent_by-sequence sys p is vs (no_inject sys.flow p h none) in
+    subst (λ ms. AllByRecursion (λ s. base s ≡ true) (map (λ (x : Message). x.at) ms)) (sym same)
+    (each-map (λ s. base s ≡ true) (λ (x : Message). x.at) (sequence_sent vs)
+    (each-weaker (IsNumber 0 (length (sequence_sent vs))) (λ (x : Message). base x.at ≡ true) (sequence_sent vs) (λ s i. ap base i.at ∙ all i.number i.few) (sequence-numbers vs).each))
+
+-- ---- numbers as data
+
+numbered-own : (ss : List Stamp) (e : ℕ) → AllByRecursion (λ (m : Counted). m.edge ≡ e) (messages_numbered ss e)
+numbered-own [] e = tt
+numbered-own (s ∷ ss) e = (refl, numbered-own ss e)
+
+numbered-stamps : (f : Frontier) → f (0 ∷ []) ≡ true → (ss : List Stamp) (e : ℕ) → map (λ (m : Counted). m.at) (filter (λ (m : Counted). all_inside f m.causes) (messages_numbered ss e)) ≡ ss
+numbered-stamps f i [] e = refl
+numbered-stamps f i (s ∷ ss) e =
+    let rest = filter (λ (m : Counted). all_inside f m.causes) (messages_numbered ss e) in
+    ap (λ b. map (λ (m : Counted). m.at) (cond b (record { edge = e; at = s; causes = (0 ∷ []) ∷ []; count = 1 } ∷ rest) rest)) (and_from (f (0 ∷ [])) true i refl)
+    ∙ ap (λ ts. s ∷ ts) (numbered-stamps f i ss e)
+
+-- those that pass both tests are those of the ones that pass the first that pass the second
+both-tests : (test keep : Counted → Bool) (ms : List Counted) → filter (λ m. test m && keep m) ms ≡ filter keep (filter test ms)
+both-tests test keep [] = refl
+both-tests test keep (m ∷ ms) = by (test m) (both-tests test keep ms)
+  where
+    by : (b : Bool) → filter (λ x. test x && keep x) ms ≡ filter keep (filter test ms)
+        → cond (b && keep m) (m ∷ filter (λ x. test x && keep x) ms) (filter (λ x. test x && keep x) ms) ≡ filter keep (cond b (m ∷ filter test ms) (filter test ms))
+    by true ih = ap (λ xs. cond (keep m) (m ∷ xs) xs) ih
+    by false ih = ih
+
+numbered-on : (flow : Dataflow) (p : ℕ) (f : Frontier) → f (0 ∷ []) ≡ true → (ss : List Stamp) (e : ℕ) → e < length flow.edges → sender flow e ≡ p
+    → stamps_on_from e f (flat_map (messages_numbered ss) (out_edges flow p)) ≡ ss
+numbered-on flow p f i ss e l r =
+    let ms = flat_map (messages_numbered ss) (out_edges flow p) in
+    ap (map (λ (m : Counted). m.at)) (both-tests (λ (m : Counted). m.edge == e) (λ (m : Counted). all_inside f m.causes) ms)
+    ∙ ap (λ xs. map (λ (m : Counted). m.at) (filter (λ (m : Counted). all_inside f m.causes) xs))
+    (on-once (messages_numbered ss) (numbered-own ss) (out_edges flow p) e (subst (λ q. how_often (out_edges flow q) e ≡ 1) r (once-out flow e l)))
+    ∙ numbered-stamps f i ss e
+
+numbered-on_edge : (flow : Dataflow) (e : ℕ) (ss : List Stamp) → AreOf (bounds_of flow (receiver flow e)) ss → AreOnEdges flow (messages_numbered ss e)
+numbered-on_edge flow e [] a = tt
+numbered-on_edge flow e (s ∷ ss) a = (a.0, numbered-on_edge flow e ss a.1)
+
+-- ---- lists as data
+
+all-sequence : (flow : Dataflow) (p : ℕ) (ss : List Stamp) (n : ℕ) → is_sequence_kind (kind_of flow p) ≡ true → all_sent flow p ss n ≡ flat_map (messages_numbered (last_number n)) (out_edges flow p)
+all-sequence flow p ss n k = ap (λ b. cond b (flat_map (messages_numbered (last_number n)) (out_edges flow p)) (flat_map (messages_of flow p ss) (out_edges flow p))) k
+
+all-others : (flow : Dataflow) (p : ℕ) (ss : List Stamp) (n : ℕ) → is_sequence_kind (kind_of flow p) ≡ false → all_sent flow p ss n ≡ flat_map (messages_of flow p ss) (out_edges flow p)
+all-others flow p ss n k = ap (λ b. cond b (flat_map (messages_numbered (last_number n)) (out_edges flow p)) (flat_map (messages_of flow p ss) (out_edges flow p))) k
+
+past_receiver : (flow : Dataflow) (d : ℕ) → length flow.edges ≤ d → receiver flow d ≡ length flow.nodes
+unfolding receiver
+past_receiver flow d l = ap (λ (e : Edge). e.receiver) (get_or_past flow.edges d (record { name = []; sender = length flow.nodes; receiver = length flow.nodes }) l)
+
+-- an edge into a node is one of the flow
+pub edge-there : (flow : Dataflow) (p d : ℕ) → p < length flow.nodes → receiver flow d ≡ p → d < length flow.edges
+edge-there flow p d l r = elim (cases_lt d (length flow.edges)) [
+  | inl i ↦ i
+  | inr i ↦ let z : length flow.nodes ≡ p = sym (past_receiver flow d i) ∙ r in absurd (omega (arith, l, z))
+]
+
+kept-stand : (sys : System) (h : List Event) (p : ℕ) (base : Frontier) (kept : ℕ → List Stamp) (notified sent : List Stamp) (n : ℕ) → IsWellFormed sys.flow → p < length sys.flow.nodes
+    → AreProper sys h p → AreKept sys h p base kept notified sent n
+    → AreStampsOf sys h p base (record { delivered = all_delivered sys.flow p kept; notified = notified; sent = all_sent sys.flow p sent n })
+kept-stand sys h p base kept notified sent n w l proper k = record {
+  on_edges = (
+    delivered-on_edges sys.flow p kept
+        (λ d i r. kept-domain (bounds_of sys.flow p) base (map (λ (m : Message). m.at) (delivered_messages h d)) (kept d)
+        (subst (λ q. AreEventsInDomain sys.flow h q → AreOf (bounds_of sys.flow q) (map (λ (m : Message). m.at) (delivered_messages h d))) r (delivered-domain sys h d) proper.in_the_domain)
+        (k.on_edges d i r)),
+    by (is_sequence_kind (kind_of sys.flow p)) refl,
+  );
+  in_domain = kept-domain (bounds_of sys.flow p) base (flat_map (stamp_of_notice p) h) notified (notices-domain sys h p proper.in_the_domain) k.notices;
+  delivered = λ d r. let i = edge-there sys.flow p d l r in subst (IsThinned base (map (λ (m : Message). m.at) (delivered_messages h d))) (sym (delivered-on sys.flow p kept d i r)) (k.on_edges d i r);
+  notified = k.notices;
+  sent = λ s e i r.
+      subst (StandForSent sys h p base e) (sym (ap (on_edge e) (all-others sys.flow p sent n s) ∙ sent-on sys.flow p sent e i r))
+      (stands-for_sent sys h p base sent e i r (sends s (e, i, r)) (k.sends (e, i, r) s));
+  numbered = λ s e i r. numbered s e i r;
+}
+  where
+    causes : AreOf (bounds_of sys.flow p) (causes_in (sent_by sys p (events_at sys.flow p h)))
+    causes = causes-of (bounds_of sys.flow p) (sent_by sys p (events_at sys.flow p h)) (sent-domain sys h p proper.in_the_domain)
+
+    sends : is_sequence_kind (kind_of sys.flow p) ≡ false → HasOutEdge sys.flow p → AllByRecursion (Sends sys.flow p) sent
+    sends s o = kept-send sys h p base sent s causes (k.sends o s)
+
+    numbers : (s : is_sequence_kind (kind_of sys.flow p) ≡ true) (e : ℕ) → sender sys.flow e ≡ p
+        → IsThinned (everything (bounds_of sys.flow (receiver sys.flow e))) (map (λ (m : Message). m.at) (sent_by sys p (events_at sys.flow p h))) (last_number n)
+    numbers s e r =
+        sequence-thinned sys h p n (sequence-kind (kind_of sys.flow p) s) (proper.no_batch s) (k.count s) (everything (bounds_of sys.flow (receiver sys.flow e)))
+        (number-domain sys.flow w p e (sequence-kind (kind_of sys.flow p) s) r)
+
+    by : (b : Bool) → is_sequence_kind (kind_of sys.flow p) ≡ b → AreOnEdges sys.flow (all_sent sys.flow p sent n)
+    by true s =
+        subst (AreOnEdges sys.flow) (sym (all-sequence sys.flow p sent n s))
+        (each-joined (λ (m : Counted). in_domain (bounds_of sys.flow (receiver sys.flow m.edge)) m.at ≡ true) (messages_numbered (last_number n)) (out_edges sys.flow p)
+        (out_edges-from (λ e. AreOnEdges sys.flow (messages_numbered (last_number n) e)) sys.flow p
+        (λ e i r. numbered-on_edge sys.flow e (last_number n)
+        (kept-domain (bounds_of sys.flow (receiver sys.flow e)) (everything (bounds_of sys.flow (receiver sys.flow e))) (map (λ (m : Message). m.at) (sent_by sys p (events_at sys.flow p h))) (last_number n)
+        (sequence-inside sys h p (sequence-kind (kind_of sys.flow p) s) (proper.no_batch s) (everything (bounds_of sys.flow (receiver sys.flow e)))
+        (number-domain sys.flow w p e (sequence-kind (kind_of sys.flow p) s) r))
+        (numbers s e r)))))
+    by false s =
+        subst (AreOnEdges sys.flow) (sym (all-others sys.flow p sent n s))
+        (each-joined (λ (m : Counted). in_domain (bounds_of sys.flow (receiver sys.flow m.edge)) m.at ≡ true) (messages_of sys.flow p sent) (out_edges sys.flow p)
+        (out_edges-from (λ e. AllByRecursion (λ (m : Counted). in_domain (bounds_of sys.flow (receiver sys.flow m.edge)) m.at ≡ true) (messages_of sys.flow p sent e)) sys.flow p
+        (λ e i r. messages-on_edges sys.flow w p sent e r (sends s (e, i, r)))))
+
+    numbered : (s : is_sequence_kind (kind_of sys.flow p) ≡ true) (e : ℕ) → e < length sys.flow.edges → sender sys.flow e ≡ p → StandForNumbered sys h e (all_sent sys.flow p sent n)
+    numbered s e i r =
+        let first = first-domain sys.flow p (sequence-kind (kind_of sys.flow p) s) in
+        let B = everything (bounds_of sys.flow (receiver sys.flow e)) in
+        let left : stamps_on_from e (everything (bounds_of sys.flow p)) (all_sent sys.flow p sent n) ≡ last_number n =
+        ap (stamps_on_from e (everything (bounds_of sys.flow p))) (all-sequence sys.flow p sent n s) ∙ numbered-on sys.flow p (everything (bounds_of sys.flow p)) first (last_number n) e i r in
+        subst (λ q. IsThinned B (map (λ (m : Message). m.at) (sent_by sys q (events_at sys.flow q h))) (stamps_on_from e (everything (bounds_of sys.flow q)) (all_sent sys.flow p sent n))) (sym r)
+        (subst (IsThinned B (map (λ (m : Message). m.at) (sent_by sys p (events_at sys.flow p h)))) (sym left) (numbers s e r))
+
+-- ---- of all events
+
+count-everything : (ms : List Message) → count_from (inside []) ms ≡ length ms
+count-everything [] = refl
+count-everything (m ∷ ms) = ap (λ b. cond b (count_from (inside []) ms + 1) (count_from (inside []) ms)) (each m.causes) ∙ more (count_from (inside []) ms) (length ms) (count-everything ms)
+  where
+    each : (cs : List Stamp) → all_inside (inside []) cs ≡ true
+    each [] = refl
+    each (c ∷ cs) = each cs
+
+    more : (x y : ℕ) → x ≡ y → x + 1 ≡ suc y
+    more x y e = omega (arith, e)
+
+proper-events : (sys : System) (h : List Event) (p : ℕ) → IsWellFormed sys.flow → HasEpochs sys → IsLegal sys h → AreProper sys h p
+proper-events sys h p w b l = record {
+  in_the_domain = legal_events-in_domain sys h w b l p;
+  no_batch = λ s. no_injection sys h p l (sequence-kind (kind_of sys.flow p) s);
+}
+
+-- whether the messages of a sequence are counted
+counts-sequence : (flow : Dataflow) (p : ℕ) → is_sequence_kind (kind_of flow p) ≡ true → counts_sent flow p ≡ true
+counts-sequence flow p s = or_right (takes_checkpoints (policy_of flow p)) (is_sequence_kind (kind_of flow p)) s
+
+all-kept : (sys : System) (h : List Event) (p : ℕ) (base : Frontier) (traces : Traces) → IsTraceOf sys h p base traces
+    → AreKept sys h p base (λ d. taken None (delivered_on traces d)) (taken None (notified_of traces p)) (taken None (sent_at traces p)) (count_taken None (counted_of traces p))
+all-kept sys h p base traces t = record {
+  on_edges = t.delivered;
+  notices = t.notified;
+  sends = t.sent;
+  count = λ s. t.counted (counts-sequence sys.flow p s) (inside []) (λ x i. refl) ∙ count-everything (sent_by sys p (events_at sys.flow p h));
+}
+
+-- ---- of the events inside a frontier
+
+delivered-inside : (f : Frontier) (vs : List Event) (d : ℕ) → delivered_messages (events_inside f vs) d ≡ messages_inside f (delivered_messages vs d)
+delivered-inside f [] d = refl
+delivered-inside f (Inject s x ∷ vs) d = by (f (x ∷ [])) (delivered-inside f vs d)
+  where
+    by : (c : Bool) → delivered_messages (events_inside f vs) d ≡ messages_inside f (delivered_messages vs d)
+        → delivered_messages (cond c (Inject s x ∷ events_inside f vs) (events_inside f vs)) d ≡ messages_inside f (delivered_messages vs d)
+    by true e = e
+    by false e = e
+delivered-inside f (Notify p t ∷ vs) d = by (f t) (delivered-inside f vs d)
+  where
+    by : (c : Bool) → delivered_messages (events_inside f vs) d ≡ messages_inside f (delivered_messages vs d)
+        → delivered_messages (cond c (Notify p t ∷ events_inside f vs) (events_inside f vs)) d ≡ messages_inside f (delivered_messages vs d)
+    by true e = e
+    by false e = e
+delivered-inside f (Deliver x m ∷ vs) d = by (f m.at) refl (delivered-inside f vs d)
+  where
+    left : List Message
+    left = delivered_messages (events_inside f vs) d
+
+    all : List Message
+    all = delivered_messages vs d
+
+    kept : (b : Bool) → f m.at ≡ true → left ≡ messages_inside f all → cond b (m ∷ []) [] ++ left ≡ messages_inside f (cond b (m ∷ []) [] ++ all)
+    kept true i e = ap (λ ms. m ∷ ms) e ∙ sym (ap (λ c. cond c (m ∷ messages_inside f all) (messages_inside f all)) i)
+    kept false i e = e
+
+    dropped : (b : Bool) → f m.at ≡ false → left ≡ messages_inside f all → left ≡ messages_inside f (cond b (m ∷ []) [] ++ all)
+    dropped true i e = e ∙ sym (ap (λ c. cond c (m ∷ messages_inside f all) (messages_inside f all)) i)
+    dropped false i e = e
+
+    by : (c : Bool) → f m.at ≡ c → left ≡ messages_inside f all → delivered_messages (cond c (Deliver x m ∷ events_inside f vs) (events_inside f vs)) d ≡ messages_inside f (cond (x == d) (m ∷ []) [] ++ all)
+    by true i e = kept (x == d) i e
+    by false i e = dropped (x == d) i e
+
+-- the events of a node among those inside a set are those of its own that are inside
+at-inside : (flow : Dataflow) (p : ℕ) (f : Frontier) (h : List Event) → events_at flow p (events_inside f h) ≡ events_inside f (events_at flow p h)
+at-inside flow p f h =
+    filter-swap (λ v. event_node flow v == p) (λ v. f (event_stamp v)) (λ v. f (event_stamp v)) h (each-one (λ v. (event_node flow v == p) ≡ true → f (event_stamp v) ≡ f (event_stamp v)) h (λ v c. refl))
+
+-- what a node sent by its events inside a frontier
+sent-inside : (sys : System) (h : List Event) (p : ℕ) (f : Front) → IsWellFormed sys.flow → HasEpochs sys → IsLegal sys h
+    → sent_by sys p (events_at sys.flow p (events_inside (node_frontier sys.flow p f) h)) ≡ messages_from (node_frontier sys.flow p f) (sent_by sys p (events_at sys.flow p h))
+sent-inside sys h p f w b l =
+    ap (sent_by sys p) (at-inside sys.flow p (node_frontier sys.flow p f) h ∙ ap (λ c. events_inside (node_frontier sys.flow p (cond c f [])) (events_at sys.flow p h)) (sym (eq-eqb p p refl)) ∙ sym (events_at-kept sys.flow keep p h))
+    ∙ sent_by-same sys h keep w b l fr p
+    ∙ ap (λ c. messages_from (node_frontier sys.flow p (cond c f [])) (sent_by sys p (events_at sys.flow p h))) (eq-eqb p p refl)
+  where
+    keep : ℕ → Frontier
+    keep q = node_frontier sys.flow q (cond (q == p) f [])
+
+    fr : AreFrontiers sys.flow keep
+    fr q = frontier-closed (bounds_of sys.flow q) (cond (q == p) f [])
+
+proper-inside : (sys : System) (h : List Event) (p : ℕ) (f : Frontier) → AreProper sys h p → AreProper sys (events_inside f h) p
+proper-inside sys h p f proper = record {
+  in_the_domain = subst (AllByRecursion (λ v. in_domain (bounds_of sys.flow p) (event_stamp v) ≡ true)) (sym (at-inside sys.flow p f h))
+      (each-kept (λ v. in_domain (bounds_of sys.flow p) (event_stamp v) ≡ true) (λ v. f (event_stamp v)) (events_at sys.flow p h) proper.in_the_domain);
+  no_batch = λ s. none-kept (is_injection p) (λ v. f (event_stamp v)) h (proper.no_batch s);
+}
+
+inside-kept : (sys : System) (h : List Event) (p : ℕ) (f : Front) (traces : Traces) → IsWellFormed sys.flow → HasEpochs sys → IsLegal sys h → IsTraceWithin sys h p f traces
+    → AreKept sys (events_inside (node_frontier sys.flow p f) h) p (node_frontier sys.flow p f) (λ d. taken (Some f) (delivered_on traces d)) (taken (Some f) (notified_of traces p))
+    (taken (Some f) (sent_at traces p)) (count_taken (Some f) (counted_of traces p))
+inside-kept sys h p f traces w b l t = record {
+  on_edges = λ d i r.
+      let all = map (λ (m : Message). m.at) (delivered_messages h d) in
+      let same : map (λ (m : Message). m.at) (delivered_messages (events_inside g h) d) ≡ filter g all = ap (map (λ (m : Message). m.at)) (delivered-inside g h d) ∙ map-filter g (delivered_messages h d) in
+      subst (λ ss. IsThinned g ss (thinned f (filter (inside f) (delivered_on traces d)))) (sym same)
+      (thinned-inside (bounds_of sys.flow p) t.base all (delivered_on traces d) f
+      (subst (λ q. AreEventsInDomain sys.flow h q → AreOf (bounds_of sys.flow q) all) r (delivered-domain sys h d) a) t.within (t.trace.delivered d i r));
+  notices = subst (λ ss. IsThinned g ss (thinned f (filter (inside f) (notified_of traces p)))) (sym (notices-inside p g h))
+      (thinned-inside (bounds_of sys.flow p) t.base (flat_map (stamp_of_notice p) h) (notified_of traces p) f (notices-domain sys h p a) t.within t.trace.notified);
+  sends = λ o s. subst (λ ss. IsThinned g ss (thinned f (filter (inside f) (sent_at traces p))))
+      (sym (ap causes_in (sent-inside sys h p f w b l) ∙ causes-from g ms (sent-one sys p (events_at sys.flow p h))))
+      (thinned-inside (bounds_of sys.flow p) t.base (causes_in ms) (sent_at traces p) f (causes-of (bounds_of sys.flow p) ms (sent-domain sys h p a)) t.within (t.trace.sent o s));
+  count = λ s.
+      tally-count (bounds_of sys.flow p) t.base ms f (counted_of traces p) (sent-domain sys h p a) t.within (t.trace.counted (counts-sequence sys.flow p s))
+      ∙ sym (ap length (sent-inside sys h p f w b l) ∙ from-length g ms);
+}
+  where
+    g : Frontier
+    g = node_frontier sys.flow p f
+
+    ms : List Message
+    ms = sent_by sys p (events_at sys.flow p h)
+
+    a : AreEventsInDomain sys.flow h p
+    a = legal_events-in_domain sys h w b l p
+
+-- ---- the calls
+
+pub all-stand : {E : Type 0} (flow : Dataflow) (p : ℕ) (traces : Traces) (result : Result Stamps E) → IsWellFormed flow → p < length flow.nodes
+    → IfOk result (λ stamps. stamps ≡ stamps_by flow p None traces)
+    → (sys : System) (h : List Event) (base : Frontier) → sys.flow ≡ flow → HasEpochs sys → IsLegal sys h → IsTraceOf sys h p base traces → IfOk result (AreStampsOf sys h p base)
+all-stand flow p traces result w there given sys h base s b l t =
+    let well : IsWellFormed sys.flow = subst IsWellFormed (sym s) w in
+    let stand = kept-stand sys h p base _ _ _ _ well (subst (λ g. p < length g.nodes) (sym s) there) (proper-events sys h p well b l) (all-kept sys h p base traces t) in
+    IfOk-weaker result (λ stamps. stamps ≡ stamps_by flow p None traces) (AreStampsOf sys h p base)
+    (λ stamps e. subst (AreStampsOf sys h p base) (sym (e ∙ ap (λ g. stamps_by g p None traces) (sym s))) stand) given
+
+pub inside-stand : {E : Type 0} (flow : Dataflow) (p : ℕ) (f : Front) (traces : Traces) (result : Result Stamps E) → IsWellFormed flow → p < length flow.nodes
+    → IfOk result (λ stamps. stamps ≡ stamps_by flow p (Some f) traces)
+    → (sys : System) (h : List Event) → sys.flow ≡ flow → HasEpochs sys → IsLegal sys h → IsTraceWithin sys h p f traces
+    → IfOk result (AreStampsOf sys (events_inside (node_frontier flow p f) h) p (node_frontier flow p f))
+inside-stand flow p f traces result w there given sys h s b l t =
+    let well : IsWellFormed sys.flow = subst IsWellFormed (sym s) w in
+    let g = node_frontier sys.flow p f in
+    let stand = kept-stand sys (events_inside g h) p g _ _ _ _ well (subst (λ x. p < length x.nodes) (sym s) there) (proper-inside sys h p g (proper-events sys h p well b l))
+    (inside-kept sys h p f traces well b l t) in
+    subst (λ x. IfOk result (AreStampsOf sys (events_inside (node_frontier x p f) h) p (node_frontier x p f))) s
+    (IfOk-weaker result (λ stamps. stamps ≡ stamps_by flow p (Some f) traces) (AreStampsOf sys (events_inside g h) p g)
+    (λ stamps e. subst (AreStampsOf sys (events_inside g h) p g) (sym (e ∙ ap (λ x. stamps_by x p (Some f) traces) (sym s))) stand) given)

@@ -1,0 +1,6 @@
+use Rattle.std.proofs.Common.{◌≡◌, [], take}
+use Rattle.fw_progress.proofs.IntoLaws.{IsChanging}
+use Rattle.fw_progress.proofs.restore.clear_into.Given as goal
+
+abbrev pub invariant-loop-edge : goal.invariant-loop-edge
+invariant-loop-edge l = IsChanging (λ old new. new ≡ []) (take l.edge-index l.edges) l.fn.lists.items l.lists.items

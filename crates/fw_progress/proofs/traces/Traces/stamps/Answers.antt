@@ -1,0 +1,5 @@
+use Rattle.fw_progress.proofs.StampsLaws.{all-stand}
+use Rattle.fw_progress.proofs.traces.Traces.stamps.Goals as goal
+
+pub returns-clause-stamps : goal.returns-clause-stamps
+returns-clause-stamps c = all-stand c.args.flow.now c.args.node c.args.self.now c.stamps_taken.result c.flow_is_well_formed.ensures c.requires.there c.stamps_taken.ensures

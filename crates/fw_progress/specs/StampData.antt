@@ -1,0 +1,101 @@
+-- A node's traces as data, and data as its traces.
+use Rattle.std.specs.Prelude.{◌≡◌, ◌≢◌, ℕ, false, ◌+◌, ◌<◌, if◌then◌else◌, List, [], ◌∷◌, ◌++◌, map, filter, length, slice_index_or, Option, Some, None}
+use Rattle.std.specs.List.{AllByRecursion, Contains, flat_map}
+use Rattle.fw_time.specs.Stamp.{Stamp}
+use Rattle.fw_frontier.specs.Front.{Front, inside}
+use Rattle.fw_flow.specs.declared.choice.Counted.{Counted}
+use Rattle.fw_flow.specs.declared.choice.Stamps.{Stamps}
+use Rattle.fw_flow.specs.Dataflow.{Dataflow, kind_of, receiver, in_edges, out_edges, is_sequence_kind}
+use Rattle.fw_model.specs.EventStamps.{causes_of}
+use Rattle.fw_model.specs.Offers.{on_edge, stamps_on}
+use Rattle.fw_progress.specs.declared.sent_tally.SentTally.{SentTally}
+use Rattle.fw_progress.specs.declared.traces.Traces.{Traces}
+use Rattle.fw_progress.specs.Covers.{last_number, sends_at}
+use Rattle.fw_progress.specs.Progress.{ChangesAt}
+use Rattle.fw_progress.specs.Tally.{count_inside}
+use Rattle.fw_progress.specs.Trace.{delivered_on, notified_of, sent_at, counted_of, no_tally}
+use Rattle.fw_progress.specs.Traces.{thinned}
+
+-- what is taken of kept stamps: all, or those inside a frontier, thinned inside it
+abbrev pub taken : Option Front → List Stamp → List Stamp
+taken None kept = kept
+taken (Some f) kept = thinned f (filter (inside f) kept)
+
+-- how many messages are counted: in all, or of events inside a frontier
+abbrev pub count_taken : Option Front → SentTally → ℕ
+count_taken None tally = tally.inside + count_inside (inside []) tally.outside
+count_taken (Some f) tally = tally.inside + count_inside (inside f) tally.outside
+
+-- one message on an edge, with its own stamp for a cause
+abbrev pub message_at : ℕ → Stamp → Counted
+message_at d s = record { edge = d; at = s; causes = s ∷ []; count = 1 }
+
+-- one message at each of the stamps that are kept of what was delivered on each in-edge of node p
+abbrev pub all_delivered : Dataflow → ℕ → (ℕ → List Stamp) → List Counted
+all_delivered flow p kept = flat_map (λ d. map (message_at d) (kept d)) (in_edges flow p)
+
+-- one message on an edge at a stamp, where there is one, of a cause
+abbrev pub message_of : ℕ → Stamp → Option Stamp → List Counted
+message_of e cause None = []
+message_of e cause (Some at) = record { edge = e; at = at; causes = cause ∷ []; count = 1 } ∷ []
+
+-- one message on an edge of each event at these stamps that sends
+abbrev pub messages_of : Dataflow → ℕ → List Stamp → ℕ → List Counted
+messages_of flow p ss e = flat_map (λ s. message_of e s (sends_at flow p s)) ss
+
+-- one message on an edge at each of these numbers, of the first epoch
+abbrev pub messages_numbered : List Stamp → ℕ → List Counted
+messages_numbered ss e = map (λ s. record { edge = e; at = s; causes = (0 ∷ []) ∷ []; count = 1 }) ss
+
+-- on each out-edge of node p one message of each event at these stamps that sends; of a sequence that sent so many the last one
+abbrev pub all_sent : Dataflow → ℕ → List Stamp → ℕ → List Counted
+all_sent flow p ss n =
+    if is_sequence_kind (kind_of flow p) then flat_map (messages_numbered (last_number n)) (out_edges flow p)
+    else flat_map (messages_of flow p ss) (out_edges flow p)
+
+-- the traces of node p as data: in all, or of its events inside a frontier
+abbrev pub stamps_by : Dataflow → ℕ → Option Front → Traces → Stamps
+stamps_by flow p part traces = record {
+  delivered = all_delivered flow p (λ d. taken part (delivered_on traces d));
+  notified = taken part (notified_of traces p);
+  sent = all_sent flow p (taken part (sent_at traces p)) (count_taken part (counted_of traces p));
+}
+
+-- ---- data as traces
+
+-- Kept stamps are these, however often and in whichever order these come.
+pub record AreTheSame (all kept : List Stamp) : Type 0 where
+  pub each : AllByRecursion (Contains kept) all
+  pub among : AllByRecursion (Contains all) kept
+
+-- what is kept has these stamps more
+abbrev pub HaveAdded : List Stamp → List Stamp → List Stamp → Type 0
+HaveAdded more old new = (all : List Stamp) → AreTheSame all old → AreTheSame (all ++ more) new
+
+-- The lists of the in-edges of node p have the stamps of these messages more, each of its edge, and the others are as they were.
+pub record TakeUp (flow : Dataflow) (p : ℕ) (ms : List Counted) (old new : List (List Stamp)) : Type 0 where
+  pub one_each : length new ≡ length old
+  pub here : (d : ℕ) → receiver flow d ≡ p → HaveAdded (stamps_on d ms) (slice_index_or old d []) (slice_index_or new d [])
+  pub others : (d : ℕ) → receiver flow d ≢ p → slice_index_or new d [] ≡ slice_index_or old d []
+
+-- The lists of the in-edges of node p are those of these messages, each of its edge, and the others are as they were.
+pub record AreDelivered (flow : Dataflow) (p : ℕ) (ms : List Counted) (old new : List (List Stamp)) : Type 0 where
+  pub one_each : length new ≡ length old
+  pub here : (d : ℕ) → d < length flow.edges → receiver flow d ≡ p → AreTheSame (stamps_on d ms) (slice_index_or new d [])
+  pub others : (d : ℕ) → receiver flow d ≢ p → slice_index_or new d [] ≡ slice_index_or old d []
+
+-- the causes of the messages on the first of these edges, if there is one
+abbrev pub causes_on_first : List ℕ → List Counted → List Stamp
+causes_on_first [] ms = []
+causes_on_first (e ∷ es) ms = causes_of (on_edge e ms)
+
+-- what is kept of where node p sent is the causes of these messages on its first out-edge, unless it is a sequence
+abbrev pub IsSentFrom : Dataflow → ℕ → List Counted → List Stamp → List Stamp → Type 0
+IsSentFrom flow p ms old new = is_sequence_kind (kind_of flow p) ≡ false → AreTheSame (causes_on_first (out_edges flow p) ms) new
+
+-- The traces of node p have what the data tell, and those of the others are as they were.
+pub record AreTold (flow : Dataflow) (p : ℕ) (stamps : Stamps) (count : ℕ) (old new : Traces) : Type 0 where
+  pub delivered : AreDelivered flow p stamps.delivered old.delivered.items new.delivered.items
+  pub notified : ChangesAt p [] (λ old new. AreTheSame stamps.notified new) old.notified.items new.notified.items
+  pub sent : ChangesAt p [] (IsSentFrom flow p stamps.sent) old.sent.items new.sent.items
+  pub counted : ChangesAt p no_tally (λ old new. new ≡ record { inside = count; outside = [] }) old.counted.items new.counted.items

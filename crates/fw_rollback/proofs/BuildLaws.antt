@@ -1,0 +1,266 @@
+-- What is built, node by node and edge by edge.
+use Rattle.std.proofs.Common.{◌≡◌, ◌≢◌, ℕ, ◌+◌, ◌≤◌, ◌<◌, Bool, true, false, List, [], ◌∷◌, ◌++◌, length, set, replicate, Option, Some, None, Result, Ok, Err, sym, ap, subst, ◌∙◌, inl, inr, arith}
+use Rattle.std.specs.Prelude.{slice_get, IsSomeAnd, IfOk, OnOk}
+use Rattle.std.proofs.lemmas.Option.{get_or_from_slice_get, slice_get-get_or}
+use Rattle.std.proofs.lemmas.Bool.{cases_lt, cases_eq}
+use Rattle.std.proofs.lemmas.List.{get_or-set_same, get_or-replicate, length-replicate}
+use Rattle.fw_frontier.specs.Front.{Front, inside}
+use Rattle.fw_flow.specs.declared.choice.Choice.{Choice}
+use Rattle.fw_flow.specs.declared.choice.Cut.{Cut}
+use Rattle.fw_flow.specs.declared.choice.Cut.TheVariants.{Present, At}
+use Rattle.fw_flow.specs.declared.restoring.Restoring.{Restoring}
+use Rattle.fw_flow.specs.declared.restoring.Restoring.TheVariants.{Batches, Bound, Anything, Checkpoints, Events}
+use Rattle.std.specs.List.{AllByRecursion, Contains}
+use Rattle.std.proofs.lemmas.Bool.{and_parts}
+use Rattle.std.proofs.lemmas.List.{append-nil}
+use Rattle.fw_time.specs.Stamp.{Stamp, in_domain}
+use Rattle.fw_time.proofs.EachLaws.{each-weaker}
+use Rattle.fw_flow.specs.declared.event.Event.{Event}
+use Rattle.fw_flow.specs.declared.event.Message.{Message}
+use Rattle.fw_flow.specs.Dataflow.{Dataflow, sender, receiver, kind_of, in_edges, out_edges, bounds_of, node_frontier}
+use Rattle.fw_flow.proofs.OutEdgeLaws.{out_edges-from}
+use Rattle.fw_model.specs.Filtering.{messages_outside}
+use Rattle.fw_model.specs.SortedMessages.{sorted_messages, with_messages}
+use Rattle.fw_model.specs.Told.{EachDelivery}
+use Rattle.fw_model.proofs.ThinnedLaws.{each-contained}
+use Rattle.fw_record.specs.declared.logged.Logged.{Logged}
+use Rattle.fw_record.specs.declared.record.Record.TheVariants as tagged
+use Rattle.fw_node.specs.Arrived.{AreOnEdges}
+use Rattle.fw_node.specs.StateOf.{IsStateOf}
+use Rattle.fw_node.specs.TableOf.{IsTableOf}
+use Rattle.fw_node.proofs.NodeLaws.{each_of}
+use Rattle.fw_rollback.proofs.ListLaws.{out_edges-there}
+use Rattle.fw_rollback.proofs.LogLaws.{with_messages-nothing}
+use Rattle.fw_flow.specs.Restoring.{way_of}
+use Rattle.fw_model.specs.Choice.{cut_of}
+use Rattle.fw_record.specs.declared.record.Checkpoint.{Checkpoint}
+use Rattle.fw_record.specs.declared.record.Record.{Record}
+use Rattle.fw_edge.specs.Messages.{MessagesState}
+use Rattle.fw_node.specs.declared.node.Node.{Node}
+use Rattle.fw_rollback.specs.Asked.{front_at, checkpoint_of, given_of, events_of, CanServe}
+use Rattle.fw_rollback.specs.Built.{by_cut, AreNodesBuilt, AreQueuesBuilt, log_after}
+use Rattle.fw_rollback.specs.Edges.{on_edge, nothing_there}
+use Rattle.fw_rollback.specs.Restored.{HasLogs, HasDone, IsBuilt, IsFromCheckpoint, IsOfNode, log_of, messages_on, outside_of}
+use Rattle.fw_rollback.specs.Tables.{table_at}
+
+-- ---- logs of other nodes
+
+-- the logs of the edges from node p stay
+abbrev pub KeepsLogs : Dataflow → ℕ → List MessagesState → List MessagesState → Type 0
+KeepsLogs flow p logs next = (e : ℕ) → e < length flow.edges → sender flow e ≡ p → on_edge next e ≡ on_edge logs e
+
+pub has_logs-stay : (flow : Dataflow) (p : ℕ) (logs next : List MessagesState) (log : ℕ → MessagesState) → KeepsLogs flow p logs next
+    → HasLogs flow p logs log → HasLogs flow p next log
+has_logs-stay flow p logs next log k h e l s = k e l s ∙ h e l s
+
+from_checkpoint-stays : (flow : Dataflow) (low : List Front) (p : ℕ) (f : Front) (c : Option Checkpoint) (node : Node) (logs next : List MessagesState)
+    → KeepsLogs flow p logs next → IsFromCheckpoint flow low p f c node logs → IsFromCheckpoint flow low p f c node next
+from_checkpoint-stays flow low p f None node logs next k h = (h.0, has_logs-stay flow p logs next (λ e. nothing_there) k h.1)
+from_checkpoint-stays flow low p f (Some c) node logs next k h = (h.0, h.1, λ e l s. k e l s ∙ h.2 e l s)
+
+some-and : {A : Type 0} (P Q : A → Type 0) (o : Option A) → ((x : A) → P x → Q x) → IsSomeAnd o P → IsSomeAnd o Q
+some-and P Q None f h = absurd h
+some-and P Q (Some x) f h = f x h
+
+-- what is built of a node stays where the logs of its edges stay
+pub built-stays : (flow : Dataflow) (low : List Front) (p : ℕ) (f : Front) (given : List Record) (way : Restoring) (table : Option Node) (logs next : List MessagesState)
+    → KeepsLogs flow p logs next → IsBuilt flow low p f given way table logs → IsBuilt flow low p f given way table next
+built-stays flow low p f given Batches table logs next k h = (h.0, has_logs-stay flow p logs next (λ e. nothing_there) k h.1)
+built-stays flow low p f given Bound table logs next k h = (h.0, has_logs-stay flow p logs next (λ e. nothing_there) k h.1)
+built-stays flow low p f given Anything table logs next k h = (h.0, has_logs-stay flow p logs next (λ e. nothing_there) k h.1)
+built-stays flow low p f given Checkpoints table logs next k h =
+    some-and (λ node. IsFromCheckpoint flow low p f (checkpoint_of given) node logs) (λ node. IsFromCheckpoint flow low p f (checkpoint_of given) node next) table
+    (λ node. from_checkpoint-stays flow low p f (checkpoint_of given) node logs next k) h
+built-stays flow low p f given Events table logs next k h =
+    some-and (λ node. HasDone flow low p f (events_of given) node logs) (λ node. HasDone flow low p f (events_of given) node next) table
+    (λ node d. record { of_node = d.of_node; table = d.table; sent = λ batches events a e l s. k e l s ∙ d.sent batches events a e l s }) h
+
+-- ---- one node more
+
+-- The nodes before place n are built, and the logs of the others are empty.
+pub record AreBuiltBefore (flow : Dataflow) (choice : Choice) (low : List Front) (given : List (List Record)) (n : ℕ) (tables : List (Option Node)) (logs : List MessagesState) : Type 0 where
+  pub nodes : AreNodesBuilt flow choice low given n tables logs
+  pub rest : (e : ℕ) → e < length flow.edges → n ≤ sender flow e → on_edge logs e ≡ nothing_there
+  pub each_table : length tables ≡ length flow.nodes
+  pub each_log : length logs ≡ length flow.edges
+
+pub built-none : (flow : Dataflow) (choice : Choice) (low : List Front) (given : List (List Record)) (tables : List (Option Node)) (logs : List MessagesState)
+    → length tables ≡ length flow.nodes → logs ≡ replicate (length flow.edges) nothing_there → AreBuiltBefore flow choice low given 0 tables logs
+built-none flow choice low given tables logs t e = record {
+  nodes = λ p l. absurd (omega arith);
+  rest = λ d l n. ap (λ (ls : List MessagesState). on_edge ls d) e ∙ get_or-replicate (length flow.edges) d nothing_there nothing_there l;
+  each_table = t;
+  each_log = ap length e ∙ length-replicate (length flow.edges) nothing_there;
+}
+
+-- the next node is built, if it is cut
+pub built-more : (flow : Dataflow) (choice : Choice) (low : List Front) (given : List (List Record)) (n d : ℕ) (tables after : List (Option Node)) (logs next : List MessagesState)
+    → d ≡ n → AreBuiltBefore flow choice low given n tables logs
+    → ((f : Front) → cut_of choice d ≡ At f → IsBuilt flow low d f (given_of given d) (way_of flow d) (table_at after d) next)
+    → ((e : ℕ) → sender flow e ≢ d → on_edge next e ≡ on_edge logs e)
+    → ((p : ℕ) → p ≢ d → table_at after p ≡ table_at tables p) → length next ≡ length logs → length after ≡ length tables
+    → AreBuiltBefore flow choice low given (n + 1) after next
+built-more flow choice low given n d tables after logs next at h b others stay long wide = record {
+  nodes = λ p k g c. elim (cases_eq d p) [
+    | inl s ↦
+        let P : ℕ → Type 0 = λ q. cut_of choice q ≡ At g → IsBuilt flow low q g (given_of given q) (way_of flow q) (table_at after q) next in
+        subst P s (b g) c
+    | inr s ↦
+        let Q : Option Node → Type 0 = λ o. IsBuilt flow low p g (given_of given p) (way_of flow p) o next in
+        subst Q (sym (stay p (λ z. s (sym z))))
+        (built-stays flow low p g (given_of given p) (way_of flow p) (table_at tables p) logs next
+        (λ e m r. others e (λ z. s (sym z ∙ r))) (h.nodes p (before p k (λ z. s (at ∙ z))) g c))
+  ];
+  rest = λ e m k. others e (λ z. absurd (omega (arith, z, at))) ∙ h.rest e m (omega arith);
+  each_table = wide ∙ h.each_table;
+  each_log = long ∙ h.each_log;
+}
+  where
+    before : (p : ℕ) → p < n + 1 → n ≢ p → p < n
+    before p k s = elim (cases_lt p n) [
+      | inl m ↦ m
+      | inr m ↦ absurd (s (omega arith))
+    ]
+
+-- the table that is built for a node that is cut, where it is put
+pub built-put : (flow : Dataflow) (choice : Choice) (low : List Front) (p : ℕ) (front f : Front) (given records : List Record) (table : Option Node) (old after : List (Option Node))
+    (logs : List MessagesState) → Some front ≡ front_at (cut_of choice p) → cut_of choice p ≡ At f → records ≡ given → p < length old → after ≡ set old p table
+    → IsBuilt flow low p front records (way_of flow p) table logs → IsBuilt flow low p f given (way_of flow p) (table_at after p) logs
+built-put flow choice low p front f given records table old after logs at cut same there is b =
+    let fronts : front ≡ f = some-same (at ∙ ap front_at cut) in
+    let put : table ≡ table_at after p = sym (ap (λ (ts : List (Option Node)). table_at ts p) is ∙ get_or-set_same old p table None there) in
+    subst (λ o. IsBuilt flow low p f given (way_of flow p) o logs) put
+    (subst (λ rs. IsBuilt flow low p f rs (way_of flow p) table logs) same
+    (subst (λ g. IsBuilt flow low p g records (way_of flow p) table logs) fronts b))
+  where
+    some-same : {A : Type 0} {x y : A} → Some x ≡ Some y → x ≡ y
+    some-same e = cc
+
+-- ---- one queue more
+
+-- the log that an edge has after the cut is the one that was found
+log-got : (cut : Cut) (kept built : List MessagesState) (e : ℕ) (x : MessagesState) → Some x ≡ by_cut cut (slice_get kept e) (slice_get built e)
+    → x ≡ by_cut cut (on_edge kept e) (on_edge built e)
+log-got Present kept built e x h = sym (get_or_from_slice_get kept e x nothing_there (sym h))
+log-got (At f) kept built e x h = sym (get_or_from_slice_get built e x nothing_there (sym h))
+
+-- one is found of each edge
+pub log-there : (cut : Cut) (kept built : List MessagesState) (e : ℕ) → e < length kept → e < length built
+    → None ≢ by_cut cut (slice_get kept e) (slice_get built e)
+log-there Present kept built e k b n = let s = slice_get-get_or kept e nothing_there k in cc
+log-there (At f) kept built e k b n = let s = slice_get-get_or built e nothing_there b in cc
+
+-- what is put into a queue whose receiver is cut is what the log that was found holds outside the cut
+pub queue-filled : {T E : Type 0} (flow : Dataflow) (choice : Choice) (kept built : List MessagesState) (e : ℕ) (front g : Front) (x : MessagesState) (r : Result T E) (next : MessagesState)
+    → Some front ≡ front_at (cut_of choice (receiver flow e)) → cut_of choice (receiver flow e) ≡ At g
+    → Some x ≡ by_cut (cut_of choice (sender flow e)) (slice_get kept e) (slice_get built e)
+    → OnOk r (next ≡ outside_of front x) → OnOk r (next ≡ outside_of g (log_after flow choice kept built e))
+queue-filled flow choice kept built e front g x (Err y) next at cut got h = tt
+queue-filled flow choice kept built e front g x (Ok y) next at cut got h =
+    h ∙ ap (λ f. outside_of f x) (some-same (at ∙ ap front_at cut)) ∙ ap (outside_of g) (log-got (cut_of choice (sender flow e)) kept built e x got)
+  where
+    some-same : {A : Type 0} {a b : A} → Some a ≡ Some b → a ≡ b
+    some-same e = cc
+
+-- an empty queue into which what a log holds outside a frontier is put holds just that
+pub queue-put : {T E : Type 0} (front : Front) (log : MessagesState) (ms : List Message) (qs : List MessagesState) (e : ℕ) (old new : MessagesState) (r : Result T E)
+    → e < length qs → on_edge qs e ≡ nothing_there → Some old ≡ slice_get qs e → ms ≡ messages_outside (inside front) log.messages
+    → OnOk r (new ≡ record { messages = with_messages ms old.messages; refused = false })
+    → OnOk r (on_edge (set qs e new) e ≡ outside_of front log)
+queue-put front log ms qs e old new (Err x) l empty at is h = tt
+queue-put front log ms qs e old new (Ok x) l empty at is h =
+    let there : old ≡ nothing_there = sym (get_or_from_slice_get qs e old nothing_there (sym at)) ∙ empty in
+    let state : List Message → MessagesState = λ xs. record { messages = xs; refused = false } in
+    get_or-set_same qs e new nothing_there l ∙ h
+    ∙ ap (λ (q : MessagesState). state (with_messages ms q.messages)) there
+    ∙ ap state (with_messages-nothing ms ∙ ap sorted_messages is)
+
+-- there is a queue of each edge
+pub queue-there : (qs : List MessagesState) (e : ℕ) → e < length qs → None ≢ slice_get qs e
+queue-there qs e l n = let s = slice_get-get_or qs e nothing_there l in cc
+
+-- The queues before place n are filled, and the others are empty.
+pub record AreFilledBefore (flow : Dataflow) (choice : Choice) (kept built : List MessagesState) (n : ℕ) (queues : List MessagesState) : Type 0 where
+  pub filled : AreQueuesBuilt flow choice kept built n queues
+  pub rest : (e : ℕ) → e < length flow.edges → n ≤ e → on_edge queues e ≡ nothing_there
+  pub each : length queues ≡ length flow.edges
+
+pub filled-none : (flow : Dataflow) (choice : Choice) (kept built queues : List MessagesState) → queues ≡ replicate (length flow.edges) nothing_there
+    → AreFilledBefore flow choice kept built 0 queues
+filled-none flow choice kept built queues e = record {
+  filled = λ d l. absurd (omega arith);
+  rest = λ d l n. ap (λ (qs : List MessagesState). on_edge qs d) e ∙ get_or-replicate (length flow.edges) d nothing_there nothing_there l;
+  each = ap length e ∙ length-replicate (length flow.edges) nothing_there;
+}
+
+pub filled-more : (flow : Dataflow) (choice : Choice) (kept built : List MessagesState) (n d : ℕ) (queues next : List MessagesState)
+    → d ≡ n → AreFilledBefore flow choice kept built n queues
+    → ((g : Front) → cut_of choice (receiver flow d) ≡ At g → on_edge next d ≡ outside_of g (log_after flow choice kept built d))
+    → ((e : ℕ) → e ≢ d → on_edge next e ≡ on_edge queues e) → length next ≡ length queues
+    → AreFilledBefore flow choice kept built (n + 1) next
+filled-more flow choice kept built n d queues next at h here others long = record {
+  filled = λ e k g c. elim (cases_eq d e) [
+    | inl s ↦
+        let P : ℕ → Type 0 = λ x. cut_of choice (receiver flow x) ≡ At g → on_edge next x ≡ outside_of g (log_after flow choice kept built x) in
+        subst P s (here g) c
+    | inr s ↦ others e (λ z. s (sym z)) ∙ h.filled e (before e k (λ z. s (at ∙ z))) g c
+  ];
+  rest = λ e l k. others e (λ z. absurd (omega (arith, z, at))) ∙ h.rest e l (omega arith);
+  each = long ∙ h.each;
+}
+  where
+    before : (p : ℕ) → p < n + 1 → n ≢ p → p < n
+    before p k s = elim (cases_lt p n) [
+      | inl m ↦ m
+      | inr m ↦ absurd (s (omega arith))
+    ]
+
+-- ---- checkpoints
+
+-- the messages of the first record serve, where it is a checkpoint
+pub first-serves : (flow : Dataflow) (p : ℕ) (rs : List Record) (c : Checkpoint) → Some c ≡ checkpoint_of rs → AllByRecursion (CanServe flow p) rs
+    → AllByRecursion (λ (l : Logged). Contains (out_edges flow p) l.edge) c.log
+first-serves flow p [] c e a = absurd cc
+first-serves flow p (tagged.State k ∷ rs) c e a =
+    let same : k ≡ c = cc in
+    subst (λ (x : Checkpoint). AllByRecursion (λ (l : Logged). Contains (out_edges flow p) l.edge) x.log) same a.0
+first-serves flow p (tagged.Event q event ∷ rs) c e a = absurd cc
+
+-- they are on edges
+pub logged-there : (flow : Dataflow) (p : ℕ) (ls : List Logged) → AllByRecursion (λ (l : Logged). Contains (out_edges flow p) l.edge) ls
+    → AllByRecursion (λ (l : Logged). l.edge < length flow.edges) ls
+logged-there flow p ls a =
+    each-weaker (λ (l : Logged). Contains (out_edges flow p) l.edge) (λ (l : Logged). l.edge < length flow.edges) ls
+    (λ l k. each-contained (λ e. e < length flow.edges) l.edge (out_edges flow p) k (out_edges-there flow p)) a
+
+-- and on none from another node
+pub logged-apart : (flow : Dataflow) (p : ℕ) (ls : List Logged) → AllByRecursion (λ (l : Logged). Contains (out_edges flow p) l.edge) ls
+    → (e : ℕ) → sender flow e ≢ p → AllByRecursion (λ (l : Logged). l.edge ≢ e) ls
+logged-apart flow p ls a e n =
+    each-weaker (λ (l : Logged). Contains (out_edges flow p) l.edge) (λ (l : Logged). l.edge ≢ e) ls
+    (λ l k s. n (ap (sender flow) (sym s) ∙ each-contained (λ d. sender flow d ≡ p) l.edge (out_edges flow p) k (out_edges-from (λ d. sender flow d ≡ p) flow p (λ d i r. r)))) a
+
+-- a node that is restored from a checkpoint, with its logs
+pub restored-some : {E : Type 0} (flow : Dataflow) (low : List Front) (p : ℕ) (f : Front) (rs : List Record) (c : Checkpoint) (r : Result Node E) (old new : List MessagesState)
+    → Some c ≡ checkpoint_of rs → HasLogs flow p old (λ e. nothing_there)
+    → ((settled : Stamp → Bool) (before : List Event) → EachDelivery (λ s. (settled s ≡ true) × (in_domain (bounds_of flow p) s ≡ true)) before
+    → AreOnEdges (in_edges flow p) before → IsStateOf (kind_of flow p) before c.state → IfOk r (λ node. IsTableOf flow p settled node before))
+    → IfOk r (IsOfNode flow p)
+    → ((e : ℕ) (ms : List Message) → on_edge old e ≡ log_of flow low e ms → on_edge new e ≡ log_of flow low e (messages_on e c.log ++ ms))
+    → IfOk r (λ node. IsFromCheckpoint flow low p f (checkpoint_of rs) node new)
+restored-some flow low p f rs c (Err x) old new e empty table of_node logs = tt
+restored-some flow low p f rs c (Ok node) old new e empty table of_node logs =
+    subst (λ (k : Option Checkpoint). IsFromCheckpoint flow low p f k node new) e (
+      of_node,
+      λ before inside_f on state. table (node_frontier flow p f) before
+          (each_of (λ s. node_frontier flow p f s ≡ true) (λ s. (node_frontier flow p f s ≡ true) × (in_domain (bounds_of flow p) s ≡ true))
+          (λ s k. (k, (and_parts (in_domain (bounds_of flow p) s) (inside f s) k).0)) before inside_f) on state,
+      λ d l r. logs d [] (empty d l r) ∙ ap (log_of flow low d) (append-nil (messages_on d c.log)),
+    )
+
+-- a node without a checkpoint
+pub restored-none : {E : Type 0} (flow : Dataflow) (low : List Front) (p : ℕ) (f : Front) (rs : List Record) (r : Result Node E) (logs : List MessagesState)
+    → None ≡ checkpoint_of rs → HasLogs flow p logs (λ e. nothing_there) → ((settled : Stamp → Bool) → IfOk r (λ node. IsTableOf flow p settled node []))
+    → IfOk r (λ node. IsFromCheckpoint flow low p f (checkpoint_of rs) node logs)
+restored-none flow low p f rs (Err x) logs e empty new = tt
+restored-none flow low p f rs (Ok node) logs e empty new = subst (λ (k : Option Checkpoint). IsFromCheckpoint flow low p f k node logs) e (new, empty)

@@ -1,0 +1,180 @@
+-- The records that are fetched, and what they give.
+use Rattle.std.proofs.Common.{◌≡◌, ◌≢◌, ℕ, ◌+◌, ◌<◌, Bool, true, false, ◌&&◌, ◌==◌, List, [], ◌∷◌, ◌++◌, length, length-set, take, get_or, set, replicate, filter, Option, Some, Ok, Err, refl, sym, ap, subst, ◌∙◌, inl, inr, arith}
+use Rattle.std.proofs.lemmas.Bool.{cases_Bool, eqb-true, eq-eqb, and_parts, and_from, false≢true}
+use Rattle.std.proofs.lemmas.List.{append-nil, take_more, get_or-set_same, get_or-set_other, get_or-replicate, length-replicate}
+use Rattle.std.proofs.lemmas.List.Elements.{filter-append}
+use Rattle.std.specs.List.{AllZip, Contains}
+use Rattle.std.specs.Option.{ForSome}
+use Rattle.std.specs.FinMap as map
+use Rattle.fw_time.specs.Stamp.{in_domain}
+use Rattle.fw_time.proofs.EachLaws.{each-at, each-filter, each-one, each-weaker, each_of-map}
+use Rattle.fw_frontier.specs.Front.{Front, inside}
+use Rattle.fw_flow.specs.declared.choice.Choice.{Choice}
+use Rattle.fw_flow.specs.declared.choice.Cut.{Cut}
+use Rattle.fw_flow.specs.declared.choice.Cut.TheVariants.{Present, At}
+use Rattle.fw_flow.specs.declared.restoring.Restoring.{Restoring}
+use Rattle.fw_flow.specs.declared.restoring.Restoring.TheVariants.{Batches, Bound, Anything, Checkpoints, Events}
+use Rattle.fw_flow.specs.Dataflow.{Dataflow, out_edges, bounds_of}
+use Rattle.fw_flow.specs.Restoring.{way_of}
+use Rattle.fw_model.specs.Choice.{cut_of}
+use Rattle.fw_model.proofs.FilterLaws.{filter-in, filter-out}
+use Rattle.fw_record.specs.declared.logged.Logged.{Logged}
+use Rattle.fw_record.specs.declared.record.Record.{Record}
+use Rattle.fw_record.specs.declared.record.Record.TheVariants as tagged
+use Rattle.fw_record.specs.OfNode.{CanBeLogged}
+use Rattle.fw_keep.specs.declared.entry.Entry.{Entry}
+use Rattle.fw_keep.specs.declared.entry.Written.{Written}
+use Rattle.fw_keep.specs.declared.entry.Written.TheVariants as written
+use Rattle.fw_keep.specs.declared.fault.KeepFault.{KeepFault}
+use Rattle.fw_keep.specs.declared.fault.KeepFault.TheVariants as fault
+use Rattle.fw_keep.specs.Catalogue.{has_entry, ids_of}
+use Rattle.fw_keep.proofs.IdLaws.{among-self}
+use Rattle.fw_keep.specs.Entry.{IsRecordAs, stamp_of}
+use Rattle.fw_keep.specs.Stored.{Records, Fetches, IsToldUnder}
+use Rattle.fw_rollback.specs.Asked.{is_needed, is_asked_at, is_asked_for, asked_of, given_of, IsFetched, AreFetched, IsDamagedIfSaid, CanServe, CanServeEach}
+use Rattle.fw_rollback.proofs.ListLaws.{zip-push, zip-each}
+
+-- ---- one entry more
+
+-- Of these entries the records were fetched, for each node.
+pub record HasFetched (flow : Dataflow) (choice : Choice) (records : Option Records) (entries : List Entry) (given : List (List Record)) : Type 0 where
+  pub each : length given ≡ length flow.nodes
+  pub fetched : AreFetched flow choice records entries given
+
+pub fetched-none : (flow : Dataflow) (choice : Choice) (records : Option Records) (given : List (List Record)) → given ≡ replicate (length flow.nodes) []
+    → HasFetched flow choice records [] given
+fetched-none flow choice records given e = record {
+  each = ap length e ∙ length-replicate (length flow.nodes) [];
+  fetched = λ p l. let P : List Record → Type 0 = λ rs. AllZip (IsFetched flow records) [] rs in
+      subst P (sym (ap (λ (gs : List (List Record)). given_of gs p) e ∙ get_or-replicate (length flow.nodes) p [] [] l)) tt;
+}
+
+-- whether an entry is one of node p for which the choice asks
+abbrev is_of : Dataflow → Choice → ℕ → Entry → Bool
+is_of flow choice p e = (e.node == p) && is_asked_for flow choice e
+
+asked-more : (flow : Dataflow) (choice : Choice) (entries : List Entry) (i p : ℕ) (e : Entry) → i < length entries → e ≡ get_or entries i e
+    → asked_of flow choice (take (i + 1) entries) p ≡ asked_of flow choice (take i entries) p ++ filter (is_of flow choice p) (e ∷ [])
+asked-more flow choice entries i p e l at =
+    let here : Entry → List Entry = λ x. asked_of flow choice (take i entries) p ++ filter (is_of flow choice p) (x ∷ []) in
+    ap (λ (es : List Entry). asked_of flow choice es p) (take_more entries i e l)
+    ∙ filter-append (is_of flow choice p) (take i entries) (get_or entries i e ∷ []) ∙ ap here (sym at)
+
+-- the entry is asked for, and its record was added
+pub fetched-more : (flow : Dataflow) (choice : Choice) (records : Option Records) (entries : List Entry) (i : ℕ) (e : Entry) (r : Record) (given next : List (List Record))
+    → i < length entries → e ≡ get_or entries i e → is_asked_for flow choice e ≡ true → HasFetched flow choice records (take i entries) given
+    → IsFetched flow records e r → next ≡ set given e.node (given_of given e.node ++ r ∷ []) → HasFetched flow choice records (take (i + 1) entries) next
+fetched-more flow choice records entries i e r given next l at asked h one is = record {
+  each = ap length is ∙ length-set given e.node (given_of given e.node ++ r ∷ []) ∙ h.each;
+  fetched = λ p n.
+      let P : List Entry → List Record → Type 0 = λ es rs. AllZip (IsFetched flow records) es rs in
+      let before = asked_of flow choice (take i entries) p in
+      let more = asked-more flow choice entries i p e l at in
+      elim (cases_Bool (e.node == p)) [
+        | inl s ↦
+            let same : e.node ≡ p = eqb-true e.node p s in
+            let in_e : filter (is_of flow choice p) (e ∷ []) ≡ e ∷ [] = filter-in (is_of flow choice p) e [] (and_from (e.node == p) (is_asked_for flow choice e) s asked) in
+            let there : e.node < length given = omega (arith, h.each, n, same) in
+            let records_are : given_of next p ≡ given_of given p ++ r ∷ [] =
+            ap (λ (gs : List (List Record)). given_of gs p) is
+            ∙ ap (λ q. given_of (set given e.node (given_of given e.node ++ r ∷ [])) q) (sym same)
+            ∙ get_or-set_same given e.node (given_of given e.node ++ r ∷ []) [] there
+            ∙ ap (λ q. given_of given q ++ r ∷ []) same in
+            subst (λ (es : List Entry). P es (given_of next p)) (sym (more ∙ ap (λ (xs : List Entry). before ++ xs) in_e))
+            (subst (P (before ++ e ∷ [])) (sym records_are) (zip-push (IsFetched flow records) before (given_of given p) e r (h.fetched p n) one))
+        | inr s ↦
+            let out_e : filter (is_of flow choice p) (e ∷ []) ≡ [] = filter-out (is_of flow choice p) e [] (ap (λ b. b && is_asked_for flow choice e) s) in
+            let records_are : given_of next p ≡ given_of given p =
+            ap (λ (gs : List (List Record)). given_of gs p) is ∙ get_or-set_other given e.node p (given_of given e.node ++ r ∷ []) [] (apart p e.node s) in
+            subst (λ (es : List Entry). P es (given_of next p)) (sym (more ∙ ap (λ (xs : List Entry). before ++ xs) out_e ∙ append-nil before))
+            (subst (P before) (sym records_are) (h.fetched p n))
+      ];
+}
+  where
+    apart : (a b : ℕ) → b == a ≡ false → a ≢ b
+    apart a b f e = absurd (false≢true (sym f ∙ eq-eqb b a (sym e)))
+
+-- the entry is not asked for
+pub fetched-same : (flow : Dataflow) (choice : Choice) (records : Option Records) (entries : List Entry) (i : ℕ) (e : Entry) (given : List (List Record))
+    → i < length entries → e ≡ get_or entries i e → is_asked_for flow choice e ≡ false → HasFetched flow choice records (take i entries) given
+    → HasFetched flow choice records (take (i + 1) entries) given
+fetched-same flow choice records entries i e given l at asked h = record {
+  each = h.each;
+  fetched = λ p n.
+      let P : List Entry → Type 0 = λ es. AllZip (IsFetched flow records) es (given_of given p) in
+      let before = asked_of flow choice (take i entries) p in
+      let out_e : filter (is_of flow choice p) (e ∷ []) ≡ [] = filter-out (is_of flow choice p) e [] (and_no (e.node == p) (is_asked_for flow choice e) asked) in
+      subst P (sym (asked-more flow choice entries i p e l at ∙ ap (λ (xs : List Entry). before ++ xs) out_e ∙ append-nil before)) (h.fetched p n);
+}
+  where
+    and_no : (a b : Bool) → b ≡ false → a && b ≡ false
+    and_no true b e = e
+    and_no false b e = refl
+
+-- what was fetched of an entry
+pub fetched-one : (flow : Dataflow) (records : Option Records) (e : Entry) (r : Record) (given : Option (ℕ × List ℕ)) → Fetches flow e given (Ok r)
+    → IsToldUnder e.id records (Ok r) → IsFetched flow records e r
+fetched-one flow records e r given f t = record { sound = f.1; fits = f.2; told = t }
+
+-- a damaged record is one that the choice asks for
+pub damaged : (T : Type 0) (flow : Dataflow) (choice : Choice) (records : Option Records) (entries : List Entry) (e : Entry) (given : Option (ℕ × List ℕ)) (why : KeepFault)
+    → Contains entries e → is_asked_for flow choice e ≡ true → Fetches flow e given (Err why) → IsToldUnder e.id records (Err why)
+    → IsDamagedIfSaid {T = T} flow choice records entries given (Err why)
+damaged T flow choice records entries e given (fault.Damaged id bytes) there asked f t = record {
+  entry = e;
+  there = there;
+  asked = asked;
+  named = sym f.0;
+  given = f.1 ∙ ap (λ n. Some (n, bytes.items)) (sym f.0);
+  told = let P : ℕ → Type 0 = λ n. ForSome records (λ held. map.get held n ≡ Some bytes.items) in subst P (sym f.0) t;
+  none = f.2;
+}
+damaged T flow choice records entries e given fault.StoreFault there asked f t = tt
+damaged T flow choice records entries e given fault.NoMemory there asked f t = tt
+
+-- ---- what the records serve
+
+needed : (flow : Dataflow) (choice : Choice) (p : ℕ) (e : Entry) → is_of flow choice p e ≡ true
+    → (g : Front) × (e.node ≡ p) × (is_needed flow e.node g (way_of flow e.node) e.written ≡ true)
+needed flow choice p e h =
+    let parts = and_parts (e.node == p) (is_asked_for flow choice e) h in
+    by (cut_of choice e.node) parts.1 (eqb-true e.node p parts.0)
+  where
+    by : (cut : Cut) → is_asked_at flow cut e ≡ true → e.node ≡ p → (g : Front) × (e.node ≡ p) × (is_needed flow e.node g (way_of flow e.node) e.written ≡ true)
+    by Present a s = absurd (false≢true a)
+    by (At g) a s = (g, s, (and_parts e.acknowledged (is_needed flow e.node g (way_of flow e.node) e.written) a).1)
+
+serves : (flow : Dataflow) (p : ℕ) (g : Front) (way : Restoring) (what : Written) (r : Record) → is_needed flow p g way what ≡ true → IsRecordAs flow p what r → CanServe flow p r
+serves flow p g way (written.Checkpoint recorded stamps sent) (tagged.State c) n f =
+    each-weaker (CanBeLogged flow p recorded.front) (λ (l : Logged). Contains (out_edges flow p) l.edge) c.log (λ l k. k.edge) f.of_node.log.messages
+serves flow p g way (written.Checkpoint recorded stamps sent) (tagged.Event q event) n f = absurd f.of_node
+serves flow p g Events (written.Event event) r n f =
+    subst (CanServe flow p) (sym f) (and_parts (in_domain (bounds_of flow p) (stamp_of event)) (inside g (stamp_of event)) n).0
+serves flow p g Batches (written.Event event) r n f = absurd (false≢true n)
+serves flow p g Bound (written.Event event) r n f = absurd (false≢true n)
+serves flow p g Anything (written.Event event) r n f = absurd (false≢true n)
+serves flow p g Checkpoints (written.Event event) r n f = absurd (false≢true n)
+
+-- records that were fetched serve
+pub fetched-serve : (flow : Dataflow) (choice : Choice) (records : Option Records) (entries : List Entry) (given : List (List Record))
+    → AreFetched flow choice records entries given → CanServeEach flow given
+fetched-serve flow choice records entries given h p l =
+    zip-each (IsFetched flow records) (λ e. is_of flow choice p e ≡ true) (CanServe flow p)
+    (λ e r a b.
+    let n = needed flow choice p e a in
+    subst (λ q. CanServe flow q r) n.1 (serves flow e.node n.0 (way_of flow e.node) e.written r n.2 b.fits))
+    (asked_of flow choice entries p) (given_of given p)
+    (each-filter (λ e. is_of flow choice p e ≡ true) (is_of flow choice p) entries (each-one (λ e. is_of flow choice p e ≡ true → is_of flow choice p e ≡ true) entries (λ e t. t)))
+    (h p l)
+
+-- ---- the entries of a list
+
+-- an entry of a list has its id there
+pub entry-there : (es : List Entry) (i : ℕ) (e : Entry) → i < length es → e ≡ get_or es i e → has_entry e.id es ≡ true
+entry-there es i e l at =
+    subst (λ (x : Entry). has_entry x.id es ≡ true) (sym at)
+    (each-at (λ (x : Entry). has_entry x.id es ≡ true) es i e l (each_of-map (λ id. has_entry id es ≡ true) (λ (x : Entry). x.id) es (among-self (ids_of es))))
+
+-- it is one of the list, also by another name
+pub entry-among : (es all : List Entry) (i : ℕ) (e : Entry) → es ≡ all → i < length es → e ≡ get_or es i e → Contains all e
+entry-among es all i e same l at = subst (λ (xs : List Entry). Contains xs e) same (i, l, sym at)

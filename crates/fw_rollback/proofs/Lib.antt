@@ -1,0 +1,9 @@
+pub mod BuildLaws
+pub mod CutLaws
+pub mod GivenLaws
+pub mod ListLaws
+pub mod LogLaws
+pub mod OfNodeLaws
+pub mod PutLaws
+pub mod ReplayLaws
+pub mod SwapLaws

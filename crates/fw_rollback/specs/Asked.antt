@@ -1,0 +1,116 @@
+-- Which writes the cuts of a choice ask for, and the records that were fetched of them.
+use Rattle.std.specs.Prelude.{◌≡◌, ℕ, ◌<◌, Bool, true, false, ◌&&◌, ◌==◌}
+use Rattle.std.specs.Prelude.{List, [], ◌∷◌, length, filter, Option, Some, None, Result, Ok, Err, slice_index_or}
+use Rattle.std.specs.Option.{ForSome}
+use Rattle.std.specs.List.{AllByRecursion, AllZip, Contains, flat_map}
+use Rattle.std.specs.FinMap as map
+use Rattle.fw_time.specs.Stamp.{in_domain}
+use Rattle.fw_frontier.specs.Front.{Front, same_front}
+use Rattle.fw_flow.specs.declared.choice.Choice.{Choice}
+use Rattle.fw_flow.specs.declared.choice.Cut.{Cut}
+use Rattle.fw_flow.specs.declared.choice.Cut.TheVariants.{Present, At}
+use Rattle.fw_flow.specs.declared.restoring.Restoring.{Restoring}
+use Rattle.fw_flow.specs.declared.restoring.Restoring.TheVariants.{Checkpoints, Events}
+use Rattle.fw_flow.specs.Dataflow.{Dataflow, out_edges, bounds_of, node_frontier}
+use Rattle.fw_flow.specs.Restoring.{way_of}
+use Rattle.fw_model.specs.Choice.{cut_of}
+use Rattle.fw_record.specs.declared.logged.Logged.{Logged}
+use Rattle.fw_record.specs.declared.record.Checkpoint.{Checkpoint}
+use Rattle.fw_record.specs.declared.record.Event.{Event as LoggedEvent}
+use Rattle.fw_record.specs.declared.record.Record.{Record}
+use Rattle.fw_record.specs.declared.record.Record.TheVariants as tagged
+use Rattle.fw_record.specs.Sound.{IsSound}
+use Rattle.fw_record.specs.Spelling.{spelling}
+use Rattle.fw_keep.specs.declared.entry.Entry.{Entry}
+use Rattle.fw_keep.specs.declared.entry.Written.{Written}
+use Rattle.fw_keep.specs.declared.entry.Written.TheVariants as written
+use Rattle.fw_keep.specs.declared.fault.KeepFault.{KeepFault}
+use Rattle.fw_keep.specs.declared.fault.KeepFault.TheVariants as fault
+use Rattle.fw_keep.specs.Entry.{IsRecordOf, stamp_of}
+use Rattle.fw_keep.specs.Stored.{Records, SpellsNone}
+
+-- the frontier of a cut; none where the node stays as it is
+abbrev pub front_at : Cut → Option Front
+front_at Present = None
+front_at (At f) = Some f
+
+-- whether node p needs what is written, where it is restored in this way to f: its checkpoint at f, or each event inside
+abbrev pub is_needed : Dataflow → ℕ → Front → Restoring → Written → Bool
+is_needed flow p f Checkpoints (written.Checkpoint recorded stamps sent) = same_front recorded.front f
+is_needed flow p f Events (written.Event event) = node_frontier flow p f (stamp_of event)
+is_needed flow p f way what = false
+
+-- whether the cut of its node asks for the entry: it is acknowledged, and the node needs it
+abbrev pub is_asked_at : Dataflow → Cut → Entry → Bool
+is_asked_at flow Present e = false
+is_asked_at flow (At f) e = e.acknowledged && is_needed flow e.node f (way_of flow e.node) e.written
+
+-- whether the choice asks for the entry
+abbrev pub is_asked_for : Dataflow → Choice → Entry → Bool
+is_asked_for flow choice e = is_asked_at flow (cut_of choice e.node) e
+
+-- the entries of node p that its cut asks for, in order
+abbrev pub asked_of : Dataflow → Choice → List Entry → ℕ → List Entry
+asked_of flow choice entries p = filter (λ e. (e.node == p) && is_asked_for flow choice e) entries
+
+-- the records of node p, where these are those of each node
+abbrev pub given_of : List (List Record) → ℕ → List Record
+given_of given p = slice_index_or given p []
+
+-- The record was fetched of the entry: it is one that can be the entry's, and where the store tells its records the one under
+-- the entry's id.
+pub record IsFetched (flow : Dataflow) (records : Option Records) (e : Entry) (r : Record) : Type 0 where
+  pub sound : IsSound r
+  pub fits : IsRecordOf flow e r
+  pub told : ForSome records (λ held. map.get held e.id ≡ Some (spelling r))
+
+-- for each node one record was fetched of each entry that its cut asks for, in order
+abbrev pub AreFetched : Dataflow → Choice → Option Records → List Entry → List (List Record) → Type 0
+AreFetched flow choice records entries given =
+    (p : ℕ) → p < length flow.nodes → AllZip (IsFetched flow records) (asked_of flow choice entries p) (given_of given p)
+
+-- An entry that the choice asks for has this id, and these bytes, which the store gave under it, spell no record of the entry.
+pub record IsDamaged (flow : Dataflow) (choice : Choice) (records : Option Records) (entries : List Entry) (got : Option (ℕ × List ℕ))
+    (id : ℕ) (bytes : List ℕ) : Type 0 where
+  pub entry : Entry
+  pub there : Contains entries entry
+  pub asked : is_asked_for flow choice entry ≡ true
+  pub named : entry.id ≡ id
+  pub given : got ≡ Some (id, bytes)
+  pub told : ForSome records (λ held. map.get held id ≡ Some bytes)
+  pub none : SpellsNone flow entry bytes
+
+-- where the answer is that a record is damaged, it is one that the choice asks for
+abbrev pub IsDamagedIfSaid : {T : Type 0} → Dataflow → Choice → Option Records → List Entry → Option (ℕ × List ℕ) → Result T KeepFault → Type 0
+IsDamagedIfSaid flow choice records entries given (Ok x) = Unit {0}
+IsDamagedIfSaid flow choice records entries given (Err (fault.Damaged id bytes)) = IsDamaged flow choice records entries given id bytes.items
+IsDamagedIfSaid flow choice records entries given (Err fault.StoreFault) = Unit {0}
+IsDamagedIfSaid flow choice records entries given (Err fault.NoMemory) = Unit {0}
+
+-- ---- what records hold
+
+-- the checkpoint of which the first record is, if there is one
+abbrev pub checkpoint_of : List Record → Option Checkpoint
+checkpoint_of [] = None
+checkpoint_of (tagged.State c ∷ rs) = Some c
+checkpoint_of (tagged.Event p event ∷ rs) = None
+
+-- the event of which the record is, if it is one of an event
+abbrev pub event_of : Record → List LoggedEvent
+event_of (tagged.State c) = []
+event_of (tagged.Event p event) = event ∷ []
+
+-- the events of records, in order
+abbrev pub events_of : List Record → List LoggedEvent
+events_of rs = flat_map event_of rs
+
+-- ---- for the proofs
+
+-- what the building of node p asks of a record: a checkpoint's messages are on edges from the node, an event is at a stamp of its
+-- domain
+abbrev pub CanServe : Dataflow → ℕ → Record → Type 0
+CanServe flow p (tagged.State c) = AllByRecursion (λ (l : Logged). Contains (out_edges flow p) l.edge) c.log
+CanServe flow p (tagged.Event q event) = in_domain (bounds_of flow p) (stamp_of event) ≡ true
+
+abbrev pub CanServeEach : Dataflow → List (List Record) → Type 0
+CanServeEach flow given = (p : ℕ) → p < length flow.nodes → AllByRecursion (CanServe flow p) (given_of given p)

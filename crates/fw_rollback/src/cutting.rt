@@ -1,0 +1,55 @@
+//! The parts of an engine are cut to a choice.
+ghost use Rattle.std.specs.Prelude.{◌≡◌, ◌≤◌, OnOk, OnErr, IsErrOf};
+ghost use Rattle.fw_outside.specs.Outside.{Rose};
+ghost use Rattle.fw_keep.specs.Stored.{IsStored};
+ghost use Rattle.fw_rollback.specs.Asked.{IsDamagedIfSaid};
+ghost use Rattle.fw_rollback.specs.Restored.{AreOfFlow, AreOfNodes, Restores};
+
+use crate::Parts;
+use crate::built::build;
+use crate::given::read;
+use crate::swap::swap;
+use fw_flow::{Choice, Flow};
+use fw_keep::KeepFault;
+use fw_outside::Store;
+use std::alloc::Global;
+
+/// Cuts what is kept of each node to the choice.
+///
+/// Of a node that is cut to a frontier: its table and its log are built anew, from nothing, from its checkpoint at the
+/// frontier, or by doing its logged events inside again; its writes that do not lie within are taken out, and their bytes
+/// wait for a sweep; an input has injected the batches inside alone, and an output has no rec. A queue to a node that stays
+/// as it is keeps what comes from what its sender keeps; one to a node that is cut has what the sender's new log holds
+/// outside the cut. All else stays.
+///
+/// # Errors
+///
+/// `StoreFault` where the store fails, `Damaged` where the bytes of a write that is asked for spell no record of it, and
+/// `NoMemory` where memory is refused. Then the parts, and the store's records, are as they were.
+pub fn restore<K: Store>(
+    alloc: Global,
+    flow: &Flow,
+    choice: &Choice,
+    parts: &mut Parts,
+    store: &mut K,
+) -> Result<(), KeepFault>
+    requires each { AreOfFlow flow.now parts.old }
+    requires stored { IsStored parts.old.keep (K.records store.old) }
+
+    ensures restored { OnOk result (Restores flow.now choice.now (K.records store.old) parts.old parts.new) }
+    ensures each { AreOfFlow flow.now parts.new }
+    ensures nodes { AreOfNodes flow.now parts.old.tables → AreOfNodes flow.now parts.new.tables }
+    ensures stored { IsStored parts.new.keep (K.records store.new) }
+    ensures stays { K.records store.new ≡ K.records store.old }
+
+    // After a refusal the parts are as they were.
+    ensures kept { OnErr result (parts.new ≡ parts.old) }
+    ensures damaged { IsDamagedIfSaid flow.now choice.now (K.records store.old) parts.old.keep.entries (K.given store.new) result }
+    ensures failed { IsErrOf result KeepFault.StoreFault → Rose (K.fault_count store.old) (K.fault_count store.new) }
+    ensures never_falls { K.fault_count store.old ≤ K.fault_count store.new }
+{
+    let given = read(alloc, flow, choice, &parts.keep, store)?;
+    let built = build(alloc, flow, choice, parts, &given)?;
+    swap(flow, choice, parts, built);
+    Ok(())
+}

@@ -1,0 +1,227 @@
+//! A node does its logged events again.
+ghost use Rattle.std.specs.Prelude.{◌≡◌, ◌≢◌, ◌<◌, ◌++◌, ◌∷◌, [], ℕ, List, true, false, length, slice_index_or, IfOk, OnOk};
+ghost use Rattle.std.specs.List.{AllByRecursion};
+ghost use Rattle.fw_time.specs.Stamp.{in_domain};
+ghost use Rattle.fw_bag.specs.declared.rec.Rec.{Rec as OneRec};
+ghost use Rattle.fw_flow.specs.declared.event.Event.{Event as Done};
+ghost use Rattle.fw_flow.specs.declared.event.Message.{Message as Sent};
+ghost use Rattle.fw_flow.specs.Dataflow.{Dataflow, bounds_of, kind_of, sender, is_notified_kind, node_frontier};
+ghost use Rattle.fw_model.specs.Told.{AreToldInside};
+ghost use Rattle.fw_rollback.specs.Edges.{on_edge, nothing_there};
+ghost use Rattle.fw_node.specs.Answers.{caused_by};
+ghost use Rattle.fw_node.specs.Sends.{sends_list};
+ghost use Rattle.fw_node.specs.TableOf.{IsTableOf};
+ghost use Rattle.fw_keep.specs.Entry.{stamp_of};
+ghost use Rattle.fw_record.specs.declared.record.Event.{Event as Logged};
+ghost use Rattle.fw_rollback.specs.Asked.{event_of, events_of, CanServe};
+ghost use Rattle.fw_rollback.specs.Restored.{log_of, HasLogs, HasDone, HaveSent, StandsFor};
+
+use crate::Logs;
+use crate::logging::log_outside;
+use fw_bag::Rec;
+use fw_flow::{Causes, EdgeId, Flow, Fronts, Message, NodeId};
+use fw_frontier::Front;
+use fw_node::{Node, Sends};
+use fw_record::{Event, Record};
+use fw_time::Stamp;
+use std::alloc::{AllocError, Global};
+
+/// The table of a node that did these events again, one after the other, and settled the frontier. What they send is
+/// appended to the node's logs, but for what lies inside the receivers' low watermarks.
+pub(crate) fn replayed(
+    alloc: Global,
+    flow: &Flow,
+    node: NodeId,
+    front: &Front,
+    low: &Fronts,
+    records: &[Record],
+    logs: &mut Logs,
+) -> Result<Node, AllocError>
+    requires serve { AllByRecursion (CanServe flow.now node) records.now }
+    requires each { length logs.old ≡ length flow.now.edges }
+    requires empty { HasLogs flow.now node logs.old (λ e. nothing_there) }
+    ensures done { IfOk result (λ table. HasDone flow.now low.now node front.now (events_of records.now) table logs.new) }
+    ensures others { (e : ℕ) → sender flow.now e ≢ node → on_edge logs.new e ≡ on_edge logs.old e }
+    ensures each { length logs.new ≡ length logs.old }
+{
+    let mut table = Node::new(alloc, flow, node)?;
+    do_all(flow, node, low, records, &mut table, logs)?;
+    settle(front, &mut table)?;
+    Ok(table)
+}
+
+/// Settles the frontier, if its outside stamps are of the domain.
+fn settle(front: &Front, table: &mut Node) -> Result<(), AllocError>
+    ensures table { (flow : Dataflow) (p : ℕ) (events : List Done) → IsTableOf flow p (λ s. false) table.old events
+        → (is_notified_kind (kind_of flow p) ≡ true → AreToldInside (node_frontier flow p front.now) events)
+        → AllByRecursion (λ o. in_domain (bounds_of flow p) o ≡ true) front.now
+        → OnOk result (IsTableOf flow p (node_frontier flow p front.now) table.new events) }
+    ensures bounds { table.new.bounds ≡ table.old.bounds }
+{
+    if front.is_in_domain(table.bounds()) {
+        table.settle(front)?;
+    }
+    Ok(())
+}
+
+/// Does these events, one after the other, at a node to which nothing came.
+fn do_all(
+    flow: &Flow,
+    node: NodeId,
+    low: &Fronts,
+    records: &[Record],
+    table: &mut Node,
+    logs: &mut Logs,
+) -> Result<(), AllocError>
+    requires serve { AllByRecursion (CanServe flow.now node) records.now }
+    requires bounds { table.old.bounds ≡ bounds_of flow.now node }
+    requires new { StandsFor flow.now node [] table.old }
+    requires each { length logs.old ≡ length flow.now.edges }
+    requires empty { HaveSent flow.now low.now node [] logs.old }
+    ensures table { OnOk result (StandsFor flow.now node (events_of records.now) table.new) }
+    ensures logs { OnOk result (HaveSent flow.now low.now node (events_of records.now) logs.new) }
+    ensures others { (e : ℕ) → sender flow.now e ≢ node → on_edge logs.new e ≡ on_edge logs.old e }
+    ensures each { length logs.new ≡ length logs.old }
+    ensures bounds { table.new.bounds ≡ table.old.bounds }
+{
+    for what in records {
+        do_record(flow, node, low, what, table, logs)?;
+    }
+    Ok(())
+}
+
+/// Does the event of a record, if it is one of an event.
+fn do_record(
+    flow: &Flow,
+    node: NodeId,
+    low: &Fronts,
+    what: &Record,
+    table: &mut Node,
+    logs: &mut Logs,
+) -> Result<(), AllocError>
+    requires serve { CanServe flow.now node what.now }
+    requires bounds { table.old.bounds ≡ bounds_of flow.now node }
+    requires each { length logs.old ≡ length flow.now.edges }
+    ensures table { (logged : List Logged) → StandsFor flow.now node logged table.old
+        → OnOk result (StandsFor flow.now node (logged ++ event_of what.now) table.new) }
+    ensures logs { (logged : List Logged) → StandsFor flow.now node logged table.old → HaveSent flow.now low.now node logged logs.old
+        → OnOk result (HaveSent flow.now low.now node (logged ++ event_of what.now) logs.new) }
+    ensures others { (e : ℕ) → sender flow.now e ≢ node → on_edge logs.new e ≡ on_edge logs.old e }
+    ensures each { length logs.new ≡ length logs.old }
+    ensures bounds { table.new.bounds ≡ table.old.bounds }
+{
+    match what {
+        Record::State(_) => Ok(()),
+        Record::Event { event, .. } => do_again(flow, node, low, event, table, logs),
+    }
+}
+
+/// Does an event, and logs what it sends.
+fn do_again(
+    flow: &Flow,
+    node: NodeId,
+    low: &Fronts,
+    event: &Event,
+    table: &mut Node,
+    logs: &mut Logs,
+) -> Result<(), AllocError>
+    requires stamp { in_domain table.old.bounds (stamp_of event.now) ≡ true }
+    requires each { length logs.old ≡ length flow.now.edges }
+    ensures table { (logged : List Logged) → StandsFor flow.now node logged table.old
+        → OnOk result (StandsFor flow.now node (logged ++ event.now ∷ []) table.new) }
+    ensures logs { (logged : List Logged) → StandsFor flow.now node logged table.old → HaveSent flow.now low.now node logged logs.old
+        → OnOk result (HaveSent flow.now low.now node (logged ++ event.now ∷ []) logs.new) }
+    ensures others { (e : ℕ) → sender flow.now e ≢ node → on_edge logs.new e ≡ on_edge logs.old e }
+    ensures each { length logs.new ≡ length logs.old }
+    ensures bounds { table.new.bounds ≡ table.old.bounds }
+{
+    match event {
+        Event::Deliver { edge, at, rec } => {
+            let sends = table.deliver(*edge, at, *rec)?;
+            log_sends(flow, node, low, at, &sends, logs)
+        }
+        Event::Notify { at } => {
+            let sends = table.notify(at)?;
+            log_sends(flow, node, low, at, &sends, logs)
+        }
+    }
+}
+
+/// Logs what an event at the stamp sends, on each out-edge of its node.
+fn log_sends(
+    flow: &Flow,
+    node: NodeId,
+    low: &Fronts,
+    cause: &Stamp,
+    sends: &Sends,
+    logs: &mut Logs,
+) -> Result<(), AllocError>
+    requires each { length logs.old ≡ length flow.now.edges }
+    ensures logged { (e : ℕ) → e < length flow.now.edges → sender flow.now e ≡ node
+        → (ms : List Sent) → on_edge logs.old e ≡ log_of flow.now low.now e ms
+        → OnOk result (on_edge logs.new e ≡ log_of flow.now low.now e (caused_by cause.now (sends_list sends.now) ++ ms)) }
+    ensures others { (e : ℕ) → sender flow.now e ≢ node → on_edge logs.new e ≡ on_edge logs.old e }
+    ensures each { length logs.new ≡ length logs.old }
+{
+    let edges = flow.out_edges(node);
+    for edge in edges {
+        log_each(flow, *edge, low, cause, sends, logs)?;
+    }
+    Ok(())
+}
+
+/// Logs what an event at the stamp sends, on one edge.
+fn log_each(
+    flow: &Flow,
+    edge: EdgeId,
+    low: &Fronts,
+    cause: &Stamp,
+    sends: &Sends,
+    logs: &mut Logs,
+) -> Result<(), AllocError>
+    requires { edge < length logs.old }
+    ensures logged { (ms : List Sent) → on_edge logs.old edge ≡ log_of flow.now low.now edge ms
+        → OnOk result (on_edge logs.new edge ≡ log_of flow.now low.now edge (caused_by cause.now (sends_list sends.now) ++ ms)) }
+    ensures others { (e : ℕ) → e ≢ edge → on_edge logs.new e ≡ on_edge logs.old e }
+    ensures each { length logs.new ≡ length logs.old }
+{
+    for place in 0..sends.len() {
+        log_at(flow, edge, low, cause, sends, place, logs)?;
+    }
+    Ok(())
+}
+
+/// Logs the message at a place of what an event at the stamp sends, on one edge.
+fn log_at(
+    flow: &Flow,
+    edge: EdgeId,
+    low: &Fronts,
+    cause: &Stamp,
+    sends: &Sends,
+    place: usize,
+    logs: &mut Logs,
+) -> Result<(), AllocError>
+    requires edge { edge < length logs.old }
+    requires place { place < length (sends_list sends.now) }
+    ensures logged { (ms : List Sent) (d : List ℕ × OneRec) → on_edge logs.old edge ≡ log_of flow.now low.now edge ms
+        → OnOk result (on_edge logs.new edge
+        ≡ log_of flow.now low.now edge (caused_by cause.now (slice_index_or (sends_list sends.now) place d ∷ []) ++ ms)) }
+    ensures others { (e : ℕ) → e ≢ edge → on_edge logs.new e ≡ on_edge logs.old e }
+    ensures each { length logs.new ≡ length logs.old }
+{
+    let Some((at, rec)) = sends.get(place) else {
+        unreachable!()
+    };
+    log_outside(flow, low, edge, message(at, rec, cause), logs)
+}
+
+/// A message of one cause.
+fn message(at: Stamp, rec: Rec, cause: &Stamp) -> Message
+    ensures { result ≡ record { at = at; rec = rec; causes = cause.now ∷ [] } }
+{
+    Message {
+        at,
+        rec,
+        causes: Causes::of(cause.copy()),
+    }
+}

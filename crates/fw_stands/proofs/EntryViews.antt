@@ -1,0 +1,171 @@
+-- What entries tell: the newest checkpoint, what is lost with a node, and what is offered by them.
+use Rattle.std.proofs.Common.{◌≡◌, ◌↔◌, ℕ, Bool, true, false, cond, not, ◌&&◌, ◌||◌, ◌==◌, List, [], ◌∷◌, ◌++◌, length, map, refl, sym, ap, subst, ◌∙◌, inl, inr, ◌⊎◌, arith}
+use Rattle.std.specs.List.{Contains, flat_map}
+use Rattle.std.proofs.lemmas.Bool.{or_right}
+use Rattle.std.proofs.lemmas.List.{append-nil}
+use Rattle.std.proofs.lemmas.List.FromFn.{get_or-map-range_with_len}
+use Rattle.fw_time.specs.Stamp.{Stamp}
+use Rattle.fw_flow.specs.declared.kind.Policy.TheVariants as policy
+use Rattle.fw_flow.specs.declared.step.Step.TheVariants.{Fail}
+use Rattle.fw_flow.specs.Dataflow.{System, Dataflow, policy_of, bounds_of, is_one_of}
+use Rattle.fw_flow.specs.NodeFunction.{event_node, event_stamp}
+use Rattle.fw_model.specs.Choice.{IsLogged}
+use Rattle.fw_model.specs.Machine.{Machine, SerialEvent, Write, Stage, in_flight, acknowledged, collected, checkpoint, logged_event, is_failed, front_of, no_stamps}
+use Rattle.fw_model.specs.Machine.{Written as WrittenBy}
+use Rattle.fw_model.specs.Steps.{Effect, LeadsTo, checkpoint_of, checkpoint_front, checkpoints_of, last_or, is_in_flight, without_lost}
+use Rattle.fw_model.proofs.AskedLaws.{reached-all}
+use Rattle.fw_model.proofs.Decisions.{two_ways}
+use Rattle.fw_model.proofs.LoggedLaws.{live-logged}
+use Rattle.fw_model.proofs.NewestLaws.{newest-kept}
+use Rattle.fw_model.proofs.RestoringLaws.{full-declared}
+use Rattle.fw_model.proofs.ThinnedLaws.{each-contained}
+use Rattle.fw_model.proofs.WriteLaws.{some-passed, NamesEvent, LogsEvent, some-logged, logged-some}
+use Rattle.fw_record.specs.declared.record.Event.{Event}
+use Rattle.fw_keep.specs.declared.entry.Entry.{Entry}
+use Rattle.fw_keep.specs.declared.entry.Written.{Written}
+use Rattle.fw_keep.specs.declared.entry.Written.TheVariants as written
+use Rattle.fw_keep.specs.Entry.{stamp_of}
+use Rattle.fw_policy.specs.View as view
+use Rattle.fw_policy.specs.View.{IsEventAt, HasEventAt, IsUnlogged, IsLostAt}
+use Rattle.fw_policy.specs.Offering.{stamp_in, unlogged_by, unlogged_stamps}
+use Rattle.fw_policy.proofs.SentLaws.{IsOne, one-contained, contained-one}
+use Rattle.fw_policy.proofs.UnloggedLaws.{IsOfEntries, unlogged-is, unlogged-has, some-filtered}
+use Rattle.fw_stands.specs.Written.{HasEventTold, Holds, AreEntriesOf, uncollected}
+use Rattle.fw_stands.specs.LawsOfEntries.{entry_front, entry_fronts, LastEntryIsOfNewestCheckpoint, TakesCheckpointsByLastEntry, CheckpointAsks, stamp_of_written, stamps_in_flight, LosesWhatIsInFlight, told_written, told_entry, ToldEntriesAreOfWrites}
+use Rattle.fw_stands.proofs.EntrySteps.{told-stamp}
+
+-- ---- the newest checkpoint
+
+front-alike : (sys : System) (state : Machine) (p : ℕ) (entry : Written) (what : WrittenBy) → Holds sys state p entry what → entry_front entry ≡ checkpoint_front what
+front-alike sys state p (written.Checkpoint r s n) (checkpoint f low) h = ap (λ g. g ∷ []) (h.recorded).front
+front-alike sys state p (written.Checkpoint r t n) (logged_event s) h = absurd h
+front-alike sys state p (written.Event event) (checkpoint f low) h = absurd h
+front-alike sys state p (written.Event event) (logged_event s) h = refl
+
+fronts-alike : (sys : System) (state : Machine) (p : ℕ) (es : List Entry) (xs : List Write) → AreEntriesOf sys state es xs → entry_fronts p es ≡ checkpoints_of p xs
+fronts-alike sys state p [] [] a = refl
+fronts-alike sys state p [] (x ∷ xs) a = absurd a
+fronts-alike sys state p (e ∷ es) [] a = absurd a
+fronts-alike sys state p (e ∷ es) (x ∷ xs) a =
+    ap (λ n. cond (n == p) (entry_front e.written) [] ++ entry_fronts p es) (a.0).node
+    ∙ ap (λ fs. cond (x.node == p) fs [] ++ entry_fronts p es) (front-alike sys state x.node e.written x.written (a.0).holds)
+    ∙ ap (λ fs. cond (x.node == p) (checkpoint_front x.written) [] ++ fs) (fronts-alike sys state p es xs a.1)
+
+pub last_entry_is_of_newest_checkpoint : LastEntryIsOfNewestCheckpoint
+last_entry_is_of_newest_checkpoint sys w state r es a p f =
+    ap (last_or f) (fronts-alike sys state p es (uncollected state) a) ∙ sym (newest-kept sys w r.0 r.1 state r.2 p f)
+
+pub takes_checkpoints_by_last_entry : TakesCheckpointsByLastEntry
+takes_checkpoints_by_last_entry sys w state r es a p asked live =
+    let none = no_stamps (bounds_of sys.flow p) in
+    let same = last_entry_is_of_newest_checkpoint sys w state r es a p none in (
+      λ other. (
+        record state { writes = state.writes ++ checkpoint_of state p (front_of state.settled p) ∷ [] },
+        (asked, live, (λ e. other (e ∙ sym same)), refl, refl),
+      ),
+      λ k. let t = k.1 in λ e. t.2 (e ∙ same),
+    )
+
+pub checkpoint_asks : CheckpointAsks
+checkpoint_asks sys state p next effect t = ap (λ (m : Machine). m.writes) t.3
+
+-- ---- as offers are told
+
+event-told : (flow : Dataflow) (p s : ℕ) (event : Event) (h : List SerialEvent) → HasEventTold flow p s event h → HasEventAt flow p s (stamp_of event) h
+event-told flow p s event [] a = absurd a
+event-told flow p s event (v ∷ h) (inl a) = inl (record { same_serial = a.same_serial; node = a.node; stamp = sym (told-stamp v.event event a.told) })
+event-told flow p s event (v ∷ h) (inr a) = inr (event-told flow p s event h a)
+
+holds-told : (sys : System) (state : Machine) (p : ℕ) (entry : Written) (what : WrittenBy) → Holds sys state p entry what → view.Holds sys state p (told_written entry) what
+holds-told sys state p (written.Checkpoint r s n) (checkpoint f low) h = h.recorded
+holds-told sys state p (written.Checkpoint r t n) (logged_event s) h = absurd h
+holds-told sys state p (written.Event event) (checkpoint f low) h = absurd h
+holds-told sys state p (written.Event event) (logged_event s) h = event-told sys.flow p s event state.history h
+
+pub told_entries_are_of_writes : ToldEntriesAreOfWrites
+told_entries_are_of_writes sys state [] [] a = tt
+told_entries_are_of_writes sys state [] (x ∷ xs) a = absurd a
+told_entries_are_of_writes sys state (e ∷ es) [] a = absurd a
+told_entries_are_of_writes sys state (e ∷ es) (x ∷ xs) a =
+    let i = a.0 in (
+      record { node = i.node; acknowledged = i.acknowledged; holds = holds-told sys state x.node e.written x.written i.holds },
+      told_entries_are_of_writes sys state es xs a.1,
+    )
+
+-- ---- what is lost
+
+stamp-told : (entry : Written) → stamp_in (told_written entry) ≡ stamp_of_written entry
+stamp-told (written.Checkpoint r s n) = refl
+stamp-told (written.Event event) = refl
+
+-- the stamps of what is in flight are those of which offers are told as not logged
+flying-told : (p : ℕ) (es : List Entry) → flat_map (unlogged_by p) (map told_entry es) ≡ stamps_in_flight p es
+flying-told p [] = refl
+flying-told p (e ∷ es) =
+    ap (λ ss. cond ((e.node == p) && not e.acknowledged) ss [] ++ flat_map (unlogged_by p) (map told_entry es)) (stamp-told e.written)
+    ∙ ap (λ ss. cond ((e.node == p) && not e.acknowledged) (stamp_of_written e.written) [] ++ ss) (flying-told p es)
+
+names-lands : (s : ℕ) (what : WrittenBy) (far : Stage) → NamesEvent s what far → is_in_flight far ≡ false
+names-lands s (checkpoint f low) far k = absurd k
+names-lands s (logged_event n) in_flight k = absurd cc
+names-lands s (logged_event n) acknowledged k = refl
+names-lands s (logged_event n) collected k = refl
+
+-- what was logged is so without the writes in flight of some nodes
+pub logged-left : (ps : List ℕ) (s : ℕ) (xs : List Write) → IsLogged s xs → IsLogged s (without_lost ps xs)
+logged-left ps s xs k =
+    logged-some s (without_lost ps xs) (some-passed (LogsEvent s) (λ write. not (is_one_of write.node ps && is_in_flight write.stage)) xs
+    (λ x a. ap (λ b. not (is_one_of x.node ps && b)) (names-lands s x.written x.stage a) ∙ none (is_one_of x.node ps)) (some-logged s xs k))
+  where
+    none : (b : Bool) → not (b && false) ≡ true
+    none true = refl
+    none false = refl
+
+pub logged-before : (ps : List ℕ) (s : ℕ) (xs : List Write) → IsLogged s (without_lost ps xs) → IsLogged s xs
+logged-before ps s xs k =
+    logged-some s xs (some-filtered (LogsEvent s) (λ write. not (is_one_of write.node ps && is_in_flight write.stage)) xs (some-logged s (without_lost ps xs) k))
+
+fails-now : (sys : System) (state next : Machine) (effect : Effect) (ps : List ℕ) → LeadsTo sys state (Fail ps) next effect → (p : ℕ) → policy_of sys.flow p ≡ policy.Full → is_one_of p ps ≡ true
+    → is_failed next p ≡ true
+fails-now sys state next effect ps t p full k =
+    ap (λ (m : Machine). is_failed m p) t.4
+    ∙ get_or-map-range_with_len (λ q. is_failed state q || is_one_of q ps) 0 (length sys.flow.nodes) p p false (full-declared sys.flow p full) (omega arith)
+    ∙ or_right (is_failed state p) (is_one_of p ps) k
+
+none-lost : (sys : System) (state : Machine) (p : ℕ) → is_failed state p ≡ false → (t : Stamp) → Contains [] t ↔ IsLostAt sys state p t
+none-lost sys state p live t = ((λ c. let l = c.1 in absurd (omega arith)), λ i. absurd (two_ways (is_failed state p) i.0 live))
+
+pub loses_what_is_in_flight : LosesWhatIsInFlight
+loses_what_is_in_flight sys w state r ps next effect t es a p full live one at =
+    let told = map told_entry es in
+    let f = reached-all sys w r.0 r.1 state r.2 in
+    let o : IsOfEntries sys state p told [] = record {
+      written = told_entries_are_of_writes sys state es (uncollected state) a;
+      apart = f.restore.apart;
+      serials = f.restore.serials;
+      live = λ l. live-logged sys w r.0 r.1 state r.2 p full l;
+      lost = none-lost sys state p live;
+    } in
+    let all : unlogged_stamps p told [] ≡ stamps_in_flight p es = append-nil (flat_map (unlogged_by p) told) ∙ flying-told p es in
+    let writes : next.writes ≡ without_lost ps state.writes = ap (λ (m : Machine). m.writes) t.4 in
+    let history : next.history ≡ state.history = ap (λ (m : Machine). m.history) t.4 in (
+      λ i.
+          let u = i.1 in
+          let v = u.event in
+          let Has : SerialEvent → Type 0 = λ x. event_node sys.flow x.event ≡ p → IsLogged x.serial state.writes ⊎ IsOne (event_stamp x.event) (unlogged_stamps p told []) in
+          let has = each-contained Has v state.history (subst (λ h. Contains h v) history u.there) (unlogged-has sys state p told [] o) u.is.node in
+          elim has [
+            | inl l ↦ absurd (u.not_logged (subst (IsLogged v.serial) (sym writes) (logged-left ps v.serial state.writes l)))
+            | inr k ↦ one-contained at (stamps_in_flight p es) (subst (IsOne at) all (subst (λ s. IsOne s (unlogged_stamps p told [])) u.is.stamp k))
+          ],
+      λ c.
+          let u = unlogged-is sys state p told [] o at (subst (IsOne at) (sym all) (contained-one at (stamps_in_flight p es) c)) in (
+            fails-now sys state next effect ps t p full one,
+            record {
+              event = u.event;
+              there = subst (λ h. Contains h u.event) (sym history) u.there;
+              is = u.is;
+              not_logged = λ l. u.not_logged (logged-before ps u.event.serial state.writes (subst (IsLogged u.event.serial) writes l));
+            },
+          ),
+    )

@@ -1,0 +1,165 @@
+-- What a node answers is what it sends.
+use Rattle.std.proofs.Common.{◌≡◌, ℕ, zero, suc, ◌+◌, ◌==◌, true, List, [], ◌∷◌, length, map, get_or, Option, Some, None, nat_le, refl, sym, ap, ◌∙◌, inl, inr, arith}
+use Rattle.std.proofs.lemmas.Bool.{cases_Bool, cond_both, cond-false, cond-true, eqb-true}
+use Rattle.fw_time.specs.Stamp.{Stamp}
+use Rattle.fw_bag.specs.declared.rec.Rec.{Rec}
+use Rattle.fw_bag.specs.Keyed.{sorted_recs}
+use Rattle.fw_bag.proofs.BagLaws.{length-bag_sum}
+use Rattle.fw_flow.specs.declared.event.Event.{Event}
+use Rattle.fw_flow.specs.declared.event.Event.TheVariants.{Inject, Notify}
+use Rattle.fw_flow.specs.declared.event.Message.{Message}
+use Rattle.fw_flow.specs.declared.kind.Kind.{Kind}
+use Rattle.fw_flow.specs.declared.kind.Kind.TheVariants as kind
+use Rattle.fw_flow.specs.Dataflow.{System, batches_of, sender, kind_of, greatest_number, send_stamp_of_kind, is_input_kind, is_output_kind}
+use Rattle.fw_flow.specs.NodeFunction.{event_node, event_stamp, messages_at, messages_at_some, numbered_messages, recs_on, recs_on_notification, sends, sends_of_kind, sequence_sent}
+use Rattle.fw_flow.specs.Projection.{events_at}
+use Rattle.fw_model.proofs.LowLaws.{input-is}
+use Rattle.fw_model.specs.SortedMessages.{sorted_messages}
+use Rattle.fw_node.specs.Answers.{caused_by, without_causes}
+use Rattle.fw_node.specs.Sends.{notice_sends}
+use Rattle.fw_node.proofs.NoticeLaws.{notices_are_sends}
+use Rattle.fw_stands.specs.LawsOfEvents.{EventsSend, SentOnIsPutOn, sends_at, NoticesSend, InjectionsSend, OutputsSendNothing}
+
+-- ---- messages of one cause
+
+-- a rec at a stamp as a message of one cause
+abbrev message : Stamp → Stamp → Rec → Message
+message at cause r = record { at = at; rec = r; causes = cause ∷ [] }
+
+-- messages of one cause are known by their stamps and recs
+abbrev IsOfCause : Stamp → List Message → Type 0
+IsOfCause cause ms = caused_by cause (without_causes ms) ≡ ms
+
+at-cause : (at cause : Stamp) (rs : List Rec) → IsOfCause cause (messages_at at cause rs)
+at-cause at cause [] = refl
+at-cause at cause (r ∷ rs) = ap (λ (ms : List Message). message at cause r ∷ ms) (at-cause at cause rs)
+
+at_some-cause : (at : Option Stamp) (cause : Stamp) (rs : List Rec) → IsOfCause cause (messages_at_some at cause rs)
+at_some-cause None cause rs = refl
+at_some-cause (Some at) cause rs = at-cause at cause rs
+
+numbered-cause : (n : ℕ) (cause : Stamp) (rs : List Rec) → IsOfCause cause (numbered_messages n cause rs)
+numbered-cause n cause [] = refl
+numbered-cause n cause (r ∷ rs) =
+    cond_both (nat_le n greatest_number) (message (n ∷ []) cause r ∷ numbered_messages (n + 1) cause rs) [] (IsOfCause cause)
+    (λ e. ap (λ (ms : List Message). message (n ∷ []) cause r ∷ ms) (numbered-cause (n + 1) cause rs)) (λ e. refl)
+
+-- whatever a node sends at an event has the event's stamp as its one cause
+kind-cause : (sys : System) (k : Kind) (before : List Event) (v : Event) → IsOfCause (event_stamp v) (sends_of_kind sys k before v)
+kind-cause sys kind.Sequence before v = numbered-cause (length (sequence_sent before)) (event_stamp v) (recs_on sys kind.Sequence before v)
+kind-cause sys k before v = at_some-cause (send_stamp_of_kind sys.flow k (event_stamp v)) (event_stamp v) (recs_on sys k before v)
+
+pub sends-cause : (sys : System) (p : ℕ) (before : List Event) (v : Event) → IsOfCause (event_stamp v) (sends sys p before v)
+unfolding sends
+sends-cause sys p before v = kind-cause sys (kind_of sys.flow p) before v
+
+-- the stamps of messages stay where the causes are left out
+stamps-without : (ms : List Message) → map (λ (x : Stamp × Rec). x.0) (without_causes ms) ≡ map (λ (m : Message). m.at) ms
+stamps-without [] = refl
+stamps-without (m ∷ ms) = ap (λ (ts : List Stamp). m.at ∷ ts) (stamps-without ms)
+
+pub events-send : EventsSend
+events-send sys h v = record {
+  messages = ap sorted_messages (sends-cause sys (event_node sys.flow v) (events_at sys.flow (event_node sys.flow v) h) v);
+  stamps = stamps-without (sends_at sys h v);
+}
+
+pub sent_on-put_on : SentOnIsPutOn
+sent_on-put_on sys h v e =
+    let p = event_node sys.flow v in
+    let q = sender sys.flow e in
+    let S : ℕ → List Message = λ n. sends sys n (events_at sys.flow n h) v in
+    elim (cases_Bool (p == q)) [
+      | inl k ↦
+          cond-true (p == q) (S q) [] k ∙ sym (ap S (eqb-true p q k)) ∙ sym (sends-cause sys p (events_at sys.flow p h) v)
+          ∙ sym (cond-true (p == q) (caused_by (event_stamp v) (without_causes (S p))) [] k)
+      | inr k ↦ cond-false (p == q) (S q) [] k ∙ sym (cond-false (p == q) (caused_by (event_stamp v) (without_causes (S p))) [] k)
+    ]
+
+-- ---- notifications
+
+-- the stamp so many times
+abbrev times : ℕ → Stamp → List Stamp
+times zero t = []
+times (suc n) t = t ∷ times n t
+
+stamps-together : (t : Stamp) (rs : List Rec) → map (λ (x : Stamp × Rec). x.0) (map (λ (r : Rec). (t, r)) rs) ≡ times (length rs) t
+stamps-together t [] = refl
+stamps-together t (r ∷ rs) = ap (λ (ts : List Stamp). t ∷ ts) (stamps-together t rs)
+
+stamps-at : (t : Stamp) (rs : List Rec) → map (λ (m : Message). m.at) (messages_at t t rs) ≡ times (length rs) t
+stamps-at t [] = refl
+stamps-at t (r ∷ rs) = ap (λ (ts : List Stamp). t ∷ ts) (stamps-at t rs)
+
+-- recs at one stamp and the same in order are at the same stamps
+stamps-sorted : (t : Stamp) (rs : List Rec)
+    → map (λ (x : Stamp × Rec). x.0) (map (λ (r : Rec). (t, r)) (sorted_recs rs)) ≡ map (λ (m : Message). m.at) (messages_at t t rs)
+stamps-sorted t rs =
+    let n : length (sorted_recs rs) ≡ length rs = omega (arith, length-bag_sum rs []) in
+    stamps-together t (sorted_recs rs) ∙ ap (λ k. times k t) n ∙ sym (stamps-at t rs)
+
+none-at_some : (at : Option Stamp) (t : Stamp) → [] ≡ map (λ (m : Message). m.at) (messages_at_some at t [])
+none-at_some None t = refl
+none-at_some (Some at) t = refl
+
+kind-stamps : (sys : System) (p : ℕ) (k : Kind) (before : List Event) (t : Stamp)
+    → map (λ (x : Stamp × Rec). x.0) (notice_sends k before t) ≡ map (λ (m : Message). m.at) (sends_of_kind sys k before (Notify p t))
+kind-stamps sys p kind.Sequence before t = stamps-without (numbered_messages (length (sequence_sent before)) t (recs_on_notification kind.Sequence before t))
+kind-stamps sys p (kind.Sum w) before t = stamps-sorted t (recs_on_notification (kind.Sum w) before t)
+kind-stamps sys p kind.Total before t = stamps-sorted t (recs_on_notification kind.Total before t)
+kind-stamps sys p k before t = none-at_some (send_stamp_of_kind sys.flow k t) t
+
+notice-stamps : (sys : System) (p : ℕ) (before : List Event) (t : Stamp)
+    → map (λ (x : Stamp × Rec). x.0) (notice_sends (kind_of sys.flow p) before t) ≡ map (λ (m : Message). m.at) (sends sys p before (Notify p t))
+unfolding sends
+notice-stamps sys p before t = kind-stamps sys p (kind_of sys.flow p) before t
+
+pub notices-send : NoticesSend
+notices-send sys h p t = record {
+  messages = sym (notices_are_sends sys p (events_at sys.flow p h) t);
+  stamps = notice-stamps sys p (events_at sys.flow p h) t;
+}
+
+-- ---- injections
+
+-- what an input sends is its batch
+batch-sent : (sys : System) (s x : ℕ) (k : Kind) (before : List Event) → k ≡ kind.Input
+    → sends_of_kind sys k before (Inject s x) ≡ messages_at (x ∷ []) (x ∷ []) (get_or (batches_of sys s) x [])
+batch-sent sys s x k before e = ap (λ j. sends_of_kind sys j before (Inject s x)) e
+
+batch-sends : (sys : System) (s x : ℕ) (before : List Event) → is_input_kind (kind_of sys.flow s) ≡ true
+    → sends sys s before (Inject s x) ≡ messages_at (x ∷ []) (x ∷ []) (get_or (batches_of sys s) x [])
+unfolding sends
+batch-sends sys s x before k = batch-sent sys s x (kind_of sys.flow s) before (input-is (kind_of sys.flow s) k)
+
+caused-at : (t : Stamp) (rs : List Rec) → caused_by t (map (λ (r : Rec). (t, r)) rs) ≡ messages_at t t rs
+caused-at t [] = refl
+caused-at t (r ∷ rs) = ap (λ (ms : List Message). message t t r ∷ ms) (caused-at t rs)
+
+pub injections-send : InjectionsSend
+injections-send sys h s x k =
+    let rs = get_or (batches_of sys s) x [] in
+    let is = batch-sends sys s x (events_at sys.flow s h) k in
+    record {
+      messages = ap sorted_messages (caused-at (x ∷ []) rs ∙ sym is);
+      stamps = stamps-together (x ∷ []) rs ∙ sym (stamps-at (x ∷ []) rs) ∙ sym (ap (λ ms. map (λ (m : Message). m.at) ms) is);
+    }
+
+-- ---- outputs
+
+output-none : (sys : System) (k : Kind) (before : List Event) (v : Event) → is_output_kind k ≡ true → sends_of_kind sys k before v ≡ []
+output-none sys kind.OutputEpoch before v o = refl
+output-none sys kind.OutputNumber before v o = refl
+output-none sys k before v o = absurd (cc)
+
+output-sends : (sys : System) (p : ℕ) (before : List Event) (v : Event) → is_output_kind (kind_of sys.flow p) ≡ true → sends sys p before v ≡ []
+unfolding sends
+output-sends sys p before v o = output-none sys (kind_of sys.flow p) before v o
+
+pub outputs-send_nothing : OutputsSendNothing
+outputs-send_nothing sys h v o =
+    let none = output-sends sys (event_node sys.flow v) (events_at sys.flow (event_node sys.flow v) h) v o in
+    record {
+      messages = ap sorted_messages (sym none);
+      stamps = ap (λ ms. map (λ (m : Message). m.at) ms) (sym none);
+    }

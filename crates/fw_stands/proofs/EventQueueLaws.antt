@@ -1,0 +1,196 @@
+-- What becomes of queues and logs as events come.
+use Rattle.std.proofs.Common.{◌≡◌, ℕ, ◌≤◌, Bool, true, false, not, ◌&&◌, ◌==◌, cond, List, [], ◌∷◌, ◌++◌, length, refl, sym, ap, subst, ◌∙◌, inl, inr, arith}
+use Rattle.std.specs.Prelude.{filter}
+use Rattle.std.specs.List.{AllByRecursion}
+use Rattle.std.proofs.lemmas.Bool.{cases_Bool, cond-true, cond-false, cond_both, eqb-true}
+use Rattle.fw_time.specs.Stamp.{Stamp, in_domain}
+use Rattle.fw_time.proofs.EachLaws.{each-weaker}
+use Rattle.fw_bag.specs.declared.rec.Rec.{Rec}
+use Rattle.fw_frontier.specs.Front.{Front, inside, frontier_of}
+use Rattle.fw_flow.specs.declared.event.Event.{Event}
+use Rattle.fw_flow.specs.declared.event.Message.{Message}
+use Rattle.fw_flow.specs.declared.kind.Kind.TheVariants.{OutputEpoch}
+use Rattle.fw_flow.specs.Dataflow.{System, Dataflow, kind_of, sender, receiver, bounds_of, bounds_of_domain, bounds_of_edge, HasEpochs}
+use Rattle.fw_flow.specs.Message.{messages_less}
+use Rattle.fw_flow.specs.NodeFunction.{event_node, event_stamp, sends, sends_of_kind, sent_by}
+use Rattle.fw_flow.specs.Projection.{events_at}
+use Rattle.fw_flow.specs.WellFormed.{IsWellFormed}
+use Rattle.fw_flow.proofs.MessageLaws.{less-none}
+use Rattle.fw_model.specs.Filtering.{messages_outside}
+use Rattle.fw_model.specs.History.{delivered_messages, message_on, pending_messages, sent_messages, IsLegal}
+use Rattle.fw_model.specs.LawsOfPending.{sent_on}
+use Rattle.fw_model.specs.Machine.{events, family_of, front_of, is_failed}
+use Rattle.fw_model.specs.SortedMessages.{sorted_messages, with_messages}
+use Rattle.fw_model.proofs.BothLaws.{pending-follows}
+use Rattle.fw_model.proofs.CompleteLaws.{past_edges-idle}
+use Rattle.fw_model.proofs.DomainLaws.{has_epochs}
+use Rattle.fw_model.proofs.LegalLaws.{edge_domains, legal_messages-in_domain}
+use Rattle.fw_model.proofs.SentLaws.{copy}
+use Rattle.fw_model.proofs.SortedLaws.{IsAscendingMessages, ascending-sorted_messages, ascending-less, ascending-with_messages, same_from_copies, sorted_messages-append, sorted_messages-filter, sorted_messages-weigh, with_messages-weigh}
+use Rattle.fw_model.proofs.WeightLaws.{weigh, weigh-append}
+use Rattle.fw_node.specs.Answers.{caused_by}
+use Rattle.fw_stands.specs.LawsOfEvents.{AreSent, put_on, QueuesFollowEvents, LogsFollowEvents, LastIsPutIn, NothingIsQueuedPastEdges}
+use Rattle.fw_stands.specs.Parts.{is_logging}
+use Rattle.fw_stands.proofs.EventNextLaws.{legal-reached}
+
+-- ---- in whatever order messages are put in
+
+ascending-from_sorted : (ms : List Message) → sorted_messages ms ≡ ms → IsAscendingMessages ms
+ascending-from_sorted ms e = subst IsAscendingMessages e (ascending-sorted_messages ms)
+
+-- what weighs the same is put in with the same outcome
+put-same : (xs ys old : List Message) → ((q : Message) → weigh (copy q) xs ≡ weigh (copy q) ys) → IsAscendingMessages old
+    → with_messages xs old ≡ with_messages ys old
+put-same xs ys old w a =
+    same_from_copies (with_messages xs old) (with_messages ys old) (ascending-with_messages xs old a) (ascending-with_messages ys old a)
+    (λ q.
+    let x = with_messages-weigh (copy q) xs old in
+    let y = with_messages-weigh (copy q) ys old in
+    let z = w q in
+    omega arith)
+
+-- what is in order the same is put in with the same outcome
+pub put-sorted : (xs ys old : List Message) → sorted_messages xs ≡ sorted_messages ys → IsAscendingMessages old
+    → with_messages xs old ≡ with_messages ys old
+put-sorted xs ys old e a = put-same xs ys old (λ q. sym (sorted_messages-weigh (copy q) xs) ∙ ap (weigh (copy q)) e ∙ sorted_messages-weigh (copy q) ys) a
+
+append-one : (ms : List Message) (m : Message) (q : Message) → weigh (copy q) (ms ++ m ∷ []) ≡ weigh (copy q) (m ∷ ms)
+unfolding weigh
+append-one ms m q = let a = weigh-append (copy q) ms (m ∷ []) in omega arith
+
+pub last-put_in : LastIsPutIn
+last-put_in ms m old e = put-same (ms ++ m ∷ []) (m ∷ ms) old (append-one ms m) (ascending-from_sorted old e)
+
+-- ---- queues
+
+-- what comes to an edge is what is sent there
+put_on-sent : (sys : System) (h : List Event) (v : Event) (sent : List (Stamp × Rec)) → AreSent sys h v sent → (e : ℕ)
+    → sorted_messages (put_on sys.flow e v sent) ≡ sorted_messages (sent_on sys h e v)
+put_on-sent sys h v sent s e = elim (cases_Bool (event_node sys.flow v == sender sys.flow e)) [
+  | inl k ↦
+      let q = sender sys.flow e in
+      let p = event_node sys.flow v in
+      ap sorted_messages (cond-true (p == q) (caused_by (event_stamp v) sent) [] k) ∙ s.messages
+      ∙ ap (λ n. sorted_messages (sends sys n (events_at sys.flow n h) v)) (eqb-true p q k)
+      ∙ sym (ap sorted_messages (cond-true (p == q) (sends sys q (events_at sys.flow q h) v) [] k))
+  | inr k ↦
+      let q = sender sys.flow e in
+      let p = event_node sys.flow v in
+      ap sorted_messages (cond-false (p == q) (caused_by (event_stamp v) sent) [] k)
+      ∙ sym (ap sorted_messages (cond-false (p == q) (sends sys q (events_at sys.flow q h) v) [] k))
+]
+
+pub queues-follow : QueuesFollowEvents
+queues-follow sys state w r v k sent s e =
+    let h = events state.history in
+    let l = legal-reached sys state w r in
+    let f = is_failed state (receiver sys.flow e) in
+    let now = sorted_messages (pending_messages sys (v ∷ h) e) in
+    let old = sorted_messages (pending_messages sys h e) in
+    record {
+      live = λ n.
+          cond-false f [] now n ∙ pending-follows sys h v (k, l) e
+          ∙ put-sorted (sent_on sys h e v) (put_on sys.flow e v sent) (messages_less old (message_on e v)) (sym (put_on-sent sys h v sent s e))
+          (ascending-less old (message_on e v) (ascending-sorted_messages (pending_messages sys h e)))
+          ∙ ap (λ q. with_messages (put_on sys.flow e v sent) (messages_less q (message_on e v))) (sym (cond-false f [] old n));
+      failed = λ n. cond-true f [] now n;
+    }
+
+-- ---- no edge
+
+idle-sent : (sys : System) (q : ℕ) → kind_of sys.flow q ≡ OutputEpoch → (vs : List Event) → sent_by sys q vs ≡ []
+unfolding sends
+idle-sent sys q is [] = refl
+idle-sent sys q is (v ∷ vs) = ap (λ k. sends_of_kind sys k vs v ++ sent_by sys q vs) is ∙ idle-sent sys q is vs
+
+pub none-pending_past : (sys : System) (h : List Event) (e : ℕ) → length sys.flow.edges ≤ e → pending_messages sys h e ≡ []
+none-pending_past sys h e past =
+    let q = sender sys.flow e in
+    ap (λ ms. messages_less ms (delivered_messages h e)) (idle-sent sys q (past_edges-idle sys.flow e past) (events_at sys.flow q h)) ∙ less-none (delivered_messages h e)
+
+pub nothing-queued_past : NothingIsQueuedPastEdges
+nothing-queued_past sys state e past =
+    cond_both (is_failed state (receiver sys.flow e)) [] (sorted_messages (pending_messages sys (events state.history) e)) (λ ms. ms ≡ [])
+    (λ f. refl) (λ f. ap sorted_messages (none-pending_past sys (events state.history) e past))
+
+-- ---- logs
+
+sent-more : (sys : System) (h : List Event) (v : Event) (e : ℕ) → sent_messages sys (v ∷ h) e ≡ sent_on sys h e v ++ sent_messages sys h e
+sent-more sys h v e = by (event_node sys.flow v == sender sys.flow e)
+  where
+    q : ℕ
+    q = sender sys.flow e
+
+    by : (b : Bool) → sent_by sys q (cond b (v ∷ events_at sys.flow q h) (events_at sys.flow q h))
+        ≡ cond b (sends sys q (events_at sys.flow q h) v) [] ++ sent_by sys q (events_at sys.flow q h)
+    by true = refl
+    by false = refl
+
+each-first : (P : Message → Type 0) (xs ys : List Message) → AllByRecursion P (xs ++ ys) → AllByRecursion P xs
+each-first P [] ys a = tt
+each-first P (x ∷ xs) ys a = (a.0, each-first P xs ys a.1)
+
+-- what is sent is at stamps of the receiver's domain
+sent-in_domain : (sys : System) (h : List Event) (v : Event) → IsWellFormed sys.flow → HasEpochs sys → IsLegal sys (v ∷ h) → (e : ℕ)
+    → AllByRecursion (λ (m : Message). in_domain (bounds_of sys.flow (receiver sys.flow e)) m.at ≡ true) (sent_on sys h e v)
+unfolding bounds_of
+sent-in_domain sys h v w b l e =
+    let P : Message → Type 0 = λ m. in_domain (bounds_of_edge sys.flow e) m.at ≡ true in
+    each-weaker P (λ m. in_domain (bounds_of sys.flow (receiver sys.flow e)) m.at ≡ true) (sent_on sys h e v)
+    (λ m i. sym (ap (λ d. in_domain (bounds_of_domain sys.flow d) m.at) (edge_domains sys.flow w e)) ∙ i)
+    (each-first P (sent_on sys h e v) (sent_messages sys h e) (subst (AllByRecursion P) (sent-more sys h v e) (legal_messages-in_domain sys (v ∷ h) w b l e)))
+
+filter-append : {X : Type 0} (test : X → Bool) (xs ys : List X) → filter test (xs ++ ys) ≡ filter test xs ++ filter test ys
+filter-append test [] ys = refl
+filter-append test (x ∷ xs) ys =
+    cond_both (test x) (x ∷ filter test xs) (filter test xs) (λ zs. cond (test x) (x ∷ filter test (xs ++ ys)) (filter test (xs ++ ys)) ≡ zs ++ filter test ys)
+    (λ e. cond-true (test x) (x ∷ filter test (xs ++ ys)) (filter test (xs ++ ys)) e ∙ ap (λ zs. x ∷ zs) (filter-append test xs ys))
+    (λ e. cond-false (test x) (x ∷ filter test (xs ++ ys)) (filter test (xs ++ ys)) e ∙ filter-append test xs ys)
+
+filter-alike : {X : Type 0} (test also : X → Bool) (xs : List X) → AllByRecursion (λ x. test x ≡ also x) xs → filter test xs ≡ filter also xs
+filter-alike test also [] a = refl
+filter-alike test also (x ∷ xs) a =
+    ap (λ b. cond b (x ∷ filter test xs) (filter test xs)) a.0 ∙ ap (λ zs. cond (also x) (x ∷ zs) zs) (filter-alike test also xs a.1)
+
+-- what is sent outside a front is what is sent outside the frontier
+outside-alike : (flow : Dataflow) (p : ℕ) (f : Front) (ms : List Message) → AllByRecursion (λ (m : Message). in_domain (bounds_of flow p) m.at ≡ true) ms
+    → messages_outside (frontier_of (bounds_of flow p) f) ms ≡ messages_outside (inside f) ms
+outside-alike flow p f ms a =
+    filter-alike (λ (m : Message). not (frontier_of (bounds_of flow p) f m.at)) (λ m. not (inside f m.at)) ms
+    (each-weaker (λ (m : Message). in_domain (bounds_of flow p) m.at ≡ true) (λ m. not (frontier_of (bounds_of flow p) f m.at) ≡ not (inside f m.at)) ms
+    (λ m i. ap (λ b. not (b && inside f m.at)) i) a)
+
+-- what is sent outside, put into what was sent outside before
+outside-more : (sys : System) (h : List Event) (v : Event) → IsWellFormed sys.flow → HasEpochs sys → IsLegal sys (v ∷ h) → (sent : List (Stamp × Rec)) → AreSent sys h v sent
+    → (e : ℕ) (f : Front) → sorted_messages (messages_outside (frontier_of (bounds_of sys.flow (receiver sys.flow e)) f) (sent_messages sys (v ∷ h) e))
+    ≡ with_messages (messages_outside (inside f) (put_on sys.flow e v sent))
+    (sorted_messages (messages_outside (frontier_of (bounds_of sys.flow (receiver sys.flow e)) f) (sent_messages sys h e)))
+outside-more sys h v w b l sent s e f =
+    let p = receiver sys.flow e in
+    let out : Message → Bool = λ m. not (frontier_of (bounds_of sys.flow p) f m.at) in
+    let past : Message → Bool = λ m. not (inside f m.at) in
+    let new = sent_on sys h e v in
+    let put = put_on sys.flow e v sent in
+    let old = filter out (sent_messages sys h e) in
+    ap (λ ms. sorted_messages (filter out ms)) (sent-more sys h v e)
+    ∙ ap sorted_messages (filter-append out new (sent_messages sys h e))
+    ∙ sorted_messages-append (filter out new) old
+    ∙ ap (λ ms. with_messages ms (sorted_messages old)) (outside-alike sys.flow p f new (sent-in_domain sys h v w b l e))
+    ∙ put-sorted (filter past new) (filter past put) (sorted_messages old)
+    (sorted_messages-filter past new ∙ ap (filter past) (sym (put_on-sent sys h v sent s e)) ∙ sym (sorted_messages-filter past put))
+    (ascending-sorted_messages old)
+
+pub logs-follow : LogsFollowEvents
+logs-follow sys state w r v k sent s e =
+    let h = events state.history in
+    let l = legal-reached sys state w r in
+    let p = receiver sys.flow e in
+    let f = front_of state.low p in
+    let old = sorted_messages (messages_outside (family_of sys.flow state.low p) (sent_messages sys h e)) in
+    let now = sorted_messages (messages_outside (family_of sys.flow state.low p) (sent_messages sys (v ∷ h) e)) in
+    record {
+      logging = λ n.
+          cond-true (is_logging sys state e) now [] n ∙ outside-more sys h v w.flow (has_epochs sys w) (k, l) sent s e f
+          ∙ ap (with_messages (messages_outside (inside f) (put_on sys.flow e v sent))) (sym (cond-true (is_logging sys state e) old [] n));
+      not_logging = λ n. cond-false (is_logging sys state e) now [] n;
+    }

@@ -1,0 +1,210 @@
+-- Which checkpoint is read for a node that is cut to it.
+use Rattle.std.proofs.Common.{◌≡◌, ◌≢◌, ℕ, true, false, ◌&&◌, ◌==◌, List, [], ◌∷◌, ◌++◌, filter, Option, Some, None, refl, sym, ap, subst, ◌∙◌, arith}
+use Rattle.std.specs.List.{AllByRecursion, AllZip, Contains}
+use Rattle.std.specs.Option.{ForSome}
+use Rattle.std.proofs.lemmas.Bool.{and_parts, and_from, eqb-true, eq-eqb, false_from_ne_true}
+use Rattle.std.proofs.lemmas.List.Elements.{filter-append, Contains-append_right}
+use Rattle.fw_time.proofs.EachLaws.{each-kept, each-weaker}
+use Rattle.fw_frontier.specs.Front.{Front}
+use Rattle.fw_frontier.proofs.SameLaws.{same_front-is, same_front-from}
+use Rattle.fw_flow.specs.declared.choice.Recorded.{Recorded}
+use Rattle.fw_flow.specs.declared.choice.Stamps.{Stamps}
+use Rattle.fw_flow.specs.Dataflow.{System, bounds_of}
+use Rattle.fw_model.specs.Choice.{kept, is_counted}
+use Rattle.fw_model.specs.Machine.{Machine, Write, acknowledged, checkpoint, logged_event, is_failed, no_stamps}
+use Rattle.fw_model.specs.Machine.{Written as WrittenBy}
+use Rattle.fw_model.specs.Steps.{checkpoint_front}
+use Rattle.fw_model.specs.Writes.{IsCheckpointOf, not_collected}
+use Rattle.fw_model.proofs.CheckpointFrontLaws.{checkpoints-have_stamps}
+use Rattle.fw_model.proofs.Decisions.{two_ways}
+use Rattle.fw_model.proofs.FilterLaws.{filter-in, filter-out}
+use Rattle.fw_model.proofs.RestoringLaws.{cuts-kept}
+use Rattle.fw_record.specs.declared.record.Checkpoint.{Checkpoint}
+use Rattle.fw_record.specs.declared.record.Record.{Record}
+use Rattle.fw_record.specs.declared.record.Record.TheVariants as tagged
+use Rattle.fw_record.proofs.RecordLaws.{one_spelling_lem}
+use Rattle.fw_record.specs.Spelling.{spelling}
+use Rattle.fw_keep.specs.declared.entry.Entry.{Entry}
+use Rattle.fw_keep.specs.declared.entry.Written.{Written}
+use Rattle.fw_keep.specs.declared.entry.Written.TheVariants as written
+use Rattle.fw_keep.specs.Stored.{Records}
+use Rattle.fw_stands.specs.LawsOfRecovered.{OneCheckpointAtCuts, NoCheckpointOfNothing, ReadCheckpointsAreOfWrites, RecoveriesRecover, RecoversByStep}
+use Rattle.fw_stands.specs.Read.{is_checkpoint_at, is_checkpoint_of}
+use Rattle.fw_stands.specs.Written.{Holds, HoldsWithin, IsCheckpointFor, IsEntryOf, IsHeldAs, IsRecordFor}
+
+-- ---- entries of checkpoints and their writes
+
+front-of : (sys : System) (state : Machine) (p : ℕ) (f : Front) (e : Written) (w : WrittenBy) → Holds sys state p e w → is_checkpoint_of f e ≡ true
+    → checkpoint_front w ≡ f ∷ []
+front-of sys state p f (written.Checkpoint recorded stamps sent) (checkpoint g low) h i =
+    ap (λ x. x ∷ []) (sym h.recorded.front ∙ same_front-is recorded.front f i)
+front-of sys state p f (written.Checkpoint recorded stamps sent) (logged_event s) h i = absurd h
+front-of sys state p f (written.Event event) w h i = absurd (two_ways false i refl)
+
+-- an entry of an acknowledged checkpoint at the frontier stands for a write of one
+is-such : (sys : System) (state : Machine) (p : ℕ) (f : Front) (e : Entry) (w : Write) → IsEntryOf sys state e w → is_checkpoint_at p f e ≡ true → IsCheckpointOf p f w
+is-such sys state p f e w a i =
+    let node = and_parts (e.node == p) (e.acknowledged && is_checkpoint_of f e.written) i in
+    let more = and_parts e.acknowledged (is_checkpoint_of f e.written) node.1 in
+    (sym a.node ∙ eqb-true e.node p node.0, front-of sys state w.node f e.written w.written a.holds more.1)
+
+-- What is written of a checkpoint: with these watermarks, and what its entry holds.
+record IsWritten (sys : System) (state : Machine) (p : ℕ) (f : Front) (e : Written) (w : WrittenBy) : Type 0 where
+  pub low : List Front
+  pub of_checkpoint : w ≡ checkpoint f low
+  pub recorded : Recorded
+  pub stamps : Stamps
+  pub sent : ℕ
+  pub what : e ≡ written.Checkpoint recorded stamps sent
+  pub holds : HoldsWithin sys state p f recorded stamps sent
+  pub front : is_checkpoint_of f e ≡ true
+
+first-is : (g f : Front) → g ∷ [] ≡ f ∷ [] → g ≡ f
+first-is g f e = ap first e
+  where
+    first : List Front → Front
+    first [] = []
+    first (x ∷ xs) = x
+
+is-written : (sys : System) (state : Machine) (p : ℕ) (f : Front) (e : Written) (w : WrittenBy) → Holds sys state p e w → checkpoint_front w ≡ f ∷ []
+    → IsWritten sys state p f e w
+is-written sys state p f (written.Checkpoint recorded stamps sent) (checkpoint g low) h i =
+    let same = first-is g f i in
+    record {
+      low = low;
+      of_checkpoint = ap (λ x. checkpoint x low) same;
+      recorded = recorded;
+      stamps = stamps;
+      sent = sent;
+      what = refl;
+      holds = subst (λ x. HoldsWithin sys state p x recorded stamps sent) same h;
+      front = same_front-from recorded.front f (h.recorded.front ∙ same);
+    }
+is-written sys state p f (written.Checkpoint recorded stamps sent) (logged_event s) h i = absurd h
+is-written sys state p f (written.Event event) (checkpoint g low) h i = absurd h
+is-written sys state p f (written.Event event) (logged_event s) h i = absurd (cc i)
+
+-- ---- among all entries
+
+for-some : {A : Type 0} (o : Option A) (P Q : A → Type 0) → ((x : A) → P x → Q x) → ForSome o P → ForSome o Q
+for-some o P Q f a x e = f x (a x e)
+
+none-pass : (sys : System) (state : Machine) (p : ℕ) (f : Front) (es : List Entry) (ws : List Write) → AllZip (IsEntryOf sys state) es ws
+    → AllByRecursion (λ w. IsCheckpointOf p f w → ⊥) ws → filter (is_checkpoint_at p f) es ≡ []
+none-pass sys state p f [] ws a n = refl
+none-pass sys state p f (e ∷ es) [] a n = absurd a
+none-pass sys state p f (e ∷ es) (w ∷ ws) a n =
+    filter-out (is_checkpoint_at p f) e es (false_from_ne_true (is_checkpoint_at p f e) (λ i. n.0 (is-such sys state p f e w a.0 i)))
+    ∙ none-pass sys state p f es ws a.1 n.1
+
+-- the entry of the one write that is such a one
+record IsAlone (sys : System) (state : Machine) (records : Option Records) (es : List Entry) (p : ℕ) (f : Front) (one : Write) : Type 0 where
+  pub entry : Entry
+  pub only : filter (is_checkpoint_at p f) es ≡ entry ∷ []
+  pub of_write : IsEntryOf sys state entry one
+  pub stored : ForSome records (λ held. IsHeldAs sys state held entry one)
+
+alone : (sys : System) (state : Machine) (records : Option Records) (p : ℕ) (f : Front) (one : Write) (later : List Write) → IsCheckpointOf p f one → one.stage ≡ acknowledged
+    → AllByRecursion (λ w. IsCheckpointOf p f w → ⊥) later → (earlier : List Write) (es : List Entry) → AllByRecursion (λ w. IsCheckpointOf p f w → ⊥) earlier
+    → AllZip (IsEntryOf sys state) es (earlier ++ one ∷ later) → ForSome records (λ held. AllZip (IsHeldAs sys state held) es (earlier ++ one ∷ later))
+    → IsAlone sys state records es p f one
+alone sys state records p f one later such stage after [] [] before a s = absurd a
+alone sys state records p f one later such stage after [] (e ∷ es) before a s =
+    let w = is-written sys state one.node f e.written one.written a.0.holds such.1 in
+    let passes = and_from (e.node == p) (e.acknowledged && is_checkpoint_of f e.written) (eq-eqb e.node p (a.0.node ∙ such.0))
+    (and_from e.acknowledged (is_checkpoint_of f e.written) (a.0.acknowledged ∙ ap (is_counted kept) stage) w.front) in
+    record {
+      entry = e;
+      only = filter-in (is_checkpoint_at p f) e es passes ∙ ap (λ xs. e ∷ xs) (none-pass sys state p f es later a.1 after);
+      of_write = a.0;
+      stored = for-some records (λ held. AllZip (IsHeldAs sys state held) (e ∷ es) (one ∷ later)) (λ held. IsHeldAs sys state held e one) (λ held x. x.0) s;
+    }
+alone sys state records p f one later such stage after (w ∷ ws) [] before a s = absurd a
+alone sys state records p f one later such stage after (w ∷ ws) (e ∷ es) before a s =
+    let rest = alone sys state records p f one later such stage after ws es before.1 a.1
+    (for-some records (λ held. AllZip (IsHeldAs sys state held) (e ∷ es) (w ∷ ws ++ one ∷ later)) (λ held. AllZip (IsHeldAs sys state held) es (ws ++ one ∷ later)) (λ held x. x.1) s) in
+    record {
+      entry = rest.entry;
+      only = filter-out (is_checkpoint_at p f) e es (false_from_ne_true (is_checkpoint_at p f e) (λ i. before.0 (is-such sys state p f e w a.0 i))) ∙ rest.only;
+      of_write = rest.of_write;
+      stored = rest.stored;
+    }
+
+pub one-checkpoint : OneCheckpointAtCuts
+one-checkpoint sys state choice settled r es a records s p takes f is some =
+    let kept_one = cuts-kept sys r.well_formed r.reached.0 r.reached.1 state r.reached.2 (is_failed state) choice r.largest p f takes is some in
+    let only = kept_one.0 in
+    let one = only.one in
+    let None_such : Write → Type 0 = λ w. IsCheckpointOf p f w → ⊥ in
+    let split : filter not_collected state.writes ≡ filter not_collected only.earlier ++ one ∷ filter not_collected only.later =
+    ap (filter not_collected) only.there ∙ filter-append not_collected only.earlier (one ∷ only.later)
+    ∙ ap (λ ws. filter not_collected only.earlier ++ ws) (filter-in not_collected one only.later (ap (λ far. not_collected (record one { stage = far })) kept_one.1)) in
+    let b = alone sys state records p f one (filter not_collected only.later) only.is_such kept_one.1 (each-kept None_such not_collected only.later only.none_later)
+    (filter not_collected only.earlier) es (each-kept None_such not_collected only.earlier only.none_earlier)
+    (subst (AllZip (IsEntryOf sys state) es) split a) (subst (λ ws. ForSome records (λ held. AllZip (IsHeldAs sys state held) es ws)) split s) in
+    let w = is-written sys state one.node f b.entry.written one.written b.of_write.holds only.is_such.1 in
+    let last : Contains (one ∷ only.later) one = (0, omega arith, refl) in
+    record {
+      entry = b.entry;
+      only = b.only;
+      write = one;
+      low = w.low;
+      there = subst (λ ws. Contains ws one) (sym only.there) (Contains-append_right only.earlier (one ∷ only.later) one last);
+      node = only.is_such.0;
+      of_checkpoint = w.of_checkpoint;
+      of_write = b.of_write;
+      stored = b.stored;
+      recorded = w.recorded;
+      stamps = w.stamps;
+      sent = w.sent;
+      what = w.what;
+      holds = subst (λ q. HoldsWithin sys state q f w.recorded w.stamps w.sent) only.is_such.0 w.holds;
+    }
+
+no-front : (sys : System) (p : ℕ) (n : ℕ) (w : WrittenBy) → ((f : Front) (low : List Front) → w ≡ checkpoint f low → f ≢ no_stamps (bounds_of sys.flow n))
+    → n ≡ p → checkpoint_front w ≡ no_stamps (bounds_of sys.flow p) ∷ [] → ⊥
+no-front sys p n (checkpoint g low) h e i = h g low refl (first-is g (no_stamps (bounds_of sys.flow p)) i ∙ ap (λ q. no_stamps (bounds_of sys.flow q)) (sym e))
+no-front sys p n (logged_event s) h e i = absurd (cc i)
+
+pub no-checkpoint : NoCheckpointOfNothing
+no-checkpoint sys state w reached es a p =
+    let f = no_stamps (bounds_of sys.flow p) in
+    let Has : Write → Type 0 = λ x. (g : Front) (low : List Front) → x.written ≡ checkpoint g low → g ≢ no_stamps (bounds_of sys.flow x.node) in
+    none-pass sys state p f es (filter not_collected state.writes) a
+    (each-weaker Has (λ x. IsCheckpointOf p f x → ⊥) (filter not_collected state.writes)
+    (λ x h i. no-front sys p x.node x.written h i.0 i.1)
+    (each-kept Has not_collected state.writes (checkpoints-have_stamps sys w reached.0 reached.1 state reached.2)))
+
+-- ---- records
+
+some-is : (a b : List ℕ) → Some a ≡ Some b → a ≡ b
+some-is a b e = ap of_some e
+  where
+    of_some : Option (List ℕ) → List ℕ
+    of_some None = []
+    of_some (Some x) = x
+
+as-checkpoint : (sys : System) (state : Machine) (p : ℕ) (f : Front) (low : List Front) (r : Record) → IsRecordFor sys state p (checkpoint f low) r
+    → (c : Checkpoint) × (r ≡ tagged.State c) × IsCheckpointFor sys state p f low c
+as-checkpoint sys state p f low (tagged.State c) a = (c, refl, a)
+as-checkpoint sys state p f low (tagged.Event q event) a = absurd a
+
+pub read-checkpoints : ReadCheckpointsAreOfWrites
+read-checkpoints sys state held entry write h f low is r a =
+    let same : h.what ≡ r = one_spelling_lem h.what r h.of_entry.sound a.sound (some-is (spelling h.what) (spelling r) (sym h.of_entry.bytes ∙ a.bytes)) in
+    as-checkpoint sys state write.node f low r
+    (subst (λ w. IsRecordFor sys state write.node w r) is (subst (IsRecordFor sys state write.node write.written) same h.of_write))
+
+-- ---- the step
+
+pub recoveries-recover : RecoveriesRecover
+recoveries-recover sys state next effect w reached t = (
+  t.1,
+  t.2,
+  record { well_formed = w; reached = reached; largest = t.5; cuts = t.6 },
+  t.7,
+  t.8,
+)
+
+pub recovers-by_step : RecoversByStep
+recovers-by_step sys state choice settled r p l failed = (p, choice, settled, l, failed, r.largest, r.cuts, refl, refl)

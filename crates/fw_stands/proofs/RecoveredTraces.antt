@@ -1,0 +1,137 @@
+-- The traces of nodes after a recovery.
+use Rattle.std.proofs.Common.{◌≡◌, ℕ, ◌<◌, true, false, cond, List, [], length, refl, sym, ap, subst, ◌∙◌}
+use Rattle.std.specs.List.{AllByRecursion}
+use Rattle.std.proofs.lemmas.Bool.{cond-true, cond-false, false_from_ne_true}
+use Rattle.fw_time.specs.Stamp.{Stamp, in_domain}
+use Rattle.fw_time.proofs.EachLaws.{each-one, each-filter}
+use Rattle.fw_frontier.specs.Frontier.{Frontier, Within, nothing}
+use Rattle.fw_frontier.specs.Front.{Front}
+use Rattle.fw_frontier.proofs.NamesLaws.{frontier-closed}
+use Rattle.fw_flow.specs.declared.choice.Choice.{Choice}
+use Rattle.fw_flow.specs.declared.choice.Cut.TheVariants.{At}
+use Rattle.fw_flow.specs.declared.choice.Stamps.{Stamps}
+use Rattle.fw_flow.specs.Dataflow.{System, kind_of, policy_of, bounds_of, node_frontier, is_input_kind}
+use Rattle.fw_flow.specs.NodeFunction.{event_stamp, sent_by}
+use Rattle.fw_flow.specs.Projection.{events_at}
+use Rattle.fw_model.specs.Choice.{cut_of, kept_of}
+use Rattle.fw_model.specs.Covers.{set_of}
+use Rattle.fw_model.specs.EventStamps.{AreStampsOf, StandForNumbered, StandForSent}
+use Rattle.fw_model.specs.Filtering.{messages_from}
+use Rattle.fw_model.specs.Machine.{Machine, events, front_of, is_failed, no_stamps}
+use Rattle.fw_model.specs.Offers.{AreOnEdges, on_edge, stamps_on}
+use Rattle.fw_model.specs.Steps.{IsSettledCut, recovered_state}
+use Rattle.fw_model.specs.Thinned.{IsThinned}
+use Rattle.fw_model.specs.Writes.{takes_checkpoints}
+use Rattle.fw_model.proofs.AskedLaws.{takes-not_input}
+use Rattle.fw_model.proofs.Decisions.{two_ways}
+use Rattle.fw_model.proofs.FilterLaws.{filter-none}
+use Rattle.fw_model.proofs.LowLaws.{input-is, none-within}
+use Rattle.fw_model.proofs.RestoringLaws.{low-kept}
+use Rattle.fw_model.proofs.SendPartLaws.{part-sends}
+use Rattle.fw_policy.specs.View.{base_of}
+use Rattle.fw_progress.specs.Trace.{AreEventsInside, IsTraceOf}
+use Rattle.fw_progress.proofs.CutTraceLaws.{same-trace}
+use Rattle.fw_stands.specs.LawsOfRecovered.{Recovers, TracesOfPresent, TracesOfCuts, TracesFromCheckpoints, TracesOfCutsToNothing}
+use Rattle.fw_stands.specs.Recovered.{AreNoStamps}
+use Rattle.fw_stands.specs.Written.{events_within}
+use Rattle.fw_stands.proofs.RecoveredFacts.{knows, events-now}
+use Rattle.fw_stands.proofs.RecoveredTables.{events-present, events-cut, settled-at_cut, within-at}
+
+-- ---- a node that stays as it is
+
+pub traces-present : TracesOfPresent
+traces-present sys state choice settled r p l is traces t =
+    let now = events (recovered_state sys state choice settled).history in
+    let takes = takes_checkpoints (policy_of sys.flow p) in
+    let low = node_frontier sys.flow p (front_of state.low p) in
+    let At_base : Front → Type 0 = λ f. IsTraceOf sys now p (cond takes (node_frontier sys.flow p f) low) traces in
+    let same_front : front_of settled p ≡ front_of state.settled p =
+    subst (λ c. IsSettledCut sys p c (front_of state.settled p) (front_of settled p)) is (r.cuts.each p l) in
+    subst At_base (sym same_front)
+    (same-trace sys (events state.history) now p (base_of sys state p) traces (events-present sys state choice settled r p is) t)
+
+-- ---- a node without checkpoints
+
+pub traces-cut : TracesOfCuts
+traces-cut sys state choice settled r p l takes f is old new cut t =
+    let k = knows sys state choice settled r in
+    let h = events state.history in
+    let next = recovered_state sys state choice settled in
+    let low = node_frontier sys.flow p (front_of state.low p) in
+    let base : base_of sys state p ≡ low = cond-false (takes_checkpoints (policy_of sys.flow p)) (node_frontier sys.flow p (front_of state.settled p)) low takes in
+    let base_now : base_of sys next p ≡ low = cond-false (takes_checkpoints (policy_of sys.flow p)) (node_frontier sys.flow p (front_of settled p)) low takes in
+    let within : Within low (node_frontier sys.flow p f) =
+    λ s i. ap (λ c. set_of sys.flow p c s) (sym is) ∙ low-kept sys state k.all (is_failed state) choice r.largest p l s i in
+    subst (λ b. IsTraceOf sys (events next.history) p b new) (sym base_now)
+    (subst (λ vs. IsTraceOf sys vs p low new) (sym (events-now sys state choice settled))
+    (cut.here sys h (kept_of sys.flow choice) refl k.epochs k.legal k.keeps.kept (ap (set_of sys.flow p) is) low within
+    (subst (λ b. IsTraceOf sys h p b old) base t)))
+
+-- ---- a node that is cut to a checkpoint
+
+takes-inner : (sys : System) (state : Machine) (choice : Choice) (settled : List Front) → Recovers sys state choice settled
+    → (p : ℕ) → takes_checkpoints (policy_of sys.flow p) ≡ true → is_input_kind (kind_of sys.flow p) ≡ false
+takes-inner sys state choice settled r p takes =
+    false_from_ne_true (is_input_kind (kind_of sys.flow p)) (λ i. takes-not_input sys.flow r.well_formed.flow p takes (input-is (kind_of sys.flow p) i))
+
+base-cut : (sys : System) (state : Machine) (choice : Choice) (settled : List Front) → Recovers sys state choice settled
+    → (p : ℕ) → p < length sys.flow.nodes → takes_checkpoints (policy_of sys.flow p) ≡ true → (f : Front) → cut_of choice p ≡ At f
+    → base_of sys (recovered_state sys state choice settled) p ≡ node_frontier sys.flow p f
+base-cut sys state choice settled r p l takes f is =
+    cond-true (takes_checkpoints (policy_of sys.flow p)) (node_frontier sys.flow p (front_of settled p)) (node_frontier sys.flow p (front_of state.low p)) takes
+    ∙ ap (node_frontier sys.flow p) (settled-at_cut sys state choice settled r p l (takes-inner sys state choice settled r p takes) f is)
+
+-- the events inside are those that the checkpoint has
+part-sent : (sys : System) (state : Machine) (choice : Choice) (settled : List Front) → Recovers sys state choice settled → (p : ℕ) (f : Front)
+    → sent_by sys p (events_at sys.flow p (events_within sys state p f))
+    ≡ messages_from (node_frontier sys.flow p f) (sent_by sys p (events_at sys.flow p (events state.history)))
+part-sent sys state choice settled r p f =
+    let k = knows sys state choice settled r in
+    ap (sent_by sys p) (within-at sys state p f)
+    ∙ part-sends sys (events state.history) r.well_formed.flow k.epochs k.legal p (node_frontier sys.flow p f) (frontier-closed (bounds_of sys.flow p) f)
+
+part-inside : (sys : System) (state : Machine) (p : ℕ) (f : Front) → AreEventsInside sys.flow (events_within sys state p f) p (node_frontier sys.flow p f)
+part-inside sys state p f =
+    let b = node_frontier sys.flow p f in
+    let vs = events_at sys.flow p (events state.history) in
+    subst (AllByRecursion (λ v. b (event_stamp v) ≡ true)) (sym (within-at sys state p f))
+    (each-filter (λ v. b (event_stamp v) ≡ true) (λ v. b (event_stamp v)) vs (each-one (λ v. b (event_stamp v) ≡ true → b (event_stamp v) ≡ true) vs (λ v i. i)))
+
+pub traces-from_checkpoints : TracesFromCheckpoints
+traces-from_checkpoints sys state choice settled r p l takes f is stamps count stand counts old new a =
+    let now = events (recovered_state sys state choice settled).history in
+    let part = events_within sys state p f in
+    let b = node_frontier sys.flow p f in
+    let events_same : events_at sys.flow p now ≡ events_at sys.flow p part = events-cut sys state choice settled p f is ∙ sym (within-at sys state p f) in
+    let trace = a.here sys part b refl stand (counts ∙ sym (ap length (part-sent sys state choice settled r p f))) (part-inside sys state p f) in
+    subst (λ base. IsTraceOf sys now p base new) (sym (base-cut sys state choice settled r p l takes f is))
+    (same-trace sys part now p b new events_same trace)
+
+-- ---- a node that is cut to no stamps
+
+none-thinned : (base : Frontier) (kept : List Stamp) → kept ≡ [] → IsThinned base [] kept
+none-thinned base kept e = subst (IsThinned base []) (sym e) (record { among = tt; outside = tt; inside = tt })
+
+-- no stamps stand for no events
+no-stamps : (sys : System) (p : ℕ) (base : Frontier) (stamps : Stamps) → AreNoStamps stamps → AreStampsOf sys [] p base stamps
+no-stamps sys p base stamps a = record {
+  on_edges = (subst (AreOnEdges sys.flow) (sym a.delivered) tt, subst (AreOnEdges sys.flow) (sym a.sent) tt);
+  in_domain = subst (AllByRecursion (λ t. in_domain (bounds_of sys.flow p) t ≡ true)) (sym a.notified) tt;
+  delivered = λ d at. none-thinned base (stamps_on d stamps.delivered) (ap (stamps_on d) a.delivered);
+  notified = none-thinned base stamps.notified a.notified;
+  sent = λ n e l s. subst (λ ms. StandForSent sys [] p base e (on_edge e ms)) (sym a.sent)
+      (record { of_cause = tt; thinned = none-thinned base [] refl });
+  numbered = λ n e l s. subst (StandForNumbered sys [] e) (sym a.sent) (none-thinned _ [] refl);
+}
+
+pub traces-nothing : TracesOfCutsToNothing
+traces-nothing sys state choice settled r p l is stamps empty old new a =
+    let now = events (recovered_state sys state choice settled).history in
+    let base = base_of sys (recovered_state sys state choice settled) p in
+    let b = node_frontier sys.flow p (no_stamps (bounds_of sys.flow p)) in
+    let vs = events_at sys.flow p (events state.history) in
+    let none : events_at sys.flow p now ≡ [] =
+    events-cut sys state choice settled p (no_stamps (bounds_of sys.flow p)) is
+    ∙ filter-none (λ v. b (event_stamp v)) vs (each-one (λ v. b (event_stamp v) ≡ false) vs
+    (λ v. false_from_ne_true (b (event_stamp v)) (λ i. two_ways false (none-within (bounds_of sys.flow p) nothing (event_stamp v) i) refl))) in
+    same-trace sys [] now p base new none (a.here sys [] base refl (no-stamps sys p base stamps empty) refl tt)

@@ -1,0 +1,190 @@
+-- What becomes of tables and traces where more is settled.
+use Rattle.std.proofs.Common.{Bool, List, None, Some, ap, cond, false, filter, inl, inr, not, refl, subst, sym, true, ℕ, ◌&&◌, ◌==◌, ◌∙◌, ◌≡◌}
+use Rattle.std.proofs.lemmas.Bool.{cases_Bool, cases_eq, or_cases, or_parts, eqb-true, eq-eqb}
+use Rattle.fw_model.proofs.Decisions.{two_ways}
+use Rattle.fw_model.specs.History.{AreEventsInDomain}
+use Rattle.fw_frontier.specs.Frontier.{Frontier, Within}
+use Rattle.fw_frontier.specs.Front.{Front, same_front}
+use Rattle.fw_flow.specs.declared.step.Step.TheVariants.{Progress as ProgressStep}
+use Rattle.fw_flow.specs.Dataflow.{System, policy_of, node_ids, node_frontier}
+use Rattle.fw_flow.specs.Projection.{events_at}
+use Rattle.fw_flow.specs.WellFormed.{IsWellFormedSystem}
+use Rattle.fw_model.specs.Machine.{Machine, events, family_of, front_of}
+use Rattle.fw_model.specs.Reached.{IsReached}
+use Rattle.fw_model.specs.Steps.{GrowsTo, LeadsTo, silent, did, is_eager, eager_writes}
+use Rattle.fw_model.specs.Writes.{takes_checkpoints}
+use Rattle.fw_model.proofs.DomainLaws.{has_epochs}
+use Rattle.fw_model.proofs.LegalLaws.{legal_events-in_domain}
+use Rattle.fw_model.proofs.ToldLaws.{settled-told}
+use Rattle.fw_node.specs.TableOf.{IsTableOf}
+use Rattle.fw_policy.specs.View.{base_of}
+use Rattle.fw_progress.specs.declared.traces.Traces.{Traces}
+use Rattle.fw_progress.specs.Trace.{AreSettledTo, IsTraceOf, IsTraceWithin}
+use Rattle.fw_stands.specs.LawsOfSettling.{settled_state, GrowthIsProgress, NoGrowthIsIdle, SettledTablesStand, UngrownTablesStay, NoTablesAfterProgress, SettledTracesStand, TracesWithoutCheckpointsStay, UngrownTracesStay, TracesOfOthersStay, AreSettledAt, NoneIsSettledYet, OneMoreIsSettled, SameNodesAreSettled, AllSettledTracesStand, ProgressKeepsTheRest}
+use Rattle.fw_stands.specs.Parts.{IsTraceIn}
+use Rattle.fw_stands.proofs.AtReached.{reached-next, reached-legal}
+use Rattle.fw_stands.proofs.GrowthLaws.{settled-holds, logged-before, logged-without_checkpoints}
+
+-- ---- the step
+
+pub growth-progress : GrowthIsProgress
+growth-progress sys state settled g = (g.0, settled.items, g.1, refl, refl)
+
+pub no_growth-idle : NoGrowthIsIdle
+no_growth-idle sys state none next effect t =
+    let g = t.2 in
+    let s = g.some in
+    none t.0 g.complete (record { node = s.0; at = s.1; declared = s.2; live = s.3; complete = s.4; unsettled = s.5 })
+
+settled-next : (sys : System) (state : Machine) → IsReached sys state → (done : ℕ → Frontier) (settled : List Front) → GrowsTo sys state done settled
+    → IsReached sys (settled_state sys state settled)
+settled-next sys state r done settled g =
+    let leads : LeadsTo sys state ProgressStep (settled_state sys state settled) silent = (done, settled, g, refl, refl) in
+    reached-next sys state (settled_state sys state settled) ProgressStep (did silent) r leads
+
+-- ---- tables
+
+pub settled_tables-stand : SettledTablesStand
+settled_tables-stand sys w state r done settled g p l old new s t =
+    let n = settled-next sys state r done settled g in
+    record {
+      there = t.there;
+      of_events = s (family_of sys.flow state.settled p) (events_at sys.flow p (events state.history)) (settled-holds sys state done settled g p l)
+          (λ k. settled-told sys w n.0 n.1 (settled_state sys state settled) n.2 p k) t.of_events;
+    }
+
+pub ungrown_tables-stay : UngrownTablesStay
+ungrown_tables-stay sys state settled p None e t = record { there = t.there; of_events = tt }
+ungrown_tables-stay sys state settled p (Some node) e t = record {
+  there = t.there;
+  of_events = subst (λ f. IsTableOf sys.flow p (node_frontier sys.flow p f) node (events_at sys.flow p (events state.history))) (sym e) t.of_events;
+}
+
+pub no_tables-stay : NoTablesAfterProgress
+no_tables-stay sys state settled p t = record { there = t.there; of_events = tt }
+
+-- ---- traces
+
+-- the base of a node that takes checkpoints is what is settled, and of another one its low watermark
+pub base-settled : (sys : System) (state : Machine) (p : ℕ) → takes_checkpoints (policy_of sys.flow p) ≡ true → base_of sys state p ≡ family_of sys.flow state.settled p
+base-settled sys state p c = ap (λ b. cond b (node_frontier sys.flow p (front_of state.settled p)) (node_frontier sys.flow p (front_of state.low p))) c
+
+pub base-low : (sys : System) (state : Machine) (p : ℕ) → takes_checkpoints (policy_of sys.flow p) ≡ false → base_of sys state p ≡ family_of sys.flow state.low p
+base-low sys state p c = ap (λ b. cond b (node_frontier sys.flow p (front_of state.settled p)) (node_frontier sys.flow p (front_of state.low p))) c
+
+-- traces settled to a front that holds their base have it as base
+pub settled_to-base : (sys : System) → IsWellFormedSystem sys → (state : Machine) → IsReached sys state → (p : ℕ) (f : Front) (old new : Traces)
+    → AreSettledTo sys.flow p f old new → Within (base_of sys state p) (node_frontier sys.flow p f) → IsTraceIn sys state p old
+    → IsTraceOf sys (events state.history) p (node_frontier sys.flow p f) new
+settled_to-base sys w state r p f old new a within t =
+    a.here sys (events state.history) refl
+    (legal_events-in_domain sys (events state.history) w.flow (has_epochs sys w) (reached-legal sys state w r) p)
+    (record { base = base_of sys state p; within = within; trace = t })
+
+pub settled_traces-stand : SettledTracesStand
+settled_traces-stand sys w state r done settled g p l c old new a t =
+    let next = settled_state sys state settled in
+    subst (λ f. IsTraceOf sys (events state.history) p f new) (sym (base-settled sys next p c))
+    (settled_to-base sys w state r p (front_of settled p) old new a
+    (subst (λ f. Within f (family_of sys.flow settled p)) (sym (base-settled sys state p c)) (settled-holds sys state done settled g p l)) t)
+
+pub traces_without_checkpoints-stay : TracesWithoutCheckpointsStay
+traces_without_checkpoints-stay sys state settled p c traces t =
+    let next = settled_state sys state settled in
+    subst (λ f. IsTraceOf sys (events state.history) p f traces) (base-low sys state p c ∙ sym (base-low sys next p c)) t
+
+pub ungrown_traces-stay : UngrownTracesStay
+ungrown_traces-stay sys state settled p e traces t =
+    subst (λ f. IsTraceOf sys (events state.history) p f traces)
+    (ap (λ f. cond (takes_checkpoints (policy_of sys.flow p)) (node_frontier sys.flow p f) (node_frontier sys.flow p (front_of state.low p))) (sym e)) t
+
+pub traces_of_others-stay : TracesOfOthersStay
+traces_of_others-stay sys state p q k old new keeps t = keeps sys (events state.history) refl q k (base_of sys state q) t
+
+-- ---- the traces of several nodes
+
+pub none-settled_yet : NoneIsSettledYet
+none-settled_yet flow fronts traces = record {
+  here = λ p i sys h e d t. absurd (two_ways false i refl);
+  others = λ p i sys h e base t. t;
+}
+
+pub one_more-settled : OneMoreIsSettled
+one_more-settled flow test fronts old between new a p none b = record {
+  here = λ q i sys h e d t. elim (cases_eq q p) [
+    | inl same ↦ subst (λ n. IsTraceOf sys h n (node_frontier flow n (front_of fronts n)) new) (sym same)
+        (b.here sys h e (subst (AreEventsInDomain flow h) same d)
+        (subst (λ n. IsTraceWithin sys h n (front_of fronts n) between) same
+        (record { base = t.base; within = t.within; trace = a.others q (ap test same ∙ none) sys h e t.base t.trace })))
+    | inr other ↦ b.others sys h e q other (node_frontier flow q (front_of fronts q))
+        (a.here q (elim (or_cases (q == p) (test q) i) [ inl j ↦ absurd (other (eqb-true q p j)) | inr j ↦ j ]) sys h e d t)
+  ];
+  others = λ q i sys h e base t.
+      let apart = or_parts (q == p) (test q) i in
+      b.others sys h e q (λ same. two_ways (q == p) (eq-eqb q p same) apart.0) base (a.others q apart.1 sys h e base t);
+}
+
+pub same_nodes-settled : SameNodesAreSettled
+same_nodes-settled flow test other e fronts old new a = record {
+  here = λ p i. a.here p (sym (e p) ∙ i);
+  others = λ p i. a.others p (sym (e p) ∙ i);
+}
+
+-- the traces of one node stand where those of several are settled to fronts
+pub trace-settled : (sys : System) → IsWellFormedSystem sys → (state : Machine) → IsReached sys state → (test : ℕ → Bool) (fronts : List Front) (old new : Traces)
+    → AreSettledAt sys.flow test fronts old new → (p : ℕ) → test p ≡ true → Within (base_of sys state p) (family_of sys.flow fronts p) → IsTraceIn sys state p old
+    → IsTraceOf sys (events state.history) p (family_of sys.flow fronts p) new
+trace-settled sys w state r test fronts old new a p i within t =
+    a.here p i sys (events state.history) refl
+    (legal_events-in_domain sys (events state.history) w.flow (has_epochs sys w) (reached-legal sys state w r) p)
+    (record { base = base_of sys state p; within = within; trace = t })
+
+pub all_settled_traces-stand : AllSettledTracesStand
+all_settled_traces-stand sys w state r done settled g test takes same old new a p l t =
+    let next = settled_state sys state settled in
+    elim (cases_Bool (test p)) [
+      | inl i ↦
+          let c = takes p i in
+          subst (λ f. IsTraceOf sys (events state.history) p f new) (sym (base-settled sys next p c))
+          (trace-settled sys w state r test settled old new a p i
+          (subst (λ f. Within f (family_of sys.flow settled p)) (sym (base-settled sys state p c)) (settled-holds sys state done settled g p l)) t)
+      | inr i ↦
+          let kept = a.others p i sys (events state.history) refl (base_of sys state p) t in
+          elim (cases_Bool (takes_checkpoints (policy_of sys.flow p))) [
+            | inl c ↦ ungrown_traces-stay sys state settled p (same p i c) new kept
+            | inr c ↦ traces_without_checkpoints-stay sys state settled p c new kept
+          ]
+    ]
+
+-- ---- the rest
+
+pub progress-keeps : ProgressKeepsTheRest
+progress-keeps sys state settled =
+    let fronts : ℕ → Front = λ p. front_of settled p in
+    let ps = filter (λ p. is_eager (policy_of sys.flow p) && not (same_front (front_of state.settled p) (front_of settled p))) (node_ids sys.flow) in
+    record {
+      queues = λ e. refl;
+      logs = λ e. refl;
+      outputs = record { bound = λ o. refl; recs = λ o x. refl };
+      sources = λ s source t. record { given = t.given; injected = t.injected; held = t.held };
+      lost = λ p t. (
+        λ a. (
+          a.0,
+          record {
+            event = a.1.event;
+            there = a.1.there;
+            is = a.1.is;
+            not_logged = λ l. a.1.not_logged (logged-before a.1.event.serial state.writes (eager_writes sys state settled (node_ids sys.flow)) l);
+          },
+        ),
+        λ a. (
+          a.0,
+          record {
+            event = a.1.event;
+            there = a.1.there;
+            is = a.1.is;
+            not_logged = λ l. a.1.not_logged (logged-without_checkpoints a.1.event.serial state.writes state fronts ps l);
+          },
+        ),
+      );
+    }

@@ -1,0 +1,104 @@
+-- What each part holds of the first state.
+use Rattle.std.proofs.Common.{◌≡◌, ℕ, zero, suc, ◌+◌, Bool, true, false, cond, not, nat_le, ◌||◌, ◌&&◌, List, [], ◌∷◌, length, map, filter, refl, sym, ap, ◌∙◌, inl, inr, arith, slice_index_or, nat_lt}
+use Rattle.std.proofs.lemmas.Bool.{cases_lt, and_from, le-leb}
+use Rattle.std.proofs.lemmas.List.FromFn.{get_or-map-range_with_len}
+use Rattle.std.specs.List.{enumerate_from}
+use Rattle.fw_bag.specs.declared.rec.Rec.{Rec}
+use Rattle.fw_frontier.specs.Front.{Front, inside}
+use Rattle.fw_flow.specs.Dataflow.{System, kind_of, batches_of, bounds_of, receiver, node_ids, is_input_kind, is_output_kind}
+use Rattle.fw_flow.proofs.EdgeLaws.{kind-past}
+use Rattle.fw_model.specs.Machine.{first_state, no_stamps, front_of, is_failed, ack_count_of}
+use Rattle.fw_model.proofs.ChoiceLaws.{bounds-input}
+use Rattle.fw_model.proofs.Decisions.{two_ways}
+use Rattle.fw_model.proofs.LowLaws.{input-is}
+use Rattle.fw_policy.specs.View.{base_of}
+use Rattle.fw_stands.specs.Parts.{is_logging}
+use Rattle.fw_stands.specs.LawsOfStarting.{FirstIsReached, FirstTableStands, BordersHaveNoTable, FirstHoldsNothing, UnusedSourceStands, FirstTracesStand}
+
+-- ---- one for each node
+
+none-failed : (xs : List ℕ) (p : ℕ) → slice_index_or (map (λ q. false) xs) p false ≡ false
+none-failed [] p = refl
+none-failed (x ∷ xs) zero = refl
+none-failed (x ∷ xs) (suc p) = none-failed xs p
+
+zeros : List ℕ → List ℕ
+zeros xs = map (λ q. 0) xs
+
+none-acknowledged : (xs : List ℕ) (o : ℕ) → slice_index_or (zeros xs) o 0 ≡ 0
+unfolding zeros
+none-acknowledged [] o = refl
+none-acknowledged (x ∷ xs) zero = refl
+none-acknowledged (x ∷ xs) (suc o) = none-acknowledged xs o
+
+first-live : (sys : System) (p : ℕ) → is_failed (first_state sys) p ≡ false
+first-live sys p = none-failed (node_ids sys.flow) p
+
+-- ---- the parts
+
+pub first-reached : FirstIsReached
+first-reached sys = ([], [], refl)
+
+pub first_table-stands : FirstTableStands
+first_table-stands sys p i o node t = record {
+  there = sym (ap (λ b. not (b || (is_output_kind (kind_of sys.flow p) || is_failed (first_state sys) p))) i
+      ∙ ap (λ b. not (b || is_failed (first_state sys) p)) o ∙ ap not (first-live sys p));
+  of_events = t;
+}
+
+pub borders-have_none : BordersHaveNoTable
+borders-have_none sys p b = record {
+  there = sym (none (is_input_kind (kind_of sys.flow p)) (is_output_kind (kind_of sys.flow p)) (is_failed (first_state sys) p) b);
+  of_events = tt;
+}
+  where
+    none : (a b c : Bool) → (a || b) ≡ true → not (a || (b || c)) ≡ false
+    none true b c e = refl
+    none false true c e = refl
+    none false false c e = absurd (cc)
+
+nothing-either : {A : Type 0} (b : Bool) (none : List A) → none ≡ [] → cond b none none ≡ []
+nothing-either true none e = e
+nothing-either false none e = e
+
+pub first-holds_nothing : FirstHoldsNothing
+unfolding zeros
+first-holds_nothing sys = record {
+  queues = λ e. nothing-either (is_failed (first_state sys) (receiver sys.flow e)) [] refl;
+  logs = λ e. nothing-either (is_logging sys (first_state sys) e) [] refl;
+  outputs = λ o. record {
+    bound = sym (none-acknowledged (node_ids sys.flow) o);
+    recs = λ x. sym (nothing-either (is_failed (first_state sys) o || nat_lt x (ack_count_of (first_state sys) o)) [] refl);
+  };
+  lost = λ p t l. two_ways (is_failed (first_state sys) p) l.0 (first-live sys p);
+}
+
+-- ---- inputs
+
+-- each batch lies outside no stamps
+all-held : (f : Front) (n : ℕ) (batches : List (List Rec)) → f ≡ (0 ∷ []) ∷ [] → enumerate_from n batches ≡ filter (λ (batch : ℕ × List Rec). not (inside f (batch.0 ∷ []))) (enumerate_from n batches)
+all-held f n [] e = refl
+all-held f n (b ∷ bs) e =
+    let rest : List (ℕ × List Rec) = filter (λ (batch : ℕ × List Rec). not (inside f (batch.0 ∷ []))) (enumerate_from (n + 1) bs) in
+    let outside : inside f (n ∷ []) ≡ false = ap (λ g. inside g (n ∷ [])) e ∙ ap (λ x. not x && true) (and_from (nat_le 0 n) true (le-leb 0 n (omega arith)) refl) in
+    ap (λ xs. (n, b) ∷ xs) (all-held f (n + 1) bs e) ∙ sym (ap (λ x. cond (not x) ((n, b) ∷ rest) rest) outside)
+
+first-low : (sys : System) (s : ℕ) → is_input_kind (kind_of sys.flow s) ≡ true → front_of (first_state sys).low s ≡ (0 ∷ []) ∷ []
+first-low sys s i = elim (cases_lt s (length sys.flow.nodes)) [
+  | inl l ↦
+      get_or-map-range_with_len (λ p. no_stamps (bounds_of sys.flow p)) 0 (length sys.flow.nodes) s s [] l (omega arith)
+      ∙ ap no_stamps (bounds-input sys.flow s (input-is (kind_of sys.flow s) i))
+  | inr l ↦ absurd (two_ways (is_input_kind (kind_of sys.flow s)) i (ap is_input_kind (kind-past sys.flow s l)))
+]
+
+pub unused_source-stands : UnusedSourceStands
+unused_source-stands sys s i = record {
+  given = refl;
+  injected = refl;
+  held = all-held (front_of (first_state sys).low s) 0 (batches_of sys s) (first-low sys s i);
+}
+
+-- ---- traces
+
+pub first_traces-stand : FirstTracesStand
+first_traces-stand sys p traces t = t (base_of sys (first_state sys) p)

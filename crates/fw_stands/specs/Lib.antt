@@ -1,0 +1,16 @@
+pub mod LawsOfEntries
+pub mod Parts
+pub mod Written
+pub mod LawsOfEvents
+pub mod Staying
+pub mod LawsOfSettling
+pub mod LawsOfFailures
+pub mod LawsOfAcknowledging
+pub mod LawsOfFirstSteps
+pub mod LawsOfCollecting
+pub mod LawsOfStaying
+pub mod Redone
+pub mod Recovered
+pub mod Read
+pub mod LawsOfRecovered
+pub mod LawsOfStarting

@@ -45,6 +45,7 @@ fn answer<R: Files>(
         "file" => file(alloc, files, first),
         "write" => written(alloc, files, first, words),
         "folder" => done(alloc, fs::create_dir(files, first).is_ok()),
+        "link" => done(alloc, fs::hard_link(files, first, words).is_ok()),
         _ => Err(NoAnswer::NotSpelled),
     }
 }

@@ -15,7 +15,9 @@ const DIGEST: usize = 32;
 pub(crate) fn contents_of(alloc: Global, bytes: &[u8]) -> Result<Vec<u8>, AllocError>
     ensures { IfOk result (λ contents. contents.items ≡ contents_of bytes.now) }
 {
-    let mut contents = (bytes.len() as u64).to_le_bytes().as_slice().to_vec(alloc)?;
+    let mut contents = Vec::new(alloc);
+    contents.reserve(bytes.len().saturating_add(LENGTH + DIGEST))?;
+    contents.extend_from_slice(&(bytes.len() as u64).to_le_bytes())?;
     contents.extend_from_slice(bytes)?;
     contents.extend_from_slice(&Sha256::digest(bytes))?;
     Ok(contents)

@@ -5,7 +5,7 @@ ghost use Rattle.fw_outside.specs.Outside.{Rose};
 use crate::contents::{contents_of, record_in};
 use fw_outside::{OutFault, Store};
 use std::alloc::{AllocError, Global};
-use std::fs::{self, OpenFile};
+use std::fs::{self, OpenFile, OpenOptions};
 use std::io::{self, ErrorKind, Read, Write};
 use std::rt::Files;
 
@@ -20,7 +20,8 @@ struct Given {
 ///
 /// A record is written into a file `ID.new` and flushed to the disk before the file gets its name, by a link that never takes
 /// the place of another file; then the folder is flushed. So a loss of power between any two of these leaves under an id
-/// nothing, the whole record, or what no call takes for a record. One program at a time may use a folder.
+/// nothing, the whole record, or what no call takes for a record. A folder is for one catalogue of records, and empty at first;
+/// one program at a time uses it.
 #[derive(Drop)]
 pub struct DiskStore<'a, R: Files> {
     alloc: Global,
@@ -55,7 +56,7 @@ impl From<io::Error> for Refusal {
 }
 
 impl<'a, R: Files> DiskStore<'a, R> {
-    /// The store of a folder, which has to be there; that it is, is found at the first call.
+    /// The store of a folder, which has to be there; if it is not, each call fails.
     pub fn new(alloc: Global, files: &'a R, folder: String) -> Self
         ensures records { ⟦<DiskStore<'a, R> as Store>⟧.records result ≡ None }
         ensures given { ⟦<DiskStore<'a, R> as Store>⟧.given result ≡ None }
@@ -81,19 +82,24 @@ impl<R: Files> DiskStore<'_, R> {
         Ok(path)
     }
 
-    // Puts a record under a new id. Where it is refused no record stands there.
+    // Puts a record under a new id. Where it is refused this record does not stand there, unless its file can't be removed again.
     fn put_new(&self, id: u64, bytes: &[u8]) -> Result<(), Refusal> {
         let contents = contents_of(self.alloc, bytes)?;
         let beside = self.path(id, ".new")?;
         let named = self.path(id, "")?;
         let put = self.write_and_name(&beside, &named, &contents);
         let _ = fs::remove_file(self.files, beside.as_str());
-        Ok(put?)
+        put.map_err(Refusal::from)
     }
 
     // Writes a file beside, and gives it its name.
     fn write_and_name(&self, beside: &str, named: &str, contents: &[u8]) -> io::Result<()> {
-        let mut file = fs::create(self.files, beside)?;
+        // one that an earlier program left may be a second name of the record, so it is taken away and not written into
+        let _ = fs::remove_file(self.files, beside);
+        let mut file = OpenOptions::new()
+            .write(true)
+            .create_new(true)
+            .open(self.files, beside)?;
         file.write_all(contents)?;
         file.sync_all()?;
         fs::hard_link(self.files, beside, named)?;
@@ -165,7 +171,7 @@ impl<R: Files> Store for DiskStore<'_, R> {
     ghost fault_count = { λ store. store.faults };
 
     /// Writes the record into a new file. A file that is there under the id, or a folder that is not there, is a fault. After
-    /// a refusal no record stands under the id, unless its file can't be removed again.
+    /// a refusal what stood under the id stands there still, and else nothing, unless the new file can't be removed again.
     fn put(&mut self, id: u64, bytes: &[u8]) -> Result<(), OutFault> {
         let put = self.put_new(id, bytes);
         self.answer(put)

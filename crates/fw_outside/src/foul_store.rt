@@ -23,7 +23,8 @@ struct Given {
 }
 
 /// A store in memory that tells nothing of its records, and gives other bytes than it holds at listed calls of `get`. It fails
-/// where a record is put under an id that it holds, and where one is got or removed that it does not hold.
+/// where a record is put under an id that it holds, where one is removed that it does not hold, and where one is got that it
+/// does not hold, at a call that is not listed.
 #[derive(Debug, Drop)]
 pub struct FoulStore {
     alloc: Global,

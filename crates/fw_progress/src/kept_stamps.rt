@@ -61,7 +61,7 @@ impl KeptStamps {
         Ok(())
     }
 
-    /// These stamps more. The error is want of memory.
+    /// Adds these stamps. The error is want of memory; some of them may then be in.
     pub fn add_all(&mut self, stamps: &[Stamp]) -> Result<(), AllocError>
         ensures { IfOk result (λ u. HaveAdded stamps.now self.old self.new) }
     {

@@ -112,7 +112,7 @@ impl Tally {
         self.counts.is_empty()
     }
 
-    /// The same once more. The error is want of memory.
+    /// A copy. The error is want of memory.
     pub fn copy(&self, alloc: Global) -> Result<Self, AllocError>
         ensures { IfOk result (λ tally. tally ≡ self.now) }
     {
@@ -213,7 +213,7 @@ fn clear_one(counts: &mut BTreeMap<Stamp, u64>, at: &Stamp)
     counts.remove(at);
 }
 
-// The same counts once more.
+// A copy of the counts.
 fn copied(alloc: Global, counts: &BTreeMap<Stamp, u64>) -> Result<BTreeMap<Stamp, u64>, AllocError>
     ensures { IfOk result (λ copy. copy.entries ≡ counts.now.entries) }
 {

@@ -80,7 +80,8 @@ HaveSent flow low p logged logs =
     (batches : List (List (List Rec))) (events : List Event) → AreDoneAgain flow p logged events
     → HasLogs flow p logs (λ e. log_of flow low e (sent_by (record { flow = flow; batches = batches }) p events))
 
--- The node stands for these logged events, done again, where f is settled, and the logs of its edges have what they sent.
+-- The node stands for these logged events, if they can be done again, where f is settled, and the logs of its edges have what
+-- they sent.
 pub record HasDone (flow : Dataflow) (low : List Front) (p : ℕ) (f : Front) (logged : List LoggedEvent) (node : Node)
     (logs : List MessagesState) : Type 0 where
   pub of_node : IsOfNode flow p node

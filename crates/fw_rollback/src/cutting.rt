@@ -20,7 +20,8 @@ use std::alloc::Global;
 /// frontier, or by doing its logged events inside again; its writes that do not lie within are taken out, and their bytes
 /// wait for a sweep; an input has injected the batches inside alone, and an output has no rec. A queue to a node that stays
 /// as it is keeps what comes from what its sender keeps; one to a node that is cut has what the sender's new log holds
-/// outside the cut. All else stays.
+/// outside the cut. All else stays. A node that is restored by checkpoints, and of which no acknowledged one is at the
+/// frontier, begins anew, without a word.
 ///
 /// # Errors
 ///

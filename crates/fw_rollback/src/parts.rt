@@ -13,7 +13,7 @@ use fw_lines::Batches;
 use fw_node::Node;
 use std::alloc::{AllocError, Global};
 
-/// What an engine keeps of the nodes and edges of a dataflow that a recovery cuts, but for counts.
+/// What an engine keeps of the nodes and edges of a dataflow that a recovery cuts, but for progress and traces.
 #[derive(Drop)]
 pub struct Parts {
     /// The table of each node; none of a node that failed, and none of an input or an output.

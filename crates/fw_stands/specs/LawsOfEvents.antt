@@ -206,7 +206,7 @@ SourcesStay = (sys : System) (state : Machine) (v : Event) (s : ℕ) → is_inje
 
 -- ---- notifications
 
--- in each reached state a notification of a stamp that is asked for is taken exactly where a node that is not failed may be notified
+-- a notification of a stamp that is asked for is taken exactly where a node that is not failed may be notified
 -- of it; where it may not the step is idle
 abbrev pub NoticesTakeTheAsked : Type 0
 NoticesTakeTheAsked = (sys : System) (state : Machine) (p : ℕ) (t : Stamp) → is_failed state p ≡ false

@@ -55,7 +55,7 @@ pub record NoneToAcknowledge (sys : System) (state : Machine) : Type 0 where
   pub earlier : NoneToSettle sys state
   pub outputs : AreIdleBelow sys state Ack (length sys.flow.nodes)
 
--- the first step is that of the oldest write in flight, where it is enabled
+-- the first step is the acknowledgement of the oldest write in flight, where it is enabled
 abbrev pub WritesComeFirst : Type 0
 WritesComeFirst = (sys : System) (state next : Machine) (effect : Effect) → LeadsTo sys state Persist next effect
     → TakesFirst sys state (auto_steps sys.flow) next (did effect)

@@ -86,12 +86,12 @@ LogsOfPresentSenders = (sys : System) (state : Machine) (choice : Choice) (settl
 abbrev pub LogsOfOthers : Type 0
 LogsOfOthers = (sys : System) (state : Machine) (e : ℕ) → can_resend (policy_of sys.flow (sender sys.flow e)) ≡ false → logged sys state e ≡ []
 
--- so a node that is restored neither by checkpoints nor by its events cannot send again
+-- a node that is restored neither by checkpoints nor by its events cannot send again
 abbrev pub OtherWaysHaveNoLog : Type 0
 OtherWaysHaveNoLog = (flow : Dataflow) → IsWellFormed flow → (p : ℕ) → p < length flow.nodes → way_of flow p ≢ Checkpoints → way_of flow p ≢ Events
     → can_resend (policy_of flow p) ≡ false
 
--- empty is that of a sender that is cut to no stamps
+-- the log of a sender that is cut to no stamps is empty
 abbrev pub LogsOfCutsToNothing : Type 0
 LogsOfCutsToNothing = (sys : System) (state : Machine) (choice : Choice) (settled : List Front) → Recovers sys state choice settled
     → (e : ℕ) → e < length sys.flow.edges → cut_of choice (sender sys.flow e) ≡ At (no_stamps (bounds_of sys.flow (sender sys.flow e)))
@@ -138,7 +138,7 @@ ReplayedEventsAreThoseOfRecords = (sys : System) (state : Machine) → IsWellFor
     → (records : List Record) → AllZip (IsRecordOf sys.flow) (filter (is_logged_inside p f) entries) records
     → told_in_order (replayed_events sys state p f) ≡ flat_map event_of records
 
--- where a node is cut that is no input, so much is settled as its cut
+-- where a node that is no input is cut, what is settled of it is its cut
 abbrev pub SettledAtCuts : Type 0
 SettledAtCuts = (sys : System) (state : Machine) (choice : Choice) (settled : List Front) → Recovers sys state choice settled
     → (p : ℕ) → p < length sys.flow.nodes → is_input_kind (kind_of sys.flow p) ≡ false → (f : Front) → cut_of choice p ≡ At f
@@ -176,7 +176,7 @@ TablesOfNew = (sys : System) (state : Machine) (choice : Choice) (settled : List
     → (node : Node) → ((inside : Stamp → Bool) → IsTableOf sys.flow p inside node [])
     → IsTableIn sys (recovered_state sys state choice settled) p (Some node)
 
--- so has one that is no input and no output and is cut to no stamps
+-- a node that is no input and no output and is cut to no stamps has a new table too
 abbrev pub TablesOfCutsToNothing : Type 0
 TablesOfCutsToNothing = (sys : System) (state : Machine) (choice : Choice) (settled : List Front) → Recovers sys state choice settled
     → (p : ℕ) → p < length sys.flow.nodes → (is_input_kind (kind_of sys.flow p) || is_output_kind (kind_of sys.flow p)) ≡ false
@@ -213,7 +213,7 @@ abbrev pub NoneIsLost : Type 0
 NoneIsLost = (sys : System) (state : Machine) (choice : Choice) (settled : List Front) (p : ℕ) (t : Stamp)
     → IsLostAt sys (recovered_state sys state choice settled) p t → ⊥
 
--- an input has injected so much as lies in its cut, and holds its batches
+-- an input has injected as much as lies in its cut, and holds its batches
 abbrev pub SourcesAreRolled : Type 0
 SourcesAreRolled = (sys : System) (state : Machine) (choice : Choice) (settled : List Front) → Recovers sys state choice settled
     → (s : ℕ) → s < length sys.flow.nodes → is_input_kind (kind_of sys.flow s) ≡ true
@@ -234,7 +234,7 @@ RecsOfCutOutputs = (sys : System) (state : Machine) (choice : Choice) (settled :
 
 -- ---- what is settled, pending and sent
 
--- fronts that are settled by the cuts of a largest choice are those to which settled is cut
+-- where the fronts are what the cuts of a largest choice leave of settled, settled is cut to them
 abbrev pub SettledByCuts : Type 0
 SettledByCuts = (sys : System) (state : Machine) (choice : Choice) → IsWellFormedSystem sys → IsReached sys state
     → IsLargest sys state (offers sys state) choice → (settled : List Front) → length settled ≡ length sys.flow.nodes

@@ -102,7 +102,7 @@ pub fn notices_take_the_asked()
     ensures { NoticesTakeTheAsked }
 {}
 
-/// A failed node has no event.
+/// A failed node injects nothing, is delivered nothing and is notified of nothing.
 pub fn failed_nodes_are_idle()
     ensures { FailedNodesAreIdle }
 {}

@@ -28,7 +28,7 @@ use Rattle.fw_keep.specs.Entry.{stamp_of}
 use Rattle.fw_policy.specs.View as view
 use Rattle.fw_policy.specs.View.{IsEventAt, HasEventAt, IsUnlogged, IsLostAt}
 use Rattle.fw_policy.specs.Offering.{stamp_in, unlogged_by, unlogged_stamps}
-use Rattle.fw_policy.proofs.SentLaws.{IsOne, one-contained, contained-one}
+use Rattle.fw_model.proofs.SentStandLaws.{IsOne, one-contained, contained-one}
 use Rattle.fw_policy.proofs.UnloggedLaws.{IsOfEntries, unlogged-is, unlogged-has, some-filtered}
 use Rattle.fw_stands.specs.Written.{HasEventTold, Holds, AreEntriesOf, uncollected}
 use Rattle.fw_stands.specs.LawsOfEntries.{entry_front, entry_fronts, LastEntryIsOfNewestCheckpoint, TakesCheckpointsByLastEntry, CheckpointAsks, stamp_of_written, stamps_in_flight, LosesWhatIsInFlight, told_written, told_entry, ToldEntriesAreOfWrites}

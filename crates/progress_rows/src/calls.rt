@@ -2,8 +2,8 @@
 ghost use Rattle.std.specs.Prelude.{◌≡◌, ◌<◌, length, IfOk};
 ghost use Rattle.fw_progress.specs.Progress.{IsProgressOf};
 
-use crate::anew;
 use crate::line::{edge_of, node_of};
+use crate::{anew, single};
 use fw_flow::{EdgeId, Flow, NodeId, Steps};
 use fw_frontier::Front;
 use fw_progress::{Growths, Progress, can_send};
@@ -49,7 +49,7 @@ pub fn answer(
     } else if word == "rebuild" {
         anew::rebuild(alloc, flow, progress, rest)
     } else {
-        Err(NoAnswer::NotSpelled)
+        single::answer(alloc, flow, progress, word, rest)
     }
 }
 

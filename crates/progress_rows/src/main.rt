@@ -5,6 +5,7 @@ mod anew;
 mod calls;
 mod line;
 mod row;
+mod single;
 mod stamps;
 mod traces;
 

@@ -21,6 +21,7 @@ pub record IsRefreshing (flow : Dataflow) (counts : Counts) (first : List Front)
   pub stuck : IsAdmissibleBy flow counts (family_of flow first) → AreStuckOutside flow counts first start → AreStuckOutside flow counts fronts work
   pub grown : AreGrowths flow first growths fronts
   pub bound : steps + length work ≤ begun + length start + out_degrees flow growths
+  pub still : start ≡ [] → (work ≡ []) × (fronts ≡ first)
 
 -- how much is left
 unfoldable pub left_over : Dataflow → List Front → List ℕ → ℕ
@@ -36,6 +37,7 @@ start_refreshing flow counts first start begun growths one c n e = record {
   stuck = λ a s. s;
   grown = subst (λ gs. AreGrowths flow first gs first) (sym e) refl;
   bound = omega arith;
+  still = λ k. (k, refl);
 }
 
 -- the node that is taken is one of the flow
@@ -48,6 +50,10 @@ first_node flow work rest p e n =
 -- a node that is not among the others and is not the first one
 not_in-first : (xs : List ℕ) (x q : ℕ) → q ≢ x → is_in xs q ≡ false → is_in (x ∷ xs) q ≡ false
 not_in-first xs x q n k = ap (λ b. b || is_in xs q) (false_from_ne_true (x == q) (λ e. n (sym (eqb-true x q e)))) ∙ k
+
+-- where no node waits, none is taken
+none_taken : {A : Type 0} {work mid : List ℕ} {p : ℕ} → work ≡ [] → work ≡ p ∷ mid → A
+none_taken k e = absurd (cc (k, e))
 
 pub taken_step : (flow : Dataflow) (counts : Counts) (first : List Front) (start : List ℕ) (begun : ℕ) (fronts new : List Front) (work mid rest : List ℕ) (p : ℕ) (growths more : List Growth) (steps next : ℕ)
     → work ≡ p ∷ mid → next ≡ steps + 1 → IsRefreshing flow counts first start begun fronts work growths steps
@@ -72,6 +78,7 @@ taken_step flow counts first start begun fronts new work mid rest p growths more
       ];
       grown = subst (λ gs. AreGrowths flow first gs new) (sym g.listed) (growths-append flow first growths fronts g.added new r.grown g.grown);
       bound = omega arith;
+      still = λ k. none_taken (r.still k).0 e;
     }
 
 falls : (m k a b r q d : ℕ) → a + k ≤ b → r ≤ q + d → d ≤ k * m → a * (m + 1) + r < b * (m + 1) + (q + 1)
@@ -107,4 +114,5 @@ refreshed flow counts first start begun fronts work rest growths steps e n r =
       grown = r.grown;
       bound = omega arith;
       none_waits = n;
+      still = λ k. (r.still k).1;
     }

@@ -66,7 +66,7 @@ pub record IsTaken (flow : Dataflow) (counts : Counts) (p : ℕ) (old new : List
   pub stuck : IsAdmissibleBy flow counts (family_of flow old) → is_in rest p ≡ false → IsStuckBy flow counts new p
 
 -- What a refresh leaves: an admissible family in which no node can be widened, the growths up to it, and no node that waits; it
--- takes no more steps than nodes waited and edges lead from the nodes that grew.
+-- takes no more steps than nodes waited and edges lead from the nodes that grew. Where no node waited, the family stays.
 pub record IsRefreshed (flow : Dataflow) (counts : Counts) (old new : List Front) (work rest : List ℕ) (growths : List Growth) (before after : ℕ) : Type 0 where
   pub one_each : length new ≡ length flow.nodes
   pub canonical : AreCanonical flow new
@@ -75,3 +75,4 @@ pub record IsRefreshed (flow : Dataflow) (counts : Counts) (old new : List Front
   pub grown : AreGrowths flow old growths new
   pub bound : after ≤ before + length work + out_degrees flow growths
   pub none_waits : rest ≡ []
+  pub still : work ≡ [] → new ≡ old

@@ -58,13 +58,14 @@ Follows flow v sent old new =
     (sys : System) (h : List Event) → sys.flow ≡ flow → HasEpochs sys → IsLegal sys (v ∷ h) → stamps_sent sys h v ≡ sent
     → StandsFor sys h old → StandsFor sys (v ∷ h) new
 
--- Nothing is counted or settled anew, the kept frontiers only grew, no node waits, and the kept frontiers are complete after each
--- history for which progress stood.
+-- Nothing is counted or settled anew, the kept frontiers only grew, and stay where no node waited, no node waits, and the kept
+-- frontiers are complete after each history for which progress stood.
 pub record IsFresh (flow : Dataflow) (old new : Standing) : Type 0 where
   pub counts : new.counts ≡ old.counts
   pub settled : new.settled ≡ old.settled
   pub growths : List Growth
   pub grown : AreGrowths flow old.kept growths new.kept
   pub none_waits : new.work ≡ []
+  pub still : old.work ≡ [] → new.kept ≡ old.kept
   pub ready : new.refused ≡ false
   pub complete : (sys : System) (h : List Event) → sys.flow ≡ flow → StandsFor sys h old → StandsFor sys h new × IsComplete sys h (family_of flow new.kept)

@@ -281,6 +281,7 @@ impl Progress {
         ensures bound { IfOk result
             (λ growths. steps.new ≤ steps.old + length self.old.work + out_degrees flow.now growths.items) }
         ensures none_waits { IfOk result (λ growths. self.new.work ≡ []) }
+        ensures still { IfOk result (λ growths. self.old.work ≡ [] → self.new.kept ≡ self.old.kept) }
         ensures ready { IfOk result (λ growths. self.new.refused ≡ false) }
         ensures counts { self.new.counts ≡ self.old.counts }
         ensures settled { self.new.settled ≡ self.old.settled }

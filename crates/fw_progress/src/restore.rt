@@ -1,5 +1,5 @@
 //! Data as a node's traces, when a recovery restores it by a checkpoint.
-ghost use Rattle.std.specs.Prelude.{◌≡◌, ◌<◌, ◌∷◌, [], ℕ, length, slice_index_or, IsTrue, IsErr, IfOk};
+ghost use Rattle.std.specs.Prelude.{◌≡◌, ◌<◌, ◌∷◌, [], ℕ, false, length, slice_index_or, IsTrue, IsErr, IfOk};
 ghost use Rattle.fw_model.specs.EventStamps.{causes_of};
 ghost use Rattle.fw_model.specs.Offers.{on_edge};
 ghost use Rattle.fw_progress.specs.Progress.{ChangesAt};
@@ -30,6 +30,7 @@ impl Traces {
         requires there { node < length flow.now.nodes }
         ensures traces { AreTraces flow.now self.new }
         ensures restored { IfOk result (λ u. AreRestoredTo flow.now node stamps.now sent self.old self.new) }
+        ensures ready { IfOk result (λ u. self.new.refused ≡ false) }
         ensures refused { IsErr result → IsTrue self.new.refused }
         ensures stays { IsTrue self.old.refused → IsErr result }
     {

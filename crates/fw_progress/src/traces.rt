@@ -68,6 +68,7 @@ impl Traces {
         ensures traces { AreTraces flow.now self.new }
         ensures follows { (m : Message) → m.at ≡ at.now
             → IfOk result (λ u. TracesFollow flow.now (events.Deliver edge m) sent.now self.old self.new) }
+        ensures ready { IfOk result (λ u. self.new.refused ≡ false) }
         ensures refused { IsErr result → IsTrue self.new.refused }
         ensures stays { IsTrue self.old.refused → IsErr result }
     {
@@ -97,6 +98,7 @@ impl Traces {
         requires there { node < length flow.now.nodes }
         ensures traces { AreTraces flow.now self.new }
         ensures follows { IfOk result (λ u. TracesFollow flow.now (events.Notify node at.now) sent.now self.old self.new) }
+        ensures ready { IfOk result (λ u. self.new.refused ≡ false) }
         ensures refused { IsErr result → IsTrue self.new.refused }
         ensures stays { IsTrue self.old.refused → IsErr result }
     {
@@ -124,6 +126,7 @@ impl Traces {
         requires there { node < length flow.now.nodes }
         ensures traces { AreTraces flow.now self.new }
         ensures follows { IfOk result (λ u. TracesFollow flow.now (events.Inject node epoch) sent.now self.old self.new) }
+        ensures ready { IfOk result (λ u. self.new.refused ≡ false) }
         ensures refused { IsErr result → IsTrue self.new.refused }
         ensures stays { IsTrue self.old.refused → IsErr result }
     {
@@ -145,6 +148,7 @@ impl Traces {
         requires there { node < length flow.now.nodes }
         ensures traces { AreTraces flow.now self.new }
         ensures settled { IfOk result (λ u. AreSettledTo flow.now node base.now self.old self.new) }
+        ensures ready { IfOk result (λ u. self.new.refused ≡ false) }
         ensures refused { IsErr result → IsTrue self.new.refused }
         ensures stays { IsTrue self.old.refused → IsErr result }
     {

@@ -7,6 +7,7 @@ returns-clause-fresh g c = record {
   growths = c.in_ok-refresh.field-0.items;
   grown = c.in_ok-refresh.ensures.growths;
   none_waits = c.in_ok-refresh.ensures.none_waits;
+  still = c.in_ok-refresh.ensures.still;
   ready = c.in_ok-refresh.ensures.ready;
   complete = λ sys h e s. c.in_ok-refresh.ensures.complete sys h e s;
 }

@@ -2,7 +2,7 @@
 ghost use Rattle.std.specs.Prelude.{◌≡◌, ◌↔◌, ◌+◌, ◌^◌, ◌<◌, ◌≤◌, ◌++◌, [], ◌∷◌, ℕ, List, Option, true, false, None, IsTrue, IsErrOf, IfOk, OnOk, OnErr, option_map, Contains};
 ghost use Rattle.std.specs.FinMap as map;
 ghost use Rattle.fw_outside.specs.Outside.{Rose};
-ghost use Rattle.fw_record.specs.Spelling.{spelling};
+ghost use Rattle.fw_record.specs.Spelling.{spelling, FitsItsCounts};
 ghost use Rattle.fw_record.specs.declared.record.Record.{Record as Spelled};
 ghost use Rattle.fw_keep.specs.declared.entry.Entry.{Entry as Write};
 ghost use Rattle.fw_keep.specs.Entry.{asked, is_lost, is_withdrawn, is_above, is_below, is_at};
@@ -106,12 +106,14 @@ impl Keep {
         requires stored { IsStored self.old (K.records store.old) }
         requires few { self.old.next < 2 ^ 63 }
 
-        // The write is the last one, in flight, and its bytes are under its id.
+        // The write is the last one, in flight, and its bytes are under its id; none of its lists has more parts than the
+        // bytes can say.
         ensures id { IfOk result (λ id. id ≡ self.old.next) }
         ensures added { OnOk result
             (self.new.entries ≡ self.old.entries ++ asked self.old.next what.now stamps ∷ []) }
         ensures put { OnOk result (K.records store.new
             ≡ option_map (λ held. map.insert held self.old.next (spelling what.now)) (K.records store.old)) }
+        ensures counted { OnOk result (FitsItsCounts what.now) }
 
         // After a refusal entries and records are as they were.
         ensures kept { OnErr result (self.new.entries ≡ self.old.entries) }

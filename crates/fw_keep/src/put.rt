@@ -4,7 +4,7 @@ ghost use Rattle.std.specs.Vec.{vec_capacity};
 ghost use Rattle.std.specs.Option.{ForSome};
 ghost use Rattle.std.specs.FinMap as map;
 ghost use Rattle.fw_outside.specs.Outside.{Rose};
-ghost use Rattle.fw_record.specs.Spelling.{spelling};
+ghost use Rattle.fw_record.specs.Spelling.{spelling, FitsItsCounts};
 ghost use Rattle.fw_keep.specs.Entry.{asked};
 
 use crate::Entry;
@@ -59,6 +59,7 @@ pub(crate) fn put_new<K: Store>(
     ensures room { vec_len waiting.new + vec_len entries.new ≤ vec_capacity waiting.new }
     ensures put { OnOk result (K.records store.new
         ≡ option_map (λ held. map.insert held id (spelling what.now)) (K.records store.old)) }
+    ensures counted { OnOk result (FitsItsCounts what.now) }
     ensures stays { OnErr result (K.records store.new ≡ K.records store.old) }
     ensures given { K.given store.new ≡ K.given store.old }
     ensures failed { IsErrOf result OutFault.Failed → Rose (K.fault_count store.old) (K.fault_count store.new) }

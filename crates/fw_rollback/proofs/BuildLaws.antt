@@ -26,6 +26,7 @@ use Rattle.fw_model.proofs.ThinnedLaws.{each-contained}
 use Rattle.fw_record.specs.declared.logged.Logged.{Logged}
 use Rattle.fw_record.specs.declared.record.Record.TheVariants as tagged
 use Rattle.fw_node.specs.Arrived.{AreOnEdges}
+use Rattle.fw_node.specs.NodeOf.{IsNodeOf}
 use Rattle.fw_node.specs.StateOf.{IsStateOf}
 use Rattle.fw_node.specs.TableOf.{IsTableOf}
 use Rattle.fw_node.proofs.NodeLaws.{each_of}
@@ -39,8 +40,8 @@ use Rattle.fw_edge.specs.Messages.{MessagesState}
 use Rattle.fw_node.specs.declared.node.Node.{Node}
 use Rattle.fw_rollback.specs.Asked.{front_at, checkpoint_of, given_of, events_of, CanServe}
 use Rattle.fw_rollback.specs.Built.{by_cut, AreNodesBuilt, AreQueuesBuilt, log_after}
-use Rattle.fw_rollback.specs.Edges.{on_edge, nothing_there}
-use Rattle.fw_rollback.specs.Restored.{HasLogs, HasDone, IsBuilt, IsFromCheckpoint, IsOfNode, log_of, messages_on, outside_of}
+use Rattle.fw_rollback.specs.Edges.{on_edge, nothing_there, IsOnEdge}
+use Rattle.fw_rollback.specs.Restored.{HasLogs, HasDone, IsBuilt, IsFromCheckpoint, log_of, messages_on, outside_of}
 use Rattle.fw_rollback.specs.Tables.{table_at}
 
 -- ---- logs of other nodes
@@ -73,7 +74,7 @@ built-stays flow low p f given Checkpoints table logs next k h =
     (λ node. from_checkpoint-stays flow low p f (checkpoint_of given) node logs next k) h
 built-stays flow low p f given Events table logs next k h =
     some-and (λ node. HasDone flow low p f (events_of given) node logs) (λ node. HasDone flow low p f (events_of given) node next) table
-    (λ node d. record { of_node = d.of_node; table = d.table; sent = λ batches events a e l s. k e l s ∙ d.sent batches events a e l s }) h
+    (λ node d. record { of_node = d.of_node; own = λ e l s. subst (λ (x : MessagesState). AllByRecursion (IsOnEdge flow e) x.messages) (sym (k e l s)) (d.own e l s); table = d.table; sent = λ batches events a e l s. k e l s ∙ d.sent batches events a e l s }) h
 
 -- ---- one node more
 
@@ -245,7 +246,7 @@ pub restored-some : {E : Type 0} (flow : Dataflow) (low : List Front) (p : ℕ) 
     → Some c ≡ checkpoint_of rs → HasLogs flow p old (λ e. nothing_there)
     → ((settled : Stamp → Bool) (before : List Event) → EachDelivery (λ s. (settled s ≡ true) × (in_domain (bounds_of flow p) s ≡ true)) before
     → AreOnEdges (in_edges flow p) before → IsStateOf (kind_of flow p) before c.state → IfOk r (λ node. IsTableOf flow p settled node before))
-    → IfOk r (IsOfNode flow p)
+    → IfOk r (IsNodeOf flow p)
     → ((e : ℕ) (ms : List Message) → on_edge old e ≡ log_of flow low e ms → on_edge new e ≡ log_of flow low e (messages_on e c.log ++ ms))
     → IfOk r (λ node. IsFromCheckpoint flow low p f (checkpoint_of rs) node new)
 restored-some flow low p f rs c (Err x) old new e empty table of_node logs = tt

@@ -4,6 +4,7 @@ pub mod GivenLaws
 pub mod ListLaws
 pub mod LogLaws
 pub mod OfNodeLaws
+pub mod OwnLaws
 pub mod PutLaws
 pub mod ReplayLaws
 pub mod SwapLaws

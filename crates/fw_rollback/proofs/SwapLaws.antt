@@ -128,6 +128,7 @@ after-new (At f) = refl
 pub record AreRolledBefore (choice : Choice) (n : ℕ) (first now : List SourceState) : Type 0 where
   pub done : (s : ℕ) → s < n → source_at now s ≡ rolled_source (cut_of choice s) (source_at first s)
   pub rest : (s : ℕ) → n ≤ s → source_at now s ≡ source_at first s
+  pub each : length now ≡ length first
 
 pub sources-more : (choice : Choice) (n : ℕ) (first now next : List SourceState) → AreRolledBefore choice n first now
     → next ≡ with_source (rolled_source (cut_of choice n)) now n → AreRolledBefore choice (n + 1) first next
@@ -141,6 +142,7 @@ sources-more choice n first now next h e = record {
     | inr other ↦ stay s other ∙ h.done s (before s l other)
   ];
   rest = λ s l. stay s (λ z. absurd (omega (arith, z))) ∙ h.rest s (omega arith);
+  each = ap length e ∙ length-set now n (rolled_source (cut_of choice n) (source_at now n)) ∙ h.each;
 }
   where
     stay : (s : ℕ) → n ≢ s → source_at next s ≡ source_at now s
@@ -157,6 +159,7 @@ pub record AreClearedBefore (choice : Choice) (n : ℕ) (first now : OutputsStat
   pub done : (o : ℕ) → o < n → output_at now.outputs o ≡ output_after (cut_of choice o) (output_at first.outputs o)
   pub rest : (o : ℕ) → n ≤ o → output_at now.outputs o ≡ output_at first.outputs o
   pub refused : now.refused ≡ first.refused
+  pub each : length now.outputs ≡ length first.outputs
 
 pub outputs-more : (choice : Choice) (n : ℕ) (first now next : OutputsState) → AreClearedBefore choice n first now
     → next ≡ record now { outputs = with_output (output_after (cut_of choice n)) now.outputs n } → AreClearedBefore choice (n + 1) first next
@@ -171,6 +174,7 @@ outputs-more choice n first now next h e = record {
   ];
   rest = λ s l. stay s (λ z. absurd (omega (arith, z))) ∙ h.rest s (omega arith);
   refused = ap (λ (xs : OutputsState). xs.refused) e ∙ h.refused;
+  each = ap (λ (xs : OutputsState). length xs.outputs) e ∙ length-set now.outputs n (output_after (cut_of choice n) (output_at now.outputs n)) ∙ h.each;
 }
   where
     stay : (s : ℕ) → n ≢ s → output_at next.outputs s ≡ output_at now.outputs s

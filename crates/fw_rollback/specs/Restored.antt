@@ -31,9 +31,10 @@ use Rattle.fw_keep.specs.Catalogue.{without}
 use Rattle.fw_keep.specs.Entry.{lies_within}
 use Rattle.fw_keep.specs.Stored.{Records}
 use Rattle.fw_edge.specs.Messages.{MessagesState}
-use Rattle.fw_rollback.specs.Edges.{on_edge, nothing_there}
+use Rattle.fw_rollback.specs.Edges.{on_edge, nothing_there, IsOnEdge}
 use Rattle.fw_node.specs.declared.node.Node.{Node}
 use Rattle.fw_node.specs.Arrived.{AreOnEdges}
+use Rattle.fw_node.specs.NodeOf.{IsNodeOf}
 use Rattle.fw_node.specs.StateOf.{IsStateOf}
 use Rattle.fw_node.specs.TableOf.{IsTableOf}
 use Rattle.fw_rollback.specs.Tables.{table_at}
@@ -58,11 +59,11 @@ messages_on e logged = map (λ (l : Logged). l.message) (filter (λ (l : Logged)
 abbrev pub HasLogs : Dataflow → ℕ → List MessagesState → (ℕ → MessagesState) → Type 0
 HasLogs flow p logs log = (e : ℕ) → e < length flow.edges → sender flow e ≡ p → on_edge logs e ≡ log e
 
--- ---- tables
+-- in the log of each edge from node p each message is one of the edge
+abbrev pub HaveOwnMessages : Dataflow → ℕ → List MessagesState → Type 0
+HaveOwnMessages flow p logs = (e : ℕ) → e < length flow.edges → sender flow e ≡ p → AllByRecursion (IsOnEdge flow e) (on_edge logs e).messages
 
--- the calls of the node take stamps of the domain of place p
-abbrev pub IsOfNode : Dataflow → ℕ → Node → Type 0
-IsOfNode flow p node = node.bounds ≡ bounds_of flow p
+-- ---- tables
 
 -- the node is one to which nothing came, whatever is settled
 abbrev pub IsNew : Dataflow → ℕ → Node → Type 0
@@ -81,10 +82,11 @@ HaveSent flow low p logged logs =
     → HasLogs flow p logs (λ e. log_of flow low e (sent_by (record { flow = flow; batches = batches }) p events))
 
 -- The node stands for these logged events, if they can be done again, where f is settled, and the logs of its edges have what
--- they sent.
+-- they sent. Whatever they are, the node is one of place p, and each message is one of its edge.
 pub record HasDone (flow : Dataflow) (low : List Front) (p : ℕ) (f : Front) (logged : List LoggedEvent) (node : Node)
     (logs : List MessagesState) : Type 0 where
-  pub of_node : IsOfNode flow p node
+  pub of_node : IsNodeOf flow p node
+  pub own : HaveOwnMessages flow p logs
   pub table : (events : List Event) → AreDoneAgain flow p logged events
       → (is_notified_kind (kind_of flow p) ≡ true → AreToldInside (node_frontier flow p f) events)
       → AllByRecursion (λ o. in_domain (bounds_of flow p) o ≡ true) f → IsTableOf flow p (node_frontier flow p f) node events
@@ -95,7 +97,7 @@ pub record HasDone (flow : Dataflow) (low : List Front) (p : ℕ) (f : Front) (l
 abbrev pub IsFromCheckpoint : Dataflow → List Front → ℕ → Front → Option Checkpoint → Node → List MessagesState → Type 0
 IsFromCheckpoint flow low p f None node logs = IsNew flow p node × HasLogs flow p logs (λ e. nothing_there)
 IsFromCheckpoint flow low p f (Some c) node logs =
-    IsOfNode flow p node × IsOfState flow p f c.state node × HasLogs flow p logs (λ e. log_of flow low e (messages_on e c.log))
+    IsNodeOf flow p node × IsOfState flow p f c.state node × HasLogs flow p logs (λ e. log_of flow low e (messages_on e c.log))
 
 -- what node p has after it was cut to f, by the way in which it is restored
 abbrev pub IsBuilt : Dataflow → List Front → ℕ → Front → List Record → Restoring → Option Node → List MessagesState → Type 0
@@ -156,7 +158,7 @@ pub record AreOfFlow (flow : Dataflow) (parts : Parts) : Type 0 where
 
 -- each node that has a table has one of its place
 abbrev pub AreOfNodes : Dataflow → List (Option Node) → Type 0
-AreOfNodes flow tables = (p : ℕ) → p < length flow.nodes → IfSome (table_at tables p) (IsOfNode flow p)
+AreOfNodes flow tables = (p : ℕ) → p < length flow.nodes → IfSome (table_at tables p) (IsNodeOf flow p)
 
 -- The new parts are the old ones cut to the choice, where these records were fetched of each node.
 pub record IsRestored (flow : Dataflow) (choice : Choice) (old : Parts) (given : List (List Record)) (new : Parts) : Type 0 where
@@ -164,7 +166,9 @@ pub record IsRestored (flow : Dataflow) (choice : Choice) (old : Parts) (given :
   pub queues : (e : ℕ) → e < length flow.edges
       → on_edge new.queues e ≡ queue_after flow choice e (on_edge old.queues e) (on_edge new.logs e) (cut_of choice (receiver flow e))
   pub entries : new.keep ≡ without (is_undone choice) old.keep
+  pub inputs_each : length new.sources ≡ length old.sources
   pub inputs : (s : ℕ) → s < length flow.nodes → source_at new.sources s ≡ rolled_source (cut_of choice s) (source_at old.sources s)
+  pub outputs_each : length new.outputs.outputs ≡ length old.outputs.outputs
   pub outputs : (o : ℕ) → o < length flow.nodes
       → output_at new.outputs.outputs o ≡ output_after (cut_of choice o) (output_at old.outputs.outputs o)
   pub refused : new.outputs.refused ≡ old.outputs.refused
@@ -177,6 +181,16 @@ pub record Restores (flow : Dataflow) (choice : Choice) (records : Option Record
   pub restored : IsRestored flow choice old given new
 
 -- ---- for the proofs
+
+-- The log of edge e has of some messages of the edge those outside the receiver's low watermark.
+pub record IsLogOfOwn (flow : Dataflow) (low : List Front) (e : ℕ) (log : MessagesState) : Type 0 where
+  pub messages : List Message
+  pub own : AllByRecursion (IsOnEdge flow e) messages
+  pub is : log ≡ log_of flow low e messages
+
+-- so have those of the edges from node p
+abbrev pub AreLogsOfOwn : Dataflow → List Front → ℕ → List MessagesState → Type 0
+AreLogsOfOwn flow low p logs = (e : ℕ) → e < length flow.edges → sender flow e ≡ p → IsLogOfOwn flow low e (on_edge logs e)
 
 -- the node stands for these logged events, done again, where nothing is settled
 abbrev pub StandsFor : Dataflow → ℕ → List LoggedEvent → Node → Type 0

@@ -6,19 +6,22 @@ ghost use Rattle.fw_bag.specs.declared.rec.Rec.{Rec as OneRec};
 ghost use Rattle.fw_flow.specs.declared.event.Event.{Event as Done};
 ghost use Rattle.fw_flow.specs.declared.event.Message.{Message as Sent};
 ghost use Rattle.fw_flow.specs.Dataflow.{Dataflow, bounds_of, kind_of, sender, is_notified_kind, node_frontier};
+ghost use Rattle.fw_flow.specs.WellFormed.{IsWellFormed};
 ghost use Rattle.fw_model.specs.Told.{AreToldInside};
 ghost use Rattle.fw_rollback.specs.Edges.{on_edge, nothing_there};
 ghost use Rattle.fw_node.specs.Answers.{caused_by};
+ghost use Rattle.fw_node.specs.NodeOf.{IsNodeOf};
 ghost use Rattle.fw_node.specs.Sends.{sends_list};
 ghost use Rattle.fw_node.specs.TableOf.{IsTableOf};
 ghost use Rattle.fw_keep.specs.Entry.{stamp_of};
 ghost use Rattle.fw_record.specs.declared.record.Event.{Event as Logged};
 ghost use Rattle.fw_rollback.specs.Asked.{event_of, events_of, CanServe};
-ghost use Rattle.fw_rollback.specs.Restored.{log_of, HasLogs, HasDone, HaveSent, StandsFor};
+ghost use Rattle.fw_rollback.specs.Restored.{log_of, AreLogsOfOwn, HasLogs, HasDone, HaveSent, StandsFor};
 
 use crate::Logs;
 use crate::logging::log_outside;
 use fw_bag::Rec;
+use fw_flow::laws::flow_is_well_formed;
 use fw_flow::{Causes, EdgeId, Flow, Fronts, Message, NodeId};
 use fw_frontier::Front;
 use fw_node::{Node, Sends};
@@ -44,6 +47,7 @@ pub(crate) fn replayed(
     ensures others { (e : ℕ) → sender flow.now e ≢ node → on_edge logs.new e ≡ on_edge logs.old e }
     ensures each { length logs.new ≡ length logs.old }
 {
+    flow_is_well_formed(flow);
     let mut table = Node::new(alloc, flow, node)?;
     do_all(flow, node, low, records, &mut table, logs)?;
     settle(front, &mut table)?;
@@ -56,7 +60,7 @@ fn settle(front: &Front, table: &mut Node) -> Result<(), AllocError>
         → (is_notified_kind (kind_of flow p) ≡ true → AreToldInside (node_frontier flow p front.now) events)
         → AllByRecursion (λ o. in_domain (bounds_of flow p) o ≡ true) front.now
         → OnOk result (IsTableOf flow p (node_frontier flow p front.now) table.new events) }
-    ensures bounds { table.new.bounds ≡ table.old.bounds }
+    ensures node { (flow : Dataflow) (p : ℕ) → IsNodeOf flow p table.old → IsNodeOf flow p table.new }
 {
     if front.is_in_domain(table.bounds()) {
         table.settle(front)?;
@@ -73,16 +77,19 @@ fn do_all(
     table: &mut Node,
     logs: &mut Logs,
 ) -> Result<(), AllocError>
+    requires well_formed { IsWellFormed flow.now }
     requires serve { AllByRecursion (CanServe flow.now node) records.now }
-    requires bounds { table.old.bounds ≡ bounds_of flow.now node }
+    requires node { IsNodeOf flow.now node table.old }
     requires new { StandsFor flow.now node [] table.old }
     requires each { length logs.old ≡ length flow.now.edges }
     requires empty { HaveSent flow.now low.now node [] logs.old }
+    requires own { AreLogsOfOwn flow.now low.now node logs.old }
     ensures table { OnOk result (StandsFor flow.now node (events_of records.now) table.new) }
     ensures logs { OnOk result (HaveSent flow.now low.now node (events_of records.now) logs.new) }
+    ensures own { OnOk result (AreLogsOfOwn flow.now low.now node logs.new) }
     ensures others { (e : ℕ) → sender flow.now e ≢ node → on_edge logs.new e ≡ on_edge logs.old e }
     ensures each { length logs.new ≡ length logs.old }
-    ensures bounds { table.new.bounds ≡ table.old.bounds }
+    ensures node { IsNodeOf flow.now node table.new }
 {
     for what in records {
         do_record(flow, node, low, what, table, logs)?;
@@ -99,16 +106,19 @@ fn do_record(
     table: &mut Node,
     logs: &mut Logs,
 ) -> Result<(), AllocError>
+    requires well_formed { IsWellFormed flow.now }
     requires serve { CanServe flow.now node what.now }
-    requires bounds { table.old.bounds ≡ bounds_of flow.now node }
+    requires node { IsNodeOf flow.now node table.old }
     requires each { length logs.old ≡ length flow.now.edges }
+    requires own { AreLogsOfOwn flow.now low.now node logs.old }
     ensures table { (logged : List Logged) → StandsFor flow.now node logged table.old
         → OnOk result (StandsFor flow.now node (logged ++ event_of what.now) table.new) }
     ensures logs { (logged : List Logged) → StandsFor flow.now node logged table.old → HaveSent flow.now low.now node logged logs.old
         → OnOk result (HaveSent flow.now low.now node (logged ++ event_of what.now) logs.new) }
+    ensures own { OnOk result (AreLogsOfOwn flow.now low.now node logs.new) }
     ensures others { (e : ℕ) → sender flow.now e ≢ node → on_edge logs.new e ≡ on_edge logs.old e }
     ensures each { length logs.new ≡ length logs.old }
-    ensures bounds { table.new.bounds ≡ table.old.bounds }
+    ensures node { IsNodeOf flow.now node table.new }
 {
     match what {
         Record::State(_) => Ok(()),
@@ -125,15 +135,19 @@ fn do_again(
     table: &mut Node,
     logs: &mut Logs,
 ) -> Result<(), AllocError>
+    requires well_formed { IsWellFormed flow.now }
     requires stamp { in_domain table.old.bounds (stamp_of event.now) ≡ true }
+    requires node { IsNodeOf flow.now node table.old }
     requires each { length logs.old ≡ length flow.now.edges }
+    requires own { AreLogsOfOwn flow.now low.now node logs.old }
     ensures table { (logged : List Logged) → StandsFor flow.now node logged table.old
         → OnOk result (StandsFor flow.now node (logged ++ event.now ∷ []) table.new) }
     ensures logs { (logged : List Logged) → StandsFor flow.now node logged table.old → HaveSent flow.now low.now node logged logs.old
         → OnOk result (HaveSent flow.now low.now node (logged ++ event.now ∷ []) logs.new) }
+    ensures own { OnOk result (AreLogsOfOwn flow.now low.now node logs.new) }
     ensures others { (e : ℕ) → sender flow.now e ≢ node → on_edge logs.new e ≡ on_edge logs.old e }
     ensures each { length logs.new ≡ length logs.old }
-    ensures bounds { table.new.bounds ≡ table.old.bounds }
+    ensures node { IsNodeOf flow.now node table.new }
 {
     match event {
         Event::Deliver { edge, at, rec } => {

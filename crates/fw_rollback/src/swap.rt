@@ -175,8 +175,9 @@ fn forget(choice: &Choice, keep: &mut Keep)
 
 /// Counts of each input those injections alone that lie within its cut.
 fn roll_sources(flow: &Flow, choice: &Choice, sources: &mut Sources)
-    ensures { (s : ℕ) → s < length flow.now.nodes
+    ensures rolled { (s : ℕ) → s < length flow.now.nodes
         → source_at sources.new s ≡ rolled_source (cut_of choice.now s) (source_at sources.old s) }
+    ensures each { length sources.new ≡ length sources.old }
 {
     for place in 0..flow.nodes() {
         roll_source(choice, NodeId::at(place as u32), sources);
@@ -198,6 +199,7 @@ fn clear_outputs(flow: &Flow, choice: &Choice, outputs: &mut Outputs)
     ensures cleared { (o : ℕ) → o < length flow.now.nodes
         → output_at outputs.new.outputs o ≡ output_after (cut_of choice.now o) (output_at outputs.old.outputs o) }
     ensures refused { outputs.new.refused ≡ outputs.old.refused }
+    ensures each { length outputs.new.outputs ≡ length outputs.old.outputs }
 {
     for place in 0..flow.nodes() {
         clear_output(choice, NodeId::at(place as u32), outputs);

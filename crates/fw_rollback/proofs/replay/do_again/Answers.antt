@@ -1,15 +1,19 @@
-use Rattle.std.proofs.Common.{◌≡◌, ◌++◌, ◌∷◌, [], false, List, refl, ap, ◌∙◌}
+use Rattle.std.proofs.Common.{◌≡◌, ◌++◌, ◌∷◌, [], true, false, List, refl, ap, subst, ◌∙◌}
+use Rattle.fw_time.specs.Stamp.{in_domain}
 use Rattle.fw_flow.specs.declared.event.Event.{Event}
 use Rattle.fw_flow.specs.declared.event.Message.{Message}
 use Rattle.fw_flow.specs.Dataflow.{System}
 use Rattle.fw_flow.specs.NodeFunction.{sends}
+use Rattle.fw_keep.specs.Entry.{stamp_of}
 use Rattle.fw_record.specs.declared.record.Event.{Event as LoggedEvent}
 use Rattle.fw_node.specs.Answers.{caused_by}
 use Rattle.fw_node.specs.Sends.{sends_list}
 use Rattle.fw_node.specs.TableOf.{IsTableOf}
+use Rattle.fw_node.proofs.NodeOfLaws.{of_node}
 use Rattle.fw_node.proofs.PastLaws.{any_ok}
 use Rattle.fw_rollback.specs.Restored.{log_of, StandsFor}
 use Rattle.fw_rollback.proofs.ReplayLaws.{of_delivery, of_notice, delivery-logged, notice-logged, stands-more, have_sent-more}
+use Rattle.fw_rollback.proofs.OwnLaws.{own-more}
 use Rattle.fw_rollback.proofs.replay.do_again.Goals as goal
 
 pub returns-in_ok-sends-in-Deliver-clause-table : goal.returns-in_ok-sends-in-Deliver-clause-table
@@ -62,3 +66,21 @@ returns-in_ok-sends-in-Notify-clause-logs c = λ logged st sent.
     (λ told sum. notice-logged sys c.args.low.now e p before at (sends_list c.in_ok-sends-in-Notify.sends) ms
     (c.in_ok-sends-in-Notify.ensures.sent flow p (λ x. false) before refl told sum t)))
     c.log_sends-in-Notify.ensures.logged
+
+pub returns-in_ok-sends-in-Deliver-clause-own : goal.returns-in_ok-sends-in-Deliver-clause-own
+returns-in_ok-sends-in-Deliver-clause-own c =
+    let flow = c.args.flow.now in
+    let p = c.args.node in
+    let at = c.in-Deliver.at in
+    let there = subst (λ (event : LoggedEvent). in_domain c.args.table.now.bounds (stamp_of event) ≡ true) c.in-Deliver.is c.requires.stamp in
+    own-more flow c.args.low.now p at c.in_ok-sends-in-Deliver.sends c.args.logs.now c.log_sends.new.logs c.log_sends.result (of_node flow p c.args.table.now at c.requires.node there)
+    (c.in_ok-sends-in-Deliver.ensures.domain flow p c.requires.well_formed c.requires.node) c.requires.own c.log_sends.ensures.logged
+
+pub returns-in_ok-sends-in-Notify-clause-own : goal.returns-in_ok-sends-in-Notify-clause-own
+returns-in_ok-sends-in-Notify-clause-own c =
+    let flow = c.args.flow.now in
+    let p = c.args.node in
+    let at = c.in-Notify.at in
+    let there = subst (λ (event : LoggedEvent). in_domain c.args.table.now.bounds (stamp_of event) ≡ true) c.in-Notify.is c.requires.stamp in
+    own-more flow c.args.low.now p at c.in_ok-sends-in-Notify.sends c.args.logs.now c.log_sends-in-Notify.new.logs c.log_sends-in-Notify.result (of_node flow p c.args.table.now at c.requires.node there)
+    (c.in_ok-sends-in-Notify.ensures.domain flow p c.requires.well_formed c.requires.node) c.requires.own c.log_sends-in-Notify.ensures.logged

@@ -27,7 +27,8 @@ loop-what-preserved c =
           (c.in_ok-do_record.ensures.logs before c.loop-what.invariant.table c.loop-what.invariant.logs);
       others = λ e n. c.do_record.ensures.others e n ∙ c.loop-what.invariant.others e n;
       each = c.do_record.ensures.each ∙ c.loop-what.invariant.each;
-      bounds = c.do_record.ensures.bounds ∙ c.loop-what.invariant.bounds;
+      own = c.in_ok-do_record.ensures.own;
+      node = c.do_record.ensures.node;
     }
 
 pub returns-clause-table : goal.returns-clause-table

@@ -11,7 +11,7 @@ use Rattle.fw_rollback.proofs.replay.do_record.Goals as goal
 
 pub do_again-requires-clause-stamp : goal.do_again-requires-clause-stamp
 do_again-requires-clause-stamp c =
-    ap (λ b. in_domain b (stamp_of c.in-Event.event)) c.requires.bounds ∙ subst (CanServe c.args.flow.now c.args.node) c.in-Event.is c.requires.serve
+    ap (λ b. in_domain b (stamp_of c.in-Event.event)) c.requires.node.bounds ∙ subst (CanServe c.args.flow.now c.args.node) c.in-Event.is c.requires.serve
 
 pub returns-in-State-clause-table : goal.returns-in-State-clause-table
 returns-in-State-clause-table c = λ logged st.

@@ -36,7 +36,7 @@ returns-in_ok-log_recorded-in-Some-clause-others c = λ e n.
 pub returns-in_ok-log_recorded-in-Some-clause-built : goal.returns-in_ok-log_recorded-in-Some-clause-built
 returns-in_ok-log_recorded-in-Some-clause-built c = λ f.
     restored-some c.args.flow.now c.args.low.now c.args.node f c.args.records.now c.in-Some.checkpoint.now c.from_state.result c.args.logs.now c.log_recorded.new.logs
-    c.in-Some.ensures c.requires.empty c.from_state.ensures.table c.from_state.ensures.bounds
+    c.in-Some.ensures c.requires.empty c.from_state.ensures.table c.from_state.ensures.node
     (λ e ms h.
     let P : List Logged → Type 0 = λ ls. on_edge c.log_recorded.new.logs e ≡ log_of c.args.flow.now c.args.low.now e (messages_on e ls ++ ms) in
     subst P c.as_slice.ensures (c.in_ok-log_recorded-in-Some.ensures.logged e ms h))

@@ -6,7 +6,7 @@ use Rattle.fw_rollback.proofs.SwapLaws.{outputs-more}
 use Rattle.fw_rollback.proofs.swap.clear_outputs.Goals as goal
 
 pub loop-place-init : goal.loop-place-init
-loop-place-init c = record { done = λ s l. absurd (omega arith); rest = λ s l. refl; refused = refl }
+loop-place-init c = record { done = λ s l. absurd (omega arith); rest = λ s l. refl; refused = refl; each = refl }
 
 pub loop-place-preserved : goal.loop-place-preserved
 loop-place-preserved c =

@@ -5,7 +5,7 @@ use Rattle.fw_rollback.proofs.SwapLaws.{sources-more}
 use Rattle.fw_rollback.proofs.swap.roll_sources.Goals as goal
 
 pub loop-place-init : goal.loop-place-init
-loop-place-init c = record { done = λ s l. absurd (omega arith); rest = λ s l. refl }
+loop-place-init c = record { done = λ s l. absurd (omega arith); rest = λ s l. refl; each = refl }
 
 pub loop-place-preserved : goal.loop-place-preserved
 loop-place-preserved c =
@@ -14,5 +14,5 @@ loop-place-preserved c =
     sources-more choice c.loop-place.place c.args.sources.now c.loop-place.sources c.roll_source.new.sources c.loop-place.invariant
     (subst P c.at.ensures c.roll_source.ensures)
 
-pub returns : goal.returns
-returns c = λ s l. c.loop-place.invariant.done s (omega (arith, l, c.loop-place-test.false, c.loop-place.auto.place-end, c.nodes-place-end.ensures.count))
+pub returns-clause-rolled : goal.returns-clause-rolled
+returns-clause-rolled c = λ s l. c.loop-place.invariant.done s (omega (arith, l, c.loop-place-test.false, c.loop-place.auto.place-end, c.nodes-place-end.ensures.count))

@@ -1,0 +1,66 @@
+-- What follows from what a step answers.
+use Rattle.std.proofs.Common.{◌≡◌, ℕ, Bool, true, false, Option, None, Result, Ok, Err, subst, sym, ap, ◌∙◌}
+use Rattle.std.specs.Prelude.{IfOk, IsErrOf}
+use Rattle.fw_flow.specs.declared.step.Step.{Step}
+use Rattle.fw_flow.specs.Dataflow.{System}
+use Rattle.fw_model.specs.Machine.{Machine}
+use Rattle.fw_keep.specs.Stored.{Records}
+use Rattle.fw_running.specs.declared.fault.EngineFault.{EngineFault}
+use Rattle.fw_running.specs.declared.fault.EngineFault.TheVariants as fault
+use Rattle.fw_running.specs.declared.running.Running.{Running}
+use Rattle.fw_running.specs.declared.stepped.Stepped.{Stepped}
+use Rattle.fw_running.specs.Faults.{is_refusal}
+use Rattle.fw_running.specs.Shaped.{IsShaped}
+use Rattle.fw_running.specs.Stands.{Stands}
+use Rattle.fw_running.specs.Steps.{Follows, FollowsFirst, Trusts, IsLeftBy, Answers, AnswersFirst, TakesStep, TakesFirstStep, StaysShaped, IsUndamaged, outcome_of}
+
+-- ---- the shape
+
+pub shape_left : {T : Type 0} (result : Result T EngineFault) (running : Running) → StaysShaped result running → is_refusal result ≡ false → IsShaped running
+shape_left (Ok x) running s n = s
+shape_left (Err fault.StoreFault) running s n = s
+shape_left (Err (fault.Damaged id)) running s n = s
+shape_left (Err fault.NoMemory) running s n = absurd (cc)
+
+pub sound-after : {T : Type 0} (result : Result T EngineFault) (running : Running) (refused : Bool) → StaysShaped result running → refused ≡ is_refusal result
+    → refused ≡ false → IsShaped running
+sound-after result running refused s e n = shape_left result running s (sym e ∙ n)
+
+pub refused-after : {T : Type 0} (result : Result T EngineFault) (refused : Bool) → refused ≡ is_refusal result → IsErrOf result fault.NoMemory → refused ≡ true
+refused-after {T} result refused e n = e ∙ ap (λ (r : Result T EngineFault). is_refusal r) n
+
+-- ---- the answers of a step
+
+pub taken : (old : Running) (before : Option Records) (step : Step) (result : Result Stepped EngineFault) (new : Running) (after : Option Records)
+    → TakesStep old before step result new after → (sys : System) (state : Machine) → Stands sys old before state → Trusts sys state step before
+    → IfOk result (λ stepped. Follows sys state step (outcome_of stepped) new after)
+taken old before step (Ok stepped) new after t sys state s trust = t sys state s trust
+taken old before step (Err e) new after t sys state s trust = tt
+
+pub left : (old : Running) (before : Option Records) (step : Step) (result : Result Stepped EngineFault) (new : Running) (after : Option Records)
+    → TakesStep old before step result new after → (sys : System) (state : Machine) → Stands sys old before state → IsErrOf result fault.StoreFault
+    → IsLeftBy sys state step (λ next. Stands sys new after next)
+left old before step result new after t sys state s e = subst (λ (r : Result Stepped EngineFault). Answers sys state step r before new after) e (t sys state s)
+
+pub unharmed : (old : Running) (before : Option Records) (step : Step) (result : Result Stepped EngineFault) (new : Running) (after : Option Records) (id : ℕ)
+    → TakesStep old before step result new after → (sys : System) (state : Machine) → Stands sys old before state → IsErrOf result (fault.Damaged id)
+    → (before ≡ None) × Stands sys new after state
+unharmed old before step result new after id t sys state s e = subst (λ (r : Result Stepped EngineFault). Answers sys state step r before new after) e (t sys state s)
+
+-- ---- those of the first step that is enabled
+
+pub first-taken : (old : Running) (before : Option Records) (result : Result Stepped EngineFault) (new : Running) (after : Option Records)
+    → TakesFirstStep old before result new after → (sys : System) (state : Machine) → Stands sys old before state
+    → IfOk result (λ stepped. FollowsFirst sys state (outcome_of stepped) new after)
+first-taken old before (Ok stepped) new after t sys state s = t sys state s
+first-taken old before (Err e) new after t sys state s = tt
+
+pub first-left : (old : Running) (before : Option Records) (result : Result Stepped EngineFault) (new : Running) (after : Option Records)
+    → TakesFirstStep old before result new after → (sys : System) (state : Machine) → Stands sys old before state → IsErrOf result fault.StoreFault
+    → Stands sys new after state
+first-left old before result new after t sys state s e = subst (λ (r : Result Stepped EngineFault). AnswersFirst sys state r new after) e (t sys state s)
+
+-- ---- no damage
+
+pub no_damage : {T : Type 0} (result : Result T EngineFault) (id : ℕ) → IsUndamaged result → IsErrOf result (fault.Damaged id) → ⊥
+no_damage {T} result id u e = subst (λ (r : Result T EngineFault). IsUndamaged r) e u

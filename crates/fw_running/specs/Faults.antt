@@ -1,0 +1,19 @@
+-- Why a step is not taken.
+use Rattle.std.specs.Prelude.{Bool, true, false, Result, Ok, Err}
+use Rattle.fw_keep.specs.declared.fault.KeepFault.{KeepFault}
+use Rattle.fw_keep.specs.declared.fault.KeepFault.TheVariants as keep
+use Rattle.fw_running.specs.declared.fault.EngineFault.{EngineFault}
+use Rattle.fw_running.specs.declared.fault.EngineFault.TheVariants as fault
+
+-- what the engine answers where the catalogue answers this
+abbrev pub fault_of : KeepFault → EngineFault
+fault_of keep.StoreFault = fault.StoreFault
+fault_of (keep.Damaged id bytes) = fault.Damaged id
+fault_of keep.NoMemory = fault.NoMemory
+
+-- whether memory was refused
+abbrev pub is_refusal : {T : Type 0} → Result T EngineFault → Bool
+is_refusal (Ok x) = false
+is_refusal (Err fault.StoreFault) = false
+is_refusal (Err (fault.Damaged id)) = false
+is_refusal (Err fault.NoMemory) = true

@@ -1,0 +1,13 @@
+pub mod BroughtUp
+pub mod EffectText
+pub mod Faults
+pub mod Kept
+pub mod Logging
+pub mod Places
+pub mod Ready
+pub mod ReadyState
+pub mod Shaped
+pub mod Shown
+pub mod Stands
+pub mod Starting
+pub mod Steps

@@ -1,0 +1,131 @@
+-- What the steps of an engine promise.
+use Rattle.std.specs.Prelude.{◌≡◌, ℕ, false, List, Option, Some, None, Result, Ok, Err}
+use Rattle.std.specs.List.{Contains}
+use Rattle.fw_time.specs.Stamp.{Stamp}
+use Rattle.fw_frontier.specs.Frontier.{Frontier}
+use Rattle.fw_flow.specs.declared.choice.Choice.{Choice}
+use Rattle.fw_flow.specs.declared.choice.Cut.TheVariants.{At}
+use Rattle.fw_flow.specs.declared.kind.Policy.TheVariants as policy
+use Rattle.fw_flow.specs.declared.restoring.Restoring.TheVariants as ways
+use Rattle.fw_flow.specs.declared.step.Step.{Step}
+use Rattle.fw_flow.specs.declared.step.Step.TheVariants.{Deliver, Notify, Progress as ProgressStep, Checkpoint, Recover, Collect}
+use Rattle.fw_flow.specs.Dataflow.{System, Dataflow, policy_of, receiver, node_frontier}
+use Rattle.fw_flow.specs.Restoring.{way_of}
+use Rattle.fw_model.specs.Auto.{auto_steps, TakesFirst}
+use Rattle.fw_model.specs.Choice.{cut_of, IsLargest}
+use Rattle.fw_model.specs.Machine.{Machine}
+use Rattle.fw_model.specs.Steps.{Effect, silent, acked, cuts, lows, Outcome, did, idle, LeadsTo, StepsTo, offers}
+use Rattle.fw_keep.specs.declared.entry.Entry.{Entry}
+use Rattle.fw_keep.specs.Stored.{Records, SpellsNone}
+use Rattle.fw_running.specs.declared.fault.EngineFault.{EngineFault}
+use Rattle.fw_running.specs.declared.fault.EngineFault.TheVariants as fault
+use Rattle.fw_running.specs.declared.running.Running.{Running}
+use Rattle.fw_running.specs.declared.stepped.Effect.{Effect as Shown}
+use Rattle.fw_running.specs.declared.stepped.Effect.TheVariants.{Silent, Acked, Cuts, Lows}
+use Rattle.fw_running.specs.declared.stepped.Stepped.{Stepped}
+use Rattle.fw_running.specs.declared.stepped.Stepped.TheVariants.{Did, Idle}
+use Rattle.fw_running.specs.Shaped.{IsShaped}
+use Rattle.fw_running.specs.Stands.{Stands}
+
+-- the machine's effect that an engine shows
+abbrev pub effect_of : Shown → Effect
+effect_of Silent = silent
+effect_of (Acked output at recs) = acked output at recs.recs
+effect_of (Cuts choice) = cuts choice
+effect_of (Lows choice) = lows choice
+
+-- the machine's outcome that an engine answers
+abbrev pub outcome_of : Stepped → Outcome
+outcome_of (Did shown) = did (effect_of shown)
+outcome_of Idle = idle
+
+-- From a state the machine takes the step with the outcome, and the engine then stands for the state that it leads to.
+pub record Follows (sys : System) (state : Machine) (step : Step) (outcome : Outcome) (running : Running) (records : Option Records) : Type 0 where
+  pub next : Machine
+  pub steps : StepsTo sys state step next outcome
+  pub stands : Stands sys running records next
+
+-- From a state the machine takes the first step that is enabled with the outcome, and the engine then stands for the state that it
+-- leads to.
+pub record FollowsFirst (sys : System) (state : Machine) (outcome : Outcome) (running : Running) (records : Option Records) : Type 0 where
+  pub next : Machine
+  pub takes : TakesFirst sys state (auto_steps sys.flow) next outcome
+  pub stands : Stands sys running records next
+
+-- the frontier has no stamp
+abbrev pub HasNoStamp : Frontier → Type 0
+HasNoStamp f = (t : Stamp) → f t ≡ false
+
+-- A recovery reads no checkpoint: the choice cuts a node that is restored by checkpoints to no stamp alone. What is logged of events is
+-- told by the entries too, so that it is done again as it was, whatever is read.
+abbrev pub ReadsNoCheckpoint : System → Machine → Type 0
+ReadsNoCheckpoint sys state = (choice : Choice) → IsLargest sys state (offers sys state) choice → (p : ℕ) → way_of sys.flow p ≡ ways.Checkpoints
+    → (f : List Stamp) → cut_of choice p ≡ At f → HasNoStamp (node_frontier sys.flow p f)
+
+-- A step reads what was put: the store tells its records, or no checkpoint is read.
+abbrev pub Trusts : System → Machine → Step → Option Records → Type 0
+Trusts sys state Recover None = ReadsNoCheckpoint sys state
+Trusts sys state step records = Unit {0}
+
+-- the step may call the store: it asks a write, reads or sweeps
+abbrev pub MayCallStore : Dataflow → Step → Type 0
+MayCallStore flow (Deliver e at) = policy_of flow (receiver flow e) ≡ policy.Full
+MayCallStore flow (Notify p at) = policy_of flow p ≡ policy.Full
+MayCallStore flow ProgressStep = Unit {0}
+MayCallStore flow (Checkpoint p) = Unit {0}
+MayCallStore flow Recover = Unit {0}
+MayCallStore flow Collect = Unit {0}
+MayCallStore flow step = ⊥
+
+-- What a fault of the store leaves: the state, but that after which a collection was made.
+abbrev pub IsLeftBy : System → Machine → Step → (Machine → Type 0) → Type 0
+IsLeftBy sys state Collect P = (next : Machine) × (effect : Effect) × LeadsTo sys state Collect next effect × P next
+IsLeftBy sys state step P = P state
+
+-- What a step answers, and what the engine stands for then, where it stood for a state: the machine's outcome and next state, if it
+-- read what was put; after a fault of the store what that leaves; after damage, which no store gives that tells its records, the
+-- state still.
+abbrev pub Answers : System → Machine → Step → Result Stepped EngineFault → Option Records → Running → Option Records → Type 0
+Answers sys state step (Ok stepped) records new after = Trusts sys state step records → Follows sys state step (outcome_of stepped) new after
+Answers sys state step (Err fault.StoreFault) records new after = IsLeftBy sys state step (λ next. Stands sys new after next)
+Answers sys state step (Err (fault.Damaged id)) records new after = (records ≡ None) × Stands sys new after state
+Answers sys state step (Err fault.NoMemory) records new after = Unit {0}
+
+-- so a step does from each state for which the engine stood
+abbrev pub TakesStep : Running → Option Records → Step → Result Stepped EngineFault → Running → Option Records → Type 0
+TakesStep old before step result new after =
+    (sys : System) (state : Machine) → Stands sys old before state → Answers sys state step result before new after
+
+-- the same of the first step that is enabled: no record is damaged
+abbrev pub AnswersFirst : System → Machine → Result Stepped EngineFault → Running → Option Records → Type 0
+AnswersFirst sys state (Ok stepped) new after = FollowsFirst sys state (outcome_of stepped) new after
+AnswersFirst sys state (Err fault.StoreFault) new after = Stands sys new after state
+AnswersFirst sys state (Err (fault.Damaged id)) new after = ⊥
+AnswersFirst sys state (Err fault.NoMemory) new after = Unit {0}
+
+abbrev pub TakesFirstStep : Running → Option Records → Result Stepped EngineFault → Running → Option Records → Type 0
+TakesFirstStep old before result new after =
+    (sys : System) (state : Machine) → Stands sys old before state → AnswersFirst sys state result new after
+
+-- what is kept has its shape, unless memory was refused
+abbrev pub StaysShaped : {T : Type 0} → Result T EngineFault → Running → Type 0
+StaysShaped (Ok x) running = IsShaped running
+StaysShaped (Err fault.StoreFault) running = IsShaped running
+StaysShaped (Err (fault.Damaged id)) running = IsShaped running
+StaysShaped (Err fault.NoMemory) running = Unit {0}
+
+-- no record is damaged
+abbrev pub IsUndamaged : {T : Type 0} → Result T EngineFault → Type 0
+IsUndamaged (Ok x) = Unit {0}
+IsUndamaged (Err fault.StoreFault) = Unit {0}
+IsUndamaged (Err (fault.Damaged id)) = ⊥
+IsUndamaged (Err fault.NoMemory) = Unit {0}
+
+-- The store gave under the id bytes that spell no record of the entry.
+pub record IsDamage (running : Running) (id : ℕ) (given : Option (ℕ × List ℕ)) : Type 0 where
+  pub entry : Entry
+  pub there : Contains running.parts.keep.entries entry
+  pub named : entry.id ≡ id
+  pub bytes : List ℕ
+  pub gave : given ≡ Some (id, bytes)
+  pub spells_none : SpellsNone running.flow entry bytes

@@ -1,0 +1,53 @@
+//! A write is asked.
+ghost use Rattle.std.specs.Prelude.{◌≡◌, ◌≤◌, IsErrOf, OnOk, OnErr};
+ghost use Rattle.fw_outside.specs.Outside.{Rose};
+ghost use Rattle.fw_keep.specs.Entry as entries;
+ghost use Rattle.fw_keep.specs.Stored.{IsStored};
+ghost use Rattle.fw_running.specs.Steps.{IsUndamaged};
+ghost use Rattle.fw_running.specs.Logging.{ChangesKeep, IsAsked, IsNotAsked};
+
+use crate::{EngineFault, Running};
+use fw_flow::Stamps;
+use fw_outside::Store;
+use fw_record::{Event, Record};
+use fw_time::Stamp;
+
+/// How many ids there are for writes.
+const IDS: u64 = 1 << 63;
+
+impl Running {
+    /// A write is asked. That no id is left is answered as want of memory.
+    pub fn ask<K: Store>(
+        &mut self,
+        what: &Record,
+        stamps: Stamps,
+        store: &mut K,
+    ) -> Result<(), EngineFault>
+        requires stored { IsStored self.old.parts.keep (K.records store.old) }
+        ensures others { ChangesKeep self.old self.new }
+        ensures stored { IsStored self.new.parts.keep (K.records store.new) }
+        ensures asked { OnOk result (IsAsked what.now stamps self.old.parts.keep.entries self.new.parts.keep.entries
+            (K.records store.old) (K.records store.new)) }
+        ensures stays { OnErr result (IsNotAsked self.old.parts.keep.entries self.new.parts.keep.entries
+            (K.records store.old) (K.records store.new)) }
+        ensures given { K.given store.new ≡ K.given store.old }
+        ensures fault { IsErrOf result EngineFault.StoreFault → Rose (K.fault_count store.old) (K.fault_count store.new) }
+        ensures never_falls { K.fault_count store.old ≤ K.fault_count store.new }
+        ensures undamaged { IsUndamaged result }
+    {
+        if self.parts.keep.next_id() >= IDS {
+            return Err(EngineFault::NoMemory);
+        }
+        self.parts.keep.ask(store, what, stamps)?;
+        Ok(())
+    }
+}
+
+/// The stamp of an event.
+pub fn stamp_of(event: &Event) -> &Stamp
+    ensures { result.now ≡ entries.stamp_of event.now }
+{
+    match event {
+        Event::Deliver { at, .. } | Event::Notify { at } => at,
+    }
+}

@@ -1,0 +1,12 @@
+pub mod AfterEventLaws
+pub mod AskedLaws
+pub mod DeliverLaws
+pub mod InjectLaws
+pub mod NoticingLaws
+pub mod SendLaws
+pub mod SendingLaws
+pub mod ShapedLaws
+pub mod StampsLaws
+pub mod TableLaws
+pub mod TakenShapes
+pub mod TakingLaws

@@ -1,0 +1,354 @@
+-- What is kept fits the flow, after each change.
+use Rattle.std.proofs.Common.{◌≡◌, ℕ, ◌<◌, Bool, true, false, ◌||◌, List, [], ◌∷◌, ◌==◌, length, map, refl, sym, ap, subst, ◌∙◌, inl, inr}
+use Rattle.std.specs.Prelude.{Option, IfSome}
+use Rattle.std.specs.List.{AllByRecursion, Contains}
+use Rattle.std.proofs.lemmas.Bool.{cases_Bool, cond_both, eqb-true}
+use Rattle.fw_time.specs.Stamp.{Stamp, in_domain}
+use Rattle.fw_time.proofs.EachLaws.{each-kept}
+use Rattle.fw_bag.specs.declared.rec.Rec.{Rec}
+use Rattle.fw_frontier.specs.Front.{inside}
+use Rattle.fw_flow.specs.declared.event.Message.{Message}
+use Rattle.fw_flow.specs.Dataflow.{Dataflow, bounds_of, is_one_of, out_edges, receiver, sender}
+use Rattle.fw_flow.proofs.OutEdgeLaws.{out_edges-from}
+use Rattle.fw_model.specs.Filtering.{messages_outside}
+use Rattle.fw_model.specs.Machine.{front_of}
+use Rattle.fw_model.specs.SortedMessages.{with_messages}
+use Rattle.fw_model.proofs.SortedLaws.{each-with_message}
+use Rattle.fw_border.specs.Outputs.{OutputsState}
+use Rattle.fw_border.specs.Sources.{SourceState}
+use Rattle.fw_edge.specs.Messages.{MessagesState}
+use Rattle.fw_node.specs.Answers.{caused_by}
+use Rattle.fw_node.specs.declared.node.Node.{Node}
+use Rattle.fw_node.specs.NodeOf.{CanBeSent, IsNodeOf}
+use Rattle.fw_progress.specs.declared.traces.Traces.{Traces}
+use Rattle.fw_progress.specs.Progress.{IsOfFlow, Standing}
+use Rattle.fw_progress.specs.Settle.{has_more}
+use Rattle.fw_progress.specs.Trace.{HaveLists}
+use Rattle.fw_rollback.specs.Edges.{on_edge}
+use Rattle.fw_rollback.specs.Tables.{table_at}
+use Rattle.fw_running.specs.declared.running.Running.{Running}
+use Rattle.fw_running.specs.Kept.{queue_at, log_at, output_of, is_down}
+use Rattle.fw_running.specs.Ready.{CanAcknowledge, CanDeliver, CanInject, IsOwing}
+use Rattle.fw_running.specs.Shaped.{IsOnEdge, IsShaped}
+use Rattle.fw_events.specs.Sending.{with_queues, with_logs, sent_to, ChangesEdges, SendsOn}
+use Rattle.fw_events.specs.Taking.{with_owing, with_outputs, with_sources, with_tables, with_told}
+
+-- ---- edges
+
+each-put : (P : Message → Type 0) (ms xs : List Message) → AllByRecursion P ms → AllByRecursion P xs → AllByRecursion P (with_messages ms xs)
+each-put P [] xs a b = b
+each-put P (m ∷ ms) xs a b = each-with_message P m (with_messages ms xs) a.0 (each-put P ms xs a.1 b)
+
+-- what is kept with other queues and logs fits the flow as before, where these do
+pub shaped-edges : (old : Running) (queues logs : List MessagesState) (edges : List ℕ) → IsShaped old
+    → length queues ≡ length old.parts.queues → length logs ≡ length old.parts.logs
+    → ((e : ℕ) → AllByRecursion (IsOnEdge old.flow e) (on_edge queues e).messages)
+    → ((e : ℕ) → AllByRecursion (IsOnEdge old.flow e) (on_edge logs e).messages)
+    → ((e : ℕ) → CanDeliver (with_queues queues edges (with_logs logs old)) e → Contains edges e)
+    → IsShaped (with_queues queues edges (with_logs logs old))
+shaped-edges old queues logs edges s queues_each logs_each pending logged ready =
+    let each = s.one_each in
+    record {
+      well_formed = s.well_formed;
+      one_each = record {
+        parts = record { tables = each.parts.tables; queues = queues_each ∙ each.parts.queues; logs = logs_each ∙ each.parts.logs };
+        sources = each.sources;
+        outputs = each.outputs;
+        low = each.low;
+        failed = each.failed;
+        lost = each.lost;
+      };
+      progress = s.progress;
+      traces = s.traces;
+      low = s.low;
+      tables = s.tables;
+      queues = pending;
+      logs = logged;
+      entries = s.entries;
+      live = s.live;
+      traced = s.traced;
+      ready = record {
+        edges = ready;
+        owing = λ p c. s.ready.owing p (record { there = c.there; live = c.live; some = c.some });
+        growing = λ p c. s.ready.growing p (record { there = c.there; more = c.more });
+        outputs = λ o c. s.ready.outputs o
+            (record { there = c.there; live = c.live; output = c.output; number = c.number; settled = c.settled; some = c.some });
+        inputs = λ i c. s.ready.inputs i (record { there = c.there; live = c.live; input = c.input; some = c.some });
+      };
+    }
+
+-- what is sent on these edges fits them: so do the queues and logs then
+pub shaped-sent : (old new : Running) (es : List ℕ) (again : Bool) (ms : List Message) → IsShaped old → ChangesEdges old new → SendsOn es again ms old new
+    → ((e : ℕ) → is_one_of e es ≡ true → AllByRecursion (IsOnEdge old.flow e) ms) → IsShaped new
+shaped-sent old new es again ms s c d fits = subst IsShaped (sym c) (shaped-edges old new.parts.queues new.parts.logs new.ready.edges s d.queues_each d.logs_each
+    (λ e. pending e (is_down old (receiver old.flow e)) refl) (λ e. logged e again refl)
+    (λ e k. d.ready s.ready.edges e (subst (λ (r : Running). CanDeliver r e) (sym c) k)))
+  where
+    here : (e : ℕ) → AllByRecursion (IsOnEdge old.flow e) (sent_to es e ms)
+    here e = cond_both (is_one_of e es) ms [] (AllByRecursion (IsOnEdge old.flow e)) (fits e) (λ k. tt)
+
+    pending : (e : ℕ) (b : Bool) → is_down old (receiver old.flow e) ≡ b → AllByRecursion (IsOnEdge old.flow e) (queue_at new e)
+    pending e true k = subst (AllByRecursion (IsOnEdge old.flow e)) (sym (d.down e k)) (s.queues e)
+    pending e false k = subst (AllByRecursion (IsOnEdge old.flow e)) (sym (d.queues e k)) (each-put (IsOnEdge old.flow e) (sent_to es e ms) (queue_at old e) (here e) (s.queues e))
+
+    logged : (e : ℕ) (b : Bool) → again ≡ b → AllByRecursion (IsOnEdge old.flow e) (log_at new e)
+    logged e true k =
+        let f = front_of old.parts.low (receiver old.flow e) in
+        subst (AllByRecursion (IsOnEdge old.flow e)) (sym (d.logs k e))
+        (each-put (IsOnEdge old.flow e) (messages_outside (inside f) (sent_to es e ms)) (log_at old e)
+        (each-kept (IsOnEdge old.flow e) _ (sent_to es e ms) (here e)) (s.logs e))
+    logged e false k = subst (AllByRecursion (IsOnEdge old.flow e)) (sym (d.logs_stay k e)) (s.logs e)
+
+-- recs at stamps of an edge's domain are on the edge, as messages of one cause
+caused-fit : (flow : Dataflow) (e : ℕ) (cause : Stamp) (sent : List (Stamp × Rec)) → in_domain (bounds_of flow (sender flow e)) cause ≡ true
+    → AllByRecursion (λ t. in_domain (bounds_of flow (receiver flow e)) t ≡ true) (map (λ (x : Stamp × Rec). x.0) sent)
+    → AllByRecursion (IsOnEdge flow e) (caused_by cause sent)
+caused-fit flow e cause [] c a = tt
+caused-fit flow e cause (x ∷ sent) c a = (record { at = a.0; causes = (c, tt) }, caused-fit flow e cause sent c a.1)
+
+among-holds : (P : ℕ → Type 0) (es : List ℕ) (e : ℕ) → is_one_of e es ≡ true → AllByRecursion P es → P e
+among-holds P [] e k a = absurd (cc)
+among-holds P (x ∷ es) e k a = elim (cases_Bool (x == e)) [
+  | inl i ↦ subst P (eqb-true x e i) a.0
+  | inr i ↦ among-holds P es e (sym (ap (λ b. b || is_one_of e es) i) ∙ k) a.1
+]
+
+-- what a node can send fits each of its out-edges
+pub sent-fit : (flow : Dataflow) (p : ℕ) (cause : Stamp) (sent : List (Stamp × Rec)) → in_domain (bounds_of flow p) cause ≡ true
+    → CanBeSent flow p (map (λ (x : Stamp × Rec). x.0) sent)
+    → (e : ℕ) → is_one_of e (out_edges flow p) ≡ true → AllByRecursion (IsOnEdge flow e) (caused_by cause sent)
+sent-fit flow p cause sent c k e among =
+    let both = among-holds (λ d. (d < length flow.edges) × (sender flow d ≡ p)) (out_edges flow p) e among
+    (out_edges-from (λ d. (d < length flow.edges) × (sender flow d ≡ p)) flow p (λ d l s. (l, s))) in
+    caused-fit flow e cause sent (subst (λ q. in_domain (bounds_of flow q) cause ≡ true) (sym both.1) c) (k e both.0 both.1)
+
+-- ---- other parts
+
+-- what is kept with other tables fits the flow, where these do
+pub shaped-tables : (old : Running) (tables : List (Option Node)) → IsShaped old
+    → length tables ≡ length old.parts.tables
+    → ((p : ℕ) → p < length old.flow.nodes → IfSome (table_at tables p) (IsNodeOf old.flow p))
+    → IsShaped (with_tables tables old)
+shaped-tables old tables s n a =
+    let each = s.one_each in
+    record {
+      well_formed = s.well_formed;
+      one_each = record {
+        parts = record { tables = n ∙ each.parts.tables; queues = each.parts.queues; logs = each.parts.logs };
+        sources = each.sources;
+        outputs = each.outputs;
+        low = each.low;
+        failed = each.failed;
+        lost = each.lost;
+      };
+      progress = s.progress;
+      traces = s.traces;
+      low = s.low;
+      tables = a;
+      queues = s.queues;
+      logs = s.logs;
+      entries = s.entries;
+      live = s.live;
+      traced = s.traced;
+      ready = record {
+        edges = λ e c. s.ready.edges e (record { there = c.there; live = c.live; some = c.some });
+        owing = λ p c. s.ready.owing p (record { there = c.there; live = c.live; some = c.some });
+        growing = λ p c. s.ready.growing p (record { there = c.there; more = c.more });
+        outputs = λ o c. s.ready.outputs o
+            (record { there = c.there; live = c.live; output = c.output; number = c.number; settled = c.settled; some = c.some });
+        inputs = λ i c. s.ready.inputs i (record { there = c.there; live = c.live; input = c.input; some = c.some });
+      };
+    }
+
+-- and with other inputs
+pub shaped-sources : (old : Running) (sources : List SourceState) → IsShaped old
+    → length sources ≡ length old.parts.sources
+    → ((i : ℕ) → CanInject (with_sources sources old) i → Contains old.ready.inputs i)
+    → IsShaped (with_sources sources old)
+shaped-sources old sources s n a =
+    let each = s.one_each in
+    record {
+      well_formed = s.well_formed;
+      one_each = record {
+        parts = record { tables = each.parts.tables; queues = each.parts.queues; logs = each.parts.logs };
+        sources = n ∙ each.sources;
+        outputs = each.outputs;
+        low = each.low;
+        failed = each.failed;
+        lost = each.lost;
+      };
+      progress = s.progress;
+      traces = s.traces;
+      low = s.low;
+      tables = s.tables;
+      queues = s.queues;
+      logs = s.logs;
+      entries = s.entries;
+      live = s.live;
+      traced = s.traced;
+      ready = record {
+        edges = λ e c. s.ready.edges e (record { there = c.there; live = c.live; some = c.some });
+        owing = λ p c. s.ready.owing p (record { there = c.there; live = c.live; some = c.some });
+        growing = λ p c. s.ready.growing p (record { there = c.there; more = c.more });
+        outputs = λ o c. s.ready.outputs o
+            (record { there = c.there; live = c.live; output = c.output; number = c.number; settled = c.settled; some = c.some });
+        inputs = a;
+      };
+    }
+
+-- and with other outputs
+pub shaped-outputs : (old : Running) (outputs : OutputsState) (places : List ℕ) → IsShaped old
+    → length outputs.outputs ≡ length old.parts.outputs.outputs
+    → ((o : ℕ) → CanAcknowledge (with_outputs outputs places old) o → Contains places o)
+    → IsShaped (with_outputs outputs places old)
+shaped-outputs old outputs places s n a =
+    let each = s.one_each in
+    record {
+      well_formed = s.well_formed;
+      one_each = record {
+        parts = record { tables = each.parts.tables; queues = each.parts.queues; logs = each.parts.logs };
+        sources = each.sources;
+        outputs = n ∙ each.outputs;
+        low = each.low;
+        failed = each.failed;
+        lost = each.lost;
+      };
+      progress = s.progress;
+      traces = s.traces;
+      low = s.low;
+      tables = s.tables;
+      queues = s.queues;
+      logs = s.logs;
+      entries = s.entries;
+      live = s.live;
+      traced = s.traced;
+      ready = record {
+        edges = λ e c. s.ready.edges e (record { there = c.there; live = c.live; some = c.some });
+        owing = λ p c. s.ready.owing p (record { there = c.there; live = c.live; some = c.some });
+        growing = λ p c. s.ready.growing p (record { there = c.there; more = c.more });
+        outputs = a;
+        inputs = λ i c. s.ready.inputs i (record { there = c.there; live = c.live; input = c.input; some = c.some });
+      };
+    }
+
+-- and with more nodes that may be owed a notification
+pub shaped-owing : (old : Running) (owing : List ℕ) → IsShaped old
+    → ((p : ℕ) → Contains old.ready.owing p → Contains owing p)
+    → IsShaped (with_owing owing old)
+shaped-owing old owing s a =
+    let each = s.one_each in
+    record {
+      well_formed = s.well_formed;
+      one_each = record {
+        parts = each.parts;
+        sources = each.sources;
+        outputs = each.outputs;
+        low = each.low;
+        failed = each.failed;
+        lost = each.lost;
+      };
+      progress = s.progress;
+      traces = s.traces;
+      low = s.low;
+      tables = s.tables;
+      queues = s.queues;
+      logs = s.logs;
+      entries = s.entries;
+      live = s.live;
+      traced = s.traced;
+      ready = record {
+        edges = λ e c. s.ready.edges e (record { there = c.there; live = c.live; some = c.some });
+        owing = λ p c. a p (s.ready.owing p (record { there = c.there; live = c.live; some = c.some }));
+        growing = λ p c. s.ready.growing p (record { there = c.there; more = c.more });
+        outputs = λ o c. s.ready.outputs o
+            (record { there = c.there; live = c.live; output = c.output; number = c.number; settled = c.settled; some = c.some });
+        inputs = λ i c. s.ready.inputs i (record { there = c.there; live = c.live; input = c.input; some = c.some });
+      };
+    }
+
+-- and with other traces and other progress
+pub shaped-told : (old : Running) (traces : Traces) (progress : Standing) → IsShaped old
+    → IsOfFlow old.flow progress
+    → HaveLists old.flow traces
+    → progress.refused ≡ false
+    → traces.refused ≡ false
+    → progress.settled ≡ old.progress.settled
+    → progress.kept ≡ old.progress.kept
+    → ((q : ℕ) → IsOwing (with_told traces progress old) q → Contains old.ready.owing q)
+    → IsShaped (with_told traces progress old)
+shaped-told old traces progress s p t live traced settled kept owing =
+    let each = s.one_each in
+    record {
+      well_formed = s.well_formed;
+      one_each = record {
+        parts = each.parts;
+        sources = each.sources;
+        outputs = each.outputs;
+        low = each.low;
+        failed = each.failed;
+        lost = each.lost;
+      };
+      progress = p;
+      traces = t;
+      low = s.low;
+      tables = s.tables;
+      queues = s.queues;
+      logs = s.logs;
+      entries = s.entries;
+      live = live;
+      traced = traced;
+      ready = record {
+        edges = λ e c. s.ready.edges e (record { there = c.there; live = c.live; some = c.some });
+        owing = owing;
+        growing = λ q c. s.ready.growing q (record {
+          there = c.there;
+          more = ap (λ fs. has_more (front_of fs q) (front_of old.progress.settled q)) (sym kept) ∙ ap (λ fs. has_more (front_of progress.kept q) (front_of fs q)) (sym settled) ∙ c.more;
+        });
+        outputs = λ o c. s.ready.outputs o (record {
+          there = c.there;
+          live = c.live;
+          output = c.output;
+          number = c.number;
+          settled = ap (λ fs. inside (front_of fs o) ((output_of old o).bound ∷ [])) (sym settled) ∙ c.settled;
+          some = c.some;
+        });
+        inputs = λ i c. s.ready.inputs i (record { there = c.there; live = c.live; input = c.input; some = c.some });
+      };
+    }
+
+-- what is kept with other queues fits the flow, where these do
+pub shaped-queues : (old : Running) (queues : List MessagesState) (edges : List ℕ) → IsShaped old
+    → length queues ≡ length old.parts.queues
+    → ((e : ℕ) → AllByRecursion (IsOnEdge old.flow e) (on_edge queues e).messages)
+    → ((e : ℕ) → CanDeliver (with_queues queues edges old) e → Contains edges e)
+    → IsShaped (with_queues queues edges old)
+shaped-queues old queues edges s n a r =
+    let each = s.one_each in
+    record {
+      well_formed = s.well_formed;
+      one_each = record {
+        parts = record { tables = each.parts.tables; queues = n ∙ each.parts.queues; logs = each.parts.logs };
+        sources = each.sources;
+        outputs = each.outputs;
+        low = each.low;
+        failed = each.failed;
+        lost = each.lost;
+      };
+      progress = s.progress;
+      traces = s.traces;
+      low = s.low;
+      tables = s.tables;
+      queues = a;
+      logs = s.logs;
+      entries = s.entries;
+      live = s.live;
+      traced = s.traced;
+      ready = record {
+        edges = r;
+        owing = λ p c. s.ready.owing p (record { there = c.there; live = c.live; some = c.some });
+        growing = λ p c. s.ready.growing p (record { there = c.there; more = c.more });
+        outputs = λ o c. s.ready.outputs o
+            (record { there = c.there; live = c.live; output = c.output; number = c.number; settled = c.settled; some = c.some });
+        inputs = λ i c. s.ready.inputs i (record { there = c.there; live = c.live; input = c.input; some = c.some });
+      };
+    }

@@ -1,0 +1,64 @@
+use Rattle.std.proofs.Common.{◌≡◌, ◌<◌, true, false, Err, Ok, Option, ap, length, subst, sym, ◌∙◌}
+use Rattle.std.proofs.lemmas.Result.{err_from_is_err_and}
+use Rattle.std.specs.Option.{option_copied}
+use Rattle.fw_time.specs.Stamp.{Stamp}
+use Rattle.fw_flow.specs.Dataflow.{Dataflow, kind_of, is_notified_kind}
+use Rattle.fw_running.specs.Kept.{is_down}
+use Rattle.fw_running.proofs.BroughtUpLaws.{brought_up_shaped}
+use Rattle.fw_events.specs.Noticing.{FindsNotice}
+use Rattle.fw_events.proofs.NoticingLaws.{fault-answers, none_notified, notice_follows, notice-taken_up, notified_declared}
+use Rattle.fw_events.proofs.notification.notify.Goals as goal
+
+pub find_notice-requires-clause-there : goal.find_notice-requires-clause-there
+find_notice-requires-clause-there g c =
+    let old = c.args.running.now in
+    let kind : is_notified_kind (kind_of old.flow c.args.node) ≡ true = ap is_notified_kind (sym c.kind.ensures) ∙ sym c.is_notified.ensures ∙ c.if-not-is_notified.false in
+    notified_declared old.flow c.args.node kind
+
+pub returns-in_default-clause-shaped : goal.returns-in_default-clause-shaped
+returns-in_default-clause-shaped g c = brought_up_shaped c.args.running.now c.find_notice.new.running c.requires.shaped c.in_ok-at.ensures.up
+
+pub returns-in_default-clause-takes : goal.returns-in_default-clause-takes
+returns-in_default-clause-takes g c = λ sys state s trust.
+    let old = c.args.running.now in
+    none_notified sys old c.find_notice.new.running (g.K.Store.records c.args.store.now) state c.args.node (option_copied c.args.at) s c.in_ok-at.ensures.up
+    (subst (λ (found : Option Stamp). FindsNotice old.flow old.progress c.args.node (option_copied c.args.at) found) c.in_default.is c.in_ok-at.ensures.found)
+
+pub notify_of-requires-clause-shaped : goal.notify_of-requires-clause-shaped
+notify_of-requires-clause-shaped g c = brought_up_shaped c.args.running.now c.find_notice.new.running c.requires.shaped c.in_ok-at.ensures.up
+
+pub notify_of-requires-clause-there : goal.notify_of-requires-clause-there
+notify_of-requires-clause-there g c =
+    let old = c.args.running.now in
+    let kind : is_notified_kind (kind_of old.flow c.args.node) ≡ true = ap is_notified_kind (sym c.kind.ensures) ∙ sym c.is_notified.ensures ∙ c.if-not-is_notified.false in
+    subst (λ (f : Dataflow). c.args.node < length f.nodes) (sym c.find_notice.ensures.flow) (notified_declared old.flow c.args.node kind)
+
+pub returns-in_err-notify_of-clause-takes : goal.returns-in_err-notify_of-clause-takes
+returns-in_err-notify_of-clause-takes g c = λ sys state s.
+    let old = c.args.running.now in
+    let up = c.find_notice.new.running in
+    let new = c.notify_of.new.running in
+    let before = g.K.Store.records c.args.store.now in
+    let after = g.K.Store.records c.notify_of.new.store in
+    let t = c.in-Some.at in
+    let e = c.in_err-notify_of.field-0.0 in
+    let live : is_down old c.args.node ≡ false = sym c.is_failed.ensures ∙ c.if-is_failed.false in
+    let found = subst (λ (o : Option Stamp). FindsNotice old.flow old.progress c.args.node (option_copied c.args.at) o) c.in-Some.is c.in_ok-at.ensures.found in
+    let p = err_from_is_err_and c.from_residual-in_err-notify_of.result c.from_residual-in_err-notify_of.ensures.1 in
+    rw (p.1, p.2) (fault-answers (Unit {0}) sys state c.args.node t (option_copied c.args.at) e new before after
+    (notice-taken_up {T = Unit {0}} sys state c.args.node (option_copied c.args.at) t old up new before after (Err e) s live c.in_ok-at.ensures.up found
+    c.in_err-notify_of.ensures.takes))
+
+pub returns-clause-takes : goal.returns-clause-takes
+returns-clause-takes g c = λ sys state s trust.
+    let old = c.args.running.now in
+    let up = c.find_notice.new.running in
+    let new = c.notify_of.new.running in
+    let before = g.K.Store.records c.args.store.now in
+    let after = g.K.Store.records c.notify_of.new.store in
+    let t = c.in-Some.at in
+    let live : is_down old c.args.node ≡ false = sym c.is_failed.ensures ∙ c.if-is_failed.false in
+    let found = subst (λ (o : Option Stamp). FindsNotice old.flow old.progress c.args.node (option_copied c.args.at) o) c.in-Some.is c.in_ok-at.ensures.found in
+    notice_follows sys state c.args.node (option_copied c.args.at) t old up new before after s live found
+    (notice-taken_up {T = Unit {0}} sys state c.args.node (option_copied c.args.at) t old up new before after (Ok c.in_ok-notify_of.field-0) s live
+    c.in_ok-at.ensures.up found c.in_ok-notify_of.ensures.takes)

@@ -1,0 +1,5 @@
+pub mod AfterEvent
+pub mod Noticing
+pub mod Sending
+pub mod SentStamps
+pub mod Taking

@@ -1,0 +1,68 @@
+//! Events are logged.
+ghost use Rattle.std.specs.Prelude.{◌≡◌, ◌↔◌, ◌≤◌, ◌<◌, ◌^◌, true, IsTrue, IsErrOf, OnOk, OnErr};
+ghost use Rattle.fw_outside.specs.Outside.{Rose};
+ghost use Rattle.fw_time.specs.Stamp.{in_domain};
+ghost use Rattle.fw_flow.specs.declared.kind.Policy.TheVariants as policy;
+ghost use Rattle.fw_flow.specs.Dataflow.{bounds_of, policy_of};
+ghost use Rattle.fw_keep.specs.Entry.{stamp_of};
+ghost use Rattle.fw_keep.specs.Stored.{IsStored};
+ghost use Rattle.fw_stands.specs.LawsOfEntries.{HasRecOf64Bits};
+ghost use Rattle.fw_running.specs.Shaped.{IsShaped};
+ghost use Rattle.fw_running.specs.Steps.{IsUndamaged};
+ghost use Rattle.fw_running.specs.Logging.{ChangesKeep, IsNotAsked, IsLogged};
+
+use fw_flow::{NodeId, Policy};
+use fw_keep::no_stamps;
+use fw_outside::Store;
+use fw_record::{Event, Record};
+use fw_running::{EngineFault, Running};
+
+/// Whether a node logs each event.
+pub(crate) fn logs_events(running: &Running, node: NodeId) -> bool
+    ensures { IsTrue result ↔ (policy_of running.now.flow node ≡ policy.Full) }
+{
+    matches!(running.flow.policy(node), Policy::Full)
+}
+
+/// A node asks the write of an event. A fault leaves all as it was.
+pub(crate) fn log_event<K: Store>(
+    running: &mut Running,
+    node: NodeId,
+    event: Event,
+    store: &mut K,
+) -> Result<(), EngineFault>
+    requires shaped { IsShaped running.old }
+    requires stored { IsStored running.old.parts.keep (K.records store.old) }
+    requires stamp { in_domain (bounds_of running.old.flow node) (stamp_of event) ≡ true }
+    ensures others { ChangesKeep running.old running.new }
+    ensures shaped { IsShaped running.new }
+    ensures stored { IsStored running.new.parts.keep (K.records store.new) }
+    ensures logged { OnOk result (IsLogged node event running.old.parts.keep.entries running.new.parts.keep.entries
+        (K.records store.old) (K.records store.new)) }
+    ensures stays { OnErr result (IsNotAsked running.old.parts.keep.entries running.new.parts.keep.entries
+        (K.records store.old) (K.records store.new)) }
+    ensures given { K.given store.new ≡ K.given store.old }
+    ensures fault { IsErrOf result EngineFault.StoreFault → Rose (K.fault_count store.old) (K.fault_count store.new) }
+    ensures never_falls { K.fault_count store.old ≤ K.fault_count store.new }
+    ensures undamaged { IsUndamaged result }
+{
+    rec_has_64_bits(&event);
+    let what = Record::Event { node, event };
+    running.ask(&what, no_stamps(running.alloc), store)
+}
+
+// The rec of an event has two numbers of 64 bits.
+fn rec_has_64_bits(event: &Event)
+    ensures { HasRecOf64Bits event.now }
+{
+    match event {
+        Event::Deliver { rec, .. } => have_64_bits(rec.key, rec.value),
+        Event::Notify { .. } => {}
+    }
+}
+
+// A number has 64 bits.
+fn have_64_bits(key: u64, value: u64)
+    ensures key { key < 2 ^ 64 }
+    ensures value { value < 2 ^ 64 }
+{}

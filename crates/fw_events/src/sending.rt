@@ -1,0 +1,265 @@
+//! What an event makes a node send goes to its out-edges.
+ghost use Rattle.std.specs.Prelude.{◌≡◌, ◌≢◌, ◌<◌, ◌↔◌, ◌∷◌, ℕ, [], true, false, length, slice_get, IsTrue, IfOk, OnOk};
+ghost use Rattle.fw_time.specs.Stamp.{in_domain};
+ghost use Rattle.fw_frontier.specs.Front.{inside};
+ghost use Rattle.fw_flow.specs.Dataflow.{bounds_of, out_edges, policy_of, receiver};
+ghost use Rattle.fw_flow.specs.Restoring as restoring;
+ghost use Rattle.fw_model.specs.Filtering.{messages_outside};
+ghost use Rattle.fw_model.specs.SortedMessages.{with_messages};
+ghost use Rattle.fw_node.specs.Answers.{caused_by};
+ghost use Rattle.fw_node.specs.NodeOf.{CanBeSent, stamps_of};
+ghost use Rattle.fw_node.specs.Sends.{sends_list};
+ghost use Rattle.fw_rollback.specs.Edges.{on_edge};
+ghost use Rattle.fw_running.specs.Kept.{queue_at, is_down};
+ghost use Rattle.fw_running.specs.Places.{IsPut};
+ghost use Rattle.fw_running.specs.Shaped.{IsShaped};
+ghost use Rattle.fw_events.specs.Sending.{with_queues, with_logs, ChangesEdges, PutsOn, LogsOn, SendsOn};
+ghost use Rattle.fw_events.specs.SentStamps.{stamps_sent};
+
+use crate::stamps::SentStamps;
+use fw_edge::{MsgLog, Queue};
+use fw_flow::{Causes, EdgeId, Message, NodeId};
+use fw_frontier::Front;
+use fw_node::Sends;
+use fw_rollback::{Logs, Queues};
+use fw_running::Running;
+use fw_time::Stamp;
+use std::alloc::AllocError;
+
+/// What an event of a node at a stamp sends is pending on each of its out-edges, and is in the log of each where the node
+/// can send again. The stamps of what is sent are handed back, as progress and traces are told them. The error is want of
+/// memory.
+pub(crate) fn send(
+    running: &mut Running,
+    node: NodeId,
+    cause: &Stamp,
+    sends: &Sends,
+) -> Result<SentStamps, AllocError>
+    requires shaped { IsShaped running.old }
+    requires there { node < length running.old.flow.nodes }
+    requires cause { in_domain (bounds_of running.old.flow node) cause.now ≡ true }
+    requires can_be_sent { CanBeSent running.old.flow node (stamps_of sends.now) }
+    ensures stamps { IfOk result (λ stamps. stamps_sent stamps ≡ stamps_of sends.now) }
+    ensures others { ChangesEdges running.old running.new }
+    ensures sent { OnOk result (SendsOn (out_edges running.old.flow node) (restoring.can_resend (policy_of running.old.flow node))
+        (caused_by cause.now (sends_list sends.now)) running.old running.new) }
+    ensures shaped { OnOk result (IsShaped running.new) }
+{
+    send_each(running, node, cause, sends)?;
+    SentStamps::of(running.alloc, sends)
+}
+
+// What an event of a node at a stamp sends goes to one out-edge after the other.
+fn send_each(
+    running: &mut Running,
+    node: NodeId,
+    cause: &Stamp,
+    sends: &Sends,
+) -> Result<(), AllocError>
+    requires shaped { IsShaped running.old }
+    requires there { node < length running.old.flow.nodes }
+    requires cause { in_domain (bounds_of running.old.flow node) cause.now ≡ true }
+    requires can_be_sent { CanBeSent running.old.flow node (stamps_of sends.now) }
+    ensures others { ChangesEdges running.old running.new }
+    ensures sent { OnOk result (SendsOn (out_edges running.old.flow node) (restoring.can_resend (policy_of running.old.flow node))
+        (caused_by cause.now (sends_list sends.now)) running.old running.new) }
+    ensures shaped { OnOk result (IsShaped running.new) }
+{
+    if sends.len() == 0 {
+        return Ok(());
+    }
+    for place in 0..running.flow.out_edges(node).len() {
+        let edge = running.flow.out_edges(node)[place];
+        send_on(running, node, edge, cause, sends)?;
+    }
+    Ok(())
+}
+
+// The same on one edge of the node.
+fn send_on(
+    running: &mut Running,
+    node: NodeId,
+    edge: EdgeId,
+    cause: &Stamp,
+    sends: &Sends,
+) -> Result<(), AllocError>
+    requires shaped { IsShaped running.old }
+    requires there { edge < length running.old.flow.edges }
+    ensures others { ChangesEdges running.old running.new }
+    ensures sent { OnOk result (SendsOn (edge ∷ []) (restoring.can_resend (policy_of running.old.flow node))
+        (caused_by cause.now (sends_list sends.now)) running.old running.new) }
+{
+    put_live(running, edge, cause, sends)?;
+    log_again(running, node, edge, cause, sends)
+}
+
+// What is sent is pending on an edge, if its receiver is not failed.
+fn put_live(
+    running: &mut Running,
+    edge: EdgeId,
+    cause: &Stamp,
+    sends: &Sends,
+) -> Result<(), AllocError>
+    requires there { edge < length running.old.parts.queues }
+    ensures others { running.new ≡ with_queues running.new.parts.queues running.new.ready.edges running.old }
+    ensures down { is_down running.old (receiver running.old.flow edge) ≡ true → running.new ≡ running.old }
+    ensures live { is_down running.old (receiver running.old.flow edge) ≡ false
+        → OnOk result (PutsOn edge (caused_by cause.now (sends_list sends.now)) running.old running.new) }
+{
+    if running.is_failed(running.flow.dst(edge)) {
+        return Ok(());
+    }
+    put_on(running, edge, cause, sends)
+}
+
+// What is sent is pending on an edge.
+fn put_on(
+    running: &mut Running,
+    edge: EdgeId,
+    cause: &Stamp,
+    sends: &Sends,
+) -> Result<(), AllocError>
+    requires there { edge < length running.old.parts.queues }
+    ensures others { running.new ≡ with_queues running.new.parts.queues running.new.ready.edges running.old }
+    ensures put { OnOk result (PutsOn edge (caused_by cause.now (sends_list sends.now)) running.old running.new) }
+{
+    note_pending(running, edge)?;
+    put_in(&mut running.parts.queues, edge, cause, sends)
+}
+
+// An edge on which nothing was pending is put among the ready ones.
+fn note_pending(running: &mut Running, edge: EdgeId) -> Result<(), AllocError>
+    ensures others { running.new ≡ with_queues running.old.parts.queues running.new.ready.edges running.old }
+    ensures none { queue_at running.old edge ≡ [] → OnOk result (IsPut edge running.old.ready.edges running.new.ready.edges) }
+    ensures some { queue_at running.old edge ≢ [] → running.new.ready.edges ≡ running.old.ready.edges }
+{
+    if !nothing_pending(&running.parts.queues, edge) {
+        return Ok(());
+    }
+    running.ready.put_edge(edge)
+}
+
+/// Whether nothing is pending on an edge.
+pub(crate) fn nothing_pending(queues: &Queues, edge: EdgeId) -> bool
+    ensures { IsTrue result ↔ ((on_edge queues.now edge).messages ≡ []) }
+{
+    match queues.get(edge) {
+        Some(queue) => queue.is_empty(),
+        None => true,
+    }
+}
+
+// What is sent is pending on an edge.
+fn put_in(queues: &mut Queues, edge: EdgeId, cause: &Stamp, sends: &Sends) -> Result<(), AllocError>
+    requires { edge < length queues.old }
+    ensures each { length queues.new ≡ length queues.old }
+    ensures here { OnOk result ((on_edge queues.new edge).messages
+        ≡ with_messages (caused_by cause.now (sends_list sends.now)) (on_edge queues.old edge).messages) }
+    ensures others { (e : ℕ) → e ≢ edge → on_edge queues.new e ≡ on_edge queues.old e }
+{
+    match queues.get_mut(edge) {
+        Some(queue) => put_each(queue, cause, sends),
+        None => Ok(()),
+    }
+}
+
+// What is sent outside the receiver's low watermark is in the log of an edge, where the node can send it again.
+fn log_again(
+    running: &mut Running,
+    node: NodeId,
+    edge: EdgeId,
+    cause: &Stamp,
+    sends: &Sends,
+) -> Result<(), AllocError>
+    requires there { edge < length running.old.parts.logs }
+    requires low { receiver running.old.flow edge < length running.old.parts.low }
+    ensures others { running.new ≡ with_logs running.new.parts.logs running.old }
+    ensures again { restoring.can_resend (policy_of running.old.flow node) ≡ true
+        → OnOk result (LogsOn edge (caused_by cause.now (sends_list sends.now)) running.old running.new) }
+    ensures never { restoring.can_resend (policy_of running.old.flow node) ≡ false → running.new ≡ running.old }
+{
+    if !running.flow.policy(node).can_resend() {
+        return Ok(());
+    }
+    log_on(running, edge, cause, sends)
+}
+
+// What is sent outside the receiver's low watermark is in the log of an edge.
+fn log_on(
+    running: &mut Running,
+    edge: EdgeId,
+    cause: &Stamp,
+    sends: &Sends,
+) -> Result<(), AllocError>
+    requires there { edge < length running.old.parts.logs }
+    requires low { receiver running.old.flow edge < length running.old.parts.low }
+    ensures others { running.new ≡ with_logs running.new.parts.logs running.old }
+    ensures logged { OnOk result (LogsOn edge (caused_by cause.now (sends_list sends.now)) running.old running.new) }
+{
+    let receiver = running.flow.dst(edge);
+    let low = &running.parts.low.as_slice()[receiver.place() as usize];
+    log_in(&mut running.parts.logs, edge, low, cause, sends)
+}
+
+// What is sent outside a frontier is in the log of an edge.
+fn log_in(
+    logs: &mut Logs,
+    edge: EdgeId,
+    low: &Front,
+    cause: &Stamp,
+    sends: &Sends,
+) -> Result<(), AllocError>
+    requires { edge < length logs.old }
+    ensures each { length logs.new ≡ length logs.old }
+    ensures here { OnOk result ((on_edge logs.new edge).messages
+        ≡ with_messages (messages_outside (inside low.now) (caused_by cause.now (sends_list sends.now))) (on_edge logs.old edge).messages) }
+    ensures others { (e : ℕ) → e ≢ edge → on_edge logs.new e ≡ on_edge logs.old e }
+{
+    match logs.get_mut(edge) {
+        Some(log) => log_each(log, low, cause, sends),
+        None => Ok(()),
+    }
+}
+
+/// What is sent is pending. The error is want of memory.
+fn put_each(queue: &mut Queue, cause: &Stamp, sends: &Sends) -> Result<(), AllocError>
+    ensures { OnOk result (queue.new.messages ≡ with_messages (caused_by cause.now (sends_list sends.now)) queue.old.messages) }
+{
+    // This call tells that the messages of the queue are in order.
+    let _none = queue.is_empty();
+    for place in 0..sends.len() {
+        if let Some(message) = message_at(cause, sends, place) {
+            queue.put(message)?;
+        }
+    }
+    Ok(())
+}
+
+/// What is sent outside the receiver's low watermark is kept in the log. The error is want of memory.
+fn log_each(log: &mut MsgLog, low: &Front, cause: &Stamp, sends: &Sends) -> Result<(), AllocError>
+    ensures { OnOk result (log.new.messages
+        ≡ with_messages (messages_outside (inside low.now) (caused_by cause.now (sends_list sends.now))) log.old.messages) }
+{
+    // This call tells that the messages of the log are in order.
+    let _none = log.is_empty();
+    for place in 0..sends.len() {
+        if let Some(message) = message_at(cause, sends, place) {
+            if !low.contains(&message.at) {
+                log.append(message)?;
+            }
+        }
+    }
+    Ok(())
+}
+
+/// The message at a place of what an event at a stamp sends.
+fn message_at(cause: &Stamp, sends: &Sends, place: usize) -> Option<Message>
+    ensures { result ≡ slice_get (caused_by cause.now (sends_list sends.now)) place }
+{
+    let (at, rec) = sends.get(place)?;
+    Some(Message {
+        at,
+        rec,
+        causes: Causes::of(cause.copy()),
+    })
+}
